@@ -1,0 +1,7 @@
+use Rattle.std.proofs.Common.{◌∙◌, ap, nat_eq, length, sym}
+use Rattle.fs_names.specs.Keys.{common_len}
+use Rattle.fs_names.proofs.Lemmas.{prefix_common}
+use Rattle.fs_names.proofs.path.Path.is_prefix_of.Goals as goal
+
+pub returns : goal.returns
+returns c = rw (c.common.ensures, c.len.ensures.len) (prefix_common c.args.self.now c.args.other.now)

@@ -1,0 +1,44 @@
+-- What keys are: lists of names, of which a path is one that is not too long.
+use Rattle.std.specs.Prelude.{ℕ, Bool, List, [], ◌∷◌, ◌+◌, ◌++◌, ◌≤◌, if◌then◌else◌, length, Option, Some, None}
+use Rattle.std.specs.Ordering.{eq_by_cmp}
+use Rattle.std.specs.declared.cmp.Ordering.{Ordering}
+use Rattle.std.specs.Cmp.Lexicographic.{slice_cmp}
+use Rattle.fs_names.specs.Names.{Name, name_cmp, same_name}
+use Rattle.fs_names.specs.declared.limits.TheConstants.{PATH_LIMIT}
+
+-- the names from the root down
+abbrev pub Key : Type 0
+Key = List Name
+
+-- no more names than the limit
+pub record IsPath (key : Key) : Type 0 where
+  pub short : length key ≤ PATH_LIMIT
+
+-- keys name by name, so that a directory comes before what is below it
+abbrev pub key_cmp : Key → Key → Ordering
+key_cmp = slice_cmp name_cmp
+
+abbrev pub same_key : Key → Key → Bool
+same_key p q = eq_by_cmp key_cmp p q
+
+-- how many leading names are equal
+abbrev pub common_len : Key → Key → ℕ
+common_len [] q = 0
+common_len (x ∷ p) [] = 0
+common_len (x ∷ p) (y ∷ q) = if same_name x y then common_len p q + 1 else 0
+
+-- what follows a prefix of a key; None where it is no prefix
+abbrev pub after_prefix : Key → Key → Option Key
+after_prefix [] k = Some k
+after_prefix (x ∷ p) [] = None
+after_prefix (x ∷ p) (y ∷ k) = if same_name x y then after_prefix p k else None
+
+-- each name after a slash
+abbrev pub names_text : Key → List ℕ
+names_text [] = []
+names_text (x ∷ p) = 47 ∷ (x ++ names_text p)
+
+-- how a path is written: a slash alone for the root
+abbrev pub path_text : Key → List ℕ
+path_text [] = 47 ∷ []
+path_text (x ∷ p) = names_text (x ∷ p)

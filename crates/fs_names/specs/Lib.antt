@@ -1,0 +1,6 @@
+pub mod First
+pub mod Names
+pub mod Keys
+pub mod Reading
+pub mod Pieces
+pub mod Examples

@@ -1,0 +1,34 @@
+-- What names are, and their order.
+use Rattle.std.specs.Prelude.{ℕ, Bool, List, [], ◌∷◌, false, ◌&&◌, not, ◌==◌, nat_le, length}
+use Rattle.std.specs.Ordering.{nat_cmp, eq_by_cmp}
+use Rattle.std.specs.declared.cmp.Ordering.{Ordering}
+use Rattle.std.specs.List.{list_all}
+use Rattle.std.specs.Cmp.Lexicographic.{slice_cmp}
+use Rattle.fs_names.specs.declared.limits.TheConstants.{NAME_LIMIT}
+
+-- a name is its bytes
+abbrev pub Name : Type 0
+Name = List ℕ
+
+-- a byte that a name may hold: neither zero nor a slash
+abbrev pub may_stand : ℕ → Bool
+may_stand b = not (b == 0) && not (b == 47)
+
+-- one dot or two
+abbrev pub is_dots : Name → Bool
+is_dots [] = false
+is_dots (a ∷ []) = a == 46
+is_dots (a ∷ b ∷ []) = (a == 46) && (b == 46)
+is_dots (a ∷ b ∷ c ∷ more) = false
+
+-- one byte or more, and no more than the limit, that may stand, and neither one dot nor two
+abbrev pub can_name : Name → Bool
+can_name name = nat_le 1 (length name) && nat_le (length name) NAME_LIMIT && list_all may_stand name && not (is_dots name)
+
+-- names in byte order
+abbrev pub name_cmp : Name → Name → Ordering
+name_cmp = slice_cmp nat_cmp
+
+-- whether two names are the same
+abbrev pub same_name : Name → Name → Bool
+same_name x y = eq_by_cmp name_cmp x y

@@ -1,0 +1,74 @@
+-- How a path is read from bytes.
+use Rattle.std.specs.Prelude.{◌≡◌, ℕ, Bool, true, false, List, [], ◌∷◌, not, ◌&&◌, ◌==◌, nat_le, nat_lt, ◌+◌, ◌-◌, length, slice_index, filter, Option, None, Some, Result, Ok, Err}
+use Rattle.std.specs.List.{slice_split, list_any}
+use Rattle.fs_names.specs.First.{on, or_else, first}
+use Rattle.fs_names.specs.Names.{Name, is_dots}
+use Rattle.fs_names.specs.Keys.{Key}
+use Rattle.fs_names.specs.declared.limits.TheConstants.{NAME_LIMIT, PATH_LIMIT}
+use Rattle.fs_names.specs.declared.fault.PathFault.{PathFault}
+use Rattle.fs_names.specs.declared.fault.PathFault.TheVariants.{NotAbsolute, Nul, NameTooLong, TooManyNames, Dot, TrailingSlash, OutOfMemory}
+
+abbrev pub is_zero : ℕ → Bool
+is_zero b = b == 0
+
+abbrev pub is_slash : ℕ → Bool
+is_slash b = b == 47
+
+abbrev pub has_bytes : Name → Bool
+has_bytes [] = false
+has_bytes (b ∷ bs) = true
+
+-- what stands between the slashes, several in a row counting as one
+abbrev pub names : List ℕ → Key
+names bytes = filter has_bytes (slice_split is_slash bytes)
+
+abbrev pub has_names : Key → Bool
+has_names [] = false
+has_names (n ∷ ns) = true
+
+abbrev pub starts_at_root : List ℕ → Bool
+starts_at_root [] = false
+starts_at_root (b ∷ bs) = b == 47
+
+abbrev pub ends_in_slash : List ℕ → Bool
+ends_in_slash bytes = slice_index bytes (length bytes - 1) == 47
+
+-- what is wrong with a name, of which so many stand before it
+abbrev pub name_fault : ℕ → Name → Option PathFault
+name_fault before name = first
+    (on (nat_le PATH_LIMIT before) TooManyNames
+    ∷ on (nat_lt NAME_LIMIT (length name)) NameTooLong
+    ∷ on (is_dots name) Dot
+    ∷ [])
+
+-- what is wrong with the first wrong name, from left to right
+abbrev pub first_fault : ℕ → Key → Option PathFault
+first_fault before [] = None
+first_fault before (name ∷ more) = or_else (name_fault before name) (first_fault (before + 1) more)
+
+-- the first check that the bytes fail
+abbrev pub path_fault : List ℕ → Option PathFault
+path_fault bytes = first
+    (on (not (starts_at_root bytes)) NotAbsolute
+    ∷ on (list_any is_zero bytes) Nul
+    ∷ first_fault 0 (names bytes)
+    ∷ on (has_names (names bytes) && ends_in_slash bytes) TrailingSlash
+    ∷ [])
+
+abbrev pub unless : Option PathFault → Key → Result Key PathFault
+unless None key = Ok key
+unless (Some fault) key = Err fault
+
+-- the names that the bytes spell, or the first check that fails
+unfoldable pub reading : List ℕ → Result Key PathFault
+reading bytes = unless (path_fault bytes) (names bytes)
+
+-- the fault is what reading finds; a lack of memory says nothing of the bytes
+abbrev pub FailsWith : PathFault → Result Key PathFault → Type 0
+FailsWith OutOfMemory read = Unit {0}
+FailsWith NotAbsolute read = read ≡ Err NotAbsolute
+FailsWith Nul read = read ≡ Err Nul
+FailsWith NameTooLong read = read ≡ Err NameTooLong
+FailsWith TooManyNames read = read ≡ Err TooManyNames
+FailsWith Dot read = read ≡ Err Dot
+FailsWith TrailingSlash read = read ≡ Err TrailingSlash

@@ -1,0 +1,105 @@
+//! Names of entries.
+
+ghost use Rattle.std.specs.Prelude.{◌≡◌, IsTrue, MatchOption, false};
+ghost use Rattle.std.specs.List.{list_all};
+ghost use Rattle.fs_names.specs.Names.{can_name, may_stand, is_dots, same_name, name_cmp};
+
+use crate::limits::NAME_LIMIT;
+use arrayvec::ArrayVec;
+use std::cmp::Ordering;
+use std::marker::Model;
+
+/// The name of an entry: 1 to 32 bytes, neither a slash nor zero among them, and not `.` or `..`
+/// (POSIX.1-2017, section 3.170, Filename, with this project's limit).
+#[derive(Debug, Drop, PartialEq, Eq, PartialOrd, Ord)]
+pub struct Name {
+    bytes: ArrayVec<u8, NAME_LIMIT>,
+}
+
+impl Model for Name {
+    ghost use Rattle.std.specs.Prelude.{ℕ, List, IsTrue};
+    ghost use Rattle.fs_names.specs.Names.{can_name};
+
+    ghost Value = { List ℕ };
+
+    ghost view = { λ n. n.bytes.items };
+
+    ghost invariant = { λ n. IsTrue (can_name n.bytes.items) };
+
+    ghost inverse = { λ xs. record { bytes = record { items = xs } } };
+}
+
+fn all_may_stand(bytes: &[u8]) -> bool
+    ensures { result ≡ list_all may_stand bytes.now }
+{
+    bytes.iter().all(|b| *b != 0 && *b != b'/')
+}
+
+fn only_dots(bytes: &[u8]) -> bool
+    ensures { result ≡ is_dots bytes.now }
+{
+    match bytes {
+        [a] => *a == b'.',
+        [a, b] => *a == b'.' && *b == b'.',
+        _ => false,
+    }
+}
+
+impl Name {
+    /// The bytes as a name, where they are one. It takes no memory.
+    pub fn read(bytes: &[u8]) -> Option<Name>
+        ensures { MatchOption result (can_name bytes.now ≡ false) (λ n. IsTrue (can_name bytes.now) × (n ≡ bytes.now)) }
+    {
+        if bytes.is_empty()
+            || bytes.len() > NAME_LIMIT
+            || !all_may_stand(bytes)
+            || only_dots(bytes)
+        {
+            return None;
+        }
+        match ArrayVec::try_from(bytes) {
+            Ok(bytes) => Some(Name { bytes }),
+            Err(_) => None,
+        }
+    }
+
+    /// The bytes of the name.
+    pub fn bytes(&self) -> &[u8]
+        ensures bytes { result.now ≡ self.now }
+        ensures named { IsTrue (can_name self.now) }
+    {
+        self.bytes.as_slice()
+    }
+
+    /// The same name again. It takes no memory.
+    pub fn copy(&self) -> Name
+        ensures { result ≡ self.now }
+    {
+        let mut bytes = ArrayVec::new();
+        for byte in self.bytes.as_slice() {
+            bytes.push(*byte);
+        }
+        Name { bytes }
+    }
+
+    pub fn order(&self, other: &Name) -> Ordering
+        ensures { result ≡ name_cmp self.now other.now }
+    {
+        self.cmp(other)
+    }
+
+    pub fn same(&self, other: &Name) -> bool
+        ensures { result ≡ same_name self.now other.now }
+    {
+        self == other
+    }
+}
+
+/// The name `-`, with which the unused places of a short list of names are filled.
+impl Default for Name {
+    fn default() -> Self {
+        let mut bytes = ArrayVec::new();
+        bytes.push(b'-');
+        Name { bytes }
+    }
+}

@@ -1,0 +1,61 @@
+//! The numbers of calls and seats.
+
+ghost use Rattle.std.specs.Prelude.{◌≡◌, ℕ};
+
+use std::marker::Model;
+
+/// The number of a call, by which a journal speaks of it.
+#[derive(Clone, Copy, Debug, PartialEq, Eq, PartialOrd, Ord, Hash)]
+pub struct CallNo {
+    number: u64,
+}
+
+impl Model for CallNo {
+    ghost Value = { ℕ };
+
+    ghost view = { λ c. c.number };
+
+    ghost inverse = { λ n. record { number = n } };
+}
+
+impl CallNo {
+    pub fn new(number: u64) -> Self
+        ensures { result ≡ number }
+    {
+        CallNo { number }
+    }
+
+    pub fn get(self) -> u64
+        ensures { result ≡ self }
+    {
+        self.number
+    }
+}
+
+/// The number of a seat: a seat has at most one call under way at a time.
+#[derive(Clone, Copy, Debug, PartialEq, Eq, PartialOrd, Ord, Hash)]
+pub struct SeatNo {
+    number: u64,
+}
+
+impl Model for SeatNo {
+    ghost Value = { ℕ };
+
+    ghost view = { λ s. s.number };
+
+    ghost inverse = { λ n. record { number = n } };
+}
+
+impl SeatNo {
+    pub fn new(number: u64) -> Self
+        ensures { result ≡ number }
+    {
+        SeatNo { number }
+    }
+
+    pub fn get(self) -> u64
+        ensures { result ≡ self }
+    {
+        self.number
+    }
+}
