@@ -1,5 +1,5 @@
 -- What keys are: lists of names, of which a path is one that is not too long.
-use Rattle.std.specs.Prelude.{ℕ, Bool, List, [], ◌∷◌, ◌+◌, ◌++◌, ◌≤◌, if◌then◌else◌, length, Option, Some, None}
+use Rattle.std.specs.Prelude.{ℕ, Bool, true, false, List, [], ◌∷◌, ◌+◌, ◌++◌, ◌≤◌, if◌then◌else◌, length, Option, Some, None}
 use Rattle.std.specs.Ordering.{eq_by_cmp}
 use Rattle.std.specs.declared.cmp.Ordering.{Ordering}
 use Rattle.std.specs.Cmp.Lexicographic.{slice_cmp}
@@ -32,6 +32,31 @@ abbrev pub after_prefix : Key → Key → Option Key
 after_prefix [] k = Some k
 after_prefix (x ∷ p) [] = None
 after_prefix (x ∷ p) (y ∷ k) = if same_name x y then after_prefix p k else None
+
+abbrev pub is_root : Key → Bool
+is_root [] = true
+is_root (x ∷ k) = false
+
+-- the parent of a key; that of the root is the root
+abbrev pub parent_of : Key → Key
+parent_of [] = []
+parent_of (x ∷ []) = []
+parent_of (x ∷ y ∷ k) = x ∷ parent_of (y ∷ k)
+
+-- the last name of a key; that of the root is no name
+abbrev pub last_of : Key → Name
+last_of [] = []
+last_of (x ∷ []) = x
+last_of (x ∷ y ∷ k) = last_of (y ∷ k)
+
+-- whether a name or more follows a prefix
+abbrev pub has_more : Option Key → Bool
+has_more None = false
+has_more (Some []) = false
+has_more (Some (x ∷ k)) = true
+
+abbrev pub is_proper_prefix : Key → Key → Bool
+is_proper_prefix p q = has_more (after_prefix p q)
 
 -- each name after a slash
 abbrev pub names_text : Key → List ℕ

@@ -1,0 +1,23 @@
+-- What holds of timelines and verdicts: laws, each proved as the contract of a function of the module `laws`.
+use Rattle.std.specs.Prelude.{◌≡◌, ℕ, ◌-◌, List, [], ◌∷◌, ◌++◌, ◌↔◌, take}
+use Rattle.fs_journal.specs.Timeline.{IsLawful}
+use Rattle.fs_journal.specs.Verdicts.{verdict}
+use Rattle.fs_journal.specs.declared.entry.Entry.{Entry}
+use Rattle.fs_journal.specs.declared.verdict.Verdict.TheVariants.{Lawful, Fault}
+use Rattle.fs_journal.specs.declared.verdict.FaultKind.{FaultKind}
+
+-- a lawful timeline stays lawful when its last entry is taken away
+abbrev pub LawfulWithoutTheLast : Type 0
+LawfulWithoutTheLast = (es : List Entry) (last : Entry) → IsLawful (es ++ last ∷ []) → IsLawful es
+
+-- the verdict is Lawful exactly on lawful timelines
+abbrev pub LawfulIsLawful : Type 0
+LawfulIsLawful = (es : List Entry) → (verdict es ≡ Lawful) ↔ IsLawful es
+
+-- a fault names the first entry with which the entries up to it are not lawful
+pub record IsFirstFault (es : List Entry) (place : ℕ) : Type 0 where
+  pub before : IsLawful (take (place - 1) es)
+  pub with_it : IsLawful (take place es) → ⊥
+
+abbrev pub FaultsAreFirst : Type 0
+FaultsAreFirst = (es : List Entry) (place : ℕ) (kind : FaultKind) → verdict es ≡ Fault place kind → IsFirstFault es place

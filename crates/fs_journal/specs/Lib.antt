@@ -1,0 +1,4 @@
+pub mod Timeline
+pub mod Verdicts
+pub mod Laws
+pub mod Examples

@@ -1,0 +1,10 @@
+//! Journals of calls, and the checker of journals.
+#![tactic(auto)]
+
+pub mod entry;
+pub mod examples;
+pub mod laws;
+pub mod verdict;
+
+pub use entry::Entry;
+pub use verdict::{FaultKind, Verdict};

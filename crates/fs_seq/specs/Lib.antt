@@ -1,0 +1,7 @@
+pub mod Tree
+pub mod Shapes
+pub mod Errors
+pub mod Replies
+pub mod Outcomes
+pub mod Laws
+pub mod Examples

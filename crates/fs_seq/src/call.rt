@@ -1,0 +1,30 @@
+//! The calls on a tree.
+
+use crate::bytes::Bytes;
+use fs_names::Path;
+
+/// A call on a tree, by path.
+#[derive(Drop)]
+pub enum Call {
+    /// Makes an empty directory (POSIX.1-2017, mkdir).
+    Mkdir(Path),
+    /// Makes an empty regular file (POSIX.1-2017, mknod).
+    Mknod(Path),
+    /// Removes the entry of a file (POSIX.1-2017, unlink).
+    Unlink(Path),
+    /// Removes the entry of an empty directory (POSIX.1-2017, rmdir).
+    Rmdir(Path),
+    /// Moves a node with all below it from the first path to the second, whose old node is removed
+    /// (POSIX.1-2017, rename).
+    Rename(Path, Path),
+    /// Asks for the kind of a node and its size: bytes of a file, entries of a directory (POSIX.1-2017, stat).
+    Stat(Path),
+    /// Asks for all names of a directory.
+    Readdir(Path),
+    /// Asks for the bytes of a file from an offset on, and for no more than a count.
+    Read(Path, u64, u64),
+    /// Writes bytes into a file at an offset; a gap reads as zeros.
+    Write(Path, u64, Bytes),
+    /// Cuts a file to a size, or adds zeros up to it (POSIX.1-2017, truncate).
+    Truncate(Path, u64),
+}

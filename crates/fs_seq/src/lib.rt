@@ -1,0 +1,16 @@
+//! Calls, replies and the sequential tree.
+#![tactic(auto)]
+
+pub mod bytes;
+pub mod call;
+pub mod errno;
+pub mod examples;
+pub mod laws;
+pub mod name_list;
+pub mod reply;
+
+pub use bytes::Bytes;
+pub use call::Call;
+pub use errno::Errno;
+pub use name_list::NameList;
+pub use reply::Reply;

@@ -1,0 +1,42 @@
+//! The names of a directory.
+
+ghost use Rattle.std.specs.Prelude.{◌≡◌};
+
+use fs_names::Name;
+use std::marker::Model;
+
+/// Names, seen as their list: those of a directory, in byte order.
+#[derive(Debug, Drop)]
+pub struct NameList {
+    items: Vec<Name>,
+}
+
+impl Model for NameList {
+    ghost use Rattle.std.specs.Prelude.{ℕ, List};
+
+    ghost Value = { List (List ℕ) };
+
+    ghost view = { λ n. n.items.items };
+}
+
+impl NameList {
+    /// It takes no memory.
+    pub fn new(items: Vec<Name>) -> NameList
+        ensures { result ≡ items.items }
+    {
+        NameList { items }
+    }
+
+    pub fn as_slice(&self) -> &[Name]
+        ensures { result.now ≡ self.now }
+    {
+        self.items.as_slice()
+    }
+
+    /// Gives the vector back. It takes no memory.
+    pub fn into_vec(self) -> Vec<Name>
+        ensures { result.items ≡ self }
+    {
+        self.items
+    }
+}
