@@ -75,10 +75,7 @@ fn names_of(alloc: Global, bytes: &[u8]) -> Result<SmallVec<Name, INLINE_NAMES>,
     let Ok(mut read) = SmallVec::with_capacity(alloc, room) else {
         return Err(PathFault::OutOfMemory);
     };
-    for piece in bytes
-        .split(|b| *b == b'/')
-        .filter(|piece| !piece.is_empty())
-    {
+    for piece in bytes.split(|b| *b == b'/').filter(|name| !name.is_empty()) {
         read.push_reserved(name_after(read.len(), piece)?);
     }
     Ok(read)
