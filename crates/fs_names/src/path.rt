@@ -131,6 +131,18 @@ impl Path {
         Ok(Path { names })
     }
 
+    /// The same path again. It takes memory once, and only for more names than a path holds without any.
+    pub fn copy(&self, alloc: Global) -> Result<Path, AllocError>
+        ensures ok { IfOk result (λ path. path ≡ self.now) }
+        ensures memory { OnErr result (INLINE_NAMES < length self.now) }
+    {
+        let mut names = SmallVec::with_capacity(alloc, self.len())?;
+        for name in self.names.as_slice() {
+            names.push_reserved(name.copy());
+        }
+        Ok(Path { names })
+    }
+
     /// How many names it has: none for the root, and at most 64. It takes no memory.
     pub fn len(&self) -> usize
         ensures len { result ≡ length self.now }
