@@ -1,1 +1,5 @@
 pub mod OutcomeLemmas
+pub mod LookLemmas
+pub mod GraphLemmas
+pub mod ListLemmas
+pub mod Edits
