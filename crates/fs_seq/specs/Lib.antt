@@ -4,5 +4,6 @@ pub mod Errors
 pub mod Replies
 pub mod Outcomes
 pub mod Graph
+pub mod Nodes
 pub mod Laws
 pub mod Examples
