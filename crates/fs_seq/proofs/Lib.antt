@@ -6,3 +6,6 @@ pub mod Edits
 pub mod SearchLemmas
 pub mod Children
 pub mod Resolving
+pub mod NodeLemmas
+pub mod Parents
+pub mod SlabLemmas
