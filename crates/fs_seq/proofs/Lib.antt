@@ -9,3 +9,4 @@ pub mod Resolving
 pub mod NodeLemmas
 pub mod Parents
 pub mod SlabLemmas
+pub mod Making
