@@ -10,3 +10,5 @@ pub mod NodeLemmas
 pub mod Parents
 pub mod SlabLemmas
 pub mod Making
+pub mod Cutting
+pub mod Filling
