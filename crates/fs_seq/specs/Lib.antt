@@ -5,5 +5,7 @@ pub mod Replies
 pub mod Outcomes
 pub mod Graph
 pub mod Nodes
+pub mod Memory
+pub mod Effects
 pub mod Laws
 pub mod Examples
