@@ -15,3 +15,4 @@ pub mod GraphFilled
 pub mod Spots
 pub mod Replies
 pub mod Made
+pub mod Removed

@@ -1,5 +1,5 @@
 -- What the functions on nodes answer and leave.
-use Rattle.std.specs.Prelude.{◌≡◌, ℕ, ◌+◌, ◌&&◌, nat_lt, length, List, insert, remove, ◌<◌, Option, Some, None, Result, Ok, Err, if◌then◌else◌}
+use Rattle.std.specs.Prelude.{◌≡◌, ℕ, ◌+◌, ◌&&◌, nat_lt, length, List, [], insert, remove, ◌<◌, Option, Some, None, Result, Ok, Err, if◌then◌else◌}
 use Rattle.fs_names.specs.Names.{Name}
 use Rattle.fs_names.specs.Keys.{Key, is_root, parent_of, last_of}
 use Rattle.fs_names.specs.First.{on, or_else}
@@ -8,9 +8,9 @@ use Rattle.fs_seq.specs.Tree as tree
 use Rattle.fs_seq.specs.Tree.{Tree}
 use Rattle.fs_seq.specs.Shapes.{seen, has_any}
 use Rattle.fs_seq.specs.Errors.{making}
-use Rattle.fs_seq.specs.Outcomes.{parents_resolution, reply, after, replied, unless}
+use Rattle.fs_seq.specs.Outcomes.{fault, parents_resolution, reply, after, replied, unless}
 use Rattle.fs_seq.specs.Graph.{Place, Dir, Graph, place_at, links_at, walk, tree_of, IsForest, Sets}
-use Rattle.fs_seq.specs.Nodes.{BelongsAt}
+use Rattle.fs_seq.specs.Nodes.{BelongsAt, IsTaken}
 use Rattle.fs_seq.specs.declared.nodes.Node.{Node}
 use Rattle.fs_seq.specs.declared.nodes.Node.TheVariants as nodes
 use Rattle.fs_seq.specs.declared.call.Call.{Call}
@@ -58,6 +58,17 @@ pub record Attaches (g g' : Graph) (dir i : ℕ) (x : Name) (new : Place) : Type
   pub free : place_at g number ≡ None
   pub linking : Sets g between dir (Some (Dir (insert (links_at g dir) i (x, number))))
   pub adding : Sets between g' number (Some new)
+
+-- an entry without entries of its own, which a call removes
+pub record IsVictim (g : Graph) (call : Call) (p : Key) (dir i n : ℕ) : Type 0 where
+  pub sound : fault (tree_of g) call ≡ None
+  pub named : 0 < length p
+  pub spot : IsTaken g p dir i n
+  pub leaf : links_at g n ≡ []
+
+abbrev pub FindsVictim : Graph → Call → Key → Result (ℕ × ℕ × ℕ) Errno → Type 0
+FindsVictim g call p (Ok at) = IsVictim g call p at.0 at.1 at.2
+FindsVictim g call p (Err e) = fault (tree_of g) call ≡ Some e
 
 -- an entry and its place, both gone
 pub record Detaches (g g' : Graph) (dir i n : ℕ) : Type 0 where

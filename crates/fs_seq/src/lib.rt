@@ -9,6 +9,7 @@ pub mod laws;
 mod making;
 pub mod name_list;
 mod nodes;
+mod removing;
 pub mod reply;
 
 pub use bytes::Bytes;
