@@ -16,3 +16,4 @@ pub mod Spots
 pub mod Replies
 pub mod Made
 pub mod Removed
+pub mod Looked

@@ -39,3 +39,8 @@ OnErr-map (Err e) f h = f h
 pub needs : (t : Tree) (call : Call) → fault t call ≡ None → takes_memory t call ≡ true → IsTrue (needs_memory t call)
 unfolding needs_memory
 needs t call none takes = λ i. not (is_some (none i)) && takes i
+
+-- a fact is one of an error
+pub on_err : {A E P : Type 0} (r : Result A E) → P → OnErr r P
+on_err (Ok a) h = tt
+on_err (Err e) h = h

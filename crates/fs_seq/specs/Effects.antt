@@ -8,8 +8,8 @@ use Rattle.fs_seq.specs.Tree as tree
 use Rattle.fs_seq.specs.Tree.{Tree}
 use Rattle.fs_seq.specs.Shapes.{seen, has_any}
 use Rattle.fs_seq.specs.Errors.{making}
-use Rattle.fs_seq.specs.Outcomes.{fault, parents_resolution, reply, after, replied, unless}
-use Rattle.fs_seq.specs.Graph.{Place, Dir, Graph, place_at, links_at, walk, tree_of, IsForest, Sets}
+use Rattle.fs_seq.specs.Outcomes.{fault, resolution, parents_resolution, reply, after, replied, unless, written}
+use Rattle.fs_seq.specs.Graph.{Place, Dir, Graph, place_at, links_at, shape_of, walk, tree_of, IsForest, Sets}
 use Rattle.fs_seq.specs.Nodes.{BelongsAt, IsTaken}
 use Rattle.fs_seq.specs.declared.nodes.Node.{Node}
 use Rattle.fs_seq.specs.declared.nodes.Node.TheVariants as nodes
@@ -76,6 +76,12 @@ pub record Detaches (g g' : Graph) (dir i n : ℕ) : Type 0 where
   pub unlinking : Sets g between dir (Some (Dir (remove (links_at g dir) i)))
   pub removing : Sets between g' n None
 
+-- a path is resolved, and this is the place at which it ends
+pub record IsSeen (t : Tree) (p : Key) (at : Place) : Type 0 where
+  pub resolved : resolution t p ≡ None
+  pub shape : seen t p ≡ shape_of (Some at)
+
+-- bytes that stay where there is an error
 abbrev pub bytes_unless : Option Errno → List ℕ → List ℕ → List ℕ
 bytes_unless None old new = new
 bytes_unless (Some e) old new = old
@@ -83,6 +89,14 @@ bytes_unless (Some e) old new = old
 -- a write makes the file too large
 abbrev pub overflow : ℕ → List ℕ → Option Errno
 overflow off bytes = on (has_any bytes && nat_lt FILE_LIMIT (off + length bytes)) Efbig
+
+-- the bytes of a file after a write, which does nothing where there is nothing to write
+abbrev pub written_if_any : List ℕ → ℕ → List ℕ → List ℕ
+written_if_any old off bytes = if has_any bytes then written old off bytes else old
+
+-- a size is more than a file can have
+abbrev pub too_long : ℕ → Option Errno
+too_long size = on (nat_lt FILE_LIMIT size) Efbig
 
 -- the reply of a call on a file's bytes, and the bytes that it leaves, by its error, its reply without one and the bytes that it then makes
 pub record Fills (old new : List ℕ) (found : Option Errno) (well : Reply) (made : List ℕ) (r : Reply) : Type 0 where

@@ -6,11 +6,13 @@ pub mod call;
 pub mod errno;
 pub mod examples;
 pub mod laws;
+mod looking;
 mod making;
 pub mod name_list;
 mod nodes;
 mod removing;
 pub mod reply;
+mod writing;
 
 pub use bytes::Bytes;
 pub use call::Call;
