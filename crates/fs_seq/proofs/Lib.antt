@@ -17,3 +17,4 @@ pub mod Replies
 pub mod Made
 pub mod Removed
 pub mod Looked
+pub mod Written

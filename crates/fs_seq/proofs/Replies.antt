@@ -44,3 +44,8 @@ needs t call none takes = λ i. not (is_some (none i)) && takes i
 pub on_err : {A E P : Type 0} (r : Result A E) → P → OnErr r P
 on_err (Ok a) h = tt
 on_err (Err e) h = h
+
+-- a call that fails, and leaves the graph as it was
+pub refused : (g g' : Graph) (call : Call) (e : Errno) → g' ≡ g → IsForest g → fault (tree_of g) call ≡ Some e → Answers g g' call (Failed e)
+refused g g' call e same forest found =
+    subst (λ h. Answers g h call (Failed e)) (sym same) (answers g g call (Some e) (success (tree_of g) call) (change (tree_of g) call) (Failed e) found refl refl (fails g (Some e) (success (tree_of g) call) (change (tree_of g) call) e refl forest))

@@ -1,6 +1,6 @@
 //! The calls that change the bytes of a file.
 
-ghost use Rattle.std.specs.Prelude.{◌≡◌, ◌≤◌, ◌<◌, ◌+◌, IfOk, OnOk, OnErr, IsTrue, length, nat_lt, nat_le, None, ◌&&◌};
+ghost use Rattle.std.specs.Prelude.{◌≡◌, ◌≤◌, ◌<◌, ◌+◌, ◌++◌, ◌-◌, take, drop, replicate, IfOk, OnOk, OnErr, IsTrue, length, nat_lt, nat_le, None, ◌&&◌};
 ghost use Rattle.fs_seq.specs.Outcomes.{written, resized};
 ghost use Rattle.fs_seq.specs.Shapes.{has_any};
 ghost use Rattle.fs_seq.specs.Memory.{needs_memory};
@@ -23,18 +23,35 @@ fn fits(off: u64, count: usize) -> bool
     off <= FILE_LIMIT as u64 && count <= FILE_LIMIT - off as usize
 }
 
-/// Puts bytes over those from an offset on; a gap is filled with zeros.
+/// Puts bytes over those from an offset on.
+fn put(old: &mut [u8], off: usize, bytes: &[u8])
+    requires { off + length bytes.now ≤ length old.old }
+    ensures { old.new ≡ take off old.old ++ bytes.now ++ drop (off + length bytes.now) old.old }
+{
+    old[off..off + bytes.len()].copy_from_slice(bytes);
+}
+
+/// Adds zeros up to a length, where there are fewer bytes.
+fn grow(bytes: &mut Vec<u8>, len: usize) -> Result<(), AllocError>
+    ensures ok { OnOk result (bytes.new.items ≡ bytes.old.items ++ replicate (len - length bytes.old.items) 0) }
+    ensures err { OnErr result (bytes.new.items ≡ bytes.old.items) }
+    ensures memory { OnErr result (length bytes.old.items < len) }
+{
+    if bytes.len() < len {
+        bytes.resize(len, 0)?;
+    }
+    Ok(())
+}
+
+/// Puts bytes over those from an offset on, where the file may grow; a gap is filled with zeros.
 fn overwrite(old: &mut Vec<u8>, off: usize, bytes: &[u8]) -> Result<(), AllocError>
     requires { off + length bytes.now ≤ FILE_LIMIT }
     ensures ok { OnOk result (old.new.items ≡ written old.old.items off bytes.now) }
     ensures err { OnErr result (old.new.items ≡ old.old.items) }
     ensures memory { OnErr result (length old.old.items < off + length bytes.now) }
 {
-    let end = off + bytes.len();
-    if end > old.len() {
-        old.resize(end, 0)?;
-    }
-    old[off..end].copy_from_slice(bytes);
+    grow(old, off + bytes.len())?;
+    put(old, off, bytes);
     Ok(())
 }
 
