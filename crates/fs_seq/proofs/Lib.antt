@@ -18,3 +18,4 @@ pub mod Made
 pub mod Removed
 pub mod Looked
 pub mod Written
+pub mod Root

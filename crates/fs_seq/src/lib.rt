@@ -12,6 +12,7 @@ pub mod name_list;
 mod nodes;
 mod removing;
 pub mod reply;
+pub mod seq_tree;
 mod writing;
 
 pub use bytes::Bytes;
@@ -19,3 +20,4 @@ pub use call::Call;
 pub use errno::Errno;
 pub use name_list::NameList;
 pub use reply::Reply;
+pub use seq_tree::SeqTree;
