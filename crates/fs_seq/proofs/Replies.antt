@@ -49,3 +49,16 @@ on_err (Err e) h = h
 pub refused : (g g' : Graph) (call : Call) (e : Errno) → g' ≡ g → IsForest g → fault (tree_of g) call ≡ Some e → Answers g g' call (Failed e)
 refused g g' call e same forest found =
     subst (λ h. Answers g h call (Failed e)) (sym same) (answers g g call (Some e) (success (tree_of g) call) (change (tree_of g) call) (Failed e) found refl refl (fails g (Some e) (success (tree_of g) call) (change (tree_of g) call) e refl forest))
+
+pub on_ok : {A E P : Type 0} (r : Result A E) → P → OnOk r P
+on_ok (Ok a) h = h
+on_ok (Err e) h = tt
+
+-- a call that makes the tree that is there leaves it
+pub leaves : (t : Tree) (call : Call) → change t call ≡ t → after t call ≡ t
+unfolding after
+leaves t call same = by_fault (fault t call)
+  where
+    by_fault : (found : Option Errno) → unless found t (change t call) ≡ t
+    by_fault None = same
+    by_fault (Some e) = refl

@@ -1,11 +1,13 @@
 //! The sequential tree: a value of its own for one thread.
 
-ghost use Rattle.std.specs.Prelude.{◌≡◌, IfOk, OnOk, OnErr, IsTrue};
+ghost use Rattle.std.specs.Prelude.{◌≡◌, false, IfOk, OnOk, OnErr, IsTrue};
 ghost use Rattle.fs_seq.specs.Tree.{root_tree};
 ghost use Rattle.fs_seq.specs.Outcomes.{reply, after};
 ghost use Rattle.fs_seq.specs.Memory.{needs_memory};
+ghost use Rattle.fs_seq.specs.Effects.{is_rename};
 
 use crate::call::Call;
+use crate::errno::Errno;
 use crate::looking;
 use crate::making;
 use crate::nodes::Node;
@@ -45,6 +47,28 @@ impl SeqTree {
         match nodes.insert(Node::Dir(Vec::new(alloc))) {
             Ok(_) => Ok(SeqTree { nodes }),
             Err(_) => Err(AllocError),
+        }
+    }
+
+    /// Applies a call that is no rename.
+    fn apply(&mut self, alloc: Global, call: &Call) -> Result<Reply, AllocError>
+        requires { is_rename call.now ≡ false }
+        ensures reply { IfOk result (λ r. r ≡ reply self.old call.now) }
+        ensures tree { OnOk result (self.new ≡ after self.old call.now) }
+        ensures err { OnErr result (self.new ≡ self.old) }
+        ensures memory { OnErr result (IsTrue (needs_memory self.old call.now)) }
+    {
+        match call {
+            Call::Mkdir(path) => self.mkdir(alloc, path),
+            Call::Mknod(path) => self.mknod(alloc, path),
+            Call::Unlink(path) => Ok(self.unlink(path)),
+            Call::Rmdir(path) => Ok(self.rmdir(path)),
+            Call::Rename(..) => Ok(Reply::Failed(Errno::Einval)),
+            Call::Stat(path) => Ok(self.stat(path)),
+            Call::Readdir(path) => self.readdir(alloc, path),
+            Call::Read(path, off, count) => self.read(alloc, path, *off, *count),
+            Call::Write(path, off, bytes) => self.write(path, *off, bytes.as_slice()),
+            Call::Truncate(path, size) => self.truncate(path, *size),
         }
     }
 
