@@ -1,2 +1,5 @@
+pub mod KeyLemmas
 pub mod OutcomeLemmas
+pub mod RenamedTrees
+pub mod ResolutionLemmas
 pub mod TreeLemmas
