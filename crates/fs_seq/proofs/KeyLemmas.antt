@@ -1,11 +1,11 @@
 -- Lemmas on keys: parents, last names and prefixes.
-use Rattle.std.proofs.Common.{◌≡◌, ◌≢◌, Bool, true, false, List, [], ◌∷◌, ◌++◌, Some, None, Option, is_some, refl, sym, ap, ◌∙◌, append_assoc, append-nil, Less, Equal, Greater}
+use Rattle.std.proofs.Common.{◌≡◌, ◌≢◌, Bool, true, false, cond, List, [], ◌∷◌, ◌++◌, Some, None, Option, refl, sym, ap, ◌∙◌, append_assoc, append-nil, Less, Equal, Greater}
 use Rattle.std.specs.Ordering.{is_eq, ordering_then}
 use Rattle.std.proofs.lemmas.Cmp.{tied_itself}
 use Rattle.fs_names.specs.Names.{Name, name_cmp, same_name}
 use Rattle.fs_names.specs.Keys.{Key, same_key, after_prefix, is_root, is_proper_prefix, has_more, parent_of, last_of}
-use Rattle.fs_names.proofs.Lemmas.{name_total, after_prefix-exact, after_prefix-append}
-use Rattle.fs_seq.proofs.TreeLemmas.{same_key_exact, same_key_refl, same_key_equiv}
+use Rattle.fs_names.proofs.Lemmas.{name_total, same_name_refl, after_prefix-exact, after_prefix-append}
+use Rattle.fs_seq.proofs.TreeLemmas.{same_key_exact, same_key_refl}
 
 pub no_true : (b : Bool) → (b ≡ true → ⊥) → b ≡ false
 no_true true h = absurd (h refl)
@@ -88,3 +88,15 @@ no_prefix p q h other = by_case (after_prefix p q) refl h
     by_case None e g = refl
     by_case (Some []) e g = absurd (other (sym (append-nil p) ∙ sym (after_prefix-exact p q [] e)))
     by_case (Some (x ∷ k)) e g = absurd (cc)
+
+-- of two fronts of one key, the one that is no prefix of the other is longer
+pub longer_front : (p q a b : Key) → p ++ a ≡ q ++ b → after_prefix p q ≡ None → (x : Name) × (r : Key) × (p ≡ q ++ x ∷ r)
+longer_front [] q a b e h = absurd (cc)
+longer_front (x ∷ p) [] a b e h = (x, p, refl)
+longer_front (x ∷ p) (y ∷ q) a b e h =
+    let first : x ≡ y = cc in
+    let rest : p ++ a ≡ q ++ b = cc in
+    let same : same_name x y ≡ true = ap (same_name x) (sym first) ∙ same_name_refl x in
+    let none : after_prefix p q ≡ None = ap (λ c. cond {A = Option Key} c (after_prefix p q) None) (sym same) ∙ h in
+    let more = longer_front p q a b rest none in
+    (more.0, more.1, λ i. first i ∷ more.2 i)

@@ -1,15 +1,15 @@
 -- What a resolution without an error says, and what stands above and below a key of a tree.
-use Rattle.std.proofs.Common.{◌≡◌, ◌≢◌, ℕ, Bool, true, false, cond, not, ◌||◌, List, [], ◌∷◌, ◌++◌, Some, None, Option, is_some, refl, sym, ap, ◌∙◌, append_assoc}
+use Rattle.std.proofs.Common.{◌≡◌, ◌≢◌, Bool, true, false, cond, ◌||◌, List, [], ◌∷◌, ◌++◌, Some, None, Option, is_some, refl, sym, ap, ◌∙◌, append_assoc}
 use Rattle.std.specs.List.{list_any}
 use Rattle.std.specs.FinMap.{find}
 use Rattle.fs_names.specs.First.{on, or_else, first}
 use Rattle.fs_names.specs.Names.{Name, same_name}
 use Rattle.fs_names.specs.Keys.{Key, key_cmp, same_key, after_prefix, parent_of}
 use Rattle.fs_names.proofs.FirstLemmas.{or_else-none, on-none}
-use Rattle.fs_names.proofs.Lemmas.{after_prefix-exact, after_prefix-append, same_name_refl}
+use Rattle.fs_names.proofs.Lemmas.{after_prefix-exact, after_prefix-append}
 use Rattle.fs_seq.specs.Tree as tree
 use Rattle.fs_seq.specs.Tree.{Tree, Node, look, names_in, name_in, only_name, with_name, IsTree}
-use Rattle.fs_seq.specs.Shapes.{Shape, Dir, File, seen, shape_of, is_there, is_missing, is_dir, is_file, has_entries, has_any}
+use Rattle.fs_seq.specs.Shapes.{seen, shape_of, is_file, has_any}
 use Rattle.fs_seq.specs.Outcomes.{verdict, verdict_along, resolution, parents_resolution}
 use Rattle.fs_seq.specs.Laws.{HasDirectoriesAbove}
 use Rattle.fs_seq.specs.declared.errno.Errno.{Errno}

@@ -1,7 +1,7 @@
 -- What stands at a key after each change of a tree.
-use Rattle.std.proofs.Common.{◌≡◌, Bool, true, false, cond, not, List, [], ◌∷◌, ◌++◌, map, Some, None, Option, refl, sym, ap, ◌∙◌, T, Equal}
-use Rattle.std.specs.FinMap.{find, put, is_sorted}
-use Rattle.std.specs.FinMap.Entries.{find-put, is_sorted-put, find-where_key, is_sorted-where_key, same_entries, where_key}
+use Rattle.std.proofs.Common.{◌≡◌, Bool, true, false, cond, not, List, [], ◌∷◌, map, Some, None, refl, sym, ap, ◌∙◌, T, Equal}
+use Rattle.std.specs.FinMap.{find, is_sorted}
+use Rattle.std.specs.FinMap.Entries.{find-put, is_sorted-put, find-where_key, is_sorted-where_key, same_entries}
 use Rattle.std.specs.Cmp.{IsEquivalence, eq_by_cmp_equiv}
 use Rattle.fs_names.specs.Keys.{Key, key_cmp, same_key}
 use Rattle.fs_names.proofs.Lemmas.{key_total, key_exact, equal_from_is_eq}
