@@ -5,3 +5,10 @@ pub mod RenamedTrees
 pub mod ResolutionLemmas
 pub mod TreeLaws
 pub mod TreeLemmas
+pub mod LookLemmas
+pub mod GraphLemmas
+pub mod ListLemmas
+pub mod Edits
+pub mod SearchLemmas
+pub mod Children
+pub mod Resolving

@@ -3,5 +3,7 @@ pub mod Shapes
 pub mod Errors
 pub mod Replies
 pub mod Outcomes
+pub mod Graph
+pub mod Nodes
 pub mod Laws
 pub mod Examples

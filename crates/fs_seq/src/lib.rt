@@ -7,6 +7,7 @@ pub mod errno;
 pub mod examples;
 pub mod laws;
 pub mod name_list;
+mod nodes;
 pub mod reply;
 
 pub use bytes::Bytes;
