@@ -5,7 +5,7 @@ use Rattle.std.proofs.lemmas.Cmp.{tied_itself}
 use Rattle.fs_names.specs.Names.{Name, name_cmp, same_name}
 use Rattle.fs_names.specs.Keys.{Key, same_key, after_prefix, is_root, is_proper_prefix, has_more, parent_of, last_of}
 use Rattle.fs_names.proofs.Lemmas.{name_total, same_name_refl, after_prefix-exact, after_prefix-append}
-use Rattle.fs_seq.proofs.TreeLemmas.{same_key_exact, same_key_refl}
+use Rattle.fs_seq.proofs.LookLemmas.{same_key_exact, same_key_refl}
 
 pub no_true : (b : Bool) → (b ≡ true → ⊥) → b ≡ false
 no_true true h = absurd (h refl)
@@ -18,19 +18,10 @@ differ a b h = no_true (same_key a b) (λ same. h (same_key_exact a b same))
 pub differ_not : (a b : Key) → same_key a b ≡ false → a ≢ b
 differ_not a b h same = let e : same_key a b ≡ true = ap (same_key a) (sym same) ∙ same_key_refl a in absurd (cc)
 
--- the same front decides nothing, and one name decides by itself
+-- the same front decides nothing
 pub same_key-prefix : (p r s : Key) → same_key (p ++ r) (p ++ s) ≡ same_key r s
 same_key-prefix [] r s = refl
 same_key-prefix (x ∷ p) r s = rw (tied_itself name_total x) (same_key-prefix p r s)
-
-pub same_key-child : (d : Key) (x y : Name) → same_key (d ++ x ∷ []) (d ++ y ∷ []) ≡ same_name x y
-same_key-child d x y = same_key-prefix d (x ∷ []) (y ∷ [])
-    ∙ elim (name_cmp x y) as (λ o. is_eq (ordering_then o Equal) ≡ is_eq o) [ Less ↦ refl | Equal ↦ refl | Greater ↦ refl ]
-
--- a key with a last name is not the root
-pub no_snoc : {A : Type 0} (k : List A) (x : A) → k ++ x ∷ [] ≡ [] → ⊥
-no_snoc [] x e = cc
-no_snoc (y ∷ k) x e = cc
 
 pub parent_of-snoc : (d : Key) (x : Name) → parent_of (d ++ x ∷ []) ≡ d
 parent_of-snoc [] x = refl

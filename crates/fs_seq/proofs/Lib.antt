@@ -4,7 +4,6 @@ pub mod OutcomeLemmas
 pub mod RenamedTrees
 pub mod ResolutionLemmas
 pub mod TreeLaws
-pub mod TreeLemmas
 pub mod LookLemmas
 pub mod GraphLemmas
 pub mod ListLemmas

@@ -1,11 +1,11 @@
 -- What stands at a key after a rename.
-use Rattle.std.proofs.Common.{◌≡◌, Bool, true, false, cond, List, [], ◌∷◌, ◌++◌, map, Some, None, Option, refl, sym, ap, ◌∙◌, append-nil}
-use Rattle.std.specs.FinMap.{find}
+use Rattle.std.proofs.Common.{◌≡◌, Bool, true, false, cond, List, [], ◌∷◌, ◌++◌, map, Some, None, Option, refl, sym, ap, ◌∙◌, append-nil, T}
+use Rattle.std.specs.FinMap.{find, is_sorted}
 use Rattle.fs_names.specs.Names.{Name}
 use Rattle.fs_names.specs.Keys.{Key, key_cmp, same_key, after_prefix}
 use Rattle.fs_names.proofs.Lemmas.{after_prefix-exact, after_prefix-append}
 use Rattle.fs_seq.specs.Tree.{Node, Tree, look, removed, renamed, moved_key, with_prefix}
-use Rattle.fs_seq.proofs.TreeLemmas.{same_key_exact, same_key_refl, same_key_equiv, look-find, look-removed, look-from_list}
+use Rattle.fs_seq.proofs.LookLemmas.{same_key_exact, same_key_refl, same_key_equiv, look-find, look-removed, look-from_list, sorted-from_list}
 use Rattle.fs_seq.proofs.KeyLemmas.{no_true, same_key-prefix, after_prefix-itself}
 
 -- a key with the prefix p is none without it
@@ -53,6 +53,10 @@ test_other p q k e (Some s) nq np at = apart_back q k (q ++ s) s nq (after_prefi
 find_other : (p q k : Key) (es : List (Key × Node)) → after_prefix q k ≡ None → after_prefix p k ≡ None → find key_cmp k (moved p q es) ≡ find key_cmp k es
 find_other p q k [] nq np = refl
 find_other p q k (e ∷ es) nq np = λ i. step (test_other p q k e.0 (after_prefix p e.0) nq np refl i) e.1 (find_other p q k es nq np i)
+
+pub sorted-renamed : (t : Tree) (p q : Key) → T (is_sorted key_cmp (renamed t p q))
+unfolding renamed
+sorted-renamed t p q = sorted-from_list (moved p q (removed t q))
 
 -- what stands at k after the rename, by what follows q and p in k
 abbrev pub after_move : Tree → Key → Key → Option Key → Option Key → Option Node

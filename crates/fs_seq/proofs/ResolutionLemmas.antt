@@ -14,8 +14,9 @@ use Rattle.fs_seq.specs.Outcomes.{verdict, verdict_along, resolution, parents_re
 use Rattle.fs_seq.specs.Laws.{HasDirectoriesAbove}
 use Rattle.fs_seq.specs.declared.errno.Errno.{Errno}
 use Rattle.fs_seq.specs.declared.errno.Errno.TheVariants.{Enoent, Enotdir}
-use Rattle.fs_seq.proofs.TreeLemmas.{same_key_exact, look-find}
-use Rattle.fs_seq.proofs.KeyLemmas.{no_true, same_key-child}
+use Rattle.fs_seq.proofs.LookLemmas.{same_key_exact, look-find}
+use Rattle.fs_seq.proofs.KeyLemmas.{no_true}
+use Rattle.fs_seq.proofs.ListLemmas.{same_key-snoc}
 
 -- ---- above and below
 
@@ -67,7 +68,7 @@ with_entry d x e names o None is rest =
     let some : name_in d e.0 ≡ Some x = ap (name_in d) (sym (same_key_exact (d ++ x ∷ []) e.0 same)) ∙ name_in-append d x in absurd (cc))))
 with_entry d x e names o (Some y) is rest =
     some_here (same_name x y) (list_any (same_name x) names) e.1 o rest
-    ∙ ap (λ b. is_some (cond {A = Option Node} b (Some e.1) o)) (sym (ap (same_key (d ++ x ∷ [])) (name_in-exact d e.0 y is) ∙ same_key-child d x y))
+    ∙ ap (λ b. is_some (cond {A = Option Node} b (Some e.1) o)) (sym (ap (same_key (d ++ x ∷ [])) (name_in-exact d e.0 y is) ∙ same_key-snoc d x y))
 
 -- the names of a directory are those that have a node there
 pub any-names_in : (t : Tree) (d : Key) (x : Name) → list_any (same_name x) (names_in t d) ≡ is_some (look t (d ++ x ∷ []))

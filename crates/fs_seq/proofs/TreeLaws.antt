@@ -11,9 +11,10 @@ use Rattle.fs_seq.specs.Laws.{StaysATree, PlayedTreesAreTrees, SameTrees, IsMove
 use Rattle.fs_seq.specs.declared.call.Call.{Call}
 use Rattle.fs_seq.specs.declared.call.Call.TheVariants.{Mkdir, Mknod, Unlink, Rmdir, Rename, Stat, Readdir, Read, Write, Truncate}
 use Rattle.fs_seq.specs.declared.errno.Errno.{Errno}
-use Rattle.fs_seq.proofs.TreeLemmas.{same_key_exact, same_key_refl, look-inserted, look-removed, sorted-inserted, sorted-removed, sorted-renamed, same_tree}
-use Rattle.fs_seq.proofs.KeyLemmas.{differ, differ_not, no_snoc, parent_of_child, not_root, after_prefix-front, after_prefix-child, longer_front}
-use Rattle.fs_seq.proofs.RenamedTrees.{after_move, look-renamed}
+use Rattle.fs_seq.proofs.LookLemmas.{same_key_exact, same_key_refl, look-inserted, look-removed, sorted-inserted, sorted-removed, same_tree}
+use Rattle.fs_seq.proofs.KeyLemmas.{differ, differ_not, parent_of_child, not_root, after_prefix-front, after_prefix-child, longer_front}
+use Rattle.fs_seq.proofs.ListLemmas.{no_snoc}
+use Rattle.fs_seq.proofs.RenamedTrees.{after_move, look-renamed, sorted-renamed}
 use Rattle.fs_seq.proofs.ResolutionLemmas.{directories_above}
 use Rattle.fs_seq.proofs.FaultLemmas.{Makes, Removes, Writes, Renames, mkdir_makes, mknod_makes, unlink_removes, rmdir_removes, write_writes, truncate_writes, rename_renames}
 
