@@ -11,3 +11,4 @@ pub mod Edits
 pub mod SearchLemmas
 pub mod Children
 pub mod Resolving
+pub mod Moving
