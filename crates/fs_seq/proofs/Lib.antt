@@ -12,3 +12,4 @@ pub mod SearchLemmas
 pub mod Children
 pub mod Resolving
 pub mod Moving
+pub mod Rewiring
