@@ -1,8 +1,10 @@
 pub mod FaultLemmas
 pub mod KeyLemmas
+pub mod Moving
 pub mod OutcomeLemmas
 pub mod RenamedTrees
 pub mod ResolutionLemmas
+pub mod Rewiring
 pub mod TreeLaws
 pub mod LookLemmas
 pub mod GraphLemmas
@@ -11,5 +13,7 @@ pub mod Edits
 pub mod SearchLemmas
 pub mod Children
 pub mod Resolving
-pub mod Moving
-pub mod Rewiring
+pub mod NodeLemmas
+pub mod Parents
+pub mod SlabLemmas
+pub mod Making

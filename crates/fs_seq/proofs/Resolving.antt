@@ -10,7 +10,7 @@ use Rattle.fs_seq.specs.Shapes.{Shape, seen}
 use Rattle.fs_seq.specs.Shapes as shapes
 use Rattle.fs_seq.specs.Outcomes.{verdict, verdict_along, resolution}
 use Rattle.fs_seq.specs.Graph.{Place, Dir, File, Graph, place_at, links_of, node_of, shape_of, links_at, child, walk_from, walk, node_at, shape_at, spelled, tree_of, IsForest}
-use Rattle.fs_seq.proofs.GraphLemmas.{look-tree_of, sorted-tree_of}
+use Rattle.fs_seq.proofs.GraphLemmas.{walk-append, look-tree_of, sorted-tree_of}
 use Rattle.fs_seq.proofs.Edits.{walk-snoc, on_from, on_some, on_none, on_missing}
 use Rattle.fs_seq.proofs.Children.{names_in-links}
 
@@ -116,3 +116,7 @@ seen_at g p n forest w = ap (shapes.shape_of (tree_of g) p) (look_at g p n fores
 
 pub seen_none : (g : Graph) (p : Key) → IsForest g → walk g p ≡ None → seen (tree_of g) p ≡ None
 seen_none g p forest w = ap (shapes.shape_of (tree_of g) p) (look_none g p forest w)
+
+-- below a key that leads nowhere nothing leads anywhere
+pub walk_below : (g : Graph) (front rest : Key) → walk g front ≡ None → walk g (front ++ rest) ≡ None
+walk_below g front rest w = walk-append g 0 front rest ∙ ap (option_and_then (λ m. walk_from g m rest)) w
