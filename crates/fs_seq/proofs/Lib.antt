@@ -1,5 +1,6 @@
 pub mod FaultLemmas
 pub mod KeyLemmas
+pub mod LinkEdits
 pub mod Moving
 pub mod OutcomeLemmas
 pub mod RenamedTrees

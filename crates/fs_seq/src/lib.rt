@@ -8,6 +8,7 @@ pub mod examples;
 pub mod laws;
 pub mod name_list;
 mod nodes;
+mod renaming;
 pub mod reply;
 
 pub use bytes::Bytes;
