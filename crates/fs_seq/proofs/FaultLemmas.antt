@@ -29,15 +29,15 @@ pub all_none : {F : Type 0} (checks : List (Option F)) → first checks ≡ None
 all_none [] e = tt
 all_none (check ∷ checks) e = let both = or_else-none check (first checks) e in (both.0, all_none checks both.1)
 
-or_first : (a b : Bool) → (a || b) ≡ false → a ≡ false
+pub or_first : (a b : Bool) → (a || b) ≡ false → a ≡ false
 or_first true b e = absurd (cc)
 or_first false b e = refl
 
-or_second : (a b : Bool) → (a || b) ≡ false → b ≡ false
+pub or_second : (a b : Bool) → (a || b) ≡ false → b ≡ false
 or_second true b e = absurd (cc)
 or_second false b e = e
 
-by_text_none : (t : Tree) (call : Call) → fault t call ≡ None → by_text call ≡ None
+pub by_text_none : (t : Tree) (call : Call) → fault t call ≡ None → by_text call ≡ None
 unfolding fault
 by_text_none t call h = (or_else-none (by_text call) (row t call) h).0
 

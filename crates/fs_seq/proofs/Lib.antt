@@ -3,6 +3,7 @@ pub mod KeyLemmas
 pub mod LinkEdits
 pub mod Moving
 pub mod OutcomeLemmas
+pub mod RenameFaults
 pub mod RenamedTrees
 pub mod ResolutionLemmas
 pub mod Rewiring

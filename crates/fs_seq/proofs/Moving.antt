@@ -108,7 +108,7 @@ module _ (g h g' : Graph) (forest : IsForest g) (d1 : Key) (n1 : ℕ) (x1 : Name
     (d1 ++ x1 ∷ []) ++ r,
     sym (below r) ∙ w,
     λ same. let none : after_prefix (d1 ++ x1 ∷ []) (d2 ++ x2 ∷ []) ≡ None = may.apart in
-    let some : after_prefix (d1 ++ x1 ∷ []) (d2 ++ x2 ∷ []) ≡ Some r = ap (after_prefix (d1 ++ x1 ∷ [])) (sym same) ∙ after_prefix-append (d1 ++ x1 ∷ []) r in absurd (cc),
+        let some : after_prefix (d1 ++ x1 ∷ []) (d2 ++ x2 ∷ []) ≡ Some r = ap (after_prefix (d1 ++ x1 ∷ [])) (sym same) ∙ after_prefix-append (d1 ++ x1 ∷ []) r in absurd (cc),
   )
   reached_shifted k j None b e f w = (
     k,

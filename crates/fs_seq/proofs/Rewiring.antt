@@ -127,18 +127,18 @@ module _ (g g' : Graph) (rising : (j : ℕ) → IsTrue (is_sorted name_cmp (link
   crossed edit = record {
     links = record {
       here = λ y.
-        child_of g' m y _ edit.new ∙ find-put_link z y s (links_at g m)
-        ∙ ap (cond (same_name z y) (Some s)) (sym (child-find g m y) ∙ sym (same_child (unlinked g n x) g m y (unlinked_elsewhere g n x m (λ e. edit.apart (sym e)))));
+          child_of g' m y _ edit.new ∙ find-put_link z y s (links_at g m)
+          ∙ ap (cond (same_name z y) (Some s)) (sym (child-find g m y) ∙ sym (same_child (unlinked g n x) g m y (unlinked_elsewhere g n x m (λ e. edit.apart (sym e)))));
       elsewhere = λ j y other. same_child g' (unlinked g n x) j y (places j other);
     };
     rising = λ j. which j n (IsTrue (is_sorted name_cmp (links_at g' j)))
-    (λ at. rising_like j n _ at edit.old (rising-without x (links_at g n) (rising n)))
-    (λ not_n. which j m (IsTrue (is_sorted name_cmp (links_at g' j)))
-    (λ at. rising_like j m _ at edit.new (rising-put z s (links_at g m) (rising m)))
-    (λ not_m. rising_like j j _ refl (edit.others j not_n not_m) (rising j)));
+        (λ at. rising_like j n _ at edit.old (rising-without x (links_at g n) (rising n)))
+        (λ not_n. which j m (IsTrue (is_sorted name_cmp (links_at g' j)))
+        (λ at. rising_like j m _ at edit.new (rising-put z s (links_at g m) (rising m)))
+        (λ not_m. rising_like j j _ refl (edit.others j not_n not_m) (rising j)));
     kept = λ j. which j n (node_at g' j ≡ node_at g j)
-    (λ at. kept_like j n _ at edit.old from)
-    (λ not_n. which j m (node_at g' j ≡ node_at g j) (λ at. kept_like j m _ at edit.new to) (λ not_m. ap node_of (edit.others j not_n not_m)));
+        (λ at. kept_like j n _ at edit.old from)
+        (λ not_n. which j m (node_at g' j ≡ node_at g j) (λ at. kept_like j m _ at edit.new to) (λ not_m. ap node_of (edit.others j not_n not_m)));
   }
     where
       places : (j : ℕ) → j ≢ m → place_at g' j ≡ place_at (unlinked g n x) j
@@ -151,16 +151,16 @@ module _ (g g' : Graph) (rising : (j : ℕ) → IsTrue (is_sorted name_cmp (link
   turned_in edit = record {
     links = record {
       here = λ y.
-        child_of g' n y _ edit.here ∙ find-put_link z y s (without x (links_at g n))
-        ∙ ap (cond (same_name z y) (Some s)) (sym (child_of (unlinked g n x) n y _ (unlinked_here g n x there)));
+          child_of g' n y _ edit.here ∙ find-put_link z y s (without x (links_at g n))
+          ∙ ap (cond (same_name z y) (Some s)) (sym (child_of (unlinked g n x) n y _ (unlinked_here g n x there)));
       elsewhere = λ j y other. same_child g' (unlinked g n x) j y (edit.elsewhere j other ∙ sym (unlinked_elsewhere g n x j other));
     };
     rising = λ j. which j n (IsTrue (is_sorted name_cmp (links_at g' j)))
-    (λ at. rising_like g g' rising n x n z s from there from j n _ at edit.here (rising-put z s (without x (links_at g n)) (rising-without x (links_at g n) (rising n))))
-    (λ other. rising_like g g' rising n x n z s from there from j j _ refl (edit.elsewhere j other) (rising j));
+        (λ at. rising_like g g' rising n x n z s from there from j n _ at edit.here (rising-put z s (without x (links_at g n)) (rising-without x (links_at g n) (rising n))))
+        (λ other. rising_like g g' rising n x n z s from there from j j _ refl (edit.elsewhere j other) (rising j));
     kept = λ j. which j n (node_at g' j ≡ node_at g j)
-    (λ at. kept_like g g' rising n x n z s from there from j n _ at edit.here from)
-    (λ other. ap node_of (edit.elsewhere j other));
+        (λ at. kept_like g g' rising n x n z s from there from j n _ at edit.here from)
+        (λ other. ap node_of (edit.elsewhere j other));
   }
 
 -- ---- renames
@@ -192,11 +192,10 @@ module _ (g : Graph) (forest : IsForest g) (p q : Key) (n s m : ℕ) (may : Rena
       → IsForest g' × (tree_of g' ≡ renamed (tree_of g) p q)
   renamed_by g' adds rising kept =
       let edits = relinks g' adds in
-      let whole = forest_moved g (unlinked g n (last_of p)) g' forest (parent_of p) n (last_of p) s (parent_of q) m (last_of q) edits kept rising in
-      (
+      let whole = forest_moved g (unlinked g n (last_of p)) g' forest (parent_of p) n (last_of p) s (parent_of q) m (last_of q) edits kept rising in (
         whole,
         tree_moved g (unlinked g n (last_of p)) g' forest (parent_of p) n (last_of p) s (parent_of q) m (last_of q) edits kept whole (λ y r. ap (λ k. look (tree_of g) (k ++ y ∷ r)) (sym new_key) ∙ may.bare y r)
-        ∙ (λ i. renamed (tree_of g) (sym old_key i) (sym new_key i)),
+            ∙ (λ i. renamed (tree_of g) (sym old_key i) (sym new_key i)),
       )
 
   pub renamed_free : (g' : Graph) → Rewires g g' n (last_of p) m (last_of q) s → IsForest g' × (tree_of g' ≡ renamed (tree_of g) p q)
@@ -233,11 +232,11 @@ module _ (g : Graph) (forest : IsForest g) (p q : Key) (n s m : ℕ) (may : Rena
       links = record {
         here = λ y. same_child g'' g' m y (gone.elsewhere m not_new_parent) ∙ edit.links.here y;
         elsewhere = λ j y other. which j v (child g'' j y ≡ child (unlinked g n (last_of p)) j y)
-        (λ at.
-        ap (λ i. child g'' i y) at ∙ child_of g'' v y None gone.here
-        ∙ sym (bare y) ∙ sym (same_child (unlinked g n (last_of p)) g v y (unlinked_elsewhere g n (last_of p) v not_parent))
-        ∙ sym (ap (λ i. child (unlinked g n (last_of p)) i y) at))
-        (λ not_v. same_child g'' g' j y (gone.elsewhere j not_v) ∙ edit.links.elsewhere j y other);
+            (λ at.
+            ap (λ i. child g'' i y) at ∙ child_of g'' v y None gone.here
+            ∙ sym (bare y) ∙ sym (same_child (unlinked g n (last_of p)) g v y (unlinked_elsewhere g n (last_of p) v not_parent))
+            ∙ sym (ap (λ i. child (unlinked g n (last_of p)) i y) at))
+            (λ not_v. same_child g'' g' j y (gone.elsewhere j not_v) ∙ edit.links.elsewhere j y other);
       }
 
       rising : (j : ℕ) → IsTrue (is_sorted name_cmp (links_at g'' j))

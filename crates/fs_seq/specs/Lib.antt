@@ -5,5 +5,6 @@ pub mod Replies
 pub mod Outcomes
 pub mod Graph
 pub mod Nodes
+pub mod Renaming
 pub mod Laws
 pub mod Examples

@@ -1,13 +1,105 @@
 //! Renames: the entry of a node moves, and the node that stood at its new place goes.
 
-ghost use Rattle.std.specs.Prelude.{◌≡◌, ◌<◌, None, Some, IsTrue, length, remove, slice_set};
+ghost use Rattle.std.specs.Prelude.{◌≡◌, ◌<◌, ℕ, Bool, Option, None, Some, IsTrue, length, remove, slice_set};
 ghost use Rattle.std.specs.FinMap.{find, put, is_sorted};
 ghost use Rattle.fs_names.specs.Names.{name_cmp};
 ghost use Rattle.fs_seq.specs.Nodes.{pair, pairs, graph};
-ghost use Rattle.fs_seq.specs.Graph.{Sets, place_at, links_at, Dir as IsDir};
+ghost use Rattle.fs_seq.specs.Graph.{IsForest, Sets, place_at, links_at, shape_at, Dir as IsDir};
+ghost use Rattle.fs_seq.specs.Shapes.{Shape};
+ghost use Rattle.fs_seq.specs.Errors.{by_text, replacing};
+ghost use Rattle.fs_seq.specs.Renaming.{Plans};
+ghost use Rattle.slab.specs.Slab.{ContainsKey};
 
-use crate::nodes::{Link, Node, search};
+use crate::call::Call;
+use crate::errno::Errno;
+use crate::nodes::{Link, Node, Spot, look_up, search};
+use fs_names::{ENTRY_LIMIT, Path};
 use slab::Slab;
+
+/// An entry: the number of its directory, its place there, and the number of its node.
+#[derive(Clone, Copy)]
+struct Entry {
+    dir: usize,
+    place: usize,
+    node: usize,
+}
+
+/// What a rename has to do.
+#[derive(Drop)]
+enum Plan {
+    /// Nothing, since both paths are one.
+    Stay,
+    /// To lead the second entry to the node of the first, which goes with its own node.
+    Replace(Entry, Entry),
+    /// To put an entry into a directory at a place, and to take the old one out.
+    Add(Entry, usize, usize),
+}
+
+/// The error that the paths of a rename decide alone.
+fn text_fault(from: &Path, to: &Path) -> Option<Errno>
+    ensures { result ≡ by_text (Call.Rename from.now to.now) }
+{
+    if from.len() == 0 || to.len() == 0 {
+        return Some(Errno::Ebusy);
+    }
+    if from.len() < to.len() && from.is_prefix_of(to) {
+        return Some(Errno::Einval);
+    }
+    None
+}
+
+/// The error of a node that should replace another.
+fn kinds_fault(nodes: &Slab<Node>, node: usize, victim: usize) -> Option<Errno>
+    requires node { ContainsKey nodes.now node }
+    requires victim { ContainsKey nodes.now victim }
+    ensures { (one_parent : Bool) (dir : Option Shape) → result ≡ replacing (shape_at (graph nodes.now) node) (shape_at (graph nodes.now) victim) one_parent dir }
+{
+    match (&nodes[node], &nodes[victim]) {
+        (Node::Dir(_), Node::File(_)) => Some(Errno::Enotdir),
+        (Node::File(_), Node::Dir(_)) => Some(Errno::Eisdir),
+        (Node::File(_), Node::File(_)) => None,
+        (Node::Dir(_), Node::Dir(links)) => {
+            if links.is_empty() {
+                None
+            } else {
+                Some(Errno::Enotempty)
+            }
+        }
+    }
+}
+
+/// What a rename has to do, or its first error.
+fn decide(nodes: &Slab<Node>, from: &Path, to: &Path) -> Result<Plan, Errno>
+    requires { IsForest (graph nodes.now) }
+    ensures { Plans (graph nodes.now) from.now to.now result }
+{
+    if let Some(errno) = text_fault(from, to) {
+        return Err(errno);
+    }
+    let source = match look_up(nodes, from) {
+        Ok(spot) => spot,
+        Err(errno) => return Err(errno),
+    };
+    let dest = match look_up(nodes, to) {
+        Ok(spot) => spot,
+        Err(errno) => return Err(errno),
+    };
+    let Spot::Taken(dir, place, node) = source else {
+        return Err(Errno::Enoent);
+    };
+    let entry = Entry { dir, place, node };
+    match dest {
+        Spot::Taken(_, _, other) if other == node => Ok(Plan::Stay),
+        Spot::Taken(dir, place, node) => match kinds_fault(nodes, entry.node, node) {
+            Some(errno) => Err(errno),
+            None => Ok(Plan::Replace(entry, Entry { dir, place, node })),
+        },
+        Spot::Free(dir, _, entries) if dir != entry.dir && entries >= ENTRY_LIMIT => {
+            Err(Errno::Enospc)
+        }
+        Spot::Free(dir, place, _) => Ok(Plan::Add(entry, dir, place)),
+    }
+}
 
 /// Takes the link at a place out, and puts another where it belongs. It takes no memory.
 fn replace(links: &mut Vec<Link>, i: usize, link: Link)
