@@ -18,4 +18,9 @@ pub mod Resolving
 pub mod NodeLemmas
 pub mod Parents
 pub mod SlabLemmas
-pub mod Making
+pub mod GraphMade
+pub mod GraphCut
+pub mod GraphFilled
+pub mod Spots
+pub mod Replies
+pub mod Made

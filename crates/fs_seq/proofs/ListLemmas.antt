@@ -75,3 +75,7 @@ take_whole [] zero e = refl
 take_whole [] (suc n) e = refl
 take_whole (x ∷ xs) zero e = absurd (omega arith)
 take_whole (x ∷ xs) (suc n) e = ap (λ z. x ∷ z) (take_whole xs n (omega arith))
+
+-- no list is itself with one element more
+pub no_longer : {A : Type 0} (k : List A) (x : A) → k ≡ k ++ x ∷ [] → ⊥
+no_longer k x e = let same : length k ≡ length k + 1 = ap length e ∙ length-append k (x ∷ []) in omega arith

@@ -8,7 +8,8 @@ use Rattle.fs_seq.specs.declared.nodes.Node.{Node}
 use Rattle.fs_seq.specs.declared.nodes.Node.TheVariants as nodes
 use Rattle.fs_seq.specs.Graph.{Place, Dir, File, Graph, place_at, links_of, links_at, Sets}
 use Rattle.fs_seq.specs.Nodes.{pair, pairs, place, slot_place, graph}
-use Rattle.fs_seq.proofs.NodeLemmas.{place_of_slot, place_got, links_got, length-pairs}
+use Rattle.fs_seq.proofs.NodeLemmas.{place_of_slot, place_got, place_missing, links_got, length-pairs}
+use Rattle.fs_seq.specs.Effects.{Attaches, Detaches}
 
 slot_here : (slots : List (Option Node)) (n : ℕ) (old node : Node) → get_or slots n None ≡ Some old → get_or (slice_set slots n (Some node)) n None ≡ Some node
 slot_here [] zero old node e = absurd (cc)
@@ -70,3 +71,18 @@ links_read s n node links e f = links_got (graph s) n _ (place_got s n node e �
 pub dir_not_file : (s : Slab Node) (n : ℕ) (node : Node) (links : List (Name × ℕ)) (bytes : List ℕ) → place_at (graph s) n ≡ Some (Dir links) → get s n ≡ Some node → place node ≡ File bytes → ⊥
 dir_not_file s n node links bytes at e f =
     let other : Some (Dir links) ≡ Some (File bytes) = sym at ∙ place_got s n node e ∙ ap (λ z. Some z) f in cc
+
+-- an entry and then a node are added, both under a number that was free
+pub attaches : (s0 s1 s2 s3 : Slab Node) (dir i key : ℕ) (x y : Name) (node : Node) → graph s1 ≡ graph s0 → get s1 key ≡ None → y ≡ x → Sets (graph s1) (graph s2) dir (Some (Dir (insert (links_at (graph s1) dir) i (y, key)))) → Updates s2 s3 key (Some node)
+    → Attaches (graph s0) (graph s3) dir i x (place node)
+attaches s0 s1 s2 s3 dir i key x y node same free named linking adding = record {
+  number = key;
+  between = graph s2;
+  free = ap (λ g. place_at g key) (sym same) ∙ place_missing s1 key free;
+  linking = subst (λ g. Sets g (graph s2) dir (Some (Dir (insert (links_at g dir) i (x, key))))) same (subst (λ z. Sets (graph s1) (graph s2) dir (Some (Dir (insert (links_at (graph s1) dir) i (z, key))))) named linking);
+  adding = sets_slot s2 s3 key (Some node) adding;
+}
+
+-- an entry and then its node are removed
+pub detaches : (s0 s1 s2 : Slab Node) (dir i n : ℕ) → Sets (graph s0) (graph s1) dir (Some (Dir (remove (links_at (graph s0) dir) i))) → Updates s1 s2 n None → Detaches (graph s0) (graph s2) dir i n
+detaches s0 s1 s2 dir i n unlinking removing = record { between = graph s1; unlinking = unlinking; removing = sets_slot s1 s2 n None removing }

@@ -6,6 +6,7 @@ pub mod call;
 pub mod errno;
 pub mod examples;
 pub mod laws;
+mod making;
 pub mod name_list;
 mod nodes;
 mod renaming;
