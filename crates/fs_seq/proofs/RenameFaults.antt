@@ -172,7 +172,7 @@ module _ (g : Graph) (forest : IsForest g) (p q : Key) (text : by_text (Rename p
   pub taken_walk : (r : Key) (dir i n : ℕ) → is_root r ≡ false → IsTaken g r dir i n → walk g r ≡ Some n
   taken_walk r dir i n h at = ap (walk g) (parent_and_last r h) ∙ walk_on g (parent_of r) dir (last_of r) n at.parent at.leads
 
-  free_walk : (r : Key) (dir i entries : ℕ) → is_root r ≡ false → IsFree g r dir i entries → walk g r ≡ None
+  pub free_walk : (r : Key) (dir i entries : ℕ) → is_root r ≡ false → IsFree g r dir i entries → walk g r ≡ None
   free_walk r dir i entries h at = ap (walk g) (parent_and_last r h) ∙ walk_off g (parent_of r) dir (last_of r) at.parent (child-find g dir (last_of r) ∙ at.belongs.absent)
 
   -- nothing stands at the old path

@@ -111,7 +111,7 @@ pub record Rewires (g g' : Graph) (n : ℕ) (x : Name) (m : ℕ) (z : Name) (s :
   pub kept : (j : ℕ) → node_at g' j ≡ node_at g j
 
 -- a number is this one or another
-which : (j n : ℕ) (P : Type 0) → (j ≡ n → P) → (j ≢ n → P) → P
+pub which : (j n : ℕ) (P : Type 0) → (j ≡ n → P) → (j ≢ n → P) → P
 which j n P same other = elim (nat_eq j n) as (λ b. nat_eq j n ≡ b → P) [ true ↦ λ e. same (nat_same j n e) | false ↦ λ e. other (nat_differ j n e) ] refl
 
 module _ (g g' : Graph) (rising : (j : ℕ) → IsTrue (is_sorted name_cmp (links_at g j))) (n : ℕ) (x : Name) (m : ℕ) (z : Name) (s : ℕ)
@@ -248,3 +248,9 @@ module _ (g : Graph) (forest : IsForest g) (p q : Key) (n s m : ℕ) (may : Rena
       kept k j w =
           let before = reached_before g (unlinked g n (last_of p)) g'' forest (parent_of p) n (last_of p) s (parent_of q) m (last_of q) (relinks g'' links) k j w in
           ap node_of (gone.elsewhere j (λ at. before.2 (forest.once before.0 (parent_of q ++ last_of q ∷ []) v (before.1 ∙ ap Some at) at_q))) ∙ edit.kept j
+
+-- what had a place has one where another directory is written
+pub still_placed : (g g' : Graph) (n : ℕ) (new : Place) (j : ℕ) → Sets g g' n (Some new) → is_some (place_at g j) ≡ true → is_some (place_at g' j) ≡ true
+still_placed g g' n new j edit there = which j n (is_some (place_at g' j) ≡ true)
+    (λ at. ap (λ i. is_some (place_at g' i)) at ∙ ap is_some edit.here)
+    (λ other. ap is_some (edit.elsewhere j other) ∙ there)

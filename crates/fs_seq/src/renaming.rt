@@ -1,20 +1,24 @@
 //! Renames: the entry of a node moves, and the node that stood at its new place goes.
 
-ghost use Rattle.std.specs.Prelude.{◌≡◌, ◌<◌, ℕ, Bool, Option, None, Some, IsTrue, length, remove, slice_set};
+ghost use Rattle.std.specs.Prelude.{◌≡◌, ◌≢◌, ◌<◌, ◌≤◌, ℕ, Bool, Option, None, Some, IsTrue, IsSome, IfOk, OnOk, OnErr, length, remove, slice_set};
 ghost use Rattle.std.specs.FinMap.{find, put, is_sorted};
 ghost use Rattle.fs_names.specs.Names.{name_cmp};
 ghost use Rattle.fs_seq.specs.Nodes.{pair, pairs, graph};
-ghost use Rattle.fs_seq.specs.Graph.{IsForest, Sets, place_at, links_at, shape_at, Dir as IsDir};
+ghost use Rattle.fs_seq.specs.Graph.{IsForest, Sets, place_at, links_at, shape_at, tree_of, Dir as IsDir};
 ghost use Rattle.fs_seq.specs.Shapes.{Shape};
 ghost use Rattle.fs_seq.specs.Errors.{by_text, replacing};
-ghost use Rattle.fs_seq.specs.Renaming.{Plans};
+ghost use Rattle.fs_seq.specs.Renaming.{Plans, Exchanges, Transfers};
+ghost use Rattle.fs_seq.specs.Effects.{Answers};
+ghost use Rattle.fs_seq.specs.Memory.{needs_memory};
 ghost use Rattle.slab.specs.Slab.{ContainsKey};
 
 use crate::call::Call;
 use crate::errno::Errno;
-use crate::nodes::{Link, Node, Spot, look_up, search};
-use fs_names::{ENTRY_LIMIT, Path};
+use crate::nodes::{Link, Node, Spot, add_link, look_up, remove_link, search};
+use crate::reply::Reply;
+use fs_names::{ENTRY_LIMIT, Name, Path};
 use slab::Slab;
+use std::alloc::AllocError;
 
 /// An entry: the number of its directory, its place there, and the number of its node.
 #[derive(Clone, Copy)]
@@ -29,10 +33,12 @@ struct Entry {
 enum Plan {
     /// Nothing, since both paths are one.
     Stay,
-    /// To lead the second entry to the node of the first, which goes with its own node.
-    Replace(Entry, Entry),
-    /// To put an entry into a directory at a place, and to take the old one out.
-    Add(Entry, usize, usize),
+    /// To lead the second entry to the node of the first, which goes, as does the second's own node.
+    Onto(Entry, Entry),
+    /// To give the entry another name in its directory.
+    Within(Entry),
+    /// To put the entry into another directory at a place.
+    Across(Entry, usize, usize),
 }
 
 /// The error that the paths of a rename decide alone.
@@ -92,12 +98,11 @@ fn decide(nodes: &Slab<Node>, from: &Path, to: &Path) -> Result<Plan, Errno>
         Spot::Taken(_, _, other) if other == node => Ok(Plan::Stay),
         Spot::Taken(dir, place, node) => match kinds_fault(nodes, entry.node, node) {
             Some(errno) => Err(errno),
-            None => Ok(Plan::Replace(entry, Entry { dir, place, node })),
+            None => Ok(Plan::Onto(entry, Entry { dir, place, node })),
         },
-        Spot::Free(dir, _, entries) if dir != entry.dir && entries >= ENTRY_LIMIT => {
-            Err(Errno::Enospc)
-        }
-        Spot::Free(dir, place, _) => Ok(Plan::Add(entry, dir, place)),
+        Spot::Free(dir, _, _) if dir == entry.dir => Ok(Plan::Within(entry)),
+        Spot::Free(_, _, entries) if entries >= ENTRY_LIMIT => Err(Errno::Enospc),
+        Spot::Free(dir, place, _) => Ok(Plan::Across(entry, dir, place)),
     }
 }
 
@@ -141,5 +146,83 @@ fn replace_link(nodes: &mut Slab<Node>, dir: usize, i: usize, link: Link)
     match &mut nodes[dir] {
         Node::Dir(links) => replace(links, i, link),
         Node::File(_) => {}
+    }
+}
+
+/// Leads the victim's entry, which has this name, to the entry's node, takes the entry out, and removes the victim's
+/// node. It takes no memory.
+fn exchange(nodes: &mut Slab<Node>, entry: Entry, victim: Entry, name: &Name)
+    requires dir { place_at (graph nodes.old) entry.dir ≡ Some (IsDir (links_at (graph nodes.old) entry.dir)) }
+    requires place { entry.place < length (links_at (graph nodes.old) entry.dir) }
+    requires victim_dir { place_at (graph nodes.old) victim.dir ≡ Some (IsDir (links_at (graph nodes.old) victim.dir)) }
+    requires victim_place { victim.place < length (links_at (graph nodes.old) victim.dir) }
+    requires victim_node { IsSome (place_at (graph nodes.old) victim.node) }
+    ensures { Exchanges (graph nodes.old) (graph nodes.new) entry victim name.now }
+{
+    let link = Link {
+        name: name.copy(),
+        node: entry.node,
+    };
+    set_link(nodes, victim.dir, victim.place, link);
+    remove_link(nodes, entry.dir, entry.place);
+    nodes.remove(victim.node);
+}
+
+/// Puts the entry under a name into another directory at a place, and takes it out of its own.
+fn transfer(
+    nodes: &mut Slab<Node>,
+    entry: Entry,
+    dir: usize,
+    place: usize,
+    name: &Name,
+) -> Result<(), AllocError>
+    requires dir { place_at (graph nodes.old) entry.dir ≡ Some (IsDir (links_at (graph nodes.old) entry.dir)) }
+    requires place { entry.place < length (links_at (graph nodes.old) entry.dir) }
+    requires new_dir { place_at (graph nodes.old) dir ≡ Some (IsDir (links_at (graph nodes.old) dir)) }
+    requires new_place { place ≤ length (links_at (graph nodes.old) dir) }
+    requires other { entry.dir ≢ dir }
+    ensures ok { OnOk result (Transfers (graph nodes.old) (graph nodes.new) entry dir place name.now) }
+    ensures err { OnErr result (graph nodes.new ≡ graph nodes.old) }
+{
+    let link = Link {
+        name: name.copy(),
+        node: entry.node,
+    };
+    add_link(nodes, dir, place, link)?;
+    remove_link(nodes, entry.dir, entry.place);
+    Ok(())
+}
+
+/// Renames a node, with all below it; the node that stood at the new path is removed. A rename costs no more than its
+/// two directories, and takes memory only where it adds an entry to another one.
+pub fn rename(nodes: &mut Slab<Node>, from: &Path, to: &Path) -> Result<Reply, AllocError>
+    requires { IsForest (graph nodes.old) }
+    ensures given { IfOk result (Answers (graph nodes.old) (graph nodes.new) (Call.Rename from.now to.now)) }
+    ensures err { OnErr result (graph nodes.new ≡ graph nodes.old) }
+    ensures memory { OnErr result (IsTrue (needs_memory (tree_of (graph nodes.old)) (Call.Rename from.now to.now))) }
+{
+    let plan = match decide(nodes, from, to) {
+        Ok(plan) => plan,
+        Err(errno) => return Ok(Reply::Failed(errno)),
+    };
+    let name = to.name(to.len() - 1);
+    match plan {
+        Plan::Stay => Ok(Reply::Done),
+        Plan::Onto(entry, victim) => {
+            exchange(nodes, entry, victim, name);
+            Ok(Reply::Done)
+        }
+        Plan::Within(entry) => {
+            let link = Link {
+                name: name.copy(),
+                node: entry.node,
+            };
+            replace_link(nodes, entry.dir, entry.place, link);
+            Ok(Reply::Done)
+        }
+        Plan::Across(entry, dir, place) => {
+            transfer(nodes, entry, dir, place, name)?;
+            Ok(Reply::Done)
+        }
     }
 }

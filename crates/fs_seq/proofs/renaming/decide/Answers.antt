@@ -2,14 +2,16 @@ use Rattle.std.proofs.Common.{◌≡◌, ◌≢◌, ℕ, ap, sym, subst, ◌∙�
 use Rattle.fs_seq.specs.Graph.{shape_at}
 use Rattle.fs_seq.specs.Nodes.{graph, LooksUp, IsTaken, IsFree}
 use Rattle.fs_seq.specs.declared.nodes.Spot.{Spot}
-use Rattle.fs_seq.specs.declared.nodes.Spot.TheVariants.{Taken}
+use Rattle.fs_seq.specs.declared.nodes.Spot.TheVariants.{Taken, Free}
 use Rattle.fs_seq.proofs.NodeLemmas.{has_key}
 use Rattle.fs_seq.proofs.RenameFaults.{named, new_named, looked_up, taken_walk, fault_text, fault_source, fault_dest, missing, stays, onto, moves_onto, full, moves_beside, moves_to}
 use Rattle.fs_seq.proofs.renaming.decide.Goals as goal
-use Rattle.fs_seq.proofs.renaming.decide.Goals.{then-dir-entry+else-entries-ge-ENTRY_LIMIT, else-dir-entry}
 
 same_taken : {a b m d e n : ℕ} → Taken a b m ≡ Taken d e n → m ≡ n
 same_taken e = cc
+
+same_free : {a b m d e n : ℕ} → Free a b m ≡ Free d e n → a ≡ d
+same_free e = cc
 
 pub returns-in-Some : goal.returns-in-Some
 returns-in-Some c = fault_text _ c.args.from.now c.args.to.now c.in-Some.errno (sym c.text_fault.ensures ∙ c.in-Some.is)
@@ -84,23 +86,32 @@ returns-in-Free c =
     let g = graph c.args.nodes.now in
     let p = c.args.from.now in
     let q = c.args.to.now in
-    full g c.requires p q (sym c.text_fault.ensures ∙ c.in_default.is) _ _ _
-    (subst (λ s. LooksUp g p (Ok s)) c.in-Taken.is c.in-Ok.ensures) _ _ _
-    (subst (λ s. LooksUp g q (Ok s)) c.in-Free.is c.in-Ok-look_up.ensures) c.if-dir-entry.true c.if-entries-ge-ENTRY_LIMIT.true
+    let at : IsTaken g p c.in-Taken.dir c.in-Taken.place c.in-Taken.node = subst (λ s. LooksUp g p (Ok s)) c.in-Taken.is c.in-Ok.ensures in
+    let to : IsFree g q c.in-Free.dir c.in-Free.field-1 c.in-Free.field-2 = subst (λ s. LooksUp g q (Ok s)) c.in-Free.is c.in-Ok-look_up.ensures in (
+      moves_beside g c.requires p q (sym c.text_fault.ensures ∙ c.in_default.is) _ _ _ at _ _ _ to c.if-dir-entry.true,
+      at,
+      (c.in-Free.field-1, c.in-Free.field-2, subst (λ d. IsFree g q d c.in-Free.field-1 c.in-Free.field-2) c.if-dir-entry.true to),
+    )
 
 pub returns-in-Free-2 : goal.returns-in-Free-2
 returns-in-Free-2 c =
     let g = graph c.args.nodes.now in
     let p = c.args.from.now in
     let q = c.args.to.now in
-    let text = sym c.text_fault.ensures ∙ c.in_default.is in
+    full g c.requires p q (sym c.text_fault.ensures ∙ c.in_default.is) _ _ _
+    (subst (λ s. LooksUp g p (Ok s)) c.in-Taken.is c.in-Ok.ensures) _ _ _
+    (subst (λ s. LooksUp g q (Ok s)) c.in-Free-2.is c.in-Ok-look_up.ensures)
+    (λ e. c.if-dir-entry.false (same_free (sym c.in-Free.is ∙ c.in-Free-2.is) ∙ e)) c.if-entries-ge-ENTRY_LIMIT.true
+
+pub returns-in-Free-3 : goal.returns-in-Free-3
+returns-in-Free-3 c =
+    let g = graph c.args.nodes.now in
+    let p = c.args.from.now in
+    let q = c.args.to.now in
     let at : IsTaken g p c.in-Taken.dir c.in-Taken.place c.in-Taken.node = subst (λ s. LooksUp g p (Ok s)) c.in-Taken.is c.in-Ok.ensures in
-    let tested : IsFree g q c.in-Free.dir c.in-Free.field-1 c.in-Free.entries = subst (λ s. LooksUp g q (Ok s)) c.in-Free.is c.in-Ok-look_up.ensures in
-    let to : IsFree g q c.in-Free-2.dir c.in-Free-2.place c.in-Free-2.field-2 = subst (λ s. LooksUp g q (Ok s)) c.in-Free-2.is c.in-Ok-look_up.ensures in (
-      elim c.if-dir-entry.branch [
-        | then-dir-entry+else-entries-ge-ENTRY_LIMIT w ↦ moves_to g c.requires p q text _ _ _ at _ _ _ tested w.if-entries-ge-ENTRY_LIMIT.false
-        | else-dir-entry w ↦ moves_beside g c.requires p q text _ _ _ at _ _ _ tested w.if-dir-entry.false
-      ],
+    let tested : IsFree g q c.in-Free-2.field-0 c.in-Free-2.field-1 c.in-Free-2.entries = subst (λ s. LooksUp g q (Ok s)) c.in-Free-2.is c.in-Ok-look_up.ensures in (
+      moves_to g c.requires p q (sym c.text_fault.ensures ∙ c.in_default.is) _ _ _ at _ _ _ tested c.if-entries-ge-ENTRY_LIMIT.false,
       at,
-      subst (λ n. IsFree g q c.in-Free-2.dir c.in-Free-2.place n) to.count to,
+      (c.in-Free-3.field-2, subst (λ s. LooksUp g q (Ok s)) c.in-Free-3.is c.in-Ok-look_up.ensures),
+      λ e. c.if-dir-entry.false (same_free (sym c.in-Free.is ∙ c.in-Free-3.is) ∙ sym e),
     )
