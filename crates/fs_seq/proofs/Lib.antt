@@ -1,4 +1,15 @@
+pub mod FaultLemmas
+pub mod ForestTrees
+pub mod KeyLemmas
+pub mod LinkEdits
+pub mod Moving
 pub mod OutcomeLemmas
+pub mod RenameFaults
+pub mod Renamed
+pub mod RenamedTrees
+pub mod ResolutionLemmas
+pub mod Rewiring
+pub mod TreeLaws
 pub mod LookLemmas
 pub mod GraphLemmas
 pub mod ListLemmas

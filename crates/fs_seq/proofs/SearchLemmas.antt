@@ -119,6 +119,7 @@ standing x (l ∷ links) zero sorted h at =
     let here : same_name x l.name ≡ true = ap (same_name x) same ∙ same_name_refl x in
     record {
       within = omega arith;
+      named = ap (λ z. Some z) same;
       found = ap (λ b. cond {A = Option ℕ} b (Some l.node) (find name_cmp x (pairs links))) here;
       others = sym (ap (λ b. cond {A = List (Name × ℕ)} (not b) (pair l ∷ without x (pairs links)) (without x (pairs links))) here ∙ kept_all x (pairs links) (subst (λ y. T (below_all name_cmp y (pairs links))) same (both_first _ _ sorted)));
     }
@@ -130,6 +131,7 @@ standing x (l ∷ links) (suc i) sorted h at =
     let rest : StandsAt (pairs links) x i = standing x links i (both_second _ _ sorted) near at in
     record {
       within = one_more i (length (pairs links)) rest.within;
+      named = rest.named;
       found = find_later x (pair l) (pairs links) apart ∙ rest.found;
       others = ap (λ z. pair l ∷ z) rest.others ∙ sym (ap (λ b. cond {A = List (Name × ℕ)} (not b) (pair l ∷ without x (pairs links)) (without x (pairs links))) apart);
     }

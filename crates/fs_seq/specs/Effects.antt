@@ -1,5 +1,5 @@
 -- What the functions on nodes answer and leave.
-use Rattle.std.specs.Prelude.{◌≡◌, ℕ, Bool, true, false, ◌+◌, ◌&&◌, nat_lt, length, List, [], insert, remove, ◌<◌, Option, Some, None, Result, Ok, Err, if◌then◌else◌}
+use Rattle.std.specs.Prelude.{◌≡◌, ℕ, ◌+◌, ◌&&◌, nat_lt, length, List, [], insert, remove, ◌<◌, Option, Some, None, Result, Ok, Err, if◌then◌else◌}
 use Rattle.fs_names.specs.Names.{Name}
 use Rattle.fs_names.specs.Keys.{Key, is_root, parent_of, last_of}
 use Rattle.fs_names.specs.First.{on, or_else}
@@ -14,7 +14,6 @@ use Rattle.fs_seq.specs.Nodes.{BelongsAt, IsTaken}
 use Rattle.fs_seq.specs.declared.nodes.Node.{Node}
 use Rattle.fs_seq.specs.declared.nodes.Node.TheVariants as nodes
 use Rattle.fs_seq.specs.declared.call.Call.{Call}
-use Rattle.fs_seq.specs.declared.call.Call.TheVariants.{Rename}
 use Rattle.fs_seq.specs.declared.reply.Reply.{Reply}
 use Rattle.fs_seq.specs.declared.errno.Errno.{Errno}
 use Rattle.fs_seq.specs.declared.errno.Errno.TheVariants.{Eexist, Efbig}
@@ -103,8 +102,3 @@ too_long size = on (nat_lt FILE_LIMIT size) Efbig
 pub record Fills (old new : List ℕ) (found : Option Errno) (well : Reply) (made : List ℕ) (r : Reply) : Type 0 where
   pub reply : r ≡ replied found well
   pub bytes : new ≡ bytes_unless found old made
-
--- whether a call moves a node
-abbrev pub is_rename : Call → Bool
-is_rename (Rename p q) = true
-is_rename _ = false

@@ -2,6 +2,7 @@ pub mod Tree
 pub mod Shapes
 pub mod Errors
 pub mod Replies
+pub mod Renaming
 pub mod Outcomes
 pub mod Graph
 pub mod Nodes

@@ -39,6 +39,10 @@ abbrev pub number_of : Option (Name × ℕ) → Option ℕ
 number_of None = None
 number_of (Some link) = Some link.1
 
+abbrev pub name_of : Option (Name × ℕ) → Option Name
+name_of None = None
+name_of (Some link) = Some link.0
+
 -- the links without a name
 abbrev pub without : Name → List (Name × ℕ) → List (Name × ℕ)
 without x links = where_key name_cmp (λ y. not (same_name x y)) links
@@ -46,6 +50,7 @@ without x links = where_key name_cmp (λ y. not (same_name x y)) links
 -- a name stands at this place among links
 pub record StandsAt (links : List (Name × ℕ)) (x : Name) (i : ℕ) : Type 0 where
   pub within : i < length links
+  pub named : name_of (slice_get links i) ≡ Some x
   pub found : find name_cmp x links ≡ number_of (slice_get links i)
   pub others : remove links i ≡ without x links
 

@@ -11,6 +11,7 @@ mod making;
 pub mod name_list;
 mod nodes;
 mod removing;
+mod renaming;
 pub mod reply;
 pub mod seq_tree;
 mod writing;

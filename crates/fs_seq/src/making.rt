@@ -16,7 +16,13 @@ use slab::Slab;
 use std::alloc::{AllocError, Global};
 
 /// Adds a node, and an entry for it to a directory at a place.
-fn attach(nodes: &mut Slab<Node>, dir: usize, i: usize, name: &Name, node: Node) -> Result<(), AllocError>
+fn attach(
+    nodes: &mut Slab<Node>,
+    dir: usize,
+    i: usize,
+    name: &Name,
+    node: Node,
+) -> Result<(), AllocError>
     requires directory { place_at (graph nodes.old) dir ≡ Some (IsDir (links_at (graph nodes.old) dir)) }
     requires within { i ≤ length (links_at (graph nodes.old) dir) }
     ensures ok { OnOk result (Attaches (graph nodes.old) (graph nodes.new) dir i name.now (place node)) }

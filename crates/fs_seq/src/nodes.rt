@@ -35,7 +35,7 @@ pub enum Spot {
 }
 
 /// Where a name stands among the links, or where it belongs.
-fn search(links: &[Link], name: &Name) -> Result<usize, usize>
+pub fn search(links: &[Link], name: &Name) -> Result<usize, usize>
     requires { IsTrue (is_sorted name_cmp (pairs links.now)) }
     ensures { Searches (pairs links.now) name.now result }
 {

@@ -1,17 +1,16 @@
 //! The sequential tree: a value of its own for one thread.
 
-ghost use Rattle.std.specs.Prelude.{◌≡◌, false, IfOk, OnOk, OnErr, IsTrue};
+ghost use Rattle.std.specs.Prelude.{◌≡◌, IfOk, OnOk, OnErr, IsTrue};
 ghost use Rattle.fs_seq.specs.Tree.{root_tree};
 ghost use Rattle.fs_seq.specs.Outcomes.{reply, after};
 ghost use Rattle.fs_seq.specs.Memory.{needs_memory};
-ghost use Rattle.fs_seq.specs.Effects.{is_rename};
 
 use crate::call::Call;
-use crate::errno::Errno;
 use crate::looking;
 use crate::making;
 use crate::nodes::Node;
 use crate::removing;
+use crate::renaming;
 use crate::reply::Reply;
 use crate::writing;
 use fs_names::Path;
@@ -50,9 +49,9 @@ impl SeqTree {
         }
     }
 
-    /// Applies a call that is no rename.
-    fn apply(&mut self, alloc: Global, call: &Call) -> Result<Reply, AllocError>
-        requires { is_rename call.now ≡ false }
+    /// The reply of a call on the tree, which is as the call says from then on. Where there is no memory the tree
+    /// stays as it was; a call that needs none never fails so.
+    pub fn apply(&mut self, alloc: Global, call: &Call) -> Result<Reply, AllocError>
         ensures reply { IfOk result (λ r. r ≡ reply self.old call.now) }
         ensures tree { OnOk result (self.new ≡ after self.old call.now) }
         ensures err { OnErr result (self.new ≡ self.old) }
@@ -63,7 +62,7 @@ impl SeqTree {
             Call::Mknod(path) => self.mknod(alloc, path),
             Call::Unlink(path) => Ok(self.unlink(path)),
             Call::Rmdir(path) => Ok(self.rmdir(path)),
-            Call::Rename(..) => Ok(Reply::Failed(Errno::Einval)),
+            Call::Rename(from, to) => self.rename(from, to),
             Call::Stat(path) => Ok(self.stat(path)),
             Call::Readdir(path) => self.readdir(alloc, path),
             Call::Read(path, off, count) => self.read(alloc, path, *off, *count),
@@ -102,6 +101,15 @@ impl SeqTree {
         ensures tree { self.new ≡ after self.old (Call.Rmdir path.now) }
     {
         removing::rmdir(&mut self.nodes, path)
+    }
+
+    fn rename(&mut self, from: &Path, to: &Path) -> Result<Reply, AllocError>
+        ensures reply { IfOk result (λ r. r ≡ reply self.old (Call.Rename from.now to.now)) }
+        ensures tree { OnOk result (self.new ≡ after self.old (Call.Rename from.now to.now)) }
+        ensures err { OnErr result (self.new ≡ self.old) }
+        ensures memory { OnErr result (IsTrue (needs_memory self.old (Call.Rename from.now to.now))) }
+    {
+        renaming::rename(&mut self.nodes, from, to)
     }
 
     fn stat(&self, path: &Path) -> Reply
