@@ -1,6 +1,6 @@
 -- What names are, and their order.
-use Rattle.std.specs.Prelude.{ℕ, Bool, List, [], ◌∷◌, false, ◌&&◌, not, ◌==◌, nat_le, length}
-use Rattle.std.specs.Ordering.{nat_cmp, eq_by_cmp}
+use Rattle.std.specs.Prelude.{ℕ, Bool, true, false, List, [], ◌∷◌, if◌then◌else◌, ◌&&◌, not, ◌==◌, nat_le, length}
+use Rattle.std.specs.Ordering.{nat_cmp, eq_by_cmp, is_lt}
 use Rattle.std.specs.declared.cmp.Ordering.{Ordering}
 use Rattle.std.specs.List.{list_all}
 use Rattle.std.specs.Cmp.Lexicographic.{slice_cmp}
@@ -32,3 +32,16 @@ name_cmp = slice_cmp nat_cmp
 -- whether two names are the same
 abbrev pub same_name : Name → Name → Bool
 same_name x y = eq_by_cmp name_cmp x y
+
+-- a directory's names, in byte order, each once: with a name more, with a name less, and whether a name is among them
+abbrev pub inserted_name : Name → List Name → List Name
+inserted_name x [] = x ∷ []
+inserted_name x (y ∷ ys) = if same_name x y then y ∷ ys else (if is_lt (name_cmp x y) then x ∷ y ∷ ys else y ∷ inserted_name x ys)
+
+abbrev pub removed_name : Name → List Name → List Name
+removed_name x [] = []
+removed_name x (y ∷ ys) = if same_name x y then removed_name x ys else y ∷ removed_name x ys
+
+abbrev pub has_name : Name → List Name → Bool
+has_name x [] = false
+has_name x (y ∷ ys) = if same_name x y then true else has_name x ys

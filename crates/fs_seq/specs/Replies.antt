@@ -1,7 +1,7 @@
 -- When two replies are the same.
 use Rattle.std.specs.Prelude.{ℕ, Bool, true, false, ◌&&◌, ◌==◌, List, nat_eq}
 use lib.Pointwise.{pointwise}
-use Rattle.fs_names.specs.Names.{Name, same_name}
+use Rattle.fs_names.specs.Names.{Name}
 use Rattle.fs_names.specs.declared.kind.Kind.{Kind}
 use Rattle.fs_names.specs.declared.kind.Kind.TheVariants as kind
 use Rattle.fs_seq.specs.declared.errno.Errno.{Errno}
@@ -32,7 +32,7 @@ abbrev pub same_bytes : List ℕ → List ℕ → Bool
 same_bytes = pointwise nat_eq
 
 abbrev pub same_names : List Name → List Name → Bool
-same_names = pointwise same_name
+same_names = pointwise same_bytes
 
 -- of one form, with the same parts
 abbrev pub same_reply : Reply → Reply → Bool

@@ -1,15 +1,9 @@
--- What a call sees of a node.
-use Rattle.std.specs.Prelude.{ℕ, Bool, true, false, List, [], ◌∷◌, nat_le, length, Option, Some, None}
-use Rattle.fs_names.specs.Names.{Name}
+-- What a call sees at a key of a tree.
+use Rattle.std.specs.Prelude.{Option, Some, None}
 use Rattle.fs_names.specs.Keys.{Key}
-use Rattle.fs_names.specs.declared.limits.TheConstants.{ENTRY_LIMIT}
+pub use Rattle.fs_names.specs.Shapes.{Shape, Dir, File, is_there, is_missing, is_dir, is_file, names_of, bytes_of, has_any, has_entries, is_full}
 use Rattle.fs_seq.specs.Tree as tree
 use Rattle.fs_seq.specs.Tree.{Tree, Node, look, names_in}
-
--- a directory with its names in byte order, or a file with its bytes
-pub data Shape : Type 0 where
-  Dir : List Name → Shape
-  File : List ℕ → Shape
 
 abbrev pub shape_of : Tree → Key → Option Node → Option Shape
 shape_of t k None = None
@@ -19,43 +13,3 @@ shape_of t k (Some (tree.File bytes)) = Some (File bytes)
 -- what is seen at a key of a tree
 abbrev pub seen : Tree → Key → Option Shape
 seen t k = shape_of t k (look t k)
-
-abbrev pub is_there : Option Shape → Bool
-is_there None = false
-is_there (Some shape) = true
-
-abbrev pub is_missing : Option Shape → Bool
-is_missing None = true
-is_missing (Some shape) = false
-
-abbrev pub is_dir : Option Shape → Bool
-is_dir None = false
-is_dir (Some (Dir names)) = true
-is_dir (Some (File bytes)) = false
-
-abbrev pub is_file : Option Shape → Bool
-is_file None = false
-is_file (Some (Dir names)) = false
-is_file (Some (File bytes)) = true
-
--- the names of a directory, and the bytes of a file
-abbrev pub names_of : Option Shape → List Name
-names_of None = []
-names_of (Some (Dir names)) = names
-names_of (Some (File bytes)) = []
-
-abbrev pub bytes_of : Option Shape → List ℕ
-bytes_of None = []
-bytes_of (Some (Dir names)) = []
-bytes_of (Some (File bytes)) = bytes
-
-abbrev pub has_any : {A : Type 0} → List A → Bool
-has_any [] = false
-has_any (x ∷ xs) = true
-
-abbrev pub has_entries : Option Shape → Bool
-has_entries there = has_any (names_of there)
-
--- as many entries as a directory can have
-abbrev pub is_full : Option Shape → Bool
-is_full there = nat_le ENTRY_LIMIT (length (names_of there))

@@ -1,6 +1,7 @@
 //! The bytes of a file.
 
 ghost use Rattle.std.specs.Prelude.{◌≡◌, IfOk};
+ghost use Rattle.fs_seq.specs.Replies.{same_bytes};
 
 use std::alloc::AllocError;
 use std::marker::Model;
@@ -40,26 +41,18 @@ impl Bytes {
         self.items
     }
 
+    /// Whether the other bytes are the same. It takes no memory.
+    pub fn same(&self, other: &Bytes) -> bool
+        ensures { result ≡ same_bytes self.now other.now }
+    {
+        self.items == other.items
+    }
+
     /// The same bytes again.
     pub fn copy(&self) -> Result<Bytes, AllocError>
         ensures { IfOk result (λ bytes. bytes ≡ self.now) }
     {
         let items = self.items.clone()?;
         Ok(Bytes { items })
-    }
-}
-
-impl PartialEq for Bytes {
-    ghost use Rattle.std.specs.Prelude.{nat_eq};
-    ghost use lib.Pointwise.{pointwise};
-    ghost use Rattle.std.specs.Cmp.{partial_equiv_from_equiv, nat_eq_equiv};
-    ghost use Rattle.std.specs.Cmp.Lexicographic.{lists_per};
-
-    ghost eq = { λ x y. pointwise nat_eq x y };
-
-    ghost laws = { lists_per (partial_equiv_from_equiv nat_eq_equiv) };
-
-    fn eq(&self, other: &Bytes) -> bool {
-        self.as_slice() == other.as_slice()
     }
 }

@@ -1,5 +1,8 @@
 //! Why a call failed.
 
+ghost use Rattle.std.specs.Prelude.{◌≡◌};
+ghost use Rattle.fs_seq.specs.Replies.{number_of};
+
 /// The error of a call (POSIX.1-2017, section 2.3, Error Numbers), under this project's own numbers.
 #[derive(Clone, Copy, Debug, PartialEq, Eq)]
 pub enum Errno {
@@ -23,4 +26,13 @@ pub enum Errno {
     Enospc = 9,
     /// The file would have more bytes than it can have.
     Efbig = 10,
+}
+
+impl Errno {
+    /// The number of the error, 1 to 10.
+    pub fn number(self) -> u8
+        ensures { result ≡ number_of self }
+    {
+        self as u8
+    }
 }

@@ -1,6 +1,7 @@
 //! The names of a directory.
 
 ghost use Rattle.std.specs.Prelude.{◌≡◌};
+ghost use Rattle.fs_seq.specs.Replies.{same_names};
 
 use fs_names::Name;
 use std::marker::Model;
@@ -31,6 +32,13 @@ impl NameList {
         ensures { result.now ≡ self.now }
     {
         self.items.as_slice()
+    }
+
+    /// Whether the other names are the same, in the same order. It takes no memory.
+    pub fn same(&self, other: &NameList) -> bool
+        ensures { result ≡ same_names self.now other.now }
+    {
+        self.items == other.items
     }
 
     /// Gives the vector back. It takes no memory.

@@ -1,5 +1,8 @@
 //! What calls answer.
 
+ghost use Rattle.std.specs.Prelude.{◌≡◌};
+ghost use Rattle.fs_seq.specs.Replies.{same_kind, same_reply};
+
 use crate::bytes::Bytes;
 use crate::errno::Errno;
 use crate::name_list::NameList;
@@ -20,4 +23,31 @@ pub enum Reply {
     Wrote(u64),
     /// The call failed, and changed nothing.
     Failed(Errno),
+}
+
+fn same_kind(kind: Kind, other: Kind) -> bool
+    ensures { result ≡ same_kind kind other }
+{
+    kind == other
+}
+
+impl Reply {
+    /// Whether the other reply is the same. It takes no memory.
+    pub fn same(&self, other: &Reply) -> bool
+        ensures { result ≡ same_reply self.now other.now }
+    {
+        match (self, other) {
+            (Reply::Done, Reply::Done) => true,
+            (Reply::Stat(kind, size), Reply::Stat(other_kind, other_size)) => {
+                same_kind(*kind, *other_kind) && size == other_size
+            }
+            (Reply::Names(names), Reply::Names(others)) => names.same(others),
+            (Reply::Bytes(bytes), Reply::Bytes(others)) => bytes.same(others),
+            (Reply::Wrote(count), Reply::Wrote(other_count)) => count == other_count,
+            (Reply::Failed(errno), Reply::Failed(other_errno)) => {
+                errno.number() == other_errno.number()
+            }
+            _ => false,
+        }
+    }
 }
