@@ -4,8 +4,8 @@ use Rattle.fs_journal.specs.Timeline.{IsNext, IsAnswered, Each, IsWellFormed, Is
 use Rattle.fs_journal.specs.Laws.{LawfulWithoutTheLast, WellFormedAppended, LawfulAppended}
 use Rattle.fs_journal.specs.declared.entry.Entry.{Entry}
 
--- what stands before the rest, said in two ways
-append_nil : (es : List Entry) → es ++ [] ≡ es
+-- a list with nothing behind it
+pub append_nil : {A : Type 0} (es : List A) → es ++ [] ≡ es
 append_nil [] = refl
 append_nil (e ∷ es) = let rest = append_nil es in cc
 
