@@ -1,6 +1,5 @@
 -- Worked examples of reading a path.
 use Rattle.std.specs.Prelude.{◌≡◌, ℕ, zero, suc, List, [], ◌∷◌, ◌++◌, replicate, codes, Ok, Err}
-use Rattle.fs_names.specs.Names.{Name}
 use Rattle.fs_names.specs.Reading.{reading}
 use Rattle.fs_names.specs.declared.fault.PathFault.TheVariants.{NotAbsolute, Nul, NameTooLong, TooManyNames, Dot, TrailingSlash}
 

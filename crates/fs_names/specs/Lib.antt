@@ -3,5 +3,4 @@ pub mod Names
 pub mod Keys
 pub mod Shapes
 pub mod Reading
-pub mod Pieces
 pub mod Examples

@@ -19,12 +19,14 @@ impl Model for CallNo {
 }
 
 impl CallNo {
+    /// The call with this number: any is one. It takes no memory.
     pub fn new(number: u64) -> Self
         ensures { result ≡ number }
     {
         CallNo { number }
     }
 
+    /// The number that it was made with. It takes no memory.
     pub fn get(self) -> u64
         ensures { result ≡ self }
     {
@@ -47,12 +49,14 @@ impl Model for SeatNo {
 }
 
 impl SeatNo {
+    /// The seat with this number: any is one. It takes no memory.
     pub fn new(number: u64) -> Self
         ensures { result ≡ number }
     {
         SeatNo { number }
     }
 
+    /// The number that it was made with. It takes no memory.
     pub fn get(self) -> u64
         ensures { result ≡ self }
     {
