@@ -1,15 +1,14 @@
 -- What the words on timelines say once one more entry is appended.
-use Rattle.std.proofs.Common.{◌≡◌, ◌≢◌, ℕ, Bool, true, false, ◌||◌, ◌==◌, cond, List, [], ◌∷◌, ◌++◌, Option, Some, None, is_some, refl, sym, ap, ◌∙◌, subst, ⊎_elim, if◌then◌else◌}
+use Rattle.std.proofs.Common.{◌≡◌, ℕ, Bool, true, false, ◌||◌, ◌==◌, cond, List, [], ◌∷◌, ◌++◌, Option, Some, None, is_some, refl, sym, ap, ◌∙◌}
 use Rattle.std.specs.List.{list_any}
-use Rattle.std.proofs.lemmas.Bool.{eqb-true, eq-eqb, ne_eqb, or_cases, or_left, or_right, cases_Bool}
+use Rattle.std.proofs.lemmas.Bool.{eq-eqb, or_left, or_right}
 use Rattle.std.proofs.lemmas.List.Folds.{list_any-append}
 use Rattle.fs_names.specs.First.{or_else}
 use Rattle.fs_names.proofs.FirstLemmas.{or_else-assoc}
 use Rattle.fs_seq.specs.Tree.{Tree}
-use Rattle.fs_seq.specs.Outcomes.{play_from, play, reply, after}
+use Rattle.fs_seq.specs.Outcomes.{play_from, play, after}
 use Rattle.fs_seq.specs.declared.call.Call.{Call}
-use Rattle.fs_seq.specs.declared.reply.Reply.{Reply}
-use Rattle.fs_journal.specs.Timeline.{is_begin, is_commit, is_return, has_begun, has_committed, has_returned, begun_on, last_on, begun_as, call_of, with_call, commits_of, commits, before_commit, told, due}
+use Rattle.fs_journal.specs.Timeline.{is_begin, is_commit, has_begun, has_committed, begun_on, last_on, begun_as, call_of, with_call, commits_of, commits, before_commit, told, due}
 use Rattle.fs_journal.specs.declared.entry.Entry.{Entry}
 use Rattle.fs_journal.specs.declared.entry.Entry.TheVariants.{Begin, Commit, Return}
 

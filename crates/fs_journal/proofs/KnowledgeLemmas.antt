@@ -1,12 +1,12 @@
 -- What a checker knows, entry by entry.
-use Rattle.std.proofs.Common.{◌≡◌, ◌≢◌, ℕ, Bool, true, false, not, ◌||◌, ◌==◌, cond, List, [], ◌∷◌, ◌++◌, Option, Some, None, is_some, refl, sym, ap, ◌∙◌, subst, ⊎_elim, if◌then◌else◌, suc, ◌+◌, ◌<◌, ◌≤◌, ◌↔◌, length, get_or, take, drop, add-one, drop-cons}
+use Rattle.std.proofs.Common.{◌≡◌, ℕ, Bool, true, false, not, ◌||◌, ◌==◌, cond, List, [], ◌∷◌, ◌++◌, Option, Some, None, is_some, refl, sym, ap, ◌∙◌, subst, ⊎_elim, suc, ◌+◌, ◌<◌, ◌≤◌, ◌↔◌, length, get_or, take, drop, add-one, drop-cons}
 use Rattle.std.proofs.lemmas.List.{take_more, drop_all}
 use Rattle.std.proofs.lemmas.Bool.{eqb-true, eq-eqb, ne_eqb, or_cases, or_left, or_right, cases_Bool, cases_eq}
 use Rattle.fs_names.specs.First.{on, first, or_else}
 use Rattle.fs_seq.specs.Outcomes.{play, reply, after}
 use Rattle.fs_seq.specs.declared.call.Call.{Call}
 use Rattle.fs_seq.specs.declared.reply.Reply.{Reply}
-use Rattle.fs_journal.specs.Timeline.{is_begin, is_commit, is_return, has_begun, has_committed, has_returned, begun_on, last_on, is_open, begun_as, call_of, with_call, commits_of, commits, before_commit, told, due, IsNext, IsLawful}
+use Rattle.fs_journal.specs.Timeline.{is_begin, is_commit, is_return, has_begun, has_committed, has_returned, begun_on, last_on, is_open, begun_as, call_of, with_call, commits_of, commits, before_commit, told, due, IsLawful}
 use Rattle.fs_journal.specs.Verdicts.{is_due, entry_fault, fault_or, verdict_from, verdict}
 use Rattle.fs_journal.specs.Laws.{IsFirstFault}
 use Rattle.fs_journal.specs.Knowledge.{Knowledge, known_fault, is_waiting, changed, played, taken_in, committed_reply, IsTrueOf}
@@ -15,7 +15,7 @@ use Rattle.fs_journal.specs.declared.entry.Entry.TheVariants.{Begin, Commit, Ret
 use Rattle.fs_journal.specs.declared.verdict.Verdict.{Verdict}
 use Rattle.fs_journal.specs.declared.verdict.Verdict.TheVariants.{Lawful, Fault}
 use Rattle.fs_journal.specs.declared.verdict.FaultKind.{FaultKind}
-use Rattle.fs_journal.specs.declared.verdict.FaultKind.TheVariants.{BeginTwice, SeatBusy, CommitUnbegun, CommitTwice, ReturnUncommitted, ReturnTwice, WrongReply}
+use Rattle.fs_journal.specs.declared.verdict.FaultKind.TheVariants.{ReturnUncommitted, ReturnTwice, WrongReply}
 use Rattle.fs_journal.proofs.AppendLemmas.{BegunFirst, or_false, list_any-push, or_else-nothing, last_on-push, call_of-push, is_some-call_of, call_of-kept, commits-push, due-kept, due-first, play-push}
 use Rattle.fs_journal.proofs.TimelineLemmas.{append_nil}
 use Rattle.fs_journal.proofs.VerdictLemmas.{fits_from_none, lawful_is_lawful, faults_are_first}
@@ -87,11 +87,11 @@ committed_reply-kept c es e begun apart =
     let more = list_any-push (is_commit c) es e in
     ⊎_elim
     (λ h.
-        let now : has_committed c (es ++ e ∷ []) ≡ true = more ∙ or_left _ _ h in
-        committed_reply-yes c (es ++ e ∷ []) now ∙ due-kept c es e begun h ∙ sym (committed_reply-yes c es h))
+    let now : has_committed c (es ++ e ∷ []) ≡ true = more ∙ or_left _ _ h in
+    committed_reply-yes c (es ++ e ∷ []) now ∙ due-kept c es e begun h ∙ sym (committed_reply-yes c es h))
     (λ h.
-        let now : has_committed c (es ++ e ∷ []) ≡ false = more ∙ ap (λ b. b || is_commit c e) h ∙ apart in
-        committed_reply-no c (es ++ e ∷ []) now ∙ sym (committed_reply-no c es h))
+    let now : has_committed c (es ++ e ∷ []) ≡ false = more ∙ ap (λ b. b || is_commit c e) h ∙ apart in
+    committed_reply-no c (es ++ e ∷ []) now ∙ sym (committed_reply-no c es h))
     (cases_Bool (has_committed c es))
 
 committed_reply-first : (c : ℕ) (es : List Entry) (call : Call) → has_begun c es ≡ true → has_committed c es ≡ false → call_of c es ≡ Some call
@@ -115,13 +115,13 @@ begin_call : (k : Knowledge) (es : List Entry) (c seat : ℕ) (call : Call) → 
 begin_call k es c seat call h new q =
     ⊎_elim
     (λ same.
-        let begins : begun_as q (Begin c seat call) ≡ Some call = (let e = eq-eqb q c same in rw e refl) in
-        let none : call_of q es ≡ None = no_call (call_of q es) (is_some-call_of q es ∙ ap (λ n. has_begun n es) same ∙ new) in
-        changed_here k.calls c (Some call) q same ∙ sym (call_of-push q es (Begin c seat call) ∙ ap (λ o. or_else o (begun_as q (Begin c seat call))) none ∙ begins))
+    let begins : begun_as q (Begin c seat call) ≡ Some call = (let e = eq-eqb q c same in rw e refl) in
+    let none : call_of q es ≡ None = no_call (call_of q es) (is_some-call_of q es ∙ ap (λ n. has_begun n es) same ∙ new) in
+    changed_here k.calls c (Some call) q same ∙ sym (call_of-push q es (Begin c seat call) ∙ ap (λ o. or_else o (begun_as q (Begin c seat call))) none ∙ begins))
     (λ apart.
-        let other : begun_as q (Begin c seat call) ≡ None = (let e = ne_eqb q c apart in rw e refl) in
-        changed_apart k.calls c (Some call) q apart ∙ h.calls_are q
-        ∙ sym (call_of-push q es (Begin c seat call) ∙ ap (or_else (call_of q es)) other ∙ or_else-nothing (call_of q es)))
+    let other : begun_as q (Begin c seat call) ≡ None = (let e = ne_eqb q c apart in rw e refl) in
+    changed_apart k.calls c (Some call) q apart ∙ h.calls_are q
+    ∙ sym (call_of-push q es (Begin c seat call) ∙ ap (or_else (call_of q es)) other ∙ or_else-nothing (call_of q es)))
     (cases_eq q c)
 
 begin_last : (k : Knowledge) (es : List Entry) (c seat : ℕ) (call : Call) → IsTrueOf k es
@@ -129,12 +129,12 @@ begin_last : (k : Knowledge) (es : List Entry) (c seat : ℕ) (call : Call) → 
 begin_last k es c seat call h q =
     ⊎_elim
     (λ same.
-        let begins : begun_on q (Begin c seat call) ≡ Some c = (let e = eq-eqb q seat same in rw e refl) in
-        changed_here k.last seat (Some c) q same ∙ sym (last_on-push q es (Begin c seat call) ∙ ap (λ o. or_else o (last_on q es)) begins))
+    let begins : begun_on q (Begin c seat call) ≡ Some c = (let e = eq-eqb q seat same in rw e refl) in
+    changed_here k.last seat (Some c) q same ∙ sym (last_on-push q es (Begin c seat call) ∙ ap (λ o. or_else o (last_on q es)) begins))
     (λ apart.
-        let other : begun_on q (Begin c seat call) ≡ None = (let e = ne_eqb q seat apart in rw e refl) in
-        changed_apart k.last seat (Some c) q apart ∙ h.last_are q
-        ∙ sym (last_on-push q es (Begin c seat call) ∙ ap (λ o. or_else o (last_on q es)) other))
+    let other : begun_on q (Begin c seat call) ≡ None = (let e = ne_eqb q seat apart in rw e refl) in
+    changed_apart k.last seat (Some c) q apart ∙ h.last_are q
+    ∙ sym (last_on-push q es (Begin c seat call) ∙ ap (λ o. or_else o (last_on q es)) other))
     (cases_eq q seat)
 
 commit_reply : (k : Knowledge) (es : List Entry) (c : ℕ) (call : Call) → IsTrueOf k es → has_begun c es ≡ true → has_committed c es ≡ false → call_of c es ≡ Some call
@@ -142,11 +142,11 @@ commit_reply : (k : Knowledge) (es : List Entry) (c : ℕ) (call : Call) → IsT
 commit_reply k es c call h begun first_time is q =
     ⊎_elim
     (λ same.
-        changed_here k.replies c (Some (reply k.tree call)) q same ∙ ap (λ t. Some (reply t call)) h.tree_is
-        ∙ sym (ap (λ n. committed_reply n (es ++ Commit c ∷ [])) same ∙ committed_reply-first c es call begun first_time is))
+    changed_here k.replies c (Some (reply k.tree call)) q same ∙ ap (λ t. Some (reply t call)) h.tree_is
+    ∙ sym (ap (λ n. committed_reply n (es ++ Commit c ∷ [])) same ∙ committed_reply-first c es call begun first_time is))
     (λ apart.
-        changed_apart k.replies c (Some (reply k.tree call)) q apart ∙ h.replies_are q
-        ∙ sym (committed_reply-kept q es (Commit c) h.begun_first (ne_eqb q c apart)))
+    changed_apart k.replies c (Some (reply k.tree call)) q apart ∙ h.replies_are q
+    ∙ sym (committed_reply-kept q es (Commit c) h.begun_first (ne_eqb q c apart)))
     (cases_eq q c)
 
 one_commit-push : (es : List Entry) (c : ℕ) (call : Call) → BegunFirst es → has_begun c es ≡ true → call_of c es ≡ Some call → commits (es ++ Commit c ∷ []) ≡ commits es ++ call ∷ []
@@ -158,11 +158,11 @@ return_returned : (k : Knowledge) (es : List Entry) (c : ℕ) (r : Reply) → Is
 return_returned k es c r h q =
     ⊎_elim
     (λ same.
-        changed_here k.returned c true q same
-        ∙ sym (list_any-push (is_return q) es (Return c r) ∙ or_right (has_returned q es) (q == c) (eq-eqb q c same)))
+    changed_here k.returned c true q same
+    ∙ sym (list_any-push (is_return q) es (Return c r) ∙ or_right (has_returned q es) (q == c) (eq-eqb q c same)))
     (λ apart.
-        changed_apart k.returned c true q apart ∙ h.returned_are q
-        ∙ sym (list_any-push (is_return q) es (Return c r) ∙ ap (λ b. has_returned q es || b) (ne_eqb q c apart) ∙ or_false (has_returned q es)))
+    changed_apart k.returned c true q apart ∙ h.returned_are q
+    ∙ sym (list_any-push (is_return q) es (Return c r) ∙ ap (λ b. has_returned q es || b) (ne_eqb q c apart) ∙ or_false (has_returned q es)))
     (cases_eq q c)
 
 -- what is known stays true where a call begins

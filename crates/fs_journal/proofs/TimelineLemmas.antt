@@ -1,6 +1,6 @@
 -- Timelines with one more entry.
 use Rattle.std.proofs.Common.{◌≡◌, List, [], ◌∷◌, ◌++◌, refl, sym, subst, append_assoc}
-use Rattle.fs_journal.specs.Timeline.{IsNext, IsAnswered, Each, IsWellFormed, IsLawful}
+use Rattle.fs_journal.specs.Timeline.{IsNext, IsAnswered, Each}
 use Rattle.fs_journal.specs.Laws.{LawfulWithoutTheLast, WellFormedAppended, LawfulAppended}
 use Rattle.fs_journal.specs.declared.entry.Entry.{Entry}
 

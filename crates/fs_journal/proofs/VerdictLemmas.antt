@@ -1,10 +1,9 @@
 -- Verdicts and lawful timelines.
-use Rattle.std.proofs.Common.{◌≡◌, ◌≢◌, ◌↔◌, ℕ, zero, suc, ◌+◌, ◌-◌, Bool, true, false, not, List, [], ◌∷◌, ◌++◌, take, Option, Some, None, refl, sym, subst, ap, ◌∙◌, arith, ◌⊎◌, inl, inr, ⊎_elim}
-use Rattle.fs_names.specs.First.{on, or_else, first}
-use Rattle.fs_seq.specs.Replies.{same_reply}
+use Rattle.std.proofs.Common.{◌≡◌, ℕ, suc, ◌+◌, ◌-◌, Bool, true, false, not, List, [], ◌∷◌, ◌++◌, take, Option, Some, None, refl, sym, subst, ap, arith, ◌⊎◌, inl, inr, ⊎_elim}
+use Rattle.fs_names.specs.First.{on, first}
 use Rattle.fs_seq.specs.declared.reply.Reply.{Reply}
-use Rattle.fs_journal.specs.Timeline.{has_begun, has_committed, has_returned, is_busy, due, IsNext, IsAnswered, Each, IsWellFormed, IsLawful}
-use Rattle.fs_journal.specs.Verdicts.{is_due, entry_fault, fault_or, verdict_from, verdict}
+use Rattle.fs_journal.specs.Timeline.{due, IsNext, IsAnswered, Each, IsLawful}
+use Rattle.fs_journal.specs.Verdicts.{is_due, entry_fault, fault_or, verdict_from}
 use Rattle.fs_journal.specs.Laws.{LawfulIsLawful, IsFirstFault, FaultsAreFirst}
 use Rattle.fs_journal.specs.declared.entry.Entry.{Entry}
 use Rattle.fs_journal.specs.declared.entry.Entry.TheVariants.{Begin, Commit, Return}

@@ -13,3 +13,6 @@ pub use checker::check;
 pub use entry::Entry;
 pub use timeline::Timeline;
 pub use verdict::{FaultKind, Verdict};
+
+#[cfg(test)]
+mod tests;

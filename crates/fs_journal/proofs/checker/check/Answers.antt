@@ -1,7 +1,5 @@
-use Rattle.std.proofs.Common.{◌≡◌, ◌+◌, ◌∙◌, take, refl, Some, None, rules}
-use Rattle.fs_journal.specs.Verdicts.{verdict, entry_fault}
-use Rattle.fs_journal.specs.Knowledge.{known}
-use Rattle.fs_journal.specs.declared.verdict.Verdict.TheVariants.{Lawful, Fault}
+use Rattle.std.proofs.Common.{◌≡◌, ◌∙◌, take, None}
+use Rattle.fs_journal.specs.Verdicts.{entry_fault}
 use Rattle.fs_journal.proofs.KnowledgeLemmas.{known_fault-entry_fault, fault_is_verdict, verdict_goes_on, true_of_more, end_is_lawful, lawful_by_verdict, first_by_verdict}
 use Rattle.fs_journal.proofs.checker.check.Goals as goal
 
@@ -21,8 +19,8 @@ loop-index-preserved c =
     let so_far = c.loop-index.invariant in
     let none : None ≡ entry_fault (take c.loop-index.index c.args.entries.now) c.index-entries-index.result = c.in_default.ensures ∙ known_fault-entry_fault _ _ _ so_far.so_far in
     record {
-        so_far = rw c.in_ok-take_in.ensures (true_of_more _ _ _ _ c.loop-index-test.true c.index-entries-index.is so_far.so_far none);
-        the_rest = verdict_goes_on _ _ _ c.loop-index-test.true c.index-entries-index.is so_far.the_rest none;
+      so_far = rw c.in_ok-take_in.ensures (true_of_more _ _ _ _ c.loop-index-test.true c.index-entries-index.is so_far.so_far none);
+      the_rest = verdict_goes_on _ _ _ c.loop-index-test.true c.index-entries-index.is so_far.the_rest none;
     }
 
 pub returns-clause-lawful : goal.returns-clause-lawful
