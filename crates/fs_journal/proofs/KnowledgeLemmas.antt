@@ -8,7 +8,6 @@ use Rattle.fs_seq.specs.declared.call.Call.{Call}
 use Rattle.fs_seq.specs.declared.reply.Reply.{Reply}
 use Rattle.fs_journal.specs.Timeline.{is_begin, is_commit, is_return, has_begun, has_committed, has_returned, begun_on, last_on, is_open, begun_as, call_of, with_call, commits_of, commits, before_commit, told, due, IsLawful}
 use Rattle.fs_journal.specs.Verdicts.{is_due, entry_fault, fault_or, verdict_from, verdict}
-use Rattle.fs_journal.specs.Laws.{IsFirstFault}
 use Rattle.fs_journal.specs.Knowledge.{Knowledge, known_fault, is_waiting, changed, played, taken_in, committed_reply, IsTrueOf}
 use Rattle.fs_journal.specs.declared.entry.Entry.{Entry}
 use Rattle.fs_journal.specs.declared.entry.Entry.TheVariants.{Begin, Commit, Return}
@@ -18,7 +17,7 @@ use Rattle.fs_journal.specs.declared.verdict.FaultKind.{FaultKind}
 use Rattle.fs_journal.specs.declared.verdict.FaultKind.TheVariants.{ReturnUncommitted, ReturnTwice, WrongReply}
 use Rattle.fs_journal.proofs.AppendLemmas.{BegunFirst, or_false, list_any-push, or_else-nothing, last_on-push, call_of-push, is_some-call_of, call_of-kept, commits-push, due-kept, due-first, play-push}
 use Rattle.fs_journal.proofs.TimelineLemmas.{append_nil}
-use Rattle.fs_journal.proofs.VerdictLemmas.{fits_from_none, lawful_is_lawful, faults_are_first}
+use Rattle.fs_journal.proofs.VerdictLemmas.{fits_from_none, lawful_is_lawful}
 
 is_some-told : (calls : List Call) (o : Option Call) → is_some (told calls o) ≡ is_some o
 is_some-told calls None = refl
@@ -250,6 +249,3 @@ end_is_lawful es i h rest = sym (rest ∙ ap (verdict_from (take i es) (i + 1)) 
 
 pub lawful_by_verdict : (es : List Entry) (v : Verdict) → v ≡ verdict es → (v ≡ Lawful) ↔ IsLawful es
 lawful_by_verdict es v h = subst (λ w. (w ≡ Lawful) ↔ IsLawful es) (sym h) (lawful_is_lawful es)
-
-pub first_by_verdict : (es : List Entry) (v : Verdict) → v ≡ verdict es → (place : ℕ) (kind : FaultKind) → v ≡ Fault place kind → IsFirstFault es place
-first_by_verdict es v h place kind is = faults_are_first es place kind (sym h ∙ is)

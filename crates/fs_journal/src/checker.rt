@@ -1,9 +1,9 @@
 //! The checker of journals.
 
-ghost use Rattle.std.specs.Prelude.{◌≡◌, ◌↔◌, ℕ, [], IfOk, OnOk};
+ghost use Rattle.std.specs.Prelude.{◌≡◌, ◌↔◌, [], IfOk, OnOk};
 ghost use Rattle.fs_journal.specs.Timeline.{IsLawful};
 ghost use Rattle.fs_journal.specs.Verdicts.{verdict};
-ghost use Rattle.fs_journal.specs.Laws.{IsFirstFault};
+ghost use Rattle.fs_journal.specs.Laws.{NamesFirstFault};
 ghost use Rattle.fs_journal.specs.Knowledge.{known, known_fault, taken_in, is_waiting, IsTrueOf};
 
 use crate::entry::Entry;
@@ -14,8 +14,8 @@ use fs_seq::{Call, Reply};
 use std::alloc::{AllocError, Global};
 use std::collections::{BTreeMap, BTreeSet};
 
-/// What is known of the entries so far. The maps are trees, since the numbers come from strangers, and without the
-/// runtime there is no hasher with a secret.
+/// What is known of the entries so far. Strangers choose the numbers, so they are looked up in search trees: a hasher
+/// with a secret needs the runtime, and without a secret all numbers could be made to meet in one place.
 #[derive(Drop)]
 struct Checker<'a> {
     /// The calls that have begun.
@@ -138,20 +138,20 @@ impl<'a> Checker<'a> {
     }
 
     fn end(&mut self, number: CallNo) -> Result<(), AllocError>
-        ensures { (reply : Reply) → OnOk result (known self.new ≡ taken_in (known self.old) (Entry.Return number reply)) }
+        ensures { (reply : Reply) →
+            OnOk result (known self.new ≡ taken_in (known self.old) (Entry.Return number reply)) }
     {
         self.returned.insert(number.get())?;
         Ok(())
     }
 }
 
-/// The verdict on a journal, in one pass: each committed call is played once.
+/// The verdict on a journal. It goes over the entries once, up to the first fault, and plays each call on a sequential
+/// tree where it commits.
 pub fn check(alloc: Global, entries: &[Entry]) -> Result<Verdict, AllocError>
     ensures verdict { IfOk result (λ v. v ≡ verdict entries.now) }
     ensures lawful { IfOk result (λ v. (v ≡ Verdict.Lawful) ↔ IsLawful entries.now) }
-
-    // A fault names the first entry with which the entries up to it are not lawful.
-    ensures first_fault { IfOk result (λ v. (place : ℕ) → (kind : FaultKind) → v ≡ Verdict.Fault place kind → IsFirstFault entries.now place) }
+    ensures first_fault { IfOk result (NamesFirstFault entries.now) }
 {
     let mut checker = Checker::new(alloc)?;
     for (index, entry) in entries.iter().enumerate() {

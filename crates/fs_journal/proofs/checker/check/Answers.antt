@@ -1,6 +1,7 @@
 use Rattle.std.proofs.Common.{◌≡◌, ◌∙◌, take, None}
 use Rattle.fs_journal.specs.Verdicts.{entry_fault}
-use Rattle.fs_journal.proofs.KnowledgeLemmas.{known_fault-entry_fault, fault_is_verdict, verdict_goes_on, true_of_more, end_is_lawful, lawful_by_verdict, first_by_verdict}
+use Rattle.fs_journal.proofs.KnowledgeLemmas.{known_fault-entry_fault, fault_is_verdict, verdict_goes_on, true_of_more, end_is_lawful, lawful_by_verdict}
+use Rattle.fs_journal.proofs.VerdictLemmas.{names_first_fault}
 use Rattle.fs_journal.proofs.checker.check.Goals as goal
 
 pub returns-in-Some-clause-verdict : goal.returns-in-Some-clause-verdict
@@ -12,7 +13,7 @@ pub returns-in-Some-clause-lawful : goal.returns-in-Some-clause-lawful
 returns-in-Some-clause-lawful c = lawful_by_verdict _ _ (returns-in-Some-clause-verdict c)
 
 pub returns-in-Some-clause-first_fault : goal.returns-in-Some-clause-first_fault
-returns-in-Some-clause-first_fault c = first_by_verdict _ _ (returns-in-Some-clause-verdict c)
+returns-in-Some-clause-first_fault c = names_first_fault _ _ (returns-in-Some-clause-verdict c)
 
 pub loop-index-preserved : goal.loop-index-preserved
 loop-index-preserved c =
@@ -25,6 +26,3 @@ loop-index-preserved c =
 
 pub returns-clause-lawful : goal.returns-clause-lawful
 returns-clause-lawful c = lawful_by_verdict _ _ (end_is_lawful _ _ c.loop-index-test.false c.loop-index.invariant.the_rest)
-
-pub returns-clause-first_fault : goal.returns-clause-first_fault
-returns-clause-first_fault c = first_by_verdict _ _ (end_is_lawful _ _ c.loop-index-test.false c.loop-index.invariant.the_rest)
