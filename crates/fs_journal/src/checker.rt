@@ -66,6 +66,7 @@ impl<'a> Checker<'a> {
         }
     }
 
+    /// What is wrong with a Begin: the number before the seat.
     fn begin_fault(&self, number: CallNo, seat: SeatNo) -> Option<FaultKind>
         ensures { (call : Call) → result ≡ known_fault (known self.now) (Entry.Begin number seat call) }
     {
@@ -78,6 +79,7 @@ impl<'a> Checker<'a> {
         }
     }
 
+    /// What is wrong with a Commit.
     fn commit_fault(&self, number: CallNo) -> Option<FaultKind>
         ensures { result ≡ known_fault (known self.now) (Entry.Commit number) }
     {
@@ -90,6 +92,7 @@ impl<'a> Checker<'a> {
         }
     }
 
+    /// What is wrong with a Return: the order of the entries before the reply.
     fn return_fault(&self, number: CallNo, reply: &Reply) -> Option<FaultKind>
         ensures { result ≡ known_fault (known self.now) (Entry.Return number reply.now) }
     {
@@ -107,7 +110,7 @@ impl<'a> Checker<'a> {
         }
     }
 
-    /// Takes in an entry in which nothing is wrong.
+    /// Takes in an entry in which nothing is wrong. Where memory runs out, part of it may be taken in.
     fn take_in(&mut self, alloc: Global, entry: &'a Entry) -> Result<(), AllocError>
         ensures { OnOk result (known self.new ≡ taken_in (known self.old) entry.now) }
     {
@@ -118,6 +121,7 @@ impl<'a> Checker<'a> {
         }
     }
 
+    /// Keeps the call under its number, and its number as the last one on the seat.
     fn begin(&mut self, number: CallNo, seat: SeatNo, call: &'a Call) -> Result<(), AllocError>
         ensures { OnOk result (known self.new ≡ taken_in (known self.old) (Entry.Begin number seat call.now)) }
     {
@@ -137,6 +141,7 @@ impl<'a> Checker<'a> {
         Ok(())
     }
 
+    /// Keeps that the call has returned.
     fn end(&mut self, number: CallNo) -> Result<(), AllocError>
         ensures { (reply : Reply) →
             OnOk result (known self.new ≡ taken_in (known self.old) (Entry.Return number reply)) }
