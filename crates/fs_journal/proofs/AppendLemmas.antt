@@ -1,20 +1,28 @@
 -- What the words on timelines say once one more entry is appended.
-use Rattle.std.proofs.Common.{◌≡◌, ℕ, Bool, true, false, ◌||◌, ◌==◌, cond, List, [], ◌∷◌, ◌++◌, Option, Some, None, is_some, refl, sym, ap, ◌∙◌}
+use Rattle.std.proofs.Common.{◌≡◌, ℕ, Bool, true, false, ◌||◌, ◌==◌, cond, List, [], ◌∷◌, ◌++◌, Option, Some, None, is_some, refl, sym, ap, ◌∙◌, subst, ⊎_elim, append_assoc}
 use Rattle.std.specs.List.{list_any}
-use Rattle.std.proofs.lemmas.Bool.{eq-eqb, or_left, or_right}
+use Rattle.std.proofs.lemmas.Bool.{eqb-true, eq-eqb, or_cases, or_left, or_right}
 use Rattle.std.proofs.lemmas.List.Folds.{list_any-append}
 use Rattle.fs_names.specs.First.{or_else}
 use Rattle.fs_names.proofs.FirstLemmas.{or_else-assoc}
 use Rattle.fs_seq.specs.Tree.{Tree}
 use Rattle.fs_seq.specs.Outcomes.{play_from, play, after}
 use Rattle.fs_seq.specs.declared.call.Call.{Call}
-use Rattle.fs_journal.specs.Timeline.{is_begin, is_commit, has_begun, has_committed, begun_on, last_on, begun_as, call_of, with_call, commits_of, commits, before_commit, told, due}
+use Rattle.fs_journal.specs.Timeline.{is_begin, is_commit, is_return, has_begun, has_committed, begun_on, last_on, begun_as, call_of, with_call, commits_of, commits, before_commit, told, due, IsNext, Each, IsWellFormed}
 use Rattle.fs_journal.specs.declared.entry.Entry.{Entry}
 use Rattle.fs_journal.specs.declared.entry.Entry.TheVariants.{Begin, Commit, Return}
+use Rattle.fs_journal.proofs.TimelineLemmas.{append_nil}
 
--- each committed call has begun
+-- a call with the later kind of entry has the earlier kind
+abbrev pub Precedes : (ℕ → Entry → Bool) → (ℕ → Entry → Bool) → List Entry → Type 0
+Precedes earlier later es = (c : ℕ) → list_any (later c) es ≡ true → list_any (earlier c) es ≡ true
+
+-- each committed call has begun, and each returned call has committed
 abbrev pub BegunFirst : List Entry → Type 0
-BegunFirst es = (c : ℕ) → has_committed c es ≡ true → has_begun c es ≡ true
+BegunFirst = Precedes is_begin is_commit
+
+abbrev pub CommittedFirst : List Entry → Type 0
+CommittedFirst = Precedes is_commit is_return
 
 pub or_false : (b : Bool) → (b || false) ≡ b
 or_false true = refl
@@ -130,3 +138,37 @@ play_from-push t (first ∷ calls) call = play_from-push (after t first) calls c
 -- the tree after one more call
 pub play-push : (calls : List Call) (call : Call) → play (calls ++ call ∷ []) ≡ after (play calls) call
 play-push calls call = play_from-push _ calls call
+
+precedes-push : (earlier later : ℕ → Entry → Bool) (es : List Entry) (e : Entry) → Precedes earlier later es
+    → ((c : ℕ) → later c e ≡ true → list_any (earlier c) es ≡ true) → Precedes earlier later (es ++ e ∷ [])
+precedes-push earlier later es e so_far here c h =
+    let was : list_any (earlier c) es ≡ true = ⊎_elim (so_far c) (here c) (or_cases (list_any (later c) es) (later c e) (sym (list_any-push (later c) es e) ∙ h)) in
+    list_any-push (earlier c) es e ∙ or_left _ _ was
+
+-- calls that had begun before they committed still have, whatever comes next
+pub begun_first-push : (es : List Entry) (e : Entry) → BegunFirst es → ((c : ℕ) → is_commit c e ≡ true → has_begun c es ≡ true) → BegunFirst (es ++ e ∷ [])
+begun_first-push es e = precedes-push is_begin is_commit es e
+
+precedes_along : (earlier later : ℕ → Entry → Bool) → ((before : List Entry) (e : Entry) → IsNext before e → (c : ℕ) → later c e ≡ true → list_any (earlier c) before ≡ true)
+    → (before es : List Entry) → Precedes earlier later before → Each IsNext before es → Precedes earlier later (before ++ es)
+precedes_along earlier later here before [] so_far h = subst (Precedes earlier later) (sym (append_nil before)) so_far
+precedes_along earlier later here before (e ∷ es) so_far h =
+    subst (Precedes earlier later) (append_assoc before (e ∷ []) es)
+    (precedes_along earlier later here (before ++ e ∷ []) es (precedes-push earlier later before e so_far (here before e h.0)) h.1)
+
+commits_begun : (before : List Entry) (e : Entry) → IsNext before e → (c : ℕ) → is_commit c e ≡ true → has_begun c before ≡ true
+commits_begun before (Begin d seat call) next c h = absurd (cc)
+commits_begun before (Commit d) next c h = subst (λ n. has_begun n before ≡ true) (sym (eqb-true c d h)) next.0
+commits_begun before (Return d r) next c h = absurd (cc)
+
+returns_committed : (before : List Entry) (e : Entry) → IsNext before e → (c : ℕ) → is_return c e ≡ true → has_committed c before ≡ true
+returns_committed before (Begin d seat call) next c h = absurd (cc)
+returns_committed before (Commit d) next c h = absurd (cc)
+returns_committed before (Return d r) next c h = subst (λ n. has_committed n before ≡ true) (sym (eqb-true c d h)) next.0
+
+-- in a well-formed timeline each committed call has begun, and each returned call has committed
+pub begun_first : (es : List Entry) → IsWellFormed es → BegunFirst es
+begun_first es h = precedes_along is_begin is_commit commits_begun [] es (λ c no. absurd (cc)) h
+
+pub committed_first : (es : List Entry) → IsWellFormed es → CommittedFirst es
+committed_first es h = precedes_along is_commit is_return returns_committed [] es (λ c no. absurd (cc)) h

@@ -1,12 +1,12 @@
 -- What a checker knows, entry by entry.
 use Rattle.std.proofs.Common.{◌≡◌, ℕ, Bool, true, false, not, ◌||◌, ◌==◌, cond, List, [], ◌∷◌, ◌++◌, Option, Some, None, is_some, refl, sym, ap, ◌∙◌, subst, ⊎_elim, suc, ◌+◌, ◌<◌, ◌≤◌, ◌↔◌, length, get_or, take, drop, add-one, drop-cons}
 use Rattle.std.proofs.lemmas.List.{take_more, drop_all}
-use Rattle.std.proofs.lemmas.Bool.{eqb-true, eq-eqb, ne_eqb, or_cases, or_left, or_right, cases_Bool, cases_eq}
+use Rattle.std.proofs.lemmas.Bool.{eqb-true, eq-eqb, ne_eqb, or_left, or_right, cases_Bool, cases_eq}
 use Rattle.fs_names.specs.First.{on, first, or_else}
 use Rattle.fs_seq.specs.Outcomes.{play, reply, after}
 use Rattle.fs_seq.specs.declared.call.Call.{Call}
 use Rattle.fs_seq.specs.declared.reply.Reply.{Reply}
-use Rattle.fs_journal.specs.Timeline.{is_begin, is_commit, is_return, has_begun, has_committed, has_returned, begun_on, last_on, is_open, begun_as, call_of, with_call, commits_of, commits, before_commit, told, due, IsLawful}
+use Rattle.fs_journal.specs.Timeline.{is_commit, is_return, has_begun, has_committed, has_returned, begun_on, last_on, is_open, begun_as, call_of, with_call, commits_of, commits, before_commit, told, due, IsLawful}
 use Rattle.fs_journal.specs.Verdicts.{is_due, entry_fault, fault_or, verdict_from, verdict}
 use Rattle.fs_journal.specs.Knowledge.{Knowledge, known_fault, is_waiting, changed, played, taken_in, committed_reply, IsTrueOf}
 use Rattle.fs_journal.specs.declared.entry.Entry.{Entry}
@@ -15,7 +15,7 @@ use Rattle.fs_journal.specs.declared.verdict.Verdict.{Verdict}
 use Rattle.fs_journal.specs.declared.verdict.Verdict.TheVariants.{Lawful, Fault}
 use Rattle.fs_journal.specs.declared.verdict.FaultKind.{FaultKind}
 use Rattle.fs_journal.specs.declared.verdict.FaultKind.TheVariants.{ReturnUncommitted, ReturnTwice, WrongReply}
-use Rattle.fs_journal.proofs.AppendLemmas.{BegunFirst, or_false, list_any-push, or_else-nothing, last_on-push, call_of-push, is_some-call_of, call_of-kept, commits-push, due-kept, due-first, play-push}
+use Rattle.fs_journal.proofs.AppendLemmas.{BegunFirst, begun_first-push, or_false, list_any-push, or_else-nothing, last_on-push, call_of-push, is_some-call_of, call_of-kept, commits-push, due-kept, due-first, play-push}
 use Rattle.fs_journal.proofs.TimelineLemmas.{append_nil}
 use Rattle.fs_journal.proofs.VerdictLemmas.{fits_from_none, lawful_is_lawful}
 
@@ -98,12 +98,6 @@ committed_reply-first : (c : ℕ) (es : List Entry) (call : Call) → has_begun 
 committed_reply-first c es call begun h is =
     let now : has_committed c (es ++ Commit c ∷ []) ≡ true = list_any-push (is_commit c) es (Commit c) ∙ or_right _ _ (eq-eqb c c refl) in
     committed_reply-yes c (es ++ Commit c ∷ []) now ∙ due-first c es begun h ∙ ap (told (commits es)) is
-
--- calls that had begun before they committed still have, whatever comes next
-begun_first-push : (es : List Entry) (e : Entry) → BegunFirst es → ((c : ℕ) → is_commit c e ≡ true → has_begun c es ≡ true) → BegunFirst (es ++ e ∷ [])
-begun_first-push es e begun here c h =
-    let was : has_begun c es ≡ true = ⊎_elim (begun c) (here c) (or_cases (has_committed c es) (is_commit c e) (sym (list_any-push (is_commit c) es e) ∙ h)) in
-    list_any-push (is_begin c) es e ∙ or_left _ _ was
 
 no_commits-push : (es : List Entry) (e : Entry) → BegunFirst es → ((whole : List Entry) → commits_of whole (e ∷ []) ≡ []) → commits (es ++ e ∷ []) ≡ commits es
 no_commits-push es e begun none = commits-push es e begun ∙ ap (λ xs. commits es ++ xs) (none (es ++ e ∷ [])) ∙ append_nil (commits es)
