@@ -2,6 +2,11 @@ pub mod Tree
 pub mod Shapes
 pub mod Errors
 pub mod Replies
+pub mod Renaming
 pub mod Outcomes
+pub mod Graph
+pub mod Nodes
+pub mod Memory
+pub mod Effects
 pub mod Laws
 pub mod Examples
