@@ -7,10 +7,9 @@ ghost use Rattle.fs_journal.specs.Laws.{NamesFirstFault};
 ghost use Rattle.fs_journal.specs.Knowledge.{known, known_fault, taken_in, is_waiting, IsTrueOf};
 
 use crate::entry::Entry;
-use crate::stand_in::SeqTree;
 use crate::verdict::{FaultKind, Verdict};
 use fs_names::{CallNo, SeatNo};
-use fs_seq::{Call, Reply};
+use fs_seq::{Call, Reply, SeqTree};
 use std::alloc::{AllocError, Global};
 use std::collections::{BTreeMap, BTreeSet};
 

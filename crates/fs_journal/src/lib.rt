@@ -5,7 +5,6 @@ pub mod checker;
 pub mod entry;
 pub mod examples;
 pub mod laws;
-pub mod stand_in;
 pub mod timeline;
 pub mod verdict;
 
