@@ -1,0 +1,240 @@
+//! Calls that are drawn as a busy tree sees them: most of them look, some write, few make or remove.
+
+use anyhow::Result;
+use fs_names::Path;
+use fs_seq::{Bytes, Call, Reply, SeqTree};
+use rand_core::{Rng, SeedableRng};
+use rand_pcg::Pcg32;
+use std::alloc::Global;
+
+/// Drawn calls, with the reply that each had.
+#[derive(Drop)]
+pub struct Drawn {
+    pub calls: Vec<Call>,
+    pub replies: Vec<Reply>,
+    /// How many nodes stand after all calls.
+    pub nodes: usize,
+}
+
+/// The text of a path.
+type Text = Vec<u8>;
+
+/// What a call does to the lists of known paths, where it replies `Done`.
+#[derive(Drop)]
+enum Edit {
+    Nothing,
+    AddDir(Text),
+    AddFile(Text),
+    RemoveDir(usize),
+    RemoveFile(usize),
+    MoveFile(usize, Text),
+}
+
+/// A tree that grows with the calls that are drawn for it.
+#[derive(Drop)]
+struct Workload {
+    alloc: Global,
+    random: Pcg32,
+    tree: SeqTree,
+    dirs: Vec<Text>,
+    files: Vec<Text>,
+    names: u64,
+}
+
+/// How many names deep a drawn path is at the most.
+const DEPTH: usize = 6;
+
+/// How many bytes a drawn write has at the most.
+const MOST_BYTES: u32 = 1024;
+
+impl Workload {
+    fn new(alloc: Global) -> Result<Workload> {
+        let mut dirs = Vec::new(alloc);
+        dirs.push(Vec::new(alloc))?;
+        Ok(Workload {
+            alloc,
+            random: Pcg32::seed_from_u64(1),
+            tree: SeqTree::new(alloc)?,
+            dirs,
+            files: Vec::new(alloc),
+            names: 0,
+        })
+    }
+
+    /// A number below the given one, or 0.
+    fn below(&mut self, limit: usize) -> usize {
+        let word = self.random.next_u32() as usize;
+        word.checked_rem(limit).unwrap_or(0)
+    }
+
+    /// A new path in a directory that is not too deep.
+    fn fresh(&mut self) -> Result<Text> {
+        let count = self.dirs.len();
+        let place = self.below(count);
+        let mut text = shallow(self.alloc, &self.dirs, place)?;
+        self.names = self.names.wrapping_add(1);
+        let name = format!(in self.alloc; "/file-{}.txt", self.names)?;
+        text.extend_from_slice(name.as_bytes())?;
+        Ok(text)
+    }
+
+    /// The path of a known file, or now and then one that nothing stands at.
+    fn file(&mut self) -> Result<(usize, Path)> {
+        let count = self.files.len();
+        let place = self.below(count);
+        if self.random.next_u32() % 100 < 8 {
+            return Ok((place, Path::parse(self.alloc, b"/gone/file.txt")?));
+        }
+        let path = path_at(self.alloc, &self.files, place)?;
+        Ok((place, path))
+    }
+
+    /// The path of a known directory.
+    fn dir(&mut self) -> Result<(usize, Path)> {
+        let count = self.dirs.len();
+        let place = self.below(count);
+        let path = path_at(self.alloc, &self.dirs, place)?;
+        Ok((place, path))
+    }
+
+    fn bytes(&mut self) -> Result<Bytes> {
+        let count = self.random.next_u32() % MOST_BYTES;
+        let mut bytes = Vec::new(self.alloc);
+        for _ in 0..count {
+            bytes.push(b'x')?;
+        }
+        Ok(Bytes::new(bytes))
+    }
+
+    /// Calls that look at a node.
+    fn looking(&mut self, roll: u32) -> Result<(Call, Edit)> {
+        let call = if roll < 22 {
+            Call::Stat(self.file()?.1)
+        } else if roll < 28 {
+            Call::Stat(self.dir()?.1)
+        } else if roll < 50 {
+            Call::Read(self.file()?.1, 0, 4096)
+        } else {
+            Call::Readdir(self.dir()?.1)
+        };
+        Ok((call, Edit::Nothing))
+    }
+
+    /// Calls that change the bytes of a file.
+    fn writing(&mut self, roll: u32) -> Result<(Call, Edit)> {
+        let path = self.file()?.1;
+        let offset = u64::from(self.random.next_u32() % MOST_BYTES);
+        let call = if roll < 73 {
+            Call::Write(path, offset, self.bytes()?)
+        } else {
+            Call::Truncate(path, offset)
+        };
+        Ok((call, Edit::Nothing))
+    }
+
+    /// Calls that make, remove or move a node.
+    fn changing(&mut self, roll: u32) -> Result<(Call, Edit)> {
+        if roll < 84 {
+            let text = self.fresh()?;
+            Ok((
+                Call::Mknod(Path::parse(self.alloc, &text)?),
+                Edit::AddFile(text),
+            ))
+        } else if roll < 90 {
+            let (place, path) = self.file()?;
+            Ok((Call::Unlink(path), Edit::RemoveFile(place)))
+        } else if roll < 94 {
+            let text = self.fresh()?;
+            Ok((
+                Call::Mkdir(Path::parse(self.alloc, &text)?),
+                Edit::AddDir(text),
+            ))
+        } else if roll < 98 {
+            let (place, path) = self.file()?;
+            let text = self.fresh()?;
+            let to = Path::parse(self.alloc, &text)?;
+            Ok((Call::Rename(path, to), Edit::MoveFile(place, text)))
+        } else {
+            let (place, path) = self.dir()?;
+            Ok((Call::Rmdir(path), Edit::RemoveDir(place)))
+        }
+    }
+
+    /// The next call, by shares of a hundred: stat 28, read 22, readdir 7, write 16, truncate 3, mknod 8, unlink 6,
+    /// mkdir 4, rename 4, rmdir 2.
+    fn next(&mut self) -> Result<(Call, Edit)> {
+        let roll = self.random.next_u32() % 100;
+        if roll < 57 {
+            self.looking(roll)
+        } else if roll < 76 {
+            self.writing(roll)
+        } else {
+            self.changing(roll)
+        }
+    }
+
+    /// Keeps the lists of known paths true.
+    fn note(&mut self, edit: Edit) -> Result<()> {
+        match edit {
+            Edit::Nothing => {}
+            Edit::AddDir(text) => self.dirs.push(text)?,
+            Edit::AddFile(text) => self.files.push(text)?,
+            Edit::RemoveDir(place) => forget(&mut self.dirs, place),
+            Edit::RemoveFile(place) => forget(&mut self.files, place),
+            Edit::MoveFile(place, text) => {
+                forget(&mut self.files, place);
+                self.files.push(text)?;
+            }
+        }
+        Ok(())
+    }
+}
+
+/// The path at a place, or the root's.
+fn path_at(alloc: Global, texts: &[Text], place: usize) -> Result<Path> {
+    match texts.get(place) {
+        Some(text) if !text.is_empty() => Ok(Path::parse(alloc, text)?),
+        _ => Ok(Path::parse(alloc, b"/")?),
+    }
+}
+
+/// The text at a place, or the root's where that one is too deep.
+fn shallow(alloc: Global, texts: &[Text], place: usize) -> Result<Text> {
+    match texts.get(place) {
+        Some(text) if depth(text) < DEPTH => Ok(text.clone()?),
+        _ => Ok(Vec::new(alloc)),
+    }
+}
+
+fn forget(texts: &mut Vec<Text>, place: usize) {
+    if place < texts.len() {
+        let _ = texts.swap_remove(place);
+    }
+}
+
+/// How many names a path has.
+fn depth(text: &[u8]) -> usize {
+    text.iter().filter(|b| **b == b'/').count()
+}
+
+/// Draws so many calls for a tree that starts as the root alone.
+pub fn draw(alloc: Global, count: u32) -> Result<Drawn> {
+    let mut workload = Workload::new(alloc)?;
+    let mut calls = Vec::new(alloc);
+    let mut replies = Vec::new(alloc);
+    for _ in 0..count {
+        let (call, edit) = workload.next()?;
+        let reply = workload.tree.apply(alloc, &call)?;
+        if matches!(reply, Reply::Done) {
+            workload.note(edit)?;
+        }
+        calls.push(call)?;
+        replies.push(reply)?;
+    }
+    let nodes = workload.dirs.len().saturating_add(workload.files.len());
+    Ok(Drawn {
+        calls,
+        replies,
+        nodes,
+    })
+}
