@@ -9,7 +9,7 @@ use arrayvec::ArrayVec;
 use std::marker::Model;
 
 /// The name of an entry: 1 to 32 bytes, neither a slash nor zero among them, and not `.` or `..`
-/// (POSIX.1-2017, section 3.170, Filename, with this project's limit).
+/// (POSIX.1-2017, XBD 3, Filename, with this project's limit).
 #[derive(Debug, Drop, PartialEq, Eq, PartialOrd, Ord)]
 pub struct Name {
     bytes: ArrayVec<u8, NAME_LIMIT>,

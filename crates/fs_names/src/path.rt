@@ -14,7 +14,7 @@ use std::alloc::{AllocError, Global};
 use std::marker::Model;
 
 /// The names from the root to a node, at most 64: an absolute pathname without dots, symbolic links
-/// or a trailing slash (POSIX.1-2017, section 4.13, Pathname Resolution).
+/// or a trailing slash (POSIX.1-2017, XBD 4.13, Pathname Resolution).
 #[derive(Drop)]
 pub struct Path {
     names: SmallVec<Name, INLINE_NAMES>,

@@ -9,18 +9,18 @@ use std::alloc::{AllocError, Global};
 /// A call on a tree, by path.
 #[derive(Drop)]
 pub enum Call {
-    /// Makes an empty directory (POSIX.1-2017, mkdir).
+    /// Makes an empty directory (POSIX.1-2017, XSH 3, mkdir()).
     Mkdir(Path),
-    /// Makes an empty regular file (POSIX.1-2017, mknod).
+    /// Makes an empty regular file (POSIX.1-2017, XSH 3, mknod()).
     Mknod(Path),
-    /// Removes the entry of a file (POSIX.1-2017, unlink).
+    /// Removes the entry of a file (POSIX.1-2017, XSH 3, unlink()).
     Unlink(Path),
-    /// Removes the entry of an empty directory (POSIX.1-2017, rmdir).
+    /// Removes the entry of an empty directory (POSIX.1-2017, XSH 3, rmdir()).
     Rmdir(Path),
     /// Moves a node with all below it from the first path to the second, whose old node is removed
-    /// (POSIX.1-2017, rename).
+    /// (POSIX.1-2017, XSH 3, rename()).
     Rename(Path, Path),
-    /// Asks for the kind of a node and its size: bytes of a file, entries of a directory (POSIX.1-2017, stat).
+    /// Asks for the kind of a node and its size: bytes of a file, entries of a directory (POSIX.1-2017, XSH 3, stat()).
     Stat(Path),
     /// Asks for all names of a directory.
     Readdir(Path),
@@ -28,7 +28,7 @@ pub enum Call {
     Read(Path, u64, u64),
     /// Writes bytes into a file at an offset; a gap reads as zeros.
     Write(Path, u64, Bytes),
-    /// Cuts a file to a size, or adds zeros up to it (POSIX.1-2017, truncate).
+    /// Cuts a file to a size, or adds zeros up to it (POSIX.1-2017, XSH 3, truncate()).
     Truncate(Path, u64),
 }
 

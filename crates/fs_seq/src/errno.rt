@@ -3,7 +3,7 @@
 ghost use Rattle.std.specs.Prelude.{◌≡◌};
 ghost use Rattle.fs_seq.specs.Replies.{number_of};
 
-/// The error of a call (POSIX.1-2017, section 2.3, Error Numbers), under this project's own numbers.
+/// The error of a call (POSIX.1-2017, XSH 2.3, Error Numbers), under this project's own numbers.
 #[derive(Clone, Copy, Debug, PartialEq, Eq)]
 pub enum Errno {
     /// A name on the way does not exist.
