@@ -140,7 +140,7 @@ fn compares_names(rt: HostRuntime) -> Result<(), Fail> {
 #[test]
 fn compares_paths(rt: HostRuntime) -> Result<(), Fail> {
     let alloc = rt.alloc();
-    let rows: [(&[u8], &[u8], usize, bool); 7] = [
+    let rows: [(&[u8], &[u8], usize, bool); 8] = [
         (b"/", b"/", 0, true),
         (b"/", b"/a", 0, true),
         (b"/a", b"/", 0, false),
@@ -148,6 +148,7 @@ fn compares_paths(rt: HostRuntime) -> Result<(), Fail> {
         (b"/a", b"/ab", 0, false),
         (b"/a/b", b"/a/b/c", 2, true),
         (b"/a/b/x/d", b"/a/b/c/d", 2, false),
+        (b"/a/b/c/d/e/f", b"/a/b/c/d/e/g", 5, false),
     ];
     for (first, second, common, is_prefix) in rows {
         let first = Path::parse(alloc, first)?;
@@ -155,6 +156,9 @@ fn compares_paths(rt: HostRuntime) -> Result<(), Fail> {
         assert_eq!(rt; first.common(&second), common);
         assert_eq!(rt; first.is_prefix_of(&second), is_prefix);
         assert_eq!(rt; first.is_empty(), first.len() == 0);
+        let copy = first.copy(alloc)?;
+        assert_eq!(rt; copy.len(), first.len());
+        assert_eq!(rt; copy.common(&first), first.len());
     }
     Ok(())
 }
@@ -205,6 +209,11 @@ fn answers_a_refused_growth(rt: HostRuntime) -> Result<(), Fail> {
         }
         Ok(path) => path,
     };
+    let copy = match read.copy(alloc) {
+        Err(AllocError) => read.copy(alloc)?,
+        Ok(copy) => copy,
+    };
+    assert_eq!(rt; copy.common(&read), 5);
     let mut text = Vec::new(alloc);
     if read.write(alloc, &mut text) == Err(AllocError) {
         assert_eq!(rt; text.len(), 0);
