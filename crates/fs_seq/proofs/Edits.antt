@@ -15,22 +15,27 @@ use Rattle.fs_seq.proofs.ListLemmas.{by_last, no_snoc, same_front, same_key-snoc
 pub on_from : Graph → Name → Option ℕ → Option ℕ
 on_from g y o = option_and_then (λ m. child g m y) o
 
+-- a step to a child
 pub on_some : (g : Graph) (y : Name) (n m : ℕ) → child g n y ≡ Some m → on_from g y (Some n) ≡ Some m
 unfolding on_from
 on_some g y n m e = e
 
+-- no step from nowhere
 pub on_none : (g : Graph) (y : Name) → on_from g y None ≡ None
 unfolding on_from
 on_none g y = refl
 
+-- no step by a name that is missing
 pub on_missing : (g : Graph) (y : Name) (n : ℕ) → child g n y ≡ None → on_from g y (Some n) ≡ None
 unfolding on_from
 on_missing g y n e = e
 
+-- a step that keeps what it is given
 and_then_some : (o : Option ℕ) → option_and_then (λ m. Some m) o ≡ o
 and_then_some None = refl
 and_then_some (Some m) = refl
 
+-- a walk with one name more
 pub walk-snoc : (g : Graph) (n : ℕ) (k : Key) (y : Name) → walk_from g n (k ++ y ∷ []) ≡ on_from g y (walk_from g n k)
 unfolding on_from
 walk-snoc g n k y = walk-append g n k (y ∷ []) ∙ ap (λ f. option_and_then f (walk_from g n k)) (λ i m. and_then_some (child g m y) i)
@@ -45,32 +50,40 @@ pub record Unlinks (g g' : Graph) (n : ℕ) (x : Name) : Type 0 where
   pub here : (y : Name) → child g' n y ≡ cond (same_name x y) None (child g n y)
   pub elsewhere : (j : ℕ) (y : Name) → j ≢ n → child g' j y ≡ child g j y
 
+-- where a walk leads that may pass the new name
 abbrev pub within : Graph → ℕ → Option ℕ → Option Key → Option ℕ
 within g s o None = o
 within g s o (Some r) = walk_from g s r
 
+-- where a walk leads that may pass the name that is gone
 abbrev pub outside : Option ℕ → Option Key → Option ℕ
 outside o None = o
 outside o (Some r) = None
 
+-- numbers that test as one are one
 pub nat_same : (a b : ℕ) → nat_eq a b ≡ true → a ≡ b
 nat_same a b h = grind (arith, nat_tests)
 
+-- numbers that test as two are two
 pub nat_differ : (a b : ℕ) → nat_eq a b ≡ false → a ≢ b
 nat_differ a b h = grind (arith, nat_tests)
 
+-- a step by a name that may be gone
 outside_cond : (b : Bool) (o : Option ℕ) → cond {A = Option ℕ} b None o ≡ outside o (cond {A = Option Key} b (Some []) None)
 outside_cond true o = refl
 outside_cond false o = refl
 
+-- no step from nowhere
 outside_none : (b : Bool) → None ≡ outside None (cond {A = Option Key} b (Some []) None)
 outside_none true = refl
 outside_none false = refl
 
+-- a step by a name that may be new
 within_cond : (g : Graph) (s : ℕ) (b : Bool) (o : Option ℕ) → cond {A = Option ℕ} b (Some s) o ≡ within g s o (cond {A = Option Key} b (Some []) None)
 within_cond g s true o = refl
 within_cond g s false o = refl
 
+-- what cannot be true is false
 no_true : (b : Bool) → (b ≡ true → ⊥) → b ≡ false
 no_true true h = absurd (h refl)
 no_true false h = refl
@@ -80,10 +93,12 @@ apart_keys : (g : Graph) (d k : Key) (n : ℕ) (x y : Name) (o : Option ℕ) →
 apart_keys g d k n x y o walked w not_n = no_true _ (λ same.
     let e : d ≡ k = same_front d k x y (same_key_exact _ _ same) in not_n (sym w ∙ ap (walk g) (sym e) ∙ walked))
 
+-- nothing follows a longer key
 pub after_prefix-nothing : (d : Key) (x : Name) → after_prefix (d ++ x ∷ []) [] ≡ None
 after_prefix-nothing [] x = refl
 after_prefix-nothing (y ∷ d) x = refl
 
+-- one name more, after a name was taken out
 unlink_step : (g g' : Graph) (d : Key) (n : ℕ) (x : Name) → Once g 0 → walk g d ≡ Some n → Unlinks g g' n x → (k : Key) (y : Name) (a : Option Key) (o : Option ℕ) → walk g k ≡ o
     → on_from g' y (outside o a) ≡ outside (on_from g y o) (longer a y (same_key (d ++ x ∷ []) (k ++ y ∷ [])))
 unfolding on_from
@@ -113,11 +128,13 @@ walk-unlinked g g' d n x once walked cut = by_last (λ k. walk g' k ≡ outside 
     ∙ ap (λ o. outside o (longer (after_prefix (d ++ x ∷ []) k) y (same_key (d ++ x ∷ []) (k ++ y ∷ [])))) (sym (walk-snoc g 0 k y))
     ∙ ap (outside (walk g (k ++ y ∷ []))) (sym (after_prefix-snoc (d ++ x ∷ []) k y)))
 
+-- steps elsewhere are as before
 same_steps : (g g' : Graph) (n : ℕ) (y : Name) (o : Option ℕ) → ((j : ℕ) → j ≢ n → child g' j y ≡ child g j y) → (o ≡ Some n → ⊥) → on_from g' y o ≡ on_from g y o
 unfolding on_from
 same_steps g g' n y None same not_n = refl
 same_steps g g' n y (Some j) same not_n = same j (λ e. not_n (ap Some e))
 
+-- one name more, after a name was put in
 link_step : (g g' : Graph) (d : Key) (n : ℕ) (x : Name) (s : ℕ) → Once g 0 → walk g d ≡ Some n → ((r : Key) → walk_from g s r ≡ Some n → ⊥) → Links g g' n x s → (k : Key) (y : Name) (a : Option Key) (o : Option ℕ) → walk g k ≡ o
     → on_from g' y (within g s o a) ≡ within g s (on_from g y o) (longer a y (same_key (d ++ x ∷ []) (k ++ y ∷ [])))
 unfolding on_from

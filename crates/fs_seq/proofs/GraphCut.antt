@@ -15,34 +15,43 @@ use Rattle.fs_seq.proofs.Edits.{Unlinks, outside, walk-unlinked, nat_same, nat_d
 use Rattle.fs_seq.proofs.Resolving.{spelled_at, spelled_none, true_T, walk_on, walk_below}
 use Rattle.fs_seq.proofs.NodeLemmas.{child_got}
 
+-- a choice by the opposite
 turned : (b : Bool) (o : Option ℕ) → cond {A = Option ℕ} (not b) o None ≡ cond {A = Option ℕ} b None o
 turned true o = refl
 turned false o = refl
 
+-- what is found among links without a name
 find-without : (x y : Name) (links : List (Name × ℕ)) → find name_cmp y (without x links) ≡ cond {A = Option ℕ} (same_name x y) None (find name_cmp y links)
 find-without x y links = find-where_key name_cmp (λ z. not (same_name x z)) y (λ z e. ap (λ w. not (same_name x w)) (sym (name_exact y z e))) links ∙ turned (same_name x y) (find name_cmp y links)
 
+-- what cannot be true is false
 never : (b : Bool) → (b ≡ true → ⊥) → b ≡ false
 never true h = absurd (h refl)
 never false h = refl
 
+-- what holds is true
 is_true : (b : Bool) → T b → b ≡ true
 is_true true t = refl
 is_true false t = absurd t
 
 module _ (g g1 g' : Graph) (forest : IsForest g) (d : Key) (n : ℕ) (walked : walk g d ≡ Some n) (links : List (Name × ℕ)) (dir : place_at g n ≡ Some (Dir links)) (x : Name) (m : ℕ) (there : find name_cmp x links ≡ Some m) (leaf : (y : Name) → child g m y ≡ None) (unlinking : Sets g g1 n (Some (Dir (without x links)))) (removing : Sets g1 g' m None) where
+  -- the name leads to what is removed
   leads : walk g (d ++ x ∷ []) ≡ Some m
   leads = walk_on g d n x m walked (child_got g n x _ dir ∙ there)
 
+  -- the two numbers differ
   apart : n ≢ m
   apart e = no_longer d x (forest.once d (d ++ x ∷ []) m (walked ∙ ap (λ z. Some z) e) leads)
 
+  -- the directory after the edit
   dir_now : place_at g' n ≡ Some (Dir (without x links))
   dir_now = removing.elsewhere n apart ∙ unlinking.here
 
+  -- all other places stay
   else_now : (j : ℕ) → j ≢ n → j ≢ m → place_at g' j ≡ place_at g j
   else_now j nn nm = removing.elsewhere j nm ∙ unlinking.elsewhere j nn
 
+  -- the edit as one of children
   unlinked : Unlinks g g' n x
   unlinked = record {
     here = λ y. child_got g' n y _ dir_now ∙ find-without x y links ∙ ap (cond {A = Option ℕ} (same_name x y) None) (sym (child_got g n y _ dir));
@@ -53,9 +62,11 @@ module _ (g g1 g' : Graph) (forest : IsForest g) (d : Key) (n : ℕ) (walked : w
         ] refl;
   }
 
+  -- all walks after the edit
   walk-cut : (k : Key) → walk g' k ≡ outside (walk g k) (after_prefix (d ++ x ∷ []) k)
   walk-cut = walk-unlinked g g' d n x forest.once walked unlinked
 
+  -- a walk that is not cut off
   still : (k : Key) (j : ℕ) (a : Option Key) → outside (walk g k) a ≡ Some j → walk g k ≡ Some j
   still k j None w = w
   still k j (Some r) w = absurd (cc)
@@ -64,6 +75,7 @@ module _ (g g1 g' : Graph) (forest : IsForest g) (d : Key) (n : ℕ) (walked : w
   was : (k : Key) (j : ℕ) → walk g' k ≡ Some j → walk g k ≡ Some j
   was k j w = still k j (after_prefix (d ++ x ∷ []) k) (sym (walk-cut k) ∙ w)
 
+  -- the name leads nowhere any more
   cut_off : walk g' (d ++ x ∷ []) ≡ None
   cut_off = walk-cut (d ++ x ∷ []) ∙ ap (outside (walk g (d ++ x ∷ []))) (ap (after_prefix (d ++ x ∷ [])) (sym (append-nil _)) ∙ after_prefix-append (d ++ x ∷ []) [])
 
@@ -73,6 +85,7 @@ module _ (g g1 g' : Graph) (forest : IsForest g) (d : Key) (n : ℕ) (walked : w
       let key : k ≡ d ++ x ∷ [] = forest.once k (d ++ x ∷ []) m (was k j w ∙ ap (λ z. Some z) e) leads in
       let wrong : Some j ≡ None = sym w ∙ ap (walk g') key ∙ cut_off in cc
 
+  -- what stands at all other numbers stays
   node_kept : (j : ℕ) → j ≢ m → node_at g' j ≡ node_at g j
   node_kept j nm =
       elim (nat_eq j n) as (λ b. nat_eq j n ≡ b → node_at g' j ≡ node_at g j) [
@@ -80,6 +93,7 @@ module _ (g g1 g' : Graph) (forest : IsForest g) (d : Key) (n : ℕ) (walked : w
         | false ↦ λ e. ap node_of (else_now j (nat_differ j n e) nm)
       ] refl
 
+  -- a number with a place keeps it
   place_kept : (j : ℕ) → j ≢ m → is_some (place_at g j) ≡ true → is_some (place_at g' j) ≡ true
   place_kept j nm h =
       elim (nat_eq j n) as (λ b. nat_eq j n ≡ b → is_some (place_at g' j) ≡ true) [
@@ -87,6 +101,7 @@ module _ (g g1 g' : Graph) (forest : IsForest g) (d : Key) (n : ℕ) (walked : w
         | false ↦ λ e. ap is_some (else_now j (nat_differ j n e) nm) ∙ h
       ] refl
 
+  -- the names of each directory rise
   rising_cut : (j : ℕ) → IsTrue (is_sorted name_cmp (links_at g' j))
   rising_cut j =
       elim (nat_eq j n) as (λ b. nat_eq j n ≡ b → IsTrue (is_sorted name_cmp (links_at g' j))) [
@@ -114,18 +129,22 @@ module _ (g g1 g' : Graph) (forest : IsForest g) (d : Key) (n : ℕ) (walked : w
           not_nil [] f = cc
           not_nil (y ∷ k) f = cc
 
+  -- a key that leads where it led spells what it spelled
   same_spelled : (k : Key) (o : Option ℕ) → walk g' k ≡ o → walk g' k ≡ walk g k → spelled g k ≡ spelled g' k
   same_spelled k None w same = spelled_none g k (sym same ∙ w) ∙ sym (spelled_none g' k w)
   same_spelled k (Some j) w same = spelled_at g k j (sym same ∙ w) ∙ sym (spelled_at g' k j w ∙ node_kept j (kept k j w))
 
+  -- a key that is not removed
   elsewhere_cut : (k : Key) → (k ≡ d ++ x ∷ [] → ⊥) → spelled g k ≡ spelled g' k → look (removed (tree_of g) (d ++ x ∷ [])) k ≡ spelled g' k
   elsewhere_cut k ne same =
       look-removed (tree_of g) (d ++ x ∷ []) k ∙ ap (λ b. cond {A = Option Node} b None (look (tree_of g) k)) (never (same_key k (d ++ x ∷ [])) (λ h. ne (same_key_exact _ _ h)))
       ∙ look-tree_of g forest k ∙ same
 
+  -- a key beside the one removed
   not_cut : (k : Key) (a : Option Key) → after_prefix (d ++ x ∷ []) k ≡ a → (Some [] ≡ a → ⊥) → k ≡ d ++ x ∷ [] → ⊥
   not_cut k a at other e = other (sym (ap (after_prefix (d ++ x ∷ [])) (e ∙ sym (append-nil _)) ∙ after_prefix-append (d ++ x ∷ []) []) ∙ at)
 
+  -- what the new tree has at each key
   look_cut : (k : Key) (a : Option Key) → after_prefix (d ++ x ∷ []) k ≡ a → look (removed (tree_of g) (d ++ x ∷ [])) k ≡ spelled g' k
   look_cut k None at = elsewhere_cut k (not_cut k None at (λ f. absurd (cc))) (same_spelled k (walk g' k) refl (walk-cut k ∙ ap (outside (walk g k)) at))
   look_cut k (Some []) at =

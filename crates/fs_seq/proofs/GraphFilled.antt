@@ -19,11 +19,13 @@ walk-same g g' same n (x ∷ k) =
     ap (option_and_then (λ m. walk_from g' m k)) (same n x)
     ∙ elim (child g n x) as (λ o. option_and_then (λ m. walk_from g' m k) o ≡ option_and_then (λ m. walk_from g m k) o) [ None ↦ refl | Some m ↦ walk-same g g' same m k ]
 
+-- what cannot be true is false
 never : (b : Bool) → (b ≡ true → ⊥) → b ≡ false
 never true h = absurd (h refl)
 never false h = refl
 
 module _ (g g' : Graph) (forest : IsForest g) (p : Key) (n : ℕ) (walked : walk g p ≡ Some n) (old new : List ℕ) (file : place_at g n ≡ Some (File old)) (filling : Sets g g' n (Some (File new))) where
+  -- all children stay
   same_child : (j : ℕ) (y : Name) → child g' j y ≡ child g j y
   same_child j y =
       elim (nat_eq j n) as (λ b. nat_eq j n ≡ b → child g' j y ≡ child g j y) [
@@ -31,9 +33,11 @@ module _ (g g' : Graph) (forest : IsForest g) (p : Key) (n : ℕ) (walked : walk
         | false ↦ λ e. child_got g' j y _ (filling.elsewhere j (nat_differ j n e)) ∙ sym (child_got g j y _ refl)
       ] refl
 
+  -- all walks stay
   walk-filled : (k : Key) → walk g' k ≡ walk g k
   walk-filled k = walk-same g g' same_child 0 k
 
+  -- a number with a place keeps one
   place_filled : (j : ℕ) → is_some (place_at g j) ≡ true → is_some (place_at g' j) ≡ true
   place_filled j h =
       elim (nat_eq j n) as (λ b. nat_eq j n ≡ b → is_some (place_at g' j) ≡ true) [
@@ -41,6 +45,7 @@ module _ (g g' : Graph) (forest : IsForest g) (p : Key) (n : ℕ) (walked : walk
         | false ↦ λ e. ap is_some (filling.elsewhere j (nat_differ j n e)) ∙ h
       ] refl
 
+  -- the names of each directory rise
   rising_filled : (j : ℕ) → IsTrue (is_sorted name_cmp (links_at g' j))
   rising_filled j =
       elim (nat_eq j n) as (λ b. nat_eq j n ≡ b → IsTrue (is_sorted name_cmp (links_at g' j))) [
@@ -48,6 +53,7 @@ module _ (g g' : Graph) (forest : IsForest g) (p : Key) (n : ℕ) (walked : walk
         | false ↦ λ e. subst (λ o. IsTrue (is_sorted name_cmp (links_of o))) (sym (filling.elsewhere j (nat_differ j n e))) (forest.rising j)
       ] refl
 
+  -- the root is no file
   not_root : 0 ≢ n
   not_root e = let wrong : Some tree.Dir ≡ Some (tree.File old) = sym forest.root ∙ ap (node_at g) e ∙ ap node_of file in cc
 
@@ -60,12 +66,14 @@ module _ (g g' : Graph) (forest : IsForest g) (p : Key) (n : ℕ) (walked : walk
     rising = rising_filled;
   }
 
+  -- a key that leads where it led spells what it spelled
   same_spelled : (k : Key) → (k ≡ p → ⊥) → (o : Option ℕ) → walk g k ≡ o → spelled g k ≡ spelled g' k
   same_spelled k ne None w = spelled_none g k w ∙ sym (spelled_none g' k (walk-filled k ∙ w))
   same_spelled k ne (Some j) w =
       spelled_at g k j w
       ∙ sym (spelled_at g' k j (walk-filled k ∙ w) ∙ ap node_of (filling.elsewhere j (λ e. ne (forest.once k p n (w ∙ ap (λ z. Some z) e) walked))))
 
+  -- what the new tree has at each key
   look_filled : (k : Key) (b : Bool) → same_key k p ≡ b → look (inserted (tree_of g) p (tree.File new)) k ≡ spelled g' k
   look_filled k true same =
       look-inserted (tree_of g) p (tree.File new) k ∙ ap (λ b. cond {A = Option Node} b (Some (tree.File new)) (look (tree_of g) k)) same

@@ -18,6 +18,7 @@ use Rattle.fs_seq.proofs.LookLemmas.{same_key_exact, same_key_refl, same_key_equ
 
 -- ---- walks
 
+-- a walk by two keys is one after the other
 pub walk-append : (g : Graph) (n : ℕ) (a b : Key) → walk_from g n (a ++ b) ≡ option_and_then (λ m. walk_from g m b) (walk_from g n a)
 walk-append g n [] b = refl
 walk-append g n (x ∷ a) b =
@@ -28,18 +29,22 @@ walk-append g n (x ∷ a) b =
 
 -- ---- what the list of entries has at a key
 
+-- a key beside others
 find-with_node : (k q : Key) (o : Option Node) (rest : List (Key × Node)) → same_key q k ≡ false → find key_cmp q (with_node k o rest) ≡ find key_cmp q rest
 find-with_node k q None rest apart = refl
 find-with_node k q (Some e) rest apart = rw apart refl
 
+-- a key that is there
 find-with_node_same : (k q : Key) (o : Option Node) (rest : List (Key × Node)) → same_key q k ≡ true → (o ≡ None → find key_cmp q rest ≡ None) → find key_cmp q (with_node k o rest) ≡ o
 find-with_node_same k q None rest same none = none refl
 find-with_node_same k q (Some e) rest same none = rw same refl
 
+-- a choice between one thing
 either_same : {A : Type 0} (b : Bool) (x : A) → cond b x x ≡ x
 either_same true x = refl
 either_same false x = refl
 
+-- what is found at listed keys
 pub find-nodes_at : (g : Graph) (ks : List Key) (q : Key) → find key_cmp q (nodes_at g ks) ≡ cond (list_any (same_key q) ks) (spelled g q) None
 find-nodes_at g [] q = refl
 find-nodes_at g (k ∷ ks) q =
@@ -54,17 +59,21 @@ find-nodes_at g (k ∷ ks) q =
 
 -- ---- each key that leads somewhere is listed
 
+-- keys under one name
 any_under : (x : Name) (k : Key) (y : Name) (ks : List Key) → name_cmp x y ≡ Equal → list_any (same_key (x ∷ k)) (map (λ r. y ∷ r) ks) ≡ list_any (same_key k) ks
 any_under x k y [] e = refl
 any_under x k y (r ∷ ks) e = rw (e, any_under x k y ks e) refl
 
+-- the first holds
 or_first : (a b : Bool) → a ≡ true → (a || b) ≡ true
 or_first a b e = rw e refl
 
+-- the second holds
 or_second : (a b : Bool) → b ≡ true → (a || b) ≡ true
 or_second true b e = refl
 or_second false b e = e
 
+-- a key under a link is listed
 found_under : (many : ℕ) (g : Graph) (x : Name) (k : Key) (m : ℕ) (links : List (Name × ℕ)) → find name_cmp x links ≡ Some m → list_any (same_key k) (keys_from many g m) ≡ true
     → list_any (same_key (x ∷ k)) (flat_map (λ (l : Name × ℕ). map (λ r. l.0 ∷ r) (keys_from many g l.1)) links) ≡ true
 found_under many g x k m [] e there = absurd (cc)
@@ -78,6 +87,7 @@ found_under many g x k m (l ∷ links) e there =
       | false ↦ λ s f. or_second (list_any (same_key (x ∷ k)) here) _ (found_under many g x k m links f there)
     ] refl e
 
+-- a key of fewer names is listed
 pub listed : (many : ℕ) (g : Graph) (n : ℕ) (k : Key) (m : ℕ) → walk_from g n k ≡ Some m → length k < many → list_any (same_key k) (keys_from many g n) ≡ true
 unfolding child
 listed zero g n k m w h = absurd (omega arith)
@@ -90,12 +100,15 @@ listed (suc many) g n (x ∷ k) m w h =
 
 -- ---- no walk is longer than the graph
 
+-- no number is reached from n in two ways
 abbrev pub Once : Graph → ℕ → Type 0
 Once g n = (a b : Key) (j : ℕ) → walk_from g n a ≡ Some j → walk_from g n b ≡ Some j → a ≡ b
 
+-- each number that is reached from n has a place
 abbrev pub Inside : Graph → ℕ → Type 0
 Inside g n = (k : Key) (j : ℕ) → walk_from g n k ≡ Some j → is_some (place_at g j) ≡ true
 
+-- the numbers, if there are any
 abbrev parts_of : Option (List ℕ) → List ℕ
 parts_of None = []
 parts_of (Some ns) = ns
@@ -105,6 +118,7 @@ abbrev visited : Graph → ℕ → Key → List ℕ
 visited g n [] = n ∷ []
 visited g n (x ∷ k) = n ∷ parts_of (option_and_then (λ m. Some (visited g m k)) (child g n x))
 
+-- a walk visits one number more than it has names
 length-visited : (g : Graph) (n : ℕ) (k : Key) (j : ℕ) → walk_from g n k ≡ Some j → length (visited g n k) ≡ suc (length k)
 length-visited g n [] j w = refl
 length-visited g n (x ∷ k) j w =
@@ -122,13 +136,16 @@ all_visited P g n (x ∷ k) j holds w =
       | Some m ↦ λ e f. (holds [] n refl, all_visited P g m k j (λ front q r. holds (x ∷ front) q (rw e r)) f)
     ] refl w
 
+-- from a child too
 Once-child : (g : Graph) (n : ℕ) (x : Name) (m : ℕ) → child g n x ≡ Some m → Once g n → Once g m
 Once-child g n x m e once a b j u v =
     let both : x ∷ a ≡ x ∷ b = once (x ∷ a) (x ∷ b) j (rw e u) (rw e v) in cc
 
+-- two numbers test as two
 nat_apart : (a b : ℕ) → a ≢ b → nat_eq a b ≡ false
 nat_apart a b h = grind (arith, nat_tests)
 
+-- a walk visits no number twice
 distinct_visited : (g : Graph) (n : ℕ) (k : Key) (j : ℕ) → Once g n → walk_from g n k ≡ Some j → IsDistinct nat_eq (visited g n k)
 unfolding IsDistinct
 distinct_visited g n [] j once w = (tt, tt)
@@ -147,10 +164,12 @@ abbrev below : ℕ → List ℕ
 below zero = []
 below (suc n) = n ∷ below n
 
+-- there are n numbers below n
 length-below : (n : ℕ) → length (below n) ≡ n
 length-below zero = refl
 length-below (suc n) = ap suc (length-below n)
 
+-- each number below n is among them
 is_member-below : (n q : ℕ) → q < n → is_member nat_eq (below n) q ≡ true
 is_member-below zero q h = absurd (omega arith)
 is_member-below (suc n) q h =
@@ -159,6 +178,7 @@ is_member-below (suc n) q h =
       | false ↦ λ e. is_member-below n q (grind (arith, nat_tests))
     ] refl
 
+-- a member of numbers below a bound is below it
 below_member : (bound : ℕ) (xs : List ℕ) (q : ℕ) → AllByRecursion (λ y. y < bound) xs → is_member nat_eq xs q ≡ true → q < bound
 below_member bound [] q all m = absurd (cc)
 below_member bound (x ∷ xs) q all m =
@@ -184,11 +204,13 @@ shorter g n k j once inside w =
 
 -- ---- what the tree has at a key
 
+-- a choice that misses nothing
 cond_none : {A : Type 0} (b : Bool) (o : Option A) → (is_some o ≡ true → b ≡ true) → cond b o None ≡ o
 cond_none true o h = refl
 cond_none false None h = refl
 cond_none false (Some x) h = absurd (let e : false ≡ true = h refl in cc)
 
+-- what is spelled is reached
 walk_of_spelled : (g : Graph) (k : Key) → is_some (spelled g k) ≡ true → (n : ℕ) × (walk g k ≡ Some n)
 unfolding spelled
 walk_of_spelled g k = elim (walk g k) as (λ o. is_some (option_and_then (node_at g) o) ≡ true → (n : ℕ) × (o ≡ Some n)) [ None ↦ λ e. absurd (cc) | Some n ↦ λ e. (n, refl) ]
@@ -200,6 +222,7 @@ look-tree_of g forest k =
     look-from_list (nodes_at g (keys_from (length g) g 0)) k ∙ find-nodes_at g (keys_from (length g) g 0) k
     ∙ cond_none _ _ (λ some. let at = walk_of_spelled g k some in listed (length g) g 0 k at.0 at.1 (shorter g 0 k at.0 forest.once forest.inside at.1))
 
+-- the keys of the tree rise
 pub sorted-tree_of : (g : Graph) → T (is_sorted key_cmp (tree_of g))
 unfolding tree_of
 sorted-tree_of g = sorted-from_list (nodes_at g (keys_from (length g) g 0))

@@ -14,10 +14,12 @@ use Rattle.fs_seq.proofs.Edits.{Links, within, walk-linked, walk-snoc, nat_same,
 use Rattle.fs_seq.proofs.Resolving.{spelled_at, spelled_none, true_T, walk_off, walk_below}
 use Rattle.fs_seq.proofs.NodeLemmas.{child_got}
 
+-- what holds is true
 is_true : (b : Bool) → T b → b ≡ true
 is_true true t = refl
 is_true false t = absurd t
 
+-- what cannot be true is false
 never : (b : Bool) → (b ≡ true → ⊥) → b ≡ false
 never true h = absurd (h refl)
 never false h = refl
@@ -27,12 +29,15 @@ pub other_number : (g : Graph) (s n : ℕ) (P : Place) → place_at g s ≡ None
 other_number g s n P none some e = let both : place_at g n ≡ None = ap (place_at g) (sym e) ∙ none in let wrong : None ≡ Some P = sym both ∙ some in cc
 
 module _ (g g1 g' : Graph) (forest : IsForest g) (new : Place) (bare : links_of (Some new) ≡ []) (d : Key) (n : ℕ) (walked : walk g d ≡ Some n) (links : List (Name × ℕ)) (dir : place_at g n ≡ Some (Dir links)) (x : Name) (absent : find name_cmp x links ≡ None) (s : ℕ) (free : place_at g s ≡ None) (linking : Sets g g1 n (Some (Dir (put name_cmp x s links)))) (adding : Sets g1 g' s (Some new)) where
+  -- the two numbers differ
   apart : s ≢ n
   apart = other_number g s n _ free dir
 
+  -- the directory after the edit
   dir_now : place_at g' n ≡ Some (Dir (put name_cmp x s links))
   dir_now = adding.elsewhere n (λ e. apart (sym e)) ∙ linking.here
 
+  -- all other places stay
   else_now : (j : ℕ) → j ≢ n → j ≢ s → place_at g' j ≡ place_at g j
   else_now j ne ns = adding.elsewhere j ns ∙ linking.elsewhere j ne
 
@@ -40,9 +45,11 @@ module _ (g g1 g' : Graph) (forest : IsForest g) (new : Place) (bare : links_of 
   bare_before : (y : Name) → child g s y ≡ None
   bare_before y = child_got g s y None free
 
+  -- nothing leads on from the number afterwards
   bare_now : (y : Name) → child g' s y ≡ None
   bare_now y = child_got g' s y (Some new) adding.here ∙ ap (find name_cmp y) bare
 
+  -- the edit as one of children
   linked : Links g g' n x s
   linked = record {
     here = λ y.
@@ -56,20 +63,24 @@ module _ (g g1 g' : Graph) (forest : IsForest g) (new : Place) (bare : links_of 
         ] refl;
   }
 
+  -- nothing leads from the number to the directory
   no_way_back : (r : Key) → walk_from g s r ≡ Some n → ⊥
   no_way_back [] e = apart (let same : s ≡ n = cc in same)
   no_way_back (y ∷ r) e = let none : walk_from g s (y ∷ r) ≡ None = ap (option_and_then (λ m. walk_from g m r)) (bare_before y) in cc
 
+  -- where a walk leads that may pass the new name
   abbrev fresh : Option ℕ → Option Key → Option ℕ
   fresh o None = o
   fresh o (Some []) = Some s
   fresh o (Some (y ∷ r)) = None
 
+  -- nothing is below the new name
   within_fresh : (o : Option ℕ) (a : Option Key) → within g s o a ≡ fresh o a
   within_fresh o None = refl
   within_fresh o (Some []) = refl
   within_fresh o (Some (y ∷ r)) = ap (option_and_then (λ m. walk_from g m r)) (bare_before y)
 
+  -- all walks after the edit
   walk-made : (k : Key) → walk g' k ≡ fresh (walk g k) (after_prefix (d ++ x ∷ []) k)
   walk-made k = walk-linked g g' d n x s forest.once walked no_way_back linked k ∙ within_fresh (walk g k) (after_prefix (d ++ x ∷ []) k)
 
@@ -79,6 +90,7 @@ module _ (g g1 g' : Graph) (forest : IsForest g) (new : Place) (bare : links_of 
   which k j (Some []) e w = inl (after_prefix-exact (d ++ x ∷ []) k [] e ∙ append-nil _, let at : s ≡ j = cc in sym at)
   which k j (Some (y ∷ r)) e w = absurd (cc)
 
+  -- the same, of the new graph
   which_made : (k : Key) (j : ℕ) → walk g' k ≡ Some j → ((k ≡ d ++ x ∷ []) × (j ≡ s)) ⊎ (walk g k ≡ Some j)
   which_made k j w = which k j (after_prefix (d ++ x ∷ []) k) refl (sym (walk-made k) ∙ w)
 
@@ -86,6 +98,7 @@ module _ (g g1 g' : Graph) (forest : IsForest g) (new : Place) (bare : links_of 
   not_before : (k : Key) (j : ℕ) → j ≡ s → walk g k ≡ Some j → ⊥
   not_before k j e w = let has : is_some (place_at g j) ≡ true = forest.inside k j w in let none : is_some (place_at g j) ≡ false = ap (λ i. is_some (place_at g i)) e ∙ ap is_some free in let wrong : true ≡ false = sym has ∙ none in cc
 
+  -- no number is reached in two ways
   once_made : Once g' 0
   once_made a b j u v =
       elim (which_made a j u) [
@@ -101,6 +114,7 @@ module _ (g g1 g' : Graph) (forest : IsForest g) (new : Place) (bare : links_of 
         | false ↦ λ e. ap node_of (else_now j (nat_differ j n e) ns)
       ] refl
 
+  -- a number with a place keeps one
   place_before : (j : ℕ) → j ≢ s → is_some (place_at g j) ≡ true → is_some (place_at g' j) ≡ true
   place_before j ns h =
       elim (nat_eq j n) as (λ b. nat_eq j n ≡ b → is_some (place_at g' j) ≡ true) [
@@ -108,6 +122,7 @@ module _ (g g1 g' : Graph) (forest : IsForest g) (new : Place) (bare : links_of 
         | false ↦ λ e. ap is_some (else_now j (nat_differ j n e) ns) ∙ h
       ] refl
 
+  -- each number that is reached has a place
   inside_made : Inside g' 0
   inside_made k j w =
       elim (which_made k j w) [
@@ -115,6 +130,7 @@ module _ (g g1 g' : Graph) (forest : IsForest g) (new : Place) (bare : links_of 
         | inr z ↦ place_before j (λ e. not_before k j e z) (forest.inside k j z)
       ]
 
+  -- the names of each directory rise
   rising_made : (j : ℕ) → IsTrue (is_sorted name_cmp (links_at g' j))
   rising_made j =
       elim (nat_eq j n) as (λ b. nat_eq j n ≡ b → IsTrue (is_sorted name_cmp (links_at g' j))) [
@@ -135,6 +151,7 @@ module _ (g g1 g' : Graph) (forest : IsForest g) (new : Place) (bare : links_of 
     rising = rising_made;
   }
 
+  -- the name led nowhere before
   gone : walk g (d ++ x ∷ []) ≡ None
   gone = walk_off g d n x walked (child_got g n x _ dir ∙ absent)
 
@@ -145,13 +162,16 @@ module _ (g g1 g' : Graph) (forest : IsForest g) (new : Place) (bare : links_of 
       ∙ ap (λ b. cond {A = Option Node} b (Some e) (look (tree_of g) k)) (never (same_key k (d ++ x ∷ [])) (λ h. ne (same_key_exact _ _ h)))
       ∙ look-tree_of g forest k ∙ same
 
+  -- a key beside the new one
   not_new : (k : Key) (a : Option Key) → after_prefix (d ++ x ∷ []) k ≡ a → (Some [] ≡ a → ⊥) → k ≡ d ++ x ∷ [] → ⊥
   not_new k a at other e = other (sym (ap (after_prefix (d ++ x ∷ [])) (e ∙ sym (append-nil _)) ∙ after_prefix-append (d ++ x ∷ []) []) ∙ at)
 
+  -- a key that leads where it led spells what it spelled
   same_walk : (k : Key) (o : Option ℕ) → walk g k ≡ o → walk g' k ≡ walk g k → spelled g k ≡ spelled g' k
   same_walk k None w same = spelled_none g k w ∙ sym (spelled_none g' k (same ∙ w))
   same_walk k (Some j) w same = spelled_at g k j w ∙ sym (spelled_at g' k j (same ∙ w) ∙ node_before j (λ e. not_before k j e w))
 
+  -- what the new tree has at each key
   look_made : (e : Node) → node_of (Some new) ≡ Some e → (k : Key) (a : Option Key) → after_prefix (d ++ x ∷ []) k ≡ a → look (inserted (tree_of g) (d ++ x ∷ []) e) k ≡ spelled g' k
   look_made e is k None at = elsewhere_made e k (not_new k None at (λ f. absurd (cc))) (same_walk k (walk g k) refl (walk-made k ∙ ap (fresh (walk g k)) at))
   look_made e is k (Some []) at =

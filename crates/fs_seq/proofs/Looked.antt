@@ -30,33 +30,41 @@ pub record LooksAt (call : Call) (p : Key) (rest : Option Errno → Option Shape
 abbrev pub stating : Option Errno → Option Shape → Option Errno
 stating found there = found
 
+-- stat
 pub stat_looks : (p : Key) → LooksAt (Stat p) p stating status
 unfolding fault
 stat_looks p = record { errors = λ t. refl; lost = λ e there. refl; well = λ t. refl }
 
+-- readdir
 pub readdir_looks : (p : Key) → LooksAt (Readdir p) p listing (λ there. replies.Names (names_of there))
 unfolding fault
 readdir_looks p = record { errors = λ t. refl; lost = λ e there. refl; well = λ t. refl }
 
+-- read
 pub read_looks : (p : Key) (off count : ℕ) → LooksAt (Read p off count) p reading (λ there. replies.Bytes (take count (drop off (bytes_of there))))
 unfolding fault
 read_looks p off count = record { errors = λ t. refl; lost = λ e there. refl; well = λ t. refl }
 
+-- write
 pub write_looks : (p : Key) (off : ℕ) (bytes : List ℕ) → LooksAt (Write p off bytes) p (λ found there. writing found there off bytes) (λ there. replies.Wrote (length bytes))
 unfolding fault
 write_looks p off bytes = record { errors = λ t. refl; lost = λ e there. refl; well = λ t. refl }
 
+-- truncate
 pub truncate_looks : (p : Key) (size : ℕ) → LooksAt (Truncate p size) p (λ found there. truncating found there size) (λ there. replies.Done)
 unfolding fault
 truncate_looks p size = record { errors = λ t. refl; lost = λ e there. refl; well = λ t. refl }
 
 module _ (call : Call) (p : Key) (rest : Option Errno → Option Shape → Option Errno) (answer : Option Shape → Reply) (by : LooksAt call p rest answer) (t : Tree) where
+  -- the error where the path leads nowhere
   pub lost_fault : (e : Errno) → resolution t p ≡ Some e → fault t call ≡ Some e
   lost_fault e lost = by.errors t ∙ ap (λ f. rest f (seen t p)) lost ∙ by.lost e (seen t p)
 
+  -- the error where the path ends at a place
   pub there_fault : (at : Place) → IsSeen t p at → fault t call ≡ rest None (shape_of (Some at))
   there_fault at is = by.errors t ∙ (λ i. rest (is.resolved i) (is.shape i))
 
+  -- the reply without an error where the path ends at a place
   pub there_well : (at : Place) → IsSeen t p at → success t call ≡ answer (shape_of (Some at))
   there_well at is = by.well t ∙ ap answer is.shape
 
@@ -65,6 +73,7 @@ module _ (call : Call) (p : Key) (rest : Option Errno → Option Shape → Optio
   unfolding reply
   lost_reply e lost = sym (ap (λ f. replied f (success t call)) (lost_fault e lost))
 
+  -- the reply where the path ends at a place
   pub there_reply : (at : Place) → IsSeen t p at → replied (rest None (shape_of (Some at))) (answer (shape_of (Some at))) ≡ reply t call
   unfolding reply
   there_reply at is = sym (λ i. replied (there_fault at is i) (there_well at is i))
@@ -73,11 +82,13 @@ module _ (call : Call) (p : Key) (rest : Option Errno → Option Shape → Optio
 pub names_there : (t : Tree) (p : Key) (at : Place) → IsSeen t p at → names_of (seen t p) ≡ names_of (shape_of (Some at))
 names_there t p at is = ap names_of is.shape
 
+-- the bytes where the path ends at a place
 pub bytes_there : (t : Tree) (p : Key) (at : Place) → IsSeen t p at → bytes_of (seen t p) ≡ bytes_of (shape_of (Some at))
 bytes_there t p at is = ap bytes_of is.shape
 
 -- ---- names of links, one by one
 
+-- one name more
 pub names_next : (links : List Link) (i : ℕ) (l : Link) → i < length links → l ≡ get_or links i l → map (λ k. k.0) (pairs (take (suc i) links)) ≡ map (λ k. k.0) (pairs (take i links)) ++ l.name ∷ []
 names_next [] i l h e = absurd (omega arith)
 names_next (m ∷ links) zero l h e = ap (λ (z : Link). z.name ∷ []) (sym e)

@@ -27,6 +27,7 @@ pub mkdir_fault : (t : Tree) (p : Key) → fault t (Mkdir p) ≡ making_fault t 
 unfolding fault making_fault
 mkdir_fault t p = refl
 
+-- the errors of mknod are those of making a node
 pub mknod_fault : (t : Tree) (p : Key) → fault t (Mknod p) ≡ making_fault t p
 unfolding fault making_fault
 mknod_fault t p = refl

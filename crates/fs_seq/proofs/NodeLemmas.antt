@@ -20,12 +20,15 @@ place_of_slot [] (suc n) = refl
 place_of_slot (s ∷ slots) zero = refl
 place_of_slot (s ∷ slots) (suc n) = place_of_slot slots n
 
+-- the place of a node that was read
 pub place_got : (s : Slab Node) (n : ℕ) (node : Node) → get s n ≡ Some node → place_at (graph s) n ≡ Some (place node)
 place_got s n node e = place_of_slot s.slots n ∙ ap slot_place e
 
+-- the place of a free slot
 pub place_missing : (s : Slab Node) (n : ℕ) → get s n ≡ None → place_at (graph s) n ≡ None
 place_missing s n e = place_of_slot s.slots n ∙ ap slot_place e
 
+-- a slot with a place has a node
 some_slot : (o : Option Node) → is_some (slot_place o) ≡ true → IsSome o
 some_slot None e = absurd (cc)
 some_slot (Some node) e = refl
@@ -38,6 +41,7 @@ has_key s n e = some_slot (get s n) (ap is_some (sym (place_of_slot s.slots n)) 
 pub links_got : (g : Graph) (n : ℕ) (o : Option Place) → place_at g n ≡ o → links_at g n ≡ links_of o
 links_got g n o e = ap links_of e
 
+-- a child of a place that was read
 pub child_got : (g : Graph) (n : ℕ) (x : Name) (o : Option Place) → place_at g n ≡ o → child g n x ≡ find name_cmp x (links_of o)
 unfolding child
 child_got g n x o e = ap (λ z. find name_cmp x (links_of z)) e
@@ -52,6 +56,7 @@ number_read [] i l h e = absurd (omega arith)
 number_read (m ∷ links) zero l h e = ap (λ (z : Link). Some z.node) (sym e)
 number_read (m ∷ links) (suc i) l h e = number_read links i l (omega arith) e
 
+-- there are as many pairs as links
 pub length-pairs : (links : List Link) → length (pairs links) ≡ length links
 length-pairs [] = refl
 length-pairs (l ∷ links) = ap suc (length-pairs links)
@@ -64,11 +69,13 @@ step_found g n x links i l at stands e = child_got g n x _ at ∙ stands.found �
 pub step_missing : (g : Graph) (n : ℕ) (x : Name) (links : List (Name × ℕ)) (i : ℕ) → place_at g n ≡ Some (Dir links) → BelongsAt links x i → (child g n x ≡ None) × (verdict (node_at g n) ≡ Some Enoent)
 step_missing g n x links i at belongs = (child_got g n x _ at ∙ belongs.absent, ap (λ o. verdict (node_of o)) at)
 
+-- a step from a file
 pub step_file : (g : Graph) (n : ℕ) (x : Name) (bytes : List ℕ) → place_at g n ≡ Some (File bytes) → (child g n x ≡ None) × (verdict (node_at g n) ≡ Some Enotdir)
 step_file g n x bytes at = (child_got g n x _ at, ap (λ o. verdict (node_of o)) at)
 
 -- ---- paths by their parent and their last name
 
+-- a front with one name more
 pub take_snoc : (p : Key) (i : ℕ) (x : Name) → slice_get p i ≡ Some x → take (suc i) p ≡ take i p ++ x ∷ []
 take_snoc [] i x e = absurd (cc)
 take_snoc (y ∷ p) zero x e = let s : y ≡ x = cc in ap (λ z. z ∷ []) s
@@ -81,6 +88,7 @@ take_around (y ∷ p) zero i x h e = absurd (omega arith)
 take_around (y ∷ p) (suc count) zero x h e = let s : y ≡ x = cc in ap (λ z. z ∷ take count p) s
 take_around (y ∷ p) (suc count) (suc i) x h e = ap (λ z. y ∷ z) (take_around p count i x (omega arith) e)
 
+-- all names but the last are the parent
 pub take_parent : (p : Key) (n : ℕ) → n + 1 ≡ length p → take n p ≡ parent_of p
 take_parent [] n e = absurd (omega arith)
 take_parent (x ∷ []) zero e = refl
@@ -88,6 +96,7 @@ take_parent (x ∷ []) (suc n) e = absurd (omega arith)
 take_parent (x ∷ y ∷ p) zero e = absurd (omega arith)
 take_parent (x ∷ y ∷ p) (suc n) e = ap (λ z. x ∷ z) (take_parent (y ∷ p) n (omega arith))
 
+-- the name behind the parent is the last
 pub last_got : (p : Key) (n : ℕ) (x : Name) → n + 1 ≡ length p → slice_get p n ≡ Some x → last_of p ≡ x
 last_got [] n x e at = absurd (omega arith)
 last_got (y ∷ []) zero x e at = cc

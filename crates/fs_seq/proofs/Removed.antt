@@ -13,7 +13,7 @@ use Rattle.fs_seq.specs.declared.errno.Errno.{Errno}
 use Rattle.fs_seq.specs.declared.errno.Errno.TheVariants.{Eperm, Ebusy, Enoent}
 use Rattle.fs_seq.specs.declared.reply.Reply.TheVariants.{Done, Failed}
 use Rattle.fs_seq.specs.Tree.{Tree, removed}
-use Rattle.fs_seq.specs.Shapes.{Shape, seen, has_any}
+use Rattle.fs_seq.specs.Shapes.{Shape, seen, is_missing, has_any}
 use Rattle.fs_seq.specs.Errors.{unlinking, removing}
 use Rattle.fs_seq.specs.Outcomes.{fault, success, change, parents_resolution}
 use Rattle.fs_seq.specs.Graph.{Place, Dir, Graph, place_at, links_at, shape_of, child, walk, tree_of, IsForest, Sets}
@@ -27,18 +27,31 @@ use Rattle.fs_seq.proofs.Replies.{works, fails, answers}
 -- a call on a path that is not the root, by its parent's error and what is there
 pub record GoesBy (call : Call) (p : Key) (at_root : Errno) (rest : Option Errno → Option Shape → Option Errno) : Type 0 where
   pub errors : (t : Tree) → fault t call ≡ or_else (on (is_root p) at_root) (rest (parents_resolution t p) (seen t p))
-  pub lost : (e : Errno) (there : Option Shape) → rest (Some e) there ≡ Some e
-  pub gone : rest None None ≡ Some Enoent
+  pub missing : (parent : Option Errno) (there : Option Shape) (e : Errno) → or_else parent (on (is_missing there) Enoent) ≡ Some e → rest parent there ≡ Some e
   pub well : (t : Tree) → success t call ≡ Done
   pub makes : (t : Tree) → change t call ≡ removed t p
 
+-- unlink answers what is missing
+unlinking_missing : (parent : Option Errno) (there : Option Shape) (e : Errno) → or_else parent (on (is_missing there) Enoent) ≡ Some e → unlinking parent there ≡ Some e
+unlinking_missing None None e h = h
+unlinking_missing None (Some s) e h = absurd (cc)
+unlinking_missing (Some f) there e h = h
+
+-- rmdir answers what is missing
+removing_missing : (parent : Option Errno) (there : Option Shape) (e : Errno) → or_else parent (on (is_missing there) Enoent) ≡ Some e → removing parent there ≡ Some e
+removing_missing None None e h = h
+removing_missing None (Some s) e h = absurd (cc)
+removing_missing (Some f) there e h = h
+
+-- unlink and rmdir are such calls
 pub unlink_goes : (p : Key) → GoesBy (Unlink p) p Eperm unlinking
 unfolding fault
-unlink_goes p = record { errors = λ t. refl; lost = λ e there. refl; gone = refl; well = λ t. refl; makes = λ t. refl }
+unlink_goes p = record { errors = λ t. refl; missing = unlinking_missing; well = λ t. refl; makes = λ t. refl }
 
+-- rmdir goes by its parent's error and what is there
 pub rmdir_goes : (p : Key) → GoesBy (Rmdir p) p Ebusy removing
 unfolding fault
-rmdir_goes p = record { errors = λ t. refl; lost = λ e there. refl; gone = refl; well = λ t. refl; makes = λ t. refl }
+rmdir_goes p = record { errors = λ t. refl; missing = removing_missing; well = λ t. refl; makes = λ t. refl }
 
 -- links of which there are none
 pub no_links : (links : List Link) (n : ℕ) → n ≡ length links → nat_eq n 0 ≡ true → links ≡ []
@@ -50,18 +63,26 @@ pub some_links : (links : List Link) (n : ℕ) → n ≡ length links → nat_eq
 some_links [] n e h = absurd (let some : n ≢ 0 = grind (arith, nat_tests) in some e)
 some_links (l ∷ links) n e h = refl
 
+-- a name that is missing, or whose parent is
+pub entry_lost : (t : Tree) (p : Key) (e : Errno) → parents_resolution t p ≡ Some e → or_else (parents_resolution t p) (on (is_missing (seen t p)) Enoent) ≡ Some e
+entry_lost t p e lost = ap (λ f. or_else f (on (is_missing (seen t p)) Enoent)) lost
+
+-- a name that is missing
+pub entry_gone : (g : Graph) (p : Key) (dir i entries : ℕ) → IsForest g → 0 < length p → IsFree g p dir i entries → or_else (parents_resolution (tree_of g) p) (on (is_missing (seen (tree_of g) p)) Enoent) ≡ Some Enoent
+entry_gone g p dir i entries forest named spot =
+    (λ j. or_else (free_parents g forest p named dir i entries spot j) (on (is_missing (free_seen g forest p named dir i entries spot j)) Enoent))
+
 module _ (call : Call) (p : Key) (at_root : Errno) (rest : Option Errno → Option Shape → Option Errno) (by : GoesBy call p at_root rest) where
+  -- the error at the root
   pub root_fault : (t : Tree) → length p ≡ 0 → fault t call ≡ Some at_root
   root_fault t e = by.errors t ∙ ap (λ b. or_else (on b at_root) (rest (parents_resolution t p) (seen t p))) (root p e)
 
-  pub lost_fault : (t : Tree) (e : Errno) → 0 < length p → parents_resolution t p ≡ Some e → fault t call ≡ Some e
-  lost_fault t e named lost = by.errors t ∙ (λ i. or_else (on (not_root p named i) at_root) (rest (lost i) (seen t p))) ∙ by.lost e (seen t p)
+  -- the error where the name or its parent is missing
+  pub missing_fault : (t : Tree) (e : Errno) → 0 < length p → or_else (parents_resolution t p) (on (is_missing (seen t p)) Enoent) ≡ Some e → fault t call ≡ Some e
+  missing_fault t e named gone =
+      by.errors t ∙ ap (λ b. or_else (on b at_root) (rest (parents_resolution t p) (seen t p))) (not_root p named) ∙ by.missing (parents_resolution t p) (seen t p) e gone
 
-  pub free_fault : (g : Graph) (dir i entries : ℕ) → IsForest g → 0 < length p → IsFree g p dir i entries → fault (tree_of g) call ≡ Some Enoent
-  free_fault g dir i entries forest named spot =
-      by.errors (tree_of g)
-      ∙ (λ j. or_else (on (not_root p named j) at_root) (rest (free_parents g forest p named dir i entries spot j) (free_seen g forest p named dir i entries spot j))) ∙ by.gone
-
+  -- the error where something is there
   pub taken_fault : (g : Graph) (dir i n : ℕ) (o : Option Place) → IsForest g → 0 < length p → IsTaken g p dir i n → place_at g n ≡ o → fault (tree_of g) call ≡ rest None (shape_of o)
   taken_fault g dir i n o forest named spot at =
       by.errors (tree_of g)

@@ -27,10 +27,12 @@ answers g g' call found well new r e f h given = record {
   forest = given.forest;
 }
 
+-- what follows of a value
 pub IfOk-map : {A E : Type 0} {P Q : A → Type 0} (r : Result A E) → ((a : A) → P a → Q a) → IfOk r P → IfOk r Q
 IfOk-map (Ok a) f h = f a h
 IfOk-map (Err e) f h = h
 
+-- what follows of an error
 pub OnErr-map : {A E P Q : Type 0} (r : Result A E) → (P → Q) → OnErr r P → OnErr r Q
 OnErr-map (Ok a) f h = h
 OnErr-map (Err e) f h = f h
@@ -50,6 +52,7 @@ pub refused : (g g' : Graph) (call : Call) (e : Errno) → g' ≡ g → IsForest
 refused g g' call e same forest found =
     subst (λ h. Answers g h call (Failed e)) (sym same) (answers g g call (Some e) (success (tree_of g) call) (change (tree_of g) call) (Failed e) found refl refl (fails g (Some e) (success (tree_of g) call) (change (tree_of g) call) e refl forest))
 
+-- a fact is one of a success
 pub on_ok : {A E P : Type 0} (r : Result A E) → P → OnOk r P
 on_ok (Ok a) h = h
 on_ok (Err e) h = tt

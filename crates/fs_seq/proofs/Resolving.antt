@@ -23,6 +23,7 @@ pub spelled_at : (g : Graph) (k : Key) (n : ℕ) → walk g k ≡ Some n → spe
 unfolding spelled
 spelled_at g k n w = ap (option_and_then (node_at g)) w
 
+-- nothing is spelled at a key that leads nowhere
 pub spelled_none : (g : Graph) (k : Key) → walk g k ≡ None → spelled g k ≡ None
 unfolding spelled
 spelled_none g k w = ap (option_and_then (node_at g)) w
@@ -31,9 +32,11 @@ spelled_none g k w = ap (option_and_then (node_at g)) w
 pub walk_on : (g : Graph) (d : Key) (n : ℕ) (x : Name) (m : ℕ) → walk g d ≡ Some n → child g n x ≡ Some m → walk g (d ++ x ∷ []) ≡ Some m
 walk_on g d n x m w e = walk-snoc g 0 d x ∙ ap (on_from g x) w ∙ on_some g x n m e
 
+-- a key with one name more that is missing leads nowhere
 pub walk_off : (g : Graph) (d : Key) (n : ℕ) (x : Name) → walk g d ≡ Some n → child g n x ≡ None → walk g (d ++ x ∷ []) ≡ None
 walk_off g d n x w e = walk-snoc g 0 d x ∙ ap (on_from g x) w ∙ on_missing g x n e
 
+-- nothing stands below a key that leads nowhere
 nothing_below : (t : Tree) (g : Graph) → ((k : Key) → look t k ≡ spelled g k) → (front k : Key) → walk g front ≡ None → verdict_along t front k ≡ None
 nothing_below t g spells front [] w = ap verdict (spells front ∙ spelled_none g front w)
 nothing_below t g spells front (x ∷ k) w =
@@ -54,6 +57,7 @@ verdict_at_end t g spells front [] n x rest e w gone said =
 verdict_at_end t g spells front (y ∷ way) n x rest e w gone said =
     ap (λ z. or_else z (verdict (look t front))) (verdict_at_end t g spells (front ++ y ∷ []) way n x rest e (ap (walk g) (append_assoc front (y ∷ []) way) ∙ w) gone said)
 
+-- a walk past a name that is missing leads nowhere
 walk_past : (g : Graph) (n : ℕ) (way : Key) (m : ℕ) (x : Name) (rest : Key) → walk_from g n way ≡ Some m → child g m x ≡ None → walk_from g n (way ++ x ∷ rest) ≡ None
 walk_past g n [] m x rest w gone = ap (λ j. option_and_then (λ i. walk_from g i rest) (child g j x)) (let e : n ≡ m = cc in e) ∙ ap (option_and_then (λ i. walk_from g i rest)) gone
 walk_past g n (y ∷ way) m x rest w gone =
@@ -69,10 +73,12 @@ resolution_stuck g way n x rest e forest w gone said =
     ap (λ o. cond {A = Option Errno} (is_some o) None (verdict_along (tree_of g) [] (way ++ x ∷ rest))) (look-tree_of g forest (way ++ x ∷ rest) ∙ spelled_none g (way ++ x ∷ rest) (walk_past g 0 way n x rest w gone))
     ∙ verdict_at_end (tree_of g) g (look-tree_of g forest) [] way n x rest e w gone said
 
+-- a key of the tree is resolved
 pub resolution_found : (t : Tree) (p : Key) → is_some (look t p) ≡ true → resolution t p ≡ None
 unfolding resolution
 resolution_found t p h = ap (λ b. cond {A = Option Errno} b None (verdict_along t [] p)) h
 
+-- a place is a node
 some_node : (o : Option Place) → is_some o ≡ true → is_some (node_of o) ≡ true
 some_node None e = e
 some_node (Some (Dir links)) e = refl
@@ -82,9 +88,11 @@ some_node (Some (File bytes)) e = refl
 pub look_at : (g : Graph) (p : Key) (n : ℕ) → IsForest g → walk g p ≡ Some n → look (tree_of g) p ≡ node_at g n
 look_at g p n forest w = look-tree_of g forest p ∙ spelled_at g p n w
 
+-- nothing stands at a key that leads nowhere
 pub look_none : (g : Graph) (p : Key) → IsForest g → walk g p ≡ None → look (tree_of g) p ≡ None
 look_none g p forest w = look-tree_of g forest p ∙ spelled_none g p w
 
+-- something stands at a key that leads to a number
 pub look_some : (g : Graph) (p : Key) (n : ℕ) → IsForest g → walk g p ≡ Some n → is_some (look (tree_of g) p) ≡ true
 look_some g p n forest w = ap is_some (look_at g p n forest w) ∙ some_node _ (forest.inside p n w)
 
@@ -105,6 +113,7 @@ names_at g p n forest w = names_in-links (tree_of g) p (links_at g n) (sorted-tr
     there x None e = ap is_some (look_none g (p ++ x ∷ []) forest (walk_off g p n x w e)) ∙ ap is_some (sym e)
     there x (Some m) e = look_some g (p ++ x ∷ []) m forest (walk_on g p n x m w e) ∙ ap is_some (sym e)
 
+-- the shape of a place by its names
 shape_by : (t : Tree) (p : Key) (o : Option Place) → names_in t p ≡ map (λ l. l.0) (links_of o) → shapes.shape_of t p (node_of o) ≡ shape_of o
 shape_by t p None names = refl
 shape_by t p (Some (Dir links)) names = ap (λ ns. Some (shapes.Dir ns)) names
@@ -114,6 +123,7 @@ shape_by t p (Some (File bytes)) names = refl
 pub seen_at : (g : Graph) (p : Key) (n : ℕ) → IsForest g → walk g p ≡ Some n → seen (tree_of g) p ≡ shape_at g n
 seen_at g p n forest w = ap (shapes.shape_of (tree_of g) p) (look_at g p n forest w) ∙ shape_by (tree_of g) p (place_at g n) (names_at g p n forest w)
 
+-- nothing is seen at a key that leads nowhere
 pub seen_none : (g : Graph) (p : Key) → IsForest g → walk g p ≡ None → seen (tree_of g) p ≡ None
 seen_none g p forest w = ap (shapes.shape_of (tree_of g) p) (look_none g p forest w)
 

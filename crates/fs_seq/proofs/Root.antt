@@ -17,6 +17,7 @@ use Rattle.fs_seq.proofs.SlabLemmas.{sets_slot}
 use Rattle.fs_seq.proofs.NodeLemmas.{child_got, links_got}
 
 module _ (g : Graph) (root : place_at g 0 ≡ Some (Dir [])) (others : (j : ℕ) → j ≢ 0 → place_at g j ≡ None) where
+  -- there are no links
   no_links : (j : ℕ) → links_at g j ≡ []
   no_links j =
       elim (nat_eq j 0) as (λ b. nat_eq j 0 ≡ b → links_at g j ≡ []) [
@@ -24,13 +25,16 @@ module _ (g : Graph) (root : place_at g 0 ≡ Some (Dir [])) (others : (j : ℕ)
         | false ↦ λ e. links_got g j _ (others j (nat_differ j 0 e))
       ] refl
 
+  -- there are no children
   no_child : (j : ℕ) (y : Name) → child g j y ≡ None
   no_child j y = child_got g j y _ refl ∙ ap (find name_cmp y) (no_links j)
 
+  -- only the root is reached
   only_root : (k : Key) (n : ℕ) → walk g k ≡ Some n → (k ≡ []) × (n ≡ 0)
   only_root [] n w = (refl, let e : 0 ≡ n = cc in sym e)
   only_root (x ∷ k) n w = absurd (let none : walk g (x ∷ k) ≡ None = ap (option_and_then (λ m. walk_from g m k)) (no_child 0 x) in cc)
 
+  -- the graph is a forest
   pub forest_root : IsForest g
   forest_root = record {
     once = λ a b n u v. (only_root a n u).0 ∙ sym (only_root b n v).0;
@@ -39,14 +43,17 @@ module _ (g : Graph) (root : place_at g 0 ≡ Some (Dir [])) (others : (j : ℕ)
     rising = λ j. ap (is_sorted name_cmp) (no_links j);
   }
 
+  -- it spells the root alone
   look_root : (k : Key) → look root_tree k ≡ spelled g k
   unfolding look
   look_root [] = sym (spelled_at g [] 0 refl ∙ ap node_of root)
   look_root (x ∷ k) = sym (spelled_none g (x ∷ k) (ap (option_and_then (λ m. walk_from g m k)) (no_child 0 x)))
 
+  -- its tree is that of the root alone
   pub tree_root : tree_of g ≡ root_tree
   tree_root = is_tree_of g root_tree forest_root tt look_root
 
+-- an empty graph has no place
 nothing_at : (n : ℕ) → place_at [] n ≡ None
 unfolding place_at
 nothing_at zero = refl

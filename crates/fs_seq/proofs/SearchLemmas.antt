@@ -11,14 +11,17 @@ use Rattle.fs_names.proofs.Lemmas.{name_total, name_exact, same_name_refl}
 use Rattle.fs_seq.specs.declared.nodes.Link.{Link}
 use Rattle.fs_seq.specs.Nodes.{pair, pairs, number_of, without, StandsAt, BelongsAt, Searches}
 
+-- the first of two
 both_first : (a b : Bool) → T (a && b) → T a
 both_first true b p = tt
 both_first false b p = p
 
+-- the second of two
 both_second : (a b : Bool) → T (a && b) → T b
 both_second true b p = p
 both_second false b p = absurd p
 
+-- what is below is less
 is_less : (o : Ordering) → T (is_lt o) → o ≡ Less
 is_less Less h = refl
 is_less Equal h = absurd h
@@ -30,6 +33,7 @@ below_each x [] i d below h = absurd (omega arith)
 below_each x (l ∷ links) zero d below h = is_less _ (both_first _ _ below)
 below_each x (l ∷ links) (suc i) d below h = below_each x links i d (both_second _ _ below) (omega arith)
 
+-- an order's number is at most two
 up_to_two : (o : Ordering) → ordering_index o ≤ 2
 up_to_two Less = omega arith
 up_to_two Equal = omega arith
@@ -59,15 +63,19 @@ pub record Parts (x : Name) (links : List Link) (i : ℕ) : Type 0 where
   pub higher : (k : ℕ) (d : Link) → i ≤ k → k < length links → name_cmp (get_or links k d).name x ≡ Greater
   pub within : i ≤ length links
 
+-- an order the other way round
 turned : (x y : Name) (o : Ordering) → name_cmp y x ≡ o → name_cmp x y ≡ ordering_reverse o
 turned x y o e = name_total.antisymm x y ∙ ap ordering_reverse e
 
+-- what is below all is put first
 put_first : (x : Name) (n : ℕ) (e : Name × ℕ) (es : List (Name × ℕ)) → name_cmp x e.0 ≡ Less → put name_cmp x n (e ∷ es) ≡ (x, n) ∷ e ∷ es
 put_first x n e es h = ap (λ o. by_order o ((x, n) ∷ e ∷ es) ((e.0, n) ∷ es) (e ∷ put name_cmp x n es)) h
 
+-- what is above the first is put behind it
 put_later : (x : Name) (n : ℕ) (e : Name × ℕ) (es : List (Name × ℕ)) → name_cmp x e.0 ≡ Greater → put name_cmp x n (e ∷ es) ≡ e ∷ put name_cmp x n es
 put_later x n e es h = ap (λ o. by_order o ((x, n) ∷ e ∷ es) ((e.0, n) ∷ es) (e ∷ put name_cmp x n es)) h
 
+-- what is not the first is found behind it
 find_later : (x : Name) (e : Name × ℕ) (es : List (Name × ℕ)) → same_name x e.0 ≡ false → find name_cmp x (e ∷ es) ≡ find name_cmp x es
 find_later x e es h = ap (λ b. cond {A = Option ℕ} b (Some e.1) (find name_cmp x es)) h
 
@@ -108,6 +116,7 @@ kept_all x [] below = refl
 kept_all x (e ∷ es) below =
     ap (λ b. cond {A = List (Name × ℕ)} (not b) (e ∷ without x es) (without x es)) (ap is_eq (is_less _ (both_first _ _ below))) ∙ ap (λ z. e ∷ z) (kept_all x es (both_second _ _ below))
 
+-- one more on both sides
 one_more : (i n : ℕ) → i < n → suc i < suc n
 one_more i n h = omega arith
 
@@ -136,6 +145,7 @@ standing x (l ∷ links) (suc i) sorted h at =
       others = ap (λ z. pair l ∷ z) rest.others ∙ sym (ap (λ b. cond {A = List (Name × ℕ)} (not b) (pair l ∷ without x (pairs links)) (without x (pairs links))) apart);
     }
 
+-- what is true holds
 true_T : (b : Bool) → b ≡ true → T b
 true_T b e = subst T (sym e) tt
 

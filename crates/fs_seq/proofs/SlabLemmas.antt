@@ -11,12 +11,14 @@ use Rattle.fs_seq.specs.Nodes.{pair, pairs, place, slot_place, graph}
 use Rattle.fs_seq.proofs.NodeLemmas.{place_of_slot, place_got, place_missing, links_got, length-pairs}
 use Rattle.fs_seq.specs.Effects.{Attaches, Detaches}
 
+-- a slot that was written
 slot_here : (slots : List (Option Node)) (n : ℕ) (old node : Node) → get_or slots n None ≡ Some old → get_or (slice_set slots n (Some node)) n None ≡ Some node
 slot_here [] zero old node e = absurd (cc)
 slot_here [] (suc n) old node e = absurd (cc)
 slot_here (s ∷ slots) zero old node e = refl
 slot_here (s ∷ slots) (suc n) old node e = slot_here slots n old node e
 
+-- all other slots
 slot_elsewhere : (slots : List (Option Node)) (n j : ℕ) (o : Option Node) → j ≢ n → get_or (slice_set slots n o) j None ≡ get_or slots j None
 slot_elsewhere [] n j o ne = refl
 slot_elsewhere (s ∷ slots) zero zero o ne = absurd (ne refl)
@@ -31,6 +33,7 @@ sets_value s n old node new e f = record {
   elsewhere = λ j ne. place_of_slot (slice_set s.slots n (Some node)) j ∙ ap slot_place (slot_elsewhere s.slots n j (Some node) ne) ∙ sym (place_of_slot s.slots j);
 }
 
+-- slots written as they were
 same_slots : (slots : List (Option Node)) (n : ℕ) (old node : Node) → get_or slots n None ≡ Some old → place node ≡ place old → map slot_place (slice_set slots n (Some node)) ≡ map slot_place slots
 same_slots [] zero old node e f = refl
 same_slots [] (suc n) old node e f = refl
@@ -48,18 +51,21 @@ sets_slot s t n o updates = record {
   elsewhere = λ j ne. place_of_slot t.slots j ∙ ap slot_place (updates.others j ne) ∙ sym (place_of_slot s.slots j);
 }
 
+-- the pairs after an insertion
 pub pairs-insert : (links : List Link) (i : ℕ) (l : Link) → pairs (insert links i l) ≡ insert (pairs links) i (pair l)
 pairs-insert [] zero l = refl
 pairs-insert [] (suc i) l = refl
 pairs-insert (m ∷ links) zero l = refl
 pairs-insert (m ∷ links) (suc i) l = ap (λ z. pair m ∷ z) (pairs-insert links i l)
 
+-- the pairs after a removal
 pub pairs-remove : (links : List Link) (i : ℕ) → pairs (remove links i) ≡ remove (pairs links) i
 pairs-remove [] zero = refl
 pairs-remove [] (suc i) = refl
 pairs-remove (m ∷ links) zero = refl
 pairs-remove (m ∷ links) (suc i) = ap (λ z. pair m ∷ z) (pairs-remove links i)
 
+-- a place that is one is one
 some_place : (P Q : Place) → Some P ≡ Some Q → P ≡ Q
 some_place P Q e = cc
 

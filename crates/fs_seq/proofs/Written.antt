@@ -34,10 +34,12 @@ use Rattle.fs_seq.proofs.Replies.{answers, needs}
 pub written_whole : {A : Type 0} (n : ℕ) (xs ys : List A) → n ≡ length xs → take n (xs ++ drop (length xs) ys) ≡ xs
 written_whole n xs ys e = ap (λ m. take m (xs ++ drop (length xs) ys)) e ∙ take-append_seam xs (drop (length xs) ys)
 
+-- a front of nothing
 take-nil : {A : Type 0} (n : ℕ) → take {A = A} n [] ≡ []
 take-nil zero = refl
 take-nil (suc n) = refl
 
+-- the rest of nothing
 drop-nil : {A : Type 0} (n : ℕ) → drop {A = A} n [] ≡ []
 drop-nil zero = refl
 drop-nil (suc n) = refl
@@ -69,9 +71,11 @@ overwritten old grown off bytes e =
 -- ---- a file among the nodes
 
 module _ (s : Slab Node) (p : Key) (n : ℕ) (node node' : Node) (old new : List ℕ) (forest : IsForest (graph s)) (walked : walk (graph s) p ≡ Some n) (got : get s n ≡ Some node) (was : place node ≡ File old) (is : place node' ≡ File new) where
+  -- the place of the file
   file : place_at (graph s) n ≡ Some (File old)
   file = place_got s n node got ∙ ap (λ z. Some z) was
 
+  -- what is seen at the path
   pub file_seen : IsSeen (tree_of (graph s)) p (File old)
   file_seen = is_seen (graph s) p n (File old) forest walked file
 
@@ -79,6 +83,7 @@ module _ (s : Slab Node) (p : Key) (n : ℕ) (node node' : Node) (old new : List
   pub stays : new ≡ old → graph (with_value s n node') ≡ graph s
   stays e = same_graph s n node node' got (is ∙ ap File e ∙ sym was)
 
+  -- a call that leaves the bytes
   gives_same : (well : Reply) → new ≡ old → Gives (graph s) (graph (with_value s n node')) None well (tree_of (graph s)) well
   gives_same well e = record { reply = refl; tree = ap tree_of (stays e); forest = subst IsForest (sym (stays e)) forest }
 
@@ -95,21 +100,26 @@ module _ (s : Slab Node) (p : Key) (n : ℕ) (node node' : Node) (old new : List
     forest = subst IsForest (sym (stays fills.bytes)) forest;
   }
 
+  -- a check alone
   alone : (z : Option Errno) → or_else z None ≡ z
   alone None = refl
   alone (Some e) = refl
 
+  -- the errors of a truncate of a file
   pub truncate_fault : (size : ℕ) → fault (tree_of (graph s)) (Truncate p size) ≡ too_long size
   truncate_fault size = there_fault (Truncate p size) p (λ found there. truncating found there size) (λ there. replies.Done) (truncate_looks p size) (tree_of (graph s)) (File old) file_seen ∙ alone (too_long size)
 
+  -- what a truncate answers and leaves
   pub is_truncated : (size : ℕ) (r : Reply) → Fills old new (too_long size) replies.Done (resized old size) r → Answers (graph s) (graph (with_value s n node')) (Truncate p size) r
   is_truncated size r fills = answers (graph s) (graph (with_value s n node')) (Truncate p size) (too_long size) replies.Done (inserted (tree_of (graph s)) p (tree.File (resized old size))) r
       (truncate_fault size) refl (ap (λ b. inserted (tree_of (graph s)) p (tree.File (resized b size))) (bytes_there (tree_of (graph s)) p (File old) file_seen))
       (gives_filled (too_long size) replies.Done (resized old size) r fills)
 
+  -- a truncate that needs memory
   pub truncate_needs : (size : ℕ) → (too_long size ≡ None) × IsTrue (nat_lt (length old) size) → IsTrue (needs_memory (tree_of (graph s)) (Truncate p size))
   truncate_needs size h = needs (tree_of (graph s)) (Truncate p size) (truncate_fault size ∙ h.0) (ap (λ b. nat_lt (length b) size) (bytes_there (tree_of (graph s)) p (File old) file_seen) ∙ h.1)
 
+  -- the errors of a write to a file
   pub write_fault : (off : ℕ) (bytes : List ℕ) → fault (tree_of (graph s)) (Write p off bytes) ≡ overflow off bytes
   write_fault off bytes = there_fault (Write p off bytes) p (λ found there. writing found there off bytes) (λ there. replies.Wrote (length bytes)) (write_looks p off bytes) (tree_of (graph s)) (File old) file_seen ∙ alone (overflow off bytes)
 
@@ -119,11 +129,13 @@ module _ (s : Slab Node) (p : Key) (n : ℕ) (node node' : Node) (old new : List
   gives_written off bytes well true r big fills = gives_filled (on big Efbig) well (written old off bytes) r fills
   gives_written off bytes well false r big fills = record { reply = fills.reply; tree = ap tree_of (stays fills.bytes); forest = subst IsForest (sym (stays fills.bytes)) forest }
 
+  -- what a write answers and leaves
   pub is_written : (off : ℕ) (bytes : List ℕ) (r : Reply) → Fills old new (overflow off bytes) (replies.Wrote (length bytes)) (written_if_any old off bytes) r → Answers (graph s) (graph (with_value s n node')) (Write p off bytes) r
   is_written off bytes r fills = answers (graph s) (graph (with_value s n node')) (Write p off bytes) (overflow off bytes) (replies.Wrote (length bytes))
       (cond (has_any bytes) (inserted (tree_of (graph s)) p (tree.File (written old off bytes))) (tree_of (graph s))) r
       (write_fault off bytes) refl (ap (λ b. cond (has_any bytes) (inserted (tree_of (graph s)) p (tree.File (written b off bytes))) (tree_of (graph s))) (bytes_there (tree_of (graph s)) p (File old) file_seen))
       (gives_written off bytes (replies.Wrote (length bytes)) (has_any bytes) r (nat_lt 65536 (off + length bytes)) fills)
 
+  -- a write that needs memory
   pub write_needs : (off : ℕ) (bytes : List ℕ) → (overflow off bytes ≡ None) × IsTrue (has_any bytes && nat_lt (length old) (off + length bytes)) → IsTrue (needs_memory (tree_of (graph s)) (Write p off bytes))
   write_needs off bytes h = needs (tree_of (graph s)) (Write p off bytes) (write_fault off bytes ∙ h.0) (ap (λ b. has_any bytes && nat_lt (length b) (off + length bytes)) (bytes_there (tree_of (graph s)) p (File old) file_seen) ∙ h.1)

@@ -6,7 +6,7 @@ use Rattle.fs_names.specs.First.{on, or_else}
 use Rattle.fs_names.specs.declared.limits.TheConstants.{FILE_LIMIT}
 use Rattle.fs_seq.specs.Tree as tree
 use Rattle.fs_seq.specs.Tree.{Tree}
-use Rattle.fs_seq.specs.Shapes.{seen, has_any}
+use Rattle.fs_seq.specs.Shapes.{seen, is_missing, has_any}
 use Rattle.fs_seq.specs.Errors.{making}
 use Rattle.fs_seq.specs.Outcomes.{fault, resolution, parents_resolution, reply, after, replied, unless, written}
 use Rattle.fs_seq.specs.Graph.{Place, Dir, Graph, place_at, links_at, shape_of, walk, tree_of, IsForest, Sets}
@@ -16,7 +16,7 @@ use Rattle.fs_seq.specs.declared.nodes.Node.TheVariants as nodes
 use Rattle.fs_seq.specs.declared.call.Call.{Call}
 use Rattle.fs_seq.specs.declared.reply.Reply.{Reply}
 use Rattle.fs_seq.specs.declared.errno.Errno.{Errno}
-use Rattle.fs_seq.specs.declared.errno.Errno.TheVariants.{Eexist, Efbig}
+use Rattle.fs_seq.specs.declared.errno.Errno.TheVariants.{Eexist, Enoent, Efbig}
 
 -- a call's reply, and the graph that it leaves, by its errors, its reply without one and the tree that it then makes
 pub record Gives (g g' : Graph) (found : Option Errno) (well : Reply) (new : Tree) (r : Reply) : Type 0 where
@@ -47,6 +47,7 @@ pub record IsGap (g : Graph) (p : Key) (dir i : ℕ) : Type 0 where
   pub directory : place_at g dir ≡ Some (Dir (links_at g dir))
   pub belongs : BelongsAt (links_at g dir) (last_of p) i
 
+-- a gap that was found, or why there is none
 abbrev pub FindsGap : Graph → Key → Result (ℕ × ℕ) Errno → Type 0
 FindsGap g p (Ok at) = IsGap g p at.0 at.1
 FindsGap g p (Err e) = making_fault (tree_of g) p ≡ Some e
@@ -59,6 +60,11 @@ pub record Attaches (g g' : Graph) (dir i : ℕ) (x : Name) (new : Place) : Type
   pub linking : Sets g between dir (Some (Dir (insert (links_at g dir) i (x, number))))
   pub adding : Sets between g' number (Some new)
 
+-- an entry that was found, or why there is none
+abbrev pub FindsEntry : Graph → Key → Result (ℕ × ℕ × ℕ) Errno → Type 0
+FindsEntry g p (Ok at) = IsTaken g p at.0 at.1 at.2
+FindsEntry g p (Err e) = or_else (parents_resolution (tree_of g) p) (on (is_missing (seen (tree_of g) p)) Enoent) ≡ Some e
+
 -- an entry without entries of its own, which a call removes
 pub record IsVictim (g : Graph) (call : Call) (p : Key) (dir i n : ℕ) : Type 0 where
   pub sound : fault (tree_of g) call ≡ None
@@ -66,6 +72,7 @@ pub record IsVictim (g : Graph) (call : Call) (p : Key) (dir i n : ℕ) : Type 0
   pub spot : IsTaken g p dir i n
   pub leaf : links_at g n ≡ []
 
+-- a victim that was found, or why there is none
 abbrev pub FindsVictim : Graph → Call → Key → Result (ℕ × ℕ × ℕ) Errno → Type 0
 FindsVictim g call p (Ok at) = IsVictim g call p at.0 at.1 at.2
 FindsVictim g call p (Err e) = fault (tree_of g) call ≡ Some e

@@ -21,6 +21,7 @@ Graph = List (Option Place)
 unfoldable pub place_at : Graph → ℕ → Option Place
 place_at g n = slice_index_or g n None
 
+-- the links of a directory
 abbrev pub links_of : Option Place → List (Name × ℕ)
 links_of None = []
 links_of (Some (Dir links)) = links
@@ -38,6 +39,7 @@ shape_of None = None
 shape_of (Some (Dir links)) = Some (shapes.Dir (map (λ l. l.0) links))
 shape_of (Some (File bytes)) = Some (shapes.File bytes)
 
+-- the links under a number
 abbrev pub links_at : Graph → ℕ → List (Name × ℕ)
 links_at g n = links_of (place_at g n)
 
@@ -50,9 +52,11 @@ abbrev pub walk_from : Graph → ℕ → Key → Option ℕ
 walk_from g n [] = Some n
 walk_from g n (x ∷ k) = option_and_then (λ m. walk_from g m k) (child g n x)
 
+-- the number to which a key leads
 abbrev pub walk : Graph → Key → Option ℕ
 walk g k = walk_from g 0 k
 
+-- what the place of a number is in a tree
 abbrev pub node_at : Graph → ℕ → Option Node
 node_at g n = node_of (place_at g n)
 
@@ -69,10 +73,12 @@ abbrev pub keys_from : ℕ → Graph → ℕ → List Key
 keys_from zero g n = []
 keys_from (suc many) g n = [] ∷ flat_map (λ (l : Name × ℕ). map (λ k. l.0 ∷ k) (keys_from many g l.1)) (links_at g n)
 
+-- an entry where there is one
 abbrev pub with_node : Key → Option Node → List (Key × Node) → List (Key × Node)
 with_node k None rest = rest
 with_node k (Some e) rest = (k, e) ∷ rest
 
+-- the entries at these keys
 abbrev pub nodes_at : Graph → List Key → List (Key × Node)
 nodes_at g [] = []
 nodes_at g (k ∷ ks) = with_node k (spelled g k) (nodes_at g ks)

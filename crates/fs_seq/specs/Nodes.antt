@@ -15,6 +15,7 @@ use Rattle.fs_seq.specs.Outcomes.{verdict, resolution, parents_resolution}
 use Rattle.fs_seq.specs.Graph.{Place, Graph, place_at, links_at, node_at, child, walk, tree_of}
 use Rattle.fs_seq.specs.Graph as places
 
+-- the name of a link, with its number
 abbrev pub pair : Link → Name × ℕ
 pair l = (l.name, l.node)
 
@@ -22,10 +23,12 @@ pair l = (l.name, l.node)
 abbrev pub pairs : List Link → List (Name × ℕ)
 pairs links = map pair links
 
+-- the place that a node is
 abbrev pub place : Node → Place
 place (Dir links) = places.Dir (pairs links.items)
 place (File bytes) = places.File bytes.items
 
+-- the place of a slot
 abbrev pub slot_place : Option Node → Option Place
 slot_place None = None
 slot_place (Some node) = Some (place node)
@@ -39,6 +42,7 @@ abbrev pub number_of : Option (Name × ℕ) → Option ℕ
 number_of None = None
 number_of (Some link) = Some link.1
 
+-- the name of the link at a place
 abbrev pub name_of : Option (Name × ℕ) → Option Name
 name_of None = None
 name_of (Some link) = Some link.0

@@ -96,7 +96,13 @@ fn copied(alloc: Global, bytes: &[u8]) -> Result<Bytes, AllocError>
 }
 
 /// The bytes of a file from an offset on, and no more than a count.
-pub fn read(alloc: Global, nodes: &Slab<Node>, path: &Path, off: u64, count: u64) -> Result<Reply, AllocError>
+pub fn read(
+    alloc: Global,
+    nodes: &Slab<Node>,
+    path: &Path,
+    off: u64,
+    count: u64,
+) -> Result<Reply, AllocError>
     requires { IsForest (graph nodes.now) }
     ensures reply { IfOk result (λ r. r ≡ reply (tree_of (graph nodes.now)) (Call.Read path.now off count)) }
     ensures memory { OnErr result (IsTrue (needs_memory (tree_of (graph nodes.now)) (Call.Read path.now off count))) }

@@ -3,7 +3,7 @@
 ghost use Rattle.std.specs.Prelude.{◌≡◌, ◌<◌, Some, length};
 ghost use Rattle.fs_seq.specs.Nodes.{graph};
 ghost use Rattle.fs_seq.specs.Graph.{IsForest, place_at, links_at, Dir as IsDir};
-ghost use Rattle.fs_seq.specs.Effects.{Answers, Detaches, FindsVictim};
+ghost use Rattle.fs_seq.specs.Effects.{Answers, Detaches, FindsEntry, FindsVictim};
 
 use crate::call::Call;
 use crate::errno::Errno;
@@ -22,8 +22,21 @@ fn detach(nodes: &mut Slab<Node>, dir: usize, i: usize, node: usize)
     nodes.try_remove(node);
 }
 
-/// The file at the path, or why it cannot be unlinked: the number of its directory, the place among the entries,
-/// and the number of the node.
+/// The entry at a path that is not the root, or why there is none: the number of its directory, the place among the
+/// entries, and the number of the node.
+fn find_entry(nodes: &Slab<Node>, path: &Path) -> Result<(usize, usize, usize), Errno>
+    requires forest { IsForest (graph nodes.now) }
+    requires named { 0 < length path.now }
+    ensures { FindsEntry (graph nodes.now) path.now result }
+{
+    match look_up(nodes, path) {
+        Err(errno) => Err(errno),
+        Ok(Spot::Free(..)) => Err(Errno::Enoent),
+        Ok(Spot::Taken(dir, i, node)) => Ok((dir, i, node)),
+    }
+}
+
+/// The file at the path, or why it cannot be unlinked, in the same form.
 fn find_file(nodes: &Slab<Node>, path: &Path) -> Result<(usize, usize, usize), Errno>
     requires { IsForest (graph nodes.now) }
     ensures { FindsVictim (graph nodes.now) (Call.Unlink path.now) path.now result }
@@ -31,10 +44,9 @@ fn find_file(nodes: &Slab<Node>, path: &Path) -> Result<(usize, usize, usize), E
     if path.len() == 0 {
         return Err(Errno::Eperm);
     }
-    match look_up(nodes, path) {
+    match find_entry(nodes, path) {
         Err(errno) => Err(errno),
-        Ok(Spot::Free(..)) => Err(Errno::Enoent),
-        Ok(Spot::Taken(dir, i, node)) => match &nodes[node] {
+        Ok((dir, i, node)) => match &nodes[node] {
             Node::Dir(_) => Err(Errno::Eperm),
             Node::File(_) => Ok((dir, i, node)),
         },
@@ -49,10 +61,9 @@ fn find_empty(nodes: &Slab<Node>, path: &Path) -> Result<(usize, usize, usize), 
     if path.len() == 0 {
         return Err(Errno::Ebusy);
     }
-    match look_up(nodes, path) {
+    match find_entry(nodes, path) {
         Err(errno) => Err(errno),
-        Ok(Spot::Free(..)) => Err(Errno::Enoent),
-        Ok(Spot::Taken(dir, i, node)) => match &nodes[node] {
+        Ok((dir, i, node)) => match &nodes[node] {
             Node::File(_) => Err(Errno::Enotdir),
             Node::Dir(links) => {
                 if links.is_empty() {

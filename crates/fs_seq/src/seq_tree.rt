@@ -6,13 +6,9 @@ ghost use Rattle.fs_seq.specs.Outcomes.{reply, after};
 ghost use Rattle.fs_seq.specs.Memory.{needs_memory};
 
 use crate::call::Call;
-use crate::looking;
-use crate::making;
 use crate::nodes::Node;
-use crate::removing;
-use crate::renaming;
 use crate::reply::Reply;
-use crate::writing;
+use crate::{looking, making, removing, renaming, writing};
 use fs_names::Path;
 use slab::Slab;
 use std::alloc::{AllocError, Global};

@@ -84,7 +84,12 @@ fn resize(bytes: &mut Vec<u8>, size: u64) -> Result<Reply, AllocError>
 }
 
 /// Writes bytes into the file at the path.
-pub fn write(nodes: &mut Slab<Node>, path: &Path, off: u64, bytes: &[u8]) -> Result<Reply, AllocError>
+pub fn write(
+    nodes: &mut Slab<Node>,
+    path: &Path,
+    off: u64,
+    bytes: &[u8],
+) -> Result<Reply, AllocError>
     requires { IsForest (graph nodes.old) }
     ensures given { IfOk result (Answers (graph nodes.old) (graph nodes.new) (Call.Write path.now off bytes.now)) }
     ensures err { OnErr result (graph nodes.new ≡ graph nodes.old) }

@@ -133,11 +133,19 @@ const BYTES_OF_FILES: [(Do, &str, Want); 19] = [
     (Do::Truncate(6), "/g", Want::Done),
     (Do::Read(2, 99), "/g", Want::Bytes(b"\x00\xff\x00\x00")),
     (Do::Truncate(65_537), "/g", Want::Fails(Errno::Efbig)),
-    (Do::Write(u64::MAX, b"\xff"), "/g", Want::Fails(Errno::Efbig)),
+    (
+        Do::Write(u64::MAX, b"\xff"),
+        "/g",
+        Want::Fails(Errno::Efbig),
+    ),
     (Do::Write(u64::MAX, b""), "/g", Want::Wrote(0)),
     (Do::Read(u64::MAX, u64::MAX), "/g", Want::Bytes(b"")),
     (Do::Truncate(4), "/g", Want::Done),
-    (Do::Read(0, u64::MAX), "/g", Want::Bytes(b"\x00\x00\x00\xff")),
+    (
+        Do::Read(0, u64::MAX),
+        "/g",
+        Want::Bytes(b"\x00\x00\x00\xff"),
+    ),
 ];
 
 #[test]
@@ -171,7 +179,10 @@ const ERRORS_OF_MAKING_AND_REMOVING: [(Do, &str, Want); 20] = [
 
 #[test]
 fn errors_of_making_and_removing(rt: HostRuntime) -> Result<(), Fail> {
-    assert_eq!(rt; first_difference(rt.alloc(), &ERRORS_OF_MAKING_AND_REMOVING)?, None);
+    assert_eq!(rt;
+        first_difference(rt.alloc(), &ERRORS_OF_MAKING_AND_REMOVING)?,
+        None
+    );
     Ok(())
 }
 
@@ -195,7 +206,10 @@ const ERRORS_OF_LOOKING_AND_WRITING: [(Do, &str, Want); 15] = [
 
 #[test]
 fn errors_of_looking_and_writing(rt: HostRuntime) -> Result<(), Fail> {
-    assert_eq!(rt; first_difference(rt.alloc(), &ERRORS_OF_LOOKING_AND_WRITING)?, None);
+    assert_eq!(rt;
+        first_difference(rt.alloc(), &ERRORS_OF_LOOKING_AND_WRITING)?,
+        None
+    );
     Ok(())
 }
 
@@ -217,7 +231,10 @@ fn full_directory(rt: HostRuntime) -> Result<(), Fail> {
     let alloc = rt.alloc();
     let mut tree = SeqTree::new(alloc)?;
     tree.mkdir(alloc, &at(alloc, "/d")?)?;
-    assert_eq!(rt; fill_directory(alloc, &mut tree, ENTRY_LIMIT + 2)?, ENTRY_LIMIT);
+    assert_eq!(rt;
+        fill_directory(alloc, &mut tree, ENTRY_LIMIT + 2)?,
+        ENTRY_LIMIT
+    );
     let full = tree.mknod(alloc, &at(alloc, "/d/x")?)?;
     assert!(rt; is_wanted(&full, &Want::Fails(Errno::Enospc)));
     let taken = tree.mkdir(alloc, &at(alloc, "/d/000")?)?;
