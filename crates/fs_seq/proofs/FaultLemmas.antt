@@ -25,42 +25,51 @@ abbrev pub AllNone : {F : Type 0} → List (Option F) → Type 0
 AllNone [] = Unit {0}
 AllNone (check ∷ checks) = (check ≡ None) × AllNone checks
 
+-- where the first of several checks finds nothing, none does
 pub all_none : {F : Type 0} (checks : List (Option F)) → first checks ≡ None → AllNone checks
 all_none [] e = tt
 all_none (check ∷ checks) e = let both = or_else-none check (first checks) e in (both.0, all_none checks both.1)
 
+-- of two tests of which neither is true, the first is false
 pub or_first : (a b : Bool) → (a || b) ≡ false → a ≡ false
 or_first true b e = absurd (cc)
 or_first false b e = refl
 
+-- and so is the second
 pub or_second : (a b : Bool) → (a || b) ≡ false → b ≡ false
 or_second true b e = absurd (cc)
 or_second false b e = e
 
+-- a call without an error has none by its paths alone
 pub by_text_none : (t : Tree) (call : Call) → fault t call ≡ None → by_text call ≡ None
 unfolding fault
 by_text_none t call h = (or_else-none (by_text call) (row t call) h).0
 
+-- and none by what is read
 row_none : (t : Tree) (call : Call) → fault t call ≡ None → row t call ≡ None
 unfolding fault
 row_none t call h = (or_else-none (by_text call) (row t call) h).1
 
 -- ---- shapes
 
+-- where nothing is seen, nothing stands
 absent : (t : Tree) (k : Key) (o : Option Node) → is_there (shape_of t k o) ≡ false → o ≡ None
 absent t k None e = refl
 absent t k (Some tree.Dir) e = absurd (cc)
 absent t k (Some (tree.File bytes)) e = absurd (cc)
 
+-- what is seen and is no directory is none in the tree
 no_directory : (t : Tree) (k : Key) (o : Option Node) → is_missing (shape_of t k o) ≡ false → is_dir (shape_of t k o) ≡ false → o ≢ Some tree.Dir
 no_directory t k None e f = absurd (cc)
 no_directory t k (Some tree.Dir) e f = absurd (cc)
 no_directory t k (Some (tree.File bytes)) e f = λ same. absurd (cc)
 
+-- where something is seen, something stands
 some_there : (t : Tree) (k : Key) (o : Option Node) → is_missing (shape_of t k o) ≡ false → is_some o ≡ true
 some_there t k None e = absurd (cc)
 some_there t k (Some n) e = refl
 
+-- where something stands, something is seen
 resolved_missing : (t : Tree) (k : Key) (o : Option Node) → is_some o ≡ true → is_missing (shape_of t k o) ≡ false
 resolved_missing t k None e = absurd (cc)
 resolved_missing t k (Some tree.Dir) e = refl
@@ -80,6 +89,7 @@ pub record Makes (t : Tree) (p : Key) : Type 0 where
   pub parent : look t (parent_of p) ≡ Some tree.Dir
   pub absent : look t p ≡ None
 
+-- what both find, by their errors
 makes : (t : Tree) (p : Key) → IsTree t → on (is_root p) Eexist ≡ None → making (parents_resolution t p) (seen t (parent_of p)) (seen t p) ≡ None → Makes t p
 makes t p is text h =
     let none = all_none (parents_resolution t p ∷ on (is_there (seen t p)) Eexist ∷ on (is_full (seen t (parent_of p))) Enospc ∷ []) h in
@@ -89,9 +99,11 @@ makes t p is text h =
       absent = absent t p (look t p) (on-none (is_there (seen t p)) Eexist none.1.0);
     }
 
+-- what mkdir finds
 pub mkdir_makes : (t : Tree) (p : Key) → IsTree t → fault t (Mkdir p) ≡ None → Makes t p
 mkdir_makes t p is h = makes t p is (by_text_none t (Mkdir p) h) (row_none t (Mkdir p) h)
 
+-- what mknod finds
 pub mknod_makes : (t : Tree) (p : Key) → IsTree t → fault t (Mknod p) ≡ None → Makes t p
 mknod_makes t p is h = makes t p is (by_text_none t (Mknod p) h) (row_none t (Mknod p) h)
 
@@ -101,6 +113,7 @@ pub record Removes (t : Tree) (p : Key) : Type 0 where
   pub there : is_some (look t p) ≡ true
   pub bare : (x : Name) (rest : Key) → look t (p ++ x ∷ rest) ≡ None
 
+-- what unlink finds
 pub unlink_removes : (t : Tree) (p : Key) → IsTree t → fault t (Unlink p) ≡ None → Removes t p
 unlink_removes t p is h =
     let none = all_none (parents_resolution t p ∷ on (is_missing (seen t p)) Enoent ∷ on (is_dir (seen t p)) Eperm ∷ []) (row_none t (Unlink p) h) in
@@ -112,6 +125,7 @@ unlink_removes t p is h =
       bare = nothing_below t p is (no_directory t p (look t p) missing dir);
     }
 
+-- what rmdir finds
 pub rmdir_removes : (t : Tree) (p : Key) → IsTree t → fault t (Rmdir p) ≡ None → Removes t p
 rmdir_removes t p is h =
     let none = all_none (parents_resolution t p ∷ on (is_missing (seen t p)) Enoent ∷ on (is_file (seen t p)) Enotdir ∷ on (has_entries (seen t p)) Enotempty ∷ []) (row_none t (Rmdir p) h) in
@@ -126,6 +140,7 @@ pub record Writes (t : Tree) (p : Key) : Type 0 where
   pub there : is_some (look t p) ≡ true
   pub no_dir : look t p ≢ Some tree.Dir
 
+-- what both find, by their errors
 writes : (t : Tree) (p : Key) (checks : List (Option Errno)) → IsTree t → first (resolution t p ∷ on (is_dir (seen t p)) Eisdir ∷ checks) ≡ None → Writes t p
 writes t p checks is h =
     let none = all_none (resolution t p ∷ on (is_dir (seen t p)) Eisdir ∷ checks) h in
@@ -135,9 +150,11 @@ writes t p checks is h =
       no_dir = no_directory t p (look t p) (resolved_missing t p (look t p) some) (on-none (is_dir (seen t p)) Eisdir none.1.0);
     }
 
+-- what write finds
 pub write_writes : (t : Tree) (p : Key) (off : ℕ) (bytes : List ℕ) → IsTree t → fault t (Write p off bytes) ≡ None → Writes t p
 write_writes t p off bytes is h = writes t p (on (has_any bytes && nat_lt FILE_LIMIT (off + length bytes)) Efbig ∷ []) is (row_none t (Write p off bytes) h)
 
+-- what truncate finds
 pub truncate_writes : (t : Tree) (p : Key) (size : ℕ) → IsTree t → fault t (Truncate p size) ≡ None → Writes t p
 truncate_writes t p size is h = writes t p (on (nat_lt FILE_LIMIT size) Efbig ∷ []) is (row_none t (Truncate p size) h)
 
@@ -151,6 +168,7 @@ pub record Renames (t : Tree) (p q : Key) : Type 0 where
   pub there : is_some (look t p) ≡ true
   pub bare : (x : Name) (rest : Key) → look t (q ++ x ∷ rest) ≡ None
 
+-- what a rename finds
 pub rename_renames : (t : Tree) (p q : Key) → IsTree t → fault t (Rename p q) ≡ None → p ≢ q → Renames t p q
 rename_renames t p q is h other =
     let text = all_none (on (is_root p || is_root q) Ebusy ∷ on (is_proper_prefix p q) Einval ∷ []) (by_text_none t (Rename p q) h) in

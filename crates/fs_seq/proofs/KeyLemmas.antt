@@ -7,6 +7,7 @@ use Rattle.fs_names.specs.Keys.{Key, same_key, after_prefix, is_root, is_proper_
 use Rattle.fs_names.proofs.Lemmas.{name_total, same_name_refl, after_prefix-exact, after_prefix-append}
 use Rattle.fs_seq.proofs.LookLemmas.{same_key_exact, same_key_refl}
 
+-- a test that cannot be true is false
 pub no_true : (b : Bool) → (b ≡ true → ⊥) → b ≡ false
 no_true true h = absurd (h refl)
 no_true false h = refl
@@ -15,6 +16,7 @@ no_true false h = refl
 pub differ : (a b : Key) → a ≢ b → same_key a b ≡ false
 differ a b h = no_true (same_key a b) (λ same. h (same_key_exact a b same))
 
+-- keys that are not the same differ
 pub differ_not : (a b : Key) → same_key a b ≡ false → a ≢ b
 differ_not a b h same = let e : same_key a b ≡ true = ap (same_key a) (sym same) ∙ same_key_refl a in absurd (cc)
 
@@ -23,6 +25,7 @@ pub same_key-prefix : (p r s : Key) → same_key (p ++ r) (p ++ s) ≡ same_key 
 same_key-prefix [] r s = refl
 same_key-prefix (x ∷ p) r s = rw (tied_itself name_total x) (same_key-prefix p r s)
 
+-- the parent of a key with a last name is what stands before the name
 pub parent_of-snoc : (d : Key) (x : Name) → parent_of (d ++ x ∷ []) ≡ d
 parent_of-snoc [] x = refl
 parent_of-snoc (y ∷ []) x = refl
@@ -34,9 +37,11 @@ parent_and_last [] h = absurd (cc)
 parent_and_last (x ∷ []) h = refl
 parent_and_last (x ∷ y ∷ p) h = ap (λ k. x ∷ k) (parent_and_last (y ∷ p) refl)
 
+-- the same, of a key that is equal to such a one
 pub parent_of_child : (p d : Key) (x : Name) → p ≡ d ++ x ∷ [] → parent_of p ≡ d
 parent_of_child p d x e = ap parent_of e ∙ parent_of-snoc d x
 
+-- a key that is not the root has a name
 pub not_root : (p : Key) → is_root p ≡ false → p ≢ []
 not_root p h e = let r : is_root p ≡ true = ap is_root e in absurd (cc)
 

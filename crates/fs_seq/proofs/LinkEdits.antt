@@ -13,6 +13,7 @@ use Rattle.fs_seq.specs.Nodes.{pair, pairs, number_of, name_of, without, StandsA
 use Rattle.fs_seq.proofs.Rewiring.{without-put}
 use Rattle.fs_seq.proofs.SlabLemmas.{pairs-insert, pairs-remove}
 
+-- a link with a name has a number
 nowhere : (o : Option (Name × ℕ)) (x : Name) → name_of o ≡ Some x → number_of o ≡ None → ⊥
 nowhere None x e f = cc
 nowhere (Some l) x e f = cc
@@ -27,19 +28,23 @@ replaced old left new i at l went came belongs =
     ap pairs came ∙ pairs-insert left at l ∙ sym (belongs.placed l.node)
     ∙ ap (put name_cmp l.name l.node) (ap pairs went ∙ pairs-remove old i)
 
+-- links of which one is written anew, by their names and numbers
 pub pairs-set : (links : List Link) (i : ℕ) (l : Link) → pairs (slice_set links i l) ≡ slice_set (pairs links) i (pair l)
 pairs-set [] i l = refl
 pairs-set (m ∷ links) zero l = refl
 pairs-set (m ∷ links) (suc i) l = ap (λ z. pair m ∷ z) (pairs-set links i l)
 
+-- of two facts the first holds
 both_first : (a b : Bool) → T (a && b) → T a
 both_first true b p = tt
 both_first false b p = p
 
+-- and so does the second
 both_second : (a b : Bool) → T (a && b) → T b
 both_second true b p = p
 both_second false b p = absurd p
 
+-- an order that answers less
 is_less : (o : Ordering) → T (is_lt o) → o ≡ Less
 is_less Less h = refl
 is_less Equal h = absurd h
@@ -51,9 +56,11 @@ below_named y x [] i below e = absurd (cc)
 below_named y x (l ∷ links) zero below e = let at : l.0 ≡ x = cc in ap (name_cmp y) (sym at) ∙ is_less (name_cmp y l.0) (both_first _ _ below)
 below_named y x (l ∷ links) (suc i) below e = below_named y x links i (both_second _ _ below) e
 
+-- a link is put by the order of the first one
 put_by : (x : Name) (n : ℕ) (l : Name × ℕ) (links : List (Name × ℕ)) (o : Ordering) → name_cmp x l.0 ≡ o → put name_cmp x n (l ∷ links) ≡ by_order o ((x, n) ∷ l ∷ links) ((l.0, n) ∷ links) (l ∷ put name_cmp x n links)
 put_by x n l links o e = ap (λ r. by_order r ((x, n) ∷ l ∷ links) ((l.0, n) ∷ links) (l ∷ put name_cmp x n links)) e
 
+-- among rising links, to write a name anew where it stands is to put it
 set_rising : (x : Name) (n : ℕ) (links : List (Name × ℕ)) (i : ℕ) → T (is_sorted name_cmp links) → name_of (slice_get links i) ≡ Some x → slice_set links i (x, n) ≡ put name_cmp x n links
 set_rising x n [] i sorted e = absurd (cc)
 set_rising x n (l ∷ links) zero sorted e =
@@ -67,6 +74,7 @@ set_rising x n (l ∷ links) (suc i) sorted e =
 pub set_standing : (x : Name) (n : ℕ) (links : List (Name × ℕ)) (i : ℕ) → IsTrue (is_sorted name_cmp links) → StandsAt links x i → slice_set links i (x, n) ≡ put name_cmp x n links
 set_standing x n links i sorted at = set_rising x n links i (T_from_true _ sorted) at.named
 
+-- the order of two names, turned
 turned_name : (x y : Name) (o : Ordering) → name_cmp y x ≡ o → name_cmp x y ≡ ordering_reverse o
 turned_name x y o e = name_total.antisymm x y ∙ ap ordering_reverse e
 
@@ -89,6 +97,7 @@ remove_named x (l ∷ links) (suc i) sorted e =
     ap (λ z. l ∷ z) (remove_named x links i (both_second _ _ sorted) e)
     ∙ sym (ap (λ o. cond {A = List (Name × ℕ)} (not (is_eq o)) (l ∷ without x links) (without x links)) below)
 
+-- at all other places the links are as before
 named_elsewhere : (links : List (Name × ℕ)) (i j : ℕ) (l : Name × ℕ) → i ≢ j → slice_get (slice_set links j l) i ≡ slice_get links i
 named_elsewhere [] i j l other = refl
 named_elsewhere (m ∷ links) zero zero l other = absurd (other refl)
@@ -96,11 +105,13 @@ named_elsewhere (m ∷ links) zero (suc j) l other = refl
 named_elsewhere (m ∷ links) (suc i) zero l other = refl
 named_elsewhere (m ∷ links) (suc i) (suc j) l other = named_elsewhere links i j l (λ e. other (ap suc e))
 
+-- names that differ stand at places that differ
 other_place : (links : List (Name × ℕ)) (x z : Name) (i j : ℕ) → x ≢ z → StandsAt links x i → StandsAt links z j → i ≢ j
 other_place links x z i j apart at to same =
     let both : Some x ≡ Some z = sym at.named ∙ ap (λ k. name_of (slice_get links k)) same ∙ to.named in
     apart (let e : x ≡ z = cc in e)
 
+-- rising links rise when one is written anew under its name
 rising_set : (z : Name) (n : ℕ) (links : List (Name × ℕ)) (j : ℕ) → IsTrue (is_sorted name_cmp links) → StandsAt links z j → T (is_sorted name_cmp (slice_set links j (z, n)))
 rising_set z n links j rising to = subst (λ ls. T (is_sorted name_cmp ls)) (sym (set_standing z n links j rising to)) (is_sorted-put name_cmp name_total z n links (T_from_true _ rising))
 

@@ -12,6 +12,7 @@ use Rattle.fs_seq.proofs.Resolving.{spelled_at, spelled_none}
 use Rattle.fs_seq.proofs.KeyLemmas.{after_prefix-itself}
 use Rattle.fs_seq.proofs.RenamedTrees.{after_move, look-renamed, sorted-renamed}
 
+-- a key with names behind it is longer
 no_nil : (d : Key) (x : Name) (r : Key) → (d ++ x ∷ []) ++ r ≡ d → ⊥
 no_nil d x r e = let h = ap length e in omega (arith, h, length-append (d ++ x ∷ []) r, length-append d (x ∷ []))
 
@@ -25,6 +26,7 @@ same_walks g h n j (y ∷ k) same never =
       | Some i ↦ λ e. same_walks g h n i k same (λ r w. never (y ∷ r) (ap (option_and_then (λ i. walk_from g i r)) e ∙ w))
     ] refl
 
+-- a place is a node, and no place is none
 placed : (o : Option Place) → is_some (node_of o) ≡ is_some o
 placed None = refl
 placed (Some (Dir links)) = refl
@@ -45,25 +47,32 @@ module _ (g h g' : Graph) (forest : IsForest g) (d1 : Key) (n1 : ℕ) (x1 : Name
   below : (r : Key) → walk_from g s r ≡ walk g ((d1 ++ x1 ∷ []) ++ r)
   below r = sym (walk-append g 0 (d1 ++ x1 ∷ []) r ∙ ap (option_and_then (λ m. walk_from g m r)) may.moves)
 
+  -- nothing below the node that moves leads back to its directory
   never1 : (r : Key) → walk_from g s r ≡ Some n1 → ⊥
   never1 r w = no_nil d1 x1 r (forest.once ((d1 ++ x1 ∷ []) ++ r) d1 n1 (sym (below r) ∙ w) may.from)
 
+  -- below the node that moves all is reached as before
   from_s : (r : Key) → walk_from h s r ≡ walk_from g s r
   from_s r = same_walks g h n1 s r may.removes.elsewhere never1
 
+  -- without the old name, what was below it is not reached, and all else as before
   walk_h : (k : Key) → walk h k ≡ outside (walk g k) (after_prefix (d1 ++ x1 ∷ []) k)
   walk_h = walk-unlinked g h d1 n1 x1 forest.once may.from may.removes
 
+  -- what is reached outside of a prefix was reached, without that prefix
   still : (k : Key) (j : ℕ) (a : Option Key) → outside (walk g k) a ≡ Some j → (walk g k ≡ Some j) × (a ≡ None)
   still k j None w = (w, refl)
   still k j (Some r) w = absurd (cc)
 
+  -- what is reached without the old name was reached, and not by it
   was : (k : Key) (j : ℕ) → walk h k ≡ Some j → (walk g k ≡ Some j) × (after_prefix (d1 ++ x1 ∷ []) k ≡ None)
   was k j w = still k j (after_prefix (d1 ++ x1 ∷ []) k) (sym (walk_h k) ∙ w)
 
+  -- no number is reached in two ways without the old name
   once_h : Once h 0
   once_h a b j u v = forest.once a b j (was a j u).0 (was b j v).0
 
+  -- the new directory is reached without the old name
   to_h : walk h d2 ≡ Some n2
   to_h = walk_h d2 ∙ ap (outside (walk g d2)) may.beside ∙ may.to
 
@@ -73,13 +82,16 @@ module _ (g h g' : Graph) (forest : IsForest g) (d1 : Key) (n1 : ℕ) (x1 : Name
       let same : k ≡ (d1 ++ x1 ∷ []) ++ r = forest.once k ((d1 ++ x1 ∷ []) ++ r) j v (sym (below r) ∙ u) in
       let some : after_prefix (d1 ++ x1 ∷ []) k ≡ Some r = ap (after_prefix (d1 ++ x1 ∷ [])) same ∙ after_prefix-append (d1 ++ x1 ∷ []) r in absurd (cc)
 
+  -- nothing below the node that moves leads to the new directory
   never2 : (r : Key) → walk_from h s r ≡ Some n2 → ⊥
   never2 r w = only_below r d2 n2 (sym (from_s r) ∙ w) may.to may.beside
 
+  -- where a key leads after the edits, by what follows the new and the old key in it
   abbrev pub shifted : Key → Option Key → Option Key → Option ℕ
   shifted k (Some r) b = walk_from g s r
   shifted k None b = outside (walk g k) b
 
+  -- where a key leads with the new name is where it leads after the edits
   within_shifted : (k : Key) (a : Option Key) → within h s (walk h k) a ≡ shifted k a (after_prefix (d1 ++ x1 ∷ []) k)
   within_shifted k None = walk_h k
   within_shifted k (Some r) = from_s r
@@ -88,6 +100,7 @@ module _ (g h g' : Graph) (forest : IsForest g) (d1 : Key) (n1 : ℕ) (x1 : Name
   pub walk-moved : (k : Key) → walk g' k ≡ shifted k (after_prefix (d2 ++ x2 ∷ []) k) (after_prefix (d1 ++ x1 ∷ []) k)
   walk-moved k = walk-linked h g' d2 n2 x2 s once_h to_h never2 may.adds k ∙ within_shifted k (after_prefix (d2 ++ x2 ∷ []) k)
 
+  -- two keys that lead to one number after the edits are one
   once_shifted : (a b : Key) (j : ℕ) (qa qb pa pb : Option Key) → after_prefix (d2 ++ x2 ∷ []) a ≡ qa → after_prefix (d2 ++ x2 ∷ []) b ≡ qb → after_prefix (d1 ++ x1 ∷ []) a ≡ pa → after_prefix (d1 ++ x1 ∷ []) b ≡ pb
       → shifted a qa pa ≡ Some j → shifted b qb pb ≡ Some j → a ≡ b
   once_shifted a b j (Some r) (Some t) pa pb ea eb fa fb u v =
@@ -99,6 +112,7 @@ module _ (g h g' : Graph) (forest : IsForest g) (d1 : Key) (n1 : ℕ) (x1 : Name
   once_shifted a b j None (Some t) pa pb ea eb fa fb u v = let old = still a j pa u in absurd (only_below t a j v old.0 (fa ∙ old.1))
   once_shifted a b j None None pa pb ea eb fa fb u v = forest.once a b j (still a j pa u).0 (still b j pb v).0
 
+  -- no number is reached in two ways after the edits
   once_moved : Once g' 0
   once_moved a b j u v = once_shifted a b j _ _ _ _ refl refl refl refl (sym (walk-moved a) ∙ u) (sym (walk-moved b) ∙ v)
 
@@ -116,6 +130,7 @@ module _ (g h g' : Graph) (forest : IsForest g) (d1 : Key) (n1 : ℕ) (x1 : Name
     λ same. let some : after_prefix (d2 ++ x2 ∷ []) k ≡ Some [] = ap (after_prefix (d2 ++ x2 ∷ [])) same ∙ after_prefix-itself (d2 ++ x2 ∷ []) in absurd (cc),
   )
 
+  -- the same, of each key
   pub reached_before : (k : Key) (j : ℕ) → walk g' k ≡ Some j → (q : Key) × (walk g q ≡ Some j) × (q ≢ d2 ++ x2 ∷ [])
   reached_before k j w = reached_shifted k j _ _ refl refl (sym (walk-moved k) ∙ w)
 

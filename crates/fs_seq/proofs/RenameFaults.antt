@@ -29,42 +29,52 @@ use Rattle.fs_seq.proofs.FaultLemmas.{AllNone, all_none, or_first, or_second}
 
 -- ---- the paths alone
 
+-- a key that is not empty is not the root
 named_by_length : (p : Key) → (length p ≡ 0 → ⊥) → is_root p ≡ false
 named_by_length [] h = absurd (h refl)
 named_by_length (x ∷ p) h = refl
 
+-- what has a prefix and is longer has more behind it
 longer : (p q : Key) (o : Option Key) → after_prefix p q ≡ o → is_some o ≡ true → length p < length q → has_more o ≡ true
 longer p q None e some h = absurd (cc)
 longer p q (Some []) e some h = let same = ap length (after_prefix-exact p q [] e) in absurd (omega (arith, same, length-append p []))
 longer p q (Some (x ∷ r)) e some h = refl
 
+-- what is not longer has no more behind it
 not_longer : (p q : Key) (o : Option Key) → after_prefix p q ≡ o → length q ≤ length p → has_more o ≡ false
 not_longer p q None e h = refl
 not_longer p q (Some []) e h = refl
 not_longer p q (Some (x ∷ r)) e h = let same = ap length (after_prefix-exact p q (x ∷ r) e) in absurd (omega (arith, same, length-append p (x ∷ r)))
 
+-- what has no such prefix has no more behind it
 no_more : (o : Option Key) → is_some o ≡ false → has_more o ≡ false
 no_more None e = refl
 no_more (Some r) e = absurd (cc)
 
+-- the root as the old path
 pub text_root : (p q : Key) → length p ≡ 0 → Some Ebusy ≡ by_text (Rename p q)
 text_root [] q e = refl
 text_root (x ∷ p) q e = absurd (omega arith)
 
+-- the root as the new path
 pub text_new_root : (p q : Key) → length q ≡ 0 → Some Ebusy ≡ by_text (Rename p q)
 text_new_root [] q e = refl
 text_new_root (x ∷ p) [] e = refl
 text_new_root (x ∷ p) (y ∷ q) e = absurd (omega arith)
 
+-- the error that the paths decide, by the three tests
 by_tests : (p q : Key) (a b c : Bool) → is_root p ≡ a → is_root q ≡ b → is_proper_prefix p q ≡ c → or_else (on (a || b) Ebusy) (or_else (on c Einval) None) ≡ by_text (Rename p q)
 by_tests p q a b c e f h = λ i. or_else (on (sym e i || sym f i) Ebusy) (or_else (on (sym h i) Einval) None)
 
+-- a new path below the old one
 pub text_prefix : (p q : Key) → (length p ≡ 0 → ⊥) → (length q ≡ 0 → ⊥) → is_some (after_prefix p q) ≡ true → length p < length q → Some Einval ≡ by_text (Rename p q)
 text_prefix p q a b some h = by_tests p q false false true (named_by_length p a) (named_by_length q b) (longer p q (after_prefix p q) refl some h)
 
+-- a new path that is not longer
 pub text_short : (p q : Key) → (length p ≡ 0 → ⊥) → (length q ≡ 0 → ⊥) → length q ≤ length p → None ≡ by_text (Rename p q)
 text_short p q a b h = by_tests p q false false false (named_by_length p a) (named_by_length q b) (not_longer p q (after_prefix p q) refl h)
 
+-- a new path that is not below the old one
 pub text_apart : (p q : Key) → (length p ≡ 0 → ⊥) → (length q ≡ 0 → ⊥) → is_some (after_prefix p q) ≡ false → None ≡ by_text (Rename p q)
 text_apart p q a b none = by_tests p q false false false (named_by_length p a) (named_by_length q b) (no_more (after_prefix p q) none)
 
@@ -74,29 +84,35 @@ text_apart p q a b none = by_tests p q false false false (named_by_length p a) (
 pub kinds : (g : Graph) (n v : ℕ) (a b : Option Place) (o : Option Errno) (one_parent : Bool) (dir : Option Shape) → place_at g n ≡ a → place_at g v ≡ b → o ≡ replacing (shape_of a) (shape_of b) one_parent dir → o ≡ replacing (shape_at g n) (shape_at g v) one_parent dir
 kinds g n v a b o one_parent dir e f h = h ∙ (λ i. replacing (shape_of (sym e i)) (shape_of (sym f i)) one_parent dir)
 
+-- a directory onto one without entries
 pub onto_empty : (links more : List (Name × ℕ)) (one_parent : Bool) (dir : Option Shape) → length more ≡ 0 → None ≡ replacing (shape_of (Some (Dir links))) (shape_of (Some (Dir more))) one_parent dir
 onto_empty links [] one_parent dir e = refl
 onto_empty links (l ∷ more) one_parent dir e = absurd (omega arith)
 
+-- a directory onto one with entries
 pub onto_used : (links more : List (Name × ℕ)) (one_parent : Bool) (dir : Option Shape) → (length more ≡ 0 → ⊥) → Some Enotempty ≡ replacing (shape_of (Some (Dir links))) (shape_of (Some (Dir more))) one_parent dir
 onto_used links [] one_parent dir h = absurd (h refl)
 onto_used links (l ∷ more) one_parent dir h = refl
 
 -- ---- the rows
 
+-- an error that the paths decide is the first one
 pub fault_text : (t : Tree) (p q : Key) (e : Errno) → by_text (Rename p q) ≡ Some e → fault t (Rename p q) ≡ Some e
 unfolding fault
 fault_text t p q e h = ap (λ o. or_else o (row t (Rename p q))) h
 
+-- without one, the first error is that of what is read
 fault_row : (t : Tree) (p q : Key) (o : Option Errno) → by_text (Rename p q) ≡ None → row t (Rename p q) ≡ o → fault t (Rename p q) ≡ o
 unfolding fault
 fault_row t p q o h found = ap (λ z. or_else z (row t (Rename p q))) h ∙ found
 
+-- the errors of a rename, by all that is read
 row_by : (t : Tree) (p q : Key) (source dest : Option Errno) (moved there : Option Shape) (one_path one_parent : Bool) (dir : Option Shape)
     → parents_resolution t p ≡ source → parents_resolution t q ≡ dest → seen t p ≡ moved → same_key p q ≡ one_path → seen t q ≡ there → same_key (parent_of p) (parent_of q) ≡ one_parent → seen t (parent_of q) ≡ dir
     → row t (Rename p q) ≡ renaming source dest moved one_path there one_parent dir
 row_by t p q source dest moved there one_path one_parent dir a b c d e f h = λ i. renaming (a i) (b i) (c i) (d i) (e i) (f i) (h i)
 
+-- a check before none is the check
 alone : (o : Option Errno) → or_else o None ≡ o
 alone None = refl
 alone (Some e) = refl
@@ -105,6 +121,7 @@ alone (Some e) = refl
 no_error : (moved there : Option Shape) (one_parent : Bool) (dir : Option Shape) → is_missing moved ≡ false → renaming None None moved true there one_parent dir ≡ None
 no_error moved there one_parent dir h = ap (λ b. or_else (on b Enoent) None) h
 
+-- another path asks for the kinds and for room
 replaced : (moved there : Option Shape) (one_parent : Bool) (dir : Option Shape) → is_missing moved ≡ false → renaming None None moved false there one_parent dir ≡ replacing moved there one_parent dir
 replaced moved there one_parent dir h = ap (λ b. or_else (on b Enoent) (or_else (replacing moved there one_parent dir) None)) h ∙ alone (replacing moved there one_parent dir)
 
@@ -114,53 +131,68 @@ to_free None one_parent dir = alone (on (not one_parent && is_full dir) Enospc)
 to_free (Some (shapes.Dir names)) one_parent dir = alone (on (not one_parent && is_full dir) Enospc)
 to_free (Some (shapes.File bytes)) one_parent dir = alone (on (not one_parent && is_full dir) Enospc)
 
+-- numbers that the test finds equal are equal
 nat_same : (a b : ℕ) → nat_eq a b ≡ true → a ≡ b
 nat_same a b h = grind (arith, nat_tests)
 
+-- numbers that differ are not equal by the test
 nat_apart : (a b : ℕ) → a ≢ b → nat_eq a b ≡ false
 nat_apart a b h = grind (arith, nat_tests)
 
+-- a number is equal to itself by the test
 nat_self : (a : ℕ) → nat_eq a a ≡ true
 nat_self a = grind (arith, nat_tests)
 
+-- and never unequal
 nat_itself : (a : ℕ) → nat_eq a a ≡ false → ⊥
 nat_itself a h = let e = nat_self a in absurd (cc)
 
+-- a check whose last test fails finds nothing
 never : (b : Bool) → on (b && false) Enospc ≡ None
 never true = refl
 never false = refl
 
+-- there are as many names as links
 length_names : (links : List (Name × ℕ)) → length (map (λ l. l.0) links) ≡ length links
 length_names [] = refl
 length_names (l ∷ links) = ap suc (length_names links)
 
+-- the limit is reached
 at_limit : (n : ℕ) → ENTRY_LIMIT ≤ n → nat_le ENTRY_LIMIT n ≡ true
 at_limit n h = grind (arith, nat_tests)
 
+-- the limit is not reached
 below_limit : (n : ℕ) → n < ENTRY_LIMIT → nat_le ENTRY_LIMIT n ≡ false
 below_limit n h = grind (arith, nat_tests)
 
+-- what has a place is not missing
 there_not_missing : (o : Option Place) → is_some o ≡ true → is_missing (shape_of o) ≡ false
 there_not_missing None e = absurd (cc)
 there_not_missing (Some (Dir links)) e = refl
 there_not_missing (Some (File bytes)) e = refl
 
 module _ (g : Graph) (forest : IsForest g) (p q : Key) (text : by_text (Rename p q) ≡ None) where
+  -- neither path is the root
   roots : is_root p || is_root q ≡ false
   roots = on-none (is_root p || is_root q) Ebusy (all_none (on (is_root p || is_root q) Ebusy ∷ on (is_proper_prefix p q) Einval ∷ []) text).0
 
+  -- the old path has a name
   pub named : is_root p ≡ false
   named = or_first (is_root p) (is_root q) roots
 
+  -- the new path has a name
   pub new_named : is_root q ≡ false
   new_named = or_second (is_root p) (is_root q) roots
 
+  -- the error of the old path's parent
   pub fault_source : (e : Errno) → parents_resolution (tree_of g) p ≡ Some e → fault (tree_of g) (Rename p q) ≡ Some e
   fault_source e h = fault_row (tree_of g) p q (Some e) text (row_by (tree_of g) p q (Some e) _ _ _ _ _ _ h refl refl refl refl refl refl)
 
+  -- the error of the new path's parent
   pub fault_dest : (e : Errno) → parents_resolution (tree_of g) p ≡ None → parents_resolution (tree_of g) q ≡ Some e → fault (tree_of g) (Rename p q) ≡ Some e
   fault_dest e h f = fault_row (tree_of g) p q (Some e) text (row_by (tree_of g) p q None (Some e) _ _ _ _ _ h f refl refl refl refl refl)
 
+  -- nothing at the old path
   pub fault_missing : parents_resolution (tree_of g) p ≡ None → parents_resolution (tree_of g) q ≡ None → seen (tree_of g) p ≡ None → fault (tree_of g) (Rename p q) ≡ Some Enoent
   fault_missing h f none = fault_row (tree_of g) p q (Some Enoent) text (row_by (tree_of g) p q None None None _ _ _ _ h f none refl refl refl refl)
 
@@ -169,9 +201,11 @@ module _ (g : Graph) (forest : IsForest g) (p q : Key) (text : by_text (Rename p
   looked_up r (Taken dir i n) at = parents_found g r dir (Some (Dir (links_at g dir))) forest at.parent at.directory
   looked_up r (Free dir i entries) at = parents_found g r dir (Some (Dir (links_at g dir))) forest at.parent at.directory
 
+  -- a path whose last name was found leads to its node
   pub taken_walk : (r : Key) (dir i n : ℕ) → is_root r ≡ false → IsTaken g r dir i n → walk g r ≡ Some n
   taken_walk r dir i n h at = ap (walk g) (parent_and_last r h) ∙ walk_on g (parent_of r) dir (last_of r) n at.parent at.leads
 
+  -- a path whose last name was not found leads nowhere
   pub free_walk : (r : Key) (dir i entries : ℕ) → is_root r ≡ false → IsFree g r dir i entries → walk g r ≡ None
   free_walk r dir i entries h at = ap (walk g) (parent_and_last r h) ∙ walk_off g (parent_of r) dir (last_of r) at.parent (child-find g dir (last_of r) ∙ at.belongs.absent)
 

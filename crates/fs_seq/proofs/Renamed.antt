@@ -32,6 +32,7 @@ use Rattle.fs_seq.proofs.Replies.{works, fails, answers, needs}
 
 -- ---- replies
 
+-- a rename with an error leaves all as it was
 pub failed : (g : Graph) (p q : Key) (e : Errno) → IsForest g → fault (tree_of g) (Rename p q) ≡ Some e → Answers g g (Rename p q) (Failed e)
 failed g p q e forest h =
     answers g g (Rename p q) (Some e) Done (change (tree_of g) (Rename p q)) (Failed e) h refl refl (fails g (Some e) Done (change (tree_of g) (Rename p q)) e refl forest)
@@ -41,12 +42,14 @@ done : (g g' : Graph) (p q : Key) → fault (tree_of g) (Rename p q) ≡ None �
 done g g' p q h forest made =
     answers g g' (Rename p q) None Done (change (tree_of g) (Rename p q)) Done h refl refl (works g g' None Done (change (tree_of g) (Rename p q)) refl made forest)
 
+-- and so does one of a path onto itself
 pub stayed : (g : Graph) (p q : Key) → IsForest g → fault (tree_of g) (Rename p q) ≡ None → p ≡ q → Answers g g (Rename p q) Done
 stayed g p q forest h same = done g g p q h forest (sym (same_after (tree_of g) p q same h))
   where
     same_after : (t : Tree) (p q : Key) → p ≡ q → fault t (Rename p q) ≡ None → change t (Rename p q) ≡ t
     same_after t p q e found = ap (λ b. cond {A = Tree} b t (renamed t p q)) (ap (same_key p) (sym e) ∙ same_key_refl p)
 
+-- a rename that is done, by the tree that it leaves
 moved : (g g' : Graph) (p q : Key) → Moves g p q → IsForest g' × (tree_of g' ≡ renamed (tree_of g) p q) → Answers g g' (Rename p q) Done
 moved g g' p q may made = done g g' p q may.allowed made.0 (made.1 ∙ sym (ap (λ b. cond {A = Tree} b (tree_of g) (renamed (tree_of g) p q)) (differ p q may.differ)))
 
@@ -72,12 +75,14 @@ turns g between g' n i j x z s rising apart leading unlinking at to = record {
 
 -- ---- the paths
 
+-- what is planned has no error
 pub allowed : (g : Graph) (p q : Key) (plan : Plan) → Plans g p q (Ok plan) → fault (tree_of g) (Rename p q) ≡ None
 allowed g p q Stay h = h.0
 allowed g p q (Onto entry victim) h = h.0.allowed
 allowed g p q (Within entry) h = h.0.allowed
 allowed g p q (Across entry dir i) h = h.0.allowed
 
+-- a path that is not the root has a name
 has_names : (q : Key) → is_root q ≡ false → 1 ≤ length q
 has_names [] e = absurd (cc)
 has_names (x ∷ q) e = omega arith
@@ -87,9 +92,11 @@ pub new_path_named : (g : Graph) (p q : Key) (plan : Plan) → IsForest g → Pl
 new_path_named g p q plan forest h = has_names q (new_named g forest p q (by_text_none (tree_of g) (Rename p q) (allowed g p q plan h)))
 
 module _ (g : Graph) (forest : IsForest g) (p q : Key) (may : Moves g p q) where
+  -- what such a rename finds in the tree
   renames : Renames (tree_of g) p q
   renames = rename_renames (tree_of g) p q (forest_tree g forest) may.allowed may.differ
 
+  -- the paths alone decide no error
   text : by_text (Rename p q) ≡ None
   text = by_text_none (tree_of g) (Rename p q) may.allowed
 

@@ -12,12 +12,15 @@ use Rattle.fs_seq.proofs.KeyLemmas.{no_true, same_key-prefix, after_prefix-itsel
 apart : (p k e : Key) (r : Key) → after_prefix p k ≡ Some r → after_prefix p e ≡ None → same_key k e ≡ false
 apart p k e r a b = no_true (same_key k e) (λ same. let c : after_prefix p e ≡ Some r = ap (after_prefix p) (sym (same_key_exact k e same)) ∙ a in absurd (cc))
 
+-- and a key without it is none with it
 apart_back : (p k e : Key) (r : Key) → after_prefix p k ≡ None → after_prefix p e ≡ Some r → same_key k e ≡ false
 apart_back p k e r a b = same_key_equiv.symm k e ∙ apart p e k r b a
 
+-- entries whose keys get the prefix q in the place of p
 abbrev moved : Key → Key → List (Key × Node) → List (Key × Node)
 moved p q es = map (λ e. (moved_key p q e.0, e.1)) es
 
+-- one step of a search
 abbrev step : Bool → Node → Option Node → Option Node
 step b n rest = cond {A = Option Node} b (Some n) rest
 
@@ -26,10 +29,12 @@ test_in : (p q r e : Key) (a : Option Key) → after_prefix p e ≡ a → same_k
 test_in p q r e None at other = other ∙ sym (apart p (p ++ r) e r (after_prefix-append p r) at)
 test_in p q r e (Some s) at other = same_key-prefix q r s ∙ sym (same_key-prefix p r s) ∙ ap (same_key (p ++ r)) (sym (after_prefix-exact p e s at))
 
+-- a search that finds nothing finds nothing at its first step, and nothing later
 here_none : (b : Bool) (n : Node) (rest : Option Node) → step b n rest ≡ None → (b ≡ false) × (rest ≡ None)
 here_none true n rest h = absurd (cc)
 here_none false n rest h = (refl, h)
 
+-- below q is found what was found below p
 find_in : (p q r : Key) (es : List (Key × Node)) → find key_cmp (q ++ r) es ≡ None → find key_cmp (q ++ r) (moved p q es) ≡ find key_cmp (p ++ r) es
 find_in p q r [] none = refl
 find_in p q r (e ∷ es) none =
@@ -41,6 +46,7 @@ test_out : (p q k r e : Key) (a : Option Key) → after_prefix q k ≡ None → 
 test_out p q k r e None nq at b = apart p k e r at b
 test_out p q k r e (Some s) nq at b = apart_back q k (q ++ s) s nq (after_prefix-append q s)
 
+-- so nothing is found below p
 find_out : (p q k r : Key) (es : List (Key × Node)) → after_prefix q k ≡ None → after_prefix p k ≡ Some r → find key_cmp k (moved p q es) ≡ None
 find_out p q k r [] nq at = refl
 find_out p q k r (e ∷ es) nq at = λ i. step (test_out p q k r e.0 (after_prefix p e.0) nq at refl i) e.1 (find_out p q k r es nq at i)
@@ -50,10 +56,12 @@ test_other : (p q k e : Key) (a : Option Key) → after_prefix q k ≡ None → 
 test_other p q k e None nq np at = refl
 test_other p q k e (Some s) nq np at = apart_back q k (q ++ s) s nq (after_prefix-append q s) ∙ sym (apart_back p k e s np at)
 
+-- and the same is found
 find_other : (p q k : Key) (es : List (Key × Node)) → after_prefix q k ≡ None → after_prefix p k ≡ None → find key_cmp k (moved p q es) ≡ find key_cmp k es
 find_other p q k [] nq np = refl
 find_other p q k (e ∷ es) nq np = λ i. step (test_other p q k e.0 (after_prefix p e.0) nq np refl i) e.1 (find_other p q k es nq np i)
 
+-- the keys of a renamed tree rise
 pub sorted-renamed : (t : Tree) (p q : Key) → T (is_sorted key_cmp (renamed t p q))
 unfolding renamed
 sorted-renamed t p q = sorted-from_list (moved p q (removed t q))
@@ -64,6 +72,7 @@ after_move t p k (Some rest) under_p = look t (p ++ rest)
 after_move t p k None (Some rest) = None
 after_move t p k None None = look t k
 
+-- one of two, of which neither is a node
 either_none : (b : Bool) (o : Option Node) → o ≡ None → cond {A = Option Node} b None o ≡ None
 either_none true o e = refl
 either_none false o e = e

@@ -27,6 +27,7 @@ directories_above t is d x (y ∷ rest) n h =
     let above : look t (d ++ x ∷ []) ≡ Some tree.Dir = directories_above t is (d ++ x ∷ []) y rest n (ap (look t) (append_assoc d (x ∷ []) (y ∷ rest)) ∙ h) in
     is.inside d x tree.Dir above
 
+-- where no node can stand, none does
 none_from : (o : Option Node) → ((n : Node) → o ≡ Some n → ⊥) → o ≡ None
 none_from None h = refl
 none_from (Some n) h = absurd (h n refl)
@@ -44,18 +45,22 @@ empty_below t d is empty x (y ∷ rest) =
 
 -- ---- the names of a directory
 
+-- a key that is only a name is that name
 only_name-exact : (o : Option Key) (x : Name) → only_name o ≡ Some x → o ≡ Some (x ∷ [])
 only_name-exact None x e = absurd (cc)
 only_name-exact (Some []) x e = absurd (cc)
 only_name-exact (Some (y ∷ [])) x e = let s : y ≡ x = cc in ap (λ z. Some (z ∷ [])) s
 only_name-exact (Some (y ∷ z ∷ k)) x e = absurd (cc)
 
+-- a key with one name more has that name in the key
 name_in-append : (d : Key) (x : Name) → name_in d (d ++ x ∷ []) ≡ Some x
 name_in-append d x = ap only_name (after_prefix-append d (x ∷ []))
 
+-- a key that has a name in a directory is the directory and the name
 name_in-exact : (d k : Key) (x : Name) → name_in d k ≡ Some x → k ≡ d ++ x ∷ []
 name_in-exact d k x e = after_prefix-exact d k (x ∷ []) (only_name-exact (after_prefix d k) x e)
 
+-- either of two tests is true where the first finds a node or the second does
 some_here : (b c : Bool) (n : Node) (o : Option Node) → c ≡ is_some o → (b || c) ≡ is_some (cond {A = Option Node} b (Some n) o)
 some_here true c n o e = refl
 some_here false c n o e = e
@@ -78,10 +83,12 @@ any-names_in t d x = by_find t ∙ ap is_some (sym (look-find t (d ++ x ∷ []))
     by_find [] = refl
     by_find (e ∷ t) = with_entry d x e (names_in t d) (find key_cmp (d ++ x ∷ []) t) (name_in d e.0) refl (by_find t)
 
+-- where no node is there is none
 none_of : (o : Option Node) → is_some o ≡ false → o ≡ None
 none_of None e = refl
 none_of (Some n) e = absurd (cc)
 
+-- among no names there is none that is the same
 any_of_none : (x : Name) (names : List Name) → has_any names ≡ false → list_any (same_name x) names ≡ false
 any_of_none x [] e = refl
 any_of_none x (y ∷ names) e = absurd (cc)
@@ -92,6 +99,7 @@ no_names t d none x = none_of (look t (d ++ x ∷ [])) (sym (any-names_in t d x)
 
 -- ---- resolution
 
+-- a node has a verdict, whatever comes before it
 verdict_there : (o : Option Errno) (n : Node) → or_else o (verdict (Some n)) ≡ None → ⊥
 verdict_there (Some e) n h = absurd (cc)
 verdict_there None tree.Dir h = absurd (cc)
@@ -112,10 +120,12 @@ resolution-none t p is h = by_case (is_some (look t p)) refl h
     by_case true e g = refl
     by_case false e g = absurd (some_verdict t [] p tree.Dir is.root g)
 
+-- a key that stands in the tree resolves without an error
 pub resolution-there : (t : Tree) (p : Key) → is_some (look t p) ≡ true → resolution t p ≡ None
 unfolding resolution
 resolution-there t p h = ap (λ b. cond {A = Option Errno} b None (verdict_along t [] p)) h
 
+-- what stands there and is seen as no file is a directory
 dir_there : (t : Tree) (d : Key) (o : Option Node) → is_some o ≡ true → is_file (shape_of t d o) ≡ false → o ≡ Some tree.Dir
 dir_there t d None some no_file = absurd (cc)
 dir_there t d (Some tree.Dir) some no_file = refl

@@ -21,34 +21,43 @@ use Rattle.fs_seq.proofs.Moving.{Relinks, reached_before, forest_moved, tree_mov
 
 -- ---- links
 
+-- sameness of names has no direction
 names_symm : (x y : Name) → same_name x y ≡ same_name y x
 names_symm x y = (eq_by_cmp_equiv name_total).symm x y
 
+-- names that differ are not the same
 other_name : (x y : Name) → x ≢ y → same_name x y ≡ false
 other_name x y h = no_true (same_name x y) (λ same. h (same_name_exact x y same))
 
+-- a choice by a negated test is the other choice
 turned : {A : Type 0} (b : Bool) (x y : A) → cond (not b) x y ≡ cond b y x
 turned true x y = refl
 turned false x y = refl
 
+-- without a name, that name is not found, and the others as before
 pub find-without : (x y : Name) (links : List (Name × ℕ)) → find name_cmp y (without x links) ≡ cond (same_name x y) None (find name_cmp y links)
 find-without x y links =
     find-where_key name_cmp (λ z. not (same_name x z)) y (λ z e. ap (λ w. not (same_name x w)) (sym (name_exact y z e))) links
     ∙ turned (same_name x y) (find name_cmp y links) None
 
+-- a name that is put is found, and the others as before
 pub find-put_link : (x y : Name) (s : ℕ) (links : List (Name × ℕ)) → find name_cmp y (put name_cmp x s links) ≡ cond (same_name x y) (Some s) (find name_cmp y links)
 find-put_link x y s links = find-put name_cmp name_total y x s links ∙ ap (λ b. cond b (Some s) (find name_cmp y links)) (names_symm y x)
 
+-- what holds is true
 true_from_T : (b : Bool) → T b → b ≡ true
 true_from_T true h = refl
 true_from_T false h = absurd h
 
+-- rising links rise when one is put among them
 pub rising-put : (x : Name) (s : ℕ) (links : List (Name × ℕ)) → IsTrue (is_sorted name_cmp links) → IsTrue (is_sorted name_cmp (put name_cmp x s links))
 rising-put x s links h = true_from_T _ (is_sorted-put name_cmp name_total x s links (T_from_true _ h))
 
+-- and when one is taken out
 pub rising-without : (x : Name) (links : List (Name × ℕ)) → IsTrue (is_sorted name_cmp links) → IsTrue (is_sorted name_cmp (without x links))
 rising-without x links h = true_from_T _ (is_sorted-where_key name_cmp (λ y. not (same_name x y)) links (T_from_true _ h))
 
+-- two tests that never both hold can be asked in either order
 swapped : (a b : Bool) (m n : Option ℕ) (rest : Option ℕ) → (a ≡ true → b ≡ true → ⊥) → cond a m (cond b n rest) ≡ cond b n (cond a m rest)
 swapped true true m n rest apart = absurd (apart refl refl)
 swapped true false m n rest apart = refl
@@ -73,20 +82,25 @@ without-put x z s links apart rising =
 pub unlinked : Graph → ℕ → Name → Graph
 unlinked g n x = set g n (Some (Dir (without x (links_at g n))))
 
+-- the directory without the name
 unlinked_here : (g : Graph) (n : ℕ) (x : Name) → is_some (place_at g n) ≡ true → place_at (unlinked g n x) n ≡ Some (Dir (without x (links_at g n)))
 unfolding unlinked place_at
 unlinked_here g n x there = get_or-set_same g n (Some (Dir (without x (links_at g n)))) None (place_below g n there)
 
+-- all other places are as before
 unlinked_elsewhere : (g : Graph) (n : ℕ) (x : Name) (j : ℕ) → j ≢ n → place_at (unlinked g n x) j ≡ place_at g j
 unfolding unlinked place_at
 unlinked_elsewhere g n x j other = get_or-set_other g n j (Some (Dir (without x (links_at g n)))) None other
 
+-- a child is found among the links of its place
 pub child_of : (g : Graph) (n : ℕ) (y : Name) (o : Option Place) → place_at g n ≡ o → child g n y ≡ find name_cmp y (links_of o)
 child_of g n y o e = child-find g n y ∙ ap (λ z. find name_cmp y (links_of z)) e
 
+-- the same places have the same children
 pub same_child : (g h : Graph) (n : ℕ) (y : Name) → place_at g n ≡ place_at h n → child g n y ≡ child h n y
 same_child g h n y e = child_of g n y (place_at h n) e ∙ sym (child-find h n y)
 
+-- a graph without a name is without it
 pub unlinked_unlinks : (g : Graph) (n : ℕ) (x : Name) → is_some (place_at g n) ≡ true → Unlinks g (unlinked g n x) n x
 unlinked_unlinks g n x there = record {
   here = λ y. child_of (unlinked g n x) n y _ (unlinked_here g n x there) ∙ find-without x y (links_at g n) ∙ ap (cond (same_name x y) None) (sym (child-find g n y));
@@ -120,9 +134,11 @@ module _ (g g' : Graph) (rising : (j : ℕ) → IsTrue (is_sorted name_cmp (link
   rising_like : (j k : ℕ) (o : Option Place) → j ≡ k → place_at g' k ≡ o → IsTrue (is_sorted name_cmp (links_of o)) → IsTrue (is_sorted name_cmp (links_at g' j))
   rising_like j k o at e h = ap (λ i. is_sorted name_cmp (links_at g' i)) at ∙ ap (λ z. is_sorted name_cmp (links_of z)) e ∙ h
 
+  -- a directory that stays one
   kept_like : (j k : ℕ) (links : List (Name × ℕ)) → j ≡ k → place_at g' k ≡ Some (Dir links) → node_at g k ≡ Some IsDir → node_at g' j ≡ node_at g j
   kept_like j k links at e dir = ap (node_at g') at ∙ ap node_of e ∙ sym dir ∙ sym (ap (node_at g) at)
 
+  -- a name that goes from one directory to another
   pub crossed : Crosses g g' n x m z s → Rewires g g' n x m z s
   crossed edit = record {
     links = record {
@@ -147,6 +163,7 @@ module _ (g g' : Graph) (rising : (j : ℕ) → IsTrue (is_sorted name_cmp (link
           (λ not_n. edit.others j not_n other ∙ sym (unlinked_elsewhere g n x j not_n))
 
 module _ (g g' : Graph) (rising : (j : ℕ) → IsTrue (is_sorted name_cmp (links_at g j))) (n : ℕ) (x z : Name) (s : ℕ) (from : node_at g n ≡ Some IsDir) (there : is_some (place_at g n) ≡ true) where
+  -- a name that becomes another in its directory
   pub turned_in : Turns g g' n x z s → Rewires g g' n x n z s
   turned_in edit = record {
     links = record {
@@ -167,12 +184,15 @@ module _ (g g' : Graph) (rising : (j : ℕ) → IsTrue (is_sorted name_cmp (link
 
 module _ (g : Graph) (forest : IsForest g) (p q : Key) (n s m : ℕ) (may : Renames (tree_of g) p q)
     (from : walk g (parent_of p) ≡ Some n) (leads : child g n (last_of p) ≡ Some s) (to : walk g (parent_of q) ≡ Some m) where
+  -- the old path is its parent and its last name
   old_key : p ≡ parent_of p ++ last_of p ∷ []
   old_key = parent_and_last p may.named
 
+  -- the new path is its parent and its last name
   new_key : q ≡ parent_of q ++ last_of q ∷ []
   new_key = parent_and_last q may.new_named
 
+  -- the edits are those of a link that leads elsewhere
   relinks : (g' : Graph) → Links (unlinked g n (last_of p)) g' m (last_of q) s → Relinks g (unlinked g n (last_of p)) g' (parent_of p) n (last_of p) s (parent_of q) m (last_of q)
   relinks g' adds = record {
     from = from;
@@ -198,6 +218,7 @@ module _ (g : Graph) (forest : IsForest g) (p q : Key) (n s m : ℕ) (may : Rena
             ∙ (λ i. renamed (tree_of g) (sym old_key i) (sym new_key i)),
       )
 
+  -- where nothing stood at the new path
   pub renamed_free : (g' : Graph) → Rewires g g' n (last_of p) m (last_of q) s → IsForest g' × (tree_of g' ≡ renamed (tree_of g) p q)
   renamed_free g' edit = renamed_by g' edit.links edit.rising (λ k j w. edit.kept j)
 

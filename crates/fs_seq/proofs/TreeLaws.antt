@@ -18,6 +18,7 @@ use Rattle.fs_seq.proofs.RenamedTrees.{after_move, look-renamed, sorted-renamed}
 use Rattle.fs_seq.proofs.ResolutionLemmas.{directories_above}
 use Rattle.fs_seq.proofs.FaultLemmas.{Makes, Removes, Writes, Renames, mkdir_makes, mknod_makes, unlink_removes, rmdir_removes, write_writes, truncate_writes, rename_renames}
 
+-- what holds is true
 true_from_T : (b : Bool) → T b → b ≡ true
 true_from_T true h = refl
 true_from_T false h = absurd h
@@ -28,6 +29,7 @@ same_trees s t one other same = same_tree s t (T_from_true _ one.sorted) (T_from
 
 -- ---- one key has a new node
 
+-- what a search finds is the new node where its key is asked for, and else what stood there
 either : (b : Bool) (n m : Node) (o : Option Node) (P : Type 0) → cond {A = Option Node} b (Some n) o ≡ Some m → (b ≡ true → P) → (o ≡ Some m → P) → P
 either true n m o P h here there = here refl
 either false n m o P h here there = there h
@@ -46,13 +48,16 @@ tree-inserted t p n is no_dir parent = record {
     kept : (d : Key) → look t d ≡ Some Dir → look (inserted t p n) d ≡ Some Dir
     kept d e = look-inserted t p n d ∙ ap (λ b. cond {A = Option Node} b (Some n) (look t d)) (differ d p (λ same. no_dir (ap (look t) (sym same) ∙ e))) ∙ e
 
+-- after mkdir and mknod
 made : (t : Tree) (p : Key) (n : Node) → IsTree t → Makes t p → IsTree (inserted t p n)
 made t p n is new = tree-inserted t p n is (λ same. let none = new.absent in absurd (cc)) (λ d x e. ap (look t) (sym (parent_of_child p d x e)) ∙ new.parent)
 
+-- the node that is there
 some_node : (o : Option Node) → is_some o ≡ true → (n : Node) × (o ≡ Some n)
 some_node None h = absurd (cc)
 some_node (Some n) h = (n, refl)
 
+-- after write and truncate
 rewritten : (t : Tree) (p : Key) (n : Node) → IsTree t → Writes t p → IsTree (inserted t p n)
 rewritten t p n is file =
     let old = some_node (look t p) file.there in
@@ -80,6 +85,7 @@ tree-removed t p is named bare = record {
     was : (k : Key) (m : Node) → look (removed t p) k ≡ Some m → look t k ≡ Some m
     was k m h = still (same_key k p) (look t k) m (sym (look-removed t p k) ∙ h)
 
+-- after unlink and rmdir
 gone : (t : Tree) (p : Key) → IsTree t → Removes t p → IsTree (removed t p)
 gone t p is old = tree-removed t p is old.named (λ x. old.bare x [])
 
@@ -106,6 +112,7 @@ is_moved t p q may = record {
   others = λ k not_p not_q. look-renamed t p q k may.beside may.bare ∙ (λ i. after_move t p k (not_q i) (not_p i));
 }
 
+-- a key with a name is no prefix of the root
 root_no_prefix : (p : Key) → is_root p ≡ false → after_prefix p [] ≡ None
 root_no_prefix [] h = absurd (cc)
 root_no_prefix (x ∷ p) h = refl
@@ -150,6 +157,7 @@ tree-renamed t p q is may = record {
 
 -- ---- all calls
 
+-- a tree or a new tree, by a test
 keep : (b : Bool) (t new : Tree) → IsTree t → (b ≡ false → IsTree new) → IsTree (cond {A = Tree} b t new)
 keep true t new is may = is
 keep false t new is may = may refl
@@ -169,16 +177,19 @@ tree-change t (Write p off bytes) is h =
     elim (has_any bytes) as (λ b. IsTree (cond {A = Tree} b (inserted t p (File (written (bytes_of (seen t p)) off bytes))) t)) [ true ↦ new | false ↦ is ]
 tree-change t (Truncate p size) is h = rewritten t p (File (resized (bytes_of (seen t p)) size)) is (truncate_writes t p size is h)
 
+-- the tree after a call, by its first error
 by_fault : (t : Tree) (call : Call) (found : Option Errno) → IsTree t → fault t call ≡ found → IsTree (unless found t (change t call))
 by_fault t call None is h = tree-change t call is h
 by_fault t call (Some e) is h = is
 
+-- after a call, a tree is a tree
 pub stays_a_tree : StaysATree
 unfolding after
 stays_a_tree t call is = by_fault t call (fault t call) is refl
 
 -- ---- trees that were played
 
+-- the root alone is a tree
 tree_root : IsTree root_tree
 unfolding look
 tree_root = record {
@@ -191,23 +202,28 @@ tree_root = record {
     only_root [] h = absurd (h refl)
     only_root (x ∷ k) h = refl
 
+-- after several calls, a tree is a tree
 played_from : (t : Tree) (calls : List Call) → IsTree t → IsTree (play_from t calls)
 played_from t [] is = is
 played_from t (call ∷ calls) is = played_from (after t call) calls (stays_a_tree t call is)
 
+-- what was played is a tree, with directories above all that stands in it
 pub played_trees_are_trees : PlayedTreesAreTrees
 played_trees_are_trees calls = let is = played_from root_tree calls tree_root in (is, directories_above (play calls) is)
 
 -- ---- renames
 
+-- what a rename without an error leaves
 after_done : (t : Tree) (p q : Key) → fault t (Rename p q) ≡ None → p ≢ q → after t (Rename p q) ≡ renamed t p q
 unfolding after
 after_done t p q h other = ap (λ found. unless found t (change t (Rename p q))) h ∙ ap (λ b. cond {A = Tree} b t (renamed t p q)) (differ p q other)
 
+-- a rename of a path onto itself leaves the tree, with an error or without
 onto_itself : (t : Tree) (p : Key) (found : Option Errno) → unless found t (cond {A = Tree} (same_key p p) t (renamed t p p)) ≡ t
 onto_itself t p None = ap (λ b. cond {A = Tree} b t (renamed t p p)) (same_key_refl p)
 onto_itself t p (Some e) = refl
 
+-- a rename moves what it names
 pub renames_move : RenamesMove
 unfolding after
 renames_move = record {
