@@ -1,0 +1,2 @@
+//! Nodes under numbers.
+#![tactic(auto)]
