@@ -1,2 +1,12 @@
-//! Nodes under numbers.
+//! Nodes under numbers: directories and files, each named by at most one entry.
 #![tactic(auto)]
+
+pub mod node;
+pub mod number;
+pub mod places;
+pub mod store;
+
+
+
+pub use number::NodeNo;
+
