@@ -1,3 +1,6 @@
 pub mod NameLemmas
 pub mod PlaceLemmas
 pub mod GraphLemmas
+pub mod StoreLemmas
+pub mod PickLemmas
+pub mod EditLemmas

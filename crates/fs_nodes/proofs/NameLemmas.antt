@@ -122,3 +122,78 @@ has_inserted y x (z ∷ zs) = go (compare x z) (has_inserted y x zs)
     go (Below e f) _ = ap (has_name y) (inserted_below x z zs e) ∙ first (same_name y x) (has_name y (z ∷ zs))
     go (Same e) _ = subst (λ (w : Name). has_name y (inserted_name w (z ∷ zs)) ≡ (same_name y w || has_name y (z ∷ zs))) (sym e) (ap (has_name y) (inserted_same z zs) ∙ twice (same_name y z) (has_name y zs))
     go (Above e f) rest = ap (has_name y) (inserted_above x z zs e) ∙ ap (cond (same_name y z) true) rest ∙ swap (same_name y z) (same_name y x) (has_name y zs)
+
+-- what is above a name is below no name that is above it
+above_more : (low : Option Name) (x z : Name) → is_above low x ≡ true → name_cmp x z ≡ Less → is_above low z ≡ true
+above_more None x z h e = refl
+above_more (Some low) x z h e = go (name_cmp low x) refl h
+  where
+    go : (o : Ordering) → name_cmp low x ≡ o → is_lt o ≡ true → is_lt (name_cmp low z) ≡ true
+    go Less f g = ap is_lt (name_total.trans low x z f e)
+    go Equal f g = absurd (cc)
+    go Greater f g = absurd (cc)
+
+either_way : {A : Type 0} (b : Bool) (v : A) → cond b v v ≡ v
+either_way true v = refl
+either_way false v = refl
+
+-- the first name above another one, once a name was put in
+pub find_inserted : (low : Option Name) (x : Name) (names : List Name) → find (is_above low) (inserted_name x names) ≡ lesser (cond (is_above low x) (Some x) None) (find (is_above low) names)
+find_inserted low x [] = go (is_above low x)
+  where
+    go : (b : Bool) → cond b (Some x) None ≡ lesser (cond b (Some x) None) None
+    go true = refl
+    go false = refl
+find_inserted low x (z ∷ zs) = go (compare x z) (find_inserted low x zs)
+  where
+    below : (b : Bool) → is_above low x ≡ b → name_cmp x z ≡ Less → name_cmp z x ≡ Greater → cond b (Some x) (find (is_above low) (z ∷ zs)) ≡ lesser (cond b (Some x) None) (find (is_above low) (z ∷ zs))
+    below true h e f = rw (above_more low x z h e, f) refl
+    below false h e f = refl
+    same : (b : Bool) → cond b (Some z) (find (is_above low) zs) ≡ lesser (cond b (Some z) None) (cond b (Some z) (find (is_above low) zs))
+    same true = sym (either_way (is_lt (name_cmp z z)) (Some z))
+    same false = refl
+    above : (b : Bool) → is_above low z ≡ b → name_cmp z x ≡ Less → find (is_above low) (inserted_name x zs) ≡ lesser (cond (is_above low x) (Some x) None) (find (is_above low) zs) → cond b (Some z) (find (is_above low) (inserted_name x zs)) ≡ lesser (cond (is_above low x) (Some x) None) (cond b (Some z) (find (is_above low) zs))
+    above true h f rest = rw (above_more low z x h f, f) refl
+    above false h f rest = rest
+    go : Compared x z → find (is_above low) (inserted_name x zs) ≡ lesser (cond (is_above low x) (Some x) None) (find (is_above low) zs) → find (is_above low) (inserted_name x (z ∷ zs)) ≡ lesser (cond (is_above low x) (Some x) None) (find (is_above low) (z ∷ zs))
+    go (Below e f) _ = ap (find (is_above low)) (inserted_below x z zs e) ∙ below (is_above low x) refl e f
+    go (Same e) _ = subst (λ (w : Name). find (is_above low) (inserted_name w (z ∷ zs)) ≡ lesser (cond (is_above low w) (Some w) None) (find (is_above low) (z ∷ zs))) (sym e) (ap (find (is_above low)) (inserted_same z zs) ∙ same (is_above low z))
+    go (Above e f) rest = ap (find (is_above low)) (inserted_above x z zs e) ∙ above (is_above low z) refl f rest
+
+-- of two names the lesser
+lesser_lt : (x y : Name) → name_cmp y x ≡ Less → lesser (Some x) (Some y) ≡ Some y
+lesser_lt x y e = rw e refl
+
+lesser_gt : (x y : Name) → name_cmp y x ≡ Greater → lesser (Some x) (Some y) ≡ Some x
+lesser_gt x y e = rw e refl
+
+lesser_self : (x : Name) → lesser (Some x) (Some x) ≡ Some x
+lesser_self x = either_way (is_lt (name_cmp x x)) (Some x)
+
+lesser_twice : (x z : Name) → lesser (Some x) (lesser (Some x) (Some z)) ≡ lesser (Some x) (Some z)
+lesser_twice x z = go (compare z x)
+  where
+    go : Compared z x → lesser (Some x) (lesser (Some x) (Some z)) ≡ lesser (Some x) (Some z)
+    go (Below e f) = ap (lesser (Some x)) (lesser_lt x z e)
+    go (Same e) = subst (λ (w : Name). lesser (Some x) (lesser (Some x) (Some w)) ≡ lesser (Some x) (Some w)) (sym e) (ap (lesser (Some x)) (lesser_self x))
+    go (Above e f) = ap (lesser (Some x)) (lesser_gt x z e) ∙ lesser_self x ∙ sym (lesser_gt x z e)
+
+-- of three names the least, in whichever order they are compared
+least_of : (x y z : Name) → Compared y x → Compared z y → lesser (lesser (Some x) (Some y)) (Some z) ≡ lesser (Some x) (lesser (Some y) (Some z))
+least_of x y z (Below e f) (Below g h) = ap (λ (o : Option Name). lesser o (Some z)) (lesser_lt x y e) ∙ lesser_lt y z g ∙ sym (ap (lesser (Some x)) (lesser_lt y z g) ∙ lesser_lt x z (name_total.trans z y x g e))
+least_of x y z (Below e f) (Same g) = subst (λ (w : Name). lesser (lesser (Some x) (Some y)) (Some w) ≡ lesser (Some x) (lesser (Some y) (Some w))) (sym g) (ap (λ (o : Option Name). lesser o (Some y)) (lesser_lt x y e) ∙ lesser_self y ∙ sym (ap (lesser (Some x)) (lesser_self y) ∙ lesser_lt x y e))
+least_of x y z (Below e f) (Above g h) = ap (λ (o : Option Name). lesser o (Some z)) (lesser_lt x y e) ∙ lesser_gt y z g ∙ sym (ap (lesser (Some x)) (lesser_gt y z g) ∙ lesser_lt x y e)
+least_of x y z (Same e) c = subst (λ (w : Name). lesser (lesser (Some x) (Some w)) (Some z) ≡ lesser (Some x) (lesser (Some w) (Some z))) (sym e) (ap (λ (o : Option Name). lesser o (Some z)) (lesser_self x) ∙ sym (lesser_twice x z))
+least_of x y z (Above e f) (Below g h) = ap (λ (o : Option Name). lesser o (Some z)) (lesser_gt x y e) ∙ sym (ap (lesser (Some x)) (lesser_lt y z g))
+least_of x y z (Above e f) (Same g) = subst (λ (w : Name). lesser (lesser (Some x) (Some y)) (Some w) ≡ lesser (Some x) (lesser (Some y) (Some w))) (sym g) (ap (λ (o : Option Name). lesser o (Some y)) (lesser_gt x y e) ∙ sym (ap (lesser (Some x)) (lesser_self y)))
+least_of x y z (Above e f) (Above g h) = ap (λ (o : Option Name). lesser o (Some z)) (lesser_gt x y e) ∙ lesser_gt x z (above_both x z y f h) ∙ sym (ap (lesser (Some x)) (lesser_gt y z g) ∙ lesser_gt x y e)
+
+pub lesser_lesser : (a b c : Option Name) → lesser (lesser a b) c ≡ lesser a (lesser b c)
+lesser_lesser None b c = refl
+lesser_lesser (Some x) None c = refl
+lesser_lesser (Some x) (Some y) None = go (is_lt (name_cmp y x))
+  where
+    go : (b : Bool) → lesser (cond b (Some y) (Some x)) None ≡ cond b (Some y) (Some x)
+    go true = refl
+    go false = refl
+lesser_lesser (Some x) (Some y) (Some z) = least_of x y z (compare y x) (compare z y)

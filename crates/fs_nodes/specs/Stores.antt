@@ -34,6 +34,11 @@ abbrev pub is_link : Option Link → ℕ → Name → Bool
 is_link None dir name = false
 is_link (Some link) dir name = eqb dir link.dir && same_name name link.name
 
+-- whether it is one of this directory
+abbrev pub is_in : Option Link → ℕ → Bool
+is_in None dir = false
+is_in (Some link) dir = eqb dir link.dir
+
 -- the first place, counted from i, whose node is named by the entry
 abbrev pub kid_from : ℕ → List (Option Node) → ℕ → Name → Option ℕ
 kid_from i [] dir name = None
@@ -93,10 +98,13 @@ IsUnlinked kids n = (dir : ℕ) (name : Name) → kids dir name ≡ Some n → �
 abbrev pub IsParent : Kids → ℕ → ℕ → Type 0
 IsParent kids n dir = (name : Name) × (kids dir name ≡ Some n)
 
--- the kind of a node, and a new node of a kind
+-- the kind of a node, and what a new node of a kind is
 abbrev pub kind_of_shape : Shape → Kind
 kind_of_shape (Dir names) = kinds.Dir
 kind_of_shape (File bytes) = kinds.File
+
+abbrev pub kind_of : Option Shape → Option Kind
+kind_of there = option_map kind_of_shape there
 
 abbrev pub new_shape : Kind → Shape
 new_shape kinds.Dir = Dir []

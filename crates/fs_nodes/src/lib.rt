@@ -6,7 +6,5 @@ pub mod number;
 pub mod places;
 pub mod store;
 
-
-
 pub use number::NodeNo;
-
+pub use store::{NoNode, Store};

@@ -1,11 +1,11 @@
 //! What stands in the place of a number.
 
-ghost use Rattle.std.specs.Prelude.{◌≡◌};
+ghost use Rattle.std.specs.Prelude.{◌≡◌, ◌++◌, ◌∷◌, [], OnOk, OnErr, Some};
 ghost use Rattle.fs_nodes.specs.Edits.{relinked, new_node, with_bytes, handed_out};
 
 use crate::number::NodeNo;
 use fs_names::{Kind, Name};
-use std::alloc::Global;
+use std::alloc::{AllocError, Global};
 use std::marker::Model;
 
 /// The bytes of a file, seen as their list.
@@ -110,4 +110,14 @@ pub fn swap_bytes(place: &mut Option<Node>, bytes: Vec<u8>) -> Vec<u8>
         }) => old.swap(bytes),
         _ => bytes,
     }
+}
+
+/// Adds the place of an empty node that no entry names. After an error the places are as before.
+pub fn add_place(places: &mut Vec<Option<Node>>, kind: Kind) -> Result<(), AllocError>
+    ensures ok { OnOk result (places.new.items ≡ places.old.items ++ Some (new_node kind) ∷ []) }
+    ensures err { OnErr result (places.new.items ≡ places.old.items) }
+{
+    let node = Node::new(*places.allocator(), kind);
+    places.push(Some(node))?;
+    Ok(())
 }
