@@ -1,20 +1,21 @@
 -- What each change of a store does to its graph, and that it keeps what a store keeps.
-use Rattle.std.proofs.Common.{◌≡◌, ℕ, ◌+◌, ◌<◌, ◌≤◌, Bool, true, false, cond, eqb, List, [], ◌∷◌, ◌++◌, Option, Some, None, is_some, IsSome, IsTrue, option_map, IfSome, count_by, set, get_or, length, refl, sym, ap, ap₂, ◌∙◌, arith, subst}
+use Rattle.std.proofs.Common.{◌≡◌, ℕ, ◌<◌, ◌≤◌, false, List, [], ◌∷◌, ◌++◌, Option, Some, None, IsTrue, option_map, IfSome, count_by, set, get_or, length, refl, sym, ap, ◌∙◌, arith, subst}
 use Rattle.std.specs.Prelude.{slice_get}
 use Rattle.std.specs.List.{find}
 use Rattle.std.proofs.lemmas.Option.{slice_get_within, slice_get_read}
 use Rattle.fs_names.specs.Names.{Name}
-use Rattle.fs_names.specs.Shapes.{Shape, Dir, File, names_of, bytes_of, is_there, is_dir, is_file, has_entries}
+use Rattle.fs_names.specs.Shapes.{names_of, bytes_of, is_there, is_dir, is_file, has_entries}
 use Rattle.fs_names.specs.declared.kind.Kind.{Kind}
 use Rattle.fs_nodes.specs.declared.node.Content.{Content}
 use Rattle.fs_nodes.specs.declared.node.Content.TheVariants as contents
 use Rattle.fs_nodes.specs.declared.node.Link.{Link}
 use Rattle.fs_nodes.specs.declared.node.Node.{Node}
 use Rattle.fs_nodes.specs.Graphs.{Graph, then_at, linked_in, unlinked_in, moved_in, reserved_in, released_in, content_in}
-use Rattle.fs_nodes.specs.Stores.{content_of, link_of, content_at, link_at, is_in, kid_in, names_in, shape_with, shape_in, graph_in, new_shape, next_entry, with_kid, is_above, IsUnlinked, IsParent, IsStore}
+use Rattle.fs_nodes.specs.Stores.{content_of, link_of, content_at, link_at, is_in, kid_in, names_in, shape_with, shape_in, graph_in, new_shape, next_entry, with_kid, is_above, IsUnlinked, IsParent, IsNextName, IsStore}
 use Rattle.fs_nodes.specs.Edits.{relinked, new_node, with_bytes, refilled, handed_out, given_back}
 use Rattle.fs_nodes.proofs.PlaceLemmas.{kid_link, names_none, read_within, past_end}
 use Rattle.fs_nodes.proofs.PickLemmas.{count_names}
+use Rattle.fs_nodes.proofs.AscentLemmas.{names_ascend, next_names, no_names_above}
 use Rattle.fs_nodes.proofs.GraphLemmas.{linked_graph, unlinked_graph, moved_graph, reserved_graph, pushed_graph, released_graph, refilled_graph}
 use Rattle.fs_nodes.proofs.StoreLemmas.{place_of_shape, dir_of_shape, file_of_shape, unlinked_place, no_names, store_reserved, store_pushed, store_released, store_refilled, store_linked, store_unlinked, store_moved}
 
@@ -93,9 +94,10 @@ move_makes limit ps n from x to y p q store there found dir free edit =
     let none : link_of (relinked p None) ≡ None = link_content p link None old in
     let new : link_of q ≡ Some next = ap link_of edit ∙ link_content p link (Some next) old in
     let same : content_of q ≡ content_of p = ap content_of edit ∙ relinked_content p (Some next) in
-    let here : content_at ps to ≡ Some contents.Dir = dir_of_shape ps to dir in
-    (moved_graph ps n p (relinked p None) q link next store.found there old none (relinked_content p None) new same (store.of_dir n link (at_of ps n p there ∙ old)) here free,
-     store_moved limit ps n p (relinked p None) q link next store there old none (relinked_content p None) new same here free)
+    let here : content_at ps to ≡ Some contents.Dir = dir_of_shape ps to dir in (
+      moved_graph ps n p (relinked p None) q link next store.found there old none (relinked_content p None) new same (store.of_dir n link (at_of ps n p there ∙ old)) here free,
+      store_moved limit ps n p (relinked p None) q link next store there old none (relinked_content p None) new same here free,
+    )
 
 pub release_makes : (limit : ℕ) (ps : List (Option Node)) (n : ℕ) (p q : Option Node) → IsStore limit ps → slice_get ps n ≡ Some p → IsUnlinked (kid_in ps) n → (n ≡ 0 → ⊥) → has_entries (shape_in ps n) ≡ false → q ≡ None → Makes limit (set ps n q) (released_in n (graph_in ps))
 release_makes limit ps n p q store there unlinked other empty edit =
@@ -145,6 +147,7 @@ names_shape limit ps n store = go (content_at ps n) refl
   where
     none : (c : Option Content) → content_at ps n ≡ c → (c ≡ Some contents.Dir → ⊥) → names_in ps n ≡ []
     none c e other = names_none ps n (λ m link f g. other (sym e ∙ ap (content_at ps) g ∙ store.of_dir m link f))
+
     go : (c : Option Content) → content_at ps n ≡ c → names_of (option_map (shape_with (names_in ps n)) c) ≡ names_in ps n
     go None e = sym (none None e (λ h. (cc)))
     go (Some contents.Dir) e = refl
@@ -197,3 +200,11 @@ move_edit limit ps n from x to y p q store found dir free v edit = move_makes li
 -- a number past the places is not in use
 pub past_shape : (ps : List (Option Node)) (n : ℕ) → length ps ≤ n → shape_in ps n ≡ None
 past_shape ps n h = ap (option_map (shape_with (names_in ps n))) (past_end content_of ps n h)
+
+-- the next entry's name, among those above the given one
+pub next_name_is : (limit : ℕ) (ps : List (Option Node)) (dir : ℕ) (low found : Option Name) → IsStore limit ps → found ≡ find (is_above low) (names_in ps dir) → IsNextName (names_of (shape_in ps dir)) low found
+next_name_is limit ps dir low found store e = subst (λ (names : List Name). IsNextName names low found) (sym (names_shape limit ps dir store)) (go found e)
+  where
+    go : (f : Option Name) → f ≡ find (is_above low) (names_in ps dir) → IsNextName (names_in ps dir) low f
+    go None e = no_names_above low (names_in ps dir) (sym e)
+    go (Some next) e = next_names low None next (names_in ps dir) (names_ascend ps dir) (sym e)

@@ -1,8 +1,8 @@
 -- The graph after a change of one place.
-use Rattle.std.proofs.Common.{◌≡◌, ◌≢◌, ℕ, ◌+◌, ◌<◌, ◌≤◌, Bool, true, false, cond, eqb, ◌&&◌, List, [], ◌∷◌, ◌++◌, Option, Some, None, is_some, option_map, set, length, refl, sym, ap, ap₂, ◌∙◌, arith, subst}
+use Rattle.std.proofs.Common.{◌≡◌, ℕ, Bool, true, false, cond, eqb, List, [], ◌∷◌, ◌++◌, Option, Some, None, is_some, option_map, set, length, refl, sym, ap, ap₂, ◌∙◌}
 use Rattle.std.specs.Prelude.{slice_get}
 use Rattle.std.proofs.lemmas.Option.{slice_get_within}
-use Rattle.fs_names.specs.Names.{Name, same_name, inserted_name, removed_name, has_name}
+use Rattle.fs_names.specs.Names.{Name, inserted_name, removed_name, has_name}
 use Rattle.fs_names.specs.Shapes.{Shape, Dir, File, names_of}
 use Rattle.fs_names.specs.declared.kind.Kind.{Kind}
 use Rattle.fs_names.specs.declared.kind.Kind.TheVariants as kinds
@@ -14,7 +14,7 @@ use Rattle.fs_nodes.specs.Graphs.{Graph, Kids, then_at, set_kid, set_at, linked_
 use Rattle.fs_nodes.specs.Stores.{content_of, link_of, content_at, link_at, is_link, kid_in, with_link, names_in, shape_with, shape_in, graph_in, new_shape}
 use Rattle.fs_nodes.specs.Edits.{new_content, new_node}
 use Rattle.fs_nodes.proofs.NameLemmas.{removed_inserted}
-use Rattle.fs_nodes.proofs.PlaceLemmas.{eqb_true, eqb_refl, link_exact, own_link, kid_linked, kid_same, kid_push, kid_link, names_kid, names_relinked, names_same, names_push, names_none, at_set, at_push, same_set, same_push, past_end, set_back, set_twice, get_set}
+use Rattle.fs_nodes.proofs.PlaceLemmas.{eqb_true, eqb_refl, link_exact, kid_linked, kid_same, kid_push, kid_link, names_kid, names_relinked, names_same, names_push, at_set, at_push, same_set, set_back, set_twice, get_set}
 use mathlib.Core.Path.{fun_ext}
 
 -- a graph by its two parts
@@ -29,6 +29,7 @@ linked_graph ps n p q link there old new same free dir = graph_by (kid_linked ps
     by : (m : ℕ) (b : Bool) → eqb m link.dir ≡ b → option_map (shape_with (cond b (inserted_name link.name (names_in ps m)) (names_in ps m))) (content_at ps m) ≡ cond b (Some (Dir (inserted_name link.name (names_of (shape_in ps link.dir))))) (shape_in ps m)
     by m true e = rw (eqb_true m link.dir e, dir) refl
     by m false e = refl
+
     shapes : (m : ℕ) → shape_in (set ps n q) m ≡ set_at link.dir (Some (Dir (inserted_name link.name (names_of (shape_in ps link.dir))))) (shape_in ps) m
     shapes m = ap₂ (λ (names : List Name) (content : Option Content). option_map (shape_with names) content) (names_relinked ps n p q there old m ∙ ap (λ (l : Option Link). with_link l m (names_in ps m)) new) (same_set content_of ps n p q there same m) ∙ by m (eqb m link.dir) refl
 
@@ -42,8 +43,10 @@ unlinked_linked graph dir x n names free there absent = graph_by kids shapes
         by : (b : Bool) → is_link (Some (record { dir = dir; name = x })) d y ≡ b → cond b None (cond b (Some n) (graph.kid d y)) ≡ graph.kid d y
         by true e = let two : (d ≡ dir) × (y ≡ x) = link_exact (record { dir = dir; name = x }) d y e in sym (ap₂ graph.kid two.0 two.1 ∙ free)
         by false e = refl
+
     old : removed_name x (names_of (set_at dir (Some (Dir (inserted_name x (names_of (graph.shape dir))))) graph.shape dir)) ≡ names
     old = rw (eqb_refl dir, there) (removed_inserted x names absent)
+
     shapes : (m : ℕ) → (unlinked_in dir x (linked_in dir x n graph)).shape m ≡ graph.shape m
     shapes m = by (eqb m dir) refl
       where
@@ -61,12 +64,14 @@ gone ps n p q link found there old new = go (kid_in (set ps n q) link.dir link.n
   where
     own : kid_in ps link.dir link.name ≡ Some n
     own = found n link (ap (λ (o : Option (Option Node)). then_at o link_of) there ∙ old)
+
     by : (m : ℕ) (b : Bool) → eqb m n ≡ b → cond b (link_of q) (link_at ps m) ≡ Some link → ⊥
     by m true e f = let g : ◌≡◌ {A = Option Link} None (Some link) = sym new ∙ f in cc
     by m false e f =
         let g : Some m ≡ Some n = sym (found m link f) ∙ own in
         let h : m ≡ n = cc in
         let k : true ≡ false = sym (eqb_refl n) ∙ ap (λ (z : ℕ). eqb z n) (sym h) ∙ e in cc
+
     go : (o : Option ℕ) → kid_in (set ps n q) link.dir link.name ≡ o → kid_in (set ps n q) link.dir link.name ≡ None
     go None e = e
     go (Some m) e = absurd (by m (eqb m n) refl (sym (at_set link_of ps n q (slice_get_within ps n p there) m) ∙ kid_link (set ps n q) link.dir link.name m e))
@@ -107,6 +112,7 @@ reserved_graph ps n kind there empty = graph_by (kid_same ps n None (Some (new_n
     by : (m : ℕ) (b : Bool) → eqb m n ≡ b → option_map (shape_with (names_in ps m)) (cond b (Some (new_content kind)) (content_at ps m)) ≡ cond b (Some (new_shape kind)) (shape_in ps m)
     by m true e = ap (λ (s : Shape). Some s) (new_is kind (names_in ps m) (ap (names_in ps) (eqb_true m n e) ∙ empty))
     by m false e = refl
+
     shapes : (m : ℕ) → shape_in (set ps n (Some (new_node kind))) m ≡ set_at n (Some (new_shape kind)) (shape_in ps) m
     shapes m = ap₂ (λ (names : List Name) (content : Option Content). option_map (shape_with names) content) (names_same ps n None (Some (new_node kind)) there refl m) (at_set content_of ps n (Some (new_node kind)) (slice_get_within ps n None there) m) ∙ by m (eqb m n) refl
 
@@ -116,6 +122,7 @@ pushed_graph ps kind empty = graph_by (kid_push ps (Some (new_node kind)) refl) 
     by : (m : ℕ) (b : Bool) → eqb m (length ps) ≡ b → option_map (shape_with (names_in ps m)) (cond b (Some (new_content kind)) (content_at ps m)) ≡ cond b (Some (new_shape kind)) (shape_in ps m)
     by m true e = ap (λ (s : Shape). Some s) (new_is kind (names_in ps m) (ap (names_in ps) (eqb_true m (length ps) e) ∙ empty))
     by m false e = refl
+
     shapes : (m : ℕ) → shape_in (ps ++ Some (new_node kind) ∷ []) m ≡ set_at (length ps) (Some (new_shape kind)) (shape_in ps) m
     shapes m = ap₂ (λ (names : List Name) (content : Option Content). option_map (shape_with names) content) (names_push ps (Some (new_node kind)) refl m) (at_push content_of ps (Some (new_node kind)) m) ∙ by m (eqb m (length ps)) refl
 
@@ -126,6 +133,7 @@ released_graph ps n p there old = graph_by (kid_same ps n p None there (sym old)
     by : (m : ℕ) (b : Bool) → eqb m n ≡ b → option_map (shape_with (names_in ps m)) (cond b None (content_at ps m)) ≡ cond b None (shape_in ps m)
     by m true e = refl
     by m false e = refl
+
     shapes : (m : ℕ) → shape_in (set ps n None) m ≡ set_at n None (shape_in ps) m
     shapes m = ap₂ (λ (names : List Name) (content : Option Content). option_map (shape_with names) content) (names_same ps n p None there (sym old) m) (at_set content_of ps n None (slice_get_within ps n p there) m) ∙ by m (eqb m n) refl
 
@@ -136,5 +144,6 @@ refilled_graph ps n p q bytes there same new = graph_by (kid_same ps n p q there
     by : (m : ℕ) (b : Bool) → eqb m n ≡ b → option_map (shape_with (names_in ps m)) (cond b (Some (contents.File bytes)) (content_at ps m)) ≡ cond b (Some (File bytes)) (shape_in ps m)
     by m true e = refl
     by m false e = refl
+
     shapes : (m : ℕ) → shape_in (set ps n q) m ≡ set_at n (Some (File bytes)) (shape_in ps) m
     shapes m = ap₂ (λ (names : List Name) (content : Option Content). option_map (shape_with names) content) (names_same ps n p q there same m) (at_set content_of ps n q (slice_get_within ps n p there) m ∙ ap (λ (c : Option Content). cond (eqb m n) c (content_at ps m)) new) ∙ by m (eqb m n) refl

@@ -4,3 +4,4 @@ pub mod GraphLemmas
 pub mod StoreLemmas
 pub mod PickLemmas
 pub mod EditLemmas
+pub mod AscentLemmas

@@ -1,9 +1,9 @@
 -- Names put into a list in order, taken out, counted and looked for.
-use Rattle.std.proofs.Common.{◌≡◌, ℕ, zero, suc, ◌+◌, Bool, true, false, cond, ◌||◌, List, [], ◌∷◌, length, Option, Some, None, refl, sym, ap, ap₂, subst, ◌∙◌, arith, add-one, Ordering, Less, Equal, Greater}
+use Rattle.std.proofs.Common.{◌≡◌, ◌+◌, Bool, true, false, cond, ◌||◌, List, [], ◌∷◌, length, Option, Some, None, refl, sym, ap, subst, ◌∙◌, arith, Ordering, Less, Equal, Greater}
 use Rattle.std.specs.Ordering.{is_eq, is_lt, ordering_reverse}
 use Rattle.std.specs.List.{find}
 use Rattle.fs_names.specs.Names.{Name, name_cmp, same_name, inserted_name, removed_name, has_name}
-use Rattle.fs_names.proofs.Lemmas.{name_total, name_exact, same_name_exact, same_name_refl}
+use Rattle.fs_names.proofs.Lemmas.{name_total, name_exact, same_name_refl}
 use Rattle.fs_nodes.specs.Stores.{is_above}
 use Rattle.fs_nodes.specs.Picks.{lesser}
 
@@ -22,13 +22,13 @@ compare x y = go (name_cmp x y) refl
     go Greater e = Above e (name_total.antisymm y x ∙ ap ordering_reverse e)
 
 -- where a name goes into a list that begins with another one
-inserted_below : (x y : Name) (ys : List Name) → name_cmp x y ≡ Less → inserted_name x (y ∷ ys) ≡ x ∷ y ∷ ys
+pub inserted_below : (x y : Name) (ys : List Name) → name_cmp x y ≡ Less → inserted_name x (y ∷ ys) ≡ x ∷ y ∷ ys
 inserted_below x y ys e = rw e refl
 
-inserted_same : (x : Name) (ys : List Name) → inserted_name x (x ∷ ys) ≡ x ∷ ys
+pub inserted_same : (x : Name) (ys : List Name) → inserted_name x (x ∷ ys) ≡ x ∷ ys
 inserted_same x ys = rw (same_name_refl x) refl
 
-inserted_above : (x y : Name) (ys : List Name) → name_cmp x y ≡ Greater → inserted_name x (y ∷ ys) ≡ y ∷ inserted_name x ys
+pub inserted_above : (x y : Name) (ys : List Name) → name_cmp x y ≡ Greater → inserted_name x (y ∷ ys) ≡ y ∷ inserted_name x ys
 inserted_above x y ys e = rw e refl
 
 -- what is above a name that is above another one is above that
@@ -111,20 +111,23 @@ has_inserted y x (z ∷ zs) = go (compare x z) (has_inserted y x zs)
     first : (b c : Bool) → cond b true c ≡ (b || c)
     first true c = refl
     first false c = refl
+
     swap : (b c d : Bool) → cond b true (c || d) ≡ (c || cond b true d)
     swap true true d = refl
     swap true false d = refl
     swap false c d = refl
+
     twice : (b d : Bool) → cond b true d ≡ (b || cond b true d)
     twice true d = refl
     twice false d = refl
+
     go : Compared x z → has_name y (inserted_name x zs) ≡ (same_name y x || has_name y zs) → has_name y (inserted_name x (z ∷ zs)) ≡ (same_name y x || has_name y (z ∷ zs))
     go (Below e f) _ = ap (has_name y) (inserted_below x z zs e) ∙ first (same_name y x) (has_name y (z ∷ zs))
     go (Same e) _ = subst (λ (w : Name). has_name y (inserted_name w (z ∷ zs)) ≡ (same_name y w || has_name y (z ∷ zs))) (sym e) (ap (has_name y) (inserted_same z zs) ∙ twice (same_name y z) (has_name y zs))
     go (Above e f) rest = ap (has_name y) (inserted_above x z zs e) ∙ ap (cond (same_name y z) true) rest ∙ swap (same_name y z) (same_name y x) (has_name y zs)
 
 -- what is above a name is below no name that is above it
-above_more : (low : Option Name) (x z : Name) → is_above low x ≡ true → name_cmp x z ≡ Less → is_above low z ≡ true
+pub above_more : (low : Option Name) (x z : Name) → is_above low x ≡ true → name_cmp x z ≡ Less → is_above low z ≡ true
 above_more None x z h e = refl
 above_more (Some low) x z h e = go (name_cmp low x) refl h
   where
@@ -149,12 +152,15 @@ find_inserted low x (z ∷ zs) = go (compare x z) (find_inserted low x zs)
     below : (b : Bool) → is_above low x ≡ b → name_cmp x z ≡ Less → name_cmp z x ≡ Greater → cond b (Some x) (find (is_above low) (z ∷ zs)) ≡ lesser (cond b (Some x) None) (find (is_above low) (z ∷ zs))
     below true h e f = rw (above_more low x z h e, f) refl
     below false h e f = refl
+
     same : (b : Bool) → cond b (Some z) (find (is_above low) zs) ≡ lesser (cond b (Some z) None) (cond b (Some z) (find (is_above low) zs))
     same true = sym (either_way (is_lt (name_cmp z z)) (Some z))
     same false = refl
+
     above : (b : Bool) → is_above low z ≡ b → name_cmp z x ≡ Less → find (is_above low) (inserted_name x zs) ≡ lesser (cond (is_above low x) (Some x) None) (find (is_above low) zs) → cond b (Some z) (find (is_above low) (inserted_name x zs)) ≡ lesser (cond (is_above low x) (Some x) None) (cond b (Some z) (find (is_above low) zs))
     above true h f rest = rw (above_more low z x h f, f) refl
     above false h f rest = rest
+
     go : Compared x z → find (is_above low) (inserted_name x zs) ≡ lesser (cond (is_above low x) (Some x) None) (find (is_above low) zs) → find (is_above low) (inserted_name x (z ∷ zs)) ≡ lesser (cond (is_above low x) (Some x) None) (find (is_above low) (z ∷ zs))
     go (Below e f) _ = ap (find (is_above low)) (inserted_below x z zs e) ∙ below (is_above low x) refl e f
     go (Same e) _ = subst (λ (w : Name). find (is_above low) (inserted_name w (z ∷ zs)) ≡ lesser (cond (is_above low w) (Some w) None) (find (is_above low) (z ∷ zs))) (sym e) (ap (find (is_above low)) (inserted_same z zs) ∙ same (is_above low z))

@@ -1,15 +1,15 @@
 -- The least name, looked for place by place; and how many entries a directory has.
-use Rattle.std.proofs.Common.{◌≡◌, ℕ, zero, suc, ◌+◌, ◌<◌, ◌≤◌, Bool, true, false, cond, eqb, ◌&&◌, List, [], ◌∷◌, Option, Some, None, is_some, option_map, IfSome, get_or, drop, length, count_by, refl, sym, ap, ap₂, ◌∙◌, arith, subst}
+use Rattle.std.proofs.Common.{◌≡◌, ℕ, zero, suc, ◌+◌, ◌<◌, Bool, true, false, cond, eqb, ◌&&◌, List, [], ◌∷◌, Option, Some, None, is_some, option_map, IfSome, get_or, drop, length, count_by, refl, sym, ap, ap₂, ◌∙◌, arith, subst}
 use Rattle.std.specs.Prelude.{slice_get}
 use Rattle.std.specs.Ordering.{is_lt}
 use Rattle.std.specs.List.{find}
-use Rattle.std.proofs.lemmas.List.{at_drop_more, at_drop_all}
+use Rattle.std.proofs.lemmas.List.{at_drop_more}
 use Rattle.std.proofs.lemmas.List.Sums.{sum_by-cons}
 use Rattle.fs_names.specs.Names.{Name, name_cmp, inserted_name, has_name}
 use Rattle.fs_nodes.specs.declared.node.Link.{Link}
 use Rattle.fs_nodes.specs.declared.node.Node.{Node}
 use Rattle.fs_nodes.specs.Graphs.{then_at}
-use Rattle.fs_nodes.specs.Stores.{link_of, link_at, is_link, is_in, kid_in, with_link, names_in, is_above}
+use Rattle.fs_nodes.specs.Stores.{link_of, link_at, is_in, kid_in, with_link, names_in, is_above}
 use Rattle.fs_nodes.specs.Picks.{lesser, lesser_entry, name_above}
 use Rattle.fs_nodes.proofs.NameLemmas.{find_inserted, lesser_lesser, length_inserted}
 use Rattle.fs_nodes.proofs.PlaceLemmas.{eqb_true, both_true, names_kid, kid_link}
@@ -90,6 +90,7 @@ count_apart (p ∷ ps) d apart = sum_by-cons (λ (place : Option Node). cond (is
         by (Some m) g =
             let there : link_at ps m ≡ Some link = kid_link ps d link.name m g ∙ ap (λ (a : ℕ). Some (record { dir = a; name = link.name })) f in
             let h : 0 ≡ suc m = apart 0 (suc m) link e there in absurd (omega arith)
+
     go : (l : Option Link) → link_of p ≡ l → count_by (λ place. is_in (link_of place) d) ps ≡ length (names_in ps d) → cond (is_in l d) 1 0 + count_by (λ place. is_in (link_of place) d) ps ≡ length (with_link l d (names_in ps d))
     go None e rest = omega arith
     go (Some link) e rest = by (eqb d link.dir) refl

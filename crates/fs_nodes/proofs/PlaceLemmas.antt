@@ -2,12 +2,11 @@
 use Rattle.std.proofs.Common.{◌≡◌, ℕ, suc, zero, ◌+◌, ◌<◌, ◌≤◌, Bool, true, false, cond, eqb, ◌&&◌, ◌||◌, List, [], ◌∷◌, ◌++◌, Option, Some, None, is_some, set, drop, get_or, length, refl, sym, ap, ap₂, ◌∙◌, arith, subst, zero-add}
 use Rattle.std.specs.Prelude.{slice_get}
 use Rattle.std.proofs.lemmas.List.{at_drop_more, at_drop_all}
-use Rattle.std.proofs.lemmas.Option.{slice_get_within}
 use Rattle.fs_names.specs.Names.{Name, same_name, inserted_name, has_name}
 use Rattle.fs_names.proofs.Lemmas.{same_name_exact, same_name_refl}
 use Rattle.fs_nodes.specs.declared.node.Link.{Link}
 use Rattle.fs_nodes.specs.declared.node.Node.{Node}
-use Rattle.fs_nodes.specs.Graphs.{Kids, then_at, set_kid, set_at}
+use Rattle.fs_nodes.specs.Graphs.{then_at, set_kid, set_at}
 use Rattle.fs_nodes.specs.Stores.{link_of, link_at, is_link, kid_from, kid_in, with_link, names_in}
 use Rattle.fs_nodes.proofs.NameLemmas.{inserted_inserted, has_inserted}
 

@@ -1,9 +1,9 @@
 -- What a store keeps, and how many of its numbers are in use.
-use Rattle.std.proofs.Common.{◌≡◌, ◌≢◌, ℕ, zero, suc, ◌+◌, ◌-◌, ◌<◌, ◌≤◌, Bool, true, false, cond, eqb, ◌&&◌, List, [], ◌∷◌, ◌++◌, Option, Some, None, is_some, option_map, set, length, refl, sym, ap, ap₂, ◌∙◌, arith, subst, length-set, length-append}
+use Rattle.std.proofs.Common.{◌≡◌, ℕ, zero, suc, ◌+◌, ◌-◌, ◌<◌, ◌≤◌, Bool, true, false, cond, eqb, List, [], ◌∷◌, ◌++◌, Option, Some, None, is_some, option_map, set, length, refl, sym, ap, ap₂, ◌∙◌, arith, subst, length-set, length-append}
 use Rattle.std.specs.Prelude.{slice_get, IsTrue}
 use Rattle.std.proofs.lemmas.Option.{slice_get_within}
-use Rattle.fs_names.specs.Names.{Name, same_name, has_name}
-use Rattle.fs_names.specs.Shapes.{Shape, Dir, File, names_of, is_there, is_dir, is_file, has_any, has_entries}
+use Rattle.fs_names.specs.Names.{Name, has_name}
+use Rattle.fs_names.specs.Shapes.{Shape, is_there, is_dir, is_file, has_any, has_entries}
 use Rattle.fs_names.specs.declared.kind.Kind.{Kind}
 use Rattle.fs_nodes.specs.declared.node.Content.{Content}
 use Rattle.fs_nodes.specs.declared.node.Content.TheVariants as contents
@@ -12,8 +12,8 @@ use Rattle.fs_nodes.specs.declared.node.Node.{Node}
 use Rattle.fs_nodes.specs.Graphs.{Graph, then_at, set_kid, set_at, unlinked_in}
 use Rattle.fs_nodes.specs.Stores.{content_of, link_of, content_at, link_at, is_link, kid_in, names_in, shape_with, shape_in, graph_in, used_below, IsUnlinked, IsStore}
 use Rattle.fs_nodes.specs.Edits.{new_node, IsTaken}
-use Rattle.fs_nodes.proofs.PlaceLemmas.{eqb_true, eqb_refl, own_link, link_exact, kid_linked, kid_same, kid_push, kid_link, names_kid, names_none, at_set, at_push, same_set, same_push, past_end, read_within, set_twice, get_set}
-use Rattle.fs_nodes.proofs.GraphLemmas.{gone, free_still, unlinked_graph}
+use Rattle.fs_nodes.proofs.PlaceLemmas.{eqb_true, eqb_refl, own_link, link_exact, kid_linked, kid_same, kid_push, names_kid, names_none, at_set, at_push, same_set, same_push, past_end, read_within, set_twice, get_set}
+use Rattle.fs_nodes.proofs.GraphLemmas.{free_still, unlinked_graph}
 
 -- what the shape of a number says of its place
 pub place_of_shape : (ps : List (Option Node)) (n : ℕ) → IsTrue (is_there (shape_in ps n)) → (p : Option Node) × (content : Content) × (slice_get ps n ≡ Some p) × (content_of p ≡ Some content)
@@ -54,12 +54,12 @@ no_names limit ps n store e = names_none ps n (λ m link f g. (let h : ◌≡◌
 -- the invariant after a change that keeps the entries, and the directories that they are in
 kept : (limit : ℕ) (ps qs : List (Option Node)) → IsStore limit ps → length qs ≤ limit → ((m : ℕ) → link_at qs m ≡ link_at ps m) → ((d : ℕ) (y : Name) → kid_in qs d y ≡ kid_in ps d y) → content_at qs 0 ≡ Some contents.Dir → ((m : ℕ) (link : Link) → link_at ps m ≡ Some link → content_at qs link.dir ≡ Some contents.Dir) → IsStore limit qs
 kept limit ps qs store within links kids root dirs = record {
-    within = within;
-    root = root;
-    root_unlinked = links 0 ∙ store.root_unlinked;
-    found = λ m link e. kids link.dir link.name ∙ store.found m link (sym (links m) ∙ e);
-    of_dir = λ m link e. dirs m link (sym (links m) ∙ e);
-  }
+  within = within;
+  root = root;
+  root_unlinked = links 0 ∙ store.root_unlinked;
+  found = λ m link e. kids link.dir link.name ∙ store.found m link (sym (links m) ∙ e);
+  of_dir = λ m link e. dirs m link (sym (links m) ∙ e);
+}
 
 -- a number comes into use
 still_dir : (ps : List (Option Node)) (n m : ℕ) (c : Option Content) → content_at ps n ≡ None → content_at ps m ≡ Some contents.Dir → set_at n c (content_at ps) m ≡ Some contents.Dir
@@ -75,20 +75,20 @@ store_reserved limit ps n kind store there =
     let within : n < length ps = slice_get_within ps n None there in
     let contents : (m : ℕ) → content_at (set ps n (Some (new_node kind))) m ≡ set_at n (content_of (Some (new_node kind))) (content_at ps) m = at_set content_of ps n (Some (new_node kind)) within in
     kept limit ps (set ps n (Some (new_node kind))) store (let h : length ps ≤ limit = store.within in omega (arith, length-set {A = Option Node}))
-      (same_set link_of ps n None (Some (new_node kind)) there refl)
-      (kid_same ps n None (Some (new_node kind)) there refl)
-      (contents 0 ∙ still_dir ps n 0 (content_of (Some (new_node kind))) free store.root)
-      (λ m link e. contents link.dir ∙ still_dir ps n link.dir (content_of (Some (new_node kind))) free (store.of_dir m link e))
+    (same_set link_of ps n None (Some (new_node kind)) there refl)
+    (kid_same ps n None (Some (new_node kind)) there refl)
+    (contents 0 ∙ still_dir ps n 0 (content_of (Some (new_node kind))) free store.root)
+    (λ m link e. contents link.dir ∙ still_dir ps n link.dir (content_of (Some (new_node kind))) free (store.of_dir m link e))
 
 pub store_pushed : (limit : ℕ) (ps : List (Option Node)) (kind : Kind) → IsStore limit ps → length ps < limit → IsStore limit (ps ++ Some (new_node kind) ∷ [])
 store_pushed limit ps kind store h =
     let free : content_at ps (length ps) ≡ None = past_end content_of ps (length ps) (omega arith) in
     let contents : (m : ℕ) → content_at (ps ++ Some (new_node kind) ∷ []) m ≡ set_at (length ps) (content_of (Some (new_node kind))) (content_at ps) m = at_push content_of ps (Some (new_node kind)) in
     kept limit ps (ps ++ Some (new_node kind) ∷ []) store (omega (arith, length-append {A = Option Node}))
-      (same_push link_of ps (Some (new_node kind)) refl)
-      (kid_push ps (Some (new_node kind)) refl)
-      (contents 0 ∙ still_dir ps (length ps) 0 (content_of (Some (new_node kind))) free store.root)
-      (λ m link e. contents link.dir ∙ still_dir ps (length ps) link.dir (content_of (Some (new_node kind))) free (store.of_dir m link e))
+    (same_push link_of ps (Some (new_node kind)) refl)
+    (kid_push ps (Some (new_node kind)) refl)
+    (contents 0 ∙ still_dir ps (length ps) 0 (content_of (Some (new_node kind))) free store.root)
+    (λ m link e. contents link.dir ∙ still_dir ps (length ps) link.dir (content_of (Some (new_node kind))) free (store.of_dir m link e))
 
 -- a number leaves use
 other_dir : (ps : List (Option Node)) (n m : ℕ) (c : Option Content) → (m ≡ n → ⊥) → content_at ps m ≡ Some contents.Dir → set_at n c (content_at ps) m ≡ Some contents.Dir
@@ -115,10 +115,10 @@ pub store_released : (limit : ℕ) (ps : List (Option Node)) (n : ℕ) (p : Opti
 store_released limit ps n p store there old other empty =
     let contents : (m : ℕ) → content_at (set ps n None) m ≡ set_at n None (content_at ps) m = at_set content_of ps n None (slice_get_within ps n p there) in
     kept limit ps (set ps n None) store (let h : length ps ≤ limit = store.within in omega (arith, length-set {A = Option Node}))
-      (same_set link_of ps n p None there (sym old))
-      (kid_same ps n p None there (sym old))
-      (contents 0 ∙ other_dir ps n 0 None (λ e. other (sym e)) store.root)
-      (λ m link e. contents link.dir ∙ other_dir ps n link.dir None (not_above limit ps n m link store empty e) (store.of_dir m link e))
+    (same_set link_of ps n p None there (sym old))
+    (kid_same ps n p None there (sym old))
+    (contents 0 ∙ other_dir ps n 0 None (λ e. other (sym e)) store.root)
+    (λ m link e. contents link.dir ∙ other_dir ps n link.dir None (not_above limit ps n m link store empty e) (store.of_dir m link e))
 
 -- a file's bytes change
 pub store_refilled : (limit : ℕ) (ps : List (Option Node)) (n : ℕ) (p q : Option Node) (old : List ℕ) → IsStore limit ps → slice_get ps n ≡ Some p → content_of p ≡ Some (contents.File old) → link_of q ≡ link_of p → IsStore limit (set ps n q)
@@ -127,33 +127,37 @@ store_refilled limit ps n p q old store there file same =
     let here : content_at ps n ≡ Some (contents.File old) = ap (λ (o : Option (Option Node)). then_at o content_of) there ∙ file in
     let other : (m : ℕ) → content_at ps m ≡ Some contents.Dir → m ≡ n → ⊥ = λ m e f. (let h : ◌≡◌ {A = Option Content} (Some (contents.File old)) (Some contents.Dir) = sym here ∙ sym (ap (content_at ps) f) ∙ e in cc) in
     kept limit ps (set ps n q) store (let h : length ps ≤ limit = store.within in omega (arith, length-set {A = Option Node}))
-      (same_set link_of ps n p q there same)
-      (kid_same ps n p q there same)
-      (read 0 ∙ other_dir ps n 0 (content_of q) (other 0 store.root) store.root)
-      (λ m link e. read link.dir ∙ other_dir ps n link.dir (content_of q) (other link.dir (store.of_dir m link e)) (store.of_dir m link e))
+    (same_set link_of ps n p q there same)
+    (kid_same ps n p q there same)
+    (read 0 ∙ other_dir ps n 0 (content_of q) (other 0 store.root) store.root)
+    (λ m link e. read link.dir ∙ other_dir ps n link.dir (content_of q) (other link.dir (store.of_dir m link e)) (store.of_dir m link e))
 
 -- a node that no entry named is named by one
 pub store_linked : (limit : ℕ) (ps : List (Option Node)) (n : ℕ) (p q : Option Node) (link : Link) → IsStore limit ps → slice_get ps n ≡ Some p → link_of p ≡ None → link_of q ≡ Some link → content_of q ≡ content_of p → (n ≡ 0 → ⊥) → kid_in ps link.dir link.name ≡ None → content_at ps link.dir ≡ Some contents.Dir → IsStore limit (set ps n q)
 store_linked limit ps n p q link store there old new same other free dir = record {
-    within = (let h : length ps ≤ limit = store.within in omega (arith, length-set {A = Option Node}));
-    root = read 0 ∙ store.root;
-    root_unlinked = links 0 ∙ root (eqb 0 n) refl;
-    found = λ m l e. kid_linked ps n p q link free there old new l.dir l.name ∙ found m l (eqb m n) refl (sym (links m) ∙ e);
-    of_dir = λ m l e. read l.dir ∙ of_dir m l (eqb m n) (sym (links m) ∙ e);
-  }
+  within = (let h : length ps ≤ limit = store.within in omega (arith, length-set {A = Option Node}));
+  root = read 0 ∙ store.root;
+  root_unlinked = links 0 ∙ root (eqb 0 n) refl;
+  found = λ m l e. kid_linked ps n p q link free there old new l.dir l.name ∙ found m l (eqb m n) refl (sym (links m) ∙ e);
+  of_dir = λ m l e. read l.dir ∙ of_dir m l (eqb m n) (sym (links m) ∙ e);
+}
   where
     read : (m : ℕ) → content_at (set ps n q) m ≡ content_at ps m
     read = same_set content_of ps n p q there same
+
     links : (m : ℕ) → link_at (set ps n q) m ≡ set_at n (link_of q) (link_at ps) m
     links = at_set link_of ps n q (slice_get_within ps n p there)
+
     root : (b : Bool) → eqb 0 n ≡ b → cond b (link_of q) (link_at ps 0) ≡ None
     root true e = absurd (other (sym (eqb_true 0 n e)))
     root false e = store.root_unlinked
+
     by : (m : ℕ) (l : Link) (b : Bool) → is_link (Some link) l.dir l.name ≡ b → link_at ps m ≡ Some l → cond b (Some n) (kid_in ps l.dir l.name) ≡ Some m
     by m l true e f =
         let two : (l.dir ≡ link.dir) × (l.name ≡ link.name) = link_exact link l.dir l.name e in
         let h : ◌≡◌ {A = Option ℕ} None (Some m) = sym free ∙ ap₂ (kid_in ps) (sym two.0) (sym two.1) ∙ store.found m l f in absurd (cc)
     by m l false e f = store.found m l f
+
     found : (m : ℕ) (l : Link) (b : Bool) → eqb m n ≡ b → cond b (link_of q) (link_at ps m) ≡ Some l → set_kid link.dir link.name (Some n) (kid_in ps) l.dir l.name ≡ Some m
     found m l true e f =
         let g : Some link ≡ Some l = sym new ∙ f in
@@ -161,6 +165,7 @@ store_linked limit ps n p q link store there old new same other free dir = recor
         let k : is_link (Some link) l.dir l.name ≡ true = subst (λ (z : Link). is_link (Some link) z.dir z.name ≡ true) h (own_link link) in
         rw k (ap (λ (z : ℕ). Some z) (sym (eqb_true m n e)))
     found m l false e f = by m l (is_link (Some link) l.dir l.name) refl f
+
     of_dir : (m : ℕ) (l : Link) (b : Bool) → cond b (link_of q) (link_at ps m) ≡ Some l → content_at ps l.dir ≡ Some contents.Dir
     of_dir m l true f =
         let g : Some link ≡ Some l = sym new ∙ f in
@@ -171,24 +176,29 @@ store_linked limit ps n p q link store there old new same other free dir = recor
 -- a node loses its entry
 pub store_unlinked : (limit : ℕ) (ps : List (Option Node)) (n : ℕ) (p q : Option Node) (link : Link) → IsStore limit ps → slice_get ps n ≡ Some p → link_of p ≡ Some link → link_of q ≡ None → content_of q ≡ content_of p → IsStore limit (set ps n q)
 store_unlinked limit ps n p q link store there old new same = record {
-    within = (let h : length ps ≤ limit = store.within in omega (arith, length-set {A = Option Node}));
-    root = read 0 ∙ store.root;
-    root_unlinked = links 0 ∙ root (eqb 0 n);
-    found = λ m l e. ap (λ (g : Graph). g.kid l.dir l.name) graph ∙ found m l (eqb m n) refl (sym (links m) ∙ e);
-    of_dir = λ m l e. read l.dir ∙ of_dir m l (eqb m n) (sym (links m) ∙ e);
-  }
+  within = (let h : length ps ≤ limit = store.within in omega (arith, length-set {A = Option Node}));
+  root = read 0 ∙ store.root;
+  root_unlinked = links 0 ∙ root (eqb 0 n);
+  found = λ m l e. ap (λ (g : Graph). g.kid l.dir l.name) graph ∙ found m l (eqb m n) refl (sym (links m) ∙ e);
+  of_dir = λ m l e. read l.dir ∙ of_dir m l (eqb m n) (sym (links m) ∙ e);
+}
   where
     own : link_at ps n ≡ Some link
     own = ap (λ (o : Option (Option Node)). then_at o link_of) there ∙ old
+
     graph : graph_in (set ps n q) ≡ unlinked_in link.dir link.name (graph_in ps)
     graph = unlinked_graph ps n p q link store.found there old new same (store.of_dir n link own)
+
     read : (m : ℕ) → content_at (set ps n q) m ≡ content_at ps m
     read = same_set content_of ps n p q there same
+
     links : (m : ℕ) → link_at (set ps n q) m ≡ set_at n (link_of q) (link_at ps) m
     links = at_set link_of ps n q (slice_get_within ps n p there)
+
     root : (b : Bool) → cond b (link_of q) (link_at ps 0) ≡ None
     root true = new
     root false = store.root_unlinked
+
     by : (m : ℕ) (l : Link) (b : Bool) → is_link (Some link) l.dir l.name ≡ b → eqb m n ≡ false → link_at ps m ≡ Some l → cond b None (kid_in ps l.dir l.name) ≡ Some m
     by m l true e d f =
         let two : (l.dir ≡ link.dir) × (l.name ≡ link.name) = link_exact link l.dir l.name e in
@@ -196,9 +206,11 @@ store_unlinked limit ps n p q link store there old new same = record {
         let k : m ≡ n = cc in
         let z : true ≡ false = sym (eqb_refl n) ∙ ap (λ (i : ℕ). eqb i n) (sym k) ∙ d in absurd (cc)
     by m l false e d f = store.found m l f
+
     found : (m : ℕ) (l : Link) (b : Bool) → eqb m n ≡ b → cond b (link_of q) (link_at ps m) ≡ Some l → set_kid link.dir link.name None (kid_in ps) l.dir l.name ≡ Some m
     found m l true e f = let g : ◌≡◌ {A = Option Link} None (Some l) = sym new ∙ f in absurd (cc)
     found m l false e f = by m l (is_link (Some link) l.dir l.name) refl e f
+
     of_dir : (m : ℕ) (l : Link) (b : Bool) → cond b (link_of q) (link_at ps m) ≡ Some l → content_at ps l.dir ≡ Some contents.Dir
     of_dir m l true f = let g : ◌≡◌ {A = Option Link} None (Some l) = sym new ∙ f in absurd (cc)
     of_dir m l false f = store.of_dir m l f
@@ -210,9 +222,9 @@ store_moved limit ps n p q r link new store there old none same to same' dir fre
     let own : link_at ps n ≡ Some link = ap (λ (o : Option (Option Node)). then_at o link_of) there ∙ old in
     let other : n ≡ 0 → ⊥ = λ e. (let h : ◌≡◌ {A = Option Link} None (Some link) = sym store.root_unlinked ∙ ap (link_at ps) (sym e) ∙ own in cc) in
     subst (IsStore limit) (set_twice ps n r q)
-      (store_linked limit (set ps n q) n q r new (store_unlinked limit ps n p q link store there old none same) (get_set ps n p q there) none to (same' ∙ sym same) other
-        (free_still ps n p q link new store.found there old none same (store.of_dir n link own) free)
-        (same_set content_of ps n p q there same new.dir ∙ dir))
+    (store_linked limit (set ps n q) n q r new (store_unlinked limit ps n p q link store there old none same) (get_set ps n p q there) none to (same' ∙ sym same) other
+    (free_still ps n p q link new store.found there old none same (store.of_dir n link own) free)
+    (same_set content_of ps n p q there same new.dir ∙ dir))
 
 -- as many numbers are in use as there are, exactly where each is
 used_least : (shapes : ℕ → Option Shape) (n : ℕ) → used_below shapes n ≤ n

@@ -1,7 +1,7 @@
 -- The graph that a store is.
-use Rattle.std.specs.Prelude.{ℕ, zero, suc, ◌≡◌, ◌+◌, ◌≤◌, ◌<◌, Bool, true, false, eqb, ◌&&◌, if◌then◌else◌, List, [], ◌∷◌, Option, Some, None, slice_get, length, option_map, IsTrue}
+use Rattle.std.specs.Prelude.{ℕ, zero, suc, ◌≡◌, ◌+◌, ◌≤◌, Bool, true, false, eqb, ◌&&◌, if◌then◌else◌, List, [], ◌∷◌, Option, Some, None, slice_get, length, option_map}
 use Rattle.std.specs.Ordering.{is_lt}
-use Rattle.std.specs.List.{find}
+use Rattle.std.specs.List.{find, filter}
 use Rattle.fs_names.specs.Names.{Name, name_cmp, same_name, inserted_name}
 use Rattle.fs_names.specs.Shapes.{Shape, Dir, File, is_there, names_of}
 use Rattle.fs_names.specs.declared.kind.Kind.{Kind}
@@ -123,6 +123,14 @@ with_kid kids (Some name) = option_map (λ n. (name, n)) (kids name)
 -- the first entry of a directory above a name
 abbrev pub next_entry : Graph → ℕ → Option Name → Option (Name × ℕ)
 next_entry graph dir low = with_kid (graph.kid dir) (find (is_above low) (names_of (graph.shape dir)))
+
+-- the names above a name, and what the next of them is: they begin with it, and go on with those above it
+abbrev pub names_above : Option Name → List Name → List Name
+names_above low names = filter (is_above low) names
+
+abbrev pub IsNextName : List Name → Option Name → Option Name → Type 0
+IsNextName names low None = names_above low names ≡ []
+IsNextName names low (Some next) = names_above low names ≡ next ∷ names_above (Some next) names
 
 -- what a store keeps: no more places than its limit, the root, and each node's entry leads to it from a directory
 pub record IsStore (limit : ℕ) (places : List (Option Node)) : Type 0 where

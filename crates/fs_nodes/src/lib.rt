@@ -1,9 +1,9 @@
 //! Nodes under numbers: directories and files, each named by at most one entry.
 #![tactic(auto)]
 
-pub mod node;
+mod node;
 pub mod number;
-pub mod places;
+mod places;
 pub mod store;
 
 pub use number::NodeNo;

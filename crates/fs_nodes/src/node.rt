@@ -104,10 +104,12 @@ pub fn swap_bytes(place: &mut Option<Node>, bytes: Vec<u8>) -> Vec<u8>
     ensures old { result.items ≡ handed_out place.old bytes.items }
 {
     match place {
-        Some(Node {
-            content: Content::File(old),
-            ..
-        }) => old.swap(bytes),
+        Some(
+            Node {
+                content: Content::File(old),
+                ..
+            },
+        ) => old.swap(bytes),
         _ => bytes,
     }
 }

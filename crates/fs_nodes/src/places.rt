@@ -36,9 +36,12 @@ fn is_entry(place: &Option<Node>, dir: NodeNo, name: &Name) -> bool
     ensures { result ≡ is_link (link_of place.now) dir name.now }
 {
     match place {
-        Some(Node {
-            link: Some(link), ..
-        }) => dir == link.dir && name.same(&link.name),
+        Some(
+            Node {
+                link: Some(link),
+                ..
+            },
+        ) => dir == link.dir && name.same(&link.name),
         _ => false,
     }
 }
@@ -71,9 +74,12 @@ fn is_in_dir(place: &Option<Node>, dir: NodeNo) -> bool
     ensures { result ≡ is_in (link_of place.now) dir }
 {
     match place {
-        Some(Node {
-            link: Some(link), ..
-        }) => dir == link.dir,
+        Some(
+            Node {
+                link: Some(link),
+                ..
+            },
+        ) => dir == link.dir,
         _ => false,
     }
 }
@@ -100,15 +106,22 @@ fn name_in<'a>(place: &'a Option<Node>, dir: NodeNo, low: Option<&Name>) -> Opti
     ensures { option_copied result ≡ name_above (link_of place.now) dir (option_copied low.entry) }
 {
     match place {
-        Some(Node {
-            link: Some(link), ..
-        }) if dir == link.dir && is_higher(&link.name, low) => Some(&link.name),
+        Some(
+            Node {
+                link: Some(link),
+                ..
+            },
+        ) if dir == link.dir && is_higher(&link.name, low) => Some(&link.name),
         _ => None,
     }
 }
 
 /// The lesser of an entry found before and of a name with its node.
-fn lesser_of(best: Option<(Name, NodeNo)>, next: Option<&Name>, node: NodeNo) -> Option<(Name, NodeNo)>
+fn lesser_of(
+    best: Option<(Name, NodeNo)>,
+    next: Option<&Name>,
+    node: NodeNo,
+) -> Option<(Name, NodeNo)>
     ensures { result ≡ lesser_entry best (option_copied next.entry) node }
 {
     let Some(name) = next else { return best };

@@ -1,14 +1,14 @@
 //! The store of nodes.
 
-ghost use Rattle.std.specs.Prelude.{◌≡◌, ◌≢◌, ◌≤◌, ◌<◌, ◌↔◌, IsTrue, false, IfOk, OnErr, IfSome, IsSome, MatchOption, length, None, Some, Ok, Err};
+ghost use Rattle.std.specs.Prelude.{◌≡◌, ◌≢◌, ◌≤◌, ◌<◌, ◌↔◌, IsTrue, false, IfOk, OnErr, IfSome, IsSome, MatchOption, length, option_map, None, Some, Ok, Err};
 ghost use Rattle.std.specs.Option.{option_copied};
 ghost use Rattle.fs_names.specs.Shapes.{is_there, is_dir, is_file, has_entries, names_of, bytes_of};
 ghost use Rattle.fs_nodes.specs.Graphs.{empty_graph, linked_in, unlinked_in, moved_in, reserved_in, released_in, content_in};
 
-use crate::node::{add_place, put, relink, swap_bytes, Content, Link, Node};
+use crate::node::{Content, Link, Node, add_place, put, relink, swap_bytes};
 use crate::number::NodeNo;
 use crate::places::{content_at, entries_in, find_in, free_in, least_in, link_at};
-use fs_names::{Kind, Name, NODE_LIMIT};
+use fs_names::{Kind, NODE_LIMIT, Name};
 use std::alloc::{AllocError, Global};
 use std::marker::Model;
 
@@ -42,7 +42,7 @@ impl Model for Store {
 }
 
 impl Store {
-    ghost use Rattle.fs_nodes.specs.Stores.{graph_of, kid, shape, in_use, room, IsUnlinked, IsParent, kind_of, new_shape, next_entry};
+    ghost use Rattle.fs_nodes.specs.Stores.{graph_of, kid, shape, in_use, room, IsUnlinked, IsParent, kind_of, new_shape, next_entry, IsNextName};
 
     /// The root alone, in a store for at most `limit` nodes. The only error is a lack of memory.
     pub fn new(alloc: Global, limit: usize) -> Result<Store, AllocError>
@@ -220,7 +220,10 @@ impl Store {
     /// The entry of the least name of a directory, or of the least one above the given name.
     /// Where the number is no directory's, there is none.
     pub fn next_name(&self, dir: NodeNo, low: Option<&Name>) -> Option<(Name, NodeNo)>
-        ensures { result ≡ next_entry (graph_of self.now) dir (option_copied low.entry) }
+        ensures entry { result ≡ next_entry (graph_of self.now) dir (option_copied low.entry) }
+
+        // So the names are all told, in order, when each answer is the next call's `low`.
+        ensures rest { IsNextName (names_of (shape self.now dir)) (option_copied low.entry) (option_map (λ entry. entry.0) result) }
     {
         least_in(&self.places, dir, low)
     }

@@ -1,8 +1,8 @@
-use Rattle.std.proofs.Common.{◌≡◌, ℕ, ◌<◌, ◌≤◌, List, Option, Some, None, set, length, sym, refl, ◌∙◌, arith}
+use Rattle.std.proofs.Common.{◌≡◌, ℕ, ◌<◌, Some, None, set, length, arith}
 use Rattle.std.specs.Prelude.{slice_get}
 use Rattle.std.proofs.lemmas.Option.{slice_get_within}
 use Rattle.fs_nodes.specs.Graphs.{reserved_in}
-use Rattle.fs_nodes.specs.Stores.{shape_in, graph_in, new_shape}
+use Rattle.fs_nodes.specs.Stores.{graph_in, new_shape}
 use Rattle.fs_nodes.specs.Edits.{IsTaken}
 use Rattle.fs_nodes.proofs.StoreLemmas.{used_places, free_place}
 use Rattle.fs_nodes.proofs.EditLemmas.{Makes, reserve_makes}
