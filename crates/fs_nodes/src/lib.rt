@@ -5,6 +5,8 @@ mod node;
 pub mod number;
 mod places;
 pub mod store;
+#[cfg(test)]
+mod tests;
 
 pub use number::NodeNo;
 pub use store::{NoNode, Store};

@@ -68,6 +68,27 @@ impl Store {
         }
     }
 
+    /// Whether the number is in use.
+    pub fn is_used(&self, node: NodeNo) -> bool
+        ensures { result ≡ is_there (shape self.now node) }
+    {
+        content_at(&self.places, node).is_some()
+    }
+
+    /// Whether the number is a directory's.
+    pub fn is_dir(&self, node: NodeNo) -> bool
+        ensures { result ≡ is_dir (shape self.now node) }
+    {
+        matches!(content_at(&self.places, node), Some(Content::Dir))
+    }
+
+    /// Whether the number is a file's.
+    pub fn is_file(&self, node: NodeNo) -> bool
+        ensures { result ≡ is_file (shape self.now node) }
+    {
+        matches!(content_at(&self.places, node), Some(Content::File(_)))
+    }
+
     /// The node that an entry of a directory names. Where the number is no directory's, there is none.
     pub fn find(&self, dir: NodeNo, name: &Name) -> Option<NodeNo>
         ensures { result ≡ kid self.now dir name.now }
