@@ -6,6 +6,14 @@ use fs_names::CallNo;
 use fs_nodes::NodeNo;
 use std::alloc::AllocError;
 
+/// None where the call may not be made.
+fn take(holders: &mut Holders, node: NodeNo, call: CallNo) -> Option<Result<(), HeldBy>> {
+    if node.get() >= holders.room() || holders.holder(node) == Some(call) {
+        return None;
+    }
+    Some(holders.take(node, call))
+}
+
 #[test]
 fn one_holder_at_a_time(rt: HostRuntime) -> Result<(), AllocError> {
     let node = NodeNo::new(1);
@@ -16,12 +24,12 @@ fn one_holder_at_a_time(rt: HostRuntime) -> Result<(), AllocError> {
     holders.make_room(1)?;
     assert_eq!(rt; holders.room(), 2);
     assert_eq!(rt; holders.holder(node), None);
-    assert!(rt; node.get() < holders.room());
-    assert_eq!(rt; holders.take(node, first), Ok(()));
-    assert_eq!(rt; holders.take(node, second), Err(HeldBy(first)));
+    assert_eq!(rt; take(&mut holders, node, first), Some(Ok(())));
+    assert_eq!(rt; take(&mut holders, node, second), Some(Err(HeldBy(first))));
     assert_eq!(rt; holders.holder(node), Some(first));
+    assert!(rt; holders.holder(node).is_some());
     holders.let_go(node);
-    assert_eq!(rt; holders.take(node, second), Ok(()));
+    assert_eq!(rt; take(&mut holders, node, second), Some(Ok(())));
     assert_eq!(rt; holders.holder(NodeNo::new(2)), None);
     Ok(())
 }
