@@ -6,5 +6,5 @@ pub mod holders;
 #[cfg(test)]
 mod tests;
 
-pub use held::{Held, HELD_LIMIT};
+pub use held::{HELD_LIMIT, Held};
 pub use holders::{HeldBy, Holders};

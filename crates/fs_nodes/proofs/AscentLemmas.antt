@@ -3,7 +3,7 @@ use Rattle.std.proofs.Common.{◌≡◌, ℕ, Bool, true, false, cond, eqb, List
 use Rattle.std.specs.Ordering.{is_lt}
 use Rattle.std.specs.List.{find, filter}
 use Rattle.std.proofs.lemmas.Cmp.{tied_itself}
-use Rattle.fs_names.specs.Names.{Name, name_cmp, inserted_name}
+use Rattle.fs_names.specs.Names.{Name, inserted_name}
 use Rattle.fs_names.proofs.Lemmas.{name_total}
 use Rattle.fs_nodes.specs.declared.node.Link.{Link}
 use Rattle.fs_nodes.specs.declared.node.Node.{Node}
@@ -15,6 +15,7 @@ abbrev pub Ascends : Option Name → List Name → Type 0
 Ascends low [] = Unit {0}
 Ascends low (x ∷ names) = (is_above low x ≡ true) × Ascends (Some x) names
 
+-- a name put into an ascending list leaves it ascending
 inserted_ascends : (low : Option Name) (x : Name) (names : List Name) → Ascends low names → is_above low x ≡ true → Ascends low (inserted_name x names)
 inserted_ascends low x [] a h = (h, tt)
 inserted_ascends low x (z ∷ zs) a h = go (compare x z) (λ g. inserted_ascends (Some z) x zs a.1 g)
@@ -46,6 +47,7 @@ above_above low x z h g = go (compare x z)
     go (Same e) = subst (λ (w : Name). is_above low w ≡ true) e h
     go (Above e f) = let k : is_above (Some x) z ≡ false = ap is_lt e in absurd (cc)
 
+-- no name is above itself
 not_itself : (x : Name) → is_above (Some x) x ≡ false
 not_itself x = ap is_lt (tied_itself name_total x)
 
@@ -54,10 +56,12 @@ all_above : (low : Option Name) (x : Name) (names : List Name) → Ascends (Some
 all_above low x [] a h = refl
 all_above low x (z ∷ zs) a h = let g : is_above low z ≡ true = above_above low x z h a.0 in rw g (ap (λ (l : List Name). z ∷ l) (all_above low z zs a.1 g))
 
+-- all names of an ascending list are above the name that it ascends from
 all_after : (x : Name) (names : List Name) → Ascends (Some x) names → filter (is_above (Some x)) names ≡ names
 all_after x [] a = refl
 all_after x (z ∷ zs) a = rw a.0 (ap (λ (l : List Name). z ∷ l) (all_above (Some x) z zs a.1 a.0))
 
+-- what is found in an ascending list is above the name that it ascends from
 found_above : (low base : Option Name) (x : Name) (names : List Name) → Ascends base names → find (is_above low) names ≡ Some x → is_above base x ≡ true
 found_above low base x [] a e = absurd (cc)
 found_above low base x (z ∷ zs) a e = go (is_above low z) e (λ f. found_above low (Some z) x zs a.1 f)
@@ -66,6 +70,7 @@ found_above low base x (z ∷ zs) a e = go (is_above low z) e (λ f. found_above
     go true f rest = let g : z ≡ x = cc in subst (λ (w : Name). is_above base w ≡ true) g a.0
     go false f rest = above_above base z x a.0 (rest f)
 
+-- of two names at most one is above the other
 below_found : (x z : Name) → is_above (Some z) x ≡ true → is_above (Some x) z ≡ false
 below_found x z h = go (compare x z)
   where
@@ -83,7 +88,7 @@ next_names low base x (z ∷ zs) a e = go (is_above low z) refl e (λ f. next_na
     go true h f rest =
         let g : z ≡ x = cc in
         subst (λ (w : Name). z ∷ filter (is_above low) zs ≡ w ∷ filter (is_above (Some w)) (z ∷ zs)) g
-          (ap (λ (l : List Name). z ∷ l) (all_above low z zs a.1 h ∙ sym (all_after z zs a.1) ∙ ap (λ (b : Bool). cond b (z ∷ filter (is_above (Some z)) zs) (filter (is_above (Some z)) zs)) (sym (not_itself z))))
+        (ap (λ (l : List Name). z ∷ l) (all_above low z zs a.1 h ∙ sym (all_after z zs a.1) ∙ ap (λ (b : Bool). cond b (z ∷ filter (is_above (Some z)) zs) (filter (is_above (Some z)) zs)) (sym (not_itself z))))
     go false h f rest = rest f ∙ ap (λ (b : Bool). x ∷ cond b (z ∷ filter (is_above (Some x)) zs) (filter (is_above (Some x)) zs)) (sym (below_found x z (found_above low (Some z) x zs a.1 f)))
 
 -- where none is above, there are no names above

@@ -76,6 +76,7 @@ gone ps n p q link found there old new = go (kid_in (set ps n q) link.dir link.n
     go None e = e
     go (Some m) e = absurd (by m (eqb m n) refl (sym (at_set link_of ps n q (slice_get_within ps n p there) m) ∙ kid_link (set ps n q) link.dir link.name m e))
 
+-- a node loses its entry
 pub unlinked_graph : (ps : List (Option Node)) (n : ℕ) (p q : Option Node) (link : Link) → IsFound ps → slice_get ps n ≡ Some p → link_of p ≡ Some link → link_of q ≡ None → content_of q ≡ content_of p → content_at ps link.dir ≡ Some contents.Dir
     → graph_in (set ps n q) ≡ unlinked_in link.dir link.name (graph_in ps)
 unlinked_graph ps n p q link found there old new same dir =
@@ -93,6 +94,7 @@ free_still ps n p q link new found there old none same dir free = ap (λ (g : Gr
     go true = refl
     go false = free
 
+-- a node goes from one entry to another
 pub moved_graph : (ps : List (Option Node)) (n : ℕ) (p q r : Option Node) (link new : Link) → IsFound ps → slice_get ps n ≡ Some p → link_of p ≡ Some link → link_of q ≡ None → content_of q ≡ content_of p → link_of r ≡ Some new → content_of r ≡ content_of p
     → content_at ps link.dir ≡ Some contents.Dir → content_at ps new.dir ≡ Some contents.Dir → kid_in ps new.dir new.name ≡ None
     → graph_in (set ps n r) ≡ moved_in link.dir link.name new.dir new.name n (graph_in ps)
@@ -106,6 +108,7 @@ new_is : (kind : Kind) (names : List Name) → names ≡ [] → shape_with names
 new_is kinds.Dir names e = ap (λ (l : List Name). Dir l) e
 new_is kinds.File names e = refl
 
+-- a number with a free place comes into use
 pub reserved_graph : (ps : List (Option Node)) (n : ℕ) (kind : Kind) → slice_get ps n ≡ Some None → names_in ps n ≡ [] → graph_in (set ps n (Some (new_node kind))) ≡ reserved_in n (new_shape kind) (graph_in ps)
 reserved_graph ps n kind there empty = graph_by (kid_same ps n None (Some (new_node kind)) there refl) shapes
   where
@@ -116,6 +119,7 @@ reserved_graph ps n kind there empty = graph_by (kid_same ps n None (Some (new_n
     shapes : (m : ℕ) → shape_in (set ps n (Some (new_node kind))) m ≡ set_at n (Some (new_shape kind)) (shape_in ps) m
     shapes m = ap₂ (λ (names : List Name) (content : Option Content). option_map (shape_with names) content) (names_same ps n None (Some (new_node kind)) there refl m) (at_set content_of ps n (Some (new_node kind)) (slice_get_within ps n None there) m) ∙ by m (eqb m n) refl
 
+-- the number after the last place comes into use
 pub pushed_graph : (ps : List (Option Node)) (kind : Kind) → names_in ps (length ps) ≡ [] → graph_in (ps ++ Some (new_node kind) ∷ []) ≡ reserved_in (length ps) (new_shape kind) (graph_in ps)
 pushed_graph ps kind empty = graph_by (kid_push ps (Some (new_node kind)) refl) shapes
   where

@@ -23,6 +23,7 @@ place_of_shape ps n h = go (content_at ps n) refl h
     go None e h = absurd (cc)
     go (Some content) e h = let r : (p : Option Node) × (slice_get ps n ≡ Some p) × (content_of p ≡ Some content) = read_within content_of ps n content e in (r.0, content, r.1, r.2)
 
+-- a directory's
 pub dir_of_shape : (ps : List (Option Node)) (n : ℕ) → IsTrue (is_dir (shape_in ps n)) → content_at ps n ≡ Some contents.Dir
 dir_of_shape ps n h = go (content_at ps n) h
   where
@@ -31,6 +32,7 @@ dir_of_shape ps n h = go (content_at ps n) h
     go (Some contents.Dir) h = refl
     go (Some (contents.File bytes)) h = absurd (cc)
 
+-- a file's
 pub file_of_shape : (ps : List (Option Node)) (n : ℕ) → IsTrue (is_file (shape_in ps n)) → (bytes : List ℕ) × (content_at ps n ≡ Some (contents.File bytes))
 file_of_shape ps n h = go (content_at ps n) h
   where
@@ -69,6 +71,7 @@ still_dir ps n m c free dir = go (eqb m n) refl
     go true e = let h : ◌≡◌ {A = Option Content} None (Some contents.Dir) = sym free ∙ sym (ap (content_at ps) (eqb_true m n e)) ∙ dir in absurd (cc)
     go false e = dir
 
+-- a number with a free place comes into use
 pub store_reserved : (limit : ℕ) (ps : List (Option Node)) (n : ℕ) (kind : Kind) → IsStore limit ps → slice_get ps n ≡ Some None → IsStore limit (set ps n (Some (new_node kind)))
 store_reserved limit ps n kind store there =
     let free : content_at ps n ≡ None = ap (λ (o : Option (Option Node)). then_at o content_of) there in
@@ -80,6 +83,7 @@ store_reserved limit ps n kind store there =
     (contents 0 ∙ still_dir ps n 0 (content_of (Some (new_node kind))) free store.root)
     (λ m link e. contents link.dir ∙ still_dir ps n link.dir (content_of (Some (new_node kind))) free (store.of_dir m link e))
 
+-- the number after the last place comes into use
 pub store_pushed : (limit : ℕ) (ps : List (Option Node)) (kind : Kind) → IsStore limit ps → length ps < limit → IsStore limit (ps ++ Some (new_node kind) ∷ [])
 store_pushed limit ps kind store h =
     let free : content_at ps (length ps) ≡ None = past_end content_of ps (length ps) (omega arith) in
@@ -111,6 +115,7 @@ not_above limit ps n m link store empty e f =
     go [] h g = cc
     go (x ∷ names) h g = cc
 
+-- a number leaves use
 pub store_released : (limit : ℕ) (ps : List (Option Node)) (n : ℕ) (p : Option Node) → IsStore limit ps → slice_get ps n ≡ Some p → link_of p ≡ None → (n ≡ 0 → ⊥) → has_entries (shape_in ps n) ≡ false → IsStore limit (set ps n None)
 store_released limit ps n p store there old other empty =
     let contents : (m : ℕ) → content_at (set ps n None) m ≡ set_at n None (content_at ps) m = at_set content_of ps n None (slice_get_within ps n p there) in
@@ -235,10 +240,12 @@ used_least shapes (suc n) = go (is_there (shapes n)) (used_least shapes n)
     go true h = omega arith
     go false h = omega arith
 
+-- where each of the first numbers is in use, all are counted
 pub used_all : (shapes : ℕ → Option Shape) (n : ℕ) → ((k : ℕ) → k < n → is_there (shapes k) ≡ true) → used_below shapes n ≡ n
 used_all shapes zero h = refl
 used_all shapes (suc n) h = let e : is_there (shapes n) ≡ true = h n (omega arith) in let f : used_below shapes n ≡ n = used_all shapes n (λ k g. h k (omega arith)) in rw e (omega arith)
 
+-- and the other way round
 pub used_each : (shapes : ℕ → Option Shape) (n : ℕ) → used_below shapes n ≡ n → (k : ℕ) → k < n → is_there (shapes k) ≡ true
 used_each shapes zero e k h = absurd (omega arith)
 used_each shapes (suc n) e k h = go (is_there (shapes n)) refl (used_least shapes n) e (λ f. used_each shapes n f k)
@@ -256,6 +263,7 @@ used_past : (shapes : ℕ → Option Shape) (n k : ℕ) → ((m : ℕ) → n ≤
 used_past shapes n zero h = ap (used_below shapes) (let e : 0 + n ≡ n = omega arith in e)
 used_past shapes n (suc k) h = let e : is_there (shapes (k + n)) ≡ false = h (k + n) (omega arith) in let s : suc k + n ≡ suc (k + n) = omega arith in rw (s, e) (used_past shapes n k h)
 
+-- a taken place is a number in use
 taken_there : (ps : List (Option Node)) (n : ℕ) → IsTaken (slice_get ps n) → is_there (shape_in ps n) ≡ true
 taken_there ps n h = go (slice_get ps n) h
   where
@@ -264,6 +272,7 @@ taken_there ps n h = go (slice_get ps n) h
     go (Some None) h = absurd h
     go (Some (Some node)) h = refl
 
+-- a place that holds nothing is none
 not_there : (ps : List (Option Node)) (n : ℕ) → content_at ps n ≡ None → is_there (shape_in ps n) ≡ false
 not_there ps n e = ap (λ (c : Option Content). is_there (option_map (shape_with (names_in ps n)) c)) e
 

@@ -1,5 +1,4 @@
-use Rattle.std.proofs.Common.{◌≡◌, sym, ◌∙◌}
-use Rattle.fs_locks.specs.Held.{without}
+use Rattle.std.proofs.Common.{sym, ◌∙◌}
 use Rattle.fs_locks.proofs.HeldLemmas.{without_at, without_none}
 use Rattle.fs_locks.proofs.held.Held.remove.Goals as goal
 
