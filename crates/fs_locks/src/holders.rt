@@ -1,0 +1,101 @@
+//! Which call holds which node.
+
+ghost use Rattle.std.specs.Prelude.{◌≡◌, ◌≢◌, ◌<◌, ◌↔◌, max, IsOk, IsSome, IfErr, OnOk, OnErr, Some, None};
+ghost use Rattle.fs_nodes.specs.Graphs.{set_at};
+
+use fs_names::CallNo;
+use fs_nodes::NodeNo;
+use std::alloc::{AllocError, Global};
+use std::marker::Model;
+
+/// The call that holds a node which another call would take.
+#[derive(Clone, Copy, Debug, PartialEq, Eq)]
+pub struct HeldBy(pub CallNo);
+
+/// The finite map from nodes to the calls that hold them: a node is held by one call at most.
+/// Room is made before: the nodes with a number below it can be taken. Only `make_room` takes memory.
+#[derive(Drop)]
+pub struct Holders {
+    holders: Vec<Option<CallNo>>,
+}
+
+impl Model for Holders {
+    ghost use Rattle.fs_locks.specs.Holding.{Holding};
+    ghost use Rattle.std.specs.Prelude.{ℕ, List, Option};
+
+    ghost Value = { List (Option ℕ) };
+
+    ghost view = { λ h. h.holders.items };
+}
+
+fn set(place: &mut Option<CallNo>, call: Option<CallNo>)
+    ensures { place.new ≡ call }
+{
+    *place = call;
+}
+
+impl Holders {
+    ghost use Rattle.fs_locks.specs.Holding.{holder, room};
+
+    /// No node is held, and there is no room. It takes no memory.
+    pub fn new(alloc: Global) -> Holders
+        ensures holders { holder result ≡ λ n. None }
+        ensures room { room result ≡ 0 }
+    {
+        Holders {
+            holders: Vec::new(alloc),
+        }
+    }
+
+    /// Makes room for the nodes below `count`. After an error nothing has changed; the only one is a lack of memory.
+    pub fn make_room(&mut self, count: usize) -> Result<(), AllocError>
+        ensures room { OnOk result (room self.new ≡ max (room self.old) count) }
+        ensures holders { OnOk result (holder self.new ≡ holder self.old) }
+        ensures err { OnErr result (self.new ≡ self.old) }
+    {
+        if count > self.holders.len() {
+            self.holders.resize(count, None)?;
+        }
+        Ok(())
+    }
+
+    /// The call takes the node, unless another call holds it: then nothing changes.
+    pub fn take(&mut self, node: NodeNo, call: CallNo) -> Result<(), HeldBy>
+        requires within { node < room self.old }
+        requires other { holder self.old node ≢ Some call }
+        ensures free { IsOk result ↔ (holder self.old node ≡ None) }
+        ensures ok { OnOk result (holder self.new ≡ set_at node (Some call) (holder self.old)) }
+        ensures held { IfErr result (λ by. holder self.old node ≡ Some by.0) }
+        ensures err { OnErr result (self.new ≡ self.old) }
+        ensures room { room self.new ≡ room self.old }
+    {
+        if let Some(holder) = self.holders[node.get()] {
+            return Err(HeldBy(holder));
+        }
+        set(&mut self.holders[node.get()], Some(call));
+        Ok(())
+    }
+
+    /// The node is let go.
+    pub fn let_go(&mut self, node: NodeNo)
+        requires { IsSome (holder self.old node) }
+        ensures holders { holder self.new ≡ set_at node None (holder self.old) }
+        ensures room { room self.new ≡ room self.old }
+    {
+        set(&mut self.holders[node.get()], None);
+    }
+
+    /// The call that holds the node. Where there is no room for its number, there is none.
+    pub fn holder(&self, node: NodeNo) -> Option<CallNo>
+        ensures { result ≡ holder self.now node }
+    {
+        self.holders.get(node.get()).copied().flatten()
+    }
+
+    /// The nodes with a number below it can be taken.
+    pub fn room(&self) -> usize
+        ensures { result ≡ room self.now }
+    {
+        self.holders.len()
+    }
+}

@@ -1,0 +1,5 @@
+pub mod Graphs
+pub mod Places
+pub mod Stores
+pub mod Edits
+pub mod Picks
