@@ -1,5 +1,5 @@
 -- What holds of the definitions: laws, each proved as the contract of a function of the module `laws`.
-use Rattle.std.specs.Prelude.{◌≡◌, List, [], ◌∷◌, ◌++◌, Option, Some, None, if◌then◌else◌}
+use Rattle.std.specs.Prelude.{◌≡◌, List, ◌∷◌, ◌++◌, Option, Some, None, if◌then◌else◌}
 use Rattle.fs_names.specs.Names.{Name}
 use Rattle.fs_names.specs.Keys.{Key, same_key, after_prefix}
 use Rattle.fs_seq.specs.Tree.{Tree, Node, Dir, look, IsTree}

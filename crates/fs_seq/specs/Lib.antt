@@ -3,5 +3,9 @@ pub mod Shapes
 pub mod Errors
 pub mod Replies
 pub mod Outcomes
+pub mod Forms
+pub mod Maps
+pub mod Rows
+pub mod Changes
 pub mod Laws
 pub mod Examples

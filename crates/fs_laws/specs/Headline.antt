@@ -1,0 +1,18 @@
+-- The linearization theorem.
+use Rattle.std.specs.Prelude.{ℕ, ◌≡◌, List, Option, Some, None}
+use Rattle.fs_names.specs.Shapes.{Shape}
+use Rattle.fs_seq.specs.Changes.{play_from, root_tree}
+use Rattle.fs_seq.specs.Maps.{Map}
+use Rattle.fs_nodes.specs.Graphs.{spell}
+use Rattle.fs_journal.specs.declared.entry.Entry.{Entry}
+use Rattle.fs_laws.specs.Books.{IsLawful, start, commits_of}
+use Rattle.fs_laws.specs.States.{State}
+
+-- no call is under way
+abbrev pub IsIdle : State → Type 0
+IsIdle state = (c : ℕ) → state.ops c ≡ None
+
+-- the timeline is well formed and each returned reply is the sequential tree's; where no call is under way, the nodes spell that tree
+pub record Headline (state : State) : Type 0 where
+  pub lawful : IsLawful start state.timeline
+  pub spelled : IsIdle state → spell state.graph ≡ play_from root_tree (commits_of start.call state.timeline)

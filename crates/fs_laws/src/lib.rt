@@ -1,0 +1,2 @@
+//! The machine of AtomFS as relations, and the linearization theorem of all its runs.
+#![tactic(auto)]
