@@ -1,6 +1,6 @@
 -- What holds of timelines and verdicts: laws, each proved as the contract of a function of the module `laws`.
 use Rattle.std.specs.Prelude.{◌≡◌, ℕ, ◌-◌, List, [], ◌∷◌, ◌++◌, ◌↔◌, take}
-use Rattle.fs_journal.specs.Timeline.{IsLawful}
+use Rattle.fs_journal.specs.Timeline.{IsNext, IsAnswered, IsWellFormed, IsLawful}
 use Rattle.fs_journal.specs.Verdicts.{verdict}
 use Rattle.fs_journal.specs.declared.entry.Entry.{Entry}
 use Rattle.fs_journal.specs.declared.verdict.Verdict.TheVariants.{Lawful, Fault}
@@ -9,6 +9,13 @@ use Rattle.fs_journal.specs.declared.verdict.FaultKind.{FaultKind}
 -- a lawful timeline stays lawful when its last entry is taken away
 abbrev pub LawfulWithoutTheLast : Type 0
 LawfulWithoutTheLast = (es : List Entry) (last : Entry) → IsLawful (es ++ last ∷ []) → IsLawful es
+
+-- a timeline with one more entry is well formed, and lawful, exactly where it was so before and the entry fits
+abbrev pub WellFormedAppended : Type 0
+WellFormedAppended = (es : List Entry) (e : Entry) → IsWellFormed (es ++ e ∷ []) ↔ (IsWellFormed es × IsNext es e)
+
+abbrev pub LawfulAppended : Type 0
+LawfulAppended = (es : List Entry) (e : Entry) → IsLawful (es ++ e ∷ []) ↔ (IsLawful es × IsNext es e × IsAnswered es e)
 
 -- the verdict is Lawful exactly on lawful timelines
 abbrev pub LawfulIsLawful : Type 0

@@ -1,4 +1,5 @@
 pub mod Timeline
+pub mod Kept
 pub mod Verdicts
 pub mod Laws
 pub mod Examples

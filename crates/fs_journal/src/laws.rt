@@ -1,10 +1,21 @@
 //! What holds of the definitions. Each function's contract is a law, and its body is empty.
 
-ghost use Rattle.fs_journal.specs.Laws.{LawfulWithoutTheLast, LawfulIsLawful, FaultsAreFirst};
+ghost use Rattle.fs_journal.specs.Laws.{LawfulWithoutTheLast, WellFormedAppended, LawfulAppended, LawfulIsLawful, FaultsAreFirst};
 
 /// A lawful timeline stays lawful when its last entry is taken away.
 pub fn lawful_without_the_last()
     ensures { LawfulWithoutTheLast }
+{}
+
+/// With one more entry a timeline is well formed exactly where it was so before and the entry may come next.
+pub fn well_formed_appended()
+    ensures { WellFormedAppended }
+{}
+
+/// With one more entry a timeline is lawful exactly where it was so before, the entry may come next, and a reply in it
+/// is the one that is due.
+pub fn lawful_appended()
+    ensures { LawfulAppended }
 {}
 
 /// The verdict is `Lawful` exactly on lawful timelines.

@@ -4,7 +4,9 @@
 pub mod entry;
 pub mod examples;
 pub mod laws;
+pub mod timeline;
 pub mod verdict;
 
 pub use entry::Entry;
+pub use timeline::Timeline;
 pub use verdict::{FaultKind, Verdict};
