@@ -2,8 +2,6 @@
 use Rattle.std.proofs.Common.{◌≡◌, ℕ, Bool, true, false, ◌&&◌, ◌==◌, List, [], ◌∷◌, if◌then◌else◌, nat_eq, refl, sym, ap, ◌∙◌, subst}
 use Rattle.std.proofs.lemmas.Bool.{eqb-true, eq-eqb, and_parts, and_from}
 use lib.Pointwise.{pointwise}
-use Rattle.fs_names.specs.Names.{Name, same_name}
-use Rattle.fs_names.proofs.Lemmas.{same_name_exact, same_name_refl}
 use Rattle.fs_names.specs.declared.kind.Kind.{Kind}
 use Rattle.fs_names.specs.declared.kind.Kind.TheVariants as kind
 use Rattle.fs_seq.specs.Replies.{same_kind, number_of, same_bytes, same_names, same_reply}
@@ -26,6 +24,12 @@ pointwise_exact E exact (x ∷ xs) (y ∷ ys) h =
 pointwise_refl : {A : Type 0} (E : A → A → Bool) → ((x : A) → E x x ≡ true) → (xs : List A) → pointwise E xs xs ≡ true
 pointwise_refl E same [] = refl
 pointwise_refl E same (x ∷ xs) = and_from _ _ (same x) (pointwise_refl E same xs)
+
+same_bytes_exact : (xs ys : List ℕ) → same_bytes xs ys ≡ true → xs ≡ ys
+same_bytes_exact = pointwise_exact nat_eq eqb-true
+
+same_bytes_refl : (xs : List ℕ) → same_bytes xs xs ≡ true
+same_bytes_refl = pointwise_refl nat_eq (λ x. eq-eqb x x refl)
 
 same_kind_exact : (a b : Kind) → same_kind a b ≡ true → a ≡ b
 same_kind_exact kind.Dir kind.Dir h = refl
@@ -74,8 +78,8 @@ same_reply_exact (Stat k n) (Stat l m) h =
     let kinds = same_kind_exact k l parts.0 in
     let sizes = eqb-true n m parts.1 in
     cc
-same_reply_exact (Names xs) (Names ys) h = ap Names (pointwise_exact same_name same_name_exact xs ys h)
-same_reply_exact (Bytes xs) (Bytes ys) h = ap Bytes (pointwise_exact nat_eq eqb-true xs ys h)
+same_reply_exact (Names xs) (Names ys) h = ap Names (pointwise_exact same_bytes same_bytes_exact xs ys h)
+same_reply_exact (Bytes xs) (Bytes ys) h = ap Bytes (same_bytes_exact xs ys h)
 same_reply_exact (Wrote n) (Wrote m) h = ap Wrote (eqb-true n m h)
 same_reply_exact (Failed e) (Failed f) h = ap Failed (number_of_exact e f (eqb-true _ _ h))
 same_reply_exact _ _ h = absurd (cc)
@@ -84,7 +88,7 @@ same_reply_exact _ _ h = absurd (cc)
 pub same_reply_refl : (a : Reply) → same_reply a a ≡ true
 same_reply_refl Done = refl
 same_reply_refl (Stat k n) = and_from _ _ (same_kind_refl k) (eq-eqb n n refl)
-same_reply_refl (Names xs) = pointwise_refl same_name same_name_refl xs
-same_reply_refl (Bytes xs) = pointwise_refl nat_eq (λ x. eq-eqb x x refl) xs
+same_reply_refl (Names xs) = pointwise_refl same_bytes same_bytes_refl xs
+same_reply_refl (Bytes xs) = same_bytes_refl xs
 same_reply_refl (Wrote n) = eq-eqb n n refl
 same_reply_refl (Failed e) = eq-eqb _ _ refl

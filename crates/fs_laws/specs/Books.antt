@@ -1,13 +1,14 @@
 -- What is known after some entries of a timeline, and which entry may come next.
-use Rattle.std.specs.Prelude.{ℕ, ◌≡◌, ◌+◌, Bool, true, false, cond, eqb, List, [], ◌∷◌, ◌++◌, Option, Some, None}
+use Rattle.std.specs.Prelude.{ℕ, ◌≡◌, ◌+◌, Bool, true, false, List, [], ◌∷◌, Option, Some, None}
 use Rattle.fs_names.specs.Shapes.{Shape}
 use Rattle.fs_seq.specs.Changes.{reply, after, root_tree}
 use Rattle.fs_seq.specs.Forms.{form}
 use Rattle.fs_seq.specs.declared.call.Call.{Call}
+use Rattle.fs_journal.specs.declared.entry.Entry.{Entry}
+use Rattle.fs_journal.specs.declared.entry.Entry.TheVariants.{Begin, Commit, Return}
 use Rattle.fs_nodes.specs.Graphs.{set_at}
 use Rattle.fs_seq.specs.Maps.{Map}
 use Rattle.fs_seq.specs.declared.reply.Reply.{Reply}
-use Rattle.fs_nodes.specs.Graphs.{set_at}
 
 -- how many calls began, and how many committed
 abbrev pub begins : List Entry → ℕ

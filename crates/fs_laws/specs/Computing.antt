@@ -1,18 +1,14 @@
 -- A step and a begin that compute, for worked examples: the first number that isn't in use is reserved.
-use Rattle.std.specs.Prelude.{ℕ, zero, suc, ◌≡◌, ◌+◌, Bool, true, false, cond, eqb, not, ◌&&◌, ◌||◌, List, [], ◌∷◌, ◌++◌, Option, Some, None, length, nat_lt, nat_le}
-use Rattle.fs_names.specs.Keys.{Key}
+use Rattle.std.specs.Prelude.{ℕ, zero, suc, ◌+◌, Bool, true, false, cond, eqb, not, ◌&&◌, ◌||◌, List, [], ◌∷◌, ◌++◌, Option, Some, None, length}
 use Rattle.fs_names.specs.Names.{Name}
 use Rattle.fs_names.specs.Shapes.{Shape, names_of}
 use Rattle.fs_seq.specs.Forms.{form, reserves}
 use Rattle.fs_seq.specs.declared.call.Call.{Call}
-use Rattle.fs_seq.specs.declared.errno.Errno.TheVariants.{Enoent}
-use Rattle.fs_seq.specs.declared.reply.Reply.{Reply}
-use Rattle.fs_seq.specs.declared.reply.Reply.TheVariants.{Failed}
-use Rattle.fs_nodes.specs.Graphs.{Graph, Kids, reserved_in}
+use Rattle.fs_nodes.specs.Graphs.{Graph, reserved_in}
 use Rattle.fs_ops.specs.Moves.{Move, Takes, Leaves, Finishes, Ends, next}
-use Rattle.fs_ops.specs.Records.{Stand, Phase, Walking, Placed, Finished, Record, Records}
+use Rattle.fs_ops.specs.Records.{Stand, Phase, Walking, Placed, Finished, Record}
 use Rattle.fs_laws.specs.Books.{begins}
-use Rattle.fs_laws.specs.States.{State, began, Begun, Begun_as, Seat_busy, Full, Stepped, Idle, Took, Busy, LetGo, Helped, Committed, CarriedOut, Returned, taking, letting_go, helping, carrying, committing, returning}
+use Rattle.fs_laws.specs.States.{State, began, Stepped, Idle, Took, Busy, LetGo, Helped, Committed, CarriedOut, Returned, taking, letting_go, helping, carrying, committing, returning}
 
 -- whether n is reached from s by at most so many names
 abbrev pub any_kid : (ℕ → Bool) → (Name → Option ℕ) → List Name → Bool

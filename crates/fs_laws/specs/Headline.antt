@@ -1,10 +1,7 @@
 -- The linearization theorem.
-use Rattle.std.specs.Prelude.{ℕ, ◌≡◌, List, Option, Some, None}
-use Rattle.fs_names.specs.Shapes.{Shape}
+use Rattle.std.specs.Prelude.{ℕ, ◌≡◌, None}
 use Rattle.fs_seq.specs.Changes.{play_from, root_tree}
-use Rattle.fs_seq.specs.Maps.{Map}
 use Rattle.fs_nodes.specs.Graphs.{spell}
-use Rattle.fs_journal.specs.declared.entry.Entry.{Entry}
 use Rattle.fs_laws.specs.Books.{IsLawful, start, commits_of}
 use Rattle.fs_laws.specs.States.{State}
 

@@ -1,20 +1,19 @@
 -- What every state of a run keeps.
-use Rattle.std.specs.Prelude.{ℕ, ◌≡◌, ◌<◌, ◌+◌, Bool, true, false, List, [], ◌∷◌, ◌++◌, Option, Some, None, ◌⊎◌}
-use Rattle.fs_names.specs.Keys.{Key, after_prefix, parent_of}
-use Rattle.fs_names.specs.Names.{Name}
+use Rattle.std.specs.Prelude.{ℕ, ◌≡◌, ◌<◌, false, List, [], ◌∷◌, ◌++◌, Option, Some, None, ◌⊎◌}
+use Rattle.fs_names.specs.Keys.{Key, parent_of}
 use Rattle.fs_names.specs.Parts.{left}
 use Rattle.fs_names.specs.Shapes.{Shape}
-use Rattle.fs_seq.specs.Forms.{form, EntryCall, NodeCall, Stat, Form, On, In, Rename, under, new_shape}
+use Rattle.fs_seq.specs.Forms.{form, EntryCall, Stat, Form, On, In, Rename, under, new_shape}
 use Rattle.fs_seq.specs.Maps.{Map}
 use Rattle.fs_seq.specs.declared.reply.Reply.{Reply}
 use Rattle.fs_seq.specs.declared.call.Call.{Call}
 use Rattle.fs_nodes.specs.Graphs.{Graph, at, numbers, spell, IsGraph}
 use Rattle.fs_ops.specs.Moves.{target}
-use Rattle.fs_ops.specs.Records.{Head, Stand, Phase, Walking, Placed, Finished, Record, Records, Holds}
+use Rattle.fs_ops.specs.Records.{Stand, Walking, Placed, Finished, Record, Records, Holds}
 use Rattle.fs_laws.specs.Books.{begins, commit_count, Book, start, book_of, IsLawful}
 use Rattle.fs_laws.specs.Settled.{settle, settle_replies}
 use Rattle.fs_laws.specs.Stands.{Kept}
-use Rattle.fs_laws.specs.States.{State, Begun, Begun_as, Begins, Stepped, Took, LetGo, Helped, Committed, CarriedOut, Returned, Step}
+use Rattle.fs_laws.specs.States.{State, Begun, Begun_as, Begins, Stepped, Took, LetGo, Committed, CarriedOut, Returned, Step}
 
 -- what a rename keeps at its common directory
 pub record Forked (graph : Graph) (n : ℕ) (p q : Key) (st : Stand) : Type 0 where

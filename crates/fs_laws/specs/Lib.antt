@@ -6,3 +6,5 @@ pub mod Placed
 pub mod Stands
 pub mod Invariants
 pub mod Computing
+pub mod Examples
+pub mod Laws

@@ -1,13 +1,11 @@
 -- Placed calls, and the change of a call that goes past them.
-use Rattle.std.specs.Prelude.{ℕ, ◌≡◌, Bool, true, false, cond, not, ◌&&◌, List, [], ◌∷◌, ◌++◌, Option, Some, None, ◌⊎◌}
+use Rattle.std.specs.Prelude.{◌≡◌, Bool, true, false, not, ◌&&◌, List, [], ◌∷◌, ◌++◌, Option, Some, None, ◌⊎◌}
 use Rattle.fs_names.specs.Keys.{Key, after_prefix, has_more, parent_of}
-use Rattle.fs_names.specs.Names.{Name}
 use Rattle.fs_names.specs.Parts.{is_end}
 use Rattle.fs_names.specs.Shapes.{Shape, Dir, File}
 use Rattle.fs_seq.specs.Changes.{Change, resolve, resolve_dir, outcome, after}
-use Rattle.fs_seq.specs.Forms.{NodeCall, EntryCall, Form, On, In, Rename, Fits}
+use Rattle.fs_seq.specs.Forms.{Form, On, In, Rename, Fits}
 use Rattle.fs_seq.specs.Maps.{Map}
-use Rattle.fs_seq.specs.declared.reply.Reply.{Reply}
 use Rattle.fs_ops.specs.Moves.{victim_of, same_kind}
 use Rattle.fs_laws.specs.Settled.{settle, settle_replies}
 
@@ -68,14 +66,14 @@ rekey_all ch [] = []
 rekey_all ch (p ∷ ps) = (rekey ch p.0, p.1) ∷ rekey_all ch ps
 
 -- none of them is below k
-abbrev pub NoneBelow : Key → List (Key × Form) → Type 0
-NoneBelow k [] = Unit {0}
-NoneBelow k (p ∷ ps) = (after_prefix k p.0 ≡ None) × NoneBelow k ps
+abbrev pub NoneUnder : Key → List (Key × Form) → Type 0
+NoneUnder k [] = Unit {0}
+NoneUnder k (p ∷ ps) = (after_prefix k p.0 ≡ None) × NoneUnder k ps
 
 -- each placed call stands at a key that is there, and none is below one placed earlier
 abbrev pub Standing : Map Shape → List (Key × Form) → Type 0
 Standing tree [] = Unit {0}
-Standing tree (p ∷ ps) = (resolve tree p.0 ≡ None) × Fits p.1 × NoneBelow p.0 ps × Standing tree ps
+Standing tree (p ∷ ps) = (resolve tree p.0 ≡ None) × Fits p.1 × NoneUnder p.0 ps × Standing tree ps
 
 -- the call and its change leave each of them alone
 abbrev pub Passes : Map Shape → Form → Change → List (Key × Form) → Type 0

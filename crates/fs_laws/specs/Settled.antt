@@ -1,19 +1,15 @@
 -- The settled graph, by the moves that placed calls have left, and the settled tree, by present calls.
-use Rattle.std.specs.Prelude.{ℕ, zero, suc, ◌≡◌, ◌+◌, Bool, true, false, cond, List, [], ◌∷◌, ◌++◌, Option, Some, None, length}
-use Rattle.fs_names.specs.Keys.{Key, parent_of}
-use Rattle.fs_names.specs.Names.{Name}
-use Rattle.fs_names.specs.Parts.{left}
+use Rattle.std.specs.Prelude.{ℕ, zero, suc, ◌+◌, List, [], ◌∷◌, Option, Some, None, length}
+use Rattle.fs_names.specs.Keys.{Key}
 use Rattle.fs_names.specs.Shapes.{Shape}
 use Rattle.fs_seq.specs.Changes.{reply, after}
 use Rattle.fs_seq.specs.Forms.{Form, On, In, Rename, under}
 use Rattle.fs_seq.specs.Maps.{Map}
-use Rattle.fs_seq.specs.declared.errno.Errno.TheVariants.{Enoent}
 use Rattle.fs_seq.specs.declared.reply.Reply.{Reply}
-use Rattle.fs_seq.specs.declared.reply.Reply.TheVariants.{Failed}
 use Rattle.fs_nodes.specs.Graphs.{Graph}
-use Rattle.fs_ops.specs.Finishes.{Made, kept_as, finish}
-use Rattle.fs_ops.specs.Moves.{Move, Takes, Leaves, Finishes, Ends, target, next, took, left_stand}
-use Rattle.fs_ops.specs.Records.{Head, Stand, Record, Records}
+use Rattle.fs_ops.specs.Finishes.{Made, finish}
+use Rattle.fs_ops.specs.Moves.{Move, Takes, Leaves, Finishes, Ends, next, took, left_stand}
+use Rattle.fs_ops.specs.Records.{Record, Records}
 
 -- the record's own moves up to its finish, as if nobody else held a node: at most `steps` of them
 abbrev pub alone_by : ℕ → Graph → Record → Move → Made

@@ -1,12 +1,10 @@
 -- What every two calls under way keep. Key has the key of each position; it is no part of the state: the theorem over runs gives one.
-use Rattle.std.specs.Prelude.{ℕ, ◌≡◌, ◌<◌, Bool, true, false, List, [], ◌∷◌, ◌++◌, Option, Some, None, ◌⊎◌}
+use Rattle.std.specs.Prelude.{ℕ, ◌≡◌, ◌<◌, [], ◌++◌, Some, None, ◌⊎◌}
 use Rattle.fs_names.specs.Keys.{Key, after_prefix}
-use Rattle.fs_names.specs.Names.{Name}
 use Rattle.fs_names.specs.Parts.{HasNames}
-use Rattle.fs_seq.specs.Forms.{Form, under, Fits}
+use Rattle.fs_seq.specs.Forms.{Fits}
 use Rattle.fs_seq.specs.Maps.{Map}
-use Rattle.fs_seq.specs.declared.reply.Reply.{Reply}
-use Rattle.fs_ops.specs.Records.{Head, Stand, Phase, Walking, Placed, Finished, Record, Records, HeadHolds, Holds}
+use Rattle.fs_ops.specs.Records.{Stand, Phase, Walking, Placed, Record, Records, Holds}
 
 -- the call stands at this key, by the numbers at the keys
 pub record Located (tree : Map ℕ) (key : Key) (st : Stand) : Type 0 where

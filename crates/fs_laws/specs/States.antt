@@ -1,17 +1,16 @@
 -- States of the core, what a begin and a step may do, and runs.
 use Rattle.std.specs.Prelude.{ℕ, ◌≡◌, ◌+◌, ◌<◌, ◌≤◌, Bool, true, false, cond, eqb, List, [], ◌∷◌, ◌++◌, Option, Some, None, length}
 use Rattle.fs_names.specs.Keys.{Key}
-use Rattle.fs_names.specs.Names.{Name}
-use Rattle.fs_names.specs.Shapes.{Shape, Dir, File}
+use Rattle.fs_names.specs.Shapes.{Shape}
 use Rattle.fs_seq.specs.Forms.{form, reserves}
 use Rattle.fs_seq.specs.declared.call.Call.{Call}
 use Rattle.fs_seq.specs.declared.reply.Reply.{Reply}
-use Rattle.fs_nodes.specs.Graphs.{set_at, Graph, at, empty_graph, reserved_in, released_in, set_at}
+use Rattle.fs_nodes.specs.Graphs.{Graph, at, empty_graph, reserved_in, released_in, set_at}
 use Rattle.fs_journal.specs.declared.entry.Entry.{Entry}
 use Rattle.fs_journal.specs.declared.entry.Entry.TheVariants.{Begin, Commit, Return}
 use Rattle.fs_ops.specs.Finishes.{Made, finish}
 use Rattle.fs_ops.specs.Moves.{Move, Takes, Leaves, Finishes, Ends, next, took, left_stand}
-use Rattle.fs_ops.specs.Records.{Stand, Phase, Walking, Placed, Finished, Record, Records}
+use Rattle.fs_ops.specs.Records.{Stand, Walking, Placed, Finished, Record, Records}
 use Rattle.fs_laws.specs.Books.{begins, commit_count}
 
 -- limit, graph, the numbers in use, who holds each node, the calls under way by their numbers, the call on each seat, timeline
