@@ -126,6 +126,9 @@ own_placed graph q st n w on o = record {
   well = o.well;
   spare = o.spare;
   number = λ u. o.number (λ r e. (let z : ◌≡◌ {A = Phase} Walking (Finished r) = sym w ∙ e in cc));
+  victim = λ u. o.victim (λ r e. (let z : ◌≡◌ {A = Phase} Walking (Finished r) = sym w ∙ e in cc));
+  starts = λ u. o.starts (λ r e. (let z : ◌≡◌ {A = Phase} Walking (Finished r) = sym w ∙ e in cc));
+  single = o.single;
   placed = λ i e. (st, on);
   gone = o.gone;
 }

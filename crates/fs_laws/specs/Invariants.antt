@@ -1,9 +1,9 @@
 -- What every state of a run keeps.
 use Rattle.std.specs.Prelude.{ℕ, ◌≡◌, ◌<◌, false, List, [], ◌∷◌, ◌++◌, Option, Some, None, ◌⊎◌}
-use Rattle.fs_names.specs.Keys.{Key, parent_of}
+use Rattle.fs_names.specs.Keys.{Key, parent_of, last_of}
 use Rattle.fs_names.specs.Parts.{left}
 use Rattle.fs_names.specs.Shapes.{Shape}
-use Rattle.fs_seq.specs.Forms.{form, EntryCall, Stat, Form, On, In, Rename, under, new_shape}
+use Rattle.fs_seq.specs.Forms.{Fits, form, EntryCall, Stat, Form, On, In, Rename, under, new_shape}
 use Rattle.fs_seq.specs.Maps.{Map}
 use Rattle.fs_seq.specs.declared.reply.Reply.{Reply}
 use Rattle.fs_seq.specs.declared.call.Call.{Call}
@@ -91,6 +91,37 @@ abbrev pub IsIn : ℕ → List ℕ → Type 0
 IsIn c [] = ⊥
 IsIn c (d ∷ ds) = (c ≡ d) ⊎ IsIn c ds
 
+-- a victim that a call holds before it finishes is what its entry leads to
+abbrev pub VictimAt : Graph → Form → Stand → Type 0
+VictimAt graph (On c p) st = Unit {0}
+VictimAt graph (In c p) st = (v : ℕ) → st.victim ≡ Some v → graph.kid st.node (last_of p) ≡ Some v
+VictimAt graph (Rename p q) st = (v : ℕ) → st.victim ≡ Some v → graph.kid st.dest.node (last_of q) ≡ Some v
+
+-- the places of a stand at which a call may hold a node
+pub data Slot : Type 0 where
+  At_node At_behind At_source At_source_behind At_dest At_dest_behind At_victim : Slot
+
+abbrev pub if_walked : Key → Option ℕ → Option ℕ
+if_walked [] n = None
+if_walked (x ∷ walked) n = n
+
+abbrev pub in_slot : Stand → Slot → Option ℕ
+in_slot st At_node = Some st.node
+in_slot st At_behind = st.behind
+in_slot st At_source = if_walked st.source.walked (Some st.source.node)
+in_slot st At_source_behind = if_walked st.source.walked st.source.behind
+in_slot st At_dest = if_walked st.dest.walked (Some st.dest.node)
+in_slot st At_dest_behind = if_walked st.dest.walked st.dest.behind
+in_slot st At_victim = st.victim
+
+-- no node is held at two places
+abbrev pub IsSingle : Stand → Type 0
+IsSingle st = (a b : Slot) (n : ℕ) → in_slot st a ≡ Some n → in_slot st b ≡ Some n → a ≡ b
+
+-- a call that is not finished
+abbrev pub IsUnfinished : Record → Type 0
+IsUnfinished op = (r : Reply) → op.phase ≡ Finished r → ⊥
+
 -- what one call under way keeps of its own record
 pub record Own (graph : Graph) (op : Record) : Type 0 where
   -- the names walked and what is left make the call
@@ -99,11 +130,15 @@ pub record Own (graph : Graph) (op : Record) : Type 0 where
   pub well : (st : Stand) → op.stand ≡ Some st → StandsWell graph st.node op.remaining st
   -- a reserved number is in use, and nothing leads to it
   pub spare : (n : ℕ) → op.reserved ≡ Some n → ((s : Shape) × (graph.shape n ≡ Some s)) × ((key : Key) → numbers graph key ≡ Some n → ⊥)
-  pub number : ((r : Reply) → op.phase ≡ Finished r → ⊥) → NumberFor graph op.remaining op.reserved
+  pub number : IsUnfinished op → Fits (form op.call) → NumberFor graph op.remaining op.reserved
   -- a placed call stands somewhere, and its text doesn't decide it
   pub placed : (i : ℕ) → op.phase ≡ Placed i → (st : Stand) × (op.stand ≡ Some st)
   -- the removed node is the victim, named by nobody and without entries
-  pub gone : (n : ℕ) → op.removed ≡ Some n → ((st : Stand) × (op.stand ≡ Some st) × (st.victim ≡ Some n)) × ((key : Key) → numbers graph key ≡ Some n → ⊥)
+  pub gone : (n : ℕ) → op.removed ≡ Some n → ((st : Stand) × (op.stand ≡ Some st) × (st.victim ≡ Some n)) × ((key : Key) → numbers graph key ≡ Some n → ⊥) × ((s : Shape) × (graph.shape n ≡ Some s))
+  pub victim : IsUnfinished op → (st : Stand) → op.stand ≡ Some st → VictimAt graph op.remaining st
+  -- a call that holds nothing yet has walked nothing
+  pub starts : IsUnfinished op → op.stand ≡ None → op.walked ≡ []
+  pub single : (st : Stand) → op.stand ≡ Some st → IsSingle st
 
 -- a number that is in use for this call alone
 abbrev pub HasSpare : Record → ℕ → Type 0
