@@ -21,5 +21,8 @@ pub mod Listing
 pub mod Linking
 pub mod Unlinking
 pub mod Agreeing
+pub mod Blinds
+pub mod Reals
+pub mod Renames
 pub mod Helping
 pub mod Headlines

@@ -43,7 +43,7 @@ really None None (Some m) false there room i = record { moved = m; source = refl
     go None j = refl
     go (Some e) j = cc
 
-full_row : (m : Shape) (there : Option Shape) (room b : Bool) → b ≡ true → to_row m (there_by b there) room ≡ None → ⊥
+pub full_row : (m : Shape) (there : Option Shape) (room b : Bool) → b ≡ true → to_row m (there_by b there) room ≡ None → ⊥
 full_row (Dir names) there room true i e = cc
 full_row (File bytes) there room true i e = cc
 full_row (Dir names) there room false i e = cc
