@@ -24,5 +24,7 @@ pub mod Agreeing
 pub mod Blinds
 pub mod Reals
 pub mod Renames
+pub mod Moving
+pub mod Altering
 pub mod Helping
 pub mod Headlines

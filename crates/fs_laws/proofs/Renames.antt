@@ -5,7 +5,7 @@ use Rattle.fs_names.specs.Names.{Name, has_name}
 use Rattle.fs_names.specs.Parts.{HasNames, common, left, left_by, is_end}
 use Rattle.fs_names.specs.Shapes.{Shape, Dir, File, is_full, names_of}
 use Rattle.fs_seq.specs.Changes.{Change, resolve, resolve_dir, looked, move_change, rename_writes}
-use Rattle.fs_seq.specs.Forms.{Form, Rename, under, Fits}
+use Rattle.fs_seq.specs.Forms.{Form, On, In, Rename, under, Fits}
 use Rattle.fs_seq.specs.Maps.{Map, below}
 use Rattle.fs_seq.specs.Rows.{as_dir, rename_row, to_row}
 use Rattle.fs_seq.specs.declared.errno.Errno.{Errno}
@@ -24,7 +24,7 @@ use Rattle.fs_laws.proofs.Links.{resolve_at}
 use Rattle.fs_laws.proofs.Finishing.{Stops, ForkAt, below_is, spell_from, dir_read, arrived, rename_finish}
 use Rattle.fs_laws.proofs.Making.{head_stops, fork_stops, common_is, Leaf, leaf_kids}
 use Rattle.fs_laws.proofs.Pairs.{held_off}
-use Rattle.fs_laws.proofs.Blinds.{Front, Off, stopped_off, stops_here}
+use Rattle.fs_laws.proofs.Blinds.{Front, Off, stopped_off, on_off, in_off}
 use Rattle.fs_laws.proofs.Reals.{Real, Replaces, real_of, at_entries, victim_held, walked_dir}
 
 -- the node of a head is held, by the head or as the position
@@ -234,3 +234,11 @@ rename_off graph is k p q st o kd other s loc u fits well victim e f = go (commo
                 by : (after_prefix kd (k ++ p) ≡ None) ⊎ (kd ≡ k ++ p) → ((r : Key) × (kd ≡ (k ++ p) ++ r)) ⊎ (Aside (k ++ p) kd × Aside (k ++ q) kd)
                 by (inl h) = inr ((z, h), (t_off, off_t (ends (last_of q) (parent_of q) q q_is (off1 es))))
                 by (inr h) = let y : ◌≡◌ {A = Option Key} (Some []) None = sym (itself (k ++ p)) ∙ ap (after_prefix (k ++ p)) (sym h) ∙ z in cc
+
+-- all forms of calls
+pub off_of : (graph : Graph) → IsGraph graph → (k : Key) (remaining : Form) (st : Stand) (o : Option ℕ) (kd : Key) (other : Stand) (s t : Shape) → Located (numbers graph) k st → graph.shape st.node ≡ Some s → graph.shape other.node ≡ Some t → Fits remaining → StandsWell graph st.node remaining st → VictimAt graph remaining st
+    → next_on graph remaining st ≡ Finishes o → Front graph k st kd other
+    → Off graph k remaining kd
+off_of graph is k (On c p) st o kd other s t loc u v fits well victim e f = on_off graph is k c p st o kd other loc.here e f
+off_of graph is k (In c p) st o kd other s t loc u v fits well victim e f = in_off graph is k c p st o kd other t loc.here fits victim e f v
+off_of graph is k (Rename p q) st o kd other s t loc u v fits well victim e f = rename_off graph is k p q st o kd other s loc u fits well victim e f
