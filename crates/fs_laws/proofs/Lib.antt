@@ -26,5 +26,6 @@ pub mod Reals
 pub mod Renames
 pub mod Moving
 pub mod Altering
+pub mod Doing
 pub mod Helping
 pub mod Headlines

@@ -229,7 +229,7 @@ leaf_kids graph is n s e leaf y = go (graph.kid n y) refl
     go None i = refl
     go (Some m) i = let d : (names : List Name) × (graph.shape n ≡ Some (Dir names)) × (has_name y names ≡ true) = is.of_dir n m y i in absurd (not_leaf d.0 s leaf (sym e ∙ d.1) d.2)
 
-no_entry : (graph : Graph) → IsGraph graph → (n : ℕ) (x : Name) → entry_shape graph n x ≡ None → graph.kid n x ≡ None
+pub no_entry : (graph : Graph) → IsGraph graph → (n : ℕ) (x : Name) → entry_shape graph n x ≡ None → graph.kid n x ≡ None
 no_entry graph is n x e = go (graph.kid n x) refl e
   where
     go : (o : Option ℕ) → graph.kid n x ≡ o → then_at o graph.shape ≡ None → o ≡ None
