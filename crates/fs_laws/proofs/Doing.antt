@@ -64,7 +64,7 @@ pub record Does (graph : Graph) (ops : Records) (key : ℕ → Key) (st : Stand)
 kept_still : (tree : Map ℕ) (ops : Records) (key : ℕ → Key) (ch : Change) → ch.moves ≡ None → Kept tree ops key → Kept tree ops (λ d. rekey ch (key d))
 kept_still tree ops key ch e k = subst (λ (m : Option (Key × Key)). Kept tree ops (λ d. rekey_move m (key d))) (sym e) k
 
-does_nothing : (graph : Graph) (ops : Records) (key : ℕ → Key) (st : Stand) (reserved : Option ℕ) (ch : Change) (r : Reply) → IsGraph graph → Kept (numbers graph) ops key → ch.moves ≡ None → Does graph ops key st reserved ch (kept_as r graph reserved)
+pub does_nothing : (graph : Graph) (ops : Records) (key : ℕ → Key) (st : Stand) (reserved : Option ℕ) (ch : Change) (r : Reply) → IsGraph graph → Kept (numbers graph) ops key → ch.moves ≡ None → Does graph ops key st reserved ch (kept_as r graph reserved)
 does_nothing graph ops key st reserved ch r is kept e = record {
   linked = None;
   altered = altered_same graph st is;
@@ -78,13 +78,13 @@ does_nothing graph ops key st reserved ch r is kept e = record {
 no_bytes : (r : Reply) (x : Reply × Option (List ℕ)) (bytes : List ℕ) → x ≡ (r, None) → x.1 ≡ Some bytes → ⊥
 no_bytes r x bytes e f = let z : ◌≡◌ {A = Option (List ℕ)} None (Some bytes) = sym (ap (λ (o : Reply × Option (List ℕ)). o.1) e) ∙ f in cc
 
-content_of : (c : NodeCall) (e : Option Errno) (s : Option Shape) (bytes : List ℕ) → (on_row c e s).1 ≡ Some bytes → (old : List ℕ) × (s ≡ Some (File old))
+pub content_of : (c : NodeCall) (e : Option Errno) (s : Option Shape) (bytes : List ℕ) → (on_row c e s).1 ≡ Some bytes → (old : List ℕ) × (s ≡ Some (File old))
 content_of c (Some e) s bytes i = cc
 content_of c None None bytes i = cc
 content_of c None (Some (Dir names)) bytes i = cc
 content_of c None (Some (File old)) bytes i = (old, refl)
 
-does_on : (graph : Graph) (ops : Records) (key : ℕ → Key) (st : Stand) (reserved : Option ℕ) (k p : Key) (b : Option (List ℕ)) (row : Reply × Option (List ℕ)) → IsGraph graph → Kept (numbers graph) ops key → numbers graph k ≡ Some st.node
+pub does_on : (graph : Graph) (ops : Records) (key : ℕ → Key) (st : Stand) (reserved : Option ℕ) (k p : Key) (b : Option (List ℕ)) (row : Reply × Option (List ℕ)) → IsGraph graph → Kept (numbers graph) ops key → numbers graph k ≡ Some st.node
     → ((bytes : List ℕ) → row.1 ≡ Some bytes → (old : List ℕ) × (graph.shape st.node ≡ Some (File old)))
     → Does graph ops key st reserved (change_under k (content_change p b)) (on_made graph st.node reserved row)
 does_on graph ops key st reserved k p b (r, None) is kept at_k file = does_nothing graph ops key st reserved (change_under k (content_change p b)) r is kept (none b)
@@ -146,7 +146,7 @@ none_moves k d names x p Remove = refl
 closed_of : (graph : Graph) (a b : Key) (m : ℕ) → numbers graph (a ++ b) ≡ Some m → (q : ℕ) × (numbers graph a ≡ Some q)
 closed_of graph a b m e = let g : (q : ℕ) × (numbers graph a ≡ Some q) × (at graph.kid q b ≡ Some m) = at_before graph.kid 0 m a b e in (g.0, g.1)
 
-does_in : (graph : Graph) (ops : Records) (key : ℕ → Key) (c : ℕ) (op : Record) (st : Stand) (o : Option ℕ) (e : EntryCall) (p d : Key) (names : List Name) (z : Name) (pp : Key) (change : Edit) (ed : Option Errno) (full : Bool)
+pub does_in : (graph : Graph) (ops : Records) (key : ℕ → Key) (c : ℕ) (op : Record) (st : Stand) (o : Option ℕ) (e : EntryCall) (p d : Key) (names : List Name) (z : Name) (pp : Key) (change : Edit) (ed : Option Errno) (full : Bool)
     → Finisher graph ops key c op st o → op.remaining ≡ In e p
     → (dir : ed ≡ None → (ns : List Name) × (graph.shape st.node ≡ Some (Dir ns)))
     → (done : ed ≡ None → in_move graph e (last_of p) st ≡ Finishes o)

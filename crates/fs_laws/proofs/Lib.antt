@@ -27,5 +27,6 @@ pub mod Renames
 pub mod Moving
 pub mod Altering
 pub mod Doing
+pub mod DoingMoves
 pub mod Helping
 pub mod Headlines
