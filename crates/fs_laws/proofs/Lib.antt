@@ -28,5 +28,7 @@ pub mod Moving
 pub mod Altering
 pub mod Doing
 pub mod DoingMoves
+pub mod Owning
 pub mod Helping
+pub mod Finished
 pub mod Headlines

@@ -135,6 +135,7 @@ pub record Own (graph : Graph) (op : Record) : Type 0 where
   pub placed : (i : ℕ) → op.phase ≡ Placed i → (st : Stand) × (op.stand ≡ Some st)
   -- the removed node is the victim, named by nobody and without entries
   pub gone : (n : ℕ) → op.removed ≡ Some n → ((st : Stand) × (op.stand ≡ Some st) × (st.victim ≡ Some n)) × ((key : Key) → numbers graph key ≡ Some n → ⊥) × ((s : Shape) × (graph.shape n ≡ Some s))
+  pub one_spare : (n : ℕ) → op.reserved ≡ Some n → op.removed ≡ Some n → ⊥
   pub victim : IsUnfinished op → (st : Stand) → op.stand ≡ Some st → VictimAt graph op.remaining st
   -- a call that holds nothing yet has walked nothing
   pub starts : IsUnfinished op → op.stand ≡ None → op.walked ≡ []
