@@ -5,12 +5,12 @@ use Rattle.fs_names.specs.Shapes.{Shape}
 use Rattle.fs_seq.specs.Maps.{Map}
 use Rattle.fs_nodes.specs.Graphs.{Graph, numbers, spell, set_at, IsGraph}
 use Rattle.fs_journal.specs.declared.entry.Entry.{Entry}
-use Rattle.fs_ops.specs.Finishes.{Made, finish}
+use Rattle.fs_ops.specs.Finishes.{Made}
 use Rattle.fs_ops.specs.Records.{Phase, Placed, Finished, Holds, Record, Records, Stand}
 use Rattle.fs_laws.specs.Books.{begins, commit_count, Book, start, book_of, IsLawful}
 use Rattle.fs_laws.specs.Invariants.{HasSpare, IsIn, Own, Invariant, InOrder, Tied}
 use Rattle.fs_laws.specs.Stands.{Kept}
-use Rattle.fs_laws.specs.States.{State, finished_op, carrying}
+use Rattle.fs_laws.specs.States.{State, finished_op}
 use Rattle.fs_laws.proofs.Altering.{Altered, Shapes, Reached}
 use Rattle.fs_laws.proofs.Keeping.{Place, Here, Else, place, kept_finish}
 use Rattle.fs_laws.proofs.Helping.{upd_same}
@@ -34,25 +34,29 @@ pub record SameCalls (old new : Book) : Type 0 where
   pub back : (c : ℕ) → new.back c ≡ old.back c
   pub busy : (seat : ℕ) → new.busy seat ≡ old.busy seat
 
-pub record Ends (old : State) (inv : Invariant old) (c : ℕ) (op : Record) (timeline : List Entry) : Type 0 where
+pub record Closing (old : State) (inv : Invariant old) (c : ℕ) (op : Record) (made : Made) (timeline : List Entry) : Type 0 where
   pub is : old.ops c ≡ Some op
   pub key : ℕ → Key
   pub order : List ℕ
-  pub is_graph : IsGraph (finish old.graph op).graph
-  pub kept : Kept (numbers (finish old.graph op).graph) old.ops key
-  pub in_order : InOrder (set_at c (Some (finished_op op (finish old.graph op))) old.ops) order
+  pub is_graph : IsGraph made.graph
+  pub kept : Kept (numbers made.graph) old.ops key
+  pub in_order : InOrder (set_at c (Some (finished_op op made)) old.ops) order
   pub all_placed : (d : ℕ) (q : Record) (i : ℕ) → (d ≡ c → ⊥) → old.ops d ≡ Some q → q.phase ≡ Placed i → (i < commit_count timeline) × IsIn d order
   pub lawful : IsLawful start timeline
-  pub tied : Tied (spell (finish old.graph op).graph) (set_at c (Some (finished_op op (finish old.graph op))) old.ops) key order (book_of start timeline)
-  pub own : Own (finish old.graph op).graph (finished_op op (finish old.graph op))
-  pub own_other : (d : ℕ) (q : Record) → (d ≡ c → ⊥) → old.ops d ≡ Some q → Own (finish old.graph op).graph q
-  pub spares : (n : ℕ) → HasSpare (finished_op op (finish old.graph op)) n → HasSpare op n ⊎ Reached old.graph n
-  pub shapes : Shapes old.graph.shape (finish old.graph op).graph.shape (Reached old.graph)
+  pub tied : Tied (spell made.graph) (set_at c (Some (finished_op op made)) old.ops) key order (book_of start timeline)
+  pub own : Own made.graph (finished_op op made)
+  pub own_other : (d : ℕ) (q : Record) → (d ≡ c → ⊥) → old.ops d ≡ Some q → Own made.graph q
+  pub spares : (n : ℕ) → HasSpare (finished_op op made) n → HasSpare op n ⊎ Reached old.graph n
+  pub shapes : Shapes old.graph.shape made.graph.shape (Reached old.graph)
   pub calls : SameCalls (book_of start old.timeline) (book_of start timeline)
   pub begun : begins timeline ≡ begins old.timeline
 
-pub ends_keep : (old : State) (inv : Invariant old) (c : ℕ) (op : Record) (timeline : List Entry) → Ends old inv c op timeline → Invariant (record (carrying old c op) { timeline = timeline })
-ends_keep old inv c op timeline f = record {
+-- the state after it
+abbrev pub ended : State → ℕ → Record → Made → List Entry → State
+ended old c op made timeline = record old { graph = made.graph; ops = set_at c (Some (finished_op op made)) old.ops; timeline = timeline }
+
+pub ends_keep : (old : State) (inv : Invariant old) (c : ℕ) (op : Record) (made : Made) (timeline : List Entry) → Closing old inv c op made timeline → Invariant (ended old c op made timeline)
+ends_keep old inv c op made timeline f = record {
   key = f.key;
   order = f.order;
   is_graph = f.is_graph;
@@ -74,21 +78,18 @@ ends_keep old inv c op timeline f = record {
   fresh = λ d less. f.calls.call d ∙ inv.fresh d (subst (λ (m : ℕ). m < d) f.begun less);
 }
   where
-    made : Made
-    made = finish old.graph op
-
     done : Record
-    done = finished_op op (finish old.graph op)
+    done = finished_op op made
 
-    all_placed : (d : ℕ) (q : Record) (i : ℕ) → Either old.ops c (finished_op op (finish old.graph op)) d q → q.phase ≡ Placed i → (i < commit_count timeline) × IsIn d f.order
-    all_placed d q i (Changed e g) h = let z : ◌≡◌ {A = Phase} (Finished (finish old.graph op).reply) (Placed i) = ap (λ (o : Record). o.phase) g ∙ h in cc
+    all_placed : (d : ℕ) (q : Record) (i : ℕ) → Either old.ops c (finished_op op made) d q → q.phase ≡ Placed i → (i < commit_count timeline) × IsIn d f.order
+    all_placed d q i (Changed e g) h = let z : ◌≡◌ {A = Phase} (Finished made.reply) (Placed i) = ap (λ (o : Record). o.phase) g ∙ h in cc
     all_placed d q i (Old n e) h = f.all_placed d q i n e h
 
-    own : (d : ℕ) (q : Record) → Either old.ops c (finished_op op (finish old.graph op)) d q → Own (finish old.graph op).graph q
-    own d q (Changed e g) = subst (Own (finish old.graph op).graph) g f.own
+    own : (d : ℕ) (q : Record) → Either old.ops c (finished_op op made) d q → Own made.graph q
+    own d q (Changed e g) = subst (Own made.graph) g f.own
     own d q (Old n e) = f.own_other d q n e
 
-    held : (d : ℕ) (q : Record) (st : Stand) (n : ℕ) → Either old.ops c (finished_op op (finish old.graph op)) d q → q.stand ≡ Some st → Holds st n → old.holder n ≡ Some d
+    held : (d : ℕ) (q : Record) (st : Stand) (n : ℕ) → Either old.ops c (finished_op op made) d q → q.stand ≡ Some st → Holds st n → old.holder n ≡ Some d
     held d q st n (Changed e g) h i = inv.held c op st n f.is (ap (λ (o : Record). o.stand) g ∙ h) i ∙ ap (λ (m : ℕ). Some m) (sym e)
     held d q st n (Old m e) h i = inv.held d q st n e h i
 
@@ -101,23 +102,23 @@ ends_keep old inv c op timeline f = record {
     mine d n q m e (inl i) h = inv.apart c d n op q (λ j. m (sym j)) f.is e i h
     mine d n q m e (inr r) h = loose d q n e h r
 
-    apart : (x y n : ℕ) (p q : Record) → (x ≡ y → ⊥) → Either old.ops c (finished_op op (finish old.graph op)) x p → Either old.ops c (finished_op op (finish old.graph op)) y q → HasSpare p n → HasSpare q n → ⊥
+    apart : (x y n : ℕ) (p q : Record) → (x ≡ y → ⊥) → Either old.ops c (finished_op op made) x p → Either old.ops c (finished_op op made) y q → HasSpare p n → HasSpare q n → ⊥
     apart x y n p q differs (Changed e g) (Changed h i) a b = differs (e ∙ sym h)
     apart x y n p q differs (Changed e g) (Old m h) a b = mine y n q m h (f.spares n (subst (λ (o : Record). HasSpare o n) (sym g) a)) b
     apart x y n p q differs (Old m h) (Changed e g) a b = mine x n p m h (f.spares n (subst (λ (o : Record). HasSpare o n) (sym g) b)) a
     apart x y n p q differs (Old m e) (Old k h) a b = inv.apart x y n p q differs e h a b
 
-    seated : (seat d : ℕ) → old.on_seat seat ≡ Some d → (q : Record) × (set_at c (Some (finished_op op (finish old.graph op))) old.ops d ≡ Some q) × (q.seat ≡ seat)
-    seated seat d e = go (place c (Some (finished_op op (finish old.graph op))) old.ops d) (inv.seated seat d e)
+    seated : (seat d : ℕ) → old.on_seat seat ≡ Some d → (q : Record) × (set_at c (Some (finished_op op made)) old.ops d ≡ Some q) × (q.seat ≡ seat)
+    seated seat d e = go (place c (Some (finished_op op made)) old.ops d) (inv.seated seat d e)
       where
-        go : Place (Option Record) c (Some (finished_op op (finish old.graph op))) old.ops d → (q : Record) × (old.ops d ≡ Some q) × (q.seat ≡ seat) → (q : Record) × (set_at c (Some (finished_op op (finish old.graph op))) old.ops d ≡ Some q) × (q.seat ≡ seat)
+        go : Place (Option Record) c (Some (finished_op op made)) old.ops d → (q : Record) × (old.ops d ≡ Some q) × (q.seat ≡ seat) → (q : Record) × (set_at c (Some (finished_op op made)) old.ops d ≡ Some q) × (q.seat ≡ seat)
         go (Here i j) (q, g, h) =
             let a : ◌≡◌ {A = Option Record} (Some op) (Some q) = sym f.is ∙ ap old.ops (sym i) ∙ g in
             let b : op ≡ q = cc in
-            (finished_op op (finish old.graph op), j, ap (λ (o : Record). o.seat) b ∙ h)
+            (finished_op op made, j, ap (λ (o : Record). o.seat) b ∙ h)
         go (Else n j) (q, g, h) = (q, j ∙ g, h)
 
-    seat_of : (d : ℕ) (q : Record) → Either old.ops c (finished_op op (finish old.graph op)) d q → ((book_of start timeline).seat_of d ≡ Some q.seat) × ((book_of start timeline).back d ≡ false)
+    seat_of : (d : ℕ) (q : Record) → Either old.ops c (finished_op op made) d q → ((book_of start timeline).seat_of d ≡ Some q.seat) × ((book_of start timeline).back d ≡ false)
     seat_of d q (Changed e g) =
         let a : ((book_of start old.timeline).seat_of c ≡ Some op.seat) × ((book_of start old.timeline).back c ≡ false) = inv.seat_of c op f.is in
         (f.calls.seat_of d ∙ ap (book_of start old.timeline).seat_of e ∙ a.0 ∙ ap (λ (o : Record). Some o.seat) g, f.calls.back d ∙ ap (book_of start old.timeline).back e ∙ a.1)

@@ -60,10 +60,10 @@ in_last d [] = inl refl
 in_last d (x ∷ cs) = inr (in_last d cs)
 
 -- the helped call goes to the end of the order
-abbrev to_new : (ops : Records) (d : ℕ) (v : Option Record) (x : ℕ) → (x ≡ d → ⊥) → IsPlaced ops x → IsPlaced (set_at d v ops) x
+abbrev pub to_new : (ops : Records) (d : ℕ) (v : Option Record) (x : ℕ) → (x ≡ d → ⊥) → IsPlaced ops x → IsPlaced (set_at d v ops) x
 to_new ops d v x n p = record { op = p.op; stand = p.stand; place = p.place; is = upd_else d v ops x n ∙ p.is; on = p.on; phase = p.phase }
 
-abbrev to_old : (ops : Records) (d : ℕ) (v : Option Record) (x : ℕ) → (x ≡ d → ⊥) → IsPlaced (set_at d v ops) x → IsPlaced ops x
+abbrev pub to_old : (ops : Records) (d : ℕ) (v : Option Record) (x : ℕ) → (x ≡ d → ⊥) → IsPlaced (set_at d v ops) x → IsPlaced ops x
 to_old ops d v x n p = record { op = p.op; stand = p.stand; place = p.place; is = sym (upd_else d v ops x n) ∙ p.is; on = p.on; phase = p.phase }
 
 later_push : (ops : Records) (d : ℕ) (q : Record) (num i : ℕ) → ops d ≡ Some q → q.phase ≡ Walking → i < num → (cs : List ℕ) → AllLater ops i cs → InOrder ops cs → AllLater (set_at d (Some (record q { phase = Placed num })) ops) i (cs ++ d ∷ [])

@@ -31,4 +31,5 @@ pub mod DoingMoves
 pub mod Owning
 pub mod Helping
 pub mod Finished
+pub mod Committing
 pub mod Headlines
