@@ -63,6 +63,7 @@ spots_rekey ops key ch (c ∷ cs) = ap (λ (ps : List (Key × Form)). (rekey ch 
 -- what is known of a call that finishes where it stands
 pub record Facts (graph : Graph) (ops : Records) (key : ℕ → Key) (c : ℕ) (op : Record) (st : Stand) : Type 0 where
   pub ch : Change
+  pub is_under : (x : Change) × (ch ≡ change_under (key c) x)
   pub does : Does graph ops key st op.reserved ch (made_at graph op.remaining st op.reserved)
   pub out : (outcome (spell graph) (under (key c) op.remaining)).1 ≡ ch
   pub fits : Fits (under (key c) op.remaining)
@@ -73,6 +74,7 @@ pub record Facts (graph : Graph) (ops : Records) (key : ℕ → Key) (c : ℕ) (
 pub facts : (graph : Graph) (ops : Records) (key : ℕ → Key) (c : ℕ) (op : Record) (st : Stand) (o : Option ℕ) → Finisher graph ops key c op st o → Facts graph ops key c op st
 facts graph ops key c op st o f = record {
   ch = change_under (key c) (looked (below (key c) (spell graph)) op.remaining).1;
+  is_under = ((looked (below (key c) (spell graph)) op.remaining).1, refl);
   does = does graph ops key c op st o in_use.0 f k.fits in_use.1;
   out = out;
   fits = fits_under (key c) op.remaining k.fits;

@@ -32,4 +32,5 @@ pub mod Owning
 pub mod Helping
 pub mod Finished
 pub mod Committing
+pub mod Carrying
 pub mod Headlines
