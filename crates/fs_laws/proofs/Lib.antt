@@ -33,4 +33,5 @@ pub mod Helping
 pub mod Finished
 pub mod Committing
 pub mod Carrying
+pub mod Renewing
 pub mod Headlines
