@@ -310,6 +310,7 @@ commit_text old inv c op e is w text = subst (λ (m : Made). Invariant (ended ol
         number = λ u. absurd (u (Failed e) refl);
         placed = λ i z. cc;
         gone = λ n z. cc;
+        intact = λ u. absurd (u (Failed e) refl);
         one_spare = λ n z y. cc;
         victim = λ u. absurd (u (Failed e) refl);
         starts = λ u. absurd (u (Failed e) refl);

@@ -156,7 +156,7 @@ does_move graph ops key c op st o p q ws r f rem fits real moved_is = subst (λ 
       kept = new_kept;
       links = λ n j. cc;
       reserved = λ n j. j;
-      removed = λ n j. (j, moved_gone graph f.is_graph (key c ++ st.source.walked) st.source.node (last_of p) (key c ++ st.dest.walked) st.dest.node (last_of q) real.moved.0 n can (vic n j), ((key c ++ st.dest.walked) ++ last_of q ∷ [], entry ∙ vic n j));
+      removed = λ n j. (j, moved_gone graph f.is_graph (key c ++ st.source.walked) st.source.node (last_of p) (key c ++ st.dest.walked) st.dest.node (last_of q) real.moved.0 n can (vic n j).0, ((key c ++ st.dest.walked) ++ last_of q ∷ [], entry ∙ (vic n j).0));
     }
 
 does_rename : (graph : Graph) (ops : Records) (key : ℕ → Key) (c : ℕ) (op : Record) (st : Stand) (o : Option ℕ) (p q : Key) (s : Shape) → Finisher graph ops key c op st o → op.remaining ≡ Rename p q → Fits (Rename p q) → graph.shape st.node ≡ Some s

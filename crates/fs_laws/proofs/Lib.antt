@@ -34,4 +34,5 @@ pub mod Finished
 pub mod Committing
 pub mod Carrying
 pub mod Renewing
+pub mod Slots
 pub mod Headlines

@@ -61,7 +61,7 @@ number_by old new linked st (In c p) reserved a differs w = λ shape e.
 victim_by : (old new : Graph) (linked : Option ℕ) (st : Stand) (k : Key) (mine : Stand) (remaining : Form) → Altered old new linked st → Located (numbers new) k mine → ((n : ℕ) → Holds mine n → Holds st n → ⊥) → VictimAt old remaining mine → VictimAt new remaining mine
 victim_by old new linked st k mine (On c p) a loc apart w = w
 victim_by old new linked st k mine (In c p) a loc apart w = λ v e. a.kid_same mine.node (last_of p) (λ h. apart mine.node (inl refl) h) ∙ w v e
-victim_by old new linked st k mine (Rename p q) a loc apart w = λ v e. a.kid_same mine.dest.node (last_of q) (λ h. apart mine.dest.node (dest_held (numbers new) k mine loc) h) ∙ w v e
+victim_by old new linked st k mine (Rename p q) a loc apart w = λ v e. (a.kid_same mine.dest.node (last_of q) (λ h. apart mine.dest.node (dest_held (numbers new) k mine loc) h) ∙ (w v e).0, (w v e).1)
 
 -- another call
 pub own_other : (old new : Graph) (linked : Option ℕ) (st : Stand) (k : Key) (q : Record) → Altered old new linked st → Own old q
@@ -79,6 +79,7 @@ own_other old new linked st k q a o stands apart = record {
   gone = λ n e.
       (let g : ((other : Stand) × (q.stand ≡ Some other) × (other.victim ≡ Some n)) × ((key : Key) → numbers old key ≡ Some n → ⊥) × ((s : Shape) × (old.shape n ≡ Some s)) = o.gone n e in
       (g.0, unreached old new linked st a n (λ i. apart n i (inr e)) g.1, a.shapes.to_new n g.2.0 g.2.1));
+  intact = o.intact;
   one_spare = o.one_spare;
   victim = λ u other e. victim_by old new linked st k other q.remaining a (stands other e).0 (stands other e).1 (o.victim u other e);
   starts = o.starts;
@@ -103,6 +104,7 @@ own_finished old made linked st k op is a o on loc links reserved removed = reco
       (let g : (st.victim ≡ Some n) × ((l : Key) → numbers made.graph l ≡ Some n → ⊥) × Reached old n = removed n e in
       let t : (s : Shape) × (old.shape n ≡ Some s) = reached_used old is g.2.0 n g.2.1 in
       ((st, on, g.0), g.1, a.shapes.to_new n t.0 t.1));
+  intact = λ u. absurd (u made.reply refl);
   one_spare = λ n e f. (let g : (st.victim ≡ Some n) × ((l : Key) → numbers made.graph l ≡ Some n → ⊥) × Reached old n = removed n f in (o.spare n (reserved n e)).1 g.2.0 g.2.1);
   victim = λ u. absurd (u made.reply refl);
   starts = λ u. absurd (u made.reply refl);

@@ -88,7 +88,7 @@ victim_held graph p q st o v victim e kid want =
     let m : Option ℕ = moved_node (rename_at graph p q st).1 (graph.kid st.source.node (last_of p)) in
     let t : take_if b (Some v) st.victim (Finishes m) ≡ Finishes o = ap (λ (n : Option ℕ). take_if b n st.victim (Finishes m)) (sym kid) ∙ e in
     let w : (w : ℕ) × (st.victim ≡ Some w) = take_done b v st.victim o m want t in
-    let z : ◌≡◌ {A = Option ℕ} (Some w.0) (Some v) = sym (victim w.0 w.1) ∙ kid in
+    let z : ◌≡◌ {A = Option ℕ} (Some w.0) (Some v) = sym (victim w.0 w.1).0 ∙ kid in
     w.1 ∙ z
 
 pub real_of : (graph : Graph) → IsGraph graph → (p q : Key) (st : Stand) (o : Option ℕ) → Fits (Rename p q) → Forked graph st.node p q st → VictimAt graph (Rename p q) st → fork_move graph p q st ≡ Finishes o → (rename_at graph p q st).1 ≡ true

@@ -95,7 +95,7 @@ IsIn c (d ∷ ds) = (c ≡ d) ⊎ IsIn c ds
 abbrev pub VictimAt : Graph → Form → Stand → Type 0
 VictimAt graph (On c p) st = Unit {0}
 VictimAt graph (In c p) st = (v : ℕ) → st.victim ≡ Some v → graph.kid st.node (last_of p) ≡ Some v
-VictimAt graph (Rename p q) st = (v : ℕ) → st.victim ≡ Some v → graph.kid st.dest.node (last_of q) ≡ Some v
+VictimAt graph (Rename p q) st = (v : ℕ) → st.victim ≡ Some v → (graph.kid st.dest.node (last_of q) ≡ Some v) × (parent_of q ≡ st.dest.walked)
 
 -- the places of a stand at which a call may hold a node
 pub data Slot : Type 0 where
@@ -135,6 +135,7 @@ pub record Own (graph : Graph) (op : Record) : Type 0 where
   pub placed : (i : ℕ) → op.phase ≡ Placed i → (st : Stand) × (op.stand ≡ Some st)
   -- the removed node is the victim, named by nobody and without entries
   pub gone : (n : ℕ) → op.removed ≡ Some n → ((st : Stand) × (op.stand ≡ Some st) × (st.victim ≡ Some n)) × ((key : Key) → numbers graph key ≡ Some n → ⊥) × ((s : Shape) × (graph.shape n ≡ Some s))
+  pub intact : IsUnfinished op → op.removed ≡ None
   pub one_spare : (n : ℕ) → op.reserved ≡ Some n → op.removed ≡ Some n → ⊥
   pub victim : IsUnfinished op → (st : Stand) → op.stand ≡ Some st → VictimAt graph op.remaining st
   -- a call that holds nothing yet has walked nothing
