@@ -35,4 +35,5 @@ pub mod Committing
 pub mod Carrying
 pub mod Renewing
 pub mod Slots
+pub mod Taking
 pub mod Headlines
