@@ -36,4 +36,5 @@ pub mod Carrying
 pub mod Renewing
 pub mod Slots
 pub mod Taking
+pub mod TakingThere
 pub mod Headlines

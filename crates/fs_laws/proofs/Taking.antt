@@ -31,7 +31,7 @@ pub data TakesFrom (graph : Graph) (op : Record) (n : ℕ) : Type 0 where
   From_nowhere : by_text (form op.call) ≡ None → op.stand ≡ None → 0 ≡ n → TakesFrom graph op n
   From_stand : (st : Stand) → op.stand ≡ Some st → next_on graph op.remaining st ≡ Takes n → TakesFrom graph op n
 
-takes_from : (graph : Graph) (op : Record) (n : ℕ) → next graph op ≡ Takes n → TakesFrom graph op n × IsUnfinished op
+pub takes_from : (graph : Graph) (op : Record) (n : ℕ) → next graph op ≡ Takes n → TakesFrom graph op n × IsUnfinished op
 takes_from graph op n m = go op.phase (by_text (form op.call)) op.stand refl refl refl m
   where
     walking : (p : Phase) → op.phase ≡ p → ((r : Reply) → p ≡ Finished r → ⊥) → IsUnfinished op
@@ -71,7 +71,7 @@ pub is_free : (old : State) (inv : Invariant old) (n : ℕ) → old.holder n ≡
 is_free old inv n free d q other e f h = let z : ◌≡◌ {A = Option ℕ} None (Some d) = sym free ∙ inv.held d q other n e f h in cc
 
 -- the state after a take, by what its record keeps
-take_keeps : (old : State) (inv : Invariant old) (c : ℕ) (op v : Record) (n : ℕ) (k : Key) → Taker old inv c op n
+pub take_keeps : (old : State) (inv : Invariant old) (c : ℕ) (op v : Record) (n : ℕ) (k : Key) → Taker old inv c op n
     → v.seat ≡ op.seat → v.call ≡ op.call → v.phase ≡ op.phase → v.reserved ≡ op.reserved → v.removed ≡ op.removed
     → Kept (numbers old.graph) (set_at c (Some v) old.ops) (set_at c k inv.key)
     → ((i : ℕ) → op.phase ≡ Placed i → under k v.remaining ≡ under (inv.key c) op.remaining)
@@ -145,7 +145,7 @@ under_nil (In c p) = refl
 under_nil (Rename p q) = refl
 
 -- the root
-take_root : (old : State) (inv : Invariant old) (c : ℕ) (op : Record) (n : ℕ) → Taker old inv c op n → by_text (form op.call) ≡ None → op.stand ≡ None → 0 ≡ n → Invariant (taking old c op n)
+pub take_root : (old : State) (inv : Invariant old) (c : ℕ) (op : Record) (n : ℕ) → Taker old inv c op n → by_text (form op.call) ≡ None → op.stand ≡ None → 0 ≡ n → Invariant (taking old c op n)
 take_root old inv c op n t text off at_root = subst (λ (v : Record). Invariant (renewed old c v old.graph old.used (set_at n (Some c) old.holder))) (sym took_is)
     (take_keeps old inv c op (record op { stand = Some (stand_at n None) }) n [] t refl refl refl refl refl kept (λ i e. absurd (not_placed i e)) own holds)
   where
@@ -230,12 +230,12 @@ pub head_takes : (graph : Graph) (h : ℕ) (behind : Option ℕ) (x : Name) (l :
 head_takes graph h (Some b) x l m n e = cc
 head_takes graph h None x l m n e = (refl, walk_takes (graph.shape h) (graph.kid h x) n e)
 
-head_passes : (graph : Graph) (h : ℕ) (behind : Option ℕ) (m : Move) (n : ℕ) → first_of (head_move graph h behind []) m ≡ Takes n → (behind ≡ None) × (m ≡ Takes n)
+pub head_passes : (graph : Graph) (h : ℕ) (behind : Option ℕ) (m : Move) (n : ℕ) → first_of (head_move graph h behind []) m ≡ Takes n → (behind ≡ None) × (m ≡ Takes n)
 head_passes graph h (Some b) m n e = cc
 head_passes graph h None m n e = (refl, e)
 
 -- the next node on the way to the target
-take_walk : (old : State) (inv : Invariant old) (c : ℕ) (op : Record) (n : ℕ) (st : Stand) (x : Name) (l : Key) → Taker old inv c op n → op.stand ≡ Some st → target op.remaining ≡ x ∷ l → old.graph.kid st.node x ≡ Some n → Invariant (taking old c op n)
+pub take_walk : (old : State) (inv : Invariant old) (c : ℕ) (op : Record) (n : ℕ) (st : Stand) (x : Name) (l : Key) → Taker old inv c op n → op.stand ≡ Some st → target op.remaining ≡ x ∷ l → old.graph.kid st.node x ≡ Some n → Invariant (taking old c op n)
 take_walk old inv c op n st x l t on way kid = subst (λ (v : Record). Invariant (renewed old c v old.graph old.used (set_at n (Some c) old.holder))) (sym took_is)
     (take_keeps old inv c op v n (inv.key c ++ x ∷ []) t refl refl refl refl refl kept (λ i e. step.same) own holds)
   where
