@@ -315,6 +315,7 @@ commit_text old inv c op e is w text = subst (λ (m : Made). Invariant (ended ol
         victim = λ u. absurd (u (Failed e) refl);
         starts = λ u. absurd (u (Failed e) refl);
         single = own.single;
+        heads = own.heads;
       };
       own_other = λ d q m e. inv.own d q e;
       spares = spares;

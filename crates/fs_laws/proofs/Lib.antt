@@ -37,4 +37,6 @@ pub mod Renewing
 pub mod Slots
 pub mod Taking
 pub mod TakingThere
+pub mod Releasing
+pub mod LettingGo
 pub mod Headlines

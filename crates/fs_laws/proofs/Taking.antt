@@ -12,7 +12,7 @@ use Rattle.fs_seq.specs.declared.reply.Reply.{Reply}
 use Rattle.fs_nodes.specs.Graphs.{Graph, at, numbers, spell, entry_shape, set_at}
 use Rattle.fs_ops.specs.Moves.{Move, Takes, Leaves, Finishes, next, next_by, next_on, first_of, head_move, walk_move, take_if, target, target_move, fork_move, rename_move, dir_then, victim_of, same_kind, rename_at, moved_node, inner, tail_of, took, head_took, victim_took, behind_of, source_took, target_took, took_by}
 use Rattle.fs_ops.specs.Records.{Phase, Walking, Placed, Finished, Head, Holds, Record, Records, Stand, head_at, stand_at}
-use Rattle.fs_laws.specs.Invariants.{Forked, ForkedAt, StandsWell, NumberFor, VictimAt, HasSpare, IsSingle, IsUnfinished, Own, Invariant, StepKeeps}
+use Rattle.fs_laws.specs.Invariants.{Forked, ForkedAt, StandsWell, NumberFor, VictimAt, HasSpare, HeadsFit, IsSingle, IsUnfinished, Own, Invariant, StepKeeps}
 use Rattle.fs_laws.specs.Stands.{IsFree, Keeps, Kept, Located}
 use Rattle.fs_laws.specs.States.{State, Took, taking}
 use Rattle.fs_laws.proofs.Prefixes.{prefix_append, same_true}
@@ -132,6 +132,7 @@ own_fresh graph op v n behind o unf phase reserved removed call on parts number 
   victim = λ u st e. subst (λ (s : Stand). VictimAt graph v.remaining s) (stand_is st e) (fresh_victim graph n behind v.remaining);
   starts = λ u e. (let z : ◌≡◌ {A = Option Stand} None (Some (stand_at n behind)) = sym e ∙ on in cc);
   single = λ st e. subst IsSingle (stand_is st e) (single_at n behind differs);
+  heads = λ st e. subst HeadsFit (stand_is st e) ((λ i. refl), (λ i. refl));
 }
   where
     none_some : (m : ℕ) → ◌≡◌ {A = Option ℕ} None (Some m) → ⊥

@@ -8,7 +8,7 @@ use Rattle.fs_seq.specs.Forms.{form, EntryCall, Form, On, In, Rename}
 use Rattle.fs_nodes.specs.Graphs.{Graph, at, numbers, entry_shape, set_at}
 use Rattle.fs_ops.specs.Moves.{Move, Takes, Finishes, next_on, first_of, head_move, take_if, target, target_move, in_move, fork_move, rename_move, dir_then, victim_of, same_kind, rename_at, moved_node, took, head_took, victim_took, behind_of, dest_took, source_took, target_took, took_by}
 use Rattle.fs_ops.specs.Records.{Placed, Finished, HeadHolds, Holds, Record, Records, Stand}
-use Rattle.fs_laws.specs.Invariants.{Forked, ForkedAt, StandsWell, VictimAt, IsSingle, IsUnfinished, Own, Invariant, StepKeeps}
+use Rattle.fs_laws.specs.Invariants.{Forked, ForkedAt, StandsWell, VictimAt, HeadsFit, IsSingle, IsUnfinished, Own, Invariant, StepKeeps}
 use Rattle.fs_laws.specs.Stands.{Keeps, Kept, Located}
 use Rattle.fs_laws.specs.States.{State, Took, taking}
 use Rattle.fs_laws.proofs.Prefixes.{prefix_append}
@@ -21,8 +21,8 @@ use Rattle.fs_laws.proofs.Slots.{single_victim, single_source, single_dest}
 use Rattle.fs_laws.proofs.Taking.{TakesFrom, From_nowhere, From_stand, takes_from, Taker, is_free, take_keeps, take_root, take_walk, head_takes, head_passes}
 
 -- the same call at a new stand
-own_stand : (graph : Graph) (op : Record) (new : Stand) → Own graph op → IsUnfinished op → StandsWell graph new.node op.remaining new → VictimAt graph op.remaining new → IsSingle new → Own graph (record op { stand = Some new })
-own_stand graph op new o unf well victim single = record {
+own_stand : (graph : Graph) (op : Record) (new : Stand) → Own graph op → IsUnfinished op → StandsWell graph new.node op.remaining new → VictimAt graph op.remaining new → IsSingle new → HeadsFit new → Own graph (record op { stand = Some new })
+own_stand graph op new o unf well victim single heads = record {
   parts = o.parts;
   well = λ st e. subst (λ (s : Stand). StandsWell graph s.node op.remaining s) (stand_is st e) well;
   spare = o.spare;
@@ -34,6 +34,7 @@ own_stand graph op new o unf well victim single = record {
   victim = λ u st e. subst (λ (s : Stand). VictimAt graph op.remaining s) (stand_is st e) victim;
   starts = λ u e. cc;
   single = λ st e. subst IsSingle (stand_is st e) single;
+  heads = λ st e. subst HeadsFit (stand_is st e) heads;
 }
   where
     none_some : (m : ℕ) → ◌≡◌ {A = Option ℕ} None (Some m) → ⊥
@@ -43,14 +44,14 @@ own_stand graph op new o unf well victim single = record {
 
 -- a take that leaves the position
 take_there : (old : State) (inv : Invariant old) (c : ℕ) (op : Record) (n : ℕ) (st new : Stand) → Taker old inv c op n → op.stand ≡ Some st → took op n ≡ record op { stand = Some new } → new.node ≡ st.node
-    → Taken (numbers old.graph) (inv.key c) st (inv.key c) new n → Located (numbers old.graph) (inv.key c) new → StandsWell old.graph new.node op.remaining new → VictimAt old.graph op.remaining new → IsSingle new
+    → Taken (numbers old.graph) (inv.key c) st (inv.key c) new n → Located (numbers old.graph) (inv.key c) new → StandsWell old.graph new.node op.remaining new → VictimAt old.graph op.remaining new → IsSingle new → HeadsFit new
     → Invariant (taking old c op n)
-take_there old inv c op n st new t on took_is node taken loc well victim single = subst (λ (v : Record). Invariant (renewed old c v old.graph old.used (set_at n (Some c) old.holder))) (sym took_is)
+take_there old inv c op n st new t on took_is node taken loc well victim single heads = subst (λ (v : Record). Invariant (renewed old c v old.graph old.used (set_at n (Some c) old.holder))) (sym took_is)
     (take_keeps old inv c op (record op { stand = Some new }) n (inv.key c) t refl refl refl refl refl
         (kept_take (numbers old.graph) old.ops inv.key c op st n (inv.key c) new (record op { stand = Some new }) inv.kept t.is on refl refl (is_free old inv n t.free) taken
             (let k : Keeps (numbers old.graph) (inv.key c) op st = inv.kept.each c op st t.is on in record { located = loc; walking = k.walking; fits = k.fits }))
         (λ i e. refl)
-        (own_stand old.graph op new (inv.own c op t.is) t.unfinished well victim single)
+        (own_stand old.graph op new (inv.own c op t.is) t.unfinished well victim single heads)
         (λ s q e h. holds s q (stand_is s e) h))
   where
     stand_is : (s : Stand) → ◌≡◌ {A = Option Stand} (Some new) (Some s) → new ≡ s
@@ -80,7 +81,7 @@ take_entry old inv c op n st e p t on rem way m =
     (record { here = loc.here; source = loc.source; dest = loc.dest })
     (subst (λ (f : Form). StandsWell old.graph st.node f (record st { victim = Some n })) (sym rem) tt)
     (subst (λ (f : Form). VictimAt old.graph f (record st { victim = Some n })) (sym rem) (λ v i. taken.0 ∙ i))
-    (single_victim st n (not_held old inv c op n st t on) ((inv.own c op t.is).single st on))
+    (single_victim st n (not_held old inv c op n st t on) ((inv.own c op t.is).single st on)) ((inv.own c op t.is).heads st on)
   where
     loc : Located (numbers old.graph) (inv.key c) st
     loc = (inv.kept.each c op st t.is on).located
@@ -88,6 +89,10 @@ take_entry old inv c op n st e p t on rem way m =
     taken = victim_taken (victim_of e (entry_shape old.graph st.node (last_of p))) (old.graph.kid st.node (last_of p)) st.victim None n m
     took_is : took op n ≡ record op { stand = Some (record st { victim = Some n }) }
     took_is = ap₂ (λ (s : Option Stand) (k : Key). took_by op s k n) on (ap target rem ∙ way) ∙ ap (λ (f : Form). record op { stand = Some (target_took f st n) }) rem
+
+no_end : (w : Key) (x : Name) → w ++ x ∷ [] ≡ [] → ⊥
+no_end [] x e = cc
+no_end (y ∷ w) x e = cc
 
 -- what is left behind one more name
 left_on : (w l whole : Key) (x : Name) → whole ≡ w ++ x ∷ l → whole ≡ (w ++ x ∷ []) ++ left (w ++ x ∷ []) whole
@@ -120,7 +125,7 @@ take_source old inv c op n st p q x l t on rem way left_is kid =
       dest_is = f.dest_is;
     }))
     (subst (λ (g : Form). VictimAt old.graph g (record st { source = head_took st.source x n })) (sym rem) (subst (λ (g : Form). VictimAt old.graph g st) rem (own.victim t.unfinished st on)))
-    (single_source st x n (not_held old inv c op n st t on) (own.single st on))
+    (single_source st x n (not_held old inv c op n st t on) (own.single st on)) ((λ i. absurd (no_end st.source.walked x i)), (own.heads st on).1)
   where
     own : Own old.graph op
     own = inv.own c op t.is
@@ -154,7 +159,7 @@ take_dest old inv c op n st p q x l t on rem way source_none left_is kid =
       dest_is = left_on st.dest.walked l (parent_of q) x (f.dest_is ∙ ap (λ (k : Key). st.dest.walked ++ k) left_is);
     }))
     (subst (λ (g : Form). VictimAt old.graph g (record st { dest = head_took st.dest x n })) (sym rem) (λ v e. absurd (none_yet v e)))
-    (single_dest st x n (not_held old inv c op n st t on) (own.single st on))
+    (single_dest st x n (not_held old inv c op n st t on) (own.single st on)) ((own.heads st on).0, (λ i. absurd (no_end st.dest.walked x i)))
   where
     own : Own old.graph op
     own = inv.own c op t.is
@@ -190,7 +195,7 @@ take_replaced old inv c op n st p q t on rem way source_none dest_none m =
     (record { here = loc.here; source = loc.source; dest = loc.dest })
     (well_of old.graph st.node p q (record st { victim = Some n }) op.remaining rem way (record { source_at = f.source_at; dest_at = f.dest_at; source_is = f.source_is; dest_is = f.dest_is }))
     (subst (λ (g : Form). VictimAt old.graph g (record st { victim = Some n })) (sym rem) (λ v i. (taken.0 ∙ i, f.dest_is ∙ ap (λ (k : Key). st.dest.walked ++ k) dest_none ∙ append-nil st.dest.walked)))
-    (single_victim st n (not_held old inv c op n st t on) (own.single st on))
+    (single_victim st n (not_held old inv c op n st t on) (own.single st on)) (own.heads st on)
   where
     own : Own old.graph op
     own = inv.own c op t.is

@@ -118,6 +118,10 @@ in_slot st At_victim = st.victim
 abbrev pub IsSingle : Stand → Type 0
 IsSingle st = (a b : Slot) (n : ℕ) → in_slot st a ≡ Some n → in_slot st b ≡ Some n → a ≡ b
 
+-- a head that has not set out holds no parent
+abbrev pub HeadsFit : Stand → Type 0
+HeadsFit st = (st.source.walked ≡ [] → st.source.behind ≡ None) × (st.dest.walked ≡ [] → st.dest.behind ≡ None)
+
 -- a call that is not finished
 abbrev pub IsUnfinished : Record → Type 0
 IsUnfinished op = (r : Reply) → op.phase ≡ Finished r → ⊥
@@ -141,6 +145,7 @@ pub record Own (graph : Graph) (op : Record) : Type 0 where
   -- a call that holds nothing yet has walked nothing
   pub starts : IsUnfinished op → op.stand ≡ None → op.walked ≡ []
   pub single : (st : Stand) → op.stand ≡ Some st → IsSingle st
+  pub heads : (st : Stand) → op.stand ≡ Some st → HeadsFit st
 
 -- a number that is in use for this call alone
 abbrev pub HasSpare : Record → ℕ → Type 0
