@@ -39,4 +39,6 @@ pub mod Taking
 pub mod TakingThere
 pub mod Releasing
 pub mod LettingGo
+pub mod Returning
+pub mod Beginning
 pub mod Headlines

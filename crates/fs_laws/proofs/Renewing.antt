@@ -28,7 +28,7 @@ order_map old new go same (c ∷ cs) o = (go c o.0, later cs o.1 o.2, order_map 
     later (d ∷ cs) l o2 = ((λ q. subst (λ (n : ℕ). n < q.place) (same c o.0 (go c o.0)) (subst (λ (n : ℕ). o.0.place < n) (same d o2.0 q) (l.0 o2.0))), later cs l.1 o2.2)
 
 -- what the calls are, as they stand, stays
-settle_same : (tree : Map Shape) (ops new : Records) (key key_new : ℕ → Key) (cs : List ℕ) → ((d : ℕ) → IsIn d cs → under (key_new d) (remaining_of (new d)) ≡ under (key d) (remaining_of (ops d)))
+pub settle_same : (tree : Map Shape) (ops new : Records) (key key_new : ℕ → Key) (cs : List ℕ) → ((d : ℕ) → IsIn d cs → under (key_new d) (remaining_of (new d)) ≡ under (key d) (remaining_of (ops d)))
     → (settle tree (spots new key_new cs) ≡ settle tree (spots ops key cs)) × (settle_replies tree (spots new key_new cs) ≡ settle_replies tree (spots ops key cs))
 settle_same tree ops new key key_new [] h = (refl, refl)
 settle_same tree ops new key key_new (c ∷ cs) h =

@@ -140,7 +140,7 @@ own_fresh graph op v n behind o unf phase reserved removed call on parts number 
     stand_is : (st : Stand) → v.stand ≡ Some st → stand_at n behind ≡ st
     stand_is st e = let z : ◌≡◌ {A = Option Stand} (Some (stand_at n behind)) (Some st) = sym on ∙ e in cc
 
-under_nil : (call : Form) → under [] call ≡ call
+pub under_nil : (call : Form) → under [] call ≡ call
 under_nil (On c p) = refl
 under_nil (In c p) = refl
 under_nil (Rename p q) = refl
