@@ -1,19 +1,15 @@
 -- What each change of a graph leaves.
-use Rattle.std.proofs.Common.{◌≡◌, ℕ, Bool, true, false, cond, eqb, ◌&&◌, List, [], ◌∷◌, ◌++◌, Option, Some, None, refl, sym, ap, ap₂, ◌∙◌, append_assoc, append-nil, subst, ◌⊎◌, inl, inr}
-use mathlib.Core.Path.{fun_ext}
+use Rattle.std.proofs.Common.{◌≡◌, ℕ, List, [], ◌∷◌, ◌++◌, Option, Some, None, refl, sym, ap, ◌∙◌, append-nil, subst, ◌⊎◌, inl, inr}
 use Rattle.fs_names.specs.Keys.{Key, after_prefix}
-use Rattle.fs_names.specs.Names.{Name, same_name, has_name, inserted_name, removed_name}
+use Rattle.fs_names.specs.Names.{Name, inserted_name, removed_name}
 use Rattle.fs_names.specs.Shapes.{Shape, Dir, File, names_of}
 use Rattle.fs_seq.specs.Maps.{Map, put, put_at, move, moved_to, moved_from}
-use Rattle.fs_nodes.specs.Graphs.{Graph, Kids, at, then_at, numbers, spell, IsGraph, set_kid, set_at, content_in, linked_in, unlinked_in, moved_in}
+use Rattle.fs_nodes.specs.Graphs.{Graph, Kids, numbers, IsGraph, set_kid, set_at, content_in, linked_in, unlinked_in, moved_in}
 use Rattle.fs_ops.specs.Records.{Holds, Stand}
-use Rattle.fs_laws.specs.Placed.{Aside}
-use Rattle.fs_laws.proofs.Prefixes.{prefix_append, prefix_some, same_true}
-use Rattle.fs_laws.proofs.Commutes.{put_other, move_to, move_else, move_gone}
-use Rattle.fs_laws.proofs.Passing.{prefix_before}
-use Rattle.fs_laws.proofs.Walks.{eqb_true, eqb_refl, at_child, at_from, at_before, set_else, then_some}
-use Rattle.fs_laws.proofs.Links.{CanLink, CanUnlink, CanMove, numbers_linked, numbers_unlinked, numbers_moved, move_one, at_cut}
-use Rattle.fs_laws.proofs.Listing.{has_with, with_else, has_without, without_else, graph_content}
+use Rattle.fs_laws.proofs.Prefixes.{prefix_append}
+use Rattle.fs_laws.proofs.Walks.{at_child, set_else}
+use Rattle.fs_laws.proofs.Links.{CanLink, CanUnlink, CanMove, numbers_linked, numbers_unlinked, numbers_moved}
+use Rattle.fs_laws.proofs.Listing.{graph_content}
 use Rattle.fs_laws.proofs.Linking.{graph_linked}
 use Rattle.fs_laws.proofs.Unlinking.{graph_unlinked}
 use Rattle.fs_laws.proofs.Moving.{Replaced, graph_moved}
@@ -35,9 +31,11 @@ shapes_set f Reached dir v s there was = record { to_new = λ n t e. new n t e (
     new : (n : ℕ) (t : Shape) → f n ≡ Some t → Place (Option Shape) dir (Some v) f n → (t : Shape) × (set_at dir (Some v) f n ≡ Some t)
     new n t e (Here i j) = (v, j)
     new n t e (Else m j) = (t, j ∙ e)
+
     old : (n : ℕ) (t : Shape) → set_at dir (Some v) f n ≡ Some t → Place (Option Shape) dir (Some v) f n → (t : Shape) × (f n ≡ Some t)
     old n t e (Here i j) = (s, ap f i ∙ was)
     old n t e (Else m j) = (t, sym j ∙ e)
+
     loose : (n : ℕ) → (Reached n → ⊥) → Place (Option Shape) dir (Some v) f n → set_at dir (Some v) f n ≡ f n
     loose n h (Here i j) = absurd (h (subst Reached (sym i) there))
     loose n h (Else m j) = j
@@ -111,10 +109,12 @@ unlinked_gone graph is k dir x n can l e = go (after_prefix (k ++ x ∷ []) l) r
   where
     at_t : numbers graph (k ++ x ∷ []) ≡ Some n
     at_t = at_child graph.kid 0 dir k x can.dir_at ∙ can.there
+
     same_key : numbers graph l ≡ Some n → (o : Option Key) → after_prefix (k ++ x ∷ []) l ≡ o → o ≡ Some []
     same_key f o i =
         let j : l ≡ (k ++ x ∷ []) ++ [] = is.one_key l (k ++ x ∷ []) n f at_t ∙ sym (append-nil (k ++ x ∷ [])) in
         sym i ∙ ap (after_prefix (k ++ x ∷ [])) j ∙ prefix_append (k ++ x ∷ []) []
+
     go : (o : Option Key) → after_prefix (k ++ x ∷ []) l ≡ o → put_at None (numbers graph) l o ≡ Some n → ⊥
     go None i f = let z : ◌≡◌ {A = Option Key} None (Some []) = same_key f None i in cc
     go (Some []) i f = cc
@@ -127,6 +127,7 @@ move_reach s t tree l n e = go (after_prefix t l) e
     elsewhere : (o : Option Key) → moved_from tree l o ≡ Some n → (k : Key) × (tree k ≡ Some n)
     elsewhere None e = (l, e)
     elsewhere (Some r) e = cc
+
     go : (o : Option Key) → moved_to s tree l o ≡ Some n → (k : Key) × (tree k ≡ Some n)
     go (Some r) e = (s ++ r, e)
     go None e = elsewhere (after_prefix s l) e
@@ -157,11 +158,13 @@ moved_gone graph is kf from x kt to y n v can there l e = go (after_prefix (kt +
   where
     at_t : numbers graph (kt ++ y ∷ []) ≡ Some v
     at_t = at_child graph.kid 0 to kt y can.to_at ∙ there
+
     elsewhere : (o : Option Key) → after_prefix (kt ++ y ∷ []) l ≡ None → moved_from (numbers graph) l o ≡ Some v → ⊥
     elsewhere (Some r) i f = cc
     elsewhere None i f =
         let j : l ≡ (kt ++ y ∷ []) ++ [] = is.one_key l (kt ++ y ∷ []) v f at_t ∙ sym (append-nil (kt ++ y ∷ [])) in
         let z : ◌≡◌ {A = Option Key} None (Some []) = sym i ∙ ap (after_prefix (kt ++ y ∷ [])) j ∙ prefix_append (kt ++ y ∷ []) [] in cc
+
     go : (o : Option Key) → after_prefix (kt ++ y ∷ []) l ≡ o → moved_to (kf ++ x ∷ []) (numbers graph) l o ≡ Some v → ⊥
     go None i f = elsewhere (after_prefix (kf ++ x ∷ []) l) i f
     go (Some r) i f =

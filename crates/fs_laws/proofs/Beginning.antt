@@ -1,5 +1,5 @@
 -- A begin keeps what every state keeps.
-use Rattle.std.proofs.Common.{◌≡◌, ℕ, ◌<◌, ◌+◌, Bool, true, false, List, [], ◌∷◌, ◌++◌, Option, Some, None, refl, sym, ap, ap₂, ◌∙◌, arith, subst, inl, inr}
+use Rattle.std.proofs.Common.{◌≡◌, ℕ, ◌<◌, ◌+◌, true, false, List, [], ◌∷◌, ◌++◌, Option, Some, None, refl, sym, ap, ◌∙◌, arith, subst, inl, inr}
 use Rattle.fs_names.specs.Keys.{Key}
 use Rattle.fs_names.specs.Names.{Name, has_name}
 use Rattle.fs_names.specs.Shapes.{Shape, Dir, File}
@@ -7,12 +7,11 @@ use Rattle.fs_seq.specs.Forms.{form, EntryCall, Mkdir, Mknod, Unlink, Rmdir, For
 use Rattle.fs_seq.specs.Maps.{Map}
 use Rattle.fs_seq.specs.declared.call.Call.{Call}
 use Rattle.fs_seq.specs.declared.reply.Reply.{Reply}
-use Rattle.fs_nodes.specs.Graphs.{Graph, at, numbers, spell, set_at, IsGraph, reserved_in}
-use Rattle.fs_journal.specs.declared.entry.Entry.{Entry}
+use Rattle.fs_nodes.specs.Graphs.{Graph, numbers, spell, set_at, IsGraph, reserved_in}
 use Rattle.fs_journal.specs.declared.entry.Entry.TheVariants.{Begin}
-use Rattle.fs_ops.specs.Records.{Phase, Walking, Placed, Finished, Holds, Record, Records, Stand}
-use Rattle.fs_laws.specs.Books.{begins, commit_count, Book, start, book_of, noted, IsNext}
-use Rattle.fs_laws.specs.Invariants.{remaining_of, spots, IsPlaced, HasSpare, IsIn, NumberFor, HasNumber, Own, Invariant, BeginKeeps, Tied, Dues}
+use Rattle.fs_ops.specs.Records.{Phase, Walking, Placed, Finished, Holds, Record, Stand}
+use Rattle.fs_laws.specs.Books.{begins, commit_count, Book, start, book_of, noted}
+use Rattle.fs_laws.specs.Invariants.{remaining_of, spots, IsPlaced, HasSpare, IsIn, NumberFor, Own, Invariant, BeginKeeps, Tied, Dues}
 use Rattle.fs_laws.specs.Settled.{settle, settle_replies}
 use Rattle.fs_laws.specs.Stands.{Kept}
 use Rattle.fs_laws.specs.States.{State, Begun_as, Reserves, began, new_op}
@@ -107,9 +106,11 @@ begin_keeps old inv seat call c reserved graph used free number g = record {
         fixed : (d : ℕ) (q : Record) (r : Reply) → Either old.ops c (new_op seat call reserved) d q → q.phase ≡ Finished r → (book_of start old.timeline).due d ≡ Some r
         fixed d q r (Changed e f) h = let z : ◌≡◌ {A = Phase} Walking (Finished r) = ap (λ (o : Record). o.phase) f ∙ h in cc
         fixed d q r (Old m e) h = inv.tied.fixed d q r e h
+
         not_due : (d : ℕ) (q : Record) → Either old.ops c (new_op seat call reserved) d q → q.phase ≡ Walking → (book_of start old.timeline).due d ≡ None
         not_due d q (Changed e f) h = ap (book_of start old.timeline).due e ∙ nothing.0
         not_due d q (Old m e) h = inv.tied.fresh d q e h
+
         calls : (d : ℕ) (q : Record) → Either old.ops c (new_op seat call reserved) d q → set_at c (Some call) (book_of start old.timeline).call d ≡ Some q.call
         calls d q (Changed e f) = here (place c (Some call) (book_of start old.timeline).call d)
           where
@@ -163,6 +164,7 @@ begin_keeps old inv seat call c reserved graph used free number g = record {
         here : d ≡ c → Place (Option Record) c (Some (new_op seat call reserved)) old.ops d → s ≡ seat → (q : Record) × (set_at c (Some (new_op seat call reserved)) old.ops d ≡ Some q) × (q.seat ≡ s)
         here i (Here k l) h = (new_op seat call reserved, l, sym h)
         here i (Else n l) h = absurd (n i)
+
         go : Place (Option ℕ) seat (Some c) old.on_seat s → (q : Record) × (set_at c (Some (new_op seat call reserved)) old.ops d ≡ Some q) × (q.seat ≡ s)
         go (Here i j) = let z : ◌≡◌ {A = Option ℕ} (Some c) (Some d) = sym j ∙ e in here (let y : d ≡ c = cc in y) (place c (Some (new_op seat call reserved)) old.ops d) i
         go (Else n j) =
@@ -251,5 +253,6 @@ keeps_begun c old new seat call inv (free, number, r) = go (reserves (form call)
         there : (n : ℕ) (s : Shape) → Place (Option Shape) n (Some s) old.graph.shape n → (reserved_in n s old.graph).shape n ≡ Some s
         there n s (Here j k) = k
         there n s (Else j k) = absurd (j refl)
+
         new_number : (n m : ℕ) (s : Shape) → old.graph.shape n ≡ None → (reserved_in n s old.graph).shape n ≡ Some s → Some n ≡ Some m → (old.graph.shape m ≡ None) × ((t : Shape) × ((reserved_in n s old.graph).shape m ≡ Some t))
         new_number n m s unused here e = let z : n ≡ m = cc in (sym (ap old.graph.shape z) ∙ unused, (s, sym (ap (reserved_in n s old.graph).shape z) ∙ here))

@@ -1,28 +1,26 @@
 -- What a call that is about to finish reads and changes lies below no call that is to go on before it.
-use Rattle.std.proofs.Common.{◌≡◌, ℕ, Bool, true, false, cond, not, ◌&&◌, ◌||◌, List, [], ◌∷◌, ◌++◌, Option, Some, None, refl, sym, ap, ap₂, ◌∙◌, append_assoc, append-nil, subst, ◌⊎◌, inl, inr}
-use Rattle.fs_names.specs.Keys.{Key, after_prefix, parent_of, last_of, has_more}
+use Rattle.std.proofs.Common.{◌≡◌, ℕ, Bool, true, false, List, [], ◌∷◌, ◌++◌, Option, Some, None, refl, sym, ap, ap₂, ◌∙◌, append_assoc, append-nil, subst, ◌⊎◌, inl, inr}
+use Rattle.fs_names.specs.Keys.{Key, after_prefix, parent_of, last_of}
 use Rattle.fs_names.specs.Names.{Name, has_name}
-use Rattle.fs_names.specs.Parts.{HasNames, common, left, is_end}
+use Rattle.fs_names.specs.Parts.{HasNames}
 use Rattle.fs_names.specs.Shapes.{Shape, Dir, File, is_full, names_of}
-use Rattle.fs_seq.specs.Changes.{Change, resolve, resolve_dir, looked, outcome, edit_change, content_change, move_change, rename_writes, unless}
-use Rattle.fs_seq.specs.Forms.{NodeCall, EntryCall, Mkdir, Mknod, Unlink, Rmdir, Form, On, In, Rename, under, Fits}
-use Rattle.fs_seq.specs.Maps.{Map}
-use Rattle.fs_seq.specs.Rows.{on_row, Edit, Keep, Add, Remove, in_row, in_there, rename_row, to_row}
+use Rattle.fs_seq.specs.Changes.{resolve, resolve_dir, looked, edit_change, content_change}
+use Rattle.fs_seq.specs.Forms.{NodeCall, EntryCall, Mkdir, Mknod, Unlink, Rmdir, Form, On, In, under, Fits}
+use Rattle.fs_seq.specs.Rows.{on_row, Edit, Keep, Add, Remove, in_row}
 use Rattle.fs_seq.specs.declared.errno.Errno.{Errno}
-use Rattle.fs_seq.specs.declared.reply.Reply.{Reply}
 use Rattle.fs_nodes.specs.Graphs.{Graph, at, then_at, numbers, spell, entry_shape, IsGraph}
-use Rattle.fs_ops.specs.Moves.{Move, Takes, Finishes, first_of, head_move, take_if, target, target_move, next_on, walk_move, victim_of, same_kind, in_move, fork_move, rename_move, dir_then, dir_error, walk_errno, rename_at, there_by}
+use Rattle.fs_ops.specs.Moves.{Finishes, take_if, target_move, next_on, walk_move, victim_of, in_move}
 use Rattle.fs_ops.specs.Records.{Holds, Stand}
-use Rattle.fs_laws.specs.Invariants.{Forked, ForkedAt, StandsWell, VictimAt}
-use Rattle.fs_laws.specs.Placed.{Blind, AllOff, Clear, ClearMove, Aside, looks_into}
-use Rattle.fs_laws.specs.Stands.{Located, IsClear}
-use Rattle.fs_laws.proofs.Prefixes.{prefix_append, prefix_some, prefix_both}
-use Rattle.fs_laws.proofs.Passing.{child_cases, prefix_before}
-use Rattle.fs_laws.proofs.Located.{key_is, dir_under, last_under, in_more, from_more, to_more, change_under, more_under}
-use Rattle.fs_laws.proofs.Walks.{at_before, at_child, at_from, then_some}
+use Rattle.fs_laws.specs.Invariants.{VictimAt}
+use Rattle.fs_laws.specs.Placed.{Blind, Clear}
+use Rattle.fs_laws.specs.Stands.{IsClear}
+use Rattle.fs_laws.proofs.Prefixes.{prefix_append, prefix_some}
+use Rattle.fs_laws.proofs.Passing.{child_cases}
+use Rattle.fs_laws.proofs.Located.{key_is, dir_under, in_more, change_under}
+use Rattle.fs_laws.proofs.Walks.{at_child, at_from, then_some}
 use Rattle.fs_laws.proofs.Finishing.{Stops}
 use Rattle.fs_laws.proofs.Making.{head_stops}
-use Rattle.fs_laws.proofs.Pairs.{Parted, parted, held_off}
+use Rattle.fs_laws.proofs.Pairs.{Parted, parted}
 
 -- where a walk has stopped, no node is there below by the names that are left
 pub stops_here : (graph : Graph) → IsGraph graph → (h m : ℕ) (x : Name) (l : Key) → walk_move (graph.shape h) (graph.kid h x) ≡ Finishes None → at graph.kid h (x ∷ l) ≡ Some m → ⊥
@@ -44,6 +42,7 @@ stopped_off graph is k kd (x ∷ l) h m at_h stop at_m off = go (after_prefix kd
         let s : x ≡ y = cc in
         let j : numbers graph (k ++ y ∷ mid) ≡ Some m = ap (numbers graph) (sym (p.left ∙ ap (λ (z : Key). k ++ z) e)) ∙ at_m in
         stops_here graph is h m x mid stop (ap (λ (n : Name). at graph.kid h (n ∷ mid)) s ∙ sym (at_from graph.kid 0 h k (y ∷ mid) at_h) ∙ j)
+
     go : (o : Option Key) → after_prefix kd (k ++ x ∷ l) ≡ o → o ≡ None
     go None e = refl
     go (Some r) e = let p : Parted k kd (x ∷ l) r = parted k (x ∷ l) kd r (prefix_some kd (k ++ x ∷ l) r e) off in absurd (between r p p.mid refl)
@@ -98,6 +97,7 @@ in_blind graph is k c (x ∷ []) st o kd other at_k fits victim e f = (ap (after
   where
     read : spell graph (k ++ x ∷ []) ≡ entry_shape graph st.node x
     read = ap (λ (n : Option ℕ). then_at n graph.shape) (at_child graph.kid 0 st.node k x at_k)
+
     go : victim_of c (spell graph (k ++ x ∷ [])) ≡ true → (after_prefix kd (k ++ x ∷ []) ≡ None) ⊎ (kd ≡ k ++ x ∷ []) → after_prefix kd (k ++ x ∷ []) ≡ None
     go v (inl h) = h
     go v (inr h) =
@@ -123,21 +123,27 @@ in_off graph is k c p st o kd other s at_k fits victim e f in_use = record { bli
   where
     more : HasNames p
     more = in_more c p fits
+
     both : (after_prefix kd (k ++ parent_of p) ≡ None) × (victim_of c (spell graph (k ++ p)) ≡ true → after_prefix kd (k ++ p) ≡ None)
     both = in_blind graph is k c p st o kd other at_k fits victim e f
+
     key : (k ++ parent_of p) ++ last_of p ∷ [] ≡ k ++ p
     key = append_assoc k (parent_of p) (last_of p ∷ []) ∙ ap (λ (l : Key). k ++ l) (sym (key_is p more))
+
     row : Edit
     row = (in_row c (resolve_dir (λ r. spell graph (k ++ r)) (parent_of p)) (is_full (spell graph (k ++ parent_of p))) (spell graph (k ++ p))).1
+
     itself : kd ≡ k ++ p → after_prefix kd (k ++ p) ≡ None → ⊥
     itself h z = let w : after_prefix kd kd ≡ Some [] = ap (after_prefix kd) (sym (append-nil kd)) ∙ prefix_append kd [] in let y : ◌≡◌ {A = Option Key} (Some []) None = sym w ∙ ap (after_prefix kd) h ∙ z in cc
+
     by : (b : Bool) → kd ≡ k ++ p → victim_of c (spell graph (k ++ p)) ≡ b → Clear (change_under k (edit_change (parent_of p) (names_of (spell graph (k ++ parent_of p))) (last_of p) p row)) kd
     by true h v = absurd (itself h (both.1 v))
     by false h v =
         let there : spell graph (k ++ p) ≡ Some s = ap (spell graph) (sym h) ∙ ap (λ (n : Option ℕ). then_at n graph.shape) f.there ∙ in_use in
         kept_clear k kd (parent_of p) (names_of (spell graph (k ++ parent_of p))) (last_of p) p row
-            (ap (λ (t : Option Shape). (in_row c (resolve_dir (λ r. spell graph (k ++ r)) (parent_of p)) (is_full (spell graph (k ++ parent_of p))) t).1) there
-            ∙ edit_keeps c (resolve_dir (λ r. spell graph (k ++ r)) (parent_of p)) (is_full (spell graph (k ++ parent_of p))) s (ap (victim_of c) (sym there) ∙ v))
+        (ap (λ (t : Option Shape). (in_row c (resolve_dir (λ r. spell graph (k ++ r)) (parent_of p)) (is_full (spell graph (k ++ parent_of p))) t).1) there
+        ∙ edit_keeps c (resolve_dir (λ r. spell graph (k ++ r)) (parent_of p)) (is_full (spell graph (k ++ parent_of p))) s (ap (victim_of c) (sym there) ∙ v))
+
     go : (after_prefix kd ((k ++ parent_of p) ++ last_of p ∷ []) ≡ None) ⊎ (kd ≡ (k ++ parent_of p) ++ last_of p ∷ []) → Clear (change_under k (edit_change (parent_of p) (names_of (spell graph (k ++ parent_of p))) (last_of p) p row)) kd
     go (inl h) = edit_clear k kd (parent_of p) (names_of (spell graph (k ++ parent_of p))) (last_of p) p row both.0 (ap (after_prefix kd) (sym key) ∙ h)
     go (inr h) = by (victim_of c (spell graph (k ++ p))) (h ∙ key) refl

@@ -58,8 +58,10 @@ unknown_step book (Commit n) u ((call, known), new) c e = go (place n (Some (rep
   where
     is : commit_of book n (book.call n) ≡ commit_of book n (Some call)
     is = ap (commit_of book n) known
+
     old : book.call c ≡ None
     old = sym (ap (λ (b : Book). b.call c) is) ∙ e
+
     go : Place (Option Reply) n (Some (reply book.tree (form call))) book.due c → ((commit_of book n (book.call n)).due c ≡ None) × ((commit_of book n (book.call n)).back c ≡ false)
     go (Here i j) = let z : ◌≡◌ {A = Option Call} (Some call) None = sym known ∙ ap book.call (sym i) ∙ old in cc
     go (Else m j) = (ap (λ (b : Book). b.due c) is ∙ j ∙ (u c old).0, ap (λ (b : Book). b.back c) is ∙ (u c old).1)

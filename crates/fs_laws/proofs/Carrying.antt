@@ -1,8 +1,8 @@
 -- Carrying out a placed call keeps what every state keeps.
-use Rattle.std.proofs.Common.{◌≡◌, ℕ, ◌<◌, Bool, true, false, List, [], ◌∷◌, ◌++◌, Option, Some, None, refl, sym, ap, ap₂, ◌∙◌, arith, subst, ◌⊎◌, inl, inr}
+use Rattle.std.proofs.Common.{◌≡◌, ℕ, ◌<◌, List, [], ◌∷◌, ◌++◌, Option, Some, None, refl, sym, ap, ap₂, ◌∙◌, arith, subst, ◌⊎◌, inl, inr}
 use Rattle.fs_names.specs.Keys.{Key, after_prefix}
 use Rattle.fs_names.specs.Shapes.{Shape}
-use Rattle.fs_seq.specs.Changes.{Change, changed, outcome, reply, after}
+use Rattle.fs_seq.specs.Changes.{Change, reply}
 use Rattle.fs_seq.specs.Forms.{form, Form, under, Fits, by_text}
 use Rattle.fs_seq.specs.Maps.{Map}
 use Rattle.fs_seq.specs.declared.errno.Errno.{Errno}
@@ -11,11 +11,11 @@ use Rattle.fs_nodes.specs.Graphs.{Graph, numbers, spell, set_at}
 use Rattle.fs_ops.specs.Finishes.{Made, made_at, made_by, finish}
 use Rattle.fs_ops.specs.Moves.{Finishes, next_on}
 use Rattle.fs_ops.specs.Records.{Phase, Walking, Placed, Finished, Record, Records, Stand}
-use Rattle.fs_laws.specs.Books.{commit_count, Book, start, book_of}
+use Rattle.fs_laws.specs.Books.{start, book_of}
 use Rattle.fs_laws.specs.Invariants.{remaining_of, spots, IsPlaced, AllLater, InOrder, HasSpare, IsIn, Own, Invariant, StepKeeps, Tied}
-use Rattle.fs_laws.specs.Placed.{Passes, Standing, rekey, rekey_by, rekey_move, rekey_all}
+use Rattle.fs_laws.specs.Placed.{Standing, rekey, rekey_by, rekey_move, rekey_all}
 use Rattle.fs_laws.specs.Settled.{settle, settle_replies}
-use Rattle.fs_laws.specs.Stands.{IsAfter, Keeps, Kept, Pair}
+use Rattle.fs_laws.specs.Stands.{IsAfter, Kept}
 use Rattle.fs_laws.specs.States.{State, CarriedOut, finished_op, carrying}
 use Rattle.fs_laws.proofs.Prefixes.{prefix_deeper}
 use Rattle.fs_laws.proofs.Located.{change_under, moves_under, fits_under}
@@ -23,9 +23,9 @@ use Rattle.fs_laws.proofs.Ledger.{Carried, carried}
 use Rattle.fs_laws.proofs.Spots.{standing_of, two_calls}
 use Rattle.fs_laws.proofs.Tying.{phased, tied_carry}
 use Rattle.fs_laws.proofs.Altering.{Altered, Reached}
-use Rattle.fs_laws.proofs.Doing.{Finisher, Does}
+use Rattle.fs_laws.proofs.Doing.{Finisher}
 use Rattle.fs_laws.proofs.Owning.{own_other, own_finished}
-use Rattle.fs_laws.proofs.Finished.{Closing, ended, ends_keep, SameCalls}
+use Rattle.fs_laws.proofs.Finished.{Closing, ended, ends_keep}
 use Rattle.fs_laws.proofs.Committing.{Ready, By_text, Stands, ready, Facts, facts, passes_list, spots_rekey, order_without, placed_in}
 
 -- a list parted at a number
@@ -161,8 +161,10 @@ carry_standing old inv c op i st o front back order_is is pl text on n =
       where
         pd : IsPlaced old.ops d
         pd = record { op = q; stand = ((inv.own d q e).placed a g).0; place = a; is = e; on = ((inv.own d q e).placed a g).1; phase = g }
+
         b_is : i ≡ b
         b_is = let z : ◌≡◌ {A = Phase} (Placed i) (Placed b) = sym pl ∙ h in cc
+
         go : IsIn d front ⊎ (d ≡ c) ⊎ IsIn d back → ⊥
         go (inl j) = let l : a < i = front_less old.ops c front back ordered pc d pd j in let z : i ≡ b = b_is in omega (arith, l, z, same)
         go (inr (inl j)) = differs (sym j)
@@ -211,8 +213,8 @@ carry_standing old inv c op i st o front back order_is is pl text on n =
         (standing_of old.graph inv.is_graph old.ops inv.key inv.kept front ordered_front)
         (passes_list old.graph old.ops inv.key c op st facts_of front ordered_front (λ d p j. (differs_front d p j, subst (λ (z : Phase). IsAfter (Placed p.place) z) (sym pl) (front_less old.ops c front back ordered pc d p j))))
         (subst (λ (t : Map Shape). Standing t (rekey_all facts_of.ch (spots old.ops inv.key front))) facts_of.tree_is
-            (subst (Standing (spell (made_at old.graph op.remaining st op.reserved).graph)) (spots_rekey old.ops inv.key facts_of.ch front)
-                (standing_of (made_at old.graph op.remaining st op.reserved).graph new_is.is_graph old.ops (λ d. rekey facts_of.ch (inv.key d)) facts_of.does.kept front ordered_front)))
+        (subst (Standing (spell (made_at old.graph op.remaining st op.reserved).graph)) (spots_rekey old.ops inv.key facts_of.ch front)
+        (standing_of (made_at old.graph op.remaining st op.reserved).graph new_is.is_graph old.ops (λ d. rekey facts_of.ch (inv.key d)) facts_of.does.kept front ordered_front)))
 
     back_is : spots old.ops (λ d. rekey facts_of.ch (inv.key d)) back ≡ spots old.ops inv.key back
     back_is = spots_off old.ops inv.key facts_of.ch back still
@@ -221,7 +223,7 @@ carry_standing old inv c op i st o front back order_is is pl text on n =
         still d j =
             let p : IsPlaced old.ops d = placed_in old.ops d back (order_back old.ops front (c ∷ back) ordered).2 j in
             let off : after_prefix (inv.key c) (inv.key d) ≡ None =
-                (inv.kept.pairs c d op p.op st p.stand (differs_back d p j) is p.is on p.on).after (subst (λ (z : Phase). IsAfter z p.op.phase) (sym pl) (subst (λ (z : Phase). IsAfter (Placed i) z) (sym p.phase) (back_more old.ops c front back ordered pc d p j))) in
+            (inv.kept.pairs c d op p.op st p.stand (differs_back d p j) is p.is on p.on).after (subst (λ (z : Phase). IsAfter z p.op.phase) (sym pl) (subst (λ (z : Phase). IsAfter (Placed i) z) (sym p.phase) (back_more old.ops c front back ordered pc d p j))) in
             ap (λ (x : Change). rekey x (inv.key d)) facts_of.is_under.1 ∙ rekey_off (inv.key c) facts_of.is_under.0 (inv.key d) off
 
     whole : spots old.ops inv.key (front ++ c ∷ back) ≡ spots old.ops inv.key front ++ (inv.key c, op.remaining) ∷ spots old.ops inv.key back
@@ -243,6 +245,7 @@ carry_standing old inv c op i st o front back order_is is pl text on n =
       where
         p : IsPlaced old.ops d
         p = placed_in old.ops d (front ++ back) (order_drop old.ops c front back ordered) j
+
         go : IsIn d front ⊎ IsIn d back → ⊥
         go (inl k) = differs_front d p k (sym e)
         go (inr k) = differs_back d p k (sym e)
@@ -273,6 +276,7 @@ carry_standing old inv c op i st o front back order_is is pl text on n =
         joined d m (inl j) = in_front d front back j
         joined d m (inr (inl j)) = absurd (m j)
         joined d m (inr (inr j)) = in_back d front back j
+
         spares : (k : ℕ) → HasSpare (finished_op op (made_at old.graph op.remaining st op.reserved)) k → HasSpare op k ⊎ Reached old.graph k
         spares k (inl j) = inl (inl (facts_of.does.reserved k j))
         spares k (inr j) = inr (facts_of.does.removed k j).2
@@ -282,6 +286,7 @@ keeps_carried old new seat inv (c, op, s, i, moves, pl, same) = subst Invariant 
   where
     parts : Split c inv.order
     parts = split_at c inv.order (inv.all_placed c op i moves.1 pl).1
+
     go : Ready old.graph op s → Invariant (carrying old c op)
     go (By_text e text) = let p : (st : Stand) × (op.stand ≡ Some st) = (inv.own c op moves.1).placed i pl in absurd (text_nowhere old.graph op e (inv.own c op moves.1) (inv.kept.each c op p.0 moves.1 p.1).fits text)
     go (Stands st text on n) = carry_standing old inv c op i st s parts.front parts.back parts.is moves.1 pl text on n

@@ -1,27 +1,27 @@
 -- A commit keeps what every state keeps.
-use Rattle.std.proofs.Common.{◌≡◌, ℕ, ◌<◌, ◌+◌, Bool, true, false, List, [], ◌∷◌, ◌++◌, Option, Some, None, refl, sym, ap, ap₂, ◌∙◌, arith, subst, ◌⊎◌, inl, inr}
-use Rattle.fs_names.specs.Keys.{Key, after_prefix}
+use Rattle.std.proofs.Common.{◌≡◌, ℕ, ◌<◌, ◌+◌, List, [], ◌∷◌, ◌++◌, Option, Some, None, refl, sym, ap, ap₂, ◌∙◌, arith, subst, ◌⊎◌, inl, inr}
+use Rattle.fs_names.specs.Keys.{Key}
 use Rattle.fs_names.specs.Shapes.{Shape}
-use Rattle.fs_seq.specs.Changes.{Change, no_change, changed, looked, outcome, reply, after, unless, resolve}
+use Rattle.fs_seq.specs.Changes.{Change, no_change, changed, looked, outcome, reply, after, unless}
 use Rattle.fs_seq.specs.Forms.{form, Form, under, Fits, by_text}
 use Rattle.fs_seq.specs.declared.call.Call.{Call}
 use Rattle.fs_seq.specs.Maps.{Map, below}
 use Rattle.fs_seq.specs.declared.errno.Errno.{Errno}
 use Rattle.fs_seq.specs.declared.reply.Reply.{Reply}
 use Rattle.fs_seq.specs.declared.reply.Reply.TheVariants.{Failed}
-use Rattle.fs_nodes.specs.Graphs.{Graph, at, numbers, spell, set_at, IsGraph}
+use Rattle.fs_nodes.specs.Graphs.{Graph, numbers, spell, set_at}
 use Rattle.fs_journal.specs.declared.entry.Entry.{Entry}
 use Rattle.fs_journal.specs.declared.entry.Entry.TheVariants.{Commit}
 use Rattle.fs_ops.specs.Finishes.{Made, kept_as, made_at, made_by, finish}
-use Rattle.fs_ops.specs.Moves.{Move, Takes, Leaves, Finishes, next, next_by, next_on}
-use Rattle.fs_ops.specs.Records.{Phase, Walking, Placed, Finished, Holds, Record, Records, Stand}
-use Rattle.fs_laws.specs.Books.{begins, commit_count, Book, start, book_of, IsNext, IsLawful}
-use Rattle.fs_laws.specs.Invariants.{remaining_of, spots, IsPlaced, AllLater, InOrder, HasSpare, IsIn, IsUnfinished, Own, Invariant, StepKeeps, Tied}
+use Rattle.fs_ops.specs.Moves.{Finishes, next, next_by, next_on}
+use Rattle.fs_ops.specs.Records.{Phase, Walking, Placed, Finished, Record, Records, Stand}
+use Rattle.fs_laws.specs.Books.{commit_count, Book, start, book_of, IsNext}
+use Rattle.fs_laws.specs.Invariants.{remaining_of, spots, IsPlaced, AllLater, InOrder, HasSpare, IsIn, Own, Invariant, StepKeeps, Tied}
 use Rattle.fs_laws.specs.Placed.{Blind, Clear, Passes, PastAll, Standing, rekey, rekey_all}
 use Rattle.fs_laws.specs.Settled.{settle, settle_replies}
-use Rattle.fs_laws.specs.Stands.{IsAfter, Keeps, Kept, Pair, Located}
-use Rattle.fs_laws.specs.States.{State, Committed, NoneBelow, IsWalkingBelow, finished_op, committing}
-use Rattle.fs_laws.proofs.Located.{change_under, outcome_under, outcome_located, fits_under}
+use Rattle.fs_laws.specs.Stands.{IsAfter, Keeps, Kept, Pair}
+use Rattle.fs_laws.specs.States.{State, Committed, NoneBelow, finished_op, committing}
+use Rattle.fs_laws.proofs.Located.{change_under, outcome_located, fits_under}
 use Rattle.fs_laws.proofs.Passing.{past_all}
 use Rattle.fs_laws.proofs.Links.{resolve_at}
 use Rattle.fs_laws.proofs.Making.{finish_reply}
@@ -30,7 +30,7 @@ use Rattle.fs_laws.proofs.Books.{book_push, lawful_push}
 use Rattle.fs_laws.proofs.Spots.{standing_of}
 use Rattle.fs_laws.proofs.Tying.{phased, committed, noted_commit, not_placed, tied_commit}
 use Rattle.fs_laws.proofs.Helping.{commits_push, begins_push, upd_else, to_new}
-use Rattle.fs_laws.proofs.Altering.{Altered, Shapes, Reached, shapes_same, altered_same}
+use Rattle.fs_laws.proofs.Altering.{Altered, Reached, shapes_same}
 use Rattle.fs_laws.proofs.Blinds.{Front, Off}
 use Rattle.fs_laws.proofs.Renames.{off_of}
 use Rattle.fs_laws.proofs.Doing.{Finisher, Does}
@@ -120,6 +120,7 @@ order_without ops c v (d ∷ cs) n o = (to_new ops c v d (n d (inl refl)) o.0, l
   where
     old : (d : ℕ) → (d ≡ c → ⊥) → IsPlaced (set_at c v ops) d → IsPlaced ops d
     old d n p = record { op = p.op; stand = p.stand; place = p.place; is = sym (upd_else c v ops d n) ∙ p.is; on = p.on; phase = p.phase }
+
     later : (cs : List ℕ) → ((e : ℕ) → IsIn e cs → e ≡ c → ⊥) → AllLater ops o.0.place cs → AllLater (set_at c v ops) o.0.place cs
     later [] n l = tt
     later (e ∷ cs) n l = (λ p. l.0 (old e (n e (inl refl)) p), later cs (λ x i. n x (inr i)) l.1)
@@ -192,8 +193,8 @@ commit_standing old inv c op st o is w below text on n =
         (standing_of old.graph inv.is_graph old.ops inv.key inv.kept inv.order inv.in_order)
         (passes_list old.graph old.ops inv.key c op st facts_of inv.order inv.in_order (λ d p i. ((λ e. others d p (sym e)), subst (λ (z : Phase). IsAfter (Placed p.place) z) (sym w) tt)))
         (subst (λ (t : Map Shape). Standing t (rekey_all facts_of.ch (spots old.ops inv.key inv.order))) facts_of.tree_is
-            (subst (Standing (spell (made_at old.graph op.remaining st op.reserved).graph)) (spots_rekey old.ops inv.key facts_of.ch inv.order)
-                (standing_of (made_at old.graph op.remaining st op.reserved).graph new_is.is_graph old.ops (λ d. rekey facts_of.ch (inv.key d)) facts_of.does.kept inv.order inv.in_order)))
+        (subst (Standing (spell (made_at old.graph op.remaining st op.reserved).graph)) (spots_rekey old.ops inv.key facts_of.ch inv.order)
+        (standing_of (made_at old.graph op.remaining st op.reserved).graph new_is.is_graph old.ops (λ d. rekey facts_of.ch (inv.key d)) facts_of.does.kept inv.order inv.in_order)))
 
     after_is : after (spell old.graph) (under (inv.key c) op.remaining) ≡ spell (made_at old.graph op.remaining st op.reserved).graph
     after_is = ap (λ (x : Change). changed x (spell old.graph)) facts_of.out ∙ sym facts_of.tree_is
@@ -249,6 +250,7 @@ commit_standing old inv c op st o is w below text on n =
             let b : i < commit_count old.timeline = a.0 in
             let z : commit_count (old.timeline ++ Commit c ∷ []) ≡ commit_count old.timeline + 1 = commits_push old.timeline c in
             ((omega arith), a.1)
+
         spares : (k : ℕ) → HasSpare (finished_op op (made_at old.graph op.remaining st op.reserved)) k → HasSpare op k ⊎ Reached old.graph k
         spares k (inl i) = inl (inl (facts_of.does.reserved k i))
         spares k (inr i) = inr (facts_of.does.removed k i).2
@@ -330,6 +332,7 @@ commit_text old inv c op e is w text = subst (λ (m : Made). Invariant (ended ol
             let b : i < commit_count old.timeline = a.0 in
             let z : commit_count (old.timeline ++ Commit c ∷ []) ≡ commit_count old.timeline + 1 = commits_push old.timeline c in
             ((omega arith), a.1)
+
         spares : (k : ℕ) → HasSpare (finished_op op (kept_as (Failed e) old.graph op.reserved)) k → HasSpare op k ⊎ Reached old.graph k
         spares k (inl i) = inl (inl i)
         spares k (inr i) = cc

@@ -1,39 +1,28 @@
 -- What a finish does to the graph and to where all calls stand.
-use Rattle.std.proofs.Common.{◌≡◌, ℕ, Bool, true, false, cond, not, ◌&&◌, ◌||◌, List, [], ◌∷◌, ◌++◌, Option, Some, None, refl, sym, ap, ap₂, ◌∙◌, append_assoc, append-nil, subst, ◌⊎◌, inl, inr}
-use mathlib.Core.Path.{fun_ext}
-use Rattle.fs_names.specs.Keys.{Key, after_prefix, parent_of, last_of, has_more}
-use Rattle.fs_names.specs.Names.{Name, has_name}
-use Rattle.fs_names.specs.Parts.{HasNames, common, is_end, left}
-use Rattle.fs_names.specs.Shapes.{Shape, Dir, File, is_full, names_of}
-use Rattle.fs_seq.specs.Changes.{Change, resolve_dir, looked, content_change, edit_change, move_change, rename_writes}
-use Rattle.fs_seq.specs.Forms.{NodeCall, Stat, Readdir, Read, Write, Truncate, EntryCall, Mkdir, Mknod, Unlink, Rmdir, Form, On, In, Rename, new_shape, Fits}
-use Rattle.fs_seq.specs.Maps.{Map, below, put, put_at, move, moved_to, moved_from}
-use Rattle.fs_seq.specs.Rows.{as_dir, on_file, on_row, Edit, Keep, Add, Remove, in_row, rename_row}
+use Rattle.std.proofs.Common.{◌≡◌, ℕ, Bool, true, false, List, [], ◌∷◌, ◌++◌, Option, Some, None, refl, sym, ap, ◌∙◌, append-nil, subst, ◌⊎◌}
+use Rattle.fs_names.specs.Keys.{Key, last_of}
+use Rattle.fs_names.specs.Names.{Name}
+use Rattle.fs_names.specs.Shapes.{Shape, Dir, File}
+use Rattle.fs_seq.specs.Changes.{Change, content_change, edit_change}
+use Rattle.fs_seq.specs.Forms.{NodeCall, EntryCall, Mkdir, Mknod, Unlink, Rmdir, Form, In, new_shape}
+use Rattle.fs_seq.specs.Maps.{Map, put}
+use Rattle.fs_seq.specs.Rows.{on_row, Edit, Keep, Add, Remove, in_row}
 use Rattle.fs_seq.specs.declared.errno.Errno.{Errno}
 use Rattle.fs_seq.specs.declared.reply.Reply.{Reply}
-use Rattle.fs_nodes.specs.Graphs.{Graph, at, then_at, numbers, spell, entry_shape, IsGraph, content_in, linked_in, unlinked_in, moved_in}
-use Rattle.fs_ops.specs.Finishes.{Made, kept_as, on_made, in_made, moved_made, rename_made, made_at}
-use Rattle.fs_ops.specs.Moves.{Move, Takes, Finishes, first_of, head_move, take_if, target, target_move, next_on, victim_of, in_move, fork_move, rename_move, moved_node, path_error, dir_error, walk_errno, rename_at, same_kind}
-use Rattle.fs_ops.specs.Records.{Walking, Placed, HeadHolds, Holds, Record, Records, Stand}
-use Rattle.fs_laws.specs.Invariants.{Forked, ForkedAt, StandsWell, VictimAt, NumberFor, HasNumber, IsSingle, Slot, At_node, At_source, At_dest, At_victim, in_slot, if_walked}
-use Rattle.fs_laws.specs.Placed.{Aside, rekey, rekey_by, rekey_move}
-use Rattle.fs_laws.specs.Stands.{Located, Keeps, Kept}
-use Rattle.fs_laws.proofs.Prefixes.{prefix_append, prefix_some, prefix_both}
-use Rattle.fs_laws.proofs.Passing.{prefix_before}
-use Rattle.fs_laws.proofs.Located.{key_is, dir_under, in_more, from_more, to_more, change_under}
-use Rattle.fs_laws.proofs.Walks.{at_before, at_child, at_from, then_some, prefix_shorter}
-use Rattle.fs_laws.proofs.Commutes.{put_other, move_to}
-use Rattle.fs_laws.proofs.Links.{CanLink, CanUnlink, CanMove, numbers_linked, numbers_unlinked, numbers_moved, put_one, move_one}
-use Rattle.fs_laws.proofs.Finishing.{Stops, ForkAt, below_is, spell_from, dir_read, arrived, rename_finish, in_finish, on_finish}
-use Rattle.fs_laws.proofs.Making.{head_stops, fork_stops, common_is, Leaf, leaf_kids, add_of, remove_of, no_entry, some_entry}
-use Rattle.fs_laws.proofs.Keeping.{kept_move}
+use Rattle.fs_nodes.specs.Graphs.{Graph, at, then_at, numbers, entry_shape, IsGraph, linked_in, unlinked_in}
+use Rattle.fs_ops.specs.Finishes.{Made, kept_as, on_made, in_made}
+use Rattle.fs_ops.specs.Moves.{Finishes, take_if, next_on, victim_of, in_move}
+use Rattle.fs_ops.specs.Records.{Walking, Placed, Record, Records, Stand}
+use Rattle.fs_laws.specs.Invariants.{StandsWell, VictimAt, NumberFor, HasNumber, IsSingle, At_node, At_source, At_dest, At_victim, if_walked}
+use Rattle.fs_laws.specs.Placed.{rekey, rekey_move}
+use Rattle.fs_laws.specs.Stands.{Located, Kept}
+use Rattle.fs_laws.proofs.Located.{change_under}
+use Rattle.fs_laws.proofs.Walks.{at_before, at_child}
+use Rattle.fs_laws.proofs.Links.{CanLink, CanUnlink, numbers_linked, numbers_unlinked, put_one}
+use Rattle.fs_laws.proofs.Making.{Leaf, leaf_kids, add_of, remove_of, no_entry}
 use Rattle.fs_laws.proofs.Putting.{kept_put, kept_cut, victim_off}
-use Rattle.fs_laws.proofs.Sparing.{Moves, spares_of}
-use Rattle.fs_laws.proofs.Moving.{Replaced}
-use Rattle.fs_laws.proofs.Altering.{Altered, Reached, altered_same, altered_content, altered_linked, altered_unlinked, altered_moved, unlinked_gone, moved_gone}
+use Rattle.fs_laws.proofs.Altering.{Altered, Reached, altered_same, altered_content, altered_linked, altered_unlinked, unlinked_gone}
 use Rattle.fs_laws.proofs.Blinds.{take_done}
-use Rattle.fs_laws.proofs.Reals.{Real, Replaces, real_of, at_entries, dir_of_none}
-use Rattle.fs_laws.proofs.Renames.{source_held, dest_held}
 
 -- a call that stands somewhere and whose next move is to finish
 pub record Finisher (graph : Graph) (ops : Records) (key : ℕ → Key) (c : ℕ) (op : Record) (st : Stand) (o : Option ℕ) : Type 0 where
@@ -129,11 +118,14 @@ own_off tree k st t v loc single vic at_t = (here, (λ e. source st.source.walke
   where
     node_is : (l : Key) (n : ℕ) → tree l ≡ Some n → l ≡ t → n ≡ v
     node_is l n e f = let z : ◌≡◌ {A = Option ℕ} (Some n) (Some v) = sym e ∙ ap tree f ∙ at_t in cc
+
     here : k ≡ t → ⊥
     here e = let z : At_node ≡ At_victim = single At_node At_victim v (ap Some (node_is k st.node loc.here e)) vic in cc
+
     source : (w : Key) → st.source.walked ≡ w → k ++ st.source.walked ≡ t → ⊥
     source [] i e = here (sym (append-nil k) ∙ ap (λ (l : Key). k ++ l) (sym i) ∙ e)
     source (x ∷ w) i e = let z : At_source ≡ At_victim = single At_source At_victim v (ap (λ (l : Key). if_walked l (Some st.source.node)) i ∙ ap Some (node_is (k ++ st.source.walked) st.source.node loc.source e)) vic in cc
+
     dest : (w : Key) → st.dest.walked ≡ w → k ++ st.dest.walked ≡ t → ⊥
     dest [] i e = here (sym (append-nil k) ∙ ap (λ (l : Key). k ++ l) (sym i) ∙ e)
     dest (x ∷ w) i e = let z : At_dest ≡ At_victim = single At_dest At_victim v (ap (λ (l : Key). if_walked l (Some st.dest.node)) i ∙ ap Some (node_is (k ++ st.dest.walked) st.dest.node loc.dest e)) vic in cc
@@ -157,20 +149,28 @@ does_in graph ops key c op st o e p d names z pp change ed full f rem dir done (
   where
     add : (ed ≡ None) × (new_shape e ≡ Some shape) × (entry_shape graph st.node (last_of p) ≡ None)
     add = add_of e ed full (entry_shape graph st.node (last_of p)) r shape i
+
     number : HasNumber graph e op.reserved
     number = subst (λ (x : Form). NumberFor graph x op.reserved) rem f.number
+
     has : (m : ℕ) × (op.reserved ≡ Some m) × (graph.shape m ≡ Some shape) × ((key : Key) → numbers graph key ≡ Some m → ⊥)
     has = number shape add.1
+
     here : numbers graph (key c) ≡ Some st.node
     here = (f.kept.each c op st f.is f.on).located.here
+
     can : CanLink graph (key c) st.node (last_of p) has.0
     can = record { dir_at = here; free = no_entry graph f.is_graph st.node (last_of p) add.2; used = (shape, has.2); unlinked = has.3 }
+
     ns : (ns : List Name) × (graph.shape st.node ≡ Some (Dir ns))
     ns = dir add.0
+
     free : numbers graph (key c ++ last_of p ∷ []) ≡ None
     free = at_child graph.kid 0 st.node (key c) (last_of p) here ∙ can.free
+
     put_kept : Kept (put (key c ++ last_of p ∷ []) (Some has.0) (numbers graph)) ops key
     put_kept = kept_put (numbers graph) ops key (key c ++ last_of p ∷ []) has.0 f.kept free (closed_of graph) (put_one (numbers graph) (key c ++ last_of p ∷ []) has.0 has.3 f.is_graph.one_key)
+
     made : Does graph ops key st (Some has.0) (change_under (key c) (edit_change d names z pp change)) (in_made graph st.node (last_of p) (Some has.0) (r, Add shape))
     made = record {
       linked = Some has.0;
@@ -185,28 +185,37 @@ does_in graph ops key c op st o e p d names z pp change ed full f rem dir done (
   where
     want : (ed ≡ None) × (victim_of e (entry_shape graph st.node (last_of p)) ≡ true)
     want = remove_victim e ed full (entry_shape graph st.node (last_of p)) (ap (λ (x : Reply × Edit). x.1) i)
+
     leaf_of : (v : Option ℕ) → Leaf (then_at v graph.shape) → (m : ℕ) × (v ≡ Some m) × Leaf (graph.shape m)
     leaf_of None l = absurd l
     leaf_of (Some m) l = (m, refl, l)
+
     v : (m : ℕ) × (graph.kid st.node (last_of p) ≡ Some m) × Leaf (graph.shape m)
     v = leaf_of (graph.kid st.node (last_of p)) (remove_of e ed full (entry_shape graph st.node (last_of p)) r i)
+
     held : st.victim ≡ Some v.0
     held =
         let t : take_if (victim_of e (entry_shape graph st.node (last_of p))) (Some v.0) st.victim (Finishes None) ≡ Finishes o = ap (λ (n : Option ℕ). take_if (victim_of e (entry_shape graph st.node (last_of p))) n st.victim (Finishes None)) (sym v.1) ∙ done want.0 in
         let w : (w : ℕ) × (st.victim ≡ Some w) = take_done (victim_of e (entry_shape graph st.node (last_of p))) v.0 st.victim o None want.1 t in
         let vic : VictimAt graph (In e p) st = subst (λ (x : Form). VictimAt graph x st) rem f.victim in
         w.1 ∙ sym (vic w.0 w.1) ∙ v.1
+
     loc : Located (numbers graph) (key c) st
     loc = (f.kept.each c op st f.is f.on).located
+
     can : CanUnlink graph (key c) st.node (last_of p) v.0
     can = record { dir_at = loc.here; there = v.1; leaf = leaf_kids graph f.is_graph v.0 (graph.shape v.0) refl v.2 }
+
     at_t : numbers graph (key c ++ last_of p ∷ []) ≡ Some v.0
     at_t = at_child graph.kid 0 st.node (key c) (last_of p) loc.here ∙ v.1
+
     ns : (ns : List Name) × (graph.shape st.node ≡ Some (Dir ns))
     ns = dir want.0
+
     cut : Kept (put (key c ++ last_of p ∷ []) None (numbers graph)) ops key
     cut = kept_cut (numbers graph) ops key (key c ++ last_of p ∷ []) f.kept
         (victim_off (numbers graph) ops key c op st (key c ++ last_of p ∷ []) v.0 f.kept f.is f.on held at_t (own_off (numbers graph) (key c) st (key c ++ last_of p ∷ []) v.0 loc f.single held at_t))
+
     made : (n : Option ℕ) → Does graph ops key st n (change_under (key c) (edit_change d names z pp change)) (record { reply = r; graph = unlinked_in st.node (last_of p) graph; reserved = n; removed = graph.kid st.node (last_of p) })
     made n = record {
       linked = None;
@@ -220,6 +229,7 @@ does_in graph ops key c op st o e p d names z pp change ed full f rem dir done (
           let y : v.0 ≡ m = cc in
           (held ∙ q, (λ l h. unlinked_gone graph f.is_graph (key c) st.node (last_of p) v.0 can l (h ∙ sym q)), (key c ++ last_of p ∷ [], at_t ∙ q)));
     }
+
     reserved_either : (n : Option ℕ) → op.reserved ≡ n → Does graph ops key st op.reserved (change_under (key c) (edit_change d names z pp change)) (in_made graph st.node (last_of p) op.reserved (r, Remove))
     reserved_either None j = subst (λ (n : Option ℕ). Does graph ops key st n (change_under (key c) (edit_change d names z pp change)) (in_made graph st.node (last_of p) n (r, Remove))) (sym j) (made None)
     reserved_either (Some m) j = subst (λ (n : Option ℕ). Does graph ops key st n (change_under (key c) (edit_change d names z pp change)) (in_made graph st.node (last_of p) n (r, Remove))) (sym j) (made (Some m))

@@ -1,32 +1,32 @@
 -- What the finish of a rename, and of each form of call, does.
-use Rattle.std.proofs.Common.{◌≡◌, ℕ, Bool, true, false, cond, not, ◌&&◌, ◌||◌, List, [], ◌∷◌, ◌++◌, Option, Some, None, refl, sym, ap, ap₂, ◌∙◌, append_assoc, append-nil, subst, ◌⊎◌, inl, inr}
+use Rattle.std.proofs.Common.{◌≡◌, ℕ, Bool, true, false, not, ◌&&◌, ◌||◌, List, [], ◌∷◌, ◌++◌, Option, Some, None, refl, sym, ap, ap₂, ◌∙◌, append_assoc, append-nil, subst, inl, inr}
 use mathlib.Core.Path.{fun_ext}
 use Rattle.fs_names.specs.Keys.{Key, after_prefix, parent_of, last_of, has_more}
 use Rattle.fs_names.specs.Names.{Name}
-use Rattle.fs_names.specs.Parts.{HasNames, common, is_end, left, left_by}
+use Rattle.fs_names.specs.Parts.{common, is_end, left, left_by}
 use Rattle.fs_names.specs.Shapes.{Shape, Dir, is_full, names_of}
-use Rattle.fs_seq.specs.Changes.{Change, resolve, resolve_dir, looked, edit_change, move_change, rename_writes}
+use Rattle.fs_seq.specs.Changes.{Change, resolve, resolve_dir, looked, move_change, rename_writes}
 use Rattle.fs_seq.specs.Forms.{Form, On, In, Rename, Fits, by_text}
 use Rattle.fs_seq.specs.Maps.{Map, below, put, put_at, move, moved_to, moved_from}
-use Rattle.fs_seq.specs.Rows.{Edit, on_row, in_row, rename_row}
+use Rattle.fs_seq.specs.Rows.{on_row, in_row, rename_row}
 use Rattle.fs_seq.specs.declared.errno.Errno.{Errno}
 use Rattle.fs_seq.specs.declared.reply.Reply.{Reply}
 use Rattle.fs_seq.specs.declared.reply.Reply.TheVariants.{Failed}
-use Rattle.fs_nodes.specs.Graphs.{Graph, at, then_at, numbers, spell, entry_shape, IsGraph, moved_in}
-use Rattle.fs_ops.specs.Finishes.{Made, in_made, moved_made, rename_made, made_at}
-use Rattle.fs_ops.specs.Moves.{Move, Finishes, first_of, head_move, take_if, same_kind, target_move, next_on, in_move, fork_move, rename_move, moved_node, path_error, dir_error, walk_errno, rename_at}
-use Rattle.fs_ops.specs.Records.{Walking, Holds, Record, Records, Stand}
-use Rattle.fs_laws.specs.Invariants.{Forked, ForkedAt, StandsWell, VictimAt}
-use Rattle.fs_laws.specs.Placed.{Aside, rekey, rekey_by}
-use Rattle.fs_laws.specs.Stands.{Located, Keeps, Kept}
+use Rattle.fs_nodes.specs.Graphs.{Graph, at, numbers, spell, entry_shape, moved_in}
+use Rattle.fs_ops.specs.Finishes.{moved_made, rename_made, made_at}
+use Rattle.fs_ops.specs.Moves.{Finishes, first_of, head_move, take_if, same_kind, next_on, in_move, fork_move, rename_move, moved_node, path_error, dir_error, walk_errno, rename_at}
+use Rattle.fs_ops.specs.Records.{Walking, Record, Records, Stand}
+use Rattle.fs_laws.specs.Invariants.{ForkedAt, StandsWell, VictimAt}
+use Rattle.fs_laws.specs.Placed.{Aside, rekey_by}
+use Rattle.fs_laws.specs.Stands.{Located, Kept}
 use Rattle.fs_laws.proofs.Prefixes.{prefix_append, prefix_some, prefix_both}
-use Rattle.fs_laws.proofs.Located.{key_is, in_more, from_more, to_more, change_under}
+use Rattle.fs_laws.proofs.Located.{key_is, from_more, to_more, change_under}
 use Rattle.fs_laws.proofs.Walks.{at_before, at_child, at_from, then_some}
 use Rattle.fs_laws.proofs.Commutes.{put_other}
 use Rattle.fs_laws.proofs.Links.{CanMove, numbers_moved, move_one}
 use Rattle.fs_laws.proofs.Finishing.{Stops, ForkAt, below_is, dir_read, rename_finish, arrived}
-use Rattle.fs_laws.proofs.Making.{head_stops, fork_stops, common_is, Leaf, leaf_kids}
-use Rattle.fs_laws.proofs.Keeping.{Spares, kept_move}
+use Rattle.fs_laws.proofs.Making.{head_stops, fork_stops, common_is, leaf_kids}
+use Rattle.fs_laws.proofs.Keeping.{kept_move}
 use Rattle.fs_laws.proofs.Putting.{kept_cut, victim_off}
 use Rattle.fs_laws.proofs.Sparing.{Moves, spares_of}
 use Rattle.fs_laws.proofs.Moving.{Replaced}
@@ -41,11 +41,14 @@ move_cut s t tree aside = fun_ext (λ key. go key (after_prefix t key) refl)
   where
     differs : (a : Key) → after_prefix t a ≡ None → a ≡ t → ⊥
     differs a e i = let z : ◌≡◌ {A = Option Key} None (Some []) = sym e ∙ ap (after_prefix t) (i ∙ sym (append-nil t)) ∙ prefix_append t [] in cc
+
     from : (key : Key) (o : Option Key) → after_prefix t key ≡ None → moved_from (put t None tree) key o ≡ moved_from tree key o
     from key (Some r) e = refl
     from key None e = put_other t None tree key (differs key e)
+
     inside : (r : Key) → put t None tree (s ++ r) ≡ tree (s ++ r)
     inside r = put_other t None tree (s ++ r) (λ i. (let z : ◌≡◌ {A = Option Key} (Some r) None = sym (prefix_append s r) ∙ ap (after_prefix s) i ∙ aside.0 in cc))
+
     go : (key : Key) (o : Option Key) → after_prefix t key ≡ o → moved_to s (put t None tree) key o ≡ moved_to s tree key o
     go key (Some r) e = inside r
     go key None e = from key (after_prefix s key) e
@@ -64,24 +67,34 @@ does_move graph ops key c op st o p q ws r f rem fits real moved_is = subst (λ 
   where
     loc : Located (numbers graph) (key c) st
     loc = (f.kept.each c op st f.is f.on).located
+
     m : ℕ
     m = real.moved.0
+
     kf : Key
     kf = key c ++ st.source.walked
+
     kt : Key
     kt = key c ++ st.dest.walked
+
     s_is : (key c ++ st.source.walked) ++ last_of p ∷ [] ≡ key c ++ p
     s_is = append_assoc (key c) st.source.walked (last_of p ∷ []) ∙ ap (λ (l : Key). key c ++ l) (ap (λ (l : Key). l ++ last_of p ∷ []) (sym real.source_is) ∙ sym (key_is p (from_more p q fits)))
+
     t_is : (key c ++ st.dest.walked) ++ last_of q ∷ [] ≡ key c ++ q
     t_is = append_assoc (key c) st.dest.walked (last_of q ∷ []) ∙ ap (λ (l : Key). key c ++ l) (ap (λ (l : Key). l ++ last_of q ∷ []) (sym real.dest_is) ∙ sym (key_is q (to_more p q fits)))
+
     aside : Aside ((key c ++ st.source.walked) ++ last_of p ∷ []) ((key c ++ st.dest.walked) ++ last_of q ∷ [])
     aside = (ap₂ after_prefix s_is t_is ∙ prefix_both (key c) p q ∙ real.aside.0, ap₂ after_prefix t_is s_is ∙ prefix_both (key c) q p ∙ real.aside.1)
+
     can : CanMove graph (key c ++ st.source.walked) st.source.node (last_of p) (key c ++ st.dest.walked) st.dest.node (last_of q) real.moved.0
     can = record { from_at = loc.source; to_at = loc.dest; there = real.moved.1; aside = aside }
+
     entry : numbers graph ((key c ++ st.dest.walked) ++ last_of q ∷ []) ≡ graph.kid st.dest.node (last_of q)
     entry = at_child graph.kid 0 st.dest.node (key c ++ st.dest.walked) (last_of q) loc.dest
+
     s_at : numbers graph ((key c ++ st.source.walked) ++ last_of p ∷ []) ≡ Some real.moved.0
     s_at = at_child graph.kid 0 st.source.node (key c ++ st.source.walked) (last_of p) loc.source ∙ real.moved.1
+
     replaced : Replaces graph st (last_of q) → Replaced graph st.dest.node (last_of q)
     replaced (inl n) = inl n
     replaced (inr (v, n, h, leaf)) = inr (v, n, leaf_kids graph f.is_graph v (graph.shape v) refl leaf)
@@ -110,6 +123,7 @@ does_move graph ops key c op st o p q ws r f rem fits real moved_is = subst (λ 
             let b : at graph.kid v (y ∷ a) ≡ Some i = sym (at_from graph.kid 0 v ((key c ++ st.dest.walked) ++ last_of q ∷ []) (y ∷ a) (entry ∙ n)) ∙ e in
             let g : (j : ℕ) × (graph.kid v y ≡ Some j) × (at graph.kid j a ≡ Some i) = then_some (graph.kid v y) (λ j. at graph.kid j a) i b in
             let z : ◌≡◌ {A = Option ℕ} (Some g.0) None = sym g.1 ∙ leaf_kids graph f.is_graph v (graph.shape v) refl leaf y in cc
+
         inside : (a : Key) → put_at None (numbers graph) (((key c ++ st.dest.walked) ++ last_of q ∷ []) ++ a) (Some a) ≡ None
         inside [] = refl
         inside (y ∷ a) = deep y a (numbers graph (((key c ++ st.dest.walked) ++ last_of q ∷ []) ++ y ∷ a)) refl real.replaces
@@ -137,14 +151,14 @@ does_move graph ops key c op st o p q ws r f rem fits real moved_is = subst (λ 
     moved =
         subst (λ (t : Map ℕ). Kept t ops (λ d. rekey_by ((key c ++ st.dest.walked) ++ last_of q ∷ []) (key d) (after_prefix ((key c ++ st.source.walked) ++ last_of p ∷ []) (key d)))) (move_cut ((key c ++ st.source.walked) ++ last_of p ∷ []) ((key c ++ st.dest.walked) ++ last_of q ∷ []) (numbers graph) aside)
         (kept_move (put ((key c ++ st.dest.walked) ++ last_of q ∷ []) None (numbers graph)) ops key ((key c ++ st.source.walked) ++ last_of p ∷ []) ((key c ++ st.dest.walked) ++ last_of q ∷ []) (key c ++ st.dest.walked) (last_of q) cut
-            (move_one (put ((key c ++ st.dest.walked) ++ last_of q ∷ []) None (numbers graph)) ((key c ++ st.source.walked) ++ last_of p ∷ []) ((key c ++ st.dest.walked) ++ last_of q ∷ []) cut.one_key)
-            (spares_of (put ((key c ++ st.dest.walked) ++ last_of q ∷ []) None (numbers graph)) ops key c op st (last_of p) (last_of q) cut moves))
+        (move_one (put ((key c ++ st.dest.walked) ++ last_of q ∷ []) None (numbers graph)) ((key c ++ st.source.walked) ++ last_of p ∷ []) ((key c ++ st.dest.walked) ++ last_of q ∷ []) cut.one_key)
+        (spares_of (put ((key c ++ st.dest.walked) ++ last_of q ∷ []) None (numbers graph)) ops key c op st (last_of p) (last_of q) cut moves))
 
     new_kept : Kept (numbers (moved_in st.source.node (last_of p) st.dest.node (last_of q) real.moved.0 graph)) ops (λ d. rekey_by (key c ++ q) (key d) (after_prefix (key c ++ p) (key d)))
     new_kept =
         subst (λ (t : Map ℕ). Kept t ops (λ d. rekey_by (key c ++ q) (key d) (after_prefix (key c ++ p) (key d)))) (sym (numbers_moved graph f.is_graph (key c ++ st.source.walked) st.source.node (last_of p) (key c ++ st.dest.walked) st.dest.node (last_of q) real.moved.0 can))
         (subst (λ (t : Key). Kept (move ((key c ++ st.source.walked) ++ last_of p ∷ []) ((key c ++ st.dest.walked) ++ last_of q ∷ []) (numbers graph)) ops (λ d. rekey_by t (key d) (after_prefix (key c ++ p) (key d)))) t_is
-            (subst (λ (s : Key). Kept (move ((key c ++ st.source.walked) ++ last_of p ∷ []) ((key c ++ st.dest.walked) ++ last_of q ∷ []) (numbers graph)) ops (λ d. rekey_by ((key c ++ st.dest.walked) ++ last_of q ∷ []) (key d) (after_prefix s (key d)))) s_is moved))
+        (subst (λ (s : Key). Kept (move ((key c ++ st.source.walked) ++ last_of p ∷ []) ((key c ++ st.dest.walked) ++ last_of q ∷ []) (numbers graph)) ops (λ d. rekey_by ((key c ++ st.dest.walked) ++ last_of q ∷ []) (key d) (after_prefix s (key d)))) s_is moved))
 
     vic : VictimAt graph (Rename p q) st
     vic = subst (λ (x : Form). VictimAt graph x st) rem f.victim
@@ -179,7 +193,7 @@ does_rename graph ops key c op st o p q s f rem fits u = go (common (parent_of p
         let r : (r : Key) × (parent_of p ≡ common (parent_of p) (parent_of q) ++ r) = common_is (parent_of p) (parent_of q) in
         let d : parent_of p ≡ x ∷ (l ++ r.0) = r.1 ∙ ap (λ (z : Key). z ++ r.0) i in
         let res : resolve_dir (below (key c) (spell graph)) (parent_of p) ≡ Some (walk_errno (graph.shape st.node)) =
-            ap₂ resolve_dir (below_is graph (key c) st.node loc.here) d ∙ sym (dir_read graph f.is_graph st.node st.node s [] (x ∷ (l ++ r.0)) u refl stop) in
+        ap₂ resolve_dir (below_is graph (key c) st.node loc.here) d ∙ sym (dir_read graph f.is_graph st.node st.node s [] (x ∷ (l ++ r.0)) u refl stop) in
         let no : row.1 ≡ false = ap (λ (z : Option Errno). (rename_row z (resolve_dir (below (key c) (spell graph)) (parent_of q)) (spell graph (key c ++ p)) (is_end (after_prefix p q)) (spell graph (key c ++ q)) (is_end (after_prefix (parent_of p) (parent_of q)) || not (is_full (spell graph (key c ++ parent_of q))))).1) res in
         does_nothing graph ops key st op.reserved (ch row.1) (Failed (walk_errno (graph.shape st.node))) f.is_graph f.kept (ap (λ (b : Bool). (ch b).moves) no)
     go [] i w e = by (rename_at graph p q st).1 refl
@@ -207,13 +221,14 @@ does_rename graph ops key c op st o p q s f rem fits u = go (common (parent_of p
             let w2 : rename_move graph p q st ≡ Finishes o = at_entries graph f.is_graph p q st o w (error_none st.source.walked (parent_of p) (graph.shape st.source.node) real.source_is real.source_dir) (error_none st.dest.walked (parent_of q) (graph.shape st.dest.node) real.dest_is real.dest_dir) fork in
             let same : moved_node (rename_at graph p q st).1 (graph.kid st.source.node (last_of p)) ≡ o = finishes_same w2 in
             let d : Does graph ops key st op.reserved (ch true) (moved_made graph st (last_of p) (last_of q) op.reserved (rename_at graph p q st).0 true (graph.kid st.source.node (last_of p))) =
-                does_move graph ops key c op st o p q (rename_writes (is_end (after_prefix (parent_of p) (parent_of q))) (parent_of p) (names_of (spell graph (key c ++ parent_of p))) (last_of p) (parent_of q) (names_of (spell graph (key c ++ parent_of q))) (last_of q)) (rename_at graph p q st).0 f rem fits real
-                (λ m h. sym same ∙ ap (λ (b : Bool). moved_node b (graph.kid st.source.node (last_of p))) j ∙ h) in
+            does_move graph ops key c op st o p q (rename_writes (is_end (after_prefix (parent_of p) (parent_of q))) (parent_of p) (names_of (spell graph (key c ++ parent_of p))) (last_of p) (parent_of q) (names_of (spell graph (key c ++ parent_of q))) (last_of q)) (rename_at graph p q st).0 f rem fits real
+            (λ m h. sym same ∙ ap (λ (b : Bool). moved_node b (graph.kid st.source.node (last_of p))) j ∙ h) in
             subst (λ (b : Bool). Does graph ops key st op.reserved (ch b) (moved_made graph st (last_of p) (last_of q) op.reserved (rename_at graph p q st).0 (rename_at graph p q st).1 (graph.kid st.source.node (last_of p)))) (sym j ∙ ap (λ (r : Reply × Bool). r.1) rows)
             (subst (λ (b : Bool). Does graph ops key st op.reserved (ch true) (moved_made graph st (last_of p) (last_of q) op.reserved (rename_at graph p q st).0 b (graph.kid st.source.node (last_of p)))) (sym j) d)
           where
             error_none : (a b : Key) (t : Option Shape) → b ≡ a → (names : List Name) × (t ≡ Some (Dir names)) → dir_error (left a b) t ≡ None
             error_none a b t z n = ap₂ dir_error (ap (left a) (z ∙ sym (append-nil a)) ∙ ap left_by (prefix_append a [])) n.1
+
             finishes_same : rename_move graph p q st ≡ Finishes o → moved_node (rename_at graph p q st).1 (graph.kid st.source.node (last_of p)) ≡ o
             finishes_same h = take_same (same_kind (entry_shape graph st.source.node (last_of p)) (entry_shape graph st.dest.node (last_of q)) && not (is_end (after_prefix p q)) && not (has_more (after_prefix q p))) (graph.kid st.dest.node (last_of q)) st.victim (moved_node (rename_at graph p q st).1 (graph.kid st.source.node (last_of p))) o h
 

@@ -1,9 +1,8 @@
 -- A state in which one call has just finished keeps what every state keeps.
-use Rattle.std.proofs.Common.{◌≡◌, ℕ, ◌<◌, false, List, [], ◌∷◌, ◌++◌, Option, Some, None, refl, sym, ap, ◌∙◌, subst, ◌⊎◌, inl, inr}
+use Rattle.std.proofs.Common.{◌≡◌, ℕ, ◌<◌, false, List, Option, Some, sym, ap, ◌∙◌, subst, ◌⊎◌, inl, inr}
 use Rattle.fs_names.specs.Keys.{Key}
 use Rattle.fs_names.specs.Shapes.{Shape}
-use Rattle.fs_seq.specs.Maps.{Map}
-use Rattle.fs_nodes.specs.Graphs.{Graph, numbers, spell, set_at, IsGraph}
+use Rattle.fs_nodes.specs.Graphs.{numbers, spell, set_at, IsGraph}
 use Rattle.fs_journal.specs.declared.entry.Entry.{Entry}
 use Rattle.fs_ops.specs.Finishes.{Made}
 use Rattle.fs_ops.specs.Records.{Phase, Placed, Finished, Holds, Record, Records, Stand}
@@ -11,7 +10,7 @@ use Rattle.fs_laws.specs.Books.{begins, commit_count, Book, start, book_of, IsLa
 use Rattle.fs_laws.specs.Invariants.{HasSpare, IsIn, Own, Invariant, InOrder, Tied}
 use Rattle.fs_laws.specs.Stands.{Kept}
 use Rattle.fs_laws.specs.States.{State, finished_op}
-use Rattle.fs_laws.proofs.Altering.{Altered, Shapes, Reached}
+use Rattle.fs_laws.proofs.Altering.{Shapes, Reached}
 use Rattle.fs_laws.proofs.Keeping.{Place, Here, Else, place, kept_finish}
 use Rattle.fs_laws.proofs.Helping.{upd_same}
 

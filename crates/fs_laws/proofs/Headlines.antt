@@ -12,11 +12,17 @@ use Rattle.fs_journal.specs.declared.entry.Entry.TheVariants.{Begin, Commit, Ret
 use Rattle.fs_ops.specs.Records.{Record, Records}
 use Rattle.fs_laws.specs.Books.{commits_of, with_call, Book, start, noted, commit_of, book_of}
 use Rattle.fs_laws.specs.Headline.{Headline}
-use Rattle.fs_laws.specs.Invariants.{IsIn, Invariant, StepKeeps, BeginKeeps, Keeping, spots, IsPlaced, InOrder}
+use Rattle.fs_laws.specs.Invariants.{IsIn, Invariant, StepKeeps, BeginKeeps, spots, IsPlaced, InOrder}
 use Rattle.fs_laws.specs.Settled.{settle}
 use Rattle.fs_laws.specs.States.{State, empty, Begun, Begun_as, Seat_busy, Full, No_memory, Stepped, Idle, Took, Busy, LetGo, Helped, Committed, CarriedOut, Returned, Run, Start, Beginning, Stepping}
 use Rattle.fs_laws.proofs.Walks.{eqb_true}
 use Rattle.fs_laws.proofs.Helping.{keeps_helped}
+use Rattle.fs_laws.proofs.Committing.{keeps_committed}
+use Rattle.fs_laws.proofs.Carrying.{keeps_carried}
+use Rattle.fs_laws.proofs.TakingThere.{keeps_took}
+use Rattle.fs_laws.proofs.LettingGo.{keeps_let_go}
+use Rattle.fs_laws.proofs.Returning.{keeps_returned}
+use Rattle.fs_laws.proofs.Beginning.{keeps_begun}
 
 -- the tree of the book is what the calls of the Commit entries make
 with_played : (o : Option Call) (book : Book) (n : ℕ) (calls : List Call) → play_from (commit_of book n o).tree calls ≡ play_from book.tree (with_call o calls)
@@ -116,27 +122,29 @@ keeps_full old new seat call inv (on, full, same_name) = subst Invariant (sym sa
 pub keeps_no_memory : BeginKeeps No_memory
 keeps_no_memory old new seat call inv (on, full, same_name) = subst Invariant (sym same_name) inv
 
-pub step_keeps : Keeping → (answer : Stepped) → StepKeeps answer
-step_keeps k Idle = keeps_idle
-step_keeps k (Took n) = k.took n
-step_keeps k (Busy n d) = keeps_busy n d
-step_keeps k (LetGo n) = k.let_go n
-step_keeps k (Helped d) = keeps_helped d
-step_keeps k Committed = k.committed
-step_keeps k CarriedOut = k.carried
-step_keeps k (Returned r) = k.returned r
+-- each step and each begin keeps it
+pub step_keeps : (answer : Stepped) → StepKeeps answer
+step_keeps Idle = keeps_idle
+step_keeps (Took n) = keeps_took n
+step_keeps (Busy n d) = keeps_busy n d
+step_keeps (LetGo n) = keeps_let_go n
+step_keeps (Helped d) = keeps_helped d
+step_keeps Committed = keeps_committed
+step_keeps CarriedOut = keeps_carried
+step_keeps (Returned r) = keeps_returned r
 
-pub begin_keeps : Keeping → (answer : Begun) → BeginKeeps answer
-begin_keeps k (Begun_as c) = k.begun c
-begin_keeps k Seat_busy = keeps_seat_busy
-begin_keeps k Full = keeps_full
-begin_keeps k No_memory = keeps_no_memory
+pub begin_keeps : (answer : Begun) → BeginKeeps answer
+begin_keeps (Begun_as c) = keeps_begun c
+begin_keeps Seat_busy = keeps_seat_busy
+begin_keeps Full = keeps_full
+begin_keeps No_memory = keeps_no_memory
 
-pub run_keeps : Keeping → (s : State) → Run s → Invariant s
-run_keeps k s (Start limit more) = inv_start limit
-run_keeps k s (Beginning {old} seat call answer new run b) = begin_keeps k answer old new seat call (run_keeps k old run) b
-run_keeps k s (Stepping {old} seat answer new run st) = step_keeps k answer old new seat (run_keeps k old run) st
+-- every state of a run keeps it
+pub run_keeps : (s : State) → Run s → Invariant s
+run_keeps s (Start limit more) = inv_start limit
+run_keeps s (Beginning {old} seat call answer new run b) = begin_keeps answer old new seat call (run_keeps old run) b
+run_keeps s (Stepping {old} seat answer new run st) = step_keeps answer old new seat (run_keeps old run) st
 
--- what is left: Keeping
-pub headline_from : Keeping → (s : State) → Run s → Headline s
-headline_from k s run = headline_of s (run_keeps k s run)
+-- the linearization theorem
+pub headline_of_runs : (s : State) → Run s → Headline s
+headline_of_runs s run = headline_of s (run_keeps s run)

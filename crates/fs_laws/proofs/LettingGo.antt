@@ -1,8 +1,8 @@
 -- A let go keeps what every state keeps.
-use Rattle.std.proofs.Common.{◌≡◌, ℕ, Bool, true, false, cond, eqb, not, ◌&&◌, List, [], ◌∷◌, ◌++◌, Option, Some, None, refl, sym, ap, ap₂, ◌∙◌, subst, ◌⊎◌, inl, inr}
+use Rattle.std.proofs.Common.{◌≡◌, ℕ, Bool, true, false, not, ◌&&◌, List, [], ◌∷◌, ◌++◌, Option, Some, None, refl, sym, ap, ap₂, ◌∙◌, subst, ◌⊎◌, inl, inr}
 use mathlib.Core.Path.{fun_ext}
 use Rattle.fs_names.specs.Keys.{Key, after_prefix, parent_of, last_of, has_more}
-use Rattle.fs_names.specs.Parts.{HasNames, common, left, is_end}
+use Rattle.fs_names.specs.Parts.{common, left, is_end}
 use Rattle.fs_names.specs.Names.{Name}
 use Rattle.fs_names.specs.Shapes.{Shape, Dir, File}
 use Rattle.fs_seq.specs.Forms.{form, Form, On, In, Rename, by_text}
@@ -10,17 +10,17 @@ use Rattle.fs_seq.specs.Maps.{Map}
 use Rattle.fs_seq.specs.declared.errno.Errno.{Errno}
 use Rattle.fs_seq.specs.declared.reply.Reply.{Reply}
 use Rattle.fs_nodes.specs.Graphs.{Graph, at, numbers, spell, entry_shape, set_at, IsGraph, released_in}
-use Rattle.fs_ops.specs.Moves.{Move, Takes, Leaves, Finishes, next, next_by, next_on, first_of, head_move, walk_move, take_if, target, target_move, in_move, victim_of, same_kind, fork_move, rename_move, rename_at, moved_node, dir_then, last_held, last_of_heads, first_walked, head_left, left_behind, left_heads, left_last, left_by_phase, left_stand}
-use Rattle.fs_ops.specs.Records.{Phase, Walking, Placed, Finished, Head, HeadHolds, Holds, Record, Records, Stand, head_at}
-use Rattle.fs_laws.specs.Invariants.{Forked, ForkedAt, StandsWell, VictimAt, HasSpare, HeadsFit, IsIn, IsSingle, IsUnfinished, Own, Invariant, StepKeeps, Slot, At_node, At_behind, At_source, At_source_behind, At_dest, At_dest_behind, At_victim, if_walked, in_slot}
-use Rattle.fs_laws.specs.Stands.{Keeps, Kept, Shrinks}
+use Rattle.fs_ops.specs.Moves.{Move, Leaves, Finishes, next, next_by, next_on, first_of, head_move, walk_move, take_if, target, target_move, victim_of, same_kind, rename_move, rename_at, moved_node, dir_then, last_held, first_walked, head_left, left_behind, left_heads, left_last, left_stand}
+use Rattle.fs_ops.specs.Records.{Phase, Walking, Placed, Finished, Holds, Record, Stand, head_at}
+use Rattle.fs_laws.specs.Invariants.{ForkedAt, StandsWell, VictimAt, HasSpare, HeadsFit, IsIn, IsSingle, IsUnfinished, Own, Invariant, StepKeeps, Slot, At_node, At_behind, At_source, At_source_behind, At_dest, At_dest_behind, At_victim, if_walked, in_slot}
+use Rattle.fs_laws.specs.Stands.{Kept, Shrinks}
 use Rattle.fs_laws.specs.States.{State, LetGo, letting_go, without, is_removed, releasing, fewer_used, cleared}
 use Rattle.fs_laws.proofs.Walks.{eqb_refl}
-use Rattle.fs_laws.proofs.Keeping.{Place, Here, Else, place, kept_shrink}
+use Rattle.fs_laws.proofs.Keeping.{kept_shrink}
 use Rattle.fs_laws.proofs.Putting.{kept_none}
 use Rattle.fs_laws.proofs.Helping.{upd_else}
 use Rattle.fs_laws.proofs.Finished.{Either, Changed, Old}
-use Rattle.fs_laws.proofs.Renewing.{Renews, renewed, renews_keep}
+use Rattle.fs_laws.proofs.Renewing.{renewed, renews_keep}
 use Rattle.fs_laws.proofs.Slots.{slot_holds, holds_slot}
 use Rattle.fs_laws.proofs.Releasing.{own_kids, numbers_kids, release_else, spell_released, graph_released, released_use}
 
@@ -176,9 +176,11 @@ behind_of_move graph rem st n m = walk (head_leaves graph st.node st.behind (tar
     dest : (p q : Key) → st.behind ≡ None → st.source.behind ≡ None → (st.dest.behind ≡ Some n) ⊎ ((st.dest.behind ≡ None) × (dir_then (graph.shape st.dest.node) (rename_move graph p q st) ≡ Leaves n)) → Behind st n
     dest p q i j (inl e) = Dest i j e
     dest p q i j (inr e) = absurd (never_take (same_kind (entry_shape graph st.source.node (last_of p)) (entry_shape graph st.dest.node (last_of q)) && not (is_end (after_prefix p q)) && not (has_more (after_prefix q p))) (graph.kid st.dest.node (last_of q)) st.victim (moved_node (rename_at graph p q st).1 (graph.kid st.source.node (last_of p))) n (dir_leaves (graph.shape st.dest.node) (rename_move graph p q st) n e.1))
+
     source : (p q : Key) → st.behind ≡ None → (st.source.behind ≡ Some n) ⊎ ((st.source.behind ≡ None) × (dir_then (graph.shape st.source.node) (first_of (head_move graph st.dest.node st.dest.behind (left st.dest.walked (parent_of q))) (dir_then (graph.shape st.dest.node) (rename_move graph p q st))) ≡ Leaves n)) → Behind st n
     source p q i (inl e) = Source i e
     source p q i (inr e) = dest p q i e.0 (head_leaves graph st.dest.node st.dest.behind (left st.dest.walked (parent_of q)) (dir_then (graph.shape st.dest.node) (rename_move graph p q st)) n (dir_leaves (graph.shape st.source.node) (first_of (head_move graph st.dest.node st.dest.behind (left st.dest.walked (parent_of q))) (dir_then (graph.shape st.dest.node) (rename_move graph p q st))) n e.1))
+
     there : (rem : Form) → st.behind ≡ None → target_move graph rem st ≡ Leaves n → Behind st n
     there (On c p) i e = absurd (none e)
       where
@@ -188,6 +190,7 @@ behind_of_move graph rem st n m = walk (head_leaves graph st.node st.behind (tar
     there (Rename p q) i e =
         let rest : Move = dir_then (graph.shape st.source.node) (first_of (head_move graph st.dest.node st.dest.behind (left st.dest.walked (parent_of q))) (dir_then (graph.shape st.dest.node) (rename_move graph p q st))) in
         source p q i (head_leaves graph st.source.node st.source.behind (left st.source.walked (parent_of p)) rest n (dir_leaves (graph.shape st.node) (first_of (head_move graph st.source.node st.source.behind (left st.source.walked (parent_of p))) rest) n e))
+
     walk : (st.behind ≡ Some n) ⊎ ((st.behind ≡ None) × (target_move graph rem st ≡ Leaves n)) → Behind st n
     walk (inl e) = Walk e
     walk (inr e) = there rem e.0 e.1
@@ -206,12 +209,15 @@ at_end op n st r ph on e = victim st.victim refl e
   where
     left_is : left_stand op.phase op.stand ≡ left_last st st.victim
     left_is = ap₂ left_stand ph on
+
     source : (w : Key) → st.victim ≡ None → st.dest.walked ≡ [] → st.source.walked ≡ w → first_walked w st.source.node st.node ≡ n → LetsGo op n
     source (x ∷ w) i j k f = At_end st (record st { source = head_at st.node }) r ph on (left_is ∙ ap (left_last st) i ∙ ap₂ (left_heads st) j k) (lets_source st n x w k f) (no_victim st.victim n i)
     source [] i j k f = Last st r ph on (left_is ∙ ap (left_last st) i ∙ ap₂ (left_heads st) j k) f (no_victim st.victim n i)
+
     dest : (w : Key) → st.victim ≡ None → st.dest.walked ≡ w → first_walked w st.dest.node (first_walked st.source.walked st.source.node st.node) ≡ n → LetsGo op n
     dest (x ∷ w) i j f = At_end st (record st { dest = head_at st.node }) r ph on (left_is ∙ ap (left_last st) i ∙ ap (λ (l : Key). left_heads st l st.source.walked) j) (lets_dest st n x w j f) (no_victim st.victim n i)
     dest [] i j f = source st.source.walked i j refl f
+
     victim : (o : Option ℕ) → st.victim ≡ o → last_held st o ≡ n → LetsGo op n
     victim (Some v) i f = At_end st (record st { victim = None }) r ph on (left_is ∙ ap (left_last st) i) (lets_victim st n (i ∙ ap (λ (m : ℕ). Some m) f)) (λ w h. (let z : ◌≡◌ {A = Option ℕ} (Some v) (Some w) = sym i ∙ h in (let y : v ≡ w = cc in sym y ∙ f)))
     victim None i f = dest st.dest.walked i refl f
@@ -221,8 +227,10 @@ lets_go graph op n m = go op.phase (by_text (form op.call)) op.stand refl refl m
   where
     no_end : (p : Phase) → op.phase ≡ p → ((r : Reply) → p ≡ Finished r → ⊥) → IsUnfinished op
     no_end p i f r e = f r (sym i ∙ e)
+
     leaves_is : (a b : ℕ) → Leaves a ≡ Leaves b → a ≡ b
     leaves_is a b e = cc
+
     go : (p : Phase) (e : Option Errno) (s : Option Stand) → op.phase ≡ p → op.stand ≡ s → next_by graph op e p s ≡ Leaves n → LetsGo op n
     go (Finished r) e None i j f = cc
     go (Finished r) e (Some st) i j f = at_end op n st r i j (leaves_is (last_held st st.victim) n f)
@@ -297,9 +305,11 @@ let_keeps old inv c op n s graph used is kids is_graph spelled in_use others min
     mine_shape : (m : ℕ) → HasSpare (after_left op s) m → graph.shape m ≡ old.graph.shape m
     mine_shape m (inl e) = mine m e
     mine_shape m (inr e) = cc
+
     spares : (m : ℕ) → HasSpare (after_left op s) m → HasSpare op m
     spares m (inl e) = inl e
     spares m (inr e) = cc
+
     held : (d : ℕ) (q : Record) (st : Stand) (m : ℕ) → Either old.ops c (after_left op s) d q → q.stand ≡ Some st → Holds st m → set_at n None old.holder m ≡ Some d
     held d q st m (Changed e g) f h =
         let w : (old.holder m ≡ Some c) × (m ≡ n → ⊥) = holds st m (ap (λ (o : Record). o.stand) g ∙ f) h in
@@ -320,6 +330,7 @@ let_either old inv c op n s is left only kept own held_n holds = go op.removed r
   where
     released : Invariant (renewed old c (after_left op s) (released_in n old.graph) (without n old.used) (set_at n None old.holder)) → Invariant (let_as old c op n s (Some n))
     released i = subst (λ (b : Bool). Invariant (record old { graph = releasing b n old.graph; used = fewer_used b n old.used; holder = set_at n None old.holder; ops = set_at c (Some (record op { stand = s; removed = cleared b (Some n) })) old.ops })) (sym (eqb_refl n)) i
+
     go : (m : Option ℕ) → op.removed ≡ m → Invariant (letting_go old c op n)
     go None e = subst Invariant (sym (ap₂ (let_as old c op n) left e))
         (let_keeps old inv c op n s old.graph old.used is refl inv.is_graph refl inv.in_use (λ d m q k f h. refl) (λ m f. refl) kept own held_n holds)
@@ -329,10 +340,10 @@ let_either old inv c op n s is left only kept own held_n holds = go op.removed r
         let loose : (key : Key) → numbers old.graph key ≡ Some n → ⊥ = ((inv.own c op is).gone n r).1 in
         subst Invariant (sym (ap₂ (let_as old c op n) left r))
         (released (let_keeps old inv c op n s (released_in n old.graph) (without n old.used) is refl
-            (graph_released old.graph inv.is_graph n loose) (spell_released old.graph n loose) (released_use old.graph old.used n inv.in_use)
-            (λ d k q differs f h. release_else old.graph n k (λ j. inv.apart c d n op q (λ z. differs (sym z)) is f (inr r) (subst (HasSpare q) j h)))
-            (λ k f. release_else old.graph n k (λ j. (inv.own c op is).one_spare n (f ∙ ap (λ (x : ℕ). Some x) j) r))
-            kept own held_n holds))
+        (graph_released old.graph inv.is_graph n loose) (spell_released old.graph n loose) (released_use old.graph old.used n inv.in_use)
+        (λ d k q differs f h. release_else old.graph n k (λ j. inv.apart c d n op q (λ z. differs (sym z)) is f (inr r) (subst (HasSpare q) j h)))
+        (λ k f. release_else old.graph n k (λ j. (inv.own c op is).one_spare n (f ∙ ap (λ (x : ℕ). Some x) j) r))
+        kept own held_n holds))
 
 -- a head that stays, or is back where it set out
 head_well : (graph : Graph) (n : ℕ) (w w2 : Key) (h h2 : ℕ) (whole : Key) → ((w2 ≡ w) × (h2 ≡ h)) ⊎ ((w2 ≡ []) × (h2 ≡ n)) → at graph.kid n w ≡ Some h → whole ≡ w ++ left w whole → (at graph.kid n w2 ≡ Some h2) × (whole ≡ w2 ++ left w2 whole)
@@ -361,31 +372,36 @@ keeps_let_go n old new seat inv (c, op, moves, same) = subst Invariant (sym same
   where
     is : old.ops c ≡ Some op
     is = moves.1
+
     own : Own old.graph op
     own = inv.own c op moves.1
+
     some_is : (a b : Stand) → ◌≡◌ {A = Option Stand} (Some a) (Some b) → a ≡ b
     some_is a b e = cc
+
     -- where the call still stands somewhere
     standing : (st left : Stand) → op.stand ≡ Some st → left_stand op.phase op.stand ≡ Some left → Lets st left n
         → ((m : ℕ) → op.removed ≡ Some m → m ≡ n) → ((i : ℕ) → op.phase ≡ Placed i → (s : Stand) × (◌≡◌ {A = Option Stand} (Some left) (Some s))) → (IsUnfinished op → VictimAt old.graph op.remaining left) → Invariant (letting_go old c op n)
     standing st left on left_is l only placed victim =
         let held_n : old.holder n ≡ Some c = inv.held c op st n moves.1 on (slot_holds st l.gone n l.was) in
         let kept : Kept (numbers old.graph) (set_at c (Some (after_left op (Some left))) old.ops) (set_at c (inv.key c) inv.key) =
-            kept_shrink (numbers old.graph) old.ops inv.key c op (after_left op (Some left)) st left inv.kept moves.1 on refl refl refl refl (shrinks_of st left n l) in
+        kept_shrink (numbers old.graph) old.ops inv.key c op (after_left op (Some left)) st left inv.kept moves.1 on refl refl refl refl (shrinks_of st left n l) in
         let own_new : Own old.graph (after_left op (Some left)) = own_left old.graph op (Some left) own
-            (λ s e. subst (λ (x : Stand). StandsWell old.graph x.node op.remaining x) (some_is left s e) (well_left old.graph st left n op.remaining l (own.well st on)))
-            placed
-            (λ u s e. subst (VictimAt old.graph op.remaining) (some_is left s e) (victim u))
-            (λ u e. cc)
-            (λ s e. subst (λ (x : Stand). IsSingle x × HeadsFit x) (some_is left s e) (single_of st left n l (own.single st on), l.heads (own.heads st on))) in
+        (λ s e. subst (λ (x : Stand). StandsWell old.graph x.node op.remaining x) (some_is left s e) (well_left old.graph st left n op.remaining l (own.well st on)))
+        placed
+        (λ u s e. subst (VictimAt old.graph op.remaining) (some_is left s e) (victim u))
+        (λ u e. cc)
+        (λ s e. subst (λ (x : Stand). IsSingle x × HeadsFit x) (some_is left s e) (single_of st left n l (own.single st on), l.heads (own.heads st on))) in
         let_either old inv c op n (Some left) moves.1 left_is only kept own_new held_n
-            (λ s q e h. (let w : Holds left q = subst (λ (x : Stand). Holds x q) (sym (some_is left s e)) h in (inv.held c op st q moves.1 on ((shrinks_of st left n l).holds q w), other_of st left n q l (own.single st on) w)))
+        (λ s q e h. (let w : Holds left q = subst (λ (x : Stand). Holds x q) (sym (some_is left s e)) h in (inv.held c op st q moves.1 on ((shrinks_of st left n l).holds q w), other_of st left n q l (own.single st on) w)))
+
     -- what is removed is the victim
     removed_is : (st : Stand) → op.stand ≡ Some st → ((v : ℕ) → st.victim ≡ Some v → v ≡ n) → (m : ℕ) → op.removed ≡ Some m → m ≡ n
     removed_is st on f m e =
         let g : (s : Stand) × (op.stand ≡ Some s) × (s.victim ≡ Some m) = (own.gone m e).0 in
         let z : ◌≡◌ {A = Option Stand} (Some g.0) (Some st) = sym g.1 ∙ on in
         f m (ap (λ (s : Stand). s.victim) (sym (some_is g.0 st z)) ∙ g.2)
+
     go : LetsGo op n → Invariant (letting_go old c op n)
     go (On_way st left u on left_is lets same) =
         let l : Lets st left n = lets (own.heads st on) in
@@ -395,6 +411,6 @@ keeps_let_go n old new seat inv (c, op, moves, same) = subst Invariant (sym same
     go (Last st r ph on left_is node only) =
         let held_n : old.holder n ≡ Some c = inv.held c op st n moves.1 on (inl node) in
         let_either old inv c op n None moves.1 left_is (removed_is st on only)
-            (kept_none (numbers old.graph) old.ops inv.key c (after_left op None) inv.kept refl)
-            (own_left old.graph op None own (λ s e. cc) (λ i e. (let z : ◌≡◌ {A = Phase} (Finished r) (Placed i) = sym ph ∙ e in cc)) (λ u. absurd (u r ph)) (λ u. absurd (u r ph)) (λ s e. cc))
-            held_n (λ s q e h. cc)
+        (kept_none (numbers old.graph) old.ops inv.key c (after_left op None) inv.kept refl)
+        (own_left old.graph op None own (λ s e. cc) (λ i e. (let z : ◌≡◌ {A = Phase} (Finished r) (Placed i) = sym ph ∙ e in cc)) (λ u. absurd (u r ph)) (λ u. absurd (u r ph)) (λ s e. cc))
+        held_n (λ s q e h. cc)

@@ -3,10 +3,9 @@ use Rattle.std.proofs.Common.{◌≡◌, ℕ, Bool, true, false, cond, eqb, ◌&
 use Rattle.fs_names.specs.Keys.{Key, after_prefix}
 use Rattle.fs_names.specs.Names.{Name, same_name, inserted_name, removed_name, has_name}
 use Rattle.fs_names.specs.Shapes.{Shape, Dir, names_of}
-use Rattle.fs_seq.specs.Maps.{Map, move, moved_to, moved_from}
+use Rattle.fs_seq.specs.Maps.{Map, move}
 use Rattle.fs_nodes.specs.Graphs.{Graph, at, numbers, set_kid, linked_in, unlinked_in, moved_in, IsGraph}
-use Rattle.fs_laws.specs.Placed.{Aside}
-use Rattle.fs_laws.proofs.Prefixes.{same_true, prefix_some, prefix_append, prefix_both}
+use Rattle.fs_laws.proofs.Prefixes.{same_true, prefix_some}
 use Rattle.fs_laws.proofs.Commutes.{move_to, move_else}
 use Rattle.fs_laws.proofs.Passing.{prefix_before}
 use Rattle.fs_laws.proofs.Walks.{eqb_true, at_child, at_from, at_before, then_some, prefix_shorter}

@@ -1,16 +1,13 @@
 -- What each call keeps of its own record when the graph changes, and when it finishes.
-use Rattle.std.proofs.Common.{◌≡◌, ℕ, List, [], ◌∷◌, ◌++◌, Option, Some, None, refl, sym, ap, ◌∙◌, append-nil, subst, ◌⊎◌, inl, inr}
+use Rattle.std.proofs.Common.{◌≡◌, ℕ, [], ◌∷◌, Option, Some, None, refl, sym, ap, ◌∙◌, subst, ◌⊎◌, inl, inr}
 use Rattle.fs_names.specs.Keys.{Key, parent_of, last_of}
-use Rattle.fs_names.specs.Names.{has_name, Name}
 use Rattle.fs_names.specs.Parts.{common}
 use Rattle.fs_names.specs.Shapes.{Shape, Dir}
-use Rattle.fs_seq.specs.Forms.{EntryCall, Form, On, In, Rename, new_shape}
-use Rattle.fs_seq.specs.declared.reply.Reply.{Reply}
+use Rattle.fs_seq.specs.Forms.{Form, On, In, Rename}
 use Rattle.fs_nodes.specs.Graphs.{Graph, at, numbers, IsGraph}
 use Rattle.fs_ops.specs.Finishes.{Made}
-use Rattle.fs_ops.specs.Moves.{target}
-use Rattle.fs_ops.specs.Records.{Finished, Placed, Phase, Holds, Record, Stand}
-use Rattle.fs_laws.specs.Invariants.{Forked, ForkedAt, StandsWell, HasNumber, NumberFor, VictimAt, HasSpare, IsUnfinished, Own}
+use Rattle.fs_ops.specs.Records.{Holds, Record, Stand}
+use Rattle.fs_laws.specs.Invariants.{ForkedAt, StandsWell, NumberFor, VictimAt, HasSpare, Own}
 use Rattle.fs_laws.specs.Stands.{Located}
 use Rattle.fs_laws.specs.States.{finished_op}
 use Rattle.fs_laws.proofs.Walks.{at_from, then_some}

@@ -1,21 +1,17 @@
 -- A rename that really moves: what is known where it finishes.
-use Rattle.std.proofs.Common.{◌≡◌, ℕ, Bool, true, false, cond, not, ◌&&◌, ◌||◌, List, [], ◌∷◌, ◌++◌, Option, Some, None, refl, sym, ap, ap₂, ◌∙◌, append_assoc, append-nil, subst, ◌⊎◌, inl, inr}
+use Rattle.std.proofs.Common.{◌≡◌, ℕ, Bool, true, false, not, ◌&&◌, ◌||◌, List, [], ◌∷◌, ◌++◌, Option, Some, None, refl, sym, ap, ap₂, ◌∙◌, append-nil, subst, ◌⊎◌, inl, inr}
 use Rattle.fs_names.specs.Keys.{Key, after_prefix, parent_of, last_of, has_more}
 use Rattle.fs_names.specs.Names.{Name, has_name}
-use Rattle.fs_names.specs.Parts.{HasNames, common, left, is_end}
-use Rattle.fs_names.specs.Shapes.{Shape, Dir, File, is_full, names_of}
-use Rattle.fs_seq.specs.Forms.{Form, Rename, by_text, Fits}
-use Rattle.fs_seq.specs.Rows.{as_dir, to_row}
-use Rattle.fs_seq.specs.declared.errno.Errno.{Errno}
-use Rattle.fs_nodes.specs.Graphs.{Graph, at, then_at, numbers, spell, entry_shape, IsGraph}
-use Rattle.fs_ops.specs.Moves.{Move, Takes, Finishes, first_of, head_move, take_if, same_kind, fork_move, rename_move, dir_then, dir_error, rename_at, there_by, moved_node}
+use Rattle.fs_names.specs.Parts.{left, is_end}
+use Rattle.fs_names.specs.Shapes.{Shape, Dir, File, is_full}
+use Rattle.fs_seq.specs.Forms.{Rename, Fits}
+use Rattle.fs_seq.specs.Rows.{to_row}
+use Rattle.fs_nodes.specs.Graphs.{Graph, at, then_at, entry_shape, IsGraph}
+use Rattle.fs_ops.specs.Moves.{Move, Finishes, first_of, head_move, take_if, same_kind, fork_move, rename_move, dir_then, dir_error, rename_at, there_by, moved_node}
 use Rattle.fs_ops.specs.Records.{Stand}
 use Rattle.fs_laws.specs.Invariants.{Forked, VictimAt}
 use Rattle.fs_laws.specs.Placed.{Aside}
-use Rattle.fs_laws.proofs.Prefixes.{prefix_both}
-use Rattle.fs_laws.proofs.Located.{key_is, from_more, to_more}
-use Rattle.fs_laws.proofs.Walks.{at_from, then_some}
-use Rattle.fs_laws.proofs.Links.{CanMove}
+use Rattle.fs_laws.proofs.Walks.{then_some}
 use Rattle.fs_laws.proofs.Finishing.{arrived}
 use Rattle.fs_laws.proofs.Making.{head_stops, Leaf, some_entry}
 use Rattle.fs_laws.proofs.Trees.{Really, really, full_row, paths_aside}
@@ -105,23 +101,28 @@ real_of graph is p q st o fits f victim e moves = record {
   where
     room : Bool
     room = is_end (after_prefix (parent_of p) (parent_of q)) || not (is_full (graph.shape st.dest.node))
+
     w : Really (dir_error (left st.source.walked (parent_of p)) (graph.shape st.source.node)) (dir_error (left st.dest.walked (parent_of q)) (graph.shape st.dest.node)) (entry_shape graph st.source.node (last_of p)) (is_end (after_prefix p q)) (there_by (has_more (after_prefix q p)) (entry_shape graph st.dest.node (last_of q))) (is_end (after_prefix (parent_of p) (parent_of q)) || not (is_full (graph.shape st.dest.node)))
     w = really (dir_error (left st.source.walked (parent_of p)) (graph.shape st.source.node)) (dir_error (left st.dest.walked (parent_of q)) (graph.shape st.dest.node)) (entry_shape graph st.source.node (last_of p)) (is_end (after_prefix p q)) (there_by (has_more (after_prefix q p)) (entry_shape graph st.dest.node (last_of q))) (is_end (after_prefix (parent_of p) (parent_of q)) || not (is_full (graph.shape st.dest.node))) moves
+
     above : has_more (after_prefix q p) ≡ true → ⊥
     above b = full_row w.moved (entry_shape graph st.dest.node (last_of q)) (is_end (after_prefix (parent_of p) (parent_of q)) || not (is_full (graph.shape st.dest.node))) (has_more (after_prefix q p)) b w.to
+
     not_above : (b : Bool) → has_more (after_prefix q p) ≡ b → b ≡ false
     not_above true i = absurd (above i)
     not_above false i = refl
+
     no_prefix : has_more (after_prefix q p) ≡ false
     no_prefix = (let z : (b : Bool) → has_more (after_prefix q p) ≡ b → has_more (after_prefix q p) ≡ false = λ b i. i ∙ not_above b i in z (has_more (after_prefix q p)) refl)
+
     replaces : (v : Option ℕ) → graph.kid st.dest.node (last_of q) ≡ v → Replaces graph st (last_of q)
     replaces None i = inl i
     replaces (Some v) i =
         let u : (s : Shape) × (graph.shape v ≡ Some s) = is.to_used st.dest.node v (last_of q) i in
         let entry : entry_shape graph st.dest.node (last_of q) ≡ Some u.0 = ap (λ (n : Option ℕ). then_at n graph.shape) i ∙ u.1 in
         let row : to_row w.moved (Some u.0) (is_end (after_prefix (parent_of p) (parent_of q)) || not (is_full (graph.shape st.dest.node))) ≡ None =
-            ap (λ (t : Option Shape). to_row w.moved t (is_end (after_prefix (parent_of p) (parent_of q)) || not (is_full (graph.shape st.dest.node)))) (sym (ap₂ there_by no_prefix entry)) ∙ w.to in
+        ap (λ (t : Option Shape). to_row w.moved t (is_end (after_prefix (parent_of p) (parent_of q)) || not (is_full (graph.shape st.dest.node)))) (sym (ap₂ there_by no_prefix entry)) ∙ w.to in
         let l : (same_kind (Some w.moved) (Some u.0) ≡ true) × Leaf (Some u.0) = to_leaf w.moved u.0 (is_end (after_prefix (parent_of p) (parent_of q)) || not (is_full (graph.shape st.dest.node))) row in
         let want : (same_kind (entry_shape graph st.source.node (last_of p)) (entry_shape graph st.dest.node (last_of q)) && not (is_end (after_prefix p q)) && not (has_more (after_prefix q p))) ≡ true =
-            all_true (same_kind (entry_shape graph st.source.node (last_of p)) (entry_shape graph st.dest.node (last_of q))) (is_end (after_prefix p q)) (has_more (after_prefix q p)) (ap₂ same_kind w.is entry ∙ l.0) w.other no_prefix in
+        all_true (same_kind (entry_shape graph st.source.node (last_of p)) (entry_shape graph st.dest.node (last_of q))) (is_end (after_prefix p q)) (has_more (after_prefix q p)) (ap₂ same_kind w.is entry ∙ l.0) w.other no_prefix in
         inr (v, i, victim_held graph p q st o v victim (at_entries graph is p q st o f w.source w.dest e) i want, subst Leaf (sym u.1) l.1)

@@ -1,14 +1,14 @@
 -- A number to which nothing leads leaves the graph, or comes into it.
-use Rattle.std.proofs.Common.{◌≡◌, ℕ, Bool, true, false, cond, eqb, List, [], ◌∷◌, ◌++◌, Option, Some, None, refl, sym, ap, ◌∙◌, subst, ◌⊎◌, inl, inr}
+use Rattle.std.proofs.Common.{◌≡◌, ℕ, Bool, true, false, cond, eqb, List, [], ◌∷◌, ◌++◌, Option, Some, None, refl, sym, ap, ◌∙◌, subst, inl, inr}
 use mathlib.Core.Path.{fun_ext}
 use Rattle.fs_names.specs.Keys.{Key, parent_of, last_of}
 use Rattle.fs_names.specs.Names.{Name, has_name}
 use Rattle.fs_names.specs.Parts.{common}
-use Rattle.fs_names.specs.Shapes.{Shape, Dir, File}
+use Rattle.fs_names.specs.Shapes.{Shape, Dir}
 use Rattle.fs_seq.specs.Forms.{Form, On, In, Rename}
-use Rattle.fs_nodes.specs.Graphs.{Graph, at, then_at, numbers, spell, IsGraph, set_at, released_in, reserved_in}
+use Rattle.fs_nodes.specs.Graphs.{Graph, at, then_at, numbers, spell, IsGraph, released_in, reserved_in}
 use Rattle.fs_ops.specs.Records.{Record, Stand}
-use Rattle.fs_laws.specs.Invariants.{Forked, ForkedAt, StandsWell, NumberFor, VictimAt, HasSpare, IsIn, Own}
+use Rattle.fs_laws.specs.Invariants.{ForkedAt, StandsWell, NumberFor, VictimAt, HasSpare, IsIn, Own}
 use Rattle.fs_laws.specs.States.{without}
 use Rattle.fs_laws.proofs.Walks.{at_child, eqb_true, eqb_refl}
 use Rattle.fs_laws.proofs.Keeping.{Place, Here, Else, place}
@@ -84,8 +84,10 @@ graph_released graph is n loose = record {
   where
     not_dir : (d m : ℕ) (x : Name) → graph.kid d x ≡ Some m → d ≡ n → ⊥
     not_dir d m x e i = let l : (key : Key) × (numbers graph key ≡ Some d) = is.loose d m x e in loose l.0 (l.1 ∙ ap (λ (y : ℕ). Some y) i)
+
     not_kid : (d m : ℕ) (x : Name) → graph.kid d x ≡ Some m → m ≡ n → ⊥
     not_kid d m x e i = let l : (key : Key) × (numbers graph key ≡ Some d) = is.loose d m x e in loose (l.0 ++ x ∷ []) (at_child graph.kid 0 d l.0 x l.1 ∙ e ∙ ap (λ (y : ℕ). Some y) i)
+
     was : (d : ℕ) (s : Shape) → (released_in n graph).shape d ≡ Some s → graph.shape d ≡ Some s
     was d s e = go (place n None graph.shape d)
       where
@@ -144,6 +146,7 @@ graph_reserved graph is n s free bare = record {
   where
     used_else : (m : ℕ) (t : Shape) → graph.shape m ≡ Some t → m ≡ n → ⊥
     used_else m t e i = let z : ◌≡◌ {A = Option Shape} None (Some t) = sym free ∙ ap graph.shape (sym i) ∙ e in cc
+
     listed : (d : ℕ) (names : List Name) (x : Name) → (reserved_in n s graph).shape d ≡ Some (Dir names) → has_name x names ≡ true → Place (Option Shape) n (Some s) graph.shape d → (m : ℕ) × (graph.kid d x ≡ Some m)
     listed d names x e h (Here i j) = let z : ◌≡◌ {A = Option Shape} (Some s) (Some (Dir names)) = sym j ∙ e in absurd (bare names x (let y : s ≡ Dir names = cc in y) h)
     listed d names x e h (Else k j) = is.listed d names x (sym j ∙ e) h
@@ -154,12 +157,15 @@ reserved_use graph used n s h m = (forth, λ t e. back t e (place n (Some s) gra
     there : IsIn m used → Place (Option Shape) n (Some s) graph.shape m → (t : Shape) × ((reserved_in n s graph).shape m ≡ Some t)
     there i (Here j k) = (s, k)
     there i (Else j k) = let u : (t : Shape) × (graph.shape m ≡ Some t) = (h m).0 i in (u.0, k ∙ u.1)
+
     here : m ≡ n → Place (Option Shape) n (Some s) graph.shape m → (t : Shape) × ((reserved_in n s graph).shape m ≡ Some t)
     here i (Here j k) = (s, k)
     here i (Else j k) = absurd (j i)
+
     forth : IsIn m (n ∷ used) → (t : Shape) × ((reserved_in n s graph).shape m ≡ Some t)
     forth (inl i) = here i (place n (Some s) graph.shape m)
     forth (inr i) = there i (place n (Some s) graph.shape m)
+
     back : (t : Shape) → (reserved_in n s graph).shape m ≡ Some t → Place (Option Shape) n (Some s) graph.shape m → IsIn m (n ∷ used)
     back t e (Here j k) = inl j
     back t e (Else j k) = inr ((h m).1 t (sym k ∙ e))

@@ -1,31 +1,31 @@
 -- What a rename that is about to finish reads and moves lies below no call that is to go on before it.
-use Rattle.std.proofs.Common.{◌≡◌, ℕ, Bool, true, false, cond, not, ◌&&◌, ◌||◌, List, [], ◌∷◌, ◌++◌, Option, Some, None, refl, sym, ap, ap₂, ◌∙◌, append_assoc, append-nil, subst, ◌⊎◌, inl, inr}
+use Rattle.std.proofs.Common.{◌≡◌, ℕ, Bool, true, false, not, ◌&&◌, ◌||◌, List, [], ◌∷◌, ◌++◌, Option, Some, None, refl, sym, ap, ap₂, ◌∙◌, append_assoc, append-nil, subst, ◌⊎◌, inl, inr}
 use Rattle.fs_names.specs.Keys.{Key, after_prefix, parent_of, last_of, has_more}
 use Rattle.fs_names.specs.Names.{Name, has_name}
 use Rattle.fs_names.specs.Parts.{HasNames, common, left, left_by, is_end}
-use Rattle.fs_names.specs.Shapes.{Shape, Dir, File, is_full, names_of}
-use Rattle.fs_seq.specs.Changes.{Change, resolve, resolve_dir, looked, move_change, rename_writes}
-use Rattle.fs_seq.specs.Forms.{Form, On, In, Rename, under, Fits}
+use Rattle.fs_names.specs.Shapes.{Shape, Dir, is_full, names_of}
+use Rattle.fs_seq.specs.Changes.{Change, resolve_dir, move_change, rename_writes}
+use Rattle.fs_seq.specs.Forms.{Form, On, In, Rename, Fits}
 use Rattle.fs_seq.specs.Maps.{Map, below}
-use Rattle.fs_seq.specs.Rows.{as_dir, rename_row, to_row}
+use Rattle.fs_seq.specs.Rows.{as_dir, rename_row}
 use Rattle.fs_seq.specs.declared.errno.Errno.{Errno}
 use Rattle.fs_seq.specs.declared.reply.Reply.{Reply}
 use Rattle.fs_nodes.specs.Graphs.{Graph, at, then_at, numbers, spell, entry_shape, IsGraph}
-use Rattle.fs_ops.specs.Moves.{Move, Takes, Finishes, first_of, head_move, target, next_on, same_kind, fork_move, rename_move, dir_error, walk_errno, rename_at}
-use Rattle.fs_ops.specs.Records.{HeadHolds, Holds, Stand}
-use Rattle.fs_laws.specs.Invariants.{Forked, ForkedAt, StandsWell, VictimAt}
-use Rattle.fs_laws.specs.Placed.{Blind, AllOff, Clear, ClearMove, Aside, looks_into}
+use Rattle.fs_ops.specs.Moves.{Finishes, first_of, head_move, next_on, same_kind, fork_move, dir_error, walk_errno, rename_at}
+use Rattle.fs_ops.specs.Records.{Holds, Stand}
+use Rattle.fs_laws.specs.Invariants.{ForkedAt, StandsWell, VictimAt}
+use Rattle.fs_laws.specs.Placed.{AllOff, Clear, Aside, looks_into}
 use Rattle.fs_laws.specs.Stands.{Located, IsClear}
 use Rattle.fs_laws.proofs.Prefixes.{prefix_append, prefix_some, prefix_both}
-use Rattle.fs_laws.proofs.Passing.{child_cases, prefix_before}
+use Rattle.fs_laws.proofs.Passing.{child_cases}
 use Rattle.fs_laws.proofs.Located.{key_is, dir_under, resolve_under, from_more, to_more, change_under}
 use Rattle.fs_laws.proofs.Walks.{at_before, at_child, at_from, then_some}
 use Rattle.fs_laws.proofs.Links.{resolve_at}
-use Rattle.fs_laws.proofs.Finishing.{Stops, ForkAt, below_is, spell_from, dir_read, arrived, rename_finish}
+use Rattle.fs_laws.proofs.Finishing.{Stops, ForkAt, below_is, dir_read, arrived, rename_finish}
 use Rattle.fs_laws.proofs.Making.{head_stops, fork_stops, common_is, Leaf, leaf_kids}
 use Rattle.fs_laws.proofs.Pairs.{held_off}
 use Rattle.fs_laws.proofs.Blinds.{Front, Off, stopped_off, on_off, in_off}
-use Rattle.fs_laws.proofs.Reals.{Real, Replaces, real_of, at_entries, victim_held, walked_dir}
+use Rattle.fs_laws.proofs.Reals.{Real, Replaces, real_of, at_entries, victim_held}
 
 -- the node of a head is held, by the head or as the position
 pub head_held : (tree : Map ℕ) (k : Key) (st : Stand) (walked : Key) (node : ℕ) → tree k ≡ Some st.node → tree (k ++ walked) ≡ Some node → (HasNames walked → Holds st node) → Holds st node
@@ -81,6 +81,7 @@ rename_off graph is k p q st o kd other s loc u fits well victim e f = go (commo
   where
     mp : HasNames p
     mp = from_more p q fits
+
     mq : HasNames q
     mq = to_more p q fits
 
@@ -117,7 +118,7 @@ rename_off graph is k p q st o kd other s loc u fits well victim e f = go (commo
         let d : parent_of p ≡ x ∷ (l ++ r.0) = r.1 ∙ ap (λ (z : Key). z ++ r.0) i in
         let off0 : after_prefix kd (k ++ parent_of p) ≡ None = ap (λ (z : Key). after_prefix kd (k ++ z)) d ∙ stopped_off graph is k kd (x ∷ (l ++ r.0)) st.node other.node loc.here stop f.there f.off in
         let res : resolve_dir (below k (spell graph)) (parent_of p) ≡ Some (walk_errno (graph.shape st.node)) =
-            ap₂ resolve_dir (below_is graph k st.node loc.here) d ∙ sym (dir_read graph is st.node st.node s [] (x ∷ (l ++ r.0)) u refl stop) in
+        ap₂ resolve_dir (below_is graph k st.node loc.here) d ∙ sym (dir_read graph is st.node st.node s [] (x ∷ (l ++ r.0)) u refl stop) in
         made off0 (λ z. absurd (let y : ◌≡◌ {A = Option Errno} (Some (walk_errno (graph.shape st.node))) None = sym res ∙ z in (cc))) (stuck (walk_errno (graph.shape st.node)) res)
     go [] i w g = made off0 rest (clear row.1 refl)
       where
@@ -158,11 +159,12 @@ rename_off graph is k p q st o kd other s loc u fits well victim e f = go (commo
             by : (l : Key) → left st.dest.walked (parent_of q) ≡ l → after_prefix kd (k ++ q) ≡ None
             by (z ∷ l) j =
                 head_off graph is k st kd other st.dest.walked ((z ∷ l) ++ last_of q ∷ []) q st.dest.node f loc.dest (dest_held (numbers graph) k st loc) f.dest (subst (Stops graph st.dest.node) j (stops.dest_stops es))
-                    (key_is q mq ∙ ap (λ (y : Key). y ++ last_of q ∷ []) (w.dest_is ∙ ap (λ (y : Key). st.dest.walked ++ y) j) ∙ append_assoc st.dest.walked (z ∷ l) (last_of q ∷ []))
+                (key_is q mq ∙ ap (λ (y : Key). y ++ last_of q ∷ []) (w.dest_is ∙ ap (λ (y : Key). st.dest.walked ++ y) j) ∙ append_assoc st.dest.walked (z ∷ l) (last_of q ∷ []))
             by [] j = ends (child_cases kd (k ++ parent_of q) (last_of q) (off1 es))
               where
                 d_is : parent_of q ≡ st.dest.walked
                 d_is = w.dest_is ∙ ap (λ (y : Key). st.dest.walked ++ y) j ∙ append-nil st.dest.walked
+
                 ends : (after_prefix kd ((k ++ parent_of q) ++ last_of q ∷ []) ≡ None) ⊎ (kd ≡ (k ++ parent_of q) ++ last_of q ∷ []) → after_prefix kd (k ++ q) ≡ None
                 ends (inl h) = ap (after_prefix kd) q_is ∙ h
                 ends (inr h) =
@@ -170,9 +172,9 @@ rename_off graph is k p q st o kd other s loc u fits well victim e f = go (commo
                     let dd : (names : List Name) × (graph.shape st.dest.node ≡ Some (Dir names)) × (has_name (last_of q) names ≡ true) = is.of_dir st.dest.node other.node (last_of q) kid in
                     let ed : dir_error (left st.dest.walked (parent_of q)) (graph.shape st.dest.node) ≡ None = ap₂ dir_error j dd.1 in
                     let kinds : same_kind (entry_shape graph st.source.node (last_of p)) (entry_shape graph st.dest.node (last_of q)) ≡ same_kind (spell graph (k ++ p)) (spell graph (k ++ q)) =
-                        ap₂ (λ (a b : Option ℕ). same_kind (then_at a graph.shape) (then_at b graph.shape)) (sym (entry_p (arrived_at st.source.walked (parent_of p) (left st.source.walked (parent_of p)) (graph.shape st.source.node) w.source_is es))) (sym (entry d_is)) in
+                    ap₂ (λ (a b : Option ℕ). same_kind (then_at a graph.shape) (then_at b graph.shape)) (sym (entry_p (arrived_at st.source.walked (parent_of p) (left st.source.walked (parent_of p)) (graph.shape st.source.node) w.source_is es))) (sym (entry d_is)) in
                     let v : st.victim ≡ Some other.node = victim_held graph p q st o other.node victim (at_entries graph is p q st o w es ed fork) kid
-                        (ap (λ (b : Bool). b && not (is_end (after_prefix p q)) && not (has_more (after_prefix q p))) kinds ∙ want) in
+                    (ap (λ (b : Bool). b && not (is_end (after_prefix p q)) && not (has_more (after_prefix q p))) kinds ∙ want) in
                     absurd (f.apart other.node (inl refl) (inr (inr (inr (inr v)))))
 
         rest : resolve_dir (below k (spell graph)) (parent_of p) ≡ None → (after_prefix kd (k ++ parent_of q) ≡ None) × (looks_into (spell graph) (k ++ p) (k ++ q) ≡ true → after_prefix kd (k ++ q) ≡ None)

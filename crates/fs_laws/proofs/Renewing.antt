@@ -1,5 +1,5 @@
 -- A state in which the record of one call has changed, and neither its phase nor the tree, keeps what every state keeps.
-use Rattle.std.proofs.Common.{◌≡◌, ℕ, ◌<◌, false, List, [], ◌∷◌, ◌++◌, Option, Some, None, refl, sym, ap, ap₂, ◌∙◌, subst, inl, inr}
+use Rattle.std.proofs.Common.{◌≡◌, ℕ, ◌<◌, false, List, [], ◌∷◌, Option, Some, refl, sym, ap, ap₂, ◌∙◌, subst, inl, inr}
 use Rattle.fs_names.specs.Keys.{Key}
 use Rattle.fs_names.specs.Shapes.{Shape}
 use Rattle.fs_seq.specs.Changes.{reply, after}
@@ -8,8 +8,8 @@ use Rattle.fs_seq.specs.Maps.{Map}
 use Rattle.fs_seq.specs.declared.call.Call.{Call}
 use Rattle.fs_seq.specs.declared.reply.Reply.{Reply}
 use Rattle.fs_nodes.specs.Graphs.{Graph, numbers, spell, set_at, IsGraph}
-use Rattle.fs_ops.specs.Records.{Phase, Walking, Placed, Finished, Holds, Record, Records, Stand}
-use Rattle.fs_laws.specs.Books.{commit_count, Book, start, book_of}
+use Rattle.fs_ops.specs.Records.{Phase, Placed, Holds, Record, Records, Stand}
+use Rattle.fs_laws.specs.Books.{commit_count, start, book_of}
 use Rattle.fs_laws.specs.Invariants.{remaining_of, spots, IsPlaced, AllLater, InOrder, HasSpare, IsIn, Own, Invariant, Tied, Dues}
 use Rattle.fs_laws.specs.Settled.{settle, settle_replies}
 use Rattle.fs_laws.specs.Stands.{Kept}
@@ -34,8 +34,7 @@ settle_same tree ops new key key_new [] h = (refl, refl)
 settle_same tree ops new key key_new (c ∷ cs) h =
     let e : under (key_new c) (remaining_of (new c)) ≡ under (key c) (remaining_of (ops c)) = h c (inl refl) in
     let r : (settle (after tree (under (key_new c) (remaining_of (new c)))) (spots new key_new cs) ≡ settle (after tree (under (key_new c) (remaining_of (new c)))) (spots ops key cs)) × (settle_replies (after tree (under (key_new c) (remaining_of (new c)))) (spots new key_new cs) ≡ settle_replies (after tree (under (key_new c) (remaining_of (new c)))) (spots ops key cs)) =
-        settle_same (after tree (under (key_new c) (remaining_of (new c)))) ops new key key_new cs (λ d i. h d (inr i)) in
-    (
+    settle_same (after tree (under (key_new c) (remaining_of (new c)))) ops new key key_new cs (λ d i. h d (inr i)) in (
       r.0 ∙ ap (λ (f : Form). settle (after tree f) (spots ops key cs)) e,
       ap (λ (rs : List Reply). reply tree (under (key_new c) (remaining_of (new c))) ∷ rs) r.1 ∙ ap (λ (f : Form). reply tree f ∷ settle_replies (after tree f) (spots ops key cs)) e,
     )
@@ -114,6 +113,7 @@ renews_keep old inv c op v graph used holder k f = record {
       where
         p : IsPlaced old.ops d
         p = placed_in old.ops d inv.order inv.in_order i
+
         go : Place (Option Record) c (Some v) old.ops d → Place Key c k inv.key d → under (set_at c k inv.key d) (remaining_of (set_at c (Some v) old.ops d)) ≡ under (inv.key d) (remaining_of (old.ops d))
         go (Here i j) (Here _ l) =
             let a : ◌≡◌ {A = Option Record} (Some p.op) (Some op) = sym p.is ∙ ap old.ops i ∙ f.is in

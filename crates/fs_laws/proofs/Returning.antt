@@ -1,23 +1,20 @@
 -- A return keeps what every state keeps.
-use Rattle.std.proofs.Common.{◌≡◌, ℕ, ◌<◌, Bool, true, false, List, [], ◌∷◌, ◌++◌, Option, Some, None, refl, sym, ap, ap₂, ◌∙◌, subst, inl, inr}
-use mathlib.Core.Path.{fun_ext}
+use Rattle.std.proofs.Common.{◌≡◌, ℕ, ◌<◌, true, List, [], ◌∷◌, ◌++◌, Option, Some, None, refl, sym, ap, ◌∙◌, subst, inl}
 use Rattle.fs_names.specs.Keys.{Key}
 use Rattle.fs_names.specs.Names.{Name}
 use Rattle.fs_names.specs.Shapes.{Shape}
 use Rattle.fs_seq.specs.Forms.{form, under, by_text}
 use Rattle.fs_seq.specs.Maps.{Map}
-use Rattle.fs_seq.specs.declared.errno.Errno.{Errno}
 use Rattle.fs_seq.specs.declared.reply.Reply.{Reply}
 use Rattle.fs_nodes.specs.Graphs.{Graph, at, numbers, spell, set_at, IsGraph}
-use Rattle.fs_journal.specs.declared.entry.Entry.{Entry}
 use Rattle.fs_journal.specs.declared.entry.Entry.TheVariants.{Return}
-use Rattle.fs_ops.specs.Moves.{Ends, Move, next, next_by}
-use Rattle.fs_ops.specs.Records.{Phase, Walking, Placed, Finished, Holds, Record, Records, Stand}
-use Rattle.fs_laws.specs.Books.{begins, commit_count, Book, start, book_of, noted, free_seat, IsNext}
-use Rattle.fs_laws.specs.Invariants.{remaining_of, spots, IsPlaced, HasSpare, IsIn, Own, Invariant, StepKeeps, Tied, Dues}
+use Rattle.fs_ops.specs.Moves.{Ends, next, next_by}
+use Rattle.fs_ops.specs.Records.{Phase, Placed, Finished, Record, Stand}
+use Rattle.fs_laws.specs.Books.{commit_count, Book, start, book_of, noted, free_seat}
+use Rattle.fs_laws.specs.Invariants.{remaining_of, spots, IsPlaced, HasSpare, IsIn, Invariant, StepKeeps, Tied, Dues}
 use Rattle.fs_laws.specs.Settled.{settle, settle_replies}
 use Rattle.fs_laws.specs.Stands.{Kept}
-use Rattle.fs_laws.specs.States.{State, Returned, returning, unreserved, unused}
+use Rattle.fs_laws.specs.States.{State, Returned, unreserved, unused}
 use Rattle.fs_laws.proofs.Keeping.{Place, Here, Else, place}
 use Rattle.fs_laws.proofs.Helping.{upd_else}
 use Rattle.fs_laws.proofs.Books.{book_push, lawful_push, returns_commits, returns_begins, dues_due}

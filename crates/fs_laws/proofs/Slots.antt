@@ -1,5 +1,5 @@
 -- The nodes of a stand, each at one place.
-use Rattle.std.proofs.Common.{◌≡◌, ℕ, List, [], ◌∷◌, ◌++◌, Option, Some, None, refl, sym, ap, ◌∙◌, subst, ◌⊎◌, inl, inr}
+use Rattle.std.proofs.Common.{◌≡◌, ℕ, [], ◌∷◌, ◌++◌, Option, Some, refl, sym, ap, ◌∙◌, subst, ◌⊎◌, inl, inr}
 use Rattle.fs_names.specs.Keys.{Key}
 use Rattle.fs_names.specs.Names.{Name}
 use Rattle.fs_names.specs.Parts.{HasNames}
@@ -101,6 +101,7 @@ single_source st x n free single = single_grow st (record st { source = head_too
     swap At_dest = At_dest
     swap At_dest_behind = At_dest_behind
     swap At_victim = At_victim
+
     twice : (a : Slot) → swap (swap a) ≡ a
     twice At_node = refl
     twice At_behind = refl
@@ -109,6 +110,7 @@ single_source st x n free single = single_grow st (record st { source = head_too
     twice At_dest = refl
     twice At_dest_behind = refl
     twice At_victim = refl
+
     from : (a : Slot) (q : ℕ) → in_slot (record st { source = head_took st.source x n }) a ≡ Some q → ((a ≡ At_source) × (q ≡ n)) ⊎ (in_slot st (swap a) ≡ Some q)
     from At_node q e = inr e
     from At_behind q e = inr e
@@ -129,6 +131,7 @@ single_dest st x n free single = single_grow st (record st { dest = head_took st
     swap At_dest = At_dest_behind
     swap At_dest_behind = At_dest
     swap At_victim = At_victim
+
     twice : (a : Slot) → swap (swap a) ≡ a
     twice At_node = refl
     twice At_behind = refl
@@ -137,6 +140,7 @@ single_dest st x n free single = single_grow st (record st { dest = head_took st
     twice At_dest = refl
     twice At_dest_behind = refl
     twice At_victim = refl
+
     from : (a : Slot) (q : ℕ) → in_slot (record st { dest = head_took st.dest x n }) a ≡ Some q → ((a ≡ At_dest) × (q ≡ n)) ⊎ (in_slot st (swap a) ≡ Some q)
     from At_node q e = inr e
     from At_behind q e = inr e

@@ -1,30 +1,26 @@
 -- A take keeps what every state keeps.
-use Rattle.std.proofs.Common.{◌≡◌, ℕ, Bool, true, false, cond, not, ◌&&◌, List, [], ◌∷◌, ◌++◌, Option, Some, None, refl, sym, ap, ap₂, ◌∙◌, append_assoc, append-nil, subst, ◌⊎◌, inl, inr}
-use Rattle.fs_names.specs.Keys.{Key, after_prefix, parent_of, last_of, has_more}
+use Rattle.std.proofs.Common.{◌≡◌, ℕ, Bool, true, false, cond, [], ◌∷◌, ◌++◌, Option, Some, None, refl, sym, ap, ap₂, ◌∙◌, append_assoc, append-nil, subst, ◌⊎◌, inl, inr}
+use Rattle.fs_names.specs.Keys.{Key, after_prefix, parent_of}
 use Rattle.fs_names.specs.Names.{Name, same_name}
-use Rattle.fs_names.specs.Parts.{HasNames, common, left, left_by, is_end}
+use Rattle.fs_names.specs.Parts.{common}
 use Rattle.fs_names.specs.Shapes.{Shape, Dir, File}
 use Rattle.fs_seq.specs.Forms.{form, NodeCall, EntryCall, Form, On, In, Rename, by_text, if_below, under, Fits}
-use Rattle.fs_seq.specs.Maps.{Map}
 use Rattle.fs_seq.specs.declared.call.Call.{Call}
 use Rattle.fs_seq.specs.declared.errno.Errno.{Errno}
 use Rattle.fs_seq.specs.declared.reply.Reply.{Reply}
-use Rattle.fs_nodes.specs.Graphs.{Graph, at, numbers, spell, entry_shape, set_at}
-use Rattle.fs_ops.specs.Moves.{Move, Takes, Leaves, Finishes, next, next_by, next_on, first_of, head_move, walk_move, take_if, target, target_move, fork_move, rename_move, dir_then, victim_of, same_kind, rename_at, moved_node, inner, tail_of, took, head_took, victim_took, behind_of, source_took, target_took, took_by}
-use Rattle.fs_ops.specs.Records.{Phase, Walking, Placed, Finished, Head, Holds, Record, Records, Stand, head_at, stand_at}
-use Rattle.fs_laws.specs.Invariants.{Forked, ForkedAt, StandsWell, NumberFor, VictimAt, HasSpare, HeadsFit, IsSingle, IsUnfinished, Own, Invariant, StepKeeps}
-use Rattle.fs_laws.specs.Stands.{IsFree, Keeps, Kept, Located}
-use Rattle.fs_laws.specs.States.{State, Took, taking}
-use Rattle.fs_laws.proofs.Prefixes.{prefix_append, same_true}
-use Rattle.fs_laws.proofs.Walks.{at_child, at_from}
-use Rattle.fs_laws.proofs.Located.{fits_under}
-use Rattle.fs_laws.proofs.Keeping.{Place, Here, Else, place, kept_take, takes_walk, takes_source, takes_dest, takes_victim, Takes as Taken}
+use Rattle.fs_nodes.specs.Graphs.{Graph, numbers, set_at}
+use Rattle.fs_ops.specs.Moves.{Move, Takes, next, next_by, next_on, first_of, head_move, walk_move, target, inner, took, took_by}
+use Rattle.fs_ops.specs.Records.{Phase, Walking, Placed, Finished, Holds, Record, Stand, stand_at}
+use Rattle.fs_laws.specs.Invariants.{ForkedAt, StandsWell, NumberFor, VictimAt, HasSpare, HeadsFit, IsSingle, IsUnfinished, Own, Invariant}
+use Rattle.fs_laws.specs.Stands.{IsFree, Keeps, Kept}
+use Rattle.fs_laws.specs.States.{State, taking}
+use Rattle.fs_laws.proofs.Prefixes.{same_true}
+use Rattle.fs_laws.proofs.Walks.{at_child}
+use Rattle.fs_laws.proofs.Keeping.{Place, Here, Else, place, kept_take, takes_walk}
 use Rattle.fs_laws.proofs.Putting.{kept_root}
-use Rattle.fs_laws.proofs.Renames.{source_held, dest_held}
-use Rattle.fs_laws.proofs.Owning.{well_by}
 use Rattle.fs_laws.proofs.Finished.{Either, Changed, Old}
-use Rattle.fs_laws.proofs.Renewing.{Renews, renewed, renews_keep}
-use Rattle.fs_laws.proofs.Slots.{single_at, single_victim, single_source, single_dest}
+use Rattle.fs_laws.proofs.Renewing.{renewed, renews_keep}
+use Rattle.fs_laws.proofs.Slots.{single_at}
 
 -- a call that takes: the root first, or from where it stands
 pub data TakesFrom (graph : Graph) (op : Record) (n : ℕ) : Type 0 where
@@ -36,6 +32,7 @@ takes_from graph op n m = go op.phase (by_text (form op.call)) op.stand refl ref
   where
     walking : (p : Phase) → op.phase ≡ p → ((r : Reply) → p ≡ Finished r → ⊥) → IsUnfinished op
     walking p i f r e = f r (sym i ∙ e)
+
     go : (p : Phase) (e : Option Errno) (s : Option Stand) → op.phase ≡ p → by_text (form op.call) ≡ e → op.stand ≡ s → next_by graph op e p s ≡ Takes n → TakesFrom graph op n × IsUnfinished op
     go (Finished r) e None h i j f = cc
     go (Finished r) e (Some st) h i j f = cc
@@ -97,18 +94,21 @@ take_keeps old inv c op v n k t seat call phase reserved removed kept same own h
     spares : (m : ℕ) → HasSpare v m → HasSpare op m
     spares m (inl e) = inl (sym reserved ∙ e)
     spares m (inr e) = inr (sym removed ∙ e)
+
     new_holder : (d q : ℕ) → old.holder q ≡ Some d → set_at n (Some c) old.holder q ≡ Some d
     new_holder d q e = go (place n (Some c) old.holder q)
       where
         go : Place (Option ℕ) n (Some c) old.holder q → set_at n (Some c) old.holder q ≡ Some d
         go (Here i j) = let z : ◌≡◌ {A = Option ℕ} None (Some d) = sym t.free ∙ ap old.holder (sym i) ∙ e in cc
         go (Else m j) = j ∙ e
+
     taken : (q : ℕ) → q ≡ n → set_at n (Some c) old.holder q ≡ Some c
     taken q e = go (place n (Some c) old.holder q)
       where
         go : Place (Option ℕ) n (Some c) old.holder q → set_at n (Some c) old.holder q ≡ Some c
         go (Here i j) = j
         go (Else m j) = absurd (m e)
+
     held : (d : ℕ) (q : Record) (st : Stand) (m : ℕ) → Either old.ops c v d q → q.stand ≡ Some st → Holds st m → set_at n (Some c) old.holder m ≡ Some d
     held d q st m (Changed e g) f h = by (holds st m (ap (λ (o : Record). o.stand) g ∙ f) h)
       where
@@ -137,6 +137,7 @@ own_fresh graph op v n behind o unf phase reserved removed call on parts number 
   where
     none_some : (m : ℕ) → ◌≡◌ {A = Option ℕ} None (Some m) → ⊥
     none_some m e = cc
+
     stand_is : (st : Stand) → v.stand ≡ Some st → stand_at n behind ≡ st
     stand_is st e = let z : ◌≡◌ {A = Option Stand} (Some (stand_at n behind)) (Some st) = sym on ∙ e in cc
 
@@ -152,10 +153,13 @@ take_root old inv c op n t text off at_root = subst (λ (v : Record). Invariant 
   where
     o : Own old.graph op
     o = inv.own c op t.is
+
     took_is : took op n ≡ record op { stand = Some (stand_at n None) }
     took_is = ap (λ (s : Option Stand). took_by op s (target op.remaining) n) off
+
     not_placed : (i : ℕ) → op.phase ≡ Placed i → ⊥
     not_placed i e = let p : (st : Stand) × (op.stand ≡ Some st) = o.placed i e in let z : ◌≡◌ {A = Option Stand} None (Some p.0) = sym off ∙ p.1 in cc
+
     walks : op.phase ≡ Walking
     walks = go op.phase refl
       where
@@ -163,20 +167,26 @@ take_root old inv c op n t text off at_root = subst (λ (v : Record). Invariant 
         go Walking i = i
         go (Placed k) i = absurd (not_placed k i)
         go (Finished r) i = absurd (t.unfinished r i)
+
     walked : op.walked ≡ []
     walked = o.starts t.unfinished off
+
     fits : Fits op.remaining
     fits = ap by_text (sym (under_nil op.remaining) ∙ ap (λ (k : Key). under k op.remaining) (sym walked) ∙ o.parts) ∙ text
+
     only : (q : ℕ) → Holds (stand_at n None) q → q ≡ n
     only q (inl e) = sym e
     only q (inr (inl e)) = cc
     only q (inr (inr (inl h))) = absurd h.0
     only q (inr (inr (inr (inl h)))) = absurd h.0
     only q (inr (inr (inr (inr e)))) = cc
+
     kept : Kept (numbers old.graph) (set_at c (Some (record op { stand = Some (stand_at n None) })) old.ops) (set_at c [] inv.key)
     kept = kept_root (numbers old.graph) old.ops inv.key c op (record op { stand = Some (stand_at n None) }) (stand_at n None) inv.kept t.is walks walks walked fits refl (ap (λ (m : ℕ). Some m) at_root) only refl refl refl refl (is_free old inv n t.free)
+
     own : Own old.graph (record op { stand = Some (stand_at n None) })
     own = own_fresh old.graph op (record op { stand = Some (stand_at n None) }) n None o t.unfinished refl refl refl refl refl o.parts (λ x. x) (λ e. cc)
+
     holds : (st : Stand) (q : ℕ) → ◌≡◌ {A = Option Stand} (Some (stand_at n None)) (Some st) → Holds st q → (q ≡ n) ⊎ (old.holder q ≡ Some c)
     holds st q e h = let z : stand_at n None ≡ st = cc in inl (only q (subst (λ (s : Stand). Holds s q) (sym z) h))
 
@@ -205,6 +215,7 @@ inner_on k x l (Rename (y ∷ z ∷ p) (w ∷ u ∷ q)) e = go (same_name y w) r
   where
     append_step : (k : Key) (x y : Name) (p : Key) → y ≡ x → (k ++ x ∷ []) ++ p ≡ k ++ y ∷ p
     append_step k x y p z = append_assoc k (x ∷ []) p ∙ ap (λ (n : Name). k ++ n ∷ p) (sym z)
+
     go : (b : Bool) → same_name y w ≡ b → cond b (y ∷ common (parent_of (z ∷ p)) (parent_of (u ∷ q))) [] ≡ x ∷ l → Inner k (x ∷ []) (Rename (y ∷ z ∷ p) (w ∷ u ∷ q))
     go false i f = cc
     go true i f =
@@ -242,16 +253,22 @@ take_walk old inv c op n st x l t on way kid = subst (λ (v : Record). Invariant
   where
     v : Record
     v = record op { walked = op.walked ++ x ∷ []; remaining = inner op.remaining; stand = Some (stand_at n (Some st.node)) }
+
     o : Own old.graph op
     o = inv.own c op t.is
+
     took_is : took op n ≡ record op { walked = op.walked ++ x ∷ []; remaining = inner op.remaining; stand = Some (stand_at n (Some st.node)) }
     took_is = ap₂ (λ (s : Option Stand) (k : Key). took_by op s k n) on way
+
     k : Keeps (numbers old.graph) (inv.key c) op st
     k = inv.kept.each c op st t.is on
+
     step : Inner (inv.key c) (x ∷ []) op.remaining
     step = inner_on (inv.key c) x l op.remaining way
+
     at_n : numbers old.graph (inv.key c ++ x ∷ []) ≡ Some n
     at_n = at_child old.graph.kid 0 st.node (inv.key c) x k.located.here ∙ kid
+
     kept : Kept (numbers old.graph) (set_at c (Some (record op { walked = op.walked ++ x ∷ []; remaining = inner op.remaining; stand = Some (stand_at n (Some st.node)) })) old.ops) (set_at c (inv.key c ++ x ∷ []) inv.key)
     kept = kept_take (numbers old.graph) old.ops inv.key c op st n (inv.key c ++ x ∷ []) (stand_at n (Some st.node)) (record op { walked = op.walked ++ x ∷ []; remaining = inner op.remaining; stand = Some (stand_at n (Some st.node)) }) inv.kept t.is on refl refl (is_free old inv n t.free)
         (takes_walk (numbers old.graph) (inv.key c) st (stand_at n (Some st.node)) x n k.located.here at_n refl refl refl refl refl)
@@ -260,9 +277,11 @@ take_walk old inv c op n st x l t on way kid = subst (λ (v : Record). Invariant
           walking = λ w. ap (λ (y : Key). y ++ x ∷ []) (k.walking w);
           fits = step.fits k.fits;
         })
+
     own : Own old.graph (record op { walked = op.walked ++ x ∷ []; remaining = inner op.remaining; stand = Some (stand_at n (Some st.node)) })
     own = own_fresh old.graph op (record op { walked = op.walked ++ x ∷ []; remaining = inner op.remaining; stand = Some (stand_at n (Some st.node)) }) n (Some st.node) o t.unfinished refl refl refl refl refl ((inner_on op.walked x l op.remaining way).same ∙ o.parts) (number_inner old.graph op.remaining op.reserved)
         (λ e. (let z : st.node ≡ n = cc in let y : ◌≡◌ {A = Option ℕ} None (Some c) = sym t.free ∙ ap old.holder (sym z) ∙ inv.held c op st st.node t.is on (inl refl) in cc))
+
     holds : (s : Stand) (q : ℕ) → ◌≡◌ {A = Option Stand} (Some (stand_at n (Some st.node))) (Some s) → Holds s q → (q ≡ n) ⊎ (old.holder q ≡ Some c)
     holds s q e h = let z : stand_at n (Some st.node) ≡ s = cc in by (subst (λ (y : Stand). Holds y q) (sym z) h)
       where

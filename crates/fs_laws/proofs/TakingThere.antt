@@ -1,20 +1,19 @@
 -- A take at the target: of a victim, or of the next node of a head.
-use Rattle.std.proofs.Common.{◌≡◌, ℕ, Bool, true, false, not, ◌&&◌, List, [], ◌∷◌, ◌++◌, Option, Some, None, refl, sym, ap, ap₂, ◌∙◌, append_assoc, append-nil, subst, ◌⊎◌, inl, inr}
+use Rattle.std.proofs.Common.{◌≡◌, ℕ, Bool, true, false, not, ◌&&◌, [], ◌∷◌, ◌++◌, Option, Some, None, refl, sym, ap, ap₂, ◌∙◌, append_assoc, append-nil, subst, ◌⊎◌, inl, inr}
 use Rattle.fs_names.specs.Keys.{Key, after_prefix, parent_of, last_of, has_more}
 use Rattle.fs_names.specs.Names.{Name}
-use Rattle.fs_names.specs.Parts.{HasNames, common, left, left_by, is_end}
+use Rattle.fs_names.specs.Parts.{common, left, left_by, is_end}
 use Rattle.fs_names.specs.Shapes.{Shape, Dir, File}
-use Rattle.fs_seq.specs.Forms.{form, EntryCall, Form, On, In, Rename}
-use Rattle.fs_nodes.specs.Graphs.{Graph, at, numbers, entry_shape, set_at}
-use Rattle.fs_ops.specs.Moves.{Move, Takes, Finishes, next_on, first_of, head_move, take_if, target, target_move, in_move, fork_move, rename_move, dir_then, victim_of, same_kind, rename_at, moved_node, took, head_took, victim_took, behind_of, dest_took, source_took, target_took, took_by}
-use Rattle.fs_ops.specs.Records.{Placed, Finished, HeadHolds, Holds, Record, Records, Stand}
+use Rattle.fs_seq.specs.Forms.{EntryCall, Form, On, In, Rename}
+use Rattle.fs_nodes.specs.Graphs.{Graph, numbers, entry_shape, set_at}
+use Rattle.fs_ops.specs.Moves.{Move, Takes, Finishes, next_on, first_of, head_move, take_if, target, target_move, in_move, fork_move, rename_move, dir_then, victim_of, same_kind, rename_at, moved_node, took, head_took, behind_of, source_took, target_took, took_by}
+use Rattle.fs_ops.specs.Records.{Holds, Record, Stand}
 use Rattle.fs_laws.specs.Invariants.{Forked, ForkedAt, StandsWell, VictimAt, HeadsFit, IsSingle, IsUnfinished, Own, Invariant, StepKeeps}
-use Rattle.fs_laws.specs.Stands.{Keeps, Kept, Located}
+use Rattle.fs_laws.specs.Stands.{Keeps, Located}
 use Rattle.fs_laws.specs.States.{State, Took, taking}
 use Rattle.fs_laws.proofs.Prefixes.{prefix_append}
 use Rattle.fs_laws.proofs.Walks.{at_child, at_from}
 use Rattle.fs_laws.proofs.Keeping.{kept_take, takes_source, takes_dest, takes_victim, Takes as Taken}
-use Rattle.fs_laws.proofs.Putting.{kept_root}
 use Rattle.fs_laws.proofs.Renames.{source_held, dest_held}
 use Rattle.fs_laws.proofs.Renewing.{renewed}
 use Rattle.fs_laws.proofs.Slots.{single_victim, single_source, single_dest}
@@ -39,6 +38,7 @@ own_stand graph op new o unf well victim single heads = record {
   where
     none_some : (m : ℕ) → ◌≡◌ {A = Option ℕ} None (Some m) → ⊥
     none_some m e = cc
+
     stand_is : (st : Stand) → ◌≡◌ {A = Option Stand} (Some new) (Some st) → new ≡ st
     stand_is st e = cc
 
@@ -48,14 +48,15 @@ take_there : (old : State) (inv : Invariant old) (c : ℕ) (op : Record) (n : �
     → Invariant (taking old c op n)
 take_there old inv c op n st new t on took_is node taken loc well victim single heads = subst (λ (v : Record). Invariant (renewed old c v old.graph old.used (set_at n (Some c) old.holder))) (sym took_is)
     (take_keeps old inv c op (record op { stand = Some new }) n (inv.key c) t refl refl refl refl refl
-        (kept_take (numbers old.graph) old.ops inv.key c op st n (inv.key c) new (record op { stand = Some new }) inv.kept t.is on refl refl (is_free old inv n t.free) taken
-            (let k : Keeps (numbers old.graph) (inv.key c) op st = inv.kept.each c op st t.is on in record { located = loc; walking = k.walking; fits = k.fits }))
-        (λ i e. refl)
-        (own_stand old.graph op new (inv.own c op t.is) t.unfinished well victim single heads)
-        (λ s q e h. holds s q (stand_is s e) h))
+    (kept_take (numbers old.graph) old.ops inv.key c op st n (inv.key c) new (record op { stand = Some new }) inv.kept t.is on refl refl (is_free old inv n t.free) taken
+    (let k : Keeps (numbers old.graph) (inv.key c) op st = inv.kept.each c op st t.is on in record { located = loc; walking = k.walking; fits = k.fits }))
+    (λ i e. refl)
+    (own_stand old.graph op new (inv.own c op t.is) t.unfinished well victim single heads)
+    (λ s q e h. holds s q (stand_is s e) h))
   where
     stand_is : (s : Stand) → ◌≡◌ {A = Option Stand} (Some new) (Some s) → new ≡ s
     stand_is s e = cc
+
     holds : (s : Stand) (q : ℕ) → new ≡ s → Holds s q → (q ≡ n) ⊎ (old.holder q ≡ Some c)
     holds s q e h = by (taken.grows q (subst (λ (y : Stand). Holds y q) (sym e) h))
       where
@@ -85,8 +86,10 @@ take_entry old inv c op n st e p t on rem way m =
   where
     loc : Located (numbers old.graph) (inv.key c) st
     loc = (inv.kept.each c op st t.is on).located
+
     taken : (old.graph.kid st.node (last_of p) ≡ Some n) × (st.victim ≡ None)
     taken = victim_taken (victim_of e (entry_shape old.graph st.node (last_of p))) (old.graph.kid st.node (last_of p)) st.victim None n m
+
     took_is : took op n ≡ record op { stand = Some (record st { victim = Some n }) }
     took_is = ap₂ (λ (s : Option Stand) (k : Key). took_by op s k n) on (ap target rem ∙ way) ∙ ap (λ (f : Form). record op { stand = Some (target_took f st n) }) rem
 
@@ -129,16 +132,22 @@ take_source old inv c op n st p q x l t on rem way left_is kid =
   where
     own : Own old.graph op
     own = inv.own c op t.is
+
     loc : Located (numbers old.graph) (inv.key c) st
     loc = (inv.kept.each c op st t.is on).located
+
     f : Forked old.graph st.node p q st
     f = forked_of old.graph st.node p q st op.remaining rem way (own.well st on)
+
     held : Holds st st.source.node
     held = source_held (numbers old.graph) (inv.key c) st loc
+
     at_n : numbers old.graph ((inv.key c ++ st.source.walked) ++ x ∷ []) ≡ Some n
     at_n = at_child old.graph.kid 0 st.source.node (inv.key c ++ st.source.walked) x loc.source ∙ kid
+
     new_loc : Located (numbers old.graph) (inv.key c) (record st { source = head_took st.source x n })
     new_loc = record { here = loc.here; source = ap (numbers old.graph) (sym (append_assoc (inv.key c) st.source.walked (x ∷ []))) ∙ at_n; dest = loc.dest }
+
     took_is : took op n ≡ record op { stand = Some (record st { source = head_took st.source x n }) }
     took_is =
         ap₂ (λ (s : Option Stand) (k : Key). took_by op s k n) on (ap target rem ∙ way)
@@ -163,23 +172,31 @@ take_dest old inv c op n st p q x l t on rem way source_none left_is kid =
   where
     own : Own old.graph op
     own = inv.own c op t.is
+
     loc : Located (numbers old.graph) (inv.key c) st
     loc = (inv.kept.each c op st t.is on).located
+
     f : Forked old.graph st.node p q st
     f = forked_of old.graph st.node p q st op.remaining rem way (own.well st on)
+
     held : Holds st st.dest.node
     held = dest_held (numbers old.graph) (inv.key c) st loc
+
     vic : VictimAt old.graph (Rename p q) st
     vic = subst (λ (g : Form). VictimAt old.graph g st) rem (own.victim t.unfinished st on)
+
     -- a victim is held only once the destination head has arrived
     none_yet : (v : ℕ) → st.victim ≡ Some v → ⊥
     none_yet v e =
         let i : left st.dest.walked (parent_of q) ≡ [] = ap (left st.dest.walked) ((vic v e).1 ∙ sym (append-nil st.dest.walked)) ∙ ap left_by (prefix_append st.dest.walked []) in
         let z : ◌≡◌ {A = Key} [] (x ∷ l) = sym i ∙ left_is in cc
+
     at_n : numbers old.graph ((inv.key c ++ st.dest.walked) ++ x ∷ []) ≡ Some n
     at_n = at_child old.graph.kid 0 st.dest.node (inv.key c ++ st.dest.walked) x loc.dest ∙ kid
+
     new_loc : Located (numbers old.graph) (inv.key c) (record st { dest = head_took st.dest x n })
     new_loc = record { here = loc.here; dest = ap (numbers old.graph) (sym (append_assoc (inv.key c) st.dest.walked (x ∷ []))) ∙ at_n; source = loc.source }
+
     took_is : took op n ≡ record op { stand = Some (record st { dest = head_took st.dest x n }) }
     took_is =
         ap₂ (λ (s : Option Stand) (k : Key). took_by op s k n) on (ap target rem ∙ way)
@@ -199,12 +216,16 @@ take_replaced old inv c op n st p q t on rem way source_none dest_none m =
   where
     own : Own old.graph op
     own = inv.own c op t.is
+
     loc : Located (numbers old.graph) (inv.key c) st
     loc = (inv.kept.each c op st t.is on).located
+
     f : Forked old.graph st.node p q st
     f = forked_of old.graph st.node p q st op.remaining rem way (own.well st on)
+
     taken : (old.graph.kid st.dest.node (last_of q) ≡ Some n) × (st.victim ≡ None)
     taken = victim_taken (same_kind (entry_shape old.graph st.source.node (last_of p)) (entry_shape old.graph st.dest.node (last_of q)) && not (is_end (after_prefix p q)) && not (has_more (after_prefix q p))) (old.graph.kid st.dest.node (last_of q)) st.victim (moved_node (rename_at old.graph p q st).1 (old.graph.kid st.source.node (last_of p))) n m
+
     took_is : took op n ≡ record op { stand = Some (record st { victim = Some n }) }
     took_is =
         ap₂ (λ (s : Option Stand) (k : Key). took_by op s k n) on (ap target rem ∙ way)
@@ -225,6 +246,7 @@ take_fork old inv c op n st p q t on rem way m = source (left st.source.walked (
     dest [] i j e =
         let h : (st.dest.behind ≡ None) × (dir_then (old.graph.shape st.dest.node) (rename_move old.graph p q st) ≡ Takes n) = head_passes old.graph st.dest.node st.dest.behind (dir_then (old.graph.shape st.dest.node) (rename_move old.graph p q st)) n e in
         take_replaced old inv c op n st p q t on rem way i j (dir_takes (old.graph.shape st.dest.node) (rename_move old.graph p q st) n h.1)
+
     source : (l : Key) → left st.source.walked (parent_of p) ≡ l → first_of (head_move old.graph st.source.node st.source.behind l) (dir_then (old.graph.shape st.source.node) (first_of (head_move old.graph st.dest.node st.dest.behind (left st.dest.walked (parent_of q))) (dir_then (old.graph.shape st.dest.node) (rename_move old.graph p q st)))) ≡ Takes n → Invariant (taking old c op n)
     source (x ∷ l) i e = take_source old inv c op n st p q x l t on rem way i (head_takes old.graph st.source.node st.source.behind x l (dir_then (old.graph.shape st.source.node) (first_of (head_move old.graph st.dest.node st.dest.behind (left st.dest.walked (parent_of q))) (dir_then (old.graph.shape st.dest.node) (rename_move old.graph p q st)))) n e).1
     source [] i e =
@@ -243,6 +265,7 @@ take_from old inv c op n st t on m = way (target op.remaining) refl m
         no_take e = cc
     there (In e p) i w f = take_entry old inv c op n st e p t on i w f
     there (Rename p q) i w f = take_fork old inv c op n st p q t on i w f
+
     way : (l : Key) → target op.remaining ≡ l → first_of (head_move old.graph st.node st.behind l) (target_move old.graph op.remaining st) ≡ Takes n → Invariant (taking old c op n)
     way (x ∷ l) i e = take_walk old inv c op n st x l t on i (head_takes old.graph st.node st.behind x l (target_move old.graph op.remaining st) n e).1
     way [] i e =
@@ -254,8 +277,10 @@ keeps_took n old new seat inv (c, op, moves, free, same) = subst Invariant (sym 
   where
     w : TakesFrom old.graph op n × IsUnfinished op
     w = takes_from old.graph op n moves.2
+
     t : Taker old inv c op n
     t = record { is = moves.1; unfinished = (takes_from old.graph op n moves.2).1; free = free }
+
     go : TakesFrom old.graph op n → Invariant (taking old c op n)
     go (From_nowhere text off z) = take_root old inv c op n t text off z
     go (From_stand st on m) = take_from old inv c op n st t on m

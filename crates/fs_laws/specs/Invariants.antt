@@ -13,7 +13,7 @@ use Rattle.fs_ops.specs.Records.{Stand, Walking, Placed, Finished, Record, Recor
 use Rattle.fs_laws.specs.Books.{begins, commit_count, Book, start, book_of, IsLawful}
 use Rattle.fs_laws.specs.Settled.{settle, settle_replies}
 use Rattle.fs_laws.specs.Stands.{Kept}
-use Rattle.fs_laws.specs.States.{State, Begun, Begun_as, Begins, Stepped, Took, LetGo, Committed, CarriedOut, Returned, Step}
+use Rattle.fs_laws.specs.States.{State, Begun, Begins, Stepped, Step}
 
 -- what a rename keeps at its common directory
 pub record Forked (graph : Graph) (n : ℕ) (p q : Key) (st : Stand) : Type 0 where
@@ -180,12 +180,3 @@ StepKeeps answer = (old new : State) (seat : ℕ) → Invariant old → Step old
 -- the same of a begin
 abbrev pub BeginKeeps : Begun → Type 0
 BeginKeeps answer = (old new : State) (seat : ℕ) (call : Call) → Invariant old → Begins old seat call answer new → Invariant new
-
--- the answers that change the state (helping is proved)
-pub record Keeping : Type 0 where
-  pub took : (n : ℕ) → StepKeeps (Took n)
-  pub let_go : (n : ℕ) → StepKeeps (LetGo n)
-  pub committed : StepKeeps Committed
-  pub carried : StepKeeps CarriedOut
-  pub returned : (r : Reply) → StepKeeps (Returned r)
-  pub begun : (c : ℕ) → BeginKeeps (Begun_as c)

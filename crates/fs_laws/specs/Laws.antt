@@ -7,7 +7,6 @@ use Rattle.fs_seq.specs.Maps.{Map}
 use Rattle.fs_seq.specs.Changes.{Change, outcome, changed}
 use Rattle.fs_laws.specs.Placed.{Standing, Passes, PastAll, rekey_all}
 use Rattle.fs_laws.specs.States.{State, Run}
-use Rattle.fs_laws.specs.Invariants.{Keeping}
 use Rattle.fs_laws.specs.Headline.{Headline}
 
 -- a call that finishes goes past all placed calls
@@ -16,6 +15,6 @@ GoesPastAll = (tree : Map Shape) (w : Form) (ch : Change) (ps : List (Key × For
     → (outcome tree w).1 ≡ ch → Fits w → Standing tree ps → Passes tree w ch ps
     → Standing (changed ch tree) (rekey_all ch ps) → PastAll tree w ch ps
 
--- the linearization theorem, from what each event keeps
-abbrev pub HeadlineFromSteps : Type 0
-HeadlineFromSteps = Keeping → (s : State) → Run s → Headline s
+-- the linearization theorem: it holds of every state of every run
+abbrev pub Linearization : Type 0
+Linearization = (s : State) → Run s → Headline s
