@@ -1,7 +1,7 @@
 -- What holds of the definitions: laws, each proved as the contract of a function of the module `laws`.
-use Rattle.std.specs.Prelude.{◌≡◌, List, ◌∷◌, ◌++◌, Option, Some, None, if◌then◌else◌}
+use Rattle.std.specs.Prelude.{◌≡◌, ◌≢◌, List, ◌∷◌, ◌++◌, Some, None}
 use Rattle.fs_names.specs.Names.{Name}
-use Rattle.fs_names.specs.Keys.{Key, same_key, after_prefix}
+use Rattle.fs_names.specs.Keys.{Key, after_prefix}
 use Rattle.fs_seq.specs.Tree.{Tree, Node, Dir, look, IsTree}
 use Rattle.fs_seq.specs.Outcomes.{fault, reply, after, play}
 use Rattle.fs_seq.specs.declared.call.Call.{Call}
@@ -17,22 +17,25 @@ ErrorsChangeNothing = (t : Tree) (call : Call) (e : Errno) → reply t call ≡ 
 abbrev pub StaysATree : Type 0
 StaysATree = (t : Tree) (call : Call) → IsTree t → IsTree (after t call)
 
--- in a tree that was played the root is a directory, and so is each proper prefix of a key
+-- what has something below it is a directory
 abbrev pub HasDirectoriesAbove : Tree → Type 0
 HasDirectoriesAbove t = (d : Key) (x : Name) (rest : Key) (n : Node) → look t (d ++ x ∷ rest) ≡ Some n → look t d ≡ Some Dir
 
+-- in a tree that was played the root is a directory, and so is each proper prefix of a key
 abbrev pub PlayedTreesAreTrees : Type 0
 PlayedTreesAreTrees = (calls : List Call) → IsTree (play calls) × HasDirectoriesAbove (play calls)
 
--- what a rename from p to q leaves at a key: nothing below p, what stood at q's counterpart below q, and all else as it was
-abbrev pub if_moved : Tree → Key → Option Key → Option Node
-if_moved t k None = look t k
-if_moved t k (Some rest) = None
+-- trees in which the same stands at each key are one
+abbrev pub SameTrees : Type 0
+SameTrees = (s t : Tree) → IsTree s → IsTree t → ((k : Key) → look s k ≡ look t k) → s ≡ t
 
-abbrev pub look_moved : Tree → Key → Key → Key → Option Key → Option Node
-look_moved t p q k None = if_moved t k (after_prefix p k)
-look_moved t p q k (Some rest) = look t (p ++ rest)
+-- the second tree has at q and below it what the first has at p and below it, nothing at p and below it, and all else as it was
+pub record IsMoved (old new : Tree) (p q : Key) : Type 0 where
+  pub arrived : (rest : Key) → look new (q ++ rest) ≡ look old (p ++ rest)
+  pub gone : (rest : Key) → look new (p ++ rest) ≡ None
+  pub others : (k : Key) → after_prefix p k ≡ None → after_prefix q k ≡ None → look new k ≡ look old k
 
-abbrev pub RenamesMove : Type 0
-RenamesMove = (t : Tree) (p q k : Key) → IsTree t → fault t (Rename p q) ≡ None
-    → look (after t (Rename p q)) k ≡ (if same_key p q then look t k else look_moved t p q k (after_prefix q k))
+-- a rename without an error moves a node, with all below it, and one onto itself changes nothing
+pub record RenamesMove : Type 0 where
+  pub moved : (t : Tree) (p q : Key) → IsTree t → fault t (Rename p q) ≡ None → p ≢ q → IsMoved t (after t (Rename p q)) p q
+  pub onto_itself : (t : Tree) (p : Key) → after t (Rename p p) ≡ t

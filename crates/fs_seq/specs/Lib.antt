@@ -2,10 +2,15 @@ pub mod Tree
 pub mod Shapes
 pub mod Errors
 pub mod Replies
+pub mod Renaming
 pub mod Outcomes
 pub mod Forms
 pub mod Maps
 pub mod Rows
 pub mod Changes
+pub mod Graph
+pub mod Nodes
+pub mod Memory
+pub mod Effects
 pub mod Laws
 pub mod Examples

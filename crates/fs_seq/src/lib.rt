@@ -6,7 +6,10 @@ pub mod call;
 pub mod errno;
 pub mod examples;
 pub mod laws;
+mod making;
 pub mod name_list;
+mod nodes;
+mod renaming;
 pub mod reply;
 
 pub use bytes::Bytes;

@@ -1,0 +1,44 @@
+-- What the calls that make a node answer and leave.
+use Rattle.std.proofs.Common.{◌≡◌, ℕ, ◌+◌, ◌<◌, List, [], ◌∷◌, ◌++◌, length, slice_get, Some, None, refl, sym, ap, subst, ◌∙◌}
+use Rattle.std.specs.Prelude.{insert}
+use Rattle.std.specs.FinMap.{put}
+use Rattle.fs_names.specs.Names.{Name, name_cmp}
+use Rattle.fs_names.specs.Keys.{Key, parent_of, last_of}
+use Rattle.fs_seq.specs.Tree.{Node, inserted}
+use Rattle.fs_seq.specs.Outcomes.{fault}
+use Rattle.fs_seq.specs.declared.call.Call.TheVariants.{Mkdir, Mknod}
+use Rattle.fs_seq.specs.declared.reply.Reply.TheVariants.{Done}
+use Rattle.fs_seq.specs.declared.nodes.Node.TheVariants as nodes
+use Rattle.fs_seq.specs.Tree.{Tree}
+use Rattle.fs_seq.specs.Graph.{Place, Dir, Graph, place_at, links_of, links_at, node_of, tree_of, IsForest, Sets}
+use Rattle.fs_seq.specs.Nodes.{place}
+use Rattle.fs_seq.specs.Effects.{making_fault, tree_node, IsGap, Attaches, Gives}
+use Rattle.fs_seq.proofs.NodeLemmas.{parent_and_last, last_got}
+use Rattle.fs_seq.proofs.GraphMade.{forest_made, tree_made}
+use Rattle.fs_seq.proofs.Replies.{works}
+
+-- what a node is in a tree is what its place is
+pub node_place : (node : nodes.the_data) → node_of (Some (place node)) ≡ Some (tree_node node)
+node_place (nodes.Dir links) = refl
+node_place (nodes.File bytes) = refl
+
+-- the errors of both calls are those of making a node
+pub mkdir_fault : (t : Tree) (p : Key) → fault t (Mkdir p) ≡ making_fault t p
+unfolding fault making_fault
+mkdir_fault t p = refl
+
+pub mknod_fault : (t : Tree) (p : Key) → fault t (Mknod p) ≡ making_fault t p
+unfolding fault making_fault
+mknod_fault t p = refl
+
+-- a new node in its place
+pub is_made : (g g' : Graph) (p : Key) (n dir i : ℕ) (x : Name) (node : nodes.the_data) → IsForest g → links_of (Some (place node)) ≡ [] → IsGap g p dir i → n + 1 ≡ length p → slice_get p n ≡ Some x → Attaches g g' dir i x (place node)
+    → Gives g g' (making_fault (tree_of g) p) Done (inserted (tree_of g) p (tree_node node)) Done
+is_made g g' p n dir i x node forest bare gap len named attached =
+    let last : x ≡ last_of p = sym (last_got p n x len named) in
+    let entry : insert (links_at g dir) i (x, attached.number) ≡ put name_cmp (last_of p) attached.number (links_at g dir) = ap (λ z. insert (links_at g dir) i (z, attached.number)) last ∙ sym (gap.belongs.placed attached.number) in
+    let linking : Sets g attached.between dir (Some (Dir (put name_cmp (last_of p) attached.number (links_at g dir)))) = subst (λ ls. Sets g attached.between dir (Some (Dir ls))) entry attached.linking in
+    works g g' (making_fault (tree_of g) p) Done (inserted (tree_of g) p (tree_node node)) gap.sound
+    (tree_made g attached.between g' forest (place node) bare (parent_of p) dir gap.parent (links_at g dir) gap.directory (last_of p) gap.belongs.absent attached.number attached.free linking attached.adding (tree_node node) (node_place node)
+    ∙ ap (λ k. inserted (tree_of g) k (tree_node node)) (sym (parent_and_last p gap.named)))
+    (forest_made g attached.between g' forest (place node) bare (parent_of p) dir gap.parent (links_at g dir) gap.directory (last_of p) gap.belongs.absent attached.number attached.free linking attached.adding)

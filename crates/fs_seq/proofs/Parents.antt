@@ -1,0 +1,56 @@
+-- The parent of a path, and what stands in it, in the tree that a graph spells.
+use Rattle.std.proofs.Common.{◌≡◌, ℕ, ◌+◌, ◌<◌, List, [], ◌∷◌, ◌++◌, length, take, get_or, slice_get, Some, None, Option, refl, sym, ap, subst, ◌∙◌}
+use Rattle.std.specs.FinMap.{find}
+use Rattle.fs_names.specs.Names.{Name, name_cmp}
+use Rattle.fs_names.specs.Keys.{Key, parent_of, last_of}
+use Rattle.fs_names.specs.First.{on, or_else}
+use Rattle.fs_seq.specs.declared.errno.Errno.{Errno}
+use Rattle.fs_seq.specs.declared.errno.Errno.TheVariants.{Enotdir}
+use Rattle.fs_seq.specs.declared.nodes.Link.{Link}
+use Rattle.fs_seq.specs.Tree.{Tree}
+use Rattle.fs_seq.specs.Shapes.{Shape, seen, is_file}
+use Rattle.fs_seq.specs.Outcomes.{resolution, parents_resolution}
+use Rattle.fs_seq.specs.Graph.{Place, Dir, File, Graph, place_at, links_at, child, walk, tree_of, shape_of, IsForest}
+use Rattle.fs_seq.specs.Nodes.{pair, pairs, StandsAt, BelongsAt, IsTaken, IsFree}
+use Rattle.fs_seq.proofs.Resolving.{resolution_walked, seen_at}
+use Rattle.fs_seq.proofs.NodeLemmas.{take_parent, last_got, links_got, step_found, length-pairs}
+
+-- a parent that is not resolved gives its error
+pub parents_lost : (t : Tree) (p : Key) (n : ℕ) (e : Errno) → n + 1 ≡ length p → resolution t (take n p) ≡ Some e → parents_resolution t p ≡ Some e
+parents_lost t p n e len h = ap (λ z. or_else z (or_else (on (is_file (seen t (parent_of p))) Enotdir) None)) (ap (resolution t) (sym (take_parent p n len)) ∙ h)
+
+-- a parent that is resolved is what stands there
+pub parents_found : (g : Graph) (p : Key) (dir : ℕ) (o : Option Place) → IsForest g → walk g (parent_of p) ≡ Some dir → place_at g dir ≡ o → parents_resolution (tree_of g) p ≡ on (is_file (shape_of o)) Enotdir
+parents_found g p dir o forest w at =
+    (λ i. or_else (resolution_walked g (parent_of p) dir forest w i) (or_else (on (is_file ((seen_at g (parent_of p) dir forest w ∙ ap shape_of at) i)) Enotdir) None))
+    ∙ alone (on (is_file (shape_of o)) Enotdir)
+  where
+    alone : (z : Option Errno) → or_else z None ≡ z
+    alone None = refl
+    alone (Some e) = refl
+
+-- a name that was found in the parent
+pub is_taken : (g : Graph) (p : Key) (n dir i : ℕ) (x : Name) (links : List Link) (l : Link) → n + 1 ≡ length p → slice_get p n ≡ Some x → walk g (take n p) ≡ Some dir → place_at g dir ≡ Some (Dir (pairs links)) → StandsAt (pairs links) x i → l ≡ get_or links i l
+    → IsTaken g p dir i l.node
+is_taken g p n dir i x links l len named w at stands read =
+    let last : x ≡ last_of p = sym (last_got p n x len named) in
+    let same : pairs links ≡ links_at g dir = sym (links_got g dir _ at) in
+    record {
+      parent = ap (walk g) (sym (take_parent p n len)) ∙ w;
+      directory = at ∙ ap (λ ls. Some (Dir ls)) same;
+      stands = subst (λ z. StandsAt (links_at g dir) z i) last (subst (λ ls. StandsAt ls x i) same stands);
+      leads = ap (child g dir) (sym last) ∙ step_found g dir x links i l at stands read;
+    }
+
+-- a name that was not
+pub is_free : (g : Graph) (p : Key) (n dir i entries : ℕ) (x : Name) (links : List Link) → n + 1 ≡ length p → slice_get p n ≡ Some x → walk g (take n p) ≡ Some dir → place_at g dir ≡ Some (Dir (pairs links)) → BelongsAt (pairs links) x i → entries ≡ length links
+    → IsFree g p dir i entries
+is_free g p n dir i entries x links len named w at belongs count =
+    let last : x ≡ last_of p = sym (last_got p n x len named) in
+    let same : pairs links ≡ links_at g dir = sym (links_got g dir _ at) in
+    record {
+      parent = ap (walk g) (sym (take_parent p n len)) ∙ w;
+      directory = at ∙ ap (λ ls. Some (Dir ls)) same;
+      belongs = subst (λ z. BelongsAt (links_at g dir) z i) last (subst (λ ls. BelongsAt ls x i) same belongs);
+      count = count ∙ sym (length-pairs links) ∙ ap length same;
+    }

@@ -1,0 +1,126 @@
+//! Nodes in a slab, walks along names, and the entries of directories.
+
+ghost use Rattle.std.specs.Prelude.{◌≡◌, ◌<◌, ◌≤◌, Some, IsTrue, OnOk, OnErr, length, take, insert, remove};
+ghost use Rattle.std.specs.FinMap.{is_sorted};
+ghost use Rattle.slab.specs.Slab.{ContainsKey, HasRoomFor};
+ghost use Rattle.fs_names.specs.Names.{name_cmp};
+ghost use Rattle.fs_seq.specs.Nodes.{pair, pairs, graph, Searches, Steps, Resolves, LooksUp};
+ghost use Rattle.fs_seq.specs.Graph.{IsForest, Sets, place_at, links_at, Dir as IsDir};
+
+use crate::errno::Errno;
+use fs_names::{Name, Path};
+use slab::Slab;
+use std::alloc::AllocError;
+
+/// An entry of a directory: its name, and the number of its node.
+#[derive(Drop)]
+pub struct Link {
+    pub name: Name,
+    pub node: usize,
+}
+
+/// A directory with its entries in byte order, or a file with its bytes.
+#[derive(Drop)]
+pub enum Node {
+    Dir(Vec<Link>),
+    File(Vec<u8>),
+}
+
+/// Where the last name of a path stands, or where it belongs: the number of the directory and the place among
+/// its entries, with the number of the node, or with the number of the entries.
+#[derive(Drop)]
+pub enum Spot {
+    Taken(usize, usize, usize),
+    Free(usize, usize, usize),
+}
+
+/// Where a name stands among the links, or where it belongs.
+pub fn search(links: &[Link], name: &Name) -> Result<usize, usize>
+    requires { IsTrue (is_sorted name_cmp (pairs links.now)) }
+    ensures { Searches (pairs links.now) name.now result }
+{
+    links.binary_search_by(|link| link.name.cmp(name))
+}
+
+/// The number to which a name leads from a node.
+fn step(nodes: &Slab<Node>, at: usize, name: &Name) -> Result<usize, Errno>
+    requires there { ContainsKey nodes.now at }
+    requires rising { IsTrue (is_sorted name_cmp (links_at (graph nodes.now) at)) }
+    ensures { Steps (graph nodes.now) at name.now result }
+{
+    match &nodes[at] {
+        Node::File(_) => Err(Errno::Enotdir),
+        Node::Dir(links) => match search(links, name) {
+            Ok(i) => Ok(links[i].node),
+            Err(_) => Err(Errno::Enoent),
+        },
+    }
+}
+
+/// The number to which the first `count` names of the path lead, or why they lead nowhere.
+pub fn resolve(nodes: &Slab<Node>, path: &Path, count: usize) -> Result<usize, Errno>
+    requires forest { IsForest (graph nodes.now) }
+    requires names { count ≤ length path.now }
+    ensures { Resolves (graph nodes.now) (take count path.now) result }
+{
+    let mut at = 0;
+    for i in 0..count {
+        match step(nodes, at, path.name(i)) {
+            Ok(next) => at = next,
+            Err(errno) => return Err(errno),
+        }
+    }
+    Ok(at)
+}
+
+/// Looks the last name of a path up in its parent.
+pub fn look_up(nodes: &Slab<Node>, path: &Path) -> Result<Spot, Errno>
+    requires forest { IsForest (graph nodes.now) }
+    requires named { 0 < length path.now }
+    ensures { LooksUp (graph nodes.now) path.now result }
+{
+    let last = path.len() - 1;
+    let dir = match resolve(nodes, path, last) {
+        Ok(dir) => dir,
+        Err(errno) => return Err(errno),
+    };
+    match &nodes[dir] {
+        Node::File(_) => Err(Errno::Enotdir),
+        Node::Dir(links) => match search(links, path.name(last)) {
+            Ok(i) => Ok(Spot::Taken(dir, i, links[i].node)),
+            Err(i) => Ok(Spot::Free(dir, i, links.len())),
+        },
+    }
+}
+
+/// Adds an entry to a directory at a place.
+pub fn add_link(nodes: &mut Slab<Node>, dir: usize, i: usize, link: Link) -> Result<(), AllocError>
+    requires directory { place_at (graph nodes.old) dir ≡ Some (IsDir (links_at (graph nodes.old) dir)) }
+    requires within { i ≤ length (links_at (graph nodes.old) dir) }
+    ensures ok { OnOk result (Sets (graph nodes.old) (graph nodes.new) dir (Some (IsDir (insert (links_at (graph nodes.old) dir) i (pair link))))) }
+    ensures err { OnErr result (graph nodes.new ≡ graph nodes.old) }
+    ensures key { nodes.new.vacant_key ≡ nodes.old.vacant_key }
+    ensures room { HasRoomFor nodes.old 1 → HasRoomFor nodes.new 1 }
+{
+    match &mut nodes[dir] {
+        Node::Dir(links) => match links.insert(i, link) {
+            Ok(()) => Ok(()),
+            Err(_) => Err(AllocError),
+        },
+        Node::File(_) => Ok(()),
+    }
+}
+
+/// Takes the entry at a place out of a directory.
+pub fn remove_link(nodes: &mut Slab<Node>, dir: usize, i: usize)
+    requires directory { place_at (graph nodes.old) dir ≡ Some (IsDir (links_at (graph nodes.old) dir)) }
+    requires within { i < length (links_at (graph nodes.old) dir) }
+    ensures { Sets (graph nodes.old) (graph nodes.new) dir (Some (IsDir (remove (links_at (graph nodes.old) dir) i))) }
+{
+    match &mut nodes[dir] {
+        Node::Dir(links) => {
+            links.remove(i);
+        }
+        Node::File(_) => {}
+    }
+}
