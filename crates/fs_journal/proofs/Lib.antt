@@ -1,3 +1,5 @@
+pub mod AppendLemmas
+pub mod KnowledgeLemmas
 pub mod ReplyLemmas
 pub mod TimelineLemmas
 pub mod VerdictLemmas

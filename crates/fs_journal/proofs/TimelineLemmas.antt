@@ -1,11 +1,11 @@
 -- Timelines with one more entry.
 use Rattle.std.proofs.Common.{◌≡◌, List, [], ◌∷◌, ◌++◌, refl, sym, subst, append_assoc}
-use Rattle.fs_journal.specs.Timeline.{IsNext, IsAnswered, Each, IsWellFormed, IsLawful}
+use Rattle.fs_journal.specs.Timeline.{IsNext, IsAnswered, Each}
 use Rattle.fs_journal.specs.Laws.{LawfulWithoutTheLast, WellFormedAppended, LawfulAppended}
 use Rattle.fs_journal.specs.declared.entry.Entry.{Entry}
 
--- what stands before the rest, said in two ways
-append_nil : (es : List Entry) → es ++ [] ≡ es
+-- a list with nothing behind it
+pub append_nil : {A : Type 0} (es : List A) → es ++ [] ≡ es
 append_nil [] = refl
 append_nil (e ∷ es) = let rest = append_nil es in cc
 

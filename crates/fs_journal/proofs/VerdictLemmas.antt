@@ -1,11 +1,10 @@
 -- Verdicts and lawful timelines.
-use Rattle.std.proofs.Common.{◌≡◌, ◌≢◌, ◌↔◌, ℕ, zero, suc, ◌+◌, ◌-◌, Bool, true, false, not, List, [], ◌∷◌, ◌++◌, take, Option, Some, None, refl, sym, subst, ap, ◌∙◌, arith, ◌⊎◌, inl, inr, ⊎_elim}
-use Rattle.fs_names.specs.First.{on, or_else, first}
-use Rattle.fs_seq.specs.Replies.{same_reply}
+use Rattle.std.proofs.Common.{◌≡◌, ℕ, suc, ◌+◌, ◌-◌, Bool, true, false, not, List, [], ◌∷◌, ◌++◌, take, Option, Some, None, refl, sym, subst, ap, arith, ◌⊎◌, inl, inr, ⊎_elim}
+use Rattle.fs_names.specs.First.{on, first}
 use Rattle.fs_seq.specs.declared.reply.Reply.{Reply}
-use Rattle.fs_journal.specs.Timeline.{has_begun, has_committed, has_returned, is_busy, due, IsNext, IsAnswered, Each, IsWellFormed, IsLawful}
+use Rattle.fs_journal.specs.Timeline.{due, IsNext, IsAnswered, Each, IsLawful}
 use Rattle.fs_journal.specs.Verdicts.{is_due, entry_fault, fault_or, verdict_from, verdict}
-use Rattle.fs_journal.specs.Laws.{LawfulIsLawful, IsFirstFault, FaultsAreFirst}
+use Rattle.fs_journal.specs.Laws.{LawfulIsLawful, IsFirstFault, NamesFirstFault, FaultsAreFirst}
 use Rattle.fs_journal.specs.declared.entry.Entry.{Entry}
 use Rattle.fs_journal.specs.declared.entry.Entry.TheVariants.{Begin, Commit, Return}
 use Rattle.fs_journal.specs.declared.verdict.Verdict.{Verdict}
@@ -126,8 +125,13 @@ first_fault es n h = record {
   with_it = λ lawful. h.with_it (each_from_lawful (take (suc n) es) lawful);
 }
 
-pub faults_are_first : FaultsAreFirst
-faults_are_first es place kind h =
-    let found = stops_at [] 1 es place kind h in
+-- the first fault is named, whatever verdict is the entries'
+pub names_first_fault : (es : List Entry) (v : Verdict) → v ≡ verdict es → NamesFirstFault es v
+names_first_fault es Lawful h = tt
+names_first_fault es (Fault place kind) h =
+    let found = stops_at [] 1 es place kind (sym h) in
     let at : suc found.0 ≡ place = omega (arith, found.1) in
     subst (IsFirstFault es) at (first_fault es found.0 found.2)
+
+pub faults_are_first : FaultsAreFirst
+faults_are_first es = names_first_fault es (verdict es) refl

@@ -1,6 +1,5 @@
 -- Worked examples of verdicts.
-use Rattle.std.specs.Prelude.{◌≡◌, ℕ, List, [], ◌∷◌, codes}
-use Rattle.fs_names.specs.Keys.{Key}
+use Rattle.std.specs.Prelude.{◌≡◌, ℕ, [], ◌∷◌, codes}
 use Rattle.fs_seq.specs.declared.call.Call.TheVariants.{Mkdir}
 use Rattle.fs_seq.specs.declared.reply.Reply.TheVariants.{Done, Wrote, Failed}
 use Rattle.fs_seq.specs.declared.errno.Errno.TheVariants.{Eexist}

@@ -3,8 +3,8 @@ use Rattle.std.specs.Prelude.{◌≡◌, ℕ, ◌-◌, List, [], ◌∷◌, ◌+
 use Rattle.fs_journal.specs.Timeline.{IsNext, IsAnswered, IsWellFormed, IsLawful}
 use Rattle.fs_journal.specs.Verdicts.{verdict}
 use Rattle.fs_journal.specs.declared.entry.Entry.{Entry}
+use Rattle.fs_journal.specs.declared.verdict.Verdict.{Verdict}
 use Rattle.fs_journal.specs.declared.verdict.Verdict.TheVariants.{Lawful, Fault}
-use Rattle.fs_journal.specs.declared.verdict.FaultKind.{FaultKind}
 
 -- a lawful timeline stays lawful when its last entry is taken away
 abbrev pub LawfulWithoutTheLast : Type 0
@@ -26,5 +26,10 @@ pub record IsFirstFault (es : List Entry) (place : ℕ) : Type 0 where
   pub before : IsLawful (take (place - 1) es)
   pub with_it : IsLawful (take place es) → ⊥
 
+-- a verdict that is a fault names the first one
+abbrev pub NamesFirstFault : List Entry → Verdict → Type 0
+NamesFirstFault es Lawful = Unit {0}
+NamesFirstFault es (Fault place kind) = IsFirstFault es place
+
 abbrev pub FaultsAreFirst : Type 0
-FaultsAreFirst = (es : List Entry) (place : ℕ) (kind : FaultKind) → verdict es ≡ Fault place kind → IsFirstFault es place
+FaultsAreFirst = (es : List Entry) → NamesFirstFault es (verdict es)

@@ -1,5 +1,5 @@
 -- What the checker says of a timeline: the place and the kind of the first entry that does not fit.
-use Rattle.std.specs.Prelude.{ℕ, ◌+◌, Bool, true, false, List, [], ◌∷◌, ◌++◌, not, Option, Some, None}
+use Rattle.std.specs.Prelude.{ℕ, ◌+◌, Bool, false, List, [], ◌∷◌, ◌++◌, not, Option, Some, None}
 use Rattle.fs_names.specs.First.{on, first}
 use Rattle.fs_seq.specs.Replies.{same_reply}
 use Rattle.fs_seq.specs.declared.reply.Reply.{Reply}

@@ -51,7 +51,10 @@ impl Timeline {
     /// Appends an entry in a reserved place, which takes no memory.
     pub fn push(&mut self, entry: Entry)
         requires { 0 < self.old.reserved }
-        ensures { self.new ≡ record { entries = self.old.entries ++ entry ∷ []; reserved = self.old.reserved - 1 } }
+        ensures { self.new ≡ record {
+          entries = self.old.entries ++ entry ∷ [];
+          reserved = self.old.reserved - 1;
+        } }
     {
         self.places -= 1;
         self.list.push_reserved(entry);

@@ -1,3 +1,4 @@
 pub mod FirstLemmas
 pub mod Lemmas
 pub mod ReadingLemmas
+pub mod TextLemmas

@@ -1,136 +1,103 @@
--- The names of a text, piece by piece.
-use Rattle.std.proofs.Common.{◌≡◌, ◌≢◌, ℕ, zero, suc, ◌+◌, ◌<◌, ◌≤◌, Bool, true, false, cond, not, ◌&&◌, ◌||◌, List, [], ◌∷◌, ◌++◌, length, take, drop, Some, None, Option, refl, sym, ap, subst, ◌∙◌, arith, append_assoc, length-append, get_or, filter, nat_lt, slice_get}
-use Rattle.std.specs.Prelude.{nat_le}
+-- The names of a text, one after the other.
+use Rattle.std.proofs.Common.{◌≡◌, ℕ, zero, suc, ◌+◌, ◌<◌, ◌≤◌, Bool, true, false, cond, not, ◌&&◌, ◌||◌, List, [], ◌∷◌, ◌++◌, length, take, Some, None, Option, refl, sym, ap, subst, ◌∙◌, arith, add-one, get_or}
+use Rattle.std.specs.Prelude.{nat_le, All}
 use Rattle.std.specs.List.{slice_split, onto_first, list_any, list_all}
+use Rattle.std.proofs.Math.Seq.{take-suc}
 use Rattle.std.proofs.lemmas.Bool.Decides.{nat_tests}
-use Rattle.fs_names.specs.Names.{Name, may_stand, is_dots}
-use Rattle.fs_names.specs.Keys.{Key, names_text}
+use Rattle.std.proofs.lemmas.List.Elements.{All-nil, All-cons, All-filter, All-get_or}
+use Rattle.fs_names.specs.Names.{Name, may_stand}
+use Rattle.fs_names.specs.Keys.{Key}
 use Rattle.fs_names.specs.declared.fault.PathFault.{PathFault}
+use Rattle.fs_names.specs.declared.fault.PathFault.TheVariants.{TooManyNames}
 use Rattle.fs_names.specs.Reading.{names, is_slash, is_zero, has_bytes, first_fault, name_fault}
-use Rattle.fs_names.specs.Pieces.{no_slash, some_name, FailsAt}
 use Rattle.fs_names.specs.First.{on, or_else}
-use Rattle.fs_names.proofs.FirstLemmas.{on-none, or_else-none, or_else-assoc}
-use Rattle.fs_names.specs.declared.fault.PathFault.TheVariants.{NotAbsolute, Nul, NameTooLong, TooManyNames, Dot, TrailingSlash, OutOfMemory}
+use Rattle.fs_names.proofs.FirstLemmas.{on-none, or_else-none}
 
-and_first : (a b : Bool) → (a && b) ≡ true → a ≡ true
-and_first true b e = refl
-and_first false b e = e
+-- where neither of two tests holds, the first does not
+or_first : (a b : Bool) → (a || b) ≡ false → a ≡ false
+or_first true b e = absurd (cc)
+or_first false b e = refl
 
-and_second : (a b : Bool) → (a && b) ≡ true → b ≡ true
-and_second true b e = e
-and_second false b e = absurd (cc)
+-- where neither of two tests holds, the second does not
+or_second : (a b : Bool) → (a || b) ≡ false → b ≡ false
+or_second true b e = absurd (cc)
+or_second false b e = e
 
-or_rest : (a b : Bool) → (a || b) ≡ false → b ≡ false
-or_rest true b e = absurd (cc)
-or_rest false b e = e
+-- where a byte and all others of a list of pieces may stand, so may those of the list with the byte at its front
+onto_stands : (b : ℕ) (pieces : List Name) → may_stand b ≡ true → All (λ p. list_all may_stand p ≡ true) pieces → All (λ p. list_all may_stand p ≡ true) (onto_first b pieces)
+onto_stands b [] e h = All-cons (λ p. list_all may_stand p ≡ true) _ [] (λ i. e i && true) h
+onto_stands b (p ∷ pieces) e h = All-cons (λ p. list_all may_stand p ≡ true) (b ∷ p) pieces (λ i. e i && h 0 p (omega arith) i) (λ k d lt. h (suc k) d (omega arith))
 
-or_here : (a b : Bool) → (a || b) ≡ false → a ≡ false
-or_here true b e = absurd (cc)
-or_here false b e = refl
+-- where no byte is zero, each byte between two slashes may stand in a name
+pieces_stand : (bytes : List ℕ) → list_any is_zero bytes ≡ false → All (λ p. list_all may_stand p ≡ true) (slice_split is_slash bytes)
+pieces_stand [] z = All-cons (λ p. list_all may_stand p ≡ true) [] [] refl (All-nil _)
+pieces_stand (b ∷ bytes) z =
+    let rest = pieces_stand bytes (or_second (is_zero b) (list_any is_zero bytes) z) in
+    elim (is_slash b) as (λ s. is_slash b ≡ s → All (λ p. list_all may_stand p ≡ true) (cond {A = List (List ℕ)} s ([] ∷ slice_split is_slash bytes) (onto_first b (slice_split is_slash bytes)))) [
+      | true ↦ λ s. All-cons (λ p. list_all may_stand p ≡ true) [] _ refl rest
+      | false ↦ λ s. onto_stands b (slice_split is_slash bytes) (λ i. not (or_first (is_zero b) (list_any is_zero bytes) z i) && not (s i)) rest
+    ] refl
 
-not_true : (a : Bool) → not a ≡ true → a ≡ false
-not_true true e = absurd (cc)
-not_true false e = refl
+-- where no byte is zero, each byte of a name may stand
+pub name_stands : (bytes : List ℕ) (k : ℕ) (x : Name) → list_any is_zero bytes ≡ false → (k < length (names bytes)) × (x ≡ get_or (names bytes) k x) → list_all may_stand x ≡ true
+name_stands bytes k x z at =
+    subst (λ y. list_all may_stand y ≡ true) (sym at.1)
+    (All-get_or (λ p. list_all may_stand p ≡ true) (names bytes) k x at.0 (All-filter has_bytes (λ p. list_all may_stand p ≡ true) (slice_split is_slash bytes) (pieces_stand bytes z)))
 
-split_cut : (bytes : List ℕ) (i : ℕ) → i < length bytes → list_all no_slash (take i bytes) ≡ true → get_or bytes i 0 ≡ 47 → slice_split is_slash bytes ≡ take i bytes ∷ slice_split is_slash (drop (suc i) bytes)
-split_cut [] i h all at = absurd (omega arith)
-split_cut (b ∷ bytes) zero h all at = ap (λ z. cond {A = List (List ℕ)} (is_slash z) ([] ∷ slice_split is_slash bytes) (onto_first z (slice_split is_slash bytes))) at
-split_cut (b ∷ bytes) (suc i) h all at =
-    ap (λ z. cond {A = List (List ℕ)} z ([] ∷ slice_split is_slash bytes) (onto_first b (slice_split is_slash bytes))) (not_true (is_slash b) (and_first _ _ all))
-    ∙ ap (onto_first b) (split_cut bytes i (omega arith) (and_second _ _ all) at)
+-- where two checks find nothing, both in order find nothing
+none-or_else : {F : Type 0} (a b : Option F) → a ≡ None → b ≡ None → or_else a b ≡ None
+none-or_else a b e f = ap (λ z. or_else z b) e ∙ f
 
-filter_cut : (piece : Name) (rest : Key) → filter has_bytes (piece ∷ rest) ≡ some_name piece ++ filter has_bytes rest
-filter_cut [] rest = refl
-filter_cut (b ∷ piece) rest = refl
+-- one name more is right
+right_from : (n : ℕ) (key : Key) (k : ℕ) (x : Name) → k < length key → x ≡ get_or key k x → first_fault n (take k key) ≡ None → name_fault (n + k) x ≡ None
+    → first_fault n (take (suc k) key) ≡ None
+right_from n [] k x h e before here = absurd (omega arith)
+right_from n (y ∷ key) zero x h e before here =
+    let start : n ≡ n + 0 = omega arith in
+    none-or_else (name_fault n y) None (ap (λ z. name_fault z y) start ∙ ap (name_fault (n + 0)) (sym e) ∙ here) refl
+right_from n (y ∷ key) (suc k) x h e before here =
+    let both = or_else-none (name_fault n y) (first_fault (n + 1) (take k key)) before in
+    let start : (n + 1) + k ≡ n + suc k = omega arith in
+    none-or_else (name_fault n y) _ both.0 (right_from (n + 1) key k x (omega arith) e both.1 (ap (λ z. name_fault z x) start ∙ here))
 
-pub names_cut : (bytes : List ℕ) (i : ℕ) → i < length bytes → list_all no_slash (take i bytes) ≡ true → get_or bytes i 0 ≡ 47 → names bytes ≡ some_name (take i bytes) ++ names (drop (suc i) bytes)
-names_cut bytes i h all at = ap (filter has_bytes) (split_cut bytes i h all at) ∙ filter_cut (take i bytes) (slice_split is_slash (drop (suc i) bytes))
+-- where the names before it are right, a wrong name is the first
+fault_from : (n : ℕ) (key : Key) (k : ℕ) (x : Name) (fault : PathFault) → k < length key → x ≡ get_or key k x → first_fault n (take k key) ≡ None → name_fault (n + k) x ≡ Some fault
+    → first_fault n key ≡ Some fault
+fault_from n [] k x fault h e before here = absurd (omega arith)
+fault_from n (y ∷ key) zero x fault h e before here =
+    let start : n ≡ n + 0 = omega arith in
+    ap (λ z. or_else z (first_fault (n + 1) key)) (ap (λ z. name_fault z y) start ∙ ap (name_fault (n + 0)) (sym e) ∙ here)
+fault_from n (y ∷ key) (suc k) x fault h e before here =
+    let both = or_else-none (name_fault n y) (first_fault (n + 1) (take k key)) before in
+    let start : (n + 1) + k ≡ n + suc k = omega arith in
+    ap (λ z. or_else z (first_fault (n + 1) key)) both.0
+    ∙ fault_from (n + 1) key k x fault (omega arith) e both.1 (ap (λ z. name_fault z x) start ∙ here)
 
-split_last : (bytes : List ℕ) → list_all no_slash bytes ≡ true → slice_split is_slash bytes ≡ bytes ∷ []
-split_last [] all = refl
-split_last (b ∷ bytes) all =
-    ap (λ z. cond {A = List (List ℕ)} z ([] ∷ slice_split is_slash bytes) (onto_first b (slice_split is_slash bytes))) (not_true (is_slash b) (and_first _ _ all))
-    ∙ ap (onto_first b) (split_last bytes (and_second _ _ all))
+-- a turn of the reader: a right name comes behind the others
+pub read_one : (all read new : Key) (k : ℕ) (x : Name) → read ≡ take k all → length read ≡ k → (k < length all) × (x ≡ get_or all k x) → new ≡ read ++ x ∷ [] → first_fault 0 read ≡ None → name_fault (length read) x ≡ None
+    → (new ≡ take (k + 1) all) × (first_fault 0 new ≡ None)
+read_one all read new k x e count at f before here =
+    let place : 0 + k ≡ length read = omega arith in
+    let taken : new ≡ take (suc k) all = f ∙ ap (λ z. z ++ x ∷ []) e ∙ ap (λ z. take k all ++ z ∷ []) at.1 ∙ sym (take-suc all k x at.0) in
+    (taken ∙ ap (λ n. take n all) (sym (add-one k)), ap (first_fault 0) taken ∙ right_from 0 all k x at.0 at.1 (ap (first_fault 0) (sym e) ∙ before) (ap (λ n. name_fault n x) place ∙ here))
 
-append-nil' : {A : Type 0} (xs : List A) → xs ++ [] ≡ xs
-append-nil' [] = refl
-append-nil' (x ∷ xs) = ap (λ z. x ∷ z) (append-nil' xs)
-
-pub names_last : (bytes : List ℕ) → list_all no_slash bytes ≡ true → names bytes ≡ some_name bytes
-names_last bytes all = ap (filter has_bytes) (split_last bytes all) ∙ filter_cut bytes [] ∙ append-nil' (some_name bytes)
-
-pub first_fault-append : (n : ℕ) (a b : Key) → first_fault n (a ++ b) ≡ or_else (first_fault n a) (first_fault (n + length a) b)
-first_fault-append n [] b = ap (λ m. first_fault m b) (omega arith)
-first_fault-append n (x ∷ a) b =
-    ap (or_else (name_fault n x)) (first_fault-append (n + 1) a b ∙ ap (λ m. or_else (first_fault (n + 1) a) (first_fault m b)) (omega arith))
-    ∙ or_else-assoc (name_fault n x) (first_fault (n + 1) a) (first_fault (n + suc (length a)) b)
-
-pub zeros_drop : (bytes : List ℕ) (n : ℕ) → list_any is_zero bytes ≡ false → list_any is_zero (drop n bytes) ≡ false
-zeros_drop [] zero h = h
-zeros_drop [] (suc n) h = h
-zeros_drop (b ∷ bytes) zero h = h
-zeros_drop (b ∷ bytes) (suc n) h = zeros_drop bytes n (or_rest _ _ h)
-
-stands : (b : ℕ) → no_slash b ≡ true → is_zero b ≡ false → may_stand b ≡ true
-stands b s z = (λ i. not (z i) && s i)
-
-pub piece_stands : (bytes : List ℕ) (i : ℕ) → list_all no_slash (take i bytes) ≡ true → list_any is_zero bytes ≡ false → list_all may_stand (take i bytes) ≡ true
-piece_stands [] zero s z = refl
-piece_stands [] (suc i) s z = refl
-piece_stands (b ∷ bytes) zero s z = refl
-piece_stands (b ∷ bytes) (suc i) s z = λ j. stands b (and_first _ _ s) (or_here _ _ z) j && piece_stands bytes i (and_second _ _ s) (or_rest _ _ z) j
-
-pub whole_stands : (bytes : List ℕ) → list_all no_slash bytes ≡ true → list_any is_zero bytes ≡ false → list_all may_stand bytes ≡ true
-whole_stands [] s z = refl
-whole_stands (b ∷ bytes) s z = λ j. stands b (and_first _ _ s) (or_here _ _ z) j && whole_stands bytes (and_second _ _ s) (or_rest _ _ z) j
-
--- a step of the reader: what is known of a piece, and of the rest
-pub piece_all : (all old new rest more : Key) (piece : Name) → old ++ rest ≡ all → rest ≡ some_name piece ++ more → new ≡ old ++ some_name piece → new ++ more ≡ all
-piece_all all old new rest more piece e f h = ap (λ z. z ++ more) h ∙ append_assoc old (some_name piece) more ∙ ap (λ z. old ++ z) (sym f) ∙ e
-
-pub piece_fault : (old new rest more : Key) (piece : Name) (found : Option PathFault) → first_fault (length old) rest ≡ found → rest ≡ some_name piece ++ more → new ≡ old ++ some_name piece → first_fault (length old) (some_name piece) ≡ None
-    → first_fault (length new) more ≡ found
-piece_fault old new rest more piece found e f h none =
-    ap (λ n. first_fault n more) (ap length h ∙ length-append old (some_name piece))
-    ∙ sym (ap (λ z. or_else z (first_fault (length old + length (some_name piece)) more)) none)
-    ∙ sym (first_fault-append (length old) (some_name piece) more) ∙ ap (first_fault (length old)) (sym f) ∙ e
-
--- a fault in the piece is the first fault
-pub fault_here : (old rest more : Key) (piece : Name) (found : Option PathFault) (f : PathFault) → first_fault (length old) rest ≡ found → rest ≡ some_name piece ++ more → FailsAt f (first_fault (length old) (some_name piece)) → FailsAt f found
-fault_here old rest more piece found f e cut fails =
-    let joined : or_else (first_fault (length old) (some_name piece)) (first_fault (length old + length (some_name piece)) more) ≡ found = sym (first_fault-append (length old) (some_name piece) more) ∙ ap (first_fault (length old)) (sym cut) ∙ e in
-    subst (FailsAt f) joined (through f (first_fault (length old) (some_name piece)) (first_fault (length old + length (some_name piece)) more) fails)
-  where
-    through : (f : PathFault) (a b : Option PathFault) → FailsAt f a → FailsAt f (or_else a b)
-    through OutOfMemory a b h = tt
-    through NotAbsolute a b h = ap (λ z. or_else z b) h
-    through Nul a b h = ap (λ z. or_else z b) h
-    through NameTooLong a b h = ap (λ z. or_else z b) h
-    through TooManyNames a b h = ap (λ z. or_else z b) h
-    through Dot a b h = ap (λ z. or_else z b) h
-    through TrailingSlash a b h = ap (λ z. or_else z b) h
+-- a turn of the reader: a wrong name is the first that is wrong
+pub fault_one : (all read : Key) (k : ℕ) (x : Name) (fault : PathFault) → read ≡ take k all → length read ≡ k → (k < length all) × (x ≡ get_or all k x) → first_fault 0 read ≡ None → name_fault (length read) x ≡ Some fault → first_fault 0 all ≡ Some fault
+fault_one all read k x fault e count at before here =
+    let place : 0 + k ≡ length read = omega arith in
+    fault_from 0 all k x fault at.0 at.1 (ap (first_fault 0) (sym e) ∙ before) (ap (λ n. name_fault n x) place ∙ here)
 
 -- a name that is right stands within the limit
-fault_none : (n : ℕ) (x : Name) → name_fault n x ≡ None → n < 64
-fault_none n x e =
+pub within : (n : ℕ) (x : Name) → name_fault n x ≡ None → n < 64
+within n x e =
     let few : nat_le 64 n ≡ false = on-none _ TooManyNames (or_else-none (on (nat_le 64 n) TooManyNames) _ e).0 in
     grind (arith, nat_tests)
 
+-- names of which none is wrong are no more than the limit
 pub not_too_many : (n : ℕ) (key : Key) → n ≤ 64 → first_fault n key ≡ None → n + length key ≤ 64
 not_too_many n [] h e = omega arith
 not_too_many n (x ∷ key) h e =
     let both = or_else-none (name_fault n x) (first_fault (n + 1) key) e in
-    let room = fault_none n x both.0 in
+    let room = within n x both.0 in
     let rest : (n + 1) + length key ≤ 64 = not_too_many (n + 1) key (omega arith) both.1 in
     omega arith
-
-drop_at : (p : Key) (i : ℕ) (x : Name) → slice_get p i ≡ Some x → drop i p ≡ x ∷ drop (suc i) p
-drop_at [] i x e = absurd (cc)
-drop_at (y ∷ p) zero x e = let s : y ≡ x = cc in ap (λ z. z ∷ p) s
-drop_at (y ∷ p) (suc i) x e = drop_at p i x e
-
--- a slash and a name are written
-pub name_written : (line mid new : List ℕ) (p : Key) (i : ℕ) (x : Name) → slice_get p i ≡ Some x → mid ≡ line ++ 47 ∷ [] → new ≡ mid ++ x → new ++ names_text (drop (suc i) p) ≡ line ++ names_text (drop i p)
-name_written line mid new p i x at e f =
-    ap (λ z. z ++ names_text (drop (suc i) p)) (f ∙ ap (λ z. z ++ x) e ∙ append_assoc line (47 ∷ []) x)
-    ∙ append_assoc line (47 ∷ x) (names_text (drop (suc i) p)) ∙ ap (λ z. line ++ names_text z) (sym (drop_at p i x at))

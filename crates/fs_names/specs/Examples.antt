@@ -1,6 +1,5 @@
 -- Worked examples of reading a path.
 use Rattle.std.specs.Prelude.{◌≡◌, ℕ, zero, suc, List, [], ◌∷◌, ◌++◌, replicate, codes, Ok, Err}
-use Rattle.fs_names.specs.Names.{Name}
 use Rattle.fs_names.specs.Reading.{reading}
 use Rattle.fs_names.specs.declared.fault.PathFault.TheVariants.{NotAbsolute, Nul, NameTooLong, TooManyNames, Dot, TrailingSlash}
 
@@ -9,6 +8,7 @@ abbrev pub repeated : ℕ → List ℕ
 repeated zero = []
 repeated (suc n) = 47 ∷ 110 ∷ repeated n
 
+-- what bytes are read as, and with which fault
 pub record PathExamples : Type 0 where
   pub root : reading (codes "/") ≡ Ok []
   pub slashes : reading (codes "///") ≡ Ok []

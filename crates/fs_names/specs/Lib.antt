@@ -4,5 +4,4 @@ pub mod Keys
 pub mod Parts
 pub mod Shapes
 pub mod Reading
-pub mod Pieces
 pub mod Examples

@@ -2,11 +2,10 @@
 
 ghost use Rattle.std.specs.Prelude.{◌≡◌, IsTrue, MatchOption, false};
 ghost use Rattle.std.specs.List.{list_all};
-ghost use Rattle.fs_names.specs.Names.{can_name, may_stand, is_dots, same_name, name_cmp};
+ghost use Rattle.fs_names.specs.Names.{can_name, may_stand, is_dots, same_name};
 
 use crate::limits::NAME_LIMIT;
 use arrayvec::ArrayVec;
-use std::cmp::Ordering;
 use std::marker::Model;
 
 /// The name of an entry: 1 to 32 bytes, neither a slash nor zero among them, and not `.` or `..`
@@ -46,7 +45,7 @@ fn only_dots(bytes: &[u8]) -> bool
 }
 
 impl Name {
-    /// The bytes as a name, where they are one. It takes no memory.
+    /// The bytes as a name, where they are one, and else `None`. It takes no memory.
     pub fn read(bytes: &[u8]) -> Option<Name>
         ensures { MatchOption result (can_name bytes.now ≡ false) (λ n. IsTrue (can_name bytes.now) × (n ≡ bytes.now)) }
     {
@@ -59,11 +58,11 @@ impl Name {
         }
         match ArrayVec::try_from(bytes) {
             Ok(bytes) => Some(Name { bytes }),
-            Err(_) => None,
+            Err(_) => unreachable!(),
         }
     }
 
-    /// The bytes of the name.
+    /// The bytes of the name, 1 to 32 of them. It takes no memory.
     pub fn bytes(&self) -> &[u8]
         ensures bytes { result.now ≡ self.now }
         ensures named { IsTrue (can_name self.now) }
@@ -75,19 +74,14 @@ impl Name {
     pub fn copy(&self) -> Name
         ensures { result ≡ self.now }
     {
-        let mut bytes = ArrayVec::new();
-        for byte in self.bytes.as_slice() {
-            bytes.push(*byte);
+        match ArrayVec::try_from(self.bytes()) {
+            Ok(bytes) => Name { bytes },
+            Err(_) => unreachable!(),
         }
-        Name { bytes }
     }
 
-    pub fn order(&self, other: &Name) -> Ordering
-        ensures { result ≡ name_cmp self.now other.now }
-    {
-        self.cmp(other)
-    }
-
+    /// Whether the two names are equal, byte for byte. It answers what `==` does, in the words of their order, by which
+    /// `cmp` compares them. It takes no memory.
     pub fn same(&self, other: &Name) -> bool
         ensures { result ≡ same_name self.now other.now }
     {

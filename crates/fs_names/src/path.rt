@@ -1,11 +1,10 @@
 //! Paths: lists of names from the root.
 
-ghost use Rattle.std.specs.Prelude.{◌≡◌, ℕ, ◌<◌, ◌+◌, ◌++◌, true, false, length, take, drop, slice_index, slice_get, is_some, Some, OnOk, OnErr, IfOk, IfErr, MatchOption};
+ghost use Rattle.std.specs.Prelude.{◌≡◌, ◌≢◌, ◌↔◌, ◌≤◌, ◌<◌, ◌+◌, ◌++◌, [], true, false, IsTrue, None, Some, Ok, Err, IsOk, IfOk, IfErr, OnOk, OnErr, length, slice_get, is_some, vec_len, vec_capacity};
 ghost use Rattle.std.specs.List.{list_any, list_all};
 ghost use Rattle.fs_names.specs.Names.{may_stand};
 ghost use Rattle.fs_names.specs.Keys.{IsPath, common_len, after_prefix, path_text};
-ghost use Rattle.fs_names.specs.Reading.{reading, names, is_zero, starts_at_root, ends_in_slash, FailsWith};
-ghost use Rattle.fs_names.specs.Pieces.{TakesName, NamesRead, no_slash};
+ghost use Rattle.fs_names.specs.Reading.{reading, names, first_fault, name_fault, has_bytes, is_zero, starts_at_root, ends_in_slash, FailsWith};
 
 use crate::fault::PathFault;
 use crate::limits::{NAME_LIMIT, PATH_LIMIT};
@@ -21,7 +20,8 @@ pub struct Path {
     names: SmallVec<Name, INLINE_NAMES>,
 }
 
-/// How many names a path holds before it takes memory for them.
+/// How many names a path holds before it takes memory for them: few, as each takes its place in every path, and as
+/// most paths are short.
 pub const INLINE_NAMES: usize = 4;
 
 impl Model for Path {
@@ -35,69 +35,50 @@ impl Model for Path {
     ghost invariant = { λ p. IsPath p.names.items };
 }
 
-/// Adds what stands between two slashes to the names, unless nothing does.
-fn take_name(read: &mut SmallVec<Name, INLINE_NAMES>, piece: &[u8]) -> Result<(), PathFault>
-    requires { list_all may_stand piece.now ≡ true }
-    ensures { TakesName result read.old.items read.new.items piece.now }
+/// Bytes as a name, of which so many stand before it, or what is wrong with them.
+fn name_after(before: usize, bytes: &[u8]) -> Result<Name, PathFault>
+    requires some { has_bytes bytes.now ≡ true }
+    requires may_stand { list_all may_stand bytes.now ≡ true }
+    ensures name { IfOk result (λ name. (name ≡ bytes.now) × (name_fault before bytes.now ≡ None)) }
+    ensures fault { IfErr result (λ fault. name_fault before bytes.now ≡ Some fault) }
 {
-    if piece.is_empty() {
-        return Ok(());
-    }
-    if read.len() >= PATH_LIMIT {
+    if before >= PATH_LIMIT {
         return Err(PathFault::TooManyNames);
     }
-    if piece.len() > NAME_LIMIT {
+    if bytes.len() > NAME_LIMIT {
         return Err(PathFault::NameTooLong);
     }
-    let Some(name) = Name::read(piece) else {
-        return Err(PathFault::Dot);
-    };
-    if read.push(name).is_err() {
-        return Err(PathFault::OutOfMemory);
+    match Name::read(bytes) {
+        Some(name) => Ok(name),
+        None => Err(PathFault::Dot),
     }
-    Ok(())
 }
 
-/// Where the first slash stands.
-fn slash_in(bytes: &[u8]) -> Option<usize>
-    ensures { MatchOption result (list_all no_slash bytes.now ≡ true)
-        (λ i. (i < length bytes.now) × (list_all no_slash (take i bytes.now) ≡ true) × (slice_index bytes.now i ≡ 47)) }
+/// How many names stand between the slashes.
+fn count_names(bytes: &[u8]) -> usize
+    ensures { result ≡ length (names bytes.now) }
 {
-    for (i, byte) in bytes.iter().enumerate() {
-        if *byte == b'/' {
-            return Some(i);
-        }
-    }
-    None
+    bytes
+        .split(|b| *b == b'/')
+        .filter(|piece| !piece.is_empty())
+        .count()
 }
 
-/// What stands before a place, and behind it.
-fn parts(bytes: &[u8], at: usize) -> (&[u8], &[u8])
-    requires { at < length bytes.now }
-    ensures front { result.0.now ≡ take at bytes.now }
-    ensures back { result.1.now ≡ drop (at + 1) bytes.now }
-{
-    (&bytes[..at], &bytes[at + 1..])
-}
-
-/// The names between the slashes of bytes without zeros.
+/// The names between the slashes of bytes without zeros. Room for them is made once, and before they are read.
 fn names_of(alloc: Global, bytes: &[u8]) -> Result<SmallVec<Name, INLINE_NAMES>, PathFault>
     requires { list_any is_zero bytes.now ≡ false }
-    ensures { NamesRead result (names bytes.now) }
+    ensures names { IfOk result (λ read. (read.items ≡ names bytes.now) × (first_fault 0 (names bytes.now) ≡ None)) }
+    ensures fault { IfErr result (λ fault. fault ≢ PathFault.OutOfMemory → first_fault 0 (names bytes.now) ≡ Some fault) }
+    ensures memory { result ≡ Err PathFault.OutOfMemory → INLINE_NAMES < length (names bytes.now) }
 {
-    let mut read = SmallVec::new(alloc);
-    let mut rest = bytes;
-    while let Some(at) = slash_in(rest) {
-        let (piece, more) = parts(rest, at);
-        match take_name(&mut read, piece) {
-            Ok(()) => rest = more,
-            Err(fault) => return Err(fault),
-        }
+    let room = count_names(bytes).min(PATH_LIMIT);
+    let Ok(mut read) = SmallVec::with_capacity(alloc, room) else {
+        return Err(PathFault::OutOfMemory);
+    };
+    for piece in bytes.split(|b| *b == b'/').filter(|name| !name.is_empty()) {
+        read.push_reserved(name_after(read.len(), piece)?);
     }
-    match take_name(&mut read, rest) {
-        Ok(()) => Ok(read),
-        Err(fault) => Err(fault),
-    }
+    Ok(read)
 }
 
 fn starts_at_root(bytes: &[u8]) -> bool
@@ -126,11 +107,13 @@ fn has_zero(bytes: &[u8]) -> bool
 
 impl Path {
     /// Reads a path. The fault is the first check that the bytes fail, from left to right; several slashes in a
-    /// row count as one, and slashes alone are the root.
+    /// row count as one, and slashes alone are the root. It takes memory once, and only for more names than a path
+    /// holds without any; where that is refused it answers `OutOfMemory`, whatever is wrong with the names.
     #[tactic(auto, unfolding(crate::specs::Reading::reading))]
     pub fn parse(alloc: Global, bytes: &[u8]) -> Result<Path, PathFault>
         ensures path { IfOk result (λ path. reading bytes.now ≡ Ok path) }
         ensures fault { IfErr result (λ fault. FailsWith fault (reading bytes.now)) }
+        ensures memory { result ≡ Err PathFault.OutOfMemory → INLINE_NAMES < length (names bytes.now) }
     {
         if !starts_at_root(bytes) {
             return Err(PathFault::NotAbsolute);
@@ -148,7 +131,19 @@ impl Path {
         Ok(Path { names })
     }
 
-    /// How many names it has: none for the root, and at most 64.
+    /// The same path again. It takes memory once, and only for more names than a path holds without any.
+    pub fn copy(&self, alloc: Global) -> Result<Path, AllocError>
+        ensures ok { IfOk result (λ path. path ≡ self.now) }
+        ensures memory { OnErr result (INLINE_NAMES < length self.now) }
+    {
+        let mut names = SmallVec::with_capacity(alloc, self.len())?;
+        for name in self.names.as_slice() {
+            names.push_reserved(name.copy());
+        }
+        Ok(Path { names })
+    }
+
+    /// How many names it has: none for the root, and at most 64. It takes no memory.
     pub fn len(&self) -> usize
         ensures len { result ≡ length self.now }
         ensures path { IsPath self.now }
@@ -156,7 +151,14 @@ impl Path {
         self.names.len()
     }
 
-    /// The name at a place, counted from 0.
+    /// Whether it is the root, which has no names. It takes no memory.
+    pub fn is_empty(&self) -> bool
+        ensures { IsTrue result ↔ (self.now ≡ []) }
+    {
+        self.len() == 0
+    }
+
+    /// The name at a place, counted from 0. It takes no memory.
     pub fn name(&self, i: usize) -> &Name
         requires { i < length self.now }
         ensures { slice_get self.now i ≡ Some result.now }
@@ -164,14 +166,14 @@ impl Path {
         &self.names[i]
     }
 
-    /// Whether the other path begins with all names of this one.
+    /// Whether the other path begins with all names of this one; each path does so with its own. It takes no memory.
     pub fn is_prefix_of(&self, other: &Path) -> bool
         ensures { result ≡ is_some (after_prefix self.now other.now) }
     {
         self.common(other) == self.len()
     }
 
-    /// How many leading names of the two paths are equal.
+    /// How many leading names of the two paths are equal: at most as many as either has. It takes no memory.
     pub fn common(&self, other: &Path) -> usize
         ensures { result ≡ common_len self.now other.now }
     {
@@ -182,19 +184,36 @@ impl Path {
         i
     }
 
-    /// Appends the path as it is read again: a slash for the root, else each name after a slash.
-    pub fn write(&self, alloc: Global, text: &mut Vec<u8>) -> Result<(), AllocError>
+    /// How many bytes the path is written in.
+    fn text_len(&self) -> usize
+        ensures { result ≡ length (path_text self.now) }
+    {
+        if self.is_empty() {
+            return 1;
+        }
+        let mut len = 0;
+        for i in 0..self.len() {
+            len += 1 + self.name(i).bytes().len();
+        }
+        len
+    }
+
+    /// Appends the path as it is read again: a slash for the root, else each name after a slash. The text grows by
+    /// its own allocator, once and before anything is written, so a refusal leaves it as it was.
+    pub fn write(&self, _alloc: Global, text: &mut Vec<u8>) -> Result<(), AllocError>
         ensures ok { OnOk result (text.new.items ≡ text.old.items ++ path_text self.now) }
         ensures err { OnErr result (text.new.items ≡ text.old.items) }
+        ensures has_room { vec_len text.old + length (path_text self.now) ≤ vec_capacity text.old → IsOk result }
     {
-        let mut line = Vec::new(alloc);
-        if self.len() == 0 {
-            line.push(b'/')?;
+        text.reserve(self.text_len())?;
+        if self.is_empty() {
+            text.push_reserved(b'/');
         }
         for i in 0..self.len() {
-            line.push(b'/')?;
-            line.extend_from_slice(self.name(i).bytes())?;
+            let name = self.name(i).bytes();
+            text.push_reserved(b'/');
+            let _room_was_reserved = text.extend_from_slice(name);
         }
-        text.extend_from_slice(line.as_slice())
+        Ok(())
     }
 }

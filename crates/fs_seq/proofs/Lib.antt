@@ -26,3 +26,7 @@ pub mod GraphFilled
 pub mod Spots
 pub mod Replies
 pub mod Made
+pub mod Removed
+pub mod Looked
+pub mod Written
+pub mod Root

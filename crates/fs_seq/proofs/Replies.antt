@@ -39,3 +39,26 @@ OnErr-map (Err e) f h = f h
 pub needs : (t : Tree) (call : Call) → fault t call ≡ None → takes_memory t call ≡ true → IsTrue (needs_memory t call)
 unfolding needs_memory
 needs t call none takes = λ i. not (is_some (none i)) && takes i
+
+-- a fact is one of an error
+pub on_err : {A E P : Type 0} (r : Result A E) → P → OnErr r P
+on_err (Ok a) h = tt
+on_err (Err e) h = h
+
+-- a call that fails, and leaves the graph as it was
+pub refused : (g g' : Graph) (call : Call) (e : Errno) → g' ≡ g → IsForest g → fault (tree_of g) call ≡ Some e → Answers g g' call (Failed e)
+refused g g' call e same forest found =
+    subst (λ h. Answers g h call (Failed e)) (sym same) (answers g g call (Some e) (success (tree_of g) call) (change (tree_of g) call) (Failed e) found refl refl (fails g (Some e) (success (tree_of g) call) (change (tree_of g) call) e refl forest))
+
+pub on_ok : {A E P : Type 0} (r : Result A E) → P → OnOk r P
+on_ok (Ok a) h = h
+on_ok (Err e) h = tt
+
+-- a call that makes the tree that is there leaves it
+pub leaves : (t : Tree) (call : Call) → change t call ≡ t → after t call ≡ t
+unfolding after
+leaves t call same = by_fault (fault t call)
+  where
+    by_fault : (found : Option Errno) → unless found t (change t call) ≡ t
+    by_fault None = same
+    by_fault (Some e) = refl

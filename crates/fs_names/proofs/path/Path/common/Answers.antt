@@ -1,7 +1,6 @@
-use Rattle.std.proofs.Common.{◌≡◌, ℕ, ◌+◌, ◌≤◌, length, drop, arith, sym, ◌∙◌, ap, true, add-one, suc, subst}
-use Rattle.fs_names.specs.Names.{same_name}
+use Rattle.std.proofs.Common.{◌≡◌, ◌+◌, drop, arith, sym, ◌∙◌, add-one, suc}
 use Rattle.fs_names.specs.Keys.{common_len}
-use Rattle.fs_names.proofs.Lemmas.{common_more, common_past, common_past_right, common_apart}
+use Rattle.fs_names.proofs.Lemmas.{common_more, common_past_right, common_apart}
 use Rattle.fs_names.proofs.path.Path.common.Goals as goal
 
 pub loop-i-preserved : goal.loop-i-preserved

@@ -1,5 +1,3 @@
-use Rattle.std.proofs.Common.{◌∙◌, ap, nat_eq, length, sym}
-use Rattle.fs_names.specs.Keys.{common_len}
 use Rattle.fs_names.proofs.Lemmas.{prefix_common}
 use Rattle.fs_names.proofs.path.Path.is_prefix_of.Goals as goal
 

@@ -1,7 +1,10 @@
-use Rattle.std.proofs.Common.{◌≡◌, ◌++◌, drop}
+use Rattle.std.proofs.Common.{◌≡◌, ◌++◌, ◌+◌, ◌≤◌, length, drop, vec_len, vec_capacity}
 use Rattle.fs_names.specs.Keys.{path_text, names_text}
 use Rattle.fs_names.proofs.path.Path.write.Given as goal
 
--- the line so far, and the names that are left, are the path
+-- the text so far, and the names that are left, are the path, and there is room for them
 abbrev pub invariant-loop-i : goal.invariant-loop-i
-invariant-loop-i l = l.line.items ++ names_text (drop l.i l.self) ≡ path_text l.self
+invariant-loop-i l = record {
+  written : l.text.items ++ names_text (drop l.i l.self) ≡ l.fn.text.items ++ path_text l.self;
+  room : vec_len l.text + length (names_text (drop l.i l.self)) ≤ vec_capacity l.text;
+}

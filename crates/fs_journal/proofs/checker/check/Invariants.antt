@@ -1,0 +1,10 @@
+use Rattle.std.proofs.Common.{◌≡◌, ◌+◌, take, drop}
+use Rattle.fs_journal.specs.Verdicts.{verdict, verdict_from}
+use Rattle.fs_journal.specs.Knowledge.{known, IsTrueOf}
+use Rattle.fs_journal.proofs.checker.check.Given as goal
+
+abbrev pub invariant-loop-index : goal.invariant-loop-index
+invariant-loop-index l = record {
+  so_far : IsTrueOf (known l.checker) (take l.index l.entries);
+  the_rest : verdict l.entries ≡ verdict_from (take l.index l.entries) (l.index + 1) (drop l.index l.entries);
+}

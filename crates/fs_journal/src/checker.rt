@@ -1,0 +1,168 @@
+//! The checker of journals.
+
+ghost use Rattle.std.specs.Prelude.{◌≡◌, ◌↔◌, [], IfOk, OnOk};
+ghost use Rattle.fs_journal.specs.Timeline.{IsLawful};
+ghost use Rattle.fs_journal.specs.Verdicts.{verdict};
+ghost use Rattle.fs_journal.specs.Laws.{NamesFirstFault};
+ghost use Rattle.fs_journal.specs.Knowledge.{known, known_fault, taken_in, is_waiting, IsTrueOf};
+
+use crate::entry::Entry;
+use crate::verdict::{FaultKind, Verdict};
+use fs_names::{CallNo, SeatNo};
+use fs_seq::{Call, Reply, SeqTree};
+use std::alloc::{AllocError, Global};
+use std::collections::{BTreeMap, BTreeSet};
+
+/// What is known of the entries so far. Strangers choose the numbers, so they are looked up in search trees: a hasher
+/// with a secret needs the runtime, and without a secret all numbers could be made to meet in one place.
+#[derive(Drop)]
+struct Checker<'a> {
+    /// The calls that have begun.
+    calls: BTreeMap<u64, &'a Call>,
+    /// The replies that are due to the calls that have committed.
+    replies: BTreeMap<u64, Reply>,
+    /// The calls that have returned.
+    returned: BTreeSet<u64>,
+    /// The last call on each seat.
+    last: BTreeMap<u64, u64>,
+    /// The tree after the commits.
+    tree: SeqTree,
+}
+
+impl<'a> Checker<'a> {
+    /// Before the first entry.
+    fn new(alloc: Global) -> Result<Self, AllocError>
+        ensures { IfOk result (λ k. IsTrueOf (known k) []) }
+    {
+        let tree = SeqTree::new(alloc)?;
+        Ok(Checker {
+            calls: BTreeMap::new(alloc),
+            replies: BTreeMap::new(alloc),
+            returned: BTreeSet::new(alloc),
+            last: BTreeMap::new(alloc),
+            tree,
+        })
+    }
+
+    /// What is wrong with an entry that comes next.
+    fn fault(&self, entry: &Entry) -> Option<FaultKind>
+        ensures { result ≡ known_fault (known self.now) entry.now }
+    {
+        match entry {
+            Entry::Begin(number, seat, _) => self.begin_fault(*number, *seat),
+            Entry::Commit(number) => self.commit_fault(*number),
+            Entry::Return(number, reply) => self.return_fault(*number, reply),
+        }
+    }
+
+    /// Whether the last call of a seat has not returned.
+    fn is_busy(&self, seat: SeatNo) -> bool
+        ensures { result ≡ is_waiting (known self.now).returned ((known self.now).last seat) }
+    {
+        match self.last.get(&seat.get()) {
+            Some(number) => !self.returned.contains(number),
+            None => false,
+        }
+    }
+
+    /// What is wrong with a Begin: the number before the seat.
+    fn begin_fault(&self, number: CallNo, seat: SeatNo) -> Option<FaultKind>
+        ensures { (call : Call) → result ≡ known_fault (known self.now) (Entry.Begin number seat call) }
+    {
+        if self.calls.contains_key(&number.get()) {
+            Some(FaultKind::BeginTwice)
+        } else if self.is_busy(seat) {
+            Some(FaultKind::SeatBusy)
+        } else {
+            None
+        }
+    }
+
+    /// What is wrong with a Commit.
+    fn commit_fault(&self, number: CallNo) -> Option<FaultKind>
+        ensures { result ≡ known_fault (known self.now) (Entry.Commit number) }
+    {
+        if !self.calls.contains_key(&number.get()) {
+            Some(FaultKind::CommitUnbegun)
+        } else if self.replies.contains_key(&number.get()) {
+            Some(FaultKind::CommitTwice)
+        } else {
+            None
+        }
+    }
+
+    /// What is wrong with a Return: the order of the entries before the reply.
+    fn return_fault(&self, number: CallNo, reply: &Reply) -> Option<FaultKind>
+        ensures { result ≡ known_fault (known self.now) (Entry.Return number reply.now) }
+    {
+        match self.replies.get(&number.get()) {
+            None => Some(FaultKind::ReturnUncommitted),
+            Some(due) => {
+                if self.returned.contains(&number.get()) {
+                    Some(FaultKind::ReturnTwice)
+                } else if !due.same(reply) {
+                    Some(FaultKind::WrongReply)
+                } else {
+                    None
+                }
+            }
+        }
+    }
+
+    /// Takes in an entry in which nothing is wrong. Where memory runs out, part of it may be taken in.
+    fn take_in(&mut self, alloc: Global, entry: &'a Entry) -> Result<(), AllocError>
+        ensures { OnOk result (known self.new ≡ taken_in (known self.old) entry.now) }
+    {
+        match entry {
+            Entry::Begin(number, seat, call) => self.begin(*number, *seat, call),
+            Entry::Commit(number) => self.commit(alloc, *number),
+            Entry::Return(number, _) => self.end(*number),
+        }
+    }
+
+    /// Keeps the call under its number, and its number as the last one on the seat.
+    fn begin(&mut self, number: CallNo, seat: SeatNo, call: &'a Call) -> Result<(), AllocError>
+        ensures { OnOk result (known self.new ≡ taken_in (known self.old) (Entry.Begin number seat call.now)) }
+    {
+        self.calls.insert(number.get(), call)?;
+        self.last.insert(seat.get(), number.get())?;
+        Ok(())
+    }
+
+    /// Plays the call, and keeps the reply that is due to it.
+    fn commit(&mut self, alloc: Global, number: CallNo) -> Result<(), AllocError>
+        ensures { OnOk result (known self.new ≡ taken_in (known self.old) (Entry.Commit number)) }
+    {
+        if let Some(call) = self.calls.get(&number.get()) {
+            let reply = self.tree.apply(alloc, call)?;
+            self.replies.insert(number.get(), reply)?;
+        }
+        Ok(())
+    }
+
+    /// Keeps that the call has returned.
+    fn end(&mut self, number: CallNo) -> Result<(), AllocError>
+        ensures { (reply : Reply) →
+            OnOk result (known self.new ≡ taken_in (known self.old) (Entry.Return number reply)) }
+    {
+        self.returned.insert(number.get())?;
+        Ok(())
+    }
+}
+
+/// The verdict on a journal. It goes over the entries once, up to the first fault, and plays each call on a sequential
+/// tree where it commits.
+pub fn check(alloc: Global, entries: &[Entry]) -> Result<Verdict, AllocError>
+    ensures verdict { IfOk result (λ v. v ≡ verdict entries.now) }
+    ensures lawful { IfOk result (λ v. (v ≡ Verdict.Lawful) ↔ IsLawful entries.now) }
+    ensures first_fault { IfOk result (NamesFirstFault entries.now) }
+{
+    let mut checker = Checker::new(alloc)?;
+    for (index, entry) in entries.iter().enumerate() {
+        if let Some(kind) = checker.fault(entry) {
+            return Ok(Verdict::Fault(index + 1, kind));
+        }
+        checker.take_in(alloc, entry)?;
+    }
+    Ok(Verdict::Lawful)
+}

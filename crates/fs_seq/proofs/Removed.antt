@@ -1,0 +1,87 @@
+-- What the calls that remove a node answer and leave.
+use Rattle.std.proofs.Common.{◌≡◌, ℕ, ◌+◌, ◌<◌, List, [], ◌∷◌, ◌++◌, length, map, nat_eq, true, false, ◌≢◌, arith, Some, None, Option, Result, Ok, Err, refl, sym, ap, subst, ◌∙◌}
+use Rattle.std.specs.Prelude.{remove}
+use Rattle.std.specs.FinMap.{find}
+use Rattle.fs_names.specs.Names.{Name, name_cmp}
+use Rattle.fs_names.specs.Keys.{Key, is_root, parent_of, last_of}
+use Rattle.fs_names.specs.First.{on, or_else}
+use Rattle.std.proofs.lemmas.Bool.Decides.{nat_tests}
+use Rattle.fs_seq.specs.declared.nodes.Link.{Link}
+use Rattle.fs_seq.specs.declared.call.Call.{Call}
+use Rattle.fs_seq.specs.declared.call.Call.TheVariants.{Unlink, Rmdir}
+use Rattle.fs_seq.specs.declared.errno.Errno.{Errno}
+use Rattle.fs_seq.specs.declared.errno.Errno.TheVariants.{Eperm, Ebusy, Enoent}
+use Rattle.fs_seq.specs.declared.reply.Reply.TheVariants.{Done, Failed}
+use Rattle.fs_seq.specs.Tree.{Tree, removed}
+use Rattle.fs_seq.specs.Shapes.{Shape, seen, has_any}
+use Rattle.fs_seq.specs.Errors.{unlinking, removing}
+use Rattle.fs_seq.specs.Outcomes.{fault, success, change, parents_resolution}
+use Rattle.fs_seq.specs.Graph.{Place, Dir, Graph, place_at, links_at, shape_of, child, walk, tree_of, IsForest, Sets}
+use Rattle.fs_seq.specs.Nodes.{pairs, IsTaken, IsFree, without}
+use Rattle.fs_seq.specs.Effects.{IsVictim, Detaches, Answers}
+use Rattle.fs_seq.proofs.NodeLemmas.{parent_and_last, child_got}
+use Rattle.fs_seq.proofs.Spots.{not_root, root, taken_parents, taken_seen, free_parents, free_seen}
+use Rattle.fs_seq.proofs.GraphCut.{forest_cut, tree_cut}
+use Rattle.fs_seq.proofs.Replies.{works, fails, answers}
+
+-- a call on a path that is not the root, by its parent's error and what is there
+pub record GoesBy (call : Call) (p : Key) (at_root : Errno) (rest : Option Errno → Option Shape → Option Errno) : Type 0 where
+  pub errors : (t : Tree) → fault t call ≡ or_else (on (is_root p) at_root) (rest (parents_resolution t p) (seen t p))
+  pub lost : (e : Errno) (there : Option Shape) → rest (Some e) there ≡ Some e
+  pub gone : rest None None ≡ Some Enoent
+  pub well : (t : Tree) → success t call ≡ Done
+  pub makes : (t : Tree) → change t call ≡ removed t p
+
+pub unlink_goes : (p : Key) → GoesBy (Unlink p) p Eperm unlinking
+unfolding fault
+unlink_goes p = record { errors = λ t. refl; lost = λ e there. refl; gone = refl; well = λ t. refl; makes = λ t. refl }
+
+pub rmdir_goes : (p : Key) → GoesBy (Rmdir p) p Ebusy removing
+unfolding fault
+rmdir_goes p = record { errors = λ t. refl; lost = λ e there. refl; gone = refl; well = λ t. refl; makes = λ t. refl }
+
+-- links of which there are none
+pub no_links : (links : List Link) (n : ℕ) → n ≡ length links → nat_eq n 0 ≡ true → links ≡ []
+no_links [] n e h = refl
+no_links (l ∷ links) n e h = absurd (let none : n ≡ 0 = grind (arith, nat_tests) in omega arith)
+
+-- links of which there are some
+pub some_links : (links : List Link) (n : ℕ) → n ≡ length links → nat_eq n 0 ≡ false → has_any (map (λ l. l.0) (pairs links)) ≡ true
+some_links [] n e h = absurd (let some : n ≢ 0 = grind (arith, nat_tests) in some e)
+some_links (l ∷ links) n e h = refl
+
+module _ (call : Call) (p : Key) (at_root : Errno) (rest : Option Errno → Option Shape → Option Errno) (by : GoesBy call p at_root rest) where
+  pub root_fault : (t : Tree) → length p ≡ 0 → fault t call ≡ Some at_root
+  root_fault t e = by.errors t ∙ ap (λ b. or_else (on b at_root) (rest (parents_resolution t p) (seen t p))) (root p e)
+
+  pub lost_fault : (t : Tree) (e : Errno) → 0 < length p → parents_resolution t p ≡ Some e → fault t call ≡ Some e
+  lost_fault t e named lost = by.errors t ∙ (λ i. or_else (on (not_root p named i) at_root) (rest (lost i) (seen t p))) ∙ by.lost e (seen t p)
+
+  pub free_fault : (g : Graph) (dir i entries : ℕ) → IsForest g → 0 < length p → IsFree g p dir i entries → fault (tree_of g) call ≡ Some Enoent
+  free_fault g dir i entries forest named spot =
+      by.errors (tree_of g)
+      ∙ (λ j. or_else (on (not_root p named j) at_root) (rest (free_parents g forest p named dir i entries spot j) (free_seen g forest p named dir i entries spot j))) ∙ by.gone
+
+  pub taken_fault : (g : Graph) (dir i n : ℕ) (o : Option Place) → IsForest g → 0 < length p → IsTaken g p dir i n → place_at g n ≡ o → fault (tree_of g) call ≡ rest None (shape_of o)
+  taken_fault g dir i n o forest named spot at =
+      by.errors (tree_of g)
+      ∙ (λ j. or_else (on (not_root p named j) at_root) (rest (taken_parents g forest p named dir i n spot j) ((taken_seen g forest p named dir i n spot ∙ ap shape_of at) j)))
+
+  -- a call that fails changes nothing
+  pub refused : (g : Graph) (e : Errno) → IsForest g → fault (tree_of g) call ≡ Some e → Answers g g call (Failed e)
+  refused g e forest found = answers g g call (Some e) Done (removed (tree_of g) p) _ found (by.well (tree_of g)) (by.makes (tree_of g)) (fails g (Some e) Done (removed (tree_of g) p) e refl forest)
+
+  -- one that does not removes what it found
+  pub is_removed : (g g' : Graph) (dir i n : ℕ) → IsForest g → IsVictim g call p dir i n → Detaches g g' dir i n → Answers g g' call Done
+  is_removed g g' dir i n forest victim detached =
+      let spot = victim.spot in
+      let leaf : (y : Name) → child g n y ≡ None = λ y. nothing y in
+      let there : find name_cmp (last_of p) (links_at g dir) ≡ Some n = sym (child_got g dir (last_of p) _ spot.directory) ∙ spot.leads in
+      let unlinking' : Sets g detached.between dir (Some (Dir (without (last_of p) (links_at g dir)))) = subst (λ ls. Sets g detached.between dir (Some (Dir ls))) spot.stands.others detached.unlinking in
+      answers g g' call None Done (removed (tree_of g) p) Done victim.sound (by.well (tree_of g)) (by.makes (tree_of g))
+      (works g g' None Done (removed (tree_of g) p) refl
+      (tree_cut g detached.between g' forest (parent_of p) dir spot.parent (links_at g dir) spot.directory (last_of p) n there leaf unlinking' detached.removing ∙ ap (removed (tree_of g)) (sym (parent_and_last p victim.named)))
+      (forest_cut g detached.between g' forest (parent_of p) dir spot.parent (links_at g dir) spot.directory (last_of p) n there leaf unlinking' detached.removing))
+    where
+      nothing : (y : Name) → child g n y ≡ None
+      nothing y = child_got g n y _ refl ∙ ap (find name_cmp y) victim.leaf

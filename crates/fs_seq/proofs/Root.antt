@@ -1,0 +1,63 @@
+-- The graph of the root alone.
+use Rattle.std.proofs.Common.{◌≡◌, ◌≢◌, ℕ, zero, suc, Bool, true, false, List, [], ◌∷◌, Some, None, Option, is_some, option_and_then, map, subst, Vec, Global, refl, sym, ap, ◌∙◌, nat_eq, IsTrue, T}
+use Rattle.std.specs.FinMap.{find, is_sorted}
+use Rattle.fs_names.specs.Names.{Name, name_cmp}
+use Rattle.fs_names.specs.Keys.{Key}
+use Rattle.fs_seq.specs.Tree.{Node, look, root_tree}
+use Rattle.fs_seq.specs.Tree as tree
+use Rattle.fs_seq.specs.Graph.{Place, Dir, Graph, place_at, links_of, node_of, links_at, child, walk_from, walk, spelled, tree_of, IsForest}
+use Rattle.fs_seq.proofs.GraphLemmas.{is_tree_of}
+use Rattle.fs_seq.proofs.Edits.{nat_same, nat_differ}
+use Rattle.fs_seq.proofs.Resolving.{spelled_at, spelled_none}
+use Rattle.slab.specs.Slab.{Slab, Updates}
+use Rattle.fs_seq.specs.declared.nodes.Link.{Link}
+use Rattle.fs_seq.specs.declared.nodes.Node.TheVariants as nodes
+use Rattle.fs_seq.specs.Nodes.{graph, pairs, slot_place}
+use Rattle.fs_seq.proofs.SlabLemmas.{sets_slot}
+use Rattle.fs_seq.proofs.NodeLemmas.{child_got, links_got}
+
+module _ (g : Graph) (root : place_at g 0 ≡ Some (Dir [])) (others : (j : ℕ) → j ≢ 0 → place_at g j ≡ None) where
+  no_links : (j : ℕ) → links_at g j ≡ []
+  no_links j =
+      elim (nat_eq j 0) as (λ b. nat_eq j 0 ≡ b → links_at g j ≡ []) [
+        | true ↦ λ e. ap (links_at g) (nat_same j 0 e) ∙ links_got g 0 _ root
+        | false ↦ λ e. links_got g j _ (others j (nat_differ j 0 e))
+      ] refl
+
+  no_child : (j : ℕ) (y : Name) → child g j y ≡ None
+  no_child j y = child_got g j y _ refl ∙ ap (find name_cmp y) (no_links j)
+
+  only_root : (k : Key) (n : ℕ) → walk g k ≡ Some n → (k ≡ []) × (n ≡ 0)
+  only_root [] n w = (refl, let e : 0 ≡ n = cc in sym e)
+  only_root (x ∷ k) n w = absurd (let none : walk g (x ∷ k) ≡ None = ap (option_and_then (λ m. walk_from g m k)) (no_child 0 x) in cc)
+
+  pub forest_root : IsForest g
+  forest_root = record {
+    once = λ a b n u v. (only_root a n u).0 ∙ sym (only_root b n v).0;
+    inside = λ k n w. ap (λ j. is_some (place_at g j)) (only_root k n w).1 ∙ ap is_some root;
+    root = ap node_of root;
+    rising = λ j. ap (is_sorted name_cmp) (no_links j);
+  }
+
+  look_root : (k : Key) → look root_tree k ≡ spelled g k
+  unfolding look
+  look_root [] = sym (spelled_at g [] 0 refl ∙ ap node_of root)
+  look_root (x ∷ k) = sym (spelled_none g (x ∷ k) (ap (option_and_then (λ m. walk_from g m k)) (no_child 0 x)))
+
+  pub tree_root : tree_of g ≡ root_tree
+  tree_root = is_tree_of g root_tree forest_root tt look_root
+
+nothing_at : (n : ℕ) → place_at [] n ≡ None
+unfolding place_at
+nothing_at zero = refl
+nothing_at (suc n) = refl
+
+-- the first node of a slab that was empty
+pub first_node : (s t : Slab nodes.the_data) (key : ℕ) (links : Vec Link Global) → s.slots ≡ [] → s.vacant_key ≡ 0 → key ≡ s.vacant_key → Updates s t key (Some (nodes.Dir links)) → links.items ≡ []
+    → (place_at (graph t) 0 ≡ Some (Dir [])) × ((j : ℕ) → j ≢ 0 → place_at (graph t) j ≡ None)
+first_node s t key links empty first is updates none =
+    let at : key ≡ 0 = is ∙ first in
+    let sets = sets_slot s t 0 (Some (nodes.Dir links)) (subst (λ k. Updates s t k (Some (nodes.Dir links))) at updates) in (
+      sets.here ∙ ap (λ ls. Some (Dir (pairs ls))) none,
+      λ j ne. sets.elsewhere j ne ∙ ap (λ slots. place_at (map slot_place slots) j) empty ∙ nothing_at j,
+    )

@@ -1,0 +1,13 @@
+use Rattle.fs_seq.specs.Nodes.{graph}
+use Rattle.fs_seq.proofs.Root.{first_node, forest_root, tree_root}
+use Rattle.fs_seq.proofs.seq_tree.SeqTree.new.Goals as goal
+
+pub invariant_of-result : goal.invariant_of-result
+invariant_of-result c =
+    let first = first_node c.new-nodes.result c.insert.new.self c.in-Ok.field-0 c.new.result c.new-nodes.ensures.empty c.new-nodes.ensures.first_key c.in-Ok.ensures.key c.in-Ok.ensures.updates c.new.ensures.items in
+    forest_root (graph c.insert.new.self) first.0 first.1
+
+pub returns-in-Ok : goal.returns-in-Ok
+returns-in-Ok c =
+    let first = first_node c.new-nodes.result c.insert.new.self c.in-Ok.field-0 c.new.result c.new-nodes.ensures.empty c.new-nodes.ensures.first_key c.in-Ok.ensures.key c.in-Ok.ensures.updates c.new.ensures.items in
+    tree_root (graph c.insert.new.self) first.0 first.1

@@ -1,0 +1,94 @@
+//! The calls that remove a node.
+
+ghost use Rattle.std.specs.Prelude.{◌≡◌, ◌<◌, Some, length};
+ghost use Rattle.fs_seq.specs.Nodes.{graph};
+ghost use Rattle.fs_seq.specs.Graph.{IsForest, place_at, links_at, Dir as IsDir};
+ghost use Rattle.fs_seq.specs.Effects.{Answers, Detaches, FindsVictim};
+
+use crate::call::Call;
+use crate::errno::Errno;
+use crate::nodes::{Node, Spot, look_up, remove_link};
+use crate::reply::Reply;
+use fs_names::Path;
+use slab::Slab;
+
+/// Takes the entry at a place out of a directory, and its node, whose number is free from then on.
+fn detach(nodes: &mut Slab<Node>, dir: usize, i: usize, node: usize)
+    requires directory { place_at (graph nodes.old) dir ≡ Some (IsDir (links_at (graph nodes.old) dir)) }
+    requires within { i < length (links_at (graph nodes.old) dir) }
+    ensures { Detaches (graph nodes.old) (graph nodes.new) dir i node }
+{
+    remove_link(nodes, dir, i);
+    nodes.try_remove(node);
+}
+
+/// The file at the path, or why it cannot be unlinked: the number of its directory, the place among the entries,
+/// and the number of the node.
+fn find_file(nodes: &Slab<Node>, path: &Path) -> Result<(usize, usize, usize), Errno>
+    requires { IsForest (graph nodes.now) }
+    ensures { FindsVictim (graph nodes.now) (Call.Unlink path.now) path.now result }
+{
+    if path.len() == 0 {
+        return Err(Errno::Eperm);
+    }
+    match look_up(nodes, path) {
+        Err(errno) => Err(errno),
+        Ok(Spot::Free(..)) => Err(Errno::Enoent),
+        Ok(Spot::Taken(dir, i, node)) => match &nodes[node] {
+            Node::Dir(_) => Err(Errno::Eperm),
+            Node::File(_) => Ok((dir, i, node)),
+        },
+    }
+}
+
+/// The empty directory at the path, or why it cannot be removed, in the same form.
+fn find_empty(nodes: &Slab<Node>, path: &Path) -> Result<(usize, usize, usize), Errno>
+    requires { IsForest (graph nodes.now) }
+    ensures { FindsVictim (graph nodes.now) (Call.Rmdir path.now) path.now result }
+{
+    if path.len() == 0 {
+        return Err(Errno::Ebusy);
+    }
+    match look_up(nodes, path) {
+        Err(errno) => Err(errno),
+        Ok(Spot::Free(..)) => Err(Errno::Enoent),
+        Ok(Spot::Taken(dir, i, node)) => match &nodes[node] {
+            Node::File(_) => Err(Errno::Enotdir),
+            Node::Dir(links) => {
+                if links.is_empty() {
+                    Ok((dir, i, node))
+                } else {
+                    Err(Errno::Enotempty)
+                }
+            }
+        },
+    }
+}
+
+/// Removes the entry of a file. It takes no memory.
+pub fn unlink(nodes: &mut Slab<Node>, path: &Path) -> Reply
+    requires { IsForest (graph nodes.old) }
+    ensures { Answers (graph nodes.old) (graph nodes.new) (Call.Unlink path.now) result }
+{
+    match find_file(nodes, path) {
+        Err(errno) => Reply::Failed(errno),
+        Ok((dir, i, node)) => {
+            detach(nodes, dir, i, node);
+            Reply::Done
+        }
+    }
+}
+
+/// Removes the entry of an empty directory. It takes no memory.
+pub fn rmdir(nodes: &mut Slab<Node>, path: &Path) -> Reply
+    requires { IsForest (graph nodes.old) }
+    ensures { Answers (graph nodes.old) (graph nodes.new) (Call.Rmdir path.now) result }
+{
+    match find_empty(nodes, path) {
+        Err(errno) => Reply::Failed(errno),
+        Ok((dir, i, node)) => {
+            detach(nodes, dir, i, node);
+            Reply::Done
+        }
+    }
+}

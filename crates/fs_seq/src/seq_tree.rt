@@ -1,0 +1,152 @@
+//! The sequential tree: a value of its own for one thread.
+
+ghost use Rattle.std.specs.Prelude.{◌≡◌, IfOk, OnOk, OnErr, IsTrue};
+ghost use Rattle.fs_seq.specs.Tree.{root_tree};
+ghost use Rattle.fs_seq.specs.Outcomes.{reply, after};
+ghost use Rattle.fs_seq.specs.Memory.{needs_memory};
+
+use crate::call::Call;
+use crate::looking;
+use crate::making;
+use crate::nodes::Node;
+use crate::removing;
+use crate::renaming;
+use crate::reply::Reply;
+use crate::writing;
+use fs_names::Path;
+use slab::Slab;
+use std::alloc::{AllocError, Global};
+use std::marker::Model;
+
+/// A tree of directories and files, seen as the tree that its calls made.
+#[derive(Drop)]
+pub struct SeqTree {
+    nodes: Slab<Node>,
+}
+
+impl Model for SeqTree {
+    ghost use Rattle.fs_seq.specs.Tree.{Tree};
+
+    ghost Value = { Tree };
+
+    ghost use Rattle.fs_seq.specs.Nodes.{graph};
+    ghost use Rattle.fs_seq.specs.Graph.{tree_of, IsForest};
+
+    ghost view = { λ s. tree_of (graph s.nodes) };
+
+    ghost invariant = { λ s. IsForest (graph s.nodes) };
+}
+
+impl SeqTree {
+    /// The tree of the root alone.
+    pub fn new(alloc: Global) -> Result<SeqTree, AllocError>
+        ensures { IfOk result (λ tree. tree ≡ root_tree) }
+    {
+        let mut nodes = Slab::new(alloc);
+        match nodes.insert(Node::Dir(Vec::new(alloc))) {
+            Ok(_) => Ok(SeqTree { nodes }),
+            Err(_) => Err(AllocError),
+        }
+    }
+
+    /// The reply of a call on the tree, which is as the call says from then on. Where there is no memory the tree
+    /// stays as it was; a call that needs none never fails so.
+    pub fn apply(&mut self, alloc: Global, call: &Call) -> Result<Reply, AllocError>
+        ensures reply { IfOk result (λ r. r ≡ reply self.old call.now) }
+        ensures tree { OnOk result (self.new ≡ after self.old call.now) }
+        ensures err { OnErr result (self.new ≡ self.old) }
+        ensures memory { OnErr result (IsTrue (needs_memory self.old call.now)) }
+    {
+        match call {
+            Call::Mkdir(path) => self.mkdir(alloc, path),
+            Call::Mknod(path) => self.mknod(alloc, path),
+            Call::Unlink(path) => Ok(self.unlink(path)),
+            Call::Rmdir(path) => Ok(self.rmdir(path)),
+            Call::Rename(from, to) => self.rename(from, to),
+            Call::Stat(path) => Ok(self.stat(path)),
+            Call::Readdir(path) => self.readdir(alloc, path),
+            Call::Read(path, off, count) => self.read(alloc, path, *off, *count),
+            Call::Write(path, off, bytes) => self.write(path, *off, bytes.as_slice()),
+            Call::Truncate(path, size) => self.truncate(path, *size),
+        }
+    }
+
+    fn mkdir(&mut self, alloc: Global, path: &Path) -> Result<Reply, AllocError>
+        ensures reply { IfOk result (λ r. r ≡ reply self.old (Call.Mkdir path.now)) }
+        ensures tree { OnOk result (self.new ≡ after self.old (Call.Mkdir path.now)) }
+        ensures err { OnErr result (self.new ≡ self.old) }
+        ensures memory { OnErr result (IsTrue (needs_memory self.old (Call.Mkdir path.now))) }
+    {
+        making::mkdir(alloc, &mut self.nodes, path)
+    }
+
+    fn mknod(&mut self, alloc: Global, path: &Path) -> Result<Reply, AllocError>
+        ensures reply { IfOk result (λ r. r ≡ reply self.old (Call.Mknod path.now)) }
+        ensures tree { OnOk result (self.new ≡ after self.old (Call.Mknod path.now)) }
+        ensures err { OnErr result (self.new ≡ self.old) }
+        ensures memory { OnErr result (IsTrue (needs_memory self.old (Call.Mknod path.now))) }
+    {
+        making::mknod(alloc, &mut self.nodes, path)
+    }
+
+    fn unlink(&mut self, path: &Path) -> Reply
+        ensures reply { result ≡ reply self.old (Call.Unlink path.now) }
+        ensures tree { self.new ≡ after self.old (Call.Unlink path.now) }
+    {
+        removing::unlink(&mut self.nodes, path)
+    }
+
+    fn rmdir(&mut self, path: &Path) -> Reply
+        ensures reply { result ≡ reply self.old (Call.Rmdir path.now) }
+        ensures tree { self.new ≡ after self.old (Call.Rmdir path.now) }
+    {
+        removing::rmdir(&mut self.nodes, path)
+    }
+
+    fn rename(&mut self, from: &Path, to: &Path) -> Result<Reply, AllocError>
+        ensures reply { IfOk result (λ r. r ≡ reply self.old (Call.Rename from.now to.now)) }
+        ensures tree { OnOk result (self.new ≡ after self.old (Call.Rename from.now to.now)) }
+        ensures err { OnErr result (self.new ≡ self.old) }
+        ensures memory { OnErr result (IsTrue (needs_memory self.old (Call.Rename from.now to.now))) }
+    {
+        renaming::rename(&mut self.nodes, from, to)
+    }
+
+    fn stat(&self, path: &Path) -> Reply
+        ensures { result ≡ reply self.now (Call.Stat path.now) }
+    {
+        looking::stat(&self.nodes, path)
+    }
+
+    fn readdir(&self, alloc: Global, path: &Path) -> Result<Reply, AllocError>
+        ensures reply { IfOk result (λ r. r ≡ reply self.now (Call.Readdir path.now)) }
+        ensures memory { OnErr result (IsTrue (needs_memory self.now (Call.Readdir path.now))) }
+    {
+        looking::readdir(alloc, &self.nodes, path)
+    }
+
+    fn read(&self, alloc: Global, path: &Path, off: u64, count: u64) -> Result<Reply, AllocError>
+        ensures reply { IfOk result (λ r. r ≡ reply self.now (Call.Read path.now off count)) }
+        ensures memory { OnErr result (IsTrue (needs_memory self.now (Call.Read path.now off count))) }
+    {
+        looking::read(alloc, &self.nodes, path, off, count)
+    }
+
+    fn write(&mut self, path: &Path, off: u64, bytes: &[u8]) -> Result<Reply, AllocError>
+        ensures reply { IfOk result (λ r. r ≡ reply self.old (Call.Write path.now off bytes.now)) }
+        ensures tree { OnOk result (self.new ≡ after self.old (Call.Write path.now off bytes.now)) }
+        ensures err { OnErr result (self.new ≡ self.old) }
+        ensures memory { OnErr result (IsTrue (needs_memory self.old (Call.Write path.now off bytes.now))) }
+    {
+        writing::write(&mut self.nodes, path, off, bytes)
+    }
+
+    fn truncate(&mut self, path: &Path, size: u64) -> Result<Reply, AllocError>
+        ensures reply { IfOk result (λ r. r ≡ reply self.old (Call.Truncate path.now size)) }
+        ensures tree { OnOk result (self.new ≡ after self.old (Call.Truncate path.now size)) }
+        ensures err { OnErr result (self.new ≡ self.old) }
+        ensures memory { OnErr result (IsTrue (needs_memory self.old (Call.Truncate path.now size))) }
+    {
+        writing::truncate(&mut self.nodes, path, size)
+    }
+}
