@@ -48,7 +48,7 @@ begins_begins (Return n q ∷ es) c seat call = begins_begins es c seat call
 abbrev pub Unknown : Book → Type 0
 Unknown book = (c : ℕ) → book.call c ≡ None → (book.due c ≡ None) × (book.back c ≡ false)
 
-unknown_step : (book : Book) (e : Entry) → Unknown book → IsNext book e → Unknown (noted book e)
+pub unknown_step : (book : Book) (e : Entry) → Unknown book → IsNext book e → Unknown (noted book e)
 unknown_step book (Begin n seat call) u next c e = u c (go (place n (Some call) book.call c))
   where
     go : Place (Option Call) n (Some call) book.call c → book.call c ≡ None

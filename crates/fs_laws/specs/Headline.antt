@@ -3,6 +3,9 @@ use Rattle.std.specs.Prelude.{ℕ, ◌≡◌, None}
 use Rattle.fs_seq.specs.Changes.{play_from, root_tree}
 use Rattle.fs_nodes.specs.Graphs.{spell}
 use Rattle.fs_laws.specs.Books.{IsLawful, start, commits_of}
+use Rattle.fs_seq.specs.Shapes.{seen}
+use Rattle.fs_seq.specs.Outcomes as tree
+use Rattle.fs_journal.specs.Timeline as journal
 use Rattle.fs_laws.specs.States.{State}
 
 -- no call is under way
@@ -13,3 +16,8 @@ IsIdle state = (c : ℕ) → state.ops c ≡ None
 pub record Headline (state : State) : Type 0 where
   pub lawful : IsLawful start state.timeline
   pub spelled : IsIdle state → spell state.graph ≡ play_from root_tree (commits_of start.call state.timeline)
+
+-- the same in the words of journals and of trees as sorted lists: the timeline is lawful, and at rest the nodes spell what its commits play
+pub record Linearizes (state : State) : Type 0 where
+  pub lawful : journal.IsLawful state.timeline
+  pub spelled : IsIdle state → spell state.graph ≡ seen (tree.play (journal.commits state.timeline))

@@ -2,12 +2,16 @@
 use Rattle.std.specs.Prelude.{◌≡◌, List}
 use Rattle.fs_names.specs.Keys.{Key}
 use Rattle.fs_names.specs.Shapes.{Shape}
-use Rattle.fs_seq.specs.Forms.{Form, Fits}
+use Rattle.fs_seq.specs.Forms.{form, Form, Fits}
 use Rattle.fs_seq.specs.Maps.{Map}
-use Rattle.fs_seq.specs.Changes.{Change, outcome, changed}
+use Rattle.fs_seq.specs.Changes.{Change, outcome, changed, reply, after}
+use Rattle.fs_seq.specs.Outcomes as tree
+use Rattle.fs_seq.specs.Shapes.{seen}
+use Rattle.fs_seq.specs.Tree.{Tree, IsTree}
+use Rattle.fs_seq.specs.declared.call.Call.{Call}
 use Rattle.fs_laws.specs.Placed.{Standing, Passes, PastAll, rekey_all}
 use Rattle.fs_laws.specs.States.{State, Run}
-use Rattle.fs_laws.specs.Headline.{Headline}
+use Rattle.fs_laws.specs.Headline.{Headline, Linearizes}
 
 -- a call that finishes goes past all placed calls
 abbrev pub GoesPastAll : Type 0
@@ -18,3 +22,11 @@ GoesPastAll = (tree : Map Shape) (w : Form) (ch : Change) (ps : List (Key × For
 -- the linearization theorem: it holds of every state of every run
 abbrev pub Linearization : Type 0
 Linearization = (s : State) → Run s → Headline s
+
+-- a tree that is seen as a map answers each call as the map does, and leaves what the map leaves
+abbrev pub TreesAsMaps : Type 0
+TreesAsMaps = (t : Tree) (call : Call) → IsTree t → (tree.reply t call ≡ reply (seen t) (form call)) × (seen (tree.after t call) ≡ after (seen t) (form call))
+
+-- the linearization theorem in the words of journals and trees as sorted lists, where trees are as maps
+abbrev pub LinearizationOfTrees : Type 0
+LinearizationOfTrees = TreesAsMaps → (s : State) → Run s → Linearizes s
