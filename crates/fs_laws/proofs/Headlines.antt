@@ -10,8 +10,8 @@ use Rattle.fs_nodes.specs.Graphs.{numbers, spell, IsGraph, empty_graph}
 use Rattle.fs_journal.specs.declared.entry.Entry.{Entry}
 use Rattle.fs_journal.specs.declared.entry.Entry.TheVariants.{Begin, Commit, Return}
 use Rattle.fs_ops.specs.Records.{Record, Records}
-use Rattle.fs_laws.specs.Books.{commits_of, with_call, Book, start, noted, commit_of, book_of}
-use Rattle.fs_laws.specs.Headline.{Headline}
+use Rattle.fs_laws.specs.Books.{IsLawful, commits_of, with_call, Book, start, noted, commit_of, book_of}
+use Rattle.fs_laws.specs.Headline.{IsIdle}
 use Rattle.fs_laws.specs.Invariants.{IsIn, Invariant, StepKeeps, BeginKeeps, spots, IsPlaced, InOrder}
 use Rattle.fs_laws.specs.Settled.{settle}
 use Rattle.fs_laws.specs.States.{State, empty, Begun, Begun_as, Seat_busy, Full, No_memory, Stepped, Idle, Took, Busy, LetGo, Helped, Committed, CarriedOut, Returned, Run, Start, Beginning, Stepping}
@@ -23,6 +23,11 @@ use Rattle.fs_laws.proofs.TakingThere.{keeps_took}
 use Rattle.fs_laws.proofs.LettingGo.{keeps_let_go}
 use Rattle.fs_laws.proofs.Returning.{keeps_returned}
 use Rattle.fs_laws.proofs.Beginning.{keeps_begun}
+
+-- by the book: the timeline is well formed and each returned reply is the sequential tree's; where no call is under way, the nodes spell that tree
+pub record Headline (state : State) : Type 0 where
+  pub lawful : IsLawful start state.timeline
+  pub spelled : IsIdle state → spell state.graph ≡ play_from root_tree (commits_of start.call state.timeline)
 
 -- the tree of the book is what the calls of the Commit entries make
 with_played : (o : Option Call) (book : Book) (n : ℕ) (calls : List Call) → play_from (commit_of book n o).tree calls ≡ play_from book.tree (with_call o calls)

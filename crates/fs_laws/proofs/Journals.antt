@@ -28,13 +28,14 @@ use Rattle.fs_journal.proofs.TimelineLemmas.{lawful_appended}
 use Rattle.fs_journal.proofs.VerdictLemmas.{fits_from_none}
 use Rattle.fs_journal.proofs.KnowledgeLemmas.{known_fault-entry_fault, true_of_taken_in}
 use Rattle.fs_laws.specs.Books.{Book, start, commit_of, free_seat, noted, book_of, IsNext, IsLawful, commits_of}
-use Rattle.fs_laws.specs.Headline.{IsIdle, Headline, Linearizes}
-use Rattle.fs_laws.specs.Laws.{TreesAsMaps, LinearizationOfTrees}
+use Rattle.fs_laws.specs.Headline.{IsIdle, Linearizes}
+use Rattle.fs_laws.specs.Laws.{TreesAsMaps, Linearization}
 use Rattle.fs_laws.specs.States.{State, Run}
+use Rattle.fs_laws.proofs.TreesAsMaps.{trees_as_maps}
 use Rattle.fs_laws.proofs.Walks.{eqb_refl, eqb_true}
 use Rattle.fs_laws.proofs.Keeping.{Place, Here, Else, place}
 use Rattle.fs_laws.proofs.Books.{Unknown, unknown_step}
-use Rattle.fs_laws.proofs.Headlines.{run_keeps, headline_of, book_plays}
+use Rattle.fs_laws.proofs.Headlines.{Headline, run_keeps, headline_of, book_plays}
 use Rattle.fs_laws.specs.Invariants.{Invariant, Tied}
 
 -- two words for one changed value
@@ -263,12 +264,9 @@ ties_from t book k before (e ∷ es) a true_of lawful l =
     (ties_from t (noted book e) (taken_in k e) (before ++ e ∷ []) es (agrees_step t book k e a l.0) (true_of_taken_in k before e true_of none) ((lawful_appended before e).1 (lawful, fits.0, fits.1)) l.1)
 
 -- the theorem in the journal's words
-pub linearizes : LinearizationOfTrees
-linearizes t s run =
+pub linearizes : Linearization
+linearizes s run =
     let inv : Invariant s = run_keeps s run in
     let head : Headline s = headline_of s inv in
-    let tied : Ties (book_of start s.timeline) s.timeline = ties_from t start empty_knowledge [] s.timeline agrees_start true_start (record { well_formed = tt; replies = tt }) head.lawful in
-    record { lawful = tied.lawful; spelled = λ idle. head.spelled idle ∙ sym (book_tree s) ∙ tied.tree }
-  where
-    book_tree : (s : State) → (book_of start s.timeline).tree ≡ play_from root_tree (commits_of start.call s.timeline)
-    book_tree s = book_plays start s.timeline
+    let tied : Ties (book_of start s.timeline) s.timeline = ties_from trees_as_maps start empty_knowledge [] s.timeline agrees_start true_start (record { well_formed = tt; replies = tt }) head.lawful in
+    record { lawful = tied.lawful; spelled = λ idle. head.spelled idle ∙ sym (book_plays start s.timeline) ∙ tied.tree }

@@ -12,12 +12,7 @@ use Rattle.fs_laws.specs.States.{State}
 abbrev pub IsIdle : State → Type 0
 IsIdle state = (c : ℕ) → state.ops c ≡ None
 
--- the timeline is well formed and each returned reply is the sequential tree's; where no call is under way, the nodes spell that tree
-pub record Headline (state : State) : Type 0 where
-  pub lawful : IsLawful start state.timeline
-  pub spelled : IsIdle state → spell state.graph ≡ play_from root_tree (commits_of start.call state.timeline)
-
--- the same in the words of journals and of trees as sorted lists: the timeline is lawful, and at rest the nodes spell what its commits play
+-- the timeline is lawful: well formed, and each returned reply is the sequential tree's; and where no call is under way the nodes spell the tree that its commits play
 pub record Linearizes (state : State) : Type 0 where
   pub lawful : journal.IsLawful state.timeline
   pub spelled : IsIdle state → spell state.graph ≡ seen (tree.play (journal.commits state.timeline))

@@ -11,7 +11,7 @@ use Rattle.fs_seq.specs.Tree.{Tree, IsTree}
 use Rattle.fs_seq.specs.declared.call.Call.{Call}
 use Rattle.fs_laws.specs.Placed.{Standing, Passes, PastAll, rekey_all}
 use Rattle.fs_laws.specs.States.{State, Run}
-use Rattle.fs_laws.specs.Headline.{Headline, Linearizes}
+use Rattle.fs_laws.specs.Headline.{Linearizes}
 
 -- a call that finishes goes past all placed calls
 abbrev pub GoesPastAll : Type 0
@@ -19,14 +19,10 @@ GoesPastAll = (tree : Map Shape) (w : Form) (ch : Change) (ps : List (Key × For
     → (outcome tree w).1 ≡ ch → Fits w → Standing tree ps → Passes tree w ch ps
     → Standing (changed ch tree) (rekey_all ch ps) → PastAll tree w ch ps
 
--- the linearization theorem: it holds of every state of every run
-abbrev pub Linearization : Type 0
-Linearization = (s : State) → Run s → Headline s
-
 -- a tree that is seen as a map answers each call as the map does, and leaves what the map leaves
 abbrev pub TreesAsMaps : Type 0
 TreesAsMaps = (t : Tree) (call : Call) → IsTree t → (tree.reply t call ≡ reply (seen t) (form call)) × (seen (tree.after t call) ≡ after (seen t) (form call))
 
--- the linearization theorem in the words of journals and trees as sorted lists, where trees are as maps
-abbrev pub LinearizationOfTrees : Type 0
-LinearizationOfTrees = TreesAsMaps → (s : State) → Run s → Linearizes s
+-- the linearization theorem: over every run the timeline is lawful, and at rest the nodes spell the tree that it plays
+abbrev pub Linearization : Type 0
+Linearization = (s : State) → Run s → Linearizes s
