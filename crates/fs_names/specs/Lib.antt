@@ -1,6 +1,7 @@
 pub mod First
 pub mod Names
 pub mod Keys
+pub mod Parts
 pub mod Shapes
 pub mod Reading
 pub mod Examples

@@ -1,8 +1,8 @@
 -- The errors of each call, in order: the first that holds is the reply, and an error changes nothing.
 -- A row speaks of what was read and looks nothing up, so whoever reads in another way answers by the same rows.
-use Rattle.std.specs.Prelude.{ℕ, ◌+◌, Bool, true, false, not, ◌&&◌, ◌||◌, nat_lt, length, List, [], ◌∷◌, Option, Some, None, if◌then◌else◌}
+use Rattle.std.specs.Prelude.{ℕ, ◌+◌, Bool, not, ◌&&◌, ◌||◌, nat_lt, length, List, [], ◌∷◌, Option, None, if◌then◌else◌}
 use Rattle.fs_names.specs.First.{on, first}
-use Rattle.fs_names.specs.Keys.{Key, is_root, is_proper_prefix}
+use Rattle.fs_names.specs.Keys.{is_root, is_proper_prefix}
 use Rattle.fs_names.specs.declared.limits.TheConstants.{FILE_LIMIT}
 use Rattle.fs_seq.specs.Shapes.{Shape, is_there, is_missing, is_dir, is_file, has_any, has_entries, is_full}
 use Rattle.fs_seq.specs.declared.call.Call.{Call}

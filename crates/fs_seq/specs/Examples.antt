@@ -1,5 +1,5 @@
 -- Worked examples of calls on a tree: each call with its reply, from the root alone, and where it tells more the tree at the end.
-use Rattle.std.specs.Prelude.{◌≡◌, ℕ, suc, zero, ◌+◌, ◌-◌, ◌*◌, ◌/◌, ◌%◌, ◌^◌, List, [], ◌∷◌, ◌++◌, map, codes}
+use Rattle.std.specs.Prelude.{◌≡◌, ℕ, suc, zero, ◌+◌, ◌/◌, ◌%◌, List, [], ◌∷◌, ◌++◌, map, codes}
 use Prim.Native.String.{String}
 use Rattle.fs_names.specs.Keys.{Key}
 use Rattle.fs_names.specs.Reading.{names}

@@ -4,6 +4,10 @@ pub mod Errors
 pub mod Replies
 pub mod Renaming
 pub mod Outcomes
+pub mod Forms
+pub mod Maps
+pub mod Rows
+pub mod Changes
 pub mod Graph
 pub mod Nodes
 pub mod Memory

@@ -1,5 +1,5 @@
 -- What each call replies on a tree, and the tree after it.
-use Rattle.std.specs.Prelude.{ℕ, ◌+◌, ◌-◌, Bool, true, false, List, [], ◌∷◌, ◌++◌, length, take, drop, replicate, if◌then◌else◌, Option, Some, None, is_some}
+use Rattle.std.specs.Prelude.{ℕ, ◌+◌, ◌-◌, List, [], ◌∷◌, ◌++◌, length, take, drop, replicate, if◌then◌else◌, Option, Some, None, is_some}
 use Rattle.fs_names.specs.First.{on, or_else, first}
 use Rattle.fs_names.specs.Keys.{Key, same_key, parent_of}
 use Rattle.fs_names.specs.declared.kind.Kind.TheVariants as kind

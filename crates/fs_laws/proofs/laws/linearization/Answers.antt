@@ -1,0 +1,5 @@
+use Rattle.fs_laws.proofs.Journals.{linearizes}
+use Rattle.fs_laws.proofs.laws.linearization.Goals as goal
+
+pub returns : goal.returns
+returns c = linearizes

@@ -1,0 +1,18 @@
+-- The linearization theorem.
+use Rattle.std.specs.Prelude.{ℕ, ◌≡◌, None}
+use Rattle.fs_seq.specs.Changes.{play_from, root_tree}
+use Rattle.fs_nodes.specs.Graphs.{spell}
+use Rattle.fs_laws.specs.Books.{IsLawful, start, commits_of}
+use Rattle.fs_seq.specs.Shapes.{seen}
+use Rattle.fs_seq.specs.Outcomes as tree
+use Rattle.fs_journal.specs.Timeline as journal
+use Rattle.fs_laws.specs.States.{State}
+
+-- no call is under way
+abbrev pub IsIdle : State → Type 0
+IsIdle state = (c : ℕ) → state.ops c ≡ None
+
+-- the timeline is lawful: well formed, and each returned reply is the sequential tree's; and where no call is under way the nodes spell the tree that its commits play
+pub record Linearizes (state : State) : Type 0 where
+  pub lawful : journal.IsLawful state.timeline
+  pub spelled : IsIdle state → spell state.graph ≡ seen (tree.play (journal.commits state.timeline))

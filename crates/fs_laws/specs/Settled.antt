@@ -1,0 +1,50 @@
+-- The settled graph, by the moves that placed calls have left, and the settled tree, by present calls.
+use Rattle.std.specs.Prelude.{ℕ, zero, suc, ◌+◌, List, [], ◌∷◌, Option, Some, None, length}
+use Rattle.fs_names.specs.Keys.{Key}
+use Rattle.fs_names.specs.Shapes.{Shape}
+use Rattle.fs_seq.specs.Changes.{reply, after}
+use Rattle.fs_seq.specs.Forms.{Form, On, In, Rename, under}
+use Rattle.fs_seq.specs.Maps.{Map}
+use Rattle.fs_seq.specs.declared.reply.Reply.{Reply}
+use Rattle.fs_nodes.specs.Graphs.{Graph}
+use Rattle.fs_ops.specs.Finishes.{Made, finish}
+use Rattle.fs_ops.specs.Moves.{Move, Takes, Leaves, Finishes, Ends, next, took, left_stand}
+use Rattle.fs_ops.specs.Records.{Record, Records}
+
+-- the record's own moves up to its finish, as if nobody else held a node: at most `steps` of them
+abbrev pub alone_by : ℕ → Graph → Record → Move → Made
+alone_by zero graph op move = finish graph op
+alone_by (suc steps) graph op (Takes n) = alone_by steps graph (took op n) (next graph (took op n))
+alone_by (suc steps) graph op (Leaves n) = alone_by steps graph (record op { stand = left_stand op.phase op.stand }) (next graph (record op { stand = left_stand op.phase op.stand }))
+alone_by (suc steps) graph op (Finishes s) = finish graph op
+alone_by (suc steps) graph op Ends = finish graph op
+
+-- each name left is one take and one let go; besides, the root, and a victim
+abbrev pub names_left : Form → ℕ
+names_left (On c p) = length p
+names_left (In c p) = length p
+names_left (Rename p q) = length p + length q
+
+-- what a call makes of the graph alone
+abbrev pub alone : Graph → Record → Made
+alone graph op = alone_by (names_left op.remaining + names_left op.remaining + 4) graph op (next graph op)
+
+-- the same of a call that may be there
+abbrev pub settled_by : Graph → Option Record → Graph
+settled_by graph None = graph
+settled_by graph (Some op) = (alone graph op).graph
+
+-- the placed calls, in the order of commits
+abbrev pub settled_graph : Graph → Records → List ℕ → Graph
+settled_graph graph ops [] = graph
+settled_graph graph ops (c ∷ cs) = settled_graph (settled_by graph (ops c)) ops cs
+
+-- the settled tree: calls, each with the key of its position and what it has left, one after another
+abbrev pub settle : Map Shape → List (Key × Form) → Map Shape
+settle tree [] = tree
+settle tree (p ∷ ps) = settle (after tree (under p.0 p.1)) ps
+
+-- what each of them replies
+abbrev pub settle_replies : Map Shape → List (Key × Form) → List Reply
+settle_replies tree [] = []
+settle_replies tree (p ∷ ps) = reply tree (under p.0 p.1) ∷ settle_replies (after tree (under p.0 p.1)) ps

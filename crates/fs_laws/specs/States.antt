@@ -1,0 +1,194 @@
+-- States of the core, what a begin and a step may do, and runs.
+use Rattle.std.specs.Prelude.{ℕ, ◌≡◌, ◌+◌, ◌<◌, ◌≤◌, Bool, true, false, cond, eqb, List, [], ◌∷◌, ◌++◌, Option, Some, None, length}
+use Rattle.fs_names.specs.Keys.{Key}
+use Rattle.fs_names.specs.Shapes.{Shape}
+use Rattle.fs_seq.specs.Forms.{form, reserves}
+use Rattle.fs_seq.specs.declared.call.Call.{Call}
+use Rattle.fs_seq.specs.declared.reply.Reply.{Reply}
+use Rattle.fs_nodes.specs.Graphs.{Graph, at, empty_graph, reserved_in, released_in, set_at}
+use Rattle.fs_journal.specs.declared.entry.Entry.{Entry}
+use Rattle.fs_journal.specs.declared.entry.Entry.TheVariants.{Begin, Commit, Return}
+use Rattle.fs_ops.specs.Finishes.{Made, finish}
+use Rattle.fs_ops.specs.Moves.{Move, Takes, Leaves, Finishes, Ends, next, took, left_stand}
+use Rattle.fs_ops.specs.Records.{Stand, Walking, Placed, Finished, Record, Records}
+use Rattle.fs_laws.specs.Books.{begins, commit_count}
+
+-- limit, graph, the numbers in use, who holds each node, the calls under way by their numbers, the call on each seat, timeline
+pub record State : Type 0 where
+  pub limit : ℕ
+  pub graph : Graph
+  pub used : List ℕ
+  pub holder : ℕ → Option ℕ
+  pub ops : Records
+  pub on_seat : ℕ → Option ℕ
+  pub timeline : List Entry
+
+-- before anything began
+abbrev pub empty : ℕ → State
+empty limit = record { limit = limit; graph = empty_graph; used = 0 ∷ []; holder = λ n. None; ops = λ c. None; on_seat = λ s. None; timeline = [] }
+
+-- a list of numbers without one
+abbrev pub without : ℕ → List ℕ → List ℕ
+without n [] = []
+without n (m ∷ ms) = cond (eqb n m) (without n ms) (m ∷ without n ms)
+
+-- what a begin answers
+pub data Begun : Type 0 where
+  Begun_as : ℕ → Begun
+  Seat_busy Full No_memory : Begun
+
+-- the record of a call that begins
+abbrev pub new_op : ℕ → Call → Option ℕ → Record
+new_op seat call reserved = record { seat = seat; call = call; walked = []; remaining = form call; stand = None; phase = Walking; reserved = reserved; removed = None }
+
+-- the state after a begin
+abbrev pub began : State → ℕ → Call → ℕ → Option ℕ → Graph → List ℕ → State
+began old seat call c reserved graph used = record old {
+  graph = graph;
+  used = used;
+  ops = set_at c (Some (new_op seat call reserved)) old.ops;
+  on_seat = set_at seat (Some c) old.on_seat;
+  timeline = old.timeline ++ Begin c seat call ∷ [];
+}
+
+-- a call that reserves gets some number that isn't in use, where there is room for it
+abbrev pub Reserves : State → ℕ → Call → ℕ → Option Shape → State → Type 0
+Reserves old seat call c None new = new ≡ began old seat call c None old.graph old.used
+Reserves old seat call c (Some shape) new =
+    (length old.used < old.limit)
+    × (n : ℕ) × (old.graph.shape n ≡ None) × (new ≡ began old seat call c (Some n) (reserved_in n shape old.graph) (n ∷ old.used))
+
+-- a number is wanted and all are in use
+abbrev pub IsFull : State → Option Shape → Type 0
+IsFull old None = ⊥
+IsFull old (Some shape) = old.limit ≤ length old.used
+
+-- the relation of a begin
+abbrev pub Begins : State → ℕ → Call → Begun → State → Type 0
+Begins old seat call Seat_busy new = (c : ℕ) × (old.on_seat seat ≡ Some c) × (new ≡ old)
+Begins old seat call Full new = (old.on_seat seat ≡ None) × IsFull old (reserves (form call)) × (new ≡ old)
+Begins old seat call No_memory new = (old.on_seat seat ≡ None) × (IsFull old (reserves (form call)) → ⊥) × (new ≡ old)
+Begins old seat call (Begun_as c) new = (old.on_seat seat ≡ None) × (c ≡ begins old.timeline + 1) × Reserves old seat call c (reserves (form call)) new
+
+-- what a step answers
+pub data Stepped : Type 0 where
+  Idle : Stepped
+  Took : ℕ → Stepped
+  Busy : ℕ → ℕ → Stepped
+  LetGo : ℕ → Stepped
+  Helped : ℕ → Stepped
+  Committed : Stepped
+  CarriedOut : Stepped
+  Returned : Reply → Stepped
+
+-- the call is on the seat, and this is its next move
+abbrev pub Moves : State → ℕ → ℕ → Record → Move → Type 0
+Moves old seat c op move = (old.on_seat seat ≡ Some c) × (old.ops c ≡ Some op) × (next old.graph op ≡ move)
+
+-- a call's position is at a node or is reached from it
+abbrev pub IsBelow : Graph → ℕ → Record → Type 0
+IsBelow graph s op = (st : Stand) × (key : Key) × (op.stand ≡ Some st) × (at graph.kid s key ≡ Some st.node)
+
+-- a walking call below s
+abbrev pub IsWalkingBelow : State → ℕ → ℕ → Type 0
+IsWalkingBelow state s d = (op : Record) × (state.ops d ≡ Some op) × (op.phase ≡ Walking) × IsBelow state.graph s op
+
+-- below s, and no other walking call is at a node that is reached from its position
+abbrev pub IsLowest : State → ℕ → ℕ → Type 0
+IsLowest state s d = IsWalkingBelow state s d × ((op : Record) (st : Stand) (e : ℕ) → state.ops d ≡ Some op → op.stand ≡ Some st → (d ≡ e → ⊥) → IsWalkingBelow state st.node e → ⊥)
+
+-- whom to help: of several, the least number
+abbrev pub IsChosen : State → ℕ → ℕ → Type 0
+IsChosen state s d = IsLowest state s d × ((e : ℕ) → IsLowest state s e → d ≤ e)
+
+-- no walking call below the node that a call would move
+abbrev pub NoneBelow : State → Option ℕ → Type 0
+NoneBelow state None = Unit {0}
+NoneBelow state (Some s) = (d : ℕ) → IsWalkingBelow state s d → ⊥
+
+-- after a take
+abbrev pub taking : State → ℕ → Record → ℕ → State
+taking old c op n = record old { holder = set_at n (Some c) old.holder; ops = set_at c (Some (took op n)) old.ops }
+
+-- a node that this call removed leaves the graph
+abbrev pub is_removed : Option ℕ → ℕ → Bool
+is_removed None n = false
+is_removed (Some m) n = eqb m n
+
+abbrev pub releasing : Bool → ℕ → Graph → Graph
+releasing true n graph = released_in n graph
+releasing false n graph = graph
+
+abbrev pub fewer_used : Bool → ℕ → List ℕ → List ℕ
+fewer_used true n used = without n used
+fewer_used false n used = used
+
+abbrev pub cleared : Bool → Option ℕ → Option ℕ
+cleared true removed = None
+cleared false removed = removed
+
+-- after a let go
+abbrev pub letting_go : State → ℕ → Record → ℕ → State
+letting_go old c op n = record old {
+  graph = releasing (is_removed op.removed n) n old.graph;
+  used = fewer_used (is_removed op.removed n) n old.used;
+  holder = set_at n None old.holder;
+  ops = set_at c (Some (record op { stand = left_stand op.phase op.stand; removed = cleared (is_removed op.removed n) op.removed })) old.ops;
+}
+
+-- d gets its place
+abbrev pub helping : State → ℕ → Record → State
+helping old d op = record old {
+  ops = set_at d (Some (record op { phase = Placed (commit_count old.timeline) })) old.ops;
+  timeline = old.timeline ++ Commit d ∷ [];
+}
+
+-- the change is made and the reply is fixed
+abbrev pub finished_op : Record → Made → Record
+finished_op op made = record op { phase = Finished made.reply; reserved = made.reserved; removed = made.removed }
+
+abbrev pub carrying : State → ℕ → Record → State
+carrying old c op = record old {
+  graph = (finish old.graph op).graph;
+  ops = set_at c (Some (finished_op op (finish old.graph op))) old.ops;
+}
+
+-- the same with the call's place
+abbrev pub committing : State → ℕ → Record → State
+committing old c op = record (carrying old c op) { timeline = old.timeline ++ Commit c ∷ [] }
+
+-- an unused reserved number leaves the graph
+abbrev pub unreserved : Option ℕ → Graph → Graph
+unreserved None graph = graph
+unreserved (Some n) graph = released_in n graph
+
+abbrev pub unused : Option ℕ → List ℕ → List ℕ
+unused None used = used
+unused (Some n) used = without n used
+
+-- after a return
+abbrev pub returning : State → ℕ → Record → Reply → State
+returning old c op r = record old {
+  graph = unreserved op.reserved old.graph;
+  used = unused op.reserved old.used;
+  ops = set_at c None old.ops;
+  on_seat = set_at op.seat None old.on_seat;
+  timeline = old.timeline ++ Return c r ∷ [];
+}
+
+-- the relation of a step
+abbrev pub Step : State → ℕ → Stepped → State → Type 0
+Step old seat Idle new = (old.on_seat seat ≡ None) × (new ≡ old)
+Step old seat (Took n) new = (c : ℕ) × (op : Record) × Moves old seat c op (Takes n) × (old.holder n ≡ None) × (new ≡ taking old c op n)
+Step old seat (Busy n d) new = (c : ℕ) × (op : Record) × Moves old seat c op (Takes n) × (old.holder n ≡ Some d) × (new ≡ old)
+Step old seat (LetGo n) new = (c : ℕ) × (op : Record) × Moves old seat c op (Leaves n) × (new ≡ letting_go old c op n)
+Step old seat (Helped d) new = (c : ℕ) × (op : Record) × (s : ℕ) × Moves old seat c op (Finishes (Some s)) × (op.phase ≡ Walking) × IsChosen old s d × (q : Record) × (old.ops d ≡ Some q) × (new ≡ helping old d q)
+Step old seat Committed new = (c : ℕ) × (op : Record) × (s : Option ℕ) × Moves old seat c op (Finishes s) × (op.phase ≡ Walking) × NoneBelow old s × (new ≡ committing old c op)
+Step old seat CarriedOut new = (c : ℕ) × (op : Record) × (s : Option ℕ) × (i : ℕ) × Moves old seat c op (Finishes s) × (op.phase ≡ Placed i) × (new ≡ carrying old c op)
+Step old seat (Returned r) new = (c : ℕ) × (op : Record) × Moves old seat c op Ends × (op.phase ≡ Finished r) × (new ≡ returning old c op r)
+
+-- the states of all runs
+pub data Run : State → Type 0 where
+  Start : (limit : ℕ) → 1 ≤ limit → Run (empty limit)
+  Beginning : {old : State} (seat : ℕ) (call : Call) (answer : Begun) (new : State) → Run old → Begins old seat call answer new → Run new
+  Stepping : {old : State} (seat : ℕ) (answer : Stepped) (new : State) → Run old → Step old seat answer new → Run new

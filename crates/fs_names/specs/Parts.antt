@@ -1,0 +1,29 @@
+-- Parts of keys.
+use Rattle.std.specs.Prelude.{Bool, true, false, if◌then◌else◌, List, [], ◌∷◌, Option, Some, None}
+use Rattle.fs_names.specs.Names.{same_name}
+use Rattle.fs_names.specs.Keys.{Key, after_prefix}
+
+-- a key that is not the root
+abbrev pub HasNames : Key → Type 0
+HasNames [] = ⊥
+HasNames (x ∷ key) = Unit {0}
+
+-- whether the prefix is there and is the whole key
+abbrev pub is_end : Option Key → Bool
+is_end None = false
+is_end (Some []) = true
+is_end (Some (x ∷ rest)) = false
+
+-- the longest common prefix
+abbrev pub common : Key → Key → Key
+common [] q = []
+common (x ∷ p) [] = []
+common (x ∷ p) (y ∷ q) = if same_name x y then x ∷ common p q else []
+
+-- what is left to walk of a key, behind the names that are walked
+abbrev pub left_by : Option Key → Key
+left_by None = []
+left_by (Some rest) = rest
+
+abbrev pub left : Key → Key → Key
+left walked whole = left_by (after_prefix walked whole)

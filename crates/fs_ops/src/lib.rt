@@ -1,0 +1,2 @@
+//! What calls under way do next.
+#![tactic(auto)]

@@ -1,0 +1,45 @@
+-- Trees as maps from keys, and the changes of them.
+use Rattle.std.specs.Prelude.{List, [], ◌∷◌, ◌++◌, Option, Some, None}
+use Rattle.fs_names.specs.Keys.{Key, after_prefix}
+
+-- what stands at each key: V is a shape, or a node's number
+abbrev pub Map : Type 0 → Type 0
+Map V = Key → Option V
+
+-- the tree below a key
+abbrev pub below : {V : Type 0} → Key → Map V → Map V
+below k tree key = tree (k ++ key)
+
+-- what f makes of the tree below k, and everything else as it is
+abbrev pub act_at : {V : Type 0} → (Map V → Map V) → Map V → Key → Key → Option Key → Option V
+act_at f tree k key None = tree key
+act_at f tree k key (Some rest) = f (below k tree) rest
+
+abbrev pub act : {V : Type 0} → Key → (Map V → Map V) → Map V → Map V
+act k f tree key = act_at f tree k key (after_prefix k key)
+
+-- one key's value is v, whatever it was
+abbrev pub put_at : {V : Type 0} → Option V → Map V → Key → Option Key → Option V
+put_at v tree key None = tree key
+put_at v tree key (Some []) = v
+put_at v tree key (Some (x ∷ rest)) = tree key
+
+abbrev pub put : {V : Type 0} → Key → Option V → Map V → Map V
+put k v tree key = put_at v tree key (after_prefix k key)
+
+-- a key that begins with s begins with t instead, and what stood at t is gone
+abbrev pub moved_from : {V : Type 0} → Map V → Key → Option Key → Option V
+moved_from tree key None = tree key
+moved_from tree key (Some rest) = None
+
+abbrev pub moved_to : {V : Type 0} → Key → Map V → Key → Option Key → Option V
+moved_to s tree key None = moved_from tree key (after_prefix s key)
+moved_to s tree key (Some rest) = tree (s ++ rest)
+
+abbrev pub move : {V : Type 0} → Key → Key → Map V → Map V
+move s t tree key = moved_to s tree key (after_prefix t key)
+
+-- several writes, the first one first
+abbrev pub write_all : {V : Type 0} → List (Key × Option V) → Map V → Map V
+write_all [] tree = tree
+write_all (w ∷ ws) tree = write_all ws (put w.0 w.1 tree)
