@@ -25,7 +25,7 @@ impl Bytes {
     pub fn new(items: Vec<u8>) -> Bytes
         ensures { result ≡ items.items }
     {
-        Bytes { items }
+        Self { items }
     }
 
     pub fn as_slice(&self) -> &[u8]
@@ -38,7 +38,8 @@ impl Bytes {
     pub fn into_vec(self) -> Vec<u8>
         ensures { result.items ≡ self }
     {
-        self.items
+        let Bytes { items } = self;
+        items
     }
 
     /// Whether the other bytes are the same. It takes no memory.

@@ -14,6 +14,8 @@ mod removing;
 mod renaming;
 pub mod reply;
 pub mod seq_tree;
+#[cfg(test)]
+mod tests;
 mod writing;
 
 pub use bytes::Bytes;

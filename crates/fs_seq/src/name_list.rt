@@ -25,7 +25,7 @@ impl NameList {
     pub fn new(items: Vec<Name>) -> NameList
         ensures { result ≡ items.items }
     {
-        NameList { items }
+        Self { items }
     }
 
     pub fn as_slice(&self) -> &[Name]
@@ -45,6 +45,7 @@ impl NameList {
     pub fn into_vec(self) -> Vec<Name>
         ensures { result.items ≡ self }
     {
-        self.items
+        let NameList { items } = self;
+        items
     }
 }
