@@ -1,0 +1,4 @@
+pub mod WordLemmas
+pub mod EscapeLemmas
+pub mod NumberLemmas
+pub mod WriteLemmas

@@ -1,0 +1,20 @@
+//! Texts of scripts, journals and trees, both ways.
+#![tactic(auto)]
+
+mod addition;
+mod calls;
+mod draft;
+mod escaping;
+pub mod fault;
+mod journal;
+pub mod limits;
+mod lines;
+mod replies;
+pub mod script;
+mod words;
+mod writing;
+
+pub use fault::{FaultKind, ScriptFault};
+pub use journal::read_entries;
+pub use script::{CallLists, Script, ThreadNames, Word, WordList};
+pub use writing::write_entry;
