@@ -2,3 +2,5 @@ pub mod WordLemmas
 pub mod EscapeLemmas
 pub mod NumberLemmas
 pub mod WriteLemmas
+pub mod ReadLemmas
+pub mod ScriptLemmas

@@ -1,6 +1,6 @@
 -- What reading a script gives.
-use Rattle.std.specs.Prelude.{ℕ, ◌+◌, Bool, true, false, not, ◌&&◌, ◌||◌, ◌==◌, nat_lt, nat_le, List, [], ◌∷◌, ◌++◌, length, take, drop, Result, Ok, Err, Option, Some, None, if◌then◌else◌, codes, position, is_some}
-use Rattle.std.specs.List.{list_all}
+use Rattle.std.specs.Prelude.{ℕ, ◌+◌, Bool, true, false, not, ◌&&◌, ◌||◌, ◌==◌, nat_lt, nat_le, List, [], ◌∷◌, ◌++◌, length, take, drop, Result, Ok, Err, Option, Some, None, if◌then◌else◌, codes, position}
+use Rattle.std.specs.List.{list_all, list_any}
 use Rattle.std.specs.Str.{bytes_eq}
 use Rattle.fs_seq.specs.declared.call.Call.{Call}
 use Rattle.fs_script.specs.Lines.{lines_of, is_passed_over}
@@ -59,7 +59,7 @@ with_thread s name = record s { script = record s.script { names = s.script.name
 abbrev pub new_thread : Draft → Word → Result Draft FaultKind
 new_thread s name =
     if not (is_thread name) then Err kind.BadThread
-    else (if is_some (seat_named s.script.names name) then Err kind.ThreadTwice
+    else (if list_any (bytes_eq name) s.script.names then Err kind.ThreadTwice
     else (if nat_le THREAD_LIMIT (length s.script.names) then Err kind.TooLarge
     else Ok (with_thread s name)))
 

@@ -1,7 +1,10 @@
 //! Scripts: threads with their calls, and a schedule.
 
-ghost use Rattle.std.specs.Prelude.{◌≡◌, ◌<◌, ◌++◌, ◌∷◌, [], map, length, not, is_some, OnOk, MatchResult, string_bytes};
+ghost use Rattle.std.specs.Prelude.{◌≡◌, ◌↔◌, ◌<◌, ◌==◌, [], map, length, false, IsTrue, MatchResult};
+ghost use Rattle.std.specs.List.{list_any};
+ghost use Rattle.std.specs.Str.{bytes_eq};
 ghost use Rattle.fs_script.specs.Script.{seat_named, with_call};
+ghost use Rattle.fs_script.specs.Answers.{Pushes};
 ghost use Rattle.fs_script.specs.declared.fault.FaultKind.TheVariants as kind;
 
 use crate::fault::FaultKind;
@@ -31,15 +34,15 @@ pub enum Word {
 /// The names of threads, seen as their list, each once.
 #[derive(Drop)]
 pub struct ThreadNames {
-    names: IndexSet<String>,
+    names: IndexSet<Vec<u8>>,
 }
 
 impl Model for ThreadNames {
-    ghost use Rattle.std.specs.Prelude.{ℕ, List, map, string_bytes};
+    ghost use Rattle.std.specs.Prelude.{ℕ, List, map};
 
     ghost Value = { List (List ℕ) };
 
-    ghost view = { λ n. map string_bytes n.names.keys };
+    ghost view = { λ n. map (λ name. name.items) n.names.keys };
 }
 
 impl ThreadNames {
@@ -59,11 +62,39 @@ impl ThreadNames {
         self.names.len()
     }
 
-    /// The seat of a thread, by its name. It takes no memory.
-    pub fn seat(&self, name: &str) -> Option<usize>
+    /// Whether there are none.
+    pub fn is_empty(&self) -> bool
+        ensures { IsTrue result ↔ (self.now ≡ []) }
+    {
+        self.len() == 0
+    }
+
+    /// Whether a thread has this name. It takes no memory.
+    pub fn contains(&self, name: &[u8]) -> bool
+        ensures { result ≡ list_any (bytes_eq name.now) self.now }
+    {
+        self.names.contains(name)
+    }
+
+    /// The seat of the thread of this name, where there is one. It takes no memory.
+    pub fn seat(&self, name: &[u8]) -> Option<usize>
         ensures { result ≡ seat_named self.now name.now }
     {
         self.names.get_index_of(name)
+    }
+
+    /// Adds a name, which goes last.
+    pub(crate) fn push(&mut self, alloc: Global, name: &[u8]) -> Result<(), FaultKind>
+        requires { list_any (bytes_eq name.now) self.old ≡ false }
+        ensures { Pushes result self.old self.new name.now }
+    {
+        let Ok(name) = Vec::from_slice(alloc, name) else {
+            return Err(FaultKind::OutOfMemory);
+        };
+        match self.names.insert(name) {
+            Ok(_) => Ok(()),
+            Err(_) => Err(FaultKind::OutOfMemory),
+        }
     }
 }
 
@@ -89,6 +120,34 @@ impl CallLists {
     {
         CallLists {
             lists: Vec::new(alloc),
+        }
+    }
+
+    pub fn is_empty(&self) -> bool
+        ensures { result ≡ (length self.now == 0) }
+    {
+        self.lists.is_empty()
+    }
+
+    /// Adds a list without calls, which goes last.
+    pub(crate) fn push_list(&mut self, alloc: Global) -> Result<(), FaultKind>
+        ensures { Pushes result self.old self.new [] }
+    {
+        match self.lists.push(Vec::new(alloc)) {
+            Ok(()) => Ok(()),
+            Err(_) => Err(FaultKind::OutOfMemory),
+        }
+    }
+
+    /// Adds a call to the last list.
+    pub(crate) fn push_call(&mut self, call: Call) -> Result<(), FaultKind>
+        requires { 0 < length self.old }
+        ensures { MatchResult result (λ _. self.new ≡ with_call call self.old) (λ k. k ≡ kind.OutOfMemory) }
+    {
+        let last = self.lists.len() - 1;
+        match self.lists[last].push(call) {
+            Ok(()) => Ok(()),
+            Err(_) => Err(FaultKind::OutOfMemory),
         }
     }
 
@@ -122,6 +181,16 @@ impl WordList {
     {
         WordList {
             words: Vec::new(alloc),
+        }
+    }
+
+    /// Adds a word, which goes last.
+    pub(crate) fn push(&mut self, word: Word) -> Result<(), FaultKind>
+        ensures { Pushes result self.old self.new word }
+    {
+        match self.words.push(word) {
+            Ok(()) => Ok(()),
+            Err(_) => Err(FaultKind::OutOfMemory),
         }
     }
 
