@@ -9,6 +9,7 @@ pub mod fault;
 mod journal;
 pub mod limits;
 mod lines;
+mod reading;
 mod replies;
 pub mod script;
 mod words;
@@ -16,5 +17,6 @@ mod writing;
 
 pub use fault::{FaultKind, ScriptFault};
 pub use journal::read_entries;
+pub use reading::read_script;
 pub use script::{CallLists, Script, ThreadNames, Word, WordList};
 pub use writing::write_entry;

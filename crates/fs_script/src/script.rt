@@ -98,6 +98,15 @@ impl ThreadNames {
     }
 }
 
+fn push_last(calls: &mut Vec<Call>, call: Call) -> Result<(), FaultKind>
+    ensures { Pushes result calls.old.items calls.new.items call }
+{
+    match calls.push(call) {
+        Ok(()) => Ok(()),
+        Err(_) => Err(FaultKind::OutOfMemory),
+    }
+}
+
 /// Lists of calls, seen as what they hold.
 #[derive(Drop)]
 pub struct CallLists {
@@ -145,10 +154,7 @@ impl CallLists {
         ensures { MatchResult result (λ _. self.new ≡ with_call call self.old) (λ k. k ≡ kind.OutOfMemory) }
     {
         let last = self.lists.len() - 1;
-        match self.lists[last].push(call) {
-            Ok(()) => Ok(()),
-            Err(_) => Err(FaultKind::OutOfMemory),
-        }
+        push_last(&mut self.lists[last], call)
     }
 
     /// The lists, one for each thread.
