@@ -4,3 +4,5 @@ pub mod NumberLemmas
 pub mod WriteLemmas
 pub mod ReadLemmas
 pub mod ScriptLemmas
+pub mod PathLemmas
+pub mod EntryLemmas

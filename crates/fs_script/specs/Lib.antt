@@ -8,3 +8,4 @@ pub mod Answers
 pub mod Fits
 pub mod TreeText
 pub mod Laws
+pub mod Examples
