@@ -42,7 +42,7 @@ pub name_added : {V : Type 0} (f : V → List ℕ) (ks new : List V) (k : V) (ol
     → map f new ≡ old ++ name ∷ []
 name_added f ks new k old name added olds is none =
     let absent : list_any (λ x. bytes_eq (f k) (f x)) ks ≡ false =
-      sym (any_mapped f (bytes_eq (f k)) ks) ∙ ap (λ n. list_any (bytes_eq n) (map f ks)) is ∙ ap (list_any (bytes_eq name)) olds ∙ none in
+    sym (any_mapped f (bytes_eq (f k)) ks) ∙ ap (λ n. list_any (bytes_eq n) (map f ks)) is ∙ ap (list_any (bytes_eq name)) olds ∙ none in
     ap (map f) (added ∙ cond-false _ _ _ absent) ∙ map_append f ks (k ∷ []) ∙ ap (λ o. o ++ f k ∷ []) olds ∙ ap (λ n. old ++ n ∷ []) is
 
 last_set : {V : Type 0} (f : V → List Call) (vs : List V) (y d : V) (n : ℕ) (c : Call) → n + 1 ≡ length vs → f y ≡ f (get_or vs n d) ++ c ∷ [] → map f (set vs n y) ≡ with_call c (map f vs)

@@ -67,25 +67,25 @@ pub record ScriptFaults : Type 0 where
 pub record ScriptsRead : Type 0 where
   pub empty_script : script "schedule\n" ≡ Ok (record { names = []; lists = []; words = [] })
   pub first_mkdir : script "thread t\nmkdir /a\nschedule\nt*5\n"
-    ≡ Ok (record { names = codes "t" ∷ []; lists = (Mkdir (at "/a") ∷ []) ∷ []; words = Events 0 5 ∷ [] })
+      ≡ Ok (record { names = codes "t" ∷ []; lists = (Mkdir (at "/a") ∷ []) ∷ []; words = Events 0 5 ∷ [] })
   pub helped_mkdir : script "thread m\nmkdir /a\nmkdir /a/d\nmkdir /a/d/x\nthread r\nrename /a /b\nschedule\nm*18 r*6 m*3\n"
-    ≡ Ok (record {
-      names = codes "m" ∷ codes "r" ∷ [];
-      lists = (Mkdir (at "/a") ∷ Mkdir (at "/a/d") ∷ Mkdir (at "/a/d/x") ∷ []) ∷ (Rename (at "/a") (at "/b") ∷ []) ∷ [];
-      words = Events 0 18 ∷ Events 1 6 ∷ Events 0 3 ∷ [];
-    })
+      ≡ Ok (record {
+        names = codes "m" ∷ codes "r" ∷ [];
+        lists = (Mkdir (at "/a") ∷ Mkdir (at "/a/d") ∷ Mkdir (at "/a/d/x") ∷ []) ∷ (Rename (at "/a") (at "/b") ∷ []) ∷ [];
+        words = Events 0 18 ∷ Events 1 6 ∷ Events 0 3 ∷ [];
+      })
   pub waiting_victim : script "thread w\nmknod /f\nwrite /f 0 6869\nthread u\nunlink /f\nschedule\nw*9 u*3 finish\n"
-    ≡ Ok (record {
-      names = codes "w" ∷ codes "u" ∷ [];
-      lists = (Mknod (at "/f") ∷ Write (at "/f") 0 (codes "hi") ∷ []) ∷ (Unlink (at "/f") ∷ []) ∷ [];
-      words = Events 0 9 ∷ Events 1 3 ∷ Finish ∷ [];
-    })
+      ≡ Ok (record {
+        names = codes "w" ∷ codes "u" ∷ [];
+        lists = (Mknod (at "/f") ∷ Write (at "/f") 0 (codes "hi") ∷ []) ∷ (Unlink (at "/f") ∷ []) ∷ [];
+        words = Events 0 9 ∷ Events 1 3 ∷ Finish ∷ [];
+      })
   pub empty_block : script "thread a_1\nthread b\nrmdir /%2Fx\nstat /%\nreaddir /\nread //f 0 18446744073709551615\nwrite /f 1 -\ntruncate /f 7\nschedule\nb a_1"
-    ≡ Ok (record {
-      names = codes "a_1" ∷ codes "b" ∷ [];
-      lists = [] ∷ (Rmdir (at "/x") ∷ Stat (at "/%") ∷ Readdir [] ∷ Read (at "/f") 0 (2 ^ 64 - 1) ∷ Write (at "/f") 1 [] ∷ Truncate (at "/f") 7 ∷ []) ∷ [];
-      words = Events 1 1 ∷ Events 0 1 ∷ [];
-    })
+      ≡ Ok (record {
+        names = codes "a_1" ∷ codes "b" ∷ [];
+        lists = [] ∷ (Rmdir (at "/x") ∷ Stat (at "/%") ∷ Readdir [] ∷ Read (at "/f") 0 (2 ^ 64 - 1) ∷ Write (at "/f") 1 [] ∷ Truncate (at "/f") 7 ∷ []) ∷ [];
+        words = Events 1 1 ∷ Events 0 1 ∷ [];
+      })
 
 pub record JournalFaults : Type 0 where
   pub empty : entries_of [] ≡ Err (fault_at 1 BadHeader)
@@ -110,8 +110,8 @@ pub record JournalsRead : Type 0 where
   pub no_entries : journal "" ≡ Ok []
   pub first_mkdir : journal "begin 1 0 mkdir /a\ncommit 1\nreturn 1 ok\ntree\nanything  at all" ≡ Ok first_mkdir
   pub replies : journal "return 1 failed EEXIST\n# ok\n\nreturn 2 stat dir 3\nreturn 3 names b a%20b b\nreturn 4 names\nreturn 5 bytes 6869\nreturn 6 bytes -\nreturn 7 wrote 0"
-    ≡ Ok (Return 1 (answer.Failed Eexist) ∷ Return 2 (answer.Stat kind.Dir 3) ∷ Return 3 (answer.Names (codes "b" ∷ codes "a b" ∷ codes "b" ∷ []))
-    ∷ Return 4 (answer.Names []) ∷ Return 5 (answer.Bytes (codes "hi")) ∷ Return 6 (answer.Bytes []) ∷ Return 7 (answer.Wrote 0) ∷ [])
+      ≡ Ok (Return 1 (answer.Failed Eexist) ∷ Return 2 (answer.Stat kind.Dir 3) ∷ Return 3 (answer.Names (codes "b" ∷ codes "a b" ∷ codes "b" ∷ []))
+      ∷ Return 4 (answer.Names []) ∷ Return 5 (answer.Bytes (codes "hi")) ∷ Return 6 (answer.Bytes []) ∷ Return 7 (answer.Wrote 0) ∷ [])
 
 pub record TextsWritten : Type 0 where
   pub first_mkdir : journal_text first_mkdir ≡ codes "atomfs-journal 1\nbegin 1 0 mkdir /a\ncommit 1\nreturn 1 ok\n"
@@ -134,8 +134,8 @@ pub record NumbersRead : Type 0 where
 pub record TreeTexts : Type 0 where
   pub root : tree_text (play []) ≡ codes "tree\ndir /\n"
   pub helped_mkdir : tree_text (play (Mkdir (at "/a") ∷ Mkdir (at "/a/d") ∷ Mkdir (at "/a/d/x") ∷ Rename (at "/a") (at "/b") ∷ []))
-    ≡ codes "tree\ndir /\ndir /b\ndir /b/d\ndir /b/d/x\n"
+      ≡ codes "tree\ndir /\ndir /b\ndir /b/d\ndir /b/d/x\n"
   pub helped_rename : tree_text (play (Mkdir (at "/a") ∷ Mkdir (at "/a/p") ∷ Mkdir (at "/a/q") ∷ Mknod (at "/a/p/s") ∷ Rename (at "/a/p/s") (at "/a/q/t") ∷ Rename (at "/a") (at "/b") ∷ []))
-    ≡ codes "tree\ndir /\ndir /b\ndir /b/p\ndir /b/q\nfile /b/q/t -\n"
+      ≡ codes "tree\ndir /\ndir /b\ndir /b/p\ndir /b/q\nfile /b/q/t -\n"
   pub renames_in_sequence : tree_text (play (Mkdir (at "/e") ∷ Mknod (at "/e/b") ∷ Mkdir (at "/e/d") ∷ Mknod (at "/f") ∷ Write (at "/e/b") 0 (codes "hi") ∷ []))
-    ≡ codes "tree\ndir /\ndir /e\nfile /e/b 6869\ndir /e/d\nfile /f -\n"
+      ≡ codes "tree\ndir /\ndir /e\nfile /e/b 6869\ndir /e/d\nfile /f -\n"

@@ -14,6 +14,8 @@ mod lines;
 mod reading;
 mod replies;
 pub mod script;
+#[cfg(test)]
+mod tests;
 mod words;
 mod writing;
 

@@ -132,6 +132,7 @@ impl CallLists {
         }
     }
 
+    /// Whether there is none.
     pub fn is_empty(&self) -> bool
         ensures { result ≡ (length self.now == 0) }
     {
@@ -162,6 +163,13 @@ impl CallLists {
         ensures { map (λ calls. calls.items) result.now ≡ self.now }
     {
         self.lists.as_slice()
+    }
+
+    /// Gives the vectors. It takes no memory.
+    pub fn into_vec(self) -> Vec<Vec<Call>>
+        ensures { map (λ calls. calls.items) result.items ≡ self }
+    {
+        self.lists
     }
 }
 
@@ -200,6 +208,7 @@ impl WordList {
         }
     }
 
+    /// The words, from left to right.
     pub fn as_slice(&self) -> &[Word]
         ensures { result.now ≡ self.now }
     {

@@ -65,12 +65,7 @@ fn push_call(alloc: Global, call: &Call, line: &mut Addition) -> Result<(), Allo
     }
 }
 
-fn push_rename(
-    alloc: Global,
-    from: &Path,
-    to: &Path,
-    line: &mut Addition,
-) -> Result<(), AllocError>
+fn push_rename(alloc: Global, from: &Path, to: &Path, line: &mut Addition) -> Result<(), AllocError>
     ensures ok { OnOk result (line.new.added ≡ line.old.added ++ join_with_byte 32 (call_words (Rename from.now to.now))) }
     ensures before { line.new.before ≡ line.old.before }
 {

@@ -9,9 +9,10 @@ returns-in-Some c =
     let xs = c.args.text.now in
     let at = c.in-Some.at in
     let cut = lines_cut xs at (sym c.line_end.ensures ∙ c.in-Some.is) in
-    let back = c.parts.ensures.back in
-    (cut.1 ∙ ap (λ line. line ∷ lines_of (drop (at + 1) xs)) (sym c.parts.ensures.front) ∙ ap (λ more. c.parts.result.0.now ∷ lines_of more) (sym back),
-    omega (arith, cut.0, ap length back, length-drop (at + 1) xs))
+    let back = c.parts.ensures.back in (
+      cut.1 ∙ ap (λ line. line ∷ lines_of (drop (at + 1) xs)) (sym c.parts.ensures.front) ∙ ap (λ more. c.parts.result.0.now ∷ lines_of more) (sym back),
+      omega (arith, cut.0, ap length back, length-drop (at + 1) xs),
+    )
 
 pub returns-in-None : goal.returns-in-None
 returns-in-None c =
