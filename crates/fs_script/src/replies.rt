@@ -96,7 +96,9 @@ fn push_name(names: &mut Vec<Name>, name: Name) -> Result<(), FaultKind>
 fn names_at(alloc: Global, words: &[&[u8]]) -> Result<Vec<Name>, FaultKind>
     ensures { Gives (λ names. names.items) result (names_at (map (λ w. w.now) words.now)) }
 {
-    let mut names = Vec::new(alloc);
+    let Ok(mut names) = Vec::with_capacity(alloc, words.len()) else {
+        return Err(FaultKind::OutOfMemory);
+    };
     let mut at = 0;
     'names: while at < words.len() {
         let name = match name_at(alloc, words[at]) {

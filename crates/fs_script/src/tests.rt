@@ -269,16 +269,28 @@ fn keeps_limits(rt: HostRuntime) -> Result<(), Fail> {
         script_again(alloc, &more)?.as_slice(),
         b"line 65539: TooLarge".as_slice()
     );
-    let padded = repeated(alloc, b"atomfs 1\nschedule\n#", b".", 16_777_216 - 19, b"")?;
-    assert_eq!(rt; padded.len(), 16_777_216);
-    assert_eq!(rt; script_again(alloc, &padded)?.as_slice(), b"".as_slice());
-    let padded = repeated(alloc, b"atomfs 2\nschedule\n#", b".", 16_777_217 - 19, b"")?;
+    Ok(())
+}
+
+#[test]
+fn keeps_the_limit_on_texts(rt: HostRuntime) -> Result<(), Fail> {
+    let alloc = rt.alloc();
+    let comment = [b'#'; 4096];
+    let head = b"atomfs 1\nschedule\n#".as_slice();
+    let full = repeated(alloc, head, &comment, 4095, &comment[head.len()..])?;
+    assert_eq!(rt; full.len(), 16_777_216);
+    assert_eq!(rt; script_again(alloc, &full)?.as_slice(), b"".as_slice());
     assert_eq!(rt;
-        script_again(alloc, &padded)?.as_slice(),
+        journal_again(alloc, &full)?.as_slice(),
+        b"line 1: BadHeader".as_slice()
+    );
+    let more = repeated(alloc, &full, b"#", 1, b"")?;
+    assert_eq!(rt;
+        script_again(alloc, &more)?.as_slice(),
         b"line 1: TooLarge".as_slice()
     );
     assert_eq!(rt;
-        journal_again(alloc, &padded)?.as_slice(),
+        journal_again(alloc, &more)?.as_slice(),
         b"line 1: TooLarge".as_slice()
     );
     Ok(())
