@@ -52,10 +52,10 @@ fn script_again(alloc: Global, text: &[u8]) -> Result<Vec<u8>, Fail> {
     match read_script(alloc, text) {
         Ok(script) => {
             let mut again = Vec::new(alloc);
-            let mut seat = 0;
+            let mut seat = 0u64;
             for calls in script.lists.into_vec() {
                 add_calls(alloc, seat, calls, &mut again)?;
-                seat += 1;
+                seat = seat.wrapping_add(1);
             }
             for word in script.words.as_slice() {
                 let line = match word {
