@@ -12,6 +12,7 @@ pub on-none : {F : Type 0} (b : Bool) (f : F) → on b f ≡ None → b ≡ fals
 on-none true f e = absurd (cc)
 on-none false f e = refl
 
+-- checks in order may be put together in any way
 pub or_else-assoc : {F : Type 0} (a b c : Option F) → or_else a (or_else b c) ≡ or_else (or_else a b) c
 or_else-assoc None b c = refl
 or_else-assoc (Some f) b c = refl

@@ -8,6 +8,7 @@ abbrev pub repeated : ℕ → List ℕ
 repeated zero = []
 repeated (suc n) = 47 ∷ 110 ∷ repeated n
 
+-- what bytes are read as, and with which fault
 pub record PathExamples : Type 0 where
   pub root : reading (codes "/") ≡ Ok []
   pub slashes : reading (codes "///") ≡ Ok []

@@ -18,6 +18,7 @@ pub record IsPath (key : Key) : Type 0 where
 abbrev pub key_cmp : Key → Key → Ordering
 key_cmp = slice_cmp name_cmp
 
+-- whether two keys are the same
 abbrev pub same_key : Key → Key → Bool
 same_key p q = eq_by_cmp key_cmp p q
 

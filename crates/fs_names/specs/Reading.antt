@@ -8,12 +8,15 @@ use Rattle.fs_names.specs.declared.limits.TheConstants.{NAME_LIMIT, PATH_LIMIT}
 use Rattle.fs_names.specs.declared.fault.PathFault.{PathFault}
 use Rattle.fs_names.specs.declared.fault.PathFault.TheVariants.{NotAbsolute, Nul, NameTooLong, TooManyNames, Dot, TrailingSlash, OutOfMemory}
 
+-- the byte zero
 abbrev pub is_zero : ℕ → Bool
 is_zero b = b == 0
 
+-- the byte of a slash
 abbrev pub is_slash : ℕ → Bool
 is_slash b = b == 47
 
+-- whether there is a byte or more
 abbrev pub has_bytes : Name → Bool
 has_bytes [] = false
 has_bytes (b ∷ bs) = true
@@ -22,14 +25,17 @@ has_bytes (b ∷ bs) = true
 abbrev pub names : List ℕ → Key
 names bytes = filter has_bytes (slice_split is_slash bytes)
 
+-- whether there is a name or more
 abbrev pub has_names : Key → Bool
 has_names [] = false
 has_names (n ∷ ns) = true
 
+-- whether the first byte is a slash
 abbrev pub starts_at_root : List ℕ → Bool
 starts_at_root [] = false
 starts_at_root (b ∷ bs) = b == 47
 
+-- whether the last byte is a slash
 abbrev pub ends_in_slash : List ℕ → Bool
 ends_in_slash bytes = slice_index bytes (length bytes - 1) == 47
 
@@ -55,6 +61,7 @@ path_fault bytes = first
     ∷ on (has_names (names bytes) && ends_in_slash bytes) TrailingSlash
     ∷ [])
 
+-- the names, unless there is a fault
 abbrev pub unless : Option PathFault → Key → Result Key PathFault
 unless None key = Ok key
 unless (Some fault) key = Err fault

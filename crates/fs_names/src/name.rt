@@ -58,7 +58,7 @@ impl Name {
         }
         match ArrayVec::try_from(bytes) {
             Ok(bytes) => Some(Name { bytes }),
-            Err(_) => None,
+            Err(_) => unreachable!(),
         }
     }
 
@@ -74,7 +74,7 @@ impl Name {
     pub fn copy(&self) -> Name
         ensures { result ≡ self.now }
     {
-        match ArrayVec::try_from(self.bytes.as_slice()) {
+        match ArrayVec::try_from(self.bytes()) {
             Ok(bytes) => Name { bytes },
             Err(_) => unreachable!(),
         }

@@ -7,15 +7,15 @@ use std::marker::Model;
 /// The number of a call, by which a journal speaks of it.
 #[derive(Clone, Copy, Debug, PartialEq, Eq, PartialOrd, Ord, Hash)]
 pub struct CallNo {
-    number: u64,
+    call: u64,
 }
 
 impl Model for CallNo {
     ghost Value = { ℕ };
 
-    ghost view = { λ c. c.number };
+    ghost view = { λ c. c.call };
 
-    ghost inverse = { λ n. record { number = n } };
+    ghost inverse = { λ n. record { call = n } };
 }
 
 impl CallNo {
@@ -23,29 +23,29 @@ impl CallNo {
     pub fn new(number: u64) -> Self
         ensures { result ≡ number }
     {
-        CallNo { number }
+        CallNo { call: number }
     }
 
     /// The number that it was made with. It takes no memory.
     pub fn get(self) -> u64
         ensures { result ≡ self }
     {
-        self.number
+        self.call
     }
 }
 
 /// The number of a seat: a seat has at most one call under way at a time.
 #[derive(Clone, Copy, Debug, PartialEq, Eq, PartialOrd, Ord, Hash)]
 pub struct SeatNo {
-    number: u64,
+    seat: u64,
 }
 
 impl Model for SeatNo {
     ghost Value = { ℕ };
 
-    ghost view = { λ s. s.number };
+    ghost view = { λ s. s.seat };
 
-    ghost inverse = { λ n. record { number = n } };
+    ghost inverse = { λ n. record { seat = n } };
 }
 
 impl SeatNo {
@@ -53,13 +53,13 @@ impl SeatNo {
     pub fn new(number: u64) -> Self
         ensures { result ≡ number }
     {
-        SeatNo { number }
+        SeatNo { seat: number }
     }
 
     /// The number that it was made with. It takes no memory.
     pub fn get(self) -> u64
         ensures { result ≡ self }
     {
-        self.number
+        self.seat
     }
 }

@@ -75,10 +75,7 @@ fn names_of(alloc: Global, bytes: &[u8]) -> Result<SmallVec<Name, INLINE_NAMES>,
     let Ok(mut read) = SmallVec::with_capacity(alloc, room) else {
         return Err(PathFault::OutOfMemory);
     };
-    for piece in bytes
-        .split(|b| *b == b'/')
-        .filter(|piece| !piece.is_empty())
-    {
+    for piece in bytes.split(|b| *b == b'/').filter(|name| !name.is_empty()) {
         read.push_reserved(name_after(read.len(), piece)?);
     }
     Ok(read)
@@ -130,6 +127,18 @@ impl Path {
         };
         if !names.is_empty() && ends_in_slash(bytes) {
             return Err(PathFault::TrailingSlash);
+        }
+        Ok(Path { names })
+    }
+
+    /// The same path again. It takes memory once, and only for more names than a path holds without any.
+    pub fn copy(&self, alloc: Global) -> Result<Path, AllocError>
+        ensures ok { IfOk result (λ path. path ≡ self.now) }
+        ensures memory { OnErr result (INLINE_NAMES < length self.now) }
+    {
+        let mut names = SmallVec::with_capacity(alloc, self.len())?;
+        for name in self.names.as_slice() {
+            names.push_reserved(name.copy());
         }
         Ok(Path { names })
     }
