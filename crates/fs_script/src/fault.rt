@@ -48,6 +48,8 @@ pub enum FaultKind {
 #[derive(Clone, Copy, Debug, PartialEq, Eq, Error)]
 #[error("line {line}: {kind}")]
 pub struct ScriptFault {
+    /// The line, counted from 1; where the text ends too early, the number of its lines and one more.
     pub line: u64,
+    /// What is wrong with it.
     pub kind: FaultKind,
 }
