@@ -1,13 +1,13 @@
 -- Entries that were written behind the header are read again.
-use Rattle.std.proofs.Common.{◌≡◌, ◌≢◌, ℕ, ◌+◌, ◌<◌, ◌≤◌, ◌^◌, Bool, true, false, ltb, List, [], ◌∷◌, ◌++◌, length, get_or, map, sym, refl, ap, ◌∙◌, append_assoc, arith, rules, codes, Some, None, Ok, Err, Result, Option, decimal}
-use Rattle.std.specs.Prelude.{slice_index, zero, suc, if◌then◌else◌}
-use Rattle.std.specs.List.{flat_map, All, AllByRecursion, join_with_byte}
+use Rattle.std.proofs.Common.{◌≡◌, ℕ, ◌+◌, ◌<◌, ◌≤◌, true, false, ltb, List, [], ◌∷◌, ◌++◌, length, map, refl, ap, ◌∙◌, arith, rules, codes, Ok, Err, decimal}
+use Rattle.std.specs.Prelude.{zero, suc, if◌then◌else◌}
+use Rattle.std.specs.List.{flat_map, AllByRecursion, join_with_byte}
 use Rattle.std.proofs.lemmas.List.Elements.{All-from_recursion}
 use Rattle.std.proofs.lemmas.Bool.{cond-true, cond-false}
 use Rattle.std.proofs.lemmas.Bool.Decides.{nat_tests}
 use Rattle.percent_encoding.specs.Percent.{percent_decode}
 use Rattle.hex.specs.Hex.{IsBytes}
-use Rattle.fs_names.specs.Names.{Name, can_name}
+use Rattle.fs_names.specs.Names.{can_name}
 use Rattle.fs_names.specs.Keys.{Key}
 use Rattle.fs_names.specs.declared.kind.Kind.{Kind}
 use Rattle.fs_names.specs.declared.kind.Kind.TheVariants.{Dir, File}
@@ -19,15 +19,14 @@ use Rattle.fs_seq.specs.declared.errno.Errno.{Errno}
 use Rattle.fs_seq.specs.declared.errno.Errno.TheVariants as errno
 use Rattle.fs_journal.specs.declared.entry.Entry.{Entry}
 use Rattle.fs_journal.specs.declared.entry.Entry.TheVariants.{Begin, Commit, Return}
-use Rattle.fs_script.specs.Lines.{lines_of, pieces_of, has_empty, is_passed_over, line_text}
-use Rattle.fs_script.specs.Words.{number_of, hex_of, hex_word, escaped, path_word, path_of}
+use Rattle.fs_script.specs.Lines.{lines_of, pieces_of, has_empty, is_passed_over}
+use Rattle.fs_script.specs.Words.{hex_word, escaped, path_word}
 use Rattle.fs_script.specs.Calls.{◌>>=◌, or_fault, or_bad_path, path_at, number_at, hex_at, call_words, call_of, has_call_form}
-use Rattle.fs_script.specs.Journal.{kind_word, errno_word, reply_words, entry_words, entry_line, journal_header, journal_text, name_at, names_at, reply_of, entry_of, begin_of, return_of, words_of, fault_at, at_line, is_tree_line, entries_from, first_is, behind_first, entries_of}
-use Rattle.fs_script.specs.declared.fault.FaultKind.{FaultKind}
+use Rattle.fs_script.specs.Journal.{kind_word, errno_word, reply_words, entry_words, entry_line, journal_header, journal_text, name_at, names_at, reply_of, entry_of, return_of, words_of, fault_at, at_line, is_tree_line, entries_from, first_is, behind_first, entries_of}
 use Rattle.fs_script.specs.declared.fault.FaultKind.TheVariants as kind
 use Rattle.fs_script.specs.Fits.{AreBytes, IsU64, IsName, IsKey, FitsCall, FitsReply, FitsEntry, AllFit}
 use Rattle.fs_script.specs.Laws.{ReadsBack}
-use Rattle.fs_script.proofs.WordLemmas.{IsWord, IsDark, pieces_of_joined, has_no_empty, IsLine, IsLine_joined, ended, lines_of_ended}
+use Rattle.fs_script.proofs.WordLemmas.{IsWord, pieces_of_joined, has_no_empty, IsLine, IsLine_joined, ended, lines_of_ended}
 use Rattle.fs_script.proofs.NumberLemmas.{number_again, IsWord_decimal, hex_again, IsWord_hex}
 use Rattle.fs_script.proofs.EscapeLemmas.{escape_again, IsWord_escaped}
 use Rattle.fs_script.proofs.PathLemmas.{KeyFacts, NameFacts, path_again, IsWord_path, name_facts}

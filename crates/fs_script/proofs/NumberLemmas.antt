@@ -1,12 +1,12 @@
 -- What one word writes is read again.
-use Rattle.std.proofs.Common.{◌≡◌, ◌≢◌, ℕ, ◌+◌, ◌-◌, ◌*◌, ◌/◌, ◌%◌, ◌<◌, ◌≤◌, ◌^◌, Bool, true, false, ltb, eqb, ◌⊎◌, inl, inr, ⊎_elim, List, [], ◌∷◌, ◌++◌, length, get_or, map, sym, refl, ap, ◌∙◌, subst, append_assoc, append-nil, arith, rules, codes, Some, None, Ok, decimal}
+use Rattle.std.proofs.Common.{◌≡◌, ℕ, ◌/◌, ◌%◌, ◌<◌, ◌≤◌, ◌^◌, true, false, eqb, ◌⊎◌, inl, inr, ⊎_elim, List, [], ◌∷◌, length, get_or, refl, ap, ◌∙◌, arith, rules, codes, Some, Ok, decimal}
 use Rattle.std.specs.Str.{all_ascii_digits, bytes_eq}
-use Rattle.std.specs.Str.Parse.{digits_value, IsNumeral, AllDigits}
-use Rattle.std.specs.List.{flat_map, All, AllByRecursion, list_any, slice_split}
-use Rattle.std.specs.Prelude.{slice_index, if◌then◌else◌, zero, suc}
+use Rattle.std.specs.Str.Parse.{digits_value}
+use Rattle.std.specs.List.{AllByRecursion}
+use Rattle.std.specs.Prelude.{slice_index, zero, suc}
 use Rattle.std.proofs.lemmas.Str.Parse.{IsNumeralModel, numerals_by_value, tells_all_ascii_digits, digit_at}
 use Rattle.std.proofs.lemmas.Fmt.{digits_decimal, digits_value-decimal, decimal_nonempty, first_decimal, decimal_digit, decimal_is_IsNumeral}
-use Rattle.std.proofs.lemmas.List.Elements.{All-weaker, All-append, All-cons, All-nil, All-from_get_or, All-get_or, All-from_recursion}
+use Rattle.std.proofs.lemmas.List.Elements.{All-cons, All-nil, All-from_get_or, All-get_or, All-from_recursion}
 use Rattle.std.proofs.lemmas.Bool.{cond-true, cond-false, and_from, lt-ltb, eq-eqb}
 use Rattle.std.proofs.lemmas.Bool.Decides.{nat_tests}
 use Rattle.hex.specs.Hex.{encode_with, encode_lower, decode_of, IsBytes, lower_digits}

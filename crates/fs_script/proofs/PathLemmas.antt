@@ -1,21 +1,19 @@
 -- A path that was written is read again.
-use Rattle.std.proofs.Common.{◌≡◌, ◌≢◌, ℕ, ◌+◌, ◌-◌, ◌<◌, ◌≤◌, ◌^◌, Bool, true, false, not, cond, ltb, eqb, ◌⊎◌, inl, inr, ⊎_elim, List, [], ◌∷◌, ◌++◌, length, get_or, map, sym, refl, ap, ◌∙◌, subst, append_assoc, append-nil, arith, ◌&&◌, ◌||◌, Some, None, Option, Ok, Err, length-append, leb}
-use Rattle.std.specs.Prelude.{zero, suc, filter, slice_index}
-use Rattle.std.specs.List.{flat_map, All, AllByRecursion, list_any, list_all, slice_split}
+use Rattle.std.proofs.Common.{◌≡◌, ◌≢◌, ℕ, ◌+◌, ◌-◌, ◌<◌, ◌≤◌, Bool, true, false, not, ltb, eqb, List, [], ◌∷◌, ◌++◌, length, get_or, sym, refl, ap, ◌∙◌, append-nil, arith, ◌&&◌, None, Option, Ok, length-append, leb}
+use Rattle.std.specs.Prelude.{filter}
+use Rattle.std.specs.List.{All, AllByRecursion, list_any, list_all, slice_split}
 use Rattle.std.proofs.lemmas.List.Splits.{slice_split_at, slice_split_none}
 use Rattle.std.proofs.lemmas.List.Elements.{All-cons, All-nil, All-append, All-weaker, All-get_or, All-head, All-tail}
-use Rattle.std.proofs.lemmas.Bool.{cond-true, cond-false, and_parts, or_parts, or_from, not-true, ltb-true, leb-true, cases_Bool}
+use Rattle.std.proofs.lemmas.Bool.{and_parts, or_from, not-true, leb-true}
 use Rattle.std.proofs.lemmas.Bool.Decides.{nat_tests}
 use Rattle.std.proofs.lemmas.List.{get_or-append-add}
-use Rattle.percent_encoding.specs.Percent.{percent_decode}
-use Rattle.fs_names.specs.First.{on, or_else, first}
+use Rattle.fs_names.specs.First.{on, or_else}
 use Rattle.fs_names.specs.Names.{Name, can_name, may_stand, is_dots}
 use Rattle.fs_names.specs.Keys.{Key, names_text, path_text}
-use Rattle.fs_names.specs.Reading.{reading, unless, path_fault, names, has_names, has_bytes, is_slash, is_zero, first_fault, name_fault, ends_in_slash, starts_at_root}
-use Rattle.fs_names.specs.declared.fault.PathFault.{PathFault}
-use Rattle.fs_names.specs.declared.fault.PathFault.TheVariants.{NotAbsolute, Nul, NameTooLong, TooManyNames, Dot, TrailingSlash}
-use Rattle.fs_script.specs.Words.{escaped, path_word, path_of}
-use Rattle.fs_script.specs.Fits.{AreBytes, IsName, IsKey}
+use Rattle.fs_names.specs.Reading.{reading, unless, path_fault, names, has_names, has_bytes, is_slash, is_zero, first_fault, name_fault, ends_in_slash}
+use Rattle.fs_names.specs.declared.fault.PathFault.TheVariants.{Nul, NameTooLong, TooManyNames, Dot, TrailingSlash}
+use Rattle.fs_script.specs.Words.{path_word, path_of}
+use Rattle.fs_script.specs.Fits.{AreBytes}
 use Rattle.fs_script.proofs.EscapeLemmas.{escape_again, IsWord_escaped}
 use Rattle.fs_script.proofs.WordLemmas.{IsWord}
 

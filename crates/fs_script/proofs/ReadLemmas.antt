@@ -1,11 +1,8 @@
 -- What the code's reading of one word and of one line rests on.
-use Rattle.std.proofs.Common.{◌≡◌, ◌≢◌, ℕ, ◌+◌, ◌-◌, ◌<◌, ◌≤◌, ◌^◌, Bool, true, false, not, ltb, eqb, cond, ◌&&◌, ◌⊎◌, inl, inr, ⊎_elim, List, [], ◌∷◌, ◌++◌, length, get_or, take, drop, map, sym, refl, ap, ◌∙◌, subst, append_assoc, append-nil, arith, ◌||◌, ◌==◌, codes, Option, Some, None, Ok, Err, Result, position, IsUtf8}
-use Rattle.std.specs.Prelude.{zero, suc}
-use Rattle.std.specs.List.{slice_split, position_or_len, before_first, after_first, All, list_all, list_any, onto_first}
-use Rattle.std.specs.Char.{is_ascii_digit}
+use Rattle.std.proofs.Common.{◌≡◌, ℕ, ◌+◌, ◌<◌, ◌≤◌, ◌^◌, Bool, true, false, ltb, eqb, cond, ◌&&◌, ◌⊎◌, inl, inr, ⊎_elim, List, [], ◌∷◌, ◌++◌, length, get_or, take, drop, map, sym, refl, ap, ◌∙◌, subst, append_assoc, append-nil, arith, ◌||◌, codes, Some, None, Ok, Err, Result, position, IsUtf8}
+use Rattle.std.specs.List.{slice_split, position_or_len, All, list_any, onto_first}
 use Rattle.std.specs.Str.{all_ascii_digits, bytes_eq}
-use Rattle.std.specs.Str.Parse.{digits_value, ParsesUnsigned, IsNumeral, AllDigits}
-use Rattle.std.specs.Result.{OkIff}
+use Rattle.std.specs.Str.Parse.{digits_value, ParsesUnsigned}
 use Rattle.std.proofs.lemmas.Str.Parse.{IsNumeralModel, numerals_by_value, tells_all_ascii_digits, parse_digits}
 use Rattle.std.proofs.lemmas.Fmt.{IsAscii-from_digits}
 use Rattle.std.proofs.lemmas.Bool.{cond-true, cond-false, and_from, and_parts, lt-ltb, ltb-true, cases_Bool, eq-eqb}
@@ -22,7 +19,7 @@ use Rattle.fs_script.specs.declared.fault.FaultKind.{FaultKind}
 use Rattle.fs_script.specs.declared.fault.FaultKind.TheVariants as kind
 use Rattle.fs_script.specs.Calls.{hex_at, or_fault, ◌>>=◌, or_bad_path}
 use Rattle.fs_script.specs.Answers.{FailsAs, FailsThere, hex_fault_of, path_fault_of, pushed_word}
-use Rattle.fs_script.specs.Journal.{words_of, entry_of, name_at, names_at, at_line, entry_in_line, entries_from, is_tree_line}
+use Rattle.fs_script.specs.Journal.{words_of, name_at, names_at, at_line, entry_in_line, entries_from, is_tree_line}
 use Rattle.fs_script.specs.declared.fault.ScriptFault.{ScriptFault}
 use Rattle.fs_names.specs.Keys.{Key}
 use Rattle.fs_names.specs.Reading.{FailsWith}

@@ -1,5 +1,5 @@
 -- Threads, lists of calls and words, and the steps of reading a script.
-use Rattle.std.proofs.Common.{◌≡◌, ℕ, ◌+◌, Bool, true, false, not, List, [], ◌∷◌, ◌++◌, length, map, Option, Some, None, refl, sym, ap, ◌∙◌, position, cond, ◌||◌, arith, get_or, set, Result, Ok, Err, ◌<◌, ◌≤◌}
+use Rattle.std.proofs.Common.{◌≡◌, ℕ, ◌+◌, Bool, true, false, not, List, [], ◌∷◌, ◌++◌, length, map, refl, sym, ap, ◌∙◌, position, ◌||◌, arith, get_or, set, Result, Ok, Err}
 use Rattle.std.specs.Prelude.{zero, suc}
 use Rattle.std.specs.List.{list_any, prefix_len}
 use Rattle.std.specs.Str.{bytes_eq}

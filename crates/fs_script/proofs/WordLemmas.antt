@@ -1,11 +1,11 @@
 -- Words, lines and texts: what is joined is cut again.
-use Rattle.std.proofs.Common.{◌≡◌, ◌≢◌, ℕ, ◌+◌, ◌-◌, ◌<◌, ◌≤◌, ◌^◌, Bool, true, false, eqb, List, [], ◌∷◌, ◌++◌, length, get_or, map, sym, refl, ap, ◌∙◌, append_assoc, append-nil, arith, ltb}
-use Rattle.std.specs.List.{slice_split, join_with_byte, flat_map, All, AllByRecursion, list_any}
+use Rattle.std.proofs.Common.{◌≡◌, ℕ, ◌<◌, false, List, [], ◌∷◌, ◌++◌, length, map, sym, refl, ap, ◌∙◌, append_assoc, append-nil, arith}
+use Rattle.std.specs.List.{slice_split, join_with_byte, flat_map, All, AllByRecursion}
 use Rattle.std.proofs.lemmas.List.Splits.{slice_split_at, slice_split_none}
 use Rattle.std.proofs.lemmas.List.Elements.{All-weaker, All-append, All-cons, All-nil}
 use Rattle.std.proofs.lemmas.Bool.Decides.{nat_tests}
 use Rattle.fs_script.specs.Words.{escaped}
-use Rattle.fs_script.specs.Lines.{is_line_feed, is_space, is_empty, without_last_empty, lines_of, pieces_of, has_empty, line_text}
+use Rattle.fs_script.specs.Lines.{is_line_feed, is_space, is_empty, without_last_empty, lines_of, pieces_of, has_empty}
 
 -- no space, no line feed, nothing below
 abbrev pub IsDark : List ℕ → Type 0

@@ -1,11 +1,10 @@
 -- Worked examples of texts, computed from the definitions.
-use Rattle.std.specs.Prelude.{◌≡◌, ℕ, ◌^◌, ◌-◌, List, [], ◌∷◌, ◌++◌, Result, Ok, Err, Some, None, codes, replicate}
+use Rattle.std.specs.Prelude.{◌≡◌, ℕ, ◌^◌, ◌-◌, List, [], ◌∷◌, ◌++◌, Result, Ok, Err, Some, None, codes}
 use Prim.Native.String.{String}
 use Rattle.fs_names.specs.Reading.{names}
 use Rattle.fs_names.specs.Keys.{Key}
 use Rattle.fs_names.specs.declared.kind.Kind.TheVariants as kind
 use Rattle.fs_names.specs.declared.fault.PathFault.TheVariants.{NotAbsolute, Nul, TrailingSlash}
-use Rattle.fs_seq.specs.declared.call.Call.{Call}
 use Rattle.fs_seq.specs.declared.call.Call.TheVariants.{Mkdir, Mknod, Unlink, Rmdir, Rename, Stat, Readdir, Read, Write, Truncate}
 use Rattle.fs_seq.specs.declared.reply.Reply.TheVariants as answer
 use Rattle.fs_seq.specs.declared.errno.Errno.TheVariants.{Enoent, Eexist}

@@ -1,5 +1,5 @@
 -- What an entry must be to be read back: all that an entry of the code always is.
-use Rattle.std.specs.Prelude.{◌≡◌, ℕ, ◌<◌, ◌≤◌, ◌^◌, true, List, length, Ok}
+use Rattle.std.specs.Prelude.{◌≡◌, ℕ, ◌<◌, ◌≤◌, ◌^◌, true, List, length}
 use Rattle.std.specs.List.{AllByRecursion}
 use Rattle.fs_names.specs.Names.{Name, can_name}
 use Rattle.fs_names.specs.Keys.{Key}

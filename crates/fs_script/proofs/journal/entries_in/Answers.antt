@@ -1,8 +1,7 @@
-use Rattle.std.proofs.Common.{◌≡◌, true, false, sym, ◌∙◌, ap, rules, arith, map, codes}
-use Rattle.std.specs.Str.{bytes_eq}
+use Rattle.std.proofs.Common.{◌≡◌, true, false, sym, ◌∙◌, arith}
 use Rattle.fs_script.specs.Lines.{is_passed_over, lines_of}
-use Rattle.fs_script.specs.Journal.{is_tree_line, entries_from}
-use Rattle.fs_script.proofs.ReadLemmas.{after_passed, after_tree, after_entry, after_fault, after_all, with_front}
+use Rattle.fs_script.specs.Journal.{is_tree_line}
+use Rattle.fs_script.proofs.ReadLemmas.{after_passed, after_tree, after_entry, after_fault, after_all}
 use Rattle.fs_script.proofs.journal.entries_in.Goals as goal
 
 pub lines-preserved-then-is_passed_over : goal.lines-preserved-then-is_passed_over

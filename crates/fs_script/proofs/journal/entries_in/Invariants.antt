@@ -1,4 +1,4 @@
-use Rattle.std.proofs.Common.{◌≡◌, ◌+◌, ◌≤◌, length, map}
+use Rattle.std.proofs.Common.{◌≡◌, ◌+◌, ◌≤◌, length}
 use Rattle.fs_script.specs.Lines.{lines_of}
 use Rattle.fs_script.specs.Journal.{entries_from}
 use Rattle.fs_script.proofs.ReadLemmas.{with_front}

@@ -1,4 +1,4 @@
-use Rattle.std.proofs.Common.{◌≡◌, ◌<◌, length, arith, sym, ◌∙◌, ap, rules, length-drop, drop, take, ◌-◌, ◌+◌, ◌∷◌}
+use Rattle.std.proofs.Common.{◌<◌, length, arith, sym, ◌∙◌, ap, length-drop, drop, ◌+◌, ◌∷◌}
 use Rattle.std.proofs.lemmas.Bool.Decides.{nat_tests}
 use Rattle.fs_script.specs.Lines.{lines_of}
 use Rattle.fs_script.proofs.ReadLemmas.{lines_cut, lines_whole}

@@ -1,4 +1,4 @@
-use Rattle.std.proofs.Common.{◌≡◌, length, map}
+use Rattle.std.proofs.Common.{◌≡◌, length}
 use Rattle.fs_script.specs.Journal.{words_of}
 use Rattle.fs_script.proofs.ReadLemmas.{with_front, words_in}
 use Rattle.fs_script.proofs.lines.cut_words.Given as goal

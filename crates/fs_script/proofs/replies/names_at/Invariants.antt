@@ -1,4 +1,4 @@
-use Rattle.std.proofs.Common.{◌≡◌, ◌-◌, ◌≤◌, length, map, drop}
+use Rattle.std.proofs.Common.{◌≡◌, ◌-◌, length, drop}
 use Rattle.fs_script.specs.Journal.{names_at}
 use Rattle.fs_script.proofs.ReadLemmas.{with_front, words_in}
 use Rattle.fs_script.proofs.replies.names_at.Given as goal

@@ -1,4 +1,4 @@
-use Rattle.std.proofs.Common.{rules, ◌≡◌, ◌≢◌, ◌≤◌, [], length, arith, sym, ap, ◌∙◌, ◌++◌, ◌+◌, refl}
+use Rattle.std.proofs.Common.{rules, ◌≢◌, ◌≤◌, [], length, arith, ap, ◌∙◌, ◌++◌, ◌+◌, refl}
 use Rattle.fs_script.specs.Words.{escaped}
 use Rattle.fs_script.proofs.WriteLemmas.{root_word, name_pushed, path_pushed}
 use Rattle.fs_script.proofs.writing.push_path.Goals as goal

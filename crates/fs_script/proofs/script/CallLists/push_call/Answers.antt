@@ -1,4 +1,4 @@
-use Rattle.std.proofs.Common.{◌≡◌, ◌+◌, ◌-◌, length, map, arith, sym, ap, ◌∙◌}
+use Rattle.std.proofs.Common.{◌≡◌, ◌+◌, ◌-◌, length, arith, sym, ap, ◌∙◌}
 use Rattle.fs_script.proofs.ScriptLemmas.{call_pushed, length_mapped}
 use Rattle.fs_script.proofs.script.CallLists.push_call.Goals as goal
 

@@ -1,4 +1,4 @@
-use Rattle.std.proofs.Common.{sym, ap, ◌∙◌, refl}
+use Rattle.std.proofs.Common.{refl}
 use Rattle.fs_script.proofs.ScriptLemmas.{name_added}
 use Rattle.fs_script.proofs.script.ThreadNames.push.Goals as goal
 use Rattle.fs_script.proofs.script.ThreadNames.push.Goals.{in-Ok-insert, in-Err}
