@@ -1,0 +1,16 @@
+//! The limits of texts, each named in this one place.
+
+/// The most bytes that a text of a script or a journal has.
+pub const TEXT_LIMIT: usize = 16_777_216;
+
+/// The most threads that a script has.
+pub const THREAD_LIMIT: usize = 256;
+
+/// The most calls that a script has, those of all threads together.
+pub const CALL_LIMIT: usize = 65_536;
+
+/// The most events that a script's schedule gives, and that one word of it gives.
+pub const EVENT_LIMIT: u64 = 1_000_000;
+
+/// The most bytes that a thread's name has.
+pub const THREAD_NAME_LIMIT: usize = 16;

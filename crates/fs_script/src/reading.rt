@@ -1,0 +1,63 @@
+//! Scripts that are read from their text.
+
+ghost use Rattle.std.specs.Prelude.{◌≤◌, length};
+ghost use Rattle.fs_script.specs.Lines.{lines_of};
+ghost use Rattle.fs_script.specs.Script.{nothing_yet, script_from, script_of};
+ghost use Rattle.fs_script.specs.Answers.{GivesText};
+
+use crate::draft::Draft;
+use crate::fault::{FaultKind, ScriptFault};
+use crate::limits::TEXT_LIMIT;
+use crate::lines::{cut_line, is_passed_over};
+use crate::script::Script;
+use std::alloc::Global;
+
+/// The script that lines make, of which the first has the number 2.
+fn script_in(alloc: Global, text: &[u8]) -> Result<Script, ScriptFault>
+    requires { length text.now ≤ TEXT_LIMIT }
+    ensures { GivesText (λ script. script) result (script_from 2 nothing_yet (lines_of text.now)) }
+{
+    let mut draft = Draft::new(alloc);
+    let mut words = Vec::new(alloc);
+    let mut rest = text;
+    let mut number: u64 = 2;
+    'lines: while let Some((line, more)) = cut_line(rest) {
+        if is_passed_over(line) {
+            rest = more;
+            number += 1;
+            continue;
+        }
+        if let Err(kind) = draft.take_line(alloc, line, &mut words) {
+            return Err(ScriptFault { line: number, kind });
+        }
+        rest = more;
+        number += 1;
+    }
+    if !draft.in_schedule {
+        return Err(ScriptFault {
+            line: number,
+            kind: FaultKind::NoSchedule,
+        });
+    }
+    Ok(draft.script)
+}
+
+/// Reads a script. The fault is the first from the left, with its line.
+#[tactic(auto, unfolding(crate::specs::Script::script_of))]
+pub fn read_script(alloc: Global, text: &[u8]) -> Result<Script, ScriptFault>
+    ensures { GivesText (λ script. script) result (script_of text.now) }
+{
+    if text.len() > TEXT_LIMIT {
+        return Err(ScriptFault {
+            line: 1,
+            kind: FaultKind::TooLarge,
+        });
+    }
+    match cut_line(text) {
+        Some((first, rest)) if first == b"atomfs 1".as_slice() => script_in(alloc, rest),
+        _ => Err(ScriptFault {
+            line: 1,
+            kind: FaultKind::BadHeader,
+        }),
+    }
+}
