@@ -20,9 +20,6 @@ use fs_names::{ENTRY_LIMIT, Name, Path};
 use slab::Slab;
 use std::alloc::AllocError;
 
-#[cfg(test)]
-mod tests;
-
 /// An entry: the number of its directory, its place there, and the number of its node.
 #[derive(Clone, Copy)]
 struct Entry {

@@ -89,7 +89,7 @@ fn first_difference(alloc: Global, steps: &[(Do, &str, Want)]) -> Result<Option<
     let mut tree = SeqTree::new(alloc)?;
     for (i, (todo, path, want)) in steps.iter().enumerate() {
         let call = call_of(alloc, at(alloc, path)?, todo)?;
-        let reply = tree.apply(alloc, &call)?;
+        let reply = tree.apply(alloc, &call.copy(alloc)?)?;
         if !is_wanted(&reply, want) {
             return Ok(Some(i));
         }
@@ -210,6 +210,61 @@ fn errors_of_looking_and_writing(rt: HostRuntime) -> Result<(), Fail> {
         first_difference(rt.alloc(), &ERRORS_OF_LOOKING_AND_WRITING)?,
         None
     );
+    Ok(())
+}
+
+const RENAMES_IN_SEQUENCE: [(Do, &str, Want); 21] = [
+    (Do::Mkdir, "/a", Want::Done),
+    (Do::Mknod, "/a/b", Want::Done),
+    (Do::Rename("/a"), "/a", Want::Done),
+    (Do::Rename("/a/b"), "/a", Want::Fails(Errno::Einval)),
+    (Do::Rename("/z/y"), "/z", Want::Fails(Errno::Einval)),
+    (Do::Rename("/z"), "/z", Want::Fails(Errno::Enoent)),
+    (Do::Rename("/a"), "/a/b", Want::Fails(Errno::Eisdir)),
+    (Do::Mkdir, "/a/d", Want::Done),
+    (Do::Rename("/a"), "/a/d", Want::Fails(Errno::Enotempty)),
+    (Do::Mknod, "/f", Want::Done),
+    (Do::Rename("/f"), "/a", Want::Fails(Errno::Enotdir)),
+    (Do::Rename("/a"), "/f", Want::Fails(Errno::Eisdir)),
+    (Do::Mkdir, "/e", Want::Done),
+    (Do::Rename("/a"), "/e", Want::Fails(Errno::Enotempty)),
+    (Do::Rename("/e"), "/a", Want::Done),
+    (Do::Readdir, "/", Want::Names(&["e", "f"])),
+    (Do::Readdir, "/e", Want::Names(&["b", "d"])),
+    (Do::Stat, "/e/b", Want::Stat(Kind::File, 0)),
+    (Do::Stat, "/e/d", Want::Stat(Kind::Dir, 0)),
+    (Do::Stat, "/f", Want::Stat(Kind::File, 0)),
+    (Do::Stat, "/a", Want::Fails(Errno::Enoent)),
+];
+
+#[test]
+fn renames_in_sequence(rt: HostRuntime) -> Result<(), Fail> {
+    assert_eq!(rt; first_difference(rt.alloc(), &RENAMES_IN_SEQUENCE)?, None);
+    Ok(())
+}
+
+const ERRORS_OF_RENAMES: [(Do, &str, Want); 16] = [
+    (Do::Mkdir, "/d", Want::Done),
+    (Do::Mkdir, "/d/e", Want::Done),
+    (Do::Mknod, "/f", Want::Done),
+    (Do::Rename("/x"), "/", Want::Fails(Errno::Ebusy)),
+    (Do::Rename("/"), "/f", Want::Fails(Errno::Ebusy)),
+    (Do::Rename("/f/y"), "/x/y", Want::Fails(Errno::Enoent)),
+    (Do::Rename("/x/y"), "/f/y", Want::Fails(Errno::Enotdir)),
+    (Do::Rename("/x/y"), "/f", Want::Fails(Errno::Enoent)),
+    (Do::Rename("/f/y"), "/z", Want::Fails(Errno::Enotdir)),
+    (Do::Rename("/d"), "/d/x", Want::Fails(Errno::Enoent)),
+    (Do::Rename("/d"), "/d/e", Want::Fails(Errno::Enotempty)),
+    (Do::Rename("/g"), "/f", Want::Done),
+    (Do::Rename("/d/g"), "/g", Want::Done),
+    (Do::Rename("/h"), "/d", Want::Done),
+    (Do::Readdir, "/h", Want::Names(&["e", "g"])),
+    (Do::Readdir, "/", Want::Names(&["h"])),
+];
+
+#[test]
+fn errors_of_renames(rt: HostRuntime) -> Result<(), Fail> {
+    assert_eq!(rt; first_difference(rt.alloc(), &ERRORS_OF_RENAMES)?, None);
     Ok(())
 }
 
