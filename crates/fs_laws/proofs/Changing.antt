@@ -92,26 +92,33 @@ seen_made t d x node s is bare dir none = seen_by new m (sorted-inserted t p nod
   where
     p : Key
     p = d ++ x ∷ []
+
     new : Tree
     new = inserted t (d ++ x ∷ []) node
+
     m : Map Shape
     m = put (d ++ x ∷ []) (Some s) (put d (Some (Dir (inserted_name x (names_of (seen t d))))) (seen t))
+
     longer : d ≡ d ++ x ∷ [] → ⊥
     longer e = let z : ◌≡◌ {A = Option Key} (Some []) (Some (x ∷ [])) = sym (ap (after_prefix d) (sym (append-nil d)) ∙ prefix_append d []) ∙ ap (after_prefix d) e ∙ prefix_append d (x ∷ []) in cc
+
     empty : (z : Name) → false ≡ is_some (look (inserted t (d ++ x ∷ []) node) ((d ++ x ∷ []) ++ z ∷ []))
     empty z = sym (ap is_some (inserted_else t (d ++ x ∷ []) node ((d ++ x ∷ []) ++ z ∷ []) (λ e. too_long (d ++ x ∷ []) z e) ∙ nothing_below t (d ++ x ∷ []) is (λ h. no_dir (sym none ∙ h)) z []))
       where
         too_long : (k : Key) (z : Name) → k ++ z ∷ [] ≡ k → ⊥
         too_long k z e = let w : ◌≡◌ {A = Option Key} (Some (z ∷ [])) (Some []) = sym (prefix_append k (z ∷ [])) ∙ ap (after_prefix k) (e ∙ sym (append-nil k)) ∙ prefix_append k [] in cc
+
     fresh : Bare node s → ShowsAt (inserted t (d ++ x ∷ []) node) (d ++ x ∷ []) (Some node) (Some s)
     fresh (A_dir e f) = subst (λ (n : Node). ShowsAt (inserted t (d ++ x ∷ []) node) (d ++ x ∷ []) (Some n) (Some s)) (sym e) (subst (λ (u : Shape). ShowsAt (inserted t (d ++ x ∷ []) node) (d ++ x ∷ []) (Some trees.Dir) (Some u)) (sym f) (tt, empty))
     fresh (A_file bytes e f) = subst (λ (n : Node). ShowsAt (inserted t (d ++ x ∷ []) node) (d ++ x ∷ []) (Some n) (Some s)) (sym e) (subst (λ (u : Shape). ShowsAt (inserted t (d ++ x ∷ []) node) (d ++ x ∷ []) (Some (trees.File bytes)) (Some u)) (sym f) refl)
+
     parent : (z : Name) → has_name z (inserted_name x (names_in t d)) ≡ is_some (look (inserted t (d ++ x ∷ []) node) (d ++ z ∷ []))
     parent z = by (same_name_or z x)
       where
         by : SameName z x → has_name z (inserted_name x (names_in t d)) ≡ is_some (look (inserted t (d ++ x ∷ []) node) (d ++ z ∷ []))
         by (Equals e) = ap (λ (y : Name). has_name y (inserted_name x (names_in t d))) e ∙ has_with x (names_in t d) ∙ sym (ap (λ (y : Name). is_some (look (inserted t (d ++ x ∷ []) node) (d ++ y ∷ []))) e ∙ ap is_some (inserted_here t (d ++ x ∷ []) node))
         by (Differs e h) = with_else x z (names_in t d) e ∙ old_has t d z ∙ sym (ap is_some (inserted_else t (d ++ x ∷ []) node (d ++ z ∷ []) (λ i. h (child_of d d z x i).1)))
+
     at : (k : Key) → SameKey k (d ++ x ∷ []) → SameKey k d → ShowsAt (inserted t (d ++ x ∷ []) node) k (look (inserted t (d ++ x ∷ []) node) k) (put (d ++ x ∷ []) (Some s) (put d (Some (Dir (inserted_name x (names_of (seen t d))))) (seen t)) k)
     at k (Same e i) r = subst (λ (y : Key). ShowsAt new y (look new y) (m y)) (sym e)
         (subst (λ (u : Option Shape). ShowsAt new p (look new p) u) (sym (put_here p (Some s) (put d (Some (Dir (inserted_name x (names_of (seen t d))))) (seen t))))
@@ -128,12 +135,14 @@ seen_written t p old bytes is file = seen_by (inserted t p (trees.File bytes)) (
   where
     new : Tree
     new = inserted t p (trees.File bytes)
+
     names : (k : Key) → is_some (look (inserted t p (trees.File bytes)) k) ≡ is_some (look t k)
     names k = by (same_or k p)
       where
         by : SameKey k p → is_some (look (inserted t p (trees.File bytes)) k) ≡ is_some (look t k)
         by (Same e i) = ap (λ (y : Key). is_some (look (inserted t p (trees.File bytes)) y)) e ∙ ap is_some (inserted_here t p (trees.File bytes)) ∙ sym (ap (λ (y : Key). is_some (look t y)) e ∙ ap is_some file)
         by (Other h i) = ap is_some (inserted_else t p (trees.File bytes) k h)
+
     at : (k : Key) → SameKey k p → ShowsAt (inserted t p (trees.File bytes)) k (look (inserted t p (trees.File bytes)) k) (put p (Some (File bytes)) (seen t) k)
     at k (Same e i) = subst (λ (y : Key). ShowsAt new y (look new y) (put p (Some (File bytes)) (seen t) y)) (sym e)
         (subst (λ (u : Option Shape). ShowsAt new p (look new p) u) (sym (put_here p (Some (File bytes)) (seen t))) (subst (λ (o : Option Node). ShowsAt new p o (Some (File bytes))) (sym (inserted_here t p (trees.File bytes))) refl))
@@ -145,18 +154,23 @@ seen_removed t d x is dir = seen_by new m (sorted-removed t p (true_T is.sorted)
   where
     p : Key
     p = d ++ x ∷ []
+
     new : Tree
     new = removed t (d ++ x ∷ [])
+
     m : Map Shape
     m = put (d ++ x ∷ []) None (put d (Some (Dir (removed_name x (names_of (seen t d))))) (seen t))
+
     longer : d ≡ d ++ x ∷ [] → ⊥
     longer e = let z : ◌≡◌ {A = Option Key} (Some []) (Some (x ∷ [])) = sym (ap (after_prefix d) (sym (append-nil d)) ∙ prefix_append d []) ∙ ap (after_prefix d) e ∙ prefix_append d (x ∷ []) in cc
+
     parent : (z : Name) → has_name z (removed_name x (names_in t d)) ≡ is_some (look (removed t (d ++ x ∷ [])) (d ++ z ∷ []))
     parent z = by (same_name_or z x)
       where
         by : SameName z x → has_name z (removed_name x (names_in t d)) ≡ is_some (look (removed t (d ++ x ∷ [])) (d ++ z ∷ []))
         by (Equals e) = ap (λ (y : Name). has_name y (removed_name x (names_in t d))) e ∙ has_without x (names_in t d) ∙ sym (ap (λ (y : Name). is_some (look (removed t (d ++ x ∷ [])) (d ++ y ∷ []))) e ∙ ap is_some (removed_here t (d ++ x ∷ [])))
         by (Differs e h) = without_else x z (names_in t d) e ∙ old_has t d z ∙ sym (ap is_some (removed_else t (d ++ x ∷ []) (d ++ z ∷ []) (λ i. h (child_of d d z x i).1)))
+
     at : (k : Key) → SameKey k (d ++ x ∷ []) → SameKey k d → ShowsAt (removed t (d ++ x ∷ [])) k (look (removed t (d ++ x ∷ [])) k) (put (d ++ x ∷ []) None (put d (Some (Dir (removed_name x (names_of (seen t d))))) (seen t)) k)
     at k (Same e i) r = subst (λ (y : Key). ShowsAt new y (look new y) (m y)) (sym e)
         (subst (λ (u : Option Shape). ShowsAt new p (look new p) u) (sym (put_here p None (put d (Some (Dir (removed_name x (names_of (seen t d))))) (seen t))))

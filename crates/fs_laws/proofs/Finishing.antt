@@ -117,7 +117,7 @@ from_full None same_path a b xs ys room = refl
 from_full (Some m) true a b xs ys room = refl
 from_full (Some m) false a b xs ys room = ap moves_row (full_there m a b xs ys room)
 
--- M6: a q that is a proper prefix of a p that is there is a directory with entries
+-- a q that is a proper prefix of a p that is there is a directory with entries
 prefix_read : (graph : Graph) → IsGraph graph → (n : ℕ) (p q : Key) (o : Option Key) (same_path room : Bool) → after_prefix q p ≡ o
     → from_row (spell_from graph n p) same_path (there_by (has_more o) (spell_from graph n q)) room ≡ from_row (spell_from graph n p) same_path (spell_from graph n q) room
 prefix_read graph is n p q None same_path room e = refl

@@ -110,10 +110,13 @@ agrees_step t book k (Begin c seat call) a next = record {
   where
     new : k.calls c ≡ None
     new = sym (a.call c) ∙ next.0
+
     not_back : k.returned c ≡ false
     not_back = sym (a.back c) ∙ (a.unknown c next.0).1
+
     free : is_waiting k.returned (k.last seat) ≡ false
     free = waits_some k.returned (k.last seat) (sym (a.busy seat) ∙ next.1)
+
     busy : (s : ℕ) → Place (Option ℕ) seat (Some c) book.busy s → set_at seat (Some c) k.last s ≡ changed k.last seat (Some c) s → set_at seat (Some c) book.busy s ≡ cond (is_waiting k.returned (changed k.last seat (Some c) s)) (changed k.last seat (Some c) s) None
     busy s p same = subst (λ (o : Option ℕ). set_at seat (Some c) book.busy s ≡ cond (is_waiting k.returned o) o None) same (by p (place seat (Some c) k.last s))
       where
@@ -122,10 +125,13 @@ agrees_step t book k (Begin c seat call) a next = record {
         by (Here i j) (Else n l) = absurd (n i)
         by (Else n j) (Here i l) = absurd (n i)
         by (Else n j) (Else m l) = j ∙ a.busy s ∙ sym (ap (λ (o : Option ℕ). cond (is_waiting k.returned o) o None) l)
+
     some_is : (x y : ℕ) → ◌≡◌ {A = Option ℕ} (Some x) (Some y) → x ≡ y
     some_is x y e = cc
+
     new_else : (s d : ℕ) → k.last s ≡ Some d → d ≡ c → ⊥
     new_else s d e i = a.known s d e (ap k.calls i ∙ new)
+
     seat_of : (s d : ℕ) → Place (Option ℕ) seat (Some c) k.last s → set_at seat (Some c) k.last s ≡ Some d → set_at c (Some seat) book.seat_of d ≡ Some s
     seat_of s d (Here i j) e = go (place c (Some seat) book.seat_of d) (some_is c d (sym j ∙ e))
       where
@@ -137,6 +143,7 @@ agrees_step t book k (Begin c seat call) a next = record {
         go : Place (Option ℕ) c (Some seat) book.seat_of d → set_at c (Some seat) book.seat_of d ≡ Some s
         go (Here x y) = absurd (new_else s d (sym j ∙ e) x)
         go (Else m y) = y ∙ a.seat s d (sym j ∙ e)
+
     known : (s d : ℕ) → Place (Option ℕ) seat (Some c) k.last s → set_at seat (Some c) k.last s ≡ Some d → Place (Option Call) c (Some call) k.calls d → set_at c (Some call) k.calls d ≡ None → ⊥
     known s d p e (Here x y) f = none (sym y ∙ f)
       where
@@ -144,6 +151,7 @@ agrees_step t book k (Begin c seat call) a next = record {
         none e = cc
     known s d (Here i j) e (Else m y) f = m (sym (some_is c d (sym j ∙ e)))
     known s d (Else n j) e (Else m y) f = a.known s d (sym j ∙ e) (sym y ∙ f)
+
     opened : (s d : ℕ) → Place (Option ℕ) c (Some seat) book.seat_of d → Place (Option ℕ) seat (Some c) k.last s → set_at c (Some seat) book.seat_of d ≡ Some s → k.returned d ≡ false → set_at seat (Some c) k.last s ≡ Some d
     opened s d (Here i j) (Here x y) e f = y ∙ ap (λ (n : ℕ). Some n) (sym i)
     opened s d (Here i j) (Else n y) e f = absurd (n (sym (some_is seat s (sym j ∙ e))))
@@ -156,8 +164,10 @@ agrees_step t book k (Commit c) a ((call, known), new) = subst (λ (o : Option C
   where
     tie : (tree.reply k.tree call ≡ reply (seen k.tree) (form call)) × (seen (tree.after k.tree call) ≡ after (seen k.tree) (form call))
     tie = t k.tree call a.is_tree
+
     same_reply_is : ◌≡◌ {A = Option Reply} (Some (reply book.tree (form call))) (Some (tree.reply k.tree call))
     same_reply_is = ap (λ (u : Map Shape). Some (reply u (form call))) a.tree ∙ ap (λ (r : Reply). Some r) (sym tie.0)
+
     made : Agrees (commit_of book c (Some call)) (played k c (Some call))
     made = record {
       call = a.call;
@@ -186,9 +196,11 @@ agrees_step t book k (Return c r) a next = record {
   where
     not_back : k.returned c ≡ false
     not_back = sym (a.back c) ∙ next.1
+
     earlier : (d : ℕ) → Place Bool c true k.returned d → set_at c true k.returned d ≡ false → k.returned d ≡ false
     earlier d (Here i j) e = let z : true ≡ false = sym j ∙ e in cc
     earlier d (Else n j) e = sym j ∙ e
+
     -- the seat of the call is free, each other as it was
     freed : (s : ℕ) → (book.seat_of c ≡ Some s) → free_seat book (book.seat_of c) s ≡ None
     freed s e = ap (λ (o : Option ℕ). free_seat book o s) e ∙ go (place s None book.busy s)
@@ -196,6 +208,7 @@ agrees_step t book k (Return c r) a next = record {
         go : Place (Option ℕ) s None book.busy s → set_at s None book.busy s ≡ None
         go (Here i j) = j
         go (Else n j) = absurd (n refl)
+
     stays : (s : ℕ) → (book.seat_of c ≡ Some s → ⊥) → free_seat book (book.seat_of c) s ≡ book.busy s
     stays s h = go (book.seat_of c) refl
       where
@@ -206,6 +219,7 @@ agrees_step t book k (Return c r) a next = record {
             by : Place (Option ℕ) seat None book.busy s → set_at seat None book.busy s ≡ book.busy s
             by (Here i j) = absurd (h (e ∙ ap (λ (n : ℕ). Some n) (sym i)))
             by (Else n j) = j
+
     busy : (s : ℕ) (o : Option ℕ) → k.last s ≡ o → free_seat book (book.seat_of c) s ≡ cond (is_waiting (changed k.returned c true) (k.last s)) (k.last s) None
     busy s None e =
         stays s (λ h. (let z : ◌≡◌ {A = Option ℕ} None (Some c) = sym e ∙ a.lasts s c h not_back in cc))
@@ -214,6 +228,7 @@ agrees_step t book k (Return c r) a next = record {
       where
         at_d : k.last s ≡ Some d → (b : Bool) → changed k.returned c true d ≡ b → cond (is_waiting (changed k.returned c true) (k.last s)) (k.last s) None ≡ cond (not b) (Some d) None
         at_d e b f = ap (λ (o : Option ℕ). cond (is_waiting (changed k.returned c true) o) o None) e ∙ ap (λ (x : Bool). cond (not x) (Some d) None) f
+
         by : Place Bool c true k.returned d → free_seat book (book.seat_of c) s ≡ cond (is_waiting (changed k.returned c true) (k.last s)) (k.last s) None
         by (Here i j) = freed s (ap book.seat_of (sym i) ∙ a.seat s d e) ∙ sym (at_d e true (sym (changed_is c true k.returned k.returned d refl) ∙ j))
         by (Else n j) =

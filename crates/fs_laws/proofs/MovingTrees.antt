@@ -48,32 +48,45 @@ seen_moved t new d x e y f = seen_by new (move (d ++ x ∷ []) (e ++ y ∷ []) (
   where
     p : Key
     p = d ++ x ∷ []
+
     q : Key
     q = e ++ y ∷ []
+
     written : Map Shape
     written = write_all (rename_writes (is_end (after_prefix d e)) d (names_of (seen t d)) x e (names_of (seen t e)) y) (seen t)
+
     d_off_p : after_prefix (d ++ x ∷ []) d ≡ None
     d_off_p = prefix_shorter d x
+
     e_off_q : after_prefix (e ++ y ∷ []) e ≡ None
     e_off_q = prefix_shorter e y
+
     d_off_q : after_prefix (e ++ y ∷ []) d ≡ None
     d_off_q = prefix_before (e ++ y ∷ []) d (x ∷ []) f.aside.1
+
     e_off_p : after_prefix (d ++ x ∷ []) e ≡ None
     e_off_p = prefix_before (d ++ x ∷ []) e (y ∷ []) f.aside.0
+
     -- a key that isn't a parent keeps its names
     write_else : (b : Bool) (k : Key) → (k ≡ d → ⊥) → (k ≡ e → ⊥) → write_all (rename_writes b d (names_of (seen t d)) x e (names_of (seen t e)) y) (seen t) k ≡ seen t k
     write_else true k nd ne = put_other d (Some (Dir (inserted_name y (removed_name x (names_of (seen t d)))))) (seen t) k nd
     write_else false k nd ne = put_other e (Some (Dir (inserted_name y (names_of (seen t e))))) (put d (Some (Dir (removed_name x (names_of (seen t d))))) (seen t)) k ne ∙ put_other d (Some (Dir (removed_name x (names_of (seen t d))))) (seen t) k nd
+
     differs_below : (k a b : Key) → after_prefix k a ≡ Some b → (c : Key) → after_prefix k c ≡ None → a ≡ c → ⊥
     differs_below k a b i c off j = let z : ◌≡◌ {A = Option Key} (Some b) None = sym i ∙ ap (after_prefix k) j ∙ off in cc
+
     not_name : (k : Key) (z w : Name) → (z ≡ w → ⊥) → k ++ z ∷ [] ≡ k ++ w ∷ [] → ⊥
     not_name k z w n i = n (child_of k k z w i).1
+
     same_else : (k : Key) → after_prefix (d ++ x ∷ []) k ≡ None → after_prefix (e ++ y ∷ []) k ≡ None → look new k ≡ look t k
     same_else k a b = f.moved.others k a b
+
     arrived_here : is_some (look new (e ++ y ∷ [])) ≡ true
     arrived_here = ap (λ (k : Key). is_some (look new k)) (sym (append-nil (e ++ y ∷ []))) ∙ ap is_some (f.moved.arrived []) ∙ ap (λ (k : Key). is_some (look t k)) (append-nil (d ++ x ∷ [])) ∙ f.there
+
     gone_here : is_some (look new (d ++ x ∷ [])) ≡ false
     gone_here = ap (λ (k : Key). is_some (look new k)) (sym (append-nil (d ++ x ∷ []))) ∙ ap is_some (f.moved.gone [])
+
     -- the names of the one directory
     has_both : d ≡ e → (z : Name) → has_name z (inserted_name y (removed_name x (names_in t d))) ≡ is_some (look new (d ++ z ∷ []))
     has_both same z = by (same_name_or z y) (same_name_or z x)
@@ -84,6 +97,7 @@ seen_moved t new d x e y f = seen_by new (move (d ++ x ∷ []) (e ++ y ∷ []) (
         by (Differs i n) (Differs j m) =
             with_else y z (removed_name x (names_in t d)) i ∙ without_else x z (names_in t d) j ∙ old_has t d z
             ∙ sym (ap is_some (same_else (d ++ z ∷ []) (child_off (d ++ x ∷ []) d z d_off_p (not_name d z x m)) (child_off (e ++ y ∷ []) d z d_off_q (λ h. n (child_of d e z y h).1))))
+
     has_less : (d ≡ e → ⊥) → (z : Name) → has_name z (removed_name x (names_in t d)) ≡ is_some (look new (d ++ z ∷ []))
     has_less other z = by (same_name_or z x)
       where
@@ -92,6 +106,7 @@ seen_moved t new d x e y f = seen_by new (move (d ++ x ∷ []) (e ++ y ∷ []) (
         by (Differs j m) =
             without_else x z (names_in t d) j ∙ old_has t d z
             ∙ sym (ap is_some (same_else (d ++ z ∷ []) (child_off (d ++ x ∷ []) d z d_off_p (not_name d z x m)) (child_off (e ++ y ∷ []) d z d_off_q (λ h. other (child_of d e z y h).0))))
+
     has_more : (d ≡ e → ⊥) → (z : Name) → has_name z (inserted_name y (names_in t e)) ≡ is_some (look new (e ++ z ∷ []))
     has_more other z = by (same_name_or z y)
       where
@@ -100,6 +115,7 @@ seen_moved t new d x e y f = seen_by new (move (d ++ x ∷ []) (e ++ y ∷ []) (
         by (Differs i n) =
             with_else y z (names_in t e) i ∙ old_has t e z
             ∙ sym (ap is_some (same_else (e ++ z ∷ []) (child_off (d ++ x ∷ []) e z e_off_p (λ h. other (sym (child_of e d z x h).0))) (child_off (e ++ y ∷ []) e z e_off_q (not_name e z y n))))
+
     ends_same : (b : Bool) → is_end (after_prefix d e) ≡ b → (o : Option Key) → after_prefix d e ≡ o → (b ≡ true → d ≡ e) × (b ≡ false → d ≡ e → ⊥)
     ends_same b i None j = ((λ h. (let z : false ≡ true = sym (ap is_end j) ∙ i ∙ h in cc)), (λ h k. (let z : ◌≡◌ {A = Option Key} None (Some []) = sym j ∙ ap (after_prefix d) (sym k) ∙ itself d in cc)))
     ends_same b i (Some []) j = ((λ h. sym (prefix_some d e [] j ∙ append-nil d)), (λ h k. (let z : true ≡ false = sym (ap is_end j) ∙ i ∙ h in cc)))
@@ -108,10 +124,13 @@ seen_moved t new d x e y f = seen_by new (move (d ++ x ∷ []) (e ++ y ∷ []) (
     -- at a parent
     dir_at : (k : Key) (names : List Name) → look new k ≡ Some trees.Dir → Rising names → ((z : Name) → has_name z names ≡ is_some (look new (k ++ z ∷ []))) → (s : Option Shape) → s ≡ Some (Dir names) → ShowsAt new k (look new k) s
     dir_at k names l r h s i = subst (ShowsAt new k (look new k)) (sym i) (subst (λ (o : Option Node). ShowsAt new k o (Some (Dir names))) (sym l) (r, h))
+
     new_d : look new d ≡ Some trees.Dir
     new_d = same_else d d_off_p d_off_q ∙ f.from_dir
+
     new_e : look new e ≡ Some trees.Dir
     new_e = same_else e e_off_p e_off_q ∙ f.to_dir
+
     at_d : (b : Bool) → is_end (after_prefix d e) ≡ b → ShowsAt new d (look new d) (write_all (rename_writes b d (names_of (seen t d)) x e (names_of (seen t e)) y) (seen t) d)
     at_d true i =
         dir_at d (inserted_name y (removed_name x (names_in t d))) new_d (rising_with y (removed_name x (names_in t d)) (rising_without x (names_in t d) (rising_names t d (true_T f.is.sorted)))) (has_both ((ends_same true i (after_prefix d e) refl).0 refl))
@@ -122,6 +141,7 @@ seen_moved t new d x e y f = seen_by new (move (d ++ x ∷ []) (e ++ y ∷ []) (
         (put e (Some (Dir (inserted_name y (names_of (seen t e))))) (put d (Some (Dir (removed_name x (names_of (seen t d))))) (seen t)) d)
         (put_other e (Some (Dir (inserted_name y (names_of (seen t e))))) (put d (Some (Dir (removed_name x (names_of (seen t d))))) (seen t)) d ((ends_same false i (after_prefix d e) refl).1 refl)
         ∙ put_here d (Some (Dir (removed_name x (names_of (seen t d))))) (seen t) ∙ ap (λ (ns : List Name). Some (Dir (removed_name x ns))) (names_seen t d f.from_dir))
+
     at_e : (b : Bool) → is_end (after_prefix d e) ≡ b → (e ≡ d → ⊥) → ShowsAt new e (look new e) (write_all (rename_writes b d (names_of (seen t d)) x e (names_of (seen t e)) y) (seen t) e)
     at_e true i other = absurd (other (sym ((ends_same true i (after_prefix d e) refl).0 refl)))
     at_e false i other =
@@ -138,10 +158,10 @@ seen_moved t new d x e y f = seen_by new (move (d ++ x ∷ []) (e ++ y ∷ []) (
     below : (k : Key) (a b : Option Key) → after_prefix (e ++ y ∷ []) k ≡ a → after_prefix (d ++ x ∷ []) k ≡ b → ShowsAt new k (look new k) (move (d ++ x ∷ []) (e ++ y ∷ []) (write_all (rename_writes (is_end (after_prefix d e)) d (names_of (seen t d)) x e (names_of (seen t e)) y) (seen t)) k)
     below k (Some r) b i j = subst (λ (l : Key). ShowsAt new l (look new l) (move (d ++ x ∷ []) (e ++ y ∷ []) (write_all (rename_writes (is_end (after_prefix d e)) d (names_of (seen t d)) x e (names_of (seen t e)) y) (seen t)) l)) (sym (prefix_some (e ++ y ∷ []) k r i))
         (subst (ShowsAt new ((e ++ y ∷ []) ++ r) (look new ((e ++ y ∷ []) ++ r))) (sym (move_to (d ++ x ∷ []) (e ++ y ∷ []) (write_all (rename_writes (is_end (after_prefix d e)) d (names_of (seen t d)) x e (names_of (seen t e)) y) (seen t)) r
-            ∙ write_else (is_end (after_prefix d e)) ((d ++ x ∷ []) ++ r) (differs_below (d ++ x ∷ []) ((d ++ x ∷ []) ++ r) r (prefix_append (d ++ x ∷ []) r) d d_off_p) (differs_below (d ++ x ∷ []) ((d ++ x ∷ []) ++ r) r (prefix_append (d ++ x ∷ []) r) e e_off_p)))
+        ∙ write_else (is_end (after_prefix d e)) ((d ++ x ∷ []) ++ r) (differs_below (d ++ x ∷ []) ((d ++ x ∷ []) ++ r) r (prefix_append (d ++ x ∷ []) r) d d_off_p) (differs_below (d ++ x ∷ []) ((d ++ x ∷ []) ++ r) r (prefix_append (d ++ x ∷ []) r) e e_off_p)))
         (subst (λ (o : Option Node). ShowsAt new ((e ++ y ∷ []) ++ r) o (seen t ((d ++ x ∷ []) ++ r))) (sym (f.moved.arrived r))
-            (shows_same t new ((d ++ x ∷ []) ++ r) ((e ++ y ∷ []) ++ r) (look t ((d ++ x ∷ []) ++ r)) (true_T f.is.sorted)
-                (λ z. ap (λ (l : Key). is_some (look new l)) (append_assoc (e ++ y ∷ []) r (z ∷ [])) ∙ ap is_some (f.moved.arrived (r ++ z ∷ [])) ∙ ap (λ (l : Key). is_some (look t l)) (sym (append_assoc (d ++ x ∷ []) r (z ∷ [])))))))
+        (shows_same t new ((d ++ x ∷ []) ++ r) ((e ++ y ∷ []) ++ r) (look t ((d ++ x ∷ []) ++ r)) (true_T f.is.sorted)
+        (λ z. ap (λ (l : Key). is_some (look new l)) (append_assoc (e ++ y ∷ []) r (z ∷ [])) ∙ ap is_some (f.moved.arrived (r ++ z ∷ [])) ∙ ap (λ (l : Key). is_some (look t l)) (sym (append_assoc (d ++ x ∷ []) r (z ∷ [])))))))
     below k None (Some r) i j =
         subst (ShowsAt new k (look new k)) (sym (move_gone (d ++ x ∷ []) (e ++ y ∷ []) (write_all (rename_writes (is_end (after_prefix d e)) d (names_of (seen t d)) x e (names_of (seen t e)) y) (seen t)) k r i j))
         (subst (λ (o : Option Node). ShowsAt new k o None) (sym (ap (look new) (prefix_some (d ++ x ∷ []) k r j) ∙ f.moved.gone r)) tt)

@@ -77,6 +77,7 @@ resolves_from t is (x ∷ rest) front trees.Dir e = go (look t (front ++ x ∷ [
   where
     here : seen t (front ++ []) ≡ Some (Dir (names_in t front))
     here = seen_end t front ∙ ap (shape_of t front) e
+
     go : (o : Option Node) → look t (front ++ x ∷ []) ≡ o → ((m : Node) → look t (front ++ x ∷ []) ≡ Some m → resolve (λ k. seen t ((front ++ x ∷ []) ++ k)) rest ≡ cond {A = Option Errno} (is_some (look t ((front ++ x ∷ []) ++ rest))) None (verdict_along t (front ++ x ∷ []) rest))
         → resolve (λ k. seen t (front ++ k)) (x ∷ rest) ≡ cond {A = Option Errno} (is_some (look t (front ++ x ∷ rest))) None (verdict_along t front (x ∷ rest))
     go None h rec =

@@ -160,7 +160,7 @@ looked_fails m (In c p) e h = ap (λ (o : Edit). changed (edit_change (parent_of
 looked_fails m (Rename p q) e h =
     ap (λ (b : Bool). changed (move_change b (rename_writes (is_end (after_prefix (parent_of p) (parent_of q))) (parent_of p) (names_of (m (parent_of p))) (last_of p) (parent_of q) (names_of (m (parent_of q))) (last_of q)) p q) m)
     (rename_fails (rename_row (resolve_dir m (parent_of p)) (resolve_dir m (parent_of q)) (m p) (is_end (after_prefix p q)) (m q) (is_end (after_prefix (parent_of p) (parent_of q)) || not (is_full (m (parent_of q))))) e
-        (rename_true (resolve_dir m (parent_of p)) (resolve_dir m (parent_of q)) (m p) (is_end (after_prefix p q)) (m q) (is_end (after_prefix (parent_of p) (parent_of q)) || not (is_full (m (parent_of q))))) h)
+    (rename_true (resolve_dir m (parent_of p)) (resolve_dir m (parent_of q)) (m p) (is_end (after_prefix p q)) (m q) (is_end (after_prefix (parent_of p) (parent_of q)) || not (is_full (m (parent_of q))))) h)
 
 outcome_fails : (m : Map Shape) (f : Form) (e : Errno) → reply m f ≡ Failed e → after m f ≡ m
 outcome_fails m f e h = go (by_text f) h
@@ -177,13 +177,13 @@ row_none t call h = or_else-none (errors.by_text call) (row t call) h
 make_tree : (t : Tree) → IsTree t → (c : EntryCall) (p : Key) (node : Node) (s : Shape) → Bare node s → HasNames p → Makes t p → (in_row c (resolve_dir (seen t) (parent_of p)) (is_full (seen t (parent_of p))) (seen t p)).1 ≡ Add s → (k : Key) → seen (inserted t p node) k ≡ changed (looked (seen t) (In c p)).1 (seen t) k
 make_tree t is c p node s bare more makes add k =
     subst (λ (y : Key). seen (inserted t y node) k ≡ put y (Some s) (put (parent_of p) (Some (Dir (inserted_name (last_of p) (names_of (seen t (parent_of p)))))) (seen t)) k) (sym (key_is p more))
-        (seen_made t (parent_of p) (last_of p) node s is bare makes.parent (ap (look t) (sym (key_is p more)) ∙ makes.absent) k)
+    (seen_made t (parent_of p) (last_of p) node s is bare makes.parent (ap (look t) (sym (key_is p more)) ∙ makes.absent) k)
     ∙ sym (ap (λ (o : Edit). changed (edit_change (parent_of p) (names_of (seen t (parent_of p))) (last_of p) p o) (seen t) k) add)
 
 remove_tree : (t : Tree) → IsTree t → (c : EntryCall) (p : Key) → HasNames p → look t (parent_of p) ≡ Some trees.Dir → (in_row c (resolve_dir (seen t) (parent_of p)) (is_full (seen t (parent_of p))) (seen t p)).1 ≡ Remove → (k : Key) → seen (removed t p) k ≡ changed (looked (seen t) (In c p)).1 (seen t) k
 remove_tree t is c p more dir gone k =
     subst (λ (y : Key). seen (removed t y) k ≡ put y None (put (parent_of p) (Some (Dir (removed_name (last_of p) (names_of (seen t (parent_of p)))))) (seen t)) k) (sym (key_is p more))
-        (seen_removed t (parent_of p) (last_of p) is dir k)
+    (seen_removed t (parent_of p) (last_of p) is dir k)
     ∙ sym (ap (λ (o : Edit). changed (edit_change (parent_of p) (names_of (seen t (parent_of p))) (last_of p) p o) (seen t) k) gone)
 
 unlink_parent : (parent : Option Errno) (there : Option Shape) → errors.unlinking parent there ≡ None → parent ≡ None
@@ -248,12 +248,16 @@ rename_tree t is p q none done mp mq k = by (same_or p q)
   where
     d : Key
     d = parent_of p
+
     e : Key
     e = parent_of q
+
     ws : List (Key × Option Shape)
     ws = rename_writes (is_end (after_prefix (parent_of p) (parent_of q))) (parent_of p) (names_of (seen t (parent_of p))) (last_of p) (parent_of q) (names_of (seen t (parent_of q))) (last_of q)
+
     rows : Bool → Reply × Bool
     rows b = rename_row (resolve_dir (seen t) (parent_of p)) (resolve_dir (seen t) (parent_of q)) (seen t p) b (seen t q) (is_end (after_prefix (parent_of p) (parent_of q)) || not (is_full (seen t (parent_of q))))
+
     by : SameKey p q → seen (list.after t (calls.Rename p q)) k ≡ changed (move_change (rows (is_end (after_prefix p q))).1 ws p q) (seen t) k
     by (Same i j) =
         ap (λ (s : Tree). seen s k) (ap (λ (y : Key). list.after t (calls.Rename p y)) (sym i) ∙ renames_move.onto_itself t p)
@@ -264,16 +268,21 @@ rename_tree t is p q none done mp mq k = by (same_or p q)
       where
         apart : is_end (after_prefix p q) ≡ false
         apart = sym (ends_are p q) ∙ j
+
         r : Renames t p q
         r = rename_renames t p q is none n
+
         back : (o : Option Key) → after_prefix q p ≡ o → o ≡ None
         back None f = refl
         back (Some []) f = absurd (n (prefix_some q p [] f ∙ append-nil q))
         back (Some (x ∷ rest)) f = let z : true ≡ false = sym r.there ∙ ap (λ (y : Key). is_some (look t y)) (prefix_some q p (x ∷ rest) f) ∙ ap is_some (r.bare x rest) in cc
+
         p_is : p ≡ parent_of p ++ last_of p ∷ []
         p_is = key_is p mp
+
         q_is : q ≡ parent_of q ++ last_of q ∷ []
         q_is = key_is q mq
+
         f : Moved t (list.after t (calls.Rename p q)) (parent_of p) (last_of p) (parent_of q) (last_of q)
         f = record {
           is = is;
@@ -284,6 +293,7 @@ rename_tree t is p q none done mp mq k = by (same_or p q)
           to_dir = r.new_parent;
           there = ap (λ (y : Key). is_some (look t y)) (sym p_is) ∙ r.there;
         }
+
         moved_seen : seen (list.after t (calls.Rename p q)) k ≡ changed (move_change true ws p q) (seen t) k
         moved_seen = seen_moved t (list.after t (calls.Rename p q)) (parent_of p) (last_of p) (parent_of q) (last_of q) f k ∙ ap₂ (λ (a b : Key). move a b (write_all ws (seen t)) k) (sym p_is) (sym q_is)
 

@@ -57,7 +57,7 @@ made_at graph (Rename p q) st reserved = rename_made graph p q st reserved (targ
 
 abbrev pub made_by : Graph → Record → Option Errno → Option Stand → Made
 made_by graph op (Some e) st = kept_as (Failed e) graph op.reserved
-made_by graph op None None = kept_as (Failed Enoent) graph op.reserved      -- a call finishes at a node or by its text
+made_by graph op None None = kept_as (Failed Enoent) graph op.reserved  -- a call finishes at a node or by its text
 made_by graph op None (Some st) = made_at graph op.remaining st op.reserved
 
 -- the finish of a call under way

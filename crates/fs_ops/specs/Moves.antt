@@ -88,12 +88,12 @@ dir_error (x ∷ l) shape = Some (walk_errno shape)
 abbrev pub rename_at : Graph → Key → Key → Stand → Reply × Bool
 rename_at graph p q st =
     rename_row
-        (dir_error (left st.source.walked (parent_of p)) (graph.shape st.source.node))
-        (dir_error (left st.dest.walked (parent_of q)) (graph.shape st.dest.node))
-        (entry_shape graph st.source.node (last_of p))
-        (is_end (after_prefix p q))
-        (there_by (has_more (after_prefix q p)) (entry_shape graph st.dest.node (last_of q)))
-        (is_end (after_prefix (parent_of p) (parent_of q)) || not (is_full (graph.shape st.dest.node)))
+    (dir_error (left st.source.walked (parent_of p)) (graph.shape st.source.node))
+    (dir_error (left st.dest.walked (parent_of q)) (graph.shape st.dest.node))
+    (entry_shape graph st.source.node (last_of p))
+    (is_end (after_prefix p q))
+    (there_by (has_more (after_prefix q p)) (entry_shape graph st.dest.node (last_of q)))
+    (is_end (after_prefix (parent_of p) (parent_of q)) || not (is_full (graph.shape st.dest.node)))
 
 -- the node that a rename would really move
 abbrev pub moved_node : Bool → Option ℕ → Option ℕ
@@ -104,9 +104,9 @@ moved_node false s = None
 abbrev pub rename_move : Graph → Key → Key → Stand → Move
 rename_move graph p q st =
     take_if
-        (same_kind (entry_shape graph st.source.node (last_of p)) (entry_shape graph st.dest.node (last_of q)) && not (is_end (after_prefix p q)) && not (has_more (after_prefix q p)))
-        (graph.kid st.dest.node (last_of q)) st.victim
-        (Finishes (moved_node (rename_at graph p q st).1 (graph.kid st.source.node (last_of p))))
+    (same_kind (entry_shape graph st.source.node (last_of p)) (entry_shape graph st.dest.node (last_of q)) && not (is_end (after_prefix p q)) && not (has_more (after_prefix q p)))
+    (graph.kid st.dest.node (last_of q)) st.victim
+    (Finishes (moved_node (rename_at graph p q st).1 (graph.kid st.source.node (last_of p))))
 
 -- a parent that is a file finishes before the next head sets out
 abbrev pub dir_then : Option Shape → Move → Move
@@ -118,10 +118,10 @@ dir_then None m = Finishes None
 abbrev pub fork_move : Graph → Key → Key → Stand → Move
 fork_move graph p q st =
     dir_then (graph.shape st.node)
-        (first_of (head_move graph st.source.node st.source.behind (left st.source.walked (parent_of p)))
-            (dir_then (graph.shape st.source.node)
-                (first_of (head_move graph st.dest.node st.dest.behind (left st.dest.walked (parent_of q)))
-                    (dir_then (graph.shape st.dest.node) (rename_move graph p q st)))))
+    (first_of (head_move graph st.source.node st.source.behind (left st.source.walked (parent_of p)))
+    (dir_then (graph.shape st.source.node)
+    (first_of (head_move graph st.dest.node st.dest.behind (left st.dest.walked (parent_of q)))
+    (dir_then (graph.shape st.dest.node) (rename_move graph p q st)))))
 
 -- at the target
 abbrev pub target_move : Graph → Form → Stand → Move

@@ -23,7 +23,7 @@ pub record Stand : Type 0 where
 -- how far a call is
 pub data Phase : Type 0 where
   Walking : Phase
-  Placed : ℕ → Phase          -- the number of commits before its own
+  Placed : ℕ → Phase  -- the number of commits before its own
   Finished : Reply → Phase
 
 -- a call under way: what it has walked of its own paths, what is left of it from there, where it stands (None: it holds nothing),
