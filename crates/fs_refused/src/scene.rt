@@ -93,7 +93,10 @@ impl Scene {
     fn sizes(&mut self, tree: &mut SeqTree) -> Result<(Reply, Reply)> {
         let root = Call::Stat(Path::parse(self.alloc, b"/")?);
         let file = Call::Stat(Path::parse(self.alloc, b"/d/f")?);
-        Ok((tree.apply(self.alloc, &root)?, tree.apply(self.alloc, &file)?))
+        Ok((
+            tree.apply(self.alloc, &root)?,
+            tree.apply(self.alloc, &file)?,
+        ))
     }
 
     /// Applies a copy of the call. After a refusal the tree is as before, and the same call succeeds.
