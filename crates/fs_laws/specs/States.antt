@@ -5,19 +5,20 @@ use Rattle.fs_names.specs.Shapes.{Shape}
 use Rattle.fs_seq.specs.Forms.{form, reserves}
 use Rattle.fs_seq.specs.declared.call.Call.{Call}
 use Rattle.fs_seq.specs.declared.reply.Reply.{Reply}
-use Rattle.fs_nodes.specs.Graphs.{Graph, at, empty_graph, reserved_in, released_in, set_at}
+use Rattle.fs_nodes.specs.Graphs.{Graph, at, empty_graph, reserved_in, set_at}
+use Rattle.fs_nodes.specs.Stores.{used_below}
 use Rattle.fs_journal.specs.declared.entry.Entry.{Entry}
 use Rattle.fs_journal.specs.declared.entry.Entry.TheVariants.{Begin, Commit, Return}
-use Rattle.fs_ops.specs.Finishes.{Made, finish}
-use Rattle.fs_ops.specs.Moves.{Move, Takes, Leaves, Finishes, Ends, next, took, left_stand}
+use Rattle.fs_ops.specs.Finishes.{finish}
+use Rattle.fs_ops.specs.Leaving.{is_removed, releasing, let_go, finished_op, unreserved}
+use Rattle.fs_ops.specs.Moves.{Move, Takes, Leaves, Finishes, Ends, next, took}
 use Rattle.fs_ops.specs.Records.{Stand, Walking, Placed, Finished, Record, Records}
 use Rattle.fs_laws.specs.Books.{begins, commit_count}
 
--- limit, graph, the numbers in use, who holds each node, the calls under way by their numbers, the call on each seat, timeline
+-- limit, graph, who holds each node, the calls under way by their numbers, the call on each seat, timeline
 pub record State : Type 0 where
   pub limit : ℕ
   pub graph : Graph
-  pub used : List ℕ
   pub holder : ℕ → Option ℕ
   pub ops : Records
   pub on_seat : ℕ → Option ℕ
@@ -25,12 +26,7 @@ pub record State : Type 0 where
 
 -- before anything began
 abbrev pub empty : ℕ → State
-empty limit = record { limit = limit; graph = empty_graph; used = 0 ∷ []; holder = λ n. None; ops = λ c. None; on_seat = λ s. None; timeline = [] }
-
--- a list of numbers without one
-abbrev pub without : ℕ → List ℕ → List ℕ
-without n [] = []
-without n (m ∷ ms) = cond (eqb n m) (without n ms) (m ∷ without n ms)
+empty limit = record { limit = limit; graph = empty_graph; holder = λ n. None; ops = λ c. None; on_seat = λ s. None; timeline = [] }
 
 -- what a begin answers
 pub data Begun : Type 0 where
@@ -42,26 +38,24 @@ abbrev pub new_op : ℕ → Call → Option ℕ → Record
 new_op seat call reserved = record { seat = seat; call = call; walked = []; remaining = form call; stand = None; phase = Walking; reserved = reserved; removed = None }
 
 -- the state after a begin
-abbrev pub began : State → ℕ → Call → ℕ → Option ℕ → Graph → List ℕ → State
-began old seat call c reserved graph used = record old {
+abbrev pub began : State → ℕ → Call → ℕ → Option ℕ → Graph → State
+began old seat call c reserved graph = record old {
   graph = graph;
-  used = used;
   ops = set_at c (Some (new_op seat call reserved)) old.ops;
   on_seat = set_at seat (Some c) old.on_seat;
   timeline = old.timeline ++ Begin c seat call ∷ [];
 }
 
--- a call that reserves gets some number that isn't in use, where there is room for it
+-- a call that reserves gets some number below the limit that isn't in use
 abbrev pub Reserves : State → ℕ → Call → ℕ → Option Shape → State → Type 0
-Reserves old seat call c None new = new ≡ began old seat call c None old.graph old.used
+Reserves old seat call c None new = new ≡ began old seat call c None old.graph
 Reserves old seat call c (Some shape) new =
-    (length old.used < old.limit)
-    × (n : ℕ) × (old.graph.shape n ≡ None) × (new ≡ began old seat call c (Some n) (reserved_in n shape old.graph) (n ∷ old.used))
+    (n : ℕ) × (n < old.limit) × (old.graph.shape n ≡ None) × (new ≡ began old seat call c (Some n) (reserved_in n shape old.graph))
 
 -- a number is wanted and all are in use
 abbrev pub IsFull : State → Option Shape → Type 0
 IsFull old None = ⊥
-IsFull old (Some shape) = old.limit ≤ length old.used
+IsFull old (Some shape) = used_below old.graph.shape old.limit ≡ old.limit
 
 -- the relation of a begin
 abbrev pub Begins : State → ℕ → Call → Begun → State → Type 0
@@ -110,30 +104,12 @@ NoneBelow state (Some s) = (d : ℕ) → IsWalkingBelow state s d → ⊥
 abbrev pub taking : State → ℕ → Record → ℕ → State
 taking old c op n = record old { holder = set_at n (Some c) old.holder; ops = set_at c (Some (took op n)) old.ops }
 
--- a node that this call removed leaves the graph
-abbrev pub is_removed : Option ℕ → ℕ → Bool
-is_removed None n = false
-is_removed (Some m) n = eqb m n
-
-abbrev pub releasing : Bool → ℕ → Graph → Graph
-releasing true n graph = released_in n graph
-releasing false n graph = graph
-
-abbrev pub fewer_used : Bool → ℕ → List ℕ → List ℕ
-fewer_used true n used = without n used
-fewer_used false n used = used
-
-abbrev pub cleared : Bool → Option ℕ → Option ℕ
-cleared true removed = None
-cleared false removed = removed
-
 -- after a let go
 abbrev pub letting_go : State → ℕ → Record → ℕ → State
 letting_go old c op n = record old {
   graph = releasing (is_removed op.removed n) n old.graph;
-  used = fewer_used (is_removed op.removed n) n old.used;
   holder = set_at n None old.holder;
-  ops = set_at c (Some (record op { stand = left_stand op.phase op.stand; removed = cleared (is_removed op.removed n) op.removed })) old.ops;
+  ops = set_at c (Some (let_go op n)) old.ops;
 }
 
 -- d gets its place
@@ -144,9 +120,6 @@ helping old d op = record old {
 }
 
 -- the change is made and the reply is fixed
-abbrev pub finished_op : Record → Made → Record
-finished_op op made = record op { phase = Finished made.reply; reserved = made.reserved; removed = made.removed }
-
 abbrev pub carrying : State → ℕ → Record → State
 carrying old c op = record old {
   graph = (finish old.graph op).graph;
@@ -157,20 +130,10 @@ carrying old c op = record old {
 abbrev pub committing : State → ℕ → Record → State
 committing old c op = record (carrying old c op) { timeline = old.timeline ++ Commit c ∷ [] }
 
--- an unused reserved number leaves the graph
-abbrev pub unreserved : Option ℕ → Graph → Graph
-unreserved None graph = graph
-unreserved (Some n) graph = released_in n graph
-
-abbrev pub unused : Option ℕ → List ℕ → List ℕ
-unused None used = used
-unused (Some n) used = without n used
-
 -- after a return
 abbrev pub returning : State → ℕ → Record → Reply → State
 returning old c op r = record old {
   graph = unreserved op.reserved old.graph;
-  used = unused op.reserved old.used;
   ops = set_at c None old.ops;
   on_seat = set_at op.seat None old.on_seat;
   timeline = old.timeline ++ Return c r ∷ [];
