@@ -24,15 +24,14 @@ use Rattle.fs_laws.proofs.Finished.{Either, Changed, Old, either}
 use Rattle.fs_laws.proofs.Committing.{order_without, placed_in}
 use Rattle.fs_laws.proofs.Renewing.{settle_same}
 use Rattle.fs_laws.proofs.Taking.{under_nil}
-use Rattle.fs_laws.proofs.Releasing.{InUse, own_kids, spell_reserved, graph_reserved, reserved_use}
+use Rattle.fs_laws.proofs.Releasing.{own_kids, spell_reserved, graph_reserved}
 use Rattle.fs_laws.proofs.Returning.{numbers_by}
 
 -- the graph with the number that the new call reserves
-pub record Given (old : State) (call : Form) (reserved : Option ℕ) (graph : Graph) (used : List ℕ) : Type 0 where
+pub record Given (old : State) (call : Form) (reserved : Option ℕ) (graph : Graph) : Type 0 where
   pub kids : graph.kid ≡ old.graph.kid
   pub is_graph : IsGraph graph
   pub spelled : spell graph ≡ spell old.graph
-  pub in_use : InUse graph used
   pub shapes : (m : ℕ) (s : Shape) → old.graph.shape m ≡ Some s → graph.shape m ≡ old.graph.shape m
   pub new : (m : ℕ) → reserved ≡ Some m → (old.graph.shape m ≡ None) × ((s : Shape) × (graph.shape m ≡ Some s))
   pub number : Fits call → NumberFor graph call reserved
@@ -41,9 +40,9 @@ pub record Given (old : State) (call : Form) (reserved : Option ℕ) (graph : Gr
 unreached_by : (old : State) (inv : Invariant old) (n : ℕ) → old.graph.shape n ≡ None → (key : Key) → numbers old.graph key ≡ Some n → ⊥
 unreached_by old inv n free key e = let u : (s : Shape) × (old.graph.shape n ≡ Some s) = reached_used old.graph inv.is_graph key n e in let z : ◌≡◌ {A = Option Shape} None (Some u.0) = sym free ∙ u.1 in cc
 
-begin_keeps : (old : State) (inv : Invariant old) (seat : ℕ) (call : Call) (c : ℕ) (reserved : Option ℕ) (graph : Graph) (used : List ℕ) → old.on_seat seat ≡ None → c ≡ begins old.timeline + 1 → Given old (form call) reserved graph used
-    → Invariant (began old seat call c reserved graph used)
-begin_keeps old inv seat call c reserved graph used free number g = record {
+begin_keeps : (old : State) (inv : Invariant old) (seat : ℕ) (call : Call) (c : ℕ) (reserved : Option ℕ) (graph : Graph) → old.on_seat seat ≡ None → c ≡ begins old.timeline + 1 → Given old (form call) reserved graph
+    → Invariant (began old seat call c reserved graph)
+begin_keeps old inv seat call c reserved graph free number g = record {
   key = inv.key;
   order = inv.order;
   is_graph = g.is_graph;
@@ -55,7 +54,6 @@ begin_keeps old inv seat call c reserved graph used free number g = record {
   own = λ d q e. own d q (either old.ops c op d q e);
   held = λ d q st n e. held d q st n (either old.ops c op d q e);
   apart = λ x y n p q differs e f. apart x y n p q differs (either old.ops c op x p e) (either old.ops c op y q f);
-  in_use = g.in_use;
   seated = seated;
   busy = λ s. ap (λ (k : Book). k.busy s) book_is ∙ busy s (place seat (Some c) (book_of start old.timeline).busy s) (place seat (Some c) old.on_seat s);
   seat_of = λ d q e. seat_of d q (either old.ops c op d q e);
@@ -228,23 +226,21 @@ pub keeps_begun : (c : ℕ) → BeginKeeps (Begun_as c)
 keeps_begun c old new seat call inv (free, number, r) = go (reserves (form call)) refl r
   where
     go : (o : Option Shape) → reserves (form call) ≡ o → Reserves old seat call c o new → Invariant new
-    go None i same = subst Invariant (sym same) (begin_keeps old inv seat call c None old.graph old.used free number (record {
+    go None i same = subst Invariant (sym same) (begin_keeps old inv seat call c None old.graph free number (record {
       kids = refl;
       is_graph = inv.is_graph;
       spelled = refl;
-      in_use = inv.in_use;
       shapes = λ m s e. refl;
       new = λ m e. cc;
       number = number_none old.graph (form call) i;
     }))
-    go (Some s) i (room, n, unused, same) =
+    go (Some s) i (n, below, unused, same) =
         let loose : (key : Key) → numbers old.graph key ≡ Some n → ⊥ = unreached_by old inv n unused in
         let here : (reserved_in n s old.graph).shape n ≡ Some s = there n s (place n (Some s) old.graph.shape n) in
-        subst Invariant (sym same) (begin_keeps old inv seat call c (Some n) (reserved_in n s old.graph) (n ∷ old.used) free number (record {
+        subst Invariant (sym same) (begin_keeps old inv seat call c (Some n) (reserved_in n s old.graph) free number (record {
           kids = refl;
           is_graph = graph_reserved old.graph inv.is_graph n s unused (bare_of (form call) s i);
           spelled = spell_reserved old.graph inv.is_graph n s unused;
-          in_use = reserved_use old.graph old.used n s inv.in_use;
           shapes = λ m t e. upd_else n (Some s) old.graph.shape m (λ j. (let z : ◌≡◌ {A = Option Shape} None (Some t) = sym unused ∙ ap old.graph.shape (sym j) ∙ e in cc));
           new = λ m e. new_number n m s unused here e;
           number = number_given (reserved_in n s old.graph) (form call) s n i here loose;

@@ -16,7 +16,8 @@ use Rattle.fs_laws.specs.Invariants.{remaining_of, spots, IsPlaced, AllLater, In
 use Rattle.fs_laws.specs.Placed.{Standing, rekey, rekey_by, rekey_move, rekey_all}
 use Rattle.fs_laws.specs.Settled.{settle, settle_replies}
 use Rattle.fs_laws.specs.Stands.{IsAfter, Kept}
-use Rattle.fs_laws.specs.States.{State, CarriedOut, finished_op, carrying}
+use Rattle.fs_ops.specs.Leaving.{finished_op}
+use Rattle.fs_laws.specs.States.{State, CarriedOut, carrying}
 use Rattle.fs_laws.proofs.Prefixes.{prefix_deeper}
 use Rattle.fs_laws.proofs.Located.{change_under, moves_under, fits_under}
 use Rattle.fs_laws.proofs.Ledger.{Carried, carried}

@@ -1,25 +1,21 @@
 -- What each change of a tree leaves, seen as a map.
-use Rattle.std.proofs.Common.{◌≡◌, ◌≢◌, ℕ, Bool, true, false, cond, not, List, [], ◌∷◌, ◌++◌, Option, Some, None, is_some, refl, sym, ap, ap₂, ◌∙◌, append_assoc, append-nil, subst, T}
-use mathlib.Core.Path.{fun_ext}
+use Rattle.std.proofs.Common.{◌≡◌, ℕ, Bool, true, false, cond, List, [], ◌∷◌, ◌++◌, Option, Some, None, is_some, refl, sym, ap, ◌∙◌, append-nil, subst, T}
 use Rattle.std.specs.FinMap.{is_sorted}
 use Rattle.std.proofs.lemmas.List.{same_from_push}
 use Rattle.fs_names.specs.Keys.{Key, key_cmp, same_key, after_prefix}
 use Rattle.fs_names.specs.Names.{Name, same_name, inserted_name, removed_name, has_name}
-use Rattle.fs_names.specs.Parts.{is_end}
 use Rattle.fs_names.specs.Shapes.{Shape, Dir, File, names_of}
 use Rattle.fs_seq.proofs.Resolving.{true_T}
 use Rattle.fs_seq.specs.Tree as trees
 use Rattle.fs_seq.specs.Tree.{Tree, Node, look, names_in, inserted, removed, IsTree}
 use Rattle.fs_seq.specs.Shapes.{seen, shape_of}
-use Rattle.fs_seq.specs.Changes.{rename_writes}
-use Rattle.fs_seq.specs.Laws.{IsMoved}
-use Rattle.fs_seq.specs.Maps.{Map, put, put_at, move, moved_to, moved_from, write_all}
+use Rattle.fs_seq.specs.Maps.{Map, put, put_at}
 use Rattle.fs_seq.proofs.LookLemmas.{same_key_exact, same_key_refl, look-inserted, look-removed, sorted-inserted, sorted-removed}
 use Rattle.fs_seq.proofs.ResolutionLemmas.{nothing_below}
-use Rattle.fs_laws.proofs.Prefixes.{same_refl, same_true, prefix_append, prefix_some}
-use Rattle.fs_laws.proofs.Commutes.{put_other, move_to, move_gone, move_else}
+use Rattle.fs_laws.proofs.Prefixes.{same_refl, same_true, prefix_append}
+use Rattle.fs_laws.proofs.Commutes.{put_other}
 use Rattle.fs_laws.proofs.Listing.{has_with, with_else, has_without, without_else}
-use Rattle.fs_laws.proofs.Showing.{Rising, rising_names, rising_with, rising_without, ShowsAt, Shows, seen_by, old_has, shows_same}
+use Rattle.fs_laws.proofs.Showing.{rising_names, rising_with, rising_without, ShowsAt, seen_by, old_has, shows_same}
 
 pub put_here : (p : Key) (v : Option Shape) (m : Map Shape) → put p v m p ≡ v
 put_here p v m = ap (put_at v m p) (ap (after_prefix p) (sym (append-nil p)) ∙ prefix_append p [])

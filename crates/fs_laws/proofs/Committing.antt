@@ -20,7 +20,8 @@ use Rattle.fs_laws.specs.Invariants.{remaining_of, spots, IsPlaced, AllLater, In
 use Rattle.fs_laws.specs.Placed.{Blind, Clear, Passes, PastAll, Standing, rekey, rekey_all}
 use Rattle.fs_laws.specs.Settled.{settle, settle_replies}
 use Rattle.fs_laws.specs.Stands.{IsAfter, Keeps, Kept, Pair}
-use Rattle.fs_laws.specs.States.{State, Committed, NoneBelow, finished_op, committing}
+use Rattle.fs_ops.specs.Leaving.{finished_op}
+use Rattle.fs_laws.specs.States.{State, Committed, NoneBelow, committing}
 use Rattle.fs_laws.proofs.Located.{change_under, outcome_located, fits_under}
 use Rattle.fs_laws.proofs.Passing.{past_all}
 use Rattle.fs_laws.proofs.Links.{resolve_at}

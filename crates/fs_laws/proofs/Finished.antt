@@ -1,7 +1,6 @@
 -- A state in which one call has just finished keeps what every state keeps.
 use Rattle.std.proofs.Common.{◌≡◌, ℕ, ◌<◌, false, List, Option, Some, sym, ap, ◌∙◌, subst, ◌⊎◌, inl, inr}
 use Rattle.fs_names.specs.Keys.{Key}
-use Rattle.fs_names.specs.Shapes.{Shape}
 use Rattle.fs_nodes.specs.Graphs.{numbers, spell, set_at, IsGraph}
 use Rattle.fs_journal.specs.declared.entry.Entry.{Entry}
 use Rattle.fs_ops.specs.Finishes.{Made}
@@ -9,7 +8,8 @@ use Rattle.fs_ops.specs.Records.{Phase, Placed, Finished, Holds, Record, Records
 use Rattle.fs_laws.specs.Books.{begins, commit_count, Book, start, book_of, IsLawful}
 use Rattle.fs_laws.specs.Invariants.{HasSpare, IsIn, Own, Invariant, InOrder, Tied}
 use Rattle.fs_laws.specs.Stands.{Kept}
-use Rattle.fs_laws.specs.States.{State, finished_op}
+use Rattle.fs_ops.specs.Leaving.{finished_op}
+use Rattle.fs_laws.specs.States.{State}
 use Rattle.fs_laws.proofs.Altering.{Shapes, Reached}
 use Rattle.fs_laws.proofs.Keeping.{Place, Here, Else, place, kept_finish}
 use Rattle.fs_laws.proofs.Helping.{upd_same}
@@ -67,10 +67,6 @@ ends_keep old inv c op made timeline f = record {
   own = λ d q e. own d q (either old.ops c done d q e);
   held = λ d q st n e. held d q st n (either old.ops c done d q e);
   apart = λ x y n p q differs e g. apart x y n p q differs (either old.ops c done x p e) (either old.ops c done y q g);
-  in_use = λ n. (
-    (λ i. (let s : (s : Shape) × (old.graph.shape n ≡ Some s) = (inv.in_use n).0 i in f.shapes.to_new n s.0 s.1)),
-    (λ s e. (let t : (t : Shape) × (old.graph.shape n ≡ Some t) = f.shapes.to_old n s e in (inv.in_use n).1 t.0 t.1)),
-  );
   seated = seated;
   busy = λ seat. f.calls.busy seat ∙ inv.busy seat;
   seat_of = λ d q e. seat_of d q (either old.ops c done d q e);

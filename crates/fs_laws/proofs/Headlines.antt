@@ -1,9 +1,9 @@
 -- What every state of a run keeps, and the headline from it.
-use Rattle.std.proofs.Common.{◌≡◌, ℕ, Bool, true, false, cond, eqb, List, [], ◌∷◌, Option, Some, None, refl, sym, ap, ◌∙◌, subst, inl, inr}
+use Rattle.std.proofs.Common.{◌≡◌, ℕ, Bool, true, false, cond, eqb, List, [], ◌∷◌, Option, Some, None, refl, sym, ap, ◌∙◌, subst}
 use mathlib.Core.Path.{fun_ext}
 use Rattle.fs_names.specs.Keys.{Key}
 use Rattle.fs_names.specs.Names.{Name, has_name, same_name}
-use Rattle.fs_names.specs.Shapes.{Shape, Dir}
+use Rattle.fs_names.specs.Shapes.{Dir}
 use Rattle.fs_seq.specs.Changes.{play_from, root_tree}
 use Rattle.fs_seq.specs.declared.call.Call.{Call}
 use Rattle.fs_nodes.specs.Graphs.{numbers, spell, IsGraph, empty_graph}
@@ -12,10 +12,9 @@ use Rattle.fs_journal.specs.declared.entry.Entry.TheVariants.{Begin, Commit, Ret
 use Rattle.fs_ops.specs.Records.{Record, Records}
 use Rattle.fs_laws.specs.Books.{IsLawful, commits_of, with_call, Book, start, noted, commit_of, book_of}
 use Rattle.fs_laws.specs.Headline.{IsIdle}
-use Rattle.fs_laws.specs.Invariants.{IsIn, Invariant, StepKeeps, BeginKeeps, spots, IsPlaced, InOrder}
+use Rattle.fs_laws.specs.Invariants.{Invariant, StepKeeps, BeginKeeps, spots, IsPlaced, InOrder}
 use Rattle.fs_laws.specs.Settled.{settle}
 use Rattle.fs_laws.specs.States.{State, empty, Begun, Begun_as, Seat_busy, Full, No_memory, Stepped, Idle, Took, Busy, LetGo, Helped, Committed, CarriedOut, Returned, Run, Start, Beginning, Stepping}
-use Rattle.fs_laws.proofs.Walks.{eqb_true}
 use Rattle.fs_laws.proofs.Helping.{keeps_helped}
 use Rattle.fs_laws.proofs.Committing.{keeps_committed}
 use Rattle.fs_laws.proofs.Carrying.{keeps_carried}
@@ -84,14 +83,6 @@ spelled_start : (key : Key) → spell empty_graph key ≡ root_tree key
 spelled_start [] = refl
 spelled_start (x ∷ key) = refl
 
-used_start : (n : ℕ) → IsIn n (0 ∷ []) → (shape : Shape) × (empty_graph.shape n ≡ Some shape)
-used_start n (inl e) = (Dir [], ap empty_graph.shape e)
-used_start n (inr i) = absurd i
-
-used_all : (n : ℕ) (b : Bool) → eqb n 0 ≡ b → (shape : Shape) → cond b (Some (Dir [])) None ≡ Some shape → IsIn n (0 ∷ [])
-used_all n true e shape f = inl (eqb_true n 0 e)
-used_all n false e shape f = cc
-
 pub inv_start : (limit : ℕ) → Invariant (empty limit)
 inv_start limit = record {
   key = λ c. [];
@@ -105,7 +96,6 @@ inv_start limit = record {
   own = λ c op e. cc;
   held = λ c op st n e. cc;
   apart = λ c d n p q differs e. cc;
-  in_use = λ n. (used_start n, used_all n (eqb n 0) refl);
   seated = λ seat c e. cc;
   busy = λ seat. refl;
   seat_of = λ c op e. cc;

@@ -149,7 +149,6 @@ helped_inv old d q st inv h = record {
   own = λ x p e. own x p (which old d q x p e);
   held = λ x p z n e. held x p z n (which old d q x p e);
   apart = λ x y n p r differs e f. apart x y n p r differs (old_of old d q x p h.is (which old d q x p e)) (old_of old d q y r h.is (which old d q y r f));
-  in_use = inv.in_use;
   seated = seated;
   busy = λ x. ap (λ (b : Book). b.busy x) book_is ∙ inv.busy x;
   seat_of = λ x p e. seat_of x p (which old d q x p e);

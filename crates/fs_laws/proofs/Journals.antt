@@ -4,39 +4,35 @@ use mathlib.Core.Path.{fun_ext}
 use Rattle.fs_names.specs.First.{on, first}
 use Rattle.fs_names.specs.Keys.{Key}
 use Rattle.fs_names.specs.Shapes.{Shape}
-use Rattle.fs_seq.specs.Changes.{reply, after, root_tree, play_from}
+use Rattle.fs_seq.specs.Changes.{reply, after, root_tree}
 use Rattle.fs_seq.specs.Forms.{form}
 use Rattle.fs_seq.specs.Maps.{Map}
 use Rattle.fs_seq.specs.Outcomes as tree
-use Rattle.fs_seq.specs.Replies.{same_reply}
-use Rattle.fs_seq.specs.Shapes.{seen, shape_of}
+use Rattle.fs_seq.specs.Shapes.{seen}
 use Rattle.fs_seq.specs.Tree as trees
 use Rattle.fs_seq.specs.Tree.{Tree, Node, look, names_in, IsTree}
 use Rattle.fs_seq.specs.declared.call.Call.{Call}
 use Rattle.fs_seq.specs.declared.reply.Reply.{Reply}
 use Rattle.fs_seq.proofs.TreeLaws.{stays_a_tree, played_trees_are_trees}
-use Rattle.fs_nodes.specs.Graphs.{spell, set_at}
+use Rattle.fs_nodes.specs.Graphs.{set_at}
 use Rattle.fs_journal.specs.Timeline as journal
 use Rattle.fs_journal.specs.Verdicts.{entry_fault, is_due}
 use Rattle.fs_journal.specs.Knowledge.{Knowledge, IsTrueOf, changed, is_waiting, known_fault, played, taken_in}
 use Rattle.fs_journal.specs.declared.entry.Entry.{Entry}
 use Rattle.fs_journal.specs.declared.entry.Entry.TheVariants.{Begin, Commit, Return}
-use Rattle.fs_journal.specs.declared.verdict.FaultKind.{FaultKind}
 use Rattle.fs_journal.specs.declared.verdict.FaultKind.TheVariants.{BeginTwice, SeatBusy, CommitUnbegun, CommitTwice, ReturnUncommitted, ReturnTwice, WrongReply}
 use Rattle.fs_journal.proofs.ReplyLemmas.{same_reply_refl}
 use Rattle.fs_journal.proofs.TimelineLemmas.{lawful_appended}
 use Rattle.fs_journal.proofs.VerdictLemmas.{fits_from_none}
 use Rattle.fs_journal.proofs.KnowledgeLemmas.{known_fault-entry_fault, true_of_taken_in}
-use Rattle.fs_laws.specs.Books.{Book, start, commit_of, free_seat, noted, book_of, IsNext, IsLawful, commits_of}
-use Rattle.fs_laws.specs.Headline.{IsIdle, Linearizes}
+use Rattle.fs_laws.specs.Books.{Book, start, commit_of, free_seat, noted, book_of, IsNext, IsLawful}
 use Rattle.fs_laws.specs.Laws.{TreesAsMaps, Linearization}
-use Rattle.fs_laws.specs.States.{State, Run}
 use Rattle.fs_laws.proofs.TreesAsMaps.{trees_as_maps}
 use Rattle.fs_laws.proofs.Walks.{eqb_refl, eqb_true}
 use Rattle.fs_laws.proofs.Keeping.{Place, Here, Else, place}
 use Rattle.fs_laws.proofs.Books.{Unknown, unknown_step}
 use Rattle.fs_laws.proofs.Headlines.{Headline, run_keeps, headline_of, book_plays}
-use Rattle.fs_laws.specs.Invariants.{Invariant, Tied}
+use Rattle.fs_laws.specs.Invariants.{Invariant}
 
 -- two words for one changed value
 changed_is : {A : Type 0} (n : ℕ) (v : A) (f g : ℕ → A) (m : ℕ) → f m ≡ g m → set_at n v f m ≡ changed g n v m

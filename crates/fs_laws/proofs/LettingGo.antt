@@ -1,5 +1,5 @@
 -- A let go keeps what every state keeps.
-use Rattle.std.proofs.Common.{◌≡◌, ℕ, Bool, true, false, not, ◌&&◌, List, [], ◌∷◌, ◌++◌, Option, Some, None, refl, sym, ap, ap₂, ◌∙◌, subst, ◌⊎◌, inl, inr}
+use Rattle.std.proofs.Common.{◌≡◌, ℕ, Bool, true, false, not, ◌&&◌, [], ◌∷◌, ◌++◌, Option, Some, None, refl, sym, ap, ap₂, ◌∙◌, subst, ◌⊎◌, inl, inr}
 use mathlib.Core.Path.{fun_ext}
 use Rattle.fs_names.specs.Keys.{Key, after_prefix, parent_of, last_of, has_more}
 use Rattle.fs_names.specs.Parts.{common, left, is_end}
@@ -10,11 +10,12 @@ use Rattle.fs_seq.specs.Maps.{Map}
 use Rattle.fs_seq.specs.declared.errno.Errno.{Errno}
 use Rattle.fs_seq.specs.declared.reply.Reply.{Reply}
 use Rattle.fs_nodes.specs.Graphs.{Graph, at, numbers, spell, entry_shape, set_at, IsGraph, released_in}
+use Rattle.fs_ops.specs.Leaving.{is_removed, releasing, cleared}
 use Rattle.fs_ops.specs.Moves.{Move, Leaves, Finishes, next, next_by, next_on, first_of, head_move, walk_move, take_if, target, target_move, victim_of, same_kind, rename_move, rename_at, moved_node, dir_then, last_held, first_walked, head_left, left_behind, left_heads, left_last, left_stand}
 use Rattle.fs_ops.specs.Records.{Phase, Walking, Placed, Finished, Holds, Record, Stand, head_at}
-use Rattle.fs_laws.specs.Invariants.{ForkedAt, StandsWell, VictimAt, HasSpare, HeadsFit, IsIn, IsSingle, IsUnfinished, Own, Invariant, StepKeeps, Slot, At_node, At_behind, At_source, At_source_behind, At_dest, At_dest_behind, At_victim, if_walked, in_slot}
+use Rattle.fs_laws.specs.Invariants.{ForkedAt, StandsWell, VictimAt, HasSpare, HeadsFit, IsSingle, IsUnfinished, Own, Invariant, StepKeeps, Slot, At_node, At_behind, At_source, At_source_behind, At_dest, At_dest_behind, At_victim, if_walked, in_slot}
 use Rattle.fs_laws.specs.Stands.{Kept, Shrinks}
-use Rattle.fs_laws.specs.States.{State, LetGo, letting_go, without, is_removed, releasing, fewer_used, cleared}
+use Rattle.fs_laws.specs.States.{State, LetGo, letting_go}
 use Rattle.fs_laws.proofs.Walks.{eqb_refl}
 use Rattle.fs_laws.proofs.Keeping.{kept_shrink}
 use Rattle.fs_laws.proofs.Putting.{kept_none}
@@ -22,7 +23,7 @@ use Rattle.fs_laws.proofs.Helping.{upd_else}
 use Rattle.fs_laws.proofs.Finished.{Either, Changed, Old}
 use Rattle.fs_laws.proofs.Renewing.{renewed, renews_keep}
 use Rattle.fs_laws.proofs.Slots.{slot_holds, holds_slot}
-use Rattle.fs_laws.proofs.Releasing.{own_kids, numbers_kids, release_else, spell_released, graph_released, released_use}
+use Rattle.fs_laws.proofs.Releasing.{own_kids, numbers_kids, release_else, spell_released, graph_released}
 
 -- a stand that lets the node n go from a slot
 pub record Lets (st new : Stand) (n : ℕ) : Type 0 where
@@ -248,7 +249,6 @@ after_left op s = record op { stand = s; removed = None }
 abbrev let_as : State → ℕ → Record → ℕ → Option Stand → Option ℕ → State
 let_as old c op n s m = record old {
   graph = releasing (is_removed m n) n old.graph;
-  used = fewer_used (is_removed m n) n old.used;
   holder = set_at n None old.holder;
   ops = set_at c (Some (record op { stand = s; removed = cleared (is_removed m n) m })) old.ops;
 }
@@ -276,17 +276,16 @@ own_left graph op s o well placed victim starts fit = record {
 }
 
 -- the state keeps all, where the graph has the same entries
-let_keeps : (old : State) (inv : Invariant old) (c : ℕ) (op : Record) (n : ℕ) (s : Option Stand) (graph : Graph) (used : List ℕ) → old.ops c ≡ Some op
+let_keeps : (old : State) (inv : Invariant old) (c : ℕ) (op : Record) (n : ℕ) (s : Option Stand) (graph : Graph) → old.ops c ≡ Some op
     → graph.kid ≡ old.graph.kid → IsGraph graph → spell graph ≡ spell old.graph
-    → ((m : ℕ) → (IsIn m used → (shape : Shape) × (graph.shape m ≡ Some shape)) × ((shape : Shape) → graph.shape m ≡ Some shape → IsIn m used))
     → ((d m : ℕ) (q : Record) → (d ≡ c → ⊥) → old.ops d ≡ Some q → HasSpare q m → graph.shape m ≡ old.graph.shape m)
     → ((m : ℕ) → op.reserved ≡ Some m → graph.shape m ≡ old.graph.shape m)
     → Kept (numbers old.graph) (set_at c (Some (after_left op s)) old.ops) (set_at c (inv.key c) inv.key)
     → Own old.graph (after_left op s)
     → old.holder n ≡ Some c
     → ((st : Stand) (q : ℕ) → s ≡ Some st → Holds st q → (old.holder q ≡ Some c) × (q ≡ n → ⊥))
-    → Invariant (renewed old c (after_left op s) graph used (set_at n None old.holder))
-let_keeps old inv c op n s graph used is kids is_graph spelled in_use others mine kept own held_n holds = renews_keep old inv c op (after_left op s) graph used (set_at n None old.holder) (inv.key c) (record {
+    → Invariant (renewed old c (after_left op s) graph (set_at n None old.holder))
+let_keeps old inv c op n s graph is kids is_graph spelled others mine kept own held_n holds = renews_keep old inv c op (after_left op s) graph (set_at n None old.holder) (inv.key c) (record {
   is = is;
   seat = refl;
   call = refl;
@@ -299,7 +298,6 @@ let_keeps old inv c op n s graph used is kids is_graph spelled in_use others min
   own_other = λ d q m e. own_kids old.graph graph kids q (λ k h. others d k q m e h) (inv.own d q e);
   held = held;
   spares = spares;
-  in_use = in_use;
 })
   where
     mine_shape : (m : ℕ) → HasSpare (after_left op s) m → graph.shape m ≡ old.graph.shape m
@@ -328,19 +326,19 @@ let_either : (old : State) (inv : Invariant old) (c : ℕ) (op : Record) (n : �
     → Invariant (letting_go old c op n)
 let_either old inv c op n s is left only kept own held_n holds = go op.removed refl
   where
-    released : Invariant (renewed old c (after_left op s) (released_in n old.graph) (without n old.used) (set_at n None old.holder)) → Invariant (let_as old c op n s (Some n))
-    released i = subst (λ (b : Bool). Invariant (record old { graph = releasing b n old.graph; used = fewer_used b n old.used; holder = set_at n None old.holder; ops = set_at c (Some (record op { stand = s; removed = cleared b (Some n) })) old.ops })) (sym (eqb_refl n)) i
+    released : Invariant (renewed old c (after_left op s) (released_in n old.graph) (set_at n None old.holder)) → Invariant (let_as old c op n s (Some n))
+    released i = subst (λ (b : Bool). Invariant (record old { graph = releasing b n old.graph; holder = set_at n None old.holder; ops = set_at c (Some (record op { stand = s; removed = cleared b (Some n) })) old.ops })) (sym (eqb_refl n)) i
 
     go : (m : Option ℕ) → op.removed ≡ m → Invariant (letting_go old c op n)
     go None e = subst Invariant (sym (ap₂ (let_as old c op n) left e))
-        (let_keeps old inv c op n s old.graph old.used is refl inv.is_graph refl inv.in_use (λ d m q k f h. refl) (λ m f. refl) kept own held_n holds)
+        (let_keeps old inv c op n s old.graph is refl inv.is_graph refl (λ d m q k f h. refl) (λ m f. refl) kept own held_n holds)
     go (Some m) e =
         let i : m ≡ n = only m e in
         let r : op.removed ≡ Some n = e ∙ ap (λ (x : ℕ). Some x) i in
         let loose : (key : Key) → numbers old.graph key ≡ Some n → ⊥ = ((inv.own c op is).gone n r).1 in
         subst Invariant (sym (ap₂ (let_as old c op n) left r))
-        (released (let_keeps old inv c op n s (released_in n old.graph) (without n old.used) is refl
-        (graph_released old.graph inv.is_graph n loose) (spell_released old.graph n loose) (released_use old.graph old.used n inv.in_use)
+        (released (let_keeps old inv c op n s (released_in n old.graph) is refl
+        (graph_released old.graph inv.is_graph n loose) (spell_released old.graph n loose)
         (λ d k q differs f h. release_else old.graph n k (λ j. inv.apart c d n op q (λ z. differs (sym z)) is f (inr r) (subst (HasSpare q) j h)))
         (λ k f. release_else old.graph n k (λ j. (inv.own c op is).one_spare n (f ∙ ap (λ (x : ℕ). Some x) j) r))
         kept own held_n holds))

@@ -1,24 +1,23 @@
 -- What a rename leaves of a tree, seen as a map.
-use Rattle.std.proofs.Common.{◌≡◌, ◌≢◌, ℕ, Bool, true, false, cond, List, [], ◌∷◌, ◌++◌, Option, Some, None, is_some, refl, sym, ap, ap₂, ◌∙◌, append_assoc, append-nil, subst, T, ◌⊎◌, inl, inr}
-use Rattle.std.specs.FinMap.{is_sorted}
-use Rattle.fs_names.specs.Keys.{Key, key_cmp, same_key, after_prefix}
-use Rattle.fs_names.specs.Names.{Name, same_name, inserted_name, removed_name, has_name}
+use Rattle.std.proofs.Common.{◌≡◌, Bool, true, false, List, [], ◌∷◌, ◌++◌, Option, Some, None, is_some, refl, sym, ap, ap₂, ◌∙◌, append_assoc, append-nil, subst, ◌⊎◌, inl, inr}
+use Rattle.fs_names.specs.Keys.{Key, after_prefix}
+use Rattle.fs_names.specs.Names.{Name, inserted_name, removed_name, has_name}
 use Rattle.fs_names.specs.Parts.{is_end}
-use Rattle.fs_names.specs.Shapes.{Shape, Dir, File, names_of}
+use Rattle.fs_names.specs.Shapes.{Shape, Dir, names_of}
 use Rattle.fs_seq.proofs.Resolving.{true_T}
 use Rattle.fs_seq.specs.Tree as trees
 use Rattle.fs_seq.specs.Tree.{Tree, Node, look, names_in, IsTree}
-use Rattle.fs_seq.specs.Shapes.{seen, shape_of}
+use Rattle.fs_seq.specs.Shapes.{seen}
 use Rattle.fs_seq.specs.Changes.{rename_writes}
 use Rattle.fs_seq.specs.Laws.{IsMoved}
-use Rattle.fs_seq.specs.Maps.{Map, put, put_at, move, moved_to, moved_from, write_all}
+use Rattle.fs_seq.specs.Maps.{Map, put, move, write_all}
 use Rattle.fs_laws.specs.Placed.{Aside}
 use Rattle.fs_laws.proofs.Prefixes.{prefix_append, prefix_some}
 use Rattle.fs_laws.proofs.Commutes.{put_other, move_to, move_gone, move_else}
 use Rattle.fs_laws.proofs.Passing.{prefix_before, child_cases}
 use Rattle.fs_laws.proofs.Walks.{prefix_shorter}
 use Rattle.fs_laws.proofs.Listing.{has_with, with_else, has_without, without_else}
-use Rattle.fs_laws.proofs.Showing.{Rising, rising_names, rising_with, rising_without, ShowsAt, Shows, seen_by, old_has, shows_same}
+use Rattle.fs_laws.proofs.Showing.{Rising, rising_names, rising_with, rising_without, ShowsAt, seen_by, old_has, shows_same}
 use Rattle.fs_laws.proofs.Changing.{put_here, SameKey, Same, Other, same_or, SameName, Equals, Differs, same_name_or, child_of, names_seen, passes}
 
 -- what is known of a rename that moves

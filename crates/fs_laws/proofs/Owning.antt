@@ -9,7 +9,7 @@ use Rattle.fs_ops.specs.Finishes.{Made}
 use Rattle.fs_ops.specs.Records.{Holds, Record, Stand}
 use Rattle.fs_laws.specs.Invariants.{ForkedAt, StandsWell, NumberFor, VictimAt, HasSpare, Own}
 use Rattle.fs_laws.specs.Stands.{Located}
-use Rattle.fs_laws.specs.States.{finished_op}
+use Rattle.fs_ops.specs.Leaving.{finished_op}
 use Rattle.fs_laws.proofs.Walks.{at_from, then_some}
 use Rattle.fs_laws.proofs.Altering.{Altered, Reached}
 use Rattle.fs_laws.proofs.Renames.{dest_held}

@@ -1,5 +1,5 @@
 -- A number to which nothing leads leaves the graph, or comes into it.
-use Rattle.std.proofs.Common.{◌≡◌, ℕ, Bool, true, false, cond, eqb, List, [], ◌∷◌, ◌++◌, Option, Some, None, refl, sym, ap, ◌∙◌, subst, inl, inr}
+use Rattle.std.proofs.Common.{◌≡◌, ℕ, true, List, [], ◌∷◌, ◌++◌, Option, Some, None, refl, sym, ap, ◌∙◌, subst, inl, inr}
 use mathlib.Core.Path.{fun_ext}
 use Rattle.fs_names.specs.Keys.{Key, parent_of, last_of}
 use Rattle.fs_names.specs.Names.{Name, has_name}
@@ -8,9 +8,8 @@ use Rattle.fs_names.specs.Shapes.{Shape, Dir}
 use Rattle.fs_seq.specs.Forms.{Form, On, In, Rename}
 use Rattle.fs_nodes.specs.Graphs.{Graph, at, then_at, numbers, spell, IsGraph, released_in, reserved_in}
 use Rattle.fs_ops.specs.Records.{Record, Stand}
-use Rattle.fs_laws.specs.Invariants.{ForkedAt, StandsWell, NumberFor, VictimAt, HasSpare, IsIn, Own}
-use Rattle.fs_laws.specs.States.{without}
-use Rattle.fs_laws.proofs.Walks.{at_child, eqb_true, eqb_refl}
+use Rattle.fs_laws.specs.Invariants.{ForkedAt, StandsWell, NumberFor, VictimAt, HasSpare, Own}
+use Rattle.fs_laws.proofs.Walks.{at_child}
 use Rattle.fs_laws.proofs.Keeping.{Place, Here, Else, place}
 use Rattle.fs_laws.proofs.Helping.{upd_else}
 use Rattle.fs_laws.proofs.Owning.{reached_used}
@@ -95,39 +94,6 @@ graph_released graph is n loose = record {
         go (Here i j) = let z : ◌≡◌ {A = Option Shape} None (Some s) = sym j ∙ e in cc
         go (Else k j) = sym j ∙ e
 
--- the list of numbers in use
-without_step : (n m x : ℕ) (used rest : List ℕ) → (IsIn m rest → IsIn m used × (m ≡ n → ⊥)) → (b : Bool) → eqb n x ≡ b → IsIn m (cond b rest (x ∷ rest)) → IsIn m (x ∷ used) × (m ≡ n → ⊥)
-without_step n m x used rest f true e j = let r : IsIn m used × (m ≡ n → ⊥) = f j in (inr r.0, r.1)
-without_step n m x used rest f false e (inl j) = (inl j, λ k. (let z : eqb n x ≡ true = ap (eqb n) (sym j ∙ k) ∙ eqb_refl n in cc))
-without_step n m x used rest f false e (inr j) = let r : IsIn m used × (m ≡ n → ⊥) = f j in (inr r.0, r.1)
-
-pub without_in : (n m : ℕ) (used : List ℕ) → IsIn m (without n used) → IsIn m used × (m ≡ n → ⊥)
-without_in n m [] i = absurd i
-without_in n m (x ∷ used) i = without_step n m x used (without n used) (without_in n m used) (eqb n x) refl i
-
-within_step : (n m x : ℕ) (used rest : List ℕ) → (IsIn m used → IsIn m rest) → (m ≡ n → ⊥) → (b : Bool) → eqb n x ≡ b → IsIn m (x ∷ used) → IsIn m (cond b rest (x ∷ rest))
-within_step n m x used rest f h true e (inl j) = absurd (h (j ∙ sym (eqb_true n x e)))
-within_step n m x used rest f h true e (inr j) = f j
-within_step n m x used rest f h false e (inl j) = inl j
-within_step n m x used rest f h false e (inr j) = inr (f j)
-
-pub in_without : (n m : ℕ) (used : List ℕ) → IsIn m used → (m ≡ n → ⊥) → IsIn m (without n used)
-in_without n m [] i h = absurd i
-in_without n m (x ∷ used) i h = within_step n m x used (without n used) (λ j. in_without n m used j h) h (eqb n x) refl i
-
-abbrev pub InUse : Graph → List ℕ → Type 0
-InUse graph used = (n : ℕ) → (IsIn n used → (shape : Shape) × (graph.shape n ≡ Some shape)) × ((shape : Shape) → graph.shape n ≡ Some shape → IsIn n used)
-
-pub released_use : (graph : Graph) (used : List ℕ) (n : ℕ) → InUse graph used → InUse (released_in n graph) (without n used)
-released_use graph used n h m = (
-  (λ i. (let w : IsIn m used × (m ≡ n → ⊥) = without_in n m used i in let s : (s : Shape) × (graph.shape m ≡ Some s) = (h m).0 w.0 in (s.0, release_else graph n m w.1 ∙ s.1))),
-  (λ s e. back s e (place n None graph.shape m)),
-)
-  where
-    back : (s : Shape) → (released_in n graph).shape m ≡ Some s → Place (Option Shape) n None graph.shape m → IsIn m (without n used)
-    back s e (Here i j) = let z : ◌≡◌ {A = Option Shape} None (Some s) = sym j ∙ e in cc
-    back s e (Else k j) = in_without n m used ((h m).1 s (sym j ∙ e)) k
-
 -- a number that was not in use comes into use
 pub spell_reserved : (graph : Graph) → IsGraph graph → (n : ℕ) (s : Shape) → graph.shape n ≡ None → spell (reserved_in n s graph) ≡ spell graph
 spell_reserved graph is n s free = spell_kids graph (reserved_in n s graph) refl (λ m key e. upd_else n (Some s) graph.shape m (λ i.
@@ -150,22 +116,3 @@ graph_reserved graph is n s free bare = record {
     listed : (d : ℕ) (names : List Name) (x : Name) → (reserved_in n s graph).shape d ≡ Some (Dir names) → has_name x names ≡ true → Place (Option Shape) n (Some s) graph.shape d → (m : ℕ) × (graph.kid d x ≡ Some m)
     listed d names x e h (Here i j) = let z : ◌≡◌ {A = Option Shape} (Some s) (Some (Dir names)) = sym j ∙ e in absurd (bare names x (let y : s ≡ Dir names = cc in y) h)
     listed d names x e h (Else k j) = is.listed d names x (sym j ∙ e) h
-
-pub reserved_use : (graph : Graph) (used : List ℕ) (n : ℕ) (s : Shape) → InUse graph used → InUse (reserved_in n s graph) (n ∷ used)
-reserved_use graph used n s h m = (forth, λ t e. back t e (place n (Some s) graph.shape m))
-  where
-    there : IsIn m used → Place (Option Shape) n (Some s) graph.shape m → (t : Shape) × ((reserved_in n s graph).shape m ≡ Some t)
-    there i (Here j k) = (s, k)
-    there i (Else j k) = let u : (t : Shape) × (graph.shape m ≡ Some t) = (h m).0 i in (u.0, k ∙ u.1)
-
-    here : m ≡ n → Place (Option Shape) n (Some s) graph.shape m → (t : Shape) × ((reserved_in n s graph).shape m ≡ Some t)
-    here i (Here j k) = (s, k)
-    here i (Else j k) = absurd (j i)
-
-    forth : IsIn m (n ∷ used) → (t : Shape) × ((reserved_in n s graph).shape m ≡ Some t)
-    forth (inl i) = here i (place n (Some s) graph.shape m)
-    forth (inr i) = there i (place n (Some s) graph.shape m)
-
-    back : (t : Shape) → (reserved_in n s graph).shape m ≡ Some t → Place (Option Shape) n (Some s) graph.shape m → IsIn m (n ∷ used)
-    back t e (Here j k) = inl j
-    back t e (Else j k) = inr ((h m).1 t (sym k ∙ e))

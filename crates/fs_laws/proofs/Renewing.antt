@@ -39,7 +39,7 @@ settle_same tree ops new key key_new (c ∷ cs) h =
       ap (λ (rs : List Reply). reply tree (under (key_new c) (remaining_of (new c))) ∷ rs) r.1 ∙ ap (λ (f : Form). reply tree f ∷ settle_replies (after tree f) (spots ops key cs)) e,
     )
 
-pub record Renews (old : State) (inv : Invariant old) (c : ℕ) (op v : Record) (graph : Graph) (used : List ℕ) (holder : ℕ → Option ℕ) (k : Key) : Type 0 where
+pub record Renews (old : State) (inv : Invariant old) (c : ℕ) (op v : Record) (graph : Graph) (holder : ℕ → Option ℕ) (k : Key) : Type 0 where
   pub is : old.ops c ≡ Some op
   pub seat : v.seat ≡ op.seat
   pub call : v.call ≡ op.call
@@ -52,14 +52,13 @@ pub record Renews (old : State) (inv : Invariant old) (c : ℕ) (op v : Record) 
   pub own_other : (d : ℕ) (q : Record) → (d ≡ c → ⊥) → old.ops d ≡ Some q → Own graph q
   pub held : (d : ℕ) (q : Record) (st : Stand) (n : ℕ) → Either old.ops c v d q → q.stand ≡ Some st → Holds st n → holder n ≡ Some d
   pub spares : (n : ℕ) → HasSpare v n → HasSpare op n
-  pub in_use : (n : ℕ) → (IsIn n used → (shape : Shape) × (graph.shape n ≡ Some shape)) × ((shape : Shape) → graph.shape n ≡ Some shape → IsIn n used)
 
 -- the state after it
-abbrev pub renewed : State → ℕ → Record → Graph → List ℕ → (ℕ → Option ℕ) → State
-renewed old c v graph used holder = record old { graph = graph; used = used; holder = holder; ops = set_at c (Some v) old.ops }
+abbrev pub renewed : State → ℕ → Record → Graph → (ℕ → Option ℕ) → State
+renewed old c v graph holder = record old { graph = graph; holder = holder; ops = set_at c (Some v) old.ops }
 
-pub renews_keep : (old : State) (inv : Invariant old) (c : ℕ) (op v : Record) (graph : Graph) (used : List ℕ) (holder : ℕ → Option ℕ) (k : Key) → Renews old inv c op v graph used holder k → Invariant (renewed old c v graph used holder)
-renews_keep old inv c op v graph used holder k f = record {
+pub renews_keep : (old : State) (inv : Invariant old) (c : ℕ) (op v : Record) (graph : Graph) (holder : ℕ → Option ℕ) (k : Key) → Renews old inv c op v graph holder k → Invariant (renewed old c v graph holder)
+renews_keep old inv c op v graph holder k f = record {
   key = set_at c k inv.key;
   order = inv.order;
   is_graph = f.is_graph;
@@ -71,7 +70,6 @@ renews_keep old inv c op v graph used holder k f = record {
   own = λ d q e. own d q (either old.ops c v d q e);
   held = λ d q st n e. f.held d q st n (either old.ops c v d q e);
   apart = λ x y n p q differs e g. apart x y n p q differs (either old.ops c v x p e) (either old.ops c v y q g);
-  in_use = f.in_use;
   seated = seated;
   busy = inv.busy;
   seat_of = λ d q e. seat_of d q (either old.ops c v d q e);

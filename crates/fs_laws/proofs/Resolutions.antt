@@ -1,30 +1,27 @@
 -- A tree as a sorted list and as a map: resolution, and the rows of the calls.
-use Rattle.std.proofs.Common.{◌≡◌, ◌≢◌, ℕ, ◌+◌, length, Bool, true, false, cond, not, ◌&&◌, ◌||◌, List, [], ◌∷◌, ◌++◌, Option, Some, None, is_some, refl, sym, ap, ap₂, ◌∙◌, append_assoc, append-nil, subst}
+use Rattle.std.proofs.Common.{◌≡◌, ◌≢◌, ℕ, ◌+◌, length, Bool, true, false, cond, not, ◌&&◌, ◌||◌, List, [], ◌∷◌, ◌++◌, Option, Some, None, is_some, refl, sym, ap, ap₂, ◌∙◌, append_assoc, append-nil}
 use Rattle.std.specs.Prelude.{nat_lt, take, drop}
 use mathlib.Core.Path.{fun_ext}
 use Rattle.fs_names.specs.First.{on, or_else, first}
-use Rattle.fs_names.specs.Keys.{Key, same_key, is_root, is_proper_prefix, after_prefix, parent_of, has_more}
-use Rattle.fs_names.specs.Names.{Name}
+use Rattle.fs_names.specs.Keys.{Key, same_key, after_prefix, parent_of, has_more}
 use Rattle.fs_names.specs.Parts.{is_end}
-use Rattle.fs_names.specs.Shapes.{Shape, Dir, File, is_there, is_missing, is_dir, is_file, has_any, has_entries, is_full, names_of, bytes_of}
+use Rattle.fs_names.specs.Shapes.{Shape, Dir, File, is_there, is_file, is_full, names_of, bytes_of}
 use Rattle.fs_names.specs.declared.limits.TheConstants.{FILE_LIMIT}
 use Rattle.fs_seq.specs.Tree as trees
 use Rattle.fs_seq.specs.Tree.{Tree, Node, look, names_in, IsTree}
 use Rattle.fs_seq.specs.Shapes.{seen, shape_of}
 use Rattle.fs_seq.specs.Errors as errors
 use Rattle.fs_seq.specs.Errors.{making, unlinking, removing, replacing, renaming, listing, reading, writing, truncating}
-use Rattle.fs_seq.specs.Outcomes as outcomes
 use Rattle.fs_seq.specs.Outcomes.{verdict, verdict_along, resolution, parents_resolution, replied, status, written, resized}
 use Rattle.fs_seq.specs.Changes.{resolve, resolve_next, resolve_dir}
-use Rattle.fs_seq.specs.Forms.{form, by_text, if_below, EntryCall, Mkdir, Mknod, Unlink, Rmdir, NodeCall, Stat, Readdir, Read, Write, Truncate}
+use Rattle.fs_seq.specs.Forms.{form, by_text, if_below, EntryCall, Unlink, Rmdir, Stat, Readdir, Read, Write, Truncate}
 use Rattle.fs_seq.specs.Maps.{Map, below}
-use Rattle.fs_seq.specs.Rows.{made, as_dir, on_row, Edit, Keep, Add, Remove, in_row, to_row, moves_row, rename_row}
+use Rattle.fs_seq.specs.Rows.{made, as_dir, on_row, Edit, in_row, to_row, moves_row, rename_row}
 use Rattle.fs_seq.specs.declared.call.Call.{Call}
 use Rattle.fs_seq.specs.declared.call.Call.TheVariants as calls
 use Rattle.fs_seq.specs.declared.errno.Errno.{Errno}
-use Rattle.fs_seq.specs.declared.errno.Errno.TheVariants.{Enoent, Enotdir, Eexist, Enotempty, Eisdir, Einval, Ebusy, Eperm, Enospc, Efbig}
+use Rattle.fs_seq.specs.declared.errno.Errno.TheVariants.{Enotdir, Eexist, Enotempty, Eisdir, Einval, Enospc, Efbig}
 use Rattle.fs_seq.specs.declared.reply.Reply.{Reply}
-use Rattle.fs_seq.specs.declared.reply.Reply.TheVariants as answer
 use Rattle.fs_seq.specs.declared.reply.Reply.TheVariants.{Done, Names, Bytes, Wrote, Failed}
 use Rattle.fs_seq.proofs.ResolutionLemmas.{nothing_below, resolution-none}
 use Rattle.fs_seq.proofs.LookLemmas.{same_key_exact, same_key_refl}

@@ -1,5 +1,5 @@
 -- A return keeps what every state keeps.
-use Rattle.std.proofs.Common.{◌≡◌, ℕ, ◌<◌, true, List, [], ◌∷◌, ◌++◌, Option, Some, None, refl, sym, ap, ◌∙◌, subst, inl}
+use Rattle.std.proofs.Common.{◌≡◌, ℕ, ◌<◌, true, [], ◌∷◌, ◌++◌, Option, Some, None, refl, sym, ap, ◌∙◌, subst, inl}
 use Rattle.fs_names.specs.Keys.{Key}
 use Rattle.fs_names.specs.Names.{Name}
 use Rattle.fs_names.specs.Shapes.{Shape}
@@ -8,37 +8,36 @@ use Rattle.fs_seq.specs.Maps.{Map}
 use Rattle.fs_seq.specs.declared.reply.Reply.{Reply}
 use Rattle.fs_nodes.specs.Graphs.{Graph, at, numbers, spell, set_at, IsGraph}
 use Rattle.fs_journal.specs.declared.entry.Entry.TheVariants.{Return}
+use Rattle.fs_ops.specs.Leaving.{unreserved}
 use Rattle.fs_ops.specs.Moves.{Ends, next, next_by}
 use Rattle.fs_ops.specs.Records.{Phase, Placed, Finished, Record, Stand}
 use Rattle.fs_laws.specs.Books.{commit_count, Book, start, book_of, noted, free_seat}
 use Rattle.fs_laws.specs.Invariants.{remaining_of, spots, IsPlaced, HasSpare, IsIn, Invariant, StepKeeps, Tied, Dues}
 use Rattle.fs_laws.specs.Settled.{settle, settle_replies}
 use Rattle.fs_laws.specs.Stands.{Kept}
-use Rattle.fs_laws.specs.States.{State, Returned, unreserved, unused}
+use Rattle.fs_laws.specs.States.{State, Returned}
 use Rattle.fs_laws.proofs.Keeping.{Place, Here, Else, place}
 use Rattle.fs_laws.proofs.Helping.{upd_else}
 use Rattle.fs_laws.proofs.Books.{book_push, lawful_push, returns_commits, returns_begins, dues_due}
 use Rattle.fs_laws.proofs.Committing.{order_without, placed_in}
 use Rattle.fs_laws.proofs.Renewing.{settle_same}
-use Rattle.fs_laws.proofs.Releasing.{InUse, own_kids, release_else, spell_released, graph_released, released_use}
+use Rattle.fs_laws.proofs.Releasing.{own_kids, release_else, spell_released, graph_released}
 
 -- the graph after the reserved number is given back
-pub record GivenBack (old : State) (op : Record) (graph : Graph) (used : List ℕ) : Type 0 where
+pub record GivenBack (old : State) (op : Record) (graph : Graph) : Type 0 where
   pub kids : graph.kid ≡ old.graph.kid
   pub is_graph : IsGraph graph
   pub spelled : spell graph ≡ spell old.graph
-  pub in_use : InUse graph used
   pub shapes : (m : ℕ) → (HasSpare op m → ⊥) → graph.shape m ≡ old.graph.shape m
 
-given_back : (old : State) (inv : Invariant old) (c : ℕ) (op : Record) → old.ops c ≡ Some op → (o : Option ℕ) → op.reserved ≡ o → GivenBack old op (unreserved o old.graph) (unused o old.used)
-given_back old inv c op is None e = record { kids = refl; is_graph = inv.is_graph; spelled = refl; in_use = inv.in_use; shapes = λ m h. refl }
+given_back : (old : State) (inv : Invariant old) (c : ℕ) (op : Record) → old.ops c ≡ Some op → (o : Option ℕ) → op.reserved ≡ o → GivenBack old op (unreserved o old.graph)
+given_back old inv c op is None e = record { kids = refl; is_graph = inv.is_graph; spelled = refl; shapes = λ m h. refl }
 given_back old inv c op is (Some n) e =
     let loose : (key : Key) → numbers old.graph key ≡ Some n → ⊥ = ((inv.own c op is).spare n e).1 in
     record {
       kids = refl;
       is_graph = graph_released old.graph inv.is_graph n loose;
       spelled = spell_released old.graph n loose;
-      in_use = released_use old.graph old.used n inv.in_use;
       shapes = λ m h. release_else old.graph n m (λ i. h (inl (e ∙ ap (λ (x : ℕ). Some x) (sym i))));
     }
 
@@ -53,9 +52,9 @@ ends_nowhere graph op r ph m = go op.stand refl (ap (λ (p : Phase). next_by gra
 pub numbers_by : (old new : Graph) → new.kid ≡ old.kid → numbers new ≡ numbers old
 numbers_by old new e = ap (λ (k : ℕ → Name → Option ℕ). λ (key : Key). at k 0 key) e
 
-return_keeps : (old : State) (inv : Invariant old) (c : ℕ) (op : Record) (r : Reply) (graph : Graph) (used : List ℕ) → old.ops c ≡ Some op → op.phase ≡ Finished r → op.stand ≡ None → GivenBack old op graph used
-    → Invariant (record old { graph = graph; used = used; ops = set_at c None old.ops; on_seat = set_at op.seat None old.on_seat; timeline = old.timeline ++ Return c r ∷ [] })
-return_keeps old inv c op r graph used is ph off b = record {
+return_keeps : (old : State) (inv : Invariant old) (c : ℕ) (op : Record) (r : Reply) (graph : Graph) → old.ops c ≡ Some op → op.phase ≡ Finished r → op.stand ≡ None → GivenBack old op graph
+    → Invariant (record old { graph = graph; ops = set_at c None old.ops; on_seat = set_at op.seat None old.on_seat; timeline = old.timeline ++ Return c r ∷ [] })
+return_keeps old inv c op r graph is ph off b = record {
   key = inv.key;
   order = inv.order;
   is_graph = b.is_graph;
@@ -67,7 +66,6 @@ return_keeps old inv c op r graph used is ph off b = record {
   own = λ d q e. own_kids old.graph graph b.kids q (λ m h. b.shapes m (λ g. inv.apart c d m op q (λ i. (was d q e).0 (sym i)) is (was d q e).1 g h)) (inv.own d q (was d q e).1);
   held = λ d q st n e f h. inv.held d q st n (was d q e).1 f h;
   apart = λ x y n p q differs e f. inv.apart x y n p q differs (was x p e).1 (was y q f).1;
-  in_use = b.in_use;
   seated = seated;
   busy = λ s. ap (λ (k : Book). k.busy s) book_is ∙ ap (λ (o : Option ℕ). free_seat (book_of start old.timeline) o s) (inv.seat_of c op is).0 ∙ busy s (place op.seat None (book_of start old.timeline).busy s) (place op.seat None old.on_seat s);
   seat_of = λ d q e. (
@@ -137,4 +135,4 @@ return_keeps old inv c op r graph used is ph off b = record {
     busy s (Else n j) (Else m l) = j ∙ inv.busy s ∙ sym l
 
 pub keeps_returned : (r : Reply) → StepKeeps (Returned r)
-keeps_returned r old new seat inv (c, op, moves, ph, same) = subst Invariant (sym same) (return_keeps old inv c op r (unreserved op.reserved old.graph) (unused op.reserved old.used) moves.1 ph (ends_nowhere old.graph op r ph moves.2) (given_back old inv c op moves.1 op.reserved refl))
+keeps_returned r old new seat inv (c, op, moves, ph, same) = subst Invariant (sym same) (return_keeps old inv c op r (unreserved op.reserved old.graph) moves.1 ph (ends_nowhere old.graph op r ph moves.2) (given_back old inv c op moves.1 op.reserved refl))

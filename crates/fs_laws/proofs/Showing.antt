@@ -1,21 +1,20 @@
 -- What a map has to say to be what is seen of a tree.
-use Rattle.std.proofs.Common.{◌≡◌, ◌≢◌, ℕ, Bool, true, false, cond, not, ◌&&◌, ◌||◌, List, [], ◌∷◌, ◌++◌, map, Option, Some, None, is_some, refl, sym, ap, ap₂, ◌∙◌, append_assoc, append-nil, subst, T, Ordering, Less, Equal, Greater}
+use Rattle.std.proofs.Common.{◌≡◌, ℕ, Bool, true, false, cond, not, ◌&&◌, ◌||◌, List, [], ◌∷◌, ◌++◌, map, Option, Some, None, is_some, refl, sym, ap, ◌∙◌, subst, T, Ordering, Less, Equal, Greater}
 use Rattle.std.specs.List.{list_any}
 use Rattle.std.specs.Ordering.{is_eq, is_lt, ordering_then}
 use Rattle.std.specs.FinMap.{find, put as put_entry, is_sorted}
-use Rattle.std.specs.FinMap.Entries.{by_order, below_all, where_key, is_sorted-put, is_sorted-where_key, find-put}
+use Rattle.std.specs.FinMap.Entries.{by_order, below_all, where_key, is_sorted-put, is_sorted-where_key}
 use Rattle.std.proofs.lemmas.Cmp.{tied_itself}
-use Rattle.fs_names.specs.Keys.{Key, key_cmp, same_key, after_prefix}
+use Rattle.fs_names.specs.Keys.{Key, key_cmp, after_prefix}
 use Rattle.fs_names.specs.Names.{Name, name_cmp, same_name, inserted_name, removed_name, has_name}
-use Rattle.fs_names.specs.Shapes.{Shape, Dir, File, names_of}
-use Rattle.fs_names.proofs.Lemmas.{name_total, after_prefix-exact, after_prefix-append}
+use Rattle.fs_names.specs.Shapes.{Shape, Dir, File}
+use Rattle.fs_names.proofs.Lemmas.{name_total, after_prefix-exact}
 use Rattle.fs_seq.specs.Tree as trees
 use Rattle.fs_seq.specs.Tree.{Tree, Node, look, names_in, name_in, only_name, with_name, IsTree}
 use Rattle.fs_seq.specs.Shapes.{seen, shape_of}
 use Rattle.fs_seq.specs.Maps.{Map}
 use Rattle.fs_seq.proofs.Children.{names_in-links}
 use Rattle.fs_seq.proofs.ResolutionLemmas.{any-names_in}
-use Rattle.fs_laws.proofs.Prefixes.{same_refl, same_true}
 
 -- names, each with the same mark
 abbrev pub marked : List Name → List (Name × ℕ)

@@ -74,8 +74,8 @@ pub take_keeps : (old : State) (inv : Invariant old) (c : ℕ) (op v : Record) (
     → ((i : ℕ) → op.phase ≡ Placed i → under k v.remaining ≡ under (inv.key c) op.remaining)
     → Own old.graph v
     → ((st : Stand) (q : ℕ) → v.stand ≡ Some st → Holds st q → (q ≡ n) ⊎ (old.holder q ≡ Some c))
-    → Invariant (renewed old c v old.graph old.used (set_at n (Some c) old.holder))
-take_keeps old inv c op v n k t seat call phase reserved removed kept same own holds = renews_keep old inv c op v old.graph old.used (set_at n (Some c) old.holder) k (record {
+    → Invariant (renewed old c v old.graph (set_at n (Some c) old.holder))
+take_keeps old inv c op v n k t seat call phase reserved removed kept same own holds = renews_keep old inv c op v old.graph (set_at n (Some c) old.holder) k (record {
   is = t.is;
   seat = seat;
   call = call;
@@ -88,7 +88,6 @@ take_keeps old inv c op v n k t seat call phase reserved removed kept same own h
   own_other = λ d q m e. inv.own d q e;
   held = held;
   spares = spares;
-  in_use = inv.in_use;
 })
   where
     spares : (m : ℕ) → HasSpare v m → HasSpare op m
@@ -148,7 +147,7 @@ under_nil (Rename p q) = refl
 
 -- the root
 pub take_root : (old : State) (inv : Invariant old) (c : ℕ) (op : Record) (n : ℕ) → Taker old inv c op n → by_text (form op.call) ≡ None → op.stand ≡ None → 0 ≡ n → Invariant (taking old c op n)
-take_root old inv c op n t text off at_root = subst (λ (v : Record). Invariant (renewed old c v old.graph old.used (set_at n (Some c) old.holder))) (sym took_is)
+take_root old inv c op n t text off at_root = subst (λ (v : Record). Invariant (renewed old c v old.graph (set_at n (Some c) old.holder))) (sym took_is)
     (take_keeps old inv c op (record op { stand = Some (stand_at n None) }) n [] t refl refl refl refl refl kept (λ i e. absurd (not_placed i e)) own holds)
   where
     o : Own old.graph op
@@ -248,7 +247,7 @@ head_passes graph h None m n e = (refl, e)
 
 -- the next node on the way to the target
 pub take_walk : (old : State) (inv : Invariant old) (c : ℕ) (op : Record) (n : ℕ) (st : Stand) (x : Name) (l : Key) → Taker old inv c op n → op.stand ≡ Some st → target op.remaining ≡ x ∷ l → old.graph.kid st.node x ≡ Some n → Invariant (taking old c op n)
-take_walk old inv c op n st x l t on way kid = subst (λ (v : Record). Invariant (renewed old c v old.graph old.used (set_at n (Some c) old.holder))) (sym took_is)
+take_walk old inv c op n st x l t on way kid = subst (λ (v : Record). Invariant (renewed old c v old.graph (set_at n (Some c) old.holder))) (sym took_is)
     (take_keeps old inv c op v n (inv.key c ++ x ∷ []) t refl refl refl refl refl kept (λ i e. step.same) own holds)
   where
     v : Record

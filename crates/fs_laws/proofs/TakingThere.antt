@@ -46,7 +46,7 @@ own_stand graph op new o unf well victim single heads = record {
 take_there : (old : State) (inv : Invariant old) (c : ℕ) (op : Record) (n : ℕ) (st new : Stand) → Taker old inv c op n → op.stand ≡ Some st → took op n ≡ record op { stand = Some new } → new.node ≡ st.node
     → Taken (numbers old.graph) (inv.key c) st (inv.key c) new n → Located (numbers old.graph) (inv.key c) new → StandsWell old.graph new.node op.remaining new → VictimAt old.graph op.remaining new → IsSingle new → HeadsFit new
     → Invariant (taking old c op n)
-take_there old inv c op n st new t on took_is node taken loc well victim single heads = subst (λ (v : Record). Invariant (renewed old c v old.graph old.used (set_at n (Some c) old.holder))) (sym took_is)
+take_there old inv c op n st new t on took_is node taken loc well victim single heads = subst (λ (v : Record). Invariant (renewed old c v old.graph (set_at n (Some c) old.holder))) (sym took_is)
     (take_keeps old inv c op (record op { stand = Some new }) n (inv.key c) t refl refl refl refl refl
     (kept_take (numbers old.graph) old.ops inv.key c op st n (inv.key c) new (record op { stand = Some new }) inv.kept t.is on refl refl (is_free old inv n t.free) taken
     (let k : Keeps (numbers old.graph) (inv.key c) op st = inv.kept.each c op st t.is on in record { located = loc; walking = k.walking; fits = k.fits }))

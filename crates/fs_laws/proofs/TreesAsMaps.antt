@@ -1,12 +1,12 @@
 -- A tree as a sorted list answers each call as the map that is seen of it, and leaves what the map leaves.
-use Rattle.std.proofs.Common.{◌≡◌, ◌≢◌, ℕ, ◌+◌, length, Bool, true, false, cond, not, ◌&&◌, ◌||◌, List, [], ◌∷◌, ◌++◌, Option, Some, None, is_some, refl, sym, ap, ap₂, ◌∙◌, append-nil, subst, T}
-use Rattle.std.specs.Prelude.{nat_lt, take, drop}
+use Rattle.std.proofs.Common.{◌≡◌, ℕ, ◌+◌, length, Bool, true, false, cond, not, ◌||◌, List, [], ◌∷◌, ◌++◌, Option, Some, None, is_some, refl, sym, ap, ap₂, ◌∙◌, append-nil, subst}
+use Rattle.std.specs.Prelude.{nat_lt}
 use mathlib.Core.Path.{fun_ext}
-use Rattle.fs_names.specs.First.{on, or_else, first}
-use Rattle.fs_names.specs.Keys.{Key, same_key, is_root, after_prefix, parent_of, last_of}
-use Rattle.fs_names.specs.Names.{Name, inserted_name, removed_name}
+use Rattle.fs_names.specs.First.{or_else}
+use Rattle.fs_names.specs.Keys.{Key, same_key, after_prefix, parent_of, last_of}
+use Rattle.fs_names.specs.Names.{inserted_name, removed_name}
 use Rattle.fs_names.specs.Parts.{HasNames, is_end}
-use Rattle.fs_names.specs.Shapes.{Shape, Dir, File, is_there, is_file, has_any, is_full, names_of, bytes_of}
+use Rattle.fs_names.specs.Shapes.{Shape, Dir, File, has_any, is_full, names_of, bytes_of}
 use Rattle.fs_names.specs.declared.limits.TheConstants.{FILE_LIMIT}
 use Rattle.fs_seq.specs.Tree as trees
 use Rattle.fs_seq.specs.Tree.{Tree, Node, look, names_in, inserted, removed, renamed, IsTree}
@@ -15,19 +15,19 @@ use Rattle.fs_seq.specs.Errors as errors
 use Rattle.fs_seq.specs.Errors.{making}
 use Rattle.fs_seq.specs.Outcomes as list
 use Rattle.fs_seq.specs.Outcomes.{resolution, parents_resolution, row, fault, success, change, replied, written, resized}
-use Rattle.fs_seq.specs.Laws.{IsMoved, RenamesMove}
-use Rattle.fs_seq.specs.Changes.{Change, changed, no_change, resolve, resolve_dir, content_change, edit_change, rename_writes, move_change, looked, unless, outcome, reply, after}
+use Rattle.fs_seq.specs.Laws.{IsMoved}
+use Rattle.fs_seq.specs.Changes.{changed, resolve, resolve_dir, content_change, edit_change, rename_writes, move_change, looked, unless, reply, after}
 use Rattle.fs_seq.specs.Forms.{form, by_text, Form, On, In, Rename, EntryCall, Mkdir, Mknod, Unlink, Rmdir, NodeCall, Stat, Readdir, Read, Write, Truncate}
 use Rattle.fs_seq.specs.Maps.{Map, put, move, write_all}
-use Rattle.fs_seq.specs.Rows.{made, to_row, moves_row, as_dir, on_row, Edit, Keep, Add, Remove, in_row, rename_row}
+use Rattle.fs_seq.specs.Rows.{made, to_row, moves_row, on_row, Edit, Keep, Add, Remove, in_row, rename_row}
 use Rattle.fs_seq.specs.declared.call.Call.{Call}
 use Rattle.fs_seq.specs.declared.call.Call.TheVariants as calls
 use Rattle.fs_seq.specs.declared.errno.Errno.{Errno}
 use Rattle.fs_seq.specs.declared.errno.Errno.TheVariants.{Efbig}
 use Rattle.fs_seq.specs.declared.reply.Reply.{Reply}
-use Rattle.fs_seq.specs.declared.reply.Reply.TheVariants.{Done, Names, Bytes, Wrote, Failed}
+use Rattle.fs_seq.specs.declared.reply.Reply.TheVariants.{Done, Wrote, Failed}
 use Rattle.fs_names.proofs.FirstLemmas.{or_else-none}
-use Rattle.fs_seq.proofs.FaultLemmas.{Makes, mkdir_makes, mknod_makes, Removes, unlink_removes, rmdir_removes, Renames, rename_renames}
+use Rattle.fs_seq.proofs.FaultLemmas.{Makes, mkdir_makes, mknod_makes, Renames, rename_renames}
 use Rattle.fs_seq.proofs.ResolutionLemmas.{parents_resolution-none}
 use Rattle.fs_seq.proofs.TreeLaws.{stays_a_tree, renames_move}
 use Rattle.fs_laws.specs.Laws.{TreesAsMaps}

@@ -1,5 +1,5 @@
 -- A step and a begin that compute, for worked examples: the first number that isn't in use is reserved.
-use Rattle.std.specs.Prelude.{ℕ, zero, suc, ◌+◌, Bool, true, false, cond, eqb, not, ◌&&◌, ◌||◌, List, [], ◌∷◌, ◌++◌, Option, Some, None, length}
+use Rattle.std.specs.Prelude.{ℕ, zero, suc, ◌+◌, Bool, true, false, cond, eqb, not, ◌&&◌, ◌||◌, List, [], ◌∷◌, ◌++◌, Option, Some, None}
 use Rattle.fs_names.specs.Names.{Name}
 use Rattle.fs_names.specs.Shapes.{Shape, names_of}
 use Rattle.fs_seq.specs.Forms.{form, reserves}
@@ -10,7 +10,7 @@ use Rattle.fs_ops.specs.Records.{Stand, Phase, Walking, Placed, Finished, Record
 use Rattle.fs_laws.specs.Books.{begins}
 use Rattle.fs_laws.specs.States.{State, began, Stepped, Idle, Took, Busy, LetGo, Helped, Committed, CarriedOut, Returned, taking, letting_go, helping, carrying, committing, returning}
 
--- whether n is reached from s by at most so many names
+-- whether n is reached from s by at most so many names (no more numbers are in use than calls began, and the root)
 abbrev pub any_kid : (ℕ → Bool) → (Name → Option ℕ) → List Name → Bool
 any_kid f kid [] = false
 any_kid f kid (x ∷ xs) = go (kid x) || any_kid f kid xs
@@ -42,7 +42,7 @@ walks (Some op) = is_walking op.phase
 
 abbrev pub leads_to : State → ℕ → Option ℕ → Bool
 leads_to state s None = false
-leads_to state s (Some n) = leads (length state.used) state.graph n s
+leads_to state s (Some n) = leads (begins state.timeline + 1) state.graph n s
 
 -- the walking calls below s among the first c calls
 abbrev pub walking_below : State → ℕ → ℕ → List ℕ
@@ -112,10 +112,10 @@ free_from zero graph n = n
 free_from (suc f) graph n = cond (is_some_shape (graph.shape n)) (free_from f graph (suc n)) n
 
 abbrev pub reserve_by : State → ℕ → Call → Option Shape → State
-reserve_by old seat call None = began old seat call (begins old.timeline + 1) None old.graph old.used
+reserve_by old seat call None = began old seat call (begins old.timeline + 1) None old.graph
 reserve_by old seat call (Some shape) =
-    let n : ℕ = free_from (length old.used) old.graph 0 in
-    began old seat call (begins old.timeline + 1) (Some n) (reserved_in n shape old.graph) (n ∷ old.used)
+    let n : ℕ = free_from (begins old.timeline + 1) old.graph 0 in
+    began old seat call (begins old.timeline + 1) (Some n) (reserved_in n shape old.graph)
 
 abbrev pub beginning : State → ℕ → Call → State
 beginning old seat call = reserve_by old seat call (reserves (form call))

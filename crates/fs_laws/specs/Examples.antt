@@ -9,6 +9,7 @@ use Rattle.fs_seq.specs.declared.call.Call.TheVariants.{Mkdir, Mknod, Unlink, Rm
 use Rattle.fs_seq.specs.declared.errno.Errno.TheVariants.{Eexist, Ebusy, Eperm, Enotempty}
 use Rattle.fs_seq.specs.declared.reply.Reply.TheVariants.{Done, Wrote, Failed}
 use Rattle.fs_nodes.specs.Graphs.{spell}
+use Rattle.fs_nodes.specs.Stores.{used_below}
 use Rattle.fs_journal.specs.declared.entry.Entry.TheVariants.{Begin, Commit, Return}
 use Rattle.fs_laws.specs.Computing.{Event, B, S, state_after, answers}
 use Rattle.fs_laws.specs.States.{State, empty, Took, Busy, LetGo, Helped, Committed, CarriedOut, Returned}
@@ -119,4 +120,4 @@ pub record VictimIsWaitedFor : Type 0 where
   pub timeline : (after (victim_is_waited_for_before ++ victim_is_waited_for)).timeline ≡ Begin 1 0 (Mknod (at "/f")) ∷ Commit 1 ∷ Return 1 Done ∷ Begin 2 0 (Write (at "/f") 0 (104 ∷ 105 ∷ [])) ∷ Begin 3 1 (Unlink (at "/f")) ∷ Commit 2 ∷ Return 2 (Wrote 2) ∷ Commit 3 ∷ Return 3 Done ∷ []
   pub at_root : spell (after (victim_is_waited_for_before ++ victim_is_waited_for)).graph [] ≡ Some (Dir [])
   pub at_f : spell (after (victim_is_waited_for_before ++ victim_is_waited_for)).graph (at "/f") ≡ None
-  pub used : (after (victim_is_waited_for_before ++ victim_is_waited_for)).used ≡ 0 ∷ []
+  pub used : used_below (after (victim_is_waited_for_before ++ victim_is_waited_for)).graph.shape 3 ≡ 1

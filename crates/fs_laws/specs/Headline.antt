@@ -1,8 +1,6 @@
 -- The linearization theorem.
 use Rattle.std.specs.Prelude.{ℕ, ◌≡◌, None}
-use Rattle.fs_seq.specs.Changes.{play_from, root_tree}
 use Rattle.fs_nodes.specs.Graphs.{spell}
-use Rattle.fs_laws.specs.Books.{IsLawful, start, commits_of}
 use Rattle.fs_seq.specs.Shapes.{seen}
 use Rattle.fs_seq.specs.Outcomes as tree
 use Rattle.fs_journal.specs.Timeline as journal

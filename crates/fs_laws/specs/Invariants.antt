@@ -164,9 +164,8 @@ pub record Invariant (s : State) : Type 0 where
   pub own : (c : ℕ) (op : Record) → s.ops c ≡ Some op → Own s.graph op
   -- holders: who stands at a node holds it, and nobody else does
   pub held : (c : ℕ) (op : Record) (st : Stand) (n : ℕ) → s.ops c ≡ Some op → op.stand ≡ Some st → Holds st n → s.holder n ≡ Some c
-  -- two calls have no reserved or removed number in common, and the numbers in use are the graph's
+  -- two calls have no reserved or removed number in common
   pub apart : (c d n : ℕ) (p q : Record) → (c ≡ d → ⊥) → s.ops c ≡ Some p → s.ops d ≡ Some q → HasSpare p n → HasSpare q n → ⊥
-  pub in_use : (n : ℕ) → (IsIn n s.used → (shape : Shape) × (s.graph.shape n ≡ Some shape)) × ((shape : Shape) → s.graph.shape n ≡ Some shape → IsIn n s.used)
   -- seats and numbers
   pub seated : (seat c : ℕ) → s.on_seat seat ≡ Some c → (op : Record) × (s.ops c ≡ Some op) × (op.seat ≡ seat)
   pub busy : (seat : ℕ) → (book_of start s.timeline).busy seat ≡ s.on_seat seat
