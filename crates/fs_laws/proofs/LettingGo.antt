@@ -171,7 +171,7 @@ pub data Behind (st : Stand) (n : ℕ) : Type 0 where
   Source : st.behind ≡ None → st.source.behind ≡ Some n → Behind st n
   Dest : st.behind ≡ None → st.source.behind ≡ None → st.dest.behind ≡ Some n → Behind st n
 
-behind_of_move : (graph : Graph) (rem : Form) (st : Stand) (n : ℕ) → next_on graph rem st ≡ Leaves n → Behind st n
+pub behind_of_move : (graph : Graph) (rem : Form) (st : Stand) (n : ℕ) → next_on graph rem st ≡ Leaves n → Behind st n
 behind_of_move graph rem st n m = walk (head_leaves graph st.node st.behind (target rem) (target_move graph rem st) n m)
   where
     dest : (p q : Key) → st.behind ≡ None → st.source.behind ≡ None → (st.dest.behind ≡ Some n) ⊎ ((st.dest.behind ≡ None) × (dir_then (graph.shape st.dest.node) (rename_move graph p q st) ≡ Leaves n)) → Behind st n
