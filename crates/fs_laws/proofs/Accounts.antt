@@ -1,11 +1,10 @@
 -- What every state of a run keeps besides: who is a node's holder stands at it, calls under way are on their seats, and numbers and sizes are within their limits.
-use Rattle.std.proofs.Common.{◌≡◌, ℕ, ◌+◌, ◌<◌, ◌≤◌, Bool, true, false, List, [], ◌∷◌, ◌++◌, Option, Some, None, refl, sym, ap, ap₂, ◌∙◌, subst, arith, length, inl, inr}
+use Rattle.std.proofs.Common.{◌≡◌, ℕ, ◌+◌, ◌<◌, ◌≤◌, Bool, true, false, List, [], ◌∷◌, Option, Some, None, refl, sym, ap, ◌∙◌, subst, arith}
 use Rattle.fs_names.specs.Keys.{Key}
 use Rattle.fs_names.specs.Names.{Name}
 use Rattle.fs_names.specs.Shapes.{Shape, Dir, File}
 use Rattle.fs_seq.specs.Forms.{form, by_text, reserves, Form, On, In, Rename, Mkdir, Mknod, Unlink, Rmdir}
 use Rattle.fs_seq.specs.declared.call.Call.{Call}
-use Rattle.fs_seq.specs.declared.errno.Errno.{Errno}
 use Rattle.fs_seq.specs.declared.reply.Reply.{Reply}
 use Rattle.fs_nodes.specs.Graphs.{Graph, empty_graph, numbers, set_at, released_in, reserved_in}
 use Rattle.fs_ops.specs.Finishes.{finish}
@@ -23,7 +22,6 @@ use Rattle.fs_laws.proofs.Helping.{upd_here, upd_else}
 use Rattle.fs_laws.proofs.Finished.{Either, Changed, Old, either}
 use Rattle.fs_laws.proofs.Committing.{Ready, By_text, Stands, ready}
 use Rattle.fs_laws.proofs.Taking.{TakesFrom, From_nowhere, From_stand, takes_from}
-use Rattle.fs_laws.proofs.Owning.{reached_used}
 use Rattle.fs_laws.proofs.Returning.{ends_nowhere}
 use Rattle.fs_laws.proofs.Headlines.{run_keeps}
 use Rattle.fs_laws.proofs.Resizing.{Within, AllWithin, SameKind, Resizes, finish_resizes}

@@ -1,20 +1,20 @@
 -- A call that finishes holds no parent behind; and what a call still holds after a let go.
-use Rattle.std.proofs.Common.{◌≡◌, ℕ, true, List, [], ◌∷◌, ◌++◌, Option, Some, None, refl, sym, ap, ap₂, ◌∙◌, subst, ◌⊎◌, inl, inr}
+use Rattle.std.proofs.Common.{◌≡◌, ℕ, true, List, [], ◌∷◌, Option, Some, None, refl, sym, ap₂, ◌∙◌, subst, inl, inr}
 use Rattle.fs_names.specs.Keys.{Key, parent_of}
 use Rattle.fs_names.specs.Names.{Name, has_name}
-use Rattle.fs_names.specs.Parts.{HasNames, common, left}
+use Rattle.fs_names.specs.Parts.{HasNames, left}
 use Rattle.fs_names.specs.Shapes.{Shape, Dir, File}
 use Rattle.fs_seq.specs.Forms.{form, Form, On, In, Rename, by_text}
 use Rattle.fs_seq.specs.declared.errno.Errno.{Errno}
 use Rattle.fs_seq.specs.declared.reply.Reply.{Reply}
-use Rattle.fs_nodes.specs.Graphs.{Graph, IsGraph, at, then_at}
+use Rattle.fs_nodes.specs.Graphs.{Graph, IsGraph, at}
 use Rattle.fs_ops.specs.Leaving.{let_go}
 use Rattle.fs_ops.specs.Moves.{Move, Leaves, Finishes, next, next_by, next_on, first_of, head_move, target, target_move, fork_move, rename_move, dir_then, left_stand, left_behind, left_last, left_heads, last_held, first_walked}
 use Rattle.fs_ops.specs.Records.{Phase, Walking, Placed, Finished, Holds, Head, HeadHolds, Record, Stand, head_at}
-use Rattle.fs_laws.specs.Invariants.{IsUnfinished, Forked, ForkedAt, StandsWell, HeadsFit}
+use Rattle.fs_laws.specs.Invariants.{Forked, ForkedAt, StandsWell, HeadsFit}
 use Rattle.fs_laws.proofs.Walks.{then_some}
 use Rattle.fs_laws.proofs.LettingGo.{Behind, Walk, Source, Dest, behind_of_move}
-use Rattle.fs_laws.proofs.Neat.{SourceThere, IsPlain, InTurn, NeatAt, NeatIn, Neat, IsClosed, NeatOp, SameHeads, neat_heads, left_same, plain_of, in_turn}
+use Rattle.fs_laws.proofs.Neat.{SourceThere, InTurn, Neat, IsClosed, NeatOp, neat_heads, left_same, plain_of, in_turn}
 
 -- a head's move that is passed leaves nothing behind
 head_done : (graph : Graph) (n : ℕ) (b : Option ℕ) (l : Key) (m : Move) (o : Option ℕ) → first_of (head_move graph n b l) m ≡ Finishes o → b ≡ None

@@ -54,3 +54,5 @@ pub mod Takes
 pub mod Neat
 pub mod Closing
 pub mod Accounts
+pub mod CallMoves
+pub mod CallGraphs

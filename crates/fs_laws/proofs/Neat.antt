@@ -1,20 +1,15 @@
 -- How a call holds its nodes: a head sets out only when the one before has arrived, and a finished call holds no parent behind.
-use Rattle.std.proofs.Common.{◌≡◌, ℕ, List, [], ◌∷◌, ◌++◌, Option, Some, None, refl, sym, ap, ap₂, ◌∙◌, subst, ◌⊎◌, inl, inr}
+use Rattle.std.proofs.Common.{◌≡◌, ℕ, List, [], ◌∷◌, ◌++◌, Option, Some, None, refl, sym, ap, ◌∙◌, subst, inl, inr}
 use Rattle.fs_names.specs.Keys.{Key, parent_of}
 use Rattle.fs_names.specs.Names.{Name}
 use Rattle.fs_names.specs.Parts.{HasNames, common, left}
-use Rattle.fs_names.specs.Shapes.{Shape, Dir, File}
-use Rattle.fs_seq.specs.Forms.{form, Form, On, In, Rename, by_text}
-use Rattle.fs_seq.specs.declared.errno.Errno.{Errno}
+use Rattle.fs_names.specs.Shapes.{Dir}
+use Rattle.fs_seq.specs.Forms.{Form, On, In, Rename}
 use Rattle.fs_seq.specs.declared.reply.Reply.{Reply}
-use Rattle.fs_nodes.specs.Graphs.{Graph, IsGraph, at, then_at}
-use Rattle.fs_ops.specs.Leaving.{let_go}
+use Rattle.fs_nodes.specs.Graphs.{Graph}
 use Rattle.fs_ops.specs.Moves.{Move, Takes, Leaves, Finishes, next, next_on, first_of, head_move, target, target_move, fork_move, rename_move, dir_then, took, head_took, behind_of, left_stand, left_behind, left_last, left_heads}
-use Rattle.fs_ops.specs.Records.{Phase, Walking, Placed, Finished, Holds, Head, HeadHolds, Record, Stand, stand_at, head_at}
-use Rattle.fs_laws.specs.Invariants.{IsUnfinished, Forked, ForkedAt, StandsWell, HeadsFit}
-use Rattle.fs_laws.proofs.Walks.{then_some}
-use Rattle.fs_laws.proofs.Making.{head_stops}
-use Rattle.fs_laws.proofs.Committing.{Ready, By_text, Stands, ready}
+use Rattle.fs_ops.specs.Records.{Finished, Holds, Head, HeadHolds, Record, Stand, stand_at}
+use Rattle.fs_laws.specs.Invariants.{IsUnfinished}
 use Rattle.fs_laws.proofs.Takes.{Take, Walk, Entry, Source, Dest, Replaced, with_stand, walked_on}
 
 -- the source head has arrived, at a directory

@@ -1,5 +1,5 @@
 -- A finish keeps each number in use, its kind, and the limits of directories and files.
-use Rattle.std.proofs.Common.{◌≡◌, ℕ, ◌+◌, ◌<◌, ◌≤◌, Bool, true, false, cond, not, ◌||◌, eqb, List, [], ◌∷◌, ◌++◌, length, Option, Some, None, refl, sym, ap, ap₂, ◌∙◌, append-nil, subst, ◌⊎◌, inl, inr, arith}
+use Rattle.std.proofs.Common.{◌≡◌, ℕ, ◌+◌, ◌<◌, ◌≤◌, Bool, true, false, cond, not, ◌||◌, List, [], ◌∷◌, ◌++◌, length, Option, Some, None, refl, sym, ap, ap₂, ◌∙◌, append-nil, subst, ◌⊎◌, inl, inr, arith}
 use Rattle.std.specs.Prelude.{nat_lt, nat_le}
 use Rattle.std.proofs.lemmas.Bool.Decides.{nat_tests}
 use Rattle.fs_names.specs.Keys.{Key, after_prefix, parent_of, last_of, has_more}
@@ -9,18 +9,17 @@ use Rattle.fs_names.specs.Shapes.{Shape, Dir, File, names_of, is_full}
 use Rattle.fs_names.specs.declared.limits.TheConstants.{ENTRY_LIMIT, FILE_LIMIT}
 use Rattle.fs_seq.specs.Forms.{form, NodeCall, Stat, Readdir, Read, Write, Truncate, EntryCall, Mkdir, Mknod, Unlink, Rmdir, Form, On, In, Rename, by_text}
 use Rattle.fs_seq.specs.Outcomes.{written, resized}
-use Rattle.fs_seq.specs.Rows.{on_file, on_row, Edit, Keep, Add, Remove, in_there, in_row, to_row, rename_row}
+use Rattle.fs_seq.specs.Rows.{on_row, Edit, Keep, Add, Remove, in_there, in_row, to_row}
 use Rattle.fs_seq.specs.declared.errno.Errno.{Errno}
 use Rattle.fs_seq.specs.declared.errno.Errno.TheVariants.{Efbig}
 use Rattle.fs_seq.specs.declared.reply.Reply.{Reply}
 use Rattle.fs_seq.specs.declared.reply.Reply.TheVariants.{Done, Wrote, Failed}
 use Rattle.fs_nodes.specs.Graphs.{Graph, set_at, entry_shape, IsGraph}
-use Rattle.fs_ops.specs.Finishes.{Made, on_made, in_made, moved_made, rename_made, made_at, made_by, finish}
+use Rattle.fs_ops.specs.Finishes.{on_made, in_made, moved_made, rename_made, made_at, made_by, finish}
 use Rattle.fs_ops.specs.Moves.{dir_error, path_error, there_by, rename_at, target}
 use Rattle.fs_ops.specs.Records.{Record, Stand}
 use Rattle.fs_laws.specs.Invariants.{Forked, ForkedAt, StandsWell}
 use Rattle.fs_laws.proofs.Prefixes.{prefix_some, prefix_append}
-use Rattle.fs_laws.proofs.Walks.{eqb_true, eqb_refl}
 use Rattle.fs_laws.proofs.Keeping.{Place, Here, Else, place}
 use Rattle.fs_laws.proofs.Making.{some_entry}
 use Rattle.fs_laws.proofs.Trees.{Really, really, full_row}

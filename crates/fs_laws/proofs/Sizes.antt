@@ -1,26 +1,12 @@
 -- The sizes of directories and files, and their kinds, over a finish.
-use Rattle.std.proofs.Common.{◌≡◌, ℕ, ◌+◌, ◌-◌, ◌<◌, ◌≤◌, min, Bool, true, false, cond, not, ◌||◌, eqb, List, [], ◌∷◌, ◌++◌, length, take, drop, replicate, Option, Some, None, refl, sym, ap, ap₂, ◌∙◌, subst, ◌⊎◌, inl, inr, arith, Less}
-use Rattle.std.specs.Prelude.{nat_lt, nat_le}
-use Rattle.std.proofs.lemmas.Bool.Decides.{nat_tests}
+use Rattle.std.proofs.Common.{◌≡◌, ℕ, ◌+◌, ◌-◌, ◌≤◌, min, Bool, true, false, cond, ◌||◌, List, [], ◌∷◌, ◌++◌, length, take, drop, replicate, refl, sym, ap, ap₂, ◌∙◌, subst, ◌⊎◌, inl, inr, arith, Less}
 use Rattle.std.proofs.lemmas.List.{length-append, length-replicate, length-take, length-drop}
-use Rattle.fs_names.specs.Keys.{Key, after_prefix, parent_of, last_of}
 use Rattle.fs_names.specs.Names.{Name, name_cmp, same_name, inserted_name, removed_name, has_name}
-use Rattle.fs_names.specs.Parts.{common, left, is_end}
-use Rattle.fs_names.specs.Shapes.{Shape, Dir, File, names_of, is_full}
-use Rattle.fs_names.specs.declared.limits.TheConstants.{ENTRY_LIMIT, FILE_LIMIT}
+use Rattle.fs_names.specs.declared.limits.TheConstants.{FILE_LIMIT}
 use Rattle.fs_names.proofs.Lemmas.{name_total}
-use Rattle.fs_seq.specs.Forms.{NodeCall, Stat, Readdir, Read, Write, Truncate, EntryCall, Mkdir, Mknod, Unlink, Rmdir, Form, On, In, Rename}
 use Rattle.fs_seq.specs.Outcomes.{written, resized}
-use Rattle.fs_seq.specs.Rows.{on_file, on_row, Edit, Keep, Add, Remove, in_there, in_row, to_row, rename_row}
-use Rattle.fs_seq.specs.declared.errno.Errno.{Errno}
-use Rattle.fs_seq.specs.declared.errno.Errno.TheVariants.{Efbig}
-use Rattle.fs_seq.specs.declared.reply.Reply.{Reply}
-use Rattle.fs_seq.specs.declared.reply.Reply.TheVariants.{Done, Wrote, Failed}
-use Rattle.fs_nodes.specs.Graphs.{Graph, set_at, IsGraph}
-use Rattle.fs_nodes.proofs.NameLemmas.{Compared, Below, Same, Above, compare, inserted_below, inserted_same, inserted_above, length_inserted, has_inserted}
-use Rattle.fs_ops.specs.Finishes.{on_made, in_made}
+use Rattle.fs_nodes.proofs.NameLemmas.{Compared, Below, Same, Above, compare, inserted_below, inserted_same, inserted_above, has_inserted}
 use Rattle.fs_laws.proofs.Prefixes.{same_refl, same_true}
-use Rattle.fs_laws.proofs.Keeping.{Place, Here, Else, place}
 
 -- names in byte order, each once
 abbrev pub IsBefore : Name → List Name → Type 0

@@ -1,12 +1,12 @@
 -- The takes of a call from where it stands, each with what it asked.
-use Rattle.std.proofs.Common.{◌≡◌, ℕ, Bool, true, false, not, ◌&&◌, List, [], ◌∷◌, ◌++◌, Option, Some, None, refl, sym, ap, ap₂, ◌∙◌}
+use Rattle.std.proofs.Common.{◌≡◌, ℕ, Bool, true, false, not, ◌&&◌, List, [], ◌∷◌, ◌++◌, Option, Some, None, refl, ap, ap₂, ◌∙◌}
 use Rattle.fs_names.specs.Keys.{Key, after_prefix, parent_of, last_of, has_more}
 use Rattle.fs_names.specs.Names.{Name}
 use Rattle.fs_names.specs.Parts.{common, left, is_end}
 use Rattle.fs_names.specs.Shapes.{Shape, Dir, File}
 use Rattle.fs_seq.specs.Forms.{EntryCall, Form, On, In, Rename}
 use Rattle.fs_nodes.specs.Graphs.{Graph, entry_shape}
-use Rattle.fs_ops.specs.Moves.{Move, Takes, Finishes, next_on, first_of, head_move, take_if, target, target_move, in_move, fork_move, rename_move, dir_then, victim_of, same_kind, rename_at, moved_node, took, head_took, source_took, target_took, took_by, inner}
+use Rattle.fs_ops.specs.Moves.{Move, Takes, Finishes, next_on, first_of, head_move, take_if, target, target_move, fork_move, rename_move, dir_then, victim_of, same_kind, rename_at, moved_node, took, head_took, source_took, target_took, took_by, inner}
 use Rattle.fs_ops.specs.Records.{Record, Stand, stand_at}
 use Rattle.fs_laws.proofs.Taking.{head_takes, head_passes}
 
