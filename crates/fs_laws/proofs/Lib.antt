@@ -56,3 +56,4 @@ pub mod Closing
 pub mod Accounts
 pub mod CallMoves
 pub mod CallGraphs
+pub mod Below
