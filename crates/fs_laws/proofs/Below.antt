@@ -26,7 +26,7 @@ key_below s inv c d p q st other r a b e =
     inv.is_graph.one_key (inv.key d) (inv.key c ++ r) other.node there (at_from s.graph.kid 0 st.node (inv.key c) r here ∙ e)
 
 -- who is to go on after another is not below it
-not_below : (s : State) (inv : Invariant s) (c d : ℕ) (p q : Record) (st : Stand) → (c ≡ d → ⊥) → StandsAt s c p st → s.ops d ≡ Some q → IsAfter p.phase q.phase → IsBelow s.graph st.node q → ⊥
+pub not_below : (s : State) (inv : Invariant s) (c d : ℕ) (p q : Record) (st : Stand) → (c ≡ d → ⊥) → StandsAt s c p st → s.ops d ≡ Some q → IsAfter p.phase q.phase → IsBelow s.graph st.node q → ⊥
 not_below s inv c d p q st differs a is after (other, r, on, e) =
     let b : StandsAt s d q other = record { is = is; on = on } in
     let k : inv.key d ≡ inv.key c ++ r = key_below s inv c d p q st other r a b e in

@@ -57,3 +57,5 @@ pub mod Accounts
 pub mod CallMoves
 pub mod CallGraphs
 pub mod Below
+pub mod Entering
+pub mod Outside

@@ -3,15 +3,16 @@ use Rattle.std.specs.Prelude.{ℕ, ◌≡◌, ◌<◌, List, [], ◌∷◌, ◌+
 use Rattle.fs_names.specs.Keys.{Key}
 use Rattle.fs_seq.specs.Outcomes as tree
 use Rattle.fs_seq.specs.Shapes.{seen}
+use Rattle.fs_seq.specs.declared.call.Call.{Call}
 use Rattle.fs_seq.specs.declared.reply.Reply.{Reply}
 use Rattle.fs_nodes.specs.Graphs.{at, numbers, spell}
 use Rattle.fs_journal.specs.Timeline as journal
 use Rattle.fs_journal.specs.declared.entry.Entry.{Entry}
-use Rattle.fs_ops.specs.Moves.{Finishes}
+use Rattle.fs_ops.specs.Moves.{Finishes, next}
 use Rattle.fs_ops.specs.Records.{Stand, Walking, Placed, Record, Holds}
 use Rattle.fs_laws.specs.Invariants.{spots, InOrder, IsIn}
 use Rattle.fs_laws.specs.Settled.{settle, settle_replies}
-use Rattle.fs_laws.specs.States.{State, Moves, IsBelow, IsWalkingBelow, IsChosen, NoneBelow, Stepped, Helped, Committed, Step}
+use Rattle.fs_laws.specs.States.{State, Begun, Begins, Moves, IsBelow, IsWalkingBelow, IsChosen, NoneBelow, Stepped, Helped, Committed, Step}
 
 -- a call under way that stands somewhere
 pub record StandsAt (s : State) (c : ℕ) (op : Record) (st : Stand) : Type 0 where
@@ -60,3 +61,24 @@ pub data HelpsOrCommits (s : State) : Option ℕ → Stepped → Type 0 where
 abbrev pub NeverWaitsToFinish : State → Type 0
 NeverWaitsToFinish s = (new : State) (seat c : ℕ) (op : Record) (moved : Option ℕ) (answer : Stepped)
     → Moves s seat c op (Finishes moved) → op.phase ≡ Walking → Step s seat answer new → HelpsOrCommits s moved answer
+
+-- a rename walks, and its next move is to finish and to move this node
+abbrev pub IsAboutToMove : State → ℕ → ℕ → Type 0
+IsAboutToMove s c moved = (op : Record) × (s.ops c ≡ Some op) × (op.phase ≡ Walking) × (next s.graph op ≡ Finishes (Some moved))
+
+-- a piece of a run, from a state on, all through which the rename stays so; with the calls that it helped, the last first
+pub data Meanwhile (c moved : ℕ) (s : State) : List ℕ → State → Type 0 where
+  Now : IsAboutToMove s c moved → Meanwhile c moved s [] s
+  Begins_another : {helped : List ℕ} {old : State} (seat : ℕ) (call : Call) (answer : Begun) (new : State) → Meanwhile c moved s helped old → Begins old seat call answer new → IsAboutToMove new c moved → Meanwhile c moved s helped new
+  Steps_another : {helped : List ℕ} {old : State} (seat : ℕ) (answer : Stepped) (new : State) → Meanwhile c moved s helped old → (old.on_seat seat ≡ Some c → ⊥) → Step old seat answer new → IsAboutToMove new c moved → Meanwhile c moved s helped new
+  Helps_one : {helped : List ℕ} {old : State} (seat d : ℕ) (new : State) → Meanwhile c moved s helped old → old.on_seat seat ≡ Some c → Step old seat (Helped d) new → IsAboutToMove new c moved → Meanwhile c moved s (d ∷ helped) new
+
+-- each of these calls walks below a node, and is there once
+abbrev pub EachBelow : State → ℕ → List ℕ → Type 0
+EachBelow s moved [] = Unit {0}
+EachBelow s moved (d ∷ ds) = IsWalkingBelow s moved d × (IsIn d ds → ⊥) × EachBelow s moved ds
+
+-- each call that it helped meanwhile walked below the moved node from the first, and none twice; whoever walks below it at the end did so from the first, and was not helped
+pub record HelpsEachOnce (c moved : ℕ) (s : State) (helped : List ℕ) (new : State) : Type 0 where
+  pub helps : EachBelow s moved helped
+  pub still : (d : ℕ) → IsWalkingBelow new moved d → IsWalkingBelow s moved d × (IsIn d helped → ⊥)

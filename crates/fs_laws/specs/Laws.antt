@@ -1,5 +1,5 @@
 -- What holds of the machine: laws, each proved as the contract of a function of the module `laws`.
-use Rattle.std.specs.Prelude.{◌≡◌, List}
+use Rattle.std.specs.Prelude.{◌≡◌, ℕ, List}
 use Rattle.fs_names.specs.Keys.{Key}
 use Rattle.fs_names.specs.Shapes.{Shape}
 use Rattle.fs_seq.specs.Forms.{form, Form, Fits}
@@ -9,7 +9,7 @@ use Rattle.fs_seq.specs.Outcomes as tree
 use Rattle.fs_seq.specs.Shapes.{seen}
 use Rattle.fs_seq.specs.Tree.{Tree, IsTree}
 use Rattle.fs_seq.specs.declared.call.Call.{Call}
-use Rattle.fs_laws.specs.Below.{NoWalkingBelow, NoLaterBelow, NobodyBetween, Settles, NeverWaitsToFinish}
+use Rattle.fs_laws.specs.Below.{NoWalkingBelow, NoLaterBelow, NobodyBetween, Settles, NeverWaitsToFinish, Meanwhile, HelpsEachOnce}
 use Rattle.fs_laws.specs.Placed.{Standing, Passes, PastAll, rekey_all}
 use Rattle.fs_laws.specs.States.{State, Run}
 use Rattle.fs_laws.specs.Headline.{Linearizes}
@@ -47,3 +47,7 @@ PlacedSettle = (s : State) → Run s → Settles s
 -- in every state, of a run or not: a step of a walking call that is to finish helps, or commits
 abbrev pub FinishNeverWaits : Type 0
 FinishNeverWaits = (s : State) → NeverWaitsToFinish s
+
+-- while a rename is about to move a node, no event brings a walking call below it, and each call that it helps is helped once: there are at most as many as walked below the node at first
+abbrev pub HelpsAreBounded : Type 0
+HelpsAreBounded = (c moved : ℕ) (s new : State) (helped : List ℕ) → Run s → Meanwhile c moved s helped new → HelpsEachOnce c moved s helped new

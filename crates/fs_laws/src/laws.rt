@@ -2,7 +2,7 @@
 
 ghost use Rattle.fs_laws.specs.Laws.{
     GoesPastAll, TreesAsMaps, Linearization, PlacedGoFirst, EarlierGoFirst, HeadsStandClear, PlacedSettle,
-    FinishNeverWaits,
+    FinishNeverWaits, HelpsAreBounded,
 };
 
 /// A call that finishes goes past all placed calls: they settle to what it leaves of their settled tree, it answers the
@@ -49,4 +49,10 @@ pub fn placed_settle()
 /// wait.
 pub fn finish_never_waits()
     ensures { FinishNeverWaits }
+{}
+
+/// While a rename is about to move a node, no event brings a walking call below that node. Each call that the rename
+/// helps meanwhile walked below it from the first, and none is helped twice; so it helps at most as many as stood there.
+pub fn helps_are_bounded()
+    ensures { HelpsAreBounded }
 {}
