@@ -59,3 +59,5 @@ pub mod CallGraphs
 pub mod Below
 pub mod Entering
 pub mod Outside
+pub mod Choosing
+pub mod Waiting

@@ -11,6 +11,7 @@ use Rattle.fs_seq.specs.Tree.{Tree, IsTree}
 use Rattle.fs_seq.specs.declared.call.Call.{Call}
 use Rattle.fs_laws.specs.Below.{NoWalkingBelow, NoLaterBelow, NobodyBetween, Settles, NeverWaitsToFinish, Meanwhile, HelpsEachOnce}
 use Rattle.fs_laws.specs.Placed.{Standing, Passes, PastAll, rekey_all}
+use Rattle.fs_laws.specs.Progress.{HasStep, WaitsBelow, IsNeverStuck}
 use Rattle.fs_laws.specs.States.{State, Run}
 use Rattle.fs_laws.specs.Headline.{Linearizes}
 
@@ -51,3 +52,15 @@ FinishNeverWaits = (s : State) → NeverWaitsToFinish s
 -- while a rename is about to move a node, no event brings a walking call below it, and each call that it helps is helped once: there are at most as many as walked below the node at first
 abbrev pub HelpsAreBounded : Type 0
 HelpsAreBounded = (c moved : ℕ) (s new : State) (helped : List ℕ) → Run s → Meanwhile c moved s helped new → HelpsEachOnce c moved s helped new
+
+-- over every run each seat has a step
+abbrev pub EachSeatSteps : Type 0
+EachSeatSteps = (s : State) → Run s → (seat : ℕ) → HasStep s seat
+
+-- who waits for a call that waits itself stands above it
+abbrev pub WaitersStandAbove : Type 0
+WaitersStandAbove = (s : State) → Run s → WaitsBelow s
+
+-- and so, where a call is under way, some seat's step neither waits nor idles
+abbrev pub SomeCallGoesOn : Type 0
+SomeCallGoesOn = (s : State) → Run s → IsNeverStuck s

@@ -8,4 +8,5 @@ pub mod Invariants
 pub mod Computing
 pub mod Examples
 pub mod Below
+pub mod Progress
 pub mod Laws

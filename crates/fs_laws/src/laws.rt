@@ -2,7 +2,7 @@
 
 ghost use Rattle.fs_laws.specs.Laws.{
     GoesPastAll, TreesAsMaps, Linearization, PlacedGoFirst, EarlierGoFirst, HeadsStandClear, PlacedSettle,
-    FinishNeverWaits, HelpsAreBounded,
+    FinishNeverWaits, HelpsAreBounded, EachSeatSteps, WaitersStandAbove, SomeCallGoesOn,
 };
 
 /// A call that finishes goes past all placed calls: they settle to what it leaves of their settled tree, it answers the
@@ -55,4 +55,20 @@ pub fn finish_never_waits()
 /// helps meanwhile walked below it from the first, and none is helped twice; so it helps at most as many as stood there.
 pub fn helps_are_bounded()
     ensures { HelpsAreBounded }
+{}
+
+/// In every state of a run each seat has a step.
+pub fn each_seat_steps()
+    ensures { EachSeatSteps }
+{}
+
+/// Over every run a call that waits for one that waits itself stands above it by one name or more; a call that holds
+/// nothing counts as above the root.
+pub fn waiters_stand_above()
+    ensures { WaitersStandAbove }
+{}
+
+/// Over every run, where a call is under way, some seat's step answers neither that it waits nor that it is idle.
+pub fn some_call_goes_on()
+    ensures { SomeCallGoesOn }
 {}

@@ -1,0 +1,5 @@
+use Rattle.fs_laws.proofs.Waiting.{has_step}
+use Rattle.fs_laws.proofs.laws.each_seat_steps.Goals as goal
+
+pub returns : goal.returns
+returns c = has_step

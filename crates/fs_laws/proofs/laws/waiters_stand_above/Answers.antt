@@ -1,0 +1,5 @@
+use Rattle.fs_laws.proofs.Waiting.{waits_above}
+use Rattle.fs_laws.proofs.laws.waiters_stand_above.Goals as goal
+
+pub returns : goal.returns
+returns c = waits_above
