@@ -1,5 +1,6 @@
 -- Where walks stand.
-use Rattle.std.specs.Prelude.{ℕ, ◌+◌, ◌≤◌, Bool, true, false, ◌&&◌, ◌||◌, eqb, cond, nat_lt, take, drop, [], ◌∷◌, Option, Some, None}
+use Rattle.std.specs.Prelude.{ℕ, ◌+◌, ◌≤◌, Bool, true, false, not, ◌||◌, eqb, cond, nat_lt, is_some, slice_get, take, Option, Some, None}
+use Rattle.fs_names.specs.Names.{Name}
 use Rattle.fs_names.specs.Keys.{Key, parent_of}
 use Rattle.fs_names.specs.declared.limits.TheConstants.{PATH_LIMIT}
 use Rattle.fs_walk.specs.declared.head.Head.{Head}
@@ -87,30 +88,25 @@ way_ended way = record way { node = None; behind = None }
 abbrev pub head_took : Head → ℕ → Head
 head_took head n = record { walked = head.walked + 1; node = n; behind = cond (nat_lt 0 head.walked) (Some head.node) None }
 
--- which head steps, where the source head has names ahead, and where it has none
-abbrev pub fork_took_by : Key → Key → ForkWay → ℕ → ForkWay
-fork_took_by (x ∷ source) dest fork n = record fork { source = head_took fork.source n }
-fork_took_by [] (x ∷ dest) fork n = record fork { dest = head_took fork.dest n }
-fork_took_by [] [] fork n = fork
+-- the name ahead of a walk, and of a head on its way to the parent of a path
+abbrev pub name_ahead : Key → Way → Option Name
+name_ahead path way = slice_get (take way.names path) way.walked
 
--- the names ahead of a walk, and of a head up to the parent of a path
-abbrev pub ahead : Key → Way → Key
-ahead path way = drop way.walked (take way.names path)
+abbrev pub head_name : Key → ℕ → Head → Option Name
+head_name path names head = slice_get (parent_of path) (names + head.walked)
 
-abbrev pub head_ahead : Key → ℕ → Head → Key
-head_ahead path names head = drop head.walked (parent_of (drop names path))
+-- both heads after a take: a step of the source head, where a name is ahead of it, or else of the destination head
+abbrev pub fork_took_by : Option Name → Option Name → ForkWay → ℕ → ForkWay
+fork_took_by (Some x) dest fork n = record fork { source = head_took fork.source n }
+fork_took_by None (Some x) fork n = record fork { dest = head_took fork.dest n }
+fork_took_by None None fork n = fork
 
--- both heads after a take
 abbrev pub fork_took : Key → Key → ForkWay → ℕ → ForkWay
-fork_took source dest fork n = fork_took_by (head_ahead source fork.names fork.source) (head_ahead dest fork.names fork.dest) fork n
+fork_took source dest fork n = fork_took_by (head_name source fork.names fork.source) (head_name dest fork.names fork.dest) fork n
 
 -- whether both heads have arrived
-abbrev pub no_names : Key → Bool
-no_names [] = true
-no_names (x ∷ key) = false
-
-abbrev pub are_at_parents : Key → Key → ForkWay → Bool
-are_at_parents source dest fork = no_names (head_ahead source fork.names fork.source) && no_names (head_ahead dest fork.names fork.dest)
+abbrev pub has_arrived : Key → Key → ForkWay → Bool
+has_arrived source dest fork = not (is_some (head_name source fork.names fork.source) || is_some (head_name dest fork.names fork.dest))
 
 -- both heads after they let go of a node behind the one, and else behind the other
 abbrev pub head_left : Head → ℕ → Head

@@ -3,6 +3,7 @@
 
 pub mod fork;
 pub mod head;
+mod names;
 pub mod walk;
 pub mod want;
 
