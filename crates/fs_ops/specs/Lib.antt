@@ -3,3 +3,4 @@ pub mod Moves
 pub mod Finishes
 pub mod Leaving
 pub mod Works
+pub mod Stages
