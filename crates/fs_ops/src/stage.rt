@@ -1,13 +1,13 @@
 //! Where a call under way stands.
 
-ghost use Rattle.std.specs.Prelude.{◌≡◌, ◌-◌, length};
+ghost use Rattle.std.specs.Prelude.{◌≡◌, ◌≤◌, length};
 ghost use Rattle.fs_names.specs.Keys.{parent_of};
 ghost use Rattle.fs_names.specs.Parts.{common};
 ghost use Rattle.fs_seq.specs.Forms.{form};
 ghost use Rattle.fs_ops.specs.Moves.{target};
 ghost use Rattle.fs_ops.specs.Stages.{new_stage};
 
-use fs_names::Path;
+use fs_names::{PATH_LIMIT, Path};
 use fs_nodes::NodeNo;
 use fs_seq::Call;
 use fs_walk::{Fork, Walk};
@@ -22,7 +22,8 @@ pub struct Stage {
 
 /// How many names lead to the parent of a path.
 fn parent_len(path: &Path) -> usize
-    ensures { result ≡ length (parent_of path.now) }
+    ensures len { result ≡ length (parent_of path.now) }
+    ensures most { result ≤ PATH_LIMIT }
 {
     if path.is_empty() {
         0
@@ -33,7 +34,8 @@ fn parent_len(path: &Path) -> usize
 
 /// How many names lead to the last common directory of two parents.
 fn common_len(source: &Path, dest: &Path) -> usize
-    ensures { result ≡ length (common (parent_of source.now) (parent_of dest.now)) }
+    ensures len { result ≡ length (common (parent_of source.now) (parent_of dest.now)) }
+    ensures most { result ≤ PATH_LIMIT }
 {
     source
         .common(dest)
@@ -43,7 +45,8 @@ fn common_len(source: &Path, dest: &Path) -> usize
 
 /// How many names of its first path a call walks.
 fn target_len(call: &Call) -> usize
-    ensures { result ≡ length (target (form call.now)) }
+    ensures len { result ≡ length (target (form call.now)) }
+    ensures most { result ≤ PATH_LIMIT }
 {
     match call {
         Call::Mkdir(path) | Call::Mknod(path) | Call::Unlink(path) | Call::Rmdir(path) => {
