@@ -3,3 +3,5 @@ pub mod Moves
 pub mod Finishes
 pub mod Leaving
 pub mod Works
+pub mod Rooms
+pub mod Replies

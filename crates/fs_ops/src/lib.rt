@@ -1,2 +1,6 @@
-//! What calls under way do next.
+//! Each call as a machine of moves.
 #![tactic(auto)]
+
+mod looking;
+mod replies;
+mod room;
