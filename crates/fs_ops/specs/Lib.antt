@@ -5,3 +5,4 @@ pub mod Leaving
 pub mod Works
 pub mod Rooms
 pub mod Replies
+pub mod Listing

@@ -4,3 +4,4 @@
 mod looking;
 mod replies;
 mod room;
+mod writing;

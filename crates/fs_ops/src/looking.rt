@@ -69,12 +69,12 @@ fn names(store: &Store, dir: NodeNo, room: NameRoom) -> NameList
 }
 
 /// All names of the directory.
-pub fn readdir(store: &Store, node: NodeNo, room: Room) -> Replies
+pub fn readdir(store: &Store, node: NodeNo, prepared: Room) -> Replies
     requires bounded { IsBounded (graph_of store.now) }
-    requires room { SufficesFor calls.Readdir room }
+    requires room { SufficesFor calls.Readdir prepared }
     ensures { result ≡ (on_row calls.Readdir None (shape store.now node)).0 }
 {
-    let Room::Lists(one, other) = room else {
+    let Room::Lists(one, other) = prepared else {
         unreachable!();
     };
     if store.is_dir(node) {
@@ -102,12 +102,12 @@ fn part(bytes: &[u8], off: u64, count: u64) -> &[u8]
 }
 
 /// The bytes of the file from an offset on, and no more than a count.
-pub fn read(store: &Store, node: NodeNo, off: u64, count: u64, room: Room) -> Replies
+pub fn read(store: &Store, node: NodeNo, off: u64, count: u64, prepared: Room) -> Replies
     requires bounded { IsBounded (graph_of store.now) }
-    requires room { SufficesFor (calls.Read off count) room }
+    requires room { SufficesFor (calls.Read off count) prepared }
     ensures { result ≡ (on_row (calls.Read off count) None (shape store.now node)).0 }
 {
-    let Room::Copies(one, other) = room else {
+    let Room::Copies(one, other) = prepared else {
         unreachable!();
     };
     if store.is_dir(node) {
