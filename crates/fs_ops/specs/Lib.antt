@@ -6,3 +6,4 @@ pub mod Works
 pub mod Rooms
 pub mod Replies
 pub mod Listing
+pub mod Views

@@ -2,6 +2,10 @@
 #![tactic(auto)]
 
 mod looking;
+pub mod op;
+mod outcome;
 mod replies;
 mod room;
 mod writing;
+
+pub use op::Op;
