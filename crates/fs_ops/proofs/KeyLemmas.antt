@@ -6,7 +6,7 @@ use Rattle.fs_names.specs.Parts.{common, left}
 use Rattle.fs_names.proofs.Lemmas.{same_name_refl}
 use Rattle.fs_seq.specs.Forms.{Form, On, In, Rename}
 use Rattle.fs_ops.specs.Moves.{target, tail_of}
-use Rattle.fs_ops.specs.Stages.{first_path, dropped}
+use Rattle.fs_ops.specs.Views.{first_path, dropped}
 
 -- how many names a parent has
 pub parent_length : (p : Key) → length (parent_of p) ≡ length p - 1

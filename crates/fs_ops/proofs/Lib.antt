@@ -1,1 +1,3 @@
 pub mod KeyLemmas
+pub mod ListingLemmas
+pub mod WritingLemmas

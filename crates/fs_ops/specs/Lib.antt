@@ -3,4 +3,8 @@ pub mod Moves
 pub mod Finishes
 pub mod Leaving
 pub mod Works
-pub mod Stages
+pub mod Rooms
+pub mod Replies
+pub mod Listing
+pub mod Views
+pub mod Told

@@ -1,8 +1,14 @@
 //! What calls under way do next.
 #![tactic(auto)]
 
+mod looking;
 pub mod moves;
-pub mod stage;
+pub mod op;
+mod outcome;
+mod replies;
+mod room;
+mod target;
+mod writing;
 
 pub use moves::Move;
-pub use stage::Stage;
+pub use op::Op;

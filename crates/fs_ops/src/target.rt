@@ -1,24 +1,13 @@
-//! Where a call under way stands.
+//! How many names a call walks.
 
 ghost use Rattle.std.specs.Prelude.{◌≡◌, ◌≤◌, length};
 ghost use Rattle.fs_names.specs.Keys.{parent_of};
 ghost use Rattle.fs_names.specs.Parts.{common};
 ghost use Rattle.fs_seq.specs.Forms.{form};
 ghost use Rattle.fs_ops.specs.Moves.{target};
-ghost use Rattle.fs_ops.specs.Stages.{new_stage};
 
 use fs_names::{PATH_LIMIT, Path};
-use fs_nodes::NodeNo;
 use fs_seq::Call;
-use fs_walk::{Fork, Walk};
-
-/// Where a call under way stands: its walk, the fork of a rename from the end of its walk on, and a victim that it holds.
-#[derive(Debug, Drop)]
-pub struct Stage {
-    pub walk: Walk,
-    pub fork: Option<Fork>,
-    pub victim: Option<NodeNo>,
-}
 
 /// How many names lead to the parent of a path.
 fn parent_len(path: &Path) -> usize
@@ -43,8 +32,9 @@ fn common_len(source: &Path, dest: &Path) -> usize
         .min(parent_len(dest))
 }
 
-/// How many names of its first path a call walks.
-fn target_len(call: &Call) -> usize
+/// How many names of its first path a call walks: to its node, to the parent of its entry, or to the last common directory of two
+/// parents.
+pub fn target_len(call: &Call) -> usize
     ensures len { result ≡ length (target (form call.now)) }
     ensures most { result ≤ PATH_LIMIT }
 {
@@ -55,18 +45,5 @@ fn target_len(call: &Call) -> usize
         Call::Rename(source, dest) => common_len(source, dest),
         Call::Stat(path) | Call::Readdir(path) | Call::Read(path, _, _) => path.len(),
         Call::Write(path, _, _) | Call::Truncate(path, _) => path.len(),
-    }
-}
-
-impl Stage {
-    /// Where a call begins. It takes no memory.
-    pub fn new(call: &Call) -> Stage
-        ensures { result ≡ new_stage (form call.now) }
-    {
-        Stage {
-            walk: Walk::new(target_len(call)),
-            fork: None,
-            victim: None,
-        }
     }
 }
