@@ -1,3 +1,4 @@
 pub mod KeyLemmas
 pub mod ListingLemmas
 pub mod WritingLemmas
+pub mod WantLemmas
