@@ -2,3 +2,4 @@ pub mod KeyLemmas
 pub mod ListingLemmas
 pub mod WritingLemmas
 pub mod WantLemmas
+pub mod TookLemmas
