@@ -7,7 +7,7 @@ pub mod op;
 mod outcome;
 mod replies;
 mod room;
-mod target;
+mod took;
 mod writing;
 
 pub use moves::Move;
