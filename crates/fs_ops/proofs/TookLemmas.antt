@@ -12,7 +12,8 @@ use Rattle.fs_walk.specs.Ways as ways
 use Rattle.fs_walk.specs.Ways.{Way, ForkWay, head_name, way_took, may_take, fork_took, has_arrived}
 use Rattle.fs_ops.specs.Moves.{target, inner, behind_of, head_took, source_took, target_took, took_by}
 use Rattle.fs_ops.specs.Records.{Stand, Record, stand_at}
-use Rattle.fs_ops.specs.Views.{first_path, dropped, head_of, stand_with, work_of, started, Forks, IsForked, TakesTo}
+use Rattle.fs_ops.specs.Views.{first_path, dropped, head_of, stand_with, work_of, Forks, IsForked}
+use Rattle.fs_ops.specs.Steps.{started, TakesTo}
 use Rattle.fs_ops.specs.Works.{Work, IsTook, record_of}
 use Rattle.fs_ops.specs.declared.outcome.Outcome.{Outcome}
 use Rattle.fs_ops.proofs.KeyLemmas.{left_take, parent_drop, drop_get, tail_drop, target_drop, target_take, take_get}

@@ -4,11 +4,11 @@ use Rattle.fs_names.specs.Keys.{Key, parent_of}
 use Rattle.fs_seq.specs.Forms.{Form, On, In, Rename, form}
 use Rattle.fs_seq.specs.declared.call.Call.{Call}
 use Rattle.fs_seq.specs.declared.reply.Reply.{Reply}
-use Rattle.fs_walk.specs.Ways.{Way, ForkWay, new_fork}
+use Rattle.fs_walk.specs.Ways.{Way, ForkWay}
 use Rattle.fs_walk.specs.declared.head.Head as count
 use Rattle.fs_ops.specs.declared.outcome.Outcome.{Outcome}
 use Rattle.fs_ops.specs.declared.outcome.Outcome.TheVariants.{Open, Fixed}
-use Rattle.fs_ops.specs.Moves.{target, target_took}
+use Rattle.fs_ops.specs.Moves.{target}
 use Rattle.fs_ops.specs.Records.{Head, Stand, head_at}
 use Rattle.fs_ops.specs.Rooms.{Suffices}
 use Rattle.fs_ops.specs.Works.{Work}
@@ -39,11 +39,6 @@ abbrev pub stand_with : Form → ℕ → Option ℕ → Option ForkWay → Optio
 stand_with call n behind None victim = record { node = n; behind = behind; source = head_at n; dest = head_at n; victim = victim }
 stand_with call n behind (Some fork) victim =
     record { node = n; behind = behind; source = head_of (first_path call) fork.names fork.source; dest = head_of (second_path call) fork.names fork.dest; victim = victim }
-
--- the heads, at a node with so many names before it until they set out
-abbrev pub started : Option ForkWay → ℕ → ℕ → ForkWay
-started None n names = new_fork n names
-started (Some fork) n names = fork
 
 abbrev pub stand_of : Form → Option ℕ → Option ℕ → Option ForkWay → Option ℕ → Option Stand
 stand_of call None behind fork victim = None
@@ -87,7 +82,3 @@ pub record IsOp (call : Form) (way : Way) (fork : Option ForkWay) (outcome : Out
   pub names : way.names ≡ length (target call)
   pub forks : Forks call way fork
   pub ready : IsReady call outcome
-
--- a take at the target leads from these heads and this victim to those
-abbrev pub TakesTo : Form → Way → ℕ → ℕ → Option ForkWay → Option ℕ → Option ForkWay → Option ℕ → Type 0
-TakesTo call way at n fork victim fork_new victim_new = target_took (dropped way.walked call) (stand_with call at way.behind fork victim) n ≡ stand_with call at way.behind fork_new victim_new

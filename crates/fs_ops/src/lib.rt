@@ -1,6 +1,7 @@
 //! What calls under way do next.
 #![tactic(auto)]
 
+mod leaving;
 mod looking;
 pub mod moves;
 pub mod op;
