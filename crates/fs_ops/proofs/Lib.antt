@@ -3,3 +3,4 @@ pub mod ListingLemmas
 pub mod WritingLemmas
 pub mod WantLemmas
 pub mod TookLemmas
+pub mod LeftLemmas
