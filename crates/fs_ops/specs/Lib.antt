@@ -7,3 +7,4 @@ pub mod Rooms
 pub mod Replies
 pub mod Listing
 pub mod Views
+pub mod Begins

@@ -1,6 +1,8 @@
 //! Each call as a machine of moves.
 #![tactic(auto)]
 
+mod beginning;
+mod ending;
 mod looking;
 pub mod op;
 mod outcome;
