@@ -8,7 +8,7 @@ use Rattle.fs_ops.specs.Works.{SpareIf}
 pub record IsReserved (graph : Graph) (limit : ℕ) (shape : Shape) (n : ℕ) (new : Graph) : Type 0 where
   pub within : n < limit
   pub free : graph.shape n ≡ None
-  pub graph : new ≡ reserved_in n shape graph
+  pub added : new ≡ reserved_in n shape graph
 
 -- a number for a new node, if there may be one; it may be given back
 abbrev pub Reserves : Graph → ℕ → Option Shape → Option ℕ → Graph → Type 0

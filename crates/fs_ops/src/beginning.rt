@@ -1,6 +1,6 @@
 //! How calls begin.
 
-ghost use Rattle.std.specs.Prelude.{◌≡◌, ◌≤◌, ◌↔◌, Err, IfOk, OnErr, IsSome, length, option_map};
+ghost use Rattle.std.specs.Prelude.{◌≡◌, ◌≤◌, ◌↔◌, Err, None, IfOk, OnErr, IsSome, length, option_map};
 ghost use Rattle.fs_nodes.specs.Stores.{graph_of, in_use, room, new_shape};
 ghost use Rattle.fs_seq.specs.Forms.{form, reserves};
 ghost use Rattle.fs_ops.specs.Moves.{target};
@@ -32,7 +32,7 @@ fn new_kind(call: &Call) -> Option<Kind>
 
 /// How many names a path's parent has.
 fn parent_len(path: &Path) -> usize
-    ensures { result ≡ length (parent_of path.now) }
+    ensures len { result ≡ length (parent_of path.now) }
     ensures most { result ≤ PATH_LIMIT }
 {
     path.len().saturating_sub(1)
@@ -40,7 +40,7 @@ fn parent_len(path: &Path) -> usize
 
 /// How many names the parents of two paths have in common.
 fn common_len(path: &Path, other: &Path) -> usize
-    ensures { result ≡ length (common (parent_of path.now) (parent_of other.now)) }
+    ensures len { result ≡ length (common (parent_of path.now) (parent_of other.now)) }
     ensures most { result ≤ PATH_LIMIT }
 {
     path.common(other).min(parent_len(path)).min(parent_len(other))
@@ -80,8 +80,8 @@ fn reserve_for(call: &Call, store: &mut Store) -> Result<Option<NodeNo>, NoNode>
 
 impl Op {
     /// A call that has taken nothing yet, with all memory that it needs to its end.
-    fn new(alloc: Global, call: &Call, reserved: Option<NodeNo>) -> Result<Op, AllocError>
-        ensures { IfOk result (λ op. op ≡ new_work call.now reserved) }
+    fn new(alloc: Global, call: &Call) -> Result<Op, AllocError>
+        ensures { IfOk result (λ op. op ≡ new_work call.now None) }
     {
         let prepared = Room::new(alloc, call)?;
         let copy = call.copy(alloc)?;
@@ -90,10 +90,19 @@ impl Op {
             walk: Walk::new(target_len(call)),
             fork: None,
             victim: None,
-            reserved,
+            reserved: None,
             removed: None,
             outcome: Outcome::Open(prepared),
         })
+    }
+
+    /// The same call with a reserved number.
+    fn with_number(self, reserved: Option<NodeNo>) -> Op
+        ensures { result ≡ record self { reserved = reserved } }
+    {
+        let mut op = self;
+        op.reserved = reserved;
+        op
     }
 
     /// Begins a call. It takes all the memory that the call needs. A call that may add a node reserves a number for it: `Full` comes
@@ -106,10 +115,12 @@ impl Op {
         ensures room { room store.old ≤ room store.new }
     {
         let reserved = reserve_for(call, store)?;
-        let Ok(op) = Op::new(alloc, call, reserved) else {
-            give_back(store, reserved);
-            return Err(NoNode::OutOfMemory);
-        };
-        Ok(op)
+        match Op::new(alloc, call) {
+            Ok(op) => Ok(op.with_number(reserved)),
+            Err(_) => {
+                give_back(store, reserved);
+                Err(NoNode::OutOfMemory)
+            }
+        }
     }
 }

@@ -45,7 +45,8 @@ impl Op {
         ensures room { room store.new ≡ room store.old }
     {
         give_back(store, self.reserved());
-        match self.outcome {
+        let Op { outcome, .. } = self;
+        match outcome {
             Outcome::Fixed(replies) => replies.into_pair(),
             Outcome::Open(_) => unreachable!(),
         }
