@@ -1,3 +1,4 @@
 pub mod ListingLemmas
 pub mod WritingLemmas
 pub mod BeginLemmas
+pub mod EntryLemmas

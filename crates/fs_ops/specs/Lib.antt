@@ -8,3 +8,4 @@ pub mod Replies
 pub mod Listing
 pub mod Views
 pub mod Begins
+pub mod Endings

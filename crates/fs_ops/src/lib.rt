@@ -3,6 +3,8 @@
 
 mod beginning;
 mod ending;
+mod entries;
+mod finish;
 mod looking;
 pub mod op;
 mod outcome;
