@@ -8,6 +8,7 @@ mod finish;
 mod looking;
 pub mod op;
 mod outcome;
+mod renaming;
 mod replies;
 mod room;
 mod writing;
