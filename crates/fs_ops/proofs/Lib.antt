@@ -4,3 +4,8 @@ pub mod WritingLemmas
 pub mod WantLemmas
 pub mod TookLemmas
 pub mod LeftLemmas
+pub mod BeginLemmas
+pub mod EntryLemmas
+pub mod MoveLemmas
+pub mod RenameLemmas
+pub mod TextLemmas

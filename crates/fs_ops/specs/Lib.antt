@@ -9,3 +9,6 @@ pub mod Listing
 pub mod Views
 pub mod Told
 pub mod Steps
+pub mod Begins
+pub mod Endings
+pub mod Texts

@@ -1,13 +1,20 @@
 //! What calls under way do next.
 #![tactic(auto)]
 
+mod beginning;
+mod ending;
+mod entries;
+mod finish;
 mod leaving;
 mod looking;
 pub mod moves;
 pub mod op;
 mod outcome;
+mod paths;
+mod renaming;
 mod replies;
 mod room;
+mod text;
 mod took;
 mod writing;
 
