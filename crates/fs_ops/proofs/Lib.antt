@@ -9,3 +9,4 @@ pub mod EntryLemmas
 pub mod MoveLemmas
 pub mod RenameLemmas
 pub mod TextLemmas
+pub mod NextLemmas

@@ -12,3 +12,4 @@ pub mod Steps
 pub mod Begins
 pub mod Endings
 pub mod Texts
+pub mod Nexts

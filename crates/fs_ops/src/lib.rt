@@ -8,6 +8,7 @@ mod finish;
 mod leaving;
 mod looking;
 pub mod moves;
+mod next;
 pub mod op;
 mod outcome;
 mod paths;

@@ -1,12 +1,13 @@
 //! What the paths of a call decide alone.
 
-ghost use Rattle.std.specs.Prelude.{◌≡◌};
+ghost use Rattle.std.specs.Prelude.{◌≡◌, ◌<◌, length};
+ghost use Rattle.fs_names.specs.Keys.{last_of};
 ghost use Rattle.fs_seq.specs.Forms.{form, by_text};
 ghost use Rattle.fs_seq.specs.Forms as forms;
 ghost use Rattle.fs_ops.specs.Texts.{error_at_root};
 
 use crate::paths::is_above;
-use fs_names::Path;
+use fs_names::{Name, Path};
 use fs_seq::{Call, Errno};
 
 /// The error of a rename that moves the root, goes onto the root, or goes below the node itself.
@@ -40,4 +41,12 @@ pub fn text_error(call: &Call) -> Option<Errno>
         Call::Rename(source, dest) => rename_error(source, dest),
         _ => None,
     }
+}
+
+/// The last name of a path.
+pub fn last_name(path: &Path) -> &Name
+    requires { 0 < length path.now }
+    ensures { result.now ≡ last_of path.now }
+{
+    path.name(path.len() - 1)
 }

@@ -1,0 +1,137 @@
+//! What a call under way does next.
+
+ghost use Rattle.std.specs.Prelude.{◌≡◌, ◌<◌, ℕ, None, Some, length};
+ghost use Rattle.std.specs.Option.{is_some};
+ghost use Rattle.fs_names.specs.Keys.{parent_of, last_of};
+ghost use Rattle.fs_names.specs.Parts.{common};
+ghost use Rattle.fs_nodes.specs.Graphs.{entry_shape, then_at};
+ghost use Rattle.fs_nodes.specs.Stores.{graph_of, shape, kid};
+ghost use Rattle.fs_seq.specs.Forms.{form, by_text};
+ghost use Rattle.fs_seq.specs.Forms as forms;
+ghost use Rattle.fs_ops.specs.Endings.{rename_reply};
+ghost use Rattle.fs_ops.specs.Moves.{Finishes, target, take_if, victim_of, same_kind, moved_node, target_move};
+ghost use Rattle.fs_ops.specs.Nexts.{held_last, last_move, way_move, between_move};
+ghost use Rattle.fs_ops.specs.Told.{move_of, want_then};
+ghost use Rattle.fs_ops.specs.Views.{Forks, first_path, dropped, stand_of, stand_with};
+ghost use Rattle.fs_ops.specs.Works.{next_of};
+
+use crate::moves::Move;
+use crate::op::Op;
+use crate::paths::paths_of;
+use crate::renaming::{Paths, fault};
+use crate::text::{last_name, text_error};
+use crate::took::started;
+use fs_names::{Name, Path};
+use fs_nodes::{NodeNo, Store};
+use fs_seq::Call;
+use fs_walk::{Fork, Walk, Want};
+
+/// The node that was taken last.
+fn held_last(node: NodeNo, fork: &Option<Fork>, victim: Option<NodeNo>) -> NodeNo
+    ensures { result ≡ held_last node fork.now victim }
+{
+    match (victim, fork) {
+        (Some(victim), _) => victim,
+        (None, Some(heads)) => heads.last(),
+        (None, None) => node,
+    }
+}
+
+/// A finished call lets go of what it took last; one that holds nothing returns.
+fn last_move(walk: &Walk, fork: &Option<Fork>, victim: Option<NodeNo>) -> Move
+    ensures { move_of result ≡ last_move walk.now.node fork.now victim }
+{
+    match walk.node() {
+        Some(node) => Move::LetGo(held_last(node, fork, victim)),
+        None => Move::Return,
+    }
+}
+
+/// Takes a node that is wanted, there and not yet held.
+fn take_if(wanted: bool, there: Option<NodeNo>, victim: Option<NodeNo>, otherwise: Move) -> Move
+    ensures { move_of result ≡ take_if wanted there victim (move_of otherwise) }
+{
+    match (wanted, there, victim) {
+        (true, Some(node), None) => Move::Take(node),
+        _ => otherwise,
+    }
+}
+
+/// An unlink at its directory takes a file.
+fn unlink_move(store: &Store, dir: NodeNo, name: &Name, victim: Option<NodeNo>) -> Move
+    ensures { move_of result ≡ take_if (victim_of forms.Unlink (entry_shape (graph_of store.now) dir name.now)) (kid store.now dir name.now) victim (Finishes None) }
+{
+    let there = store.find(dir, name);
+    let wanted = match there {
+        Some(node) => store.is_file(node),
+        None => false,
+    };
+    take_if(wanted, there, victim, Move::Finish(None))
+}
+
+/// A rmdir at its directory takes a directory.
+fn rmdir_move(store: &Store, dir: NodeNo, name: &Name, victim: Option<NodeNo>) -> Move
+    ensures { move_of result ≡ take_if (victim_of forms.Rmdir (entry_shape (graph_of store.now) dir name.now)) (kid store.now dir name.now) victim (Finishes None) }
+{
+    let there = store.find(dir, name);
+    let wanted = match there {
+        Some(node) => store.is_dir(node),
+        None => false,
+    };
+    take_if(wanted, there, victim, Move::Finish(None))
+}
+
+/// Whether both nodes are there, and are both directories or both files.
+fn same_kind(store: &Store, node: Option<NodeNo>, other: Option<NodeNo>) -> bool
+    ensures { result ≡ same_kind (then_at node (shape store.now)) (then_at other (shape store.now)) }
+{
+    match (node, other) {
+        (Some(node), Some(other)) if store.is_dir(node) => store.is_dir(other),
+        (Some(node), Some(other)) => store.is_file(node) && store.is_file(other),
+        _ => false,
+    }
+}
+
+/// The node that a rename would really move from one directory to the other.
+fn really_moved(
+    store: &Store,
+    source: NodeNo,
+    name: &Name,
+    dest: NodeNo,
+    new_name: &Name,
+    paths: Paths,
+) -> Option<NodeNo>
+    ensures { result ≡ moved_node (rename_reply (graph_of store.now) source name.now dest new_name.now paths.same paths.above paths.one_parent).1 (kid store.now source name.now) }
+{
+    let moved = store.find(source, name)?;
+    if paths.same {
+        return None;
+    }
+    match fault(store, moved, dest, new_name, paths) {
+        Some(_) => None,
+        None => Some(moved),
+    }
+}
+
+/// A rename at both parents takes a node that it replaces, and else finishes.
+fn between_move(
+    store: &Store,
+    source: NodeNo,
+    name: &Name,
+    dest: NodeNo,
+    new_name: &Name,
+    paths: Paths,
+    victim: Option<NodeNo>,
+) -> Move
+    ensures { move_of result ≡ between_move (graph_of store.now) source name.now dest new_name.now paths.same paths.above paths.one_parent victim }
+{
+    let there = store.find(dest, new_name);
+    let alike = same_kind(store, store.find(source, name), there);
+    let moved = really_moved(store, source, name, dest, new_name, paths);
+    take_if(
+        alike && !paths.same && !paths.above,
+        there,
+        victim,
+        Move::Finish(moved),
+    )
+}
