@@ -10,3 +10,4 @@ pub mod MoveLemmas
 pub mod RenameLemmas
 pub mod TextLemmas
 pub mod NextLemmas
+pub mod ForkLemmas

@@ -1,8 +1,8 @@
 -- What the texts of paths tell, by lengths and prefixes.
-use Rattle.std.proofs.Common.{◌≡◌, ℕ, ◌+◌, ◌≤◌, ◌<◌, nat_eq, nat_lt, Bool, true, false, cond, [], ◌∷◌, ◌++◌, length, Option, Some, None, refl, sym, ap, ◌∙◌, arith, length-append}
+use Rattle.std.proofs.Common.{◌≡◌, ℕ, zero, suc, slice_get, ◌+◌, ◌≤◌, ◌<◌, nat_eq, nat_lt, Bool, true, false, cond, [], ◌∷◌, ◌++◌, length, Option, Some, None, refl, sym, ap, ◌∙◌, arith, length-append}
 use Rattle.std.specs.Option.{is_some}
 use Rattle.std.proofs.lemmas.Bool.Decides.{nat_tests}
-use Rattle.fs_names.specs.Keys.{Key, parent_of, after_prefix, has_more, common_len}
+use Rattle.fs_names.specs.Keys.{Key, parent_of, last_of, after_prefix, has_more, common_len}
 use Rattle.fs_names.specs.Names.{Name, same_name}
 use Rattle.fs_names.specs.Parts.{is_end, common}
 use Rattle.fs_names.proofs.Lemmas.{after_prefix-exact, prefix_common}
@@ -119,3 +119,11 @@ more_below (Some (x ∷ r)) = refl
 
 pub text_more : (p q : Key) → (p ≡ [] → ⊥) → (q ≡ [] → ⊥) → (b : Bool) → b ≡ has_more (after_prefix p q) → by_text (Rename p q) ≡ cond b (Some Einval) None
 text_more p q a b t e = text_below p q a b ∙ (more_below (after_prefix p q) ∙ ap (λ (s : Bool). cond s (Some Einval) None) (sym e))
+
+-- the last name of a path
+pub last_is : (p : Key) (i : ℕ) (x : Name) → i + 1 ≡ length p → slice_get p i ≡ Some x → x ≡ last_of p
+last_is [] i x h e = absurd (cc)
+last_is (y ∷ []) zero x h e = cc
+last_is (y ∷ []) (suc i) x h e = absurd (omega arith)
+last_is (y ∷ z ∷ p) zero x h e = absurd (omega arith)
+last_is (y ∷ z ∷ p) (suc i) x h e = last_is (z ∷ p) i x (omega arith) e

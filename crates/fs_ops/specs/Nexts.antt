@@ -1,12 +1,16 @@
 -- Next moves by the nodes where a call stands.
 use Rattle.std.specs.Prelude.{ℕ, Bool, not, ◌&&◌, Option, Some, None}
+use Rattle.fs_names.specs.Keys.{Key, parent_of, last_of, after_prefix, has_more}
 use Rattle.fs_names.specs.Names.{Name}
+use Rattle.fs_names.specs.Parts.{is_end}
 use Rattle.fs_seq.specs.Forms.{Form}
 use Rattle.fs_nodes.specs.Graphs.{Graph, entry_shape}
 use Rattle.fs_walk.specs.Ways.{Way, ForkWay, fork_last}
+use Rattle.fs_walk.specs.Wants.{fork_want}
 use Rattle.fs_ops.specs.Endings.{rename_reply}
 use Rattle.fs_ops.specs.Moves.{Move, Takes, Leaves, Finishes, Ends, take_if, same_kind, moved_node, next_on}
 use Rattle.fs_ops.specs.Records.{Stand}
+use Rattle.fs_ops.specs.Told.{want_then}
 
 -- the node that was taken last: the victim, or that of the head that walked last, or that of the walk
 abbrev pub held_last : ℕ → Option ForkWay → Option ℕ → ℕ
@@ -31,3 +35,9 @@ between_move graph source x dest y same_path above one_parent victim =
     (same_kind (entry_shape graph source x) (entry_shape graph dest y) && not same_path && not above)
     (graph.kid dest y) victim
     (Finishes (moved_node (rename_reply graph source x dest y same_path above one_parent).1 (graph.kid source x)))
+
+-- what both heads of a rename want, and what comes at both parents
+abbrev pub heads_move : Graph → Key → Key → ForkWay → Option ℕ → Move
+heads_move graph p q fork victim =
+    want_then (fork_want graph p q fork)
+    (between_move graph fork.source.node (last_of p) fork.dest.node (last_of q) (is_end (after_prefix p q)) (has_more (after_prefix q p)) (is_end (after_prefix (parent_of p) (parent_of q))) victim)

@@ -36,7 +36,7 @@ fn heads_took(
 }
 
 /// The heads of a rename, which set out from its common directory if they did not.
-pub fn started(fork: Option<Fork>, node: NodeNo, names: usize) -> Fork
+fn started(fork: Option<Fork>, node: NodeNo, names: usize) -> Fork
     requires { names ≤ PATH_LIMIT }
     ensures { result ≡ started fork node names }
 {
