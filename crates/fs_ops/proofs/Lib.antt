@@ -1,6 +1,10 @@
+pub mod KeyLemmas
 pub mod ListingLemmas
 pub mod WritingLemmas
 pub mod BeginLemmas
 pub mod EntryLemmas
 pub mod MoveLemmas
 pub mod RenameLemmas
+pub mod WantLemmas
+pub mod TookLemmas
+pub mod LeftLemmas

@@ -9,3 +9,5 @@ pub mod Listing
 pub mod Views
 pub mod Begins
 pub mod Endings
+pub mod Told
+pub mod Steps

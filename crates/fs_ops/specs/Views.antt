@@ -60,7 +60,6 @@ work_of call way fork victim reserved removed outcome =
 -- a fork of a rename whose walk has come to the common directory; each head is on its way to a parent
 pub record IsForked (p q : Key) (way : Way) (fork : ForkWay) : Type 0 where
   pub node : way.node ≡ Some fork.node
-  pub behind : way.behind ≡ None
   pub names : fork.names ≡ way.walked
   pub arrived : way.walked ≡ way.names
   pub source : fork.names + fork.source.walked ≤ length (parent_of p)

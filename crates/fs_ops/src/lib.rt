@@ -1,16 +1,20 @@
-//! Each call as a machine of moves.
+//! What calls under way do next.
 #![tactic(auto)]
 
 mod beginning;
 mod ending;
 mod entries;
 mod finish;
+mod leaving;
 mod looking;
+pub mod moves;
 pub mod op;
 mod outcome;
 mod renaming;
 mod replies;
 mod room;
+mod took;
 mod writing;
 
+pub use moves::Move;
 pub use op::Op;

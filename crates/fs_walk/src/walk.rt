@@ -88,6 +88,17 @@ impl Walk {
         head_want(store, node, self.behind, name)
     }
 
+    /// Whether it may take a node: it holds nothing, or a name is ahead.
+    pub fn may_take(&self) -> bool
+        ensures may { result ≡ may_take self.now }
+        ensures within { self.now.walked ≤ self.now.names }
+    {
+        match self.node {
+            Some(_) => self.walked < self.names,
+            None => true,
+        }
+    }
+
     /// It has taken a node: the root, or the one that the name ahead named. Where it stood stays behind it.
     pub fn took(&mut self, node: NodeNo)
         requires { IsTrue (may_take self.old) }
