@@ -8,3 +8,5 @@ pub mod RenameLemmas
 pub mod WantLemmas
 pub mod TookLemmas
 pub mod LeftLemmas
+pub mod TextLemmas
+pub mod HeadLemmas

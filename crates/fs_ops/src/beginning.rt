@@ -13,6 +13,7 @@ use crate::ending::give_back;
 use crate::op::Op;
 use crate::outcome::Outcome;
 use crate::room::Room;
+use crate::text::parent_len;
 use fs_names::{Kind, PATH_LIMIT, Path};
 use fs_nodes::{NoNode, NodeNo, Store};
 use fs_seq::Call;
@@ -28,14 +29,6 @@ fn new_kind(call: &Call) -> Option<Kind>
         Call::Mknod(path) if !path.is_empty() => Some(Kind::File),
         _ => None,
     }
-}
-
-/// How many names a path's parent has.
-fn parent_len(path: &Path) -> usize
-    ensures len { result ≡ length (parent_of path.now) }
-    ensures most { result ≤ PATH_LIMIT }
-{
-    path.len().saturating_sub(1)
 }
 
 /// How many names the parents of two paths have in common.

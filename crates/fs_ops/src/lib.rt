@@ -1,10 +1,11 @@
-//! What calls under way do next.
+//! Each call as a machine of moves.
 #![tactic(auto)]
 
 mod beginning;
 mod ending;
 mod entries;
 mod finish;
+mod heads;
 mod leaving;
 mod looking;
 pub mod moves;
@@ -13,6 +14,7 @@ mod outcome;
 mod renaming;
 mod replies;
 mod room;
+mod text;
 mod took;
 mod writing;
 
