@@ -1,4 +1,4 @@
--- On numbers that are reserved, and on how far calls walk.
+-- On numbers that are reserved.
 use Rattle.std.proofs.Common.{◌≡◌, ℕ, zero, suc, ◌+◌, ◌-◌, ◌<◌, Bool, true, false, cond, List, [], ◌∷◌, length, IsTrue, Option, Some, None, refl, sym, ap, subst, ◌∙◌, arith}
 use Rattle.std.specs.Prelude.{eqb, min, option_map, slice_get}
 use Rattle.fs_names.specs.Keys.{Key, parent_of, common_len}
@@ -18,26 +18,6 @@ use Rattle.fs_seq.specs.declared.call.Call.{Call}
 use Rattle.fs_ops.specs.Begins.{IsReserved, Reserves, HasReserved}
 use Rattle.fs_ops.specs.Leaving.{unreserved}
 use Rattle.fs_ops.specs.Works.{Work, new_work, BegunAs, IsSpare, SpareIf}
-
--- ---- how far calls walk
-
-pub parent_length : (p : Key) → length (parent_of p) ≡ length p - 1
-parent_length [] = omega arith
-parent_length (x ∷ []) = omega arith
-parent_length (x ∷ y ∷ p) = let h = parent_length (y ∷ p) in omega arith
-
--- the names that two parents have in common
-pub common_parents : (p q : Key) → length (common (parent_of p) (parent_of q)) ≡ min (min (common_len p q) (length (parent_of p))) (length (parent_of q))
-common_parents [] q = omega arith
-common_parents (x ∷ []) q = omega arith
-common_parents (x ∷ z ∷ p) [] = omega arith
-common_parents (x ∷ z ∷ p) (y ∷ []) = omega arith
-common_parents (x ∷ z ∷ p) (y ∷ w ∷ q) = go (same_name x y) (common_parents (z ∷ p) (w ∷ q))
-  where
-    go : (b : Bool) → length (common (parent_of (z ∷ p)) (parent_of (w ∷ q))) ≡ min (min (common_len (z ∷ p) (w ∷ q)) (length (parent_of (z ∷ p)))) (length (parent_of (w ∷ q)))
-        → length (cond b (x ∷ common (parent_of (z ∷ p)) (parent_of (w ∷ q))) []) ≡ min (min (cond b (common_len (z ∷ p) (w ∷ q) + 1) 0) (suc (length (parent_of (z ∷ p))))) (suc (length (parent_of (w ∷ q))))
-    go true h = omega arith
-    go false h = omega arith
 
 -- ---- numbers in use
 

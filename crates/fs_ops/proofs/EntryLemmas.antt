@@ -6,10 +6,12 @@ use Rattle.fs_names.specs.Shapes.{Shape, Dir, File, is_dir, is_file, is_full, na
 use Rattle.fs_nodes.specs.Graphs.{Graph, then_at, entry_shape}
 use Rattle.fs_nodes.specs.Places.{Places}
 use Rattle.fs_nodes.specs.Stores.{graph_of}
-use Rattle.fs_seq.specs.Rows.{Edit}
+use Rattle.fs_seq.specs.Forms.{EntryCall}
+use Rattle.fs_seq.specs.Rows.{Edit, as_dir, in_row, in_there}
+use Rattle.fs_seq.specs.declared.errno.Errno.{Errno}
 use Rattle.fs_seq.specs.declared.reply.Reply.{Reply}
 use Rattle.fs_ops.specs.declared.finish.Finish.{Finish}
-use Rattle.fs_ops.specs.Endings.{IsMade}
+use Rattle.fs_ops.specs.Endings.{IsMade, entry_made}
 use Rattle.fs_ops.specs.Finishes.{in_made}
 use Rattle.fs_ops.proofs.BeginLemmas.{kid_used}
 
@@ -91,3 +93,10 @@ some_names (x ∷ names) h = (x, names, refl)
 pub some_of : (o : Option ℕ) → is_some o ≡ true → (n : ℕ) × (o ≡ Some n)
 some_of None h = absurd (cc)
 some_of (Some n) h = (n, refl)
+
+-- a call on an entry at its directory, by a name that is the last one
+pub entry_by : (graph : Graph) (n : ℕ) (x y : Name) (reserved : Option ℕ) (c : EntryCall) (finish : Finish) (new : Graph) → y ≡ x → None ≡ as_dir None (graph.shape n)
+    → IsMade (in_made graph n y reserved (in_there c (is_full (graph.shape n)) (entry_shape graph n y))) finish new → IsMade (entry_made graph n x reserved c) finish new
+entry_by graph n x y reserved c finish new e h made =
+    subst (λ (z : Name). IsMade (entry_made graph n z reserved c) finish new) e
+    (row_is graph n y reserved _ _ finish new (ap (λ (o : Option Errno). in_row c o (is_full (graph.shape n)) (entry_shape graph n y)) (sym h)) made)

@@ -11,3 +11,4 @@ pub mod RenameLemmas
 pub mod TextLemmas
 pub mod NextLemmas
 pub mod ForkLemmas
+pub mod HeadLemmas

@@ -11,5 +11,4 @@ pub mod Told
 pub mod Steps
 pub mod Begins
 pub mod Endings
-pub mod Texts
 pub mod Nexts

@@ -13,6 +13,7 @@ use crate::ending::give_back;
 use crate::op::Op;
 use crate::outcome::Outcome;
 use crate::room::Room;
+use crate::text::parent_len;
 use fs_names::{Kind, PATH_LIMIT, Path};
 use fs_nodes::{NoNode, NodeNo, Store};
 use fs_seq::Call;
@@ -30,16 +31,8 @@ fn new_kind(call: &Call) -> Option<Kind>
     }
 }
 
-/// How many names a path's parent has.
-pub fn parent_len(path: &Path) -> usize
-    ensures len { result ≡ length (parent_of path.now) }
-    ensures most { result ≤ PATH_LIMIT }
-{
-    path.len().saturating_sub(1)
-}
-
 /// How many names the parents of two paths have in common.
-pub fn common_len(path: &Path, other: &Path) -> usize
+fn common_len(path: &Path, other: &Path) -> usize
     ensures len { result ≡ length (common (parent_of path.now) (parent_of other.now)) }
     ensures most { result ≤ PATH_LIMIT }
 {

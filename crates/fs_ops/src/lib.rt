@@ -1,17 +1,17 @@
-//! What calls under way do next.
+//! Each call as a machine of moves.
 #![tactic(auto)]
 
 mod beginning;
 mod ending;
 mod entries;
 mod finish;
+mod heads;
 mod leaving;
 mod looking;
 pub mod moves;
 mod next;
 pub mod op;
 mod outcome;
-mod paths;
 mod renaming;
 mod replies;
 mod room;

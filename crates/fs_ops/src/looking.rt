@@ -4,7 +4,7 @@ ghost use Rattle.std.specs.Prelude.{◌≡◌, ◌≤◌, [], None, length, take
 ghost use Rattle.fs_names.specs.Shapes.{names_of, is_dir};
 ghost use Rattle.fs_nodes.specs.Stores.{shape, graph_of};
 ghost use Rattle.fs_seq.specs.Forms as calls;
-ghost use Rattle.fs_seq.specs.Rows.{on_row};
+ghost use Rattle.fs_seq.specs.Rows.{as_dir, on_row};
 ghost use Rattle.fs_ops.specs.Moves.{walk_errno};
 ghost use Rattle.fs_ops.specs.Works.{IsBounded};
 ghost use Rattle.fs_ops.specs.Rooms.{SufficesFor};
@@ -24,6 +24,16 @@ pub fn walk_error(store: &Store, node: NodeNo) -> Errno
         return Errno::Enotdir;
     }
     Errno::Enoent
+}
+
+/// Why a node cannot have entries.
+pub fn dir_fault(store: &Store, node: NodeNo) -> Option<Errno>
+    ensures { result ≡ as_dir None (shape store.now node) }
+{
+    if store.is_dir(node) {
+        return None;
+    }
+    Some(walk_error(store, node))
 }
 
 /// Two replies with a kind and a size.

@@ -17,9 +17,8 @@ ghost use Rattle.fs_ops.specs.Works.{next_of};
 
 use crate::moves::Move;
 use crate::op::Op;
-use crate::paths::paths_of;
 use crate::renaming::{Paths, fault};
-use crate::text::{last_name, text_error};
+use crate::text::{last_name, paths_of, text_error};
 use fs_names::{Name, Path};
 use fs_nodes::{NodeNo, Store};
 use fs_seq::Call;

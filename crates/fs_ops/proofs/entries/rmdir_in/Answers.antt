@@ -5,7 +5,7 @@ use Rattle.fs_nodes.specs.Stores.{shape, graph_of}
 use Rattle.fs_seq.specs.Forms as calls
 use Rattle.fs_seq.specs.Rows.{in_there}
 use Rattle.fs_ops.proofs.EntryLemmas.{row_is, entry_not_file, no_names}
-use Rattle.fs_ops.proofs.entries.rmdir.Goals as goal
+use Rattle.fs_ops.proofs.entries.rmdir_in.Goals as goal
 
 pub returns-clause-made : goal.returns-clause-made
 returns-clause-made c =
