@@ -1,5 +1,5 @@
 -- The verdict on a journal text, and its line.
-use Rattle.std.specs.Prelude.{ℕ, List, ◌++◌, Result, Ok, Err, codes, decimal}
+use Rattle.std.specs.Prelude.{ℕ, Bool, true, false, List, ◌++◌, Result, Ok, Err, codes, decimal}
 use Rattle.fs_journal.specs.Verdicts.{verdict}
 use Rattle.fs_journal.specs.declared.entry.Entry.{Entry}
 use Rattle.fs_journal.specs.declared.verdict.Verdict.{Verdict}
@@ -17,6 +17,10 @@ kind_word kind.CommitTwice = codes "CommitTwice"
 kind_word kind.ReturnUncommitted = codes "ReturnUncommitted"
 kind_word kind.ReturnTwice = codes "ReturnTwice"
 kind_word kind.WrongReply = codes "WrongReply"
+
+abbrev pub is_lawful : Verdict → Bool
+is_lawful Lawful = true
+is_lawful (Fault place k) = false
 
 -- how a verdict is written
 abbrev pub verdict_line : Verdict → List ℕ

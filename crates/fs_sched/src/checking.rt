@@ -3,7 +3,7 @@
 ghost use Rattle.std.specs.Prelude.{◌≡◌, ◌≢◌, ◌+◌, ◌-◌, ◌<◌, ◌^◌, ℕ, List, Ok, Err, IfOk, OnOk, OnErr, IfErr, IfSome, IsErrOf};
 ghost use Rattle.std.specs.Io.KnownBytes.{Appends, IsAtEnd};
 ghost use Rattle.fs_text.specs.declared.fault.ScriptFault.{ScriptFault};
-ghost use Rattle.fs_sched.specs.Checks.{verdict_line, verdict_of};
+ghost use Rattle.fs_sched.specs.Checks.{is_lawful, verdict_line, verdict_of};
 ghost use Rattle.fs_sched.specs.Devices.{IsFaultOf, WritesBeginningOf};
 
 use crate::device::{Sink, Source};
@@ -30,20 +30,25 @@ fn check_text(alloc: Global, text: &[u8]) -> Result<Verdict, RunFault>
     }
 }
 
+fn is_lawful(verdict: &Verdict) -> bool
+    ensures { result ≡ is_lawful verdict.now }
+{
+    matches!(verdict, Verdict::Lawful)
+}
+
 /// Reads a journal to its end and writes the verdict on it, in one line: `lawful`, or `fault` with the place of the
-/// first entry that does not fit, counted from 1, and the kind of its fault. The line is made before its first byte
-/// is written.
+/// first entry that does not fit, counted from 1, and the kind of its fault. The answer is whether it is lawful. The
+/// line is made before its first byte is written.
 pub fn check_journal<R: Source, W: Sink>(
     alloc: Global,
     reader: &mut R,
     writer: &mut W,
-) -> Result<Verdict, RunFault>
+) -> Result<bool, RunFault>
     requires reads { R.failures reader.old < 2 ^ 64 - 1 }
     requires writes { W.failures writer.old < 2 ^ 64 - 1 }
 
     // What is answered and written is this function of what was read.
-    ensures verdict { IfOk result (λ v. IfSome (R.remaining reader.old) (λ input. verdict_of input ≡ Ok v)) }
-    ensures written { IfOk result (λ v. Appends (W.contents writer.old) (W.contents writer.new) (verdict_line v)) }
+    ensures verdict { IfOk result (λ lawful. (v : Verdict) × IfSome (R.remaining reader.old) (λ input. verdict_of input ≡ Ok v) × (lawful ≡ is_lawful v) × Appends (W.contents writer.old) (W.contents writer.new) (verdict_line v)) }
     ensures end { OnOk result (IsAtEnd (R.remaining reader.new)) }
     ensures input { (f : ScriptFault) → result ≡ Err (RunFault.Input f) → IfSome (R.remaining reader.old) (λ input. verdict_of input ≡ Err f) }
 
@@ -68,7 +73,7 @@ pub fn check_journal<R: Source, W: Sink>(
         return Err(RunFault::OutOfMemory);
     };
     match write_text(writer, &line) {
-        Ok(()) => Ok(verdict),
+        Ok(()) => Ok(is_lawful(&verdict)),
         Err(fault) => Err(fault),
     }
 }

@@ -1,5 +1,4 @@
-use Rattle.std.proofs.Common.{rules, arith, ◌≡◌, ◌-◌, length, drop, take, length-drop, length-take, ℕ}
-use Rattle.std.specs.Io.KnownBytes.{Appends}
+use Rattle.std.proofs.Common.{rules, arith, ◌≡◌, ◌-◌, length, drop, take, length-drop}
 use Rattle.fs_sched.proofs.KnownLemmas.{Appends_piece, take_rest}
 use Rattle.fs_sched.proofs.writing.write_text.Goals as goal
 
