@@ -1,8 +1,1 @@
-pub mod WordLemmas
-pub mod EscapeLemmas
-pub mod NumberLemmas
-pub mod WriteLemmas
-pub mod ReadLemmas
 pub mod ScriptLemmas
-pub mod PathLemmas
-pub mod EntryLemmas

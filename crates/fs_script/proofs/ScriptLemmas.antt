@@ -5,16 +5,16 @@ use Rattle.std.specs.List.{list_any, prefix_len}
 use Rattle.std.specs.Str.{bytes_eq}
 use Rattle.std.specs.Prelude.{MatchResult}
 use Rattle.fs_seq.specs.declared.call.Call.{Call}
-use Rattle.fs_script.specs.Lines.{is_passed_over}
-use Rattle.fs_script.specs.Calls.{◌>>=◌}
-use Rattle.fs_script.specs.Journal.{at_line, fault_at}
-use Rattle.fs_script.specs.Answers.{Pushes, FailsAs, FailsThere}
+use Rattle.fs_text.specs.Lines.{is_passed_over}
+use Rattle.fs_text.specs.Calls.{◌>>=◌}
+use Rattle.fs_text.specs.Journal.{at_line, fault_at}
+use Rattle.fs_text.specs.Answers.{Pushes, FailsAs, FailsThere}
 use Rattle.fs_script.specs.Script.{with_call, script_from, step_in_line}
 use Rattle.fs_script.specs.declared.draft.Draft.{Draft}
 use Rattle.fs_script.specs.declared.script.Script.{Script}
-use Rattle.fs_script.specs.declared.fault.ScriptFault.{ScriptFault}
-use Rattle.fs_script.specs.declared.fault.FaultKind.{FaultKind}
-use Rattle.fs_script.specs.declared.fault.FaultKind.TheVariants as kind
+use Rattle.fs_text.specs.declared.fault.ScriptFault.{ScriptFault}
+use Rattle.fs_text.specs.declared.fault.FaultKind.{FaultKind}
+use Rattle.fs_text.specs.declared.fault.FaultKind.TheVariants as kind
 use Rattle.std.proofs.lemmas.Bool.{cond-true, cond-false}
 use Rattle.indexmap.specs.IndexSet.{insert_key}
 

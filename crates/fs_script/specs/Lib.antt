@@ -1,11 +1,3 @@
-pub mod Lines
-pub mod Words
-pub mod Additions
-pub mod Calls
-pub mod Journal
 pub mod Script
-pub mod Answers
-pub mod Fits
 pub mod TreeText
-pub mod Laws
 pub mod Examples

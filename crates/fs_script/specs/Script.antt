@@ -3,14 +3,15 @@ use Rattle.std.specs.Prelude.{ℕ, ◌+◌, Bool, true, false, not, ◌&&◌, �
 use Rattle.std.specs.List.{list_all, list_any}
 use Rattle.std.specs.Str.{bytes_eq}
 use Rattle.fs_seq.specs.declared.call.Call.{Call}
-use Rattle.fs_script.specs.Lines.{lines_of, is_passed_over}
-use Rattle.fs_script.specs.Words.{Word, number_of}
-use Rattle.fs_script.specs.Calls.{◌>>=◌, call_of}
-use Rattle.fs_script.specs.Journal.{words_of, fault_at, at_line, first_is, behind_first}
-use Rattle.fs_script.specs.declared.limits.TheConstants.{TEXT_LIMIT, THREAD_LIMIT, CALL_LIMIT, EVENT_LIMIT, THREAD_NAME_LIMIT}
-use Rattle.fs_script.specs.declared.fault.ScriptFault.{ScriptFault}
-use Rattle.fs_script.specs.declared.fault.FaultKind.{FaultKind}
-use Rattle.fs_script.specs.declared.fault.FaultKind.TheVariants as kind
+use Rattle.fs_text.specs.Lines.{lines_of, is_passed_over}
+use Rattle.fs_text.specs.Words.{Word, number_of}
+use Rattle.fs_text.specs.Calls.{◌>>=◌, call_of}
+use Rattle.fs_text.specs.Journal.{words_of, fault_at, at_line, first_is, behind_first}
+use Rattle.fs_text.specs.declared.limits.TheConstants.{TEXT_LIMIT}
+use Rattle.fs_script.specs.declared.limits.TheConstants.{THREAD_LIMIT, CALL_LIMIT, EVENT_LIMIT, THREAD_NAME_LIMIT}
+use Rattle.fs_text.specs.declared.fault.ScriptFault.{ScriptFault}
+use Rattle.fs_text.specs.declared.fault.FaultKind.{FaultKind}
+use Rattle.fs_text.specs.declared.fault.FaultKind.TheVariants as kind
 use Rattle.fs_script.specs.declared.script.Script.{Script}
 use Rattle.fs_script.specs.declared.script.Word.TheVariants.{Events, Finish}
 use Rattle.fs_script.specs.declared.draft.Draft.{Draft}

@@ -3,8 +3,8 @@ use Rattle.std.specs.Prelude.{ℕ, List, [], ◌∷◌, ◌++◌, codes}
 use Rattle.std.specs.List.{flat_map}
 use Rattle.fs_names.specs.Keys.{Key}
 use Rattle.fs_seq.specs.Tree.{Tree, Node, Dir, File}
-use Rattle.fs_script.specs.Lines.{line_text}
-use Rattle.fs_script.specs.Words.{Word, hex_word, path_word}
+use Rattle.fs_text.specs.Lines.{line_text}
+use Rattle.fs_text.specs.Words.{Word, hex_word, path_word}
 
 abbrev pub node_words : Key → Node → List Word
 node_words key Dir = codes "dir" ∷ path_word key ∷ []

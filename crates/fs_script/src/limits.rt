@@ -1,7 +1,4 @@
-//! The limits of texts, each named in this one place.
-
-/// The most bytes that a text of a script or a journal has.
-pub const TEXT_LIMIT: usize = 16_777_216;
+//! The limits of scripts, each named in this one place; that of the text is `fs_text::limits::TEXT_LIMIT`.
 
 /// The most threads that a script has.
 pub const THREAD_LIMIT: usize = 256;

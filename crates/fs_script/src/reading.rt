@@ -1,15 +1,15 @@
 //! Scripts that are read from their text.
 
 ghost use Rattle.std.specs.Prelude.{◌≤◌, length};
-ghost use Rattle.fs_script.specs.Lines.{lines_of};
+ghost use Rattle.fs_text.specs.Lines.{lines_of};
 ghost use Rattle.fs_script.specs.Script.{nothing_yet, script_from, script_of};
-ghost use Rattle.fs_script.specs.Answers.{GivesText};
+ghost use Rattle.fs_text.specs.Answers.{GivesText};
 
 use crate::draft::Draft;
-use crate::fault::{FaultKind, ScriptFault};
-use crate::limits::TEXT_LIMIT;
-use crate::lines::{cut_line, is_passed_over};
 use crate::script::Script;
+use fs_text::lines::{cut_line, is_passed_over};
+use fs_text::limits::TEXT_LIMIT;
+use fs_text::{FaultKind, ScriptFault};
 use std::alloc::Global;
 
 /// The script that lines make, of which the first has the number 2.

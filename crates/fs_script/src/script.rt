@@ -4,11 +4,11 @@ ghost use Rattle.std.specs.Prelude.{◌≡◌, ◌↔◌, ◌<◌, ◌==◌, [],
 ghost use Rattle.std.specs.List.{list_any};
 ghost use Rattle.std.specs.Str.{bytes_eq};
 ghost use Rattle.fs_script.specs.Script.{seat_named, with_call};
-ghost use Rattle.fs_script.specs.Answers.{Pushes};
-ghost use Rattle.fs_script.specs.declared.fault.FaultKind.TheVariants as kind;
+ghost use Rattle.fs_text.specs.Answers.{Pushes};
+ghost use Rattle.fs_text.specs.declared.fault.FaultKind.TheVariants as kind;
 
-use crate::fault::FaultKind;
 use fs_seq::Call;
+use fs_text::FaultKind;
 use indexmap::IndexSet;
 use std::alloc::Global;
 use std::marker::Model;

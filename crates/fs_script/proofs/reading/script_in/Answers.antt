@@ -1,5 +1,5 @@
 use Rattle.std.proofs.Common.{sym, ◌∙◌, arith}
-use Rattle.fs_script.specs.Lines.{lines_of}
+use Rattle.fs_text.specs.Lines.{lines_of}
 use Rattle.fs_script.proofs.ScriptLemmas.{line_passed, line_taken, line_failed, lines_end, lines_done}
 use Rattle.fs_script.proofs.reading.script_in.Goals as goal
 

@@ -1,5 +1,5 @@
 use Rattle.std.proofs.Common.{◌≡◌, ◌+◌, ◌≤◌, length}
-use Rattle.fs_script.specs.Lines.{lines_of}
+use Rattle.fs_text.specs.Lines.{lines_of}
 use Rattle.fs_script.specs.Script.{script_from, nothing_yet}
 use Rattle.fs_script.proofs.reading.script_in.Given as goal
 

@@ -1,6 +1,6 @@
 use Rattle.std.proofs.Common.{◌≡◌, ◌-◌, length, drop}
 use Rattle.fs_script.specs.Script.{schedule_words}
-use Rattle.fs_script.proofs.ReadLemmas.{words_in}
+use Rattle.fs_text.proofs.ReadLemmas.{words_in}
 use Rattle.fs_script.proofs.draft.Draft.take_schedule_words.Given as goal
 
 abbrev pub invariant-words : goal.invariant-words

@@ -1,0 +1,41 @@
+-- The verdict on what was read is the verdict on the input.
+use Rattle.std.proofs.Common.{◌≡◌, ℕ, ◌<◌, ◌≤◌, ltb, ⊎_elim, Bool, true, false, List, length, Option, Some, None, Result, Ok, Err, refl, sym, ap, ◌∙◌, subst, arith}
+use Rattle.std.specs.Prelude.{IfSome}
+use Rattle.std.proofs.lemmas.Bool.{cond-true, lt-ltb, ltb-true, ltb-false}
+use Rattle.fs_journal.specs.declared.verdict.Verdict.{Verdict}
+use Rattle.fs_text.specs.Journal.{entries_of, fault_at}
+use Rattle.fs_text.specs.declared.fault.ScriptFault.{ScriptFault}
+use Rattle.fs_text.specs.declared.fault.FaultKind.TheVariants as kind
+use Rattle.fs_sched.specs.Checks.{judged, verdict_of, verdict_line}
+use Rattle.fs_sched.specs.Devices.{IsSameText, WritesBeginning, WritesBeginningOf, IsFaultOf}
+use Rattle.fs_sched.specs.declared.fault.RunFault.{RunFault}
+use Rattle.fs_sched.specs.declared.fault.RunFault.TheVariants.{Input}
+
+too_large : (text : List ℕ) → 16777216 < length text → entries_of text ≡ Err (fault_at 1 kind.TooLarge)
+unfolding entries_of
+too_large text h = cond-true _ _ _ (lt-ltb _ _ h)
+
+verdict_same : (text input : List ℕ) → IsSameText text input → verdict_of text ≡ verdict_of input
+verdict_same text input h = ⊎_elim (λ e. ap verdict_of e) (λ p. ap judged (too_large text p.0 ∙ sym (too_large input p.1))) h
+
+-- what has a verdict is not too long
+pub verdict_short : (text items : List ℕ) (v : Verdict) → text ≡ items → verdict_of text ≡ Ok v → length items ≤ 16777216
+verdict_short text items v e h = subst (λ (l : List ℕ). length l ≤ 16777216) e (go (ltb 16777216 (length text)) refl)
+  where
+    go : (b : Bool) → ltb 16777216 (length text) ≡ b → length text ≤ 16777216
+    go true t = let long : verdict_of text ≡ Err (fault_at 1 kind.TooLarge) = ap judged (too_large text (ltb-true _ _ t)) in absurd (cc)
+    go false t = omega (arith, ltb-false _ _ t)
+
+pub known_verdict : (r : Option (List ℕ)) (text items : List ℕ) (given : Result Verdict ScriptFault) → text ≡ items → IfSome r (IsSameText items) → verdict_of text ≡ given → IfSome r (λ input. verdict_of input ≡ given)
+known_verdict None text items given e s h = tt
+known_verdict (Some input) text items given e s h = sym (verdict_same items input s) ∙ sym (ap verdict_of e) ∙ h
+
+pub known_fault : (r : Option (List ℕ)) (text items : List ℕ) (fault : RunFault) (f : ScriptFault) → text ≡ items → IfSome r (IsSameText items) → IsFaultOf (verdict_of text) fault → fault ≡ Input f → IfSome r (λ input. verdict_of input ≡ Err f)
+known_fault r text items fault f e s h k = known_verdict r text items (Err f) e s (subst (IsFaultOf (verdict_of text)) k h)
+
+pub known_beginning : (r : Option (List ℕ)) (text items line : List ℕ) (v : Verdict) (old new : Option (List ℕ)) → text ≡ items → IfSome r (IsSameText items) → verdict_of text ≡ Ok v → line ≡ verdict_line v → WritesBeginning line old new
+    → IfSome r (λ input. WritesBeginningOf verdict_line (verdict_of input) old new)
+known_beginning None text items line v old new e s h l w = tt
+known_beginning (Some input) text items line v old new e s h l w =
+    subst (λ (g : Result Verdict ScriptFault). WritesBeginningOf verdict_line g old new) (sym h ∙ ap verdict_of e ∙ verdict_same items input s)
+    (subst (λ (t : List ℕ). WritesBeginning t old new) l w)

@@ -1,0 +1,36 @@
+-- The verdict on a journal text, and its line.
+use Rattle.std.specs.Prelude.{ℕ, Bool, true, false, List, ◌++◌, Result, Ok, Err, codes, decimal}
+use Rattle.fs_journal.specs.Verdicts.{verdict}
+use Rattle.fs_journal.specs.declared.entry.Entry.{Entry}
+use Rattle.fs_journal.specs.declared.verdict.Verdict.{Verdict}
+use Rattle.fs_journal.specs.declared.verdict.Verdict.TheVariants.{Lawful, Fault}
+use Rattle.fs_journal.specs.declared.verdict.FaultKind.{FaultKind}
+use Rattle.fs_journal.specs.declared.verdict.FaultKind.TheVariants as kind
+use Rattle.fs_text.specs.Journal.{entries_of}
+use Rattle.fs_text.specs.declared.fault.ScriptFault.{ScriptFault}
+
+abbrev pub kind_word : FaultKind → List ℕ
+kind_word kind.BeginTwice = codes "BeginTwice"
+kind_word kind.SeatBusy = codes "SeatBusy"
+kind_word kind.CommitUnbegun = codes "CommitUnbegun"
+kind_word kind.CommitTwice = codes "CommitTwice"
+kind_word kind.ReturnUncommitted = codes "ReturnUncommitted"
+kind_word kind.ReturnTwice = codes "ReturnTwice"
+kind_word kind.WrongReply = codes "WrongReply"
+
+abbrev pub is_lawful : Verdict → Bool
+is_lawful Lawful = true
+is_lawful (Fault place k) = false
+
+-- how a verdict is written
+abbrev pub verdict_line : Verdict → List ℕ
+verdict_line Lawful = codes "lawful\n"
+verdict_line (Fault place k) = codes "fault " ++ (decimal place ++ (codes " " ++ (kind_word k ++ codes "\n")))
+
+abbrev pub judged : Result (List Entry) ScriptFault → Result Verdict ScriptFault
+judged (Ok es) = Ok (verdict es)
+judged (Err f) = Err f
+
+-- the verdict on the entries of a journal text, or the text's first fault
+abbrev pub verdict_of : List ℕ → Result Verdict ScriptFault
+verdict_of text = judged (entries_of text)

@@ -1,0 +1,79 @@
+//! The runner that checks a journal.
+
+ghost use Rattle.std.specs.Prelude.{◌≡◌, ◌≢◌, ◌+◌, ◌-◌, ◌<◌, ◌^◌, ℕ, List, Ok, Err, IfOk, OnOk, OnErr, IfErr, IfSome, IsErrOf};
+ghost use Rattle.std.specs.Io.KnownBytes.{Appends, IsAtEnd};
+ghost use Rattle.fs_text.specs.declared.fault.ScriptFault.{ScriptFault};
+ghost use Rattle.fs_sched.specs.Checks.{is_lawful, verdict_line, verdict_of};
+ghost use Rattle.fs_sched.specs.Devices.{IsFaultOf, WritesBeginningOf};
+
+use crate::device::{Sink, Source};
+use crate::fault::{RunFault, run_fault};
+use crate::reading::read_text;
+use crate::verdict_line::verdict_line;
+use crate::writing::write_text;
+use fs_journal::{Verdict, check};
+use fs_text::read_entries;
+use std::alloc::Global;
+
+/// The verdict on a journal text.
+fn check_text(alloc: Global, text: &[u8]) -> Result<Verdict, RunFault>
+    ensures ok { IfOk result (λ v. verdict_of text.now ≡ Ok v) }
+    ensures err { IfErr result (IsFaultOf (verdict_of text.now)) }
+{
+    let entries = match read_entries(alloc, text) {
+        Ok(entries) => entries,
+        Err(fault) => return Err(run_fault(fault)),
+    };
+    match check(alloc, &entries) {
+        Ok(verdict) => Ok(verdict),
+        Err(_) => Err(RunFault::OutOfMemory),
+    }
+}
+
+fn is_lawful(verdict: &Verdict) -> bool
+    ensures { result ≡ is_lawful verdict.now }
+{
+    matches!(verdict, Verdict::Lawful)
+}
+
+/// Reads a journal to its end and writes the verdict on it, in one line: `lawful`, or `fault` with the place of the
+/// first entry that does not fit, counted from 1, and the kind of its fault. The answer is whether it is lawful. The
+/// line is made before its first byte is written.
+pub fn check_journal<R: Source, W: Sink>(
+    alloc: Global,
+    reader: &mut R,
+    writer: &mut W,
+) -> Result<bool, RunFault>
+    requires reads { R.failures reader.old < 2 ^ 64 - 1 }
+    requires writes { W.failures writer.old < 2 ^ 64 - 1 }
+
+    // What is answered and written is this function of what was read.
+    ensures verdict { IfOk result (λ lawful. (v : Verdict) × IfSome (R.remaining reader.old) (λ input. verdict_of input ≡ Ok v) × (lawful ≡ is_lawful v) × Appends (W.contents writer.old) (W.contents writer.new) (verdict_line v)) }
+    ensures end { OnOk result (IsAtEnd (R.remaining reader.new)) }
+    ensures input { (f : ScriptFault) → result ≡ Err (RunFault.Input f) → IfSome (R.remaining reader.old) (λ input. verdict_of input ≡ Err f) }
+
+    // A device is blamed only where it failed in this call.
+    ensures read { IsErrOf result RunFault.Read → R.failures reader.new ≡ R.failures reader.old + 1 }
+    ensures write { IsErrOf result RunFault.Write → W.failures writer.new ≡ W.failures writer.old + 1 }
+    ensures full { result ≢ Err RunFault.Full }
+
+    // After a failed write a beginning of the line stands, and after every other error nothing was written.
+    ensures nothing { result ≢ Err RunFault.Write → OnErr result (writer.new ≡ writer.old) }
+    ensures beginning { IsErrOf result RunFault.Write → IfSome (R.remaining reader.old) (λ input. WritesBeginningOf verdict_line (verdict_of input) (W.contents writer.old) (W.contents writer.new)) }
+{
+    let text = match read_text(alloc, reader) {
+        Ok(text) => text,
+        Err(fault) => return Err(fault),
+    };
+    let verdict = match check_text(alloc, &text) {
+        Ok(verdict) => verdict,
+        Err(fault) => return Err(fault),
+    };
+    let Ok(line) = verdict_line(alloc, &verdict) else {
+        return Err(RunFault::OutOfMemory);
+    };
+    match write_text(writer, &line) {
+        Ok(()) => Ok(is_lawful(&verdict)),
+        Err(fault) => Err(fault),
+    }
+}

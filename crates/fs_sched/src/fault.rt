@@ -1,0 +1,38 @@
+//! Why a run ended without its whole text written.
+
+ghost use Rattle.std.specs.Prelude.{◌≡◌};
+ghost use Rattle.fs_sched.specs.Faults.{run_fault_of};
+
+use fs_text::{FaultKind, ScriptFault};
+use thiserror::Error;
+
+/// Why a run ended without its whole text written. After `Write` a beginning of the text was written, and after the
+/// others nothing.
+#[derive(Clone, Copy, Debug, PartialEq, Eq, Error)]
+pub enum RunFault {
+    /// The input is no script, or no journal: its first fault from the left. A lack of memory is `OutOfMemory`.
+    #[error("{0}")]
+    Input(ScriptFault),
+    /// The reader failed in this call.
+    #[error("read failed")]
+    Read,
+    /// The writer failed in this call.
+    #[error("write failed")]
+    Write,
+    /// A growth of memory was refused.
+    #[error("out of memory")]
+    OutOfMemory,
+    /// A call was refused since all node numbers are in use.
+    #[error("full")]
+    Full,
+}
+
+/// The fault of a run whose input has this fault.
+pub(crate) fn run_fault(fault: ScriptFault) -> RunFault
+    ensures { result ≡ run_fault_of fault }
+{
+    match fault.kind {
+        FaultKind::OutOfMemory => RunFault::OutOfMemory,
+        _ => RunFault::Input(fault),
+    }
+}

@@ -1,0 +1,68 @@
+//! A whole text that is read from a source.
+
+ghost use Rattle.std.specs.Prelude.{◌≡◌, ◌≢◌, ◌+◌, ◌-◌, ◌<◌, ◌≤◌, ◌^◌, ◌++◌, ℕ, List, length, IfOk, OnOk, IfErr, IfSome, IsErrOf, vec_len};
+ghost use Rattle.std.specs.Io.KnownBytes.{Consumes, IsAtEnd};
+ghost use Rattle.fs_sched.specs.Devices.{IsSameText, FailsToRead};
+
+use crate::device::Source;
+use crate::fault::RunFault;
+use fs_text::limits::TEXT_LIMIT;
+use std::alloc::Global;
+
+/// The most bytes that one read asks for.
+const PIECE: usize = 4096;
+
+/// One byte more than a text has at most, which tells that a text is too long.
+const MOST: usize = TEXT_LIMIT + 1;
+
+/// Adds what one read gives, at most `room` bytes, and answers how many.
+fn read_piece<R: Source>(reader: &mut R, room: usize, text: &mut Vec<u8>) -> Result<usize, RunFault>
+    requires few { R.failures reader.old < 2 ^ 64 - 1 }
+    requires some { 0 < room }
+    ensures within { IfOk result (λ n. (n ≤ room) × (vec_len text.new ≡ vec_len text.old + n)) }
+    ensures ok { IfOk result (λ n. (bytes : List ℕ) × Consumes (R.remaining reader.old) (R.remaining reader.new) bytes × (text.new.items ≡ text.old.items ++ bytes)) }
+    ensures end { IfOk result (λ n. n ≡ 0 → IsAtEnd (R.remaining reader.new)) }
+    ensures quiet { OnOk result (R.failures reader.new ≡ R.failures reader.old) }
+    ensures fault { IfErr result (FailsToRead (R.failures reader.old) (R.failures reader.new)) }
+{
+    let mut buffer = [0u8; PIECE];
+    let piece = &mut buffer[..room.min(PIECE)];
+    let Ok(count) = reader.read(piece) else {
+        return Err(RunFault::Read);
+    };
+    match text.extend_from_slice(&piece[..count]) {
+        Ok(()) => Ok(count),
+        Err(_) => Err(RunFault::OutOfMemory),
+    }
+}
+
+/// Reads to the end, or to one byte above the limit of texts.
+fn read_all<R: Source>(alloc: Global, reader: &mut R) -> Result<Vec<u8>, RunFault>
+    requires { R.failures reader.old < 2 ^ 64 - 1 }
+    ensures ok { IfOk result (λ v. Consumes (R.remaining reader.old) (R.remaining reader.new) v.items) }
+    ensures most { IfOk result (λ v. vec_len v ≤ MOST) }
+    ensures end { IfOk result (λ v. vec_len v ≤ TEXT_LIMIT → IsAtEnd (R.remaining reader.new)) }
+    ensures fault { IfErr result (FailsToRead (R.failures reader.old) (R.failures reader.new)) }
+{
+    let mut text = Vec::new(alloc);
+    'pieces: while text.len() < MOST {
+        let count = match read_piece(reader, MOST - text.len(), &mut text) {
+            Ok(count) => count,
+            Err(fault) => return Err(fault),
+        };
+        if count == 0 {
+            return Ok(text);
+        }
+    }
+    Ok(text)
+}
+
+/// Reads a text to its end; of one that is too long, as much as tells so.
+pub(crate) fn read_text<R: Source>(alloc: Global, reader: &mut R) -> Result<Vec<u8>, RunFault>
+    requires { R.failures reader.old < 2 ^ 64 - 1 }
+    ensures same { IfOk result (λ v. IfSome (R.remaining reader.old) (IsSameText v.items)) }
+    ensures end { IfOk result (λ v. vec_len v ≤ TEXT_LIMIT → IsAtEnd (R.remaining reader.new)) }
+    ensures fault { IfErr result (FailsToRead (R.failures reader.old) (R.failures reader.new)) }
+{
+    read_all(alloc, reader)
+}

@@ -1,0 +1,47 @@
+//! Verdicts as they are written.
+
+ghost use Rattle.std.specs.Prelude.{◌≡◌, ◌++◌, OnOk, IfOk};
+ghost use Rattle.fs_sched.specs.Checks.{kind_word, verdict_line};
+
+use fs_journal::{FaultKind, Verdict};
+use fs_text::Addition;
+use std::alloc::{AllocError, Global};
+
+fn kind_text(kind: FaultKind) -> &'static [u8]
+    ensures { result.now ≡ kind_word kind }
+{
+    match kind {
+        FaultKind::BeginTwice => b"BeginTwice",
+        FaultKind::SeatBusy => b"SeatBusy",
+        FaultKind::CommitUnbegun => b"CommitUnbegun",
+        FaultKind::CommitTwice => b"CommitTwice",
+        FaultKind::ReturnUncommitted => b"ReturnUncommitted",
+        FaultKind::ReturnTwice => b"ReturnTwice",
+        FaultKind::WrongReply => b"WrongReply",
+    }
+}
+
+fn push_verdict(verdict: &Verdict, line: &mut Addition) -> Result<(), AllocError>
+    ensures ok { OnOk result (line.new.added ≡ line.old.added ++ verdict_line verdict.now) }
+    ensures before { line.new.before ≡ line.old.before }
+{
+    match verdict {
+        Verdict::Lawful => line.push(b"lawful\n"),
+        Verdict::Fault(place, kind) => {
+            line.push(b"fault ")?;
+            line.push_number(*place as u64)?;
+            line.push(b" ")?;
+            line.push(kind_text(*kind))?;
+            line.push(b"\n")
+        }
+    }
+}
+
+/// The line of a verdict.
+pub(crate) fn verdict_line(alloc: Global, verdict: &Verdict) -> Result<Vec<u8>, AllocError>
+    ensures { IfOk result (λ line. line.items ≡ verdict_line verdict.now) }
+{
+    let mut line = Addition::new(Vec::new(alloc));
+    push_verdict(verdict, &mut line)?;
+    Ok(line.kept())
+}

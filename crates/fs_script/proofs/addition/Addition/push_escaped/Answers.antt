@@ -1,6 +1,0 @@
-use Rattle.std.proofs.Common.{rules}
-use Rattle.fs_script.proofs.EscapeLemmas.{escaped_by_set}
-use Rattle.fs_script.proofs.addition.Addition.push_escaped.Goals as goal
-
-pub returns-clause-ok : goal.returns-clause-ok
-returns-clause-ok c = rw (← escaped_by_set c.args.bytes.now, ← c.percent_encode.ensures.text, ← c.in_ok-word.ensures.value, ← c.deref.ensures.value, ← c.as_bytes.ensures.value) (search rules)

@@ -1,8 +1,0 @@
-//! What holds of the texts. Each function's contract is a law, and its body is empty.
-
-ghost use Rattle.fs_script.specs.Laws.{ReadsBack};
-
-/// Entries that were written behind the header line are read again as the same entries.
-pub fn reads_back()
-    ensures { ReadsBack }
-{}

@@ -1,0 +1,10 @@
+use Rattle.std.proofs.Common.{◌≡◌, ◌++◌, ◌∷◌, take}
+use Rattle.std.specs.List.{flat_map}
+use Rattle.fs_text.specs.Words.{escaped}
+use Rattle.fs_text.proofs.writing.push_names.Given as goal
+
+abbrev pub invariant-loop-name : goal.invariant-loop-name
+invariant-loop-name l = record {
+  added : l.line.added ≡ l.fn.line.added ++ flat_map (λ n. 32 ∷ escaped n) (take l.name-index l.names);
+  before : l.line.before ≡ l.fn.line.before;
+}

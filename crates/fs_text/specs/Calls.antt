@@ -1,0 +1,139 @@
+-- Calls as words of a line, both ways.
+use Rattle.std.specs.Prelude.{ℕ, Bool, false, ◌==◌, List, [], ◌∷◌, length, Result, Ok, Err, Option, Some, None, if◌then◌else◌, codes, decimal}
+use Rattle.std.specs.Str.{bytes_eq}
+use Rattle.fs_names.specs.Keys.{Key}
+use Rattle.fs_names.specs.declared.fault.PathFault.{PathFault}
+use Rattle.fs_seq.specs.declared.call.Call.{Call}
+use Rattle.fs_seq.specs.declared.call.Call.TheVariants.{Mkdir, Mknod, Unlink, Rmdir, Rename, Stat, Readdir, Read, Write, Truncate}
+use Rattle.fs_text.specs.Words.{Word, number_of, hex_of, hex_word, path_word, path_of}
+use Rattle.fs_text.specs.declared.fault.FaultKind.{FaultKind}
+use Rattle.fs_text.specs.declared.fault.FaultKind.TheVariants as kind
+
+-- ---- written
+
+abbrev pub call_words : Call → List Word
+call_words (Mkdir p) = codes "mkdir" ∷ path_word p ∷ []
+call_words (Mknod p) = codes "mknod" ∷ path_word p ∷ []
+call_words (Unlink p) = codes "unlink" ∷ path_word p ∷ []
+call_words (Rmdir p) = codes "rmdir" ∷ path_word p ∷ []
+call_words (Rename p q) = codes "rename" ∷ path_word p ∷ path_word q ∷ []
+call_words (Stat p) = codes "stat" ∷ path_word p ∷ []
+call_words (Readdir p) = codes "readdir" ∷ path_word p ∷ []
+call_words (Read p off count) = codes "read" ∷ path_word p ∷ decimal off ∷ decimal count ∷ []
+call_words (Write p off bytes) = codes "write" ∷ path_word p ∷ decimal off ∷ hex_word bytes ∷ []
+call_words (Truncate p size) = codes "truncate" ∷ path_word p ∷ decimal size ∷ []
+
+-- ---- read: the first step that fails is the answer
+
+infixl 10 ◌>>=◌
+abbrev pub ◌>>=◌ : {A B F : Type 0} → Result A F → (A → Result B F) → Result B F
+Ok x >>= f = f x
+Err e >>= f = Err e
+
+abbrev pub or_fault : {X : Type 0} → FaultKind → Option X → Result X FaultKind
+or_fault k (Some x) = Ok x
+or_fault k None = Err k
+
+abbrev pub or_bad_path : Result Key PathFault → Result Key FaultKind
+or_bad_path (Ok key) = Ok key
+or_bad_path (Err f) = Err (kind.BadPath f)
+
+abbrev pub path_at : Word → Result Key FaultKind
+path_at word = or_bad_path (path_of word)
+
+abbrev pub number_at : Word → Result ℕ FaultKind
+number_at word = or_fault kind.BadNumber (number_of word)
+
+abbrev pub hex_at : Word → Result (List ℕ) FaultKind
+hex_at word = or_fault kind.BadHex (hex_of word)
+
+-- what stands behind the first word of a call, and the call that it makes
+pub data CallForm : Type 0 where
+  one_path : (Key → Call) → CallForm
+  two_paths : (Key → Key → Call) → CallForm
+  a_number : (Key → ℕ → Call) → CallForm
+  two_numbers : (Key → ℕ → ℕ → Call) → CallForm
+  number_and_bytes : (Key → ℕ → List ℕ → Call) → CallForm
+
+abbrev pub longer_form_of : Word → Option CallForm
+longer_form_of word =
+    if bytes_eq word (codes "rename") then Some (two_paths Rename)
+    else (if bytes_eq word (codes "read") then Some (two_numbers Read)
+    else (if bytes_eq word (codes "write") then Some (number_and_bytes Write)
+    else (if bytes_eq word (codes "truncate") then Some (a_number Truncate)
+    else None)))
+
+abbrev pub form_of : Word → Option CallForm
+form_of word =
+    if bytes_eq word (codes "mkdir") then Some (one_path Mkdir)
+    else (if bytes_eq word (codes "mknod") then Some (one_path Mknod)
+    else (if bytes_eq word (codes "unlink") then Some (one_path Unlink)
+    else (if bytes_eq word (codes "rmdir") then Some (one_path Rmdir)
+    else (if bytes_eq word (codes "stat") then Some (one_path Stat)
+    else (if bytes_eq word (codes "readdir") then Some (one_path Readdir)
+    else longer_form_of word)))))
+
+-- the words behind the first, read from left to right
+abbrev pub one_path_of : List Word → Result Key FaultKind
+one_path_of (p ∷ []) = path_at p
+one_path_of _ = Err kind.BadLine
+
+abbrev pub two_paths_at : Word → Word → Result (Key × Key) FaultKind
+two_paths_at p q = path_at p >>= λ from. path_at q >>= λ to. Ok (from, to)
+
+abbrev pub two_paths_of : List Word → Result (Key × Key) FaultKind
+two_paths_of (p ∷ q ∷ []) = two_paths_at p q
+two_paths_of _ = Err kind.BadLine
+
+abbrev pub a_number_at : Word → Word → Result (Key × ℕ) FaultKind
+a_number_at p n = path_at p >>= λ key. number_at n >>= λ size. Ok (key, size)
+
+abbrev pub a_number_of : List Word → Result (Key × ℕ) FaultKind
+a_number_of (p ∷ n ∷ []) = a_number_at p n
+a_number_of _ = Err kind.BadLine
+
+abbrev pub two_numbers_at : Word → Word → Word → Result (Key × ℕ × ℕ) FaultKind
+two_numbers_at p m n = path_at p >>= λ key. number_at m >>= λ off. number_at n >>= λ count. Ok (key, off, count)
+
+abbrev pub two_numbers_of : List Word → Result (Key × ℕ × ℕ) FaultKind
+two_numbers_of (p ∷ m ∷ n ∷ []) = two_numbers_at p m n
+two_numbers_of _ = Err kind.BadLine
+
+abbrev pub number_and_bytes_at : Word → Word → Word → Result (Key × ℕ × List ℕ) FaultKind
+number_and_bytes_at p n h = path_at p >>= λ key. number_at n >>= λ off. hex_at h >>= λ bytes. Ok (key, off, bytes)
+
+abbrev pub number_and_bytes_of : List Word → Result (Key × ℕ × List ℕ) FaultKind
+number_and_bytes_of (p ∷ n ∷ h ∷ []) = number_and_bytes_at p n h
+number_and_bytes_of _ = Err kind.BadLine
+
+abbrev pub arguments_at : CallForm → List Word → Result Call FaultKind
+arguments_at (one_path make) words = one_path_of words >>= λ key. Ok (make key)
+arguments_at (two_paths make) words = two_paths_of words >>= λ both. Ok (make both.0 both.1)
+arguments_at (a_number make) words = a_number_of words >>= λ found. Ok (make found.0 found.1)
+arguments_at (two_numbers make) words = two_numbers_of words >>= λ found. Ok (make found.0 found.1 found.2)
+arguments_at (number_and_bytes make) words = number_and_bytes_of words >>= λ found. Ok (make found.0 found.1 found.2)
+
+abbrev pub argument_count : CallForm → ℕ
+argument_count (one_path make) = 1
+argument_count (two_paths make) = 2
+argument_count (a_number make) = 2
+argument_count (two_numbers make) = 3
+argument_count (number_and_bytes make) = 3
+
+abbrev pub formed_call : Option CallForm → List Word → Result Call FaultKind
+formed_call None words = Err kind.BadLine
+formed_call (Some form) words = arguments_at form words
+
+-- the call that words spell: a first word that is none, and a wrong number of words, are a bad line
+unfoldable pub call_of : List Word → Result Call FaultKind
+call_of [] = Err kind.BadLine
+call_of (first ∷ more) = formed_call (form_of first) more
+
+abbrev pub is_formed : Option CallForm → List Word → Bool
+is_formed None words = false
+is_formed (Some form) words = length words == argument_count form
+
+-- whether the first word is a call's, with the right number of words behind it
+abbrev pub has_call_form : List Word → Bool
+has_call_form [] = false
+has_call_form (first ∷ more) = is_formed (form_of first) more

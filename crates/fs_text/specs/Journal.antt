@@ -1,0 +1,199 @@
+-- The text of entries, and what reading a journal gives.
+use Rattle.std.specs.Prelude.{ℕ, ◌+◌, Bool, false, nat_lt, List, [], ◌∷◌, ◌++◌, length, map, Result, Ok, Err, Option, Some, None, if◌then◌else◌, codes, decimal}
+use Rattle.std.specs.List.{flat_map}
+use Rattle.std.specs.Str.{bytes_eq}
+use Rattle.percent_encoding.specs.Percent.{percent_decode}
+use Rattle.fs_names.specs.Names.{Name, can_name}
+use Rattle.fs_names.specs.declared.kind.Kind.{Kind}
+use Rattle.fs_names.specs.declared.kind.Kind.TheVariants.{Dir, File}
+use Rattle.fs_seq.specs.declared.errno.Errno.{Errno}
+use Rattle.fs_seq.specs.declared.errno.Errno.TheVariants as errno
+use Rattle.fs_seq.specs.declared.reply.Reply.{Reply}
+use Rattle.fs_seq.specs.declared.reply.Reply.TheVariants.{Done, Stat, Names, Bytes, Wrote, Failed}
+use Rattle.fs_journal.specs.declared.entry.Entry.{Entry}
+use Rattle.fs_journal.specs.declared.entry.Entry.TheVariants.{Begin, Commit, Return}
+use Rattle.fs_text.specs.Lines.{lines_of, pieces_of, has_empty, is_passed_over, line_text}
+use Rattle.fs_text.specs.Words.{Word, hex_word, escaped}
+use Rattle.fs_text.specs.Calls.{◌>>=◌, or_fault, number_at, hex_at, call_words, call_of, has_call_form}
+use Rattle.fs_text.specs.declared.limits.TheConstants.{TEXT_LIMIT}
+use Rattle.fs_text.specs.declared.fault.ScriptFault.{ScriptFault}
+use Rattle.fs_text.specs.declared.fault.FaultKind.{FaultKind}
+use Rattle.fs_text.specs.declared.fault.FaultKind.TheVariants as kind
+
+-- ---- written: an entry is its words
+
+abbrev pub kind_word : Kind → Word
+kind_word Dir = codes "dir"
+kind_word File = codes "file"
+
+abbrev pub errno_word : Errno → Word
+errno_word errno.Enoent = codes "ENOENT"
+errno_word errno.Enotdir = codes "ENOTDIR"
+errno_word errno.Eexist = codes "EEXIST"
+errno_word errno.Enotempty = codes "ENOTEMPTY"
+errno_word errno.Eisdir = codes "EISDIR"
+errno_word errno.Einval = codes "EINVAL"
+errno_word errno.Ebusy = codes "EBUSY"
+errno_word errno.Eperm = codes "EPERM"
+errno_word errno.Enospc = codes "ENOSPC"
+errno_word errno.Efbig = codes "EFBIG"
+
+abbrev pub reply_words : Reply → List Word
+reply_words Done = codes "ok" ∷ []
+reply_words (Stat k size) = codes "stat" ∷ kind_word k ∷ decimal size ∷ []
+reply_words (Names names) = codes "names" ∷ map escaped names
+reply_words (Bytes bytes) = codes "bytes" ∷ hex_word bytes ∷ []
+reply_words (Wrote size) = codes "wrote" ∷ decimal size ∷ []
+reply_words (Failed e) = codes "failed" ∷ errno_word e ∷ []
+
+abbrev pub entry_words : Entry → List Word
+entry_words (Begin call_no seat call) = codes "begin" ∷ decimal call_no ∷ decimal seat ∷ call_words call
+entry_words (Commit call_no) = codes "commit" ∷ decimal call_no ∷ []
+entry_words (Return call_no reply) = codes "return" ∷ decimal call_no ∷ reply_words reply
+
+-- the line of an entry
+abbrev pub entry_line : Entry → List ℕ
+entry_line e = line_text (entry_words e)
+
+abbrev pub journal_header : List ℕ
+journal_header = codes "atomfs-journal 1"
+
+-- the header line, and a line for each entry
+abbrev pub journal_text : List Entry → List ℕ
+journal_text es = journal_header ++ 10 ∷ flat_map entry_line es
+
+-- ---- read: replies
+
+abbrev pub kind_named : Word → Option Kind
+kind_named word = if bytes_eq word (codes "dir") then Some Dir else (if bytes_eq word (codes "file") then Some File else None)
+
+abbrev pub errno_of : Word → Option Errno
+errno_of word =
+    if bytes_eq word (codes "ENOENT") then Some errno.Enoent
+    else (if bytes_eq word (codes "ENOTDIR") then Some errno.Enotdir
+    else (if bytes_eq word (codes "EEXIST") then Some errno.Eexist
+    else (if bytes_eq word (codes "ENOTEMPTY") then Some errno.Enotempty
+    else (if bytes_eq word (codes "EISDIR") then Some errno.Eisdir
+    else (if bytes_eq word (codes "EINVAL") then Some errno.Einval
+    else (if bytes_eq word (codes "EBUSY") then Some errno.Ebusy
+    else (if bytes_eq word (codes "EPERM") then Some errno.Eperm
+    else (if bytes_eq word (codes "ENOSPC") then Some errno.Enospc
+    else (if bytes_eq word (codes "EFBIG") then Some errno.Efbig
+    else None)))))))))
+
+abbrev pub read_name : List ℕ → Result Name FaultKind
+read_name name = if can_name name then Ok name else Err kind.BadReply
+
+abbrev pub name_at : Word → Result Name FaultKind
+name_at word = read_name (percent_decode word)
+
+abbrev pub names_at : List Word → Result (List Name) FaultKind
+names_at [] = Ok []
+names_at (word ∷ more) = name_at word >>= λ n. names_at more >>= λ ns. Ok (n ∷ ns)
+
+abbrev pub done_of : List Word → Result Reply FaultKind
+done_of [] = Ok Done
+done_of _ = Err kind.BadReply
+
+abbrev pub stated_at : Word → Word → Result Reply FaultKind
+stated_at k n = or_fault kind.BadReply (kind_named k) >>= λ found. number_at n >>= λ size. Ok (Stat found size)
+
+abbrev pub stated_of : List Word → Result Reply FaultKind
+stated_of (k ∷ n ∷ []) = stated_at k n
+stated_of _ = Err kind.BadReply
+
+abbrev pub names_of : List Word → Result Reply FaultKind
+names_of words = names_at words >>= λ ns. Ok (Names ns)
+
+abbrev pub bytes_of : List Word → Result Reply FaultKind
+bytes_of (h ∷ []) = hex_at h >>= λ bytes. Ok (Bytes bytes)
+bytes_of _ = Err kind.BadReply
+
+abbrev pub wrote_of : List Word → Result Reply FaultKind
+wrote_of (n ∷ []) = number_at n >>= λ size. Ok (Wrote size)
+wrote_of _ = Err kind.BadReply
+
+abbrev pub failed_of : List Word → Result Reply FaultKind
+failed_of (e ∷ []) = or_fault kind.BadReply (errno_of e) >>= λ found. Ok (Failed found)
+failed_of _ = Err kind.BadReply
+
+-- the reply that words spell: its form is looked at before a number or bytes in it
+unfoldable pub reply_of : List Word → Result Reply FaultKind
+reply_of [] = Err kind.BadReply
+reply_of (first ∷ more) =
+    if bytes_eq first (codes "ok") then done_of more
+    else (if bytes_eq first (codes "stat") then stated_of more
+    else (if bytes_eq first (codes "names") then names_of more
+    else (if bytes_eq first (codes "bytes") then bytes_of more
+    else (if bytes_eq first (codes "wrote") then wrote_of more
+    else (if bytes_eq first (codes "failed") then failed_of more
+    else Err kind.BadReply)))))
+
+-- ---- read: entries
+
+abbrev pub begin_at : Word → Word → List Word → Result Entry FaultKind
+begin_at c s call = number_at c >>= λ call_no. number_at s >>= λ seat. call_of call >>= λ found. Ok (Begin call_no seat found)
+
+abbrev pub begin_of : List Word → Result Entry FaultKind
+begin_of (c ∷ s ∷ call) = if has_call_form call then begin_at c s call else Err kind.BadLine
+begin_of _ = Err kind.BadLine
+
+abbrev pub commit_of : List Word → Result Entry FaultKind
+commit_of (c ∷ []) = number_at c >>= λ call_no. Ok (Commit call_no)
+commit_of _ = Err kind.BadLine
+
+abbrev pub return_of : List Word → Result Entry FaultKind
+return_of (c ∷ first ∷ more) = number_at c >>= λ call_no. reply_of (first ∷ more) >>= λ found. Ok (Return call_no found)
+return_of _ = Err kind.BadLine
+
+-- the entry that words spell
+unfoldable pub entry_of : List Word → Result Entry FaultKind
+entry_of [] = Err kind.BadLine
+entry_of (first ∷ more) =
+    if bytes_eq first (codes "begin") then begin_of more
+    else (if bytes_eq first (codes "commit") then commit_of more
+    else (if bytes_eq first (codes "return") then return_of more
+    else Err kind.BadLine))
+
+-- the words of a line
+abbrev pub words_of : List ℕ → Result (List Word) FaultKind
+words_of line = if has_empty (pieces_of line) then Err kind.BadLine else Ok (pieces_of line)
+
+-- the entry that a line spells
+abbrev pub entry_in_line : List ℕ → Result Entry FaultKind
+entry_in_line line = words_of line >>= entry_of
+
+-- ---- read: the text
+
+abbrev pub fault_at : ℕ → FaultKind → ScriptFault
+fault_at n k = record { line = n; kind = k }
+
+abbrev pub at_line : {X : Type 0} → ℕ → Result X FaultKind → Result X ScriptFault
+at_line n (Ok x) = Ok x
+at_line n (Err k) = Err (fault_at n k)
+
+abbrev pub is_tree_line : List ℕ → Bool
+is_tree_line line = bytes_eq line (codes "tree")
+
+-- what the lines from this number on spell, up to a line `tree`
+unfoldable pub entries_from : ℕ → List (List ℕ) → Result (List Entry) ScriptFault
+entries_from n [] = Ok []
+entries_from n (line ∷ more) =
+    if is_passed_over line then entries_from (n + 1) more
+    else (if is_tree_line line then Ok []
+    else (at_line n (entry_in_line line) >>= λ e. entries_from (n + 1) more >>= λ es. Ok (e ∷ es)))
+
+abbrev pub first_is : List ℕ → List (List ℕ) → Bool
+first_is wanted [] = false
+first_is wanted (line ∷ more) = bytes_eq line wanted
+
+abbrev pub behind_first : List (List ℕ) → List (List ℕ)
+behind_first [] = []
+behind_first (line ∷ more) = more
+
+-- what reading a journal text gives
+unfoldable pub entries_of : List ℕ → Result (List Entry) ScriptFault
+entries_of text =
+    if nat_lt TEXT_LIMIT (length text) then Err (fault_at 1 kind.TooLarge)
+    else (if first_is journal_header (lines_of text) then entries_from 2 (behind_first (lines_of text))
+    else Err (fault_at 1 kind.BadHeader))

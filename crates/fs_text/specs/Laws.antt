@@ -1,0 +1,10 @@
+-- What holds of the texts: laws, each proved as the contract of a function of the module `laws`.
+use Rattle.std.specs.Prelude.{◌≡◌, ◌≤◌, List, length, Ok}
+use Rattle.fs_journal.specs.declared.entry.Entry.{Entry}
+use Rattle.fs_text.specs.declared.limits.TheConstants.{TEXT_LIMIT}
+use Rattle.fs_text.specs.Fits.{AllFit}
+use Rattle.fs_text.specs.Journal.{journal_text, entries_of}
+
+-- entries that were written behind the header line are read again as the same entries
+abbrev pub ReadsBack : Type 0
+ReadsBack = (es : List Entry) → AllFit es → length (journal_text es) ≤ TEXT_LIMIT → entries_of (journal_text es) ≡ Ok es

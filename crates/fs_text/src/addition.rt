@@ -1,0 +1,93 @@
+//! What is appended to a text, and can be taken back.
+
+ghost use Rattle.std.specs.Prelude.{◌≡◌, ◌++◌, [], OnOk, decimal};
+ghost use Rattle.fs_text.specs.Words.{escaped, hex_word};
+
+use crate::escaping::ESCAPED;
+use itoa::Buffer;
+use percent_encoding::percent_encode;
+use std::alloc::{AllocError, Global};
+use std::marker::Model;
+
+/// A text and what was appended to it. Taking that back takes no memory, so that a refused growth leaves the text as
+/// it was.
+#[derive(Drop)]
+pub struct Addition {
+    text: Vec<u8>,
+    start: usize,
+}
+
+impl Model for Addition {
+    ghost use Rattle.std.specs.Prelude.{◌≤◌, length, take, drop};
+    ghost use Rattle.fs_text.specs.Additions.{AddedText};
+
+    ghost Value = { AddedText };
+
+    ghost view = { λ a. record { before = take a.start a.text.items; added = drop a.start a.text.items } };
+
+    ghost invariant = { λ a. a.start ≤ length a.text.items };
+}
+
+impl Addition {
+    pub fn new(text: Vec<u8>) -> Addition
+        ensures before { result.before ≡ text.items }
+        ensures added { result.added ≡ [] }
+    {
+        Addition {
+            start: text.len(),
+            text,
+        }
+    }
+
+    /// The text with what was appended.
+    pub fn kept(self) -> Vec<u8>
+        ensures { result.items ≡ self.before ++ self.added }
+    {
+        self.text
+    }
+
+    /// The text without it.
+    pub fn taken_back(self) -> Vec<u8>
+        ensures { result.items ≡ self.before }
+    {
+        let mut text = self.text;
+        text.truncate(self.start);
+        text
+    }
+
+    pub fn push(&mut self, bytes: &[u8]) -> Result<(), AllocError>
+        ensures ok { OnOk result (self.new.added ≡ self.old.added ++ bytes.now) }
+        ensures before { self.new.before ≡ self.old.before }
+    {
+        self.text.extend_from_slice(bytes)
+    }
+
+    pub fn push_number(&mut self, number: u64) -> Result<(), AllocError>
+        ensures ok { OnOk result (self.new.added ≡ self.old.added ++ decimal number) }
+        ensures before { self.new.before ≡ self.old.before }
+    {
+        let mut buffer = Buffer::new();
+        self.push(buffer.format(number).as_bytes())
+    }
+
+    /// Bytes of a file in hexadecimal digits.
+    pub fn push_hex(&mut self, alloc: Global, bytes: &[u8]) -> Result<(), AllocError>
+        ensures ok { OnOk result (self.new.added ≡ self.old.added ++ hex_word bytes.now) }
+        ensures before { self.new.before ≡ self.old.before }
+    {
+        if bytes.is_empty() {
+            return self.push(b"-");
+        }
+        let word = hex::encode(alloc, bytes)?;
+        self.push(word.as_bytes())
+    }
+
+    /// Bytes of a name with escapes. It takes memory beside the text's where one is needed.
+    pub fn push_escaped(&mut self, alloc: Global, bytes: &[u8]) -> Result<(), AllocError>
+        ensures ok { OnOk result (self.new.added ≡ self.old.added ++ escaped bytes.now) }
+        ensures before { self.new.before ≡ self.old.before }
+    {
+        let word = percent_encode(bytes, ESCAPED).into_cow(alloc)?;
+        self.push(word.as_bytes())
+    }
+}

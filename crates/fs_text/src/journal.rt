@@ -1,0 +1,157 @@
+//! Journals that are read from their text.
+
+ghost use Rattle.std.specs.Prelude.{◌≡◌, ◌++◌, ◌∷◌, [], ◌≤◌, length, map, MatchResult};
+ghost use Rattle.fs_text.specs.Lines.{lines_of};
+ghost use Rattle.fs_text.specs.Journal.{begin_at, begin_of, commit_of, return_of, entry_of, entry_in_line, entries_from, entries_of, is_tree_line};
+ghost use Rattle.fs_text.specs.Answers.{Gives, GivesText};
+ghost use Rattle.fs_text.specs.declared.fault.FaultKind.TheVariants as kind;
+
+use crate::calls::{call_at, has_call_form};
+use crate::fault::{FaultKind, ScriptFault};
+use crate::limits::TEXT_LIMIT;
+use crate::lines::{cut_line, cut_words, is_passed_over};
+use crate::replies::reply_at;
+use crate::words::number_at;
+use fs_journal::Entry;
+use fs_names::{CallNo, SeatNo};
+use std::alloc::Global;
+
+fn begin_at(alloc: Global, call_no: &[u8], seat: &[u8], call: &[&[u8]]) -> Result<Entry, FaultKind>
+    ensures { Gives (λ entry. entry) result (begin_at call_no.now seat.now (map (λ w. w.now) call.now)) }
+{
+    let call_no = number_at(call_no)?;
+    let seat = number_at(seat)?;
+    let call = call_at(alloc, call)?;
+    Ok(Entry::Begin(CallNo::new(call_no), SeatNo::new(seat), call))
+}
+
+fn begin_of(alloc: Global, words: &[&[u8]]) -> Result<Entry, FaultKind>
+    ensures { Gives (λ entry. entry) result (begin_of (map (λ w. w.now) words.now)) }
+{
+    match words {
+        [call_no, seat, call @ ..] if has_call_form(call) => begin_at(alloc, call_no, seat, call),
+        _ => Err(FaultKind::BadLine),
+    }
+}
+
+fn commit_of(words: &[&[u8]]) -> Result<Entry, FaultKind>
+    ensures { Gives (λ entry. entry) result (commit_of (map (λ w. w.now) words.now)) }
+{
+    match words {
+        [call_no] => Ok(Entry::Commit(CallNo::new(number_at(call_no)?))),
+        _ => Err(FaultKind::BadLine),
+    }
+}
+
+fn return_of(alloc: Global, words: &[&[u8]]) -> Result<Entry, FaultKind>
+    ensures { Gives (λ entry. entry) result (return_of (map (λ w. w.now) words.now)) }
+{
+    match words {
+        [call_no, reply @ ..] if !reply.is_empty() => {
+            let call_no = number_at(call_no)?;
+            Ok(Entry::Return(CallNo::new(call_no), reply_at(alloc, reply)?))
+        }
+        _ => Err(FaultKind::BadLine),
+    }
+}
+
+#[tactic(auto, unfolding(crate::specs::Journal::entry_of))]
+fn entry_at(alloc: Global, words: &[&[u8]]) -> Result<Entry, FaultKind>
+    ensures { Gives (λ entry. entry) result (entry_of (map (λ w. w.now) words.now)) }
+{
+    match words {
+        [] => Err(FaultKind::BadLine),
+        [first, more @ ..] => {
+            if *first == b"begin".as_slice() {
+                begin_of(alloc, more)
+            } else if *first == b"commit".as_slice() {
+                commit_of(more)
+            } else if *first == b"return".as_slice() {
+                return_of(alloc, more)
+            } else {
+                Err(FaultKind::BadLine)
+            }
+        }
+    }
+}
+
+/// The entry that a line spells. `words` lends its memory.
+fn entry_in<'a>(
+    alloc: Global,
+    line: &'a [u8],
+    words: &mut Vec<&'a [u8]>,
+) -> Result<Entry, FaultKind>
+    ensures { Gives (λ entry. entry) result (entry_in_line line.now) }
+{
+    if let Err(kind) = cut_words(line, words) {
+        return Err(kind);
+    }
+    entry_at(alloc, words.as_slice())
+}
+
+fn push_entry(entries: &mut Vec<Entry>, entry: Entry) -> Result<(), FaultKind>
+    ensures { MatchResult result (λ _. entries.new.items ≡ entries.old.items ++ entry ∷ []) (λ e. e ≡ kind.OutOfMemory) }
+{
+    match entries.push(entry) {
+        Ok(()) => Ok(()),
+        Err(_) => Err(FaultKind::OutOfMemory),
+    }
+}
+
+fn is_tree_line(line: &[u8]) -> bool
+    ensures { result ≡ is_tree_line line.now }
+{
+    line == b"tree".as_slice()
+}
+
+/// The entries that lines spell, of which the first has the number 2.
+fn entries_in(alloc: Global, text: &[u8]) -> Result<Vec<Entry>, ScriptFault>
+    requires { length text.now ≤ TEXT_LIMIT }
+    ensures { GivesText (λ entries. entries.items) result (entries_from 2 (lines_of text.now)) }
+{
+    let mut entries = Vec::new(alloc);
+    let mut words = Vec::new(alloc);
+    let mut rest = text;
+    let mut number: u64 = 2;
+    'lines: while let Some((line, more)) = cut_line(rest) {
+        if is_passed_over(line) {
+            rest = more;
+            number += 1;
+            continue;
+        }
+        if is_tree_line(line) {
+            return Ok(entries);
+        }
+        let entry = match entry_in(alloc, line, &mut words) {
+            Ok(entry) => entry,
+            Err(kind) => return Err(ScriptFault { line: number, kind }),
+        };
+        if let Err(kind) = push_entry(&mut entries, entry) {
+            return Err(ScriptFault { line: number, kind });
+        }
+        rest = more;
+        number += 1;
+    }
+    Ok(entries)
+}
+
+/// Reads the entries of a journal, up to the end of the text or a line `tree`. The fault is the first from the left,
+/// with its line.
+#[tactic(auto, unfolding(crate::specs::Journal::entries_of))]
+pub fn read_entries(alloc: Global, text: &[u8]) -> Result<Vec<Entry>, ScriptFault>
+    ensures { GivesText (λ entries. entries.items) result (entries_of text.now) }
+{
+    if text.len() > TEXT_LIMIT {
+        return Err(ScriptFault {
+            line: 1,
+            kind: FaultKind::TooLarge,
+        });
+    }
+    match cut_line(text) {
+        Some((first, rest)) if first == b"atomfs-journal 1".as_slice() => entries_in(alloc, rest),
+        _ => Err(ScriptFault {
+            line: 1,
+            kind: FaultKind::BadHeader,
+        }),
+    }
+}

@@ -1,0 +1,75 @@
+//! Lines of a text, and words of a line.
+
+ghost use Rattle.std.specs.Prelude.{◌≡◌, ◌<◌, ◌++◌, ◌∷◌, [], length, map, position, MatchOption};
+ghost use Rattle.fs_text.specs.Lines.{lines_of, is_line_feed, is_space, is_passed_over};
+ghost use Rattle.fs_text.specs.Journal.{words_of};
+ghost use Rattle.fs_text.specs.Answers.{Becomes, pushed_word};
+ghost use Rattle.fs_text.specs.declared.fault.FaultKind.TheVariants as kind;
+
+use crate::fault::FaultKind;
+use crate::words::parts;
+
+fn line_end(text: &[u8]) -> Option<usize>
+    ensures { result ≡ position is_line_feed text.now }
+{
+    text.iter().position(|b| *b == b'\n')
+}
+
+/// The line at the front and what is behind it, where there is one.
+pub fn cut_line(text: &[u8]) -> Option<(&[u8], &[u8])>
+    ensures { MatchOption result (lines_of text.now ≡ [])
+        (λ p. (lines_of text.now ≡ p.0.now ∷ lines_of p.1.now) × (length p.1.now < length text.now)) }
+{
+    if text.is_empty() {
+        return None;
+    }
+    match line_end(text) {
+        Some(at) => Some(parts(text, at)),
+        None => Some((text, &[])),
+    }
+}
+
+/// Whether a line is empty or a comment.
+pub fn is_passed_over(line: &[u8]) -> bool
+    ensures { result ≡ is_passed_over line.now }
+{
+    match line {
+        [] => true,
+        [first, ..] => *first == b'#',
+    }
+}
+
+fn word_end(line: &[u8]) -> Option<usize>
+    ensures { result ≡ position is_space line.now }
+{
+    line.iter().position(|b| *b == b' ')
+}
+
+/// Adds a word, unless it is empty: then a space stands where none may.
+fn push_word<'a>(words: &mut Vec<&'a [u8]>, word: &'a [u8]) -> Result<(), FaultKind>
+    ensures { Becomes result (map (λ w. w.now) words.new.items) (pushed_word (map (λ w. w.now) words.old.items) word.now) }
+{
+    if word.is_empty() {
+        return Err(FaultKind::BadLine);
+    }
+    match words.push(word) {
+        Ok(()) => Ok(()),
+        Err(_) => Err(FaultKind::OutOfMemory),
+    }
+}
+
+/// Puts the words of a line in the place of those of the line before it, whose memory is used again.
+pub fn cut_words<'a>(line: &'a [u8], words: &mut Vec<&'a [u8]>) -> Result<(), FaultKind>
+    ensures { Becomes result (map (λ w. w.now) words.new.items) (words_of line.now) }
+{
+    words.clear();
+    let mut rest = line;
+    'words: while let Some(at) = word_end(rest) {
+        let (word, more) = parts(rest, at);
+        if let Err(kind) = push_word(words, word) {
+            return Err(kind);
+        }
+        rest = more;
+    }
+    push_word(words, rest)
+}

@@ -1,0 +1,125 @@
+//! Words of a line that are read: numbers, bytes of files, paths and names.
+
+ghost use Rattle.std.specs.Prelude.{◌≡◌, ◌<◌, ◌+◌, length, take, drop, Some, None};
+ghost use Rattle.std.specs.List.{list_all};
+ghost use Rattle.std.specs.Char.{is_ascii_digit};
+ghost use Rattle.fs_text.specs.Words.{is_number_text, number_of};
+ghost use Rattle.fs_text.specs.Calls.{number_at, hex_at, path_at};
+ghost use Rattle.fs_text.specs.Journal.{name_at, read_name};
+ghost use Rattle.fs_text.specs.Answers.{Gives, hex_fault_of, path_fault_of};
+
+use crate::fault::FaultKind;
+use fs_names::{Name, Path, PathFault};
+use fs_seq::Bytes;
+use hex::FromHexError;
+use percent_encoding::percent_decode;
+use std::alloc::Global;
+
+/// What stands before a place, and behind it.
+pub fn parts(bytes: &[u8], at: usize) -> (&[u8], &[u8])
+    requires { at < length bytes.now }
+    ensures front { result.0.now ≡ take at bytes.now }
+    ensures back { result.1.now ≡ drop (at + 1) bytes.now }
+{
+    (&bytes[..at], &bytes[at + 1..])
+}
+
+fn all_digits(word: &[u8]) -> bool
+    ensures { result ≡ list_all is_ascii_digit word.now }
+{
+    word.iter().all(|b| b.is_ascii_digit())
+}
+
+fn is_number_text(word: &[u8]) -> bool
+    ensures { result ≡ is_number_text word.now }
+{
+    match word {
+        [] => false,
+        [_only] => all_digits(word),
+        [first, ..] => all_digits(word) && *first > b'0',
+    }
+}
+
+pub fn number_of(word: &[u8]) -> Option<u64>
+    ensures { result ≡ number_of word.now }
+{
+    if !is_number_text(word) {
+        return None;
+    }
+    let Ok(text) = std::str::from_utf8(word) else {
+        return None;
+    };
+    match text.parse() {
+        Ok(n) => Some(n),
+        Err(_) => None,
+    }
+}
+
+pub(crate) fn number_at(word: &[u8]) -> Result<u64, FaultKind>
+    ensures { result ≡ number_at word.now }
+{
+    number_of(word).ok_or(FaultKind::BadNumber)
+}
+
+fn hex_fault(error: FromHexError) -> FaultKind
+    ensures { result ≡ hex_fault_of error }
+{
+    match error {
+        FromHexError::OutOfMemory => FaultKind::OutOfMemory,
+        _ => FaultKind::BadHex,
+    }
+}
+
+pub(crate) fn hex_at(alloc: Global, word: &[u8]) -> Result<Bytes, FaultKind>
+    ensures { Gives (λ bytes. bytes) result (hex_at word.now) }
+{
+    if word == b"-".as_slice() {
+        return Ok(Bytes::new(Vec::new(alloc)));
+    }
+    if word.is_empty() {
+        return Err(FaultKind::BadHex);
+    }
+    match hex::decode(alloc, word) {
+        Ok(bytes) => Ok(Bytes::new(bytes)),
+        Err(error) => Err(hex_fault(error)),
+    }
+}
+
+fn path_fault(fault: PathFault) -> FaultKind
+    ensures { result ≡ path_fault_of fault }
+{
+    match fault {
+        PathFault::OutOfMemory => FaultKind::OutOfMemory,
+        other => FaultKind::BadPath(other),
+    }
+}
+
+pub(crate) fn path_at(alloc: Global, word: &[u8]) -> Result<Path, FaultKind>
+    ensures { Gives (λ path. path) result (path_at word.now) }
+{
+    let Ok(bytes) = percent_decode(word).into_cow(alloc) else {
+        return Err(FaultKind::OutOfMemory);
+    };
+    match Path::parse(alloc, &bytes) {
+        Ok(path) => Ok(path),
+        Err(fault) => Err(path_fault(fault)),
+    }
+}
+
+fn read_name(bytes: &[u8]) -> Result<Name, FaultKind>
+    ensures { result ≡ read_name bytes.now }
+{
+    match Name::read(bytes) {
+        Some(name) => Ok(name),
+        None => Err(FaultKind::BadReply),
+    }
+}
+
+pub(crate) fn name_at(alloc: Global, word: &[u8]) -> Result<Name, FaultKind>
+    ensures { Gives (λ name. name) result (name_at word.now) }
+{
+    let Ok(bytes) = percent_decode(word).into_cow(alloc) else {
+        return Err(FaultKind::OutOfMemory);
+    };
+    read_name(&bytes)
+}

@@ -1,0 +1,226 @@
+//! Entries as lines of a text.
+
+ghost use Rattle.std.specs.Prelude.{◌≡◌, ◌++◌, ◌∷◌, OnOk, OnErr};
+ghost use Rattle.std.specs.List.{flat_map, join_with_byte};
+ghost use Rattle.fs_text.specs.Words.{escaped, path_word};
+ghost use Rattle.fs_text.specs.Calls.{call_words};
+ghost use Rattle.fs_seq.specs.declared.call.Call.TheVariants.{Rename, Read, Write};
+ghost use Rattle.fs_text.specs.Journal.{reply_words, entry_words, entry_line, kind_word, errno_word};
+
+use crate::addition::Addition;
+use fs_journal::Entry;
+use fs_names::{Kind, Name, Path};
+use fs_seq::{Call, Errno, Reply};
+use std::alloc::{AllocError, Global};
+use std::mem;
+
+fn push_path(alloc: Global, path: &Path, line: &mut Addition) -> Result<(), AllocError>
+    ensures ok { OnOk result (line.new.added ≡ line.old.added ++ path_word path.now) }
+    ensures before { line.new.before ≡ line.old.before }
+{
+    if path.is_empty() {
+        return line.push(b"/");
+    }
+    for i in 0..path.len() {
+        line.push(b"/")?;
+        line.push_escaped(alloc, path.name(i).bytes())?;
+    }
+    Ok(())
+}
+
+/// A word with its space, and a path behind it.
+fn push_with_path(
+    alloc: Global,
+    word: &[u8],
+    path: &Path,
+    line: &mut Addition,
+) -> Result<(), AllocError>
+    ensures ok { OnOk result (line.new.added ≡ line.old.added ++ word.now ++ path_word path.now) }
+    ensures before { line.new.before ≡ line.old.before }
+{
+    line.push(word)?;
+    push_path(alloc, path, line)
+}
+
+fn push_call(alloc: Global, call: &Call, line: &mut Addition) -> Result<(), AllocError>
+    ensures ok { OnOk result (line.new.added ≡ line.old.added ++ join_with_byte 32 (call_words call.now)) }
+    ensures before { line.new.before ≡ line.old.before }
+{
+    match call {
+        Call::Mkdir(path) => push_with_path(alloc, b"mkdir ", path, line),
+        Call::Mknod(path) => push_with_path(alloc, b"mknod ", path, line),
+        Call::Unlink(path) => push_with_path(alloc, b"unlink ", path, line),
+        Call::Rmdir(path) => push_with_path(alloc, b"rmdir ", path, line),
+        Call::Rename(from, to) => push_rename(alloc, from, to, line),
+        Call::Stat(path) => push_with_path(alloc, b"stat ", path, line),
+        Call::Readdir(path) => push_with_path(alloc, b"readdir ", path, line),
+        Call::Read(path, off, count) => push_read(alloc, path, *off, *count, line),
+        Call::Write(path, off, bytes) => push_write(alloc, path, *off, bytes.as_slice(), line),
+        Call::Truncate(path, size) => {
+            line.push(b"truncate ")?;
+            push_path(alloc, path, line)?;
+            line.push(b" ")?;
+            line.push_number(*size)
+        }
+    }
+}
+
+fn push_rename(alloc: Global, from: &Path, to: &Path, line: &mut Addition) -> Result<(), AllocError>
+    ensures ok { OnOk result (line.new.added ≡ line.old.added ++ join_with_byte 32 (call_words (Rename from.now to.now))) }
+    ensures before { line.new.before ≡ line.old.before }
+{
+    line.push(b"rename ")?;
+    push_path(alloc, from, line)?;
+    line.push(b" ")?;
+    push_path(alloc, to, line)
+}
+
+fn push_read(
+    alloc: Global,
+    path: &Path,
+    off: u64,
+    count: u64,
+    line: &mut Addition,
+) -> Result<(), AllocError>
+    ensures ok { OnOk result (line.new.added ≡ line.old.added ++ join_with_byte 32 (call_words (Read path.now off count))) }
+    ensures before { line.new.before ≡ line.old.before }
+{
+    line.push(b"read ")?;
+    push_path(alloc, path, line)?;
+    line.push(b" ")?;
+    line.push_number(off)?;
+    line.push(b" ")?;
+    line.push_number(count)
+}
+
+fn push_write(
+    alloc: Global,
+    path: &Path,
+    off: u64,
+    bytes: &[u8],
+    line: &mut Addition,
+) -> Result<(), AllocError>
+    ensures ok { OnOk result (line.new.added ≡ line.old.added ++ join_with_byte 32 (call_words (Write path.now off bytes.now))) }
+    ensures before { line.new.before ≡ line.old.before }
+{
+    line.push(b"write ")?;
+    push_path(alloc, path, line)?;
+    line.push(b" ")?;
+    line.push_number(off)?;
+    line.push(b" ")?;
+    line.push_hex(alloc, bytes)
+}
+
+fn kind_text(kind: Kind) -> &'static [u8]
+    ensures { result.now ≡ kind_word kind }
+{
+    match kind {
+        Kind::Dir => b"dir",
+        Kind::File => b"file",
+    }
+}
+
+fn errno_text(errno: Errno) -> &'static [u8]
+    ensures { result.now ≡ errno_word errno }
+{
+    match errno {
+        Errno::Enoent => b"ENOENT",
+        Errno::Enotdir => b"ENOTDIR",
+        Errno::Eexist => b"EEXIST",
+        Errno::Enotempty => b"ENOTEMPTY",
+        Errno::Eisdir => b"EISDIR",
+        Errno::Einval => b"EINVAL",
+        Errno::Ebusy => b"EBUSY",
+        Errno::Eperm => b"EPERM",
+        Errno::Enospc => b"ENOSPC",
+        Errno::Efbig => b"EFBIG",
+    }
+}
+
+/// Each name behind a space.
+fn push_names(alloc: Global, names: &[Name], line: &mut Addition) -> Result<(), AllocError>
+    ensures ok { OnOk result (line.new.added ≡ line.old.added ++ flat_map (λ n. 32 ∷ escaped n) names.now) }
+    ensures before { line.new.before ≡ line.old.before }
+{
+    for name in names {
+        line.push(b" ")?;
+        line.push_escaped(alloc, name.bytes())?;
+    }
+    Ok(())
+}
+
+fn push_reply(alloc: Global, reply: &Reply, line: &mut Addition) -> Result<(), AllocError>
+    ensures ok { OnOk result (line.new.added ≡ line.old.added ++ join_with_byte 32 (reply_words reply.now)) }
+    ensures before { line.new.before ≡ line.old.before }
+{
+    match reply {
+        Reply::Done => line.push(b"ok"),
+        Reply::Stat(kind, size) => {
+            line.push(b"stat ")?;
+            line.push(kind_text(*kind))?;
+            line.push(b" ")?;
+            line.push_number(*size)
+        }
+        Reply::Names(names) => {
+            line.push(b"names")?;
+            push_names(alloc, names.as_slice(), line)
+        }
+        Reply::Bytes(bytes) => {
+            line.push(b"bytes ")?;
+            line.push_hex(alloc, bytes.as_slice())
+        }
+        Reply::Wrote(size) => {
+            line.push(b"wrote ")?;
+            line.push_number(*size)
+        }
+        Reply::Failed(errno) => {
+            line.push(b"failed ")?;
+            line.push(errno_text(*errno))
+        }
+    }
+}
+
+fn push_entry(alloc: Global, entry: &Entry, line: &mut Addition) -> Result<(), AllocError>
+    ensures ok { OnOk result (line.new.added ≡ line.old.added ++ entry_line entry.now) }
+    ensures before { line.new.before ≡ line.old.before }
+{
+    match entry {
+        Entry::Begin(call_no, seat, call) => {
+            line.push(b"begin ")?;
+            line.push_number(call_no.get())?;
+            line.push(b" ")?;
+            line.push_number(seat.get())?;
+            line.push(b" ")?;
+            push_call(alloc, call, line)?;
+        }
+        Entry::Commit(call_no) => {
+            line.push(b"commit ")?;
+            line.push_number(call_no.get())?;
+        }
+        Entry::Return(call_no, reply) => {
+            line.push(b"return ")?;
+            line.push_number(call_no.get())?;
+            line.push(b" ")?;
+            push_reply(alloc, reply, line)?;
+        }
+    }
+    line.push(b"\n")
+}
+
+/// Appends the line of an entry. An `Err`, for want of memory alone, leaves the text as it was.
+pub fn write_entry(alloc: Global, entry: &Entry, text: &mut Vec<u8>) -> Result<(), AllocError>
+    ensures ok { OnOk result (text.new.items ≡ text.old.items ++ entry_line entry.now) }
+    ensures err { OnErr result (text.new.items ≡ text.old.items) }
+{
+    let mut line = Addition::new(mem::replace(text, Vec::new(alloc)));
+    match push_entry(alloc, entry, &mut line) {
+        Ok(()) => {
+            *text = line.kept();
+            Ok(())
+        }
+        Err(error) => {
+            *text = line.taken_back();
+            Err(error)
+        }
+    }
+}
