@@ -1,5 +1,5 @@
 -- What a checker knows of the entries so far, and when it is true.
-use Rattle.std.specs.Prelude.{◌≡◌, ℕ, Bool, true, false, List, [], ◌∷◌, not, Option, Some, None, is_some, option_map, if◌then◌else◌, ◌==◌}
+use Rattle.std.specs.Prelude.{◌≡◌, ℕ, Bool, true, false, List, [], ◌∷◌, not, Option, Some, None, is_some, if◌then◌else◌, ◌==◌}
 use Rattle.std.specs.Ordering.{nat_cmp}
 use Rattle.std.specs.BTreeMap.{get}
 use Rattle.fs_names.specs.First.{on, first}
@@ -13,7 +13,7 @@ use Rattle.fs_journal.specs.declared.entry.Entry.{Entry}
 use Rattle.fs_journal.specs.declared.entry.Entry.TheVariants.{Begin, Commit, Return}
 use Rattle.fs_journal.specs.declared.verdict.FaultKind.{FaultKind}
 use Rattle.fs_journal.specs.declared.verdict.FaultKind.TheVariants.{BeginTwice, SeatBusy, CommitUnbegun, CommitTwice, ReturnUncommitted, ReturnTwice, WrongReply}
-use Rattle.fs_journal.specs.declared.checker.Begun.{Begun}
+use Rattle.fs_journal.specs.Calls.{begun_at, call_in, due_in, is_back}
 use Rattle.fs_journal.specs.declared.checker.Checker.{Checker}
 
 -- the begun calls, the replies that are due to the committed ones, who has returned, the last call on each seat, and the tree after the commits
@@ -24,25 +24,12 @@ pub record Knowledge : Type 0 where
   pub last : ℕ → Option ℕ
   pub tree : Tree
 
--- what is known of one call: the call, the reply that is due to it, whether it has returned
-abbrev pub call_in : Option Begun → Option Call
-call_in None = None
-call_in (Some begun) = Some begun.call.now
-
-abbrev pub due_in : Option Begun → Option Reply
-due_in None = None
-due_in (Some begun) = begun.due
-
-abbrev pub is_back : Option Begun → Bool
-is_back None = false
-is_back (Some begun) = begun.returned
-
 -- what a checker's maps say
 abbrev pub known : Checker → Knowledge
 known k = record {
-  calls = λ c. call_in (get nat_cmp k.calls c);
-  replies = λ c. due_in (get nat_cmp k.calls c);
-  returned = λ c. is_back (get nat_cmp k.calls c);
+  calls = λ c. call_in (begun_at k.calls c);
+  replies = λ c. due_in (begun_at k.calls c);
+  returned = λ c. is_back (begun_at k.calls c);
   last = λ s. get nat_cmp k.last s;
   tree = k.tree;
 }

@@ -4,8 +4,9 @@ ghost use Rattle.std.specs.Prelude.{◌≡◌, ◌↔◌, true, [], Some, None, 
 ghost use Rattle.fs_journal.specs.Timeline.{IsLawful};
 ghost use Rattle.fs_journal.specs.Verdicts.{verdict};
 ghost use Rattle.fs_journal.specs.Laws.{NamesFirstFault};
-ghost use Rattle.fs_journal.specs.Knowledge.{known, known_fault, return_fault, taken_in, is_waiting, IsTrueOf};
+ghost use Rattle.fs_journal.specs.Knowledge.{known, known_fault, taken_in, is_waiting, IsTrueOf};
 
+use crate::calls::Calls;
 use crate::entry::Entry;
 use crate::verdict::{FaultKind, Verdict};
 use fs_names::{CallNo, SeatNo};
@@ -13,49 +14,10 @@ use fs_seq::{Call, Reply, SeqTree};
 use std::alloc::{AllocError, Global};
 use std::collections::BTreeMap;
 
-/// What is known of a call that has begun.
-#[derive(Drop)]
-struct Begun<'a> {
-    call: &'a Call,
-    /// The reply that is due to it, once it has committed.
-    due: Option<Reply>,
-    returned: bool,
-}
-
-impl Begun<'_> {
-    /// What is wrong with a Return of the call: the order of the entries before the reply.
-    fn return_fault(&self, reply: &Reply) -> Option<FaultKind>
-        ensures { result ≡ return_fault self.now.due self.now.returned reply.now }
-    {
-        match &self.due {
-            None => Some(FaultKind::ReturnUncommitted),
-            Some(_) if self.returned => Some(FaultKind::ReturnTwice),
-            Some(due) if !due.same(reply) => Some(FaultKind::WrongReply),
-            Some(_) => None,
-        }
-    }
-
-    /// Keeps the reply that is due.
-    fn commit(&mut self, reply: Reply)
-        ensures { self.new ≡ record self.old { due = Some reply } }
-    {
-        self.due = Some(reply);
-    }
-
-    /// Keeps that the call has returned.
-    fn end(&mut self)
-        ensures { self.new ≡ record self.old { returned = true } }
-    {
-        self.returned = true;
-    }
-}
-
-/// What is known of the entries so far. Strangers choose the numbers, so they are looked up in search trees: a hasher
-/// with a secret needs the runtime, and without a secret all numbers could be made to meet in one place.
+/// What is known of the entries so far.
 #[derive(Drop)]
 struct Checker<'a> {
-    /// The calls that have begun.
-    calls: BTreeMap<u64, Begun<'a>>,
+    calls: Calls<'a>,
     /// The last call on each seat.
     last: BTreeMap<u64, u64>,
     /// The tree after the commits.
@@ -69,7 +31,7 @@ impl<'a> Checker<'a> {
     {
         let tree = SeqTree::new(alloc)?;
         Ok(Checker {
-            calls: BTreeMap::new(alloc),
+            calls: Calls::new(alloc),
             last: BTreeMap::new(alloc),
             tree,
         })
@@ -91,7 +53,7 @@ impl<'a> Checker<'a> {
         ensures { result ≡ is_waiting (known self.now).returned ((known self.now).last seat) }
     {
         match self.last.get(&seat.get()) {
-            Some(number) => match self.calls.get(number) {
+            Some(number) => match self.calls.get(*number) {
                 Some(begun) => !begun.returned,
                 None => true,
             },
@@ -103,7 +65,7 @@ impl<'a> Checker<'a> {
     fn begin_fault(&self, number: CallNo, seat: SeatNo) -> Option<FaultKind>
         ensures { (call : Call) → result ≡ known_fault (known self.now) (Entry.Begin number seat call) }
     {
-        if self.calls.contains_key(&number.get()) {
+        if self.calls.get(number.get()).is_some() {
             Some(FaultKind::BeginTwice)
         } else if self.is_busy(seat) {
             Some(FaultKind::SeatBusy)
@@ -116,7 +78,7 @@ impl<'a> Checker<'a> {
     fn commit_fault(&self, number: CallNo) -> Option<FaultKind>
         ensures { result ≡ known_fault (known self.now) (Entry.Commit number) }
     {
-        match self.calls.get(&number.get()) {
+        match self.calls.get(number.get()) {
             None => Some(FaultKind::CommitUnbegun),
             Some(begun) if begun.due.is_some() => Some(FaultKind::CommitTwice),
             Some(_) => None,
@@ -127,7 +89,7 @@ impl<'a> Checker<'a> {
     fn return_fault(&self, number: CallNo, reply: &Reply) -> Option<FaultKind>
         ensures { result ≡ known_fault (known self.now) (Entry.Return number reply.now) }
     {
-        match self.calls.get(&number.get()) {
+        match self.calls.get(number.get()) {
             Some(begun) => begun.return_fault(reply),
             None => Some(FaultKind::ReturnUncommitted),
         }
@@ -153,12 +115,7 @@ impl<'a> Checker<'a> {
         requires { (known self.old).calls number ≡ None }
         ensures { OnOk result (known self.new ≡ taken_in (known self.old) (Entry.Begin number seat call.now)) }
     {
-        let begun = Begun {
-            call,
-            due: None,
-            returned: false,
-        };
-        self.calls.insert(number.get(), begun)?;
+        self.calls.begin(number.get(), call)?;
         self.last.insert(seat.get(), number.get())?;
         Ok(())
     }
@@ -167,9 +124,9 @@ impl<'a> Checker<'a> {
     fn commit(&mut self, alloc: Global, number: CallNo) -> Result<(), AllocError>
         ensures { OnOk result (known self.new ≡ taken_in (known self.old) (Entry.Commit number)) }
     {
-        if let Some(begun) = self.calls.get_mut(&number.get()) {
+        if let Some(begun) = self.calls.get(number.get()) {
             let reply = self.tree.apply(alloc, begun.call)?;
-            begun.commit(reply);
+            self.calls.commit(number.get(), reply);
         }
         Ok(())
     }
@@ -179,9 +136,7 @@ impl<'a> Checker<'a> {
         requires { IsSome ((known self.old).replies number) }
         ensures { (reply : Reply) → known self.new ≡ taken_in (known self.old) (Entry.Return number reply) }
     {
-        if let Some(begun) = self.calls.get_mut(&number.get()) {
-            begun.end();
-        }
+        self.calls.end(number.get());
     }
 }
 
