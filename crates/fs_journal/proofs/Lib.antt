@@ -3,3 +3,4 @@ pub mod KnowledgeLemmas
 pub mod ReplyLemmas
 pub mod TimelineLemmas
 pub mod VerdictLemmas
+pub mod CheckerLemmas

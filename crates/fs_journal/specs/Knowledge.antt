@@ -1,8 +1,7 @@
 -- What a checker knows of the entries so far, and when it is true.
-use Rattle.std.specs.Prelude.{◌≡◌, ℕ, Bool, true, false, List, [], ◌∷◌, not, Option, Some, None, is_some, option_map, if◌then◌else◌, ◌==◌}
+use Rattle.std.specs.Prelude.{◌≡◌, ℕ, Bool, true, false, List, [], ◌∷◌, not, Option, Some, None, is_some, if◌then◌else◌, ◌==◌}
 use Rattle.std.specs.Ordering.{nat_cmp}
 use Rattle.std.specs.BTreeMap.{get}
-use Rattle.std.specs.BTreeSet.{contains}
 use Rattle.fs_names.specs.First.{on, first}
 use Rattle.fs_seq.specs.Tree.{Tree}
 use Rattle.fs_seq.specs.Outcomes.{play, reply, after}
@@ -14,6 +13,7 @@ use Rattle.fs_journal.specs.declared.entry.Entry.{Entry}
 use Rattle.fs_journal.specs.declared.entry.Entry.TheVariants.{Begin, Commit, Return}
 use Rattle.fs_journal.specs.declared.verdict.FaultKind.{FaultKind}
 use Rattle.fs_journal.specs.declared.verdict.FaultKind.TheVariants.{BeginTwice, SeatBusy, CommitUnbegun, CommitTwice, ReturnUncommitted, ReturnTwice, WrongReply}
+use Rattle.fs_journal.specs.Calls.{begun_at, call_in, due_in, is_back}
 use Rattle.fs_journal.specs.declared.checker.Checker.{Checker}
 
 -- the begun calls, the replies that are due to the committed ones, who has returned, the last call on each seat, and the tree after the commits
@@ -27,9 +27,9 @@ pub record Knowledge : Type 0 where
 -- what a checker's maps say
 abbrev pub known : Checker → Knowledge
 known k = record {
-  calls = λ c. option_map (λ r. r.now) (get nat_cmp k.calls c);
-  replies = λ c. get nat_cmp k.replies c;
-  returned = λ c. contains nat_cmp k.returned c;
+  calls = λ c. call_in (begun_at k.calls c);
+  replies = λ c. due_in (begun_at k.calls c);
+  returned = λ c. is_back (begun_at k.calls c);
   last = λ s. get nat_cmp k.last s;
   tree = k.tree;
 }
@@ -38,6 +38,14 @@ known k = record {
 abbrev pub is_waiting : (ℕ → Bool) → Option ℕ → Bool
 is_waiting returned None = false
 is_waiting returned (Some c) = not (returned c)
+
+-- what is wrong with a Return, by what is known of the call
+abbrev pub return_fault : Option Reply → Bool → Reply → Option FaultKind
+return_fault due returned r = first
+    (on (not (is_some due)) ReturnUncommitted
+    ∷ on returned ReturnTwice
+    ∷ on (not (is_due due r)) WrongReply
+    ∷ [])
 
 -- what is wrong with an entry, by what is known of those before it
 abbrev pub known_fault : Knowledge → Entry → Option FaultKind
@@ -49,11 +57,7 @@ known_fault k (Commit c) = first
     (on (not (is_some (k.calls c))) CommitUnbegun
     ∷ on (is_some (k.replies c)) CommitTwice
     ∷ [])
-known_fault k (Return c r) = first
-    (on (not (is_some (k.replies c))) ReturnUncommitted
-    ∷ on (k.returned c) ReturnTwice
-    ∷ on (not (is_due (k.replies c) r)) WrongReply
-    ∷ [])
+known_fault k (Return c r) = return_fault (k.replies c) (k.returned c) r
 
 -- a function with one value changed
 abbrev pub changed : {A : Type 0} → (ℕ → A) → ℕ → A → ℕ → A

@@ -1,6 +1,7 @@
 pub mod Timeline
 pub mod Kept
 pub mod Verdicts
+pub mod Calls
 pub mod Knowledge
 pub mod Laws
 pub mod Examples

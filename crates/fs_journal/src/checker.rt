@@ -1,28 +1,23 @@
 //! The checker of journals.
 
-ghost use Rattle.std.specs.Prelude.{◌≡◌, ◌↔◌, [], IfOk, OnOk};
+ghost use Rattle.std.specs.Prelude.{◌≡◌, ◌↔◌, true, [], Some, None, IsSome, IfOk, OnOk};
 ghost use Rattle.fs_journal.specs.Timeline.{IsLawful};
 ghost use Rattle.fs_journal.specs.Verdicts.{verdict};
 ghost use Rattle.fs_journal.specs.Laws.{NamesFirstFault};
 ghost use Rattle.fs_journal.specs.Knowledge.{known, known_fault, taken_in, is_waiting, IsTrueOf};
 
+use crate::calls::Calls;
 use crate::entry::Entry;
 use crate::verdict::{FaultKind, Verdict};
 use fs_names::{CallNo, SeatNo};
 use fs_seq::{Call, Reply, SeqTree};
 use std::alloc::{AllocError, Global};
-use std::collections::{BTreeMap, BTreeSet};
+use std::collections::BTreeMap;
 
-/// What is known of the entries so far. Strangers choose the numbers, so they are looked up in search trees: a hasher
-/// with a secret needs the runtime, and without a secret all numbers could be made to meet in one place.
+/// What is known of the entries so far.
 #[derive(Drop)]
 struct Checker<'a> {
-    /// The calls that have begun.
-    calls: BTreeMap<u64, &'a Call>,
-    /// The replies that are due to the calls that have committed.
-    replies: BTreeMap<u64, Reply>,
-    /// The calls that have returned.
-    returned: BTreeSet<u64>,
+    calls: Calls<'a>,
     /// The last call on each seat.
     last: BTreeMap<u64, u64>,
     /// The tree after the commits.
@@ -36,9 +31,7 @@ impl<'a> Checker<'a> {
     {
         let tree = SeqTree::new(alloc)?;
         Ok(Checker {
-            calls: BTreeMap::new(alloc),
-            replies: BTreeMap::new(alloc),
-            returned: BTreeSet::new(alloc),
+            calls: Calls::new(alloc),
             last: BTreeMap::new(alloc),
             tree,
         })
@@ -60,7 +53,10 @@ impl<'a> Checker<'a> {
         ensures { result ≡ is_waiting (known self.now).returned ((known self.now).last seat) }
     {
         match self.last.get(&seat.get()) {
-            Some(number) => !self.returned.contains(number),
+            Some(number) => match self.calls.get(*number) {
+                Some(begun) => !begun.returned,
+                None => true,
+            },
             None => false,
         }
     }
@@ -69,7 +65,7 @@ impl<'a> Checker<'a> {
     fn begin_fault(&self, number: CallNo, seat: SeatNo) -> Option<FaultKind>
         ensures { (call : Call) → result ≡ known_fault (known self.now) (Entry.Begin number seat call) }
     {
-        if self.calls.contains_key(&number.get()) {
+        if self.calls.get(number.get()).is_some() {
             Some(FaultKind::BeginTwice)
         } else if self.is_busy(seat) {
             Some(FaultKind::SeatBusy)
@@ -82,12 +78,10 @@ impl<'a> Checker<'a> {
     fn commit_fault(&self, number: CallNo) -> Option<FaultKind>
         ensures { result ≡ known_fault (known self.now) (Entry.Commit number) }
     {
-        if !self.calls.contains_key(&number.get()) {
-            Some(FaultKind::CommitUnbegun)
-        } else if self.replies.contains_key(&number.get()) {
-            Some(FaultKind::CommitTwice)
-        } else {
-            None
+        match self.calls.get(number.get()) {
+            None => Some(FaultKind::CommitUnbegun),
+            Some(begun) if begun.due.is_some() => Some(FaultKind::CommitTwice),
+            Some(_) => None,
         }
     }
 
@@ -95,36 +89,33 @@ impl<'a> Checker<'a> {
     fn return_fault(&self, number: CallNo, reply: &Reply) -> Option<FaultKind>
         ensures { result ≡ known_fault (known self.now) (Entry.Return number reply.now) }
     {
-        match self.replies.get(&number.get()) {
+        match self.calls.get(number.get()) {
+            Some(begun) => begun.return_fault(reply),
             None => Some(FaultKind::ReturnUncommitted),
-            Some(due) => {
-                if self.returned.contains(&number.get()) {
-                    Some(FaultKind::ReturnTwice)
-                } else if !due.same(reply) {
-                    Some(FaultKind::WrongReply)
-                } else {
-                    None
-                }
-            }
         }
     }
 
     /// Takes in an entry in which nothing is wrong. Where memory runs out, part of it may be taken in.
     fn take_in(&mut self, alloc: Global, entry: &'a Entry) -> Result<(), AllocError>
+        requires { known_fault (known self.old) entry.now ≡ None }
         ensures { OnOk result (known self.new ≡ taken_in (known self.old) entry.now) }
     {
         match entry {
             Entry::Begin(number, seat, call) => self.begin(*number, *seat, call),
             Entry::Commit(number) => self.commit(alloc, *number),
-            Entry::Return(number, _) => self.end(*number),
+            Entry::Return(number, _) => {
+                self.end(*number);
+                Ok(())
+            }
         }
     }
 
     /// Keeps the call under its number, and its number as the last one on the seat.
     fn begin(&mut self, number: CallNo, seat: SeatNo, call: &'a Call) -> Result<(), AllocError>
+        requires { (known self.old).calls number ≡ None }
         ensures { OnOk result (known self.new ≡ taken_in (known self.old) (Entry.Begin number seat call.now)) }
     {
-        self.calls.insert(number.get(), call)?;
+        self.calls.begin(number.get(), call)?;
         self.last.insert(seat.get(), number.get())?;
         Ok(())
     }
@@ -133,20 +124,19 @@ impl<'a> Checker<'a> {
     fn commit(&mut self, alloc: Global, number: CallNo) -> Result<(), AllocError>
         ensures { OnOk result (known self.new ≡ taken_in (known self.old) (Entry.Commit number)) }
     {
-        if let Some(call) = self.calls.get(&number.get()) {
-            let reply = self.tree.apply(alloc, call)?;
-            self.replies.insert(number.get(), reply)?;
+        if let Some(begun) = self.calls.get(number.get()) {
+            let reply = self.tree.apply(alloc, begun.call)?;
+            self.calls.commit(number.get(), reply);
         }
         Ok(())
     }
 
     /// Keeps that the call has returned.
-    fn end(&mut self, number: CallNo) -> Result<(), AllocError>
-        ensures { (reply : Reply) →
-            OnOk result (known self.new ≡ taken_in (known self.old) (Entry.Return number reply)) }
+    fn end(&mut self, number: CallNo)
+        requires { IsSome ((known self.old).replies number) }
+        ensures { (reply : Reply) → known self.new ≡ taken_in (known self.old) (Entry.Return number reply) }
     {
-        self.returned.insert(number.get())?;
-        Ok(())
+        self.calls.end(number.get());
     }
 }
 

@@ -1,6 +1,7 @@
 //! Journals of calls, and the checker of journals.
 #![tactic(auto)]
 
+mod calls;
 pub mod checker;
 pub mod entry;
 pub mod examples;

@@ -22,7 +22,7 @@ pub struct Path {
 
 /// How many names a path holds before it takes memory for them: few, as each takes its place in every path, and as
 /// most paths are short.
-pub const INLINE_NAMES: usize = 4;
+pub const INLINE_NAMES: usize = 2;
 
 impl Model for Path {
     ghost use Rattle.std.specs.Prelude.{ℕ, List};
