@@ -24,7 +24,8 @@ use Rattle.fs_laws.proofs.Headlines.{run_keeps}
 use Rattle.fs_laws.proofs.Takes.{Take, Walk, Entry, Source, Dest, Replaced, takes_by}
 use Rattle.fs_laws.proofs.Neat.{SourceThere, NeatIn, Neat, plain_of, in_turn}
 use Rattle.fs_laws.proofs.Accounts.{Accounts, Holder, run_accounts}
-use Rattle.fs_laws.proofs.CallMoves.{takes_another, front_same}
+use Rattle.fs_laws.proofs.CallMoves.{takes_another}
+use Rattle.fs_laws.proofs.Solo.{front_same}
 use Rattle.fs_laws.proofs.CallGraphs.{begun_before, call_seat, finishes_open}
 use Rattle.fs_laws.proofs.Entering.{ToMove, to_move}
 use Rattle.fs_laws.proofs.Choosing.{total, within_total, chosen_or_none}

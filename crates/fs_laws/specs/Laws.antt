@@ -41,7 +41,7 @@ EarlierGoFirst = (s : State) → Run s → NoLaterBelow s
 abbrev pub HeadsStandClear : Type 0
 HeadsStandClear = (s : State) → Run s → NobodyBetween s
 
--- the placed calls, gone on in the order of their commits, leave the tree that the commits play, and each replies what is due to its place
+-- the placed calls, each gone on alone in the order of their commits, leave nodes that spell the tree that the commits play, and each replies what is due to its place
 abbrev pub PlacedSettle : Type 0
 PlacedSettle = (s : State) → Run s → Settles s
 

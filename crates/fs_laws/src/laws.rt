@@ -39,8 +39,8 @@ pub fn heads_stand_clear()
     ensures { HeadsStandClear }
 {}
 
-/// Over every run the placed calls, each gone on from where it stands and in the order of their commits, leave the tree
-/// that the commits play; and each of them replies what is due to its place among the commits.
+/// Over every run the placed calls, each gone on alone by its own moves and in the order of their commits, leave nodes
+/// that spell the tree that the commits play; and each of them replies what is due to its place among the commits.
 pub fn placed_settle()
     ensures { PlacedSettle }
 {}
