@@ -12,6 +12,7 @@ use Rattle.fs_ops.specs.Records.{Phase, Walking, Placed, Finished, Holds, Record
 use Rattle.fs_laws.specs.Invariants.{IsUnfinished, Forked, StandsWell, VictimAt, IsSingle, HeadsFit}
 use Rattle.fs_laws.specs.Settled.{names_left, alone_by}
 use Rattle.fs_laws.specs.Stands.{Located}
+use Rattle.fs_laws.specs.Work.{one_if, one_unless, to_go, moves_left}
 use Rattle.fs_laws.proofs.Prefixes.{prefix_append, prefix_some}
 use Rattle.fs_laws.proofs.Walks.{at_child, at_from}
 use Rattle.fs_laws.proofs.Slots.{single_at, single_victim, single_source, single_dest}
@@ -22,23 +23,6 @@ use Rattle.fs_laws.proofs.Agreeing.{on_ends}
 use Rattle.fs_laws.proofs.Takes.{Take, Walk, Entry, Source, Dest, Replaced, takes_by, with_stand}
 use Rattle.fs_laws.proofs.Neat.{Neat, NeatOp, TookWell, took_well, plain_of, left_same, neat_heads}
 use Rattle.fs_laws.proofs.Solo.{Solo, solo_wants, front_same}
-
--- how many moves a call has left at most: two for each name, one for each parent behind and for a victim
-abbrev pub one_if : Option ℕ → ℕ
-one_if None = 0
-one_if (Some n) = 1
-
-abbrev pub one_unless : Option ℕ → ℕ
-one_unless None = 1
-one_unless (Some n) = 0
-
-abbrev pub to_go : Form → Stand → ℕ
-to_go (On c p) st = length p
-to_go (In c p) st = length (parent_of p)
-to_go (Rename p q) st = length (left st.source.walked (parent_of p)) + length (left st.dest.walked (parent_of q))
-
-abbrev pub moves_left : Form → Stand → ℕ
-moves_left remaining st = ((((to_go remaining st + to_go remaining st) + one_if st.behind) + one_if st.source.behind) + one_if st.dest.behind) + one_unless st.victim
 
 parent_less : (p : Key) → length (parent_of p) ≤ length p
 parent_less [] = omega arith
@@ -52,7 +36,7 @@ left_less w whole = go (after_prefix w whole) refl
     go None e = omega arith
     go (Some r) e = let k : length whole ≡ length w + length r = ap length (prefix_some w whole r e) ∙ length-append w r in omega (arith, k)
 
-if_one : (o : Option ℕ) → one_if o ≤ 1
+pub if_one : (o : Option ℕ) → one_if o ≤ 1
 if_one None = omega arith
 if_one (Some n) = omega arith
 

@@ -64,3 +64,4 @@ pub mod Choosing
 pub mod Waiting
 pub mod Alone
 pub mod SettledAlone
+pub mod Working

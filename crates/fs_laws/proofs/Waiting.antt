@@ -28,7 +28,8 @@ use Rattle.fs_laws.proofs.CallMoves.{takes_another}
 use Rattle.fs_laws.proofs.Solo.{front_same}
 use Rattle.fs_laws.proofs.CallGraphs.{begun_before, call_seat, finishes_open}
 use Rattle.fs_laws.proofs.Entering.{ToMove, to_move}
-use Rattle.fs_laws.proofs.Choosing.{total, within_total, chosen_or_none}
+use Rattle.fs_laws.proofs.Choosing.{within_total, chosen_or_none}
+use Rattle.fs_laws.specs.Work.{total}
 
 -- a call that wants a node holds others as its position or as its heads' nodes
 holds_waiting : (s : State) (inv : Invariant s) (acc : Accounts s) (c : ℕ) (op : Record) (m n : ℕ) (st : Stand) → s.ops c ≡ Some op → IsUnfinished op → op.stand ≡ Some st → Take s.graph op m st → Holds st n → Keeps_waiting st n

@@ -12,6 +12,7 @@ use Rattle.fs_seq.specs.declared.call.Call.{Call}
 use Rattle.fs_laws.specs.Below.{NoWalkingBelow, NoLaterBelow, NobodyBetween, Settles, NeverWaitsToFinish, Meanwhile, HelpsEachOnce}
 use Rattle.fs_laws.specs.Placed.{Standing, Passes, PastAll, rekey_all}
 use Rattle.fs_laws.specs.Progress.{HasStep, WaitsBelow, IsNeverStuck}
+use Rattle.fs_laws.specs.Work.{TakesWork, AddsWork}
 use Rattle.fs_laws.specs.States.{State, Run}
 use Rattle.fs_laws.specs.Headline.{Linearizes}
 
@@ -64,3 +65,11 @@ WaitersStandAbove = (s : State) → Run s → WaitsBelow s
 -- and so, where a call is under way, some seat's step neither waits nor idles
 abbrev pub SomeCallGoesOn : Type 0
 SomeCallGoesOn = (s : State) → Run s → IsNeverStuck s
+
+-- each step by which a call goes on takes one or more from a bound on the steps that are left; the other steps leave the state
+abbrev pub StepsTakeWork : Type 0
+StepsTakeWork = (s : State) → Run s → TakesWork s
+
+-- a begin adds to it what the call's names ask
+abbrev pub BeginsAddWork : Type 0
+BeginsAddWork = (s : State) → Run s → AddsWork s

@@ -9,4 +9,5 @@ pub mod Computing
 pub mod Examples
 pub mod Below
 pub mod Progress
+pub mod Work
 pub mod Laws

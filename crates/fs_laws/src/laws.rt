@@ -3,6 +3,7 @@
 ghost use Rattle.fs_laws.specs.Laws.{
     GoesPastAll, TreesAsMaps, Linearization, PlacedGoFirst, EarlierGoFirst, HeadsStandClear, PlacedSettle,
     FinishNeverWaits, HelpsAreBounded, EachSeatSteps, WaitersStandAbove, SomeCallGoesOn,
+    StepsTakeWork, BeginsAddWork,
 };
 
 /// A call that finishes goes past all placed calls: they settle to what it leaves of their settled tree, it answers the
@@ -71,4 +72,15 @@ pub fn waiters_stand_above()
 /// Over every run, where a call is under way, some seat's step answers neither that it waits nor that it is idle.
 pub fn some_call_goes_on()
     ensures { SomeCallGoesOn }
+{}
+
+/// Over every run each step by which a call goes on takes one or more from a bound on the steps that all calls under way
+/// have left together. So, without new calls, the runs in which no step waits or idles are no longer than that.
+pub fn steps_take_work()
+    ensures { StepsTakeWork }
+{}
+
+/// Over every run a begin adds to that bound two steps for each name of the call's paths and twelve more.
+pub fn begins_add_work()
+    ensures { BeginsAddWork }
 {}
