@@ -65,3 +65,4 @@ pub mod Waiting
 pub mod Alone
 pub mod SettledAlone
 pub mod Working
+pub mod Places

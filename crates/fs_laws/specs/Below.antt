@@ -1,5 +1,5 @@
 -- Who stands below whom, who holds what, and what the placed calls leave, in every state of a run.
-use Rattle.std.specs.Prelude.{ℕ, ◌≡◌, ◌<◌, List, [], ◌∷◌, ◌++◌, Option, Some, ◌⊎◌}
+use Rattle.std.specs.Prelude.{ℕ, ◌≡◌, ◌<◌, List, [], ◌∷◌, true, ◌++◌, Option, Some, ◌⊎◌}
 use Rattle.fs_names.specs.Keys.{Key}
 use Rattle.fs_seq.specs.Outcomes as tree
 use Rattle.fs_seq.specs.Shapes.{seen}
@@ -10,6 +10,7 @@ use Rattle.fs_journal.specs.Timeline as journal
 use Rattle.fs_journal.specs.declared.entry.Entry.{Entry}
 use Rattle.fs_ops.specs.Moves.{Finishes, next}
 use Rattle.fs_ops.specs.Records.{Stand, Walking, Placed, Record, Holds}
+use Rattle.fs_laws.specs.Books.{commit_count}
 use Rattle.fs_laws.specs.Invariants.{InOrder, IsIn}
 use Rattle.fs_laws.specs.Settled.{settled_graph, settled_replies}
 use Rattle.fs_laws.specs.States.{State, Begun, Begins, Moves, IsBelow, IsWalkingBelow, IsChosen, NoneBelow, Stepped, Helped, Committed, Step}
@@ -79,3 +80,12 @@ EachBelow s moved (d ∷ ds) = IsWalkingBelow s moved d × (IsIn d ds → ⊥) �
 pub record HelpsEachOnce (c moved : ℕ) (s : State) (helped : List ℕ) (new : State) : Type 0 where
   pub helps : EachBelow s moved helped
   pub still : (d : ℕ) → IsWalkingBelow new moved d → IsWalkingBelow s moved d × (IsIn d helped → ⊥)
+
+-- a call's place is the number of commits before its own
+pub record HasPlace (es : List Entry) (c i : ℕ) : Type 0 where
+  pub committed : journal.has_committed c es ≡ true
+  pub place : commit_count (journal.before_commit c es) ≡ i
+
+-- each placed call has the place that its phase tells
+abbrev pub PlacesAreCounted : State → Type 0
+PlacesAreCounted s = (c i : ℕ) (op : Record) → s.ops c ≡ Some op → op.phase ≡ Placed i → HasPlace s.timeline c i

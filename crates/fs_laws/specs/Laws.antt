@@ -9,7 +9,7 @@ use Rattle.fs_seq.specs.Outcomes as tree
 use Rattle.fs_seq.specs.Shapes.{seen}
 use Rattle.fs_seq.specs.Tree.{Tree, IsTree}
 use Rattle.fs_seq.specs.declared.call.Call.{Call}
-use Rattle.fs_laws.specs.Below.{NoWalkingBelow, NoLaterBelow, NobodyBetween, Settles, NeverWaitsToFinish, Meanwhile, HelpsEachOnce}
+use Rattle.fs_laws.specs.Below.{NoWalkingBelow, NoLaterBelow, NobodyBetween, Settles, PlacesAreCounted, NeverWaitsToFinish, Meanwhile, HelpsEachOnce}
 use Rattle.fs_laws.specs.Placed.{Standing, Passes, PastAll, rekey_all}
 use Rattle.fs_laws.specs.Progress.{HasStep, WaitsBelow, IsNeverStuck}
 use Rattle.fs_laws.specs.Work.{TakesWork, AddsWork}
@@ -45,6 +45,10 @@ HeadsStandClear = (s : State) → Run s → NobodyBetween s
 -- the placed calls, each gone on alone in the order of their commits, leave nodes that spell the tree that the commits play, and each replies what is due to its place
 abbrev pub PlacedSettle : Type 0
 PlacedSettle = (s : State) → Run s → Settles s
+
+-- the place that a placed call's phase tells is the number of commits before its own in the timeline
+abbrev pub PlacesAreTold : Type 0
+PlacesAreTold = (s : State) → Run s → PlacesAreCounted s
 
 -- in every state, of a run or not: a step of a walking call that is to finish helps, or commits
 abbrev pub FinishNeverWaits : Type 0

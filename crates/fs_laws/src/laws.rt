@@ -3,7 +3,7 @@
 ghost use Rattle.fs_laws.specs.Laws.{
     GoesPastAll, TreesAsMaps, Linearization, PlacedGoFirst, EarlierGoFirst, HeadsStandClear, PlacedSettle,
     FinishNeverWaits, HelpsAreBounded, EachSeatSteps, WaitersStandAbove, SomeCallGoesOn,
-    StepsTakeWork, BeginsAddWork,
+    StepsTakeWork, BeginsAddWork, PlacesAreTold,
 };
 
 /// A call that finishes goes past all placed calls: they settle to what it leaves of their settled tree, it answers the
@@ -44,6 +44,11 @@ pub fn heads_stand_clear()
 /// that spell the tree that the commits play; and each of them replies what is due to its place among the commits.
 pub fn placed_settle()
     ensures { PlacedSettle }
+{}
+
+/// Over every run the place that a placed call's phase tells is the number of commits before its own in the timeline.
+pub fn places_are_told()
+    ensures { PlacesAreTold }
 {}
 
 /// A step of a walking call whose next move is to finish helps another call or commits; it never answers that it has to
