@@ -271,7 +271,7 @@ settles_alone graph is ops key (c ∷ cs) s =
     let call : under (key c) p.op.remaining ≡ under (key c) (remaining_of (ops c)) = ap (λ (o : Option Record). under (key c) (remaining_of o)) (sym p.is) in (
       ap (λ (o : Option Record). spell (settled_graph (settled_by graph o) ops cs)) p.is ∙ rest.0 ∙ ap (λ (t : Map Shape). settle t (spots ops key cs)) (g.tree ∙ ap (after (spell graph)) call),
       ap (λ (o : Option Record). settled_reply graph o (settled_replies (settled_by graph o) ops cs)) p.is
-      ∙ ap₂ (λ (r : Reply) (rs : List Reply). r ∷ rs) (g.replied ∙ ap (reply (spell graph)) call) (rest.1 ∙ ap (λ (t : Map Shape). settle_replies t (spots ops key cs)) (g.tree ∙ ap (after (spell graph)) call)),
+          ∙ ap₂ (λ (r : Reply) (rs : List Reply). r ∷ rs) (g.replied ∙ ap (reply (spell graph)) call) (rest.1 ∙ ap (λ (t : Map Shape). settle_replies t (spots ops key cs)) (g.tree ∙ ap (after (spell graph)) call)),
     )
 
 -- those of a run

@@ -150,12 +150,15 @@ waits_above s run c d e op q a b =
     let h : (r : Record) × (st : Stand) × (s.ops d ≡ Some r) × (r.stand ≡ Some st) = holder_stands s run a.node d a.held in
     let z : ◌≡◌ {A = Option Record} (Some h.0) (Some q) = sym h.2 ∙ b.is in
     let y : h.0 ≡ q = cc in
-    let on_q : q.stand ≡ Some h.1 = ap (λ (o : Record). o.stand) (sym y) ∙ h.3 in
-    (h.1, on_q, λ st on.
-      (let k : (r : Key) × HasNames r × ((run_keeps s run).key d ≡ (run_keeps s run).key c ++ r) = waits_key s run c d e op q st h.1 a on b on_q in
-      let here : numbers s.graph ((run_keeps s run).key c) ≡ Some st.node = ((run_keeps s run).kept.each c op st a.is on).located.here in
-      let there : numbers s.graph ((run_keeps s run).key d) ≡ Some h.1.node = ((run_keeps s run).kept.each d q h.1 b.is on_q).located.here in
-      (k.0, k.1, sym (at_from s.graph.kid 0 st.node ((run_keeps s run).key c) k.0 here) ∙ ap (numbers s.graph) (sym k.2) ∙ there)))
+    let on_q : q.stand ≡ Some h.1 = ap (λ (o : Record). o.stand) (sym y) ∙ h.3 in (
+      h.1,
+      on_q,
+      λ st on.
+          (let k : (r : Key) × HasNames r × ((run_keeps s run).key d ≡ (run_keeps s run).key c ++ r) = waits_key s run c d e op q st h.1 a on b on_q in
+          let here : numbers s.graph ((run_keeps s run).key c) ≡ Some st.node = ((run_keeps s run).kept.each c op st a.is on).located.here in
+          let there : numbers s.graph ((run_keeps s run).key d) ≡ Some h.1.node = ((run_keeps s run).kept.each d q h.1 b.is on_q).located.here in
+          (k.0, k.1, sym (at_from s.graph.kid 0 st.node ((run_keeps s run).key c) k.0 here) ∙ ap (numbers s.graph) (sym k.2) ∙ there)),
+    )
 
 -- what a call's step does: it goes on, or waits
 pub data Does (s : State) (c : ℕ) (op : Record) : Type 0 where

@@ -1,9 +1,21 @@
 //! What holds of the machine. Each function's contract is a law, and its body is empty.
 
 ghost use Rattle.fs_laws.specs.Laws.{
-    GoesPastAll, TreesAsMaps, Linearization, PlacedGoFirst, EarlierGoFirst, HeadsStandClear, PlacedSettle,
-    FinishNeverWaits, HelpsAreBounded, EachSeatSteps, WaitersStandAbove, SomeCallGoesOn,
-    StepsTakeWork, BeginsAddWork, PlacesAreTold,
+  GoesPastAll,
+  TreesAsMaps,
+  Linearization,
+  PlacedGoFirst,
+  EarlierGoFirst,
+  HeadsStandClear,
+  PlacedSettle,
+  FinishNeverWaits,
+  HelpsAreBounded,
+  EachSeatSteps,
+  WaitersStandAbove,
+  SomeCallGoesOn,
+  StepsTakeWork,
+  BeginsAddWork,
+  PlacesAreTold,
 };
 
 /// A call that finishes goes past all placed calls: they settle to what it leaves of their settled tree, it answers the
