@@ -66,3 +66,4 @@ pub mod Alone
 pub mod SettledAlone
 pub mod Working
 pub mod Places
+pub mod OneCall

@@ -9,12 +9,14 @@ use Rattle.fs_seq.specs.Outcomes as tree
 use Rattle.fs_seq.specs.Shapes.{seen}
 use Rattle.fs_seq.specs.Tree.{Tree, IsTree}
 use Rattle.fs_seq.specs.declared.call.Call.{Call}
+use Rattle.fs_seq.specs.declared.reply.Reply.{Reply}
 use Rattle.fs_laws.specs.Below.{NoWalkingBelow, NoLaterBelow, NobodyBetween, Settles, PlacesAreCounted, NeverWaitsToFinish, Meanwhile, HelpsEachOnce}
 use Rattle.fs_laws.specs.Placed.{Standing, Passes, PastAll, rekey_all}
 use Rattle.fs_laws.specs.Progress.{HasStep, WaitsBelow, IsNeverStuck}
 use Rattle.fs_laws.specs.Work.{TakesWork, AddsWork}
-use Rattle.fs_laws.specs.States.{State, Run}
-use Rattle.fs_laws.specs.Headline.{Linearizes}
+use Rattle.fs_laws.specs.OneCall.{StepsTo, MeetsTree}
+use Rattle.fs_laws.specs.States.{State, Begun_as, Begins, Run}
+use Rattle.fs_laws.specs.Headline.{IsIdle, Linearizes}
 
 -- a call that finishes goes past all placed calls
 abbrev pub GoesPastAll : Type 0
@@ -77,3 +79,7 @@ StepsTakeWork = (s : State) → Run s → TakesWork s
 -- a begin adds to it what the call's names ask
 abbrev pub BeginsAddWork : Type 0
 BeginsAddWork = (s : State) → Run s → AddsWork s
+
+-- a call that is begun with no other under way, and stepped to its end, replies and changes as the sequential tree says
+abbrev pub CallsMeetTheTree : Type 0
+CallsMeetTheTree = (s first new : State) (seat c : ℕ) (call : Call) (r : Reply) → Run s → IsIdle s → Begins s seat call (Begun_as c) first → StepsTo seat r new first → MeetsTree s call r new

@@ -10,4 +10,5 @@ pub mod Examples
 pub mod Below
 pub mod Progress
 pub mod Work
+pub mod OneCall
 pub mod Laws

@@ -16,6 +16,7 @@ ghost use Rattle.fs_laws.specs.Laws.{
   StepsTakeWork,
   BeginsAddWork,
   PlacesAreTold,
+  CallsMeetTheTree,
 };
 
 /// A call that finishes goes past all placed calls: they settle to what it leaves of their settled tree, it answers the
@@ -100,4 +101,10 @@ pub fn steps_take_work()
 /// Over every run a begin adds to that bound two steps for each name of the call's paths and twelve more.
 pub fn begins_add_work()
     ensures { BeginsAddWork }
+{}
+
+/// A call that is begun with no other under way, and stepped to its end, replies and changes as the sequential tree says,
+/// and leaves no call under way.
+pub fn calls_meet_the_tree()
+    ensures { CallsMeetTheTree }
 {}
