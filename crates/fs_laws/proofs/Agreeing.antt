@@ -50,7 +50,7 @@ target_ends graph (Rename p q) st e =
     (first_ends graph st.dest.node st.dest.behind (left st.dest.walked (parent_of q)) _
     (dir_ends (graph.shape st.dest.node) (rename_move graph p q st) (rename_ends graph p q st (rename_move graph p q st) refl))))) e
 
-on_ends : (graph : Graph) (remaining : Form) (st : Stand) → next_on graph remaining st ≡ Ends → ⊥
+pub on_ends : (graph : Graph) (remaining : Form) (st : Stand) → next_on graph remaining st ≡ Ends → ⊥
 on_ends graph remaining st e = first_ends graph st.node st.behind (target remaining) (target_move graph remaining st) (target_ends graph remaining st) e
 
 -- only a finished call returns, and only an unfinished one finishes

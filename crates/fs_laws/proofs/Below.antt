@@ -17,6 +17,7 @@ use Rattle.fs_laws.proofs.Walks.{at_from}
 use Rattle.fs_laws.proofs.Renames.{source_held, dest_held}
 use Rattle.fs_laws.proofs.Headlines.{run_keeps}
 use Rattle.fs_laws.proofs.Journals.{Ties, run_ties}
+use Rattle.fs_laws.proofs.SettledAlone.{run_settles_alone}
 
 -- two keys at which two positions stand, the second below the first
 key_below : (s : State) (inv : Invariant s) (c d : ℕ) (p q : Record) (st other : Stand) (r : Key) → StandsAt s c p st → StandsAt s d q other → at s.graph.kid st.node r ≡ Some other.node → inv.key d ≡ inv.key c ++ r
@@ -94,13 +95,11 @@ settles s run =
     let inv : Invariant s = run_keeps s run in
     let ties : Ties (book_of start s.timeline) s.timeline = run_ties s run in
     record {
-      key = inv.key;
-      at_key = λ c op st a. (inv.kept.each c op st a.is a.on).located.here;
-      order = inv.order;
-      in_order = inv.in_order;
-      all = λ c op i e f. (inv.all_placed c op i e f).1;
-      played = inv.tied.played ∙ ties.tree;
-      replies = are_due s.timeline (book_of start s.timeline) ties.due inv.order _ inv.tied.dues;
+      order = (run_keeps s run).order;
+      in_order = (run_keeps s run).in_order;
+      all = λ c op i e f. ((run_keeps s run).all_placed c op i e f).1;
+      spelled = (run_settles_alone s run).0 ∙ (run_keeps s run).tied.played ∙ ties.tree;
+      replies = are_due s.timeline (book_of start s.timeline) ties.due (run_keeps s run).order _ (subst (Dues (book_of start s.timeline) (run_keeps s run).order) (sym (run_settles_alone s run).1) (run_keeps s run).tied.dues);
     }
 
 -- a call walks and is to finish

@@ -23,7 +23,7 @@ use Rattle.fs_laws.proofs.Agreeing.{by_ends}
 use Rattle.fs_laws.proofs.Returning.{ends_nowhere}
 use Rattle.fs_laws.proofs.Headlines.{run_keeps}
 use Rattle.fs_laws.proofs.Accounts.{run_accounts, not_begun}
-use Rattle.fs_laws.proofs.CallMoves.{front_same}
+use Rattle.fs_laws.proofs.Solo.{front_same}
 
 -- a number in use to which nothing leads
 spare_of : (graph : Graph) → IsGraph graph → (n : ℕ) (shape : Shape) → graph.shape n ≡ Some shape → ((key : Key) → numbers graph key ≡ Some n → ⊥) → IsSpare graph n

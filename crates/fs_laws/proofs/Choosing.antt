@@ -8,6 +8,7 @@ use Rattle.fs_nodes.specs.Graphs.{at, numbers}
 use Rattle.fs_ops.specs.Records.{Phase, Walking, Placed, Finished, Record, Records, Stand}
 use Rattle.fs_laws.specs.Books.{begins}
 use Rattle.fs_laws.specs.Invariants.{Invariant}
+use Rattle.fs_laws.specs.Work.{total}
 use Rattle.fs_laws.specs.States.{State, Run, IsWalkingBelow, IsLowest, IsChosen, NoneBelow}
 use Rattle.fs_laws.proofs.Prefixes.{prefix_append, prefix_some}
 use Rattle.fs_laws.proofs.Walks.{at_from, eqb_refl, eqb_true}
@@ -15,7 +16,7 @@ use Rattle.fs_laws.proofs.Headlines.{run_keeps}
 use Rattle.fs_laws.proofs.CallGraphs.{begun_before}
 
 -- up to a number: the number itself, or one before
-up_to : (c n : ℕ) → c ≤ suc n → (c ≡ suc n) ⊎ (c ≤ n)
+pub up_to : (c n : ℕ) → c ≤ suc n → (c ≡ suc n) ⊎ (c ≤ n)
 up_to c n h = go (nat_le c n) refl
   where
     go : (b : Bool) → nat_le c n ≡ b → (c ≡ suc n) ⊎ (c ≤ n)
@@ -97,11 +98,7 @@ least f (suc n) = go (least f n) (f (suc n)) refl
     go (Nobody h) true i = First (suc n) i (λ c e. above h c e (nat_le c n) refl)
     go (Nobody h) false i = Nobody (λ c k. no_one h i c (up_to c n k))
 
--- a bound for what belongs to numbers up to n
-abbrev pub total : (ℕ → ℕ) → ℕ → ℕ
-total g zero = g 0
-total g (suc n) = total g n + g (suc n)
-
+-- each is within the sum
 pub within_total : (g : ℕ → ℕ) (n c : ℕ) → c ≤ n → g c ≤ total g n
 within_total g zero c h = let z : c ≡ 0 = omega (arith, h) in let y : g c ≡ g 0 = ap g z in omega (arith, y)
 within_total g (suc n) c h = go (up_to c n h) (within_total g n c)

@@ -43,7 +43,7 @@ shrinks_of st new n l = record {
   dest = l.dest;
 }
 
-single_of : (st new : Stand) (n : ℕ) → Lets st new n → IsSingle st → IsSingle new
+pub single_of : (st new : Stand) (n : ℕ) → Lets st new n → IsSingle st → IsSingle new
 single_of st new n l s a b q e f = s a b q (l.stays a q e).0 (l.stays b q f).0
 
 -- what it still holds is another node
@@ -54,7 +54,7 @@ other_of st new n q l s h e =
     w.1 (s a.0 l.gone n (w.0 ∙ ap (λ (x : ℕ). Some x) e) l.was)
 
 -- a parent behind the walk
-lets_behind : (st : Stand) (n : ℕ) → st.behind ≡ Some n → Lets st (record st { behind = None }) n
+pub lets_behind : (st : Stand) (n : ℕ) → st.behind ≡ Some n → Lets st (record st { behind = None }) n
 lets_behind st n e = record { gone = At_behind; was = e; stays = stays; node = refl; source = inl (refl, refl); dest = inl (refl, refl); heads = λ h. h }
   where
     stays : (a : Slot) (q : ℕ) → in_slot (record st { behind = None }) a ≡ Some q → (in_slot st a ≡ Some q) × (a ≡ At_behind → ⊥)
@@ -75,7 +75,7 @@ has_walked [] behind n h e = let z : ◌≡◌ {A = Option ℕ} None (Some n) = 
 has_walked (x ∷ w) behind n h e = e
 
 -- a parent behind a head
-lets_source_behind : (st : Stand) (n : ℕ) → HeadsFit st → st.source.behind ≡ Some n → Lets st (record st { source = head_left st.source }) n
+pub lets_source_behind : (st : Stand) (n : ℕ) → HeadsFit st → st.source.behind ≡ Some n → Lets st (record st { source = head_left st.source }) n
 lets_source_behind st n fit e = record { gone = At_source_behind; was = has_walked st.source.walked st.source.behind n fit.0 e; stays = stays; node = refl; source = inl (refl, refl); dest = inl (refl, refl); heads = λ h. ((λ i. refl), h.1) }
   where
     stays : (a : Slot) (q : ℕ) → in_slot (record st { source = head_left st.source }) a ≡ Some q → (in_slot st a ≡ Some q) × (a ≡ At_source_behind → ⊥)
@@ -87,7 +87,7 @@ lets_source_behind st n fit e = record { gone = At_source_behind; was = has_walk
     stays At_dest_behind q f = (f, λ i. cc)
     stays At_victim q f = (f, λ i. cc)
 
-lets_dest_behind : (st : Stand) (n : ℕ) → HeadsFit st → st.dest.behind ≡ Some n → Lets st (record st { dest = head_left st.dest }) n
+pub lets_dest_behind : (st : Stand) (n : ℕ) → HeadsFit st → st.dest.behind ≡ Some n → Lets st (record st { dest = head_left st.dest }) n
 lets_dest_behind st n fit e = record { gone = At_dest_behind; was = has_walked st.dest.walked st.dest.behind n fit.1 e; stays = stays; node = refl; source = inl (refl, refl); dest = inl (refl, refl); heads = λ h. (h.0, (λ i. refl)) }
   where
     stays : (a : Slot) (q : ℕ) → in_slot (record st { dest = head_left st.dest }) a ≡ Some q → (in_slot st a ≡ Some q) × (a ≡ At_dest_behind → ⊥)
@@ -348,7 +348,7 @@ head_well : (graph : Graph) (n : ℕ) (w w2 : Key) (h h2 : ℕ) (whole : Key) �
 head_well graph n w w2 h h2 whole (inl (i, j)) e f = (ap (at graph.kid n) i ∙ e ∙ ap (λ (x : ℕ). Some x) (sym j), f ∙ ap (λ (k : Key). k ++ left k whole) (sym i))
 head_well graph n w w2 h h2 whole (inr (i, j)) e f = (ap (at graph.kid n) i ∙ ap (λ (x : ℕ). Some x) (sym j), ap (λ (k : Key). k ++ left k whole) (sym i))
 
-well_left : (graph : Graph) (st new : Stand) (n : ℕ) (remaining : Form) → Lets st new n → StandsWell graph st.node remaining st → StandsWell graph new.node remaining new
+pub well_left : (graph : Graph) (st new : Stand) (n : ℕ) (remaining : Form) → Lets st new n → StandsWell graph st.node remaining st → StandsWell graph new.node remaining new
 well_left graph st new n (On c p) l w = w
 well_left graph st new n (In c p) l w = w
 well_left graph st new n (Rename p q) l w = subst (λ (m : ℕ). StandsWell graph m (Rename p q) new) (sym l.node) (go (common (parent_of p) (parent_of q)) w)
@@ -360,7 +360,7 @@ well_left graph st new n (Rename p q) l w = subst (λ (m : ℕ). StandsWell grap
         let d : (at graph.kid st.node new.dest.walked ≡ Some new.dest.node) × (parent_of q ≡ new.dest.walked ++ left new.dest.walked (parent_of q)) = head_well graph st.node st.dest.walked new.dest.walked st.dest.node new.dest.node (parent_of q) l.dest w.dest_at w.dest_is in
         record { source_at = s.0; dest_at = d.0; source_is = s.1; dest_is = d.1 }
 
-victim_left : (graph : Graph) (st new : Stand) (remaining : Form) → new.node ≡ st.node → (new.victim ≡ st.victim) × (new.dest.node ≡ st.dest.node) × (new.dest.walked ≡ st.dest.walked) → VictimAt graph remaining st → VictimAt graph remaining new
+pub victim_left : (graph : Graph) (st new : Stand) (remaining : Form) → new.node ≡ st.node → (new.victim ≡ st.victim) × (new.dest.node ≡ st.dest.node) × (new.dest.walked ≡ st.dest.walked) → VictimAt graph remaining st → VictimAt graph remaining new
 victim_left graph st new (On c p) node same w = w
 victim_left graph st new (In c p) node same w = λ v e. ap (λ (m : ℕ). graph.kid m (last_of p)) node ∙ w v (sym same.0 ∙ e)
 victim_left graph st new (Rename p q) node same w = λ v e. (ap (λ (m : ℕ). graph.kid m (last_of q)) same.1 ∙ (w v (sym same.0 ∙ e)).0, (w v (sym same.0 ∙ e)).1 ∙ sym same.2)

@@ -54,6 +54,7 @@ pub mod Takes
 pub mod Neat
 pub mod Closing
 pub mod Accounts
+pub mod Solo
 pub mod CallMoves
 pub mod CallGraphs
 pub mod Below
@@ -61,3 +62,8 @@ pub mod Entering
 pub mod Outside
 pub mod Choosing
 pub mod Waiting
+pub mod Alone
+pub mod SettledAlone
+pub mod Working
+pub mod Places
+pub mod OneCall

@@ -243,7 +243,7 @@ step_outside old new c moved seat Committed m (f, op, o, moves, walks, none, sam
 step_outside old new c moved seat CarriedOut m (f, op, o, i, moves, placed, same) d w =
     finishing_outside old m.inv moved f op o moves.1 moves.2
     (λ e b q st before r v differs a q_walks on at_b is at_st.
-      not_below old m.inv f e op q before (λ j. differs (sym j)) (record { is = moves.1; on = on }) a.is (subst (λ (x : Phase). IsAfter x q.phase) (sym placed) (subst (IsAfter (Placed i)) (sym q_walks) tt)) (st, v ++ r, a.on, at_from old.graph.kid before.node b v r at_b ∙ at_st))
+    not_below old m.inv f e op q before (λ j. differs (sym j)) (record { is = moves.1; on = on }) a.is (subst (λ (x : Phase). IsAfter x q.phase) (sym placed) (subst (IsAfter (Placed i)) (sym q_walks) tt)) (st, v ++ r, a.on, at_from old.graph.kid before.node b v r at_b ∙ at_st))
     d (subst (λ (s : State). IsWalkingBelow s moved d) same w)
 step_outside old new c moved seat (Returned r) m (f, op, moves, ph, same) d w = returned_outside old moved f op r d (subst (λ (s : State). IsWalkingBelow s moved d) same w)
 

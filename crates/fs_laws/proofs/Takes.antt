@@ -26,11 +26,11 @@ pub data Take (graph : Graph) (op : Record) (n : ℕ) (st : Stand) : Type 0 wher
   Walk : (x : Name) (l : Key) → target op.remaining ≡ x ∷ l → st.behind ≡ None → graph.kid st.node x ≡ Some n → took op n ≡ walked_on op st x n → Take graph op n st
   Entry : (e : EntryCall) (p : Key) → op.remaining ≡ In e p → parent_of p ≡ [] → st.behind ≡ None → graph.kid st.node (last_of p) ≡ Some n → st.victim ≡ None → took op n ≡ with_stand op (record st { victim = Some n }) → Take graph op n st
   Source : (p q : Key) (x : Name) (l : Key) → op.remaining ≡ Rename p q → common (parent_of p) (parent_of q) ≡ [] → st.behind ≡ None → left st.source.walked (parent_of p) ≡ x ∷ l → st.source.behind ≡ None → graph.kid st.source.node x ≡ Some n
-    → took op n ≡ with_stand op (record st { source = head_took st.source x n }) → Take graph op n st
+      → took op n ≡ with_stand op (record st { source = head_took st.source x n }) → Take graph op n st
   Dest : (p q : Key) (x : Name) (l : Key) (names : List Name) → op.remaining ≡ Rename p q → common (parent_of p) (parent_of q) ≡ [] → st.behind ≡ None → left st.source.walked (parent_of p) ≡ [] → st.source.behind ≡ None → graph.shape st.source.node ≡ Some (Dir names)
-    → left st.dest.walked (parent_of q) ≡ x ∷ l → st.dest.behind ≡ None → graph.kid st.dest.node x ≡ Some n → took op n ≡ with_stand op (record st { dest = head_took st.dest x n }) → Take graph op n st
+      → left st.dest.walked (parent_of q) ≡ x ∷ l → st.dest.behind ≡ None → graph.kid st.dest.node x ≡ Some n → took op n ≡ with_stand op (record st { dest = head_took st.dest x n }) → Take graph op n st
   Replaced : (p q : Key) (names : List Name) → op.remaining ≡ Rename p q → common (parent_of p) (parent_of q) ≡ [] → st.behind ≡ None → left st.source.walked (parent_of p) ≡ [] → st.source.behind ≡ None → graph.shape st.source.node ≡ Some (Dir names)
-    → left st.dest.walked (parent_of q) ≡ [] → st.dest.behind ≡ None → wants graph p q st ≡ true → graph.kid st.dest.node (last_of q) ≡ Some n → st.victim ≡ None → took op n ≡ with_stand op (record st { victim = Some n }) → Take graph op n st
+      → left st.dest.walked (parent_of q) ≡ [] → st.dest.behind ≡ None → wants graph p q st ≡ true → graph.kid st.dest.node (last_of q) ≡ Some n → st.victim ≡ None → took op n ≡ with_stand op (record st { victim = Some n }) → Take graph op n st
 
 -- a victim is taken where one is wanted, there, and not held
 victim_taken : (b : Bool) (child held m : Option ℕ) (n : ℕ) → take_if b child held (Finishes m) ≡ Takes n → (b ≡ true) × (child ≡ Some n) × (held ≡ None)

@@ -44,7 +44,7 @@ takes_from graph op n m = go op.phase (by_text (form op.call)) op.stand refl ref
     go (Placed k) None (Some st) h i j f = (From_stand st j f, walking (Placed k) h (λ r e. cc))
 
 -- a call that stands at one node stands well, and has no victim
-fresh_well : (graph : Graph) (n : ℕ) (behind : Option ℕ) (remaining : Form) → StandsWell graph n remaining (stand_at n behind)
+pub fresh_well : (graph : Graph) (n : ℕ) (behind : Option ℕ) (remaining : Form) → StandsWell graph n remaining (stand_at n behind)
 fresh_well graph n behind (On c p) = tt
 fresh_well graph n behind (In c p) = tt
 fresh_well graph n behind (Rename p q) = go (common (parent_of p) (parent_of q))
@@ -53,7 +53,7 @@ fresh_well graph n behind (Rename p q) = go (common (parent_of p) (parent_of q))
     go [] = record { source_at = refl; dest_at = refl; source_is = refl; dest_is = refl }
     go (x ∷ l) = tt
 
-fresh_victim : (graph : Graph) (n : ℕ) (behind : Option ℕ) (remaining : Form) → VictimAt graph remaining (stand_at n behind)
+pub fresh_victim : (graph : Graph) (n : ℕ) (behind : Option ℕ) (remaining : Form) → VictimAt graph remaining (stand_at n behind)
 fresh_victim graph n behind (On c p) = tt
 fresh_victim graph n behind (In c p) = λ v e. cc
 fresh_victim graph n behind (Rename p q) = λ v e. cc
@@ -190,11 +190,11 @@ take_root old inv c op n t text off at_root = subst (λ (v : Record). Invariant 
     holds st q e h = let z : stand_at n None ≡ st = cc in inl (only q (subst (λ (s : Stand). Holds s q) (sym z) h))
 
 -- one name on, the call is the same
-record Inner (k x : Key) (rem : Form) : Type 0 where
+pub record Inner (k x : Key) (rem : Form) : Type 0 where
   pub fits : Fits rem → Fits (inner rem)
   pub same : under (k ++ x) (inner rem) ≡ under k rem
 
-inner_on : (k : Key) (x : Name) (l : Key) (rem : Form) → target rem ≡ x ∷ l → Inner k (x ∷ []) rem
+pub inner_on : (k : Key) (x : Name) (l : Key) (rem : Form) → target rem ≡ x ∷ l → Inner k (x ∷ []) rem
 inner_on k x l (On c []) e = cc
 inner_on k x l (On c (y ∷ p)) e = let z : y ≡ x = cc in record { fits = λ f. refl; same = append_step c k x y p z }
   where
@@ -225,7 +225,7 @@ inner_on k x l (Rename (y ∷ z ∷ p) (w ∷ u ∷ q)) e = go (same_name y w) r
           same = ap₂ Rename (append_step k x y (z ∷ p) s) (append_step k x w (u ∷ q) (sym t ∙ s));
         }
 
-number_inner : (graph : Graph) (rem : Form) (reserved : Option ℕ) → NumberFor graph rem reserved → NumberFor graph (inner rem) reserved
+pub number_inner : (graph : Graph) (rem : Form) (reserved : Option ℕ) → NumberFor graph rem reserved → NumberFor graph (inner rem) reserved
 number_inner graph (On c p) reserved n = n
 number_inner graph (In c p) reserved n = n
 number_inner graph (Rename p q) reserved n = n

@@ -93,12 +93,12 @@ take_entry old inv c op n st e p t on rem way m =
     took_is : took op n ≡ record op { stand = Some (record st { victim = Some n }) }
     took_is = ap₂ (λ (s : Option Stand) (k : Key). took_by op s k n) on (ap target rem ∙ way) ∙ ap (λ (f : Form). record op { stand = Some (target_took f st n) }) rem
 
-no_end : (w : Key) (x : Name) → w ++ x ∷ [] ≡ [] → ⊥
+pub no_end : (w : Key) (x : Name) → w ++ x ∷ [] ≡ [] → ⊥
 no_end [] x e = cc
 no_end (y ∷ w) x e = cc
 
 -- what is left behind one more name
-left_on : (w l whole : Key) (x : Name) → whole ≡ w ++ x ∷ l → whole ≡ (w ++ x ∷ []) ++ left (w ++ x ∷ []) whole
+pub left_on : (w l whole : Key) (x : Name) → whole ≡ w ++ x ∷ l → whole ≡ (w ++ x ∷ []) ++ left (w ++ x ∷ []) whole
 left_on w l whole x e =
     let i : whole ≡ (w ++ x ∷ []) ++ l = e ∙ sym (append_assoc w (x ∷ []) l) in
     let j : left (w ++ x ∷ []) whole ≡ l = ap left_by (ap (after_prefix (w ++ x ∷ [])) i ∙ prefix_append (w ++ x ∷ []) l) in
@@ -111,7 +111,7 @@ behind_held st (x ∷ w) node m h e = let z : node ≡ m = cc in subst (Holds st
 pub forked_of : (graph : Graph) (n : ℕ) (p q : Key) (st : Stand) (remaining : Form) → remaining ≡ Rename p q → common (parent_of p) (parent_of q) ≡ [] → StandsWell graph n remaining st → Forked graph n p q st
 forked_of graph n p q st remaining rem way well = subst (ForkedAt graph n p q st) way (subst (λ (f : Form). StandsWell graph n f st) rem well)
 
-well_of : (graph : Graph) (n : ℕ) (p q : Key) (st : Stand) (remaining : Form) → remaining ≡ Rename p q → common (parent_of p) (parent_of q) ≡ [] → Forked graph n p q st → StandsWell graph n remaining st
+pub well_of : (graph : Graph) (n : ℕ) (p q : Key) (st : Stand) (remaining : Form) → remaining ≡ Rename p q → common (parent_of p) (parent_of q) ≡ [] → Forked graph n p q st → StandsWell graph n remaining st
 well_of graph n p q st remaining rem way f = subst (λ (g : Form). StandsWell graph n g st) (sym rem) (subst (ForkedAt graph n p q st) (sym way) f)
 
 -- the next node of the source head

@@ -24,10 +24,12 @@ use Rattle.fs_laws.proofs.Headlines.{run_keeps}
 use Rattle.fs_laws.proofs.Takes.{Take, Walk, Entry, Source, Dest, Replaced, takes_by}
 use Rattle.fs_laws.proofs.Neat.{SourceThere, NeatIn, Neat, plain_of, in_turn}
 use Rattle.fs_laws.proofs.Accounts.{Accounts, Holder, run_accounts}
-use Rattle.fs_laws.proofs.CallMoves.{takes_another, front_same}
+use Rattle.fs_laws.proofs.CallMoves.{takes_another}
+use Rattle.fs_laws.proofs.Solo.{front_same}
 use Rattle.fs_laws.proofs.CallGraphs.{begun_before, call_seat, finishes_open}
 use Rattle.fs_laws.proofs.Entering.{ToMove, to_move}
-use Rattle.fs_laws.proofs.Choosing.{total, within_total, chosen_or_none}
+use Rattle.fs_laws.proofs.Choosing.{within_total, chosen_or_none}
+use Rattle.fs_laws.specs.Work.{total}
 
 -- a call that wants a node holds others as its position or as its heads' nodes
 holds_waiting : (s : State) (inv : Invariant s) (acc : Accounts s) (c : ℕ) (op : Record) (m n : ℕ) (st : Stand) → s.ops c ≡ Some op → IsUnfinished op → op.stand ≡ Some st → Take s.graph op m st → Holds st n → Keeps_waiting st n
@@ -148,12 +150,15 @@ waits_above s run c d e op q a b =
     let h : (r : Record) × (st : Stand) × (s.ops d ≡ Some r) × (r.stand ≡ Some st) = holder_stands s run a.node d a.held in
     let z : ◌≡◌ {A = Option Record} (Some h.0) (Some q) = sym h.2 ∙ b.is in
     let y : h.0 ≡ q = cc in
-    let on_q : q.stand ≡ Some h.1 = ap (λ (o : Record). o.stand) (sym y) ∙ h.3 in
-    (h.1, on_q, λ st on.
-      (let k : (r : Key) × HasNames r × ((run_keeps s run).key d ≡ (run_keeps s run).key c ++ r) = waits_key s run c d e op q st h.1 a on b on_q in
-      let here : numbers s.graph ((run_keeps s run).key c) ≡ Some st.node = ((run_keeps s run).kept.each c op st a.is on).located.here in
-      let there : numbers s.graph ((run_keeps s run).key d) ≡ Some h.1.node = ((run_keeps s run).kept.each d q h.1 b.is on_q).located.here in
-      (k.0, k.1, sym (at_from s.graph.kid 0 st.node ((run_keeps s run).key c) k.0 here) ∙ ap (numbers s.graph) (sym k.2) ∙ there)))
+    let on_q : q.stand ≡ Some h.1 = ap (λ (o : Record). o.stand) (sym y) ∙ h.3 in (
+      h.1,
+      on_q,
+      λ st on.
+          (let k : (r : Key) × HasNames r × ((run_keeps s run).key d ≡ (run_keeps s run).key c ++ r) = waits_key s run c d e op q st h.1 a on b on_q in
+          let here : numbers s.graph ((run_keeps s run).key c) ≡ Some st.node = ((run_keeps s run).kept.each c op st a.is on).located.here in
+          let there : numbers s.graph ((run_keeps s run).key d) ≡ Some h.1.node = ((run_keeps s run).kept.each d q h.1 b.is on_q).located.here in
+          (k.0, k.1, sym (at_from s.graph.kid 0 st.node ((run_keeps s run).key c) k.0 here) ∙ ap (numbers s.graph) (sym k.2) ∙ there)),
+    )
 
 -- what a call's step does: it goes on, or waits
 pub data Does (s : State) (c : ℕ) (op : Record) : Type 0 where

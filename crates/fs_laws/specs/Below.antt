@@ -1,17 +1,18 @@
 -- Who stands below whom, who holds what, and what the placed calls leave, in every state of a run.
-use Rattle.std.specs.Prelude.{ℕ, ◌≡◌, ◌<◌, List, [], ◌∷◌, ◌++◌, Option, Some, ◌⊎◌}
+use Rattle.std.specs.Prelude.{ℕ, ◌≡◌, ◌<◌, List, [], ◌∷◌, true, ◌++◌, Option, Some, ◌⊎◌}
 use Rattle.fs_names.specs.Keys.{Key}
 use Rattle.fs_seq.specs.Outcomes as tree
 use Rattle.fs_seq.specs.Shapes.{seen}
 use Rattle.fs_seq.specs.declared.call.Call.{Call}
 use Rattle.fs_seq.specs.declared.reply.Reply.{Reply}
-use Rattle.fs_nodes.specs.Graphs.{at, numbers, spell}
+use Rattle.fs_nodes.specs.Graphs.{at, spell}
 use Rattle.fs_journal.specs.Timeline as journal
 use Rattle.fs_journal.specs.declared.entry.Entry.{Entry}
 use Rattle.fs_ops.specs.Moves.{Finishes, next}
 use Rattle.fs_ops.specs.Records.{Stand, Walking, Placed, Record, Holds}
-use Rattle.fs_laws.specs.Invariants.{spots, InOrder, IsIn}
-use Rattle.fs_laws.specs.Settled.{settle, settle_replies}
+use Rattle.fs_laws.specs.Books.{commit_count}
+use Rattle.fs_laws.specs.Invariants.{InOrder, IsIn}
+use Rattle.fs_laws.specs.Settled.{settled_graph, settled_replies}
 use Rattle.fs_laws.specs.States.{State, Begun, Begins, Moves, IsBelow, IsWalkingBelow, IsChosen, NoneBelow, Stepped, Helped, Committed, Step}
 
 -- a call under way that stands somewhere
@@ -38,19 +39,16 @@ AreDue es [] rs = Unit {0}
 AreDue es (c ∷ cs) [] = ⊥
 AreDue es (c ∷ cs) (r ∷ rs) = (journal.due c es ≡ Some r) × AreDue es cs rs
 
--- what the placed calls leave, once each has gone on from where it stands, in the order of their commits
+-- what the placed calls leave, once each has gone on alone by its own moves, in the order of their commits
 pub record Settles (s : State) : Type 0 where
-  -- the key of each position
-  pub key : ℕ → Key
-  pub at_key : (c : ℕ) (op : Record) (st : Stand) → StandsAt s c op st → numbers s.graph (key c) ≡ Some st.node
   -- the placed calls in the order of their commits
   pub order : List ℕ
   pub in_order : InOrder s.ops order
   pub all : (c : ℕ) (op : Record) (i : ℕ) → s.ops c ≡ Some op → op.phase ≡ Placed i → IsIn c order
-  -- the tree that they leave is the one that the commits play
-  pub played : settle (spell s.graph) (spots s.ops key order) ≡ seen (tree.play (journal.commits s.timeline))
+  -- the nodes then spell the tree that the commits play
+  pub spelled : spell (settled_graph s.graph s.ops order) ≡ seen (tree.play (journal.commits s.timeline))
   -- and each replies what is due to its place among the commits
-  pub replies : AreDue s.timeline order (settle_replies (spell s.graph) (spots s.ops key order))
+  pub replies : AreDue s.timeline order (settled_replies s.graph s.ops order)
 
 -- what a step answers whose call walks and is to finish: whom it helped, or that it committed
 pub data HelpsOrCommits (s : State) : Option ℕ → Stepped → Type 0 where
@@ -82,3 +80,12 @@ EachBelow s moved (d ∷ ds) = IsWalkingBelow s moved d × (IsIn d ds → ⊥) �
 pub record HelpsEachOnce (c moved : ℕ) (s : State) (helped : List ℕ) (new : State) : Type 0 where
   pub helps : EachBelow s moved helped
   pub still : (d : ℕ) → IsWalkingBelow new moved d → IsWalkingBelow s moved d × (IsIn d helped → ⊥)
+
+-- a call's place is the number of commits before its own
+pub record HasPlace (es : List Entry) (c i : ℕ) : Type 0 where
+  pub committed : journal.has_committed c es ≡ true
+  pub place : commit_count (journal.before_commit c es) ≡ i
+
+-- each placed call has the place that its phase tells
+abbrev pub PlacesAreCounted : State → Type 0
+PlacesAreCounted s = (c i : ℕ) (op : Record) → s.ops c ≡ Some op → op.phase ≡ Placed i → HasPlace s.timeline c i

@@ -9,11 +9,14 @@ use Rattle.fs_seq.specs.Outcomes as tree
 use Rattle.fs_seq.specs.Shapes.{seen}
 use Rattle.fs_seq.specs.Tree.{Tree, IsTree}
 use Rattle.fs_seq.specs.declared.call.Call.{Call}
-use Rattle.fs_laws.specs.Below.{NoWalkingBelow, NoLaterBelow, NobodyBetween, Settles, NeverWaitsToFinish, Meanwhile, HelpsEachOnce}
+use Rattle.fs_seq.specs.declared.reply.Reply.{Reply}
+use Rattle.fs_laws.specs.Below.{NoWalkingBelow, NoLaterBelow, NobodyBetween, Settles, PlacesAreCounted, NeverWaitsToFinish, Meanwhile, HelpsEachOnce}
 use Rattle.fs_laws.specs.Placed.{Standing, Passes, PastAll, rekey_all}
 use Rattle.fs_laws.specs.Progress.{HasStep, WaitsBelow, IsNeverStuck}
-use Rattle.fs_laws.specs.States.{State, Run}
-use Rattle.fs_laws.specs.Headline.{Linearizes}
+use Rattle.fs_laws.specs.Work.{TakesWork, AddsWork}
+use Rattle.fs_laws.specs.OneCall.{StepsTo, MeetsTree}
+use Rattle.fs_laws.specs.States.{State, Begun_as, Begins, Run}
+use Rattle.fs_laws.specs.Headline.{IsIdle, Linearizes}
 
 -- a call that finishes goes past all placed calls
 abbrev pub GoesPastAll : Type 0
@@ -41,9 +44,13 @@ EarlierGoFirst = (s : State) → Run s → NoLaterBelow s
 abbrev pub HeadsStandClear : Type 0
 HeadsStandClear = (s : State) → Run s → NobodyBetween s
 
--- the placed calls, gone on in the order of their commits, leave the tree that the commits play, and each replies what is due to its place
+-- the placed calls, each gone on alone in the order of their commits, leave nodes that spell the tree that the commits play, and each replies what is due to its place
 abbrev pub PlacedSettle : Type 0
 PlacedSettle = (s : State) → Run s → Settles s
+
+-- the place that a placed call's phase tells is the number of commits before its own in the timeline
+abbrev pub PlacesAreTold : Type 0
+PlacesAreTold = (s : State) → Run s → PlacesAreCounted s
 
 -- in every state, of a run or not: a step of a walking call that is to finish helps, or commits
 abbrev pub FinishNeverWaits : Type 0
@@ -64,3 +71,15 @@ WaitersStandAbove = (s : State) → Run s → WaitsBelow s
 -- and so, where a call is under way, some seat's step neither waits nor idles
 abbrev pub SomeCallGoesOn : Type 0
 SomeCallGoesOn = (s : State) → Run s → IsNeverStuck s
+
+-- each step by which a call goes on takes one or more from a bound on the steps that are left; the other steps leave the state
+abbrev pub StepsTakeWork : Type 0
+StepsTakeWork = (s : State) → Run s → TakesWork s
+
+-- a begin adds to it what the call's names ask
+abbrev pub BeginsAddWork : Type 0
+BeginsAddWork = (s : State) → Run s → AddsWork s
+
+-- a call that is begun with no other under way, and stepped to its end, replies and changes as the sequential tree says
+abbrev pub CallsMeetTheTree : Type 0
+CallsMeetTheTree = (s first new : State) (seat c : ℕ) (call : Call) (r : Reply) → Run s → IsIdle s → Begins s seat call (Begun_as c) first → StepsTo seat r new first → MeetsTree s call r new

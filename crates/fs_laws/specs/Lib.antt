@@ -9,4 +9,6 @@ pub mod Computing
 pub mod Examples
 pub mod Below
 pub mod Progress
+pub mod Work
+pub mod OneCall
 pub mod Laws

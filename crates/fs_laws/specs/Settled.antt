@@ -39,6 +39,15 @@ abbrev pub settled_graph : Graph → Records → List ℕ → Graph
 settled_graph graph ops [] = graph
 settled_graph graph ops (c ∷ cs) = settled_graph (settled_by graph (ops c)) ops cs
 
+-- what each of them replies
+abbrev pub settled_reply : Graph → Option Record → List Reply → List Reply
+settled_reply graph None rs = rs
+settled_reply graph (Some op) rs = (alone graph op).reply ∷ rs
+
+abbrev pub settled_replies : Graph → Records → List ℕ → List Reply
+settled_replies graph ops [] = []
+settled_replies graph ops (c ∷ cs) = settled_reply graph (ops c) (settled_replies (settled_by graph (ops c)) ops cs)
+
 -- the settled tree: calls, each with the key of its position and what it has left, one after another
 abbrev pub settle : Map Shape → List (Key × Form) → Map Shape
 settle tree [] = tree

@@ -1,8 +1,22 @@
 //! What holds of the machine. Each function's contract is a law, and its body is empty.
 
 ghost use Rattle.fs_laws.specs.Laws.{
-    GoesPastAll, TreesAsMaps, Linearization, PlacedGoFirst, EarlierGoFirst, HeadsStandClear, PlacedSettle,
-    FinishNeverWaits, HelpsAreBounded, EachSeatSteps, WaitersStandAbove, SomeCallGoesOn,
+  GoesPastAll,
+  TreesAsMaps,
+  Linearization,
+  PlacedGoFirst,
+  EarlierGoFirst,
+  HeadsStandClear,
+  PlacedSettle,
+  FinishNeverWaits,
+  HelpsAreBounded,
+  EachSeatSteps,
+  WaitersStandAbove,
+  SomeCallGoesOn,
+  StepsTakeWork,
+  BeginsAddWork,
+  PlacesAreTold,
+  CallsMeetTheTree,
 };
 
 /// A call that finishes goes past all placed calls: they settle to what it leaves of their settled tree, it answers the
@@ -39,10 +53,15 @@ pub fn heads_stand_clear()
     ensures { HeadsStandClear }
 {}
 
-/// Over every run the placed calls, each gone on from where it stands and in the order of their commits, leave the tree
-/// that the commits play; and each of them replies what is due to its place among the commits.
+/// Over every run the placed calls, each gone on alone by its own moves and in the order of their commits, leave nodes
+/// that spell the tree that the commits play; and each of them replies what is due to its place among the commits.
 pub fn placed_settle()
     ensures { PlacedSettle }
+{}
+
+/// Over every run the place that a placed call's phase tells is the number of commits before its own in the timeline.
+pub fn places_are_told()
+    ensures { PlacesAreTold }
 {}
 
 /// A step of a walking call whose next move is to finish helps another call or commits; it never answers that it has to
@@ -71,4 +90,21 @@ pub fn waiters_stand_above()
 /// Over every run, where a call is under way, some seat's step answers neither that it waits nor that it is idle.
 pub fn some_call_goes_on()
     ensures { SomeCallGoesOn }
+{}
+
+/// Over every run each step by which a call goes on takes one or more from a bound on the steps that all calls under way
+/// have left together. So, without new calls, the runs in which no step waits or idles are no longer than that.
+pub fn steps_take_work()
+    ensures { StepsTakeWork }
+{}
+
+/// Over every run a begin adds to that bound two steps for each name of the call's paths and twelve more.
+pub fn begins_add_work()
+    ensures { BeginsAddWork }
+{}
+
+/// A call that is begun with no other under way, and stepped to its end, replies and changes as the sequential tree says,
+/// and leaves no call under way.
+pub fn calls_meet_the_tree()
+    ensures { CallsMeetTheTree }
 {}

@@ -1,0 +1,35 @@
+-- A call that is begun with no other under way, and stepped to its end.
+use Rattle.std.specs.Prelude.{ℕ, ◌≡◌}
+use Rattle.fs_seq.specs.Outcomes as outcomes
+use Rattle.fs_seq.specs.Shapes.{seen}
+use Rattle.fs_seq.specs.Tree.{Tree, IsTree}
+use Rattle.fs_seq.specs.declared.call.Call.{Call}
+use Rattle.fs_seq.specs.declared.reply.Reply.{Reply}
+use Rattle.fs_nodes.specs.Graphs.{spell}
+use Rattle.fs_laws.specs.Headline.{IsIdle}
+use Rattle.fs_laws.specs.States.{State, Stepped, Idle, Took, Busy, LetGo, Helped, Committed, CarriedOut, Returned, Step}
+
+-- an answer that is no return
+abbrev pub IsNoReturn : Stepped → Type 0
+IsNoReturn (Returned r) = ⊥
+IsNoReturn Idle = Unit {0}
+IsNoReturn (Took n) = Unit {0}
+IsNoReturn (Busy n d) = Unit {0}
+IsNoReturn (LetGo n) = Unit {0}
+IsNoReturn (Helped d) = Unit {0}
+IsNoReturn Committed = Unit {0}
+IsNoReturn CarriedOut = Unit {0}
+
+-- steps of one seat up to the one that returns
+pub data StepsTo (seat : ℕ) (r : Reply) (new : State) : State → Type 0 where
+  Returns : {s : State} → Step s seat (Returned r) new → StepsTo seat r new s
+  Goes_on : {s : State} (answer : Stepped) (next : State) → IsNoReturn answer → Step s seat answer next → StepsTo seat r new next → StepsTo seat r new s
+
+-- the reply, and what the nodes spell before and after, are those of the sequential tree; and no call is left under way
+pub record MeetsTree (s : State) (call : Call) (r : Reply) (new : State) : Type 0 where
+  pub tree : Tree
+  pub is_tree : IsTree tree
+  pub before : spell s.graph ≡ seen tree
+  pub replied : r ≡ outcomes.reply tree call
+  pub after : spell new.graph ≡ seen (outcomes.after tree call)
+  pub idle : IsIdle new
