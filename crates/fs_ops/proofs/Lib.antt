@@ -10,3 +10,4 @@ pub mod TookLemmas
 pub mod LeftLemmas
 pub mod TextLemmas
 pub mod HeadLemmas
+pub mod FinishLemmas

@@ -5,6 +5,7 @@ mod beginning;
 mod ending;
 mod entries;
 mod finish;
+mod finishing;
 mod heads;
 mod leaving;
 mod looking;
