@@ -14,14 +14,15 @@ use Rattle.fs_walk.specs.Ways.{Way, ForkWay}
 use Rattle.fs_walk.specs.declared.head.Head as count
 use Rattle.fs_ops.specs.declared.finish.Finish.{Finish}
 use Rattle.fs_ops.specs.declared.outcome.Outcome.{Outcome}
+use Rattle.fs_ops.specs.declared.outcome.Outcome.TheVariants.{Fixed}
 use Rattle.fs_ops.specs.Endings.{IsMade, entry_made, heads_stand, finished_by, finish_by}
 use Rattle.fs_ops.specs.Finishes.{Made, kept_as, on_made, in_made, moved_made, rename_made, made_at, made_by, finish}
 use Rattle.fs_ops.specs.Moves.{target, path_error, dir_error, rename_at, walk_errno}
-use Rattle.fs_ops.specs.Records.{Stand, Record}
+use Rattle.fs_ops.specs.Records.{Stand, Record, Finished}
 use Rattle.fs_ops.specs.Replies.{refilled}
 use Rattle.fs_ops.specs.Steps.{started}
 use Rattle.fs_ops.specs.Views.{dropped, stand_of, stand_with, work_of, head_of, IsForked, Forks}
-use Rattle.fs_ops.specs.Works.{HeadsApart, record_of}
+use Rattle.fs_ops.specs.Works.{Work, HeadsApart, IsFinished, graph_after, record_of}
 use Rattle.fs_ops.proofs.KeyLemmas.{parent_drop, parent_length, target_drop}
 use Rattle.fs_ops.proofs.HeadLemmas.{some_left, none_left, last_drop}
 use Rattle.fs_ops.proofs.TookLemmas.{stand_node, started_forked}
@@ -172,3 +173,40 @@ made_same graph op None (Some st) = refl
 pub finish_is : (graph : Graph) (call : Call) (way : Way) (fork : Option ForkWay) (victim reserved removed : Option ℕ) (outcome : Outcome) (seat : ℕ) (place : Option ℕ)
     → finish graph (record_of seat place (work_of call way fork victim reserved removed outcome)) ≡ finish_by graph (form call) way fork victim reserved
 finish_is graph call way fork victim reserved removed outcome seat place = made_same graph (record_of seat place (work_of call way fork victim reserved removed outcome)) (by_text (form call)) (stand_of (form call) way.node way.behind fork victim)
+
+-- the same with the number of names as the code has it
+pub apart_by : (way : Way) (n : ℕ) (fork : Option ForkWay) (victim : Option ℕ) (f : Form) (p q : Key) → f ≡ Rename p q → way.names ≡ length (target f) → way.walked ≡ way.names → way.node ≡ Some n → Forks f way fork
+    → (k : ℕ) (source dest : count.Head) → k ≡ way.walked → HeadsApart (dropped way.walked f) (stand_with f n way.behind fork victim) → source ≡ (started fork n way.names).source → dest ≡ (started fork n way.names).dest
+    → source.node ≡ dest.node → take source.walked (drop k p) ≡ take dest.walked (drop k q)
+apart_by way n fork victim f p q e names arrived node forks k source dest z apart s d same =
+    subst (λ (m : ℕ). take source.walked (drop m p) ≡ take dest.walked (drop m q)) (sym z) (apart_here way n fork victim f p q e names arrived node forks source dest apart s d same)
+
+pub rename_by : (graph new : Graph) (way : Way) (n : ℕ) (fork : Option ForkWay) (victim reserved : Option ℕ) (finish : Finish) (f : Form) (p q : Key) (k : ℕ) (source dest : count.Head) → k ≡ way.walked
+    → f ≡ Rename p q → way.names ≡ length (target f) → way.walked ≡ way.names → way.node ≡ Some n → Forks f way fork → source ≡ (started fork n way.names).source → dest ≡ (started fork n way.names).dest
+    → IsMade (rename_made graph (drop k p) (drop k q) (heads_stand p q k source dest victim) reserved []) finish new
+    → IsMade (made_at graph (dropped way.walked f) (stand_with f n way.behind fork victim) reserved) finish new
+rename_by graph new way n fork victim reserved finish f p q k source dest z e names arrived node forks s d made =
+    rename_arm graph new way n fork victim reserved finish f p q source dest e names arrived node forks s d
+    (subst (λ (m : ℕ). IsMade (rename_made graph (drop m p) (drop m q) (heads_stand p q m source dest victim) reserved []) finish new) z made)
+
+-- the record and the graph after a finish
+module _ (graph : Graph) (call : Call) (way : Way) (fork : Option ForkWay) (victim reserved removed : Option ℕ) (outcome : Outcome) (done : Finish) (new : Graph) (made : IsMade (finish_by graph (form call) way fork victim reserved) done new) where
+  abbrev before : Work
+  before = work_of call way fork victim reserved removed outcome
+
+  pub finished_is : IsFinished graph before (work_of call way fork victim done.reserved done.removed (Fixed done.replies))
+  finished_is seat place =
+      let e = sym (finish_is graph call way fork victim reserved removed outcome seat place) in
+      let r : done.replies ≡ (finish graph (record_of seat place before)).reply = made.reply ∙ ap (λ (m : Made). m.reply) e in
+      let s : done.reserved ≡ (finish graph (record_of seat place before)).reserved = made.reserved ∙ ap (λ (m : Made). m.reserved) e in
+      let t : done.removed ≡ (finish graph (record_of seat place before)).removed = made.removed ∙ ap (λ (m : Made). m.removed) e in
+      (λ i. record {
+        seat = seat; call = call; walked = before.walked; remaining = before.remaining; stand = before.stand;
+        phase = Finished (r i); reserved = s i; removed = t i;
+      })
+
+  pub graph_is : new ≡ graph_after graph before
+  graph_is = made.graph_is ∙ ap (λ (m : Made). m.graph) (sym (finish_is graph call way fork victim reserved removed outcome 0 None))
+
+pub finished_as : (graph : Graph) (old seen new : Work) → old ≡ seen → IsFinished graph old new → IsFinished graph seen new
+finished_as graph old seen new e h = subst (λ (w : Work). IsFinished graph w new) e h

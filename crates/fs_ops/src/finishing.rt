@@ -46,7 +46,8 @@ fn finish_at(
     ensures room { room store.new ≡ room store.old }
 {
     match call {
-        Call::Mkdir(path) | Call::Mknod(path) => make(store, node, path, reserved),
+        Call::Mkdir(path) => make(store, node, path, reserved),
+        Call::Mknod(path) => make(store, node, path, reserved),
         Call::Unlink(path) => unlink(store, node, path, reserved),
         Call::Rmdir(path) => rmdir(store, node, path, reserved),
         Call::Rename(path, new_path) => {

@@ -2,6 +2,7 @@
 #![tactic(auto)]
 
 mod beginning;
+mod carrying;
 mod ending;
 mod entries;
 mod finish;
