@@ -24,6 +24,9 @@ use fs_nodes::{NodeNo, Store};
 use fs_seq::Call;
 use fs_walk::{Fork, Walk, Want};
 
+#[cfg(test)]
+mod tests;
+
 /// The node that was taken last.
 fn held_last(node: NodeNo, fork: &Option<Fork>, victim: Option<NodeNo>) -> NodeNo
     ensures { result ≡ held_last node fork.now victim }
