@@ -1,9 +1,9 @@
 -- Parts of keys by counts of names.
 use Rattle.std.proofs.Common.{◌≡◌, ℕ, zero, suc, ◌+◌, ◌-◌, ◌≤◌, ◌<◌, Bool, true, false, cond, nat_lt, [], ◌∷◌, ◌++◌, length, take, drop, slice_get, min, Some, None, refl, sym, ap, ◌∙◌, arith, add-one, zero-add}
 use Rattle.fs_names.specs.Names.{same_name}
-use Rattle.fs_names.specs.Keys.{Key, after_prefix, common_len, parent_of}
+use Rattle.fs_names.specs.Keys.{Key, after_prefix, common_len, parent_of, last_of}
 use Rattle.fs_names.specs.Parts.{common, left}
-use Rattle.fs_names.proofs.Lemmas.{same_name_refl}
+use Rattle.fs_names.proofs.Lemmas.{same_name_refl, same_name_exact}
 use Rattle.fs_seq.specs.Forms.{Form, On, In, Rename}
 use Rattle.fs_ops.specs.Moves.{target, tail_of}
 use Rattle.fs_ops.specs.Views.{first_path, dropped}
@@ -102,3 +102,48 @@ take_get zero k l h = absurd (omega arith)
 take_get (suc n) k [] h = refl
 take_get (suc n) zero (x ∷ l) h = refl
 take_get (suc n) (suc k) (x ∷ l) h = take_get n k l (omega arith)
+
+-- paths without names that they have in common
+pub drop_prefix : (k : ℕ) (a b : Key) → k ≤ length (common a b) → after_prefix (drop k a) (drop k b) ≡ after_prefix a b
+drop_prefix zero a b h = refl
+drop_prefix (suc k) [] b h = absurd (omega arith)
+drop_prefix (suc k) (x ∷ a) [] h = absurd (omega arith)
+drop_prefix (suc k) (x ∷ a) (y ∷ b) h = go (same_name x y) h (drop_prefix k a b)
+  where
+    go : (s : Bool) → suc k ≤ length (cond s (x ∷ common a b) []) → (k ≤ length (common a b) → after_prefix (drop k a) (drop k b) ≡ after_prefix a b) → after_prefix (drop k a) (drop k b) ≡ cond s (after_prefix a b) None
+    go true h rest = rest (omega arith)
+    go false h rest = absurd (omega arith)
+
+common_swap : (a b : Key) → length (common b a) ≡ length (common a b)
+common_swap [] [] = refl
+common_swap [] (y ∷ b) = refl
+common_swap (x ∷ a) [] = refl
+common_swap (x ∷ a) (y ∷ b) = go (same_name x y) refl (same_name y x) refl (common_swap a b)
+  where
+    go : (s : Bool) → same_name x y ≡ s → (t : Bool) → same_name y x ≡ t → length (common b a) ≡ length (common a b) → length (cond t (y ∷ common b a) []) ≡ length (cond s (x ∷ common a b) [])
+    go true e true f h = ap suc h
+    go false e false f h = refl
+    go true e false f h = let same : x ≡ y = same_name_exact x y e in let wrong : same_name y x ≡ true = rw same (same_name_refl y) in absurd (cc)
+    go false e true f h = let same : y ≡ x = same_name_exact y x f in let wrong : same_name x y ≡ true = rw same (same_name_refl x) in absurd (cc)
+
+pub drop_prefix_back : (k : ℕ) (a b : Key) → k ≤ length (common a b) → after_prefix (drop k b) (drop k a) ≡ after_prefix b a
+drop_prefix_back k a b h = let e : length (common b a) ≡ length (common a b) = common_swap a b in drop_prefix k b a (omega arith)
+
+pub common_parents : (p q : Key) → length (common (parent_of p) (parent_of q)) ≤ length (common p q)
+common_parents [] q = omega arith
+common_parents (x ∷ []) q = omega arith
+common_parents (x ∷ y ∷ p) [] = omega arith
+common_parents (x ∷ y ∷ p) (z ∷ []) = omega arith
+common_parents (x ∷ y ∷ p) (z ∷ w ∷ q) = go (same_name x z) (common_parents (y ∷ p) (w ∷ q))
+  where
+    go : (s : Bool) → length (common (parent_of (y ∷ p)) (parent_of (w ∷ q))) ≤ length (common (y ∷ p) (w ∷ q))
+        → length (cond s (x ∷ common (parent_of (y ∷ p)) (parent_of (w ∷ q))) []) ≤ length (cond s (x ∷ common (y ∷ p) (w ∷ q)) [])
+    go true h = omega arith
+    go false h = omega arith
+
+-- the last name stays
+pub last_drop : (k : ℕ) (p : Key) → k ≤ length (parent_of p) → last_of (drop k p) ≡ last_of p
+last_drop zero p h = refl
+last_drop (suc k) [] h = refl
+last_drop (suc k) (x ∷ []) h = absurd (omega arith)
+last_drop (suc k) (x ∷ y ∷ p) h = last_drop k (y ∷ p) (omega arith)

@@ -26,7 +26,7 @@ some_name k (x ∷ r) h = (x, (r, refl))
 some_taken : (k : ℕ) (l : Key) → suc k ≤ length l → (x : Name) × ((r : Key) × (take (suc k) l ≡ x ∷ r))
 some_taken k l h = let s : (x : Name) × ((r : Key) × (l ≡ x ∷ r)) = some_name k l h in (s.0, (take k s.1.0, ap (take (suc k)) s.1.1))
 
-head_taken : (names j : ℕ) (p : Key) → names + suc j ≤ length (parent_of p) → (x : Name) × ((r : Key) × (take (suc j) (drop names p) ≡ x ∷ r))
+pub head_taken : (names j : ℕ) (p : Key) → names + suc j ≤ length (parent_of p) → (x : Name) × ((r : Key) × (take (suc j) (drop names p) ≡ x ∷ r))
 head_taken names j p h =
     let e : length (parent_of p) ≡ length p - 1 = parent_length p in
     let l : length (drop names p) ≡ length p - names = length-drop names p in

@@ -20,12 +20,12 @@ use Rattle.fs_ops.proofs.KeyLemmas.{left_take, parent_drop, drop_get, tail_drop,
 use Rattle.fs_ops.proofs.WantLemmas.{left_head}
 
 -- with a name ahead, and without one
-ahead_some : (l : Key) (k : ℕ) (x : Name) → slice_get l k ≡ Some x → drop k l ≡ x ∷ drop (suc k) l
+pub ahead_some : (l : Key) (k : ℕ) (x : Name) → slice_get l k ≡ Some x → drop k l ≡ x ∷ drop (suc k) l
 ahead_some [] k x e = absurd (cc)
 ahead_some (y ∷ l) zero x e = let s : y ≡ x = cc in ap (λ (z : Name). z ∷ l) s
 ahead_some (y ∷ l) (suc k) x e = ahead_some l k x e
 
-ahead_none : (l : Key) (k : ℕ) → slice_get l k ≡ None → drop k l ≡ []
+pub ahead_none : (l : Key) (k : ℕ) → slice_get l k ≡ None → drop k l ≡ []
 ahead_none [] zero e = refl
 ahead_none [] (suc k) e = refl
 ahead_none (y ∷ l) zero e = absurd (cc)
@@ -120,11 +120,11 @@ heads_took p q n m behind fork victim hs hd =
     by_source (Some x) e = rw (ahead_some (parent_of (drop fork.names p)) fork.source.walked x (names p fork.source ∙ e), head_stepped p fork.names fork.source n x e, e) refl
 
 -- the heads of a rename set out from its common directory
-started_stand : (call : Form) (n names : ℕ) (behind : Option ℕ) (fork : Option ForkWay) (victim : Option ℕ) → stand_with call n behind fork victim ≡ stand_with call n behind (Some (started fork n names)) victim
+pub started_stand : (call : Form) (n names : ℕ) (behind : Option ℕ) (fork : Option ForkWay) (victim : Option ℕ) → stand_with call n behind fork victim ≡ stand_with call n behind (Some (started fork n names)) victim
 started_stand call n names behind None victim = refl
 started_stand call n names behind (Some fork) victim = refl
 
-common_short : (a b : Key) → (length (common a b) ≤ length a) × (length (common a b) ≤ length b)
+pub common_short : (a b : Key) → (length (common a b) ≤ length a) × (length (common a b) ≤ length b)
 common_short [] b = (omega arith, omega arith)
 common_short (x ∷ a) [] = (omega arith, omega arith)
 common_short (x ∷ a) (y ∷ b) = go (same_name x y) (common_short a b)

@@ -1,5 +1,6 @@
 -- What walks want is what the machine does next.
-use Rattle.std.proofs.Common.{◌≡◌, ℕ, zero, suc, ◌+◌, ◌-◌, ◌≤◌, ◌<◌, [], ◌∷◌, length, take, drop, slice_get, Option, Some, None, refl, sym, ap, ◌∙◌, arith, length-drop}
+use Rattle.std.proofs.Common.{◌≡◌, ℕ, zero, suc, ◌+◌, ◌-◌, ◌≤◌, ◌<◌, [], ◌∷◌, List, length, take, drop, slice_get, Option, Some, None, refl, sym, ap, ◌∙◌, arith, length-drop}
+use Rattle.fs_names.specs.Names.{Name}
 use Rattle.fs_names.specs.Keys.{Key, parent_of}
 use Rattle.fs_names.specs.Parts.{left}
 use Rattle.fs_names.specs.Shapes.{Shape, Dir, File}
@@ -69,3 +70,33 @@ pub head_dir_tie : (graph : Graph) (p : Key) (k : ℕ) (head : Head) (m : Move) 
 head_dir_tie graph p k head m h =
     let name : slice_get (parent_of (drop k p)) head.walked ≡ head_name p k head = ap (λ (l : Key). slice_get l head.walked) (parent_drop k p) ∙ drop_get k head.walked (parent_of p) in
     rw (left_head k head.walked p h, dir_tie (graph.shape head.node) m, then_tie, ← name) (head_tie graph head.node head.behind (parent_of (drop k p)) head.walked (want_then (at_dir (graph.shape head.node)) m))
+
+-- both have arrived
+pub then_arrived : (a b : Want) → then_want a b ≡ Arrived → (a ≡ Arrived) × (b ≡ Arrived)
+then_arrived Arrived b e = (refl, e)
+then_arrived (Take n) b e = absurd (cc)
+then_arrived (LetGo n) b e = absurd (cc)
+then_arrived (Fails f) b e = absurd (cc)
+
+pub dir_arrived : (s : Option Shape) → at_dir s ≡ Arrived → (names : List Name) × (s ≡ Some (Dir names))
+dir_arrived None e = absurd (cc)
+dir_arrived (Some (File bytes)) e = absurd (cc)
+dir_arrived (Some (Dir names)) e = (names, refl)
+
+never_arrived : (s : Option Shape) (child : Option ℕ) → name_want s child ≡ Arrived → ⊥
+never_arrived None child e = cc
+never_arrived (Some (File bytes)) child e = cc
+never_arrived (Some (Dir names)) None e = cc
+never_arrived (Some (Dir names)) (Some n) e = cc
+
+pub head_arrived : (graph : Graph) (n : ℕ) (behind : Option ℕ) (name : Option Name) → head_want graph n behind name ≡ Arrived → name ≡ None
+head_arrived graph n (Some m) name e = absurd (cc)
+head_arrived graph n None None e = refl
+head_arrived graph n None (Some x) e = absurd (never_arrived (graph.shape n) (graph.kid n x) e)
+
+-- what comes after an arrival matters only where there is one
+pub want_then_same : (w : Want) (m k : Move) → (w ≡ Arrived → m ≡ k) → want_then w m ≡ want_then w k
+want_then_same (Take n) m k h = refl
+want_then_same (LetGo n) m k h = refl
+want_then_same Arrived m k h = h refl
+want_then_same (Fails e) m k h = refl

@@ -7,7 +7,8 @@ pub mod Rooms
 pub mod Replies
 pub mod Listing
 pub mod Views
-pub mod Begins
-pub mod Endings
 pub mod Told
 pub mod Steps
+pub mod Begins
+pub mod Endings
+pub mod Nexts

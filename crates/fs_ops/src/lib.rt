@@ -11,6 +11,7 @@ mod heads;
 mod leaving;
 mod looking;
 pub mod moves;
+mod next;
 pub mod op;
 mod outcome;
 mod renaming;

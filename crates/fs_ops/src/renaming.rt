@@ -38,7 +38,7 @@ fn kinds_fault(store: &Store, moved: NodeNo, there: NodeNo) -> Option<Errno>
 }
 
 /// Why a node isn't moved to the new path.
-fn fault(
+pub fn fault(
     store: &Store,
     moved: NodeNo,
     dest: NodeNo,

@@ -4,6 +4,8 @@
 pub mod fork;
 pub mod head;
 mod names;
+#[cfg(test)]
+mod tests;
 pub mod walk;
 pub mod want;
 

@@ -79,7 +79,8 @@ impl Walk {
     /// is behind it; then the node that the name ahead names. It fails with ENOTDIR where a file has a name ahead, and with
     /// ENOENT where the name is missing (POSIX.1-2017, XBD 4.13, Pathname Resolution).
     pub fn next(&self, path: &Path, store: &Store) -> Want
-        ensures { result ≡ want (graph_of store.now) path.now self.now }
+        ensures want { result ≡ want (graph_of store.now) path.now self.now }
+        ensures within { self.now.walked ≤ self.now.names }
     {
         let Some(node) = self.node else {
             return Want::Take(NodeNo::new(0));
