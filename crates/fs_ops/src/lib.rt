@@ -17,6 +17,8 @@ mod outcome;
 mod renaming;
 mod replies;
 mod room;
+#[cfg(test)]
+mod tests;
 mod text;
 mod took;
 mod writing;
