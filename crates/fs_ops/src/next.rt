@@ -211,9 +211,7 @@ fn target_move(
     match call {
         Call::Unlink(path) => unlink_move(store, node, last_name(path), victim),
         Call::Rmdir(path) => rmdir_move(store, node, last_name(path), victim),
-        Call::Rename(source, dest) => {
-            rename_move(store, source, dest, node, walk, fork, victim)
-        }
+        Call::Rename(source, dest) => { rename_move(store, source, dest, node, walk, fork, victim) }
         _ => Move::Finish(None),
     }
 }

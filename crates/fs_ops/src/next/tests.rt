@@ -116,7 +116,13 @@ fn decided_by_its_text(rt: HostRuntime) -> Result<(), Failure> {
 #[test]
 fn walks_to_its_target(rt: HostRuntime) -> Result<(), Failure> {
     let stat = Call::Stat(path(&rt, b"/a/b")?);
-    assert!(rt; makes(&rt, &stat, &[take(0), take(1), let_go(0), take(2), let_go(1), FINISH])?);
+    assert!(rt;
+        makes(
+            &rt,
+            &stat,
+            &[take(0), take(1), let_go(0), take(2), let_go(1), FINISH]
+        )?
+    );
     let mkdir = Call::Mkdir(path(&rt, b"/a/x")?);
     assert!(rt; makes(&rt, &mkdir, &[take(0), take(1), let_go(0), FINISH])?);
     Ok(())
@@ -125,7 +131,13 @@ fn walks_to_its_target(rt: HostRuntime) -> Result<(), Failure> {
 #[test]
 fn takes_its_victim(rt: HostRuntime) -> Result<(), Failure> {
     let unlink = Call::Unlink(path(&rt, b"/a/f")?);
-    assert!(rt; makes(&rt, &unlink, &[take(0), take(1), let_go(0), take(4), FINISH])?);
+    assert!(rt;
+        makes(
+            &rt,
+            &unlink,
+            &[take(0), take(1), let_go(0), take(4), FINISH]
+        )?
+    );
     let rmdir = Call::Rmdir(path(&rt, b"/a/f")?);
     assert!(rt; makes(&rt, &rmdir, &[take(0), take(1), let_go(0), FINISH])?);
     Ok(())
@@ -134,7 +146,15 @@ fn takes_its_victim(rt: HostRuntime) -> Result<(), Failure> {
 #[test]
 fn heads_of_a_rename(rt: HostRuntime) -> Result<(), Failure> {
     let rename = Call::Rename(path(&rt, b"/a/f")?, path(&rt, b"/a/b/c/x")?);
-    let all = [take(0), take(1), let_go(0), take(2), take(3), let_go(2), moving(4)];
+    let all = [
+        take(0),
+        take(1),
+        let_go(0),
+        take(2),
+        take(3),
+        let_go(2),
+        moving(4),
+    ];
     assert!(rt; makes(&rt, &rename, &all)?);
     let onto = Call::Rename(path(&rt, b"/a/b/c")?, path(&rt, b"/a/b")?);
     assert!(rt; makes(&rt, &onto, &[take(0), take(1), let_go(0), take(2), FINISH])?);
