@@ -35,7 +35,7 @@ parent_reached graph p k head h e =
 between_is : (graph : Graph) (p q : Key) (fork : ForkWay) (m : ℕ) (behind victim : Option ℕ) → fork.names + fork.source.walked ≤ length (parent_of p) → fork.names + fork.dest.walked ≤ length (parent_of q) → fork.names ≤ length (common (parent_of p) (parent_of q))
     → fork_want graph p q fork ≡ Arrived
     → between_move graph fork.source.node (last_of p) fork.dest.node (last_of q) (is_end (after_prefix p q)) (has_more (after_prefix q p)) (is_end (after_prefix (parent_of p) (parent_of q))) victim
-        ≡ rename_move graph (drop fork.names p) (drop fork.names q) (stand_with (Rename p q) m behind (Some fork) victim)
+    ≡ rename_move graph (drop fork.names p) (drop fork.names q) (stand_with (Rename p q) m behind (Some fork) victim)
 between_is graph p q fork m behind victim hs hd hc e =
     let k = fork.names in
     let heads = (then_arrived (at_dir (graph.shape fork.node)) (then_want (dir_want graph fork.source (head_name p k fork.source)) (dir_want graph fork.dest (head_name q k fork.dest))) e).1 in
@@ -49,11 +49,11 @@ between_is graph p q fork m behind victim hs hd hc e =
 -- from a common directory
 fork_tie : (graph : Graph) (p q : Key) (fork : ForkWay) (behind victim : Option ℕ) (m : Move) → fork.names + fork.source.walked ≤ length (parent_of p) → fork.names + fork.dest.walked ≤ length (parent_of q)
     → dir_then (graph.shape fork.node)
-        (first_of (head_move graph fork.source.node fork.source.behind (left (head_of p fork.names fork.source).walked (parent_of (drop fork.names p))))
-        (dir_then (graph.shape fork.source.node)
-        (first_of (head_move graph fork.dest.node fork.dest.behind (left (head_of q fork.names fork.dest).walked (parent_of (drop fork.names q))))
-        (dir_then (graph.shape fork.dest.node) m))))
-        ≡ want_then (fork_want graph p q fork) m
+    (first_of (head_move graph fork.source.node fork.source.behind (left (head_of p fork.names fork.source).walked (parent_of (drop fork.names p))))
+    (dir_then (graph.shape fork.source.node)
+    (first_of (head_move graph fork.dest.node fork.dest.behind (left (head_of q fork.names fork.dest).walked (parent_of (drop fork.names q))))
+    (dir_then (graph.shape fork.dest.node) m))))
+    ≡ want_then (fork_want graph p q fork) m
 fork_tie graph p q fork behind victim m hs hd =
     ap (λ (k : Move). dir_then (graph.shape fork.node) (first_of (head_move graph fork.source.node fork.source.behind (left (head_of p fork.names fork.source).walked (parent_of (drop fork.names p)))) (dir_then (graph.shape fork.source.node) k))) (head_dir_tie graph q fork.names fork.dest m hd)
     ∙ ap (dir_then (graph.shape fork.node)) (head_dir_tie graph p fork.names fork.source (want_then (dir_want graph fork.dest (head_name q fork.names fork.dest)) m) hs)
@@ -70,10 +70,10 @@ rename_from graph p q way f victim n h at names =
     want_then_same (fork_want graph p q f) _ (rename_move graph (drop f.names p) (drop f.names q) (stand_with (Rename p q) n way.behind (Some f) victim)) (between_is graph p q f n way.behind victim h.source h.dest short)
     ∙ sym (fork_tie graph p q f way.behind victim (rename_move graph (drop f.names p) (drop f.names q) (stand_with (Rename p q) n way.behind (Some f) victim)) h.source h.dest)
     ∙ ap (λ (m : ℕ). dir_then (graph.shape m)
-        (first_of (head_move graph f.source.node f.source.behind (left (head_of p f.names f.source).walked (parent_of (drop f.names p))))
-        (dir_then (graph.shape f.source.node)
-        (first_of (head_move graph f.dest.node f.dest.behind (left (head_of q f.names f.dest).walked (parent_of (drop f.names q))))
-        (dir_then (graph.shape f.dest.node) (rename_move graph (drop f.names p) (drop f.names q) (stand_with (Rename p q) n way.behind (Some f) victim))))))) same
+    (first_of (head_move graph f.source.node f.source.behind (left (head_of p f.names f.source).walked (parent_of (drop f.names p))))
+    (dir_then (graph.shape f.source.node)
+    (first_of (head_move graph f.dest.node f.dest.behind (left (head_of q f.names f.dest).walked (parent_of (drop f.names q))))
+    (dir_then (graph.shape f.dest.node) (rename_move graph (drop f.names p) (drop f.names q) (stand_with (Rename p q) n way.behind (Some f) victim))))))) same
     ∙ ap (λ (k : ℕ). fork_move graph (drop k p) (drop k q) (stand_with (Rename p q) n way.behind (Some f) victim)) h.names
 
 pub rename_is : (graph : Graph) (p q : Key) (way : Way) (fork : Option ForkWay) (victim : Option ℕ) (n : ℕ) → way.node ≡ Some n → way.walked ≡ way.names → way.names ≡ length (common (parent_of p) (parent_of q)) → Forks (Rename p q) way fork

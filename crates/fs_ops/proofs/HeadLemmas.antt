@@ -14,7 +14,7 @@ use Rattle.fs_seq.specs.declared.reply.Reply.{Reply}
 use Rattle.fs_seq.specs.declared.reply.Reply.TheVariants.{Failed}
 use Rattle.fs_walk.specs.declared.head.Head as count
 use Rattle.fs_ops.specs.declared.finish.Finish.{Finish}
-use Rattle.fs_ops.specs.Endings.{IsMade, between, made_between, heads_stand}
+use Rattle.fs_ops.specs.Endings.{IsMade, between, made_between, rename_reply, heads_stand}
 use Rattle.fs_ops.specs.Finishes.{Made, moved_made, rename_made}
 use Rattle.fs_ops.specs.Moves.{dir_error, there_by, walk_errno}
 use Rattle.fs_ops.specs.Records.{Stand}
@@ -25,7 +25,7 @@ use Rattle.fs_ops.proofs.WantLemmas.{take_parent_front, left_head}
 -- ---- keys
 
 -- what is left where names are left, and where none are
-some_left : (j : ℕ) (l : Key) → j < length l → (x : Name) × (r : Key) × (drop j l ≡ x ∷ r)
+pub some_left : (j : ℕ) (l : Key) → j < length l → (x : Name) × (r : Key) × (drop j l ≡ x ∷ r)
 some_left zero [] h = absurd (omega arith)
 some_left zero (x ∷ l) h = (x, l, refl)
 some_left (suc j) [] h = absurd (omega arith)
@@ -204,7 +204,7 @@ module _ (graph : Graph) (p q : Key) (k : ℕ) (source dest : count.Head) (victi
       let u : has_more (after_prefix (drop k q) (drop k p)) ≡ above = above_left p q k h ∙ sym f in
       let o : is_end (after_prefix (parent_of (drop k p)) (parent_of (drop k q))) ≡ one_parent = one_parent_left p q k h ∙ sym g in
       let parts : left_parts source_error dest_error ≡ by_parts None None (last_of p) (last_of q) same_path above one_parent = (λ i. by_parts (sym a i) (sym b i) (x i) (y i) (s i) (u i) (o i)) in
-      subst (λ (z : Made). IsMade z finish new) (sym (parts ∙ by_nodes (last_of p) (last_of q) _ (graph.kid source.node (last_of p)))) made
+      subst (λ (z : Made). IsMade z finish new) (sym (parts ∙ by_nodes (last_of p) (last_of q) (rename_reply graph source.node (last_of p) dest.node (last_of q) same_path above one_parent) (graph.kid source.node (last_of p)))) made
 
   -- heads that stand at one node have walked the same names, so that one last name means one path
   pub heads_apart : by_text (Rename p q) ≡ None → k ≤ length (common (parent_of p) (parent_of q)) → k + source.walked ≤ length (parent_of p) → k + dest.walked ≤ length (parent_of q)

@@ -39,6 +39,7 @@ heads_left p q way n fork h at = by_dest fork.dest.walked refl
   where
     set_out : Bool → Type 0
     set_out b = has_set_out fork ≡ b
+
     by_source : (k : ℕ) → fork.dest.walked ≡ 0 → fork.source.walked ≡ k
         → stand_of (Rename p q) (way_after None (Some fork) way).node (way_after None (Some fork) way).behind (fork_after None (Some fork)) None ≡ left_last (stand_with (Rename p q) n way.behind (Some fork) None) None
     by_source zero d e = rw (d, e) refl
@@ -47,6 +48,7 @@ heads_left p q way n fork h at = by_dest fork.dest.walked refl
         let t : nat_lt 0 (suc k) ≡ true = grind (arith, nat_tests) in
         let same : fork.node ≡ n = (let i : way.node ≡ Some fork.node = h.node in cc) in
         rw (d, e, t, at, same, r.1.1) refl
+
     by_dest : (k : ℕ) → fork.dest.walked ≡ k
         → stand_of (Rename p q) (way_after None (Some fork) way).node (way_after None (Some fork) way).behind (fork_after None (Some fork)) None ≡ left_last (stand_with (Rename p q) n way.behind (Some fork) None) None
     by_dest zero d = by_source fork.source.walked d refl

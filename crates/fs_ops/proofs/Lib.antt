@@ -12,3 +12,4 @@ pub mod TextLemmas
 pub mod NextLemmas
 pub mod ForkLemmas
 pub mod HeadLemmas
+pub mod FinishLemmas

@@ -92,12 +92,14 @@ held_is (Rename p q) way (Some f) None n h at = by_dest f.dest.walked refl
   where
     same : n ≡ f.node
     same = let i : way.node ≡ Some f.node = h.node in cc
+
     by_source : (k : ℕ) → f.dest.walked ≡ 0 → f.source.walked ≡ k → last_held (stand_with (Rename p q) n way.behind (Some f) None) None ≡ fork_last f
     by_source zero d e = rw (d, e) same
     by_source (suc k) d e =
         let r = head_taken f.names k p (omega (arith, h.source)) in
         let t : nat_lt 0 (suc k) ≡ true = grind (arith, nat_tests) in
         rw (d, e, t, r.1.1) refl
+
     by_dest : (k : ℕ) → f.dest.walked ≡ k → last_held (stand_with (Rename p q) n way.behind (Some f) None) None ≡ fork_last f
     by_dest zero d = by_source f.source.walked d refl
     by_dest (suc k) d =

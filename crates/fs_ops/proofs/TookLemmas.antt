@@ -107,15 +107,17 @@ heads_took p q n m behind fork victim hs hd =
   where
     names : (r : Key) (head : count.Head) → slice_get (parent_of (drop fork.names r)) head.walked ≡ head_name r fork.names head
     names r head = ap (λ (l : Key). slice_get l head.walked) (parent_drop fork.names r) ∙ drop_get fork.names head.walked (parent_of r)
+
     by_dest : (o : Option Name) → head_name q fork.names fork.dest ≡ o → head_name p fork.names fork.source ≡ None
         → source_took (stand_with (Rename p q) m behind (Some fork) victim) (drop fork.source.walked (parent_of (drop fork.names p))) (drop fork.dest.walked (parent_of (drop fork.names q))) n
-            ≡ stand_with (Rename p q) m behind (Some (fork_took p q fork n)) (cond (has_arrived p q fork) (Some n) victim)
+        ≡ stand_with (Rename p q) m behind (Some (fork_took p q fork n)) (cond (has_arrived p q fork) (Some n) victim)
     by_dest None e f = rw (ahead_none (parent_of (drop fork.names p)) fork.source.walked (names p fork.source ∙ f), ahead_none (parent_of (drop fork.names q)) fork.dest.walked (names q fork.dest ∙ e), e, f) refl
     by_dest (Some x) e f =
         rw (ahead_none (parent_of (drop fork.names p)) fork.source.walked (names p fork.source ∙ f), ahead_some (parent_of (drop fork.names q)) fork.dest.walked x (names q fork.dest ∙ e), head_stepped q fork.names fork.dest n x e, e, f) refl
+
     by_source : (o : Option Name) → head_name p fork.names fork.source ≡ o
         → source_took (stand_with (Rename p q) m behind (Some fork) victim) (drop fork.source.walked (parent_of (drop fork.names p))) (drop fork.dest.walked (parent_of (drop fork.names q))) n
-            ≡ stand_with (Rename p q) m behind (Some (fork_took p q fork n)) (cond (has_arrived p q fork) (Some n) victim)
+        ≡ stand_with (Rename p q) m behind (Some (fork_took p q fork n)) (cond (has_arrived p q fork) (Some n) victim)
     by_source None e = by_dest (head_name q fork.names fork.dest) refl e
     by_source (Some x) e = rw (ahead_some (parent_of (drop fork.names p)) fork.source.walked x (names p fork.source ∙ e), head_stepped p fork.names fork.source n x e, e) refl
 
@@ -141,7 +143,7 @@ started_forked p q way None m at all names forks =
 
 pub rename_stands : (p q : Key) (way : Way) (fork : Option ForkWay) (victim : Option ℕ) (n m : ℕ) → way.node ≡ Some m → way.walked ≡ way.names → way.names ≡ length (common (parent_of p) (parent_of q)) → Forks (Rename p q) way fork
     → target_took (dropped way.walked (Rename p q)) (stand_with (Rename p q) m way.behind fork victim) n
-        ≡ stand_with (Rename p q) m way.behind (Some (fork_took p q (started fork m way.names) n)) (cond (has_arrived p q (started fork m way.names)) (Some n) victim)
+    ≡ stand_with (Rename p q) m way.behind (Some (fork_took p q (started fork m way.names) n)) (cond (has_arrived p q (started fork m way.names)) (Some n) victim)
 rename_stands p q way fork victim n m at all names forks =
     let heads = started_forked p q way fork m at all names forks in
     rw (started_stand (Rename p q) m way.names way.behind fork victim, ← heads.names) (heads_took p q n m way.behind (started fork m way.names) victim heads.source heads.dest)

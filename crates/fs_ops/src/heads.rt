@@ -21,7 +21,7 @@ use fs_seq::errno::Errno;
 use fs_walk::{Fork, Head};
 
 /// The source head; before the heads set out it is at the walk's node.
-fn source_of(fork: &Option<Fork>, node: NodeNo) -> Head
+pub fn source_of(fork: &Option<Fork>, node: NodeNo) -> Head
     ensures { (names : ℕ) → result ≡ (started fork.now node names).source }
 {
     match fork {
@@ -31,7 +31,7 @@ fn source_of(fork: &Option<Fork>, node: NodeNo) -> Head
 }
 
 /// The destination head, likewise.
-fn dest_of(fork: &Option<Fork>, node: NodeNo) -> Head
+pub fn dest_of(fork: &Option<Fork>, node: NodeNo) -> Head
     ensures { (names : ℕ) → result ≡ (started fork.now node names).dest }
 {
     match fork {

@@ -2,9 +2,11 @@
 #![tactic(auto)]
 
 mod beginning;
+mod carrying;
 mod ending;
 mod entries;
 mod finish;
+mod finishing;
 mod heads;
 mod leaving;
 mod looking;
@@ -15,6 +17,8 @@ mod outcome;
 mod renaming;
 mod replies;
 mod room;
+#[cfg(test)]
+mod tests;
 mod text;
 mod took;
 mod writing;

@@ -24,6 +24,9 @@ use fs_nodes::{NodeNo, Store};
 use fs_seq::Call;
 use fs_walk::{Fork, Walk, Want};
 
+#[cfg(test)]
+mod tests;
+
 /// The node that was taken last.
 fn held_last(node: NodeNo, fork: &Option<Fork>, victim: Option<NodeNo>) -> NodeNo
     ensures { result ≡ held_last node fork.now victim }
@@ -208,9 +211,7 @@ fn target_move(
     match call {
         Call::Unlink(path) => unlink_move(store, node, last_name(path), victim),
         Call::Rmdir(path) => rmdir_move(store, node, last_name(path), victim),
-        Call::Rename(source, dest) => {
-            rename_move(store, source, dest, node, walk, fork, victim)
-        }
+        Call::Rename(source, dest) => { rename_move(store, source, dest, node, walk, fork, victim) }
         _ => Move::Finish(None),
     }
 }

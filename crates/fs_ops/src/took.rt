@@ -101,7 +101,13 @@ impl Op {
             self.fork = None;
             self.victim = None;
         } else {
-            took_at_target(&self.call, &self.walk, &mut self.fork, &mut self.victim, node);
+            took_at_target(
+                &self.call,
+                &self.walk,
+                &mut self.fork,
+                &mut self.victim,
+                node,
+            );
         }
     }
 }

@@ -123,7 +123,14 @@ fn fork_wants(
 
 #[test]
 fn walk_to_a_node(rt: HostRuntime) -> Result<(), Failure> {
-    let all = [take(0), take(1), let_go(0), take(2), let_go(1), Want::Arrived];
+    let all = [
+        take(0),
+        take(1),
+        let_go(0),
+        take(2),
+        let_go(1),
+        Want::Arrived,
+    ];
     assert!(rt; wants(&rt, b"/a/b", 2, &all)?);
     Ok(())
 }
@@ -175,7 +182,15 @@ fn fork_to_files(rt: HostRuntime) -> Result<(), Failure> {
     let failed = Want::Fails(Errno::Enotdir);
     assert!(rt; fork_wants(&rt, 4, 2, (b"/a/f/x", b"/a/f/y"), &[failed])?);
     assert!(rt; fork_wants(&rt, 1, 1, (b"/a/f/x", b"/a/b/y"), &[take(4), failed])?);
-    assert!(rt; fork_wants(&rt, 1, 1, (b"/a/b/x", b"/a/f/y"), &[take(2), take(4), failed])?);
+    assert!(rt;
+        fork_wants(
+            &rt,
+            1,
+            1,
+            (b"/a/b/x", b"/a/f/y"),
+            &[take(2), take(4), failed]
+        )?
+    );
     Ok(())
 }
 

@@ -36,12 +36,7 @@ fn name_want(store: &Store, node: NodeNo, name: &Name) -> Want
 }
 
 /// At a node with one behind it, or with a name ahead.
-pub fn head_want(
-    store: &Store,
-    node: NodeNo,
-    behind: Option<NodeNo>,
-    name: Option<&Name>,
-) -> Want
+pub fn head_want(store: &Store, node: NodeNo, behind: Option<NodeNo>, name: Option<&Name>) -> Want
     ensures { result ≡ head_want (graph_of store.now) node behind (option_copied name.entry) }
 {
     match (behind, name) {
