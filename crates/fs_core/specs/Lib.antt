@@ -1,0 +1,4 @@
+pub mod Machines
+pub mod Answers
+pub mod Rooms
+pub mod Seats

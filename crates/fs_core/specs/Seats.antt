@@ -1,0 +1,28 @@
+-- Changes of what is on one seat, and moves of the call there.
+use Rattle.std.specs.Prelude.{ℕ, ◌≡◌, Option, Some, None, slice_get}
+use Rattle.fs_nodes.specs.Graphs.{Graph}
+use Rattle.fs_nodes.specs.Stores.{graph_of}
+use Rattle.fs_ops.specs.Moves.{Move}
+use Rattle.fs_ops.specs.Works.{Work, next_of, IsTook, IsLetGo, IsFinished}
+use Rattle.fs_core.specs.declared.running.Running.{Running}
+use Rattle.fs_core.specs.Machines.{Machine}
+
+-- a call on a seat
+abbrev pub IsOn : Machine → ℕ → Running → Type 0
+IsOn machine seat running = slice_get machine.seats seat ≡ Some (Some running)
+
+-- the call on a seat does this move next
+pub record MovesOn (machine : Machine) (seat : ℕ) (move : Move) : Type 0 where
+  pub running : Running
+  pub on : IsOn machine seat running
+  pub move : next_of (graph_of machine.store) running.op ≡ move
+
+-- what may happen to the call on a seat: its work goes on
+abbrev pub Goes : (Work → Work → Type 0) → Option Running → Option Running → Type 0
+Goes R None new = new ≡ None
+Goes R (Some old) new = (work : Work) × R old.op work × (new ≡ Some (record old { op = work }))
+
+-- it gets a place
+abbrev pub placed : Option Running → ℕ → Option Running
+placed None place = None
+placed (Some running) place = Some (record running { place = Some place })
