@@ -2,3 +2,4 @@ pub mod Machines
 pub mod Answers
 pub mod Rooms
 pub mod Seats
+pub mod Searches

@@ -15,7 +15,7 @@ IsOn machine seat running = slice_get machine.seats seat ≡ Some (Some running)
 pub record MovesOn (machine : Machine) (seat : ℕ) (move : Move) : Type 0 where
   pub running : Running
   pub on : IsOn machine seat running
-  pub move : next_of (graph_of machine.store) running.op ≡ move
+  pub next : next_of (graph_of machine.store) running.op ≡ move
 
 -- what may happen to the call on a seat: its work goes on
 abbrev pub Goes : (Work → Work → Type 0) → Option Running → Option Running → Type 0

@@ -54,7 +54,7 @@ on_ends : (graph : Graph) (remaining : Form) (st : Stand) → next_on graph rema
 on_ends graph remaining st e = first_ends graph st.node st.behind (target remaining) (target_move graph remaining st) (target_ends graph remaining st) e
 
 -- only a finished call returns, and only an unfinished one finishes
-by_ends : (graph : Graph) (op : Record) (e : Option Errno) (phase : Phase) (st : Option Stand) → next_by graph op e phase st ≡ Ends → (r : Reply) × (phase ≡ Finished r)
+pub by_ends : (graph : Graph) (op : Record) (e : Option Errno) (phase : Phase) (st : Option Stand) → next_by graph op e phase st ≡ Ends → (r : Reply) × (phase ≡ Finished r)
 by_ends graph op e (Finished r) st i = (r, refl)
 by_ends graph op (Some f) Walking st i = cc
 by_ends graph op (Some f) (Placed j) st i = cc
