@@ -1,2 +1,4 @@
 pub mod SeatLemmas
 pub mod WorkLemmas
+pub mod States
+pub mod Steps
