@@ -2,3 +2,4 @@ pub mod SeatLemmas
 pub mod WorkLemmas
 pub mod States
 pub mod Steps
+pub mod Below
