@@ -1,6 +1,6 @@
 -- Ascents from a node to the root, which are shorter than the number of places, and whether they meet a node.
 use Rattle.std.proofs.Common.{◌≡◌, ℕ, zero, suc, ◌+◌, ◌<◌, ◌≤◌, Bool, true, false, cond, eqb, List, [], ◌∷◌, ◌++◌, Option, Some, None, length, length-append, refl, sym, ap, ◌∙◌, arith, subst}
-use Rattle.std.specs.Prelude.{slice_get, option_map, ◌||◌}
+use Rattle.std.specs.Prelude.{slice_get, option_map, ◌||◌, nat_eq}
 use Rattle.std.specs.List.{AllByRecursion, IsDistinct, list_any}
 use Rattle.std.proofs.lemmas.Option.{slice_get_within}
 use Rattle.std.proofs.lemmas.Map.Steps.{length-le_from_distinct_below}
@@ -151,3 +151,7 @@ climbs_top graph bound s node above i c other loose r = go (c.down r)
         let g : at graph.kid s (d.front ++ d.last ∷ []) ≡ Some above = ap (at graph.kid s) (sym d.is) ∙ e in
         let b : (m : ℕ) × (at graph.kid s d.front ≡ Some m) × (at graph.kid m (d.last ∷ []) ≡ Some above) = at_before graph.kid s above d.front (d.last ∷ []) g in
         loose b.0 d.last (sym (at_child graph.kid s b.0 d.front d.last b.1) ∙ g)
+
+-- numbers of which the test says that they differ
+pub differ_by : (n m : ℕ) → false ≡ nat_eq n m → n ≡ m → ⊥
+differ_by n m e f = grind arith

@@ -3,3 +3,4 @@ pub mod WorkLemmas
 pub mod States
 pub mod Steps
 pub mod Below
+pub mod Searching

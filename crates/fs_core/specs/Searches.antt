@@ -1,7 +1,10 @@
 -- Which walking calls are below a node, and which of them is to be helped.
-use Rattle.std.specs.Prelude.{ℕ, ◌≡◌, ◌≤◌, Bool, true, false, if◌then◌else◌, List, Option, Some, None, option_map, slice_get}
+use Rattle.std.specs.Prelude.{ℕ, ◌≡◌, ◌<◌, ◌≤◌, nat_lt, Bool, true, false, if◌then◌else◌, List, Option, Some, None, option_map, slice_get}
 use Rattle.fs_names.specs.Keys.{Key}
-use Rattle.fs_nodes.specs.Graphs.{Kids, at}
+use Rattle.fs_nodes.specs.Graphs.{Graph, Kids, at, numbers, IsGraph}
+use Rattle.fs_nodes.specs.Places.{Places}
+use Rattle.fs_nodes.specs.Stores.{graph_of, room}
+use Rattle.fs_core.specs.Machines.{number_on}
 use Rattle.fs_core.specs.declared.running.Running.{Running}
 use Rattle.fs_core.specs.Rooms.{is_walking}
 
@@ -26,7 +29,32 @@ pub record IsUnder (kids : Kids) (seats : List (Option Running)) (s seat : ℕ) 
   pub position : position_of (Some running) ≡ Some node
   pub reached : IsReached kids s node
 
--- and no other one is below it
+-- no walking call of another seat is below a node
+abbrev pub IsAlone : Kids → List (Option Running) → ℕ → ℕ → Type 0
+IsAlone kids seats node seat = (other : ℕ) → (seat ≡ other → ⊥) → IsUnder kids seats node other → ⊥
+
+-- and no other one is below its position
 pub record IsLowestOn (kids : Kids) (seats : List (Option Running)) (s seat : ℕ) : Type 0 where
   pub under : IsUnder kids seats s seat
-  pub alone : (other : ℕ) → (seat ≡ other → ⊥) → IsUnder kids seats under.node other → ⊥
+  pub alone : IsAlone kids seats under.node seat
+
+-- a number is less than another one, or there is no other
+abbrev pub is_lesser : Option ℕ → Option ℕ → Bool
+is_lesser (Some c) (Some d) = nat_lt c d
+is_lesser _ None = true
+is_lesser None (Some d) = true
+
+-- of the seats below one, those with a lowest call: none, or the one with the least number
+abbrev pub HasLeast : Kids → List (Option Running) → ℕ → ℕ → Option ℕ → Type 0
+HasLeast kids seats s i None = (j : ℕ) → j < i → IsLowestOn kids seats s j → ⊥
+HasLeast kids seats s i (Some seat) = (seat < i) × IsLowestOn kids seats s seat × ((j c d : ℕ) → j < i → IsLowestOn kids seats s j → number_on seats seat ≡ Some c → number_on seats j ≡ Some d → c ≤ d)
+
+-- a node is reached from the root
+abbrev pub IsRooted : Graph → ℕ → Type 0
+IsRooted graph n = (key : Key) × (numbers graph key ≡ Some n)
+
+-- what a search needs: a graph with all its numbers below a bound, and each walking call at a node that is reached from the root
+pub record CanSearch (store : Places) (seats : List (Option Running)) (bound : ℕ) : Type 0 where
+  pub graph : IsGraph (graph_of store)
+  pub within : room store ≤ bound
+  pub rooted : (seat n : ℕ) (slot : Option Running) → slice_get seats seat ≡ Some slot → position_of slot ≡ Some n → IsRooted (graph_of store) n

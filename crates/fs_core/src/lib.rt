@@ -2,8 +2,9 @@
 #![tactic(auto)]
 
 pub mod answer;
-pub mod core;
+mod helping;
+pub mod machine;
 pub mod running;
 
 pub use answer::{Event, Ran, Refusal, Stepped};
-pub use core::Core;
+pub use machine::Core;
