@@ -4,3 +4,4 @@ pub mod States
 pub mod Steps
 pub mod Below
 pub mod Searching
+pub mod Choosing

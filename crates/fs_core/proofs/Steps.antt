@@ -97,7 +97,7 @@ replied_owed r q e = go r.place refl
          ap (λ (o : Option ℕ). walking_at (Some (record r { place = o }))) f ∙ ap (λ (o : Option Reply). walking_at (Some (record r { place = None; op = record r.op { reply = o } }))) e)
 
 -- its phase
-walks_phase : (r : Running) → r.place ≡ None → r.op.reply ≡ None → phase_of r.place r.op.reply ≡ Walking
+pub walks_phase : (r : Running) → r.place ≡ None → r.op.reply ≡ None → phase_of r.place r.op.reply ≡ Walking
 walks_phase r e f = ap (λ (o : Option ℕ). phase_of o r.op.reply) e ∙ ap (λ (o : Option Reply). phase_of None o) f
 
 placed_phase : (i : ℕ) (o : Option Reply) → o ≡ None → phase_of (Some i) o ≡ Placed i
