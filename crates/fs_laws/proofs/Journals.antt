@@ -32,7 +32,7 @@ use Rattle.fs_laws.proofs.Walks.{eqb_refl, eqb_true}
 use Rattle.fs_laws.proofs.Keeping.{Place, Here, Else, place}
 use Rattle.fs_laws.proofs.Books.{Unknown, unknown_step}
 use Rattle.fs_laws.proofs.Headlines.{Headline, run_keeps, headline_of, book_plays}
-use Rattle.fs_laws.specs.Invariants.{Invariant}
+use Rattle.fs_laws.specs.States.{State, Run}
 
 -- two words for one changed value
 changed_is : {A : Type 0} (n : ℕ) (v : A) (f g : ℕ → A) (m : ℕ) → f m ≡ g m → set_at n v f m ≡ changed g n v m
@@ -262,22 +262,31 @@ true_start = record { calls_are = λ c. refl; replies_are = λ c. refl; returned
 pub record Ties (book : Book) (es : List Entry) : Type 0 where
   pub lawful : journal.IsLawful es
   pub tree : book.tree ≡ seen (tree.play (journal.commits es))
+  pub due : (c : ℕ) (r : Reply) → book.due c ≡ Some r → journal.due c es ≡ Some r
 
 ties_from : TreesAsMaps → (book : Book) (k : Knowledge) (before es : List Entry) → Agrees book k → IsTrueOf k before → journal.IsLawful before → IsLawful book es → Ties (book_of book es) (before ++ es)
 ties_from t book k before [] a true_of lawful l = record {
   lawful = subst journal.IsLawful (sym (append-nil before)) lawful;
   tree = a.tree ∙ ap seen true_of.tree_is ∙ ap (λ (x : List Entry). seen (tree.play (journal.commits x))) (sym (append-nil before));
+  due = λ c r e. ap (journal.due c) (append-nil before) ∙ due_of (journal.has_committed c before) (journal.due c before) r (sym (true_of.replies_are c) ∙ sym (a.due c) ∙ e);
 }
+  where
+    due_of : (b : Bool) (o : Option Reply) (r : Reply) → cond b o None ≡ Some r → o ≡ Some r
+    due_of true o r e = e
+    due_of false o r e = cc
 ties_from t book k before (e ∷ es) a true_of lawful l =
     let none : entry_fault before e ≡ None = sym (known_fault-entry_fault k before e true_of) ∙ no_fault book k e a l.0 in
     let fits : journal.IsNext before e × journal.IsAnswered before e = fits_from_none before e none in
     subst (λ (x : List Entry). Ties (book_of (noted book e) es) x) (append_assoc before (e ∷ []) es)
     (ties_from t (noted book e) (taken_in k e) (before ++ e ∷ []) es (agrees_step t book k e a l.0) (true_of_taken_in k before e true_of none) ((lawful_appended before e).1 (lawful, fits.0, fits.1)) l.1)
 
+-- the book of a run's timeline, in the journal's words
+pub run_ties : (s : State) → Run s → Ties (book_of start s.timeline) s.timeline
+run_ties s run = ties_from trees_as_maps start empty_knowledge [] s.timeline agrees_start true_start (record { well_formed = tt; replies = tt }) (run_keeps s run).lawful
+
 -- the theorem in the journal's words
 pub linearizes : Linearization
 linearizes s run =
-    let inv : Invariant s = run_keeps s run in
-    let head : Headline s = headline_of s inv in
-    let tied : Ties (book_of start s.timeline) s.timeline = ties_from trees_as_maps start empty_knowledge [] s.timeline agrees_start true_start (record { well_formed = tt; replies = tt }) head.lawful in
+    let head : Headline s = headline_of s (run_keeps s run) in
+    let tied : Ties (book_of start s.timeline) s.timeline = run_ties s run in
     record { lawful = tied.lawful; spelled = λ idle. head.spelled idle ∙ sym (book_plays start s.timeline) ∙ tied.tree }

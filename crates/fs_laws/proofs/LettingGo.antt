@@ -171,7 +171,7 @@ pub data Behind (st : Stand) (n : ℕ) : Type 0 where
   Source : st.behind ≡ None → st.source.behind ≡ Some n → Behind st n
   Dest : st.behind ≡ None → st.source.behind ≡ None → st.dest.behind ≡ Some n → Behind st n
 
-behind_of_move : (graph : Graph) (rem : Form) (st : Stand) (n : ℕ) → next_on graph rem st ≡ Leaves n → Behind st n
+pub behind_of_move : (graph : Graph) (rem : Form) (st : Stand) (n : ℕ) → next_on graph rem st ≡ Leaves n → Behind st n
 behind_of_move graph rem st n m = walk (head_leaves graph st.node st.behind (target rem) (target_move graph rem st) n m)
   where
     dest : (p q : Key) → st.behind ≡ None → st.source.behind ≡ None → (st.dest.behind ≡ Some n) ⊎ ((st.dest.behind ≡ None) × (dir_then (graph.shape st.dest.node) (rename_move graph p q st) ≡ Leaves n)) → Behind st n
@@ -223,7 +223,7 @@ at_end op n st r ph on e = victim st.victim refl e
     victim (Some v) i f = At_end st (record st { victim = None }) r ph on (left_is ∙ ap (left_last st) i) (lets_victim st n (i ∙ ap (λ (m : ℕ). Some m) f)) (λ w h. (let z : ◌≡◌ {A = Option ℕ} (Some v) (Some w) = sym i ∙ h in (let y : v ≡ w = cc in sym y ∙ f)))
     victim None i f = dest st.dest.walked i refl f
 
-lets_go : (graph : Graph) (op : Record) (n : ℕ) → next graph op ≡ Leaves n → LetsGo op n
+pub lets_go : (graph : Graph) (op : Record) (n : ℕ) → next graph op ≡ Leaves n → LetsGo op n
 lets_go graph op n m = go op.phase (by_text (form op.call)) op.stand refl refl m
   where
     no_end : (p : Phase) → op.phase ≡ p → ((r : Reply) → p ≡ Finished r → ⊥) → IsUnfinished op

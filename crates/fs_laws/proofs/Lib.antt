@@ -48,3 +48,12 @@ pub mod Changing
 pub mod MovingTrees
 pub mod TreesAsMaps
 pub mod Journals
+pub mod Sizes
+pub mod Resizing
+pub mod Takes
+pub mod Neat
+pub mod Closing
+pub mod Accounts
+pub mod CallMoves
+pub mod CallGraphs
+pub mod Below

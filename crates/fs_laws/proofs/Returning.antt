@@ -42,7 +42,7 @@ given_back old inv c op is (Some n) e =
     }
 
 -- a call that ends stands nowhere
-ends_nowhere : (graph : Graph) (op : Record) (r : Reply) → op.phase ≡ Finished r → next graph op ≡ Ends → op.stand ≡ None
+pub ends_nowhere : (graph : Graph) (op : Record) (r : Reply) → op.phase ≡ Finished r → next graph op ≡ Ends → op.stand ≡ None
 ends_nowhere graph op r ph m = go op.stand refl (ap (λ (p : Phase). next_by graph op (by_text (form op.call)) p op.stand) (sym ph) ∙ m)
   where
     go : (s : Option Stand) → op.stand ≡ s → next_by graph op (by_text (form op.call)) (Finished r) s ≡ Ends → op.stand ≡ None

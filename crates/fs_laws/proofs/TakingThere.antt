@@ -108,7 +108,7 @@ behind_held : (st : Stand) (w : Key) (node m : ℕ) → Holds st node → behind
 behind_held st [] node m h e = cc
 behind_held st (x ∷ w) node m h e = let z : node ≡ m = cc in subst (Holds st) z h
 
-forked_of : (graph : Graph) (n : ℕ) (p q : Key) (st : Stand) (remaining : Form) → remaining ≡ Rename p q → common (parent_of p) (parent_of q) ≡ [] → StandsWell graph n remaining st → Forked graph n p q st
+pub forked_of : (graph : Graph) (n : ℕ) (p q : Key) (st : Stand) (remaining : Form) → remaining ≡ Rename p q → common (parent_of p) (parent_of q) ≡ [] → StandsWell graph n remaining st → Forked graph n p q st
 forked_of graph n p q st remaining rem way well = subst (ForkedAt graph n p q st) way (subst (λ (f : Form). StandsWell graph n f st) rem well)
 
 well_of : (graph : Graph) (n : ℕ) (p q : Key) (st : Stand) (remaining : Form) → remaining ≡ Rename p q → common (parent_of p) (parent_of q) ≡ [] → Forked graph n p q st → StandsWell graph n remaining st

@@ -7,4 +7,5 @@ pub mod Stands
 pub mod Invariants
 pub mod Computing
 pub mod Examples
+pub mod Below
 pub mod Laws

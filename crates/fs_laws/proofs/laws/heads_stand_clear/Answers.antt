@@ -1,0 +1,5 @@
+use Rattle.fs_laws.proofs.Below.{nobody_between}
+use Rattle.fs_laws.proofs.laws.heads_stand_clear.Goals as goal
+
+pub returns : goal.returns
+returns c = nobody_between

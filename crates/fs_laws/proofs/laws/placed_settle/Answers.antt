@@ -1,0 +1,5 @@
+use Rattle.fs_laws.proofs.Below.{settles}
+use Rattle.fs_laws.proofs.laws.placed_settle.Goals as goal
+
+pub returns : goal.returns
+returns c = settles
