@@ -27,20 +27,19 @@ use Rattle.fs_core.proofs.Steps.{walks_phase}
 -- a walking call at a node
 pub record Walks (r : Running) (n : ℕ) : Type 0 where
   pub unplaced : r.place ≡ None
-  pub open : r.op.reply ≡ None
+  pub unanswered : r.op.reply ≡ None
   pub stand : Stand
   pub on : r.op.stand ≡ Some stand
   pub here : stand.node ≡ n
 
 pub walks_at : (r : Running) (n : ℕ) → position_of (Some r) ≡ Some n → Walks r n
-walks_at r n e = go r.place r.op.reply r.op.stand refl refl refl (
-    sym (ap (λ (o : Option ℕ). position_of (Some (record r { place = o }))) (refl {x = r.place})) ∙ e)
+walks_at r n e = go r.place r.op.reply r.op.stand refl refl refl e
   where
     go : (p : Option ℕ) (q : Option Reply) (s : Option Stand) → r.place ≡ p → r.op.reply ≡ q → r.op.stand ≡ s → position_of (Some (record { call = r.call; place = p; op = record r.op { reply = q; stand = s } })) ≡ Some n → Walks r n
     go (Some i) q s f g h j = cc
     go None (Some x) s f g h j = cc
     go None None None f g h j = cc
-    go None None (Some st) f g h j = record { unplaced = f; open = g; stand = st; on = h; here = let z : st.node ≡ n = cc in z }
+    go None None (Some st) f g h j = record { unplaced = f; unanswered = g; stand = st; on = h; here = let z : st.node ≡ n = cc in z }
 
 pub position_at : (r : Running) (st : Stand) → r.place ≡ None → r.op.reply ≡ None → r.op.stand ≡ Some st → position_of (Some r) ≡ Some st.node
 position_at r st e f g =
@@ -58,7 +57,7 @@ walks_by (Some i) (Some r) e = cc
 pub under_walks : (m : Machine) (s seat : ℕ) → Run (state_of m) → (u : IsUnder (kid m.store) m.seats s seat) → IsWalkingBelow (state_of m) s u.running.call
 under_walks m s seat run u =
     let w : Walks u.running u.node = walks_at u.running u.node u.position in
-    (record_of seat u.running.place u.running.op, call_on m seat u.running run u.on, walks_phase u.running w.unplaced w.open,
+    (record_of seat u.running.place u.running.op, call_on m seat u.running run u.on, walks_phase u.running w.unplaced w.unanswered,
      (w.stand, u.reached.0, w.on, u.reached.1 ∙ ap (λ (n : ℕ). Some n) (sym w.here)))
 
 pub record Found (m : Machine) (s d : ℕ) : Type 0 where
@@ -171,7 +170,7 @@ pub record Helps (m : Machine) (s seat : ℕ) : Type 0 where
   pub running : Running
   pub on : slice_get m.seats seat ≡ Some (Some running)
   pub unplaced : running.place ≡ None
-  pub open : running.op.reply ≡ None
+  pub unanswered : running.op.reply ≡ None
   pub chosen : IsChosen (state_of m) s running.call
 
 pub chosen_by : (m : Machine) (s seat : ℕ) → Run (state_of m) → HasLeast (kid m.store) m.seats s (length m.seats) (Some seat) → Helps m s seat
@@ -182,7 +181,7 @@ chosen_by m s seat run h =
       running = l.under.running;
       on = l.under.on;
       unplaced = w.unplaced;
-      open = w.open;
+      unanswered = w.unanswered;
       chosen = (lowest_walks m s seat run l, λ e low.
           let f : FoundLowest m s e = walks_lowest m s e run low in
           h.2 f.seat l.under.running.call e (under_within (kid m.store) m.seats s f.seat f.lowest.under) f.lowest (number_read m.seats seat (Some l.under.running) l.under.on) f.number);
