@@ -1,18 +1,16 @@
--- Ascents from a node to the root, which are shorter than the number of places, and whether they meet a node.
+-- Ascents from a node to the root, which are shorter than a bound of the numbers in use, and whether they meet a node.
 use Rattle.std.proofs.Common.{◌≡◌, ℕ, zero, suc, ◌+◌, ◌<◌, ◌≤◌, Bool, true, false, cond, eqb, List, [], ◌∷◌, ◌++◌, Option, Some, None, length, length-append, refl, sym, ap, ◌∙◌, arith, subst}
-use Rattle.std.specs.Prelude.{slice_get, option_map, ◌||◌, nat_eq}
+use Rattle.std.specs.Prelude.{◌||◌, nat_eq}
 use Rattle.std.specs.List.{AllByRecursion, IsDistinct, list_any}
-use Rattle.std.proofs.lemmas.Option.{slice_get_within}
 use Rattle.std.proofs.lemmas.Map.Steps.{length-le_from_distinct_below}
 use Rattle.fs_names.specs.Keys.{Key}
 use Rattle.fs_names.specs.Names.{Name}
 use Rattle.fs_names.specs.Shapes.{Shape, Dir}
-use Rattle.fs_nodes.specs.declared.node.Node.{Node}
 use Rattle.fs_nodes.specs.Graphs.{Graph, Kids, at, then_at, numbers, IsGraph}
-use Rattle.fs_nodes.specs.Places.{Places}
-use Rattle.fs_nodes.specs.Stores.{graph_of, shape, shape_with, names_in, content_of, room, IsUnlinked, IsParent}
+use Rattle.fs_nodes.specs.Stores.{IsUnlinked, IsParent}
 use Rattle.fs_laws.proofs.Walks.{eqb_true, at_from, at_before, at_child, then_some}
 use Rattle.fs_laws.proofs.Pairs.{Ends, ends, ends_same}
+use Rattle.fs_core.specs.Rooms.{AreBelow}
 use Rattle.fs_core.specs.Searches.{IsReached}
 
 -- no key is itself with more names
@@ -81,20 +79,12 @@ used_at graph is (x ∷ u) q e =
     let b : (m : ℕ) × (numbers graph d.front ≡ Some m) × (at graph.kid m (d.last ∷ []) ≡ Some q) = at_before graph.kid 0 q d.front (d.last ∷ []) f in
     is.to_used b.0 q d.last (sym (at_child graph.kid 0 b.0 d.front d.last b.1) ∙ f)
 
--- a number in use has a place
-pub used_within : (st : Places) (n : ℕ) (s : Shape) → shape st n ≡ Some s → n < room st
-used_within st n s e = go (slice_get st.places n) refl e
-  where
-    go : (o : Option (Option Node)) → slice_get st.places n ≡ o → option_map (shape_with (names_in st.places n)) (then_at o content_of) ≡ Some s → n < length st.places
-    go None f g = cc
-    go (Some p) f g = slice_get_within st.places n p f
-
--- the key of a node has fewer names than there are places
-pub key_within : (st : Places) → IsGraph (graph_of st) → (key : Key) (n : ℕ) → numbers (graph_of st) key ≡ Some n → length key < room st
-key_within st is key n e =
-    let l : length (path_from (graph_of st).kid (Some 0) key) ≤ room st = length-le_from_distinct_below (path_from (graph_of st).kid (Some 0) key) (room st) (distinct_path (graph_of st) is [] (Some 0) key refl)
-        (λ q f. let u : (u : Key) × (numbers (graph_of st) u ≡ Some q) = in_path (graph_of st).kid (Some 0) key q f in let s : (s : Shape) × (shape st q ≡ Some s) = used_at (graph_of st) is u.0 q u.1 in used_within st q s.0 s.1) in
-    let m : length (path_from (graph_of st).kid (Some 0) key) ≡ length key + 1 = length_path (graph_of st).kid (Some 0) key n e in
+-- the key of a node has fewer names than there are numbers below a bound
+pub key_within : (graph : Graph) (bound : ℕ) → IsGraph graph → AreBelow graph bound → (key : Key) (n : ℕ) → numbers graph key ≡ Some n → length key < bound
+key_within graph bound is below key n e =
+    let l : length (path_from graph.kid (Some 0) key) ≤ bound = length-le_from_distinct_below (path_from graph.kid (Some 0) key) bound (distinct_path graph is [] (Some 0) key refl)
+        (λ q f. let u : (u : Key) × (numbers graph u ≡ Some q) = in_path graph.kid (Some 0) key q f in let s : (s : Shape) × (graph.shape q ≡ Some s) = used_at graph is u.0 q u.1 in below q s.0 s.1) in
+    let m : length (path_from graph.kid (Some 0) key) ≡ length key + 1 = length_path graph.kid (Some 0) key n e in
     omega arith
 
 -- the ascent from a node has come to another one: what reaches the one reaches the other, and there are places left

@@ -4,9 +4,8 @@ use Rattle.std.specs.Prelude.{slice_get}
 use Rattle.fs_names.specs.Keys.{Key}
 use Rattle.fs_seq.specs.declared.reply.Reply.{Reply}
 use Rattle.fs_nodes.specs.Graphs.{Graph, Kids, at, numbers}
-use Rattle.fs_nodes.specs.Stores as nodes
 use Rattle.fs_nodes.specs.Stores.{graph_of, kid}
-use Rattle.fs_locks.specs.Holding as holders
+use Rattle.fs_locks.specs.Holding.{room}
 use Rattle.fs_ops.specs.Records.{Stand, Phase, Walking, Placed, Finished, Record}
 use Rattle.fs_ops.specs.Works.{Work, phase_of, record_of}
 use Rattle.fs_laws.specs.Invariants.{Invariant}
@@ -16,7 +15,7 @@ use Rattle.fs_laws.proofs.Headlines.{run_keeps}
 use Rattle.fs_laws.proofs.Walks.{at_from}
 use Rattle.fs_core.specs.declared.running.Running.{Running}
 use Rattle.fs_core.specs.Machines.{Machine, state_of, number_on, records}
-use Rattle.fs_core.specs.Rooms.{is_walking, IsKept}
+use Rattle.fs_core.specs.Rooms.{is_walking, AreBelow, IsKept}
 use Rattle.fs_core.specs.Searches.{position_if, position_of, IsUnder, IsAlone, IsLowestOn, HasLeast, CanSearch}
 use Rattle.fs_core.proofs.Below.{key_within}
 use Rattle.fs_core.proofs.SeatLemmas.{number_read, Comes, record_comes}
@@ -121,8 +120,8 @@ walks_lowest m s d run l =
         (subst (λ (n : ℕ). IsWalkingBelow (state_of m) n u.running.call) (sym w.here) (under_walks m f.under.node k run u))
 
 -- where no call is lowest, none is below: else one of them would be deepest
-pub none_below : (m : Machine) (s : ℕ) → Run (state_of m) → ((e : ℕ) → IsLowest (state_of m) s e → ⊥) → (d : ℕ) → IsWalkingBelow (state_of m) s d → ⊥
-none_below m s run none d below = go (nodes.room m.store) d below (omega arith)
+pub none_below : (m : Machine) (s : ℕ) → Run (state_of m) → AreBelow (graph_of m.store) (room m.holding) → ((e : ℕ) → IsLowest (state_of m) s e → ⊥) → (d : ℕ) → IsWalkingBelow (state_of m) s d → ⊥
+none_below m s run roomy none d below = go (room m.holding) d below (omega arith)
   where
     inv : Invariant (state_of m)
     inv = run_keeps (state_of m) run
@@ -139,9 +138,9 @@ none_below m s run none d below = go (nodes.room m.store) d below (omega arith)
         let l : length (inv.key e) ≡ length (inv.key d) + length (x ∷ key) = ap length k ∙ length-append (inv.key d) (x ∷ key) in
         let n : length (x ∷ key) ≡ length key + 1 = omega arith in
         omega (arith, l, n)
-    go : (fuel : ℕ) (d : ℕ) → IsWalkingBelow (state_of m) s d → nodes.room m.store ≤ length (inv.key d) + fuel → ⊥
+    go : (fuel : ℕ) (d : ℕ) → IsWalkingBelow (state_of m) s d → room m.holding ≤ length (inv.key d) + fuel → ⊥
     go zero d (op, is, phase, (st, key, on, at_key)) enough =
-        let l : length (inv.key d) < nodes.room m.store = key_within m.store inv.is_graph (inv.key d) st.node (here d op st is on) in absurd (omega (arith, l, enough))
+        let l : length (inv.key d) < room m.holding = key_within graph (room m.holding) inv.is_graph roomy (inv.key d) st.node (here d op st is on) in absurd (omega (arith, l, enough))
     go (suc fuel) d (op, is, phase, (st, key, on, at_key)) enough = none d ((op, is, phase, (st, key, on, at_key)), λ p other e is_p on_p differs (q, is_q, phase_q, (st_q, key_q, on_q, at_q)).
         let z : p ≡ op = same_record m d p op is_p is in
         let y : other ≡ st = same_stand op other st (sym (ap (λ (o : Record). o.stand) z) ∙ on_p) on in
@@ -150,7 +149,7 @@ none_below m s run none d below = go (nodes.room m.store) d below (omega arith)
         go fuel e (q, is_q, phase_q, (st_q, key ++ key_q, on_q, at_from graph.kid s st.node key key_q at_key ∙ reach)) (omega (arith, more, enough)))
 
 -- what a search needs
-pub can_search : (m : Machine) (b k p : ℕ) → IsKept m b k p → CanSearch m.store m.seats (holders.room m.holding)
+pub can_search : (m : Machine) (b k p : ℕ) → IsKept m b k p → CanSearch m.store m.seats (room m.holding)
 can_search m b k p kept = record {
   graph = inv.is_graph;
   within = kept.roomy;
@@ -187,7 +186,7 @@ chosen_by m s seat run h =
           h.2 f.seat l.under.running.call e (under_within (kid m.store) m.seats s f.seat f.lowest.under) f.lowest (number_read m.seats seat (Some l.under.running) l.under.on) f.number);
     }
 
-pub none_by : (m : Machine) (s : ℕ) → Run (state_of m) → HasLeast (kid m.store) m.seats s (length m.seats) None → NoneBelow (state_of m) (Some s)
-none_by m s run h = none_below m s run (λ e low.
+pub none_by : (m : Machine) (s : ℕ) → Run (state_of m) → AreBelow (graph_of m.store) (room m.holding) → HasLeast (kid m.store) m.seats s (length m.seats) None → NoneBelow (state_of m) (Some s)
+none_by m s run roomy h = none_below m s run roomy (λ e low.
     let f : FoundLowest m s e = walks_lowest m s e run low in
     h f.seat (under_within (kid m.store) m.seats s f.seat f.lowest.under) f.lowest)

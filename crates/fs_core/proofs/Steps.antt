@@ -1,11 +1,11 @@
 -- What each step of a core rests on, and what it leaves.
-use Rattle.std.proofs.Common.{◌≡◌, ℕ, zero, suc, ◌+◌, ◌-◌, ◌<◌, ◌≤◌, Bool, true, false, List, [], ◌∷◌, ◌++◌, Option, Some, None, length, refl, sym, ap, ◌∙◌, arith, subst}
+use Rattle.std.proofs.Common.{◌≡◌, ℕ, zero, suc, ◌+◌, ◌-◌, ◌<◌, ◌≤◌, Bool, true, false, cond, eqb, List, [], ◌∷◌, ◌++◌, Option, Some, None, length, refl, sym, ap, ◌∙◌, arith, subst}
 use Rattle.std.specs.Prelude.{slice_get, slice_set}
 use Rattle.std.proofs.lemmas.Option.{slice_get_within}
 use Rattle.fs_seq.specs.declared.reply.Reply.{Reply}
-use Rattle.fs_nodes.specs.Graphs.{Graph, set_at}
+use Rattle.fs_names.specs.Shapes.{Shape}
+use Rattle.fs_nodes.specs.Graphs.{Graph, set_at, released_in}
 use Rattle.fs_nodes.specs.Places.{Places}
-use Rattle.fs_nodes.specs.Stores as nodes
 use Rattle.fs_nodes.specs.Stores.{graph_of}
 use Rattle.fs_locks.specs.Holding as holders
 use Rattle.fs_locks.specs.Holding.{Holding, holder}
@@ -18,6 +18,10 @@ use Rattle.fs_ops.specs.Records.{Phase, Walking, Placed, Finished, Record, Recor
 use Rattle.fs_ops.specs.Works.{Work, phase_of, record_of, next_of, IsTook, IsLetGo, IsFinished, graph_after}
 use Rattle.fs_laws.specs.Books.{begins, commit_count}
 use Rattle.fs_laws.specs.States.{State, Moves, Step, Idle, Took, Busy, LetGo, Helped, Committed, CarriedOut, Returned, IsChosen, NoneBelow, Run, Stepping}
+use Rattle.fs_laws.specs.Invariants.{Invariant}
+use Rattle.fs_laws.proofs.Accounts.{run_accounts}
+use Rattle.fs_laws.proofs.Headlines.{run_keeps}
+use Rattle.fs_laws.proofs.Resizing.{finish_resizes}
 use Rattle.fs_core.specs.declared.running.Running.{Running}
 use Rattle.fs_core.specs.Machines.{Machine, state_of, number_on, records}
 use Rattle.fs_core.specs.Rooms.{is_walking, walking_at, walking, owed_at, owed, IsKept}
@@ -35,7 +39,7 @@ same_walking r w e = ap (λ (o : Option Reply). is_walking (record r { op = reco
 
 same_owed : (r : Running) (w : Work) (v : Option Running) → v ≡ Some (record r { op = w }) → w.reply ≡ r.op.reply → (owed_at v ≡ owed_at (Some r)) × (walking_at v ≡ walking_at (Some r))
 same_owed r w v is e =
-    (ap owed_at is ∙ ap (λ (b : Bool). Rattle.std.proofs.Common.cond b 2 1) (same_walking r w e), ap walking_at is ∙ ap (λ (b : Bool). Rattle.std.proofs.Common.cond b 1 0) (same_walking r w e))
+    (ap owed_at is ∙ ap (λ (b : Bool). cond b 2 1) (same_walking r w e), ap walking_at is ∙ ap (λ (b : Bool). cond b 1 0) (same_walking r w e))
 
 -- a take
 pub took_step : (m : Machine) (b k p seat : ℕ) (r : Running) (n : ℕ) → IsKept m b k p → slice_get m.seats seat ≡ Some (Some r) → next_of (graph_of m.store) r.op ≡ Takes n → holder m.holding n ≡ None
@@ -57,14 +61,30 @@ took_step m b k p seat r n kept on move free hs w v is_hs room took_it is = (ste
         (records_changed m.seats seat r (record r { op = w }) v on is refl (apart_of m kept.run) ∙ ap (λ (o : Record). set_at r.call (Some o) (records m.seats)) (took_it seat r.place))
         (numbers_changed m.seats seat r (record r { op = w }) v on (within_seats m seat r on) is refl))
 
+-- which numbers a change leaves in use
+fewer_released : (graph : Graph) (n q : ℕ) (t : Shape) → (released_in n graph).shape q ≡ Some t → (u : Shape) × (graph.shape q ≡ Some u)
+fewer_released graph n q t e = go (eqb q n) e
+  where
+    go : (b : Bool) → cond b None (graph.shape q) ≡ Some t → (u : Shape) × (graph.shape q ≡ Some u)
+    go true f = cc
+    go false f = (t, f)
+
+fewer_left : (graph : Graph) (b : Bool) (n q : ℕ) (t : Shape) → (releasing b n graph).shape q ≡ Some t → (u : Shape) × (graph.shape q ≡ Some u)
+fewer_left graph true n q t e = fewer_released graph n q t e
+fewer_left graph false n q t e = (t, e)
+
+fewer_unreserved : (graph : Graph) (o : Option ℕ) (q : ℕ) (t : Shape) → (unreserved o graph).shape q ≡ Some t → (u : Shape) × (graph.shape q ≡ Some u)
+fewer_unreserved graph None q t e = (t, e)
+fewer_unreserved graph (Some n) q t e = fewer_released graph n q t e
+
 -- a let go
 pub let_go_step : (m : Machine) (b k p seat : ℕ) (r : Running) (n : ℕ) → IsKept m b k p → slice_get m.seats seat ≡ Some (Some r) → next_of (graph_of m.store) r.op ≡ Leaves n
-    → (st : Places) (hs : Holding) (w : Work) (v : Option Running) → graph_of st ≡ releasing (is_removed r.op.removed n) n (graph_of m.store) → st.limit ≡ m.store.limit → nodes.room st ≡ nodes.room m.store
+    → (st : Places) (hs : Holding) (w : Work) (v : Option Running) → graph_of st ≡ releasing (is_removed r.op.removed n) n (graph_of m.store) → st.limit ≡ m.store.limit
     → holder hs ≡ set_at n None (holder m.holding) → holders.room hs ≡ holders.room m.holding → IsLetGo r.op n w → v ≡ Some (record r { op = w })
     → Step (state_of m) seat (LetGo n) (state_of (record m { store = st; holding = hs; seats = slice_set m.seats seat v })) × IsKept (record m { store = st; holding = hs; seats = slice_set m.seats seat v }) b k p
-let_go_step m b k p seat r n kept on move st hs w v graph limit room_st is_hs room left_it is = (step, record {
+let_go_step m b k p seat r n kept on move st hs w v graph limit is_hs room left_it is = (step, record {
   run = Stepping seat (LetGo n) _ kept.run step;
-  roomy = rw (room, room_st) kept.roomy;
+  roomy = λ q t e. rw room (let u : (u : Shape) × ((graph_of m.store).shape q ≡ Some u) = fewer_left (graph_of m.store) (is_removed r.op.removed n) n q t (ap (λ (g : Graph). g.shape q) (sym graph) ∙ e) in kept.roomy q u.0 u.1);
   begun_is = kept.begun_is;
   commits_is = kept.commits_is;
   within = omega (arith, walking_set m.seats seat (Some r) v on, same.1, kept.within);
@@ -135,13 +155,19 @@ helped_step m b k p seat r s kept on move unplaced other q on_other q_unplaced q
 graph_made : (m : Machine) (seat : ℕ) (r : Running) (st : Places) → graph_of st ≡ graph_after (graph_of m.store) r.op → graph_of st ≡ (finish (graph_of m.store) (record_of seat r.place r.op)).graph
 graph_made m seat r st e = e ∙ ap (λ (x : Rattle.fs_ops.specs.Finishes.Made). x.graph) (sym (finish_is (graph_of m.store) seat r.place r.op))
 
+fewer_made : (m : Machine) (seat : ℕ) (r : Running) → Run (state_of m) → slice_get m.seats seat ≡ Some (Some r) → (st : Places) → graph_of st ≡ graph_after (graph_of m.store) r.op → (q : ℕ) (t : Shape) → (graph_of st).shape q ≡ Some t → (u : Shape) × ((graph_of m.store).shape q ≡ Some u)
+fewer_made m seat r run on st graph q t e =
+    let inv : Invariant (state_of m) = run_keeps (state_of m) run in
+    (finish_resizes (graph_of m.store) inv.is_graph (run_accounts (state_of m) run).within (record_of seat r.place r.op) (inv.own r.call (record_of seat r.place r.op) (call_on m seat r run on)).well).to_old q t
+    (ap (λ (g : Graph). g.shape q) (sym (graph_made m seat r st graph)) ∙ e)
+
 -- a walking call that finishes
 pub committed_step : (m : Machine) (b k p seat : ℕ) (r : Running) (s : Option ℕ) → IsKept m b k p → slice_get m.seats seat ≡ Some (Some r) → next_of (graph_of m.store) r.op ≡ Finishes s → r.place ≡ None → NoneBelow (state_of m) s
-    → (st : Places) (w : Work) (v : Option Running) → graph_of st ≡ graph_after (graph_of m.store) r.op → st.limit ≡ m.store.limit → nodes.room st ≡ nodes.room m.store → IsFinished (graph_of m.store) r.op w → v ≡ Some (record r { op = w })
+    → (st : Places) (w : Work) (v : Option Running) → graph_of st ≡ graph_after (graph_of m.store) r.op → st.limit ≡ m.store.limit → IsFinished (graph_of m.store) r.op w → v ≡ Some (record r { op = w })
     → Step (state_of m) seat Committed (state_of (record m { store = st; seats = slice_set m.seats seat v; timeline = m.timeline ++ Commit r.call ∷ [] })) × IsKept (record m { store = st; seats = slice_set m.seats seat v; timeline = m.timeline ++ Commit r.call ∷ [] }) b (k + 1) (p - 1)
-committed_step m b k p seat r s kept on move unplaced none st w v graph limit room_st done is = (step, record {
+committed_step m b k p seat r s kept on move unplaced none st w v graph limit done is = (step, record {
   run = Stepping seat Committed _ kept.run step;
-  roomy = rw room_st kept.roomy;
+  roomy = λ q t e. (let u : (u : Shape) × ((graph_of m.store).shape q ≡ Some u) = fewer_made m seat r kept.run on st graph q t e in kept.roomy q u.0 u.1);
   begun_is = kept.begun_is ∙ sym (begins_commit m.timeline r.call);
   commits_is = ap (λ (x : ℕ). x + 1) kept.commits_is ∙ sym (commits_more m.timeline r.call);
   within = omega (arith, walking_set m.seats seat (Some r) v on, before.1, after.1, kept.within);
@@ -160,11 +186,11 @@ committed_step m b k p seat r s kept on move unplaced none st w v graph limit ro
 
 -- a placed call that finishes
 pub carried_step : (m : Machine) (b k p seat : ℕ) (r : Running) (s : Option ℕ) (i : ℕ) → IsKept m b k p → slice_get m.seats seat ≡ Some (Some r) → next_of (graph_of m.store) r.op ≡ Finishes s → r.place ≡ Some i
-    → (st : Places) (w : Work) (v : Option Running) → graph_of st ≡ graph_after (graph_of m.store) r.op → st.limit ≡ m.store.limit → nodes.room st ≡ nodes.room m.store → IsFinished (graph_of m.store) r.op w → v ≡ Some (record r { op = w })
+    → (st : Places) (w : Work) (v : Option Running) → graph_of st ≡ graph_after (graph_of m.store) r.op → st.limit ≡ m.store.limit → IsFinished (graph_of m.store) r.op w → v ≡ Some (record r { op = w })
     → Step (state_of m) seat CarriedOut (state_of (record m { store = st; seats = slice_set m.seats seat v })) × IsKept (record m { store = st; seats = slice_set m.seats seat v }) b k p
-carried_step m b k p seat r s i kept on move is_placed st w v graph limit room_st done is = (step, record {
+carried_step m b k p seat r s i kept on move is_placed st w v graph limit done is = (step, record {
   run = Stepping seat CarriedOut _ kept.run step;
-  roomy = rw room_st kept.roomy;
+  roomy = λ q t e. (let u : (u : Shape) × ((graph_of m.store).shape q ≡ Some u) = fewer_made m seat r kept.run on st graph q t e in kept.roomy q u.0 u.1);
   begun_is = kept.begun_is;
   commits_is = kept.commits_is;
   within = omega (arith, walking_set m.seats seat (Some r) v on, before.1, after.1, kept.within);
@@ -183,11 +209,11 @@ carried_step m b k p seat r s i kept on move is_placed st w v graph limit room_s
 
 -- a return
 pub returned_step : (m : Machine) (b k p seat : ℕ) (r : Running) (reply : Reply) → IsKept m b k p → slice_get m.seats seat ≡ Some (Some r) → next_of (graph_of m.store) r.op ≡ Ends → r.op.reply ≡ Some reply
-    → (st : Places) (v : Option Running) → graph_of st ≡ unreserved r.op.reserved (graph_of m.store) → st.limit ≡ m.store.limit → nodes.room st ≡ nodes.room m.store → v ≡ None
+    → (st : Places) (v : Option Running) → graph_of st ≡ unreserved r.op.reserved (graph_of m.store) → st.limit ≡ m.store.limit → v ≡ None
     → Step (state_of m) seat (Returned reply) (state_of (record m { store = st; seats = slice_set m.seats seat v; timeline = m.timeline ++ Return r.call reply ∷ [] })) × IsKept (record m { store = st; seats = slice_set m.seats seat v; timeline = m.timeline ++ Return r.call reply ∷ [] }) b k (p - 1)
-returned_step m b k p seat r reply kept on move replied st v graph limit room_st is = (step, record {
+returned_step m b k p seat r reply kept on move replied st v graph limit is = (step, record {
   run = Stepping seat (Returned reply) _ kept.run step;
-  roomy = rw room_st kept.roomy;
+  roomy = λ q t e. (let u : (u : Shape) × ((graph_of m.store).shape q ≡ Some u) = fewer_unreserved (graph_of m.store) r.op.reserved q t (ap (λ (g : Graph). g.shape q) (sym graph) ∙ e) in kept.roomy q u.0 u.1);
   begun_is = kept.begun_is ∙ sym (begins_return m.timeline r.call reply);
   commits_is = kept.commits_is ∙ sym (commits_return m.timeline r.call reply);
   within = omega (arith, walking_set m.seats seat (Some r) v on, before.1, after.1, kept.within);

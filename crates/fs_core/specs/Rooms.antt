@@ -1,7 +1,9 @@
 -- What a core keeps beside its state: counters, room for holders, and places for the entries that are owed.
-use Rattle.std.specs.Prelude.{ℕ, ◌≡◌, ◌+◌, ◌≤◌, Bool, ◌&&◌, is_none, if◌then◌else◌, List, [], ◌∷◌, Option, Some, None}
-use Rattle.fs_nodes.specs.Stores as nodes
-use Rattle.fs_locks.specs.Holding as holders
+use Rattle.std.specs.Prelude.{ℕ, ◌≡◌, ◌+◌, ◌<◌, ◌≤◌, Bool, ◌&&◌, is_none, if◌then◌else◌, List, [], ◌∷◌, Option, Some, None}
+use Rattle.fs_names.specs.Shapes.{Shape}
+use Rattle.fs_nodes.specs.Graphs.{Graph}
+use Rattle.fs_nodes.specs.Stores.{graph_of}
+use Rattle.fs_locks.specs.Holding.{room}
 use Rattle.fs_laws.specs.Books.{begins, commit_count}
 use Rattle.fs_laws.specs.States.{Run}
 use Rattle.fs_core.specs.declared.running.Running.{Running}
@@ -29,10 +31,14 @@ abbrev pub owed : List (Option Running) → ℕ
 owed [] = 0
 owed (slot ∷ seats) = owed_at slot + owed seats
 
--- a state that a run gives, a holder's place for each number with a node's place, exact counters, a place for each entry that is owed
+-- the numbers in use are below a bound
+abbrev pub AreBelow : Graph → ℕ → Type 0
+AreBelow graph bound = (n : ℕ) (shape : Shape) → graph.shape n ≡ Some shape → n < bound
+
+-- a state that a run gives, a holder's place for each number in use, exact counters, a place for each entry that is owed
 pub record IsKept (machine : Machine) (begun commits reserved : ℕ) : Type 0 where
   pub run : Run (state_of machine)
-  pub roomy : nodes.room machine.store ≤ holders.room machine.holding
+  pub roomy : AreBelow (graph_of machine.store) (room machine.holding)
   pub begun_is : begun ≡ begins machine.timeline
   pub commits_is : commits ≡ commit_count machine.timeline
   pub within : commits + walking machine.seats ≤ begun

@@ -3,10 +3,10 @@ use Rattle.std.specs.Prelude.{ℕ, ◌≡◌, ◌<◌, ◌≤◌, nat_lt, Bool, 
 use Rattle.fs_names.specs.Keys.{Key}
 use Rattle.fs_nodes.specs.Graphs.{Graph, Kids, at, numbers, IsGraph}
 use Rattle.fs_nodes.specs.Places.{Places}
-use Rattle.fs_nodes.specs.Stores.{graph_of, room}
+use Rattle.fs_nodes.specs.Stores.{graph_of}
 use Rattle.fs_core.specs.Machines.{number_on}
 use Rattle.fs_core.specs.declared.running.Running.{Running}
-use Rattle.fs_core.specs.Rooms.{is_walking}
+use Rattle.fs_core.specs.Rooms.{is_walking, AreBelow}
 
 -- a node is another one, or is reached from it
 abbrev pub IsReached : Kids → ℕ → ℕ → Type 0
@@ -56,5 +56,5 @@ IsRooted graph n = (key : Key) × (numbers graph key ≡ Some n)
 -- what a search needs: a graph with all its numbers below a bound, and each walking call at a node that is reached from the root
 pub record CanSearch (store : Places) (seats : List (Option Running)) (bound : ℕ) : Type 0 where
   pub graph : IsGraph (graph_of store)
-  pub within : room store ≤ bound
+  pub within : AreBelow (graph_of store) bound
   pub rooted : (seat n : ℕ) (slot : Option Running) → slice_get seats seat ≡ Some slot → position_of slot ≡ Some n → IsRooted (graph_of store) n

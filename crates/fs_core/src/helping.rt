@@ -2,8 +2,9 @@
 
 ghost use Rattle.std.specs.Prelude.{option_and_then, ◌+◌, ◌≡◌, ℕ, ◌<◌, ◌≤◌, ◌↔◌, IsTrue, IfSome, MatchOption, Some, None, length, slice_get};
 ghost use Rattle.fs_nodes.specs.Graphs.{IsGraph, numbers};
-ghost use Rattle.fs_nodes.specs.Stores.{graph_of, kid, room};
+ghost use Rattle.fs_nodes.specs.Stores.{graph_of, kid};
 ghost use Rattle.fs_core.specs.Searches.{IsReached, IsRooted, position_of, IsUnder, IsAlone, IsLowestOn, CanSearch, HasLeast, is_lesser};
+ghost use Rattle.fs_core.specs.Rooms.{AreBelow};
 ghost use Rattle.fs_core.specs.Machines.{number_of, number_on};
 ghost use Rattle.std.specs.Option.{ForSome};
 
@@ -15,7 +16,7 @@ use fs_nodes::{NodeNo, Store};
 fn is_reached(store: &Store, bound: usize, from: NodeNo, node: NodeNo) -> bool
     requires graph { IsGraph (graph_of store.now) }
     requires rooted { IsRooted (graph_of store.now) node }
-    requires bound { room store.now ≤ bound }
+    requires bound { AreBelow (graph_of store.now) bound }
     ensures { IsTrue result ↔ IsReached (kid store.now) from node }
 {
     let mut above = node;

@@ -1,12 +1,11 @@
-use Rattle.std.proofs.Common.{arith}
 use Rattle.fs_nodes.specs.Stores.{graph_of}
 use Rattle.fs_core.proofs.Below.{climbs_start, climbs_up, climbs_top, key_within, differ_by}
 use Rattle.fs_core.proofs.helping.is_reached.Goals as goal
 
 pub loop-step-init : goal.loop-step-init
 loop-step-init c =
-    let within = key_within c.args.store.now c.requires.graph c.requires.rooted.0 c.args.node c.requires.rooted.1 in
-    climbs_start (graph_of c.args.store.now) c.args.bound c.args.from c.args.node c.requires.rooted.0 c.requires.rooted.1 (omega (arith, within, c.requires.bound))
+    let within = key_within (graph_of c.args.store.now) c.args.bound c.requires.graph c.requires.bound c.requires.rooted.0 c.args.node c.requires.rooted.1 in
+    climbs_start (graph_of c.args.store.now) c.args.bound c.args.from c.args.node c.requires.rooted.0 c.requires.rooted.1 within
 
 pub returns-in-None : goal.returns-in-None
 returns-in-None c =
