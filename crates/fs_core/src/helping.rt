@@ -5,11 +5,10 @@ ghost use Rattle.fs_nodes.specs.Graphs.{IsGraph, numbers};
 ghost use Rattle.fs_nodes.specs.Stores.{graph_of, kid};
 ghost use Rattle.fs_core.specs.Searches.{IsReached, IsRooted, position_of, IsUnder, IsAlone, IsLowestOn, CanSearch, HasLeast, is_lesser};
 ghost use Rattle.fs_core.specs.Rooms.{AreBelow};
-ghost use Rattle.fs_core.specs.Machines.{number_of, number_on};
+ghost use Rattle.fs_core.specs.Machines.{number_on};
 ghost use Rattle.std.specs.Option.{ForSome};
 
-use crate::running::Running;
-use fs_names::CallNo;
+use crate::running::{number, Running};
 use fs_nodes::{NodeNo, Store};
 
 /// Whether a node is another one, or is reached from it; it is looked for upwards, through at most `bound` nodes.
@@ -76,16 +75,6 @@ fn is_lowest(store: &Store, seats: &[Option<Running>], bound: usize, node: NodeN
     match position(&seats[seat]) {
         Some(at) => is_reached(store, bound, node, at) && is_alone(store, seats, bound, at, seat),
         None => false,
-    }
-}
-
-/// The number of the call on a seat.
-fn number(slot: &Option<Running>) -> Option<CallNo>
-    ensures { result ≡ number_of slot.now }
-{
-    match slot {
-        Some(running) => Some(running.call),
-        None => None,
     }
 }
 
