@@ -5,3 +5,4 @@ pub mod Steps
 pub mod Below
 pub mod Searching
 pub mod Choosing
+pub mod Doing

@@ -99,7 +99,7 @@ let_go_step m b k p seat r n kept on move st hs w v graph limit is_hs room left_
         (numbers_changed m.seats seat r (record r { op = w }) v on (within_seats m seat r on) is refl))
 
 -- what is owed by a walking call, and by one that is not
-walks_owed : (r : Running) → r.place ≡ None → r.op.reply ≡ None → (owed_at (Some r) ≡ 2) × (walking_at (Some r) ≡ 1)
+pub walks_owed : (r : Running) → r.place ≡ None → r.op.reply ≡ None → (owed_at (Some r) ≡ 2) × (walking_at (Some r) ≡ 1)
 walks_owed r e f =
     (ap (λ (o : Option ℕ). owed_at (Some (record r { place = o }))) e ∙ ap (λ (o : Option Reply). owed_at (Some (record r { place = None; op = record r.op { reply = o } }))) f,
      ap (λ (o : Option ℕ). walking_at (Some (record r { place = o }))) e ∙ ap (λ (o : Option Reply). walking_at (Some (record r { place = None; op = record r.op { reply = o } }))) f)

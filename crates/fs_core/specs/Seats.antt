@@ -1,21 +1,21 @@
 -- Changes of what is on one seat, and moves of the call there.
 use Rattle.std.specs.Prelude.{ℕ, ◌≡◌, Option, Some, None, slice_get}
-use Rattle.fs_nodes.specs.Graphs.{Graph}
 use Rattle.fs_nodes.specs.Stores.{graph_of}
 use Rattle.fs_ops.specs.Moves.{Move}
-use Rattle.fs_ops.specs.Works.{Work, next_of, IsTook, IsLetGo, IsFinished}
+use Rattle.fs_ops.specs.Works.{Work, next_of}
 use Rattle.fs_core.specs.declared.running.Running.{Running}
 use Rattle.fs_core.specs.Machines.{Machine}
 
--- a call on a seat
-abbrev pub IsOn : Machine → ℕ → Running → Type 0
-IsOn machine seat running = slice_get machine.seats seat ≡ Some (Some running)
-
--- the call on a seat does this move next
-pub record MovesOn (machine : Machine) (seat : ℕ) (move : Move) : Type 0 where
+-- the call on a seat, its number, and its next move
+pub record MovesOn (machine : Machine) (seat call : ℕ) (move : Move) : Type 0 where
   pub running : Running
-  pub on : IsOn machine seat running
+  pub on : slice_get machine.seats seat ≡ Some (Some running)
+  pub number : running.call ≡ call
   pub next : next_of (graph_of machine.store) running.op ≡ move
+
+-- whether another call gave it its place
+abbrev pub PlacedOn : Machine → ℕ → Option ℕ → Type 0
+PlacedOn machine seat place = (running : Running) → slice_get machine.seats seat ≡ Some (Some running) → running.place ≡ place
 
 -- what may happen to the call on a seat: its work goes on
 abbrev pub Goes : (Work → Work → Type 0) → Option Running → Option Running → Type 0

@@ -1,11 +1,20 @@
-//! The core.
+//! The shared state of all calls, its begins and its steps.
 
-ghost use Rattle.std.specs.Prelude.{◌≡◌};
+ghost use Rattle.std.specs.Prelude.{◌≡◌, ◌<◌, ℕ, None, Some, length};
+ghost use Rattle.fs_ops.specs.Moves.{Takes, Leaves, Finishes, Ends};
+ghost use Rattle.fs_laws.specs.States.{Step, NoneBelow};
+ghost use Rattle.fs_core.specs.Answers.{stepped_as};
+ghost use Rattle.fs_core.specs.Machines.{state_of};
+ghost use Rattle.fs_core.specs.Seats.{MovesOn, PlacedOn};
 
-use crate::running::Running;
-use fs_journal::Timeline;
-use fs_locks::Holders;
-use fs_nodes::Store;
+use crate::answer::Stepped;
+use crate::helping::to_help;
+use crate::running::{self, Running};
+use fs_journal::{Entry, Timeline};
+use fs_locks::{HeldBy, Holders};
+use fs_names::{CallNo, SeatNo};
+use fs_nodes::{NodeNo, Store};
+use fs_ops::Move;
 use std::marker::Model;
 
 /// The nodes, who holds them, the calls under way and the timeline.
@@ -28,4 +37,68 @@ impl Model for Core {
     ghost view = { λ a. record { store = a.store; holding = a.holders; seats = a.seats.items; timeline = a.timeline.entries } };
 
     ghost invariant = { λ a. IsKept (record { store = a.store; holding = a.holders; seats = a.seats.items; timeline = a.timeline.entries }) a.begun a.commits a.timeline.reserved };
+}
+
+/// The call that holds a node.
+fn holder_by(held: HeldBy) -> CallNo
+    ensures { result ≡ held.0 }
+{
+    held.0
+}
+
+impl Core {
+    /// The call on a seat takes a node, unless another call holds it.
+    fn take(&mut self, seat: usize, call: CallNo, node: NodeNo) -> Stepped
+        requires seat { seat < length self.old.seats }
+        requires moves { MovesOn self.old seat call (Takes node) }
+        ensures step { Step (state_of self.old) seat (stepped_as result) (state_of self.new) }
+        ensures seats { length self.new.seats ≡ length self.old.seats }
+    {
+        match self.holders.take(node, call) {
+            Err(held) => Stepped::Busy(node, holder_by(held)),
+            Ok(()) => {
+                running::take(&mut self.seats[seat], node);
+                Stepped::Took(node)
+            }
+        }
+    }
+
+    /// The call on a seat lets a node go.
+    fn let_go(&mut self, seat: usize, call: CallNo, node: NodeNo) -> Stepped
+        requires seat { seat < length self.old.seats }
+        requires moves { MovesOn self.old seat call (Leaves node) }
+        ensures step { Step (state_of self.old) seat (stepped_as result) (state_of self.new) }
+        ensures seats { length self.new.seats ≡ length self.old.seats }
+    {
+        self.holders.let_go(node);
+        running::let_go(&mut self.seats[seat], node, &mut self.store);
+        Stepped::LetGo(node)
+    }
+
+    /// The walking call on a seat takes its place in the timeline, makes its change and fixes its reply.
+    fn commit(&mut self, seat: usize, call: CallNo, moved: Option<NodeNo>) -> Stepped
+        requires seat { seat < length self.old.seats }
+        requires moves { MovesOn self.old seat call (Finishes moved) }
+        requires walking { PlacedOn self.old seat None }
+        requires alone { NoneBelow (state_of self.old) moved }
+        ensures step { Step (state_of self.old) seat (stepped_as result) (state_of self.new) }
+        ensures seats { length self.new.seats ≡ length self.old.seats }
+    {
+        running::carry_out(&mut self.seats[seat], &mut self.store);
+        self.commits += 1;
+        self.timeline.push(Entry::Commit(call));
+        Stepped::Committed
+    }
+
+    /// The placed call on a seat makes its change and fixes its reply.
+    fn carry_out(&mut self, seat: usize, call: CallNo, moved: Option<NodeNo>, place: u64) -> Stepped
+        requires seat { seat < length self.old.seats }
+        requires moves { MovesOn self.old seat call (Finishes moved) }
+        requires placed { PlacedOn self.old seat (Some place) }
+        ensures step { Step (state_of self.old) seat (stepped_as result) (state_of self.new) }
+        ensures seats { length self.new.seats ≡ length self.old.seats }
+    {
+        running::carry_out(&mut self.seats[seat], &mut self.store);
+        Stepped::CarriedOut
+    }
 }
