@@ -1,6 +1,6 @@
 -- The call to help is the one that the machine chooses; where there is none, no walking call is below.
 use Rattle.std.proofs.Common.{◌≡◌, ℕ, zero, suc, ◌+◌, ◌<◌, ◌≤◌, Bool, true, false, List, [], ◌∷◌, ◌++◌, Option, Some, None, length, length-append, refl, sym, ap, ◌∙◌, arith, subst, ◌⊎◌, inl, inr}
-use Rattle.std.specs.Prelude.{slice_get}
+use Rattle.std.specs.Prelude.{slice_get, MatchOption}
 use Rattle.fs_names.specs.Keys.{Key}
 use Rattle.fs_seq.specs.declared.reply.Reply.{Reply}
 use Rattle.fs_nodes.specs.Graphs.{Graph, Kids, at, numbers}
@@ -14,6 +14,7 @@ use Rattle.fs_laws.specs.States.{State, IsBelow, IsWalkingBelow, IsLowest, IsCho
 use Rattle.fs_laws.proofs.Headlines.{run_keeps}
 use Rattle.fs_laws.proofs.Walks.{at_from}
 use Rattle.fs_core.specs.declared.running.Running.{Running}
+use Rattle.fs_core.specs.Helping.{Helps}
 use Rattle.fs_core.specs.Machines.{Machine, state_of, number_on, records}
 use Rattle.fs_core.specs.Rooms.{is_walking, AreBelow, IsKept}
 use Rattle.fs_core.specs.Searches.{position_if, position_of, IsUnder, IsAlone, IsLowestOn, HasLeast, CanSearch}
@@ -165,13 +166,6 @@ can_search m b k p kept = record {
         (inv.key r.call, (inv.kept.each r.call (record_of seat r.place r.op) w.stand (call_on m seat r kept.run e) w.on).located.here ∙ ap (λ (x : ℕ). Some x) w.here)
 
 -- what it finds
-pub record Helps (m : Machine) (s seat : ℕ) : Type 0 where
-  pub running : Running
-  pub on : slice_get m.seats seat ≡ Some (Some running)
-  pub unplaced : running.place ≡ None
-  pub unanswered : running.op.reply ≡ None
-  pub chosen : IsChosen (state_of m) s running.call
-
 pub chosen_by : (m : Machine) (s seat : ℕ) → Run (state_of m) → HasLeast (kid m.store) m.seats s (length m.seats) (Some seat) → Helps m s seat
 chosen_by m s seat run h =
     let l : IsLowestOn (kid m.store) m.seats s seat = h.1 in
@@ -190,3 +184,7 @@ pub none_by : (m : Machine) (s : ℕ) → Run (state_of m) → AreBelow (graph_o
 none_by m s run roomy h = none_below m s run roomy (λ e low.
     let f : FoundLowest m s e = walks_lowest m s e run low in
     h f.seat (under_within (kid m.store) m.seats s f.seat f.lowest.under) f.lowest)
+
+pub helps_by : (m : Machine) (b k p s : ℕ) → IsKept m b k p → (o : Option ℕ) → HasLeast (kid m.store) m.seats s (length m.seats) o → MatchOption o (NoneBelow (state_of m) (Some s)) (λ other. Helps m s other)
+helps_by m b k p s kept None h = none_by m s kept.run kept.roomy h
+helps_by m b k p s kept (Some seat) h = chosen_by m s seat kept.run h

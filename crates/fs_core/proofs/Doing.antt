@@ -1,5 +1,5 @@
 -- What a core's methods rest on and leave, by the call on a seat and what was read and written there.
-use Rattle.std.proofs.Common.{◌≡◌, ℕ, zero, suc, ◌+◌, ◌-◌, ◌<◌, ◌≤◌, Bool, true, false, List, [], ◌∷◌, ◌++◌, Option, Some, None, length, get_or, refl, sym, ap, ◌∙◌, arith, subst}
+use Rattle.std.proofs.Common.{◌≡◌, ℕ, zero, suc, ◌+◌, ◌-◌, ◌<◌, ◌≤◌, Bool, true, false, List, [], ◌∷◌, ◌++◌, Option, Some, None, length, get_or, Fits, w64, refl, sym, ap, ◌∙◌, arith, subst}
 use Rattle.std.specs.Prelude.{slice_get, slice_set, IsSome}
 use Rattle.std.proofs.lemmas.Option.{slice_get_within, slice_get_read}
 use Rattle.fs_names.specs.Shapes.{Shape}
@@ -20,9 +20,11 @@ use Rattle.fs_laws.proofs.CallGraphs.{spare_reserved, spare_removed, can_finish}
 use Rattle.fs_core.specs.declared.running.Running.{Running}
 use Rattle.fs_core.specs.Machines.{Machine, state_of, number_on, number_of, records}
 use Rattle.fs_core.specs.Rooms.{walking, walking_at, owed_at, owed, IsKept}
+use Rattle.fs_core.specs.Helping.{Helps, HelpsIf}
 use Rattle.fs_core.specs.Seats.{MovesOn, PlacedOn, Goes, placed}
+use Rattle.fs_core.proofs.SeatLemmas.{number_read}
 use Rattle.fs_core.proofs.States.{call_on, moves}
-use Rattle.fs_core.proofs.Steps.{took_step, let_go_step, committed_step, carried_step, returned_step}
+use Rattle.fs_core.proofs.Steps.{took_step, let_go_step, helped_step, committed_step, carried_step, returned_step}
 use Rattle.fs_core.proofs.WorkLemmas.{next_is, unfinished_at, finished_at}
 
 -- the call on a seat in the machine's state
@@ -111,6 +113,9 @@ push_place m b k p seat r kept on = let o : owed_at (Some r) ≤ owed m.seats = 
     positive true = omega arith
     positive false = omega arith
 
+pub moving_place : (m : Machine) (b k p seat call : ℕ) (move : Move) → IsKept m b k p → MovesOn m seat call move → 0 < p
+moving_place m b k p seat call move kept x = push_place m b k p seat x.running kept x.on
+
 pub commit_fits : (m : Machine) (b k p seat : ℕ) (r : Running) → IsKept m b k p → slice_get m.seats seat ≡ Some (Some r) → r.place ≡ None → r.op.reply ≡ None → k + 1 ≤ b
 commit_fits m b k p seat r kept on e f =
     let o : walking_at (Some r) ≤ walking m.seats = (owes m.seats seat (Some r) on).1 in
@@ -131,3 +136,115 @@ pub carried_kept : (m : Machine) (b k p seat call : ℕ) (s : Option ℕ) (i : �
 carried_kept m b k p seat call s i kept x is_placed st old new graph limit read goes =
     let g : (w : Work) × IsFinished (graph_of m.store) x.running.op w × (new ≡ Some (record x.running { op = w })) = goes_on (λ a c. IsFinished (graph_of m.store) a c) m seat call (Finishes s) old new x read goes in
     carried_step m b k p seat x.running s i kept x.on x.next (is_placed x.running x.on) st g.0 new (graph x.running (read_on m seat call (Finishes s) old x read)) limit g.1 g.2
+
+-- a commit's number fits, where the number of begins does
+pub finish_fits : (m : Machine) (b k p seat call : ℕ) (s : Option ℕ) → IsKept m b k p → (x : MovesOn m seat call (Finishes s)) → PlacedOn m seat None → k + 1 ≤ b
+finish_fits m b k p seat call s kept x unplaced = commit_fits m b k p seat x.running kept x.on (unplaced x.running x.on) (unfinished_at (graph_of m.store) x.running.op s x.next)
+
+-- what a helped call's place holds
+pub helped_kept : (m : Machine) (b k p seat call s : ℕ) → IsKept m b k p → (x : MovesOn m seat call (Finishes (Some s))) → PlacedOn m seat None → (other : ℕ) → Helps m s other
+    → (d : ℕ) (old new : Option Running) → old ≡ get_or m.seats other old → number_of old ≡ Some d → new ≡ placed old k
+    → Step (state_of m) seat (Helped d) (state_of (record m { seats = slice_set m.seats other new; timeline = m.timeline ++ Commit d ∷ [] })) × IsKept (record m { seats = slice_set m.seats other new; timeline = m.timeline ++ Commit d ∷ [] }) b (k + 1) (p - 1)
+helped_kept m b k p seat call s kept x unplaced other h d old new read is_d is_new =
+    let w : other < length m.seats = slice_get_within m.seats other (Some h.running) h.on in
+    let z : ◌≡◌ {A = Option (Option Running)} (Some old) (Some (Some h.running)) = sym (slice_get_read m.seats _ other old refl w read) ∙ h.on in
+    let y : old ≡ Some h.running = cc in
+    let v : ◌≡◌ {A = Option ℕ} (Some h.running.call) (Some d) = sym (ap number_of y) ∙ is_d in
+    let u : h.running.call ≡ d = cc in
+    subst (λ (c : ℕ). Step (state_of m) seat (Helped c) (state_of (record m { seats = slice_set m.seats other new; timeline = m.timeline ++ Commit c ∷ [] })) × IsKept (record m { seats = slice_set m.seats other new; timeline = m.timeline ++ Commit c ∷ [] }) b (k + 1) (p - 1)) u
+    (helped_step m b k p seat x.running s kept x.on x.next (unplaced x.running x.on) other h.running h.on h.unplaced h.unanswered h.chosen new (is_new ∙ ap (λ (o : Option Running). placed o k) y))
+
+pub help_fits : (m : Machine) (b k p s other : ℕ) → IsKept m b k p → Helps m s other → k + 1 ≤ b
+help_fits m b k p s other kept h = commit_fits m b k p other h.running kept h.on h.unplaced h.unanswered
+
+pub help_place : (m : Machine) (b k p s other : ℕ) → IsKept m b k p → Helps m s other → 0 < p
+help_place m b k p s other kept h = push_place m b k p other h.running kept h.on
+
+pub help_within : (m : Machine) (s other : ℕ) → Helps m s other → other < length m.seats
+help_within m s other h = slice_get_within m.seats other (Some h.running) h.on
+
+-- a return
+pub end_some : (m : Machine) (seat call : ℕ) (move : Move) (old : Option Running) → (x : MovesOn m seat call move) → old ≡ get_or m.seats seat old → IsSome old
+end_some m seat call move old x read = by old x.running (read_on m seat call move old x read)
+  where
+    by : (o : Option Running) (r : Running) → o ≡ Some r → IsSome o
+    by None r e = cc
+    by (Some q) r e = refl
+
+pub end_is : (m : Machine) (seat call : ℕ) (move : Move) (old : Option Running) (r : Running) → (x : MovesOn m seat call move) → old ≡ get_or m.seats seat old → old ≡ Some r → r ≡ x.running
+end_is m seat call move old r x read is = let z : ◌≡◌ {A = Option Running} (Some r) (Some x.running) = sym is ∙ read_on m seat call move old x read in cc
+
+pub end_fixed : (m : Machine) (seat call : ℕ) (old : Option Running) (r : Running) → (x : MovesOn m seat call Ends) → old ≡ get_or m.seats seat old → old ≡ Some r → IsSome r.op.reply
+end_fixed m seat call old r x read is =
+    let f : (q : Reply) × (x.running.op.reply ≡ Some q) = finished_at (graph_of m.store) x.running.op x.next in
+    by r.op.reply f.0 (ap (λ (q : Running). q.op.reply) (end_is m seat call Ends old r x read is) ∙ f.1)
+  where
+    by : (o : Option Reply) (q : Reply) → o ≡ Some q → IsSome o
+    by None q e = cc
+    by (Some p) q e = refl
+
+pub end_spare : (m : Machine) (b k p seat call : ℕ) (old : Option Running) (r : Running) → IsKept m b k p → (x : MovesOn m seat call Ends) → old ≡ get_or m.seats seat old → old ≡ Some r → SpareIf (graph_of m.store) r.op.reserved
+end_spare m b k p seat call old r kept x read is =
+    subst (λ (q : Running). SpareIf (graph_of m.store) q.op.reserved) (sym (end_is m seat call Ends old r x read is))
+    (spare_reserved (state_of m) call (record_of seat x.running.place x.running.op) kept.run (on_state m b k p seat call Ends kept x))
+
+pub returned_kept : (m : Machine) (b k p seat call : ℕ) → IsKept m b k p → (x : MovesOn m seat call Ends) → (st : Places) (old new : Option Running) (r : Running) (one two : Reply)
+    → old ≡ get_or m.seats seat old → old ≡ Some r → new ≡ None → graph_of st ≡ unreserved r.op.reserved (graph_of m.store) → st.limit ≡ m.store.limit → r.op.reply ≡ Some one → r.op.reply ≡ Some two
+    → Step (state_of m) seat (Returned two) (state_of (record m { store = st; seats = slice_set m.seats seat new; timeline = m.timeline ++ Return call one ∷ [] })) × IsKept (record m { store = st; seats = slice_set m.seats seat new; timeline = m.timeline ++ Return call one ∷ [] }) b k (p - 1)
+returned_kept m b k p seat call kept x st old new r one two read is is_new graph limit f g =
+    let z : ◌≡◌ {A = Option Reply} (Some two) (Some one) = sym g ∙ f in
+    let y : two ≡ one = cc in
+    let e : r ≡ x.running = end_is m seat call Ends old r x read is in
+    let on : slice_get m.seats seat ≡ Some (Some r) = x.on ∙ ap (λ (q : Running). Some (Some q)) (sym e) in
+    let ends : next_of (graph_of m.store) r.op ≡ Ends = ap (λ (q : Running). next_of (graph_of m.store) q.op) e ∙ x.next in
+    let n : r.call ≡ call = ap (λ (q : Running). q.call) e ∙ x.number in
+    subst (λ (c : ℕ). Step (state_of m) seat (Returned two) (state_of (record m { store = st; seats = slice_set m.seats seat new; timeline = m.timeline ++ Return c one ∷ [] })) × IsKept (record m { store = st; seats = slice_set m.seats seat new; timeline = m.timeline ++ Return c one ∷ [] }) b k (p - 1)) n
+    (subst (λ (q : Reply). Step (state_of m) seat (Returned two) (state_of (record m { store = st; seats = slice_set m.seats seat new; timeline = m.timeline ++ Return r.call q ∷ [] })) × IsKept (record m { store = st; seats = slice_set m.seats seat new; timeline = m.timeline ++ Return r.call q ∷ [] }) b k (p - 1)) y
+    (returned_step m b k p seat r two kept on ends g st new graph limit is_new))
+
+-- helping, by the node that the finish would move
+pub helped_any : (m : Machine) (b k p seat call : ℕ) (moved : Option ℕ) → IsKept m b k p → (x : MovesOn m seat call (Finishes moved)) → PlacedOn m seat None → (other : ℕ) → HelpsIf m moved other
+    → (d : ℕ) (old new : Option Running) → old ≡ get_or m.seats other old → number_of old ≡ Some d → new ≡ placed old k
+    → Step (state_of m) seat (Helped d) (state_of (record m { seats = slice_set m.seats other new; timeline = m.timeline ++ Commit d ∷ [] })) × IsKept (record m { seats = slice_set m.seats other new; timeline = m.timeline ++ Commit d ∷ [] }) b (k + 1) (p - 1)
+helped_any m b k p seat call None kept x unplaced other h d old new = absurd h
+helped_any m b k p seat call (Some s) kept x unplaced other h d old new = helped_kept m b k p seat call s kept x unplaced other h d old new
+
+pub help_any_fits : (m : Machine) (b k p : ℕ) (moved : Option ℕ) (other : ℕ) → IsKept m b k p → HelpsIf m moved other → k + 1 ≤ b
+help_any_fits m b k p None other kept h = absurd h
+help_any_fits m b k p (Some s) other kept h = help_fits m b k p s other kept h
+
+pub help_any_place : (m : Machine) (b k p : ℕ) (moved : Option ℕ) (other : ℕ) → IsKept m b k p → HelpsIf m moved other → 0 < p
+help_any_place m b k p None other kept h = absurd h
+help_any_place m b k p (Some s) other kept h = help_place m b k p s other kept h
+
+pub help_any_within : (m : Machine) (moved : Option ℕ) (other : ℕ) → HelpsIf m moved other → other < length m.seats
+help_any_within m None other h = absurd h
+help_any_within m (Some s) other h = help_within m s other h
+
+pub help_any_some : (m : Machine) (moved : Option ℕ) (other : ℕ) (old : Option Running) → HelpsIf m moved other → old ≡ get_or m.seats other old → IsSome old
+help_any_some m None other old h read = absurd h
+help_any_some m (Some s) other old h read =
+    let w : other < length m.seats = help_within m s other h in
+    let z : ◌≡◌ {A = Option (Option Running)} (Some old) (Some (Some h.running)) = sym (slice_get_read m.seats _ other old refl w read) ∙ h.on in
+    let y : old ≡ Some h.running = cc in
+    by old h.running y
+  where
+    by : (o : Option Running) (r : Running) → o ≡ Some r → IsSome o
+    by None r e = cc
+    by (Some q) r e = refl
+
+-- the call on a seat, by what was read there
+pub moves_at : (m : Machine) (seat : ℕ) (slot : Option Running) (r : Running) (move : Move) → seat < length m.seats → slot ≡ get_or m.seats seat slot → slot ≡ Some r → next_of (graph_of m.store) r.op ≡ move → MovesOn m seat r.call move
+moves_at m seat slot r move within read is e = record { running = r; on = slice_get_read m.seats _ seat slot refl within read ∙ ap (λ (o : Option Running). Some o) is; number = refl; next = e }
+
+pub placed_at : (m : Machine) (seat : ℕ) (slot : Option Running) (r : Running) (place : Option ℕ) → seat < length m.seats → slot ≡ get_or m.seats seat slot → slot ≡ Some r → r.place ≡ place → PlacedOn m seat place
+placed_at m seat slot r place within read is e q on =
+    let z : ◌≡◌ {A = Option (Option Running)} (Some (Some q)) (Some (Some r)) = sym on ∙ slice_get_read m.seats _ seat slot refl within read ∙ ap (λ (o : Option Running). Some o) is in
+    let y : q ≡ r = cc in ap (λ (x : Running). x.place) y ∙ e
+
+pub idle_step : (m : Machine) (seat : ℕ) (slot : Option Running) → seat < length m.seats → slot ≡ get_or m.seats seat slot → slot ≡ None → Step (state_of m) seat Idle (state_of m)
+idle_step m seat slot within read is = (number_read m.seats seat slot (slice_get_read m.seats _ seat slot refl within read) ∙ ap number_of is, refl)
+
+-- a number that is no greater than one that fits
+pub fits_below : (b n : ℕ) → n ≤ b → b < 18446744073709551616 → Fits w64 n
+fits_below b n less fits = omega (arith, less, fits)

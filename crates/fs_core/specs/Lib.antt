@@ -3,3 +3,4 @@ pub mod Answers
 pub mod Rooms
 pub mod Seats
 pub mod Searches
+pub mod Helping

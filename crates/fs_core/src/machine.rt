@@ -1,9 +1,10 @@
 //! The shared state of all calls, its begins and its steps.
 
-ghost use Rattle.std.specs.Prelude.{◌≡◌, ◌<◌, ℕ, None, Some, length};
+ghost use Rattle.std.specs.Prelude.{MatchOption, ◌≡◌, ◌<◌, ℕ, None, Some, length};
 ghost use Rattle.fs_ops.specs.Moves.{Takes, Leaves, Finishes, Ends};
 ghost use Rattle.fs_laws.specs.States.{Step, NoneBelow};
 ghost use Rattle.fs_core.specs.Answers.{stepped_as};
+ghost use Rattle.fs_core.specs.Helping.{HelpsIf};
 ghost use Rattle.fs_core.specs.Machines.{state_of};
 ghost use Rattle.fs_core.specs.Seats.{MovesOn, PlacedOn};
 
@@ -100,5 +101,67 @@ impl Core {
     {
         running::carry_out(&mut self.seats[seat], &mut self.store);
         Stepped::CarriedOut
+    }
+
+    /// The seat of the call to help before a finish that would move a node; none where no walking call is below it.
+    fn to_help(&self, moved: Option<NodeNo>) -> Option<usize>
+        ensures { MatchOption result (NoneBelow (state_of self.now) moved) (λ other. HelpsIf self.now moved other) }
+    {
+        match moved {
+            Some(node) => to_help(&self.store, &self.seats, self.holders.room(), node),
+            None => None,
+        }
+    }
+
+    /// The walking call on a seat helps a walking call below the node that it would move; where there is none, it commits.
+    fn help_or_commit(&mut self, seat: usize, call: CallNo, moved: Option<NodeNo>) -> Stepped
+        requires seat { seat < length self.old.seats }
+        requires moves { MovesOn self.old seat call (Finishes moved) }
+        requires walking { PlacedOn self.old seat None }
+        ensures step { Step (state_of self.old) seat (stepped_as result) (state_of self.new) }
+        ensures seats { length self.new.seats ≡ length self.old.seats }
+    {
+        let Some(other) = self.to_help(moved) else {
+            return self.commit(seat, call, moved);
+        };
+        let helped = running::give_place(&mut self.seats[other], self.commits);
+        self.commits += 1;
+        self.timeline.push(Entry::Commit(helped));
+        Stepped::Helped(helped)
+    }
+
+    /// The call on a seat returns, and is under way no more.
+    fn end(&mut self, seat: usize, call: CallNo) -> Stepped
+        requires seat { seat < length self.old.seats }
+        requires moves { MovesOn self.old seat call Ends }
+        ensures step { Step (state_of self.old) seat (stepped_as result) (state_of self.new) }
+        ensures seats { length self.new.seats ≡ length self.old.seats }
+    {
+        let running = running::take_out(&mut self.seats[seat]);
+        let (reply, again) = running.op.end(&mut self.store);
+        self.timeline.push(Entry::Return(call, reply));
+        Stepped::Returned(again)
+    }
+
+    /// The call on a seat does its next move.
+    pub fn step(&mut self, seat: SeatNo) -> Stepped
+        requires seat { seat < length self.old.seats }
+        ensures step { Step (state_of self.old) seat (stepped_as result) (state_of self.new) }
+        ensures seats { length self.new.seats ≡ length self.old.seats }
+    {
+        let at = seat.get() as usize;
+        let Some(running) = &self.seats[at] else {
+            return Stepped::Idle;
+        };
+        let (call, place) = (running.call, running.place);
+        match running.op.next(&self.store) {
+            Move::Take(node) => self.take(at, call, node),
+            Move::LetGo(node) => self.let_go(at, call, node),
+            Move::Finish(moved) => match place {
+                Some(place) => self.carry_out(at, call, moved, place),
+                None => self.help_or_commit(at, call, moved),
+            },
+            Move::Return => self.end(at, call),
+        }
     }
 }

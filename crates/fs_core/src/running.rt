@@ -65,13 +65,15 @@ pub fn carry_out(slot: &mut Option<Running>, store: &mut Store)
     }
 }
 
-/// The call on a seat gets its place, after this many commits.
-pub fn give_place(slot: &mut Option<Running>, commits: u64)
-    ensures { slot.new ≡ placed slot.old commits }
+/// The call on a seat gets its place, after this many commits; its number.
+pub fn give_place(slot: &mut Option<Running>, commits: u64) -> CallNo
+    requires { IsSome slot.old }
+    ensures slot { slot.new ≡ placed slot.old commits }
+    ensures call { number_of slot.old ≡ Some result }
 {
-    if let Some(running) = slot {
-        running.place = Some(commits);
-    }
+    let running = slot.as_mut().unwrap();
+    running.place = Some(commits);
+    running.call
 }
 
 /// A call begins on a seat.

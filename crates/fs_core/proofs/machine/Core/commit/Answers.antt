@@ -1,27 +1,24 @@
-use Rattle.std.proofs.Common.{rules, ◌≡◌, ◌<◌, ℕ, None, Some, length, ◌+◌, ◌-◌, ◌*◌, ◌≤◌, ◌/◌, ◌%◌, Bool, true, false, nat_eq, nat_lt, List, [], ◌∷◌, ◌++◌, slice_index_or, slice_set, bit_and, bit_or, Fits, w8, w32, w64, Bor, MutBor}
-use Rattle.fs_ops.specs.Moves.{Takes, Leaves, Finishes, Ends}
-use Rattle.fs_laws.specs.States.{Step, NoneBelow}
-use Rattle.fs_core.specs.Answers.{stepped_as}
-use Rattle.fs_core.specs.Machines.{state_of}
-use Rattle.fs_core.specs.Seats.{MovesOn, PlacedOn}
+use Rattle.std.proofs.Common.{◌+◌}
+use Rattle.fs_core.proofs.Doing.{finish_can, committed_kept, moving_place, finish_fits, fits_below}
 use Rattle.fs_core.proofs.machine.Core.commit.Goals as goal
 
--- src/machine.rt:87:9
 pub carry_out-requires-clause-can : goal.carry_out-requires-clause-can
-carry_out-requires-clause-can c = ?
+carry_out-requires-clause-can c = finish_can _ _ _ _ c.args.seat c.args.call c.args.moved c.self.invariant (rw (← c.self.view_is) at c.requires.moves) c.index_mut.result.now c.index_mut.ensures.value
 
--- src/machine.rt:88:9
 pub overflow_add-self : goal.overflow_add-self
-overflow_add-self c = ?
+overflow_add-self c =
+    let fits = finish_fits _ _ _ _ c.args.seat c.args.call c.args.moved c.self.invariant (rw (← c.self.view_is) at c.requires.moves) (rw (← c.self.view_is) at c.requires.walking) in
+    fits_below c.self.inside.begun (c.self.inside.commits + 1) fits c.self.ranges.1.1.1.0.1
 
--- src/machine.rt:89:9
 pub push-requires : goal.push-requires
-push-requires c = ?
+push-requires c = moving_place _ _ _ _ c.args.seat c.args.call _ c.self.invariant (rw (← c.self.view_is) at c.requires.moves)
 
--- src/machine.rt:79:5
 pub invariant_of-self : goal.invariant_of-self
-invariant_of-self c = ?
+invariant_of-self c = rw c.push.ensures
+    (committed_kept _ _ _ _ c.args.seat c.args.call c.args.moved c.self.invariant (rw (← c.self.view_is) at c.requires.moves) (rw (← c.self.view_is) at c.requires.walking) (rw (← c.self.view_is) at c.requires.alone)
+    c.carry_out.new.store c.index_mut.result.now c.carry_out.new.slot c.carry_out.ensures.graph c.carry_out.ensures.limit c.index_mut.ensures.value c.carry_out.ensures.slot).1
 
--- src/machine.rt:79:5
 pub returns-clause-step : goal.returns-clause-step
-returns-clause-step c = ?
+returns-clause-step c = rw (c.push.ensures, ← c.self.view_is)
+    (committed_kept _ _ _ _ c.args.seat c.args.call c.args.moved c.self.invariant (rw (← c.self.view_is) at c.requires.moves) (rw (← c.self.view_is) at c.requires.walking) (rw (← c.self.view_is) at c.requires.alone)
+    c.carry_out.new.store c.index_mut.result.now c.carry_out.new.slot c.carry_out.ensures.graph c.carry_out.ensures.limit c.index_mut.ensures.value c.carry_out.ensures.slot).0

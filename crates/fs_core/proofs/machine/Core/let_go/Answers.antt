@@ -1,23 +1,19 @@
-use Rattle.std.proofs.Common.{rules, ◌≡◌, ◌<◌, ℕ, None, Some, length, ◌+◌, ◌-◌, ◌*◌, ◌≤◌, ◌/◌, ◌%◌, Bool, true, false, nat_eq, nat_lt, List, [], ◌∷◌, ◌++◌, slice_index_or, slice_set, bit_and, bit_or, Fits, w8, w32, w64, Bor, MutBor}
-use Rattle.fs_ops.specs.Moves.{Takes, Leaves, Finishes, Ends}
-use Rattle.fs_laws.specs.States.{Step, NoneBelow}
-use Rattle.fs_core.specs.Answers.{stepped_as}
-use Rattle.fs_core.specs.Machines.{state_of}
-use Rattle.fs_core.specs.Seats.{MovesOn, PlacedOn}
+use Rattle.fs_core.proofs.Doing.{let_go_held, let_go_spare, left_kept}
 use Rattle.fs_core.proofs.machine.Core.let_go.Goals as goal
 
--- src/machine.rt:73:9
 pub let_go-requires : goal.let_go-requires
-let_go-requires c = ?
+let_go-requires c = let_go_held _ _ _ _ c.args.seat c.args.call c.args.node c.self.invariant (rw (← c.self.view_is) at c.requires.moves)
 
--- src/machine.rt:74:9
 pub let_go-requires-2 : goal.let_go-requires-2
-let_go-requires-2 c = ?
+let_go-requires-2 c =
+    record { spare = let_go_spare _ _ _ _ c.args.seat c.args.call c.args.node c.self.invariant (rw (← c.self.view_is) at c.requires.moves) c.index_mut.result.now c.index_mut.ensures.value }
 
--- src/machine.rt:67:5
 pub invariant_of-self : goal.invariant_of-self
-invariant_of-self c = ?
+invariant_of-self c =
+    (left_kept _ _ _ _ c.args.seat c.args.call c.args.node c.self.invariant (rw (← c.self.view_is) at c.requires.moves)
+    c.let_go-2.new.store c.let_go.new.self c.index_mut.result.now c.let_go-2.new.slot c.let_go-2.ensures.graph c.let_go-2.ensures.limit c.let_go.ensures.holders c.let_go.ensures.room c.index_mut.ensures.value c.let_go-2.ensures.slot).1
 
--- src/machine.rt:67:5
 pub returns-clause-step : goal.returns-clause-step
-returns-clause-step c = ?
+returns-clause-step c = rw (← c.self.view_is)
+    (left_kept _ _ _ _ c.args.seat c.args.call c.args.node c.self.invariant (rw (← c.self.view_is) at c.requires.moves)
+    c.let_go-2.new.store c.let_go.new.self c.index_mut.result.now c.let_go-2.new.slot c.let_go-2.ensures.graph c.let_go-2.ensures.limit c.let_go.ensures.holders c.let_go.ensures.room c.index_mut.ensures.value c.let_go-2.ensures.slot).0
