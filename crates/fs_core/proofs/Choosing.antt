@@ -188,3 +188,10 @@ none_by m s run roomy h = none_below m s run roomy (λ e low.
 pub helps_by : (m : Machine) (b k p s : ℕ) → IsKept m b k p → (o : Option ℕ) → HasLeast (kid m.store) m.seats s (length m.seats) o → MatchOption o (NoneBelow (state_of m) (Some s)) (λ other. Helps m s other)
 helps_by m b k p s kept None h = none_by m s kept.run kept.roomy h
 helps_by m b k p s kept (Some seat) h = chosen_by m s seat kept.run h
+
+-- the same of a list that the seats are
+pub search_by : (m : Machine) (b k p : ℕ) (seats : List (Option Running)) (bound : ℕ) → IsKept m b k p → seats ≡ m.seats → bound ≡ room m.holding → CanSearch m.store seats bound
+search_by m b k p seats bound kept e f = subst (λ (xs : List (Option Running)). CanSearch m.store xs bound) (sym e) (subst (λ (n : ℕ). CanSearch m.store m.seats n) (sym f) (can_search m b k p kept))
+
+pub helped_by : (m : Machine) (b k p s : ℕ) (seats : List (Option Running)) → IsKept m b k p → seats ≡ m.seats → (o : Option ℕ) → HasLeast (kid m.store) seats s (length seats) o → MatchOption o (NoneBelow (state_of m) (Some s)) (λ other. Helps m s other)
+helped_by m b k p s seats kept e o h = helps_by m b k p s kept o (subst (λ (xs : List (Option Running)). HasLeast (kid m.store) xs s (length xs) o) e h)

@@ -104,11 +104,11 @@ impl Core {
     }
 
     /// The seat of the call to help before a finish that would move a node; none where no walking call is below it.
-    fn to_help(&self, moved: Option<NodeNo>) -> Option<usize>
-        ensures { MatchOption result (NoneBelow (state_of self.now) moved) (λ other. HelpsIf self.now moved other) }
+    fn to_help(&self, moved: &Option<NodeNo>) -> Option<usize>
+        ensures { MatchOption result (NoneBelow (state_of self.now) moved.now) (λ other. HelpsIf self.now moved.now other) }
     {
         match moved {
-            Some(node) => to_help(&self.store, &self.seats, self.holders.room(), node),
+            Some(node) => to_help(&self.store, &self.seats, self.holders.room(), *node),
             None => None,
         }
     }
@@ -121,13 +121,15 @@ impl Core {
         ensures step { Step (state_of self.old) seat (stepped_as result) (state_of self.new) }
         ensures seats { length self.new.seats ≡ length self.old.seats }
     {
-        let Some(other) = self.to_help(moved) else {
-            return self.commit(seat, call, moved);
-        };
-        let helped = running::give_place(&mut self.seats[other], self.commits);
-        self.commits += 1;
-        self.timeline.push(Entry::Commit(helped));
-        Stepped::Helped(helped)
+        match self.to_help(&moved) {
+            Some(other) => {
+                let helped = running::give_place(&mut self.seats[other], self.commits);
+                self.commits += 1;
+                self.timeline.push(Entry::Commit(helped));
+                Stepped::Helped(helped)
+            }
+            None => self.commit(seat, call, moved),
+        }
     }
 
     /// The call on a seat returns, and is under way no more.
