@@ -140,6 +140,7 @@ impl Store {
     pub fn reserve(&mut self, kind: Kind) -> Result<NodeNo, NoNode>
         ensures free { IfOk result (λ node. shape self.old node ≡ None) }
         ensures within { IfOk result (λ node. node < self.old.limit) }
+        ensures not_root { IfOk result (λ node. node ≢ 0) }
         ensures graph { IfOk result (λ node. graph_of self.new ≡ reserved_in node (new_shape kind) (graph_of self.old)) }
         ensures full { (result ≡ Err NoNode.Full) ↔ (in_use self.old ≡ self.old.limit) }
         ensures memory { result ≡ Err NoNode.OutOfMemory → in_use self.old ≡ room self.old }
@@ -160,6 +161,7 @@ impl Store {
         requires { in_use self.old ≡ room self.old }
         ensures free { IfOk result (λ node. shape self.old node ≡ None) }
         ensures within { IfOk result (λ node. node < self.old.limit) }
+        ensures not_root { IfOk result (λ node. node ≢ 0) }
         ensures graph { IfOk result (λ node. graph_of self.new ≡ reserved_in node (new_shape kind) (graph_of self.old)) }
         ensures full { (result ≡ Err NoNode.Full) ↔ (in_use self.old ≡ self.old.limit) }
         ensures memory { result ≡ Err NoNode.OutOfMemory → in_use self.old ≡ room self.old }

@@ -1,0 +1,73 @@
+-- On numbers that are reserved.
+use Rattle.std.proofs.Common.{◌≡◌, ℕ, zero, suc, ◌+◌, ◌-◌, ◌<◌, Bool, true, false, cond, List, [], ◌∷◌, length, IsTrue, Option, Some, None, refl, sym, ap, subst, ◌∙◌, arith}
+use Rattle.std.specs.Prelude.{eqb, min, option_map, slice_get}
+use Rattle.fs_names.specs.Keys.{Key, parent_of, common_len}
+use Rattle.fs_names.specs.Names.{Name, same_name}
+use Rattle.fs_names.specs.Parts.{common}
+use Rattle.fs_names.specs.Shapes.{Shape, Dir, File, is_there, has_entries}
+use Rattle.fs_names.specs.declared.kind.Kind.{Kind}
+use Rattle.fs_names.specs.declared.kind.Kind.TheVariants as kinds
+use Rattle.fs_nodes.specs.declared.node.Link.{Link}
+use Rattle.fs_nodes.specs.declared.node.Node.{Node}
+use Rattle.fs_nodes.specs.Graphs.{Graph, then_at, reserved_in, released_in, set_at}
+use Rattle.fs_nodes.specs.Places.{Places}
+use Rattle.fs_nodes.specs.Stores.{graph_of, kid_in, shape_in, shape_with, names_in, link_of, content_of, new_shape, IsUnlinked}
+use Rattle.fs_nodes.proofs.GraphLemmas.{graph_by}
+use Rattle.fs_nodes.proofs.PlaceLemmas.{eqb_true, eqb_refl, kid_link, read_within}
+use Rattle.fs_seq.specs.declared.call.Call.{Call}
+use Rattle.fs_ops.specs.Begins.{IsReserved, Reserves, HasReserved}
+use Rattle.fs_ops.specs.Leaving.{unreserved}
+use Rattle.fs_ops.specs.Works.{Work, new_work, BegunAs, IsSpare, SpareIf}
+
+-- ---- numbers in use
+
+-- what an entry names is in use
+pub kid_used : (ps : List (Option Node)) (d : ℕ) (y : Name) (n : ℕ) → kid_in ps d y ≡ Some n → shape_in ps n ≡ None → ⊥
+kid_used ps d y n k free =
+    let link : Link = record { dir = d; name = y } in
+    let r = read_within link_of ps n link (kid_link ps d y n k) in
+    go r.0 r.1 r.2
+  where
+    go : (p : Option Node) → slice_get ps n ≡ Some p → link_of p ≡ Some (record { dir = d; name = y }) → ⊥
+    go None e l = absurd (cc)
+    go (Some node) e l =
+        let there : shape_in ps n ≡ Some (shape_with (names_in ps n) node.content) = ap (λ (o : Option (Option Node)). option_map (shape_with (names_in ps n)) (then_at o content_of)) e in
+        absurd (cc)
+
+no_entries : (kind : Kind) → has_entries (Some (new_shape kind)) ≡ false
+no_entries kinds.Dir = refl
+no_entries kinds.File = refl
+
+-- a number that was reserved may be given back
+pub reserved_spare : (store : Places) (kind : Kind) (n : ℕ) (new : Graph) → (graph_of store).shape n ≡ None → (n ≡ 0 → ⊥) → new ≡ reserved_in n (new_shape kind) (graph_of store) → IsSpare new n
+reserved_spare store kind n new free root e = subst (λ (g : Graph). IsSpare g n) (sym e) (record {
+  used = subst (λ (b : Bool). IsTrue (is_there (cond b (Some (new_shape kind)) ((graph_of store).shape n)))) (sym (eqb_refl n)) refl;
+  unlinked = λ d y k. kid_used store.places d y n k free;
+  not_root = root;
+  empty = ap (λ (b : Bool). has_entries (cond b (Some (new_shape kind)) ((graph_of store).shape n))) (eqb_refl n) ∙ no_entries kind;
+})
+
+-- and then the graph is as before
+given_back : (graph : Graph) (n : ℕ) (shape : Shape) → graph.shape n ≡ None → released_in n (reserved_in n shape graph) ≡ graph
+given_back graph n shape free = graph_by (λ d y. refl) (λ m. go m (eqb m n) refl)
+  where
+    go : (m : ℕ) (b : Bool) → eqb m n ≡ b → cond b None (cond b (Some shape) (graph.shape m)) ≡ graph.shape m
+    go m true e = sym (ap graph.shape (eqb_true m n e) ∙ free)
+    go m false e = refl
+
+pub undone : (graph : Graph) (limit : ℕ) (shape : Option Shape) (number : Option ℕ) (new : Graph) → Reserves graph limit shape number new → unreserved number new ≡ graph
+undone graph limit None None new h = h
+undone graph limit None (Some n) new h = absurd h
+undone graph limit (Some shape) None new h = absurd h
+undone graph limit (Some shape) (Some n) new h = ap (released_in n) h.added ∙ given_back graph n shape h.free
+
+-- a call that begins with what was reserved
+pub begun : (graph : Graph) (limit : ℕ) (call : Call) (shape : Option Shape) (number : Option ℕ) (op : Work) (new : Graph) → Reserves graph limit shape number new → op ≡ new_work call number → BegunAs graph limit call shape op new
+begun graph limit call None None op new h e = (e, h)
+begun graph limit call None (Some n) op new h e = absurd h
+begun graph limit call (Some shape) None op new h e = absurd h
+begun graph limit call (Some shape) (Some n) op new h e = (n, h.within, h.free, e, h.added)
+
+-- what holds of a number holds of the one that is some
+pub only : (n : ℕ) (P : ℕ → Type 0) → P n → (m : ℕ) → Some n ≡ Some m → P m
+only n P h m e = let k : n ≡ m = cc in subst P k h

@@ -1,0 +1,104 @@
+-- A finished call after a let go, told by counts of names.
+use Rattle.std.proofs.Common.{◌≡◌, ℕ, zero, suc, ◌+◌, ◌-◌, ◌≤◌, ◌<◌, nat_lt, ◌||◌, Bool, true, false, cond, [], ◌∷◌, length, take, drop, Option, Some, None, refl, sym, subst, ap, ◌∙◌, arith, length-drop}
+use Rattle.std.specs.Option.{is_some}
+use Rattle.std.proofs.lemmas.Bool.Decides.{nat_tests}
+use Rattle.fs_names.specs.Keys.{Key, parent_of}
+use Rattle.fs_names.specs.Names.{Name}
+use Rattle.fs_seq.specs.Forms.{form, Form, On, In, Rename}
+use Rattle.fs_seq.specs.declared.call.Call.{Call}
+use Rattle.fs_seq.specs.declared.reply.Reply.{Reply}
+use Rattle.fs_walk.specs.Ways.{Way, ForkWay, has_set_out}
+use Rattle.fs_ops.specs.Leaving.{is_removed, cleared}
+use Rattle.fs_ops.specs.Moves.{left_last, left_heads, left_stand}
+use Rattle.fs_ops.specs.Records.{Stand, Finished}
+use Rattle.fs_ops.specs.Steps.{way_after, fork_after}
+use Rattle.fs_ops.specs.Views.{Forks, IsForked, work_of, stand_of, stand_with, reply_of}
+use Rattle.fs_ops.specs.Works.{Work, IsLetGo}
+use Rattle.fs_ops.specs.declared.outcome.Outcome.{Outcome}
+use Rattle.fs_ops.specs.declared.outcome.Outcome.TheVariants.{Open, Fixed}
+use Rattle.fs_ops.proofs.KeyLemmas.{parent_length}
+
+-- names that a head has walked
+some_name : (k : ℕ) (l : Key) → suc k ≤ length l → (x : Name) × ((r : Key) × (l ≡ x ∷ r))
+some_name k [] h = absurd (omega arith)
+some_name k (x ∷ r) h = (x, (r, refl))
+
+some_taken : (k : ℕ) (l : Key) → suc k ≤ length l → (x : Name) × ((r : Key) × (take (suc k) l ≡ x ∷ r))
+some_taken k l h = let s : (x : Name) × ((r : Key) × (l ≡ x ∷ r)) = some_name k l h in (s.0, (take k s.1.0, ap (take (suc k)) s.1.1))
+
+pub head_taken : (names j : ℕ) (p : Key) → names + suc j ≤ length (parent_of p) → (x : Name) × ((r : Key) × (take (suc j) (drop names p) ≡ x ∷ r))
+head_taken names j p h =
+    let e : length (parent_of p) ≡ length p - 1 = parent_length p in
+    let l : length (drop names p) ≡ length p - names = length-drop names p in
+    some_taken j (drop names p) (omega arith)
+
+-- a fork lets the head that walked last go back; where none has walked, everything goes
+heads_left : (p q : Key) (way : Way) (n : ℕ) (fork : ForkWay) → IsForked p q way fork → way.node ≡ Some n
+    → stand_of (Rename p q) (way_after None (Some fork) way).node (way_after None (Some fork) way).behind (fork_after None (Some fork)) None ≡ left_last (stand_with (Rename p q) n way.behind (Some fork) None) None
+heads_left p q way n fork h at = by_dest fork.dest.walked refl
+  where
+    set_out : Bool → Type 0
+    set_out b = has_set_out fork ≡ b
+    by_source : (k : ℕ) → fork.dest.walked ≡ 0 → fork.source.walked ≡ k
+        → stand_of (Rename p q) (way_after None (Some fork) way).node (way_after None (Some fork) way).behind (fork_after None (Some fork)) None ≡ left_last (stand_with (Rename p q) n way.behind (Some fork) None) None
+    by_source zero d e = rw (d, e) refl
+    by_source (suc k) d e =
+        let r : (x : Name) × ((r : Key) × (take (suc k) (drop fork.names p) ≡ x ∷ r)) = head_taken fork.names k p (omega (arith, h.source)) in
+        let t : nat_lt 0 (suc k) ≡ true = grind (arith, nat_tests) in
+        let same : fork.node ≡ n = (let i : way.node ≡ Some fork.node = h.node in cc) in
+        rw (d, e, t, at, same, r.1.1) refl
+    by_dest : (k : ℕ) → fork.dest.walked ≡ k
+        → stand_of (Rename p q) (way_after None (Some fork) way).node (way_after None (Some fork) way).behind (fork_after None (Some fork)) None ≡ left_last (stand_with (Rename p q) n way.behind (Some fork) None) None
+    by_dest zero d = by_source fork.source.walked d refl
+    by_dest (suc k) d =
+        let r : (x : Name) × ((r : Key) × (take (suc k) (drop fork.names q) ≡ x ∷ r)) = head_taken fork.names k q (omega (arith, h.dest)) in
+        let t : nat_lt 0 (suc k) ≡ true = grind (arith, nat_tests) in
+        let o : has_set_out fork ≡ true = grind (arith, nat_tests) in
+        let same : fork.node ≡ n = (let i : way.node ≡ Some fork.node = h.node in cc) in
+        rw (o, d, t, at, same, r.1.1) refl
+
+-- the stand of a finished call after a let go
+stand_left_at : (call : Form) (way : Way) (fork : Option ForkWay) (victim : Option ℕ) (r : Reply) (n : ℕ) → Forks call way fork → way.node ≡ Some n
+    → stand_of call (way_after victim fork way).node (way_after victim fork way).behind (fork_after victim fork) None ≡ left_stand (Finished r) (Some (stand_with call n way.behind fork victim))
+stand_left_at call way None (Some v) r n h at = rw at refl
+stand_left_at call way (Some fork) (Some v) r n h at = rw at refl
+stand_left_at call way None None r n h at = refl
+stand_left_at (Rename p q) way (Some fork) None r n h at = heads_left p q way n fork h at
+stand_left_at (On c p) way (Some fork) None r n h at = absurd h
+stand_left_at (In c p) way (Some fork) None r n h at = absurd h
+
+way_of_none : (victim : Option ℕ) (fork : Option ForkWay) (way : Way) → way.node ≡ None → (way_after victim fork way).node ≡ None
+way_of_none (Some v) fork way e = e
+way_of_none None None way e = refl
+way_of_none None (Some fork) way e = by (has_set_out fork) refl
+  where
+    by : (b : Bool) → has_set_out fork ≡ b → (way_after None (Some fork) way).node ≡ None
+    by true t = rw t e
+    by false t = rw t refl
+
+stand_left : (call : Form) (way : Way) (fork : Option ForkWay) (victim : Option ℕ) (r : Reply) → Forks call way fork
+    → stand_of call (way_after victim fork way).node (way_after victim fork way).behind (fork_after victim fork) None ≡ left_stand (Finished r) (stand_of call way.node way.behind fork victim)
+stand_left call way fork victim r h = by way.node refl
+  where
+    by : (o : Option ℕ) → way.node ≡ o → stand_of call (way_after victim fork way).node (way_after victim fork way).behind (fork_after victim fork) None ≡ left_stand (Finished r) (stand_of call way.node way.behind fork victim)
+    by None e = rw (way_of_none victim fork way e, e) refl
+    by (Some n) e = subst (λ (o : Option ℕ). stand_of call (way_after victim fork way).node (way_after victim fork way).behind (fork_after victim fork) None ≡ left_stand (Finished r) (stand_of call o way.behind fork victim)) (sym e) (stand_left_at call way fork victim r n h e)
+
+walked_after : (victim : Option ℕ) (fork : Option ForkWay) (way : Way) → (way_after victim fork way).walked ≡ way.walked
+walked_after (Some v) fork way = refl
+walked_after None None way = refl
+walked_after None (Some fork) way = by (has_set_out fork) refl
+  where
+    by : (b : Bool) → has_set_out fork ≡ b → (way_after None (Some fork) way).walked ≡ way.walked
+    by true t = rw t refl
+    by false t = rw t refl
+
+-- a finished call lets go of what it took last
+pub last_left : (call : Call) (way : Way) (fork : Option ForkWay) (victim reserved removed : Option ℕ) (outcome : Outcome) (n : ℕ) → Forks (form call) way fork → is_some (reply_of outcome) ≡ true
+    → IsLetGo (work_of call way fork victim reserved removed outcome) n (work_of call (way_after victim fork way) (fork_after victim fork) None reserved (cleared (is_removed removed n) removed) outcome)
+last_left call way fork victim reserved removed (Open prepared) n h fixed seat place = absurd (cc)
+last_left call way fork victim reserved removed (Fixed r) n h fixed seat place =
+    rw (walked_after victim fork way, stand_left (form call) way fork victim r h) refl
+
+pub left_as : (old old_seen new new_seen : Work) (n : ℕ) → old ≡ old_seen → new ≡ new_seen → IsLetGo old n new → IsLetGo old_seen n new_seen
+left_as old old_seen new new_seen n e f h seat place = rw (← e, ← f) (h seat place)

@@ -1,0 +1,199 @@
+-- A call after a take, told by counts of names.
+use Rattle.std.proofs.Common.{◌≡◌, ℕ, zero, suc, ◌+◌, ◌-◌, ◌≤◌, ◌<◌, nat_lt, Bool, true, false, cond, [], ◌∷◌, ◌++◌, length, take, drop, slice_get, Option, Some, None, refl, sym, ap, ◌∙◌, arith, add-one}
+use Rattle.std.proofs.lemmas.Option.{slice_get_past, slice_get_within}
+use Rattle.std.proofs.lemmas.Bool.Decides.{nat_tests}
+use Rattle.fs_names.specs.Keys.{Key, parent_of}
+use Rattle.fs_names.specs.Names.{Name, same_name}
+use Rattle.fs_names.specs.Parts.{left, common}
+use Rattle.fs_seq.specs.Forms.{form, Form, On, In, Rename}
+use Rattle.fs_seq.specs.declared.call.Call.{Call}
+use Rattle.fs_walk.specs.declared.head.Head as count
+use Rattle.fs_walk.specs.Ways as ways
+use Rattle.fs_walk.specs.Ways.{Way, ForkWay, head_name, way_took, may_take, fork_took, has_arrived}
+use Rattle.fs_ops.specs.Moves.{target, inner, behind_of, head_took, source_took, target_took, took_by}
+use Rattle.fs_ops.specs.Records.{Stand, Record, stand_at}
+use Rattle.fs_ops.specs.Views.{first_path, dropped, head_of, stand_with, work_of, Forks, IsForked}
+use Rattle.fs_ops.specs.Steps.{started, TakesTo}
+use Rattle.fs_ops.specs.Works.{Work, IsTook, record_of}
+use Rattle.fs_ops.specs.declared.outcome.Outcome.{Outcome}
+use Rattle.fs_ops.proofs.KeyLemmas.{left_take, parent_drop, drop_get, tail_drop, target_drop, target_take, take_get}
+use Rattle.fs_ops.proofs.WantLemmas.{left_head}
+
+-- with a name ahead, and without one
+pub ahead_some : (l : Key) (k : ℕ) (x : Name) → slice_get l k ≡ Some x → drop k l ≡ x ∷ drop (suc k) l
+ahead_some [] k x e = absurd (cc)
+ahead_some (y ∷ l) zero x e = let s : y ≡ x = cc in ap (λ (z : Name). z ∷ l) s
+ahead_some (y ∷ l) (suc k) x e = ahead_some l k x e
+
+pub ahead_none : (l : Key) (k : ℕ) → slice_get l k ≡ None → drop k l ≡ []
+ahead_none [] zero e = refl
+ahead_none [] (suc k) e = refl
+ahead_none (y ∷ l) zero e = absurd (cc)
+ahead_none (y ∷ l) (suc k) e = ahead_none l k e
+
+within_some : (l : Key) (k : ℕ) → k < length l → (x : Name) × (slice_get l k ≡ Some x)
+within_some [] k h = absurd (omega arith)
+within_some (x ∷ l) zero h = (x, refl)
+within_some (x ∷ l) (suc k) h = within_some l k (omega arith)
+
+take_more_suc : (l : Key) (k : ℕ) (x : Name) → slice_get l k ≡ Some x → take (suc k) l ≡ take k l ++ x ∷ []
+take_more_suc [] k x e = absurd (cc)
+take_more_suc (y ∷ l) zero x e = let s : y ≡ x = cc in ap (λ (z : Name). z ∷ []) s
+take_more_suc (y ∷ l) (suc k) x e = ap (λ (z : Key). y ∷ z) (take_more_suc l k x e)
+
+take_more : (l : Key) (k : ℕ) (x : Name) → slice_get l k ≡ Some x → take (k + 1) l ≡ take k l ++ x ∷ []
+take_more l k x e = rw add-one (take_more_suc l k x e)
+
+parent_some : (p : Key) (i : ℕ) (x : Name) → slice_get (parent_of p) i ≡ Some x → slice_get p i ≡ Some x
+parent_some [] i x e = absurd (cc)
+parent_some (y ∷ []) i x e = absurd (cc)
+parent_some (y ∷ z ∷ p) zero x e = e
+parent_some (y ∷ z ∷ p) (suc i) x e = parent_some (z ∷ p) i x e
+
+inner_dropped : (k : ℕ) (call : Form) → inner (dropped k call) ≡ dropped (k + 1) call
+inner_dropped k (On c p) = ap (On c) (tail_drop k p)
+inner_dropped k (In c p) = ap (In c) (tail_drop k p)
+inner_dropped k (Rename p q) = rw (tail_drop k p, tail_drop k q) refl
+
+-- the root is taken
+pub root_took : (call : Call) (way : Way) (fork : Option ForkWay) (victim reserved removed : Option ℕ) (outcome : Outcome) (n : ℕ) → way.node ≡ None
+    → IsTook (work_of call way fork victim reserved removed outcome) n (work_of call (way_took way n) None None reserved removed outcome)
+root_took call way fork victim reserved removed outcome n e seat place = rw e refl
+
+-- where a stand is
+pub stand_node : (call : Form) (n : ℕ) (behind : Option ℕ) (fork : Option ForkWay) (victim : Option ℕ) → (stand_with call n behind fork victim).node ≡ n
+stand_node call n behind None victim = refl
+stand_node call n behind (Some f) victim = refl
+
+-- a name further
+step_by : (call : Call) (way : Way) (fork : Option ForkWay) (victim reserved removed : Option ℕ) (outcome : Outcome) (n m : ℕ) (x : Name) (l : Key) → way.node ≡ Some m
+    → target (dropped way.walked (form call)) ≡ x ∷ l → take (way.walked + 1) (first_path (form call)) ≡ take way.walked (first_path (form call)) ++ x ∷ []
+    → IsTook (work_of call way fork victim reserved removed outcome) n (work_of call (way_took way n) None None reserved removed outcome)
+step_by call way fork victim reserved removed outcome n m x l at rest more seat place = rw (at, rest, more, inner_dropped way.walked (form call), stand_node (form call) m way.behind fork victim) refl
+
+pub step_took : (call : Call) (way : Way) (fork : Option ForkWay) (victim reserved removed : Option ℕ) (outcome : Outcome) (n m : ℕ) → way.node ≡ Some m → way.names ≡ length (target (form call)) → way.walked < way.names
+    → IsTook (work_of call way fork victim reserved removed outcome) n (work_of call (way_took way n) None None reserved removed outcome)
+step_took call way fork victim reserved removed outcome n m at names less =
+    let k = way.walked in
+    let name : (x : Name) × (slice_get (target (form call)) k ≡ Some x) = within_some (target (form call)) k (omega arith) in
+    let rest : target (dropped k (form call)) ≡ name.0 ∷ drop (suc k) (target (form call)) = target_drop k (form call) (omega arith) ∙ ahead_some (target (form call)) k name.0 name.1 in
+    let whole : slice_get (first_path (form call)) k ≡ Some name.0 = sym (take_get (length (target (form call))) k (first_path (form call)) (omega arith)) ∙ (ap (λ (l : Key). slice_get l k) (target_take (form call)) ∙ name.1) in
+    step_by call way fork victim reserved removed outcome n m name.0 (drop (suc k) (target (form call))) at rest (take_more (first_path (form call)) k name.0 whole)
+
+-- at the target
+pub arrived_took : (call : Call) (way new : Way) (fork fork_new : Option ForkWay) (victim victim_new reserved removed : Option ℕ) (outcome : Outcome) (n m : ℕ) → way.node ≡ Some m → way.names ≡ length (target (form call)) → way.walked ≡ way.names → new ≡ way
+    → target_took (dropped way.walked (form call)) (stand_with (form call) m way.behind fork victim) n ≡ stand_with (form call) m way.behind fork_new victim_new
+    → IsTook (work_of call way fork victim reserved removed outcome) n (work_of call new fork_new victim_new reserved removed outcome)
+arrived_took call way new fork fork_new victim victim_new reserved removed outcome n m at names all same stands seat place =
+    let rest : target (dropped way.walked (form call)) ≡ [] = target_drop way.walked (form call) (omega arith) ∙ ahead_none (target (form call)) way.walked (slice_get_past (target (form call)) way.walked (omega arith)) in
+    rw (same, at, rest, stands) refl
+
+-- a head that steps
+behind_is : (l : Key) (k n : ℕ) (x : Name) → slice_get l k ≡ Some x → behind_of (take k l) n ≡ cond (nat_lt 0 k) (Some n) None
+behind_is [] k n x e = absurd (cc)
+behind_is (y ∷ l) zero n x e = refl
+behind_is (y ∷ l) (suc k) n x e = let t : nat_lt 0 (suc k) ≡ true = grind (arith, nat_tests) in rw t refl
+
+head_stepped : (p : Key) (names : ℕ) (head : count.Head) (n : ℕ) (x : Name) → slice_get (parent_of p) (names + head.walked) ≡ Some x → head_took (head_of p names head) x n ≡ head_of p names (ways.head_took head n)
+head_stepped p names head n x e =
+    let at : slice_get (drop names p) head.walked ≡ Some x = drop_get names head.walked p ∙ parent_some p (names + head.walked) x e in
+    rw (take_more (drop names p) head.walked x at, behind_is (drop names p) head.walked head.node x at) refl
+
+-- the heads of a rename after a take
+pub heads_took : (p q : Key) (n m : ℕ) (behind : Option ℕ) (fork : ForkWay) (victim : Option ℕ) → fork.names + fork.source.walked ≤ length (parent_of p) → fork.names + fork.dest.walked ≤ length (parent_of q)
+    → target_took (dropped fork.names (Rename p q)) (stand_with (Rename p q) m behind (Some fork) victim) n ≡ stand_with (Rename p q) m behind (Some (fork_took p q fork n)) (cond (has_arrived p q fork) (Some n) victim)
+heads_took p q n m behind fork victim hs hd =
+    rw (left_head fork.names fork.source.walked p hs, left_head fork.names fork.dest.walked q hd) (by_source (head_name p fork.names fork.source) refl)
+  where
+    names : (r : Key) (head : count.Head) → slice_get (parent_of (drop fork.names r)) head.walked ≡ head_name r fork.names head
+    names r head = ap (λ (l : Key). slice_get l head.walked) (parent_drop fork.names r) ∙ drop_get fork.names head.walked (parent_of r)
+    by_dest : (o : Option Name) → head_name q fork.names fork.dest ≡ o → head_name p fork.names fork.source ≡ None
+        → source_took (stand_with (Rename p q) m behind (Some fork) victim) (drop fork.source.walked (parent_of (drop fork.names p))) (drop fork.dest.walked (parent_of (drop fork.names q))) n
+            ≡ stand_with (Rename p q) m behind (Some (fork_took p q fork n)) (cond (has_arrived p q fork) (Some n) victim)
+    by_dest None e f = rw (ahead_none (parent_of (drop fork.names p)) fork.source.walked (names p fork.source ∙ f), ahead_none (parent_of (drop fork.names q)) fork.dest.walked (names q fork.dest ∙ e), e, f) refl
+    by_dest (Some x) e f =
+        rw (ahead_none (parent_of (drop fork.names p)) fork.source.walked (names p fork.source ∙ f), ahead_some (parent_of (drop fork.names q)) fork.dest.walked x (names q fork.dest ∙ e), head_stepped q fork.names fork.dest n x e, e, f) refl
+    by_source : (o : Option Name) → head_name p fork.names fork.source ≡ o
+        → source_took (stand_with (Rename p q) m behind (Some fork) victim) (drop fork.source.walked (parent_of (drop fork.names p))) (drop fork.dest.walked (parent_of (drop fork.names q))) n
+            ≡ stand_with (Rename p q) m behind (Some (fork_took p q fork n)) (cond (has_arrived p q fork) (Some n) victim)
+    by_source None e = by_dest (head_name q fork.names fork.dest) refl e
+    by_source (Some x) e = rw (ahead_some (parent_of (drop fork.names p)) fork.source.walked x (names p fork.source ∙ e), head_stepped p fork.names fork.source n x e, e) refl
+
+-- the heads of a rename set out from its common directory
+pub started_stand : (call : Form) (n names : ℕ) (behind : Option ℕ) (fork : Option ForkWay) (victim : Option ℕ) → stand_with call n behind fork victim ≡ stand_with call n behind (Some (started fork n names)) victim
+started_stand call n names behind None victim = refl
+started_stand call n names behind (Some fork) victim = refl
+
+pub common_short : (a b : Key) → (length (common a b) ≤ length a) × (length (common a b) ≤ length b)
+common_short [] b = (omega arith, omega arith)
+common_short (x ∷ a) [] = (omega arith, omega arith)
+common_short (x ∷ a) (y ∷ b) = go (same_name x y) (common_short a b)
+  where
+    go : (s : Bool) → (length (common a b) ≤ length a) × (length (common a b) ≤ length b) → (length (cond s (x ∷ common a b) []) ≤ suc (length a)) × (length (cond s (x ∷ common a b) []) ≤ suc (length b))
+    go true h = (omega arith, omega arith)
+    go false h = (omega arith, omega arith)
+
+pub started_forked : (p q : Key) (way : Way) (fork : Option ForkWay) (m : ℕ) → way.node ≡ Some m → way.walked ≡ way.names → way.names ≡ length (common (parent_of p) (parent_of q)) → Forks (Rename p q) way fork → IsForked p q way (started fork m way.names)
+started_forked p q way (Some fork) m at all names forks = forks
+started_forked p q way None m at all names forks =
+    let short : (length (common (parent_of p) (parent_of q)) ≤ length (parent_of p)) × (length (common (parent_of p) (parent_of q)) ≤ length (parent_of q)) = common_short (parent_of p) (parent_of q) in
+    record { node = at; names = sym all; arrived = all; source = omega arith; dest = omega arith }
+
+pub rename_stands : (p q : Key) (way : Way) (fork : Option ForkWay) (victim : Option ℕ) (n m : ℕ) → way.node ≡ Some m → way.walked ≡ way.names → way.names ≡ length (common (parent_of p) (parent_of q)) → Forks (Rename p q) way fork
+    → target_took (dropped way.walked (Rename p q)) (stand_with (Rename p q) m way.behind fork victim) n
+        ≡ stand_with (Rename p q) m way.behind (Some (fork_took p q (started fork m way.names) n)) (cond (has_arrived p q (started fork m way.names)) (Some n) victim)
+rename_stands p q way fork victim n m at all names forks =
+    let heads = started_forked p q way fork m at all names forks in
+    rw (started_stand (Rename p q) m way.names way.behind fork victim, ← heads.names) (heads_took p q n m way.behind (started fork m way.names) victim heads.source heads.dest)
+
+-- and stay within their paths
+parent_within : (p : Key) (i : ℕ) (x : Name) → slice_get (parent_of p) i ≡ Some x → i + 1 ≤ length (parent_of p)
+parent_within p i x e = let h : i < length (parent_of p) = slice_get_within (parent_of p) i x e in omega arith
+
+took_forked : (p q : Key) (way : Way) (fork : ForkWay) (n : ℕ) → IsForked p q way fork → IsForked p q way (fork_took p q fork n)
+took_forked p q way fork n h = by_source (head_name p fork.names fork.source) refl (head_name q fork.names fork.dest) refl
+  where
+    by_source : (a : Option Name) → head_name p fork.names fork.source ≡ a → (b : Option Name) → head_name q fork.names fork.dest ≡ b → IsForked p q way (fork_took p q fork n)
+    by_source (Some x) e b f =
+        let r : fork.names + fork.source.walked + 1 ≤ length (parent_of p) = parent_within p (fork.names + fork.source.walked) x e in
+        rw e (record { node = h.node; names = h.names; arrived = h.arrived; source = omega arith; dest = h.dest })
+    by_source None e (Some x) f =
+        let r : fork.names + fork.dest.walked + 1 ≤ length (parent_of q) = parent_within q (fork.names + fork.dest.walked) x f in
+        rw (e, f) (record { node = h.node; names = h.names; arrived = h.arrived; source = h.source; dest = omega arith })
+    by_source None e None f = rw (e, f) h
+
+pub rename_forks : (p q : Key) (way : Way) (fork : Option ForkWay) (n m : ℕ) → way.node ≡ Some m → way.walked ≡ way.names → way.names ≡ length (common (parent_of p) (parent_of q)) → Forks (Rename p q) way fork
+    → IsForked p q way (fork_took p q (started fork m way.names) n)
+rename_forks p q way fork n m at all names forks = took_forked p q way (started fork m way.names) n (started_forked p q way fork m at all names forks)
+
+-- a walk that may take a node takes it
+pub walk_took : (call : Call) (way : Way) (fork : Option ForkWay) (victim reserved removed : Option ℕ) (outcome : Outcome) (n : ℕ) → way.names ≡ length (target (form call)) → may_take way ≡ true
+    → IsTook (work_of call way fork victim reserved removed outcome) n (work_of call (way_took way n) None None reserved removed outcome)
+walk_took call way fork victim reserved removed outcome n names may = by_node way.node refl
+  where
+    by_node : (o : Option ℕ) → way.node ≡ o → IsTook (work_of call way fork victim reserved removed outcome) n (work_of call (way_took way n) None None reserved removed outcome)
+    by_node None e = root_took call way fork victim reserved removed outcome n e
+    by_node (Some m) e =
+        let test : nat_lt way.walked way.names ≡ true = rw e at may in
+        step_took call way fork victim reserved removed outcome n m e names (grind (arith, nat_tests))
+
+-- and one that may not has arrived
+pub walk_arrived : (way : Way) → may_take way ≡ false → way.walked ≤ way.names → (way.walked ≡ way.names) × ((m : ℕ) × (way.node ≡ Some m))
+walk_arrived way may within = by_node way.node refl
+  where
+    by_node : (o : Option ℕ) → way.node ≡ o → (way.walked ≡ way.names) × ((m : ℕ) × (way.node ≡ Some m))
+    by_node None e = let wrong : true ≡ false = rw e at may in absurd (cc)
+    by_node (Some m) e =
+        let test : nat_lt way.walked way.names ≡ false = rw e at may in
+        (grind (arith, nat_tests), (m, e))
+
+pub target_took_is : (call : Call) (way : Way) (fork fork_new : Option ForkWay) (victim victim_new reserved removed : Option ℕ) (outcome : Outcome) (n : ℕ) → way.names ≡ length (target (form call)) → may_take way ≡ false → way.walked ≤ way.names
+    → ((at : ℕ) → way.node ≡ Some at → TakesTo (form call) way at n fork victim fork_new victim_new)
+    → IsTook (work_of call way fork victim reserved removed outcome) n (work_of call way fork_new victim_new reserved removed outcome)
+target_took_is call way fork fork_new victim victim_new reserved removed outcome n names may within stands =
+    let arrived : (way.walked ≡ way.names) × ((m : ℕ) × (way.node ≡ Some m)) = walk_arrived way may within in
+    arrived_took call way way fork fork_new victim victim_new reserved removed outcome n arrived.1.0 arrived.1.1 names arrived.0 refl (stands arrived.1.0 arrived.1.1)
+
+-- the same from the work that the fields are
+pub took_as : (old old_seen new new_seen : Work) (n : ℕ) → old ≡ old_seen → new ≡ new_seen → IsTook old n new → IsTook old_seen n new_seen
+took_as old old_seen new new_seen n e f h seat place = rw (← e, ← f) (h seat place)

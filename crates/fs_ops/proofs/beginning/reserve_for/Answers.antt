@@ -1,0 +1,18 @@
+use Rattle.std.proofs.Common.{◌≡◌, Some, sym, subst, Option}
+use Rattle.fs_names.specs.Shapes.{Shape}
+use Rattle.fs_nodes.specs.Stores.{graph_of, new_shape}
+use Rattle.fs_ops.specs.Begins.{HasReserved, IsReserved}
+use Rattle.fs_ops.specs.Works.{IsSpare}
+use Rattle.fs_ops.proofs.BeginLemmas.{reserved_spare, only}
+use Rattle.fs_ops.proofs.beginning.reserve_for.Goals as goal
+
+pub returns-in_ok-reserve-in-Some-clause-ok : goal.returns-in_ok-reserve-in-Some-clause-ok
+returns-in_ok-reserve-in-Some-clause-ok c =
+    let old = c.args.store.now in
+    let new = graph_of c.reserve.new.self in
+    let r = c.in_ok-reserve-in-Some.ensures in
+    let n = c.in_ok-reserve-in-Some.field-0 in
+    subst (λ (o : Option Shape). HasReserved (graph_of old) old.limit o (Some n) new) c.in-Some.ensures (record {
+      reserves = record { within = r.within; free = r.free; added = r.graph };
+      spare = only n (IsSpare new) (reserved_spare old c.in-Some.kind n new r.free r.not_root r.graph);
+    })

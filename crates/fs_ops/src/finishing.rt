@@ -1,0 +1,96 @@
+//! How a call finishes where it stands.
+
+ghost use Rattle.std.specs.Prelude.{◌≡◌, None, Some, length};
+ghost use Rattle.fs_nodes.specs.Stores.{graph_of, room};
+ghost use Rattle.fs_seq.specs.Forms.{form, by_text};
+ghost use Rattle.fs_ops.specs.Endings.{IsMade, finish_by};
+ghost use Rattle.fs_ops.specs.Finishes.{made_at};
+ghost use Rattle.fs_ops.specs.Rooms.{Suffices};
+ghost use Rattle.fs_ops.specs.Moves.{target};
+ghost use Rattle.fs_ops.specs.Views.{Forks, IsOp, dropped, stand_of, stand_with};
+ghost use Rattle.fs_ops.specs.Works.{CanFinish};
+
+use crate::entries::{make, rmdir, unlink};
+use crate::finish::Finish;
+use crate::heads::{dest_of, finish_rename, source_of};
+use crate::looking::{read, readdir, stat, walk_error};
+use crate::outcome::Outcome;
+use crate::room::Room;
+use crate::text::text_error;
+use crate::writing::{truncate, write};
+use fs_nodes::{NodeNo, Store};
+use fs_seq::Call;
+use fs_seq::errno::Errno;
+use fs_walk::{Fork, Walk};
+
+/// A call at its target: each by its own row of the table of errors.
+fn finish_at(
+    call: &Call,
+    walk: &Walk,
+    node: NodeNo,
+    fork: &Option<Fork>,
+    victim: Option<NodeNo>,
+    reserved: Option<NodeNo>,
+    prepared: Room,
+    store: &mut Store,
+) -> Finish
+    requires text { by_text (form call.now) ≡ None }
+    requires node { walk.now.node ≡ Some node }
+    requires names { walk.now.names ≡ length (target (form call.now)) }
+    requires arrived { walk.now.walked ≡ walk.now.names }
+    requires forks { Forks (form call.now) walk.now fork.now }
+    requires room { Suffices (form call.now) prepared }
+    requires can { CanFinish (graph_of store.old) reserved (dropped walk.now.walked (form call.now)) (Some (stand_with (form call.now) node walk.now.behind fork.now victim)) }
+    ensures made { IsMade (made_at (graph_of store.old) (dropped walk.now.walked (form call.now)) (stand_with (form call.now) node walk.now.behind fork.now victim) reserved) result (graph_of store.new) }
+    ensures limit { store.new.limit ≡ store.old.limit }
+    ensures room { room store.new ≡ room store.old }
+{
+    match call {
+        Call::Mkdir(path) => make(store, node, path, reserved),
+        Call::Mknod(path) => make(store, node, path, reserved),
+        Call::Unlink(path) => unlink(store, node, path, reserved),
+        Call::Rmdir(path) => rmdir(store, node, path, reserved),
+        Call::Rename(path, new_path) => {
+            let source = source_of(fork, node);
+            let dest = dest_of(fork, node);
+            finish_rename(path, new_path, walk.walked(), source, dest, victim, reserved, store)
+        }
+        Call::Stat(_) => Finish::kept(stat(store, node), reserved),
+        Call::Readdir(_) => Finish::kept(readdir(store, node, prepared), reserved),
+        Call::Read(_, off, count) => {
+            Finish::kept(read(store, node, *off, *count, prepared), reserved)
+        }
+        Call::Write(_, off, bytes) => {
+            Finish::kept(write(store, node, *off, bytes.as_slice(), prepared), reserved)
+        }
+        Call::Truncate(_, size) => Finish::kept(truncate(store, node, *size, prepared), reserved),
+    }
+}
+
+/// A call by its texts, or where its walk ended.
+pub fn finish(
+    call: &Call,
+    walk: &Walk,
+    fork: &Option<Fork>,
+    victim: Option<NodeNo>,
+    reserved: Option<NodeNo>,
+    prepared: Room,
+    store: &mut Store,
+) -> Finish
+    requires op { IsOp (form call.now) walk.now fork.now (Outcome.Open prepared) }
+    requires can { CanFinish (graph_of store.old) reserved (dropped walk.now.walked (form call.now)) (stand_of (form call.now) walk.now.node walk.now.behind fork.now victim) }
+    ensures made { IsMade (finish_by (graph_of store.old) (form call.now) walk.now fork.now victim reserved) result (graph_of store.new) }
+    ensures limit { store.new.limit ≡ store.old.limit }
+    ensures room { room store.new ≡ room store.old }
+{
+    if let Some(errno) = text_error(call) {
+        return Finish::failed(errno, reserved);
+    }
+    let Some(node) = walk.node() else {
+        return Finish::failed(Errno::Enoent, reserved);
+    };
+    if walk.walked() < walk.names() {
+        return Finish::failed(walk_error(store, node), reserved);
+    }
+    finish_at(call, walk, node, fork, victim, reserved, prepared, store)
+}

@@ -1,0 +1,56 @@
+//! A call under way.
+
+ghost use Rattle.std.specs.Prelude.{◌≡◌, is_some, option_map};
+
+use crate::outcome::Outcome;
+use fs_nodes::NodeNo;
+use fs_seq::Call;
+use fs_walk::{Fork, Walk};
+use std::marker::Model;
+
+/// A call under way: a machine of moves over the nodes of a store, which takes memory only when it begins.
+#[derive(Drop)]
+pub struct Op {
+    pub(crate) call: Call,
+    pub(crate) walk: Walk,
+    pub(crate) fork: Option<Fork>,
+    pub(crate) victim: Option<NodeNo>,
+    pub(crate) reserved: Option<NodeNo>,
+    pub(crate) removed: Option<NodeNo>,
+    pub(crate) outcome: Outcome,
+}
+
+impl Model for Op {
+    ghost use Rattle.fs_seq.specs.Forms.{form};
+    ghost use Rattle.fs_ops.specs.Works.{Work};
+    ghost use Rattle.fs_ops.specs.Views.{work_of, IsOp};
+
+    ghost Value = { Work };
+
+    ghost view = { λ o. work_of o.call o.walk o.fork o.victim o.reserved o.removed o.outcome };
+
+    ghost invariant = { λ o. IsOp (form o.call) o.walk o.fork o.outcome };
+}
+
+impl Op {
+    /// The node where the call stands: a rename with both heads under way stands at its common directory. None: it holds nothing.
+    pub fn position(&self) -> Option<NodeNo>
+        ensures { result ≡ option_map (λ st. st.node) self.now.stand }
+    {
+        self.walk.node()
+    }
+
+    /// The number that the call has reserved, until it is used.
+    pub fn reserved(&self) -> Option<NodeNo>
+        ensures { result ≡ self.now.reserved }
+    {
+        self.reserved
+    }
+
+    /// Whether its reply is fixed.
+    pub fn is_finished(&self) -> bool
+        ensures { result ≡ is_some self.now.reply }
+    {
+        matches!(self.outcome, Outcome::Fixed(_))
+    }
+}

@@ -1,0 +1,13 @@
+//! What a call has before its finish and after it.
+
+use crate::replies::Replies;
+use crate::room::Room;
+
+/// The room for a finish, or what came of it.
+#[derive(Drop)]
+pub enum Outcome {
+    /// The call isn't finished.
+    Open(Room),
+    /// Its replies are fixed.
+    Fixed(Replies),
+}

@@ -1,0 +1,107 @@
+//! A call takes a node.
+
+ghost use Rattle.std.specs.Prelude.{◌≡◌, ◌≤◌, ℕ, Some, cond, length};
+ghost use Rattle.fs_names.specs.declared.limits.TheConstants.{PATH_LIMIT};
+ghost use Rattle.fs_names.specs.Keys.{parent_of};
+ghost use Rattle.fs_names.specs.Parts.{common};
+ghost use Rattle.fs_seq.specs.Forms.{form};
+ghost use Rattle.fs_seq.specs.Forms as forms;
+ghost use Rattle.fs_walk.specs.Ways.{fork_took, has_arrived};
+ghost use Rattle.fs_ops.specs.Moves.{target};
+ghost use Rattle.fs_ops.specs.Views.{Forks};
+ghost use Rattle.fs_ops.specs.Steps.{TakesTo, started};
+ghost use Rattle.fs_ops.specs.Works.{IsTook};
+
+use crate::op::Op;
+use fs_names::Path;
+use fs_nodes::NodeNo;
+use fs_seq::Call;
+use fs_walk::{Fork, Walk};
+
+/// A head of a rename takes a node; where both have arrived, it is the victim.
+fn heads_took(
+    source: &Path,
+    dest: &Path,
+    heads: &mut Fork,
+    victim: &mut Option<NodeNo>,
+    node: NodeNo,
+)
+    ensures heads { heads.new ≡ fork_took source.now dest.now heads.old node }
+    ensures victim { victim.new ≡ cond (has_arrived source.now dest.now heads.old) (Some node) victim.old }
+{
+    if heads.has_arrived(source, dest) {
+        *victim = Some(node);
+    }
+    heads.took(source, dest, node);
+}
+
+/// The heads of a rename, which set out from its common directory if they did not.
+fn started(fork: Option<Fork>, node: NodeNo, names: usize) -> Fork
+    requires { names ≤ PATH_LIMIT }
+    ensures { result ≡ started fork node names }
+{
+    match fork {
+        Some(heads) => heads,
+        None => Fork::new(node, names),
+    }
+}
+
+/// A rename at its common directory takes a node.
+fn rename_took(
+    source: &Path,
+    dest: &Path,
+    walk: &Walk,
+    fork: &mut Option<Fork>,
+    victim: &mut Option<NodeNo>,
+    node: NodeNo,
+)
+    requires names { walk.now.names ≡ length (common (parent_of source.now) (parent_of dest.now)) }
+    requires arrived { walk.now.walked ≡ walk.now.names }
+    requires forks { Forks (forms.Rename source.now dest.now) walk.now fork.old }
+    ensures forks { Forks (forms.Rename source.now dest.now) walk.now fork.new }
+    ensures stands { (at : ℕ) → walk.now.node ≡ Some at → TakesTo (forms.Rename source.now dest.now) walk.now at node fork.old victim.old fork.new victim.new }
+{
+    if let Some(at) = walk.node() {
+        let mut heads = started(fork.take(), at, walk.names());
+        heads_took(source, dest, &mut heads, victim, node);
+        *fork = Some(heads);
+    }
+}
+
+/// A call at its target takes a node: a rename with one of its heads, or else the victim.
+fn took_at_target(
+    call: &Call,
+    walk: &Walk,
+    fork: &mut Option<Fork>,
+    victim: &mut Option<NodeNo>,
+    node: NodeNo,
+)
+    requires names { walk.now.names ≡ length (target (form call.now)) }
+    requires arrived { walk.now.walked ≡ walk.now.names }
+    requires forks { Forks (form call.now) walk.now fork.old }
+    ensures forks { Forks (form call.now) walk.now fork.new }
+    ensures stands { (at : ℕ) → walk.now.node ≡ Some at → TakesTo (form call.now) walk.now at node fork.old victim.old fork.new victim.new }
+{
+    match call {
+        Call::Rename(source, dest) => rename_took(source, dest, walk, fork, victim, node),
+        Call::Mkdir(_) | Call::Mknod(_) | Call::Unlink(_) | Call::Rmdir(_) => {
+            *victim = Some(node);
+        }
+        _ => {}
+    }
+}
+
+impl Op {
+    /// It has taken a node: a step of its walk, of a head, or the victim.
+    pub fn took(&mut self, node: NodeNo)
+        ensures { IsTook self.old node self.new }
+    {
+        if self.walk.may_take() {
+            self.walk.took(node);
+            self.fork = None;
+            self.victim = None;
+        } else {
+            took_at_target(&self.call, &self.walk, &mut self.fork, &mut self.victim, node);
+        }
+    }
+}

@@ -1,0 +1,124 @@
+-- Where walks stand.
+use Rattle.std.specs.Prelude.{ℕ, ◌+◌, ◌≤◌, Bool, true, false, not, ◌||◌, eqb, cond, nat_lt, is_some, slice_get, take, Option, Some, None}
+use Rattle.fs_names.specs.Names.{Name}
+use Rattle.fs_names.specs.Keys.{Key, parent_of}
+use Rattle.fs_names.specs.declared.limits.TheConstants.{PATH_LIMIT}
+use Rattle.fs_walk.specs.declared.head.Head.{Head}
+
+-- one head: along how many names it goes, how many it has walked, its node (None: it holds nothing), and a node behind it that it still holds
+pub record Way : Type 0 where
+  pub names : ℕ
+  pub walked : ℕ
+  pub node : Option ℕ
+  pub behind : Option ℕ
+
+-- two heads: the common directory, how many names lead there, and both heads
+pub record ForkWay : Type 0 where
+  pub node : ℕ
+  pub names : ℕ
+  pub source : Head
+  pub dest : Head
+
+-- no more names than a path has
+pub record IsWay (names walked : ℕ) : Type 0 where
+  pub within : walked ≤ names
+  pub most : names ≤ PATH_LIMIT
+
+pub record IsForkWay (names : ℕ) (source dest : Head) : Type 0 where
+  pub most : names ≤ PATH_LIMIT
+  pub source_most : source.walked ≤ PATH_LIMIT
+  pub dest_most : dest.walked ≤ PATH_LIMIT
+
+-- a walk that holds nothing yet
+abbrev pub new_way : ℕ → Way
+new_way names = record { names = names; walked = 0; node = None; behind = None }
+
+-- both heads at the common directory
+abbrev pub start_at : ℕ → Head
+start_at n = record { walked = 0; node = n; behind = None }
+
+abbrev pub new_fork : ℕ → ℕ → ForkWay
+new_fork n names = record { node = n; names = names; source = start_at n; dest = start_at n }
+
+-- the node behind a head, that of the source head first
+abbrev pub first_behind : Option ℕ → Option ℕ → Option ℕ
+first_behind (Some n) dest = Some n
+first_behind None dest = dest
+
+abbrev pub fork_behind : ForkWay → Option ℕ
+fork_behind fork = first_behind fork.source.behind fork.dest.behind
+
+-- whether a head has walked a name
+abbrev pub has_set_out : ForkWay → Bool
+has_set_out fork = nat_lt 0 fork.source.walked || nat_lt 0 fork.dest.walked
+
+-- where the head stands that walked last; the common directory, where none has walked a name
+abbrev pub fork_last : ForkWay → ℕ
+fork_last fork = cond (nat_lt 0 fork.dest.walked) fork.dest.node (cond (nat_lt 0 fork.source.walked) fork.source.node fork.node)
+
+-- one head after a take: at the root, or a step further
+abbrev pub way_took_by : Option ℕ → Way → ℕ → Way
+way_took_by None way n = record way { node = Some n; behind = None }
+way_took_by (Some m) way n = record way { walked = way.walked + 1; node = Some n; behind = Some m }
+
+abbrev pub way_took : Way → ℕ → Way
+way_took way n = way_took_by way.node way n
+
+-- whether a take makes sense: nothing is held, or a name is ahead
+abbrev pub may_take_by : Option ℕ → Bool → Bool
+may_take_by None ahead = true
+may_take_by (Some n) ahead = ahead
+
+abbrev pub may_take : Way → Bool
+may_take way = may_take_by way.node (nat_lt way.walked way.names)
+
+-- what is behind, after a let go of a node
+abbrev pub behind_left : Option ℕ → ℕ → Option ℕ
+behind_left None n = None
+behind_left (Some m) n = cond (eqb m n) None (Some m)
+
+-- one head after it let go of a node behind it, and of everything
+abbrev pub way_left : Way → ℕ → Way
+way_left way n = record way { behind = behind_left way.behind n }
+
+abbrev pub way_ended : Way → Way
+way_ended way = record way { node = None; behind = None }
+
+-- a head after a step: a parent that is the common directory is not behind it
+abbrev pub head_took : Head → ℕ → Head
+head_took head n = record { walked = head.walked + 1; node = n; behind = cond (nat_lt 0 head.walked) (Some head.node) None }
+
+-- the name ahead of a walk, and of a head on its way to the parent of a path
+abbrev pub name_ahead : Key → Way → Option Name
+name_ahead path way = slice_get (take way.names path) way.walked
+
+abbrev pub head_name : Key → ℕ → Head → Option Name
+head_name path names head = slice_get (parent_of path) (names + head.walked)
+
+-- both heads after a take: a step of the source head, where a name is ahead of it, or else of the destination head
+abbrev pub fork_took_by : Option Name → Option Name → ForkWay → ℕ → ForkWay
+fork_took_by (Some x) dest fork n = record fork { source = head_took fork.source n }
+fork_took_by None (Some x) fork n = record fork { dest = head_took fork.dest n }
+fork_took_by None None fork n = fork
+
+abbrev pub fork_took : Key → Key → ForkWay → ℕ → ForkWay
+fork_took source dest fork n = fork_took_by (head_name source fork.names fork.source) (head_name dest fork.names fork.dest) fork n
+
+-- whether both heads have arrived
+abbrev pub has_arrived : Key → Key → ForkWay → Bool
+has_arrived source dest fork = not (is_some (head_name source fork.names fork.source) || is_some (head_name dest fork.names fork.dest))
+
+-- both heads after they let go of a node behind the one, and else behind the other
+abbrev pub head_left : Head → ℕ → Head
+head_left head n = record head { behind = behind_left head.behind n }
+
+abbrev pub fork_left_by : Option ℕ → ForkWay → ℕ → ForkWay
+fork_left_by (Some m) fork n = record fork { source = head_left fork.source n }
+fork_left_by None fork n = record fork { dest = head_left fork.dest n }
+
+abbrev pub fork_left : ForkWay → ℕ → ForkWay
+fork_left fork n = fork_left_by fork.source.behind fork n
+
+-- both heads after the one that walked last has gone back to the common directory
+abbrev pub fork_returned : ForkWay → ForkWay
+fork_returned fork = cond (nat_lt 0 fork.dest.walked) (record fork { dest = start_at fork.node }) (record fork { source = start_at fork.node })

@@ -1,0 +1,175 @@
+//! A walk with two heads.
+
+ghost use Rattle.std.specs.Prelude.{◌≡◌, ◌≤◌};
+ghost use Rattle.fs_walk.specs.Ways.{new_fork, fork_behind, fork_last, has_set_out, fork_took, has_arrived, head_name, fork_left, fork_returned};
+ghost use Rattle.fs_walk.specs.Wants.{fork_want, dir_want};
+ghost use Rattle.fs_nodes.specs.Stores.{graph_of};
+
+use crate::head::Head;
+use crate::names::parent_name;
+use crate::want::{Want, at_dir, head_want};
+use fs_names::{PATH_LIMIT, Path};
+use fs_nodes::{NodeNo, Store};
+use std::marker::Model;
+
+/// Two heads from a common directory on: one to the parent of a source path, and then one to the parent of a destination path.
+/// Each holds the node where it stands and, after a step, the one behind it. The common directory is held all the time, and by
+/// neither head.
+#[derive(Debug, Drop)]
+pub struct Fork {
+    node: NodeNo,
+    names: usize,
+    source: Head,
+    dest: Head,
+}
+
+impl Model for Fork {
+    ghost use Rattle.fs_walk.specs.Ways.{ForkWay, IsForkWay};
+
+    ghost Value = { ForkWay };
+
+    ghost view = { λ f. record { node = f.node; names = f.names; source = f.source; dest = f.dest } };
+
+    ghost invariant = { λ f. IsForkWay f.names f.source f.dest };
+}
+
+/// What a head wants next on its way to the parent of a path, of which so many names lead to the common directory.
+fn head_next(head: &Head, path: &Path, names: usize, store: &Store) -> Want
+    requires names { names ≤ PATH_LIMIT }
+    requires walked { head.now.walked ≤ PATH_LIMIT }
+    ensures { result ≡ dir_want (graph_of store.now) head.now (head_name path.now names head.now) }
+{
+    let name = parent_name(path, names + head.walked);
+    head_want(store, head.node, head.behind, name).then(at_dir(store, head.node))
+}
+
+impl Fork {
+    /// Both heads at a common directory, to which so many first names of both paths lead, 64 at most.
+    pub fn new(node: NodeNo, names: usize) -> Fork
+        requires { names ≤ PATH_LIMIT }
+        ensures { result ≡ new_fork node names }
+    {
+        Fork {
+            node,
+            names,
+            source: Head::new(node),
+            dest: Head::new(node),
+        }
+    }
+
+    /// The common directory.
+    pub fn node(&self) -> NodeNo
+        ensures { result ≡ self.now.node }
+    {
+        self.node
+    }
+
+    /// How many names lead to the common directory, 64 at most.
+    pub fn names(&self) -> usize
+        ensures names { result ≡ self.now.names }
+        ensures most { result ≤ PATH_LIMIT }
+    {
+        self.names
+    }
+
+    /// The source head.
+    pub fn source(&self) -> Head
+        ensures source { result ≡ self.now.source }
+        ensures most { result.walked ≤ PATH_LIMIT }
+    {
+        self.source
+    }
+
+    /// The destination head.
+    pub fn dest(&self) -> Head
+        ensures dest { result ≡ self.now.dest }
+        ensures most { result.walked ≤ PATH_LIMIT }
+    {
+        self.dest
+    }
+
+    /// The node behind a head that it still holds, that of the source head first.
+    pub fn behind(&self) -> Option<NodeNo>
+        ensures { result ≡ fork_behind self.now }
+    {
+        match self.source.behind {
+            Some(node) => Some(node),
+            None => self.dest.behind,
+        }
+    }
+
+    /// Whether a head has walked a name.
+    pub fn has_set_out(&self) -> bool
+        ensures { result ≡ has_set_out self.now }
+    {
+        self.source.walked > 0 || self.dest.walked > 0
+    }
+
+    /// Where the head stands that walked last; the common directory, where none has walked a name.
+    pub fn last(&self) -> NodeNo
+        ensures { result ≡ fork_last self.now }
+    {
+        if self.dest.walked > 0 {
+            self.dest.node
+        } else if self.source.walked > 0 {
+            self.source.node
+        } else {
+            self.node
+        }
+    }
+
+    /// What it wants next, along the paths that it is lent, the same ones each time. From a common directory first the source
+    /// head walks to the parent of the source path, then the destination head to that of the destination path; each lets go what
+    /// is behind it before it goes on. It fails with ENOTDIR where a file has a name ahead or stands in the place of a parent,
+    /// and with ENOENT where a name is missing (POSIX.1-2017, XBD 4.13, Pathname Resolution).
+    pub fn next(&self, source: &Path, dest: &Path, store: &Store) -> Want
+        ensures { result ≡ fork_want (graph_of store.now) source.now dest.now self.now }
+    {
+        let source = head_next(&self.source, source, self.names, store);
+        let dest = head_next(&self.dest, dest, self.names, store);
+        at_dir(store, self.node).then(source.then(dest))
+    }
+
+    /// Whether both heads have walked all names to their parents.
+    pub fn has_arrived(&self, source: &Path, dest: &Path) -> bool
+        ensures { result ≡ has_arrived source.now dest.now self.now }
+    {
+        !(parent_name(source, self.names + self.source.walked).is_some()
+            || parent_name(dest, self.names + self.dest.walked).is_some())
+    }
+
+    /// A head has taken a node: the source head, where a name is ahead of it, and else the destination head. Where it stood
+    /// stays behind it, if that is not the common directory. Where both have arrived nothing changes.
+    pub fn took(&mut self, source: &Path, dest: &Path, node: NodeNo)
+        ensures { self.new ≡ fork_took source.now dest.now self.old node }
+    {
+        if parent_name(source, self.names + self.source.walked).is_some() {
+            self.source.took(node);
+        } else if parent_name(dest, self.names + self.dest.walked).is_some() {
+            self.dest.took(node);
+        }
+    }
+
+    /// It lets a node go that is behind the source head, or else one behind the destination head; another one changes nothing.
+    pub fn let_go(&mut self, node: NodeNo)
+        ensures { self.new ≡ fork_left self.old node }
+    {
+        if self.source.behind.is_some() {
+            self.source.let_go(node);
+        } else {
+            self.dest.let_go(node);
+        }
+    }
+
+    /// The head that walked last lets go of everything and is at the common directory again.
+    pub fn go_back(&mut self)
+        ensures { self.new ≡ fork_returned self.old }
+    {
+        let head = Head::new(self.node);
+        if self.dest.walked > 0 {
+            self.dest = head;
+        } else {
+            self.source = head;
+        }
+    }
+}

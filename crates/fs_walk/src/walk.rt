@@ -1,0 +1,131 @@
+//! A walk with one head.
+
+ghost use Rattle.std.specs.Prelude.{◌≡◌, ◌≤◌, IsTrue};
+ghost use Rattle.fs_walk.specs.Ways.{new_way, way_took, may_take, way_left, way_ended};
+ghost use Rattle.fs_walk.specs.Wants.{want};
+ghost use Rattle.fs_nodes.specs.Stores.{graph_of};
+
+use crate::names::name_among;
+use crate::want::{Want, head_want};
+use fs_names::{PATH_LIMIT, Path};
+use fs_nodes::{NodeNo, Store};
+use std::marker::Model;
+
+/// A walk from the root along so many first names of a path. It holds the node where it stands and, after a step, the one
+/// behind it; at first it holds nothing.
+#[derive(Debug, Drop)]
+pub struct Walk {
+    names: usize,
+    walked: usize,
+    node: Option<NodeNo>,
+    behind: Option<NodeNo>,
+}
+
+impl Model for Walk {
+    ghost use Rattle.fs_walk.specs.Ways.{Way, IsWay};
+
+    ghost Value = { Way };
+
+    ghost view = { λ w. record { names = w.names; walked = w.walked; node = w.node; behind = w.behind } };
+
+    ghost invariant = { λ w. IsWay w.names w.walked };
+}
+
+impl Walk {
+    /// A walk along so many names of a path, 64 at most. It holds nothing.
+    pub fn new(names: usize) -> Walk
+        requires { names ≤ PATH_LIMIT }
+        ensures { result ≡ new_way names }
+    {
+        Walk {
+            names,
+            walked: 0,
+            node: None,
+            behind: None,
+        }
+    }
+
+    /// How many names of the path it goes along, 64 at most.
+    pub fn names(&self) -> usize
+        ensures names { result ≡ self.now.names }
+        ensures most { result ≤ PATH_LIMIT }
+    {
+        self.names
+    }
+
+    /// How many names it has walked: no more than it goes along.
+    pub fn walked(&self) -> usize
+        ensures walked { result ≡ self.now.walked }
+        ensures most { result ≤ self.now.names }
+    {
+        self.walked
+    }
+
+    /// Where it stands. None: it holds nothing.
+    pub fn node(&self) -> Option<NodeNo>
+        ensures { result ≡ self.now.node }
+    {
+        self.node
+    }
+
+    /// The node behind it that it still holds.
+    pub fn behind(&self) -> Option<NodeNo>
+        ensures { result ≡ self.now.behind }
+    {
+        self.behind
+    }
+
+    /// What it wants next, along the path that it is lent, the same one each time: first the root, number 0; then to let go what
+    /// is behind it; then the node that the name ahead names. It fails with ENOTDIR where a file has a name ahead, and with
+    /// ENOENT where the name is missing (POSIX.1-2017, XBD 4.13, Pathname Resolution).
+    pub fn next(&self, path: &Path, store: &Store) -> Want
+        ensures want { result ≡ want (graph_of store.now) path.now self.now }
+        ensures within { self.now.walked ≤ self.now.names }
+    {
+        let Some(node) = self.node else {
+            return Want::Take(NodeNo::new(0));
+        };
+        let name = name_among(path, self.names, self.walked);
+        head_want(store, node, self.behind, name)
+    }
+
+    /// Whether it may take a node: it holds nothing, or a name is ahead.
+    pub fn may_take(&self) -> bool
+        ensures may { result ≡ may_take self.now }
+        ensures within { self.now.walked ≤ self.now.names }
+    {
+        match self.node {
+            Some(_) => self.walked < self.names,
+            None => true,
+        }
+    }
+
+    /// It has taken a node: the root, or the one that the name ahead named. Where it stood stays behind it.
+    pub fn took(&mut self, node: NodeNo)
+        requires { IsTrue (may_take self.old) }
+        ensures { self.new ≡ way_took self.old node }
+    {
+        self.behind = self.node;
+        if self.node.is_some() {
+            self.walked += 1;
+        }
+        self.node = Some(node);
+    }
+
+    /// It lets a node go that is behind it; another one changes nothing.
+    pub fn let_go(&mut self, node: NodeNo)
+        ensures { self.new ≡ way_left self.old node }
+    {
+        if self.behind == Some(node) {
+            self.behind = None;
+        }
+    }
+
+    /// It lets go of everything.
+    pub fn end(&mut self)
+        ensures { self.new ≡ way_ended self.old }
+    {
+        self.node = None;
+        self.behind = None;
+    }
+}

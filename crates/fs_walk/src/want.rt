@@ -1,0 +1,77 @@
+//! What a walk wants next.
+
+ghost use Rattle.std.specs.Prelude.{◌≡◌, option_map};
+ghost use Rattle.std.specs.Option.{option_copied};
+ghost use Rattle.fs_nodes.specs.Stores.{graph_of, shape, kid};
+ghost use Rattle.fs_walk.specs.Wants.{name_want, head_want, then_want, at_dir};
+
+use fs_names::Name;
+use fs_nodes::{NodeNo, Store};
+use fs_seq::Errno;
+
+/// What a walk wants next.
+#[derive(Clone, Copy, Debug, PartialEq, Eq)]
+pub enum Want {
+    /// To take this node.
+    Take(NodeNo),
+    /// To let this node go.
+    LetGo(NodeNo),
+    /// Nothing: it has arrived.
+    Arrived,
+    /// To end with this error.
+    Fails(Errno),
+}
+
+/// At a node with a name ahead.
+fn name_want(store: &Store, node: NodeNo, name: &Name) -> Want
+    ensures { result ≡ name_want (shape store.now node) (kid store.now node name.now) }
+{
+    if store.is_file(node) {
+        return Want::Fails(Errno::Enotdir);
+    }
+    match store.find(node, name) {
+        Some(child) if store.is_dir(node) => Want::Take(child),
+        _ => Want::Fails(Errno::Enoent),
+    }
+}
+
+/// At a node with one behind it, or with a name ahead.
+pub fn head_want(
+    store: &Store,
+    node: NodeNo,
+    behind: Option<NodeNo>,
+    name: Option<&Name>,
+) -> Want
+    ensures { result ≡ head_want (graph_of store.now) node behind (option_copied name.entry) }
+{
+    match (behind, name) {
+        (Some(behind), _) => Want::LetGo(behind),
+        (None, Some(name)) => name_want(store, node, name),
+        (None, None) => Want::Arrived,
+    }
+}
+
+/// At a node that has to be a directory.
+pub fn at_dir(store: &Store, node: NodeNo) -> Want
+    ensures { result ≡ at_dir (shape store.now node) }
+{
+    if store.is_file(node) {
+        Want::Fails(Errno::Enotdir)
+    } else if store.is_dir(node) {
+        Want::Arrived
+    } else {
+        Want::Fails(Errno::Enoent)
+    }
+}
+
+impl Want {
+    /// The next want after an arrival.
+    pub fn then(self, next: Want) -> Want
+        ensures { result ≡ then_want self next }
+    {
+        match self {
+            Want::Arrived => next,
+            want => want,
+        }
+    }
+}
