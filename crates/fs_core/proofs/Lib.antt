@@ -6,3 +6,4 @@ pub mod Below
 pub mod Searching
 pub mod Choosing
 pub mod Doing
+pub mod Readiness

@@ -4,3 +4,4 @@ pub mod Rooms
 pub mod Seats
 pub mod Searches
 pub mod Helping
+pub mod Events

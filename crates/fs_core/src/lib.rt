@@ -2,6 +2,7 @@
 #![tactic(auto)]
 
 pub mod answer;
+mod beginning;
 mod helping;
 pub mod machine;
 pub mod running;
