@@ -1,0 +1,215 @@
+-- What a begin rests on and leaves.
+use Rattle.std.proofs.Common.{◌≡◌, ℕ, zero, suc, ◌+◌, ◌-◌, ◌<◌, ◌≤◌, Bool, true, false, cond, eqb, List, [], ◌∷◌, ◌++◌, Option, Some, None, length, get_or, refl, sym, ap, ◌∙◌, arith, subst}
+use Rattle.std.specs.Prelude.{slice_get, slice_set, IsSome, IsTrue}
+use mathlib.Core.Path.{fun_ext}
+use Rattle.std.proofs.lemmas.Option.{slice_get_within, slice_get_read}
+use Rattle.fs_names.specs.Names.{Name}
+use Rattle.fs_names.specs.Shapes.{Shape, Dir, File, is_there, has_entries}
+use Rattle.fs_seq.specs.Forms.{form, Form, EntryCall, On, In, Rename, Mkdir, Mknod, Unlink, Rmdir, new_shape, reserves}
+use Rattle.fs_seq.specs.declared.call.Call.{Call}
+use Rattle.fs_nodes.specs.Graphs.{Graph, IsGraph, set_at, reserved_in, released_in, empty_graph}
+use Rattle.fs_nodes.specs.Places.{Places}
+use Rattle.fs_nodes.specs.Stores.{graph_of, in_use, used_below}
+use Rattle.fs_locks.specs.Holding.{Holding, holder, room}
+use Rattle.fs_journal.specs.declared.entry.Entry.{Entry}
+use Rattle.fs_journal.specs.declared.entry.Entry.TheVariants.{Begin, Commit, Return}
+use Rattle.fs_ops.specs.Leaving.{unreserved}
+use Rattle.fs_ops.specs.Records.{Record, Walking}
+use Rattle.fs_ops.specs.Works.{Work, new_work, record_of, BegunAs, IsSpare, SpareIf}
+use Rattle.fs_laws.specs.Books.{begins, commit_count}
+use Rattle.fs_laws.specs.States.{State, empty, new_op, began, Begun, Begun_as, Seat_busy, Full, No_memory, IsFull, Reserves, Begins, Run, Start, Beginning}
+use Rattle.fs_laws.proofs.Accounts.{not_begun}
+use Rattle.fs_laws.proofs.Headlines.{run_keeps}
+use Rattle.fs_laws.proofs.Walks.{eqb_refl, eqb_true}
+use Rattle.fs_core.specs.Events.{HasRoom}
+use Rattle.fs_core.specs.declared.running.Running.{Running}
+use Rattle.fs_core.specs.Machines.{Machine, state_of, number_on, number_of, records}
+use Rattle.fs_core.specs.Rooms.{AreBelow, walking, walking_at, owed_at, owed, IsKept}
+use Rattle.fs_core.proofs.SeatLemmas.{records_begun, records_more, numbers_set, numbers_more, number_read, owed_set, owed_more, walking_set, walking_more}
+use Rattle.fs_core.proofs.States.{same_state, begins_more, commits_begin}
+
+-- a kind's node is empty
+new_empty : (c : EntryCall) (shape : Shape) → new_shape c ≡ Some shape → has_entries (Some shape) ≡ false
+new_empty Mkdir shape e = let z : Dir [] ≡ shape = cc in ap (λ (s : Shape). has_entries (Some s)) (sym z)
+new_empty Mknod shape e = let z : File [] ≡ shape = cc in ap (λ (s : Shape). has_entries (Some s)) (sym z)
+new_empty Unlink shape e = cc
+new_empty Rmdir shape e = cc
+
+reserves_empty : (f : Form) (shape : Shape) → reserves f ≡ Some shape → has_entries (Some shape) ≡ false
+reserves_empty (On c p) shape e = cc
+reserves_empty (In c []) shape e = cc
+reserves_empty (In c (x ∷ p)) shape e = new_empty c shape e
+reserves_empty (Rename p q) shape e = cc
+
+set_here : {A : Type 0} (n : ℕ) (v : A) (f : ℕ → A) → set_at n v f n ≡ v
+set_here n v f = ap (λ (b : Bool). cond b v (f n)) (eqb_refl n)
+
+-- a number that was not in use is spare where a call reserved it
+spare_new : (graph : Graph) (n : ℕ) (shape : Shape) → IsGraph graph → graph.shape n ≡ None → has_entries (Some shape) ≡ false → IsSpare (reserved_in n shape graph) n
+spare_new graph n shape is free bare = record {
+  used = ap is_there (set_here n (Some shape) graph.shape);
+  unlinked = λ dir name e. (let s : (s : Shape) × (graph.shape n ≡ Some s) = is.to_used dir n name e in let z : ◌≡◌ {A = Option Shape} None (Some s.0) = sym free ∙ s.1 in cc);
+  not_root = λ e. (let z : ◌≡◌ {A = Option Shape} None (Some (Dir is.root.0)) = sym free ∙ ap graph.shape e ∙ is.root.1 in cc);
+  empty = ap has_entries (set_here n (Some shape) graph.shape) ∙ bare;
+}
+
+-- and its release undoes that
+unreserve : (graph : Graph) (n : ℕ) (shape : Shape) → graph.shape n ≡ None → released_in n (reserved_in n shape graph) ≡ graph
+unreserve graph n shape free = ap (λ (f : ℕ → Option Shape). with_shapes f) (fun_ext (λ m. go m (eqb m n) refl))
+  where
+    with_shapes : (ℕ → Option Shape) → Graph
+    with_shapes f = record { kid = graph.kid; shape = f }
+    go : (m : ℕ) (b : Bool) → eqb m n ≡ b → cond b None (cond b (Some shape) (graph.shape m)) ≡ graph.shape m
+    go m true e = sym free ∙ ap graph.shape (sym (eqb_true m n e))
+    go m false e = refl
+
+pub cancel_spare : (graph new : Graph) (limit : ℕ) (call : Call) (w : Work) → IsGraph graph → BegunAs graph limit call (reserves (form call)) w new → SpareIf new w.reserved
+cancel_spare graph new limit call w is b = go (reserves (form call)) refl b
+  where
+    go : (o : Option Shape) → reserves (form call) ≡ o → BegunAs graph limit call o w new → SpareIf new w.reserved
+    go None e (is_w, is_new) n f = let z : ◌≡◌ {A = Option ℕ} None (Some n) = ap (λ (x : Work). x.reserved) (sym is_w) ∙ f in cc
+    go (Some shape) e (m, less, free, is_w, is_new) n f =
+        let z : ◌≡◌ {A = Option ℕ} (Some m) (Some n) = ap (λ (x : Work). x.reserved) (sym is_w) ∙ f in
+        let y : m ≡ n = cc in
+        subst (IsSpare new) y (subst (λ (g : Graph). IsSpare g m) (sym is_new) (spare_new graph m shape is free (reserves_empty (form call) shape e)))
+
+pub cancel_start : (graph new : Graph) (limit : ℕ) (call : Call) (w : Work) → BegunAs graph limit call (reserves (form call)) w new → w.stand ≡ None
+cancel_start graph new limit call w b = go (reserves (form call)) b
+  where
+    go : (o : Option Shape) → BegunAs graph limit call o w new → w.stand ≡ None
+    go None (is_w, is_new) = ap (λ (x : Work). x.stand) is_w
+    go (Some shape) (m, less, free, is_w, is_new) = ap (λ (x : Work). x.stand) is_w
+
+pub cancel_graph : (graph new last : Graph) (limit : ℕ) (call : Call) (w : Work) → BegunAs graph limit call (reserves (form call)) w new → last ≡ unreserved w.reserved new → last ≡ graph
+cancel_graph graph new last limit call w b e = go (reserves (form call)) b
+  where
+    go : (o : Option Shape) → BegunAs graph limit call o w new → last ≡ graph
+    go None (is_w, is_new) = e ∙ ap (λ (x : Work). unreserved x.reserved new) is_w ∙ is_new
+    go (Some shape) (m, less, free, is_w, is_new) = e ∙ ap (λ (x : Work). unreserved x.reserved new) is_w ∙ ap (released_in m) is_new ∙ unreserve graph m shape free
+
+-- whether all numbers are in use, as the refusals tell
+pub full_told : (m : Machine) (call : Call) → IsFull (state_of m) (reserves (form call)) → IsSome (reserves (form call)) × (in_use m.store ≡ m.store.limit)
+full_told m call = go (reserves (form call))
+  where
+    go : (o : Option Shape) → IsFull (state_of m) o → IsSome o × (in_use m.store ≡ m.store.limit)
+    go None h = absurd h
+    go (Some shape) h = (refl, h)
+
+full_is : (m : Machine) (o : Option Shape) → IsSome o → in_use m.store ≡ m.store.limit → IsFull (state_of m) o
+full_is m None h e = cc
+full_is m (Some shape) h e = e
+
+-- a begin that is refused
+pub refused_same : (m : Machine) (b k p : ℕ) → IsKept m b k p → (st : Places) (hs : Holding) → graph_of st ≡ graph_of m.store → st.limit ≡ m.store.limit → holder hs ≡ holder m.holding → room m.holding ≤ room hs
+    → (state_of (record m { store = st; holding = hs }) ≡ state_of m) × IsKept (record m { store = st; holding = hs }) b k p
+refused_same m b k p kept st hs graph limit is_hs more = (same, record {
+  run = subst Run (sym same) kept.run;
+  roomy = λ n s e. (let less : n < room m.holding = kept.roomy n s (ap (λ (g : Graph). g.shape n) (sym graph) ∙ e) in omega (arith, less, more));
+  begun_is = kept.begun_is;
+  commits_is = kept.commits_is;
+  within = kept.within;
+  owed_is = kept.owed_is;
+})
+  where
+    same : state_of (record m { store = st; holding = hs }) ≡ state_of m
+    same = same_state _ _ _ _ _ _ _ _ _ _ _ limit graph is_hs refl refl
+
+pub seat_busy_step : (m : Machine) (seat : ℕ) (call : Call) (slot : Option Running) → seat < length m.seats → slot ≡ get_or m.seats seat slot → IsSome slot → Begins (state_of m) seat call Seat_busy (state_of m)
+seat_busy_step m seat call slot within read some = go slot refl some
+  where
+    go : (o : Option Running) → slot ≡ o → IsSome o → Begins (state_of m) seat call Seat_busy (state_of m)
+    go None e h = cc
+    go (Some r) e h = (r.call, number_read m.seats seat slot (slice_get_read m.seats _ seat slot refl within read) ∙ ap number_of e, refl)
+
+pub free_seat : (m : Machine) (seat : ℕ) (slot : Option Running) → seat < length m.seats → slot ≡ get_or m.seats seat slot → slot ≡ None → slice_get m.seats seat ≡ Some None
+free_seat m seat slot within read is = slice_get_read m.seats _ seat slot refl within read ∙ ap (λ (o : Option Running). Some o) is
+
+pub full_step : (m : Machine) (seat : ℕ) (call : Call) (new : State) → slice_get m.seats seat ≡ Some None → IsSome (reserves (form call)) × (in_use m.store ≡ m.store.limit) → new ≡ state_of m → Begins (state_of m) seat call Full new
+full_step m seat call new free full same = (number_read m.seats seat None free, full_is m (reserves (form call)) full.0 full.1, same)
+
+pub no_memory_step : (m : Machine) (seat : ℕ) (call : Call) (new : State) → slice_get m.seats seat ≡ Some None → (IsSome (reserves (form call)) × (in_use m.store ≡ m.store.limit) → ⊥) → new ≡ state_of m → Begins (state_of m) seat call No_memory new
+no_memory_step m seat call new free not same = (number_read m.seats seat None free, λ h. not (full_told m call h), same)
+
+-- a call that begins
+begun_roomy : (m : Machine) (b k p : ℕ) → IsKept m b k p → (call : Call) (st : Places) (hs : Holding) (w : Work) (o : Option Shape) → BegunAs (graph_of m.store) m.store.limit call o w (graph_of st) → HasRoom w.reserved hs → room m.holding ≤ room hs → AreBelow (graph_of st) (room hs)
+begun_roomy m b k p kept call st hs w None (is_w, is_new) has more n s e = let less : n < room m.holding = kept.roomy n s (ap (λ (g : Graph). g.shape n) (sym is_new) ∙ e) in omega (arith, less, more)
+begun_roomy m b k p kept call st hs w (Some shape) (c, below, free, is_w, is_new) has more n s e = go (eqb n c) refl (ap (λ (g : Graph). g.shape n) (sym is_new) ∙ e)
+  where
+    go : (t : Bool) → eqb n c ≡ t → cond t (Some shape) ((graph_of m.store).shape n) ≡ Some s → n < room hs
+    go true f g = subst (λ (x : ℕ). x < room hs) (sym (eqb_true n c f)) (has c (ap (λ (x : Work). x.reserved) is_w))
+    go false f g = let less : n < room m.holding = kept.roomy n s g in omega (arith, less, more)
+
+pub begun_kept : (m : Machine) (b k p seat : ℕ) (call : Call) → IsKept m b k p → slice_get m.seats seat ≡ Some None
+    → (st : Places) (hs : Holding) (w : Work) (number : ℕ) (copy : Call) (slot : Option Running) → BegunAs (graph_of m.store) m.store.limit call (reserves (form call)) w (graph_of st) → st.limit ≡ m.store.limit
+    → holder hs ≡ holder m.holding → room m.holding ≤ room hs → HasRoom w.reserved hs → number ≡ b + 1 → copy ≡ call → slot ≡ Some (record { call = number; place = None; op = w })
+    → Begins (state_of m) seat call (Begun_as number) (state_of (record m { store = st; holding = hs; seats = slice_set m.seats seat slot; timeline = m.timeline ++ Begin number seat copy ∷ [] })) × IsKept (record m { store = st; holding = hs; seats = slice_set m.seats seat slot; timeline = m.timeline ++ Begin number seat copy ∷ [] }) number k (p + 3 - 1)
+begun_kept m b k p seat call kept free st hs w number copy slot begun limit is_hs more has is_number is_copy is =
+    (step, record {
+      run = Beginning seat call (Begun_as number) _ kept.run step;
+      roomy = begun_roomy m b k p kept call st hs w (reserves (form call)) begun has more;
+      begun_is = is_number ∙ ap (λ (n : ℕ). n + 1) kept.begun_is ∙ sym (begins_more m.timeline number seat copy);
+      commits_is = kept.commits_is ∙ sym (commits_begin m.timeline number seat copy);
+      within = omega (arith, walking_set m.seats seat None slot free, after.1, kept.within, is_number);
+      owed_is = omega (arith, owed_set m.seats seat None slot free, after.0, kept.owed_is);
+    })
+  where
+    M : Machine
+    M = record m { store = st; holding = hs; seats = slice_set m.seats seat slot; timeline = m.timeline ++ Begin number seat copy ∷ [] }
+    fresh : (o : Option Shape) → BegunAs (graph_of m.store) m.store.limit call o w (graph_of st) → w.reply ≡ None
+    fresh None (is_w, is_new) = ap (λ (x : Work). x.reply) is_w
+    fresh (Some shape) (c, below, unused, is_w, is_new) = ap (λ (x : Work). x.reply) is_w
+    after : (owed_at slot ≡ 2) × (walking_at slot ≡ 1)
+    after =
+        (ap owed_at is ∙ ap (λ (q : Option Rattle.fs_seq.specs.declared.reply.Reply.Reply). owed_at (Some (record { call = number; place = None; op = record w { reply = q } }))) (fresh (reserves (form call)) begun),
+         ap walking_at is ∙ ap (λ (q : Option Rattle.fs_seq.specs.declared.reply.Reply.Reply). walking_at (Some (record { call = number; place = None; op = record w { reply = q } }))) (fresh (reserves (form call)) begun))
+    counted : number ≡ begins m.timeline + 1
+    counted = is_number ∙ ap (λ (n : ℕ). n + 1) kept.begun_is
+    none : records m.seats number ≡ None
+    none = not_begun (state_of m) (run_keeps (state_of m) kept.run) number (omega (arith, counted))
+    same : (reserved : Option ℕ) (graph : Graph) → w ≡ new_work call reserved → graph_of st ≡ graph → state_of M ≡ began (state_of m) seat call number reserved graph
+    same reserved graph is_w is_graph =
+        ap (λ (c : Call). state_of (record M { timeline = m.timeline ++ Begin number seat c ∷ [] })) is_copy
+        ∙ same_state _ _ _ _ _ _ _ _ _ _ _ limit is_graph is_hs
+          (records_begun m.seats seat (record { call = number; place = None; op = w }) slot free is none ∙ ap (λ (x : Work). Rattle.fs_nodes.specs.Graphs.set_at number (Some (record_of seat None x)) (records m.seats)) is_w)
+          (numbers_set m.seats seat slot (Some (record { call = number; place = None; op = w })) (slice_get_within m.seats seat None free) is)
+    reserve : (o : Option Shape) → BegunAs (graph_of m.store) m.store.limit call o w (graph_of st) → Reserves (state_of m) seat call number o (state_of M)
+    reserve None (is_w, is_new) = same None (graph_of m.store) is_w is_new
+    reserve (Some shape) (c, below, unused, is_w, is_new) = (c, below, unused, same (Some c) (reserved_in c shape (graph_of m.store)) is_w is_new)
+    step : Begins (state_of m) seat call (Begun_as number) (state_of M)
+    step = (number_read m.seats seat None free, counted, reserve (reserves (form call)) begun)
+
+-- a seat more
+pub seat_kept : (m : Machine) (b k p : ℕ) → IsKept m b k p → (seats : List (Option Running)) → seats ≡ m.seats ++ None ∷ [] → (state_of (record m { seats = seats }) ≡ state_of m) × IsKept (record m { seats = seats }) b k p
+seat_kept m b k p kept seats is = (same, record {
+  run = subst Run (sym same) kept.run;
+  roomy = kept.roomy;
+  begun_is = kept.begun_is;
+  commits_is = kept.commits_is;
+  within = subst (λ (n : ℕ). k + n ≤ b) (sym (ap walking is ∙ walking_more m.seats)) kept.within;
+  owed_is = subst (λ (n : ℕ). n ≤ p) (sym (ap owed is ∙ owed_more m.seats)) kept.owed_is;
+})
+  where
+    same : state_of (record m { seats = seats }) ≡ state_of m
+    same = same_state _ _ _ _ _ _ _ _ _ _ _ refl refl refl (ap records is ∙ records_more m.seats) (ap number_on is ∙ numbers_more m.seats)
+
+-- a new core
+empty_below : (n : ℕ) (s : Shape) (bound : ℕ) → 1 ≤ bound → empty_graph.shape n ≡ Some s → n < bound
+empty_below n s bound one e = go (eqb n 0) refl e
+  where
+    go : (b : Bool) → eqb n 0 ≡ b → cond b (Some (Dir [])) None ≡ Some s → n < bound
+    go true f g = let z : n ≡ 0 = eqb_true n 0 f in omega (arith, z, one)
+    go false f g = cc
+
+pub new_kept : (st : Places) (hs : Holding) (limit : ℕ) → 1 ≤ limit → graph_of st ≡ empty_graph → st.limit ≡ limit → holder hs ≡ (λ n. None) → 1 ≤ room hs
+    → (state_of (record { store = st; holding = hs; seats = []; timeline = [] }) ≡ empty limit) × IsKept (record { store = st; holding = hs; seats = []; timeline = [] }) 0 0 0
+new_kept st hs limit one graph is_limit is_hs has = (same, record {
+  run = subst Run (sym same) (Start limit one);
+  roomy = λ n s e. empty_below n s (room hs) has (ap (λ (g : Graph). g.shape n) (sym graph) ∙ e);
+  begun_is = refl;
+  commits_is = refl;
+  within = omega arith;
+  owed_is = omega arith;
+})
+  where
+    same : state_of (record { store = st; holding = hs; seats = []; timeline = [] }) ≡ empty limit
+    same = same_state _ _ _ _ _ _ _ _ _ _ _ is_limit graph is_hs refl (fun_ext (λ n. refl))

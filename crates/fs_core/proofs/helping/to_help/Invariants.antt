@@ -1,0 +1,7 @@
+use Rattle.fs_nodes.specs.Stores.{kid}
+use Rattle.fs_core.specs.Searches.{HasLeast}
+use Rattle.fs_core.proofs.helping.to_help.Given as goal
+
+-- of the seats so far
+abbrev pub invariant-loop-seat : goal.invariant-loop-seat
+invariant-loop-seat l = HasLeast (kid l.store) l.seats l.node l.seat l.chosen

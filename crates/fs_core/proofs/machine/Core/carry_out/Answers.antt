@@ -1,0 +1,15 @@
+use Rattle.fs_core.proofs.Doing.{finish_can, carried_kept}
+use Rattle.fs_core.proofs.machine.Core.carry_out.Goals as goal
+
+pub carry_out-requires-clause-can : goal.carry_out-requires-clause-can
+carry_out-requires-clause-can c = finish_can _ _ _ _ c.args.seat c.args.call c.args.moved c.self.invariant (rw (← c.self.view_is) at c.requires.moves) c.index_mut.result.now c.index_mut.ensures.value
+
+pub invariant_of-self : goal.invariant_of-self
+invariant_of-self c =
+    (carried_kept _ _ _ _ c.args.seat c.args.call c.args.moved c.args.place c.self.invariant (rw (← c.self.view_is) at c.requires.moves) (rw (← c.self.view_is) at c.requires.placed)
+    c.carry_out.new.store c.index_mut.result.now c.carry_out.new.slot c.carry_out.ensures.graph c.carry_out.ensures.limit c.index_mut.ensures.value c.carry_out.ensures.slot).1
+
+pub returns-clause-step : goal.returns-clause-step
+returns-clause-step c = rw (← c.self.view_is)
+    (carried_kept _ _ _ _ c.args.seat c.args.call c.args.moved c.args.place c.self.invariant (rw (← c.self.view_is) at c.requires.moves) (rw (← c.self.view_is) at c.requires.placed)
+    c.carry_out.new.store c.index_mut.result.now c.carry_out.new.slot c.carry_out.ensures.graph c.carry_out.ensures.limit c.index_mut.ensures.value c.carry_out.ensures.slot).0

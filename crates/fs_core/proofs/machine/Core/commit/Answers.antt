@@ -1,0 +1,24 @@
+use Rattle.std.proofs.Common.{◌+◌}
+use Rattle.fs_core.proofs.Doing.{finish_can, committed_kept, moving_place, finish_fits, fits_below}
+use Rattle.fs_core.proofs.machine.Core.commit.Goals as goal
+
+pub carry_out-requires-clause-can : goal.carry_out-requires-clause-can
+carry_out-requires-clause-can c = finish_can _ _ _ _ c.args.seat c.args.call c.args.moved c.self.invariant (rw (← c.self.view_is) at c.requires.moves) c.index_mut.result.now c.index_mut.ensures.value
+
+pub overflow_add-self : goal.overflow_add-self
+overflow_add-self c =
+    let fits = finish_fits _ _ _ _ c.args.seat c.args.call c.args.moved c.self.invariant (rw (← c.self.view_is) at c.requires.moves) (rw (← c.self.view_is) at c.requires.walking) in
+    fits_below c.self.inside.begun (c.self.inside.commits + 1) fits c.self.ranges.1.1.1.0.1
+
+pub push-requires : goal.push-requires
+push-requires c = moving_place _ _ _ _ c.args.seat c.args.call _ c.self.invariant (rw (← c.self.view_is) at c.requires.moves)
+
+pub invariant_of-self : goal.invariant_of-self
+invariant_of-self c = rw c.push.ensures
+    (committed_kept _ _ _ _ c.args.seat c.args.call c.args.moved c.self.invariant (rw (← c.self.view_is) at c.requires.moves) (rw (← c.self.view_is) at c.requires.walking) (rw (← c.self.view_is) at c.requires.alone)
+    c.carry_out.new.store c.index_mut.result.now c.carry_out.new.slot c.carry_out.ensures.graph c.carry_out.ensures.limit c.index_mut.ensures.value c.carry_out.ensures.slot).1
+
+pub returns-clause-step : goal.returns-clause-step
+returns-clause-step c = rw (c.push.ensures, ← c.self.view_is)
+    (committed_kept _ _ _ _ c.args.seat c.args.call c.args.moved c.self.invariant (rw (← c.self.view_is) at c.requires.moves) (rw (← c.self.view_is) at c.requires.walking) (rw (← c.self.view_is) at c.requires.alone)
+    c.carry_out.new.store c.index_mut.result.now c.carry_out.new.slot c.carry_out.ensures.graph c.carry_out.ensures.limit c.index_mut.ensures.value c.carry_out.ensures.slot).0

@@ -1,0 +1,108 @@
+//! What a begin makes ready, so that no step takes memory.
+
+ghost use Rattle.std.specs.Prelude.{◌≡◌, ◌≢◌, ◌+◌, ◌≤◌, ◌↔◌, IfOk, OnOk, OnErr, IsSome, Err};
+ghost use Rattle.fs_nodes.specs.Graphs.{IsGraph};
+ghost use Rattle.fs_nodes.specs.Stores.{graph_of, in_use};
+ghost use Rattle.fs_locks.specs.Holding.{holder, room};
+ghost use Rattle.fs_seq.specs.Forms.{form, reserves};
+ghost use Rattle.fs_ops.specs.Works.{BegunAs};
+ghost use Rattle.fs_core.specs.Events.{HasRoom};
+ghost use Rattle.fs_core.specs.declared.answer.Refusal.TheVariants as refusals;
+
+use crate::answer::Refusal;
+use fs_journal::Timeline;
+use fs_locks::Holders;
+use fs_nodes::{NoNode, NodeNo, Store};
+use fs_ops::Op;
+use fs_seq::Call;
+use std::alloc::{AllocError, Global};
+
+/// How many entries a call appends: it begins, commits and returns.
+const ENTRIES_OF_A_CALL: usize = 3;
+
+/// A call that is ready to begin: how far it is, its number, and its copy for the timeline.
+#[derive(Drop)]
+pub struct Ready {
+    pub op: Op,
+    pub number: u64,
+    pub copy: Call,
+}
+
+/// Makes room for the holder of a reserved number.
+fn make_room(holders: &mut Holders, reserved: Option<NodeNo>) -> Result<(), AllocError>
+    ensures within { OnOk result (HasRoom reserved holders.new) }
+    ensures holders { holder holders.new ≡ holder holders.old }
+    ensures more { room holders.old ≤ room holders.new }
+{
+    let Some(node) = reserved else {
+        return Ok(());
+    };
+    let Some(count) = node.get().checked_add(1) else {
+        return Err(AllocError);
+    };
+    holders.make_room(count)
+}
+
+/// The next call's number and its copy, with room for the holder of its reserved number and for its entries.
+fn make_places(
+    alloc: Global,
+    call: &Call,
+    reserved: Option<NodeNo>,
+    holders: &mut Holders,
+    timeline: &mut Timeline,
+    begun: u64,
+) -> Result<(u64, Call), AllocError>
+    ensures number { IfOk result (λ places. places.0 ≡ begun + 1) }
+    ensures copy { IfOk result (λ places. places.1 ≡ call.now) }
+    ensures within { OnOk result (HasRoom reserved holders.new) }
+    ensures places { OnOk result (timeline.new ≡ record timeline.old { reserved = timeline.old.reserved + 3 }) }
+    ensures holders { holder holders.new ≡ holder holders.old }
+    ensures more { room holders.old ≤ room holders.new }
+    ensures err { OnErr result (timeline.new ≡ timeline.old) }
+{
+    let Some(number) = begun.checked_add(1) else {
+        return Err(AllocError);
+    };
+    let copy = call.copy(alloc)?;
+    make_room(holders, reserved)?;
+    timeline.make_places(ENTRIES_OF_A_CALL)?;
+    Ok((number, copy))
+}
+
+/// All that a call can need from its begin on. After a refusal the nodes, the holders and the timeline are as before:
+/// `Full` comes exactly where the call reserves a number and all are in use.
+pub fn make_ready(
+    alloc: Global,
+    call: &Call,
+    store: &mut Store,
+    holders: &mut Holders,
+    timeline: &mut Timeline,
+    begun: u64,
+) -> Result<Ready, Refusal>
+    requires graph { IsGraph (graph_of store.old) }
+    ensures op { IfOk result (λ ready. BegunAs (graph_of store.old) store.old.limit call.now (reserves (form call.now)) ready.op (graph_of store.new)) }
+    ensures number { IfOk result (λ ready. ready.number ≡ begun + 1) }
+    ensures copy { IfOk result (λ ready. ready.copy ≡ call.now) }
+    ensures within { IfOk result (λ ready. HasRoom ready.op.reserved holders.new) }
+    ensures places { OnOk result (timeline.new ≡ record timeline.old { reserved = timeline.old.reserved + 3 }) }
+    ensures full { (result ≡ Err refusals.Full) ↔ (IsSome (reserves (form call.now)) × (in_use store.old ≡ store.old.limit)) }
+    ensures seat { result ≢ Err refusals.SeatBusy }
+    ensures graph { OnErr result (graph_of store.new ≡ graph_of store.old) }
+    ensures timeline { OnErr result (timeline.new ≡ timeline.old) }
+    ensures limit { store.new.limit ≡ store.old.limit }
+    ensures holders { holder holders.new ≡ holder holders.old }
+    ensures more { room holders.old ≤ room holders.new }
+{
+    let op = match Op::begin(alloc, call, store) {
+        Ok(op) => op,
+        Err(NoNode::Full) => return Err(Refusal::Full),
+        Err(NoNode::OutOfMemory) => return Err(Refusal::OutOfMemory),
+    };
+    match make_places(alloc, call, op.reserved(), holders, timeline, begun) {
+        Ok((number, copy)) => Ok(Ready { op, number, copy }),
+        Err(_) => {
+            op.cancel(store);
+            Err(Refusal::OutOfMemory)
+        }
+    }
+}

@@ -1,0 +1,11 @@
+//! The shared state of all calls: begin, step, and runs of events.
+#![tactic(auto)]
+
+pub mod answer;
+mod beginning;
+mod helping;
+pub mod machine;
+pub mod running;
+
+pub use answer::{Event, Ran, Refusal, Stepped};
+pub use machine::Core;

@@ -1,0 +1,169 @@
+//! The shared state of all calls, its begins and its steps.
+
+ghost use Rattle.std.specs.Prelude.{MatchOption, ◌≡◌, ◌<◌, ℕ, None, Some, length};
+ghost use Rattle.fs_ops.specs.Moves.{Takes, Leaves, Finishes, Ends};
+ghost use Rattle.fs_laws.specs.States.{Step, NoneBelow};
+ghost use Rattle.fs_core.specs.Answers.{stepped_as};
+ghost use Rattle.fs_core.specs.Helping.{HelpsIf};
+ghost use Rattle.fs_core.specs.Machines.{state_of};
+ghost use Rattle.fs_core.specs.Seats.{MovesOn, PlacedOn};
+
+use crate::answer::Stepped;
+use crate::helping::to_help;
+use crate::running::{self, Running};
+use fs_journal::{Entry, Timeline};
+use fs_locks::{HeldBy, Holders};
+use fs_names::{CallNo, SeatNo};
+use fs_nodes::{NodeNo, Store};
+use fs_ops::Move;
+use std::marker::Model;
+
+/// The nodes, who holds them, the calls under way and the timeline.
+#[derive(Drop)]
+pub struct Core {
+    store: Store,
+    holders: Holders,
+    seats: Vec<Option<Running>>,
+    begun: u64,
+    commits: u64,
+    timeline: Timeline,
+}
+
+impl Model for Core {
+    ghost use Rattle.fs_core.specs.Machines.{Machine};
+    ghost use Rattle.fs_core.specs.Rooms.{IsKept};
+
+    ghost Value = { Machine };
+
+    ghost view = { λ a. record { store = a.store; holding = a.holders; seats = a.seats.items; timeline = a.timeline.entries } };
+
+    ghost invariant = { λ a. IsKept (record { store = a.store; holding = a.holders; seats = a.seats.items; timeline = a.timeline.entries }) a.begun a.commits a.timeline.reserved };
+}
+
+/// The call that holds a node.
+fn holder_by(held: HeldBy) -> CallNo
+    ensures { result ≡ held.0 }
+{
+    held.0
+}
+
+impl Core {
+    /// The call on a seat takes a node, unless another call holds it.
+    fn take(&mut self, seat: usize, call: CallNo, node: NodeNo) -> Stepped
+        requires seat { seat < length self.old.seats }
+        requires moves { MovesOn self.old seat call (Takes node) }
+        ensures step { Step (state_of self.old) seat (stepped_as result) (state_of self.new) }
+        ensures seats { length self.new.seats ≡ length self.old.seats }
+    {
+        match self.holders.take(node, call) {
+            Err(held) => Stepped::Busy(node, holder_by(held)),
+            Ok(()) => {
+                running::take(&mut self.seats[seat], node);
+                Stepped::Took(node)
+            }
+        }
+    }
+
+    /// The call on a seat lets a node go.
+    fn let_go(&mut self, seat: usize, call: CallNo, node: NodeNo) -> Stepped
+        requires seat { seat < length self.old.seats }
+        requires moves { MovesOn self.old seat call (Leaves node) }
+        ensures step { Step (state_of self.old) seat (stepped_as result) (state_of self.new) }
+        ensures seats { length self.new.seats ≡ length self.old.seats }
+    {
+        self.holders.let_go(node);
+        running::let_go(&mut self.seats[seat], node, &mut self.store);
+        Stepped::LetGo(node)
+    }
+
+    /// The walking call on a seat takes its place in the timeline, makes its change and fixes its reply.
+    fn commit(&mut self, seat: usize, call: CallNo, moved: Option<NodeNo>) -> Stepped
+        requires seat { seat < length self.old.seats }
+        requires moves { MovesOn self.old seat call (Finishes moved) }
+        requires walking { PlacedOn self.old seat None }
+        requires alone { NoneBelow (state_of self.old) moved }
+        ensures step { Step (state_of self.old) seat (stepped_as result) (state_of self.new) }
+        ensures seats { length self.new.seats ≡ length self.old.seats }
+    {
+        running::carry_out(&mut self.seats[seat], &mut self.store);
+        self.commits += 1;
+        self.timeline.push(Entry::Commit(call));
+        Stepped::Committed
+    }
+
+    /// The placed call on a seat makes its change and fixes its reply.
+    fn carry_out(&mut self, seat: usize, call: CallNo, moved: Option<NodeNo>, place: u64) -> Stepped
+        requires seat { seat < length self.old.seats }
+        requires moves { MovesOn self.old seat call (Finishes moved) }
+        requires placed { PlacedOn self.old seat (Some place) }
+        ensures step { Step (state_of self.old) seat (stepped_as result) (state_of self.new) }
+        ensures seats { length self.new.seats ≡ length self.old.seats }
+    {
+        running::carry_out(&mut self.seats[seat], &mut self.store);
+        Stepped::CarriedOut
+    }
+
+    /// The seat of the call to help before a finish that would move a node; none where no walking call is below it.
+    fn to_help(&self, moved: &Option<NodeNo>) -> Option<usize>
+        ensures { MatchOption result (NoneBelow (state_of self.now) moved.now) (λ other. HelpsIf self.now moved.now other) }
+    {
+        match moved {
+            Some(node) => to_help(&self.store, &self.seats, self.holders.room(), *node),
+            None => None,
+        }
+    }
+
+    /// The walking call on a seat helps a walking call below the node that it would move; where there is none, it commits.
+    fn help_or_commit(&mut self, seat: usize, call: CallNo, moved: Option<NodeNo>) -> Stepped
+        requires seat { seat < length self.old.seats }
+        requires moves { MovesOn self.old seat call (Finishes moved) }
+        requires walking { PlacedOn self.old seat None }
+        ensures step { Step (state_of self.old) seat (stepped_as result) (state_of self.new) }
+        ensures seats { length self.new.seats ≡ length self.old.seats }
+    {
+        match self.to_help(&moved) {
+            Some(other) => {
+                let helped = running::give_place(&mut self.seats[other], self.commits);
+                self.commits += 1;
+                self.timeline.push(Entry::Commit(helped));
+                Stepped::Helped(helped)
+            }
+            None => self.commit(seat, call, moved),
+        }
+    }
+
+    /// The call on a seat returns, and is under way no more.
+    fn end(&mut self, seat: usize, call: CallNo) -> Stepped
+        requires seat { seat < length self.old.seats }
+        requires moves { MovesOn self.old seat call Ends }
+        ensures step { Step (state_of self.old) seat (stepped_as result) (state_of self.new) }
+        ensures seats { length self.new.seats ≡ length self.old.seats }
+    {
+        let running = running::take_out(&mut self.seats[seat]);
+        let (reply, again) = running.op.end(&mut self.store);
+        self.timeline.push(Entry::Return(call, reply));
+        Stepped::Returned(again)
+    }
+
+    /// The call on a seat does its next move.
+    pub fn step(&mut self, seat: SeatNo) -> Stepped
+        requires seat { seat < length self.old.seats }
+        ensures step { Step (state_of self.old) seat (stepped_as result) (state_of self.new) }
+        ensures seats { length self.new.seats ≡ length self.old.seats }
+    {
+        let at = seat.get() as usize;
+        let Some(running) = &self.seats[at] else {
+            return Stepped::Idle;
+        };
+        let (call, place) = (running.call, running.place);
+        match running.op.next(&self.store) {
+            Move::Take(node) => self.take(at, call, node),
+            Move::LetGo(node) => self.let_go(at, call, node),
+            Move::Finish(moved) => match place {
+                Some(place) => self.carry_out(at, call, moved, place),
+                None => self.help_or_commit(at, call, moved),
+            },
+            Move::Return => self.end(at, call),
+        }
+    }
+}
