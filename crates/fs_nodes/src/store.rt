@@ -42,7 +42,7 @@ impl Model for Store {
 }
 
 impl Store {
-    ghost use Rattle.fs_nodes.specs.Stores.{graph_of, kid, shape, in_use, room, IsUnlinked, IsParent, kind_of, new_shape, next_entry, IsNextName};
+    ghost use Rattle.fs_nodes.specs.Stores.{graph_of, kid, shape, in_use, room, IsUnlinked, IsParent, kind_of, new_shape, next_entry, IsNextName, IsStore};
 
     /// The root alone, in a store for at most `limit` nodes. The only error is a lack of memory.
     pub fn new(alloc: Global, limit: usize) -> Result<Store, AllocError>
@@ -247,5 +247,13 @@ impl Store {
         ensures rest { IsNextName (names_of (shape self.now dir)) (option_copied low.entry) (option_map (λ entry. entry.0) result) }
     {
         least_in(&self.places, dir, low)
+    }
+
+    /// A fact for proofs, that every store keeps: it has no more places than its limit, the root is a directory that no
+    /// entry names, and each entry leads from a directory to its node.
+    pub fn invariant(&self)
+        ensures { IsStore self.now.limit self.now.places }
+    {
+        let _ = &self.places;
     }
 }
