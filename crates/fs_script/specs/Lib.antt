@@ -1,3 +1,4 @@
 pub mod Script
 pub mod TreeText
+pub mod Walks
 pub mod Examples

@@ -8,7 +8,9 @@ mod reading;
 pub mod script;
 #[cfg(test)]
 mod tests;
+mod tree;
 
 pub use fs_text::{FaultKind, ScriptFault, read_entries, write_entry};
 pub use reading::read_script;
 pub use script::{CallLists, Script, ThreadNames, Word, WordList};
+pub use tree::write_tree;

@@ -1,6 +1,7 @@
 use super::*;
 use fs_journal::Entry;
-use fs_names::{CallNo, SeatNo};
+use fs_names::{CallNo, Kind, Name, SeatNo};
+use fs_nodes::{NodeNo, Store};
 use fs_seq::Call;
 use std::alloc::Global;
 use std::test::Fail;
@@ -221,5 +222,65 @@ fn keeps_the_limit_on_threads(rt: HostRuntime) -> Result<(), Fail> {
         script_again(alloc, &more)?.as_slice(),
         b"line 258: TooLarge".as_slice()
     );
+    Ok(())
+}
+
+/// A store of directories and files under the root, each with the name and the directory of its number less one.
+fn planted(alloc: Global, rows: &[(usize, &[u8], Kind)]) -> Result<Store, Fail> {
+    let mut store = Store::new(alloc, 100)?;
+    for (dir, name, kind) in rows {
+        let Ok(node) = store.reserve(*kind) else {
+            return Err(Fail::from("a number"));
+        };
+        let name = Name::read(name).unwrap_or_default();
+        let dir = NodeNo::new(*dir);
+        let free = store.is_dir(dir) && store.find(dir, &name).is_none();
+        if free && store.parent(node).is_none() && node.get() != 0 && store.is_used(node) {
+            store.link(dir, &name, node);
+        }
+    }
+    Ok(store)
+}
+
+const GARDEN: [(usize, &[u8], Kind); 7] = [
+    (0, b"f", Kind::File),
+    (0, b"b", Kind::Dir),
+    (2, b"d", Kind::Dir),
+    (3, b"x y", Kind::Dir),
+    (2, b"c", Kind::File),
+    (0, b"b-", Kind::File),
+    (3, b"e", Kind::File),
+];
+
+#[test]
+fn writes_trees(rt: HostRuntime) -> Result<(), Fail> {
+    let alloc = rt.alloc();
+    let mut text = Vec::from_slice(alloc, b"|")?;
+    write_tree(alloc, &planted(alloc, &[])?, &mut text)?;
+    assert_eq!(rt; text.as_slice(), b"|tree\ndir /\n".as_slice());
+    let mut store = planted(alloc, &GARDEN)?;
+    if store.is_file(NodeNo::new(1)) {
+        let _old = store.swap_content(NodeNo::new(1), Vec::from_slice(alloc, b"hi")?);
+    }
+    text.clear();
+    write_tree(alloc, &store, &mut text)?;
+    assert_eq!(rt;
+        text.as_slice(),
+        b"tree\ndir /\ndir /b\nfile /b/c -\ndir /b/d\nfile /b/d/e -\ndir /b/d/x%20y\nfile /b- -\nfile /f 6869\n".as_slice()
+    );
+    Ok(())
+}
+
+#[test]
+fn writes_deep_trees(rt: HostRuntime) -> Result<(), Fail> {
+    let alloc = rt.alloc();
+    let mut rows: [(usize, &[u8], Kind); 90] = [(0, b"n", Kind::Dir); 90];
+    for depth in 0..90 {
+        rows[depth].0 = depth;
+    }
+    let mut text = Vec::new(alloc);
+    write_tree(alloc, &planted(alloc, &rows)?, &mut text)?;
+    let deepest = repeated(alloc, b"dir ", b"/n", 90, b"\n")?;
+    assert!(rt; text.as_slice().ends_with(&deepest));
     Ok(())
 }

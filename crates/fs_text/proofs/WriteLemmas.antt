@@ -5,16 +5,16 @@ use Rattle.fs_names.specs.Keys.{Key, names_text, path_text}
 use Rattle.fs_text.specs.Words.{escaped, escaped_byte, path_word}
 use Rattle.fs_text.proofs.EscapeLemmas.{escaped_cons_no}
 
-escaped_append : (xs ys : List ℕ) → escaped (xs ++ ys) ≡ escaped xs ++ escaped ys
+pub escaped_append : (xs ys : List ℕ) → escaped (xs ++ ys) ≡ escaped xs ++ escaped ys
 unfolding escaped
 escaped_append [] ys = refl
 escaped_append (x ∷ xs) ys = ap (λ z. escaped_byte x ++ z) (escaped_append xs ys) ∙ sym (append_assoc (escaped_byte x) (escaped xs) (escaped ys))
 
-escaped_none : escaped [] ≡ []
+pub escaped_none : escaped [] ≡ []
 unfolding escaped
 escaped_none = refl
 
-slash_escaped : (bs : List ℕ) → escaped (47 ∷ bs) ≡ 47 ∷ escaped bs
+pub slash_escaped : (bs : List ℕ) → escaped (47 ∷ bs) ≡ 47 ∷ escaped bs
 slash_escaped bs = escaped_cons_no 47 bs refl
 
 pub root_word : (p : Key) → p ≡ [] → path_word p ≡ 47 ∷ []

@@ -1,0 +1,225 @@
+//! Trees as they are written.
+
+ghost use Rattle.std.specs.Prelude.{◌≡◌, ◌++◌, ◌∷◌, [], Some, None, IsTrue, IfOk, OnOk, OnErr, codes, false, true};
+ghost use Rattle.fs_names.specs.Shapes.{is_there, is_dir};
+ghost use Rattle.fs_nodes.specs.Stores.{graph_of, shape, kid};
+ghost use Rattle.std.specs.List.{flat_map};
+ghost use Rattle.fs_text.specs.Words.{escaped, path_word};
+ghost use Rattle.fs_script.specs.TreeText.{tree_text, AppendsTree};
+ghost use Rattle.fs_script.specs.Walks.{WalkPlace, forest_of, key_above, Leads, Steps, IsUp, visited, row_text, node_seen, text_at, pending_at, at_root};
+ghost use Rattle.fs_seq.specs.Graph.{tree_of};
+
+use fs_names::Name;
+use fs_nodes::{NodeNo, Store};
+use fs_text::Addition;
+use std::alloc::{AllocError, Global};
+use std::marker::Model;
+use std::mem;
+
+/// A directory, and the entry by which a walk went down from it.
+#[derive(Drop)]
+pub(crate) struct Step {
+    pub(crate) dir: NodeNo,
+    pub(crate) name: Name,
+}
+
+/// A walk through the nodes in the order of their keys. It stands at a directory, behind the entry `low`.
+#[derive(Drop)]
+pub(crate) struct Walk {
+    above: Vec<Step>,
+    dir: NodeNo,
+    low: Option<Name>,
+}
+
+impl Model for Walk {
+    ghost use Rattle.fs_script.specs.Walks.{WalkPlace};
+
+    ghost Value = { WalkPlace };
+
+    ghost view = { λ w. record { above = w.above.items; dir = w.dir; low = w.low } };
+}
+
+/// The names of some steps, each behind a slash.
+fn push_steps(alloc: Global, above: &[Step], line: &mut Addition) -> Result<(), AllocError>
+    ensures ok { OnOk result (line.new.added ≡ line.old.added ++ flat_map (λ s. 47 ∷ escaped s.name) above.now) }
+    ensures before { line.new.before ≡ line.old.before }
+{
+    for step in above {
+        line.push(b"/")?;
+        line.push_escaped(alloc, step.name.bytes())?;
+    }
+    Ok(())
+}
+
+/// The path of an entry behind some steps.
+fn push_key(
+    alloc: Global,
+    above: &[Step],
+    name: &Name,
+    line: &mut Addition,
+) -> Result<(), AllocError>
+    ensures ok { OnOk result (line.new.added ≡ line.old.added ++ path_word (key_above above.now ++ name.now ∷ [])) }
+    ensures before { line.new.before ≡ line.old.before }
+{
+    push_steps(alloc, above, line)?;
+    line.push(b"/")?;
+    line.push_escaped(alloc, name.bytes())
+}
+
+/// The line of a node behind some steps.
+fn push_row(
+    alloc: Global,
+    store: &Store,
+    above: &[Step],
+    name: &Name,
+    node: NodeNo,
+    line: &mut Addition,
+) -> Result<(), AllocError>
+    requires { IsTrue (is_there (shape store.now node)) }
+    ensures ok { OnOk result (line.new.added ≡ line.old.added ++ row_text (key_above above.now ++ name.now ∷ []) (node_seen (shape store.now node))) }
+    ensures before { line.new.before ≡ line.old.before }
+{
+    if store.is_dir(node) {
+        line.push(b"dir ")?;
+        push_key(alloc, above, name, line)?;
+        return line.push(b"\n");
+    }
+    line.push(b"file ")?;
+    push_key(alloc, above, name, line)?;
+    line.push(b" ")?;
+    line.push_hex(alloc, store.content(node))?;
+    line.push(b"\n")
+}
+
+impl Walk {
+    /// At the root, before its first entry.
+    fn new(alloc: Global) -> Walk
+        ensures { result ≡ record { above = []; dir = 0; low = None } }
+    {
+        Walk {
+            above: Vec::new(alloc),
+            dir: NodeNo::new(0),
+            low: None,
+        }
+    }
+
+    /// Goes down to a directory, by its entry.
+    fn go_down(&mut self, name: Name, node: NodeNo) -> Result<(), AllocError>
+        ensures { OnOk result (self.new ≡ visited self.old name node true) }
+    {
+        let step = Step {
+            dir: self.dir,
+            name,
+        };
+        match self.above.push(step) {
+            Ok(()) => {
+                self.dir = node;
+                self.low = None;
+                Ok(())
+            }
+            Err(_) => Err(AllocError),
+        }
+    }
+
+    /// Writes an entry of the directory, and goes down to it where it is a directory.
+    fn visit(
+        &mut self,
+        alloc: Global,
+        store: &Store,
+        name: Name,
+        node: NodeNo,
+        line: &mut Addition,
+    ) -> Result<(), AllocError>
+        requires { IsTrue (is_there (shape store.now node)) }
+        ensures walk { OnOk result (self.new ≡ visited self.old name node (is_dir (shape store.now node))) }
+        ensures ok { OnOk result (line.new.added ≡ line.old.added ++ row_text (key_above self.old.above ++ name ∷ []) (node_seen (shape store.now node))) }
+        ensures before { line.new.before ≡ line.old.before }
+    {
+        push_row(alloc, store, &self.above, &name, node, line)?;
+        if store.is_dir(node) {
+            return self.go_down(name, node);
+        }
+        self.low = Some(name);
+        Ok(())
+    }
+
+    /// Goes up by one step, and answers whether there was one.
+    fn go_up(&mut self) -> bool
+        ensures { IsUp self.old self.new result }
+    {
+        match self.above.pop() {
+            Some(step) => {
+                self.dir = step.dir;
+                self.low = Some(step.name);
+                true
+            }
+            None => false,
+        }
+    }
+
+    /// Writes the next entry, or goes up where there is none, and answers whether there was either.
+    fn step(
+        &mut self,
+        alloc: Global,
+        store: &Store,
+        line: &mut Addition,
+    ) -> Result<bool, AllocError>
+        requires { Leads (forest_of store.now.places) 0 self.old.above self.old.dir }
+        ensures ok { IfOk result (Steps (forest_of store.now.places) self.old line.old.added self.new line.new.added) }
+        ensures before { line.new.before ≡ line.old.before }
+    {
+        store.invariant();
+        match store.next_name(self.dir, self.low.as_ref()) {
+            Some((name, node)) => {
+                self.visit(alloc, store, name, node, line)?;
+                Ok(true)
+            }
+            None => Ok(self.go_up()),
+        }
+    }
+}
+
+/// The lines of all nodes but the root.
+fn push_nodes(alloc: Global, store: &Store, line: &mut Addition) -> Result<(), AllocError>
+    ensures ok { OnOk result (line.new.added ≡ line.old.added ++ text_at (forest_of store.now.places) (pending_at (forest_of store.now.places) at_root)) }
+    ensures before { line.new.before ≡ line.old.before }
+{
+    let mut walk = Walk::new(alloc);
+    'steps: loop {
+        match walk.step(alloc, store, line) {
+            Ok(true) => {}
+            Ok(false) => return Ok(()),
+            Err(error) => return Err(error),
+        }
+    }
+}
+
+fn push_tree(alloc: Global, store: &Store, line: &mut Addition) -> Result<(), AllocError>
+    ensures ok { OnOk result (line.new.added ≡ line.old.added ++ tree_text (tree_of (forest_of store.now.places))) }
+    ensures before { line.new.before ≡ line.old.before }
+{
+    store.invariant();
+    line.push(b"tree\ndir /\n")?;
+    push_nodes(alloc, store, line)
+}
+
+/// Appends the text of the tree that the nodes spell: a line `tree`, and then the root and everything below it, each
+/// directory followed at once by its entries in byte order of their names. An `Err`, for want of memory alone, leaves
+/// the text as it was.
+pub fn write_tree(alloc: Global, store: &Store, text: &mut Vec<u8>) -> Result<(), AllocError>
+    ensures ok { OnOk result (AppendsTree (graph_of store.now) text.old.items text.new.items) }
+    ensures err { OnErr result (text.new.items ≡ text.old.items) }
+{
+    store.invariant();
+    let mut line = Addition::new(mem::replace(text, Vec::new(alloc)));
+    match push_tree(alloc, store, &mut line) {
+        Ok(()) => {
+            *text = line.kept();
+            Ok(())
+        }
+        Err(error) => {
+            *text = line.taken_back();
+            Err(error)
+        }
+    }
+}
