@@ -1,0 +1,110 @@
+//! Does each thing of the sequential tree and of the checker that takes memory, and once more where memory was refused.
+//! But for the last line, what it writes is the same whichever growth is refused: `bench/refused` refuses each in turn.
+#![tactic(auto)]
+
+mod again;
+mod calls;
+
+use again::Again;
+use calls::{CALLS, Row, What};
+use fs_journal::{Entry, Timeline};
+use fs_names::{CallNo, Kind, SeatNo};
+use fs_seq::{Call, Reply, SeqTree};
+use std::io;
+
+/// The call of a row.
+fn call(again: &mut Again, row: &Row) -> anyhow::Result<Call> {
+    let path = again.path(row.path)?;
+    Ok(match row.what {
+        What::Mkdir => Call::Mkdir(path),
+        What::Mknod => Call::Mknod(path),
+        What::Unlink => Call::Unlink(path),
+        What::Rmdir => Call::Rmdir(path),
+        What::Rename(to) => Call::Rename(path, again.path(to)?),
+        What::Stat => Call::Stat(path),
+        What::Readdir => Call::Readdir(path),
+        What::Read => Call::Read(path, 2, 4),
+        What::Write => Call::Write(path, 3, again.bytes(b"hello")?),
+        What::Truncate => Call::Truncate(path, 200),
+    })
+}
+
+fn show(rt: &impl Print, reply: &Reply) -> io::Result<()> {
+    match reply {
+        Reply::Done => println!(rt; "done"),
+        Reply::Stat(Kind::Dir, entries) => println!(rt; "a directory of {entries}"),
+        Reply::Stat(Kind::File, size) => println!(rt; "a file of {size}"),
+        Reply::Names(names) => println!(rt; "names: {}", names.as_slice().len()),
+        Reply::Bytes(bytes) => println!(rt; "bytes: {}", bytes.as_slice().len()),
+        Reply::Wrote(count) => println!(rt; "wrote {count}"),
+        Reply::Failed(errno) => println!(rt; "error {}", errno.number()),
+    }
+}
+
+/// Notes a call and its reply in the journal.
+fn note(
+    again: &mut Again,
+    timeline: &mut Timeline,
+    number: u64,
+    call: Call,
+    reply: Reply,
+) -> anyhow::Result<()> {
+    again.places(timeline, 3)?;
+    timeline.push(Entry::Begin(CallNo::new(number), SeatNo::new(0), call));
+    timeline.push(Entry::Commit(CallNo::new(number)));
+    timeline.push(Entry::Return(CallNo::new(number), reply));
+    Ok(())
+}
+
+/// A copy of the call of a row.
+fn copy(again: &mut Again, row: &Row) -> anyhow::Result<Call> {
+    let call = call(again, row)?;
+    Ok(again.copy(&call)?)
+}
+
+/// Applies a call and shows its reply.
+fn apply(
+    rt: &impl Print,
+    again: &mut Again,
+    tree: &mut SeqTree,
+    call: &Call,
+) -> anyhow::Result<Reply> {
+    let reply = again.apply(tree, call)?;
+    show(rt, &reply)?;
+    Ok(reply)
+}
+
+/// Applies the call of a row and notes it in the journal.
+fn step(
+    rt: &impl Print,
+    again: &mut Again,
+    tree: &mut SeqTree,
+    timeline: &mut Timeline,
+    number: u64,
+    row: &Row,
+) -> anyhow::Result<()> {
+    let call = copy(again, row)?;
+    let reply = apply(rt, again, tree, &call)?;
+    note(again, timeline, number, call, reply)
+}
+
+/// The journal of all calls.
+fn journal(rt: &impl Print, again: &mut Again) -> anyhow::Result<Timeline> {
+    let mut tree = again.tree()?;
+    let mut timeline = Timeline::new(again.alloc);
+    for (index, row) in CALLS.iter().enumerate() {
+        step(rt, again, &mut tree, &mut timeline, index as u64, row)?;
+    }
+    Ok(timeline)
+}
+
+fn main(rt: HostRuntime) -> anyhow::Result<()> {
+    let mut again = Again {
+        alloc: rt.alloc(),
+        refused: 0,
+    };
+    let timeline = journal(&rt, &mut again)?;
+    println!(&rt; "{:?}", again.check(timeline.entries())?)?;
+    println!(&rt; "refused: {}", again.refused)?;
+    Ok(())
+}
