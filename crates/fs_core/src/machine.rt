@@ -1,21 +1,26 @@
 //! The shared state of all calls, its begins and its steps.
 
-ghost use Rattle.std.specs.Prelude.{MatchOption, ◌≡◌, ◌<◌, ℕ, None, Some, length};
+ghost use Rattle.std.specs.Prelude.{MatchOption, IfOk, OnOk, OnErr, ◌≡◌, ◌<◌, ◌≤◌, ◌++◌, ◌∷◌, [], ℕ, None, Some, length};
+ghost use Rattle.fs_names.specs.declared.limits.TheConstants.{NODE_LIMIT};
+ghost use Rattle.fs_nodes.specs.Graphs.{numbers};
 ghost use Rattle.fs_ops.specs.Moves.{Takes, Leaves, Finishes, Ends};
-ghost use Rattle.fs_laws.specs.States.{Step, NoneBelow};
-ghost use Rattle.fs_core.specs.Answers.{stepped_as};
+ghost use Rattle.fs_laws.specs.States.{Begins, Step, NoneBelow, empty};
+ghost use Rattle.fs_core.specs.Answers.{begun_as, stepped_as};
 ghost use Rattle.fs_core.specs.Helping.{HelpsIf};
 ghost use Rattle.fs_core.specs.Machines.{state_of};
 ghost use Rattle.fs_core.specs.Seats.{MovesOn, PlacedOn};
 
-use crate::answer::Stepped;
+use crate::answer::{Refusal, Stepped};
+use crate::beginning::{Ready, make_ready};
 use crate::helping::to_help;
 use crate::running::{self, Running};
 use fs_journal::{Entry, Timeline};
 use fs_locks::{HeldBy, Holders};
-use fs_names::{CallNo, SeatNo};
+use fs_names::{CallNo, NODE_LIMIT, Path, SeatNo};
 use fs_nodes::{NodeNo, Store};
 use fs_ops::Move;
+use fs_seq::Call;
+use std::alloc::{AllocError, Global};
 use std::marker::Model;
 
 /// The nodes, who holds them, the calls under way and the timeline.
@@ -165,5 +170,124 @@ impl Core {
             },
             Move::Return => self.end(at, call),
         }
+    }
+
+    /// No nodes but the root, no seats and no entries, for at most `limit` nodes. The only error is a lack of memory.
+    pub fn with_limit(alloc: Global, limit: usize) -> Result<Core, AllocError>
+        requires least { 1 ≤ limit }
+        requires most { limit ≤ NODE_LIMIT }
+        ensures state { IfOk result (λ core. state_of core ≡ empty limit) }
+        ensures seats { IfOk result (λ core. core.seats ≡ []) }
+    {
+        let store = Store::new(alloc, limit)?;
+        let mut holders = Holders::new(alloc);
+        holders.make_room(1)?;
+        Ok(Core {
+            store,
+            holders,
+            seats: Vec::new(alloc),
+            begun: 0,
+            commits: 0,
+            timeline: Timeline::new(alloc),
+        })
+    }
+
+    /// The same for as many nodes as there may be. The only error is a lack of memory.
+    pub fn new(alloc: Global) -> Result<Core, AllocError>
+        ensures state { IfOk result (λ core. state_of core ≡ empty NODE_LIMIT) }
+        ensures seats { IfOk result (λ core. core.seats ≡ []) }
+    {
+        Core::with_limit(alloc, NODE_LIMIT)
+    }
+
+    /// One more seat, with no call under way: the first is 0, each next one more. After an error, a lack of memory,
+    /// nothing has changed.
+    pub fn seat(&mut self) -> Result<SeatNo, AllocError>
+        ensures number { IfOk result (λ seat. seat ≡ length self.old.seats) }
+        ensures seats { OnOk result (self.new.seats ≡ self.old.seats ++ None ∷ []) }
+        ensures state { state_of self.new ≡ state_of self.old }
+        ensures err { OnErr result (self.new.seats ≡ self.old.seats) }
+    {
+        let seat = self.seats.len() as u64;
+        self.seats.push(None)?;
+        Ok(SeatNo::new(seat))
+    }
+
+    /// How many seats there are.
+    pub fn seats(&self) -> usize
+        ensures { result ≡ length self.now.seats }
+    {
+        self.seats.len()
+    }
+
+    /// A call begins on a seat, and takes all memory that it can need. Its number is the number of begins with it.
+    /// After a refusal there is no entry, and nothing has changed: `SeatBusy` comes where the seat has a call under
+    /// way, else `Full` exactly where the call reserves a number and all are in use.
+    pub fn begin(&mut self, alloc: Global, seat: SeatNo, call: &Call) -> Result<CallNo, Refusal>
+        requires seat { seat < length self.old.seats }
+        ensures begins { Begins (state_of self.old) seat call.now (begun_as result) (state_of self.new) }
+        ensures seats { length self.new.seats ≡ length self.old.seats }
+    {
+        let at = seat.get() as usize;
+        if self.seats[at].is_some() {
+            return Err(Refusal::SeatBusy);
+        }
+        match make_ready(
+            alloc,
+            call,
+            &mut self.store,
+            &mut self.holders,
+            &mut self.timeline,
+            self.begun,
+        ) {
+            Err(refusal) => Err(refusal),
+            Ok(Ready { op, number, copy }) => {
+                let call = CallNo::new(number);
+                running::put(&mut self.seats[at], Running { call, place: None, op });
+                self.begun = number;
+                self.timeline.push(Entry::Begin(call, seat, copy));
+                Ok(call)
+            }
+        }
+    }
+
+    /// What has happened so far.
+    pub fn timeline(&self) -> &[Entry]
+        ensures { result.now ≡ self.now.timeline }
+    {
+        self.timeline.entries()
+    }
+
+    /// The call that holds a node.
+    pub fn holder(&self, node: NodeNo) -> Option<CallNo>
+        ensures { result ≡ (state_of self.now).holder node }
+    {
+        self.holders.holder(node)
+    }
+
+    /// The call under way on a seat.
+    pub fn under_way(&self, seat: SeatNo) -> Option<CallNo>
+        requires seat { seat < length self.now.seats }
+        ensures { result ≡ (state_of self.now).on_seat seat }
+    {
+        running::number(&self.seats[seat.get() as usize])
+    }
+
+    /// The nodes.
+    pub fn store(&self) -> &Store
+        ensures { result.now ≡ self.now.store }
+    {
+        &self.store
+    }
+
+    /// The node to which a path leads now, whoever holds it.
+    pub fn find_path(&self, path: &Path) -> Option<NodeNo>
+        ensures { result ≡ numbers (state_of self.now).graph path.now }
+    {
+        let mut node = NodeNo::new(0);
+        for i in 0..path.len() {
+            node = self.store.find(node, path.name(i))?;
+        }
+        Some(node)
     }
 }

@@ -9,7 +9,7 @@ use Rattle.fs_seq.specs.declared.reply.Reply.{Reply}
 use Rattle.fs_nodes.specs.Graphs.{Graph, empty_graph, numbers, set_at, released_in, reserved_in}
 use Rattle.fs_ops.specs.Finishes.{finish}
 use Rattle.fs_ops.specs.Leaving.{is_removed, releasing, let_go, finished_op, unreserved}
-use Rattle.fs_ops.specs.Moves.{Takes, Leaves, Finishes, Ends, next, took, left_stand}
+use Rattle.fs_ops.specs.Moves.{Finishes, next, took, left_stand, next_on}
 use Rattle.fs_ops.specs.Records.{Phase, Walking, Placed, Finished, Holds, Record, Records, Stand}
 use Rattle.fs_laws.specs.Books.{begins, commit_count, start, book_of}
 use Rattle.fs_laws.specs.Invariants.{IsUnfinished, Own, Invariant}
@@ -26,7 +26,7 @@ use Rattle.fs_laws.proofs.Returning.{ends_nowhere}
 use Rattle.fs_laws.proofs.Headlines.{run_keeps}
 use Rattle.fs_laws.proofs.Resizing.{Within, AllWithin, SameKind, Resizes, finish_resizes}
 use Rattle.fs_laws.proofs.Takes.{takes_by}
-use Rattle.fs_laws.proofs.Neat.{NeatOp, Neat, neat_op_by, DirStays, TookWell, took_root, took_well}
+use Rattle.fs_laws.proofs.Neat.{NeatOp, Neat, neat_op_by, DirStays, TookWell, took_root, took_well, IsClosed}
 use Rattle.fs_laws.proofs.Closing.{LeftWell, left_well, finish_closed}
 
 -- a call under way that holds a node
@@ -294,15 +294,15 @@ finish_changes old inv acc c op o is u n = record {
         go (Dir ns) i k = (ns, i)
         go (File bytes) i k = absurd k
 
-    closed : (st : Stand) → op.stand ≡ Some st → Rattle.fs_laws.proofs.Neat.IsClosed st
+    closed : (st : Stand) → op.stand ≡ Some st → IsClosed st
     closed st on = go (ready old.graph op o n)
       where
-        go : Ready old.graph op o → Rattle.fs_laws.proofs.Neat.IsClosed st
+        go : Ready old.graph op o → IsClosed st
         go (By_text e text) = absurd (none_some (by_text (form op.call)) e (text_open old inv c op st is on) text)
         go (Stands s text on_s m) =
             let z : ◌≡◌ {A = Option Stand} (Some s) (Some st) = sym on_s ∙ on in
             let y : s ≡ st = cc in
-            finish_closed old.graph inv.is_graph op.remaining st o (own.well st on) (own.heads st on) ((acc.neat c op st is on).under_way u) (subst (λ (x : Stand). Rattle.fs_ops.specs.Moves.next_on old.graph op.remaining x ≡ Finishes o) y m)
+            finish_closed old.graph inv.is_graph op.remaining st o (own.well st on) (own.heads st on) ((acc.neat c op st is on).under_way u) (subst (λ (x : Stand). next_on old.graph op.remaining x ≡ Finishes o) y m)
 
 account_committed : (old new : State) (seat : ℕ) → Invariant old → Accounts old → Step old seat Committed new → Accounts new
 account_committed old new seat inv acc (c, op, s, moves, walks, none, same) = subst Accounts (sym same)

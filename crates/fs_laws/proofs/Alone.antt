@@ -7,7 +7,7 @@ use Rattle.fs_names.specs.Parts.{common, left, left_by}
 use Rattle.fs_seq.specs.Forms.{form, Form, On, In, Rename, by_text, under}
 use Rattle.fs_seq.specs.declared.errno.Errno.{Errno}
 use Rattle.fs_nodes.specs.Graphs.{Graph, numbers, IsGraph}
-use Rattle.fs_ops.specs.Moves.{Move, Takes, Leaves, Finishes, Ends, next, next_by, next_on, target, took, inner, tail_of, head_took, head_left, left_stand, left_behind}
+use Rattle.fs_ops.specs.Moves.{Move, Takes, Leaves, Finishes, Ends, next, next_by, next_on, target, took, inner, tail_of, head_took, head_left, left_stand, left_behind, behind_of}
 use Rattle.fs_ops.specs.Records.{Phase, Walking, Placed, Finished, Holds, Record, Stand, stand_at}
 use Rattle.fs_laws.specs.Invariants.{IsUnfinished, Forked, StandsWell, VictimAt, IsSingle, HeadsFit}
 use Rattle.fs_laws.specs.Settled.{names_left, alone_by}
@@ -21,8 +21,9 @@ use Rattle.fs_laws.proofs.Taking.{Inner, inner_on, number_inner, fresh_well, fre
 use Rattle.fs_laws.proofs.TakingThere.{forked_of, well_of, left_on, no_end}
 use Rattle.fs_laws.proofs.Agreeing.{on_ends}
 use Rattle.fs_laws.proofs.Takes.{Take, Walk, Entry, Source, Dest, Replaced, takes_by, with_stand}
-use Rattle.fs_laws.proofs.Neat.{Neat, NeatOp, TookWell, took_well, plain_of, left_same, neat_heads}
+use Rattle.fs_laws.proofs.Neat.{Neat, TookWell, took_well, plain_of, neat_heads, neat_fresh}
 use Rattle.fs_laws.proofs.Solo.{Solo, solo_wants, front_same}
+use Rattle.fs_ops.specs.Finishes.{finish}
 
 parent_less : (p : Key) → length (parent_of p) ≤ length p
 parent_less [] = omega arith
@@ -97,8 +98,8 @@ walk_less (Rename p q) x l st n e i j =
     let d : length (left st.dest.walked (parent_of q)) ≡ length (parent_of q) = ap (λ (w : Key). length (left w (parent_of q))) j in
     omega (arith, a, b, c, d)
 
-behind_one : (w : Key) (n : ℕ) → one_if (Rattle.fs_ops.specs.Moves.behind_of w n) ≤ 1
-behind_one w n = if_one (Rattle.fs_ops.specs.Moves.behind_of w n)
+behind_one : (w : Key) (n : ℕ) → one_if (behind_of w n) ≤ 1
+behind_one w n = if_one (behind_of w n)
 
 -- what a head has left, one name on
 left_next : (w l whole : Key) (x : Name) → whole ≡ w ++ x ∷ l → left (w ++ x ∷ []) whole ≡ l
@@ -173,7 +174,7 @@ solo_took graph is k op n st s t = go t
         victim = fresh_victim graph n (Some st.node) (inner op.remaining);
         single = single_at n (Some st.node) (λ f. free (inl (let z : st.node ≡ n = cc in z)));
         heads = ((λ f. refl), (λ f. refl));
-        neat = Rattle.fs_laws.proofs.Neat.neat_fresh graph (inner op.remaining) n (Some st.node);
+        neat = neat_fresh graph (inner op.remaining) n (Some st.node);
       };
       same = step.same;
       reserved = refl;
@@ -210,7 +211,7 @@ solo_took graph is k op n st s t = go t
         (subst (λ (g : Form). moves_left g (record st { source = head_took st.source x n }) + 1 ≤ moves_left g st) (sym rem)
         (let a : length (left st.source.walked (parent_of p)) ≡ length l + 1 = ap length at_left ∙ (let z : length (x ∷ l) ≡ length l + 1 = omega arith in z) in
         let c : length (left (st.source.walked ++ x ∷ []) (parent_of p)) ≡ length l = ap length (left_next st.source.walked l (parent_of p) x whole) in
-        let d : one_if (Rattle.fs_ops.specs.Moves.behind_of st.source.walked st.source.node) ≤ 1 = behind_one st.source.walked st.source.node in
+        let d : one_if (behind_of st.source.walked st.source.node) ≤ 1 = behind_one st.source.walked st.source.node in
         omega (arith, a, c, d)))
       where
         f : Forked graph st.node p q st
@@ -234,7 +235,7 @@ solo_took graph is k op n st s t = go t
         (subst (λ (g : Form). moves_left g (record st { dest = head_took st.dest x n }) + 1 ≤ moves_left g st) (sym rem)
         (let a : length (left st.dest.walked (parent_of q)) ≡ length l + 1 = ap length at_left ∙ (let z : length (x ∷ l) ≡ length l + 1 = omega arith in z) in
         let c : length (left (st.dest.walked ++ x ∷ []) (parent_of q)) ≡ length l = ap length (left_next st.dest.walked l (parent_of q) x whole) in
-        let d : one_if (Rattle.fs_ops.specs.Moves.behind_of st.dest.walked st.dest.node) ≤ 1 = behind_one st.dest.walked st.dest.node in
+        let d : one_if (behind_of st.dest.walked st.dest.node) ≤ 1 = behind_one st.dest.walked st.dest.node in
         omega (arith, a, c, d)))
       where
         f : Forked graph st.node p q st
@@ -336,11 +337,11 @@ pub record Finishing (graph : Graph) (k : Key) (op : Record) (steps : ℕ) : Typ
   pub o : Option ℕ
   pub solo : Solo graph (k ++ r) last st
   pub move : next_on graph last.remaining st ≡ Finishes o
-  pub next : next graph last ≡ Finishes o
+  pub ends : next graph last ≡ Finishes o
   pub same : under (k ++ r) last.remaining ≡ under k op.remaining
   pub reserved : last.reserved ≡ op.reserved
   pub phase : last.phase ≡ op.phase
-  pub made : alone_by steps graph op (Rattle.fs_ops.specs.Moves.next graph op) ≡ Rattle.fs_ops.specs.Finishes.finish graph last
+  pub made : alone_by steps graph op (next graph op) ≡ finish graph last
 
 -- the next move of a call that is under way and stands somewhere
 solo_next : (graph : Graph) (k : Key) (op : Record) (st : Stand) → Solo graph k op st → next graph op ≡ next_on graph op.remaining st
@@ -360,14 +361,14 @@ further graph k op v st steps more a f e = record {
   o = f.o;
   solo = subst (λ (x : Key). Solo graph x f.last f.st) (append_assoc k a.r f.r) f.solo;
   move = f.move;
-  next = f.next;
+  ends = f.ends;
   same = ap (λ (x : Key). under x f.last.remaining) (sym (append_assoc k a.r f.r)) ∙ f.same ∙ a.same;
   reserved = f.reserved ∙ a.reserved;
   phase = f.phase ∙ a.phase;
   made = e ∙ f.made;
 }
 
-ended_here : (graph : Graph) (k : Key) (op : Record) (st : Stand) (steps : ℕ) (o : Option ℕ) → Solo graph k op st → next_on graph op.remaining st ≡ Finishes o → alone_by steps graph op (next graph op) ≡ Rattle.fs_ops.specs.Finishes.finish graph op → Finishing graph k op steps
+ended_here : (graph : Graph) (k : Key) (op : Record) (st : Stand) (steps : ℕ) (o : Option ℕ) → Solo graph k op st → next_on graph op.remaining st ≡ Finishes o → alone_by steps graph op (next graph op) ≡ finish graph op → Finishing graph k op steps
 ended_here graph k op st steps o s m e = record {
   last = op;
   st = st;
@@ -375,7 +376,7 @@ ended_here graph k op st steps o s m e = record {
   o = o;
   solo = stay_here graph k op st s;
   move = m;
-  next = solo_next graph k op st s ∙ m;
+  ends = solo_next graph k op st s ∙ m;
   same = under_here k op.remaining;
   reserved = refl;
   phase = refl;

@@ -1,5 +1,5 @@
 -- Who stands below whom, who holds what, and what the placed calls leave.
-use Rattle.std.proofs.Common.{◌≡◌, ℕ, ◌<◌, Bool, true, false, cond, List, [], ◌∷◌, ◌++◌, Option, Some, None, refl, sym, ap, ap₂, ◌∙◌, append_assoc, append-nil, subst, ◌⊎◌, inl, inr}
+use Rattle.std.proofs.Common.{◌≡◌, ℕ, List, [], ◌∷◌, ◌++◌, Option, Some, None, sym, ap, ◌∙◌, append-nil, subst, ◌⊎◌, inl, inr, arith}
 use Rattle.fs_names.specs.Keys.{Key, after_prefix}
 use Rattle.fs_seq.specs.declared.reply.Reply.{Reply}
 use Rattle.fs_nodes.specs.Graphs.{at, numbers}
@@ -51,7 +51,7 @@ no_walking_below s run c d i op st a ph (q, is, walks, below) =
 pub no_later_below : (s : State) → Run s → NoLaterBelow s
 no_later_below s run c d i j op q st a ph is qph less below =
     not_below s (run_keeps s run) c d op q st
-    (phases_differ s c d op q a.is is (λ e. (let z : ◌≡◌ {A = Phase} (Placed i) (Placed j) = sym ph ∙ e ∙ qph in let y : i ≡ j = cc in omega (Rattle.std.proofs.Common.arith, less, y))))
+    (phases_differ s c d op q a.is is (λ e. (let z : ◌≡◌ {A = Phase} (Placed i) (Placed j) = sym ph ∙ e ∙ qph in let y : i ≡ j = cc in omega (arith, less, y))))
     a is (subst (λ (x : Phase). IsAfter x q.phase) (sym ph) (subst (IsAfter (Placed i)) (sym qph) less)) below
 
 pub nobody_between : (s : State) → Run s → NobodyBetween s

@@ -67,3 +67,4 @@ pub mod SettledAlone
 pub mod Working
 pub mod Places
 pub mod OneCall
+pub mod Determined

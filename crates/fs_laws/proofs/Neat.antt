@@ -7,7 +7,7 @@ use Rattle.fs_names.specs.Shapes.{Dir}
 use Rattle.fs_seq.specs.Forms.{Form, On, In, Rename}
 use Rattle.fs_seq.specs.declared.reply.Reply.{Reply}
 use Rattle.fs_nodes.specs.Graphs.{Graph}
-use Rattle.fs_ops.specs.Moves.{Move, Takes, Leaves, Finishes, next, next_on, first_of, head_move, target, target_move, fork_move, rename_move, dir_then, took, head_took, behind_of, left_stand, left_behind, left_last, left_heads}
+use Rattle.fs_ops.specs.Moves.{target, took, head_took, behind_of, left_behind, took_by, inner}
 use Rattle.fs_ops.specs.Records.{Finished, Holds, Head, HeadHolds, Record, Stand, stand_at}
 use Rattle.fs_laws.specs.Invariants.{IsUnfinished}
 use Rattle.fs_laws.proofs.Takes.{Take, Walk, Entry, Source, Dest, Replaced, with_stand, walked_on}
@@ -159,14 +159,14 @@ took_as graph op v n new is on seat here stays neat = record {
 }
 
 pub took_root : (graph : Graph) (op : Record) (n : ℕ) → IsUnfinished op → op.stand ≡ None → TookWell graph op n
-took_root graph op n u off = took_as graph op (record op { stand = Some (stand_at n None) }) n (stand_at n None) (ap (λ (s : Option Stand). Rattle.fs_ops.specs.Moves.took_by op s (target op.remaining) n) off) refl refl (inl refl)
+took_root graph op n u off = took_as graph op (record op { stand = Some (stand_at n None) }) n (stand_at n None) (ap (λ (s : Option Stand). took_by op s (target op.remaining) n) off) refl refl (inl refl)
     (λ st m e h. (let z : ◌≡◌ {A = Option Stand} None (Some st) = sym off ∙ e in cc))
     (open_only graph op (record op { stand = Some (stand_at n None) }) (stand_at n None) u refl (neat_fresh graph op.remaining n None))
 
 pub took_well : (graph : Graph) (op : Record) (n : ℕ) (st : Stand) → IsUnfinished op → op.stand ≡ Some st → Neat graph op.remaining st → Take graph op n st → TookWell graph op n
 took_well graph op n st u on w (Walk x l way b kid is) =
     took_as graph op (walked_on op st x n) n (stand_at n (Some st.node)) is refl refl (inl refl) (λ s m e h. stays m (subst (λ (y : Stand). Holds y m) (stand_is s e) h))
-    (open_only graph op (walked_on op st x n) (stand_at n (Some st.node)) u refl (neat_fresh graph (Rattle.fs_ops.specs.Moves.inner op.remaining) n (Some st.node)))
+    (open_only graph op (walked_on op st x n) (stand_at n (Some st.node)) u refl (neat_fresh graph (inner op.remaining) n (Some st.node)))
   where
     plain : (st.source.walked ≡ []) × (st.dest.walked ≡ []) × (st.victim ≡ None)
     plain = plain_of graph op.remaining st x l way w

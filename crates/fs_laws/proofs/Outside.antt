@@ -6,14 +6,14 @@ use Rattle.fs_names.specs.Shapes.{Shape}
 use Rattle.fs_seq.specs.Forms.{form, reserves}
 use Rattle.fs_seq.specs.declared.call.Call.{Call}
 use Rattle.fs_seq.specs.declared.reply.Reply.{Reply}
-use Rattle.fs_nodes.specs.Graphs.{Graph, Kids, at, numbers, set_at, reserved_in}
+use Rattle.fs_nodes.specs.Graphs.{Graph, Kids, at, numbers, set_at, reserved_in, then_at}
 use Rattle.fs_ops.specs.Finishes.{finish}
 use Rattle.fs_ops.specs.Leaving.{is_removed, releasing, let_go, finished_op, unreserved}
-use Rattle.fs_ops.specs.Moves.{Takes, Leaves, Finishes, next, took, left_stand}
-use Rattle.fs_ops.specs.Records.{Phase, Walking, Placed, Finished, Holds, Record, Records, Stand}
+use Rattle.fs_ops.specs.Moves.{Takes, Leaves, Finishes, next, took, target, head_took, took_by}
+use Rattle.fs_ops.specs.Records.{Phase, Walking, Placed, Finished, Holds, Record, Stand, stand_at}
 use Rattle.fs_laws.specs.Below.{StandsAt, IsAboutToMove, Meanwhile, Now, Begins_another, Steps_another, Helps_one, HelpsEachOnce}
 use Rattle.fs_laws.specs.Books.{commit_count}
-use Rattle.fs_laws.specs.Invariants.{IsUnfinished, IsIn, Own, Invariant}
+use Rattle.fs_laws.specs.Invariants.{IsIn, Own, Invariant, HeadsFit}
 use Rattle.fs_laws.specs.Stands.{IsAfter, Located}
 use Rattle.fs_laws.specs.States.{State, Begun, Begun_as, Seat_busy, Full, No_memory, Begins, Reserves, new_op, began, Stepped, Idle, Took, Busy, LetGo, Helped, Committed, CarriedOut, Returned, Step, Run, Beginning, Stepping, taking, letting_go, helping, carrying, returning, IsWalkingBelow, NoneBelow}
 use Rattle.fs_laws.proofs.Walks.{at_child, at_from, then_some}
@@ -118,18 +118,18 @@ took_outside s c moved m f n op is move d (q, q_is, walks, (st, key, on, e)) = g
 
     by : (before : Stand) → op.stand ≡ Some before → Take s.graph op n before → d ≡ f → took op n ≡ q → IsWalkingBelow s moved d
     by before on_b (Walk x l way b kid t) i j =
-        let new : Stand = Rattle.fs_ops.specs.Records.stand_at n (Some before.node) in
-        let at_n : at s.graph.kid moved key ≡ Some n = e ∙ ap (λ (z : Stand). Some z.node) (sym (at_new (walked_on op before x n) (Rattle.fs_ops.specs.Records.stand_at n (Some before.node)) t refl j)) in
+        let new : Stand = stand_at n (Some before.node) in
+        let at_n : at s.graph.kid moved key ≡ Some n = e ∙ ap (λ (z : Stand). Some z.node) (sym (at_new (walked_on op before x n) (stand_at n (Some before.node)) t refl j)) in
         from before (walked_on op before x n) t refl on_b (walk_below s c moved m f n op before x key not_mover (record { is = is; on = on_b }) kid at_n) i j
     by before on_b (Entry c2 p rem way b kid off t) i j = here before (record before { victim = Some n }) (with_stand op (record before { victim = Some n })) t refl refl refl on_b i j
-    by before on_b (Source p q2 x l rem way b at_left sb kid t) i j = here before (record before { source = Rattle.fs_ops.specs.Moves.head_took before.source x n }) (with_stand op (record before { source = Rattle.fs_ops.specs.Moves.head_took before.source x n })) t refl refl refl on_b i j
-    by before on_b (Dest p q2 x l names rem way b arrived sb dir at_left db kid t) i j = here before (record before { dest = Rattle.fs_ops.specs.Moves.head_took before.dest x n }) (with_stand op (record before { dest = Rattle.fs_ops.specs.Moves.head_took before.dest x n })) t refl refl refl on_b i j
+    by before on_b (Source p q2 x l rem way b at_left sb kid t) i j = here before (record before { source = head_took before.source x n }) (with_stand op (record before { source = head_took before.source x n })) t refl refl refl on_b i j
+    by before on_b (Dest p q2 x l names rem way b arrived sb dir at_left db kid t) i j = here before (record before { dest = head_took before.dest x n }) (with_stand op (record before { dest = head_took before.dest x n })) t refl refl refl on_b i j
     by before on_b (Replaced p q2 names rem way b arrived sb dir at_left db want kid off t) i j = here before (record before { victim = Some n }) (with_stand op (record before { victim = Some n })) t refl refl refl on_b i j
 
     taken : TakesFrom s.graph op n → d ≡ f → took op n ≡ q → IsWalkingBelow s moved d
     taken (From_nowhere text off z) i j =
-        let v : took op n ≡ record op { stand = Some (Rattle.fs_ops.specs.Records.stand_at n None) } = ap (λ (o : Option Stand). Rattle.fs_ops.specs.Moves.took_by op o (Rattle.fs_ops.specs.Moves.target op.remaining) n) off in
-        absurd (root_not_below s c moved m key st.node (z ∙ ap (λ (x : Stand). x.node) (at_new (record op { stand = Some (Rattle.fs_ops.specs.Records.stand_at n None) }) (Rattle.fs_ops.specs.Records.stand_at n None) v refl j)) e)
+        let v : took op n ≡ record op { stand = Some (stand_at n None) } = ap (λ (o : Option Stand). took_by op o (target op.remaining) n) off in
+        absurd (root_not_below s c moved m key st.node (z ∙ ap (λ (x : Stand). x.node) (at_new (record op { stand = Some (stand_at n None) }) (stand_at n None) v refl j)) e)
     taken (From_stand before on_b t) i j = by before on_b (takes_by s.graph op n before on_b t) i j
 
     go : Either s.ops f (took op n) d q → IsWalkingBelow s moved d
@@ -146,7 +146,7 @@ kid_unreserved None graph = refl
 kid_unreserved (Some n) graph = refl
 
 abbrev HeadsFitOf : Record → Type 0
-HeadsFitOf op = (st : Stand) → op.stand ≡ Some st → Rattle.fs_laws.specs.Invariants.HeadsFit st
+HeadsFitOf op = (st : Stand) → op.stand ≡ Some st → HeadsFit st
 
 let_go_outside : (s : State) (moved f n : ℕ) (op : Record) → s.ops f ≡ Some op → next s.graph op ≡ Leaves n → HeadsFitOf op → (d : ℕ) → IsWalkingBelow (letting_go s f op n) moved d → IsWalkingBelow s moved d
 let_go_outside s moved f n op is move fit d (q, q_is, walks, (st, key, on, e)) = go (either s.ops f (let_go op n) d q q_is)
@@ -186,7 +186,7 @@ finish_outside s inv moved f op o is move alone d q st key differs q_is walks on
         (own.spare b r).1 l.0 l.1
 
     step : (a b : ℕ) (x : Name) (w : Key) → NewEntry s.graph op o a b x → at s.graph.kid b w ≡ Some st.node → at s.graph.kid a (x ∷ w) ≡ Some st.node
-    step a b x w (Same_entry g) h = ap (λ (v : Option ℕ). Rattle.fs_nodes.specs.Graphs.then_at v (λ k. at s.graph.kid k w)) g ∙ h
+    step a b x w (Same_entry g) h = ap (λ (v : Option ℕ). then_at v (λ k. at s.graph.kid k w)) g ∙ h
     step a b x w (Linked g) h = absurd (loose b w g h)
     step a b x w (Moved before v on_b g i) h = absurd (alone d b q st before w v differs (record { is = q_is; on = on }) walks on_b g i h)
 

@@ -14,12 +14,12 @@ use Rattle.fs_seq.specs.declared.errno.Errno.{Errno}
 use Rattle.fs_seq.specs.declared.errno.Errno.TheVariants.{Efbig}
 use Rattle.fs_seq.specs.declared.reply.Reply.{Reply}
 use Rattle.fs_seq.specs.declared.reply.Reply.TheVariants.{Done, Wrote, Failed}
-use Rattle.fs_nodes.specs.Graphs.{Graph, set_at, entry_shape, IsGraph}
+use Rattle.fs_nodes.specs.Graphs.{Graph, set_at, entry_shape, IsGraph, at}
 use Rattle.fs_ops.specs.Finishes.{on_made, in_made, moved_made, rename_made, made_at, made_by, finish}
 use Rattle.fs_ops.specs.Moves.{dir_error, path_error, there_by, rename_at, target}
 use Rattle.fs_ops.specs.Records.{Record, Stand}
 use Rattle.fs_laws.specs.Invariants.{Forked, ForkedAt, StandsWell}
-use Rattle.fs_laws.proofs.Prefixes.{prefix_some, prefix_append}
+use Rattle.fs_laws.proofs.Prefixes.{prefix_some, same_refl}
 use Rattle.fs_laws.proofs.Keeping.{Place, Here, Else, place}
 use Rattle.fs_laws.proofs.Making.{some_entry}
 use Rattle.fs_laws.proofs.Trees.{Really, really, full_row}
@@ -166,7 +166,7 @@ end_is a b e = go (after_prefix a b) refl e
 
 common_self : (a : Key) → common a a ≡ a
 common_self [] = refl
-common_self (x ∷ a) = rw (Rattle.fs_laws.proofs.Prefixes.same_refl x) (ap (λ (k : Key). x ∷ k) (common_self a))
+common_self (x ∷ a) = rw (same_refl x) (ap (λ (k : Key). x ∷ k) (common_self a))
 
 nil_front : (a b : Key) → [] ≡ a ++ b → a ≡ []
 nil_front [] b e = refl
@@ -178,8 +178,8 @@ one_parent graph p q st f way same =
     let a : parent_of p ≡ [] = sym (common_self (parent_of p)) ∙ ap (common (parent_of p)) e ∙ way in
     let b : st.source.walked ≡ [] = nil_front st.source.walked (left st.source.walked (parent_of p)) (sym a ∙ f.source_is) in
     let c : st.dest.walked ≡ [] = nil_front st.dest.walked (left st.dest.walked (parent_of q)) (sym (sym e ∙ a) ∙ f.dest_is) in
-    let s : ◌≡◌ {A = Option ℕ} (Some st.node) (Some st.source.node) = sym (ap (λ (k : Key). Rattle.fs_nodes.specs.Graphs.at graph.kid st.node k) b) ∙ f.source_at in
-    let d : ◌≡◌ {A = Option ℕ} (Some st.node) (Some st.dest.node) = sym (ap (λ (k : Key). Rattle.fs_nodes.specs.Graphs.at graph.kid st.node k) c) ∙ f.dest_at in
+    let s : ◌≡◌ {A = Option ℕ} (Some st.node) (Some st.source.node) = sym (ap (λ (k : Key). at graph.kid st.node k) b) ∙ f.source_at in
+    let d : ◌≡◌ {A = Option ℕ} (Some st.node) (Some st.dest.node) = sym (ap (λ (k : Key). at graph.kid st.node k) c) ∙ f.dest_at in
     let t : st.node ≡ st.source.node = cc in
     let u : st.node ≡ st.dest.node = cc in
     sym t ∙ u

@@ -2,9 +2,9 @@
 use Rattle.std.proofs.Common.{◌≡◌, ℕ, ◌+◌, ◌<◌, Bool, true, false, List, [], ◌∷◌, ◌++◌, Option, Some, None, refl, sym, ap, ap₂, ◌∙◌, append_assoc, subst, inl, inr, arith}
 use Rattle.fs_names.specs.Keys.{Key, after_prefix, parent_of, last_of}
 use Rattle.fs_names.specs.Names.{Name, inserted_name, removed_name}
-use Rattle.fs_names.specs.Shapes.{Shape, Dir, is_full, names_of}
+use Rattle.fs_names.specs.Shapes.{Shape, Dir, is_full, names_of, File}
 use Rattle.fs_seq.specs.Changes.{reply, after}
-use Rattle.fs_seq.specs.Forms.{form, EntryCall, Form, On, In, Rename, by_text, new_shape, under}
+use Rattle.fs_seq.specs.Forms.{Form, On, In, Rename, under, Fits}
 use Rattle.fs_seq.specs.Maps.{Map}
 use Rattle.fs_seq.specs.Rows.{on_row, Edit, Keep, Add, Remove, in_row}
 use Rattle.fs_seq.specs.declared.reply.Reply.{Reply}
@@ -12,9 +12,9 @@ use Rattle.fs_nodes.specs.Graphs.{Graph, Kids, at, numbers, spell, set_kid, set_
 use Rattle.fs_ops.specs.Finishes.{Made, on_made, in_made, moved_made, rename_made, made_at, made_by, finish}
 use Rattle.fs_ops.specs.Moves.{Finishes, next, next_on, target, dir_error, path_error, rename_at}
 use Rattle.fs_ops.specs.Records.{Phase, Walking, Placed, Finished, Record, Records, Stand}
-use Rattle.fs_laws.specs.Invariants.{remaining_of, spots, IsPlaced, AllLater, InOrder, IsIn, IsUnfinished, HasNumber, NumberFor, VictimAt, Own, Invariant}
+use Rattle.fs_laws.specs.Invariants.{remaining_of, spots, IsPlaced, AllLater, InOrder, IsIn, NumberFor, VictimAt, Invariant, StandsWell}
 use Rattle.fs_laws.specs.Settled.{names_left, alone, settled_by, settled_graph, settled_reply, settled_replies, settle, settle_replies}
-use Rattle.fs_laws.specs.Stands.{Kept, Keeps, Pair, Located}
+use Rattle.fs_laws.specs.Stands.{Kept, Keeps, Pair, Located, IsAfter}
 use Rattle.fs_laws.specs.States.{State, Run}
 use Rattle.fs_laws.proofs.Prefixes.{prefix_append, prefix_longer}
 use Rattle.fs_laws.proofs.Walks.{at_same, at_before, at_child, at_from, set_else, then_some}
@@ -24,6 +24,7 @@ use Rattle.fs_laws.proofs.Renames.{source_held, dest_held}
 use Rattle.fs_laws.proofs.Making.{finish_reply}
 use Rattle.fs_laws.proofs.Trees.{finish_tree}
 use Rattle.fs_laws.proofs.Helping.{upd_here, upd_else}
+use Rattle.fs_laws.proofs.Committing.{placed_in}
 use Rattle.fs_laws.proofs.Doing.{Finisher}
 use Rattle.fs_laws.proofs.DoingMoves.{does}
 use Rattle.fs_laws.proofs.Owning.{reached_used, well_by}
@@ -44,7 +45,7 @@ untouched graph a = record { kid = λ y. refl; shape = refl }
 
 on_untouched : (graph : Graph) (n a : ℕ) (r : Option ℕ) (row : Reply × Option (List ℕ)) → (a ≡ n → ⊥) → Untouched graph (on_made graph n r row).graph a
 on_untouched graph n a r (t, None) h = untouched graph a
-on_untouched graph n a r (t, Some bytes) h = record { kid = λ y. refl; shape = upd_else n (Some (Rattle.fs_names.specs.Shapes.File bytes)) graph.shape a h }
+on_untouched graph n a r (t, Some bytes) h = record { kid = λ y. refl; shape = upd_else n (Some (File bytes)) graph.shape a h }
 
 in_untouched : (graph : Graph) (n a : ℕ) (x : Name) (r : Option ℕ) (row : Reply × Edit) → (a ≡ n → ⊥) → Untouched graph (in_made graph n x r row).graph a
 in_untouched graph n a x r (t, Keep) h = untouched graph a
@@ -100,7 +101,7 @@ lone_kept graph is k op st i ph s = record { one_key = is.one_key; each = each; 
         record {
           located = subst (Located (numbers graph) k) y s.loc;
           walking = λ w. (let x : ◌≡◌ {A = Phase} (Placed i) Walking = sym ph ∙ ap (λ (x : Record). x.phase) o.1 ∙ w in cc);
-          fits = subst (λ (x : Record). Rattle.fs_seq.specs.Forms.Fits x.remaining) o.1 s.fits;
+          fits = subst (λ (x : Record). Fits x.remaining) o.1 s.fits;
         }
 
     pairs : (c d : ℕ) (p q : Record) (a b : Stand) → (c ≡ d → ⊥) → set_at 0 (Some op) (λ d. None) c ≡ Some p → set_at 0 (Some op) (λ d. None) d ≡ Some q → p.stand ≡ Some a → q.stand ≡ Some b → Pair (numbers graph) k a p.phase k b q.phase
@@ -173,14 +174,14 @@ gone_made graph is k r op last st i o ph s m n same reserved = record {
         let h : (finish graph last).graph.kid b.0 d.last ≡ Some v = ap (λ (t : Made). t.graph.kid b.0 d.last) made_is ∙ g.1 ∙ g.2 in
         entry v b.0 d.last free mine (finish_entries graph is last o (λ other on. well_there other on) n b.0 v d.last h)
       where
-        well_there : (other : Stand) → last.stand ≡ Some other → Rattle.fs_laws.specs.Invariants.StandsWell graph other.node last.remaining other
-        well_there other on = let z : ◌≡◌ {A = Option Stand} (Some st) (Some other) = sym s.on ∙ on in subst (λ (x : Stand). Rattle.fs_laws.specs.Invariants.StandsWell graph x.node last.remaining x) (let y : st ≡ other = cc in y) s.well
+        well_there : (other : Stand) → last.stand ≡ Some other → StandsWell graph other.node last.remaining other
+        well_there other on = let z : ◌≡◌ {A = Option Stand} (Some st) (Some other) = sym s.on ∙ on in subst (λ (x : Stand). StandsWell graph x.node last.remaining x) (let y : st ≡ other = cc in y) s.well
 
 pub gone : (graph : Graph) → IsGraph graph → (k : Key) (op : Record) (st : Stand) (i : ℕ) → op.phase ≡ Placed i → Solo graph k op st → Gone graph k op (alone graph op)
 gone graph is k op st i ph s =
     let f : Finishing graph k op (names_left op.remaining + names_left op.remaining + 4) = finishes_alone (names_left op.remaining + names_left op.remaining + 4) graph is k op st s (enough op.remaining st) in
     let e : alone graph op ≡ made_at graph f.last.remaining f.st f.last.reserved = f.made ∙ ap₂ (made_by graph f.last) f.solo.text f.solo.on in
-    subst (Gone graph k op) (sym e) (gone_made graph is k f.r op f.last f.st i f.o (f.phase ∙ ph) f.solo f.move f.next f.same f.reserved)
+    subst (Gone graph k op) (sym e) (gone_made graph is k f.r op f.last f.st i f.o (f.phase ∙ ph) f.solo f.move f.ends f.same f.reserved)
 
 -- another call whose keys don't begin with k
 pub record OffKeys (k kd : Key) (st : Stand) : Type 0 where
@@ -290,14 +291,11 @@ run_stack s inv acc (c ∷ cs) o = (first, ahead, run_stack s inv acc cs o.2)
     first : PlacedSolo s.graph s.ops inv.key c
     first = record { op = o.0.op; st = o.0.stand; place_no = o.0.place; is = o.0.is; phase = o.0.phase; solo = solo_of s inv acc c o.0.op o.0.stand o.0.is (λ r e. (let z : ◌≡◌ {A = Phase} (Placed o.0.place) (Finished r) = sym o.0.phase ∙ e in cc)) o.0.on }
 
-    placed_in : (d : ℕ) (cs : List ℕ) → InOrder s.ops cs → IsIn d cs → IsPlaced s.ops d
-    placed_in d cs h i = Rattle.fs_laws.proofs.Committing.placed_in s.ops d cs h i
-
     ahead : Ahead s.ops inv.key c o.0.op cs
     ahead d q st i is on = (off, λ n e f. inv.apart c d n o.0.op q differs o.0.is is (inl e) (inl f))
       where
         h : IsPlaced s.ops d
-        h = placed_in d cs o.2 i
+        h = placed_in s.ops d cs o.2 i
 
         q_is : h.op ≡ q
         q_is = let z : ◌≡◌ {A = Option Record} (Some h.op) (Some q) = sym h.is ∙ is in cc
@@ -329,7 +327,7 @@ run_stack s inv acc (c ∷ cs) o = (first, ahead, run_stack s inv acc cs o.2)
         its = (inv.kept.each d q st is on).located
 
         none : after_prefix (inv.key c) (inv.key d) ≡ None
-        none = pair.after (subst (λ (x : Phase). Rattle.fs_laws.specs.Stands.IsAfter x q.phase) (sym o.0.phase) (subst (Rattle.fs_laws.specs.Stands.IsAfter (Placed o.0.place)) (sym q_phase) less))
+        none = pair.after (subst (λ (x : Phase). IsAfter x q.phase) (sym o.0.phase) (subst (IsAfter (Placed o.0.place)) (sym q_phase) less))
 
         off : OffKeys (inv.key c) (inv.key d) st
         off = record {

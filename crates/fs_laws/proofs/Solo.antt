@@ -4,7 +4,7 @@ use Rattle.fs_names.specs.Keys.{Key, after_prefix, parent_of, last_of, has_more}
 use Rattle.fs_names.specs.Names.{Name}
 use Rattle.fs_names.specs.Parts.{HasNames, common, left, is_end}
 use Rattle.fs_seq.specs.Forms.{form, Form, Rename, by_text, Fits}
-use Rattle.fs_nodes.specs.Graphs.{Graph, at, numbers, IsGraph}
+use Rattle.fs_nodes.specs.Graphs.{Graph, numbers, IsGraph, entry_shape}
 use Rattle.fs_ops.specs.Moves.{same_kind}
 use Rattle.fs_ops.specs.Records.{Holds, Record, Stand}
 use Rattle.fs_laws.specs.Invariants.{IsUnfinished, Forked, StandsWell, NumberFor, VictimAt, IsSingle, HeadsFit, Invariant}
@@ -16,6 +16,7 @@ use Rattle.fs_laws.proofs.Located.{key_is, from_more, to_more}
 use Rattle.fs_laws.proofs.Takes.{Take, Walk, Entry, Source, Dest, Replaced}
 use Rattle.fs_laws.proofs.Neat.{SourceThere, NeatIn, Neat, plain_of, in_turn}
 use Rattle.fs_laws.proofs.Accounts.{Accounts, text_open}
+use Rattle.fs_laws.proofs.TakingThere.{forked_of}
 
 pub record Solo (graph : Graph) (k : Key) (op : Record) (st : Stand) : Type 0 where
   pub on : op.stand ≡ Some st
@@ -106,7 +107,7 @@ solo_wants graph is_graph k op n st solo t h = go t h
     at_node = ap (numbers graph) (append-nil (k)) ∙ loc.here
 
     forked : (p q : Key) → op.remaining ≡ Rename p q → common (parent_of p) (parent_of q) ≡ [] → Forked graph st.node p q st
-    forked p q rem way = Rattle.fs_laws.proofs.TakingThere.forked_of graph st.node p q st op.remaining rem way solo.well
+    forked p q rem way = forked_of graph st.node p q st op.remaining rem way solo.well
 
     arrived_is : (whole w : Key) → whole ≡ w ++ left w whole → left w whole ≡ [] → whole ≡ w
     arrived_is whole w e i = e ∙ ap (λ (l : Key). w ++ l) i ∙ append-nil w
@@ -141,7 +142,7 @@ solo_wants graph is_graph k op n st solo t h = go t h
     go (Dest p q x l names rem way b arrived sb dir at_left db kid t_is) (inr (inr (inr (inl (_, inl i))))) = not_itself st.dest.walked st.dest.node x loc.dest kid i
     go (Dest p q x l names rem way b arrived sb dir at_left db kid t_is) (inr (inr (inr (inl (_, inr i))))) = none_is st.dest.behind db i
     go (Dest p q x l names rem way b arrived sb dir at_left db kid t_is) (inr (inr (inr (inr i)))) =
-        let v : (graph.kid st.dest.node (last_of q) ≡ Some n) × (parent_of q ≡ st.dest.walked) = subst (λ (g : Form). Rattle.fs_laws.specs.Invariants.VictimAt graph g st) rem solo.victim n i in
+        let v : (graph.kid st.dest.node (last_of q) ≡ Some n) × (parent_of q ≡ st.dest.walked) = subst (λ (g : Form). VictimAt graph g st) rem solo.victim n i in
         let f : Forked graph st.node p q st = forked p q rem way in
         let e : [] ≡ x ∷ l = front_same st.dest.walked [] (x ∷ l) (append-nil st.dest.walked ∙ sym v.1 ∙ f.dest_is ∙ ap (λ (y : Key). st.dest.walked ++ y) at_left) in
         (let z : ◌≡◌ {A = Key} [] (x ∷ l) = e in cc)
@@ -157,7 +158,7 @@ solo_wants graph is_graph k op n st solo t h = go t h
         let q_is : q ≡ st.source.walked = key_is q (to_more p q fits) ∙ ap (λ (y : Key). y ++ last_of q ∷ []) d ∙ sym w in
         let p_is : p ≡ q ++ last_of p ∷ [] = key_is p (from_more p q fits) ∙ ap (λ (y : Key). y ++ last_of p ∷ []) (a ∙ sym q_is) in
         let above : has_more (after_prefix q p) ≡ true = ap has_more (ap (after_prefix q) p_is ∙ prefix_append q (last_of p ∷ [])) in
-        let below : has_more (after_prefix q p) ≡ false = not_true (has_more (after_prefix q p)) (all_true (same_kind (Rattle.fs_nodes.specs.Graphs.entry_shape graph st.source.node (last_of p)) (Rattle.fs_nodes.specs.Graphs.entry_shape graph st.dest.node (last_of q))) (not (is_end (after_prefix p q))) (not (has_more (after_prefix q p))) want) in
+        let below : has_more (after_prefix q p) ≡ false = not_true (has_more (after_prefix q p)) (all_true (same_kind (entry_shape graph st.source.node (last_of p)) (entry_shape graph st.dest.node (last_of q))) (not (is_end (after_prefix p q))) (not (has_more (after_prefix q p))) want) in
         (let z : true ≡ false = sym above ∙ below in cc)
     go (Replaced p q names rem way b arrived sb dir at_left db want kid off t_is) (inr (inr (inl (more, inr i)))) = none_is st.source.behind sb i
     go (Replaced p q names rem way b arrived sb dir at_left db want kid off t_is) (inr (inr (inr (inl (_, inl i))))) = not_itself st.dest.walked st.dest.node (last_of q) loc.dest kid i

@@ -3,11 +3,11 @@ use Rattle.std.proofs.Common.{◌≡◌, ℕ, zero, suc, ◌+◌, ◌≤◌, [],
 use Rattle.std.proofs.lemmas.List.{length-append}
 use Rattle.fs_names.specs.Keys.{Key, parent_of, last_of}
 use Rattle.fs_names.specs.Names.{Name}
-use Rattle.fs_names.specs.Parts.{HasNames, common}
+use Rattle.fs_names.specs.Parts.{HasNames, left}
 use Rattle.fs_seq.specs.Forms.{form, Form, by_text}
 use Rattle.fs_seq.specs.declared.reply.Reply.{Reply}
 use Rattle.fs_nodes.specs.Graphs.{numbers}
-use Rattle.fs_ops.specs.Moves.{Move, Takes, Leaves, Finishes, Ends, next}
+use Rattle.fs_ops.specs.Moves.{Move, Takes, Leaves, Finishes, Ends, next, next_on}
 use Rattle.fs_ops.specs.Records.{Walking, Placed, Finished, Holds, Record, Stand}
 use Rattle.fs_laws.specs.Books.{begins}
 use Rattle.fs_laws.specs.Invariants.{IsUnfinished, Forked, VictimAt, Invariant}
@@ -41,7 +41,7 @@ holds_waiting s inv acc c op m n st is u on t h = go t h
     none_is : {P : Type 0} (b : Option ℕ) → b ≡ None → b ≡ Some n → P
     none_is b i j = let z : ◌≡◌ {A = Option ℕ} None (Some n) = sym i ∙ j in cc
 
-    not_there : (p : Key) (x : Name) (l : Key) → Rattle.fs_names.specs.Parts.left st.source.walked (parent_of p) ≡ x ∷ l → SourceThere s.graph p st → ⊥
+    not_there : (p : Key) (x : Name) (l : Key) → left st.source.walked (parent_of p) ≡ x ∷ l → SourceThere s.graph p st → ⊥
     not_there p x l e t = let z : ◌≡◌ {A = Key} [] (x ∷ l) = sym t.arrived ∙ e in cc
 
     go : Take s.graph op m st → Holds st n → Keeps_waiting st n
@@ -133,8 +133,8 @@ waits_key s run c d e op q st other a on b on_q = go (takes_from s.graph op a.no
     go (From_nowhere text off z, u) t h = let y : ◌≡◌ {A = Option Stand} None (Some st) = sym off ∙ on in cc
     go (From_stand x on_x m, u) (From_nowhere text off z, v) h = let y : ◌≡◌ {A = Option Stand} None (Some other) = sym off ∙ on_q in cc
     go (From_stand x on_x m, u) (From_stand y on_y n, v) h =
-        let w : Below s ((run_keeps s run).key c) st a.node = wants_below s (run_keeps s run) c op a.node st a.is on (takes_by s.graph op a.node st on (subst (λ (z : Stand). Rattle.fs_ops.specs.Moves.next_on s.graph op.remaining z ≡ Takes a.node) (same x st op.stand on_x on) m)) in
-        let keeps : Keeps_waiting other a.node = holds_waiting s (run_keeps s run) (run_accounts s run) d q b.node a.node other b.is v on_q (takes_by s.graph q b.node other on_q (subst (λ (z : Stand). Rattle.fs_ops.specs.Moves.next_on s.graph q.remaining z ≡ Takes b.node) (same y other q.stand on_y on_q) n)) (holds h) in
+        let w : Below s ((run_keeps s run).key c) st a.node = wants_below s (run_keeps s run) c op a.node st a.is on (takes_by s.graph op a.node st on (subst (λ (z : Stand). next_on s.graph op.remaining z ≡ Takes a.node) (same x st op.stand on_x on) m)) in
+        let keeps : Keeps_waiting other a.node = holds_waiting s (run_keeps s run) (run_accounts s run) d q b.node a.node other b.is v on_q (takes_by s.graph q b.node other on_q (subst (λ (z : Stand). next_on s.graph q.remaining z ≡ Takes b.node) (same y other q.stand on_y on_q) n)) (holds h) in
         let r : (r : Key) × (HasNames r × ((run_keeps s run).key d ≡ (run_keeps s run).key c ++ r)) =
         waits_below (numbers s.graph) (run_keeps s run).is_graph.one_key ((run_keeps s run).key c) w.w st ((run_keeps s run).key d) other w.m a.node w.x
         ((run_keeps s run).kept.each c op st a.is on).located ((run_keeps s run).kept.each d q other b.is on_q).located

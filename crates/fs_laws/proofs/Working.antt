@@ -7,9 +7,9 @@ use Rattle.fs_seq.specs.declared.call.Call.{Call}
 use Rattle.fs_seq.specs.declared.errno.Errno.{Errno}
 use Rattle.fs_seq.specs.declared.reply.Reply.{Reply}
 use Rattle.fs_nodes.specs.Graphs.{Graph, set_at, reserved_in}
-use Rattle.fs_ops.specs.Finishes.{finish}
+use Rattle.fs_ops.specs.Finishes.{finish, Made}
 use Rattle.fs_ops.specs.Leaving.{let_go, finished_op}
-use Rattle.fs_ops.specs.Moves.{Move, Takes, Leaves, Finishes, Ends, next, next_by, took, took_by, target, left_stand, left_last, left_heads, last_held, first_walked}
+use Rattle.fs_ops.specs.Moves.{Takes, Leaves, next, next_by, took, took_by, target, left_stand, left_last, left_heads, next_on}
 use Rattle.fs_ops.specs.Records.{Phase, Walking, Placed, Finished, Record, Records, Stand, stand_at}
 use Rattle.fs_laws.specs.Books.{begins, commit_count}
 use Rattle.fs_laws.specs.Invariants.{IsUnfinished}
@@ -131,7 +131,7 @@ last_less remaining r st = victim st.victim refl
 left_less : (s : State) (run : Run s) (c : ℕ) (op : Record) (n : ℕ) → s.ops c ≡ Some op → next s.graph op ≡ Leaves n → work_of (Some (let_go op n)) + 1 ≤ work_of (Some op)
 left_less s run c op n is m = go op.phase (by_text (form op.call)) op.stand refl refl m
   where
-    on_way : (st : Stand) → IsUnfinished op → op.stand ≡ Some st → Rattle.fs_ops.specs.Moves.next_on s.graph op.remaining st ≡ Leaves n → work_of (Some (let_go op n)) + 1 ≤ work_of (Some op)
+    on_way : (st : Stand) → IsUnfinished op → op.stand ≡ Some st → next_on s.graph op.remaining st ≡ Leaves n → work_of (Some (let_go op n)) + 1 ≤ work_of (Some op)
     on_way st u on f =
         let a : Advanced s.graph ((run_keeps s run).key c) op st (left_alone op) = solo_left s.graph ((run_keeps s run).key c) op n st (solo_of s (run_keeps s run) (run_accounts s run) c op st is u on) (behind_of_move s.graph op.remaining st n f) in
         subst (λ (o : Option Stand). work_by op.remaining op.phase (left_stand op.phase op.stand) + 1 ≤ work_by op.remaining op.phase o) (sym on)
@@ -148,7 +148,7 @@ left_less s run c op n is m = go op.phase (by_text (form op.call)) op.stand refl
     go (Placed k) None (Some st) i j f = on_way st (λ r h. (let z : ◌≡◌ {A = Phase} (Placed k) (Finished r) = sym i ∙ h in cc)) j f
 
 -- a finish
-finish_less : (op : Record) (m : Rattle.fs_ops.specs.Finishes.Made) → IsUnfinished op → work_of (Some (finished_op op m)) + 1 ≤ work_of (Some op)
+finish_less : (op : Record) (m : Made) → IsUnfinished op → work_of (Some (finished_op op m)) + 1 ≤ work_of (Some op)
 finish_less op m u =
     let a : work_by op.remaining (Finished m.reply) op.stand ≤ 5 = finished_few op.remaining m.reply op.stand in
     let b : 6 ≤ work_by op.remaining op.phase op.stand = open_more op.remaining op.phase op.stand u in

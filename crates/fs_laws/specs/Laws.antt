@@ -12,7 +12,7 @@ use Rattle.fs_seq.specs.declared.call.Call.{Call}
 use Rattle.fs_seq.specs.declared.reply.Reply.{Reply}
 use Rattle.fs_laws.specs.Below.{NoWalkingBelow, NoLaterBelow, NobodyBetween, Settles, PlacesAreCounted, NeverWaitsToFinish, Meanwhile, HelpsEachOnce}
 use Rattle.fs_laws.specs.Placed.{Standing, Passes, PastAll, rekey_all}
-use Rattle.fs_laws.specs.Progress.{HasStep, WaitsBelow, IsNeverStuck}
+use Rattle.fs_laws.specs.Progress.{HasStep, WaitsBelow, IsNeverStuck, IsDetermined}
 use Rattle.fs_laws.specs.Work.{TakesWork, AddsWork}
 use Rattle.fs_laws.specs.OneCall.{StepsTo, MeetsTree}
 use Rattle.fs_laws.specs.States.{State, Begun_as, Begins, Run}
@@ -83,3 +83,7 @@ BeginsAddWork = (s : State) → Run s → AddsWork s
 -- a call that is begun with no other under way, and stepped to its end, replies and changes as the sequential tree says
 abbrev pub CallsMeetTheTree : Type 0
 CallsMeetTheTree = (s first new : State) (seat c : ℕ) (call : Call) (r : Reply) → Run s → IsIdle s → Begins s seat call (Begun_as c) first → StepsTo seat r new first → MeetsTree s call r new
+
+-- in every state, of a run or not: what a seat's step answers, and the state after it, are determined
+abbrev pub StepsAreDetermined : Type 0
+StepsAreDetermined = (s : State) → IsDetermined s

@@ -50,3 +50,7 @@ pub record HasStep (s : State) (seat : ℕ) : Type 0 where
   pub answer : Stepped
   pub new : State
   pub step : Step s seat answer new
+
+-- what a seat's step answers, and the state after it, are determined
+abbrev pub IsDetermined : State → Type 0
+IsDetermined s = (seat : ℕ) (a b : Stepped) (new other : State) → Step s seat a new → Step s seat b other → (a ≡ b) × (new ≡ other)

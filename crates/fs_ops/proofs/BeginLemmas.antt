@@ -1,23 +1,21 @@
 -- On numbers that are reserved.
-use Rattle.std.proofs.Common.{◌≡◌, ℕ, zero, suc, ◌+◌, ◌-◌, ◌<◌, Bool, true, false, cond, List, [], ◌∷◌, length, IsTrue, Option, Some, None, refl, sym, ap, subst, ◌∙◌, arith}
-use Rattle.std.specs.Prelude.{eqb, min, option_map, slice_get}
-use Rattle.fs_names.specs.Keys.{Key, parent_of, common_len}
-use Rattle.fs_names.specs.Names.{Name, same_name}
-use Rattle.fs_names.specs.Parts.{common}
-use Rattle.fs_names.specs.Shapes.{Shape, Dir, File, is_there, has_entries}
+use Rattle.std.proofs.Common.{◌≡◌, ℕ, Bool, true, false, cond, List, IsTrue, Option, Some, None, refl, sym, ap, subst, ◌∙◌}
+use Rattle.std.specs.Prelude.{eqb, option_map, slice_get}
+use Rattle.fs_names.specs.Names.{Name}
+use Rattle.fs_names.specs.Shapes.{Shape, is_there, has_entries}
 use Rattle.fs_names.specs.declared.kind.Kind.{Kind}
 use Rattle.fs_names.specs.declared.kind.Kind.TheVariants as kinds
 use Rattle.fs_nodes.specs.declared.node.Link.{Link}
 use Rattle.fs_nodes.specs.declared.node.Node.{Node}
-use Rattle.fs_nodes.specs.Graphs.{Graph, then_at, reserved_in, released_in, set_at}
+use Rattle.fs_nodes.specs.Graphs.{Graph, then_at, reserved_in, released_in}
 use Rattle.fs_nodes.specs.Places.{Places}
-use Rattle.fs_nodes.specs.Stores.{graph_of, kid_in, shape_in, shape_with, names_in, link_of, content_of, new_shape, IsUnlinked}
+use Rattle.fs_nodes.specs.Stores.{graph_of, kid_in, shape_in, shape_with, names_in, link_of, content_of, new_shape}
 use Rattle.fs_nodes.proofs.GraphLemmas.{graph_by}
 use Rattle.fs_nodes.proofs.PlaceLemmas.{eqb_true, eqb_refl, kid_link, read_within}
 use Rattle.fs_seq.specs.declared.call.Call.{Call}
-use Rattle.fs_ops.specs.Begins.{IsReserved, Reserves, HasReserved}
+use Rattle.fs_ops.specs.Begins.{Reserves}
 use Rattle.fs_ops.specs.Leaving.{unreserved}
-use Rattle.fs_ops.specs.Works.{Work, new_work, BegunAs, IsSpare, SpareIf}
+use Rattle.fs_ops.specs.Works.{Work, new_work, BegunAs, IsSpare}
 
 -- ---- numbers in use
 

@@ -1,5 +1,5 @@
 -- On finishes, each call by its own row.
-use Rattle.std.proofs.Common.{◌≡◌, ℕ, zero, suc, ◌+◌, ◌-◌, ◌≤◌, ◌<◌, Bool, true, false, List, [], ◌∷◌, length, take, drop, Option, Some, None, refl, sym, ap, subst, ◌∙◌, arith}
+use Rattle.std.proofs.Common.{◌≡◌, ℕ, ◌<◌, Bool, true, false, List, [], ◌∷◌, length, take, drop, Option, Some, None, refl, sym, ap, subst, ◌∙◌, arith}
 use Rattle.fs_names.specs.Names.{Name}
 use Rattle.fs_names.specs.Keys.{Key, last_of, parent_of}
 use Rattle.fs_names.specs.Shapes.{Shape, Dir, File, is_full}
@@ -21,7 +21,7 @@ use Rattle.fs_ops.specs.Moves.{target, path_error, dir_error, rename_at, walk_er
 use Rattle.fs_ops.specs.Records.{Stand, Record, Finished}
 use Rattle.fs_ops.specs.Replies.{refilled}
 use Rattle.fs_ops.specs.Steps.{started}
-use Rattle.fs_ops.specs.Views.{dropped, stand_of, stand_with, work_of, head_of, IsForked, Forks}
+use Rattle.fs_ops.specs.Views.{dropped, stand_of, stand_with, work_of, IsForked, Forks}
 use Rattle.fs_ops.specs.Works.{Work, HeadsApart, IsFinished, graph_after, record_of}
 use Rattle.fs_ops.proofs.KeyLemmas.{parent_drop, parent_length, target_drop}
 use Rattle.fs_ops.proofs.HeadLemmas.{some_left, none_left, last_drop}

@@ -1,5 +1,5 @@
 -- Parts of keys by counts of names.
-use Rattle.std.proofs.Common.{◌≡◌, ℕ, zero, suc, ◌+◌, ◌-◌, ◌≤◌, ◌<◌, Bool, true, false, cond, nat_lt, [], ◌∷◌, ◌++◌, length, take, drop, slice_get, min, Some, None, refl, sym, ap, ◌∙◌, arith, add-one, zero-add}
+use Rattle.std.proofs.Common.{◌≡◌, ℕ, zero, suc, ◌+◌, ◌-◌, ◌≤◌, ◌<◌, Bool, true, false, cond, [], ◌∷◌, length, take, drop, slice_get, min, None, refl, sym, ap, ◌∙◌, arith, add-one, zero-add}
 use Rattle.fs_names.specs.Names.{same_name}
 use Rattle.fs_names.specs.Keys.{Key, after_prefix, common_len, parent_of, last_of}
 use Rattle.fs_names.specs.Parts.{common, left}

@@ -1,5 +1,5 @@
 -- A finished call after a let go, told by counts of names.
-use Rattle.std.proofs.Common.{◌≡◌, ℕ, zero, suc, ◌+◌, ◌-◌, ◌≤◌, ◌<◌, nat_lt, ◌||◌, Bool, true, false, cond, [], ◌∷◌, length, take, drop, Option, Some, None, refl, sym, subst, ap, ◌∙◌, arith, length-drop}
+use Rattle.std.proofs.Common.{◌≡◌, ℕ, zero, suc, ◌+◌, ◌-◌, ◌≤◌, nat_lt, Bool, true, false, [], ◌∷◌, length, take, drop, Option, Some, None, refl, sym, subst, ap, arith, length-drop}
 use Rattle.std.specs.Option.{is_some}
 use Rattle.std.proofs.lemmas.Bool.Decides.{nat_tests}
 use Rattle.fs_names.specs.Keys.{Key, parent_of}
@@ -9,8 +9,8 @@ use Rattle.fs_seq.specs.declared.call.Call.{Call}
 use Rattle.fs_seq.specs.declared.reply.Reply.{Reply}
 use Rattle.fs_walk.specs.Ways.{Way, ForkWay, has_set_out}
 use Rattle.fs_ops.specs.Leaving.{is_removed, cleared}
-use Rattle.fs_ops.specs.Moves.{left_last, left_heads, left_stand}
-use Rattle.fs_ops.specs.Records.{Stand, Finished}
+use Rattle.fs_ops.specs.Moves.{left_last, left_stand}
+use Rattle.fs_ops.specs.Records.{Finished}
 use Rattle.fs_ops.specs.Steps.{way_after, fork_after}
 use Rattle.fs_ops.specs.Views.{Forks, IsForked, work_of, stand_of, stand_with, reply_of}
 use Rattle.fs_ops.specs.Works.{Work, IsLetGo}

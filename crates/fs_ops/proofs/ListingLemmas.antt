@@ -1,9 +1,8 @@
 -- On names that are told one after another.
 use Rattle.std.proofs.Common.{◌≡◌, ℕ, ◌+◌, ◌-◌, ◌<◌, ◌≤◌, List, [], ◌∷◌, ◌++◌, length, Option, Some, None, refl, ap, sym, ◌∙◌, arith, append_assoc, append-nil, length-append, subst}
 use Rattle.std.specs.Prelude.{slice_get}
-use Rattle.std.specs.List.{filter}
 use Rattle.fs_names.specs.Names.{Name}
-use Rattle.fs_nodes.specs.Stores.{names_above, is_above}
+use Rattle.fs_nodes.specs.Stores.{names_above}
 use Rattle.fs_ops.specs.Listing.{last_told, IsTold}
 
 -- all names are above none

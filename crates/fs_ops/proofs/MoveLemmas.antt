@@ -3,19 +3,18 @@ use Rattle.std.proofs.Common.{◌≡◌, ℕ, Bool, true, false, cond, ◌&&◌,
 use Rattle.std.specs.Prelude.{eqb, option_map, IfSome}
 use Rattle.std.specs.Ordering.{is_lt}
 use Rattle.fs_names.specs.Names.{Name, name_cmp, same_name, inserted_name, removed_name, has_name}
-use Rattle.fs_names.specs.Shapes.{Shape, Dir, File, names_of, is_dir}
+use Rattle.fs_names.specs.Shapes.{Shape, Dir, names_of, is_dir}
 use Rattle.std.proofs.lemmas.Cmp.{tied_itself}
 use Rattle.fs_names.proofs.Lemmas.{name_total, same_name_exact, same_name_refl}
 use Rattle.fs_nodes.specs.declared.node.Content.{Content}
 use Rattle.fs_nodes.specs.declared.node.Content.TheVariants as contents
-use Rattle.fs_nodes.specs.declared.node.Node.{Node}
-use Rattle.fs_nodes.specs.Graphs.{Graph, Kids, set_kid, set_at, unlinked_in, linked_in, moved_in}
+use Rattle.fs_nodes.specs.Graphs.{Graph, set_at, unlinked_in, moved_in}
 use Rattle.fs_nodes.specs.Places.{Places}
-use Rattle.fs_nodes.specs.Stores.{graph_of, names_in, shape_in, shape_with, content_at, is_above}
+use Rattle.fs_nodes.specs.Stores.{graph_of, names_in, shape_with, content_at, is_above}
 use Rattle.fs_nodes.proofs.AscentLemmas.{Ascends, names_ascend}
 use Rattle.fs_nodes.proofs.GraphLemmas.{graph_by}
-use Rattle.fs_nodes.proofs.NameLemmas.{Compared, Below, Same, Above, compare, above_more, removed_absent, inserted_same, inserted_below, inserted_above}
-use Rattle.fs_nodes.proofs.PlaceLemmas.{eqb_true, eqb_refl, both_true}
+use Rattle.fs_nodes.proofs.NameLemmas.{Compared, Below, Same, Above, compare, above_more, removed_absent, inserted_below, inserted_above}
+use Rattle.fs_nodes.proofs.PlaceLemmas.{eqb_true, eqb_refl}
 
 -- ---- names
 

@@ -1,5 +1,5 @@
 -- Next moves by the nodes where a call stands, and those of the machine.
-use Rattle.std.proofs.Common.{◌≡◌, ℕ, zero, suc, ◌+◌, ◌-◌, ◌≤◌, ◌<◌, nat_lt, Bool, true, false, cond, ◌||◌, [], ◌∷◌, length, take, drop, slice_get, Option, Some, None, refl, sym, subst, ap, ◌∙◌, arith, length-drop}
+use Rattle.std.proofs.Common.{◌≡◌, ℕ, zero, suc, ◌≤◌, nat_lt, Bool, true, false, ◌||◌, [], ◌∷◌, length, slice_get, Option, Some, None, refl, sym, ap, ◌∙◌, arith}
 use Rattle.std.specs.Prelude.{not}
 use Rattle.std.specs.Option.{is_some}
 use Rattle.std.proofs.lemmas.Bool.Decides.{nat_tests}
@@ -117,3 +117,8 @@ finished_is graph call way fork victim reserved removed (Fixed r) h fixed = by w
     by (Some n) e =
         ap (λ (o : Option ℕ). last_move o fork victim) e ∙ ap Leaves (sym (held_is (form call) way fork victim n h e) ∙ ap (last_held (stand_with (form call) n way.behind fork victim)) (sym (stand_victim (form call) n way.behind fork victim)))
         ∙ ap (λ (o : Option ℕ). next_by graph (record_of 0 None (work_of call way fork victim reserved removed (Fixed r))) (by_text (form call)) (Finished r) (stand_of (form call) o way.behind fork victim)) (sym e)
+
+-- what a call of this form does at its target
+pub target_by_form : (graph : Graph) (call seen : Form) (way : Way) (fork : Option ForkWay) (victim : Option ℕ) (n : ℕ) (m : Move) → call ≡ seen → m ≡ target_move graph (dropped way.walked seen) (stand_with seen n way.behind fork victim)
+    → m ≡ target_move graph (dropped way.walked call) (stand_with call n way.behind fork victim)
+target_by_form graph call seen way fork victim n m is h = h ∙ ap (λ (f : Form). target_move graph (dropped way.walked f) (stand_with f n way.behind fork victim)) (sym is)

@@ -1,15 +1,14 @@
 -- On what paths tell alone.
-use Rattle.std.proofs.Common.{◌≡◌, ℕ, zero, suc, ◌+◌, ◌-◌, ◌≤◌, ◌<◌, Bool, true, false, cond, List, [], ◌∷◌, ◌++◌, length, take, drop, Option, Some, None, refl, sym, ap, ap₂, ◌∙◌, arith, length-append, IsTrue, ◌↔◌}
-use Rattle.std.specs.Prelude.{slice_get, is_some, nat_eq, nat_le, min}
+use Rattle.std.proofs.Common.{◌≡◌, ℕ, suc, ◌+◌, ◌≤◌, ◌<◌, Bool, true, false, cond, [], ◌∷◌, length, Option, Some, None, refl, sym, ap, ◌∙◌, arith, length-append, IsTrue, ◌↔◌}
+use Rattle.std.specs.Prelude.{slice_get, is_some, nat_eq, nat_le}
 use Rattle.std.proofs.lemmas.Bool.Decides.{nat_tests}
 use Rattle.fs_names.specs.Names.{Name, same_name}
 use Rattle.fs_names.specs.Keys.{Key, after_prefix, common_len, has_more, last_of, parent_of}
 use Rattle.fs_names.specs.Parts.{is_end, common}
 use Rattle.fs_names.proofs.Lemmas.{after_prefix-exact, prefix_common}
 use Rattle.fs_seq.specs.Forms.{Rename, by_text, if_below}
-use Rattle.fs_seq.specs.declared.errno.Errno.{Errno}
 use Rattle.fs_seq.specs.declared.errno.Errno.TheVariants.{Einval}
-use Rattle.fs_ops.proofs.KeyLemmas.{parent_length, common_length}
+use Rattle.fs_ops.proofs.KeyLemmas.{common_length}
 
 -- ---- prefixes, by lengths
 

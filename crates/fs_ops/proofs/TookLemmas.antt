@@ -1,22 +1,21 @@
 -- A call after a take, told by counts of names.
-use Rattle.std.proofs.Common.{◌≡◌, ℕ, zero, suc, ◌+◌, ◌-◌, ◌≤◌, ◌<◌, nat_lt, Bool, true, false, cond, [], ◌∷◌, ◌++◌, length, take, drop, slice_get, Option, Some, None, refl, sym, ap, ◌∙◌, arith, add-one}
+use Rattle.std.proofs.Common.{◌≡◌, ℕ, zero, suc, ◌+◌, ◌≤◌, ◌<◌, nat_lt, Bool, true, false, cond, [], ◌∷◌, ◌++◌, length, take, drop, slice_get, Option, Some, None, refl, sym, ap, ◌∙◌, arith, add-one}
 use Rattle.std.proofs.lemmas.Option.{slice_get_past, slice_get_within}
 use Rattle.std.proofs.lemmas.Bool.Decides.{nat_tests}
 use Rattle.fs_names.specs.Keys.{Key, parent_of}
 use Rattle.fs_names.specs.Names.{Name, same_name}
-use Rattle.fs_names.specs.Parts.{left, common}
+use Rattle.fs_names.specs.Parts.{common}
 use Rattle.fs_seq.specs.Forms.{form, Form, On, In, Rename}
 use Rattle.fs_seq.specs.declared.call.Call.{Call}
 use Rattle.fs_walk.specs.declared.head.Head as count
 use Rattle.fs_walk.specs.Ways as ways
 use Rattle.fs_walk.specs.Ways.{Way, ForkWay, head_name, way_took, may_take, fork_took, has_arrived}
-use Rattle.fs_ops.specs.Moves.{target, inner, behind_of, head_took, source_took, target_took, took_by}
-use Rattle.fs_ops.specs.Records.{Stand, Record, stand_at}
+use Rattle.fs_ops.specs.Moves.{target, inner, behind_of, head_took, source_took, target_took}
 use Rattle.fs_ops.specs.Views.{first_path, dropped, head_of, stand_with, work_of, Forks, IsForked}
 use Rattle.fs_ops.specs.Steps.{started, TakesTo}
-use Rattle.fs_ops.specs.Works.{Work, IsTook, record_of}
+use Rattle.fs_ops.specs.Works.{Work, IsTook}
 use Rattle.fs_ops.specs.declared.outcome.Outcome.{Outcome}
-use Rattle.fs_ops.proofs.KeyLemmas.{left_take, parent_drop, drop_get, tail_drop, target_drop, target_take, take_get}
+use Rattle.fs_ops.proofs.KeyLemmas.{parent_drop, drop_get, tail_drop, target_drop, target_take, take_get}
 use Rattle.fs_ops.proofs.WantLemmas.{left_head}
 
 -- with a name ahead, and without one

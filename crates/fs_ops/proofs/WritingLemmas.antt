@@ -1,8 +1,8 @@
 -- On the bytes of files in a graph.
-use Rattle.std.proofs.Common.{◌≡◌, ℕ, zero, suc, ◌+◌, ◌-◌, ◌≤◌, Bool, true, false, cond, List, [], ◌∷◌, ◌++◌, length, take, IsTrue, Some, refl, sym, ap, subst, ◌∙◌, arith}
+use Rattle.std.proofs.Common.{◌≡◌, ℕ, zero, suc, ◌-◌, ◌≤◌, Bool, true, false, cond, List, [], ◌∷◌, ◌++◌, length, take, IsTrue, Some, refl, sym, ap, subst, ◌∙◌, arith}
 use Rattle.std.specs.Prelude.{replicate, eqb}
 use Rattle.std.proofs.lemmas.List.{take-replicate}
-use Rattle.fs_names.specs.Shapes.{Shape, File, is_file}
+use Rattle.fs_names.specs.Shapes.{File, is_file}
 use Rattle.fs_nodes.specs.Graphs.{Graph, content_in}
 use Rattle.fs_nodes.proofs.GraphLemmas.{graph_by}
 use Rattle.fs_nodes.proofs.PlaceLemmas.{eqb_refl}

@@ -2,7 +2,7 @@
 use Rattle.std.specs.Prelude.{ℕ, ◌≡◌, Bool, not, ◌||◌, Option, Some, None}
 use Rattle.fs_names.specs.Keys.{Key}
 use Rattle.fs_names.specs.Names.{Name}
-use Rattle.fs_names.specs.Shapes.{Shape, is_full}
+use Rattle.fs_names.specs.Shapes.{is_full}
 use Rattle.fs_nodes.specs.Graphs.{Graph, entry_shape}
 use Rattle.fs_seq.specs.Forms.{EntryCall, Form, by_text}
 use Rattle.fs_seq.specs.Rows.{as_dir, in_row, rename_row}

@@ -5,7 +5,7 @@ use Rattle.fs_names.specs.Names.{Name}
 use Rattle.fs_names.specs.Parts.{is_end}
 use Rattle.fs_seq.specs.Forms.{Form}
 use Rattle.fs_nodes.specs.Graphs.{Graph, entry_shape}
-use Rattle.fs_walk.specs.Ways.{Way, ForkWay, fork_last}
+use Rattle.fs_walk.specs.Ways.{ForkWay, fork_last}
 use Rattle.fs_walk.specs.Wants.{fork_want}
 use Rattle.fs_ops.specs.Endings.{rename_reply}
 use Rattle.fs_ops.specs.Moves.{Move, Takes, Leaves, Finishes, Ends, take_if, same_kind, moved_node, next_on}

@@ -1,5 +1,5 @@
 -- What the code of a call keeps, seen as its work: counts of walked names in the place of keys.
-use Rattle.std.specs.Prelude.{ℕ, ◌≡◌, ◌+◌, ◌≤◌, List, [], ◌∷◌, length, take, drop, Option, Some, None}
+use Rattle.std.specs.Prelude.{ℕ, ◌≡◌, ◌+◌, ◌≤◌, length, take, drop, Option, Some, None}
 use Rattle.fs_names.specs.Keys.{Key, parent_of}
 use Rattle.fs_seq.specs.Forms.{Form, On, In, Rename, form}
 use Rattle.fs_seq.specs.declared.call.Call.{Call}

@@ -192,6 +192,16 @@ fn rename_move(
     }
 }
 
+/// A match on a call, whose arms are written from a table: a line for each of the ten calls with the names of its parts, and
+/// what holds for it.
+macro_rules! by_call {
+    ($call:expr; $($name:ident($($part:tt),*) => $next:expr,)+) => {
+        match $call {
+            $(Call::$name($($part),*) => $next,)+
+        }
+    };
+}
+
 /// A call at its target.
 fn target_move(
     store: &Store,
@@ -208,11 +218,17 @@ fn target_move(
     requires forks { Forks (form call.now) walk.now fork.now }
     ensures { move_of result ≡ target_move (graph_of store.now) (dropped walk.now.walked (form call.now)) (stand_with (form call.now) node walk.now.behind fork.now victim) }
 {
-    match call {
-        Call::Unlink(path) => unlink_move(store, node, last_name(path), victim),
-        Call::Rmdir(path) => rmdir_move(store, node, last_name(path), victim),
-        Call::Rename(source, dest) => { rename_move(store, source, dest, node, walk, fork, victim) }
-        _ => Move::Finish(None),
+    by_call! { call;
+        Mkdir(_) => Move::Finish(None),
+        Mknod(_) => Move::Finish(None),
+        Unlink(path) => unlink_move(store, node, last_name(path), victim),
+        Rmdir(path) => rmdir_move(store, node, last_name(path), victim),
+        Rename(source, dest) => rename_move(store, source, dest, node, walk, fork, victim),
+        Stat(_) => Move::Finish(None),
+        Readdir(_) => Move::Finish(None),
+        Read(_, _, _) => Move::Finish(None),
+        Write(_, _, _) => Move::Finish(None),
+        Truncate(_, _) => Move::Finish(None),
     }
 }
 

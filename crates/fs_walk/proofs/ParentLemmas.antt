@@ -1,5 +1,5 @@
 -- The names of a parent.
-use Rattle.std.proofs.Common.{◌≡◌, ℕ, zero, suc, ◌+◌, ◌<◌, ◌≤◌, [], ◌∷◌, length, slice_get, Some, None, refl, sym, ap, ◌∙◌, arith}
+use Rattle.std.proofs.Common.{◌≡◌, ℕ, zero, suc, ◌+◌, ◌<◌, ◌≤◌, [], ◌∷◌, length, slice_get, None, refl, arith}
 use Rattle.std.proofs.lemmas.Option.{slice_get_past}
 use Rattle.fs_names.specs.Keys.{Key, parent_of}
 

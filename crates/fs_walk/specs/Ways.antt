@@ -1,5 +1,5 @@
 -- Where walks stand.
-use Rattle.std.specs.Prelude.{ℕ, ◌+◌, ◌≤◌, Bool, true, false, not, ◌||◌, eqb, cond, nat_lt, is_some, slice_get, take, Option, Some, None}
+use Rattle.std.specs.Prelude.{ℕ, ◌+◌, ◌≤◌, Bool, true, not, ◌||◌, eqb, cond, nat_lt, is_some, slice_get, take, Option, Some, None}
 use Rattle.fs_names.specs.Names.{Name}
 use Rattle.fs_names.specs.Keys.{Key, parent_of}
 use Rattle.fs_names.specs.declared.limits.TheConstants.{PATH_LIMIT}

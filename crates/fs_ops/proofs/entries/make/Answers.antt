@@ -1,4 +1,4 @@
-use Rattle.std.proofs.Common.{◌≡◌, [], sym, ◌∙◌}
+use Rattle.std.proofs.Common.{[], sym, ◌∙◌}
 use Rattle.fs_names.specs.Shapes.{Dir, File}
 use Rattle.fs_nodes.specs.Stores.{graph_of}
 use Rattle.fs_seq.specs.Forms as calls

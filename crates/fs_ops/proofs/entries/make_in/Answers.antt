@@ -1,4 +1,4 @@
-use Rattle.std.proofs.Common.{◌≡◌, Bool, Some, ap, sym, ◌∙◌, refl}
+use Rattle.std.proofs.Common.{ap, sym, ◌∙◌, refl}
 use Rattle.fs_names.specs.Shapes.{is_full}
 use Rattle.fs_nodes.specs.Stores.{shape, graph_of}
 use Rattle.fs_seq.specs.Rows.{made}

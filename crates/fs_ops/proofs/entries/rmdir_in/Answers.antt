@@ -1,4 +1,4 @@
-use Rattle.std.proofs.Common.{◌≡◌, ℕ, ◌≤◌, length, List, Some, ap, sym, ◌∙◌, subst, arith}
+use Rattle.std.proofs.Common.{◌≤◌, length, List, Some, ap, sym, ◌∙◌, arith}
 use Rattle.fs_names.specs.Names.{Name}
 use Rattle.fs_names.specs.Shapes.{Dir, is_full, names_of}
 use Rattle.fs_nodes.specs.Stores.{shape, graph_of}

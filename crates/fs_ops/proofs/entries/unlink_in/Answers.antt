@@ -1,4 +1,4 @@
-use Rattle.std.proofs.Common.{◌≡◌, Some, ap, sym, ◌∙◌}
+use Rattle.std.proofs.Common.{ap, sym, ◌∙◌}
 use Rattle.fs_names.specs.Shapes.{is_full}
 use Rattle.fs_nodes.specs.Stores.{shape, graph_of}
 use Rattle.fs_seq.specs.Forms as calls

@@ -1,4 +1,4 @@
-use Rattle.std.proofs.Common.{◌≡◌, sym, ◌∙◌, arith}
+use Rattle.std.proofs.Common.{sym, ◌∙◌, arith}
 use Rattle.fs_nodes.specs.Stores.{graph_of}
 use Rattle.fs_seq.specs.Forms.{form}
 use Rattle.fs_ops.proofs.FinishLemmas.{lost}

@@ -1,6 +1,5 @@
-use Rattle.std.proofs.Common.{◌≡◌, ℕ, List, Option, None, sym, ap, ◌∙◌, arith, Some, refl}
-use Rattle.fs_nodes.specs.Stores.{graph_of, shape}
-use Rattle.fs_nodes.specs.Graphs.{Graph}
+use Rattle.std.proofs.Common.{ℕ, List, None, ap, ◌∙◌, arith, refl}
+use Rattle.fs_nodes.specs.Stores.{graph_of}
 use Rattle.fs_seq.specs.Forms.{form}
 use Rattle.fs_seq.specs.Forms as calls
 use Rattle.fs_seq.specs.Rows.{on_row}

@@ -1,4 +1,4 @@
-use Rattle.std.proofs.Common.{ℕ, ◌-◌, length}
+use Rattle.std.proofs.Common.{◌-◌, length}
 use Rattle.fs_names.specs.Shapes.{names_of}
 use Rattle.fs_nodes.specs.Stores.{shape}
 use Rattle.fs_ops.specs.Listing.{IsTold}

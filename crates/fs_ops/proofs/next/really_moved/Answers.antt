@@ -1,4 +1,4 @@
-use Rattle.std.proofs.Common.{◌≡◌, ◌∙◌, sym}
+use Rattle.std.proofs.Common.{◌∙◌, sym}
 use Rattle.fs_ops.proofs.NextLemmas.{moves_node}
 use Rattle.fs_ops.proofs.next.really_moved.Goals as goal
 

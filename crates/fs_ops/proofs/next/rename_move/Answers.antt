@@ -1,4 +1,4 @@
-use Rattle.std.proofs.Common.{◌≡◌, ◌∙◌, Option, sym, ap}
+use Rattle.std.proofs.Common.{◌∙◌, Option, sym, ap}
 use Rattle.fs_nodes.specs.Stores.{graph_of}
 use Rattle.fs_walk.specs.Ways.{ForkWay, new_fork}
 use Rattle.fs_ops.specs.Nexts.{heads_move}

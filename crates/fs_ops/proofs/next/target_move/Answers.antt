@@ -1,9 +1,8 @@
-use Rattle.std.proofs.Common.{◌≡◌, ◌∙◌, sym, ap}
+use Rattle.std.proofs.Common.{◌∙◌, ap}
 use Rattle.fs_nodes.specs.Stores.{graph_of}
-use Rattle.fs_seq.specs.Forms.{form, Form, Unlink, Rmdir}
-use Rattle.fs_ops.specs.Moves.{target_move}
-use Rattle.fs_ops.specs.Views.{dropped, stand_with}
-use Rattle.fs_ops.proofs.NextLemmas.{entry_is_next}
+use Rattle.fs_seq.specs.Forms.{form, Unlink, Rmdir, Rename}
+use Rattle.fs_ops.specs.Told.{move_of}
+use Rattle.fs_ops.proofs.NextLemmas.{entry_is_next, target_by_form}
 use Rattle.fs_ops.proofs.next.target_move.Goals as goal
 
 pub returns-in-Unlink : goal.returns-in-Unlink
@@ -19,4 +18,4 @@ returns-in-Rmdir c =
 pub returns-in-Rename : goal.returns-in-Rename
 returns-in-Rename c =
     let a = c.args in
-    c.rename_move.ensures ∙ ap (λ (f : Form). target_move (graph_of a.store.now) (dropped a.walk.now.walked f) (stand_with f a.node a.walk.now.behind a.fork.now a.victim)) (sym (ap form c.in-Rename.is))
+    target_by_form (graph_of a.store.now) (form a.call.now) (Rename c.in-Rename.source c.in-Rename.dest) a.walk.now a.fork.now a.victim a.node (move_of c.rename_move.result) (ap form c.in-Rename.is) c.rename_move.ensures

@@ -1,4 +1,4 @@
-use Rattle.std.proofs.Common.{◌≡◌, Option, ℕ, IsTrue, ap, sym, subst, ◌∙◌}
+use Rattle.std.proofs.Common.{IsTrue, ap, sym, subst, ◌∙◌}
 use Rattle.fs_names.specs.Shapes.{is_dir}
 use Rattle.fs_nodes.specs.Graphs.{Graph, moved_in}
 use Rattle.fs_nodes.specs.Stores.{graph_of}

@@ -1,4 +1,4 @@
-use Rattle.std.proofs.Common.{◌≡◌, Bool, Some, Option, ap, ap₂, sym, ◌∙◌, ◌||◌}
+use Rattle.std.proofs.Common.{Option, ap, ap₂, sym, ◌∙◌, ◌||◌}
 use Rattle.std.specs.Prelude.{not}
 use Rattle.fs_names.specs.Shapes.{Shape, is_full}
 use Rattle.fs_nodes.specs.Stores.{shape}

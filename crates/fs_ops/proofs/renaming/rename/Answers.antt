@@ -1,4 +1,4 @@
-use Rattle.std.proofs.Common.{◌≡◌, ◌∙◌, sym, ap, None}
+use Rattle.std.proofs.Common.{◌∙◌, sym, ap, None}
 use Rattle.fs_ops.proofs.RenameLemmas.{made_same, made_failed, made_moved}
 use Rattle.fs_ops.proofs.renaming.rename.Goals as goal
 

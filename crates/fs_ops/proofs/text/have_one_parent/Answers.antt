@@ -1,4 +1,4 @@
-use Rattle.std.proofs.Common.{◌≡◌, length, arith, ◌∙◌, sym, ap₂}
+use Rattle.std.proofs.Common.{arith, ◌∙◌, ap₂}
 use Rattle.std.specs.Prelude.{nat_le}
 use Rattle.fs_names.specs.Keys.{parent_of}
 use Rattle.fs_ops.proofs.TextLemmas.{other_by_length, one_parent}

@@ -1,4 +1,4 @@
-use Rattle.std.proofs.Common.{◌≡◌, length, arith, ◌∙◌}
+use Rattle.std.proofs.Common.{arith, ◌∙◌}
 use Rattle.fs_ops.proofs.TextLemmas.{same_by_length, other_by_length}
 use Rattle.fs_ops.proofs.text.is_same.Goals as goal
 

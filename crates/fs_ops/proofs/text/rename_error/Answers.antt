@@ -1,5 +1,4 @@
-use Rattle.std.proofs.Common.{◌≡◌, [], IsTrue, sym, ◌∙◌}
-use Rattle.fs_names.specs.Keys.{Key}
+use Rattle.std.proofs.Common.{sym, ◌∙◌}
 use Rattle.fs_ops.proofs.TextLemmas.{text_below, text_none, not_root}
 use Rattle.fs_ops.proofs.text.rename_error.Goals as goal
 

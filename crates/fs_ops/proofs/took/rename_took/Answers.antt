@@ -1,5 +1,4 @@
-use Rattle.std.proofs.Common.{◌≡◌, ◌∙◌, sym, ap, ℕ, Some}
-use Rattle.fs_walk.specs.Ways.{ForkWay}
+use Rattle.std.proofs.Common.{◌≡◌, ◌∙◌, sym}
 use Rattle.fs_ops.proofs.TookLemmas.{rename_stands, rename_forks}
 use Rattle.fs_ops.proofs.took.rename_took.Goals as goal
 

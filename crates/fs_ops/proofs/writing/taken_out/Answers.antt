@@ -1,4 +1,4 @@
-use Rattle.std.proofs.Common.{IsTrue, sym, ap, subst, ◌∙◌, append-nil, length, ◌-◌}
+use Rattle.std.proofs.Common.{IsTrue, sym, ap, subst, ◌∙◌}
 use Rattle.fs_names.specs.Shapes.{is_file}
 use Rattle.fs_nodes.specs.Graphs.{Graph, content_in}
 use Rattle.fs_nodes.specs.Stores.{graph_of}

@@ -1,4 +1,4 @@
-use Rattle.std.proofs.Common.{◌≡◌, ◌∙◌, sym, arith}
+use Rattle.std.proofs.Common.{◌∙◌, sym, arith}
 use Rattle.fs_walk.proofs.ParentLemmas.{name_inner, name_past}
 use Rattle.fs_walk.proofs.names.parent_name.Goals as goal
 

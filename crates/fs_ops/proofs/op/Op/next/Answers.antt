@@ -1,4 +1,4 @@
-use Rattle.std.proofs.Common.{◌≡◌, ◌∙◌, sym, ap}
+use Rattle.std.proofs.Common.{◌∙◌, sym, ap}
 use Rattle.std.specs.Option.{is_some}
 use Rattle.fs_nodes.specs.Stores.{graph_of}
 use Rattle.fs_ops.specs.Works.{Work, next_of}

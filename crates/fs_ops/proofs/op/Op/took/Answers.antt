@@ -1,4 +1,4 @@
-use Rattle.std.proofs.Common.{◌≡◌, ◌∙◌, None, refl, sym, ap}
+use Rattle.std.proofs.Common.{◌∙◌, None, refl, sym, ap}
 use Rattle.fs_walk.specs.Ways.{Way, way_took}
 use Rattle.fs_ops.specs.Views.{work_of}
 use Rattle.fs_ops.proofs.TookLemmas.{walk_took, target_took_is, walk_arrived, took_as}
