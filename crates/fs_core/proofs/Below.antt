@@ -1,6 +1,6 @@
 -- Ascents from a node to the root, which are shorter than a bound of the numbers in use, and whether they meet a node.
-use Rattle.std.proofs.Common.{◌≡◌, ℕ, zero, suc, ◌+◌, ◌<◌, ◌≤◌, Bool, true, false, cond, eqb, List, [], ◌∷◌, ◌++◌, Option, Some, None, length, length-append, refl, sym, ap, ◌∙◌, arith, subst}
-use Rattle.std.specs.Prelude.{◌||◌, nat_eq}
+use Rattle.std.proofs.Common.{◌≡◌, ℕ, zero, suc, ◌+◌, ◌<◌, ◌≤◌, Bool, true, false, cond, eqb, List, [], ◌∷◌, ◌++◌, Option, Some, None, length, length-append, drop, refl, sym, ap, ◌∙◌, arith, subst}
+use Rattle.std.specs.Prelude.{◌||◌, nat_eq, slice_get}
 use Rattle.std.specs.List.{AllByRecursion, IsDistinct, list_any}
 use Rattle.std.proofs.lemmas.Map.Steps.{length-le_from_distinct_below}
 use Rattle.fs_names.specs.Keys.{Key}
@@ -145,3 +145,12 @@ climbs_top graph bound s node above i c other loose r = go (c.down r)
 -- numbers of which the test says that they differ
 pub differ_by : (n m : ℕ) → false ≡ nat_eq n m → n ≡ m → ⊥
 differ_by n m e f = grind arith
+
+-- one name more of a path
+pub leads_on : (kid : Kids) (n : ℕ) (key : Key) (i : ℕ) (x : Name) → slice_get key i ≡ Some x → at kid n (drop i key) ≡ then_at (kid n x) (λ m. at kid m (drop (i + 1) key))
+leads_on kid n [] i x e = cc
+leads_on kid n (y ∷ key) zero x e = let z : y ≡ x = cc in ap (λ (w : Name). then_at (kid n w) (λ m. at kid m key)) z
+leads_on kid n (y ∷ key) (suc i) x e = let z : suc i + 1 ≡ suc (i + 1) = omega arith in rw z (leads_on kid n key i x e)
+
+pub leads_to : (kid : Kids) (n : ℕ) (key : Key) (i : ℕ) (x : Name) (o : Option ℕ) → slice_get key i ≡ Some x → at kid 0 key ≡ at kid n (drop i key) → o ≡ kid n x → at kid 0 key ≡ then_at o (λ m. at kid m (drop (i + 1) key))
+leads_to kid n key i x o e so_far read = so_far ∙ leads_on kid n key i x e ∙ ap (λ (p : Option ℕ). then_at p (λ m. at kid m (drop (i + 1) key))) (sym read)

@@ -1,6 +1,10 @@
 -- What a begin rests on and leaves.
 use Rattle.std.proofs.Common.{◌≡◌, ℕ, zero, suc, ◌+◌, ◌-◌, ◌<◌, ◌≤◌, Bool, true, false, cond, eqb, List, [], ◌∷◌, ◌++◌, Option, Some, None, length, get_or, refl, sym, ap, ◌∙◌, arith, subst}
-use Rattle.std.specs.Prelude.{slice_get, slice_set, IsSome, IsTrue}
+use Rattle.std.specs.Prelude.{slice_get, slice_set, IsSome, IsTrue, is_some, Result, Err}
+use Rattle.fs_core.specs.Answers.{begun_as}
+use Rattle.fs_core.specs.declared.answer.Refusal.{Refusal}
+use Rattle.fs_core.specs.declared.answer.Refusal.TheVariants as refusals
+use Rattle.fs_core.specs.declared.beginning.Ready.{Ready}
 use mathlib.Core.Path.{fun_ext}
 use Rattle.std.proofs.lemmas.Option.{slice_get_within, slice_get_read}
 use Rattle.fs_names.specs.Names.{Name}
@@ -213,3 +217,37 @@ new_kept st hs limit one graph is_limit is_hs has = (same, record {
   where
     same : state_of (record { store = st; holding = hs; seats = []; timeline = [] }) ≡ empty limit
     same = same_state _ _ _ _ _ _ _ _ _ _ _ is_limit graph is_hs refl (fun_ext (λ n. refl))
+
+-- the same by the seat's number, and by the counter
+pub begun_by : (m : Machine) (b k p at seat : ℕ) (call : Call) → IsKept m b k p → at ≡ seat → (old : Option Running) → seat < length m.seats → old ≡ get_or m.seats at old → old ≡ None
+    → (st : Places) (hs : Holding) (w : Work) (number last : ℕ) (copy : Call) (slot : Option Running) → BegunAs (graph_of m.store) m.store.limit call (reserves (form call)) w (graph_of st) → st.limit ≡ m.store.limit
+    → holder hs ≡ holder m.holding → room m.holding ≤ room hs → HasRoom w.reserved hs → number ≡ last → last ≡ b + 1 → copy ≡ call → slot ≡ Some (record { call = number; place = None; op = w })
+    → Begins (state_of m) seat call (Begun_as number) (state_of (record m { store = st; holding = hs; seats = slice_set m.seats at slot; timeline = m.timeline ++ Begin number seat copy ∷ [] })) × IsKept (record m { store = st; holding = hs; seats = slice_set m.seats at slot; timeline = m.timeline ++ Begin number seat copy ∷ [] }) last k (p + 3 - 1)
+begun_by m b k p at seat call kept e old within read is_free st hs w number last copy slot begun limit is_hs more has is_last is_number is_copy is =
+    subst (λ (s : ℕ). Begins (state_of m) s call (Begun_as number) (state_of (record m { store = st; holding = hs; seats = slice_set m.seats at slot; timeline = m.timeline ++ Begin number s copy ∷ [] })) × IsKept (record m { store = st; holding = hs; seats = slice_set m.seats at slot; timeline = m.timeline ++ Begin number s copy ∷ [] }) last k (p + 3 - 1)) e
+    (subst (λ (l : ℕ). Begins (state_of m) at call (Begun_as number) (state_of (record m { store = st; holding = hs; seats = slice_set m.seats at slot; timeline = m.timeline ++ Begin number at copy ∷ [] })) × IsKept (record m { store = st; holding = hs; seats = slice_set m.seats at slot; timeline = m.timeline ++ Begin number at copy ∷ [] }) l k (p + 3 - 1)) is_last
+    (begun_kept m b k p at call kept (free_seat m at old (subst (λ (s : ℕ). s < length m.seats) (sym e) within) read is_free) st hs w number copy slot begun limit is_hs more has (is_last ∙ is_number) is_copy is))
+
+pub busy_by : (m : Machine) (at seat : ℕ) (call : Call) (slot : Option Running) (b : Bool) → at ≡ seat → seat < length m.seats → slot ≡ get_or m.seats at slot → b ≡ is_some slot → b ≡ true → Begins (state_of m) seat call Seat_busy (state_of m)
+busy_by m at seat call slot b e within read some yes_some = subst (λ (s : ℕ). Begins (state_of m) s call Seat_busy (state_of m)) e (seat_busy_step m at call slot (subst (λ (s : ℕ). s < length m.seats) (sym e) within) read (sym some ∙ yes_some))
+
+pub none_by_test : {A : Type 0} (slot : Option A) (b : Bool) → b ≡ is_some slot → b ≡ false → slot ≡ None
+none_by_test None b e f = refl
+none_by_test (Some r) b e f = cc
+
+-- a refusal, by what was made ready
+pub refused_by : (m : Machine) (at seat : ℕ) (call : Call) (slot : Option Running) (b : Bool) (refusal : Refusal) (new : State) → at ≡ seat → seat < length m.seats → slot ≡ get_or m.seats at slot → b ≡ is_some slot → b ≡ false
+    → (◌≡◌ {A = Result Ready Refusal} (Err refusal) (Err refusals.Full) → IsSome (reserves (form call)) × (in_use m.store ≡ m.store.limit))
+    → (IsSome (reserves (form call)) × (in_use m.store ≡ m.store.limit) → ◌≡◌ {A = Result Ready Refusal} (Err refusal) (Err refusals.Full))
+    → (◌≡◌ {A = Result Ready Refusal} (Err refusal) (Err refusals.SeatBusy) → ⊥)
+    → new ≡ state_of m → Begins (state_of m) seat call (begun_as (Err refusal)) new
+refused_by m at seat call slot b refusal new e within read some not_some full is_full busy same = subst (λ (s : ℕ). Begins (state_of m) s call (begun_as (Err refusal)) new) e (go refusal full is_full busy)
+  where
+    free : slice_get m.seats at ≡ Some None
+    free = free_seat m at slot (subst (λ (s : ℕ). s < length m.seats) (sym e) within) read (none_by_test slot b some not_some)
+    go : (r : Refusal) → (◌≡◌ {A = Result Ready Refusal} (Err r) (Err refusals.Full) → IsSome (reserves (form call)) × (in_use m.store ≡ m.store.limit))
+        → (IsSome (reserves (form call)) × (in_use m.store ≡ m.store.limit) → ◌≡◌ {A = Result Ready Refusal} (Err r) (Err refusals.Full))
+        → (◌≡◌ {A = Result Ready Refusal} (Err r) (Err refusals.SeatBusy) → ⊥) → Begins (state_of m) at call (begun_as (Err r)) new
+    go refusals.Full f g h = full_step m at call new free (f refl) same
+    go refusals.OutOfMemory f g h = no_memory_step m at call new free (λ x. (let z : ◌≡◌ {A = Result Ready Refusal} (Err refusals.OutOfMemory) (Err refusals.Full) = g x in cc)) same
+    go refusals.SeatBusy f g h = absurd (h refl)

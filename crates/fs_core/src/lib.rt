@@ -3,6 +3,7 @@
 
 pub mod answer;
 mod beginning;
+mod finding;
 mod helping;
 pub mod machine;
 pub mod running;

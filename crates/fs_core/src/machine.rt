@@ -11,7 +11,8 @@ ghost use Rattle.fs_core.specs.Machines.{state_of};
 ghost use Rattle.fs_core.specs.Seats.{MovesOn, PlacedOn};
 
 use crate::answer::{Refusal, Stepped};
-use crate::beginning::{Ready, make_ready};
+use crate::beginning::make_ready;
+use crate::finding::find_path;
 use crate::helping::to_help;
 use crate::running::{self, Running};
 use fs_journal::{Entry, Timeline};
@@ -241,11 +242,12 @@ impl Core {
             self.begun,
         ) {
             Err(refusal) => Err(refusal),
-            Ok(Ready { op, number, copy }) => {
-                let call = CallNo::new(number);
-                running::put(&mut self.seats[at], Running { call, place: None, op });
-                self.begun = number;
-                self.timeline.push(Entry::Begin(call, seat, copy));
+            Ok(ready) => {
+                let call = CallNo::new(ready.number);
+                let running = Running { call, place: None, op: ready.op };
+                running::put(&mut self.seats[at], running);
+                self.begun = ready.number;
+                self.timeline.push(Entry::Begin(call, seat, ready.copy));
                 Ok(call)
             }
         }
@@ -284,10 +286,6 @@ impl Core {
     pub fn find_path(&self, path: &Path) -> Option<NodeNo>
         ensures { result ≡ numbers (state_of self.now).graph path.now }
     {
-        let mut node = NodeNo::new(0);
-        for i in 0..path.len() {
-            node = self.store.find(node, path.name(i))?;
-        }
-        Some(node)
+        find_path(&self.store, path)
     }
 }
