@@ -7,3 +7,4 @@ pub mod Searching
 pub mod Choosing
 pub mod Doing
 pub mod Readiness
+pub mod Happening

@@ -7,6 +7,7 @@ mod finding;
 mod helping;
 pub mod machine;
 pub mod running;
+pub mod runs;
 
 pub use answer::{Event, Ran, Refusal, Stepped};
 pub use machine::Core;

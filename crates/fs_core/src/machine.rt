@@ -4,7 +4,13 @@ ghost use Rattle.std.specs.Prelude.{MatchOption, IfOk, OnOk, OnErr, ◌≡◌, �
 ghost use Rattle.fs_names.specs.declared.limits.TheConstants.{NODE_LIMIT};
 ghost use Rattle.fs_nodes.specs.Graphs.{numbers};
 ghost use Rattle.fs_ops.specs.Moves.{Takes, Leaves, Finishes, Ends};
-ghost use Rattle.fs_laws.specs.States.{Begins, Step, NoneBelow, empty};
+ghost use Rattle.fs_nodes.specs.Graphs.{spell};
+ghost use Rattle.fs_nodes.specs.Stores.{graph_of};
+ghost use Rattle.fs_seq.specs.Outcomes.{play};
+ghost use Rattle.fs_seq.specs.Shapes.{seen};
+ghost use Rattle.fs_journal.specs.Timeline.{IsLawful, commits};
+ghost use Rattle.fs_laws.specs.Headline.{IsIdle};
+ghost use Rattle.fs_laws.specs.States.{Begins, Step, NoneBelow, Run, empty};
 ghost use Rattle.fs_core.specs.Answers.{begun_as, stepped_as};
 ghost use Rattle.fs_core.specs.Helping.{HelpsIf};
 ghost use Rattle.fs_core.specs.Machines.{state_of};
@@ -287,5 +293,15 @@ impl Core {
         ensures { result ≡ numbers (state_of self.now).graph path.now }
     {
         find_path(&self.store, path)
+    }
+
+    /// What every state keeps, told to a caller: a run leads to it, its timeline is lawful, and where no call is under
+    /// way the nodes spell the tree that the timeline's commits play.
+    pub fn told(&self)
+        ensures run { Run (state_of self.now) }
+        ensures lawful { IsLawful self.now.timeline }
+        ensures spelled { IsIdle (state_of self.now) → spell (graph_of self.now.store) ≡ seen (play (commits self.now.timeline)) }
+    {
+        let _ = &self.timeline;
     }
 }
