@@ -1,2 +1,4 @@
 pub mod KnownLemmas
 pub mod CheckLemmas
+pub mod DrawLemmas
+pub mod RunTextLemmas

@@ -1,3 +1,5 @@
 pub mod Faults
 pub mod Checks
 pub mod Devices
+pub mod Schedules
+pub mod RunTexts

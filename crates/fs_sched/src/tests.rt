@@ -1,4 +1,6 @@
 use super::*;
+use fs_nodes::Store;
+use fs_script::Word;
 use fs_text::ScriptFault;
 use std::alloc::Global;
 use std::io::{Error, ErrorKind, Read, Write};
@@ -196,5 +198,44 @@ fn prints_faults(rt: HostRuntime) -> Result<(), Fail> {
     for (fault, want) in rows {
         assert_eq!(rt; format!(in alloc; "{fault}")?.as_bytes(), want);
     }
+    Ok(())
+}
+
+#[test]
+fn tells_whether_rounds_follow(rt: HostRuntime) -> Result<(), Fail> {
+    let words = [Word::Events(0, 3), Word::Finish];
+    assert!(rt; Schedule::Given.goes_on(&words) && !Schedule::Given.goes_on(&words[..1]));
+    assert!(rt; Schedule::RoundRobin.goes_on(&[]) && Schedule::Seeded(7).goes_on(&[]));
+    Ok(())
+}
+
+#[test]
+fn draws_seats(rt: HostRuntime) -> Result<(), Fail> {
+    let mut first = Draws::new(7);
+    let mut second = Draws::new(7);
+    let mut seen = [0usize; 3];
+    for _ in 0..100 {
+        let seat = first.seat(3);
+        assert_eq!(rt; second.seat(3), seat);
+        seen[seat % 3] += 1;
+    }
+    assert!(rt; seen[0] > 10 && seen[1] > 10 && seen[2] > 10);
+    Ok(())
+}
+
+#[test]
+fn writes_run_texts(rt: HostRuntime) -> Result<(), Fail> {
+    let alloc = rt.alloc();
+    let entries = fs_text::read_entries(alloc, FIRST).ok().ok_or("entries")?;
+    let store = Store::new(alloc, 1)?;
+    let text = run_text(alloc, &entries, &store)?;
+    assert_eq!(rt;
+        text.as_slice(),
+        b"atomfs-journal 1\nbegin 1 0 mkdir /a\ncommit 1\nreturn 1 ok\ntree\ndir /\nbegun 1 committed 1 returned 1\n".as_slice()
+    );
+    assert_eq!(rt; checked(alloc, &text)?.as_slice(), b"lawful\n".as_slice());
+    assert_eq!(rt; number_of(EntryKind::Begin, &entries), 1);
+    assert_eq!(rt; run_text(alloc, &[], &store)?.as_slice(),
+        b"atomfs-journal 1\ntree\ndir /\nbegun 0 committed 0 returned 0\n".as_slice());
     Ok(())
 }

@@ -1,0 +1,85 @@
+//! Schedules, and the threads that are drawn from a number.
+
+ghost use Rattle.std.specs.Prelude.{◌≡◌, ◌<◌, ◌∷◌, ℕ, suc};
+ghost use Rattle.std.specs.List.{list_any};
+ghost use Rattle.fs_sched.specs.Schedules.{generator_of, seats_from, is_finish, goes_on};
+
+use fs_script::Word;
+use rand_core::SeedableRng;
+use rand_core::utils::NextWord;
+use rand_pcg::Pcg32;
+use std::marker::Model;
+
+/// The order of events.
+#[derive(Clone, Copy, Debug, PartialEq, Eq)]
+pub enum Schedule {
+    /// The words of the script from left to right; where the last is `finish`, then rounds to the end.
+    Given,
+    /// Rounds to the end: one event of each thread in the order of the blocks, until none has anything to do.
+    RoundRobin,
+    /// Threads drawn from this number, until none has anything to do or as many are drawn as the limit; then rounds to
+    /// the end.
+    Seeded(u64),
+}
+
+/// The most threads that are drawn in a run.
+pub const DRAW_LIMIT: usize = 100_000;
+
+impl Schedule {
+    /// Whether rounds to the end follow the events that the schedule gives.
+    pub fn goes_on(&self, words: &[Word]) -> bool
+        ensures { result ≡ goes_on self.now words.now }
+    {
+        match self {
+            Schedule::Given => has_finish(words),
+            Schedule::RoundRobin => true,
+            Schedule::Seeded(_) => true,
+        }
+    }
+}
+
+fn is_finish(word: &Word) -> bool
+    ensures { result ≡ is_finish word.now }
+{
+    matches!(word, Word::Finish)
+}
+
+fn has_finish(words: &[Word]) -> bool
+    ensures { result ≡ list_any is_finish words.now }
+{
+    words.iter().any(|word| is_finish(word))
+}
+
+/// Threads that are drawn from a number, one after the other.
+#[derive(Drop)]
+pub struct Draws {
+    generator: Pcg32,
+}
+
+impl Model for Draws {
+    ghost use Rattle.rand_pcg.specs.Lcg.{Lcg};
+
+    ghost Value = { Lcg };
+
+    ghost view = { λ d. d.generator };
+}
+
+impl Draws {
+    /// Before the first draw.
+    pub fn new(seed: u64) -> Draws
+        ensures { result ≡ generator_of seed }
+    {
+        Draws {
+            generator: Pcg32::seed_from_u64(seed),
+        }
+    }
+
+    /// The seat of the next event, of so many threads.
+    pub fn seat(&mut self, threads: usize) -> usize
+        requires { 0 < threads }
+        ensures { (k : ℕ) → seats_from threads (suc k) self.old ≡ result ∷ seats_from threads k self.new }
+    {
+        let word = self.generator.next_word() as usize;
+        word % threads
+    }
+}

@@ -1,0 +1,107 @@
+//! The text of a run.
+
+ghost use Rattle.std.specs.Prelude.{◌≡◌, ◌++◌, OnOk, IfOk, decimal};
+ghost use Rattle.fs_nodes.specs.Stores.{graph_of};
+ghost use Rattle.fs_text.specs.Journal.{journal_text};
+ghost use Rattle.fs_sched.specs.RunTexts.{is_of, number_of, counts_line, end_line, IsRunText};
+
+use fs_journal::Entry;
+use fs_nodes::Store;
+use fs_script::{write_entry, write_tree};
+use fs_text::Addition;
+use std::alloc::{AllocError, Global};
+
+/// The kinds of entries.
+#[derive(Clone, Copy, Debug, PartialEq, Eq)]
+pub enum EntryKind {
+    /// A call began.
+    Begin,
+    /// A call took its place.
+    Commit,
+    /// A call returned.
+    Return,
+}
+
+fn is_of(kind: EntryKind, entry: &Entry) -> bool
+    ensures { result ≡ is_of kind entry.now }
+{
+    match entry {
+        Entry::Begin(_, _, _) => matches!(kind, EntryKind::Begin),
+        Entry::Commit(_) => matches!(kind, EntryKind::Commit),
+        Entry::Return(_, _) => matches!(kind, EntryKind::Return),
+    }
+}
+
+/// How many entries are of this kind.
+pub fn number_of(kind: EntryKind, entries: &[Entry]) -> usize
+    ensures { result ≡ number_of kind entries.now }
+{
+    let mut count = 0;
+    for entry in entries {
+        if is_of(kind, entry) {
+            count += 1;
+        }
+    }
+    count
+}
+
+/// A journal's header line, and a line for each entry.
+fn journal_text(alloc: Global, entries: &[Entry]) -> Result<Vec<u8>, AllocError>
+    ensures { IfOk result (λ text. text.items ≡ journal_text entries.now) }
+{
+    let mut text = Vec::from_slice(alloc, b"atomfs-journal 1\n")?;
+    for entry in entries {
+        write_entry(alloc, entry, &mut text)?;
+    }
+    Ok(text)
+}
+
+/// A word and a number.
+fn push_count(word: &[u8], count: usize, line: &mut Addition) -> Result<(), AllocError>
+    ensures ok { OnOk result (line.new.added ≡ line.old.added ++ word.now ++ decimal count) }
+    ensures before { line.new.before ≡ line.old.before }
+{
+    line.push(word)?;
+    line.push_number(count as u64)
+}
+
+fn push_counts(
+    begun: usize,
+    committed: usize,
+    returned: usize,
+    line: &mut Addition,
+) -> Result<(), AllocError>
+    ensures ok { OnOk result (line.new.added ≡ line.old.added ++ counts_line begun committed returned) }
+    ensures before { line.new.before ≡ line.old.before }
+{
+    push_count(b"begun ", begun, line)?;
+    push_count(b" committed ", committed, line)?;
+    push_count(b" returned ", returned, line)?;
+    line.push(b"\n")
+}
+
+/// The last line of a run.
+fn end_line(alloc: Global, entries: &[Entry]) -> Result<Vec<u8>, AllocError>
+    ensures { IfOk result (λ text. text.items ≡ end_line entries.now) }
+{
+    let mut line = Addition::new(Vec::new(alloc));
+    push_counts(
+        number_of(EntryKind::Begin, entries),
+        number_of(EntryKind::Commit, entries),
+        number_of(EntryKind::Return, entries),
+        &mut line,
+    )?;
+    Ok(line.kept())
+}
+
+/// The text of a run that ended with these entries and nodes: its journal, the tree that the nodes spell, and a last
+/// line with the numbers of entries of each kind. The only error is a lack of memory.
+pub fn run_text(alloc: Global, entries: &[Entry], store: &Store) -> Result<Vec<u8>, AllocError>
+    ensures { IfOk result (λ text. IsRunText entries.now (graph_of store.now) text.items) }
+{
+    let mut text = journal_text(alloc, entries)?;
+    write_tree(alloc, store, &mut text)?;
+    let line = end_line(alloc, entries)?;
+    text.extend_from_slice(&line)?;
+    Ok(text)
+}
