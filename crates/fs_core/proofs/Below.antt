@@ -83,7 +83,7 @@ used_at graph is (x ∷ u) q e =
 pub key_within : (graph : Graph) (bound : ℕ) → IsGraph graph → AreBelow graph bound → (key : Key) (n : ℕ) → numbers graph key ≡ Some n → length key < bound
 key_within graph bound is below key n e =
     let l : length (path_from graph.kid (Some 0) key) ≤ bound = length-le_from_distinct_below (path_from graph.kid (Some 0) key) bound (distinct_path graph is [] (Some 0) key refl)
-        (λ q f. let u : (u : Key) × (numbers graph u ≡ Some q) = in_path graph.kid (Some 0) key q f in let s : (s : Shape) × (graph.shape q ≡ Some s) = used_at graph is u.0 q u.1 in below q s.0 s.1) in
+    (λ q f. let u : (u : Key) × (numbers graph u ≡ Some q) = in_path graph.kid (Some 0) key q f in let s : (s : Shape) × (graph.shape q ≡ Some s) = used_at graph is u.0 q u.1 in below q s.0 s.1) in
     let m : length (path_from graph.kid (Some 0) key) ≡ length key + 1 = length_path graph.kid (Some 0) key n e in
     omega arith
 

@@ -56,9 +56,12 @@ walks_by (Some i) (Some r) e = cc
 -- on its seat and by its number
 pub under_walks : (m : Machine) (s seat : ℕ) → Run (state_of m) → (u : IsUnder (kid m.store) m.seats s seat) → IsWalkingBelow (state_of m) s u.running.call
 under_walks m s seat run u =
-    let w : Walks u.running u.node = walks_at u.running u.node u.position in
-    (record_of seat u.running.place u.running.op, call_on m seat u.running run u.on, walks_phase u.running w.unplaced w.unanswered,
-     (w.stand, u.reached.0, w.on, u.reached.1 ∙ ap (λ (n : ℕ). Some n) (sym w.here)))
+    let w : Walks u.running u.node = walks_at u.running u.node u.position in (
+      record_of seat u.running.place u.running.op,
+      call_on m seat u.running run u.on,
+      walks_phase u.running w.unplaced w.unanswered,
+      (w.stand, u.reached.0, w.on, u.reached.1 ∙ ap (λ (n : ℕ). Some n) (sym w.here)),
+    )
 
 pub record Found (m : Machine) (s d : ℕ) : Type 0 where
   pub seat : ℕ
@@ -91,8 +94,10 @@ lowest_walks m s seat run l = (under_walks m s seat run l.under, other)
   where
     u : IsUnder (kid m.store) m.seats s seat
     u = l.under
+
     w : Walks u.running u.node
     w = walks_at u.running u.node u.position
+
     other : (op : Record) (st : Stand) (e : ℕ) → records m.seats u.running.call ≡ Some op → op.stand ≡ Some st → (u.running.call ≡ e → ⊥) → IsWalkingBelow (state_of m) st.node e → ⊥
     other op st e is on differs below =
         let z : op ≡ record_of seat u.running.place u.running.op = same_record m u.running.call op _ is (call_on m seat u.running run u.on) in
@@ -112,8 +117,10 @@ walks_lowest m s d run l =
   where
     f : Found m s d
     f = walks_under m s d l.0
+
     w : Walks f.under.running f.under.node
     w = walks_at f.under.running f.under.node f.under.position
+
     alone : IsAlone (kid m.store) m.seats f.under.node f.seat
     alone k differs u =
         l.1 (record_of f.seat f.under.running.place f.under.running.op) w.stand u.running.call (ap (records m.seats) (sym f.number) ∙ call_on m f.seat f.under.running run f.under.on) w.on
@@ -126,10 +133,13 @@ none_below m s run roomy none d below = go (room m.holding) d below (omega arith
   where
     inv : Invariant (state_of m)
     inv = run_keeps (state_of m) run
+
     graph : Graph
     graph = graph_of m.store
+
     here : (c : ℕ) (op : Record) (st : Stand) → records m.seats c ≡ Some op → op.stand ≡ Some st → numbers graph (inv.key c) ≡ Some st.node
     here c op st is on = (inv.kept.each c op st is on).located.here
+
     longer : (d e : ℕ) (op q : Record) (st other : Stand) (key : Key) → records m.seats d ≡ Some op → op.stand ≡ Some st → records m.seats e ≡ Some q → q.stand ≡ Some other → (d ≡ e → ⊥) → at graph.kid st.node key ≡ Some other.node
         → length (inv.key d) < length (inv.key e)
     longer d e op q st other [] is on is_q on_q differs key_is =
@@ -139,15 +149,19 @@ none_below m s run roomy none d below = go (room m.holding) d below (omega arith
         let l : length (inv.key e) ≡ length (inv.key d) + length (x ∷ key) = ap length k ∙ length-append (inv.key d) (x ∷ key) in
         let n : length (x ∷ key) ≡ length key + 1 = omega arith in
         omega (arith, l, n)
+
     go : (fuel : ℕ) (d : ℕ) → IsWalkingBelow (state_of m) s d → room m.holding ≤ length (inv.key d) + fuel → ⊥
     go zero d (op, is, phase, (st, key, on, at_key)) enough =
         let l : length (inv.key d) < room m.holding = key_within graph (room m.holding) inv.is_graph roomy (inv.key d) st.node (here d op st is on) in absurd (omega (arith, l, enough))
-    go (suc fuel) d (op, is, phase, (st, key, on, at_key)) enough = none d ((op, is, phase, (st, key, on, at_key)), λ p other e is_p on_p differs (q, is_q, phase_q, (st_q, key_q, on_q, at_q)).
-        let z : p ≡ op = same_record m d p op is_p is in
-        let y : other ≡ st = same_stand op other st (sym (ap (λ (o : Record). o.stand) z) ∙ on_p) on in
-        let reach : at graph.kid st.node key_q ≡ Some st_q.node = ap (λ (t : Stand). at graph.kid t.node key_q) (sym y) ∙ at_q in
-        let more : length (inv.key d) < length (inv.key e) = longer d e op q st st_q key_q is on is_q on_q differs reach in
-        go fuel e (q, is_q, phase_q, (st_q, key ++ key_q, on_q, at_from graph.kid s st.node key key_q at_key ∙ reach)) (omega (arith, more, enough)))
+    go (suc fuel) d (op, is, phase, (st, key, on, at_key)) enough = none d (
+      (op, is, phase, (st, key, on, at_key)),
+      λ p other e is_p on_p differs (q, is_q, phase_q, (st_q, key_q, on_q, at_q)).
+          let z : p ≡ op = same_record m d p op is_p is in
+          let y : other ≡ st = same_stand op other st (sym (ap (λ (o : Record). o.stand) z) ∙ on_p) on in
+          let reach : at graph.kid st.node key_q ≡ Some st_q.node = ap (λ (t : Stand). at graph.kid t.node key_q) (sym y) ∙ at_q in
+          let more : length (inv.key d) < length (inv.key e) = longer d e op q st st_q key_q is on is_q on_q differs reach in
+          go fuel e (q, is_q, phase_q, (st_q, key ++ key_q, on_q, at_from graph.kid s st.node key key_q at_key ∙ reach)) (omega (arith, more, enough)),
+    )
 
 -- what a search needs
 pub can_search : (m : Machine) (b k p : ℕ) → IsKept m b k p → CanSearch m.store m.seats (room m.holding)
@@ -159,6 +173,7 @@ can_search m b k p kept = record {
   where
     inv : Invariant (state_of m)
     inv = run_keeps (state_of m) kept.run
+
     rooted : (seat n : ℕ) (slot : Option Running) → slice_get m.seats seat ≡ Some slot → position_of slot ≡ Some n → (key : Key) × (numbers (graph_of m.store) key ≡ Some n)
     rooted seat n None e f = cc
     rooted seat n (Some r) e f =
@@ -175,9 +190,12 @@ chosen_by m s seat run h =
       on = l.under.on;
       unplaced = w.unplaced;
       unanswered = w.unanswered;
-      chosen = (lowest_walks m s seat run l, λ e low.
-          let f : FoundLowest m s e = walks_lowest m s e run low in
-          h.2 f.seat l.under.running.call e (under_within (kid m.store) m.seats s f.seat f.lowest.under) f.lowest (number_read m.seats seat (Some l.under.running) l.under.on) f.number);
+      chosen = (
+        lowest_walks m s seat run l,
+        λ e low.
+            let f : FoundLowest m s e = walks_lowest m s e run low in
+            h.2 f.seat l.under.running.call e (under_within (kid m.store) m.seats s f.seat f.lowest.under) f.lowest (number_read m.seats seat (Some l.under.running) l.under.on) f.number,
+      );
     }
 
 pub none_by : (m : Machine) (s : ℕ) → Run (state_of m) → AreBelow (graph_of m.store) (room m.holding) → HasLeast (kid m.store) m.seats s (length m.seats) None → NoneBelow (state_of m) (Some s)

@@ -63,6 +63,7 @@ unreserve graph n shape free = ap (λ (f : ℕ → Option Shape). with_shapes f)
   where
     with_shapes : (ℕ → Option Shape) → Graph
     with_shapes f = record { kid = graph.kid; shape = f }
+
     go : (m : ℕ) (b : Bool) → eqb m n ≡ b → cond b None (cond b (Some shape) (graph.shape m)) ≡ graph.shape m
     go m true e = sym free ∙ ap graph.shape (sym (eqb_true m n e))
     go m false e = refl
@@ -106,14 +107,17 @@ full_is m (Some shape) h e = e
 -- a begin that is refused
 pub refused_same : (m : Machine) (b k p : ℕ) → IsKept m b k p → (st : Places) (hs : Holding) → graph_of st ≡ graph_of m.store → st.limit ≡ m.store.limit → holder hs ≡ holder m.holding → room m.holding ≤ room hs
     → (state_of (record m { store = st; holding = hs }) ≡ state_of m) × IsKept (record m { store = st; holding = hs }) b k p
-refused_same m b k p kept st hs graph limit is_hs more = (same, record {
-  run = subst Run (sym same) kept.run;
-  roomy = λ n s e. (let less : n < room m.holding = kept.roomy n s (ap (λ (g : Graph). g.shape n) (sym graph) ∙ e) in omega (arith, less, more));
-  begun_is = kept.begun_is;
-  commits_is = kept.commits_is;
-  within = kept.within;
-  owed_is = kept.owed_is;
-})
+refused_same m b k p kept st hs graph limit is_hs more = (
+  same,
+  record {
+    run = subst Run (sym same) kept.run;
+    roomy = λ n s e. (let less : n < room m.holding = kept.roomy n s (ap (λ (g : Graph). g.shape n) (sym graph) ∙ e) in omega (arith, less, more));
+    begun_is = kept.begun_is;
+    commits_is = kept.commits_is;
+    within = kept.within;
+    owed_is = kept.owed_is;
+  },
+)
   where
     same : state_of (record m { store = st; holding = hs }) ≡ state_of m
     same = same_state _ _ _ _ _ _ _ _ _ _ _ limit graph is_hs refl refl
@@ -147,51 +151,64 @@ pub begun_kept : (m : Machine) (b k p seat : ℕ) (call : Call) → IsKept m b k
     → (st : Places) (hs : Holding) (w : Work) (number : ℕ) (copy : Call) (slot : Option Running) → BegunAs (graph_of m.store) m.store.limit call (reserves (form call)) w (graph_of st) → st.limit ≡ m.store.limit
     → holder hs ≡ holder m.holding → room m.holding ≤ room hs → HasRoom w.reserved hs → number ≡ b + 1 → copy ≡ call → slot ≡ Some (record { call = number; place = None; op = w })
     → Begins (state_of m) seat call (Begun_as number) (state_of (record m { store = st; holding = hs; seats = slice_set m.seats seat slot; timeline = m.timeline ++ Begin number seat copy ∷ [] })) × IsKept (record m { store = st; holding = hs; seats = slice_set m.seats seat slot; timeline = m.timeline ++ Begin number seat copy ∷ [] }) number k (p + 3 - 1)
-begun_kept m b k p seat call kept free st hs w number copy slot begun limit is_hs more has is_number is_copy is =
-    (step, record {
-      run = Beginning seat call (Begun_as number) _ kept.run step;
-      roomy = begun_roomy m b k p kept call st hs w (reserves (form call)) begun has more;
-      begun_is = is_number ∙ ap (λ (n : ℕ). n + 1) kept.begun_is ∙ sym (begins_more m.timeline number seat copy);
-      commits_is = kept.commits_is ∙ sym (commits_begin m.timeline number seat copy);
-      within = omega (arith, walking_set m.seats seat None slot free, after.1, kept.within, is_number);
-      owed_is = omega (arith, owed_set m.seats seat None slot free, after.0, kept.owed_is);
-    })
+begun_kept m b k p seat call kept free st hs w number copy slot begun limit is_hs more has is_number is_copy is = (
+  step,
+  record {
+    run = Beginning seat call (Begun_as number) _ kept.run step;
+    roomy = begun_roomy m b k p kept call st hs w (reserves (form call)) begun has more;
+    begun_is = is_number ∙ ap (λ (n : ℕ). n + 1) kept.begun_is ∙ sym (begins_more m.timeline number seat copy);
+    commits_is = kept.commits_is ∙ sym (commits_begin m.timeline number seat copy);
+    within = omega (arith, walking_set m.seats seat None slot free, after.1, kept.within, is_number);
+    owed_is = omega (arith, owed_set m.seats seat None slot free, after.0, kept.owed_is);
+  },
+)
   where
     M : Machine
     M = record m { store = st; holding = hs; seats = slice_set m.seats seat slot; timeline = m.timeline ++ Begin number seat copy ∷ [] }
+
     fresh : (o : Option Shape) → BegunAs (graph_of m.store) m.store.limit call o w (graph_of st) → w.reply ≡ None
     fresh None (is_w, is_new) = ap (λ (x : Work). x.reply) is_w
     fresh (Some shape) (c, below, unused, is_w, is_new) = ap (λ (x : Work). x.reply) is_w
+
     after : (owed_at slot ≡ 2) × (walking_at slot ≡ 1)
-    after =
-        (ap owed_at is ∙ ap (λ (q : Option Rattle.fs_seq.specs.declared.reply.Reply.Reply). owed_at (Some (record { call = number; place = None; op = record w { reply = q } }))) (fresh (reserves (form call)) begun),
-         ap walking_at is ∙ ap (λ (q : Option Rattle.fs_seq.specs.declared.reply.Reply.Reply). walking_at (Some (record { call = number; place = None; op = record w { reply = q } }))) (fresh (reserves (form call)) begun))
+    after = (
+      ap owed_at is ∙ ap (λ (q : Option Rattle.fs_seq.specs.declared.reply.Reply.Reply). owed_at (Some (record { call = number; place = None; op = record w { reply = q } }))) (fresh (reserves (form call)) begun),
+      ap walking_at is ∙ ap (λ (q : Option Rattle.fs_seq.specs.declared.reply.Reply.Reply). walking_at (Some (record { call = number; place = None; op = record w { reply = q } }))) (fresh (reserves (form call)) begun),
+    )
+
     counted : number ≡ begins m.timeline + 1
     counted = is_number ∙ ap (λ (n : ℕ). n + 1) kept.begun_is
+
     none : records m.seats number ≡ None
     none = not_begun (state_of m) (run_keeps (state_of m) kept.run) number (omega (arith, counted))
+
     same : (reserved : Option ℕ) (graph : Graph) → w ≡ new_work call reserved → graph_of st ≡ graph → state_of M ≡ began (state_of m) seat call number reserved graph
     same reserved graph is_w is_graph =
         ap (λ (c : Call). state_of (record M { timeline = m.timeline ++ Begin number seat c ∷ [] })) is_copy
         ∙ same_state _ _ _ _ _ _ _ _ _ _ _ limit is_graph is_hs
-          (records_begun m.seats seat (record { call = number; place = None; op = w }) slot free is none ∙ ap (λ (x : Work). Rattle.fs_nodes.specs.Graphs.set_at number (Some (record_of seat None x)) (records m.seats)) is_w)
-          (numbers_set m.seats seat slot (Some (record { call = number; place = None; op = w })) (slice_get_within m.seats seat None free) is)
+        (records_begun m.seats seat (record { call = number; place = None; op = w }) slot free is none ∙ ap (λ (x : Work). Rattle.fs_nodes.specs.Graphs.set_at number (Some (record_of seat None x)) (records m.seats)) is_w)
+        (numbers_set m.seats seat slot (Some (record { call = number; place = None; op = w })) (slice_get_within m.seats seat None free) is)
+
     reserve : (o : Option Shape) → BegunAs (graph_of m.store) m.store.limit call o w (graph_of st) → Reserves (state_of m) seat call number o (state_of M)
     reserve None (is_w, is_new) = same None (graph_of m.store) is_w is_new
     reserve (Some shape) (c, below, unused, is_w, is_new) = (c, below, unused, same (Some c) (reserved_in c shape (graph_of m.store)) is_w is_new)
+
     step : Begins (state_of m) seat call (Begun_as number) (state_of M)
     step = (number_read m.seats seat None free, counted, reserve (reserves (form call)) begun)
 
 -- a seat more
 pub seat_kept : (m : Machine) (b k p : ℕ) → IsKept m b k p → (seats : List (Option Running)) → seats ≡ m.seats ++ None ∷ [] → (state_of (record m { seats = seats }) ≡ state_of m) × IsKept (record m { seats = seats }) b k p
-seat_kept m b k p kept seats is = (same, record {
-  run = subst Run (sym same) kept.run;
-  roomy = kept.roomy;
-  begun_is = kept.begun_is;
-  commits_is = kept.commits_is;
-  within = subst (λ (n : ℕ). k + n ≤ b) (sym (ap walking is ∙ walking_more m.seats)) kept.within;
-  owed_is = subst (λ (n : ℕ). n ≤ p) (sym (ap owed is ∙ owed_more m.seats)) kept.owed_is;
-})
+seat_kept m b k p kept seats is = (
+  same,
+  record {
+    run = subst Run (sym same) kept.run;
+    roomy = kept.roomy;
+    begun_is = kept.begun_is;
+    commits_is = kept.commits_is;
+    within = subst (λ (n : ℕ). k + n ≤ b) (sym (ap walking is ∙ walking_more m.seats)) kept.within;
+    owed_is = subst (λ (n : ℕ). n ≤ p) (sym (ap owed is ∙ owed_more m.seats)) kept.owed_is;
+  },
+)
   where
     same : state_of (record m { seats = seats }) ≡ state_of m
     same = same_state _ _ _ _ _ _ _ _ _ _ _ refl refl refl (ap records is ∙ records_more m.seats) (ap number_on is ∙ numbers_more m.seats)
@@ -206,14 +223,17 @@ empty_below n s bound one e = go (eqb n 0) refl e
 
 pub new_kept : (st : Places) (hs : Holding) (limit : ℕ) → 1 ≤ limit → graph_of st ≡ empty_graph → st.limit ≡ limit → holder hs ≡ (λ n. None) → 1 ≤ room hs
     → (state_of (record { store = st; holding = hs; seats = []; timeline = [] }) ≡ empty limit) × IsKept (record { store = st; holding = hs; seats = []; timeline = [] }) 0 0 0
-new_kept st hs limit one graph is_limit is_hs has = (same, record {
-  run = subst Run (sym same) (Start limit one);
-  roomy = λ n s e. empty_below n s (room hs) has (ap (λ (g : Graph). g.shape n) (sym graph) ∙ e);
-  begun_is = refl;
-  commits_is = refl;
-  within = omega arith;
-  owed_is = omega arith;
-})
+new_kept st hs limit one graph is_limit is_hs has = (
+  same,
+  record {
+    run = subst Run (sym same) (Start limit one);
+    roomy = λ n s e. empty_below n s (room hs) has (ap (λ (g : Graph). g.shape n) (sym graph) ∙ e);
+    begun_is = refl;
+    commits_is = refl;
+    within = omega arith;
+    owed_is = omega arith;
+  },
+)
   where
     same : state_of (record { store = st; holding = hs; seats = []; timeline = [] }) ≡ empty limit
     same = same_state _ _ _ _ _ _ _ _ _ _ _ is_limit graph is_hs refl (fun_ext (λ n. refl))
@@ -245,6 +265,7 @@ refused_by m at seat call slot b refusal new e within read some not_some full is
   where
     free : slice_get m.seats at ≡ Some None
     free = free_seat m at slot (subst (λ (s : ℕ). s < length m.seats) (sym e) within) read (none_by_test slot b some not_some)
+
     go : (r : Refusal) → (◌≡◌ {A = Result Ready Refusal} (Err r) (Err refusals.Full) → IsSome (reserves (form call)) × (in_use m.store ≡ m.store.limit))
         → (IsSome (reserves (form call)) × (in_use m.store ≡ m.store.limit) → ◌≡◌ {A = Result Ready Refusal} (Err r) (Err refusals.Full))
         → (◌≡◌ {A = Result Ready Refusal} (Err r) (Err refusals.SeatBusy) → ⊥) → Begins (state_of m) at call (begun_as (Err r)) new

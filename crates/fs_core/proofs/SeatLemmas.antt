@@ -68,6 +68,7 @@ ended_from k zero (slot ∷ seats) r c e apart =
   where
     later : IsAbsent seats r.call
     later j q f g = let z : 0 ≡ suc j = apart 0 (suc j) r q e f (sym g) in cc
+
     go : (b : Bool) → eqb c r.call ≡ b → record_from (k + 1) seats c ≡ cond b None (cond b (Some (record_of k r.place r.op)) (record_from (k + 1) seats c))
     go true f = ap (record_from (k + 1) seats) (eqb_true c r.call f) ∙ absent_from (k + 1) seats r.call later
     go false f = refl
@@ -97,6 +98,7 @@ begun_from k (suc i) s (Some p ∷ seats) q c at e none =
   where
     V : Option Record
     V = Some (record_of s q.place q.op)
+
     go : (b d : Bool) → eqb c p.call ≡ b → eqb c q.call ≡ d → eqb q.call p.call ≡ false
         → record_from (k + 1) (slice_set seats i (Some q)) c ≡ cond d V (record_from (k + 1) seats c)
         → cond b (Some (record_of k p.place p.op)) (record_from (k + 1) (slice_set seats i (Some q)) c) ≡ cond d V (cond b (Some (record_of k p.place p.op)) (record_from (k + 1) seats c))
@@ -104,6 +106,7 @@ begun_from k (suc i) s (Some p ∷ seats) q c at e none =
     go true false f g differs h = refl
     go false true f g differs h = h
     go false false f g differs h = h
+
     first : (b : Bool) → eqb q.call p.call ≡ b → cond b (Some (record_of k p.place p.op)) (record_from (k + 1) seats q.call) ≡ None
         → (record_from (k + 1) seats q.call ≡ None → record_from (k + 1) (slice_set seats i (Some q)) c ≡ set_at q.call V (record_from (k + 1) seats) c)
         → record_from k (slice_set (Some p ∷ seats) (suc i) (Some q)) c ≡ set_at q.call V (record_from k (Some p ∷ seats)) c

@@ -45,21 +45,31 @@ same_owed r w v is e =
 pub took_step : (m : Machine) (b k p seat : ℕ) (r : Running) (n : ℕ) → IsKept m b k p → slice_get m.seats seat ≡ Some (Some r) → next_of (graph_of m.store) r.op ≡ Takes n → holder m.holding n ≡ None
     → (hs : Holding) (w : Work) (v : Option Running) → holder hs ≡ set_at n (Some r.call) (holder m.holding) → holders.room hs ≡ holders.room m.holding → IsTook r.op n w → v ≡ Some (record r { op = w })
     → Step (state_of m) seat (Took n) (state_of (record m { holding = hs; seats = slice_set m.seats seat v })) × IsKept (record m { holding = hs; seats = slice_set m.seats seat v }) b k p
-took_step m b k p seat r n kept on move free hs w v is_hs room took_it is = (step, record {
-  run = Stepping seat (Took n) _ kept.run step;
-  roomy = rw room kept.roomy;
-  begun_is = kept.begun_is;
-  commits_is = kept.commits_is;
-  within = omega (arith, walking_set m.seats seat (Some r) v on, same.1, kept.within);
-  owed_is = omega (arith, owed_set m.seats seat (Some r) v on, same.0, kept.owed_is);
-})
+took_step m b k p seat r n kept on move free hs w v is_hs room took_it is = (
+  step,
+  record {
+    run = Stepping seat (Took n) _ kept.run step;
+    roomy = rw room kept.roomy;
+    begun_is = kept.begun_is;
+    commits_is = kept.commits_is;
+    within = omega (arith, walking_set m.seats seat (Some r) v on, same.1, kept.within);
+    owed_is = omega (arith, owed_set m.seats seat (Some r) v on, same.0, kept.owed_is);
+  },
+)
   where
     same : (owed_at v ≡ owed_at (Some r)) × (walking_at v ≡ walking_at (Some r))
     same = same_owed r w v is (took_reply r.op w n took_it)
+
     step : Step (state_of m) seat (Took n) (state_of (record m { holding = hs; seats = slice_set m.seats seat v }))
-    step = (r.call, record_of seat r.place r.op, moves m seat r (Takes n) kept.run on move, free, same_state _ _ _ _ _ _ _ _ _ _ _ refl refl is_hs
-        (records_changed m.seats seat r (record r { op = w }) v on is refl (apart_of m kept.run) ∙ ap (λ (o : Record). set_at r.call (Some o) (records m.seats)) (took_it seat r.place))
-        (numbers_changed m.seats seat r (record r { op = w }) v on (within_seats m seat r on) is refl))
+    step = (
+      r.call,
+      record_of seat r.place r.op,
+      moves m seat r (Takes n) kept.run on move,
+      free,
+      same_state _ _ _ _ _ _ _ _ _ _ _ refl refl is_hs
+          (records_changed m.seats seat r (record r { op = w }) v on is refl (apart_of m kept.run) ∙ ap (λ (o : Record). set_at r.call (Some o) (records m.seats)) (took_it seat r.place))
+          (numbers_changed m.seats seat r (record r { op = w }) v on (within_seats m seat r on) is refl),
+    )
 
 -- which numbers a change leaves in use
 fewer_released : (graph : Graph) (n q : ℕ) (t : Shape) → (released_in n graph).shape q ≡ Some t → (u : Shape) × (graph.shape q ≡ Some u)
@@ -82,27 +92,37 @@ pub let_go_step : (m : Machine) (b k p seat : ℕ) (r : Running) (n : ℕ) → I
     → (st : Places) (hs : Holding) (w : Work) (v : Option Running) → graph_of st ≡ releasing (is_removed r.op.removed n) n (graph_of m.store) → st.limit ≡ m.store.limit
     → holder hs ≡ set_at n None (holder m.holding) → holders.room hs ≡ holders.room m.holding → IsLetGo r.op n w → v ≡ Some (record r { op = w })
     → Step (state_of m) seat (LetGo n) (state_of (record m { store = st; holding = hs; seats = slice_set m.seats seat v })) × IsKept (record m { store = st; holding = hs; seats = slice_set m.seats seat v }) b k p
-let_go_step m b k p seat r n kept on move st hs w v graph limit is_hs room left_it is = (step, record {
-  run = Stepping seat (LetGo n) _ kept.run step;
-  roomy = λ q t e. rw room (let u : (u : Shape) × ((graph_of m.store).shape q ≡ Some u) = fewer_left (graph_of m.store) (is_removed r.op.removed n) n q t (ap (λ (g : Graph). g.shape q) (sym graph) ∙ e) in kept.roomy q u.0 u.1);
-  begun_is = kept.begun_is;
-  commits_is = kept.commits_is;
-  within = omega (arith, walking_set m.seats seat (Some r) v on, same.1, kept.within);
-  owed_is = omega (arith, owed_set m.seats seat (Some r) v on, same.0, kept.owed_is);
-})
+let_go_step m b k p seat r n kept on move st hs w v graph limit is_hs room left_it is = (
+  step,
+  record {
+    run = Stepping seat (LetGo n) _ kept.run step;
+    roomy = λ q t e. rw room (let u : (u : Shape) × ((graph_of m.store).shape q ≡ Some u) = fewer_left (graph_of m.store) (is_removed r.op.removed n) n q t (ap (λ (g : Graph). g.shape q) (sym graph) ∙ e) in kept.roomy q u.0 u.1);
+    begun_is = kept.begun_is;
+    commits_is = kept.commits_is;
+    within = omega (arith, walking_set m.seats seat (Some r) v on, same.1, kept.within);
+    owed_is = omega (arith, owed_set m.seats seat (Some r) v on, same.0, kept.owed_is);
+  },
+)
   where
     same : (owed_at v ≡ owed_at (Some r)) × (walking_at v ≡ walking_at (Some r))
     same = same_owed r w v is (left_reply r.op w n left_it)
+
     step : Step (state_of m) seat (LetGo n) (state_of (record m { store = st; holding = hs; seats = slice_set m.seats seat v }))
-    step = (r.call, record_of seat r.place r.op, moves m seat r (Leaves n) kept.run on move, same_state _ _ _ _ _ _ _ _ _ _ _ limit graph is_hs
-        (records_changed m.seats seat r (record r { op = w }) v on is refl (apart_of m kept.run) ∙ ap (λ (o : Record). set_at r.call (Some o) (records m.seats)) (left_it seat r.place))
-        (numbers_changed m.seats seat r (record r { op = w }) v on (within_seats m seat r on) is refl))
+    step = (
+      r.call,
+      record_of seat r.place r.op,
+      moves m seat r (Leaves n) kept.run on move,
+      same_state _ _ _ _ _ _ _ _ _ _ _ limit graph is_hs
+          (records_changed m.seats seat r (record r { op = w }) v on is refl (apart_of m kept.run) ∙ ap (λ (o : Record). set_at r.call (Some o) (records m.seats)) (left_it seat r.place))
+          (numbers_changed m.seats seat r (record r { op = w }) v on (within_seats m seat r on) is refl),
+    )
 
 -- what is owed by a walking call, and by one that is not
 pub walks_owed : (r : Running) → r.place ≡ None → r.op.reply ≡ None → (owed_at (Some r) ≡ 2) × (walking_at (Some r) ≡ 1)
-walks_owed r e f =
-    (ap (λ (o : Option ℕ). owed_at (Some (record r { place = o }))) e ∙ ap (λ (o : Option Reply). owed_at (Some (record r { place = None; op = record r.op { reply = o } }))) f,
-     ap (λ (o : Option ℕ). walking_at (Some (record r { place = o }))) e ∙ ap (λ (o : Option Reply). walking_at (Some (record r { place = None; op = record r.op { reply = o } }))) f)
+walks_owed r e f = (
+  ap (λ (o : Option ℕ). owed_at (Some (record r { place = o }))) e ∙ ap (λ (o : Option Reply). owed_at (Some (record r { place = None; op = record r.op { reply = o } }))) f,
+  ap (λ (o : Option ℕ). walking_at (Some (record r { place = o }))) e ∙ ap (λ (o : Option Reply). walking_at (Some (record r { place = None; op = record r.op { reply = o } }))) f,
+)
 
 placed_owed : (r : Running) (i : ℕ) → r.place ≡ Some i → (owed_at (Some r) ≡ 1) × (walking_at (Some r) ≡ 0)
 placed_owed r i e = (ap (λ (o : Option ℕ). owed_at (Some (record r { place = o }))) e, ap (λ (o : Option ℕ). walking_at (Some (record r { place = o }))) e)
@@ -112,9 +132,10 @@ replied_owed r q e = go r.place refl
   where
     go : (o : Option ℕ) → r.place ≡ o → (owed_at (Some r) ≡ 1) × (walking_at (Some r) ≡ 0)
     go (Some i) f = placed_owed r i f
-    go None f =
-        (ap (λ (o : Option ℕ). owed_at (Some (record r { place = o }))) f ∙ ap (λ (o : Option Reply). owed_at (Some (record r { place = None; op = record r.op { reply = o } }))) e,
-         ap (λ (o : Option ℕ). walking_at (Some (record r { place = o }))) f ∙ ap (λ (o : Option Reply). walking_at (Some (record r { place = None; op = record r.op { reply = o } }))) e)
+    go None f = (
+      ap (λ (o : Option ℕ). owed_at (Some (record r { place = o }))) f ∙ ap (λ (o : Option Reply). owed_at (Some (record r { place = None; op = record r.op { reply = o } }))) e,
+      ap (λ (o : Option ℕ). walking_at (Some (record r { place = o }))) f ∙ ap (λ (o : Option Reply). walking_at (Some (record r { place = None; op = record r.op { reply = o } }))) e,
+    )
 
 -- its phase
 pub walks_phase : (r : Running) → r.place ≡ None → r.op.reply ≡ None → phase_of r.place r.op.reply ≡ Walking
@@ -128,28 +149,44 @@ pub helped_step : (m : Machine) (b k p seat : ℕ) (r : Running) (s : ℕ) → I
     → (other : ℕ) (q : Running) → slice_get m.seats other ≡ Some (Some q) → q.place ≡ None → q.op.reply ≡ None → IsChosen (state_of m) s q.call
     → (v : Option Running) → v ≡ Some (record q { place = Some k })
     → Step (state_of m) seat (Helped q.call) (state_of (record m { seats = slice_set m.seats other v; timeline = m.timeline ++ Commit q.call ∷ [] })) × IsKept (record m { seats = slice_set m.seats other v; timeline = m.timeline ++ Commit q.call ∷ [] }) b (k + 1) (p - 1)
-helped_step m b k p seat r s kept on move unplaced other q on_other q_unplaced q_open chosen v is = (step, record {
-  run = Stepping seat (Helped q.call) _ kept.run step;
-  roomy = kept.roomy;
-  begun_is = kept.begun_is ∙ sym (begins_commit m.timeline q.call);
-  commits_is = ap (λ (x : ℕ). x + 1) kept.commits_is ∙ sym (commits_more m.timeline q.call);
-  within = omega (arith, walking_set m.seats other (Some q) v on_other, before.1, after.1, kept.within);
-  owed_is = omega (arith, owed_set m.seats other (Some q) v on_other, before.0, after.0, kept.owed_is);
-})
+helped_step m b k p seat r s kept on move unplaced other q on_other q_unplaced q_open chosen v is = (
+  step,
+  record {
+    run = Stepping seat (Helped q.call) _ kept.run step;
+    roomy = kept.roomy;
+    begun_is = kept.begun_is ∙ sym (begins_commit m.timeline q.call);
+    commits_is = ap (λ (x : ℕ). x + 1) kept.commits_is ∙ sym (commits_more m.timeline q.call);
+    within = omega (arith, walking_set m.seats other (Some q) v on_other, before.1, after.1, kept.within);
+    owed_is = omega (arith, owed_set m.seats other (Some q) v on_other, before.0, after.0, kept.owed_is);
+  },
+)
   where
     before : (owed_at (Some q) ≡ 2) × (walking_at (Some q) ≡ 1)
     before = walks_owed q q_unplaced q_open
+
     after : (owed_at v ≡ 1) × (walking_at v ≡ 0)
     after = (ap owed_at is, ap walking_at is)
+
     op : Record
     op = record_of other q.place q.op
+
     is_op : record_of other (Some k) q.op ≡ record op { phase = Placed (commit_count m.timeline) }
     is_op = ap (λ (x : Phase). record op { phase = x }) (placed_phase k q.op.reply q_open ∙ ap (λ (x : ℕ). Placed x) kept.commits_is)
+
     step : Step (state_of m) seat (Helped q.call) (state_of (record m { seats = slice_set m.seats other v; timeline = m.timeline ++ Commit q.call ∷ [] }))
-    step = (r.call, record_of seat r.place r.op, s, moves m seat r (Finishes (Some s)) kept.run on move, walks_phase r unplaced (unfinished_at (graph_of m.store) r.op (Some s) move), chosen, op, call_on m other q kept.run on_other,
-        same_state _ _ _ _ _ _ _ _ _ _ _ refl refl refl
-        (records_changed m.seats other q (record q { place = Some k }) v on_other is refl (apart_of m kept.run) ∙ ap (λ (o : Record). set_at q.call (Some o) (records m.seats)) is_op)
-        (numbers_changed m.seats other q (record q { place = Some k }) v on_other (within_seats m other q on_other) is refl))
+    step = (
+      r.call,
+      record_of seat r.place r.op,
+      s,
+      moves m seat r (Finishes (Some s)) kept.run on move,
+      walks_phase r unplaced (unfinished_at (graph_of m.store) r.op (Some s) move),
+      chosen,
+      op,
+      call_on m other q kept.run on_other,
+      same_state _ _ _ _ _ _ _ _ _ _ _ refl refl refl
+          (records_changed m.seats other q (record q { place = Some k }) v on_other is refl (apart_of m kept.run) ∙ ap (λ (o : Record). set_at q.call (Some o) (records m.seats)) is_op)
+          (numbers_changed m.seats other q (record q { place = Some k }) v on_other (within_seats m other q on_other) is refl),
+    )
 
 -- the graph and the record after a finish
 graph_made : (m : Machine) (seat : ℕ) (r : Running) (st : Places) → graph_of st ≡ graph_after (graph_of m.store) r.op → graph_of st ≡ (finish (graph_of m.store) (record_of seat r.place r.op)).graph
@@ -165,67 +202,101 @@ fewer_made m seat r run on st graph q t e =
 pub committed_step : (m : Machine) (b k p seat : ℕ) (r : Running) (s : Option ℕ) → IsKept m b k p → slice_get m.seats seat ≡ Some (Some r) → next_of (graph_of m.store) r.op ≡ Finishes s → r.place ≡ None → NoneBelow (state_of m) s
     → (st : Places) (w : Work) (v : Option Running) → graph_of st ≡ graph_after (graph_of m.store) r.op → st.limit ≡ m.store.limit → IsFinished (graph_of m.store) r.op w → v ≡ Some (record r { op = w })
     → Step (state_of m) seat Committed (state_of (record m { store = st; seats = slice_set m.seats seat v; timeline = m.timeline ++ Commit r.call ∷ [] })) × IsKept (record m { store = st; seats = slice_set m.seats seat v; timeline = m.timeline ++ Commit r.call ∷ [] }) b (k + 1) (p - 1)
-committed_step m b k p seat r s kept on move unplaced none st w v graph limit done is = (step, record {
-  run = Stepping seat Committed _ kept.run step;
-  roomy = λ q t e. (let u : (u : Shape) × ((graph_of m.store).shape q ≡ Some u) = fewer_made m seat r kept.run on st graph q t e in kept.roomy q u.0 u.1);
-  begun_is = kept.begun_is ∙ sym (begins_commit m.timeline r.call);
-  commits_is = ap (λ (x : ℕ). x + 1) kept.commits_is ∙ sym (commits_more m.timeline r.call);
-  within = omega (arith, walking_set m.seats seat (Some r) v on, before.1, after.1, kept.within);
-  owed_is = omega (arith, owed_set m.seats seat (Some r) v on, before.0, after.0, kept.owed_is);
-})
+committed_step m b k p seat r s kept on move unplaced none st w v graph limit done is = (
+  step,
+  record {
+    run = Stepping seat Committed _ kept.run step;
+    roomy = λ q t e. (let u : (u : Shape) × ((graph_of m.store).shape q ≡ Some u) = fewer_made m seat r kept.run on st graph q t e in kept.roomy q u.0 u.1);
+    begun_is = kept.begun_is ∙ sym (begins_commit m.timeline r.call);
+    commits_is = ap (λ (x : ℕ). x + 1) kept.commits_is ∙ sym (commits_more m.timeline r.call);
+    within = omega (arith, walking_set m.seats seat (Some r) v on, before.1, after.1, kept.within);
+    owed_is = omega (arith, owed_set m.seats seat (Some r) v on, before.0, after.0, kept.owed_is);
+  },
+)
   where
     before : (owed_at (Some r) ≡ 2) × (walking_at (Some r) ≡ 1)
     before = walks_owed r unplaced (unfinished_at (graph_of m.store) r.op s move)
+
     after : (owed_at v ≡ 1) × (walking_at v ≡ 0)
     after = let f : (q : Reply) × (w.reply ≡ Some q) = finished_reply (graph_of m.store) r.op w done in let g : (owed_at (Some (record r { op = w })) ≡ 1) × (walking_at (Some (record r { op = w })) ≡ 0) = replied_owed (record r { op = w }) f.0 f.1 in (ap owed_at is ∙ g.0, ap walking_at is ∙ g.1)
+
     step : Step (state_of m) seat Committed (state_of (record m { store = st; seats = slice_set m.seats seat v; timeline = m.timeline ++ Commit r.call ∷ [] }))
-    step = (r.call, record_of seat r.place r.op, s, moves m seat r (Finishes s) kept.run on move, walks_phase r unplaced (unfinished_at (graph_of m.store) r.op s move), none,
-        same_state _ _ _ _ _ _ _ _ _ _ _ limit (graph_made m seat r st graph) refl
-        (records_changed m.seats seat r (record r { op = w }) v on is refl (apart_of m kept.run) ∙ ap (λ (o : Record). set_at r.call (Some o) (records m.seats)) (done seat r.place))
-        (numbers_changed m.seats seat r (record r { op = w }) v on (within_seats m seat r on) is refl))
+    step = (
+      r.call,
+      record_of seat r.place r.op,
+      s,
+      moves m seat r (Finishes s) kept.run on move,
+      walks_phase r unplaced (unfinished_at (graph_of m.store) r.op s move),
+      none,
+      same_state _ _ _ _ _ _ _ _ _ _ _ limit (graph_made m seat r st graph) refl
+          (records_changed m.seats seat r (record r { op = w }) v on is refl (apart_of m kept.run) ∙ ap (λ (o : Record). set_at r.call (Some o) (records m.seats)) (done seat r.place))
+          (numbers_changed m.seats seat r (record r { op = w }) v on (within_seats m seat r on) is refl),
+    )
 
 -- a placed call that finishes
 pub carried_step : (m : Machine) (b k p seat : ℕ) (r : Running) (s : Option ℕ) (i : ℕ) → IsKept m b k p → slice_get m.seats seat ≡ Some (Some r) → next_of (graph_of m.store) r.op ≡ Finishes s → r.place ≡ Some i
     → (st : Places) (w : Work) (v : Option Running) → graph_of st ≡ graph_after (graph_of m.store) r.op → st.limit ≡ m.store.limit → IsFinished (graph_of m.store) r.op w → v ≡ Some (record r { op = w })
     → Step (state_of m) seat CarriedOut (state_of (record m { store = st; seats = slice_set m.seats seat v })) × IsKept (record m { store = st; seats = slice_set m.seats seat v }) b k p
-carried_step m b k p seat r s i kept on move is_placed st w v graph limit done is = (step, record {
-  run = Stepping seat CarriedOut _ kept.run step;
-  roomy = λ q t e. (let u : (u : Shape) × ((graph_of m.store).shape q ≡ Some u) = fewer_made m seat r kept.run on st graph q t e in kept.roomy q u.0 u.1);
-  begun_is = kept.begun_is;
-  commits_is = kept.commits_is;
-  within = omega (arith, walking_set m.seats seat (Some r) v on, before.1, after.1, kept.within);
-  owed_is = omega (arith, owed_set m.seats seat (Some r) v on, before.0, after.0, kept.owed_is);
-})
+carried_step m b k p seat r s i kept on move is_placed st w v graph limit done is = (
+  step,
+  record {
+    run = Stepping seat CarriedOut _ kept.run step;
+    roomy = λ q t e. (let u : (u : Shape) × ((graph_of m.store).shape q ≡ Some u) = fewer_made m seat r kept.run on st graph q t e in kept.roomy q u.0 u.1);
+    begun_is = kept.begun_is;
+    commits_is = kept.commits_is;
+    within = omega (arith, walking_set m.seats seat (Some r) v on, before.1, after.1, kept.within);
+    owed_is = omega (arith, owed_set m.seats seat (Some r) v on, before.0, after.0, kept.owed_is);
+  },
+)
   where
     before : (owed_at (Some r) ≡ 1) × (walking_at (Some r) ≡ 0)
     before = placed_owed r i is_placed
+
     after : (owed_at v ≡ 1) × (walking_at v ≡ 0)
     after = let g : (owed_at (Some (record r { op = w })) ≡ 1) × (walking_at (Some (record r { op = w })) ≡ 0) = placed_owed (record r { op = w }) i is_placed in (ap owed_at is ∙ g.0, ap walking_at is ∙ g.1)
+
     step : Step (state_of m) seat CarriedOut (state_of (record m { store = st; seats = slice_set m.seats seat v }))
-    step = (r.call, record_of seat r.place r.op, s, i, moves m seat r (Finishes s) kept.run on move, ap (λ (o : Option ℕ). phase_of o r.op.reply) is_placed ∙ placed_phase i r.op.reply (unfinished_at (graph_of m.store) r.op s move),
-        same_state _ _ _ _ _ _ _ _ _ _ _ limit (graph_made m seat r st graph) refl
-        (records_changed m.seats seat r (record r { op = w }) v on is refl (apart_of m kept.run) ∙ ap (λ (o : Record). set_at r.call (Some o) (records m.seats)) (done seat r.place))
-        (numbers_changed m.seats seat r (record r { op = w }) v on (within_seats m seat r on) is refl))
+    step = (
+      r.call,
+      record_of seat r.place r.op,
+      s,
+      i,
+      moves m seat r (Finishes s) kept.run on move,
+      ap (λ (o : Option ℕ). phase_of o r.op.reply) is_placed ∙ placed_phase i r.op.reply (unfinished_at (graph_of m.store) r.op s move),
+      same_state _ _ _ _ _ _ _ _ _ _ _ limit (graph_made m seat r st graph) refl
+          (records_changed m.seats seat r (record r { op = w }) v on is refl (apart_of m kept.run) ∙ ap (λ (o : Record). set_at r.call (Some o) (records m.seats)) (done seat r.place))
+          (numbers_changed m.seats seat r (record r { op = w }) v on (within_seats m seat r on) is refl),
+    )
 
 -- a return
 pub returned_step : (m : Machine) (b k p seat : ℕ) (r : Running) (reply : Reply) → IsKept m b k p → slice_get m.seats seat ≡ Some (Some r) → next_of (graph_of m.store) r.op ≡ Ends → r.op.reply ≡ Some reply
     → (st : Places) (v : Option Running) → graph_of st ≡ unreserved r.op.reserved (graph_of m.store) → st.limit ≡ m.store.limit → v ≡ None
     → Step (state_of m) seat (Returned reply) (state_of (record m { store = st; seats = slice_set m.seats seat v; timeline = m.timeline ++ Return r.call reply ∷ [] })) × IsKept (record m { store = st; seats = slice_set m.seats seat v; timeline = m.timeline ++ Return r.call reply ∷ [] }) b k (p - 1)
-returned_step m b k p seat r reply kept on move replied st v graph limit is = (step, record {
-  run = Stepping seat (Returned reply) _ kept.run step;
-  roomy = λ q t e. (let u : (u : Shape) × ((graph_of m.store).shape q ≡ Some u) = fewer_unreserved (graph_of m.store) r.op.reserved q t (ap (λ (g : Graph). g.shape q) (sym graph) ∙ e) in kept.roomy q u.0 u.1);
-  begun_is = kept.begun_is ∙ sym (begins_return m.timeline r.call reply);
-  commits_is = kept.commits_is ∙ sym (commits_return m.timeline r.call reply);
-  within = omega (arith, walking_set m.seats seat (Some r) v on, before.1, after.1, kept.within);
-  owed_is = omega (arith, owed_set m.seats seat (Some r) v on, before.0, after.0, kept.owed_is);
-})
+returned_step m b k p seat r reply kept on move replied st v graph limit is = (
+  step,
+  record {
+    run = Stepping seat (Returned reply) _ kept.run step;
+    roomy = λ q t e. (let u : (u : Shape) × ((graph_of m.store).shape q ≡ Some u) = fewer_unreserved (graph_of m.store) r.op.reserved q t (ap (λ (g : Graph). g.shape q) (sym graph) ∙ e) in kept.roomy q u.0 u.1);
+    begun_is = kept.begun_is ∙ sym (begins_return m.timeline r.call reply);
+    commits_is = kept.commits_is ∙ sym (commits_return m.timeline r.call reply);
+    within = omega (arith, walking_set m.seats seat (Some r) v on, before.1, after.1, kept.within);
+    owed_is = omega (arith, owed_set m.seats seat (Some r) v on, before.0, after.0, kept.owed_is);
+  },
+)
   where
     before : (owed_at (Some r) ≡ 1) × (walking_at (Some r) ≡ 0)
     before = replied_owed r reply replied
+
     after : (owed_at v ≡ 0) × (walking_at v ≡ 0)
     after = (ap owed_at is, ap walking_at is)
+
     step : Step (state_of m) seat (Returned reply) (state_of (record m { store = st; seats = slice_set m.seats seat v; timeline = m.timeline ++ Return r.call reply ∷ [] }))
-    step = (r.call, record_of seat r.place r.op, moves m seat r Ends kept.run on move, ap (λ (o : Option Reply). phase_of r.place o) replied,
-        same_state _ _ _ _ _ _ _ _ _ _ _ limit graph refl
-        (records_ended m.seats seat r v on is (apart_of m kept.run))
-        (numbers_set m.seats seat v None (within_seats m seat r on) is))
+    step = (
+      r.call,
+      record_of seat r.place r.op,
+      moves m seat r Ends kept.run on move,
+      ap (λ (o : Option Reply). phase_of r.place o) replied,
+      same_state _ _ _ _ _ _ _ _ _ _ _ limit graph refl
+          (records_ended m.seats seat r v on is (apart_of m kept.run))
+          (numbers_set m.seats seat v None (within_seats m seat r on) is),
+    )

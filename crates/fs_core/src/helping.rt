@@ -8,7 +8,7 @@ ghost use Rattle.fs_core.specs.Rooms.{AreBelow};
 ghost use Rattle.fs_core.specs.Machines.{number_on};
 ghost use Rattle.std.specs.Option.{ForSome};
 
-use crate::running::{number, Running};
+use crate::running::{Running, number};
 use fs_nodes::{NodeNo, Store};
 
 /// Whether a node is another one, or is reached from it; it is looked for upwards, through at most `bound` nodes.
@@ -36,13 +36,21 @@ fn position(slot: &Option<Running>) -> Option<NodeNo>
     ensures { result ≡ position_of slot.now }
 {
     match slot {
-        Some(running) if running.place.is_none() && !running.op.is_finished() => running.op.position(),
+        Some(running) if running.place.is_none() && !running.op.is_finished() => running
+            .op
+            .position(),
         _ => None,
     }
 }
 
 /// Whether the walking call on a seat is below a node.
-fn is_under(store: &Store, seats: &[Option<Running>], bound: usize, node: NodeNo, seat: usize) -> bool
+fn is_under(
+    store: &Store,
+    seats: &[Option<Running>],
+    bound: usize,
+    node: NodeNo,
+    seat: usize,
+) -> bool
     requires can { CanSearch store.now seats.now bound }
     requires seat { seat < length seats.now }
     ensures { IsTrue result ↔ IsUnder (kid store.now) seats.now node seat }
@@ -54,7 +62,13 @@ fn is_under(store: &Store, seats: &[Option<Running>], bound: usize, node: NodeNo
 }
 
 /// Whether no walking call of another seat is below a node.
-fn is_alone(store: &Store, seats: &[Option<Running>], bound: usize, node: NodeNo, seat: usize) -> bool
+fn is_alone(
+    store: &Store,
+    seats: &[Option<Running>],
+    bound: usize,
+    node: NodeNo,
+    seat: usize,
+) -> bool
     requires can { CanSearch store.now seats.now bound }
     ensures { IsTrue result ↔ IsAlone (kid store.now) seats.now node seat }
 {
@@ -67,7 +81,13 @@ fn is_alone(store: &Store, seats: &[Option<Running>], bound: usize, node: NodeNo
 }
 
 /// Whether the walking call on a seat is below a node, and no other walking call is below its position.
-fn is_lowest(store: &Store, seats: &[Option<Running>], bound: usize, node: NodeNo, seat: usize) -> bool
+fn is_lowest(
+    store: &Store,
+    seats: &[Option<Running>],
+    bound: usize,
+    node: NodeNo,
+    seat: usize,
+) -> bool
     requires can { CanSearch store.now seats.now bound }
     requires seat { seat < length seats.now }
     ensures { IsTrue result ↔ IsLowestOn (kid store.now) seats.now node seat }
@@ -94,7 +114,14 @@ fn is_less(seats: &[Option<Running>], seat: usize, other: Option<usize>) -> bool
 }
 
 /// Of the seats up to this one, the one with the lowest call of the least number, by what the seats before it gave.
-fn lowest_with(store: &Store, seats: &[Option<Running>], bound: usize, node: NodeNo, seat: usize, chosen: Option<usize>) -> Option<usize>
+fn lowest_with(
+    store: &Store,
+    seats: &[Option<Running>],
+    bound: usize,
+    node: NodeNo,
+    seat: usize,
+    chosen: Option<usize>,
+) -> Option<usize>
     requires can { CanSearch store.now seats.now bound }
     requires seat { seat < length seats.now }
     requires before { HasLeast (kid store.now) seats.now node seat chosen }
@@ -111,7 +138,12 @@ fn lowest_with(store: &Store, seats: &[Option<Running>], bound: usize, node: Nod
 }
 
 /// Of the walking calls below a node of which each has no other one below its position, the one with the least number: its seat.
-pub fn to_help(store: &Store, seats: &[Option<Running>], bound: usize, node: NodeNo) -> Option<usize>
+pub fn to_help(
+    store: &Store,
+    seats: &[Option<Running>],
+    bound: usize,
+    node: NodeNo,
+) -> Option<usize>
     requires can { CanSearch store.now seats.now bound }
     ensures { HasLeast (kid store.now) seats.now node (length seats.now) result }
 {

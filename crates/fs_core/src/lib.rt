@@ -11,3 +11,6 @@ pub mod runs;
 
 pub use answer::{Event, Ran, Refusal, Stepped};
 pub use machine::Core;
+
+#[cfg(test)]
+mod tests;

@@ -250,7 +250,11 @@ impl Core {
             Err(refusal) => Err(refusal),
             Ok(ready) => {
                 let call = CallNo::new(ready.number);
-                let running = Running { call, place: None, op: ready.op };
+                let running = Running {
+                    call,
+                    place: None,
+                    op: ready.op,
+                };
                 running::put(&mut self.seats[at], running);
                 self.begun = ready.number;
                 self.timeline.push(Entry::Begin(call, seat, ready.copy));

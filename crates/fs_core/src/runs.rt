@@ -49,11 +49,17 @@ impl Core {
                 Ok(()) => {}
                 Err(refusal) => {
                     self.told();
-                    return Ran { done: i, refusal: Some(refusal) };
+                    return Ran {
+                        done: i,
+                        refusal: Some(refusal),
+                    };
                 }
             }
         }
         self.told();
-        Ran { done: events.len(), refusal: None }
+        Ran {
+            done: events.len(),
+            refusal: None,
+        }
     }
 }
