@@ -11,6 +11,7 @@ mod words;
 use clap::Error;
 use clap::error::ErrorKind;
 use fs_sched::{Device, RunFault, check_journal};
+use std::io;
 use std::process::ExitCode;
 use words::Task;
 
@@ -51,6 +52,15 @@ fn refused(rt: &HostRuntime, error: Error) -> u8 {
     error.exit_code() as u8
 }
 
+/// The status where the words were not had: 4 for want of memory, 2 where one is not UTF-8.
+fn unreadable(rt: &HostRuntime, error: &io::Error) -> u8 {
+    if error.kind() == io::ErrorKind::OutOfMemory {
+        return ended(rt, Err(RunFault::OutOfMemory));
+    }
+    let _ = rt.eprintln("error: a word is not UTF-8");
+    2
+}
+
 /// Does what the words ask for, from standard input to standard output, and answers the status.
 fn perform(rt: &HostRuntime, task: &Task) -> u8 {
     let mut reader = Device::new(rt.stdin());
@@ -61,8 +71,9 @@ fn perform(rt: &HostRuntime, task: &Task) -> u8 {
 }
 
 fn status(rt: &HostRuntime) -> u8 {
-    let Ok(args) = std::env::args(rt) else {
-        return 2;
+    let args = match std::env::args(rt) {
+        Ok(args) => args,
+        Err(error) => return unreadable(rt, &error),
     };
     let collected: Result<Vec<String>, _> = args.collect(rt.alloc());
     let Ok(given) = collected else {

@@ -16,6 +16,9 @@ pub line_kept : (kept before added rest : List ℕ) → kept ≡ before ++ added
 line_kept kept before added rest a b c = a ∙ ap (λ (z : List ℕ). z ++ added) b ∙ c
 
 pub run_text_made : (es : List Entry) (graph : Graph) (journal with_tree line all : List ℕ) → journal ≡ journal_text es → AppendsTree graph journal with_tree → line ≡ end_line es → all ≡ with_tree ++ line → IsRunText es graph all
-run_text_made es graph journal with_tree line all j tree l a =
-    (tree.0, tree.1, a ∙ ap (λ (z : List ℕ). z ++ line) tree.2 ∙ append_assoc journal (tree_text tree.0) line
-    ∙ ap (λ (z : List ℕ). z ++ (tree_text tree.0 ++ line)) j ∙ ap (λ (z : List ℕ). journal_text es ++ (tree_text tree.0 ++ z)) l)
+run_text_made es graph journal with_tree line all j tree l a = (
+  tree.0,
+  tree.1,
+  a ∙ ap (λ (z : List ℕ). z ++ line) tree.2 ∙ append_assoc journal (tree_text tree.0) line
+      ∙ ap (λ (z : List ℕ). z ++ (tree_text tree.0 ++ line)) j ∙ ap (λ (z : List ℕ). journal_text es ++ (tree_text tree.0 ++ z)) l,
+)

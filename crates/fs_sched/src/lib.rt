@@ -5,15 +5,15 @@ mod checking;
 pub mod device;
 mod fault;
 mod reading;
-mod texts;
 mod schedule;
 #[cfg(test)]
 mod tests;
+mod texts;
 mod verdict_line;
 mod writing;
 
 pub use checking::check_journal;
 pub use device::{Device, Failed, Sink, Source};
 pub use fault::RunFault;
-pub use texts::{EntryKind, number_of, run_text};
 pub use schedule::{DRAW_LIMIT, Draws, Schedule};
+pub use texts::{EntryKind, number_of, run_text};

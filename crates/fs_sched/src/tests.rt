@@ -85,17 +85,35 @@ fn checked(alloc: Global, text: &[u8]) -> Result<Vec<u8>, Fail> {
 fn writes_verdicts(rt: HostRuntime) -> Result<(), Fail> {
     let rows: [(&[u8], &[u8]); 9] = [
         (FIRST, b"lawful\n"),
-        (b"atomfs-journal 1\nbegin 1 0 mkdir /a\ncommit 1\nreturn 1 failed EEXIST\n", b"fault 3 WrongReply\n"),
-        (b"atomfs-journal 1\nbegin 1 0 mkdir /a\nreturn 1 ok\ncommit 1\n", b"fault 2 ReturnUncommitted\n"),
-        (b"atomfs-journal 1\nbegin 1 0 stat /\nbegin 1 1 stat /\n", b"fault 2 BeginTwice\n"),
-        (b"atomfs-journal 1\nbegin 1 0 stat /\nbegin 2 0 stat /\n", b"fault 2 SeatBusy\n"),
+        (
+            b"atomfs-journal 1\nbegin 1 0 mkdir /a\ncommit 1\nreturn 1 failed EEXIST\n",
+            b"fault 3 WrongReply\n",
+        ),
+        (
+            b"atomfs-journal 1\nbegin 1 0 mkdir /a\nreturn 1 ok\ncommit 1\n",
+            b"fault 2 ReturnUncommitted\n",
+        ),
+        (
+            b"atomfs-journal 1\nbegin 1 0 stat /\nbegin 1 1 stat /\n",
+            b"fault 2 BeginTwice\n",
+        ),
+        (
+            b"atomfs-journal 1\nbegin 1 0 stat /\nbegin 2 0 stat /\n",
+            b"fault 2 SeatBusy\n",
+        ),
         (b"atomfs-journal 1\ncommit 7\n", b"fault 1 CommitUnbegun\n"),
-        (b"atomfs-journal 1\nbegin 7 0 stat /\ncommit 7\ncommit 7", b"fault 3 CommitTwice\n"),
+        (
+            b"atomfs-journal 1\nbegin 7 0 stat /\ncommit 7\ncommit 7",
+            b"fault 3 CommitTwice\n",
+        ),
         (
             b"atomfs-journal 1\nbegin 7 0 stat /\ncommit 7\nreturn 7 stat dir 0\nreturn 7 ok\n",
             b"fault 4 ReturnTwice\n",
         ),
-        (b"atomfs-journal 1\nbegin 1 0 mkdir /a\ntree\ndir /\nbegun 1 committed 0 returned 0\n", b"lawful\n"),
+        (
+            b"atomfs-journal 1\nbegin 1 0 mkdir /a\ntree\ndir /\nbegun 1 committed 0 returned 0\n",
+            b"lawful\n",
+        ),
     ];
     for (text, want) in rows {
         assert_eq!(rt; checked(rt.alloc(), text)?.as_slice(), want);
@@ -109,8 +127,14 @@ fn tells_faults_of_inputs(rt: HostRuntime) -> Result<(), Fail> {
         (b"", b"line 1: BadHeader"),
         (b"atomfs 1\n", b"line 1: BadHeader"),
         (b"atomfs-journal 1\ncommit", b"line 2: BadLine"),
-        (b"atomfs-journal 1\n\nbegin 1 0 mkdir a\n", b"line 3: BadPath NotAbsolute"),
-        (b"atomfs-journal 1\nbegin 1 0 mkdir /a/\n", b"line 2: BadPath TrailingSlash"),
+        (
+            b"atomfs-journal 1\n\nbegin 1 0 mkdir a\n",
+            b"line 3: BadPath NotAbsolute",
+        ),
+        (
+            b"atomfs-journal 1\nbegin 1 0 mkdir /a/\n",
+            b"line 2: BadPath TrailingSlash",
+        ),
         (b"atomfs-journal 1\nreturn 1 fine\n", b"line 2: BadReply"),
         (b"atomfs-journal 1\nreturn x fine\n", b"line 2: BadNumber"),
         (b"atomfs-journal 1\nreturn 1 bytes abc\n", b"line 2: BadHex"),
@@ -123,7 +147,10 @@ fn tells_faults_of_inputs(rt: HostRuntime) -> Result<(), Fail> {
 
 #[test]
 fn reads_byte_by_byte(rt: HostRuntime) -> Result<(), Fail> {
-    let mut reader = Device::new(SlowReader { bytes: FIRST, good: FIRST.len() + 1 });
+    let mut reader = Device::new(SlowReader {
+        bytes: FIRST,
+        good: FIRST.len() + 1,
+    });
     let mut writer = Device::new(Vec::new(rt.alloc()));
     assert!(rt; check_journal(rt.alloc(), &mut reader, &mut writer) == Ok(true));
     assert_eq!(rt; writer.inner.as_slice(), b"lawful\n".as_slice());
@@ -145,7 +172,11 @@ fn tells_failed_reads(rt: HostRuntime) -> Result<(), Fail> {
 /// What a check has written when the writer fails, or takes nothing, after some bytes.
 fn broken_off(alloc: Global, good: usize, fails: bool) -> Result<Vec<u8>, Fail> {
     let mut reader = Device::new(FIRST);
-    let inner = SlowWriter { bytes: Vec::new(alloc), good, fails };
+    let inner = SlowWriter {
+        bytes: Vec::new(alloc),
+        good,
+        fails,
+    };
     let mut writer = Device::new(inner);
     if check_journal(alloc, &mut reader, &mut writer) != Err(RunFault::Write) {
         return Err(Fail::from("a failed write"));
@@ -160,8 +191,14 @@ fn broken_off(alloc: Global, good: usize, fails: bool) -> Result<Vec<u8>, Fail> 
 fn tells_failed_writes(rt: HostRuntime) -> Result<(), Fail> {
     let line = b"lawful\n";
     for good in 0..line.len() {
-        assert_eq!(rt; broken_off(rt.alloc(), good, true)?.as_slice(), &line[..good]);
-        assert_eq!(rt; broken_off(rt.alloc(), good, false)?.as_slice(), &line[..good]);
+        assert_eq!(rt;
+            broken_off(rt.alloc(), good, true)?.as_slice(),
+            &line[..good]
+        );
+        assert_eq!(rt;
+            broken_off(rt.alloc(), good, false)?.as_slice(),
+            &line[..good]
+        );
     }
     Ok(())
 }
@@ -177,7 +214,10 @@ fn stops_above_the_limit(rt: HostRuntime) -> Result<(), Fail> {
     text.extend_from_slice(&comment[17..])?;
     assert_eq!(rt; checked(alloc, &text)?.as_slice(), b"lawful\n".as_slice());
     text.push(b'#')?;
-    assert_eq!(rt; checked(alloc, &text)?.as_slice(), b"line 1: TooLarge".as_slice());
+    assert_eq!(rt;
+        checked(alloc, &text)?.as_slice(),
+        b"line 1: TooLarge".as_slice()
+    );
     Ok(())
 }
 
@@ -235,7 +275,9 @@ fn writes_run_texts(rt: HostRuntime) -> Result<(), Fail> {
     );
     assert_eq!(rt; checked(alloc, &text)?.as_slice(), b"lawful\n".as_slice());
     assert_eq!(rt; number_of(EntryKind::Begin, &entries), 1);
-    assert_eq!(rt; run_text(alloc, &[], &store)?.as_slice(),
-        b"atomfs-journal 1\ntree\ndir /\nbegun 0 committed 0 returned 0\n".as_slice());
+    assert_eq!(rt;
+        run_text(alloc, &[], &store)?.as_slice(),
+        b"atomfs-journal 1\ntree\ndir /\nbegun 0 committed 0 returned 0\n".as_slice()
+    );
     Ok(())
 }

@@ -112,6 +112,7 @@ last_step g k x n w = go (walk g k) refl (sym (walk-append g 0 k (x ∷ [])) ∙
     by_child : (o : Option ℕ) → option_and_then (λ m. Some m) o ≡ Some n → o ≡ Some n
     by_child None h = absurd (cc)
     by_child (Some m) h = h
+
     go : (o : Option ℕ) → walk g k ≡ o → option_and_then (λ m. walk_from g m (x ∷ [])) o ≡ Some n → (d : ℕ) × (walk g k ≡ Some d) × (child g d x ≡ Some n)
     go None e h = absurd (cc)
     go (Some d) e h = (d, e, by_child (child g d x) h)
@@ -236,6 +237,7 @@ spelled_at limit ps store k = go (walk (forest_of ps) k) refl
   where
     forest : IsForest (forest_of ps)
     forest = store_forest limit ps store
+
     go : (o : Option ℕ) → walk (forest_of ps) k ≡ o → seen (tree_of (forest_of ps)) k ≡ spell (graph_in ps) k
     go None w = seen_none (forest_of ps) k forest w ∙ sym (ap (λ (o : Option ℕ). then_at o (shape_in ps)) (sym (walk_at limit ps store 0 k) ∙ w))
     go (Some n) w =

@@ -98,7 +98,7 @@ no_more many g key dir low e = ap (keys_behind many g key) e
 -- ---- where the steps lead
 
 pub leads_down : (g : forest.Graph) (n : ℕ) (steps : List Step) (dir : ℕ) (x : Name) (m : ℕ) → Leads g n steps dir → child g dir x ≡ Some m → Leads g n (steps ++ record { dir = dir; name = x } ∷ []) m
-leads_down g n [] dir x m l e = (l, m, subst (λ (d : ℕ). child g d x ≡ Some m) (sym l) (e) , refl)
+leads_down g n [] dir x m l e = (l, m, subst (λ (d : ℕ). child g d x ≡ Some m) (sym l) (e), refl)
 leads_down g n (s ∷ steps) dir x m l e = (l.0, l.1, l.2, leads_down g l.1 steps dir x m l.3 e)
 
 pub leads_up : (g : forest.Graph) (n : ℕ) (steps : List Step) (s : Step) (dir : ℕ) → Leads g n (steps ++ s ∷ []) dir → Leads g n steps s.dir

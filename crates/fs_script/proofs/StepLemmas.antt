@@ -113,24 +113,32 @@ visit_goes limit ps store old new before after x m l e k wrote went =
   where
     s : Step
     s = record { dir = old.dir; name = x }
+
     many : ℕ
     many = length (forest_of ps) - 1
+
     below : Leads (forest_of ps) 0 (old.above ++ s ∷ []) m
     below = leads_down (forest_of ps) 0 old.above old.dir x m l (child_kid limit ps store old.dir x ∙ k)
+
     deep : length old.above < many
     deep = omega (arith, shallow limit ps store (old.above ++ s ∷ []) m below, length-append old.above (s ∷ []))
+
     key_walk : walk (forest_of ps) (key_above old.above ++ x ∷ []) ≡ Some m
     key_walk = subst (λ (z : Key). walk (forest_of ps) z ≡ Some m) (key-snoc old.above s) (led (forest_of ps) 0 (old.above ++ s ∷ []) m below)
+
     came : pending_at (forest_of ps) old ≡ (key_above old.above ++ x ∷ []) ∷ pending many (forest_of ps) [] (old.above ++ s ∷ []) m None
     came = down many (forest_of ps) [] old.above old.dir old.low x m (next_links ps old.dir old.low x m e k) deep
+
     text_by : (ks : List Key) → ks ≡ pending many (forest_of ps) [] (old.above ++ s ∷ []) m None → after ++ text_at (forest_of ps) ks ≡ before ++ text_at (forest_of ps) (pending_at (forest_of ps) old)
     text_by ks same =
         ap (λ (z : List ℕ). z ++ text_at (forest_of ps) ks) wrote
         ∙ append_assoc before (row_text (key_above old.above ++ x ∷ []) (node_seen (shape_in ps m))) (text_at (forest_of ps) ks)
         ∙ ap (λ (z : List ℕ). before ++ z) (sym (text_and ps (key_above old.above ++ x ∷ []) m ks key_walk)
         ∙ ap (λ (z : List Key). text_at (forest_of ps) ((key_above old.above ++ x ∷ []) ∷ z)) same ∙ ap (text_at (forest_of ps)) (sym came))
+
     fewer : (ks : List Key) → ks ≡ pending many (forest_of ps) [] (old.above ++ s ∷ []) m None → length (pending_at (forest_of ps) old) ≡ suc (length ks)
     fewer ks same = ap length came ∙ ap (λ (z : List Key). suc (length z)) (sym same)
+
     go : (b : Bool) → is_dir (shape_in ps m) ≡ b → new ≡ visited old x m b → Goes (forest_of ps) old before new after
     go true d w = subst (λ (z : WalkPlace). Goes (forest_of ps) old before z after) (sym w) (record {
       leads = below;
@@ -139,7 +147,7 @@ visit_goes limit ps store old new before after x m l e k wrote went =
     })
     go false d w =
         let rest : pending many (forest_of ps) [] old.above old.dir (Some x) ≡ pending many (forest_of ps) [] (old.above ++ s ∷ []) m None =
-          sym (up many (forest_of ps) [] old.above s m None (no_links_of_file ps m d) deep) in
+        sym (up many (forest_of ps) [] old.above s m None (no_links_of_file ps m d) deep) in
         subst (λ (z : WalkPlace). Goes (forest_of ps) old before z after) (sym w) (record {
           leads = l;
           text = text_by _ rest;
@@ -157,10 +165,10 @@ up_goes limit ps store old new before after true l e u same =
     let above : Leads (forest_of ps) 0 (new.above ++ s ∷ []) old.dir = subst (λ (z : List Step). Leads (forest_of ps) 0 z old.dir) u.1 l in
     let deep : length new.above < length (forest_of ps) - 1 = omega (arith, shallow limit ps store (new.above ++ s ∷ []) old.dir above, length-append new.above (s ∷ [])) in
     let came : pending_at (forest_of ps) old ≡ pending_at (forest_of ps) new =
-      ap (λ (z : List Step). pending (length (forest_of ps) - 1) (forest_of ps) [] z old.dir old.low) u.1
-      ∙ up (length (forest_of ps) - 1) (forest_of ps) [] new.above s old.dir old.low (no_links ps old.dir old.low e) deep
-      ∙ ap (λ (d : ℕ). pending (length (forest_of ps) - 1) (forest_of ps) [] new.above d (Some s.name)) (sym u.2)
-      ∙ ap (λ (o : Option Name). pending (length (forest_of ps) - 1) (forest_of ps) [] new.above new.dir o) (sym u.3) in
+    ap (λ (z : List Step). pending (length (forest_of ps) - 1) (forest_of ps) [] z old.dir old.low) u.1
+    ∙ up (length (forest_of ps) - 1) (forest_of ps) [] new.above s old.dir old.low (no_links ps old.dir old.low e) deep
+    ∙ ap (λ (d : ℕ). pending (length (forest_of ps) - 1) (forest_of ps) [] new.above d (Some s.name)) (sym u.2)
+    ∙ ap (λ (o : Option Name). pending (length (forest_of ps) - 1) (forest_of ps) [] new.above new.dir o) (sym u.3) in
     record {
       leads = subst (λ (d : ℕ). Leads (forest_of ps) 0 new.above d) (sym u.2) (leads_up (forest_of ps) 0 new.above s old.dir above);
       text = ap (λ (z : List ℕ). z ++ text_at (forest_of ps) (pending_at (forest_of ps) new)) same ∙ ap (λ (z : List Key). before ++ text_at (forest_of ps) z) (sym came);
@@ -180,12 +188,12 @@ tree_written limit ps store =
     let more : length (forest_of ps) ≡ suc (length (forest_of ps) - 1) = omega (arith, some) in
     let root : node_seen (shape_in ps 0) ≡ Some tree.Dir = rw store.root refl in
     let rows : flat_map node_line (tree_of (forest_of ps)) ≡ codes "dir /\n" ++ text_at (forest_of ps) (pending_at (forest_of ps) at_root) =
-      ap (flat_map node_line) (walked_rows (forest_of ps) forest)
-      ∙ ap (λ (k : ℕ). text_at (forest_of ps) (keys_from k (forest_of ps) 0)) more
-      ∙ ap (text_at (forest_of ps)) (behind_all (length (forest_of ps) - 1) (forest_of ps))
-      ∙ text_and ps [] 0 (pending_at (forest_of ps) at_root) refl
-      ∙ ap (λ (o : Option Node). row_text [] o ++ text_at (forest_of ps) (pending_at (forest_of ps) at_root)) root
-      ∙ ap (λ (z : List ℕ). z ++ text_at (forest_of ps) (pending_at (forest_of ps) at_root)) root_line in
+    ap (flat_map node_line) (walked_rows (forest_of ps) forest)
+    ∙ ap (λ (k : ℕ). text_at (forest_of ps) (keys_from k (forest_of ps) 0)) more
+    ∙ ap (text_at (forest_of ps)) (behind_all (length (forest_of ps) - 1) (forest_of ps))
+    ∙ text_and ps [] 0 (pending_at (forest_of ps) at_root) refl
+    ∙ ap (λ (o : Option Node). row_text [] o ++ text_at (forest_of ps) (pending_at (forest_of ps) at_root)) root
+    ∙ ap (λ (z : List ℕ). z ++ text_at (forest_of ps) (pending_at (forest_of ps) at_root)) root_line in
     ap (λ (z : List ℕ). codes "tree\n" ++ z) (sym rows)
 
 -- ---- what the store's answers say

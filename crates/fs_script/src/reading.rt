@@ -7,8 +7,8 @@ ghost use Rattle.fs_text.specs.Answers.{GivesText};
 
 use crate::draft::Draft;
 use crate::script::Script;
-use fs_text::lines::{cut_line, is_passed_over};
 use fs_text::limits::TEXT_LIMIT;
+use fs_text::lines::{cut_line, is_passed_over};
 use fs_text::{FaultKind, ScriptFault};
 use std::alloc::Global;
 

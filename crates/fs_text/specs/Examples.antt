@@ -69,4 +69,3 @@ pub record NumbersRead : Type 0 where
   pub two_zeros : number_of (codes "00") ≡ None
   pub signed : number_of (codes "+1") ≡ None
   pub nothing : number_of [] ≡ None
-

@@ -21,4 +21,3 @@ pub fn texts_written()
 pub fn numbers()
     ensures { NumbersRead }
 {}
-

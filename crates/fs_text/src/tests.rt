@@ -170,7 +170,10 @@ fn appended(alloc: Global, keep: bool) -> Result<Vec<u8>, Fail> {
 
 #[test]
 fn appends_and_takes_back(rt: HostRuntime) -> Result<(), Fail> {
-    assert_eq!(rt; appended(rt.alloc(), true)?.as_slice(), b"|a 700a%20b".as_slice());
+    assert_eq!(rt;
+        appended(rt.alloc(), true)?.as_slice(),
+        b"|a 700a%20b".as_slice()
+    );
     assert_eq!(rt; appended(rt.alloc(), false)?.as_slice(), b"|".as_slice());
     Ok(())
 }

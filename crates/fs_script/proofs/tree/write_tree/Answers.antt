@@ -6,6 +6,8 @@ use Rattle.fs_script.proofs.StepLemmas.{kept_after}
 use Rattle.fs_script.proofs.tree.write_tree.Goals as goal
 
 pub returns-in-Ok-clause-ok : goal.returns-in-Ok-clause-ok
-returns-in-Ok-clause-ok c =
-    (tree_of (forest_of c.args.store.now.places), store_tree c.args.store.now.limit c.args.store.now.places c.invariant.ensures,
-    kept_after _ _ _ c.args.text.now.items _ _ c.kept.ensures (c.in-Ok.ensures.before ∙ c.new-line.ensures.before ∙ ap (λ v. v.items) c.replace.ensures.value) c.in-Ok.ensures.ok c.new-line.ensures.added)
+returns-in-Ok-clause-ok c = (
+  tree_of (forest_of c.args.store.now.places),
+  store_tree c.args.store.now.limit c.args.store.now.places c.invariant.ensures,
+  kept_after _ _ _ c.args.text.now.items _ _ c.kept.ensures (c.in-Ok.ensures.before ∙ c.new-line.ensures.before ∙ ap (λ v. v.items) c.replace.ensures.value) c.in-Ok.ensures.ok c.new-line.ensures.added,
+)
