@@ -13,3 +13,4 @@ pub mod NextLemmas
 pub mod ForkLemmas
 pub mod HeadLemmas
 pub mod FinishLemmas
+pub mod RootLemmas
