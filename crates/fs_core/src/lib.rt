@@ -6,8 +6,8 @@ mod beginning;
 mod finding;
 mod helping;
 pub mod machine;
-pub mod running;
-pub mod runs;
+mod running;
+mod runs;
 
 pub use answer::{Event, Ran, Refusal, Stepped};
 pub use machine::Core;

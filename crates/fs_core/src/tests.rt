@@ -74,41 +74,62 @@ enum Line {
     Step,
 }
 
-fn call_of(rt: &HostRuntime, line: Line) -> Result<Option<Call>, Failure> {
-    let alloc = rt.alloc();
-    Ok(match line {
-        Line::Mkdir(path) => Some(Call::Mkdir(Path::parse(alloc, path)?)),
-        Line::Mknod(path) => Some(Call::Mknod(Path::parse(alloc, path)?)),
-        Line::Unlink(path) => Some(Call::Unlink(Path::parse(alloc, path)?)),
-        Line::Rmdir(path) => Some(Call::Rmdir(Path::parse(alloc, path)?)),
-        Line::Rename(from, to) => Some(Call::Rename(
-            Path::parse(alloc, from)?,
-            Path::parse(alloc, to)?,
-        )),
-        Line::Stat(path) => Some(Call::Stat(Path::parse(alloc, path)?)),
-        Line::Write(path) => Some(Call::Write(
-            Path::parse(alloc, path)?,
-            0,
-            Bytes::new(Vec::new(alloc)),
-        )),
+fn texts(line: Line) -> (&'static [u8], &'static [u8]) {
+    match line {
+        Line::Mkdir(path) => (path, b"/"),
+        Line::Mknod(path) => (path, b"/"),
+        Line::Unlink(path) => (path, b"/"),
+        Line::Rmdir(path) => (path, b"/"),
+        Line::Rename(from, to) => (from, to),
+        Line::Stat(path) => (path, b"/"),
+        Line::Write(path) => (path, b"/"),
+        Line::Step => (b"/", b"/"),
+    }
+}
+
+fn make(rt: &HostRuntime, line: Line, path: Path, other: Path) -> Option<Call> {
+    match line {
+        Line::Mkdir(_) => Some(Call::Mkdir(path)),
+        Line::Mknod(_) => Some(Call::Mknod(path)),
+        Line::Unlink(_) => Some(Call::Unlink(path)),
+        Line::Rmdir(_) => Some(Call::Rmdir(path)),
+        Line::Rename(_, _) => Some(Call::Rename(path, other)),
+        Line::Stat(_) => Some(Call::Stat(path)),
+        Line::Write(_) => Some(Call::Write(path, 0, Bytes::new(Vec::new(rt.alloc())))),
         Line::Step => None,
+    }
+}
+
+fn call_of(rt: &HostRuntime, line: Line) -> Result<Option<Call>, Failure> {
+    let (path, other) = texts(line);
+    let path = Path::parse(rt.alloc(), path)?;
+    let other = Path::parse(rt.alloc(), other)?;
+    Ok(make(rt, line, path, other))
+}
+
+fn begins(rt: &HostRuntime, core: &mut Core, seat: SeatNo, call: &Call) -> Result<Told, Failure> {
+    if seat.get() as usize >= core.seats() {
+        return Err(Failure::NoSeat);
+    }
+    Ok(match core.begin(rt.alloc(), seat, call) {
+        Ok(number) => Told::Began(number.get()),
+        Err(refusal) => Told::Refused(refusal),
     })
+}
+
+fn steps(core: &mut Core, seat: SeatNo) -> Result<Told, Failure> {
+    if seat.get() as usize >= core.seats() {
+        return Err(Failure::NoSeat);
+    }
+    Ok(answer_of(&core.step(seat)))
 }
 
 /// One line on a seat.
 fn does(rt: &HostRuntime, core: &mut Core, seat: u64, line: Line) -> Result<Told, Failure> {
-    let call = call_of(rt, line)?;
-    let seat = SeatNo::new(seat);
-    if seat.get() as usize >= core.seats() {
-        return Err(Failure::NoSeat);
+    match call_of(rt, line)? {
+        None => steps(core, SeatNo::new(seat)),
+        Some(call) => begins(rt, core, SeatNo::new(seat), &call),
     }
-    Ok(match call {
-        None => answer_of(&core.step(seat)),
-        Some(call) => match core.begin(rt.alloc(), seat, &call) {
-            Ok(number) => Told::Began(number.get()),
-            Err(refusal) => Told::Refused(refusal),
-        },
-    })
 }
 
 /// All lines in order; the first that answers something else is the failure, with its place.
@@ -152,9 +173,25 @@ fn four_seats(rt: &HostRuntime, limit: usize) -> Result<Core, Failure> {
     Ok(core)
 }
 
-fn finds(rt: &HostRuntime, core: &Core, path: &[u8]) -> Result<Option<usize>, Failure> {
-    let path = Path::parse(rt.alloc(), path)?;
-    Ok(core.find_path(&path).map(NodeNo::get))
+/// Whether a path leads to this node.
+fn finds(rt: &HostRuntime, core: &Core, path: &[u8], node: Option<usize>) -> bool {
+    match Path::parse(rt.alloc(), path) {
+        Ok(path) => core.find_path(&path).map(NodeNo::get) == node,
+        Err(_) => false,
+    }
+}
+
+/// A core with four seats after calls that were done, and then lines.
+fn played(
+    rt: &HostRuntime,
+    limit: usize,
+    calls: &[Line],
+    lines: &[(u64, Line, Told)],
+) -> Result<Core, Failure> {
+    let mut core = four_seats(rt, limit)?;
+    all_done(rt, &mut core, 0, calls)?;
+    plays(rt, &mut core, lines)?;
+    Ok(core)
 }
 
 const FIRST_MKDIR: [(u64, Line, Told); 6] = [
@@ -168,12 +205,9 @@ const FIRST_MKDIR: [(u64, Line, Told); 6] = [
 
 #[test]
 fn first_mkdir(rt: HostRuntime) -> Result<(), Failure> {
-    let mut core = Core::new(rt.alloc())?;
-    assert_eq!(rt; core.seats(), 0);
-    assert_eq!(rt; core.seat()?.get(), 0);
-    plays(&rt, &mut core, &FIRST_MKDIR)?;
+    let core = played(&rt, 8, &[], &FIRST_MKDIR)?;
     assert_eq!(rt; core.timeline().len(), 3);
-    assert_eq!(rt; finds(&rt, &core, b"/a")?, Some(1));
+    assert!(rt; finds(&rt, &core, b"/a", Some(1)));
     assert!(rt; core.store().is_dir(NodeNo::new(1)));
     Ok(())
 }
@@ -195,8 +229,9 @@ const ON_THE_ROOT: [(u64, Line, Told); 12] = [
 
 #[test]
 fn calls_on_the_root(rt: HostRuntime) -> Result<(), Failure> {
-    let mut core = four_seats(&rt, 8)?;
-    plays(&rt, &mut core, &ON_THE_ROOT)
+    let core = played(&rt, 8, &[], &ON_THE_ROOT)?;
+    assert_eq!(rt; core.timeline().len(), 12);
+    Ok(())
 }
 
 const HELPED_MKDIR: [(u64, Line, Told); 15] = [
@@ -219,15 +254,13 @@ const HELPED_MKDIR: [(u64, Line, Told); 15] = [
 
 #[test]
 fn helped_mkdir(rt: HostRuntime) -> Result<(), Failure> {
-    let mut core = four_seats(&rt, 8)?;
-    all_done(
+    let core = played(
         &rt,
-        &mut core,
-        0,
+        8,
         &[Line::Mkdir(b"/a"), Line::Mkdir(b"/a/d")],
+        &HELPED_MKDIR,
     )?;
-    plays(&rt, &mut core, &HELPED_MKDIR)?;
-    assert_eq!(rt; finds(&rt, &core, b"/b/d/x")?, Some(3));
+    assert!(rt; finds(&rt, &core, b"/b/d/x", Some(3)));
     Ok(())
 }
 
@@ -265,19 +298,13 @@ const LOWEST_FIRST: [(u64, Line, Told); 29] = [
 
 #[test]
 fn lowest_call_is_helped_first(rt: HostRuntime) -> Result<(), Failure> {
-    let mut core = four_seats(&rt, 8)?;
-    all_done(
-        &rt,
-        &mut core,
-        0,
-        &[
-            Line::Mkdir(b"/a"),
-            Line::Mkdir(b"/a/d"),
-            Line::Mkdir(b"/a/d/e"),
-        ],
-    )?;
-    plays(&rt, &mut core, &LOWEST_FIRST)?;
-    assert_eq!(rt; finds(&rt, &core, b"/b/d/e/x")?, Some(4));
+    let tree = [
+        Line::Mkdir(b"/a"),
+        Line::Mkdir(b"/a/d"),
+        Line::Mkdir(b"/a/d/e"),
+    ];
+    let core = played(&rt, 8, &tree, &LOWEST_FIRST)?;
+    assert!(rt; finds(&rt, &core, b"/b/d/e/x", Some(4)));
     Ok(())
 }
 
@@ -295,22 +322,16 @@ const HELPED_RENAME: [(u64, Line, Told); 9] = [
 
 #[test]
 fn helped_rename(rt: HostRuntime) -> Result<(), Failure> {
-    let mut core = four_seats(&rt, 8)?;
-    all_done(
-        &rt,
-        &mut core,
-        0,
-        &[
-            Line::Mkdir(b"/a"),
-            Line::Mkdir(b"/a/p"),
-            Line::Mkdir(b"/a/q"),
-            Line::Mknod(b"/a/p/s"),
-        ],
-    )?;
-    plays(&rt, &mut core, &HELPED_RENAME)?;
+    let tree = [
+        Line::Mkdir(b"/a"),
+        Line::Mkdir(b"/a/p"),
+        Line::Mkdir(b"/a/q"),
+        Line::Mknod(b"/a/p/s"),
+    ];
+    let mut core = played(&rt, 8, &tree, &HELPED_RENAME)?;
     returns(&rt, &mut core, 1, Told::Done)?;
     returns(&rt, &mut core, 0, Told::Done)?;
-    assert_eq!(rt; finds(&rt, &core, b"/b/q/t")?, Some(4));
+    assert!(rt; finds(&rt, &core, b"/b/q/t", Some(4)));
     Ok(())
 }
 
@@ -334,12 +355,10 @@ const VICTIM: [(u64, Line, Told); 15] = [
 
 #[test]
 fn victim_is_waited_for(rt: HostRuntime) -> Result<(), Failure> {
-    let mut core = four_seats(&rt, 2)?;
-    all_done(&rt, &mut core, 0, &[Line::Mknod(b"/f")])?;
-    plays(&rt, &mut core, &VICTIM)?;
-    assert_eq!(rt; finds(&rt, &core, b"/f")?, None);
+    let mut core = played(&rt, 2, &[Line::Mknod(b"/f")], &VICTIM)?;
+    assert!(rt; finds(&rt, &core, b"/f", None));
     all_done(&rt, &mut core, 0, &[Line::Mkdir(b"/g")])?;
-    assert_eq!(rt; finds(&rt, &core, b"/g")?, Some(1));
+    assert!(rt; finds(&rt, &core, b"/g", Some(1)));
     Ok(())
 }
 
@@ -354,8 +373,7 @@ const BUSY_SEAT: [(u64, Line, Told); 6] = [
 
 #[test]
 fn busy_seat(rt: HostRuntime) -> Result<(), Failure> {
-    let mut core = four_seats(&rt, 8)?;
-    plays(&rt, &mut core, &BUSY_SEAT)?;
+    let core = played(&rt, 8, &[], &BUSY_SEAT)?;
     assert_eq!(rt; core.timeline().len(), 3);
     Ok(())
 }
@@ -369,56 +387,48 @@ const LIMIT: [(u64, Line, Told); 4] = [
 
 #[test]
 fn limit_on_nodes(rt: HostRuntime) -> Result<(), Failure> {
-    let mut core = four_seats(&rt, 2)?;
-    all_done(&rt, &mut core, 0, &[Line::Mkdir(b"/a")])?;
-    plays(&rt, &mut core, &LIMIT)?;
+    let mut core = played(&rt, 2, &[Line::Mkdir(b"/a")], &LIMIT)?;
     returns(&rt, &mut core, 2, Told::Other)?;
     all_done(&rt, &mut core, 0, &[Line::Rmdir(b"/a"), Line::Mkdir(b"/b")])?;
-    assert_eq!(rt; finds(&rt, &core, b"/b")?, Some(1));
+    assert!(rt; finds(&rt, &core, b"/b", Some(1)));
     Ok(())
 }
 
+const FIRST_TAKE: [(u64, Line, Told); 2] = [
+    (0, Line::Mkdir(b"/a"), Told::Began(1)),
+    (0, Line::Step, Told::Took(0)),
+];
+
 #[test]
 fn holders_and_calls_under_way(rt: HostRuntime) -> Result<(), Failure> {
-    let mut core = four_seats(&rt, 8)?;
-    let seat = SeatNo::new(0);
+    let core = played(&rt, 8, &[], &FIRST_TAKE)?;
     if core.seats() == 0 {
         return Err(Failure::NoSeat);
     }
-    assert_eq!(rt; core.under_way(seat), None);
-    let _ = does(&rt, &mut core, 0, Line::Mkdir(b"/a"))?;
-    let _ = does(&rt, &mut core, 0, Line::Step)?;
-    if core.seats() == 0 {
-        return Err(Failure::NoSeat);
-    }
-    assert_eq!(rt; core.under_way(seat), Some(CallNo::new(1)));
+    assert_eq!(rt; core.under_way(SeatNo::new(0)), Some(CallNo::new(1)));
     assert_eq!(rt; core.holder(NodeNo::new(0)), Some(CallNo::new(1)));
     assert_eq!(rt; core.holder(NodeNo::new(1)), None);
     core.told();
     Ok(())
 }
 
+/// Runs a begin twice on a seat of a new core.
+fn begun_twice(rt: &HostRuntime, path: &Path, other: &Path) -> Result<Ran, Failure> {
+    let mut core = Core::new(rt.alloc())?;
+    let seat = core.seat()?;
+    let events = [
+        Event::Begin(seat, Call::Mkdir(path.copy(rt.alloc())?)),
+        Event::Step(seat),
+        Event::Begin(seat, Call::Stat(other.copy(rt.alloc())?)),
+    ];
+    Ok(core.run(rt.alloc(), &events))
+}
+
 #[test]
 fn events_up_to_a_refusal(rt: HostRuntime) -> Result<(), Failure> {
-    let mut core = four_seats(&rt, 8)?;
-    let seat = SeatNo::new(0);
-    let events = [
-        Event::Begin(seat, Call::Mkdir(Path::parse(rt.alloc(), b"/a")?)),
-        Event::Step(seat),
-        Event::Begin(seat, Call::Stat(Path::parse(rt.alloc(), b"/a")?)),
-        Event::Step(seat),
-    ];
-    if core.seats() == 0 {
-        return Err(Failure::NoSeat);
-    }
-    let ran = core.run(rt.alloc(), &events);
-    assert_eq!(rt;
-        ran,
-        Ran {
-            done: 2,
-            refusal: Some(Refusal::SeatBusy)
-        }
-    );
-    assert_eq!(rt; core.timeline().len(), 1);
+    let path = Path::parse(rt.alloc(), b"/a")?;
+    let ran = begun_twice(&rt, &path, &path)?;
+    assert_eq!(rt; ran.done, 2);
+    assert_eq!(rt; ran.refusal, Some(Refusal::SeatBusy));
     Ok(())
 }
