@@ -37,6 +37,13 @@ fn path(rt: &HostRuntime, bytes: &[u8]) -> Result<Path, Failure> {
     Ok(Path::parse(rt.alloc(), bytes)?)
 }
 
+/// A call that writes bytes at an offset.
+fn write_call(rt: &HostRuntime, off: u64, bytes: &[u8]) -> Result<Call, Failure> {
+    let mut data = Vec::new(rt.alloc());
+    data.extend_from_slice(bytes)?;
+    Ok(Call::Write(path(rt, b"/f")?, off, Bytes::new(data)))
+}
+
 /// Writes into a file and answers its reply.
 fn write_at(
     rt: &HostRuntime,
@@ -45,9 +52,7 @@ fn write_at(
     off: u64,
     bytes: &[u8],
 ) -> Result<Reply, Failure> {
-    let mut data = Vec::new(rt.alloc());
-    data.extend_from_slice(bytes)?;
-    let call = Call::Write(path(rt, b"/f")?, off, Bytes::new(data));
+    let call = write_call(rt, off, bytes)?;
     let room = Room::new(rt.alloc(), &call)?;
     let Call::Write(_, off, bytes) = &call else {
         return Err(Failure::Condition);
