@@ -6,8 +6,8 @@ use Rattle.fs_seq.specs.declared.reply.Reply.{Reply}
 use Rattle.fs_nodes.specs.Graphs.{Graph, Kids, at, numbers}
 use Rattle.fs_nodes.specs.Stores.{graph_of, kid}
 use Rattle.fs_locks.specs.Holding.{room}
-use Rattle.fs_ops.specs.Records.{Stand, Phase, Walking, Placed, Finished, Record}
-use Rattle.fs_ops.specs.Works.{Work, phase_of, record_of}
+use Rattle.fs_moves.specs.Records.{Stand, Phase, Walking, Placed, Finished, Record}
+use Rattle.fs_moves.specs.Works.{Work, phase_of, record_of}
 use Rattle.fs_laws.specs.Invariants.{Invariant}
 use Rattle.fs_laws.specs.Stands.{Keeps}
 use Rattle.fs_laws.specs.States.{State, IsBelow, IsWalkingBelow, IsLowest, IsChosen, NoneBelow, Run}

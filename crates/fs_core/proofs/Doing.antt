@@ -10,10 +10,10 @@ use Rattle.fs_nodes.specs.Stores.{graph_of, kid}
 use Rattle.fs_locks.specs.Holding.{Holding, holder, room}
 use Rattle.fs_journal.specs.declared.entry.Entry.{Entry}
 use Rattle.fs_journal.specs.declared.entry.Entry.TheVariants.{Begin, Commit, Return}
-use Rattle.fs_ops.specs.Leaving.{is_removed, releasing, unreserved}
-use Rattle.fs_ops.specs.Moves.{Move, Takes, Leaves, Finishes, Ends, next}
-use Rattle.fs_ops.specs.Records.{Record}
-use Rattle.fs_ops.specs.Works.{Work, record_of, next_of, IsTook, IsLetGo, IsFinished, IsSpare, SpareIf, CanFinish, graph_after}
+use Rattle.fs_moves.specs.Leaving.{is_removed, releasing, unreserved}
+use Rattle.fs_moves.specs.Moves.{Move, Takes, Leaves, Finishes, Ends, next}
+use Rattle.fs_moves.specs.Records.{Record}
+use Rattle.fs_moves.specs.Works.{Work, record_of, next_of, IsTook, IsLetGo, IsFinished, IsSpare, SpareIf, CanFinish, graph_after}
 use Rattle.fs_laws.specs.States.{State, Moves, Step, Idle, Took, Busy, LetGo, Helped, Committed, CarriedOut, Returned, NoneBelow, Run}
 use Rattle.fs_laws.proofs.CallMoves.{takes_used, takes_another, leaves_held}
 use Rattle.fs_laws.proofs.CallGraphs.{spare_reserved, spare_removed, can_finish}

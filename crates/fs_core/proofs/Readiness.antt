@@ -17,9 +17,9 @@ use Rattle.fs_nodes.specs.Stores.{graph_of, in_use, used_below}
 use Rattle.fs_locks.specs.Holding.{Holding, holder, room}
 use Rattle.fs_journal.specs.declared.entry.Entry.{Entry}
 use Rattle.fs_journal.specs.declared.entry.Entry.TheVariants.{Begin, Commit, Return}
-use Rattle.fs_ops.specs.Leaving.{unreserved}
-use Rattle.fs_ops.specs.Records.{Record, Walking}
-use Rattle.fs_ops.specs.Works.{Work, new_work, record_of, BegunAs, IsSpare, SpareIf}
+use Rattle.fs_moves.specs.Leaving.{unreserved}
+use Rattle.fs_moves.specs.Records.{Record, Walking}
+use Rattle.fs_moves.specs.Works.{Work, new_work, record_of, BegunAs, IsSpare, SpareIf}
 use Rattle.fs_laws.specs.Books.{begins, commit_count}
 use Rattle.fs_laws.specs.States.{State, empty, new_op, began, Begun, Begun_as, Seat_busy, Full, No_memory, IsFull, Reserves, Begins, Run, Start, Beginning}
 use Rattle.fs_laws.proofs.Accounts.{not_begun}

@@ -4,8 +4,8 @@ use Rattle.std.specs.Prelude.{slice_get, slice_set}
 use Rattle.std.specs.Option.{option_flatten}
 use mathlib.Core.Path.{fun_ext}
 use Rattle.fs_nodes.specs.Graphs.{set_at}
-use Rattle.fs_ops.specs.Records.{Record}
-use Rattle.fs_ops.specs.Works.{record_of}
+use Rattle.fs_moves.specs.Records.{Record}
+use Rattle.fs_moves.specs.Works.{record_of}
 use Rattle.std.proofs.Math.Dec.{eqb-suc-zero, eqb-zero-suc, eqb-suc-suc}
 use Rattle.fs_laws.proofs.Walks.{eqb_refl, eqb_true}
 use Rattle.fs_core.specs.declared.running.Running.{Running}

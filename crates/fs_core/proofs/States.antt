@@ -7,11 +7,11 @@ use Rattle.fs_nodes.specs.Stores.{graph_of}
 use Rattle.fs_journal.specs.declared.entry.Entry.{Entry}
 use Rattle.fs_journal.specs.declared.entry.Entry.TheVariants.{Begin, Commit, Return}
 use Rattle.fs_names.specs.Keys.{Key}
-use Rattle.fs_ops.specs.Leaving.{let_go, finished_op}
-use Rattle.fs_ops.specs.Finishes.{Made, finish}
-use Rattle.fs_ops.specs.Moves.{Move, next, took, took_by, target}
-use Rattle.fs_ops.specs.Records.{Stand, Phase, Walking, Placed, Finished, Record, Records}
-use Rattle.fs_ops.specs.Works.{Work, phase_of, record_of, next_of, IsTook, IsLetGo, IsFinished}
+use Rattle.fs_moves.specs.Leaving.{let_go, finished_op}
+use Rattle.fs_moves.specs.Finishes.{Made, finish}
+use Rattle.fs_moves.specs.Moves.{Move, next, took, took_by, target}
+use Rattle.fs_moves.specs.Records.{Stand, Phase, Walking, Placed, Finished, Record, Records}
+use Rattle.fs_moves.specs.Works.{Work, phase_of, record_of, next_of, IsTook, IsLetGo, IsFinished}
 use Rattle.fs_laws.specs.Books.{begins, commit_count}
 use Rattle.fs_laws.specs.Invariants.{Invariant}
 use Rattle.fs_laws.specs.States.{State, Moves, Run}

@@ -11,11 +11,11 @@ use Rattle.fs_locks.specs.Holding as holders
 use Rattle.fs_locks.specs.Holding.{Holding, holder}
 use Rattle.fs_journal.specs.declared.entry.Entry.{Entry}
 use Rattle.fs_journal.specs.declared.entry.Entry.TheVariants.{Begin, Commit, Return}
-use Rattle.fs_ops.specs.Finishes.{finish}
-use Rattle.fs_ops.specs.Leaving.{is_removed, releasing, let_go, finished_op, unreserved}
-use Rattle.fs_ops.specs.Moves.{Move, Takes, Leaves, Finishes, Ends, took}
-use Rattle.fs_ops.specs.Records.{Phase, Walking, Placed, Finished, Record, Records}
-use Rattle.fs_ops.specs.Works.{Work, phase_of, record_of, next_of, IsTook, IsLetGo, IsFinished, graph_after}
+use Rattle.fs_moves.specs.Finishes.{finish}
+use Rattle.fs_moves.specs.Leaving.{is_removed, releasing, let_go, finished_op, unreserved}
+use Rattle.fs_moves.specs.Moves.{Move, Takes, Leaves, Finishes, Ends, took}
+use Rattle.fs_moves.specs.Records.{Phase, Walking, Placed, Finished, Record, Records}
+use Rattle.fs_moves.specs.Works.{Work, phase_of, record_of, next_of, IsTook, IsLetGo, IsFinished, graph_after}
 use Rattle.fs_laws.specs.Books.{begins, commit_count}
 use Rattle.fs_laws.specs.States.{State, Moves, Step, Idle, Took, Busy, LetGo, Helped, Committed, CarriedOut, Returned, IsChosen, NoneBelow, Run, Stepping}
 use Rattle.fs_laws.specs.Invariants.{Invariant}
@@ -190,7 +190,7 @@ helped_step m b k p seat r s kept on move unplaced other q on_other q_unplaced q
 
 -- the graph and the record after a finish
 graph_made : (m : Machine) (seat : ℕ) (r : Running) (st : Places) → graph_of st ≡ graph_after (graph_of m.store) r.op → graph_of st ≡ (finish (graph_of m.store) (record_of seat r.place r.op)).graph
-graph_made m seat r st e = e ∙ ap (λ (x : Rattle.fs_ops.specs.Finishes.Made). x.graph) (sym (finish_is (graph_of m.store) seat r.place r.op))
+graph_made m seat r st e = e ∙ ap (λ (x : Rattle.fs_moves.specs.Finishes.Made). x.graph) (sym (finish_is (graph_of m.store) seat r.place r.op))
 
 fewer_made : (m : Machine) (seat : ℕ) (r : Running) → Run (state_of m) → slice_get m.seats seat ≡ Some (Some r) → (st : Places) → graph_of st ≡ graph_after (graph_of m.store) r.op → (q : ℕ) (t : Shape) → (graph_of st).shape q ≡ Some t → (u : Shape) × ((graph_of m.store).shape q ≡ Some u)
 fewer_made m seat r run on st graph q t e =

@@ -4,11 +4,11 @@ use Rattle.fs_seq.specs.declared.errno.Errno.{Errno}
 use Rattle.fs_seq.specs.declared.reply.Reply.{Reply}
 use Rattle.fs_seq.specs.Forms.{form, by_text}
 use Rattle.fs_nodes.specs.Graphs.{Graph}
-use Rattle.fs_ops.specs.Finishes.{Made, made_by, finish}
-use Rattle.fs_ops.specs.Moves.{Move, Takes, Leaves, Finishes, Ends, next, next_by, next_on}
-use Rattle.fs_ops.specs.Records.{Stand, Phase, Walking, Placed, Finished, Record}
+use Rattle.fs_moves.specs.Finishes.{Made, made_by, finish}
+use Rattle.fs_moves.specs.Moves.{Move, Takes, Leaves, Finishes, Ends, next, next_by, next_on}
+use Rattle.fs_moves.specs.Records.{Stand, Phase, Walking, Placed, Finished, Record}
 use Rattle.fs_laws.proofs.Agreeing.{by_ends}
-use Rattle.fs_ops.specs.Works.{Work, phase_of, record_of, next_of}
+use Rattle.fs_moves.specs.Works.{Work, phase_of, record_of, next_of}
 
 -- its next move
 pub next_is : (graph : Graph) (seat : ℕ) (place : Option ℕ) (work : Work) → next graph (record_of seat place work) ≡ next_of graph work

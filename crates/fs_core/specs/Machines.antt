@@ -5,8 +5,8 @@ use Rattle.fs_nodes.specs.Places.{Places}
 use Rattle.fs_nodes.specs.Stores.{graph_of}
 use Rattle.fs_locks.specs.Holding.{Holding, holder}
 use Rattle.fs_journal.specs.declared.entry.Entry.{Entry}
-use Rattle.fs_ops.specs.Records.{Record, Records}
-use Rattle.fs_ops.specs.Works.{record_of}
+use Rattle.fs_moves.specs.Records.{Record, Records}
+use Rattle.fs_moves.specs.Works.{record_of}
 use Rattle.fs_laws.specs.States.{State}
 use Rattle.fs_core.specs.declared.running.Running.{Running}
 

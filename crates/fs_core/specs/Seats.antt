@@ -1,8 +1,8 @@
 -- Changes of what is on one seat, and moves of the call there.
 use Rattle.std.specs.Prelude.{ℕ, ◌≡◌, Option, Some, None, slice_get}
 use Rattle.fs_nodes.specs.Stores.{graph_of}
-use Rattle.fs_ops.specs.Moves.{Move}
-use Rattle.fs_ops.specs.Works.{Work, next_of}
+use Rattle.fs_moves.specs.Moves.{Move}
+use Rattle.fs_moves.specs.Works.{Work, next_of}
 use Rattle.fs_core.specs.declared.running.Running.{Running}
 use Rattle.fs_core.specs.Machines.{Machine}
 

@@ -5,7 +5,7 @@ ghost use Rattle.fs_nodes.specs.Graphs.{IsGraph};
 ghost use Rattle.fs_nodes.specs.Stores.{graph_of, in_use};
 ghost use Rattle.fs_locks.specs.Holding.{holder, room};
 ghost use Rattle.fs_seq.specs.Forms.{form, reserves};
-ghost use Rattle.fs_ops.specs.Works.{BegunAs};
+ghost use Rattle.fs_moves.specs.Works.{BegunAs};
 ghost use Rattle.fs_core.specs.Events.{HasRoom};
 ghost use Rattle.fs_core.specs.declared.answer.Refusal.TheVariants as refusals;
 

@@ -3,7 +3,7 @@
 ghost use Rattle.std.specs.Prelude.{MatchOption, IfOk, OnOk, OnErr, ◌≡◌, ◌<◌, ◌≤◌, ◌++◌, ◌∷◌, [], ℕ, None, Some, length};
 ghost use Rattle.fs_names.specs.declared.limits.TheConstants.{NODE_LIMIT};
 ghost use Rattle.fs_nodes.specs.Graphs.{numbers};
-ghost use Rattle.fs_ops.specs.Moves.{Takes, Leaves, Finishes, Ends};
+ghost use Rattle.fs_moves.specs.Moves.{Takes, Leaves, Finishes, Ends};
 ghost use Rattle.fs_nodes.specs.Graphs.{spell};
 ghost use Rattle.fs_nodes.specs.Stores.{graph_of};
 ghost use Rattle.fs_seq.specs.Outcomes.{play};

@@ -2,8 +2,8 @@
 
 ghost use Rattle.std.specs.Prelude.{◌≡◌, true, None, Some, IsSome};
 ghost use Rattle.fs_nodes.specs.Stores.{graph_of, room};
-ghost use Rattle.fs_ops.specs.Leaving.{is_removed, releasing};
-ghost use Rattle.fs_ops.specs.Works.{IsTook, IsLetGo, IsFinished, IsSpare, CanFinish, graph_after};
+ghost use Rattle.fs_moves.specs.Leaving.{is_removed, releasing};
+ghost use Rattle.fs_moves.specs.Works.{IsTook, IsLetGo, IsFinished, IsSpare, CanFinish, graph_after};
 ghost use Rattle.fs_core.specs.Machines.{number_of};
 ghost use Rattle.fs_core.specs.Seats.{Goes, placed};
 ghost use Rattle.fs_core.specs.declared.running.Running.{Running};

@@ -7,10 +7,10 @@ use Rattle.fs_seq.specs.Forms.{form, by_text, reserves, Form, On, In, Rename, Mk
 use Rattle.fs_seq.specs.declared.call.Call.{Call}
 use Rattle.fs_seq.specs.declared.reply.Reply.{Reply}
 use Rattle.fs_nodes.specs.Graphs.{Graph, empty_graph, numbers, set_at, released_in, reserved_in}
-use Rattle.fs_ops.specs.Finishes.{finish}
-use Rattle.fs_ops.specs.Leaving.{is_removed, releasing, let_go, finished_op, unreserved}
-use Rattle.fs_ops.specs.Moves.{Finishes, next, took, left_stand, next_on}
-use Rattle.fs_ops.specs.Records.{Phase, Walking, Placed, Finished, Holds, Record, Records, Stand}
+use Rattle.fs_moves.specs.Finishes.{finish}
+use Rattle.fs_moves.specs.Leaving.{is_removed, releasing, let_go, finished_op, unreserved}
+use Rattle.fs_moves.specs.Moves.{Finishes, next, took, left_stand, next_on}
+use Rattle.fs_moves.specs.Records.{Phase, Walking, Placed, Finished, Holds, Record, Records, Stand}
 use Rattle.fs_laws.specs.Books.{begins, commit_count, start, book_of}
 use Rattle.fs_laws.specs.Invariants.{IsUnfinished, Own, Invariant}
 use Rattle.fs_laws.specs.Stands.{Keeps}

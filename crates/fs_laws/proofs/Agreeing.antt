@@ -7,8 +7,8 @@ use Rattle.fs_seq.specs.Forms.{form, Form, On, In, Rename, by_text}
 use Rattle.fs_seq.specs.declared.errno.Errno.{Errno}
 use Rattle.fs_seq.specs.declared.reply.Reply.{Reply}
 use Rattle.fs_nodes.specs.Graphs.{Graph}
-use Rattle.fs_ops.specs.Moves.{Move, Takes, Leaves, Finishes, Ends, first_of, head_move, walk_move, take_if, dir_then, rename_move, target_move, target, next_on, next_by, next}
-use Rattle.fs_ops.specs.Records.{Stand, Phase, Walking, Placed, Finished, Record}
+use Rattle.fs_moves.specs.Moves.{Move, Takes, Leaves, Finishes, Ends, first_of, head_move, walk_move, take_if, dir_then, rename_move, target_move, target, next_on, next_by, next}
+use Rattle.fs_moves.specs.Records.{Stand, Phase, Walking, Placed, Finished, Record}
 use Rattle.fs_laws.specs.Computing.{whom, stepped, seat_by, op_by, move_by, take_by, finish_by, help_by, end_by}
 use Rattle.fs_laws.specs.States.{State, Step, Moves, NoneBelow, IsChosen}
 

@@ -7,8 +7,8 @@ use Rattle.fs_names.specs.Parts.{common, left, left_by}
 use Rattle.fs_seq.specs.Forms.{form, Form, On, In, Rename, by_text, under}
 use Rattle.fs_seq.specs.declared.errno.Errno.{Errno}
 use Rattle.fs_nodes.specs.Graphs.{Graph, numbers, IsGraph}
-use Rattle.fs_ops.specs.Moves.{Move, Takes, Leaves, Finishes, Ends, next, next_by, next_on, target, took, inner, tail_of, head_took, head_left, left_stand, left_behind, behind_of}
-use Rattle.fs_ops.specs.Records.{Phase, Walking, Placed, Finished, Holds, Record, Stand, stand_at}
+use Rattle.fs_moves.specs.Moves.{Move, Takes, Leaves, Finishes, Ends, next, next_by, next_on, target, took, inner, tail_of, head_took, head_left, left_stand, left_behind, behind_of}
+use Rattle.fs_moves.specs.Records.{Phase, Walking, Placed, Finished, Holds, Record, Stand, stand_at}
 use Rattle.fs_laws.specs.Invariants.{IsUnfinished, Forked, StandsWell, VictimAt, IsSingle, HeadsFit}
 use Rattle.fs_laws.specs.Settled.{names_left, alone_by}
 use Rattle.fs_laws.specs.Stands.{Located}
@@ -23,7 +23,7 @@ use Rattle.fs_laws.proofs.Agreeing.{on_ends}
 use Rattle.fs_laws.proofs.Takes.{Take, Walk, Entry, Source, Dest, Replaced, takes_by, with_stand}
 use Rattle.fs_laws.proofs.Neat.{Neat, TookWell, took_well, plain_of, neat_heads, neat_fresh}
 use Rattle.fs_laws.proofs.Solo.{Solo, solo_wants, front_same}
-use Rattle.fs_ops.specs.Finishes.{finish}
+use Rattle.fs_moves.specs.Finishes.{finish}
 
 parent_less : (p : Key) → length (parent_of p) ≤ length p
 parent_less [] = omega arith

@@ -5,7 +5,7 @@ use Rattle.fs_names.specs.Names.{Name, inserted_name, removed_name}
 use Rattle.fs_names.specs.Shapes.{Shape, Dir, File, names_of}
 use Rattle.fs_seq.specs.Maps.{Map, put, put_at, move, moved_to, moved_from}
 use Rattle.fs_nodes.specs.Graphs.{Graph, Kids, numbers, IsGraph, set_kid, set_at, content_in, linked_in, unlinked_in, moved_in}
-use Rattle.fs_ops.specs.Records.{Holds, Stand}
+use Rattle.fs_moves.specs.Records.{Holds, Stand}
 use Rattle.fs_laws.proofs.Prefixes.{prefix_append}
 use Rattle.fs_laws.proofs.Walks.{at_child, set_else}
 use Rattle.fs_laws.proofs.Links.{CanLink, CanUnlink, CanMove, numbers_linked, numbers_unlinked, numbers_moved}

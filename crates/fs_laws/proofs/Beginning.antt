@@ -9,7 +9,7 @@ use Rattle.fs_seq.specs.declared.call.Call.{Call}
 use Rattle.fs_seq.specs.declared.reply.Reply.{Reply}
 use Rattle.fs_nodes.specs.Graphs.{Graph, numbers, spell, set_at, IsGraph, reserved_in}
 use Rattle.fs_journal.specs.declared.entry.Entry.TheVariants.{Begin}
-use Rattle.fs_ops.specs.Records.{Phase, Walking, Placed, Finished, Holds, Record, Stand}
+use Rattle.fs_moves.specs.Records.{Phase, Walking, Placed, Finished, Holds, Record, Stand}
 use Rattle.fs_laws.specs.Books.{begins, commit_count, Book, start, book_of, noted}
 use Rattle.fs_laws.specs.Invariants.{remaining_of, spots, IsPlaced, HasSpare, IsIn, NumberFor, Own, Invariant, BeginKeeps, Tied, Dues}
 use Rattle.fs_laws.specs.Settled.{settle, settle_replies}

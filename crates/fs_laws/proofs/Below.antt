@@ -5,8 +5,8 @@ use Rattle.fs_seq.specs.declared.reply.Reply.{Reply}
 use Rattle.fs_nodes.specs.Graphs.{at, numbers}
 use Rattle.fs_journal.specs.Timeline as journal
 use Rattle.fs_journal.specs.declared.entry.Entry.{Entry}
-use Rattle.fs_ops.specs.Moves.{Move, Takes, Leaves, Finishes, Ends, next}
-use Rattle.fs_ops.specs.Records.{Stand, Phase, Walking, Placed, Record, Holds}
+use Rattle.fs_moves.specs.Moves.{Move, Takes, Leaves, Finishes, Ends, next}
+use Rattle.fs_moves.specs.Records.{Stand, Phase, Walking, Placed, Record, Holds}
 use Rattle.fs_laws.specs.Below.{StandsAt, NoWalkingBelow, NoLaterBelow, NobodyBetween, AreDue, Settles, HelpsOrCommits, Helps, Commits, NeverWaitsToFinish}
 use Rattle.fs_laws.specs.Books.{Book, start, book_of}
 use Rattle.fs_laws.specs.Invariants.{Invariant, Dues}

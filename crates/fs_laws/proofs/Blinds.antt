@@ -9,8 +9,8 @@ use Rattle.fs_seq.specs.Forms.{NodeCall, EntryCall, Mkdir, Mknod, Unlink, Rmdir,
 use Rattle.fs_seq.specs.Rows.{on_row, Edit, Keep, Add, Remove, in_row}
 use Rattle.fs_seq.specs.declared.errno.Errno.{Errno}
 use Rattle.fs_nodes.specs.Graphs.{Graph, at, then_at, numbers, spell, entry_shape, IsGraph}
-use Rattle.fs_ops.specs.Moves.{Finishes, take_if, target_move, next_on, walk_move, victim_of, in_move}
-use Rattle.fs_ops.specs.Records.{Holds, Stand}
+use Rattle.fs_moves.specs.Moves.{Finishes, take_if, target_move, next_on, walk_move, victim_of, in_move}
+use Rattle.fs_moves.specs.Records.{Holds, Stand}
 use Rattle.fs_laws.specs.Invariants.{VictimAt}
 use Rattle.fs_laws.specs.Placed.{Blind, Clear}
 use Rattle.fs_laws.specs.Stands.{IsClear}

@@ -9,10 +9,10 @@ use Rattle.fs_seq.specs.Forms.{form, Form, On, In, Rename, by_text}
 use Rattle.fs_seq.specs.declared.errno.Errno.{Errno}
 use Rattle.fs_seq.specs.declared.reply.Reply.{Reply}
 use Rattle.fs_nodes.specs.Graphs.{Graph, numbers, IsGraph}
-use Rattle.fs_ops.specs.Leaving.{is_removed}
-use Rattle.fs_ops.specs.Moves.{Finishes, Ends, next, next_by}
-use Rattle.fs_ops.specs.Records.{Phase, Walking, Placed, Finished, Record, Stand}
-use Rattle.fs_ops.specs.Works.{IsSpare, SpareIf, IsBounded, HeadsApart, CanFinish}
+use Rattle.fs_moves.specs.Leaving.{is_removed}
+use Rattle.fs_moves.specs.Moves.{Finishes, Ends, next, next_by}
+use Rattle.fs_moves.specs.Records.{Phase, Walking, Placed, Finished, Record, Stand}
+use Rattle.fs_moves.specs.Works.{IsSpare, SpareIf, IsBounded, HeadsApart, CanFinish}
 use Rattle.fs_laws.specs.Books.{begins}
 use Rattle.fs_laws.specs.Invariants.{Invariant}
 use Rattle.fs_laws.specs.Stands.{Located}

@@ -3,8 +3,8 @@ use Rattle.std.proofs.Common.{◌≡◌, ℕ, Option, Some, None, sym, ap, ◌�
 use Rattle.fs_names.specs.Keys.{Key, last_of}
 use Rattle.fs_names.specs.Shapes.{Shape, Dir}
 use Rattle.fs_nodes.specs.Graphs.{numbers, IsGraph}
-use Rattle.fs_ops.specs.Moves.{Takes, Leaves, next}
-use Rattle.fs_ops.specs.Records.{Holds, Record, Stand}
+use Rattle.fs_moves.specs.Moves.{Takes, Leaves, next}
+use Rattle.fs_moves.specs.Records.{Holds, Record, Stand}
 use Rattle.fs_laws.specs.Invariants.{Invariant}
 use Rattle.fs_laws.specs.States.{State, Run}
 use Rattle.fs_laws.proofs.Slots.{slot_holds}

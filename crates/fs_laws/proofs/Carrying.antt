@@ -8,15 +8,15 @@ use Rattle.fs_seq.specs.Maps.{Map}
 use Rattle.fs_seq.specs.declared.errno.Errno.{Errno}
 use Rattle.fs_seq.specs.declared.reply.Reply.{Reply}
 use Rattle.fs_nodes.specs.Graphs.{Graph, numbers, spell, set_at}
-use Rattle.fs_ops.specs.Finishes.{Made, made_at, made_by, finish}
-use Rattle.fs_ops.specs.Moves.{Finishes, next_on}
-use Rattle.fs_ops.specs.Records.{Phase, Walking, Placed, Finished, Record, Records, Stand}
+use Rattle.fs_moves.specs.Finishes.{Made, made_at, made_by, finish}
+use Rattle.fs_moves.specs.Moves.{Finishes, next_on}
+use Rattle.fs_moves.specs.Records.{Phase, Walking, Placed, Finished, Record, Records, Stand}
 use Rattle.fs_laws.specs.Books.{start, book_of}
 use Rattle.fs_laws.specs.Invariants.{remaining_of, spots, IsPlaced, AllLater, InOrder, HasSpare, IsIn, Own, Invariant, StepKeeps, Tied}
 use Rattle.fs_laws.specs.Placed.{Standing, rekey, rekey_by, rekey_move, rekey_all}
 use Rattle.fs_laws.specs.Settled.{settle, settle_replies}
 use Rattle.fs_laws.specs.Stands.{IsAfter, Kept}
-use Rattle.fs_ops.specs.Leaving.{finished_op}
+use Rattle.fs_moves.specs.Leaving.{finished_op}
 use Rattle.fs_laws.specs.States.{State, CarriedOut, carrying}
 use Rattle.fs_laws.proofs.Prefixes.{prefix_deeper}
 use Rattle.fs_laws.proofs.Located.{change_under, moves_under, fits_under}

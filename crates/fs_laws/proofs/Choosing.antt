@@ -5,7 +5,7 @@ use Rattle.std.proofs.lemmas.Bool.Decides.{nat_tests}
 use Rattle.std.proofs.lemmas.List.{length-append}
 use Rattle.fs_names.specs.Keys.{Key, after_prefix}
 use Rattle.fs_nodes.specs.Graphs.{at, numbers}
-use Rattle.fs_ops.specs.Records.{Phase, Walking, Placed, Finished, Record, Records, Stand}
+use Rattle.fs_moves.specs.Records.{Phase, Walking, Placed, Finished, Record, Records, Stand}
 use Rattle.fs_laws.specs.Books.{begins}
 use Rattle.fs_laws.specs.Invariants.{Invariant}
 use Rattle.fs_laws.specs.Work.{total}

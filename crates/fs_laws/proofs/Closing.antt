@@ -8,9 +8,9 @@ use Rattle.fs_seq.specs.Forms.{form, Form, On, In, Rename, by_text}
 use Rattle.fs_seq.specs.declared.errno.Errno.{Errno}
 use Rattle.fs_seq.specs.declared.reply.Reply.{Reply}
 use Rattle.fs_nodes.specs.Graphs.{Graph, IsGraph, at}
-use Rattle.fs_ops.specs.Leaving.{let_go}
-use Rattle.fs_ops.specs.Moves.{Move, Leaves, Finishes, next, next_by, next_on, first_of, head_move, target, target_move, fork_move, rename_move, dir_then, left_stand, left_behind, left_last, left_heads, last_held, first_walked}
-use Rattle.fs_ops.specs.Records.{Phase, Walking, Placed, Finished, Holds, Head, HeadHolds, Record, Stand, head_at}
+use Rattle.fs_moves.specs.Leaving.{let_go}
+use Rattle.fs_moves.specs.Moves.{Move, Leaves, Finishes, next, next_by, next_on, first_of, head_move, target, target_move, fork_move, rename_move, dir_then, left_stand, left_behind, left_last, left_heads, last_held, first_walked}
+use Rattle.fs_moves.specs.Records.{Phase, Walking, Placed, Finished, Holds, Head, HeadHolds, Record, Stand, head_at}
 use Rattle.fs_laws.specs.Invariants.{Forked, ForkedAt, StandsWell, HeadsFit}
 use Rattle.fs_laws.proofs.Walks.{then_some}
 use Rattle.fs_laws.proofs.LettingGo.{Behind, Walk, Source, Dest, behind_of_move}

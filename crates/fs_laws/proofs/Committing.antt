@@ -12,15 +12,15 @@ use Rattle.fs_seq.specs.declared.reply.Reply.TheVariants.{Failed}
 use Rattle.fs_nodes.specs.Graphs.{Graph, numbers, spell, set_at}
 use Rattle.fs_journal.specs.declared.entry.Entry.{Entry}
 use Rattle.fs_journal.specs.declared.entry.Entry.TheVariants.{Commit}
-use Rattle.fs_ops.specs.Finishes.{Made, kept_as, made_at, made_by, finish}
-use Rattle.fs_ops.specs.Moves.{Finishes, next, next_by, next_on}
-use Rattle.fs_ops.specs.Records.{Phase, Walking, Placed, Finished, Record, Records, Stand}
+use Rattle.fs_moves.specs.Finishes.{Made, kept_as, made_at, made_by, finish}
+use Rattle.fs_moves.specs.Moves.{Finishes, next, next_by, next_on}
+use Rattle.fs_moves.specs.Records.{Phase, Walking, Placed, Finished, Record, Records, Stand}
 use Rattle.fs_laws.specs.Books.{commit_count, Book, start, book_of, IsNext}
 use Rattle.fs_laws.specs.Invariants.{remaining_of, spots, IsPlaced, AllLater, InOrder, HasSpare, IsIn, Own, Invariant, StepKeeps, Tied}
 use Rattle.fs_laws.specs.Placed.{Blind, Clear, Passes, PastAll, Standing, rekey, rekey_all}
 use Rattle.fs_laws.specs.Settled.{settle, settle_replies}
 use Rattle.fs_laws.specs.Stands.{IsAfter, Keeps, Kept, Pair}
-use Rattle.fs_ops.specs.Leaving.{finished_op}
+use Rattle.fs_moves.specs.Leaving.{finished_op}
 use Rattle.fs_laws.specs.States.{State, Committed, NoneBelow, committing}
 use Rattle.fs_laws.proofs.Located.{change_under, outcome_located, fits_under}
 use Rattle.fs_laws.proofs.Passing.{past_all}

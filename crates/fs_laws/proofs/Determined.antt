@@ -1,8 +1,8 @@
 -- What a step answers, and the state after it, are determined by the state.
 use Rattle.std.proofs.Common.{◌≡◌, ℕ, ◌≤◌, Option, Some, None, refl, sym, ap, ap₂, ◌∙◌, arith, subst}
 use Rattle.fs_seq.specs.declared.reply.Reply.{Reply}
-use Rattle.fs_ops.specs.Moves.{Move, Takes, Leaves, Finishes, Ends, next}
-use Rattle.fs_ops.specs.Records.{Phase, Walking, Placed, Finished, Record}
+use Rattle.fs_moves.specs.Moves.{Move, Takes, Leaves, Finishes, Ends, next}
+use Rattle.fs_moves.specs.Records.{Phase, Walking, Placed, Finished, Record}
 use Rattle.fs_laws.specs.Progress.{IsDetermined}
 use Rattle.fs_laws.specs.States.{State, Moves, NoneBelow, IsChosen, Idle, Took, Busy, LetGo, Helped, Committed, CarriedOut, Returned, taking, letting_go, helping, carrying, committing, returning}
 

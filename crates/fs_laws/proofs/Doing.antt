@@ -10,9 +10,9 @@ use Rattle.fs_seq.specs.Rows.{on_row, Edit, Keep, Add, Remove, in_row}
 use Rattle.fs_seq.specs.declared.errno.Errno.{Errno}
 use Rattle.fs_seq.specs.declared.reply.Reply.{Reply}
 use Rattle.fs_nodes.specs.Graphs.{Graph, at, then_at, numbers, entry_shape, IsGraph, linked_in, unlinked_in}
-use Rattle.fs_ops.specs.Finishes.{Made, kept_as, on_made, in_made}
-use Rattle.fs_ops.specs.Moves.{Finishes, take_if, next_on, victim_of, in_move}
-use Rattle.fs_ops.specs.Records.{Walking, Placed, Record, Records, Stand}
+use Rattle.fs_moves.specs.Finishes.{Made, kept_as, on_made, in_made}
+use Rattle.fs_moves.specs.Moves.{Finishes, take_if, next_on, victim_of, in_move}
+use Rattle.fs_moves.specs.Records.{Walking, Placed, Record, Records, Stand}
 use Rattle.fs_laws.specs.Invariants.{StandsWell, VictimAt, NumberFor, HasNumber, IsSingle, At_node, At_source, At_dest, At_victim, if_walked}
 use Rattle.fs_laws.specs.Placed.{rekey, rekey_move}
 use Rattle.fs_laws.specs.Stands.{Located, Kept}

@@ -13,9 +13,9 @@ use Rattle.fs_seq.specs.declared.errno.Errno.{Errno}
 use Rattle.fs_seq.specs.declared.reply.Reply.{Reply}
 use Rattle.fs_seq.specs.declared.reply.Reply.TheVariants.{Failed}
 use Rattle.fs_nodes.specs.Graphs.{Graph, at, numbers, spell, entry_shape, moved_in}
-use Rattle.fs_ops.specs.Finishes.{moved_made, rename_made, made_at}
-use Rattle.fs_ops.specs.Moves.{Finishes, first_of, head_move, take_if, same_kind, next_on, in_move, fork_move, rename_move, moved_node, path_error, dir_error, walk_errno, rename_at}
-use Rattle.fs_ops.specs.Records.{Walking, Record, Records, Stand}
+use Rattle.fs_moves.specs.Finishes.{moved_made, rename_made, made_at}
+use Rattle.fs_moves.specs.Moves.{Finishes, first_of, head_move, take_if, same_kind, next_on, in_move, fork_move, rename_move, moved_node, path_error, dir_error, walk_errno, rename_at}
+use Rattle.fs_moves.specs.Records.{Walking, Record, Records, Stand}
 use Rattle.fs_laws.specs.Invariants.{ForkedAt, StandsWell, VictimAt}
 use Rattle.fs_laws.specs.Placed.{Aside, rekey_by}
 use Rattle.fs_laws.specs.Stands.{Located, Kept}

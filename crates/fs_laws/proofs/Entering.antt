@@ -9,9 +9,9 @@ use Rattle.fs_seq.specs.Rows.{on_row, Edit, Keep, Add, Remove, in_row}
 use Rattle.fs_seq.specs.declared.errno.Errno.{Errno}
 use Rattle.fs_seq.specs.declared.reply.Reply.{Reply}
 use Rattle.fs_nodes.specs.Graphs.{Graph, Kids, at, set_kid, entry_shape, IsGraph}
-use Rattle.fs_ops.specs.Finishes.{on_made, in_made, moved_made, rename_made, made_at, made_by, finish}
-use Rattle.fs_ops.specs.Moves.{Move, Finishes, next, next_by, next_on, first_of, head_move, walk_move, take_if, target, target_move, fork_move, rename_move, rename_at, moved_node, dir_then, dir_error, path_error, there_by, victim_of}
-use Rattle.fs_ops.specs.Records.{Phase, Walking, Placed, Finished, Record, Stand}
+use Rattle.fs_moves.specs.Finishes.{on_made, in_made, moved_made, rename_made, made_at, made_by, finish}
+use Rattle.fs_moves.specs.Moves.{Move, Finishes, next, next_by, next_on, first_of, head_move, walk_move, take_if, target, target_move, fork_move, rename_move, rename_at, moved_node, dir_then, dir_error, path_error, there_by, victim_of}
+use Rattle.fs_moves.specs.Records.{Phase, Walking, Placed, Finished, Record, Stand}
 use Rattle.fs_laws.specs.Invariants.{Forked, ForkedAt, StandsWell}
 use Rattle.fs_laws.proofs.Walks.{at_child}
 use Rattle.fs_laws.proofs.Reals.{at_entries}

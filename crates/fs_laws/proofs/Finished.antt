@@ -3,12 +3,12 @@ use Rattle.std.proofs.Common.{◌≡◌, ℕ, ◌<◌, false, List, Option, Some
 use Rattle.fs_names.specs.Keys.{Key}
 use Rattle.fs_nodes.specs.Graphs.{numbers, spell, set_at, IsGraph}
 use Rattle.fs_journal.specs.declared.entry.Entry.{Entry}
-use Rattle.fs_ops.specs.Finishes.{Made}
-use Rattle.fs_ops.specs.Records.{Phase, Placed, Finished, Holds, Record, Records, Stand}
+use Rattle.fs_moves.specs.Finishes.{Made}
+use Rattle.fs_moves.specs.Records.{Phase, Placed, Finished, Holds, Record, Records, Stand}
 use Rattle.fs_laws.specs.Books.{begins, commit_count, Book, start, book_of, IsLawful}
 use Rattle.fs_laws.specs.Invariants.{HasSpare, IsIn, Own, Invariant, InOrder, Tied}
 use Rattle.fs_laws.specs.Stands.{Kept}
-use Rattle.fs_ops.specs.Leaving.{finished_op}
+use Rattle.fs_moves.specs.Leaving.{finished_op}
 use Rattle.fs_laws.specs.States.{State}
 use Rattle.fs_laws.proofs.Altering.{Shapes, Reached}
 use Rattle.fs_laws.proofs.Keeping.{Place, Here, Else, place, kept_finish}

@@ -11,8 +11,8 @@ use Rattle.fs_seq.specs.Maps.{Map, below}
 use Rattle.fs_seq.specs.Rows.{as_dir, on_row, in_row, to_row, moves_row, from_row, rename_row}
 use Rattle.fs_seq.specs.declared.errno.Errno.{Errno}
 use Rattle.fs_nodes.specs.Graphs.{Graph, then_at, at, numbers, spell, entry_shape, IsGraph}
-use Rattle.fs_ops.specs.Moves.{Finishes, walk_move, walk_errno, path_error, dir_error, there_by, rename_at}
-use Rattle.fs_ops.specs.Records.{Stand}
+use Rattle.fs_moves.specs.Moves.{Finishes, walk_move, walk_errno, path_error, dir_error, there_by, rename_at}
+use Rattle.fs_moves.specs.Records.{Stand}
 use Rattle.fs_laws.proofs.Prefixes.{prefix_some}
 use Rattle.fs_laws.proofs.Located.{resolve_under, key_is}
 use Rattle.fs_laws.proofs.Walks.{at_from, at_before, at_child, then_some}

@@ -9,7 +9,7 @@ use Rattle.fs_seq.specs.declared.call.Call.{Call}
 use Rattle.fs_nodes.specs.Graphs.{numbers, spell, IsGraph, empty_graph}
 use Rattle.fs_journal.specs.declared.entry.Entry.{Entry}
 use Rattle.fs_journal.specs.declared.entry.Entry.TheVariants.{Begin, Commit, Return}
-use Rattle.fs_ops.specs.Records.{Record, Records}
+use Rattle.fs_moves.specs.Records.{Record, Records}
 use Rattle.fs_laws.specs.Books.{IsLawful, commits_of, with_call, Book, start, noted, commit_of, book_of}
 use Rattle.fs_laws.specs.Headline.{IsIdle}
 use Rattle.fs_laws.specs.Invariants.{Invariant, StepKeeps, BeginKeeps, spots, IsPlaced, InOrder}

@@ -6,7 +6,7 @@ use Rattle.fs_seq.specs.Forms.{form, under}
 use Rattle.fs_nodes.specs.Graphs.{Graph, at, numbers, spell, set_at}
 use Rattle.fs_journal.specs.declared.entry.Entry.{Entry}
 use Rattle.fs_journal.specs.declared.entry.Entry.TheVariants.{Begin, Commit, Return}
-use Rattle.fs_ops.specs.Records.{Stand, Phase, Walking, Placed, Finished, Record, Records, Holds}
+use Rattle.fs_moves.specs.Records.{Stand, Phase, Walking, Placed, Finished, Record, Records, Holds}
 use Rattle.fs_laws.specs.Books.{begins, commit_count, Book, start, book_of, IsNext}
 use Rattle.fs_laws.specs.Invariants.{HasSpare, IsIn, Own, Invariant, StepKeeps, IsPlaced, AllLater, InOrder, Tied}
 use Rattle.fs_laws.specs.Stands.{Keeps, Kept}

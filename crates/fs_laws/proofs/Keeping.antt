@@ -5,11 +5,11 @@ use Rattle.fs_names.specs.Names.{Name}
 use Rattle.fs_names.specs.Parts.{HasNames}
 use Rattle.fs_seq.specs.Maps.{Map, move}
 use Rattle.fs_nodes.specs.Graphs.{set_at}
-use Rattle.fs_ops.specs.Finishes.{Made}
-use Rattle.fs_ops.specs.Records.{Finished, Head, HeadHolds, Holds, Record, Records, Phase, Placed, Stand, Walking}
+use Rattle.fs_moves.specs.Finishes.{Made}
+use Rattle.fs_moves.specs.Records.{Finished, Head, HeadHolds, Holds, Record, Records, Phase, Placed, Stand, Walking}
 use Rattle.fs_laws.specs.Placed.{rekey_by}
 use Rattle.fs_laws.specs.Stands.{IsAfter, IsClear, IsFree, Keeps, Kept, Pair, Shrinks}
-use Rattle.fs_ops.specs.Leaving.{finished_op}
+use Rattle.fs_moves.specs.Leaving.{finished_op}
 use Rattle.fs_laws.proofs.Walks.{eqb_refl, eqb_true}
 use Rattle.fs_laws.proofs.Pairs.{clear_take, clear_walk, after_take, after_walk, pair_moved, located_moved, pair_helped_first, pair_helped_second}
 

@@ -10,9 +10,9 @@ use Rattle.fs_seq.specs.Maps.{Map}
 use Rattle.fs_seq.specs.declared.errno.Errno.{Errno}
 use Rattle.fs_seq.specs.declared.reply.Reply.{Reply}
 use Rattle.fs_nodes.specs.Graphs.{Graph, at, numbers, spell, entry_shape, set_at, IsGraph, released_in}
-use Rattle.fs_ops.specs.Leaving.{is_removed, releasing, cleared}
-use Rattle.fs_ops.specs.Moves.{Move, Leaves, Finishes, next, next_by, next_on, first_of, head_move, walk_move, take_if, target, target_move, victim_of, same_kind, rename_move, rename_at, moved_node, dir_then, last_held, first_walked, head_left, left_behind, left_heads, left_last, left_stand}
-use Rattle.fs_ops.specs.Records.{Phase, Walking, Placed, Finished, Holds, Record, Stand, head_at}
+use Rattle.fs_moves.specs.Leaving.{is_removed, releasing, cleared}
+use Rattle.fs_moves.specs.Moves.{Move, Leaves, Finishes, next, next_by, next_on, first_of, head_move, walk_move, take_if, target, target_move, victim_of, same_kind, rename_move, rename_at, moved_node, dir_then, last_held, first_walked, head_left, left_behind, left_heads, left_last, left_stand}
+use Rattle.fs_moves.specs.Records.{Phase, Walking, Placed, Finished, Holds, Record, Stand, head_at}
 use Rattle.fs_laws.specs.Invariants.{ForkedAt, StandsWell, VictimAt, HasSpare, HeadsFit, IsSingle, IsUnfinished, Own, Invariant, StepKeeps, Slot, At_node, At_behind, At_source, At_source_behind, At_dest, At_dest_behind, At_victim, if_walked, in_slot}
 use Rattle.fs_laws.specs.Stands.{Kept, Shrinks}
 use Rattle.fs_laws.specs.States.{State, LetGo, letting_go}

@@ -13,9 +13,9 @@ use Rattle.fs_seq.specs.declared.errno.Errno.TheVariants.{Enoent, Enotdir, Eexis
 use Rattle.fs_seq.specs.declared.reply.Reply.{Reply}
 use Rattle.fs_seq.specs.declared.reply.Reply.TheVariants.{Done, Failed}
 use Rattle.fs_nodes.specs.Graphs.{Graph, then_at, at, numbers, spell, entry_shape, IsGraph, unlinked_in}
-use Rattle.fs_ops.specs.Finishes.{on_made, in_made, moved_made, rename_made, made_at}
-use Rattle.fs_ops.specs.Moves.{Move, Finishes, first_of, head_move, dir_then, fork_move, rename_move, target_move, next_on, walk_move, walk_errno, path_error, dir_error, rename_at}
-use Rattle.fs_ops.specs.Records.{Stand}
+use Rattle.fs_moves.specs.Finishes.{on_made, in_made, moved_made, rename_made, made_at}
+use Rattle.fs_moves.specs.Moves.{Move, Finishes, first_of, head_move, dir_then, fork_move, rename_move, target_move, next_on, walk_move, walk_errno, path_error, dir_error, rename_at}
+use Rattle.fs_moves.specs.Records.{Stand}
 use Rattle.fs_laws.specs.Invariants.{Forked, ForkedAt, StandsWell, HasNumber}
 use Rattle.fs_laws.proofs.Located.{outcome_located, change_under, in_more, from_more, to_more}
 use Rattle.fs_laws.proofs.Walks.{then_some}

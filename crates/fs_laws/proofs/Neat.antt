@@ -7,8 +7,8 @@ use Rattle.fs_names.specs.Shapes.{Dir}
 use Rattle.fs_seq.specs.Forms.{Form, On, In, Rename}
 use Rattle.fs_seq.specs.declared.reply.Reply.{Reply}
 use Rattle.fs_nodes.specs.Graphs.{Graph}
-use Rattle.fs_ops.specs.Moves.{target, took, head_took, behind_of, left_behind, took_by, inner}
-use Rattle.fs_ops.specs.Records.{Finished, Holds, Head, HeadHolds, Record, Stand, stand_at}
+use Rattle.fs_moves.specs.Moves.{target, took, head_took, behind_of, left_behind, took_by, inner}
+use Rattle.fs_moves.specs.Records.{Finished, Holds, Head, HeadHolds, Record, Stand, stand_at}
 use Rattle.fs_laws.specs.Invariants.{IsUnfinished}
 use Rattle.fs_laws.proofs.Takes.{Take, Walk, Entry, Source, Dest, Replaced, with_stand, walked_on}
 

@@ -13,7 +13,7 @@ use Rattle.fs_seq.proofs.TreeLaws.{played_trees_are_trees}
 use Rattle.fs_nodes.specs.Graphs.{Graph, spell, set_at, reserved_in}
 use Rattle.fs_journal.specs.Timeline as journal
 use Rattle.fs_journal.specs.declared.entry.Entry.TheVariants.{Begin, Commit, Return}
-use Rattle.fs_ops.specs.Records.{Walking, Record}
+use Rattle.fs_moves.specs.Records.{Walking, Record}
 use Rattle.fs_laws.specs.Books.{begins, Book, start, book_of, noted, commit_of}
 use Rattle.fs_laws.specs.Headline.{IsIdle}
 use Rattle.fs_laws.specs.Invariants.{Invariant}

@@ -7,10 +7,10 @@ use Rattle.fs_seq.specs.Forms.{form, reserves}
 use Rattle.fs_seq.specs.declared.call.Call.{Call}
 use Rattle.fs_seq.specs.declared.reply.Reply.{Reply}
 use Rattle.fs_nodes.specs.Graphs.{Graph, Kids, at, numbers, set_at, reserved_in, then_at}
-use Rattle.fs_ops.specs.Finishes.{finish}
-use Rattle.fs_ops.specs.Leaving.{is_removed, releasing, let_go, finished_op, unreserved}
-use Rattle.fs_ops.specs.Moves.{Takes, Leaves, Finishes, next, took, target, head_took, took_by}
-use Rattle.fs_ops.specs.Records.{Phase, Walking, Placed, Finished, Holds, Record, Stand, stand_at}
+use Rattle.fs_moves.specs.Finishes.{finish}
+use Rattle.fs_moves.specs.Leaving.{is_removed, releasing, let_go, finished_op, unreserved}
+use Rattle.fs_moves.specs.Moves.{Takes, Leaves, Finishes, next, took, target, head_took, took_by}
+use Rattle.fs_moves.specs.Records.{Phase, Walking, Placed, Finished, Holds, Record, Stand, stand_at}
 use Rattle.fs_laws.specs.Below.{StandsAt, IsAboutToMove, Meanwhile, Now, Begins_another, Steps_another, Helps_one, HelpsEachOnce}
 use Rattle.fs_laws.specs.Books.{commit_count}
 use Rattle.fs_laws.specs.Invariants.{IsIn, Own, Invariant, HeadsFit}

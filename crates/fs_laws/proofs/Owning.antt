@@ -5,11 +5,11 @@ use Rattle.fs_names.specs.Parts.{common}
 use Rattle.fs_names.specs.Shapes.{Shape, Dir}
 use Rattle.fs_seq.specs.Forms.{Form, On, In, Rename}
 use Rattle.fs_nodes.specs.Graphs.{Graph, at, numbers, IsGraph}
-use Rattle.fs_ops.specs.Finishes.{Made}
-use Rattle.fs_ops.specs.Records.{Holds, Record, Stand}
+use Rattle.fs_moves.specs.Finishes.{Made}
+use Rattle.fs_moves.specs.Records.{Holds, Record, Stand}
 use Rattle.fs_laws.specs.Invariants.{ForkedAt, StandsWell, NumberFor, VictimAt, HasSpare, Own}
 use Rattle.fs_laws.specs.Stands.{Located}
-use Rattle.fs_ops.specs.Leaving.{finished_op}
+use Rattle.fs_moves.specs.Leaving.{finished_op}
 use Rattle.fs_laws.proofs.Walks.{at_from, then_some}
 use Rattle.fs_laws.proofs.Altering.{Altered, Reached}
 use Rattle.fs_laws.proofs.Renames.{dest_held}

@@ -5,7 +5,7 @@ use Rattle.fs_names.specs.Keys.{Key, after_prefix}
 use Rattle.fs_names.specs.Names.{Name, same_name}
 use Rattle.fs_names.specs.Parts.{HasNames}
 use Rattle.fs_seq.specs.Maps.{Map, move}
-use Rattle.fs_ops.specs.Records.{Finished, Holds, Phase, Placed, Stand, Walking}
+use Rattle.fs_moves.specs.Records.{Finished, Holds, Phase, Placed, Stand, Walking}
 use Rattle.fs_laws.specs.Placed.{rekey_by}
 use Rattle.fs_laws.specs.Stands.{IsAfter, IsClear, Located, Pair}
 use Rattle.fs_laws.proofs.Prefixes.{same_refl, prefix_some, prefix_both, prefix_deeper, prefix_none}

@@ -11,7 +11,7 @@ use Rattle.fs_seq.specs.Maps.{Map, below, act, put, move, write_all}
 use Rattle.fs_seq.specs.Rows.{as_dir, on_file, on_row, Edit, Keep, Add, Remove, made, in_there, in_row, to_row, moves_row, from_row, rename_row}
 use Rattle.fs_seq.specs.declared.errno.Errno.{Errno}
 use Rattle.fs_seq.specs.declared.reply.Reply.{Reply}
-use Rattle.fs_ops.specs.Moves.{victim_of, same_kind}
+use Rattle.fs_moves.specs.Moves.{victim_of, same_kind}
 use Rattle.fs_laws.specs.Placed.{NoneUnder, kind, Agree, looks_into, Blind, Aside, AllOff, ClearMove, Clear, rekey, rekey_by, rekey_move, rekey_all, Standing, Passes, PastAll}
 use Rattle.fs_laws.specs.Settled.{settle, settle_replies}
 use Rattle.fs_laws.proofs.Prefixes.{same_true, prefix_append, prefix_some, prefix_none, prefix_longer}

@@ -10,10 +10,10 @@ use Rattle.fs_journal.specs.declared.entry.Entry.{Entry}
 use Rattle.fs_journal.specs.declared.entry.Entry.TheVariants.{Begin, Commit, Return}
 use Rattle.fs_journal.proofs.AppendLemmas.{list_any-push, before_commit-kept, before_commit-first}
 use Rattle.fs_journal.proofs.TimelineLemmas.{lawful_appended}
-use Rattle.fs_ops.specs.Finishes.{finish}
-use Rattle.fs_ops.specs.Leaving.{let_go, finished_op}
-use Rattle.fs_ops.specs.Moves.{target, took, took_by}
-use Rattle.fs_ops.specs.Records.{Phase, Placed, Record, Stand}
+use Rattle.fs_moves.specs.Finishes.{finish}
+use Rattle.fs_moves.specs.Leaving.{let_go, finished_op}
+use Rattle.fs_moves.specs.Moves.{target, took, took_by}
+use Rattle.fs_moves.specs.Records.{Phase, Placed, Record, Stand}
 use Rattle.fs_laws.specs.Below.{HasPlace, PlacesAreCounted}
 use Rattle.fs_laws.specs.Books.{commit_count}
 use Rattle.fs_laws.specs.States.{State, Begun, Begun_as, Seat_busy, Full, No_memory, Begins, Reserves, new_op, began, Run, Start, Beginning, Stepping, Stepped, Idle, Took, Busy, LetGo, Helped, Committed, CarriedOut, Returned, Step}

@@ -5,7 +5,7 @@ use Rattle.fs_names.specs.Parts.{HasNames}
 use Rattle.fs_seq.specs.Forms.{Fits}
 use Rattle.fs_seq.specs.Maps.{Map, put, put_at}
 use Rattle.fs_nodes.specs.Graphs.{set_at}
-use Rattle.fs_ops.specs.Records.{Finished, Head, HeadHolds, Holds, Record, Records, Phase, Placed, Stand, Walking}
+use Rattle.fs_moves.specs.Records.{Finished, Head, HeadHolds, Holds, Record, Records, Phase, Placed, Stand, Walking}
 use Rattle.fs_laws.specs.Stands.{IsAfter, IsClear, IsFree, Keeps, Kept, Pair}
 use Rattle.fs_laws.proofs.Walks.{eqb_refl, eqb_true}
 use Rattle.fs_laws.proofs.Commutes.{put_other}

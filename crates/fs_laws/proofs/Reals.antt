@@ -7,8 +7,8 @@ use Rattle.fs_names.specs.Shapes.{Shape, Dir, File, is_full}
 use Rattle.fs_seq.specs.Forms.{Rename, Fits}
 use Rattle.fs_seq.specs.Rows.{to_row}
 use Rattle.fs_nodes.specs.Graphs.{Graph, at, then_at, entry_shape, IsGraph}
-use Rattle.fs_ops.specs.Moves.{Move, Finishes, first_of, head_move, take_if, same_kind, fork_move, rename_move, dir_then, dir_error, rename_at, there_by, moved_node}
-use Rattle.fs_ops.specs.Records.{Stand}
+use Rattle.fs_moves.specs.Moves.{Move, Finishes, first_of, head_move, take_if, same_kind, fork_move, rename_move, dir_then, dir_error, rename_at, there_by, moved_node}
+use Rattle.fs_moves.specs.Records.{Stand}
 use Rattle.fs_laws.specs.Invariants.{Forked, VictimAt}
 use Rattle.fs_laws.specs.Placed.{Aside}
 use Rattle.fs_laws.proofs.Walks.{then_some}

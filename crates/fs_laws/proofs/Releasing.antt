@@ -7,7 +7,7 @@ use Rattle.fs_names.specs.Parts.{common}
 use Rattle.fs_names.specs.Shapes.{Shape, Dir}
 use Rattle.fs_seq.specs.Forms.{Form, On, In, Rename}
 use Rattle.fs_nodes.specs.Graphs.{Graph, at, then_at, numbers, spell, IsGraph, released_in, reserved_in}
-use Rattle.fs_ops.specs.Records.{Record, Stand}
+use Rattle.fs_moves.specs.Records.{Record, Stand}
 use Rattle.fs_laws.specs.Invariants.{ForkedAt, StandsWell, NumberFor, VictimAt, HasSpare, Own}
 use Rattle.fs_laws.proofs.Walks.{at_child}
 use Rattle.fs_laws.proofs.Keeping.{Place, Here, Else, place}

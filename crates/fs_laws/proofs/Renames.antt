@@ -11,8 +11,8 @@ use Rattle.fs_seq.specs.Rows.{as_dir, rename_row}
 use Rattle.fs_seq.specs.declared.errno.Errno.{Errno}
 use Rattle.fs_seq.specs.declared.reply.Reply.{Reply}
 use Rattle.fs_nodes.specs.Graphs.{Graph, at, then_at, numbers, spell, entry_shape, IsGraph}
-use Rattle.fs_ops.specs.Moves.{Finishes, first_of, head_move, next_on, same_kind, fork_move, dir_error, walk_errno, rename_at}
-use Rattle.fs_ops.specs.Records.{Holds, Stand}
+use Rattle.fs_moves.specs.Moves.{Finishes, first_of, head_move, next_on, same_kind, fork_move, dir_error, walk_errno, rename_at}
+use Rattle.fs_moves.specs.Records.{Holds, Stand}
 use Rattle.fs_laws.specs.Invariants.{ForkedAt, StandsWell, VictimAt}
 use Rattle.fs_laws.specs.Placed.{AllOff, Clear, Aside, looks_into}
 use Rattle.fs_laws.specs.Stands.{Located, IsClear}

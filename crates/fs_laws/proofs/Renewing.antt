@@ -8,7 +8,7 @@ use Rattle.fs_seq.specs.Maps.{Map}
 use Rattle.fs_seq.specs.declared.call.Call.{Call}
 use Rattle.fs_seq.specs.declared.reply.Reply.{Reply}
 use Rattle.fs_nodes.specs.Graphs.{Graph, numbers, spell, set_at, IsGraph}
-use Rattle.fs_ops.specs.Records.{Phase, Placed, Holds, Record, Records, Stand}
+use Rattle.fs_moves.specs.Records.{Phase, Placed, Holds, Record, Records, Stand}
 use Rattle.fs_laws.specs.Books.{commit_count, start, book_of}
 use Rattle.fs_laws.specs.Invariants.{remaining_of, spots, IsPlaced, AllLater, InOrder, HasSpare, IsIn, Own, Invariant, Tied, Dues}
 use Rattle.fs_laws.specs.Settled.{settle, settle_replies}

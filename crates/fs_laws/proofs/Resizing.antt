@@ -15,9 +15,9 @@ use Rattle.fs_seq.specs.declared.errno.Errno.TheVariants.{Efbig}
 use Rattle.fs_seq.specs.declared.reply.Reply.{Reply}
 use Rattle.fs_seq.specs.declared.reply.Reply.TheVariants.{Done, Wrote, Failed}
 use Rattle.fs_nodes.specs.Graphs.{Graph, set_at, entry_shape, IsGraph, at}
-use Rattle.fs_ops.specs.Finishes.{on_made, in_made, moved_made, rename_made, made_at, made_by, finish}
-use Rattle.fs_ops.specs.Moves.{dir_error, path_error, there_by, rename_at, target}
-use Rattle.fs_ops.specs.Records.{Record, Stand}
+use Rattle.fs_moves.specs.Finishes.{on_made, in_made, moved_made, rename_made, made_at, made_by, finish}
+use Rattle.fs_moves.specs.Moves.{dir_error, path_error, there_by, rename_at, target}
+use Rattle.fs_moves.specs.Records.{Record, Stand}
 use Rattle.fs_laws.specs.Invariants.{Forked, ForkedAt, StandsWell}
 use Rattle.fs_laws.proofs.Prefixes.{prefix_some, same_refl}
 use Rattle.fs_laws.proofs.Keeping.{Place, Here, Else, place}

@@ -8,9 +8,9 @@ use Rattle.fs_seq.specs.Maps.{Map}
 use Rattle.fs_seq.specs.declared.reply.Reply.{Reply}
 use Rattle.fs_nodes.specs.Graphs.{Graph, at, numbers, spell, set_at, IsGraph}
 use Rattle.fs_journal.specs.declared.entry.Entry.TheVariants.{Return}
-use Rattle.fs_ops.specs.Leaving.{unreserved}
-use Rattle.fs_ops.specs.Moves.{Ends, next, next_by}
-use Rattle.fs_ops.specs.Records.{Phase, Placed, Finished, Record, Stand}
+use Rattle.fs_moves.specs.Leaving.{unreserved}
+use Rattle.fs_moves.specs.Moves.{Ends, next, next_by}
+use Rattle.fs_moves.specs.Records.{Phase, Placed, Finished, Record, Stand}
 use Rattle.fs_laws.specs.Books.{commit_count, Book, start, book_of, noted, free_seat}
 use Rattle.fs_laws.specs.Invariants.{remaining_of, spots, IsPlaced, HasSpare, IsIn, Invariant, StepKeeps, Tied, Dues}
 use Rattle.fs_laws.specs.Settled.{settle, settle_replies}

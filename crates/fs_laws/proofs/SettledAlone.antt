@@ -9,9 +9,9 @@ use Rattle.fs_seq.specs.Maps.{Map}
 use Rattle.fs_seq.specs.Rows.{on_row, Edit, Keep, Add, Remove, in_row}
 use Rattle.fs_seq.specs.declared.reply.Reply.{Reply}
 use Rattle.fs_nodes.specs.Graphs.{Graph, Kids, at, numbers, spell, set_kid, set_at, entry_shape, IsGraph, unlinked_in}
-use Rattle.fs_ops.specs.Finishes.{Made, on_made, in_made, moved_made, rename_made, made_at, made_by, finish}
-use Rattle.fs_ops.specs.Moves.{Finishes, next, next_on, target, dir_error, path_error, rename_at}
-use Rattle.fs_ops.specs.Records.{Phase, Walking, Placed, Finished, Record, Records, Stand}
+use Rattle.fs_moves.specs.Finishes.{Made, on_made, in_made, moved_made, rename_made, made_at, made_by, finish}
+use Rattle.fs_moves.specs.Moves.{Finishes, next, next_on, target, dir_error, path_error, rename_at}
+use Rattle.fs_moves.specs.Records.{Phase, Walking, Placed, Finished, Record, Records, Stand}
 use Rattle.fs_laws.specs.Invariants.{remaining_of, spots, IsPlaced, AllLater, InOrder, IsIn, NumberFor, VictimAt, Invariant, StandsWell}
 use Rattle.fs_laws.specs.Settled.{names_left, alone, settled_by, settled_graph, settled_reply, settled_replies, settle, settle_replies}
 use Rattle.fs_laws.specs.Stands.{Kept, Keeps, Pair, Located, IsAfter}

@@ -3,8 +3,8 @@ use Rattle.std.proofs.Common.{◌≡◌, ℕ, [], ◌∷◌, ◌++◌, Option, S
 use Rattle.fs_names.specs.Keys.{Key}
 use Rattle.fs_names.specs.Names.{Name}
 use Rattle.fs_names.specs.Parts.{HasNames}
-use Rattle.fs_ops.specs.Moves.{behind_of, head_took}
-use Rattle.fs_ops.specs.Records.{Holds, Stand, stand_at}
+use Rattle.fs_moves.specs.Moves.{behind_of, head_took}
+use Rattle.fs_moves.specs.Records.{Holds, Stand, stand_at}
 use Rattle.fs_laws.specs.Invariants.{Slot, At_node, At_behind, At_source, At_source_behind, At_dest, At_dest_behind, At_victim, if_walked, in_slot, IsSingle}
 
 -- a head that has set out holds what it has

@@ -5,8 +5,8 @@ use Rattle.fs_names.specs.Names.{Name}
 use Rattle.fs_names.specs.Parts.{HasNames, common, left, is_end}
 use Rattle.fs_seq.specs.Forms.{form, Form, Rename, by_text, Fits}
 use Rattle.fs_nodes.specs.Graphs.{Graph, numbers, IsGraph, entry_shape}
-use Rattle.fs_ops.specs.Moves.{same_kind}
-use Rattle.fs_ops.specs.Records.{Holds, Record, Stand}
+use Rattle.fs_moves.specs.Moves.{same_kind}
+use Rattle.fs_moves.specs.Records.{Holds, Record, Stand}
 use Rattle.fs_laws.specs.Invariants.{IsUnfinished, Forked, StandsWell, NumberFor, VictimAt, IsSingle, HeadsFit, Invariant}
 use Rattle.fs_laws.specs.Stands.{Located}
 use Rattle.fs_laws.specs.States.{State}

@@ -4,7 +4,7 @@ use Rattle.std.proofs.lemmas.Bool.{cases_lt}
 use Rattle.fs_names.specs.Keys.{Key, after_prefix}
 use Rattle.fs_names.specs.Names.{Name}
 use Rattle.fs_seq.specs.Maps.{Map}
-use Rattle.fs_ops.specs.Records.{Finished, Holds, Record, Records, Phase, Placed, Stand, Walking}
+use Rattle.fs_moves.specs.Records.{Finished, Holds, Record, Records, Phase, Placed, Stand, Walking}
 use Rattle.fs_laws.specs.Placed.{Aside}
 use Rattle.fs_laws.specs.Stands.{IsAfter, Keeps, Kept}
 use Rattle.fs_laws.proofs.Prefixes.{prefix_deeper}

@@ -3,7 +3,7 @@ use Rattle.std.proofs.Common.{◌≡◌, ℕ, ◌<◌, List, [], ◌∷◌, Opti
 use Rattle.fs_names.specs.Keys.{Key}
 use Rattle.fs_seq.specs.Maps.{Map}
 use Rattle.fs_nodes.specs.Graphs.{Graph, IsGraph, numbers, spell}
-use Rattle.fs_ops.specs.Records.{Record, Records, Phase, Placed}
+use Rattle.fs_moves.specs.Records.{Record, Records, Phase, Placed}
 use Rattle.fs_laws.specs.Invariants.{spots, IsPlaced, AllLater, InOrder}
 use Rattle.fs_laws.specs.Placed.{NoneUnder, Standing}
 use Rattle.fs_laws.specs.Stands.{IsAfter, Keeps, Kept}

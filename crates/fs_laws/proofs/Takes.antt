@@ -6,8 +6,8 @@ use Rattle.fs_names.specs.Parts.{common, left, is_end}
 use Rattle.fs_names.specs.Shapes.{Shape, Dir, File}
 use Rattle.fs_seq.specs.Forms.{EntryCall, Form, On, In, Rename}
 use Rattle.fs_nodes.specs.Graphs.{Graph, entry_shape}
-use Rattle.fs_ops.specs.Moves.{Move, Takes, Finishes, next_on, first_of, head_move, take_if, target, target_move, fork_move, rename_move, dir_then, victim_of, same_kind, rename_at, moved_node, took, head_took, source_took, target_took, took_by, inner}
-use Rattle.fs_ops.specs.Records.{Record, Stand, stand_at}
+use Rattle.fs_moves.specs.Moves.{Move, Takes, Finishes, next_on, first_of, head_move, take_if, target, target_move, fork_move, rename_move, dir_then, victim_of, same_kind, rename_at, moved_node, took, head_took, source_took, target_took, took_by, inner}
+use Rattle.fs_moves.specs.Records.{Record, Stand, stand_at}
 use Rattle.fs_laws.proofs.Taking.{head_takes, head_passes}
 
 -- whether a rename wants the victim

@@ -9,8 +9,8 @@ use Rattle.fs_seq.specs.declared.call.Call.{Call}
 use Rattle.fs_seq.specs.declared.errno.Errno.{Errno}
 use Rattle.fs_seq.specs.declared.reply.Reply.{Reply}
 use Rattle.fs_nodes.specs.Graphs.{Graph, numbers, set_at}
-use Rattle.fs_ops.specs.Moves.{Move, Takes, next, next_by, next_on, first_of, head_move, walk_move, target, inner, took, took_by}
-use Rattle.fs_ops.specs.Records.{Phase, Walking, Placed, Finished, Holds, Record, Stand, stand_at}
+use Rattle.fs_moves.specs.Moves.{Move, Takes, next, next_by, next_on, first_of, head_move, walk_move, target, inner, took, took_by}
+use Rattle.fs_moves.specs.Records.{Phase, Walking, Placed, Finished, Holds, Record, Stand, stand_at}
 use Rattle.fs_laws.specs.Invariants.{ForkedAt, StandsWell, NumberFor, VictimAt, HasSpare, HeadsFit, IsSingle, IsUnfinished, Own, Invariant}
 use Rattle.fs_laws.specs.Stands.{IsFree, Keeps, Kept}
 use Rattle.fs_laws.specs.States.{State, taking}

@@ -11,9 +11,9 @@ use Rattle.fs_seq.specs.Rows.{as_dir, on_row, Edit, in_row, to_row, moves_row, r
 use Rattle.fs_seq.specs.declared.errno.Errno.{Errno}
 use Rattle.fs_seq.specs.declared.reply.Reply.{Reply}
 use Rattle.fs_nodes.specs.Graphs.{Graph, then_at, at, numbers, spell, entry_shape, IsGraph}
-use Rattle.fs_ops.specs.Finishes.{on_made, moved_made, rename_made, made_at}
-use Rattle.fs_ops.specs.Moves.{Finishes, first_of, head_move, fork_move, target_move, next_on, walk_errno, dir_error, there_by, rename_at}
-use Rattle.fs_ops.specs.Records.{Stand}
+use Rattle.fs_moves.specs.Finishes.{on_made, moved_made, rename_made, made_at}
+use Rattle.fs_moves.specs.Moves.{Finishes, first_of, head_move, fork_move, target_move, next_on, walk_errno, dir_error, there_by, rename_at}
+use Rattle.fs_moves.specs.Records.{Stand}
 use Rattle.fs_laws.specs.Invariants.{ForkedAt, StandsWell, NumberFor}
 use Rattle.fs_laws.specs.Placed.{Aside}
 use Rattle.fs_laws.proofs.Prefixes.{prefix_append, prefix_some, prefix_both}

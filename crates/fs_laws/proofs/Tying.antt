@@ -9,7 +9,7 @@ use Rattle.fs_seq.specs.declared.reply.Reply.{Reply}
 use Rattle.fs_seq.specs.declared.call.Call.{Call}
 use Rattle.fs_nodes.specs.Graphs.{set_at}
 use Rattle.fs_journal.specs.declared.entry.Entry.TheVariants.{Commit}
-use Rattle.fs_ops.specs.Records.{Finished, Record, Records, Phase, Placed, Walking}
+use Rattle.fs_moves.specs.Records.{Finished, Record, Records, Phase, Placed, Walking}
 use Rattle.fs_laws.specs.Books.{Book, IsNext, commit_of, noted}
 use Rattle.fs_laws.specs.Invariants.{remaining_of, spots, IsPlaced, InOrder, Dues, Tied}
 use Rattle.fs_laws.specs.Settled.{settle, settle_replies}

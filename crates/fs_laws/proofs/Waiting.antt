@@ -7,8 +7,8 @@ use Rattle.fs_names.specs.Parts.{HasNames, left}
 use Rattle.fs_seq.specs.Forms.{form, Form, by_text}
 use Rattle.fs_seq.specs.declared.reply.Reply.{Reply}
 use Rattle.fs_nodes.specs.Graphs.{numbers}
-use Rattle.fs_ops.specs.Moves.{Move, Takes, Leaves, Finishes, Ends, next, next_on}
-use Rattle.fs_ops.specs.Records.{Walking, Placed, Finished, Holds, Record, Stand}
+use Rattle.fs_moves.specs.Moves.{Move, Takes, Leaves, Finishes, Ends, next, next_on}
+use Rattle.fs_moves.specs.Records.{Walking, Placed, Finished, Holds, Record, Stand}
 use Rattle.fs_laws.specs.Books.{begins}
 use Rattle.fs_laws.specs.Invariants.{IsUnfinished, Forked, VictimAt, Invariant}
 use Rattle.fs_laws.specs.Progress.{WaitsFor, WaitsBelow, GoesOn, SomebodyGoesOn, IsNeverStuck, HasStep}

@@ -4,7 +4,7 @@ use Rattle.fs_names.specs.Keys.{Key, after_prefix}
 use Rattle.fs_names.specs.Names.{Name}
 use Rattle.fs_names.specs.Parts.{HasNames}
 use Rattle.fs_seq.specs.Maps.{Map}
-use Rattle.fs_ops.specs.Records.{Holds, Stand}
+use Rattle.fs_moves.specs.Records.{Holds, Stand}
 use Rattle.fs_laws.specs.Stands.{IsClear, Located}
 use Rattle.fs_laws.proofs.Passing.{child_cases}
 use Rattle.fs_laws.proofs.Pairs.{OneKey, Ends, ends, ends_same}

@@ -7,10 +7,10 @@ use Rattle.fs_seq.specs.declared.call.Call.{Call}
 use Rattle.fs_seq.specs.declared.errno.Errno.{Errno}
 use Rattle.fs_seq.specs.declared.reply.Reply.{Reply}
 use Rattle.fs_nodes.specs.Graphs.{Graph, set_at, reserved_in}
-use Rattle.fs_ops.specs.Finishes.{finish, Made}
-use Rattle.fs_ops.specs.Leaving.{let_go, finished_op}
-use Rattle.fs_ops.specs.Moves.{Takes, Leaves, next, next_by, took, took_by, target, left_stand, left_last, left_heads, next_on}
-use Rattle.fs_ops.specs.Records.{Phase, Walking, Placed, Finished, Record, Records, Stand, stand_at}
+use Rattle.fs_moves.specs.Finishes.{finish, Made}
+use Rattle.fs_moves.specs.Leaving.{let_go, finished_op}
+use Rattle.fs_moves.specs.Moves.{Takes, Leaves, next, next_by, took, took_by, target, left_stand, left_last, left_heads, next_on}
+use Rattle.fs_moves.specs.Records.{Phase, Walking, Placed, Finished, Record, Records, Stand, stand_at}
 use Rattle.fs_laws.specs.Books.{begins, commit_count}
 use Rattle.fs_laws.specs.Invariants.{IsUnfinished}
 use Rattle.fs_laws.specs.Settled.{names_left}

@@ -8,8 +8,8 @@ use Rattle.fs_seq.specs.declared.reply.Reply.{Reply}
 use Rattle.fs_nodes.specs.Graphs.{at, spell}
 use Rattle.fs_journal.specs.Timeline as journal
 use Rattle.fs_journal.specs.declared.entry.Entry.{Entry}
-use Rattle.fs_ops.specs.Moves.{Finishes, next}
-use Rattle.fs_ops.specs.Records.{Stand, Walking, Placed, Record, Holds}
+use Rattle.fs_moves.specs.Moves.{Finishes, next}
+use Rattle.fs_moves.specs.Records.{Stand, Walking, Placed, Record, Holds}
 use Rattle.fs_laws.specs.Books.{commit_count}
 use Rattle.fs_laws.specs.Invariants.{InOrder, IsIn}
 use Rattle.fs_laws.specs.Settled.{settled_graph, settled_replies}

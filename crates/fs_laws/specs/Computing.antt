@@ -5,8 +5,8 @@ use Rattle.fs_names.specs.Shapes.{Shape, names_of}
 use Rattle.fs_seq.specs.Forms.{form, reserves}
 use Rattle.fs_seq.specs.declared.call.Call.{Call}
 use Rattle.fs_nodes.specs.Graphs.{Graph, reserved_in}
-use Rattle.fs_ops.specs.Moves.{Move, Takes, Leaves, Finishes, Ends, next}
-use Rattle.fs_ops.specs.Records.{Stand, Phase, Walking, Placed, Finished, Record}
+use Rattle.fs_moves.specs.Moves.{Move, Takes, Leaves, Finishes, Ends, next}
+use Rattle.fs_moves.specs.Records.{Stand, Phase, Walking, Placed, Finished, Record}
 use Rattle.fs_laws.specs.Books.{begins}
 use Rattle.fs_laws.specs.States.{State, began, Stepped, Idle, Took, Busy, LetGo, Helped, Committed, CarriedOut, Returned, taking, letting_go, helping, carrying, committing, returning}
 

@@ -8,8 +8,8 @@ use Rattle.fs_seq.specs.Maps.{Map}
 use Rattle.fs_seq.specs.declared.reply.Reply.{Reply}
 use Rattle.fs_seq.specs.declared.call.Call.{Call}
 use Rattle.fs_nodes.specs.Graphs.{Graph, at, numbers, spell, IsGraph}
-use Rattle.fs_ops.specs.Moves.{target}
-use Rattle.fs_ops.specs.Records.{Stand, Walking, Placed, Finished, Record, Records, Holds}
+use Rattle.fs_moves.specs.Moves.{target}
+use Rattle.fs_moves.specs.Records.{Stand, Walking, Placed, Finished, Record, Records, Holds}
 use Rattle.fs_laws.specs.Books.{begins, commit_count, Book, start, book_of, IsLawful}
 use Rattle.fs_laws.specs.Settled.{settle, settle_replies}
 use Rattle.fs_laws.specs.Stands.{Kept}

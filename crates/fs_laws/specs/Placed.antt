@@ -6,7 +6,7 @@ use Rattle.fs_names.specs.Shapes.{Shape, Dir, File}
 use Rattle.fs_seq.specs.Changes.{Change, resolve, resolve_dir, outcome, after}
 use Rattle.fs_seq.specs.Forms.{Form, On, In, Rename, Fits}
 use Rattle.fs_seq.specs.Maps.{Map}
-use Rattle.fs_ops.specs.Moves.{victim_of, same_kind}
+use Rattle.fs_moves.specs.Moves.{victim_of, same_kind}
 use Rattle.fs_laws.specs.Settled.{settle, settle_replies}
 
 -- the kind of what stands at a key, if anything does: true for a directory

@@ -7,9 +7,9 @@ use Rattle.fs_seq.specs.Forms.{Form, On, In, Rename, under}
 use Rattle.fs_seq.specs.Maps.{Map}
 use Rattle.fs_seq.specs.declared.reply.Reply.{Reply}
 use Rattle.fs_nodes.specs.Graphs.{Graph}
-use Rattle.fs_ops.specs.Finishes.{Made, finish}
-use Rattle.fs_ops.specs.Moves.{Move, Takes, Leaves, Finishes, Ends, next, took, left_stand}
-use Rattle.fs_ops.specs.Records.{Record, Records}
+use Rattle.fs_moves.specs.Finishes.{Made, finish}
+use Rattle.fs_moves.specs.Moves.{Move, Takes, Leaves, Finishes, Ends, next, took, left_stand}
+use Rattle.fs_moves.specs.Records.{Record, Records}
 
 -- the record's own moves up to its finish, as if nobody else held a node: at most `steps` of them
 abbrev pub alone_by : ℕ → Graph → Record → Move → Made

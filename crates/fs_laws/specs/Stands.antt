@@ -4,7 +4,7 @@ use Rattle.fs_names.specs.Keys.{Key, after_prefix}
 use Rattle.fs_names.specs.Parts.{HasNames}
 use Rattle.fs_seq.specs.Forms.{Fits}
 use Rattle.fs_seq.specs.Maps.{Map}
-use Rattle.fs_ops.specs.Records.{Stand, Phase, Walking, Placed, Record, Records, Holds}
+use Rattle.fs_moves.specs.Records.{Stand, Phase, Walking, Placed, Record, Records, Holds}
 
 -- the call stands at this key, by the numbers at the keys
 pub record Located (tree : Map ℕ) (key : Key) (st : Stand) : Type 0 where

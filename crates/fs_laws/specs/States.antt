@@ -9,10 +9,10 @@ use Rattle.fs_nodes.specs.Graphs.{Graph, at, empty_graph, reserved_in, set_at}
 use Rattle.fs_nodes.specs.Stores.{used_below}
 use Rattle.fs_journal.specs.declared.entry.Entry.{Entry}
 use Rattle.fs_journal.specs.declared.entry.Entry.TheVariants.{Begin, Commit, Return}
-use Rattle.fs_ops.specs.Finishes.{finish}
-use Rattle.fs_ops.specs.Leaving.{is_removed, releasing, let_go, finished_op, unreserved}
-use Rattle.fs_ops.specs.Moves.{Move, Takes, Leaves, Finishes, Ends, next, took}
-use Rattle.fs_ops.specs.Records.{Stand, Walking, Placed, Finished, Record, Records}
+use Rattle.fs_moves.specs.Finishes.{finish}
+use Rattle.fs_moves.specs.Leaving.{is_removed, releasing, let_go, finished_op, unreserved}
+use Rattle.fs_moves.specs.Moves.{Move, Takes, Leaves, Finishes, Ends, next, took}
+use Rattle.fs_moves.specs.Records.{Stand, Walking, Placed, Finished, Record, Records}
 use Rattle.fs_laws.specs.Books.{begins, commit_count}
 
 -- limit, graph, who holds each node, the calls under way by their numbers, the call on each seat, timeline

@@ -4,7 +4,7 @@ use Rattle.fs_names.specs.Keys.{Key, parent_of}
 use Rattle.fs_names.specs.Parts.{left}
 use Rattle.fs_seq.specs.Forms.{form, Form, On, In, Rename}
 use Rattle.fs_seq.specs.declared.call.Call.{Call}
-use Rattle.fs_ops.specs.Records.{Stand, Phase, Walking, Placed, Finished, Record}
+use Rattle.fs_moves.specs.Records.{Stand, Phase, Walking, Placed, Finished, Record}
 use Rattle.fs_laws.specs.Books.{begins}
 use Rattle.fs_laws.specs.Progress.{GoesOn}
 use Rattle.fs_laws.specs.Settled.{names_left}

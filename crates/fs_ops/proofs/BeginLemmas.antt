@@ -1,36 +1,21 @@
 -- On numbers that are reserved.
-use Rattle.std.proofs.Common.{◌≡◌, ℕ, Bool, true, false, cond, List, IsTrue, Option, Some, None, refl, sym, ap, subst, ◌∙◌}
-use Rattle.std.specs.Prelude.{eqb, option_map, slice_get}
-use Rattle.fs_names.specs.Names.{Name}
+use Rattle.std.proofs.Common.{◌≡◌, ℕ, Bool, true, false, cond, IsTrue, Option, Some, None, refl, sym, ap, subst, ◌∙◌}
+use Rattle.std.specs.Prelude.{eqb}
 use Rattle.fs_names.specs.Shapes.{Shape, is_there, has_entries}
 use Rattle.fs_names.specs.declared.kind.Kind.{Kind}
 use Rattle.fs_names.specs.declared.kind.Kind.TheVariants as kinds
-use Rattle.fs_nodes.specs.declared.node.Link.{Link}
-use Rattle.fs_nodes.specs.declared.node.Node.{Node}
-use Rattle.fs_nodes.specs.Graphs.{Graph, then_at, reserved_in, released_in}
+use Rattle.fs_nodes.specs.Graphs.{Graph, reserved_in, released_in}
 use Rattle.fs_nodes.specs.Places.{Places}
-use Rattle.fs_nodes.specs.Stores.{graph_of, kid_in, shape_in, shape_with, names_in, link_of, content_of, new_shape}
+use Rattle.fs_nodes.specs.Stores.{graph_of, new_shape}
 use Rattle.fs_nodes.proofs.GraphLemmas.{graph_by}
-use Rattle.fs_nodes.proofs.PlaceLemmas.{eqb_true, eqb_refl, kid_link, read_within}
+use Rattle.fs_nodes.proofs.PlaceLemmas.{eqb_true, eqb_refl}
+use Rattle.fs_finish.proofs.UsedLemmas.{kid_used}
 use Rattle.fs_seq.specs.declared.call.Call.{Call}
 use Rattle.fs_ops.specs.Begins.{Reserves}
-use Rattle.fs_ops.specs.Leaving.{unreserved}
-use Rattle.fs_ops.specs.Works.{Work, new_work, BegunAs, IsSpare}
+use Rattle.fs_moves.specs.Leaving.{unreserved}
+use Rattle.fs_moves.specs.Works.{Work, new_work, BegunAs, IsSpare}
 
 -- ---- numbers in use
-
--- what an entry names is in use
-pub kid_used : (ps : List (Option Node)) (d : ℕ) (y : Name) (n : ℕ) → kid_in ps d y ≡ Some n → shape_in ps n ≡ None → ⊥
-kid_used ps d y n k free =
-    let link : Link = record { dir = d; name = y } in
-    let r = read_within link_of ps n link (kid_link ps d y n k) in
-    go r.0 r.1 r.2
-  where
-    go : (p : Option Node) → slice_get ps n ≡ Some p → link_of p ≡ Some (record { dir = d; name = y }) → ⊥
-    go None e l = absurd (cc)
-    go (Some node) e l =
-        let there : shape_in ps n ≡ Some (shape_with (names_in ps n) node.content) = ap (λ (o : Option (Option Node)). option_map (shape_with (names_in ps n)) (then_at o content_of)) e in
-        absurd (cc)
 
 no_entries : (kind : Kind) → has_entries (Some (new_shape kind)) ≡ false
 no_entries kinds.Dir = refl

@@ -12,18 +12,20 @@ use Rattle.fs_seq.specs.declared.reply.Reply.{Reply}
 use Rattle.fs_seq.specs.declared.reply.Reply.TheVariants.{Failed}
 use Rattle.fs_walk.specs.Ways.{Way, ForkWay}
 use Rattle.fs_walk.specs.declared.head.Head as count
-use Rattle.fs_ops.specs.declared.finish.Finish.{Finish}
+use Rattle.fs_finish.specs.declared.finish.Finish.{Finish}
 use Rattle.fs_ops.specs.declared.outcome.Outcome.{Outcome}
 use Rattle.fs_ops.specs.declared.outcome.Outcome.TheVariants.{Fixed}
-use Rattle.fs_ops.specs.Endings.{IsMade, entry_made, heads_stand, finished_by, finish_by}
-use Rattle.fs_ops.specs.Finishes.{Made, kept_as, on_made, in_made, moved_made, rename_made, made_at, made_by, finish}
-use Rattle.fs_ops.specs.Moves.{target, path_error, dir_error, rename_at, walk_errno}
-use Rattle.fs_ops.specs.Records.{Stand, Record, Finished}
-use Rattle.fs_ops.specs.Replies.{refilled}
+use Rattle.fs_finish.specs.Endings.{IsMade, entry_made}
+use Rattle.fs_ops.specs.Counted.{heads_stand, finished_by, finish_by}
+use Rattle.fs_moves.specs.Finishes.{Made, kept_as, on_made, in_made, moved_made, rename_made, made_at, made_by, finish}
+use Rattle.fs_moves.specs.Moves.{target, path_error, dir_error, rename_at, walk_errno}
+use Rattle.fs_moves.specs.Records.{Stand, Record, Finished}
+use Rattle.fs_finish.specs.Replies.{refilled}
 use Rattle.fs_ops.specs.Steps.{started}
 use Rattle.fs_ops.specs.Views.{dropped, stand_of, stand_with, work_of, IsForked, Forks}
-use Rattle.fs_ops.specs.Works.{Work, HeadsApart, IsFinished, graph_after, record_of}
-use Rattle.fs_ops.proofs.KeyLemmas.{parent_drop, parent_length, target_drop}
+use Rattle.fs_moves.specs.Works.{Work, HeadsApart, IsFinished, graph_after, record_of}
+use Rattle.fs_finish.proofs.ParentLemmas.{parent_length}
+use Rattle.fs_ops.proofs.KeyLemmas.{parent_drop, target_drop}
 use Rattle.fs_ops.proofs.HeadLemmas.{some_left, none_left, last_drop}
 use Rattle.fs_ops.proofs.TookLemmas.{stand_node, started_forked}
 

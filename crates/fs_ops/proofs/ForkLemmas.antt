@@ -10,7 +10,7 @@ use Rattle.fs_walk.specs.declared.head.Head as count
 use Rattle.fs_walk.specs.declared.want.Want.TheVariants.{Arrived}
 use Rattle.fs_walk.specs.Ways.{Way, ForkWay, head_name}
 use Rattle.fs_walk.specs.Wants.{at_dir, dir_want, then_want, head_want, fork_want}
-use Rattle.fs_ops.specs.Moves.{Move, dir_error, rename_move, fork_move, first_of, head_move, dir_then}
+use Rattle.fs_moves.specs.Moves.{Move, dir_error, rename_move, fork_move, first_of, head_move, dir_then}
 use Rattle.fs_ops.specs.Nexts.{between_move, heads_move}
 use Rattle.fs_ops.specs.Steps.{started}
 use Rattle.fs_ops.specs.Told.{want_then}

@@ -13,13 +13,15 @@ use Rattle.fs_seq.specs.declared.errno.Errno.{Errno}
 use Rattle.fs_seq.specs.declared.reply.Reply.{Reply}
 use Rattle.fs_seq.specs.declared.reply.Reply.TheVariants.{Failed}
 use Rattle.fs_walk.specs.declared.head.Head as count
-use Rattle.fs_ops.specs.declared.finish.Finish.{Finish}
-use Rattle.fs_ops.specs.Endings.{IsMade, between, made_between, rename_reply, heads_stand}
-use Rattle.fs_ops.specs.Finishes.{Made, moved_made, rename_made}
-use Rattle.fs_ops.specs.Moves.{dir_error, there_by, walk_errno}
-use Rattle.fs_ops.specs.Records.{Stand}
-use Rattle.fs_ops.proofs.KeyLemmas.{parent_drop, parent_length, common_length}
-use Rattle.fs_ops.proofs.TextLemmas.{common_is_length}
+use Rattle.fs_finish.specs.declared.finish.Finish.{Finish}
+use Rattle.fs_finish.specs.Endings.{IsMade, between, made_between, rename_reply}
+use Rattle.fs_ops.specs.Counted.{heads_stand}
+use Rattle.fs_moves.specs.Finishes.{Made, moved_made, rename_made}
+use Rattle.fs_moves.specs.Moves.{dir_error, there_by, walk_errno}
+use Rattle.fs_moves.specs.Records.{Stand}
+use Rattle.fs_finish.proofs.ParentLemmas.{parent_length, common_length}
+use Rattle.fs_ops.proofs.KeyLemmas.{parent_drop}
+use Rattle.fs_finish.proofs.TextLemmas.{common_is_length}
 use Rattle.fs_ops.proofs.WantLemmas.{take_parent_front, left_head}
 
 -- ---- keys

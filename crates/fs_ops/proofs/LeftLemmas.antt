@@ -8,15 +8,15 @@ use Rattle.fs_seq.specs.Forms.{form, Form, On, In, Rename}
 use Rattle.fs_seq.specs.declared.call.Call.{Call}
 use Rattle.fs_seq.specs.declared.reply.Reply.{Reply}
 use Rattle.fs_walk.specs.Ways.{Way, ForkWay, has_set_out}
-use Rattle.fs_ops.specs.Leaving.{is_removed, cleared}
-use Rattle.fs_ops.specs.Moves.{left_last, left_stand}
-use Rattle.fs_ops.specs.Records.{Finished}
+use Rattle.fs_moves.specs.Leaving.{is_removed, cleared}
+use Rattle.fs_moves.specs.Moves.{left_last, left_stand}
+use Rattle.fs_moves.specs.Records.{Finished}
 use Rattle.fs_ops.specs.Steps.{way_after, fork_after}
 use Rattle.fs_ops.specs.Views.{Forks, IsForked, work_of, stand_of, stand_with, reply_of}
-use Rattle.fs_ops.specs.Works.{Work, IsLetGo}
+use Rattle.fs_moves.specs.Works.{Work, IsLetGo}
 use Rattle.fs_ops.specs.declared.outcome.Outcome.{Outcome}
 use Rattle.fs_ops.specs.declared.outcome.Outcome.TheVariants.{Open, Fixed}
-use Rattle.fs_ops.proofs.KeyLemmas.{parent_length}
+use Rattle.fs_finish.proofs.ParentLemmas.{parent_length}
 
 -- names that a head has walked
 some_name : (k : ℕ) (l : Key) → suc k ≤ length l → (x : Name) × ((r : Key) × (l ≡ x ∷ r))

@@ -1,14 +1,8 @@
 pub mod KeyLemmas
-pub mod ListingLemmas
-pub mod WritingLemmas
 pub mod WantLemmas
 pub mod TookLemmas
 pub mod LeftLemmas
 pub mod BeginLemmas
-pub mod EntryLemmas
-pub mod MoveLemmas
-pub mod RenameLemmas
-pub mod TextLemmas
 pub mod NextLemmas
 pub mod ForkLemmas
 pub mod HeadLemmas

@@ -16,20 +16,20 @@ use Rattle.fs_seq.specs.declared.errno.Errno.{Errno}
 use Rattle.fs_walk.specs.declared.want.Want.TheVariants.{Arrived}
 use Rattle.fs_walk.specs.Ways.{Way, ForkWay, name_ahead, fork_last}
 use Rattle.fs_walk.specs.Wants.{want, way_want}
-use Rattle.fs_ops.specs.Endings.{rename_reply}
-use Rattle.fs_ops.specs.Moves.{Move, Finishes, Leaves, there_by, moved_node, take_if, victim_of, target, target_move, first_of, head_move, last_held, next_by}
+use Rattle.fs_finish.specs.Endings.{rename_reply}
+use Rattle.fs_moves.specs.Moves.{Move, Finishes, Leaves, there_by, moved_node, take_if, victim_of, target, target_move, first_of, head_move, last_held, next_by}
 use Rattle.fs_ops.specs.Nexts.{way_move, last_move, held_last}
-use Rattle.fs_ops.specs.Records.{Finished}
+use Rattle.fs_moves.specs.Records.{Finished}
 use Rattle.fs_ops.specs.Told.{want_then}
 use Rattle.fs_ops.specs.Views.{Forks, first_path, dropped, stand_with, stand_of, work_of, reply_of}
-use Rattle.fs_ops.specs.Works.{record_of, next_of}
+use Rattle.fs_moves.specs.Works.{record_of, next_of}
 use Rattle.fs_ops.specs.declared.outcome.Outcome.{Outcome}
 use Rattle.fs_ops.specs.declared.outcome.Outcome.TheVariants.{Open, Fixed}
 use Rattle.fs_ops.proofs.KeyLemmas.{last_drop, target_take}
 use Rattle.fs_ops.proofs.LeftLemmas.{head_taken}
 use Rattle.fs_ops.proofs.TookLemmas.{stand_node}
 use Rattle.fs_ops.proofs.WantLemmas.{walk_tie, head_arrived}
-use Rattle.fs_ops.proofs.EntryLemmas.{entry_some, entry_is}
+use Rattle.fs_finish.proofs.EntryLemmas.{entry_some, entry_is}
 
 -- a rename that nothing refuses really moves its node
 pub moves_node : (store : Places) (source : ℕ) (x : Name) (dest : ℕ) (y : Name) (same_path above one_parent : Bool) (moved : ℕ) (fault : Option Errno) → (graph_of store).kid source x ≡ Some moved → same_path ≡ false

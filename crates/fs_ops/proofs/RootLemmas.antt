@@ -8,8 +8,8 @@ use Rattle.fs_nodes.specs.Graphs.{Graph, empty_graph}
 use Rattle.fs_seq.specs.Forms.{Form, On, In, Rename, form}
 use Rattle.fs_seq.specs.declared.call.Call.{Call}
 use Rattle.fs_seq.specs.declared.reply.Reply.{Reply}
-use Rattle.fs_ops.specs.Records.{Record, Phase, Walking, Stand, stand_at}
-use Rattle.fs_ops.specs.Works.{Work, new_work, phase_of, BegunAs, IsTook, CanFinish, HeadsApart, IsBounded}
+use Rattle.fs_moves.specs.Records.{Record, Phase, Walking, Stand, stand_at}
+use Rattle.fs_moves.specs.Works.{Work, new_work, phase_of, BegunAs, IsTook, CanFinish, HeadsApart, IsBounded}
 
 -- the root alone is within all limits
 no_entries : (b : Bool) (names : List Name) → cond {A = Option Shape} b (Some (Dir [])) None ≡ Some (Dir names) → length names ≤ ENTRY_LIMIT

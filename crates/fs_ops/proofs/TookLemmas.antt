@@ -10,10 +10,10 @@ use Rattle.fs_seq.specs.declared.call.Call.{Call}
 use Rattle.fs_walk.specs.declared.head.Head as count
 use Rattle.fs_walk.specs.Ways as ways
 use Rattle.fs_walk.specs.Ways.{Way, ForkWay, head_name, way_took, may_take, fork_took, has_arrived}
-use Rattle.fs_ops.specs.Moves.{target, inner, behind_of, head_took, source_took, target_took}
+use Rattle.fs_moves.specs.Moves.{target, inner, behind_of, head_took, source_took, target_took}
 use Rattle.fs_ops.specs.Views.{first_path, dropped, head_of, stand_with, work_of, Forks, IsForked}
 use Rattle.fs_ops.specs.Steps.{started, TakesTo}
-use Rattle.fs_ops.specs.Works.{Work, IsTook}
+use Rattle.fs_moves.specs.Works.{Work, IsTook}
 use Rattle.fs_ops.specs.declared.outcome.Outcome.{Outcome}
 use Rattle.fs_ops.proofs.KeyLemmas.{parent_drop, drop_get, tail_drop, target_drop, target_take, take_get}
 use Rattle.fs_ops.proofs.WantLemmas.{left_head}

@@ -2,7 +2,7 @@
 use Rattle.std.specs.Prelude.{ℕ, ◌≡◌, ◌<◌, Option, Some, None}
 use Rattle.fs_names.specs.Shapes.{Shape}
 use Rattle.fs_nodes.specs.Graphs.{Graph, reserved_in}
-use Rattle.fs_ops.specs.Works.{SpareIf}
+use Rattle.fs_moves.specs.Works.{SpareIf}
 
 -- a number that was not in use and that some new node has now
 pub record IsReserved (graph : Graph) (limit : ℕ) (shape : Shape) (n : ℕ) (new : Graph) : Type 0 where

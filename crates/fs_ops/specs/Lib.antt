@@ -1,14 +1,6 @@
-pub mod Records
-pub mod Moves
-pub mod Finishes
-pub mod Leaving
-pub mod Works
-pub mod Rooms
-pub mod Replies
-pub mod Listing
 pub mod Views
 pub mod Told
 pub mod Steps
 pub mod Begins
-pub mod Endings
+pub mod Counted
 pub mod Nexts

@@ -7,9 +7,9 @@ use Rattle.fs_seq.specs.Forms.{Form}
 use Rattle.fs_nodes.specs.Graphs.{Graph, entry_shape}
 use Rattle.fs_walk.specs.Ways.{ForkWay, fork_last}
 use Rattle.fs_walk.specs.Wants.{fork_want}
-use Rattle.fs_ops.specs.Endings.{rename_reply}
-use Rattle.fs_ops.specs.Moves.{Move, Takes, Leaves, Finishes, Ends, take_if, same_kind, moved_node, next_on}
-use Rattle.fs_ops.specs.Records.{Stand}
+use Rattle.fs_finish.specs.Endings.{rename_reply}
+use Rattle.fs_moves.specs.Moves.{Move, Takes, Leaves, Finishes, Ends, take_if, same_kind, moved_node, next_on}
+use Rattle.fs_moves.specs.Records.{Stand}
 use Rattle.fs_ops.specs.Told.{want_then}
 
 -- the node that was taken last: the victim, or that of the head that walked last, or that of the walk

@@ -2,7 +2,7 @@
 use Rattle.std.specs.Prelude.{ℕ, ◌≡◌, cond, option_map, Option, Some, None}
 use Rattle.fs_seq.specs.Forms.{Form}
 use Rattle.fs_walk.specs.Ways.{Way, ForkWay, new_fork, way_ended, has_set_out, fork_returned}
-use Rattle.fs_ops.specs.Moves.{target_took}
+use Rattle.fs_moves.specs.Moves.{target_took}
 use Rattle.fs_ops.specs.Views.{dropped, stand_with}
 
 -- the heads, at a node with so many names before it until they set out

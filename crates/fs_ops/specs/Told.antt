@@ -1,6 +1,6 @@
 -- The moves that the code tells, in the words of the machine.
 use Rattle.std.specs.Prelude.{None}
-use Rattle.fs_ops.specs.Moves as moves
+use Rattle.fs_moves.specs.Moves as moves
 use Rattle.fs_ops.specs.declared.moves.Move.{Move}
 use Rattle.fs_ops.specs.declared.moves.Move.TheVariants.{Take, LetGo, Finish, Return}
 use Rattle.fs_walk.specs.declared.want.Want.{Want}

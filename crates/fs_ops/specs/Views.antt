@@ -8,10 +8,10 @@ use Rattle.fs_walk.specs.Ways.{Way, ForkWay}
 use Rattle.fs_walk.specs.declared.head.Head as count
 use Rattle.fs_ops.specs.declared.outcome.Outcome.{Outcome}
 use Rattle.fs_ops.specs.declared.outcome.Outcome.TheVariants.{Open, Fixed}
-use Rattle.fs_ops.specs.Moves.{target}
-use Rattle.fs_ops.specs.Records.{Head, Stand, head_at}
-use Rattle.fs_ops.specs.Rooms.{Suffices}
-use Rattle.fs_ops.specs.Works.{Work}
+use Rattle.fs_moves.specs.Moves.{target}
+use Rattle.fs_moves.specs.Records.{Head, Stand, head_at}
+use Rattle.fs_finish.specs.Rooms.{Suffices}
+use Rattle.fs_moves.specs.Works.{Work}
 
 -- the path that is walked first, and the one that is walked second
 abbrev pub first_path : Form → Key

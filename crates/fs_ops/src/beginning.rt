@@ -3,17 +3,17 @@
 ghost use Rattle.std.specs.Prelude.{◌≡◌, ◌≤◌, ◌↔◌, Err, None, IfOk, OnErr, IsSome, length, option_map};
 ghost use Rattle.fs_nodes.specs.Stores.{graph_of, in_use, room, new_shape};
 ghost use Rattle.fs_seq.specs.Forms.{form, reserves};
-ghost use Rattle.fs_ops.specs.Moves.{target};
+ghost use Rattle.fs_moves.specs.Moves.{target};
 ghost use Rattle.fs_names.specs.Keys.{parent_of};
 ghost use Rattle.fs_names.specs.Parts.{common};
 ghost use Rattle.fs_ops.specs.Begins.{HasReserved};
-ghost use Rattle.fs_ops.specs.Works.{BegunAs, new_work};
+ghost use Rattle.fs_moves.specs.Works.{BegunAs, new_work};
 
 use crate::ending::give_back;
 use crate::op::Op;
 use crate::outcome::Outcome;
-use crate::room::Room;
-use crate::text::parent_len;
+use fs_finish::room::Room;
+use fs_finish::text::parent_len;
 use fs_names::{Kind, PATH_LIMIT, Path};
 use fs_nodes::{NoNode, NodeNo, Store};
 use fs_seq::Call;

@@ -2,12 +2,12 @@
 
 ghost use Rattle.std.specs.Prelude.{◌≡◌, None};
 ghost use Rattle.fs_nodes.specs.Stores.{graph_of, room};
-ghost use Rattle.fs_ops.specs.Works.{CanFinish, IsFinished, graph_after};
+ghost use Rattle.fs_moves.specs.Works.{CanFinish, IsFinished, graph_after};
 
 use crate::finishing::finish;
 use crate::op::Op;
 use crate::outcome::Outcome;
-use crate::room::Room;
+use fs_finish::room::Room;
 use fs_nodes::Store;
 
 /// The room that was prepared for a finish.

@@ -2,8 +2,8 @@
 
 ghost use Rattle.std.specs.Prelude.{◌≡◌, None, Some, IsSome};
 ghost use Rattle.fs_nodes.specs.Stores.{graph_of, room};
-ghost use Rattle.fs_ops.specs.Leaving.{unreserved};
-ghost use Rattle.fs_ops.specs.Works.{SpareIf};
+ghost use Rattle.fs_moves.specs.Leaving.{unreserved};
+ghost use Rattle.fs_moves.specs.Works.{SpareIf};
 
 use crate::op::Op;
 use crate::outcome::Outcome;

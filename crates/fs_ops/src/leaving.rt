@@ -2,9 +2,9 @@
 
 ghost use Rattle.std.specs.Prelude.{◌≡◌, None, true};
 ghost use Rattle.fs_nodes.specs.Stores.{graph_of, room};
-ghost use Rattle.fs_ops.specs.Leaving.{is_removed, releasing, cleared};
+ghost use Rattle.fs_moves.specs.Leaving.{is_removed, releasing, cleared};
 ghost use Rattle.fs_ops.specs.Steps.{way_freed, fork_freed, heads_freed, fork_after, way_after};
-ghost use Rattle.fs_ops.specs.Works.{IsSpare, IsLetGo};
+ghost use Rattle.fs_moves.specs.Works.{IsSpare, IsLetGo};
 
 use crate::op::Op;
 use fs_nodes::{NodeNo, Store};

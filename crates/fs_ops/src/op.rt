@@ -22,7 +22,7 @@ pub struct Op {
 
 impl Model for Op {
     ghost use Rattle.fs_seq.specs.Forms.{form};
-    ghost use Rattle.fs_ops.specs.Works.{Work};
+    ghost use Rattle.fs_moves.specs.Works.{Work};
     ghost use Rattle.fs_ops.specs.Views.{work_of, IsOp};
 
     ghost Value = { Work };

@@ -1,7 +1,7 @@
 //! What a call has before its finish and after it.
 
-use crate::replies::Replies;
-use crate::room::Room;
+use fs_finish::replies::Replies;
+use fs_finish::room::Room;
 
 /// The room for a finish, or what came of it.
 #[derive(Drop)]

@@ -1,11 +1,9 @@
 //! Calls from their begin to their end, with ample memory.
 
 use crate::op::Op;
-use crate::room::Room;
-use crate::writing::{truncate, write};
 use fs_names::{Kind, Path, PathFault};
 use fs_nodes::{NoNode, NodeNo, Store};
-use fs_seq::{Bytes, Call, Reply};
+use fs_seq::{Call, Reply};
 use fs_seq::errno::Errno;
 use std::alloc::AllocError;
 
@@ -124,63 +122,5 @@ fn no_number_is_left(rt: HostRuntime) -> Result<(), Failure> {
     let call = Call::Mkdir(path(&rt, b"/a")?);
     let full = matches!(Op::begin(rt.alloc(), &call, &mut store), Err(NoNode::Full));
     assert!(rt; full);
-    Ok(())
-}
-
-/// Writes into a file and answers its reply.
-fn write_at(
-    rt: &HostRuntime,
-    store: &mut Store,
-    file: NodeNo,
-    off: u64,
-    bytes: &[u8],
-) -> Result<Reply, Failure> {
-    let mut data = Vec::new(rt.alloc());
-    data.extend_from_slice(bytes)?;
-    let call = Call::Write(path(rt, b"/f")?, off, Bytes::new(data));
-    let room = Room::new(rt.alloc(), &call)?;
-    let Call::Write(_, off, bytes) = &call else {
-        return Err(Failure::Condition);
-    };
-    let (reply, _) = write(store, file, *off, bytes.as_slice(), room).into_pair();
-    Ok(reply)
-}
-
-/// Cuts a file and answers its reply.
-fn cut_to(
-    rt: &HostRuntime,
-    store: &mut Store,
-    file: NodeNo,
-    size: u64,
-) -> Result<Reply, Failure> {
-    let call = Call::Truncate(path(rt, b"/f")?, size);
-    let room = Room::new(rt.alloc(), &call)?;
-    let Call::Truncate(_, size) = &call else {
-        return Err(Failure::Condition);
-    };
-    let (reply, _) = truncate(store, file, *size, room).into_pair();
-    Ok(reply)
-}
-
-/// Whether a file has these bytes.
-fn holds(store: &Store, file: NodeNo, bytes: &[u8]) -> bool {
-    store.content(file) == bytes
-}
-
-#[test]
-fn gaps_are_filled(rt: HostRuntime) -> Result<(), Failure> {
-    let mut store = Store::new(rt.alloc(), 2)?;
-    let file = store.reserve(Kind::File)?;
-    let reply = write_at(&rt, &mut store, file, 3, &[255])?;
-    assert!(rt; reply.same(&Reply::Wrote(1)) && holds(&store, file, &[0, 0, 0, 255]));
-    Ok(())
-}
-
-#[test]
-fn files_are_cut(rt: HostRuntime) -> Result<(), Failure> {
-    let mut store = Store::new(rt.alloc(), 2)?;
-    let file = store.reserve(Kind::File)?;
-    let reply = cut_to(&rt, &mut store, file, 2)?;
-    assert!(rt; reply.same(&Reply::Done) && holds(&store, file, &[0, 0]));
     Ok(())
 }

@@ -7,10 +7,10 @@ ghost use Rattle.fs_names.specs.Parts.{common};
 ghost use Rattle.fs_seq.specs.Forms.{form};
 ghost use Rattle.fs_seq.specs.Forms as forms;
 ghost use Rattle.fs_walk.specs.Ways.{fork_took, has_arrived};
-ghost use Rattle.fs_ops.specs.Moves.{target};
+ghost use Rattle.fs_moves.specs.Moves.{target};
 ghost use Rattle.fs_ops.specs.Views.{Forks};
 ghost use Rattle.fs_ops.specs.Steps.{TakesTo, started};
-ghost use Rattle.fs_ops.specs.Works.{IsTook};
+ghost use Rattle.fs_moves.specs.Works.{IsTook};
 
 use crate::op::Op;
 use fs_names::Path;

@@ -2,7 +2,7 @@ use Rattle.std.proofs.Common.{Some, subst, Option}
 use Rattle.fs_names.specs.Shapes.{Shape}
 use Rattle.fs_nodes.specs.Stores.{graph_of}
 use Rattle.fs_ops.specs.Begins.{HasReserved}
-use Rattle.fs_ops.specs.Works.{IsSpare}
+use Rattle.fs_moves.specs.Works.{IsSpare}
 use Rattle.fs_ops.proofs.BeginLemmas.{reserved_spare, only}
 use Rattle.fs_ops.proofs.beginning.reserve_for.Goals as goal
 

@@ -4,8 +4,8 @@ use Rattle.fs_seq.specs.Forms.{form}
 use Rattle.fs_seq.specs.Forms as calls
 use Rattle.fs_seq.specs.Rows.{on_row}
 use Rattle.fs_walk.specs.declared.head.Head as count
-use Rattle.fs_ops.specs.declared.finish.Finish.{Finish}
-use Rattle.fs_ops.specs.Replies.{refilled}
+use Rattle.fs_finish.specs.declared.finish.Finish.{Finish}
+use Rattle.fs_finish.specs.Replies.{refilled}
 use Rattle.fs_ops.proofs.FinishLemmas.{on_arm, in_arm, forked_here, apart_by, rename_by, stat_keeps, readdir_keeps, read_keeps, unchanged}
 use Rattle.fs_ops.proofs.finishing.finish_at.Goals as goal
 

@@ -2,7 +2,7 @@ use Rattle.std.proofs.Common.{sym, subst, ◌∙◌}
 use Rattle.fs_names.specs.Names.{Name}
 use Rattle.fs_names.specs.Keys.{last_of}
 use Rattle.fs_nodes.specs.Stores.{graph_of}
-use Rattle.fs_ops.specs.Endings.{IsMade, made_between}
+use Rattle.fs_finish.specs.Endings.{IsMade, made_between}
 use Rattle.fs_ops.proofs.HeadLemmas.{rename_done, heads_apart}
 use Rattle.fs_ops.proofs.heads.finish_rename.Goals as goal
 

@@ -5,7 +5,7 @@ use Rattle.fs_seq.specs.Forms.{form}
 use Rattle.fs_walk.specs.Wants.{want}
 use Rattle.fs_walk.specs.declared.want.Want.{Want}
 use Rattle.fs_walk.specs.declared.want.Want.TheVariants.{Take, LetGo, Fails, Arrived}
-use Rattle.fs_ops.specs.Moves.{target_move}
+use Rattle.fs_moves.specs.Moves.{target_move}
 use Rattle.fs_ops.specs.Told.{want_then}
 use Rattle.fs_ops.specs.Views.{first_path, dropped, stand_with}
 use Rattle.fs_ops.proofs.NextLemmas.{way_is, has_walked}

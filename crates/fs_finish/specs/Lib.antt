@@ -1,0 +1,4 @@
+pub mod Rooms
+pub mod Replies
+pub mod Listing
+pub mod Endings

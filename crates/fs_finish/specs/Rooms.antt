@@ -1,0 +1,41 @@
+-- The room that a call makes when it begins, so that its finish takes no memory.
+use Rattle.std.specs.Prelude.{ℕ, ◌≤◌, ◌+◌, length, min}
+use Rattle.fs_names.specs.declared.limits.TheConstants.{ENTRY_LIMIT, FILE_LIMIT}
+use Rattle.fs_seq.specs.Forms.{NodeCall, Stat, Readdir, Read, Write, Truncate, Form, On, In, Rename}
+use Rattle.fs_finish.specs.declared.room.Room.{Room}
+use Rattle.fs_finish.specs.declared.room.Room.TheVariants.{Nothing, Content, Copies, Lists}
+
+-- a buffer for a file's new bytes, where they may be that many
+abbrev pub FitsContent : ℕ → Room → Type 0
+FitsContent n (Content room) = n ≤ FILE_LIMIT → n ≤ room
+FitsContent n Nothing = ⊥
+FitsContent n (Copies a b) = ⊥
+FitsContent n (Lists a b) = ⊥
+
+-- two buffers for this many bytes
+abbrev pub FitsCopies : ℕ → Room → Type 0
+FitsCopies n (Copies a b) = (n ≤ a) × (n ≤ b)
+FitsCopies n Nothing = ⊥
+FitsCopies n (Content room) = ⊥
+FitsCopies n (Lists a b) = ⊥
+
+-- two buffers for the names of a directory
+abbrev pub FitsLists : Room → Type 0
+FitsLists (Lists a b) = (ENTRY_LIMIT ≤ a) × (ENTRY_LIMIT ≤ b)
+FitsLists Nothing = ⊥
+FitsLists (Content room) = ⊥
+FitsLists (Copies a b) = ⊥
+
+-- what a call on a node needs
+abbrev pub SufficesFor : NodeCall → Room → Type 0
+SufficesFor Stat room = Unit {0}
+SufficesFor Readdir room = FitsLists room
+SufficesFor (Read off count) room = FitsCopies (min count FILE_LIMIT) room
+SufficesFor (Write off bytes) room = FitsContent (off + length bytes) room
+SufficesFor (Truncate size) room = FitsContent size room
+
+-- what a call needs
+abbrev pub Suffices : Form → Room → Type 0
+Suffices (On c p) room = SufficesFor c room
+Suffices (In c p) room = Unit {0}
+Suffices (Rename p q) room = Unit {0}

@@ -1,0 +1,130 @@
+//! How the calls on an entry finish at its directory.
+
+ghost use Rattle.std.specs.Prelude.{◌≡◌, ◌<◌, None, IsSome, IsTrue, length};
+ghost use Rattle.fs_names.specs.Keys.{last_of};
+ghost use Rattle.fs_names.specs.Shapes.{Shape, is_dir, is_full};
+ghost use Rattle.fs_nodes.specs.Graphs.{entry_shape};
+ghost use Rattle.fs_nodes.specs.Stores.{kid, shape, graph_of, room};
+ghost use Rattle.fs_seq.specs.Forms as calls;
+ghost use Rattle.fs_seq.specs.Rows.{made, in_there, Remove};
+ghost use Rattle.fs_seq.specs.declared.reply.Reply.TheVariants as answers;
+ghost use Rattle.fs_finish.specs.Endings.{IsMade, entry_made};
+ghost use Rattle.fs_moves.specs.Finishes.{in_made};
+ghost use Rattle.fs_moves.specs.Works.{SpareIf};
+
+use crate::finish::Finish;
+use crate::looking::dir_fault;
+use crate::replies::Replies;
+use crate::text::last_name;
+use fs_names::{ENTRY_LIMIT, Name, Path};
+use fs_nodes::{NodeNo, Store};
+use fs_seq::errno::Errno;
+
+/// The reserved number gets an entry in a directory.
+fn make_in(store: &mut Store, dir: NodeNo, name: &Name, reserved: Option<NodeNo>) -> Finish
+    requires dir { IsTrue (is_dir (shape store.old dir)) }
+    requires spare { SpareIf (graph_of store.old) reserved }
+    ensures made { (new : Shape) → IsMade (in_made (graph_of store.old) dir name.now reserved (made new (is_full (shape store.old dir)) (entry_shape (graph_of store.old) dir name.now))) result (graph_of store.new) }
+    ensures limit { store.new.limit ≡ store.old.limit }
+    ensures room { room store.new ≡ room store.old }
+{
+    if store.find(dir, name).is_some() {
+        return Finish::failed(Errno::Eexist, reserved);
+    }
+    if store.entries(dir) >= ENTRY_LIMIT {
+        return Finish::failed(Errno::Enospc, reserved);
+    }
+    if let Some(node) = reserved {
+        store.link(dir, name, node);
+    }
+    Finish::kept(Replies::done(), None)
+}
+
+/// The entry goes. What it named is the removed node.
+fn remove(store: &mut Store, dir: NodeNo, name: &Name, reserved: Option<NodeNo>) -> Finish
+    requires there { IsSome (kid store.old dir name.now) }
+    ensures made { IsMade (in_made (graph_of store.old) dir name.now reserved (answers.Done, Remove)) result (graph_of store.new) }
+    ensures limit { store.new.limit ≡ store.old.limit }
+    ensures room { room store.new ≡ room store.old }
+{
+    let node = store.unlink(dir, name);
+    Finish {
+        replies: Replies::done(),
+        reserved,
+        removed: Some(node),
+    }
+}
+
+/// The entry of a file goes.
+fn unlink_in(store: &mut Store, dir: NodeNo, name: &Name, reserved: Option<NodeNo>) -> Finish
+    ensures made { IsMade (in_made (graph_of store.old) dir name.now reserved (in_there calls.Unlink (is_full (shape store.old dir)) (entry_shape (graph_of store.old) dir name.now))) result (graph_of store.new) }
+    ensures limit { store.new.limit ≡ store.old.limit }
+    ensures room { room store.new ≡ room store.old }
+{
+    let Some(node) = store.find(dir, name) else {
+        return Finish::failed(Errno::Enoent, reserved);
+    };
+    if store.is_dir(node) {
+        return Finish::failed(Errno::Eperm, reserved);
+    }
+    remove(store, dir, name, reserved)
+}
+
+/// The entry of an empty directory goes.
+fn rmdir_in(store: &mut Store, dir: NodeNo, name: &Name, reserved: Option<NodeNo>) -> Finish
+    ensures made { IsMade (in_made (graph_of store.old) dir name.now reserved (in_there calls.Rmdir (is_full (shape store.old dir)) (entry_shape (graph_of store.old) dir name.now))) result (graph_of store.new) }
+    ensures limit { store.new.limit ≡ store.old.limit }
+    ensures room { room store.new ≡ room store.old }
+{
+    let Some(node) = store.find(dir, name) else {
+        return Finish::failed(Errno::Enoent, reserved);
+    };
+    if store.is_file(node) {
+        return Finish::failed(Errno::Enotdir, reserved);
+    }
+    if store.entries(node) > 0 {
+        return Finish::failed(Errno::Enotempty, reserved);
+    }
+    remove(store, dir, name, reserved)
+}
+
+/// A mkdir or mknod: the reserved number gets the entry.
+pub fn make(store: &mut Store, dir: NodeNo, path: &Path, reserved: Option<NodeNo>) -> Finish
+    requires named { 0 < length path.now }
+    requires spare { SpareIf (graph_of store.old) reserved }
+    ensures mkdir { IsMade (entry_made (graph_of store.old) dir (last_of path.now) reserved calls.Mkdir) result (graph_of store.new) }
+    ensures mknod { IsMade (entry_made (graph_of store.old) dir (last_of path.now) reserved calls.Mknod) result (graph_of store.new) }
+    ensures limit { store.new.limit ≡ store.old.limit }
+    ensures room { room store.new ≡ room store.old }
+{
+    if let Some(errno) = dir_fault(store, dir) {
+        return Finish::failed(errno, reserved);
+    }
+    make_in(store, dir, last_name(path), reserved)
+}
+
+/// An unlink: the entry of a file goes.
+pub fn unlink(store: &mut Store, dir: NodeNo, path: &Path, reserved: Option<NodeNo>) -> Finish
+    requires named { 0 < length path.now }
+    ensures unlink { IsMade (entry_made (graph_of store.old) dir (last_of path.now) reserved calls.Unlink) result (graph_of store.new) }
+    ensures limit { store.new.limit ≡ store.old.limit }
+    ensures room { room store.new ≡ room store.old }
+{
+    if let Some(errno) = dir_fault(store, dir) {
+        return Finish::failed(errno, reserved);
+    }
+    unlink_in(store, dir, last_name(path), reserved)
+}
+
+/// A rmdir: the entry of an empty directory goes.
+pub fn rmdir(store: &mut Store, dir: NodeNo, path: &Path, reserved: Option<NodeNo>) -> Finish
+    requires named { 0 < length path.now }
+    ensures rmdir { IsMade (entry_made (graph_of store.old) dir (last_of path.now) reserved calls.Rmdir) result (graph_of store.new) }
+    ensures limit { store.new.limit ≡ store.old.limit }
+    ensures room { room store.new ≡ room store.old }
+{
+    if let Some(errno) = dir_fault(store, dir) {
+        return Finish::failed(errno, reserved);
+    }
+    rmdir_in(store, dir, last_name(path), reserved)
+}

@@ -1,0 +1,147 @@
+//! The room that a call makes when it begins, so that its finish takes no memory.
+
+ghost use Rattle.std.specs.Prelude.{◌≡◌, ◌≤◌, ◌+◌, [], IfOk, length, min, vec_capacity};
+ghost use Rattle.fs_seq.specs.Forms.{form};
+ghost use Rattle.fs_finish.specs.Rooms.{Suffices, FitsContent, FitsCopies, FitsLists};
+
+use fs_names::{ENTRY_LIMIT, FILE_LIMIT, Name};
+use fs_seq::{Bytes, Call};
+use std::alloc::{AllocError, Global};
+use std::marker::Model;
+
+/// An empty vector of bytes, seen as how many it has room for.
+#[derive(Drop)]
+pub struct ByteRoom {
+    items: Vec<u8>,
+}
+
+impl Model for ByteRoom {
+    ghost use Rattle.std.specs.Prelude.{ℕ, ◌≡◌, [], vec_capacity};
+
+    ghost Value = { ℕ };
+
+    ghost view = { λ r. vec_capacity r.items };
+
+    ghost invariant = { λ r. r.items.items ≡ [] };
+}
+
+impl ByteRoom {
+    /// Room for this many bytes. The only error is a lack of memory.
+    pub fn new(alloc: Global, count: usize) -> Result<ByteRoom, AllocError>
+        ensures { IfOk result (λ room. count ≤ room) }
+    {
+        let items = Vec::with_capacity(alloc, count)?;
+        Ok(ByteRoom { items })
+    }
+
+    /// The vector itself, empty, with the room.
+    pub fn into_vec(self) -> Vec<u8>
+        ensures items { result.items ≡ [] }
+        ensures room { vec_capacity result ≡ self }
+    {
+        let ByteRoom { items } = self;
+        items
+    }
+
+    /// The bytes again. It takes no memory.
+    pub fn copy_of(self, bytes: &[u8]) -> Bytes
+        requires { length bytes.now ≤ self }
+        ensures { result ≡ bytes.now }
+    {
+        let mut items = self.into_vec();
+        let _room_was_made = items.extend_from_slice(bytes);
+        Bytes::new(items)
+    }
+}
+
+/// An empty vector of names, seen as how many it has room for.
+#[derive(Drop)]
+pub struct NameRoom {
+    items: Vec<Name>,
+}
+
+impl Model for NameRoom {
+    ghost use Rattle.std.specs.Prelude.{ℕ, ◌≡◌, [], vec_capacity};
+
+    ghost Value = { ℕ };
+
+    ghost view = { λ r. vec_capacity r.items };
+
+    ghost invariant = { λ r. r.items.items ≡ [] };
+}
+
+impl NameRoom {
+    /// Room for this many names. The only error is a lack of memory.
+    pub fn new(alloc: Global, count: usize) -> Result<NameRoom, AllocError>
+        ensures { IfOk result (λ room. count ≤ room) }
+    {
+        let items = Vec::with_capacity(alloc, count)?;
+        Ok(NameRoom { items })
+    }
+
+    /// The vector itself, empty, with the room.
+    pub fn into_vec(self) -> Vec<Name>
+        ensures items { result.items ≡ [] }
+        ensures room { vec_capacity result ≡ self }
+    {
+        let NameRoom { items } = self;
+        items
+    }
+}
+
+/// What a call has made room for.
+#[derive(Drop)]
+pub enum Room {
+    /// Nothing.
+    Nothing,
+    /// The new bytes of a file.
+    Content(ByteRoom),
+    /// The bytes of two equal replies.
+    Copies(ByteRoom, ByteRoom),
+    /// The names of two equal replies.
+    Lists(NameRoom, NameRoom),
+}
+
+/// Room for the new bytes of a file, unless they are too many.
+fn content(alloc: Global, off: u64, count: u64) -> Result<Room, AllocError>
+    ensures { IfOk result (FitsContent (off + count)) }
+{
+    if off > FILE_LIMIT as u64 || count > FILE_LIMIT as u64 - off {
+        return Ok(Room::Content(ByteRoom::new(alloc, 0)?));
+    }
+    Ok(Room::Content(ByteRoom::new(alloc, (off + count) as usize)?))
+}
+
+/// Room for two times as many bytes as a read may answer.
+fn copies(alloc: Global, count: u64) -> Result<Room, AllocError>
+    ensures { IfOk result (FitsCopies (min count FILE_LIMIT)) }
+{
+    let count = count.min(FILE_LIMIT as u64) as usize;
+    let one = ByteRoom::new(alloc, count)?;
+    let other = ByteRoom::new(alloc, count)?;
+    Ok(Room::Copies(one, other))
+}
+
+/// Room for two times as many names as a directory may have.
+fn lists(alloc: Global) -> Result<Room, AllocError>
+    ensures { IfOk result FitsLists }
+{
+    let one = NameRoom::new(alloc, ENTRY_LIMIT)?;
+    let other = NameRoom::new(alloc, ENTRY_LIMIT)?;
+    Ok(Room::Lists(one, other))
+}
+
+impl Room {
+    /// What the finish of a call needs. The only error is a lack of memory.
+    pub fn new(alloc: Global, call: &Call) -> Result<Room, AllocError>
+        ensures { IfOk result (Suffices (form call.now)) }
+    {
+        match call {
+            Call::Readdir(_) => lists(alloc),
+            Call::Read(_, _, count) => copies(alloc, *count),
+            Call::Write(_, off, bytes) => content(alloc, *off, bytes.as_slice().len() as u64),
+            Call::Truncate(_, size) => content(alloc, 0, *size),
+            _ => Ok(Room::Nothing),
+        }
+    }
+}

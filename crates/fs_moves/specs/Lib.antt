@@ -1,0 +1,5 @@
+pub mod Records
+pub mod Moves
+pub mod Finishes
+pub mod Leaving
+pub mod Works
