@@ -35,24 +35,43 @@ impl From<PathFault> for Failure {
 }
 
 /// A new node with an entry of this name.
-fn make(store: &mut Store, dir: NodeNo, name: &[u8], kind: Kind) -> Result<NodeNo, Failure> {
-    let name = Name::read(name).ok_or(Failure::NoName)?;
+fn make(store: &mut Store, dir: NodeNo, name: &Name, kind: Kind) -> Result<(), Failure> {
     let node = store.reserve(kind)?;
-    let free = store.find(dir, &name).is_none() && store.parent(node).is_none();
+    let free = store.find(dir, name).is_none() && store.parent(node).is_none();
     if !(free && store.is_dir(dir) && store.is_used(node) && node.get() != 0) {
         return Err(Failure::Condition);
     }
-    store.link(dir, &name, node);
-    Ok(node)
+    store.link(dir, name, node);
+    Ok(())
 }
 
-/// The directories /a, /a/b, /a/b/c and the file /a/f, with the numbers 1 to 4.
+/// The same, by the bytes of the name.
+fn add(store: &mut Store, dir: usize, name: &[u8], kind: Kind) -> Result<(), Failure> {
+    match Name::read(name) {
+        Some(name) => make(store, NodeNo::new(dir), &name, kind),
+        None => Err(Failure::NoName),
+    }
+}
+
+/// Of the nodes 1 to 4 each one's directory, name and kind: /a, /a/b, /a/b/c and the file /a/f.
+const TREE: [(usize, &'static [u8], Kind); 4] = [
+    (0, b"a", Kind::Dir),
+    (1, b"b", Kind::Dir),
+    (2, b"c", Kind::Dir),
+    (1, b"f", Kind::File),
+];
+
+fn add_all(store: &mut Store) -> Result<(), Failure> {
+    for i in 0..TREE.len() {
+        let (dir, name, kind) = TREE[i];
+        add(store, dir, name, kind)?;
+    }
+    Ok(())
+}
+
 fn made(rt: &HostRuntime) -> Result<Store, Failure> {
     let mut store = Store::new(rt.alloc(), 8)?;
-    let a = make(&mut store, NodeNo::new(0), b"a", Kind::Dir)?;
-    let b = make(&mut store, a, b"b", Kind::Dir)?;
-    make(&mut store, b, b"c", Kind::Dir)?;
-    make(&mut store, a, b"f", Kind::File)?;
+    add_all(&mut store)?;
     Ok(store)
 }
 
@@ -74,20 +93,56 @@ fn step(op: &mut Op, store: &mut Store) -> Move {
     next
 }
 
-/// Whether a call makes these moves, one after the other.
+/// Whether a call under way makes these moves, one after the other.
+fn goes(op: &mut Op, store: &mut Store, moves: &[Move]) -> bool {
+    for next in moves {
+        if step(op, store) != *next {
+            return false;
+        }
+    }
+    true
+}
+
+/// Whether a call that begins on the tree makes these moves.
 fn makes(rt: &HostRuntime, call: &Call, moves: &[Move]) -> Result<bool, Failure> {
     let mut store = made(rt)?;
     let mut op = Op::begin(rt.alloc(), call, &mut store)?;
-    for next in moves {
-        if step(&mut op, &mut store) != *next {
-            return Ok(false);
-        }
-    }
-    Ok(true)
+    Ok(goes(&mut op, &mut store, moves))
 }
 
 fn path(rt: &HostRuntime, bytes: &[u8]) -> Result<Path, Failure> {
     Ok(Path::parse(rt.alloc(), bytes)?)
+}
+
+fn mkdir(rt: &HostRuntime, text: &[u8], moves: &[Move]) -> Result<bool, Failure> {
+    let call = Call::Mkdir(path(rt, text)?);
+    makes(rt, &call, moves)
+}
+
+fn unlink(rt: &HostRuntime, text: &[u8], moves: &[Move]) -> Result<bool, Failure> {
+    let call = Call::Unlink(path(rt, text)?);
+    makes(rt, &call, moves)
+}
+
+fn rmdir(rt: &HostRuntime, text: &[u8], moves: &[Move]) -> Result<bool, Failure> {
+    let call = Call::Rmdir(path(rt, text)?);
+    makes(rt, &call, moves)
+}
+
+fn stat(rt: &HostRuntime, text: &[u8], moves: &[Move]) -> Result<bool, Failure> {
+    let call = Call::Stat(path(rt, text)?);
+    makes(rt, &call, moves)
+}
+
+fn rename_call(rt: &HostRuntime, from: &[u8], to: &[u8]) -> Result<Call, Failure> {
+    let from = path(rt, from)?;
+    let to = path(rt, to)?;
+    Ok(Call::Rename(from, to))
+}
+
+fn rename(rt: &HostRuntime, from: &[u8], to: &[u8], moves: &[Move]) -> Result<bool, Failure> {
+    let call = rename_call(rt, from, to)?;
+    makes(rt, &call, moves)
 }
 
 fn take(node: usize) -> Move {
@@ -107,46 +162,29 @@ const FINISH: Move = Move::Finish(None);
 
 #[test]
 fn decided_by_its_text(rt: HostRuntime) -> Result<(), Failure> {
-    assert!(rt; makes(&rt, &Call::Rmdir(path(&rt, b"/")?), &[FINISH])?);
-    let below = Call::Rename(path(&rt, b"/a")?, path(&rt, b"/a/x")?);
-    assert!(rt; makes(&rt, &below, &[FINISH])?);
+    assert!(rt; rmdir(&rt, b"/", &[FINISH])?);
+    assert!(rt; rename(&rt, b"/a", b"/a/x", &[FINISH])?);
     Ok(())
 }
 
 #[test]
 fn walks_to_its_target(rt: HostRuntime) -> Result<(), Failure> {
-    let stat = Call::Stat(path(&rt, b"/a/b")?);
-    assert!(rt;
-        makes(
-            &rt,
-            &stat,
-            &[take(0), take(1), let_go(0), take(2), let_go(1), FINISH]
-        )?
-    );
-    let mkdir = Call::Mkdir(path(&rt, b"/a/x")?);
-    assert!(rt; makes(&rt, &mkdir, &[take(0), take(1), let_go(0), FINISH])?);
+    let below = [take(0), take(1), let_go(0), take(2), let_go(1), FINISH];
+    assert!(rt; stat(&rt, b"/a/b", &below)?);
+    assert!(rt; mkdir(&rt, b"/a/x", &[take(0), take(1), let_go(0), FINISH])?);
     Ok(())
 }
 
 #[test]
 fn takes_its_victim(rt: HostRuntime) -> Result<(), Failure> {
-    let unlink = Call::Unlink(path(&rt, b"/a/f")?);
-    assert!(rt;
-        makes(
-            &rt,
-            &unlink,
-            &[take(0), take(1), let_go(0), take(4), FINISH]
-        )?
-    );
-    let rmdir = Call::Rmdir(path(&rt, b"/a/f")?);
-    assert!(rt; makes(&rt, &rmdir, &[take(0), take(1), let_go(0), FINISH])?);
+    assert!(rt; unlink(&rt, b"/a/f", &[take(0), take(1), let_go(0), take(4), FINISH])?);
+    assert!(rt; rmdir(&rt, b"/a/f", &[take(0), take(1), let_go(0), FINISH])?);
     Ok(())
 }
 
 #[test]
 fn heads_of_a_rename(rt: HostRuntime) -> Result<(), Failure> {
-    let rename = Call::Rename(path(&rt, b"/a/f")?, path(&rt, b"/a/b/c/x")?);
-    let all = [
+    let apart = [
         take(0),
         take(1),
         let_go(0),
@@ -155,8 +193,8 @@ fn heads_of_a_rename(rt: HostRuntime) -> Result<(), Failure> {
         let_go(2),
         moving(4),
     ];
-    assert!(rt; makes(&rt, &rename, &all)?);
-    let onto = Call::Rename(path(&rt, b"/a/b/c")?, path(&rt, b"/a/b")?);
-    assert!(rt; makes(&rt, &onto, &[take(0), take(1), let_go(0), take(2), FINISH])?);
+    assert!(rt; rename(&rt, b"/a/f", b"/a/b/c/x", &apart)?);
+    let above = [take(0), take(1), let_go(0), take(2), FINISH];
+    assert!(rt; rename(&rt, b"/a/b/c", b"/a/b", &above)?);
     Ok(())
 }
