@@ -12,8 +12,9 @@ pub enum Task {
 }
 
 fn program<'a>(alloc: Global) -> Result<Command<'a>, Error> {
-    let check = Command::new(alloc, "check")
-        .about("Reads a journal on standard input and tells whether it is lawful");
+    let check = Command::new(alloc, "check").about(
+        "Reads a journal on standard input and tells whether it is lawful",
+    );
     Ok(
         Command::new(alloc, "atomfs")
             .about("A concurrent file tree in memory")

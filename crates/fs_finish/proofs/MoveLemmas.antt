@@ -141,7 +141,7 @@ module _ (graph : Graph) (from : ℕ) (x : Name) (to : ℕ) (y : Name) (n : ℕ)
   moved_again = graph_by
       (λ d z. later (eqb d to && same_name z y) (eqb d from && same_name z x) (Some n) None (graph.kid d z))
       (λ m. ap (λ (l : List Name). cond (eqb m to) (Some (Dir l)) (set_at from (lost without) without m)) names_same
-        ∙ shapes_same m (eqb m to) (eqb m from) refl refl (Some (Dir (inserted_name y (names_of (set_at from (lost graph.shape) graph.shape to))))))
+      ∙ shapes_same m (eqb m to) (eqb m from) refl refl (Some (Dir (inserted_name y (names_of (set_at from (lost graph.shape) graph.shape to))))))
 
 -- ---- what stays where an entry goes
 

@@ -36,7 +36,7 @@ module _ (store : Places) (source : ℕ) (x : Name) (dest : ℕ) (y : Name) (sam
   made_same finish same f =
       let s = entry_some store source x moved k in
       let e : rename_reply (graph_of store) source x dest y same_path above one_parent ≡ (Done, false) =
-          ap (λ (o : Option Shape). from_row o same_path there room) s.1 ∙ ap (λ (b : Bool). from_row (Some s.0) b there room) same in
+      ap (λ (o : Option Shape). from_row o same_path there room) s.1 ∙ ap (λ (b : Bool). from_row (Some s.0) b there room) same in
       by_reply (Done, false) finish (graph_of store) e
       (record { reply = ap (λ (z : Finish). z.replies) f; reserved = ap (λ (z : Finish). z.reserved) f; removed = ap (λ (z : Finish). z.removed) f; graph_is = refl })
 

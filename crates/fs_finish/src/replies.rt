@@ -3,8 +3,8 @@
 ghost use Rattle.std.specs.Prelude.{◌≡◌};
 ghost use Rattle.fs_seq.specs.declared.reply.Reply.TheVariants as answers;
 
-use fs_seq::errno::Errno;
 use fs_seq::Reply;
+use fs_seq::errno::Errno;
 use std::marker::Model;
 
 /// Two equal replies, seen as one: one is handed to the caller, and one goes into the timeline.

@@ -62,12 +62,7 @@ fn write_at(
 }
 
 /// Cuts a file and answers its reply.
-fn cut_to(
-    rt: &HostRuntime,
-    store: &mut Store,
-    file: NodeNo,
-    size: u64,
-) -> Result<Reply, Failure> {
+fn cut_to(rt: &HostRuntime, store: &mut Store, file: NodeNo, size: u64) -> Result<Reply, Failure> {
     let call = Call::Truncate(path(rt, b"/f")?, size);
     let room = Room::new(rt.alloc(), &call)?;
     let Call::Truncate(_, size) = &call else {

@@ -14,8 +14,8 @@ use crate::replies::Replies;
 use crate::room::{ByteRoom, Room};
 use fs_names::FILE_LIMIT;
 use fs_nodes::{NodeNo, Store};
-use fs_seq::errno::Errno;
 use fs_seq::Reply;
+use fs_seq::errno::Errno;
 
 /// Whether a file can be as long as an offset and so many bytes from it on.
 fn fits(off: u64, count: usize) -> bool

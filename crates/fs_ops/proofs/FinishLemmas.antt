@@ -117,9 +117,9 @@ module _ (graph new : Graph) (way : Way) (n : ℕ) (fork : Option ForkWay) (vict
       let none : target (dropped k (Rename p q)) ≡ [] = target_drop k (Rename p q) (omega arith) ∙ none_left k (target (Rename p q)) (omega arith) in
       let same : heads_stand p q k source dest victim ≡ heads_stand p q heads.names heads.source heads.dest victim = (λ i. heads_stand p q (sym forked.names i) (s i) (d i) victim) in
       let parts : rename_made graph (drop k p) (drop k q) (stand_with (Rename p q) n way.behind fork victim) reserved (target (dropped k (Rename p q))) ≡ rename_made graph (drop k p) (drop k q) st reserved [] =
-          (λ i. rename_made graph (drop k p) (drop k q) (started_stand p q way.behind fork way.names i) reserved (none i)) in
+      (λ i. rename_made graph (drop k p) (drop k q) (started_stand p q way.behind fork way.names i) reserved (none i)) in
       let nodes : rename_made graph (drop k p) (drop k q) st reserved [] ≡ rename_made graph (drop k p) (drop k q) (heads_stand p q heads.names heads.source heads.dest victim) reserved [] =
-          by_heads p q (last_of (drop k p)) (last_of (drop k q)) st (rename_at graph (drop k p) (drop k q) st) (graph.kid heads.source.node (last_of (drop k p))) in
+      by_heads p q (last_of (drop k p)) (last_of (drop k q)) st (rename_at graph (drop k p) (drop k q) st) (graph.kid heads.source.node (last_of (drop k p))) in
       as_made _ _ finish new (parts ∙ nodes ∙ ap (λ (z : Stand). rename_made graph (drop k p) (drop k q) z reserved []) (sym same)) made
 
   pub rename_arm : (f : Form) (p q : Key) (source dest : count.Head) → f ≡ Rename p q → Arrives f → way.walked ≡ way.names → way.node ≡ Some n → Forks f way fork
@@ -142,8 +142,8 @@ module _ (way : Way) (n : ℕ) (fork : Option ForkWay) (victim : Option ℕ) (f 
   apart_here source dest apart s d same =
       let heads : ForkWay = started fork n way.names in
       let h : HeadsApart (Rename (drop way.walked p) (drop way.walked q)) (stand_with (Rename p q) n way.behind (Some heads) victim) =
-          subst (λ (z : Stand). HeadsApart (Rename (drop way.walked p) (drop way.walked q)) z) (here_stand way.behind fork way.names)
-          (subst (λ (z : Form). HeadsApart (dropped way.walked z) (stand_with z n way.behind fork victim)) e apart) in
+      subst (λ (z : Stand). HeadsApart (Rename (drop way.walked p) (drop way.walked q)) z) (here_stand way.behind fork way.names)
+      (subst (λ (z : Form). HeadsApart (dropped way.walked z) (stand_with z n way.behind fork victim)) e apart) in
       (λ i. take ((s i).walked) (drop (sym forked_here.names i) p))
       ∙ h (sym (ap (λ (z : count.Head). z.node) s) ∙ same ∙ ap (λ (z : count.Head). z.node) d)
       ∙ (λ i. take ((sym d i).walked) (drop (forked_here.names i) q))
@@ -162,8 +162,8 @@ lost graph f way n fork victim reserved errno finish text node names short e h =
     let at : st.node ≡ n = stand_node f n way.behind fork victim in
     as_made _ (kept_as (Failed errno) graph reserved) finish graph
     ((λ i. finished_by graph (text i) (dropped way.walked f) (stand_of f (node i) way.behind fork victim) reserved)
-      ∙ lost_at graph (dropped way.walked f) st reserved some.0 some.1 (target_drop way.walked f (omega arith) ∙ some.2)
-      ∙ ap (λ (x : Errno). kept_as (Failed x) graph reserved) (ap (λ (m : ℕ). walk_errno (graph.shape m)) at ∙ sym e))
+    ∙ lost_at graph (dropped way.walked f) st reserved some.0 some.1 (target_drop way.walked f (omega arith) ∙ some.2)
+    ∙ ap (λ (x : Errno). kept_as (Failed x) graph reserved) (ap (λ (m : ℕ). walk_errno (graph.shape m)) at ∙ sym e))
     (record { reply = ap (λ (z : Finish). z.replies) h; reserved = ap (λ (z : Finish). z.reserved) h; removed = ap (λ (z : Finish). z.removed) h; graph_is = refl })
 
 -- the finish of a record is the one by counts of names
@@ -203,8 +203,14 @@ module _ (graph : Graph) (call : Call) (way : Way) (fork : Option ForkWay) (vict
       let s : done.reserved ≡ (finish graph (record_of seat place before)).reserved = made.reserved ∙ ap (λ (m : Made). m.reserved) e in
       let t : done.removed ≡ (finish graph (record_of seat place before)).removed = made.removed ∙ ap (λ (m : Made). m.removed) e in
       (λ i. record {
-        seat = seat; call = call; walked = before.walked; remaining = before.remaining; stand = before.stand;
-        phase = Finished (r i); reserved = s i; removed = t i;
+        seat = seat;
+        call = call;
+        walked = before.walked;
+        remaining = before.remaining;
+        stand = before.stand;
+        phase = Finished (r i);
+        reserved = s i;
+        removed = t i;
       })
 
   pub graph_is : new ≡ graph_after graph before

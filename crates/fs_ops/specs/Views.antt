@@ -53,8 +53,13 @@ reply_of (Fixed reply) = Some reply
 abbrev pub work_of : Call → Way → Option ForkWay → Option ℕ → Option ℕ → Option ℕ → Outcome → Work
 work_of call way fork victim reserved removed outcome =
     record {
-      call = call; walked = take way.walked (first_path (form call)); remaining = dropped way.walked (form call);
-      stand = stand_of (form call) way.node way.behind fork victim; reply = reply_of outcome; reserved = reserved; removed = removed;
+      call = call;
+      walked = take way.walked (first_path (form call));
+      remaining = dropped way.walked (form call);
+      stand = stand_of (form call) way.node way.behind fork victim;
+      reply = reply_of outcome;
+      reserved = reserved;
+      removed = removed;
     }
 
 -- a fork of a rename whose walk has come to the common directory; each head is on its way to a parent

@@ -36,7 +36,9 @@ fn common_len(path: &Path, other: &Path) -> usize
     ensures len { result ≡ length (common (parent_of path.now) (parent_of other.now)) }
     ensures most { result ≤ PATH_LIMIT }
 {
-    path.common(other).min(parent_len(path)).min(parent_len(other))
+    path.common(other)
+        .min(parent_len(path))
+        .min(parent_len(other))
 }
 
 /// How many names lead to the target of a call.

@@ -11,11 +11,11 @@ ghost use Rattle.fs_moves.specs.Moves.{target};
 ghost use Rattle.fs_ops.specs.Views.{Forks, IsOp, dropped, stand_of, stand_with};
 ghost use Rattle.fs_moves.specs.Works.{CanFinish};
 
+use crate::heads::{dest_of, finish_rename, source_of};
+use crate::outcome::Outcome;
 use fs_finish::entries::{make, rmdir, unlink};
 use fs_finish::finish::Finish;
-use crate::heads::{dest_of, finish_rename, source_of};
 use fs_finish::looking::{read, readdir, stat, walk_error};
-use crate::outcome::Outcome;
 use fs_finish::room::Room;
 use fs_finish::text::text_error;
 use fs_finish::writing::{truncate, write};
@@ -54,7 +54,16 @@ fn finish_at(
         Call::Rename(path, new_path) => {
             let source = source_of(fork, node);
             let dest = dest_of(fork, node);
-            finish_rename(path, new_path, walk.walked(), source, dest, victim, reserved, store)
+            finish_rename(
+                path,
+                new_path,
+                walk.walked(),
+                source,
+                dest,
+                victim,
+                reserved,
+                store,
+            )
         }
         Call::Stat(_) => Finish::kept(stat(store, node), reserved),
         Call::Readdir(_) => Finish::kept(readdir(store, node, prepared), reserved),
@@ -62,7 +71,10 @@ fn finish_at(
             Finish::kept(read(store, node, *off, *count, prepared), reserved)
         }
         Call::Write(_, off, bytes) => {
-            Finish::kept(write(store, node, *off, bytes.as_slice(), prepared), reserved)
+            Finish::kept(
+                write(store, node, *off, bytes.as_slice(), prepared),
+                reserved,
+            )
         }
         Call::Truncate(_, size) => Finish::kept(truncate(store, node, *size, prepared), reserved),
     }

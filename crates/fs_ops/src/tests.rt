@@ -3,8 +3,8 @@
 use crate::op::Op;
 use fs_names::{Kind, Path, PathFault};
 use fs_nodes::{NoNode, NodeNo, Store};
-use fs_seq::{Call, Reply};
 use fs_seq::errno::Errno;
+use fs_seq::{Call, Reply};
 use std::alloc::AllocError;
 
 #[derive(Debug, Drop)]

@@ -177,7 +177,13 @@ fn walks_to_its_target(rt: HostRuntime) -> Result<(), Failure> {
 
 #[test]
 fn takes_its_victim(rt: HostRuntime) -> Result<(), Failure> {
-    assert!(rt; unlink(&rt, b"/a/f", &[take(0), take(1), let_go(0), take(4), FINISH])?);
+    assert!(rt;
+        unlink(
+            &rt,
+            b"/a/f",
+            &[take(0), take(1), let_go(0), take(4), FINISH]
+        )?
+    );
     assert!(rt; rmdir(&rt, b"/a/f", &[take(0), take(1), let_go(0), FINISH])?);
     Ok(())
 }

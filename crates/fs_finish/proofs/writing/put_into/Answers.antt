@@ -9,6 +9,6 @@ pub returns-clause-graph : goal.returns-clause-graph
 returns-clause-graph c =
     let old = bytes_of (shape c.args.store.now c.args.file) in
     let new = written_whole c.taken_out-new.result.len c.put.new.old c.taken_out-new.result.items (sym c.deref_mut.ensures.len ∙ sym c.put.auto.old)
-        ∙ c.put.ensures
-        ∙ overwritten old c.deref_mut.result.now c.args.off c.args.bytes.now (c.deref_mut.ensures.value ∙ c.taken_out-new.ensures.bytes) in
+    ∙ c.put.ensures
+    ∙ overwritten old c.deref_mut.result.now c.args.off c.args.bytes.now (c.deref_mut.ensures.value ∙ c.taken_out-new.ensures.bytes) in
     c.swap_content.ensures.graph ∙ c.taken_out-new.ensures.graph _ ∙ ap (λ (b : List ℕ). content_in c.args.file b (graph_of c.args.store.now)) new

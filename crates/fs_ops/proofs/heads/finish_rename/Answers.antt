@@ -10,9 +10,9 @@ pub rename-requires-clause-apart : goal.rename-requires-clause-apart
 rename-requires-clause-apart c n l =
     c.paths_of-paths.ensures.same
     ∙ heads_apart (graph_of c.args.store.now) c.args.path.now c.args.new_path.now c.args.names c.args.source c.args.dest c.args.victim c.args.reserved
-        c.requires.text c.requires.shared c.requires.source c.requires.dest c.requires.apart
-        (sym c.in_default.is ∙ c.head_fault.ensures) (sym c.in_default-head_fault.is ∙ c.head_fault-2.ensures)
-        n (sym c.last_name-name.ensures ∙ l ∙ c.last_name-new_name.ensures)
+    c.requires.text c.requires.shared c.requires.source c.requires.dest c.requires.apart
+    (sym c.in_default.is ∙ c.head_fault.ensures) (sym c.in_default-head_fault.is ∙ c.head_fault-2.ensures)
+    n (sym c.last_name-name.ensures ∙ l ∙ c.last_name-new_name.ensures)
 
 pub returns-clause-made : goal.returns-clause-made
 returns-clause-made c =
@@ -20,8 +20,8 @@ returns-clause-made c =
     let new = graph_of c.rename.new.store in
     let paths = c.paths_of-paths.result in
     let made = subst (λ (y : Name). IsMade (made_between g c.args.source.node (last_of c.args.path.now) c.args.dest.node y paths.same paths.above paths.one_parent c.args.victim c.args.reserved) c.rename.result new) c.last_name-new_name.ensures
-        (subst (λ (x : Name). IsMade (made_between g c.args.source.node x c.args.dest.node c.last_name-new_name.result.now paths.same paths.above paths.one_parent c.args.victim c.args.reserved) c.rename.result new) c.last_name-name.ensures c.rename.ensures.made) in
+    (subst (λ (x : Name). IsMade (made_between g c.args.source.node x c.args.dest.node c.last_name-new_name.result.now paths.same paths.above paths.one_parent c.args.victim c.args.reserved) c.rename.result new) c.last_name-name.ensures c.rename.ensures.made) in
     rename_done g c.args.path.now c.args.new_path.now c.args.names c.args.source c.args.dest c.args.victim c.args.reserved
-        paths.same paths.above paths.one_parent c.rename.result new c.requires.text c.requires.shared
-        (sym c.in_default.is ∙ c.head_fault.ensures) (sym c.in_default-head_fault.is ∙ c.head_fault-2.ensures)
-        c.paths_of-paths.ensures.same c.paths_of-paths.ensures.above c.paths_of-paths.ensures.one_parent made
+    paths.same paths.above paths.one_parent c.rename.result new c.requires.text c.requires.shared
+    (sym c.in_default.is ∙ c.head_fault.ensures) (sym c.in_default-head_fault.is ∙ c.head_fault-2.ensures)
+    c.paths_of-paths.ensures.same c.paths_of-paths.ensures.above c.paths_of-paths.ensures.one_parent made

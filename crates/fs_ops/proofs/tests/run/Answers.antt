@@ -8,9 +8,9 @@ use Rattle.fs_ops.proofs.tests.run.Goals as goal
 pub carry_out-requires-clause-unfinished : goal.carry_out-requires-clause-unfinished
 carry_out-requires-clause-unfinished c =
     unfinished (graph_of c.in_ok-store.store) (graph_of c.begin.new.store) c.in_ok-store.store.limit c.args.call.now (reserves (form c.args.call.now)) c.in_ok-op.op c.took.new.self c.new-2.result
-        c.in_ok-op.ensures.ok (ap is_some (sym c.reserved.ensures) ∙ sym c.is_some.ensures ∙ c.if-is_some.false) c.took.ensures
+    c.in_ok-op.ensures.ok (ap is_some (sym c.reserved.ensures) ∙ sym c.is_some.ensures ∙ c.if-is_some.false) c.took.ensures
 
 pub carry_out-requires-clause-can : goal.carry_out-requires-clause-can
 carry_out-requires-clause-can c =
     can_finish (graph_of c.in_ok-store.store) (graph_of c.begin.new.store) c.in_ok-store.store.limit c.args.call.now (reserves (form c.args.call.now)) c.in_ok-op.op c.took.new.self c.new-2.result
-        c.in_ok-store.ensures.graph c.in_ok-op.ensures.ok (ap is_some (sym c.reserved.ensures) ∙ sym c.is_some.ensures ∙ c.if-is_some.false) c.took.ensures
+    c.in_ok-store.ensures.graph c.in_ok-op.ensures.ok (ap is_some (sym c.reserved.ensures) ∙ sym c.is_some.ensures ∙ c.if-is_some.false) c.took.ensures
