@@ -5,3 +5,4 @@ pub mod Schedules
 pub mod RunTexts
 pub mod Runs
 pub mod Stages
+pub mod Seeds

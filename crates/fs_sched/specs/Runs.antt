@@ -1,5 +1,5 @@
 -- Runs of scripts, event by event.
-use Rattle.std.specs.Prelude.{ℕ, ◌≡◌, ◌+◌, ◌<◌, ◌⊎◌, Bool, true, false, ◌||◌, List, [], ◌∷◌, length, replicate, get_or, slice_get, slice_set, is_some, Result, Ok, Option, Some, None}
+use Rattle.std.specs.Prelude.{ℕ, ◌≡◌, ◌+◌, ◌-◌, ◌^◌, min, ◌<◌, ◌⊎◌, Bool, true, false, ◌||◌, List, [], ◌∷◌, length, replicate, get_or, slice_get, slice_set, is_some, Result, Ok, Option, Some, None}
 use Rattle.std.specs.List.{range_with_len}
 use Rattle.fs_names.specs.declared.limits.TheConstants.{NODE_LIMIT}
 use Rattle.fs_journal.specs.declared.entry.Entry.{Entry}
@@ -77,9 +77,9 @@ abbrev pub calls_in : List (List Call) → ℕ
 calls_in [] = 0
 calls_in (calls ∷ lists) = length calls + calls_in lists
 
--- the numbers of entries of each kind, and of the script's calls
+-- the numbers of entries of each kind, and of the script's calls, of which there are no more than a text has lines
 abbrev pub end_of : Script → List Entry → RunEnd
-end_of script entries = record { begun = number_of kind.Begin entries; committed = number_of kind.Commit entries; returned = number_of kind.Return entries; calls = calls_in script.lists }
+end_of script entries = record { begun = number_of kind.Begin entries; committed = number_of kind.Commit entries; returned = number_of kind.Return entries; calls = min (2 ^ 64 - 1) (calls_in script.lists) }
 
 -- the numbers and the text of a run of a script
 abbrev pub IsOutput : Schedule → Script → RunEnd → List ℕ → Type 0

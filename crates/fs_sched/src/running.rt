@@ -1,6 +1,6 @@
 //! The runner that runs a script.
 
-ghost use Rattle.std.specs.Prelude.{◌≡◌, ◌≢◌, ◌+◌, ◌-◌, ◌<◌, ◌^◌, ℕ, List, Ok, Err, IfOk, OnOk, OnErr, IfErr, IfSome, IsErrOf};
+ghost use Rattle.std.specs.Prelude.{◌≡◌, ◌≢◌, ◌+◌, ◌-◌, ◌<◌, ◌^◌, ℕ, List, min, map, Ok, Err, IfOk, OnOk, OnErr, IfErr, IfSome, IsErrOf};
 ghost use Rattle.std.specs.Io.KnownBytes.{Appends, IsAtEnd};
 ghost use Rattle.fs_text.specs.declared.fault.ScriptFault.{ScriptFault};
 ghost use Rattle.fs_script.specs.Script.{script_of};
@@ -16,7 +16,8 @@ use crate::schedule::Schedule;
 use crate::texts::{EntryKind, number_of, run_text};
 use crate::writing::write_text;
 use fs_journal::Entry;
-use fs_script::{CallLists, Script, read_script};
+use fs_script::{Script, read_script};
+use fs_seq::Call;
 use std::alloc::Global;
 
 /// How a run ended: how many calls began, took their place and returned, of how many calls of the script.
@@ -35,13 +36,13 @@ struct MadeText {
     end: RunEnd,
 }
 
-/// How many calls there are.
-fn calls_in(lists: &CallLists) -> usize
-    ensures { result ≡ calls_in lists.now }
+/// How many calls the lists have.
+fn count_calls(lists: &[Vec<Call>]) -> usize
+    ensures { result ≡ min (2 ^ 64 - 1) (calls_in (map (λ calls. calls.items) lists.now)) }
 {
-    let mut count = 0;
-    for calls in lists.as_slice() {
-        count += calls.len();
+    let mut count = 0usize;
+    for calls in lists {
+        count = count.saturating_add(calls.len());
     }
     count
 }
@@ -53,7 +54,7 @@ fn end_of(script: &Script, entries: &[Entry]) -> RunEnd
         begun: number_of(EntryKind::Begin, entries),
         committed: number_of(EntryKind::Commit, entries),
         returned: number_of(EntryKind::Return, entries),
-        calls: calls_in(&script.lists),
+        calls: count_calls(script.lists.as_slice()),
     }
 }
 
