@@ -5,3 +5,4 @@ pub mod RunTextLemmas
 pub mod Rounds
 pub mod Staging
 pub mod SeedLemmas
+pub mod CountLemmas

@@ -16,33 +16,36 @@ use Rattle.fs_sched.specs.Runs.{Stage, next_call, has_more, Event, Goes, Starts,
 -- ---- how much is left to do
 
 -- the steps that calls take at most, and their begins
-calls_work : List Call → ℕ
+abbrev calls_work : List Call → ℕ
 calls_work [] = 0
 calls_work (call ∷ calls) = (first_work (form call) + 1) + calls_work calls
 
 -- the same of the calls of each thread that are left
-owed : List (List Call) → List ℕ → ℕ
+abbrev owed : List (List Call) → List ℕ → ℕ
 owed [] begun = 0
 owed (calls ∷ lists) [] = 0
 owed (calls ∷ lists) (n ∷ begun) = calls_work (drop n calls) + owed lists begun
 
 -- the events that are not spent and not busy, at most
-pub left_over : List (List Call) → Stage → ℕ
+abbrev pub left_over : List (List Call) → Stage → ℕ
 left_over lists s = work s.state + owed lists s.begun
 
-one_call_less : (calls : List Call) (n : ℕ) (call : Call) → slice_get calls n ≡ Some call → calls_work (drop (n + 1) calls) + (first_work (form call) + 1) ≡ calls_work (drop n calls)
+one_call_less : (calls : List Call) (n : ℕ) (call : Call) → slice_get calls n ≡ Some call → calls_work (drop (suc n) calls) + (first_work (form call) + 1) ≡ calls_work (drop n calls)
 one_call_less [] n call e = absurd (let z : ◌≡◌ {A = Option Call} None (Some call) = e in cc)
 one_call_less (c ∷ calls) zero call e = let z : ◌≡◌ {A = Option Call} (Some c) (Some call) = e in let y : c ≡ call = cc in let x : first_work (form c) ≡ first_work (form call) = ap (λ (a : Call). first_work (form a)) y in omega (arith, x)
 one_call_less (c ∷ calls) (suc n) call e = one_call_less calls n call e
 
-owed_less : (lists : List (List Call)) (begun : List ℕ) (seat : ℕ) (call : Call) → length begun ≡ length lists → slice_get (get_or lists seat []) (get_or begun seat 0) ≡ Some call
-    → owed lists (slice_set begun seat (get_or begun seat 0 + 1)) + (first_work (form call) + 1) ≡ owed lists begun
-owed_less [] begun seat call same e = absurd (let z : ◌≡◌ {A = Option Call} None (Some call) = e in cc)
-owed_less (calls ∷ lists) [] seat call same e = absurd (let z : 0 ≡ suc (length lists) = same in omega (arith, z))
-owed_less (calls ∷ lists) (n ∷ begun) zero call same e = let h : calls_work (drop (n + 1) calls) + (first_work (form call) + 1) ≡ calls_work (drop n calls) = one_call_less calls n call e in omega (arith, h)
-owed_less (calls ∷ lists) (n ∷ begun) (suc seat) call same e =
+owed_less : (lists : List (List Call)) (begun : List ℕ) (seat v : ℕ) (call : Call) → length begun ≡ length lists → v ≡ suc (get_or begun seat 0) → slice_get (get_or lists seat []) (get_or begun seat 0) ≡ Some call
+    → owed lists (slice_set begun seat v) + (first_work (form call) + 1) ≡ owed lists begun
+owed_less [] begun seat v call same one e = absurd (let z : ◌≡◌ {A = Option Call} None (Some call) = e in cc)
+owed_less (calls ∷ lists) [] seat v call same one e = absurd (let z : 0 ≡ suc (length lists) = same in omega (arith, z))
+owed_less (calls ∷ lists) (n ∷ begun) zero v call same one e =
+    let h : calls_work (drop (suc n) calls) + (first_work (form call) + 1) ≡ calls_work (drop n calls) = one_call_less calls n call e in
+    let g : calls_work (drop v calls) ≡ calls_work (drop (suc n) calls) = ap (λ (k : ℕ). calls_work (drop k calls)) one in
+    omega (arith, h, g)
+owed_less (calls ∷ lists) (n ∷ begun) (suc seat) v call same one e =
     let l : length begun ≡ length lists = (let z : suc (length begun) ≡ suc (length lists) = same in omega (arith, z)) in
-    let h : owed lists (slice_set begun seat (get_or begun seat 0 + 1)) + (first_work (form call) + 1) ≡ owed lists begun = owed_less lists begun seat call l e in
+    let h : owed lists (slice_set begun seat v) + (first_work (form call) + 1) ≡ owed lists begun = owed_less lists begun seat v call l one e in
     omega (arith, h)
 
 -- ---- one event
@@ -58,7 +61,7 @@ starts_less : (lists : List (List Call)) (old new : Stage) (seat c : ℕ) (call 
 starts_less lists old new seat c call run same is begins set =
     let a : work new.state ≡ work old.state + first_work (form call) = adds_work old.state run seat c call new.state begins in
     let b : owed lists new.begun ≡ owed lists (slice_set old.begun seat (get_or old.begun seat 0 + 1)) = ap (owed lists) set in
-    let d : owed lists (slice_set old.begun seat (get_or old.begun seat 0 + 1)) + (first_work (form call) + 1) ≡ owed lists old.begun = owed_less lists old.begun seat call same is in
+    let d : owed lists (slice_set old.begun seat (get_or old.begun seat 0 + 1)) + (first_work (form call) + 1) ≡ owed lists old.begun = owed_less lists old.begun seat (get_or old.begun seat 0 + 1) call same (omega arith) is in
     omega (arith, a, b, d)
 
 -- it leaves all as it was, or less to do
@@ -104,7 +107,7 @@ event_length lists old new seat (Spent off none e) = ap (λ (s : Stage). length 
 
 -- ---- several events
 
-Each : (ℕ → Type 0) → List ℕ → Type 0
+abbrev Each : (ℕ → Type 0) → List ℕ → Type 0
 Each P [] = Unit {0}
 Each P (x ∷ xs) = P x × Each P xs
 
@@ -112,6 +115,9 @@ each_in : (P : ℕ → Type 0) (a n k : ℕ) → Each P (range_with_len a n) →
 each_in P a zero k all less = absurd (omega (arith, less))
 each_in P a (suc n) zero all less = let e : a ≡ a + 0 = omega arith in subst P e all.0
 each_in P a (suc n) (suc k) all less = let e : (a + 1) + k ≡ a + suc k = omega arith in subst P e (each_in P (a + 1) n k all.1 (omega (arith, less)))
+
+each_at : (P : ℕ → Type 0) (n k : ℕ) → Each P (range_with_len 0 n) → k < n → P k
+each_at P n k all less = let e : 0 + k ≡ k = omega arith in subst P e (each_in P 0 n k all less)
 
 data AllFall (lists : List (List Call)) (old : Stage) (seats : List ℕ) (new : Stage) : Type 0 where
   Still : new ≡ old → Each (λ seat. Event lists old seat old) seats → AllFall lists old seats new
@@ -150,7 +156,7 @@ no_more lists s run seat c answer new on step g (Goes d other on_d step_d kept) 
     omega (arith, a, b)
 
 -- seats of calls under way are those of threads
-pub AreSeats : List (List Call) → Stage → Type 0
+abbrev pub AreSeats : List (List Call) → Stage → Type 0
 AreSeats lists s = (seat c : ℕ) → s.state.on_seat seat ≡ Some c → seat < length lists
 
 nobody : (lists : List (List Call)) (s : Stage) → Run s.state → length s.begun ≡ length lists → AreSeats lists s → Each (λ seat. Event lists s seat s) (range_with_len 0 (length lists)) → (seat : ℕ) → has_more lists s seat ≡ true → Event lists s seat s → ⊥
@@ -161,7 +167,7 @@ nobody lists s run same seats each seat more (Goes c answer on step kept) = go (
     by : SomebodyGoesOn s.state → ⊥
     by w =
         let on_w : (d : ℕ) × (s.state.on_seat w.seat ≡ Some d) = on_seat_of s.state w.seat w.answer w.new w.step w.goes_on in
-        no_more lists s run w.seat on_w.0 w.answer w.new on_w.1 w.step w.goes_on (each_in (λ x. Event lists s x s) 0 (length lists) w.seat each (seats w.seat on_w.0 on_w.1))
+        no_more lists s run w.seat on_w.0 w.answer w.new on_w.1 w.step w.goes_on (each_at (λ x. Event lists s x s) (length lists) w.seat each (seats w.seat on_w.0 on_w.1))
 
     go : (op : Record) × (s.state.ops c ≡ Some op) × (op.seat ≡ seat) → ⊥
     go (op, is, e) = by (never_stuck s.state run c op is)
@@ -171,4 +177,4 @@ round_falls lists old new run same seats (seat, less, more) events = go (events_
   where
     go : AllFall lists old (range_with_len 0 (length lists)) new → left_over lists new + 1 ≤ left_over lists old
     go (Fewer h) = h
-    go (Still e each) = absurd (nobody lists old run same seats each seat more (each_in (λ x. Event lists old x old) 0 (length lists) seat each less))
+    go (Still e each) = absurd (nobody lists old run same seats each seat more (each_at (λ x. Event lists old x old) (length lists) seat each less))
