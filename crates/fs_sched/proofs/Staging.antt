@@ -102,6 +102,11 @@ call_there lists calls s seat at call a b less is = ap₂ (λ (cs : List Call) (
 pub call_not_there : (lists : List (List Call)) (calls : List Call) (s : Stage) (seat at : ℕ) → calls ≡ get_or lists seat [] → at ≡ get_or s.begun seat 0 → length calls ≤ at → next_call lists s seat ≡ None
 call_not_there lists calls s seat at a b more = ap₂ (λ (cs : List Call) (i : ℕ). slice_get cs i) (sym a) (sym b) ∙ slice_get_past calls at more
 
+pub default_same : (xs : List ℕ) (i d e : ℕ) → i < length xs → get_or xs i d ≡ get_or xs i e
+default_same [] i d e h = absurd (let z : i < 0 = h in omega (arith, z))
+default_same (x ∷ xs) zero d e h = refl
+default_same (x ∷ xs) (suc i) d e h = default_same xs i d e (let z : suc i < suc (length xs) = h in omega (arith, z))
+
 -- rounds to the end
 abbrev pub LeadsToEnd : List (List Call) → Stage → Stage → Type 0
 LeadsToEnd lists old now = (last : Stage) → ToEnd lists now last → ToEnd lists old last
