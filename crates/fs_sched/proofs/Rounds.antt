@@ -178,3 +178,6 @@ round_falls lists old new run same seats (seat, less, more) events = go (events_
     go : AllFall lists old (range_with_len 0 (length lists)) new → left_over lists new + 1 ≤ left_over lists old
     go (Fewer h) = h
     go (Still e each) = absurd (nobody lists old run same seats each seat more (each_at (λ x. Event lists old x old) (length lists) seat each less))
+
+pub round_smaller : (lists : List (List Call)) (old new : Stage) → Run old.state → length old.begun ≡ length lists → AreSeats lists old → IsUnfinished lists old → Round lists old new → left_over lists new < left_over lists old
+round_smaller lists old new run same seats more round = let h : left_over lists new + 1 ≤ left_over lists old = round_falls lists old new run same seats more round in omega (arith, h)
