@@ -4,5 +4,5 @@ pub mod DrawLemmas
 pub mod RunTextLemmas
 pub mod Rounds
 pub mod Staging
-pub mod SeedLemmas
 pub mod CountLemmas
+pub mod RunLemmas

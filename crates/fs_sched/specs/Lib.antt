@@ -5,4 +5,3 @@ pub mod Schedules
 pub mod RunTexts
 pub mod Runs
 pub mod Stages
-pub mod Seeds

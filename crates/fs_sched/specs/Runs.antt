@@ -1,5 +1,5 @@
 -- Runs of scripts, event by event.
-use Rattle.std.specs.Prelude.{ℕ, ◌≡◌, ◌+◌, ◌-◌, ◌^◌, min, ◌<◌, ◌⊎◌, Bool, true, false, ◌||◌, List, [], ◌∷◌, length, replicate, get_or, slice_get, slice_set, is_some, Result, Ok, Option, Some, None}
+use Rattle.std.specs.Prelude.{ℕ, ◌≡◌, ◌+◌, ◌-◌, ◌^◌, min, ◌<◌, Bool, true, false, ◌||◌, List, [], ◌∷◌, length, replicate, get_or, slice_get, slice_set, is_some, Ok, Option, Some, None}
 use Rattle.std.specs.List.{range_with_len}
 use Rattle.fs_names.specs.declared.limits.TheConstants.{NODE_LIMIT}
 use Rattle.fs_journal.specs.declared.entry.Entry.{Entry}

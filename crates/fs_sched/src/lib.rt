@@ -9,7 +9,6 @@ mod reading;
 mod running;
 mod texts;
 mod schedule;
-mod seeding;
 #[cfg(test)]
 mod tests;
 mod verdict_line;
@@ -20,5 +19,4 @@ pub use device::{Device, Failed, Sink, Source};
 pub use fault::RunFault;
 pub use running::{RunEnd, run_script};
 pub use texts::{EntryKind, number_of, run_text};
-pub use seeding::run_seeds;
 pub use schedule::{DRAW_LIMIT, Draws, Schedule};

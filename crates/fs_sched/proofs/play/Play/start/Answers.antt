@@ -1,4 +1,4 @@
-use Rattle.std.proofs.Common.{ℕ, ◌≡◌, ◌+◌, ◌<◌, length, get_or, slice_set, sym, ap, subst, ◌∙◌, arith}
+use Rattle.std.proofs.Common.{ℕ, ◌≡◌, ◌+◌, ◌<◌, length, get_or, slice_set, ap, subst, ◌∙◌, arith}
 use Rattle.fs_core.specs.Machines.{state_of}
 use Rattle.fs_laws.specs.States.{Begins, Begun_as}
 use Rattle.fs_sched.specs.Runs.{Starts}
