@@ -11,7 +11,7 @@ mod words;
 
 use clap::Error;
 use clap::error::ErrorKind;
-use fs_sched::{Device, RunEnd, RunFault, Schedule, Sink, Source, check_journal, run_script, run_seeds};
+use fs_sched::{Device, RunEnd, RunFault, Schedule, Sink, Source, check_journal, run_script};
 use std::alloc::Global;
 use std::process::ExitCode;
 use words::Task;
@@ -83,10 +83,6 @@ fn perform(rt: &HostRuntime, task: &Task) -> u8 {
     let mut writer = Device::new(rt.stdout());
     match task {
         Task::Run(schedule) => ended(rt, run(alloc, &mut reader, &mut writer, *schedule)),
-        Task::Seeds(seed, runs) => match seed.checked_add(*runs) {
-            Some(_) => ended(rt, run_seeds(alloc, &mut reader, &mut writer, *seed, *runs)),
-            None => 2,
-        },
         Task::Check => ended(rt, check_journal(alloc, &mut reader, &mut writer)),
     }
 }

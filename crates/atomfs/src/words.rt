@@ -1,7 +1,7 @@
 //! The words of the program, read by `clap`.
 
 use clap::error::ErrorKind;
-use clap::{Arg, ArgAction, ArgMatches, Command, Error, value_parser};
+use clap::{Arg, ArgAction, ArgMatches, Command, Error};
 use fs_sched::Schedule;
 use std::alloc::Global;
 
@@ -10,8 +10,6 @@ use std::alloc::Global;
 pub enum Task {
     /// A run of a script, by its own schedule or by round robin.
     Run(Schedule),
-    /// Runs of a script that are drawn from a number, the next one, and so on; and how many.
-    Seeds(u64, u64),
     /// The verdict on a journal.
     Check,
 }
@@ -21,39 +19,24 @@ fn run_command<'a>(alloc: Global) -> Result<Command<'a>, Error> {
         .long("robin")
         .action(ArgAction::SetTrue)
         .help("One event of each thread in turn, and not the script's schedule");
-    Ok(Command::new(alloc, "run")
-        .about("Runs a script on standard input and writes its journal and tree")
-        .arg(robin)?)
-}
-
-fn seeds_command<'a>(alloc: Global) -> Result<Command<'a>, Error> {
-    let seed = Arg::new(alloc, "seed")
-        .long("seed")
-        .value_name("N")
-        .required(true)
-        .value_parser(value_parser!(u64).range(0..=i64::MAX))
-        .help("The number that the first run is drawn from");
-    let runs = Arg::new(alloc, "runs")
-        .long("runs")
-        .value_name("K")
-        .required(true)
-        .value_parser(value_parser!(u64).range(1..=10_000))
-        .help("How many runs are drawn, from N, N + 1 and so on");
-    Ok(Command::new(alloc, "seeds")
-        .about("Runs a script on standard input many times, with drawn schedules")
-        .arg(seed)?
-        .arg(runs)?)
+    Ok(
+        Command::new(alloc, "run")
+            .about("Runs a script on standard input and writes its journal and tree")
+            .arg(robin)?,
+    )
 }
 
 fn program<'a>(alloc: Global) -> Result<Command<'a>, Error> {
-    let check = Command::new(alloc, "check")
-        .about("Reads a journal on standard input and tells whether it is lawful");
-    Ok(Command::new(alloc, "atomfs")
-        .about("A concurrent file tree in memory")
-        .subcommand_required(true)
-        .subcommand(run_command(alloc)?)?
-        .subcommand(seeds_command(alloc)?)?
-        .subcommand(check)?)
+    let check = Command::new(alloc, "check").about(
+        "Reads a journal on standard input and tells whether it is lawful",
+    );
+    Ok(
+        Command::new(alloc, "atomfs")
+            .about("A concurrent file tree in memory")
+            .subcommand_required(true)
+            .subcommand(run_command(alloc)?)?
+            .subcommand(check)?,
+    )
 }
 
 /// The schedule of a run.
@@ -69,10 +52,6 @@ fn task_of<'a>(matches: &ArgMatches<'a>) -> Option<Task> {
     let (name, given) = matches.subcommand()?;
     match name {
         "run" => Some(Task::Run(schedule_of(given))),
-        "seeds" => Some(Task::Seeds(
-            given.get_one::<u64>("seed")?,
-            given.get_one::<u64>("runs")?,
-        )),
         "check" => Some(Task::Check),
         _ => None,
     }
