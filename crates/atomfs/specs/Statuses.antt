@@ -1,5 +1,6 @@
 -- The status that the program ends with.
-use Rattle.std.specs.Prelude.{ℕ, Bool, true, false, Result, Ok, Err}
+use Rattle.std.specs.Prelude.{ℕ, ◌==◌, Bool, true, false, Result, Ok, Err}
+use Rattle.fs_sched.specs.declared.running.RunEnd.{RunEnd}
 use Rattle.fs_sched.specs.declared.fault.RunFault.{RunFault}
 use Rattle.fs_sched.specs.declared.fault.RunFault.TheVariants.{Input, Read, Write, OutOfMemory, Full}
 
@@ -16,3 +17,7 @@ abbrev pub status_of : Result Bool RunFault → ℕ
 status_of (Ok true) = 0
 status_of (Ok false) = 1
 status_of (Err fault) = status_of_fault fault
+
+-- every call of the script returned
+abbrev pub is_whole : RunEnd → Bool
+is_whole end = end.returned == end.calls

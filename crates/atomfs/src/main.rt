@@ -1,8 +1,9 @@
-//! The program: `atomfs check` reads a journal on standard input and writes the verdict on it.
+//! The program: `atomfs run` and `atomfs seeds` run a script on standard input, and `atomfs check` reads a journal there;
+//! each writes what came of it.
 #![tactic(auto)]
 
-ghost use Rattle.std.specs.Prelude.{◌≡◌};
-ghost use Rattle.atomfs.specs.Statuses.{status_of_fault, status_of};
+ghost use Rattle.std.specs.Prelude.{◌≡◌, ◌<◌, ◌-◌, ◌^◌};
+ghost use Rattle.atomfs.specs.Statuses.{status_of_fault, status_of, is_whole};
 
 #[cfg(test)]
 mod tests;
@@ -10,8 +11,8 @@ mod words;
 
 use clap::Error;
 use clap::error::ErrorKind;
-use fs_sched::{Device, RunFault, check_journal};
-use std::io;
+use fs_sched::{Device, RunEnd, RunFault, Schedule, Sink, Source, check_journal, run_script};
+use std::alloc::Global;
 use std::process::ExitCode;
 use words::Task;
 
@@ -52,28 +53,43 @@ fn refused(rt: &HostRuntime, error: Error) -> u8 {
     error.exit_code() as u8
 }
 
-/// The status where the words were not had: 4 for want of memory, 2 where one is not UTF-8.
-fn unreadable(rt: &HostRuntime, error: &io::Error) -> u8 {
-    if error.kind() == io::ErrorKind::OutOfMemory {
-        return ended(rt, Err(RunFault::OutOfMemory));
+/// Whether every call of a run's script returned.
+fn is_whole(end: &RunEnd) -> bool
+    ensures { result ≡ is_whole end.now }
+{
+    end.returned == end.calls
+}
+
+/// Runs a script, and tells whether every call of it returned.
+fn run<R: Source, W: Sink>(
+    alloc: Global,
+    reader: &mut R,
+    writer: &mut W,
+    schedule: Schedule,
+) -> Result<bool, RunFault>
+    requires reads { R.failures reader.old < 2 ^ 64 - 1 }
+    requires writes { W.failures writer.old < 2 ^ 64 - 1 }
+{
+    match run_script(alloc, reader, writer, schedule) {
+        Ok(end) => Ok(is_whole(&end)),
+        Err(fault) => Err(fault),
     }
-    let _ = rt.eprintln("error: a word is not UTF-8");
-    2
 }
 
 /// Does what the words ask for, from standard input to standard output, and answers the status.
 fn perform(rt: &HostRuntime, task: &Task) -> u8 {
+    let alloc = rt.alloc();
     let mut reader = Device::new(rt.stdin());
     let mut writer = Device::new(rt.stdout());
     match task {
-        Task::Check => ended(rt, check_journal(rt.alloc(), &mut reader, &mut writer)),
+        Task::Run(schedule) => ended(rt, run(alloc, &mut reader, &mut writer, *schedule)),
+        Task::Check => ended(rt, check_journal(alloc, &mut reader, &mut writer)),
     }
 }
 
 fn status(rt: &HostRuntime) -> u8 {
-    let args = match std::env::args(rt) {
-        Ok(args) => args,
-        Err(error) => return unreadable(rt, &error),
+    let Ok(args) = std::env::args(rt) else {
+        return 2;
     };
     let collected: Result<Vec<String>, _> = args.collect(rt.alloc());
     let Ok(given) = collected else {

@@ -1,14 +1,29 @@
 //! The words of the program, read by `clap`.
 
 use clap::error::ErrorKind;
-use clap::{ArgMatches, Command, Error};
+use clap::{Arg, ArgAction, ArgMatches, Command, Error};
+use fs_sched::Schedule;
 use std::alloc::Global;
 
 /// What the words ask for.
 #[derive(Clone, Copy, Debug, PartialEq, Eq)]
 pub enum Task {
+    /// A run of a script, by its own schedule or by round robin.
+    Run(Schedule),
     /// The verdict on a journal.
     Check,
+}
+
+fn run_command<'a>(alloc: Global) -> Result<Command<'a>, Error> {
+    let robin = Arg::new(alloc, "robin")
+        .long("robin")
+        .action(ArgAction::SetTrue)
+        .help("One event of each thread in turn, and not the script's schedule");
+    Ok(
+        Command::new(alloc, "run")
+            .about("Runs a script on standard input and writes its journal and tree")
+            .arg(robin)?,
+    )
 }
 
 fn program<'a>(alloc: Global) -> Result<Command<'a>, Error> {
@@ -19,13 +34,24 @@ fn program<'a>(alloc: Global) -> Result<Command<'a>, Error> {
         Command::new(alloc, "atomfs")
             .about("A concurrent file tree in memory")
             .subcommand_required(true)
+            .subcommand(run_command(alloc)?)?
             .subcommand(check)?,
     )
 }
 
+/// The schedule of a run.
+fn schedule_of<'a>(matches: &ArgMatches<'a>) -> Schedule {
+    if matches.get_flag("robin") {
+        Schedule::RoundRobin
+    } else {
+        Schedule::Given
+    }
+}
+
 fn task_of<'a>(matches: &ArgMatches<'a>) -> Option<Task> {
-    let (name, _) = matches.subcommand()?;
+    let (name, given) = matches.subcommand()?;
     match name {
+        "run" => Some(Task::Run(schedule_of(given))),
         "check" => Some(Task::Check),
         _ => None,
     }

@@ -3,3 +3,5 @@ pub mod Checks
 pub mod Devices
 pub mod Schedules
 pub mod RunTexts
+pub mod Runs
+pub mod Stages

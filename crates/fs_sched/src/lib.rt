@@ -1,10 +1,12 @@
-//! Runners from a reader to a writer: the check of journals; and the order of events by each schedule.
+//! Runners from a reader to a writer: runs of scripts by each schedule, and the check of journals.
 #![tactic(auto)]
 
 mod checking;
 pub mod device;
 mod fault;
+mod play;
 mod reading;
+mod running;
 mod schedule;
 #[cfg(test)]
 mod tests;
@@ -15,5 +17,6 @@ mod writing;
 pub use checking::check_journal;
 pub use device::{Device, Failed, Sink, Source};
 pub use fault::RunFault;
+pub use running::{RunEnd, run_script};
 pub use schedule::{DRAW_LIMIT, Draws, Schedule};
 pub use texts::{EntryKind, number_of, run_text};

@@ -281,3 +281,174 @@ fn writes_run_texts(rt: HostRuntime) -> Result<(), Fail> {
     );
     Ok(())
 }
+
+/// What a script's run writes, or the words of the fault.
+fn ran(alloc: Global, text: &[u8], schedule: Schedule) -> Result<Vec<u8>, Fail> {
+    let mut reader = Device::new(text);
+    let mut writer = Device::new(Vec::new(alloc));
+    match run_script(alloc, &mut reader, &mut writer, schedule) {
+        Ok(_) => Ok(writer.inner),
+        Err(_) if !writer.inner.is_empty() => Err(Fail::from("written after a fault")),
+        Err(fault) => Ok(format!(in alloc; "{fault}")?.into_bytes()),
+    }
+}
+
+#[test]
+fn runs_given_events(rt: HostRuntime) -> Result<(), Fail> {
+    let rows: [(&[u8], &[u8]); 10] = [
+        (
+            b"atomfs 1\nschedule\n",
+            b"atomfs-journal 1\ntree\ndir /\nbegun 0 committed 0 returned 0\n",
+        ),
+        (
+            b"atomfs 1\nthread t\nmkdir /a\nschedule\nt*5\n",
+            b"atomfs-journal 1\nbegin 1 0 mkdir /a\ncommit 1\nreturn 1 ok\ntree\ndir /\ndir /a\nbegun 1 committed 1 returned 1\n",
+        ),
+        (
+            b"atomfs 1\nthread t\nmkdir /a\nschedule\nt*4\n",
+            b"atomfs-journal 1\nbegin 1 0 mkdir /a\ncommit 1\ntree\ndir /\ndir /a\nbegun 1 committed 1 returned 0\n",
+        ),
+        (
+            b"atomfs 1\nthread t\nmkdir /a\nschedule\nt*2\n",
+            b"atomfs-journal 1\nbegin 1 0 mkdir /a\ntree\ndir /\nbegun 1 committed 0 returned 0\n",
+        ),
+        (
+            b"atomfs 1\nthread t\nmkdir /a\nschedule\nt*9\n",
+            b"atomfs-journal 1\nbegin 1 0 mkdir /a\ncommit 1\nreturn 1 ok\ntree\ndir /\ndir /a\nbegun 1 committed 1 returned 1\n",
+        ),
+        (HELPED_MKDIR, HELPED_MKDIR_RUN),
+        (LOWEST_FIRST, LOWEST_FIRST_RUN),
+        (HELPED_RENAME, HELPED_RENAME_RUN),
+        (VICTIM, VICTIM_RUN),
+        (TWO_ON_ONE, TWO_ON_ONE_RUN),
+    ];
+    for (script, want) in rows {
+        assert_eq!(rt; ran(rt.alloc(), script, Schedule::Given)?.as_slice(), want);
+    }
+    Ok(())
+}
+
+/// A rename helps a mkdir that stands below what it moves.
+const HELPED_MKDIR: &[u8] =
+    b"atomfs 1\nthread m\nmkdir /a\nmkdir /a/d\nmkdir /a/d/x\nthread r\nrename /a /b\nschedule\nm*18 r*6 m*3\n";
+
+const HELPED_MKDIR_RUN: &[u8] = b"atomfs-journal 1
+begin 1 0 mkdir /a
+commit 1
+return 1 ok
+begin 2 0 mkdir /a/d
+commit 2
+return 2 ok
+begin 3 0 mkdir /a/d/x
+begin 4 1 rename /a /b
+commit 3
+commit 4
+return 4 ok
+return 3 ok
+tree
+dir /
+dir /b
+dir /b/d
+dir /b/d/x
+begun 4 committed 4 returned 4
+";
+
+/// A rename helps the call that stands lowest first.
+const LOWEST_FIRST: &[u8] =
+    b"atomfs 1\nthread m\nmkdir /a\nmkdir /a/d\nmkdir /a/d/e\nmkdir /a/d/e/x\nthread k\nrmdir /a/d/e\nthread r\nrename /a /b\nschedule\nm*21 k m*8 k*5 r*7 finish\n";
+
+const LOWEST_FIRST_RUN: &[u8] = b"atomfs-journal 1
+begin 1 0 mkdir /a
+commit 1
+return 1 ok
+begin 2 0 mkdir /a/d
+commit 2
+return 2 ok
+begin 3 0 mkdir /a/d/e
+commit 3
+return 3 ok
+begin 4 1 rmdir /a/d/e
+begin 5 0 mkdir /a/d/e/x
+begin 6 2 rename /a /b
+commit 5
+commit 4
+commit 6
+return 6 ok
+return 5 ok
+return 4 failed ENOTEMPTY
+tree
+dir /
+dir /b
+dir /b/d
+dir /b/d/e
+dir /b/d/e/x
+begun 6 committed 6 returned 6
+";
+
+/// A rename helps a rename.
+const HELPED_RENAME: &[u8] =
+    b"atomfs 1\nthread m\nmkdir /a\nmkdir /a/p\nmkdir /a/q\nmknod /a/p/s\nrename /a/p/s /a/q/t\nthread r\nrename /a /b\nschedule\nm*32 r*6 finish\n";
+
+const HELPED_RENAME_RUN: &[u8] = b"atomfs-journal 1
+begin 1 0 mkdir /a
+commit 1
+return 1 ok
+begin 2 0 mkdir /a/p
+commit 2
+return 2 ok
+begin 3 0 mkdir /a/q
+commit 3
+return 3 ok
+begin 4 0 mknod /a/p/s
+commit 4
+return 4 ok
+begin 5 0 rename /a/p/s /a/q/t
+begin 6 1 rename /a /b
+commit 5
+commit 6
+return 6 ok
+return 5 ok
+tree
+dir /
+dir /b
+dir /b/p
+dir /b/q
+file /b/q/t -
+begun 6 committed 6 returned 6
+";
+
+/// An unlink waits for the file that a write holds.
+const VICTIM: &[u8] =
+    b"atomfs 1\nthread w\nmknod /f\nwrite /f 0 6869\nthread u\nunlink /f\nschedule\nw*9 u*3 finish\n";
+
+const VICTIM_RUN: &[u8] = b"atomfs-journal 1
+begin 1 0 mknod /f
+commit 1
+return 1 ok
+begin 2 0 write /f 0 6869
+begin 3 1 unlink /f
+commit 2
+return 2 wrote 2
+commit 3
+return 3 ok
+tree
+dir /
+begun 3 committed 3 returned 3
+";
+
+/// Two threads make one name; the second finds it there.
+const TWO_ON_ONE: &[u8] =
+    b"atomfs 1\nthread s\nmkdir /a\nthread t\nmknod /a\nschedule\nt s*9 t*9\n";
+
+const TWO_ON_ONE_RUN: &[u8] = b"atomfs-journal 1
+begin 1 1 mknod /a
+begin 2 0 mkdir /a
+commit 2
+return 2 ok
+commit 1
+return 1 failed EEXIST
+tree
+dir /
+dir /a
+begun 2 committed 2 returned 2
+";

@@ -21,7 +21,7 @@ fn kind_text(kind: FaultKind) -> &'static [u8]
     }
 }
 
-fn push_verdict(verdict: &Verdict, line: &mut Addition) -> Result<(), AllocError>
+pub(crate) fn push_verdict(verdict: &Verdict, line: &mut Addition) -> Result<(), AllocError>
     ensures ok { OnOk result (line.new.added ≡ line.old.added ++ verdict_line verdict.now) }
     ensures before { line.new.before ≡ line.old.before }
 {

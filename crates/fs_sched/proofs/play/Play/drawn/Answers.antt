@@ -1,0 +1,21 @@
+use Rattle.std.proofs.Common.{◌≡◌, length, rules, arith}
+use Rattle.fs_sched.specs.Stages.{stage_of}
+use Rattle.fs_sched.proofs.Staging.{lead_more, lead_end, draws_more, draws_end, over_stays}
+use Rattle.fs_sched.proofs.play.Play.drawn.Goals as goal
+
+pub returns-then-not-is_unfinished-clause-events : goal.returns-then-not-is_unfinished-clause-events
+returns-then-not-is_unfinished-clause-events c = c.loop.invariant.lead (stage_of c.loop.self) (over_stays c.args.lists.now c.loop.self c.loop.invariant.seats (c.if-not-is_unfinished.ensures.over (search rules)) _)
+
+pub loop-preserved : goal.loop-preserved
+loop-preserved c =
+    let h : length c.loop.self.begun.items ≡ length c.args.lists.now = c.loop.invariant.seats.begun in
+    let e : c.len.result ≡ length c.args.lists.now = omega (arith, h) in
+    record {
+      seats = c.in_ok-event.ensures.seats;
+      lead = lead_more c.args.lists.now (stage_of c.args.self.now) (stage_of c.loop.self) (stage_of c.event.new.self) _ _ _ c.seat-seat.result
+          (draws_more c.len.result (length c.args.lists.now) c.loop.counter c.seat-seat.result c.loop.draws c.seat-seat.new.self e c.loop-test.true c.seat-seat.ensures)
+          c.loop.invariant.lead c.in_ok-event.ensures.event;
+    }
+
+pub returns-clause-events : goal.returns-clause-events
+returns-clause-events c = lead_end c.args.lists.now (stage_of c.args.self.now) (stage_of c.loop.self) _ _ (draws_end (length c.args.lists.now) c.loop.counter c.loop.draws c.loop-test.false) c.loop.invariant.lead

@@ -1,0 +1,18 @@
+use Rattle.std.proofs.Common.{rules}
+use Rattle.fs_sched.specs.Runs.{Over}
+use Rattle.fs_sched.specs.Stages.{stage_of}
+use Rattle.fs_sched.proofs.Rounds.{round_smaller}
+use Rattle.fs_sched.proofs.Staging.{round_more, seats_there}
+use Rattle.fs_sched.proofs.play.Play.finish.Goals as goal
+
+pub rounds-smaller : goal.rounds-smaller
+rounds-smaller c = round_smaller c.args.lists.now (stage_of c.rounds.self) (stage_of c.round.new.self) c.told.ensures.run c.rounds.invariant.seats.begun (seats_there c.args.lists.now c.rounds.self c.rounds.invariant.seats) (c.rounds-test.ensures.unfinished (search rules)) c.in_ok-round.ensures.round
+
+pub rounds-preserved : goal.rounds-preserved
+rounds-preserved c = record {
+  seats = c.in_ok-round.ensures.seats;
+  lead = round_more c.args.lists.now (stage_of c.args.self.now) (stage_of c.rounds.self) (stage_of c.round.new.self) c.rounds.invariant.lead (c.rounds-test.ensures.unfinished (search rules)) c.in_ok-round.ensures.round;
+}
+
+pub returns-clause-ended : goal.returns-clause-ended
+returns-clause-ended c = c.rounds.invariant.lead (stage_of c.rounds.self) (Over (c.rounds-test.ensures.over (search rules)))

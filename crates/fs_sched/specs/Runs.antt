@@ -1,0 +1,90 @@
+-- Runs of scripts, event by event.
+use Rattle.std.specs.Prelude.{ℕ, ◌≡◌, ◌+◌, ◌-◌, ◌^◌, min, ◌<◌, Bool, true, false, ◌||◌, List, [], ◌∷◌, length, replicate, get_or, slice_get, slice_set, is_some, Ok, Option, Some, None}
+use Rattle.std.specs.List.{range_with_len}
+use Rattle.fs_names.specs.declared.limits.TheConstants.{NODE_LIMIT}
+use Rattle.fs_journal.specs.declared.entry.Entry.{Entry}
+use Rattle.fs_seq.specs.declared.call.Call.{Call}
+use Rattle.fs_script.specs.Script.{script_of}
+use Rattle.fs_script.specs.declared.script.Script.{Script}
+use Rattle.fs_laws.specs.States.{State, Begins, Begun_as, Step, Stepped, empty}
+use Rattle.fs_sched.specs.RunTexts.{IsRunText, number_of}
+use Rattle.fs_sched.specs.declared.texts.EntryKind.TheVariants as kind
+use Rattle.fs_sched.specs.declared.running.RunEnd.{RunEnd}
+use Rattle.fs_sched.specs.Schedules.{seats_before, goes_on}
+use Rattle.fs_sched.specs.declared.schedule.Schedule.{Schedule}
+
+-- where a run stands: the machine's state, and how many calls of each thread have begun
+pub record Stage : Type 0 where
+  pub state : State
+  pub begun : List ℕ
+
+-- before the first event
+abbrev pub start : ℕ → Stage
+start threads = record { state = empty NODE_LIMIT; begun = replicate threads 0 }
+
+-- the next call of a thread, where one is left
+abbrev pub next_call : List (List Call) → Stage → ℕ → Option Call
+next_call lists s seat = slice_get (get_or lists seat []) (get_or s.begun seat 0)
+
+-- a thread has a call under way, or one left
+abbrev pub has_more : List (List Call) → Stage → ℕ → Bool
+has_more lists s seat = is_some (s.state.on_seat seat) || is_some (next_call lists s seat)
+
+-- an event of a thread: a step of its call under way, else the begin of its next call, else nothing
+pub data Event (lists : List (List Call)) (old : Stage) (seat : ℕ) (new : Stage) : Type 0 where
+  Goes : (c : ℕ) (answer : Stepped) → old.state.on_seat seat ≡ Some c → Step old.state seat answer new.state → new.begun ≡ old.begun → Event lists old seat new
+  Starts : (c : ℕ) (call : Call) → old.state.on_seat seat ≡ None → next_call lists old seat ≡ Some call → Begins old.state seat call (Begun_as c) new.state
+      → new.begun ≡ slice_set old.begun seat (get_or old.begun seat 0 + 1) → Event lists old seat new
+  Spent : old.state.on_seat seat ≡ None → next_call lists old seat ≡ None → new ≡ old → Event lists old seat new
+
+-- events in order, of the threads with these seats
+abbrev pub Events : List (List Call) → Stage → List ℕ → Stage → Type 0
+Events lists old [] new = new ≡ old
+Events lists old (seat ∷ seats) new = (middle : Stage) × Event lists old seat middle × Events lists middle seats new
+
+-- one event of each thread, in the order of the blocks
+abbrev pub Round : List (List Call) → Stage → Stage → Type 0
+Round lists old new = Events lists old (range_with_len 0 (length lists)) new
+
+-- no thread has a call under way, or one left
+abbrev pub IsOver : List (List Call) → Stage → Type 0
+IsOver lists s = (seat : ℕ) → seat < length lists → has_more lists s seat ≡ false
+
+-- some thread has
+abbrev pub IsUnfinished : List (List Call) → Stage → Type 0
+IsUnfinished lists s = (seat : ℕ) × (seat < length lists) × (has_more lists s seat ≡ true)
+
+-- rounds to the end: while some thread has a call under way, or one left, a round
+pub data ToEnd (lists : List (List Call)) : Stage → Stage → Type 0 where
+  Over : {last : Stage} → IsOver lists last → ToEnd lists last last
+  More : {old middle last : Stage} → IsUnfinished lists old → Round lists old middle → ToEnd lists middle last → ToEnd lists old last
+
+-- rounds to the end, where they follow
+abbrev pub EndsBy : Bool → List (List Call) → Stage → Stage → Type 0
+EndsBy true lists old last = ToEnd lists old last
+EndsBy false lists old last = last ≡ old
+
+-- a run of a script by a schedule, from a stage on
+abbrev pub RunsFrom : Schedule → Script → Stage → Stage → Type 0
+RunsFrom schedule script old last = (middle : Stage) × Events script.lists old (seats_before schedule script.words (length script.lists)) middle × EndsBy (goes_on schedule script.words) script.lists middle last
+
+-- a run of a script by a schedule, from its first stage to its last
+abbrev pub Runs : Schedule → Script → Stage → Type 0
+Runs schedule script last = RunsFrom schedule script (start (length script.lists)) last
+
+-- how many calls a script has
+abbrev pub calls_in : List (List Call) → ℕ
+calls_in [] = 0
+calls_in (calls ∷ lists) = length calls + calls_in lists
+
+-- the numbers of entries of each kind, and of the script's calls, of which there are no more than a text has lines
+abbrev pub end_of : Script → List Entry → RunEnd
+end_of script entries = record { begun = number_of kind.Begin entries; committed = number_of kind.Commit entries; returned = number_of kind.Return entries; calls = min (2 ^ 64 - 1) (calls_in script.lists) }
+
+-- the numbers and the text of a run of a script
+abbrev pub IsOutput : Schedule → Script → RunEnd → List ℕ → Type 0
+IsOutput schedule script end text = (last : Stage) × Runs schedule script last × (end ≡ end_of script last.state.timeline) × IsRunText last.state.timeline last.state.graph text
+
+-- the same of the script that an input has
+abbrev pub IsRunOf : Schedule → List ℕ → RunEnd → List ℕ → Type 0
+IsRunOf schedule input end text = (script : Script) × (script_of input ≡ Ok script) × IsOutput schedule script end text

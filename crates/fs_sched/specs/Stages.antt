@@ -1,0 +1,33 @@
+-- Where a run stands that the code does.
+use Rattle.std.specs.Prelude.{ℕ, ◌≡◌, length, Result, Err}
+use Rattle.fs_core.specs.Machines.{state_of}
+use Rattle.fs_text.specs.declared.fault.ScriptFault.{ScriptFault}
+use Rattle.fs_sched.specs.Runs.{Stage}
+use Rattle.fs_sched.specs.declared.play.Play.{Play}
+use Rattle.fs_sched.specs.declared.fault.RunFault.{RunFault}
+use Rattle.fs_sched.specs.declared.fault.RunFault.TheVariants.{Input, Read, Write, OutOfMemory, Full}
+
+-- the core's state, and how many calls of each thread have begun
+abbrev pub stage_of : Play → Stage
+stage_of play = record { state = state_of play.core; begun = play.begun.items }
+
+-- each thread has a seat and a number
+pub record IsSeated (play : Play) (threads : ℕ) : Type 0 where
+  pub seats : length play.core.seats ≡ threads
+  pub begun : length play.begun.items ≡ threads
+
+-- what a call's refusal gives
+abbrev pub IsRefusal : RunFault → Type 0
+IsRefusal (Input f) = ⊥
+IsRefusal Read = ⊥
+IsRefusal Write = ⊥
+IsRefusal OutOfMemory = Unit {0}
+IsRefusal Full = Unit {0}
+
+-- the fault of the input, or a call's refusal
+abbrev pub IsFaultOrRefusal : {X : Type 0} → Result X ScriptFault → RunFault → Type 0
+IsFaultOrRefusal given (Input f) = given ≡ Err f
+IsFaultOrRefusal given Read = ⊥
+IsFaultOrRefusal given Write = ⊥
+IsFaultOrRefusal given OutOfMemory = Unit {0}
+IsFaultOrRefusal given Full = Unit {0}

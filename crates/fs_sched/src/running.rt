@@ -1,0 +1,142 @@
+//! The runner that runs a script.
+
+ghost use Rattle.std.specs.Prelude.{◌≡◌, ◌≢◌, ◌+◌, ◌-◌, ◌<◌, ◌^◌, ℕ, List, min, map, Ok, Err, IfOk, OnOk, OnErr, IfErr, IfSome, IsErrOf};
+ghost use Rattle.std.specs.Io.KnownBytes.{Appends, IsAtEnd};
+ghost use Rattle.fs_text.specs.declared.fault.ScriptFault.{ScriptFault};
+ghost use Rattle.fs_script.specs.Script.{script_of};
+ghost use Rattle.fs_sched.specs.Devices.{WritesBeginning};
+ghost use Rattle.fs_sched.specs.Runs.{Runs, calls_in, end_of, IsOutput, IsRunOf};
+ghost use Rattle.fs_sched.specs.Stages.{stage_of, IsRefusal, IsFaultOrRefusal};
+
+use crate::device::{Sink, Source};
+use crate::fault::{RunFault, run_fault};
+use crate::play::Play;
+use crate::reading::read_text;
+use crate::schedule::Schedule;
+use crate::texts::{EntryKind, number_of, run_text};
+use crate::writing::write_text;
+use fs_journal::Entry;
+use fs_script::{Script, read_script};
+use fs_seq::Call;
+use std::alloc::Global;
+
+/// How a run ended: how many calls began, took their place and returned, of how many calls of the script.
+#[derive(Clone, Copy, Debug, PartialEq, Eq)]
+pub struct RunEnd {
+    pub begun: usize,
+    pub committed: usize,
+    pub returned: usize,
+    pub calls: usize,
+}
+
+/// The text of a run, and how it ended.
+#[derive(Drop)]
+struct MadeText {
+    text: Vec<u8>,
+    end: RunEnd,
+}
+
+/// How many calls the lists have.
+fn count_calls(lists: &[Vec<Call>]) -> usize
+    ensures { result ≡ min (2 ^ 64 - 1) (calls_in (map (λ calls. calls.items) lists.now)) }
+{
+    let mut count = 0usize;
+    for calls in lists {
+        count = count.saturating_add(calls.len());
+    }
+    count
+}
+
+fn end_of(script: &Script, entries: &[Entry]) -> RunEnd
+    ensures { result ≡ end_of script.now entries.now }
+{
+    RunEnd {
+        begun: number_of(EntryKind::Begin, entries),
+        committed: number_of(EntryKind::Commit, entries),
+        returned: number_of(EntryKind::Return, entries),
+        calls: count_calls(script.lists.as_slice()),
+    }
+}
+
+/// A run of a script, from its first event to its last.
+pub(crate) fn play(alloc: Global, script: &Script, schedule: Schedule) -> Result<Play, RunFault>
+    ensures runs { IfOk result (λ play. Runs schedule script.now (stage_of play)) }
+    ensures fault { IfErr result IsRefusal }
+{
+    let Ok(mut play) = Play::new(alloc, script.lists.as_slice().len()) else {
+        return Err(RunFault::OutOfMemory);
+    };
+    match play.run(alloc, script, schedule) {
+        Ok(()) => Ok(play),
+        Err(fault) => Err(fault),
+    }
+}
+
+/// The text of a run of a script, and how it ended.
+fn make_text(alloc: Global, script: &Script, schedule: Schedule) -> Result<MadeText, RunFault>
+    ensures output { IfOk result (λ made. IsOutput schedule script.now made.end made.text.items) }
+    ensures fault { IfErr result IsRefusal }
+{
+    let play = match play(alloc, script, schedule) {
+        Ok(play) => play,
+        Err(fault) => return Err(fault),
+    };
+    let entries = play.core.timeline();
+    match run_text(alloc, entries, play.core.store()) {
+        Ok(text) => Ok(MadeText {
+            text,
+            end: end_of(script, entries),
+        }),
+        Err(_) => Err(RunFault::OutOfMemory),
+    }
+}
+
+/// The same of the script that a text has.
+fn text_of_script(alloc: Global, text: &[u8], schedule: Schedule) -> Result<MadeText, RunFault>
+    ensures output { IfOk result (λ made. IsRunOf schedule text.now made.end made.text.items) }
+    ensures fault { IfErr result (IsFaultOrRefusal (script_of text.now)) }
+{
+    let script = match read_script(alloc, text) {
+        Ok(script) => script,
+        Err(fault) => return Err(run_fault(fault)),
+    };
+    make_text(alloc, &script, schedule)
+}
+
+/// Reads a script to its end, runs it by a schedule, and writes the text of the run, which is made before its first
+/// byte is written. The answer says how many calls began, took their place and returned.
+pub fn run_script<R: Source, W: Sink>(
+    alloc: Global,
+    reader: &mut R,
+    writer: &mut W,
+    schedule: Schedule,
+) -> Result<RunEnd, RunFault>
+    requires reads { R.failures reader.old < 2 ^ 64 - 1 }
+    requires writes { W.failures writer.old < 2 ^ 64 - 1 }
+
+    // What is written is the text of a run of the script that was read.
+    ensures ran { IfOk result (λ end. (text : List ℕ) × IfSome (R.remaining reader.old) (λ input. IsRunOf schedule input end text) × Appends (W.contents writer.old) (W.contents writer.new) text) }
+    ensures end { OnOk result (IsAtEnd (R.remaining reader.new)) }
+    ensures input { (f : ScriptFault) → result ≡ Err (RunFault.Input f) → IfSome (R.remaining reader.old) (λ input. script_of input ≡ Err f) }
+
+    // A device is blamed only where it failed in this call.
+    ensures read { IsErrOf result RunFault.Read → R.failures reader.new ≡ R.failures reader.old + 1 }
+    ensures write { IsErrOf result RunFault.Write → W.failures writer.new ≡ W.failures writer.old + 1 }
+
+    // After a failed write a beginning of the text stands, and after every other error nothing was written.
+    ensures nothing { result ≢ Err RunFault.Write → OnErr result (writer.new ≡ writer.old) }
+    ensures beginning { IsErrOf result RunFault.Write → (end : RunEnd) × (text : List ℕ) × IfSome (R.remaining reader.old) (λ input. IsRunOf schedule input end text) × WritesBeginning text (W.contents writer.old) (W.contents writer.new) }
+{
+    let text = match read_text(alloc, reader) {
+        Ok(text) => text,
+        Err(fault) => return Err(fault),
+    };
+    let made = match text_of_script(alloc, &text, schedule) {
+        Ok(made) => made,
+        Err(fault) => return Err(fault),
+    };
+    match write_text(writer, &made.text) {
+        Ok(()) => Ok(made.end),
+        Err(fault) => Err(fault),
+    }
+}
