@@ -1,4 +1,4 @@
-//! The program: `atomfs run` and `atomfs seeds` run a script on standard input, and `atomfs check` reads a journal there;
+//! The program: `atomfs run` runs a script on standard input, and `atomfs check` reads a journal there;
 //! each writes what came of it.
 #![tactic(auto)]
 
