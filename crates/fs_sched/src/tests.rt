@@ -257,7 +257,7 @@ fn draws_seats(rt: HostRuntime) -> Result<(), Fail> {
     for _ in 0..100 {
         let seat = first.seat(3);
         assert_eq!(rt; second.seat(3), seat);
-        seen[seat % 3] += 1;
+        seen[seat % 3] = seen[seat % 3].saturating_add(1);
     }
     assert!(rt; seen[0] > 10 && seen[1] > 10 && seen[2] > 10);
     Ok(())
