@@ -52,6 +52,16 @@ impl Model for Core {
     ghost invariant = { λ a. IsKept (record { store = a.store; holding = a.holders; seats = a.seats.items; timeline = a.timeline.entries }) a.begun a.commits a.timeline.reserved };
 }
 
+/// A match on a call's next move and its place, whose arms are written from a table: the move, the phase of the call that the
+/// row is for (`None` while it walks), and what a step does.
+macro_rules! by_move {
+    ($next:expr, $place:expr; $($move:pat, $phase:pat => $row:expr,)+) => {
+        match ($next, $place) {
+            $(($move, $phase) => $row,)+
+        }
+    };
+}
+
 /// The call that holds a node.
 fn holder_by(held: HeldBy) -> CallNo
     ensures { result ≡ held.0 }
@@ -168,14 +178,12 @@ impl Core {
             return Stepped::Idle;
         };
         let (call, place) = (running.call, running.place);
-        match running.op.next(&self.store) {
-            Move::Take(node) => self.take(at, call, node),
-            Move::LetGo(node) => self.let_go(at, call, node),
-            Move::Finish(moved) => match place {
-                Some(place) => self.carry_out(at, call, moved, place),
-                None => self.help_or_commit(at, call, moved),
-            },
-            Move::Return => self.end(at, call),
+        by_move! { running.op.next(&self.store), place;
+            Move::Take(node), _ => self.take(at, call, node),
+            Move::LetGo(node), _ => self.let_go(at, call, node),
+            Move::Finish(moved), None => self.help_or_commit(at, call, moved),
+            Move::Finish(moved), Some(place) => self.carry_out(at, call, moved, place),
+            Move::Return, _ => self.end(at, call),
         }
     }
 

@@ -11,6 +11,7 @@ ghost use Rattle.fs_moves.specs.Moves.{target};
 ghost use Rattle.fs_ops.specs.Views.{Forks, IsOp, dropped, stand_of, stand_with};
 ghost use Rattle.fs_moves.specs.Works.{CanFinish};
 
+use crate::by_call::by_call;
 use crate::heads::{dest_of, finish_rename, source_of};
 use crate::outcome::Outcome;
 use fs_finish::entries::{make, rmdir, unlink};
@@ -46,37 +47,29 @@ fn finish_at(
     ensures limit { store.new.limit ≡ store.old.limit }
     ensures room { room store.new ≡ room store.old }
 {
-    match call {
-        Call::Mkdir(path) => make(store, node, path, reserved),
-        Call::Mknod(path) => make(store, node, path, reserved),
-        Call::Unlink(path) => unlink(store, node, path, reserved),
-        Call::Rmdir(path) => rmdir(store, node, path, reserved),
-        Call::Rename(path, new_path) => {
-            let source = source_of(fork, node);
-            let dest = dest_of(fork, node);
-            finish_rename(
-                path,
-                new_path,
-                walk.walked(),
-                source,
-                dest,
-                victim,
-                reserved,
-                store,
-            )
-        }
-        Call::Stat(_) => Finish::kept(stat(store, node), reserved),
-        Call::Readdir(_) => Finish::kept(readdir(store, node, prepared), reserved),
-        Call::Read(_, off, count) => {
-            Finish::kept(read(store, node, *off, *count, prepared), reserved)
-        }
-        Call::Write(_, off, bytes) => {
-            Finish::kept(
-                write(store, node, *off, bytes.as_slice(), prepared),
-                reserved,
-            )
-        }
-        Call::Truncate(_, size) => Finish::kept(truncate(store, node, *size, prepared), reserved),
+    by_call! { call;
+        Mkdir(path) => make(store, node, path, reserved),
+        Mknod(path) => make(store, node, path, reserved),
+        Unlink(path) => unlink(store, node, path, reserved),
+        Rmdir(path) => rmdir(store, node, path, reserved),
+        Rename(path, new_path) => finish_rename(
+            path,
+            new_path,
+            walk.walked(),
+            source_of(fork, node),
+            dest_of(fork, node),
+            victim,
+            reserved,
+            store,
+        ),
+        Stat(_) => Finish::kept(stat(store, node), reserved),
+        Readdir(_) => Finish::kept(readdir(store, node, prepared), reserved),
+        Read(_, off, count) => Finish::kept(read(store, node, *off, *count, prepared), reserved),
+        Write(_, off, bytes) => Finish::kept(
+            write(store, node, *off, bytes.as_slice(), prepared),
+            reserved,
+        ),
+        Truncate(_, size) => Finish::kept(truncate(store, node, *size, prepared), reserved),
     }
 }
 

@@ -2,6 +2,7 @@
 #![tactic(auto)]
 
 mod beginning;
+mod by_call;
 mod carrying;
 mod ending;
 mod finishing;

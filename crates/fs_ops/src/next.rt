@@ -15,6 +15,7 @@ ghost use Rattle.fs_ops.specs.Told.{move_of, want_then};
 ghost use Rattle.fs_ops.specs.Views.{Forks, first_path, dropped, stand_of, stand_with};
 ghost use Rattle.fs_moves.specs.Works.{next_of};
 
+use crate::by_call::by_call;
 use crate::moves::Move;
 use crate::op::Op;
 use fs_finish::renaming::{Paths, fault};
@@ -190,16 +191,6 @@ fn rename_move(
             heads_move(store, source, dest, &heads, victim)
         }
     }
-}
-
-/// A match on a call, whose arms are written from a table: a line for each of the ten calls with the names of its parts, and
-/// what holds for it.
-macro_rules! by_call {
-    ($call:expr; $($name:ident($($part:tt),*) => $next:expr,)+) => {
-        match $call {
-            $(Call::$name($($part),*) => $next,)+
-        }
-    };
 }
 
 /// A call at its target.
