@@ -1,9 +1,11 @@
 //! What takes memory, done once more where memory was refused.
 
-ghost use Rattle.std.specs.Prelude.{◌≡◌, ◌+◌, OnOk};
+ghost use Rattle.std.specs.Prelude.{◌≡◌, ◌<◌, ◌≤◌, ◌+◌, IfOk, OnOk, length};
+ghost use Rattle.fs_names.specs.declared.limits.TheConstants.{NODE_LIMIT};
 
+use fs_core::{Core, Refusal};
 use fs_journal::{Entry, Timeline, Verdict, check};
-use fs_names::{Path, PathFault};
+use fs_names::{CallNo, Path, PathFault, SeatNo};
 use fs_seq::{Bytes, Call, Reply, SeqTree};
 use std::alloc::{AllocError, Global};
 
@@ -87,6 +89,44 @@ impl Again {
                 self.note();
                 check(self.alloc, entries)
             }
+        }
+    }
+
+    pub fn core(&mut self, limit: usize) -> Result<Core, AllocError>
+        requires least { 1 ≤ limit }
+        requires most { limit ≤ NODE_LIMIT }
+    {
+        match Core::with_limit(self.alloc, limit) {
+            Ok(core) => Ok(core),
+            Err(_) => {
+                self.note();
+                Core::with_limit(self.alloc, limit)
+            }
+        }
+    }
+
+    pub fn seat(&mut self, core: &mut Core) -> Result<SeatNo, AllocError>
+        ensures { IfOk result (λ seat. seat < length core.new.seats) }
+    {
+        match core.seat() {
+            Ok(seat) => Ok(seat),
+            Err(_) => {
+                self.note();
+                core.seat()
+            }
+        }
+    }
+
+    pub fn begin(&mut self, core: &mut Core, seat: SeatNo, call: &Call) -> Result<CallNo, Refusal>
+        requires { seat < length core.old.seats }
+        ensures { length core.new.seats ≡ length core.old.seats }
+    {
+        match core.begin(self.alloc, seat, call) {
+            Err(Refusal::OutOfMemory) => {
+                self.note();
+                core.begin(self.alloc, seat, call)
+            }
+            begun => begun,
         }
     }
 }
