@@ -21,6 +21,7 @@ impl Again {
         self.refused = self.refused.wrapping_add(1);
     }
 
+    /// A path is read.
     pub fn path(&mut self, text: &str) -> Result<Path, PathFault> {
         match Path::parse(self.alloc, text.as_bytes()) {
             Err(PathFault::OutOfMemory) => {
@@ -31,6 +32,7 @@ impl Again {
         }
     }
 
+    /// A vector of bytes grows.
     pub fn bytes(&mut self, content: &[u8]) -> Result<Bytes, AllocError> {
         let mut bytes = Vec::new(self.alloc);
         if bytes.extend_from_slice(content).is_err() {
@@ -40,6 +42,7 @@ impl Again {
         Ok(Bytes::new(bytes))
     }
 
+    /// A call is copied.
     pub fn copy(&mut self, call: &Call) -> Result<Call, AllocError> {
         match call.copy(self.alloc) {
             Ok(copy) => Ok(copy),
@@ -50,6 +53,7 @@ impl Again {
         }
     }
 
+    /// A sequential tree is made.
     pub fn tree(&mut self) -> Result<SeqTree, AllocError> {
         match SeqTree::new(self.alloc) {
             Ok(tree) => Ok(tree),
@@ -60,6 +64,7 @@ impl Again {
         }
     }
 
+    /// A call is applied to a sequential tree.
     pub fn apply(&mut self, tree: &mut SeqTree, call: &Call) -> Result<Reply, AllocError> {
         match tree.apply(self.alloc, call) {
             Ok(reply) => Ok(reply),
@@ -70,6 +75,7 @@ impl Again {
         }
     }
 
+    /// Places of a timeline are reserved.
     pub fn places(&mut self, timeline: &mut Timeline, count: usize) -> Result<(), AllocError>
         ensures { OnOk result (timeline.new ≡ record timeline.old { reserved = timeline.old.reserved + count }) }
     {
@@ -82,6 +88,7 @@ impl Again {
         }
     }
 
+    /// A journal is checked.
     pub fn check(&mut self, entries: &[Entry]) -> Result<Verdict, AllocError> {
         match check(self.alloc, entries) {
             Ok(verdict) => Ok(verdict),
@@ -92,6 +99,7 @@ impl Again {
         }
     }
 
+    /// A core is made, for so many nodes.
     pub fn core(&mut self, limit: usize) -> Result<Core, AllocError>
         requires least { 1 ≤ limit }
         requires most { limit ≤ NODE_LIMIT }
@@ -105,6 +113,7 @@ impl Again {
         }
     }
 
+    /// A core gets one more seat.
     pub fn seat(&mut self, core: &mut Core) -> Result<SeatNo, AllocError>
         ensures { IfOk result (λ seat. seat < length core.new.seats) }
     {
@@ -117,6 +126,7 @@ impl Again {
         }
     }
 
+    /// A call begins on a seat of a core.
     pub fn begin(&mut self, core: &mut Core, seat: SeatNo, call: &Call) -> Result<CallNo, Refusal>
         requires { seat < length core.old.seats }
         ensures { length core.new.seats ≡ length core.old.seats }
