@@ -6,3 +6,5 @@ pub mod Rounds
 pub mod Staging
 pub mod CountLemmas
 pub mod RunLemmas
+pub mod Counts
+pub mod Whole

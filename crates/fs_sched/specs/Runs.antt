@@ -1,6 +1,6 @@
 -- Runs of scripts, event by event.
 use Rattle.std.specs.Prelude.{ℕ, ◌≡◌, ◌+◌, ◌-◌, ◌^◌, min, ◌<◌, Bool, true, false, ◌||◌, List, [], ◌∷◌, length, replicate, get_or, slice_get, slice_set, is_some, Ok, Option, Some, None}
-use Rattle.std.specs.List.{range_with_len}
+use Rattle.std.specs.List.{range_with_len, list_any}
 use Rattle.fs_names.specs.declared.limits.TheConstants.{NODE_LIMIT}
 use Rattle.fs_journal.specs.declared.entry.Entry.{Entry}
 use Rattle.fs_seq.specs.declared.call.Call.{Call}
@@ -10,7 +10,7 @@ use Rattle.fs_laws.specs.States.{State, Begins, Begun_as, Step, Stepped, empty}
 use Rattle.fs_sched.specs.RunTexts.{IsRunText, number_of}
 use Rattle.fs_sched.specs.declared.texts.EntryKind.TheVariants as kind
 use Rattle.fs_sched.specs.declared.running.RunEnd.{RunEnd}
-use Rattle.fs_sched.specs.Schedules.{seats_before, goes_on}
+use Rattle.fs_sched.specs.Schedules.{is_finish, seats_before, goes_on}
 use Rattle.fs_sched.specs.declared.schedule.Schedule.{Schedule}
 
 -- where a run stands: the machine's state, and how many calls of each thread have begun
@@ -80,6 +80,16 @@ calls_in (calls ∷ lists) = length calls + calls_in lists
 -- the numbers of entries of each kind, and of the script's calls, of which there are no more than a text has lines
 abbrev pub end_of : Script → List Entry → RunEnd
 end_of script entries = record { begun = number_of kind.Begin entries; committed = number_of kind.Commit entries; returned = number_of kind.Return entries; calls = min (2 ^ 64 - 1) (calls_in script.lists) }
+
+-- each call of the script began, took its place and returned
+pub record IsWhole (end : RunEnd) : Type 0 where
+  pub begun : end.begun ≡ end.calls
+  pub committed : end.committed ≡ end.calls
+  pub returned : end.returned ≡ end.calls
+
+-- the input has a script with the word by which rounds to the end follow
+abbrev pub HasFinish : List ℕ → Type 0
+HasFinish input = (script : Script) × (script_of input ≡ Ok script) × (list_any is_finish script.words ≡ true)
 
 -- the numbers and the text of a run of a script
 abbrev pub IsOutput : Schedule → Script → RunEnd → List ℕ → Type 0

@@ -5,7 +5,7 @@ ghost use Rattle.std.specs.Io.KnownBytes.{Appends, IsAtEnd};
 ghost use Rattle.fs_text.specs.declared.fault.ScriptFault.{ScriptFault};
 ghost use Rattle.fs_script.specs.Script.{script_of};
 ghost use Rattle.fs_sched.specs.Devices.{WritesBeginning};
-ghost use Rattle.fs_sched.specs.Runs.{Runs, calls_in, end_of, IsOutput, IsRunOf};
+ghost use Rattle.fs_sched.specs.Runs.{Runs, calls_in, end_of, IsOutput, IsRunOf, IsWhole, HasFinish};
 ghost use Rattle.fs_sched.specs.Stages.{stage_of, IsRefusal, IsFaultOrRefusal};
 
 use crate::device::{Sink, Source};
@@ -118,6 +118,10 @@ pub fn run_script<R: Source, W: Sink>(
     ensures ran { IfOk result (λ end. (text : List ℕ) × IfSome (R.remaining reader.old) (λ input. IsRunOf schedule input end text) × Appends (W.contents writer.old) (W.contents writer.new) text) }
     ensures end { OnOk result (IsAtEnd (R.remaining reader.new)) }
     ensures input { (f : ScriptFault) → result ≡ Err (RunFault.Input f) → IfSome (R.remaining reader.old) (λ input. script_of input ≡ Err f) }
+
+    // Where rounds to the end follow, each call of the script began, took its place and returned.
+    ensures whole { IfOk result (λ end. schedule ≢ Schedule.Given → IsWhole end) }
+    ensures finish { IfOk result (λ end. IfSome (R.remaining reader.old) (λ input. HasFinish input → IsWhole end)) }
 
     // A device is blamed only where it failed in this call.
     ensures read { IsErrOf result RunFault.Read → R.failures reader.new ≡ R.failures reader.old + 1 }
