@@ -8,3 +8,4 @@ pub mod CountLemmas
 pub mod RunLemmas
 pub mod Counts
 pub mod Whole
+pub mod Stopping

@@ -1,12 +1,12 @@
 -- Runs of scripts, event by event.
-use Rattle.std.specs.Prelude.{ℕ, ◌≡◌, ◌+◌, ◌-◌, ◌^◌, min, ◌<◌, Bool, true, false, ◌||◌, List, [], ◌∷◌, length, replicate, get_or, slice_get, slice_set, is_some, Ok, Option, Some, None}
+use Rattle.std.specs.Prelude.{ℕ, ◌≡◌, ◌+◌, ◌-◌, ◌^◌, min, ◌<◌, Bool, true, false, ◌||◌, ◌⊎◌, List, [], ◌∷◌, length, replicate, get_or, slice_get, slice_set, is_some, Ok, Option, Some, None}
 use Rattle.std.specs.List.{range_with_len, list_any}
 use Rattle.fs_names.specs.declared.limits.TheConstants.{NODE_LIMIT}
 use Rattle.fs_journal.specs.declared.entry.Entry.{Entry}
 use Rattle.fs_seq.specs.declared.call.Call.{Call}
 use Rattle.fs_script.specs.Script.{script_of}
 use Rattle.fs_script.specs.declared.script.Script.{Script}
-use Rattle.fs_laws.specs.States.{State, Begins, Begun_as, Step, Stepped, empty}
+use Rattle.fs_laws.specs.States.{State, Begins, Begun_as, Full, Step, Stepped, empty}
 use Rattle.fs_sched.specs.RunTexts.{IsRunText, number_of}
 use Rattle.fs_sched.specs.declared.texts.EntryKind.TheVariants as kind
 use Rattle.fs_sched.specs.declared.running.RunEnd.{RunEnd}
@@ -71,6 +71,30 @@ RunsFrom schedule script old last = (middle : Stage) × Events script.lists old 
 -- a run of a script by a schedule, from its first stage to its last
 abbrev pub Runs : Schedule → Script → Stage → Type 0
 Runs schedule script last = RunsFrom schedule script (start (length script.lists)) last
+
+-- the next event of a thread is the begin of a call, and all numbers are in use
+abbrev pub IsRefused : List (List Call) → Stage → ℕ → Type 0
+IsRefused lists s seat = (call : Call) × (next_call lists s seat ≡ Some call) × Begins s.state seat call Full s.state
+
+-- one of these events is such a begin, after those before it
+abbrev pub Stops : List (List Call) → Stage → List ℕ → Type 0
+Stops lists old [] = ⊥
+Stops lists old (seat ∷ seats) = IsRefused lists old seat ⊎ ((middle : Stage) × Event lists old seat middle × Stops lists middle seats)
+
+-- one of the events in rounds to the end is
+pub data StopsInRounds (lists : List (List Call)) : Stage → Type 0 where
+  InRound : {old : Stage} → IsUnfinished lists old → Stops lists old (range_with_len 0 (length lists)) → StopsInRounds lists old
+  InLater : {old middle : Stage} → IsUnfinished lists old → Round lists old middle → StopsInRounds lists middle → StopsInRounds lists old
+
+-- one of the events of a script by a schedule, from a stage on, is
+abbrev pub StopsFrom : Schedule → Script → Stage → Type 0
+StopsFrom schedule script old =
+    Stops script.lists old (seats_before schedule script.words (length script.lists))
+    ⊎ ((middle : Stage) × Events script.lists old (seats_before schedule script.words (length script.lists)) middle × (goes_on schedule script.words ≡ true) × StopsInRounds script.lists middle)
+
+-- one of the events of the script that an input has is
+abbrev pub ReachesFull : Schedule → List ℕ → Type 0
+ReachesFull schedule input = (script : Script) × (script_of input ≡ Ok script) × StopsFrom schedule script (start (length script.lists))
 
 -- how many calls a script has
 abbrev pub calls_in : List (List Call) → ℕ
