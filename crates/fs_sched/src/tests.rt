@@ -328,6 +328,41 @@ fn runs_given_events(rt: HostRuntime) -> Result<(), Fail> {
     Ok(())
 }
 
+/// How a script's run ends.
+fn ended(alloc: Global, text: &[u8], schedule: Schedule) -> Result<RunEnd, Fail> {
+    let mut reader = Device::new(text);
+    let mut writer = Device::new(Vec::new(alloc));
+    match run_script(alloc, &mut reader, &mut writer, schedule) {
+        Ok(end) => Ok(end),
+        Err(_) => Err(Fail::from("a fault")),
+    }
+}
+
+#[test]
+fn ends_with_all_calls_returned(rt: HostRuntime) -> Result<(), Fail> {
+    let alloc = rt.alloc();
+    let cut = b"atomfs 1\nthread s\nmkdir /a\nthread t\nmknod /b\nschedule\ns*2\n".as_slice();
+    let broken_off = RunEnd {
+        begun: 1,
+        committed: 0,
+        returned: 0,
+        calls: 2,
+    };
+    let whole = RunEnd {
+        begun: 2,
+        committed: 2,
+        returned: 2,
+        calls: 2,
+    };
+    assert_eq!(rt; ended(alloc, cut, Schedule::Given)?, broken_off);
+    assert_eq!(rt; ended(alloc, cut, Schedule::RoundRobin)?, whole);
+    assert_eq!(rt; ended(alloc, cut, Schedule::Seeded(7))?, whole);
+    let finished =
+        b"atomfs 1\nthread s\nmkdir /a\nthread t\nmknod /b\nschedule\ns*2 finish\n".as_slice();
+    assert_eq!(rt; ended(alloc, finished, Schedule::Given)?, whole);
+    Ok(())
+}
+
 /// A rename helps a mkdir that stands below what it moves.
 const HELPED_MKDIR: &[u8] =
     b"atomfs 1\nthread m\nmkdir /a\nmkdir /a/d\nmkdir /a/d/x\nthread r\nrename /a /b\nschedule\nm*18 r*6 m*3\n";
