@@ -6,6 +6,7 @@ pub mod Rounds
 pub mod Staging
 pub mod CountLemmas
 pub mod RunLemmas
+pub mod SeedLemmas
 pub mod Counts
 pub mod Whole
 pub mod Stopping
