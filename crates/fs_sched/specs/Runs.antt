@@ -92,9 +92,13 @@ StopsFrom schedule script old =
     Stops script.lists old (seats_before schedule script.words (length script.lists))
     ⊎ ((middle : Stage) × Events script.lists old (seats_before schedule script.words (length script.lists)) middle × (goes_on schedule script.words ≡ true) × StopsInRounds script.lists middle)
 
--- one of the events of the script that an input has is
+-- the same from the first stage on
+abbrev pub FillsUp : Schedule → Script → Type 0
+FillsUp schedule script = StopsFrom schedule script (start (length script.lists))
+
+-- the same of the script that an input has
 abbrev pub ReachesFull : Schedule → List ℕ → Type 0
-ReachesFull schedule input = (script : Script) × (script_of input ≡ Ok script) × StopsFrom schedule script (start (length script.lists))
+ReachesFull schedule input = (script : Script) × (script_of input ≡ Ok script) × FillsUp schedule script
 
 -- how many calls a script has
 abbrev pub calls_in : List (List Call) → ℕ

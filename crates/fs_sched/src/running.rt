@@ -1,11 +1,11 @@
 //! The runner that runs a script.
 
-ghost use Rattle.std.specs.Prelude.{◌≡◌, ◌≢◌, ◌+◌, ◌-◌, ◌<◌, ◌^◌, ℕ, List, length, min, map, Ok, Err, IfOk, OnOk, OnErr, IfErr, IfSome, IsErrOf};
+ghost use Rattle.std.specs.Prelude.{◌≡◌, ◌≢◌, ◌+◌, ◌-◌, ◌<◌, ◌^◌, ℕ, List, min, map, Ok, Err, IfOk, OnOk, OnErr, IfErr, IfSome, IsErrOf};
 ghost use Rattle.std.specs.Io.KnownBytes.{Appends, IsAtEnd};
 ghost use Rattle.fs_text.specs.declared.fault.ScriptFault.{ScriptFault};
 ghost use Rattle.fs_script.specs.Script.{script_of};
 ghost use Rattle.fs_sched.specs.Devices.{WritesBeginning};
-ghost use Rattle.fs_sched.specs.Runs.{Runs, calls_in, end_of, IsOutput, IsRunOf, IsWhole, HasFinish, start, StopsFrom, ReachesFull};
+ghost use Rattle.fs_sched.specs.Runs.{Runs, calls_in, end_of, IsOutput, IsRunOf, IsWhole, HasFinish, FillsUp, ReachesFull};
 ghost use Rattle.fs_sched.specs.Stages.{stage_of, IsRefusal, IsFaultOrRefusal};
 
 use crate::device::{Sink, Source};
@@ -62,7 +62,7 @@ fn end_of(script: &Script, entries: &[Entry]) -> RunEnd
 pub(crate) fn play(alloc: Global, script: &Script, schedule: Schedule) -> Result<Play, RunFault>
     ensures runs { IfOk result (λ play. Runs schedule script.now (stage_of play)) }
     ensures fault { IfErr result IsRefusal }
-    ensures full { IsErrOf result RunFault.Full → StopsFrom schedule script.now (start (length script.now.lists)) }
+    ensures full { IsErrOf result RunFault.Full → FillsUp schedule script.now }
 {
     let Ok(mut play) = Play::new(alloc, script.lists.as_slice().len()) else {
         return Err(RunFault::OutOfMemory);
@@ -77,7 +77,7 @@ pub(crate) fn play(alloc: Global, script: &Script, schedule: Schedule) -> Result
 fn make_text(alloc: Global, script: &Script, schedule: Schedule) -> Result<MadeText, RunFault>
     ensures output { IfOk result (λ made. IsOutput schedule script.now made.end made.text.items) }
     ensures fault { IfErr result IsRefusal }
-    ensures full { IsErrOf result RunFault.Full → StopsFrom schedule script.now (start (length script.now.lists)) }
+    ensures full { IsErrOf result RunFault.Full → FillsUp schedule script.now }
 {
     let play = match play(alloc, script, schedule) {
         Ok(play) => play,
