@@ -112,9 +112,11 @@ fn counts_calls(rt: HostRuntime) -> Result<(), Fail> {
     let alloc = rt.alloc();
     let cut: &[u8] = b"atomfs 1\nthread t\nmkdir /a\nschedule\nt*4\n";
     let more: &[u8] = b"atomfs 1\nthread t\nmkdir /a\nschedule\nt*2\n";
+    let finished: &[u8] = b"atomfs 1\nthread t\nmkdir /a\nschedule\nt*2 finish\n";
     assert!(rt; end_of_run(alloc, FIRST, Schedule::Given) == ends(1, 1, 1));
     assert!(rt; end_of_run(alloc, cut, Schedule::Given) == ends(1, 1, 0));
     assert!(rt; end_of_run(alloc, more, Schedule::Given) == ends(1, 0, 0));
+    assert!(rt; end_of_run(alloc, finished, Schedule::Given) == ends(1, 1, 1));
     assert!(rt; end_of_run(alloc, more, Schedule::RoundRobin) == ends(1, 1, 1));
     assert!(rt; end_of_run(alloc, more, Schedule::Seeded(3)) == ends(1, 1, 1));
     Ok(())
