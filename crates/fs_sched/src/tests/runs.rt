@@ -1,6 +1,6 @@
 //! Runs of scripts, their texts byte for byte, and what is left of them where a device fails.
 
-use super::{SlowReader, SlowWriter, worked};
+use super::{SlowReader, SlowWriter, alone, worked};
 use crate::*;
 use std::alloc::Global;
 use std::test::Fail;
@@ -53,12 +53,12 @@ fn runs_side_by_side(rt: HostRuntime) -> Result<(), Fail> {
 #[test]
 fn runs_one_after_the_other(rt: HostRuntime) -> Result<(), Fail> {
     let rows = [
-        worked::CALLS_ON_THE_ROOT,
-        worked::ERRORS_OF_RESOLUTION,
-        worked::MISSING_BELOW_ITS_TARGET,
-        worked::RENAMES_IN_SEQUENCE,
-        worked::OFFSETS,
-        worked::ERRORS_OF_EACH_CALL,
+        alone::CALLS_ON_THE_ROOT,
+        alone::ERRORS_OF_RESOLUTION,
+        alone::MISSING_BELOW_ITS_TARGET,
+        alone::RENAMES_IN_SEQUENCE,
+        alone::OFFSETS,
+        alone::ERRORS_OF_EACH_CALL,
     ];
     for (script, want) in rows {
         assert_eq!(rt; ran(rt.alloc(), script, Schedule::Given)?.as_slice(), want);
