@@ -1,9 +1,10 @@
-//! The program: `atomfs run` runs a script on standard input, and `atomfs check` reads a journal there;
-//! each writes what came of it.
+//! The program: `atomfs run` runs a script on standard input, `atomfs seeds` runs one by drawn schedules, and
+//! `atomfs check` reads a journal there; each writes what came of it.
 #![tactic(auto)]
 
 ghost use Rattle.std.specs.Prelude.{◌≡◌, ◌<◌, ◌-◌, ◌^◌};
 ghost use Rattle.atomfs.specs.Statuses.{status_of_fault, status_of, is_whole};
+ghost use Rattle.atomfs.specs.Tasks.{IsWithin};
 
 #[cfg(test)]
 mod tests;
@@ -11,7 +12,9 @@ mod words;
 
 use clap::Error;
 use clap::error::ErrorKind;
-use fs_sched::{Device, RunEnd, RunFault, Schedule, Sink, Source, check_journal, run_script};
+use fs_sched::{
+    Device, RunEnd, RunFault, Schedule, Sink, Source, check_journal, run_script, run_seeds,
+};
 use std::alloc::Global;
 use std::process::ExitCode;
 use words::Task;
@@ -77,12 +80,18 @@ fn run<R: Source, W: Sink>(
 }
 
 /// Does what the words ask for, from standard input to standard output, and answers the status.
-fn perform(rt: &HostRuntime, task: &Task) -> u8 {
+fn perform(rt: &HostRuntime, task: &Task) -> u8
+    requires { IsWithin task.now }
+{
     let alloc = rt.alloc();
     let mut reader = Device::new(rt.stdin());
     let mut writer = Device::new(rt.stdout());
     match task {
         Task::Run(schedule) => ended(rt, run(alloc, &mut reader, &mut writer, *schedule)),
+        Task::Seeds(seed, runs) => ended(
+            rt,
+            run_seeds(alloc, &mut reader, &mut writer, *seed, *runs),
+        ),
         Task::Check => ended(rt, check_journal(alloc, &mut reader, &mut writer)),
     }
 }

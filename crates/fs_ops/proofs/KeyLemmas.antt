@@ -1,7 +1,7 @@
 -- Parts of keys by counts of names.
-use Rattle.std.proofs.Common.{◌≡◌, ℕ, zero, suc, ◌+◌, ◌-◌, ◌≤◌, ◌<◌, Bool, true, false, cond, [], ◌∷◌, length, take, drop, slice_get, min, None, refl, sym, ap, ◌∙◌, arith, add-one, zero-add}
+use Rattle.std.proofs.Common.{◌≡◌, ℕ, zero, suc, ◌+◌, ◌≤◌, ◌<◌, Bool, true, false, cond, [], ◌∷◌, length, take, drop, slice_get, None, refl, sym, ap, ◌∙◌, arith, add-one, zero-add}
 use Rattle.fs_names.specs.Names.{same_name}
-use Rattle.fs_names.specs.Keys.{Key, after_prefix, common_len, parent_of, last_of}
+use Rattle.fs_names.specs.Keys.{Key, after_prefix, parent_of, last_of}
 use Rattle.fs_names.specs.Parts.{common, left}
 use Rattle.fs_names.proofs.Lemmas.{same_name_refl, same_name_exact}
 use Rattle.fs_seq.specs.Forms.{Form, On, In, Rename}

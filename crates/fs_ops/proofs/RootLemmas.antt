@@ -1,5 +1,5 @@
 -- On a call that has taken the root of a new tree.
-use Rattle.std.proofs.Common.{◌≡◌, ℕ, ◌≤◌, Bool, true, false, cond, List, [], ◌∷◌, length, Option, Some, None, refl, sym, ap, subst, ◌∙◌, arith}
+use Rattle.std.proofs.Common.{◌≡◌, ℕ, ◌≤◌, Bool, true, false, cond, List, [], length, Option, Some, None, refl, sym, ap, subst, ◌∙◌, arith}
 use Rattle.std.specs.Prelude.{eqb, is_some}
 use Rattle.fs_names.specs.Names.{Name}
 use Rattle.fs_names.specs.Shapes.{Shape, Dir, File}
@@ -8,7 +8,7 @@ use Rattle.fs_nodes.specs.Graphs.{Graph, empty_graph}
 use Rattle.fs_seq.specs.Forms.{Form, On, In, Rename, form}
 use Rattle.fs_seq.specs.declared.call.Call.{Call}
 use Rattle.fs_seq.specs.declared.reply.Reply.{Reply}
-use Rattle.fs_moves.specs.Records.{Record, Phase, Walking, Stand, stand_at}
+use Rattle.fs_moves.specs.Records.{Record, Walking, Stand, stand_at}
 use Rattle.fs_moves.specs.Works.{Work, new_work, phase_of, BegunAs, IsTook, CanFinish, HeadsApart, IsBounded}
 
 -- the root alone is within all limits

@@ -6,3 +6,4 @@ pub mod Rounds
 pub mod Staging
 pub mod CountLemmas
 pub mod RunLemmas
+pub mod SeedLemmas

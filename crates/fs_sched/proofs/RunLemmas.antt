@@ -19,7 +19,7 @@ too_large : (text : List ℕ) → 16777216 < length text → script_of text ≡ 
 unfolding script_of
 too_large text h = cond-true _ _ _ (lt-ltb _ _ h)
 
-script_same : (text input : List ℕ) → IsSameText text input → script_of text ≡ script_of input
+pub script_same : (text input : List ℕ) → IsSameText text input → script_of text ≡ script_of input
 script_same text input h = ⊎_elim (λ e. ap script_of e) (λ p. too_large text p.0 ∙ sym (too_large input p.1)) h
 
 -- what has a script is not too long

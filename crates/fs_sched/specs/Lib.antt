@@ -4,4 +4,5 @@ pub mod Devices
 pub mod Schedules
 pub mod RunTexts
 pub mod Runs
+pub mod Seeds
 pub mod Stages

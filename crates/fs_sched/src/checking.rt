@@ -9,7 +9,7 @@ ghost use Rattle.fs_sched.specs.Devices.{IsFaultOf, WritesBeginningOf};
 use crate::device::{Sink, Source};
 use crate::fault::{RunFault, run_fault};
 use crate::reading::read_text;
-use crate::verdict_line::verdict_line;
+use crate::verdict_line::{is_lawful, verdict_line};
 use crate::writing::write_text;
 use fs_journal::{Verdict, check};
 use fs_text::read_entries;
@@ -28,12 +28,6 @@ fn check_text(alloc: Global, text: &[u8]) -> Result<Verdict, RunFault>
         Ok(verdict) => Ok(verdict),
         Err(_) => Err(RunFault::OutOfMemory),
     }
-}
-
-fn is_lawful(verdict: &Verdict) -> bool
-    ensures { result ≡ is_lawful verdict.now }
-{
-    matches!(verdict, Verdict::Lawful)
 }
 
 /// Reads a journal to its end and writes the verdict on it, in one line: `lawful`, or `fault` with the place of the

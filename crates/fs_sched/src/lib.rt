@@ -8,6 +8,7 @@ mod play;
 mod reading;
 mod running;
 mod schedule;
+mod seeding;
 #[cfg(test)]
 mod tests;
 mod texts;
@@ -19,4 +20,5 @@ pub use device::{Device, Failed, Sink, Source};
 pub use fault::RunFault;
 pub use running::{RunEnd, run_script};
 pub use schedule::{DRAW_LIMIT, Draws, Schedule};
+pub use seeding::{RUN_LIMIT, SEED_LIMIT, run_seeds};
 pub use texts::{EntryKind, number_of, run_text};

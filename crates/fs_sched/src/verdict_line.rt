@@ -1,11 +1,17 @@
-//! Verdicts as they are written.
+//! Verdicts as they are answered and written.
 
 ghost use Rattle.std.specs.Prelude.{◌≡◌, ◌++◌, OnOk, IfOk};
-ghost use Rattle.fs_sched.specs.Checks.{kind_word, verdict_line};
+ghost use Rattle.fs_sched.specs.Checks.{kind_word, is_lawful, verdict_line};
 
 use fs_journal::{FaultKind, Verdict};
 use fs_text::Addition;
 use std::alloc::{AllocError, Global};
+
+pub(crate) fn is_lawful(verdict: &Verdict) -> bool
+    ensures { result ≡ is_lawful verdict.now }
+{
+    matches!(verdict, Verdict::Lawful)
+}
 
 fn kind_text(kind: FaultKind) -> &'static [u8]
     ensures { result.now ≡ kind_word kind }

@@ -12,25 +12,25 @@ use Rattle.fs_ops.proofs.finishing.finish_at.Goals as goal
 pub finish_rename-requires-clause-source : goal.finish_rename-requires-clause-source
 finish_rename-requires-clause-source c =
     let forked = forked_here c.args.walk.now c.args.node c.args.fork.now c.args.victim (form c.args.call.now) c.in-Rename.path c.in-Rename.new_path (ap form c.in-Rename.is) c.requires.names c.requires.arrived c.requires.node c.requires.forks in
-    let s = ap (λ (h : count.Head). h.walked) (c.source_of-source.ensures c.args.walk.now.names) in
+    let s = ap (λ (h : count.Head). h.walked) (c.source_of.ensures c.args.walk.now.names) in
     omega (arith, forked.source, forked.names, s, c.walked.ensures.walked)
 
 pub finish_rename-requires-clause-dest : goal.finish_rename-requires-clause-dest
 finish_rename-requires-clause-dest c =
     let forked = forked_here c.args.walk.now c.args.node c.args.fork.now c.args.victim (form c.args.call.now) c.in-Rename.path c.in-Rename.new_path (ap form c.in-Rename.is) c.requires.names c.requires.arrived c.requires.node c.requires.forks in
-    let s = ap (λ (h : count.Head). h.walked) (c.dest_of-dest.ensures c.args.walk.now.names) in
+    let s = ap (λ (h : count.Head). h.walked) (c.dest_of.ensures c.args.walk.now.names) in
     omega (arith, forked.dest, forked.names, s, c.walked.ensures.walked)
 
 pub finish_rename-requires-clause-apart : goal.finish_rename-requires-clause-apart
 finish_rename-requires-clause-apart c n =
     apart_by c.args.walk.now c.args.node c.args.fork.now c.args.victim (form c.args.call.now) c.in-Rename.path c.in-Rename.new_path (ap form c.in-Rename.is) c.requires.names c.requires.arrived c.requires.node c.requires.forks
-    c.walked.result c.source_of-source.result c.dest_of-dest.result c.walked.ensures.walked (c.requires.can.heads _ refl) (c.source_of-source.ensures c.args.walk.now.names) (c.dest_of-dest.ensures c.args.walk.now.names) n
+    c.walked.result c.source_of.result c.dest_of.result c.walked.ensures.walked (c.requires.can.heads _ refl) (c.source_of.ensures c.args.walk.now.names) (c.dest_of.ensures c.args.walk.now.names) n
 
 pub returns-in-Rename-clause-made : goal.returns-in-Rename-clause-made
 returns-in-Rename-clause-made c =
     rename_by (graph_of c.args.store.now) (graph_of c.finish_rename.new.store) c.args.walk.now c.args.node c.args.fork.now c.args.victim c.args.reserved c.finish_rename.result (form c.args.call.now) c.in-Rename.path c.in-Rename.new_path
-    c.walked.result c.source_of-source.result c.dest_of-dest.result c.walked.ensures.walked
-    (ap form c.in-Rename.is) c.requires.names c.requires.arrived c.requires.node c.requires.forks (c.source_of-source.ensures c.args.walk.now.names) (c.dest_of-dest.ensures c.args.walk.now.names) c.finish_rename.ensures.made
+    c.walked.result c.source_of.result c.dest_of.result c.walked.ensures.walked
+    (ap form c.in-Rename.is) c.requires.names c.requires.arrived c.requires.node c.requires.forks (c.source_of.ensures c.args.walk.now.names) (c.dest_of.ensures c.args.walk.now.names) c.finish_rename.ensures.made
 
 pub returns-in-Unlink-clause-made : goal.returns-in-Unlink-clause-made
 returns-in-Unlink-clause-made c =

@@ -1,0 +1,152 @@
+//! The runner that runs a script by drawn schedules, one after the other.
+
+ghost use Rattle.std.specs.Prelude.{◌≡◌, ◌≢◌, ◌+◌, ◌-◌, ◌<◌, ◌≤◌, ◌^◌, ◌++◌, [], ℕ, List, true, Ok, Err, IfOk, OnOk, OnErr, IfErr, IfSome, IsErrOf};
+ghost use Rattle.std.specs.Io.KnownBytes.{Appends, IsAtEnd};
+ghost use Rattle.fs_text.specs.declared.fault.ScriptFault.{ScriptFault};
+ghost use Rattle.fs_script.specs.Script.{script_of};
+ghost use Rattle.fs_sched.specs.Devices.{WritesBeginning};
+ghost use Rattle.fs_sched.specs.Seeds.{seed_line, lawful_line, IsLawfulFrom, AreLawful, AreRunsOf};
+ghost use Rattle.fs_sched.specs.Stages.{IsRefusal, IsFaultOrRefusal};
+
+use crate::device::{Sink, Source};
+use crate::fault::{RunFault, run_fault};
+use crate::reading::read_text;
+use crate::running::play;
+use crate::schedule::Schedule;
+use crate::verdict_line::{is_lawful, push_verdict};
+use crate::writing::write_text;
+use fs_journal::{Verdict, check};
+use fs_script::{Script, read_script};
+use fs_text::Addition;
+use std::alloc::{AllocError, Global};
+
+/// The greatest number that a first run is drawn from.
+pub const SEED_LIMIT: u64 = 9_223_372_036_854_775_807;
+
+/// The most runs that are drawn.
+pub const RUN_LIMIT: u64 = 10_000;
+
+/// The lines of runs, and whether each says that its run is lawful.
+#[derive(Drop)]
+struct MadeLines {
+    text: Vec<u8>,
+    lawful: bool,
+}
+
+fn push_line(seed: u64, verdict: &Verdict, lines: &mut Addition) -> Result<(), AllocError>
+    ensures ok { OnOk result (lines.new.added ≡ lines.old.added ++ seed_line seed verdict.now) }
+    ensures before { lines.new.before ≡ lines.old.before }
+{
+    lines.push(b"seed ")?;
+    lines.push_number(seed)?;
+    lines.push(b" ")?;
+    push_verdict(verdict, lines)
+}
+
+/// Adds the line of the run that is drawn from a number, and answers whether it is lawful.
+fn push_run(
+    alloc: Global,
+    script: &Script,
+    seed: u64,
+    lines: &mut Addition,
+) -> Result<bool, RunFault>
+    ensures run { OnOk result (IsLawfulFrom script.now seed) }
+    ensures line { OnOk result (lines.new.added ≡ lines.old.added ++ lawful_line seed) }
+    ensures lawful { IfOk result (λ lawful. lawful ≡ true) }
+    ensures before { lines.new.before ≡ lines.old.before }
+    ensures fault { IfErr result IsRefusal }
+{
+    let play = match play(alloc, script, Schedule::Seeded(seed)) {
+        Ok(play) => play,
+        Err(fault) => return Err(fault),
+    };
+    play.core.told();
+    let Ok(verdict) = check(alloc, play.core.timeline()) else {
+        return Err(RunFault::OutOfMemory);
+    };
+    match push_line(seed, &verdict, lines) {
+        Ok(()) => Ok(is_lawful(&verdict)),
+        Err(_) => Err(RunFault::OutOfMemory),
+    }
+}
+
+/// The lines of so many runs, drawn from a number, the next one, and so on.
+fn make_lines(alloc: Global, script: &Script, seed: u64, runs: u64) -> Result<MadeLines, RunFault>
+    requires seed { seed ≤ SEED_LIMIT }
+    requires runs { runs ≤ RUN_LIMIT }
+    ensures ok { IfOk result (λ made. AreLawful script.now seed runs made.text.items) }
+    ensures lawful { IfOk result (λ made. made.lawful ≡ true) }
+    ensures fault { IfErr result IsRefusal }
+{
+    let mut lines = Addition::new(Vec::new(alloc));
+    let mut lawful = true;
+    for run in 0..runs {
+        match push_run(alloc, script, seed + run, &mut lines) {
+            Ok(well) => lawful = lawful && well,
+            Err(fault) => return Err(fault),
+        }
+    }
+    Ok(MadeLines {
+        text: lines.kept(),
+        lawful,
+    })
+}
+
+/// The same of the script that a text has.
+fn lines_of_script(alloc: Global, text: &[u8], seed: u64, runs: u64) -> Result<MadeLines, RunFault>
+    requires seed { seed ≤ SEED_LIMIT }
+    requires runs { runs ≤ RUN_LIMIT }
+    ensures ok { IfOk result (λ made. AreRunsOf seed runs text.now made.text.items) }
+    ensures lawful { IfOk result (λ made. made.lawful ≡ true) }
+    ensures fault { IfErr result (IsFaultOrRefusal (script_of text.now)) }
+{
+    let script = match read_script(alloc, text) {
+        Ok(script) => script,
+        Err(fault) => return Err(run_fault(fault)),
+    };
+    make_lines(alloc, &script, seed, runs)
+}
+
+/// Reads a script to its end, runs it so many times, by the threads that are drawn from a number, the next one, and so
+/// on, has each run's journal checked, and writes a line for each: `seed`, the number, and the verdict. The answer is
+/// whether each is lawful, and by the clauses it is. All lines are made before the first byte is written.
+pub fn run_seeds<R: Source, W: Sink>(
+    alloc: Global,
+    reader: &mut R,
+    writer: &mut W,
+    seed: u64,
+    runs: u64,
+) -> Result<bool, RunFault>
+    requires reads { R.failures reader.old < 2 ^ 64 - 1 }
+    requires writes { W.failures writer.old < 2 ^ 64 - 1 }
+    requires seed { seed ≤ SEED_LIMIT }
+    requires some { 1 ≤ runs }
+    requires most { runs ≤ RUN_LIMIT }
+
+    // Each run is lawful, and what is written says so.
+    ensures ran { OnOk result ((text : List ℕ) × IfSome (R.remaining reader.old) (λ input. AreRunsOf seed runs input text) × Appends (W.contents writer.old) (W.contents writer.new) text) }
+    ensures lawful { IfOk result (λ lawful. lawful ≡ true) }
+    ensures end { OnOk result (IsAtEnd (R.remaining reader.new)) }
+    ensures input { (f : ScriptFault) → result ≡ Err (RunFault.Input f) → IfSome (R.remaining reader.old) (λ input. script_of input ≡ Err f) }
+
+    // A device is blamed only where it failed in this call.
+    ensures read { IsErrOf result RunFault.Read → R.failures reader.new ≡ R.failures reader.old + 1 }
+    ensures write { IsErrOf result RunFault.Write → W.failures writer.new ≡ W.failures writer.old + 1 }
+
+    // After a failed write a beginning of the lines stands, and after every other error nothing was written.
+    ensures nothing { result ≢ Err RunFault.Write → OnErr result (writer.new ≡ writer.old) }
+    ensures beginning { IsErrOf result RunFault.Write → (text : List ℕ) × IfSome (R.remaining reader.old) (λ input. AreRunsOf seed runs input text) × WritesBeginning text (W.contents writer.old) (W.contents writer.new) }
+{
+    let text = match read_text(alloc, reader) {
+        Ok(text) => text,
+        Err(fault) => return Err(fault),
+    };
+    let made = match lines_of_script(alloc, &text, seed, runs) {
+        Ok(made) => made,
+        Err(fault) => return Err(fault),
+    };
+    match write_text(writer, &made.text) {
+        Ok(()) => Ok(made.lawful),
+        Err(fault) => Err(fault),
+    }
+}
