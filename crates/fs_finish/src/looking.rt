@@ -14,6 +14,7 @@ use crate::room::{NameRoom, Room};
 use fs_names::{Kind, Name};
 use fs_nodes::{NodeNo, Store};
 use fs_seq::errno::Errno;
+use fs_seq::ranges::part;
 use fs_seq::{NameList, Reply};
 
 /// Why a walk with names left ends at a node.
@@ -96,20 +97,6 @@ pub fn readdir(store: &Store, node: NodeNo, prepared: Room) -> Replies
         return Replies::failed(Errno::Enotdir);
     }
     Replies::failed(Errno::Enoent)
-}
-
-/// The bytes from an offset on, and no more than a count.
-fn part(bytes: &[u8], off: u64, count: u64) -> &[u8]
-    ensures { result.now ≡ take count (drop off bytes.now) }
-{
-    if off >= bytes.len() as u64 {
-        return &[];
-    }
-    let rest = &bytes[off as usize..];
-    if count >= rest.len() as u64 {
-        return rest;
-    }
-    &rest[..count as usize]
 }
 
 /// The bytes of the file from an offset on, and no more than a count.

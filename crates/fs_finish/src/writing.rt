@@ -16,13 +16,7 @@ use fs_names::FILE_LIMIT;
 use fs_nodes::{NodeNo, Store};
 use fs_seq::Reply;
 use fs_seq::errno::Errno;
-
-/// Whether a file can be as long as an offset and so many bytes from it on.
-fn fits(off: u64, count: usize) -> bool
-    ensures { result ≡ nat_le (off + count) FILE_LIMIT }
-{
-    off <= FILE_LIMIT as u64 && count <= FILE_LIMIT - off as usize
-}
+use fs_seq::ranges::{fits, put};
 
 /// The bytes again, with zeros up to a length.
 fn lengthened(bytes: &[u8], len: usize, buffer: ByteRoom) -> Vec<u8>
@@ -50,14 +44,6 @@ fn taken_out(store: &mut Store, file: NodeNo, len: usize, buffer: ByteRoom) -> V
         return store.swap_content(file, buffer.into_vec());
     }
     lengthened(store.content(file), len, buffer)
-}
-
-/// Puts bytes over those from an offset on.
-fn put(old: &mut [u8], off: usize, bytes: &[u8])
-    requires { off + length bytes.now ≤ length old.old }
-    ensures { old.new ≡ take off old.old ++ bytes.now ++ drop (off + length bytes.now) old.old }
-{
-    old[off..off + bytes.len()].copy_from_slice(bytes);
 }
 
 /// Puts bytes over those of a file from an offset on; a gap is filled with zeros.

@@ -200,7 +200,7 @@ impl Path {
 
     /// Appends the path as it is read again: a slash for the root, else each name after a slash. The text grows by
     /// its own allocator, once and before anything is written, so a refusal leaves it as it was.
-    pub fn write(&self, _alloc: Global, text: &mut Vec<u8>) -> Result<(), AllocError>
+    pub fn write(&self, text: &mut Vec<u8>) -> Result<(), AllocError>
         ensures ok { OnOk result (text.new.items ≡ text.old.items ++ path_text self.now) }
         ensures err { OnErr result (text.new.items ≡ text.old.items) }
         ensures has_room { vec_len text.old + length (path_text self.now) ≤ vec_capacity text.old → IsOk result }

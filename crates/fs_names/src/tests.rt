@@ -174,12 +174,12 @@ fn writes_paths(rt: HostRuntime) -> Result<(), Fail> {
     ];
     for (bytes, want) in rows {
         let mut text = Vec::from_slice(alloc, b"at ")?;
-        Path::parse(alloc, bytes)?.write(alloc, &mut text)?;
+        Path::parse(alloc, bytes)?.write(&mut text)?;
         assert_eq!(rt; text.as_slice(), want);
     }
     let bytes = after_names(alloc, 63, b"/abcdefghijklmnopqrstuvwxyz012345")?;
     let mut text = Vec::new(alloc);
-    Path::parse(alloc, bytes.as_slice())?.write(alloc, &mut text)?;
+    Path::parse(alloc, bytes.as_slice())?.write(&mut text)?;
     assert_eq!(rt; text.as_slice(), bytes.as_slice());
     Ok(())
 }
@@ -215,9 +215,9 @@ fn answers_a_refused_growth(rt: HostRuntime) -> Result<(), Fail> {
     };
     assert_eq!(rt; copy.common(&read), 5);
     let mut text = Vec::new(alloc);
-    if read.write(alloc, &mut text) == Err(AllocError) {
+    if read.write(&mut text) == Err(AllocError) {
         assert_eq!(rt; text.len(), 0);
-        read.write(alloc, &mut text)?;
+        read.write(&mut text)?;
     }
     assert_eq!(rt; text.as_slice(), bytes);
     Ok(())

@@ -10,6 +10,7 @@ mod looking;
 mod making;
 pub mod name_list;
 mod nodes;
+pub mod ranges;
 mod removing;
 mod renaming;
 pub mod reply;

@@ -13,6 +13,7 @@ use crate::call::Call;
 use crate::errno::Errno;
 use crate::name_list::NameList;
 use crate::nodes::{Link, Node, resolve};
+use crate::ranges::part;
 use crate::reply::Reply;
 use fs_names::{Kind, Path};
 use slab::Slab;
@@ -69,20 +70,6 @@ pub fn readdir(alloc: Global, nodes: &Slab<Node>, path: &Path) -> Result<Reply, 
             Ok(Reply::Names(names))
         }
     }
-}
-
-/// The bytes from an offset on, and no more than a count.
-fn part(bytes: &[u8], off: u64, count: u64) -> &[u8]
-    ensures { result.now ≡ take count (drop off bytes.now) }
-{
-    if off >= bytes.len() as u64 {
-        return &[];
-    }
-    let rest = &bytes[off as usize..];
-    if count >= rest.len() as u64 {
-        return rest;
-    }
-    &rest[..count as usize]
 }
 
 /// The same bytes again, in exactly as much memory.

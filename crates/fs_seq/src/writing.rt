@@ -11,25 +11,11 @@ ghost use Rattle.fs_seq.specs.Effects.{Answers, Fills, overflow, too_long, writt
 use crate::call::Call;
 use crate::errno::Errno;
 use crate::nodes::{Node, resolve};
+use crate::ranges::{fits, put};
 use crate::reply::Reply;
 use fs_names::{FILE_LIMIT, Path};
 use slab::Slab;
 use std::alloc::AllocError;
-
-/// Whether a file can be as long as an offset and so many bytes from it on.
-fn fits(off: u64, count: usize) -> bool
-    ensures { result ≡ nat_le (off + count) FILE_LIMIT }
-{
-    off <= FILE_LIMIT as u64 && count <= FILE_LIMIT - off as usize
-}
-
-/// Puts bytes over those from an offset on.
-fn put(old: &mut [u8], off: usize, bytes: &[u8])
-    requires { off + length bytes.now ≤ length old.old }
-    ensures { old.new ≡ take off old.old ++ bytes.now ++ drop (off + length bytes.now) old.old }
-{
-    old[off..off + bytes.len()].copy_from_slice(bytes);
-}
 
 /// Adds zeros up to a length, where there are fewer bytes.
 fn grow(bytes: &mut Vec<u8>, len: usize) -> Result<(), AllocError>

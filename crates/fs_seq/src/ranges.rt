@@ -1,0 +1,34 @@
+//! Ranges of a file's bytes: what a read answers of them, and what a write puts over.
+
+ghost use Rattle.std.specs.Prelude.{◌≡◌, ◌≤◌, ◌+◌, ◌++◌, take, drop, length, nat_le};
+
+use fs_names::FILE_LIMIT;
+
+/// The bytes from an offset on, and no more than a count.
+pub fn part(bytes: &[u8], off: u64, count: u64) -> &[u8]
+    ensures { result.now ≡ take count (drop off bytes.now) }
+{
+    if off >= bytes.len() as u64 {
+        return &[];
+    }
+    let rest = &bytes[off as usize..];
+    if count >= rest.len() as u64 {
+        return rest;
+    }
+    &rest[..count as usize]
+}
+
+/// Whether a file can be as long as an offset and so many bytes from it on.
+pub fn fits(off: u64, count: usize) -> bool
+    ensures { result ≡ nat_le (off + count) FILE_LIMIT }
+{
+    off <= FILE_LIMIT as u64 && count <= FILE_LIMIT - off as usize
+}
+
+/// Puts bytes over those from an offset on.
+pub fn put(old: &mut [u8], off: usize, bytes: &[u8])
+    requires { off + length bytes.now ≤ length old.old }
+    ensures { old.new ≡ take off old.old ++ bytes.now ++ drop (off + length bytes.now) old.old }
+{
+    old[off..off + bytes.len()].copy_from_slice(bytes);
+}
