@@ -103,6 +103,8 @@ impl Held {
 }
 
 impl Default for Held {
+    ghost is_default = { λ h. h ≡ [] };
+
     fn default() -> Self {
         Held::new()
     }
