@@ -1,5 +1,5 @@
 -- Ascents from a node to the root, which are shorter than a bound of the numbers in use, and whether they meet a node.
-use Rattle.std.proofs.Common.{◌≡◌, ℕ, zero, suc, ◌+◌, ◌<◌, ◌≤◌, Bool, true, false, cond, eqb, List, [], ◌∷◌, ◌++◌, Option, Some, None, length, length-append, drop, refl, sym, ap, ◌∙◌, arith, subst}
+use Rattle.std.proofs.Common.{◌≡◌, ℕ, zero, suc, ◌+◌, ◌<◌, ◌≤◌, Bool, true, false, eqb, List, [], ◌∷◌, ◌++◌, Option, Some, None, length, length-append, drop, refl, sym, ap, ◌∙◌, arith}
 use Rattle.std.specs.Prelude.{◌||◌, nat_eq, slice_get}
 use Rattle.std.specs.List.{AllByRecursion, IsDistinct, list_any}
 use Rattle.std.proofs.lemmas.Map.Steps.{length-le_from_distinct_below}
@@ -8,7 +8,7 @@ use Rattle.fs_names.specs.Names.{Name}
 use Rattle.fs_names.specs.Shapes.{Shape, Dir}
 use Rattle.fs_nodes.specs.Graphs.{Graph, Kids, at, then_at, numbers, IsGraph}
 use Rattle.fs_nodes.specs.Stores.{IsUnlinked, IsParent}
-use Rattle.fs_laws.proofs.Walks.{eqb_true, at_from, at_before, at_child, then_some}
+use Rattle.fs_laws.proofs.Walks.{eqb_true, at_from, at_before, at_child}
 use Rattle.fs_laws.proofs.Pairs.{Ends, ends, ends_same}
 use Rattle.fs_core.specs.Rooms.{AreBelow}
 use Rattle.fs_core.specs.Searches.{IsReached}

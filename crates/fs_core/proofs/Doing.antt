@@ -4,21 +4,19 @@ use Rattle.std.specs.Prelude.{slice_get, slice_set, IsSome}
 use Rattle.std.proofs.lemmas.Option.{slice_get_within, slice_get_read}
 use Rattle.fs_names.specs.Shapes.{Shape}
 use Rattle.fs_seq.specs.declared.reply.Reply.{Reply}
-use Rattle.fs_nodes.specs.Graphs.{Graph, set_at}
+use Rattle.fs_nodes.specs.Graphs.{set_at}
 use Rattle.fs_nodes.specs.Places.{Places}
-use Rattle.fs_nodes.specs.Stores.{graph_of, kid}
+use Rattle.fs_nodes.specs.Stores.{graph_of}
 use Rattle.fs_locks.specs.Holding.{Holding, holder, room}
-use Rattle.fs_journal.specs.declared.entry.Entry.{Entry}
-use Rattle.fs_journal.specs.declared.entry.Entry.TheVariants.{Begin, Commit, Return}
+use Rattle.fs_journal.specs.declared.entry.Entry.TheVariants.{Commit, Return}
 use Rattle.fs_moves.specs.Leaving.{is_removed, releasing, unreserved}
 use Rattle.fs_moves.specs.Moves.{Move, Takes, Leaves, Finishes, Ends, next}
-use Rattle.fs_moves.specs.Records.{Record}
 use Rattle.fs_moves.specs.Works.{Work, record_of, next_of, IsTook, IsLetGo, IsFinished, IsSpare, SpareIf, CanFinish, graph_after}
-use Rattle.fs_laws.specs.States.{State, Moves, Step, Idle, Took, Busy, LetGo, Helped, Committed, CarriedOut, Returned, NoneBelow, Run}
+use Rattle.fs_laws.specs.States.{Step, Idle, Took, Busy, LetGo, Helped, Committed, CarriedOut, Returned, NoneBelow}
 use Rattle.fs_laws.proofs.CallMoves.{takes_used, takes_another, leaves_held}
 use Rattle.fs_laws.proofs.CallGraphs.{spare_reserved, spare_removed, can_finish}
 use Rattle.fs_core.specs.declared.running.Running.{Running}
-use Rattle.fs_core.specs.Machines.{Machine, state_of, number_on, number_of, records}
+use Rattle.fs_core.specs.Machines.{Machine, state_of, number_of, records}
 use Rattle.fs_core.specs.Rooms.{walking, walking_at, owed_at, owed, IsKept}
 use Rattle.fs_core.specs.Helping.{Helps, HelpsIf}
 use Rattle.fs_core.specs.Seats.{MovesOn, PlacedOn, Goes, placed}

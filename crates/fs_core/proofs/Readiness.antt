@@ -1,27 +1,24 @@
 -- What a begin rests on and leaves.
-use Rattle.std.proofs.Common.{◌≡◌, ℕ, zero, suc, ◌+◌, ◌-◌, ◌<◌, ◌≤◌, Bool, true, false, cond, eqb, List, [], ◌∷◌, ◌++◌, Option, Some, None, length, get_or, refl, sym, ap, ◌∙◌, arith, subst}
-use Rattle.std.specs.Prelude.{slice_get, slice_set, IsSome, IsTrue, is_some, Result, Err}
+use Rattle.std.proofs.Common.{◌≡◌, ℕ, ◌+◌, ◌-◌, ◌<◌, ◌≤◌, Bool, true, false, cond, eqb, List, [], ◌∷◌, ◌++◌, Option, Some, None, length, get_or, refl, sym, ap, ◌∙◌, arith, subst}
+use Rattle.std.specs.Prelude.{slice_get, slice_set, IsSome, is_some, Result, Err}
 use Rattle.fs_core.specs.Answers.{begun_as}
 use Rattle.fs_core.specs.declared.answer.Refusal.{Refusal}
 use Rattle.fs_core.specs.declared.answer.Refusal.TheVariants as refusals
 use Rattle.fs_core.specs.declared.beginning.Ready.{Ready}
 use mathlib.Core.Path.{fun_ext}
 use Rattle.std.proofs.lemmas.Option.{slice_get_within, slice_get_read}
-use Rattle.fs_names.specs.Names.{Name}
 use Rattle.fs_names.specs.Shapes.{Shape, Dir, File, is_there, has_entries}
 use Rattle.fs_seq.specs.Forms.{form, Form, EntryCall, On, In, Rename, Mkdir, Mknod, Unlink, Rmdir, new_shape, reserves}
 use Rattle.fs_seq.specs.declared.call.Call.{Call}
 use Rattle.fs_nodes.specs.Graphs.{Graph, IsGraph, set_at, reserved_in, released_in, empty_graph}
 use Rattle.fs_nodes.specs.Places.{Places}
-use Rattle.fs_nodes.specs.Stores.{graph_of, in_use, used_below}
+use Rattle.fs_nodes.specs.Stores.{graph_of, in_use}
 use Rattle.fs_locks.specs.Holding.{Holding, holder, room}
-use Rattle.fs_journal.specs.declared.entry.Entry.{Entry}
-use Rattle.fs_journal.specs.declared.entry.Entry.TheVariants.{Begin, Commit, Return}
+use Rattle.fs_journal.specs.declared.entry.Entry.TheVariants.{Begin}
 use Rattle.fs_moves.specs.Leaving.{unreserved}
-use Rattle.fs_moves.specs.Records.{Record, Walking}
 use Rattle.fs_moves.specs.Works.{Work, new_work, record_of, BegunAs, IsSpare, SpareIf}
-use Rattle.fs_laws.specs.Books.{begins, commit_count}
-use Rattle.fs_laws.specs.States.{State, empty, new_op, began, Begun, Begun_as, Seat_busy, Full, No_memory, IsFull, Reserves, Begins, Run, Start, Beginning}
+use Rattle.fs_laws.specs.Books.{begins}
+use Rattle.fs_laws.specs.States.{State, empty, began, Begun_as, Seat_busy, Full, No_memory, IsFull, Reserves, Begins, Run, Start, Beginning}
 use Rattle.fs_laws.proofs.Accounts.{not_begun}
 use Rattle.fs_laws.proofs.Headlines.{run_keeps}
 use Rattle.fs_laws.proofs.Walks.{eqb_refl, eqb_true}

@@ -1,9 +1,8 @@
 -- What a search among the seats finds.
-use Rattle.std.proofs.Common.{◌≡◌, ℕ, zero, suc, ◌+◌, ◌<◌, ◌≤◌, Bool, true, false, List, [], ◌∷◌, Option, Some, None, length, refl, sym, ap, ◌∙◌, arith, subst, ◌⊎◌, inl, inr}
+use Rattle.std.proofs.Common.{◌≡◌, ℕ, ◌+◌, ◌<◌, ◌≤◌, Bool, true, false, List, Option, Some, None, length, refl, sym, ap, ◌∙◌, arith, subst, ◌⊎◌, inl, inr}
 use Rattle.std.specs.Prelude.{slice_get, option_and_then, nat_lt, IsTrue}
 use Rattle.std.proofs.lemmas.Option.{slice_get_within}
-use Rattle.fs_names.specs.Keys.{Key}
-use Rattle.fs_nodes.specs.Graphs.{Kids, at}
+use Rattle.fs_nodes.specs.Graphs.{Kids}
 use Rattle.fs_core.specs.declared.running.Running.{Running}
 use Rattle.fs_core.specs.Machines.{number_on}
 use Rattle.fs_core.specs.Searches.{IsReached, position_of, IsUnder, IsAlone, IsLowestOn, HasLeast, is_lesser}

@@ -1,5 +1,5 @@
 -- Lists of seats: what is on each, the records by number, and what is owed, after one seat changed.
-use Rattle.std.proofs.Common.{◌≡◌, ℕ, zero, suc, ◌+◌, ◌<◌, ◌≤◌, Bool, true, false, cond, eqb, List, [], ◌∷◌, ◌++◌, Option, Some, None, length, refl, sym, ap, ◌∙◌, arith, subst}
+use Rattle.std.proofs.Common.{◌≡◌, ℕ, zero, suc, ◌+◌, ◌<◌, Bool, true, false, cond, eqb, List, [], ◌∷◌, ◌++◌, Option, Some, None, length, refl, sym, ap, ◌∙◌, arith, subst}
 use Rattle.std.specs.Prelude.{slice_get, slice_set}
 use Rattle.std.specs.Option.{option_flatten}
 use mathlib.Core.Path.{fun_ext}
@@ -9,7 +9,7 @@ use Rattle.fs_moves.specs.Works.{record_of}
 use Rattle.std.proofs.Math.Dec.{eqb-suc-zero, eqb-zero-suc, eqb-suc-suc}
 use Rattle.fs_laws.proofs.Walks.{eqb_refl, eqb_true}
 use Rattle.fs_core.specs.declared.running.Running.{Running}
-use Rattle.fs_core.specs.Machines.{running_on, number_of, number_on, record_from, records}
+use Rattle.fs_core.specs.Machines.{number_of, number_on, record_from, records}
 use Rattle.fs_core.specs.Rooms.{walking_at, walking, owed_at, owed}
 
 -- no two seats have a call of one number

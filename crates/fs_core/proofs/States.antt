@@ -1,5 +1,5 @@
 -- States of a core: when two are the same, and what a call on a seat is in them.
-use Rattle.std.proofs.Common.{◌≡◌, ℕ, ◌+◌, ◌<◌, List, [], ◌∷◌, ◌++◌, Option, Some, None, length, refl, sym, ap, ◌∙◌, arith, subst}
+use Rattle.std.proofs.Common.{◌≡◌, ℕ, ◌+◌, List, [], ◌∷◌, ◌++◌, Option, Some, None, refl, sym, ap, ◌∙◌}
 use Rattle.std.specs.Prelude.{slice_get}
 use Rattle.fs_seq.specs.declared.reply.Reply.{Reply}
 use Rattle.fs_nodes.specs.Graphs.{Graph}
@@ -7,17 +7,16 @@ use Rattle.fs_nodes.specs.Stores.{graph_of}
 use Rattle.fs_journal.specs.declared.entry.Entry.{Entry}
 use Rattle.fs_journal.specs.declared.entry.Entry.TheVariants.{Begin, Commit, Return}
 use Rattle.fs_names.specs.Keys.{Key}
-use Rattle.fs_moves.specs.Leaving.{let_go, finished_op}
-use Rattle.fs_moves.specs.Finishes.{Made, finish}
-use Rattle.fs_moves.specs.Moves.{Move, next, took, took_by, target}
-use Rattle.fs_moves.specs.Records.{Stand, Phase, Walking, Placed, Finished, Record, Records}
+use Rattle.fs_moves.specs.Finishes.{finish}
+use Rattle.fs_moves.specs.Moves.{Move, took, took_by, target}
+use Rattle.fs_moves.specs.Records.{Stand, Finished, Record, Records}
 use Rattle.fs_moves.specs.Works.{Work, phase_of, record_of, next_of, IsTook, IsLetGo, IsFinished}
 use Rattle.fs_laws.specs.Books.{begins, commit_count}
 use Rattle.fs_laws.specs.Invariants.{Invariant}
 use Rattle.fs_laws.specs.States.{State, Moves, Run}
 use Rattle.fs_laws.proofs.Headlines.{run_keeps}
 use Rattle.fs_core.specs.declared.running.Running.{Running}
-use Rattle.fs_core.specs.Machines.{Machine, state_of, number_on, records}
+use Rattle.fs_core.specs.Machines.{Machine, state_of, records}
 use Rattle.fs_core.proofs.SeatLemmas.{AreApart, number_read, records_at}
 use Rattle.fs_core.proofs.WorkLemmas.{next_is}
 

@@ -1,5 +1,5 @@
 -- What each step of a core rests on, and what it leaves.
-use Rattle.std.proofs.Common.{◌≡◌, ℕ, zero, suc, ◌+◌, ◌-◌, ◌<◌, ◌≤◌, Bool, true, false, cond, eqb, List, [], ◌∷◌, ◌++◌, Option, Some, None, length, refl, sym, ap, ◌∙◌, arith, subst}
+use Rattle.std.proofs.Common.{◌≡◌, ℕ, ◌+◌, ◌-◌, ◌<◌, Bool, true, false, cond, eqb, [], ◌∷◌, ◌++◌, Option, Some, None, length, refl, sym, ap, ◌∙◌, arith}
 use Rattle.std.specs.Prelude.{slice_get, slice_set}
 use Rattle.std.proofs.lemmas.Option.{slice_get_within}
 use Rattle.fs_seq.specs.declared.reply.Reply.{Reply}
@@ -9,23 +9,22 @@ use Rattle.fs_nodes.specs.Places.{Places}
 use Rattle.fs_nodes.specs.Stores.{graph_of}
 use Rattle.fs_locks.specs.Holding as holders
 use Rattle.fs_locks.specs.Holding.{Holding, holder}
-use Rattle.fs_journal.specs.declared.entry.Entry.{Entry}
-use Rattle.fs_journal.specs.declared.entry.Entry.TheVariants.{Begin, Commit, Return}
+use Rattle.fs_journal.specs.declared.entry.Entry.TheVariants.{Commit, Return}
 use Rattle.fs_moves.specs.Finishes.{finish}
-use Rattle.fs_moves.specs.Leaving.{is_removed, releasing, let_go, finished_op, unreserved}
-use Rattle.fs_moves.specs.Moves.{Move, Takes, Leaves, Finishes, Ends, took}
-use Rattle.fs_moves.specs.Records.{Phase, Walking, Placed, Finished, Record, Records}
+use Rattle.fs_moves.specs.Leaving.{is_removed, releasing, unreserved}
+use Rattle.fs_moves.specs.Moves.{Takes, Leaves, Finishes, Ends}
+use Rattle.fs_moves.specs.Records.{Phase, Walking, Placed, Record}
 use Rattle.fs_moves.specs.Works.{Work, phase_of, record_of, next_of, IsTook, IsLetGo, IsFinished, graph_after}
-use Rattle.fs_laws.specs.Books.{begins, commit_count}
-use Rattle.fs_laws.specs.States.{State, Moves, Step, Idle, Took, Busy, LetGo, Helped, Committed, CarriedOut, Returned, IsChosen, NoneBelow, Run, Stepping}
+use Rattle.fs_laws.specs.Books.{commit_count}
+use Rattle.fs_laws.specs.States.{Step, Took, LetGo, Helped, Committed, CarriedOut, Returned, IsChosen, NoneBelow, Run, Stepping}
 use Rattle.fs_laws.specs.Invariants.{Invariant}
 use Rattle.fs_laws.proofs.Accounts.{run_accounts}
 use Rattle.fs_laws.proofs.Headlines.{run_keeps}
 use Rattle.fs_laws.proofs.Resizing.{finish_resizes}
 use Rattle.fs_core.specs.declared.running.Running.{Running}
-use Rattle.fs_core.specs.Machines.{Machine, state_of, number_on, records}
-use Rattle.fs_core.specs.Rooms.{is_walking, walking_at, walking, owed_at, owed, IsKept}
-use Rattle.fs_core.proofs.SeatLemmas.{AreApart, records_changed, records_ended, numbers_set, numbers_changed, owed_set, walking_set}
+use Rattle.fs_core.specs.Machines.{Machine, state_of, records}
+use Rattle.fs_core.specs.Rooms.{is_walking, walking_at, owed_at, IsKept}
+use Rattle.fs_core.proofs.SeatLemmas.{records_changed, records_ended, numbers_set, numbers_changed, owed_set, walking_set}
 use Rattle.fs_core.proofs.WorkLemmas.{finish_is, unfinished_at}
 use Rattle.fs_core.proofs.States.{same_state, apart_of, call_on, moves, took_reply, left_reply, finished_reply, begins_commit, begins_return, commits_more, commits_return}
 

@@ -1,12 +1,12 @@
 -- Moves and finishes of a call's work, whatever its seat and its place.
-use Rattle.std.proofs.Common.{◌≡◌, ℕ, Option, Some, None, refl, sym, ap, ◌∙◌}
+use Rattle.std.proofs.Common.{◌≡◌, ℕ, Option, Some, None, refl}
 use Rattle.fs_seq.specs.declared.errno.Errno.{Errno}
 use Rattle.fs_seq.specs.declared.reply.Reply.{Reply}
 use Rattle.fs_seq.specs.Forms.{form, by_text}
 use Rattle.fs_nodes.specs.Graphs.{Graph}
-use Rattle.fs_moves.specs.Finishes.{Made, made_by, finish}
-use Rattle.fs_moves.specs.Moves.{Move, Takes, Leaves, Finishes, Ends, next, next_by, next_on}
-use Rattle.fs_moves.specs.Records.{Stand, Phase, Walking, Placed, Finished, Record}
+use Rattle.fs_moves.specs.Finishes.{made_by, finish}
+use Rattle.fs_moves.specs.Moves.{Finishes, Ends, next, next_by}
+use Rattle.fs_moves.specs.Records.{Stand, Finished}
 use Rattle.fs_laws.proofs.Agreeing.{by_ends}
 use Rattle.fs_moves.specs.Works.{Work, phase_of, record_of, next_of}
 

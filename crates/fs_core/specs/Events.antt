@@ -1,7 +1,6 @@
 -- Runs of events, and what is made ready for a call that begins.
 use Rattle.std.specs.Prelude.{ℕ, ◌≡◌, ◌<◌, List, [], ◌∷◌, Option, Some, None, length, take, slice_get}
 use Rattle.fs_locks.specs.Holding.{Holding, room}
-use Rattle.fs_seq.specs.declared.call.Call.{Call}
 use Rattle.fs_laws.specs.States as machine
 use Rattle.fs_laws.specs.States.{State, Begins, Step}
 use Rattle.fs_core.specs.declared.answer.Event.{Event}

@@ -52,12 +52,19 @@ impl Model for Core {
     ghost invariant = { λ a. IsKept (record { store = a.store; holding = a.holders; seats = a.seats.items; timeline = a.timeline.entries }) a.begun a.commits a.timeline.reserved };
 }
 
-/// A match on a call's next move and its place, whose arms are written from a table: the move, the phase of the call that the
-/// row is for (`None` while it walks), and what a step does.
+/// A match on a call's next move, whose arms are written from a table: the moves that are made in every phase of a call, and
+/// those that are made in one way while it walks and in another once it has its place.
 macro_rules! by_move {
-    ($next:expr, $place:expr; $($move:pat, $phase:pat => $row:expr,)+) => {
-        match ($next, $place) {
-            $(($move, $phase) => $row,)+
+    ($next:expr, $place:expr;
+        always { $($move:pat => $row:expr,)+ }
+        by_phase { $($phased:pat => { walking => $walking:expr, placed $at:ident => $placed:expr, })+ }
+    ) => {
+        match $next {
+            $($move => $row,)+
+            $($phased => match $place {
+                None => $walking,
+                Some($at) => $placed,
+            },)+
         }
     };
 }
@@ -179,11 +186,17 @@ impl Core {
         };
         let (call, place) = (running.call, running.place);
         by_move! { running.op.next(&self.store), place;
-            Move::Take(node), _ => self.take(at, call, node),
-            Move::LetGo(node), _ => self.let_go(at, call, node),
-            Move::Finish(moved), None => self.help_or_commit(at, call, moved),
-            Move::Finish(moved), Some(place) => self.carry_out(at, call, moved, place),
-            Move::Return, _ => self.end(at, call),
+            always {
+                Move::Take(node) => self.take(at, call, node),
+                Move::LetGo(node) => self.let_go(at, call, node),
+                Move::Return => self.end(at, call),
+            }
+            by_phase {
+                Move::Finish(moved) => {
+                    walking => self.help_or_commit(at, call, moved),
+                    placed place => self.carry_out(at, call, moved, place),
+                }
+            }
         }
     }
 

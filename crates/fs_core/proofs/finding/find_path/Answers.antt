@@ -1,4 +1,4 @@
-use Rattle.std.proofs.Common.{◌≡◌, ℕ, ◌+◌, Option, drop, sym, ap, ◌∙◌}
+use Rattle.std.proofs.Common.{ℕ, ◌+◌, Option, drop, sym, ap, ◌∙◌}
 use Rattle.fs_nodes.specs.Graphs.{at, then_at}
 use Rattle.fs_nodes.specs.Stores.{kid}
 use Rattle.fs_core.proofs.Below.{leads_to}

@@ -1,8 +1,6 @@
-use Rattle.std.proofs.Common.{◌≡◌, Option, Some, true, IsTrue, refl, sym, ◌∙◌}
-use Rattle.std.specs.Prelude.{slice_get}
+use Rattle.std.proofs.Common.{refl, sym, ◌∙◌}
 use Rattle.std.proofs.lemmas.Option.{slice_get_read}
 use Rattle.fs_nodes.specs.Stores.{kid}
-use Rattle.fs_core.specs.Searches.{position_of}
 use Rattle.fs_core.proofs.Searching.{lowest_at, alone_of, reached_of, true_is, false_is}
 use Rattle.fs_core.proofs.helping.is_lowest.Goals as goal
 

@@ -1,6 +1,5 @@
-use Rattle.std.proofs.Common.{◌≡◌, ℕ, Option, Some, None, refl, sym, ap, ◌∙◌}
-use Rattle.fs_core.specs.Machines.{Machine}
-use Rattle.fs_core.proofs.Doing.{seat_within, take_within, take_another, took_kept, busy_step}
+use Rattle.std.proofs.Common.{ℕ, Some, refl, sym, ap, ◌∙◌}
+use Rattle.fs_core.proofs.Doing.{take_within, take_another, took_kept, busy_step}
 use Rattle.fs_core.proofs.machine.Core.take.Goals as goal
 
 pub take-requires-clause-within : goal.take-requires-clause-within

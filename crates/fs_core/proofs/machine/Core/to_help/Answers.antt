@@ -1,5 +1,3 @@
-use Rattle.std.proofs.Common.{◌≡◌, List, Option, refl, sym, ap, ◌∙◌, subst}
-use Rattle.fs_core.specs.Machines.{Machine}
 use Rattle.fs_core.proofs.Choosing.{search_by, helped_by}
 use Rattle.fs_core.proofs.machine.Core.to_help.Goals as goal
 
