@@ -44,8 +44,8 @@ impl Op {
         ensures limit { store.new.limit ≡ store.old.limit }
         ensures room { room store.new ≡ room store.old }
     {
-        give_back(store, self.reserved());
-        let Op { outcome, .. } = self;
+        let Op { outcome, reserved, .. } = self;
+        give_back(store, reserved);
         match outcome {
             Outcome::Fixed(replies) => replies.into_pair(),
             Outcome::Open(_) => unreachable!(),
