@@ -44,7 +44,11 @@ impl Op {
         ensures limit { store.new.limit ≡ store.old.limit }
         ensures room { room store.new ≡ room store.old }
     {
-        let Op { outcome, reserved, .. } = self;
+        let Op {
+            outcome,
+            reserved,
+            ..
+        } = self;
         give_back(store, reserved);
         match outcome {
             Outcome::Fixed(replies) => replies.into_pair(),
