@@ -16,6 +16,7 @@ use fs_sched::{
     Device, RunEnd, RunFault, Schedule, Sink, Source, check_journal, run_script, run_seeds,
 };
 use std::alloc::Global;
+use std::io;
 use std::process::ExitCode;
 use words::Task;
 
@@ -43,6 +44,15 @@ fn ended<R: Eprint>(rt: &R, outcome: Result<bool, RunFault>) -> u8
             status_of_fault(&fault)
         }
     }
+}
+
+/// The status where the words cannot be read: 4 for want of memory, 2 where one is no UTF-8.
+fn unread(rt: &HostRuntime, error: &io::Error) -> u8 {
+    if error.kind() == io::ErrorKind::OutOfMemory {
+        return ended(rt, Err(RunFault::OutOfMemory));
+    }
+    let _ = eprintln!(rt; "atomfs: a word is not UTF-8");
+    2
 }
 
 /// The status where the words ask for no run: 0 after help on standard output, 2 after bad words on standard error.
@@ -97,8 +107,9 @@ fn perform(rt: &HostRuntime, task: &Task) -> u8
 }
 
 fn status(rt: &HostRuntime) -> u8 {
-    let Ok(args) = std::env::args(rt) else {
-        return 2;
+    let args = match std::env::args(rt) {
+        Ok(args) => args,
+        Err(error) => return unread(rt, &error),
     };
     let collected: Result<Vec<String>, _> = args.collect(rt.alloc());
     let Ok(given) = collected else {

@@ -212,6 +212,28 @@ fn first_mkdir(rt: HostRuntime) -> Result<(), Failure> {
     Ok(())
 }
 
+const TWO_ON_ONE_NAME: [(u64, Line, Told); 11] = [
+    (0, Line::Mkdir(b"/x"), Told::Began(1)),
+    (0, Line::Step, Told::Took(0)),
+    (1, Line::Mkdir(b"/x"), Told::Began(2)),
+    (1, Line::Step, Told::Busy(0, 1)),
+    (0, Line::Step, Told::Committed),
+    (0, Line::Step, Told::LetGo(0)),
+    (0, Line::Step, Told::Done),
+    (1, Line::Step, Told::Took(0)),
+    (1, Line::Step, Told::Committed),
+    (1, Line::Step, Told::LetGo(0)),
+    (1, Line::Step, Told::Fails(3)),
+];
+
+#[test]
+fn two_on_one_name(rt: HostRuntime) -> Result<(), Failure> {
+    let core = played(&rt, 8, &[], &TWO_ON_ONE_NAME)?;
+    assert_eq!(rt; core.timeline().len(), 6);
+    assert!(rt; finds(&rt, &core, b"/x", Some(1)));
+    Ok(())
+}
+
 const ON_THE_ROOT: [(u64, Line, Told); 12] = [
     (0, Line::Mkdir(b"/"), Told::Began(1)),
     (0, Line::Step, Told::Committed),
@@ -359,6 +381,26 @@ fn victim_is_waited_for(rt: HostRuntime) -> Result<(), Failure> {
     assert!(rt; finds(&rt, &core, b"/f", None));
     all_done(&rt, &mut core, 0, &[Line::Mkdir(b"/g")])?;
     assert!(rt; finds(&rt, &core, b"/g", Some(1)));
+    Ok(())
+}
+
+const FREED_NUMBER: [(u64, Line, Told); 9] = [
+    (0, Line::Rmdir(b"/a"), Told::Began(2)),
+    (0, Line::Step, Told::Took(0)),
+    (0, Line::Step, Told::Took(1)),
+    (0, Line::Step, Told::Committed),
+    (1, Line::Mknod(b"/b"), Told::Refused(Refusal::Full)),
+    (0, Line::Step, Told::LetGo(1)),
+    (1, Line::Mknod(b"/b"), Told::Began(3)),
+    (0, Line::Step, Told::LetGo(0)),
+    (0, Line::Step, Told::Done),
+];
+
+#[test]
+fn number_is_free_when_let_go(rt: HostRuntime) -> Result<(), Failure> {
+    let mut core = played(&rt, 2, &[Line::Mkdir(b"/a")], &FREED_NUMBER)?;
+    returns(&rt, &mut core, 1, Told::Done)?;
+    assert!(rt; finds(&rt, &core, b"/b", Some(1)));
     Ok(())
 }
 

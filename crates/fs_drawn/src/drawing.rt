@@ -147,3 +147,14 @@ pub fn call(alloc: Global, random: &mut Pcg32) -> Result<Call> {
     let names = low(random);
     Ok(plain(roll, path(alloc, random, names)?))
 }
+
+/// A mkdir or a stat of a path of one to three names.
+pub fn narrow_call(alloc: Global, random: &mut Pcg32) -> Result<Call> {
+    let names = below(random, 3).wrapping_add(1);
+    let path = path(alloc, random, names)?;
+    Ok(if below(random, 2) == 0 {
+        Call::Mkdir(path)
+    } else {
+        Call::Stat(path)
+    })
+}

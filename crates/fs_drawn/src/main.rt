@@ -18,11 +18,14 @@ use fs_journal::{Verdict, check};
 use rand_core::SeedableRng;
 use rand_pcg::Pcg32;
 use running::{Way, run_out, take_seats};
-use scripting::{Thread, script};
+use scripting::{Thread, narrow_script, script};
 use std::alloc::Global;
 use std::io;
 
-/// How many scripts are drawn.
+/// How many scripts of mkdir and stat are drawn, each run in one drawn order of events.
+const NARROW_SCRIPTS: u32 = 1000;
+
+/// How many scripts of all calls are drawn, each run in three orders of events.
 const SCRIPTS: u32 = 2000;
 
 /// How many nodes a tree may have: few in every eighth script, so that calls are refused.
@@ -73,6 +76,17 @@ fn runs(alloc: Global, random: &mut Pcg32, number: u32, tally: &mut Tally) -> an
     Ok(())
 }
 
+/// Draws a script of three threads of mkdir and stat, and an order of its events.
+fn narrow_run(
+    alloc: Global,
+    random: &mut Pcg32,
+    number: u32,
+    tally: &mut Tally,
+) -> anyhow::Result<()> {
+    let mut threads = narrow_script(alloc, random)?;
+    run(alloc, random, number, Way::Drawn, &mut threads, tally)
+}
+
 fn show(rt: &impl Print, tally: &Tally) -> io::Result<()> {
     for (what, count) in tally.rows() {
         println!(rt; "{what}: {count}")?;
@@ -80,13 +94,30 @@ fn show(rt: &impl Print, tally: &Tally) -> io::Result<()> {
     Ok(())
 }
 
-fn main(rt: HostRuntime) -> anyhow::Result<()> {
-    let alloc = rt.alloc();
+/// The runs of mkdir and stat.
+fn narrow_runs(alloc: Global) -> anyhow::Result<Tally> {
+    let mut random = Pcg32::seed_from_u64(2);
+    let mut tally = Tally::default();
+    for number in 0..NARROW_SCRIPTS {
+        narrow_run(alloc, &mut random, number, &mut tally)?;
+    }
+    Ok(tally)
+}
+
+/// The runs of all calls.
+fn wide_runs(alloc: Global) -> anyhow::Result<Tally> {
     let mut random = Pcg32::seed_from_u64(1);
     let mut tally = Tally::default();
     for number in 0..SCRIPTS {
         runs(alloc, &mut random, number, &mut tally)?;
     }
-    show(&rt, &tally)?;
+    Ok(tally)
+}
+
+fn main(rt: HostRuntime) -> anyhow::Result<()> {
+    println!(&rt; "mkdir and stat")?;
+    show(&rt, &narrow_runs(rt.alloc())?)?;
+    println!(&rt; "all calls")?;
+    show(&rt, &wide_runs(rt.alloc())?)?;
     Ok(())
 }

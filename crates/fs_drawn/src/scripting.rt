@@ -1,6 +1,6 @@
 //! Scripts: the calls of several threads.
 
-use crate::drawing::{below, call, path};
+use crate::drawing::{below, call, narrow_call, path};
 use anyhow::Result;
 use fs_names::Path;
 use fs_seq::Call;
@@ -80,6 +80,24 @@ pub fn script(alloc: Global, random: &mut Pcg32) -> Result<Vec<Thread>> {
     let count = below(random, 5).wrapping_add(2);
     for _ in 0..count {
         add(&mut threads, other(alloc, random)?)?;
+    }
+    Ok(threads)
+}
+
+/// A thread of six calls that make directories and look at them.
+fn narrow_thread(alloc: Global, random: &mut Pcg32) -> Result<Vec<Call>> {
+    let mut calls = Vec::new(alloc);
+    for _ in 0..6 {
+        calls.push(narrow_call(alloc, random)?)?;
+    }
+    Ok(calls)
+}
+
+/// Three threads that make directories and look at them, over the same few names.
+pub fn narrow_script(alloc: Global, random: &mut Pcg32) -> Result<Vec<Thread>> {
+    let mut threads = Vec::new(alloc);
+    for _ in 0..3 {
+        add(&mut threads, narrow_thread(alloc, random)?)?;
     }
     Ok(threads)
 }

@@ -68,13 +68,14 @@ fn put_names(store: &Store, dir: NodeNo, names: &mut Vec<Name>)
     }
 }
 
-/// The names of a directory, in a vector with room for them.
+/// The names of a directory, in a vector that had room for them and gives back the rest.
 fn names(store: &Store, dir: NodeNo, room: NameRoom) -> NameList
     requires { length (names_of (shape store.now dir)) ≤ room }
     ensures { result ≡ names_of (shape store.now dir) }
 {
     let mut names = room.into_vec();
     put_names(store, dir, &mut names);
+    names.shrink_to_fit();
     NameList::new(names)
 }
 

@@ -43,13 +43,14 @@ impl ByteRoom {
         items
     }
 
-    /// The bytes again. It takes no memory.
+    /// The bytes again. It takes no memory, and gives back the room that they leave, where that takes none either.
     pub fn copy_of(self, bytes: &[u8]) -> Bytes
         requires { length bytes.now ≤ self }
         ensures { result ≡ bytes.now }
     {
         let mut items = self.into_vec();
         let _room_was_made = items.extend_from_slice(bytes);
+        items.shrink_to_fit();
         Bytes::new(items)
     }
 }

@@ -49,6 +49,7 @@ impl Held {
         self.nodes.len()
     }
 
+    /// Whether the call holds nothing.
     pub fn is_empty(&self) -> bool
         ensures { IsTrue result ↔ (self.now ≡ []) }
     {

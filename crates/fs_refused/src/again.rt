@@ -1,9 +1,11 @@
 //! What takes memory, done once more where memory was refused.
 
-ghost use Rattle.std.specs.Prelude.{◌≡◌, ◌+◌, OnOk};
+ghost use Rattle.std.specs.Prelude.{◌≡◌, ◌<◌, ◌≤◌, ◌+◌, IfOk, OnOk, length};
+ghost use Rattle.fs_names.specs.declared.limits.TheConstants.{NODE_LIMIT};
 
+use fs_core::{Core, Refusal};
 use fs_journal::{Entry, Timeline, Verdict, check};
-use fs_names::{Path, PathFault};
+use fs_names::{CallNo, Path, PathFault, SeatNo};
 use fs_seq::{Bytes, Call, Reply, SeqTree};
 use std::alloc::{AllocError, Global};
 
@@ -19,6 +21,7 @@ impl Again {
         self.refused = self.refused.wrapping_add(1);
     }
 
+    /// A path is read.
     pub fn path(&mut self, text: &str) -> Result<Path, PathFault> {
         match Path::parse(self.alloc, text.as_bytes()) {
             Err(PathFault::OutOfMemory) => {
@@ -29,6 +32,7 @@ impl Again {
         }
     }
 
+    /// A vector of bytes grows.
     pub fn bytes(&mut self, content: &[u8]) -> Result<Bytes, AllocError> {
         let mut bytes = Vec::new(self.alloc);
         if bytes.extend_from_slice(content).is_err() {
@@ -38,6 +42,7 @@ impl Again {
         Ok(Bytes::new(bytes))
     }
 
+    /// A call is copied.
     pub fn copy(&mut self, call: &Call) -> Result<Call, AllocError> {
         match call.copy(self.alloc) {
             Ok(copy) => Ok(copy),
@@ -48,6 +53,7 @@ impl Again {
         }
     }
 
+    /// A sequential tree is made.
     pub fn tree(&mut self) -> Result<SeqTree, AllocError> {
         match SeqTree::new(self.alloc) {
             Ok(tree) => Ok(tree),
@@ -58,6 +64,7 @@ impl Again {
         }
     }
 
+    /// A call is applied to a sequential tree.
     pub fn apply(&mut self, tree: &mut SeqTree, call: &Call) -> Result<Reply, AllocError> {
         match tree.apply(self.alloc, call) {
             Ok(reply) => Ok(reply),
@@ -68,6 +75,7 @@ impl Again {
         }
     }
 
+    /// Places of a timeline are reserved.
     pub fn places(&mut self, timeline: &mut Timeline, count: usize) -> Result<(), AllocError>
         ensures { OnOk result (timeline.new ≡ record timeline.old { reserved = timeline.old.reserved + count }) }
     {
@@ -80,6 +88,7 @@ impl Again {
         }
     }
 
+    /// A journal is checked.
     pub fn check(&mut self, entries: &[Entry]) -> Result<Verdict, AllocError> {
         match check(self.alloc, entries) {
             Ok(verdict) => Ok(verdict),
@@ -87,6 +96,47 @@ impl Again {
                 self.note();
                 check(self.alloc, entries)
             }
+        }
+    }
+
+    /// A core is made, for so many nodes.
+    pub fn core(&mut self, limit: usize) -> Result<Core, AllocError>
+        requires least { 1 ≤ limit }
+        requires most { limit ≤ NODE_LIMIT }
+    {
+        match Core::with_limit(self.alloc, limit) {
+            Ok(core) => Ok(core),
+            Err(_) => {
+                self.note();
+                Core::with_limit(self.alloc, limit)
+            }
+        }
+    }
+
+    /// A core gets one more seat.
+    pub fn seat(&mut self, core: &mut Core) -> Result<SeatNo, AllocError>
+        ensures { IfOk result (λ seat. seat < length core.new.seats) }
+    {
+        match core.seat() {
+            Ok(seat) => Ok(seat),
+            Err(_) => {
+                self.note();
+                core.seat()
+            }
+        }
+    }
+
+    /// A call begins on a seat of a core.
+    pub fn begin(&mut self, core: &mut Core, seat: SeatNo, call: &Call) -> Result<CallNo, Refusal>
+        requires { seat < length core.old.seats }
+        ensures { length core.new.seats ≡ length core.old.seats }
+    {
+        match core.begin(self.alloc, seat, call) {
+            Err(Refusal::OutOfMemory) => {
+                self.note();
+                core.begin(self.alloc, seat, call)
+            }
+            begun => begun,
         }
     }
 }

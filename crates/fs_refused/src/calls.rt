@@ -15,12 +15,14 @@ pub enum What {
     Truncate,
 }
 
+/// A call by its kind and its path.
 #[derive(Clone, Copy, Debug)]
 pub struct Row {
     pub what: What,
     pub path: &'static str,
 }
 
+/// The calls, in order.
 pub const CALLS: [Row; 26] = [
     Row {
         what: What::Mkdir,

@@ -1,9 +1,10 @@
-//! Does each thing of the sequential tree and of the checker that takes memory, and once more where memory was refused.
-//! But for the last line, what it writes is the same whichever growth is refused: `bench/refused` refuses each in turn.
+//! Does each thing of the sequential tree, of the core and of the checker that takes memory, and once more where memory was
+//! refused. But for the last line, what it writes is the same whichever growth is refused: `bench/refused` refuses each in turn.
 #![tactic(auto)]
 
 mod again;
 mod calls;
+mod on_core;
 
 use again::Again;
 use calls::{CALLS, Row, What};
@@ -29,7 +30,7 @@ fn call(again: &mut Again, row: &Row) -> anyhow::Result<Call> {
     })
 }
 
-fn show(rt: &impl Print, reply: &Reply) -> io::Result<()> {
+pub(crate) fn show(rt: &impl Print, reply: &Reply) -> io::Result<()> {
     match reply {
         Reply::Done => println!(rt; "done"),
         Reply::Stat(Kind::Dir, entries) => println!(rt; "a directory of {entries}"),
@@ -57,7 +58,7 @@ fn note(
 }
 
 /// A copy of the call of a row.
-fn copy(again: &mut Again, row: &Row) -> anyhow::Result<Call> {
+pub(crate) fn copy(again: &mut Again, row: &Row) -> anyhow::Result<Call> {
     let call = call(again, row)?;
     Ok(again.copy(&call)?)
 }
@@ -105,6 +106,8 @@ fn main(rt: HostRuntime) -> anyhow::Result<()> {
     };
     let timeline = journal(&rt, &mut again)?;
     println!(&rt; "{:?}", again.check(timeline.entries())?)?;
+    let core = on_core::run(&rt, &mut again)?;
+    println!(&rt; "{:?}", again.check(core.timeline())?)?;
     println!(&rt; "refused: {}", again.refused)?;
     Ok(())
 }

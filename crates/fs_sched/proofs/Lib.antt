@@ -7,3 +7,6 @@ pub mod Staging
 pub mod CountLemmas
 pub mod RunLemmas
 pub mod SeedLemmas
+pub mod Counts
+pub mod Whole
+pub mod Stopping

@@ -15,42 +15,46 @@ use Rattle.fs_sched.specs.Runs.{Stage, next_call, has_more, Event, Goes, Starts,
 
 -- ---- how much is left to do
 
--- the steps that calls take at most, and their begins
-abbrev calls_work : List Call → ℕ
-calls_work [] = 0
-calls_work (call ∷ calls) = (first_work (form call) + 1) + calls_work calls
+-- what calls cost together
+abbrev pub cost_of : (Call → ℕ) → List Call → ℕ
+cost_of cost [] = 0
+cost_of cost (call ∷ calls) = cost call + cost_of cost calls
 
 -- the same of the calls of each thread that are left
-abbrev owed : List (List Call) → List ℕ → ℕ
-owed [] begun = 0
-owed (calls ∷ lists) [] = 0
-owed (calls ∷ lists) (n ∷ begun) = calls_work (drop n calls) + owed lists begun
+abbrev pub owed : (Call → ℕ) → List (List Call) → List ℕ → ℕ
+owed cost [] begun = 0
+owed cost (calls ∷ lists) [] = 0
+owed cost (calls ∷ lists) (n ∷ begun) = cost_of cost (drop n calls) + owed cost lists begun
+
+-- the steps that a call takes at most, and its begin
+abbrev steps_of : Call → ℕ
+steps_of call = first_work (form call) + 1
 
 -- the events that are not spent and not busy, at most
 abbrev pub left_over : List (List Call) → Stage → ℕ
-left_over lists s = work s.state + owed lists s.begun
+left_over lists s = work s.state + owed steps_of lists s.begun
 
-one_call_less : (calls : List Call) (n : ℕ) (call : Call) → slice_get calls n ≡ Some call → calls_work (drop (suc n) calls) + (first_work (form call) + 1) ≡ calls_work (drop n calls)
-one_call_less [] n call e = absurd (let z : ◌≡◌ {A = Option Call} None (Some call) = e in cc)
-one_call_less (c ∷ calls) zero call e = let z : ◌≡◌ {A = Option Call} (Some c) (Some call) = e in let y : c ≡ call = cc in let x : first_work (form c) ≡ first_work (form call) = ap (λ (a : Call). first_work (form a)) y in omega (arith, x)
-one_call_less (c ∷ calls) (suc n) call e = one_call_less calls n call e
+one_call_less : (cost : Call → ℕ) (calls : List Call) (n : ℕ) (call : Call) → slice_get calls n ≡ Some call → cost_of cost (drop (suc n) calls) + cost call ≡ cost_of cost (drop n calls)
+one_call_less cost [] n call e = absurd (let z : ◌≡◌ {A = Option Call} None (Some call) = e in cc)
+one_call_less cost (c ∷ calls) zero call e = let z : ◌≡◌ {A = Option Call} (Some c) (Some call) = e in let y : c ≡ call = cc in let x : cost c ≡ cost call = ap cost y in omega (arith, x)
+one_call_less cost (c ∷ calls) (suc n) call e = one_call_less cost calls n call e
 
-owed_less : (lists : List (List Call)) (begun : List ℕ) (seat v : ℕ) (call : Call) → length begun ≡ length lists → v ≡ suc (get_or begun seat 0) → slice_get (get_or lists seat []) (get_or begun seat 0) ≡ Some call
-    → owed lists (slice_set begun seat v) + (first_work (form call) + 1) ≡ owed lists begun
-owed_less [] begun seat v call same one e = absurd (let z : ◌≡◌ {A = Option Call} None (Some call) = e in cc)
-owed_less (calls ∷ lists) [] seat v call same one e = absurd (let z : 0 ≡ suc (length lists) = same in omega (arith, z))
-owed_less (calls ∷ lists) (n ∷ begun) zero v call same one e =
-    let h : calls_work (drop (suc n) calls) + (first_work (form call) + 1) ≡ calls_work (drop n calls) = one_call_less calls n call e in
-    let g : calls_work (drop v calls) ≡ calls_work (drop (suc n) calls) = ap (λ (k : ℕ). calls_work (drop k calls)) one in
+pub owed_less : (cost : Call → ℕ) (lists : List (List Call)) (begun : List ℕ) (seat v : ℕ) (call : Call) → length begun ≡ length lists → v ≡ suc (get_or begun seat 0) → slice_get (get_or lists seat []) (get_or begun seat 0) ≡ Some call
+    → owed cost lists (slice_set begun seat v) + cost call ≡ owed cost lists begun
+owed_less cost [] begun seat v call same one e = absurd (let z : ◌≡◌ {A = Option Call} None (Some call) = e in cc)
+owed_less cost (calls ∷ lists) [] seat v call same one e = absurd (let z : 0 ≡ suc (length lists) = same in omega (arith, z))
+owed_less cost (calls ∷ lists) (n ∷ begun) zero v call same one e =
+    let h : cost_of cost (drop (suc n) calls) + cost call ≡ cost_of cost (drop n calls) = one_call_less cost calls n call e in
+    let g : cost_of cost (drop v calls) ≡ cost_of cost (drop (suc n) calls) = ap (λ (k : ℕ). cost_of cost (drop k calls)) one in
     omega (arith, h, g)
-owed_less (calls ∷ lists) (n ∷ begun) (suc seat) v call same one e =
+owed_less cost (calls ∷ lists) (n ∷ begun) (suc seat) v call same one e =
     let l : length begun ≡ length lists = (let z : suc (length begun) ≡ suc (length lists) = same in omega (arith, z)) in
-    let h : owed lists (slice_set begun seat v) + (first_work (form call) + 1) ≡ owed lists begun = owed_less lists begun seat v call l one e in
+    let h : owed cost lists (slice_set begun seat v) + cost call ≡ owed cost lists begun = owed_less cost lists begun seat v call l one e in
     omega (arith, h)
 
 -- ---- one event
 
-none_some : (o : Option ℕ) (c : ℕ) → o ≡ None → o ≡ Some c → ⊥
+pub none_some : (o : Option ℕ) (c : ℕ) → o ≡ None → o ≡ Some c → ⊥
 none_some o c a b = let z : ◌≡◌ {A = Option ℕ} None (Some c) = sym a ∙ b in cc
 
 same_stage : (old new : Stage) → new.state ≡ old.state → new.begun ≡ old.begun → new ≡ old
@@ -60,8 +64,8 @@ starts_less : (lists : List (List Call)) (old new : Stage) (seat c : ℕ) (call 
     → new.begun ≡ slice_set old.begun seat (get_or old.begun seat 0 + 1) → left_over lists new + 1 ≤ left_over lists old
 starts_less lists old new seat c call run same is begins set =
     let a : work new.state ≡ work old.state + first_work (form call) = adds_work old.state run seat c call new.state begins in
-    let b : owed lists new.begun ≡ owed lists (slice_set old.begun seat (get_or old.begun seat 0 + 1)) = ap (owed lists) set in
-    let d : owed lists (slice_set old.begun seat (get_or old.begun seat 0 + 1)) + (first_work (form call) + 1) ≡ owed lists old.begun = owed_less lists old.begun seat (get_or old.begun seat 0 + 1) call same (omega arith) is in
+    let b : owed steps_of lists new.begun ≡ owed steps_of lists (slice_set old.begun seat (get_or old.begun seat 0 + 1)) = ap (owed steps_of lists) set in
+    let d : owed steps_of lists (slice_set old.begun seat (get_or old.begun seat 0 + 1)) + (first_work (form call) + 1) ≡ owed steps_of lists old.begun = owed_less steps_of lists old.begun seat (get_or old.begun seat 0 + 1) call same (omega arith) is in
     omega (arith, a, b, d)
 
 -- it leaves all as it was, or less to do
@@ -73,7 +77,7 @@ step_falls : (lists : List (List Call)) (old new : Stage) (seat : ℕ) (answer :
 step_falls lists old new seat answer run step kept = by answer step
   where
     goes : (a : Stepped) → Step old.state seat a new.state → GoesOn a → Falls lists old new
-    goes a st g = let w : work new.state + 1 ≤ work old.state = takes_work old.state run seat a new.state st g in let b : owed lists new.begun ≡ owed lists old.begun = ap (owed lists) kept in Less (omega (arith, w, b))
+    goes a st g = let w : work new.state + 1 ≤ work old.state = takes_work old.state run seat a new.state st g in let b : owed steps_of lists new.begun ≡ owed steps_of lists old.begun = ap (owed steps_of lists) kept in Less (omega (arith, w, b))
 
     by : (a : Stepped) → Step old.state seat a new.state → Falls lists old new
     by Idle (off, e) = Same (same_stage old new e kept)
@@ -90,7 +94,7 @@ event_falls lists old new seat run same (Goes c answer on step kept) = step_fall
 event_falls lists old new seat run same (Starts c call off is begins set) = Less (starts_less lists old new seat c call run same is begins set)
 event_falls lists old new seat run same (Spent off none e) = Same e
 
-event_run : (lists : List (List Call)) (old new : Stage) (seat : ℕ) → Run old.state → Event lists old seat new → Run new.state
+pub event_run : (lists : List (List Call)) (old new : Stage) (seat : ℕ) → Run old.state → Event lists old seat new → Run new.state
 event_run lists old new seat run (Goes c answer on step kept) = Stepping seat answer new.state run step
 event_run lists old new seat run (Starts c call off is begins set) = Beginning seat call (Begun_as c) new.state run begins
 event_run lists old new seat run (Spent off none e) = subst (λ (s : Stage). Run s.state) (sym e) run
@@ -100,7 +104,7 @@ length_set [] i v = refl
 length_set (x ∷ xs) zero v = refl
 length_set (x ∷ xs) (suc i) v = ap suc (length_set xs i v)
 
-event_length : (lists : List (List Call)) (old new : Stage) (seat : ℕ) → Event lists old seat new → length new.begun ≡ length old.begun
+pub event_length : (lists : List (List Call)) (old new : Stage) (seat : ℕ) → Event lists old seat new → length new.begun ≡ length old.begun
 event_length lists old new seat (Goes c answer on step kept) = ap length kept
 event_length lists old new seat (Starts c call off is begins set) = ap length set ∙ length_set old.begun seat (get_or old.begun seat 0 + 1)
 event_length lists old new seat (Spent off none e) = ap (λ (s : Stage). length s.begun) e
@@ -136,7 +140,7 @@ events_fall lists (seat ∷ seats) old new run same (middle, event, rest) = go (
 -- ---- a round
 
 -- the seat of a step by which a call goes on has that call
-on_seat_of : (s : State) (seat : ℕ) (answer : Stepped) (new : State) → Step s seat answer new → GoesOn answer → (c : ℕ) × (s.on_seat seat ≡ Some c)
+pub on_seat_of : (s : State) (seat : ℕ) (answer : Stepped) (new : State) → Step s seat answer new → GoesOn answer → (c : ℕ) × (s.on_seat seat ≡ Some c)
 on_seat_of s seat Idle new st g = absurd g
 on_seat_of s seat (Busy n d) new st g = absurd g
 on_seat_of s seat (Took n) new (c, op, m, free, e) g = (c, m.0)

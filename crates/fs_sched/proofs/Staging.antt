@@ -67,7 +67,7 @@ draws_end n i g more = let e : DRAW_LIMIT - i ≡ 0 = omega (arith, more) in ap 
 
 -- ---- threads with nothing to do
 
-nothing_more : (a : Option ℕ) (b : Option Call) → (is_some a || is_some b) ≡ false → (a ≡ None) × (b ≡ None)
+pub nothing_more : (a : Option ℕ) (b : Option Call) → (is_some a || is_some b) ≡ false → (a ≡ None) × (b ≡ None)
 nothing_more None None h = (refl, refl)
 nothing_more None (Some call) h = absurd (let z : ◌≡◌ {A = Bool} true false = h in cc)
 nothing_more (Some c) b h = absurd (let z : ◌≡◌ {A = Bool} true false = h in cc)
@@ -80,7 +80,7 @@ get_past [] seat h = refl
 get_past (calls ∷ lists) zero h = absurd (let z : suc (length lists) ≤ 0 = h in omega (arith, z))
 get_past (calls ∷ lists) (suc seat) h = get_past lists seat (let z : suc (length lists) ≤ suc seat = h in omega (arith, z))
 
-call_past : (lists : List (List Call)) (s : Stage) (seat : ℕ) → length lists ≤ seat → next_call lists s seat ≡ None
+pub call_past : (lists : List (List Call)) (s : Stage) (seat : ℕ) → length lists ≤ seat → next_call lists s seat ≡ None
 call_past lists s seat h = ap (λ (calls : List Call). slice_get calls (get_or s.begun seat 0)) (get_past lists seat h)
 
 -- a thread that is not there has nothing to do

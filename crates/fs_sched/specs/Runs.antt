@@ -1,16 +1,16 @@
 -- Runs of scripts, event by event.
-use Rattle.std.specs.Prelude.{ℕ, ◌≡◌, ◌+◌, ◌-◌, ◌^◌, min, ◌<◌, Bool, true, false, ◌||◌, List, [], ◌∷◌, length, replicate, get_or, slice_get, slice_set, is_some, Ok, Option, Some, None}
-use Rattle.std.specs.List.{range_with_len}
+use Rattle.std.specs.Prelude.{ℕ, ◌≡◌, ◌+◌, ◌-◌, ◌^◌, min, ◌<◌, Bool, true, false, ◌||◌, ◌⊎◌, List, [], ◌∷◌, length, replicate, get_or, slice_get, slice_set, is_some, Ok, Option, Some, None}
+use Rattle.std.specs.List.{range_with_len, list_any}
 use Rattle.fs_names.specs.declared.limits.TheConstants.{NODE_LIMIT}
 use Rattle.fs_journal.specs.declared.entry.Entry.{Entry}
 use Rattle.fs_seq.specs.declared.call.Call.{Call}
 use Rattle.fs_script.specs.Script.{script_of}
 use Rattle.fs_script.specs.declared.script.Script.{Script}
-use Rattle.fs_laws.specs.States.{State, Begins, Begun_as, Step, Stepped, empty}
+use Rattle.fs_laws.specs.States.{State, Begins, Begun_as, Full, Step, Stepped, empty}
 use Rattle.fs_sched.specs.RunTexts.{IsRunText, number_of}
 use Rattle.fs_sched.specs.declared.texts.EntryKind.TheVariants as kind
 use Rattle.fs_sched.specs.declared.running.RunEnd.{RunEnd}
-use Rattle.fs_sched.specs.Schedules.{seats_before, goes_on}
+use Rattle.fs_sched.specs.Schedules.{is_finish, seats_before, goes_on}
 use Rattle.fs_sched.specs.declared.schedule.Schedule.{Schedule}
 
 -- where a run stands: the machine's state, and how many calls of each thread have begun
@@ -72,6 +72,34 @@ RunsFrom schedule script old last = (middle : Stage) × Events script.lists old 
 abbrev pub Runs : Schedule → Script → Stage → Type 0
 Runs schedule script last = RunsFrom schedule script (start (length script.lists)) last
 
+-- the next event of a thread is the begin of a call, and all numbers are in use
+abbrev pub IsRefused : List (List Call) → Stage → ℕ → Type 0
+IsRefused lists s seat = (call : Call) × (next_call lists s seat ≡ Some call) × Begins s.state seat call Full s.state
+
+-- one of these events is such a begin, after those before it
+abbrev pub Stops : List (List Call) → Stage → List ℕ → Type 0
+Stops lists old [] = ⊥
+Stops lists old (seat ∷ seats) = IsRefused lists old seat ⊎ ((middle : Stage) × Event lists old seat middle × Stops lists middle seats)
+
+-- one of the events in rounds to the end is
+pub data StopsInRounds (lists : List (List Call)) : Stage → Type 0 where
+  InRound : {old : Stage} → IsUnfinished lists old → Stops lists old (range_with_len 0 (length lists)) → StopsInRounds lists old
+  InLater : {old middle : Stage} → IsUnfinished lists old → Round lists old middle → StopsInRounds lists middle → StopsInRounds lists old
+
+-- one of the events of a script by a schedule, from a stage on, is
+abbrev pub StopsFrom : Schedule → Script → Stage → Type 0
+StopsFrom schedule script old =
+    Stops script.lists old (seats_before schedule script.words (length script.lists))
+    ⊎ ((middle : Stage) × Events script.lists old (seats_before schedule script.words (length script.lists)) middle × (goes_on schedule script.words ≡ true) × StopsInRounds script.lists middle)
+
+-- the same from the first stage on
+abbrev pub FillsUp : Schedule → Script → Type 0
+FillsUp schedule script = StopsFrom schedule script (start (length script.lists))
+
+-- the same of the script that an input has
+abbrev pub ReachesFull : Schedule → List ℕ → Type 0
+ReachesFull schedule input = (script : Script) × (script_of input ≡ Ok script) × FillsUp schedule script
+
 -- how many calls a script has
 abbrev pub calls_in : List (List Call) → ℕ
 calls_in [] = 0
@@ -80,6 +108,16 @@ calls_in (calls ∷ lists) = length calls + calls_in lists
 -- the numbers of entries of each kind, and of the script's calls, of which there are no more than a text has lines
 abbrev pub end_of : Script → List Entry → RunEnd
 end_of script entries = record { begun = number_of kind.Begin entries; committed = number_of kind.Commit entries; returned = number_of kind.Return entries; calls = min (2 ^ 64 - 1) (calls_in script.lists) }
+
+-- each call of the script began, took its place and returned
+pub record IsWhole (end : RunEnd) : Type 0 where
+  pub begun : end.begun ≡ end.calls
+  pub committed : end.committed ≡ end.calls
+  pub returned : end.returned ≡ end.calls
+
+-- the input has a script with the word by which rounds to the end follow
+abbrev pub HasFinish : List ℕ → Type 0
+HasFinish input = (script : Script) × (script_of input ≡ Ok script) × (list_any is_finish script.words ≡ true)
 
 -- the numbers and the text of a run of a script
 abbrev pub IsOutput : Schedule → Script → RunEnd → List ℕ → Type 0

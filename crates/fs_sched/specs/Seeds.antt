@@ -7,7 +7,7 @@ use Rattle.fs_journal.specs.declared.verdict.Verdict.TheVariants.{Lawful}
 use Rattle.fs_script.specs.Script.{script_of}
 use Rattle.fs_script.specs.declared.script.Script.{Script}
 use Rattle.fs_sched.specs.Checks.{verdict_line}
-use Rattle.fs_sched.specs.Runs.{Stage, Runs}
+use Rattle.fs_sched.specs.Runs.{Stage, Runs, FillsUp}
 use Rattle.fs_sched.specs.declared.schedule.Schedule.TheVariants.{Seeded}
 
 -- how the verdict on the run that is drawn from a number is written
@@ -29,3 +29,11 @@ pub record AreLawful (script : Script) (seed : ℕ) (runs : ℕ) (text : List �
 -- the same of the script that an input has
 abbrev pub AreRunsOf : ℕ → ℕ → List ℕ → List ℕ → Type 0
 AreRunsOf seed runs input text = (script : Script) × (script_of input ≡ Ok script) × AreLawful script seed runs text
+
+-- one of so many runs, drawn from a number, the next one, and so on, finds all numbers in use
+abbrev pub OneFillsUp : Script → ℕ → ℕ → Type 0
+OneFillsUp script seed runs = (n : ℕ) × (seed ≤ n) × (n < seed + runs) × FillsUp (Seeded n) script
+
+-- the same of the script that an input has
+abbrev pub OneReachesFull : ℕ → ℕ → List ℕ → Type 0
+OneReachesFull seed runs input = (script : Script) × (script_of input ≡ Ok script) × OneFillsUp script seed runs

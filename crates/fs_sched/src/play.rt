@@ -1,10 +1,11 @@
 //! A script's run, event by event.
 
-ghost use Rattle.std.specs.Prelude.{◌≡◌, ◌<◌, [], IfOk, OnOk, IfErr, IsTrue, IsFalse, length, get_or, replicate};
+ghost use Rattle.std.specs.Prelude.{◌≡◌, ◌<◌, [], IfOk, OnOk, IfErr, IsErrOf, IsTrue, IsFalse, length, get_or, replicate};
+ghost use Rattle.std.specs.List.{range_with_len};
 ghost use Rattle.fs_names.specs.declared.limits.TheConstants.{NODE_LIMIT};
 ghost use Rattle.fs_core.specs.Machines.{state_of};
 ghost use Rattle.fs_laws.specs.States.{empty};
-ghost use Rattle.fs_sched.specs.Runs.{start, has_more, Event, Events, Round, IsOver, IsUnfinished, ToEnd, RunsFrom};
+ghost use Rattle.fs_sched.specs.Runs.{start, has_more, Event, Events, Round, IsOver, IsUnfinished, ToEnd, RunsFrom, IsRefused, Stops, StopsInRounds, StopsFrom};
 ghost use Rattle.fs_sched.specs.Schedules.{word_seats, given_seats, drawn_seats, seats_before};
 ghost use Rattle.fs_sched.specs.Stages.{stage_of, IsSeated, IsRefusal};
 
@@ -25,7 +26,8 @@ pub(crate) struct Play {
 
 /// The fault of a run of which a call was refused.
 fn refused(refusal: Refusal) -> RunFault
-    ensures { IsRefusal result }
+    ensures refusal { IsRefusal result }
+    ensures full { result ≡ RunFault.Full → refusal ≡ Refusal.Full }
 {
     match refusal {
         Refusal::Full => RunFault::Full,
@@ -110,6 +112,7 @@ impl Play {
         ensures event { OnOk result (Event lists.now (stage_of self.old) seat (stage_of self.new)) }
         ensures seats { IsSeated self.new (length lists.now) }
         ensures fault { IfErr result IsRefusal }
+        ensures full { IsErrOf result RunFault.Full → IsRefused lists.now (stage_of self.old) seat }
     {
         let calls = calls_of(lists, seat);
         let at = self.begun[seat];
@@ -131,6 +134,7 @@ impl Play {
         ensures event { OnOk result (Event lists.now (stage_of self.old) seat (stage_of self.new)) }
         ensures seats { IsSeated self.new (length lists.now) }
         ensures fault { IfErr result IsRefusal }
+        ensures full { IsErrOf result RunFault.Full → IsRefused lists.now (stage_of self.old) seat }
     {
         if seat >= self.begun.len() {
             return Ok(());
@@ -157,6 +161,7 @@ impl Play {
         ensures events { OnOk result (Events lists.now (stage_of self.old) (replicate times seat) (stage_of self.new)) }
         ensures seats { IsSeated self.new (length lists.now) }
         ensures fault { IfErr result IsRefusal }
+        ensures full { IsErrOf result RunFault.Full → Stops lists.now (stage_of self.old) (replicate times seat) }
     {
         for _ in 0..times {
             self.event(alloc, lists, seat)?;
@@ -170,6 +175,7 @@ impl Play {
         ensures events { OnOk result (Events lists.now (stage_of self.old) (word_seats word) (stage_of self.new)) }
         ensures seats { IsSeated self.new (length lists.now) }
         ensures fault { IfErr result IsRefusal }
+        ensures full { IsErrOf result RunFault.Full → Stops lists.now (stage_of self.old) (word_seats word) }
     {
         match word {
             Word::Events(seat, times) => self.events(alloc, lists, seat, times),
@@ -183,6 +189,7 @@ impl Play {
         ensures events { OnOk result (Events lists.now (stage_of self.old) (given_seats words.now) (stage_of self.new)) }
         ensures seats { IsSeated self.new (length lists.now) }
         ensures fault { IfErr result IsRefusal }
+        ensures full { IsErrOf result RunFault.Full → Stops lists.now (stage_of self.old) (given_seats words.now) }
     {
         for word in words {
             self.word(alloc, lists, *word)?;
@@ -196,6 +203,7 @@ impl Play {
         ensures events { OnOk result (Events lists.now (stage_of self.old) (drawn_seats seed (length lists.now) DRAW_LIMIT) (stage_of self.new)) }
         ensures seats { IsSeated self.new (length lists.now) }
         ensures fault { IfErr result IsRefusal }
+        ensures full { IsErrOf result RunFault.Full → Stops lists.now (stage_of self.old) (drawn_seats seed (length lists.now) DRAW_LIMIT) }
     {
         let mut draws = Draws::new(seed);
         for _ in 0..DRAW_LIMIT {
@@ -214,6 +222,7 @@ impl Play {
         ensures round { OnOk result (Round lists.now (stage_of self.old) (stage_of self.new)) }
         ensures seats { IsSeated self.new (length lists.now) }
         ensures fault { IfErr result IsRefusal }
+        ensures full { IsErrOf result RunFault.Full → Stops lists.now (stage_of self.old) (range_with_len 0 (length lists.now)) }
     {
         for seat in 0..self.begun.len() {
             self.event(alloc, lists, seat)?;
@@ -226,6 +235,7 @@ impl Play {
         requires { IsSeated self.old (length lists.now) }
         ensures ended { OnOk result (ToEnd lists.now (stage_of self.old) (stage_of self.new)) }
         ensures fault { IfErr result IsRefusal }
+        ensures full { IsErrOf result RunFault.Full → StopsInRounds lists.now (stage_of self.old) }
     {
         'rounds: while self.is_unfinished(lists) {
             self.core.told();
@@ -240,6 +250,7 @@ impl Play {
         ensures events { OnOk result (Events script.now.lists (stage_of self.old) (seats_before schedule script.now.words (length script.now.lists)) (stage_of self.new)) }
         ensures seats { IsSeated self.new (length script.now.lists) }
         ensures fault { IfErr result IsRefusal }
+        ensures full { IsErrOf result RunFault.Full → Stops script.now.lists (stage_of self.old) (seats_before schedule script.now.words (length script.now.lists)) }
     {
         match schedule {
             Schedule::Given => self.words(alloc, &script.lists, script.words.as_slice()),
@@ -258,6 +269,7 @@ impl Play {
         requires { IsSeated self.old (length script.now.lists) }
         ensures run { OnOk result (RunsFrom schedule script.now (stage_of self.old) (stage_of self.new)) }
         ensures fault { IfErr result IsRefusal }
+        ensures full { IsErrOf result RunFault.Full → StopsFrom schedule script.now (stage_of self.old) }
     {
         self.before(alloc, script, schedule)?;
         if schedule.goes_on(script.words.as_slice()) {

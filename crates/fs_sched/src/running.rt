@@ -5,7 +5,7 @@ ghost use Rattle.std.specs.Io.KnownBytes.{Appends, IsAtEnd};
 ghost use Rattle.fs_text.specs.declared.fault.ScriptFault.{ScriptFault};
 ghost use Rattle.fs_script.specs.Script.{script_of};
 ghost use Rattle.fs_sched.specs.Devices.{WritesBeginning};
-ghost use Rattle.fs_sched.specs.Runs.{Runs, calls_in, end_of, IsOutput, IsRunOf};
+ghost use Rattle.fs_sched.specs.Runs.{Runs, calls_in, end_of, IsOutput, IsRunOf, IsWhole, HasFinish, FillsUp, ReachesFull};
 ghost use Rattle.fs_sched.specs.Stages.{stage_of, IsRefusal, IsFaultOrRefusal};
 
 use crate::device::{Sink, Source};
@@ -62,6 +62,7 @@ fn end_of(script: &Script, entries: &[Entry]) -> RunEnd
 pub(crate) fn play(alloc: Global, script: &Script, schedule: Schedule) -> Result<Play, RunFault>
     ensures runs { IfOk result (λ play. Runs schedule script.now (stage_of play)) }
     ensures fault { IfErr result IsRefusal }
+    ensures full { IsErrOf result RunFault.Full → FillsUp schedule script.now }
 {
     let Ok(mut play) = Play::new(alloc, script.lists.as_slice().len()) else {
         return Err(RunFault::OutOfMemory);
@@ -76,6 +77,7 @@ pub(crate) fn play(alloc: Global, script: &Script, schedule: Schedule) -> Result
 fn make_text(alloc: Global, script: &Script, schedule: Schedule) -> Result<MadeText, RunFault>
     ensures output { IfOk result (λ made. IsOutput schedule script.now made.end made.text.items) }
     ensures fault { IfErr result IsRefusal }
+    ensures full { IsErrOf result RunFault.Full → FillsUp schedule script.now }
 {
     let play = match play(alloc, script, schedule) {
         Ok(play) => play,
@@ -95,6 +97,7 @@ fn make_text(alloc: Global, script: &Script, schedule: Schedule) -> Result<MadeT
 fn text_of_script(alloc: Global, text: &[u8], schedule: Schedule) -> Result<MadeText, RunFault>
     ensures output { IfOk result (λ made. IsRunOf schedule text.now made.end made.text.items) }
     ensures fault { IfErr result (IsFaultOrRefusal (script_of text.now)) }
+    ensures full { IsErrOf result RunFault.Full → ReachesFull schedule text.now }
 {
     let script = match read_script(alloc, text) {
         Ok(script) => script,
@@ -118,6 +121,11 @@ pub fn run_script<R: Source, W: Sink>(
     ensures ran { IfOk result (λ end. (text : List ℕ) × IfSome (R.remaining reader.old) (λ input. IsRunOf schedule input end text) × Appends (W.contents writer.old) (W.contents writer.new) text) }
     ensures end { OnOk result (IsAtEnd (R.remaining reader.new)) }
     ensures input { (f : ScriptFault) → result ≡ Err (RunFault.Input f) → IfSome (R.remaining reader.old) (λ input. script_of input ≡ Err f) }
+    ensures full { IsErrOf result RunFault.Full → IfSome (R.remaining reader.old) (ReachesFull schedule) }
+
+    // Where rounds to the end follow, each call of the script began, took its place and returned.
+    ensures whole { IfOk result (λ end. schedule ≢ Schedule.Given → IsWhole end) }
+    ensures finish { IfOk result (λ end. IfSome (R.remaining reader.old) (λ input. HasFinish input → IsWhole end)) }
 
     // A device is blamed only where it failed in this call.
     ensures read { IsErrOf result RunFault.Read → R.failures reader.new ≡ R.failures reader.old + 1 }

@@ -5,7 +5,8 @@ ghost use Rattle.std.specs.Io.KnownBytes.{Appends, IsAtEnd};
 ghost use Rattle.fs_text.specs.declared.fault.ScriptFault.{ScriptFault};
 ghost use Rattle.fs_script.specs.Script.{script_of};
 ghost use Rattle.fs_sched.specs.Devices.{WritesBeginning};
-ghost use Rattle.fs_sched.specs.Seeds.{seed_line, lawful_line, IsLawfulFrom, AreLawful, AreRunsOf};
+ghost use Rattle.fs_sched.specs.Runs.{FillsUp};
+ghost use Rattle.fs_sched.specs.Seeds.{seed_line, lawful_line, IsLawfulFrom, AreLawful, AreRunsOf, OneFillsUp, OneReachesFull};
 ghost use Rattle.fs_sched.specs.Stages.{IsRefusal, IsFaultOrRefusal};
 
 use crate::device::{Sink, Source};
@@ -55,6 +56,7 @@ fn push_run(
     ensures lawful { IfOk result (λ lawful. lawful ≡ true) }
     ensures before { lines.new.before ≡ lines.old.before }
     ensures fault { IfErr result IsRefusal }
+    ensures full { IsErrOf result RunFault.Full → FillsUp (Schedule.Seeded seed) script.now }
 {
     let play = match play(alloc, script, Schedule::Seeded(seed)) {
         Ok(play) => play,
@@ -77,6 +79,7 @@ fn make_lines(alloc: Global, script: &Script, seed: u64, runs: u64) -> Result<Ma
     ensures ok { IfOk result (λ made. AreLawful script.now seed runs made.text.items) }
     ensures lawful { IfOk result (λ made. made.lawful ≡ true) }
     ensures fault { IfErr result IsRefusal }
+    ensures full { IsErrOf result RunFault.Full → OneFillsUp script.now seed runs }
 {
     let mut lines = Addition::new(Vec::new(alloc));
     let mut lawful = true;
@@ -99,6 +102,7 @@ fn lines_of_script(alloc: Global, text: &[u8], seed: u64, runs: u64) -> Result<M
     ensures ok { IfOk result (λ made. AreRunsOf seed runs text.now made.text.items) }
     ensures lawful { IfOk result (λ made. made.lawful ≡ true) }
     ensures fault { IfErr result (IsFaultOrRefusal (script_of text.now)) }
+    ensures full { IsErrOf result RunFault.Full → OneReachesFull seed runs text.now }
 {
     let script = match read_script(alloc, text) {
         Ok(script) => script,
@@ -128,6 +132,7 @@ pub fn run_seeds<R: Source, W: Sink>(
     ensures lawful { IfOk result (λ lawful. lawful ≡ true) }
     ensures end { OnOk result (IsAtEnd (R.remaining reader.new)) }
     ensures input { (f : ScriptFault) → result ≡ Err (RunFault.Input f) → IfSome (R.remaining reader.old) (λ input. script_of input ≡ Err f) }
+    ensures full { IsErrOf result RunFault.Full → IfSome (R.remaining reader.old) (OneReachesFull seed runs) }
 
     // A device is blamed only where it failed in this call.
     ensures read { IsErrOf result RunFault.Read → R.failures reader.new ≡ R.failures reader.old + 1 }

@@ -1,5 +1,6 @@
 //! Checks of journals, schedules and texts of runs; runs of scripts are in `runs`.
 
+mod alone;
 mod runs;
 mod worked;
 

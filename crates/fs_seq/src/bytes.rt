@@ -28,6 +28,7 @@ impl Bytes {
         Self { items }
     }
 
+    /// The bytes, in order. It takes no memory.
     pub fn as_slice(&self) -> &[u8]
         ensures { result.now ≡ self.now }
     {

@@ -28,6 +28,7 @@ impl NameList {
         Self { items }
     }
 
+    /// The names, in order. It takes no memory.
     pub fn as_slice(&self) -> &[Name]
         ensures { result.now ≡ self.now }
     {

@@ -29,6 +29,7 @@ impl Model for Addition {
 }
 
 impl Addition {
+    /// A text to which nothing was appended yet. It takes no memory.
     pub fn new(text: Vec<u8>) -> Addition
         ensures before { result.before ≡ text.items }
         ensures added { result.added ≡ [] }
@@ -55,6 +56,7 @@ impl Addition {
         text
     }
 
+    /// Appends bytes as they are. The only error is a lack of memory.
     pub fn push(&mut self, bytes: &[u8]) -> Result<(), AllocError>
         ensures ok { OnOk result (self.new.added ≡ self.old.added ++ bytes.now) }
         ensures before { self.new.before ≡ self.old.before }
@@ -62,6 +64,7 @@ impl Addition {
         self.text.extend_from_slice(bytes)
     }
 
+    /// Appends a number in decimal, without leading zeros. The only error is a lack of memory.
     pub fn push_number(&mut self, number: u64) -> Result<(), AllocError>
         ensures ok { OnOk result (self.new.added ≡ self.old.added ++ decimal number) }
         ensures before { self.new.before ≡ self.old.before }

@@ -40,6 +40,7 @@ fn is_number_text(word: &[u8]) -> bool
     }
 }
 
+/// The number that a word is: digits without a leading zero, at most the greatest `u64`.
 pub fn number_of(word: &[u8]) -> Option<u64>
     ensures { result ≡ number_of word.now }
 {

@@ -1,6 +1,6 @@
 //! Runs of scripts, their texts byte for byte, and what is left of them where a device fails.
 
-use super::{SlowReader, SlowWriter, worked};
+use super::{SlowReader, SlowWriter, alone, worked};
 use crate::*;
 use std::alloc::Global;
 use std::test::Fail;
@@ -53,12 +53,12 @@ fn runs_side_by_side(rt: HostRuntime) -> Result<(), Fail> {
 #[test]
 fn runs_one_after_the_other(rt: HostRuntime) -> Result<(), Fail> {
     let rows = [
-        worked::CALLS_ON_THE_ROOT,
-        worked::ERRORS_OF_RESOLUTION,
-        worked::MISSING_BELOW_ITS_TARGET,
-        worked::RENAMES_IN_SEQUENCE,
-        worked::OFFSETS,
-        worked::ERRORS_OF_EACH_CALL,
+        alone::CALLS_ON_THE_ROOT,
+        alone::ERRORS_OF_RESOLUTION,
+        alone::MISSING_BELOW_ITS_TARGET,
+        alone::RENAMES_IN_SEQUENCE,
+        alone::OFFSETS,
+        alone::ERRORS_OF_EACH_CALL,
     ];
     for (script, want) in rows {
         assert_eq!(rt; ran(rt.alloc(), script, Schedule::Given)?.as_slice(), want);
@@ -112,9 +112,11 @@ fn counts_calls(rt: HostRuntime) -> Result<(), Fail> {
     let alloc = rt.alloc();
     let cut: &[u8] = b"atomfs 1\nthread t\nmkdir /a\nschedule\nt*4\n";
     let more: &[u8] = b"atomfs 1\nthread t\nmkdir /a\nschedule\nt*2\n";
+    let finished: &[u8] = b"atomfs 1\nthread t\nmkdir /a\nschedule\nt*2 finish\n";
     assert!(rt; end_of_run(alloc, FIRST, Schedule::Given) == ends(1, 1, 1));
     assert!(rt; end_of_run(alloc, cut, Schedule::Given) == ends(1, 1, 0));
     assert!(rt; end_of_run(alloc, more, Schedule::Given) == ends(1, 0, 0));
+    assert!(rt; end_of_run(alloc, finished, Schedule::Given) == ends(1, 1, 1));
     assert!(rt; end_of_run(alloc, more, Schedule::RoundRobin) == ends(1, 1, 1));
     assert!(rt; end_of_run(alloc, more, Schedule::Seeded(3)) == ends(1, 1, 1));
     Ok(())

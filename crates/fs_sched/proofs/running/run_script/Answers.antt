@@ -1,8 +1,9 @@
 use Rattle.std.specs.Io.KnownBytes.{Appends}
-use Rattle.std.proofs.Common.{subst, ◌≡◌, ◌≤◌, length, arith}
-use Rattle.fs_sched.proofs.RunLemmas.{script_short, known_fault, known_run, begins_same}
+use Rattle.std.proofs.Common.{subst, Err, ap, ◌≡◌, ◌<◌, ◌≤◌, ◌^◌, length, arith}
+use Rattle.fs_sched.proofs.RunLemmas.{script_short, known_fault, known_run, known_full, begins_same}
+use Rattle.fs_sched.proofs.Whole.{whole_always, known_whole}
 use Rattle.fs_sched.proofs.running.run_script.Goals as goal
-use Rattle.fs_sched.specs.declared.fault.RunFault.TheVariants.{Input}
+use Rattle.fs_sched.specs.declared.fault.RunFault.TheVariants.{Input, Full}
 
 pub returns-in-Err-text_of_script-clause-input : goal.returns-in-Err-text_of_script-clause-input
 returns-in-Err-text_of_script-clause-input g c f e =
@@ -26,3 +27,14 @@ returns-clause-beginning g c _ = (
   known_run _ _ _ _ _ _ c.deref.ensures.value c.in-Ok.ensures.same c.in-Ok-text_of_script.ensures.output,
   begins_same _ _ _ _ c.deref-2.ensures.value c.in-Err-write_text.ensures.err,
 )
+
+pub returns-in-Ok-write_text-clause-whole : goal.returns-in-Ok-write_text-clause-whole
+returns-in-Ok-write_text-clause-whole g c = let fits : c.in-Ok-text_of_script.made.end.begun < 2 ^ 64 = omega arith in whole_always c.args.schedule _ _ _ c.in-Ok-text_of_script.ensures.output fits
+
+pub returns-in-Ok-write_text-clause-finish : goal.returns-in-Ok-write_text-clause-finish
+returns-in-Ok-write_text-clause-finish g c = let fits : c.in-Ok-text_of_script.made.end.begun < 2 ^ 64 = omega arith in known_whole _ _ _ _ c.args.schedule _ c.deref.ensures.value c.in-Ok.ensures.same c.in-Ok-text_of_script.ensures.output fits
+
+pub returns-in-Err-text_of_script-clause-full : goal.returns-in-Err-text_of_script-clause-full
+returns-in-Err-text_of_script-clause-full g c e =
+    let k : c.in-Err-text_of_script.fault ≡ Full = cc in
+    known_full _ _ _ c.args.schedule c.deref.ensures.value c.in-Ok.ensures.same (c.in-Err-text_of_script.ensures.full (ap Err k))

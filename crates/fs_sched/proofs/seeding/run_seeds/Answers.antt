@@ -1,9 +1,9 @@
 use Rattle.std.specs.Io.KnownBytes.{Appends}
-use Rattle.std.proofs.Common.{subst, ◌≡◌, ◌≤◌, length, arith}
+use Rattle.std.proofs.Common.{subst, Err, ap, ◌≡◌, ◌≤◌, length, arith}
 use Rattle.fs_sched.proofs.RunLemmas.{script_short, known_fault, begins_same}
-use Rattle.fs_sched.proofs.SeedLemmas.{known_runs}
+use Rattle.fs_sched.proofs.SeedLemmas.{known_runs, known_seed_full}
 use Rattle.fs_sched.proofs.seeding.run_seeds.Goals as goal
-use Rattle.fs_sched.specs.declared.fault.RunFault.TheVariants.{Input}
+use Rattle.fs_sched.specs.declared.fault.RunFault.TheVariants.{Input, Full}
 
 pub returns-in-Err-lines_of_script-clause-input : goal.returns-in-Err-lines_of_script-clause-input
 returns-in-Err-lines_of_script-clause-input g c f e =
@@ -26,3 +26,8 @@ returns-clause-beginning g c _ = (
   known_runs _ _ _ _ _ _ c.deref.ensures.value c.in-Ok.ensures.same c.in-Ok-lines_of_script.ensures.ok,
   begins_same _ _ _ _ c.deref-2.ensures.value c.in-Err-write_text.ensures.err,
 )
+
+pub returns-in-Err-lines_of_script-clause-full : goal.returns-in-Err-lines_of_script-clause-full
+returns-in-Err-lines_of_script-clause-full g c e =
+    let k : c.in-Err-lines_of_script.fault ≡ Full = cc in
+    known_seed_full _ _ _ _ _ c.deref.ensures.value c.in-Ok.ensures.same (c.in-Err-lines_of_script.ensures.full (ap Err k))

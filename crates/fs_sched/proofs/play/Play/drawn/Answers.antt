@@ -1,6 +1,8 @@
-use Rattle.std.proofs.Common.{◌≡◌, length, rules, arith}
+use Rattle.std.proofs.Common.{◌≡◌, Err, length, ap, rules, arith}
 use Rattle.fs_sched.specs.Stages.{stage_of}
 use Rattle.fs_sched.proofs.Staging.{lead_more, lead_end, draws_more, draws_end, over_stays}
+use Rattle.fs_sched.proofs.Stopping.{stop_more, stop_here}
+use Rattle.fs_sched.specs.declared.fault.RunFault.TheVariants.{Full}
 use Rattle.fs_sched.proofs.play.Play.drawn.Goals as goal
 
 pub returns-then-not-is_unfinished-clause-events : goal.returns-then-not-is_unfinished-clause-events
@@ -12,6 +14,9 @@ loop-preserved c =
     let e : c.len.result ≡ length c.args.lists.now = omega (arith, h) in
     record {
       seats = c.in_ok-event.ensures.seats;
+      stop = stop_more c.args.lists.now (stage_of c.args.self.now) (stage_of c.loop.self) (stage_of c.event.new.self) _ _ _ c.seat-seat.result
+          (draws_more c.len.result (length c.args.lists.now) c.loop.counter c.seat-seat.result c.loop.draws c.seat-seat.new.self e c.loop-test.true c.seat-seat.ensures)
+          c.loop.invariant.stop c.in_ok-event.ensures.event;
       lead = lead_more c.args.lists.now (stage_of c.args.self.now) (stage_of c.loop.self) (stage_of c.event.new.self) _ _ _ c.seat-seat.result
           (draws_more c.len.result (length c.args.lists.now) c.loop.counter c.seat-seat.result c.loop.draws c.seat-seat.new.self e c.loop-test.true c.seat-seat.ensures)
           c.loop.invariant.lead c.in_ok-event.ensures.event;
@@ -19,3 +24,11 @@ loop-preserved c =
 
 pub returns-clause-events : goal.returns-clause-events
 returns-clause-events c = lead_end c.args.lists.now (stage_of c.args.self.now) (stage_of c.loop.self) _ _ (draws_end (length c.args.lists.now) c.loop.counter c.loop.draws c.loop-test.false) c.loop.invariant.lead
+
+pub returns-in_err-event-clause-full : goal.returns-in_err-event-clause-full
+returns-in_err-event-clause-full c f =
+    let h : length c.loop.self.begun.items ≡ length c.args.lists.now = c.loop.invariant.seats.begun in
+    let e : c.len.result ≡ length c.args.lists.now = omega (arith, h) in
+    stop_here c.args.lists.now (stage_of c.args.self.now) (stage_of c.loop.self) _ _ _ c.seat-seat.result
+    (draws_more c.len.result (length c.args.lists.now) c.loop.counter c.seat-seat.result c.loop.draws c.seat-seat.new.self e c.loop-test.true c.seat-seat.ensures)
+    c.loop.invariant.stop (c.in_err-event.ensures.full (let k : c.in_err-event.field-0.0 ≡ Full = search rules in ap Err k))

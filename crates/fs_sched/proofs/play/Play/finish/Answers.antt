@@ -1,8 +1,10 @@
-use Rattle.std.proofs.Common.{rules}
-use Rattle.fs_sched.specs.Runs.{Over}
+use Rattle.std.proofs.Common.{◌≡◌, Err, ap, rules}
+use Rattle.fs_sched.specs.Runs.{Over, InRound}
 use Rattle.fs_sched.specs.Stages.{stage_of}
 use Rattle.fs_sched.proofs.Rounds.{round_smaller}
 use Rattle.fs_sched.proofs.Staging.{round_more, seats_there}
+use Rattle.fs_sched.proofs.Stopping.{stop_round}
+use Rattle.fs_sched.specs.declared.fault.RunFault.TheVariants.{Full}
 use Rattle.fs_sched.proofs.play.Play.finish.Goals as goal
 
 pub rounds-smaller : goal.rounds-smaller
@@ -11,8 +13,12 @@ rounds-smaller c = round_smaller c.args.lists.now (stage_of c.rounds.self) (stag
 pub rounds-preserved : goal.rounds-preserved
 rounds-preserved c = record {
   seats = c.in_ok-round.ensures.seats;
+  stop = stop_round c.args.lists.now (stage_of c.args.self.now) (stage_of c.rounds.self) (stage_of c.round.new.self) c.rounds.invariant.stop (c.rounds-test.ensures.unfinished (search rules)) c.in_ok-round.ensures.round;
   lead = round_more c.args.lists.now (stage_of c.args.self.now) (stage_of c.rounds.self) (stage_of c.round.new.self) c.rounds.invariant.lead (c.rounds-test.ensures.unfinished (search rules)) c.in_ok-round.ensures.round;
 }
 
 pub returns-clause-ended : goal.returns-clause-ended
 returns-clause-ended c = c.rounds.invariant.lead (stage_of c.rounds.self) (Over (c.rounds-test.ensures.over (search rules)))
+
+pub returns-in_err-round-clause-full : goal.returns-in_err-round-clause-full
+returns-in_err-round-clause-full c e = c.rounds.invariant.stop (InRound (c.rounds-test.ensures.unfinished (search rules)) (c.in_err-round.ensures.full (let k : c.in_err-round.field-0.0 ≡ Full = search rules in ap Err k)))

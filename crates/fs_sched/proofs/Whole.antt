@@ -1,0 +1,245 @@
+-- Where rounds to the end follow, each call of the script began, took its place and returned.
+use Rattle.std.proofs.Common.{◌≡◌, ◌≢◌, ℕ, zero, suc, ◌+◌, ◌-◌, ◌^◌, ◌<◌, min, ltb, Bool, true, false, List, [], ◌∷◌, length, drop, get_or, replicate, slice_get, slice_set, Option, Some, None, Result, Ok, refl, sym, ap, ◌∙◌, subst, arith}
+use Rattle.std.specs.Prelude.{IfSome}
+use Rattle.std.specs.List.{list_any}
+use Rattle.std.proofs.lemmas.Bool.{ltb-true, ltb-false}
+use Rattle.fs_names.specs.Shapes.{Shape}
+use Rattle.fs_names.specs.declared.limits.TheConstants.{NODE_LIMIT}
+use Rattle.fs_seq.specs.Forms.{form, reserves}
+use Rattle.fs_seq.specs.declared.call.Call.{Call}
+use Rattle.fs_nodes.specs.Graphs.{set_at}
+use Rattle.fs_journal.specs.declared.entry.Entry.{Entry}
+use Rattle.fs_journal.specs.declared.entry.Entry.TheVariants.{Begin, Commit, Return}
+use Rattle.fs_moves.specs.Records.{Record}
+use Rattle.fs_laws.specs.Headline.{IsIdle}
+use Rattle.fs_laws.specs.States.{State, Run, Start, Begins, Begun_as, Reserves, Step, Stepped, Idle, Took, Busy, LetGo, Helped, Committed, CarriedOut, Returned}
+use Rattle.fs_laws.proofs.Keeping.{Place, Here, Else, place}
+use Rattle.fs_laws.proofs.CallGraphs.{call_seat}
+use Rattle.fs_text.specs.declared.fault.ScriptFault.{ScriptFault}
+use Rattle.fs_script.specs.declared.script.Script.{Script}
+use Rattle.fs_script.specs.declared.script.Word.{Word}
+use Rattle.fs_sched.specs.RunTexts.{number_of}
+use Rattle.fs_sched.specs.declared.texts.EntryKind.TheVariants as kind
+use Rattle.fs_sched.specs.declared.running.RunEnd.{RunEnd}
+use Rattle.fs_sched.specs.declared.schedule.Schedule.{Schedule}
+use Rattle.fs_sched.specs.declared.schedule.Schedule.TheVariants.{Given, RoundRobin, Seeded}
+use Rattle.fs_sched.specs.Runs.{Stage, start, next_call, Event, Goes, Starts, Spent, Events, IsOver, ToEnd, Over, More, EndsBy, Runs, calls_in, end_of, IsRunOf, IsWhole, HasFinish}
+use Rattle.fs_sched.specs.Devices.{IsSameText}
+use Rattle.fs_sched.specs.Schedules.{seats_before, is_finish, goes_on}
+use Rattle.fs_sched.proofs.Counts.{number_push, idle_returned, idle_committed}
+use Rattle.fs_sched.proofs.RunLemmas.{known_run}
+use Rattle.fs_sched.proofs.Rounds.{cost_of, owed, owed_less, none_some, event_run, event_length, AreSeats}
+use Rattle.fs_sched.proofs.Staging.{nothing_more, call_past}
+
+-- ---- one event
+
+-- a step begins no call
+step_begins : (s new : State) (seat : ℕ) (answer : Stepped) → Step s seat answer new → number_of kind.Begin new.timeline ≡ number_of kind.Begin s.timeline
+step_begins s new seat Idle (off, same) = ap (λ (x : State). number_of kind.Begin x.timeline) same
+step_begins s new seat (Busy n d) (c, op, moves, held, same) = ap (λ (x : State). number_of kind.Begin x.timeline) same
+step_begins s new seat (Took n) (c, op, moves, free, same) = ap (λ (x : State). number_of kind.Begin x.timeline) same
+step_begins s new seat (LetGo n) (c, op, moves, same) = ap (λ (x : State). number_of kind.Begin x.timeline) same
+step_begins s new seat (Helped d) (c, op, u, moves, w, pick, q, is, same) =
+    let a : number_of kind.Begin new.timeline ≡ number_of kind.Begin s.timeline + 0 = ap (λ (x : State). number_of kind.Begin x.timeline) same ∙ number_push kind.Begin s.timeline (Commit d) in
+    omega (arith, a)
+step_begins s new seat Committed (c, op, o, moves, w, below, same) =
+    let a : number_of kind.Begin new.timeline ≡ number_of kind.Begin s.timeline + 0 = ap (λ (x : State). number_of kind.Begin x.timeline) same ∙ number_push kind.Begin s.timeline (Commit c) in
+    omega (arith, a)
+step_begins s new seat CarriedOut (c, op, o, i, moves, placed, same) = ap (λ (x : State). number_of kind.Begin x.timeline) same
+step_begins s new seat (Returned r) (c, op, moves, ph, same) =
+    let a : number_of kind.Begin new.timeline ≡ number_of kind.Begin s.timeline + 0 = ap (λ (x : State). number_of kind.Begin x.timeline) same ∙ number_push kind.Begin s.timeline (Return c r) in
+    omega (arith, a)
+
+-- nor is a call on a seat after it that was not there before
+step_seats : (s new : State) (seat : ℕ) (answer : Stepped) → Step s seat answer new → (x d : ℕ) → new.on_seat x ≡ Some d → s.on_seat x ≡ Some d
+step_seats s new seat Idle (off, same) x d on = sym (ap (λ (u : State). u.on_seat x) same) ∙ on
+step_seats s new seat (Busy n e) (c, op, moves, held, same) x d on = sym (ap (λ (u : State). u.on_seat x) same) ∙ on
+step_seats s new seat (Took n) (c, op, moves, free, same) x d on = sym (ap (λ (u : State). u.on_seat x) same) ∙ on
+step_seats s new seat (LetGo n) (c, op, moves, same) x d on = sym (ap (λ (u : State). u.on_seat x) same) ∙ on
+step_seats s new seat (Helped e) (c, op, t, moves, w, pick, q, is, same) x d on = sym (ap (λ (u : State). u.on_seat x) same) ∙ on
+step_seats s new seat Committed (c, op, o, moves, w, below, same) x d on = sym (ap (λ (u : State). u.on_seat x) same) ∙ on
+step_seats s new seat CarriedOut (c, op, o, i, moves, placed, same) x d on = sym (ap (λ (u : State). u.on_seat x) same) ∙ on
+step_seats s new seat (Returned r) (c, op, moves, ph, same) x d on = go (place op.seat None s.on_seat x)
+  where
+    go : Place (Option ℕ) op.seat None s.on_seat x → s.on_seat x ≡ Some d
+    go (Here e j) = absurd (none_some (new.on_seat x) d (ap (λ (u : State). u.on_seat x) same ∙ j) on)
+    go (Else n j) = sym j ∙ (sym (ap (λ (u : State). u.on_seat x) same) ∙ on)
+
+-- a begin begins one, on its seat
+begin_begins : (s new : State) (seat c : ℕ) (call : Call) → Begins s seat call (Begun_as c) new → number_of kind.Begin new.timeline ≡ number_of kind.Begin s.timeline + 1
+begin_begins s new seat c call (off, number, r) = go (reserves (form call)) r
+  where
+    go : (o : Option Shape) → Reserves s seat call c o new → number_of kind.Begin new.timeline ≡ number_of kind.Begin s.timeline + 1
+    go None same = ap (λ (x : State). number_of kind.Begin x.timeline) same ∙ number_push kind.Begin s.timeline (Begin c seat call)
+    go (Some shape) (n, less, unused, same) = ap (λ (x : State). number_of kind.Begin x.timeline) same ∙ number_push kind.Begin s.timeline (Begin c seat call)
+
+begin_seats : (s new : State) (seat c : ℕ) (call : Call) → Begins s seat call (Begun_as c) new → (x : ℕ) → new.on_seat x ≡ set_at seat (Some c) s.on_seat x
+begin_seats s new seat c call (off, number, r) x = go (reserves (form call)) r
+  where
+    go : (o : Option Shape) → Reserves s seat call c o new → new.on_seat x ≡ set_at seat (Some c) s.on_seat x
+    go None same = ap (λ (u : State). u.on_seat x) same
+    go (Some shape) (n, less, unused, same) = ap (λ (u : State). u.on_seat x) same
+
+-- one for each call
+abbrev one : Call → ℕ
+one call = 1
+
+-- what every stage of a script's run keeps: the calls that began and those that are left are all
+record Kept (lists : List (List Call)) (s : Stage) : Type 0 where
+  run : Run s.state
+  same : length s.begun ≡ length lists
+  seats : AreSeats lists s
+  all : number_of kind.Begin s.state.timeline + owed one lists s.begun ≡ calls_in lists
+
+call_there : (lists : List (List Call)) (s : Stage) (seat : ℕ) (call : Call) → next_call lists s seat ≡ Some call → seat < length lists
+call_there lists s seat call is = go (ltb seat (length lists)) refl
+  where
+    go : (b : Bool) → ltb seat (length lists) ≡ b → seat < length lists
+    go true t = ltb-true _ _ t
+    go false f = let z : ◌≡◌ {A = Option Call} None (Some call) = sym (call_past lists s seat (omega (arith, ltb-false _ _ f))) ∙ is in cc
+
+event_keeps : (lists : List (List Call)) (old new : Stage) (seat : ℕ) → Event lists old seat new → Kept lists old → Kept lists new
+event_keeps lists old new seat (Goes c answer on step kept) k =
+    let a : number_of kind.Begin new.state.timeline ≡ number_of kind.Begin old.state.timeline = step_begins old.state new.state seat answer step in
+    let b : owed one lists new.begun ≡ owed one lists old.begun = ap (owed one lists) kept in
+    let d : number_of kind.Begin old.state.timeline + owed one lists old.begun ≡ calls_in lists = k.all in
+    record {
+      run = event_run lists old new seat k.run (Goes c answer on step kept);
+      same = ap length kept ∙ k.same;
+      seats = λ x e on_x. k.seats x e (step_seats old.state new.state seat answer step x e on_x);
+      all = omega (arith, a, b, d);
+    }
+event_keeps lists old new seat (Starts c call off is begins set) k =
+    let a : number_of kind.Begin new.state.timeline ≡ number_of kind.Begin old.state.timeline + 1 = begin_begins old.state new.state seat c call begins in
+    let b : owed one lists new.begun ≡ owed one lists (slice_set old.begun seat (get_or old.begun seat 0 + 1)) = ap (owed one lists) set in
+    let e : owed one lists (slice_set old.begun seat (get_or old.begun seat 0 + 1)) + 1 ≡ owed one lists old.begun = owed_less one lists old.begun seat (get_or old.begun seat 0 + 1) call k.same (omega arith) is in
+    let d : number_of kind.Begin old.state.timeline + owed one lists old.begun ≡ calls_in lists = k.all in
+    record {
+      run = event_run lists old new seat k.run (Starts c call off is begins set);
+      same = event_length lists old new seat (Starts c call off is begins set) ∙ k.same;
+      seats = λ x f on_x. by x f on_x (place seat (Some c) old.state.on_seat x);
+      all = omega (arith, a, b, e, d);
+    }
+  where
+    by : (x f : ℕ) → new.state.on_seat x ≡ Some f → Place (Option ℕ) seat (Some c) old.state.on_seat x → x < length lists
+    by x f on_x (Here e j) = subst (λ (y : ℕ). y < length lists) (sym e) (call_there lists old seat call is)
+    by x f on_x (Else n j) = k.seats x f (sym j ∙ (sym (begin_seats old.state new.state seat c call begins x) ∙ on_x))
+event_keeps lists old new seat (Spent off none e) k = subst (Kept lists) (sym e) k
+
+-- ---- a run
+
+events_keep : (lists : List (List Call)) (seats : List ℕ) (old new : Stage) → Events lists old seats new → Kept lists old → Kept lists new
+events_keep lists [] old new e k = subst (Kept lists) (sym e) k
+events_keep lists (seat ∷ seats) old new (middle, event, rest) k = events_keep lists seats middle new rest (event_keeps lists old middle seat event k)
+
+end_keeps : (lists : List (List Call)) (old last : Stage) → ToEnd lists old last → Kept lists old → Kept lists last × IsOver lists last
+end_keeps lists old last (Over over) k = (k, over)
+end_keeps lists old last (More {middle} more round rest) k = end_keeps lists middle last rest (events_keep lists _ old middle round k)
+
+length_zeros : (n : ℕ) → length {A = ℕ} (replicate n 0) ≡ n
+length_zeros zero = refl
+length_zeros (suc n) = ap suc (length_zeros n)
+
+cost_all : (calls : List Call) → cost_of one calls ≡ length calls
+cost_all [] = refl
+cost_all (call ∷ calls) = let h : cost_of one calls ≡ length calls = cost_all calls in omega (arith, h)
+
+owed_all : (lists : List (List Call)) → owed one lists (replicate (length lists) 0) ≡ calls_in lists
+owed_all [] = refl
+owed_all (calls ∷ lists) =
+    let h : owed one lists (replicate (length lists) 0) ≡ calls_in lists = owed_all lists in
+    let g : cost_of one calls ≡ length calls = cost_all calls in
+    omega (arith, g, h)
+
+kept_start : (lists : List (List Call)) → Kept lists (start (length lists))
+kept_start lists = record {
+  run = Start NODE_LIMIT (omega arith);
+  same = length_zeros (length lists);
+  seats = λ x d on. absurd (none_some None d refl on);
+  all = (let h : owed one lists (replicate (length lists) 0) ≡ calls_in lists = owed_all lists in omega (arith, h));
+}
+
+-- ---- where it is over
+
+call_spent : (calls : List Call) (n : ℕ) → slice_get calls n ≡ None → cost_of one (drop n calls) ≡ 0
+call_spent [] zero e = refl
+call_spent [] (suc n) e = refl
+call_spent (call ∷ calls) zero e = absurd (let z : ◌≡◌ {A = Option Call} (Some call) None = e in cc)
+call_spent (call ∷ calls) (suc n) e = call_spent calls n e
+
+none_owed : (lists : List (List Call)) (begun : List ℕ) → ((seat : ℕ) → seat < length lists → slice_get (get_or lists seat []) (get_or begun seat 0) ≡ None) → owed one lists begun ≡ 0
+none_owed [] begun h = refl
+none_owed (calls ∷ lists) [] h = refl
+none_owed (calls ∷ lists) (n ∷ begun) h =
+    let a : cost_of one (drop n calls) ≡ 0 = call_spent calls n (h 0 (omega arith)) in
+    let b : owed one lists begun ≡ 0 = none_owed lists begun (λ seat less. h (suc seat) (omega (arith, less))) in
+    omega (arith, a, b)
+
+over_idle : (lists : List (List Call)) (s : Stage) → Kept lists s → IsOver lists s → IsIdle s.state
+over_idle lists s k over c = go (s.state.ops c) refl
+  where
+    go : (o : Option Record) → s.state.ops c ≡ o → s.state.ops c ≡ None
+    go None e = e
+    go (Some op) e =
+        let on : s.state.on_seat op.seat ≡ Some c = call_seat s.state c op k.run e in
+        let off : (s.state.on_seat op.seat ≡ None) × (next_call lists s op.seat ≡ None) = nothing_more _ _ (over op.seat (k.seats op.seat c on)) in
+        absurd (none_some (s.state.on_seat op.seat) c off.0 on)
+
+ends_by : (b : Bool) (lists : List (List Call)) (old last : Stage) → b ≡ true → EndsBy b lists old last → ToEnd lists old last
+ends_by true lists old last e h = h
+ends_by false lists old last e h = absurd (let z : ◌≡◌ {A = Bool} false true = e in cc)
+
+-- how many entries of each kind there are after rounds to the end
+record IsComplete (lists : List (List Call)) (es : List Entry) : Type 0 where
+  begun : number_of kind.Begin es ≡ calls_in lists
+  committed : number_of kind.Commit es ≡ calls_in lists
+  returned : number_of kind.Return es ≡ calls_in lists
+
+complete : (lists : List (List Call)) (s : Stage) → Kept lists s → IsOver lists s → IsComplete lists s.state.timeline
+complete lists s k over =
+    let z : owed one lists s.begun ≡ 0 = none_owed lists s.begun (λ seat less. (nothing_more _ _ (over seat less)).1) in
+    let b : number_of kind.Begin s.state.timeline + owed one lists s.begun ≡ calls_in lists = k.all in
+    let idle : IsIdle s.state = over_idle lists s k over in
+    let r : number_of kind.Return s.state.timeline ≡ number_of kind.Begin s.state.timeline = idle_returned s.state k.run idle in
+    let p : number_of kind.Commit s.state.timeline ≡ number_of kind.Begin s.state.timeline = idle_committed s.state k.run idle in
+    record { begun = omega (arith, z, b); committed = omega (arith, z, b, p); returned = omega (arith, z, b, r) }
+
+runs_complete : (schedule : Schedule) (script : Script) (last : Stage) → Runs schedule script last → goes_on schedule script.words ≡ true → IsComplete script.lists last.state.timeline
+runs_complete schedule script last (middle, events, ends) more =
+    let k : Kept script.lists middle = events_keep script.lists (seats_before schedule script.words (length script.lists)) (start (length script.lists)) middle events (kept_start script.lists) in
+    let e : Kept script.lists last × IsOver script.lists last = end_keeps script.lists middle last (ends_by _ script.lists middle last more ends) k in
+    complete script.lists last e.0 e.1
+
+-- where rounds to the end follow, by the numbers of a run's end
+pub whole_end : (schedule : Schedule) (script : Script) (last : Stage) (end : RunEnd) → Runs schedule script last → end ≡ end_of script last.state.timeline → goes_on schedule script.words ≡ true → end.begun < 2 ^ 64 → IsWhole end
+whole_end schedule script last end runs is more fits =
+    let all : IsComplete script.lists last.state.timeline = runs_complete schedule script last runs more in
+    let n : end.calls ≡ min (2 ^ 64 - 1) (calls_in script.lists) = ap (λ (e : RunEnd). e.calls) is in
+    let b : end.begun ≡ calls_in script.lists = ap (λ (e : RunEnd). e.begun) is ∙ all.begun in
+    let p : end.committed ≡ calls_in script.lists = ap (λ (e : RunEnd). e.committed) is ∙ all.committed in
+    let r : end.returned ≡ calls_in script.lists = ap (λ (e : RunEnd). e.returned) is ∙ all.returned in
+    record { begun = omega (arith, n, b, fits); committed = omega (arith, n, b, p, fits); returned = omega (arith, n, b, r, fits) }
+
+-- the schedules by which they follow
+always_goes_on : (schedule : Schedule) (words : List Word) → schedule ≢ Given → goes_on schedule words ≡ true
+always_goes_on Given words other = absurd (other refl)
+always_goes_on RoundRobin words other = refl
+always_goes_on (Seeded n) words other = refl
+
+finish_goes_on : (schedule : Schedule) (words : List Word) → list_any is_finish words ≡ true → goes_on schedule words ≡ true
+finish_goes_on Given words has = has
+finish_goes_on RoundRobin words has = refl
+finish_goes_on (Seeded n) words has = refl
+
+pub whole_always : (schedule : Schedule) (text : List ℕ) (end : RunEnd) (out : List ℕ) → IsRunOf schedule text end out → end.begun < 2 ^ 64 → schedule ≢ Given → IsWhole end
+whole_always schedule text end out (script, is, (last, runs, ended, spelled)) fits other = whole_end schedule script last end runs ended (always_goes_on schedule script.words other) fits
+
+whole_finish : (schedule : Schedule) (text : List ℕ) (end : RunEnd) (out : List ℕ) → IsRunOf schedule text end out → end.begun < 2 ^ 64 → HasFinish text → IsWhole end
+whole_finish schedule text end out (script, is, (last, runs, ended, spelled)) fits (other, is_other, has) =
+    let z : ◌≡◌ {A = Result Script ScriptFault} (Ok other) (Ok script) = sym is_other ∙ is in
+    let y : other ≡ script = cc in
+    whole_end schedule script last end runs ended (finish_goes_on schedule script.words (subst (λ (s : Script). list_any is_finish s.words ≡ true) y has)) fits
+
+pub known_whole : (r : Option (List ℕ)) (text items out : List ℕ) (schedule : Schedule) (end : RunEnd) → text ≡ items → IfSome r (IsSameText items) → IsRunOf schedule text end out → end.begun < 2 ^ 64 → IfSome r (λ input. HasFinish input → IsWhole end)
+known_whole None text items out schedule end e s h fits = tt
+known_whole (Some input) text items out schedule end e s h fits = whole_finish schedule input end out (known_run (Some input) text items out schedule end e s h) fits
