@@ -2,7 +2,9 @@
 //! `atomfs check` reads a journal there; each writes what came of it.
 #![tactic(auto)]
 
-ghost use Rattle.std.specs.Prelude.{◌≡◌, ◌<◌, ◌-◌, ◌^◌};
+ghost use Rattle.std.specs.Prelude.{◌≡◌, ◌≢◌, ◌⊎◌, ◌<◌, ◌-◌, ◌^◌};
+ghost use Rattle.std.specs.IoError.{error_kind};
+ghost use Rattle.clap.specs.Values.{kind_of};
 ghost use Rattle.atomfs.specs.Statuses.{status_of_fault, status_of, is_whole};
 ghost use Rattle.atomfs.specs.Tasks.{IsWithin};
 
@@ -16,7 +18,7 @@ use fs_sched::{
     Device, RunEnd, RunFault, Schedule, Sink, Source, check_journal, run_script, run_seeds,
 };
 use std::alloc::Global;
-use std::io;
+use std::io::{self, ErrorKind as IoErrorKind};
 use std::process::ExitCode;
 use words::Task;
 
@@ -47,23 +49,34 @@ fn ended<R: Eprint>(rt: &R, outcome: Result<bool, RunFault>) -> u8
 }
 
 /// The status where the words cannot be read: 4 for want of memory, 2 where one is no UTF-8.
-fn unread(rt: &HostRuntime, error: &io::Error) -> u8 {
-    if error.kind() == io::ErrorKind::OutOfMemory {
+fn unread(rt: &HostRuntime, error: &io::Error) -> u8
+    ensures memory { error_kind error.now ≡ IoErrorKind.OutOfMemory → result ≡ 4 }
+    ensures words { error_kind error.now ≢ IoErrorKind.OutOfMemory → result ≡ 2 }
+{
+    if error.kind() == IoErrorKind::OutOfMemory {
         return ended(rt, Err(RunFault::OutOfMemory));
     }
     let _ = eprintln!(rt; "atomfs: a word is not UTF-8");
     2
 }
 
-/// The status where the words ask for no run: 0 after help on standard output, 2 after bad words on standard error.
-fn refused(rt: &HostRuntime, error: Error) -> u8 {
+/// The status where the words ask for no run: 0 after help on standard output, 2 after bad words on standard error, and 5 where
+/// what is to be said cannot be printed.
+fn refused(rt: &HostRuntime, error: Error) -> u8
+    ensures memory { kind_of error ≡ ErrorKind.OutOfMemory → result ≡ 4 }
+    ensures help { kind_of error ≡ ErrorKind.DisplayHelp → (result ≡ 0) ⊎ (result ≡ 5) }
+    ensures words { kind_of error ≢ ErrorKind.OutOfMemory → kind_of error ≢ ErrorKind.DisplayHelp → kind_of error ≢ ErrorKind.DisplayVersion → (result ≡ 2) ⊎ (result ≡ 5) }
+{
     if error.kind() == ErrorKind::OutOfMemory {
         return ended(rt, Err(RunFault::OutOfMemory));
     }
     if error.print(rt).is_err() {
         return 5;
     }
-    error.exit_code() as u8
+    match error.kind() {
+        ErrorKind::DisplayHelp | ErrorKind::DisplayVersion => 0,
+        _ => 2,
+    }
 }
 
 /// Whether every call of a run's script returned.
