@@ -513,3 +513,79 @@ dir /k
 begun 57 committed 57 returned 57
 ",
 );
+
+/// Bytes of files up to the limit, gaps and ends.
+pub const BYTES_OF_FILES: (&[u8], &[u8]) = (
+    b"atomfs 1
+thread t
+mknod /f
+write /f 65535 ff
+stat /f
+write /f 65536 00
+stat /f
+mknod /g
+write /g 9 -
+stat /g
+write /g 3 ff
+read /g 0 10
+read /g 4 1
+truncate /g 6
+read /g 2 99
+truncate /g 65537
+truncate /f 2
+schedule
+finish
+",
+    b"atomfs-journal 1
+begin 1 0 mknod /f
+commit 1
+return 1 ok
+begin 2 0 write /f 65535 ff
+commit 2
+return 2 wrote 1
+begin 3 0 stat /f
+commit 3
+return 3 stat file 65536
+begin 4 0 write /f 65536 00
+commit 4
+return 4 failed EFBIG
+begin 5 0 stat /f
+commit 5
+return 5 stat file 65536
+begin 6 0 mknod /g
+commit 6
+return 6 ok
+begin 7 0 write /g 9 -
+commit 7
+return 7 wrote 0
+begin 8 0 stat /g
+commit 8
+return 8 stat file 0
+begin 9 0 write /g 3 ff
+commit 9
+return 9 wrote 1
+begin 10 0 read /g 0 10
+commit 10
+return 10 bytes 000000ff
+begin 11 0 read /g 4 1
+commit 11
+return 11 bytes -
+begin 12 0 truncate /g 6
+commit 12
+return 12 ok
+begin 13 0 read /g 2 99
+commit 13
+return 13 bytes 00ff0000
+begin 14 0 truncate /g 65537
+commit 14
+return 14 failed EFBIG
+begin 15 0 truncate /f 2
+commit 15
+return 15 ok
+tree
+dir /
+file /f 0000
+file /g 000000ff0000
+begun 15 committed 15 returned 15
+",
+);

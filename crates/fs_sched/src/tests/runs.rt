@@ -58,6 +58,7 @@ fn runs_one_after_the_other(rt: HostRuntime) -> Result<(), Fail> {
         alone::MISSING_BELOW_ITS_TARGET,
         alone::RENAMES_IN_SEQUENCE,
         alone::OFFSETS,
+        alone::BYTES_OF_FILES,
         alone::ERRORS_OF_EACH_CALL,
     ];
     for (script, want) in rows {
@@ -137,6 +138,35 @@ fn writes_cut_runs(rt: HostRuntime) -> Result<(), Fail> {
     for (script, want) in rows {
         assert_eq!(rt; ran(rt.alloc(), script, Schedule::Given)?.as_slice(), want);
     }
+    Ok(())
+}
+
+/// A script that makes a directory with one name more than it may have, and then looks at it.
+fn full_directory(alloc: Global) -> Result<Vec<u8>, Fail> {
+    let mut script = Vec::from_slice(alloc, b"atomfs 1\nthread t\nmkdir /d\n")?;
+    for i in 0..257u32 {
+        script.extend_from_slice(format!(in alloc; "mknod /d/n{i}\n")?.as_bytes())?;
+    }
+    script.extend_from_slice(
+        b"mknod /x\nrename /x /d/y\nrename /d/n0 /d/y\nstat /d\nschedule\nfinish\n",
+    )?;
+    Ok(script)
+}
+
+/// Whether a text has these bytes somewhere.
+fn has(text: &[u8], bytes: &[u8]) -> bool {
+    text.windows(bytes.len().max(1)).any(|part| part == bytes)
+}
+
+#[test]
+fn keeps_the_limit_on_entries(rt: HostRuntime) -> Result<(), Fail> {
+    let script = full_directory(rt.alloc())?;
+    let text = ran(rt.alloc(), &script, Schedule::Given)?;
+    assert!(rt; has(&text, b"return 257 ok\n"));
+    assert!(rt; has(&text, b"return 258 failed ENOSPC\nbegin 259 0 mknod /x\n"));
+    assert!(rt; has(&text, b"return 260 failed ENOSPC\n"));
+    assert!(rt; has(&text, b"return 261 ok\n"));
+    assert!(rt; has(&text, b"return 262 stat dir 256\n"));
     Ok(())
 }
 
