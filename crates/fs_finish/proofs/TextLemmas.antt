@@ -6,7 +6,8 @@ use Rattle.fs_names.specs.Names.{Name, same_name}
 use Rattle.fs_names.specs.Keys.{Key, after_prefix, common_len, has_more, last_of, parent_of}
 use Rattle.fs_names.specs.Parts.{is_end, common}
 use Rattle.fs_names.proofs.Lemmas.{after_prefix-exact, prefix_common}
-use Rattle.fs_seq.specs.Forms.{Rename, by_text, if_below}
+use Rattle.fs_seq.specs.Forms.{Rename, by_text}
+use Rattle.fs_seq.proofs.RowNames.{if_below}
 use Rattle.fs_seq.specs.declared.errno.Errno.TheVariants.{Einval}
 use Rattle.fs_finish.proofs.ParentLemmas.{common_length}
 

@@ -5,8 +5,7 @@ ghost use Rattle.fs_names.specs.Shapes.{bytes_of, is_file};
 ghost use Rattle.fs_nodes.specs.Graphs.{content_in};
 ghost use Rattle.fs_nodes.specs.Stores.{shape, graph_of, room};
 ghost use Rattle.fs_seq.specs.Forms as calls;
-ghost use Rattle.fs_seq.specs.Outcomes.{written, resized};
-ghost use Rattle.fs_seq.specs.Rows.{on_row};
+ghost use Rattle.fs_seq.specs.Rows.{on_row, written, resized};
 ghost use Rattle.fs_finish.specs.Replies.{refilled};
 ghost use Rattle.fs_finish.specs.Rooms.{SufficesFor};
 

@@ -7,6 +7,7 @@ use Rattle.fs_seq.specs.Changes.{Change, content_change, edit_change}
 use Rattle.fs_seq.specs.Forms.{NodeCall, EntryCall, Mkdir, Mknod, Unlink, Rmdir, Form, In, new_shape}
 use Rattle.fs_seq.specs.Maps.{Map, put}
 use Rattle.fs_seq.specs.Rows.{on_row, Edit, Keep, Add, Remove, in_row}
+use Rattle.fs_seq.proofs.RowNames.{on_dir}
 use Rattle.fs_seq.specs.declared.errno.Errno.{Errno}
 use Rattle.fs_seq.specs.declared.reply.Reply.{Reply}
 use Rattle.fs_nodes.specs.Graphs.{Graph, at, then_at, numbers, entry_shape, IsGraph, linked_in, unlinked_in}
@@ -67,10 +68,13 @@ does_nothing graph ops key st reserved ch r is kept e = record {
 no_bytes : (r : Reply) (x : Reply × Option (List ℕ)) (bytes : List ℕ) → x ≡ (r, None) → x.1 ≡ Some bytes → ⊥
 no_bytes r x bytes e f = let z : ◌≡◌ {A = Option (List ℕ)} None (Some bytes) = sym (ap (λ (o : Reply × Option (List ℕ)). o.1) e) ∙ f in cc
 
+no_some : (bytes : List ℕ) → ◌≡◌ {A = Option (List ℕ)} None (Some bytes) → ⊥
+no_some bytes e = cc
+
 pub content_of : (c : NodeCall) (e : Option Errno) (s : Option Shape) (bytes : List ℕ) → (on_row c e s).1 ≡ Some bytes → (old : List ℕ) × (s ≡ Some (File old))
 content_of c (Some e) s bytes i = cc
 content_of c None None bytes i = cc
-content_of c None (Some (Dir names)) bytes i = cc
+content_of c None (Some (Dir names)) bytes i = absurd (no_some bytes (sym (on_dir c names) ∙ i))
 content_of c None (Some (File old)) bytes i = (old, refl)
 
 pub does_on : (graph : Graph) (ops : Records) (key : ℕ → Key) (st : Stand) (reserved : Option ℕ) (k p : Key) (b : Option (List ℕ)) (row : Reply × Option (List ℕ)) → IsGraph graph → Kept (numbers graph) ops key → numbers graph k ≡ Some st.node

@@ -42,7 +42,6 @@ pub mod LettingGo
 pub mod Returning
 pub mod Beginning
 pub mod Headlines
-pub mod Resolutions
 pub mod Showing
 pub mod Changing
 pub mod MovingTrees

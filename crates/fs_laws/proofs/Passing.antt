@@ -8,7 +8,8 @@ use Rattle.fs_names.specs.Shapes.{Shape, Dir, File, is_full, names_of}
 use Rattle.fs_seq.specs.Changes.{Change, moved_by, changed, resolve, resolve_dir, content_change, edit_change, rename_writes, move_change, in_looked, rename_looked, looked, unless, outcome, reply, after}
 use Rattle.fs_seq.specs.Forms.{EntryCall, Mkdir, Mknod, Unlink, Rmdir, Form, On, In, Rename, by_text, under, Fits}
 use Rattle.fs_seq.specs.Maps.{Map, below, act, put, move, write_all}
-use Rattle.fs_seq.specs.Rows.{as_dir, on_file, on_row, Edit, Keep, Add, Remove, made, in_there, in_row, to_row, moves_row, from_row, rename_row}
+use Rattle.fs_seq.specs.Rows.{as_dir, on_row, Edit, Keep, Add, Remove, made, in_there, in_row, to_row, moves_row, from_row, rename_row}
+use Rattle.fs_seq.proofs.RowNames.{on_dir}
 use Rattle.fs_seq.specs.declared.errno.Errno.{Errno}
 use Rattle.fs_seq.specs.declared.reply.Reply.{Reply}
 use Rattle.fs_moves.specs.Moves.{victim_of, same_kind}
@@ -343,8 +344,8 @@ looked_root tree (On c p) fits = go (resolve tree p) (tree p) refl
     go : (e : Option Errno) (s : Option Shape) → tree p ≡ s → kind (changed (content_change p (on_row c e s).1) tree []) ≡ kind (tree [])
     go (Some e) s i = refl
     go None None i = refl
-    go None (Some (Dir names)) i = refl
-    go None (Some (File bytes)) i = file bytes (on_file c bytes).1 i
+    go None (Some (Dir names)) i = ap (λ (o : Option (List ℕ)). kind (changed (content_change p o) tree [])) (on_dir c names)
+    go None (Some (File bytes)) i = file bytes (on_row c None (Some (File bytes))).1 i
 looked_root tree (In c p) fits = go (resolve_dir tree (parent_of p)) refl
   where
     m : HasNames p

@@ -3,13 +3,14 @@ use Rattle.std.proofs.Common.{◌≡◌, ℕ, ◌+◌, ◌<◌, ◌≤◌, Bool,
 use Rattle.std.specs.Prelude.{nat_lt, nat_le}
 use Rattle.std.proofs.lemmas.Bool.Decides.{nat_tests}
 use Rattle.fs_names.specs.Keys.{Key, after_prefix, parent_of, last_of, has_more}
+use Rattle.fs_names.specs.First.{on, first}
 use Rattle.fs_names.specs.Names.{Name, inserted_name, removed_name, has_name}
 use Rattle.fs_names.specs.Parts.{common, left, is_end}
 use Rattle.fs_names.specs.Shapes.{Shape, Dir, File, names_of, is_full}
 use Rattle.fs_names.specs.declared.limits.TheConstants.{ENTRY_LIMIT, FILE_LIMIT}
 use Rattle.fs_seq.specs.Forms.{form, NodeCall, Stat, Readdir, Read, Write, Truncate, EntryCall, Mkdir, Mknod, Unlink, Rmdir, Form, On, In, Rename, by_text}
-use Rattle.fs_seq.specs.Outcomes.{written, resized}
-use Rattle.fs_seq.specs.Rows.{on_row, Edit, Keep, Add, Remove, in_there, in_row, to_row}
+use Rattle.fs_seq.specs.Rows.{answered, on_row, Edit, Keep, Add, Remove, in_there, in_row, to_row, written, resized}
+use Rattle.fs_seq.proofs.RowNames.{on_dir}
 use Rattle.fs_seq.specs.declared.errno.Errno.{Errno}
 use Rattle.fs_seq.specs.declared.errno.Errno.TheVariants.{Efbig}
 use Rattle.fs_seq.specs.declared.reply.Reply.{Reply}
@@ -96,19 +97,20 @@ resizes_then f g h a b = record {
 on_resizes : (graph : Graph) → AllWithin graph.shape → (n : ℕ) (c : NodeCall) (e : Option Errno) (reserved : Option ℕ) (s : Option Shape) → graph.shape n ≡ s → Resizes graph.shape (on_made graph n reserved (on_row c e s)).graph.shape
 on_resizes graph w n c (Some e) reserved s i = resizes_same graph.shape w
 on_resizes graph w n c None reserved None i = resizes_same graph.shape w
-on_resizes graph w n c None reserved (Some (Dir names)) i = resizes_same graph.shape w
+on_resizes graph w n c None reserved (Some (Dir names)) i =
+    subst (λ (o : Option (List ℕ)). Resizes graph.shape (on_made graph n reserved ((on_row c None (Some (Dir names))).0, o)).graph.shape) (sym (on_dir c names)) (resizes_same graph.shape w)
 on_resizes graph w n Stat None reserved (Some (File bytes)) i = resizes_same graph.shape w
 on_resizes graph w n Readdir None reserved (Some (File bytes)) i = resizes_same graph.shape w
 on_resizes graph w n (Read off count) None reserved (Some (File bytes)) i = resizes_same graph.shape w
 on_resizes graph w n (Write off []) None reserved (Some (File bytes)) i = resizes_same graph.shape w
 on_resizes graph w n (Write off (b ∷ new)) None reserved (Some (File bytes)) i = go (nat_lt FILE_LIMIT (off + length (b ∷ new))) refl
   where
-    go : (c : Bool) → nat_lt FILE_LIMIT (off + length (b ∷ new)) ≡ c → Resizes graph.shape (on_made graph n reserved (cond {A = Reply × Option (List ℕ)} c (Failed Efbig, None) (Wrote (length (b ∷ new)), Some (written bytes off (b ∷ new))))).graph.shape
+    go : (c : Bool) → nat_lt FILE_LIMIT (off + length (b ∷ new)) ≡ c → Resizes graph.shape (on_made graph n reserved (answered (first (on c Efbig ∷ [])) None (Wrote (length (b ∷ new))) (Some (written bytes off (b ∷ new))))).graph.shape
     go true e = resizes_same graph.shape w
     go false e = resizes_set graph.shape n (File bytes) (File (written bytes off (b ∷ new))) w i tt (length_written bytes off (b ∷ new) (w n (File bytes) i) (grind (arith, nat_tests)))
 on_resizes graph w n (Truncate size) None reserved (Some (File bytes)) i = go (nat_lt FILE_LIMIT size) refl
   where
-    go : (c : Bool) → nat_lt FILE_LIMIT size ≡ c → Resizes graph.shape (on_made graph n reserved (cond {A = Reply × Option (List ℕ)} c (Failed Efbig, None) (Done, Some (resized bytes size)))).graph.shape
+    go : (c : Bool) → nat_lt FILE_LIMIT size ≡ c → Resizes graph.shape (on_made graph n reserved (answered (first (on c Efbig ∷ [])) None Done (Some (resized bytes size)))).graph.shape
     go true e = resizes_same graph.shape w
     go false e = resizes_set graph.shape n (File bytes) (File (resized bytes size)) w i tt (length_resized bytes size (w n (File bytes) i) (grind (arith, nat_tests)))
 

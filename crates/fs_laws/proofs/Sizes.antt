@@ -4,7 +4,7 @@ use Rattle.std.proofs.lemmas.List.{length-append, length-replicate, length-take,
 use Rattle.fs_names.specs.Names.{Name, name_cmp, same_name, inserted_name, removed_name, has_name}
 use Rattle.fs_names.specs.declared.limits.TheConstants.{FILE_LIMIT}
 use Rattle.fs_names.proofs.Lemmas.{name_total}
-use Rattle.fs_seq.specs.Outcomes.{written, resized}
+use Rattle.fs_seq.specs.Rows.{written, resized}
 use Rattle.fs_nodes.proofs.NameLemmas.{Compared, Below, Same, Above, compare, inserted_below, inserted_same, inserted_above, has_inserted}
 use Rattle.fs_laws.proofs.Prefixes.{same_refl, same_true}
 

@@ -5,7 +5,8 @@ use Rattle.fs_names.specs.Names.{Name}
 use Rattle.fs_names.specs.Parts.{is_end, common, left}
 use Rattle.fs_names.specs.Shapes.{Shape, Dir, File, is_full, names_of}
 use Rattle.fs_seq.specs.Changes.{Change, changed, resolve, resolve_dir, looked, content_change, edit_change, move_change, rename_writes, outcome, after, unless}
-use Rattle.fs_seq.specs.Forms.{NodeCall, Form, On, In, Rename, by_text, if_below, under, Fits}
+use Rattle.fs_seq.specs.Forms.{NodeCall, Form, On, In, Rename, by_text, under, Fits}
+use Rattle.fs_seq.proofs.RowNames.{if_below}
 use Rattle.fs_seq.specs.Maps.{Map, put, move, write_all}
 use Rattle.fs_seq.specs.Rows.{as_dir, on_row, Edit, in_row, to_row, moves_row, rename_row}
 use Rattle.fs_seq.specs.declared.errno.Errno.{Errno}

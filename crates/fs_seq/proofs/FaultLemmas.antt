@@ -1,22 +1,25 @@
 -- What a call without an error finds in a tree.
-use Rattle.std.proofs.Common.{◌≡◌, ◌≢◌, ℕ, ◌+◌, length, Bool, true, false, cond, not, ◌&&◌, ◌||◌, List, [], ◌∷◌, ◌++◌, Some, None, Option, is_some, refl, sym, ap, ◌∙◌}
+use Rattle.std.proofs.Common.{◌≡◌, ◌≢◌, ℕ, ◌+◌, length, Bool, true, false, cond, not, ◌&&◌, ◌||◌, List, [], ◌∷◌, ◌++◌, Some, None, Option, is_some, refl, sym, ap, subst, ◌∙◌}
 use Rattle.std.specs.Prelude.{nat_lt}
 use Rattle.fs_names.specs.First.{on, first}
 use Rattle.fs_names.specs.Names.{Name}
-use Rattle.fs_names.specs.Keys.{Key, same_key, is_root, is_proper_prefix, after_prefix, parent_of}
+use Rattle.fs_names.specs.Keys.{Key, is_root, is_proper_prefix, after_prefix, parent_of}
 use Rattle.fs_names.specs.declared.limits.TheConstants.{FILE_LIMIT}
 use Rattle.fs_names.proofs.FirstLemmas.{or_else-none, on-none}
 use Rattle.fs_seq.specs.Tree as tree
 use Rattle.fs_seq.specs.Tree.{Tree, Node, look, names_in, IsTree}
 use Rattle.fs_seq.specs.Shapes.{seen, shape_of, is_there, is_missing, is_dir, is_file, has_entries, has_any, is_full}
-use Rattle.fs_seq.specs.Errors.{by_text, making, replacing}
+use Rattle.fs_seq.proofs.RowNames.{making}
+use Rattle.fs_seq.specs.Forms.{form, by_text}
+use Rattle.fs_seq.specs.Rows.{place_errors, has_room}
 use Rattle.fs_seq.specs.Outcomes.{resolution, parents_resolution, row, fault}
 use Rattle.fs_seq.specs.declared.call.Call.{Call}
 use Rattle.fs_seq.specs.declared.call.Call.TheVariants.{Mkdir, Mknod, Unlink, Rmdir, Rename, Write, Truncate}
 use Rattle.fs_seq.specs.declared.errno.Errno.{Errno}
 use Rattle.fs_seq.specs.declared.errno.Errno.TheVariants.{Enoent, Enotdir, Eexist, Enotempty, Eisdir, Einval, Ebusy, Eperm, Enospc, Efbig}
-use Rattle.fs_seq.proofs.KeyLemmas.{differ, no_prefix}
-use Rattle.fs_seq.proofs.ResolutionLemmas.{nothing_below, empty_below, no_names, resolution-none, parents_resolution-none}
+use Rattle.fs_seq.specs.Sights.{is_same}
+use Rattle.fs_seq.proofs.KeyLemmas.{never_same, no_prefix}
+use Rattle.fs_seq.proofs.ResolutionLemmas.{nothing_below, empty_below, no_names, parents_resolution-none}
 
 -- ---- checks in order
 
@@ -41,14 +44,14 @@ or_second true b e = absurd (cc)
 or_second false b e = e
 
 -- a call without an error has none by its paths alone
-pub by_text_none : (t : Tree) (call : Call) → fault t call ≡ None → by_text call ≡ None
+pub by_text_none : (t : Tree) (call : Call) → fault t call ≡ None → by_text (form call) ≡ None
 unfolding fault
-by_text_none t call h = (or_else-none (by_text call) (row t call) h).0
+by_text_none t call h = (or_else-none (by_text (form call)) (row t call) h).0
 
 -- and none by what is read
 row_none : (t : Tree) (call : Call) → fault t call ≡ None → row t call ≡ None
 unfolding fault
-row_none t call h = (or_else-none (by_text call) (row t call) h).1
+row_none t call h = (or_else-none (by_text (form call)) (row t call) h).1
 
 -- ---- shapes
 
@@ -68,12 +71,6 @@ no_directory t k (Some (tree.File bytes)) e f = λ same. absurd (cc)
 some_there : (t : Tree) (k : Key) (o : Option Node) → is_missing (shape_of t k o) ≡ false → is_some o ≡ true
 some_there t k None e = absurd (cc)
 some_there t k (Some n) e = refl
-
--- where something stands, something is seen
-resolved_missing : (t : Tree) (k : Key) (o : Option Node) → is_some o ≡ true → is_missing (shape_of t k o) ≡ false
-resolved_missing t k None e = absurd (cc)
-resolved_missing t k (Some tree.Dir) e = refl
-resolved_missing t k (Some (tree.File bytes)) e = refl
 
 -- whatever stands there has no entries, so nothing stands below
 bare_below : (t : Tree) (k : Key) (o : Option Node) → IsTree t → look t k ≡ o → has_entries (shape_of t k o) ≡ false → (x : Name) (rest : Key) → look t (k ++ x ∷ rest) ≡ None
@@ -141,13 +138,13 @@ pub record Writes (t : Tree) (p : Key) : Type 0 where
   pub no_dir : look t p ≢ Some tree.Dir
 
 -- what both find, by their errors
-writes : (t : Tree) (p : Key) (checks : List (Option Errno)) → IsTree t → first (resolution t p ∷ on (is_dir (seen t p)) Eisdir ∷ checks) ≡ None → Writes t p
+writes : (t : Tree) (p : Key) (checks : List (Option Errno)) → IsTree t → first (resolution t p ∷ on (is_missing (seen t p)) Enoent ∷ on (is_dir (seen t p)) Eisdir ∷ checks) ≡ None → Writes t p
 writes t p checks is h =
-    let none = all_none (resolution t p ∷ on (is_dir (seen t p)) Eisdir ∷ checks) h in
-    let some = resolution-none t p is none.0 in
+    let none = all_none (resolution t p ∷ on (is_missing (seen t p)) Enoent ∷ on (is_dir (seen t p)) Eisdir ∷ checks) h in
+    let missing = on-none (is_missing (seen t p)) Enoent none.1.0 in
     record {
-      there = some;
-      no_dir = no_directory t p (look t p) (resolved_missing t p (look t p) some) (on-none (is_dir (seen t p)) Eisdir none.1.0);
+      there = some_there t p (look t p) missing;
+      no_dir = no_directory t p (look t p) missing (on-none (is_dir (seen t p)) Eisdir none.1.1.0);
     }
 
 -- what write finds
@@ -173,11 +170,9 @@ pub rename_renames : (t : Tree) (p q : Key) → IsTree t → fault t (Rename p q
 rename_renames t p q is h other =
     let text = all_none (on (is_root p || is_root q) Ebusy ∷ on (is_proper_prefix p q) Einval ∷ []) (by_text_none t (Rename p q) h) in
     let roots = on-none (is_root p || is_root q) Ebusy text.0 in
-    let rest = replacing (seen t p) (seen t q) (same_key (parent_of p) (parent_of q)) (seen t (parent_of q)) in
-    let none = all_none (parents_resolution t p ∷ parents_resolution t q ∷ on (is_missing (seen t p)) Enoent ∷ cond {A = Option Errno} (same_key p q) None rest ∷ []) (row_none t (Rename p q) h) in
-    let kinds : rest ≡ None = ap (λ b. cond {A = Option Errno} b None rest) (sym (differ p q other)) ∙ none.1.1.1.0 in
-    let replaced = all_none (on (is_dir (seen t p) && is_file (seen t q)) Enotdir ∷ on (is_file (seen t p) && is_dir (seen t q)) Eisdir ∷ on (has_entries (seen t q)) Enotempty
-    ∷ on (is_missing (seen t q) && not (same_key (parent_of p) (parent_of q)) && is_full (seen t (parent_of q))) Enospc ∷ []) kinds in
+    let rest = place_errors (seen t p) (seen t q) (has_room (is_same (parent_of p) (parent_of q)) (seen t (parent_of q))) in
+    let none = all_none (parents_resolution t p ∷ parents_resolution t q ∷ on (is_missing (seen t p)) Enoent ∷ cond {A = List (Option Errno)} (is_same p q) [] rest) (row_none t (Rename p q) h) in
+    let replaced : AllNone rest = subst (λ b. AllNone (cond {A = List (Option Errno)} b [] rest)) (never_same p q other) none.1.1.1 in
     record {
       named = or_first (is_root p) (is_root q) roots;
       new_named = or_second (is_root p) (is_root q) roots;

@@ -4,6 +4,8 @@ use Rattle.std.specs.Ordering.{is_eq, ordering_then}
 use Rattle.std.proofs.lemmas.Cmp.{tied_itself}
 use Rattle.fs_names.specs.Names.{Name, name_cmp, same_name}
 use Rattle.fs_names.specs.Keys.{Key, same_key, after_prefix, is_root, is_proper_prefix, has_more, parent_of, last_of}
+use Rattle.fs_names.specs.Parts.{is_end}
+use Rattle.fs_seq.specs.Sights.{is_same}
 use Rattle.fs_names.proofs.Lemmas.{name_total, same_name_refl, after_prefix-exact, after_prefix-append}
 use Rattle.fs_seq.proofs.LookLemmas.{same_key_exact, same_key_refl}
 
@@ -19,6 +21,24 @@ differ a b h = no_true (same_key a b) (λ same. h (same_key_exact a b same))
 -- keys that are not the same differ
 pub differ_not : (a b : Key) → same_key a b ≡ false → a ≢ b
 differ_not a b h same = let e : same_key a b ≡ true = ap (same_key a) (sym same) ∙ same_key_refl a in absurd (cc)
+
+-- keys are one where nothing follows the first in the second
+pub is_same_exact : (p q : Key) → is_same p q ≡ true → p ≡ q
+is_same_exact p q h = go (after_prefix p q) refl h
+  where
+    go : (o : Option Key) → after_prefix p q ≡ o → is_end o ≡ true → p ≡ q
+    go None e h = absurd (cc)
+    go (Some []) e h = sym (append-nil p) ∙ sym (after_prefix-exact p q [] e)
+    go (Some (x ∷ r)) e h = absurd (cc)
+
+pub is_same_refl : (p : Key) → is_same p p ≡ true
+is_same_refl p = ap is_end (ap (after_prefix p) (sym (append-nil p)) ∙ after_prefix-append p [])
+
+pub never_same : (p q : Key) → p ≢ q → is_same p q ≡ false
+never_same p q h = no_true (is_same p q) (λ same. h (is_same_exact p q same))
+
+pub only_same : (p q : Key) → is_same p q ≡ false → p ≢ q
+only_same p q h same = let e : is_same p q ≡ true = ap (is_same p) (sym same) ∙ is_same_refl p in absurd (cc)
 
 -- the same front decides nothing
 pub same_key-prefix : (p r s : Key) → same_key (p ++ r) (p ++ s) ≡ same_key r s

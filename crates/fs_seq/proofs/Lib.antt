@@ -25,6 +25,7 @@ pub mod GraphCut
 pub mod GraphFilled
 pub mod Spots
 pub mod Replies
+pub mod RowNames
 pub mod Made
 pub mod Removed
 pub mod Looked

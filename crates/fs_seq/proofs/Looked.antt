@@ -10,8 +10,10 @@ use Rattle.fs_seq.specs.declared.reply.Reply.{Reply}
 use Rattle.fs_seq.specs.declared.reply.Reply.TheVariants as replies
 use Rattle.fs_seq.specs.Tree.{Tree}
 use Rattle.fs_seq.specs.Shapes.{Shape, seen, names_of, bytes_of}
-use Rattle.fs_seq.specs.Errors.{listing, reading, writing, truncating}
-use Rattle.fs_seq.specs.Outcomes.{fault, success, reply, replied, resolution, status}
+use Rattle.fs_seq.proofs.RowNames.{listing, reading, writing, truncating}
+use Rattle.fs_seq.specs.Outcomes.{fault, success, reply, replied, resolution}
+use Rattle.fs_seq.specs.Forms as Forms
+use Rattle.fs_seq.specs.Rows.{node_fault, status}
 use Rattle.fs_seq.specs.Graph.{Place, Graph, place_at, shape_of, walk, tree_of, IsForest}
 use Rattle.fs_seq.specs.Effects.{IsSeen}
 use Rattle.fs_seq.proofs.Resolving.{resolution_walked, seen_at}
@@ -28,7 +30,7 @@ pub record LooksAt (call : Call) (p : Key) (rest : Option Errno → Option Shape
 
 -- the error of stat is that of the resolution
 abbrev pub stating : Option Errno → Option Shape → Option Errno
-stating found there = found
+stating found there = node_fault Forms.Stat found there
 
 -- stat
 pub stat_looks : (p : Key) → LooksAt (Stat p) p stating status

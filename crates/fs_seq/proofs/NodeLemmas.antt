@@ -8,7 +8,7 @@ use Rattle.fs_seq.specs.declared.errno.Errno.TheVariants.{Enoent, Enotdir}
 use Rattle.fs_seq.specs.declared.nodes.Link.{Link}
 use Rattle.fs_seq.specs.declared.nodes.Node.{Node}
 use Rattle.fs_seq.specs.declared.nodes.Node.TheVariants as nodes
-use Rattle.fs_seq.specs.Outcomes.{verdict}
+use Rattle.fs_seq.specs.Nodes.{verdict}
 use Rattle.fs_seq.specs.Graph.{Place, Dir, File, Graph, place_at, links_of, node_of, links_at, child, node_at}
 use Rattle.fs_seq.specs.Nodes.{pair, pairs, place, slot_place, graph, number_of, StandsAt, BelongsAt}
 

@@ -10,6 +10,7 @@ use Rattle.fs_seq.specs.declared.nodes.Link.{Link}
 use Rattle.fs_seq.specs.Tree.{Tree}
 use Rattle.fs_seq.specs.Shapes.{Shape, seen, is_file}
 use Rattle.fs_seq.specs.Outcomes.{resolution, parents_resolution}
+use Rattle.fs_seq.specs.Rows.{as_dir}
 use Rattle.fs_seq.specs.Graph.{Place, Dir, File, Graph, place_at, links_at, child, walk, tree_of, shape_of, IsForest}
 use Rattle.fs_seq.specs.Nodes.{pair, pairs, StandsAt, BelongsAt, IsTaken, IsFree}
 use Rattle.fs_seq.proofs.Resolving.{resolution_walked, seen_at}
@@ -17,17 +18,15 @@ use Rattle.fs_seq.proofs.NodeLemmas.{take_parent, last_got, links_got, step_foun
 
 -- a parent that is not resolved gives its error
 pub parents_lost : (t : Tree) (p : Key) (n : ℕ) (e : Errno) → n + 1 ≡ length p → resolution t (take n p) ≡ Some e → parents_resolution t p ≡ Some e
-parents_lost t p n e len h = ap (λ z. or_else z (or_else (on (is_file (seen t (parent_of p))) Enotdir) None)) (ap (resolution t) (sym (take_parent p n len)) ∙ h)
+parents_lost t p n e len h = ap (λ z. as_dir z (seen t (parent_of p))) (ap (resolution t) (sym (take_parent p n len)) ∙ h)
 
 -- a parent that is resolved is what stands there
-pub parents_found : (g : Graph) (p : Key) (dir : ℕ) (o : Option Place) → IsForest g → walk g (parent_of p) ≡ Some dir → place_at g dir ≡ o → parents_resolution (tree_of g) p ≡ on (is_file (shape_of o)) Enotdir
-parents_found g p dir o forest w at =
-    (λ i. or_else (resolution_walked g (parent_of p) dir forest w i) (or_else (on (is_file ((seen_at g (parent_of p) dir forest w ∙ ap shape_of at) i)) Enotdir) None))
-    ∙ alone (on (is_file (shape_of o)) Enotdir)
+pub parents_found : (g : Graph) (p : Key) (dir : ℕ) (at : Place) → IsForest g → walk g (parent_of p) ≡ Some dir → place_at g dir ≡ Some at → parents_resolution (tree_of g) p ≡ on (is_file (shape_of (Some at))) Enotdir
+parents_found g p dir at forest w is = (λ i. as_dir (resolution_walked g (parent_of p) dir forest w i) ((seen_at g (parent_of p) dir forest w ∙ ap shape_of is) i)) ∙ by_place at
   where
-    alone : (z : Option Errno) → or_else z None ≡ z
-    alone None = refl
-    alone (Some e) = refl
+    by_place : (at : Place) → as_dir None (shape_of (Some at)) ≡ on (is_file (shape_of (Some at))) Enotdir
+    by_place (Dir links) = refl
+    by_place (File bytes) = refl
 
 -- a name that was found in the parent
 pub is_taken : (g : Graph) (p : Key) (n dir i : ℕ) (x : Name) (links : List Link) (l : Link) → n + 1 ≡ length p → slice_get p n ≡ Some x → walk g (take n p) ≡ Some dir → place_at g dir ≡ Some (Dir (pairs links)) → StandsAt (pairs links) x i → l ≡ get_or links i l

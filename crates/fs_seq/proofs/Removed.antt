@@ -14,7 +14,7 @@ use Rattle.fs_seq.specs.declared.errno.Errno.TheVariants.{Eperm, Ebusy, Enoent}
 use Rattle.fs_seq.specs.declared.reply.Reply.TheVariants.{Done, Failed}
 use Rattle.fs_seq.specs.Tree.{Tree, removed}
 use Rattle.fs_seq.specs.Shapes.{Shape, seen, is_missing, has_any}
-use Rattle.fs_seq.specs.Errors.{unlinking, removing}
+use Rattle.fs_seq.proofs.RowNames.{unlinking, removing}
 use Rattle.fs_seq.specs.Outcomes.{fault, success, change, parents_resolution}
 use Rattle.fs_seq.specs.Graph.{Place, Dir, Graph, place_at, links_at, shape_of, child, walk, tree_of, IsForest, Sets}
 use Rattle.fs_seq.specs.Nodes.{pairs, IsTaken, IsFree, without}

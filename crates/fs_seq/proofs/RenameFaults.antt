@@ -4,14 +4,16 @@ use Rattle.std.specs.Prelude.{nat_le}
 use Rattle.std.proofs.lemmas.Bool.Decides.{nat_tests}
 use Rattle.fs_names.specs.First.{on, or_else, first}
 use Rattle.fs_names.specs.Names.{Name}
-use Rattle.fs_names.specs.Keys.{Key, same_key, is_root, is_proper_prefix, has_more, after_prefix, parent_of, last_of}
+use Rattle.fs_names.specs.Keys.{Key, is_root, is_proper_prefix, has_more, after_prefix, parent_of, last_of}
 use Rattle.fs_names.specs.declared.limits.TheConstants.{ENTRY_LIMIT}
 use Rattle.fs_names.proofs.FirstLemmas.{on-none}
 use Rattle.fs_names.proofs.Lemmas.{after_prefix-exact}
 use Rattle.fs_seq.specs.Tree.{Tree}
 use Rattle.fs_seq.specs.Shapes.{Shape, seen, is_missing, is_dir, is_file, has_entries, is_full}
 use Rattle.fs_seq.specs.Shapes as shapes
-use Rattle.fs_seq.specs.Errors.{by_text, renaming, replacing}
+use Rattle.fs_seq.specs.Forms.{form, by_text}
+use Rattle.fs_seq.specs.Sights.{is_same}
+use Rattle.fs_seq.specs.Rows.{has_room, place_fault, rename_fault}
 use Rattle.fs_seq.specs.Outcomes.{parents_resolution, row, fault}
 use Rattle.fs_seq.specs.Graph.{Place, Dir, File, Graph, place_at, shape_of, links_at, child, walk, shape_at, tree_of, IsForest}
 use Rattle.fs_seq.specs.Nodes.{IsTaken, IsFree, LooksUp}
@@ -21,8 +23,7 @@ use Rattle.fs_seq.specs.Renaming.{Moves}
 use Rattle.fs_seq.specs.declared.call.Call.TheVariants.{Rename}
 use Rattle.fs_seq.specs.declared.errno.Errno.{Errno}
 use Rattle.fs_seq.specs.declared.errno.Errno.TheVariants.{Enoent, Enotdir, Eisdir, Enotempty, Einval, Ebusy, Enospc}
-use Rattle.fs_seq.proofs.KeyLemmas.{no_true, differ, parent_and_last}
-use Rattle.fs_seq.proofs.LookLemmas.{same_key_refl, same_key_exact}
+use Rattle.fs_seq.proofs.KeyLemmas.{no_true, never_same, is_same_refl, is_same_exact, parent_and_last}
 use Rattle.fs_seq.proofs.Resolving.{walk_on, walk_off, seen_at, seen_none, child-find}
 use Rattle.fs_seq.proofs.Parents.{parents_found}
 use Rattle.fs_seq.proofs.FaultLemmas.{AllNone, all_none, or_first, or_second}
@@ -52,65 +53,65 @@ no_more None e = refl
 no_more (Some r) e = absurd (cc)
 
 -- the root as the old path
-pub text_root : (p q : Key) → length p ≡ 0 → Some Ebusy ≡ by_text (Rename p q)
+pub text_root : (p q : Key) → length p ≡ 0 → Some Ebusy ≡ by_text (form (Rename p q))
 text_root [] q e = refl
 text_root (x ∷ p) q e = absurd (omega arith)
 
 -- the root as the new path
-pub text_new_root : (p q : Key) → length q ≡ 0 → Some Ebusy ≡ by_text (Rename p q)
+pub text_new_root : (p q : Key) → length q ≡ 0 → Some Ebusy ≡ by_text (form (Rename p q))
 text_new_root [] q e = refl
 text_new_root (x ∷ p) [] e = refl
 text_new_root (x ∷ p) (y ∷ q) e = absurd (omega arith)
 
 -- the error that the paths decide, by the three tests
-by_tests : (p q : Key) (a b c : Bool) → is_root p ≡ a → is_root q ≡ b → is_proper_prefix p q ≡ c → or_else (on (a || b) Ebusy) (or_else (on c Einval) None) ≡ by_text (Rename p q)
+by_tests : (p q : Key) (a b c : Bool) → is_root p ≡ a → is_root q ≡ b → is_proper_prefix p q ≡ c → or_else (on (a || b) Ebusy) (or_else (on c Einval) None) ≡ by_text (form (Rename p q))
 by_tests p q a b c e f h = λ i. or_else (on (sym e i || sym f i) Ebusy) (or_else (on (sym h i) Einval) None)
 
 -- a new path below the old one
-pub text_prefix : (p q : Key) → (length p ≡ 0 → ⊥) → (length q ≡ 0 → ⊥) → is_some (after_prefix p q) ≡ true → length p < length q → Some Einval ≡ by_text (Rename p q)
+pub text_prefix : (p q : Key) → (length p ≡ 0 → ⊥) → (length q ≡ 0 → ⊥) → is_some (after_prefix p q) ≡ true → length p < length q → Some Einval ≡ by_text (form (Rename p q))
 text_prefix p q a b some h = by_tests p q false false true (named_by_length p a) (named_by_length q b) (longer p q (after_prefix p q) refl some h)
 
 -- a new path that is not longer
-pub text_short : (p q : Key) → (length p ≡ 0 → ⊥) → (length q ≡ 0 → ⊥) → length q ≤ length p → None ≡ by_text (Rename p q)
+pub text_short : (p q : Key) → (length p ≡ 0 → ⊥) → (length q ≡ 0 → ⊥) → length q ≤ length p → None ≡ by_text (form (Rename p q))
 text_short p q a b h = by_tests p q false false false (named_by_length p a) (named_by_length q b) (not_longer p q (after_prefix p q) refl h)
 
 -- a new path that is not below the old one
-pub text_apart : (p q : Key) → (length p ≡ 0 → ⊥) → (length q ≡ 0 → ⊥) → is_some (after_prefix p q) ≡ false → None ≡ by_text (Rename p q)
+pub text_apart : (p q : Key) → (length p ≡ 0 → ⊥) → (length q ≡ 0 → ⊥) → is_some (after_prefix p q) ≡ false → None ≡ by_text (form (Rename p q))
 text_apart p q a b none = by_tests p q false false false (named_by_length p a) (named_by_length q b) (no_more (after_prefix p q) none)
 
 -- ---- kinds
 
 -- what replaces what, by the places
-pub kinds : (g : Graph) (n v : ℕ) (a b : Option Place) (o : Option Errno) (one_parent : Bool) (dir : Option Shape) → place_at g n ≡ a → place_at g v ≡ b → o ≡ replacing (shape_of a) (shape_of b) one_parent dir → o ≡ replacing (shape_at g n) (shape_at g v) one_parent dir
-kinds g n v a b o one_parent dir e f h = h ∙ (λ i. replacing (shape_of (sym e i)) (shape_of (sym f i)) one_parent dir)
+pub kinds : (g : Graph) (n v : ℕ) (a b : Option Place) (o : Option Errno) (room : Bool) → place_at g n ≡ a → place_at g v ≡ b → o ≡ place_fault (shape_of a) (shape_of b) room → o ≡ place_fault (shape_at g n) (shape_at g v) room
+kinds g n v a b o room e f h = h ∙ (λ i. place_fault (shape_of (sym e i)) (shape_of (sym f i)) room)
 
 -- a directory onto one without entries
-pub onto_empty : (links more : List (Name × ℕ)) (one_parent : Bool) (dir : Option Shape) → length more ≡ 0 → None ≡ replacing (shape_of (Some (Dir links))) (shape_of (Some (Dir more))) one_parent dir
-onto_empty links [] one_parent dir e = refl
-onto_empty links (l ∷ more) one_parent dir e = absurd (omega arith)
+pub onto_empty : (links more : List (Name × ℕ)) (room : Bool) → length more ≡ 0 → None ≡ place_fault (shape_of (Some (Dir links))) (shape_of (Some (Dir more))) room
+onto_empty links [] room e = refl
+onto_empty links (l ∷ more) room e = absurd (omega arith)
 
 -- a directory onto one with entries
-pub onto_used : (links more : List (Name × ℕ)) (one_parent : Bool) (dir : Option Shape) → (length more ≡ 0 → ⊥) → Some Enotempty ≡ replacing (shape_of (Some (Dir links))) (shape_of (Some (Dir more))) one_parent dir
-onto_used links [] one_parent dir h = absurd (h refl)
-onto_used links (l ∷ more) one_parent dir h = refl
+pub onto_used : (links more : List (Name × ℕ)) (room : Bool) → (length more ≡ 0 → ⊥) → Some Enotempty ≡ place_fault (shape_of (Some (Dir links))) (shape_of (Some (Dir more))) room
+onto_used links [] room h = absurd (h refl)
+onto_used links (l ∷ more) room h = refl
 
 -- ---- the rows
 
 -- an error that the paths decide is the first one
-pub fault_text : (t : Tree) (p q : Key) (e : Errno) → by_text (Rename p q) ≡ Some e → fault t (Rename p q) ≡ Some e
+pub fault_text : (t : Tree) (p q : Key) (e : Errno) → by_text (form (Rename p q)) ≡ Some e → fault t (Rename p q) ≡ Some e
 unfolding fault
 fault_text t p q e h = ap (λ o. or_else o (row t (Rename p q))) h
 
 -- without one, the first error is that of what is read
-fault_row : (t : Tree) (p q : Key) (o : Option Errno) → by_text (Rename p q) ≡ None → row t (Rename p q) ≡ o → fault t (Rename p q) ≡ o
+fault_row : (t : Tree) (p q : Key) (o : Option Errno) → by_text (form (Rename p q)) ≡ None → row t (Rename p q) ≡ o → fault t (Rename p q) ≡ o
 unfolding fault
 fault_row t p q o h found = ap (λ z. or_else z (row t (Rename p q))) h ∙ found
 
 -- the errors of a rename, by all that is read
 row_by : (t : Tree) (p q : Key) (source dest : Option Errno) (moved there : Option Shape) (one_path one_parent : Bool) (dir : Option Shape)
-    → parents_resolution t p ≡ source → parents_resolution t q ≡ dest → seen t p ≡ moved → same_key p q ≡ one_path → seen t q ≡ there → same_key (parent_of p) (parent_of q) ≡ one_parent → seen t (parent_of q) ≡ dir
-    → row t (Rename p q) ≡ renaming source dest moved one_path there one_parent dir
-row_by t p q source dest moved there one_path one_parent dir a b c d e f h = λ i. renaming (a i) (b i) (c i) (d i) (e i) (f i) (h i)
+    → parents_resolution t p ≡ source → parents_resolution t q ≡ dest → seen t p ≡ moved → is_same p q ≡ one_path → seen t q ≡ there → is_same (parent_of p) (parent_of q) ≡ one_parent → seen t (parent_of q) ≡ dir
+    → row t (Rename p q) ≡ rename_fault source dest moved one_path there (has_room one_parent dir)
+row_by t p q source dest moved there one_path one_parent dir a b c d e f h = λ i. rename_fault (a i) (b i) (c i) (d i) (e i) (has_room (f i) (h i))
 
 -- a check before none is the check
 alone : (o : Option Errno) → or_else o None ≡ o
@@ -118,18 +119,16 @@ alone None = refl
 alone (Some e) = refl
 
 -- the checks of a rename of a node that is there
-no_error : (moved there : Option Shape) (one_parent : Bool) (dir : Option Shape) → is_missing moved ≡ false → renaming None None moved true there one_parent dir ≡ None
-no_error moved there one_parent dir h = ap (λ b. or_else (on b Enoent) None) h
+no_error : (moved there : Option Shape) (room : Bool) → is_missing moved ≡ false → rename_fault None None moved true there room ≡ None
+no_error moved there room h = ap (λ b. or_else (on b Enoent) None) h
 
 -- another path asks for the kinds and for room
-replaced : (moved there : Option Shape) (one_parent : Bool) (dir : Option Shape) → is_missing moved ≡ false → renaming None None moved false there one_parent dir ≡ replacing moved there one_parent dir
-replaced moved there one_parent dir h = ap (λ b. or_else (on b Enoent) (or_else (replacing moved there one_parent dir) None)) h ∙ alone (replacing moved there one_parent dir)
+replaced : (moved there : Option Shape) (room : Bool) → is_missing moved ≡ false → rename_fault None None moved false there room ≡ place_fault moved there room
+replaced moved there room h = ap (λ b. or_else (on b Enoent) (place_fault moved there room)) h
 
 -- at a place where nothing stands, only room is asked for
-to_free : (moved : Option Shape) (one_parent : Bool) (dir : Option Shape) → replacing moved None one_parent dir ≡ on (not one_parent && is_full dir) Enospc
-to_free None one_parent dir = alone (on (not one_parent && is_full dir) Enospc)
-to_free (Some (shapes.Dir names)) one_parent dir = alone (on (not one_parent && is_full dir) Enospc)
-to_free (Some (shapes.File bytes)) one_parent dir = alone (on (not one_parent && is_full dir) Enospc)
+to_free : (moved : Option Shape) (room : Bool) → place_fault moved None room ≡ on (not room) Enospc
+to_free moved room = alone (on (not room) Enospc)
 
 -- numbers that the test finds equal are equal
 nat_same : (a b : ℕ) → nat_eq a b ≡ true → a ≡ b
@@ -147,8 +146,8 @@ nat_self a = grind (arith, nat_tests)
 nat_itself : (a : ℕ) → nat_eq a a ≡ false → ⊥
 nat_itself a h = let e = nat_self a in absurd (cc)
 
--- a check whose last test fails finds nothing
-never : (b : Bool) → on (b && false) Enospc ≡ None
+-- where there is room the check finds nothing
+never : (b : Bool) → on (not (b || true)) Enospc ≡ None
 never true = refl
 never false = refl
 
@@ -171,7 +170,7 @@ there_not_missing None e = absurd (cc)
 there_not_missing (Some (Dir links)) e = refl
 there_not_missing (Some (File bytes)) e = refl
 
-module _ (g : Graph) (forest : IsForest g) (p q : Key) (text : by_text (Rename p q) ≡ None) where
+module _ (g : Graph) (forest : IsForest g) (p q : Key) (text : by_text (form (Rename p q)) ≡ None) where
   -- neither path is the root
   roots : is_root p || is_root q ≡ false
   roots = on-none (is_root p || is_root q) Ebusy (all_none (on (is_root p || is_root q) Ebusy ∷ on (is_proper_prefix p q) Einval ∷ []) text).0
@@ -198,8 +197,8 @@ module _ (g : Graph) (forest : IsForest g) (p q : Key) (text : by_text (Rename p
 
   -- what was looked up has a directory as its parent
   pub looked_up : (r : Key) (spot : Spot) → LooksUp g r (Ok spot) → parents_resolution (tree_of g) r ≡ None
-  looked_up r (Taken dir i n) at = parents_found g r dir (Some (Dir (links_at g dir))) forest at.parent at.directory
-  looked_up r (Free dir i entries) at = parents_found g r dir (Some (Dir (links_at g dir))) forest at.parent at.directory
+  looked_up r (Taken dir i n) at = parents_found g r dir (Dir (links_at g dir)) forest at.parent at.directory
+  looked_up r (Free dir i entries) at = parents_found g r dir (Dir (links_at g dir)) forest at.parent at.directory
 
   -- a path whose last name was found leads to its node
   pub taken_walk : (r : Key) (dir i n : ℕ) → is_root r ≡ false → IsTaken g r dir i n → walk g r ≡ Some n
@@ -225,7 +224,7 @@ module _ (g : Graph) (forest : IsForest g) (p q : Key) (text : by_text (Rename p
     there = there_not_missing (place_at g n) (forest.inside p n from)
 
     fault_there : (there : Option Shape) (one_path one_parent : Bool) (dest : Option Shape) (o : Option Errno) → parents_resolution (tree_of g) q ≡ None
-        → same_key p q ≡ one_path → seen (tree_of g) q ≡ there → same_key (parent_of p) (parent_of q) ≡ one_parent → seen (tree_of g) (parent_of q) ≡ dest → renaming None None (shape_at g n) one_path there one_parent dest ≡ o → fault (tree_of g) (Rename p q) ≡ o
+        → is_same p q ≡ one_path → seen (tree_of g) q ≡ there → is_same (parent_of p) (parent_of q) ≡ one_parent → seen (tree_of g) (parent_of q) ≡ dest → rename_fault None None (shape_at g n) one_path there (has_room one_parent dest) ≡ o → fault (tree_of g) (Rename p q) ≡ o
     fault_there there one_path one_parent dest o h e f k l found =
         fault_row (tree_of g) p q o text (row_by (tree_of g) p q None None (shape_at g n) there one_path one_parent dest (looked_up p (Taken dir i n) at) h seen_from e f k l ∙ found)
 
@@ -233,8 +232,8 @@ module _ (g : Graph) (forest : IsForest g) (p q : Key) (text : by_text (Rename p
     pub stays : (dir2 i2 n2 : ℕ) → IsTaken g q dir2 i2 n2 → n2 ≡ n → (fault (tree_of g) (Rename p q) ≡ None) × (p ≡ q)
     stays dir2 i2 n2 to e =
         let same : p ≡ q = forest.once p q n from (taken_walk q dir2 i2 n2 new_named to ∙ ap Some e) in (
-          fault_there (seen (tree_of g) q) true (same_key (parent_of p) (parent_of q)) (seen (tree_of g) (parent_of q)) None (looked_up q (Taken dir2 i2 n2) to) (ap (same_key p) (sym same) ∙ same_key_refl p) refl refl refl
-              (no_error (shape_at g n) (seen (tree_of g) q) (same_key (parent_of p) (parent_of q)) (seen (tree_of g) (parent_of q)) there),
+          fault_there (seen (tree_of g) q) true (is_same (parent_of p) (parent_of q)) (seen (tree_of g) (parent_of q)) None (looked_up q (Taken dir2 i2 n2) to) (ap (is_same p) (sym same) ∙ is_same_refl p) refl refl refl
+              (no_error (shape_at g n) (seen (tree_of g) q) (has_room (is_same (parent_of p) (parent_of q)) (seen (tree_of g) (parent_of q))) there),
           same,
         )
 
@@ -244,26 +243,26 @@ module _ (g : Graph) (forest : IsForest g) (p q : Key) (text : by_text (Rename p
         let both : Some n2 ≡ Some n = sym (taken_walk q dir2 i2 n2 new_named to) ∙ ap (walk g) (sym e) ∙ from in
         other (let same : n2 ≡ n = cc in same)
 
-    pub onto : (dir2 i2 n2 : ℕ) (o : Option Errno) → IsTaken g q dir2 i2 n2 → n2 ≢ n → ((one_parent : Bool) (dest : Option Shape) → o ≡ replacing (shape_at g n) (shape_at g n2) one_parent dest) → fault (tree_of g) (Rename p q) ≡ o
+    pub onto : (dir2 i2 n2 : ℕ) (o : Option Errno) → IsTaken g q dir2 i2 n2 → n2 ≢ n → ((room : Bool) → o ≡ place_fault (shape_at g n) (shape_at g n2) room) → fault (tree_of g) (Rename p q) ≡ o
     onto dir2 i2 n2 o to other is =
         let w : walk g q ≡ Some n2 = taken_walk q dir2 i2 n2 new_named to in
-        let one = same_key (parent_of p) (parent_of q) in
+        let one = is_same (parent_of p) (parent_of q) in
         let dest = seen (tree_of g) (parent_of q) in
-        fault_there (shape_at g n2) false one dest o (looked_up q (Taken dir2 i2 n2) to) (differ p q (other_path dir2 i2 n2 to other)) (seen_at g q n2 forest w) refl refl
-        (replaced (shape_at g n) (shape_at g n2) one dest there ∙ sym (is one dest))
+        fault_there (shape_at g n2) false one dest o (looked_up q (Taken dir2 i2 n2) to) (never_same p q (other_path dir2 i2 n2 to other)) (seen_at g q n2 forest w) refl refl
+        (replaced (shape_at g n) (shape_at g n2) (has_room one dest) there ∙ sym (is (has_room one dest)))
 
-    pub moves_onto : (dir2 i2 n2 : ℕ) → IsTaken g q dir2 i2 n2 → n2 ≢ n → ((one_parent : Bool) (dest : Option Shape) → None ≡ replacing (shape_at g n) (shape_at g n2) one_parent dest) → Moves g p q
+    pub moves_onto : (dir2 i2 n2 : ℕ) → IsTaken g q dir2 i2 n2 → n2 ≢ n → ((room : Bool) → None ≡ place_fault (shape_at g n) (shape_at g n2) room) → Moves g p q
     moves_onto dir2 i2 n2 to other is = record { allowed = onto dir2 i2 n2 None to other is; differ = other_path dir2 i2 n2 to other }
 
     -- nothing stands at the new path
-    one_parent : (dir2 i2 entries : ℕ) → IsFree g q dir2 i2 entries → same_key (parent_of p) (parent_of q) ≡ nat_eq dir dir2
+    one_parent : (dir2 i2 entries : ℕ) → IsFree g q dir2 i2 entries → is_same (parent_of p) (parent_of q) ≡ nat_eq dir dir2
     one_parent dir2 i2 entries to =
-        elim (nat_eq dir dir2) as (λ b. nat_eq dir dir2 ≡ b → same_key (parent_of p) (parent_of q) ≡ b) [
+        elim (nat_eq dir dir2) as (λ b. nat_eq dir dir2 ≡ b → is_same (parent_of p) (parent_of q) ≡ b) [
           | true ↦ λ e.
               let same : parent_of p ≡ parent_of q = forest.once (parent_of p) (parent_of q) dir at.parent (to.parent ∙ ap Some (sym (nat_same dir dir2 e))) in
-              ap (same_key (parent_of p)) (sym same) ∙ same_key_refl (parent_of p)
-          | false ↦ λ e. no_true (same_key (parent_of p) (parent_of q)) (λ same.
-              let both : Some dir ≡ Some dir2 = sym at.parent ∙ ap (walk g) (same_key_exact (parent_of p) (parent_of q) same) ∙ to.parent in
+              ap (is_same (parent_of p)) (sym same) ∙ is_same_refl (parent_of p)
+          | false ↦ λ e. no_true (is_same (parent_of p) (parent_of q)) (λ same.
+              let both : Some dir ≡ Some dir2 = sym at.parent ∙ ap (walk g) (is_same_exact (parent_of p) (parent_of q) same) ∙ to.parent in
               let equal : dir ≡ dir2 = cc in
               let tested : nat_eq dir dir ≡ false = ap (nat_eq dir) equal ∙ e in
               nat_itself dir tested)
@@ -272,24 +271,25 @@ module _ (g : Graph) (forest : IsForest g) (p q : Key) (text : by_text (Rename p
     other_free : (dir2 i2 entries : ℕ) → IsFree g q dir2 i2 entries → p ≢ q
     other_free dir2 i2 entries to e = let both : None ≡ Some n = sym (free_walk q dir2 i2 entries new_named to) ∙ ap (walk g) (sym e) ∙ from in absurd (cc)
 
-    fault_free : (dir2 i2 entries : ℕ) → IsFree g q dir2 i2 entries → fault (tree_of g) (Rename p q) ≡ on (not (nat_eq dir dir2) && nat_le ENTRY_LIMIT entries) Enospc
+    fault_free : (dir2 i2 entries : ℕ) → IsFree g q dir2 i2 entries → fault (tree_of g) (Rename p q) ≡ on (not (nat_eq dir dir2 || not (nat_le ENTRY_LIMIT entries))) Enospc
     fault_free dir2 i2 entries to =
         let dest : seen (tree_of g) (parent_of q) ≡ shape_of (Some (Dir (links_at g dir2))) = seen_at g (parent_of q) dir2 forest to.parent ∙ ap shape_of to.directory in
         let many : length (map (λ l. l.0) (links_at g dir2)) ≡ entries = length_names (links_at g dir2) ∙ sym to.count in
-        fault_there None false (nat_eq dir dir2) _ _ (looked_up q (Free dir2 i2 entries) to) (differ p q (other_free dir2 i2 entries to)) (seen_none g q forest (free_walk q dir2 i2 entries new_named to)) (one_parent dir2 i2 entries to) dest
-        (replaced (shape_at g n) None (nat_eq dir dir2) (shape_of (Some (Dir (links_at g dir2)))) there ∙ to_free (shape_at g n) (nat_eq dir dir2) (shape_of (Some (Dir (links_at g dir2)))) ∙ ap (λ m. on (not (nat_eq dir dir2) && nat_le ENTRY_LIMIT m) Enospc) many)
+        let room = has_room (nat_eq dir dir2) (shape_of (Some (Dir (links_at g dir2)))) in
+        fault_there None false (nat_eq dir dir2) _ _ (looked_up q (Free dir2 i2 entries) to) (never_same p q (other_free dir2 i2 entries to)) (seen_none g q forest (free_walk q dir2 i2 entries new_named to)) (one_parent dir2 i2 entries to) dest
+        (replaced (shape_at g n) None room there ∙ to_free (shape_at g n) room ∙ ap (λ m. on (not (nat_eq dir dir2 || not (nat_le ENTRY_LIMIT m))) Enospc) many)
 
     pub full : (dir2 i2 entries : ℕ) → IsFree g q dir2 i2 entries → dir2 ≢ dir → ENTRY_LIMIT ≤ entries → fault (tree_of g) (Rename p q) ≡ Some Enospc
-    full dir2 i2 entries to other many = fault_free dir2 i2 entries to ∙ (λ i. on (not (nat_apart dir dir2 (λ e. other (sym e)) i) && at_limit entries many i) Enospc)
+    full dir2 i2 entries to other many = fault_free dir2 i2 entries to ∙ (λ i. on (not (nat_apart dir dir2 (λ e. other (sym e)) i || not (at_limit entries many i))) Enospc)
 
     pub moves_beside : (dir2 i2 entries : ℕ) → IsFree g q dir2 i2 entries → dir2 ≡ dir → Moves g p q
     moves_beside dir2 i2 entries to same = record {
-      allowed = fault_free dir2 i2 entries to ∙ ap (λ b. on (not b && nat_le ENTRY_LIMIT entries) Enospc) (ap (nat_eq dir) same ∙ nat_self dir);
+      allowed = fault_free dir2 i2 entries to ∙ ap (λ b. on (not (b || not (nat_le ENTRY_LIMIT entries))) Enospc) (ap (nat_eq dir) same ∙ nat_self dir);
       differ = other_free dir2 i2 entries to;
     }
 
     pub moves_to : (dir2 i2 entries : ℕ) → IsFree g q dir2 i2 entries → entries < ENTRY_LIMIT → Moves g p q
     moves_to dir2 i2 entries to room = record {
-      allowed = fault_free dir2 i2 entries to ∙ ap (λ b. on (not (nat_eq dir dir2) && b) Enospc) (below_limit entries room) ∙ never (not (nat_eq dir dir2));
+      allowed = fault_free dir2 i2 entries to ∙ ap (λ b. on (not (nat_eq dir dir2 || not b)) Enospc) (below_limit entries room) ∙ never (nat_eq dir dir2);
       differ = other_free dir2 i2 entries to;
     }

@@ -7,7 +7,7 @@ use Rattle.fs_names.specs.Keys.{Key, same_key, is_root, parent_of, last_of}
 use Rattle.fs_names.proofs.Lemmas.{same_name_exact}
 use Rattle.fs_seq.specs.Tree.{Tree, renamed, Dir as IsDir}
 use Rattle.fs_seq.specs.Shapes.{seen, is_missing}
-use Rattle.fs_seq.specs.Errors.{by_text}
+use Rattle.fs_seq.specs.Forms.{form, by_text}
 use Rattle.fs_seq.specs.Outcomes.{fault, success, change, reply, after, replied, unless}
 use Rattle.fs_seq.specs.Memory.{needs_memory}
 use Rattle.fs_seq.specs.Graph.{Place, Dir, Graph, place_at, node_of, links_of, links_at, child, walk, node_at, tree_of, IsForest, Sets}
@@ -20,7 +20,8 @@ use Rattle.fs_seq.specs.declared.renaming.Plan.TheVariants.{Stay, Onto, Within, 
 use Rattle.fs_seq.specs.declared.call.Call.TheVariants.{Rename}
 use Rattle.fs_seq.specs.declared.reply.Reply.TheVariants.{Done, Failed}
 use Rattle.fs_seq.specs.declared.errno.Errno.{Errno}
-use Rattle.fs_seq.proofs.KeyLemmas.{differ, parent_and_last}
+use Rattle.fs_seq.specs.Sights.{is_same}
+use Rattle.fs_seq.proofs.KeyLemmas.{never_same, is_same_refl, differ, parent_and_last}
 use Rattle.fs_seq.proofs.Resolving.{child-find, seen_none}
 use Rattle.fs_seq.proofs.FaultLemmas.{Renames, by_text_none, rename_renames}
 use Rattle.fs_seq.proofs.LookLemmas.{same_key_refl}
@@ -47,11 +48,11 @@ pub stayed : (g : Graph) (p q : Key) → IsForest g → fault (tree_of g) (Renam
 stayed g p q forest h same = done g g p q h forest (sym (same_after (tree_of g) p q same h))
   where
     same_after : (t : Tree) (p q : Key) → p ≡ q → fault t (Rename p q) ≡ None → change t (Rename p q) ≡ t
-    same_after t p q e found = ap (λ b. cond {A = Tree} b t (renamed t p q)) (ap (same_key p) (sym e) ∙ same_key_refl p)
+    same_after t p q e found = ap (λ b. cond {A = Tree} b t (renamed t p q)) (ap (is_same p) (sym e) ∙ is_same_refl p)
 
 -- a rename that is done, by the tree that it leaves
 moved : (g g' : Graph) (p q : Key) → Moves g p q → IsForest g' × (tree_of g' ≡ renamed (tree_of g) p q) → Answers g g' (Rename p q) Done
-moved g g' p q may made = done g g' p q may.allowed made.0 (made.1 ∙ sym (ap (λ b. cond {A = Tree} b (tree_of g) (renamed (tree_of g) p q)) (differ p q may.differ)))
+moved g g' p q may made = done g g' p q may.allowed made.0 (made.1 ∙ sym (ap (λ b. cond {A = Tree} b (tree_of g) (renamed (tree_of g) p q)) (never_same p q may.differ)))
 
 -- ---- edits
 
@@ -97,7 +98,7 @@ module _ (g : Graph) (forest : IsForest g) (p q : Key) (may : Moves g p q) where
   renames = rename_renames (tree_of g) p q (forest_tree g forest) may.allowed may.differ
 
   -- the paths alone decide no error
-  text : by_text (Rename p q) ≡ None
+  text : by_text (form (Rename p q)) ≡ None
   text = by_text_none (tree_of g) (Rename p q) may.allowed
 
   -- the number of a node at a path has a place
@@ -179,7 +180,7 @@ module _ (g : Graph) (forest : IsForest g) (p q : Key) (may : Moves g p q) where
       -- only then the rename needs memory
       pub memory_needed : IsTrue (needs_memory (tree_of g) (Rename p q))
       memory_needed = needs (tree_of g) (Rename p q) may.allowed
-          (λ j. is_missing (seen_none g q forest (free_walk g forest p q text q dir i entries renames.new_named to) j) && not (differ (parent_of p) (parent_of q) other j))
+          (λ j. is_missing (seen_none g q forest (free_walk g forest p q text q dir i entries renames.new_named to) j) && not (never_same (parent_of p) (parent_of q) other j))
         where
           other : parent_of p ≢ parent_of q
           other same = let both : Some entry.dir ≡ Some dir = sym at.parent ∙ ap (walk g) same ∙ to.parent in apart (let e : entry.dir ≡ dir = cc in e)

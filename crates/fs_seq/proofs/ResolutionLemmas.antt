@@ -9,8 +9,8 @@ use Rattle.fs_names.proofs.FirstLemmas.{or_else-none, on-none}
 use Rattle.fs_names.proofs.Lemmas.{after_prefix-exact, after_prefix-append}
 use Rattle.fs_seq.specs.Tree as tree
 use Rattle.fs_seq.specs.Tree.{Tree, Node, look, names_in, name_in, only_name, with_name, IsTree}
-use Rattle.fs_seq.specs.Shapes.{seen, shape_of, is_file, has_any}
-use Rattle.fs_seq.specs.Outcomes.{verdict, verdict_along, resolution, parents_resolution}
+use Rattle.fs_seq.specs.Shapes.{seen, shape_of, is_missing, is_file, has_any}
+use Rattle.fs_seq.specs.Outcomes.{resolution, parents_resolution}
 use Rattle.fs_seq.specs.Laws.{HasDirectoriesAbove}
 use Rattle.fs_seq.specs.declared.errno.Errno.{Errno}
 use Rattle.fs_seq.specs.declared.errno.Errno.TheVariants.{Enoent, Enotdir}
@@ -99,34 +99,8 @@ no_names t d none x = none_of (look t (d ++ x ∷ [])) (sym (any-names_in t d x)
 
 -- ---- resolution
 
--- a node has a verdict, whatever comes before it
-verdict_there : (o : Option Errno) (n : Node) → or_else o (verdict (Some n)) ≡ None → ⊥
-verdict_there (Some e) n h = absurd (cc)
-verdict_there None tree.Dir h = absurd (cc)
-verdict_there None (tree.File bytes) h = absurd (cc)
-
--- where the front of a key stands, there is a verdict along the rest
-some_verdict : (t : Tree) (front rest : Key) (n : Node) → look t front ≡ Some n → verdict_along t front rest ≡ None → ⊥
-some_verdict t front [] tree.Dir e h = let v : verdict (look t front) ≡ Some Enoent = ap verdict e in absurd (cc)
-some_verdict t front [] (tree.File bytes) e h = let v : verdict (look t front) ≡ Some Enotdir = ap verdict e in absurd (cc)
-some_verdict t front (x ∷ rest) n e h = verdict_there (verdict_along t (front ++ x ∷ []) rest) n (ap (λ o. or_else (verdict_along t (front ++ x ∷ []) rest) (verdict o)) (sym e) ∙ h)
-
--- a key that resolves without an error stands in the tree, and one that stands there does
-pub resolution-none : (t : Tree) (p : Key) → IsTree t → resolution t p ≡ None → is_some (look t p) ≡ true
-unfolding resolution
-resolution-none t p is h = by_case (is_some (look t p)) refl h
-  where
-    by_case : (b : Bool) → is_some (look t p) ≡ b → cond {A = Option Errno} b None (verdict_along t [] p) ≡ None → b ≡ true
-    by_case true e g = refl
-    by_case false e g = absurd (some_verdict t [] p tree.Dir is.root g)
-
--- a key that stands in the tree resolves without an error
-pub resolution-there : (t : Tree) (p : Key) → is_some (look t p) ≡ true → resolution t p ≡ None
-unfolding resolution
-resolution-there t p h = ap (λ b. cond {A = Option Errno} b None (verdict_along t [] p)) h
-
 -- what stands there and is seen as no file is a directory
-dir_there : (t : Tree) (d : Key) (o : Option Node) → is_some o ≡ true → is_file (shape_of t d o) ≡ false → o ≡ Some tree.Dir
+dir_there : (t : Tree) (d : Key) (o : Option Node) → is_missing (shape_of t d o) ≡ false → is_file (shape_of t d o) ≡ false → o ≡ Some tree.Dir
 dir_there t d None some no_file = absurd (cc)
 dir_there t d (Some tree.Dir) some no_file = refl
 dir_there t d (Some (tree.File bytes)) some no_file = absurd (cc)
@@ -134,6 +108,8 @@ dir_there t d (Some (tree.File bytes)) some no_file = absurd (cc)
 -- where the parent resolves without an error it is a directory
 pub parents_resolution-none : (t : Tree) (p : Key) → IsTree t → parents_resolution t p ≡ None → look t (parent_of p) ≡ Some tree.Dir
 parents_resolution-none t p is h =
-    let both = or_else-none (resolution t (parent_of p)) (first (on (is_file (seen t (parent_of p))) Enotdir ∷ [])) h in
+    let later = (or_else-none (resolution t (parent_of p)) (first (on (is_missing (seen t (parent_of p))) Enoent ∷ on (is_file (seen t (parent_of p))) Enotdir ∷ [])) h).1 in
+    let both = or_else-none (on (is_missing (seen t (parent_of p))) Enoent) (first (on (is_file (seen t (parent_of p))) Enotdir ∷ [])) later in
+    let there = on-none (is_missing (seen t (parent_of p))) Enoent both.0 in
     let no_file = on-none (is_file (seen t (parent_of p))) Enotdir (or_else-none (on (is_file (seen t (parent_of p))) Enotdir) None both.1).0 in
-    dir_there t (parent_of p) (look t (parent_of p)) (resolution-none t (parent_of p) is both.0) no_file
+    dir_there t (parent_of p) (look t (parent_of p)) there no_file

@@ -11,7 +11,7 @@ use Rattle.fs_seq.specs.declared.errno.Errno.TheVariants.{Eexist, Enospc}
 use Rattle.fs_seq.specs.Tree.{Tree}
 use Rattle.fs_seq.specs.Shapes.{Shape, seen, is_there, is_full}
 use Rattle.fs_seq.specs.Shapes as shapes
-use Rattle.fs_seq.specs.Errors.{making}
+use Rattle.fs_seq.proofs.RowNames.{making}
 use Rattle.fs_seq.specs.Outcomes.{parents_resolution}
 use Rattle.fs_seq.specs.Graph.{Place, Dir, File, Graph, place_at, links_at, child, walk, tree_of, shape_of, shape_at, IsForest}
 use Rattle.fs_seq.specs.Nodes.{IsTaken, IsFree}

@@ -1,18 +1,20 @@
 -- A tree stays a tree, and a rename moves what it names.
-use Rattle.std.proofs.Common.{◌≡◌, ◌≢◌, Bool, true, false, cond, List, [], ◌∷◌, ◌++◌, Some, None, Option, is_some, refl, sym, ap, subst, ◌∙◌, append_assoc, T}
+use Rattle.std.proofs.Common.{◌≡◌, ◌≢◌, ℕ, Bool, true, false, cond, List, [], ◌∷◌, ◌++◌, Some, None, Option, is_some, refl, sym, ap, subst, ◌∙◌, append_assoc, T}
 use Rattle.std.proofs.lemmas.Float.{T_from_true}
 use Rattle.fs_names.specs.Names.{Name}
 use Rattle.fs_names.specs.Keys.{Key, same_key, is_root, after_prefix}
 use Rattle.fs_names.proofs.Lemmas.{after_prefix-exact, after_prefix-append}
 use Rattle.fs_seq.specs.Tree.{Tree, Node, Dir, File, look, root_tree, inserted, removed, renamed, IsTree}
 use Rattle.fs_seq.specs.Shapes.{seen, has_any, bytes_of}
-use Rattle.fs_seq.specs.Outcomes.{fault, after, change, unless, written, resized, play, play_from}
+use Rattle.fs_seq.specs.Outcomes.{fault, after, change, unless, filled, play, play_from}
+use Rattle.fs_seq.specs.Rows.{written, resized}
 use Rattle.fs_seq.specs.Laws.{StaysATree, PlayedTreesAreTrees, SameTrees, IsMoved, RenamesMove}
 use Rattle.fs_seq.specs.declared.call.Call.{Call}
 use Rattle.fs_seq.specs.declared.call.Call.TheVariants.{Mkdir, Mknod, Unlink, Rmdir, Rename, Stat, Readdir, Read, Write, Truncate}
 use Rattle.fs_seq.specs.declared.errno.Errno.{Errno}
 use Rattle.fs_seq.proofs.LookLemmas.{same_key_exact, same_key_refl, look-inserted, look-removed, sorted-inserted, sorted-removed, same_tree}
-use Rattle.fs_seq.proofs.KeyLemmas.{differ, differ_not, parent_of_child, not_root, after_prefix-front, after_prefix-child, longer_front}
+use Rattle.fs_seq.specs.Sights.{is_same}
+use Rattle.fs_seq.proofs.KeyLemmas.{never_same, only_same, is_same_refl, differ, differ_not, parent_of_child, not_root, after_prefix-front, after_prefix-child, longer_front}
 use Rattle.fs_seq.proofs.ListLemmas.{no_snoc}
 use Rattle.fs_seq.proofs.RenamedTrees.{after_move, look-renamed, sorted-renamed}
 use Rattle.fs_seq.proofs.ResolutionLemmas.{directories_above}
@@ -168,13 +170,13 @@ tree-change t (Mkdir p) is h = made t p Dir is (mkdir_makes t p is h)
 tree-change t (Mknod p) is h = made t p (File []) is (mknod_makes t p is h)
 tree-change t (Unlink p) is h = gone t p is (unlink_removes t p is h)
 tree-change t (Rmdir p) is h = gone t p is (rmdir_removes t p is h)
-tree-change t (Rename p q) is h = keep (same_key p q) t (renamed t p q) is (λ other. tree-renamed t p q is (rename_renames t p q is h (differ_not p q other)))
+tree-change t (Rename p q) is h = keep (is_same p q) t (renamed t p q) is (λ other. tree-renamed t p q is (rename_renames t p q is h (only_same p q other)))
 tree-change t (Stat p) is h = is
 tree-change t (Readdir p) is h = is
 tree-change t (Read p off count) is h = is
 tree-change t (Write p off bytes) is h =
     let new : IsTree (inserted t p (File (written (bytes_of (seen t p)) off bytes))) = rewritten t p (File (written (bytes_of (seen t p)) off bytes)) is (write_writes t p off bytes is h) in
-    elim (has_any bytes) as (λ b. IsTree (cond {A = Tree} b (inserted t p (File (written (bytes_of (seen t p)) off bytes))) t)) [ true ↦ new | false ↦ is ]
+    elim (has_any bytes) as (λ b. IsTree (filled t p (cond {A = Option (List ℕ)} b (Some (written (bytes_of (seen t p)) off bytes)) None))) [ true ↦ new | false ↦ is ]
 tree-change t (Truncate p size) is h = rewritten t p (File (resized (bytes_of (seen t p)) size)) is (truncate_writes t p size is h)
 
 -- the tree after a call, by its first error
@@ -216,11 +218,11 @@ played_trees_are_trees calls = let is = played_from root_tree calls tree_root in
 -- what a rename without an error leaves
 after_done : (t : Tree) (p q : Key) → fault t (Rename p q) ≡ None → p ≢ q → after t (Rename p q) ≡ renamed t p q
 unfolding after
-after_done t p q h other = ap (λ found. unless found t (change t (Rename p q))) h ∙ ap (λ b. cond {A = Tree} b t (renamed t p q)) (differ p q other)
+after_done t p q h other = ap (λ found. unless found t (change t (Rename p q))) h ∙ ap (λ b. cond {A = Tree} b t (renamed t p q)) (never_same p q other)
 
 -- a rename of a path onto itself leaves the tree, with an error or without
-onto_itself : (t : Tree) (p : Key) (found : Option Errno) → unless found t (cond {A = Tree} (same_key p p) t (renamed t p p)) ≡ t
-onto_itself t p None = ap (λ b. cond {A = Tree} b t (renamed t p p)) (same_key_refl p)
+onto_itself : (t : Tree) (p : Key) (found : Option Errno) → unless found t (cond {A = Tree} (is_same p p) t (renamed t p p)) ≡ t
+onto_itself t p None = ap (λ b. cond {A = Tree} b t (renamed t p p)) (is_same_refl p)
 onto_itself t p (Some e) = refl
 
 -- a rename moves what it names

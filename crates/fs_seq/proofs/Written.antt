@@ -16,8 +16,9 @@ use Rattle.fs_seq.specs.declared.nodes.Node.{Node}
 use Rattle.fs_seq.specs.Tree.{Tree, inserted}
 use Rattle.fs_seq.specs.Tree as tree
 use Rattle.fs_seq.specs.Shapes.{seen, has_any, bytes_of}
-use Rattle.fs_seq.specs.Errors.{writing, truncating}
-use Rattle.fs_seq.specs.Outcomes.{fault, success, change, written, resized, replied, unless}
+use Rattle.fs_seq.proofs.RowNames.{writing, truncating}
+use Rattle.fs_seq.specs.Outcomes.{fault, success, change, replied, unless, filled}
+use Rattle.fs_seq.specs.Rows.{written, resized}
 use Rattle.fs_seq.specs.Memory.{needs_memory}
 use Rattle.fs_seq.specs.Graph.{Place, File, Graph, place_at, walk, tree_of, IsForest}
 use Rattle.fs_seq.specs.Nodes.{place, graph}
@@ -129,11 +130,17 @@ module _ (s : Slab Node) (p : Key) (n : ℕ) (node node' : Node) (old new : List
   gives_written off bytes well true r big fills = gives_filled (on big Efbig) well (written old off bytes) r fills
   gives_written off bytes well false r big fills = record { reply = fills.reply; tree = ap tree_of (stays fills.bytes); forest = subst IsForest (sym (stays fills.bytes)) forest }
 
+  -- a file is filled where there is something to write
+  filled_if : (some : Bool) (made : List ℕ) → filled (tree_of (graph s)) p (cond {A = Option (List ℕ)} some (Some made) None) ≡ cond some (inserted (tree_of (graph s)) p (tree.File made)) (tree_of (graph s))
+  filled_if true made = refl
+  filled_if false made = refl
+
   -- what a write answers and leaves
   pub is_written : (off : ℕ) (bytes : List ℕ) (r : Reply) → Fills old new (overflow off bytes) (replies.Wrote (length bytes)) (written_if_any old off bytes) r → Answers (graph s) (graph (with_value s n node')) (Write p off bytes) r
   is_written off bytes r fills = answers (graph s) (graph (with_value s n node')) (Write p off bytes) (overflow off bytes) (replies.Wrote (length bytes))
       (cond (has_any bytes) (inserted (tree_of (graph s)) p (tree.File (written old off bytes))) (tree_of (graph s))) r
-      (write_fault off bytes) refl (ap (λ b. cond (has_any bytes) (inserted (tree_of (graph s)) p (tree.File (written b off bytes))) (tree_of (graph s))) (bytes_there (tree_of (graph s)) p (File old) file_seen))
+      (write_fault off bytes) refl
+      (filled_if (has_any bytes) (written (bytes_of (seen (tree_of (graph s)) p)) off bytes) ∙ ap (λ b. cond (has_any bytes) (inserted (tree_of (graph s)) p (tree.File (written b off bytes))) (tree_of (graph s))) (bytes_there (tree_of (graph s)) p (File old) file_seen))
       (gives_written off bytes (replies.Wrote (length bytes)) (has_any bytes) r (nat_lt 65536 (off + length bytes)) fills)
 
   -- a write that needs memory

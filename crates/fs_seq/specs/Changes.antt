@@ -6,10 +6,10 @@ use Rattle.fs_names.specs.Parts.{is_end}
 use Rattle.fs_names.specs.Shapes.{Shape, Dir, File, is_full, names_of}
 use Rattle.fs_seq.specs.Forms.{form, NodeCall, EntryCall, Form, On, In, Rename, by_text}
 use Rattle.fs_seq.specs.declared.call.Call.{Call}
-use Rattle.fs_seq.specs.Maps.{Map, below, move, write_all}
-use Rattle.fs_seq.specs.Rows.{as_dir, on_row, Edit, Keep, Add, Remove, in_row, rename_row}
+use Rattle.fs_seq.specs.Maps.{Map, move, write_all}
+pub use Rattle.fs_seq.specs.Sights.{resolve, resolve_next, resolve_dir}
+use Rattle.fs_seq.specs.Rows.{on_row, Edit, Keep, Add, Remove, in_row, rename_row}
 use Rattle.fs_seq.specs.declared.errno.Errno.{Errno}
-use Rattle.fs_seq.specs.declared.errno.Errno.TheVariants.{Enoent, Enotdir}
 use Rattle.fs_seq.specs.declared.reply.Reply.{Reply}
 use Rattle.fs_seq.specs.declared.reply.Reply.TheVariants.{Failed}
 
@@ -32,21 +32,6 @@ no_change = record { writes = []; moves = None }
 
 abbrev pub only : List (Key × Option Shape) → Change
 only ws = record { writes = ws; moves = None }
-
--- resolution from a tree's root: None where the key is there
-abbrev pub resolve_next : Option Shape → Option Shape → Option Errno → Option Errno
-resolve_next (Some (Dir names)) (Some child) rest = rest
-resolve_next (Some (Dir names)) None rest = Some Enoent
-resolve_next (Some (File bytes)) child rest = Some Enotdir
-resolve_next None child rest = Some Enoent
-
-abbrev pub resolve : Map Shape → Key → Option Errno
-resolve tree [] = None
-resolve tree (x ∷ key) = resolve_next (tree []) (tree (x ∷ [])) (resolve (below (x ∷ []) tree) key)
-
--- the resolution of a parent
-abbrev pub resolve_dir : Map Shape → Key → Option Errno
-resolve_dir tree key = as_dir (resolve tree key) (tree key)
 
 -- the changes that the rows ask for
 abbrev pub content_change : Key → Option (List ℕ) → Change

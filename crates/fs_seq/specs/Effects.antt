@@ -6,9 +6,10 @@ use Rattle.fs_names.specs.First.{on, or_else}
 use Rattle.fs_names.specs.declared.limits.TheConstants.{FILE_LIMIT}
 use Rattle.fs_seq.specs.Tree as tree
 use Rattle.fs_seq.specs.Tree.{Tree}
-use Rattle.fs_seq.specs.Shapes.{seen, is_missing, has_any}
-use Rattle.fs_seq.specs.Errors.{making}
-use Rattle.fs_seq.specs.Outcomes.{fault, resolution, parents_resolution, reply, after, replied, unless, written}
+use Rattle.fs_seq.specs.Shapes.{seen, is_missing, has_any, is_full}
+use Rattle.fs_seq.specs.Outcomes.{fault, resolution, parents_resolution, reply, after, replied, unless}
+use Rattle.fs_seq.specs.Forms.{Mkdir}
+use Rattle.fs_seq.specs.Rows.{entry_fault, written}
 use Rattle.fs_seq.specs.Graph.{Place, Dir, Graph, place_at, links_at, shape_of, walk, tree_of, IsForest, Sets}
 use Rattle.fs_seq.specs.Nodes.{BelongsAt, IsTaken}
 use Rattle.fs_seq.specs.declared.nodes.Node.{Node}
@@ -37,7 +38,7 @@ tree_node (nodes.File bytes) = tree.File bytes.items
 
 -- the errors of the calls that make a node
 unfoldable pub making_fault : Tree → Key → Option Errno
-making_fault t p = or_else (on (is_root p) Eexist) (making (parents_resolution t p) (seen t (parent_of p)) (seen t p))
+making_fault t p = or_else (on (is_root p) Eexist) (entry_fault Mkdir (parents_resolution t p) (is_full (seen t (parent_of p))) (seen t p))
 
 -- a directory in which a path's last name can be made, and the place where it belongs
 pub record IsGap (g : Graph) (p : Key) (dir i : ℕ) : Type 0 where

@@ -1,6 +1,7 @@
 -- The forms of calls, by what they look at: a node, an entry of a directory, or two entries.
-use Rattle.std.specs.Prelude.{ℕ, ◌≡◌, List, [], ◌∷◌, ◌++◌, Option, Some, None}
-use Rattle.fs_names.specs.Keys.{Key, after_prefix}
+use Rattle.std.specs.Prelude.{ℕ, ◌≡◌, ◌||◌, List, [], ◌∷◌, ◌++◌, Option, Some, None}
+use Rattle.fs_names.specs.First.{on, first}
+use Rattle.fs_names.specs.Keys.{Key, is_root, is_proper_prefix}
 use Rattle.fs_names.specs.Shapes.{Shape, Dir, File}
 use Rattle.fs_seq.specs.declared.call.Call.{Call}
 use Rattle.fs_seq.specs.declared.call.Call.TheVariants as calls
@@ -43,20 +44,11 @@ root_error Mknod = Eexist
 root_error Unlink = Eperm
 root_error Rmdir = Ebusy
 
--- the error of a rename to a place below the node itself
-abbrev pub if_below : Option Key → Option Errno
-if_below (Some (x ∷ r)) = Some Einval
-if_below (Some []) = None
-if_below None = None
-
 -- what the paths of a call decide alone
 abbrev pub by_text : Form → Option Errno
 by_text (On c p) = None
-by_text (In c []) = Some (root_error c)
-by_text (In c (x ∷ p)) = None
-by_text (Rename [] q) = Some Ebusy
-by_text (Rename (x ∷ p) []) = Some Ebusy
-by_text (Rename (x ∷ p) (y ∷ q)) = if_below (after_prefix (x ∷ p) (y ∷ q))
+by_text (In c p) = on (is_root p) (root_error c)
+by_text (Rename p q) = first (on (is_root p || is_root q) Ebusy ∷ on (is_proper_prefix p q) Einval ∷ [])
 
 -- the same call with its paths read from k on
 abbrev pub under : Key → Form → Form

@@ -1,8 +1,8 @@
 pub mod Tree
 pub mod Shapes
-pub mod Errors
 pub mod Replies
 pub mod Renaming
+pub mod Sights
 pub mod Outcomes
 pub mod Forms
 pub mod Maps

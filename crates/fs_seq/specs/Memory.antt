@@ -1,9 +1,10 @@
 -- Which calls may need memory. All others never fail for want of it.
 use Rattle.std.specs.Prelude.{◌+◌, Bool, true, false, not, ◌&&◌, nat_lt, length, take, drop, is_some}
-use Rattle.fs_names.specs.Keys.{same_key, parent_of}
+use Rattle.fs_names.specs.Keys.{parent_of}
 use Rattle.fs_seq.specs.Tree.{Tree}
 use Rattle.fs_seq.specs.Shapes.{seen, is_missing, has_any, has_entries, bytes_of}
 use Rattle.fs_seq.specs.Outcomes.{fault}
+use Rattle.fs_seq.specs.Sights.{is_same}
 use Rattle.fs_seq.specs.declared.call.Call.{Call}
 use Rattle.fs_seq.specs.declared.call.Call.TheVariants.{Mkdir, Mknod, Unlink, Rmdir, Rename, Stat, Readdir, Read, Write, Truncate}
 
@@ -13,7 +14,7 @@ takes_memory t (Mkdir p) = true
 takes_memory t (Mknod p) = true
 takes_memory t (Unlink p) = false
 takes_memory t (Rmdir p) = false
-takes_memory t (Rename p q) = is_missing (seen t q) && not (same_key (parent_of p) (parent_of q))
+takes_memory t (Rename p q) = is_missing (seen t q) && not (is_same (parent_of p) (parent_of q))
 takes_memory t (Stat p) = false
 takes_memory t (Readdir p) = has_entries (seen t p)
 takes_memory t (Read p off count) = has_any (take count (drop off (bytes_of (seen t p))))

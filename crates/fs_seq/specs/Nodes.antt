@@ -6,12 +6,14 @@ use Rattle.fs_names.specs.Names.{Name, name_cmp, same_name}
 use Rattle.fs_names.specs.Keys.{Key, parent_of, last_of}
 use Rattle.slab.specs.Slab.{Slab}
 use Rattle.fs_seq.specs.declared.errno.Errno.{Errno}
+use Rattle.fs_seq.specs.declared.errno.Errno.TheVariants.{Enoent, Enotdir}
 use Rattle.fs_seq.specs.declared.nodes.Link.{Link}
 use Rattle.fs_seq.specs.declared.nodes.Node.{Node}
 use Rattle.fs_seq.specs.declared.nodes.Node.TheVariants.{Dir, File}
 use Rattle.fs_seq.specs.declared.nodes.Spot.{Spot}
 use Rattle.fs_seq.specs.declared.nodes.Spot.TheVariants.{Taken, Free}
-use Rattle.fs_seq.specs.Outcomes.{verdict, resolution, parents_resolution}
+use Rattle.fs_seq.specs.Tree as trees
+use Rattle.fs_seq.specs.Outcomes.{resolution, parents_resolution}
 use Rattle.fs_seq.specs.Graph.{Place, Graph, place_at, links_at, node_at, child, walk, tree_of}
 use Rattle.fs_seq.specs.Graph as places
 
@@ -67,6 +69,12 @@ pub record BelongsAt (links : List (Name × ℕ)) (x : Name) (i : ℕ) : Type 0 
 -- where a name stands among links, or where it belongs
 abbrev pub Searches : List (Name × ℕ) → Name → Result ℕ ℕ → Type 0
 Searches links x r = MatchResult r (StandsAt links x) (BelongsAt links x)
+
+-- what a node says of the names behind its key, none of which leads on
+abbrev pub verdict : Option trees.Node → Option Errno
+verdict None = None
+verdict (Some trees.Dir) = Some Enoent
+verdict (Some (trees.File bytes)) = Some Enotdir
 
 -- a step from a number by a name: where it leads, or why it leads nowhere
 abbrev pub Steps : Graph → ℕ → Name → Result ℕ Errno → Type 0

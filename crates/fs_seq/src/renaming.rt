@@ -6,7 +6,8 @@ ghost use Rattle.fs_names.specs.Names.{name_cmp};
 ghost use Rattle.fs_seq.specs.Nodes.{pair, pairs, graph};
 ghost use Rattle.fs_seq.specs.Graph.{IsForest, Sets, place_at, links_at, shape_at, tree_of, Dir as IsDir};
 ghost use Rattle.fs_seq.specs.Shapes.{Shape};
-ghost use Rattle.fs_seq.specs.Errors.{by_text, replacing};
+ghost use Rattle.fs_seq.specs.Forms.{form, by_text};
+ghost use Rattle.fs_seq.specs.Rows.{place_fault};
 ghost use Rattle.fs_seq.specs.Renaming.{Plans, Exchanges, Transfers};
 ghost use Rattle.fs_seq.specs.Effects.{Answers};
 ghost use Rattle.fs_seq.specs.Memory.{needs_memory};
@@ -43,7 +44,7 @@ enum Plan {
 
 /// The error that the paths of a rename decide alone.
 fn text_fault(from: &Path, to: &Path) -> Option<Errno>
-    ensures { result ≡ by_text (Call.Rename from.now to.now) }
+    ensures { result ≡ by_text (form (Call.Rename from.now to.now)) }
 {
     if from.len() == 0 || to.len() == 0 {
         return Some(Errno::Ebusy);
@@ -58,7 +59,7 @@ fn text_fault(from: &Path, to: &Path) -> Option<Errno>
 fn kinds_fault(nodes: &Slab<Node>, node: usize, victim: usize) -> Option<Errno>
     requires node { ContainsKey nodes.now node }
     requires victim { ContainsKey nodes.now victim }
-    ensures { (one_parent : Bool) (dir : Option Shape) → result ≡ replacing (shape_at (graph nodes.now) node) (shape_at (graph nodes.now) victim) one_parent dir }
+    ensures { (room : Bool) → result ≡ place_fault (shape_at (graph nodes.now) node) (shape_at (graph nodes.now) victim) room }
 {
     match (&nodes[node], &nodes[victim]) {
         (Node::Dir(_), Node::File(_)) => Some(Errno::Enotdir),

@@ -1,7 +1,7 @@
 //! The calls that change the bytes of a file.
 
 ghost use Rattle.std.specs.Prelude.{◌≡◌, ◌≤◌, ◌<◌, ◌+◌, ◌++◌, ◌-◌, take, drop, replicate, IfOk, OnOk, OnErr, IsTrue, length, nat_lt, nat_le, None, ◌&&◌};
-ghost use Rattle.fs_seq.specs.Outcomes.{written, resized};
+ghost use Rattle.fs_seq.specs.Rows.{written, resized};
 ghost use Rattle.fs_seq.specs.Shapes.{has_any};
 ghost use Rattle.fs_seq.specs.Memory.{needs_memory};
 ghost use Rattle.fs_seq.specs.Nodes.{graph};

@@ -1,7 +1,7 @@
 use Rattle.std.proofs.Common.{◌≡◌, ap, sym, subst, ◌∙◌, take, drop, refl}
 use Rattle.fs_seq.specs.Nodes.{graph, place}
 use Rattle.fs_seq.specs.Shapes.{bytes_of, has_any}
-use Rattle.fs_seq.specs.Errors.{reading}
+use Rattle.fs_seq.proofs.RowNames.{reading}
 use Rattle.fs_seq.specs.Graph.{tree_of}
 use Rattle.fs_seq.specs.Effects.{IsSeen}
 use Rattle.fs_seq.specs.declared.call.Call.TheVariants.{Read}

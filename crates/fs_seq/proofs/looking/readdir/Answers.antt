@@ -1,7 +1,7 @@
 use Rattle.std.proofs.Common.{◌≡◌, ap, sym, subst, ◌∙◌, map, refl}
 use Rattle.fs_seq.specs.Nodes.{graph, place, pairs}
 use Rattle.fs_seq.specs.Shapes.{names_of, has_any}
-use Rattle.fs_seq.specs.Errors.{listing}
+use Rattle.fs_seq.proofs.RowNames.{listing}
 use Rattle.fs_seq.specs.Graph.{tree_of}
 use Rattle.fs_seq.specs.Effects.{IsSeen}
 use Rattle.fs_seq.specs.declared.call.Call.TheVariants.{Readdir}

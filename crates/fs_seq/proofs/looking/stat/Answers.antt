@@ -2,7 +2,7 @@ use Rattle.std.proofs.Common.{◌≡◌, ap, sym, subst, ◌∙◌}
 use Rattle.std.proofs.lemmas.List.{length-map}
 use Rattle.fs_names.specs.declared.kind.Kind.TheVariants as kind
 use Rattle.fs_seq.specs.Nodes.{graph, place, pairs}
-use Rattle.fs_seq.specs.Outcomes.{status}
+use Rattle.fs_seq.specs.Rows.{status}
 use Rattle.fs_seq.specs.Graph.{tree_of}
 use Rattle.fs_seq.specs.Effects.{IsSeen}
 use Rattle.fs_seq.specs.declared.call.Call.TheVariants.{Stat}

@@ -1,7 +1,7 @@
 use Rattle.std.proofs.Common.{◌≡◌, ◌<◌, ℕ, length, sym, ap, ◌∙◌, arith, Some, None}
 use Rattle.fs_seq.specs.declared.call.Call.TheVariants.{Rmdir}
 use Rattle.fs_seq.specs.declared.errno.Errno.TheVariants.{Ebusy, Enotempty}
-use Rattle.fs_seq.specs.Errors.{removing}
+use Rattle.fs_seq.proofs.RowNames.{removing}
 use Rattle.fs_seq.specs.Nodes.{graph, pairs}
 use Rattle.fs_seq.specs.Graph.{tree_of, links_of, Dir}
 use Rattle.fs_names.specs.First.{on, or_else}

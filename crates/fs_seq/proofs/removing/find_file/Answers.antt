@@ -1,7 +1,7 @@
 use Rattle.std.proofs.Common.{◌≡◌, ◌<◌, ℕ, length, sym, ap, ◌∙◌, arith, Some}
 use Rattle.fs_seq.specs.declared.call.Call.TheVariants.{Unlink}
 use Rattle.fs_seq.specs.declared.errno.Errno.TheVariants.{Eperm}
-use Rattle.fs_seq.specs.Errors.{unlinking}
+use Rattle.fs_seq.proofs.RowNames.{unlinking}
 use Rattle.fs_seq.specs.Nodes.{graph}
 use Rattle.fs_seq.specs.Graph.{tree_of, links_of}
 use Rattle.fs_seq.proofs.NodeLemmas.{has_key, place_got}

@@ -1,6 +1,6 @@
 use Rattle.fs_seq.specs.declared.call.Call.TheVariants.{Rmdir}
 use Rattle.fs_seq.specs.declared.errno.Errno.TheVariants.{Ebusy}
-use Rattle.fs_seq.specs.Errors.{removing}
+use Rattle.fs_seq.proofs.RowNames.{removing}
 use Rattle.fs_seq.specs.Nodes.{graph}
 use Rattle.fs_seq.proofs.Removed.{rmdir_goes, refused, is_removed}
 use Rattle.fs_seq.proofs.removing.rmdir.Goals as goal

@@ -1,6 +1,6 @@
 use Rattle.fs_seq.specs.declared.call.Call.TheVariants.{Unlink}
 use Rattle.fs_seq.specs.declared.errno.Errno.TheVariants.{Eperm}
-use Rattle.fs_seq.specs.Errors.{unlinking}
+use Rattle.fs_seq.proofs.RowNames.{unlinking}
 use Rattle.fs_seq.specs.Nodes.{graph}
 use Rattle.fs_seq.proofs.Removed.{unlink_goes, refused, is_removed}
 use Rattle.fs_seq.proofs.removing.unlink.Goals as goal

@@ -65,7 +65,7 @@ returns-in-Some-kinds_fault c =
     (subst (λ s. LooksUp g p (Ok s)) c.in-Taken.is c.in-Ok.ensures) _ _ _ _
     (subst (λ s. LooksUp g q (Ok s)) c.in-Taken-2.is c.in-Ok-look_up.ensures)
     (λ e. c.if-other-node.false (same_taken (sym c.in-Taken-dest.is ∙ c.in-Taken-2.is) ∙ e))
-    (λ one_parent dir. sym c.in-Some-kinds_fault.is ∙ c.kinds_fault.ensures one_parent dir)
+    (λ room. sym c.in-Some-kinds_fault.is ∙ c.kinds_fault.ensures room)
 
 pub returns-in-None : goal.returns-in-None
 returns-in-None c =
@@ -76,7 +76,7 @@ returns-in-None c =
     let to : IsTaken g q c.in-Taken-2.dir c.in-Taken-2.place c.in-Taken-2.node = subst (λ s. LooksUp g q (Ok s)) c.in-Taken-2.is c.in-Ok-look_up.ensures in (
       moves_onto g c.requires p q (sym c.text_fault.ensures ∙ c.in_default.is) _ _ _ at _ _ _ to
           (λ e. c.if-other-node.false (same_taken (sym c.in-Taken-dest.is ∙ c.in-Taken-2.is) ∙ e))
-          (λ one_parent dir. sym c.in-None.is ∙ c.kinds_fault.ensures one_parent dir),
+          (λ room. sym c.in-None.is ∙ c.kinds_fault.ensures room),
       at,
       to,
     )

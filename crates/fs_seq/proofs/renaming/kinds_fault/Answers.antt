@@ -13,25 +13,25 @@ is_not_zero : {n : ℕ} → (n == 0) ≡ false → n ≡ 0 → ⊥
 is_not_zero {n} e f = grind (arith, nat_tests)
 
 pub returns-in-Dir-File : goal.returns-in-Dir-File
-returns-in-Dir-File c one_parent dir =
-    kinds (graph c.args.nodes.now) c.args.node c.args.victim _ _ _ one_parent dir (place_got c.args.nodes.now c.args.node _ (c.index.ensures ∙ ap Some c.in-Dir-File.is-0)) (place_got c.args.nodes.now c.args.victim _ (c.index-2.ensures ∙ ap Some c.in-Dir-File.is-1)) refl
+returns-in-Dir-File c room =
+    kinds (graph c.args.nodes.now) c.args.node c.args.victim _ _ _ room (place_got c.args.nodes.now c.args.node _ (c.index.ensures ∙ ap Some c.in-Dir-File.is-0)) (place_got c.args.nodes.now c.args.victim _ (c.index-2.ensures ∙ ap Some c.in-Dir-File.is-1)) refl
 
 pub returns-then-is_empty : goal.returns-then-is_empty
-returns-then-is_empty c one_parent dir =
+returns-then-is_empty c room =
     let none : length (pairs c.in-Dir-Dir.links.items) ≡ 0 = length-pairs c.in-Dir-Dir.links.items ∙ sym c.in-Dir-Dir.links.ok.0 ∙ is_zero (sym c.is_empty.ensures ∙ c.if-is_empty.true) in
-    kinds (graph c.args.nodes.now) c.args.node c.args.victim _ _ _ one_parent dir (place_got c.args.nodes.now c.args.node _ (c.index.ensures ∙ ap Some c.in-Dir-Dir.is-0)) (place_got c.args.nodes.now c.args.victim _ (c.index-2.ensures ∙ ap Some c.in-Dir-Dir.is-1))
-    (onto_empty (pairs c.in-Dir-Dir.field-0-0.items) (pairs c.in-Dir-Dir.links.items) one_parent dir none)
+    kinds (graph c.args.nodes.now) c.args.node c.args.victim _ _ _ room (place_got c.args.nodes.now c.args.node _ (c.index.ensures ∙ ap Some c.in-Dir-Dir.is-0)) (place_got c.args.nodes.now c.args.victim _ (c.index-2.ensures ∙ ap Some c.in-Dir-Dir.is-1))
+    (onto_empty (pairs c.in-Dir-Dir.field-0-0.items) (pairs c.in-Dir-Dir.links.items) room none)
 
 pub returns-else-is_empty : goal.returns-else-is_empty
-returns-else-is_empty c one_parent dir =
+returns-else-is_empty c room =
     let some : length (pairs c.in-Dir-Dir.links.items) ≡ 0 → ⊥ = λ e. is_not_zero (sym c.is_empty.ensures ∙ c.if-is_empty.false) (c.in-Dir-Dir.links.ok.0 ∙ sym (length-pairs c.in-Dir-Dir.links.items) ∙ e) in
-    kinds (graph c.args.nodes.now) c.args.node c.args.victim _ _ _ one_parent dir (place_got c.args.nodes.now c.args.node _ (c.index.ensures ∙ ap Some c.in-Dir-Dir.is-0)) (place_got c.args.nodes.now c.args.victim _ (c.index-2.ensures ∙ ap Some c.in-Dir-Dir.is-1))
-    (onto_used (pairs c.in-Dir-Dir.field-0-0.items) (pairs c.in-Dir-Dir.links.items) one_parent dir some)
+    kinds (graph c.args.nodes.now) c.args.node c.args.victim _ _ _ room (place_got c.args.nodes.now c.args.node _ (c.index.ensures ∙ ap Some c.in-Dir-Dir.is-0)) (place_got c.args.nodes.now c.args.victim _ (c.index-2.ensures ∙ ap Some c.in-Dir-Dir.is-1))
+    (onto_used (pairs c.in-Dir-Dir.field-0-0.items) (pairs c.in-Dir-Dir.links.items) room some)
 
 pub returns-in-File-Dir : goal.returns-in-File-Dir
-returns-in-File-Dir c one_parent dir =
-    kinds (graph c.args.nodes.now) c.args.node c.args.victim _ _ _ one_parent dir (place_got c.args.nodes.now c.args.node _ (c.index.ensures ∙ ap Some c.in-File-Dir.is-0)) (place_got c.args.nodes.now c.args.victim _ (c.index-2.ensures ∙ ap Some c.in-File-Dir.is-1)) refl
+returns-in-File-Dir c room =
+    kinds (graph c.args.nodes.now) c.args.node c.args.victim _ _ _ room (place_got c.args.nodes.now c.args.node _ (c.index.ensures ∙ ap Some c.in-File-Dir.is-0)) (place_got c.args.nodes.now c.args.victim _ (c.index-2.ensures ∙ ap Some c.in-File-Dir.is-1)) refl
 
 pub returns-in-File-File : goal.returns-in-File-File
-returns-in-File-File c one_parent dir =
-    kinds (graph c.args.nodes.now) c.args.node c.args.victim _ _ _ one_parent dir (place_got c.args.nodes.now c.args.node _ (c.index.ensures ∙ ap Some c.in-File-File.is-0)) (place_got c.args.nodes.now c.args.victim _ (c.index-2.ensures ∙ ap Some c.in-File-File.is-1)) refl
+returns-in-File-File c room =
+    kinds (graph c.args.nodes.now) c.args.node c.args.victim _ _ _ room (place_got c.args.nodes.now c.args.node _ (c.index.ensures ∙ ap Some c.in-File-File.is-0)) (place_got c.args.nodes.now c.args.victim _ (c.index-2.ensures ∙ ap Some c.in-File-File.is-1)) refl

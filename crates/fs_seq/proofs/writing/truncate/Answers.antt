@@ -1,6 +1,6 @@
 use Rattle.std.proofs.Common.{◌≡◌, ap, sym, ◌∙◌, Some, refl, length}
 use Rattle.fs_seq.specs.Nodes.{graph, place, pairs}
-use Rattle.fs_seq.specs.Errors.{truncating}
+use Rattle.fs_seq.proofs.RowNames.{truncating}
 use Rattle.fs_seq.specs.Outcomes.{resolution}
 use Rattle.fs_seq.specs.Graph.{walk, tree_of, File}
 use Rattle.fs_seq.specs.declared.call.Call.TheVariants.{Truncate}
