@@ -8,7 +8,9 @@ use Rattle.fs_core.specs.declared.beginning.Ready.{Ready}
 use mathlib.Core.Path.{fun_ext}
 use Rattle.std.proofs.lemmas.Option.{slice_get_within, slice_get_read}
 use Rattle.fs_names.specs.Shapes.{Shape, Dir, File, is_there, has_entries}
-use Rattle.fs_seq.specs.Forms.{form, Form, EntryCall, On, In, Rename, Mkdir, Mknod, Unlink, Rmdir, new_shape, reserves}
+use Rattle.fs_seq.specs.Forms.{form, Form, On, In, Rename, new_shape, reserves}
+use Rattle.fs_seq.specs.declared.target.EntryCall.{EntryCall}
+use Rattle.fs_seq.specs.declared.target.EntryCall.TheVariants.{Mkdir, Mknod, Unlink, Rmdir}
 use Rattle.fs_seq.specs.declared.call.Call.{Call}
 use Rattle.fs_nodes.specs.Graphs.{Graph, IsGraph, set_at, reserved_in, released_in, empty_graph}
 use Rattle.fs_nodes.specs.Places.{Places}

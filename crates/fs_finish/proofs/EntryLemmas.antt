@@ -6,7 +6,7 @@ use Rattle.fs_names.specs.Shapes.{Shape, Dir, File, is_dir, is_file, is_full, na
 use Rattle.fs_nodes.specs.Graphs.{Graph, then_at, entry_shape}
 use Rattle.fs_nodes.specs.Places.{Places}
 use Rattle.fs_nodes.specs.Stores.{graph_of}
-use Rattle.fs_seq.specs.Forms.{EntryCall}
+use Rattle.fs_seq.specs.declared.target.EntryCall.{EntryCall}
 use Rattle.fs_seq.specs.Rows.{Edit, as_dir, in_row, in_there}
 use Rattle.fs_seq.specs.declared.errno.Errno.{Errno}
 use Rattle.fs_seq.specs.declared.reply.Reply.{Reply}

@@ -3,7 +3,7 @@ use Rattle.std.specs.Prelude.{ℕ, ◌≡◌, Bool, not, ◌||◌, Option, None}
 use Rattle.fs_names.specs.Names.{Name}
 use Rattle.fs_names.specs.Shapes.{is_full}
 use Rattle.fs_nodes.specs.Graphs.{Graph, entry_shape}
-use Rattle.fs_seq.specs.Forms.{EntryCall}
+use Rattle.fs_seq.specs.declared.target.EntryCall.{EntryCall}
 use Rattle.fs_seq.specs.Rows.{as_dir, in_row, rename_row}
 use Rattle.fs_seq.specs.declared.reply.Reply.{Reply}
 use Rattle.fs_finish.specs.declared.finish.Finish.{Finish}

@@ -5,7 +5,7 @@ ghost use Rattle.fs_names.specs.Keys.{last_of};
 ghost use Rattle.fs_names.specs.Shapes.{Shape, is_dir, is_full};
 ghost use Rattle.fs_nodes.specs.Graphs.{entry_shape};
 ghost use Rattle.fs_nodes.specs.Stores.{kid, shape, graph_of, room};
-ghost use Rattle.fs_seq.specs.Forms as calls;
+ghost use Rattle.fs_seq.specs.declared.target.EntryCall.TheVariants as entries;
 ghost use Rattle.fs_seq.specs.Rows.{made, in_there, Remove};
 ghost use Rattle.fs_seq.specs.declared.reply.Reply.TheVariants as answers;
 ghost use Rattle.fs_finish.specs.Endings.{IsMade, entry_made};
@@ -57,7 +57,7 @@ fn remove(store: &mut Store, dir: NodeNo, name: &Name, reserved: Option<NodeNo>)
 
 /// The entry of a file goes.
 fn unlink_in(store: &mut Store, dir: NodeNo, name: &Name, reserved: Option<NodeNo>) -> Finish
-    ensures made { IsMade (in_made (graph_of store.old) dir name.now reserved (in_there calls.Unlink (is_full (shape store.old dir)) (entry_shape (graph_of store.old) dir name.now))) result (graph_of store.new) }
+    ensures made { IsMade (in_made (graph_of store.old) dir name.now reserved (in_there entries.Unlink (is_full (shape store.old dir)) (entry_shape (graph_of store.old) dir name.now))) result (graph_of store.new) }
     ensures limit { store.new.limit ≡ store.old.limit }
     ensures room { room store.new ≡ room store.old }
 {
@@ -72,7 +72,7 @@ fn unlink_in(store: &mut Store, dir: NodeNo, name: &Name, reserved: Option<NodeN
 
 /// The entry of an empty directory goes.
 fn rmdir_in(store: &mut Store, dir: NodeNo, name: &Name, reserved: Option<NodeNo>) -> Finish
-    ensures made { IsMade (in_made (graph_of store.old) dir name.now reserved (in_there calls.Rmdir (is_full (shape store.old dir)) (entry_shape (graph_of store.old) dir name.now))) result (graph_of store.new) }
+    ensures made { IsMade (in_made (graph_of store.old) dir name.now reserved (in_there entries.Rmdir (is_full (shape store.old dir)) (entry_shape (graph_of store.old) dir name.now))) result (graph_of store.new) }
     ensures limit { store.new.limit ≡ store.old.limit }
     ensures room { room store.new ≡ room store.old }
 {
@@ -92,8 +92,8 @@ fn rmdir_in(store: &mut Store, dir: NodeNo, name: &Name, reserved: Option<NodeNo
 pub fn make(store: &mut Store, dir: NodeNo, path: &Path, reserved: Option<NodeNo>) -> Finish
     requires named { 0 < length path.now }
     requires spare { SpareIf (graph_of store.old) reserved }
-    ensures mkdir { IsMade (entry_made (graph_of store.old) dir (last_of path.now) reserved calls.Mkdir) result (graph_of store.new) }
-    ensures mknod { IsMade (entry_made (graph_of store.old) dir (last_of path.now) reserved calls.Mknod) result (graph_of store.new) }
+    ensures mkdir { IsMade (entry_made (graph_of store.old) dir (last_of path.now) reserved entries.Mkdir) result (graph_of store.new) }
+    ensures mknod { IsMade (entry_made (graph_of store.old) dir (last_of path.now) reserved entries.Mknod) result (graph_of store.new) }
     ensures limit { store.new.limit ≡ store.old.limit }
     ensures room { room store.new ≡ room store.old }
 {
@@ -106,7 +106,7 @@ pub fn make(store: &mut Store, dir: NodeNo, path: &Path, reserved: Option<NodeNo
 /// An unlink: the entry of a file goes.
 pub fn unlink(store: &mut Store, dir: NodeNo, path: &Path, reserved: Option<NodeNo>) -> Finish
     requires named { 0 < length path.now }
-    ensures unlink { IsMade (entry_made (graph_of store.old) dir (last_of path.now) reserved calls.Unlink) result (graph_of store.new) }
+    ensures unlink { IsMade (entry_made (graph_of store.old) dir (last_of path.now) reserved entries.Unlink) result (graph_of store.new) }
     ensures limit { store.new.limit ≡ store.old.limit }
     ensures room { room store.new ≡ room store.old }
 {
@@ -119,7 +119,7 @@ pub fn unlink(store: &mut Store, dir: NodeNo, path: &Path, reserved: Option<Node
 /// A rmdir: the entry of an empty directory goes.
 pub fn rmdir(store: &mut Store, dir: NodeNo, path: &Path, reserved: Option<NodeNo>) -> Finish
     requires named { 0 < length path.now }
-    ensures rmdir { IsMade (entry_made (graph_of store.old) dir (last_of path.now) reserved calls.Rmdir) result (graph_of store.new) }
+    ensures rmdir { IsMade (entry_made (graph_of store.old) dir (last_of path.now) reserved entries.Rmdir) result (graph_of store.new) }
     ensures limit { store.new.limit ≡ store.old.limit }
     ensures room { room store.new ≡ room store.old }
 {

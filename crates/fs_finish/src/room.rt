@@ -2,10 +2,11 @@
 
 ghost use Rattle.std.specs.Prelude.{◌≡◌, ◌≤◌, ◌+◌, [], IfOk, length, min, vec_capacity};
 ghost use Rattle.fs_seq.specs.Forms.{form};
-ghost use Rattle.fs_finish.specs.Rooms.{Suffices, FitsContent, FitsCopies, FitsLists};
+ghost use Rattle.fs_seq.specs.Targets.{form_of, node_call};
+ghost use Rattle.fs_finish.specs.Rooms.{Suffices, SufficesFor, FitsContent, FitsCopies, FitsLists};
 
 use fs_names::{ENTRY_LIMIT, FILE_LIMIT, Name};
-use fs_seq::{Bytes, Call};
+use fs_seq::{Bytes, Call, NodeCall, Target};
 use std::alloc::{AllocError, Global};
 use std::marker::Model;
 
@@ -132,17 +133,34 @@ fn lists(alloc: Global) -> Result<Room, AllocError>
     Ok(Room::Lists(one, other))
 }
 
+/// What the finish of a call on a node needs.
+fn room_on(alloc: Global, call: NodeCall<'_>) -> Result<Room, AllocError>
+    ensures { IfOk result (SufficesFor (node_call call.entry)) }
+{
+    match call {
+        NodeCall::Stat => Ok(Room::Nothing),
+        NodeCall::Readdir => lists(alloc),
+        NodeCall::Read(_, count) => copies(alloc, count),
+        NodeCall::Write(off, bytes) => content(alloc, off, bytes.as_slice().len() as u64),
+        NodeCall::Truncate(size) => content(alloc, 0, size),
+    }
+}
+
+/// What the finish of a call at this target needs.
+fn room_at(alloc: Global, aim: Target<'_>) -> Result<Room, AllocError>
+    ensures { IfOk result (Suffices (form_of aim.entry)) }
+{
+    match aim {
+        Target::Node(call, _) => room_on(alloc, call),
+        Target::Entry(_, _) | Target::Rename(_, _) => Ok(Room::Nothing),
+    }
+}
+
 impl Room {
     /// What the finish of a call needs. The only error is a lack of memory.
     pub fn new(alloc: Global, call: &Call) -> Result<Room, AllocError>
         ensures { IfOk result (Suffices (form call.now)) }
     {
-        match call {
-            Call::Readdir(_) => lists(alloc),
-            Call::Read(_, _, count) => copies(alloc, *count),
-            Call::Write(_, off, bytes) => content(alloc, *off, bytes.as_slice().len() as u64),
-            Call::Truncate(_, size) => content(alloc, 0, *size),
-            _ => Ok(Room::Nothing),
-        }
+        room_at(alloc, call.target())
     }
 }

@@ -3,12 +3,13 @@
 ghost use Rattle.std.specs.Prelude.{◌≡◌, ◌<◌, ◌≤◌, length};
 ghost use Rattle.fs_names.specs.Keys.{after_prefix, has_more, last_of, parent_of};
 ghost use Rattle.fs_names.specs.Parts.{is_end};
-ghost use Rattle.fs_seq.specs.Forms.{form, by_text};
+ghost use Rattle.fs_seq.specs.Forms.{form, by_text, root_error};
+ghost use Rattle.fs_seq.specs.Targets.{form_of};
 ghost use Rattle.fs_seq.specs.Forms as forms;
 
 use crate::renaming::Paths;
 use fs_names::{Name, PATH_LIMIT, Path};
-use fs_seq::Call;
+use fs_seq::{Call, EntryCall, Target};
 use fs_seq::errno::Errno;
 
 /// How many names a path's parent has.
@@ -62,17 +63,33 @@ fn rename_error(path: &Path, new_path: &Path) -> Option<Errno>
     None
 }
 
+/// The error of a call on the root's entry.
+fn root_error(entry: EntryCall) -> Errno
+    ensures { result ≡ root_error entry }
+{
+    match entry {
+        EntryCall::Mkdir | EntryCall::Mknod => Errno::Eexist,
+        EntryCall::Unlink => Errno::Eperm,
+        EntryCall::Rmdir => Errno::Ebusy,
+    }
+}
+
+/// The error that the paths of a target alone decide.
+fn target_error(aim: Target<'_>) -> Option<Errno>
+    ensures { result ≡ by_text (form_of aim.entry) }
+{
+    match aim {
+        Target::Entry(entry, path) if path.is_empty() => Some(root_error(entry)),
+        Target::Node(_, _) | Target::Entry(_, _) => None,
+        Target::Rename(path, new_path) => rename_error(path, new_path),
+    }
+}
+
 /// The error of a call that its paths alone decide.
 pub fn text_error(call: &Call) -> Option<Errno>
     ensures { result ≡ by_text (form call.now) }
 {
-    match call {
-        Call::Mkdir(path) | Call::Mknod(path) if path.is_empty() => Some(Errno::Eexist),
-        Call::Unlink(path) if path.is_empty() => Some(Errno::Eperm),
-        Call::Rmdir(path) if path.is_empty() => Some(Errno::Ebusy),
-        Call::Rename(path, new_path) => rename_error(path, new_path),
-        _ => None,
-    }
+    target_error(call.target())
 }
 
 /// The last name of a path.

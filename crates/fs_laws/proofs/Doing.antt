@@ -4,7 +4,9 @@ use Rattle.fs_names.specs.Keys.{Key, last_of}
 use Rattle.fs_names.specs.Names.{Name}
 use Rattle.fs_names.specs.Shapes.{Shape, Dir, File}
 use Rattle.fs_seq.specs.Changes.{Change, content_change, edit_change}
-use Rattle.fs_seq.specs.Forms.{NodeCall, EntryCall, Mkdir, Mknod, Unlink, Rmdir, Form, In, new_shape}
+use Rattle.fs_seq.specs.Forms.{NodeCall, Form, In, new_shape}
+use Rattle.fs_seq.specs.declared.target.EntryCall.{EntryCall}
+use Rattle.fs_seq.specs.declared.target.EntryCall.TheVariants.{Mkdir, Mknod, Unlink, Rmdir}
 use Rattle.fs_seq.specs.Maps.{Map, put}
 use Rattle.fs_seq.specs.Rows.{on_row, Edit, Keep, Add, Remove, in_row}
 use Rattle.fs_seq.proofs.RowNames.{on_dir}

@@ -6,7 +6,8 @@ use Rattle.fs_names.specs.Names.{Name, has_name}
 use Rattle.fs_names.specs.Parts.{is_end, left, HasNames}
 use Rattle.fs_names.specs.Shapes.{Shape, Dir, File, is_full}
 use Rattle.fs_seq.specs.Changes.{resolve_next, resolve, resolve_dir}
-use Rattle.fs_seq.specs.Forms.{NodeCall, EntryCall}
+use Rattle.fs_seq.specs.Forms.{NodeCall}
+use Rattle.fs_seq.specs.declared.target.EntryCall.{EntryCall}
 use Rattle.fs_seq.specs.Maps.{Map, below}
 use Rattle.fs_seq.specs.Rows.{as_dir, on_row, in_row, to_row, moves_row, from_row, rename_row}
 use Rattle.fs_seq.specs.declared.errno.Errno.{Errno}

@@ -6,7 +6,8 @@ use Rattle.fs_names.specs.Names.{Name}
 use Rattle.fs_names.specs.Parts.{is_end, HasNames}
 use Rattle.fs_names.specs.Shapes.{Shape, Dir, File, is_full, names_of}
 use Rattle.fs_seq.specs.Changes.{Change, moved_by, changed, resolve_next, resolve, resolve_dir, content_change, edit_change, rename_writes, move_change, in_looked, rename_looked, looked, unless, outcome, after}
-use Rattle.fs_seq.specs.Forms.{EntryCall, Form, On, In, Rename, by_text, under, Fits}
+use Rattle.fs_seq.specs.Forms.{Form, On, In, Rename, by_text, under, Fits}
+use Rattle.fs_seq.specs.declared.target.EntryCall.{EntryCall}
 use Rattle.fs_seq.proofs.RowNames.{if_below}
 use Rattle.fs_seq.specs.Maps.{Map, below, act, act_at, move, moved_to, moved_from, write_all}
 use Rattle.fs_seq.specs.Rows.{as_dir, on_row, Edit, Keep, Add, Remove, in_row, rename_row}

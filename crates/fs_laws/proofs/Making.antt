@@ -5,7 +5,9 @@ use Rattle.fs_names.specs.Names.{Name, same_name, has_name, inserted_name, remov
 use Rattle.fs_names.specs.Parts.{is_end, common, left}
 use Rattle.fs_names.specs.Shapes.{Shape, Dir, File, is_full, names_of}
 use Rattle.fs_seq.specs.Changes.{Change, changed, resolve_dir, looked, edit_change, reply, unless}
-use Rattle.fs_seq.specs.Forms.{EntryCall, Mkdir, Mknod, Unlink, Rmdir, Form, On, In, Rename, under, new_shape, Fits}
+use Rattle.fs_seq.specs.Forms.{Form, On, In, Rename, under, new_shape, Fits}
+use Rattle.fs_seq.specs.declared.target.EntryCall.{EntryCall}
+use Rattle.fs_seq.specs.declared.target.EntryCall.TheVariants.{Mkdir, Mknod, Unlink, Rmdir}
 use Rattle.fs_seq.specs.Maps.{Map, put}
 use Rattle.fs_seq.specs.Rows.{as_dir, on_row, Edit, Keep, Add, Remove, in_row, rename_row}
 use Rattle.fs_seq.specs.declared.errno.Errno.{Errno}

@@ -6,7 +6,9 @@ use Rattle.fs_names.specs.Names.{Name, same_name, inserted_name, removed_name}
 use Rattle.fs_names.specs.Parts.{is_end, HasNames}
 use Rattle.fs_names.specs.Shapes.{Shape, Dir, File, is_full, names_of}
 use Rattle.fs_seq.specs.Changes.{Change, moved_by, changed, resolve, resolve_dir, content_change, edit_change, rename_writes, move_change, in_looked, rename_looked, looked, unless, outcome, reply, after}
-use Rattle.fs_seq.specs.Forms.{EntryCall, Mkdir, Mknod, Unlink, Rmdir, Form, On, In, Rename, by_text, under, Fits}
+use Rattle.fs_seq.specs.Forms.{Form, On, In, Rename, by_text, under, Fits}
+use Rattle.fs_seq.specs.declared.target.EntryCall.{EntryCall}
+use Rattle.fs_seq.specs.declared.target.EntryCall.TheVariants.{Mkdir, Mknod, Unlink, Rmdir}
 use Rattle.fs_seq.specs.Maps.{Map, below, act, put, move, write_all}
 use Rattle.fs_seq.specs.Rows.{as_dir, on_row, Edit, Keep, Add, Remove, made, in_there, in_row, to_row, moves_row, from_row, rename_row}
 use Rattle.fs_seq.proofs.RowNames.{on_dir}

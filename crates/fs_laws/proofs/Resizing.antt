@@ -8,7 +8,9 @@ use Rattle.fs_names.specs.Names.{Name, inserted_name, removed_name, has_name}
 use Rattle.fs_names.specs.Parts.{common, left, is_end}
 use Rattle.fs_names.specs.Shapes.{Shape, Dir, File, names_of, is_full}
 use Rattle.fs_names.specs.declared.limits.TheConstants.{ENTRY_LIMIT, FILE_LIMIT}
-use Rattle.fs_seq.specs.Forms.{form, NodeCall, Stat, Readdir, Read, Write, Truncate, EntryCall, Mkdir, Mknod, Unlink, Rmdir, Form, On, In, Rename, by_text}
+use Rattle.fs_seq.specs.Forms.{form, NodeCall, Stat, Readdir, Read, Write, Truncate, Form, On, In, Rename, by_text}
+use Rattle.fs_seq.specs.declared.target.EntryCall.{EntryCall}
+use Rattle.fs_seq.specs.declared.target.EntryCall.TheVariants.{Mkdir, Mknod, Unlink, Rmdir}
 use Rattle.fs_seq.specs.Rows.{answered, on_row, Edit, Keep, Add, Remove, in_there, in_row, to_row, written, resized}
 use Rattle.fs_seq.proofs.RowNames.{on_dir}
 use Rattle.fs_seq.specs.declared.errno.Errno.{Errno}

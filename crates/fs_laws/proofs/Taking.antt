@@ -4,7 +4,8 @@ use Rattle.fs_names.specs.Keys.{Key, after_prefix, parent_of}
 use Rattle.fs_names.specs.Names.{Name, same_name}
 use Rattle.fs_names.specs.Parts.{common}
 use Rattle.fs_names.specs.Shapes.{Shape, Dir, File}
-use Rattle.fs_seq.specs.Forms.{form, NodeCall, EntryCall, Form, On, In, Rename, by_text, under, Fits}
+use Rattle.fs_seq.specs.Forms.{form, NodeCall, Form, On, In, Rename, by_text, under, Fits}
+use Rattle.fs_seq.specs.declared.target.EntryCall.{EntryCall}
 use Rattle.fs_seq.proofs.RowNames.{if_below}
 use Rattle.fs_seq.specs.declared.call.Call.{Call}
 use Rattle.fs_seq.specs.declared.errno.Errno.{Errno}

@@ -3,7 +3,8 @@ use Rattle.std.specs.Prelude.{ℕ, ◌≡◌, ◌<◌, false, List, [], ◌∷�
 use Rattle.fs_names.specs.Keys.{Key, parent_of, last_of}
 use Rattle.fs_names.specs.Parts.{left}
 use Rattle.fs_names.specs.Shapes.{Shape}
-use Rattle.fs_seq.specs.Forms.{Fits, form, EntryCall, Stat, Form, On, In, Rename, under, new_shape}
+use Rattle.fs_seq.specs.Forms.{Fits, form, Stat, Form, On, In, Rename, under, new_shape}
+use Rattle.fs_seq.specs.declared.target.EntryCall.{EntryCall}
 use Rattle.fs_seq.specs.Maps.{Map}
 use Rattle.fs_seq.specs.declared.reply.Reply.{Reply}
 use Rattle.fs_seq.specs.declared.call.Call.{Call}

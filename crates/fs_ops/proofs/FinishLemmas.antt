@@ -4,7 +4,8 @@ use Rattle.fs_names.specs.Names.{Name}
 use Rattle.fs_names.specs.Keys.{Key, last_of, parent_of}
 use Rattle.fs_names.specs.Shapes.{Shape, Dir, File, is_full}
 use Rattle.fs_nodes.specs.Graphs.{Graph, entry_shape}
-use Rattle.fs_seq.specs.Forms.{Form, On, In, Rename, NodeCall, Stat, Readdir, Read, EntryCall, by_text, form}
+use Rattle.fs_seq.specs.Forms.{Form, On, In, Rename, NodeCall, Stat, Readdir, Read, by_text, form}
+use Rattle.fs_seq.specs.declared.target.EntryCall.{EntryCall}
 use Rattle.fs_seq.specs.Rows.{on_row, in_row}
 use Rattle.fs_seq.specs.declared.call.Call.{Call}
 use Rattle.fs_seq.specs.declared.errno.Errno.{Errno}

@@ -9,7 +9,8 @@ use Rattle.fs_names.specs.Shapes.{Shape, is_full}
 use Rattle.fs_nodes.specs.Graphs.{Graph, entry_shape}
 use Rattle.fs_nodes.specs.Places.{Places}
 use Rattle.fs_nodes.specs.Stores.{graph_of}
-use Rattle.fs_seq.specs.Forms.{form, EntryCall, Form, On, In, Rename, by_text}
+use Rattle.fs_seq.specs.Forms.{form, Form, On, In, Rename, by_text}
+use Rattle.fs_seq.specs.declared.target.EntryCall.{EntryCall}
 use Rattle.fs_seq.specs.declared.call.Call.{Call}
 use Rattle.fs_seq.specs.Rows.{from_row, to_row, moves_row}
 use Rattle.fs_seq.specs.declared.errno.Errno.{Errno}

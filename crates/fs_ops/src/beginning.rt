@@ -2,7 +2,8 @@
 
 ghost use Rattle.std.specs.Prelude.{◌≡◌, ◌≤◌, ◌↔◌, Err, None, IfOk, OnErr, IsSome, length, option_map};
 ghost use Rattle.fs_nodes.specs.Stores.{graph_of, in_use, room, new_shape};
-ghost use Rattle.fs_seq.specs.Forms.{form, reserves};
+ghost use Rattle.fs_seq.specs.Forms.{form, reserves, new_shape as entry_shape};
+ghost use Rattle.fs_seq.specs.Targets.{form_of};
 ghost use Rattle.fs_moves.specs.Moves.{target};
 ghost use Rattle.fs_names.specs.Keys.{parent_of};
 ghost use Rattle.fs_names.specs.Parts.{common};
@@ -16,18 +17,28 @@ use fs_finish::room::Room;
 use fs_finish::text::parent_len;
 use fs_names::{Kind, PATH_LIMIT, Path};
 use fs_nodes::{NoNode, NodeNo, Store};
-use fs_seq::Call;
+use fs_seq::{Call, EntryCall, Target};
 use fs_walk::Walk;
 use std::alloc::{AllocError, Global};
 
-/// The kind of node that a call reserves a number for.
-fn new_kind(call: &Call) -> Option<Kind>
-    ensures { option_map new_shape result ≡ reserves (form call.now) }
+/// The kind of node that a call on an entry may add.
+fn kind_of(entry: EntryCall) -> Option<Kind>
+    ensures { option_map new_shape result ≡ entry_shape entry }
 {
-    match call {
-        Call::Mkdir(path) if !path.is_empty() => Some(Kind::Dir),
-        Call::Mknod(path) if !path.is_empty() => Some(Kind::File),
-        _ => None,
+    match entry {
+        EntryCall::Mkdir => Some(Kind::Dir),
+        EntryCall::Mknod => Some(Kind::File),
+        EntryCall::Unlink | EntryCall::Rmdir => None,
+    }
+}
+
+/// The kind of node that a call reserves a number for.
+fn new_kind(aim: Target<'_>) -> Option<Kind>
+    ensures { option_map new_shape result ≡ reserves (form_of aim.entry) }
+{
+    match aim {
+        Target::Entry(entry, path) if !path.is_empty() => kind_of(entry),
+        Target::Entry(_, _) | Target::Node(_, _) | Target::Rename(_, _) => None,
     }
 }
 
@@ -42,20 +53,14 @@ fn common_len(path: &Path, other: &Path) -> usize
 }
 
 /// How many names lead to the target of a call.
-fn target_len(call: &Call) -> usize
-    ensures len { result ≡ length (target (form call.now)) }
+fn target_len(aim: Target<'_>) -> usize
+    ensures len { result ≡ length (target (form_of aim.entry)) }
     ensures most { result ≤ PATH_LIMIT }
 {
-    match call {
-        Call::Mkdir(path) | Call::Mknod(path) | Call::Unlink(path) | Call::Rmdir(path) => {
-            parent_len(path)
-        }
-        Call::Rename(path, other) => common_len(path, other),
-        Call::Stat(path)
-        | Call::Readdir(path)
-        | Call::Read(path, _, _)
-        | Call::Write(path, _, _)
-        | Call::Truncate(path, _) => path.len(),
+    match aim {
+        Target::Node(_, path) => path.len(),
+        Target::Entry(_, path) => parent_len(path),
+        Target::Rename(path, other) => common_len(path, other),
     }
 }
 
@@ -67,7 +72,7 @@ fn reserve_for(call: &Call, store: &mut Store) -> Result<Option<NodeNo>, NoNode>
     ensures limit { store.new.limit ≡ store.old.limit }
     ensures room { room store.old ≤ room store.new }
 {
-    match new_kind(call) {
+    match new_kind(call.target()) {
         Some(kind) => Ok(Some(store.reserve(kind)?)),
         None => Ok(None),
     }
@@ -82,7 +87,7 @@ impl Op {
         let copy = call.copy(alloc)?;
         Ok(Op {
             call: copy,
-            walk: Walk::new(target_len(call)),
+            walk: Walk::new(target_len(call.target())),
             fork: None,
             victim: None,
             reserved: None,

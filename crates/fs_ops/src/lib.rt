@@ -2,7 +2,6 @@
 #![tactic(auto)]
 
 mod beginning;
-mod by_call;
 mod carrying;
 mod ending;
 mod finishing;

@@ -4,7 +4,7 @@ ghost use Rattle.std.specs.Prelude.{◌≡◌, ◌≤◌, ℕ, Some, cond, lengt
 ghost use Rattle.fs_names.specs.declared.limits.TheConstants.{PATH_LIMIT};
 ghost use Rattle.fs_names.specs.Keys.{parent_of};
 ghost use Rattle.fs_names.specs.Parts.{common};
-ghost use Rattle.fs_seq.specs.Forms.{form};
+ghost use Rattle.fs_seq.specs.Targets.{form_of};
 ghost use Rattle.fs_seq.specs.Forms as forms;
 ghost use Rattle.fs_walk.specs.Ways.{fork_took, has_arrived};
 ghost use Rattle.fs_moves.specs.Moves.{target};
@@ -15,7 +15,7 @@ ghost use Rattle.fs_moves.specs.Works.{IsTook};
 use crate::op::Op;
 use fs_names::Path;
 use fs_nodes::NodeNo;
-use fs_seq::Call;
+use fs_seq::Target;
 use fs_walk::{Fork, Walk};
 
 /// A head of a rename takes a node; where both have arrived, it is the victim.
@@ -70,24 +70,24 @@ fn rename_took(
 
 /// A call at its target takes a node: a rename with one of its heads, or else the victim.
 fn took_at_target(
-    call: &Call,
+    aim: Target<'_>,
     walk: &Walk,
     fork: &mut Option<Fork>,
     victim: &mut Option<NodeNo>,
     node: NodeNo,
 )
-    requires names { walk.now.names ≡ length (target (form call.now)) }
+    requires names { walk.now.names ≡ length (target (form_of aim)) }
     requires arrived { walk.now.walked ≡ walk.now.names }
-    requires forks { Forks (form call.now) walk.now fork.old }
-    ensures forks { Forks (form call.now) walk.now fork.new }
-    ensures stands { (at : ℕ) → walk.now.node ≡ Some at → TakesTo (form call.now) walk.now at node fork.old victim.old fork.new victim.new }
+    requires forks { Forks (form_of aim) walk.now fork.old }
+    ensures forks { Forks (form_of aim.entry) walk.now fork.new }
+    ensures stands { (at : ℕ) → walk.now.node ≡ Some at → TakesTo (form_of aim.entry) walk.now at node fork.old victim.old fork.new victim.new }
 {
-    match call {
-        Call::Rename(source, dest) => rename_took(source, dest, walk, fork, victim, node),
-        Call::Mkdir(_) | Call::Mknod(_) | Call::Unlink(_) | Call::Rmdir(_) => {
+    match aim {
+        Target::Node(_, _) => {}
+        Target::Entry(_, _) => {
             *victim = Some(node);
         }
-        _ => {}
+        Target::Rename(source, dest) => rename_took(source, dest, walk, fork, victim, node),
     }
 }
 
@@ -102,7 +102,7 @@ impl Op {
             self.victim = None;
         } else {
             took_at_target(
-                &self.call,
+                self.call.target(),
                 &self.walk,
                 &mut self.fork,
                 &mut self.victim,

@@ -5,6 +5,7 @@ pub mod Renaming
 pub mod Sights
 pub mod Outcomes
 pub mod Forms
+pub mod Targets
 pub mod Maps
 pub mod Rows
 pub mod Changes

@@ -15,6 +15,7 @@ mod removing;
 mod renaming;
 pub mod reply;
 pub mod seq_tree;
+pub mod target;
 #[cfg(test)]
 mod tests;
 mod writing;
@@ -25,3 +26,4 @@ pub use errno::Errno;
 pub use name_list::NameList;
 pub use reply::Reply;
 pub use seq_tree::SeqTree;
+pub use target::{EntryCall, NodeCall, Target};

@@ -1,4 +1,6 @@
-use Rattle.std.proofs.Common.{◌∙◌, None, refl, sym, ap}
+use Rattle.std.proofs.Common.{◌≡◌, ℕ, ◌∙◌, Some, None, refl, sym, ap, subst}
+use Rattle.fs_seq.specs.Forms.{Form}
+use Rattle.fs_ops.specs.Steps.{TakesTo}
 use Rattle.fs_walk.specs.Ways.{Way, way_took}
 use Rattle.fs_ops.specs.Views.{work_of}
 use Rattle.fs_ops.proofs.TookLemmas.{walk_took, target_took_is, walk_arrived, took_as}
@@ -17,7 +19,8 @@ returns-else-may_take c =
     let new = c.took_at_target.new in
     took_as (work_of o.call o.walk o.fork o.victim o.reserved o.removed o.outcome) c.args.self.now (work_of o.call o.walk new.fork new.victim o.reserved o.removed o.outcome) (work_of o.call o.walk new.fork new.victim o.reserved o.removed o.outcome) c.args.node
     c.self.view_is refl
-    (target_took_is o.call o.walk o.fork new.fork o.victim new.victim o.reserved o.removed o.outcome c.args.node c.self.invariant.names (sym c.may_take.ensures.may ∙ c.if-may_take.false) c.may_take.ensures.within c.took_at_target.ensures.stands)
+    (target_took_is o.call o.walk o.fork new.fork o.victim new.victim o.reserved o.removed o.outcome c.args.node c.self.invariant.names (sym c.may_take.ensures.may ∙ c.if-may_take.false) c.may_take.ensures.within
+    (subst (λ (f : Form). (at : ℕ) → o.walk.node ≡ Some at → TakesTo f o.walk at c.args.node o.fork o.victim new.fork new.victim) c.target.ensures c.took_at_target.ensures.stands))
 
 pub took_at_target-requires-clause-arrived : goal.took_at_target-requires-clause-arrived
 took_at_target-requires-clause-arrived c = (walk_arrived c.self.inside.walk (sym c.may_take.ensures.may ∙ c.if-may_take.false) c.may_take.ensures.within).0
