@@ -8,7 +8,8 @@ use Rattle.fs_core.specs.declared.beginning.Ready.{Ready}
 use mathlib.Core.Path.{fun_ext}
 use Rattle.std.proofs.lemmas.Option.{slice_get_within, slice_get_read}
 use Rattle.fs_names.specs.Shapes.{Shape, Dir, File, is_there, has_entries}
-use Rattle.fs_seq.specs.Forms.{form, Form, On, In, Rename, new_shape, reserves}
+use Rattle.fs_seq.specs.Forms.{form, Form, On, In, Two, new_shape, reserves}
+use Rattle.fs_seq.specs.declared.target.PairCall.TheVariants as pairs
 use Rattle.fs_seq.specs.declared.target.EntryCall.{EntryCall}
 use Rattle.fs_seq.specs.declared.target.EntryCall.TheVariants.{Mkdir, Mknod, Unlink, Rmdir}
 use Rattle.fs_seq.specs.declared.call.Call.{Call}
@@ -42,7 +43,7 @@ reserves_empty : (f : Form) (shape : Shape) → reserves f ≡ Some shape → ha
 reserves_empty (On c p) shape e = cc
 reserves_empty (In c []) shape e = cc
 reserves_empty (In c (x ∷ p)) shape e = new_empty c shape e
-reserves_empty (Rename p q) shape e = cc
+reserves_empty (Two pairs.Rename p q) shape e = cc
 
 set_here : {A : Type 0} (n : ℕ) (v : A) (f : ℕ → A) → set_at n v f n ≡ v
 set_here n v f = ap (λ (b : Bool). cond b v (f n)) (eqb_refl n)

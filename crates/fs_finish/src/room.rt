@@ -152,7 +152,7 @@ fn room_at(alloc: Global, aim: Target<'_>) -> Result<Room, AllocError>
 {
     match aim {
         Target::Node(call, _) => room_on(alloc, call),
-        Target::Entry(_, _) | Target::Rename(_, _) => Ok(Room::Nothing),
+        Target::Entry(_, _) | Target::Pair(_, _, _) => Ok(Room::Nothing),
     }
 }
 

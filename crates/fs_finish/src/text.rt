@@ -6,10 +6,11 @@ ghost use Rattle.fs_names.specs.Parts.{is_end};
 ghost use Rattle.fs_seq.specs.Forms.{form, by_text, root_error};
 ghost use Rattle.fs_seq.specs.Targets.{form_of};
 ghost use Rattle.fs_seq.specs.Forms as forms;
+ghost use Rattle.fs_seq.specs.declared.target.PairCall.TheVariants as pairs;
 
 use crate::renaming::Paths;
 use fs_names::{Name, PATH_LIMIT, Path};
-use fs_seq::{Call, EntryCall, Target};
+use fs_seq::{Call, EntryCall, PairCall, Target};
 use fs_seq::errno::Errno;
 
 /// How many names a path's parent has.
@@ -52,7 +53,7 @@ fn have_one_parent(path: &Path, other: &Path) -> bool
 
 /// The error of a rename that its paths alone decide.
 fn rename_error(path: &Path, new_path: &Path) -> Option<Errno>
-    ensures { result ≡ by_text (forms.Rename path.now new_path.now) }
+    ensures { result ≡ by_text (forms.Two pairs.Rename path.now new_path.now) }
 {
     if path.is_empty() || new_path.is_empty() {
         return Some(Errno::Ebusy);
@@ -81,7 +82,7 @@ fn target_error(aim: Target<'_>) -> Option<Errno>
     match aim {
         Target::Entry(entry, path) if path.is_empty() => Some(root_error(entry)),
         Target::Node(_, _) | Target::Entry(_, _) => None,
-        Target::Rename(path, new_path) => rename_error(path, new_path),
+        Target::Pair(PairCall::Rename, path, new_path) => rename_error(path, new_path),
     }
 }
 

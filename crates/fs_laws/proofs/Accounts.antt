@@ -3,7 +3,8 @@ use Rattle.std.proofs.Common.{◌≡◌, ℕ, ◌+◌, ◌<◌, ◌≤◌, Bool,
 use Rattle.fs_names.specs.Keys.{Key}
 use Rattle.fs_names.specs.Names.{Name}
 use Rattle.fs_names.specs.Shapes.{Shape, Dir, File}
-use Rattle.fs_seq.specs.Forms.{form, by_text, reserves, Form, On, In, Rename}
+use Rattle.fs_seq.specs.Forms.{form, by_text, reserves, Form, On, In, Two}
+use Rattle.fs_seq.specs.declared.target.PairCall.TheVariants as pairs
 use Rattle.fs_seq.specs.declared.target.EntryCall.TheVariants.{Mkdir, Mknod, Unlink, Rmdir}
 use Rattle.fs_seq.specs.declared.call.Call.{Call}
 use Rattle.fs_seq.specs.declared.reply.Reply.{Reply}
@@ -403,7 +404,7 @@ new_within (In Mkdir (x ∷ p)) shape e = let y : Dir [] ≡ shape = cc in subst
 new_within (In Mknod (x ∷ p)) shape e = let y : File [] ≡ shape = cc in subst Within y (omega arith)
 new_within (In Unlink (x ∷ p)) shape e = cc
 new_within (In Rmdir (x ∷ p)) shape e = cc
-new_within (Rename p q) shape e = cc
+new_within (Two pairs.Rename p q) shape e = cc
 
 reserved_is : (old : State) (acc : Accounts old) (n : ℕ) (shape : Shape) → old.graph.shape n ≡ None → n < old.limit → Within shape → Reserved old (reserved_in n shape old.graph)
 reserved_is old acc n shape free less fits = record {

@@ -3,7 +3,8 @@ use Rattle.std.proofs.Common.{◌≡◌, ℕ, Bool, true, false, [], ◌∷◌, 
 use Rattle.fs_names.specs.Keys.{Key, parent_of}
 use Rattle.fs_names.specs.Parts.{left}
 use Rattle.fs_names.specs.Shapes.{Shape, Dir, File}
-use Rattle.fs_seq.specs.Forms.{form, Form, On, In, Rename, by_text}
+use Rattle.fs_seq.specs.Forms.{form, Form, On, In, Two, by_text}
+use Rattle.fs_seq.specs.declared.target.PairCall.TheVariants as pairs
 use Rattle.fs_seq.specs.declared.errno.Errno.{Errno}
 use Rattle.fs_seq.specs.declared.reply.Reply.{Reply}
 use Rattle.fs_nodes.specs.Graphs.{Graph}
@@ -43,7 +44,7 @@ rename_ends graph p q st m i e = some_ends _ _ _ _ m i e
 target_ends : (graph : Graph) (remaining : Form) (st : Stand) → target_move graph remaining st ≡ Ends → ⊥
 target_ends graph (On c p) st e = cc
 target_ends graph (In c p) st e = some_ends _ _ _ _ Ends e refl
-target_ends graph (Rename p q) st e =
+target_ends graph (Two pairs.Rename p q) st e =
     dir_ends (graph.shape st.node) _
     (first_ends graph st.source.node st.source.behind (left st.source.walked (parent_of p)) _
     (dir_ends (graph.shape st.source.node) _

@@ -4,7 +4,8 @@ use Rattle.std.proofs.lemmas.List.{length-append}
 use Rattle.fs_names.specs.Keys.{Key, after_prefix, parent_of, last_of}
 use Rattle.fs_names.specs.Names.{Name}
 use Rattle.fs_names.specs.Parts.{common, left, left_by}
-use Rattle.fs_seq.specs.Forms.{form, Form, On, In, Rename, by_text, under}
+use Rattle.fs_seq.specs.Forms.{form, Form, On, In, Two, by_text, under}
+use Rattle.fs_seq.specs.declared.target.PairCall.TheVariants as pairs
 use Rattle.fs_seq.specs.declared.errno.Errno.{Errno}
 use Rattle.fs_nodes.specs.Graphs.{Graph, numbers, IsGraph}
 use Rattle.fs_moves.specs.Moves.{Move, Takes, Leaves, Finishes, Ends, next, next_by, next_on, target, took, inner, tail_of, head_took, head_left, left_stand, left_behind, behind_of}
@@ -48,7 +49,7 @@ unless_one (Some n) = omega arith
 to_go_less : (remaining : Form) (st : Stand) → to_go remaining st ≤ names_left remaining
 to_go_less (On c p) st = omega arith
 to_go_less (In c p) st = parent_less p
-to_go_less (Rename p q) st =
+to_go_less (Two pairs.Rename p q) st =
     let a : length (left st.source.walked (parent_of p)) ≤ length (parent_of p) = left_less st.source.walked (parent_of p) in
     let b : length (left st.dest.walked (parent_of q)) ≤ length (parent_of q) = left_less st.dest.walked (parent_of q) in
     let c : length (parent_of p) ≤ length p = parent_less p in
@@ -90,7 +91,7 @@ walk_less : (remaining : Form) (x : Name) (l : Key) (st : Stand) (n : ℕ) → t
 walk_less (On c []) x l st n e i j = cc
 walk_less (On c (y ∷ p)) x l st n e i j = omega arith
 walk_less (In c p) x l st n e i j = let k : length (parent_of (tail_of p)) + 1 ≡ length (parent_of p) = parent_tail p x l e in omega (arith, k)
-walk_less (Rename p q) x l st n e i j =
+walk_less (Two pairs.Rename p q) x l st n e i j =
     let f : ((y : Name) × (r : Key) × (parent_of p ≡ y ∷ r)) × ((z : Name) × (t : Key) × (parent_of q ≡ z ∷ t)) = common_front (parent_of p) (parent_of q) x l e in
     let a : length (parent_of (tail_of p)) + 1 ≡ length (parent_of p) = parent_tail p f.0.0 f.0.1 f.0.2 in
     let b : length (parent_of (tail_of q)) + 1 ≡ length (parent_of q) = parent_tail q f.1.0 f.1.1 f.1.2 in
@@ -157,7 +158,7 @@ solo_took graph is k op n st s t = go t
         same_go : (f : Form) → one_unless st.victim ≡ 1 → moves_left f (record st { victim = Some n }) + 1 ≤ moves_left f st
         same_go (On c p) z = omega (arith, z)
         same_go (In c p) z = omega (arith, z)
-        same_go (Rename p q) z = omega (arith, z)
+        same_go (Two pairs.Rename p q) z = omega (arith, z)
 
     go : Take graph op n st → Advanced graph k op st (took op n)
     go (Walk x l way b kid e) = subst (Advanced graph k op st) (sym e) (record {
@@ -309,7 +310,7 @@ solo_left graph k op n st s b = go b
         less : (f : Form) → one_if st.behind ≡ 1 → moves_left f (record st { behind = None }) + 1 ≤ moves_left f st
         less (On c p) z = omega (arith, z)
         less (In c p) z = omega (arith, z)
-        less (Rename p q) z = omega (arith, z)
+        less (Two pairs.Rename p q) z = omega (arith, z)
     go (Source_behind a e) =
         here (record st { source = head_left st.source }) (ap₂ (λ (x y : Option ℕ). left_behind st x y) a e) (lets_source_behind st n s.heads e) (record { here = s.loc.here; source = s.loc.source; dest = s.loc.dest })
         (neat_heads graph op.remaining st (record st { source = head_left st.source }) (record { source = refl; node = refl; dest = refl; victim = refl }) s.neat) (refl, refl, refl)
@@ -318,7 +319,7 @@ solo_left graph k op n st s b = go b
         less : (f : Form) → one_if st.source.behind ≡ 1 → moves_left f (record st { source = head_left st.source }) + 1 ≤ moves_left f st
         less (On c p) z = omega (arith, z)
         less (In c p) z = omega (arith, z)
-        less (Rename p q) z = omega (arith, z)
+        less (Two pairs.Rename p q) z = omega (arith, z)
     go (Dest_behind a c e) =
         here (record st { dest = head_left st.dest }) (ap₂ (λ (x y : Option ℕ). left_behind st x y) a c) (lets_dest_behind st n s.heads e) (record { here = s.loc.here; source = s.loc.source; dest = s.loc.dest })
         (neat_heads graph op.remaining st (record st { dest = head_left st.dest }) (record { source = refl; node = refl; dest = refl; victim = refl }) s.neat) (refl, refl, refl)
@@ -327,7 +328,7 @@ solo_left graph k op n st s b = go b
         less : (f : Form) → one_if st.dest.behind ≡ 1 → moves_left f (record st { dest = head_left st.dest }) + 1 ≤ moves_left f st
         less (On c p) z = omega (arith, z)
         less (In c p) z = omega (arith, z)
-        less (Rename p q) z = omega (arith, z)
+        less (Two pairs.Rename p q) z = omega (arith, z)
 
 -- the call where it finishes
 pub record Finishing (graph : Graph) (k : Key) (op : Record) (steps : ℕ) : Type 0 where

@@ -5,7 +5,8 @@ use Rattle.std.proofs.lemmas.Bool.Decides.{nat_tests}
 use Rattle.fs_names.specs.Keys.{Key}
 use Rattle.fs_names.specs.Names.{has_name}
 use Rattle.fs_names.specs.Shapes.{Shape, Dir, File, is_there, has_entries}
-use Rattle.fs_seq.specs.Forms.{form, Form, On, In, Rename, by_text}
+use Rattle.fs_seq.specs.Forms.{form, Form, On, In, Two, by_text}
+use Rattle.fs_seq.specs.declared.target.PairCall.TheVariants as pairs
 use Rattle.fs_seq.specs.declared.errno.Errno.{Errno}
 use Rattle.fs_seq.specs.declared.reply.Reply.{Reply}
 use Rattle.fs_nodes.specs.Graphs.{Graph, numbers, IsGraph}
@@ -79,7 +80,7 @@ heads_apart s c op st run is on = go op.remaining
     go : (f : Form) → HeadsApart f st
     go (On e p) = tt
     go (In e p) = tt
-    go (Rename p q) = λ same. front_same (inv.key c) st.source.walked st.dest.walked (inv.is_graph.one_key (inv.key c ++ st.source.walked) (inv.key c ++ st.dest.walked) st.source.node loc.source (loc.dest ∙ ap (λ (n : ℕ). Some n) (sym same)))
+    go (Two pairs.Rename p q) = λ same. front_same (inv.key c) st.source.walked st.dest.walked (inv.is_graph.one_key (inv.key c ++ st.source.walked) (inv.key c ++ st.dest.walked) st.source.node loc.source (loc.dest ∙ ap (λ (n : ℕ). Some n) (sym same)))
 
 -- what a finish needs
 pub can_finish : (s : State) (c : ℕ) (op : Record) (t : Option ℕ) → Run s → s.ops c ≡ Some op → next s.graph op ≡ Finishes t → CanFinish s.graph op.reserved op.remaining op.stand

@@ -4,7 +4,8 @@ use Rattle.fs_names.specs.Keys.{Key, parent_of}
 use Rattle.fs_names.specs.Names.{Name, has_name}
 use Rattle.fs_names.specs.Parts.{HasNames, left}
 use Rattle.fs_names.specs.Shapes.{Shape, Dir, File}
-use Rattle.fs_seq.specs.Forms.{form, Form, On, In, Rename, by_text}
+use Rattle.fs_seq.specs.Forms.{form, Form, On, In, Two, by_text}
+use Rattle.fs_seq.specs.declared.target.PairCall.TheVariants as pairs
 use Rattle.fs_seq.specs.declared.errno.Errno.{Errno}
 use Rattle.fs_seq.specs.declared.reply.Reply.{Reply}
 use Rattle.fs_nodes.specs.Graphs.{Graph, IsGraph, at}
@@ -86,7 +87,7 @@ finish_closed graph is remaining st o well fit w e = way (target remaining) refl
     there : (rem : Form) → target rem ≡ [] → StandsWell graph st.node rem st → Neat graph rem st → st.behind ≡ None → target_move graph rem st ≡ Finishes o → IsClosed st
     there (On c p) i wl n b g = record { behind = b; source = fit.0 n.source; dest = fit.1 n.dest }
     there (In c p) i wl n b g = record { behind = b; source = fit.0 n.source; dest = fit.1 n.dest }
-    there (Rename p q) i wl n b g = fork_closed graph is p q st o (subst (ForkedAt graph st.node p q st) i wl) fit (in_turn graph p q st (Rename p q) refl i n) b g
+    there (Two pairs.Rename p q) i wl n b g = fork_closed graph is p q st o (subst (ForkedAt graph st.node p q st) i wl) fit (in_turn graph p q st (Two pairs.Rename p q) refl i n) b g
 
     way : (l : Key) → target remaining ≡ l → first_of (head_move graph st.node st.behind l) (target_move graph remaining st) ≡ Finishes o → IsClosed st
     way (x ∷ l) i g = let p : (st.source.walked ≡ []) × (st.dest.walked ≡ []) × (st.victim ≡ None) = plain_of graph remaining st x l i w in record { behind = behind (x ∷ l) g; source = fit.0 p.0; dest = fit.1 p.1 }

@@ -6,7 +6,8 @@ use Rattle.fs_names.specs.Names.{Name}
 use Rattle.fs_names.specs.Parts.{common, is_end, left, left_by}
 use Rattle.fs_names.specs.Shapes.{Shape, Dir, is_full, names_of}
 use Rattle.fs_seq.specs.Changes.{Change, resolve, resolve_dir, looked, move_change, rename_writes}
-use Rattle.fs_seq.specs.Forms.{Form, On, In, Rename, Fits, by_text}
+use Rattle.fs_seq.specs.Forms.{Form, On, In, Two, Fits, by_text}
+use Rattle.fs_seq.specs.declared.target.PairCall.TheVariants as pairs
 use Rattle.fs_seq.specs.Maps.{Map, below, put, put_at, move, moved_to, moved_from}
 use Rattle.fs_seq.specs.Rows.{on_row, in_row, rename_row}
 use Rattle.fs_seq.specs.declared.errno.Errno.{Errno}
@@ -60,7 +61,7 @@ take_same true (Some n) (Some v) m o e = cc
 take_same false n held m o e = cc
 
 -- a rename that really moves
-does_move : (graph : Graph) (ops : Records) (key : ℕ → Key) (c : ℕ) (op : Record) (st : Stand) (o : Option ℕ) (p q : Key) (ws : List (Key × Option Shape)) (r : Reply) → Finisher graph ops key c op st o → op.remaining ≡ Rename p q → Fits (Rename p q)
+does_move : (graph : Graph) (ops : Records) (key : ℕ → Key) (c : ℕ) (op : Record) (st : Stand) (o : Option ℕ) (p q : Key) (ws : List (Key × Option Shape)) (r : Reply) → Finisher graph ops key c op st o → op.remaining ≡ Two pairs.Rename p q → Fits (Two pairs.Rename p q)
     → Real graph p q st → ((m : ℕ) → graph.kid st.source.node (last_of p) ≡ Some m → o ≡ Some m)
     → Does graph ops key st op.reserved (change_under (key c) (move_change true ws p q)) (moved_made graph st (last_of p) (last_of q) op.reserved r true (graph.kid st.source.node (last_of p)))
 does_move graph ops key c op st o p q ws r f rem fits real moved_is = subst (λ (n : Option ℕ). Does graph ops key st op.reserved (change_under (key c) (move_change true ws p q)) (moved_made graph st (last_of p) (last_of q) op.reserved r true n)) (sym real.moved.1) made
@@ -160,7 +161,7 @@ does_move graph ops key c op st o p q ws r f rem fits real moved_is = subst (λ 
         (subst (λ (t : Key). Kept (move ((key c ++ st.source.walked) ++ last_of p ∷ []) ((key c ++ st.dest.walked) ++ last_of q ∷ []) (numbers graph)) ops (λ d. rekey_by t (key d) (after_prefix (key c ++ p) (key d)))) t_is
         (subst (λ (s : Key). Kept (move ((key c ++ st.source.walked) ++ last_of p ∷ []) ((key c ++ st.dest.walked) ++ last_of q ∷ []) (numbers graph)) ops (λ d. rekey_by ((key c ++ st.dest.walked) ++ last_of q ∷ []) (key d) (after_prefix s (key d)))) s_is moved))
 
-    vic : VictimAt graph (Rename p q) st
+    vic : VictimAt graph (Two pairs.Rename p q) st
     vic = subst (λ (x : Form). VictimAt graph x st) rem f.victim
 
     made : Does graph ops key st op.reserved (change_under (key c) (move_change true ws p q)) (record { reply = r; graph = moved_in st.source.node (last_of p) st.dest.node (last_of q) real.moved.0 graph; reserved = op.reserved; removed = st.victim })
@@ -173,8 +174,8 @@ does_move graph ops key c op st o p q ws r f rem fits real moved_is = subst (λ 
       removed = λ n j. (j, moved_gone graph f.is_graph (key c ++ st.source.walked) st.source.node (last_of p) (key c ++ st.dest.walked) st.dest.node (last_of q) real.moved.0 n can (vic n j).0, ((key c ++ st.dest.walked) ++ last_of q ∷ [], entry ∙ (vic n j).0));
     }
 
-does_rename : (graph : Graph) (ops : Records) (key : ℕ → Key) (c : ℕ) (op : Record) (st : Stand) (o : Option ℕ) (p q : Key) (s : Shape) → Finisher graph ops key c op st o → op.remaining ≡ Rename p q → Fits (Rename p q) → graph.shape st.node ≡ Some s
-    → Does graph ops key st op.reserved (change_under (key c) (looked (below (key c) (spell graph)) (Rename p q)).1) (made_at graph (Rename p q) st op.reserved)
+does_rename : (graph : Graph) (ops : Records) (key : ℕ → Key) (c : ℕ) (op : Record) (st : Stand) (o : Option ℕ) (p q : Key) (s : Shape) → Finisher graph ops key c op st o → op.remaining ≡ Two pairs.Rename p q → Fits (Two pairs.Rename p q) → graph.shape st.node ≡ Some s
+    → Does graph ops key st op.reserved (change_under (key c) (looked (below (key c) (spell graph)) (Two pairs.Rename p q)).1) (made_at graph (Two pairs.Rename p q) st op.reserved)
 does_rename graph ops key c op st o p q s f rem fits u = go (common (parent_of p) (parent_of q)) refl (subst (λ (x : Form). StandsWell graph st.node x st) rem f.well) (ap (λ (x : Form). next_on graph x st) (sym rem) ∙ f.next)
   where
     loc : Located (numbers graph) (key c) st
@@ -209,7 +210,7 @@ does_rename graph ops key c op st o p q s f rem fits u = go (common (parent_of p
             rename_finish graph f.is_graph st.node s p q st (from_more p q fits) (to_more p q fits) u stops
             ∙ ap (λ (t : Map Shape). rename_row (resolve_dir t (parent_of p)) (resolve_dir t (parent_of q)) (t p) (is_end (after_prefix p q)) (t q) (is_end (after_prefix (parent_of p) (parent_of q)) || not (is_full (t (parent_of q))))) (sym (below_is graph (key c) st.node loc.here))
 
-        vic : VictimAt graph (Rename p q) st
+        vic : VictimAt graph (Two pairs.Rename p q) st
         vic = subst (λ (x : Form). VictimAt graph x st) rem f.victim
 
         by : (b : Bool) → (rename_at graph p q st).1 ≡ b → Does graph ops key st op.reserved (ch row.1) (moved_made graph st (last_of p) (last_of q) op.reserved (rename_at graph p q st).0 (rename_at graph p q st).1 (graph.kid st.source.node (last_of p)))
@@ -248,7 +249,7 @@ does graph ops key c op st o s f fits u = go op.remaining refl
         (λ h. dir_of_none (parent_of p) (graph.shape st.node) h)
         (λ h. (head_stops graph st.node st.behind (parent_of p) (in_move graph e (last_of p) st) o n).1 (arrived (parent_of p) (graph.shape st.node) h))
         (in_row e (dir_error (parent_of p) (graph.shape st.node)) (is_full (graph.shape st.node)) (entry_shape graph st.node (last_of p))) refl
-    by (Rename p q) i fit n = does_rename graph ops key c op st o p q s f i fit u
+    by (Two pairs.Rename p q) i fit n = does_rename graph ops key c op st o p q s f i fit u
 
     go : (rem : Form) → op.remaining ≡ rem → Does graph ops key st op.reserved (change_under (key c) (looked (below (key c) (spell graph)) op.remaining).1) (made_at graph op.remaining st op.reserved)
     go rem i = subst (λ (x : Form). Does graph ops key st op.reserved (change_under (key c) (looked (below (key c) (spell graph)) x).1) (made_at graph x st op.reserved)) (sym i) (by rem i (ap by_text (sym i) ∙ fits) (ap (λ (x : Form). next_on graph x st) (sym i) ∙ f.next))

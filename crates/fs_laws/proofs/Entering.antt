@@ -4,7 +4,8 @@ use Rattle.fs_names.specs.Keys.{Key, after_prefix, parent_of, last_of, has_more}
 use Rattle.fs_names.specs.Names.{Name, same_name}
 use Rattle.fs_names.specs.Parts.{common, left, is_end}
 use Rattle.fs_names.specs.Shapes.{Shape, Dir, File, is_full}
-use Rattle.fs_seq.specs.Forms.{form, Form, On, In, Rename, by_text}
+use Rattle.fs_seq.specs.Forms.{form, Form, On, In, Two, by_text}
+use Rattle.fs_seq.specs.declared.target.PairCall.TheVariants as pairs
 use Rattle.fs_seq.specs.Rows.{on_row, Edit, Keep, Add, Remove, in_row}
 use Rattle.fs_seq.specs.declared.errno.Errno.{Errno}
 use Rattle.fs_seq.specs.declared.reply.Reply.{Reply}
@@ -25,7 +26,7 @@ pub record ToMove (graph : Graph) (op : Record) (moved : ℕ) : Type 0 where
   pub p : Key
   pub q : Key
   pub on : op.stand ≡ Some st
-  pub remaining : op.remaining ≡ Rename p q
+  pub remaining : op.remaining ≡ Two pairs.Rename p q
   pub way : common (parent_of p) (parent_of q) ≡ []
   pub kid : graph.kid st.source.node (last_of p) ≡ Some moved
 
@@ -59,7 +60,7 @@ dir_some (Some (Dir names)) rest m e = e
 pub to_move : (graph : Graph) (op : Record) (moved : ℕ) → next graph op ≡ Finishes (Some moved) → ToMove graph op moved
 to_move graph op moved e = go op.phase (by_text (form op.call)) op.stand refl e
   where
-    at_fork : (st : Stand) (p q : Key) → op.stand ≡ Some st → op.remaining ≡ Rename p q → common (parent_of p) (parent_of q) ≡ [] → fork_move graph p q st ≡ Finishes (Some moved) → ToMove graph op moved
+    at_fork : (st : Stand) (p q : Key) → op.stand ≡ Some st → op.remaining ≡ Two pairs.Rename p q → common (parent_of p) (parent_of q) ≡ [] → fork_move graph p q st ≡ Finishes (Some moved) → ToMove graph op moved
     at_fork st p q on rem way f =
         let at_dest : Move = dir_then (graph.shape st.dest.node) (rename_move graph p q st) in
         let rest : Move = dir_then (graph.shape st.source.node) (first_of (head_move graph st.dest.node st.dest.behind (left st.dest.walked (parent_of q))) at_dest) in
@@ -74,7 +75,7 @@ to_move graph op moved e = go op.phase (by_text (form op.call)) op.stand refl e
     there : (st : Stand) (rem : Form) → op.stand ≡ Some st → op.remaining ≡ rem → target rem ≡ [] → target_move graph rem st ≡ Finishes (Some moved) → ToMove graph op moved
     there st (On c p) on i w f = absurd (none_is f)
     there st (In c p) on i w f = absurd (none_is (take_over (victim_of c (entry_shape graph st.node (last_of p))) (graph.kid st.node (last_of p)) st.victim None (Some moved) f))
-    there st (Rename p q) on i w f = at_fork st p q on i w f
+    there st (Two pairs.Rename p q) on i w f = at_fork st p q on i w f
 
     stands : (st : Stand) → op.stand ≡ Some st → next_on graph op.remaining st ≡ Finishes (Some moved) → ToMove graph op moved
     stands st on f =
@@ -163,9 +164,9 @@ finish_entries graph is op o well m a b x e = go op.phase (by_text (form op.call
     there : (st : Stand) (rem : Form) → op.stand ≡ Some st → StandsWell graph st.node rem st → next_on graph rem st ≡ Finishes o → (made_at graph rem st op.reserved).graph.kid a x ≡ Some b → NewEntry graph op o a b x
     there st (On c p) on w n f = Same_entry (sym (ap (λ (k : Kids). k a x) (on_entries graph st.node op.reserved (on_row c (path_error p (graph.shape st.node)) (graph.shape st.node)))) ∙ f)
     there st (In c p) on w n f = in_entries graph op o st.node (last_of p) (in_row c (dir_error (parent_of p) (graph.shape st.node)) (is_full (graph.shape st.node)) (entry_shape graph st.node (last_of p))) op.reserved refl a b x f
-    there st (Rename p q) on w n f = by (target (Rename p q)) refl w n f
+    there st (Two pairs.Rename p q) on w n f = by (target (Two pairs.Rename p q)) refl w n f
       where
-        by : (l : Key) → target (Rename p q) ≡ l → ForkedAt graph st.node p q st l → first_of (head_move graph st.node st.behind l) (fork_move graph p q st) ≡ Finishes o → (rename_made graph p q st op.reserved l).graph.kid a x ≡ Some b → NewEntry graph op o a b x
+        by : (l : Key) → target (Two pairs.Rename p q) ≡ l → ForkedAt graph st.node p q st l → first_of (head_move graph st.node st.behind l) (fork_move graph p q st) ≡ Finishes o → (rename_made graph p q st op.reserved l).graph.kid a x ≡ Some b → NewEntry graph op o a b x
         by [] i w n f = rename_entries graph is op o p q st on w ((head_stops graph st.node st.behind [] (fork_move graph p q st) o n).1 refl) (rename_at graph p q st).1 refl (graph.kid st.source.node (last_of p)) refl (rename_at graph p q st).0 a b x f
         by (y ∷ l) i w n f = Same_entry f
 

@@ -5,7 +5,8 @@ use Rattle.fs_names.specs.Keys.{Key, after_prefix, parent_of, last_of, has_more}
 use Rattle.fs_names.specs.Parts.{common, left, is_end}
 use Rattle.fs_names.specs.Names.{Name}
 use Rattle.fs_names.specs.Shapes.{Shape, Dir, File}
-use Rattle.fs_seq.specs.Forms.{form, Form, On, In, Rename, by_text}
+use Rattle.fs_seq.specs.Forms.{form, Form, On, In, Two, by_text}
+use Rattle.fs_seq.specs.declared.target.PairCall.TheVariants as pairs
 use Rattle.fs_seq.specs.Maps.{Map}
 use Rattle.fs_seq.specs.declared.errno.Errno.{Errno}
 use Rattle.fs_seq.specs.declared.reply.Reply.{Reply}
@@ -188,7 +189,7 @@ behind_of_move graph rem st n m = walk (head_leaves graph st.node st.behind (tar
         none : Finishes None ≡ Leaves n → ⊥
         none e = cc
     there (In c p) i e = absurd (never_take (victim_of c (entry_shape graph st.node (last_of p))) (graph.kid st.node (last_of p)) st.victim None n e)
-    there (Rename p q) i e =
+    there (Two pairs.Rename p q) i e =
         let rest : Move = dir_then (graph.shape st.source.node) (first_of (head_move graph st.dest.node st.dest.behind (left st.dest.walked (parent_of q))) (dir_then (graph.shape st.dest.node) (rename_move graph p q st))) in
         source p q i (head_leaves graph st.source.node st.source.behind (left st.source.walked (parent_of p)) rest n (dir_leaves (graph.shape st.node) (first_of (head_move graph st.source.node st.source.behind (left st.source.walked (parent_of p))) rest) n e))
 
@@ -351,7 +352,7 @@ head_well graph n w w2 h h2 whole (inr (i, j)) e f = (ap (at graph.kid n) i ∙ 
 pub well_left : (graph : Graph) (st new : Stand) (n : ℕ) (remaining : Form) → Lets st new n → StandsWell graph st.node remaining st → StandsWell graph new.node remaining new
 well_left graph st new n (On c p) l w = w
 well_left graph st new n (In c p) l w = w
-well_left graph st new n (Rename p q) l w = subst (λ (m : ℕ). StandsWell graph m (Rename p q) new) (sym l.node) (go (common (parent_of p) (parent_of q)) w)
+well_left graph st new n (Two pairs.Rename p q) l w = subst (λ (m : ℕ). StandsWell graph m (Two pairs.Rename p q) new) (sym l.node) (go (common (parent_of p) (parent_of q)) w)
   where
     go : (k : Key) → ForkedAt graph st.node p q st k → ForkedAt graph st.node p q new k
     go (x ∷ k) w = w
@@ -363,7 +364,7 @@ well_left graph st new n (Rename p q) l w = subst (λ (m : ℕ). StandsWell grap
 pub victim_left : (graph : Graph) (st new : Stand) (remaining : Form) → new.node ≡ st.node → (new.victim ≡ st.victim) × (new.dest.node ≡ st.dest.node) × (new.dest.walked ≡ st.dest.walked) → VictimAt graph remaining st → VictimAt graph remaining new
 victim_left graph st new (On c p) node same w = w
 victim_left graph st new (In c p) node same w = λ v e. ap (λ (m : ℕ). graph.kid m (last_of p)) node ∙ w v (sym same.0 ∙ e)
-victim_left graph st new (Rename p q) node same w = λ v e. (ap (λ (m : ℕ). graph.kid m (last_of q)) same.1 ∙ (w v (sym same.0 ∙ e)).0, (w v (sym same.0 ∙ e)).1 ∙ sym same.2)
+victim_left graph st new (Two pairs.Rename p q) node same w = λ v e. (ap (λ (m : ℕ). graph.kid m (last_of q)) same.1 ∙ (w v (sym same.0 ∙ e)).0, (w v (sym same.0 ∙ e)).1 ∙ sym same.2)
 
 pub keeps_let_go : (n : ℕ) → StepKeeps (LetGo n)
 keeps_let_go n old new seat inv (c, op, moves, same) = subst Invariant (sym same) (go (lets_go old.graph op n moves.2))

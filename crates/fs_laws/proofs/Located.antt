@@ -6,7 +6,8 @@ use Rattle.fs_names.specs.Names.{Name}
 use Rattle.fs_names.specs.Parts.{is_end, HasNames}
 use Rattle.fs_names.specs.Shapes.{Shape, Dir, File, is_full, names_of}
 use Rattle.fs_seq.specs.Changes.{Change, moved_by, changed, resolve_next, resolve, resolve_dir, content_change, edit_change, rename_writes, move_change, in_looked, rename_looked, looked, unless, outcome, after}
-use Rattle.fs_seq.specs.Forms.{Form, On, In, Rename, by_text, under, Fits}
+use Rattle.fs_seq.specs.Forms.{Form, On, In, Two, by_text, under, Fits}
+use Rattle.fs_seq.specs.declared.target.PairCall.TheVariants as pairs
 use Rattle.fs_seq.specs.declared.target.EntryCall.{EntryCall}
 use Rattle.fs_seq.proofs.RowNames.{if_below}
 use Rattle.fs_seq.specs.Maps.{Map, below, act, act_at, move, moved_to, moved_from, write_all}
@@ -64,16 +65,16 @@ pub in_more : (c : EntryCall) (p : Key) → by_text (In c p) ≡ None → HasNam
 in_more c [] e = cc
 in_more c (x ∷ p) e = tt
 
-pub from_more : (p q : Key) → by_text (Rename p q) ≡ None → HasNames p
+pub from_more : (p q : Key) → by_text (Two pairs.Rename p q) ≡ None → HasNames p
 from_more [] q e = cc
 from_more (x ∷ p) q e = tt
 
-pub to_more : (p q : Key) → by_text (Rename p q) ≡ None → HasNames q
+pub to_more : (p q : Key) → by_text (Two pairs.Rename p q) ≡ None → HasNames q
 to_more [] q e = cc
 to_more (x ∷ p) [] e = cc
 to_more (x ∷ p) (y ∷ q) e = tt
 
-pub below_text : (p q : Key) → HasNames p → HasNames q → by_text (Rename p q) ≡ if_below (after_prefix p q)
+pub below_text : (p q : Key) → HasNames p → HasNames q → by_text (Two pairs.Rename p q) ≡ if_below (after_prefix p q)
 below_text [] q m n = absurd m
 below_text (x ∷ p) [] m n = absurd n
 below_text (x ∷ p) (y ∷ q) m n = refl
@@ -89,7 +90,7 @@ more_under (x ∷ k) p m = tt
 pub fits_under : (k : Key) (call : Form) → Fits call → Fits (under k call)
 fits_under k (On c p) f = refl
 fits_under k (In c p) f = in_text c (k ++ p) (more_under k p (in_more c p f))
-fits_under k (Rename p q) f =
+fits_under k (Two pairs.Rename p q) f =
     let m : HasNames p = from_more p q f in
     let n : HasNames q = to_more p q f in
     below_text (k ++ p) (k ++ q) (more_under k p m) (more_under k q n) ∙ ap if_below (prefix_both k p q) ∙ sym (below_text p q m n) ∙ f
@@ -143,7 +144,7 @@ looked_located tree k (On c p) at fits =
 looked_located tree k (In c p) at fits =
     let m : HasNames p = in_more c p fits in
     ap₂ (in_looked tree c (k ++ p)) (dir_under k p m) (last_under k p m) ∙ in_under tree k c p (parent_of p) (last_of p) at
-looked_located tree k (Rename p q) at fits =
+looked_located tree k (Two pairs.Rename p q) at fits =
     let m : HasNames p = from_more p q fits in
     let n : HasNames q = to_more p q fits in
     ap₂ (λ (d : Key) (x : Name). rename_looked tree (k ++ p) (k ++ q) d x (parent_of (k ++ q)) (last_of (k ++ q))) (dir_under k p m) (last_under k p m)

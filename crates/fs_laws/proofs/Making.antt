@@ -5,7 +5,8 @@ use Rattle.fs_names.specs.Names.{Name, same_name, has_name, inserted_name, remov
 use Rattle.fs_names.specs.Parts.{is_end, common, left}
 use Rattle.fs_names.specs.Shapes.{Shape, Dir, File, is_full, names_of}
 use Rattle.fs_seq.specs.Changes.{Change, changed, resolve_dir, looked, edit_change, reply, unless}
-use Rattle.fs_seq.specs.Forms.{Form, On, In, Rename, under, new_shape, Fits}
+use Rattle.fs_seq.specs.Forms.{Form, On, In, Two, under, new_shape, Fits}
+use Rattle.fs_seq.specs.declared.target.PairCall.TheVariants as pairs
 use Rattle.fs_seq.specs.declared.target.EntryCall.{EntryCall}
 use Rattle.fs_seq.specs.declared.target.EntryCall.TheVariants.{Mkdir, Mknod, Unlink, Rmdir}
 use Rattle.fs_seq.specs.Maps.{Map, put}
@@ -137,10 +138,10 @@ looked_reply graph is n s (In c p) st reserved o here u fits well e =
     in_reply graph st.node (last_of p) reserved (in_row c (dir_error (parent_of p) (graph.shape st.node)) (is_full (graph.shape st.node)) (entry_shape graph st.node (last_of p)))
     ∙ ap (λ (m : ℕ). (in_row c (dir_error (parent_of p) (graph.shape m)) (is_full (graph.shape m)) (entry_shape graph m (last_of p))).0) here
     ∙ ap (λ (r : Reply × Edit). r.0) (in_finish graph is n s c p (in_more c p fits) u (subst (λ (m : ℕ). Stops graph m (parent_of p)) here (head_stops graph st.node st.behind (parent_of p) (target_move graph (In c p) st) o e).0))
-looked_reply graph is n s (Rename p q) st reserved o here u fits well e = go (common (parent_of p) (parent_of q)) refl well e
+looked_reply graph is n s (Two pairs.Rename p q) st reserved o here u fits well e = go (common (parent_of p) (parent_of q)) refl well e
   where
     go : (l : Key) → common (parent_of p) (parent_of q) ≡ l → ForkedAt graph n p q st l → first_of (head_move graph st.node st.behind l) (fork_move graph p q st) ≡ Finishes o
-        → (rename_made graph p q st reserved l).reply ≡ (looked (spell_from graph n) (Rename p q)).0
+        → (rename_made graph p q st reserved l).reply ≡ (looked (spell_from graph n) (Two pairs.Rename p q)).0
     go [] i w f =
         let moves : fork_move graph p q st ≡ Finishes o = (head_stops graph st.node st.behind [] (fork_move graph p q st) o f).1 refl in
         moved_reply graph st (last_of p) (last_of q) reserved (rename_at graph p q st).0 (rename_at graph p q st).1 (graph.kid st.source.node (last_of p))

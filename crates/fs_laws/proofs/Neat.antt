@@ -4,7 +4,8 @@ use Rattle.fs_names.specs.Keys.{Key, parent_of}
 use Rattle.fs_names.specs.Names.{Name}
 use Rattle.fs_names.specs.Parts.{HasNames, common, left}
 use Rattle.fs_names.specs.Shapes.{Dir}
-use Rattle.fs_seq.specs.Forms.{Form, On, In, Rename}
+use Rattle.fs_seq.specs.Forms.{Form, On, In, Two}
+use Rattle.fs_seq.specs.declared.target.PairCall.TheVariants as pairs
 use Rattle.fs_seq.specs.declared.reply.Reply.{Reply}
 use Rattle.fs_nodes.specs.Graphs.{Graph}
 use Rattle.fs_moves.specs.Moves.{target, took, head_took, behind_of, left_behind, took_by, inner}
@@ -42,7 +43,7 @@ pub record NeatIn (p : Key) (st : Stand) : Type 0 where
 abbrev pub Neat : Graph → Form → Stand → Type 0
 Neat graph (On c p) st = IsPlain st
 Neat graph (In c p) st = NeatIn p st
-Neat graph (Rename p q) st = NeatAt graph p st (target (Rename p q))
+Neat graph (Two pairs.Rename p q) st = NeatAt graph p st (target (Two pairs.Rename p q))
 
 -- no parent is held behind
 pub record IsClosed (st : Stand) : Type 0 where
@@ -58,7 +59,7 @@ pub record NeatOp (graph : Graph) (op : Record) (st : Stand) : Type 0 where
 pub neat_fresh : (graph : Graph) (remaining : Form) (n : ℕ) (behind : Option ℕ) → Neat graph remaining (stand_at n behind)
 neat_fresh graph (On c p) n behind = record { source = refl; dest = refl; victim = refl }
 neat_fresh graph (In c p) n behind = record { source = refl; dest = refl; victim = λ h. refl }
-neat_fresh graph (Rename p q) n behind = go (common (parent_of p) (parent_of q))
+neat_fresh graph (Two pairs.Rename p q) n behind = go (common (parent_of p) (parent_of q))
   where
     go : (l : Key) → NeatAt graph p (stand_at n behind) l
     go [] = record { dest = λ h. absurd h; victim = λ v e. cc }
@@ -74,7 +75,7 @@ there_by old new p st f s = let d : (ns : List Name) × (new.shape st.source.nod
 pub neat_by : (old new : Graph) (remaining : Form) (st : Stand) → DirStays old new st.source.node → Neat old remaining st → Neat new remaining st
 neat_by old new (On c p) st f w = w
 neat_by old new (In c p) st f w = w
-neat_by old new (Rename p q) st f w = go (common (parent_of p) (parent_of q)) w
+neat_by old new (Two pairs.Rename p q) st f w = go (common (parent_of p) (parent_of q)) w
   where
     go : (l : Key) → NeatAt old p st l → NeatAt new p st l
     go [] w = record { dest = λ h. there_by old new p st f (w.dest h); victim = λ v e. there_by old new p st f (w.victim v e) }
@@ -93,7 +94,7 @@ pub record SameHeads (old new : Stand) : Type 0 where
 pub neat_heads : (graph : Graph) (remaining : Form) (old new : Stand) → SameHeads old new → Neat graph remaining old → Neat graph remaining new
 neat_heads graph (On c p) old new s w = record { source = s.source ∙ w.source; dest = s.dest ∙ w.dest; victim = s.victim ∙ w.victim }
 neat_heads graph (In c p) old new s w = record { source = s.source ∙ w.source; dest = s.dest ∙ w.dest; victim = λ h. s.victim ∙ w.victim h }
-neat_heads graph (Rename p q) old new s w = go (common (parent_of p) (parent_of q)) w
+neat_heads graph (Two pairs.Rename p q) old new s w = go (common (parent_of p) (parent_of q)) w
   where
     there : SourceThere graph p old → SourceThere graph p new
     there t = record { arrived = ap (λ (k : Key). left k (parent_of p)) s.source ∙ t.arrived; names = t.names; dir = ap graph.shape s.node ∙ t.dir }
@@ -111,12 +112,12 @@ left_same st None None = record { source = refl; node = refl; dest = refl; victi
 pub plain_of : (graph : Graph) (remaining : Form) (st : Stand) (x : Name) (l : Key) → target remaining ≡ x ∷ l → Neat graph remaining st → (st.source.walked ≡ []) × (st.dest.walked ≡ []) × (st.victim ≡ None)
 plain_of graph (On c p) st x l e w = (w.source, w.dest, w.victim)
 plain_of graph (In c p) st x l e w = (w.source, w.dest, w.victim (subst HasNames (sym e) tt))
-plain_of graph (Rename p q) st x l e w = let i : IsPlain st = subst (NeatAt graph p st) e w in (i.source, i.dest, i.victim)
+plain_of graph (Two pairs.Rename p q) st x l e w = let i : IsPlain st = subst (NeatAt graph p st) e w in (i.source, i.dest, i.victim)
 
-pub in_turn : (graph : Graph) (p q : Key) (st : Stand) (remaining : Form) → remaining ≡ Rename p q → common (parent_of p) (parent_of q) ≡ [] → Neat graph remaining st → InTurn graph p st
+pub in_turn : (graph : Graph) (p q : Key) (st : Stand) (remaining : Form) → remaining ≡ Two pairs.Rename p q → common (parent_of p) (parent_of q) ≡ [] → Neat graph remaining st → InTurn graph p st
 in_turn graph p q st remaining rem way w = subst (NeatAt graph p st) way (subst (λ (f : Form). Neat graph f st) rem w)
 
-of_turn : (graph : Graph) (p q : Key) (st : Stand) (remaining : Form) → remaining ≡ Rename p q → common (parent_of p) (parent_of q) ≡ [] → InTurn graph p st → Neat graph remaining st
+of_turn : (graph : Graph) (p q : Key) (st : Stand) (remaining : Form) → remaining ≡ Two pairs.Rename p q → common (parent_of p) (parent_of q) ≡ [] → InTurn graph p st → Neat graph remaining st
 of_turn graph p q st remaining rem way w = subst (λ (f : Form). Neat graph f st) (sym rem) (subst (NeatAt graph p st) (sym way) w)
 
 -- a head that is on its way has not arrived

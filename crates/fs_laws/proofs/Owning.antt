@@ -3,7 +3,8 @@ use Rattle.std.proofs.Common.{◌≡◌, ℕ, [], ◌∷◌, Option, Some, None,
 use Rattle.fs_names.specs.Keys.{Key, parent_of, last_of}
 use Rattle.fs_names.specs.Parts.{common}
 use Rattle.fs_names.specs.Shapes.{Shape, Dir}
-use Rattle.fs_seq.specs.Forms.{Form, On, In, Rename}
+use Rattle.fs_seq.specs.Forms.{Form, On, In, Two}
+use Rattle.fs_seq.specs.declared.target.PairCall.TheVariants as pairs
 use Rattle.fs_nodes.specs.Graphs.{Graph, at, numbers, IsGraph}
 use Rattle.fs_moves.specs.Finishes.{Made}
 use Rattle.fs_moves.specs.Records.{Holds, Record, Stand}
@@ -29,7 +30,7 @@ reached_used graph is k n e = go k 0 (Dir is.root.0) is.root.1 e
 pub well_by : (old new : Graph) (k : Key) (st : Stand) (remaining : Form) → Located (numbers new) k st → StandsWell old st.node remaining st → StandsWell new st.node remaining st
 well_by old new k st (On c p) loc w = w
 well_by old new k st (In c p) loc w = w
-well_by old new k st (Rename p q) loc w = go (common (parent_of p) (parent_of q)) w
+well_by old new k st (Two pairs.Rename p q) loc w = go (common (parent_of p) (parent_of q)) w
   where
     go : (l : Key) → ForkedAt old st.node p q st l → ForkedAt new st.node p q st l
     go (x ∷ l) w = w
@@ -50,7 +51,7 @@ unreached old new linked st a n differs loose l e = go (a.reach l n e)
 
 number_by : (old new : Graph) (linked : Option ℕ) (st : Stand) (remaining : Form) (reserved : Option ℕ) → Altered old new linked st → ((n : ℕ) → reserved ≡ Some n → linked ≡ Some n → ⊥) → NumberFor old remaining reserved → NumberFor new remaining reserved
 number_by old new linked st (On c p) reserved a differs w = w
-number_by old new linked st (Rename p q) reserved a differs w = w
+number_by old new linked st (Two pairs.Rename p q) reserved a differs w = w
 number_by old new linked st (In c p) reserved a differs w = λ shape e.
     (let h : (m : ℕ) × (reserved ≡ Some m) × (old.shape m ≡ Some shape) × ((key : Key) → numbers old key ≡ Some m → ⊥) = w shape e in
     (h.0, h.1, a.shapes.loose h.0 (λ r. h.3 r.0 r.1) ∙ h.2, unreached old new linked st a h.0 (differs h.0 h.1) h.3))
@@ -58,7 +59,7 @@ number_by old new linked st (In c p) reserved a differs w = λ shape e.
 victim_by : (old new : Graph) (linked : Option ℕ) (st : Stand) (k : Key) (mine : Stand) (remaining : Form) → Altered old new linked st → Located (numbers new) k mine → ((n : ℕ) → Holds mine n → Holds st n → ⊥) → VictimAt old remaining mine → VictimAt new remaining mine
 victim_by old new linked st k mine (On c p) a loc apart w = w
 victim_by old new linked st k mine (In c p) a loc apart w = λ v e. a.kid_same mine.node (last_of p) (λ h. apart mine.node (inl refl) h) ∙ w v e
-victim_by old new linked st k mine (Rename p q) a loc apart w = λ v e. (a.kid_same mine.dest.node (last_of q) (λ h. apart mine.dest.node (dest_held (numbers new) k mine loc) h) ∙ (w v e).0, (w v e).1)
+victim_by old new linked st k mine (Two pairs.Rename p q) a loc apart w = λ v e. (a.kid_same mine.dest.node (last_of q) (λ h. apart mine.dest.node (dest_held (numbers new) k mine loc) h) ∙ (w v e).0, (w v e).1)
 
 -- another call
 pub own_other : (old new : Graph) (linked : Option ℕ) (st : Stand) (k : Key) (q : Record) → Altered old new linked st → Own old q

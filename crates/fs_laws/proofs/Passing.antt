@@ -6,7 +6,8 @@ use Rattle.fs_names.specs.Names.{Name, same_name, inserted_name, removed_name}
 use Rattle.fs_names.specs.Parts.{is_end, HasNames}
 use Rattle.fs_names.specs.Shapes.{Shape, Dir, File, is_full, names_of}
 use Rattle.fs_seq.specs.Changes.{Change, moved_by, changed, resolve, resolve_dir, content_change, edit_change, rename_writes, move_change, in_looked, rename_looked, looked, unless, outcome, reply, after}
-use Rattle.fs_seq.specs.Forms.{Form, On, In, Rename, by_text, under, Fits}
+use Rattle.fs_seq.specs.Forms.{Form, On, In, Two, by_text, under, Fits}
+use Rattle.fs_seq.specs.declared.target.PairCall.TheVariants as pairs
 use Rattle.fs_seq.specs.declared.target.EntryCall.{EntryCall}
 use Rattle.fs_seq.specs.declared.target.EntryCall.TheVariants.{Mkdir, Mknod, Unlink, Rmdir}
 use Rattle.fs_seq.specs.Maps.{Map, below, act, put, move, write_all}
@@ -193,7 +194,7 @@ prefix_off k p q (Some (x ∷ r)) m e b h = prefix_before k q (parent_of (x ∷ 
 abbrev answer_of : Key → Key → Key → Name → Key → Name → List Name → List Name → Reply × Bool → Reply × Change
 answer_of p q d x e y names others r = (r.0, move_change r.1 (rename_writes (is_end (after_prefix d e)) d names x e others y) p q)
 
-rename_agree : (k : Key) (a b : Map Shape) (p q d e : Key) (x y : Name) → d ≡ parent_of p → e ≡ parent_of q → HasNames p → HasNames q → Agree k a b → Blind a (Rename p q) k
+rename_agree : (k : Key) (a b : Map Shape) (p q d e : Key) (x y : Name) → d ≡ parent_of p → e ≡ parent_of q → HasNames p → HasNames q → Agree k a b → Blind a (Two pairs.Rename p q) k
     → rename_looked a p q d x e y ≡ rename_looked b p q d x e y
 rename_agree k a b p q d e x y is_d is_e mp mq g h = by (resolve_dir a d) refl
   where
@@ -258,12 +259,12 @@ outcome_agree k a b (In c p) g h = go p g h
     go : (p : Key) → Agree k a b → Blind a (In c p) k → outcome a (In c p) ≡ outcome b (In c p)
     go [] g h = refl
     go (x ∷ p) g h = in_agree k a b c (x ∷ p) tt g h
-outcome_agree k a b (Rename p q) g h = go p q g h
+outcome_agree k a b (Two pairs.Rename p q) g h = go p q g h
   where
-    go : (p q : Key) → Agree k a b → Blind a (Rename p q) k → outcome a (Rename p q) ≡ outcome b (Rename p q)
+    go : (p q : Key) → Agree k a b → Blind a (Two pairs.Rename p q) k → outcome a (Two pairs.Rename p q) ≡ outcome b (Two pairs.Rename p q)
     go [] q g h = refl
     go (x ∷ p) [] g h = refl
-    go (x ∷ p) (y ∷ q) g h = ap (unless (by_text (Rename (x ∷ p) (y ∷ q)))) (rename_agree k a b (x ∷ p) (y ∷ q) (parent_of (x ∷ p)) (parent_of (y ∷ q)) (last_of (x ∷ p)) (last_of (y ∷ q)) refl refl tt tt g h)
+    go (x ∷ p) (y ∷ q) g h = ap (unless (by_text (Two pairs.Rename (x ∷ p) (y ∷ q)))) (rename_agree k a b (x ∷ p) (y ∷ q) (parent_of (x ∷ p)) (parent_of (y ∷ q)) (last_of (x ∷ p)) (last_of (y ∷ q)) refl refl tt tt g h)
 
 -- looks_into reads kinds alone
 same_kind_kind : (s t u v : Option Shape) → kind s ≡ kind u → kind t ≡ kind v → same_kind s t ≡ same_kind u v
@@ -306,7 +307,7 @@ victim_kind c (Some (File t)) None h = cc
 pub blind_agree : (k j : Key) (a b : Map Shape) (call : Form) → Agree k a b → Fits call → Blind a call k → Blind a call j → Blind b call j
 blind_agree k j a b (On c p) g f h i = i
 blind_agree k j a b (In c p) g f h i = (i.0, λ v. i.1 (victim_kind c (a p) (b p) (kind_agree k a b p g (in_more c p f) h.0) ∙ v))
-blind_agree k j a b (Rename p q) g f h i = (
+blind_agree k j a b (Two pairs.Rename p q) g f h i = (
   i.0,
   λ e.
       let ea : resolve_dir a (parent_of p) ≡ None = dir_agree k (parent_of p) a b g h.0 ∙ e in
@@ -361,7 +362,7 @@ looked_root tree (In c p) fits = go (resolve_dir tree (parent_of p)) refl
     go : (e : Option Errno) → resolve_dir tree (parent_of p) ≡ e → kind (changed (edit_change (parent_of p) (names_of (tree (parent_of p))) (last_of p) p (in_row c e (is_full (tree (parent_of p))) (tree p)).1) tree []) ≡ kind (tree [])
     go (Some e) i = refl
     go None i = edit (in_there c (is_full (tree (parent_of p))) (tree p)).1 i
-looked_root tree (Rename p q) fits = go (resolve_dir tree (parent_of p)) (resolve_dir tree (parent_of q)) refl refl
+looked_root tree (Two pairs.Rename p q) fits = go (resolve_dir tree (parent_of p)) (resolve_dir tree (parent_of q)) refl refl
   where
     two : (b : Bool) (names others : List Name) → resolve_dir tree (parent_of p) ≡ None → resolve_dir tree (parent_of q) ≡ None → kind (write_all (rename_writes b (parent_of p) names (last_of p) (parent_of q) others (last_of q)) tree []) ≡ kind (tree [])
     two true names others i j = put_kind (parent_of p) (Some (Dir (inserted_name (last_of q) (removed_name (last_of p) names)))) tree (root_dir tree (parent_of p) i)

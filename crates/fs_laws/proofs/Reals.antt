@@ -4,7 +4,8 @@ use Rattle.fs_names.specs.Keys.{Key, after_prefix, parent_of, last_of, has_more}
 use Rattle.fs_names.specs.Names.{Name, has_name}
 use Rattle.fs_names.specs.Parts.{left, is_end}
 use Rattle.fs_names.specs.Shapes.{Shape, Dir, File, is_full}
-use Rattle.fs_seq.specs.Forms.{Rename, Fits}
+use Rattle.fs_seq.specs.Forms.{Two, Fits}
+use Rattle.fs_seq.specs.declared.target.PairCall.TheVariants as pairs
 use Rattle.fs_seq.specs.Rows.{to_row}
 use Rattle.fs_nodes.specs.Graphs.{Graph, at, then_at, entry_shape, IsGraph}
 use Rattle.fs_moves.specs.Moves.{Move, Finishes, first_of, head_move, take_if, same_kind, fork_move, rename_move, dir_then, dir_error, rename_at, there_by, moved_node}
@@ -77,7 +78,7 @@ at_entries graph is p q st o f es ed e =
     dir_then_is (graph.shape st.dest.node) dd.0 (rename_move graph p q st) o dd.1 d
 
 -- a victim that the kinds ask for is held
-pub victim_held : (graph : Graph) (p q : Key) (st : Stand) (o : Option ℕ) (v : ℕ) → VictimAt graph (Rename p q) st → rename_move graph p q st ≡ Finishes o → graph.kid st.dest.node (last_of q) ≡ Some v
+pub victim_held : (graph : Graph) (p q : Key) (st : Stand) (o : Option ℕ) (v : ℕ) → VictimAt graph (Two pairs.Rename p q) st → rename_move graph p q st ≡ Finishes o → graph.kid st.dest.node (last_of q) ≡ Some v
     → (same_kind (entry_shape graph st.source.node (last_of p)) (entry_shape graph st.dest.node (last_of q)) && not (is_end (after_prefix p q)) && not (has_more (after_prefix q p))) ≡ true → st.victim ≡ Some v
 victim_held graph p q st o v victim e kid want =
     let b : Bool = same_kind (entry_shape graph st.source.node (last_of p)) (entry_shape graph st.dest.node (last_of q)) && not (is_end (after_prefix p q)) && not (has_more (after_prefix q p)) in
@@ -87,7 +88,7 @@ victim_held graph p q st o v victim e kid want =
     let z : ◌≡◌ {A = Option ℕ} (Some w.0) (Some v) = sym (victim w.0 w.1).0 ∙ kid in
     w.1 ∙ z
 
-pub real_of : (graph : Graph) → IsGraph graph → (p q : Key) (st : Stand) (o : Option ℕ) → Fits (Rename p q) → Forked graph st.node p q st → VictimAt graph (Rename p q) st → fork_move graph p q st ≡ Finishes o → (rename_at graph p q st).1 ≡ true
+pub real_of : (graph : Graph) → IsGraph graph → (p q : Key) (st : Stand) (o : Option ℕ) → Fits (Two pairs.Rename p q) → Forked graph st.node p q st → VictimAt graph (Two pairs.Rename p q) st → fork_move graph p q st ≡ Finishes o → (rename_at graph p q st).1 ≡ true
     → Real graph p q st
 real_of graph is p q st o fits f victim e moves = record {
   source_is = f.source_is ∙ ap (λ (l : Key). st.source.walked ++ l) (arrived (left st.source.walked (parent_of p)) (graph.shape st.source.node) w.source) ∙ append-nil st.source.walked;

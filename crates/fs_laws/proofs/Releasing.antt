@@ -5,7 +5,8 @@ use Rattle.fs_names.specs.Keys.{Key, parent_of, last_of}
 use Rattle.fs_names.specs.Names.{Name, has_name}
 use Rattle.fs_names.specs.Parts.{common}
 use Rattle.fs_names.specs.Shapes.{Shape, Dir}
-use Rattle.fs_seq.specs.Forms.{Form, On, In, Rename}
+use Rattle.fs_seq.specs.Forms.{Form, On, In, Two}
+use Rattle.fs_seq.specs.declared.target.PairCall.TheVariants as pairs
 use Rattle.fs_nodes.specs.Graphs.{Graph, at, then_at, numbers, spell, IsGraph, released_in, reserved_in}
 use Rattle.fs_moves.specs.Records.{Record, Stand}
 use Rattle.fs_laws.specs.Invariants.{ForkedAt, StandsWell, NumberFor, VictimAt, HasSpare, Own}
@@ -18,7 +19,7 @@ use Rattle.fs_laws.proofs.Owning.{reached_used}
 pub well_kids : (old new : Graph) → new.kid ≡ old.kid → (n : ℕ) (remaining : Form) (st : Stand) → StandsWell old n remaining st → StandsWell new n remaining st
 well_kids old new same n (On c p) st w = w
 well_kids old new same n (In c p) st w = w
-well_kids old new same n (Rename p q) st w = go (common (parent_of p) (parent_of q)) w
+well_kids old new same n (Two pairs.Rename p q) st w = go (common (parent_of p) (parent_of q)) w
   where
     go : (l : Key) → ForkedAt old n p q st l → ForkedAt new n p q st l
     go [] w = record { source_at = subst (λ (k : ℕ → Name → Option ℕ). at k n st.source.walked ≡ Some st.source.node) (sym same) w.source_at; dest_at = subst (λ (k : ℕ → Name → Option ℕ). at k n st.dest.walked ≡ Some st.dest.node) (sym same) w.dest_at; source_is = w.source_is; dest_is = w.dest_is }
@@ -27,14 +28,14 @@ well_kids old new same n (Rename p q) st w = go (common (parent_of p) (parent_of
 victim_kids : (old new : Graph) → new.kid ≡ old.kid → (remaining : Form) (st : Stand) → VictimAt old remaining st → VictimAt new remaining st
 victim_kids old new same (On c p) st w = w
 victim_kids old new same (In c p) st w = λ v e. ap (λ (k : ℕ → Name → Option ℕ). k st.node (last_of p)) same ∙ w v e
-victim_kids old new same (Rename p q) st w = λ v e. (ap (λ (k : ℕ → Name → Option ℕ). k st.dest.node (last_of q)) same ∙ (w v e).0, (w v e).1)
+victim_kids old new same (Two pairs.Rename p q) st w = λ v e. (ap (λ (k : ℕ → Name → Option ℕ). k st.dest.node (last_of q)) same ∙ (w v e).0, (w v e).1)
 
 pub numbers_kids : (old new : Graph) → new.kid ≡ old.kid → (key : Key) → numbers new key ≡ numbers old key
 numbers_kids old new same key = ap (λ (k : ℕ → Name → Option ℕ). at k 0 key) same
 
 number_kids : (old new : Graph) → new.kid ≡ old.kid → (remaining : Form) (reserved : Option ℕ) → ((m : ℕ) → reserved ≡ Some m → new.shape m ≡ old.shape m) → NumberFor old remaining reserved → NumberFor new remaining reserved
 number_kids old new same (On c p) reserved h w = w
-number_kids old new same (Rename p q) reserved h w = w
+number_kids old new same (Two pairs.Rename p q) reserved h w = w
 number_kids old new same (In c p) reserved h w = λ shape e.
     (let g : (m : ℕ) × (reserved ≡ Some m) × (old.shape m ≡ Some shape) × ((key : Key) → numbers old key ≡ Some m → ⊥) = w shape e in
     (g.0, g.1, h g.0 g.1 ∙ g.2, λ key i. g.3 key (sym (numbers_kids old new same key) ∙ i)))

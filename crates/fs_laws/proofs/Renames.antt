@@ -5,7 +5,8 @@ use Rattle.fs_names.specs.Names.{Name, has_name}
 use Rattle.fs_names.specs.Parts.{HasNames, common, left, left_by, is_end}
 use Rattle.fs_names.specs.Shapes.{Shape, Dir, is_full, names_of}
 use Rattle.fs_seq.specs.Changes.{Change, resolve_dir, move_change, rename_writes}
-use Rattle.fs_seq.specs.Forms.{Form, On, In, Rename, Fits}
+use Rattle.fs_seq.specs.Forms.{Form, On, In, Two, Fits}
+use Rattle.fs_seq.specs.declared.target.PairCall.TheVariants as pairs
 use Rattle.fs_seq.specs.Maps.{Map, below}
 use Rattle.fs_seq.specs.Rows.{as_dir, rename_row}
 use Rattle.fs_seq.specs.declared.errno.Errno.{Errno}
@@ -74,9 +75,9 @@ both_sides : (u v w : Bool) → (u && v && w) ≡ true → u ≡ true
 both_sides true v w e = refl
 both_sides false v w e = e
 
-pub rename_off : (graph : Graph) → IsGraph graph → (k : Key) (p q : Key) (st : Stand) (o : Option ℕ) (kd : Key) (other : Stand) (s : Shape) → Located (numbers graph) k st → graph.shape st.node ≡ Some s → Fits (Rename p q) → StandsWell graph st.node (Rename p q) st → VictimAt graph (Rename p q) st
-    → next_on graph (Rename p q) st ≡ Finishes o → Front graph k st kd other
-    → Off graph k (Rename p q) kd
+pub rename_off : (graph : Graph) → IsGraph graph → (k : Key) (p q : Key) (st : Stand) (o : Option ℕ) (kd : Key) (other : Stand) (s : Shape) → Located (numbers graph) k st → graph.shape st.node ≡ Some s → Fits (Two pairs.Rename p q) → StandsWell graph st.node (Two pairs.Rename p q) st → VictimAt graph (Two pairs.Rename p q) st
+    → next_on graph (Two pairs.Rename p q) st ≡ Finishes o → Front graph k st kd other
+    → Off graph k (Two pairs.Rename p q) kd
 rename_off graph is k p q st o kd other s loc u fits well victim e f = go (common (parent_of p) (parent_of q)) refl well e
   where
     mp : HasNames p
@@ -99,7 +100,7 @@ rename_off graph is k p q st o kd other s loc u fits well victim e f = go (commo
 
     made : (off0 : after_prefix kd (k ++ parent_of p) ≡ None)
         → (resolve_dir (below k (spell graph)) (parent_of p) ≡ None → (after_prefix kd (k ++ parent_of q) ≡ None) × (looks_into (spell graph) (k ++ p) (k ++ q) ≡ true → after_prefix kd (k ++ q) ≡ None))
-        → Clear (ch row.1) kd → Off graph k (Rename p q) kd
+        → Clear (ch row.1) kd → Off graph k (Two pairs.Rename p q) kd
     made off0 rest clear = record {
       blind = (
         ap (after_prefix kd) (dir_under k p mp) ∙ off0,
@@ -111,7 +112,7 @@ rename_off graph is k p q st o kd other s loc u fits well victim e f = go (commo
     stuck : (d : Errno) → resolve_dir (below k (spell graph)) (parent_of p) ≡ Some d → Clear (ch row.1) kd
     stuck d r = subst (λ (z : Option Errno). Clear (ch (rename_row z (resolve_dir (below k (spell graph)) (parent_of q)) (spell graph (k ++ p)) (is_end (after_prefix p q)) (spell graph (k ++ q)) (is_end (after_prefix (parent_of p) (parent_of q)) || not (is_full (spell graph (k ++ parent_of q))))).1) kd) (sym r) (tt, tt)
 
-    go : (l : Key) → common (parent_of p) (parent_of q) ≡ l → ForkedAt graph st.node p q st l → first_of (head_move graph st.node st.behind l) (fork_move graph p q st) ≡ Finishes o → Off graph k (Rename p q) kd
+    go : (l : Key) → common (parent_of p) (parent_of q) ≡ l → ForkedAt graph st.node p q st l → first_of (head_move graph st.node st.behind l) (fork_move graph p q st) ≡ Finishes o → Off graph k (Two pairs.Rename p q) kd
     go (x ∷ l) i w g =
         let stop : Stops graph st.node (x ∷ l) = (head_stops graph st.node st.behind (x ∷ l) (fork_move graph p q st) o g).0 in
         let r : (r : Key) × (parent_of p ≡ common (parent_of p) (parent_of q) ++ r) = common_is (parent_of p) (parent_of q) in
@@ -243,4 +244,4 @@ pub off_of : (graph : Graph) → IsGraph graph → (k : Key) (remaining : Form) 
     → Off graph k remaining kd
 off_of graph is k (On c p) st o kd other s t loc u v fits well victim e f = on_off graph is k c p st o kd other loc.here e f
 off_of graph is k (In c p) st o kd other s t loc u v fits well victim e f = in_off graph is k c p st o kd other t loc.here fits victim e f v
-off_of graph is k (Rename p q) st o kd other s t loc u v fits well victim e f = rename_off graph is k p q st o kd other s loc u fits well victim e f
+off_of graph is k (Two pairs.Rename p q) st o kd other s t loc u v fits well victim e f = rename_off graph is k p q st o kd other s loc u fits well victim e f

@@ -8,7 +8,8 @@ use Rattle.fs_names.specs.Names.{Name, inserted_name, removed_name, has_name}
 use Rattle.fs_names.specs.Parts.{common, left, is_end}
 use Rattle.fs_names.specs.Shapes.{Shape, Dir, File, names_of, is_full}
 use Rattle.fs_names.specs.declared.limits.TheConstants.{ENTRY_LIMIT, FILE_LIMIT}
-use Rattle.fs_seq.specs.Forms.{form, NodeCall, Stat, Readdir, Read, Write, Truncate, Form, On, In, Rename, by_text}
+use Rattle.fs_seq.specs.Forms.{form, NodeCall, Stat, Readdir, Read, Write, Truncate, Form, On, In, Two, by_text}
+use Rattle.fs_seq.specs.declared.target.PairCall.TheVariants as pairs
 use Rattle.fs_seq.specs.declared.target.EntryCall.{EntryCall}
 use Rattle.fs_seq.specs.declared.target.EntryCall.TheVariants.{Mkdir, Mknod, Unlink, Rmdir}
 use Rattle.fs_seq.specs.Rows.{answered, on_row, Edit, Keep, Add, Remove, in_there, in_row, to_row, written, resized}
@@ -176,7 +177,7 @@ nil_front : (a b : Key) → [] ≡ a ++ b → a ≡ []
 nil_front [] b e = refl
 nil_front (x ∷ a) b e = cc
 
-one_parent : (graph : Graph) (p q : Key) (st : Stand) → Forked graph st.node p q st → target (Rename p q) ≡ [] → is_end (after_prefix (parent_of p) (parent_of q)) ≡ true → st.source.node ≡ st.dest.node
+one_parent : (graph : Graph) (p q : Key) (st : Stand) → Forked graph st.node p q st → target (Two pairs.Rename p q) ≡ [] → is_end (after_prefix (parent_of p) (parent_of q)) ≡ true → st.source.node ≡ st.dest.node
 one_parent graph p q st f way same =
     let e : parent_of p ≡ parent_of q = end_is (parent_of p) (parent_of q) same in
     let a : parent_of p ≡ [] = sym (common_self (parent_of p)) ∙ ap (common (parent_of p)) e ∙ way in
@@ -239,7 +240,7 @@ room_of m true e = refl
 room_of (Dir names) false e = cc
 room_of (File bytes) false e = cc
 
-rename_resizes : (graph : Graph) → IsGraph graph → AllWithin graph.shape → (p q : Key) (st : Stand) (reserved : Option ℕ) → Forked graph st.node p q st → target (Rename p q) ≡ [] → (b : Bool) → (rename_at graph p q st).1 ≡ b → (o : Option ℕ) → graph.kid st.source.node (last_of p) ≡ o
+rename_resizes : (graph : Graph) → IsGraph graph → AllWithin graph.shape → (p q : Key) (st : Stand) (reserved : Option ℕ) → Forked graph st.node p q st → target (Two pairs.Rename p q) ≡ [] → (b : Bool) → (rename_at graph p q st).1 ≡ b → (o : Option ℕ) → graph.kid st.source.node (last_of p) ≡ o
     → Resizes graph.shape (moved_made graph st (last_of p) (last_of q) reserved (rename_at graph p q st).0 b o).graph.shape
 rename_resizes graph is w p q st reserved f way false e o i = resizes_same graph.shape w
 rename_resizes graph is w p q st reserved f way true e None i = resizes_same graph.shape w
@@ -284,9 +285,9 @@ rename_resizes graph is w p q st reserved f way true e (Some m) i =
 made_resizes : (graph : Graph) → IsGraph graph → AllWithin graph.shape → (remaining : Form) (st : Stand) (reserved : Option ℕ) → StandsWell graph st.node remaining st → Resizes graph.shape (made_at graph remaining st reserved).graph.shape
 made_resizes graph is w (On c p) st reserved well = on_resizes graph w st.node c (path_error p (graph.shape st.node)) reserved (graph.shape st.node) refl
 made_resizes graph is w (In c p) st reserved well = in_resizes graph w st.node c (last_of p) reserved (entry_shape graph st.node (last_of p)) (dir_error (parent_of p) (graph.shape st.node)) (dir_of_none (parent_of p) (graph.shape st.node))
-made_resizes graph is w (Rename p q) st reserved well = go (target (Rename p q)) refl well
+made_resizes graph is w (Two pairs.Rename p q) st reserved well = go (target (Two pairs.Rename p q)) refl well
   where
-    go : (l : Key) → target (Rename p q) ≡ l → ForkedAt graph st.node p q st l → Resizes graph.shape (rename_made graph p q st reserved l).graph.shape
+    go : (l : Key) → target (Two pairs.Rename p q) ≡ l → ForkedAt graph st.node p q st l → Resizes graph.shape (rename_made graph p q st reserved l).graph.shape
     go [] i f = rename_resizes graph is w p q st reserved f i (rename_at graph p q st).1 refl (graph.kid st.source.node (last_of p)) refl
     go (x ∷ l) i f = resizes_same graph.shape w
 

@@ -4,7 +4,8 @@ use Rattle.fs_names.specs.Keys.{Key, after_prefix, parent_of, last_of}
 use Rattle.fs_names.specs.Names.{Name, inserted_name, removed_name}
 use Rattle.fs_names.specs.Shapes.{Shape, Dir, is_full, names_of, File}
 use Rattle.fs_seq.specs.Changes.{reply, after}
-use Rattle.fs_seq.specs.Forms.{Form, On, In, Rename, under, Fits}
+use Rattle.fs_seq.specs.Forms.{Form, On, In, Two, under, Fits}
+use Rattle.fs_seq.specs.declared.target.PairCall.TheVariants as pairs
 use Rattle.fs_seq.specs.Maps.{Map}
 use Rattle.fs_seq.specs.Rows.{on_row, Edit, Keep, Add, Remove, in_row}
 use Rattle.fs_seq.specs.declared.reply.Reply.{Reply}
@@ -65,7 +66,7 @@ moved_untouched graph st a x y reserved r true (Some m) h g = record {
 made_untouched : (graph : Graph) (remaining : Form) (st : Stand) (reserved : Option ℕ) (a : ℕ) → (a ≡ st.node → ⊥) → (a ≡ st.source.node → ⊥) → (a ≡ st.dest.node → ⊥) → Untouched graph (made_at graph remaining st reserved).graph a
 made_untouched graph (On c p) st reserved a h g i = on_untouched graph st.node a reserved (on_row c (path_error p (graph.shape st.node)) (graph.shape st.node)) h
 made_untouched graph (In c p) st reserved a h g i = in_untouched graph st.node a (last_of p) reserved (in_row c (dir_error (parent_of p) (graph.shape st.node)) (is_full (graph.shape st.node)) (entry_shape graph st.node (last_of p))) h
-made_untouched graph (Rename p q) st reserved a h g i = go (target (Rename p q))
+made_untouched graph (Two pairs.Rename p q) st reserved a h g i = go (target (Two pairs.Rename p q))
   where
     go : (l : Key) → Untouched graph (rename_made graph p q st reserved l).graph a
     go [] = moved_untouched graph st a (last_of p) (last_of q) reserved (rename_at graph p q st).0 (rename_at graph p q st).1 (graph.kid st.source.node (last_of p)) g i
@@ -228,12 +229,12 @@ solo_stays graph made k op g kd q st off apart s = record {
         (let h : (m : ℕ) × (q.reserved ≡ Some m) × (graph.shape m ≡ Some shape) × ((key : Key) → numbers graph key ≡ Some m → ⊥) = w shape e in
         let l : ((u : Key) → numbers made.graph u ≡ Some h.0 → ⊥) × (made.graph.shape h.0 ≡ graph.shape h.0) = g.loose h.0 h.3 (λ i. apart h.0 i h.1) in
         (h.0, h.1, l.1 ∙ h.2, l.0))
-    number (Rename a b) w = w
+    number (Two pairs.Rename a b) w = w
 
     victim : (f : Form) → VictimAt graph f st → VictimAt made.graph f st
     victim (On c p) w = w
     victim (In c p) w = λ v e. (g.untouched kd st.node s.loc.here off.here).kid (last_of p) ∙ w v e
-    victim (Rename a b) w = λ v e. ((g.untouched (kd ++ st.dest.walked) st.dest.node s.loc.dest off.dest).kid (last_of b) ∙ (w v e).0, (w v e).1)
+    victim (Two pairs.Rename a b) w = λ v e. ((g.untouched (kd ++ st.dest.walked) st.dest.node s.loc.dest off.dest).kid (last_of b) ∙ (w v e).0, (w v e).1)
 
 -- placed calls in their order, each where it stands, and the later ones off its keys
 pub record PlacedSolo (graph : Graph) (ops : Records) (key : ℕ → Key) (c : ℕ) : Type 0 where

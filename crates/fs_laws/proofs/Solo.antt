@@ -3,7 +3,8 @@ use Rattle.std.proofs.Common.{◌≡◌, ℕ, Bool, true, false, not, ◌&&◌, 
 use Rattle.fs_names.specs.Keys.{Key, after_prefix, parent_of, last_of, has_more}
 use Rattle.fs_names.specs.Names.{Name}
 use Rattle.fs_names.specs.Parts.{HasNames, common, left, is_end}
-use Rattle.fs_seq.specs.Forms.{form, Form, Rename, by_text, Fits}
+use Rattle.fs_seq.specs.Forms.{form, Form, Two, by_text, Fits}
+use Rattle.fs_seq.specs.declared.target.PairCall.TheVariants as pairs
 use Rattle.fs_nodes.specs.Graphs.{Graph, numbers, IsGraph, entry_shape}
 use Rattle.fs_moves.specs.Moves.{same_kind}
 use Rattle.fs_moves.specs.Records.{Holds, Record, Stand}
@@ -106,7 +107,7 @@ solo_wants graph is_graph k op n st solo t h = go t h
     at_node : numbers graph (k ++ []) ≡ Some st.node
     at_node = ap (numbers graph) (append-nil (k)) ∙ loc.here
 
-    forked : (p q : Key) → op.remaining ≡ Rename p q → common (parent_of p) (parent_of q) ≡ [] → Forked graph st.node p q st
+    forked : (p q : Key) → op.remaining ≡ Two pairs.Rename p q → common (parent_of p) (parent_of q) ≡ [] → Forked graph st.node p q st
     forked p q rem way = forked_of graph st.node p q st op.remaining rem way solo.well
 
     arrived_is : (whole w : Key) → whole ≡ w ++ left w whole → left w whole ≡ [] → whole ≡ w
@@ -150,7 +151,7 @@ solo_wants graph is_graph k op n st solo t h = go t h
     go (Replaced p q names rem way b arrived sb dir at_left db want kid off t_is) (inr (inl i)) = none_is st.behind b i
     go (Replaced p q names rem way b arrived sb dir at_left db want kid off t_is) (inr (inr (inl (more, inl i)))) =
         let f : Forked graph st.node p q st = forked p q rem way in
-        let fits : Fits (Rename p q) = subst Fits rem solo.fits in
+        let fits : Fits (Two pairs.Rename p q) = subst Fits rem solo.fits in
         let same : k ++ st.source.walked ≡ (k ++ st.dest.walked) ++ last_of q ∷ [] = is_graph.one_key (k ++ st.source.walked) ((k ++ st.dest.walked) ++ last_of q ∷ []) n (loc.source ∙ ap (λ (y : ℕ). Some y) i) (here st.dest.walked st.dest.node (last_of q) loc.dest kid) in
         let w : st.source.walked ≡ st.dest.walked ++ last_of q ∷ [] = front_same (k) st.source.walked (st.dest.walked ++ last_of q ∷ []) (same ∙ append_assoc (k) st.dest.walked (last_of q ∷ [])) in
         let a : parent_of p ≡ st.source.walked = arrived_is (parent_of p) st.source.walked f.source_is arrived in

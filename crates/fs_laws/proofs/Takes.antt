@@ -4,7 +4,8 @@ use Rattle.fs_names.specs.Keys.{Key, after_prefix, parent_of, last_of, has_more}
 use Rattle.fs_names.specs.Names.{Name}
 use Rattle.fs_names.specs.Parts.{common, left, is_end}
 use Rattle.fs_names.specs.Shapes.{Shape, Dir, File}
-use Rattle.fs_seq.specs.Forms.{Form, On, In, Rename}
+use Rattle.fs_seq.specs.Forms.{Form, On, In, Two}
+use Rattle.fs_seq.specs.declared.target.PairCall.TheVariants as pairs
 use Rattle.fs_seq.specs.declared.target.EntryCall.{EntryCall}
 use Rattle.fs_nodes.specs.Graphs.{Graph, entry_shape}
 use Rattle.fs_moves.specs.Moves.{Move, Takes, Finishes, next_on, first_of, head_move, take_if, target, target_move, fork_move, rename_move, dir_then, victim_of, same_kind, rename_at, moved_node, took, head_took, source_took, target_took, took_by, inner}
@@ -26,11 +27,11 @@ walked_on op st x n = record op { walked = op.walked ++ x ∷ []; remaining = in
 pub data Take (graph : Graph) (op : Record) (n : ℕ) (st : Stand) : Type 0 where
   Walk : (x : Name) (l : Key) → target op.remaining ≡ x ∷ l → st.behind ≡ None → graph.kid st.node x ≡ Some n → took op n ≡ walked_on op st x n → Take graph op n st
   Entry : (e : EntryCall) (p : Key) → op.remaining ≡ In e p → parent_of p ≡ [] → st.behind ≡ None → graph.kid st.node (last_of p) ≡ Some n → st.victim ≡ None → took op n ≡ with_stand op (record st { victim = Some n }) → Take graph op n st
-  Source : (p q : Key) (x : Name) (l : Key) → op.remaining ≡ Rename p q → common (parent_of p) (parent_of q) ≡ [] → st.behind ≡ None → left st.source.walked (parent_of p) ≡ x ∷ l → st.source.behind ≡ None → graph.kid st.source.node x ≡ Some n
+  Source : (p q : Key) (x : Name) (l : Key) → op.remaining ≡ Two pairs.Rename p q → common (parent_of p) (parent_of q) ≡ [] → st.behind ≡ None → left st.source.walked (parent_of p) ≡ x ∷ l → st.source.behind ≡ None → graph.kid st.source.node x ≡ Some n
       → took op n ≡ with_stand op (record st { source = head_took st.source x n }) → Take graph op n st
-  Dest : (p q : Key) (x : Name) (l : Key) (names : List Name) → op.remaining ≡ Rename p q → common (parent_of p) (parent_of q) ≡ [] → st.behind ≡ None → left st.source.walked (parent_of p) ≡ [] → st.source.behind ≡ None → graph.shape st.source.node ≡ Some (Dir names)
+  Dest : (p q : Key) (x : Name) (l : Key) (names : List Name) → op.remaining ≡ Two pairs.Rename p q → common (parent_of p) (parent_of q) ≡ [] → st.behind ≡ None → left st.source.walked (parent_of p) ≡ [] → st.source.behind ≡ None → graph.shape st.source.node ≡ Some (Dir names)
       → left st.dest.walked (parent_of q) ≡ x ∷ l → st.dest.behind ≡ None → graph.kid st.dest.node x ≡ Some n → took op n ≡ with_stand op (record st { dest = head_took st.dest x n }) → Take graph op n st
-  Replaced : (p q : Key) (names : List Name) → op.remaining ≡ Rename p q → common (parent_of p) (parent_of q) ≡ [] → st.behind ≡ None → left st.source.walked (parent_of p) ≡ [] → st.source.behind ≡ None → graph.shape st.source.node ≡ Some (Dir names)
+  Replaced : (p q : Key) (names : List Name) → op.remaining ≡ Two pairs.Rename p q → common (parent_of p) (parent_of q) ≡ [] → st.behind ≡ None → left st.source.walked (parent_of p) ≡ [] → st.source.behind ≡ None → graph.shape st.source.node ≡ Some (Dir names)
       → left st.dest.walked (parent_of q) ≡ [] → st.dest.behind ≡ None → wants graph p q st ≡ true → graph.kid st.dest.node (last_of q) ≡ Some n → st.victim ≡ None → took op n ≡ with_stand op (record st { victim = Some n }) → Take graph op n st
 
 -- a victim is taken where one is wanted, there, and not held
@@ -46,7 +47,7 @@ dir_takes (Some (Dir names)) m n e = ((names, refl), e)
 dir_takes (Some (File bytes)) m n e = cc
 
 -- at the common directory
-fork_takes : (graph : Graph) (op : Record) (n : ℕ) (st : Stand) (p q : Key) → op.stand ≡ Some st → op.remaining ≡ Rename p q → common (parent_of p) (parent_of q) ≡ [] → st.behind ≡ None → fork_move graph p q st ≡ Takes n → Take graph op n st
+fork_takes : (graph : Graph) (op : Record) (n : ℕ) (st : Stand) (p q : Key) → op.stand ≡ Some st → op.remaining ≡ Two pairs.Rename p q → common (parent_of p) (parent_of q) ≡ [] → st.behind ≡ None → fork_move graph p q st ≡ Takes n → Take graph op n st
 fork_takes graph op n st p q on rem way behind m = source (left st.source.walked (parent_of p)) refl (dir_takes (graph.shape st.node) (first_of (head_move graph st.source.node st.source.behind (left st.source.walked (parent_of p))) rest) n m).1
   where
     at_dest : Move
@@ -93,7 +94,7 @@ takes_by graph op n st on m = way (target op.remaining) refl m
         let v : (victim_of e (entry_shape graph st.node (last_of p)) ≡ true) × (graph.kid st.node (last_of p) ≡ Some n) × (st.victim ≡ None) =
         victim_taken (victim_of e (entry_shape graph st.node (last_of p))) (graph.kid st.node (last_of p)) st.victim None n f in
         Entry e p i w b v.1 v.2 (ap₂ (λ (s : Option Stand) (k : Key). took_by op s k n) on (ap target i ∙ w) ∙ ap (λ (g : Form). record op { stand = Some (target_took g st n) }) i)
-    there (Rename p q) i w b f = fork_takes graph op n st p q on i w b f
+    there (Two pairs.Rename p q) i w b f = fork_takes graph op n st p q on i w b f
 
     way : (l : Key) → target op.remaining ≡ l → first_of (head_move graph st.node st.behind l) (target_move graph op.remaining st) ≡ Takes n → Take graph op n st
     way (x ∷ l) i e =

@@ -4,7 +4,8 @@ use Rattle.fs_names.specs.Keys.{Key, after_prefix, parent_of}
 use Rattle.fs_names.specs.Names.{Name, same_name}
 use Rattle.fs_names.specs.Parts.{common}
 use Rattle.fs_names.specs.Shapes.{Shape, Dir, File}
-use Rattle.fs_seq.specs.Forms.{form, NodeCall, Form, On, In, Rename, by_text, under, Fits}
+use Rattle.fs_seq.specs.Forms.{form, NodeCall, Form, On, In, Two, by_text, under, Fits}
+use Rattle.fs_seq.specs.declared.target.PairCall.TheVariants as pairs
 use Rattle.fs_seq.specs.declared.target.EntryCall.{EntryCall}
 use Rattle.fs_seq.proofs.RowNames.{if_below}
 use Rattle.fs_seq.specs.declared.call.Call.{Call}
@@ -49,7 +50,7 @@ takes_from graph op n m = go op.phase (by_text (form op.call)) op.stand refl ref
 pub fresh_well : (graph : Graph) (n : ℕ) (behind : Option ℕ) (remaining : Form) → StandsWell graph n remaining (stand_at n behind)
 fresh_well graph n behind (On c p) = tt
 fresh_well graph n behind (In c p) = tt
-fresh_well graph n behind (Rename p q) = go (common (parent_of p) (parent_of q))
+fresh_well graph n behind (Two pairs.Rename p q) = go (common (parent_of p) (parent_of q))
   where
     go : (l : Key) → ForkedAt graph n p q (stand_at n behind) l
     go [] = record { source_at = refl; dest_at = refl; source_is = refl; dest_is = refl }
@@ -58,7 +59,7 @@ fresh_well graph n behind (Rename p q) = go (common (parent_of p) (parent_of q))
 pub fresh_victim : (graph : Graph) (n : ℕ) (behind : Option ℕ) (remaining : Form) → VictimAt graph remaining (stand_at n behind)
 fresh_victim graph n behind (On c p) = tt
 fresh_victim graph n behind (In c p) = λ v e. cc
-fresh_victim graph n behind (Rename p q) = λ v e. cc
+fresh_victim graph n behind (Two pairs.Rename p q) = λ v e. cc
 
 -- what every take shares
 pub record Taker (old : State) (inv : Invariant old) (c : ℕ) (op : Record) (n : ℕ) : Type 0 where
@@ -145,7 +146,7 @@ own_fresh graph op v n behind o unf phase reserved removed call on parts number 
 pub under_nil : (call : Form) → under [] call ≡ call
 under_nil (On c p) = refl
 under_nil (In c p) = refl
-under_nil (Rename p q) = refl
+under_nil (Two pairs.Rename p q) = refl
 
 -- the root
 pub take_root : (old : State) (inv : Invariant old) (c : ℕ) (op : Record) (n : ℕ) → Taker old inv c op n → by_text (form op.call) ≡ None → op.stand ≡ None → 0 ≡ n → Invariant (taking old c op n)
@@ -208,29 +209,29 @@ inner_on k x l (In c (y ∷ z ∷ p)) e = let i : y ≡ x = cc in record { fits 
   where
     append_step : (c : EntryCall) (k : Key) (x y : Name) (p : Key) → y ≡ x → In c ((k ++ x ∷ []) ++ p) ≡ In c (k ++ y ∷ p)
     append_step c k x y p z = ap (λ (l : Key). In c l) (append_assoc k (x ∷ []) p ∙ ap (λ (n : Name). k ++ n ∷ p) (sym z))
-inner_on k x l (Rename [] q) e = cc
-inner_on k x l (Rename (y ∷ []) q) e = cc
-inner_on k x l (Rename (y ∷ z ∷ p) []) e = cc
-inner_on k x l (Rename (y ∷ z ∷ p) (w ∷ [])) e = cc
-inner_on k x l (Rename (y ∷ z ∷ p) (w ∷ u ∷ q)) e = go (same_name y w) refl e
+inner_on k x l (Two pairs.Rename [] q) e = cc
+inner_on k x l (Two pairs.Rename (y ∷ []) q) e = cc
+inner_on k x l (Two pairs.Rename (y ∷ z ∷ p) []) e = cc
+inner_on k x l (Two pairs.Rename (y ∷ z ∷ p) (w ∷ [])) e = cc
+inner_on k x l (Two pairs.Rename (y ∷ z ∷ p) (w ∷ u ∷ q)) e = go (same_name y w) refl e
   where
     append_step : (k : Key) (x y : Name) (p : Key) → y ≡ x → (k ++ x ∷ []) ++ p ≡ k ++ y ∷ p
     append_step k x y p z = append_assoc k (x ∷ []) p ∙ ap (λ (n : Name). k ++ n ∷ p) (sym z)
 
-    go : (b : Bool) → same_name y w ≡ b → cond b (y ∷ common (parent_of (z ∷ p)) (parent_of (u ∷ q))) [] ≡ x ∷ l → Inner k (x ∷ []) (Rename (y ∷ z ∷ p) (w ∷ u ∷ q))
+    go : (b : Bool) → same_name y w ≡ b → cond b (y ∷ common (parent_of (z ∷ p)) (parent_of (u ∷ q))) [] ≡ x ∷ l → Inner k (x ∷ []) (Two pairs.Rename (y ∷ z ∷ p) (w ∷ u ∷ q))
     go false i f = cc
     go true i f =
         let s : y ≡ x = cc in
         let t : y ≡ w = same_true y w i in
         record {
           fits = λ g. sym (ap (λ (b : Bool). if_below (cond b (after_prefix (z ∷ p) (u ∷ q)) None)) i) ∙ g;
-          same = ap₂ Rename (append_step k x y (z ∷ p) s) (append_step k x w (u ∷ q) (sym t ∙ s));
+          same = ap₂ (Two pairs.Rename) (append_step k x y (z ∷ p) s) (append_step k x w (u ∷ q) (sym t ∙ s));
         }
 
 pub number_inner : (graph : Graph) (rem : Form) (reserved : Option ℕ) → NumberFor graph rem reserved → NumberFor graph (inner rem) reserved
 number_inner graph (On c p) reserved n = n
 number_inner graph (In c p) reserved n = n
-number_inner graph (Rename p q) reserved n = n
+number_inner graph (Two pairs.Rename p q) reserved n = n
 
 -- a walk that takes
 pub walk_takes : (s : Option Shape) (child : Option ℕ) (n : ℕ) → walk_move s child ≡ Takes n → child ≡ Some n

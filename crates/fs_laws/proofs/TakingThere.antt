@@ -4,7 +4,8 @@ use Rattle.fs_names.specs.Keys.{Key, after_prefix, parent_of, last_of, has_more}
 use Rattle.fs_names.specs.Names.{Name}
 use Rattle.fs_names.specs.Parts.{common, left, left_by, is_end}
 use Rattle.fs_names.specs.Shapes.{Shape, Dir, File}
-use Rattle.fs_seq.specs.Forms.{Form, On, In, Rename}
+use Rattle.fs_seq.specs.Forms.{Form, On, In, Two}
+use Rattle.fs_seq.specs.declared.target.PairCall.TheVariants as pairs
 use Rattle.fs_seq.specs.declared.target.EntryCall.{EntryCall}
 use Rattle.fs_nodes.specs.Graphs.{Graph, numbers, entry_shape, set_at}
 use Rattle.fs_moves.specs.Moves.{Move, Takes, Finishes, next_on, first_of, head_move, take_if, target, target_move, in_move, fork_move, rename_move, dir_then, victim_of, same_kind, rename_at, moved_node, took, head_took, behind_of, source_took, target_took, took_by}
@@ -109,14 +110,14 @@ behind_held : (st : Stand) (w : Key) (node m : ℕ) → Holds st node → behind
 behind_held st [] node m h e = cc
 behind_held st (x ∷ w) node m h e = let z : node ≡ m = cc in subst (Holds st) z h
 
-pub forked_of : (graph : Graph) (n : ℕ) (p q : Key) (st : Stand) (remaining : Form) → remaining ≡ Rename p q → common (parent_of p) (parent_of q) ≡ [] → StandsWell graph n remaining st → Forked graph n p q st
+pub forked_of : (graph : Graph) (n : ℕ) (p q : Key) (st : Stand) (remaining : Form) → remaining ≡ Two pairs.Rename p q → common (parent_of p) (parent_of q) ≡ [] → StandsWell graph n remaining st → Forked graph n p q st
 forked_of graph n p q st remaining rem way well = subst (ForkedAt graph n p q st) way (subst (λ (f : Form). StandsWell graph n f st) rem well)
 
-pub well_of : (graph : Graph) (n : ℕ) (p q : Key) (st : Stand) (remaining : Form) → remaining ≡ Rename p q → common (parent_of p) (parent_of q) ≡ [] → Forked graph n p q st → StandsWell graph n remaining st
+pub well_of : (graph : Graph) (n : ℕ) (p q : Key) (st : Stand) (remaining : Form) → remaining ≡ Two pairs.Rename p q → common (parent_of p) (parent_of q) ≡ [] → Forked graph n p q st → StandsWell graph n remaining st
 well_of graph n p q st remaining rem way f = subst (λ (g : Form). StandsWell graph n g st) (sym rem) (subst (ForkedAt graph n p q st) (sym way) f)
 
 -- the next node of the source head
-take_source : (old : State) (inv : Invariant old) (c : ℕ) (op : Record) (n : ℕ) (st : Stand) (p q : Key) (x : Name) (l : Key) → Taker old inv c op n → op.stand ≡ Some st → op.remaining ≡ Rename p q → common (parent_of p) (parent_of q) ≡ []
+take_source : (old : State) (inv : Invariant old) (c : ℕ) (op : Record) (n : ℕ) (st : Stand) (p q : Key) (x : Name) (l : Key) → Taker old inv c op n → op.stand ≡ Some st → op.remaining ≡ Two pairs.Rename p q → common (parent_of p) (parent_of q) ≡ []
     → left st.source.walked (parent_of p) ≡ x ∷ l → old.graph.kid st.source.node x ≡ Some n → Invariant (taking old c op n)
 take_source old inv c op n st p q x l t on rem way left_is kid =
     take_there old inv c op n st (record st { source = head_took st.source x n }) t on took_is refl
@@ -156,7 +157,7 @@ take_source old inv c op n st p q x l t on rem way left_is kid =
         ∙ ap (λ (k : Key). record op { stand = Some (source_took st k (left st.dest.walked (parent_of q)) n) }) left_is
 
 -- the next node of the destination head
-take_dest : (old : State) (inv : Invariant old) (c : ℕ) (op : Record) (n : ℕ) (st : Stand) (p q : Key) (x : Name) (l : Key) → Taker old inv c op n → op.stand ≡ Some st → op.remaining ≡ Rename p q → common (parent_of p) (parent_of q) ≡ []
+take_dest : (old : State) (inv : Invariant old) (c : ℕ) (op : Record) (n : ℕ) (st : Stand) (p q : Key) (x : Name) (l : Key) → Taker old inv c op n → op.stand ≡ Some st → op.remaining ≡ Two pairs.Rename p q → common (parent_of p) (parent_of q) ≡ []
     → left st.source.walked (parent_of p) ≡ [] → left st.dest.walked (parent_of q) ≡ x ∷ l → old.graph.kid st.dest.node x ≡ Some n → Invariant (taking old c op n)
 take_dest old inv c op n st p q x l t on rem way source_none left_is kid =
     take_there old inv c op n st (record st { dest = head_took st.dest x n }) t on took_is refl
@@ -183,7 +184,7 @@ take_dest old inv c op n st p q x l t on rem way source_none left_is kid =
     held : Holds st st.dest.node
     held = dest_held (numbers old.graph) (inv.key c) st loc
 
-    vic : VictimAt old.graph (Rename p q) st
+    vic : VictimAt old.graph (Two pairs.Rename p q) st
     vic = subst (λ (g : Form). VictimAt old.graph g st) rem (own.victim t.unfinished st on)
 
     -- a victim is held only once the destination head has arrived
@@ -205,7 +206,7 @@ take_dest old inv c op n st p q x l t on rem way source_none left_is kid =
         ∙ ap₂ (λ (k j : Key). record op { stand = Some (source_took st k j n) }) source_none left_is
 
 -- the victim of a rename
-take_replaced : (old : State) (inv : Invariant old) (c : ℕ) (op : Record) (n : ℕ) (st : Stand) (p q : Key) → Taker old inv c op n → op.stand ≡ Some st → op.remaining ≡ Rename p q → common (parent_of p) (parent_of q) ≡ []
+take_replaced : (old : State) (inv : Invariant old) (c : ℕ) (op : Record) (n : ℕ) (st : Stand) (p q : Key) → Taker old inv c op n → op.stand ≡ Some st → op.remaining ≡ Two pairs.Rename p q → common (parent_of p) (parent_of q) ≡ []
     → left st.source.walked (parent_of p) ≡ [] → left st.dest.walked (parent_of q) ≡ [] → rename_move old.graph p q st ≡ Takes n → Invariant (taking old c op n)
 take_replaced old inv c op n st p q t on rem way source_none dest_none m =
     take_there old inv c op n st (record st { victim = Some n }) t on took_is refl
@@ -239,7 +240,7 @@ dir_takes (Some (Dir names)) m n e = e
 dir_takes (Some (File bytes)) m n e = cc
 
 -- at the common directory
-take_fork : (old : State) (inv : Invariant old) (c : ℕ) (op : Record) (n : ℕ) (st : Stand) (p q : Key) → Taker old inv c op n → op.stand ≡ Some st → op.remaining ≡ Rename p q → common (parent_of p) (parent_of q) ≡ [] → fork_move old.graph p q st ≡ Takes n → Invariant (taking old c op n)
+take_fork : (old : State) (inv : Invariant old) (c : ℕ) (op : Record) (n : ℕ) (st : Stand) (p q : Key) → Taker old inv c op n → op.stand ≡ Some st → op.remaining ≡ Two pairs.Rename p q → common (parent_of p) (parent_of q) ≡ [] → fork_move old.graph p q st ≡ Takes n → Invariant (taking old c op n)
 take_fork old inv c op n st p q t on rem way m = source (left st.source.walked (parent_of p)) refl (dir_takes (old.graph.shape st.node) (first_of (head_move old.graph st.source.node st.source.behind (left st.source.walked (parent_of p))) (dir_then (old.graph.shape st.source.node) (first_of (head_move old.graph st.dest.node st.dest.behind (left st.dest.walked (parent_of q))) (dir_then (old.graph.shape st.dest.node) (rename_move old.graph p q st))))) n m)
   where
     dest : (l : Key) → left st.source.walked (parent_of p) ≡ [] → left st.dest.walked (parent_of q) ≡ l → first_of (head_move old.graph st.dest.node st.dest.behind l) (dir_then (old.graph.shape st.dest.node) (rename_move old.graph p q st)) ≡ Takes n → Invariant (taking old c op n)
@@ -265,7 +266,7 @@ take_from old inv c op n st t on m = way (target op.remaining) refl m
         no_take : Finishes None ≡ Takes n → ⊥
         no_take e = cc
     there (In e p) i w f = take_entry old inv c op n st e p t on i w f
-    there (Rename p q) i w f = take_fork old inv c op n st p q t on i w f
+    there (Two pairs.Rename p q) i w f = take_fork old inv c op n st p q t on i w f
 
     way : (l : Key) → target op.remaining ≡ l → first_of (head_move old.graph st.node st.behind l) (target_move old.graph op.remaining st) ≡ Takes n → Invariant (taking old c op n)
     way (x ∷ l) i e = take_walk old inv c op n st x l t on i (head_takes old.graph st.node st.behind x l (target_move old.graph op.remaining st) n e).1

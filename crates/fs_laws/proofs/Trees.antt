@@ -5,7 +5,8 @@ use Rattle.fs_names.specs.Names.{Name}
 use Rattle.fs_names.specs.Parts.{is_end, common, left}
 use Rattle.fs_names.specs.Shapes.{Shape, Dir, File, is_full, names_of}
 use Rattle.fs_seq.specs.Changes.{Change, changed, resolve, resolve_dir, looked, content_change, edit_change, move_change, rename_writes, outcome, after, unless}
-use Rattle.fs_seq.specs.Forms.{NodeCall, Form, On, In, Rename, by_text, under, Fits}
+use Rattle.fs_seq.specs.Forms.{NodeCall, Form, On, In, Two, by_text, under, Fits}
+use Rattle.fs_seq.specs.declared.target.PairCall.TheVariants as pairs
 use Rattle.fs_seq.proofs.RowNames.{if_below}
 use Rattle.fs_seq.specs.Maps.{Map, put, move, write_all}
 use Rattle.fs_seq.specs.Rows.{as_dir, on_row, Edit, in_row, to_row, moves_row, rename_row}
@@ -51,7 +52,7 @@ full_row (Dir names) there room false i e = cc
 full_row (File bytes) there room false i e = cc
 
 -- two paths of which neither begins with the other
-pub paths_aside : (p q : Key) → by_text (Rename p q) ≡ None → is_end (after_prefix p q) ≡ false → (has_more (after_prefix q p) ≡ true → ⊥) → Aside p q
+pub paths_aside : (p q : Key) → by_text (Two pairs.Rename p q) ≡ None → is_end (after_prefix p q) ≡ false → (has_more (after_prefix q p) ≡ true → ⊥) → Aside p q
 paths_aside p q fits other above = (first (after_prefix p q) refl, second (after_prefix q p) refl)
   where
     text : if_below (after_prefix p q) ≡ None
@@ -95,7 +96,7 @@ on_none : (graph : Graph) (k : Key) (c : NodeCall) (p : Key) (e : Option Errno) 
 on_none graph k c p e f s i = ap (λ (o : Option Errno). changed (change_under k (content_change p (on_row c o s).1)) (spell graph)) i
 
 -- a rename that really moves
-move_tree : (graph : Graph) → IsGraph graph → (k : Key) (n : ℕ) (p q : Key) (st : Stand) (reserved : Option ℕ) (r : Reply) → numbers graph k ≡ Some n → Fits (Rename p q) → ForkAt graph n p q st
+move_tree : (graph : Graph) → IsGraph graph → (k : Key) (n : ℕ) (p q : Key) (st : Stand) (reserved : Option ℕ) (r : Reply) → numbers graph k ≡ Some n → Fits (Two pairs.Rename p q) → ForkAt graph n p q st
     → Really (dir_error (left st.source.walked (parent_of p)) (graph.shape st.source.node)) (dir_error (left st.dest.walked (parent_of q)) (graph.shape st.dest.node)) (entry_shape graph st.source.node (last_of p)) (is_end (after_prefix p q)) (there_by (has_more (after_prefix q p)) (entry_shape graph st.dest.node (last_of q))) (is_end (after_prefix (parent_of p) (parent_of q)) || not (is_full (graph.shape st.dest.node)))
     → spell (moved_made graph st (last_of p) (last_of q) reserved r true (graph.kid st.source.node (last_of p))).graph
     ≡ changed (change_under k (move_change true (rename_writes (is_end (after_prefix (parent_of p) (parent_of q))) (parent_of p) (names_of (spell_from graph n (parent_of p))) (last_of p) (parent_of q) (names_of (spell_from graph n (parent_of q))) (last_of q)) p q)) (spell graph)
@@ -162,7 +163,7 @@ looked_tree graph is k s (In c (x ∷ [])) st reserved o at_k u fits well has e 
 looked_tree graph is k s (In c (x ∷ y ∷ p)) st reserved o at_k u fits well has e =
     ap (λ (r : Reply × Edit). changed (change_under k (edit_change (x ∷ parent_of (y ∷ p)) (names_of (spell_from graph st.node (x ∷ parent_of (y ∷ p)))) (last_of (y ∷ p)) (x ∷ y ∷ p) r.1)) (spell graph))
     (in_finish graph is st.node s c (x ∷ y ∷ p) tt u (head_stops graph st.node st.behind (x ∷ parent_of (y ∷ p)) (target_move graph (In c (x ∷ y ∷ p)) st) o e).0)
-looked_tree graph is k s (Rename p q) st reserved o at_k u fits well has e = go (common (parent_of p) (parent_of q)) refl well e
+looked_tree graph is k s (Two pairs.Rename p q) st reserved o at_k u fits well has e = go (common (parent_of p) (parent_of q)) refl well e
   where
     after_row : Reply × Bool → Map Shape
     after_row r = changed (change_under k (move_change r.1 (rename_writes (is_end (after_prefix (parent_of p) (parent_of q))) (parent_of p) (names_of (spell_from graph st.node (parent_of p))) (last_of p) (parent_of q) (names_of (spell_from graph st.node (parent_of q))) (last_of q)) p q)) (spell graph)
@@ -172,7 +173,7 @@ looked_tree graph is k s (Rename p q) st reserved o at_k u fits well has e = go 
     by f true i = move_tree graph is k st.node p q st reserved (rename_at graph p q st).0 at_k fits f (really (dir_error (left st.source.walked (parent_of p)) (graph.shape st.source.node)) (dir_error (left st.dest.walked (parent_of q)) (graph.shape st.dest.node)) (entry_shape graph st.source.node (last_of p)) (is_end (after_prefix p q)) (there_by (has_more (after_prefix q p)) (entry_shape graph st.dest.node (last_of q))) (is_end (after_prefix (parent_of p) (parent_of q)) || not (is_full (graph.shape st.dest.node))) i)
 
     go : (l : Key) → common (parent_of p) (parent_of q) ≡ l → ForkedAt graph st.node p q st l → first_of (head_move graph st.node st.behind l) (fork_move graph p q st) ≡ Finishes o
-        → spell (rename_made graph p q st reserved l).graph ≡ changed (change_under k (looked (spell_from graph st.node) (Rename p q)).1) (spell graph)
+        → spell (rename_made graph p q st reserved l).graph ≡ changed (change_under k (looked (spell_from graph st.node) (Two pairs.Rename p q)).1) (spell graph)
     go [] i w f =
         let moves : fork_move graph p q st ≡ Finishes o = (head_stops graph st.node st.behind [] (fork_move graph p q st) o f).1 refl in
         let fork : ForkAt graph st.node p q st = fork_stops graph is st.node p q st o refl w moves in

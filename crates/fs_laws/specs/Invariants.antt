@@ -3,7 +3,8 @@ use Rattle.std.specs.Prelude.{ℕ, ◌≡◌, ◌<◌, false, List, [], ◌∷�
 use Rattle.fs_names.specs.Keys.{Key, parent_of, last_of}
 use Rattle.fs_names.specs.Parts.{left}
 use Rattle.fs_names.specs.Shapes.{Shape}
-use Rattle.fs_seq.specs.Forms.{Fits, form, Stat, Form, On, In, Rename, under, new_shape}
+use Rattle.fs_seq.specs.Forms.{Fits, form, Stat, Form, On, In, Two, under, new_shape}
+use Rattle.fs_seq.specs.declared.target.PairCall.TheVariants as pairs
 use Rattle.fs_seq.specs.declared.target.EntryCall.{EntryCall}
 use Rattle.fs_seq.specs.Maps.{Map}
 use Rattle.fs_seq.specs.declared.reply.Reply.{Reply}
@@ -32,7 +33,7 @@ ForkedAt graph n p q st (x ∷ l) = Unit {0}
 abbrev pub StandsWell : Graph → ℕ → Form → Stand → Type 0
 StandsWell graph n (On c p) st = Unit {0}
 StandsWell graph n (In c p) st = Unit {0}
-StandsWell graph n (Rename p q) st = ForkedAt graph n p q st (target (Rename p q))
+StandsWell graph n (Two pairs.Rename p q) st = ForkedAt graph n p q st (target (Two pairs.Rename p q))
 
 -- the number that a call reserved, where it has one to link
 abbrev pub HasNumber : Graph → EntryCall → Option ℕ → Type 0
@@ -42,7 +43,7 @@ HasNumber graph c reserved = (shape : Shape) → new_shape c ≡ Some shape → 
 abbrev pub NumberFor : Graph → Form → Option ℕ → Type 0
 NumberFor graph (On c p) reserved = Unit {0}
 NumberFor graph (In c p) reserved = HasNumber graph c reserved
-NumberFor graph (Rename p q) reserved = Unit {0}
+NumberFor graph (Two pairs.Rename p q) reserved = Unit {0}
 
 -- what is left of a call, from where it stands
 abbrev pub remaining_of : Option Record → Form
@@ -96,7 +97,7 @@ IsIn c (d ∷ ds) = (c ≡ d) ⊎ IsIn c ds
 abbrev pub VictimAt : Graph → Form → Stand → Type 0
 VictimAt graph (On c p) st = Unit {0}
 VictimAt graph (In c p) st = (v : ℕ) → st.victim ≡ Some v → graph.kid st.node (last_of p) ≡ Some v
-VictimAt graph (Rename p q) st = (v : ℕ) → st.victim ≡ Some v → (graph.kid st.dest.node (last_of q) ≡ Some v) × (parent_of q ≡ st.dest.walked)
+VictimAt graph (Two pairs.Rename p q) st = (v : ℕ) → st.victim ≡ Some v → (graph.kid st.dest.node (last_of q) ≡ Some v) × (parent_of q ≡ st.dest.walked)
 
 -- the places of a stand at which a call may hold a node
 pub data Slot : Type 0 where

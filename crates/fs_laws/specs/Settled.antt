@@ -3,7 +3,8 @@ use Rattle.std.specs.Prelude.{ℕ, zero, suc, ◌+◌, List, [], ◌∷◌, Opti
 use Rattle.fs_names.specs.Keys.{Key}
 use Rattle.fs_names.specs.Shapes.{Shape}
 use Rattle.fs_seq.specs.Changes.{reply, after}
-use Rattle.fs_seq.specs.Forms.{Form, On, In, Rename, under}
+use Rattle.fs_seq.specs.Forms.{Form, On, In, Two, under}
+use Rattle.fs_seq.specs.declared.target.PairCall.TheVariants as pairs
 use Rattle.fs_seq.specs.Maps.{Map}
 use Rattle.fs_seq.specs.declared.reply.Reply.{Reply}
 use Rattle.fs_nodes.specs.Graphs.{Graph}
@@ -23,7 +24,7 @@ alone_by (suc steps) graph op Ends = finish graph op
 abbrev pub names_left : Form → ℕ
 names_left (On c p) = length p
 names_left (In c p) = length p
-names_left (Rename p q) = length p + length q
+names_left (Two pairs.Rename p q) = length p + length q
 
 -- what a call makes of the graph alone
 abbrev pub alone : Graph → Record → Made

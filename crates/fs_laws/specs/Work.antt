@@ -2,7 +2,8 @@
 use Rattle.std.specs.Prelude.{ℕ, zero, suc, ◌≡◌, ◌+◌, ◌≤◌, [], ◌∷◌, Option, Some, None, length}
 use Rattle.fs_names.specs.Keys.{Key, parent_of}
 use Rattle.fs_names.specs.Parts.{left}
-use Rattle.fs_seq.specs.Forms.{form, Form, On, In, Rename}
+use Rattle.fs_seq.specs.Forms.{form, Form, On, In, Two}
+use Rattle.fs_seq.specs.declared.target.PairCall.TheVariants as pairs
 use Rattle.fs_seq.specs.declared.call.Call.{Call}
 use Rattle.fs_moves.specs.Records.{Stand, Phase, Walking, Placed, Finished, Record}
 use Rattle.fs_laws.specs.Books.{begins}
@@ -28,7 +29,7 @@ one_unless (Some n) = 0
 abbrev pub to_go : Form → Stand → ℕ
 to_go (On c p) st = length p
 to_go (In c p) st = length (parent_of p)
-to_go (Rename p q) st = length (left st.source.walked (parent_of p)) + length (left st.dest.walked (parent_of q))
+to_go (Two pairs.Rename p q) st = length (left st.source.walked (parent_of p)) + length (left st.dest.walked (parent_of q))
 
 -- the moves that it has left at most: two for each name, one for each parent behind, and one for a victim
 abbrev pub moves_left : Form → Stand → ℕ

@@ -3,7 +3,8 @@ use Rattle.std.specs.Prelude.{ℕ, Bool, true, false, List, [], ◌∷◌, Optio
 use Rattle.fs_names.specs.Keys.{Key, parent_of, last_of}
 use Rattle.fs_names.specs.Names.{Name}
 use Rattle.fs_names.specs.Shapes.{is_full}
-use Rattle.fs_seq.specs.Forms.{form, Form, On, In, Rename, by_text}
+use Rattle.fs_seq.specs.Forms.{form, Form, On, In, Two, by_text}
+use Rattle.fs_seq.specs.declared.target.PairCall.TheVariants as pairs
 use Rattle.fs_seq.specs.Rows.{on_row, Edit, Keep, Add, Remove, in_row}
 use Rattle.fs_seq.specs.declared.errno.Errno.{Errno}
 use Rattle.fs_seq.specs.declared.errno.Errno.TheVariants.{Enoent}
@@ -53,7 +54,7 @@ abbrev pub made_at : Graph → Form → Stand → Option ℕ → Made
 made_at graph (On c p) st reserved = on_made graph st.node reserved (on_row c (path_error p (graph.shape st.node)) (graph.shape st.node))
 made_at graph (In c p) st reserved =
     in_made graph st.node (last_of p) reserved (in_row c (dir_error (parent_of p) (graph.shape st.node)) (is_full (graph.shape st.node)) (entry_shape graph st.node (last_of p)))
-made_at graph (Rename p q) st reserved = rename_made graph p q st reserved (target (Rename p q))
+made_at graph (Two pairs.Rename p q) st reserved = rename_made graph p q st reserved (target (Two pairs.Rename p q))
 
 abbrev pub made_by : Graph → Record → Option Errno → Option Stand → Made
 made_by graph op (Some e) st = kept_as (Failed e) graph op.reserved

@@ -4,7 +4,8 @@ use Rattle.fs_names.specs.Keys.{Key, after_prefix, has_more, parent_of, last_of}
 use Rattle.fs_names.specs.Names.{Name}
 use Rattle.fs_names.specs.Parts.{is_end, common, left}
 use Rattle.fs_names.specs.Shapes.{Shape, Dir, File, is_full}
-use Rattle.fs_seq.specs.Forms.{form, Form, On, In, Rename, by_text}
+use Rattle.fs_seq.specs.Forms.{form, Form, On, In, Two, by_text}
+use Rattle.fs_seq.specs.declared.target.PairCall.TheVariants as pairs
 use Rattle.fs_seq.specs.declared.target.EntryCall.{EntryCall}
 use Rattle.fs_seq.specs.declared.target.EntryCall.TheVariants.{Unlink, Rmdir}
 use Rattle.fs_seq.specs.Rows.{as_dir, rename_row}
@@ -30,7 +31,7 @@ first_of (Some m) n = m
 abbrev pub target : Form → Key
 target (On c p) = p
 target (In c p) = parent_of p
-target (Rename p q) = common (parent_of p) (parent_of q)
+target (Two pairs.Rename p q) = common (parent_of p) (parent_of q)
 
 -- at a node with a name left: a file or a missing name finishes, a name that is there is taken
 abbrev pub walk_move : Option Shape → Option ℕ → Move
@@ -129,7 +130,7 @@ fork_move graph p q st =
 abbrev pub target_move : Graph → Form → Stand → Move
 target_move graph (On c p) st = Finishes None
 target_move graph (In c p) st = in_move graph c (last_of p) st
-target_move graph (Rename p q) st = fork_move graph p q st
+target_move graph (Two pairs.Rename p q) st = fork_move graph p q st
 
 -- a call that stands somewhere and isn't finished
 abbrev pub next_on : Graph → Form → Stand → Move
@@ -167,7 +168,7 @@ tail_of (x ∷ p) = p
 abbrev pub inner : Form → Form
 inner (On c p) = On c (tail_of p)
 inner (In c p) = In c (tail_of p)
-inner (Rename p q) = Rename (tail_of p) (tail_of q)
+inner (Two pairs.Rename p q) = Two pairs.Rename (tail_of p) (tail_of q)
 
 -- a parent that is the common directory is not let go
 abbrev pub behind_of : Key → ℕ → Option ℕ
@@ -191,7 +192,7 @@ source_took st (x ∷ k) l n = record st { source = head_took st.source x n }
 abbrev pub target_took : Form → Stand → ℕ → Stand
 target_took (On c p) st n = st
 target_took (In c p) st n = victim_took st n
-target_took (Rename p q) st n = source_took st (left st.source.walked (parent_of p)) (left st.dest.walked (parent_of q)) n
+target_took (Two pairs.Rename p q) st n = source_took st (left st.source.walked (parent_of p)) (left st.dest.walked (parent_of q)) n
 
 abbrev pub took_by : Record → Option Stand → Key → ℕ → Record
 took_by op None l n = record op { stand = Some (stand_at n None) }

@@ -4,7 +4,8 @@ use Rattle.fs_names.specs.Keys.{Key}
 use Rattle.fs_names.specs.Names.{Name}
 use Rattle.fs_names.specs.Shapes.{Shape, Dir, File, is_there, has_entries}
 use Rattle.fs_names.specs.declared.limits.TheConstants.{ENTRY_LIMIT, FILE_LIMIT}
-use Rattle.fs_seq.specs.Forms.{form, Form, On, In, Rename}
+use Rattle.fs_seq.specs.Forms.{form, Form, On, In, Two}
+use Rattle.fs_seq.specs.declared.target.PairCall.TheVariants as pairs
 use Rattle.fs_seq.specs.declared.call.Call.{Call}
 use Rattle.fs_seq.specs.declared.reply.Reply.{Reply}
 use Rattle.fs_nodes.specs.Graphs.{Graph, reserved_in}
@@ -82,7 +83,7 @@ pub record IsBounded (graph : Graph) : Type 0 where
 abbrev pub HeadsApart : Form → Stand → Type 0
 HeadsApart (On c p) st = Unit {0}
 HeadsApart (In c p) st = Unit {0}
-HeadsApart (Rename p q) st = st.source.node ≡ st.dest.node → st.source.walked ≡ st.dest.walked
+HeadsApart (Two pairs.Rename p q) st = st.source.node ≡ st.dest.node → st.source.walked ≡ st.dest.walked
 
 -- what a finish needs of the graph
 pub record CanFinish (graph : Graph) (reserved : Option ℕ) (remaining : Form) (stand : Option Stand) : Type 0 where

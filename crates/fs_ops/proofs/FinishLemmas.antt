@@ -4,7 +4,8 @@ use Rattle.fs_names.specs.Names.{Name}
 use Rattle.fs_names.specs.Keys.{Key, last_of, parent_of}
 use Rattle.fs_names.specs.Shapes.{Shape, Dir, File, is_full}
 use Rattle.fs_nodes.specs.Graphs.{Graph, entry_shape}
-use Rattle.fs_seq.specs.Forms.{Form, On, In, Rename, NodeCall, Stat, Readdir, Read, by_text, form}
+use Rattle.fs_seq.specs.Forms.{Form, On, In, Two, NodeCall, Stat, Readdir, Read, by_text, form}
+use Rattle.fs_seq.specs.declared.target.PairCall.TheVariants as pairs
 use Rattle.fs_seq.specs.declared.target.EntryCall.{EntryCall}
 use Rattle.fs_seq.specs.Rows.{on_row, in_row}
 use Rattle.fs_seq.specs.declared.call.Call.{Call}
@@ -103,38 +104,38 @@ module _ (graph new : Graph) (way : Way) (n : ℕ) (fork : Option ForkWay) (vict
   by_heads p q x y st (r, true) None = refl
   by_heads p q x y st (r, true) (Some s) = refl
 
-  started_stand : (p q : Key) (behind : Option ℕ) (o : Option ForkWay) (names : ℕ) → stand_with (Rename p q) n behind o victim ≡ stand_with (Rename p q) n behind (Some (started o n names)) victim
+  started_stand : (p q : Key) (behind : Option ℕ) (o : Option ForkWay) (names : ℕ) → stand_with (Two pairs.Rename p q) n behind o victim ≡ stand_with (Two pairs.Rename p q) n behind (Some (started o n names)) victim
   started_stand p q behind None names = refl
   started_stand p q behind (Some heads) names = refl
 
-  rename_at_heads : (p q : Key) (source dest : count.Head) → way.names ≡ length (target (Rename p q)) → way.walked ≡ way.names → way.node ≡ Some n → Forks (Rename p q) way fork
+  rename_at_heads : (p q : Key) (source dest : count.Head) → way.names ≡ length (target (Two pairs.Rename p q)) → way.walked ≡ way.names → way.node ≡ Some n → Forks (Two pairs.Rename p q) way fork
       → source ≡ (started fork n way.names).source → dest ≡ (started fork n way.names).dest
-      → IsMade (rename_made graph (drop way.walked p) (drop way.walked q) (heads_stand p q way.walked source dest victim) reserved []) finish new → At (Rename p q)
+      → IsMade (rename_made graph (drop way.walked p) (drop way.walked q) (heads_stand p q way.walked source dest victim) reserved []) finish new → At (Two pairs.Rename p q)
   rename_at_heads p q source dest names arrived node forks s d made =
       let heads : ForkWay = started fork n way.names in
       let forked : IsForked p q way heads = started_forked p q way fork n node arrived names forks in
-      let st : Stand = stand_with (Rename p q) n way.behind (Some heads) victim in
+      let st : Stand = stand_with (Two pairs.Rename p q) n way.behind (Some heads) victim in
       let k : ℕ = way.walked in
-      let none : target (dropped k (Rename p q)) ≡ [] = target_drop k (Rename p q) (omega arith) ∙ none_left k (target (Rename p q)) (omega arith) in
+      let none : target (dropped k (Two pairs.Rename p q)) ≡ [] = target_drop k (Two pairs.Rename p q) (omega arith) ∙ none_left k (target (Two pairs.Rename p q)) (omega arith) in
       let same : heads_stand p q k source dest victim ≡ heads_stand p q heads.names heads.source heads.dest victim = (λ i. heads_stand p q (sym forked.names i) (s i) (d i) victim) in
-      let parts : rename_made graph (drop k p) (drop k q) (stand_with (Rename p q) n way.behind fork victim) reserved (target (dropped k (Rename p q))) ≡ rename_made graph (drop k p) (drop k q) st reserved [] =
+      let parts : rename_made graph (drop k p) (drop k q) (stand_with (Two pairs.Rename p q) n way.behind fork victim) reserved (target (dropped k (Two pairs.Rename p q))) ≡ rename_made graph (drop k p) (drop k q) st reserved [] =
       (λ i. rename_made graph (drop k p) (drop k q) (started_stand p q way.behind fork way.names i) reserved (none i)) in
       let nodes : rename_made graph (drop k p) (drop k q) st reserved [] ≡ rename_made graph (drop k p) (drop k q) (heads_stand p q heads.names heads.source heads.dest victim) reserved [] =
       by_heads p q (last_of (drop k p)) (last_of (drop k q)) st (rename_at graph (drop k p) (drop k q) st) (graph.kid heads.source.node (last_of (drop k p))) in
       as_made _ _ finish new (parts ∙ nodes ∙ ap (λ (z : Stand). rename_made graph (drop k p) (drop k q) z reserved []) (sym same)) made
 
-  pub rename_arm : (f : Form) (p q : Key) (source dest : count.Head) → f ≡ Rename p q → Arrives f → way.walked ≡ way.names → way.node ≡ Some n → Forks f way fork
+  pub rename_arm : (f : Form) (p q : Key) (source dest : count.Head) → f ≡ Two pairs.Rename p q → Arrives f → way.walked ≡ way.names → way.node ≡ Some n → Forks f way fork
       → source ≡ (started fork n way.names).source → dest ≡ (started fork n way.names).dest
       → IsMade (rename_made graph (drop way.walked p) (drop way.walked q) (heads_stand p q way.walked source dest victim) reserved []) finish new → At f
   rename_arm f p q source dest e names arrived node forks s d made =
       subst At (sym e) (rename_at_heads p q source dest (subst Arrives e names) arrived node (subst (λ (z : Form). Forks z way fork) e forks) s d made)
 
 -- the heads of such a rename
-module _ (way : Way) (n : ℕ) (fork : Option ForkWay) (victim : Option ℕ) (f : Form) (p q : Key) (e : f ≡ Rename p q) (names : way.names ≡ length (target f)) (arrived : way.walked ≡ way.names) (node : way.node ≡ Some n) (forks : Forks f way fork) where
+module _ (way : Way) (n : ℕ) (fork : Option ForkWay) (victim : Option ℕ) (f : Form) (p q : Key) (e : f ≡ Two pairs.Rename p q) (names : way.names ≡ length (target f)) (arrived : way.walked ≡ way.names) (node : way.node ≡ Some n) (forks : Forks f way fork) where
   pub forked_here : IsForked p q way (started fork n way.names)
   forked_here = started_forked p q way fork n node arrived (subst (λ (z : Form). way.names ≡ length (target z)) e names) (subst (λ (z : Form). Forks z way fork) e forks)
 
-  here_stand : (behind : Option ℕ) (o : Option ForkWay) (m : ℕ) → stand_with (Rename p q) n behind o victim ≡ stand_with (Rename p q) n behind (Some (started o n m)) victim
+  here_stand : (behind : Option ℕ) (o : Option ForkWay) (m : ℕ) → stand_with (Two pairs.Rename p q) n behind o victim ≡ stand_with (Two pairs.Rename p q) n behind (Some (started o n m)) victim
   here_stand behind None m = refl
   here_stand behind (Some heads) m = refl
 
@@ -142,8 +143,8 @@ module _ (way : Way) (n : ℕ) (fork : Option ForkWay) (victim : Option ℕ) (f 
       → source.node ≡ dest.node → take source.walked (drop way.walked p) ≡ take dest.walked (drop way.walked q)
   apart_here source dest apart s d same =
       let heads : ForkWay = started fork n way.names in
-      let h : HeadsApart (Rename (drop way.walked p) (drop way.walked q)) (stand_with (Rename p q) n way.behind (Some heads) victim) =
-      subst (λ (z : Stand). HeadsApart (Rename (drop way.walked p) (drop way.walked q)) z) (here_stand way.behind fork way.names)
+      let h : HeadsApart (Two pairs.Rename (drop way.walked p) (drop way.walked q)) (stand_with (Two pairs.Rename p q) n way.behind (Some heads) victim) =
+      subst (λ (z : Stand). HeadsApart (Two pairs.Rename (drop way.walked p) (drop way.walked q)) z) (here_stand way.behind fork way.names)
       (subst (λ (z : Form). HeadsApart (dropped way.walked z) (stand_with z n way.behind fork victim)) e apart) in
       (λ i. take ((s i).walked) (drop (sym forked_here.names i) p))
       ∙ h (sym (ap (λ (z : count.Head). z.node) s) ∙ same ∙ ap (λ (z : count.Head). z.node) d)
@@ -153,7 +154,7 @@ module _ (way : Way) (n : ℕ) (fork : Option ForkWay) (victim : Option ℕ) (f 
 lost_at : (graph : Graph) (rest : Form) (st : Stand) (reserved : Option ℕ) (z : Name) (l : Key) → target rest ≡ z ∷ l → made_at graph rest st reserved ≡ kept_as (Failed (walk_errno (graph.shape st.node))) graph reserved
 lost_at graph (On c p) st reserved z l e = ap (λ (k : Key). on_made graph st.node reserved (on_row c (path_error k (graph.shape st.node)) (graph.shape st.node))) e
 lost_at graph (In c p) st reserved z l e = ap (λ (k : Key). in_made graph st.node (last_of p) reserved (in_row c (dir_error k (graph.shape st.node)) (is_full (graph.shape st.node)) (entry_shape graph st.node (last_of p)))) e
-lost_at graph (Rename p q) st reserved z l e = ap (λ (k : Key). rename_made graph p q st reserved k) e
+lost_at graph (Two pairs.Rename p q) st reserved z l e = ap (λ (k : Key). rename_made graph p q st reserved k) e
 
 pub lost : (graph : Graph) (f : Form) (way : Way) (n : ℕ) (fork : Option ForkWay) (victim reserved : Option ℕ) (errno : Errno) (finish : Finish) → by_text f ≡ None → way.node ≡ Some n → way.names ≡ length (target f) → way.walked < way.names
     → errno ≡ walk_errno (graph.shape n) → finish ≡ record { replies = Failed errno; reserved = reserved; removed = None } → IsMade (finish_by graph f way fork victim reserved) finish graph
@@ -178,14 +179,14 @@ pub finish_is : (graph : Graph) (call : Call) (way : Way) (fork : Option ForkWay
 finish_is graph call way fork victim reserved removed outcome seat place = made_same graph (record_of seat place (work_of call way fork victim reserved removed outcome)) (by_text (form call)) (stand_of (form call) way.node way.behind fork victim)
 
 -- the same with the number of names as the code has it
-pub apart_by : (way : Way) (n : ℕ) (fork : Option ForkWay) (victim : Option ℕ) (f : Form) (p q : Key) → f ≡ Rename p q → way.names ≡ length (target f) → way.walked ≡ way.names → way.node ≡ Some n → Forks f way fork
+pub apart_by : (way : Way) (n : ℕ) (fork : Option ForkWay) (victim : Option ℕ) (f : Form) (p q : Key) → f ≡ Two pairs.Rename p q → way.names ≡ length (target f) → way.walked ≡ way.names → way.node ≡ Some n → Forks f way fork
     → (k : ℕ) (source dest : count.Head) → k ≡ way.walked → HeadsApart (dropped way.walked f) (stand_with f n way.behind fork victim) → source ≡ (started fork n way.names).source → dest ≡ (started fork n way.names).dest
     → source.node ≡ dest.node → take source.walked (drop k p) ≡ take dest.walked (drop k q)
 apart_by way n fork victim f p q e names arrived node forks k source dest z apart s d same =
     subst (λ (m : ℕ). take source.walked (drop m p) ≡ take dest.walked (drop m q)) (sym z) (apart_here way n fork victim f p q e names arrived node forks source dest apart s d same)
 
 pub rename_by : (graph new : Graph) (way : Way) (n : ℕ) (fork : Option ForkWay) (victim reserved : Option ℕ) (finish : Finish) (f : Form) (p q : Key) (k : ℕ) (source dest : count.Head) → k ≡ way.walked
-    → f ≡ Rename p q → way.names ≡ length (target f) → way.walked ≡ way.names → way.node ≡ Some n → Forks f way fork → source ≡ (started fork n way.names).source → dest ≡ (started fork n way.names).dest
+    → f ≡ Two pairs.Rename p q → way.names ≡ length (target f) → way.walked ≡ way.names → way.node ≡ Some n → Forks f way fork → source ≡ (started fork n way.names).source → dest ≡ (started fork n way.names).dest
     → IsMade (rename_made graph (drop k p) (drop k q) (heads_stand p q k source dest victim) reserved []) finish new
     → IsMade (made_at graph (dropped way.walked f) (stand_with f n way.behind fork victim) reserved) finish new
 rename_by graph new way n fork victim reserved finish f p q k source dest z e names arrived node forks s d made =

@@ -7,7 +7,8 @@ use Rattle.fs_names.specs.Parts.{is_end, common, left}
 use Rattle.fs_names.specs.Shapes.{Shape, Dir, File, is_dir, is_full}
 use Rattle.fs_names.proofs.Lemmas.{same_name_exact, same_name_refl, after_prefix-append}
 use Rattle.fs_nodes.specs.Graphs.{Graph, entry_shape}
-use Rattle.fs_seq.specs.Forms.{Rename, by_text}
+use Rattle.fs_seq.specs.Forms.{Two, by_text}
+use Rattle.fs_seq.specs.declared.target.PairCall.TheVariants as pairs
 use Rattle.fs_seq.specs.Rows.{rename_row, as_dir}
 use Rattle.fs_seq.specs.declared.errno.Errno.{Errno}
 use Rattle.fs_seq.specs.declared.reply.Reply.{Reply}
@@ -146,15 +147,15 @@ walked_all p k j s h e =
 
 -- ---- the finish of a rename
 
-text_named : (p q : Key) → by_text (Rename p q) ≡ None → (0 < length p) × (0 < length q)
+text_named : (p q : Key) → by_text (Two pairs.Rename p q) ≡ None → (0 < length p) × (0 < length q)
 text_named [] q e = absurd (cc)
 text_named (x ∷ p) [] e = absurd (cc)
 text_named (x ∷ p) (y ∷ q) e = (omega arith, omega arith)
 
-pub source_named : (p q : Key) → by_text (Rename p q) ≡ None → 0 < length p
+pub source_named : (p q : Key) → by_text (Two pairs.Rename p q) ≡ None → 0 < length p
 source_named p q e = (text_named p q e).0
 
-pub dest_named : (p q : Key) → by_text (Rename p q) ≡ None → 0 < length q
+pub dest_named : (p q : Key) → by_text (Two pairs.Rename p q) ≡ None → 0 < length q
 dest_named p q e = (text_named p q e).1
 
 module _ (graph : Graph) (p q : Key) (k : ℕ) (source dest : count.Head) (victim reserved : Option ℕ) where
@@ -192,7 +193,7 @@ module _ (graph : Graph) (p q : Key) (k : ℕ) (source dest : count.Head) (victi
   by_nodes x y (r, true) None = refl
   by_nodes x y (r, true) (Some s) = refl
 
-  pub rename_done : (same_path above one_parent : Bool) (finish : Finish) (new : Graph) → by_text (Rename p q) ≡ None → k ≤ length (common (parent_of p) (parent_of q)) → None ≡ source_error → None ≡ dest_error
+  pub rename_done : (same_path above one_parent : Bool) (finish : Finish) (new : Graph) → by_text (Two pairs.Rename p q) ≡ None → k ≤ length (common (parent_of p) (parent_of q)) → None ≡ source_error → None ≡ dest_error
       → same_path ≡ is_end (after_prefix p q) → above ≡ has_more (after_prefix q p) → one_parent ≡ is_end (after_prefix (parent_of p) (parent_of q))
       → IsMade (made_between graph source.node (last_of p) dest.node (last_of q) same_path above one_parent victim reserved) finish new → IsMade (rename_made graph (drop k p) (drop k q) stand reserved []) finish new
   rename_done same_path above one_parent finish new text h a b e f g made =
@@ -209,7 +210,7 @@ module _ (graph : Graph) (p q : Key) (k : ℕ) (source dest : count.Head) (victi
       subst (λ (z : Made). IsMade z finish new) (sym (parts ∙ by_nodes (last_of p) (last_of q) (rename_reply graph source.node (last_of p) dest.node (last_of q) same_path above one_parent) (graph.kid source.node (last_of p)))) made
 
   -- heads that stand at one node have walked the same names, so that one last name means one path
-  pub heads_apart : by_text (Rename p q) ≡ None → k ≤ length (common (parent_of p) (parent_of q)) → k + source.walked ≤ length (parent_of p) → k + dest.walked ≤ length (parent_of q)
+  pub heads_apart : by_text (Two pairs.Rename p q) ≡ None → k ≤ length (common (parent_of p) (parent_of q)) → k + source.walked ≤ length (parent_of p) → k + dest.walked ≤ length (parent_of q)
       → (source.node ≡ dest.node → take source.walked (drop k p) ≡ take dest.walked (drop k q)) → None ≡ source_error → None ≡ dest_error
       → source.node ≡ dest.node → last_of p ≡ last_of q → is_end (after_prefix p q) ≡ true
   heads_apart text h sw dw apart a b n l =

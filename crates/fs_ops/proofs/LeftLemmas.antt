@@ -4,7 +4,8 @@ use Rattle.std.specs.Option.{is_some}
 use Rattle.std.proofs.lemmas.Bool.Decides.{nat_tests}
 use Rattle.fs_names.specs.Keys.{Key, parent_of}
 use Rattle.fs_names.specs.Names.{Name}
-use Rattle.fs_seq.specs.Forms.{form, Form, On, In, Rename}
+use Rattle.fs_seq.specs.Forms.{form, Form, On, In, Two}
+use Rattle.fs_seq.specs.declared.target.PairCall.TheVariants as pairs
 use Rattle.fs_seq.specs.declared.call.Call.{Call}
 use Rattle.fs_seq.specs.declared.reply.Reply.{Reply}
 use Rattle.fs_walk.specs.Ways.{Way, ForkWay, has_set_out}
@@ -34,14 +35,14 @@ head_taken names j p h =
 
 -- a fork lets the head that walked last go back; where none has walked, everything goes
 heads_left : (p q : Key) (way : Way) (n : ℕ) (fork : ForkWay) → IsForked p q way fork → way.node ≡ Some n
-    → stand_of (Rename p q) (way_after None (Some fork) way).node (way_after None (Some fork) way).behind (fork_after None (Some fork)) None ≡ left_last (stand_with (Rename p q) n way.behind (Some fork) None) None
+    → stand_of (Two pairs.Rename p q) (way_after None (Some fork) way).node (way_after None (Some fork) way).behind (fork_after None (Some fork)) None ≡ left_last (stand_with (Two pairs.Rename p q) n way.behind (Some fork) None) None
 heads_left p q way n fork h at = by_dest fork.dest.walked refl
   where
     set_out : Bool → Type 0
     set_out b = has_set_out fork ≡ b
 
     by_source : (k : ℕ) → fork.dest.walked ≡ 0 → fork.source.walked ≡ k
-        → stand_of (Rename p q) (way_after None (Some fork) way).node (way_after None (Some fork) way).behind (fork_after None (Some fork)) None ≡ left_last (stand_with (Rename p q) n way.behind (Some fork) None) None
+        → stand_of (Two pairs.Rename p q) (way_after None (Some fork) way).node (way_after None (Some fork) way).behind (fork_after None (Some fork)) None ≡ left_last (stand_with (Two pairs.Rename p q) n way.behind (Some fork) None) None
     by_source zero d e = rw (d, e) refl
     by_source (suc k) d e =
         let r : (x : Name) × ((r : Key) × (take (suc k) (drop fork.names p) ≡ x ∷ r)) = head_taken fork.names k p (omega (arith, h.source)) in
@@ -50,7 +51,7 @@ heads_left p q way n fork h at = by_dest fork.dest.walked refl
         rw (d, e, t, at, same, r.1.1) refl
 
     by_dest : (k : ℕ) → fork.dest.walked ≡ k
-        → stand_of (Rename p q) (way_after None (Some fork) way).node (way_after None (Some fork) way).behind (fork_after None (Some fork)) None ≡ left_last (stand_with (Rename p q) n way.behind (Some fork) None) None
+        → stand_of (Two pairs.Rename p q) (way_after None (Some fork) way).node (way_after None (Some fork) way).behind (fork_after None (Some fork)) None ≡ left_last (stand_with (Two pairs.Rename p q) n way.behind (Some fork) None) None
     by_dest zero d = by_source fork.source.walked d refl
     by_dest (suc k) d =
         let r : (x : Name) × ((r : Key) × (take (suc k) (drop fork.names q) ≡ x ∷ r)) = head_taken fork.names k q (omega (arith, h.dest)) in
@@ -65,7 +66,7 @@ stand_left_at : (call : Form) (way : Way) (fork : Option ForkWay) (victim : Opti
 stand_left_at call way None (Some v) r n h at = rw at refl
 stand_left_at call way (Some fork) (Some v) r n h at = rw at refl
 stand_left_at call way None None r n h at = refl
-stand_left_at (Rename p q) way (Some fork) None r n h at = heads_left p q way n fork h at
+stand_left_at (Two pairs.Rename p q) way (Some fork) None r n h at = heads_left p q way n fork h at
 stand_left_at (On c p) way (Some fork) None r n h at = absurd h
 stand_left_at (In c p) way (Some fork) None r n h at = absurd h
 

@@ -9,7 +9,8 @@ use Rattle.fs_names.specs.Shapes.{Shape, is_full}
 use Rattle.fs_nodes.specs.Graphs.{Graph, entry_shape}
 use Rattle.fs_nodes.specs.Places.{Places}
 use Rattle.fs_nodes.specs.Stores.{graph_of}
-use Rattle.fs_seq.specs.Forms.{form, Form, On, In, Rename, by_text}
+use Rattle.fs_seq.specs.Forms.{form, Form, On, In, Two, by_text}
+use Rattle.fs_seq.specs.declared.target.PairCall.TheVariants as pairs
 use Rattle.fs_seq.specs.declared.target.EntryCall.{EntryCall}
 use Rattle.fs_seq.specs.declared.call.Call.{Call}
 use Rattle.fs_seq.specs.Rows.{from_row, to_row, moves_row}
@@ -89,19 +90,19 @@ held_is call way (Some f) (Some v) n h at = refl
 held_is call way None None n h at = refl
 held_is (On c p) way (Some f) None n h at = absurd h
 held_is (In c p) way (Some f) None n h at = absurd h
-held_is (Rename p q) way (Some f) None n h at = by_dest f.dest.walked refl
+held_is (Two pairs.Rename p q) way (Some f) None n h at = by_dest f.dest.walked refl
   where
     same : n ≡ f.node
     same = let i : way.node ≡ Some f.node = h.node in cc
 
-    by_source : (k : ℕ) → f.dest.walked ≡ 0 → f.source.walked ≡ k → last_held (stand_with (Rename p q) n way.behind (Some f) None) None ≡ fork_last f
+    by_source : (k : ℕ) → f.dest.walked ≡ 0 → f.source.walked ≡ k → last_held (stand_with (Two pairs.Rename p q) n way.behind (Some f) None) None ≡ fork_last f
     by_source zero d e = rw (d, e) same
     by_source (suc k) d e =
         let r = head_taken f.names k p (omega (arith, h.source)) in
         let t : nat_lt 0 (suc k) ≡ true = grind (arith, nat_tests) in
         rw (d, e, t, r.1.1) refl
 
-    by_dest : (k : ℕ) → f.dest.walked ≡ k → last_held (stand_with (Rename p q) n way.behind (Some f) None) None ≡ fork_last f
+    by_dest : (k : ℕ) → f.dest.walked ≡ k → last_held (stand_with (Two pairs.Rename p q) n way.behind (Some f) None) None ≡ fork_last f
     by_dest zero d = by_source f.source.walked d refl
     by_dest (suc k) d =
         let r = head_taken f.names k q (omega (arith, h.dest)) in

@@ -5,7 +5,8 @@ use Rattle.fs_names.specs.Names.{Name}
 use Rattle.fs_names.specs.Shapes.{Shape, Dir, File}
 use Rattle.fs_names.specs.declared.limits.TheConstants.{ENTRY_LIMIT, FILE_LIMIT}
 use Rattle.fs_nodes.specs.Graphs.{Graph, empty_graph}
-use Rattle.fs_seq.specs.Forms.{Form, On, In, Rename, form}
+use Rattle.fs_seq.specs.Forms.{Form, On, In, Two, form}
+use Rattle.fs_seq.specs.declared.target.PairCall.TheVariants as pairs
 use Rattle.fs_seq.specs.declared.call.Call.{Call}
 use Rattle.fs_seq.specs.declared.reply.Reply.{Reply}
 use Rattle.fs_moves.specs.Records.{Record, Walking, Stand, stand_at}
@@ -27,7 +28,7 @@ empty_bounded = record { entries = λ n names e. no_entries (eqb n 0) names e; b
 unwalked : (f : Form) (n : ℕ) → HeadsApart f (stand_at n None)
 unwalked (On c p) n = tt
 unwalked (In c p) n = tt
-unwalked (Rename p q) n = λ e. refl
+unwalked (Two pairs.Rename p q) n = λ e. refl
 
 open_reply : (o : Option Reply) → phase_of None o ≡ Walking → o ≡ None
 open_reply None e = refl

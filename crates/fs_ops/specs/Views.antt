@@ -1,7 +1,8 @@
 -- What the code of a call keeps, seen as its work: counts of walked names in the place of keys.
 use Rattle.std.specs.Prelude.{ℕ, ◌≡◌, ◌+◌, ◌≤◌, length, take, drop, Option, Some, None}
 use Rattle.fs_names.specs.Keys.{Key, parent_of}
-use Rattle.fs_seq.specs.Forms.{Form, On, In, Rename, form}
+use Rattle.fs_seq.specs.Forms.{Form, On, In, Two, form}
+use Rattle.fs_seq.specs.declared.target.PairCall.TheVariants as pairs
 use Rattle.fs_seq.specs.declared.call.Call.{Call}
 use Rattle.fs_seq.specs.declared.reply.Reply.{Reply}
 use Rattle.fs_walk.specs.Ways.{Way, ForkWay}
@@ -17,18 +18,18 @@ use Rattle.fs_moves.specs.Works.{Work}
 abbrev pub first_path : Form → Key
 first_path (On c p) = p
 first_path (In c p) = p
-first_path (Rename p q) = p
+first_path (Two pairs.Rename p q) = p
 
 abbrev pub second_path : Form → Key
 second_path (On c p) = p
 second_path (In c p) = p
-second_path (Rename p q) = q
+second_path (Two pairs.Rename p q) = q
 
 -- the form of a call without so many first names of each path
 abbrev pub dropped : ℕ → Form → Form
 dropped n (On c p) = On c (drop n p)
 dropped n (In c p) = In c (drop n p)
-dropped n (Rename p q) = Rename (drop n p) (drop n q)
+dropped n (Two pairs.Rename p q) = Two pairs.Rename (drop n p) (drop n q)
 
 -- a head that has walked so many names of a path behind those to the common directory
 abbrev pub head_of : Key → ℕ → count.Head → Head
@@ -73,7 +74,7 @@ pub record IsForked (p q : Key) (way : Way) (fork : ForkWay) : Type 0 where
 -- other calls have none
 abbrev pub Forks : Form → Way → Option ForkWay → Type 0
 Forks call way None = Unit {0}
-Forks (Rename p q) way (Some fork) = IsForked p q way fork
+Forks (Two pairs.Rename p q) way (Some fork) = IsForked p q way fork
 Forks (On c p) way (Some fork) = ⊥
 Forks (In c p) way (Some fork) = ⊥
 

@@ -17,7 +17,7 @@ use fs_finish::room::Room;
 use fs_finish::text::parent_len;
 use fs_names::{Kind, PATH_LIMIT, Path};
 use fs_nodes::{NoNode, NodeNo, Store};
-use fs_seq::{Call, EntryCall, Target};
+use fs_seq::{Call, EntryCall, PairCall, Target};
 use fs_walk::Walk;
 use std::alloc::{AllocError, Global};
 
@@ -38,7 +38,7 @@ fn new_kind(aim: Target<'_>) -> Option<Kind>
 {
     match aim {
         Target::Entry(entry, path) if !path.is_empty() => kind_of(entry),
-        Target::Entry(_, _) | Target::Node(_, _) | Target::Rename(_, _) => None,
+        Target::Entry(_, _) | Target::Node(_, _) | Target::Pair(_, _, _) => None,
     }
 }
 
@@ -60,7 +60,7 @@ fn target_len(aim: Target<'_>) -> usize
     match aim {
         Target::Node(_, path) => path.len(),
         Target::Entry(_, path) => parent_len(path),
-        Target::Rename(path, other) => common_len(path, other),
+        Target::Pair(PairCall::Rename, path, other) => common_len(path, other),
     }
 }
 

@@ -5,6 +5,7 @@ ghost use Rattle.fs_names.specs.Keys.{parent_of};
 ghost use Rattle.fs_names.specs.Parts.{common, left};
 ghost use Rattle.fs_nodes.specs.Stores.{shape, graph_of, room};
 ghost use Rattle.fs_seq.specs.Forms as forms;
+ghost use Rattle.fs_seq.specs.declared.target.PairCall.TheVariants as pairs;
 ghost use Rattle.fs_seq.specs.Forms.{by_text};
 ghost use Rattle.fs_finish.specs.Endings.{IsMade};
 ghost use Rattle.fs_ops.specs.Counted.{heads_stand};
@@ -64,7 +65,7 @@ pub fn finish_rename(
     reserved: Option<NodeNo>,
     store: &mut Store,
 ) -> Finish
-    requires text { by_text (forms.Rename path.now new_path.now) ≡ None }
+    requires text { by_text (forms.Two pairs.Rename path.now new_path.now) ≡ None }
     requires source { names + source.walked ≤ length (parent_of path.now) }
     requires dest { names + dest.walked ≤ length (parent_of new_path.now) }
     requires shared { names ≤ length (common (parent_of path.now) (parent_of new_path.now)) }

@@ -6,6 +6,7 @@ ghost use Rattle.fs_names.specs.Keys.{parent_of};
 ghost use Rattle.fs_names.specs.Parts.{common};
 ghost use Rattle.fs_seq.specs.Targets.{form_of};
 ghost use Rattle.fs_seq.specs.Forms as forms;
+ghost use Rattle.fs_seq.specs.declared.target.PairCall.TheVariants as pairs;
 ghost use Rattle.fs_walk.specs.Ways.{fork_took, has_arrived};
 ghost use Rattle.fs_moves.specs.Moves.{target};
 ghost use Rattle.fs_ops.specs.Views.{Forks};
@@ -15,7 +16,7 @@ ghost use Rattle.fs_moves.specs.Works.{IsTook};
 use crate::op::Op;
 use fs_names::Path;
 use fs_nodes::NodeNo;
-use fs_seq::Target;
+use fs_seq::{PairCall, Target};
 use fs_walk::{Fork, Walk};
 
 /// A head of a rename takes a node; where both have arrived, it is the victim.
@@ -57,9 +58,9 @@ fn rename_took(
 )
     requires names { walk.now.names ≡ length (common (parent_of source.now) (parent_of dest.now)) }
     requires arrived { walk.now.walked ≡ walk.now.names }
-    requires forks { Forks (forms.Rename source.now dest.now) walk.now fork.old }
-    ensures forks { Forks (forms.Rename source.now dest.now) walk.now fork.new }
-    ensures stands { (at : ℕ) → walk.now.node ≡ Some at → TakesTo (forms.Rename source.now dest.now) walk.now at node fork.old victim.old fork.new victim.new }
+    requires forks { Forks (forms.Two pairs.Rename source.now dest.now) walk.now fork.old }
+    ensures forks { Forks (forms.Two pairs.Rename source.now dest.now) walk.now fork.new }
+    ensures stands { (at : ℕ) → walk.now.node ≡ Some at → TakesTo (forms.Two pairs.Rename source.now dest.now) walk.now at node fork.old victim.old fork.new victim.new }
 {
     if let Some(at) = walk.node() {
         let mut heads = started(fork.take(), at, walk.names());
@@ -87,7 +88,7 @@ fn took_at_target(
         Target::Entry(_, _) => {
             *victim = Some(node);
         }
-        Target::Rename(source, dest) => rename_took(source, dest, walk, fork, victim, node),
+        Target::Pair(PairCall::Rename, source, dest) => rename_took(source, dest, walk, fork, victim, node),
     }
 }
 

@@ -4,7 +4,8 @@ use Rattle.fs_names.specs.Keys.{Key, after_prefix, parent_of, last_of}
 use Rattle.fs_names.specs.Names.{Name, inserted_name, removed_name}
 use Rattle.fs_names.specs.Parts.{is_end}
 use Rattle.fs_names.specs.Shapes.{Shape, Dir, File, is_full, names_of}
-use Rattle.fs_seq.specs.Forms.{form, NodeCall, EntryCall, Form, On, In, Rename, by_text}
+use Rattle.fs_seq.specs.Forms.{form, NodeCall, EntryCall, Form, On, In, Two, by_text}
+use Rattle.fs_seq.specs.declared.target.PairCall.TheVariants as pairs
 use Rattle.fs_seq.specs.declared.call.Call.{Call}
 use Rattle.fs_seq.specs.Maps.{Map, move, write_all}
 pub use Rattle.fs_seq.specs.Sights.{resolve, resolve_next, resolve_dir}
@@ -68,7 +69,7 @@ rename_looked tree p q d x e y =
 abbrev pub looked : Map Shape → Form → Reply × Change
 looked tree (On c p) = on_looked tree c p
 looked tree (In c p) = in_looked tree c p (parent_of p) (last_of p)
-looked tree (Rename p q) = rename_looked tree p q (parent_of p) (last_of p) (parent_of q) (last_of q)
+looked tree (Two pairs.Rename p q) = rename_looked tree p q (parent_of p) (last_of p) (parent_of q) (last_of q)
 
 -- what the paths alone decide comes first
 abbrev pub unless : Option Errno → Reply × Change → Reply × Change

@@ -26,4 +26,4 @@ pub use errno::Errno;
 pub use name_list::NameList;
 pub use reply::Reply;
 pub use seq_tree::SeqTree;
-pub use target::{EntryCall, NodeCall, Target};
+pub use target::{EntryCall, NodeCall, PairCall, Target};
