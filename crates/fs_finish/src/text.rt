@@ -10,8 +10,8 @@ ghost use Rattle.fs_seq.specs.declared.target.PairCall.TheVariants as pairs;
 
 use crate::renaming::Paths;
 use fs_names::{Name, PATH_LIMIT, Path};
-use fs_seq::{Call, EntryCall, PairCall, Target};
 use fs_seq::errno::Errno;
+use fs_seq::{Call, EntryCall, PairCall, Target};
 
 /// How many names a path's parent has.
 pub fn parent_len(path: &Path) -> usize

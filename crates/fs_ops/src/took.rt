@@ -88,7 +88,9 @@ fn took_at_target(
         Target::Entry(_, _) => {
             *victim = Some(node);
         }
-        Target::Pair(PairCall::Rename, source, dest) => rename_took(source, dest, walk, fork, victim, node),
+        Target::Pair(PairCall::Rename, source, dest) => rename_took(
+            source, dest, walk, fork, victim, node,
+        ),
     }
 }
 

@@ -10,3 +10,6 @@ pub mod SeedLemmas
 pub mod Counts
 pub mod Whole
 pub mod Stopping
+pub mod OneText
+pub mod Filling
+pub mod Existing

@@ -8,7 +8,7 @@ use Rattle.fs_text.specs.declared.fault.FaultKind.TheVariants as kind
 use Rattle.fs_script.specs.Script.{script_of}
 use Rattle.fs_script.specs.declared.script.Script.{Script}
 use Rattle.fs_sched.specs.Devices.{IsSameText, WritesBeginning}
-use Rattle.fs_sched.specs.Runs.{IsRunOf, ReachesFull}
+use Rattle.fs_sched.specs.Runs.{IsRunOf}
 use Rattle.fs_sched.specs.Stages.{IsFaultOrRefusal}
 use Rattle.fs_sched.specs.declared.fault.RunFault.{RunFault}
 use Rattle.fs_sched.specs.declared.fault.RunFault.TheVariants.{Input}
@@ -40,10 +40,6 @@ known_fault r text items fault f e s h k = known_script r text items (Err f) e s
 pub known_run : (r : Option (List ℕ)) (text items out : List ℕ) (schedule : Schedule) (end : RunEnd) → text ≡ items → IfSome r (IsSameText items) → IsRunOf schedule text end out → IfSome r (λ input. IsRunOf schedule input end out)
 known_run None text items out schedule end e s h = tt
 known_run (Some input) text items out schedule end e s h = (h.0, sym (script_same items input s) ∙ sym (ap script_of e) ∙ h.1, h.2)
-
-pub known_full : (r : Option (List ℕ)) (text items : List ℕ) (schedule : Schedule) → text ≡ items → IfSome r (IsSameText items) → ReachesFull schedule text → IfSome r (ReachesFull schedule)
-known_full None text items schedule e s h = tt
-known_full (Some input) text items schedule e s h = (h.0, sym (script_same items input s) ∙ sym (ap script_of e) ∙ h.1, h.2)
 
 -- a beginning of what was written is one of what was made
 pub begins_same : (written made : List ℕ) (old new : Option (List ℕ)) → written ≡ made → WritesBeginning written old new → WritesBeginning made old new

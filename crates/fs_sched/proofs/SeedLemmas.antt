@@ -7,7 +7,7 @@ use Rattle.std.proofs.lemmas.Grind.{flat_map-append}
 use Rattle.fs_script.specs.Script.{script_of}
 use Rattle.fs_script.specs.declared.script.Script.{Script}
 use Rattle.fs_sched.specs.Devices.{IsSameText}
-use Rattle.fs_sched.specs.Seeds.{lawful_line, IsLawfulFrom, AreRunsOf, OneReachesFull}
+use Rattle.fs_sched.specs.Seeds.{lawful_line, IsLawfulFrom, AreRunsOf}
 use Rattle.fs_sched.proofs.RunLemmas.{script_same}
 
 range_last : (a n : ℕ) → range_with_len a (suc n) ≡ range_with_len a n ++ (a + n) ∷ []
@@ -28,7 +28,3 @@ each_more script seed run each next n from below = ⊎_elim (λ e. subst (IsLawf
 pub known_runs : (r : Option (List ℕ)) (text items out : List ℕ) (seed runs : ℕ) → text ≡ items → IfSome r (IsSameText items) → AreRunsOf seed runs text out → IfSome r (λ input. AreRunsOf seed runs input out)
 known_runs None text items out seed runs e s h = tt
 known_runs (Some input) text items out seed runs e s h = (h.0, sym (script_same items input s) ∙ sym (ap script_of e) ∙ h.1, h.2)
-
-pub known_seed_full : (r : Option (List ℕ)) (text items : List ℕ) (seed runs : ℕ) → text ≡ items → IfSome r (IsSameText items) → OneReachesFull seed runs text → IfSome r (OneReachesFull seed runs)
-known_seed_full None text items seed runs e s h = tt
-known_seed_full (Some input) text items seed runs e s h = (h.0, sym (script_same items input s) ∙ sym (ap script_of e) ∙ h.1, h.2)

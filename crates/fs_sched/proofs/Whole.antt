@@ -81,15 +81,15 @@ begin_seats s new seat c call (off, number, r) x = go (reserves (form call)) r
     go (Some shape) (n, less, unused, same) = ap (λ (u : State). u.on_seat x) same
 
 -- one for each call
-abbrev one : Call → ℕ
+abbrev pub one : Call → ℕ
 one call = 1
 
 -- what every stage of a script's run keeps: the calls that began and those that are left are all
-record Kept (lists : List (List Call)) (s : Stage) : Type 0 where
-  run : Run s.state
-  same : length s.begun ≡ length lists
-  seats : AreSeats lists s
-  all : number_of kind.Begin s.state.timeline + owed one lists s.begun ≡ calls_in lists
+pub record Kept (lists : List (List Call)) (s : Stage) : Type 0 where
+  pub run : Run s.state
+  pub same : length s.begun ≡ length lists
+  pub seats : AreSeats lists s
+  pub all : number_of kind.Begin s.state.timeline + owed one lists s.begun ≡ calls_in lists
 
 call_there : (lists : List (List Call)) (s : Stage) (seat : ℕ) (call : Call) → next_call lists s seat ≡ Some call → seat < length lists
 call_there lists s seat call is = go (ltb seat (length lists)) refl
@@ -98,7 +98,7 @@ call_there lists s seat call is = go (ltb seat (length lists)) refl
     go true t = ltb-true _ _ t
     go false f = let z : ◌≡◌ {A = Option Call} None (Some call) = sym (call_past lists s seat (omega (arith, ltb-false _ _ f))) ∙ is in cc
 
-event_keeps : (lists : List (List Call)) (old new : Stage) (seat : ℕ) → Event lists old seat new → Kept lists old → Kept lists new
+pub event_keeps : (lists : List (List Call)) (old new : Stage) (seat : ℕ) → Event lists old seat new → Kept lists old → Kept lists new
 event_keeps lists old new seat (Goes c answer on step kept) k =
     let a : number_of kind.Begin new.state.timeline ≡ number_of kind.Begin old.state.timeline = step_begins old.state new.state seat answer step in
     let b : owed one lists new.begun ≡ owed one lists old.begun = ap (owed one lists) kept in
@@ -128,11 +128,11 @@ event_keeps lists old new seat (Spent off none e) k = subst (Kept lists) (sym e)
 
 -- ---- a run
 
-events_keep : (lists : List (List Call)) (seats : List ℕ) (old new : Stage) → Events lists old seats new → Kept lists old → Kept lists new
+pub events_keep : (lists : List (List Call)) (seats : List ℕ) (old new : Stage) → Events lists old seats new → Kept lists old → Kept lists new
 events_keep lists [] old new e k = subst (Kept lists) (sym e) k
 events_keep lists (seat ∷ seats) old new (middle, event, rest) k = events_keep lists seats middle new rest (event_keeps lists old middle seat event k)
 
-end_keeps : (lists : List (List Call)) (old last : Stage) → ToEnd lists old last → Kept lists old → Kept lists last × IsOver lists last
+pub end_keeps : (lists : List (List Call)) (old last : Stage) → ToEnd lists old last → Kept lists old → Kept lists last × IsOver lists last
 end_keeps lists old last (Over over) k = (k, over)
 end_keeps lists old last (More {middle} more round rest) k = end_keeps lists middle last rest (events_keep lists _ old middle round k)
 
@@ -151,7 +151,7 @@ owed_all (calls ∷ lists) =
     let g : cost_of one calls ≡ length calls = cost_all calls in
     omega (arith, g, h)
 
-kept_start : (lists : List (List Call)) → Kept lists (start (length lists))
+pub kept_start : (lists : List (List Call)) → Kept lists (start (length lists))
 kept_start lists = record {
   run = Start NODE_LIMIT (omega arith);
   same = length_zeros (length lists);

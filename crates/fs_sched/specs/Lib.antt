@@ -6,3 +6,5 @@ pub mod RunTexts
 pub mod Runs
 pub mod Seeds
 pub mod Stages
+pub mod EachRun
+pub mod Laws

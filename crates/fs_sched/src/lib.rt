@@ -4,6 +4,7 @@
 mod checking;
 pub mod device;
 mod fault;
+pub mod laws;
 mod play;
 mod reading;
 mod running;

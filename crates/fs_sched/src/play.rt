@@ -28,6 +28,7 @@ pub(crate) struct Play {
 fn refused(refusal: Refusal) -> RunFault
     ensures refusal { IsRefusal result }
     ensures full { result ≡ RunFault.Full → refusal ≡ Refusal.Full }
+    ensures told { refusal ≡ Refusal.Full → result ≡ RunFault.Full }
 {
     match refusal {
         Refusal::Full => RunFault::Full,

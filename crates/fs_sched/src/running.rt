@@ -6,6 +6,7 @@ ghost use Rattle.fs_text.specs.declared.fault.ScriptFault.{ScriptFault};
 ghost use Rattle.fs_script.specs.Script.{script_of};
 ghost use Rattle.fs_sched.specs.Devices.{WritesBeginning};
 ghost use Rattle.fs_sched.specs.Runs.{Runs, calls_in, end_of, IsOutput, IsRunOf, IsWhole, HasFinish, FillsUp, ReachesFull};
+ghost use Rattle.fs_sched.specs.EachRun.{AreOfTheRun};
 ghost use Rattle.fs_sched.specs.Stages.{stage_of, IsRefusal, IsFaultOrRefusal};
 
 use crate::device::{Sink, Source};
@@ -117,11 +118,11 @@ pub fn run_script<R: Source, W: Sink>(
     requires reads { R.failures reader.old < 2 ^ 64 - 1 }
     requires writes { W.failures writer.old < 2 ^ 64 - 1 }
 
-    // What is written is the text of a run of the script that was read.
-    ensures ran { IfOk result (λ end. (text : List ℕ) × IfSome (R.remaining reader.old) (λ input. IsRunOf schedule input end text) × Appends (W.contents writer.old) (W.contents writer.new) text) }
+    // What is written is the text of every run of the script that was read, of which there is one.
+    ensures ran { IfOk result (λ end. (text : List ℕ) × IfSome (R.remaining reader.old) (λ input. AreOfTheRun schedule input end text) × Appends (W.contents writer.old) (W.contents writer.new) text) }
     ensures end { OnOk result (IsAtEnd (R.remaining reader.new)) }
     ensures input { (f : ScriptFault) → result ≡ Err (RunFault.Input f) → IfSome (R.remaining reader.old) (λ input. script_of input ≡ Err f) }
-    ensures full { IsErrOf result RunFault.Full → IfSome (R.remaining reader.old) (ReachesFull schedule) }
+    ensures full { result ≢ Err RunFault.Full }
 
     // Where rounds to the end follow, each call of the script began, took its place and returned.
     ensures whole { IfOk result (λ end. schedule ≢ Schedule.Given → IsWhole end) }
@@ -133,7 +134,7 @@ pub fn run_script<R: Source, W: Sink>(
 
     // After a failed write a beginning of the text stands, and after every other error nothing was written.
     ensures nothing { result ≢ Err RunFault.Write → OnErr result (writer.new ≡ writer.old) }
-    ensures beginning { IsErrOf result RunFault.Write → (end : RunEnd) × (text : List ℕ) × IfSome (R.remaining reader.old) (λ input. IsRunOf schedule input end text) × WritesBeginning text (W.contents writer.old) (W.contents writer.new) }
+    ensures beginning { IsErrOf result RunFault.Write → (end : RunEnd) × (text : List ℕ) × IfSome (R.remaining reader.old) (λ input. AreOfTheRun schedule input end text) × WritesBeginning text (W.contents writer.old) (W.contents writer.new) }
 {
     let text = match read_text(alloc, reader) {
         Ok(text) => text,

@@ -132,7 +132,7 @@ pub fn run_seeds<R: Source, W: Sink>(
     ensures lawful { IfOk result (λ lawful. lawful ≡ true) }
     ensures end { OnOk result (IsAtEnd (R.remaining reader.new)) }
     ensures input { (f : ScriptFault) → result ≡ Err (RunFault.Input f) → IfSome (R.remaining reader.old) (λ input. script_of input ≡ Err f) }
-    ensures full { IsErrOf result RunFault.Full → IfSome (R.remaining reader.old) (OneReachesFull seed runs) }
+    ensures full { result ≢ Err RunFault.Full }
 
     // A device is blamed only where it failed in this call.
     ensures read { IsErrOf result RunFault.Read → R.failures reader.new ≡ R.failures reader.old + 1 }

@@ -3,3 +3,4 @@ pub mod ForestLemmas
 pub mod RisingLemmas
 pub mod PendingLemmas
 pub mod StepLemmas
+pub mod LimitLemmas

@@ -2,3 +2,4 @@ pub mod Script
 pub mod TreeText
 pub mod Walks
 pub mod Examples
+pub mod Limits

@@ -3,6 +3,7 @@
 
 mod draft;
 pub mod examples;
+pub mod laws;
 pub mod limits;
 mod reading;
 pub mod script;

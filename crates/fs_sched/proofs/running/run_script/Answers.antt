@@ -1,6 +1,8 @@
 use Rattle.std.specs.Io.KnownBytes.{Appends}
 use Rattle.std.proofs.Common.{subst, Err, ap, ◌≡◌, ◌<◌, ◌≤◌, ◌^◌, length, arith}
-use Rattle.fs_sched.proofs.RunLemmas.{script_short, known_fault, known_run, known_full, begins_same}
+use Rattle.fs_sched.proofs.RunLemmas.{script_short, known_fault, known_run, begins_same}
+use Rattle.fs_sched.proofs.OneText.{known_each}
+use Rattle.fs_sched.proofs.Filling.{never_full}
 use Rattle.fs_sched.proofs.Whole.{whole_always, known_whole}
 use Rattle.fs_sched.proofs.running.run_script.Goals as goal
 use Rattle.fs_sched.specs.declared.fault.RunFault.TheVariants.{Input, Full}
@@ -13,7 +15,7 @@ returns-in-Err-text_of_script-clause-input g c f e =
 pub returns-in-Ok-write_text-clause-ran : goal.returns-in-Ok-write_text-clause-ran
 returns-in-Ok-write_text-clause-ran g c = (
   c.in-Ok-text_of_script.made.text.items,
-  known_run _ _ _ _ _ _ c.deref.ensures.value c.in-Ok.ensures.same c.in-Ok-text_of_script.ensures.output,
+  known_each _ _ _ c.args.schedule (known_run _ _ _ _ _ _ c.deref.ensures.value c.in-Ok.ensures.same c.in-Ok-text_of_script.ensures.output),
   subst (Appends _ _) c.deref-2.ensures.value c.in-Ok-write_text.ensures.ok,
 )
 
@@ -24,7 +26,7 @@ pub returns-clause-beginning : goal.returns-clause-beginning
 returns-clause-beginning g c _ = (
   c.in-Ok-text_of_script.made.end,
   c.in-Ok-text_of_script.made.text.items,
-  known_run _ _ _ _ _ _ c.deref.ensures.value c.in-Ok.ensures.same c.in-Ok-text_of_script.ensures.output,
+  known_each _ _ _ c.args.schedule (known_run _ _ _ _ _ _ c.deref.ensures.value c.in-Ok.ensures.same c.in-Ok-text_of_script.ensures.output),
   begins_same _ _ _ _ c.deref-2.ensures.value c.in-Err-write_text.ensures.err,
 )
 
@@ -37,4 +39,4 @@ returns-in-Ok-write_text-clause-finish g c = let fits : c.in-Ok-text_of_script.m
 pub returns-in-Err-text_of_script-clause-full : goal.returns-in-Err-text_of_script-clause-full
 returns-in-Err-text_of_script-clause-full g c e =
     let k : c.in-Err-text_of_script.fault ≡ Full = cc in
-    known_full _ _ _ c.args.schedule c.deref.ensures.value c.in-Ok.ensures.same (c.in-Err-text_of_script.ensures.full (ap Err k))
+    never_full c.args.schedule _ (c.in-Err-text_of_script.ensures.full (ap Err k))

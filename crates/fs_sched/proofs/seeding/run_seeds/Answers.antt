@@ -1,7 +1,8 @@
 use Rattle.std.specs.Io.KnownBytes.{Appends}
 use Rattle.std.proofs.Common.{subst, Err, ap, ◌≡◌, ◌≤◌, length, arith}
 use Rattle.fs_sched.proofs.RunLemmas.{script_short, known_fault, begins_same}
-use Rattle.fs_sched.proofs.SeedLemmas.{known_runs, known_seed_full}
+use Rattle.fs_sched.proofs.SeedLemmas.{known_runs}
+use Rattle.fs_sched.proofs.Filling.{never_full_seeds}
 use Rattle.fs_sched.proofs.seeding.run_seeds.Goals as goal
 use Rattle.fs_sched.specs.declared.fault.RunFault.TheVariants.{Input, Full}
 
@@ -30,4 +31,4 @@ returns-clause-beginning g c _ = (
 pub returns-in-Err-lines_of_script-clause-full : goal.returns-in-Err-lines_of_script-clause-full
 returns-in-Err-lines_of_script-clause-full g c e =
     let k : c.in-Err-lines_of_script.fault ≡ Full = cc in
-    known_seed_full _ _ _ _ _ c.deref.ensures.value c.in-Ok.ensures.same (c.in-Err-lines_of_script.ensures.full (ap Err k))
+    never_full_seeds c.args.seed c.args.runs _ (c.in-Err-lines_of_script.ensures.full (ap Err k))

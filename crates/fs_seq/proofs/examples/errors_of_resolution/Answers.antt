@@ -4,5 +4,5 @@ use Rattle.fs_seq.specs.Outcomes.{fault, reply, after}
 use Rattle.fs_seq.proofs.examples.errors_of_resolution.Goals as goal
 
 pub returns : goal.returns
-unfolding look inserted removed renamed  fault reply after
+unfolding look inserted removed renamed fault reply after
 returns c = refl

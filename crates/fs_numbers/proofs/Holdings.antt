@@ -1,0 +1,246 @@
+-- A call holds at most four nodes.
+use Rattle.std.proofs.Common.{◌≡◌, ℕ, ◌≤◌, [], ◌∷◌, Option, Some, None, refl, sym, ap, ◌∙◌, append-nil, subst, arith}
+use Rattle.fs_names.specs.Keys.{Key, parent_of}
+use Rattle.fs_names.specs.Names.{Name}
+use Rattle.fs_names.specs.Parts.{left, left_by, HasNames}
+use Rattle.fs_names.specs.Shapes.{Shape}
+use Rattle.fs_seq.specs.Forms.{form, reserves, Form, Two}
+use Rattle.fs_seq.specs.declared.target.PairCall.TheVariants as pairs
+use Rattle.fs_seq.specs.declared.call.Call.{Call}
+use Rattle.fs_seq.specs.declared.reply.Reply.{Reply}
+use Rattle.fs_nodes.specs.Graphs.{Graph, set_at}
+use Rattle.fs_moves.specs.Finishes.{finish}
+use Rattle.fs_moves.specs.Leaving.{let_go, finished_op}
+use Rattle.fs_moves.specs.Moves.{Takes, next, target, head_took, left_behind, left_stand, took, took_by}
+use Rattle.fs_moves.specs.Records.{Stand, Phase, Walking, Placed, Finished, Record, Records, stand_at}
+use Rattle.fs_laws.specs.Books.{commit_count}
+use Rattle.fs_laws.specs.Invariants.{IsUnfinished, VictimAt, HeadsFit}
+use Rattle.fs_laws.specs.States.{State, Run, Start, Beginning, Stepping, Begun, Begins, Begun_as, Seat_busy, Full, No_memory, Reserves, new_op, Step, Stepped, Idle, Took, Busy, LetGo, Helped, Committed, CarriedOut, Returned}
+use Rattle.fs_laws.specs.Work.{one_if, one_walked}
+use Rattle.fs_laws.proofs.Prefixes.{prefix_append}
+use Rattle.fs_laws.proofs.Keeping.{Place, Here, Else, place}
+use Rattle.fs_laws.proofs.Finished.{Either, Changed, Old, either}
+use Rattle.fs_laws.proofs.Taking.{TakesFrom, From_nowhere, From_stand, takes_from}
+use Rattle.fs_laws.proofs.Takes.{Take, Walk, Entry, Source, Dest, Replaced, takes_by}
+use Rattle.fs_laws.proofs.Neat.{Neat, NeatIn, InTurn, IsClosed, in_turn}
+use Rattle.fs_laws.proofs.Headlines.{run_keeps}
+use Rattle.fs_laws.proofs.Accounts.{run_accounts}
+use Rattle.fs_numbers.specs.Holdings.{nodes_held}
+
+-- a parent is held behind only while nothing further is held
+record InOrder (st : Stand) : Type 0 where
+  walk : (m : ℕ) → st.behind ≡ Some m → (st.source.walked ≡ []) × (st.dest.walked ≡ []) × (st.victim ≡ None)
+  source : (m : ℕ) → st.source.behind ≡ Some m → (st.dest.walked ≡ []) × (st.victim ≡ None)
+  dest : (m : ℕ) → st.dest.behind ≡ Some m → st.victim ≡ None
+
+no_number : {A : Type 0} (o : Option ℕ) (m : ℕ) → o ≡ None → o ≡ Some m → A
+no_number o m e f = absurd (let z : ◌≡◌ {A = Option ℕ} None (Some m) = sym e ∙ f in cc)
+
+none_behind : (st : Stand) → st.behind ≡ None → st.source.behind ≡ None → st.dest.behind ≡ None → InOrder st
+none_behind st a b c = record { walk = λ m e. no_number st.behind m a e; source = λ m e. no_number st.source.behind m b e; dest = λ m e. no_number st.dest.behind m c e }
+
+-- ---- the count
+
+one_most : (o : Option ℕ) → one_if o ≤ 1
+one_most None = omega arith
+one_most (Some n) = omega arith
+
+walked_most : (k : Key) → one_walked k ≤ 1
+walked_most [] = omega arith
+walked_most (x ∷ k) = omega arith
+
+at_most : (st : Stand) → HeadsFit st → InOrder st → nodes_held st ≤ 4
+at_most st fit o = behind st.behind refl
+  where
+    by_dest : (b : Option ℕ) → st.dest.behind ≡ b → st.source.behind ≡ None → st.behind ≡ None → nodes_held st ≤ 4
+    by_dest None e j k =
+        let x : one_if st.behind ≡ 0 = ap one_if k in
+        let y : one_if st.source.behind ≡ 0 = ap one_if j in
+        let z : one_if st.dest.behind ≡ 0 = ap one_if e in
+        let p : one_walked st.source.walked ≤ 1 = walked_most st.source.walked in
+        let q : one_walked st.dest.walked ≤ 1 = walked_most st.dest.walked in
+        let r : one_if st.victim ≤ 1 = one_most st.victim in
+        omega (arith, x, y, z, p, q, r)
+    by_dest (Some m) e j k =
+        let x : one_if st.behind ≡ 0 = ap one_if k in
+        let y : one_if st.source.behind ≡ 0 = ap one_if j in
+        let z : one_if st.dest.behind ≤ 1 = one_most st.dest.behind in
+        let p : one_walked st.source.walked ≤ 1 = walked_most st.source.walked in
+        let q : one_walked st.dest.walked ≤ 1 = walked_most st.dest.walked in
+        let r : one_if st.victim ≡ 0 = ap one_if (o.dest m e) in
+        omega (arith, x, y, z, p, q, r)
+
+    by_source : (c : Option ℕ) → st.source.behind ≡ c → st.behind ≡ None → nodes_held st ≤ 4
+    by_source None j k = by_dest st.dest.behind refl j k
+    by_source (Some m) j k =
+        let x : one_if st.behind ≡ 0 = ap one_if k in
+        let y : one_if st.source.behind ≤ 1 = one_most st.source.behind in
+        let z : one_if st.dest.behind ≡ 0 = ap one_if (fit.1 (o.source m j).0) in
+        let p : one_walked st.source.walked ≤ 1 = walked_most st.source.walked in
+        let q : one_walked st.dest.walked ≡ 0 = ap one_walked (o.source m j).0 in
+        let r : one_if st.victim ≡ 0 = ap one_if (o.source m j).1 in
+        omega (arith, x, y, z, p, q, r)
+
+    behind : (a : Option ℕ) → st.behind ≡ a → nodes_held st ≤ 4
+    behind None k = by_source st.source.behind refl k
+    behind (Some m) k =
+        let x : one_if st.behind ≤ 1 = one_most st.behind in
+        let y : one_if st.source.behind ≡ 0 = ap one_if (fit.0 (o.walk m k).0) in
+        let z : one_if st.dest.behind ≡ 0 = ap one_if (fit.1 (o.walk m k).1) in
+        let p : one_walked st.source.walked ≡ 0 = ap one_walked (o.walk m k).0 in
+        let q : one_walked st.dest.walked ≡ 0 = ap one_walked (o.walk m k).1 in
+        let r : one_if st.victim ≡ 0 = ap one_if (o.walk m k).2 in
+        omega (arith, x, y, z, p, q, r)
+
+-- ---- takes
+
+fresh : (n : ℕ) (behind : Option ℕ) → InOrder (stand_at n behind)
+fresh n behind = record { walk = λ m e. (refl, refl, refl); source = λ m e. no_number None m refl e; dest = λ m e. no_number None m refl e }
+
+not_walked : (k : Key) → (HasNames k → ⊥) → k ≡ []
+not_walked [] h = refl
+not_walked (x ∷ k) h = absurd (h tt)
+
+not_there : (o : Option ℕ) → ((v : ℕ) → o ≡ Some v → ⊥) → o ≡ None
+not_there None h = refl
+not_there (Some v) h = absurd (h v refl)
+
+still_left : (w whole l : Key) (x : Name) → whole ≡ w → left w whole ≡ x ∷ l → ⊥
+still_left w whole l x e f = let z : left w whole ≡ [] = ap (left w) (e ∙ sym (append-nil w)) ∙ ap left_by (prefix_append w []) in let y : ◌≡◌ {A = Key} (x ∷ l) [] = sym f ∙ z in cc
+
+goes_on : (x : Name) (l : Key) (k : Key) → k ≡ x ∷ l → k ≡ [] → ⊥
+goes_on x l k e f = let y : ◌≡◌ {A = Key} (x ∷ l) [] = sym e ∙ f in cc
+
+-- what the stand after a take keeps
+took_order : (graph : Graph) (op : Record) (n : ℕ) (st new : Stand) → HeadsFit st → Neat graph op.remaining st → VictimAt graph op.remaining st → (took op n).stand ≡ Some new → Take graph op n st → InOrder new
+took_order graph op n st new fit neat vic on (Walk x l a b kid is) = subst InOrder (stand_is (stand_at n (Some st.node)) new (sym (ap (λ (o : Record). o.stand) is) ∙ on)) (fresh n (Some st.node))
+  where
+    stand_is : (a b : Stand) → ◌≡◌ {A = Option Stand} (Some a) (Some b) → a ≡ b
+    stand_is a b e = cc
+took_order graph op n st new fit neat vic on (Entry c p rem way b kid off is) = subst InOrder (stand_is (record st { victim = Some n }) new (sym (ap (λ (o : Record). o.stand) is) ∙ on)) (none_behind (record st { victim = Some n }) b (fit.0 mine.source) (fit.1 mine.dest))
+  where
+    stand_is : (a b : Stand) → ◌≡◌ {A = Option Stand} (Some a) (Some b) → a ≡ b
+    stand_is a b e = cc
+
+    mine : NeatIn p st
+    mine = subst (λ (f : Form). Neat graph f st) rem neat
+took_order graph op n st new fit neat vic on (Replaced p q names rem way b arrived sb dir at_left db want kid off is) = subst InOrder (stand_is (record st { victim = Some n }) new (sym (ap (λ (o : Record). o.stand) is) ∙ on)) (none_behind (record st { victim = Some n }) b sb db)
+  where
+    stand_is : (a b : Stand) → ◌≡◌ {A = Option Stand} (Some a) (Some b) → a ≡ b
+    stand_is a b e = cc
+took_order graph op n st new fit neat vic on (Source p q x l rem way b at_left sb kid is) = subst InOrder (stand_is (record st { source = head_took st.source x n }) new (sym (ap (λ (o : Record). o.stand) is) ∙ on))
+    (record { walk = λ m e. no_number st.behind m b e; source = λ m e. (no_dest, no_victim); dest = λ m e. no_victim })
+  where
+    stand_is : (a b : Stand) → ◌≡◌ {A = Option Stand} (Some a) (Some b) → a ≡ b
+    stand_is a b e = cc
+
+    turn : InTurn graph p st
+    turn = in_turn graph p q st op.remaining rem way neat
+
+    no_dest : st.dest.walked ≡ []
+    no_dest = not_walked st.dest.walked (λ h. goes_on x l (left st.source.walked (parent_of p)) at_left (turn.dest h).arrived)
+
+    no_victim : st.victim ≡ None
+    no_victim = not_there st.victim (λ v e. goes_on x l (left st.source.walked (parent_of p)) at_left (turn.victim v e).arrived)
+took_order graph op n st new fit neat vic on (Dest p q x l names rem way b arrived sb dir at_left db kid is) = subst InOrder (stand_is (record st { dest = head_took st.dest x n }) new (sym (ap (λ (o : Record). o.stand) is) ∙ on))
+    (record { walk = λ m e. no_number st.behind m b e; source = λ m e. no_number st.source.behind m sb e; dest = λ m e. no_victim })
+  where
+    stand_is : (a b : Stand) → ◌≡◌ {A = Option Stand} (Some a) (Some b) → a ≡ b
+    stand_is a b e = cc
+
+    mine : VictimAt graph (Two pairs.Rename p q) st
+    mine = subst (λ (f : Form). VictimAt graph f st) rem vic
+
+    no_victim : st.victim ≡ None
+    no_victim = not_there st.victim (λ v e. still_left st.dest.walked (parent_of q) l x (mine v e).1 at_left)
+
+-- ---- let goes
+
+left_order : (st : Stand) (b s : Option ℕ) → InOrder st → InOrder (left_behind st b s)
+left_order st (Some m) s o = record { walk = λ k e. no_number None k refl e; source = o.source; dest = o.dest }
+left_order st None (Some m) o = record { walk = o.walk; source = λ k e. no_number None k refl e; dest = o.dest }
+left_order st None None o = record { walk = o.walk; source = o.source; dest = λ k e. no_number None k refl e }
+
+-- ---- states
+
+abbrev Ordered : State → Type 0
+Ordered s = (c : ℕ) (op : Record) (st : Stand) → s.ops c ≡ Some op → op.stand ≡ Some st → IsUnfinished op → InOrder st
+
+ordered_by : (s new : State) (c : ℕ) (v : Record) → new.ops ≡ set_at c (Some v) s.ops → ((st : Stand) → v.stand ≡ Some st → IsUnfinished v → InOrder st) → Ordered s → Ordered new
+ordered_by s new c v ops mine k d q st e on u = go (either s.ops c v d q (sym (ap (λ (f : Records). f d) ops) ∙ e))
+  where
+    go : Either s.ops c v d q → InOrder st
+    go (Changed i j) = mine st (ap (λ (o : Record). o.stand) j ∙ on) (subst IsUnfinished (sym j) u)
+    go (Old h i) = k d q st i on u
+
+stand_one : (a b : Stand) → ◌≡◌ {A = Option Stand} (Some a) (Some b) → a ≡ b
+stand_one a b e = cc
+
+some_none : (st : Stand) → ◌≡◌ {A = Option Stand} None (Some st) → ⊥
+some_none st e = cc
+
+taken : (s : State) → Run s → (c : ℕ) (op : Record) (n : ℕ) → s.ops c ≡ Some op → next s.graph op ≡ Takes n → (new : Stand) → (took op n).stand ≡ Some new → InOrder new
+taken s run c op n is m new on = go (takes_from s.graph op n m)
+  where
+    go : TakesFrom s.graph op n × IsUnfinished op → InOrder new
+    go (From_nowhere text off z, u) = subst InOrder (stand_one (stand_at n None) new (sym (ap (λ (o : Option Stand). (took_by op o (target op.remaining) n).stand) off) ∙ on)) (fresh n None)
+    go (From_stand st at t, u) = took_order s.graph op n st new (((run_keeps s run).own c op is).heads st at) (((run_accounts s run).neat c op st is at).under_way u) (((run_keeps s run).own c op is).victim u st at) on (takes_by s.graph op n st at t)
+
+let_gone : (s : State) (c : ℕ) (op : Record) (n : ℕ) → s.ops c ≡ Some op → Ordered s → (new : Stand) → (let_go op n).stand ≡ Some new → IsUnfinished op → InOrder new
+let_gone s c op n is k new on u = go op.phase op.stand refl refl on
+  where
+    by : (st : Stand) → op.stand ≡ Some st → ◌≡◌ {A = Option Stand} (Some (left_behind st st.behind st.source.behind)) (Some new) → InOrder new
+    by st j e = subst InOrder (stand_one (left_behind st st.behind st.source.behind) new e) (left_order st st.behind st.source.behind (k c op st is j u))
+
+    go : (p : Phase) (o : Option Stand) → op.phase ≡ p → op.stand ≡ o → left_stand p o ≡ Some new → InOrder new
+    go p None i j e = absurd (some_none new e)
+    go (Finished r) (Some st) i j e = absurd (u r i)
+    go Walking (Some st) i j e = by st j e
+    go (Placed m) (Some st) i j e = by st j e
+
+ordered_step : (s new : State) (seat : ℕ) (answer : Stepped) → Run s → Step s seat answer new → Ordered s → Ordered new
+ordered_step s new seat Idle run (off, same) k = subst Ordered (sym same) k
+ordered_step s new seat (Busy n d) run (c, op, moves, held, same) k = subst Ordered (sym same) k
+ordered_step s new seat (Took n) run (c, op, moves, free, same) k = ordered_by s new c (took op n) (ap (λ (x : State). x.ops) same) (λ st on u. taken s run c op n moves.1 moves.2 st on) k
+ordered_step s new seat (LetGo n) run (c, op, moves, same) k = ordered_by s new c (let_go op n) (ap (λ (x : State). x.ops) same) (λ st on u. let_gone s c op n moves.1 k st on u) k
+ordered_step s new seat (Helped d) run (c, op, t, moves, w, pick, q, is, same) k =
+    ordered_by s new d (record q { phase = Placed (commit_count s.timeline) }) (ap (λ (x : State). x.ops) same) (λ st on u. k d q st is on (walks q (ap (λ (o : Record). o.phase) (same_op q pick.0.0.0 (sym is ∙ pick.0.0.1)) ∙ pick.0.0.2))) k
+  where
+    same_op : (a b : Record) → ◌≡◌ {A = Option Record} (Some a) (Some b) → a ≡ b
+    same_op a b e = cc
+
+    walks : (o : Record) → o.phase ≡ Walking → IsUnfinished o
+    walks o i r e = let z : ◌≡◌ {A = Phase} Walking (Finished r) = sym i ∙ e in cc
+ordered_step s new seat Committed run (c, op, o, moves, w, below, same) k = ordered_by s new c (finished_op op (finish s.graph op)) (ap (λ (x : State). x.ops) same) (λ st on u. absurd (u (finish s.graph op).reply refl)) k
+ordered_step s new seat CarriedOut run (c, op, o, i, moves, placed, same) k = ordered_by s new c (finished_op op (finish s.graph op)) (ap (λ (x : State). x.ops) same) (λ st on u. absurd (u (finish s.graph op).reply refl)) k
+ordered_step s new seat (Returned r) run (c, op, moves, ph, same) k = λ d q st e on u. k d q st (was d q (sym (ap (λ (x : State). x.ops d) same) ∙ e) (place c None s.ops d)) on u
+  where
+    was : (d : ℕ) (q : Record) → set_at c None s.ops d ≡ Some q → Place (Option Record) c None s.ops d → s.ops d ≡ Some q
+    was d q e (Here i j) = absurd (let z : ◌≡◌ {A = Option Record} None (Some q) = sym j ∙ e in cc)
+    was d q e (Else h j) = sym j ∙ e
+
+ordered_begin : (s new : State) (seat : ℕ) (call : Call) (answer : Begun) → Begins s seat call answer new → Ordered s → Ordered new
+ordered_begin s new seat call Seat_busy (c, on, same) k = subst Ordered (sym same) k
+ordered_begin s new seat call Full (off, full, same) k = subst Ordered (sym same) k
+ordered_begin s new seat call No_memory (off, room, same) k = subst Ordered (sym same) k
+ordered_begin s new seat call (Begun_as c) (off, number, r) k = go (reserves (form call)) r
+  where
+    go : (o : Option Shape) → Reserves s seat call c o new → Ordered new
+    go None same = ordered_by s new c (new_op seat call None) (ap (λ (x : State). x.ops) same) (λ st on u. absurd (some_none st on)) k
+    go (Some shape) (n, less, free, same) = ordered_by s new c (new_op seat call (Some n)) (ap (λ (x : State). x.ops) same) (λ st on u. absurd (some_none st on)) k
+
+ordered : (s : State) → Run s → Ordered s
+ordered s (Start limit least) = λ c op st e on u. cc
+ordered s (Beginning {old} seat call answer new run begin) = ordered_begin old s seat call answer begin (ordered old run)
+ordered s (Stepping {old} seat answer new run step) = ordered_step old s seat answer run step (ordered old run)
+
+pub four_held : (s : State) → Run s → (c : ℕ) (op : Record) (st : Stand) → s.ops c ≡ Some op → op.stand ≡ Some st → nodes_held st ≤ 4
+four_held s run c op st is on = at_most st (((run_keeps s run).own c op is).heads st on) (go op.phase refl)
+  where
+    unfinished : (p : Phase) → op.phase ≡ p → ((r : Reply) → p ≡ Finished r → ⊥) → IsUnfinished op
+    unfinished p i h r e = h r (sym i ∙ e)
+
+    go : (p : Phase) → op.phase ≡ p → InOrder st
+    go (Finished r) i = let c : IsClosed st = ((run_accounts s run).neat c op st is on).closed r i in none_behind st c.behind c.source c.dest
+    go Walking i = ordered s run c op st is on (unfinished Walking i (λ r e. cc))
+    go (Placed m) i = ordered s run c op st is on (unfinished (Placed m) i (λ r e. cc))

@@ -1,0 +1,217 @@
+-- A finish leaves each reached number reached, or removes it; and a reserved number stays reserved, or is reached.
+use Rattle.std.proofs.Common.{◌≡◌, ℕ, Bool, true, false, List, [], ◌∷◌, ◌++◌, Option, Some, None, refl, sym, ap, ap₂, ◌∙◌, append_assoc, append-nil, subst, ◌⊎◌, inl, inr}
+use Rattle.fs_names.specs.Keys.{Key, after_prefix, parent_of, last_of}
+use Rattle.fs_names.specs.Names.{Name}
+use Rattle.fs_names.specs.Parts.{common}
+use Rattle.fs_names.specs.Shapes.{Shape, Dir, File, is_full}
+use Rattle.fs_seq.specs.Forms.{Form, On, In, Two, Fits, new_shape}
+use Rattle.fs_seq.specs.declared.target.EntryCall.{EntryCall}
+use Rattle.fs_seq.specs.declared.target.EntryCall.TheVariants.{Mkdir, Mknod, Unlink, Rmdir}
+use Rattle.fs_seq.specs.declared.target.PairCall.TheVariants as pairs
+use Rattle.fs_seq.specs.Maps.{Map, put_at, move}
+use Rattle.fs_seq.specs.Rows.{on_row, Edit, Keep, Add, Remove, in_row}
+use Rattle.fs_seq.specs.declared.errno.Errno.{Errno}
+use Rattle.fs_seq.specs.declared.reply.Reply.{Reply}
+use Rattle.fs_nodes.specs.Graphs.{Graph, at, then_at, numbers, entry_shape, IsGraph, linked_in, unlinked_in, moved_in}
+use Rattle.fs_moves.specs.Finishes.{Made, kept_as, on_made, in_made, moved_made, rename_made, made_at}
+use Rattle.fs_moves.specs.Moves.{Finishes, take_if, next_on, victim_of, in_move, first_of, head_move, fork_move, path_error, dir_error, rename_at}
+use Rattle.fs_moves.specs.Records.{Stand}
+use Rattle.fs_laws.specs.Invariants.{ForkedAt, StandsWell, VictimAt, NumberFor, HasNumber}
+use Rattle.fs_laws.specs.Placed.{Aside}
+use Rattle.fs_laws.specs.Stands.{Located}
+use Rattle.fs_laws.proofs.Prefixes.{prefix_append, prefix_some, prefix_both}
+use Rattle.fs_laws.proofs.Located.{key_is, from_more, to_more}
+use Rattle.fs_laws.proofs.Walks.{at_before, at_child, at_from, then_some}
+use Rattle.fs_laws.proofs.Commutes.{move_to, move_else}
+use Rattle.fs_laws.proofs.Links.{CanLink, CanUnlink, CanMove, numbers_linked, numbers_unlinked, numbers_moved}
+use Rattle.fs_laws.proofs.Making.{Leaf, leaf_kids, add_of, remove_of, no_entry, head_stops}
+use Rattle.fs_laws.proofs.Finishing.{arrived}
+use Rattle.fs_laws.proofs.Reals.{Real, Replaces, real_of}
+use Rattle.fs_laws.proofs.Blinds.{take_done}
+use Rattle.fs_numbers.specs.Numbers.{IsReached}
+
+-- number is the one that the call has reserved
+pub record Stays (old : Graph) (st : Stand) (number : Option ℕ) (made : Made) : Type 0 where
+  pub reached : (n : ℕ) → IsReached old n → IsReached made.graph n ⊎ (made.removed ≡ Some n)
+  pub reserved : (n : ℕ) → number ≡ Some n → (made.reserved ≡ Some n) ⊎ IsReached made.graph n
+  pub victim : (n : ℕ) → made.removed ≡ Some n → st.victim ≡ Some n
+
+stays_same : (graph : Graph) (st : Stand) (number : Option ℕ) (r : Reply) → Stays graph st number (kept_as r graph number)
+stays_same graph st number r = record { reached = λ n e. inl e; reserved = λ n e. inl e; victim = λ n e. cc }
+
+-- a call on a node
+stays_on : (graph : Graph) (st : Stand) (number : Option ℕ) (row : Reply × Option (List ℕ)) → Stays graph st number (on_made graph st.node number row)
+stays_on graph st number (r, None) = stays_same graph st number r
+stays_on graph st number (r, Some bytes) = record { reached = λ n e. inl e; reserved = λ n e. inl e; victim = λ n e. cc }
+
+-- a link
+linked_reached : (graph : Graph) → IsGraph graph → (k : Key) (dir : ℕ) (x : Name) (m : ℕ) → CanLink graph k dir x m → (n : ℕ) → IsReached graph n → IsReached (linked_in dir x m graph) n
+linked_reached graph is k dir x m can n (l, e) = (l, ap (λ (t : Map ℕ). t l) (numbers_linked graph is k dir x m can) ∙ go (after_prefix (k ++ x ∷ []) l) refl)
+  where
+    go : (o : Option Key) → after_prefix (k ++ x ∷ []) l ≡ o → put_at (Some m) (numbers graph) l o ≡ Some n
+    go None i = e
+    go (Some (y ∷ r)) i = e
+    go (Some []) i =
+        let j : l ≡ k ++ x ∷ [] = prefix_some (k ++ x ∷ []) l [] i ∙ append-nil (k ++ x ∷ []) in
+        let free : numbers graph (k ++ x ∷ []) ≡ None = at_child graph.kid 0 dir k x can.dir_at ∙ can.free in
+        let z : ◌≡◌ {A = Option ℕ} None (Some n) = sym free ∙ ap (numbers graph) (sym j) ∙ e in
+        cc
+
+linked_there : (graph : Graph) → IsGraph graph → (k : Key) (dir : ℕ) (x : Name) (m : ℕ) → CanLink graph k dir x m → IsReached (linked_in dir x m graph) m
+linked_there graph is k dir x m can = (
+  k ++ x ∷ [],
+  ap (λ (t : Map ℕ). t (k ++ x ∷ [])) (numbers_linked graph is k dir x m can)
+      ∙ ap (put_at (Some m) (numbers graph) (k ++ x ∷ [])) (ap (after_prefix (k ++ x ∷ [])) (sym (append-nil (k ++ x ∷ []))) ∙ prefix_append (k ++ x ∷ []) []),
+)
+
+-- a removal
+unlinked_reached : (graph : Graph) → IsGraph graph → (k : Key) (dir : ℕ) (x : Name) (v : ℕ) → CanUnlink graph k dir x v → (n : ℕ) → IsReached graph n → IsReached (unlinked_in dir x graph) n ⊎ (graph.kid dir x ≡ Some n)
+unlinked_reached graph is k dir x v can n (l, e) = go (after_prefix (k ++ x ∷ []) l) refl
+  where
+    by : (o : Option Key) → after_prefix (k ++ x ∷ []) l ≡ o → put_at None (numbers graph) l o ≡ Some n → IsReached (unlinked_in dir x graph) n
+    by o i f = (l, ap (λ (t : Map ℕ). t l) (numbers_unlinked graph is k dir x v can) ∙ ap (put_at None (numbers graph) l) i ∙ f)
+
+    go : (o : Option Key) → after_prefix (k ++ x ∷ []) l ≡ o → IsReached (unlinked_in dir x graph) n ⊎ (graph.kid dir x ≡ Some n)
+    go None i = inl (by None i e)
+    go (Some (y ∷ r)) i = inl (by (Some (y ∷ r)) i e)
+    go (Some []) i =
+        let j : l ≡ k ++ x ∷ [] = prefix_some (k ++ x ∷ []) l [] i ∙ append-nil (k ++ x ∷ []) in
+        inr (sym (at_child graph.kid 0 dir k x can.dir_at) ∙ ap (numbers graph) (sym j) ∙ e)
+
+-- a call on an entry
+remove_victim : (c : EntryCall) (e : Option Errno) (full : Bool) (there : Option Shape) → (in_row c e full there).1 ≡ Remove → (e ≡ None) × (victim_of c there ≡ true)
+remove_victim c (Some e) full there i = cc
+remove_victim Mkdir None true None i = cc
+remove_victim Mkdir None false None i = cc
+remove_victim Mkdir None full (Some s) i = cc
+remove_victim Mknod None true None i = cc
+remove_victim Mknod None false None i = cc
+remove_victim Mknod None full (Some s) i = cc
+remove_victim Unlink None full None i = cc
+remove_victim Unlink None full (Some (Dir names)) i = cc
+remove_victim Unlink None full (Some (File bytes)) i = (refl, refl)
+remove_victim Rmdir None full None i = cc
+remove_victim Rmdir None full (Some (File bytes)) i = cc
+remove_victim Rmdir None full (Some (Dir [])) i = (refl, refl)
+remove_victim Rmdir None full (Some (Dir (x ∷ names))) i = cc
+
+stays_in : (graph : Graph) → IsGraph graph → (k : Key) (st : Stand) (o : Option ℕ) (e : EntryCall) (p : Key) (number : Option ℕ) (ed : Option Errno) (full : Bool) → numbers graph k ≡ Some st.node → HasNumber graph e number → VictimAt graph (In e p) st
+    → (ed ≡ None → in_move graph e (last_of p) st ≡ Finishes o)
+    → (row : Reply × Edit) → in_row e ed full (entry_shape graph st.node (last_of p)) ≡ row → Stays graph st number (in_made graph st.node (last_of p) number row)
+stays_in graph is k st o e p number ed full here has vic done (r, Keep) i = stays_same graph st number r
+stays_in graph is k st o e p number ed full here has vic done (r, Add shape) i = subst (λ (n : Option ℕ). Stays graph st n (in_made graph st.node (last_of p) n (r, Add shape))) (sym m.1)
+    (record {
+      reached = λ n reached. inl (linked_reached graph is k st.node (last_of p) m.0 can n reached);
+      reserved = λ n f. inr (let y : m.0 ≡ n = cc in subst (IsReached (linked_in st.node (last_of p) m.0 graph)) y (linked_there graph is k st.node (last_of p) m.0 can));
+      victim = λ n f. cc;
+    })
+  where
+    add : (ed ≡ None) × (new_shape e ≡ Some shape) × (entry_shape graph st.node (last_of p) ≡ None)
+    add = add_of e ed full (entry_shape graph st.node (last_of p)) r shape i
+
+    m : (m : ℕ) × (number ≡ Some m) × (graph.shape m ≡ Some shape) × ((key : Key) → numbers graph key ≡ Some m → ⊥)
+    m = has shape add.1
+
+    can : CanLink graph k st.node (last_of p) m.0
+    can = record { dir_at = here; free = no_entry graph is st.node (last_of p) add.2; used = (shape, m.2); unlinked = m.3 }
+stays_in graph is k st o e p number ed full here has vic done (r, Remove) i = either number refl
+  where
+    want : (ed ≡ None) × (victim_of e (entry_shape graph st.node (last_of p)) ≡ true)
+    want = remove_victim e ed full (entry_shape graph st.node (last_of p)) (ap (λ (x : Reply × Edit). x.1) i)
+
+    leaf_of : (v : Option ℕ) → Leaf (then_at v graph.shape) → (m : ℕ) × (v ≡ Some m) × Leaf (graph.shape m)
+    leaf_of None l = absurd l
+    leaf_of (Some m) l = (m, refl, l)
+
+    v : (m : ℕ) × (graph.kid st.node (last_of p) ≡ Some m) × Leaf (graph.shape m)
+    v = leaf_of (graph.kid st.node (last_of p)) (remove_of e ed full (entry_shape graph st.node (last_of p)) r i)
+
+    held : st.victim ≡ Some v.0
+    held =
+        let t : take_if (victim_of e (entry_shape graph st.node (last_of p))) (Some v.0) st.victim (Finishes None) ≡ Finishes o = ap (λ (n : Option ℕ). take_if (victim_of e (entry_shape graph st.node (last_of p))) n st.victim (Finishes None)) (sym v.1) ∙ done want.0 in
+        let w : (w : ℕ) × (st.victim ≡ Some w) = take_done (victim_of e (entry_shape graph st.node (last_of p))) v.0 st.victim o None want.1 t in
+        w.1 ∙ sym (vic w.0 w.1) ∙ v.1
+
+    can : CanUnlink graph k st.node (last_of p) v.0
+    can = record { dir_at = here; there = v.1; leaf = leaf_kids graph is v.0 (graph.shape v.0) refl v.2 }
+
+    made : (n : Option ℕ) → Stays graph st n (record { reply = r; graph = unlinked_in st.node (last_of p) graph; reserved = n; removed = graph.kid st.node (last_of p) })
+    made n = record {
+      reached = λ m reached. unlinked_reached graph is k st.node (last_of p) v.0 can m reached;
+      reserved = λ m f. inl f;
+      victim = λ m f. held ∙ sym v.1 ∙ f;
+    }
+
+    either : (n : Option ℕ) → number ≡ n → Stays graph st number (in_made graph st.node (last_of p) number (r, Remove))
+    either None j = subst (λ (n : Option ℕ). Stays graph st n (in_made graph st.node (last_of p) n (r, Remove))) (sym j) (made None)
+    either (Some m) j = subst (λ (n : Option ℕ). Stays graph st n (in_made graph st.node (last_of p) n (r, Remove))) (sym j) (made (Some m))
+
+-- a move
+moved_reached : (graph : Graph) → IsGraph graph → (kf : Key) (from : ℕ) (x : Name) (kt : Key) (st : Stand) (y : Name) (m : ℕ) → CanMove graph kf from x kt st.dest.node y m → Replaces graph st y → (n : ℕ) → IsReached graph n → IsReached (moved_in from x st.dest.node y m graph) n ⊎ (st.victim ≡ Some n)
+moved_reached graph is kf from x kt st y m can replaces n (l, e) = go (after_prefix (kt ++ y ∷ []) l) refl
+  where
+    new : (key : Key) → move (kf ++ x ∷ []) (kt ++ y ∷ []) (numbers graph) key ≡ Some n → IsReached (moved_in from x st.dest.node y m graph) n
+    new key f = (key, ap (λ (t : Map ℕ). t key) (numbers_moved graph is kf from x kt st.dest.node y m can) ∙ f)
+
+    entry : numbers graph (kt ++ y ∷ []) ≡ graph.kid st.dest.node y
+    entry = at_child graph.kid 0 st.dest.node kt y can.to_at
+
+    over : (r : Key) → numbers graph ((kt ++ y ∷ []) ++ r) ≡ Some n → Replaces graph st y → st.victim ≡ Some n
+    over r f (inl none) =
+        let b : (j : ℕ) × (numbers graph (kt ++ y ∷ []) ≡ Some j) × (at graph.kid j r ≡ Some n) = at_before graph.kid 0 n (kt ++ y ∷ []) r f in
+        let z : ◌≡◌ {A = Option ℕ} (Some b.0) None = sym b.1 ∙ entry ∙ none in cc
+    over [] f (inr (v, there, held, leaf)) = held ∙ sym (entry ∙ there) ∙ ap (numbers graph) (sym (append-nil (kt ++ y ∷ []))) ∙ f
+    over (w ∷ r) f (inr (v, there, held, leaf)) =
+        let b : at graph.kid v (w ∷ r) ≡ Some n = sym (at_from graph.kid 0 v (kt ++ y ∷ []) (w ∷ r) (entry ∙ there)) ∙ f in
+        let g : (j : ℕ) × (graph.kid v w ≡ Some j) × (at graph.kid j r ≡ Some n) = then_some (graph.kid v w) (λ j. at graph.kid j r) n b in
+        let z : ◌≡◌ {A = Option ℕ} (Some g.0) None = sym g.1 ∙ leaf_kids graph is v (graph.shape v) refl leaf w in cc
+
+    aside : (o : Option Key) → after_prefix (kf ++ x ∷ []) l ≡ o → after_prefix (kt ++ y ∷ []) l ≡ None → IsReached (moved_in from x st.dest.node y m graph) n
+    aside None i j = new l (move_else (kf ++ x ∷ []) (kt ++ y ∷ []) (numbers graph) l j i ∙ e)
+    aside (Some r) i j = new ((kt ++ y ∷ []) ++ r) (move_to (kf ++ x ∷ []) (kt ++ y ∷ []) (numbers graph) r ∙ ap (numbers graph) (sym (prefix_some (kf ++ x ∷ []) l r i)) ∙ e)
+
+    go : (o : Option Key) → after_prefix (kt ++ y ∷ []) l ≡ o → IsReached (moved_in from x st.dest.node y m graph) n ⊎ (st.victim ≡ Some n)
+    go None j = inl (aside (after_prefix (kf ++ x ∷ []) l) refl j)
+    go (Some r) j = inr (over r (ap (numbers graph) (sym (prefix_some (kt ++ y ∷ []) l r j)) ∙ e) replaces)
+
+-- a rename that really moves
+stays_moved : (graph : Graph) → IsGraph graph → (k : Key) (st : Stand) (p q : Key) (number : Option ℕ) (r : Reply) → Located (numbers graph) k st → Fits (Two pairs.Rename p q) → Real graph p q st
+    → Stays graph st number (moved_made graph st (last_of p) (last_of q) number r true (graph.kid st.source.node (last_of p)))
+stays_moved graph is k st p q number r loc fits real = subst (λ (n : Option ℕ). Stays graph st number (moved_made graph st (last_of p) (last_of q) number r true n)) (sym real.moved.1)
+    (record { reached = λ n reached. moved_reached graph is (k ++ st.source.walked) st.source.node (last_of p) (k ++ st.dest.walked) st (last_of q) real.moved.0 can real.replaces n reached; reserved = λ n f. inl f; victim = λ n f. f })
+  where
+    s_is : (k ++ st.source.walked) ++ last_of p ∷ [] ≡ k ++ p
+    s_is = append_assoc k st.source.walked (last_of p ∷ []) ∙ ap (λ (l : Key). k ++ l) (ap (λ (l : Key). l ++ last_of p ∷ []) (sym real.source_is) ∙ sym (key_is p (from_more p q fits)))
+
+    t_is : (k ++ st.dest.walked) ++ last_of q ∷ [] ≡ k ++ q
+    t_is = append_assoc k st.dest.walked (last_of q ∷ []) ∙ ap (λ (l : Key). k ++ l) (ap (λ (l : Key). l ++ last_of q ∷ []) (sym real.dest_is) ∙ sym (key_is q (to_more p q fits)))
+
+    aside : Aside ((k ++ st.source.walked) ++ last_of p ∷ []) ((k ++ st.dest.walked) ++ last_of q ∷ [])
+    aside = (ap₂ after_prefix s_is t_is ∙ prefix_both k p q ∙ real.aside.0, ap₂ after_prefix t_is s_is ∙ prefix_both k q p ∙ real.aside.1)
+
+    can : CanMove graph (k ++ st.source.walked) st.source.node (last_of p) (k ++ st.dest.walked) st.dest.node (last_of q) real.moved.0
+    can = record { from_at = loc.source; to_at = loc.dest; there = real.moved.1; aside = aside }
+
+stays_rename : (graph : Graph) → IsGraph graph → (k : Key) (st : Stand) (o : Option ℕ) (p q : Key) (number : Option ℕ) → Located (numbers graph) k st → Fits (Two pairs.Rename p q) → VictimAt graph (Two pairs.Rename p q) st
+    → (l : Key) → ForkedAt graph st.node p q st l → first_of (head_move graph st.node st.behind l) (fork_move graph p q st) ≡ Finishes o → Stays graph st number (rename_made graph p q st number l)
+stays_rename graph is k st o p q number loc fits vic (x ∷ l) w m = stays_same graph st number _
+stays_rename graph is k st o p q number loc fits vic [] w m = by (rename_at graph p q st).1 refl
+  where
+    fork : fork_move graph p q st ≡ Finishes o
+    fork = (head_stops graph st.node st.behind [] (fork_move graph p q st) o m).1 refl
+
+    by : (b : Bool) → (rename_at graph p q st).1 ≡ b → Stays graph st number (moved_made graph st (last_of p) (last_of q) number (rename_at graph p q st).0 (rename_at graph p q st).1 (graph.kid st.source.node (last_of p)))
+    by false j = subst (λ (b : Bool). Stays graph st number (moved_made graph st (last_of p) (last_of q) number (rename_at graph p q st).0 b (graph.kid st.source.node (last_of p)))) (sym j) (stays_same graph st number (rename_at graph p q st).0)
+    by true j =
+        subst (λ (b : Bool). Stays graph st number (moved_made graph st (last_of p) (last_of q) number (rename_at graph p q st).0 b (graph.kid st.source.node (last_of p)))) (sym j)
+        (stays_moved graph is k st p q number (rename_at graph p q st).0 loc fits (real_of graph is p q st o fits w vic fork j))
+
+-- each form of call
+pub stays : (graph : Graph) → IsGraph graph → (k : Key) (st : Stand) (o : Option ℕ) (number : Option ℕ) (remaining : Form) → Located (numbers graph) k st → Fits remaining → StandsWell graph st.node remaining st → VictimAt graph remaining st → NumberFor graph remaining number
+    → next_on graph remaining st ≡ Finishes o → Stays graph st number (made_at graph remaining st number)
+stays graph is k st o number (On c p) loc fits well vic has m = stays_on graph st number (on_row c (path_error p (graph.shape st.node)) (graph.shape st.node))
+stays graph is k st o number (In c p) loc fits well vic has m =
+    stays_in graph is k st o c p number (dir_error (parent_of p) (graph.shape st.node)) (is_full (graph.shape st.node)) loc.here has vic
+    (λ h. (head_stops graph st.node st.behind (parent_of p) (in_move graph c (last_of p) st) o m).1 (arrived (parent_of p) (graph.shape st.node) h))
+    (in_row c (dir_error (parent_of p) (graph.shape st.node)) (is_full (graph.shape st.node)) (entry_shape graph st.node (last_of p))) refl
+stays graph is k st o number (Two pairs.Rename p q) loc fits well vic has m = stays_rename graph is k st o p q number loc fits vic (common (parent_of p) (parent_of q)) well m
