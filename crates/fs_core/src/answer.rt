@@ -7,7 +7,7 @@ use fs_seq::{Call, Reply};
 /// Why a call could not begin. Nothing has changed by it.
 #[derive(Clone, Copy, Debug, PartialEq, Eq)]
 pub enum Refusal {
-    /// Memory ran out.
+    /// An allocation failed.
     OutOfMemory,
     /// The call reserves a number, and all are in use.
     Full,

@@ -1,4 +1,4 @@
-//! What a begin makes ready, so that no step takes memory.
+//! What a begin allocates, so that no step needs memory.
 
 ghost use Rattle.std.specs.Prelude.{◌≡◌, ◌≢◌, ◌+◌, ◌≤◌, ◌↔◌, IfOk, OnOk, OnErr, IsSome, Err};
 ghost use Rattle.fs_nodes.specs.Graphs.{IsGraph};
@@ -37,6 +37,7 @@ fn make_room(holders: &mut Holders, reserved: Option<NodeNo>) -> Result<(), Allo
     let Some(node) = reserved else {
         return Ok(());
     };
+    // Never met: the number is that of a place in a vector.
     let Some(count) = node.get().checked_add(1) else {
         return Err(AllocError);
     };
@@ -60,9 +61,13 @@ fn make_places(
     ensures more { room holders.old ≤ room holders.new }
     ensures err { OnErr result (timeline.new ≡ timeline.old) }
 {
+    // Never met: it would take 2^64 begins.
     let Some(number) = begun.checked_add(1) else {
         return Err(AllocError);
     };
+
+    // The second copy of the call, for its Begin entry: the first is in its record. Both are made here, so that its commit
+    // and its return, which append a number or a reply that is there, copy nothing.
     let copy = call.copy(alloc)?;
     make_room(holders, reserved)?;
     timeline.make_places(ENTRIES_OF_A_CALL)?;

@@ -18,6 +18,8 @@ fn is_reached(store: &Store, bound: usize, from: NodeNo, node: NodeNo) -> bool
     requires bound { AreBelow (graph_of store.now) bound }
     ensures { IsTrue result ↔ IsReached (kid store.now) from node }
 {
+    // The nodes on the way up differ, and their numbers are below the bound, so the loop reaches the root within it. The bound
+    // only shows that the loop ends: an ascent is as long as the node is deep.
     let mut above = node;
     for _step in 0..bound {
         if above == from {
@@ -147,6 +149,8 @@ pub fn to_help(
     requires can { CanSearch store.now seats.now bound }
     ensures { HasLeast (kid store.now) seats.now node (length seats.now) result }
 {
+    // Three nested searches: each seat, each other seat, and the way up from that one's position. So a help costs at most the
+    // square of the number of seats times the depth of a position. No index is kept for it, and nothing is allocated.
     let mut chosen: Option<usize> = None;
     for seat in 0..seats.len() {
         chosen = lowest_with(store, seats, bound, node, seat, chosen);

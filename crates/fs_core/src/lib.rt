@@ -1,4 +1,13 @@
-//! The shared state of all calls: begin, step, and runs of events.
+//! The shared state of all calls, its begins and its steps, and the linearization theorem.
+//!
+//! `Core::run` carries the theorem, for any list of begins and steps on any seats: the timeline is lawful (`lawful`),
+//! and where no call is under way the nodes spell the tree that its commits play (`spelled`). `Core::told` tells the
+//! same of a core that was driven by `begin` and `step`. A begin allocates all that its call can need, and a refused
+//! one changes nothing; a step does one move of the call on a seat, and cannot fail.
+//!
+//! Enter at `Core::new`, `seat`, `begin`, `step` and `timeline`. What a begin and a step do is
+//! `fs_laws/specs/States.antt`. In `specs/` here `Machines` says which of those states a core is in, and `Events` what
+//! a list of events does; the others tie the code to them, and change no meaning.
 #![tactic(auto)]
 
 pub mod answer;

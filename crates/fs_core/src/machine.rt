@@ -105,7 +105,8 @@ impl Core {
         Stepped::LetGo(node)
     }
 
-    /// The walking call on a seat takes its place in the timeline, makes its change and fixes its reply.
+    /// The walking call on a seat takes its place in the timeline, makes its change and fixes its reply. The entry is the
+    /// call's number: the call itself stands in its Begin entry.
     fn commit(&mut self, seat: usize, call: CallNo, moved: Option<NodeNo>) -> Stepped
         requires seat { seat < length self.old.seats }
         requires moves { MovesOn self.old seat call (Finishes moved) }
@@ -200,7 +201,8 @@ impl Core {
         }
     }
 
-    /// No nodes but the root, no seats and no entries, for at most `limit` nodes. The only error is a lack of memory.
+    /// No nodes but the root, no seats and no entries, for at most `limit` nodes, the root included. The only error is
+    /// out of memory.
     pub fn with_limit(alloc: Global, limit: usize) -> Result<Core, AllocError>
         requires least { 1 ≤ limit }
         requires most { limit ≤ NODE_LIMIT }
@@ -209,6 +211,8 @@ impl Core {
     {
         let store = Store::new(alloc, limit)?;
         let mut holders = Holders::new(alloc);
+
+        // The root has number 0 and is there from the first. Room for another node is made by the begin that reserves it.
         holders.make_room(1)?;
         Ok(Core {
             store,
@@ -220,7 +224,7 @@ impl Core {
         })
     }
 
-    /// The same for as many nodes as there may be. The only error is a lack of memory.
+    /// No nodes but the root, no seats and no entries, for at most `NODE_LIMIT` nodes. The only error is out of memory.
     pub fn new(alloc: Global) -> Result<Core, AllocError>
         ensures state { IfOk result (λ core. state_of core ≡ empty NODE_LIMIT) }
         ensures seats { IfOk result (λ core. core.seats ≡ []) }
@@ -228,8 +232,7 @@ impl Core {
         Core::with_limit(alloc, NODE_LIMIT)
     }
 
-    /// One more seat, with no call under way: the first is 0, each next one more. After an error, a lack of memory,
-    /// nothing has changed.
+    /// One more seat, with no call under way: the first is 0, each next one more. Out of memory nothing changes.
     pub fn seat(&mut self) -> Result<SeatNo, AllocError>
         ensures number { IfOk result (λ seat. seat ≡ length self.old.seats) }
         ensures seats { OnOk result (self.new.seats ≡ self.old.seats ++ None ∷ []) }
@@ -248,7 +251,7 @@ impl Core {
         self.seats.len()
     }
 
-    /// A call begins on a seat, and takes all memory that it can need. Its number is the number of begins with it.
+    /// A call begins on a seat, and allocates all that it can need. Its number is the number of begins with it.
     /// After a refusal there is no entry, and nothing has changed: `SeatBusy` comes where the seat has a call under
     /// way, else `Full` exactly where the call reserves a number and all are in use.
     pub fn begin(&mut self, alloc: Global, seat: SeatNo, call: &Call) -> Result<CallNo, Refusal>
@@ -306,7 +309,7 @@ impl Core {
         running::number(&self.seats[seat.get() as usize])
     }
 
-    /// The nodes.
+    /// The nodes: those of the tree, and those that calls under way have reserved or removed.
     pub fn store(&self) -> &Store
         ensures { result.now ≡ self.now.store }
     {

@@ -1,4 +1,4 @@
-//! Runs of events.
+//! Lists of events on a core, and the linearization theorem of all of them.
 
 ghost use Rattle.std.specs.Prelude.{◌≡◌, All, IfErr, OnOk, length};
 ghost use Rattle.fs_nodes.specs.Graphs.{spell};

@@ -26,7 +26,7 @@ impl Model for Replies {
 }
 
 impl Replies {
-    /// It takes no memory.
+    /// Two replies that the caller made equal: each has its own bytes or names.
     pub fn new(one: Reply, other: Reply) -> Replies
         requires { one ≡ other }
         ensures { result ≡ one }

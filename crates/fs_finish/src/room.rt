@@ -1,4 +1,4 @@
-//! The room that a call makes when it begins, so that its finish takes no memory.
+//! The buffers that a call allocates when it begins, so that its finish needs no memory.
 
 ghost use Rattle.std.specs.Prelude.{◌≡◌, ◌≤◌, ◌+◌, [], IfOk, length, min, vec_capacity};
 ghost use Rattle.fs_seq.specs.Forms.{form};
@@ -27,7 +27,7 @@ impl Model for ByteRoom {
 }
 
 impl ByteRoom {
-    /// Room for this many bytes. The only error is a lack of memory.
+    /// Room for this many bytes. The only error is out of memory.
     pub fn new(alloc: Global, count: usize) -> Result<ByteRoom, AllocError>
         ensures { IfOk result (λ room. count ≤ room) }
     {
@@ -44,7 +44,8 @@ impl ByteRoom {
         items
     }
 
-    /// The bytes again. It takes no memory, and gives back the room that they leave, where that takes none either.
+    /// The bytes again, in the room that was made. The capacity that they leave is given back to the allocator, which keeps
+    /// the block as it is where it has no smaller one.
     pub fn copy_of(self, bytes: &[u8]) -> Bytes
         requires { length bytes.now ≤ self }
         ensures { result ≡ bytes.now }
@@ -73,7 +74,7 @@ impl Model for NameRoom {
 }
 
 impl NameRoom {
-    /// Room for this many names. The only error is a lack of memory.
+    /// Room for this many names. The only error is out of memory.
     pub fn new(alloc: Global, count: usize) -> Result<NameRoom, AllocError>
         ensures { IfOk result (λ room. count ≤ room) }
     {
@@ -157,7 +158,7 @@ fn room_at(alloc: Global, aim: Target<'_>) -> Result<Room, AllocError>
 }
 
 impl Room {
-    /// What the finish of a call needs. The only error is a lack of memory.
+    /// What the finish of a call needs. The only error is out of memory.
     pub fn new(alloc: Global, call: &Call) -> Result<Room, AllocError>
         ensures { IfOk result (Suffices (form call.now)) }
     {

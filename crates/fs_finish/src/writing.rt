@@ -39,6 +39,8 @@ fn taken_out(store: &mut Store, file: NodeNo, len: usize, buffer: ByteRoom) -> V
     ensures limit { store.new.limit ≡ store.old.limit }
     ensures room { room store.new ≡ room store.old }
 {
+    // A store lends its bytes for reading alone. So those of a long enough file are taken out, against the empty buffer, changed
+    // where they are, and swapped back by the caller: they are not copied, and the buffer is not needed for them.
     if len <= store.content(file).len() {
         return store.swap_content(file, buffer.into_vec());
     }

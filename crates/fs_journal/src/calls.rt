@@ -45,7 +45,7 @@ impl Begun<'_> {
 }
 
 /// The calls that have begun. Those that began in the order of their numbers, from 1 on, stand in a vector, and the others
-/// in a search tree: strangers choose the numbers, and without a secret all numbers could meet in one place of a hash table.
+/// in a search tree: call numbers are untrusted input, and without a keyed hash all of them could fall into one bucket.
 #[derive(Drop)]
 pub(crate) struct Calls<'a> {
     in_order: Vec<Begun<'a>>,
@@ -53,7 +53,7 @@ pub(crate) struct Calls<'a> {
 }
 
 impl<'a> Calls<'a> {
-    /// No call has begun. It takes no memory.
+    /// No call has begun.
     pub fn new(alloc: Global) -> Self
         ensures { begun_at result ≡ λ c. None }
     {

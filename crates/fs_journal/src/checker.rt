@@ -95,7 +95,7 @@ impl<'a> Checker<'a> {
         }
     }
 
-    /// Takes in an entry in which nothing is wrong. Where memory runs out, part of it may be taken in.
+    /// Takes in an entry in which nothing is wrong. Out of memory, part of it may be taken in.
     fn take_in(&mut self, alloc: Global, entry: &'a Entry) -> Result<(), AllocError>
         requires { known_fault (known self.old) entry.now ≡ None }
         ensures { OnOk result (known self.new ≡ taken_in (known self.old) entry.now) }

@@ -35,7 +35,7 @@ impl Timeline {
         }
     }
 
-    /// Reserves this many places beside those that are reserved already. Where memory runs out, all stays as it was.
+    /// Reserves this many places beside those that are reserved already. Out of memory nothing changes.
     pub fn make_places(&mut self, count: usize) -> Result<(), AllocError>
         ensures ok { OnOk result (self.new ≡ record self.old { reserved = self.old.reserved + count }) }
         ensures err { OnErr result (self.new ≡ self.old) }

@@ -10,7 +10,7 @@ use std::marker::Model;
 /// The most nodes that a call holds at once.
 pub const HELD_LIMIT: usize = 4;
 
-/// At most four nodes, in the order taken. No call takes memory.
+/// At most four nodes, in the order taken. No call allocates.
 #[derive(Debug, Drop)]
 pub struct Held {
     nodes: ArrayVec<NodeNo, HELD_LIMIT>,

@@ -13,7 +13,7 @@ use std::marker::Model;
 pub struct HeldBy(pub CallNo);
 
 /// The finite map from nodes to the calls that hold them: a node is held by one call at most.
-/// Room is made before: the nodes with a number below it can be taken. Only `make_room` takes memory.
+/// Room is made before: the nodes with a number below it can be taken. Only `make_room` allocates.
 #[derive(Drop)]
 pub struct Holders {
     holders: Vec<Option<CallNo>>,
@@ -37,7 +37,7 @@ fn set(place: &mut Option<CallNo>, call: Option<CallNo>)
 impl Holders {
     ghost use Rattle.fs_locks.specs.Holding.{holder, room};
 
-    /// No node is held, and there is no room. It takes no memory.
+    /// No node is held, and there is room for none.
     pub fn new(alloc: Global) -> Holders
         ensures holders { holder result ≡ λ n. None }
         ensures room { room result ≡ 0 }
@@ -47,7 +47,7 @@ impl Holders {
         }
     }
 
-    /// Makes room for the nodes below `count`. After an error nothing has changed; the only one is a lack of memory.
+    /// Makes room for the nodes below `count`. Out of memory nothing changes.
     pub fn make_room(&mut self, count: usize) -> Result<(), AllocError>
         ensures room { OnOk result (room self.new ≡ max (room self.old) count) }
         ensures holders { OnOk result (holder self.new ≡ holder self.old) }

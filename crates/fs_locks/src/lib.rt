@@ -1,4 +1,11 @@
-//! Holders of nodes, and the nodes that a call holds.
+//! Which call holds which node.
+//!
+//! `Holders` is a finite map from nodes to calls, so that a node is held by at most one call. `Holders::take` succeeds
+//! exactly where nobody holds the node, and else names the call that does; it never waits. Only `Holders::make_room`
+//! allocates. `Held` is at most four nodes in the order taken. No crate above uses it: where a call stands tells what
+//! it holds.
+//!
+//! Enter at `Holders`. The definitions are in `specs/`: `Holding` for the map, `Held` for the list.
 #![tactic(auto)]
 
 pub mod held;

@@ -2,7 +2,7 @@
 
 use thiserror::Error;
 
-/// The first check that bytes fail as a path, or a lack of memory. A script's fault prints its words.
+/// The first check that bytes fail as a path, or out of memory. The fault of a script prints these words.
 #[derive(Clone, Copy, Debug, PartialEq, Eq, Error)]
 pub enum PathFault {
     /// The first byte is not a slash, or there is none.
@@ -23,7 +23,7 @@ pub enum PathFault {
     /// There is a name, and the last byte is a slash.
     #[error("TrailingSlash")]
     TrailingSlash,
-    /// A growth of memory was refused. It says nothing of the bytes.
+    /// An allocation failed. This says nothing about the bytes.
     #[error("OutOfMemory")]
     OutOfMemory,
 }

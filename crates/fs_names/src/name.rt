@@ -45,7 +45,7 @@ fn only_dots(bytes: &[u8]) -> bool
 }
 
 impl Name {
-    /// The bytes as a name, where they are one, and else `None`. It takes no memory.
+    /// The bytes as a name, where they are one, and else `None`.
     pub fn read(bytes: &[u8]) -> Option<Name>
         ensures { MatchOption result (can_name bytes.now ≡ false) (λ n. IsTrue (can_name bytes.now) × (n ≡ bytes.now)) }
     {
@@ -62,7 +62,7 @@ impl Name {
         }
     }
 
-    /// The bytes of the name, 1 to 32 of them. It takes no memory.
+    /// The bytes of the name, 1 to 32 of them.
     pub fn bytes(&self) -> &[u8]
         ensures bytes { result.now ≡ self.now }
         ensures named { IsTrue (can_name self.now) }
@@ -70,7 +70,7 @@ impl Name {
         self.bytes.as_slice()
     }
 
-    /// The same name again. It takes no memory.
+    /// The same name again.
     pub fn copy(&self) -> Name
         ensures { result ≡ self.now }
     {
@@ -81,7 +81,7 @@ impl Name {
     }
 
     /// Whether the two names are equal, byte for byte. It answers what `==` does, in the words of their order, by which
-    /// `cmp` compares them. It takes no memory.
+    /// `cmp` compares them.
     pub fn same(&self, other: &Name) -> bool
         ensures { result ≡ same_name self.now other.now }
     {

@@ -19,14 +19,14 @@ impl Model for CallNo {
 }
 
 impl CallNo {
-    /// The call with this number: any is one. It takes no memory.
+    /// The call with this number: any is one.
     pub fn new(number: u64) -> Self
         ensures { result ≡ number }
     {
         CallNo { call: number }
     }
 
-    /// The number that it was made with. It takes no memory.
+    /// The number that it was made with.
     pub fn get(self) -> u64
         ensures { result ≡ self }
     {
@@ -49,14 +49,14 @@ impl Model for SeatNo {
 }
 
 impl SeatNo {
-    /// The seat with this number: any is one. It takes no memory.
+    /// The seat with this number: any is one.
     pub fn new(number: u64) -> Self
         ensures { result ≡ number }
     {
         SeatNo { seat: number }
     }
 
-    /// The number that it was made with. It takes no memory.
+    /// The number that it was made with.
     pub fn get(self) -> u64
         ensures { result ≡ self }
     {

@@ -20,8 +20,8 @@ pub struct Path {
     names: SmallVec<Name, INLINE_NAMES>,
 }
 
-/// How many names a path holds before it takes memory for them: few, as each takes its place in every path, and as
-/// most paths are short.
+/// How many names a path holds inline, before it allocates: few, as each inline name adds to the size of every path,
+/// and as most paths are short.
 pub const INLINE_NAMES: usize = 2;
 
 impl Model for Path {
@@ -106,9 +106,9 @@ fn has_zero(bytes: &[u8]) -> bool
 }
 
 impl Path {
-    /// Reads a path. The fault is the first check that the bytes fail, from left to right; several slashes in a
-    /// row count as one, and slashes alone are the root. It takes memory once, and only for more names than a path
-    /// holds without any; where that is refused it answers `OutOfMemory`, whatever is wrong with the names.
+    /// Reads a path. The fault is the first check that the bytes fail, from left to right; consecutive slashes count
+    /// as one, and a path of slashes only is the root. It allocates at most once, and only for more names than a path
+    /// holds inline; if that fails it answers `OutOfMemory`, whatever is wrong with the names.
     #[tactic(auto, unfolding(crate::specs::Reading::reading))]
     pub fn parse(alloc: Global, bytes: &[u8]) -> Result<Path, PathFault>
         ensures path { IfOk result (λ path. reading bytes.now ≡ Ok path) }
@@ -131,7 +131,7 @@ impl Path {
         Ok(Path { names })
     }
 
-    /// The same path again. It takes memory once, and only for more names than a path holds without any.
+    /// The same path again. It allocates at most once, and only for more names than a path holds inline.
     pub fn copy(&self, alloc: Global) -> Result<Path, AllocError>
         ensures ok { IfOk result (λ path. path ≡ self.now) }
         ensures memory { OnErr result (INLINE_NAMES < length self.now) }
@@ -143,7 +143,7 @@ impl Path {
         Ok(Path { names })
     }
 
-    /// How many names it has: none for the root, and at most 64. It takes no memory.
+    /// How many names it has: none for the root, and at most 64.
     pub fn len(&self) -> usize
         ensures len { result ≡ length self.now }
         ensures path { IsPath self.now }
@@ -151,14 +151,14 @@ impl Path {
         self.names.len()
     }
 
-    /// Whether it is the root, which has no names. It takes no memory.
+    /// Whether it is the root, which has no names.
     pub fn is_empty(&self) -> bool
         ensures { IsTrue result ↔ (self.now ≡ []) }
     {
         self.len() == 0
     }
 
-    /// The name at a place, counted from 0. It takes no memory.
+    /// The name at a place, counted from 0.
     pub fn name(&self, i: usize) -> &Name
         requires { i < length self.now }
         ensures { slice_get self.now i ≡ Some result.now }
@@ -166,14 +166,14 @@ impl Path {
         &self.names[i]
     }
 
-    /// Whether the other path begins with all names of this one; each path does so with its own. It takes no memory.
+    /// Whether the other path begins with all names of this one; each path does so with its own.
     pub fn is_prefix_of(&self, other: &Path) -> bool
         ensures { result ≡ is_some (after_prefix self.now other.now) }
     {
         self.common(other) == self.len()
     }
 
-    /// How many leading names of the two paths are equal: at most as many as either has. It takes no memory.
+    /// How many leading names of the two paths are equal: at most as many as either has.
     pub fn common(&self, other: &Path) -> usize
         ensures { result ≡ common_len self.now other.now }
     {
@@ -199,7 +199,7 @@ impl Path {
     }
 
     /// Appends the path as it is read again: a slash for the root, else each name after a slash. The text grows by
-    /// its own allocator, once and before anything is written, so a refusal leaves it as it was.
+    /// its own allocator, at most once and before anything is written, so a failed allocation leaves it as it was.
     pub fn write(&self, text: &mut Vec<u8>) -> Result<(), AllocError>
         ensures ok { OnOk result (text.new.items ≡ text.old.items ++ path_text self.now) }
         ensures err { OnErr result (text.new.items ≡ text.old.items) }

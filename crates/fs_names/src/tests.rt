@@ -194,7 +194,7 @@ fn keeps_numbers(rt: HostRuntime) {
     assert!(rt; SeatNo::new(1) != SeatNo::new(2));
 }
 
-/// Where a growth is refused, as by `rt try --test --fail-alloc`, the answer says so and the text is as it was; the
+/// Where an allocation fails, as by `rt try --test --fail-alloc`, the answer says so and the text is as it was; the
 /// same calls then succeed.
 #[test]
 fn answers_a_refused_growth(rt: HostRuntime) -> Result<(), Fail> {

@@ -79,7 +79,7 @@ fn reserve_for(call: &Call, store: &mut Store) -> Result<Option<NodeNo>, NoNode>
 }
 
 impl Op {
-    /// A call that has taken nothing yet, with all memory that it needs to its end.
+    /// A call that holds nothing yet, with all memory that it needs to its end.
     fn new(alloc: Global, call: &Call) -> Result<Op, AllocError>
         ensures { IfOk result (λ op. op ≡ new_work call.now None) }
     {
@@ -105,7 +105,7 @@ impl Op {
         op
     }
 
-    /// Begins a call. It takes all the memory that the call needs. A call that may add a node reserves a number for it: `Full` comes
+    /// Begins a call. It allocates all that the call needs. A call that may add a node reserves a number for it: `Full` comes
     /// exactly where it cannot, and is looked at before memory. After an error the graph is as before.
     pub fn begin(alloc: Global, call: &Call, store: &mut Store) -> Result<Op, NoNode>
         ensures ok { IfOk result (λ op. BegunAs (graph_of store.old) store.old.limit call.now (reserves (form call.now)) op (graph_of store.new)) }

@@ -22,7 +22,7 @@ fn take_room(outcome: &mut Outcome) -> Room
 
 impl Op {
     /// Makes the call's change where it stands and fixes its reply, by its rows of the table of errors; an error changes nothing.
-    /// It takes no memory.
+    /// The buffers that it needs were allocated by `begin`.
     pub fn carry_out(&mut self, store: &mut Store)
         requires unfinished { self.old.reply ≡ None }
         requires can { CanFinish (graph_of store.old) self.old.reserved self.old.remaining self.old.stand }

@@ -1,4 +1,12 @@
-//! Each call as a machine of moves.
+//! A call under way as a value: `Op`.
+//!
+//! `Op::begin` allocates all that its call can need, and reserves a number for a node that it may add. From then on
+//! `Op::next` answers the next move, and the caller tells what came of it by `took`, `let_go`, `carry_out` and, at
+//! last, `end`. Each of these does what the machine's definitions say, and none of them needs memory. An `Op` knows of
+//! no other call: who holds a node, and whom a rename helps, is decided in `fs_core`.
+//!
+//! Enter at `Op::begin` and `Op::next`. The definitions that the contracts cite are `fs_moves/specs/Works.antt` and
+//! `Moves.antt`; those in `specs/` here tie the fields of an `Op` to them, and change no meaning.
 #![tactic(auto)]
 
 mod beginning;

@@ -1,4 +1,4 @@
-//! What a call under way does next.
+//! The moves that a call under way may answer as its next.
 
 use fs_nodes::NodeNo;
 

@@ -8,7 +8,7 @@ use fs_seq::Call;
 use fs_walk::{Fork, Walk};
 use std::marker::Model;
 
-/// A call under way: a machine of moves over the nodes of a store, which takes memory only when it begins.
+/// A call under way: a machine of moves over the nodes of a store, which allocates what it needs when it begins.
 #[derive(Drop)]
 pub struct Op {
     pub(crate) call: Call,

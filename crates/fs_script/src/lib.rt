@@ -1,4 +1,12 @@
-//! Texts of scripts and trees; with the texts of journals, which `fs_text` has.
+//! Texts of scripts and of trees; with the texts of journals, which `fs_text` has.
+//!
+//! `read_script` answers what a script says by the grammar, or its first fault from the left with its line; each script
+//! that is read keeps the limits (`laws::keeps_limits`). `write_tree` appends the text of the tree that the nodes of a
+//! store spell, each directory followed at once by what is below it, and leaves the text as it was if it fails.
+//!
+//! Enter at `read_script` and `write_tree`. The definitions are in `specs/`: `Script` (what reading gives), `Limits`
+//! and `TreeText`; `docs/FORMATS.md` has them in words. `Walks` is about the way through the nodes of a store, and
+//! changes no meaning.
 #![tactic(auto)]
 
 mod draft;

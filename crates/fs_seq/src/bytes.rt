@@ -21,21 +21,21 @@ impl Model for Bytes {
 }
 
 impl Bytes {
-    /// It takes no memory.
+    /// The bytes of a vector, which is kept and not copied.
     pub fn new(items: Vec<u8>) -> Bytes
         ensures { result ≡ items.items }
     {
         Self { items }
     }
 
-    /// The bytes, in order. It takes no memory.
+    /// The bytes, in order.
     pub fn as_slice(&self) -> &[u8]
         ensures { result.now ≡ self.now }
     {
         self.items.as_slice()
     }
 
-    /// Gives the vector back. It takes no memory.
+    /// Gives the vector back.
     pub fn into_vec(self) -> Vec<u8>
         ensures { result.items ≡ self }
     {
@@ -43,7 +43,7 @@ impl Bytes {
         items
     }
 
-    /// Whether the other bytes are the same. It takes no memory.
+    /// Whether the other bytes are the same.
     pub fn same(&self, other: &Bytes) -> bool
         ensures { result ≡ same_bytes self.now other.now }
     {

@@ -1,4 +1,4 @@
-//! Why a call failed.
+//! The errors of calls, under the numbers that they have in this project.
 
 ghost use Rattle.std.specs.Prelude.{◌≡◌};
 ghost use Rattle.fs_seq.specs.Replies.{number_of};

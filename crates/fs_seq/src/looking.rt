@@ -32,7 +32,7 @@ fn find<'a>(nodes: &'a Slab<Node>, path: &Path) -> Result<&'a Node, Errno>
     }
 }
 
-/// The kind of a node and its size. It takes no memory.
+/// The kind of a node and its size.
 pub fn stat(nodes: &Slab<Node>, path: &Path) -> Reply
     requires { IsForest (graph nodes.now) }
     ensures { result ≡ reply (tree_of (graph nodes.now)) (Call.Stat path.now) }

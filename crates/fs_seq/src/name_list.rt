@@ -21,28 +21,28 @@ impl Model for NameList {
 }
 
 impl NameList {
-    /// It takes no memory.
+    /// The names of a vector, which is kept and not copied.
     pub fn new(items: Vec<Name>) -> NameList
         ensures { result ≡ items.items }
     {
         Self { items }
     }
 
-    /// The names, in order. It takes no memory.
+    /// The names, in order.
     pub fn as_slice(&self) -> &[Name]
         ensures { result.now ≡ self.now }
     {
         self.items.as_slice()
     }
 
-    /// Whether the other names are the same, in the same order. It takes no memory.
+    /// Whether the other names are the same, in the same order.
     pub fn same(&self, other: &NameList) -> bool
         ensures { result ≡ same_names self.now other.now }
     {
         self.items == other.items
     }
 
-    /// Gives the vector back. It takes no memory.
+    /// Gives the vector back.
     pub fn into_vec(self) -> Vec<Name>
         ensures { result.items ≡ self }
     {

@@ -76,7 +76,7 @@ fn find_empty(nodes: &Slab<Node>, path: &Path) -> Result<(usize, usize, usize), 
     }
 }
 
-/// Removes the entry of a file. It takes no memory.
+/// Removes the entry of a file.
 pub fn unlink(nodes: &mut Slab<Node>, path: &Path) -> Reply
     requires { IsForest (graph nodes.old) }
     ensures { Answers (graph nodes.old) (graph nodes.new) (Call.Unlink path.now) result }
@@ -90,7 +90,7 @@ pub fn unlink(nodes: &mut Slab<Node>, path: &Path) -> Reply
     }
 }
 
-/// Removes the entry of an empty directory. It takes no memory.
+/// Removes the entry of an empty directory.
 pub fn rmdir(nodes: &mut Slab<Node>, path: &Path) -> Reply
     requires { IsForest (graph nodes.old) }
     ensures { Answers (graph nodes.old) (graph nodes.new) (Call.Rmdir path.now) result }

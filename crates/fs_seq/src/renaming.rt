@@ -107,7 +107,7 @@ fn decide(nodes: &Slab<Node>, from: &Path, to: &Path) -> Result<Plan, Errno>
     }
 }
 
-/// Takes the link at a place out, and puts another where it belongs. It takes no memory.
+/// Takes the link at a place out, and puts another where it belongs, in the capacity that the first one had.
 fn replace(links: &mut Vec<Link>, i: usize, link: Link)
     requires within { i < length (pairs links.old.items) }
     requires rising { IsTrue (is_sorted name_cmp (remove (pairs links.old.items) i)) }
@@ -151,7 +151,7 @@ fn replace_link(nodes: &mut Slab<Node>, dir: usize, i: usize, link: Link)
 }
 
 /// Leads the victim's entry, which has this name, to the entry's node, takes the entry out, and removes the victim's
-/// node. It takes no memory.
+/// node. No directory gets an entry more, so nothing is allocated.
 fn exchange(nodes: &mut Slab<Node>, entry: Entry, victim: Entry, name: &Name)
     requires dir { place_at (graph nodes.old) entry.dir ≡ Some (IsDir (links_at (graph nodes.old) entry.dir)) }
     requires place { entry.place < length (links_at (graph nodes.old) entry.dir) }
@@ -195,7 +195,7 @@ fn transfer(
 }
 
 /// Renames a node, with all below it; the node that stood at the new path is removed. A rename costs no more than its
-/// two directories, and takes memory only where it adds an entry to another one.
+/// two directories, and allocates only where it adds an entry to another one.
 pub fn rename(nodes: &mut Slab<Node>, from: &Path, to: &Path) -> Result<Reply, AllocError>
     requires { IsForest (graph nodes.old) }
     ensures given { IfOk result (Answers (graph nodes.old) (graph nodes.new) (Call.Rename from.now to.now)) }

@@ -32,7 +32,7 @@ fn same_kind(kind: Kind, other: Kind) -> bool
 }
 
 impl Reply {
-    /// Whether the other reply is the same. It takes no memory.
+    /// Whether the other reply is the same.
     pub fn same(&self, other: &Reply) -> bool
         ensures { result ≡ same_reply self.now other.now }
     {

@@ -48,8 +48,8 @@ impl SeqTree {
         }
     }
 
-    /// The reply of a call on the tree, which is as the call says from then on. Where there is no memory the tree
-    /// stays as it was; a call that needs none never fails so.
+    /// The reply of a call on the tree, which is as the call says from then on. Out of memory the tree stays as it
+    /// was; a call that needs to allocate nothing never fails so.
     pub fn apply(&mut self, alloc: Global, call: &Call) -> Result<Reply, AllocError>
         ensures reply { IfOk result (λ r. r ≡ reply self.old call.now) }
         ensures tree { OnOk result (self.new ≡ after self.old call.now) }

@@ -1,4 +1,4 @@
-//! The name ahead.
+//! The next name of a path that a walk or a head goes along.
 
 ghost use Rattle.std.specs.Prelude.{◌≡◌, ◌≤◌, ◌<◌, ◌+◌, IsSome, slice_get, take, length};
 ghost use Rattle.std.specs.Option.{option_copied};
