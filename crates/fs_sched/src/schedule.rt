@@ -22,7 +22,8 @@ pub enum Schedule {
     Seeded(u64),
 }
 
-/// The most threads that are drawn in a run.
+/// The most threads that are drawn in a run. A draw of a thread that has nothing left to do counts too, and changes
+/// nothing: so the drawn threads are those of the number, whatever the calls do.
 pub const DRAW_LIMIT: usize = 100_000;
 
 impl Schedule {
