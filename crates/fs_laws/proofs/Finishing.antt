@@ -1,4 +1,4 @@
--- FINISH: where the next move is to finish, the rows read at held nodes what the sequential tree reads at the located paths.
+-- Where the next move is to finish, the rows read at held nodes what the sequential tree reads at the located paths.
 use Rattle.std.proofs.Common.{◌≡◌, ℕ, Bool, true, false, not, ◌||◌, List, [], ◌∷◌, ◌++◌, Option, Some, None, refl, sym, ap, ap₂, ◌∙◌, append-nil}
 use mathlib.Core.Path.{fun_ext}
 use Rattle.fs_names.specs.Keys.{Key, after_prefix, has_more, parent_of, last_of}

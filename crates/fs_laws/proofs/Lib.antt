@@ -18,6 +18,7 @@ pub mod Ledger
 pub mod Books
 pub mod Tying
 pub mod Listing
+pub mod Local
 pub mod Linking
 pub mod Unlinking
 pub mod Agreeing
@@ -67,3 +68,4 @@ pub mod Working
 pub mod Places
 pub mod OneCall
 pub mod Determined
+pub mod Computing

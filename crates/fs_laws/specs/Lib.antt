@@ -5,7 +5,7 @@ pub mod Settled
 pub mod Placed
 pub mod Stands
 pub mod Invariants
-pub mod Computing
+pub mod Events
 pub mod Examples
 pub mod Below
 pub mod Progress

@@ -1,4 +1,4 @@
-//! Worked examples, which the check computes from the definitions.
+//! Worked examples: each is a run of the machine, with what each step answers.
 
 ghost use Rattle.fs_laws.specs.Examples.{FirstMkdir, CallsOnTheRoot, WaitsForTheRoot, HelpedMkdir, LowestFirst, HelpedRename, VictimIsWaitedFor};
 
@@ -32,7 +32,7 @@ pub fn helped_rename()
     ensures { HelpedRename }
 {}
 
-/// A rename waits for the victim that another call holds.
+/// An unlink waits for the victim that another call holds.
 pub fn victim_is_waited_for()
     ensures { VictimIsWaitedFor }
 {}
