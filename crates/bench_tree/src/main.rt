@@ -1,4 +1,4 @@
-//! Times the sequential tree and the journal checker on drawn calls: `fs_bench CALLS`.
+//! Times the sequential tree and the journal checker on drawn calls: `bench_tree CALLS`.
 //! Without a number it does the same with a few calls, and prints no times.
 #![tactic(auto)]
 
