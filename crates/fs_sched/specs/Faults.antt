@@ -1,9 +1,10 @@
--- The fault of a run whose input has a fault.
+-- The fault of a run whose input has a fault, and the status after a fault.
+use Rattle.std.specs.Prelude.{ℕ}
 use Rattle.fs_text.specs.declared.fault.ScriptFault.{ScriptFault}
 use Rattle.fs_text.specs.declared.fault.FaultKind.{FaultKind}
 use Rattle.fs_text.specs.declared.fault.FaultKind.TheVariants as kind
 use Rattle.fs_sched.specs.declared.fault.RunFault.{RunFault}
-use Rattle.fs_sched.specs.declared.fault.RunFault.TheVariants.{Input, OutOfMemory}
+use Rattle.fs_sched.specs.declared.fault.RunFault.TheVariants.{Input, Read, Write, OutOfMemory, Full}
 
 -- a lack of memory is no fault of the input
 abbrev pub by_kind : ScriptFault → FaultKind → RunFault
@@ -12,3 +13,11 @@ by_kind f k = Input f
 
 abbrev pub run_fault_of : ScriptFault → RunFault
 run_fault_of f = by_kind f f.kind
+
+-- bad input is 3, no memory or no node number 4, a device that failed 5
+abbrev pub status_of_fault : RunFault → ℕ
+status_of_fault (Input f) = 3
+status_of_fault Read = 5
+status_of_fault Write = 5
+status_of_fault OutOfMemory = 4
+status_of_fault Full = 4

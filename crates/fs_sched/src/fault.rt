@@ -1,7 +1,7 @@
 //! Why a run ended without its whole text written.
 
 ghost use Rattle.std.specs.Prelude.{◌≡◌};
-ghost use Rattle.fs_sched.specs.Faults.{run_fault_of};
+ghost use Rattle.fs_sched.specs.Faults.{run_fault_of, status_of_fault};
 
 use fs_text::{FaultKind, ScriptFault};
 use thiserror::Error;
@@ -25,6 +25,20 @@ pub enum RunFault {
     /// A call was refused since all node numbers are in use.
     #[error("full")]
     Full,
+}
+
+impl RunFault {
+    /// The status of a program that this fault ended: 3 for bad input, 4 where memory or numbers ran out, 5 for a device
+    /// that failed.
+    pub fn status(&self) -> u8
+        ensures { result ≡ status_of_fault self.now }
+    {
+        match self {
+            RunFault::Input(_) => 3,
+            RunFault::OutOfMemory | RunFault::Full => 4,
+            RunFault::Read | RunFault::Write => 5,
+        }
+    }
 }
 
 /// The fault of a run whose input has this fault.

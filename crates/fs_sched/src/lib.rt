@@ -1,4 +1,14 @@
 //! Runners from a reader to a writer: runs of scripts by each schedule, and the check of journals.
+//!
+//! `run_script` writes the run text of a script by a schedule, of which there is one; `run_seeds` runs a script by
+//! drawn schedules and has each journal checked; `check_journal` writes the verdict on a journal. The whole text is
+//! made before its first byte is written, and `Read` or `Write` is answered only if the reader or the writer failed
+//! during this call.
+//!
+//! Enter at these three, with a `Device` around a reader and a writer. The definitions are in `specs/`: `Schedules` and
+//! `Runs` (events by each schedule), `RunTexts`, `EachRun` (what is said of every run), `Seeds`, `Checks`, `Devices`;
+//! the module `laws` has what is proved of them, `one_text` among it. `Faults` has the status of each fault; `Stages` ties
+//! the code to these words, and changes no meaning.
 #![tactic(auto)]
 
 mod checking;
@@ -10,8 +20,6 @@ mod reading;
 mod running;
 mod schedule;
 mod seeding;
-#[cfg(test)]
-mod tests;
 mod texts;
 mod verdict_line;
 mod writing;

@@ -1,0 +1,155 @@
+//! Readers and writers that move one byte a call, and that fail after some bytes.
+
+use crate::outcome::{Command, perform};
+use anyhow::{Result, ensure};
+use fs_sched::{Device, RunFault};
+use std::alloc::Global;
+use std::io::{self, Error, ErrorKind, Read, Write};
+
+/// A reader that gives one byte a call, and fails after some bytes.
+#[derive(Drop)]
+struct SlowReader<'a> {
+    bytes: &'a [u8],
+    good: usize,
+}
+
+impl<'a> Read for SlowReader<'a> {
+    fn read(&mut self, buffer: &mut [u8]) -> io::Result<usize> {
+        if self.good == 0 {
+            return Err(Error::from(ErrorKind::Other));
+        }
+        if buffer.is_empty() {
+            return Ok(0);
+        }
+        match self.bytes.split_first() {
+            None => Ok(0),
+            Some((first, rest)) => {
+                buffer[0] = *first;
+                self.bytes = rest;
+                self.good -= 1;
+                Ok(1)
+            }
+        }
+    }
+}
+
+/// A writer that takes one byte a call, and after some bytes fails, or takes nothing.
+#[derive(Drop)]
+struct SlowWriter {
+    bytes: Vec<u8>,
+    good: usize,
+    fails: bool,
+}
+
+impl Write for SlowWriter {
+    fn write(&mut self, piece: &[u8]) -> io::Result<usize> {
+        let Some(first) = piece.first() else {
+            return Ok(0);
+        };
+        if self.good == 0 {
+            return if self.fails {
+                Err(Error::from(ErrorKind::Other))
+            } else {
+                Ok(0)
+            };
+        }
+        if self.bytes.push(*first).is_err() {
+            return Err(Error::from(ErrorKind::OutOfMemory));
+        }
+        self.good -= 1;
+        Ok(1)
+    }
+
+    fn flush(&mut self) -> io::Result<()> {
+        Ok(())
+    }
+}
+
+/// A command, its input, and the text that it writes.
+#[derive(Clone, Copy)]
+pub struct Work<'a> {
+    pub command: Command,
+    pub input: &'a [u8],
+    pub text: &'a [u8],
+}
+
+/// What a command answers, how often each device failed, and what was written.
+#[derive(Drop)]
+struct Done {
+    answer: Result<bool, RunFault>,
+    failed_reads: u64,
+    failed_writes: u64,
+    written: Vec<u8>,
+}
+
+impl<'a> Work<'a> {
+    /// Does the command with so many good reads and writes.
+    fn done(&self, alloc: Global, reads: usize, writes: usize, fails: bool) -> Done {
+        let mut reader = Device::new(SlowReader {
+            bytes: self.input,
+            good: reads,
+        });
+        let mut writer = Device::new(SlowWriter {
+            bytes: Vec::new(alloc),
+            good: writes,
+            fails,
+        });
+        let answer = perform(alloc, &mut reader, &mut writer, self.command);
+        Done {
+            answer,
+            failed_reads: reader.failures,
+            failed_writes: writer.failures,
+            written: writer.inner.bytes,
+        }
+    }
+
+    /// All is well byte by byte, where neither device fails.
+    fn goes_byte_by_byte(&self, alloc: Global) -> bool {
+        let done = self.done(alloc, usize::MAX, usize::MAX, true);
+        done.answer == Ok(true)
+            && done.failed_reads == 0
+            && done.failed_writes == 0
+            && done.written.as_slice() == self.text
+    }
+
+    /// A read that fails is told, and nothing is written.
+    fn tells_failed_read(&self, alloc: Global, good: usize) -> bool {
+        let done = self.done(alloc, good, usize::MAX, true);
+        done.answer == Err(RunFault::Read)
+            && done.failed_reads == 1
+            && done.failed_writes == 0
+            && done.written.is_empty()
+    }
+
+    /// A write that fails, or that takes nothing, is told, and what was written is as much as went well.
+    fn tells_failed_write(&self, alloc: Global, good: usize, fails: bool) -> bool {
+        let done = self.done(alloc, usize::MAX, good, fails);
+        done.answer == Err(RunFault::Write)
+            && done.failed_reads == 0
+            && done.failed_writes == 1
+            && Some(done.written.as_slice()) == self.text.get(..good)
+    }
+
+    /// Has each read fail in turn, the one at the end too, and each write.
+    pub fn compare(&self, alloc: Global) -> Result<()> {
+        let command = self.command;
+        ensure!(self.goes_byte_by_byte(alloc), "{command:?}: byte by byte");
+        for good in 0..=self.input.len() {
+            ensure!(
+                self.tells_failed_read(alloc, good),
+                "{command:?}: read {good}"
+            );
+        }
+        for good in 0..self.text.len() {
+            ensure!(
+                self.tells_failed_write(alloc, good, true),
+                "{command:?}: write {good}"
+            );
+            ensure!(
+                self.tells_failed_write(alloc, good, false),
+                "{command:?}: nothing at {good}"
+            );
+        }
+        Ok(())
+    }
+}
