@@ -1,139 +1,126 @@
-//! The program: `atomfs run` runs a script on standard input, `atomfs seeds` runs one by drawn schedules, and
+//! The program `atomfs`. `atomfs run` runs the script on standard input, `atomfs seeds` runs it by drawn schedules, and
 //! `atomfs check` reads a journal there; each writes what came of it.
+//!
+//! `cli` reads the command line, and `status` has the exit statuses; the definitions are in `specs/`. Each part is proved to
+//! mean what they say. The program from its arguments to its status, and the words of the messages, are tested.
 #![tactic(auto)]
 
-ghost use Rattle.std.specs.Prelude.{◌≡◌, ◌≢◌, ◌⊎◌, ◌<◌, ◌-◌, ◌^◌};
-ghost use Rattle.std.specs.IoError.{error_kind};
-ghost use Rattle.clap.specs.Values.{kind_of};
-ghost use Rattle.atomfs.specs.Statuses.{status_of_fault, status_of, is_whole};
-ghost use Rattle.atomfs.specs.Tasks.{IsWithin};
+ghost use Rattle.std.specs.Prelude.{◌-◌, ◌<◌, ◌^◌};
+ghost use Rattle.atomfs.specs.Commands.{IsWithin};
 
+mod cli;
+mod status;
 #[cfg(test)]
 mod tests;
-mod words;
 
-use clap::Error;
-use clap::error::ErrorKind;
-use fs_sched::{
-    Device, RunEnd, RunFault, Schedule, Sink, Source, check_journal, run_script, run_seeds,
+use cli::Subcommand;
+use fs_sched::{Device, RunFault, Schedule, Sink, Source, check_journal, run_script, run_seeds};
+use status::{
+    report, status_of_run, status_of_unreadable_args, status_of_usage, status_of_verdict,
 };
 use std::alloc::Global;
-use std::io::{self, ErrorKind as IoErrorKind};
+use std::convert::AsStr;
+use std::io::{Read, Write};
 use std::process::ExitCode;
-use words::Task;
 
-/// The status after a run that ended with a fault.
-fn status_of_fault(fault: &RunFault) -> u8
-    ensures { result ≡ status_of_fault fault.now }
-{
-    match fault {
-        RunFault::Input(_) => 3,
-        RunFault::OutOfMemory | RunFault::Full => 4,
-        RunFault::Read | RunFault::Write => 5,
-    }
-}
-
-/// The status after a run: 0 where all is well, 1 where it is not; after a fault, that of the fault, whose words go to
-/// standard error.
-fn ended<R: Eprint>(rt: &R, outcome: Result<bool, RunFault>) -> u8
-    ensures { result ≡ status_of outcome }
-{
-    match outcome {
-        Ok(true) => 0,
-        Ok(false) => 1,
-        Err(fault) => {
-            let _ = eprintln!(rt; "atomfs: {fault}");
-            status_of_fault(&fault)
-        }
-    }
-}
-
-/// The status where the words cannot be read: 4 for want of memory, 2 where one is no UTF-8.
-fn unread(rt: &HostRuntime, error: &io::Error) -> u8
-    ensures memory { error_kind error.now ≡ IoErrorKind.OutOfMemory → result ≡ 4 }
-    ensures words { error_kind error.now ≢ IoErrorKind.OutOfMemory → result ≡ 2 }
-{
-    if error.kind() == IoErrorKind::OutOfMemory {
-        return ended(rt, Err(RunFault::OutOfMemory));
-    }
-    let _ = eprintln!(rt; "atomfs: a word is not UTF-8");
-    2
-}
-
-/// The status where the words ask for no run: 0 after help on standard output, 2 after bad words on standard error, and 5 where
-/// what is to be said cannot be printed.
-fn refused(rt: &HostRuntime, error: Error) -> u8
-    ensures memory { kind_of error ≡ ErrorKind.OutOfMemory → result ≡ 4 }
-    ensures help { kind_of error ≡ ErrorKind.DisplayHelp → (result ≡ 0) ⊎ (result ≡ 5) }
-    ensures words { kind_of error ≢ ErrorKind.OutOfMemory → kind_of error ≢ ErrorKind.DisplayHelp → kind_of error ≢ ErrorKind.DisplayVersion → (result ≡ 2) ⊎ (result ≡ 5) }
-{
-    if error.kind() == ErrorKind::OutOfMemory {
-        return ended(rt, Err(RunFault::OutOfMemory));
-    }
-    if error.print(rt).is_err() {
-        return 5;
-    }
-    match error.kind() {
-        ErrorKind::DisplayHelp | ErrorKind::DisplayVersion => 0,
-        _ => 2,
-    }
-}
-
-/// Whether every call of a run's script returned.
-fn is_whole(end: &RunEnd) -> bool
-    ensures { result ≡ is_whole end.now }
-{
-    end.returned == end.calls
-}
-
-/// Runs a script, and tells whether every call of it returned.
+/// Runs a script, and answers the status.
 fn run<R: Source, W: Sink>(
     alloc: Global,
     reader: &mut R,
     writer: &mut W,
     schedule: Schedule,
-) -> Result<bool, RunFault>
+) -> Result<u8, RunFault>
     requires reads { R.failures reader.old < 2 ^ 64 - 1 }
     requires writes { W.failures writer.old < 2 ^ 64 - 1 }
 {
     match run_script(alloc, reader, writer, schedule) {
-        Ok(end) => Ok(is_whole(&end)),
+        Ok(end) => Ok(status_of_run(&end)),
         Err(fault) => Err(fault),
     }
 }
 
-/// Does what the words ask for, from standard input to standard output, and answers the status.
-fn perform(rt: &HostRuntime, task: &Task) -> u8
-    requires { IsWithin task.now }
+/// Makes drawn runs of a script, and answers the status.
+fn seeds<R: Source, W: Sink>(
+    alloc: Global,
+    reader: &mut R,
+    writer: &mut W,
+    seed: u64,
+    runs: u64,
+) -> Result<u8, RunFault>
+    requires reads { R.failures reader.old < 2 ^ 64 - 1 }
+    requires writes { W.failures writer.old < 2 ^ 64 - 1 }
+    requires within { IsWithin (Subcommand.Seeds seed runs) }
 {
-    let alloc = rt.alloc();
-    let mut reader = Device::new(rt.stdin());
-    let mut writer = Device::new(rt.stdout());
-    match task {
-        Task::Run(schedule) => ended(rt, run(alloc, &mut reader, &mut writer, *schedule)),
-        Task::Seeds(seed, runs) => ended(
-            rt,
-            run_seeds(alloc, &mut reader, &mut writer, *seed, *runs),
-        ),
-        Task::Check => ended(rt, check_journal(alloc, &mut reader, &mut writer)),
+    match run_seeds(alloc, reader, writer, seed, runs) {
+        Ok(lawful) => Ok(status_of_verdict(lawful)),
+        Err(fault) => Err(fault),
     }
 }
 
-fn status(rt: &HostRuntime) -> u8 {
+/// Checks a journal, and answers the status.
+fn check<R: Source, W: Sink>(alloc: Global, reader: &mut R, writer: &mut W) -> Result<u8, RunFault>
+    requires reads { R.failures reader.old < 2 ^ 64 - 1 }
+    requires writes { W.failures writer.old < 2 ^ 64 - 1 }
+{
+    match check_journal(alloc, reader, writer) {
+        Ok(lawful) => Ok(status_of_verdict(lawful)),
+        Err(fault) => Err(fault),
+    }
+}
+
+/// Does what a subcommand asks for, from a reader to a writer, and answers the exit status. The message of a fault goes
+/// to `errors`.
+fn perform<R: Source, W: Sink, E: Write>(
+    alloc: Global,
+    subcommand: &Subcommand,
+    reader: &mut R,
+    writer: &mut W,
+    errors: &mut E,
+) -> u8
+    requires within { IsWithin subcommand.now }
+    requires reads { R.failures reader.old < 2 ^ 64 - 1 }
+    requires writes { W.failures writer.old < 2 ^ 64 - 1 }
+{
+    let outcome = match subcommand {
+        Subcommand::Run(schedule) => run(alloc, reader, writer, *schedule),
+        Subcommand::Seeds(first, runs) => seeds(alloc, reader, writer, *first, *runs),
+        Subcommand::Check => check(alloc, reader, writer),
+    };
+    report(errors, outcome)
+}
+
+/// The exit status of the program, from its arguments on. The first of them is its name.
+fn status_of_args<S: AsStr, R: Read + Drop, W: Write + Drop, E: Write>(
+    alloc: Global,
+    args: &[S],
+    input: R,
+    mut output: W,
+    errors: &mut E,
+) -> u8 {
+    match cli::parse(alloc, args) {
+        Ok(subcommand) => {
+            let mut reader = Device::new(input);
+            let mut writer = Device::new(output);
+            perform(alloc, &subcommand, &mut reader, &mut writer, errors)
+        }
+        Err(error) => status_of_usage(&mut output, errors, error),
+    }
+}
+
+fn exit_status(rt: &HostRuntime) -> u8 {
+    let alloc = rt.alloc();
+    let mut errors = rt.stderr();
     let args = match std::env::args(rt) {
         Ok(args) => args,
-        Err(error) => return unread(rt, &error),
+        Err(error) => return status_of_unreadable_args(&mut errors, &error),
     };
-    let collected: Result<Vec<String>, _> = args.collect(rt.alloc());
-    let Ok(given) = collected else {
-        return ended(rt, Err(RunFault::OutOfMemory));
+    let collected: Result<Vec<String>, _> = args.collect(alloc);
+    let Ok(args) = collected else {
+        return report(&mut errors, Err(RunFault::OutOfMemory));
     };
-    match words::read(rt.alloc(), given.as_slice()) {
-        Ok(task) => perform(rt, &task),
-        Err(error) => refused(rt, error),
-    }
+    status_of_args(alloc, args.as_slice(), rt.stdin(), rt.stdout(), &mut errors)
 }
 
 fn main(rt: HostRuntime) -> ExitCode {
-    ExitCode::from(status(&rt))
+    ExitCode::from(exit_status(&rt))
 }

@@ -1,0 +1,193 @@
+//! The command line, read by `clap`.
+
+ghost use Rattle.std.specs.Prelude.{◌≡◌, Some, None, IfOk, IfSome, codes};
+ghost use Rattle.std.specs.Option.{ForSome};
+ghost use Rattle.clap.specs.Matches.{found_of, one_text, subcommand_name_of};
+ghost use Rattle.atomfs.specs.Commands.{IsWithin, name_of};
+
+use clap::error::ErrorKind;
+use clap::{Arg, ArgAction, ArgMatches, Command, Error, value_parser};
+use fs_sched::{RUN_LIMIT, SEED_LIMIT, Schedule};
+use std::alloc::Global;
+use std::convert::AsStr;
+
+/// The version of the program.
+pub const VERSION: &str = "0.1.0";
+
+/// What the command line asks for.
+#[derive(Clone, Copy, Debug, PartialEq, Eq)]
+pub enum Subcommand {
+    /// A run of a script by a schedule.
+    Run(Schedule),
+    /// Runs of a script that are drawn from a number, the next one, and so on: the number, and how many.
+    Seeds(u64, u64),
+    /// The verdict on a journal.
+    Check,
+}
+
+const RUN_STATUSES: &str = "\
+Exit status:
+  0  every call of the script returned
+  1  the script ended with calls left: begun and not returned, or not begun
+  2  usage error
+  3  the input is no script
+  4  out of memory, or no node number left
+  5  a read or a write failed
+
+Example:
+  atomfs run --seed 7 < examples/moved_ancestor.script";
+
+const SEEDS_STATUSES: &str = "\
+Exit status:
+  0  every run is lawful
+  1  a run has a fault
+  2  usage error
+  3  the input is no script
+  4  out of memory, or no node number left
+  5  a read or a write failed
+
+Example:
+  atomfs seeds --seed 1 --runs 100 < examples/moved_ancestor.script";
+
+const CHECK_STATUSES: &str = "\
+Exit status:
+  0  the journal is lawful
+  1  the journal has a fault
+  2  usage error
+  3  the input is no journal
+  4  out of memory
+  5  a read or a write failed
+
+Example:
+  atomfs run < examples/moved_ancestor.script | atomfs check";
+
+const STATUSES: &str = "\
+Exit status:
+  0  success
+  1  a journal is not lawful, or a script ended with calls left
+  2  usage error
+  3  malformed input
+  4  out of memory, or no node number left
+  5  a read or a write failed
+
+Example:
+  atomfs run < examples/moved_ancestor.script";
+
+fn run_command<'a>(alloc: Global) -> Result<Command<'a>, Error> {
+    let robin = Arg::new(alloc, "robin")
+        .long("robin")
+        .action(ArgAction::SetTrue)
+        .help("One event of each thread in turn, in place of the script's schedule");
+    let seed = Arg::new(alloc, "seed")
+        .long("seed")
+        .value_name("N")
+        .value_parser(value_parser!(u64))
+        .conflicts_with("robin")?
+        .help("Threads drawn from N, 0 to 18446744073709551615, as `atomfs seeds` draws them");
+    Ok(
+        Command::new(alloc, "run")
+            .about(
+                "Runs the script on standard input and writes its journal, its tree and its counts",
+            )
+            .after_help(RUN_STATUSES)
+            .arg(robin)?
+            .arg(seed)?,
+    )
+}
+
+fn seeds_command<'a>(alloc: Global) -> Result<Command<'a>, Error> {
+    let seed = Arg::new(alloc, "seed")
+        .long("seed")
+        .value_name("N")
+        .required(true)
+        .value_parser(value_parser!(u64).range(0..=SEED_LIMIT as i64))
+        .help("The number that the first run is drawn from, 0 to 9223372036854775807");
+    let runs = Arg::new(alloc, "runs")
+        .long("runs")
+        .value_name("K")
+        .required(true)
+        .value_parser(value_parser!(u64).range(1..=RUN_LIMIT as i64))
+        .help("How many runs, drawn from N, N + 1, and so on, 1 to 10000");
+    Ok(
+        Command::new(alloc, "seeds")
+            .about(
+                "Runs the script on standard input by drawn schedules, checks each run's journal and writes a line for each",
+            )
+            .after_help(SEEDS_STATUSES)
+            .arg(seed)?
+            .arg(runs)?,
+    )
+}
+
+fn check_command<'a>(alloc: Global) -> Command<'a> {
+    Command::new(alloc, "check")
+        .about(
+            "Reads the journal on standard input and writes `lawful`, or the place and the kind of its first fault",
+        )
+        .after_help(CHECK_STATUSES)
+}
+
+fn command<'a>(alloc: Global) -> Result<Command<'a>, Error> {
+    Ok(
+        Command::new(alloc, "atomfs")
+            .version(VERSION)
+            .about("A concurrent file tree in memory")
+            .after_help(STATUSES)
+            .subcommand_required(true)
+            .subcommand(run_command(alloc)?)?
+            .subcommand(seeds_command(alloc)?)?
+            .subcommand(check_command(alloc))?,
+    )
+}
+
+/// The schedule of a run.
+fn schedule_of<'a>(matches: &ArgMatches<'a>) -> Schedule
+    ensures robin { one_text (found_of matches.now) (codes "robin") ≡ Some (codes "true") → result ≡ Schedule.RoundRobin }
+    ensures given { one_text (found_of matches.now) (codes "robin") ≡ Some (codes "false") → one_text (found_of matches.now) (codes "seed") ≡ None → result ≡ Schedule.Given }
+{
+    if matches.get_flag("robin") {
+        return Schedule::RoundRobin;
+    }
+    match matches.get_one::<u64>("seed") {
+        Some(seed) => Schedule::Seeded(seed),
+        None => Schedule::Given,
+    }
+}
+
+/// The numbers of drawn runs. `clap` has read them within their ranges, and here they are looked at once more.
+fn seeds_of<'a>(matches: &ArgMatches<'a>) -> Option<Subcommand>
+    ensures within { ForSome result IsWithin }
+    ensures name { IfSome result (λ command. name_of command ≡ codes "seeds") }
+{
+    let seed = matches.get_one::<u64>("seed")?;
+    let runs = matches.get_one::<u64>("runs")?;
+    if seed > SEED_LIMIT || runs < 1 || runs > RUN_LIMIT {
+        return None;
+    }
+    Some(Subcommand::Seeds(seed, runs))
+}
+
+fn subcommand_of<'a>(matches: &ArgMatches<'a>) -> Option<Subcommand>
+    ensures within { ForSome result IsWithin }
+    ensures name { IfSome result (λ command. subcommand_name_of matches.now ≡ Some (name_of command)) }
+{
+    let (name, given) = matches.subcommand()?;
+    match name {
+        "run" => Some(Subcommand::Run(schedule_of(given))),
+        "seeds" => seeds_of(given),
+        "check" => Some(Subcommand::Check),
+        _ => None,
+    }
+}
+
+/// What the command line asks for; its first argument is the name of the program. The error is what is to be printed
+/// instead: help, the version, or what is wrong with the arguments.
+pub fn parse<'a, S: AsStr>(alloc: Global, args: &'a [S]) -> Result<Subcommand, Error>
+    ensures within { IfOk result IsWithin }
+{
+    let matches = command(alloc)?.try_get_matches_from(args)?;
+    match subcommand_of(&matches) {
+        Some(subcommand) => Ok(subcommand),
+        None => Err(command(alloc)?.error(ErrorKind::InvalidSubcommand, "no such subcommand")?),
+    }
+}

@@ -1,0 +1,81 @@
+//! The exit statuses, and the messages on standard error.
+
+ghost use Rattle.std.specs.Prelude.{◌≡◌, ◌≢◌, ◌⊎◌};
+ghost use Rattle.std.specs.IoError.{error_kind};
+ghost use Rattle.clap.specs.Values.{kind_of};
+ghost use Rattle.atomfs.specs.Statuses.{status_of_fault, status_of, status_of_run, status_of_verdict};
+
+use clap::Error;
+use clap::error::ErrorKind;
+use fs_sched::{RunEnd, RunFault};
+use std::io::{self, ErrorKind as IoErrorKind, Write};
+
+/// The status after a run: success where every call of the script returned.
+pub fn status_of_run(end: &RunEnd) -> u8
+    ensures { result ≡ status_of_run end.now }
+{
+    if end.returned == end.calls { 0 } else { 1 }
+}
+
+/// The status after a verdict: success where what was checked is lawful.
+pub fn status_of_verdict(lawful: bool) -> u8
+    ensures { result ≡ status_of_verdict lawful }
+{
+    if lawful { 0 } else { 1 }
+}
+
+fn status_of_fault(fault: &RunFault) -> u8
+    ensures { result ≡ status_of_fault fault.now }
+{
+    match fault {
+        RunFault::Input(_) => 3,
+        RunFault::OutOfMemory | RunFault::Full => 4,
+        RunFault::Read | RunFault::Write => 5,
+    }
+}
+
+/// The status that a subcommand came to, or that of its fault, whose message is written.
+pub fn report<E: Write>(errors: &mut E, outcome: Result<u8, RunFault>) -> u8
+    ensures { result ≡ status_of outcome }
+{
+    match outcome {
+        Ok(status) => status,
+        Err(fault) => {
+            // Where standard error takes no message, the status says it all the same.
+            let _ = writeln!(errors, "atomfs: {fault}");
+            status_of_fault(&fault)
+        }
+    }
+}
+
+/// The status where the arguments cannot be read: 4 for want of memory, 2 where one is no UTF-8.
+pub fn status_of_unreadable_args<E: Write>(errors: &mut E, error: &io::Error) -> u8
+    ensures memory { error_kind error.now ≡ IoErrorKind.OutOfMemory → result ≡ 4 }
+    ensures usage { error_kind error.now ≢ IoErrorKind.OutOfMemory → result ≡ 2 }
+{
+    if error.kind() == IoErrorKind::OutOfMemory {
+        return report(errors, Err(RunFault::OutOfMemory));
+    }
+    let _ = writeln!(errors, "atomfs: an argument is not UTF-8");
+    2
+}
+
+/// The status where the command line names nothing to do: 0 after help or the version on standard output, 5 where that
+/// cannot be written, and 2 after a usage error.
+pub fn status_of_usage<W: Write, E: Write>(output: &mut W, errors: &mut E, error: Error) -> u8
+    ensures memory { kind_of error ≡ ErrorKind.OutOfMemory → result ≡ 4 }
+    ensures help { (kind_of error ≡ ErrorKind.DisplayHelp) ⊎ (kind_of error ≡ ErrorKind.DisplayVersion) → (result ≡ 0) ⊎ (result ≡ 5) }
+    ensures usage { kind_of error ≢ ErrorKind.OutOfMemory → kind_of error ≢ ErrorKind.DisplayHelp → kind_of error ≢ ErrorKind.DisplayVersion → result ≡ 2 }
+{
+    match error.kind() {
+        ErrorKind::OutOfMemory => report(errors, Err(RunFault::OutOfMemory)),
+        ErrorKind::DisplayHelp | ErrorKind::DisplayVersion => match write!(output, "{error}") {
+            Ok(()) => 0,
+            Err(_) => report(errors, Err(RunFault::Write)),
+        },
+        _ => {
+            let _ = write!(errors, "{error}");
+            2
+        }
+    }
+}
