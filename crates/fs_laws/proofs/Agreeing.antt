@@ -3,12 +3,12 @@ use Rattle.std.proofs.Common.{◌≡◌, ℕ, Bool, true, false, [], ◌∷◌, 
 use Rattle.fs_names.specs.Keys.{Key, parent_of}
 use Rattle.fs_names.specs.Parts.{left}
 use Rattle.fs_names.specs.Shapes.{Shape, Dir, File}
-use Rattle.fs_seq.specs.Forms.{form, Form, On, In, Two, by_text}
+use Rattle.fs_seq.specs.Forms.{Form, On, In, Two}
 use Rattle.fs_seq.specs.declared.target.PairCall.TheVariants as pairs
 use Rattle.fs_seq.specs.declared.errno.Errno.{Errno}
 use Rattle.fs_seq.specs.declared.reply.Reply.{Reply}
 use Rattle.fs_nodes.specs.Graphs.{Graph}
-use Rattle.fs_moves.specs.Moves.{Move, Takes, Leaves, Finishes, Ends, first_of, head_move, walk_move, take_if, dir_then, rename_move, target_move, target, next_on, next_by, next}
+use Rattle.fs_moves.specs.Moves.{Move, Finishes, Ends, first_of, head_move, walk_move, take_if, dir_then, rename_move, target_move, target, next_on, next_by}
 use Rattle.fs_moves.specs.Records.{Stand, Phase, Walking, Placed, Finished, Record}
 
 walk_ends : (s : Option Shape) (k : Option ℕ) → walk_move s k ≡ Ends → ⊥

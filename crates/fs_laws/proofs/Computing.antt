@@ -1,5 +1,5 @@
 -- The machine computed: in each state of a run the step that is computed is the step, and so runs are computed.
-use Rattle.std.proofs.Common.{◌≡◌, ℕ, zero, suc, ◌+◌, ◌<◌, Bool, true, false, cond, not, ◌&&◌, List, [], ◌∷◌, ◌++◌, Option, Some, None, is_some, refl, sym, ap, ap₂, ◌∙◌, append_assoc, append-nil, subst, arith}
+use Rattle.std.proofs.Common.{◌≡◌, ℕ, zero, suc, ◌+◌, ◌<◌, Bool, true, false, cond, not, ◌&&◌, List, [], ◌∷◌, ◌++◌, Option, Some, None, is_some, refl, sym, ap, ap₂, ◌∙◌, append_assoc, append-nil, arith}
 use Rattle.std.specs.Prelude.{nat_lt}
 use Rattle.std.proofs.lemmas.Bool.Decides.{nat_tests}
 use Rattle.fs_names.specs.Keys.{Key, last_of}
@@ -20,7 +20,7 @@ use Rattle.fs_laws.proofs.Agreeing.{by_ends, by_finishes}
 use Rattle.fs_laws.proofs.Choosing.{whom, IsRight, whom_is}
 use Rattle.fs_laws.proofs.Entering.{ToMove, to_move}
 use Rattle.fs_laws.proofs.Headlines.{run_keeps}
-use Rattle.fs_laws.proofs.Walks.{at_child, at_from}
+use Rattle.fs_laws.proofs.Walks.{at_child}
 
 -- the key of the node that a rename would move
 abbrev source_of : Form → Key

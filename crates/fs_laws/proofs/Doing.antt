@@ -100,8 +100,8 @@ does_on graph ops key st reserved k p b (r, Some bytes) is kept at_k file = reco
     none None = refl
     none (Some bytes) = refl
 
--- a call on an entry
-remove_victim : (c : EntryCall) (e : Option Errno) (full : Bool) (there : Option Shape) → (in_row c e full there).1 ≡ Remove → (e ≡ None) × (victim_of c there ≡ true)
+-- an entry is removed where its victim is a right one
+pub remove_victim : (c : EntryCall) (e : Option Errno) (full : Bool) (there : Option Shape) → (in_row c e full there).1 ≡ Remove → (e ≡ None) × (victim_of c there ≡ true)
 remove_victim c (Some e) full there i = cc
 remove_victim Mkdir None true None i = cc
 remove_victim Mkdir None false None i = cc

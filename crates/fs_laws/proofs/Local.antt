@@ -1,5 +1,5 @@
 -- What a link and an unlink keep of a graph whatever the entry leads to.
-use Rattle.std.proofs.Common.{◌≡◌, ℕ, Bool, true, false, cond, eqb, ◌&&◌, List, Option, Some, None, refl, sym, ap, ◌∙◌}
+use Rattle.std.proofs.Common.{◌≡◌, ℕ, Bool, true, false, cond, eqb, ◌&&◌, List, Some, None, refl, sym, ap, ◌∙◌}
 use Rattle.fs_names.specs.Names.{Name, same_name, inserted_name, removed_name, has_name}
 use Rattle.fs_names.specs.Shapes.{Shape, Dir, names_of}
 use Rattle.fs_nodes.specs.Graphs.{Graph, linked_in, unlinked_in, IsGraph}

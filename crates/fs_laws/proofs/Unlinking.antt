@@ -1,5 +1,5 @@
 -- An unlink of a node without entries leaves a graph.
-use Rattle.std.proofs.Common.{◌≡◌, ℕ, Bool, true, false, cond, eqb, ◌&&◌, List, [], ◌∷◌, ◌++◌, Option, Some, None, refl, sym, ap, ◌∙◌}
+use Rattle.std.proofs.Common.{◌≡◌, ℕ, Bool, true, false, cond, eqb, ◌&&◌, List, [], ◌∷◌, ◌++◌, Option, Some, None, sym, ap, ◌∙◌}
 use Rattle.fs_names.specs.Keys.{Key}
 use Rattle.fs_names.specs.Names.{Name, same_name}
 use Rattle.fs_names.specs.Shapes.{Dir}

@@ -7,8 +7,9 @@
 //! code.
 //!
 //! Enter at the module `laws`. Read in `specs/`: `States` (states, begins, steps, runs), `Headline` (the theorem),
-//! `Laws` (all statements), then by law `Below`, `Progress`, `Work`, `OneCall`. `Invariants`, `Stands`, `Placed` and
-//! `Settled` serve the proofs, and `docs/ARCHITECTURE.md` has a map of these.
+//! `Laws` (all statements), then by law `Below`, `Progress`, `Work`, `OneCall`. Worked runs with the answer of each
+//! event are in `Examples`, by the words of `Events`. `Invariants`, `Stands`, `Placed` and `Settled` serve the proofs,
+//! and `docs/ARCHITECTURE.md` has a map of these.
 #![tactic(auto)]
 
 pub mod examples;

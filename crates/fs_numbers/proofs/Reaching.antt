@@ -3,10 +3,9 @@ use Rattle.std.proofs.Common.{◌≡◌, ℕ, Bool, true, false, List, [], ◌�
 use Rattle.fs_names.specs.Keys.{Key, after_prefix, parent_of, last_of}
 use Rattle.fs_names.specs.Names.{Name}
 use Rattle.fs_names.specs.Parts.{common}
-use Rattle.fs_names.specs.Shapes.{Shape, Dir, File, is_full}
+use Rattle.fs_names.specs.Shapes.{is_full}
 use Rattle.fs_seq.specs.Forms.{Form, On, In, Two, Fits, new_shape}
 use Rattle.fs_seq.specs.declared.target.EntryCall.{EntryCall}
-use Rattle.fs_seq.specs.declared.target.EntryCall.TheVariants.{Mkdir, Mknod, Unlink, Rmdir}
 use Rattle.fs_seq.specs.declared.target.PairCall.TheVariants as pairs
 use Rattle.fs_seq.specs.Maps.{Map, put_at, move}
 use Rattle.fs_seq.specs.Rows.{on_row, Edit, Keep, Add, Remove, in_row}
@@ -25,6 +24,7 @@ use Rattle.fs_laws.proofs.Walks.{at_before, at_child, at_from, then_some}
 use Rattle.fs_laws.proofs.Commutes.{move_to, move_else}
 use Rattle.fs_laws.proofs.Links.{CanLink, CanUnlink, CanMove, numbers_linked, numbers_unlinked, numbers_moved}
 use Rattle.fs_laws.proofs.Making.{Leaf, leaf_kids, add_of, remove_of, no_entry, head_stops}
+use Rattle.fs_laws.proofs.Doing.{remove_victim}
 use Rattle.fs_laws.proofs.Finishing.{arrived}
 use Rattle.fs_laws.proofs.Reals.{Real, Replaces, real_of}
 use Rattle.fs_laws.proofs.Blinds.{take_done}
@@ -79,22 +79,6 @@ unlinked_reached graph is k dir x v can n (l, e) = go (after_prefix (k ++ x ∷ 
         inr (sym (at_child graph.kid 0 dir k x can.dir_at) ∙ ap (numbers graph) (sym j) ∙ e)
 
 -- a call on an entry
-remove_victim : (c : EntryCall) (e : Option Errno) (full : Bool) (there : Option Shape) → (in_row c e full there).1 ≡ Remove → (e ≡ None) × (victim_of c there ≡ true)
-remove_victim c (Some e) full there i = cc
-remove_victim Mkdir None true None i = cc
-remove_victim Mkdir None false None i = cc
-remove_victim Mkdir None full (Some s) i = cc
-remove_victim Mknod None true None i = cc
-remove_victim Mknod None false None i = cc
-remove_victim Mknod None full (Some s) i = cc
-remove_victim Unlink None full None i = cc
-remove_victim Unlink None full (Some (Dir names)) i = cc
-remove_victim Unlink None full (Some (File bytes)) i = (refl, refl)
-remove_victim Rmdir None full None i = cc
-remove_victim Rmdir None full (Some (File bytes)) i = cc
-remove_victim Rmdir None full (Some (Dir [])) i = (refl, refl)
-remove_victim Rmdir None full (Some (Dir (x ∷ names))) i = cc
-
 stays_in : (graph : Graph) → IsGraph graph → (k : Key) (st : Stand) (o : Option ℕ) (e : EntryCall) (p : Key) (number : Option ℕ) (ed : Option Errno) (full : Bool) → numbers graph k ≡ Some st.node → HasNumber graph e number → VictimAt graph (In e p) st
     → (ed ≡ None → in_move graph e (last_of p) st ≡ Finishes o)
     → (row : Reply × Edit) → in_row e ed full (entry_shape graph st.node (last_of p)) ≡ row → Stays graph st number (in_made graph st.node (last_of p) number row)
