@@ -2,9 +2,10 @@
 
 use crate::workload::Drawn;
 use anyhow::Result;
-use fs_journal::{Entry, Verdict, check};
+use fs_journal::check;
 use fs_names::{CallNo, SeatNo};
 use fs_seq::SeqTree;
+use fs_timeline::{Entry, Verdict};
 use std::alloc::Global;
 use std::rt::Clock;
 use std::time::{Duration, Instant};

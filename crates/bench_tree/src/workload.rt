@@ -1,8 +1,9 @@
 //! Calls that are drawn as a busy tree sees them: most of them look, some write, few make or remove.
 
 use anyhow::Result;
+use fs_calls::{Bytes, Call, Reply};
 use fs_names::Path;
-use fs_seq::{Bytes, Call, Reply, SeqTree};
+use fs_seq::SeqTree;
 use rand_core::{Rng, SeedableRng};
 use rand_pcg::Pcg32;
 use std::alloc::Global;

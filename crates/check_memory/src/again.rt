@@ -3,10 +3,12 @@
 ghost use Rattle.std.specs.Prelude.{◌≡◌, ◌<◌, ◌≤◌, ◌+◌, IfOk, OnOk, length};
 ghost use Rattle.fs_names.specs.declared.limits.TheConstants.{NODE_LIMIT};
 
+use fs_calls::{Bytes, Call, Reply};
 use fs_core::{Core, Refusal};
-use fs_journal::{Entry, Timeline, Verdict, check};
+use fs_journal::check;
 use fs_names::{CallNo, Path, PathFault, SeatNo};
-use fs_seq::{Bytes, Call, Reply, SeqTree};
+use fs_seq::SeqTree;
+use fs_timeline::{Entry, Timeline, Verdict};
 use std::alloc::{AllocError, Global};
 
 /// The memory that is taken, and how often it was refused.

@@ -8,9 +8,10 @@ mod on_core;
 
 use again::Again;
 use calls::{CALLS, Row, What};
-use fs_journal::{Entry, Timeline};
+use fs_calls::{Call, Reply};
 use fs_names::{CallNo, Kind, SeatNo};
-use fs_seq::{Call, Reply, SeqTree};
+use fs_seq::SeqTree;
+use fs_timeline::{Entry, Timeline};
 use std::io;
 
 /// The call of a row.

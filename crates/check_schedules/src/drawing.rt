@@ -1,8 +1,8 @@
 //! Drawn paths and calls: few names, so that calls meet, and many renames of what stands high.
 
 use anyhow::Result;
+use fs_calls::{Bytes, Call};
 use fs_names::Path;
-use fs_seq::{Bytes, Call};
 use rand_core::Rng;
 use rand_pcg::Pcg32;
 use std::alloc::{AllocError, Global};

@@ -14,7 +14,8 @@ mod walking;
 
 use counting::Tally;
 use fs_core::Core;
-use fs_journal::{Verdict, check};
+use fs_journal::check;
+use fs_timeline::Verdict;
 use rand_core::SeedableRng;
 use rand_pcg::Pcg32;
 use running::{Way, run_out, take_seats};

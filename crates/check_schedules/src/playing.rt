@@ -1,8 +1,9 @@
 //! The tree that the commits of a journal play.
 
-use fs_journal::Entry;
+use fs_calls::Call;
 use fs_names::CallNo;
-use fs_seq::{Call, SeqTree};
+use fs_seq::SeqTree;
+use fs_timeline::Entry;
 use std::alloc::{AllocError, Global};
 
 /// The call that an entry begins, if it has this number.

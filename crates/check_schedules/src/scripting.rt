@@ -2,8 +2,8 @@
 
 use crate::drawing::{below, call, narrow_call, path};
 use anyhow::Result;
+use fs_calls::Call;
 use fs_names::Path;
-use fs_seq::Call;
 use rand_pcg::Pcg32;
 use std::alloc::Global;
 

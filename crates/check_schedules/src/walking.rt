@@ -2,10 +2,11 @@
 
 use crate::playing::play;
 use anyhow::Result;
+use fs_calls::{Call, Reply};
 use fs_core::Core;
 use fs_names::{FILE_LIMIT, Kind, Name, Path};
 use fs_nodes::{NodeNo, Store};
-use fs_seq::{Call, Reply, SeqTree};
+use fs_seq::SeqTree;
 use std::alloc::{AllocError, Global};
 
 /// The text of a path, empty for the root.

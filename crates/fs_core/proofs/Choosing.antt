@@ -2,21 +2,21 @@
 use Rattle.std.proofs.Common.{◌≡◌, ℕ, zero, suc, ◌+◌, ◌<◌, ◌≤◌, List, [], ◌∷◌, ◌++◌, Option, Some, None, length, length-append, refl, sym, ap, ◌∙◌, arith, subst, inl}
 use Rattle.std.specs.Prelude.{slice_get, MatchOption}
 use Rattle.fs_names.specs.Keys.{Key}
-use Rattle.fs_seq.specs.declared.reply.Reply.{Reply}
+use Rattle.fs_calls.specs.declared.reply.Reply.{Reply}
 use Rattle.fs_nodes.specs.Graphs.{Graph, at, numbers}
 use Rattle.fs_nodes.specs.Stores.{graph_of, kid}
 use Rattle.fs_locks.specs.Holding.{room}
-use Rattle.fs_moves.specs.Records.{Stand, Walking, Record}
-use Rattle.fs_moves.specs.Works.{phase_of, record_of}
+use Rattle.fs_machine.specs.Records.{Stand, Walking, Record}
+use Rattle.fs_machine.specs.Works.{phase_of, record_of}
 use Rattle.fs_laws.specs.Invariants.{Invariant}
 use Rattle.fs_laws.specs.States.{IsWalkingBelow, IsLowest, NoneBelow, Run}
-use Rattle.fs_laws.proofs.Headlines.{run_keeps}
-use Rattle.fs_laws.proofs.Walks.{at_from}
-use Rattle.fs_core.specs.declared.running.Running.{Running}
-use Rattle.fs_core.specs.Helping.{Helps}
+use Rattle.fs_laws.proofs.states.Headline.{run_keeps}
+use Rattle.fs_laws.proofs.graphs.Walks.{at_from}
+use Rattle.fs_core.specs.declared.seat.Running.{Running}
+use Rattle.fs_core.specs.code.Helping.{Helps}
 use Rattle.fs_core.specs.Machines.{Machine, state_of, number_on, records}
-use Rattle.fs_core.specs.Rooms.{AreBelow, IsKept}
-use Rattle.fs_core.specs.Searches.{position_of, IsUnder, IsAlone, IsLowestOn, HasLeast, CanSearch}
+use Rattle.fs_core.specs.code.Rooms.{AreBelow, IsKept}
+use Rattle.fs_core.specs.code.Searches.{position_of, IsUnder, IsAlone, IsLowestOn, HasLeast, CanSearch}
 use Rattle.fs_core.proofs.Below.{key_within}
 use Rattle.fs_core.proofs.SeatLemmas.{number_read, Comes, record_comes}
 use Rattle.fs_core.proofs.Searching.{under_within}

@@ -3,23 +3,23 @@ use Rattle.std.proofs.Common.{◌≡◌, ℕ, zero, suc, ◌+◌, ◌-◌, ◌<�
 use Rattle.std.specs.Prelude.{slice_get, slice_set, IsSome}
 use Rattle.std.proofs.lemmas.Option.{slice_get_within, slice_get_read}
 use Rattle.fs_names.specs.Shapes.{Shape}
-use Rattle.fs_seq.specs.declared.reply.Reply.{Reply}
+use Rattle.fs_calls.specs.declared.reply.Reply.{Reply}
 use Rattle.fs_nodes.specs.Graphs.{set_at}
 use Rattle.fs_nodes.specs.Places.{Places}
 use Rattle.fs_nodes.specs.Stores.{graph_of}
 use Rattle.fs_locks.specs.Holding.{Holding, holder, room}
-use Rattle.fs_journal.specs.declared.entry.Entry.TheVariants.{Commit, Return}
-use Rattle.fs_moves.specs.Leaving.{is_removed, releasing, unreserved}
-use Rattle.fs_moves.specs.Moves.{Move, Takes, Leaves, Finishes, Ends, next}
-use Rattle.fs_moves.specs.Works.{Work, record_of, next_of, IsTook, IsLetGo, IsFinished, IsSpare, SpareIf, CanFinish, graph_after}
+use Rattle.fs_timeline.specs.declared.entry.Entry.TheVariants.{Commit, Return}
+use Rattle.fs_machine.specs.Leaving.{is_removed, releasing, unreserved}
+use Rattle.fs_machine.specs.Moves.{Move, Takes, Leaves, Finishes, Ends, next}
+use Rattle.fs_machine.specs.Works.{Work, record_of, next_of, IsTook, IsLetGo, IsFinished, IsSpare, SpareIf, CanFinish, graph_after}
 use Rattle.fs_laws.specs.States.{Step, Idle, Took, Busy, LetGo, Helped, Committed, CarriedOut, Returned, NoneBelow}
-use Rattle.fs_laws.proofs.CallMoves.{takes_used, takes_another, leaves_held}
-use Rattle.fs_laws.proofs.CallGraphs.{spare_reserved, spare_removed, can_finish}
-use Rattle.fs_core.specs.declared.running.Running.{Running}
+use Rattle.fs_laws.proofs.calls.NextMoves.{takes_used, takes_another, leaves_held}
+use Rattle.fs_laws.proofs.states.GraphOfARun.{spare_reserved, spare_removed, can_finish}
+use Rattle.fs_core.specs.declared.seat.Running.{Running}
 use Rattle.fs_core.specs.Machines.{Machine, state_of, number_of, records}
-use Rattle.fs_core.specs.Rooms.{walking, walking_at, owed_at, owed, IsKept}
-use Rattle.fs_core.specs.Helping.{Helps, HelpsIf}
-use Rattle.fs_core.specs.Seats.{MovesOn, PlacedOn, Goes, placed}
+use Rattle.fs_core.specs.code.Rooms.{walking, walking_at, owed_at, owed, IsKept}
+use Rattle.fs_core.specs.code.Helping.{Helps, HelpsIf}
+use Rattle.fs_core.specs.code.Seats.{MovesOn, PlacedOn, Goes, placed}
 use Rattle.fs_core.proofs.SeatLemmas.{number_read}
 use Rattle.fs_core.proofs.States.{call_on, moves}
 use Rattle.fs_core.proofs.Steps.{took_step, let_go_step, helped_step, committed_step, carried_step, returned_step}
@@ -105,7 +105,7 @@ owes (p ∷ seats) zero slot e = let z : p ≡ slot = cc in rw z (omega arith, o
 owes (p ∷ seats) (suc seat) slot e = let r : (owed_at slot ≤ owed seats) × (walking_at slot ≤ walking seats) = owes seats seat slot e in (omega (arith, r.0), omega (arith, r.1))
 
 pub push_place : (m : Machine) (b k p seat : ℕ) (r : Running) → IsKept m b k p → slice_get m.seats seat ≡ Some (Some r) → 0 < p
-push_place m b k p seat r kept on = let o : owed_at (Some r) ≤ owed m.seats = (owes m.seats seat (Some r) on).0 in let q : 0 < owed_at (Some r) = positive (Rattle.fs_core.specs.Rooms.is_walking r) in let l : owed m.seats ≤ p = kept.owed_is in omega (arith, o, q, l)
+push_place m b k p seat r kept on = let o : owed_at (Some r) ≤ owed m.seats = (owes m.seats seat (Some r) on).0 in let q : 0 < owed_at (Some r) = positive (Rattle.fs_core.specs.code.Rooms.is_walking r) in let l : owed m.seats ≤ p = kept.owed_is in omega (arith, o, q, l)
   where
     positive : (c : Bool) → 0 < Rattle.std.proofs.Common.cond c 2 1
     positive true = omega arith

@@ -2,7 +2,7 @@
 use Rattle.std.proofs.Common.{◌≡◌, ℕ, suc, ◌+◌, ◌<◌, List, [], ◌∷◌, ◌++◌, length, take, get_or, refl, sym, ap, ◌∙◌, arith, subst}
 use Rattle.std.proofs.Math.Seq.{take-suc}
 use Rattle.fs_laws.specs.States.{State}
-use Rattle.fs_core.specs.declared.answer.Event.{Event}
+use Rattle.fs_core.specs.declared.outcome.Event.{Event}
 use Rattle.fs_core.specs.Events.{Happens, AllHappen}
 
 happen_last : (old middle new : State) (events : List Event) (event : Event) → AllHappen old events middle → Happens middle event new → AllHappen old (events ++ event ∷ []) new

@@ -2,33 +2,33 @@
 use Rattle.std.proofs.Common.{◌≡◌, ℕ, ◌+◌, ◌-◌, ◌<◌, ◌≤◌, Bool, true, false, cond, eqb, List, [], ◌∷◌, ◌++◌, Option, Some, None, length, get_or, refl, sym, ap, ◌∙◌, arith, subst}
 use Rattle.std.specs.Prelude.{slice_get, slice_set, IsSome, is_some, Result, Err}
 use Rattle.fs_core.specs.Answers.{begun_as}
-use Rattle.fs_core.specs.declared.answer.Refusal.{Refusal}
-use Rattle.fs_core.specs.declared.answer.Refusal.TheVariants as refusals
+use Rattle.fs_core.specs.declared.outcome.Refusal.{Refusal}
+use Rattle.fs_core.specs.declared.outcome.Refusal.TheVariants as refusals
 use Rattle.fs_core.specs.declared.beginning.Ready.{Ready}
 use mathlib.Core.Path.{fun_ext}
 use Rattle.std.proofs.lemmas.Option.{slice_get_within, slice_get_read}
 use Rattle.fs_names.specs.Shapes.{Shape, Dir, File, is_there, has_entries}
-use Rattle.fs_seq.specs.Forms.{form, Form, On, In, Two, new_shape, reserves}
-use Rattle.fs_seq.specs.declared.target.PairCall.TheVariants as pairs
-use Rattle.fs_seq.specs.declared.target.EntryCall.{EntryCall}
-use Rattle.fs_seq.specs.declared.target.EntryCall.TheVariants.{Mkdir, Mknod, Unlink, Rmdir}
-use Rattle.fs_seq.specs.declared.call.Call.{Call}
+use Rattle.fs_calls.specs.Forms.{form, Form, AtNode, AtEntry, AtPair, new_shape, reserves}
+use Rattle.fs_calls.specs.declared.target.PairCall.TheVariants as pairs
+use Rattle.fs_calls.specs.declared.target.EntryCall.{EntryCall}
+use Rattle.fs_calls.specs.declared.target.EntryCall.TheVariants.{Mkdir, Mknod, Unlink, Rmdir}
+use Rattle.fs_calls.specs.declared.call.Call.{Call}
 use Rattle.fs_nodes.specs.Graphs.{Graph, IsGraph, set_at, reserved_in, released_in, empty_graph}
 use Rattle.fs_nodes.specs.Places.{Places}
 use Rattle.fs_nodes.specs.Stores.{graph_of, in_use}
 use Rattle.fs_locks.specs.Holding.{Holding, holder, room}
-use Rattle.fs_journal.specs.declared.entry.Entry.TheVariants.{Begin}
-use Rattle.fs_moves.specs.Leaving.{unreserved}
-use Rattle.fs_moves.specs.Works.{Work, new_work, record_of, BegunAs, IsSpare, SpareIf}
-use Rattle.fs_laws.specs.Books.{begins}
+use Rattle.fs_timeline.specs.declared.entry.Entry.TheVariants.{Begin}
+use Rattle.fs_machine.specs.Leaving.{unreserved}
+use Rattle.fs_machine.specs.Works.{Work, new_work, record_of, BegunAs, IsSpare, SpareIf}
+use Rattle.fs_timeline.specs.Timeline.{begins}
 use Rattle.fs_laws.specs.States.{State, empty, began, Begun_as, Seat_busy, Full, No_memory, IsFull, Reserves, Begins, Run, Start, Beginning}
-use Rattle.fs_laws.proofs.Accounts.{not_begun}
-use Rattle.fs_laws.proofs.Headlines.{run_keeps}
-use Rattle.fs_laws.proofs.Walks.{eqb_refl, eqb_true}
+use Rattle.fs_laws.proofs.states.Agreement.{not_begun}
+use Rattle.fs_laws.proofs.states.Headline.{run_keeps}
+use Rattle.fs_laws.proofs.graphs.Walks.{eqb_refl, eqb_true}
 use Rattle.fs_core.specs.Events.{HasRoom}
-use Rattle.fs_core.specs.declared.running.Running.{Running}
+use Rattle.fs_core.specs.declared.seat.Running.{Running}
 use Rattle.fs_core.specs.Machines.{Machine, state_of, number_on, number_of, records}
-use Rattle.fs_core.specs.Rooms.{AreBelow, walking, walking_at, owed_at, owed, IsKept}
+use Rattle.fs_core.specs.code.Rooms.{AreBelow, walking, walking_at, owed_at, owed, IsKept}
 use Rattle.fs_core.proofs.SeatLemmas.{records_begun, records_more, numbers_set, numbers_more, number_read, owed_set, owed_more, walking_set, walking_more}
 use Rattle.fs_core.proofs.States.{same_state, begins_more, commits_begin}
 
@@ -40,10 +40,10 @@ new_empty Unlink shape e = cc
 new_empty Rmdir shape e = cc
 
 reserves_empty : (f : Form) (shape : Shape) → reserves f ≡ Some shape → has_entries (Some shape) ≡ false
-reserves_empty (On c p) shape e = cc
-reserves_empty (In c []) shape e = cc
-reserves_empty (In c (x ∷ p)) shape e = new_empty c shape e
-reserves_empty (Two pairs.Rename p q) shape e = cc
+reserves_empty (AtNode c p) shape e = cc
+reserves_empty (AtEntry c []) shape e = cc
+reserves_empty (AtEntry c (x ∷ p)) shape e = new_empty c shape e
+reserves_empty (AtPair pairs.Rename p q) shape e = cc
 
 set_here : {A : Type 0} (n : ℕ) (v : A) (f : ℕ → A) → set_at n v f n ≡ v
 set_here n v f = ap (λ (b : Bool). cond b v (f n)) (eqb_refl n)
@@ -172,8 +172,8 @@ begun_kept m b k p seat call kept free st hs w number copy slot begun limit is_h
 
     after : (owed_at slot ≡ 2) × (walking_at slot ≡ 1)
     after = (
-      ap owed_at is ∙ ap (λ (q : Option Rattle.fs_seq.specs.declared.reply.Reply.Reply). owed_at (Some (record { call = number; place = None; op = record w { reply = q } }))) (fresh (reserves (form call)) begun),
-      ap walking_at is ∙ ap (λ (q : Option Rattle.fs_seq.specs.declared.reply.Reply.Reply). walking_at (Some (record { call = number; place = None; op = record w { reply = q } }))) (fresh (reserves (form call)) begun),
+      ap owed_at is ∙ ap (λ (q : Option Rattle.fs_calls.specs.declared.reply.Reply.Reply). owed_at (Some (record { call = number; place = None; op = record w { reply = q } }))) (fresh (reserves (form call)) begun),
+      ap walking_at is ∙ ap (λ (q : Option Rattle.fs_calls.specs.declared.reply.Reply.Reply). walking_at (Some (record { call = number; place = None; op = record w { reply = q } }))) (fresh (reserves (form call)) begun),
     )
 
     counted : number ≡ begins m.timeline + 1

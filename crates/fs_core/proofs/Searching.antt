@@ -3,9 +3,9 @@ use Rattle.std.proofs.Common.{◌≡◌, ℕ, ◌+◌, ◌<◌, ◌≤◌, Bool,
 use Rattle.std.specs.Prelude.{slice_get, option_and_then, nat_lt, IsTrue}
 use Rattle.std.proofs.lemmas.Option.{slice_get_within}
 use Rattle.fs_nodes.specs.Graphs.{Kids}
-use Rattle.fs_core.specs.declared.running.Running.{Running}
+use Rattle.fs_core.specs.declared.seat.Running.{Running}
 use Rattle.fs_core.specs.Machines.{number_on}
-use Rattle.fs_core.specs.Searches.{IsReached, position_of, IsUnder, IsAlone, IsLowestOn, HasLeast, is_lesser}
+use Rattle.fs_core.specs.code.Searches.{IsReached, position_of, IsUnder, IsAlone, IsLowestOn, HasLeast, is_lesser}
 use Rattle.fs_core.proofs.SeatLemmas.{number_read}
 
 -- the call of a seat that was read

@@ -4,13 +4,13 @@ use Rattle.std.specs.Prelude.{slice_get, slice_set}
 use Rattle.std.specs.Option.{option_flatten}
 use mathlib.Core.Path.{fun_ext}
 use Rattle.fs_nodes.specs.Graphs.{set_at}
-use Rattle.fs_moves.specs.Records.{Record}
-use Rattle.fs_moves.specs.Works.{record_of}
+use Rattle.fs_machine.specs.Records.{Record}
+use Rattle.fs_machine.specs.Works.{record_of}
 use Rattle.std.proofs.Math.Dec.{eqb-suc-zero, eqb-zero-suc, eqb-suc-suc}
-use Rattle.fs_laws.proofs.Walks.{eqb_refl, eqb_true}
-use Rattle.fs_core.specs.declared.running.Running.{Running}
+use Rattle.fs_laws.proofs.graphs.Walks.{eqb_refl, eqb_true}
+use Rattle.fs_core.specs.declared.seat.Running.{Running}
 use Rattle.fs_core.specs.Machines.{number_of, number_on, record_from, records}
-use Rattle.fs_core.specs.Rooms.{walking_at, walking, owed_at, owed}
+use Rattle.fs_core.specs.code.Rooms.{walking_at, walking, owed_at, owed}
 
 -- no two seats have a call of one number
 abbrev pub AreApart : List (Option Running) → Type 0

@@ -1,21 +1,21 @@
 -- States of a core: when two are the same, and what a call on a seat is in them.
 use Rattle.std.proofs.Common.{◌≡◌, ℕ, ◌+◌, List, [], ◌∷◌, ◌++◌, Option, Some, None, refl, sym, ap, ◌∙◌}
 use Rattle.std.specs.Prelude.{slice_get}
-use Rattle.fs_seq.specs.declared.reply.Reply.{Reply}
+use Rattle.fs_calls.specs.declared.reply.Reply.{Reply}
 use Rattle.fs_nodes.specs.Graphs.{Graph}
 use Rattle.fs_nodes.specs.Stores.{graph_of}
-use Rattle.fs_journal.specs.declared.entry.Entry.{Entry}
-use Rattle.fs_journal.specs.declared.entry.Entry.TheVariants.{Begin, Commit, Return}
+use Rattle.fs_timeline.specs.declared.entry.Entry.{Entry}
+use Rattle.fs_timeline.specs.declared.entry.Entry.TheVariants.{Begin, Commit, Return}
 use Rattle.fs_names.specs.Keys.{Key}
-use Rattle.fs_moves.specs.Finishes.{finish}
-use Rattle.fs_moves.specs.Moves.{Move, took, took_by, target}
-use Rattle.fs_moves.specs.Records.{Stand, Finished, Record, Records}
-use Rattle.fs_moves.specs.Works.{Work, phase_of, record_of, next_of, IsTook, IsLetGo, IsFinished}
-use Rattle.fs_laws.specs.Books.{begins, commit_count}
+use Rattle.fs_machine.specs.Finishes.{finish}
+use Rattle.fs_machine.specs.Moves.{Move, took, took_by, target}
+use Rattle.fs_machine.specs.Records.{Stand, Finished, Record, Records}
+use Rattle.fs_machine.specs.Works.{Work, phase_of, record_of, next_of, IsTook, IsLetGo, IsFinished}
+use Rattle.fs_timeline.specs.Timeline.{begins, commit_count}
 use Rattle.fs_laws.specs.Invariants.{Invariant}
 use Rattle.fs_laws.specs.States.{State, Moves, Run}
-use Rattle.fs_laws.proofs.Headlines.{run_keeps}
-use Rattle.fs_core.specs.declared.running.Running.{Running}
+use Rattle.fs_laws.proofs.states.Headline.{run_keeps}
+use Rattle.fs_core.specs.declared.seat.Running.{Running}
 use Rattle.fs_core.specs.Machines.{Machine, state_of, records}
 use Rattle.fs_core.proofs.SeatLemmas.{AreApart, number_read, records_at}
 use Rattle.fs_core.proofs.WorkLemmas.{next_is}
@@ -76,7 +76,7 @@ finished_reply graph old new t = let r : Reply = (finish graph (record_of 0 None
     go (Some q) r e = cc
 
 -- the counters after one more entry
-pub begins_more : (es : List Entry) (n seat : ℕ) (call : Rattle.fs_seq.specs.declared.call.Call.Call) → begins (es ++ Begin n seat call ∷ []) ≡ begins es + 1
+pub begins_more : (es : List Entry) (n seat : ℕ) (call : Rattle.fs_calls.specs.declared.call.Call.Call) → begins (es ++ Begin n seat call ∷ []) ≡ begins es + 1
 begins_more [] n seat call = refl
 begins_more (Begin m s c ∷ es) n seat call = ap (λ (k : ℕ). k + 1) (begins_more es n seat call)
 begins_more (Commit m ∷ es) n seat call = begins_more es n seat call
@@ -94,7 +94,7 @@ begins_return (Begin m s c ∷ es) n q = ap (λ (k : ℕ). k + 1) (begins_return
 begins_return (Commit m ∷ es) n q = begins_return es n q
 begins_return (Return m r ∷ es) n q = begins_return es n q
 
-pub commits_begin : (es : List Entry) (n seat : ℕ) (call : Rattle.fs_seq.specs.declared.call.Call.Call) → commit_count (es ++ Begin n seat call ∷ []) ≡ commit_count es
+pub commits_begin : (es : List Entry) (n seat : ℕ) (call : Rattle.fs_calls.specs.declared.call.Call.Call) → commit_count (es ++ Begin n seat call ∷ []) ≡ commit_count es
 commits_begin [] n seat call = refl
 commits_begin (Begin m s c ∷ es) n seat call = commits_begin es n seat call
 commits_begin (Commit m ∷ es) n seat call = ap (λ (k : ℕ). k + 1) (commits_begin es n seat call)

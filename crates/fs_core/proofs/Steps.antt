@@ -2,28 +2,28 @@
 use Rattle.std.proofs.Common.{◌≡◌, ℕ, ◌+◌, ◌-◌, ◌<◌, Bool, true, false, cond, eqb, [], ◌∷◌, ◌++◌, Option, Some, None, length, refl, sym, ap, ◌∙◌, arith}
 use Rattle.std.specs.Prelude.{slice_get, slice_set}
 use Rattle.std.proofs.lemmas.Option.{slice_get_within}
-use Rattle.fs_seq.specs.declared.reply.Reply.{Reply}
+use Rattle.fs_calls.specs.declared.reply.Reply.{Reply}
 use Rattle.fs_names.specs.Shapes.{Shape}
 use Rattle.fs_nodes.specs.Graphs.{Graph, set_at, released_in}
 use Rattle.fs_nodes.specs.Places.{Places}
 use Rattle.fs_nodes.specs.Stores.{graph_of}
 use Rattle.fs_locks.specs.Holding as holders
 use Rattle.fs_locks.specs.Holding.{Holding, holder}
-use Rattle.fs_journal.specs.declared.entry.Entry.TheVariants.{Commit, Return}
-use Rattle.fs_moves.specs.Finishes.{finish}
-use Rattle.fs_moves.specs.Leaving.{is_removed, releasing, unreserved}
-use Rattle.fs_moves.specs.Moves.{Takes, Leaves, Finishes, Ends}
-use Rattle.fs_moves.specs.Records.{Phase, Walking, Placed, Record}
-use Rattle.fs_moves.specs.Works.{Work, phase_of, record_of, next_of, IsTook, IsLetGo, IsFinished, graph_after}
-use Rattle.fs_laws.specs.Books.{commit_count}
+use Rattle.fs_timeline.specs.declared.entry.Entry.TheVariants.{Commit, Return}
+use Rattle.fs_machine.specs.Finishes.{finish}
+use Rattle.fs_machine.specs.Leaving.{is_removed, releasing, unreserved}
+use Rattle.fs_machine.specs.Moves.{Takes, Leaves, Finishes, Ends}
+use Rattle.fs_machine.specs.Records.{Phase, Walking, Placed, Record}
+use Rattle.fs_machine.specs.Works.{Work, phase_of, record_of, next_of, IsTook, IsLetGo, IsFinished, graph_after}
+use Rattle.fs_timeline.specs.Timeline.{commit_count}
 use Rattle.fs_laws.specs.States.{Step, Took, LetGo, Helped, Committed, CarriedOut, Returned, IsChosen, NoneBelow, Run, Stepping}
 use Rattle.fs_laws.specs.Invariants.{Invariant}
-use Rattle.fs_laws.proofs.Accounts.{run_accounts}
-use Rattle.fs_laws.proofs.Headlines.{run_keeps}
-use Rattle.fs_laws.proofs.Resizing.{finish_resizes}
-use Rattle.fs_core.specs.declared.running.Running.{Running}
+use Rattle.fs_laws.proofs.states.Agreement.{run_accounts}
+use Rattle.fs_laws.proofs.states.Headline.{run_keeps}
+use Rattle.fs_laws.proofs.finish.Limits.{finish_resizes}
+use Rattle.fs_core.specs.declared.seat.Running.{Running}
 use Rattle.fs_core.specs.Machines.{Machine, state_of, records}
-use Rattle.fs_core.specs.Rooms.{is_walking, walking_at, owed_at, IsKept}
+use Rattle.fs_core.specs.code.Rooms.{is_walking, walking_at, owed_at, IsKept}
 use Rattle.fs_core.proofs.SeatLemmas.{records_changed, records_ended, numbers_set, numbers_changed, owed_set, walking_set}
 use Rattle.fs_core.proofs.WorkLemmas.{finish_is, unfinished_at}
 use Rattle.fs_core.proofs.States.{same_state, apart_of, call_on, moves, took_reply, left_reply, finished_reply, begins_commit, begins_return, commits_more, commits_return}
@@ -189,7 +189,7 @@ helped_step m b k p seat r s kept on move unplaced other q on_other q_unplaced q
 
 -- the graph and the record after a finish
 graph_made : (m : Machine) (seat : ℕ) (r : Running) (st : Places) → graph_of st ≡ graph_after (graph_of m.store) r.op → graph_of st ≡ (finish (graph_of m.store) (record_of seat r.place r.op)).graph
-graph_made m seat r st e = e ∙ ap (λ (x : Rattle.fs_moves.specs.Finishes.Made). x.graph) (sym (finish_is (graph_of m.store) seat r.place r.op))
+graph_made m seat r st e = e ∙ ap (λ (x : Rattle.fs_machine.specs.Finishes.Effect). x.graph) (sym (finish_is (graph_of m.store) seat r.place r.op))
 
 fewer_made : (m : Machine) (seat : ℕ) (r : Running) → Run (state_of m) → slice_get m.seats seat ≡ Some (Some r) → (st : Places) → graph_of st ≡ graph_after (graph_of m.store) r.op → (q : ℕ) (t : Shape) → (graph_of st).shape q ≡ Some t → (u : Shape) × ((graph_of m.store).shape q ≡ Some u)
 fewer_made m seat r run on st graph q t e =

@@ -1,14 +1,14 @@
 -- Moves and finishes of a call's work, whatever its seat and its place.
 use Rattle.std.proofs.Common.{◌≡◌, ℕ, Option, Some, None, refl}
-use Rattle.fs_seq.specs.declared.errno.Errno.{Errno}
-use Rattle.fs_seq.specs.declared.reply.Reply.{Reply}
-use Rattle.fs_seq.specs.Forms.{form, by_text}
+use Rattle.fs_calls.specs.declared.errno.Errno.{Errno}
+use Rattle.fs_calls.specs.declared.reply.Reply.{Reply}
+use Rattle.fs_calls.specs.Forms.{form, by_text}
 use Rattle.fs_nodes.specs.Graphs.{Graph}
-use Rattle.fs_moves.specs.Finishes.{made_by, finish}
-use Rattle.fs_moves.specs.Moves.{Finishes, Ends, next, next_by}
-use Rattle.fs_moves.specs.Records.{Stand, Finished}
-use Rattle.fs_laws.proofs.Agreeing.{by_ends}
-use Rattle.fs_moves.specs.Works.{Work, phase_of, record_of, next_of}
+use Rattle.fs_machine.specs.Finishes.{effect_of, finish}
+use Rattle.fs_machine.specs.Moves.{Finishes, Ends, next, next_by}
+use Rattle.fs_machine.specs.Records.{Stand, Finished}
+use Rattle.fs_laws.proofs.states.ComputedSteps.{by_ends}
+use Rattle.fs_machine.specs.Works.{Work, phase_of, record_of, next_of}
 
 -- its next move
 pub next_is : (graph : Graph) (seat : ℕ) (place : Option ℕ) (work : Work) → next graph (record_of seat place work) ≡ next_of graph work
@@ -28,7 +28,7 @@ next_is graph seat place work = go work.reply place (by_text (form work.call)) w
 pub finish_is : (graph : Graph) (seat : ℕ) (place : Option ℕ) (work : Work) → finish graph (record_of seat place work) ≡ finish graph (record_of 0 None work)
 finish_is graph seat place work = go (by_text (form work.call)) work.stand
   where
-    go : (e : Option Errno) (s : Option Stand) → made_by graph (record_of seat place work) e s ≡ made_by graph (record_of 0 None work) e s
+    go : (e : Option Errno) (s : Option Stand) → effect_of graph (record_of seat place work) e s ≡ effect_of graph (record_of 0 None work) e s
     go (Some e) s = refl
     go None None = refl
     go None (Some st) = refl

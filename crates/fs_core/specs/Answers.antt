@@ -1,10 +1,10 @@
 -- What begins and steps answer, in the machine's words.
 use Rattle.std.specs.Prelude.{ℕ, Result, Ok, Err}
 use Rattle.fs_laws.specs.States as machine
-use Rattle.fs_core.specs.declared.answer.Refusal.{Refusal}
-use Rattle.fs_core.specs.declared.answer.Refusal.TheVariants.{OutOfMemory, Full, SeatBusy}
-use Rattle.fs_core.specs.declared.answer.Stepped.{Stepped}
-use Rattle.fs_core.specs.declared.answer.Stepped.TheVariants.{Idle, Took, Busy, LetGo, Helped, Committed, CarriedOut, Returned}
+use Rattle.fs_core.specs.declared.outcome.Refusal.{Refusal}
+use Rattle.fs_core.specs.declared.outcome.Refusal.TheVariants.{OutOfMemory, Full, SeatBusy}
+use Rattle.fs_core.specs.declared.outcome.Stepped.{Stepped}
+use Rattle.fs_core.specs.declared.outcome.Stepped.TheVariants.{Idle, Took, Busy, LetGo, Helped, Committed, CarriedOut, Returned}
 
 -- the answer of a begin
 abbrev pub begun_as : Result ℕ Refusal → machine.Begun

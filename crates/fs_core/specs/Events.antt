@@ -3,10 +3,10 @@ use Rattle.std.specs.Prelude.{ℕ, ◌≡◌, ◌<◌, List, [], ◌∷◌, Opti
 use Rattle.fs_locks.specs.Holding.{Holding, room}
 use Rattle.fs_laws.specs.States as machine
 use Rattle.fs_laws.specs.States.{State, Begins, Step}
-use Rattle.fs_core.specs.declared.answer.Event.{Event}
-use Rattle.fs_core.specs.declared.answer.Event.TheVariants as events
-use Rattle.fs_core.specs.declared.answer.Refusal.{Refusal}
-use Rattle.fs_core.specs.declared.answer.Refusal.TheVariants.{OutOfMemory, Full, SeatBusy}
+use Rattle.fs_core.specs.declared.outcome.Event.{Event}
+use Rattle.fs_core.specs.declared.outcome.Event.TheVariants as events
+use Rattle.fs_core.specs.declared.outcome.Refusal.{Refusal}
+use Rattle.fs_core.specs.declared.outcome.Refusal.TheVariants.{OutOfMemory, Full, SeatBusy}
 
 -- the seat of an event is there
 abbrev pub IsSeated : ℕ → Event → Type 0

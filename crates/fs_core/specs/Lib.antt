@@ -1,7 +1,4 @@
 pub mod Machines
 pub mod Answers
-pub mod Rooms
-pub mod Seats
-pub mod Searches
-pub mod Helping
 pub mod Events
+pub mod code

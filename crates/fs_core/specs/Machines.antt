@@ -4,11 +4,11 @@ use Rattle.std.specs.Option.{option_flatten}
 use Rattle.fs_nodes.specs.Places.{Places}
 use Rattle.fs_nodes.specs.Stores.{graph_of}
 use Rattle.fs_locks.specs.Holding.{Holding, holder}
-use Rattle.fs_journal.specs.declared.entry.Entry.{Entry}
-use Rattle.fs_moves.specs.Records.{Record, Records}
-use Rattle.fs_moves.specs.Works.{record_of}
+use Rattle.fs_timeline.specs.declared.entry.Entry.{Entry}
+use Rattle.fs_machine.specs.Records.{Record, Records}
+use Rattle.fs_machine.specs.Works.{record_of}
 use Rattle.fs_laws.specs.States.{State}
-use Rattle.fs_core.specs.declared.running.Running.{Running}
+use Rattle.fs_core.specs.declared.seat.Running.{Running}
 
 -- the nodes, who holds them, the call under way on each seat, the entries so far
 pub record Machine : Type 0 where

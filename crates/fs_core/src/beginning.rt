@@ -4,17 +4,17 @@ ghost use Rattle.std.specs.Prelude.{◌≡◌, ◌≢◌, ◌+◌, ◌≤◌, �
 ghost use Rattle.fs_nodes.specs.Graphs.{IsGraph};
 ghost use Rattle.fs_nodes.specs.Stores.{graph_of, in_use};
 ghost use Rattle.fs_locks.specs.Holding.{holder, room};
-ghost use Rattle.fs_seq.specs.Forms.{form, reserves};
-ghost use Rattle.fs_moves.specs.Works.{BegunAs};
+ghost use Rattle.fs_calls.specs.Forms.{form, reserves};
+ghost use Rattle.fs_machine.specs.Works.{BegunAs};
 ghost use Rattle.fs_core.specs.Events.{HasRoom};
-ghost use Rattle.fs_core.specs.declared.answer.Refusal.TheVariants as refusals;
+ghost use Rattle.fs_core.specs.declared.outcome.Refusal.TheVariants as refusals;
 
-use crate::answer::Refusal;
-use fs_journal::Timeline;
+use crate::outcome::Refusal;
+use fs_calls::Call;
 use fs_locks::Holders;
 use fs_nodes::{NoNode, NodeNo, Store};
 use fs_ops::Op;
-use fs_seq::Call;
+use fs_timeline::Timeline;
 use std::alloc::{AllocError, Global};
 
 /// How many entries a call appends: it begins, commits and returns.

@@ -3,12 +3,12 @@
 ghost use Rattle.std.specs.Prelude.{option_and_then, ◌+◌, ◌≡◌, ℕ, ◌<◌, ◌≤◌, ◌↔◌, IsTrue, IfSome, MatchOption, Some, None, length, slice_get};
 ghost use Rattle.fs_nodes.specs.Graphs.{IsGraph, numbers};
 ghost use Rattle.fs_nodes.specs.Stores.{graph_of, kid};
-ghost use Rattle.fs_core.specs.Searches.{IsReached, IsRooted, position_of, IsUnder, IsAlone, IsLowestOn, CanSearch, HasLeast, is_lesser};
-ghost use Rattle.fs_core.specs.Rooms.{AreBelow};
+ghost use Rattle.fs_core.specs.code.Searches.{IsReached, IsRooted, position_of, IsUnder, IsAlone, IsLowestOn, CanSearch, HasLeast, is_lesser};
+ghost use Rattle.fs_core.specs.code.Rooms.{AreBelow};
 ghost use Rattle.fs_core.specs.Machines.{number_on};
 ghost use Rattle.std.specs.Option.{ForSome};
 
-use crate::running::{Running, number};
+use crate::seat::{Running, number};
 use fs_nodes::{NodeNo, Store};
 
 /// Whether a node is another one, or is reached from it; it is looked for upwards, through at most `bound` nodes.

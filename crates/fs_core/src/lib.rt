@@ -10,16 +10,16 @@
 //! a list of events does; the others tie the code to them, and change no meaning.
 #![tactic(auto)]
 
-pub mod answer;
 mod beginning;
+mod events;
 mod finding;
 mod helping;
 pub mod machine;
-mod running;
-mod runs;
+pub mod outcome;
+mod seat;
 
-pub use answer::{Event, Ran, Refusal, Stepped};
 pub use machine::Core;
+pub use outcome::{Event, Ran, Refusal, Stepped};
 
 #[cfg(test)]
 mod tests;

@@ -3,30 +3,30 @@
 ghost use Rattle.std.specs.Prelude.{MatchOption, IfOk, OnOk, OnErr, ◌≡◌, ◌<◌, ◌≤◌, ◌++◌, ◌∷◌, [], ℕ, None, Some, length};
 ghost use Rattle.fs_names.specs.declared.limits.TheConstants.{NODE_LIMIT};
 ghost use Rattle.fs_nodes.specs.Graphs.{numbers};
-ghost use Rattle.fs_moves.specs.Moves.{Takes, Leaves, Finishes, Ends};
+ghost use Rattle.fs_machine.specs.Moves.{Takes, Leaves, Finishes, Ends};
 ghost use Rattle.fs_nodes.specs.Graphs.{spell};
 ghost use Rattle.fs_nodes.specs.Stores.{graph_of};
-ghost use Rattle.fs_seq.specs.Outcomes.{play};
-ghost use Rattle.fs_seq.specs.Shapes.{seen};
-ghost use Rattle.fs_journal.specs.Timeline.{IsLawful, commits};
+ghost use Rattle.fs_calls.specs.Outcomes.{play};
+ghost use Rattle.fs_calls.specs.Shapes.{seen};
+ghost use Rattle.fs_timeline.specs.Timeline.{IsLawful, commits};
 ghost use Rattle.fs_laws.specs.Headline.{IsIdle};
 ghost use Rattle.fs_laws.specs.States.{Begins, Step, NoneBelow, Run, empty};
 ghost use Rattle.fs_core.specs.Answers.{begun_as, stepped_as};
-ghost use Rattle.fs_core.specs.Helping.{HelpsIf};
+ghost use Rattle.fs_core.specs.code.Helping.{HelpsIf};
 ghost use Rattle.fs_core.specs.Machines.{state_of};
-ghost use Rattle.fs_core.specs.Seats.{MovesOn, PlacedOn};
+ghost use Rattle.fs_core.specs.code.Seats.{MovesOn, PlacedOn};
 
-use crate::answer::{Refusal, Stepped};
 use crate::beginning::make_ready;
 use crate::finding::find_path;
 use crate::helping::to_help;
-use crate::running::{self, Running};
-use fs_journal::{Entry, Timeline};
+use crate::outcome::{Refusal, Stepped};
+use crate::seat::{self, Running};
+use fs_calls::Call;
 use fs_locks::{HeldBy, Holders};
 use fs_names::{CallNo, NODE_LIMIT, Path, SeatNo};
 use fs_nodes::{NodeNo, Store};
 use fs_ops::Move;
-use fs_seq::Call;
+use fs_timeline::{Entry, Timeline};
 use std::alloc::{AllocError, Global};
 use std::marker::Model;
 
@@ -43,7 +43,7 @@ pub struct Core {
 
 impl Model for Core {
     ghost use Rattle.fs_core.specs.Machines.{Machine};
-    ghost use Rattle.fs_core.specs.Rooms.{IsKept};
+    ghost use Rattle.fs_core.specs.code.Rooms.{IsKept};
 
     ghost Value = { Machine };
 
@@ -87,7 +87,7 @@ impl Core {
         match self.holders.take(node, call) {
             Err(held) => Stepped::Busy(node, holder_by(held)),
             Ok(()) => {
-                running::take(&mut self.seats[seat], node);
+                seat::take(&mut self.seats[seat], node);
                 Stepped::Took(node)
             }
         }
@@ -101,7 +101,7 @@ impl Core {
         ensures seats { length self.new.seats ≡ length self.old.seats }
     {
         self.holders.let_go(node);
-        running::let_go(&mut self.seats[seat], node, &mut self.store);
+        seat::let_go(&mut self.seats[seat], node, &mut self.store);
         Stepped::LetGo(node)
     }
 
@@ -115,7 +115,7 @@ impl Core {
         ensures step { Step (state_of self.old) seat (stepped_as result) (state_of self.new) }
         ensures seats { length self.new.seats ≡ length self.old.seats }
     {
-        running::carry_out(&mut self.seats[seat], &mut self.store);
+        seat::carry_out(&mut self.seats[seat], &mut self.store);
         self.commits += 1;
         self.timeline.push(Entry::Commit(call));
         Stepped::Committed
@@ -129,7 +129,7 @@ impl Core {
         ensures step { Step (state_of self.old) seat (stepped_as result) (state_of self.new) }
         ensures seats { length self.new.seats ≡ length self.old.seats }
     {
-        running::carry_out(&mut self.seats[seat], &mut self.store);
+        seat::carry_out(&mut self.seats[seat], &mut self.store);
         Stepped::CarriedOut
     }
 
@@ -153,7 +153,7 @@ impl Core {
     {
         match self.to_help(&moved) {
             Some(other) => {
-                let helped = running::give_place(&mut self.seats[other], self.commits);
+                let helped = seat::give_place(&mut self.seats[other], self.commits);
                 self.commits += 1;
                 self.timeline.push(Entry::Commit(helped));
                 Stepped::Helped(helped)
@@ -169,7 +169,7 @@ impl Core {
         ensures step { Step (state_of self.old) seat (stepped_as result) (state_of self.new) }
         ensures seats { length self.new.seats ≡ length self.old.seats }
     {
-        let running = running::take_out(&mut self.seats[seat]);
+        let running = seat::take_out(&mut self.seats[seat]);
         let (reply, again) = running.op.end(&mut self.store);
         self.timeline.push(Entry::Return(call, reply));
         Stepped::Returned(again)
@@ -279,7 +279,7 @@ impl Core {
                     place: None,
                     op: ready.op,
                 };
-                running::put(&mut self.seats[at], running);
+                seat::put(&mut self.seats[at], running);
                 self.begun = ready.number;
                 self.timeline.push(Entry::Begin(call, seat, ready.copy));
                 Ok(call)
@@ -306,7 +306,7 @@ impl Core {
         requires seat { seat < length self.now.seats }
         ensures { result ≡ (state_of self.now).on_seat seat }
     {
-        running::number(&self.seats[seat.get() as usize])
+        seat::number(&self.seats[seat.get() as usize])
     }
 
     /// The nodes: those of the tree, and those that calls under way have reserved or removed.

@@ -1,10 +1,10 @@
 //! Calls side by side, with ample memory: each line of a table is one event on one seat, with what it answers.
 
-use crate::answer::{Event, Ran, Refusal, Stepped};
 use crate::machine::Core;
+use crate::outcome::{Event, Ran, Refusal, Stepped};
+use fs_calls::{Bytes, Call, Reply};
 use fs_names::{CallNo, Path, PathFault, SeatNo};
 use fs_nodes::NodeNo;
-use fs_seq::{Bytes, Call, Reply};
 use std::alloc::AllocError;
 
 #[derive(Debug, Drop)]

@@ -6,13 +6,13 @@ use Rattle.fs_names.specs.Shapes.{Shape, Dir, File, is_dir, is_file, is_full, na
 use Rattle.fs_nodes.specs.Graphs.{Graph, then_at, entry_shape}
 use Rattle.fs_nodes.specs.Places.{Places}
 use Rattle.fs_nodes.specs.Stores.{graph_of}
-use Rattle.fs_seq.specs.declared.target.EntryCall.{EntryCall}
-use Rattle.fs_seq.specs.Rows.{Edit, as_dir, in_row, in_there}
-use Rattle.fs_seq.specs.declared.errno.Errno.{Errno}
-use Rattle.fs_seq.specs.declared.reply.Reply.{Reply}
+use Rattle.fs_calls.specs.declared.target.EntryCall.{EntryCall}
+use Rattle.fs_calls.specs.Rows.{Edit, as_dir, in_row, in_there}
+use Rattle.fs_calls.specs.declared.errno.Errno.{Errno}
+use Rattle.fs_calls.specs.declared.reply.Reply.{Reply}
 use Rattle.fs_finish.specs.declared.finish.Finish.{Finish}
-use Rattle.fs_finish.specs.Endings.{IsMade, entry_made}
-use Rattle.fs_moves.specs.Finishes.{in_made}
+use Rattle.fs_finish.specs.Endings.{IsEffect, entry_finish}
+use Rattle.fs_machine.specs.Finishes.{entry_effect}
 use Rattle.fs_finish.proofs.UsedLemmas.{kid_used}
 
 -- ---- shapes, by what is asked of them
@@ -77,8 +77,8 @@ module _ (store : Places) (dir : ℕ) (x : Name) where
 -- ---- rows
 
 -- a finish by a row is one by the same row
-pub row_is : (graph : Graph) (n : ℕ) (x : Name) (reserved : Option ℕ) (row row' : Reply × Edit) (finish : Finish) (new : Graph) → row ≡ row' → IsMade (in_made graph n x reserved row') finish new → IsMade (in_made graph n x reserved row) finish new
-row_is graph n x reserved row row' finish new e h = subst (λ (r : Reply × Edit). IsMade (in_made graph n x reserved r) finish new) (sym e) h
+pub row_is : (graph : Graph) (n : ℕ) (x : Name) (reserved : Option ℕ) (row row' : Reply × Edit) (finish : Finish) (new : Graph) → row ≡ row' → IsEffect (entry_effect graph n x reserved row') finish new → IsEffect (entry_effect graph n x reserved row) finish new
+row_is graph n x reserved row row' finish new e h = subst (λ (r : Reply × Edit). IsEffect (entry_effect graph n x reserved r) finish new) (sym e) h
 
 -- no names, by their number
 pub no_names : (names : List Name) → length names ≤ 0 → names ≡ []
@@ -96,7 +96,7 @@ some_of (Some n) h = (n, refl)
 
 -- a call on an entry at its directory, by a name that is the last one
 pub entry_by : (graph : Graph) (n : ℕ) (x y : Name) (reserved : Option ℕ) (c : EntryCall) (finish : Finish) (new : Graph) → y ≡ x → None ≡ as_dir None (graph.shape n)
-    → IsMade (in_made graph n y reserved (in_there c (is_full (graph.shape n)) (entry_shape graph n y))) finish new → IsMade (entry_made graph n x reserved c) finish new
+    → IsEffect (entry_effect graph n y reserved (in_there c (is_full (graph.shape n)) (entry_shape graph n y))) finish new → IsEffect (entry_finish graph n x reserved c) finish new
 entry_by graph n x y reserved c finish new e h made =
-    subst (λ (z : Name). IsMade (entry_made graph n z reserved c) finish new) e
+    subst (λ (z : Name). IsEffect (entry_finish graph n z reserved c) finish new) e
     (row_is graph n y reserved _ _ finish new (ap (λ (o : Option Errno). in_row c o (is_full (graph.shape n)) (entry_shape graph n y)) (sym h)) made)

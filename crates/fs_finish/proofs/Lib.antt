@@ -6,3 +6,4 @@ pub mod ListingLemmas
 pub mod WritingLemmas
 pub mod MoveLemmas
 pub mod TextLemmas
+pub mod Listing

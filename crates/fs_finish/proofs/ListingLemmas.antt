@@ -3,7 +3,7 @@ use Rattle.std.proofs.Common.{◌≡◌, ℕ, ◌+◌, ◌-◌, ◌<◌, ◌≤�
 use Rattle.std.specs.Prelude.{slice_get}
 use Rattle.fs_names.specs.Names.{Name}
 use Rattle.fs_nodes.specs.Stores.{names_above}
-use Rattle.fs_finish.specs.Listing.{last_told, IsTold}
+use Rattle.fs_finish.proofs.Listing.{last_told, IsTold}
 
 -- all names are above none
 pub all_above : (names : List Name) → names_above None names ≡ names

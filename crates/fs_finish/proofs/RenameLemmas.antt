@@ -6,14 +6,14 @@ use Rattle.fs_names.specs.Shapes.{Shape, is_full}
 use Rattle.fs_nodes.specs.Graphs.{Graph, entry_shape, moved_in}
 use Rattle.fs_nodes.specs.Places.{Places}
 use Rattle.fs_nodes.specs.Stores.{graph_of}
-use Rattle.fs_seq.specs.Rows.{from_row, to_row, moves_row}
-use Rattle.fs_seq.specs.declared.errno.Errno.{Errno}
-use Rattle.fs_seq.specs.declared.reply.Reply.{Reply}
-use Rattle.fs_seq.specs.declared.reply.Reply.TheVariants.{Done, Failed}
+use Rattle.fs_calls.specs.Rows.{from_row, to_row, moves_row}
+use Rattle.fs_calls.specs.declared.errno.Errno.{Errno}
+use Rattle.fs_calls.specs.declared.reply.Reply.{Reply}
+use Rattle.fs_calls.specs.declared.reply.Reply.TheVariants.{Done, Failed}
 use Rattle.fs_finish.specs.declared.finish.Finish.{Finish}
-use Rattle.fs_finish.specs.Endings.{IsMade, between, rename_reply, made_between}
-use Rattle.fs_moves.specs.Finishes.{moved_made}
-use Rattle.fs_moves.specs.Moves.{there_by}
+use Rattle.fs_finish.specs.Endings.{IsEffect, between, rename_reply, made_between}
+use Rattle.fs_machine.specs.Finishes.{move_effect}
+use Rattle.fs_machine.specs.Moves.{there_by}
 use Rattle.fs_finish.proofs.EntryLemmas.{entry_some, entry_is}
 
 module _ (store : Places) (source : ℕ) (x : Name) (dest : ℕ) (y : Name) (same_path above one_parent : Bool) (victim reserved : Option ℕ) (moved : ℕ) (k : (graph_of store).kid source x ≡ Some moved) where
@@ -25,14 +25,14 @@ module _ (store : Places) (source : ℕ) (x : Name) (dest : ℕ) (y : Name) (sam
 
   -- a finish by another spelling of the reply
   by_reply : (row : Reply × Bool) (finish : Finish) (new : Graph) → rename_reply (graph_of store) source x dest y same_path above one_parent ≡ row
-      → IsMade (moved_made (graph_of store) (between source dest victim) x y reserved row.0 row.1 (Some moved)) finish new
-      → IsMade (made_between (graph_of store) source x dest y same_path above one_parent victim reserved) finish new
+      → IsEffect (move_effect (graph_of store) (between source dest victim) x y reserved row.0 row.1 (Some moved)) finish new
+      → IsEffect (made_between (graph_of store) source x dest y same_path above one_parent victim reserved) finish new
   by_reply row finish new e h =
-      subst (λ (r : Reply × Bool). IsMade (moved_made (graph_of store) (between source dest victim) x y reserved r.0 r.1 ((graph_of store).kid source x)) finish new) (sym e)
-      (subst (λ (o : Option ℕ). IsMade (moved_made (graph_of store) (between source dest victim) x y reserved row.0 row.1 o) finish new) (sym k) h)
+      subst (λ (r : Reply × Bool). IsEffect (move_effect (graph_of store) (between source dest victim) x y reserved r.0 r.1 ((graph_of store).kid source x)) finish new) (sym e)
+      (subst (λ (o : Option ℕ). IsEffect (move_effect (graph_of store) (between source dest victim) x y reserved row.0 row.1 o) finish new) (sym k) h)
 
   -- both paths are the same
-  pub made_same : (finish : Finish) → same_path ≡ true → finish ≡ record { replies = Done; reserved = reserved; removed = None } → IsMade (made_between (graph_of store) source x dest y same_path above one_parent victim reserved) finish (graph_of store)
+  pub made_same : (finish : Finish) → same_path ≡ true → finish ≡ record { replies = Done; reserved = reserved; removed = None } → IsEffect (made_between (graph_of store) source x dest y same_path above one_parent victim reserved) finish (graph_of store)
   made_same finish same f =
       let s = entry_some store source x moved k in
       let e : rename_reply (graph_of store) source x dest y same_path above one_parent ≡ (Done, false) =
@@ -49,14 +49,14 @@ module _ (store : Places) (source : ℕ) (x : Name) (dest : ℕ) (y : Name) (sam
       ∙ ap moves_row (sym (f s.0 (sym (entry_is store source x moved k) ∙ s.1)))
 
   pub made_failed : (fault : Option Errno) (errno : Errno) (finish : Finish) → same_path ≡ false → ((s : Shape) → (graph_of store).shape moved ≡ Some s → fault ≡ to_row s there room) → fault ≡ Some errno
-      → finish ≡ record { replies = Failed errno; reserved = reserved; removed = None } → IsMade (made_between (graph_of store) source x dest y same_path above one_parent victim reserved) finish (graph_of store)
+      → finish ≡ record { replies = Failed errno; reserved = reserved; removed = None } → IsEffect (made_between (graph_of store) source x dest y same_path above one_parent victim reserved) finish (graph_of store)
   made_failed fault errno finish same g e f =
       by_reply (Failed errno, false) finish (graph_of store) (reply_by fault same g ∙ ap moves_row e)
       (record { reply = ap (λ (z : Finish). z.replies) f; reserved = ap (λ (z : Finish). z.reserved) f; removed = ap (λ (z : Finish). z.removed) f; graph_is = refl })
 
   pub made_moved : (fault : Option Errno) (done : Reply) (new : Graph) → same_path ≡ false → ((s : Shape) → (graph_of store).shape moved ≡ Some s → fault ≡ to_row s there room) → fault ≡ None → done ≡ Done
       → IfSome ((graph_of store).kid source x) (λ n. new ≡ moved_in source x dest y n (graph_of store))
-      → IsMade (made_between (graph_of store) source x dest y same_path above one_parent victim reserved) (record { replies = done; reserved = reserved; removed = victim }) new
+      → IsEffect (made_between (graph_of store) source x dest y same_path above one_parent victim reserved) (record { replies = done; reserved = reserved; removed = victim }) new
   made_moved fault told new same g e d h =
       by_reply (Done, true) _ new (reply_by fault same g ∙ ap moves_row e)
       (record { reply = d; reserved = refl; removed = refl; graph_is = subst (λ (o : Option ℕ). IfSome o (λ n. new ≡ moved_in source x dest y n (graph_of store))) k h })

@@ -6,10 +6,10 @@ use Rattle.fs_names.specs.Names.{Name, same_name}
 use Rattle.fs_names.specs.Keys.{Key, after_prefix, common_len, has_more, last_of, parent_of}
 use Rattle.fs_names.specs.Parts.{is_end, common}
 use Rattle.fs_names.proofs.Lemmas.{after_prefix-exact, prefix_common}
-use Rattle.fs_seq.specs.Forms.{Two, by_text}
-use Rattle.fs_seq.specs.declared.target.PairCall.TheVariants as pairs
-use Rattle.fs_seq.proofs.RowNames.{if_below}
-use Rattle.fs_seq.specs.declared.errno.Errno.TheVariants.{Einval}
+use Rattle.fs_calls.specs.Forms.{AtPair, by_text}
+use Rattle.fs_calls.specs.declared.target.PairCall.TheVariants as pairs
+use Rattle.fs_calls.proofs.RowNames.{if_below}
+use Rattle.fs_calls.specs.declared.errno.Errno.TheVariants.{Einval}
 use Rattle.fs_finish.proofs.ParentLemmas.{common_length}
 
 -- ---- prefixes, by lengths
@@ -84,7 +84,7 @@ last_is (y ∷ p) i x l e =
 
 -- ---- errors of the texts
 
-pub text_below : (p q : Key) → (p ≡ [] → ⊥) → (q ≡ [] → ⊥) → has_more (after_prefix p q) ≡ true → by_text (Two pairs.Rename p q) ≡ Some Einval
+pub text_below : (p q : Key) → (p ≡ [] → ⊥) → (q ≡ [] → ⊥) → has_more (after_prefix p q) ≡ true → by_text (AtPair pairs.Rename p q) ≡ Some Einval
 text_below [] q a b h = absurd (a refl)
 text_below (x ∷ p) [] a b h = absurd (b refl)
 text_below (x ∷ p) (y ∷ q) a b h = go (after_prefix (x ∷ p) (y ∷ q)) h
@@ -94,7 +94,7 @@ text_below (x ∷ p) (y ∷ q) a b h = go (after_prefix (x ∷ p) (y ∷ q)) h
     go (Some []) h = absurd (cc)
     go (Some (z ∷ r)) h = refl
 
-pub text_none : (p q : Key) → (p ≡ [] → ⊥) → (q ≡ [] → ⊥) → has_more (after_prefix p q) ≡ false → by_text (Two pairs.Rename p q) ≡ None
+pub text_none : (p q : Key) → (p ≡ [] → ⊥) → (q ≡ [] → ⊥) → has_more (after_prefix p q) ≡ false → by_text (AtPair pairs.Rename p q) ≡ None
 text_none [] q a b h = absurd (a refl)
 text_none (x ∷ p) [] a b h = absurd (b refl)
 text_none (x ∷ p) (y ∷ q) a b h = go (after_prefix (x ∷ p) (y ∷ q)) h

@@ -6,7 +6,7 @@ use Rattle.fs_names.specs.Shapes.{File, is_file}
 use Rattle.fs_nodes.specs.Graphs.{Graph, content_in}
 use Rattle.fs_nodes.proofs.GraphLemmas.{graph_by}
 use Rattle.fs_nodes.proofs.PlaceLemmas.{eqb_refl}
-use Rattle.fs_seq.specs.Rows.{resized}
+use Rattle.fs_calls.specs.Rows.{resized}
 
 -- the later of two values for one number counts
 later : {A : Type 0} (b : Bool) (v w x : A) → cond b v (cond b w x) ≡ cond b v x

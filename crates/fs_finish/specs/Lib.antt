@@ -1,4 +1,3 @@
 pub mod Rooms
 pub mod Replies
-pub mod Listing
 pub mod Endings

@@ -5,26 +5,26 @@ ghost use Rattle.fs_names.specs.Keys.{last_of};
 ghost use Rattle.fs_names.specs.Shapes.{Shape, is_dir, is_full};
 ghost use Rattle.fs_nodes.specs.Graphs.{entry_shape};
 ghost use Rattle.fs_nodes.specs.Stores.{kid, shape, graph_of, room};
-ghost use Rattle.fs_seq.specs.declared.target.EntryCall.TheVariants as entries;
-ghost use Rattle.fs_seq.specs.Rows.{made, in_there, Remove};
-ghost use Rattle.fs_seq.specs.declared.reply.Reply.TheVariants as answers;
-ghost use Rattle.fs_finish.specs.Endings.{IsMade, entry_made};
-ghost use Rattle.fs_moves.specs.Finishes.{in_made};
-ghost use Rattle.fs_moves.specs.Works.{SpareIf};
+ghost use Rattle.fs_calls.specs.declared.target.EntryCall.TheVariants as entries;
+ghost use Rattle.fs_calls.specs.Rows.{made, in_there, Remove};
+ghost use Rattle.fs_calls.specs.declared.reply.Reply.TheVariants as answers;
+ghost use Rattle.fs_finish.specs.Endings.{IsEffect, entry_finish};
+ghost use Rattle.fs_machine.specs.Finishes.{entry_effect};
+ghost use Rattle.fs_machine.specs.Works.{SpareIf};
 
 use crate::finish::Finish;
-use crate::looking::dir_fault;
+use crate::queries::dir_fault;
 use crate::replies::Replies;
 use crate::text::last_name;
+use fs_calls::Errno;
 use fs_names::{ENTRY_LIMIT, Name, Path};
 use fs_nodes::{NodeNo, Store};
-use fs_seq::errno::Errno;
 
 /// The reserved number gets an entry in a directory.
 fn make_in(store: &mut Store, dir: NodeNo, name: &Name, reserved: Option<NodeNo>) -> Finish
     requires dir { IsTrue (is_dir (shape store.old dir)) }
     requires spare { SpareIf (graph_of store.old) reserved }
-    ensures made { (new : Shape) → IsMade (in_made (graph_of store.old) dir name.now reserved (made new (is_full (shape store.old dir)) (entry_shape (graph_of store.old) dir name.now))) result (graph_of store.new) }
+    ensures made { (new : Shape) → IsEffect (entry_effect (graph_of store.old) dir name.now reserved (made new (is_full (shape store.old dir)) (entry_shape (graph_of store.old) dir name.now))) result (graph_of store.new) }
     ensures limit { store.new.limit ≡ store.old.limit }
     ensures room { room store.new ≡ room store.old }
 {
@@ -43,7 +43,7 @@ fn make_in(store: &mut Store, dir: NodeNo, name: &Name, reserved: Option<NodeNo>
 /// The entry goes. What it named is the removed node.
 fn remove(store: &mut Store, dir: NodeNo, name: &Name, reserved: Option<NodeNo>) -> Finish
     requires there { IsSome (kid store.old dir name.now) }
-    ensures made { IsMade (in_made (graph_of store.old) dir name.now reserved (answers.Done, Remove)) result (graph_of store.new) }
+    ensures made { IsEffect (entry_effect (graph_of store.old) dir name.now reserved (answers.Done, Remove)) result (graph_of store.new) }
     ensures limit { store.new.limit ≡ store.old.limit }
     ensures room { room store.new ≡ room store.old }
 {
@@ -57,7 +57,7 @@ fn remove(store: &mut Store, dir: NodeNo, name: &Name, reserved: Option<NodeNo>)
 
 /// The entry of a file goes.
 fn unlink_in(store: &mut Store, dir: NodeNo, name: &Name, reserved: Option<NodeNo>) -> Finish
-    ensures made { IsMade (in_made (graph_of store.old) dir name.now reserved (in_there entries.Unlink (is_full (shape store.old dir)) (entry_shape (graph_of store.old) dir name.now))) result (graph_of store.new) }
+    ensures made { IsEffect (entry_effect (graph_of store.old) dir name.now reserved (in_there entries.Unlink (is_full (shape store.old dir)) (entry_shape (graph_of store.old) dir name.now))) result (graph_of store.new) }
     ensures limit { store.new.limit ≡ store.old.limit }
     ensures room { room store.new ≡ room store.old }
 {
@@ -72,7 +72,7 @@ fn unlink_in(store: &mut Store, dir: NodeNo, name: &Name, reserved: Option<NodeN
 
 /// The entry of an empty directory goes.
 fn rmdir_in(store: &mut Store, dir: NodeNo, name: &Name, reserved: Option<NodeNo>) -> Finish
-    ensures made { IsMade (in_made (graph_of store.old) dir name.now reserved (in_there entries.Rmdir (is_full (shape store.old dir)) (entry_shape (graph_of store.old) dir name.now))) result (graph_of store.new) }
+    ensures made { IsEffect (entry_effect (graph_of store.old) dir name.now reserved (in_there entries.Rmdir (is_full (shape store.old dir)) (entry_shape (graph_of store.old) dir name.now))) result (graph_of store.new) }
     ensures limit { store.new.limit ≡ store.old.limit }
     ensures room { room store.new ≡ room store.old }
 {
@@ -92,8 +92,8 @@ fn rmdir_in(store: &mut Store, dir: NodeNo, name: &Name, reserved: Option<NodeNo
 pub fn make(store: &mut Store, dir: NodeNo, path: &Path, reserved: Option<NodeNo>) -> Finish
     requires named { 0 < length path.now }
     requires spare { SpareIf (graph_of store.old) reserved }
-    ensures mkdir { IsMade (entry_made (graph_of store.old) dir (last_of path.now) reserved entries.Mkdir) result (graph_of store.new) }
-    ensures mknod { IsMade (entry_made (graph_of store.old) dir (last_of path.now) reserved entries.Mknod) result (graph_of store.new) }
+    ensures mkdir { IsEffect (entry_finish (graph_of store.old) dir (last_of path.now) reserved entries.Mkdir) result (graph_of store.new) }
+    ensures mknod { IsEffect (entry_finish (graph_of store.old) dir (last_of path.now) reserved entries.Mknod) result (graph_of store.new) }
     ensures limit { store.new.limit ≡ store.old.limit }
     ensures room { room store.new ≡ room store.old }
 {
@@ -106,7 +106,7 @@ pub fn make(store: &mut Store, dir: NodeNo, path: &Path, reserved: Option<NodeNo
 /// An unlink: the entry of a file goes.
 pub fn unlink(store: &mut Store, dir: NodeNo, path: &Path, reserved: Option<NodeNo>) -> Finish
     requires named { 0 < length path.now }
-    ensures unlink { IsMade (entry_made (graph_of store.old) dir (last_of path.now) reserved entries.Unlink) result (graph_of store.new) }
+    ensures unlink { IsEffect (entry_finish (graph_of store.old) dir (last_of path.now) reserved entries.Unlink) result (graph_of store.new) }
     ensures limit { store.new.limit ≡ store.old.limit }
     ensures room { room store.new ≡ room store.old }
 {
@@ -119,7 +119,7 @@ pub fn unlink(store: &mut Store, dir: NodeNo, path: &Path, reserved: Option<Node
 /// A rmdir: the entry of an empty directory goes.
 pub fn rmdir(store: &mut Store, dir: NodeNo, path: &Path, reserved: Option<NodeNo>) -> Finish
     requires named { 0 < length path.now }
-    ensures rmdir { IsMade (entry_made (graph_of store.old) dir (last_of path.now) reserved entries.Rmdir) result (graph_of store.new) }
+    ensures rmdir { IsEffect (entry_finish (graph_of store.old) dir (last_of path.now) reserved entries.Rmdir) result (graph_of store.new) }
     ensures limit { store.new.limit ≡ store.old.limit }
     ensures room { room store.new ≡ room store.old }
 {

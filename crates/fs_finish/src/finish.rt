@@ -1,11 +1,11 @@
 //! What a finish answers, apart from the change that it makes.
 
 ghost use Rattle.std.specs.Prelude.{◌≡◌, None};
-ghost use Rattle.fs_seq.specs.declared.reply.Reply.TheVariants as answers;
+ghost use Rattle.fs_calls.specs.declared.reply.Reply.TheVariants as answers;
 
 use crate::replies::Replies;
+use fs_calls::Errno;
 use fs_nodes::NodeNo;
-use fs_seq::errno::Errno;
 
 /// The replies of a call, its reserved number where it is not used, and the node that it removed.
 #[derive(Drop)]

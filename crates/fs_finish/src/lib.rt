@@ -7,19 +7,19 @@
 //!
 //! Enter at `Room::new` and at these modules; `text` has what the paths of a call decide alone. The definitions are in
 //! `specs/`: `Endings` (a finish as the code answers it) and `Rooms` (what suffices for it). Both speak of the
-//! machine's finish, `fs_moves/specs/Finishes.antt`.
+//! machine's finish, `fs_machine/specs/Finishes.antt`.
 #![tactic(auto)]
 
 pub mod entries;
 pub mod finish;
-pub mod looking;
-pub mod renaming;
+pub mod queries;
+pub mod rename;
 pub mod replies;
 pub mod room;
 #[cfg(test)]
 mod tests;
 pub mod text;
-pub mod writing;
+pub mod write;
 
 pub use finish::Finish;
 pub use replies::Replies;

@@ -1,10 +1,9 @@
 //! The two equal replies of a call.
 
 ghost use Rattle.std.specs.Prelude.{◌≡◌};
-ghost use Rattle.fs_seq.specs.declared.reply.Reply.TheVariants as answers;
+ghost use Rattle.fs_calls.specs.declared.reply.Reply.TheVariants as answers;
 
-use fs_seq::Reply;
-use fs_seq::errno::Errno;
+use fs_calls::{Errno, Reply};
 use std::marker::Model;
 
 /// Two equal replies, seen as one: one is handed to the caller, and one goes into the timeline.
@@ -16,7 +15,7 @@ pub struct Replies {
 
 impl Model for Replies {
     ghost use Rattle.std.specs.Prelude.{◌≡◌};
-    ghost use Rattle.fs_seq.specs.declared.reply.Reply as replies;
+    ghost use Rattle.fs_calls.specs.declared.reply.Reply as replies;
 
     ghost Value = { replies.Reply };
 

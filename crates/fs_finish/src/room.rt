@@ -1,12 +1,12 @@
 //! The buffers that a call allocates when it begins, so that its finish needs no memory.
 
 ghost use Rattle.std.specs.Prelude.{◌≡◌, ◌≤◌, ◌+◌, [], IfOk, length, min, vec_capacity};
-ghost use Rattle.fs_seq.specs.Forms.{form};
-ghost use Rattle.fs_seq.specs.Targets.{form_of, node_call};
+ghost use Rattle.fs_calls.specs.Forms.{form};
+ghost use Rattle.fs_calls.specs.code.Targets.{form_of, node_call};
 ghost use Rattle.fs_finish.specs.Rooms.{Suffices, SufficesFor, FitsContent, FitsCopies, FitsLists};
 
+use fs_calls::{Bytes, Call, NodeCall, Target};
 use fs_names::{ENTRY_LIMIT, FILE_LIMIT, Name};
-use fs_seq::{Bytes, Call, NodeCall, Target};
 use std::alloc::{AllocError, Global};
 use std::marker::Model;
 

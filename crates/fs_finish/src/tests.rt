@@ -1,10 +1,10 @@
 //! Changes of files, with ample memory.
 
 use crate::room::Room;
-use crate::writing::{truncate, write};
+use crate::write::{truncate, write};
+use fs_calls::{Bytes, Call, Reply};
 use fs_names::{Kind, Path, PathFault};
 use fs_nodes::{NoNode, NodeNo, Store};
-use fs_seq::{Bytes, Call, Reply};
 use std::alloc::AllocError;
 
 #[derive(Debug, Drop)]

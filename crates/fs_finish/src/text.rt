@@ -3,15 +3,14 @@
 ghost use Rattle.std.specs.Prelude.{◌≡◌, ◌<◌, ◌≤◌, length};
 ghost use Rattle.fs_names.specs.Keys.{after_prefix, has_more, last_of, parent_of};
 ghost use Rattle.fs_names.specs.Parts.{is_end};
-ghost use Rattle.fs_seq.specs.Forms.{form, by_text, root_error};
-ghost use Rattle.fs_seq.specs.Targets.{form_of};
-ghost use Rattle.fs_seq.specs.Forms as forms;
-ghost use Rattle.fs_seq.specs.declared.target.PairCall.TheVariants as pairs;
+ghost use Rattle.fs_calls.specs.Forms.{form, by_text, root_error};
+ghost use Rattle.fs_calls.specs.code.Targets.{form_of};
+ghost use Rattle.fs_calls.specs.Forms as forms;
+ghost use Rattle.fs_calls.specs.declared.target.PairCall.TheVariants as pairs;
 
-use crate::renaming::Paths;
+use crate::rename::Paths;
+use fs_calls::{Call, EntryCall, Errno, PairCall, Target};
 use fs_names::{Name, PATH_LIMIT, Path};
-use fs_seq::errno::Errno;
-use fs_seq::{Call, EntryCall, PairCall, Target};
 
 /// How many names a path's parent has.
 pub fn parent_len(path: &Path) -> usize
@@ -53,7 +52,7 @@ fn have_one_parent(path: &Path, other: &Path) -> bool
 
 /// The error of a rename that its paths alone decide.
 fn rename_error(path: &Path, new_path: &Path) -> Option<Errno>
-    ensures { result ≡ by_text (forms.Two pairs.Rename path.now new_path.now) }
+    ensures { result ≡ by_text (forms.AtPair pairs.Rename path.now new_path.now) }
 {
     if path.is_empty() || new_path.is_empty() {
         return Some(Errno::Ebusy);

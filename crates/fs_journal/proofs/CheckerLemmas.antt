@@ -4,17 +4,18 @@ use mathlib.Core.Path.{fun_ext}
 use Rattle.std.specs.Ordering.{is_eq, nat_cmp}
 use Rattle.std.specs.BTreeMap.{BTreeMap, get, Updates}
 use Rattle.fs_names.specs.First.{on, first}
-use Rattle.fs_seq.specs.declared.call.Call.{Call}
-use Rattle.fs_seq.specs.declared.reply.Reply.{Reply}
+use Rattle.fs_calls.specs.declared.call.Call.{Call}
+use Rattle.fs_calls.specs.declared.reply.Reply.{Reply}
 use Rattle.fs_journal.specs.declared.calls.Begun.{Begun}
 use Rattle.fs_journal.specs.declared.calls.Calls.{Calls}
-use Rattle.fs_journal.specs.declared.entry.Entry.TheVariants.{Begin, Commit, Return}
-use Rattle.fs_journal.specs.declared.verdict.FaultKind.{FaultKind}
-use Rattle.fs_journal.specs.declared.verdict.FaultKind.TheVariants.{BeginTwice, SeatBusy}
-use Rattle.fs_seq.specs.Tree.{Tree}
-use Rattle.fs_seq.specs.Outcomes.{reply, after}
-use Rattle.fs_journal.specs.Calls.{begun_at, call_in, due_in, is_back}
-use Rattle.fs_journal.specs.Knowledge.{Knowledge, known, taken_in, played, is_waiting, known_fault, return_fault, changed}
+use Rattle.fs_timeline.specs.declared.entry.Entry.TheVariants.{Begin, Commit, Return}
+use Rattle.fs_timeline.specs.declared.verdict.FaultKind.{FaultKind}
+use Rattle.fs_timeline.specs.declared.verdict.FaultKind.TheVariants.{BeginTwice, SeatBusy}
+use Rattle.fs_calls.specs.Tree.{Tree}
+use Rattle.fs_calls.specs.Outcomes.{reply, after}
+use Rattle.fs_journal.specs.code.Calls.{begun_at, call_in, due_in, is_back}
+use Rattle.fs_timeline.specs.Knowledge.{Knowledge, taken_in, played, is_waiting, known_fault, return_fault, changed}
+use Rattle.fs_journal.specs.code.Checkers.{known}
 
 pub same_number : (c q : ℕ) → is_eq (nat_cmp c q) ≡ (c == q)
 same_number c q = grind arith

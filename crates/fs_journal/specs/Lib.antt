@@ -1,7 +1,1 @@
-pub mod Timeline
-pub mod Kept
-pub mod Verdicts
-pub mod Calls
-pub mod Knowledge
-pub mod Laws
-pub mod Examples
+pub mod code

@@ -1,11 +1,11 @@
 //! The calls of a journal, by their numbers.
 
 ghost use Rattle.std.specs.Prelude.{◌≡◌, true, false, Some, None, IsSome, IfSome, option_copied, OnOk};
-ghost use Rattle.fs_journal.specs.Knowledge.{return_fault, changed};
-ghost use Rattle.fs_journal.specs.Calls.{begun_at, IsPlaceOf};
+ghost use Rattle.fs_timeline.specs.Knowledge.{return_fault, changed};
+ghost use Rattle.fs_journal.specs.code.Calls.{begun_at, IsPlaceOf};
 
-use crate::verdict::FaultKind;
-use fs_seq::{Call, Reply};
+use fs_calls::{Call, Reply};
+use fs_timeline::verdict::FaultKind;
 use std::alloc::{AllocError, Global};
 use std::collections::BTreeMap;
 

@@ -1,16 +1,18 @@
 //! The checker of journals.
 
 ghost use Rattle.std.specs.Prelude.{◌≡◌, ◌↔◌, true, [], Some, None, IsSome, IfOk, OnOk};
-ghost use Rattle.fs_journal.specs.Timeline.{IsLawful};
-ghost use Rattle.fs_journal.specs.Verdicts.{verdict};
-ghost use Rattle.fs_journal.specs.Laws.{NamesFirstFault};
-ghost use Rattle.fs_journal.specs.Knowledge.{known, known_fault, taken_in, is_waiting, IsTrueOf};
+ghost use Rattle.fs_timeline.specs.Timeline.{IsLawful};
+ghost use Rattle.fs_timeline.specs.Verdicts.{verdict};
+ghost use Rattle.fs_timeline.specs.Laws.{NamesFirstFault};
+ghost use Rattle.fs_timeline.specs.Knowledge.{known_fault, taken_in, is_waiting, IsTrueOf};
+ghost use Rattle.fs_journal.specs.code.Checkers.{known};
 
 use crate::calls::Calls;
-use crate::entry::Entry;
-use crate::verdict::{FaultKind, Verdict};
+use fs_calls::{Call, Reply};
 use fs_names::{CallNo, SeatNo};
-use fs_seq::{Call, Reply, SeqTree};
+use fs_seq::SeqTree;
+use fs_timeline::entry::Entry;
+use fs_timeline::verdict::{FaultKind, Verdict};
 use std::alloc::{AllocError, Global};
 use std::collections::BTreeMap;
 

@@ -1,6 +1,6 @@
 use super::*;
+use fs_calls::{Call, Errno, Reply};
 use fs_names::{CallNo, Path, SeatNo};
-use fs_seq::{Call, Errno, Reply};
 use std::alloc::Global;
 use std::test::Fail;
 

@@ -1,16 +1,16 @@
 -- Who stands below whom, who holds what, and what the placed calls leave, in every state of a run.
 use Rattle.std.specs.Prelude.{ℕ, ◌≡◌, ◌<◌, List, [], ◌∷◌, true, ◌++◌, Option, Some, ◌⊎◌}
 use Rattle.fs_names.specs.Keys.{Key}
-use Rattle.fs_seq.specs.Outcomes as tree
-use Rattle.fs_seq.specs.Shapes.{seen}
-use Rattle.fs_seq.specs.declared.call.Call.{Call}
-use Rattle.fs_seq.specs.declared.reply.Reply.{Reply}
+use Rattle.fs_calls.specs.Outcomes as tree
+use Rattle.fs_calls.specs.Shapes.{seen}
+use Rattle.fs_calls.specs.declared.call.Call.{Call}
+use Rattle.fs_calls.specs.declared.reply.Reply.{Reply}
 use Rattle.fs_nodes.specs.Graphs.{at, spell}
-use Rattle.fs_journal.specs.Timeline as journal
-use Rattle.fs_journal.specs.declared.entry.Entry.{Entry}
-use Rattle.fs_moves.specs.Moves.{Finishes, next}
-use Rattle.fs_moves.specs.Records.{Stand, Walking, Placed, Record, Holds}
-use Rattle.fs_laws.specs.Books.{commit_count}
+use Rattle.fs_timeline.specs.Timeline as journal
+use Rattle.fs_timeline.specs.declared.entry.Entry.{Entry}
+use Rattle.fs_machine.specs.Moves.{Finishes, next}
+use Rattle.fs_machine.specs.Records.{Stand, Walking, Placed, Record, Holds}
+use Rattle.fs_timeline.specs.Timeline.{commit_count}
 use Rattle.fs_laws.specs.Invariants.{InOrder, IsIn}
 use Rattle.fs_laws.specs.Settled.{settled_graph, settled_replies}
 use Rattle.fs_laws.specs.States.{State, Begun, Begins, Moves, IsBelow, IsWalkingBelow, IsChosen, NoneBelow, Stepped, Helped, Committed, Step}

@@ -1,27 +1,14 @@
 -- What is known after some entries of a timeline, and which entry may come next.
 use Rattle.std.specs.Prelude.{ℕ, ◌≡◌, ◌+◌, Bool, true, false, List, [], ◌∷◌, Option, Some, None}
 use Rattle.fs_names.specs.Shapes.{Shape}
-use Rattle.fs_seq.specs.Changes.{reply, after, root_tree}
-use Rattle.fs_seq.specs.Forms.{form}
-use Rattle.fs_seq.specs.declared.call.Call.{Call}
-use Rattle.fs_journal.specs.declared.entry.Entry.{Entry}
-use Rattle.fs_journal.specs.declared.entry.Entry.TheVariants.{Begin, Commit, Return}
+use Rattle.fs_laws.specs.Changes.{reply, after, root_tree}
+use Rattle.fs_calls.specs.Forms.{form}
+use Rattle.fs_calls.specs.declared.call.Call.{Call}
+use Rattle.fs_timeline.specs.declared.entry.Entry.{Entry}
+use Rattle.fs_timeline.specs.declared.entry.Entry.TheVariants.{Begin, Commit, Return}
 use Rattle.fs_nodes.specs.Graphs.{set_at}
-use Rattle.fs_seq.specs.Maps.{Map}
-use Rattle.fs_seq.specs.declared.reply.Reply.{Reply}
-
--- how many calls began, and how many committed
-abbrev pub begins : List Entry → ℕ
-begins [] = 0
-begins (Begin n seat call ∷ es) = begins es + 1
-begins (Commit n ∷ es) = begins es
-begins (Return n r ∷ es) = begins es
-
-abbrev pub commit_count : List Entry → ℕ
-commit_count [] = 0
-commit_count (Begin n seat call ∷ es) = commit_count es
-commit_count (Commit n ∷ es) = commit_count es + 1
-commit_count (Return n r ∷ es) = commit_count es
+use Rattle.fs_laws.specs.Maps.{Map}
+use Rattle.fs_calls.specs.declared.reply.Reply.{Reply}
 
 -- the calls of the Commit entries, in order, by the calls that began before
 abbrev pub with_call : Option Call → List Call → List Call

@@ -1,6 +1,6 @@
 -- The events of a run, each with its answer.
 use Rattle.std.specs.Prelude.{ℕ, ◌≡◌, List, [], ◌∷◌, ◌++◌}
-use Rattle.fs_seq.specs.declared.call.Call.{Call}
+use Rattle.fs_calls.specs.declared.call.Call.{Call}
 use Rattle.fs_laws.specs.States.{State, Begun, Stepped, Run, Start, Beginning, Stepping}
 
 -- a call is to begin on a seat, or a seat is stepped; with the answer

@@ -4,13 +4,13 @@ use Prim.Native.String.{String}
 use Rattle.fs_names.specs.Keys.{Key}
 use Rattle.fs_names.specs.Reading.{names}
 use Rattle.fs_names.specs.Shapes.{Dir, File}
-use Rattle.fs_seq.specs.declared.call.Call.{Call}
-use Rattle.fs_seq.specs.declared.call.Call.TheVariants.{Mkdir, Mknod, Unlink, Rmdir, Rename, Write}
-use Rattle.fs_seq.specs.declared.errno.Errno.TheVariants.{Eexist, Ebusy, Eperm, Enotempty}
-use Rattle.fs_seq.specs.declared.reply.Reply.TheVariants.{Done, Wrote, Failed}
+use Rattle.fs_calls.specs.declared.call.Call.{Call}
+use Rattle.fs_calls.specs.declared.call.Call.TheVariants.{Mkdir, Mknod, Unlink, Rmdir, Rename, Write}
+use Rattle.fs_calls.specs.declared.errno.Errno.TheVariants.{Eexist, Ebusy, Eperm, Enotempty}
+use Rattle.fs_calls.specs.declared.reply.Reply.TheVariants.{Done, Wrote, Failed}
 use Rattle.fs_nodes.specs.Graphs.{spell}
 use Rattle.fs_nodes.specs.Stores.{used_below}
-use Rattle.fs_journal.specs.declared.entry.Entry.TheVariants.{Begin, Commit, Return}
+use Rattle.fs_timeline.specs.declared.entry.Entry.TheVariants.{Begin, Commit, Return}
 use Rattle.fs_laws.specs.Events.{Event, Begins, Steps, Ran}
 use Rattle.fs_laws.specs.States.{Begun_as, Stepped, Took, Busy, LetGo, Helped, Committed, CarriedOut, Returned}
 

@@ -1,9 +1,9 @@
 -- The linearization theorem.
 use Rattle.std.specs.Prelude.{ℕ, ◌≡◌, None}
 use Rattle.fs_nodes.specs.Graphs.{spell}
-use Rattle.fs_seq.specs.Shapes.{seen}
-use Rattle.fs_seq.specs.Outcomes as tree
-use Rattle.fs_journal.specs.Timeline as journal
+use Rattle.fs_calls.specs.Shapes.{seen}
+use Rattle.fs_calls.specs.Outcomes as tree
+use Rattle.fs_timeline.specs.Timeline as journal
 use Rattle.fs_laws.specs.States.{State}
 
 -- no call is under way

@@ -3,16 +3,17 @@ use Rattle.std.specs.Prelude.{ℕ, ◌≡◌, ◌<◌, false, List, [], ◌∷�
 use Rattle.fs_names.specs.Keys.{Key, parent_of, last_of}
 use Rattle.fs_names.specs.Parts.{left}
 use Rattle.fs_names.specs.Shapes.{Shape}
-use Rattle.fs_seq.specs.Forms.{Fits, form, Stat, Form, On, In, Two, under, new_shape}
-use Rattle.fs_seq.specs.declared.target.PairCall.TheVariants as pairs
-use Rattle.fs_seq.specs.declared.target.EntryCall.{EntryCall}
-use Rattle.fs_seq.specs.Maps.{Map}
-use Rattle.fs_seq.specs.declared.reply.Reply.{Reply}
-use Rattle.fs_seq.specs.declared.call.Call.{Call}
+use Rattle.fs_calls.specs.Forms.{Fits, form, Stat, Form, AtNode, AtEntry, AtPair, under, new_shape}
+use Rattle.fs_calls.specs.declared.target.PairCall.TheVariants as pairs
+use Rattle.fs_calls.specs.declared.target.EntryCall.{EntryCall}
+use Rattle.fs_laws.specs.Maps.{Map}
+use Rattle.fs_calls.specs.declared.reply.Reply.{Reply}
+use Rattle.fs_calls.specs.declared.call.Call.{Call}
 use Rattle.fs_nodes.specs.Graphs.{Graph, at, numbers, spell, IsGraph}
-use Rattle.fs_moves.specs.Moves.{target}
-use Rattle.fs_moves.specs.Records.{Stand, Walking, Placed, Finished, Record, Records, Holds}
-use Rattle.fs_laws.specs.Books.{begins, commit_count, Book, start, book_of, IsLawful}
+use Rattle.fs_machine.specs.Moves.{target}
+use Rattle.fs_machine.specs.Records.{Stand, Walking, Placed, Finished, Record, Records, Holds}
+use Rattle.fs_laws.specs.Books.{Book, start, book_of, IsLawful}
+use Rattle.fs_timeline.specs.Timeline.{begins, commit_count}
 use Rattle.fs_laws.specs.Settled.{settle, settle_replies}
 use Rattle.fs_laws.specs.Stands.{Kept}
 use Rattle.fs_laws.specs.States.{State, Begun, Begins, Stepped, Step}
@@ -31,9 +32,9 @@ ForkedAt graph n p q st (x ∷ l) = Unit {0}
 
 -- the same of each form of call
 abbrev pub StandsWell : Graph → ℕ → Form → Stand → Type 0
-StandsWell graph n (On c p) st = Unit {0}
-StandsWell graph n (In c p) st = Unit {0}
-StandsWell graph n (Two pairs.Rename p q) st = ForkedAt graph n p q st (target (Two pairs.Rename p q))
+StandsWell graph n (AtNode c p) st = Unit {0}
+StandsWell graph n (AtEntry c p) st = Unit {0}
+StandsWell graph n (AtPair pairs.Rename p q) st = ForkedAt graph n p q st (target (AtPair pairs.Rename p q))
 
 -- the number that a call reserved, where it has one to link
 abbrev pub HasNumber : Graph → EntryCall → Option ℕ → Type 0
@@ -41,13 +42,13 @@ HasNumber graph c reserved = (shape : Shape) → new_shape c ≡ Some shape → 
 
 -- the same of each form of call
 abbrev pub NumberFor : Graph → Form → Option ℕ → Type 0
-NumberFor graph (On c p) reserved = Unit {0}
-NumberFor graph (In c p) reserved = HasNumber graph c reserved
-NumberFor graph (Two pairs.Rename p q) reserved = Unit {0}
+NumberFor graph (AtNode c p) reserved = Unit {0}
+NumberFor graph (AtEntry c p) reserved = HasNumber graph c reserved
+NumberFor graph (AtPair pairs.Rename p q) reserved = Unit {0}
 
 -- what is left of a call, from where it stands
 abbrev pub remaining_of : Option Record → Form
-remaining_of None = On Stat []
+remaining_of None = AtNode Stat []
 remaining_of (Some op) = op.remaining
 
 -- the placed calls in the order of their commits
@@ -95,9 +96,9 @@ IsIn c (d ∷ ds) = (c ≡ d) ⊎ IsIn c ds
 
 -- a victim that a call holds before it finishes is what its entry leads to
 abbrev pub VictimAt : Graph → Form → Stand → Type 0
-VictimAt graph (On c p) st = Unit {0}
-VictimAt graph (In c p) st = (v : ℕ) → st.victim ≡ Some v → graph.kid st.node (last_of p) ≡ Some v
-VictimAt graph (Two pairs.Rename p q) st = (v : ℕ) → st.victim ≡ Some v → (graph.kid st.dest.node (last_of q) ≡ Some v) × (parent_of q ≡ st.dest.walked)
+VictimAt graph (AtNode c p) st = Unit {0}
+VictimAt graph (AtEntry c p) st = (v : ℕ) → st.victim ≡ Some v → graph.kid st.node (last_of p) ≡ Some v
+VictimAt graph (AtPair pairs.Rename p q) st = (v : ℕ) → st.victim ≡ Some v → (graph.kid st.dest.node (last_of q) ≡ Some v) × (parent_of q ≡ st.dest.walked)
 
 -- the places of a stand at which a call may hold a node
 pub data Slot : Type 0 where

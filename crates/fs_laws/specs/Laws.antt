@@ -2,14 +2,14 @@
 use Rattle.std.specs.Prelude.{◌≡◌, ℕ, List}
 use Rattle.fs_names.specs.Keys.{Key}
 use Rattle.fs_names.specs.Shapes.{Shape}
-use Rattle.fs_seq.specs.Forms.{form, Form, Fits}
-use Rattle.fs_seq.specs.Maps.{Map}
-use Rattle.fs_seq.specs.Changes.{Change, outcome, changed, reply, after}
-use Rattle.fs_seq.specs.Outcomes as tree
-use Rattle.fs_seq.specs.Shapes.{seen}
-use Rattle.fs_seq.specs.Tree.{Tree, IsTree}
-use Rattle.fs_seq.specs.declared.call.Call.{Call}
-use Rattle.fs_seq.specs.declared.reply.Reply.{Reply}
+use Rattle.fs_calls.specs.Forms.{form, Form, Fits}
+use Rattle.fs_laws.specs.Maps.{Map}
+use Rattle.fs_laws.specs.Changes.{Change, outcome, changed, reply, after}
+use Rattle.fs_calls.specs.Outcomes as tree
+use Rattle.fs_calls.specs.Shapes.{seen}
+use Rattle.fs_calls.specs.Tree.{Tree, IsTree}
+use Rattle.fs_calls.specs.declared.call.Call.{Call}
+use Rattle.fs_calls.specs.declared.reply.Reply.{Reply}
 use Rattle.fs_laws.specs.Below.{NoWalkingBelow, NoLaterBelow, NobodyBetween, Settles, PlacesAreCounted, NeverWaitsToFinish, Meanwhile, HelpsEachOnce}
 use Rattle.fs_laws.specs.Placed.{Standing, Passes, PastAll, rekey_all}
 use Rattle.fs_laws.specs.Progress.{HasStep, WaitsBelow, IsNeverStuck, IsDetermined}

@@ -12,3 +12,5 @@ pub mod Progress
 pub mod Work
 pub mod OneCall
 pub mod Laws
+pub mod Maps
+pub mod Changes

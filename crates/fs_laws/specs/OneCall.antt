@@ -1,10 +1,10 @@
 -- A call that is begun with no other under way, and stepped to its end.
 use Rattle.std.specs.Prelude.{ℕ, ◌≡◌}
-use Rattle.fs_seq.specs.Outcomes as outcomes
-use Rattle.fs_seq.specs.Shapes.{seen}
-use Rattle.fs_seq.specs.Tree.{Tree, IsTree}
-use Rattle.fs_seq.specs.declared.call.Call.{Call}
-use Rattle.fs_seq.specs.declared.reply.Reply.{Reply}
+use Rattle.fs_calls.specs.Outcomes as outcomes
+use Rattle.fs_calls.specs.Shapes.{seen}
+use Rattle.fs_calls.specs.Tree.{Tree, IsTree}
+use Rattle.fs_calls.specs.declared.call.Call.{Call}
+use Rattle.fs_calls.specs.declared.reply.Reply.{Reply}
 use Rattle.fs_nodes.specs.Graphs.{spell}
 use Rattle.fs_laws.specs.Headline.{IsIdle}
 use Rattle.fs_laws.specs.States.{State, Stepped, Idle, Took, Busy, LetGo, Helped, Committed, CarriedOut, Returned, Step}

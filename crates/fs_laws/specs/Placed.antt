@@ -3,11 +3,11 @@ use Rattle.std.specs.Prelude.{◌≡◌, Bool, true, false, not, ◌&&◌, List,
 use Rattle.fs_names.specs.Keys.{Key, after_prefix, has_more, parent_of}
 use Rattle.fs_names.specs.Parts.{is_end}
 use Rattle.fs_names.specs.Shapes.{Shape, Dir, File}
-use Rattle.fs_seq.specs.Changes.{Change, resolve, resolve_dir, outcome, after}
-use Rattle.fs_seq.specs.Forms.{Form, On, In, Two, Fits}
-use Rattle.fs_seq.specs.declared.target.PairCall.TheVariants as pairs
-use Rattle.fs_seq.specs.Maps.{Map}
-use Rattle.fs_moves.specs.Moves.{victim_of, same_kind}
+use Rattle.fs_laws.specs.Changes.{Change, resolve, resolve_dir, outcome, after}
+use Rattle.fs_calls.specs.Forms.{Form, AtNode, AtEntry, AtPair, Fits}
+use Rattle.fs_calls.specs.declared.target.PairCall.TheVariants as pairs
+use Rattle.fs_laws.specs.Maps.{Map}
+use Rattle.fs_machine.specs.Moves.{victim_of, same_kind}
 use Rattle.fs_laws.specs.Settled.{settle, settle_replies}
 
 -- the kind of what stands at a key, if anything does: true for a directory
@@ -27,9 +27,9 @@ looks_into tree p q = same_kind (tree p) (tree q) && not (is_end (after_prefix p
 
 -- what the call reads lies at no key below k, but for the kind of an entry that it doesn't hold
 abbrev pub Blind : Map Shape → Form → Key → Type 0
-Blind tree (On c p) k = after_prefix k p ≡ None
-Blind tree (In c p) k = (after_prefix k (parent_of p) ≡ None) × (victim_of c (tree p) ≡ true → after_prefix k p ≡ None)
-Blind tree (Two pairs.Rename p q) k = (after_prefix k (parent_of p) ≡ None) × (resolve_dir tree (parent_of p) ≡ None → (after_prefix k (parent_of q) ≡ None) × (looks_into tree p q ≡ true → after_prefix k q ≡ None))
+Blind tree (AtNode c p) k = after_prefix k p ≡ None
+Blind tree (AtEntry c p) k = (after_prefix k (parent_of p) ≡ None) × (victim_of c (tree p) ≡ true → after_prefix k p ≡ None)
+Blind tree (AtPair pairs.Rename p q) k = (after_prefix k (parent_of p) ≡ None) × (resolve_dir tree (parent_of p) ≡ None → (after_prefix k (parent_of q) ≡ None) × (looks_into tree p q ≡ true → after_prefix k q ≡ None))
 
 -- neither key begins with the other
 abbrev pub Aside : Key → Key → Type 0

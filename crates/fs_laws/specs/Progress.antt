@@ -3,8 +3,8 @@ use Rattle.std.specs.Prelude.{ℕ, ◌≡◌, Some}
 use Rattle.fs_names.specs.Keys.{Key}
 use Rattle.fs_names.specs.Parts.{HasNames}
 use Rattle.fs_nodes.specs.Graphs.{at}
-use Rattle.fs_moves.specs.Moves.{Takes, next}
-use Rattle.fs_moves.specs.Records.{Stand, Record}
+use Rattle.fs_machine.specs.Moves.{Takes, next}
+use Rattle.fs_machine.specs.Records.{Stand, Record}
 use Rattle.fs_laws.specs.States.{State, Stepped, Idle, Took, Busy, LetGo, Helped, Committed, CarriedOut, Returned, Step}
 
 -- a call wants a node that another one holds

@@ -2,18 +2,18 @@
 use Rattle.std.specs.Prelude.{ℕ, zero, suc, ◌+◌, List, [], ◌∷◌, Option, Some, None, length}
 use Rattle.fs_names.specs.Keys.{Key}
 use Rattle.fs_names.specs.Shapes.{Shape}
-use Rattle.fs_seq.specs.Changes.{reply, after}
-use Rattle.fs_seq.specs.Forms.{Form, On, In, Two, under}
-use Rattle.fs_seq.specs.declared.target.PairCall.TheVariants as pairs
-use Rattle.fs_seq.specs.Maps.{Map}
-use Rattle.fs_seq.specs.declared.reply.Reply.{Reply}
+use Rattle.fs_laws.specs.Changes.{reply, after}
+use Rattle.fs_calls.specs.Forms.{Form, AtNode, AtEntry, AtPair, under}
+use Rattle.fs_calls.specs.declared.target.PairCall.TheVariants as pairs
+use Rattle.fs_laws.specs.Maps.{Map}
+use Rattle.fs_calls.specs.declared.reply.Reply.{Reply}
 use Rattle.fs_nodes.specs.Graphs.{Graph}
-use Rattle.fs_moves.specs.Finishes.{Made, finish}
-use Rattle.fs_moves.specs.Moves.{Move, Takes, Leaves, Finishes, Ends, next, took, left_stand}
-use Rattle.fs_moves.specs.Records.{Record, Records}
+use Rattle.fs_machine.specs.Finishes.{Effect, finish}
+use Rattle.fs_machine.specs.Moves.{Move, Takes, Leaves, Finishes, Ends, next, took, left_stand}
+use Rattle.fs_machine.specs.Records.{Record, Records}
 
 -- the record's own moves up to its finish, as if nobody else held a node: at most `steps` of them
-abbrev pub alone_by : ℕ → Graph → Record → Move → Made
+abbrev pub alone_by : ℕ → Graph → Record → Move → Effect
 alone_by zero graph op move = finish graph op
 alone_by (suc steps) graph op (Takes n) = alone_by steps graph (took op n) (next graph (took op n))
 alone_by (suc steps) graph op (Leaves n) = alone_by steps graph (record op { stand = left_stand op.phase op.stand }) (next graph (record op { stand = left_stand op.phase op.stand }))
@@ -22,12 +22,12 @@ alone_by (suc steps) graph op Ends = finish graph op
 
 -- each name left is one take and one let go; besides, the root, and a victim
 abbrev pub names_left : Form → ℕ
-names_left (On c p) = length p
-names_left (In c p) = length p
-names_left (Two pairs.Rename p q) = length p + length q
+names_left (AtNode c p) = length p
+names_left (AtEntry c p) = length p
+names_left (AtPair pairs.Rename p q) = length p + length q
 
 -- what a call makes of the graph alone
-abbrev pub alone : Graph → Record → Made
+abbrev pub alone : Graph → Record → Effect
 alone graph op = alone_by (names_left op.remaining + names_left op.remaining + 4) graph op (next graph op)
 
 -- the same of a call that may be there

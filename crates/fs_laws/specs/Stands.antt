@@ -2,9 +2,9 @@
 use Rattle.std.specs.Prelude.{ℕ, ◌≡◌, ◌<◌, [], ◌++◌, Some, None, ◌⊎◌}
 use Rattle.fs_names.specs.Keys.{Key, after_prefix}
 use Rattle.fs_names.specs.Parts.{HasNames}
-use Rattle.fs_seq.specs.Forms.{Fits}
-use Rattle.fs_seq.specs.Maps.{Map}
-use Rattle.fs_moves.specs.Records.{Stand, Phase, Walking, Placed, Record, Records, Holds}
+use Rattle.fs_calls.specs.Forms.{Fits}
+use Rattle.fs_laws.specs.Maps.{Map}
+use Rattle.fs_machine.specs.Records.{Stand, Phase, Walking, Placed, Record, Records, Holds}
 
 -- the call stands at this key, by the numbers at the keys
 pub record Located (tree : Map ℕ) (key : Key) (st : Stand) : Type 0 where

@@ -2,18 +2,18 @@
 use Rattle.std.specs.Prelude.{ℕ, ◌≡◌, ◌+◌, ◌<◌, ◌≤◌, List, [], ◌∷◌, ◌++◌, Option, Some, None}
 use Rattle.fs_names.specs.Keys.{Key}
 use Rattle.fs_names.specs.Shapes.{Shape}
-use Rattle.fs_seq.specs.Forms.{form, reserves}
-use Rattle.fs_seq.specs.declared.call.Call.{Call}
-use Rattle.fs_seq.specs.declared.reply.Reply.{Reply}
+use Rattle.fs_calls.specs.Forms.{form, reserves}
+use Rattle.fs_calls.specs.declared.call.Call.{Call}
+use Rattle.fs_calls.specs.declared.reply.Reply.{Reply}
 use Rattle.fs_nodes.specs.Graphs.{Graph, at, empty_graph, reserved_in, set_at}
 use Rattle.fs_nodes.specs.Stores.{used_below}
-use Rattle.fs_journal.specs.declared.entry.Entry.{Entry}
-use Rattle.fs_journal.specs.declared.entry.Entry.TheVariants.{Begin, Commit, Return}
-use Rattle.fs_moves.specs.Finishes.{finish}
-use Rattle.fs_moves.specs.Leaving.{is_removed, releasing, let_go, finished_op, unreserved}
-use Rattle.fs_moves.specs.Moves.{Move, Takes, Leaves, Finishes, Ends, next, took}
-use Rattle.fs_moves.specs.Records.{Stand, Walking, Placed, Finished, Record, Records}
-use Rattle.fs_laws.specs.Books.{begins, commit_count}
+use Rattle.fs_timeline.specs.declared.entry.Entry.{Entry}
+use Rattle.fs_timeline.specs.declared.entry.Entry.TheVariants.{Begin, Commit, Return}
+use Rattle.fs_machine.specs.Finishes.{finish}
+use Rattle.fs_machine.specs.Leaving.{is_removed, releasing, let_go, finished_op, unreserved}
+use Rattle.fs_machine.specs.Moves.{Move, Takes, Leaves, Finishes, Ends, next, took}
+use Rattle.fs_machine.specs.Records.{Stand, Walking, Placed, Finished, Record, Records}
+use Rattle.fs_timeline.specs.Timeline.{begins, commit_count}
 
 -- limit, graph, who holds each node, the calls under way by their numbers, the call on each seat, timeline
 pub record State : Type 0 where

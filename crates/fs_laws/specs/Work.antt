@@ -2,11 +2,11 @@
 use Rattle.std.specs.Prelude.{ℕ, zero, suc, ◌≡◌, ◌+◌, ◌≤◌, [], ◌∷◌, Option, Some, None, length}
 use Rattle.fs_names.specs.Keys.{Key, parent_of}
 use Rattle.fs_names.specs.Parts.{left}
-use Rattle.fs_seq.specs.Forms.{form, Form, On, In, Two}
-use Rattle.fs_seq.specs.declared.target.PairCall.TheVariants as pairs
-use Rattle.fs_seq.specs.declared.call.Call.{Call}
-use Rattle.fs_moves.specs.Records.{Stand, Phase, Walking, Placed, Finished, Record}
-use Rattle.fs_laws.specs.Books.{begins}
+use Rattle.fs_calls.specs.Forms.{form, Form, AtNode, AtEntry, AtPair}
+use Rattle.fs_calls.specs.declared.target.PairCall.TheVariants as pairs
+use Rattle.fs_calls.specs.declared.call.Call.{Call}
+use Rattle.fs_machine.specs.Records.{Stand, Phase, Walking, Placed, Finished, Record}
+use Rattle.fs_timeline.specs.Timeline.{begins}
 use Rattle.fs_laws.specs.Progress.{GoesOn}
 use Rattle.fs_laws.specs.Settled.{names_left}
 use Rattle.fs_laws.specs.States.{State, Begun_as, Begins, Stepped, Step}
@@ -27,9 +27,9 @@ one_unless (Some n) = 0
 
 -- the names that an unfinished call has left to walk, from where it stands
 abbrev pub to_go : Form → Stand → ℕ
-to_go (On c p) st = length p
-to_go (In c p) st = length (parent_of p)
-to_go (Two pairs.Rename p q) st = length (left st.source.walked (parent_of p)) + length (left st.dest.walked (parent_of q))
+to_go (AtNode c p) st = length p
+to_go (AtEntry c p) st = length (parent_of p)
+to_go (AtPair pairs.Rename p q) st = length (left st.source.walked (parent_of p)) + length (left st.dest.walked (parent_of q))
 
 -- the moves that it has left at most: two for each name, one for each parent behind, and one for a victim
 abbrev pub moves_left : Form → Stand → ℕ

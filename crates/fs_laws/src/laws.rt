@@ -22,7 +22,7 @@ ghost use Rattle.fs_laws.specs.Laws.{
 
 /// A call that finishes goes past all placed calls: they settle to what it leaves of their settled tree, it answers the
 /// same on both, and so does each of them.
-#[tactic(auto, using(crate::proofs::Passing::past_all))]
+#[tactic(auto, using(crate::proofs::helping::FinishPassesPlaced::past_all))]
 pub fn past_all()
     ensures { GoesPastAll }
 {}

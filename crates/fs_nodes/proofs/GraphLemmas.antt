@@ -12,7 +12,7 @@ use Rattle.fs_nodes.specs.declared.node.Link.{Link}
 use Rattle.fs_nodes.specs.declared.node.Node.{Node}
 use Rattle.fs_nodes.specs.Graphs.{Graph, Kids, then_at, set_kid, set_at, linked_in, unlinked_in, moved_in, reserved_in, released_in, content_in}
 use Rattle.fs_nodes.specs.Stores.{content_of, link_of, content_at, link_at, is_link, kid_in, with_link, names_in, shape_with, shape_in, graph_in, new_shape}
-use Rattle.fs_nodes.specs.Edits.{new_content, new_node}
+use Rattle.fs_nodes.specs.code.Edits.{new_content, new_node}
 use Rattle.fs_nodes.proofs.NameLemmas.{removed_inserted}
 use Rattle.fs_nodes.proofs.PlaceLemmas.{eqb_true, eqb_refl, link_exact, kid_linked, kid_same, kid_push, kid_link, names_kid, names_relinked, names_same, names_push, at_set, at_push, same_set, set_back, set_twice, get_set}
 use mathlib.Core.Path.{fun_ext}

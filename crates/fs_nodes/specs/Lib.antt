@@ -1,5 +1,4 @@
 pub mod Graphs
 pub mod Places
 pub mod Stores
-pub mod Edits
-pub mod Picks
+pub mod code

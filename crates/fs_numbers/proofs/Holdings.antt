@@ -4,27 +4,27 @@ use Rattle.fs_names.specs.Keys.{Key, parent_of}
 use Rattle.fs_names.specs.Names.{Name}
 use Rattle.fs_names.specs.Parts.{left, left_by, HasNames}
 use Rattle.fs_names.specs.Shapes.{Shape}
-use Rattle.fs_seq.specs.Forms.{form, reserves, Form, Two}
-use Rattle.fs_seq.specs.declared.target.PairCall.TheVariants as pairs
-use Rattle.fs_seq.specs.declared.call.Call.{Call}
-use Rattle.fs_seq.specs.declared.reply.Reply.{Reply}
+use Rattle.fs_calls.specs.Forms.{form, reserves, Form, AtPair}
+use Rattle.fs_calls.specs.declared.target.PairCall.TheVariants as pairs
+use Rattle.fs_calls.specs.declared.call.Call.{Call}
+use Rattle.fs_calls.specs.declared.reply.Reply.{Reply}
 use Rattle.fs_nodes.specs.Graphs.{Graph, set_at}
-use Rattle.fs_moves.specs.Finishes.{finish}
-use Rattle.fs_moves.specs.Leaving.{let_go, finished_op}
-use Rattle.fs_moves.specs.Moves.{Takes, next, target, head_took, left_behind, left_stand, took, took_by}
-use Rattle.fs_moves.specs.Records.{Stand, Phase, Walking, Placed, Finished, Record, Records, stand_at}
-use Rattle.fs_laws.specs.Books.{commit_count}
+use Rattle.fs_machine.specs.Finishes.{finish}
+use Rattle.fs_machine.specs.Leaving.{let_go, finished_op}
+use Rattle.fs_machine.specs.Moves.{Takes, next, target, head_took, left_behind, left_stand, took, took_by}
+use Rattle.fs_machine.specs.Records.{Stand, Phase, Walking, Placed, Finished, Record, Records, stand_at}
+use Rattle.fs_timeline.specs.Timeline.{commit_count}
 use Rattle.fs_laws.specs.Invariants.{IsUnfinished, VictimAt, HeadsFit}
 use Rattle.fs_laws.specs.States.{State, Run, Start, Beginning, Stepping, Begun, Begins, Begun_as, Seat_busy, Full, No_memory, Reserves, new_op, Step, Stepped, Idle, Took, Busy, LetGo, Helped, Committed, CarriedOut, Returned}
 use Rattle.fs_laws.specs.Work.{one_if, one_walked}
-use Rattle.fs_laws.proofs.Prefixes.{prefix_append}
-use Rattle.fs_laws.proofs.Keeping.{Place, Here, Else, place}
-use Rattle.fs_laws.proofs.Finished.{Either, Changed, Old, either}
-use Rattle.fs_laws.proofs.Taking.{TakesFrom, From_nowhere, From_stand, takes_from}
-use Rattle.fs_laws.proofs.Takes.{Take, Walk, Entry, Source, Dest, Replaced, takes_by}
-use Rattle.fs_laws.proofs.Neat.{Neat, NeatIn, InTurn, IsClosed, in_turn}
-use Rattle.fs_laws.proofs.Headlines.{run_keeps}
-use Rattle.fs_laws.proofs.Accounts.{run_accounts}
+use Rattle.fs_laws.proofs.trees.Prefixes.{prefix_append}
+use Rattle.fs_laws.proofs.events.OneCallChanged.{Place, Here, Else, place}
+use Rattle.fs_laws.proofs.events.JustFinished.{Either, Changed, Old, either}
+use Rattle.fs_laws.proofs.events.Take.{TakesFrom, From_nowhere, From_stand, takes_from}
+use Rattle.fs_laws.proofs.calls.Takes.{Take, Walk, Entry, Source, Dest, Replaced, takes_by}
+use Rattle.fs_laws.proofs.calls.HeadOrder.{Neat, NeatIn, InTurn, IsClosed, in_turn}
+use Rattle.fs_laws.proofs.states.Headline.{run_keeps}
+use Rattle.fs_laws.proofs.states.Agreement.{run_accounts}
 use Rattle.fs_numbers.specs.Holdings.{nodes_held}
 
 -- a parent is held behind only while nothing further is held
@@ -148,7 +148,7 @@ took_order graph op n st new fit neat vic on (Dest p q x l names rem way b arriv
     stand_is : (a b : Stand) → ◌≡◌ {A = Option Stand} (Some a) (Some b) → a ≡ b
     stand_is a b e = cc
 
-    mine : VictimAt graph (Two pairs.Rename p q) st
+    mine : VictimAt graph (AtPair pairs.Rename p q) st
     mine = subst (λ (f : Form). VictimAt graph f st) rem vic
 
     no_victim : st.victim ≡ None

@@ -5,16 +5,16 @@ use Rattle.fs_names.specs.Keys.{Key, after_prefix, has_more, parent_of, last_of}
 use Rattle.fs_names.specs.Names.{Name}
 use Rattle.fs_names.specs.Parts.{is_end, left}
 use Rattle.fs_names.specs.Shapes.{Shape, Dir, File, is_full}
-use Rattle.fs_seq.specs.Forms.{form, Form, On, In, Two, by_text}
-use Rattle.fs_seq.specs.declared.target.EntryCall.{EntryCall}
-use Rattle.fs_seq.specs.declared.target.PairCall.TheVariants as pairs
-use Rattle.fs_seq.specs.Rows.{rename_row}
-use Rattle.fs_seq.specs.declared.errno.Errno.{Errno}
-use Rattle.fs_seq.specs.declared.reply.Reply.{Reply}
+use Rattle.fs_calls.specs.Forms.{form, Form, AtNode, AtEntry, AtPair, by_text}
+use Rattle.fs_calls.specs.declared.target.EntryCall.{EntryCall}
+use Rattle.fs_calls.specs.declared.target.PairCall.TheVariants as pairs
+use Rattle.fs_calls.specs.Rows.{rename_row}
+use Rattle.fs_calls.specs.declared.errno.Errno.{Errno}
+use Rattle.fs_calls.specs.declared.reply.Reply.{Reply}
 use Rattle.fs_nodes.specs.Graphs.{Graph, entry_shape}
-use Rattle.fs_moves.specs.Leaving.{is_removed, cleared, releasing, let_go, unreserved}
-use Rattle.fs_moves.specs.Moves.{Move, Takes, Leaves, Finishes, first_of, target, walk_move, head_move, victim_of, take_if, in_move, there_by, same_kind, dir_error, rename_at, moved_node, rename_move, dir_then, fork_move, target_move, first_walked, last_held, next_by, next, behind_of, head_took, dest_took, source_took, target_took, took_by, took, left_behind, left_heads, left_last, left_stand}
-use Rattle.fs_moves.specs.Records.{Head, Stand, Phase, Walking, Placed, Finished, Record}
+use Rattle.fs_machine.specs.Leaving.{is_removed, cleared, releasing, let_go, unreserved}
+use Rattle.fs_machine.specs.Moves.{Move, Takes, Leaves, Finishes, first_of, target, walk_move, head_move, victim_of, take_if, in_move, there_by, same_kind, dir_error, rename_at, moved_node, rename_move, dir_then, fork_move, target_move, first_walked, last_held, next_by, next, behind_of, head_took, dest_took, source_took, target_took, took_by, took, left_behind, left_heads, left_last, left_stand}
+use Rattle.fs_machine.specs.Records.{Head, Stand, Phase, Walking, Placed, Finished, Record}
 use Rattle.fs_numbers.specs.Renamings.{Renaming, renamed_number, renamed_kids, renamed_graph, renamed_head, renamed_stand, renamed_record, renamed_move}
 use Rattle.fs_numbers.proofs.Edits.{eqb_old, old_at, kid_at, entry_at, released_renamed}
 
@@ -89,9 +89,9 @@ fork_renamed r graph p q st =
     (dir_here r graph st.dest.node (rename_move graph p q st) (rename_move (renamed_graph r graph) p q (renamed_stand r st)) (rename_renamed r graph p q st)))))
 
 target_renamed : (r : Renaming) (graph : Graph) (remaining : Form) (st : Stand) → target_move (renamed_graph r graph) remaining (renamed_stand r st) ≡ renamed_move r (target_move graph remaining st)
-target_renamed r graph (On c p) st = refl
-target_renamed r graph (In c p) st = in_renamed r graph c (last_of p) st
-target_renamed r graph (Two pairs.Rename p q) st = fork_renamed r graph p q st
+target_renamed r graph (AtNode c p) st = refl
+target_renamed r graph (AtEntry c p) st = in_renamed r graph c (last_of p) st
+target_renamed r graph (AtPair pairs.Rename p q) st = fork_renamed r graph p q st
 
 -- what is let go last
 first_walked_renamed : (r : Renaming) (walked : Key) (n m : ℕ) → first_walked walked (r.to n) (r.to m) ≡ r.to (first_walked walked n m)
@@ -135,9 +135,9 @@ source_took_renamed r st [] l n = dest_took_renamed r st l n
 source_took_renamed r st (x ∷ k) l n = ap (λ (h : Head). record (renamed_stand r st) { source = h }) (head_took_renamed r st.source x n)
 
 target_took_renamed : (r : Renaming) (remaining : Form) (st : Stand) (n : ℕ) → target_took remaining (renamed_stand r st) (r.to n) ≡ renamed_stand r (target_took remaining st n)
-target_took_renamed r (On c p) st n = refl
-target_took_renamed r (In c p) st n = refl
-target_took_renamed r (Two pairs.Rename p q) st n = source_took_renamed r st (left st.source.walked (parent_of p)) (left st.dest.walked (parent_of q)) n
+target_took_renamed r (AtNode c p) st n = refl
+target_took_renamed r (AtEntry c p) st n = refl
+target_took_renamed r (AtPair pairs.Rename p q) st n = source_took_renamed r st (left st.source.walked (parent_of p)) (left st.dest.walked (parent_of q)) n
 
 took_by_renamed : (r : Renaming) (op : Record) (stand : Option Stand) (l : Key) (n : ℕ) → took_by (renamed_record r op) (option_map (renamed_stand r) stand) l (r.to n) ≡ renamed_record r (took_by op stand l n)
 took_by_renamed r op None l n = refl

@@ -10,10 +10,10 @@ use Rattle.fs_nodes.specs.Stores.{graph_of, new_shape}
 use Rattle.fs_nodes.proofs.GraphLemmas.{graph_by}
 use Rattle.fs_nodes.proofs.PlaceLemmas.{eqb_true, eqb_refl}
 use Rattle.fs_finish.proofs.UsedLemmas.{kid_used}
-use Rattle.fs_seq.specs.declared.call.Call.{Call}
-use Rattle.fs_ops.specs.Begins.{Reserves}
-use Rattle.fs_moves.specs.Leaving.{unreserved}
-use Rattle.fs_moves.specs.Works.{Work, new_work, BegunAs, IsSpare}
+use Rattle.fs_calls.specs.declared.call.Call.{Call}
+use Rattle.fs_ops.specs.code.Begins.{Reserves}
+use Rattle.fs_machine.specs.Leaving.{unreserved}
+use Rattle.fs_machine.specs.Works.{Work, new_work, BegunAs, IsSpare}
 
 -- ---- numbers in use
 

@@ -4,9 +4,9 @@ use Rattle.fs_names.specs.Names.{same_name}
 use Rattle.fs_names.specs.Keys.{Key, after_prefix, parent_of, last_of}
 use Rattle.fs_names.specs.Parts.{common, left}
 use Rattle.fs_names.proofs.Lemmas.{same_name_refl, same_name_exact}
-use Rattle.fs_seq.specs.Forms.{Form, On, In, Two}
-use Rattle.fs_seq.specs.declared.target.PairCall.TheVariants as pairs
-use Rattle.fs_moves.specs.Moves.{target, tail_of}
+use Rattle.fs_calls.specs.Forms.{Form, AtNode, AtEntry, AtPair}
+use Rattle.fs_calls.specs.declared.target.PairCall.TheVariants as pairs
+use Rattle.fs_machine.specs.Moves.{target, tail_of}
 use Rattle.fs_ops.specs.Views.{first_path, dropped}
 
 -- what is left behind the first names
@@ -48,9 +48,9 @@ common_drop (suc k) (x ∷ a) (y ∷ b) h = go (same_name x y) h (common_drop k 
 
 -- the target of what is left of a call
 pub target_drop : (k : ℕ) (call : Form) → k ≤ length (target call) → target (dropped k call) ≡ drop k (target call)
-target_drop k (On c p) h = refl
-target_drop k (In c p) h = parent_drop k p
-target_drop k (Two pairs.Rename p q) h = rw (parent_drop k p, parent_drop k q) (common_drop k (parent_of p) (parent_of q) h)
+target_drop k (AtNode c p) h = refl
+target_drop k (AtEntry c p) h = parent_drop k p
+target_drop k (AtPair pairs.Rename p q) h = rw (parent_drop k p, parent_drop k q) (common_drop k (parent_of p) (parent_of q) h)
 
 take_all : (p : Key) → take (length p) p ≡ p
 take_all [] = refl
@@ -74,9 +74,9 @@ take_common (x ∷ y ∷ p) (z ∷ b) = go (same_name x z) (take_common (y ∷ p
 
 -- the target, by the first path of the call
 pub target_take : (call : Form) → take (length (target call)) (first_path call) ≡ target call
-target_take (On c p) = take_all p
-target_take (In c p) = take_parent p
-target_take (Two pairs.Rename p q) = take_common p (parent_of q)
+target_take (AtNode c p) = take_all p
+target_take (AtEntry c p) = take_parent p
+target_take (AtPair pairs.Rename p q) = take_common p (parent_of q)
 
 -- a name of the target is one of the first path
 pub take_get : (n k : ℕ) (l : Key) → k < n → slice_get (take n l) k ≡ slice_get l k

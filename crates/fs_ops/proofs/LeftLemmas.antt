@@ -4,17 +4,17 @@ use Rattle.std.specs.Option.{is_some}
 use Rattle.std.proofs.lemmas.Bool.Decides.{nat_tests}
 use Rattle.fs_names.specs.Keys.{Key, parent_of}
 use Rattle.fs_names.specs.Names.{Name}
-use Rattle.fs_seq.specs.Forms.{form, Form, On, In, Two}
-use Rattle.fs_seq.specs.declared.target.PairCall.TheVariants as pairs
-use Rattle.fs_seq.specs.declared.call.Call.{Call}
-use Rattle.fs_seq.specs.declared.reply.Reply.{Reply}
+use Rattle.fs_calls.specs.Forms.{form, Form, AtNode, AtEntry, AtPair}
+use Rattle.fs_calls.specs.declared.target.PairCall.TheVariants as pairs
+use Rattle.fs_calls.specs.declared.call.Call.{Call}
+use Rattle.fs_calls.specs.declared.reply.Reply.{Reply}
 use Rattle.fs_walk.specs.Ways.{Way, ForkWay, has_set_out}
-use Rattle.fs_moves.specs.Leaving.{is_removed, cleared}
-use Rattle.fs_moves.specs.Moves.{left_last, left_stand}
-use Rattle.fs_moves.specs.Records.{Finished}
-use Rattle.fs_ops.specs.Steps.{way_after, fork_after}
+use Rattle.fs_machine.specs.Leaving.{is_removed, cleared}
+use Rattle.fs_machine.specs.Moves.{left_last, left_stand}
+use Rattle.fs_machine.specs.Records.{Finished}
+use Rattle.fs_ops.specs.code.Steps.{way_after, fork_after}
 use Rattle.fs_ops.specs.Views.{Forks, IsForked, work_of, stand_of, stand_with, reply_of}
-use Rattle.fs_moves.specs.Works.{Work, IsLetGo}
+use Rattle.fs_machine.specs.Works.{Work, IsLetGo}
 use Rattle.fs_ops.specs.declared.outcome.Outcome.{Outcome}
 use Rattle.fs_ops.specs.declared.outcome.Outcome.TheVariants.{Open, Fixed}
 use Rattle.fs_finish.proofs.ParentLemmas.{parent_length}
@@ -35,14 +35,14 @@ head_taken names j p h =
 
 -- a fork lets the head that walked last go back; where none has walked, everything goes
 heads_left : (p q : Key) (way : Way) (n : ℕ) (fork : ForkWay) → IsForked p q way fork → way.node ≡ Some n
-    → stand_of (Two pairs.Rename p q) (way_after None (Some fork) way).node (way_after None (Some fork) way).behind (fork_after None (Some fork)) None ≡ left_last (stand_with (Two pairs.Rename p q) n way.behind (Some fork) None) None
+    → stand_of (AtPair pairs.Rename p q) (way_after None (Some fork) way).node (way_after None (Some fork) way).behind (fork_after None (Some fork)) None ≡ left_last (stand_with (AtPair pairs.Rename p q) n way.behind (Some fork) None) None
 heads_left p q way n fork h at = by_dest fork.dest.walked refl
   where
     set_out : Bool → Type 0
     set_out b = has_set_out fork ≡ b
 
     by_source : (k : ℕ) → fork.dest.walked ≡ 0 → fork.source.walked ≡ k
-        → stand_of (Two pairs.Rename p q) (way_after None (Some fork) way).node (way_after None (Some fork) way).behind (fork_after None (Some fork)) None ≡ left_last (stand_with (Two pairs.Rename p q) n way.behind (Some fork) None) None
+        → stand_of (AtPair pairs.Rename p q) (way_after None (Some fork) way).node (way_after None (Some fork) way).behind (fork_after None (Some fork)) None ≡ left_last (stand_with (AtPair pairs.Rename p q) n way.behind (Some fork) None) None
     by_source zero d e = rw (d, e) refl
     by_source (suc k) d e =
         let r : (x : Name) × ((r : Key) × (take (suc k) (drop fork.names p) ≡ x ∷ r)) = head_taken fork.names k p (omega (arith, h.source)) in
@@ -51,7 +51,7 @@ heads_left p q way n fork h at = by_dest fork.dest.walked refl
         rw (d, e, t, at, same, r.1.1) refl
 
     by_dest : (k : ℕ) → fork.dest.walked ≡ k
-        → stand_of (Two pairs.Rename p q) (way_after None (Some fork) way).node (way_after None (Some fork) way).behind (fork_after None (Some fork)) None ≡ left_last (stand_with (Two pairs.Rename p q) n way.behind (Some fork) None) None
+        → stand_of (AtPair pairs.Rename p q) (way_after None (Some fork) way).node (way_after None (Some fork) way).behind (fork_after None (Some fork)) None ≡ left_last (stand_with (AtPair pairs.Rename p q) n way.behind (Some fork) None) None
     by_dest zero d = by_source fork.source.walked d refl
     by_dest (suc k) d =
         let r : (x : Name) × ((r : Key) × (take (suc k) (drop fork.names q) ≡ x ∷ r)) = head_taken fork.names k q (omega (arith, h.dest)) in
@@ -66,9 +66,9 @@ stand_left_at : (call : Form) (way : Way) (fork : Option ForkWay) (victim : Opti
 stand_left_at call way None (Some v) r n h at = rw at refl
 stand_left_at call way (Some fork) (Some v) r n h at = rw at refl
 stand_left_at call way None None r n h at = refl
-stand_left_at (Two pairs.Rename p q) way (Some fork) None r n h at = heads_left p q way n fork h at
-stand_left_at (On c p) way (Some fork) None r n h at = absurd h
-stand_left_at (In c p) way (Some fork) None r n h at = absurd h
+stand_left_at (AtPair pairs.Rename p q) way (Some fork) None r n h at = heads_left p q way n fork h at
+stand_left_at (AtNode c p) way (Some fork) None r n h at = absurd h
+stand_left_at (AtEntry c p) way (Some fork) None r n h at = absurd h
 
 way_of_none : (victim : Option ℕ) (fork : Option ForkWay) (way : Way) → way.node ≡ None → (way_after victim fork way).node ≡ None
 way_of_none (Some v) fork way e = e

@@ -9,22 +9,22 @@ use Rattle.fs_names.specs.Shapes.{Shape, is_full}
 use Rattle.fs_nodes.specs.Graphs.{Graph, entry_shape}
 use Rattle.fs_nodes.specs.Places.{Places}
 use Rattle.fs_nodes.specs.Stores.{graph_of}
-use Rattle.fs_seq.specs.Forms.{form, Form, On, In, Two, by_text}
-use Rattle.fs_seq.specs.declared.target.PairCall.TheVariants as pairs
-use Rattle.fs_seq.specs.declared.target.EntryCall.{EntryCall}
-use Rattle.fs_seq.specs.declared.call.Call.{Call}
-use Rattle.fs_seq.specs.Rows.{from_row, to_row, moves_row}
-use Rattle.fs_seq.specs.declared.errno.Errno.{Errno}
+use Rattle.fs_calls.specs.Forms.{form, Form, AtNode, AtEntry, AtPair, by_text}
+use Rattle.fs_calls.specs.declared.target.PairCall.TheVariants as pairs
+use Rattle.fs_calls.specs.declared.target.EntryCall.{EntryCall}
+use Rattle.fs_calls.specs.declared.call.Call.{Call}
+use Rattle.fs_calls.specs.Rows.{from_row, to_row, moves_row}
+use Rattle.fs_calls.specs.declared.errno.Errno.{Errno}
 use Rattle.fs_walk.specs.declared.want.Want.TheVariants.{Arrived}
 use Rattle.fs_walk.specs.Ways.{Way, ForkWay, name_ahead, fork_last}
 use Rattle.fs_walk.specs.Wants.{want, way_want}
 use Rattle.fs_finish.specs.Endings.{rename_reply}
-use Rattle.fs_moves.specs.Moves.{Move, Finishes, Leaves, there_by, moved_node, take_if, victim_of, target, target_move, first_of, head_move, last_held, next_by}
-use Rattle.fs_ops.specs.Nexts.{way_move, last_move, held_last}
-use Rattle.fs_moves.specs.Records.{Finished}
-use Rattle.fs_ops.specs.Told.{want_then}
+use Rattle.fs_machine.specs.Moves.{Move, Finishes, Leaves, there_by, moved_node, take_if, victim_of, target, target_move, first_of, head_move, last_held, next_by}
+use Rattle.fs_ops.specs.code.Nexts.{way_move, last_move, held_last}
+use Rattle.fs_machine.specs.Records.{Finished}
+use Rattle.fs_ops.specs.code.Told.{want_then}
 use Rattle.fs_ops.specs.Views.{Forks, first_path, dropped, stand_with, stand_of, work_of, reply_of}
-use Rattle.fs_moves.specs.Works.{record_of, next_of}
+use Rattle.fs_machine.specs.Works.{record_of, next_of}
 use Rattle.fs_ops.specs.declared.outcome.Outcome.{Outcome}
 use Rattle.fs_ops.specs.declared.outcome.Outcome.TheVariants.{Open, Fixed}
 use Rattle.fs_ops.proofs.KeyLemmas.{last_drop, target_take}
@@ -54,11 +54,11 @@ stand_victim call n behind None victim = refl
 stand_victim call n behind (Some f) victim = refl
 
 -- a call on an entry at its directory
-pub entry_is_next : (graph : Graph) (call : Form) (c : EntryCall) (p : Key) (way : Way) (fork : Option ForkWay) (victim : Option ℕ) (n : ℕ) (x : Name) → call ≡ In c p → way.names ≡ length (target call) → way.walked ≡ way.names → x ≡ last_of p
+pub entry_is_next : (graph : Graph) (call : Form) (c : EntryCall) (p : Key) (way : Way) (fork : Option ForkWay) (victim : Option ℕ) (n : ℕ) (x : Name) → call ≡ AtEntry c p → way.names ≡ length (target call) → way.walked ≡ way.names → x ≡ last_of p
     → take_if (victim_of c (entry_shape graph n x)) (graph.kid n x) victim (Finishes None) ≡ target_move graph (dropped way.walked call) (stand_with call n way.behind fork victim)
 entry_is_next graph call c p way fork victim n x is names all last =
     let len : way.names ≡ length (parent_of p) = names ∙ ap (λ (f : Form). length (target f)) is in
-    rw is (rw (last, last_drop way.walked p (omega arith), stand_node (In c p) n way.behind fork victim, stand_victim (In c p) n way.behind fork victim) refl)
+    rw is (rw (last, last_drop way.walked p (omega arith), stand_node (AtEntry c p) n way.behind fork victim, stand_victim (AtEntry c p) n way.behind fork victim) refl)
 
 -- a call on its way does what its walk wants
 pub way_is : (graph : Graph) (call : Form) (way : Way) (fork : Option ForkWay) (victim : Option ℕ) (n : ℕ) → way.node ≡ Some n → way.names ≡ length (target call) → way.walked ≤ way.names
@@ -88,21 +88,21 @@ held_is : (call : Form) (way : Way) (fork : Option ForkWay) (victim : Option ℕ
 held_is call way None (Some v) n h at = refl
 held_is call way (Some f) (Some v) n h at = refl
 held_is call way None None n h at = refl
-held_is (On c p) way (Some f) None n h at = absurd h
-held_is (In c p) way (Some f) None n h at = absurd h
-held_is (Two pairs.Rename p q) way (Some f) None n h at = by_dest f.dest.walked refl
+held_is (AtNode c p) way (Some f) None n h at = absurd h
+held_is (AtEntry c p) way (Some f) None n h at = absurd h
+held_is (AtPair pairs.Rename p q) way (Some f) None n h at = by_dest f.dest.walked refl
   where
     same : n ≡ f.node
     same = let i : way.node ≡ Some f.node = h.node in cc
 
-    by_source : (k : ℕ) → f.dest.walked ≡ 0 → f.source.walked ≡ k → last_held (stand_with (Two pairs.Rename p q) n way.behind (Some f) None) None ≡ fork_last f
+    by_source : (k : ℕ) → f.dest.walked ≡ 0 → f.source.walked ≡ k → last_held (stand_with (AtPair pairs.Rename p q) n way.behind (Some f) None) None ≡ fork_last f
     by_source zero d e = rw (d, e) same
     by_source (suc k) d e =
         let r = head_taken f.names k p (omega (arith, h.source)) in
         let t : nat_lt 0 (suc k) ≡ true = grind (arith, nat_tests) in
         rw (d, e, t, r.1.1) refl
 
-    by_dest : (k : ℕ) → f.dest.walked ≡ k → last_held (stand_with (Two pairs.Rename p q) n way.behind (Some f) None) None ≡ fork_last f
+    by_dest : (k : ℕ) → f.dest.walked ≡ k → last_held (stand_with (AtPair pairs.Rename p q) n way.behind (Some f) None) None ≡ fork_last f
     by_dest zero d = by_source f.source.walked d refl
     by_dest (suc k) d =
         let r = head_taken f.names k q (omega (arith, h.dest)) in

@@ -5,12 +5,12 @@ use Rattle.fs_names.specs.Names.{Name}
 use Rattle.fs_names.specs.Shapes.{Shape, Dir, File}
 use Rattle.fs_names.specs.declared.limits.TheConstants.{ENTRY_LIMIT, FILE_LIMIT}
 use Rattle.fs_nodes.specs.Graphs.{Graph, empty_graph}
-use Rattle.fs_seq.specs.Forms.{Form, On, In, Two, form}
-use Rattle.fs_seq.specs.declared.target.PairCall.TheVariants as pairs
-use Rattle.fs_seq.specs.declared.call.Call.{Call}
-use Rattle.fs_seq.specs.declared.reply.Reply.{Reply}
-use Rattle.fs_moves.specs.Records.{Record, Walking, Stand, stand_at}
-use Rattle.fs_moves.specs.Works.{Work, new_work, phase_of, BegunAs, IsTook, CanFinish, HeadsApart, IsBounded}
+use Rattle.fs_calls.specs.Forms.{Form, AtNode, AtEntry, AtPair, form}
+use Rattle.fs_calls.specs.declared.target.PairCall.TheVariants as pairs
+use Rattle.fs_calls.specs.declared.call.Call.{Call}
+use Rattle.fs_calls.specs.declared.reply.Reply.{Reply}
+use Rattle.fs_machine.specs.Records.{Record, Walking, Stand, stand_at}
+use Rattle.fs_machine.specs.Works.{Work, new_work, phase_of, BegunAs, IsTook, CanFinish, HeadsApart, IsBounded}
 
 -- the root alone is within all limits
 no_entries : (b : Bool) (names : List Name) → cond {A = Option Shape} b (Some (Dir [])) None ≡ Some (Dir names) → length names ≤ ENTRY_LIMIT
@@ -26,9 +26,9 @@ empty_bounded = record { entries = λ n names e. no_entries (eqb n 0) names e; b
 
 -- heads that have walked nothing
 unwalked : (f : Form) (n : ℕ) → HeadsApart f (stand_at n None)
-unwalked (On c p) n = tt
-unwalked (In c p) n = tt
-unwalked (Two pairs.Rename p q) n = λ e. refl
+unwalked (AtNode c p) n = tt
+unwalked (AtEntry c p) n = tt
+unwalked (AtPair pairs.Rename p q) n = λ e. refl
 
 open_reply : (o : Option Reply) → phase_of None o ≡ Walking → o ≡ None
 open_reply None e = refl

@@ -5,16 +5,16 @@ use Rattle.std.proofs.lemmas.Bool.Decides.{nat_tests}
 use Rattle.fs_names.specs.Keys.{Key, parent_of}
 use Rattle.fs_names.specs.Names.{Name, same_name}
 use Rattle.fs_names.specs.Parts.{common}
-use Rattle.fs_seq.specs.Forms.{form, Form, On, In, Two}
-use Rattle.fs_seq.specs.declared.target.PairCall.TheVariants as pairs
-use Rattle.fs_seq.specs.declared.call.Call.{Call}
+use Rattle.fs_calls.specs.Forms.{form, Form, AtNode, AtEntry, AtPair}
+use Rattle.fs_calls.specs.declared.target.PairCall.TheVariants as pairs
+use Rattle.fs_calls.specs.declared.call.Call.{Call}
 use Rattle.fs_walk.specs.declared.head.Head as count
 use Rattle.fs_walk.specs.Ways as ways
 use Rattle.fs_walk.specs.Ways.{Way, ForkWay, head_name, way_took, may_take, fork_took, has_arrived}
-use Rattle.fs_moves.specs.Moves.{target, inner, behind_of, head_took, source_took, target_took}
+use Rattle.fs_machine.specs.Moves.{target, inner, behind_of, head_took, source_took, target_took}
 use Rattle.fs_ops.specs.Views.{first_path, dropped, head_of, stand_with, work_of, Forks, IsForked}
-use Rattle.fs_ops.specs.Steps.{started, TakesTo}
-use Rattle.fs_moves.specs.Works.{Work, IsTook}
+use Rattle.fs_ops.specs.code.Steps.{started, TakesTo}
+use Rattle.fs_machine.specs.Works.{Work, IsTook}
 use Rattle.fs_ops.specs.declared.outcome.Outcome.{Outcome}
 use Rattle.fs_ops.proofs.KeyLemmas.{parent_drop, drop_get, tail_drop, target_drop, target_take, take_get}
 use Rattle.fs_ops.proofs.WantLemmas.{left_head}
@@ -51,9 +51,9 @@ parent_some (y ∷ z ∷ p) zero x e = e
 parent_some (y ∷ z ∷ p) (suc i) x e = parent_some (z ∷ p) i x e
 
 inner_dropped : (k : ℕ) (call : Form) → inner (dropped k call) ≡ dropped (k + 1) call
-inner_dropped k (On c p) = ap (On c) (tail_drop k p)
-inner_dropped k (In c p) = ap (In c) (tail_drop k p)
-inner_dropped k (Two pairs.Rename p q) = rw (tail_drop k p, tail_drop k q) refl
+inner_dropped k (AtNode c p) = ap (AtNode c) (tail_drop k p)
+inner_dropped k (AtEntry c p) = ap (AtEntry c) (tail_drop k p)
+inner_dropped k (AtPair pairs.Rename p q) = rw (tail_drop k p, tail_drop k q) refl
 
 -- the root is taken
 pub root_took : (call : Call) (way : Way) (fork : Option ForkWay) (victim reserved removed : Option ℕ) (outcome : Outcome) (n : ℕ) → way.node ≡ None
@@ -101,7 +101,7 @@ head_stepped p names head n x e =
 
 -- the heads of a rename after a take
 pub heads_took : (p q : Key) (n m : ℕ) (behind : Option ℕ) (fork : ForkWay) (victim : Option ℕ) → fork.names + fork.source.walked ≤ length (parent_of p) → fork.names + fork.dest.walked ≤ length (parent_of q)
-    → target_took (dropped fork.names (Two pairs.Rename p q)) (stand_with (Two pairs.Rename p q) m behind (Some fork) victim) n ≡ stand_with (Two pairs.Rename p q) m behind (Some (fork_took p q fork n)) (cond (has_arrived p q fork) (Some n) victim)
+    → target_took (dropped fork.names (AtPair pairs.Rename p q)) (stand_with (AtPair pairs.Rename p q) m behind (Some fork) victim) n ≡ stand_with (AtPair pairs.Rename p q) m behind (Some (fork_took p q fork n)) (cond (has_arrived p q fork) (Some n) victim)
 heads_took p q n m behind fork victim hs hd =
     rw (left_head fork.names fork.source.walked p hs, left_head fork.names fork.dest.walked q hd) (by_source (head_name p fork.names fork.source) refl)
   where
@@ -109,15 +109,15 @@ heads_took p q n m behind fork victim hs hd =
     names r head = ap (λ (l : Key). slice_get l head.walked) (parent_drop fork.names r) ∙ drop_get fork.names head.walked (parent_of r)
 
     by_dest : (o : Option Name) → head_name q fork.names fork.dest ≡ o → head_name p fork.names fork.source ≡ None
-        → source_took (stand_with (Two pairs.Rename p q) m behind (Some fork) victim) (drop fork.source.walked (parent_of (drop fork.names p))) (drop fork.dest.walked (parent_of (drop fork.names q))) n
-        ≡ stand_with (Two pairs.Rename p q) m behind (Some (fork_took p q fork n)) (cond (has_arrived p q fork) (Some n) victim)
+        → source_took (stand_with (AtPair pairs.Rename p q) m behind (Some fork) victim) (drop fork.source.walked (parent_of (drop fork.names p))) (drop fork.dest.walked (parent_of (drop fork.names q))) n
+        ≡ stand_with (AtPair pairs.Rename p q) m behind (Some (fork_took p q fork n)) (cond (has_arrived p q fork) (Some n) victim)
     by_dest None e f = rw (ahead_none (parent_of (drop fork.names p)) fork.source.walked (names p fork.source ∙ f), ahead_none (parent_of (drop fork.names q)) fork.dest.walked (names q fork.dest ∙ e), e, f) refl
     by_dest (Some x) e f =
         rw (ahead_none (parent_of (drop fork.names p)) fork.source.walked (names p fork.source ∙ f), ahead_some (parent_of (drop fork.names q)) fork.dest.walked x (names q fork.dest ∙ e), head_stepped q fork.names fork.dest n x e, e, f) refl
 
     by_source : (o : Option Name) → head_name p fork.names fork.source ≡ o
-        → source_took (stand_with (Two pairs.Rename p q) m behind (Some fork) victim) (drop fork.source.walked (parent_of (drop fork.names p))) (drop fork.dest.walked (parent_of (drop fork.names q))) n
-        ≡ stand_with (Two pairs.Rename p q) m behind (Some (fork_took p q fork n)) (cond (has_arrived p q fork) (Some n) victim)
+        → source_took (stand_with (AtPair pairs.Rename p q) m behind (Some fork) victim) (drop fork.source.walked (parent_of (drop fork.names p))) (drop fork.dest.walked (parent_of (drop fork.names q))) n
+        ≡ stand_with (AtPair pairs.Rename p q) m behind (Some (fork_took p q fork n)) (cond (has_arrived p q fork) (Some n) victim)
     by_source None e = by_dest (head_name q fork.names fork.dest) refl e
     by_source (Some x) e = rw (ahead_some (parent_of (drop fork.names p)) fork.source.walked x (names p fork.source ∙ e), head_stepped p fork.names fork.source n x e, e) refl
 
@@ -135,18 +135,18 @@ common_short (x ∷ a) (y ∷ b) = go (same_name x y) (common_short a b)
     go true h = (omega arith, omega arith)
     go false h = (omega arith, omega arith)
 
-pub started_forked : (p q : Key) (way : Way) (fork : Option ForkWay) (m : ℕ) → way.node ≡ Some m → way.walked ≡ way.names → way.names ≡ length (common (parent_of p) (parent_of q)) → Forks (Two pairs.Rename p q) way fork → IsForked p q way (started fork m way.names)
+pub started_forked : (p q : Key) (way : Way) (fork : Option ForkWay) (m : ℕ) → way.node ≡ Some m → way.walked ≡ way.names → way.names ≡ length (common (parent_of p) (parent_of q)) → Forks (AtPair pairs.Rename p q) way fork → IsForked p q way (started fork m way.names)
 started_forked p q way (Some fork) m at all names forks = forks
 started_forked p q way None m at all names forks =
     let short : (length (common (parent_of p) (parent_of q)) ≤ length (parent_of p)) × (length (common (parent_of p) (parent_of q)) ≤ length (parent_of q)) = common_short (parent_of p) (parent_of q) in
     record { node = at; names = sym all; arrived = all; source = omega arith; dest = omega arith }
 
-pub rename_stands : (p q : Key) (way : Way) (fork : Option ForkWay) (victim : Option ℕ) (n m : ℕ) → way.node ≡ Some m → way.walked ≡ way.names → way.names ≡ length (common (parent_of p) (parent_of q)) → Forks (Two pairs.Rename p q) way fork
-    → target_took (dropped way.walked (Two pairs.Rename p q)) (stand_with (Two pairs.Rename p q) m way.behind fork victim) n
-    ≡ stand_with (Two pairs.Rename p q) m way.behind (Some (fork_took p q (started fork m way.names) n)) (cond (has_arrived p q (started fork m way.names)) (Some n) victim)
+pub rename_stands : (p q : Key) (way : Way) (fork : Option ForkWay) (victim : Option ℕ) (n m : ℕ) → way.node ≡ Some m → way.walked ≡ way.names → way.names ≡ length (common (parent_of p) (parent_of q)) → Forks (AtPair pairs.Rename p q) way fork
+    → target_took (dropped way.walked (AtPair pairs.Rename p q)) (stand_with (AtPair pairs.Rename p q) m way.behind fork victim) n
+    ≡ stand_with (AtPair pairs.Rename p q) m way.behind (Some (fork_took p q (started fork m way.names) n)) (cond (has_arrived p q (started fork m way.names)) (Some n) victim)
 rename_stands p q way fork victim n m at all names forks =
     let heads = started_forked p q way fork m at all names forks in
-    rw (started_stand (Two pairs.Rename p q) m way.names way.behind fork victim, ← heads.names) (heads_took p q n m way.behind (started fork m way.names) victim heads.source heads.dest)
+    rw (started_stand (AtPair pairs.Rename p q) m way.names way.behind fork victim, ← heads.names) (heads_took p q n m way.behind (started fork m way.names) victim heads.source heads.dest)
 
 -- and stay within their paths
 parent_within : (p : Key) (i : ℕ) (x : Name) → slice_get (parent_of p) i ≡ Some x → i + 1 ≤ length (parent_of p)
@@ -164,7 +164,7 @@ took_forked p q way fork n h = by_source (head_name p fork.names fork.source) re
         rw (e, f) (record { node = h.node; names = h.names; arrived = h.arrived; source = h.source; dest = omega arith })
     by_source None e None f = rw (e, f) h
 
-pub rename_forks : (p q : Key) (way : Way) (fork : Option ForkWay) (n m : ℕ) → way.node ≡ Some m → way.walked ≡ way.names → way.names ≡ length (common (parent_of p) (parent_of q)) → Forks (Two pairs.Rename p q) way fork
+pub rename_forks : (p q : Key) (way : Way) (fork : Option ForkWay) (n m : ℕ) → way.node ≡ Some m → way.walked ≡ way.names → way.names ≡ length (common (parent_of p) (parent_of q)) → Forks (AtPair pairs.Rename p q) way fork
     → IsForked p q way (fork_took p q (started fork m way.names) n)
 rename_forks p q way fork n m at all names forks = took_forked p q way (started fork m way.names) n (started_forked p q way fork m at all names forks)
 

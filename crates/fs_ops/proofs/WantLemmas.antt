@@ -4,15 +4,15 @@ use Rattle.fs_names.specs.Names.{Name}
 use Rattle.fs_names.specs.Keys.{Key, parent_of}
 use Rattle.fs_names.specs.Parts.{left}
 use Rattle.fs_names.specs.Shapes.{Shape, Dir, File}
-use Rattle.fs_seq.specs.Forms.{Form}
+use Rattle.fs_calls.specs.Forms.{Form}
 use Rattle.fs_nodes.specs.Graphs.{Graph}
 use Rattle.fs_walk.specs.declared.head.Head.{Head}
 use Rattle.fs_walk.specs.declared.want.Want.{Want}
 use Rattle.fs_walk.specs.declared.want.Want.TheVariants.{Take, LetGo, Arrived, Fails}
 use Rattle.fs_walk.specs.Ways.{Way, head_name, name_ahead}
 use Rattle.fs_walk.specs.Wants.{name_want, head_want, then_want, at_dir, dir_want, want}
-use Rattle.fs_moves.specs.Moves.{Move, first_of, walk_move, head_move, dir_then, target}
-use Rattle.fs_ops.specs.Told.{want_then}
+use Rattle.fs_machine.specs.Moves.{Move, first_of, walk_move, head_move, dir_then, target}
+use Rattle.fs_ops.specs.code.Told.{want_then}
 use Rattle.fs_ops.specs.Views.{first_path, dropped, head_of}
 use Rattle.fs_ops.proofs.KeyLemmas.{left_take, parent_drop, drop_get, target_drop, target_take}
 

@@ -1,35 +1,35 @@
 -- What the code of a call keeps, seen as its work: counts of walked names in the place of keys.
 use Rattle.std.specs.Prelude.{ℕ, ◌≡◌, ◌+◌, ◌≤◌, length, take, drop, Option, Some, None}
 use Rattle.fs_names.specs.Keys.{Key, parent_of}
-use Rattle.fs_seq.specs.Forms.{Form, On, In, Two, form}
-use Rattle.fs_seq.specs.declared.target.PairCall.TheVariants as pairs
-use Rattle.fs_seq.specs.declared.call.Call.{Call}
-use Rattle.fs_seq.specs.declared.reply.Reply.{Reply}
+use Rattle.fs_calls.specs.Forms.{Form, AtNode, AtEntry, AtPair, form}
+use Rattle.fs_calls.specs.declared.target.PairCall.TheVariants as pairs
+use Rattle.fs_calls.specs.declared.call.Call.{Call}
+use Rattle.fs_calls.specs.declared.reply.Reply.{Reply}
 use Rattle.fs_walk.specs.Ways.{Way, ForkWay}
 use Rattle.fs_walk.specs.declared.head.Head as count
 use Rattle.fs_ops.specs.declared.outcome.Outcome.{Outcome}
 use Rattle.fs_ops.specs.declared.outcome.Outcome.TheVariants.{Open, Fixed}
-use Rattle.fs_moves.specs.Moves.{target}
-use Rattle.fs_moves.specs.Records.{Head, Stand, head_at}
+use Rattle.fs_machine.specs.Moves.{target}
+use Rattle.fs_machine.specs.Records.{Head, Stand, head_at}
 use Rattle.fs_finish.specs.Rooms.{Suffices}
-use Rattle.fs_moves.specs.Works.{Work}
+use Rattle.fs_machine.specs.Works.{Work}
 
 -- the path that is walked first, and the one that is walked second
 abbrev pub first_path : Form → Key
-first_path (On c p) = p
-first_path (In c p) = p
-first_path (Two pairs.Rename p q) = p
+first_path (AtNode c p) = p
+first_path (AtEntry c p) = p
+first_path (AtPair pairs.Rename p q) = p
 
 abbrev pub second_path : Form → Key
-second_path (On c p) = p
-second_path (In c p) = p
-second_path (Two pairs.Rename p q) = q
+second_path (AtNode c p) = p
+second_path (AtEntry c p) = p
+second_path (AtPair pairs.Rename p q) = q
 
 -- the form of a call without so many first names of each path
 abbrev pub dropped : ℕ → Form → Form
-dropped n (On c p) = On c (drop n p)
-dropped n (In c p) = In c (drop n p)
-dropped n (Two pairs.Rename p q) = Two pairs.Rename (drop n p) (drop n q)
+dropped n (AtNode c p) = AtNode c (drop n p)
+dropped n (AtEntry c p) = AtEntry c (drop n p)
+dropped n (AtPair pairs.Rename p q) = AtPair pairs.Rename (drop n p) (drop n q)
 
 -- a head that has walked so many names of a path behind those to the common directory
 abbrev pub head_of : Key → ℕ → count.Head → Head
@@ -74,9 +74,9 @@ pub record IsForked (p q : Key) (way : Way) (fork : ForkWay) : Type 0 where
 -- other calls have none
 abbrev pub Forks : Form → Way → Option ForkWay → Type 0
 Forks call way None = Unit {0}
-Forks (Two pairs.Rename p q) way (Some fork) = IsForked p q way fork
-Forks (On c p) way (Some fork) = ⊥
-Forks (In c p) way (Some fork) = ⊥
+Forks (AtPair pairs.Rename p q) way (Some fork) = IsForked p q way fork
+Forks (AtNode c p) way (Some fork) = ⊥
+Forks (AtEntry c p) way (Some fork) = ⊥
 
 -- before the finish there is room for it
 abbrev pub IsReady : Form → Outcome → Type 0

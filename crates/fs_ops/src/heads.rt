@@ -4,22 +4,22 @@ ghost use Rattle.std.specs.Prelude.{◌≡◌, ◌≤◌, ◌+◌, ℕ, [], None
 ghost use Rattle.fs_names.specs.Keys.{parent_of};
 ghost use Rattle.fs_names.specs.Parts.{common, left};
 ghost use Rattle.fs_nodes.specs.Stores.{shape, graph_of, room};
-ghost use Rattle.fs_seq.specs.Forms as forms;
-ghost use Rattle.fs_seq.specs.declared.target.PairCall.TheVariants as pairs;
-ghost use Rattle.fs_seq.specs.Forms.{by_text};
-ghost use Rattle.fs_finish.specs.Endings.{IsMade};
-ghost use Rattle.fs_ops.specs.Counted.{heads_stand};
-ghost use Rattle.fs_moves.specs.Finishes.{rename_made};
-ghost use Rattle.fs_moves.specs.Moves.{dir_error};
-ghost use Rattle.fs_ops.specs.Steps.{started};
+ghost use Rattle.fs_calls.specs.Forms as forms;
+ghost use Rattle.fs_calls.specs.declared.target.PairCall.TheVariants as pairs;
+ghost use Rattle.fs_calls.specs.Forms.{by_text};
+ghost use Rattle.fs_finish.specs.Endings.{IsEffect};
+ghost use Rattle.fs_ops.specs.code.Counted.{heads_stand};
+ghost use Rattle.fs_machine.specs.Finishes.{rename_effect};
+ghost use Rattle.fs_machine.specs.Moves.{dir_error};
+ghost use Rattle.fs_ops.specs.code.Steps.{started};
 
+use fs_calls::Errno;
 use fs_finish::finish::Finish;
-use fs_finish::looking::{dir_fault, walk_error};
-use fs_finish::renaming::rename;
+use fs_finish::queries::{dir_fault, walk_error};
+use fs_finish::rename::rename;
 use fs_finish::text::{last_name, parent_len, paths_of};
 use fs_names::Path;
 use fs_nodes::{NodeNo, Store};
-use fs_seq::errno::Errno;
 use fs_walk::{Fork, Head};
 
 /// The source head; before the heads set out it is at the walk's node.
@@ -65,12 +65,12 @@ pub fn finish_rename(
     reserved: Option<NodeNo>,
     store: &mut Store,
 ) -> Finish
-    requires text { by_text (forms.Two pairs.Rename path.now new_path.now) ≡ None }
+    requires text { by_text (forms.AtPair pairs.Rename path.now new_path.now) ≡ None }
     requires source { names + source.walked ≤ length (parent_of path.now) }
     requires dest { names + dest.walked ≤ length (parent_of new_path.now) }
     requires shared { names ≤ length (common (parent_of path.now) (parent_of new_path.now)) }
     requires apart { source.node ≡ dest.node → take source.walked (drop names path.now) ≡ take dest.walked (drop names new_path.now) }
-    ensures made { IsMade (rename_made (graph_of store.old) (drop names path.now) (drop names new_path.now) (heads_stand path.now new_path.now names source dest victim) reserved []) result (graph_of store.new) }
+    ensures made { IsEffect (rename_effect (graph_of store.old) (drop names path.now) (drop names new_path.now) (heads_stand path.now new_path.now names source dest victim) reserved []) result (graph_of store.new) }
     ensures limit { store.new.limit ≡ store.old.limit }
     ensures room { room store.new ≡ room store.old }
 {

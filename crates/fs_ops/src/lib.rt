@@ -5,23 +5,23 @@
 //! last, `end`. Each of these does what the machine's definitions say, and none of them needs memory. An `Op` knows of
 //! no other call: who holds a node, and whom a rename helps, is decided in `fs_core`.
 //!
-//! Enter at `Op::begin` and `Op::next`. The definitions that the contracts cite are `fs_moves/specs/Works.antt` and
+//! Enter at `Op::begin` and `Op::next`. The definitions that the contracts cite are `fs_machine/specs/Works.antt` and
 //! `Moves.antt`; those in `specs/` here tie the fields of an `Op` to them, and change no meaning.
 #![tactic(auto)]
 
-mod beginning;
-mod carrying;
-mod ending;
-mod finishing;
+mod begin;
+mod carry_out;
+mod end;
+mod finish;
 mod heads;
-mod leaving;
+mod let_go;
 pub mod moves;
 mod next;
 pub mod op;
 mod outcome;
+mod take;
 #[cfg(test)]
 mod tests;
-mod took;
 
 pub use moves::Move;
 pub use op::Op;

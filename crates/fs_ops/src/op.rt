@@ -3,8 +3,8 @@
 ghost use Rattle.std.specs.Prelude.{◌≡◌, is_some, option_map};
 
 use crate::outcome::Outcome;
+use fs_calls::Call;
 use fs_nodes::NodeNo;
-use fs_seq::Call;
 use fs_walk::{Fork, Walk};
 use std::marker::Model;
 
@@ -21,8 +21,8 @@ pub struct Op {
 }
 
 impl Model for Op {
-    ghost use Rattle.fs_seq.specs.Forms.{form};
-    ghost use Rattle.fs_moves.specs.Works.{Work};
+    ghost use Rattle.fs_calls.specs.Forms.{form};
+    ghost use Rattle.fs_machine.specs.Works.{Work};
     ghost use Rattle.fs_ops.specs.Views.{work_of, IsOp};
 
     ghost Value = { Work };

@@ -1,10 +1,9 @@
 //! Calls from their begin to their end, with ample memory.
 
 use crate::op::Op;
+use fs_calls::{Call, Errno, Reply};
 use fs_names::{Kind, Path, PathFault};
 use fs_nodes::{NoNode, NodeNo, Store};
-use fs_seq::errno::Errno;
-use fs_seq::{Call, Reply};
 use std::alloc::AllocError;
 
 #[derive(Debug, Drop)]

@@ -2,7 +2,7 @@
 use Rattle.std.proofs.Common.{◌≡◌, ℕ, ◌<◌, ◌≤◌, ltb, ⊎_elim, Bool, true, false, List, length, Option, Some, None, Result, Ok, Err, refl, sym, ap, ◌∙◌, subst, arith}
 use Rattle.std.specs.Prelude.{IfSome}
 use Rattle.std.proofs.lemmas.Bool.{cond-true, lt-ltb, ltb-true, ltb-false}
-use Rattle.fs_journal.specs.declared.verdict.Verdict.{Verdict}
+use Rattle.fs_timeline.specs.declared.verdict.Verdict.{Verdict}
 use Rattle.fs_text.specs.Journal.{entries_of, fault_at}
 use Rattle.fs_text.specs.declared.fault.ScriptFault.{ScriptFault}
 use Rattle.fs_text.specs.declared.fault.FaultKind.TheVariants as kind

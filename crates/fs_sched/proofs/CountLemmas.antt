@@ -1,6 +1,6 @@
 -- The number of calls, list by list.
 use Rattle.std.proofs.Common.{◌≡◌, ℕ, zero, suc, ◌+◌, ◌<◌, min, List, [], ◌∷◌, length, map, take, get_or, sym, ap, ◌∙◌, arith}
-use Rattle.fs_seq.specs.declared.call.Call.{Call}
+use Rattle.fs_calls.specs.declared.call.Call.{Call}
 use Rattle.fs_sched.specs.Runs.{calls_in}
 
 pub calls_more : {V : Type 0} (f : V → List Call) (xs : List V) (i : ℕ) (d : V) → i < length xs → calls_in (map f (take (suc i) xs)) ≡ calls_in (map f (take i xs)) + length (f (get_or xs i d))

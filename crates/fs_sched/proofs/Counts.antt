@@ -3,24 +3,24 @@ use Rattle.std.proofs.Common.{◌≡◌, ℕ, zero, suc, ◌+◌, ◌≤◌, ◌
 use Rattle.std.proofs.lemmas.List.Sums.{sum_by_push}
 use Rattle.fs_names.specs.Keys.{Key}
 use Rattle.fs_names.specs.Shapes.{Shape}
-use Rattle.fs_seq.specs.Forms.{form, reserves}
-use Rattle.fs_seq.specs.declared.call.Call.{Call}
-use Rattle.fs_seq.specs.declared.reply.Reply.{Reply}
+use Rattle.fs_calls.specs.Forms.{form, reserves}
+use Rattle.fs_calls.specs.declared.call.Call.{Call}
+use Rattle.fs_calls.specs.declared.reply.Reply.{Reply}
 use Rattle.fs_nodes.specs.Graphs.{Graph, set_at, reserved_in}
-use Rattle.fs_journal.specs.declared.entry.Entry.{Entry}
-use Rattle.fs_journal.specs.declared.entry.Entry.TheVariants.{Begin, Commit, Return}
-use Rattle.fs_moves.specs.Finishes.{finish}
-use Rattle.fs_moves.specs.Leaving.{let_go, finished_op}
-use Rattle.fs_moves.specs.Moves.{target, took, took_by}
-use Rattle.fs_moves.specs.Records.{Stand, Phase, Walking, Placed, Finished, Record, Records}
-use Rattle.fs_laws.specs.Books.{begins, commit_count}
+use Rattle.fs_timeline.specs.declared.entry.Entry.{Entry}
+use Rattle.fs_timeline.specs.declared.entry.Entry.TheVariants.{Begin, Commit, Return}
+use Rattle.fs_machine.specs.Finishes.{finish}
+use Rattle.fs_machine.specs.Leaving.{let_go, finished_op}
+use Rattle.fs_machine.specs.Moves.{target, took, took_by}
+use Rattle.fs_machine.specs.Records.{Stand, Phase, Walking, Placed, Finished, Record, Records}
+use Rattle.fs_timeline.specs.Timeline.{begins, commit_count}
 use Rattle.fs_laws.specs.Headline.{IsIdle}
 use Rattle.fs_laws.specs.States.{State, Run, Start, Beginning, Stepping, Begun, Begins, Begun_as, Seat_busy, Full, No_memory, Reserves, began, new_op, Step, Stepped, Idle, Took, Busy, LetGo, Helped, Committed, CarriedOut, Returned, taking, letting_go, helping, carrying, committing, returning}
 use Rattle.fs_laws.specs.Work.{total}
-use Rattle.fs_laws.proofs.Books.{returns_begins, begins_begins}
-use Rattle.fs_laws.proofs.CallGraphs.{begun_before}
-use Rattle.fs_laws.proofs.Choosing.{up_to}
-use Rattle.fs_laws.proofs.Helping.{upd_here, upd_else, begins_push}
+use Rattle.fs_laws.proofs.journal.OneMoreEntry.{returns_begins, begins_begins}
+use Rattle.fs_laws.proofs.states.GraphOfARun.{begun_before}
+use Rattle.fs_laws.proofs.helping.WhomToHelp.{up_to}
+use Rattle.fs_laws.proofs.events.Help.{upd_here, upd_else, begins_push}
 use Rattle.fs_sched.specs.RunTexts.{is_of, number_of}
 use Rattle.fs_sched.specs.declared.texts.EntryKind.{EntryKind}
 use Rattle.fs_sched.specs.declared.texts.EntryKind.TheVariants as kind

@@ -1,16 +1,16 @@
 -- Rounds to the end come to an end: each leaves less to do.
 use Rattle.std.proofs.Common.{◌≡◌, ℕ, zero, suc, ◌+◌, ◌<◌, ◌≤◌, ◌||◌, Bool, true, false, List, [], ◌∷◌, length, drop, get_or, slice_get, slice_set, is_some, Option, Some, None, refl, sym, ap, ap₂, ◌∙◌, subst, arith}
 use Rattle.std.specs.List.{range_with_len}
-use Rattle.fs_seq.specs.Forms.{form}
-use Rattle.fs_seq.specs.declared.call.Call.{Call}
-use Rattle.fs_moves.specs.Records.{Record}
+use Rattle.fs_calls.specs.Forms.{form}
+use Rattle.fs_calls.specs.declared.call.Call.{Call}
+use Rattle.fs_machine.specs.Records.{Record}
 use Rattle.fs_laws.specs.Progress.{GoesOn, SomebodyGoesOn}
 use Rattle.fs_laws.specs.States.{State, Run, Beginning, Stepping, Begins, Begun_as, Step, Stepped, Idle, Took, Busy, LetGo, Helped, Committed, CarriedOut, Returned}
 use Rattle.fs_laws.specs.Work.{work, first_work}
-use Rattle.fs_laws.proofs.Determined.{one_step}
-use Rattle.fs_laws.proofs.Headlines.{run_keeps}
-use Rattle.fs_laws.proofs.Waiting.{never_stuck}
-use Rattle.fs_laws.proofs.Working.{takes_work, adds_work}
+use Rattle.fs_laws.proofs.calls.StepsAreDetermined.{one_step}
+use Rattle.fs_laws.proofs.states.Headline.{run_keeps}
+use Rattle.fs_laws.proofs.states.Waiters.{never_stuck}
+use Rattle.fs_laws.proofs.states.StepsTakeWork.{takes_work, adds_work}
 use Rattle.fs_sched.specs.Runs.{Stage, next_call, has_more, Event, Goes, Starts, Spent, Events, Round, IsUnfinished}
 
 -- ---- how much is left to do

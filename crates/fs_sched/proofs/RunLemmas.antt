@@ -9,7 +9,7 @@ use Rattle.fs_script.specs.Script.{script_of}
 use Rattle.fs_script.specs.declared.script.Script.{Script}
 use Rattle.fs_sched.specs.Devices.{IsSameText, WritesBeginning}
 use Rattle.fs_sched.specs.Runs.{IsRunOf}
-use Rattle.fs_sched.specs.Stages.{IsFaultOrRefusal}
+use Rattle.fs_sched.specs.code.Stages.{IsFaultOrRefusal}
 use Rattle.fs_sched.specs.declared.fault.RunFault.{RunFault}
 use Rattle.fs_sched.specs.declared.fault.RunFault.TheVariants.{Input}
 use Rattle.fs_sched.specs.declared.running.RunEnd.{RunEnd}

@@ -1,6 +1,6 @@
 -- The text of a run, piece by piece.
 use Rattle.std.proofs.Common.{◌≡◌, ℕ, List, [], ◌++◌, ap, ◌∙◌, append_assoc}
-use Rattle.fs_journal.specs.declared.entry.Entry.{Entry}
+use Rattle.fs_timeline.specs.declared.entry.Entry.{Entry}
 use Rattle.fs_nodes.specs.Graphs.{Graph}
 use Rattle.fs_text.specs.Journal.{journal_text}
 use Rattle.fs_script.specs.TreeText.{tree_text, AppendsTree}

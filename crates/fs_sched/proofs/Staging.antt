@@ -5,8 +5,8 @@ use Rattle.std.proofs.lemmas.List.{at_drop_more}
 use Rattle.std.proofs.lemmas.Option.{slice_get_past, slice_get-get_or}
 use Rattle.std.proofs.lemmas.Bool.{ltb-true, ltb-false}
 use Rattle.std.specs.Option.{option_flatten}
-use Rattle.fs_seq.specs.declared.call.Call.{Call}
-use Rattle.fs_core.specs.declared.running.Running.{Running}
+use Rattle.fs_calls.specs.declared.call.Call.{Call}
+use Rattle.fs_core.specs.declared.seat.Running.{Running}
 use Rattle.fs_core.specs.Machines.{number_of, number_on}
 use Rattle.fs_script.specs.declared.script.Word.{Word}
 use Rattle.fs_sched.specs.Runs.{Stage, next_call, Event, Spent, Events, IsOver, IsUnfinished, ToEnd, More, Round}
@@ -14,7 +14,7 @@ use Rattle.rand_core.specs.Steps.{first_words}
 use Rattle.rand_pcg.specs.Lcg.{Lcg}
 use Rattle.fs_sched.specs.Schedules.{word_seats, given_seats, seats_from}
 use Rattle.fs_sched.specs.declared.schedule.TheConstants.{DRAW_LIMIT}
-use Rattle.fs_sched.specs.Stages.{stage_of, IsSeated}
+use Rattle.fs_sched.specs.code.Stages.{stage_of, IsSeated}
 use Rattle.fs_sched.specs.declared.play.Play.{Play}
 use Rattle.fs_sched.proofs.Rounds.{AreSeats}
 

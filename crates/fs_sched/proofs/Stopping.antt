@@ -1,7 +1,7 @@
 -- Events up to a begin that finds no number free, as loops do them.
 use Rattle.std.proofs.Common.{◌≡◌, ℕ, List, [], ◌∷◌, ◌++◌, inl, inr, length, get_or, drop, ◌<◌, ◌+◌, sym, subst}
 use Rattle.std.proofs.lemmas.List.{at_drop_more}
-use Rattle.fs_seq.specs.declared.call.Call.{Call}
+use Rattle.fs_calls.specs.declared.call.Call.{Call}
 use Rattle.fs_script.specs.declared.script.Word.{Word}
 use Rattle.fs_sched.specs.Runs.{Stage, Event, Events, Round, IsUnfinished, IsRefused, Stops, StopsInRounds, InLater}
 use Rattle.fs_sched.specs.Schedules.{word_seats, given_seats}

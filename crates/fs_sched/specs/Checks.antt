@@ -1,11 +1,11 @@
 -- The verdict on a journal text, and its line.
 use Rattle.std.specs.Prelude.{ℕ, Bool, true, false, List, ◌++◌, Result, Ok, Err, codes, decimal}
-use Rattle.fs_journal.specs.Verdicts.{verdict}
-use Rattle.fs_journal.specs.declared.entry.Entry.{Entry}
-use Rattle.fs_journal.specs.declared.verdict.Verdict.{Verdict}
-use Rattle.fs_journal.specs.declared.verdict.Verdict.TheVariants.{Lawful, Fault}
-use Rattle.fs_journal.specs.declared.verdict.FaultKind.{FaultKind}
-use Rattle.fs_journal.specs.declared.verdict.FaultKind.TheVariants as kind
+use Rattle.fs_timeline.specs.Verdicts.{verdict}
+use Rattle.fs_timeline.specs.declared.entry.Entry.{Entry}
+use Rattle.fs_timeline.specs.declared.verdict.Verdict.{Verdict}
+use Rattle.fs_timeline.specs.declared.verdict.Verdict.TheVariants.{Lawful, Fault}
+use Rattle.fs_timeline.specs.declared.verdict.FaultKind.{FaultKind}
+use Rattle.fs_timeline.specs.declared.verdict.FaultKind.TheVariants as kind
 use Rattle.fs_text.specs.Journal.{entries_of}
 use Rattle.fs_text.specs.declared.fault.ScriptFault.{ScriptFault}
 

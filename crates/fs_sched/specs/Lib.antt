@@ -5,6 +5,6 @@ pub mod Schedules
 pub mod RunTexts
 pub mod Runs
 pub mod Seeds
-pub mod Stages
 pub mod EachRun
 pub mod Laws
+pub mod code

@@ -1,11 +1,11 @@
 -- The text of a run.
 use Rattle.std.specs.Prelude.{ℕ, ◌≡◌, Bool, true, false, List, ◌++◌, codes, decimal}
 use Rattle.std.specs.List.{count_by}
-use Rattle.fs_journal.specs.declared.entry.Entry.{Entry}
-use Rattle.fs_journal.specs.declared.entry.Entry.TheVariants.{Begin, Commit, Return}
+use Rattle.fs_timeline.specs.declared.entry.Entry.{Entry}
+use Rattle.fs_timeline.specs.declared.entry.Entry.TheVariants.{Begin, Commit, Return}
 use Rattle.fs_sched.specs.declared.texts.EntryKind.{EntryKind}
 use Rattle.fs_sched.specs.declared.texts.EntryKind.TheVariants as kind
-use Rattle.fs_seq.specs.Tree.{Tree}
+use Rattle.fs_calls.specs.Tree.{Tree}
 use Rattle.fs_nodes.specs.Graphs.{Graph}
 use Rattle.fs_text.specs.Journal.{journal_text}
 use Rattle.fs_script.specs.TreeText.{tree_text, IsSpelled}

@@ -1,9 +1,9 @@
 -- The lines of drawn runs.
 use Rattle.std.specs.Prelude.{ℕ, ◌≡◌, ◌+◌, ◌≤◌, ◌<◌, List, ◌++◌, Ok, codes, decimal}
 use Rattle.std.specs.List.{flat_map, range_with_len}
-use Rattle.fs_journal.specs.Verdicts.{verdict}
-use Rattle.fs_journal.specs.declared.verdict.Verdict.{Verdict}
-use Rattle.fs_journal.specs.declared.verdict.Verdict.TheVariants.{Lawful}
+use Rattle.fs_timeline.specs.Verdicts.{verdict}
+use Rattle.fs_timeline.specs.declared.verdict.Verdict.{Verdict}
+use Rattle.fs_timeline.specs.declared.verdict.Verdict.TheVariants.{Lawful}
 use Rattle.fs_script.specs.Script.{script_of}
 use Rattle.fs_script.specs.declared.script.Script.{Script}
 use Rattle.fs_sched.specs.Checks.{verdict_line}

@@ -11,8 +11,9 @@ use crate::fault::{RunFault, run_fault};
 use crate::reading::read_text;
 use crate::verdict_line::{is_lawful, verdict_line};
 use crate::writing::write_text;
-use fs_journal::{Verdict, check};
+use fs_journal::check;
 use fs_text::read_entries;
+use fs_timeline::Verdict;
 use std::alloc::Global;
 
 /// The verdict on a journal text.

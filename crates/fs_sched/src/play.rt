@@ -7,14 +7,14 @@ ghost use Rattle.fs_core.specs.Machines.{state_of};
 ghost use Rattle.fs_laws.specs.States.{empty};
 ghost use Rattle.fs_sched.specs.Runs.{start, has_more, Event, Events, Round, IsOver, IsUnfinished, ToEnd, RunsFrom, IsRefused, Stops, StopsInRounds, StopsFrom};
 ghost use Rattle.fs_sched.specs.Schedules.{word_seats, given_seats, drawn_seats, seats_before};
-ghost use Rattle.fs_sched.specs.Stages.{stage_of, IsSeated, IsRefusal};
+ghost use Rattle.fs_sched.specs.code.Stages.{stage_of, IsSeated, IsRefusal};
 
 use crate::fault::RunFault;
 use crate::schedule::{DRAW_LIMIT, Draws, Schedule};
+use fs_calls::Call;
 use fs_core::{Core, Refusal};
 use fs_names::SeatNo;
 use fs_script::{CallLists, Script, Word};
-use fs_seq::Call;
 use std::alloc::{AllocError, Global};
 
 /// The core, with a seat for each thread, and how many calls of each thread have begun.

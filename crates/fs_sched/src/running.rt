@@ -7,7 +7,7 @@ ghost use Rattle.fs_script.specs.Script.{script_of};
 ghost use Rattle.fs_sched.specs.Devices.{WritesBeginning};
 ghost use Rattle.fs_sched.specs.Runs.{Runs, calls_in, end_of, IsOutput, IsRunOf, IsWhole, HasFinish, FillsUp, ReachesFull};
 ghost use Rattle.fs_sched.specs.EachRun.{AreOfTheRun};
-ghost use Rattle.fs_sched.specs.Stages.{stage_of, IsRefusal, IsFaultOrRefusal};
+ghost use Rattle.fs_sched.specs.code.Stages.{stage_of, IsRefusal, IsFaultOrRefusal};
 
 use crate::device::{Sink, Source};
 use crate::fault::{RunFault, run_fault};
@@ -16,9 +16,9 @@ use crate::reading::read_text;
 use crate::schedule::Schedule;
 use crate::texts::{EntryKind, number_of, run_text};
 use crate::writing::write_text;
-use fs_journal::Entry;
+use fs_calls::Call;
 use fs_script::{Script, read_script};
-use fs_seq::Call;
+use fs_timeline::Entry;
 use std::alloc::Global;
 
 /// How a run ended: how many calls began, took their place and returned, of how many calls of the script.

@@ -7,7 +7,7 @@ ghost use Rattle.fs_script.specs.Script.{script_of};
 ghost use Rattle.fs_sched.specs.Devices.{WritesBeginning};
 ghost use Rattle.fs_sched.specs.Runs.{FillsUp};
 ghost use Rattle.fs_sched.specs.Seeds.{seed_line, lawful_line, IsLawfulFrom, AreLawful, AreRunsOf, OneFillsUp, OneReachesFull};
-ghost use Rattle.fs_sched.specs.Stages.{IsRefusal, IsFaultOrRefusal};
+ghost use Rattle.fs_sched.specs.code.Stages.{IsRefusal, IsFaultOrRefusal};
 
 use crate::device::{Sink, Source};
 use crate::fault::{RunFault, run_fault};
@@ -16,9 +16,10 @@ use crate::running::play;
 use crate::schedule::Schedule;
 use crate::verdict_line::{is_lawful, push_verdict};
 use crate::writing::write_text;
-use fs_journal::{Verdict, check};
+use fs_journal::check;
 use fs_script::{Script, read_script};
 use fs_text::Addition;
+use fs_timeline::Verdict;
 use std::alloc::{AllocError, Global};
 
 /// The greatest number that a first run is drawn from.

@@ -5,10 +5,10 @@ ghost use Rattle.fs_nodes.specs.Stores.{graph_of};
 ghost use Rattle.fs_text.specs.Journal.{journal_text};
 ghost use Rattle.fs_sched.specs.RunTexts.{is_of, number_of, counts_line, end_line, IsRunText};
 
-use fs_journal::Entry;
 use fs_nodes::Store;
 use fs_script::{write_entry, write_tree};
 use fs_text::Addition;
+use fs_timeline::Entry;
 use std::alloc::{AllocError, Global};
 
 /// The kinds of entries.

@@ -3,8 +3,8 @@
 ghost use Rattle.std.specs.Prelude.{◌≡◌, ◌++◌, OnOk, IfOk};
 ghost use Rattle.fs_sched.specs.Checks.{kind_word, is_lawful, verdict_line};
 
-use fs_journal::{FaultKind, Verdict};
 use fs_text::Addition;
+use fs_timeline::{FaultKind, Verdict};
 use std::alloc::{AllocError, Global};
 
 pub(crate) fn is_lawful(verdict: &Verdict) -> bool

@@ -9,9 +9,9 @@ use Rattle.fs_names.specs.Keys.{Key}
 use Rattle.fs_names.specs.Shapes.{Shape}
 use Rattle.fs_names.specs.Shapes as shapes
 use Rattle.fs_names.proofs.Lemmas.{same_name_exact}
-use Rattle.fs_seq.specs.Shapes.{seen}
-use Rattle.fs_seq.specs.Graph.{Place, links_of, place_at, shape_of, links_at, child, walk_from, walk, node_at, shape_at, tree_of, IsForest}
-use Rattle.fs_seq.specs.Graph as forest
+use Rattle.fs_calls.specs.Shapes.{seen}
+use Rattle.fs_seq.specs.code.Graph.{Place, links_of, place_at, shape_of, links_at, child, walk_from, walk, node_at, shape_at, tree_of, IsForest}
+use Rattle.fs_seq.specs.code.Graph as forest
 use Rattle.fs_seq.proofs.GraphLemmas.{walk-append}
 use Rattle.fs_seq.proofs.ForestTrees.{forest_tree}
 use Rattle.fs_seq.proofs.Resolving.{seen_at, seen_none}
@@ -26,7 +26,7 @@ use Rattle.fs_nodes.proofs.AscentLemmas.{Ascends, names_ascend}
 use Rattle.fs_nodes.proofs.PlaceLemmas.{kid_link, names_kid, read_within}
 use Rattle.fs_nodes.proofs.EditLemmas.{past_shape}
 use Rattle.fs_script.specs.TreeText.{IsSpelled}
-use Rattle.fs_script.specs.Walks.{number_or, links, place_of, places_from, forest_of}
+use Rattle.fs_script.specs.code.Walks.{number_or, links, place_of, places_from, forest_of}
 
 -- ---- the forest
 

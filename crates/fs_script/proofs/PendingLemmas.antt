@@ -6,9 +6,9 @@ use Rattle.fs_names.specs.Names.{Name}
 use Rattle.fs_names.specs.Keys.{Key, names_text}
 use Rattle.fs_text.specs.Words.{escaped, path_word}
 use Rattle.fs_text.proofs.WriteLemmas.{escaped_append, slash_escaped}
-use Rattle.fs_seq.specs.Graph.{Place, links_of, node_of, place_at, links_at, child, walk_from, walk, node_at, spelled, keys_from, with_node, nodes_at, tree_of, IsForest}
-use Rattle.fs_seq.specs.Graph as forest
-use Rattle.fs_script.specs.Walks.{key_above, Leads, links_above, keys_behind, pending}
+use Rattle.fs_seq.specs.code.Graph.{Place, links_of, node_of, place_at, links_at, child, walk_from, walk, node_at, spelled, keys_from, with_node, nodes_at, tree_of, IsForest}
+use Rattle.fs_seq.specs.code.Graph as forest
+use Rattle.fs_script.specs.code.Walks.{key_above, Leads, links_above, keys_behind, pending}
 use Rattle.fs_script.specs.declared.tree.Step.{Step}
 
 -- ---- paths

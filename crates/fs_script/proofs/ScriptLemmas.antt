@@ -4,11 +4,11 @@ use Rattle.std.specs.Prelude.{zero, suc}
 use Rattle.std.specs.List.{list_any, prefix_len}
 use Rattle.std.specs.Str.{bytes_eq}
 use Rattle.std.specs.Prelude.{MatchResult}
-use Rattle.fs_seq.specs.declared.call.Call.{Call}
+use Rattle.fs_calls.specs.declared.call.Call.{Call}
 use Rattle.fs_text.specs.Lines.{is_passed_over}
 use Rattle.fs_text.specs.Calls.{◌>>=◌}
 use Rattle.fs_text.specs.Journal.{at_line, fault_at}
-use Rattle.fs_text.specs.Answers.{Pushes, FailsAs, FailsThere}
+use Rattle.fs_text.specs.code.Answers.{Pushes, FailsAs, FailsThere}
 use Rattle.fs_script.specs.Script.{with_call, script_from, step_in_line}
 use Rattle.fs_script.specs.declared.draft.Draft.{Draft}
 use Rattle.fs_script.specs.declared.script.Script.{Script}

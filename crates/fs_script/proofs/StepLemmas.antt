@@ -6,9 +6,9 @@ use Rattle.fs_names.specs.Keys.{Key}
 use Rattle.fs_names.specs.Shapes.{Shape, names_of, is_dir, is_there}
 use Rattle.fs_names.specs.Shapes as shapes
 use Rattle.fs_text.proofs.WriteLemmas.{root_word}
-use Rattle.fs_seq.specs.Tree.{Node, Tree}
-use Rattle.fs_seq.specs.Tree as tree
-use Rattle.fs_seq.specs.Graph.{links_of, node_of, links_at, walk, spelled, keys_from, with_node, nodes_at, tree_of, IsForest}
+use Rattle.fs_calls.specs.Tree.{Node, Tree}
+use Rattle.fs_calls.specs.Tree as tree
+use Rattle.fs_seq.specs.code.Graph.{links_of, node_of, links_at, walk, spelled, keys_from, with_node, nodes_at, tree_of, IsForest}
 use Rattle.fs_seq.proofs.GraphLemmas.{shorter}
 use Rattle.fs_seq.proofs.Resolving as resolving
 use Rattle.fs_nodes.specs.Graphs.{Kids}
@@ -16,7 +16,7 @@ use Rattle.fs_nodes.specs.Stores.{IsStore, is_above, names_above, kid_in, shape_
 use Rattle.fs_nodes.specs.declared.node.Node as stored
 use Rattle.fs_nodes.proofs.PlaceLemmas.{kid_link, read_within}
 use Rattle.fs_script.specs.TreeText.{node_line, tree_text}
-use Rattle.fs_script.specs.Walks.{number_or, links, place_of, forest_of, node_seen, WalkPlace, key_above, Leads, links_above, pending, pending_at, text_at, Goes, Steps, visited, row_text, IsUp, at_root}
+use Rattle.fs_script.specs.code.Walks.{number_or, links, place_of, forest_of, node_seen, WalkPlace, key_above, Leads, links_above, pending, pending_at, text_at, Goes, Steps, visited, row_text, IsUp, at_root}
 use Rattle.fs_script.specs.declared.tree.Step.{Step}
 use Rattle.fs_script.proofs.ForestLemmas.{place_in, child_kid, store_forest}
 use Rattle.fs_script.proofs.RisingLemmas.{walked_rows}

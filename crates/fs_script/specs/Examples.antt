@@ -4,8 +4,8 @@ use Prim.Native.String.{String}
 use Rattle.fs_names.specs.Reading.{names}
 use Rattle.fs_names.specs.Keys.{Key}
 use Rattle.fs_names.specs.declared.fault.PathFault.TheVariants.{Nul, TrailingSlash}
-use Rattle.fs_seq.specs.declared.call.Call.TheVariants.{Mkdir, Mknod, Unlink, Rmdir, Rename, Stat, Readdir, Read, Write, Truncate}
-use Rattle.fs_seq.specs.Outcomes.{play}
+use Rattle.fs_calls.specs.declared.call.Call.TheVariants.{Mkdir, Mknod, Unlink, Rmdir, Rename, Stat, Readdir, Read, Write, Truncate}
+use Rattle.fs_calls.specs.Outcomes.{play}
 use Rattle.fs_text.specs.Journal.{fault_at}
 use Rattle.fs_text.specs.declared.fault.ScriptFault.{ScriptFault}
 use Rattle.fs_text.specs.declared.fault.FaultKind.{FaultKind}

@@ -1,5 +1,5 @@
 pub mod Script
 pub mod TreeText
-pub mod Walks
 pub mod Examples
 pub mod Limits
+pub mod code

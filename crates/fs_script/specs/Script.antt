@@ -2,7 +2,7 @@
 use Rattle.std.specs.Prelude.{ℕ, ◌+◌, Bool, true, false, not, ◌&&◌, ◌||◌, ◌==◌, nat_lt, nat_le, List, [], ◌∷◌, ◌++◌, length, take, drop, Result, Ok, Err, Option, Some, None, if◌then◌else◌, codes, position}
 use Rattle.std.specs.List.{list_all, list_any}
 use Rattle.std.specs.Str.{bytes_eq}
-use Rattle.fs_seq.specs.declared.call.Call.{Call}
+use Rattle.fs_calls.specs.declared.call.Call.{Call}
 use Rattle.fs_text.specs.Lines.{lines_of, is_passed_over}
 use Rattle.fs_text.specs.Words.{Word, number_of}
 use Rattle.fs_text.specs.Calls.{◌>>=◌, call_of}

@@ -2,8 +2,8 @@
 use Rattle.std.specs.Prelude.{◌≡◌, ℕ, List, [], ◌∷◌, ◌++◌, codes}
 use Rattle.std.specs.List.{flat_map}
 use Rattle.fs_names.specs.Keys.{Key}
-use Rattle.fs_seq.specs.Tree.{Tree, Node, Dir, File, IsTree}
-use Rattle.fs_seq.specs.Shapes.{seen}
+use Rattle.fs_calls.specs.Tree.{Tree, Node, Dir, File, IsTree}
+use Rattle.fs_calls.specs.Shapes.{seen}
 use Rattle.fs_nodes.specs.Graphs.{Graph, spell}
 use Rattle.fs_text.specs.Lines.{line_text}
 use Rattle.fs_text.specs.Words.{Word, hex_word, path_word}

@@ -3,11 +3,11 @@
 ghost use Rattle.std.specs.Prelude.{◌≡◌, ◌<◌, length, map, position, MatchOption, true, false};
 ghost use Rattle.std.specs.List.{list_all};
 ghost use Rattle.fs_script.specs.Script.{nothing_yet, is_lower, is_thread_byte, is_thread, is_star, new_thread, thread_line, schedule_line, counted_call, call_line, block_line, counted_events, events_word, schedule_word, schedule_words, line_step, step_in_line};
-ghost use Rattle.fs_text.specs.Answers.{Becomes};
+ghost use Rattle.fs_text.specs.code.Answers.{Becomes};
 
 use crate::limits::{CALL_LIMIT, EVENT_LIMIT, THREAD_LIMIT, THREAD_NAME_LIMIT};
 use crate::script::{CallLists, Script, ThreadNames, Word, WordList};
-use fs_seq::Call;
+use fs_calls::Call;
 use fs_text::FaultKind;
 use fs_text::calls::call_at;
 use fs_text::lines::cut_words;

@@ -3,7 +3,7 @@
 ghost use Rattle.std.specs.Prelude.{◌≤◌, length};
 ghost use Rattle.fs_text.specs.Lines.{lines_of};
 ghost use Rattle.fs_script.specs.Script.{nothing_yet, script_from, script_of};
-ghost use Rattle.fs_text.specs.Answers.{GivesText};
+ghost use Rattle.fs_text.specs.code.Answers.{GivesText};
 
 use crate::draft::Draft;
 use crate::script::Script;

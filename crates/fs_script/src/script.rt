@@ -4,10 +4,10 @@ ghost use Rattle.std.specs.Prelude.{◌≡◌, ◌↔◌, ◌<◌, ◌==◌, [],
 ghost use Rattle.std.specs.List.{list_any};
 ghost use Rattle.std.specs.Str.{bytes_eq};
 ghost use Rattle.fs_script.specs.Script.{seat_named, with_call};
-ghost use Rattle.fs_text.specs.Answers.{Pushes};
+ghost use Rattle.fs_text.specs.code.Answers.{Pushes};
 ghost use Rattle.fs_text.specs.declared.fault.FaultKind.TheVariants as kind;
 
-use fs_seq::Call;
+use fs_calls::Call;
 use fs_text::FaultKind;
 use indexmap::IndexSet;
 use std::alloc::Global;
@@ -115,7 +115,7 @@ pub struct CallLists {
 
 impl Model for CallLists {
     ghost use Rattle.std.specs.Prelude.{List, map};
-    ghost use Rattle.fs_seq.specs.declared.call.Call.{Call};
+    ghost use Rattle.fs_calls.specs.declared.call.Call.{Call};
 
     ghost Value = { List (List Call) };
 

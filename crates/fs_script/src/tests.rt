@@ -1,8 +1,8 @@
 use super::*;
-use fs_journal::Entry;
+use fs_calls::Call;
 use fs_names::{CallNo, Kind, Name, SeatNo};
 use fs_nodes::{NodeNo, Store};
-use fs_seq::Call;
+use fs_timeline::Entry;
 use std::alloc::Global;
 use std::test::Fail;
 

@@ -6,8 +6,8 @@ ghost use Rattle.fs_nodes.specs.Stores.{graph_of, shape, kid};
 ghost use Rattle.std.specs.List.{flat_map};
 ghost use Rattle.fs_text.specs.Words.{escaped, path_word};
 ghost use Rattle.fs_script.specs.TreeText.{tree_text, AppendsTree};
-ghost use Rattle.fs_script.specs.Walks.{WalkPlace, forest_of, key_above, Leads, Steps, IsUp, visited, row_text, node_seen, text_at, pending_at, at_root};
-ghost use Rattle.fs_seq.specs.Graph.{tree_of};
+ghost use Rattle.fs_script.specs.code.Walks.{WalkPlace, forest_of, key_above, Leads, Steps, IsUp, visited, row_text, node_seen, text_at, pending_at, at_root};
+ghost use Rattle.fs_seq.specs.code.Graph.{tree_of};
 
 use fs_names::Name;
 use fs_nodes::{NodeNo, Store};
@@ -32,7 +32,7 @@ pub(crate) struct Walk {
 }
 
 impl Model for Walk {
-    ghost use Rattle.fs_script.specs.Walks.{WalkPlace};
+    ghost use Rattle.fs_script.specs.code.Walks.{WalkPlace};
 
     ghost Value = { WalkPlace };
 

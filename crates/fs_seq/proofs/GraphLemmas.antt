@@ -12,9 +12,9 @@ use Rattle.std.specs.FinMap.Entries.{find-put}
 use Rattle.fs_names.specs.Names.{Name, name_cmp, same_name}
 use Rattle.fs_names.specs.Keys.{Key, key_cmp, same_key, after_prefix}
 use Rattle.fs_names.proofs.Lemmas.{name_total, key_total, name_exact, key_exact, equal_from_is_eq, same_name_exact, same_name_refl, after_prefix-exact, after_prefix-append}
-use Rattle.fs_seq.specs.Tree.{Node, Dir as IsDir, File as IsFile, Tree, look, from_list}
-use Rattle.fs_seq.specs.Graph.{Place, Graph, links_of, node_of, place_at, links_at, child, walk_from, walk, node_at, spelled, keys_from, with_node, nodes_at, tree_of, IsForest}
-use Rattle.fs_seq.proofs.LookLemmas.{same_key_exact, same_key_refl, same_key_equiv, look-from_list, sorted-from_list, same_tree}
+use Rattle.fs_calls.specs.Tree.{Node, Dir as IsDir, File as IsFile, Tree, look, from_list}
+use Rattle.fs_seq.specs.code.Graph.{Place, Graph, links_of, node_of, place_at, links_at, child, walk_from, walk, node_at, spelled, keys_from, with_node, nodes_at, tree_of, IsForest}
+use Rattle.fs_calls.proofs.LookLemmas.{same_key_exact, same_key_refl, same_key_equiv, look-from_list, sorted-from_list, same_tree}
 
 -- ---- walks
 

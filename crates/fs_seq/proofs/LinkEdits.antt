@@ -9,7 +9,7 @@ use Rattle.std.proofs.lemmas.Float.{T_from_true}
 use Rattle.fs_names.specs.Names.{Name, name_cmp}
 use Rattle.fs_names.proofs.Lemmas.{name_total}
 use Rattle.fs_seq.specs.declared.nodes.Link.{Link}
-use Rattle.fs_seq.specs.Nodes.{pair, pairs, number_of, name_of, without, StandsAt, BelongsAt}
+use Rattle.fs_seq.specs.code.Nodes.{pair, pairs, number_of, name_of, without, StandsAt, BelongsAt}
 use Rattle.fs_seq.proofs.Rewiring.{without-put}
 use Rattle.fs_seq.proofs.SlabLemmas.{pairs-insert, pairs-remove}
 

@@ -2,20 +2,20 @@
 use Rattle.std.proofs.Common.{◌≡◌, ℕ, zero, suc, ◌+◌, ◌<◌, ◌++◌, get_or, arith, Bool, true, false, List, [], ◌∷◌, length, take, drop, map, Some, None, Option, refl, sym, ap, ◌∙◌}
 use Rattle.fs_names.specs.Keys.{Key}
 use Rattle.fs_seq.specs.declared.nodes.Link.{Link}
-use Rattle.fs_seq.specs.Nodes.{pair, pairs}
-use Rattle.fs_seq.specs.declared.call.Call.{Call}
-use Rattle.fs_seq.specs.declared.call.Call.TheVariants.{Stat, Readdir, Read, Write, Truncate}
-use Rattle.fs_seq.specs.declared.errno.Errno.{Errno}
-use Rattle.fs_seq.specs.declared.reply.Reply.{Reply}
-use Rattle.fs_seq.specs.declared.reply.Reply.TheVariants as replies
-use Rattle.fs_seq.specs.Tree.{Tree}
-use Rattle.fs_seq.specs.Shapes.{Shape, seen, names_of, bytes_of}
-use Rattle.fs_seq.proofs.RowNames.{listing, reading, writing, truncating}
-use Rattle.fs_seq.specs.Outcomes.{fault, success, reply, replied, resolution}
-use Rattle.fs_seq.specs.Forms as Forms
-use Rattle.fs_seq.specs.Rows.{node_fault, status}
-use Rattle.fs_seq.specs.Graph.{Place, Graph, place_at, shape_of, walk, tree_of, IsForest}
-use Rattle.fs_seq.specs.Effects.{IsSeen}
+use Rattle.fs_seq.specs.code.Nodes.{pair, pairs}
+use Rattle.fs_calls.specs.declared.call.Call.{Call}
+use Rattle.fs_calls.specs.declared.call.Call.TheVariants.{Stat, Readdir, Read, Write, Truncate}
+use Rattle.fs_calls.specs.declared.errno.Errno.{Errno}
+use Rattle.fs_calls.specs.declared.reply.Reply.{Reply}
+use Rattle.fs_calls.specs.declared.reply.Reply.TheVariants as replies
+use Rattle.fs_calls.specs.Tree.{Tree}
+use Rattle.fs_calls.specs.Shapes.{Shape, seen, names_of, bytes_of}
+use Rattle.fs_calls.proofs.RowNames.{listing, reading, writing, truncating}
+use Rattle.fs_calls.specs.Outcomes.{fault, success, reply, replied, resolution}
+use Rattle.fs_calls.specs.Forms as Forms
+use Rattle.fs_calls.specs.Rows.{node_fault, status}
+use Rattle.fs_seq.specs.code.Graph.{Place, Graph, place_at, shape_of, walk, tree_of, IsForest}
+use Rattle.fs_seq.specs.code.Effects.{IsSeen}
 use Rattle.fs_seq.proofs.Resolving.{resolution_walked, seen_at}
 
 -- what is seen where a path leads to a number

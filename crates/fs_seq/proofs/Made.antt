@@ -4,15 +4,15 @@ use Rattle.std.specs.Prelude.{insert}
 use Rattle.std.specs.FinMap.{put}
 use Rattle.fs_names.specs.Names.{Name, name_cmp}
 use Rattle.fs_names.specs.Keys.{Key, parent_of, last_of}
-use Rattle.fs_seq.specs.Tree.{Node, inserted}
-use Rattle.fs_seq.specs.Outcomes.{fault}
-use Rattle.fs_seq.specs.declared.call.Call.TheVariants.{Mkdir, Mknod}
-use Rattle.fs_seq.specs.declared.reply.Reply.TheVariants.{Done}
+use Rattle.fs_calls.specs.Tree.{Node, inserted}
+use Rattle.fs_calls.specs.Outcomes.{fault}
+use Rattle.fs_calls.specs.declared.call.Call.TheVariants.{Mkdir, Mknod}
+use Rattle.fs_calls.specs.declared.reply.Reply.TheVariants.{Done}
 use Rattle.fs_seq.specs.declared.nodes.Node.TheVariants as nodes
-use Rattle.fs_seq.specs.Tree.{Tree}
-use Rattle.fs_seq.specs.Graph.{Place, Dir, Graph, place_at, links_of, links_at, node_of, tree_of, IsForest, Sets}
-use Rattle.fs_seq.specs.Nodes.{place}
-use Rattle.fs_seq.specs.Effects.{making_fault, tree_node, IsGap, Attaches, Gives}
+use Rattle.fs_calls.specs.Tree.{Tree}
+use Rattle.fs_seq.specs.code.Graph.{Place, Dir, Graph, place_at, links_of, links_at, node_of, tree_of, IsForest, Sets}
+use Rattle.fs_seq.specs.code.Nodes.{place}
+use Rattle.fs_seq.specs.code.Effects.{making_fault, tree_node, IsGap, Attaches, Gives}
 use Rattle.fs_seq.proofs.NodeLemmas.{parent_and_last, last_got}
 use Rattle.fs_seq.proofs.GraphMade.{forest_made, tree_made}
 use Rattle.fs_seq.proofs.Replies.{works}

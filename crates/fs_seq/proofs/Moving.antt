@@ -4,13 +4,13 @@ use Rattle.std.specs.FinMap.{is_sorted}
 use Rattle.fs_names.specs.Names.{Name, name_cmp}
 use Rattle.fs_names.specs.Keys.{Key, after_prefix}
 use Rattle.fs_names.proofs.Lemmas.{after_prefix-append, after_prefix-exact}
-use Rattle.fs_seq.specs.Tree.{Node, Tree, look, renamed}
-use Rattle.fs_seq.specs.Graph.{Place, Dir, File, Graph, place_at, node_of, links_at, child, walk_from, walk, node_at, spelled, tree_of, IsForest}
+use Rattle.fs_calls.specs.Tree.{Node, Tree, look, renamed}
+use Rattle.fs_seq.specs.code.Graph.{Place, Dir, File, Graph, place_at, node_of, links_at, child, walk_from, walk, node_at, spelled, tree_of, IsForest}
 use Rattle.fs_seq.proofs.GraphLemmas.{walk-append, Once, look-tree_of, is_tree_of}
 use Rattle.fs_seq.proofs.Edits.{Unlinks, Links, outside, within, walk-unlinked, walk-linked}
 use Rattle.fs_seq.proofs.Resolving.{spelled_at, spelled_none}
-use Rattle.fs_seq.proofs.KeyLemmas.{after_prefix-itself}
-use Rattle.fs_seq.proofs.RenamedTrees.{after_move, look-renamed, sorted-renamed}
+use Rattle.fs_calls.proofs.KeyLemmas.{after_prefix-itself}
+use Rattle.fs_calls.proofs.RenamedTrees.{after_move, look-renamed, sorted-renamed}
 
 -- a key with names behind it is longer
 no_nil : (d : Key) (x : Name) (r : Key) → (d ++ x ∷ []) ++ r ≡ d → ⊥

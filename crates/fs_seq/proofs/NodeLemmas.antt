@@ -4,13 +4,13 @@ use Rattle.std.specs.FinMap.{find, is_sorted}
 use Rattle.slab.specs.Slab.{Slab, get}
 use Rattle.fs_names.specs.Names.{Name, name_cmp}
 use Rattle.fs_names.specs.Keys.{Key, parent_of, last_of}
-use Rattle.fs_seq.specs.declared.errno.Errno.TheVariants.{Enoent, Enotdir}
+use Rattle.fs_calls.specs.declared.errno.Errno.TheVariants.{Enoent, Enotdir}
 use Rattle.fs_seq.specs.declared.nodes.Link.{Link}
 use Rattle.fs_seq.specs.declared.nodes.Node.{Node}
 use Rattle.fs_seq.specs.declared.nodes.Node.TheVariants as nodes
-use Rattle.fs_seq.specs.Nodes.{verdict}
-use Rattle.fs_seq.specs.Graph.{Place, Dir, File, Graph, place_at, links_of, node_of, links_at, child, node_at}
-use Rattle.fs_seq.specs.Nodes.{pair, pairs, place, slot_place, graph, number_of, StandsAt, BelongsAt}
+use Rattle.fs_seq.specs.code.Nodes.{verdict}
+use Rattle.fs_seq.specs.code.Graph.{Place, Dir, File, Graph, place_at, links_of, node_of, links_at, child, node_at}
+use Rattle.fs_seq.specs.code.Nodes.{pair, pairs, place, slot_place, graph, number_of, StandsAt, BelongsAt}
 
 -- the place of a number is that of its slot
 pub place_of_slot : (slots : List (Option Node)) (n : ℕ) → place_at (map slot_place slots) n ≡ slot_place (get_or slots n None)

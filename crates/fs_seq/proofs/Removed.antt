@@ -7,18 +7,18 @@ use Rattle.fs_names.specs.Keys.{Key, is_root, parent_of, last_of}
 use Rattle.fs_names.specs.First.{on, or_else}
 use Rattle.std.proofs.lemmas.Bool.Decides.{nat_tests}
 use Rattle.fs_seq.specs.declared.nodes.Link.{Link}
-use Rattle.fs_seq.specs.declared.call.Call.{Call}
-use Rattle.fs_seq.specs.declared.call.Call.TheVariants.{Unlink, Rmdir}
-use Rattle.fs_seq.specs.declared.errno.Errno.{Errno}
-use Rattle.fs_seq.specs.declared.errno.Errno.TheVariants.{Eperm, Ebusy, Enoent}
-use Rattle.fs_seq.specs.declared.reply.Reply.TheVariants.{Done, Failed}
-use Rattle.fs_seq.specs.Tree.{Tree, removed}
-use Rattle.fs_seq.specs.Shapes.{Shape, seen, is_missing, has_any}
-use Rattle.fs_seq.proofs.RowNames.{unlinking, removing}
-use Rattle.fs_seq.specs.Outcomes.{fault, success, change, parents_resolution}
-use Rattle.fs_seq.specs.Graph.{Place, Dir, Graph, place_at, links_at, shape_of, child, walk, tree_of, IsForest, Sets}
-use Rattle.fs_seq.specs.Nodes.{pairs, IsTaken, IsFree, without}
-use Rattle.fs_seq.specs.Effects.{IsVictim, Detaches, Answers}
+use Rattle.fs_calls.specs.declared.call.Call.{Call}
+use Rattle.fs_calls.specs.declared.call.Call.TheVariants.{Unlink, Rmdir}
+use Rattle.fs_calls.specs.declared.errno.Errno.{Errno}
+use Rattle.fs_calls.specs.declared.errno.Errno.TheVariants.{Eperm, Ebusy, Enoent}
+use Rattle.fs_calls.specs.declared.reply.Reply.TheVariants.{Done, Failed}
+use Rattle.fs_calls.specs.Tree.{Tree, removed}
+use Rattle.fs_calls.specs.Shapes.{Shape, seen, is_missing, has_any}
+use Rattle.fs_calls.proofs.RowNames.{unlinking, removing}
+use Rattle.fs_calls.specs.Outcomes.{fault, success, change, parents_resolution}
+use Rattle.fs_seq.specs.code.Graph.{Place, Dir, Graph, place_at, links_at, shape_of, child, walk, tree_of, IsForest, Sets}
+use Rattle.fs_seq.specs.code.Nodes.{pairs, IsTaken, IsFree, without}
+use Rattle.fs_seq.specs.code.Effects.{IsVictim, Detaches, Answers}
 use Rattle.fs_seq.proofs.NodeLemmas.{parent_and_last, child_got}
 use Rattle.fs_seq.proofs.Spots.{not_root, root, taken_parents, taken_seen, free_parents, free_seen}
 use Rattle.fs_seq.proofs.GraphCut.{forest_cut, tree_cut}

@@ -8,25 +8,25 @@ use Rattle.fs_names.specs.Keys.{Key, is_root, is_proper_prefix, has_more, after_
 use Rattle.fs_names.specs.declared.limits.TheConstants.{ENTRY_LIMIT}
 use Rattle.fs_names.proofs.FirstLemmas.{on-none}
 use Rattle.fs_names.proofs.Lemmas.{after_prefix-exact}
-use Rattle.fs_seq.specs.Tree.{Tree}
-use Rattle.fs_seq.specs.Shapes.{Shape, seen, is_missing, is_dir, is_file, has_entries, is_full}
-use Rattle.fs_seq.specs.Shapes as shapes
-use Rattle.fs_seq.specs.Forms.{form, by_text}
-use Rattle.fs_seq.specs.Sights.{is_same}
-use Rattle.fs_seq.specs.Rows.{has_room, place_fault, rename_fault}
-use Rattle.fs_seq.specs.Outcomes.{parents_resolution, row, fault}
-use Rattle.fs_seq.specs.Graph.{Place, Dir, File, Graph, place_at, shape_of, links_at, child, walk, shape_at, tree_of, IsForest}
-use Rattle.fs_seq.specs.Nodes.{IsTaken, IsFree, LooksUp}
+use Rattle.fs_calls.specs.Tree.{Tree}
+use Rattle.fs_calls.specs.Shapes.{Shape, seen, is_missing, is_dir, is_file, has_entries, is_full}
+use Rattle.fs_calls.specs.Shapes as shapes
+use Rattle.fs_calls.specs.Forms.{form, by_text}
+use Rattle.fs_calls.specs.Sights.{is_same}
+use Rattle.fs_calls.specs.Rows.{has_room, place_fault, rename_fault}
+use Rattle.fs_calls.specs.Outcomes.{parents_resolution, row, fault}
+use Rattle.fs_seq.specs.code.Graph.{Place, Dir, File, Graph, place_at, shape_of, links_at, child, walk, shape_at, tree_of, IsForest}
+use Rattle.fs_seq.specs.code.Nodes.{IsTaken, IsFree, LooksUp}
 use Rattle.fs_seq.specs.declared.nodes.Spot.{Spot}
 use Rattle.fs_seq.specs.declared.nodes.Spot.TheVariants.{Taken, Free}
-use Rattle.fs_seq.specs.Renaming.{Moves}
-use Rattle.fs_seq.specs.declared.call.Call.TheVariants.{Rename}
-use Rattle.fs_seq.specs.declared.errno.Errno.{Errno}
-use Rattle.fs_seq.specs.declared.errno.Errno.TheVariants.{Enoent, Enotdir, Eisdir, Enotempty, Einval, Ebusy, Enospc}
-use Rattle.fs_seq.proofs.KeyLemmas.{no_true, never_same, is_same_refl, is_same_exact, parent_and_last}
+use Rattle.fs_seq.specs.code.Renaming.{Moves}
+use Rattle.fs_calls.specs.declared.call.Call.TheVariants.{Rename}
+use Rattle.fs_calls.specs.declared.errno.Errno.{Errno}
+use Rattle.fs_calls.specs.declared.errno.Errno.TheVariants.{Enoent, Enotdir, Eisdir, Enotempty, Einval, Ebusy, Enospc}
+use Rattle.fs_calls.proofs.KeyLemmas.{no_true, never_same, is_same_refl, is_same_exact, parent_and_last}
 use Rattle.fs_seq.proofs.Resolving.{walk_on, walk_off, seen_at, seen_none, child-find}
 use Rattle.fs_seq.proofs.Parents.{parents_found}
-use Rattle.fs_seq.proofs.FaultLemmas.{AllNone, all_none, or_first, or_second}
+use Rattle.fs_calls.proofs.FaultLemmas.{AllNone, all_none, or_first, or_second}
 
 -- ---- the paths alone
 

@@ -1,14 +1,14 @@
 -- What a call answers, by its errors, and what it leaves.
 use Rattle.std.proofs.Common.{◌≡◌, Bool, true, false, not, ◌&&◌, Some, None, Option, is_some, Result, Ok, Err, IfOk, OnOk, OnErr, IsTrue, refl, sym, ap, subst, ◌∙◌}
-use Rattle.fs_seq.specs.Tree.{Tree}
-use Rattle.fs_seq.specs.Outcomes.{fault, success, change, reply, after, replied, unless}
+use Rattle.fs_calls.specs.Tree.{Tree}
+use Rattle.fs_calls.specs.Outcomes.{fault, success, change, reply, after, replied, unless}
 use Rattle.fs_seq.specs.Memory.{takes_memory, needs_memory}
-use Rattle.fs_seq.specs.Graph.{Graph, tree_of, IsForest}
-use Rattle.fs_seq.specs.Effects.{Gives, Answers}
-use Rattle.fs_seq.specs.declared.call.Call.{Call}
-use Rattle.fs_seq.specs.declared.reply.Reply.{Reply}
-use Rattle.fs_seq.specs.declared.reply.Reply.TheVariants.{Failed}
-use Rattle.fs_seq.specs.declared.errno.Errno.{Errno}
+use Rattle.fs_seq.specs.code.Graph.{Graph, tree_of, IsForest}
+use Rattle.fs_seq.specs.code.Effects.{Gives, Answers}
+use Rattle.fs_calls.specs.declared.call.Call.{Call}
+use Rattle.fs_calls.specs.declared.reply.Reply.{Reply}
+use Rattle.fs_calls.specs.declared.reply.Reply.TheVariants.{Failed}
+use Rattle.fs_calls.specs.declared.errno.Errno.{Errno}
 
 -- a call without an error
 pub works : (g g' : Graph) (found : Option Errno) (well : Reply) (new : Tree) → found ≡ None → tree_of g' ≡ new → IsForest g' → Gives g g' found well new well

@@ -9,14 +9,14 @@ use Rattle.std.proofs.lemmas.Float.{T_from_true}
 use Rattle.fs_names.specs.Names.{Name, name_cmp, same_name}
 use Rattle.fs_names.specs.Keys.{Key, after_prefix, parent_of, last_of}
 use Rattle.fs_names.proofs.Lemmas.{name_total, name_exact, same_name_refl, same_name_exact}
-use Rattle.fs_seq.specs.Tree.{Node, Dir as IsDir, Tree, look, renamed}
-use Rattle.fs_seq.specs.Graph.{Place, Dir, File, Graph, place_at, links_of, node_of, links_at, child, walk, node_at, tree_of, IsForest, Sets}
-use Rattle.fs_seq.specs.Nodes.{without}
-use Rattle.fs_seq.proofs.KeyLemmas.{no_true, parent_and_last, after_prefix-front}
+use Rattle.fs_calls.specs.Tree.{Node, Dir as IsDir, Tree, look, renamed}
+use Rattle.fs_seq.specs.code.Graph.{Place, Dir, File, Graph, place_at, links_of, node_of, links_at, child, walk, node_at, tree_of, IsForest, Sets}
+use Rattle.fs_seq.specs.code.Nodes.{without}
+use Rattle.fs_calls.proofs.KeyLemmas.{no_true, parent_and_last, after_prefix-front}
 use Rattle.fs_seq.proofs.GraphLemmas.{place_below}
 use Rattle.fs_seq.proofs.Edits.{Unlinks, Links, nat_same, nat_differ}
 use Rattle.fs_seq.proofs.Resolving.{walk_on, look_some, child-find}
-use Rattle.fs_seq.proofs.FaultLemmas.{Renames}
+use Rattle.fs_calls.proofs.FaultLemmas.{Renames}
 use Rattle.fs_seq.proofs.Moving.{Relinks, reached_before, forest_moved, tree_moved}
 
 -- ---- links

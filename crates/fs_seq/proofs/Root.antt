@@ -3,16 +3,16 @@ use Rattle.std.proofs.Common.{◌≡◌, ◌≢◌, ℕ, zero, suc, Bool, true, 
 use Rattle.std.specs.FinMap.{find, is_sorted}
 use Rattle.fs_names.specs.Names.{Name, name_cmp}
 use Rattle.fs_names.specs.Keys.{Key}
-use Rattle.fs_seq.specs.Tree.{Node, look, root_tree}
-use Rattle.fs_seq.specs.Tree as tree
-use Rattle.fs_seq.specs.Graph.{Place, Dir, Graph, place_at, links_of, node_of, links_at, child, walk_from, walk, spelled, tree_of, IsForest}
+use Rattle.fs_calls.specs.Tree.{Node, look, root_tree}
+use Rattle.fs_calls.specs.Tree as tree
+use Rattle.fs_seq.specs.code.Graph.{Place, Dir, Graph, place_at, links_of, node_of, links_at, child, walk_from, walk, spelled, tree_of, IsForest}
 use Rattle.fs_seq.proofs.GraphLemmas.{is_tree_of}
 use Rattle.fs_seq.proofs.Edits.{nat_same, nat_differ}
 use Rattle.fs_seq.proofs.Resolving.{spelled_at, spelled_none}
 use Rattle.slab.specs.Slab.{Slab, Updates}
 use Rattle.fs_seq.specs.declared.nodes.Link.{Link}
 use Rattle.fs_seq.specs.declared.nodes.Node.TheVariants as nodes
-use Rattle.fs_seq.specs.Nodes.{graph, pairs, slot_place}
+use Rattle.fs_seq.specs.code.Nodes.{graph, pairs, slot_place}
 use Rattle.fs_seq.proofs.SlabLemmas.{sets_slot}
 use Rattle.fs_seq.proofs.NodeLemmas.{child_got, links_got}
 

@@ -9,7 +9,7 @@ use Rattle.std.specs.FinMap.Entries.{by_order, where_key, below_all}
 use Rattle.fs_names.specs.Names.{Name, name_cmp, same_name}
 use Rattle.fs_names.proofs.Lemmas.{name_total, name_exact, same_name_refl}
 use Rattle.fs_seq.specs.declared.nodes.Link.{Link}
-use Rattle.fs_seq.specs.Nodes.{pair, pairs, number_of, without, StandsAt, BelongsAt, Searches}
+use Rattle.fs_seq.specs.code.Nodes.{pair, pairs, number_of, without, StandsAt, BelongsAt, Searches}
 
 -- the first of two
 both_first : (a b : Bool) → T (a && b) → T a

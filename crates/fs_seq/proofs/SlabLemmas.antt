@@ -6,10 +6,10 @@ use Rattle.fs_names.specs.Names.{Name}
 use Rattle.fs_seq.specs.declared.nodes.Link.{Link}
 use Rattle.fs_seq.specs.declared.nodes.Node.{Node}
 use Rattle.fs_seq.specs.declared.nodes.Node.TheVariants as nodes
-use Rattle.fs_seq.specs.Graph.{Place, Dir, File, Graph, place_at, links_of, links_at, Sets}
-use Rattle.fs_seq.specs.Nodes.{pair, pairs, place, slot_place, graph}
+use Rattle.fs_seq.specs.code.Graph.{Place, Dir, File, Graph, place_at, links_of, links_at, Sets}
+use Rattle.fs_seq.specs.code.Nodes.{pair, pairs, place, slot_place, graph}
 use Rattle.fs_seq.proofs.NodeLemmas.{place_of_slot, place_got, place_missing, links_got, length-pairs}
-use Rattle.fs_seq.specs.Effects.{Attaches, Detaches}
+use Rattle.fs_seq.specs.code.Effects.{Attaches, Detaches}
 
 -- a slot that was written
 slot_here : (slots : List (Option Node)) (n : ℕ) (old node : Node) → get_or slots n None ≡ Some old → get_or (slice_set slots n (Some node)) n None ≡ Some node

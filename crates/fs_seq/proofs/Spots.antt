@@ -6,16 +6,16 @@ use Rattle.std.proofs.lemmas.Bool.Decides.{nat_tests}
 use Rattle.fs_names.specs.Names.{Name}
 use Rattle.fs_names.specs.Keys.{Key, is_root, parent_of, last_of}
 use Rattle.fs_names.specs.First.{on, or_else}
-use Rattle.fs_seq.specs.declared.errno.Errno.{Errno}
-use Rattle.fs_seq.specs.declared.errno.Errno.TheVariants.{Eexist, Enospc}
-use Rattle.fs_seq.specs.Tree.{Tree}
-use Rattle.fs_seq.specs.Shapes.{Shape, seen, is_there, is_full}
-use Rattle.fs_seq.specs.Shapes as shapes
-use Rattle.fs_seq.proofs.RowNames.{making}
-use Rattle.fs_seq.specs.Outcomes.{parents_resolution}
-use Rattle.fs_seq.specs.Graph.{Place, Dir, File, Graph, place_at, links_at, child, walk, tree_of, shape_of, shape_at, IsForest}
-use Rattle.fs_seq.specs.Nodes.{IsTaken, IsFree}
-use Rattle.fs_seq.specs.Effects.{making_fault, IsGap}
+use Rattle.fs_calls.specs.declared.errno.Errno.{Errno}
+use Rattle.fs_calls.specs.declared.errno.Errno.TheVariants.{Eexist, Enospc}
+use Rattle.fs_calls.specs.Tree.{Tree}
+use Rattle.fs_calls.specs.Shapes.{Shape, seen, is_there, is_full}
+use Rattle.fs_calls.specs.Shapes as shapes
+use Rattle.fs_calls.proofs.RowNames.{making}
+use Rattle.fs_calls.specs.Outcomes.{parents_resolution}
+use Rattle.fs_seq.specs.code.Graph.{Place, Dir, File, Graph, place_at, links_at, child, walk, tree_of, shape_of, shape_at, IsForest}
+use Rattle.fs_seq.specs.code.Nodes.{IsTaken, IsFree}
+use Rattle.fs_seq.specs.code.Effects.{making_fault, IsGap}
 use Rattle.fs_seq.proofs.Resolving.{walk_on, walk_off, seen_at, seen_none}
 use Rattle.fs_seq.proofs.NodeLemmas.{parent_and_last, child_got}
 use Rattle.fs_seq.proofs.Parents.{parents_found}

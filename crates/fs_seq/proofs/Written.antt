@@ -6,70 +6,29 @@ use Rattle.std.proofs.lemmas.List.{take-replicate, drop-replicate}
 use Rattle.slab.specs.Slab.{Slab, get, with_value}
 use Rattle.fs_names.specs.Keys.{Key}
 use Rattle.fs_names.specs.First.{on, or_else}
-use Rattle.fs_seq.specs.declared.call.Call.{Call}
-use Rattle.fs_seq.specs.declared.call.Call.TheVariants.{Write, Truncate}
-use Rattle.fs_seq.specs.declared.errno.Errno.{Errno}
-use Rattle.fs_seq.specs.declared.errno.Errno.TheVariants.{Efbig}
-use Rattle.fs_seq.specs.declared.reply.Reply.{Reply}
-use Rattle.fs_seq.specs.declared.reply.Reply.TheVariants as replies
+use Rattle.fs_calls.specs.declared.call.Call.{Call}
+use Rattle.fs_calls.specs.declared.call.Call.TheVariants.{Write, Truncate}
+use Rattle.fs_calls.specs.declared.errno.Errno.{Errno}
+use Rattle.fs_calls.specs.declared.errno.Errno.TheVariants.{Efbig}
+use Rattle.fs_calls.specs.declared.reply.Reply.{Reply}
+use Rattle.fs_calls.specs.declared.reply.Reply.TheVariants as replies
 use Rattle.fs_seq.specs.declared.nodes.Node.{Node}
-use Rattle.fs_seq.specs.Tree.{Tree, inserted}
-use Rattle.fs_seq.specs.Tree as tree
-use Rattle.fs_seq.specs.Shapes.{seen, has_any, bytes_of}
-use Rattle.fs_seq.proofs.RowNames.{writing, truncating}
-use Rattle.fs_seq.specs.Outcomes.{fault, success, change, replied, unless, filled}
-use Rattle.fs_seq.specs.Rows.{written, resized}
+use Rattle.fs_calls.specs.Tree.{Tree, inserted}
+use Rattle.fs_calls.specs.Tree as tree
+use Rattle.fs_calls.specs.Shapes.{seen, has_any, bytes_of}
+use Rattle.fs_calls.proofs.RowNames.{writing, truncating}
+use Rattle.fs_calls.specs.Outcomes.{fault, success, change, replied, unless, filled}
+use Rattle.fs_calls.specs.Rows.{written, resized}
 use Rattle.fs_seq.specs.Memory.{needs_memory}
-use Rattle.fs_seq.specs.Graph.{Place, File, Graph, place_at, walk, tree_of, IsForest}
-use Rattle.fs_seq.specs.Nodes.{place, graph}
-use Rattle.fs_seq.specs.Effects.{Answers, Gives, Fills, overflow, too_long, written_if_any, IsSeen}
+use Rattle.fs_seq.specs.code.Graph.{Place, File, Graph, place_at, walk, tree_of, IsForest}
+use Rattle.fs_seq.specs.code.Nodes.{place, graph}
+use Rattle.fs_seq.specs.code.Effects.{Answers, Gives, Fills, overflow, too_long, written_if_any, IsSeen}
 use Rattle.fs_seq.proofs.NodeLemmas.{place_got}
 use Rattle.fs_seq.proofs.SlabLemmas.{sets_value, same_graph}
 use Rattle.fs_seq.proofs.GraphFilled.{forest_filled, tree_filled}
 use Rattle.fs_seq.proofs.Looked.{is_seen, there_fault, bytes_there, write_looks, truncate_looks}
 use Rattle.fs_seq.proofs.Replies.{answers, needs}
-
--- ---- bytes put over others that were made long enough
-
--- a slice that was lent whole is what was written to it
-pub written_whole : {A : Type 0} (n : ℕ) (xs ys : List A) → n ≡ length xs → take n (xs ++ drop (length xs) ys) ≡ xs
-written_whole n xs ys e = ap (λ m. take m (xs ++ drop (length xs) ys)) e ∙ take-append_seam xs (drop (length xs) ys)
-
--- a front of nothing
-take-nil : {A : Type 0} (n : ℕ) → take {A = A} n [] ≡ []
-take-nil zero = refl
-take-nil (suc n) = refl
-
--- the rest of nothing
-drop-nil : {A : Type 0} (n : ℕ) → drop {A = A} n [] ≡ []
-drop-nil zero = refl
-drop-nil (suc n) = refl
-
--- the front of bytes that were made longer
-front_grown : (old : List ℕ) (off m : ℕ) → off ≤ m → take off (old ++ replicate (m - length old) 0) ≡ take off old ++ replicate (off - length old) 0
-front_grown [] off m h =
-    take-replicate off (m - 0) 0 (omega arith) ∙ ap (λ n. replicate n 0) (let same : off ≡ off - 0 = omega arith in same) ∙ ap (λ z. z ++ replicate (off - 0) 0) (sym (take-nil off))
-front_grown (b ∷ old) zero m h = ap (λ n. replicate n 0) (let none : 0 ≡ 0 - suc (length old) = omega arith in none)
-front_grown (b ∷ old) (suc off) zero h = absurd (omega arith)
-front_grown (b ∷ old) (suc off) (suc m) h =
-    ap (λ n. b ∷ take off (old ++ replicate n 0)) (let less : suc m - suc (length old) ≡ m - length old = omega arith in less)
-    ∙ ap (λ z. b ∷ z) (front_grown old off m (omega arith))
-    ∙ ap (λ n. b ∷ (take off old ++ replicate n 0)) (let less : off - length old ≡ suc off - suc (length old) = omega arith in less)
-
--- what lies past the end of bytes that were made longer
-back_grown : (old : List ℕ) (m : ℕ) → drop m (old ++ replicate (m - length old) 0) ≡ drop m old
-back_grown [] m = drop-replicate m (m - 0) 0 ∙ ap (λ n. replicate n 0) (let none : (m - 0) - m ≡ 0 = omega arith in none) ∙ sym (drop-nil m)
-back_grown (b ∷ old) zero = ap (λ n. (b ∷ old) ++ replicate n 0) (let none : 0 - suc (length old) ≡ 0 = omega arith in none) ∙ append-nil (b ∷ old)
-back_grown (b ∷ old) (suc m) = ap (λ n. drop m (old ++ replicate n 0)) (let less : suc m - suc (length old) ≡ m - length old = omega arith in less) ∙ back_grown old m
-
--- bytes put over what was made long enough are what is written
-pub overwritten : (old grown : List ℕ) (off : ℕ) (bytes : List ℕ) → grown ≡ old ++ replicate ((off + length bytes) - length old) 0
-    → take off grown ++ bytes ++ drop (off + length bytes) grown ≡ written old off bytes
-overwritten old grown off bytes e =
-    ap (λ z. take off z ++ bytes ++ drop (off + length bytes) z) e
-    ∙ (λ i. front_grown old off (off + length bytes) (omega arith) i ++ bytes ++ back_grown old (off + length bytes) i)
-
--- ---- a file among the nodes
+use Rattle.fs_calls.proofs.WrittenBytes.{written_whole, overwritten}
 
 module _ (s : Slab Node) (p : Key) (n : ℕ) (node node' : Node) (old new : List ℕ) (forest : IsForest (graph s)) (walked : walk (graph s) p ≡ Some n) (got : get s n ≡ Some node) (was : place node ≡ File old) (is : place node' ≡ File new) where
   -- the place of the file

@@ -1,12 +1,12 @@
 -- Which calls may need memory. All others never fail for want of it.
 use Rattle.std.specs.Prelude.{◌+◌, Bool, true, false, not, ◌&&◌, nat_lt, length, take, drop, is_some}
 use Rattle.fs_names.specs.Keys.{parent_of}
-use Rattle.fs_seq.specs.Tree.{Tree}
-use Rattle.fs_seq.specs.Shapes.{seen, is_missing, has_any, has_entries, bytes_of}
-use Rattle.fs_seq.specs.Outcomes.{fault}
-use Rattle.fs_seq.specs.Sights.{is_same}
-use Rattle.fs_seq.specs.declared.call.Call.{Call}
-use Rattle.fs_seq.specs.declared.call.Call.TheVariants.{Mkdir, Mknod, Unlink, Rmdir, Rename, Stat, Readdir, Read, Write, Truncate}
+use Rattle.fs_calls.specs.Tree.{Tree}
+use Rattle.fs_calls.specs.Shapes.{seen, is_missing, has_any, has_entries, bytes_of}
+use Rattle.fs_calls.specs.Outcomes.{fault}
+use Rattle.fs_calls.specs.Sights.{is_same}
+use Rattle.fs_calls.specs.declared.call.Call.{Call}
+use Rattle.fs_calls.specs.declared.call.Call.TheVariants.{Mkdir, Mknod, Unlink, Rmdir, Rename, Stat, Readdir, Read, Write, Truncate}
 
 -- a call without an error takes memory where it adds an entry to a directory, makes a file longer, or replies names or bytes
 abbrev pub takes_memory : Tree → Call → Bool

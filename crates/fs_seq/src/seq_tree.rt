@@ -1,14 +1,13 @@
 //! The sequential tree: a value of its own for one thread.
 
 ghost use Rattle.std.specs.Prelude.{◌≡◌, IfOk, OnOk, OnErr, IsTrue};
-ghost use Rattle.fs_seq.specs.Tree.{root_tree};
-ghost use Rattle.fs_seq.specs.Outcomes.{reply, after};
+ghost use Rattle.fs_calls.specs.Tree.{root_tree};
+ghost use Rattle.fs_calls.specs.Outcomes.{reply, after};
 ghost use Rattle.fs_seq.specs.Memory.{needs_memory};
 
-use crate::call::Call;
 use crate::nodes::Node;
-use crate::reply::Reply;
-use crate::{looking, making, removing, renaming, writing};
+use crate::{create, queries, remove, rename, write};
+use fs_calls::{Call, Reply};
 use fs_names::Path;
 use slab::Slab;
 use std::alloc::{AllocError, Global};
@@ -24,12 +23,12 @@ pub struct SeqTree {
 }
 
 impl Model for SeqTree {
-    ghost use Rattle.fs_seq.specs.Tree.{Tree};
+    ghost use Rattle.fs_calls.specs.Tree.{Tree};
 
     ghost Value = { Tree };
 
-    ghost use Rattle.fs_seq.specs.Nodes.{graph};
-    ghost use Rattle.fs_seq.specs.Graph.{tree_of, IsForest};
+    ghost use Rattle.fs_seq.specs.code.Nodes.{graph};
+    ghost use Rattle.fs_seq.specs.code.Graph.{tree_of, IsForest};
 
     ghost view = { λ s. tree_of (graph s.nodes) };
 
@@ -76,7 +75,7 @@ impl SeqTree {
         ensures err { OnErr result (self.new ≡ self.old) }
         ensures memory { OnErr result (IsTrue (needs_memory self.old (Call.Mkdir path.now))) }
     {
-        making::mkdir(alloc, &mut self.nodes, path)
+        create::mkdir(alloc, &mut self.nodes, path)
     }
 
     fn mknod(&mut self, alloc: Global, path: &Path) -> Result<Reply, AllocError>
@@ -85,21 +84,21 @@ impl SeqTree {
         ensures err { OnErr result (self.new ≡ self.old) }
         ensures memory { OnErr result (IsTrue (needs_memory self.old (Call.Mknod path.now))) }
     {
-        making::mknod(alloc, &mut self.nodes, path)
+        create::mknod(alloc, &mut self.nodes, path)
     }
 
     fn unlink(&mut self, path: &Path) -> Reply
         ensures reply { result ≡ reply self.old (Call.Unlink path.now) }
         ensures tree { self.new ≡ after self.old (Call.Unlink path.now) }
     {
-        removing::unlink(&mut self.nodes, path)
+        remove::unlink(&mut self.nodes, path)
     }
 
     fn rmdir(&mut self, path: &Path) -> Reply
         ensures reply { result ≡ reply self.old (Call.Rmdir path.now) }
         ensures tree { self.new ≡ after self.old (Call.Rmdir path.now) }
     {
-        removing::rmdir(&mut self.nodes, path)
+        remove::rmdir(&mut self.nodes, path)
     }
 
     fn rename(&mut self, from: &Path, to: &Path) -> Result<Reply, AllocError>
@@ -108,27 +107,27 @@ impl SeqTree {
         ensures err { OnErr result (self.new ≡ self.old) }
         ensures memory { OnErr result (IsTrue (needs_memory self.old (Call.Rename from.now to.now))) }
     {
-        renaming::rename(&mut self.nodes, from, to)
+        rename::rename(&mut self.nodes, from, to)
     }
 
     fn stat(&self, path: &Path) -> Reply
         ensures { result ≡ reply self.now (Call.Stat path.now) }
     {
-        looking::stat(&self.nodes, path)
+        queries::stat(&self.nodes, path)
     }
 
     fn readdir(&self, alloc: Global, path: &Path) -> Result<Reply, AllocError>
         ensures reply { IfOk result (λ r. r ≡ reply self.now (Call.Readdir path.now)) }
         ensures memory { OnErr result (IsTrue (needs_memory self.now (Call.Readdir path.now))) }
     {
-        looking::readdir(alloc, &self.nodes, path)
+        queries::readdir(alloc, &self.nodes, path)
     }
 
     fn read(&self, alloc: Global, path: &Path, off: u64, count: u64) -> Result<Reply, AllocError>
         ensures reply { IfOk result (λ r. r ≡ reply self.now (Call.Read path.now off count)) }
         ensures memory { OnErr result (IsTrue (needs_memory self.now (Call.Read path.now off count))) }
     {
-        looking::read(alloc, &self.nodes, path, off, count)
+        queries::read(alloc, &self.nodes, path, off, count)
     }
 
     fn write(&mut self, path: &Path, off: u64, bytes: &[u8]) -> Result<Reply, AllocError>
@@ -137,7 +136,7 @@ impl SeqTree {
         ensures err { OnErr result (self.new ≡ self.old) }
         ensures memory { OnErr result (IsTrue (needs_memory self.old (Call.Write path.now off bytes.now))) }
     {
-        writing::write(&mut self.nodes, path, off, bytes)
+        write::write(&mut self.nodes, path, off, bytes)
     }
 
     fn truncate(&mut self, path: &Path, size: u64) -> Result<Reply, AllocError>
@@ -146,6 +145,6 @@ impl SeqTree {
         ensures err { OnErr result (self.new ≡ self.old) }
         ensures memory { OnErr result (IsTrue (needs_memory self.old (Call.Truncate path.now size))) }
     {
-        writing::truncate(&mut self.nodes, path, size)
+        write::truncate(&mut self.nodes, path, size)
     }
 }

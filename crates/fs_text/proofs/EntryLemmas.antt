@@ -11,14 +11,14 @@ use Rattle.fs_names.specs.Names.{can_name}
 use Rattle.fs_names.specs.Keys.{Key}
 use Rattle.fs_names.specs.declared.kind.Kind.{Kind}
 use Rattle.fs_names.specs.declared.kind.Kind.TheVariants.{Dir, File}
-use Rattle.fs_seq.specs.declared.call.Call.{Call}
-use Rattle.fs_seq.specs.declared.call.Call.TheVariants as call
-use Rattle.fs_seq.specs.declared.reply.Reply.{Reply}
-use Rattle.fs_seq.specs.declared.reply.Reply.TheVariants as reply
-use Rattle.fs_seq.specs.declared.errno.Errno.{Errno}
-use Rattle.fs_seq.specs.declared.errno.Errno.TheVariants as errno
-use Rattle.fs_journal.specs.declared.entry.Entry.{Entry}
-use Rattle.fs_journal.specs.declared.entry.Entry.TheVariants.{Begin, Commit, Return}
+use Rattle.fs_calls.specs.declared.call.Call.{Call}
+use Rattle.fs_calls.specs.declared.call.Call.TheVariants as call
+use Rattle.fs_calls.specs.declared.reply.Reply.{Reply}
+use Rattle.fs_calls.specs.declared.reply.Reply.TheVariants as reply
+use Rattle.fs_calls.specs.declared.errno.Errno.{Errno}
+use Rattle.fs_calls.specs.declared.errno.Errno.TheVariants as errno
+use Rattle.fs_timeline.specs.declared.entry.Entry.{Entry}
+use Rattle.fs_timeline.specs.declared.entry.Entry.TheVariants.{Begin, Commit, Return}
 use Rattle.fs_text.specs.Lines.{lines_of, pieces_of, has_empty, is_passed_over}
 use Rattle.fs_text.specs.Words.{hex_word, escaped, path_word}
 use Rattle.fs_text.specs.Calls.{◌>>=◌, or_fault, or_bad_path, path_at, number_at, hex_at, call_words, call_of, has_call_form}

@@ -18,7 +18,7 @@ use Rattle.hex.specs.declared.error.FromHexError.TheVariants as hex
 use Rattle.fs_text.specs.declared.fault.FaultKind.{FaultKind}
 use Rattle.fs_text.specs.declared.fault.FaultKind.TheVariants as kind
 use Rattle.fs_text.specs.Calls.{hex_at, or_fault, ◌>>=◌, or_bad_path}
-use Rattle.fs_text.specs.Answers.{FailsAs, FailsThere, hex_fault_of, path_fault_of, pushed_word}
+use Rattle.fs_text.specs.code.Answers.{FailsAs, FailsThere, hex_fault_of, path_fault_of, pushed_word}
 use Rattle.fs_text.specs.Journal.{words_of, name_at, names_at, at_line, entry_in_line, entries_from, is_tree_line}
 use Rattle.fs_text.specs.declared.fault.ScriptFault.{ScriptFault}
 use Rattle.fs_names.specs.Keys.{Key}
@@ -27,7 +27,7 @@ use Rattle.fs_names.specs.declared.fault.PathFault.{PathFault}
 use Rattle.fs_names.specs.declared.fault.PathFault.TheVariants as path
 use Rattle.fs_text.specs.Lines.{is_line_feed, is_space, is_passed_over, without_last_empty, lines_of, pieces_of, has_empty, is_empty}
 use Rattle.std.specs.Borrow.{Bor}
-use Rattle.fs_journal.specs.declared.entry.Entry.{Entry}
+use Rattle.fs_timeline.specs.declared.entry.Entry.{Entry}
 use Rattle.fs_text.specs.Words.{is_number_text, number_of, found_bytes, hex_of}
 
 own : IsNumeralModel (λ ds. all_ascii_digits ds ≡ true) (digits_value 10)

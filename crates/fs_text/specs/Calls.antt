@@ -3,8 +3,8 @@ use Rattle.std.specs.Prelude.{ℕ, Bool, false, ◌==◌, List, [], ◌∷◌, l
 use Rattle.std.specs.Str.{bytes_eq}
 use Rattle.fs_names.specs.Keys.{Key}
 use Rattle.fs_names.specs.declared.fault.PathFault.{PathFault}
-use Rattle.fs_seq.specs.declared.call.Call.{Call}
-use Rattle.fs_seq.specs.declared.call.Call.TheVariants.{Mkdir, Mknod, Unlink, Rmdir, Rename, Stat, Readdir, Read, Write, Truncate}
+use Rattle.fs_calls.specs.declared.call.Call.{Call}
+use Rattle.fs_calls.specs.declared.call.Call.TheVariants.{Mkdir, Mknod, Unlink, Rmdir, Rename, Stat, Readdir, Read, Write, Truncate}
 use Rattle.fs_text.specs.Words.{Word, number_of, hex_of, hex_word, path_word, path_of}
 use Rattle.fs_text.specs.declared.fault.FaultKind.{FaultKind}
 use Rattle.fs_text.specs.declared.fault.FaultKind.TheVariants as kind

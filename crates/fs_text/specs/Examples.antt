@@ -5,11 +5,11 @@ use Rattle.fs_names.specs.Reading.{names}
 use Rattle.fs_names.specs.Keys.{Key}
 use Rattle.fs_names.specs.declared.kind.Kind.TheVariants as kind
 use Rattle.fs_names.specs.declared.fault.PathFault.TheVariants.{NotAbsolute}
-use Rattle.fs_seq.specs.declared.call.Call.TheVariants.{Mkdir, Rename, Write}
-use Rattle.fs_seq.specs.declared.reply.Reply.TheVariants as answer
-use Rattle.fs_seq.specs.declared.errno.Errno.TheVariants.{Enoent, Eexist}
-use Rattle.fs_journal.specs.declared.entry.Entry.{Entry}
-use Rattle.fs_journal.specs.declared.entry.Entry.TheVariants.{Begin, Commit, Return}
+use Rattle.fs_calls.specs.declared.call.Call.TheVariants.{Mkdir, Rename, Write}
+use Rattle.fs_calls.specs.declared.reply.Reply.TheVariants as answer
+use Rattle.fs_calls.specs.declared.errno.Errno.TheVariants.{Enoent, Eexist}
+use Rattle.fs_timeline.specs.declared.entry.Entry.{Entry}
+use Rattle.fs_timeline.specs.declared.entry.Entry.TheVariants.{Begin, Commit, Return}
 use Rattle.fs_text.specs.Words.{number_of, escaped}
 use Rattle.fs_text.specs.Journal.{entry_line, journal_text, entries_of, fault_at}
 use Rattle.fs_text.specs.declared.fault.ScriptFault.{ScriptFault}

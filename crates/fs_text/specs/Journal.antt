@@ -6,12 +6,12 @@ use Rattle.percent_encoding.specs.Percent.{percent_decode}
 use Rattle.fs_names.specs.Names.{Name, can_name}
 use Rattle.fs_names.specs.declared.kind.Kind.{Kind}
 use Rattle.fs_names.specs.declared.kind.Kind.TheVariants.{Dir, File}
-use Rattle.fs_seq.specs.declared.errno.Errno.{Errno}
-use Rattle.fs_seq.specs.declared.errno.Errno.TheVariants as errno
-use Rattle.fs_seq.specs.declared.reply.Reply.{Reply}
-use Rattle.fs_seq.specs.declared.reply.Reply.TheVariants.{Done, Stat, Names, Bytes, Wrote, Failed}
-use Rattle.fs_journal.specs.declared.entry.Entry.{Entry}
-use Rattle.fs_journal.specs.declared.entry.Entry.TheVariants.{Begin, Commit, Return}
+use Rattle.fs_calls.specs.declared.errno.Errno.{Errno}
+use Rattle.fs_calls.specs.declared.errno.Errno.TheVariants as errno
+use Rattle.fs_calls.specs.declared.reply.Reply.{Reply}
+use Rattle.fs_calls.specs.declared.reply.Reply.TheVariants.{Done, Stat, Names, Bytes, Wrote, Failed}
+use Rattle.fs_timeline.specs.declared.entry.Entry.{Entry}
+use Rattle.fs_timeline.specs.declared.entry.Entry.TheVariants.{Begin, Commit, Return}
 use Rattle.fs_text.specs.Lines.{lines_of, pieces_of, has_empty, is_passed_over, line_text}
 use Rattle.fs_text.specs.Words.{Word, hex_word, escaped}
 use Rattle.fs_text.specs.Calls.{◌>>=◌, or_fault, number_at, hex_at, call_words, call_of, has_call_form}

@@ -1,9 +1,8 @@
 pub mod Lines
 pub mod Words
-pub mod Additions
 pub mod Calls
 pub mod Journal
-pub mod Answers
 pub mod Fits
 pub mod Laws
 pub mod Examples
+pub mod code

@@ -19,7 +19,7 @@ pub struct Addition {
 
 impl Model for Addition {
     ghost use Rattle.std.specs.Prelude.{◌≤◌, length, take, drop};
-    ghost use Rattle.fs_text.specs.Additions.{AddedText};
+    ghost use Rattle.fs_text.specs.code.Additions.{AddedText};
 
     ghost Value = { AddedText };
 

@@ -2,12 +2,12 @@
 
 ghost use Rattle.std.specs.Prelude.{◌≡◌, map, option_map};
 ghost use Rattle.fs_text.specs.Calls.{one_path_of, two_paths_at, two_paths_of, a_number_at, a_number_of, two_numbers_at, two_numbers_of, number_and_bytes_at, number_and_bytes_of, call_of, form_of, longer_form_of, formed_call, argument_count, has_call_form};
-ghost use Rattle.fs_text.specs.Answers.{Gives};
+ghost use Rattle.fs_text.specs.code.Answers.{Gives};
 
 use crate::fault::FaultKind;
 use crate::words::{hex_at, number_at, path_at};
+use fs_calls::{Bytes, Call};
 use fs_names::Path;
-use fs_seq::{Bytes, Call};
 use std::alloc::Global;
 
 fn one_path(alloc: Global, words: &[&[u8]]) -> Result<Path, FaultKind>

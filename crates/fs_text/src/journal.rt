@@ -3,7 +3,7 @@
 ghost use Rattle.std.specs.Prelude.{◌≡◌, ◌++◌, ◌∷◌, [], ◌≤◌, length, map, MatchResult};
 ghost use Rattle.fs_text.specs.Lines.{lines_of};
 ghost use Rattle.fs_text.specs.Journal.{begin_at, begin_of, commit_of, return_of, entry_of, entry_in_line, entries_from, entries_of, is_tree_line};
-ghost use Rattle.fs_text.specs.Answers.{Gives, GivesText};
+ghost use Rattle.fs_text.specs.code.Answers.{Gives, GivesText};
 ghost use Rattle.fs_text.specs.declared.fault.FaultKind.TheVariants as kind;
 
 use crate::calls::{call_at, has_call_form};
@@ -12,8 +12,8 @@ use crate::limits::TEXT_LIMIT;
 use crate::lines::{cut_line, cut_words, is_passed_over};
 use crate::replies::reply_at;
 use crate::words::number_at;
-use fs_journal::Entry;
 use fs_names::{CallNo, SeatNo};
+use fs_timeline::Entry;
 use std::alloc::Global;
 
 fn begin_at(alloc: Global, call_no: &[u8], seat: &[u8], call: &[&[u8]]) -> Result<Entry, FaultKind>

@@ -3,7 +3,7 @@
 ghost use Rattle.std.specs.Prelude.{◌≡◌, ◌<◌, ◌++◌, ◌∷◌, [], length, map, position, MatchOption};
 ghost use Rattle.fs_text.specs.Lines.{lines_of, is_line_feed, is_space, is_passed_over};
 ghost use Rattle.fs_text.specs.Journal.{words_of};
-ghost use Rattle.fs_text.specs.Answers.{Becomes, pushed_word};
+ghost use Rattle.fs_text.specs.code.Answers.{Becomes, pushed_word};
 ghost use Rattle.fs_text.specs.declared.fault.FaultKind.TheVariants as kind;
 
 use crate::fault::FaultKind;

@@ -2,13 +2,13 @@
 
 ghost use Rattle.std.specs.Prelude.{◌≡◌, ◌++◌, ◌∷◌, [], map, MatchResult};
 ghost use Rattle.fs_text.specs.Journal.{kind_named, errno_of, stated_at, stated_of, names_at, names_of, bytes_of, wrote_of, failed_of, done_of, reply_of};
-ghost use Rattle.fs_text.specs.Answers.{Gives};
+ghost use Rattle.fs_text.specs.code.Answers.{Gives};
 ghost use Rattle.fs_text.specs.declared.fault.FaultKind.TheVariants as kind;
 
 use crate::fault::FaultKind;
 use crate::words::{hex_at, name_at, number_at};
+use fs_calls::{Errno, NameList, Reply};
 use fs_names::{Kind, Name};
-use fs_seq::{Errno, NameList, Reply};
 use std::alloc::Global;
 
 fn kind_named(word: &[u8]) -> Option<Kind>

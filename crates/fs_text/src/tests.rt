@@ -2,9 +2,9 @@ use super::*;
 use crate::calls::call_at;
 use crate::lines::{cut_line, cut_words, is_passed_over};
 use crate::words::{number_of, parts};
-use fs_journal::Entry;
+use fs_calls::{Call, NameList, Reply};
 use fs_names::{CallNo, Name};
-use fs_seq::{Call, NameList, Reply};
+use fs_timeline::Entry;
 use std::alloc::Global;
 use std::test::Fail;
 

@@ -6,11 +6,11 @@ ghost use Rattle.std.specs.Char.{is_ascii_digit};
 ghost use Rattle.fs_text.specs.Words.{is_number_text, number_of};
 ghost use Rattle.fs_text.specs.Calls.{number_at, hex_at, path_at};
 ghost use Rattle.fs_text.specs.Journal.{name_at, read_name};
-ghost use Rattle.fs_text.specs.Answers.{Gives, hex_fault_of, path_fault_of};
+ghost use Rattle.fs_text.specs.code.Answers.{Gives, hex_fault_of, path_fault_of};
 
 use crate::fault::FaultKind;
+use fs_calls::Bytes;
 use fs_names::{Name, Path, PathFault};
-use fs_seq::Bytes;
 use hex::FromHexError;
 use percent_encoding::percent_decode;
 use std::alloc::Global;

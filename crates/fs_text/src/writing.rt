@@ -4,13 +4,13 @@ ghost use Rattle.std.specs.Prelude.{◌≡◌, ◌++◌, ◌∷◌, OnOk, OnErr}
 ghost use Rattle.std.specs.List.{flat_map, join_with_byte};
 ghost use Rattle.fs_text.specs.Words.{escaped, path_word};
 ghost use Rattle.fs_text.specs.Calls.{call_words};
-ghost use Rattle.fs_seq.specs.declared.call.Call.TheVariants.{Rename, Read, Write};
+ghost use Rattle.fs_calls.specs.declared.call.Call.TheVariants.{Rename, Read, Write};
 ghost use Rattle.fs_text.specs.Journal.{reply_words, entry_words, entry_line, kind_word, errno_word};
 
 use crate::addition::Addition;
-use fs_journal::Entry;
+use fs_calls::{Call, Errno, Reply};
 use fs_names::{Kind, Name, Path};
-use fs_seq::{Call, Errno, Reply};
+use fs_timeline::Entry;
 use std::alloc::{AllocError, Global};
 use std::mem;
 

@@ -3,7 +3,7 @@ use Rattle.std.specs.Prelude.{ℕ, Option, Some, None}
 use Rattle.fs_names.specs.Names.{Name}
 use Rattle.fs_names.specs.Keys.{Key}
 use Rattle.fs_names.specs.Shapes.{Shape, Dir, File}
-use Rattle.fs_seq.specs.declared.errno.Errno.TheVariants.{Enoent, Enotdir}
+use Rattle.fs_calls.specs.declared.errno.Errno.TheVariants.{Enoent, Enotdir}
 use Rattle.fs_nodes.specs.Graphs.{Graph}
 use Rattle.fs_walk.specs.declared.head.Head.{Head}
 use Rattle.fs_walk.specs.declared.want.Want.{Want}

@@ -4,9 +4,9 @@ use crate::fork::Fork;
 use crate::head::Head;
 use crate::walk::Walk;
 use crate::want::Want;
+use fs_calls::Errno;
 use fs_names::{Kind, Name, Path, PathFault};
 use fs_nodes::{NoNode, NodeNo, Store};
-use fs_seq::Errno;
 use std::alloc::AllocError;
 
 #[derive(Debug, Drop)]

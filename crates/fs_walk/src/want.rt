@@ -5,9 +5,9 @@ ghost use Rattle.std.specs.Option.{option_copied};
 ghost use Rattle.fs_nodes.specs.Stores.{graph_of, shape, kid};
 ghost use Rattle.fs_walk.specs.Wants.{name_want, head_want, then_want, at_dir};
 
+use fs_calls::Errno;
 use fs_names::Name;
 use fs_nodes::{NodeNo, Store};
-use fs_seq::Errno;
 
 /// What a walk wants next.
 #[derive(Clone, Copy, Debug, PartialEq, Eq)]

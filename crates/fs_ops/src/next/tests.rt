@@ -2,9 +2,9 @@
 
 use crate::moves::Move;
 use crate::op::Op;
+use fs_calls::Call;
 use fs_names::{Kind, Name, Path, PathFault};
 use fs_nodes::{NoNode, NodeNo, Store};
-use fs_seq::Call;
 use std::alloc::AllocError;
 
 #[derive(Debug, Drop)]

@@ -1,10 +1,7 @@
 //! Calls with their replies, one after another, from the worked examples and the tables of errors.
 
-use crate::bytes::Bytes;
-use crate::call::Call;
-use crate::errno::Errno;
-use crate::reply::Reply;
 use crate::seq_tree::SeqTree;
+use fs_calls::{Bytes, Call, Errno, Reply};
 use fs_names::{ENTRY_LIMIT, Kind, Name, Path};
 use std::alloc::{AllocError, Global};
 use std::test::Fail;

@@ -1,6 +1,6 @@
 use Rattle.std.proofs.Common.{◌≡◌, ℕ, ◌<◌}
 use Rattle.fs_nodes.specs.Stores.{kid}
-use Rattle.fs_core.specs.Searches.{IsUnder}
+use Rattle.fs_core.specs.code.Searches.{IsUnder}
 use Rattle.fs_core.proofs.helping.is_alone.Given as goal
 
 -- no seat so far

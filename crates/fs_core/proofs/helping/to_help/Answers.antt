@@ -1,6 +1,6 @@
 use Rattle.std.proofs.Common.{◌≡◌, ℕ, length, arith, subst}
 use Rattle.fs_nodes.specs.Stores.{kid}
-use Rattle.fs_core.specs.Searches.{HasLeast}
+use Rattle.fs_core.specs.code.Searches.{HasLeast}
 use Rattle.fs_core.proofs.helping.to_help.Goals as goal
 
 pub returns : goal.returns

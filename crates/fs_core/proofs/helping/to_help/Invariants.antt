@@ -1,5 +1,5 @@
 use Rattle.fs_nodes.specs.Stores.{kid}
-use Rattle.fs_core.specs.Searches.{HasLeast}
+use Rattle.fs_core.specs.code.Searches.{HasLeast}
 use Rattle.fs_core.proofs.helping.to_help.Given as goal
 
 -- of the seats so far

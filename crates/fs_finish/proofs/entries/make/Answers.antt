@@ -1,7 +1,7 @@
 use Rattle.std.proofs.Common.{[], sym, ◌∙◌}
 use Rattle.fs_names.specs.Shapes.{Dir, File}
 use Rattle.fs_nodes.specs.Stores.{graph_of}
-use Rattle.fs_seq.specs.declared.target.EntryCall.TheVariants as entries
+use Rattle.fs_calls.specs.declared.target.EntryCall.TheVariants as entries
 use Rattle.fs_finish.proofs.EntryLemmas.{entry_by}
 use Rattle.fs_finish.proofs.entries.make.Goals as goal
 

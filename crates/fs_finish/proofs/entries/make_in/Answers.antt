@@ -1,7 +1,7 @@
 use Rattle.std.proofs.Common.{ap, sym, ◌∙◌, refl}
 use Rattle.fs_names.specs.Shapes.{is_full}
 use Rattle.fs_nodes.specs.Stores.{shape, graph_of}
-use Rattle.fs_seq.specs.Rows.{made}
+use Rattle.fs_calls.specs.Rows.{made}
 use Rattle.fs_finish.proofs.EntryLemmas.{row_is, entry_some, some_of}
 use Rattle.fs_finish.proofs.entries.make_in.Goals as goal
 

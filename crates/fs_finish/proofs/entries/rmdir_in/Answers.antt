@@ -2,8 +2,8 @@ use Rattle.std.proofs.Common.{◌≤◌, length, List, Some, ap, sym, ◌∙◌,
 use Rattle.fs_names.specs.Names.{Name}
 use Rattle.fs_names.specs.Shapes.{Dir, is_full, names_of}
 use Rattle.fs_nodes.specs.Stores.{shape, graph_of}
-use Rattle.fs_seq.specs.declared.target.EntryCall.TheVariants as entries
-use Rattle.fs_seq.specs.Rows.{in_there}
+use Rattle.fs_calls.specs.declared.target.EntryCall.TheVariants as entries
+use Rattle.fs_calls.specs.Rows.{in_there}
 use Rattle.fs_finish.proofs.EntryLemmas.{row_is, entry_not_file, no_names}
 use Rattle.fs_finish.proofs.entries.rmdir_in.Goals as goal
 

@@ -1,8 +1,8 @@
 use Rattle.std.proofs.Common.{ap, sym, ◌∙◌}
 use Rattle.fs_names.specs.Shapes.{is_full}
 use Rattle.fs_nodes.specs.Stores.{shape, graph_of}
-use Rattle.fs_seq.specs.declared.target.EntryCall.TheVariants as entries
-use Rattle.fs_seq.specs.Rows.{in_there}
+use Rattle.fs_calls.specs.declared.target.EntryCall.TheVariants as entries
+use Rattle.fs_calls.specs.Rows.{in_there}
 use Rattle.fs_finish.proofs.EntryLemmas.{row_is, entry_not_dir}
 use Rattle.fs_finish.proofs.entries.unlink_in.Goals as goal
 

@@ -1,6 +1,7 @@
 use Rattle.std.proofs.Common.{◌≡◌, ◌+◌, take, drop}
-use Rattle.fs_journal.specs.Verdicts.{verdict, verdict_from}
-use Rattle.fs_journal.specs.Knowledge.{known, IsTrueOf}
+use Rattle.fs_timeline.specs.Verdicts.{verdict, verdict_from}
+use Rattle.fs_timeline.specs.Knowledge.{IsTrueOf}
+use Rattle.fs_journal.specs.code.Checkers.{known}
 use Rattle.fs_journal.proofs.checker.check.Given as goal
 
 abbrev pub invariant-loop-index : goal.invariant-loop-index

@@ -1,6 +1,6 @@
 use Rattle.std.proofs.Common.{refl}
 use Rattle.fs_laws.specs.Examples.{first_mkdir}
-use Rattle.fs_laws.proofs.Computing.{ran}
+use Rattle.fs_laws.proofs.states.ComputedRuns.{ran}
 use Rattle.fs_laws.proofs.examples.first_mkdir.Goals as goal
 
 pub returns : goal.returns

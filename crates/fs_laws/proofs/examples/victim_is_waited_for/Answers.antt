@@ -1,6 +1,6 @@
 use Rattle.std.proofs.Common.{refl}
 use Rattle.fs_laws.specs.Examples.{victim_is_waited_for}
-use Rattle.fs_laws.proofs.Computing.{ran}
+use Rattle.fs_laws.proofs.states.ComputedRuns.{ran}
 use Rattle.fs_laws.proofs.examples.victim_is_waited_for.Goals as goal
 
 pub returns : goal.returns

@@ -1,4 +1,4 @@
-use Rattle.fs_laws.proofs.Working.{adds_work}
+use Rattle.fs_laws.proofs.states.StepsTakeWork.{adds_work}
 use Rattle.fs_laws.proofs.laws.begins_add_work.Goals as goal
 
 pub returns : goal.returns

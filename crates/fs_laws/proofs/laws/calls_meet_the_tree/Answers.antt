@@ -1,4 +1,4 @@
-use Rattle.fs_laws.proofs.OneCall.{meets_tree}
+use Rattle.fs_laws.proofs.states.OneCall.{meets_tree}
 use Rattle.fs_laws.proofs.laws.calls_meet_the_tree.Goals as goal
 
 pub returns : goal.returns

@@ -1,4 +1,4 @@
-use Rattle.fs_laws.proofs.Below.{no_later_below}
+use Rattle.fs_laws.proofs.helping.WhoStandsBelow.{no_later_below}
 use Rattle.fs_laws.proofs.laws.earlier_go_first.Goals as goal
 
 pub returns : goal.returns

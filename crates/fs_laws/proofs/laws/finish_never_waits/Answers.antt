@@ -1,4 +1,4 @@
-use Rattle.fs_laws.proofs.Below.{never_waits_to_finish}
+use Rattle.fs_laws.proofs.helping.WhoStandsBelow.{never_waits_to_finish}
 use Rattle.fs_laws.proofs.laws.finish_never_waits.Goals as goal
 
 pub returns : goal.returns

@@ -1,4 +1,4 @@
-use Rattle.fs_laws.proofs.Outside.{helps_each_once}
+use Rattle.fs_laws.proofs.helping.HelpedLeave.{helps_each_once}
 use Rattle.fs_laws.proofs.laws.helps_are_bounded.Goals as goal
 
 pub returns : goal.returns

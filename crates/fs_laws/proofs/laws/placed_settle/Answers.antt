@@ -1,4 +1,4 @@
-use Rattle.fs_laws.proofs.Below.{settles}
+use Rattle.fs_laws.proofs.helping.WhoStandsBelow.{settles}
 use Rattle.fs_laws.proofs.laws.placed_settle.Goals as goal
 
 pub returns : goal.returns

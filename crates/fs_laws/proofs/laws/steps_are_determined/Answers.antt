@@ -1,4 +1,4 @@
-use Rattle.fs_laws.proofs.Determined.{one_step}
+use Rattle.fs_laws.proofs.calls.StepsAreDetermined.{one_step}
 use Rattle.fs_laws.proofs.laws.steps_are_determined.Goals as goal
 
 pub returns : goal.returns

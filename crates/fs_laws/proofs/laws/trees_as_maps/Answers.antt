@@ -1,4 +1,4 @@
-use Rattle.fs_laws.proofs.TreesAsMaps.{trees_as_maps}
+use Rattle.fs_laws.proofs.trees.TreesAsMaps.{trees_as_maps}
 use Rattle.fs_laws.proofs.laws.trees_as_maps.Goals as goal
 
 pub returns : goal.returns

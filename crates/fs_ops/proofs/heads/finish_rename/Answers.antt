@@ -2,7 +2,7 @@ use Rattle.std.proofs.Common.{sym, subst, ◌∙◌}
 use Rattle.fs_names.specs.Names.{Name}
 use Rattle.fs_names.specs.Keys.{last_of}
 use Rattle.fs_nodes.specs.Stores.{graph_of}
-use Rattle.fs_finish.specs.Endings.{IsMade, made_between}
+use Rattle.fs_finish.specs.Endings.{IsEffect, made_between}
 use Rattle.fs_ops.proofs.HeadLemmas.{rename_done, heads_apart}
 use Rattle.fs_ops.proofs.heads.finish_rename.Goals as goal
 
@@ -19,8 +19,8 @@ returns-clause-made c =
     let g = graph_of c.args.store.now in
     let new = graph_of c.rename.new.store in
     let paths = c.paths_of-paths.result in
-    let made = subst (λ (y : Name). IsMade (made_between g c.args.source.node (last_of c.args.path.now) c.args.dest.node y paths.same paths.above paths.one_parent c.args.victim c.args.reserved) c.rename.result new) c.last_name-new_name.ensures
-    (subst (λ (x : Name). IsMade (made_between g c.args.source.node x c.args.dest.node c.last_name-new_name.result.now paths.same paths.above paths.one_parent c.args.victim c.args.reserved) c.rename.result new) c.last_name-name.ensures c.rename.ensures.made) in
+    let made = subst (λ (y : Name). IsEffect (made_between g c.args.source.node (last_of c.args.path.now) c.args.dest.node y paths.same paths.above paths.one_parent c.args.victim c.args.reserved) c.rename.result new) c.last_name-new_name.ensures
+    (subst (λ (x : Name). IsEffect (made_between g c.args.source.node x c.args.dest.node c.last_name-new_name.result.now paths.same paths.above paths.one_parent c.args.victim c.args.reserved) c.rename.result new) c.last_name-name.ensures c.rename.ensures.made) in
     rename_done g c.args.path.now c.args.new_path.now c.args.names c.args.source c.args.dest c.args.victim c.args.reserved
     paths.same paths.above paths.one_parent c.rename.result new c.requires.text c.requires.shared
     (sym c.in_default.is ∙ c.head_fault.ensures) (sym c.in_default-head_fault.is ∙ c.head_fault-2.ensures)

@@ -1,12 +1,12 @@
 use Rattle.std.proofs.Common.{◌≡◌, ◌∙◌, sym, ap}
 use Rattle.fs_names.specs.Keys.{Key}
 use Rattle.fs_nodes.specs.Stores.{graph_of}
-use Rattle.fs_seq.specs.Targets.{form_of}
+use Rattle.fs_calls.specs.code.Targets.{form_of}
 use Rattle.fs_walk.specs.Wants.{want}
 use Rattle.fs_walk.specs.declared.want.Want.{Want}
 use Rattle.fs_walk.specs.declared.want.Want.TheVariants.{Take, LetGo, Fails, Arrived}
-use Rattle.fs_moves.specs.Moves.{target_move}
-use Rattle.fs_ops.specs.Told.{want_then}
+use Rattle.fs_machine.specs.Moves.{target_move}
+use Rattle.fs_ops.specs.code.Told.{want_then}
 use Rattle.fs_ops.specs.Views.{first_path, dropped, stand_with}
 use Rattle.fs_ops.proofs.NextLemmas.{way_is, has_walked}
 use Rattle.fs_ops.proofs.next.way_move.Goals as goal

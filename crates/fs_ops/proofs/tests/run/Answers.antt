@@ -1,7 +1,7 @@
 use Rattle.std.proofs.Common.{sym, ap, ◌∙◌}
 use Rattle.std.specs.Prelude.{is_some}
 use Rattle.fs_nodes.specs.Stores.{graph_of}
-use Rattle.fs_seq.specs.Forms.{form, reserves}
+use Rattle.fs_calls.specs.Forms.{form, reserves}
 use Rattle.fs_ops.proofs.RootLemmas.{unfinished, can_finish}
 use Rattle.fs_ops.proofs.tests.run.Goals as goal
 

@@ -3,8 +3,8 @@ use Rattle.fs_script.specs.TreeText.{tree_text}
 use Rattle.fs_text.specs.Words.{escaped, hex_word}
 use Rattle.percent_encoding.proofs.OnLiterals.{percent_encoding_on_literals}
 use Rattle.hex.proofs.OnLiterals.{hex_on_literals}
-use Rattle.fs_seq.specs.Tree.{look, inserted, removed, renamed}
-use Rattle.fs_seq.specs.Outcomes.{fault, reply, after}
+use Rattle.fs_calls.specs.Tree.{look, inserted, removed, renamed}
+use Rattle.fs_calls.specs.Outcomes.{fault, reply, after}
 use Rattle.fs_script.proofs.examples.trees.Goals as goal
 
 pub returns : goal.returns

@@ -1,5 +1,5 @@
 use Rattle.std.proofs.Common.{◌≡◌, ◌++◌}
-use Rattle.fs_script.specs.Walks.{forest_of, Leads, text_at, pending_at, at_root, left}
+use Rattle.fs_script.specs.code.Walks.{forest_of, Leads, text_at, pending_at, at_root, left}
 use Rattle.fs_script.proofs.tree.push_nodes.Given as goal
 
 abbrev pub invariant-steps : goal.invariant-steps

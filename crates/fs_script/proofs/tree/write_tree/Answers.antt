@@ -1,6 +1,6 @@
 use Rattle.std.proofs.Common.{ap, ◌∙◌}
-use Rattle.fs_seq.specs.Graph.{tree_of}
-use Rattle.fs_script.specs.Walks.{forest_of}
+use Rattle.fs_seq.specs.code.Graph.{tree_of}
+use Rattle.fs_script.specs.code.Walks.{forest_of}
 use Rattle.fs_script.proofs.ForestLemmas.{store_tree}
 use Rattle.fs_script.proofs.StepLemmas.{kept_after}
 use Rattle.fs_script.proofs.tree.write_tree.Goals as goal

@@ -1,7 +1,7 @@
 use Rattle.std.proofs.Common.{◌≡◌, ◌++◌, ◌∷◌, [], ◌∙◌, ap, sym, refl, take, drop, suc, add-one, Some}
-use Rattle.fs_seq.specs.Nodes.{graph}
-use Rattle.fs_seq.specs.Graph.{walk, tree_of}
-use Rattle.fs_seq.specs.Outcomes.{resolution}
+use Rattle.fs_seq.specs.code.Nodes.{graph}
+use Rattle.fs_seq.specs.code.Graph.{walk, tree_of}
+use Rattle.fs_calls.specs.Outcomes.{resolution}
 use Rattle.fs_seq.proofs.NodeLemmas.{has_key, take_snoc, take_around}
 use Rattle.fs_seq.proofs.Resolving.{walk_on, resolution_stuck}
 use Rattle.fs_seq.proofs.nodes.resolve.Goals as goal

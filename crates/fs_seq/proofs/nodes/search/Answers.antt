@@ -3,7 +3,7 @@ use Rattle.std.specs.List.Sorted.{IsBinarySearchResult, IsSearchInRange}
 use Rattle.std.proofs.lemmas.Fn.{always_returns_same}
 use Rattle.fs_names.specs.Names.{name_cmp}
 use Rattle.fs_seq.specs.declared.nodes.Link.{Link}
-use Rattle.fs_seq.specs.Nodes.{pairs, Searches}
+use Rattle.fs_seq.specs.code.Nodes.{pairs, Searches}
 use Rattle.fs_seq.proofs.SearchLemmas.{searched}
 use Rattle.fs_seq.proofs.nodes.search.Goals as goal
 

@@ -1,5 +1,5 @@
 use Rattle.std.proofs.Common.{sym, ◌∙◌, subst}
-use Rattle.fs_text.specs.Answers.{Becomes}
+use Rattle.fs_text.specs.code.Answers.{Becomes}
 use Rattle.fs_text.proofs.ReadLemmas.{piece_pushed, last_piece, words_in, Pieces}
 use Rattle.fs_text.proofs.lines.cut_words.Goals as goal
 

@@ -1,4 +1,4 @@
-use Rattle.fs_laws.proofs.Headlines.{run_keeps}
+use Rattle.fs_laws.proofs.states.Headline.{run_keeps}
 use Rattle.fs_core.proofs.Readiness.{busy_by, refused_same, refused_by, begun_by, none_by_test}
 use Rattle.fs_core.proofs.machine.Core.begin.Goals as goal
 

@@ -1,4 +1,4 @@
-use Rattle.fs_laws.proofs.Journals.{linearizes}
+use Rattle.fs_laws.proofs.journal.BookOfTimeline.{linearizes}
 use Rattle.fs_core.proofs.machine.Core.told.Goals as goal
 
 pub returns-clause-lawful : goal.returns-clause-lawful

@@ -2,7 +2,7 @@ use Rattle.std.proofs.Common.{ap}
 use Rattle.std.specs.BTreeMap.{is_at}
 use Rattle.std.specs.Map.{lookup}
 use Rattle.std.specs.Ordering.{nat_cmp}
-use Rattle.fs_journal.specs.Calls.{call_in, due_in, is_back}
+use Rattle.fs_journal.specs.code.Calls.{call_in, due_in, is_back}
 use Rattle.fs_journal.proofs.checker.Checker.new.Goals as goal
 
 pub returns : goal.returns

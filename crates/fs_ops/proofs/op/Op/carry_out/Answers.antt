@@ -2,7 +2,7 @@ use Rattle.std.proofs.Common.{ap, ◌∙◌}
 use Rattle.fs_nodes.specs.Stores.{graph_of}
 use Rattle.fs_ops.specs.declared.outcome.Outcome.TheVariants.{Fixed}
 use Rattle.fs_ops.specs.Views.{work_of}
-use Rattle.fs_moves.specs.Works.{graph_after}
+use Rattle.fs_machine.specs.Works.{graph_after}
 use Rattle.fs_ops.proofs.FinishLemmas.{finished_is, graph_is, finished_as}
 use Rattle.fs_ops.proofs.op.Op.carry_out.Goals as goal
 

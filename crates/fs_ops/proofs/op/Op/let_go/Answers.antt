@@ -1,6 +1,6 @@
 use Rattle.std.proofs.Common.{◌∙◌, None, sym}
-use Rattle.fs_moves.specs.Leaving.{is_removed, cleared}
-use Rattle.fs_ops.specs.Steps.{fork_after, way_after}
+use Rattle.fs_machine.specs.Leaving.{is_removed, cleared}
+use Rattle.fs_ops.specs.code.Steps.{fork_after, way_after}
 use Rattle.fs_ops.specs.Views.{work_of}
 use Rattle.fs_ops.proofs.LeftLemmas.{last_left, left_as}
 use Rattle.fs_ops.proofs.op.Op.let_go.Goals as goal

@@ -1,7 +1,7 @@
 use Rattle.std.proofs.Common.{◌∙◌, sym, ap}
 use Rattle.std.specs.Option.{is_some}
 use Rattle.fs_nodes.specs.Stores.{graph_of}
-use Rattle.fs_moves.specs.Works.{Work, next_of}
+use Rattle.fs_machine.specs.Works.{Work, next_of}
 use Rattle.fs_ops.proofs.NextLemmas.{finished_is}
 use Rattle.fs_ops.proofs.op.Op.next.Goals as goal
 

@@ -1,6 +1,6 @@
 use Rattle.std.proofs.Common.{◌≡◌, ℕ, ◌∙◌, Some, None, refl, sym, ap, subst}
-use Rattle.fs_seq.specs.Forms.{Form}
-use Rattle.fs_ops.specs.Steps.{TakesTo}
+use Rattle.fs_calls.specs.Forms.{Form}
+use Rattle.fs_ops.specs.code.Steps.{TakesTo}
 use Rattle.fs_walk.specs.Ways.{Way, way_took}
 use Rattle.fs_ops.specs.Views.{work_of}
 use Rattle.fs_ops.proofs.TookLemmas.{walk_took, target_took_is, walk_arrived, took_as}

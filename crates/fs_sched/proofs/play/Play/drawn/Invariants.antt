@@ -1,7 +1,7 @@
 use Rattle.std.proofs.Common.{◌-◌, length}
 use Rattle.fs_sched.specs.Schedules.{drawn_seats, seats_from}
 use Rattle.fs_sched.specs.declared.schedule.TheConstants.{DRAW_LIMIT}
-use Rattle.fs_sched.specs.Stages.{stage_of, IsSeated}
+use Rattle.fs_sched.specs.code.Stages.{stage_of, IsSeated}
 use Rattle.fs_sched.proofs.Staging.{Leads}
 use Rattle.fs_sched.proofs.Stopping.{LeadsToStop}
 use Rattle.fs_sched.proofs.play.Play.drawn.Given as goal

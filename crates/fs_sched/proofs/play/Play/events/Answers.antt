@@ -1,6 +1,6 @@
 use Rattle.std.proofs.Common.{◌≡◌, ◌<◌, Err, ap, rules, arith}
 use Rattle.fs_sched.specs.declared.fault.RunFault.TheVariants.{Full}
-use Rattle.fs_sched.specs.Stages.{stage_of}
+use Rattle.fs_sched.specs.code.Stages.{stage_of}
 use Rattle.fs_sched.proofs.Staging.{lead_more, times_more}
 use Rattle.fs_sched.proofs.Stopping.{stop_more, stop_here}
 use Rattle.fs_sched.proofs.play.Play.events.Goals as goal

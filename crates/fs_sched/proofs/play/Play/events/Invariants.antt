@@ -1,5 +1,5 @@
 use Rattle.std.proofs.Common.{◌-◌, length, replicate}
-use Rattle.fs_sched.specs.Stages.{stage_of, IsSeated}
+use Rattle.fs_sched.specs.code.Stages.{stage_of, IsSeated}
 use Rattle.fs_sched.proofs.Staging.{Leads}
 use Rattle.fs_sched.proofs.Stopping.{LeadsToStop}
 use Rattle.fs_sched.proofs.play.Play.events.Given as goal

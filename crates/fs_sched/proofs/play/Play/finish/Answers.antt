@@ -1,6 +1,6 @@
 use Rattle.std.proofs.Common.{◌≡◌, Err, ap, rules}
 use Rattle.fs_sched.specs.Runs.{Over, InRound}
-use Rattle.fs_sched.specs.Stages.{stage_of}
+use Rattle.fs_sched.specs.code.Stages.{stage_of}
 use Rattle.fs_sched.proofs.Rounds.{round_smaller}
 use Rattle.fs_sched.proofs.Staging.{round_more, seats_there}
 use Rattle.fs_sched.proofs.Stopping.{stop_round}

@@ -1,5 +1,5 @@
 use Rattle.std.proofs.Common.{length}
-use Rattle.fs_sched.specs.Stages.{stage_of, IsSeated}
+use Rattle.fs_sched.specs.code.Stages.{stage_of, IsSeated}
 use Rattle.fs_sched.proofs.Rounds.{left_over}
 use Rattle.fs_sched.proofs.Staging.{LeadsToEnd}
 use Rattle.fs_sched.proofs.Stopping.{LeadsToStopInRounds}

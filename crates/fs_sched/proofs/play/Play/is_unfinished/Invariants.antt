@@ -1,6 +1,6 @@
 use Rattle.std.proofs.Common.{◌≡◌, ◌<◌, ℕ, false}
 use Rattle.fs_sched.specs.Runs.{has_more}
-use Rattle.fs_sched.specs.Stages.{stage_of}
+use Rattle.fs_sched.specs.code.Stages.{stage_of}
 use Rattle.fs_sched.proofs.play.Play.is_unfinished.Given as goal
 
 -- no thread so far has more

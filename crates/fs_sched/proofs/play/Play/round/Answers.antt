@@ -1,5 +1,5 @@
 use Rattle.std.proofs.Common.{◌≡◌, ◌<◌, Err, length, ap, rules, arith}
-use Rattle.fs_sched.specs.Stages.{stage_of}
+use Rattle.fs_sched.specs.code.Stages.{stage_of}
 use Rattle.fs_sched.proofs.Staging.{lead_more, range_more}
 use Rattle.fs_sched.proofs.Stopping.{stop_more, stop_here}
 use Rattle.fs_sched.specs.declared.fault.RunFault.TheVariants.{Full}

@@ -1,6 +1,6 @@
 use Rattle.std.proofs.Common.{◌-◌, length}
 use Rattle.std.specs.List.{range_with_len}
-use Rattle.fs_sched.specs.Stages.{stage_of, IsSeated}
+use Rattle.fs_sched.specs.code.Stages.{stage_of, IsSeated}
 use Rattle.fs_sched.proofs.Staging.{Leads}
 use Rattle.fs_sched.proofs.Stopping.{LeadsToStop}
 use Rattle.fs_sched.proofs.play.Play.round.Given as goal

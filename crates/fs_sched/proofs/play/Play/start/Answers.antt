@@ -2,7 +2,7 @@ use Rattle.std.proofs.Common.{ℕ, ◌≡◌, ◌+◌, ◌<◌, length, get_or, 
 use Rattle.fs_core.specs.Machines.{state_of}
 use Rattle.fs_laws.specs.States.{Begins, Begun_as}
 use Rattle.fs_sched.specs.Runs.{Starts}
-use Rattle.fs_sched.specs.Stages.{stage_of}
+use Rattle.fs_sched.specs.code.Stages.{stage_of}
 use Rattle.fs_sched.proofs.Staging.{call_there, default_same}
 use Rattle.fs_sched.proofs.play.Play.start.Goals as goal
 

@@ -1,5 +1,5 @@
 use Rattle.std.proofs.Common.{◌≡◌, Err, ap, rules}
-use Rattle.fs_sched.specs.Stages.{stage_of}
+use Rattle.fs_sched.specs.code.Stages.{stage_of}
 use Rattle.fs_sched.proofs.Staging.{lead_word}
 use Rattle.fs_sched.proofs.Stopping.{stop_word, stop_in_word}
 use Rattle.fs_sched.specs.declared.fault.RunFault.TheVariants.{Full}

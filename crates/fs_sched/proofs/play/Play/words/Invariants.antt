@@ -1,6 +1,6 @@
 use Rattle.std.proofs.Common.{length, drop}
 use Rattle.fs_sched.specs.Schedules.{given_seats}
-use Rattle.fs_sched.specs.Stages.{stage_of, IsSeated}
+use Rattle.fs_sched.specs.code.Stages.{stage_of, IsSeated}
 use Rattle.fs_sched.proofs.Staging.{Leads}
 use Rattle.fs_sched.proofs.Stopping.{LeadsToStop}
 use Rattle.fs_sched.proofs.play.Play.words.Given as goal

@@ -1,6 +1,6 @@
 use Rattle.std.proofs.Common.{◌≡◌, ap, sym, ◌∙◌, refl}
-use Rattle.fs_seq.specs.Outcomes.{after}
-use Rattle.fs_seq.specs.declared.call.Call.TheVariants.{Stat, Readdir, Read}
+use Rattle.fs_calls.specs.Outcomes.{after}
+use Rattle.fs_calls.specs.declared.call.Call.TheVariants.{Stat, Readdir, Read}
 use Rattle.fs_seq.proofs.Replies.{leaves, on_ok}
 use Rattle.fs_seq.proofs.seq_tree.SeqTree.apply.Goals as goal
 

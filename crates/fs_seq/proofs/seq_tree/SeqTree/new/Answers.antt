@@ -1,4 +1,4 @@
-use Rattle.fs_seq.specs.Nodes.{graph}
+use Rattle.fs_seq.specs.code.Nodes.{graph}
 use Rattle.fs_seq.proofs.Root.{first_node, forest_root, tree_root}
 use Rattle.fs_seq.proofs.seq_tree.SeqTree.new.Goals as goal
 

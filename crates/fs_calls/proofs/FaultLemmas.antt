@@ -1,0 +1,183 @@
+-- What a call without an error finds in a tree.
+use Rattle.std.proofs.Common.{◌≡◌, ◌≢◌, ℕ, ◌+◌, length, Bool, true, false, cond, not, ◌&&◌, ◌||◌, List, [], ◌∷◌, ◌++◌, Some, None, Option, is_some, refl, sym, ap, subst, ◌∙◌}
+use Rattle.std.specs.Prelude.{nat_lt}
+use Rattle.fs_names.specs.First.{on, first}
+use Rattle.fs_names.specs.Names.{Name}
+use Rattle.fs_names.specs.Keys.{Key, is_root, is_proper_prefix, after_prefix, parent_of}
+use Rattle.fs_names.specs.declared.limits.TheConstants.{FILE_LIMIT}
+use Rattle.fs_names.proofs.FirstLemmas.{or_else-none, on-none}
+use Rattle.fs_calls.specs.Tree as tree
+use Rattle.fs_calls.specs.Tree.{Tree, Node, look, names_in, IsTree}
+use Rattle.fs_calls.specs.Shapes.{seen, shape_of, is_there, is_missing, is_dir, is_file, has_entries, has_any, is_full}
+use Rattle.fs_calls.proofs.RowNames.{making}
+use Rattle.fs_calls.specs.Forms.{form, by_text}
+use Rattle.fs_calls.specs.Rows.{place_errors, has_room}
+use Rattle.fs_calls.specs.Outcomes.{resolution, parents_resolution, row, fault}
+use Rattle.fs_calls.specs.declared.call.Call.{Call}
+use Rattle.fs_calls.specs.declared.call.Call.TheVariants.{Mkdir, Mknod, Unlink, Rmdir, Rename, Write, Truncate}
+use Rattle.fs_calls.specs.declared.errno.Errno.{Errno}
+use Rattle.fs_calls.specs.declared.errno.Errno.TheVariants.{Enoent, Enotdir, Eexist, Enotempty, Eisdir, Einval, Ebusy, Eperm, Enospc, Efbig}
+use Rattle.fs_calls.specs.Sights.{is_same}
+use Rattle.fs_calls.proofs.KeyLemmas.{never_same, no_prefix}
+use Rattle.fs_calls.proofs.ResolutionLemmas.{nothing_below, empty_below, no_names, parents_resolution-none}
+
+-- ---- checks in order
+
+-- no check of several finds anything
+abbrev pub AllNone : {F : Type 0} → List (Option F) → Type 0
+AllNone [] = Unit {0}
+AllNone (check ∷ checks) = (check ≡ None) × AllNone checks
+
+-- where the first of several checks finds nothing, none does
+pub all_none : {F : Type 0} (checks : List (Option F)) → first checks ≡ None → AllNone checks
+all_none [] e = tt
+all_none (check ∷ checks) e = let both = or_else-none check (first checks) e in (both.0, all_none checks both.1)
+
+-- of two tests of which neither is true, the first is false
+pub or_first : (a b : Bool) → (a || b) ≡ false → a ≡ false
+or_first true b e = absurd (cc)
+or_first false b e = refl
+
+-- and so is the second
+pub or_second : (a b : Bool) → (a || b) ≡ false → b ≡ false
+or_second true b e = absurd (cc)
+or_second false b e = e
+
+-- a call without an error has none by its paths alone
+pub by_text_none : (t : Tree) (call : Call) → fault t call ≡ None → by_text (form call) ≡ None
+unfolding fault
+by_text_none t call h = (or_else-none (by_text (form call)) (row t call) h).0
+
+-- and none by what is read
+row_none : (t : Tree) (call : Call) → fault t call ≡ None → row t call ≡ None
+unfolding fault
+row_none t call h = (or_else-none (by_text (form call)) (row t call) h).1
+
+-- ---- shapes
+
+-- where nothing is seen, nothing stands
+absent : (t : Tree) (k : Key) (o : Option Node) → is_there (shape_of t k o) ≡ false → o ≡ None
+absent t k None e = refl
+absent t k (Some tree.Dir) e = absurd (cc)
+absent t k (Some (tree.File bytes)) e = absurd (cc)
+
+-- what is seen and is no directory is none in the tree
+no_directory : (t : Tree) (k : Key) (o : Option Node) → is_missing (shape_of t k o) ≡ false → is_dir (shape_of t k o) ≡ false → o ≢ Some tree.Dir
+no_directory t k None e f = absurd (cc)
+no_directory t k (Some tree.Dir) e f = absurd (cc)
+no_directory t k (Some (tree.File bytes)) e f = λ same. absurd (cc)
+
+-- where something is seen, something stands
+some_there : (t : Tree) (k : Key) (o : Option Node) → is_missing (shape_of t k o) ≡ false → is_some o ≡ true
+some_there t k None e = absurd (cc)
+some_there t k (Some n) e = refl
+
+-- whatever stands there has no entries, so nothing stands below
+bare_below : (t : Tree) (k : Key) (o : Option Node) → IsTree t → look t k ≡ o → has_entries (shape_of t k o) ≡ false → (x : Name) (rest : Key) → look t (k ++ x ∷ rest) ≡ None
+bare_below t k None is e f = nothing_below t k is (λ same. absurd (cc))
+bare_below t k (Some tree.Dir) is e f = empty_below t k is (no_names t k f)
+bare_below t k (Some (tree.File bytes)) is e f = nothing_below t k is (λ same. absurd (cc))
+
+-- ---- calls
+
+-- mkdir and mknod find a directory, and nothing at the path
+pub record Makes (t : Tree) (p : Key) : Type 0 where
+  pub named : is_root p ≡ false
+  pub parent : look t (parent_of p) ≡ Some tree.Dir
+  pub absent : look t p ≡ None
+
+-- what both find, by their errors
+makes : (t : Tree) (p : Key) → IsTree t → on (is_root p) Eexist ≡ None → making (parents_resolution t p) (seen t (parent_of p)) (seen t p) ≡ None → Makes t p
+makes t p is text h =
+    let none = all_none (parents_resolution t p ∷ on (is_there (seen t p)) Eexist ∷ on (is_full (seen t (parent_of p))) Enospc ∷ []) h in
+    record {
+      named = on-none (is_root p) Eexist text;
+      parent = parents_resolution-none t p is none.0;
+      absent = absent t p (look t p) (on-none (is_there (seen t p)) Eexist none.1.0);
+    }
+
+-- what mkdir finds
+pub mkdir_makes : (t : Tree) (p : Key) → IsTree t → fault t (Mkdir p) ≡ None → Makes t p
+mkdir_makes t p is h = makes t p is (by_text_none t (Mkdir p) h) (row_none t (Mkdir p) h)
+
+-- what mknod finds
+pub mknod_makes : (t : Tree) (p : Key) → IsTree t → fault t (Mknod p) ≡ None → Makes t p
+mknod_makes t p is h = makes t p is (by_text_none t (Mknod p) h) (row_none t (Mknod p) h)
+
+-- unlink and rmdir find a node with nothing below it, which is not the root
+pub record Removes (t : Tree) (p : Key) : Type 0 where
+  pub named : is_root p ≡ false
+  pub there : is_some (look t p) ≡ true
+  pub bare : (x : Name) (rest : Key) → look t (p ++ x ∷ rest) ≡ None
+
+-- what unlink finds
+pub unlink_removes : (t : Tree) (p : Key) → IsTree t → fault t (Unlink p) ≡ None → Removes t p
+unlink_removes t p is h =
+    let none = all_none (parents_resolution t p ∷ on (is_missing (seen t p)) Enoent ∷ on (is_dir (seen t p)) Eperm ∷ []) (row_none t (Unlink p) h) in
+    let missing = on-none (is_missing (seen t p)) Enoent none.1.0 in
+    let dir = on-none (is_dir (seen t p)) Eperm none.1.1.0 in
+    record {
+      named = on-none (is_root p) Eperm (by_text_none t (Unlink p) h);
+      there = some_there t p (look t p) missing;
+      bare = nothing_below t p is (no_directory t p (look t p) missing dir);
+    }
+
+-- what rmdir finds
+pub rmdir_removes : (t : Tree) (p : Key) → IsTree t → fault t (Rmdir p) ≡ None → Removes t p
+rmdir_removes t p is h =
+    let none = all_none (parents_resolution t p ∷ on (is_missing (seen t p)) Enoent ∷ on (is_file (seen t p)) Enotdir ∷ on (has_entries (seen t p)) Enotempty ∷ []) (row_none t (Rmdir p) h) in
+    record {
+      named = on-none (is_root p) Ebusy (by_text_none t (Rmdir p) h);
+      there = some_there t p (look t p) (on-none (is_missing (seen t p)) Enoent none.1.0);
+      bare = bare_below t p (look t p) is refl (on-none (has_entries (seen t p)) Enotempty none.1.1.1.0);
+    }
+
+-- write and truncate find a file
+pub record Writes (t : Tree) (p : Key) : Type 0 where
+  pub there : is_some (look t p) ≡ true
+  pub no_dir : look t p ≢ Some tree.Dir
+
+-- what both find, by their errors
+writes : (t : Tree) (p : Key) (checks : List (Option Errno)) → IsTree t → first (resolution t p ∷ on (is_missing (seen t p)) Enoent ∷ on (is_dir (seen t p)) Eisdir ∷ checks) ≡ None → Writes t p
+writes t p checks is h =
+    let none = all_none (resolution t p ∷ on (is_missing (seen t p)) Enoent ∷ on (is_dir (seen t p)) Eisdir ∷ checks) h in
+    let missing = on-none (is_missing (seen t p)) Enoent none.1.0 in
+    record {
+      there = some_there t p (look t p) missing;
+      no_dir = no_directory t p (look t p) missing (on-none (is_dir (seen t p)) Eisdir none.1.1.0);
+    }
+
+-- what write finds
+pub write_writes : (t : Tree) (p : Key) (off : ℕ) (bytes : List ℕ) → IsTree t → fault t (Write p off bytes) ≡ None → Writes t p
+write_writes t p off bytes is h = writes t p (on (has_any bytes && nat_lt FILE_LIMIT (off + length bytes)) Efbig ∷ []) is (row_none t (Write p off bytes) h)
+
+-- what truncate finds
+pub truncate_writes : (t : Tree) (p : Key) (size : ℕ) → IsTree t → fault t (Truncate p size) ≡ None → Writes t p
+truncate_writes t p size is h = writes t p (on (nat_lt FILE_LIMIT size) Efbig ∷ []) is (row_none t (Truncate p size) h)
+
+-- a rename that moves finds a node, a directory for its new place, and nothing below that place; neither path is the
+-- root, and the node does not stand above its new place
+pub record Renames (t : Tree) (p q : Key) : Type 0 where
+  pub named : is_root p ≡ false
+  pub new_named : is_root q ≡ false
+  pub beside : after_prefix p q ≡ None
+  pub new_parent : look t (parent_of q) ≡ Some tree.Dir
+  pub there : is_some (look t p) ≡ true
+  pub bare : (x : Name) (rest : Key) → look t (q ++ x ∷ rest) ≡ None
+
+-- what a rename finds
+pub rename_renames : (t : Tree) (p q : Key) → IsTree t → fault t (Rename p q) ≡ None → p ≢ q → Renames t p q
+rename_renames t p q is h other =
+    let text = all_none (on (is_root p || is_root q) Ebusy ∷ on (is_proper_prefix p q) Einval ∷ []) (by_text_none t (Rename p q) h) in
+    let roots = on-none (is_root p || is_root q) Ebusy text.0 in
+    let rest = place_errors (seen t p) (seen t q) (has_room (is_same (parent_of p) (parent_of q)) (seen t (parent_of q))) in
+    let none = all_none (parents_resolution t p ∷ parents_resolution t q ∷ on (is_missing (seen t p)) Enoent ∷ cond {A = List (Option Errno)} (is_same p q) [] rest) (row_none t (Rename p q) h) in
+    let replaced : AllNone rest = subst (λ b. AllNone (cond {A = List (Option Errno)} b [] rest)) (never_same p q other) none.1.1.1 in
+    record {
+      named = or_first (is_root p) (is_root q) roots;
+      new_named = or_second (is_root p) (is_root q) roots;
+      beside = no_prefix p q (on-none (is_proper_prefix p q) Einval text.1.0) other;
+      new_parent = parents_resolution-none t q is none.1.0;
+      there = some_there t p (look t p) (on-none (is_missing (seen t p)) Enoent none.1.1.0);
+      bare = bare_below t q (look t q) is refl (on-none (has_entries (seen t q)) Enotempty replaced.1.1.0);
+    }

@@ -1,0 +1,11 @@
+pub mod LookLemmas
+pub mod ListLemmas
+pub mod KeyLemmas
+pub mod Children
+pub mod RowNames
+pub mod ResolutionLemmas
+pub mod FaultLemmas
+pub mod OutcomeLemmas
+pub mod RenamedTrees
+pub mod TreeLaws
+pub mod WrittenBytes

@@ -1,0 +1,46 @@
+-- The rows of the calls by name, for proofs that speak of one row.
+use Rattle.std.proofs.Common.{◌≡◌, ℕ, Bool, false, List, [], ◌∷◌, Option, Some, None, refl}
+use Rattle.fs_names.specs.First.{on, first}
+use Rattle.fs_names.specs.Keys.{Key, has_more}
+use Rattle.fs_names.specs.Names.{Name}
+use Rattle.fs_names.specs.Shapes.{Shape, Dir, is_full}
+use Rattle.fs_calls.specs.Forms.{Mkdir, Unlink, Rmdir, NodeCall, Stat, Readdir, Read, Write, Truncate}
+use Rattle.fs_calls.specs.Rows.{node_fault, entry_fault, on_row}
+use Rattle.fs_calls.specs.declared.errno.Errno.{Errno}
+use Rattle.fs_calls.specs.declared.errno.Errno.TheVariants.{Einval}
+
+-- mkdir and mknod
+abbrev pub making : Option Errno → Option Shape → Option Shape → Option Errno
+making parent dir there = entry_fault Mkdir parent (is_full dir) there
+
+-- unlink and rmdir do not ask whether the directory is full
+abbrev pub unlinking : Option Errno → Option Shape → Option Errno
+unlinking parent there = entry_fault Unlink parent false there
+
+abbrev pub removing : Option Errno → Option Shape → Option Errno
+removing parent there = entry_fault Rmdir parent false there
+
+-- readdir, read, write, truncate
+abbrev pub listing : Option Errno → Option Shape → Option Errno
+listing found there = node_fault Readdir found there
+
+abbrev pub reading : Option Errno → Option Shape → Option Errno
+reading found there = node_fault (Read 0 0) found there
+
+abbrev pub writing : Option Errno → Option Shape → ℕ → List ℕ → Option Errno
+writing found there off bytes = node_fault (Write off bytes) found there
+
+abbrev pub truncating : Option Errno → Option Shape → ℕ → Option Errno
+truncating found there size = node_fault (Truncate size) found there
+
+-- the error of a rename to a place below the node itself
+abbrev pub if_below : Option Key → Option Errno
+if_below rest = first (on (has_more rest) Einval ∷ [])
+
+-- a directory gets no bytes
+pub on_dir : (c : NodeCall) (names : List Name) → (on_row c None (Some (Dir names))).1 ≡ None
+on_dir Stat names = refl
+on_dir Readdir names = refl
+on_dir (Read off count) names = refl
+on_dir (Write off bytes) names = refl
+on_dir (Truncate size) names = refl

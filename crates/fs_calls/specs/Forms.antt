@@ -1,0 +1,76 @@
+-- The forms of calls, by what they look at: a node, an entry of a directory, or two entries.
+use Rattle.std.specs.Prelude.{ℕ, ◌≡◌, ◌||◌, List, [], ◌∷◌, ◌++◌, Option, Some, None}
+use Rattle.fs_names.specs.First.{on, first}
+use Rattle.fs_names.specs.Keys.{Key, is_root, is_proper_prefix}
+use Rattle.fs_names.specs.Shapes.{Shape, Dir, File}
+use Rattle.fs_calls.specs.declared.call.Call.{Call}
+use Rattle.fs_calls.specs.declared.call.Call.TheVariants as calls
+pub use Rattle.fs_calls.specs.declared.target.EntryCall.{EntryCall}
+pub use Rattle.fs_calls.specs.declared.target.EntryCall.TheVariants.{Mkdir, Mknod, Unlink, Rmdir}
+pub use Rattle.fs_calls.specs.declared.target.PairCall.{PairCall}
+pub use Rattle.fs_calls.specs.declared.target.PairCall.TheVariants.{Rename}
+use Rattle.fs_calls.specs.declared.errno.Errno.{Errno}
+use Rattle.fs_calls.specs.declared.errno.Errno.TheVariants.{Eexist, Einval, Ebusy, Eperm}
+
+-- stat, readdir, read (offset, count), write (offset, bytes), truncate (size)
+pub data NodeCall : Type 0 where
+  Stat : NodeCall
+  Readdir : NodeCall
+  Read : ℕ → ℕ → NodeCall
+  Write : ℕ → List ℕ → NodeCall
+  Truncate : ℕ → NodeCall
+
+pub data Form : Type 0 where
+  AtNode : NodeCall → Key → Form
+  AtEntry : EntryCall → Key → Form
+  AtPair : PairCall → Key → Key → Form
+
+-- the form of a call
+abbrev pub form : Call → Form
+form (calls.Mkdir p) = AtEntry Mkdir p
+form (calls.Mknod p) = AtEntry Mknod p
+form (calls.Unlink p) = AtEntry Unlink p
+form (calls.Rmdir p) = AtEntry Rmdir p
+form (calls.Rename p q) = AtPair Rename p q
+form (calls.Stat p) = AtNode Stat p
+form (calls.Readdir p) = AtNode Readdir p
+form (calls.Read p off count) = AtNode (Read off count) p
+form (calls.Write p off bytes) = AtNode (Write off bytes) p
+form (calls.Truncate p size) = AtNode (Truncate size) p
+
+-- the error of a call on the root's entry
+abbrev pub root_error : EntryCall → Errno
+root_error Mkdir = Eexist
+root_error Mknod = Eexist
+root_error Unlink = Eperm
+root_error Rmdir = Ebusy
+
+-- what the paths of a call decide alone
+abbrev pub by_text : Form → Option Errno
+by_text (AtNode c p) = None
+by_text (AtEntry c p) = on (is_root p) (root_error c)
+by_text (AtPair Rename p q) = first (on (is_root p || is_root q) Ebusy ∷ on (is_proper_prefix p q) Einval ∷ [])
+
+-- the same call with its paths read from k on
+abbrev pub under : Key → Form → Form
+under k (AtNode c p) = AtNode c (k ++ p)
+under k (AtEntry c p) = AtEntry c (k ++ p)
+under k (AtPair c p q) = AtPair c (k ++ p) (k ++ q)
+
+-- the node that a call may add
+abbrev pub new_shape : EntryCall → Option Shape
+new_shape Mkdir = Some (Dir [])
+new_shape Mknod = Some (File [])
+new_shape Unlink = None
+new_shape Rmdir = None
+
+-- what a call reserves a node for when it begins
+abbrev pub reserves : Form → Option Shape
+reserves (AtNode c p) = None
+reserves (AtEntry c []) = None
+reserves (AtEntry c (x ∷ p)) = new_shape c
+reserves (AtPair c p q) = None
+
+-- a call that its paths alone do not decide
+abbrev pub Fits : Form → Type 0
+Fits call = by_text call ≡ None

@@ -1,0 +1,41 @@
+-- What holds of the definitions: laws, each proved as the contract of a function of the module `laws`.
+use Rattle.std.specs.Prelude.{◌≡◌, ◌≢◌, List, ◌∷◌, ◌++◌, Some, None}
+use Rattle.fs_names.specs.Names.{Name}
+use Rattle.fs_names.specs.Keys.{Key, after_prefix}
+use Rattle.fs_calls.specs.Tree.{Tree, Node, Dir, look, IsTree}
+use Rattle.fs_calls.specs.Outcomes.{fault, reply, after, play}
+use Rattle.fs_calls.specs.declared.call.Call.{Call}
+use Rattle.fs_calls.specs.declared.call.Call.TheVariants.{Rename}
+use Rattle.fs_calls.specs.declared.errno.Errno.{Errno}
+use Rattle.fs_calls.specs.declared.reply.Reply.TheVariants.{Failed}
+
+-- a call whose reply is an error leaves the tree
+abbrev pub ErrorsChangeNothing : Type 0
+ErrorsChangeNothing = (t : Tree) (call : Call) (e : Errno) → reply t call ≡ Failed e → after t call ≡ t
+
+-- after a call, a tree is a tree
+abbrev pub StaysATree : Type 0
+StaysATree = (t : Tree) (call : Call) → IsTree t → IsTree (after t call)
+
+-- what has something below it is a directory
+abbrev pub HasDirectoriesAbove : Tree → Type 0
+HasDirectoriesAbove t = (d : Key) (x : Name) (rest : Key) (n : Node) → look t (d ++ x ∷ rest) ≡ Some n → look t d ≡ Some Dir
+
+-- in a tree that was played the root is a directory, and so is each proper prefix of a key
+abbrev pub PlayedTreesAreTrees : Type 0
+PlayedTreesAreTrees = (calls : List Call) → IsTree (play calls) × HasDirectoriesAbove (play calls)
+
+-- trees in which the same stands at each key are one
+abbrev pub SameTrees : Type 0
+SameTrees = (s t : Tree) → IsTree s → IsTree t → ((k : Key) → look s k ≡ look t k) → s ≡ t
+
+-- the second tree has at q and below it what the first has at p and below it, nothing at p and below it, and all else as it was
+pub record IsMoved (old new : Tree) (p q : Key) : Type 0 where
+  pub arrived : (rest : Key) → look new (q ++ rest) ≡ look old (p ++ rest)
+  pub gone : (rest : Key) → look new (p ++ rest) ≡ None
+  pub others : (k : Key) → after_prefix p k ≡ None → after_prefix q k ≡ None → look new k ≡ look old k
+
+-- a rename without an error moves a node, with all below it, and one onto itself changes nothing
+pub record RenamesMove : Type 0 where
+  pub moved : (t : Tree) (p q : Key) → IsTree t → fault t (Rename p q) ≡ None → p ≢ q → IsMoved t (after t (Rename p q)) p q
+  pub onto_itself : (t : Tree) (p : Key) → after t (Rename p p) ≡ t

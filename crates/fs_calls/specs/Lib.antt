@@ -1,0 +1,10 @@
+pub mod Tree
+pub mod Shapes
+pub mod Forms
+pub mod Rows
+pub mod Sights
+pub mod Outcomes
+pub mod Replies
+pub mod Laws
+pub mod Examples
+pub mod code

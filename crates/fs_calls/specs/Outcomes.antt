@@ -1,0 +1,91 @@
+-- What each call replies on a tree, and the tree after it: the rows, read at the keys of the tree.
+use Rattle.std.specs.Prelude.{ℕ, List, [], ◌∷◌, if◌then◌else◌, Option, Some, None}
+use Rattle.fs_names.specs.First.{or_else}
+use Rattle.fs_names.specs.Keys.{Key, parent_of}
+use Rattle.fs_calls.specs.Tree as tree
+use Rattle.fs_calls.specs.Tree.{Tree, Node, root_tree, inserted, removed, renamed}
+use Rattle.fs_calls.specs.Shapes.{Shape, Dir, File, seen}
+use Rattle.fs_calls.specs.Sights.{resolve, resolve_dir, is_same, row_in}
+use Rattle.fs_calls.specs.Forms.{form, by_text, new_shape, Form, AtNode, AtEntry, AtPair}
+use Rattle.fs_calls.specs.declared.target.PairCall.TheVariants as pairs
+use Rattle.fs_calls.specs.Rows.{node_reply, new_bytes, Edit, Keep, Add, Remove, edit_of}
+use Rattle.fs_calls.specs.declared.call.Call.{Call}
+use Rattle.fs_calls.specs.declared.reply.Reply.{Reply}
+use Rattle.fs_calls.specs.declared.reply.Reply.TheVariants as answer
+use Rattle.fs_calls.specs.declared.errno.Errno.{Errno}
+
+-- resolution, and the parent's resolution
+abbrev pub resolution : Tree → Key → Option Errno
+resolution t p = resolve (seen t) p
+
+abbrev pub parents_resolution : Tree → Key → Option Errno
+parents_resolution t p = resolve_dir (seen t) (parent_of p)
+
+-- the reply and the tree of a call without an error
+abbrev pub reply_of : Tree → Form → Reply
+reply_of t (AtNode c p) = node_reply c (seen t p)
+reply_of t (AtEntry c p) = answer.Done
+reply_of t (AtPair pairs.Rename p q) = answer.Done
+
+abbrev pub filled : Tree → Key → Option (List ℕ) → Tree
+filled t p None = t
+filled t p (Some bytes) = inserted t p (tree.File bytes)
+
+abbrev pub node_of : Shape → Node
+node_of (Dir names) = tree.Dir
+node_of (File bytes) = tree.File bytes
+
+abbrev pub edited : Tree → Key → Edit → Tree
+edited t p Keep = t
+edited t p (Add shape) = inserted t p (node_of shape)
+edited t p Remove = removed t p
+
+abbrev pub change_of : Tree → Form → Tree
+change_of t (AtNode c p) = filled t p (new_bytes c (seen t p))
+change_of t (AtEntry c p) = edited t p (edit_of (new_shape c))
+change_of t (AtPair pairs.Rename p q) = if is_same p q then t else renamed t p q
+
+-- the same of each call
+abbrev pub row : Tree → Call → Option Errno
+row t call = row_in (seen t) (form call)
+
+abbrev pub success : Tree → Call → Reply
+success t call = reply_of t (form call)
+
+abbrev pub change : Tree → Call → Tree
+change t call = change_of t (form call)
+
+-- the first error of a call
+unfoldable pub fault : Tree → Call → Option Errno
+fault t call = or_else (by_text (form call)) (row t call)
+
+abbrev pub replied : Option Errno → Reply → Reply
+replied None well = well
+replied (Some e) well = answer.Failed e
+
+abbrev pub unless : Option Errno → Tree → Tree → Tree
+unless None old new = new
+unless (Some e) old new = old
+
+-- what a call replies, and the tree after it
+unfoldable pub reply : Tree → Call → Reply
+reply t call = replied (fault t call) (success t call)
+
+unfoldable pub after : Tree → Call → Tree
+after t call = unless (fault t call) t (change t call)
+
+-- the tree after a list of calls, and from the root alone
+abbrev pub play_from : Tree → List Call → Tree
+play_from t [] = t
+play_from t (call ∷ calls) = play_from (after t call) calls
+
+abbrev pub play : List Call → Tree
+play calls = play_from root_tree calls
+
+-- the replies to a list of calls, and from the root alone
+abbrev pub replies_from : Tree → List Call → List Reply
+replies_from t [] = []
+replies_from t (call ∷ calls) = reply t call ∷ replies_from (after t call) calls
+
+abbrev pub replies : List Call → List Reply
+replies calls = replies_from root_tree calls

@@ -1,0 +1,45 @@
+-- When two replies are the same.
+use Rattle.std.specs.Prelude.{ℕ, Bool, true, false, ◌&&◌, ◌==◌, List, nat_eq}
+use lib.Pointwise.{pointwise}
+use Rattle.fs_names.specs.Names.{Name}
+use Rattle.fs_names.specs.declared.kind.Kind.{Kind}
+use Rattle.fs_names.specs.declared.kind.Kind.TheVariants as kind
+use Rattle.fs_calls.specs.declared.errno.Errno.{Errno}
+use Rattle.fs_calls.specs.declared.errno.Errno.TheVariants.{Enoent, Enotdir, Eexist, Enotempty, Eisdir, Einval, Ebusy, Eperm, Enospc, Efbig}
+use Rattle.fs_calls.specs.declared.reply.Reply.{Reply}
+use Rattle.fs_calls.specs.declared.reply.Reply.TheVariants.{Done, Stat, Names, Bytes, Wrote, Failed}
+
+abbrev pub same_kind : Kind → Kind → Bool
+same_kind kind.Dir kind.Dir = true
+same_kind kind.Dir kind.File = false
+same_kind kind.File kind.Dir = false
+same_kind kind.File kind.File = true
+
+-- the number of an error
+abbrev pub number_of : Errno → ℕ
+number_of Enoent = 1
+number_of Enotdir = 2
+number_of Eexist = 3
+number_of Enotempty = 4
+number_of Eisdir = 5
+number_of Einval = 6
+number_of Ebusy = 7
+number_of Eperm = 8
+number_of Enospc = 9
+number_of Efbig = 10
+
+abbrev pub same_bytes : List ℕ → List ℕ → Bool
+same_bytes = pointwise nat_eq
+
+abbrev pub same_names : List Name → List Name → Bool
+same_names = pointwise same_bytes
+
+-- of one form, with the same parts
+abbrev pub same_reply : Reply → Reply → Bool
+same_reply Done Done = true
+same_reply (Stat k n) (Stat l m) = same_kind k l && (n == m)
+same_reply (Names xs) (Names ys) = same_names xs ys
+same_reply (Bytes xs) (Bytes ys) = same_bytes xs ys
+same_reply (Wrote n) (Wrote m) = n == m
+same_reply (Failed e) (Failed f) = number_of e == number_of f
+same_reply _ _ = false

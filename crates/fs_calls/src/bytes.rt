@@ -1,0 +1,60 @@
+//! The bytes of a file.
+
+ghost use Rattle.std.specs.Prelude.{◌≡◌, IfOk};
+ghost use Rattle.fs_calls.specs.Replies.{same_bytes};
+
+use std::alloc::AllocError;
+use std::marker::Model;
+
+/// Bytes, seen as their list: those of a file that a call writes or a reply holds.
+#[derive(Debug, Drop)]
+pub struct Bytes {
+    items: Vec<u8>,
+}
+
+impl Model for Bytes {
+    ghost use Rattle.std.specs.Prelude.{ℕ, List};
+
+    ghost Value = { List ℕ };
+
+    ghost view = { λ b. b.items.items };
+}
+
+impl Bytes {
+    /// The bytes of a vector, which is kept and not copied.
+    pub fn new(items: Vec<u8>) -> Bytes
+        ensures { result ≡ items.items }
+    {
+        Self { items }
+    }
+
+    /// The bytes, in order.
+    pub fn as_slice(&self) -> &[u8]
+        ensures { result.now ≡ self.now }
+    {
+        self.items.as_slice()
+    }
+
+    /// Gives the vector back.
+    pub fn into_vec(self) -> Vec<u8>
+        ensures { result.items ≡ self }
+    {
+        let Bytes { items } = self;
+        items
+    }
+
+    /// Whether the other bytes are the same.
+    pub fn same(&self, other: &Bytes) -> bool
+        ensures { result ≡ same_bytes self.now other.now }
+    {
+        self.items == other.items
+    }
+
+    /// The same bytes again.
+    pub fn copy(&self) -> Result<Bytes, AllocError>
+        ensures { IfOk result (λ bytes. bytes ≡ self.now) }
+    {
+        let items = self.items.clone()?;
+        Ok(Bytes { items })
+    }
+}

@@ -1,0 +1,38 @@
+//! Worked examples, which the check computes from the definitions.
+
+ghost use Rattle.fs_calls.specs.Examples.{RootCalls, ResolutionErrors, FileBytes, FileOffsets, RenamesInSequence, RenamesOntoAncestors, FullDirectory};
+
+/// Calls on the root.
+pub fn calls_on_the_root()
+    ensures { RootCalls }
+{}
+
+/// Names that lead nowhere, and kinds that do not fit.
+pub fn errors_of_resolution()
+    ensures { ResolutionErrors }
+{}
+
+/// Gaps, short reads and the limit of a file.
+pub fn bytes_of_files()
+    ensures { FileBytes }
+{}
+
+/// Offsets near 2^64, empty data and the order of errors.
+pub fn offsets_of_files()
+    ensures { FileOffsets }
+{}
+
+/// Renames one after another, with the tree at the end.
+pub fn renames_in_sequence()
+    ensures { RenamesInSequence }
+{}
+
+/// A rename onto an ancestor finds the old path missing before it finds the new one in use.
+pub fn renames_onto_ancestors()
+    ensures { RenamesOntoAncestors }
+{}
+
+/// A directory with as many entries as it can have.
+pub fn full_directory()
+    ensures { FullDirectory }
+{}

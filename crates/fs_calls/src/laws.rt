@@ -1,0 +1,31 @@
+//! What holds of the definitions. Each function's contract is a law, and its body is empty.
+
+ghost use Rattle.fs_calls.specs.Laws.{ErrorsChangeNothing, StaysATree, PlayedTreesAreTrees, SameTrees, RenamesMove};
+
+/// A call whose reply is an error leaves the tree as it was.
+pub fn errors_change_nothing()
+    ensures { ErrorsChangeNothing }
+{}
+
+/// After each call a tree is a tree: its keys are in order, the root is a directory, and what is not the root stands
+/// in a directory.
+pub fn stays_a_tree()
+    ensures { StaysATree }
+{}
+
+/// After each list of calls, from the root alone, the tree is a tree, and each proper prefix of one of its keys is a
+/// directory.
+pub fn played_trees_are_trees()
+    ensures { PlayedTreesAreTrees }
+{}
+
+/// Two trees in which the same stands at each key are one.
+pub fn same_trees()
+    ensures { SameTrees }
+{}
+
+/// A rename without an error moves a node with all below it, and nothing else; one of a path onto itself changes
+/// nothing.
+pub fn renames_move()
+    ensures { RenamesMove }
+{}

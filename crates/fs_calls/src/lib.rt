@@ -1,0 +1,27 @@
+//! Calls and replies, and what they mean: the definitions of the tree, with one table of errors, replies and changes.
+//!
+//! A `Call` is one of the ten calls with its paths; `Call::target` tells what it looks at: a node, an entry, or two entries.
+//! A `Reply` is what it answers. Both hold no bare vector, so that two that say the same are equal in a contract.
+//! The crate has no tree that runs: it says what one has to answer. `specs/Tree.antt` is the tree as a sorted list,
+//! `specs/Rows.antt` the table, `specs/Outcomes.antt` reads a tree and answers by it (`reply`, `after`, `play`).
+//! The module `laws` has what holds of these definitions, `examples` has worked rows that the check computes.
+#![tactic(auto)]
+
+pub mod bytes;
+pub mod call;
+pub mod errno;
+pub mod examples;
+pub mod laws;
+pub mod name_list;
+pub mod ranges;
+pub mod reply;
+pub mod target;
+#[cfg(test)]
+mod tests;
+
+pub use bytes::Bytes;
+pub use call::Call;
+pub use errno::Errno;
+pub use name_list::NameList;
+pub use reply::Reply;
+pub use target::{EntryCall, NodeCall, PairCall, Target};

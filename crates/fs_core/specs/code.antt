@@ -1,0 +1,5 @@
+-- What ties the code to the definitions: of it nothing has to be believed.
+pub mod Rooms
+pub mod Seats
+pub mod Helping
+pub mod Searches

@@ -1,0 +1,45 @@
+-- What a core keeps beside its state: counters, room for holders, and places for the entries that are owed.
+use Rattle.std.specs.Prelude.{ℕ, ◌≡◌, ◌+◌, ◌<◌, ◌≤◌, Bool, ◌&&◌, is_none, if◌then◌else◌, List, [], ◌∷◌, Option, Some, None}
+use Rattle.fs_names.specs.Shapes.{Shape}
+use Rattle.fs_nodes.specs.Graphs.{Graph}
+use Rattle.fs_nodes.specs.Stores.{graph_of}
+use Rattle.fs_locks.specs.Holding.{room}
+use Rattle.fs_timeline.specs.Timeline.{begins, commit_count}
+use Rattle.fs_laws.specs.States.{Run}
+use Rattle.fs_core.specs.declared.seat.Running.{Running}
+use Rattle.fs_core.specs.Machines.{Machine, state_of}
+
+-- a call without a place in the timeline
+abbrev pub is_walking : Running → Bool
+is_walking running = is_none running.place && is_none running.op.reply
+
+-- how many calls are walking
+abbrev pub walking_at : Option Running → ℕ
+walking_at None = 0
+walking_at (Some running) = if is_walking running then 1 else 0
+
+abbrev pub walking : List (Option Running) → ℕ
+walking [] = 0
+walking (slot ∷ seats) = walking_at slot + walking seats
+
+-- how many entries the calls under way still append: a commit where they are walking, and a return
+abbrev pub owed_at : Option Running → ℕ
+owed_at None = 0
+owed_at (Some running) = if is_walking running then 2 else 1
+
+abbrev pub owed : List (Option Running) → ℕ
+owed [] = 0
+owed (slot ∷ seats) = owed_at slot + owed seats
+
+-- the numbers in use are below a bound
+abbrev pub AreBelow : Graph → ℕ → Type 0
+AreBelow graph bound = (n : ℕ) (shape : Shape) → graph.shape n ≡ Some shape → n < bound
+
+-- a state that a run gives, a holder's place for each number in use, exact counters, a place for each entry that is owed
+pub record IsKept (machine : Machine) (begun commits reserved : ℕ) : Type 0 where
+  pub run : Run (state_of machine)
+  pub roomy : AreBelow (graph_of machine.store) (room machine.holding)
+  pub begun_is : begun ≡ begins machine.timeline
+  pub commits_is : commits ≡ commit_count machine.timeline
+  pub within : commits + walking machine.seats ≤ begun
+  pub owed_is : owed machine.seats ≤ reserved

@@ -1,0 +1,60 @@
+-- Which walking calls are below a node, and which of them is to be helped.
+use Rattle.std.specs.Prelude.{ℕ, ◌≡◌, ◌<◌, ◌≤◌, nat_lt, Bool, true, false, List, Option, Some, None, option_map, slice_get}
+use Rattle.fs_names.specs.Keys.{Key}
+use Rattle.fs_nodes.specs.Graphs.{Graph, Kids, at, numbers, IsGraph}
+use Rattle.fs_nodes.specs.Places.{Places}
+use Rattle.fs_nodes.specs.Stores.{graph_of}
+use Rattle.fs_core.specs.Machines.{number_on}
+use Rattle.fs_core.specs.declared.seat.Running.{Running}
+use Rattle.fs_core.specs.code.Rooms.{is_walking, AreBelow}
+
+-- a node is another one, or is reached from it
+abbrev pub IsReached : Kids → ℕ → ℕ → Type 0
+IsReached kids s n = (key : Key) × (at kids s key ≡ Some n)
+
+-- the position of a walking call
+abbrev pub position_if : Bool → Running → Option ℕ
+position_if true running = option_map (λ st. st.node) running.op.stand
+position_if false running = None
+
+abbrev pub position_of : Option Running → Option ℕ
+position_of None = None
+position_of (Some running) = position_if (is_walking running) running
+
+-- the walking call on a seat is below a node
+pub record IsUnder (kids : Kids) (seats : List (Option Running)) (s seat : ℕ) : Type 0 where
+  pub running : Running
+  pub node : ℕ
+  pub on : slice_get seats seat ≡ Some (Some running)
+  pub position : position_of (Some running) ≡ Some node
+  pub reached : IsReached kids s node
+
+-- no walking call of another seat is below a node
+abbrev pub IsAlone : Kids → List (Option Running) → ℕ → ℕ → Type 0
+IsAlone kids seats node seat = (other : ℕ) → (seat ≡ other → ⊥) → IsUnder kids seats node other → ⊥
+
+-- and no other one is below its position
+pub record IsLowestOn (kids : Kids) (seats : List (Option Running)) (s seat : ℕ) : Type 0 where
+  pub under : IsUnder kids seats s seat
+  pub alone : IsAlone kids seats under.node seat
+
+-- a number is less than another one, or there is no other
+abbrev pub is_lesser : Option ℕ → Option ℕ → Bool
+is_lesser (Some c) (Some d) = nat_lt c d
+is_lesser _ None = true
+is_lesser None (Some d) = true
+
+-- of the seats below one, those with a lowest call: none, or the one with the least number
+abbrev pub HasLeast : Kids → List (Option Running) → ℕ → ℕ → Option ℕ → Type 0
+HasLeast kids seats s i None = (j : ℕ) → j < i → IsLowestOn kids seats s j → ⊥
+HasLeast kids seats s i (Some seat) = (seat < i) × IsLowestOn kids seats s seat × ((j c d : ℕ) → j < i → IsLowestOn kids seats s j → number_on seats seat ≡ Some c → number_on seats j ≡ Some d → c ≤ d)
+
+-- a node is reached from the root
+abbrev pub IsRooted : Graph → ℕ → Type 0
+IsRooted graph n = (key : Key) × (numbers graph key ≡ Some n)
+
+-- what a search needs: a graph with all its numbers below a bound, and each walking call at a node that is reached from the root
+pub record CanSearch (store : Places) (seats : List (Option Running)) (bound : ℕ) : Type 0 where
+  pub graph : IsGraph (graph_of store)
+  pub within : AreBelow (graph_of store) bound
+  pub rooted : (seat n : ℕ) (slot : Option Running) → slice_get seats seat ≡ Some slot → position_of slot ≡ Some n → IsRooted (graph_of store) n

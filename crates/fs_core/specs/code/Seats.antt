@@ -1,0 +1,28 @@
+-- Changes of what is on one seat, and moves of the call there.
+use Rattle.std.specs.Prelude.{ℕ, ◌≡◌, Option, Some, None, slice_get}
+use Rattle.fs_nodes.specs.Stores.{graph_of}
+use Rattle.fs_machine.specs.Moves.{Move}
+use Rattle.fs_machine.specs.Works.{Work, next_of}
+use Rattle.fs_core.specs.declared.seat.Running.{Running}
+use Rattle.fs_core.specs.Machines.{Machine}
+
+-- the call on a seat, its number, and its next move
+pub record MovesOn (machine : Machine) (seat call : ℕ) (move : Move) : Type 0 where
+  pub running : Running
+  pub on : slice_get machine.seats seat ≡ Some (Some running)
+  pub number : running.call ≡ call
+  pub next : next_of (graph_of machine.store) running.op ≡ move
+
+-- whether another call gave it its place
+abbrev pub PlacedOn : Machine → ℕ → Option ℕ → Type 0
+PlacedOn machine seat place = (running : Running) → slice_get machine.seats seat ≡ Some (Some running) → running.place ≡ place
+
+-- what may happen to the call on a seat: its work goes on
+abbrev pub Goes : (Work → Work → Type 0) → Option Running → Option Running → Type 0
+Goes R None new = new ≡ None
+Goes R (Some old) new = (work : Work) × R old.op work × (new ≡ Some (record old { op = work }))
+
+-- it gets a place
+abbrev pub placed : Option Running → ℕ → Option Running
+placed None place = None
+placed (Some running) place = Some (record running { place = Some place })

@@ -1,0 +1,93 @@
+//! A call under way on a seat, and its changes.
+
+ghost use Rattle.std.specs.Prelude.{◌≡◌, true, None, Some, IsSome};
+ghost use Rattle.fs_nodes.specs.Stores.{graph_of, room};
+ghost use Rattle.fs_machine.specs.Leaving.{is_removed, releasing};
+ghost use Rattle.fs_machine.specs.Works.{IsTook, IsLetGo, IsFinished, IsSpare, CanFinish, graph_after};
+ghost use Rattle.fs_core.specs.Machines.{number_of};
+ghost use Rattle.fs_core.specs.code.Seats.{Goes, placed};
+ghost use Rattle.fs_core.specs.declared.seat.Running.{Running};
+
+use fs_names::CallNo;
+use fs_nodes::{NodeNo, Store};
+use fs_ops::Op;
+
+/// A call under way: its number, how many commits stand before its own where another call gave it its place,
+/// and how far it is.
+#[derive(Drop)]
+pub struct Running {
+    pub call: CallNo,
+    pub place: Option<u64>,
+    pub op: Op,
+}
+
+/// The number of the call on a seat.
+pub fn number(slot: &Option<Running>) -> Option<CallNo>
+    ensures { result ≡ number_of slot.now }
+{
+    match slot {
+        Some(running) => Some(running.call),
+        None => None,
+    }
+}
+
+/// The call on a seat notes that it took a node.
+pub fn take(slot: &mut Option<Running>, node: NodeNo)
+    ensures { Goes (λ old new. IsTook old node new) slot.old slot.new }
+{
+    if let Some(running) = slot {
+        running.op.took(node);
+    }
+}
+
+/// The call on a seat notes that it let a node go, and releases it where it removed it.
+pub fn let_go(slot: &mut Option<Running>, node: NodeNo, store: &mut Store)
+    requires spare { (r : Running) → slot.old ≡ Some r → is_removed r.op.removed node ≡ true → IsSpare (graph_of store.old) node }
+    ensures slot { Goes (λ old new. IsLetGo old node new) slot.old slot.new }
+    ensures graph { (r : Running) → slot.old ≡ Some r → graph_of store.new ≡ releasing (is_removed r.op.removed node) node (graph_of store.old) }
+    ensures limit { store.new.limit ≡ store.old.limit }
+{
+    if let Some(running) = slot {
+        running.op.let_go(node, store);
+    }
+}
+
+/// The call on a seat makes its change and fixes its reply.
+pub fn carry_out(slot: &mut Option<Running>, store: &mut Store)
+    requires unfinished { (r : Running) → slot.old ≡ Some r → r.op.reply ≡ None }
+    requires can { (r : Running) → slot.old ≡ Some r → CanFinish (graph_of store.old) r.op.reserved r.op.remaining r.op.stand }
+    ensures slot { Goes (λ old new. IsFinished (graph_of store.old) old new) slot.old slot.new }
+    ensures graph { (r : Running) → slot.old ≡ Some r → graph_of store.new ≡ graph_after (graph_of store.old) r.op }
+    ensures limit { store.new.limit ≡ store.old.limit }
+{
+    if let Some(running) = slot {
+        running.op.carry_out(store);
+    }
+}
+
+/// The call on a seat gets its place, after this many commits; its number.
+pub fn give_place(slot: &mut Option<Running>, commits: u64) -> CallNo
+    requires { IsSome slot.old }
+    ensures slot { slot.new ≡ placed slot.old commits }
+    ensures call { number_of slot.old ≡ Some result }
+{
+    let running = slot.as_mut().unwrap();
+    running.place = Some(commits);
+    running.call
+}
+
+/// A call begins on a seat.
+pub fn put(slot: &mut Option<Running>, running: Running)
+    ensures { slot.new ≡ Some running }
+{
+    *slot = Some(running);
+}
+
+/// The call on a seat leaves it.
+pub fn take_out(slot: &mut Option<Running>) -> Running
+    requires { IsSome slot.old }
+    ensures slot { slot.new ≡ None }
+    ensures running { slot.old ≡ Some result }
+{
+    slot.take().unwrap()
+}

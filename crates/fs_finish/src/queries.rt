@@ -1,0 +1,121 @@
+//! How the calls that change nothing finish at their node.
+
+ghost use Rattle.std.specs.Prelude.{◌≡◌, ◌≤◌, [], None, length, take, drop, vec_capacity};
+ghost use Rattle.fs_names.specs.Shapes.{names_of, is_dir};
+ghost use Rattle.fs_nodes.specs.Stores.{shape, graph_of};
+ghost use Rattle.fs_calls.specs.Forms as calls;
+ghost use Rattle.fs_calls.specs.Rows.{as_dir, on_row};
+ghost use Rattle.fs_machine.specs.Moves.{walk_errno};
+ghost use Rattle.fs_machine.specs.Works.{IsBounded};
+ghost use Rattle.fs_finish.specs.Rooms.{SufficesFor};
+
+use crate::replies::Replies;
+use crate::room::{NameRoom, Room};
+use fs_calls::ranges::part;
+use fs_calls::{Errno, NameList, Reply};
+use fs_names::{Kind, Name};
+use fs_nodes::{NodeNo, Store};
+
+/// Why a walk with names left ends at a node.
+pub fn walk_error(store: &Store, node: NodeNo) -> Errno
+    ensures { result ≡ walk_errno (shape store.now node) }
+{
+    if store.is_file(node) {
+        return Errno::Enotdir;
+    }
+    Errno::Enoent
+}
+
+/// Why a node cannot have entries.
+pub fn dir_fault(store: &Store, node: NodeNo) -> Option<Errno>
+    ensures { result ≡ as_dir None (shape store.now node) }
+{
+    if store.is_dir(node) {
+        return None;
+    }
+    Some(walk_error(store, node))
+}
+
+/// Two replies with a kind and a size.
+fn told(kind: Kind, size: usize) -> Replies
+    ensures { result ≡ Reply.Stat kind size }
+{
+    let size = size as u64;
+    Replies::new(Reply::Stat(kind, size), Reply::Stat(kind, size))
+}
+
+/// The kind of the node and its size.
+pub fn stat(store: &Store, node: NodeNo) -> Replies
+    ensures { result ≡ (on_row calls.Stat None (shape store.now node)).0 }
+{
+    if store.is_dir(node) {
+        return told(Kind::Dir, store.entries(node));
+    }
+    if store.is_file(node) {
+        return told(Kind::File, store.content(node).len());
+    }
+    Replies::failed(Errno::Enoent)
+}
+
+/// Puts the names of a directory into a vector that has room for them.
+fn put_names(store: &Store, dir: NodeNo, names: &mut Vec<Name>)
+    requires empty { names.old.items ≡ [] }
+    requires room { length (names_of (shape store.now dir)) ≤ vec_capacity names.old }
+    ensures { names.new.items ≡ names_of (shape store.now dir) }
+{
+    while let Some((name, _)) = store.next_name(dir, names.last()) {
+        names.push_reserved(name);
+    }
+}
+
+/// The names of a directory, in a vector that had room for them and gives back the rest.
+fn names(store: &Store, dir: NodeNo, room: NameRoom) -> NameList
+    requires { length (names_of (shape store.now dir)) ≤ room }
+    ensures { result ≡ names_of (shape store.now dir) }
+{
+    let mut names = room.into_vec();
+    put_names(store, dir, &mut names);
+    names.shrink_to_fit();
+    NameList::new(names)
+}
+
+/// All names of the directory.
+pub fn readdir(store: &Store, node: NodeNo, prepared: Room) -> Replies
+    requires bounded { IsBounded (graph_of store.now) }
+    requires room { SufficesFor calls.Readdir prepared }
+    ensures { result ≡ (on_row calls.Readdir None (shape store.now node)).0 }
+{
+    let Room::Lists(one, other) = prepared else {
+        unreachable!();
+    };
+    if store.is_dir(node) {
+        let names_told = Reply::Names(names(store, node, one));
+        return Replies::new(names_told, Reply::Names(names(store, node, other)));
+    }
+    if store.is_file(node) {
+        return Replies::failed(Errno::Enotdir);
+    }
+    Replies::failed(Errno::Enoent)
+}
+
+/// The bytes of the file from an offset on, and no more than a count.
+pub fn read(store: &Store, node: NodeNo, off: u64, count: u64, prepared: Room) -> Replies
+    requires bounded { IsBounded (graph_of store.now) }
+    requires room { SufficesFor (calls.Read off count) prepared }
+    ensures { result ≡ (on_row (calls.Read off count) None (shape store.now node)).0 }
+{
+    let Room::Copies(one, other) = prepared else {
+        unreachable!();
+    };
+    if store.is_dir(node) {
+        return Replies::failed(Errno::Eisdir);
+    }
+    if store.is_file(node) {
+        let asked = part(store.content(node), off, count);
+        return Replies::new(
+            Reply::Bytes(one.copy_of(asked)),
+            Reply::Bytes(other.copy_of(asked)),
+        );
+    }
+    Replies::failed(Errno::Enoent)
+}

@@ -1,0 +1,124 @@
+//! How a rename finishes at its two directories.
+
+ghost use Rattle.std.specs.Prelude.{◌≡◌, ◌||◌, Bool, ℕ, List, not, true, None, Some, IfSome, IsSome, IsTrue};
+ghost use Rattle.fs_names.specs.Shapes.{Shape, is_dir, is_full};
+ghost use Rattle.fs_nodes.specs.Graphs.{entry_shape, moved_in};
+ghost use Rattle.fs_nodes.specs.Stores.{kid, shape, graph_of, room};
+ghost use Rattle.fs_calls.specs.Rows.{to_row};
+ghost use Rattle.fs_finish.specs.Endings.{IsEffect, made_between};
+ghost use Rattle.fs_machine.specs.Moves.{there_by};
+
+use crate::finish::Finish;
+use crate::replies::Replies;
+use fs_calls::Errno;
+use fs_names::{ENTRY_LIMIT, Name};
+use fs_nodes::{NodeNo, Store};
+
+/// How the paths of a rename stand to each other.
+#[derive(Clone, Copy, Debug, PartialEq, Eq)]
+pub struct Paths {
+    /// Both are the same.
+    pub same: bool,
+    /// The new one is a proper prefix of the old one.
+    pub above: bool,
+    /// They have one parent.
+    pub one_parent: bool,
+}
+
+/// Why a node doesn't take the place of another one, by their kinds.
+fn kinds_fault(store: &Store, moved: NodeNo, there: NodeNo) -> Option<Errno>
+    ensures { (s t : Shape) (room : Bool) → shape store.now moved ≡ Some s → shape store.now there ≡ Some t → result ≡ to_row s (Some t) room }
+{
+    match (store.is_dir(moved), store.is_dir(there)) {
+        (true, false) => Some(Errno::Enotdir),
+        (false, true) => Some(Errno::Eisdir),
+        (true, true) if store.entries(there) > 0 => Some(Errno::Enotempty),
+        _ => None,
+    }
+}
+
+/// Why a node isn't moved to the new path.
+pub fn fault(
+    store: &Store,
+    moved: NodeNo,
+    dest: NodeNo,
+    new_name: &Name,
+    paths: Paths,
+) -> Option<Errno>
+    ensures { (s : Shape) → shape store.now moved ≡ Some s
+        → result ≡ to_row s (there_by paths.above (entry_shape (graph_of store.now) dest new_name.now)) (paths.one_parent || not (is_full (shape store.now dest))) }
+{
+    if paths.above {
+        return Some(match store.is_dir(moved) {
+            true => Errno::Enotempty,
+            false => Errno::Eisdir,
+        });
+    }
+    match store.find(dest, new_name) {
+        Some(there) => kinds_fault(store, moved, there),
+        None if paths.one_parent || store.entries(dest) < ENTRY_LIMIT => None,
+        None => Some(Errno::Enospc),
+    }
+}
+
+/// The entry of this name goes, if there is one, before another one moves to it.
+fn clear(store: &mut Store, dir: NodeNo, name: &Name)
+    requires { IsTrue (is_dir (shape store.old dir)) }
+    ensures absent { kid store.new dir name.now ≡ None }
+    ensures dir { IsTrue (is_dir (shape store.new dir)) }
+    ensures others { (d : ℕ) (x : List ℕ) → (d ≡ dir → x ≡ name.now → ⊥) → kid store.new d x ≡ kid store.old d x }
+    ensures moves { (from : ℕ) (x : List ℕ) (n : ℕ) → moved_in from x dir name.now n (graph_of store.new) ≡ moved_in from x dir name.now n (graph_of store.old) }
+    ensures limit { store.new.limit ≡ store.old.limit }
+    ensures room { room store.new ≡ room store.old }
+{
+    if store.find(dir, name).is_some() {
+        store.unlink(dir, name);
+    }
+}
+
+/// Moves an entry. The one that the new name had goes first.
+fn replace(store: &mut Store, source: NodeNo, name: &Name, dest: NodeNo, new_name: &Name)
+    requires there { IsSome (kid store.old source name.now) }
+    requires dir { IsTrue (is_dir (shape store.old dest)) }
+    requires apart { source ≡ dest → name.now ≡ new_name.now → ⊥ }
+    ensures graph { IfSome (kid store.old source name.now) (λ node. graph_of store.new ≡ moved_in source name.now dest new_name.now node (graph_of store.old)) }
+    ensures limit { store.new.limit ≡ store.old.limit }
+    ensures room { room store.new ≡ room store.old }
+{
+    clear(store, dest, new_name);
+    store.move_entry(source, name, dest, new_name);
+}
+
+/// A rename: the entry goes to the other directory, or to another name. The victim is the removed node.
+pub fn rename(
+    store: &mut Store,
+    source: NodeNo,
+    name: &Name,
+    dest: NodeNo,
+    new_name: &Name,
+    paths: Paths,
+    victim: Option<NodeNo>,
+    reserved: Option<NodeNo>,
+) -> Finish
+    requires dir { IsTrue (is_dir (shape store.old dest)) }
+    requires apart { source ≡ dest → name.now ≡ new_name.now → paths.same ≡ true }
+    ensures made { IsEffect (made_between (graph_of store.old) source name.now dest new_name.now paths.same paths.above paths.one_parent victim reserved) result (graph_of store.new) }
+    ensures limit { store.new.limit ≡ store.old.limit }
+    ensures room { room store.new ≡ room store.old }
+{
+    let Some(moved) = store.find(source, name) else {
+        return Finish::failed(Errno::Enoent, reserved);
+    };
+    if paths.same {
+        return Finish::kept(Replies::done(), reserved);
+    }
+    if let Some(errno) = fault(store, moved, dest, new_name, paths) {
+        return Finish::failed(errno, reserved);
+    }
+    replace(store, source, name, dest, new_name);
+    Finish {
+        replies: Replies::done(),
+        reserved,
+        removed: victim,
+    }
+}

@@ -1,0 +1,126 @@
+//! How the calls that change the bytes of a file finish at their node.
+
+ghost use Rattle.std.specs.Prelude.{◌≡◌, ◌≤◌, ◌+◌, ◌++◌, ◌-◌, ℕ, List, [], None, length, take, drop, replicate, nat_le, IsTrue, vec_capacity};
+ghost use Rattle.fs_names.specs.Shapes.{bytes_of, is_file};
+ghost use Rattle.fs_nodes.specs.Graphs.{content_in};
+ghost use Rattle.fs_nodes.specs.Stores.{shape, graph_of, room};
+ghost use Rattle.fs_calls.specs.Forms as calls;
+ghost use Rattle.fs_calls.specs.Rows.{on_row, written, resized};
+ghost use Rattle.fs_finish.specs.Replies.{refilled};
+ghost use Rattle.fs_finish.specs.Rooms.{SufficesFor};
+
+use crate::replies::Replies;
+use crate::room::{ByteRoom, Room};
+use fs_calls::ranges::{fits, put};
+use fs_calls::{Errno, Reply};
+use fs_names::FILE_LIMIT;
+use fs_nodes::{NodeNo, Store};
+
+/// The bytes again, with zeros up to a length.
+fn lengthened(bytes: &[u8], len: usize, buffer: ByteRoom) -> Vec<u8>
+    requires longer { length bytes.now ≤ len }
+    requires room { len ≤ buffer }
+    ensures { result.items ≡ bytes.now ++ replicate (len - length bytes.now) 0 }
+{
+    let mut new = buffer.into_vec();
+    let _room_was_made = new.extend_from_slice(bytes);
+    let _room_was_made = new.resize(len, 0);
+    new
+}
+
+/// The bytes of a file, taken out or copied, with zeros up to a length where they are fewer.
+fn taken_out(store: &mut Store, file: NodeNo, len: usize, buffer: ByteRoom) -> Vec<u8>
+    requires file { IsTrue (is_file (shape store.old file)) }
+    requires room { len ≤ buffer }
+    ensures bytes { result.items ≡ bytes_of (shape store.old file) ++ replicate (len - length (bytes_of (shape store.old file))) 0 }
+    ensures file { IsTrue (is_file (shape store.new file)) }
+    ensures graph { (bytes : List ℕ) → content_in file bytes (graph_of store.new) ≡ content_in file bytes (graph_of store.old) }
+    ensures limit { store.new.limit ≡ store.old.limit }
+    ensures room { room store.new ≡ room store.old }
+{
+    // A store lends its bytes for reading alone. So those of a long enough file are taken out, against the empty buffer, changed
+    // where they are, and swapped back by the caller: they are not copied, and the buffer is not needed for them.
+    if len <= store.content(file).len() {
+        return store.swap_content(file, buffer.into_vec());
+    }
+    lengthened(store.content(file), len, buffer)
+}
+
+/// Puts bytes over those of a file from an offset on; a gap is filled with zeros.
+fn put_into(store: &mut Store, file: NodeNo, off: usize, bytes: &[u8], buffer: ByteRoom)
+    requires file { IsTrue (is_file (shape store.old file)) }
+    requires fits { off + length bytes.now ≤ FILE_LIMIT }
+    requires room { off + length bytes.now ≤ buffer }
+    ensures graph { graph_of store.new ≡ content_in file (written (bytes_of (shape store.old file)) off bytes.now) (graph_of store.old) }
+    ensures limit { store.new.limit ≡ store.old.limit }
+    ensures room { room store.new ≡ room store.old }
+{
+    let mut new = taken_out(store, file, off + bytes.len(), buffer);
+    put(&mut new, off, bytes);
+    store.swap_content(file, new);
+}
+
+/// Cuts the bytes of a file to a size, or adds zeros up to it.
+fn resize(store: &mut Store, file: NodeNo, size: usize, buffer: ByteRoom)
+    requires file { IsTrue (is_file (shape store.old file)) }
+    requires room { size ≤ buffer }
+    ensures graph { graph_of store.new ≡ content_in file (resized (bytes_of (shape store.old file)) size) (graph_of store.old) }
+    ensures limit { store.new.limit ≡ store.old.limit }
+    ensures room { room store.new ≡ room store.old }
+{
+    let mut new = taken_out(store, file, size, buffer);
+    new.truncate(size);
+    store.swap_content(file, new);
+}
+
+/// Writes bytes into the file.
+pub fn write(store: &mut Store, node: NodeNo, off: u64, bytes: &[u8], prepared: Room) -> Replies
+    requires room { SufficesFor (calls.Write off bytes.now) prepared }
+    ensures reply { result ≡ (on_row (calls.Write off bytes.now) None (shape store.old node)).0 }
+    ensures graph { graph_of store.new ≡ refilled node (on_row (calls.Write off bytes.now) None (shape store.old node)).1 (graph_of store.old) }
+    ensures limit { store.new.limit ≡ store.old.limit }
+    ensures room { room store.new ≡ room store.old }
+{
+    let Room::Content(buffer) = prepared else {
+        unreachable!();
+    };
+    if store.is_dir(node) {
+        return Replies::failed(Errno::Eisdir);
+    }
+    if !store.is_file(node) {
+        return Replies::failed(Errno::Enoent);
+    }
+    let count = bytes.len();
+    if count == 0 {
+        return Replies::new(Reply::Wrote(0), Reply::Wrote(0));
+    }
+    if !fits(off, count) {
+        return Replies::failed(Errno::Efbig);
+    }
+    put_into(store, node, off as usize, bytes, buffer);
+    Replies::new(Reply::Wrote(count as u64), Reply::Wrote(count as u64))
+}
+
+/// Cuts the file to a size, or adds zeros up to it.
+pub fn truncate(store: &mut Store, node: NodeNo, size: u64, prepared: Room) -> Replies
+    requires room { SufficesFor (calls.Truncate size) prepared }
+    ensures reply { result ≡ (on_row (calls.Truncate size) None (shape store.old node)).0 }
+    ensures graph { graph_of store.new ≡ refilled node (on_row (calls.Truncate size) None (shape store.old node)).1 (graph_of store.old) }
+    ensures limit { store.new.limit ≡ store.old.limit }
+    ensures room { room store.new ≡ room store.old }
+{
+    let Room::Content(buffer) = prepared else {
+        unreachable!();
+    };
+    if store.is_dir(node) {
+        return Replies::failed(Errno::Eisdir);
+    }
+    if !store.is_file(node) {
+        return Replies::failed(Errno::Enoent);
+    }
+    if size > FILE_LIMIT as u64 {
+        return Replies::failed(Errno::Efbig);
+    }
+    resize(store, node, size as usize, buffer);
+    Replies::done()
+}

@@ -1,8 +1,0 @@
-use Rattle.std.proofs.Common.{refl}
-use Rattle.fs_seq.specs.Tree.{look, inserted, removed, renamed}
-use Rattle.fs_seq.specs.Outcomes.{fault, reply, after}
-use Rattle.fs_journal.proofs.examples.checked_journals.Goals as goal
-
-pub returns : goal.returns
-unfolding look inserted removed renamed fault reply after
-returns c = record { first_mkdir = refl; wrong_reply = refl; exchanged = refl }

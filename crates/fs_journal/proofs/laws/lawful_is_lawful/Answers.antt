@@ -1,5 +1,0 @@
-use Rattle.fs_journal.proofs.VerdictLemmas.{lawful_is_lawful}
-use Rattle.fs_journal.proofs.laws.lawful_is_lawful.Goals as goal
-
-pub returns : goal.returns
-returns c = lawful_is_lawful

@@ -1,5 +1,0 @@
-use Rattle.fs_journal.proofs.TimelineLemmas.{well_formed_appended}
-use Rattle.fs_journal.proofs.laws.well_formed_appended.Goals as goal
-
-pub returns : goal.returns
-returns c = well_formed_appended

@@ -1,0 +1,195 @@
+-- A call that stands at a key acts below it, by what it does on the tree below.
+use Rattle.std.proofs.Common.{◌≡◌, ℕ, Bool, true, false, not, ◌||◌, List, [], ◌∷◌, ◌++◌, Option, Some, None, refl, sym, ap, ap₂, ◌∙◌, append_assoc}
+use mathlib.Core.Path.{fun_ext}
+use Rattle.fs_names.specs.Keys.{Key, after_prefix, parent_of, last_of}
+use Rattle.fs_names.specs.Names.{Name}
+use Rattle.fs_names.specs.Parts.{is_end, HasNames}
+use Rattle.fs_names.specs.Shapes.{Shape, Dir, File, is_full, names_of}
+use Rattle.fs_laws.specs.Changes.{Change, moved_by, changed, resolve_next, resolve, resolve_dir, content_change, edit_change, rename_writes, move_change, in_looked, rename_looked, looked, unless, outcome, after}
+use Rattle.fs_calls.specs.Forms.{Form, AtNode, AtEntry, AtPair, by_text, under, Fits}
+use Rattle.fs_calls.specs.declared.target.PairCall.TheVariants as pairs
+use Rattle.fs_calls.specs.declared.target.EntryCall.{EntryCall}
+use Rattle.fs_calls.proofs.RowNames.{if_below}
+use Rattle.fs_laws.specs.Maps.{Map, below, act, act_at, move, moved_to, moved_from, write_all}
+use Rattle.fs_calls.specs.Rows.{as_dir, on_row, Edit, Keep, Add, Remove, in_row, rename_row}
+use Rattle.fs_calls.specs.declared.errno.Errno.{Errno}
+use Rattle.fs_calls.specs.declared.reply.Reply.{Reply}
+use Rattle.fs_laws.proofs.trees.Prefixes.{prefix_some, prefix_both, prefix_deeper}
+use Rattle.fs_laws.proofs.trees.SeveralWrites.{all_under, writes_under, act_act, act_none}
+
+-- what a resolution that finds its key went through
+pub record Through (here child : Option Shape) (rest : Option Errno) : Type 0 where
+  pub names : List Name
+  pub dir : here ≡ Some (Dir names)
+  pub found : rest ≡ None
+
+pub through : (here child : Option Shape) (rest : Option Errno) → resolve_next here child rest ≡ None → Through here child rest
+through (Some (Dir names)) (Some child) rest e = record { names = names; dir = refl; found = e }
+through (Some (Dir names)) None rest e = cc
+through (Some (File bytes)) child rest e = cc
+through None child rest e = cc
+
+next_same : (here child : Option Shape) (r q : Option Errno) → resolve_next here child r ≡ None → resolve_next here child q ≡ q
+next_same (Some (Dir names)) (Some child) r q e = refl
+next_same (Some (Dir names)) None r q e = cc
+next_same (Some (File bytes)) child r q e = cc
+next_same None child r q e = cc
+
+-- resolution goes on from a key that is there
+pub resolve_under : (tree : Map Shape) (k r : Key) → resolve tree k ≡ None → resolve tree (k ++ r) ≡ resolve (below k tree) r
+resolve_under tree [] r e = refl
+resolve_under tree (x ∷ k) r e =
+    next_same (tree []) (tree (x ∷ [])) (resolve (below (x ∷ []) tree) k) (resolve (below (x ∷ []) tree) (k ++ r)) e
+    ∙ resolve_under (below (x ∷ []) tree) k r (through (tree []) (tree (x ∷ [])) (resolve (below (x ∷ []) tree) k) e).found
+
+pub dir_under : (k p : Key) → HasNames p → parent_of (k ++ p) ≡ k ++ parent_of p
+dir_under [] p m = refl
+dir_under (x ∷ []) [] m = absurd m
+dir_under (x ∷ []) (y ∷ p) m = refl
+dir_under (x ∷ z ∷ k) p m = ap (λ (l : Key). x ∷ l) (dir_under (z ∷ k) p m)
+
+pub last_under : (k p : Key) → HasNames p → last_of (k ++ p) ≡ last_of p
+last_under [] p m = refl
+last_under (x ∷ []) [] m = absurd m
+last_under (x ∷ []) (y ∷ p) m = refl
+last_under (x ∷ z ∷ k) p m = last_under (z ∷ k) p m
+
+-- a key is its parent's and its last name
+pub key_is : (p : Key) → HasNames p → p ≡ parent_of p ++ last_of p ∷ []
+key_is [] m = absurd m
+key_is (x ∷ []) m = refl
+key_is (x ∷ y ∷ p) m = ap (λ (l : Key). x ∷ l) (key_is (y ∷ p) tt)
+
+-- calls that fit have names
+pub in_more : (c : EntryCall) (p : Key) → by_text (AtEntry c p) ≡ None → HasNames p
+in_more c [] e = cc
+in_more c (x ∷ p) e = tt
+
+pub from_more : (p q : Key) → by_text (AtPair pairs.Rename p q) ≡ None → HasNames p
+from_more [] q e = cc
+from_more (x ∷ p) q e = tt
+
+pub to_more : (p q : Key) → by_text (AtPair pairs.Rename p q) ≡ None → HasNames q
+to_more [] q e = cc
+to_more (x ∷ p) [] e = cc
+to_more (x ∷ p) (y ∷ q) e = tt
+
+pub below_text : (p q : Key) → HasNames p → HasNames q → by_text (AtPair pairs.Rename p q) ≡ if_below (after_prefix p q)
+below_text [] q m n = absurd m
+below_text (x ∷ p) [] m n = absurd n
+below_text (x ∷ p) (y ∷ q) m n = refl
+
+pub in_text : (c : EntryCall) (p : Key) → HasNames p → by_text (AtEntry c p) ≡ None
+in_text c [] m = absurd m
+in_text c (x ∷ p) m = refl
+
+pub more_under : (k p : Key) → HasNames p → HasNames (k ++ p)
+more_under [] p m = m
+more_under (x ∷ k) p m = tt
+
+pub fits_under : (k : Key) (call : Form) → Fits call → Fits (under k call)
+fits_under k (AtNode c p) f = refl
+fits_under k (AtEntry c p) f = in_text c (k ++ p) (more_under k p (in_more c p f))
+fits_under k (AtPair pairs.Rename p q) f =
+    let m : HasNames p = from_more p q f in
+    let n : HasNames q = to_more p q f in
+    below_text (k ++ p) (k ++ q) (more_under k p m) (more_under k q n) ∙ ap if_below (prefix_both k p q) ∙ sym (below_text p q m n) ∙ f
+
+-- a change on the tree below k, as it reads from the root
+abbrev pub moves_under : Key → Option (Key × Key) → Option (Key × Key)
+moves_under k None = None
+moves_under k (Some m) = Some (k ++ m.0, k ++ m.1)
+
+abbrev pub change_under : Key → Change → Change
+change_under k ch = record { writes = all_under k ch.writes; moves = moves_under k ch.moves }
+
+abbrev pub outcome_under : Key → Reply × Change → Reply × Change
+outcome_under k o = (o.0, change_under k o.1)
+
+content_under : (k p : Key) (o : Option (List ℕ)) → content_change (k ++ p) o ≡ change_under k (content_change p o)
+content_under k p None = refl
+content_under k p (Some bytes) = refl
+
+edit_under : (k d : Key) (names : List Name) (x : Name) (p : Key) (e : Edit) → edit_change (k ++ d) names x (k ++ p) e ≡ change_under k (edit_change d names x p e)
+edit_under k d names x p Keep = refl
+edit_under k d names x p (Add s) = refl
+edit_under k d names x p Remove = refl
+
+pub writes_at : (k : Key) (b : Bool) (d : Key) (names : List Name) (x : Name) (e : Key) (others : List Name) (y : Name) → rename_writes b (k ++ d) names x (k ++ e) others y ≡ all_under k (rename_writes b d names x e others y)
+writes_at k true d names x e others y = refl
+writes_at k false d names x e others y = refl
+
+move_under : (k : Key) (b : Bool) (ws : List (Key × Option Shape)) (p q : Key) → move_change b (all_under k ws) (k ++ p) (k ++ q) ≡ change_under k (move_change b ws p q)
+move_under k true ws p q = refl
+move_under k false ws p q = refl
+
+in_under : (tree : Map Shape) (k : Key) (c : EntryCall) (p d : Key) (x : Name) → resolve tree k ≡ None → in_looked tree c (k ++ p) (k ++ d) x ≡ outcome_under k (in_looked (below k tree) c p d x)
+in_under tree k c p d x at =
+    let r : Option Errno = resolve_dir (below k tree) d in
+    ap (λ (e : Option Errno). ((in_row c (as_dir e (tree (k ++ d))) (is_full (tree (k ++ d))) (tree (k ++ p))).0, edit_change (k ++ d) (names_of (tree (k ++ d))) x (k ++ p) (in_row c (as_dir e (tree (k ++ d))) (is_full (tree (k ++ d))) (tree (k ++ p))).1)) (resolve_under tree k d at)
+    ∙ ap (λ (ch : Change). ((in_row c r (is_full (tree (k ++ d))) (tree (k ++ p))).0, ch)) (edit_under k d (names_of (tree (k ++ d))) x p (in_row c r (is_full (tree (k ++ d))) (tree (k ++ p))).1)
+
+rename_under : (tree : Map Shape) (k p q d : Key) (x : Name) (e : Key) (y : Name) → resolve tree k ≡ None → rename_looked tree (k ++ p) (k ++ q) (k ++ d) x (k ++ e) y ≡ outcome_under k (rename_looked (below k tree) p q d x e y)
+rename_under tree k p q d x e y at =
+    rw (resolve_under tree k d at, resolve_under tree k e at, prefix_both k p q, prefix_both k d e, writes_at k (is_end (after_prefix d e)) d (names_of (tree (k ++ d))) x e (names_of (tree (k ++ e))) y)
+    (ap (λ (ch : Change). ((row (is_end (after_prefix d e))).0, ch)) (move_under k (row (is_end (after_prefix d e))).1 (rename_writes (is_end (after_prefix d e)) d (names_of (tree (k ++ d))) x e (names_of (tree (k ++ e))) y) p q))
+  where
+    row : Bool → Reply × Bool
+    row b = rename_row (resolve_dir (below k tree) d) (resolve_dir (below k tree) e) (tree (k ++ p)) (is_end (after_prefix p q)) (tree (k ++ q)) (b || not (is_full (tree (k ++ e))))
+
+looked_located : (tree : Map Shape) (k : Key) (call : Form) → resolve tree k ≡ None → Fits call → looked tree (under k call) ≡ outcome_under k (looked (below k tree) call)
+looked_located tree k (AtNode c p) at fits =
+    ap (λ (e : Option Errno). ((on_row c e (tree (k ++ p))).0, content_change (k ++ p) (on_row c e (tree (k ++ p))).1)) (resolve_under tree k p at)
+    ∙ ap (λ (ch : Change). ((on_row c (resolve (below k tree) p) (tree (k ++ p))).0, ch)) (content_under k p (on_row c (resolve (below k tree) p) (tree (k ++ p))).1)
+looked_located tree k (AtEntry c p) at fits =
+    let m : HasNames p = in_more c p fits in
+    ap₂ (in_looked tree c (k ++ p)) (dir_under k p m) (last_under k p m) ∙ in_under tree k c p (parent_of p) (last_of p) at
+looked_located tree k (AtPair pairs.Rename p q) at fits =
+    let m : HasNames p = from_more p q fits in
+    let n : HasNames q = to_more p q fits in
+    ap₂ (λ (d : Key) (x : Name). rename_looked tree (k ++ p) (k ++ q) d x (parent_of (k ++ q)) (last_of (k ++ q))) (dir_under k p m) (last_under k p m)
+    ∙ ap₂ (rename_looked tree (k ++ p) (k ++ q) (k ++ parent_of p) (last_of p)) (dir_under k q n) (last_under k q n)
+    ∙ rename_under tree k p q (parent_of p) (last_of p) (parent_of q) (last_of q) at
+
+pub outcome_located : (tree : Map Shape) (k : Key) (call : Form) → resolve tree k ≡ None → Fits call → outcome tree (under k call) ≡ outcome_under k (outcome (below k tree) call)
+outcome_located tree k call at fits =
+    ap (λ (e : Option Errno). unless e (looked tree (under k call))) (fits_under k call fits)
+    ∙ looked_located tree k call at fits
+    ∙ ap (λ (e : Option Errno). outcome_under k (unless e (looked (below k tree) call))) (sym fits)
+
+-- a move below k, read from the root
+move_at : (k s t : Key) (tree : Map Shape) → move (k ++ s) (k ++ t) tree ≡ act k (move s t) tree
+move_at k s t tree = fun_ext (λ key. go key (after_prefix k key) refl)
+  where
+    from : (r : Key) (o : Option Key) → moved_from tree (k ++ r) o ≡ moved_from (below k tree) r o
+    from r None = refl
+    from r (Some q) = refl
+
+    inside : (r : Key) (o : Option Key) → moved_to (k ++ s) tree (k ++ r) o ≡ moved_to s (below k tree) r o
+    inside r None = rw (prefix_both k s r) (from r (after_prefix s r))
+    inside r (Some q) = ap tree (append_assoc k s q)
+
+    go : (key : Key) (o : Option Key) → after_prefix k key ≡ o → move (k ++ s) (k ++ t) tree key ≡ act_at (move s t) tree k key o
+    go key None e = ap (moved_to (k ++ s) tree key) (prefix_deeper k t key e) ∙ ap (moved_from tree key) (prefix_deeper k s key e)
+    go key (Some r) e = rw (prefix_some k key r e, prefix_both k t r) (inside r (after_prefix t r))
+
+moved_at : (k : Key) (m : Option (Key × Key)) (tree : Map Shape) → moved_by (moves_under k m) tree ≡ act k (moved_by m) tree
+moved_at k None tree = act_none k tree
+moved_at k (Some m) tree = move_at k m.0 m.1 tree
+
+-- an act is a change below, read from the root
+pub act_change : (k : Key) (ch : Change) (tree : Map Shape) → changed (change_under k ch) tree ≡ act k (changed ch) tree
+act_change k ch tree =
+    ap (moved_by (moves_under k ch.moves)) (writes_under ch.writes k tree)
+    ∙ moved_at k ch.moves (act k (write_all ch.writes) tree)
+    ∙ act_act k (write_all ch.writes) (moved_by ch.moves) tree
+
+pub after_located : (tree : Map Shape) (k : Key) (call : Form) → resolve tree k ≡ None → Fits call → after tree (under k call) ≡ act k (λ t. after t call) tree
+after_located tree k call at fits =
+    ap (λ (o : Reply × Change). changed o.1 tree) (outcome_located tree k call at fits)
+    ∙ act_change k (outcome (below k tree) call).1 tree
+    ∙ fun_ext (λ key. same_at key (after_prefix k key))
+  where
+    same_at : (key : Key) (o : Option Key) → act_at (changed (outcome (below k tree) call).1) tree k key o ≡ act_at (λ t. after t call) tree k key o
+    same_at key None = refl
+    same_at key (Some r) = refl

@@ -1,0 +1,360 @@
+-- Each change of one call keeps what all calls keep.
+use Rattle.std.proofs.Common.{◌≡◌, ℕ, ◌<◌, Bool, true, false, cond, eqb, [], ◌∷◌, ◌++◌, Option, Some, None, refl, sym, ap, ◌∙◌, append-nil, subst, ◌⊎◌, inl, inr}
+use Rattle.fs_names.specs.Keys.{Key, after_prefix}
+use Rattle.fs_names.specs.Names.{Name}
+use Rattle.fs_names.specs.Parts.{HasNames}
+use Rattle.fs_laws.specs.Maps.{Map, move}
+use Rattle.fs_nodes.specs.Graphs.{set_at}
+use Rattle.fs_machine.specs.Finishes.{Effect}
+use Rattle.fs_machine.specs.Records.{Finished, Head, HeadHolds, Holds, Record, Records, Phase, Placed, Stand, Walking}
+use Rattle.fs_laws.specs.Placed.{rekey_by}
+use Rattle.fs_laws.specs.Stands.{IsAfter, IsClear, IsFree, Keeps, Kept, Pair, Shrinks}
+use Rattle.fs_machine.specs.Leaving.{finished_op}
+use Rattle.fs_laws.proofs.graphs.Walks.{eqb_refl, eqb_true}
+use Rattle.fs_laws.proofs.events.TwoCalls.{clear_take, clear_walk, after_take, after_walk, pair_moved, located_moved, pair_helped_first, pair_helped_second}
+
+-- a place that is changed, and each other
+pub data Place (A : Type 0) (c : ℕ) (v : A) (f : ℕ → A) (d : ℕ) : Type 0 where
+  Here : d ≡ c → set_at c v f d ≡ v → Place A c v f d
+  Else : (d ≡ c → ⊥) → set_at c v f d ≡ f d → Place A c v f d
+
+pub place : {A : Type 0} (c : ℕ) (v : A) (f : ℕ → A) (d : ℕ) → Place A c v f d
+place c v f d = go (eqb d c) refl
+  where
+    go : (b : Bool) → eqb d c ≡ b → Place _ c v f d
+    go true e = Here (eqb_true d c e) (ap (λ (b : Bool). cond b v (f d)) e)
+    go false e = Else (λ s. let t : eqb d c ≡ true = ap (λ (n : ℕ). eqb n c) s ∙ eqb_refl c in cc) (ap (λ (b : Bool). cond b v (f d)) e)
+
+-- one call's record and key change, and the tree doesn't
+pub kept_update : (tree : Map ℕ) (ops : Records) (key : ℕ → Key) (c : ℕ) (op : Record) (k : Key) → Kept tree ops key
+    → ((st : Stand) → op.stand ≡ Some st → Keeps tree k op st)
+    → ((d : ℕ) (q : Record) (st other : Stand) → (c ≡ d → ⊥) → ops d ≡ Some q → op.stand ≡ Some st → q.stand ≡ Some other → Pair tree k st op.phase (key d) other q.phase × Pair tree (key d) other q.phase k st op.phase)
+    → Kept tree (set_at c (Some op) ops) (set_at c k key)
+kept_update tree ops key c op k kept own both = record { one_key = kept.one_key; each = each; pairs = pairs }
+  where
+    each : (d : ℕ) (q : Record) (st : Stand) → set_at c (Some op) ops d ≡ Some q → q.stand ≡ Some st → Keeps tree (set_at c k key d) q st
+    each d q st e f = go (place c (Some op) ops d) (place c k key d)
+      where
+        go : Place (Option Record) c (Some op) ops d → Place Key c k key d → Keeps tree (set_at c k key d) q st
+        go (Here i j) (Here _ l) = let z : op ≡ q = (let y : ◌≡◌ {A = Option Record} (Some op) (Some q) = sym j ∙ e in cc) in rw (l, ← z) (own st (ap (λ (o : Record). o.stand) z ∙ f))
+        go (Here i j) (Else n _) = absurd (n i)
+        go (Else n _) (Here i _) = absurd (n i)
+        go (Else n j) (Else _ l) = rw l (kept.each d q st (sym j ∙ e) f)
+
+    pairs : (a b : ℕ) (p q : Record) (st other : Stand) → (a ≡ b → ⊥) → set_at c (Some op) ops a ≡ Some p → set_at c (Some op) ops b ≡ Some q → p.stand ≡ Some st → q.stand ≡ Some other → Pair tree (set_at c k key a) st p.phase (set_at c k key b) other q.phase
+    pairs a b p q st other n e f g h = go (place c (Some op) ops a) (place c k key a) (place c (Some op) ops b) (place c k key b)
+      where
+        go : Place (Option Record) c (Some op) ops a → Place Key c k key a → Place (Option Record) c (Some op) ops b → Place Key c k key b → Pair tree (set_at c k key a) st p.phase (set_at c k key b) other q.phase
+        go (Here i j) (Else m _) u v = absurd (m i)
+        go (Else m _) (Here i j) u v = absurd (m i)
+        go u v (Here i j) (Else m _) = absurd (m i)
+        go u v (Else m _) (Here i j) = absurd (m i)
+        go (Here i _) (Here _ _) (Here j _) (Here _ _) = absurd (n (i ∙ sym j))
+        go (Here i j) (Here _ l) (Else m x) (Else _ y) =
+            let z : op ≡ p = (let w : ◌≡◌ {A = Option Record} (Some op) (Some p) = sym j ∙ e in cc) in
+            rw (l, y, ← z) (both b q st other (λ w. m (sym w)) (sym x ∙ f) (ap (λ (o : Record). o.stand) z ∙ g) h).0
+        go (Else m x) (Else _ y) (Here i j) (Here _ l) =
+            let z : op ≡ q = (let w : ◌≡◌ {A = Option Record} (Some op) (Some q) = sym j ∙ f in cc) in
+            rw (l, y, ← z) (both a p other st (λ w. m (sym w)) (sym x ∙ e) (ap (λ (o : Record). o.stand) z ∙ h) g).1
+        go (Else m x) (Else _ y) (Else o z) (Else _ w) = rw (y, w) (kept.pairs a b p q st other n (sym x ∙ e) (sym z ∙ f) g h)
+
+-- two calls hold no node in common
+pub apart_of : {tree : Map ℕ} {ops : Records} {key : ℕ → Key} → Kept tree ops key → (c d : ℕ) (p q : Record) (st other : Stand) → (c ≡ d → ⊥) → ops c ≡ Some p → ops d ≡ Some q → p.stand ≡ Some st → q.stand ≡ Some other → (n : ℕ) → Holds st n → Holds other n → ⊥
+apart_of kept c d p q st other n e f g h = (kept.pairs c d p q st other n e f g h).apart
+
+clear_nil : (tree : Map ℕ) (key : Key) (other : Stand) → IsClear tree key [] other
+clear_nil tree key other [] v n mu mv is at has = absurd mu
+clear_nil tree key other (x ∷ u) v n mu mv is at has = cc
+
+-- help: the call that is helped gets its place
+pub kept_help : (tree : Map ℕ) (ops : Records) (key : ℕ → Key) (c : ℕ) (op : Record) (place_no : ℕ) → Kept tree ops key
+    → ops c ≡ Some op → op.phase ≡ Walking
+    → ((d : ℕ) (q : Record) (other : Stand) → (c ≡ d → ⊥) → ops d ≡ Some q → q.stand ≡ Some other → q.phase ≡ Walking → after_prefix (key c) (key d) ≡ None)
+    → ((d : ℕ) (q : Record) (j : ℕ) → ops d ≡ Some q → q.phase ≡ Placed j → j < place_no)
+    → Kept tree (set_at c (Some (record op { phase = Placed place_no })) ops) (set_at c (key c) key)
+kept_help tree ops key c op place_no kept is walks none_below last =
+    kept_update tree ops key c (record op { phase = Placed place_no }) (key c) kept
+    (λ st e. let k : Keeps tree (key c) op st = kept.each c op st is e in record { located = k.located; walking = λ w. cc; fits = k.fits })
+    (λ d q st other n e f g. (
+      pair_helped_first tree (key c) st place_no (key d) other q.phase (rw walks at (kept.pairs c d op q st other n is e f g)) (λ w. none_below d q other n e g w) (λ j w. last d q j e w),
+      pair_helped_second tree (key d) other q.phase (key c) st place_no (rw walks at (kept.pairs d c q op other st (λ s. n (sym s)) e is g f)),
+    ))
+
+-- a take, of the next node of the walk, of a head or of a victim
+pub record Takes (tree : Map ℕ) (k : Key) (st : Stand) (new_k : Key) (new : Stand) (n : ℕ) : Type 0 where
+  pub parent_key : Key
+  pub parent : ℕ
+  pub name : Name
+  pub parent_at : tree parent_key ≡ Some parent
+  pub parent_held : Holds st parent
+  pub node_at : tree (parent_key ++ name ∷ []) ≡ Some n
+  pub grows : (q : ℕ) → Holds new q → Holds st q ⊎ (q ≡ n)
+  -- the position stays, or it is the node that is taken
+  pub position : (new_k ≡ k) ⊎ ((parent_key ≡ k) × (new_k ≡ k ++ name ∷ []))
+  -- each head stays, or its last node was held
+  pub source : (other : Stand) → ((q : ℕ) → Holds st q → Holds other q → ⊥) → IsClear tree k st.source.walked other → IsClear tree new_k new.source.walked other
+  pub dest : (other : Stand) → ((q : ℕ) → Holds st q → Holds other q → ⊥) → IsClear tree k st.dest.walked other → IsClear tree new_k new.dest.walked other
+
+pub kept_take : (tree : Map ℕ) (ops : Records) (key : ℕ → Key) (c : ℕ) (op : Record) (st : Stand) (n : ℕ) (k : Key) (new : Stand) (op_new : Record) → Kept tree ops key
+    → ops c ≡ Some op → op.stand ≡ Some st → op_new.stand ≡ Some new → op_new.phase ≡ op.phase
+    → IsFree ops n → Takes tree (key c) st k new n → Keeps tree k op_new new
+    → Kept tree (set_at c (Some op_new) ops) (set_at c k key)
+kept_take tree ops key c op st n k new op_new kept is on on_new same_phase free t own =
+    kept_update tree ops key c op_new k kept
+    (λ s e. subst (Keeps tree k op_new) (let z : new ≡ s = same_stand new s (sym on_new ∙ e) in z) own)
+    (λ d q s other differs e f g. subst (λ (x : Stand). Pair tree k x op_new.phase (key d) other q.phase × Pair tree (key d) other q.phase k x op_new.phase) (same_stand new s (sym on_new ∙ f)) (both d q other differs e g))
+  where
+    same_stand : (a b : Stand) → ◌≡◌ {A = Option Stand} (Some a) (Some b) → a ≡ b
+    same_stand a b e = cc
+
+    both : (d : ℕ) (q : Record) (other : Stand) → (c ≡ d → ⊥) → ops d ≡ Some q → q.stand ≡ Some other → Pair tree k new op_new.phase (key d) other q.phase × Pair tree (key d) other q.phase k new op_new.phase
+    both d q other differs e g = (record { apart = apart; after = after_first; source = t.source other first.apart first.source; dest = t.dest other first.apart first.dest }, record { apart = λ m h i. apart m i h; after = after_second; source = clear second.source; dest = clear second.dest })
+      where
+        first : Pair tree (key c) st op.phase (key d) other q.phase
+        first = kept.pairs c d op q st other differs is e on g
+
+        second : Pair tree (key d) other q.phase (key c) st op.phase
+        second = kept.pairs d c q op other st (λ s. differs (sym s)) e is g on
+
+        there : Keeps tree (key d) q other
+        there = kept.each d q other e g
+
+        apart : (m : ℕ) → Holds new m → Holds other m → ⊥
+        apart m h i = go (t.grows m h)
+          where
+            go : Holds st m ⊎ (m ≡ n) → ⊥
+            go (inl j) = first.apart m j i
+            go (inr j) = free d q other e g (subst (Holds other) j i)
+
+        after_first : IsAfter op_new.phase q.phase → after_prefix k (key d) ≡ None
+        after_first h = go t.position
+          where
+            old : after_prefix (key c) (key d) ≡ None
+            old = first.after (subst (λ (p : Phase). IsAfter p q.phase) same_phase h)
+
+            go : (k ≡ key c) ⊎ ((t.parent_key ≡ key c) × (k ≡ key c ++ t.name ∷ [])) → after_prefix k (key d) ≡ None
+            go (inl j) = rw j old
+            go (inr j) = rw j.1 (after_walk (key c) (key d) t.name old)
+
+        after_second : IsAfter q.phase op_new.phase → after_prefix (key d) k ≡ None
+        after_second h = go t.position
+          where
+            old : after_prefix (key d) (key c) ≡ None
+            old = second.after (subst (λ (p : Phase). IsAfter q.phase p) same_phase h)
+
+            go : (k ≡ key c) ⊎ ((t.parent_key ≡ key c) × (k ≡ key c ++ t.name ∷ [])) → after_prefix (key d) k ≡ None
+            go (inl j) = rw j old
+            go (inr j) = rw j.1 (after_take tree (key d) (key c) other n t.name there.located.here (ap (λ (l : Key). tree (l ++ t.name ∷ [])) (sym j.0) ∙ t.node_at) (λ h. free d q other e g h) old)
+
+        clear : {walked : Key} → IsClear tree (key d) walked st → IsClear tree (key d) walked new
+        clear {walked} old = clear_take tree kept.one_key (key d) walked other st t.parent_key t.parent n t.name new there.located.here (λ m h i. first.apart m i h) t.parent_at t.parent_held t.node_at t.grows old
+
+-- the take of the next node on the way to the target (no head has set out)
+pub takes_walk : (tree : Map ℕ) (k : Key) (st new : Stand) (x : Name) (n : ℕ) → tree k ≡ Some st.node → tree (k ++ x ∷ []) ≡ Some n
+    → new.node ≡ n → new.behind ≡ Some st.node → new.source.walked ≡ [] → new.dest.walked ≡ [] → new.victim ≡ None
+    → Takes tree k st (k ++ x ∷ []) new n
+takes_walk tree k st new x n here at_n node behind source dest victim = record {
+  parent_key = k;
+  parent = st.node;
+  name = x;
+  parent_at = here;
+  parent_held = inl refl;
+  node_at = at_n;
+  grows = grows;
+  position = inr (refl, refl);
+  source = λ other apart clear. rw source (clear_nil tree (k ++ x ∷ []) other);
+  dest = λ other apart clear. rw dest (clear_nil tree (k ++ x ∷ []) other);
+}
+  where
+    grows : (q : ℕ) → Holds new q → Holds st q ⊎ (q ≡ n)
+    grows q (inl h) = inr (sym h ∙ node)
+    grows q (inr (inl h)) = inl (inl (let e : ◌≡◌ {A = Option ℕ} (Some st.node) (Some q) = sym behind ∙ h in let z : st.node ≡ q = cc in z))
+    grows q (inr (inr (inl h))) = absurd (subst HasNames source h.0)
+    grows q (inr (inr (inr (inl h)))) = absurd (subst HasNames dest h.0)
+    grows q (inr (inr (inr (inr h)))) = let e : ◌≡◌ {A = Option ℕ} None (Some q) = sym victim ∙ h in cc
+
+-- the take of the next node of the source head; of the destination head in the same way
+pub takes_source : (tree : Map ℕ) (k : Key) (st new : Stand) (x : Name) (n : ℕ) → tree (k ++ st.source.walked) ≡ Some st.source.node → Holds st st.source.node → tree ((k ++ st.source.walked) ++ x ∷ []) ≡ Some n
+    → new.node ≡ st.node → new.behind ≡ st.behind → new.dest ≡ st.dest → new.victim ≡ st.victim
+    → new.source.node ≡ n → new.source.walked ≡ st.source.walked ++ x ∷ [] → ((m : ℕ) → new.source.behind ≡ Some m → Holds st m)
+    → Takes tree k st k new n
+takes_source tree k st new x n here held at_n node behind dest victim source walked left = record {
+  parent_key = k ++ st.source.walked;
+  parent = st.source.node;
+  name = x;
+  parent_at = here;
+  parent_held = held;
+  node_at = at_n;
+  grows = grows;
+  position = inl refl;
+  source = λ other apart clear. rw walked (clear_walk tree k st.source.walked x st.source.node st other here held apart clear);
+  dest = λ other apart clear. rw dest clear;
+}
+  where
+    grows : (q : ℕ) → Holds new q → Holds st q ⊎ (q ≡ n)
+    grows q (inl h) = inl (inl (sym node ∙ h))
+    grows q (inr (inl h)) = inl (inr (inl (sym behind ∙ h)))
+    grows q (inr (inr (inl h))) = by h.1
+      where
+        by : (new.source.node ≡ q) ⊎ (new.source.behind ≡ Some q) → Holds st q ⊎ (q ≡ n)
+        by (inl i) = inr (sym i ∙ source)
+        by (inr i) = inl (left q i)
+    grows q (inr (inr (inr (inl h)))) = inl (inr (inr (inr (inl (subst (λ (d : Head). HeadHolds d q) dest h)))))
+    grows q (inr (inr (inr (inr h)))) = inl (inr (inr (inr (inr (sym victim ∙ h)))))
+
+-- the take of the next node of the destination head
+pub takes_dest : (tree : Map ℕ) (k : Key) (st new : Stand) (x : Name) (n : ℕ) → tree (k ++ st.dest.walked) ≡ Some st.dest.node → Holds st st.dest.node → tree ((k ++ st.dest.walked) ++ x ∷ []) ≡ Some n
+    → new.node ≡ st.node → new.behind ≡ st.behind → new.source ≡ st.source → new.victim ≡ st.victim
+    → new.dest.node ≡ n → new.dest.walked ≡ st.dest.walked ++ x ∷ [] → ((m : ℕ) → new.dest.behind ≡ Some m → Holds st m)
+    → Takes tree k st k new n
+takes_dest tree k st new x n here held at_n node behind dest victim source walked left = record {
+  parent_key = k ++ st.dest.walked;
+  parent = st.dest.node;
+  name = x;
+  parent_at = here;
+  parent_held = held;
+  node_at = at_n;
+  grows = grows;
+  position = inl refl;
+  dest = λ other apart clear. rw walked (clear_walk tree k st.dest.walked x st.dest.node st other here held apart clear);
+  source = λ other apart clear. rw dest clear;
+}
+  where
+    grows : (q : ℕ) → Holds new q → Holds st q ⊎ (q ≡ n)
+    grows q (inl h) = inl (inl (sym node ∙ h))
+    grows q (inr (inl h)) = inl (inr (inl (sym behind ∙ h)))
+    grows q (inr (inr (inr (inl h)))) = by h.1
+      where
+        by : (new.dest.node ≡ q) ⊎ (new.dest.behind ≡ Some q) → Holds st q ⊎ (q ≡ n)
+        by (inl i) = inr (sym i ∙ source)
+        by (inr i) = inl (left q i)
+    grows q (inr (inr (inl h))) = inl (inr (inr (inl (subst (λ (d : Head). HeadHolds d q) dest h))))
+    grows q (inr (inr (inr (inr h)))) = inl (inr (inr (inr (inr (sym victim ∙ h)))))
+
+-- the take of a victim
+pub takes_victim : (tree : Map ℕ) (k : Key) (st : Stand) (parent_key : Key) (parent : ℕ) (x : Name) (n : ℕ) → tree parent_key ≡ Some parent → Holds st parent → tree (parent_key ++ x ∷ []) ≡ Some n
+    → Takes tree k st k (record st { victim = Some n }) n
+takes_victim tree k st parent_key parent x n here held at_n = record {
+  parent_key = parent_key;
+  parent = parent;
+  name = x;
+  parent_at = here;
+  parent_held = held;
+  node_at = at_n;
+  grows = grows;
+  position = inl refl;
+  source = λ other apart clear. clear;
+  dest = λ other apart clear. clear;
+}
+  where
+    grows : (q : ℕ) → Holds (record st { victim = Some n }) q → Holds st q ⊎ (q ≡ n)
+    grows q (inl h) = inl (inl h)
+    grows q (inr (inl h)) = inl (inr (inl h))
+    grows q (inr (inr (inl h))) = inl (inr (inr (inl h)))
+    grows q (inr (inr (inr (inl h)))) = inl (inr (inr (inr (inl h))))
+    grows q (inr (inr (inr (inr h)))) = inr cc
+
+-- a call lets a node go: it stands where it stood, and holds less
+pub kept_shrink : (tree : Map ℕ) (ops : Records) (key : ℕ → Key) (c : ℕ) (op op_new : Record) (st new : Stand) → Kept tree ops key
+    → ops c ≡ Some op → op.stand ≡ Some st → op_new.stand ≡ Some new → op_new.phase ≡ op.phase → op_new.walked ≡ op.walked → op_new.remaining ≡ op.remaining
+    → Shrinks st new
+    → Kept tree (set_at c (Some op_new) ops) (set_at c (key c) key)
+kept_shrink tree ops key c op op_new st new kept is on on_new same_phase same_walked same_rel less =
+    kept_update tree ops key c op_new (key c) kept
+    (λ s e. subst (Keeps tree (key c) op_new) (same_stand new s (sym on_new ∙ e)) own)
+    (λ d q s other differs e f g. subst (λ (x : Stand). Pair tree (key c) x op_new.phase (key d) other q.phase × Pair tree (key d) other q.phase (key c) x op_new.phase) (same_stand new s (sym on_new ∙ f)) (both d q other differs e g))
+  where
+    same_stand : (a b : Stand) → ◌≡◌ {A = Option Stand} (Some a) (Some b) → a ≡ b
+    same_stand a b e = cc
+
+    old : Keeps tree (key c) op st
+    old = kept.each c op st is on
+
+    head : (walked walked_new : Key) (node node_new : ℕ) → ((walked_new ≡ walked) × (node_new ≡ node)) ⊎ ((walked_new ≡ []) × (node_new ≡ st.node)) → tree (key c ++ walked) ≡ Some node → tree (key c ++ walked_new) ≡ Some node_new
+    head walked walked_new node node_new (inl h) e = rw (h.0, h.1) e
+    head walked walked_new node node_new (inr h) e = rw (h.0, h.1, append-nil) old.located.here
+
+    own : Keeps tree (key c) op_new new
+    own = record {
+      located = record {
+        here = rw less.node old.located.here;
+        source = head st.source.walked new.source.walked st.source.node new.source.node less.source old.located.source;
+        dest = head st.dest.walked new.dest.walked st.dest.node new.dest.node less.dest old.located.dest;
+      };
+      walking = λ w. old.walking (sym same_phase ∙ w) ∙ sym same_walked;
+      fits = rw same_rel old.fits;
+    }
+
+    fewer : (walked walked_new : Key) (node node_new : ℕ) (other : Stand) → ((walked_new ≡ walked) × (node_new ≡ node)) ⊎ ((walked_new ≡ []) × (node_new ≡ st.node)) → IsClear tree (key c) walked other → IsClear tree (key c) walked_new other
+    fewer walked walked_new node node_new other (inl h) e = rw h.0 e
+    fewer walked walked_new node node_new other (inr h) e = rw h.0 (clear_nil tree (key c) other)
+
+    both : (d : ℕ) (q : Record) (other : Stand) → (c ≡ d → ⊥) → ops d ≡ Some q → q.stand ≡ Some other → Pair tree (key c) new op_new.phase (key d) other q.phase × Pair tree (key d) other q.phase (key c) new op_new.phase
+    both d q other differs e g = (
+      record {
+        apart = λ m h i. first.apart m (less.holds m h) i;
+        after = λ h. first.after (subst (λ (p : Phase). IsAfter p q.phase) same_phase h);
+        source = fewer st.source.walked new.source.walked st.source.node new.source.node other less.source first.source;
+        dest = fewer st.dest.walked new.dest.walked st.dest.node new.dest.node other less.dest first.dest;
+      },
+      record {
+        apart = λ m h i. second.apart m h (less.holds m i);
+        after = λ h. second.after (subst (λ (p : Phase). IsAfter q.phase p) same_phase h);
+        source = λ u v m mu mv i j h. second.source u v m mu mv i j (less.holds m h);
+        dest = λ u v m mu mv i j h. second.dest u v m mu mv i j (less.holds m h);
+      },
+    )
+      where
+        first : Pair tree (key c) st op.phase (key d) other q.phase
+        first = kept.pairs c d op q st other differs is e on g
+
+        second : Pair tree (key d) other q.phase (key c) st op.phase
+        second = kept.pairs d c q op other st (λ s. differs (sym s)) e is g on
+
+-- a call that is finished stands where it stood until it lets go
+pub kept_finish : (tree : Map ℕ) (ops : Records) (key : ℕ → Key) (c : ℕ) (op : Record) (made : Effect) → Kept tree ops key → ops c ≡ Some op
+    → Kept tree (set_at c (Some (finished_op op made)) ops) (set_at c (key c) key)
+kept_finish tree ops key c op made kept is =
+    kept_update tree ops key c (finished_op op made) (key c) kept
+    (λ st e. let k : Keeps tree (key c) op st = kept.each c op st is e in record { located = k.located; walking = λ w. cc; fits = k.fits })
+    (λ d q st other n e f g.
+    let first : Pair tree (key c) st op.phase (key d) other q.phase = kept.pairs c d op q st other n is e f g in
+    let second : Pair tree (key d) other q.phase (key c) st op.phase = kept.pairs d c q op other st (λ s. n (sym s)) e is g f in (
+      record { apart = first.apart; after = λ h. absurd h; source = first.source; dest = first.dest },
+      record { apart = second.apart; after = λ h. absurd (no_after q.phase h); source = second.source; dest = second.dest },
+    ))
+  where
+    no_after : (p : Phase) → IsAfter p (Finished made.reply) → ⊥
+    no_after Walking h = h
+    no_after (Placed i) h = h
+    no_after (Finished q) h = h
+
+-- a move of one call, past all others
+pub record Spares (tree : Map ℕ) (ops : Records) (key : ℕ → Key) (s t kt : Key) (y : Name) : Type 0 where
+  pub none : (r : Key) → tree (t ++ r) ≡ None
+  pub ends_in : t ≡ kt ++ y ∷ []
+  pub source : (d : ℕ) (q : Record) (st : Stand) → ops d ≡ Some q → q.stand ≡ Some st → (u v : Key) → after_prefix s (key d) ≡ None → st.source.walked ≡ u ++ v → after_prefix s (key d ++ u) ≡ None
+  pub dest : (d : ℕ) (q : Record) (st : Stand) → ops d ≡ Some q → q.stand ≡ Some st → (u v : Key) → after_prefix s (key d) ≡ None → st.dest.walked ≡ u ++ v → after_prefix s (key d ++ u) ≡ None
+  pub walking : (d : ℕ) (q : Record) (st : Stand) → ops d ≡ Some q → q.stand ≡ Some st → q.phase ≡ Walking → after_prefix s (key d) ≡ None
+  pub off : (d e : ℕ) (p q : Record) (st other : Stand) → ops d ≡ Some p → ops e ≡ Some q → p.stand ≡ Some st → q.stand ≡ Some other → IsAfter p.phase q.phase → (after_prefix (key d) kt ≡ None) ⊎ ((after_prefix s (key d) ≡ None) × (after_prefix s (key e) ≡ None))
+
+pub kept_move : (tree : Map ℕ) (ops : Records) (key : ℕ → Key) (s t kt : Key) (y : Name) → Kept tree ops key
+    → ((a b : Key) (n : ℕ) → move s t tree a ≡ Some n → move s t tree b ≡ Some n → a ≡ b)
+    → Spares tree ops key s t kt y
+    → Kept (move s t tree) ops (λ d. rekey_by t (key d) (after_prefix s (key d)))
+kept_move tree ops key s t kt y kept one sp = record {
+  one_key = one;
+  each = λ d q st e f.
+      let k : Keeps tree (key d) q st = kept.each d q st e f in
+      record {
+        located = located_moved tree s t (key d) st sp.none k.located (sp.source d q st e f) (sp.dest d q st e f);
+        walking = λ w. rw (sp.walking d q st e f w) (k.walking w);
+        fits = k.fits;
+      };
+  pairs = λ c d p q st other n e f g h.
+      pair_moved tree s t kt y (key c) st p.phase (key d) other q.phase sp.none sp.ends_in
+      (kept.each c p st e g).located (kept.each d q other f h).located
+      (sp.source c p st e g) (sp.dest c p st e g)
+      (λ i. sp.off c d p q st other e f g h i)
+      (kept.pairs c d p q st other n e f g h);
+}

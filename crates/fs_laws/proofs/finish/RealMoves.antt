@@ -1,0 +1,129 @@
+-- A rename that really moves: what is known where it finishes.
+use Rattle.std.proofs.Common.{◌≡◌, ℕ, Bool, true, false, not, ◌&&◌, ◌||◌, List, [], ◌∷◌, ◌++◌, Option, Some, None, refl, sym, ap, ap₂, ◌∙◌, append-nil, subst, ◌⊎◌, inl, inr}
+use Rattle.fs_names.specs.Keys.{Key, after_prefix, parent_of, last_of, has_more}
+use Rattle.fs_names.specs.Names.{Name, has_name}
+use Rattle.fs_names.specs.Parts.{left, is_end}
+use Rattle.fs_names.specs.Shapes.{Shape, Dir, File, is_full}
+use Rattle.fs_calls.specs.Forms.{AtPair, Fits}
+use Rattle.fs_calls.specs.declared.target.PairCall.TheVariants as pairs
+use Rattle.fs_calls.specs.Rows.{to_row}
+use Rattle.fs_nodes.specs.Graphs.{Graph, at, then_at, entry_shape, IsGraph}
+use Rattle.fs_machine.specs.Moves.{Move, Finishes, first_of, head_move, take_if, same_kind, fork_move, rename_move, dir_then, dir_error, rename_at, there_by, moved_node}
+use Rattle.fs_machine.specs.Records.{Stand}
+use Rattle.fs_laws.specs.Invariants.{Forked, VictimAt}
+use Rattle.fs_laws.specs.Placed.{Aside}
+use Rattle.fs_laws.proofs.graphs.Walks.{then_some}
+use Rattle.fs_laws.proofs.finish.Readings.{arrived}
+use Rattle.fs_laws.proofs.finish.Replies.{head_stops, Leaf, some_entry}
+use Rattle.fs_laws.proofs.finish.TreeAfter.{Really, really, full_row, paths_aside}
+use Rattle.fs_laws.proofs.helping.ReadsNothingBelow.{take_done}
+
+-- what the entry leads to: nothing, or the victim that the rename holds
+abbrev pub Replaces : Graph → Stand → Name → Type 0
+Replaces graph st y = (graph.kid st.dest.node y ≡ None) ⊎ ((v : ℕ) × (graph.kid st.dest.node y ≡ Some v) × (st.victim ≡ Some v) × Leaf (graph.shape v))
+
+pub record Real (graph : Graph) (p q : Key) (st : Stand) : Type 0 where
+  pub source_is : parent_of p ≡ st.source.walked
+  pub dest_is : parent_of q ≡ st.dest.walked
+  pub source_dir : (names : List Name) × (graph.shape st.source.node ≡ Some (Dir names))
+  pub dest_dir : (names : List Name) × (graph.shape st.dest.node ≡ Some (Dir names))
+  pub moved : (m : ℕ) × (graph.kid st.source.node (last_of p) ≡ Some m)
+  pub aside : Aside p q
+  pub replaces : Replaces graph st (last_of q)
+
+pub dir_of_none : (l : Key) (s : Option Shape) → dir_error l s ≡ None → (names : List Name) × (s ≡ Some (Dir names))
+dir_of_none [] None e = cc
+dir_of_none [] (Some (Dir names)) e = (names, refl)
+dir_of_none [] (Some (File bytes)) e = cc
+dir_of_none (x ∷ l) s e = cc
+
+dir_then_is : (t : Option Shape) (names : List Name) (m : Move) (o : Option ℕ) → t ≡ Some (Dir names) → dir_then t m ≡ Finishes o → m ≡ Finishes o
+dir_then_is t names m o e f = ap (λ (s : Option Shape). dir_then s m) (sym e) ∙ f
+
+to_leaf : (m s : Shape) (room : Bool) → to_row m (Some s) room ≡ None → (same_kind (Some m) (Some s) ≡ true) × Leaf (Some s)
+to_leaf (Dir names) (Dir []) room e = (refl, tt)
+to_leaf (Dir names) (Dir (x ∷ more)) room e = cc
+to_leaf (Dir names) (File bytes) room e = cc
+to_leaf (File bytes) (Dir names) room e = cc
+to_leaf (File bytes) (File there) room e = (refl, tt)
+
+all_true : (u v w : Bool) → u ≡ true → v ≡ false → w ≡ false → (u && not v && not w) ≡ true
+all_true true false false i j k = refl
+all_true false v w i j k = cc
+all_true true true w i j k = cc
+all_true true false true i j k = cc
+
+-- a walk that is more than nothing sets out from a directory
+pub walked_dir : (graph : Graph) → IsGraph graph → (n h : ℕ) (w : Key) (names : List Name) → at graph.kid n w ≡ Some h → graph.shape h ≡ Some (Dir names) → (ns : List Name) × (graph.shape n ≡ Some (Dir ns))
+walked_dir graph is n h [] names e f = let z : n ≡ h = cc in (names, ap graph.shape z ∙ f)
+walked_dir graph is n h (x ∷ w) names e f =
+    let g : (c : ℕ) × (graph.kid n x ≡ Some c) × (at graph.kid c w ≡ Some h) = then_some (graph.kid n x) (λ c. at graph.kid c w) h e in
+    let d : (ns : List Name) × (graph.shape n ≡ Some (Dir ns)) × (has_name x ns ≡ true) = is.of_dir n g.0 x g.1 in
+    (d.0, d.1)
+
+-- at both parents, that are directories, the next move is decided by the entries
+pub at_entries : (graph : Graph) → IsGraph graph → (p q : Key) (st : Stand) (o : Option ℕ) → Forked graph st.node p q st
+    → dir_error (left st.source.walked (parent_of p)) (graph.shape st.source.node) ≡ None → dir_error (left st.dest.walked (parent_of q)) (graph.shape st.dest.node) ≡ None
+    → fork_move graph p q st ≡ Finishes o → rename_move graph p q st ≡ Finishes o
+at_entries graph is p q st o f es ed e =
+    let sd : (names : List Name) × (graph.shape st.source.node ≡ Some (Dir names)) = dir_of_none (left st.source.walked (parent_of p)) (graph.shape st.source.node) es in
+    let dd : (names : List Name) × (graph.shape st.dest.node ≡ Some (Dir names)) = dir_of_none (left st.dest.walked (parent_of q)) (graph.shape st.dest.node) ed in
+    let nd : (names : List Name) × (graph.shape st.node ≡ Some (Dir names)) = walked_dir graph is st.node st.source.node st.source.walked sd.0 f.source_at sd.1 in
+    let rest2 : Move = dir_then (graph.shape st.dest.node) (rename_move graph p q st) in
+    let rest1 : Move = dir_then (graph.shape st.source.node) (first_of (head_move graph st.dest.node st.dest.behind (left st.dest.walked (parent_of q))) rest2) in
+    let a : first_of (head_move graph st.source.node st.source.behind (left st.source.walked (parent_of p))) rest1 ≡ Finishes o = dir_then_is (graph.shape st.node) nd.0 (first_of (head_move graph st.source.node st.source.behind (left st.source.walked (parent_of p))) rest1) o nd.1 e in
+    let b : rest1 ≡ Finishes o = (head_stops graph st.source.node st.source.behind (left st.source.walked (parent_of p)) rest1 o a).1 (arrived (left st.source.walked (parent_of p)) (graph.shape st.source.node) es) in
+    let c : first_of (head_move graph st.dest.node st.dest.behind (left st.dest.walked (parent_of q))) rest2 ≡ Finishes o = dir_then_is (graph.shape st.source.node) sd.0 (first_of (head_move graph st.dest.node st.dest.behind (left st.dest.walked (parent_of q))) rest2) o sd.1 b in
+    let d : rest2 ≡ Finishes o = (head_stops graph st.dest.node st.dest.behind (left st.dest.walked (parent_of q)) rest2 o c).1 (arrived (left st.dest.walked (parent_of q)) (graph.shape st.dest.node) ed) in
+    dir_then_is (graph.shape st.dest.node) dd.0 (rename_move graph p q st) o dd.1 d
+
+-- a victim that the kinds ask for is held
+pub victim_held : (graph : Graph) (p q : Key) (st : Stand) (o : Option ℕ) (v : ℕ) → VictimAt graph (AtPair pairs.Rename p q) st → rename_move graph p q st ≡ Finishes o → graph.kid st.dest.node (last_of q) ≡ Some v
+    → (same_kind (entry_shape graph st.source.node (last_of p)) (entry_shape graph st.dest.node (last_of q)) && not (is_end (after_prefix p q)) && not (has_more (after_prefix q p))) ≡ true → st.victim ≡ Some v
+victim_held graph p q st o v victim e kid want =
+    let b : Bool = same_kind (entry_shape graph st.source.node (last_of p)) (entry_shape graph st.dest.node (last_of q)) && not (is_end (after_prefix p q)) && not (has_more (after_prefix q p)) in
+    let m : Option ℕ = moved_node (rename_at graph p q st).1 (graph.kid st.source.node (last_of p)) in
+    let t : take_if b (Some v) st.victim (Finishes m) ≡ Finishes o = ap (λ (n : Option ℕ). take_if b n st.victim (Finishes m)) (sym kid) ∙ e in
+    let w : (w : ℕ) × (st.victim ≡ Some w) = take_done b v st.victim o m want t in
+    let z : ◌≡◌ {A = Option ℕ} (Some w.0) (Some v) = sym (victim w.0 w.1).0 ∙ kid in
+    w.1 ∙ z
+
+pub real_of : (graph : Graph) → IsGraph graph → (p q : Key) (st : Stand) (o : Option ℕ) → Fits (AtPair pairs.Rename p q) → Forked graph st.node p q st → VictimAt graph (AtPair pairs.Rename p q) st → fork_move graph p q st ≡ Finishes o → (rename_at graph p q st).1 ≡ true
+    → Real graph p q st
+real_of graph is p q st o fits f victim e moves = record {
+  source_is = f.source_is ∙ ap (λ (l : Key). st.source.walked ++ l) (arrived (left st.source.walked (parent_of p)) (graph.shape st.source.node) w.source) ∙ append-nil st.source.walked;
+  dest_is = f.dest_is ∙ ap (λ (l : Key). st.dest.walked ++ l) (arrived (left st.dest.walked (parent_of q)) (graph.shape st.dest.node) w.dest) ∙ append-nil st.dest.walked;
+  source_dir = dir_of_none (left st.source.walked (parent_of p)) (graph.shape st.source.node) w.source;
+  dest_dir = dir_of_none (left st.dest.walked (parent_of q)) (graph.shape st.dest.node) w.dest;
+  moved = let g : (m : ℕ) × (graph.kid st.source.node (last_of p) ≡ Some m) × (graph.shape m ≡ Some w.moved) = some_entry graph st.source.node (last_of p) w.moved w.is in (g.0, g.1);
+  aside = paths_aside p q fits w.other above;
+  replaces = replaces (graph.kid st.dest.node (last_of q)) refl;
+}
+  where
+    room : Bool
+    room = is_end (after_prefix (parent_of p) (parent_of q)) || not (is_full (graph.shape st.dest.node))
+
+    w : Really (dir_error (left st.source.walked (parent_of p)) (graph.shape st.source.node)) (dir_error (left st.dest.walked (parent_of q)) (graph.shape st.dest.node)) (entry_shape graph st.source.node (last_of p)) (is_end (after_prefix p q)) (there_by (has_more (after_prefix q p)) (entry_shape graph st.dest.node (last_of q))) (is_end (after_prefix (parent_of p) (parent_of q)) || not (is_full (graph.shape st.dest.node)))
+    w = really (dir_error (left st.source.walked (parent_of p)) (graph.shape st.source.node)) (dir_error (left st.dest.walked (parent_of q)) (graph.shape st.dest.node)) (entry_shape graph st.source.node (last_of p)) (is_end (after_prefix p q)) (there_by (has_more (after_prefix q p)) (entry_shape graph st.dest.node (last_of q))) (is_end (after_prefix (parent_of p) (parent_of q)) || not (is_full (graph.shape st.dest.node))) moves
+
+    above : has_more (after_prefix q p) ≡ true → ⊥
+    above b = full_row w.moved (entry_shape graph st.dest.node (last_of q)) (is_end (after_prefix (parent_of p) (parent_of q)) || not (is_full (graph.shape st.dest.node))) (has_more (after_prefix q p)) b w.to
+
+    not_above : (b : Bool) → has_more (after_prefix q p) ≡ b → b ≡ false
+    not_above true i = absurd (above i)
+    not_above false i = refl
+
+    no_prefix : has_more (after_prefix q p) ≡ false
+    no_prefix = (let z : (b : Bool) → has_more (after_prefix q p) ≡ b → has_more (after_prefix q p) ≡ false = λ b i. i ∙ not_above b i in z (has_more (after_prefix q p)) refl)
+
+    replaces : (v : Option ℕ) → graph.kid st.dest.node (last_of q) ≡ v → Replaces graph st (last_of q)
+    replaces None i = inl i
+    replaces (Some v) i =
+        let u : (s : Shape) × (graph.shape v ≡ Some s) = is.to_used st.dest.node v (last_of q) i in
+        let entry : entry_shape graph st.dest.node (last_of q) ≡ Some u.0 = ap (λ (n : Option ℕ). then_at n graph.shape) i ∙ u.1 in
+        let row : to_row w.moved (Some u.0) (is_end (after_prefix (parent_of p) (parent_of q)) || not (is_full (graph.shape st.dest.node))) ≡ None =
+        ap (λ (t : Option Shape). to_row w.moved t (is_end (after_prefix (parent_of p) (parent_of q)) || not (is_full (graph.shape st.dest.node)))) (sym (ap₂ there_by no_prefix entry)) ∙ w.to in
+        let l : (same_kind (Some w.moved) (Some u.0) ≡ true) × Leaf (Some u.0) = to_leaf w.moved u.0 (is_end (after_prefix (parent_of p) (parent_of q)) || not (is_full (graph.shape st.dest.node))) row in
+        let want : (same_kind (entry_shape graph st.source.node (last_of p)) (entry_shape graph st.dest.node (last_of q)) && not (is_end (after_prefix p q)) && not (has_more (after_prefix q p))) ≡ true =
+        all_true (same_kind (entry_shape graph st.source.node (last_of p)) (entry_shape graph st.dest.node (last_of q))) (is_end (after_prefix p q)) (has_more (after_prefix q p)) (ap₂ same_kind w.is entry ∙ l.0) w.other no_prefix in
+        inr (v, i, victim_held graph p q st o v victim (at_entries graph is p q st o f w.source w.dest e) i want, subst Leaf (sym u.1) l.1)

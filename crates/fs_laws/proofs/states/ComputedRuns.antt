@@ -1,0 +1,222 @@
+-- The machine computed: in each state of a run the step that is computed is the step, and so runs are computed.
+use Rattle.std.proofs.Common.{◌≡◌, ℕ, zero, suc, ◌+◌, ◌<◌, Bool, true, false, cond, not, ◌&&◌, List, [], ◌∷◌, ◌++◌, Option, Some, None, is_some, refl, sym, ap, ap₂, ◌∙◌, append_assoc, append-nil, arith}
+use Rattle.std.specs.Prelude.{nat_lt}
+use Rattle.std.proofs.lemmas.Bool.Decides.{nat_tests}
+use Rattle.fs_names.specs.Keys.{Key, last_of}
+use Rattle.fs_names.specs.Shapes.{Shape}
+use Rattle.fs_calls.specs.Forms.{form, reserves, Form, AtNode, AtEntry, AtPair, by_text}
+use Rattle.fs_calls.specs.declared.target.PairCall.TheVariants as pairs
+use Rattle.fs_calls.specs.declared.call.Call.{Call}
+use Rattle.fs_calls.specs.declared.reply.Reply.{Reply}
+use Rattle.fs_nodes.specs.Graphs.{Graph, numbers, reserved_in}
+use Rattle.fs_machine.specs.Moves.{Move, Takes, Leaves, Finishes, Ends, next, next_by}
+use Rattle.fs_machine.specs.Records.{Stand, Phase, Walking, Placed, Finished, Record}
+use Rattle.fs_timeline.specs.Timeline.{begins}
+use Rattle.fs_laws.specs.Events.{Event, Begins, Steps, events_of, Ran}
+use Rattle.fs_laws.specs.Invariants.{Invariant}
+use Rattle.fs_laws.specs.States as machine
+use Rattle.fs_laws.specs.States.{State, empty, Begun_as, began, Reserves, Stepped, Idle, Took, Busy, LetGo, Helped, Committed, CarriedOut, Returned, Moves, Step, taking, letting_go, helping, carrying, committing, returning, Run, Start, Beginning, Stepping}
+use Rattle.fs_laws.proofs.states.ComputedSteps.{by_ends, by_finishes}
+use Rattle.fs_laws.proofs.helping.WhomToHelp.{whom, IsRight, whom_is}
+use Rattle.fs_laws.proofs.helping.NobodyEnters.{ToMove, to_move}
+use Rattle.fs_laws.proofs.states.Headline.{run_keeps}
+use Rattle.fs_laws.proofs.graphs.Walks.{at_child}
+
+-- the key of the node that a rename would move
+abbrev source_of : Form → Key
+source_of (AtNode c p) = p
+source_of (AtEntry c p) = p
+source_of (AtPair pairs.Rename p q) = p
+
+abbrev source_walked : Option Stand → Key
+source_walked None = []
+source_walked (Some st) = st.source.walked
+
+abbrev moved_key : Record → Key
+moved_key op = op.walked ++ source_walked op.stand ++ last_of (source_of op.remaining) ∷ []
+
+abbrev to_help : State → Record → Option ℕ → Option ℕ
+to_help old op None = None
+to_help old op (Some n) = whom old.ops (moved_key op) (begins old.timeline)
+
+-- the step
+abbrev take_by : State → ℕ → Record → ℕ → Option ℕ → Stepped × State
+take_by old c op n None = (Took n, taking old c op n)
+take_by old c op n (Some d) = (Busy n d, old)
+
+abbrev help_by : State → ℕ → Option Record → Stepped × State
+help_by old d None = (Idle, old)
+help_by old d (Some q) = (Helped d, helping old d q)
+
+abbrev finish_by : State → ℕ → Record → Phase → Option ℕ → Stepped × State
+finish_by old c op Walking None = (Committed, committing old c op)
+finish_by old c op Walking (Some d) = help_by old d (old.ops d)
+finish_by old c op (Placed i) d = (CarriedOut, carrying old c op)
+finish_by old c op (Finished r) d = (Idle, old)
+
+abbrev end_by : State → ℕ → Record → Phase → Stepped × State
+end_by old c op (Finished r) = (Returned r, returning old c op r)
+end_by old c op Walking = (Idle, old)
+end_by old c op (Placed i) = (Idle, old)
+
+abbrev move_by : State → ℕ → Record → Move → Stepped × State
+move_by old c op (Takes n) = take_by old c op n (old.holder n)
+move_by old c op (Leaves n) = (LetGo n, letting_go old c op n)
+move_by old c op (Finishes moved) = finish_by old c op op.phase (to_help old op moved)
+move_by old c op Ends = end_by old c op op.phase
+
+abbrev op_by : State → ℕ → Option Record → Stepped × State
+op_by old c None = (Idle, old)
+op_by old c (Some op) = move_by old c op (next old.graph op)
+
+abbrev seat_by : State → Option ℕ → Stepped × State
+seat_by old None = (Idle, old)
+seat_by old (Some c) = op_by old c (old.ops c)
+
+abbrev stepped : State → ℕ → Stepped × State
+stepped old seat = seat_by old (old.on_seat seat)
+
+-- a rename moves the node at that key
+at_moved : (s : State) → Run s → (c : ℕ) (op : Record) (n : ℕ) → s.ops c ≡ Some op → op.phase ≡ Walking → next s.graph op ≡ Finishes (Some n) → numbers s.graph (moved_key op) ≡ Some n
+at_moved s run c op n is walks m = ap (numbers s.graph) same ∙ at_child s.graph.kid 0 t.st.source.node (inv.key c ++ t.st.source.walked) (last_of t.p) (inv.kept.each c op t.st is t.on).located.source ∙ t.kid
+  where
+    inv : Invariant s
+    inv = run_keeps s run
+
+    t : ToMove s.graph op n
+    t = to_move s.graph op n m
+
+    same : moved_key op ≡ inv.key c ++ t.st.source.walked ++ last_of t.p ∷ []
+    same =
+        ap (λ (k : Key). k ++ source_walked op.stand ++ last_of (source_of op.remaining) ∷ []) (sym ((inv.kept.each c op t.st is t.on).walking walks))
+        ∙ ap₂ (λ (o : Option Stand) (f : Form). inv.key c ++ source_walked o ++ last_of (source_of f) ∷ []) t.on t.remaining
+
+pub stepped_is : (old : State) → Run old → (seat : ℕ) → Step old seat (stepped old seat).0 (stepped old seat).1
+stepped_is old run seat = on_it (old.on_seat seat) refl
+  where
+    helps : (c : ℕ) (op : Record) (n d : ℕ) → Moves old seat c op (Finishes (Some n)) → op.phase ≡ Walking → IsRight old n (Some d) → (o : Option Record) → old.ops d ≡ o → Step old seat (help_by old d o).0 (help_by old d o).1
+    helps c op n d m w r None i = let z : ◌≡◌ {A = Option Record} None (Some r.0.0.0) = sym i ∙ r.0.0.1 in cc
+    helps c op n d m w r (Some q) i = (c, op, n, m, w, r, q, i, refl)
+
+    moves : (c : ℕ) (op : Record) (n : ℕ) (o : Option ℕ) → Moves old seat c op (Finishes (Some n)) → op.phase ≡ Walking → IsRight old n o → Step old seat (finish_by old c op Walking o).0 (finish_by old c op Walking o).1
+    moves c op n None m w r = (c, op, Some n, m, w, r, refl)
+    moves c op n (Some d) m w r = helps c op n d m w r (old.ops d) refl
+
+    walking : (c : ℕ) (op : Record) (o : Option ℕ) → Moves old seat c op (Finishes o) → op.phase ≡ Walking → Step old seat (finish_by old c op Walking (to_help old op o)).0 (finish_by old c op Walking (to_help old op o)).1
+    walking c op None m w = (c, op, None, m, w, tt, refl)
+    walking c op (Some n) m w = moves c op n (whom old.ops (moved_key op) (begins old.timeline)) m w (whom_is old run (moved_key op) n (at_moved old run c op n m.1 w m.2))
+
+    finishing : (c : ℕ) (op : Record) (o : Option ℕ) (phase : Phase) → op.phase ≡ phase → Moves old seat c op (Finishes o) → Step old seat (finish_by old c op phase (to_help old op o)).0 (finish_by old c op phase (to_help old op o)).1
+    finishing c op o Walking w m = walking c op o m w
+    finishing c op o (Placed i) w m = (c, op, o, i, m, w, refl)
+    finishing c op o (Finished r) w m = absurd (by_finishes old.graph op (by_text (form op.call)) r op.stand o (ap (λ (p : Phase). next_by old.graph op (by_text (form op.call)) p op.stand) (sym w) ∙ m.2))
+
+    ending : (c : ℕ) (op : Record) (phase : Phase) (r : Reply) → op.phase ≡ phase → phase ≡ Finished r → Moves old seat c op Ends → Step old seat (end_by old c op phase).0 (end_by old c op phase).1
+    ending c op (Finished q) r w i m = (c, op, m, w, refl)
+    ending c op Walking r w i m = cc
+    ending c op (Placed j) r w i m = cc
+
+    takes : (c : ℕ) (op : Record) (n : ℕ) (h : Option ℕ) → old.holder n ≡ h → Moves old seat c op (Takes n) → Step old seat (take_by old c op n h).0 (take_by old c op n h).1
+    takes c op n None i m = (c, op, m, i, refl)
+    takes c op n (Some d) i m = (c, op, m, i, refl)
+
+    moving : (c : ℕ) (op : Record) (m : Move) → Moves old seat c op m → Step old seat (move_by old c op m).0 (move_by old c op m).1
+    moving c op (Takes n) m = takes c op n (old.holder n) refl m
+    moving c op (Leaves n) m = (c, op, m, refl)
+    moving c op (Finishes o) m = finishing c op o op.phase refl m
+    moving c op Ends m = let r : (r : Reply) × (op.phase ≡ Finished r) = by_ends old.graph op (by_text (form op.call)) op.phase op.stand m.2 in ending c op op.phase r.0 refl r.1 m
+
+    under_way : (c : ℕ) (o : Option Record) → old.on_seat seat ≡ Some c → old.ops c ≡ o → Step old seat (op_by old c o).0 (op_by old c o).1
+    under_way c None e f = let s : (op : Record) × (old.ops c ≡ Some op) × (op.seat ≡ seat) = (run_keeps old run).seated seat c e in let z : ◌≡◌ {A = Option Record} None (Some s.0) = sym f ∙ s.1 in cc
+    under_way c (Some op) e f = moving c op (next old.graph op) (e, f, refl)
+
+    on_it : (o : Option ℕ) → old.on_seat seat ≡ o → Step old seat (seat_by old o).0 (seat_by old o).1
+    on_it None e = (e, refl)
+    on_it (Some c) e = under_way c (old.ops c) e refl
+
+-- a begin with ample memory: the first number that isn't in use is reserved (of so many looked at)
+abbrev free_from : ℕ → Graph → ℕ → ℕ
+free_from zero graph n = n
+free_from (suc f) graph n = cond (is_some (graph.shape n)) (free_from f graph (suc n)) n
+
+abbrev free : State → ℕ
+free old = free_from (begins old.timeline + 1) old.graph 0
+
+abbrev reserve_by : State → ℕ → Call → Option Shape → State
+reserve_by old seat call None = began old seat call (begins old.timeline + 1) None old.graph
+reserve_by old seat call (Some shape) = began old seat call (begins old.timeline + 1) (Some (free old)) (reserved_in (free old) shape old.graph)
+
+abbrev beginning : State → ℕ → Call → State
+beginning old seat call = reserve_by old seat call (reserves (form call))
+
+-- where the seat is free, and so is the number if one is wanted
+abbrev has_free : State → Option Shape → Bool
+has_free old None = true
+has_free old (Some shape) = not (is_some (old.graph.shape (free old))) && nat_lt (free old) old.limit
+
+abbrev can_begin : State → ℕ → Call → Bool
+can_begin old seat call = not (is_some (old.on_seat seat)) && has_free old (reserves (form call))
+
+is_none : {A : Type 0} (o : Option A) → not (is_some o) ≡ true → o ≡ None
+is_none None e = refl
+is_none (Some a) e = cc
+
+both : (a b : Bool) → (a && b) ≡ true → (a ≡ true) × (b ≡ true)
+both true b e = (refl, e)
+both false b e = cc
+
+beginning_is : (old : State) (seat : ℕ) (call : Call) → can_begin old seat call ≡ true → machine.Begins old seat call (Begun_as (begins old.timeline + 1)) (beginning old seat call)
+beginning_is old seat call e = (is_none (old.on_seat seat) p.0, refl, go (reserves (form call)) p.1)
+  where
+    p : (not (is_some (old.on_seat seat)) ≡ true) × (has_free old (reserves (form call)) ≡ true)
+    p = both (not (is_some (old.on_seat seat))) (has_free old (reserves (form call))) e
+
+    less : (a b : ℕ) → nat_lt a b ≡ true → a < b
+    less a b i = grind (arith, nat_tests)
+
+    go : (o : Option Shape) → has_free old o ≡ true → Reserves old seat call (begins old.timeline + 1) o (reserve_by old seat call o)
+    go None i = refl
+    go (Some shape) i =
+        let q : (not (is_some (old.graph.shape (free old))) ≡ true) × (nat_lt (free old) old.limit ≡ true) = both (not (is_some (old.graph.shape (free old)))) (nat_lt (free old) old.limit) i in
+        (free old, less (free old) old.limit q.1, is_none (old.graph.shape (free old)) q.0, refl)
+
+-- the state after some events, whether its begins can be, and the events with the answers that are computed
+abbrev pub after : State → List Event → State
+after s [] = s
+after s (Begins seat call answer ∷ es) = after (beginning s seat call) es
+after s (Steps seat answer ∷ es) = after (stepped s seat).1 es
+
+abbrev pub can_be : State → List Event → Bool
+can_be s [] = true
+can_be s (Begins seat call answer ∷ es) = can_begin s seat call && can_be (beginning s seat call) es
+can_be s (Steps seat answer ∷ es) = can_be (stepped s seat).1 es
+
+abbrev pub told : State → List Event → List Event
+told s [] = []
+told s (Begins seat call answer ∷ es) = Begins seat call (Begun_as (begins s.timeline + 1)) ∷ told (beginning s seat call) es
+told s (Steps seat answer ∷ es) = Steps seat (stepped s seat).0 ∷ told (stepped s seat).1 es
+
+played : (s : State) (run : Run s) (es : List Event) → can_be s es ≡ true → (later : Run (after s es)) × (events_of (after s es) later ≡ events_of s run ++ told s es)
+played s run [] e = (run, sym (append-nil (events_of s run)))
+played s run (Begins seat call answer ∷ es) e =
+    let p : (can_begin s seat call ≡ true) × (can_be (beginning s seat call) es ≡ true) = both (can_begin s seat call) (can_be (beginning s seat call) es) e in
+    let now : Run (beginning s seat call) = Beginning seat call (Begun_as (begins s.timeline + 1)) (beginning s seat call) run (beginning_is s seat call p.0) in
+    let r : (later : Run (after (beginning s seat call) es)) × (events_of (after (beginning s seat call) es) later ≡ events_of (beginning s seat call) now ++ told (beginning s seat call) es) = played (beginning s seat call) now es p.1 in
+    (r.0, r.1 ∙ append_assoc (events_of s run) (Begins seat call (Begun_as (begins s.timeline + 1)) ∷ []) (told (beginning s seat call) es))
+played s run (Steps seat answer ∷ es) e =
+    let now : Run (stepped s seat).1 = Stepping seat (stepped s seat).0 (stepped s seat).1 run (stepped_is s run seat) in
+    let r : (later : Run (after (stepped s seat).1 es)) × (events_of (after (stepped s seat).1 es) later ≡ events_of (stepped s seat).1 now ++ told (stepped s seat).1 es) = played (stepped s seat).1 now es e in
+    (r.0, r.1 ∙ append_assoc (events_of s run) (Steps seat (stepped s seat).0 ∷ []) (told (stepped s seat).1 es))
+
+-- before anything began, at the greatest limit
+abbrev pub start : State
+start = empty 1048576
+
+pub is_run : (es : List Event) → can_be start es ≡ true → told start es ≡ es → (run : Run (after start es)) × (events_of (after start es) run ≡ es)
+is_run es can is =
+    let r : (later : Run (after start es)) × (events_of (after start es) later ≡ told start es) = played start (Start 1048576 (omega arith)) es can in
+    (r.0, r.1 ∙ is)
+
+-- the run of some events, where they and their answers are the computed ones
+abbrev pub ran : (es : List Event) → can_be start es ≡ true → told start es ≡ es → (after start es).limit ≡ 1048576 → Ran es
+ran es can is limit = record { state = after start es; run = (is_run es can is).0; events = (is_run es can is).1; limit = limit }

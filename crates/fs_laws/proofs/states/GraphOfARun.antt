@@ -1,0 +1,126 @@
+-- What holds of the graph, the seats and the numbers, in every state of a run.
+use Rattle.std.proofs.Common.{◌≡◌, ℕ, ◌<◌, ◌≤◌, Bool, true, false, cond, IsTrue, [], ◌∷◌, ◌++◌, Option, Some, None, refl, sym, ap, ◌∙◌, subst, ◌⊎◌, inl, inr, arith, rules}
+use Rattle.std.specs.Prelude.{nat_lt}
+use Rattle.std.proofs.lemmas.Bool.Decides.{nat_tests}
+use Rattle.fs_names.specs.Keys.{Key}
+use Rattle.fs_names.specs.Names.{has_name}
+use Rattle.fs_names.specs.Shapes.{Shape, Dir, File, is_there, has_entries}
+use Rattle.fs_calls.specs.Forms.{form, Form, AtNode, AtEntry, AtPair, by_text}
+use Rattle.fs_calls.specs.declared.target.PairCall.TheVariants as pairs
+use Rattle.fs_calls.specs.declared.errno.Errno.{Errno}
+use Rattle.fs_calls.specs.declared.reply.Reply.{Reply}
+use Rattle.fs_nodes.specs.Graphs.{Graph, numbers, IsGraph}
+use Rattle.fs_machine.specs.Leaving.{is_removed}
+use Rattle.fs_machine.specs.Moves.{Finishes, Ends, next, next_by}
+use Rattle.fs_machine.specs.Records.{Phase, Walking, Placed, Finished, Record, Stand}
+use Rattle.fs_machine.specs.Works.{IsSpare, SpareIf, IsBounded, HeadsApart, CanFinish}
+use Rattle.fs_timeline.specs.Timeline.{begins}
+use Rattle.fs_laws.specs.Invariants.{Invariant}
+use Rattle.fs_laws.specs.Stands.{Located}
+use Rattle.fs_laws.specs.States.{State, Run}
+use Rattle.fs_laws.proofs.trees.Prefixes.{same_refl}
+use Rattle.fs_laws.proofs.graphs.Walks.{at_child, eqb_true}
+use Rattle.fs_laws.proofs.states.ComputedSteps.{by_ends}
+use Rattle.fs_laws.proofs.events.Return.{ends_nowhere}
+use Rattle.fs_laws.proofs.states.Headline.{run_keeps}
+use Rattle.fs_laws.proofs.states.Agreement.{run_accounts, not_begun}
+use Rattle.fs_laws.proofs.calls.OneUnfinishedCall.{front_same}
+
+-- a number in use to which nothing leads
+spare_of : (graph : Graph) → IsGraph graph → (n : ℕ) (shape : Shape) → graph.shape n ≡ Some shape → ((key : Key) → numbers graph key ≡ Some n → ⊥) → IsSpare graph n
+spare_of graph is n shape used loose = record {
+  used = subst (λ (o : Option Shape). IsTrue (is_there o)) (sym used) (search rules);
+  unlinked = λ d x e. (let g : (key : Key) × (numbers graph key ≡ Some d) = is.loose d n x e in loose (g.0 ++ x ∷ []) (at_child graph.kid 0 d g.0 x g.1 ∙ e));
+  not_root = λ e. loose [] (ap (λ (m : ℕ). Some m) (sym e));
+  empty = empty (graph.shape n) refl;
+}
+  where
+    empty : (o : Option Shape) → graph.shape n ≡ o → has_entries o ≡ false
+    empty None e = refl
+    empty (Some (File bytes)) e = refl
+    empty (Some (Dir [])) e = refl
+    empty (Some (Dir (x ∷ names))) e =
+        let k : (m : ℕ) × (graph.kid n x ≡ Some m) = is.listed n (x ∷ names) x e (ap (λ (b : Bool). cond b true (has_name x names)) (same_refl x)) in
+        let g : (key : Key) × (numbers graph key ≡ Some n) = is.loose n k.0 x k.1 in
+        absurd (loose g.0 g.1)
+
+-- the number that a call reserved may be linked, or released
+pub spare_reserved : (s : State) (c : ℕ) (op : Record) → Run s → s.ops c ≡ Some op → SpareIf s.graph op.reserved
+spare_reserved s c op run is n e = let o : ((shape : Shape) × (s.graph.shape n ≡ Some shape)) × ((key : Key) → numbers s.graph key ≡ Some n → ⊥) = ((run_keeps s run).own c op is).spare n e in spare_of s.graph (run_keeps s run).is_graph n o.0.0 o.0.1 o.1
+
+-- and the node that it removed may be released
+pub spare_gone : (s : State) (c : ℕ) (op : Record) → Run s → s.ops c ≡ Some op → SpareIf s.graph op.removed
+spare_gone s c op run is n e = let o : _ × ((key : Key) → numbers s.graph key ≡ Some n → ⊥) × ((shape : Shape) × (s.graph.shape n ≡ Some shape)) = ((run_keeps s run).own c op is).gone n e in spare_of s.graph (run_keeps s run).is_graph n o.2.0 o.2.1 o.1
+
+pub spare_removed : (s : State) (c : ℕ) (op : Record) (n : ℕ) → Run s → s.ops c ≡ Some op → is_removed op.removed n ≡ true → IsSpare s.graph n
+spare_removed s c op n run is e = spare_gone s c op run is n (removed_is op.removed e)
+  where
+    removed_is : (o : Option ℕ) → is_removed o n ≡ true → o ≡ Some n
+    removed_is None f = cc
+    removed_is (Some m) f = ap (λ (x : ℕ). Some x) (eqb_true m n f)
+
+-- directories and files are within their limits
+pub run_bounded : (s : State) → Run s → IsBounded s.graph
+run_bounded s run = record { entries = λ n names e. ((run_accounts s run).within n (Dir names) e).1; bytes = λ n content e. (run_accounts s run).within n (File content) e }
+
+-- and the numbers in use below theirs
+pub used_under : (s : State) (n : ℕ) (shape : Shape) → Run s → s.graph.shape n ≡ Some shape → n < s.limit
+used_under s n shape run e = (run_accounts s run).below n shape e
+
+-- heads that stand at one node have walked the same names
+pub heads_apart : (s : State) (c : ℕ) (op : Record) (st : Stand) → Run s → s.ops c ≡ Some op → op.stand ≡ Some st → HeadsApart op.remaining st
+heads_apart s c op st run is on = go op.remaining
+  where
+    inv : Invariant s
+    inv = run_keeps s run
+
+    loc : Located (numbers s.graph) (inv.key c) st
+    loc = (inv.kept.each c op st is on).located
+
+    go : (f : Form) → HeadsApart f st
+    go (AtNode e p) = tt
+    go (AtEntry e p) = tt
+    go (AtPair pairs.Rename p q) = λ same. front_same (inv.key c) st.source.walked st.dest.walked (inv.is_graph.one_key (inv.key c ++ st.source.walked) (inv.key c ++ st.dest.walked) st.source.node loc.source (loc.dest ∙ ap (λ (n : ℕ). Some n) (sym same)))
+
+-- what a finish needs
+pub can_finish : (s : State) (c : ℕ) (op : Record) (t : Option ℕ) → Run s → s.ops c ≡ Some op → next s.graph op ≡ Finishes t → CanFinish s.graph op.reserved op.remaining op.stand
+can_finish s c op t run is m = record { spare = spare_reserved s c op run is; heads = λ st on. heads_apart s c op st run is on; bounded = run_bounded s run }
+
+-- who ends is finished and stands nowhere
+pub ends_finished : (s : State) (c : ℕ) (op : Record) → next s.graph op ≡ Ends → (r : Reply) × (op.phase ≡ Finished r) × (op.stand ≡ None)
+ends_finished s c op m = let r : (r : Reply) × (op.phase ≡ Finished r) = by_ends s.graph op (by_text (form op.call)) op.phase op.stand m in (r.0, r.1, ends_nowhere s.graph op r.0 r.1 m)
+
+-- who finishes walks, or is placed
+pub finishes_open : (s : State) (op : Record) (t : Option ℕ) → next s.graph op ≡ Finishes t → (op.phase ≡ Walking) ⊎ ((i : ℕ) × (op.phase ≡ Placed i))
+finishes_open s op t m = go op.phase (by_text (form op.call)) op.stand refl m
+  where
+    go : (p : Phase) (e : Option Errno) (st : Option Stand) → op.phase ≡ p → next_by s.graph op e p st ≡ Finishes t → (op.phase ≡ Walking) ⊎ ((i : ℕ) × (op.phase ≡ Placed i))
+    go Walking e st i f = inl i
+    go (Placed k) e st i f = inr (k, i)
+    go (Finished r) e None i f = cc
+    go (Finished r) e (Some st) i f = cc
+
+-- the call on a seat, and the seat of a call
+pub seat_call : (s : State) (seat c : ℕ) → Run s → s.on_seat seat ≡ Some c → (op : Record) × (s.ops c ≡ Some op) × (op.seat ≡ seat)
+seat_call s seat c run e = (run_keeps s run).seated seat c e
+
+pub call_seat : (s : State) (c : ℕ) (op : Record) → Run s → s.ops c ≡ Some op → s.on_seat op.seat ≡ Some c
+call_seat s c op run e = (run_accounts s run).on_seat c op e
+
+pub seats_apart : (s : State) (a b c : ℕ) → Run s → s.on_seat a ≡ Some c → s.on_seat b ≡ Some c → a ≡ b
+seats_apart s a b c run e f =
+    let x : (op : Record) × (s.ops c ≡ Some op) × (op.seat ≡ a) = seat_call s a c run e in
+    let y : (op : Record) × (s.ops c ≡ Some op) × (op.seat ≡ b) = seat_call s b c run f in
+    let z : ◌≡◌ {A = Option Record} (Some x.0) (Some y.0) = sym x.1 ∙ y.1 in
+    let w : x.0 ≡ y.0 = cc in
+    sym x.2 ∙ ap (λ (o : Record). o.seat) w ∙ y.2
+
+-- the calls under way began
+pub begun_before : (s : State) (c : ℕ) (op : Record) → Run s → s.ops c ≡ Some op → c ≤ begins s.timeline
+begun_before s c op run e = go (nat_lt (begins s.timeline) c) refl
+  where
+    go : (b : Bool) → nat_lt (begins s.timeline) c ≡ b → c ≤ begins s.timeline
+    go true i =
+        let less : begins s.timeline < c = grind (arith, nat_tests) in
+        let z : ◌≡◌ {A = Option Record} None (Some op) = sym (not_begun s (run_keeps s run) c less) ∙ e in cc
+    go false i = grind (arith, nat_tests)

@@ -1,0 +1,145 @@
+-- What every state of a run keeps, and the headline from it.
+use Rattle.std.proofs.Common.{◌≡◌, ℕ, Bool, true, false, cond, eqb, List, [], ◌∷◌, Option, Some, None, refl, sym, ap, ◌∙◌, subst}
+use mathlib.Core.Path.{fun_ext}
+use Rattle.fs_names.specs.Keys.{Key}
+use Rattle.fs_names.specs.Names.{Name, has_name, same_name}
+use Rattle.fs_names.specs.Shapes.{Dir}
+use Rattle.fs_laws.specs.Changes.{play_from, root_tree}
+use Rattle.fs_calls.specs.declared.call.Call.{Call}
+use Rattle.fs_nodes.specs.Graphs.{numbers, spell, IsGraph, empty_graph}
+use Rattle.fs_timeline.specs.declared.entry.Entry.{Entry}
+use Rattle.fs_timeline.specs.declared.entry.Entry.TheVariants.{Begin, Commit, Return}
+use Rattle.fs_machine.specs.Records.{Record, Records}
+use Rattle.fs_laws.specs.Books.{IsLawful, commits_of, with_call, Book, start, noted, commit_of, book_of}
+use Rattle.fs_laws.specs.Headline.{IsIdle}
+use Rattle.fs_laws.specs.Invariants.{Invariant, StepKeeps, BeginKeeps, spots, IsPlaced, InOrder}
+use Rattle.fs_laws.specs.Settled.{settle}
+use Rattle.fs_laws.specs.States.{State, empty, Begun, Begun_as, Seat_busy, Full, No_memory, Stepped, Idle, Took, Busy, LetGo, Helped, Committed, CarriedOut, Returned, Run, Start, Beginning, Stepping}
+use Rattle.fs_laws.proofs.events.Help.{keeps_helped}
+use Rattle.fs_laws.proofs.events.Commit.{keeps_committed}
+use Rattle.fs_laws.proofs.events.CarryOut.{keeps_carried}
+use Rattle.fs_laws.proofs.calls.TakesAtTarget.{keeps_took}
+use Rattle.fs_laws.proofs.events.LetGo.{keeps_let_go}
+use Rattle.fs_laws.proofs.events.Return.{keeps_returned}
+use Rattle.fs_laws.proofs.events.Begin.{keeps_begun}
+
+-- by the book: the timeline is well formed and each returned reply is the sequential tree's; where no call is under way, the nodes spell that tree
+pub record Headline (state : State) : Type 0 where
+  pub lawful : IsLawful start state.timeline
+  pub spelled : IsIdle state → spell state.graph ≡ play_from root_tree (commits_of start.call state.timeline)
+
+-- the tree of the book is what the calls of the Commit entries make
+with_played : (o : Option Call) (book : Book) (n : ℕ) (calls : List Call) → play_from (commit_of book n o).tree calls ≡ play_from book.tree (with_call o calls)
+with_played None book n calls = refl
+with_played (Some call) book n calls = refl
+
+same_call : (o : Option Call) (book : Book) (n : ℕ) → (commit_of book n o).call ≡ book.call
+same_call None book n = refl
+same_call (Some call) book n = refl
+
+pub book_plays : (book : Book) (es : List Entry) → (book_of book es).tree ≡ play_from book.tree (commits_of book.call es)
+book_plays book [] = refl
+book_plays book (Begin n seat call ∷ es) = book_plays (noted book (Begin n seat call)) es
+book_plays book (Commit n ∷ es) =
+    book_plays (commit_of book n (book.call n)) es
+    ∙ ap (λ (c : ℕ → Option Call). play_from (commit_of book n (book.call n)).tree (commits_of c es)) (same_call (book.call n) book n)
+    ∙ with_played (book.call n) book n (commits_of book.call es)
+book_plays book (Return n r ∷ es) = book_plays (noted book (Return n r)) es
+
+idle_order : (ops : Records) (order : List ℕ) → InOrder ops order → ((c : ℕ) → ops c ≡ None) → order ≡ []
+idle_order ops [] o idle = refl
+idle_order ops (c ∷ cs) o idle = let p : IsPlaced ops c = o.0 in let z : ◌≡◌ {A = Option Record} None (Some p.op) = sym (idle c) ∙ p.is in cc
+
+-- the headline
+pub headline_of : (s : State) → Invariant s → Headline s
+headline_of s inv = record {
+  lawful = inv.lawful;
+  spelled = λ idle.
+      ap (λ (cs : List ℕ). settle (spell s.graph) (spots s.ops inv.key cs)) (sym (idle_order s.ops inv.order inv.in_order idle))
+      ∙ inv.tied.played
+      ∙ book_plays start s.timeline;
+}
+
+-- the empty state
+root_key : (key : Key) (n : ℕ) → numbers empty_graph key ≡ Some n → (key ≡ []) × (n ≡ 0)
+root_key [] n e = (refl, cc)
+root_key (x ∷ key) n e = cc
+
+graph_start : IsGraph empty_graph
+graph_start = record {
+  one_key = λ a b n e f. (root_key a n e).0 ∙ sym (root_key b n f).0;
+  of_dir = λ n m x e. cc;
+  to_used = λ n m x e. cc;
+  listed = λ n names x e h. listed n names x (eqb n 0) e h;
+  root = ([], refl);
+  loose = λ n m x e. cc;
+}
+  where
+    listed : (n : ℕ) (names : List Name) (x : Name) (b : Bool) → cond b (Some (Dir [])) None ≡ Some (Dir names) → has_name x names ≡ true → (m : ℕ) × (◌≡◌ {A = Option ℕ} None (Some m))
+    listed n names x true e h = let z : [] ≡ names = cc in let w : false ≡ true = ap (has_name x) z ∙ h in cc
+    listed n names x false e h = cc
+
+spelled_start : (key : Key) → spell empty_graph key ≡ root_tree key
+spelled_start [] = refl
+spelled_start (x ∷ key) = refl
+
+pub inv_start : (limit : ℕ) → Invariant (empty limit)
+inv_start limit = record {
+  key = λ c. [];
+  order = [];
+  is_graph = graph_start;
+  kept = record { one_key = graph_start.one_key; each = λ c op st e. cc; pairs = λ c d p q st other n e. cc };
+  in_order = tt;
+  all_placed = λ c op i e. cc;
+  lawful = tt;
+  tied = record { played = fun_ext spelled_start; dues = tt; fixed = λ c op r e. cc; fresh = λ c op e. cc; calls = λ c op e. cc };
+  own = λ c op e. cc;
+  held = λ c op st n e. cc;
+  apart = λ c d n p q differs e. cc;
+  seated = λ seat c e. cc;
+  busy = λ seat. refl;
+  seat_of = λ c op e. cc;
+  fresh = λ c less. refl;
+}
+
+pub keeps_idle : StepKeeps Idle
+keeps_idle old new seat inv st = subst Invariant (sym st.1) inv
+
+pub keeps_busy : (n d : ℕ) → StepKeeps (Busy n d)
+keeps_busy n d old new seat inv (c, op, m, h, same_name) = subst Invariant (sym same_name) inv
+
+pub keeps_seat_busy : BeginKeeps Seat_busy
+keeps_seat_busy old new seat call inv (c, on, same_name) = subst Invariant (sym same_name) inv
+
+pub keeps_full : BeginKeeps Full
+keeps_full old new seat call inv (on, full, same_name) = subst Invariant (sym same_name) inv
+
+pub keeps_no_memory : BeginKeeps No_memory
+keeps_no_memory old new seat call inv (on, full, same_name) = subst Invariant (sym same_name) inv
+
+-- each step and each begin keeps it
+pub step_keeps : (answer : Stepped) → StepKeeps answer
+step_keeps Idle = keeps_idle
+step_keeps (Took n) = keeps_took n
+step_keeps (Busy n d) = keeps_busy n d
+step_keeps (LetGo n) = keeps_let_go n
+step_keeps (Helped d) = keeps_helped d
+step_keeps Committed = keeps_committed
+step_keeps CarriedOut = keeps_carried
+step_keeps (Returned r) = keeps_returned r
+
+pub begin_keeps : (answer : Begun) → BeginKeeps answer
+begin_keeps (Begun_as c) = keeps_begun c
+begin_keeps Seat_busy = keeps_seat_busy
+begin_keeps Full = keeps_full
+begin_keeps No_memory = keeps_no_memory
+
+-- every state of a run keeps it
+pub run_keeps : (s : State) → Run s → Invariant s
+run_keeps s (Start limit more) = inv_start limit
+run_keeps s (Beginning {old} seat call answer new run b) = begin_keeps answer old new seat call (run_keeps old run) b
+run_keeps s (Stepping {old} seat answer new run st) = step_keeps answer old new seat (run_keeps old run) st
+
+-- the linearization theorem
+pub headline_of_runs : (s : State) → Run s → Headline s
+headline_of_runs s run = headline_of s (run_keeps s run)

@@ -1,0 +1,102 @@
+-- What each form of call replies and changes on a tree that is a map from keys.
+use Rattle.std.specs.Prelude.{ℕ, Bool, true, false, not, ◌||◌, List, [], ◌∷◌, Option, Some, None}
+use Rattle.fs_names.specs.Keys.{Key, after_prefix, parent_of, last_of}
+use Rattle.fs_names.specs.Names.{Name, inserted_name, removed_name}
+use Rattle.fs_names.specs.Parts.{is_end}
+use Rattle.fs_names.specs.Shapes.{Shape, Dir, File, is_full, names_of}
+use Rattle.fs_calls.specs.Forms.{form, NodeCall, Form, AtNode, AtEntry, AtPair, by_text}
+use Rattle.fs_calls.specs.declared.target.EntryCall.{EntryCall}
+use Rattle.fs_calls.specs.declared.target.PairCall.TheVariants as pairs
+use Rattle.fs_calls.specs.declared.call.Call.{Call}
+use Rattle.fs_laws.specs.Maps.{Map, move, write_all}
+pub use Rattle.fs_calls.specs.Sights.{resolve, resolve_next, resolve_dir}
+use Rattle.fs_calls.specs.Rows.{on_row, Edit, Keep, Add, Remove, in_row, rename_row}
+use Rattle.fs_calls.specs.declared.errno.Errno.{Errno}
+use Rattle.fs_calls.specs.declared.reply.Reply.{Reply}
+use Rattle.fs_calls.specs.declared.reply.Reply.TheVariants.{Failed}
+
+-- some writes, and then at most one move
+pub record Change : Type 0 where
+  pub writes : List (Key × Option Shape)
+  pub moves : Option (Key × Key)
+
+-- what a change makes of a tree
+abbrev pub moved_by : Option (Key × Key) → Map Shape → Map Shape
+moved_by None tree = tree
+moved_by (Some m) tree = move m.0 m.1 tree
+
+abbrev pub changed : Change → Map Shape → Map Shape
+changed ch tree = moved_by ch.moves (write_all ch.writes tree)
+
+-- nothing changes, or some keys are written
+abbrev pub no_change : Change
+no_change = record { writes = []; moves = None }
+
+abbrev pub only : List (Key × Option Shape) → Change
+only ws = record { writes = ws; moves = None }
+
+-- the changes that the rows ask for
+abbrev pub content_change : Key → Option (List ℕ) → Change
+content_change p None = no_change
+content_change p (Some bytes) = only ((p, Some (File bytes)) ∷ [])
+
+abbrev pub edit_change : Key → List Name → Name → Key → Edit → Change
+edit_change d names x p Keep = no_change
+edit_change d names x p (Add shape) = only ((d, Some (Dir (inserted_name x names))) ∷ (p, Some shape) ∷ [])
+edit_change d names x p Remove = only ((d, Some (Dir (removed_name x names))) ∷ (p, None) ∷ [])
+
+-- both parents' names: one write where they are the same
+abbrev pub rename_writes : Bool → Key → List Name → Name → Key → List Name → Name → List (Key × Option Shape)
+rename_writes true d names x e others y = (d, Some (Dir (inserted_name y (removed_name x names)))) ∷ []
+rename_writes false d names x e others y = (d, Some (Dir (removed_name x names))) ∷ (e, Some (Dir (inserted_name y others))) ∷ []
+
+-- a rename that moves
+abbrev pub move_change : Bool → List (Key × Option Shape) → Key → Key → Change
+move_change false ws p q = no_change
+move_change true ws p q = record { writes = ws; moves = Some (p, q) }
+
+-- what a call reads on the tree
+abbrev pub on_looked : Map Shape → NodeCall → Key → Reply × Change
+on_looked tree c p = let r : Reply × Option (List ℕ) = on_row c (resolve tree p) (tree p) in (r.0, content_change p r.1)
+
+abbrev pub in_looked : Map Shape → EntryCall → Key → Key → Name → Reply × Change
+in_looked tree c p d x = let r : Reply × Edit = in_row c (resolve_dir tree d) (is_full (tree d)) (tree p) in (r.0, edit_change d (names_of (tree d)) x p r.1)
+
+abbrev pub rename_looked : Map Shape → Key → Key → Key → Name → Key → Name → Reply × Change
+rename_looked tree p q d x e y =
+    let r : Reply × Bool = rename_row (resolve_dir tree d) (resolve_dir tree e) (tree p) (is_end (after_prefix p q)) (tree q) (is_end (after_prefix d e) || not (is_full (tree e))) in
+    (r.0, move_change r.1 (rename_writes (is_end (after_prefix d e)) d (names_of (tree d)) x e (names_of (tree e)) y) p q)
+
+abbrev pub looked : Map Shape → Form → Reply × Change
+looked tree (AtNode c p) = on_looked tree c p
+looked tree (AtEntry c p) = in_looked tree c p (parent_of p) (last_of p)
+looked tree (AtPair pairs.Rename p q) = rename_looked tree p q (parent_of p) (last_of p) (parent_of q) (last_of q)
+
+-- what the paths alone decide comes first
+abbrev pub unless : Option Errno → Reply × Change → Reply × Change
+unless (Some e) o = (Failed e, no_change)
+unless None o = o
+
+-- the reply and the change
+abbrev pub outcome : Map Shape → Form → Reply × Change
+outcome tree call = unless (by_text call) (looked tree call)
+
+-- the reply, and the tree after the call
+abbrev pub reply : Map Shape → Form → Reply
+reply tree call = (outcome tree call).0
+
+abbrev pub after : Map Shape → Form → Map Shape
+after tree call = changed (outcome tree call).1 tree
+
+-- the tree after a list of calls, and from the root alone
+abbrev pub play_from : Map Shape → List Call → Map Shape
+play_from tree [] = tree
+play_from tree (call ∷ calls) = play_from (after tree (form call)) calls
+
+-- the tree that holds only the root
+abbrev pub root_tree : Map Shape
+root_tree [] = Some (Dir [])
+root_tree (x ∷ key) = None
+
+abbrev pub play : List Call → Map Shape
+play calls = play_from root_tree calls

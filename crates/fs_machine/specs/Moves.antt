@@ -1,0 +1,230 @@
+-- The next move of a call under way, and its record after a take and after a let go.
+use Rattle.std.specs.Prelude.{ℕ, Bool, true, false, not, ◌&&◌, ◌||◌, [], ◌∷◌, ◌++◌, Option, Some, None}
+use Rattle.fs_names.specs.Keys.{Key, after_prefix, has_more, parent_of, last_of}
+use Rattle.fs_names.specs.Names.{Name}
+use Rattle.fs_names.specs.Parts.{is_end, common, left}
+use Rattle.fs_names.specs.Shapes.{Shape, Dir, File, is_full}
+use Rattle.fs_calls.specs.Forms.{form, Form, AtNode, AtEntry, AtPair, by_text}
+use Rattle.fs_calls.specs.declared.target.PairCall.TheVariants as pairs
+use Rattle.fs_calls.specs.declared.target.EntryCall.{EntryCall}
+use Rattle.fs_calls.specs.declared.target.EntryCall.TheVariants.{Unlink, Rmdir}
+use Rattle.fs_calls.specs.Rows.{as_dir, rename_row}
+use Rattle.fs_calls.specs.declared.errno.Errno.{Errno}
+use Rattle.fs_calls.specs.declared.errno.Errno.TheVariants.{Enoent, Enotdir}
+use Rattle.fs_calls.specs.declared.reply.Reply.{Reply}
+use Rattle.fs_nodes.specs.Graphs.{Graph, entry_shape}
+use Rattle.fs_machine.specs.Records.{Head, Stand, Phase, Walking, Placed, Finished, Record, head_at, stand_at}
+
+-- the moves: take a node, let one go, finish (with the node that it would really move), return
+pub data Move : Type 0 where
+  Takes : ℕ → Move
+  Leaves : ℕ → Move
+  Finishes : Option ℕ → Move
+  Ends : Move
+
+-- the first of two moves
+abbrev pub first_of : Option Move → Move → Move
+first_of None m = m
+first_of (Some m) n = m
+
+-- the names left to the target
+abbrev pub target : Form → Key
+target (AtNode c p) = p
+target (AtEntry c p) = parent_of p
+target (AtPair pairs.Rename p q) = common (parent_of p) (parent_of q)
+
+-- at a node with a name left: a file or a missing name finishes, a name that is there is taken
+abbrev pub walk_move : Option Shape → Option ℕ → Move
+walk_move None child = Finishes None
+walk_move (Some (File bytes)) child = Finishes None
+walk_move (Some (Dir names)) None = Finishes None
+walk_move (Some (Dir names)) (Some m) = Takes m
+
+-- one head: it lets go what is behind it, then walks on; None where it has arrived
+abbrev pub head_move : Graph → ℕ → Option ℕ → Key → Option Move
+head_move graph n (Some m) l = Some (Leaves m)
+head_move graph n None [] = None
+head_move graph n None (x ∷ l) = Some (walk_move (graph.shape n) (graph.kid n x))
+
+-- the victim of an unlink or rmdir, taken where its kind is the right one
+abbrev pub victim_of : EntryCall → Option Shape → Bool
+victim_of Unlink (Some (File bytes)) = true
+victim_of Rmdir (Some (Dir names)) = true
+victim_of _ _ = false
+
+-- a victim that is wanted, there and not yet held is taken
+abbrev pub take_if : Bool → Option ℕ → Option ℕ → Move → Move
+take_if true (Some n) None m = Takes n
+take_if _ _ _ m = m
+
+-- at the parent of an entry
+abbrev pub in_move : Graph → EntryCall → Name → Stand → Move
+in_move graph c x st = take_if (victim_of c (entry_shape graph st.node x)) (graph.kid st.node x) st.victim (Finishes None)
+
+-- of a q that is a proper prefix of p it is known by the texts that it is a directory with entries
+abbrev pub there_by : Bool → Option Shape → Option Shape
+there_by true there = Some (Dir ([] ∷ []))
+there_by false there = there
+
+-- whether both are there and are directories, or files
+abbrev pub same_kind : Option Shape → Option Shape → Bool
+same_kind (Some (Dir a)) (Some (Dir b)) = true
+same_kind (Some (File a)) (Some (File b)) = true
+same_kind _ _ = false
+
+-- the errors of both parents (None: arrived at a directory)
+abbrev pub walk_errno : Option Shape → Errno
+walk_errno None = Enoent
+walk_errno (Some (Dir names)) = Enoent
+walk_errno (Some (File bytes)) = Enotdir
+
+-- at a node with these names left to a path, and to a parent: with names left, the walk failed there
+abbrev pub path_error : Key → Option Shape → Option Errno
+path_error [] shape = None
+path_error (x ∷ l) shape = Some (walk_errno shape)
+
+abbrev pub dir_error : Key → Option Shape → Option Errno
+dir_error [] shape = as_dir None shape
+dir_error (x ∷ l) shape = Some (walk_errno shape)
+
+-- a rename at both parents: the reply and whether it really moves, by what it reads there
+abbrev pub rename_at : Graph → Key → Key → Stand → Reply × Bool
+rename_at graph p q st =
+    rename_row
+    (dir_error (left st.source.walked (parent_of p)) (graph.shape st.source.node))
+    (dir_error (left st.dest.walked (parent_of q)) (graph.shape st.dest.node))
+    (entry_shape graph st.source.node (last_of p))
+    (is_end (after_prefix p q))
+    (there_by (has_more (after_prefix q p)) (entry_shape graph st.dest.node (last_of q)))
+    (is_end (after_prefix (parent_of p) (parent_of q)) || not (is_full (graph.shape st.dest.node)))
+
+-- the node that a rename would really move
+abbrev pub moved_node : Bool → Option ℕ → Option ℕ
+moved_node true s = s
+moved_node false s = None
+
+-- a victim is taken where q is there with p's kind, p is another path and q no proper prefix of p
+abbrev pub rename_move : Graph → Key → Key → Stand → Move
+rename_move graph p q st =
+    take_if
+    (same_kind (entry_shape graph st.source.node (last_of p)) (entry_shape graph st.dest.node (last_of q)) && not (is_end (after_prefix p q)) && not (has_more (after_prefix q p)))
+    (graph.kid st.dest.node (last_of q)) st.victim
+    (Finishes (moved_node (rename_at graph p q st).1 (graph.kid st.source.node (last_of p))))
+
+-- a parent that is a file finishes before the next head sets out
+abbrev pub dir_then : Option Shape → Move → Move
+dir_then (Some (Dir names)) m = m
+dir_then (Some (File bytes)) m = Finishes None
+dir_then None m = Finishes None
+
+-- at the common directory
+abbrev pub fork_move : Graph → Key → Key → Stand → Move
+fork_move graph p q st =
+    dir_then (graph.shape st.node)
+    (first_of (head_move graph st.source.node st.source.behind (left st.source.walked (parent_of p)))
+    (dir_then (graph.shape st.source.node)
+    (first_of (head_move graph st.dest.node st.dest.behind (left st.dest.walked (parent_of q)))
+    (dir_then (graph.shape st.dest.node) (rename_move graph p q st)))))
+
+-- at the target
+abbrev pub target_move : Graph → Form → Stand → Move
+target_move graph (AtNode c p) st = Finishes None
+target_move graph (AtEntry c p) st = in_move graph c (last_of p) st
+target_move graph (AtPair pairs.Rename p q) st = fork_move graph p q st
+
+-- a call that stands somewhere and isn't finished
+abbrev pub next_on : Graph → Form → Stand → Move
+next_on graph remaining st = first_of (head_move graph st.node st.behind (target remaining)) (target_move graph remaining st)
+
+-- a finished call lets go the last taken first
+abbrev pub first_walked : Key → ℕ → ℕ → ℕ
+first_walked [] n m = m
+first_walked (x ∷ walked) n m = n
+
+abbrev pub last_of_heads : ℕ → Head → Head → ℕ
+last_of_heads n source dest = first_walked dest.walked dest.node (first_walked source.walked source.node n)
+
+-- the node that was taken last
+abbrev pub last_held : Stand → Option ℕ → ℕ
+last_held st (Some v) = v
+last_held st None = last_of_heads st.node st.source st.dest
+
+-- by its text, its phase and where it stands
+abbrev pub next_by : Graph → Record → Option Errno → Phase → Option Stand → Move
+next_by graph op e (Finished r) None = Ends
+next_by graph op e (Finished r) (Some st) = Leaves (last_held st st.victim)
+next_by graph op (Some e) phase st = Finishes None
+next_by graph op None phase None = Takes 0
+next_by graph op None phase (Some st) = next_on graph op.remaining st
+
+abbrev pub next : Graph → Record → Move
+next graph op = next_by graph op (by_text (form op.call)) op.phase op.stand
+
+-- after a take: a step of the walk, of the source head, of the destination head, or a victim
+abbrev pub tail_of : Key → Key
+tail_of [] = []
+tail_of (x ∷ p) = p
+
+abbrev pub inner : Form → Form
+inner (AtNode c p) = AtNode c (tail_of p)
+inner (AtEntry c p) = AtEntry c (tail_of p)
+inner (AtPair pairs.Rename p q) = AtPair pairs.Rename (tail_of p) (tail_of q)
+
+-- a parent that is the common directory is not let go
+abbrev pub behind_of : Key → ℕ → Option ℕ
+behind_of [] n = None
+behind_of (x ∷ walked) n = Some n
+
+abbrev pub head_took : Head → Name → ℕ → Head
+head_took h x n = record { walked = h.walked ++ x ∷ []; node = n; behind = behind_of h.walked h.node }
+
+abbrev pub victim_took : Stand → ℕ → Stand
+victim_took st n = record st { victim = Some n }
+
+abbrev pub dest_took : Stand → Key → ℕ → Stand
+dest_took st [] n = victim_took st n
+dest_took st (x ∷ l) n = record st { dest = head_took st.dest x n }
+
+abbrev pub source_took : Stand → Key → Key → ℕ → Stand
+source_took st [] l n = dest_took st l n
+source_took st (x ∷ k) l n = record st { source = head_took st.source x n }
+
+abbrev pub target_took : Form → Stand → ℕ → Stand
+target_took (AtNode c p) st n = st
+target_took (AtEntry c p) st n = victim_took st n
+target_took (AtPair pairs.Rename p q) st n = source_took st (left st.source.walked (parent_of p)) (left st.dest.walked (parent_of q)) n
+
+abbrev pub took_by : Record → Option Stand → Key → ℕ → Record
+took_by op None l n = record op { stand = Some (stand_at n None) }
+took_by op (Some st) [] n = record op { stand = Some (target_took op.remaining st n) }
+took_by op (Some st) (x ∷ l) n = record op { walked = op.walked ++ x ∷ []; remaining = inner op.remaining; stand = Some (stand_at n (Some st.node)) }
+
+abbrev pub took : Record → ℕ → Record
+took op n = took_by op op.stand (target op.remaining) n
+
+-- after a let go: of what is behind the walk or a head; of a finished call, of the last taken
+abbrev pub head_left : Head → Head
+head_left h = record h { behind = None }
+
+abbrev pub left_behind : Stand → Option ℕ → Option ℕ → Stand
+left_behind st (Some m) s = record st { behind = None }
+left_behind st None (Some m) = record st { source = head_left st.source }
+left_behind st None None = record st { dest = head_left st.dest }
+
+abbrev pub left_heads : Stand → Key → Key → Option Stand
+left_heads st (x ∷ dest) source = Some (record st { dest = head_at st.node })
+left_heads st [] (x ∷ source) = Some (record st { source = head_at st.node })
+left_heads st [] [] = None
+
+abbrev pub left_last : Stand → Option ℕ → Option Stand
+left_last st (Some v) = Some (record st { victim = None })
+left_last st None = left_heads st st.dest.walked st.source.walked
+
+abbrev pub left_by_phase : Phase → Stand → Option Stand
+left_by_phase (Finished r) st = left_last st st.victim
+left_by_phase Walking st = Some (left_behind st st.behind st.source.behind)
+left_by_phase (Placed i) st = Some (left_behind st st.behind st.source.behind)
+
+abbrev pub left_stand : Phase → Option Stand → Option Stand
+left_stand phase None = None
+left_stand phase (Some st) = left_by_phase phase st

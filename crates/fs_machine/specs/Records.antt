@@ -1,0 +1,57 @@
+-- Where calls stand, and the record of a call under way.
+use Rattle.std.specs.Prelude.{ℕ, ◌≡◌, [], Option, Some, None, ◌⊎◌}
+use Rattle.fs_names.specs.Keys.{Key}
+use Rattle.fs_names.specs.Parts.{HasNames}
+use Rattle.fs_calls.specs.declared.call.Call.{Call}
+use Rattle.fs_calls.specs.Forms.{Form}
+use Rattle.fs_calls.specs.declared.reply.Reply.{Reply}
+
+-- a head of a rename: the names that it has walked from the common directory, its node, and a parent that it still holds
+pub record Head : Type 0 where
+  pub walked : Key
+  pub node : ℕ
+  pub behind : Option ℕ
+
+-- where a call stands: the position, a parent that it still holds, the two heads (of a rename; else they have walked nothing), a victim
+pub record Stand : Type 0 where
+  pub node : ℕ
+  pub behind : Option ℕ
+  pub source : Head
+  pub dest : Head
+  pub victim : Option ℕ
+
+-- how far a call is
+pub data Phase : Type 0 where
+  Walking : Phase
+  Placed : ℕ → Phase  -- the number of commits before its own
+  Finished : Reply → Phase
+
+-- a call under way: what it has walked of its own paths, what is left of it from there, where it stands (None: it holds nothing),
+-- its reserved number until it is used, and the node that it removed until it lets it go
+pub record Record : Type 0 where
+  pub seat : ℕ
+  pub call : Call
+  pub walked : Key
+  pub remaining : Form
+  pub stand : Option Stand
+  pub phase : Phase
+  pub reserved : Option ℕ
+  pub removed : Option ℕ
+
+-- the calls under way, by their numbers
+abbrev pub Records : Type 0
+Records = ℕ → Option Record
+
+-- the nodes that a call holds
+abbrev pub HeadHolds : Head → ℕ → Type 0
+HeadHolds h n = HasNames h.walked × ((h.node ≡ n) ⊎ (h.behind ≡ Some n))
+
+abbrev pub Holds : Stand → ℕ → Type 0
+Holds st n = (st.node ≡ n) ⊎ (st.behind ≡ Some n) ⊎ HeadHolds st.source n ⊎ HeadHolds st.dest n ⊎ (st.victim ≡ Some n)
+
+-- the heads before they set out, and a stand at one node
+abbrev pub head_at : ℕ → Head
+head_at n = record { walked = []; node = n; behind = None }
+
+abbrev pub stand_at : ℕ → Option ℕ → Stand
+stand_at n behind = record { node = n; behind = behind; source = head_at n; dest = head_at n; victim = None }

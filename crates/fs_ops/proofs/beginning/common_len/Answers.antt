@@ -1,6 +1,0 @@
-use Rattle.std.proofs.Common.{arith}
-use Rattle.fs_finish.proofs.ParentLemmas.{common_length}
-use Rattle.fs_ops.proofs.beginning.common_len.Goals as goal
-
-pub returns-clause-len : goal.returns-clause-len
-returns-clause-len c = omega (arith, common_length c.args.path.now c.args.other.now)

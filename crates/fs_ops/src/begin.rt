@@ -1,0 +1,126 @@
+//! How calls begin.
+
+ghost use Rattle.std.specs.Prelude.{◌≡◌, ◌≤◌, ◌↔◌, Err, None, IfOk, OnErr, IsSome, length, option_map};
+ghost use Rattle.fs_nodes.specs.Stores.{graph_of, in_use, room, new_shape};
+ghost use Rattle.fs_calls.specs.Forms.{form, reserves, new_shape as entry_shape};
+ghost use Rattle.fs_calls.specs.code.Targets.{form_of};
+ghost use Rattle.fs_machine.specs.Moves.{target};
+ghost use Rattle.fs_names.specs.Keys.{parent_of};
+ghost use Rattle.fs_names.specs.Parts.{common};
+ghost use Rattle.fs_ops.specs.code.Begins.{HasReserved};
+ghost use Rattle.fs_machine.specs.Works.{BegunAs, new_work};
+
+use crate::end::give_back;
+use crate::op::Op;
+use crate::outcome::Outcome;
+use fs_calls::{Call, EntryCall, PairCall, Target};
+use fs_finish::room::Room;
+use fs_finish::text::parent_len;
+use fs_names::{Kind, PATH_LIMIT, Path};
+use fs_nodes::{NoNode, NodeNo, Store};
+use fs_walk::Walk;
+use std::alloc::{AllocError, Global};
+
+/// The kind of node that a call on an entry may add.
+fn kind_of(entry: EntryCall) -> Option<Kind>
+    ensures { option_map new_shape result ≡ entry_shape entry }
+{
+    match entry {
+        EntryCall::Mkdir => Some(Kind::Dir),
+        EntryCall::Mknod => Some(Kind::File),
+        EntryCall::Unlink | EntryCall::Rmdir => None,
+    }
+}
+
+/// The kind of node that a call reserves a number for.
+fn new_kind(aim: Target<'_>) -> Option<Kind>
+    ensures { option_map new_shape result ≡ reserves (form_of aim.entry) }
+{
+    match aim {
+        Target::Entry(entry, path) if !path.is_empty() => kind_of(entry),
+        Target::Entry(_, _) | Target::Node(_, _) | Target::Pair(_, _, _) => None,
+    }
+}
+
+/// How many names the parents of two paths have in common.
+fn common_len(path: &Path, other: &Path) -> usize
+    ensures len { result ≡ length (common (parent_of path.now) (parent_of other.now)) }
+    ensures most { result ≤ PATH_LIMIT }
+{
+    path.common(other)
+        .min(parent_len(path))
+        .min(parent_len(other))
+}
+
+/// How many names lead to the target of a call.
+fn target_len(aim: Target<'_>) -> usize
+    ensures len { result ≡ length (target (form_of aim.entry)) }
+    ensures most { result ≤ PATH_LIMIT }
+{
+    match aim {
+        Target::Node(_, path) => path.len(),
+        Target::Entry(_, path) => parent_len(path),
+        Target::Pair(PairCall::Rename, path, other) => common_len(path, other),
+    }
+}
+
+/// Reserves a number for the node that a call may add, if it may.
+fn reserve_for(call: &Call, store: &mut Store) -> Result<Option<NodeNo>, NoNode>
+    ensures ok { IfOk result (λ number. HasReserved (graph_of store.old) store.old.limit (reserves (form call.now)) number (graph_of store.new)) }
+    ensures full { (result ≡ Err NoNode.Full) ↔ (IsSome (reserves (form call.now)) × (in_use store.old ≡ store.old.limit)) }
+    ensures err { OnErr result (graph_of store.new ≡ graph_of store.old) }
+    ensures limit { store.new.limit ≡ store.old.limit }
+    ensures room { room store.old ≤ room store.new }
+{
+    match new_kind(call.target()) {
+        Some(kind) => Ok(Some(store.reserve(kind)?)),
+        None => Ok(None),
+    }
+}
+
+impl Op {
+    /// A call that holds nothing yet, with all memory that it needs to its end.
+    fn new(alloc: Global, call: &Call) -> Result<Op, AllocError>
+        ensures { IfOk result (λ op. op ≡ new_work call.now None) }
+    {
+        let prepared = Room::new(alloc, call)?;
+        let copy = call.copy(alloc)?;
+        Ok(Op {
+            call: copy,
+            walk: Walk::new(target_len(call.target())),
+            fork: None,
+            victim: None,
+            reserved: None,
+            removed: None,
+            outcome: Outcome::Open(prepared),
+        })
+    }
+
+    /// The same call with a reserved number.
+    fn with_number(self, reserved: Option<NodeNo>) -> Op
+        ensures { result ≡ record self { reserved = reserved } }
+    {
+        let mut op = self;
+        op.reserved = reserved;
+        op
+    }
+
+    /// Begins a call. It allocates all that the call needs. A call that may add a node reserves a number for it: `Full` comes
+    /// exactly where it cannot, and is looked at before memory. After an error the graph is as before.
+    pub fn begin(alloc: Global, call: &Call, store: &mut Store) -> Result<Op, NoNode>
+        ensures ok { IfOk result (λ op. BegunAs (graph_of store.old) store.old.limit call.now (reserves (form call.now)) op (graph_of store.new)) }
+        ensures full { (result ≡ Err NoNode.Full) ↔ (IsSome (reserves (form call.now)) × (in_use store.old ≡ store.old.limit)) }
+        ensures err { OnErr result (graph_of store.new ≡ graph_of store.old) }
+        ensures limit { store.new.limit ≡ store.old.limit }
+        ensures room { room store.old ≤ room store.new }
+    {
+        let reserved = reserve_for(call, store)?;
+        match Op::new(alloc, call) {
+            Ok(op) => Ok(op.with_number(reserved)),
+            Err(_) => {
+                give_back(store, reserved);
+                Err(NoNode::OutOfMemory)
+            }
+        }
+    }
+}

@@ -1,0 +1,58 @@
+//! How calls end.
+
+ghost use Rattle.std.specs.Prelude.{◌≡◌, None, Some, IsSome};
+ghost use Rattle.fs_nodes.specs.Stores.{graph_of, room};
+ghost use Rattle.fs_machine.specs.Leaving.{unreserved};
+ghost use Rattle.fs_machine.specs.Works.{SpareIf};
+
+use crate::op::Op;
+use crate::outcome::Outcome;
+use fs_calls::Reply;
+use fs_nodes::{NodeNo, Store};
+
+/// A number that a call reserved and didn't use leaves the store.
+pub fn give_back(store: &mut Store, reserved: Option<NodeNo>)
+    requires { SpareIf (graph_of store.old) reserved }
+    ensures graph { graph_of store.new ≡ unreserved reserved (graph_of store.old) }
+    ensures limit { store.new.limit ≡ store.old.limit }
+    ensures room { room store.new ≡ room store.old }
+{
+    if let Some(node) = reserved {
+        store.release(node);
+    }
+}
+
+impl Op {
+    /// Undoes a begin: a call that has taken nothing gives its reserved number back.
+    pub fn cancel(self, store: &mut Store)
+        requires spare { SpareIf (graph_of store.old) self.reserved }
+        requires start { self.stand ≡ None }
+        ensures graph { graph_of store.new ≡ unreserved self.reserved (graph_of store.old) }
+        ensures limit { store.new.limit ≡ store.old.limit }
+        ensures room { room store.new ≡ room store.old }
+    {
+        give_back(store, self.reserved());
+    }
+
+    /// The two equal replies of a finished call. A reserved number that it did not use leaves the store.
+    pub fn end(self, store: &mut Store) -> (Reply, Reply)
+        requires fixed { IsSome self.reply }
+        requires spare { SpareIf (graph_of store.old) self.reserved }
+        ensures one { self.reply ≡ Some result.0 }
+        ensures two { self.reply ≡ Some result.1 }
+        ensures graph { graph_of store.new ≡ unreserved self.reserved (graph_of store.old) }
+        ensures limit { store.new.limit ≡ store.old.limit }
+        ensures room { room store.new ≡ room store.old }
+    {
+        let Op {
+            outcome,
+            reserved,
+            ..
+        } = self;
+        give_back(store, reserved);
+        match outcome {
+            Outcome::Fixed(replies) => replies.into_pair(),
+            Outcome::Open(_) => unreachable!(),
+        }
+    }
+}

@@ -1,0 +1,84 @@
+//! A call lets a node go.
+
+ghost use Rattle.std.specs.Prelude.{◌≡◌, None, true};
+ghost use Rattle.fs_nodes.specs.Stores.{graph_of, room};
+ghost use Rattle.fs_machine.specs.Leaving.{is_removed, releasing, cleared};
+ghost use Rattle.fs_ops.specs.code.Steps.{way_freed, fork_freed, heads_freed, fork_after, way_after};
+ghost use Rattle.fs_machine.specs.Works.{IsSpare, IsLetGo};
+
+use crate::op::Op;
+use fs_nodes::{NodeNo, Store};
+use fs_walk::{Fork, Walk};
+
+/// The node that a call removed leaves the store when the call lets it go.
+fn release_removed(removed: &mut Option<NodeNo>, node: NodeNo, store: &mut Store)
+    requires { is_removed removed.old node ≡ true → IsSpare (graph_of store.old) node }
+    ensures removed { removed.new ≡ cleared (is_removed removed.old node) removed.old }
+    ensures graph { graph_of store.new ≡ releasing (is_removed removed.old node) node (graph_of store.old) }
+    ensures limit { store.new.limit ≡ store.old.limit }
+    ensures room { room store.new ≡ room store.old }
+{
+    if *removed == Some(node) {
+        store.release(node);
+        *removed = None;
+    }
+}
+
+/// The heads let go of the node behind one of them.
+fn free_heads(heads: &mut Fork)
+    ensures { heads.new ≡ fork_freed heads.old }
+{
+    if let Some(behind) = heads.behind() {
+        heads.let_go(behind);
+    }
+}
+
+/// The walk, or else the heads, let go of the node behind.
+fn free_behind(walk: &mut Walk, fork: &mut Option<Fork>)
+    ensures walk { walk.new ≡ way_freed walk.old }
+    ensures fork { fork.new ≡ heads_freed walk.old.behind fork.old }
+{
+    if let Some(behind) = walk.behind() {
+        walk.let_go(behind);
+    } else if let Some(heads) = fork {
+        free_heads(heads);
+    }
+}
+
+/// What was taken last is let go of.
+fn free_last(walk: &mut Walk, fork: &mut Option<Fork>, victim: &mut Option<NodeNo>)
+    ensures victim { victim.new ≡ None }
+    ensures fork { fork.new ≡ fork_after victim.old fork.old }
+    ensures walk { walk.new ≡ way_after victim.old fork.old walk.old }
+{
+    if victim.is_some() {
+        *victim = None;
+        return;
+    }
+    match fork {
+        Some(heads) if heads.has_set_out() => heads.go_back(),
+        _ => {
+            walk.end();
+            *fork = None;
+        }
+    }
+}
+
+impl Op {
+    /// It has let go of a node: of the one behind its walk or a head, or, once its reply is fixed, of the one taken last. A node that
+    /// it removed leaves the store.
+    pub fn let_go(&mut self, node: NodeNo, store: &mut Store)
+        requires spare { is_removed self.old.removed node ≡ true → IsSpare (graph_of store.old) node }
+        ensures op { IsLetGo self.old node self.new }
+        ensures graph { graph_of store.new ≡ releasing (is_removed self.old.removed node) node (graph_of store.old) }
+        ensures limit { store.new.limit ≡ store.old.limit }
+        ensures room { room store.new ≡ room store.old }
+    {
+        release_removed(&mut self.removed, node, store);
+        if self.is_finished() {
+            free_last(&mut self.walk, &mut self.fork, &mut self.victim);
+        } else {
+            free_behind(&mut self.walk, &mut self.fork);
+        }
+    }
+}

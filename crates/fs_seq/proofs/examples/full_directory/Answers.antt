@@ -1,8 +1,0 @@
-use Rattle.std.proofs.Common.{refl}
-use Rattle.fs_seq.specs.Tree.{look, inserted, removed, renamed}
-use Rattle.fs_seq.specs.Outcomes.{fault, reply, after}
-use Rattle.fs_seq.proofs.examples.full_directory.Goals as goal
-
-pub returns : goal.returns
-unfolding look inserted removed renamed fault reply after
-returns c = refl

@@ -1,5 +1,0 @@
-use Rattle.fs_seq.proofs.OutcomeLemmas.{errors_change_nothing}
-use Rattle.fs_seq.proofs.laws.errors_change_nothing.Goals as goal
-
-pub returns : goal.returns
-returns c = errors_change_nothing

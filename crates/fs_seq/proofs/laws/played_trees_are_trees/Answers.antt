@@ -1,5 +1,0 @@
-use Rattle.fs_seq.proofs.TreeLaws.{played_trees_are_trees}
-use Rattle.fs_seq.proofs.laws.played_trees_are_trees.Goals as goal
-
-pub returns : goal.returns
-returns c = played_trees_are_trees

@@ -1,5 +1,0 @@
-use Rattle.fs_seq.proofs.TreeLaws.{renames_move}
-use Rattle.fs_seq.proofs.laws.renames_move.Goals as goal
-
-pub returns : goal.returns
-returns c = renames_move

@@ -1,5 +1,0 @@
-use Rattle.fs_seq.proofs.TreeLaws.{stays_a_tree}
-use Rattle.fs_seq.proofs.laws.stays_a_tree.Goals as goal
-
-pub returns : goal.returns
-returns c = stays_a_tree

@@ -1,0 +1,104 @@
+use Rattle.std.proofs.Common.{◌≡◌, ◌<◌, ◌≤◌, ◌+◌, ◌-◌, ℕ, ◌∷◌, [], length, ap, sym, subst, ◌∙◌, refl, Some, None, Ok, Err, Result, OnErr, arith, slice_get}
+use Rattle.std.specs.FinMap.{put}
+use Rattle.std.specs.Prelude.{remove}
+use Rattle.fs_names.specs.Names.{Name, name_cmp}
+use Rattle.fs_names.specs.Keys.{Key, last_of}
+use Rattle.fs_seq.specs.code.Graph.{Graph, Dir, Sets, links_at}
+use Rattle.fs_seq.specs.code.Nodes.{graph}
+use Rattle.fs_seq.specs.code.Renaming.{Plans}
+use Rattle.fs_seq.specs.declared.rename.Plan.TheVariants.{Stay, Onto, Within, Across}
+use Rattle.fs_seq.proofs.NodeLemmas.{last_got}
+use Rattle.fs_seq.proofs.Renamed.{failed, stayed, new_path_named, node_placed, left_rising, left_absent, moved_within, moved_onto, moved_across, memory_needed}
+use Rattle.fs_seq.proofs.rename.rename.Goals as goal
+
+on_err : {A E : Type 0} {P : Type 0} (r : Result A E) → P → OnErr r P
+on_err (Ok a) p = tt
+on_err (Err e) p = p
+
+-- the name that was read is the last one
+is_last : (q : Key) (n : ℕ) (x : Name) → n ≡ length q → 1 ≤ length q → slice_get q (n - 1) ≡ Some x → last_of q ≡ x
+is_last q n x len named at = last_got q (n - 1) x (omega arith) at
+
+pub returns-in-Err-clause-given : goal.returns-in-Err-clause-given
+returns-in-Err-clause-given c = failed (graph c.args.nodes.now) c.args.from.now c.args.to.now c.in-Err.errno c.requires c.in-Err.ensures
+
+pub overflow_sub-len : goal.overflow_sub-len
+overflow_sub-len c =
+    let named = new_path_named (graph c.args.nodes.now) c.args.from.now c.args.to.now c.in-Ok.plan c.requires c.in-Ok.ensures in
+    omega (arith, named, c.len.ensures.len)
+
+pub name-name-requires : goal.name-name-requires
+name-name-requires c =
+    let named = new_path_named (graph c.args.nodes.now) c.args.from.now c.args.to.now c.in-Ok.plan c.requires c.in-Ok.ensures in
+    omega (arith, named, c.len.ensures.len)
+
+pub exchange-requires-clause-victim_node : goal.exchange-requires-clause-victim_node
+exchange-requires-clause-victim_node c =
+    let g = graph c.args.nodes.now in
+    let p = c.args.from.now in
+    let q = c.args.to.now in
+    let plan : Plans g p q (Ok (Onto c.in-Onto.entry c.in-Onto.victim)) = subst (λ plan. Plans g p q (Ok plan)) c.in-Onto.is c.in-Ok.ensures in
+    node_placed g c.requires p q plan.0 c.in-Onto.victim.dir c.in-Onto.victim.place c.in-Onto.victim.node plan.2
+
+pub replace_link-requires-clause-rising : goal.replace_link-requires-clause-rising
+replace_link-requires-clause-rising c =
+    let g = graph c.args.nodes.now in
+    let p = c.args.from.now in
+    let q = c.args.to.now in
+    let plan : Plans g p q (Ok (Within c.in-Within.entry)) = subst (λ plan. Plans g p q (Ok plan)) c.in-Within.is c.in-Ok.ensures in
+    left_rising g c.requires p q plan.0 c.in-Within.entry plan.1
+
+pub replace_link-requires-clause-absent : goal.replace_link-requires-clause-absent
+replace_link-requires-clause-absent c =
+    let g = graph c.args.nodes.now in
+    let p = c.args.from.now in
+    let q = c.args.to.now in
+    let plan : Plans g p q (Ok (Within c.in-Within.entry)) = subst (λ plan. Plans g p q (Ok plan)) c.in-Within.is c.in-Ok.ensures in
+    let named = new_path_named g p q c.in-Ok.plan c.requires c.in-Ok.ensures in
+    left_absent g c.requires p q plan.0 c.in-Within.entry plan.1 c.copy.result plan.2.0 plan.2.1 plan.2.2 (is_last q c.len.result c.name-name.result.now c.len.ensures.len named c.name-name.ensures ∙ sym c.copy.ensures)
+
+pub returns-in_err-transfer-in-Across-clause-memory : goal.returns-in_err-transfer-in-Across-clause-memory
+returns-in_err-transfer-in-Across-clause-memory c =
+    let g = graph c.args.nodes.now in
+    let p = c.args.from.now in
+    let q = c.args.to.now in
+    let plan : Plans g p q (Ok (Across c.in-Across.entry c.in-Across.dir c.in-Across.place)) = subst (λ plan. Plans g p q (Ok plan)) c.in-Across.is c.in-Ok.ensures in
+    on_err c.from_residual.result (memory_needed g c.requires p q plan.0 c.in-Across.entry plan.1 c.in-Across.dir c.in-Across.place plan.2.0 plan.2.1 plan.3)
+
+pub returns-in-Stay-clause-given : goal.returns-in-Stay-clause-given
+returns-in-Stay-clause-given c =
+    let g = graph c.args.nodes.now in
+    let p = c.args.from.now in
+    let q = c.args.to.now in
+    let plan : Plans g p q (Ok Stay) = subst (λ plan. Plans g p q (Ok plan)) c.in-Stay.is c.in-Ok.ensures in
+    stayed g p q c.requires plan.0 plan.1
+
+pub returns-in-Onto-clause-given : goal.returns-in-Onto-clause-given
+returns-in-Onto-clause-given c =
+    let g = graph c.args.nodes.now in
+    let p = c.args.from.now in
+    let q = c.args.to.now in
+    let plan : Plans g p q (Ok (Onto c.in-Onto.entry c.in-Onto.victim)) = subst (λ plan. Plans g p q (Ok plan)) c.in-Onto.is c.in-Ok.ensures in
+    let named = new_path_named g p q c.in-Ok.plan c.requires c.in-Ok.ensures in
+    moved_onto g c.requires p q plan.0 c.in-Onto.entry plan.1 c.in-Onto.victim plan.2 (graph c.exchange.new.nodes) c.name-name.result.now
+    (is_last q c.len.result c.name-name.result.now c.len.ensures.len named c.name-name.ensures) c.exchange.ensures
+
+pub returns-in-Within-clause-given : goal.returns-in-Within-clause-given
+returns-in-Within-clause-given c =
+    let g = graph c.args.nodes.now in
+    let p = c.args.from.now in
+    let q = c.args.to.now in
+    let plan : Plans g p q (Ok (Within c.in-Within.entry)) = subst (λ plan. Plans g p q (Ok plan)) c.in-Within.is c.in-Ok.ensures in
+    let named = new_path_named g p q c.in-Ok.plan c.requires c.in-Ok.ensures in
+    moved_within g c.requires p q plan.0 c.in-Within.entry plan.1 (graph c.replace_link.new.nodes) c.copy.result plan.2.0 plan.2.1 plan.2.2
+    (is_last q c.len.result c.name-name.result.now c.len.ensures.len named c.name-name.ensures ∙ sym c.copy.ensures) c.replace_link.ensures
+
+pub returns-in_ok-transfer-in-Across-clause-given : goal.returns-in_ok-transfer-in-Across-clause-given
+returns-in_ok-transfer-in-Across-clause-given c =
+    let g = graph c.args.nodes.now in
+    let p = c.args.from.now in
+    let q = c.args.to.now in
+    let plan : Plans g p q (Ok (Across c.in-Across.entry c.in-Across.dir c.in-Across.place)) = subst (λ plan. Plans g p q (Ok plan)) c.in-Across.is c.in-Ok.ensures in
+    let named = new_path_named g p q c.in-Ok.plan c.requires c.in-Ok.ensures in
+    moved_across g c.requires p q plan.0 c.in-Across.entry plan.1 c.in-Across.dir c.in-Across.place plan.2.0 plan.2.1 plan.3 (graph c.transfer.new.nodes) c.name-name.result.now
+    (is_last q c.len.result c.name-name.result.now c.len.ensures.len named c.name-name.ensures) c.in_ok-transfer-in-Across.ensures.ok

@@ -1,0 +1,96 @@
+//! The calls that make a node.
+
+ghost use Rattle.std.specs.Prelude.{◌≡◌, ◌≤◌, Some, None, [], length, IfOk, OnOk, OnErr, IsTrue};
+ghost use Rattle.fs_calls.specs.Tree.{inserted};
+ghost use Rattle.fs_seq.specs.Memory.{needs_memory};
+ghost use Rattle.fs_seq.specs.code.Nodes.{graph, place};
+ghost use Rattle.fs_seq.specs.code.Graph.{IsForest, place_at, links_at, links_of, tree_of, Dir as IsDir};
+ghost use Rattle.fs_seq.specs.code.Effects.{Answers, Attaches, FindsGap, Gives, making_fault, tree_node};
+
+use crate::nodes::{Link, Node, Spot, add_link, look_up};
+use fs_calls::{Call, Errno, Reply};
+use fs_names::{ENTRY_LIMIT, Name, Path};
+use slab::Slab;
+use std::alloc::{AllocError, Global};
+
+/// Adds a node, and an entry for it to a directory at a place.
+fn attach(
+    nodes: &mut Slab<Node>,
+    dir: usize,
+    i: usize,
+    name: &Name,
+    node: Node,
+) -> Result<(), AllocError>
+    requires directory { place_at (graph nodes.old) dir ≡ Some (IsDir (links_at (graph nodes.old) dir)) }
+    requires within { i ≤ length (links_at (graph nodes.old) dir) }
+    ensures ok { OnOk result (Attaches (graph nodes.old) (graph nodes.new) dir i name.now (place node)) }
+    ensures err { OnErr result (graph nodes.new ≡ graph nodes.old) }
+{
+    nodes.reserve(1)?;
+    let number = nodes.vacant_key();
+    let link = Link {
+        name: name.copy(),
+        node: number,
+    };
+    add_link(nodes, dir, i, link)?;
+    nodes.insert_reserved(node);
+    Ok(())
+}
+
+/// Where a new entry belongs, or why there can be none: the number of its directory and the place among the entries.
+fn gap(nodes: &Slab<Node>, path: &Path) -> Result<(usize, usize), Errno>
+    requires { IsForest (graph nodes.now) }
+    ensures { FindsGap (graph nodes.now) path.now result }
+{
+    if path.len() == 0 {
+        return Err(Errno::Eexist);
+    }
+    match look_up(nodes, path) {
+        Err(errno) => Err(errno),
+        Ok(Spot::Taken(..)) => Err(Errno::Eexist),
+        Ok(Spot::Free(dir, i, entries)) => {
+            if entries < ENTRY_LIMIT {
+                Ok((dir, i))
+            } else {
+                Err(Errno::Enospc)
+            }
+        }
+    }
+}
+
+/// Makes a node without entries at the path.
+fn make(nodes: &mut Slab<Node>, path: &Path, node: Node) -> Result<Reply, AllocError>
+    requires forest { IsForest (graph nodes.old) }
+    requires bare { links_of (Some (place node)) ≡ [] }
+    ensures given { IfOk result (Gives (graph nodes.old) (graph nodes.new) (making_fault (tree_of (graph nodes.old)) path.now) Reply.Done (inserted (tree_of (graph nodes.old)) path.now (tree_node node))) }
+    ensures err { OnErr result (graph nodes.new ≡ graph nodes.old) }
+    ensures memory { OnErr result (making_fault (tree_of (graph nodes.old)) path.now ≡ None) }
+{
+    match gap(nodes, path) {
+        Err(errno) => Ok(Reply::Failed(errno)),
+        Ok((dir, i)) => {
+            attach(nodes, dir, i, path.name(path.len() - 1), node)?;
+            Ok(Reply::Done)
+        }
+    }
+}
+
+/// Makes an empty directory.
+pub fn mkdir(alloc: Global, nodes: &mut Slab<Node>, path: &Path) -> Result<Reply, AllocError>
+    requires { IsForest (graph nodes.old) }
+    ensures given { IfOk result (Answers (graph nodes.old) (graph nodes.new) (Call.Mkdir path.now)) }
+    ensures err { OnErr result (graph nodes.new ≡ graph nodes.old) }
+    ensures memory { OnErr result (IsTrue (needs_memory (tree_of (graph nodes.old)) (Call.Mkdir path.now))) }
+{
+    make(nodes, path, Node::Dir(Vec::new(alloc)))
+}
+
+/// Makes an empty file.
+pub fn mknod(alloc: Global, nodes: &mut Slab<Node>, path: &Path) -> Result<Reply, AllocError>
+    requires { IsForest (graph nodes.old) }
+    ensures given { IfOk result (Answers (graph nodes.old) (graph nodes.new) (Call.Mknod path.now)) }
+    ensures err { OnErr result (graph nodes.new ≡ graph nodes.old) }
+    ensures memory { OnErr result (IsTrue (needs_memory (tree_of (graph nodes.old)) (Call.Mknod path.now))) }
+{
+    make(nodes, path, Node::File(Vec::new(alloc)))
+}

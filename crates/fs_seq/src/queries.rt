@@ -1,0 +1,101 @@
+//! The calls that change nothing: what stands at a path.
+
+ghost use Rattle.std.specs.Prelude.{◌≡◌, Some, MatchResult, IfOk, OnErr, IsTrue, map, take, drop};
+ghost use Rattle.fs_calls.specs.Outcomes.{reply, resolution};
+ghost use Rattle.fs_calls.specs.Shapes.{has_any};
+ghost use Rattle.fs_seq.specs.Memory.{needs_memory};
+ghost use Rattle.fs_seq.specs.code.Nodes.{graph, pairs, place};
+ghost use Rattle.fs_seq.specs.code.Graph.{IsForest, tree_of};
+ghost use Rattle.fs_seq.specs.code.Effects.{IsSeen};
+
+use crate::nodes::{Link, Node, resolve};
+use fs_calls::ranges::part;
+use fs_calls::{Bytes, Call, Errno, NameList, Reply};
+use fs_names::{Kind, Path};
+use slab::Slab;
+use std::alloc::{AllocError, Global};
+
+/// The node at a path, or why there is none.
+fn find<'a>(nodes: &'a Slab<Node>, path: &Path) -> Result<&'a Node, Errno>
+    requires { IsForest (graph nodes.now) }
+    ensures { MatchResult result
+        (λ node. IsSeen (tree_of (graph nodes.now)) path.now (place node.now))
+        (λ e. resolution (tree_of (graph nodes.now)) path.now ≡ Some e) }
+{
+    match resolve(nodes, path, path.len()) {
+        Err(errno) => Err(errno),
+        Ok(at) => Ok(&nodes[at]),
+    }
+}
+
+/// The kind of a node and its size.
+pub fn stat(nodes: &Slab<Node>, path: &Path) -> Reply
+    requires { IsForest (graph nodes.now) }
+    ensures { result ≡ reply (tree_of (graph nodes.now)) (Call.Stat path.now) }
+{
+    match find(nodes, path) {
+        Err(errno) => Reply::Failed(errno),
+        Ok(Node::Dir(links)) => Reply::Stat(Kind::Dir, links.len() as u64),
+        Ok(Node::File(bytes)) => Reply::Stat(Kind::File, bytes.len() as u64),
+    }
+}
+
+/// The names of links, in their order.
+fn names_of(alloc: Global, links: &[Link]) -> Result<NameList, AllocError>
+    ensures ok { IfOk result (λ names. names ≡ map (λ l. l.0) (pairs links.now)) }
+    ensures memory { OnErr result (IsTrue (has_any (map (λ l. l.0) (pairs links.now)))) }
+{
+    let mut names = Vec::with_capacity(alloc, links.len())?;
+    for link in links {
+        names.push(link.name.copy())?;
+    }
+    Ok(NameList::new(names))
+}
+
+/// All names of a directory, in byte order.
+pub fn readdir(alloc: Global, nodes: &Slab<Node>, path: &Path) -> Result<Reply, AllocError>
+    requires { IsForest (graph nodes.now) }
+    ensures reply { IfOk result (λ r. r ≡ reply (tree_of (graph nodes.now)) (Call.Readdir path.now)) }
+    ensures memory { OnErr result (IsTrue (needs_memory (tree_of (graph nodes.now)) (Call.Readdir path.now))) }
+{
+    match find(nodes, path) {
+        Err(errno) => Ok(Reply::Failed(errno)),
+        Ok(Node::File(_)) => Ok(Reply::Failed(Errno::Enotdir)),
+        Ok(Node::Dir(links)) => {
+            let names = names_of(alloc, links)?;
+            Ok(Reply::Names(names))
+        }
+    }
+}
+
+/// The same bytes again, in exactly as much memory.
+fn copied(alloc: Global, bytes: &[u8]) -> Result<Bytes, AllocError>
+    ensures ok { IfOk result (λ copy. copy ≡ bytes.now) }
+    ensures memory { OnErr result (IsTrue (has_any bytes.now)) }
+{
+    let mut copy = Vec::with_capacity(alloc, bytes.len())?;
+    copy.extend_from_slice(bytes)?;
+    Ok(Bytes::new(copy))
+}
+
+/// The bytes of a file from an offset on, and no more than a count.
+pub fn read(
+    alloc: Global,
+    nodes: &Slab<Node>,
+    path: &Path,
+    off: u64,
+    count: u64,
+) -> Result<Reply, AllocError>
+    requires { IsForest (graph nodes.now) }
+    ensures reply { IfOk result (λ r. r ≡ reply (tree_of (graph nodes.now)) (Call.Read path.now off count)) }
+    ensures memory { OnErr result (IsTrue (needs_memory (tree_of (graph nodes.now)) (Call.Read path.now off count))) }
+{
+    match find(nodes, path) {
+        Err(errno) => Ok(Reply::Failed(errno)),
+        Ok(Node::Dir(_)) => Ok(Reply::Failed(Errno::Eisdir)),
+        Ok(Node::File(bytes)) => {
+            let copy = copied(alloc, part(bytes, off, count))?;
+            Ok(Reply::Bytes(copy))
+        }
+    }
+}

@@ -1,0 +1,227 @@
+//! Renames: the entry of a node moves, and the node that stood at its new place goes.
+
+ghost use Rattle.std.specs.Prelude.{◌≡◌, ◌≢◌, ◌<◌, ◌≤◌, ℕ, Bool, Option, None, Some, IsTrue, IsSome, IfOk, OnOk, OnErr, length, remove, slice_set};
+ghost use Rattle.std.specs.FinMap.{find, put, is_sorted};
+ghost use Rattle.fs_names.specs.Names.{name_cmp};
+ghost use Rattle.fs_seq.specs.code.Nodes.{pair, pairs, graph};
+ghost use Rattle.fs_seq.specs.code.Graph.{IsForest, Sets, place_at, links_at, shape_at, tree_of, Dir as IsDir};
+ghost use Rattle.fs_calls.specs.Shapes.{Shape};
+ghost use Rattle.fs_calls.specs.Forms.{form, by_text};
+ghost use Rattle.fs_calls.specs.Rows.{place_fault};
+ghost use Rattle.fs_seq.specs.code.Renaming.{Plans, Exchanges, Transfers};
+ghost use Rattle.fs_seq.specs.code.Effects.{Answers};
+ghost use Rattle.fs_seq.specs.Memory.{needs_memory};
+ghost use Rattle.slab.specs.Slab.{ContainsKey};
+
+use crate::nodes::{Link, Node, Spot, add_link, look_up, remove_link, search};
+use fs_calls::{Call, Errno, Reply};
+use fs_names::{ENTRY_LIMIT, Name, Path};
+use slab::Slab;
+use std::alloc::AllocError;
+
+/// An entry: the number of its directory, its place there, and the number of its node.
+#[derive(Clone, Copy)]
+struct Entry {
+    dir: usize,
+    place: usize,
+    node: usize,
+}
+
+/// What a rename has to do.
+#[derive(Drop)]
+enum Plan {
+    /// Nothing, since both paths are one.
+    Stay,
+    /// To lead the second entry to the node of the first, which goes, as does the second's own node.
+    Onto(Entry, Entry),
+    /// To give the entry another name in its directory.
+    Within(Entry),
+    /// To put the entry into another directory at a place.
+    Across(Entry, usize, usize),
+}
+
+/// The error that the paths of a rename decide alone.
+fn text_fault(from: &Path, to: &Path) -> Option<Errno>
+    ensures { result ≡ by_text (form (Call.Rename from.now to.now)) }
+{
+    if from.len() == 0 || to.len() == 0 {
+        return Some(Errno::Ebusy);
+    }
+    if from.len() < to.len() && from.is_prefix_of(to) {
+        return Some(Errno::Einval);
+    }
+    None
+}
+
+/// The error of a node that should replace another.
+fn kinds_fault(nodes: &Slab<Node>, node: usize, victim: usize) -> Option<Errno>
+    requires node { ContainsKey nodes.now node }
+    requires victim { ContainsKey nodes.now victim }
+    ensures { (room : Bool) → result ≡ place_fault (shape_at (graph nodes.now) node) (shape_at (graph nodes.now) victim) room }
+{
+    match (&nodes[node], &nodes[victim]) {
+        (Node::Dir(_), Node::File(_)) => Some(Errno::Enotdir),
+        (Node::File(_), Node::Dir(_)) => Some(Errno::Eisdir),
+        (Node::File(_), Node::File(_)) => None,
+        (Node::Dir(_), Node::Dir(links)) => {
+            if links.is_empty() {
+                None
+            } else {
+                Some(Errno::Enotempty)
+            }
+        }
+    }
+}
+
+/// What a rename has to do, or its first error.
+fn decide(nodes: &Slab<Node>, from: &Path, to: &Path) -> Result<Plan, Errno>
+    requires { IsForest (graph nodes.now) }
+    ensures { Plans (graph nodes.now) from.now to.now result }
+{
+    if let Some(errno) = text_fault(from, to) {
+        return Err(errno);
+    }
+    let source = match look_up(nodes, from) {
+        Ok(spot) => spot,
+        Err(errno) => return Err(errno),
+    };
+    let dest = match look_up(nodes, to) {
+        Ok(spot) => spot,
+        Err(errno) => return Err(errno),
+    };
+    let Spot::Taken(dir, place, node) = source else {
+        return Err(Errno::Enoent);
+    };
+    let entry = Entry { dir, place, node };
+    match dest {
+        Spot::Taken(_, _, other) if other == node => Ok(Plan::Stay),
+        Spot::Taken(dir, place, node) => match kinds_fault(nodes, entry.node, node) {
+            Some(errno) => Err(errno),
+            None => Ok(Plan::Onto(entry, Entry { dir, place, node })),
+        },
+        Spot::Free(dir, _, _) if dir == entry.dir => Ok(Plan::Within(entry)),
+        Spot::Free(_, _, entries) if entries >= ENTRY_LIMIT => Err(Errno::Enospc),
+        Spot::Free(dir, place, _) => Ok(Plan::Across(entry, dir, place)),
+    }
+}
+
+/// Takes the link at a place out, and puts another where it belongs, in the capacity that the first one had.
+fn replace(links: &mut Vec<Link>, i: usize, link: Link)
+    requires within { i < length (pairs links.old.items) }
+    requires rising { IsTrue (is_sorted name_cmp (remove (pairs links.old.items) i)) }
+    requires absent { find name_cmp link.name (remove (pairs links.old.items) i) ≡ None }
+    ensures { pairs links.new.items ≡ put name_cmp link.name link.node (remove (pairs links.old.items) i) }
+{
+    links.remove(i);
+    match search(links, &link.name) {
+        Ok(_) => unreachable!(),
+        Err(at) => match links.insert(at, link) {
+            Ok(()) => {}
+            Err(_) => unreachable!(),
+        },
+    }
+}
+
+/// Lets the place of a directory have another link.
+fn set_link(nodes: &mut Slab<Node>, dir: usize, i: usize, link: Link)
+    requires directory { place_at (graph nodes.old) dir ≡ Some (IsDir (links_at (graph nodes.old) dir)) }
+    requires within { i < length (links_at (graph nodes.old) dir) }
+    ensures { Sets (graph nodes.old) (graph nodes.new) dir (Some (IsDir (slice_set (links_at (graph nodes.old) dir) i (pair link)))) }
+{
+    match &mut nodes[dir] {
+        Node::Dir(links) => links[i] = link,
+        Node::File(_) => {}
+    }
+}
+
+/// Takes the link at a place of a directory out, and puts another into it where it belongs.
+fn replace_link(nodes: &mut Slab<Node>, dir: usize, i: usize, link: Link)
+    requires directory { place_at (graph nodes.old) dir ≡ Some (IsDir (links_at (graph nodes.old) dir)) }
+    requires within { i < length (links_at (graph nodes.old) dir) }
+    requires rising { IsTrue (is_sorted name_cmp (remove (links_at (graph nodes.old) dir) i)) }
+    requires absent { find name_cmp link.name (remove (links_at (graph nodes.old) dir) i) ≡ None }
+    ensures { Sets (graph nodes.old) (graph nodes.new) dir (Some (IsDir (put name_cmp link.name link.node (remove (links_at (graph nodes.old) dir) i)))) }
+{
+    match &mut nodes[dir] {
+        Node::Dir(links) => replace(links, i, link),
+        Node::File(_) => {}
+    }
+}
+
+/// Leads the victim's entry, which has this name, to the entry's node, takes the entry out, and removes the victim's
+/// node. No directory gets an entry more, so nothing is allocated.
+fn exchange(nodes: &mut Slab<Node>, entry: Entry, victim: Entry, name: &Name)
+    requires dir { place_at (graph nodes.old) entry.dir ≡ Some (IsDir (links_at (graph nodes.old) entry.dir)) }
+    requires place { entry.place < length (links_at (graph nodes.old) entry.dir) }
+    requires victim_dir { place_at (graph nodes.old) victim.dir ≡ Some (IsDir (links_at (graph nodes.old) victim.dir)) }
+    requires victim_place { victim.place < length (links_at (graph nodes.old) victim.dir) }
+    requires victim_node { IsSome (place_at (graph nodes.old) victim.node) }
+    ensures { Exchanges (graph nodes.old) (graph nodes.new) entry victim name.now }
+{
+    let link = Link {
+        name: name.copy(),
+        node: entry.node,
+    };
+    set_link(nodes, victim.dir, victim.place, link);
+    remove_link(nodes, entry.dir, entry.place);
+    nodes.remove(victim.node);
+}
+
+/// Puts the entry under a name into another directory at a place, and takes it out of its own.
+fn transfer(
+    nodes: &mut Slab<Node>,
+    entry: Entry,
+    dir: usize,
+    place: usize,
+    name: &Name,
+) -> Result<(), AllocError>
+    requires dir { place_at (graph nodes.old) entry.dir ≡ Some (IsDir (links_at (graph nodes.old) entry.dir)) }
+    requires place { entry.place < length (links_at (graph nodes.old) entry.dir) }
+    requires new_dir { place_at (graph nodes.old) dir ≡ Some (IsDir (links_at (graph nodes.old) dir)) }
+    requires new_place { place ≤ length (links_at (graph nodes.old) dir) }
+    requires other { entry.dir ≢ dir }
+    ensures ok { OnOk result (Transfers (graph nodes.old) (graph nodes.new) entry dir place name.now) }
+    ensures err { OnErr result (graph nodes.new ≡ graph nodes.old) }
+{
+    let link = Link {
+        name: name.copy(),
+        node: entry.node,
+    };
+    add_link(nodes, dir, place, link)?;
+    remove_link(nodes, entry.dir, entry.place);
+    Ok(())
+}
+
+/// Renames a node, with all below it; the node that stood at the new path is removed. A rename costs no more than its
+/// two directories, and allocates only where it adds an entry to another one.
+pub fn rename(nodes: &mut Slab<Node>, from: &Path, to: &Path) -> Result<Reply, AllocError>
+    requires { IsForest (graph nodes.old) }
+    ensures given { IfOk result (Answers (graph nodes.old) (graph nodes.new) (Call.Rename from.now to.now)) }
+    ensures err { OnErr result (graph nodes.new ≡ graph nodes.old) }
+    ensures memory { OnErr result (IsTrue (needs_memory (tree_of (graph nodes.old)) (Call.Rename from.now to.now))) }
+{
+    let plan = match decide(nodes, from, to) {
+        Ok(plan) => plan,
+        Err(errno) => return Ok(Reply::Failed(errno)),
+    };
+    let name = to.name(to.len() - 1);
+    match plan {
+        Plan::Stay => Ok(Reply::Done),
+        Plan::Onto(entry, victim) => {
+            exchange(nodes, entry, victim, name);
+            Ok(Reply::Done)
+        }
+        Plan::Within(entry) => {
+            let link = Link {
+                name: name.copy(),
+                node: entry.node,
+            };
+            replace_link(nodes, entry.dir, entry.place, link);
+            Ok(Reply::Done)
+        }
+        Plan::Across(entry, dir, place) => {
+            transfer(nodes, entry, dir, place, name)?;
+            Ok(Reply::Done)
+        }
+    }
+}

@@ -1,0 +1,5 @@
+pub mod TimelineLemmas
+pub mod AppendLemmas
+pub mod ReplyLemmas
+pub mod VerdictLemmas
+pub mod KnowledgeLemmas

@@ -1,0 +1,35 @@
+-- What holds of timelines and verdicts: laws, each proved as the contract of a function of the module `laws`.
+use Rattle.std.specs.Prelude.{◌≡◌, ℕ, ◌-◌, List, [], ◌∷◌, ◌++◌, ◌↔◌, take}
+use Rattle.fs_timeline.specs.Timeline.{IsNext, IsAnswered, IsWellFormed, IsLawful}
+use Rattle.fs_timeline.specs.Verdicts.{verdict}
+use Rattle.fs_timeline.specs.declared.entry.Entry.{Entry}
+use Rattle.fs_timeline.specs.declared.verdict.Verdict.{Verdict}
+use Rattle.fs_timeline.specs.declared.verdict.Verdict.TheVariants.{Lawful, Fault}
+
+-- a lawful timeline stays lawful when its last entry is taken away
+abbrev pub LawfulWithoutTheLast : Type 0
+LawfulWithoutTheLast = (es : List Entry) (last : Entry) → IsLawful (es ++ last ∷ []) → IsLawful es
+
+-- a timeline with one more entry is well formed, and lawful, exactly where it was so before and the entry fits
+abbrev pub WellFormedAppended : Type 0
+WellFormedAppended = (es : List Entry) (e : Entry) → IsWellFormed (es ++ e ∷ []) ↔ (IsWellFormed es × IsNext es e)
+
+abbrev pub LawfulAppended : Type 0
+LawfulAppended = (es : List Entry) (e : Entry) → IsLawful (es ++ e ∷ []) ↔ (IsLawful es × IsNext es e × IsAnswered es e)
+
+-- the verdict is Lawful exactly on lawful timelines
+abbrev pub LawfulIsLawful : Type 0
+LawfulIsLawful = (es : List Entry) → (verdict es ≡ Lawful) ↔ IsLawful es
+
+-- a fault names the first entry with which the entries up to it are not lawful
+pub record IsFirstFault (es : List Entry) (place : ℕ) : Type 0 where
+  pub before : IsLawful (take (place - 1) es)
+  pub with_it : IsLawful (take place es) → ⊥
+
+-- a verdict that is a fault names the first one
+abbrev pub NamesFirstFault : List Entry → Verdict → Type 0
+NamesFirstFault es Lawful = Unit {0}
+NamesFirstFault es (Fault place kind) = IsFirstFault es place
+
+abbrev pub FaultsAreFirst : Type 0
+FaultsAreFirst = (es : List Entry) → NamesFirstFault es (verdict es)

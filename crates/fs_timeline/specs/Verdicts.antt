@@ -1,0 +1,44 @@
+-- What the checker says of a timeline: the place and the kind of the first entry that does not fit.
+use Rattle.std.specs.Prelude.{ℕ, ◌+◌, Bool, false, List, [], ◌∷◌, ◌++◌, not, Option, Some, None}
+use Rattle.fs_names.specs.First.{on, first}
+use Rattle.fs_calls.specs.Replies.{same_reply}
+use Rattle.fs_calls.specs.declared.reply.Reply.{Reply}
+use Rattle.fs_timeline.specs.Timeline.{has_begun, has_committed, has_returned, is_busy, due}
+use Rattle.fs_timeline.specs.declared.entry.Entry.{Entry}
+use Rattle.fs_timeline.specs.declared.entry.Entry.TheVariants.{Begin, Commit, Return}
+use Rattle.fs_timeline.specs.declared.verdict.Verdict.{Verdict}
+use Rattle.fs_timeline.specs.declared.verdict.Verdict.TheVariants.{Lawful, Fault}
+use Rattle.fs_timeline.specs.declared.verdict.FaultKind.{FaultKind}
+use Rattle.fs_timeline.specs.declared.verdict.FaultKind.TheVariants.{BeginTwice, SeatBusy, CommitUnbegun, CommitTwice, ReturnUncommitted, ReturnTwice, WrongReply}
+
+abbrev pub is_due : Option Reply → Reply → Bool
+is_due None r = false
+is_due (Some due) r = same_reply due r
+
+-- what is wrong with an entry after those before it, the first kind that holds
+abbrev pub entry_fault : List Entry → Entry → Option FaultKind
+entry_fault before (Begin c seat call) = first
+    (on (has_begun c before) BeginTwice
+    ∷ on (is_busy seat before) SeatBusy
+    ∷ [])
+entry_fault before (Commit c) = first
+    (on (not (has_begun c before)) CommitUnbegun
+    ∷ on (has_committed c before) CommitTwice
+    ∷ [])
+entry_fault before (Return c r) = first
+    (on (not (has_committed c before)) ReturnUncommitted
+    ∷ on (has_returned c before) ReturnTwice
+    ∷ on (not (is_due (due c before) r)) WrongReply
+    ∷ [])
+
+abbrev pub fault_or : ℕ → Option FaultKind → Verdict → Verdict
+fault_or place None later = later
+fault_or place (Some kind) later = Fault place kind
+
+-- the verdict on entries of which the first has this place, after those before it
+abbrev pub verdict_from : List Entry → ℕ → List Entry → Verdict
+verdict_from before place [] = Lawful
+verdict_from before place (e ∷ es) = fault_or place (entry_fault before e) (verdict_from (before ++ e ∷ []) (place + 1) es)
+
+abbrev pub verdict : List Entry → Verdict
+verdict es = verdict_from [] 1 es

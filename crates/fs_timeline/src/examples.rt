@@ -1,0 +1,13 @@
+//! Worked examples, which the check computes from the definitions.
+
+ghost use Rattle.fs_timeline.specs.Examples.{VerdictExamples, CheckedJournals};
+
+/// Each kind of fault, and timelines that stop early.
+pub fn verdicts()
+    ensures { VerdictExamples }
+{}
+
+/// The journal of a first mkdir, and the same journal with a wrong reply and with two entries exchanged.
+pub fn checked_journals()
+    ensures { CheckedJournals }
+{}

@@ -1,0 +1,69 @@
+//! The timeline of a run, with places that are reserved for its next entries.
+
+ghost use Rattle.std.specs.Prelude.{◌≡◌, ◌+◌, ◌-◌, ◌<◌, [], ◌∷◌, ◌++◌, OnOk, OnErr};
+
+use crate::entry::Entry;
+use std::alloc::{AllocError, Global};
+use std::marker::Model;
+
+/// Entries in the order in which they came, and reserved places for the next ones.
+#[derive(Drop)]
+pub struct Timeline {
+    list: Vec<Entry>,
+    places: usize,
+}
+
+impl Model for Timeline {
+    ghost use Rattle.std.specs.Prelude.{◌+◌, ◌≤◌, vec_len, vec_capacity};
+    ghost use Rattle.fs_timeline.specs.Kept.{Kept};
+
+    ghost Value = { Kept };
+
+    ghost view = { λ t. record { entries = t.list.items; reserved = t.places } };
+
+    ghost invariant = { λ t. vec_len t.list + t.places ≤ vec_capacity t.list };
+}
+
+impl Timeline {
+    /// No entries, and no reserved places.
+    pub fn new(alloc: Global) -> Self
+        ensures { result ≡ record { entries = []; reserved = 0 } }
+    {
+        Timeline {
+            list: Vec::new(alloc),
+            places: 0,
+        }
+    }
+
+    /// Reserves this many places beside those that are reserved already. Out of memory nothing changes.
+    pub fn make_places(&mut self, count: usize) -> Result<(), AllocError>
+        ensures ok { OnOk result (self.new ≡ record self.old { reserved = self.old.reserved + count }) }
+        ensures err { OnErr result (self.new ≡ self.old) }
+    {
+        let Some(places) = self.places.checked_add(count) else {
+            return Err(AllocError);
+        };
+        self.list.reserve(places)?;
+        self.places = places;
+        Ok(())
+    }
+
+    /// Appends an entry in a reserved place, which takes no memory.
+    pub fn push(&mut self, entry: Entry)
+        requires { 0 < self.old.reserved }
+        ensures { self.new ≡ record {
+          entries = self.old.entries ++ entry ∷ [];
+          reserved = self.old.reserved - 1;
+        } }
+    {
+        self.places -= 1;
+        self.list.push_reserved(entry);
+    }
+
+    /// The entries so far.
+    pub fn entries(&self) -> &[Entry]
+        ensures { result.now ≡ self.now.entries }
+    {
+        self.list.as_slice()
+    }
+}
