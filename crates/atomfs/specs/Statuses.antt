@@ -2,15 +2,7 @@
 use Rattle.std.specs.Prelude.{ℕ, Bool, ◌==◌, if◌then◌else◌, Result, Ok, Err}
 use Rattle.fs_sched.specs.declared.running.RunEnd.{RunEnd}
 use Rattle.fs_sched.specs.declared.fault.RunFault.{RunFault}
-use Rattle.fs_sched.specs.declared.fault.RunFault.TheVariants.{Input, Read, Write, OutOfMemory, Full}
-
--- malformed input is 3, no memory or no node number left 4, a read or a write that failed 5
-abbrev pub status_of_fault : RunFault → ℕ
-status_of_fault (Input f) = 3
-status_of_fault Read = 5
-status_of_fault Write = 5
-status_of_fault OutOfMemory = 4
-status_of_fault Full = 4
+use Rattle.fs_sched.specs.Faults.{status_of_fault}
 
 -- the status that a command came to, or that of its fault
 abbrev pub status_of : Result ℕ RunFault → ℕ

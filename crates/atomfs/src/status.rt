@@ -3,7 +3,7 @@
 ghost use Rattle.std.specs.Prelude.{◌≡◌, ◌≢◌, ◌⊎◌};
 ghost use Rattle.std.specs.IoError.{error_kind};
 ghost use Rattle.clap.specs.Values.{kind_of};
-ghost use Rattle.atomfs.specs.Statuses.{status_of_fault, status_of, status_of_run, status_of_verdict};
+ghost use Rattle.atomfs.specs.Statuses.{status_of, status_of_run, status_of_verdict};
 
 use clap::Error;
 use clap::error::ErrorKind;
@@ -24,16 +24,6 @@ pub fn status_of_verdict(lawful: bool) -> u8
     if lawful { 0 } else { 1 }
 }
 
-fn status_of_fault(fault: &RunFault) -> u8
-    ensures { result ≡ status_of_fault fault.now }
-{
-    match fault {
-        RunFault::Input(_) => 3,
-        RunFault::OutOfMemory | RunFault::Full => 4,
-        RunFault::Read | RunFault::Write => 5,
-    }
-}
-
 /// The status that a subcommand came to, or that of its fault, whose message is written.
 pub fn report<E: Write>(errors: &mut E, outcome: Result<u8, RunFault>) -> u8
     ensures { result ≡ status_of outcome }
@@ -43,12 +33,12 @@ pub fn report<E: Write>(errors: &mut E, outcome: Result<u8, RunFault>) -> u8
         Err(fault) => {
             // Where standard error takes no message, the status says it all the same.
             let _ = writeln!(errors, "atomfs: {fault}");
-            status_of_fault(&fault)
+            fault.status()
         }
     }
 }
 
-/// The status where the arguments cannot be read: 4 for want of memory, 2 where one is no UTF-8.
+/// The status where the arguments cannot be read: 4 out of memory, 2 where one is not UTF-8.
 pub fn status_of_unreadable_args<E: Write>(errors: &mut E, error: &io::Error) -> u8
     ensures memory { error_kind error.now ≡ IoErrorKind.OutOfMemory → result ≡ 4 }
     ensures usage { error_kind error.now ≢ IoErrorKind.OutOfMemory → result ≡ 2 }

@@ -323,6 +323,17 @@ impl Core {
         find_path(&self.store, path)
     }
 
+    /// The entries so far and the nodes, handed out. It takes no memory.
+    pub fn into_parts(self) -> (Timeline, Store)
+        ensures timeline { result.0.entries ≡ self.timeline }
+        ensures store { result.1 ≡ self.store }
+    {
+        let Core {
+            timeline, store, ..
+        } = self;
+        (timeline, store)
+    }
+
     /// What every state keeps, told to a caller: a run leads to it, its timeline is lawful, and where no call is under
     /// way the nodes spell the tree that the timeline's commits play.
     pub fn told(&self)

@@ -1,0 +1,199 @@
+//! Lists of calls, each on a thread of its own.
+
+ghost use Rattle.std.specs.Prelude.{◌≡◌, ◌^◌, ℕ, length, vec_len, sum_by, IfOk};
+ghost use Rattle.fs_nodes.specs.Graphs.{spell};
+ghost use Rattle.fs_nodes.specs.Stores.{graph_of};
+ghost use Rattle.fs_calls.specs.Outcomes.{play};
+ghost use Rattle.fs_calls.specs.Shapes.{seen};
+ghost use Rattle.fs_timeline.specs.Timeline.{IsLawful, commits};
+ghost use Rattle.fs_share.specs.Returns.{returns, AllReturned};
+
+use crate::gate::Gate;
+use crate::session::Tally;
+use crate::tree::{AtomFs, Closed, Named};
+use fs_calls::Call;
+use fs_core::Refusal;
+use std::alloc::Global;
+use std::marker::Brand;
+use std::sync::Wait;
+use std::sync::ledger::Blank;
+use std::thread;
+use std::thread::{Promise, PromisedHandle, Scope, Threads};
+use std::time::Clock;
+
+/// Why lists were not played to their end. The tree made so far is dropped.
+#[derive(Clone, Copy, Debug, PartialEq, Eq)]
+pub enum ListsFault {
+    /// A worker could not be started.
+    NoWorker,
+    /// A call was refused, or there was no memory for a session or a list of workers.
+    Refused(Refusal),
+}
+
+/// That a worker played so many calls.
+#[derive(Clone, Copy)]
+struct Plays(usize);
+
+impl<N: Named> Promise<Result<Tally<N>, Refusal>> for Plays {
+    ghost use Rattle.std.specs.Prelude.{◌≡◌, IfOk};
+
+    ghost kept_by = { λ plays played. IfOk played (λ tally. tally.count ≡ plays.0) };
+}
+
+type Worker<N> = PromisedHandle<Result<Tally<N>, Refusal>, Plays>;
+
+/// What is answered where memory runs out.
+fn out_of_memory() -> ListsFault {
+    ListsFault::Refused(Refusal::OutOfMemory)
+}
+
+/// Plays a list by a session of its own.
+fn play_list<N: Named, R: Wait + Clock, G: Gate>(
+    rt: &R,
+    alloc: Global,
+    fs: &AtomFs<N>,
+    list: &[Call],
+    gate: &G,
+) -> Result<Tally<N>, Refusal>
+    ensures { IfOk result (λ tally. tally.count ≡ length list.now) }
+{
+    let Ok(mut session) = fs.session(rt) else {
+        return Err(Refusal::OutOfMemory);
+    };
+    for call in list {
+        session.call(rt, alloc, call, gate)?;
+    }
+    Ok(session.end())
+}
+
+/// Starts a worker on a list.
+fn start<'s, E, N: Named + Send + Sync, R: Wait + Clock + Sync, G: Gate + Sync>(
+    rt: &'s R,
+    alloc: Global,
+    scope: &Scope<'s, E>,
+    fs: &'s AtomFs<N>,
+    list: &'s [Call],
+    gate: &'s G,
+) -> Result<Worker<N>, ListsFault>
+    ensures { IfOk result (λ worker. worker.promise.0 ≡ length list.now) }
+{
+    match scope.spawn_with(
+        Plays(list.len()),
+        move || play_list(rt, alloc, fs, list, gate),
+    ) {
+        Ok(worker) => Ok(worker),
+        Err(_) => Err(ListsFault::NoWorker),
+    }
+}
+
+/// Starts a worker on each list.
+fn start_all<'s, E, N: Named + Send + Sync, R: Wait + Clock + Sync, G: Gate + Sync>(
+    rt: &'s R,
+    alloc: Global,
+    scope: &Scope<'s, E>,
+    fs: &'s AtomFs<N>,
+    lists: &'s [Vec<Call>],
+    gate: &'s G,
+) -> Result<Vec<Worker<N>>, ListsFault>
+    ensures { IfOk result (λ workers. sum_by (λ worker. worker.promise.0) workers.items ≡ sum_by vec_len lists.now) }
+{
+    let mut workers = Vec::new(alloc);
+    for list in lists {
+        let worker = start(rt, alloc, scope, fs, list.as_slice(), gate)?;
+        if workers.push(worker).is_err() {
+            return Err(out_of_memory());
+        }
+    }
+    Ok(workers)
+}
+
+/// Waits for a worker.
+fn join<N: Named, R: Threads>(rt: &R, worker: Worker<N>) -> Result<Tally<N>, ListsFault>
+    ensures { IfOk result (λ tally. tally.count ≡ worker.promise.0) }
+{
+    match worker.join(rt) {
+        Ok(tally) => Ok(tally),
+        Err(refusal) => Err(ListsFault::Refused(refusal)),
+    }
+}
+
+/// Waits for each worker.
+fn join_all<N: Named, R: Threads>(
+    rt: &R,
+    alloc: Global,
+    workers: Vec<Worker<N>>,
+) -> Result<Vec<Tally<N>>, ListsFault>
+    ensures { IfOk result (λ tallies. sum_by (λ tally. tally.count) tallies.items ≡ sum_by (λ worker. worker.promise.0) workers.items) }
+{
+    let mut tallies = Vec::new(alloc);
+    for worker in workers {
+        let tally = join(rt, worker)?;
+        if tallies.push(tally).is_err() {
+            return Err(out_of_memory());
+        }
+    }
+    Ok(tallies)
+}
+
+/// Plays each list by a worker of its own.
+fn play_lists<N: Named + Send + Sync, R: Threads + Wait + Clock + Sync, G: Gate + Sync>(
+    rt: &R,
+    alloc: Global,
+    fs: &AtomFs<N>,
+    lists: &[Vec<Call>],
+    gate: &G,
+) -> Result<Vec<Tally<N>>, ListsFault>
+    ensures { IfOk result (λ tallies. sum_by (λ tally. tally.count) tallies.items ≡ sum_by vec_len lists.now) }
+{
+    thread::scope(
+        thread::scope_env(),
+        rt,
+        |scope| -> Result<Vec<Tally<N>>, ListsFault>
+            ensures { IfOk result (λ tallies. sum_by (λ tally. tally.count) tallies.items ≡ sum_by vec_len lists.entry.now) }
+        {
+            let workers = start_all(rt, alloc, scope, fs, lists, gate)?;
+            join_all(rt, alloc, workers)
+        },
+    )
+}
+
+/// The same on a tree of a name of its own.
+fn run_named<N: Named + Send + Sync, R: Threads + Wait + Clock + Sync, G: Gate + Sync>(
+    rt: &R,
+    alloc: Global,
+    blank: Blank,
+    lists: &[Vec<Call>],
+    gate: &G,
+) -> Result<Closed, ListsFault>
+    requires name { blank.name ≡ N.name }
+    requires parts { blank.parts ≡ N.parts }
+    requires all { blank.parts ≡ 2 ^ 63 }
+    ensures lawful { IfOk result (λ closed. IsLawful closed.timeline.entries) }
+    ensures spelled { IfOk result (λ closed. AllReturned closed.timeline.entries → spell (graph_of closed.store) ≡ seen (play (commits closed.timeline.entries))) }
+    ensures returns { IfOk result (λ closed. returns closed.timeline.entries ≡ sum_by vec_len lists.now) }
+{
+    let Ok(fs) = AtomFs::<N>::open(rt, alloc, blank) else {
+        return Err(out_of_memory());
+    };
+    let tallies = play_lists(rt, alloc, &fs, lists, gate)?;
+    let workers = tallies.len();
+    let closed = fs.close(rt, tallies);
+    if closed.sessions != workers {
+        return Err(ListsFault::NoWorker);
+    }
+    Ok(closed)
+}
+
+/// Plays each list on a new tree by a worker of its own, with a session of its own, and ends the tree.
+pub fn run_lists<R: Threads + Wait + Clock + Sync, G: Gate + Sync>(
+    rt: &R,
+    alloc: Global,
+    lists: &[Vec<Call>],
+    gate: &G,
+) -> Result<Closed, ListsFault>
+    ensures lawful { IfOk result (λ closed. IsLawful closed.timeline.entries) }
+    ensures spelled { IfOk result (λ closed. AllReturned closed.timeline.entries → spell (graph_of closed.store) ≡ seen (play (commits closed.timeline.entries))) }
+    ensures returns { IfOk result (λ closed. returns closed.timeline.entries ≡ sum_by vec_len lists.now) }
+{
+    run_named::<Brand, R, G>(rt, alloc, Blank::new(1 << 63), lists, gate)
+}

@@ -1,0 +1,102 @@
+//! What one thread holds of a tree.
+
+ghost use Rattle.std.specs.Prelude.{◌≡◌, ◌+◌, OnOk, OnErr};
+ghost use Rattle.fs_share.specs.Returns.{answered};
+
+use crate::desk::count_of;
+use crate::gate::Gate;
+use crate::tree::{AtomFs, Named};
+use fs_calls::{Call, Reply};
+use fs_core::{Refusal, Stepped};
+use fs_names::{CallNo, SeatNo};
+use fs_nodes::NodeNo;
+use std::alloc::Global;
+use std::sync::Wait;
+use std::sync::ledger::Share;
+use std::time::Clock;
+
+/// The number of a call, and its reply.
+#[derive(Drop)]
+pub struct Answer {
+    pub call: CallNo,
+    pub reply: Reply,
+}
+
+/// A seat of one's own in a tree.
+#[derive(Drop)]
+pub struct Session<'a, N: Named> {
+    pub(crate) fs: &'a AtomFs<N>,
+    pub(crate) seat: SeatNo,
+    /// How many calls returned.
+    pub count: u64,
+    pub(crate) share: Share<N>,
+    ghost one_part: { share.parts ≡ 1 },
+    ghost counted: { share.amount ≡ count },
+}
+
+/// How many calls of a session returned.
+#[derive(Drop)]
+pub struct Tally<N: Named> {
+    pub count: u64,
+    pub(crate) share: Share<N>,
+    ghost one_part: { share.parts ≡ 1 },
+    ghost counted: { share.amount ≡ count },
+}
+
+impl<'a, N: Named> Session<'a, N> {
+    /// Begins a call and does its steps, one event under the core's lock at a time, until it returns. After each step
+    /// the lock is let go and the gate is called; where another call holds the node that is next, the session waits
+    /// until that node is free. `SeatBusy` comes where the core has not the session's seat or no call under way on it.
+    pub fn call<R: Wait + Clock, G: Gate>(
+        &mut self,
+        rt: &R,
+        alloc: Global,
+        call: &Call,
+        gate: &G,
+    ) -> Result<Answer, Refusal>
+        ensures ok { OnOk result (self.new.count ≡ self.old.count + 1) }
+        ensures err { OnErr result (self.new.count ≡ self.old.count) }
+    {
+        let number = self.fs.begin(rt, alloc, self.seat, call)?;
+        let mut wanted = None;
+        for _ in rt.forever() {
+            let stepped = self.event(rt, wanted);
+            gate.after(rt, &stepped);
+            wanted = match stepped {
+                Stepped::Returned(reply) => {
+                    return Ok(Answer {
+                        call: number,
+                        reply,
+                    });
+                }
+                Stepped::Idle => return Err(Refusal::SeatBusy),
+                Stepped::Busy(node, _) => Some(node),
+                _ => None,
+            };
+        }
+        unreachable!()
+    }
+
+    /// One step under the lock, once the node that is wanted is free.
+    fn event<R: Wait>(&mut self, rt: &R, wanted: Option<NodeNo>) -> Stepped
+        ensures { self.new.count ≡ self.old.count + answered result }
+    {
+        let Session {
+            fs,
+            seat,
+            count,
+            share,
+        } = self;
+        let stepped = fs.step(rt, *seat, wanted, share);
+        *count += count_of(&stepped);
+        stepped
+    }
+
+    /// Ends the session.
+    pub fn end(self) -> Tally<N>
+        ensures { result.count ≡ self.entry.count }
+    {
+        let Session { count, share, .. } = self;
+        Tally { count, share }
+    }
+}

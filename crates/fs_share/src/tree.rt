@@ -1,0 +1,143 @@
+//! A tree that sessions share, and its end.
+
+ghost use Rattle.std.specs.Prelude.{◌≡◌, ◌+◌, ◌<◌, ◌^◌, length, vec_len, sum_by, IfOk};
+ghost use Rattle.fs_nodes.specs.Graphs.{spell};
+ghost use Rattle.fs_nodes.specs.Stores.{graph_of};
+ghost use Rattle.fs_calls.specs.Outcomes.{play};
+ghost use Rattle.fs_calls.specs.Shapes.{seen};
+ghost use Rattle.fs_timeline.specs.Timeline.{IsLawful, commits};
+ghost use Rattle.fs_share.specs.Returns.{answered, returns, AllReturned};
+
+use crate::desk::Desk;
+use crate::session::{Session, Tally};
+use fs_calls::Call;
+use fs_core::{Core, Refusal, Stepped};
+use fs_names::{CallNo, SeatNo};
+use fs_nodes::{NodeNo, Store};
+use fs_timeline::Timeline;
+use std::alloc::{AllocError, Global};
+use std::marker::{Brand, PhantomData};
+use std::sync::ledger::{Blank, Ledger, Share};
+use std::sync::{Condvar, Mutex, MutexGuard, Wait};
+
+/// Names a tree.
+pub trait Named: Ledger {}
+
+impl Named for Brand {}
+
+/// That the tree's ledger has 2^63 parts.
+#[derive(Drop)]
+pub(crate) struct Whole<N: Named> {
+    of: PhantomData<N>,
+    ghost parts: { N.parts ≡ 2 ^ 63 },
+}
+
+/// A tree that sessions share.
+#[derive(Drop)]
+pub struct AtomFs<N: Named> {
+    desk: Mutex<Desk<N>>,
+    freed: Condvar,
+    whole: Whole<N>,
+}
+
+/// What is left of a tree: its timeline, its nodes, and how many sessions it had.
+#[derive(Drop)]
+pub struct Closed {
+    pub timeline: Timeline,
+    pub store: Store,
+    pub sessions: usize,
+}
+
+impl<N: Named> AtomFs<N> {
+    /// A tree with the root alone. The only error is a lack of memory.
+    pub fn open<R: Wait>(_rt: &R, alloc: Global, blank: Blank) -> Result<AtomFs<N>, AllocError>
+        requires name { blank.name ≡ N.name }
+        requires parts { blank.parts ≡ N.parts }
+        requires all { blank.parts ≡ 2 ^ 63 }
+    {
+        let core = Core::new(alloc)?;
+        let (book, rest) = blank.open::<N>();
+        Ok(AtomFs {
+            desk: Mutex::new(Desk {
+                core,
+                book,
+                rest,
+                waiting: 0,
+            }),
+            freed: Condvar::new(),
+            whole: Whole { of: PhantomData },
+        })
+    }
+
+    /// A session with a seat of its own. The only error is a lack of memory.
+    pub fn session<R: Wait>(&self, rt: &R) -> Result<Session<'_, N>, AllocError>
+        ensures { IfOk result (λ session. session.count ≡ 0) }
+    {
+        let (seat, share) = self.desk.lock(rt).seat()?;
+        Ok(Session {
+            fs: self,
+            seat,
+            count: 0,
+            share,
+        })
+    }
+
+    /// A call begins on a seat.
+    pub(crate) fn begin<R: Wait>(
+        &self,
+        rt: &R,
+        alloc: Global,
+        seat: SeatNo,
+        call: &Call,
+    ) -> Result<CallNo, Refusal> {
+        self.desk.lock(rt).begin(alloc, seat, call)
+    }
+
+    /// The lock, once no call holds the node that is wanted. Who waits is counted, and a node that is let go wakes the
+    /// sessions that wait. Both happen under the lock, so that no wake-up falls between.
+    fn lock<R: Wait>(&self, rt: &R, wanted: Option<NodeNo>) -> MutexGuard<'_, Desk<N>> {
+        let mut desk = self.desk.lock(rt);
+        let Some(node) = wanted else {
+            return desk;
+        };
+        desk.waiting = desk.waiting.wrapping_add(1);
+        let mut desk = self.freed.wait_while(rt, desk, |desk| desk.is_held(node));
+        desk.waiting = desk.waiting.wrapping_sub(1);
+        desk
+    }
+
+    /// One step of a seat's call under the lock, once no call holds the node that is wanted.
+    pub(crate) fn step<R: Wait>(
+        &self,
+        rt: &R,
+        seat: SeatNo,
+        wanted: Option<NodeNo>,
+        mine: &mut Share<N>,
+    ) -> Stepped
+        requires { 0 < mine.old.parts }
+        ensures parts { mine.new.parts ≡ mine.old.parts }
+        ensures amount { mine.new.amount ≡ mine.old.amount + answered result }
+        ensures room { mine.new.amount < 2 ^ 64 }
+    {
+        let mut desk = self.lock(rt, wanted);
+        let stepped = desk.step(seat, mine);
+        let wakes = desk.waiting > 0 && matches!(stepped, Stepped::LetGo(_));
+        drop(desk);
+        if wakes {
+            self.freed.notify_all();
+        }
+        stepped
+    }
+
+    /// Ends the tree. It takes no memory.
+    pub fn close<R: Wait>(self, _rt: &R, tallies: Vec<Tally<N>>) -> Closed
+        ensures lawful { IsLawful result.timeline.entries }
+        ensures spelled { AllReturned result.timeline.entries → spell (graph_of result.store) ≡ seen (play (commits result.timeline.entries)) }
+
+        // Where each session handed in its tally, as many calls returned as these add up to.
+        ensures returns { vec_len tallies ≡ result.sessions → returns result.timeline.entries ≡ sum_by (λ tally. tally.count) tallies.items }
+    {
+        let AtomFs { desk, whole, .. } = self;
+        desk.into_inner().close(whole, tallies)
+    }
+}
