@@ -6,8 +6,8 @@
 //! one changes nothing; a step does one move of the call on a seat, and cannot fail.
 //!
 //! Enter at `Core::new`, `seat`, `begin`, `step` and `timeline`. What a begin and a step do is
-//! `fs_laws/specs/States.antt`. In `specs/` here `Machines` says which of those states a core is in, and `Events` what
-//! a list of events does; the others tie the code to them, and change no meaning.
+//! `fs_laws/specs/States.antt`. In `specs/` here `Machines` says which of those states a core is in, `Answers` what its
+//! answers are there, and `Events` what a list of events does; `specs/code/` ties the code to them, and changes no meaning.
 #![tactic(auto)]
 
 mod beginning;

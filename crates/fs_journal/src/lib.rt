@@ -1,12 +1,12 @@
-//! Journals: entries, the timeline of a run in memory, and the checker.
+//! The checker of journals.
 //!
-//! A `Timeline` is its entries in order and a number of reserved places, so that `push` neither allocates nor fails.
 //! `check` answers `Lawful` exactly on the lawful timelines, and else the place and the kind of the first entry that
-//! does not fit those before it. It reads the entries once, and trusts nothing about who wrote them.
+//! does not fit those before it. It reads the entries once, plays their commits on a sequential tree, and trusts nothing
+//! about who wrote them: call numbers and seats may be any numbers.
 //!
-//! Enter at `check` or at `Timeline::new`. The definitions are in `specs/`: `Timeline` (well formed, due, lawful) and
-//! `Verdicts`; the module `laws` ties one to the other. `Knowledge` and `Calls` say what the code of the checker keeps,
-//! and change no meaning.
+//! Enter at `check`. What is lawful, and the verdict, is defined in `fs_timeline`, whose types are handed on here;
+//! `specs/Knowledge.antt` there is what a checker knows of the entries so far. `specs/code/` here says how the tables of
+//! the code are that knowledge, and changes no meaning.
 #![tactic(auto)]
 
 mod calls;

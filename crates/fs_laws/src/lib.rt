@@ -1,9 +1,8 @@
-//! The machine as a relation, and what holds of all its runs. The functions have no bodies: the contract of each is a
-//! law.
+//! What holds of all runs of the machine. The functions have no bodies: the contract of each is a law.
 //!
 //! `laws::linearization` is the theorem: over every run the timeline is lawful, and where no call is under way the
 //! nodes spell the tree that the commits play. Beside it stand the laws of helping, of progress, and of a call that
-//! runs alone. `fs_core` proves that its begins and steps are those of the relation, so each law holds of the running
+//! runs alone. `fs_core` proves that its begins and steps are those of the machine, so each law holds of the running
 //! code.
 //!
 //! Enter at the module `laws`. Read in `specs/`: `States` (states, begins, steps, runs), `Headline` (the theorem),

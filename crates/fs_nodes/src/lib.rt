@@ -6,7 +6,7 @@
 //! of places, without an index.
 //!
 //! Enter at `Store`. The definitions are in `specs/`: `Graphs` (graphs, their changes, and the tree that a graph
-//! spells) and `Stores` (the graph that a store is, by its `Places`). `Edits` and `Picks` serve the code, and change no
+//! spells) and `Stores` (the graph that a store is, by its `Places`). `specs/code/` serves the code, and changes no
 //! meaning.
 #![tactic(auto)]
 

@@ -6,7 +6,8 @@
 //! no other call: who holds a node, and whom a rename helps, is decided in `fs_core`.
 //!
 //! Enter at `Op::begin` and `Op::next`. The definitions that the contracts cite are `fs_machine/specs/Works.antt` and
-//! `Moves.antt`; those in `specs/` here tie the fields of an `Op` to them, and change no meaning.
+//! `Moves.antt`. `specs/Views.antt` here says what the fields of an `Op` are in these words; `specs/code/` ties the code
+//! to them, and changes no meaning. The modules are named as what they do: `begin`, `next`, `take`, and so on.
 #![tactic(auto)]
 
 mod begin;

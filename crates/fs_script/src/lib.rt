@@ -5,8 +5,8 @@
 //! store spell, each directory followed at once by what is below it, and leaves the text as it was if it fails.
 //!
 //! Enter at `read_script` and `write_tree`. The definitions are in `specs/`: `Script` (what reading gives), `Limits`
-//! and `TreeText`; `docs/FORMATS.md` has them in words. `Walks` is about the way through the nodes of a store, and
-//! changes no meaning.
+//! and `TreeText`; `docs/FORMATS.md` has them in words. `specs/code/Walks.antt` is about the way through the nodes of
+//! a store, and changes no meaning.
 #![tactic(auto)]
 
 mod draft;

@@ -6,8 +6,8 @@
 //! nothing about the text.
 //!
 //! Enter at `read_entries` and `write_entry`. The grammar is in `specs/`, as functions on lists of bytes: `Lines`,
-//! `Words`, `Calls`, `Journal`; `docs/FORMATS.md` has it in words. `Fits` says which entries are read back; `Answers`
-//! and `Additions` are forms of contracts.
+//! `Words`, `Calls`, `Journal`; `docs/FORMATS.md` has it in words. `Fits` says which entries are read back;
+//! `specs/code/` has forms of contracts.
 #![tactic(auto)]
 
 pub mod addition;

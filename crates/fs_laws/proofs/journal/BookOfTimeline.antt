@@ -1,4 +1,4 @@
--- The book of a timeline, against the journal's own words.
+-- The book of a timeline, against the definitions of `fs_timeline`.
 use Rattle.std.proofs.Common.{◌≡◌, ℕ, Bool, true, false, cond, not, eqb, List, [], ◌∷◌, ◌++◌, Option, Some, None, is_some, refl, sym, ap, ap₂, ◌∙◌, append_assoc, append-nil, subst, ◌==◌}
 use mathlib.Core.Path.{fun_ext}
 use Rattle.fs_names.specs.First.{on, first}
@@ -44,7 +44,7 @@ changed_is n v f g m same = go (eqb m n) (n == m) refl refl
     go true false e h = let z : (n == m) ≡ true = ap (λ (x : ℕ). n == x) (eqb_true m n e) ∙ eqb_refl n in let y : false ≡ true = sym h ∙ z in cc
     go false true e h = let z : eqb m n ≡ true = ap (λ (x : ℕ). eqb x n) (sym (eqb_true n m h)) ∙ eqb_refl n in let y : false ≡ true = sym e ∙ z in cc
 
--- what the book and the journal's knowledge have in common
+-- what the book and a checker's knowledge have in common
 pub record Agrees (book : Book) (k : Knowledge) : Type 0 where
   pub call : (c : ℕ) → book.call c ≡ k.calls c
   pub due : (c : ℕ) → book.due c ≡ k.replies c
@@ -280,11 +280,11 @@ ties_from t book k before (e ∷ es) a true_of lawful l =
     subst (λ (x : List Entry). Ties (book_of (noted book e) es) x) (append_assoc before (e ∷ []) es)
     (ties_from t (noted book e) (taken_in k e) (before ++ e ∷ []) es (agrees_step t book k e a l.0) (true_of_taken_in k before e true_of none) ((lawful_appended before e).1 (lawful, fits.0, fits.1)) l.1)
 
--- the book of a run's timeline, in the journal's words
+-- the book of a run's timeline, in the words of `fs_timeline`
 pub run_ties : (s : State) → Run s → Ties (book_of start s.timeline) s.timeline
 run_ties s run = ties_from trees_as_maps start empty_knowledge [] s.timeline agrees_start true_start (record { well_formed = tt; replies = tt }) (run_keeps s run).lawful
 
--- the theorem in the journal's words
+-- the theorem in the words of `fs_timeline`
 pub linearizes : Linearization
 linearizes s run =
     let head : Headline s = headline_of s (run_keeps s run) in
