@@ -329,7 +329,9 @@ impl Core {
         ensures store { result.1 ≡ self.store }
     {
         let Core {
-            timeline, store, ..
+            timeline,
+            store,
+            ..
         } = self;
         (timeline, store)
     }

@@ -49,7 +49,7 @@ pub struct Closed {
 }
 
 impl<N: Named> AtomFs<N> {
-    /// A tree with the root alone. The only error is a lack of memory.
+    /// A tree with the root alone. The only error is out of memory.
     pub fn open<R: Wait>(_rt: &R, alloc: Global, blank: Blank) -> Result<AtomFs<N>, AllocError>
         requires name { blank.name ≡ N.name }
         requires parts { blank.parts ≡ N.parts }
@@ -69,7 +69,7 @@ impl<N: Named> AtomFs<N> {
         })
     }
 
-    /// A session with a seat of its own. The only error is a lack of memory.
+    /// A session with a seat of its own. The only error is out of memory.
     pub fn session<R: Wait>(&self, rt: &R) -> Result<Session<'_, N>, AllocError>
         ensures { IfOk result (λ session. session.count ≡ 0) }
     {
