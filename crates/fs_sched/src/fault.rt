@@ -42,7 +42,7 @@ impl RunFault {
 }
 
 /// The fault of a run whose input has this fault.
-pub(crate) fn run_fault(fault: ScriptFault) -> RunFault
+pub fn run_fault(fault: ScriptFault) -> RunFault
     ensures { result ≡ run_fault_of fault }
 {
     match fault.kind {

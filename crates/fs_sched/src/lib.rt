@@ -26,8 +26,11 @@ mod writing;
 
 pub use checking::check_journal;
 pub use device::{Device, Failed, Sink, Source};
-pub use fault::RunFault;
+pub use fault::{RunFault, run_fault};
+pub use reading::read_text;
 pub use running::{RunEnd, run_script};
 pub use schedule::{DRAW_LIMIT, Draws, Schedule};
 pub use seeding::{RUN_LIMIT, SEED_LIMIT, run_seeds};
 pub use texts::{EntryKind, number_of, run_text};
+pub use verdict_line::{is_lawful, push_verdict};
+pub use writing::write_text;

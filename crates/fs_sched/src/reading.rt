@@ -58,7 +58,7 @@ fn read_all<R: Source>(alloc: Global, reader: &mut R) -> Result<Vec<u8>, RunFaul
 }
 
 /// Reads a text to its end; of one that is too long, as much as tells so.
-pub(crate) fn read_text<R: Source>(alloc: Global, reader: &mut R) -> Result<Vec<u8>, RunFault>
+pub fn read_text<R: Source>(alloc: Global, reader: &mut R) -> Result<Vec<u8>, RunFault>
     requires { R.failures reader.old < 2 ^ 64 - 1 }
     ensures same { IfOk result (λ v. IfSome (R.remaining reader.old) (IsSameText v.items)) }
     ensures end { IfOk result (λ v. vec_len v ≤ TEXT_LIMIT → IsAtEnd (R.remaining reader.new)) }

@@ -7,7 +7,8 @@ use fs_text::Addition;
 use fs_timeline::{FaultKind, Verdict};
 use std::alloc::{AllocError, Global};
 
-pub(crate) fn is_lawful(verdict: &Verdict) -> bool
+/// Whether a verdict is that the journal is lawful.
+pub fn is_lawful(verdict: &Verdict) -> bool
     ensures { result ≡ is_lawful verdict.now }
 {
     matches!(verdict, Verdict::Lawful)
@@ -27,7 +28,8 @@ fn kind_text(kind: FaultKind) -> &'static [u8]
     }
 }
 
-pub(crate) fn push_verdict(verdict: &Verdict, line: &mut Addition) -> Result<(), AllocError>
+/// Appends the line of a verdict. The only error is out of memory.
+pub fn push_verdict(verdict: &Verdict, line: &mut Addition) -> Result<(), AllocError>
     ensures ok { OnOk result (line.new.added ≡ line.old.added ++ verdict_line verdict.now) }
     ensures before { line.new.before ≡ line.old.before }
 {

@@ -8,7 +8,7 @@ use crate::device::Sink;
 use crate::fault::RunFault;
 
 /// Writes the whole text, piece by piece. After an `Err` a beginning of it was written, and no write is tried again.
-pub(crate) fn write_text<W: Sink>(writer: &mut W, text: &[u8]) -> Result<(), RunFault>
+pub fn write_text<W: Sink>(writer: &mut W, text: &[u8]) -> Result<(), RunFault>
     requires { W.failures writer.old < 2 ^ 64 - 1 }
     ensures ok { OnOk result (Appends (W.contents writer.old) (W.contents writer.new) text.now) }
     ensures err { OnErr result (WritesBeginning text.now (W.contents writer.old) (W.contents writer.new)) }

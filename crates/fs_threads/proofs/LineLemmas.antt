@@ -1,0 +1,42 @@
+-- The line of what was read is the line of the input, and its number is that of the script's calls.
+use Rattle.std.proofs.Common.{◌≡◌, ℕ, ◌+◌, ◌≤◌, cond, List, [], ◌∷◌, length, map, sum_by, Option, Some, None, Result, Ok, Err, refl, sym, ap, ◌∙◌, subst, arith}
+use Rattle.std.specs.Prelude.{IfSome}
+use Rattle.std.proofs.lemmas.List.Sums.{sum_by-cons}
+use Rattle.fs_calls.specs.declared.call.Call.{Call}
+use Rattle.fs_timeline.specs.declared.entry.Entry.{Entry}
+use Rattle.fs_timeline.specs.declared.entry.Entry.TheVariants.{Begin, Commit, Return}
+use Rattle.fs_text.specs.declared.fault.ScriptFault.{ScriptFault}
+use Rattle.fs_script.specs.Script.{script_of}
+use Rattle.fs_sched.specs.Devices.{IsSameText}
+use Rattle.fs_sched.specs.Runs.{calls_in}
+use Rattle.fs_sched.specs.RunTexts.{is_of, number_of}
+use Rattle.fs_sched.specs.declared.fault.RunFault.TheVariants as run
+use Rattle.fs_sched.specs.declared.texts.EntryKind.TheVariants as kind
+use Rattle.fs_sched.proofs.RunLemmas.{script_same, known_script}
+use Rattle.fs_share.specs.Returns.{returns}
+use Rattle.fs_threads.specs.Faults.{IsOfInput}
+use Rattle.fs_threads.specs.Lines.{lawful_line, IsLineOf}
+use Rattle.fs_threads.specs.declared.fault.ThreadsFault.{ThreadsFault}
+use Rattle.fs_threads.specs.declared.fault.ThreadsFault.TheVariants.{Run, Lists}
+
+-- the returns of a timeline, by two words
+number_cons : (e : Entry) (es : List Entry) → number_of kind.Return (e ∷ es) ≡ cond (is_of kind.Return e) 1 0 + number_of kind.Return es
+number_cons e es = sum_by-cons (λ (x : Entry). cond (is_of kind.Return x) 1 0) e es
+
+pub number_is : (es : List Entry) → number_of kind.Return es ≡ returns es
+number_is [] = refl
+number_is (Begin c seat call ∷ es) = omega (arith, number_cons (Begin c seat call) es, number_is es)
+number_is (Commit c ∷ es) = omega (arith, number_cons (Commit c) es, number_is es)
+number_is (Return c r ∷ es) = omega (arith, number_cons (Return c r) es, number_is es)
+
+-- the numbers of calls of lists, by two words
+pub calls_are : {V : Type 0} (f : V → List Call) (len : V → ℕ) → ((v : V) → len v ≡ length (f v)) → (lists : List V) → sum_by len lists ≡ calls_in (map f lists)
+calls_are f len h [] = refl
+calls_are f len h (x ∷ xs) = omega (arith, sum_by-cons len x xs, h x, calls_are f len h xs)
+
+pub known_line : (r : Option (List ℕ)) (text items line : List ℕ) → text ≡ items → IfSome r (IsSameText items) → IsLineOf text line → IfSome r (λ input. IsLineOf input line)
+known_line None text items line e s h = tt
+known_line (Some input) text items line e s h = (h.0, sym (script_same items input s) ∙ sym (ap script_of e) ∙ h.1, h.2)
+
+pub known_fault : (r : Option (List ℕ)) (text items : List ℕ) (fault : ThreadsFault) (f : ScriptFault) → text ≡ items → IfSome r (IsSameText items) → IsOfInput (script_of text) fault → fault ≡ Run (run.Input f) → IfSome r (λ input. script_of input ≡ Err f)
+known_fault r text items fault f e s h k = known_script r text items (Err f) e s (subst (IsOfInput (script_of text)) k h)

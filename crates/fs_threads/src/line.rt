@@ -1,0 +1,48 @@
+//! The line of a verdict on threads.
+
+ghost use Rattle.std.specs.Prelude.{◌≡◌, ◌++◌, OnOk, IfOk, true};
+ghost use Rattle.fs_timeline.specs.Timeline.{IsLawful};
+ghost use Rattle.fs_sched.specs.RunTexts.{number_of};
+ghost use Rattle.fs_threads.specs.Lines.{lawful_line, line_of};
+
+use fs_journal::check;
+use fs_sched::{EntryKind, is_lawful, number_of, push_verdict};
+use fs_text::Addition;
+use fs_timeline::{Entry, Verdict};
+use std::alloc::{AllocError, Global};
+
+/// A line, and whether it says that the timeline is lawful.
+#[derive(Drop)]
+pub(crate) struct MadeLine {
+    pub text: Vec<u8>,
+    pub lawful: bool,
+}
+
+fn push_line(returned: usize, verdict: &Verdict, line: &mut Addition) -> Result<(), AllocError>
+    ensures ok { OnOk result (line.new.added ≡ line.old.added ++ line_of returned verdict.now) }
+    ensures before { line.new.before ≡ line.old.before }
+{
+    match verdict {
+        Verdict::Lawful => {
+            line.push(b"lawful calls ")?;
+            line.push_number(returned as u64)?;
+            line.push(b"\n")
+        }
+        Verdict::Fault(_, _) => push_verdict(verdict, line),
+    }
+}
+
+/// The line of a lawful timeline. The only error is out of memory.
+pub(crate) fn make_line(alloc: Global, entries: &[Entry]) -> Result<MadeLine, AllocError>
+    requires { IsLawful entries.now }
+    ensures text { IfOk result (λ made. made.text.items ≡ lawful_line (number_of EntryKind.Return entries.now)) }
+    ensures lawful { IfOk result (λ made. made.lawful ≡ true) }
+{
+    let verdict = check(alloc, entries)?;
+    let mut line = Addition::new(Vec::new(alloc));
+    push_line(number_of(EntryKind::Return, entries), &verdict, &mut line)?;
+    Ok(MadeLine {
+        text: line.kept(),
+        lawful: is_lawful(&verdict),
+    })
+}

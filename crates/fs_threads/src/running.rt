@@ -1,0 +1,83 @@
+//! The runner that plays a script's blocks on threads.
+
+ghost use Rattle.std.specs.Prelude.{◌≡◌, ◌≢◌, ◌+◌, ◌-◌, ◌<◌, ◌^◌, ℕ, List, true, Ok, Err, IfOk, OnOk, OnErr, IfErr, IfSome, IsErrOf};
+ghost use Rattle.std.specs.Io.KnownBytes.{Appends, IsAtEnd};
+ghost use Rattle.fs_text.specs.declared.fault.ScriptFault.{ScriptFault};
+ghost use Rattle.fs_script.specs.Script.{script_of};
+ghost use Rattle.fs_sched.specs.Devices.{WritesBeginning};
+ghost use Rattle.fs_threads.specs.Faults.{IsOfInput};
+ghost use Rattle.fs_threads.specs.Lines.{IsLineOf};
+
+use crate::fault::{ThreadsFault, threads_fault};
+use crate::line::{MadeLine, make_line};
+use fs_sched::{RunFault, Sink, Source, read_text, run_fault, write_text};
+use fs_script::read_script;
+use fs_share::{Open, run_lists};
+use std::alloc::Global;
+use std::sync::Wait;
+use std::thread::Threads;
+use std::time::Clock;
+
+/// The line of the script that a text has, once its blocks were played on threads.
+fn line_of_script<R: Threads + Wait + Clock + Sync>(
+    rt: &R,
+    alloc: Global,
+    text: &[u8],
+) -> Result<MadeLine, ThreadsFault>
+    ensures line { IfOk result (λ made. IsLineOf text.now made.text.items) }
+    ensures lawful { IfOk result (λ made. made.lawful ≡ true) }
+    ensures fault { IfErr result (IsOfInput (script_of text.now)) }
+{
+    let script = match read_script(alloc, text) {
+        Ok(script) => script,
+        Err(fault) => return Err(ThreadsFault::Run(run_fault(fault))),
+    };
+    let closed = match run_lists(rt, alloc, script.lists.as_slice(), &Open) {
+        Ok(closed) => closed,
+        Err(fault) => return Err(threads_fault(fault)),
+    };
+    match make_line(alloc, closed.timeline.entries()) {
+        Ok(made) => Ok(made),
+        Err(_) => Err(ThreadsFault::Run(RunFault::OutOfMemory)),
+    }
+}
+
+/// Reads a script to its end, plays each of its blocks by a worker of its own, whatever its schedule says, has the closed
+/// timeline checked, and writes one line: `lawful calls` and the number of calls that returned. The answer is whether the
+/// timeline is lawful, and by the clauses it is. The line is made before its first byte is written.
+pub fn run_threads<R: Threads + Wait + Clock + Sync, S: Source, W: Sink>(
+    rt: &R,
+    alloc: Global,
+    reader: &mut S,
+    writer: &mut W,
+) -> Result<bool, ThreadsFault>
+    requires reads { S.failures reader.old < 2 ^ 64 - 1 }
+    requires writes { W.failures writer.old < 2 ^ 64 - 1 }
+
+    // Each call of the script returned, and what is written says how many they are.
+    ensures ran { OnOk result ((line : List ℕ) × IfSome (S.remaining reader.old) (λ input. IsLineOf input line) × Appends (W.contents writer.old) (W.contents writer.new) line) }
+    ensures lawful { IfOk result (λ lawful. lawful ≡ true) }
+    ensures end { OnOk result (IsAtEnd (S.remaining reader.new)) }
+    ensures input { (f : ScriptFault) → result ≡ Err (ThreadsFault.Run (RunFault.Input f)) → IfSome (S.remaining reader.old) (λ input. script_of input ≡ Err f) }
+
+    // A device is blamed only where it failed in this call.
+    ensures read { IsErrOf result (ThreadsFault.Run RunFault.Read) → S.failures reader.new ≡ S.failures reader.old + 1 }
+    ensures write { IsErrOf result (ThreadsFault.Run RunFault.Write) → W.failures writer.new ≡ W.failures writer.old + 1 }
+
+    // After a failed write a beginning of the line stands, and after every other error nothing was written.
+    ensures nothing { result ≢ Err (ThreadsFault.Run RunFault.Write) → OnErr result (writer.new ≡ writer.old) }
+    ensures beginning { IsErrOf result (ThreadsFault.Run RunFault.Write) → (line : List ℕ) × IfSome (S.remaining reader.old) (λ input. IsLineOf input line) × WritesBeginning line (W.contents writer.old) (W.contents writer.new) }
+{
+    let text = match read_text(alloc, reader) {
+        Ok(text) => text,
+        Err(fault) => return Err(ThreadsFault::Run(fault)),
+    };
+    let made = match line_of_script(rt, alloc, &text) {
+        Ok(made) => made,
+        Err(fault) => return Err(fault),
+    };
+    match write_text(writer, &made.text) {
+        Ok(()) => Ok(made.lawful),
+        Err(fault) => Err(ThreadsFault::Run(fault)),
+    }
+}
