@@ -1,5 +1,5 @@
 -- The line of what was read is the line of the input, and its number is that of the script's calls.
-use Rattle.std.proofs.Common.{◌≡◌, ℕ, ◌+◌, ◌≤◌, cond, List, [], ◌∷◌, length, map, sum_by, Option, Some, None, Result, Ok, Err, refl, sym, ap, ◌∙◌, subst, arith}
+use Rattle.std.proofs.Common.{◌≡◌, ℕ, ◌+◌, cond, List, [], ◌∷◌, length, map, sum_by, Option, Some, None, Err, refl, sym, ap, ◌∙◌, subst, arith}
 use Rattle.std.specs.Prelude.{IfSome}
 use Rattle.std.proofs.lemmas.List.Sums.{sum_by-cons}
 use Rattle.fs_calls.specs.declared.call.Call.{Call}
@@ -15,9 +15,9 @@ use Rattle.fs_sched.specs.declared.texts.EntryKind.TheVariants as kind
 use Rattle.fs_sched.proofs.RunLemmas.{script_same, known_script}
 use Rattle.fs_share.specs.Returns.{returns}
 use Rattle.fs_threads.specs.Faults.{IsOfInput}
-use Rattle.fs_threads.specs.Lines.{lawful_line, IsLineOf}
+use Rattle.fs_threads.specs.Lines.{IsLineOf}
 use Rattle.fs_threads.specs.declared.fault.ThreadsFault.{ThreadsFault}
-use Rattle.fs_threads.specs.declared.fault.ThreadsFault.TheVariants.{Run, Lists}
+use Rattle.fs_threads.specs.declared.fault.ThreadsFault.TheVariants.{Run}
 
 -- the returns of a timeline, by two words
 number_cons : (e : Entry) (es : List Entry) → number_of kind.Return (e ∷ es) ≡ cond (is_of kind.Return e) 1 0 + number_of kind.Return es

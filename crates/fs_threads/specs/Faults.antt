@@ -1,5 +1,5 @@
 -- The faults of scripts on threads.
-use Rattle.std.specs.Prelude.{◌≡◌, Result, Ok, Err}
+use Rattle.std.specs.Prelude.{Result}
 use Rattle.fs_core.specs.declared.outcome.Refusal.TheVariants as refusal
 use Rattle.fs_text.specs.declared.fault.ScriptFault.{ScriptFault}
 use Rattle.fs_sched.specs.code.Stages.{IsFaultOrRefusal}
