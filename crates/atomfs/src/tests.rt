@@ -15,7 +15,7 @@ struct Ended {
     errors: Vec<u8>,
 }
 
-fn ended(alloc: Global, args: &[&str], input: &[u8]) -> Ended {
+fn run_with(alloc: Global, args: &[&str], input: &[u8]) -> Ended {
     let mut output = Vec::new(alloc);
     let mut errors = Vec::new(alloc);
     let status = status_of_args(alloc, args, input, &mut output, &mut errors);
@@ -143,7 +143,7 @@ fn answers(rt: HostRuntime) {
         (&["atomfs", "--version"], b"", 0, b"atomfs 0.1.0\n", b""),
     ];
     for (args, input, status, output, errors) in rows {
-        let ended = ended(rt.alloc(), args, input);
+        let ended = run_with(rt.alloc(), args, input);
         assert_eq!(rt; ended.status, status);
         assert_eq!(rt; ended.output.as_slice(), output);
         assert_eq!(rt; ended.errors.as_slice(), errors);

@@ -1,6 +1,6 @@
 //! Help, and usage errors.
 
-use super::{RUN_LIMIT, SEED_LIMIT, ended};
+use super::{RUN_LIMIT, SEED_LIMIT, run_with};
 use std::test::Fail;
 
 const HELP: &str = "\
@@ -104,7 +104,7 @@ fn help(rt: HostRuntime) {
         (&["atomfs", "help", "check"], CHECK_HELP),
     ];
     for (args, text) in rows {
-        let ended = ended(rt.alloc(), args, b"");
+        let ended = run_with(rt.alloc(), args, b"");
         assert_eq!(rt; ended.status, 0);
         assert_eq!(rt; ended.output.as_slice(), text.as_bytes());
         assert_eq!(rt; ended.errors.as_slice(), b"".as_slice());
@@ -173,7 +173,7 @@ fn usage_errors(rt: HostRuntime) {
         ),
     ];
     for (args, text) in rows {
-        let ended = ended(rt.alloc(), args, b"");
+        let ended = run_with(rt.alloc(), args, b"");
         assert_eq!(rt; ended.status, 2);
         assert_eq!(rt; ended.output.as_slice(), b"".as_slice());
         assert_eq!(rt; ended.errors.as_slice(), text.as_bytes());
