@@ -1,4 +1,4 @@
-//! What takes memory, done once more where memory was refused.
+//! What allocates, done once more after an allocation failed.
 
 ghost use Rattle.std.specs.Prelude.{◌≡◌, ◌<◌, ◌≤◌, ◌+◌, IfOk, OnOk, length};
 ghost use Rattle.fs_names.specs.declared.limits.TheConstants.{NODE_LIMIT};

@@ -1,4 +1,4 @@
-//! The calls on a core: each begins, once more where memory was refused, and goes on event by event to its return.
+//! The calls on a core: each begins, once more after an allocation failed, and goes on event by event to its return.
 
 ghost use Rattle.std.specs.Prelude.{◌≡◌, ◌<◌, length};
 

@@ -70,7 +70,7 @@ unless (Some fault) key = Err fault
 unfoldable pub reading : List ℕ → Result Key PathFault
 reading bytes = unless (path_fault bytes) (names bytes)
 
--- the fault is what reading finds; a lack of memory says nothing of the bytes
+-- the fault is what reading finds; out of memory says nothing of the bytes
 abbrev pub FailsWith : PathFault → Result Key PathFault → Type 0
 FailsWith OutOfMemory read = Unit {0}
 FailsWith NotAbsolute read = read ≡ Err NotAbsolute

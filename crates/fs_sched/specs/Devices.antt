@@ -10,7 +10,7 @@ use Rattle.fs_sched.specs.declared.fault.RunFault.TheVariants.{Input, Read, Writ
 abbrev pub IsSameText : List ℕ → List ℕ → Type 0
 IsSameText text input = (text ≡ input) ⊎ ((TEXT_LIMIT < length text) × (TEXT_LIMIT < length input))
 
--- the source failed once more, or memory ran out
+-- the source failed once more, or an allocation failed
 abbrev pub FailsToRead : ℕ → ℕ → RunFault → Type 0
 FailsToRead before after (Input f) = ⊥
 FailsToRead before after Read = after ≡ before + 1
@@ -18,7 +18,7 @@ FailsToRead before after Write = ⊥
 FailsToRead before after OutOfMemory = Unit {0}
 FailsToRead before after Full = ⊥
 
--- the fault of the input, which says what is wrong with it, or a lack of memory
+-- the fault of the input, which says what is wrong with it, or out of memory
 abbrev pub IsFaultOf : {X : Type 0} → Result X ScriptFault → RunFault → Type 0
 IsFaultOf given (Input f) = given ≡ Err f
 IsFaultOf given Read = ⊥

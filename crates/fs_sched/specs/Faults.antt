@@ -6,7 +6,7 @@ use Rattle.fs_text.specs.declared.fault.FaultKind.TheVariants as kind
 use Rattle.fs_sched.specs.declared.fault.RunFault.{RunFault}
 use Rattle.fs_sched.specs.declared.fault.RunFault.TheVariants.{Input, Read, Write, OutOfMemory, Full}
 
--- a lack of memory is no fault of the input
+-- out of memory is no fault of the input
 abbrev pub by_kind : ScriptFault → FaultKind → RunFault
 by_kind f kind.OutOfMemory = OutOfMemory
 by_kind f k = Input f

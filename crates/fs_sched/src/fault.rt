@@ -10,7 +10,7 @@ use thiserror::Error;
 /// others nothing.
 #[derive(Clone, Copy, Debug, PartialEq, Eq, Error)]
 pub enum RunFault {
-    /// The input is no script, or no journal: its first fault from the left. A lack of memory is `OutOfMemory`.
+    /// The input is no script, or no journal: its first fault from the left. An allocation that fails is `OutOfMemory`.
     #[error("{0}")]
     Input(ScriptFault),
     /// The reader failed in this call.
@@ -19,7 +19,7 @@ pub enum RunFault {
     /// The writer failed in this call.
     #[error("write failed")]
     Write,
-    /// A growth of memory was refused.
+    /// An allocation failed.
     #[error("out of memory")]
     OutOfMemory,
     /// A call was refused since all node numbers are in use.

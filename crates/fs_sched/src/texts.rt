@@ -95,7 +95,7 @@ fn end_line(alloc: Global, entries: &[Entry]) -> Result<Vec<u8>, AllocError>
 }
 
 /// The text of a run that ended with these entries and nodes: its journal, the tree that the nodes spell, and a last
-/// line with the numbers of entries of each kind. The only error is a lack of memory.
+/// line with the numbers of entries of each kind. The only error is out of memory.
 pub fn run_text(alloc: Global, entries: &[Entry], store: &Store) -> Result<Vec<u8>, AllocError>
     ensures { IfOk result (λ text. IsRunText entries.now (graph_of store.now) text.items) }
 {

@@ -52,7 +52,7 @@ last_set f (x ∷ []) y d (suc n) c len is = absurd (omega arith)
 last_set f (x ∷ z ∷ vs) y d zero c len is = absurd (omega arith)
 last_set f (x ∷ z ∷ vs) y d (suc n) c len is = ap (λ more. f x ∷ more) (last_set f (z ∷ vs) y d n c (omega arith) is)
 
--- a call was added to the last list, or memory ran out
+-- a call was added to the last list, or an allocation failed
 pub call_pushed : {V : Type 0} (f : V → List Call) (r : Result (Unit {0}) FaultKind) (vs : List V) (lists : List (List Call)) (old new d : V) (n : ℕ) (c : Call) → n + 1 ≡ length vs → map f vs ≡ lists → old ≡ get_or vs n d → Pushes r (f old) (f new) c
     → MatchResult r (λ u. map f (set vs n new) ≡ with_call c lists) (λ k. k ≡ kind.OutOfMemory)
 call_pushed f (Ok u) vs lists old new d n c len view at h = last_set f vs new d n c len (h ∙ ap (λ v. f v ++ c ∷ []) at) ∙ ap (with_call c) view

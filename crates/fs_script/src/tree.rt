@@ -204,7 +204,7 @@ fn push_tree(alloc: Global, store: &Store, line: &mut Addition) -> Result<(), Al
 }
 
 /// Appends the text of the tree that the nodes spell: a line `tree`, and then the root and everything below it, each
-/// directory followed at once by its entries in byte order of their names. An `Err`, for want of memory alone, leaves
+/// directory followed at once by its entries in byte order of their names. An `Err`, which is out of memory, leaves
 /// the text as it was.
 pub fn write_tree(alloc: Global, store: &Store, text: &mut Vec<u8>) -> Result<(), AllocError>
     ensures ok { OnOk result (AppendsTree (graph_of store.now) text.old.items text.new.items) }

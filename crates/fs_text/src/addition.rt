@@ -56,7 +56,7 @@ impl Addition {
         text
     }
 
-    /// Appends bytes as they are. The only error is a lack of memory.
+    /// Appends bytes as they are. The only error is out of memory.
     pub fn push(&mut self, bytes: &[u8]) -> Result<(), AllocError>
         ensures ok { OnOk result (self.new.added ≡ self.old.added ++ bytes.now) }
         ensures before { self.new.before ≡ self.old.before }
@@ -64,7 +64,7 @@ impl Addition {
         self.text.extend_from_slice(bytes)
     }
 
-    /// Appends a number in decimal, without leading zeros. The only error is a lack of memory.
+    /// Appends a number in decimal, without leading zeros. The only error is out of memory.
     pub fn push_number(&mut self, number: u64) -> Result<(), AllocError>
         ensures ok { OnOk result (self.new.added ≡ self.old.added ++ decimal number) }
         ensures before { self.new.before ≡ self.old.before }

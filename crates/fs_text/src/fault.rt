@@ -36,7 +36,7 @@ pub enum FaultKind {
     /// A limit is passed.
     #[error("TooLarge")]
     TooLarge,
-    /// A growth of memory was refused. It says nothing of the text.
+    /// An allocation failed. It says nothing of the text.
     #[error("OutOfMemory")]
     OutOfMemory,
     /// What a call returned has another form than a reply, or holds a name that is none.
@@ -44,7 +44,7 @@ pub enum FaultKind {
     BadReply,
 }
 
-/// The first fault of a text, with its line, counted from 1. A lack of memory has the line that was read when it came.
+/// The first fault of a text, with its line, counted from 1. Out of memory has the line that was read when the allocation failed.
 #[derive(Clone, Copy, Debug, PartialEq, Eq, Error)]
 #[error("line {line}: {kind}")]
 pub struct ScriptFault {

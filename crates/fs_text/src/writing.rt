@@ -207,7 +207,7 @@ fn push_entry(alloc: Global, entry: &Entry, line: &mut Addition) -> Result<(), A
     line.push(b"\n")
 }
 
-/// Appends the line of an entry. An `Err`, for want of memory alone, leaves the text as it was.
+/// Appends the line of an entry. An `Err`, which is out of memory, leaves the text as it was.
 pub fn write_entry(alloc: Global, entry: &Entry, text: &mut Vec<u8>) -> Result<(), AllocError>
     ensures ok { OnOk result (text.new.items ≡ text.old.items ++ entry_line entry.now) }
     ensures err { OnErr result (text.new.items ≡ text.old.items) }

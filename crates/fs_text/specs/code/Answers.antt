@@ -10,12 +10,12 @@ use Rattle.fs_text.specs.declared.fault.FaultKind.TheVariants as kind
 use Rattle.fs_text.specs.Journal.{fault_at}
 use Rattle.fs_text.specs.Lines.{is_empty}
 
--- the kind is the one that reading gives; a lack of memory says nothing of the text
+-- the kind is the one that reading gives; out of memory says nothing of the text
 abbrev pub FailsAs : {Y : Type 0} → FaultKind → Result Y FaultKind → Type 0
 FailsAs kind.OutOfMemory given = Unit {0}
 FailsAs k given = given ≡ Err k
 
--- what was returned, seen by view, is what reading gives, unless memory ran out
+-- what was returned, seen by view, is what reading gives, unless an allocation failed
 abbrev pub Gives : {X Y : Type 0} → (X → Y) → Result X FaultKind → Result Y FaultKind → Type 0
 Gives view (Ok x) given = given ≡ Ok (view x)
 Gives view (Err k) given = FailsAs k given
@@ -46,7 +46,7 @@ path_fault_of f = kind.BadPath f
 abbrev pub pushed_word : List (List ℕ) → List ℕ → Result (List (List ℕ)) FaultKind
 pushed_word words word = if is_empty word then Err kind.BadLine else Ok (words ++ word ∷ [])
 
--- a last item was added, unless memory ran out
+-- a last item was added, unless an allocation failed
 abbrev pub Pushes : {X : Type 0} → Result (Unit {0}) FaultKind → List X → List X → X → Type 0
 Pushes (Ok u) old new x = new ≡ old ++ x ∷ []
 Pushes (Err k) old new x = k ≡ kind.OutOfMemory
