@@ -3,6 +3,7 @@ pub mod ListLemmas
 pub mod KeyLemmas
 pub mod Children
 pub mod RowNames
+pub mod PathErrors
 pub mod ResolutionLemmas
 pub mod FaultLemmas
 pub mod OutcomeLemmas

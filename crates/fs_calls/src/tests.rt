@@ -1,7 +1,7 @@
 //! Values that calls and replies hold: what goes in comes out, and what differs is told apart.
 
-use crate::{Bytes, Errno, NameList, Reply};
-use fs_names::{Kind, Name};
+use crate::{Bytes, Call, Errno, NameList, Reply, rename_error};
+use fs_names::{Kind, Name, Path};
 use std::test::Fail;
 
 #[test]
@@ -41,4 +41,16 @@ fn tells_replies_apart(rt: HostRuntime) {
     assert!(rt; !file.same(&Reply::Stat(Kind::Dir, 3)));
     assert!(rt; !file.same(&Reply::Wrote(3)));
     assert!(rt; !Reply::Failed(Errno::Enoent).same(&Reply::Failed(Errno::Enotdir)));
+}
+
+#[test]
+fn tells_errors_of_paths(rt: HostRuntime) -> Result<(), Fail> {
+    let alloc = rt.alloc();
+    let root = Call::Mkdir(Path::parse(alloc, b"/")?);
+    assert_eq!(rt; root.error_by_paths(), Some(Errno::Eexist));
+    let below = Call::Rename(Path::parse(alloc, b"/a")?, Path::parse(alloc, b"/a/b")?);
+    assert_eq!(rt; below.error_by_paths(), Some(Errno::Einval));
+    let (path, new_path) = (Path::parse(alloc, b"/a")?, Path::parse(alloc, b"/b")?);
+    assert_eq!(rt; rename_error(&path, &new_path), None);
+    Ok(())
 }

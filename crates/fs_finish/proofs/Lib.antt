@@ -1,9 +1,7 @@
-pub mod ParentLemmas
 pub mod UsedLemmas
 pub mod EntryLemmas
 pub mod RenameLemmas
 pub mod ListingLemmas
 pub mod WritingLemmas
 pub mod MoveLemmas
-pub mod TextLemmas
 pub mod Listing

@@ -15,7 +15,6 @@ ghost use Rattle.fs_machine.specs.Works.{SpareIf};
 use crate::finish::Finish;
 use crate::queries::dir_fault;
 use crate::replies::Replies;
-use crate::text::last_name;
 use fs_calls::Errno;
 use fs_names::{ENTRY_LIMIT, Name, Path};
 use fs_nodes::{NodeNo, Store};
@@ -100,7 +99,7 @@ pub fn make(store: &mut Store, dir: NodeNo, path: &Path, reserved: Option<NodeNo
     if let Some(errno) = dir_fault(store, dir) {
         return Finish::failed(errno, reserved);
     }
-    make_in(store, dir, last_name(path), reserved)
+    make_in(store, dir, path.last_name(), reserved)
 }
 
 /// An unlink: the entry of a file goes.
@@ -113,7 +112,7 @@ pub fn unlink(store: &mut Store, dir: NodeNo, path: &Path, reserved: Option<Node
     if let Some(errno) = dir_fault(store, dir) {
         return Finish::failed(errno, reserved);
     }
-    unlink_in(store, dir, last_name(path), reserved)
+    unlink_in(store, dir, path.last_name(), reserved)
 }
 
 /// A rmdir: the entry of an empty directory goes.
@@ -126,5 +125,5 @@ pub fn rmdir(store: &mut Store, dir: NodeNo, path: &Path, reserved: Option<NodeN
     if let Some(errno) = dir_fault(store, dir) {
         return Finish::failed(errno, reserved);
     }
-    rmdir_in(store, dir, last_name(path), reserved)
+    rmdir_in(store, dir, path.last_name(), reserved)
 }

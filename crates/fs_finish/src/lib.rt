@@ -4,9 +4,8 @@
 //! each replies and changes what its row says, and an error changes nothing. No finish needs memory: `Room::new` has
 //! allocated its buffers when the call began. Each reply is made twice (`Replies`), for the caller and for the journal.
 //!
-//! Enter at `Room::new` and at these modules; `text` has what the paths of a call decide alone. The definitions are in
-//! `specs/`: `Endings` (a finish as the code answers it) and `Rooms` (what suffices for it). Both speak of the
-//! machine's finish, `fs_machine/specs/Finishes.antt`.
+//! Enter at `Room::new` and at these modules. The definitions are in `specs/`: `Endings` (a finish as the code answers
+//! it) and `Rooms` (what suffices for it). Both speak of the machine's finish, `fs_machine/specs/Finishes.antt`.
 #![tactic(auto)]
 
 pub mod entries;
@@ -17,7 +16,6 @@ pub mod replies;
 pub mod room;
 #[cfg(test)]
 mod tests;
-pub mod text;
 pub mod write;
 
 pub use finish::Finish;

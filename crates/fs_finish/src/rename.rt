@@ -1,6 +1,8 @@
 //! How a rename finishes at its two directories.
 
 ghost use Rattle.std.specs.Prelude.{◌≡◌, ◌||◌, Bool, ℕ, List, not, true, None, Some, IfSome, IsSome, IsTrue};
+ghost use Rattle.fs_names.specs.Keys.{after_prefix, is_proper_prefix, parent_of};
+ghost use Rattle.fs_names.specs.Parts.{is_end};
 ghost use Rattle.fs_names.specs.Shapes.{Shape, is_dir, is_full};
 ghost use Rattle.fs_nodes.specs.Graphs.{entry_shape, moved_in};
 ghost use Rattle.fs_nodes.specs.Stores.{kid, shape, graph_of, room};
@@ -11,7 +13,7 @@ ghost use Rattle.fs_machine.specs.Moves.{there_by};
 use crate::finish::Finish;
 use crate::replies::Replies;
 use fs_calls::Errno;
-use fs_names::{ENTRY_LIMIT, Name};
+use fs_names::{ENTRY_LIMIT, Name, Path};
 use fs_nodes::{NodeNo, Store};
 
 /// How the paths of a rename stand to each other.
@@ -23,6 +25,21 @@ pub struct Paths {
     pub above: bool,
     /// They have one parent.
     pub one_parent: bool,
+}
+
+impl Paths {
+    /// How a path and the new one stand to each other.
+    pub fn new(path: &Path, new_path: &Path) -> Paths
+        ensures same { result.same ≡ is_end (after_prefix path.now new_path.now) }
+        ensures above { result.above ≡ is_proper_prefix new_path.now path.now }
+        ensures one_parent { result.one_parent ≡ is_end (after_prefix (parent_of path.now) (parent_of new_path.now)) }
+    {
+        Paths {
+            same: path.same(new_path),
+            above: new_path.is_proper_prefix_of(path),
+            one_parent: path.has_parent_of(new_path),
+        }
+    }
 }
 
 /// Why a node doesn't take the place of another one, by their kinds.

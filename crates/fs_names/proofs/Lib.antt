@@ -2,3 +2,5 @@ pub mod FirstLemmas
 pub mod Lemmas
 pub mod ReadingLemmas
 pub mod TextLemmas
+pub mod ParentLemmas
+pub mod PrefixLemmas

@@ -16,6 +16,7 @@ pub mod limits;
 pub mod name;
 pub mod numbers;
 pub mod path;
+pub mod relations;
 #[cfg(test)]
 mod tests;
 

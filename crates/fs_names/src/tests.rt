@@ -164,6 +164,31 @@ fn compares_paths(rt: HostRuntime) -> Result<(), Fail> {
 }
 
 #[test]
+fn relates_paths(rt: HostRuntime) -> Result<(), Fail> {
+    let alloc = rt.alloc();
+    let rows: [(&[u8], &[u8], bool, bool, bool); 6] = [
+        (b"/", b"/", true, false, true),
+        (b"/", b"/a", false, true, true),
+        (b"/a/b", b"/a/b", true, false, true),
+        (b"/a/b", b"/a/c", false, false, true),
+        (b"/a/b", b"/b/b", false, false, false),
+        (b"/a", b"/a/b/c", false, true, false),
+    ];
+    for (first, second, same, is_proper_prefix, has_parent_of) in rows {
+        let first = Path::parse(alloc, first)?;
+        let second = Path::parse(alloc, second)?;
+        assert_eq!(rt; first.same(&second), same);
+        assert_eq!(rt; first.is_proper_prefix_of(&second), is_proper_prefix);
+        assert_eq!(rt; first.has_parent_of(&second), has_parent_of);
+        assert_eq!(rt; first.parent_len() + 1, first.len().max(1));
+        if !first.is_empty() {
+            assert!(rt; first.last_name().same(first.name(first.len() - 1)));
+        }
+    }
+    Ok(())
+}
+
+#[test]
 fn writes_paths(rt: HostRuntime) -> Result<(), Fail> {
     let alloc = rt.alloc();
     let rows: [(&[u8], &[u8]); 4] = [

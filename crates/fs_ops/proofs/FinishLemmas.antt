@@ -26,7 +26,7 @@ use Rattle.fs_finish.specs.Replies.{refilled}
 use Rattle.fs_ops.specs.code.Steps.{started}
 use Rattle.fs_ops.specs.Views.{dropped, stand_of, stand_with, work_of, IsForked, Forks}
 use Rattle.fs_machine.specs.Works.{Work, HeadsApart, IsFinished, graph_after, record_of}
-use Rattle.fs_finish.proofs.ParentLemmas.{parent_length}
+use Rattle.fs_names.proofs.ParentLemmas.{parent_length}
 use Rattle.fs_ops.proofs.KeyLemmas.{parent_drop, target_drop}
 use Rattle.fs_ops.proofs.HeadLemmas.{some_left, none_left, last_drop}
 use Rattle.fs_ops.proofs.TookLemmas.{stand_node, started_forked}

@@ -20,9 +20,9 @@ use Rattle.fs_ops.specs.code.Counted.{heads_stand}
 use Rattle.fs_machine.specs.Finishes.{Effect, move_effect, rename_effect}
 use Rattle.fs_machine.specs.Moves.{dir_error, there_by, walk_errno}
 use Rattle.fs_machine.specs.Records.{Stand}
-use Rattle.fs_finish.proofs.ParentLemmas.{parent_length, common_length}
+use Rattle.fs_names.proofs.ParentLemmas.{parent_length, common_length}
 use Rattle.fs_ops.proofs.KeyLemmas.{parent_drop}
-use Rattle.fs_finish.proofs.TextLemmas.{common_is_length}
+use Rattle.fs_names.proofs.PrefixLemmas.{common_is_length}
 use Rattle.fs_ops.proofs.WantLemmas.{take_parent_front, left_head}
 
 -- ---- keys

@@ -17,7 +17,7 @@ use Rattle.fs_ops.specs.Views.{Forks, IsForked, work_of, stand_of, stand_with, r
 use Rattle.fs_machine.specs.Works.{Work, IsLetGo}
 use Rattle.fs_ops.specs.declared.outcome.Outcome.{Outcome}
 use Rattle.fs_ops.specs.declared.outcome.Outcome.TheVariants.{Open, Fixed}
-use Rattle.fs_finish.proofs.ParentLemmas.{parent_length}
+use Rattle.fs_names.proofs.ParentLemmas.{parent_length}
 
 -- names that a head has walked
 some_name : (k : ℕ) (l : Key) → suc k ≤ length l → (x : Name) × ((r : Key) × (l ≡ x ∷ r))

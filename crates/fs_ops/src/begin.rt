@@ -15,7 +15,6 @@ use crate::op::Op;
 use crate::outcome::Outcome;
 use fs_calls::{Call, EntryCall, PairCall, Target};
 use fs_finish::room::Room;
-use fs_finish::text::parent_len;
 use fs_names::{Kind, PATH_LIMIT, Path};
 use fs_nodes::{NoNode, NodeNo, Store};
 use fs_walk::Walk;
@@ -48,8 +47,8 @@ fn common_len(path: &Path, other: &Path) -> usize
     ensures most { result ≤ PATH_LIMIT }
 {
     path.common(other)
-        .min(parent_len(path))
-        .min(parent_len(other))
+        .min(path.parent_len())
+        .min(other.parent_len())
 }
 
 /// How many names lead to the target of a call.
@@ -59,7 +58,7 @@ fn target_len(aim: Target<'_>) -> usize
 {
     match aim {
         Target::Node(_, path) => path.len(),
-        Target::Entry(_, path) => parent_len(path),
+        Target::Entry(_, path) => path.parent_len(),
         Target::Pair(PairCall::Rename, path, other) => common_len(path, other),
     }
 }

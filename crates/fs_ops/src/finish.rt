@@ -22,7 +22,6 @@ use fs_finish::entries::{make, rmdir, unlink};
 use fs_finish::finish::Finish;
 use fs_finish::queries::{read, readdir, stat, walk_error};
 use fs_finish::room::Room;
-use fs_finish::text::text_error;
 use fs_finish::write::{truncate, write};
 use fs_names::Path;
 use fs_nodes::{NodeNo, Store};
@@ -136,7 +135,7 @@ pub fn finish(
     ensures limit { store.new.limit ≡ store.old.limit }
     ensures room { room store.new ≡ room store.old }
 {
-    if let Some(errno) = text_error(call) {
+    if let Some(errno) = call.error_by_paths() {
         return Finish::failed(errno, reserved);
     }
     let Some(node) = walk.node() else {

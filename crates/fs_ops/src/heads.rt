@@ -16,8 +16,7 @@ ghost use Rattle.fs_ops.specs.code.Steps.{started};
 use fs_calls::Errno;
 use fs_finish::finish::Finish;
 use fs_finish::queries::{dir_fault, walk_error};
-use fs_finish::rename::rename;
-use fs_finish::text::{last_name, parent_len, paths_of};
+use fs_finish::rename::{Paths, rename};
 use fs_names::Path;
 use fs_nodes::{NodeNo, Store};
 use fs_walk::{Fork, Head};
@@ -47,7 +46,7 @@ fn head_fault(store: &Store, path: &Path, names: usize, head: Head) -> Option<Er
     requires { names + head.walked ≤ length (parent_of path.now) }
     ensures { result ≡ dir_error (left (take head.walked (drop names path.now)) (parent_of (drop names path.now))) (shape store.now head.node) }
 {
-    let parent = parent_len(path);
+    let parent = path.parent_len();
     if names + head.walked < parent {
         return Some(walk_error(store, head.node));
     }
@@ -81,8 +80,8 @@ pub fn finish_rename(
     if let Some(errno) = head_fault(store, new_path, names, dest) {
         return Finish::failed(errno, reserved);
     }
-    let paths = paths_of(path, new_path);
-    let name = last_name(path);
-    let new_name = last_name(new_path);
+    let paths = Paths::new(path, new_path);
+    let name = path.last_name();
+    let new_name = new_path.last_name();
     rename(store, from, name, to, new_name, paths, victim, reserved)
 }

@@ -1,15 +1,12 @@
 -- What walks do after an edit of one directory.
-use Rattle.std.proofs.Common.{◌≡◌, ◌≢◌, ℕ, zero, suc, ◌+◌, ◌<◌, ◌≤◌, Bool, true, false, cond, not, List, [], ◌∷◌, ◌++◌, length, map, take, drop, slice_get, Some, None, Option, is_some, option_and_then, refl, sym, ap, subst, ◌∙◌, arith, append_assoc, append-nil, length-append, set, nat_eq}
-use Rattle.std.specs.FinMap.{find, put, is_sorted}
-use Rattle.std.specs.FinMap.Entries.{find-put}
+use Rattle.std.proofs.Common.{◌≡◌, ◌≢◌, ℕ, Bool, true, false, cond, [], ◌∷◌, ◌++◌, Some, None, Option, option_and_then, refl, sym, ap, ◌∙◌, arith, nat_eq}
 use Rattle.std.proofs.lemmas.Bool.Decides.{nat_tests}
-use Rattle.fs_names.specs.Names.{Name, name_cmp, same_name}
-use Rattle.fs_names.specs.Keys.{Key, key_cmp, same_key, after_prefix}
-use Rattle.fs_names.proofs.Lemmas.{name_total, key_total, same_name_refl, after_prefix-append, after_prefix-exact, same_name_exact}
+use Rattle.fs_names.specs.Names.{Name, same_name}
+use Rattle.fs_names.specs.Keys.{Key, same_key, after_prefix}
 use Rattle.fs_seq.specs.code.Graph.{Graph, child, walk_from, walk}
-use Rattle.fs_calls.proofs.LookLemmas.{same_key_exact, same_key_refl}
-use Rattle.fs_seq.proofs.GraphLemmas.{walk-append, Once, Inside}
-use Rattle.fs_calls.proofs.ListLemmas.{by_last, no_snoc, same_front, same_key-snoc, after_prefix-snoc, longer}
+use Rattle.fs_calls.proofs.LookLemmas.{same_key_exact}
+use Rattle.fs_seq.proofs.GraphLemmas.{walk-append, Once}
+use Rattle.fs_calls.proofs.ListLemmas.{by_last, same_front, same_key-snoc, after_prefix-snoc, longer}
 
 -- one step from where a walk ends
 pub on_from : Graph → Name → Option ℕ → Option ℕ

@@ -1,11 +1,11 @@
 -- The tree that a forest spells is a tree.
-use Rattle.std.proofs.Common.{◌≡◌, ℕ, List, [], ◌∷◌, ◌++◌, Some, None, Option, refl, sym, ap, ◌∙◌, Bool, true, false, T}
+use Rattle.std.proofs.Common.{◌≡◌, ℕ, [], ◌∷◌, ◌++◌, Some, None, Option, refl, sym, ap, ◌∙◌, Bool, true, false, T}
 use Rattle.fs_names.specs.Names.{Name}
 use Rattle.fs_names.specs.Keys.{Key}
-use Rattle.fs_calls.specs.Tree.{Node, Dir as IsDir, look, IsTree}
-use Rattle.fs_seq.specs.code.Graph.{Place, Dir, File, Graph, place_at, node_of, child, walk, node_at, spelled, tree_of, IsForest}
+use Rattle.fs_calls.specs.Tree.{Node, Dir as IsDir, IsTree}
+use Rattle.fs_seq.specs.code.Graph.{Place, Dir, File, Graph, place_at, node_of, child, walk, spelled, tree_of, IsForest}
 use Rattle.fs_seq.proofs.GraphLemmas.{look-tree_of, sorted-tree_of}
-use Rattle.fs_seq.proofs.Resolving.{spelled_at, spelled_none, walk_on, walk_off}
+use Rattle.fs_seq.proofs.Resolving.{spelled_at, spelled_none, walk_off}
 use Rattle.fs_seq.proofs.Edits.{walk-snoc, on_from, on_none}
 use Rattle.fs_seq.proofs.Rewiring.{child_of}
 

@@ -1,11 +1,11 @@
 -- A file whose bytes are written.
 use Rattle.std.proofs.Common.{◌≡◌, ◌≢◌, ℕ, Bool, true, false, cond, List, [], ◌∷◌, Some, None, Option, is_some, option_and_then, refl, sym, ap, subst, ◌∙◌, nat_eq, IsTrue}
-use Rattle.std.specs.FinMap.{find, is_sorted}
+use Rattle.std.specs.FinMap.{is_sorted}
 use Rattle.fs_names.specs.Names.{Name, name_cmp}
 use Rattle.fs_names.specs.Keys.{Key, same_key}
 use Rattle.fs_calls.specs.Tree.{Node, Tree, look, inserted}
 use Rattle.fs_calls.specs.Tree as tree
-use Rattle.fs_seq.specs.code.Graph.{Place, Dir, File, Graph, place_at, links_of, node_of, links_at, child, walk_from, walk, node_at, spelled, tree_of, IsForest, Sets}
+use Rattle.fs_seq.specs.code.Graph.{File, Graph, place_at, links_of, node_of, links_at, child, walk_from, walk, node_at, spelled, tree_of, IsForest, Sets}
 use Rattle.fs_calls.proofs.LookLemmas.{same_key_exact, same_key_refl, look-inserted, sorted-inserted}
 use Rattle.fs_seq.proofs.GraphLemmas.{look-tree_of, sorted-tree_of, is_tree_of}
 use Rattle.fs_seq.proofs.Edits.{nat_same, nat_differ}

@@ -1,20 +1,18 @@
 -- What a graph spells at a key.
-use Rattle.std.proofs.Common.{◌≡◌, ◌≢◌, ℕ, zero, suc, ◌+◌, ◌<◌, ◌≤◌, Bool, true, false, cond, not, ◌&&◌, ◌||◌, List, [], ◌∷◌, ◌++◌, length, map, slice_get, get_or, Some, None, Option, is_some, option_and_then, refl, sym, ap, subst, ◌∙◌, arith, T, Ordering, Less, Equal, Greater, append_assoc, nat_eq, length-append, add-one}
-use Rattle.std.specs.Ordering.{eq_by_cmp, is_eq, is_lt, ordering_then}
+use Rattle.std.proofs.Common.{◌≡◌, ◌≢◌, ℕ, zero, suc, ◌<◌, ◌≤◌, Bool, true, false, cond, ◌||◌, List, [], ◌∷◌, ◌++◌, length, map, Some, None, Option, is_some, option_and_then, refl, sym, ap, ◌∙◌, arith, T, Equal, nat_eq}
 use Rattle.std.specs.List.{flat_map, list_any, IsDistinct, AllByRecursion}
 use Rattle.std.specs.Set.{is_member}
 use Rattle.std.proofs.lemmas.List.Folds.{list_any-append}
 use Rattle.std.proofs.lemmas.Map.Made.{length-le_from_is_member}
 use Rattle.std.proofs.lemmas.Cmp.{nat_eq_equiv}
 use Rattle.std.proofs.lemmas.Bool.Decides.{nat_tests}
-use Rattle.std.specs.FinMap.{find, put, is_sorted}
-use Rattle.std.specs.FinMap.Entries.{find-put}
+use Rattle.std.specs.FinMap.{find, is_sorted}
 use Rattle.fs_names.specs.Names.{Name, name_cmp, same_name}
-use Rattle.fs_names.specs.Keys.{Key, key_cmp, same_key, after_prefix}
-use Rattle.fs_names.proofs.Lemmas.{name_total, key_total, name_exact, key_exact, equal_from_is_eq, same_name_exact, same_name_refl, after_prefix-exact, after_prefix-append}
-use Rattle.fs_calls.specs.Tree.{Node, Dir as IsDir, File as IsFile, Tree, look, from_list}
-use Rattle.fs_seq.specs.code.Graph.{Place, Graph, links_of, node_of, place_at, links_at, child, walk_from, walk, node_at, spelled, keys_from, with_node, nodes_at, tree_of, IsForest}
-use Rattle.fs_calls.proofs.LookLemmas.{same_key_exact, same_key_refl, same_key_equiv, look-from_list, sorted-from_list, same_tree}
+use Rattle.fs_names.specs.Keys.{Key, key_cmp, same_key}
+use Rattle.fs_names.proofs.Lemmas.{equal_from_is_eq}
+use Rattle.fs_calls.specs.Tree.{Node, Tree, look}
+use Rattle.fs_seq.specs.code.Graph.{Graph, place_at, links_at, child, walk_from, walk, node_at, spelled, keys_from, with_node, nodes_at, tree_of, IsForest}
+use Rattle.fs_calls.proofs.LookLemmas.{same_key_exact, look-from_list, sorted-from_list, same_tree}
 
 -- ---- walks
 

@@ -1,8 +1,8 @@
 -- What the calls on one path answer, by what stands there.
-use Rattle.std.proofs.Common.{◌≡◌, ℕ, zero, suc, ◌+◌, ◌<◌, ◌++◌, get_or, arith, Bool, true, false, List, [], ◌∷◌, length, take, drop, map, Some, None, Option, refl, sym, ap, ◌∙◌}
+use Rattle.std.proofs.Common.{◌≡◌, ℕ, zero, suc, ◌<◌, ◌++◌, get_or, arith, List, [], ◌∷◌, length, take, drop, map, Some, None, Option, refl, sym, ap, ◌∙◌}
 use Rattle.fs_names.specs.Keys.{Key}
 use Rattle.fs_seq.specs.declared.nodes.Link.{Link}
-use Rattle.fs_seq.specs.code.Nodes.{pair, pairs}
+use Rattle.fs_seq.specs.code.Nodes.{pairs}
 use Rattle.fs_calls.specs.declared.call.Call.{Call}
 use Rattle.fs_calls.specs.declared.call.Call.TheVariants.{Stat, Readdir, Read, Write, Truncate}
 use Rattle.fs_calls.specs.declared.errno.Errno.{Errno}

@@ -1,16 +1,16 @@
 -- What the calls that make a node answer and leave.
-use Rattle.std.proofs.Common.{◌≡◌, ℕ, ◌+◌, ◌<◌, List, [], ◌∷◌, ◌++◌, length, slice_get, Some, None, refl, sym, ap, subst, ◌∙◌}
+use Rattle.std.proofs.Common.{◌≡◌, ℕ, ◌+◌, [], length, slice_get, Some, refl, sym, ap, subst, ◌∙◌}
 use Rattle.std.specs.Prelude.{insert}
 use Rattle.std.specs.FinMap.{put}
 use Rattle.fs_names.specs.Names.{Name, name_cmp}
 use Rattle.fs_names.specs.Keys.{Key, parent_of, last_of}
-use Rattle.fs_calls.specs.Tree.{Node, inserted}
+use Rattle.fs_calls.specs.Tree.{inserted}
 use Rattle.fs_calls.specs.Outcomes.{fault}
 use Rattle.fs_calls.specs.declared.call.Call.TheVariants.{Mkdir, Mknod}
 use Rattle.fs_calls.specs.declared.reply.Reply.TheVariants.{Done}
 use Rattle.fs_seq.specs.declared.nodes.Node.TheVariants as nodes
 use Rattle.fs_calls.specs.Tree.{Tree}
-use Rattle.fs_seq.specs.code.Graph.{Place, Dir, Graph, place_at, links_of, links_at, node_of, tree_of, IsForest, Sets}
+use Rattle.fs_seq.specs.code.Graph.{Dir, Graph, links_of, links_at, node_of, tree_of, IsForest, Sets}
 use Rattle.fs_seq.specs.code.Nodes.{place}
 use Rattle.fs_seq.specs.code.Effects.{making_fault, tree_node, IsGap, Attaches, Gives}
 use Rattle.fs_seq.proofs.NodeLemmas.{parent_and_last, last_got}

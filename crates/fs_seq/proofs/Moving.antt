@@ -1,10 +1,10 @@
 -- A link leads elsewhere, with all that is below it.
-use Rattle.std.proofs.Common.{◌≡◌, ◌≢◌, ℕ, zero, suc, ◌+◌, Bool, true, false, cond, List, [], ◌∷◌, ◌++◌, length, Some, None, Option, is_some, option_and_then, refl, sym, ap, ◌∙◌, arith, length-append, IsTrue}
+use Rattle.std.proofs.Common.{◌≡◌, ◌≢◌, ℕ, true, [], ◌∷◌, ◌++◌, length, Some, None, Option, is_some, option_and_then, refl, sym, ap, ◌∙◌, arith, length-append, IsTrue}
 use Rattle.std.specs.FinMap.{is_sorted}
 use Rattle.fs_names.specs.Names.{Name, name_cmp}
 use Rattle.fs_names.specs.Keys.{Key, after_prefix}
 use Rattle.fs_names.proofs.Lemmas.{after_prefix-append, after_prefix-exact}
-use Rattle.fs_calls.specs.Tree.{Node, Tree, look, renamed}
+use Rattle.fs_calls.specs.Tree.{look, renamed}
 use Rattle.fs_seq.specs.code.Graph.{Place, Dir, File, Graph, place_at, node_of, links_at, child, walk_from, walk, node_at, spelled, tree_of, IsForest}
 use Rattle.fs_seq.proofs.GraphLemmas.{walk-append, Once, look-tree_of, is_tree_of}
 use Rattle.fs_seq.proofs.Edits.{Unlinks, Links, outside, within, walk-unlinked, walk-linked}

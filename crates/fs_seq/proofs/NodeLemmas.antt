@@ -1,5 +1,5 @@
 -- The nodes of a slab, and the graph that they are.
-use Rattle.std.proofs.Common.{◌≡◌, ◌≢◌, ℕ, zero, suc, ◌+◌, ◌-◌, ◌<◌, ◌≤◌, Bool, true, false, cond, List, [], ◌∷◌, ◌++◌, length, map, take, drop, get_or, slice_get, Some, None, Option, is_some, IsSome, IsTrue, refl, sym, ap, subst, ◌∙◌, arith}
+use Rattle.std.proofs.Common.{◌≡◌, ℕ, zero, suc, ◌+◌, ◌<◌, true, List, [], ◌∷◌, ◌++◌, length, map, take, drop, get_or, slice_get, Some, None, Option, is_some, IsSome, IsTrue, refl, sym, ap, subst, ◌∙◌, arith}
 use Rattle.std.specs.FinMap.{find, is_sorted}
 use Rattle.slab.specs.Slab.{Slab, get}
 use Rattle.fs_names.specs.Names.{Name, name_cmp}
@@ -7,10 +7,9 @@ use Rattle.fs_names.specs.Keys.{Key, parent_of, last_of}
 use Rattle.fs_calls.specs.declared.errno.Errno.TheVariants.{Enoent, Enotdir}
 use Rattle.fs_seq.specs.declared.nodes.Link.{Link}
 use Rattle.fs_seq.specs.declared.nodes.Node.{Node}
-use Rattle.fs_seq.specs.declared.nodes.Node.TheVariants as nodes
 use Rattle.fs_seq.specs.code.Nodes.{verdict}
 use Rattle.fs_seq.specs.code.Graph.{Place, Dir, File, Graph, place_at, links_of, node_of, links_at, child, node_at}
-use Rattle.fs_seq.specs.code.Nodes.{pair, pairs, place, slot_place, graph, number_of, StandsAt, BelongsAt}
+use Rattle.fs_seq.specs.code.Nodes.{pairs, place, slot_place, graph, number_of, StandsAt, BelongsAt}
 
 -- the place of a number is that of its slot
 pub place_of_slot : (slots : List (Option Node)) (n : ℕ) → place_at (map slot_place slots) n ≡ slot_place (get_or slots n None)

@@ -1,18 +1,17 @@
 -- The parent of a path, and what stands in it, in the tree that a graph spells.
-use Rattle.std.proofs.Common.{◌≡◌, ℕ, ◌+◌, ◌<◌, List, [], ◌∷◌, ◌++◌, length, take, get_or, slice_get, Some, None, Option, refl, sym, ap, subst, ◌∙◌}
-use Rattle.std.specs.FinMap.{find}
-use Rattle.fs_names.specs.Names.{Name, name_cmp}
+use Rattle.std.proofs.Common.{◌≡◌, ℕ, ◌+◌, List, length, take, get_or, slice_get, Some, None, refl, sym, ap, subst, ◌∙◌}
+use Rattle.fs_names.specs.Names.{Name}
 use Rattle.fs_names.specs.Keys.{Key, parent_of, last_of}
-use Rattle.fs_names.specs.First.{on, or_else}
+use Rattle.fs_names.specs.First.{on}
 use Rattle.fs_calls.specs.declared.errno.Errno.{Errno}
 use Rattle.fs_calls.specs.declared.errno.Errno.TheVariants.{Enotdir}
 use Rattle.fs_seq.specs.declared.nodes.Link.{Link}
 use Rattle.fs_calls.specs.Tree.{Tree}
-use Rattle.fs_calls.specs.Shapes.{Shape, seen, is_file}
+use Rattle.fs_calls.specs.Shapes.{seen, is_file}
 use Rattle.fs_calls.specs.Outcomes.{resolution, parents_resolution}
 use Rattle.fs_calls.specs.Rows.{as_dir}
 use Rattle.fs_seq.specs.code.Graph.{Place, Dir, File, Graph, place_at, links_at, child, walk, tree_of, shape_of, IsForest}
-use Rattle.fs_seq.specs.code.Nodes.{pair, pairs, StandsAt, BelongsAt, IsTaken, IsFree}
+use Rattle.fs_seq.specs.code.Nodes.{pairs, StandsAt, BelongsAt, IsTaken, IsFree}
 use Rattle.fs_seq.proofs.Resolving.{resolution_walked, seen_at}
 use Rattle.fs_seq.proofs.NodeLemmas.{take_parent, last_got, links_got, step_found, length-pairs}
 

@@ -1,6 +1,5 @@
 -- What the calls that remove a node answer and leave.
-use Rattle.std.proofs.Common.{◌≡◌, ℕ, ◌+◌, ◌<◌, List, [], ◌∷◌, ◌++◌, length, map, nat_eq, true, false, ◌≢◌, arith, Some, None, Option, Result, Ok, Err, refl, sym, ap, subst, ◌∙◌}
-use Rattle.std.specs.Prelude.{remove}
+use Rattle.std.proofs.Common.{◌≡◌, ℕ, ◌<◌, List, [], ◌∷◌, length, map, nat_eq, true, false, ◌≢◌, arith, Some, None, Option, refl, sym, ap, subst, ◌∙◌}
 use Rattle.std.specs.FinMap.{find}
 use Rattle.fs_names.specs.Names.{Name, name_cmp}
 use Rattle.fs_names.specs.Keys.{Key, is_root, parent_of, last_of}
@@ -16,7 +15,7 @@ use Rattle.fs_calls.specs.Tree.{Tree, removed}
 use Rattle.fs_calls.specs.Shapes.{Shape, seen, is_missing, has_any}
 use Rattle.fs_calls.proofs.RowNames.{unlinking, removing}
 use Rattle.fs_calls.specs.Outcomes.{fault, success, change, parents_resolution}
-use Rattle.fs_seq.specs.code.Graph.{Place, Dir, Graph, place_at, links_at, shape_of, child, walk, tree_of, IsForest, Sets}
+use Rattle.fs_seq.specs.code.Graph.{Place, Dir, Graph, place_at, links_at, shape_of, child, tree_of, IsForest, Sets}
 use Rattle.fs_seq.specs.code.Nodes.{pairs, IsTaken, IsFree, without}
 use Rattle.fs_seq.specs.code.Effects.{IsVictim, Detaches, Answers}
 use Rattle.fs_seq.proofs.NodeLemmas.{parent_and_last, child_got}

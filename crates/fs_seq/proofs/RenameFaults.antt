@@ -1,83 +1,30 @@
 -- The errors of a rename, by what was looked up.
-use Rattle.std.proofs.Common.{◌≡◌, ◌≢◌, ℕ, zero, suc, ◌+◌, ◌<◌, ◌≤◌, Bool, true, false, cond, not, ◌&&◌, ◌||◌, List, [], ◌∷◌, ◌++◌, length, map, Some, None, Option, is_some, Result, Ok, Err, refl, sym, ap, subst, ◌∙◌, arith, length-append, nat_eq}
+use Rattle.std.proofs.Common.{◌≡◌, ◌≢◌, ℕ, suc, ◌<◌, ◌≤◌, Bool, true, false, not, ◌||◌, List, [], ◌∷◌, length, map, Some, None, Option, is_some, Ok, refl, sym, ap, ◌∙◌, arith, nat_eq}
 use Rattle.std.specs.Prelude.{nat_le}
 use Rattle.std.proofs.lemmas.Bool.Decides.{nat_tests}
-use Rattle.fs_names.specs.First.{on, or_else, first}
+use Rattle.fs_names.specs.First.{on, or_else}
 use Rattle.fs_names.specs.Names.{Name}
-use Rattle.fs_names.specs.Keys.{Key, is_root, is_proper_prefix, has_more, after_prefix, parent_of, last_of}
+use Rattle.fs_names.specs.Keys.{Key, is_root, is_proper_prefix, parent_of, last_of}
 use Rattle.fs_names.specs.declared.limits.TheConstants.{ENTRY_LIMIT}
 use Rattle.fs_names.proofs.FirstLemmas.{on-none}
-use Rattle.fs_names.proofs.Lemmas.{after_prefix-exact}
 use Rattle.fs_calls.specs.Tree.{Tree}
-use Rattle.fs_calls.specs.Shapes.{Shape, seen, is_missing, is_dir, is_file, has_entries, is_full}
-use Rattle.fs_calls.specs.Shapes as shapes
+use Rattle.fs_calls.specs.Shapes.{Shape, seen, is_missing}
 use Rattle.fs_calls.specs.Forms.{form, by_text}
 use Rattle.fs_calls.specs.Sights.{is_same}
 use Rattle.fs_calls.specs.Rows.{has_room, place_fault, rename_fault}
 use Rattle.fs_calls.specs.Outcomes.{parents_resolution, row, fault}
-use Rattle.fs_seq.specs.code.Graph.{Place, Dir, File, Graph, place_at, shape_of, links_at, child, walk, shape_at, tree_of, IsForest}
+use Rattle.fs_seq.specs.code.Graph.{Place, Dir, File, Graph, place_at, shape_of, links_at, walk, shape_at, tree_of, IsForest}
 use Rattle.fs_seq.specs.code.Nodes.{IsTaken, IsFree, LooksUp}
 use Rattle.fs_seq.specs.declared.nodes.Spot.{Spot}
 use Rattle.fs_seq.specs.declared.nodes.Spot.TheVariants.{Taken, Free}
 use Rattle.fs_seq.specs.code.Renaming.{Moves}
 use Rattle.fs_calls.specs.declared.call.Call.TheVariants.{Rename}
 use Rattle.fs_calls.specs.declared.errno.Errno.{Errno}
-use Rattle.fs_calls.specs.declared.errno.Errno.TheVariants.{Enoent, Enotdir, Eisdir, Enotempty, Einval, Ebusy, Enospc}
+use Rattle.fs_calls.specs.declared.errno.Errno.TheVariants.{Enoent, Enotempty, Einval, Ebusy, Enospc}
 use Rattle.fs_calls.proofs.KeyLemmas.{no_true, never_same, is_same_refl, is_same_exact, parent_and_last}
 use Rattle.fs_seq.proofs.Resolving.{walk_on, walk_off, seen_at, seen_none, child-find}
 use Rattle.fs_seq.proofs.Parents.{parents_found}
-use Rattle.fs_calls.proofs.FaultLemmas.{AllNone, all_none, or_first, or_second}
-
--- ---- the paths alone
-
--- a key that is not empty is not the root
-named_by_length : (p : Key) → (length p ≡ 0 → ⊥) → is_root p ≡ false
-named_by_length [] h = absurd (h refl)
-named_by_length (x ∷ p) h = refl
-
--- what has a prefix and is longer has more behind it
-longer : (p q : Key) (o : Option Key) → after_prefix p q ≡ o → is_some o ≡ true → length p < length q → has_more o ≡ true
-longer p q None e some h = absurd (cc)
-longer p q (Some []) e some h = let same = ap length (after_prefix-exact p q [] e) in absurd (omega (arith, same, length-append p []))
-longer p q (Some (x ∷ r)) e some h = refl
-
--- what is not longer has no more behind it
-not_longer : (p q : Key) (o : Option Key) → after_prefix p q ≡ o → length q ≤ length p → has_more o ≡ false
-not_longer p q None e h = refl
-not_longer p q (Some []) e h = refl
-not_longer p q (Some (x ∷ r)) e h = let same = ap length (after_prefix-exact p q (x ∷ r) e) in absurd (omega (arith, same, length-append p (x ∷ r)))
-
--- what has no such prefix has no more behind it
-no_more : (o : Option Key) → is_some o ≡ false → has_more o ≡ false
-no_more None e = refl
-no_more (Some r) e = absurd (cc)
-
--- the root as the old path
-pub text_root : (p q : Key) → length p ≡ 0 → Some Ebusy ≡ by_text (form (Rename p q))
-text_root [] q e = refl
-text_root (x ∷ p) q e = absurd (omega arith)
-
--- the root as the new path
-pub text_new_root : (p q : Key) → length q ≡ 0 → Some Ebusy ≡ by_text (form (Rename p q))
-text_new_root [] q e = refl
-text_new_root (x ∷ p) [] e = refl
-text_new_root (x ∷ p) (y ∷ q) e = absurd (omega arith)
-
--- the error that the paths decide, by the three tests
-by_tests : (p q : Key) (a b c : Bool) → is_root p ≡ a → is_root q ≡ b → is_proper_prefix p q ≡ c → or_else (on (a || b) Ebusy) (or_else (on c Einval) None) ≡ by_text (form (Rename p q))
-by_tests p q a b c e f h = λ i. or_else (on (sym e i || sym f i) Ebusy) (or_else (on (sym h i) Einval) None)
-
--- a new path below the old one
-pub text_prefix : (p q : Key) → (length p ≡ 0 → ⊥) → (length q ≡ 0 → ⊥) → is_some (after_prefix p q) ≡ true → length p < length q → Some Einval ≡ by_text (form (Rename p q))
-text_prefix p q a b some h = by_tests p q false false true (named_by_length p a) (named_by_length q b) (longer p q (after_prefix p q) refl some h)
-
--- a new path that is not longer
-pub text_short : (p q : Key) → (length p ≡ 0 → ⊥) → (length q ≡ 0 → ⊥) → length q ≤ length p → None ≡ by_text (form (Rename p q))
-text_short p q a b h = by_tests p q false false false (named_by_length p a) (named_by_length q b) (not_longer p q (after_prefix p q) refl h)
-
--- a new path that is not below the old one
-pub text_apart : (p q : Key) → (length p ≡ 0 → ⊥) → (length q ≡ 0 → ⊥) → is_some (after_prefix p q) ≡ false → None ≡ by_text (form (Rename p q))
-text_apart p q a b none = by_tests p q false false false (named_by_length p a) (named_by_length q b) (no_more (after_prefix p q) none)
+use Rattle.fs_calls.proofs.FaultLemmas.{all_none, or_first, or_second}
 
 -- ---- kinds
 

@@ -1,17 +1,16 @@
 -- What a rename answers and leaves.
-use Rattle.std.proofs.Common.{◌≡◌, ◌≢◌, ℕ, zero, suc, ◌+◌, ◌-◌, ◌<◌, ◌≤◌, Bool, true, false, cond, not, ◌&&◌, List, [], ◌∷◌, ◌++◌, length, slice_get, Some, None, Option, is_some, Ok, refl, sym, ap, subst, ◌∙◌, arith, nat_eq, IsTrue}
+use Rattle.std.proofs.Common.{◌≡◌, ◌≢◌, ℕ, ◌≤◌, Bool, true, false, cond, not, ◌&&◌, List, [], ◌∷◌, ◌++◌, length, Some, None, Option, is_some, Ok, refl, sym, ap, subst, ◌∙◌, arith, IsTrue}
 use Rattle.std.specs.Prelude.{insert, remove, slice_set}
 use Rattle.std.specs.FinMap.{find, put, is_sorted}
 use Rattle.fs_names.specs.Names.{Name, name_cmp, same_name}
-use Rattle.fs_names.specs.Keys.{Key, same_key, is_root, parent_of, last_of}
-use Rattle.fs_names.proofs.Lemmas.{same_name_exact}
+use Rattle.fs_names.specs.Keys.{Key, is_root, parent_of, last_of}
 use Rattle.fs_calls.specs.Tree.{Tree, renamed, Dir as IsDir}
-use Rattle.fs_calls.specs.Shapes.{seen, is_missing}
+use Rattle.fs_calls.specs.Shapes.{is_missing}
 use Rattle.fs_calls.specs.Forms.{form, by_text}
-use Rattle.fs_calls.specs.Outcomes.{fault, success, change, reply, after, replied, unless}
+use Rattle.fs_calls.specs.Outcomes.{fault, change}
 use Rattle.fs_seq.specs.Memory.{needs_memory}
-use Rattle.fs_seq.specs.code.Graph.{Place, Dir, Graph, place_at, node_of, links_of, links_at, child, walk, node_at, tree_of, IsForest, Sets}
-use Rattle.fs_seq.specs.code.Nodes.{without, StandsAt, BelongsAt, IsTaken, IsFree}
+use Rattle.fs_seq.specs.code.Graph.{Dir, Graph, place_at, node_of, links_of, links_at, walk, node_at, tree_of, IsForest, Sets}
+use Rattle.fs_seq.specs.code.Nodes.{without, StandsAt, IsTaken, IsFree}
 use Rattle.fs_seq.specs.code.Effects.{Answers}
 use Rattle.fs_seq.specs.code.Renaming.{IsAt, Moves, Plans, Exchanges, Transfers}
 use Rattle.fs_seq.specs.declared.rename.Entry.{Entry}
@@ -21,10 +20,9 @@ use Rattle.fs_calls.specs.declared.call.Call.TheVariants.{Rename}
 use Rattle.fs_calls.specs.declared.reply.Reply.TheVariants.{Done, Failed}
 use Rattle.fs_calls.specs.declared.errno.Errno.{Errno}
 use Rattle.fs_calls.specs.Sights.{is_same}
-use Rattle.fs_calls.proofs.KeyLemmas.{never_same, is_same_refl, differ, parent_and_last}
-use Rattle.fs_seq.proofs.Resolving.{child-find, seen_none}
+use Rattle.fs_calls.proofs.KeyLemmas.{never_same, is_same_refl, parent_and_last}
+use Rattle.fs_seq.proofs.Resolving.{seen_none}
 use Rattle.fs_calls.proofs.FaultLemmas.{Renames, by_text_none, rename_renames}
-use Rattle.fs_calls.proofs.LookLemmas.{same_key_refl}
 use Rattle.fs_seq.proofs.ForestTrees.{forest_tree}
 use Rattle.fs_seq.proofs.Rewiring.{Crosses, Turns, Rewires, which, crossed, turned_in, renamed_free, renamed_onto, find-without, rising-without}
 use Rattle.fs_seq.proofs.LinkEdits.{set_standing, set_then_removed}

@@ -1,5 +1,5 @@
 -- What a call answers, by its errors, and what it leaves.
-use Rattle.std.proofs.Common.{◌≡◌, Bool, true, false, not, ◌&&◌, Some, None, Option, is_some, Result, Ok, Err, IfOk, OnOk, OnErr, IsTrue, refl, sym, ap, subst, ◌∙◌}
+use Rattle.std.proofs.Common.{◌≡◌, true, not, ◌&&◌, Some, None, Option, is_some, Result, Ok, Err, IfOk, OnOk, OnErr, IsTrue, refl, sym, ap, subst, ◌∙◌}
 use Rattle.fs_calls.specs.Tree.{Tree}
 use Rattle.fs_calls.specs.Outcomes.{fault, success, change, reply, after, replied, unless}
 use Rattle.fs_seq.specs.Memory.{takes_memory, needs_memory}

@@ -1,6 +1,5 @@
 -- The edits of places by which a node is renamed.
-use Rattle.std.proofs.Common.{◌≡◌, ◌≢◌, ℕ, zero, suc, ◌+◌, ◌<◌, Bool, true, false, cond, not, List, [], ◌∷◌, ◌++◌, length, set, get_or, Some, None, Option, is_some, refl, sym, ap, subst, ◌∙◌, arith, nat_eq, IsTrue, T, Equal, length-append}
-use Rattle.std.specs.Prelude.{slice_set}
+use Rattle.std.proofs.Common.{◌≡◌, ◌≢◌, ℕ, Bool, true, false, cond, not, List, [], ◌∷◌, ◌++◌, length, set, Some, None, Option, is_some, refl, sym, ap, ◌∙◌, arith, nat_eq, IsTrue, T, length-append}
 use Rattle.std.specs.FinMap.{find, put, is_sorted}
 use Rattle.std.specs.FinMap.Entries.{find-put, is_sorted-put, find-where_key, is_sorted-where_key, same_entries}
 use Rattle.std.specs.Cmp.{eq_by_cmp_equiv}
@@ -8,9 +7,9 @@ use Rattle.std.proofs.lemmas.List.{get_or-set_same, get_or-set_other}
 use Rattle.std.proofs.lemmas.Float.{T_from_true}
 use Rattle.fs_names.specs.Names.{Name, name_cmp, same_name}
 use Rattle.fs_names.specs.Keys.{Key, after_prefix, parent_of, last_of}
-use Rattle.fs_names.proofs.Lemmas.{name_total, name_exact, same_name_refl, same_name_exact}
-use Rattle.fs_calls.specs.Tree.{Node, Dir as IsDir, Tree, look, renamed}
-use Rattle.fs_seq.specs.code.Graph.{Place, Dir, File, Graph, place_at, links_of, node_of, links_at, child, walk, node_at, tree_of, IsForest, Sets}
+use Rattle.fs_names.proofs.Lemmas.{name_total, name_exact, same_name_exact}
+use Rattle.fs_calls.specs.Tree.{Dir as IsDir, look, renamed}
+use Rattle.fs_seq.specs.code.Graph.{Place, Dir, Graph, place_at, links_of, node_of, links_at, child, walk, node_at, tree_of, IsForest, Sets}
 use Rattle.fs_seq.specs.code.Nodes.{without}
 use Rattle.fs_calls.proofs.KeyLemmas.{no_true, parent_and_last, after_prefix-front}
 use Rattle.fs_seq.proofs.GraphLemmas.{place_below}

@@ -1,11 +1,10 @@
 -- The graph of the root alone.
-use Rattle.std.proofs.Common.{◌≡◌, ◌≢◌, ℕ, zero, suc, Bool, true, false, List, [], ◌∷◌, Some, None, Option, is_some, option_and_then, map, subst, Vec, Global, refl, sym, ap, ◌∙◌, nat_eq, IsTrue, T}
+use Rattle.std.proofs.Common.{◌≡◌, ◌≢◌, ℕ, zero, suc, true, false, [], ◌∷◌, Some, None, is_some, option_and_then, map, subst, Vec, Global, refl, sym, ap, ◌∙◌, nat_eq}
 use Rattle.std.specs.FinMap.{find, is_sorted}
 use Rattle.fs_names.specs.Names.{Name, name_cmp}
 use Rattle.fs_names.specs.Keys.{Key}
-use Rattle.fs_calls.specs.Tree.{Node, look, root_tree}
-use Rattle.fs_calls.specs.Tree as tree
-use Rattle.fs_seq.specs.code.Graph.{Place, Dir, Graph, place_at, links_of, node_of, links_at, child, walk_from, walk, spelled, tree_of, IsForest}
+use Rattle.fs_calls.specs.Tree.{look, root_tree}
+use Rattle.fs_seq.specs.code.Graph.{Dir, Graph, place_at, node_of, links_at, child, walk_from, walk, spelled, tree_of, IsForest}
 use Rattle.fs_seq.proofs.GraphLemmas.{is_tree_of}
 use Rattle.fs_seq.proofs.Edits.{nat_same, nat_differ}
 use Rattle.fs_seq.proofs.Resolving.{spelled_at, spelled_none}

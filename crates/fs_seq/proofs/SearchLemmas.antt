@@ -1,15 +1,13 @@
 -- What a binary search finds among links whose names rise.
-use Rattle.std.proofs.Common.{◌≡◌, ℕ, zero, suc, ◌+◌, ◌<◌, ◌≤◌, Bool, true, false, cond, not, ◌&&◌, List, [], ◌∷◌, ◌++◌, length, map, filter, take, drop, get_or, slice_get, Some, None, Option, Result, Ok, Err, refl, sym, ap, subst, ◌∙◌, arith, T, Ordering, Less, Equal, Greater}
-use Rattle.std.specs.Prelude.{insert, remove}
+use Rattle.std.proofs.Common.{◌≡◌, ℕ, zero, suc, ◌<◌, ◌≤◌, Bool, true, false, cond, not, ◌&&◌, List, [], ◌∷◌, length, get_or, Some, Option, Result, Ok, Err, refl, sym, ap, subst, ◌∙◌, arith, T, Ordering, Less, Equal, Greater}
 use Rattle.std.specs.Ordering.{is_eq, is_lt, ordering_index, ordering_reverse}
-use Rattle.std.specs.List.{AllWithin, HoldsAt}
 use Rattle.std.specs.List.Sorted.{IsNonDecreasingBy, IsBinarySearchResult, IsSearchInRange}
 use Rattle.std.specs.FinMap.{find, put, is_sorted}
-use Rattle.std.specs.FinMap.Entries.{by_order, where_key, below_all}
+use Rattle.std.specs.FinMap.Entries.{by_order, below_all}
 use Rattle.fs_names.specs.Names.{Name, name_cmp, same_name}
 use Rattle.fs_names.proofs.Lemmas.{name_total, name_exact, same_name_refl}
 use Rattle.fs_seq.specs.declared.nodes.Link.{Link}
-use Rattle.fs_seq.specs.code.Nodes.{pair, pairs, number_of, without, StandsAt, BelongsAt, Searches}
+use Rattle.fs_seq.specs.code.Nodes.{pair, pairs, without, StandsAt, BelongsAt, Searches}
 
 -- the first of two
 both_first : (a b : Bool) → T (a && b) → T a

@@ -1,14 +1,13 @@
 -- What becomes of the graph when a node of the slab is written, added or removed.
-use Rattle.std.proofs.Common.{◌≡◌, ◌≢◌, ℕ, zero, suc, ◌+◌, ◌<◌, ◌≤◌, List, [], ◌∷◌, ◌++◌, length, map, take, drop, get_or, set, Some, None, Option, refl, sym, ap, subst, ◌∙◌, arith}
+use Rattle.std.proofs.Common.{◌≡◌, ◌≢◌, ℕ, zero, suc, List, [], ◌∷◌, map, get_or, Some, None, Option, refl, sym, ap, subst, ◌∙◌}
 use Rattle.std.specs.Prelude.{insert, remove, slice_set}
 use Rattle.slab.specs.Slab.{Slab, get, with_value, Updates}
 use Rattle.fs_names.specs.Names.{Name}
 use Rattle.fs_seq.specs.declared.nodes.Link.{Link}
 use Rattle.fs_seq.specs.declared.nodes.Node.{Node}
-use Rattle.fs_seq.specs.declared.nodes.Node.TheVariants as nodes
-use Rattle.fs_seq.specs.code.Graph.{Place, Dir, File, Graph, place_at, links_of, links_at, Sets}
+use Rattle.fs_seq.specs.code.Graph.{Place, Dir, File, place_at, links_at, Sets}
 use Rattle.fs_seq.specs.code.Nodes.{pair, pairs, place, slot_place, graph}
-use Rattle.fs_seq.proofs.NodeLemmas.{place_of_slot, place_got, place_missing, links_got, length-pairs}
+use Rattle.fs_seq.proofs.NodeLemmas.{place_of_slot, place_got, place_missing, links_got}
 use Rattle.fs_seq.specs.code.Effects.{Attaches, Detaches}
 
 -- a slot that was written

@@ -1,5 +1,5 @@
 -- What a call sees of a path whose last name was looked up, and the errors that follow.
-use Rattle.std.proofs.Common.{◌≡◌, ℕ, zero, suc, ◌+◌, ◌<◌, ◌≤◌, Bool, true, false, not, List, [], ◌∷◌, ◌++◌, length, map, Some, None, Option, is_some, refl, sym, ap, ◌∙◌, arith}
+use Rattle.std.proofs.Common.{◌≡◌, ℕ, ◌<◌, ◌≤◌, Bool, true, false, [], ◌∷◌, length, map, Some, None, Option, is_some, refl, sym, ap, ◌∙◌, arith}
 use Rattle.std.specs.Prelude.{nat_le}
 use Rattle.std.proofs.lemmas.List.{length-map}
 use Rattle.std.proofs.lemmas.Bool.Decides.{nat_tests}
@@ -11,9 +11,8 @@ use Rattle.fs_calls.specs.declared.errno.Errno.TheVariants.{Eexist, Enospc}
 use Rattle.fs_calls.specs.Tree.{Tree}
 use Rattle.fs_calls.specs.Shapes.{Shape, seen, is_there, is_full}
 use Rattle.fs_calls.specs.Shapes as shapes
-use Rattle.fs_calls.proofs.RowNames.{making}
 use Rattle.fs_calls.specs.Outcomes.{parents_resolution}
-use Rattle.fs_seq.specs.code.Graph.{Place, Dir, File, Graph, place_at, links_at, child, walk, tree_of, shape_of, shape_at, IsForest}
+use Rattle.fs_seq.specs.code.Graph.{Place, Dir, File, Graph, links_at, walk, tree_of, shape_of, shape_at, IsForest}
 use Rattle.fs_seq.specs.code.Nodes.{IsTaken, IsFree}
 use Rattle.fs_seq.specs.code.Effects.{making_fault, IsGap}
 use Rattle.fs_seq.proofs.Resolving.{walk_on, walk_off, seen_at, seen_none}

@@ -1,12 +1,9 @@
 -- What the calls that change the bytes of a file answer and leave.
-use Rattle.std.proofs.Common.{◌≡◌, ℕ, zero, suc, ◌+◌, ◌-◌, ◌<◌, ◌≤◌, Bool, true, false, cond, ◌&&◌, List, [], ◌∷◌, ◌++◌, length, take, drop, Some, None, Option, Result, Ok, Err, IsTrue, refl, sym, ap, subst, ◌∙◌, arith, append-nil}
-use Rattle.std.specs.Prelude.{nat_lt, replicate}
-use Rattle.std.proofs.Math.Seq.{take-append_seam}
-use Rattle.std.proofs.lemmas.List.{take-replicate, drop-replicate}
+use Rattle.std.proofs.Common.{◌≡◌, ℕ, ◌+◌, Bool, true, false, cond, ◌&&◌, List, length, Some, None, Option, IsTrue, refl, sym, ap, subst, ◌∙◌}
+use Rattle.std.specs.Prelude.{nat_lt}
 use Rattle.slab.specs.Slab.{Slab, get, with_value}
 use Rattle.fs_names.specs.Keys.{Key}
 use Rattle.fs_names.specs.First.{on, or_else}
-use Rattle.fs_calls.specs.declared.call.Call.{Call}
 use Rattle.fs_calls.specs.declared.call.Call.TheVariants.{Write, Truncate}
 use Rattle.fs_calls.specs.declared.errno.Errno.{Errno}
 use Rattle.fs_calls.specs.declared.errno.Errno.TheVariants.{Efbig}
@@ -17,10 +14,10 @@ use Rattle.fs_calls.specs.Tree.{Tree, inserted}
 use Rattle.fs_calls.specs.Tree as tree
 use Rattle.fs_calls.specs.Shapes.{seen, has_any, bytes_of}
 use Rattle.fs_calls.proofs.RowNames.{writing, truncating}
-use Rattle.fs_calls.specs.Outcomes.{fault, success, change, replied, unless, filled}
+use Rattle.fs_calls.specs.Outcomes.{fault, filled}
 use Rattle.fs_calls.specs.Rows.{written, resized}
 use Rattle.fs_seq.specs.Memory.{needs_memory}
-use Rattle.fs_seq.specs.code.Graph.{Place, File, Graph, place_at, walk, tree_of, IsForest}
+use Rattle.fs_seq.specs.code.Graph.{File, place_at, walk, tree_of, IsForest}
 use Rattle.fs_seq.specs.code.Nodes.{place, graph}
 use Rattle.fs_seq.specs.code.Effects.{Answers, Gives, Fills, overflow, too_long, written_if_any, IsSeen}
 use Rattle.fs_seq.proofs.NodeLemmas.{place_got}
@@ -28,7 +25,6 @@ use Rattle.fs_seq.proofs.SlabLemmas.{sets_value, same_graph}
 use Rattle.fs_seq.proofs.GraphFilled.{forest_filled, tree_filled}
 use Rattle.fs_seq.proofs.Looked.{is_seen, there_fault, bytes_there, write_looks, truncate_looks}
 use Rattle.fs_seq.proofs.Replies.{answers, needs}
-use Rattle.fs_calls.proofs.WrittenBytes.{written_whole, overwritten}
 
 module _ (s : Slab Node) (p : Key) (n : ℕ) (node node' : Node) (old new : List ℕ) (forest : IsForest (graph s)) (walked : walk (graph s) p ≡ Some n) (got : get s n ≡ Some node) (was : place node ≡ File old) (is : place node' ≡ File new) where
   -- the place of the file

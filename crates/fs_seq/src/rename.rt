@@ -14,7 +14,7 @@ ghost use Rattle.fs_seq.specs.Memory.{needs_memory};
 ghost use Rattle.slab.specs.Slab.{ContainsKey};
 
 use crate::nodes::{Link, Node, Spot, add_link, look_up, remove_link, search};
-use fs_calls::{Call, Errno, Reply};
+use fs_calls::{Call, Errno, Reply, rename_error};
 use fs_names::{ENTRY_LIMIT, Name, Path};
 use slab::Slab;
 use std::alloc::AllocError;
@@ -38,19 +38,6 @@ enum Plan {
     Within(Entry),
     /// To put the entry into another directory at a place.
     Across(Entry, usize, usize),
-}
-
-/// The error that the paths of a rename decide alone.
-fn text_fault(from: &Path, to: &Path) -> Option<Errno>
-    ensures { result ≡ by_text (form (Call.Rename from.now to.now)) }
-{
-    if from.len() == 0 || to.len() == 0 {
-        return Some(Errno::Ebusy);
-    }
-    if from.len() < to.len() && from.is_prefix_of(to) {
-        return Some(Errno::Einval);
-    }
-    None
 }
 
 /// The error of a node that should replace another.
@@ -78,7 +65,7 @@ fn decide(nodes: &Slab<Node>, from: &Path, to: &Path) -> Result<Plan, Errno>
     requires { IsForest (graph nodes.now) }
     ensures { Plans (graph nodes.now) from.now to.now result }
 {
-    if let Some(errno) = text_fault(from, to) {
+    if let Some(errno) = rename_error(from, to) {
         return Err(errno);
     }
     let source = match look_up(nodes, from) {

@@ -1,5 +1,5 @@
 -- What a rename has to do.
-use Rattle.std.specs.Prelude.{◌≡◌, ◌≢◌, ℕ, insert, remove, slice_set, Option, Some, None, Result, Ok, Err}
+use Rattle.std.specs.Prelude.{◌≡◌, ◌≢◌, ℕ, insert, remove, slice_set, Some, None, Result, Ok, Err}
 use Rattle.fs_names.specs.Names.{Name}
 use Rattle.fs_names.specs.Keys.{Key}
 use Rattle.fs_calls.specs.Outcomes.{fault}

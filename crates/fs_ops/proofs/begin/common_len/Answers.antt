@@ -1,5 +1,5 @@
 use Rattle.std.proofs.Common.{arith}
-use Rattle.fs_finish.proofs.ParentLemmas.{common_length}
+use Rattle.fs_names.proofs.ParentLemmas.{common_length}
 use Rattle.fs_ops.proofs.begin.common_len.Goals as goal
 
 pub returns-clause-len : goal.returns-clause-len

@@ -1,4 +1,4 @@
-use Rattle.std.proofs.Common.{◌≡◌, ap, sym, subst, ◌∙◌, Some}
+use Rattle.std.proofs.Common.{ap, sym, subst, ◌∙◌, Some}
 use Rattle.slab.specs.Slab.{Updates}
 use Rattle.fs_seq.specs.code.Nodes.{graph}
 use Rattle.fs_seq.proofs.SlabLemmas.{attaches}

@@ -1,4 +1,4 @@
-use Rattle.std.proofs.Common.{◌≡◌, ◌<◌, ℕ, length, sym, ◌∙◌, arith}
+use Rattle.std.proofs.Common.{◌<◌, length, sym, ◌∙◌, arith}
 use Rattle.fs_seq.specs.code.Nodes.{graph}
 use Rattle.fs_seq.specs.code.Graph.{tree_of}
 use Rattle.fs_seq.proofs.Spots.{making_root, making_lost, making_taken, making_full, is_gap}

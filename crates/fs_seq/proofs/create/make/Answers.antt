@@ -1,4 +1,4 @@
-use Rattle.std.proofs.Common.{◌≡◌, ◌+◌, ◌-◌, ◌<◌, ℕ, length, sym, arith}
+use Rattle.std.proofs.Common.{◌≡◌, ◌+◌, ◌-◌, ◌<◌, length, arith}
 use Rattle.fs_seq.specs.code.Nodes.{graph}
 use Rattle.fs_seq.proofs.Made.{is_made}
 use Rattle.fs_seq.proofs.create.make.Goals as goal

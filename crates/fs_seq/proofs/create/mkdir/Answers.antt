@@ -1,5 +1,4 @@
-use Rattle.std.proofs.Common.{◌≡◌, ◌∙◌, refl, ap}
-use Rattle.fs_calls.specs.Tree.{inserted}
+use Rattle.std.proofs.Common.{◌∙◌, refl}
 use Rattle.fs_seq.specs.code.Nodes.{graph}
 use Rattle.fs_seq.specs.code.Graph.{tree_of}
 use Rattle.fs_seq.specs.code.Effects.{making_fault}

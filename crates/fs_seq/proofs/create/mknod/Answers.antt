@@ -1,4 +1,4 @@
-use Rattle.std.proofs.Common.{◌≡◌, ◌∙◌, refl, sym, ap}
+use Rattle.std.proofs.Common.{◌∙◌, refl, sym, ap}
 use Rattle.fs_calls.specs.Tree.{inserted, File}
 use Rattle.fs_seq.specs.code.Nodes.{graph}
 use Rattle.fs_seq.specs.code.Graph.{tree_of}

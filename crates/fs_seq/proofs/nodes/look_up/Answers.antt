@@ -1,4 +1,4 @@
-use Rattle.std.proofs.Common.{◌≡◌, ℕ, ◌+◌, ◌-◌, ◌∙◌, ap, sym, Some, length, arith}
+use Rattle.std.proofs.Common.{◌≡◌, ◌+◌, ◌-◌, ◌∙◌, ap, sym, Some, length, arith}
 use Rattle.fs_seq.specs.code.Nodes.{graph, pairs}
 use Rattle.fs_seq.specs.code.Graph.{tree_of, walk}
 use Rattle.fs_seq.proofs.NodeLemmas.{has_key, place_got, rising_got, take_parent}

@@ -1,4 +1,4 @@
-use Rattle.std.proofs.Common.{◌≡◌, ◌++◌, ◌∷◌, [], ◌∙◌, ap, sym, refl, take, drop, suc, add-one, Some}
+use Rattle.std.proofs.Common.{◌∙◌, ap, take, drop, suc, add-one}
 use Rattle.fs_seq.specs.code.Nodes.{graph}
 use Rattle.fs_seq.specs.code.Graph.{walk, tree_of}
 use Rattle.fs_calls.specs.Outcomes.{resolution}

@@ -1,5 +1,5 @@
-use Rattle.std.proofs.Common.{◌≡◌, ap, subst, sym, refl, ◌∙◌, Some}
-use Rattle.fs_seq.specs.code.Nodes.{graph, place, pairs, StandsAt, BelongsAt}
+use Rattle.std.proofs.Common.{ap, sym, ◌∙◌, Some}
+use Rattle.fs_seq.specs.code.Nodes.{graph, pairs}
 use Rattle.fs_seq.proofs.NodeLemmas.{place_got, rising_got, step_found, step_missing, step_file}
 use Rattle.fs_seq.proofs.nodes.step.Goals as goal
 

@@ -1,4 +1,4 @@
-use Rattle.std.proofs.Common.{◌≡◌, ap, sym, subst, ◌∙◌, take, drop, refl}
+use Rattle.std.proofs.Common.{ap, sym, subst, ◌∙◌, take, drop}
 use Rattle.fs_seq.specs.code.Nodes.{graph, place}
 use Rattle.fs_calls.specs.Shapes.{bytes_of, has_any}
 use Rattle.fs_calls.proofs.RowNames.{reading}

@@ -1,4 +1,4 @@
-use Rattle.std.proofs.Common.{◌≡◌, ap, sym, subst, ◌∙◌, map, refl}
+use Rattle.std.proofs.Common.{ap, sym, subst, ◌∙◌, map}
 use Rattle.fs_seq.specs.code.Nodes.{graph, place, pairs}
 use Rattle.fs_calls.specs.Shapes.{names_of, has_any}
 use Rattle.fs_calls.proofs.RowNames.{listing}

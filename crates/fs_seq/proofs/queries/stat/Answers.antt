@@ -1,4 +1,4 @@
-use Rattle.std.proofs.Common.{◌≡◌, ap, sym, subst, ◌∙◌}
+use Rattle.std.proofs.Common.{ap, sym, subst, ◌∙◌}
 use Rattle.std.proofs.lemmas.List.{length-map}
 use Rattle.fs_names.specs.declared.kind.Kind.TheVariants as kind
 use Rattle.fs_seq.specs.code.Nodes.{graph, place, pairs}

@@ -1,4 +1,4 @@
-use Rattle.std.proofs.Common.{◌≡◌, ◌<◌, ℕ, length, sym, ap, ◌∙◌, arith, Some, None}
+use Rattle.std.proofs.Common.{◌<◌, length, sym, ap, ◌∙◌, arith, Some, None}
 use Rattle.fs_calls.specs.declared.call.Call.TheVariants.{Rmdir}
 use Rattle.fs_calls.specs.declared.errno.Errno.TheVariants.{Ebusy, Enotempty}
 use Rattle.fs_calls.proofs.RowNames.{removing}

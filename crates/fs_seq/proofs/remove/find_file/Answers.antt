@@ -1,4 +1,4 @@
-use Rattle.std.proofs.Common.{◌≡◌, ◌<◌, ℕ, length, sym, ap, ◌∙◌, arith, Some}
+use Rattle.std.proofs.Common.{◌<◌, length, sym, ap, ◌∙◌, arith, Some}
 use Rattle.fs_calls.specs.declared.call.Call.TheVariants.{Unlink}
 use Rattle.fs_calls.specs.declared.errno.Errno.TheVariants.{Eperm}
 use Rattle.fs_calls.proofs.RowNames.{unlinking}

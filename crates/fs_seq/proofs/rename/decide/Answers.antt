@@ -1,7 +1,5 @@
-use Rattle.std.proofs.Common.{◌≡◌, ◌≢◌, ℕ, ap, sym, subst, ◌∙◌, refl, Some, None, Ok}
-use Rattle.fs_seq.specs.code.Graph.{shape_at}
+use Rattle.std.proofs.Common.{◌≡◌, ℕ, sym, subst, ◌∙◌, Ok}
 use Rattle.fs_seq.specs.code.Nodes.{graph, LooksUp, IsTaken, IsFree}
-use Rattle.fs_seq.specs.declared.nodes.Spot.{Spot}
 use Rattle.fs_seq.specs.declared.nodes.Spot.TheVariants.{Taken, Free}
 use Rattle.fs_seq.proofs.NodeLemmas.{has_key}
 use Rattle.fs_seq.proofs.RenameFaults.{named, new_named, looked_up, taken_walk, fault_text, fault_source, fault_dest, missing, stays, onto, moves_onto, full, moves_beside, moves_to}
@@ -14,28 +12,28 @@ same_free : {a b m d e n : ℕ} → Free a b m ≡ Free d e n → a ≡ d
 same_free e = cc
 
 pub returns-in-Some : goal.returns-in-Some
-returns-in-Some c = fault_text _ c.args.from.now c.args.to.now c.in-Some.errno (sym c.text_fault.ensures ∙ c.in-Some.is)
+returns-in-Some c = fault_text _ c.args.from.now c.args.to.now c.in-Some.errno (sym c.rename_error.ensures ∙ c.in-Some.is)
 
 pub returns-in-Err : goal.returns-in-Err
-returns-in-Err c = fault_source (graph c.args.nodes.now) c.requires c.args.from.now c.args.to.now (sym c.text_fault.ensures ∙ c.in_default.is) c.in-Err.errno c.in-Err.ensures
+returns-in-Err c = fault_source (graph c.args.nodes.now) c.requires c.args.from.now c.args.to.now (sym c.rename_error.ensures ∙ c.in_default.is) c.in-Err.errno c.in-Err.ensures
 
 pub returns-in-Err-look_up : goal.returns-in-Err-look_up
 returns-in-Err-look_up c =
-    let text = sym c.text_fault.ensures ∙ c.in_default.is in
+    let text = sym c.rename_error.ensures ∙ c.in_default.is in
     fault_dest (graph c.args.nodes.now) c.requires c.args.from.now c.args.to.now text c.in-Err-look_up.errno
     (looked_up (graph c.args.nodes.now) c.requires c.args.from.now c.args.to.now text c.args.from.now c.in-Ok.spot c.in-Ok.ensures) c.in-Err-look_up.ensures
 
 pub returns-in_default-source : goal.returns-in_default-source
 returns-in_default-source c =
     let g = graph c.args.nodes.now in
-    missing g c.requires c.args.from.now c.args.to.now (sym c.text_fault.ensures ∙ c.in_default.is) _ _ _ c.in-Ok-look_up.spot
+    missing g c.requires c.args.from.now c.args.to.now (sym c.rename_error.ensures ∙ c.in_default.is) _ _ _ c.in-Ok-look_up.spot
     (subst (λ s. LooksUp g c.args.from.now (Ok s)) c.in_default-source.is c.in-Ok.ensures) c.in-Ok-look_up.ensures
 
 pub kinds_fault-requires-clause-node : goal.kinds_fault-requires-clause-node
 kinds_fault-requires-clause-node c =
     let g = graph c.args.nodes.now in
     let p = c.args.from.now in
-    let text = sym c.text_fault.ensures ∙ c.in_default.is in
+    let text = sym c.rename_error.ensures ∙ c.in_default.is in
     let at : IsTaken g p c.in-Taken.dir c.in-Taken.place c.in-Taken.node = subst (λ s. LooksUp g p (Ok s)) c.in-Taken.is c.in-Ok.ensures in
     has_key c.args.nodes.now c.in-Taken.node (c.requires.inside p c.in-Taken.node (taken_walk g c.requires p c.args.to.now text p _ _ _ (named g c.requires p c.args.to.now text) at))
 
@@ -43,7 +41,7 @@ pub kinds_fault-requires-clause-victim : goal.kinds_fault-requires-clause-victim
 kinds_fault-requires-clause-victim c =
     let g = graph c.args.nodes.now in
     let q = c.args.to.now in
-    let text = sym c.text_fault.ensures ∙ c.in_default.is in
+    let text = sym c.rename_error.ensures ∙ c.in_default.is in
     let at : IsTaken g q c.in-Taken-2.dir c.in-Taken-2.place c.in-Taken-2.node = subst (λ s. LooksUp g q (Ok s)) c.in-Taken-2.is c.in-Ok-look_up.ensures in
     has_key c.args.nodes.now c.in-Taken-2.node (c.requires.inside q c.in-Taken-2.node (taken_walk g c.requires c.args.from.now q text q _ _ _ (new_named g c.requires c.args.from.now q text) at))
 
@@ -52,7 +50,7 @@ returns-in-Taken-dest c =
     let g = graph c.args.nodes.now in
     let p = c.args.from.now in
     let q = c.args.to.now in
-    stays g c.requires p q (sym c.text_fault.ensures ∙ c.in_default.is) _ _ _
+    stays g c.requires p q (sym c.rename_error.ensures ∙ c.in_default.is) _ _ _
     (subst (λ s. LooksUp g p (Ok s)) c.in-Taken.is c.in-Ok.ensures) _ _ _
     (subst (λ s. LooksUp g q (Ok s)) c.in-Taken-dest.is c.in-Ok-look_up.ensures) c.if-other-node.true
 
@@ -61,7 +59,7 @@ returns-in-Some-kinds_fault c =
     let g = graph c.args.nodes.now in
     let p = c.args.from.now in
     let q = c.args.to.now in
-    onto g c.requires p q (sym c.text_fault.ensures ∙ c.in_default.is) _ _ _
+    onto g c.requires p q (sym c.rename_error.ensures ∙ c.in_default.is) _ _ _
     (subst (λ s. LooksUp g p (Ok s)) c.in-Taken.is c.in-Ok.ensures) _ _ _ _
     (subst (λ s. LooksUp g q (Ok s)) c.in-Taken-2.is c.in-Ok-look_up.ensures)
     (λ e. c.if-other-node.false (same_taken (sym c.in-Taken-dest.is ∙ c.in-Taken-2.is) ∙ e))
@@ -74,7 +72,7 @@ returns-in-None c =
     let q = c.args.to.now in
     let at : IsTaken g p c.in-Taken.dir c.in-Taken.place c.in-Taken.node = subst (λ s. LooksUp g p (Ok s)) c.in-Taken.is c.in-Ok.ensures in
     let to : IsTaken g q c.in-Taken-2.dir c.in-Taken-2.place c.in-Taken-2.node = subst (λ s. LooksUp g q (Ok s)) c.in-Taken-2.is c.in-Ok-look_up.ensures in (
-      moves_onto g c.requires p q (sym c.text_fault.ensures ∙ c.in_default.is) _ _ _ at _ _ _ to
+      moves_onto g c.requires p q (sym c.rename_error.ensures ∙ c.in_default.is) _ _ _ at _ _ _ to
           (λ e. c.if-other-node.false (same_taken (sym c.in-Taken-dest.is ∙ c.in-Taken-2.is) ∙ e))
           (λ room. sym c.in-None.is ∙ c.kinds_fault.ensures room),
       at,
@@ -88,7 +86,7 @@ returns-in-Free c =
     let q = c.args.to.now in
     let at : IsTaken g p c.in-Taken.dir c.in-Taken.place c.in-Taken.node = subst (λ s. LooksUp g p (Ok s)) c.in-Taken.is c.in-Ok.ensures in
     let to : IsFree g q c.in-Free.dir c.in-Free.field-1 c.in-Free.field-2 = subst (λ s. LooksUp g q (Ok s)) c.in-Free.is c.in-Ok-look_up.ensures in (
-      moves_beside g c.requires p q (sym c.text_fault.ensures ∙ c.in_default.is) _ _ _ at _ _ _ to c.if-dir-entry.true,
+      moves_beside g c.requires p q (sym c.rename_error.ensures ∙ c.in_default.is) _ _ _ at _ _ _ to c.if-dir-entry.true,
       at,
       (c.in-Free.field-1, c.in-Free.field-2, subst (λ d. IsFree g q d c.in-Free.field-1 c.in-Free.field-2) c.if-dir-entry.true to),
     )
@@ -98,7 +96,7 @@ returns-in-Free-2 c =
     let g = graph c.args.nodes.now in
     let p = c.args.from.now in
     let q = c.args.to.now in
-    full g c.requires p q (sym c.text_fault.ensures ∙ c.in_default.is) _ _ _
+    full g c.requires p q (sym c.rename_error.ensures ∙ c.in_default.is) _ _ _
     (subst (λ s. LooksUp g p (Ok s)) c.in-Taken.is c.in-Ok.ensures) _ _ _
     (subst (λ s. LooksUp g q (Ok s)) c.in-Free-2.is c.in-Ok-look_up.ensures)
     (λ e. c.if-dir-entry.false (same_free (sym c.in-Free.is ∙ c.in-Free-2.is) ∙ e)) c.if-entries-ge-ENTRY_LIMIT.true
@@ -110,7 +108,7 @@ returns-in-Free-3 c =
     let q = c.args.to.now in
     let at : IsTaken g p c.in-Taken.dir c.in-Taken.place c.in-Taken.node = subst (λ s. LooksUp g p (Ok s)) c.in-Taken.is c.in-Ok.ensures in
     let tested : IsFree g q c.in-Free-2.field-0 c.in-Free-2.field-1 c.in-Free-2.entries = subst (λ s. LooksUp g q (Ok s)) c.in-Free-2.is c.in-Ok-look_up.ensures in (
-      moves_to g c.requires p q (sym c.text_fault.ensures ∙ c.in_default.is) _ _ _ at _ _ _ tested c.if-entries-ge-ENTRY_LIMIT.false,
+      moves_to g c.requires p q (sym c.rename_error.ensures ∙ c.in_default.is) _ _ _ at _ _ _ tested c.if-entries-ge-ENTRY_LIMIT.false,
       at,
       (c.in-Free-3.field-2, subst (λ s. LooksUp g q (Ok s)) c.in-Free-3.is c.in-Ok-look_up.ensures),
       λ e. c.if-dir-entry.false (same_free (sym c.in-Free.is ∙ c.in-Free-3.is) ∙ sym e),

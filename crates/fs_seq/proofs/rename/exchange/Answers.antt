@@ -1,4 +1,4 @@
-use Rattle.std.proofs.Common.{◌≡◌, ap, sym, subst, ◌∙◌, refl, Some}
+use Rattle.std.proofs.Common.{subst, Some}
 use Rattle.std.specs.Prelude.{slice_set}
 use Rattle.fs_seq.specs.code.Graph.{Dir, Sets, links_at}
 use Rattle.fs_seq.specs.code.Nodes.{graph}

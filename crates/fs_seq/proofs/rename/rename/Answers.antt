@@ -1,9 +1,6 @@
-use Rattle.std.proofs.Common.{◌≡◌, ◌<◌, ◌≤◌, ◌+◌, ◌-◌, ℕ, ◌∷◌, [], length, ap, sym, subst, ◌∙◌, refl, Some, None, Ok, Err, Result, OnErr, arith, slice_get}
-use Rattle.std.specs.FinMap.{put}
-use Rattle.std.specs.Prelude.{remove}
-use Rattle.fs_names.specs.Names.{Name, name_cmp}
+use Rattle.std.proofs.Common.{◌≡◌, ◌≤◌, ◌-◌, ℕ, length, sym, subst, ◌∙◌, Some, Ok, Err, Result, OnErr, arith, slice_get}
+use Rattle.fs_names.specs.Names.{Name}
 use Rattle.fs_names.specs.Keys.{Key, last_of}
-use Rattle.fs_seq.specs.code.Graph.{Graph, Dir, Sets, links_at}
 use Rattle.fs_seq.specs.code.Nodes.{graph}
 use Rattle.fs_seq.specs.code.Renaming.{Plans}
 use Rattle.fs_seq.specs.declared.rename.Plan.TheVariants.{Stay, Onto, Within, Across}

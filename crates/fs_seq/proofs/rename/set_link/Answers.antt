@@ -1,5 +1,5 @@
-use Rattle.std.proofs.Common.{◌≡◌, ◌<◌, ap, sym, subst, ◌∙◌, refl, length, is_some, slice_set}
-use Rattle.fs_seq.specs.code.Nodes.{graph, pairs, pair, place}
+use Rattle.std.proofs.Common.{◌<◌, ap, sym, subst, ◌∙◌, length, is_some, slice_set}
+use Rattle.fs_seq.specs.code.Nodes.{pair, place}
 use Rattle.fs_seq.specs.code.Graph.{Dir}
 use Rattle.fs_seq.proofs.NodeLemmas.{has_key, length-pairs}
 use Rattle.fs_seq.proofs.SlabLemmas.{sets_value, links_read, dir_not_file}

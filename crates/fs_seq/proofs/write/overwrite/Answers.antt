@@ -1,4 +1,4 @@
-use Rattle.std.proofs.Common.{◌≡◌, ◌+◌, ◌++◌, ap, sym, ◌∙◌, length, take, drop}
+use Rattle.std.proofs.Common.{sym, ◌∙◌}
 use Rattle.fs_calls.proofs.WrittenBytes.{written_whole, overwritten}
 use Rattle.fs_seq.proofs.write.overwrite.Goals as goal
 

@@ -1,5 +1,5 @@
-use Rattle.std.proofs.Common.{◌≡◌, ap, sym, ◌∙◌, Some, refl, length}
-use Rattle.fs_seq.specs.code.Nodes.{graph, place, pairs}
+use Rattle.std.proofs.Common.{ap, sym, ◌∙◌, Some, refl, length}
+use Rattle.fs_seq.specs.code.Nodes.{graph, place}
 use Rattle.fs_calls.proofs.RowNames.{writing}
 use Rattle.fs_calls.specs.Outcomes.{resolution}
 use Rattle.fs_seq.specs.code.Graph.{walk, tree_of, File}
@@ -10,7 +10,7 @@ use Rattle.fs_seq.proofs.NodeLemmas.{has_key, place_got}
 use Rattle.fs_seq.proofs.SlabLemmas.{same_graph}
 use Rattle.fs_seq.proofs.Looked.{is_seen, write_looks, lost_fault, there_fault}
 use Rattle.fs_seq.proofs.Replies.{refused, IfOk-map, OnErr-map}
-use Rattle.fs_seq.proofs.Written.{is_written, stays, write_needs}
+use Rattle.fs_seq.proofs.Written.{is_written, write_needs}
 use Rattle.fs_seq.proofs.write.write.Goals as goal
 
 pub index_mut-requires : goal.index_mut-requires

@@ -1,4 +1,4 @@
-use Rattle.std.proofs.Common.{◌≡◌, ap, sym, ◌∙◌, refl}
+use Rattle.std.proofs.Common.{ap, sym, ◌∙◌, refl}
 use Rattle.fs_calls.specs.Outcomes.{after}
 use Rattle.fs_calls.specs.declared.call.Call.TheVariants.{Stat, Readdir, Read}
 use Rattle.fs_seq.proofs.Replies.{leaves, on_ok}

@@ -1,16 +1,12 @@
--- On what paths tell alone.
-use Rattle.std.proofs.Common.{◌≡◌, ℕ, suc, ◌+◌, ◌≤◌, ◌<◌, Bool, true, false, cond, [], ◌∷◌, length, Option, Some, None, refl, sym, ap, ◌∙◌, arith, length-append, IsTrue, ◌↔◌}
+-- How a path stands to its parent and to another path, by how many names they have.
+use Rattle.std.proofs.Common.{◌≡◌, ℕ, suc, ◌+◌, ◌≤◌, ◌<◌, Bool, true, false, cond, [], ◌∷◌, length, Option, Some, None, refl, sym, ap, ◌∙◌, arith, length-append}
 use Rattle.std.specs.Prelude.{slice_get, is_some, nat_eq, nat_le}
 use Rattle.std.proofs.lemmas.Bool.Decides.{nat_tests}
 use Rattle.fs_names.specs.Names.{Name, same_name}
 use Rattle.fs_names.specs.Keys.{Key, after_prefix, common_len, has_more, last_of, parent_of}
 use Rattle.fs_names.specs.Parts.{is_end, common}
 use Rattle.fs_names.proofs.Lemmas.{after_prefix-exact, prefix_common}
-use Rattle.fs_calls.specs.Forms.{AtPair, by_text}
-use Rattle.fs_calls.specs.declared.target.PairCall.TheVariants as pairs
-use Rattle.fs_calls.proofs.RowNames.{if_below}
-use Rattle.fs_calls.specs.declared.errno.Errno.TheVariants.{Einval}
-use Rattle.fs_finish.proofs.ParentLemmas.{common_length}
+use Rattle.fs_names.proofs.ParentLemmas.{common_length}
 
 -- ---- prefixes, by lengths
 
@@ -81,29 +77,3 @@ last_is (y ∷ p) i x l e =
     let same : i ≡ length p = omega arith in
     let h : Some x ≡ Some (last_of (y ∷ p)) = sym e ∙ ap (slice_get (y ∷ p)) same ∙ last_at y p in
     cc
-
--- ---- errors of the texts
-
-pub text_below : (p q : Key) → (p ≡ [] → ⊥) → (q ≡ [] → ⊥) → has_more (after_prefix p q) ≡ true → by_text (AtPair pairs.Rename p q) ≡ Some Einval
-text_below [] q a b h = absurd (a refl)
-text_below (x ∷ p) [] a b h = absurd (b refl)
-text_below (x ∷ p) (y ∷ q) a b h = go (after_prefix (x ∷ p) (y ∷ q)) h
-  where
-    go : (o : Option Key) → has_more o ≡ true → if_below o ≡ Some Einval
-    go None h = absurd (cc)
-    go (Some []) h = absurd (cc)
-    go (Some (z ∷ r)) h = refl
-
-pub text_none : (p q : Key) → (p ≡ [] → ⊥) → (q ≡ [] → ⊥) → has_more (after_prefix p q) ≡ false → by_text (AtPair pairs.Rename p q) ≡ None
-text_none [] q a b h = absurd (a refl)
-text_none (x ∷ p) [] a b h = absurd (b refl)
-text_none (x ∷ p) (y ∷ q) a b h = go (after_prefix (x ∷ p) (y ∷ q)) h
-  where
-    go : (o : Option Key) → has_more o ≡ false → if_below o ≡ None
-    go None h = refl
-    go (Some []) h = refl
-    go (Some (z ∷ r)) h = absurd (cc)
-
--- a path that was asked whether it is the root
-pub not_root : (p : Key) (b : Bool) → IsTrue b ↔ (p ≡ []) → b ≡ false → (p ≡ [] → ⊥)
-not_root p b h e r = let t : IsTrue b = h.1 r in absurd (cc)

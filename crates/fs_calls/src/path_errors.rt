@@ -1,0 +1,57 @@
+//! The errors that the paths of a call decide alone.
+
+ghost use Rattle.std.specs.Prelude.{◌≡◌};
+ghost use Rattle.fs_calls.specs.Forms.{form, by_text, root_error};
+ghost use Rattle.fs_calls.specs.code.Targets.{form_of};
+ghost use Rattle.fs_calls.specs.Forms as forms;
+ghost use Rattle.fs_calls.specs.declared.target.PairCall.TheVariants as pairs;
+
+use crate::call::Call;
+use crate::errno::Errno;
+use crate::target::{EntryCall, PairCall, Target};
+use fs_names::Path;
+
+/// The error of a rename that its paths alone decide, if any: `EBUSY` where either is the root, `EINVAL` where the
+/// new path is below the old one (POSIX.1-2017, XSH 3, rename()).
+pub fn rename_error(path: &Path, new_path: &Path) -> Option<Errno>
+    ensures { result ≡ by_text (forms.AtPair pairs.Rename path.now new_path.now) }
+{
+    if path.is_empty() || new_path.is_empty() {
+        return Some(Errno::Ebusy);
+    }
+    if path.is_proper_prefix_of(new_path) {
+        return Some(Errno::Einval);
+    }
+    None
+}
+
+/// The error of a call on the root's entry.
+fn root_error(entry: EntryCall) -> Errno
+    ensures { result ≡ root_error entry }
+{
+    match entry {
+        EntryCall::Mkdir | EntryCall::Mknod => Errno::Eexist,
+        EntryCall::Unlink => Errno::Eperm,
+        EntryCall::Rmdir => Errno::Ebusy,
+    }
+}
+
+/// The error that the paths of a target alone decide.
+fn target_error(aim: Target<'_>) -> Option<Errno>
+    ensures { result ≡ by_text (form_of aim.entry) }
+{
+    match aim {
+        Target::Entry(entry, path) if path.is_empty() => Some(root_error(entry)),
+        Target::Node(_, _) | Target::Entry(_, _) => None,
+        Target::Pair(PairCall::Rename, path, new_path) => rename_error(path, new_path),
+    }
+}
+
+impl Call {
+    /// The error that its paths alone decide, if any: it holds on every tree, and comes before all others.
+    pub fn error_by_paths(&self) -> Option<Errno>
+        ensures { result ≡ by_text (form self.now) }
+    {
+        target_error(self.target())
+    }
+}

@@ -1,9 +1,0 @@
-use Rattle.std.proofs.Common.{arith, ◌∙◌}
-use Rattle.fs_finish.proofs.TextLemmas.{same_by_length, other_by_length}
-use Rattle.fs_finish.proofs.text.is_same.Goals as goal
-
-pub returns-then-len : goal.returns-then-len
-returns-then-len c = other_by_length c.args.path.now c.args.other.now (λ e. absurd (omega arith))
-
-pub returns : goal.returns
-returns c = c.is_prefix_of.ensures ∙ same_by_length c.args.path.now c.args.other.now (omega arith)
