@@ -76,6 +76,14 @@ gone ps n p q link found there old new = go (kid_in (set ps n q) link.dir link.n
     go None e = e
     go (Some m) e = absurd (by m (eqb m n) refl (sym (at_set link_of ps n q (slice_get_within ps n p there) m) ∙ kid_link (set ps n q) link.dir link.name m e))
 
+-- where a node loses its entry, the graph was the new one with it
+pub unlinked_back : (ps : List (Option Node)) (n : ℕ) (p q : Option Node) (link : Link) → IsFound ps → slice_get ps n ≡ Some p → link_of p ≡ Some link → link_of q ≡ None → content_of q ≡ content_of p → content_at ps link.dir ≡ Some contents.Dir
+    → graph_in ps ≡ linked_in link.dir link.name n (graph_in (set ps n q))
+unlinked_back ps n p q link found there old new same dir =
+    let free : kid_in (set ps n q) link.dir link.name ≡ None = gone ps n p q link found there old new in
+    let dir0 : content_at (set ps n q) link.dir ≡ Some contents.Dir = same_set content_of ps n p q there same link.dir ∙ dir in
+    ap graph_in (sym (set_back ps n p q there)) ∙ linked_graph (set ps n q) n q p link (get_set ps n p q there) new old (sym same) free dir0
+
 -- a node loses its entry
 pub unlinked_graph : (ps : List (Option Node)) (n : ℕ) (p q : Option Node) (link : Link) → IsFound ps → slice_get ps n ≡ Some p → link_of p ≡ Some link → link_of q ≡ None → content_of q ≡ content_of p → content_at ps link.dir ≡ Some contents.Dir
     → graph_in (set ps n q) ≡ unlinked_in link.dir link.name (graph_in ps)

@@ -1,0 +1,134 @@
+//! Uses a store as its examples do, then draws calls of a store and gives each to the store with sibling links and to the one without an index. It prints how
+//! many calls of each kind were drawn and how many could do what they are for, and how many answers differed: none.
+#![tactic(auto)]
+
+mod calls;
+mod drawing;
+mod examples;
+mod tally;
+mod twins;
+
+use anyhow::Result;
+use drawing::{below, name};
+use fs_names::{Kind, Name};
+use rand_core::{Rng, SeedableRng};
+use rand_pcg::Pcg32;
+use std::alloc::Global;
+use tally::Tally;
+use twins::{Twin, Twins};
+
+/// How many calls are drawn.
+const CALLS: u32 = 10_000;
+
+/// A directory or a file.
+fn kind(random: &mut Pcg32) -> Kind {
+    if below(random, 2) == 0 {
+        Kind::Dir
+    } else {
+        Kind::File
+    }
+}
+
+/// A position among the nodes.
+fn position(random: &mut Pcg32, twins: &Twins) -> usize {
+    let word = random.next_u32() as usize;
+    word.checked_rem(twins.len()).unwrap_or(0)
+}
+
+/// One of the nodes.
+fn node(random: &mut Pcg32, twins: &Twins) -> Twin {
+    let position = position(random, twins);
+    twins.node(position)
+}
+
+/// The root half the time, so that it has many entries, and else one of the nodes.
+fn directory(random: &mut Pcg32, twins: &Twins) -> Twin {
+    if below(random, 2) == 0 {
+        twins.node(0)
+    } else {
+        node(random, twins)
+    }
+}
+
+/// A call that changes nothing.
+fn look(random: &mut Pcg32, name: &Name, twins: &mut Twins, tally: &mut Tally) {
+    let dir = directory(random, twins);
+    let node = node(random, twins);
+    let there = twins.name_above(&dir, name);
+    match below(random, 4) {
+        0 => tally.find.count(twins.find(&dir, name)),
+        1 => tally.find.count(twins.find(&dir, &there)),
+        2 => tally.look.count(twins.look(&node)),
+        _ => tally.read.count(twins.read(&dir)),
+    }
+}
+
+/// A call that changes the entries. What goes has the name of an entry, if there is one.
+fn change(
+    random: &mut Pcg32,
+    (name, new_name): (&Name, &Name),
+    twins: &mut Twins,
+    tally: &mut Tally,
+) {
+    let (dir, to) = (directory(random, twins), directory(random, twins));
+    let node = node(random, twins);
+    let there = twins.name_above(&dir, name);
+    match below(random, 5) {
+        0 => tally.unlink.count(twins.unlink(&dir, &there)),
+        1 => {
+            let moved = twins.move_entry(&dir, &there, &to, new_name);
+            tally.move_entry.count(moved);
+        }
+        _ => tally.link.count(twins.link(&dir, name, &node)),
+    }
+}
+
+/// A drawn call.
+fn call(
+    alloc: Global,
+    random: &mut Pcg32,
+    (name, new_name): (&Name, &Name),
+    twins: &mut Twins,
+    tally: &mut Tally,
+) -> Result<()> {
+    match below(random, 16) {
+        0..2 => tally.reserve.count(twins.reserve(kind(random))?),
+        2..4 => {
+            let position = position(random, twins);
+            tally.release.count(twins.release(position));
+        }
+        4 => {
+            let file = node(random, twins);
+            let swapped = twins.swap_content(alloc, &file, name.bytes())?;
+            tally.swap_content.count(swapped);
+        }
+        5..12 => change(random, (name, new_name), twins, tally),
+        _ => look(random, name, twins, tally),
+    }
+    Ok(())
+}
+
+/// The calls with drawn names.
+fn draw(alloc: Global, random: &mut Pcg32, twins: &mut Twins, tally: &mut Tally) -> Result<()> {
+    if let (Some(name), Some(new_name)) = (name(random), name(random)) {
+        call(alloc, random, (&name, &new_name), twins, tally)?;
+    }
+    Ok(())
+}
+
+fn main(rt: HostRuntime) -> Result<()> {
+    examples::two_numbers(rt.alloc())?;
+    examples::names_in_order(rt.alloc())?;
+    examples::bytes_of_a_file(rt.alloc())?;
+    let mut random = Pcg32::seed_from_u64(1);
+    let mut twins = Twins::new(rt.alloc())?;
+    let mut tally = Tally::default();
+    for _ in 0..CALLS {
+        draw(rt.alloc(), &mut random, &mut twins, &mut tally)?;
+    }
+    for (what, row) in tally.rows() {
+        println!(&rt; "{what}: {} of {}", row.done, row.drawn)?;
+    }
+    println!(&rt; "answers that differ: {}", twins.others)?;
+    Ok(())
+}

@@ -1,0 +1,237 @@
+//! The two stores, which get the same calls.
+
+use crate::calls::{Linked, Plain};
+use fs_names::{Kind, Name};
+use fs_nodes::{NoNode, NodeNo, Store, plain};
+use std::alloc::{AllocError, Global};
+
+/// How many nodes there may be: so few that calls are refused.
+const LIMIT: usize = 30;
+
+/// A node's number in each of the two stores.
+#[derive(Clone, Copy, Debug, PartialEq, Eq)]
+pub struct Twin {
+    pub linked: NodeNo,
+    pub plain: NodeNo,
+}
+
+impl Twin {
+    /// The root.
+    fn root() -> Twin {
+        Twin {
+            linked: NodeNo::new(0),
+            plain: NodeNo::new(0),
+        }
+    }
+}
+
+/// Both stores, and the nodes that they have, by their numbers in each.
+#[derive(Drop)]
+pub struct Twins {
+    linked: Linked,
+    plain: Plain,
+    nodes: Vec<Twin>,
+    /// How many answers differed.
+    pub others: u32,
+}
+
+impl Twins {
+    /// The roots alone.
+    pub fn new(alloc: Global) -> Result<Twins, AllocError> {
+        let mut nodes = Vec::new(alloc);
+        nodes.push(Twin::root())?;
+        Ok(Twins {
+            linked: Linked {
+                store: Store::new(alloc, LIMIT)?,
+            },
+            plain: Plain {
+                store: plain::Store::new(alloc, LIMIT)?,
+            },
+            nodes,
+            others: 0,
+        })
+    }
+
+    /// How many nodes there are.
+    pub fn len(&self) -> usize {
+        self.nodes.len()
+    }
+
+    /// The node at a position, the root past the last.
+    pub fn node(&self, position: usize) -> Twin {
+        match self.nodes.get(position) {
+            Some(twin) => *twin,
+            None => Twin::root(),
+        }
+    }
+
+    /// The name of the directory's entry above this name, or of its first one; this name where there are no entries.
+    pub fn name_above(&self, dir: &Twin, name: &Name) -> Name {
+        let store = &self.linked.store;
+        let above = store.next_name(dir.linked, Some(name));
+        match above.or(store.next_name(dir.linked, None)) {
+            Some((above, _)) => above,
+            None => name.copy(),
+        }
+    }
+
+    /// Counts an answer that differs.
+    fn expect(&mut self, same: bool) {
+        if !same {
+            self.others = self.others.wrapping_add(1);
+        }
+    }
+
+    /// Whether the two stores answered the same node.
+    fn are_one(&self, linked: Option<NodeNo>, plain: Option<NodeNo>) -> bool {
+        match (linked, plain) {
+            (Some(linked), Some(plain)) => {
+                let twin = Twin { linked, plain };
+                self.nodes.iter().any(|node| *node == twin)
+            }
+            (None, None) => true,
+            _ => false,
+        }
+    }
+
+    /// A number is reserved in each store. It answers whether there was one.
+    pub fn reserve(&mut self, kind: Kind) -> Result<bool, AllocError> {
+        match (
+            self.linked.store.reserve(kind),
+            self.plain.store.reserve(kind),
+        ) {
+            (Ok(linked), Ok(plain)) => {
+                self.nodes.push(Twin { linked, plain })?;
+                Ok(true)
+            }
+            (a, b) => {
+                self.expect(a == Err(NoNode::Full) && b == Err(NoNode::Full));
+                Ok(false)
+            }
+        }
+    }
+
+    /// A node becomes an entry. It answers whether it did.
+    pub fn link(&mut self, dir: &Twin, name: &Name, node: &Twin) -> bool {
+        let done = self.linked.link(dir.linked, name, node.linked);
+        let same = done == self.plain.link(dir.plain, name, node.plain);
+        self.expect(same);
+        done
+    }
+
+    /// An entry goes. It answers whether there was one.
+    pub fn unlink(&mut self, dir: &Twin, name: &Name) -> bool {
+        let node = self.linked.unlink(dir.linked, name);
+        let other = self.plain.unlink(dir.plain, name);
+        let same = self.are_one(node, other);
+        self.expect(same);
+        node.is_some()
+    }
+
+    /// An entry moves. It answers whether it did.
+    pub fn move_entry(&mut self, from: &Twin, name: &Name, to: &Twin, new_name: &Name) -> bool {
+        let done = self
+            .linked
+            .move_entry(from.linked, name, to.linked, new_name);
+        let same = done == self.plain.move_entry(from.plain, name, to.plain, new_name);
+        self.expect(same);
+        done
+    }
+
+    /// The node at a position gives its number back. It answers whether it did.
+    pub fn release(&mut self, position: usize) -> bool {
+        let node = self.node(position);
+        let done = self.linked.release(node.linked);
+        let same = done == self.plain.release(node.plain);
+        self.expect(same);
+        if done && position < self.nodes.len() {
+            let _ = self.nodes.swap_remove(position);
+        }
+        done
+    }
+
+    /// A file gets these bytes. It answers whether there was one.
+    pub fn swap_content(
+        &mut self,
+        alloc: Global,
+        file: &Twin,
+        bytes: &[u8],
+    ) -> Result<bool, AllocError> {
+        let old = self.linked.swap_content(alloc, file.linked, bytes)?;
+        let other = self.plain.swap_content(alloc, file.plain, bytes)?;
+        let same = match (&old, &other) {
+            (Some(a), Some(b)) => a.as_slice() == b.as_slice(),
+            (None, None) => true,
+            _ => false,
+        };
+        self.expect(same);
+        Ok(old.is_some())
+    }
+
+    /// Looks an entry up. It answers whether there is one.
+    pub fn find(&mut self, dir: &Twin, name: &Name) -> bool {
+        let (node, steps) = self.linked.store.find_steps(dir.linked, name);
+        let other = self.plain.store.find(dir.plain, name);
+        let entries = self.plain.store.entries(dir.plain);
+        let again = self.linked.store.find(dir.linked, name);
+        let same = self.are_one(node, other) && again == node && steps <= entries;
+        self.expect(same);
+        node.is_some()
+    }
+
+    /// Whether the two stores say the same of a node.
+    fn are_alike(&self, node: &Twin) -> bool {
+        let (linked, plain) = (&self.linked.store, &self.plain.store);
+        linked.is_used(node.linked) == plain.is_used(node.plain)
+            && linked.is_dir(node.linked) == plain.is_dir(node.plain)
+            && linked.is_file(node.linked) == plain.is_file(node.plain)
+            && linked.entries(node.linked) == plain.entries(node.plain)
+            && linked.content(node.linked) == plain.content(node.plain)
+    }
+
+    /// Looks at a node. It answers whether it has an entry.
+    pub fn look(&mut self, node: &Twin) -> bool {
+        let parent = self.linked.store.parent(node.linked);
+        let other = self.plain.store.parent(node.plain);
+        let kind = self.linked.kind(node.linked);
+        let other_kind = self.plain.kind(node.plain);
+        let same = self.are_alike(node) && self.are_one(parent, other) && kind == other_kind;
+        self.expect(same);
+        parent.is_some()
+    }
+
+    /// Reads a directory to its end, in one store from node to node and in the other from name to name. It answers
+    /// whether there are entries.
+    pub fn read(&mut self, dir: &Twin) -> bool {
+        let mut entry = self.linked.store.next_name(dir.linked, None);
+        let mut other = self.plain.store.next_name(dir.plain, None);
+        let has_entries = entry.is_some();
+        for _ in 0..LIMIT {
+            let same = self.are_one_entry(&entry, &other);
+            self.expect(same);
+            let (Some((name, node)), Some((low, _))) = (entry, other) else {
+                return has_entries;
+            };
+            let same = self.linked.store.next_name(dir.linked, Some(&name))
+                == self.linked.store.next_entry_after(node);
+            self.expect(same);
+            entry = self.linked.store.next_entry_after(node);
+            other = self.plain.store.next_name(dir.plain, Some(&low));
+        }
+        has_entries
+    }
+
+    /// Whether the two stores answered the same entry.
+    fn are_one_entry(
+        &self,
+        linked: &Option<(Name, NodeNo)>,
+        plain: &Option<(Name, NodeNo)>,
+    ) -> bool {
+        match (linked, plain) {
+            (Some((name, node)), Some((other_name, other))) => name.same(other_name)
+                && self.are_one(Some(*node), Some(*other)),
+            (None, None) => true,
+            _ => false,
+        }
+    }
+}

@@ -1,0 +1,70 @@
+-- Names stand to each other as the numbers of their first bytes do, where these differ.
+use Rattle.std.proofs.Common.{◌≡◌, ℕ, zero, suc, ◌+◌, ◌*◌, ◌<◌, ◌≤◌, List, [], ◌∷◌, length, get_or, refl, sym, ap, subst, ◌∙◌, arith, Ordering, Less, Equal, Greater}
+use Rattle.std.specs.Ordering.{ordering_then, ordering_reverse}
+use Rattle.std.specs.Cmp.{nat_cmp_is}
+use Rattle.fs_names.specs.Names.{Name, name_cmp}
+use Rattle.fs_names.proofs.Lemmas.{name_total}
+use Rattle.fs_nodes.specs.code.Heads.{first, rest, byte_at, number_with, AreBytes, IsHead}
+
+-- how two numbers stand to each other
+data Stand (x y : ℕ) : Type 0 where
+  Lesser : x < y → Stand x y
+  Alike : x ≡ y → Stand x y
+  Larger : y < x → Stand x y
+
+stand : (x y : ℕ) → Stand x y
+stand zero zero = Alike refl
+stand zero (suc y) = Lesser (omega arith)
+stand (suc x) zero = Larger (omega arith)
+stand (suc x) (suc y) = go (stand x y)
+  where
+    go : Stand x y → Stand (suc x) (suc y)
+    go (Lesser h) = Lesser (omega arith)
+    go (Alike h) = Alike (ap suc h)
+    go (Larger h) = Larger (omega arith)
+
+-- a number with no more bytes is at most a greater one with some
+no_more : (k a b : ℕ) (ys : List ℕ) → a ≤ b → number_with a k [] ≤ number_with b k ys
+no_more zero a b ys h = h
+no_more (suc k) a b ys h = no_more k (a * 256 + 0) (b * 256 + first ys) (rest ys) (omega arith)
+
+-- a lesser number stays lesser with bytes
+stays_less : (k a b : ℕ) (xs ys : List ℕ) → AreBytes k xs → a < b → number_with a k xs < number_with b k ys
+stays_less zero a b xs ys r h = h
+stays_less (suc k) a b xs ys r h = stays_less k (a * 256 + first xs) (b * 256 + first ys) (rest xs) (rest ys) r.1 (let f : first xs < 256 = r.0 in omega arith)
+
+-- of bytes with a lesser number the name is lesser
+lesser : (k a : ℕ) (xs ys : Name) → AreBytes k ys → number_with a k xs < number_with a k ys → name_cmp xs ys ≡ Less
+lesser zero a xs ys r h = absurd (omega arith)
+lesser (suc k) a [] [] r h = absurd (omega arith)
+lesser (suc k) a [] (y ∷ ys) r h = refl
+lesser (suc k) a (x ∷ xs) [] r h = absurd (let g : number_with (a * 256 + 0) k [] ≤ number_with (a * 256 + x) k xs = no_more k (a * 256 + 0) (a * 256 + x) xs (omega arith) in omega arith)
+lesser (suc k) a (x ∷ xs) (y ∷ ys) r h = go (stand x y) (λ i. lesser k (a * 256 + y) xs ys r.1 i)
+  where
+    go : Stand x y → (number_with (a * 256 + y) k xs < number_with (a * 256 + y) k ys → name_cmp xs ys ≡ Less) → name_cmp (x ∷ xs) (y ∷ ys) ≡ Less
+    go (Lesser g) more = ap (λ (o : Ordering). ordering_then o (name_cmp xs ys)) (sym (nat_cmp_is x y Less g))
+    go (Alike g) more =
+        let i : number_with (a * 256 + y) k xs < number_with (a * 256 + y) k ys = subst (λ (z : ℕ). number_with (a * 256 + z) k xs < number_with (a * 256 + y) k ys) g h in
+        ap (λ (o : Ordering). ordering_then o (name_cmp xs ys)) (sym (nat_cmp_is x y Equal g)) ∙ more i
+    go (Larger g) more = absurd (let i : number_with (a * 256 + y) k ys < number_with (a * 256 + x) k xs = stays_less k (a * 256 + y) (a * 256 + x) ys xs r.1 (omega arith) in omega arith)
+
+-- the same of two names with their numbers
+pub head_less : (a b : ℕ) (x y : Name) → IsHead a x → IsHead b y → a < b → name_cmp x y ≡ Less
+head_less a b x y i j h = lesser 8 0 x y j.bytes (subst (λ (z : ℕ). z < number_with 0 8 y) i.is (subst (λ (z : ℕ). a < z) j.is h))
+
+-- and the other way round
+pub head_greater : (a b : ℕ) (x y : Name) → IsHead a x → IsHead b y → b < a → name_cmp x y ≡ Greater
+head_greater a b x y i j h = name_total.antisymm x y ∙ ap ordering_reverse (head_less b a y x j i h)
+
+-- a byte that the code reads
+pub byte_there : (i : ℕ) (bytes : List ℕ) (d : ℕ) → i < length bytes → get_or bytes i d ≡ byte_at i bytes
+byte_there i [] d h = absurd (omega arith)
+byte_there zero (x ∷ bytes) d h = refl
+byte_there (suc i) (x ∷ bytes) d h = byte_there i bytes d (omega arith)
+
+-- and one behind the last
+pub byte_past : (i : ℕ) (bytes : List ℕ) → length bytes ≤ i → 0 ≡ byte_at i bytes
+byte_past zero [] h = refl
+byte_past zero (x ∷ bytes) h = absurd (omega arith)
+byte_past (suc i) [] h = byte_past i [] (omega arith)
+byte_past (suc i) (x ∷ bytes) h = byte_past i bytes (omega arith)

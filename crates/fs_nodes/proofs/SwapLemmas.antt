@@ -1,0 +1,91 @@
+-- A file gets other bytes.
+use Rattle.std.proofs.Common.{◌≡◌, ℕ, ◌≤◌, Bool, true, false, cond, eqb, List, Option, Some, None, is_none, option_map, IfSome, length, refl, sym, ap, subst, ◌∙◌, arith, set}
+use Rattle.std.specs.Prelude.{slice_get, IsTrue}
+use Rattle.std.proofs.lemmas.Option.{slice_get-map}
+use Rattle.fs_names.specs.Shapes.{Shape, Dir, File, is_there, is_file, names_of, bytes_of}
+use Rattle.fs_names.specs.declared.limits.TheConstants.{NODE_LIMIT}
+use Rattle.fs_nodes.specs.declared.node.Content.{Content}
+use Rattle.fs_nodes.specs.declared.node.Link.{Link}
+use Rattle.fs_nodes.specs.declared.node.Node.{Node}
+use Rattle.fs_nodes.specs.declared.place.Place.{Place}
+use Rattle.fs_nodes.specs.code.Edits.{with_bytes, handed_out}
+use Rattle.fs_nodes.specs.Graphs.{Graph, then_at, content_in}
+use Rattle.fs_nodes.specs.Stores.{link_of, graph_in, IsStore}
+use Rattle.fs_nodes.specs.code.Linked.{link_with, plain_with, plain, plains, graph_of_places, IsBeside, IsIndexed, edited, content_with, content_old, with_content}
+use Rattle.fs_nodes.specs.code.Frees.{is_free, next_at, IsLinked}
+use Rattle.fs_nodes.proofs.PlaceLemmas.{eqb_true}
+use Rattle.fs_nodes.proofs.EditLemmas.{Makes, swap_makes, swap_hands}
+use Rattle.fs_nodes.proofs.LinkLemmas.{length_edited, plains_set}
+use Rattle.fs_nodes.proofs.FreeLemmas.{list_kept, free_set, used_place}
+use Rattle.fs_nodes.proofs.ReserveLemmas.{names_at, indexed_same, edited_read, next_edited}
+
+-- a place with other bytes is a node with them
+plain_bytes : (bytes : List ℕ) (c : Option Content) (l : Option Link) → plain_with (content_with bytes c) l ≡ with_bytes (plain_with c l) bytes
+plain_bytes bytes None l = refl
+plain_bytes bytes (Some c) l = refl
+
+hands : (bytes : List ℕ) (c : Option Content) (l : Option Link) → content_old bytes c ≡ handed_out (plain_with c l) bytes
+hands bytes None l = refl
+hands bytes (Some c) l = refl
+
+none_same : (p : Option Node) (bytes : List ℕ) → is_none (with_bytes p bytes) ≡ is_none p
+none_same None bytes = refl
+none_same (Some node) bytes = refl
+
+link_same : (bytes : List ℕ) (c : Option Content) (l : Option Link) → link_of (plain_with (content_with bytes c) l) ≡ link_of (plain_with c l)
+link_same bytes None l = refl
+link_same bytes (Some c) l = refl
+
+-- a file is in use, and has no names
+file_there : (s : Option Shape) → IsTrue (is_file s) → IsTrue (is_there s)
+file_there None h = cc
+file_there (Some s) h = refl
+
+-- a file has no names
+file_names : (s : Option Shape) (bytes : List ℕ) → IsTrue (is_file s) → names_of (Some (File bytes)) ≡ names_of s
+file_names None bytes h = cc
+file_names (Some (File b)) bytes h = refl
+file_names (Some (Dir names)) bytes h = cc
+
+-- a change of bytes, whole
+pub linked_swap : (limit : ℕ) (ps qs : List Place) (free : Option ℕ) (n : ℕ) (bytes : List ℕ) → IsLinked limit ps free → IsTrue (is_file ((graph_of_places ps).shape n)) → qs ≡ edited n (with_content bytes) ps → (graph_of_places qs ≡ content_in n bytes (graph_of_places ps)) × IsLinked limit qs free
+linked_swap limit ps qs free n bytes s file e =
+    let r : (p : Place) × (slice_get ps n ≡ Some p) = used_place ps n (file_there ((graph_of_places ps).shape n) file) in
+    let at : slice_get (plains ps) n ≡ Some (plain r.0) = slice_get-map plain ps n ∙ ap (option_map plain) r.1 in
+    let made : Makes NODE_LIMIT (set (plains ps) n (with_bytes (plain r.0) bytes)) (content_in n bytes (graph_of_places ps)) = swap_makes NODE_LIMIT (plains ps) n (plain r.0) (with_bytes (plain r.0) bytes) bytes s.places.store at file refl in
+    let here : set (plains ps) n (with_bytes (plain r.0) bytes) ≡ plains (edited n (with_content bytes) ps) = sym (plains_set n (with_content bytes) ps r.0 r.1 ∙ ap (set (plains ps) n) (plain_bytes bytes r.0.content (link_with r.0.parent r.0.name))) in
+    let graph : graph_of_places (edited n (with_content bytes) ps) ≡ content_in n bytes (graph_of_places ps) = subst (λ (l : List (Option Node)). graph_in l ≡ content_in n bytes (graph_of_places ps)) here made.0 in
+    let l : length (edited n (with_content bytes) ps) ≡ length ps = length_edited n (with_content bytes) ps in
+    subst (λ (z : List Place). (graph_of_places z ≡ content_in n bytes (graph_of_places ps)) × IsLinked limit z free) (sym e) (
+      graph,
+      record {
+        most = s.most;
+        within = (let h : length ps ≤ limit = s.within in omega arith);
+        places = record {
+          store = subst (IsStore NODE_LIMIT) here made.1;
+          each = λ m q g. subst (λ (z : Graph). IsIndexed z m q) (sym graph) (each m q (edited_read n (with_content bytes) ps m q g));
+        };
+        list = list_kept ps (edited n (with_content bytes) ps) free (λ k h. next_edited n (with_content bytes) ps r.0 r.1 k ∙ same_next k r.0 r.1 (eqb k n) refl) (λ k. ap (λ (z : List (Option Node)). is_free (slice_get z k)) (sym here) ∙ free_set (plains ps) n (plain r.0) (with_bytes (plain r.0) bytes) at (none_same (plain r.0) bytes) k) s.list;
+      },
+    )
+  where
+    same_next : (k : ℕ) (p : Place) → slice_get ps n ≡ Some p → (b : Bool) → eqb k n ≡ b → cond b p.next (next_at ps k) ≡ next_at ps k
+    same_next k p h true g = sym (ap (λ (o : Option Place). then_at o (λ q. q.next)) (ap (slice_get ps) (eqb_true k n g) ∙ h))
+    same_next k p h false g = refl
+
+    names : (d : ℕ) → names_of ((content_in n bytes (graph_of_places ps)).shape d) ≡ names_of ((graph_of_places ps).shape d)
+    names = names_at (graph_of_places ps).shape n (Some (File bytes)) (file_names ((graph_of_places ps).shape n) bytes file)
+
+    go : (m : ℕ) (p : Place) → IsIndexed (graph_of_places ps) m p → (b : Bool) → IsIndexed (content_in n bytes (graph_of_places ps)) m (cond b (with_content bytes p) p)
+    go m p i true = indexed_same (graph_of_places ps).kid (graph_of_places ps).shape (content_in n bytes (graph_of_places ps)).shape m p (with_content bytes p) names refl refl (subst (IsBeside (graph_of_places ps) m p.next p.prev) (sym (link_same bytes p.content (link_with p.parent p.name))) i.beside) i
+    go m p i false = indexed_same (graph_of_places ps).kid (graph_of_places ps).shape (content_in n bytes (graph_of_places ps)).shape m p p names refl refl i.beside i
+
+    each : (m : ℕ) (q : Place) → (p : Place) × (slice_get ps m ≡ Some p) × (q ≡ cond (eqb m n) (with_content bytes p) p) → IsIndexed (content_in n bytes (graph_of_places ps)) m q
+    each m q r = subst (IsIndexed (content_in n bytes (graph_of_places ps)) m) (sym r.2) (go m r.0 (s.places.each m r.0 r.1) (eqb m n))
+
+-- the bytes that come back
+pub swap_read : (limit : ℕ) (ps : List Place) (free : Option ℕ) (n : ℕ) (bytes old : List ℕ) → IsLinked limit ps free → IsTrue (is_file ((graph_of_places ps).shape n)) → IfSome (slice_get ps n) (λ p. old ≡ content_old bytes p.content) → old ≡ bytes_of ((graph_of_places ps).shape n)
+swap_read limit ps free n bytes old s file h =
+    let r : (p : Place) × (slice_get ps n ≡ Some p) = used_place ps n (file_there ((graph_of_places ps).shape n) file) in
+    let at : slice_get (plains ps) n ≡ Some (plain r.0) = slice_get-map plain ps n ∙ ap (option_map plain) r.1 in
+    subst (λ (o : Option Place). IfSome o (λ p. old ≡ content_old bytes p.content)) r.1 h ∙ hands bytes r.0.content (link_with r.0.parent r.0.name) ∙ swap_hands (plains ps) n (plain r.0) bytes at file

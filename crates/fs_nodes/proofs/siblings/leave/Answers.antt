@@ -1,0 +1,11 @@
+use Rattle.std.proofs.Common.{sym, ap, get_or, Option, ℕ, ◌∙◌}
+use Rattle.fs_nodes.specs.declared.place.Place.{Place}
+use Rattle.fs_nodes.specs.code.Linked.{entered, edited}
+use Rattle.fs_nodes.proofs.LinkLemmas.{set_edited}
+use Rattle.fs_nodes.proofs.siblings.leave.Goals as goal
+
+pub returns : goal.returns
+returns c =
+    let f : Option ℕ → Place → Place = λ o p. entered o p.name o o p in
+    set_edited c.args.node (f c.none-none.result) c.args.places.now c.index-places-node.result (f c.none-none.result (get_or c.args.places.now c.args.node c.index-places-node.result)) c.index-places-node.is (ap (f c.none-none.result) (sym c.index-places-node.is))
+    ∙ ap (λ (o : Option ℕ). edited c.args.node (f o) c.args.places.now) c.none-none.ensures

@@ -1,0 +1,144 @@
+-- What the places of a store with sibling links say, and what they keep.
+use Rattle.std.specs.Prelude.{ℕ, true, zero, suc, ◌≡◌, ◌+◌, ◌-◌, List, [], ◌∷◌, Option, Some, None, map, length, slice_get}
+use Rattle.std.specs.List.{find}
+use Rattle.fs_names.specs.Names.{Name}
+use Rattle.fs_names.specs.Shapes.{names_of}
+use Rattle.fs_names.specs.declared.limits.TheConstants.{NODE_LIMIT}
+use Rattle.fs_nodes.specs.declared.node.Content.{Content}
+use Rattle.fs_nodes.specs.declared.node.Link.{Link}
+use Rattle.fs_nodes.specs.declared.node.Node.{Node}
+use Rattle.fs_nodes.specs.declared.place.Place.{Place}
+use Rattle.fs_nodes.specs.code.Edits.{refilled, given_back}
+use Rattle.fs_nodes.specs.Graphs.{Graph, then_at}
+use Rattle.fs_nodes.specs.Stores.{link_of, graph_in, is_above, IsStore}
+
+-- the entry that names a node, by its directory and its name
+abbrev pub link_with : Option ℕ → Name → Option Link
+link_with None name = None
+link_with (Some dir) name = Some (record { dir = dir; name = name })
+
+-- a place without its ways to others
+abbrev pub plain_with : Option Content → Option Link → Option Node
+plain_with None link = None
+plain_with (Some content) link = Some (record { content = content; link = link })
+
+abbrev pub plain : Place → Option Node
+plain p = plain_with p.content (link_with p.parent p.name)
+
+abbrev pub plains : List Place → List (Option Node)
+plains ps = map plain ps
+
+abbrev pub graph_of_places : List Place → Graph
+graph_of_places ps = graph_in (plains ps)
+
+-- the node of a directory's least name, or of the least one above a name
+abbrev pub next_kid : Graph → ℕ → Option Name → Option ℕ
+next_kid graph dir low = then_at (find (is_above low) (names_of (graph.shape dir))) (graph.kid dir)
+
+-- the sibling after a node
+abbrev pub IsNextSibling : Graph → ℕ → Option ℕ → Type 0
+IsNextSibling graph n next = (dir : ℕ) (name : Name) → graph.kid dir name ≡ Some n → next ≡ next_kid graph dir (Some name)
+
+-- the sibling before a node; the first one has none
+abbrev pub IsPrev : Graph → ℕ → ℕ → Option ℕ → Type 0
+IsPrev graph dir n None = next_kid graph dir None ≡ Some n
+IsPrev graph dir n (Some m) = (name : Name) × (graph.kid dir name ≡ Some m) × (next_kid graph dir (Some name) ≡ Some n)
+
+-- the siblings of a node
+abbrev pub IsBeside : Graph → ℕ → Option ℕ → Option ℕ → Option Link → Type 0
+IsBeside graph n next prev None = Unit {0}
+IsBeside graph n next prev (Some link) = (next ≡ next_kid graph link.dir (Some link.name)) × IsPrev graph link.dir n prev
+
+-- a name that comes before the first one above the low one, or where there is none
+abbrev pub IsBefore : Name → Option Name → Type 0
+IsBefore x None = Unit {0}
+IsBefore x (Some y) = is_above (Some x) y ≡ true
+
+-- a low name is one of the directory, and its node is that of a number; none has none
+abbrev pub IsLow : Graph → ℕ → Option Name → Option ℕ → Type 0
+IsLow graph dir None o = o ≡ None
+IsLow graph dir (Some y) o = (m : ℕ) × (graph.kid dir y ≡ Some m) × (o ≡ Some m)
+
+-- a low name between which and a free one nothing stands
+abbrev pub IsAt : Graph → ℕ → Name → Option Name → Type 0
+IsAt graph dir x low = (is_above low x ≡ true) × IsBefore x (find (is_above low) (names_of (graph.shape dir)))
+
+-- where a free name belongs: between two siblings
+pub record IsGap (graph : Graph) (dir : ℕ) (x : Name) (prev next : Option ℕ) : Type 0 where
+  pub low : Option Name
+  pub is_low : IsLow graph dir low prev
+  pub at : IsAt graph dir x low
+  pub next_is : next ≡ next_kid graph dir low
+
+-- a place's ways are those of its number in a graph
+pub record IsIndexed (graph : Graph) (n : ℕ) (p : Place) : Type 0 where
+  pub entries : p.entries ≡ length (names_of (graph.shape n))
+  pub first : p.first ≡ next_kid graph n None
+  pub beside : IsBeside graph n p.next p.prev (link_of (plain p))
+
+-- what the places of a store keep
+pub record IsPlaces (ps : List Place) : Type 0 where
+  pub store : IsStore NODE_LIMIT (plains ps)
+  pub each : (n : ℕ) (p : Place) → slice_get ps n ≡ Some p → IsIndexed (graph_of_places ps) n p
+
+-- one place is changed
+abbrev pub edited : ℕ → (Place → Place) → List Place → List Place
+edited n f [] = []
+edited zero f (p ∷ ps) = f p ∷ ps
+edited (suc n) f (p ∷ ps) = p ∷ edited n f ps
+
+-- a way of a place leads elsewhere from now on
+abbrev pub with_first : Option ℕ → Place → Place
+with_first to p = record p { first = to }
+
+abbrev pub with_next : Option ℕ → Place → Place
+with_next to p = record p { next = to }
+
+abbrev pub with_prev : Option ℕ → Place → Place
+with_prev to p = record p { prev = to }
+
+abbrev pub with_entries : ℕ → Place → Place
+with_entries count p = record p { entries = count }
+
+-- a node is named by an entry that stands between two siblings, or by none
+abbrev pub entered : Option ℕ → Name → Option ℕ → Option ℕ → Place → Place
+entered dir name prev next p = record p { parent = dir; name = name; prev = prev; next = next }
+
+-- the way to an entry, from the sibling before it, or from its directory
+abbrev pub led : ℕ → Option ℕ → Option ℕ → List Place → List Place
+led dir None to ps = edited dir (with_first to) ps
+led dir (Some prev) to ps = edited prev (with_next to) ps
+
+-- the way back to it, from the sibling after it
+abbrev pub followed : Option ℕ → Option ℕ → List Place → List Place
+followed None to ps = ps
+followed (Some next) to ps = edited next (with_prev to) ps
+
+-- a node comes between two siblings
+abbrev pub put_between : ℕ → ℕ → Name → Option ℕ → Option ℕ → List Place → List Place
+put_between dir n name prev next ps = edited n (entered (Some dir) name prev next) (followed next (Some n) (led dir prev (Some n) (edited dir (λ p. with_entries (p.entries + 1) p) ps)))
+
+-- a node leaves its place between two siblings
+abbrev pub taken_out : ℕ → ℕ → Option ℕ → Option ℕ → List Place → List Place
+taken_out dir n prev next ps = edited n (λ p. entered None p.name None None p) (followed next prev (led dir prev next (edited dir (λ p. with_entries (p.entries - 1) p) ps)))
+
+-- a place becomes free, and leads to the next free one
+abbrev pub vacated : Option ℕ → Place → Place
+vacated next p = record p { content = None; next = next }
+
+-- a free place gets a node
+abbrev pub filled : Content → Place → Place
+filled content p = record p { content = Some content; parent = None; next = None; prev = None }
+
+-- a file has these bytes from now on
+abbrev pub content_with : List ℕ → Option Content → Option Content
+content_with bytes None = None
+content_with bytes (Some content) = Some (refilled content bytes)
+
+-- what comes back for them
+abbrev pub content_old : List ℕ → Option Content → List ℕ
+content_old bytes None = bytes
+content_old bytes (Some content) = given_back content bytes
+
+abbrev pub with_content : List ℕ → Place → Place
+with_content bytes p = record p { content = content_with bytes p.content }

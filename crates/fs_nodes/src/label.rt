@@ -1,0 +1,92 @@
+//! The name of an entry, with its first bytes as one number.
+
+ghost use Rattle.std.specs.Prelude.{◌≡◌, ◌<◌};
+ghost use Rattle.fs_names.specs.Names.{name_cmp};
+ghost use Rattle.fs_nodes.specs.code.Heads.{byte_at, IsHead};
+
+use fs_names::Name;
+use std::cmp::Ordering;
+use std::marker::Model;
+
+/// A name that is compared by one number, unless another one has the same first eight bytes.
+#[derive(Drop)]
+pub struct Label {
+    head: u64,
+    name: Name,
+}
+
+impl Model for Label {
+    ghost use Rattle.fs_names.specs.Names.{Name};
+    ghost use Rattle.fs_nodes.specs.code.Heads.{IsHead};
+
+    ghost Value = { Name };
+
+    ghost view = { λ l. l.name };
+
+    ghost invariant = { λ l. IsHead l.head l.name };
+}
+
+/// The byte at an index, zero behind the last one.
+fn byte(bytes: &[u8], index: usize) -> u64
+    ensures byte { result ≡ byte_at index bytes.now }
+    ensures most { result < 256 }
+{
+    if index < bytes.len() {
+        bytes[index] as u64
+    } else {
+        0
+    }
+}
+
+/// The first eight bytes as one number, the first one above all others.
+fn head(bytes: &[u8]) -> u64
+    ensures { IsHead result bytes.now }
+{
+    let word = byte(bytes, 0);
+    let word = word * 256 + byte(bytes, 1);
+    let word = word * 256 + byte(bytes, 2);
+    let word = word * 256 + byte(bytes, 3);
+    let word = word * 256 + byte(bytes, 4);
+    let word = word * 256 + byte(bytes, 5);
+    let word = word * 256 + byte(bytes, 6);
+    word * 256 + byte(bytes, 7)
+}
+
+impl Label {
+    /// The label of a name.
+    pub fn new(name: Name) -> Label
+        ensures { result ≡ name }
+    {
+        Label {
+            head: head(name.bytes()),
+            name,
+        }
+    }
+
+    /// The name.
+    pub fn name(&self) -> &Name
+        ensures { result.now ≡ self.now }
+    {
+        &self.name
+    }
+
+    /// The name once more.
+    pub fn copy(&self) -> Name
+        ensures { result ≡ self.now }
+    {
+        self.name.copy()
+    }
+
+    /// How the two names stand to each other.
+    pub fn cmp(&self, other: &Label) -> Ordering
+        ensures { result ≡ name_cmp self.now other.now }
+    {
+        if self.head < other.head {
+            return Ordering::Less;
+        }
+        if other.head < self.head {
+            return Ordering::Greater;
+        }
+        self.name.cmp(&other.name)
+    }
+}

@@ -1,0 +1,253 @@
+//! The same store without an index, each of whose calls looks at every place: what tests compare `Store` with.
+
+ghost use Rattle.std.specs.Prelude.{◌≡◌, ◌≢◌, ◌≤◌, ◌<◌, ◌↔◌, IsTrue, false, IfOk, OnErr, IfSome, IsSome, MatchOption, length, option_map, None, Some, Ok, Err};
+ghost use Rattle.std.specs.Option.{option_copied};
+ghost use Rattle.fs_names.specs.Shapes.{is_there, is_dir, is_file, has_entries, names_of, bytes_of};
+ghost use Rattle.fs_nodes.specs.Graphs.{empty_graph, linked_in, unlinked_in, moved_in, reserved_in, released_in, content_in};
+
+use crate::node::{Content, Link, Node, add_place, put, relink, swap_bytes};
+use crate::number::NodeNo;
+use crate::scan::{content_at, entries_in, find_in, free_in, least_in, link_at};
+use crate::store::NoNode;
+use fs_names::{Kind, NODE_LIMIT, Name};
+use std::alloc::{AllocError, Global};
+use std::marker::Model;
+
+/// Directories and files under numbers, each named by at most one entry: a graph with a limit on how many numbers are in use.
+/// Number 0 is the root, a directory that no entry names.
+/// Only `new` and `reserve` allocate.
+#[derive(Drop)]
+pub struct Store {
+    limit: usize,
+    places: Vec<Option<Node>>,
+}
+
+impl Model for Store {
+    ghost use Rattle.fs_nodes.specs.Places.{Places};
+    ghost use Rattle.fs_nodes.specs.Stores.{IsStore};
+
+    ghost Value = { Places };
+
+    ghost view = { λ s. record { limit = s.limit; places = s.places.items } };
+
+    ghost invariant = { λ s. IsStore s.limit s.places.items };
+}
+
+impl Store {
+    ghost use Rattle.fs_nodes.specs.Stores.{graph_of, kid, shape, in_use, room, IsUnlinked, IsParent, kind_of, new_shape, next_entry, IsNextName, IsStore};
+
+    /// The root alone, in a store for at most `limit` nodes. The only error is out of memory.
+    pub fn new(alloc: Global, limit: usize) -> Result<Store, AllocError>
+        requires least { 1 ≤ limit }
+        requires most { limit ≤ NODE_LIMIT }
+        ensures graph { IfOk result (λ store. graph_of store ≡ empty_graph) }
+        ensures limit { IfOk result (λ store. store.limit ≡ limit) }
+        ensures room { IfOk result (λ store. room store ≡ 1) }
+    {
+        let mut places = Vec::new(alloc);
+        places.push(Some(Node::new(alloc, Kind::Dir)))?;
+        Ok(Store { limit, places })
+    }
+
+    /// Whether the node is a directory or a file.
+    pub fn kind(&self, node: NodeNo) -> Kind
+        requires { IsTrue (is_there (shape self.now node)) }
+        ensures { kind_of (shape self.now node) ≡ Some result }
+    {
+        match content_at(&self.places, node) {
+            Some(Content::Dir) => Kind::Dir,
+            _ => Kind::File,
+        }
+    }
+
+    /// Whether the number is in use.
+    pub fn is_used(&self, node: NodeNo) -> bool
+        ensures { result ≡ is_there (shape self.now node) }
+    {
+        content_at(&self.places, node).is_some()
+    }
+
+    /// Whether the number is a directory's.
+    pub fn is_dir(&self, node: NodeNo) -> bool
+        ensures { result ≡ is_dir (shape self.now node) }
+    {
+        matches!(content_at(&self.places, node), Some(Content::Dir))
+    }
+
+    /// Whether the number is a file's.
+    pub fn is_file(&self, node: NodeNo) -> bool
+        ensures { result ≡ is_file (shape self.now node) }
+    {
+        matches!(content_at(&self.places, node), Some(Content::File(_)))
+    }
+
+    /// The node that an entry of a directory names. Where the number is no directory's, there is none.
+    pub fn find(&self, dir: NodeNo, name: &Name) -> Option<NodeNo>
+        ensures { result ≡ kid self.now dir name.now }
+    {
+        find_in(&self.places, dir, name).map(NodeNo::new)
+    }
+
+    /// The directory that has the node's entry; none for the root and for what is not linked.
+    pub fn parent(&self, node: NodeNo) -> Option<NodeNo>
+        ensures { MatchOption result (IsUnlinked (kid self.now) node) (IsParent (kid self.now) node) }
+    {
+        match link_at(&self.places, node) {
+            Some(link) => Some(link.dir),
+            None => None,
+        }
+    }
+
+    /// The bytes of a file. Where the number is no file's, there are none.
+    pub fn content(&self, file: NodeNo) -> &[u8]
+        ensures { result.now ≡ bytes_of (shape self.now file) }
+    {
+        match content_at(&self.places, file) {
+            Some(Content::File(bytes)) => bytes.as_slice(),
+            _ => &[],
+        }
+    }
+
+    /// A directory gets an entry of this name, which names a node that none named.
+    pub fn link(&mut self, dir: NodeNo, name: &Name, node: NodeNo)
+        requires dir { IsTrue (is_dir (shape self.old dir)) }
+        requires absent { kid self.old dir name.now ≡ None }
+        requires used { IsTrue (is_there (shape self.old node)) }
+        requires unlinked { IsUnlinked (kid self.old) node }
+        requires not_root { node ≢ 0 }
+        ensures graph { graph_of self.new ≡ linked_in dir name.now node (graph_of self.old) }
+        ensures limit { self.new.limit ≡ self.old.limit }
+        ensures room { room self.new ≡ room self.old }
+    {
+        let link = Link {
+            dir,
+            name: name.copy(),
+        };
+        relink(&mut self.places[node.get()], Some(link));
+    }
+
+    /// A number that was not in use, for an empty node of this kind that no entry names; which number is open.
+    /// After an error the store is as before: `Full` comes exactly where as many numbers are in use as the limit,
+    /// `OutOfMemory` only where each number for which there is a place is in use.
+    pub fn reserve(&mut self, kind: Kind) -> Result<NodeNo, NoNode>
+        ensures free { IfOk result (λ node. shape self.old node ≡ None) }
+        ensures within { IfOk result (λ node. node < self.old.limit) }
+        ensures not_root { IfOk result (λ node. node ≢ 0) }
+        ensures graph { IfOk result (λ node. graph_of self.new ≡ reserved_in node (new_shape kind) (graph_of self.old)) }
+        ensures full { (result ≡ Err NoNode.Full) ↔ (in_use self.old ≡ self.old.limit) }
+        ensures memory { result ≡ Err NoNode.OutOfMemory → in_use self.old ≡ room self.old }
+        ensures err { OnErr result (self.new ≡ self.old) }
+        ensures limit { self.new.limit ≡ self.old.limit }
+        ensures room { room self.old ≤ room self.new }
+    {
+        let Some(free) = free_in(&self.places) else {
+            return self.reserve_next(kind);
+        };
+        let node = Node::new(*self.places.allocator(), kind);
+        put(&mut self.places[free], Some(node));
+        Ok(NodeNo::new(free))
+    }
+
+    /// The same where each number with a place is in use: the next number gets one.
+    fn reserve_next(&mut self, kind: Kind) -> Result<NodeNo, NoNode>
+        requires { in_use self.old ≡ room self.old }
+        ensures free { IfOk result (λ node. shape self.old node ≡ None) }
+        ensures within { IfOk result (λ node. node < self.old.limit) }
+        ensures not_root { IfOk result (λ node. node ≢ 0) }
+        ensures graph { IfOk result (λ node. graph_of self.new ≡ reserved_in node (new_shape kind) (graph_of self.old)) }
+        ensures full { (result ≡ Err NoNode.Full) ↔ (in_use self.old ≡ self.old.limit) }
+        ensures memory { result ≡ Err NoNode.OutOfMemory → in_use self.old ≡ room self.old }
+        ensures err { OnErr result (self.new ≡ self.old) }
+        ensures limit { self.new.limit ≡ self.old.limit }
+        ensures room { room self.old ≤ room self.new }
+    {
+        let next = self.places.len();
+        if next == self.limit {
+            return Err(NoNode::Full);
+        }
+        let Ok(()) = add_place(&mut self.places, kind) else {
+            return Err(NoNode::OutOfMemory);
+        };
+        Ok(NodeNo::new(next))
+    }
+
+    /// The number of a node without entries, which no entry names, is in use no more.
+    pub fn release(&mut self, node: NodeNo)
+        requires used { IsTrue (is_there (shape self.old node)) }
+        requires unlinked { IsUnlinked (kid self.old) node }
+        requires not_root { node ≢ 0 }
+        requires empty { has_entries (shape self.old node) ≡ false }
+        ensures graph { graph_of self.new ≡ released_in node (graph_of self.old) }
+        ensures limit { self.new.limit ≡ self.old.limit }
+        ensures room { room self.new ≡ room self.old }
+    {
+        put(&mut self.places[node.get()], None);
+    }
+
+    /// A directory loses an entry. What it named is answered, and stays in use.
+    pub fn unlink(&mut self, dir: NodeNo, name: &Name) -> NodeNo
+        requires there { IsSome (kid self.old dir name.now) }
+        ensures node { kid self.old dir name.now ≡ Some result }
+        ensures graph { graph_of self.new ≡ unlinked_in dir name.now (graph_of self.old) }
+        ensures limit { self.new.limit ≡ self.old.limit }
+        ensures room { room self.new ≡ room self.old }
+    {
+        let node = find_in(&self.places, dir, name).unwrap();
+        relink(&mut self.places[node], None);
+        NodeNo::new(node)
+    }
+
+    /// An entry goes to another directory, or to another name, with what it names and all below.
+    pub fn move_entry(&mut self, from: NodeNo, name: &Name, to: NodeNo, new_name: &Name)
+        requires there { IsSome (kid self.old from name.now) }
+        requires dir { IsTrue (is_dir (shape self.old to)) }
+        requires absent { kid self.old to new_name.now ≡ None }
+        ensures graph { IfSome (kid self.old from name.now) (λ node. graph_of self.new ≡ moved_in from name.now to new_name.now node (graph_of self.old)) }
+        ensures limit { self.new.limit ≡ self.old.limit }
+        ensures room { room self.new ≡ room self.old }
+    {
+        let node = find_in(&self.places, from, name).unwrap();
+        let link = Link {
+            dir: to,
+            name: new_name.copy(),
+        };
+        relink(&mut self.places[node], Some(link));
+    }
+
+    /// A file gets these bytes, and its old ones are handed out.
+    pub fn swap_content(&mut self, file: NodeNo, bytes: Vec<u8>) -> Vec<u8>
+        requires { IsTrue (is_file (shape self.old file)) }
+        ensures old { result.items ≡ bytes_of (shape self.old file) }
+        ensures graph { graph_of self.new ≡ content_in file bytes.items (graph_of self.old) }
+        ensures limit { self.new.limit ≡ self.old.limit }
+        ensures room { room self.new ≡ room self.old }
+    {
+        swap_bytes(&mut self.places[file.get()], bytes)
+    }
+
+    /// How many entries a directory has. Where the number is no directory's, there are none.
+    pub fn entries(&self, dir: NodeNo) -> usize
+        ensures { result ≡ length (names_of (shape self.now dir)) }
+    {
+        entries_in(&self.places, dir)
+    }
+
+    /// The entry of the least name of a directory, or of the least one above the given name.
+    /// Where the number is no directory's, there is none.
+    pub fn next_name(&self, dir: NodeNo, low: Option<&Name>) -> Option<(Name, NodeNo)>
+        ensures entry { result ≡ next_entry (graph_of self.now) dir (option_copied low.entry) }
+
+        // So the names are all told, in order, when each answer is the next call's `low`.
+        ensures rest { IsNextName (names_of (shape self.now dir)) (option_copied low.entry) (option_map (λ entry. entry.0) result) }
+    {
+        least_in(&self.places, dir, low)
+    }
+
+    /// A fact for proofs, that every store keeps: it has no more places than its limit, the root is a directory that no
+    /// entry names, and each entry leads from a directory to its node.
+    pub fn invariant(&self)
+        ensures { IsStore self.now.limit self.now.places }
+    {
+        let _ = &self.places;
+    }
+}

@@ -1,0 +1,263 @@
+//! Looking along the entries of one directory.
+
+ghost use Rattle.std.specs.Prelude.{◌≡◌, ◌≤◌, ◌<◌, ◌+◌, ◌-◌, length, None, IfSome, slice_get, option_map};
+ghost use Rattle.std.specs.Option.{option_copied};
+ghost use Rattle.fs_names.specs.Shapes.{names_of};
+ghost use Rattle.fs_nodes.specs.Stores.{next_entry, looked, IsNextName, IsUnlinked, IsEntryAfter, IsNameAfter};
+ghost use Rattle.fs_nodes.specs.code.Linked.{graph_of_places, next_kid, IsPlaces, IsGap, IsNextSibling, edited, with_entries, entered, led, followed, put_between, taken_out};
+
+use crate::label::Label;
+use crate::place::{Place, dir_of};
+use crate::scan::is_higher;
+use crate::spot::Spot;
+use fs_names::{NODE_LIMIT, Name};
+use std::cmp::Ordering;
+
+/// The place of a directory's first entry.
+fn first_of(places: &[Place], dir: usize) -> Option<usize>
+    requires { IsPlaces places.now }
+    ensures { result ≡ next_kid (graph_of_places places.now) dir None }
+{
+    if dir < places.len() {
+        let place = &places[dir];
+        place.first.get()
+    } else {
+        None
+    }
+}
+
+/// The node of an entry, and at how many places was looked.
+pub fn find_steps(places: &[Place], dir: usize, name: &Name) -> (Option<usize>, usize)
+    requires { IsPlaces places.now }
+    ensures kid { result.0 ≡ (graph_of_places places.now).kid dir name.now }
+    ensures steps { result.1 ≡ looked name.now (names_of ((graph_of_places places.now).shape dir)) }
+{
+    let label = Label::new(name.copy());
+    let mut steps = 0;
+    let mut next = first_of(places, dir);
+    while let Some(n) = next {
+        let place = &places[n];
+        steps += 1;
+        match place.name.cmp(&label) {
+            Ordering::Less => next = place.next.get(),
+            Ordering::Equal => return (Some(n), steps),
+            Ordering::Greater => return (None, steps),
+        }
+    }
+    (None, steps)
+}
+
+/// The siblings between which an entry of this name belongs, where there is none yet.
+pub fn gap(places: &[Place], dir: usize, name: &Name) -> (Spot, Spot)
+    requires places { IsPlaces places.now }
+    requires dir { dir < length places.now }
+    requires absent { (graph_of_places places.now).kid dir name.now ≡ None }
+    ensures { IsGap (graph_of_places places.now) dir name.now result.0 result.1 }
+{
+    let label = Label::new(name.copy());
+    let mut prev = Spot::none();
+    let first = &places[dir];
+    let mut next = first.first;
+    while let Some(n) = next.get() {
+        let place = &places[n];
+        match place.name.cmp(&label) {
+            Ordering::Less => {}
+            _ => return (prev, next),
+        }
+        prev = next;
+        next = place.next;
+    }
+    (prev, next)
+}
+
+/// The way to an entry leads elsewhere: from the sibling before it, or from its directory.
+fn lead(places: &mut [Place], dir: usize, prev: Spot, to: Spot)
+    requires dir { dir < length places.old }
+    requires prev { IfSome prev (λ k. k < length places.old) }
+    requires most { length places.old ≤ NODE_LIMIT }
+    ensures { places.new ≡ led dir prev to places.old }
+{
+    match prev.get() {
+        Some(k) => {
+            let place = &mut places[k];
+            place.next = to;
+        }
+        None => {
+            let place = &mut places[dir];
+            place.first = to;
+        }
+    }
+}
+
+/// The way back from the sibling after it, if there is one, leads elsewhere.
+fn follow(places: &mut [Place], next: Spot, to: Spot)
+    requires next { IfSome next (λ k. k < length places.old) }
+    requires most { length places.old ≤ NODE_LIMIT }
+    ensures { places.new ≡ followed next to places.old }
+{
+    if let Some(k) = next.get() {
+        let place = &mut places[k];
+        place.prev = to;
+    }
+}
+
+/// One entry more.
+fn add_entry(places: &mut [Place], dir: usize)
+    requires dir { dir < length places.old }
+    requires most { length places.old ≤ NODE_LIMIT }
+    requires entries { IfSome (slice_get places.old dir) (λ p. p.entries ≤ NODE_LIMIT) }
+    ensures { places.new ≡ edited dir (λ p. with_entries (p.entries + 1) p) places.old }
+{
+    let place = &mut places[dir];
+    place.entries += 1;
+}
+
+/// One entry less.
+fn drop_entry(places: &mut [Place], dir: usize)
+    requires dir { dir < length places.old }
+    requires most { length places.old ≤ NODE_LIMIT }
+    requires entries { IfSome (slice_get places.old dir) (λ p. 1 ≤ p.entries) }
+    ensures { places.new ≡ edited dir (λ p. with_entries (p.entries - 1) p) places.old }
+{
+    let place = &mut places[dir];
+    place.entries -= 1;
+}
+
+/// A node is named by this entry from now on.
+fn enter(places: &mut [Place], node: usize, dir: Spot, name: Label, prev: Spot, next: Spot)
+    requires node { node < length places.old }
+    requires most { length places.old ≤ NODE_LIMIT }
+    ensures { places.new ≡ edited node (entered dir name prev next) places.old }
+{
+    let place = &mut places[node];
+    place.parent = dir;
+    place.name = name;
+    place.prev = prev;
+    place.next = next;
+}
+
+/// A node is named by no entry from now on.
+fn leave(places: &mut [Place], node: usize)
+    requires node { node < length places.old }
+    requires most { length places.old ≤ NODE_LIMIT }
+    ensures { places.new ≡ edited node (λ p. entered None p.name None None p) places.old }
+{
+    let place = &mut places[node];
+    let none = Spot::none();
+    place.parent = none;
+    place.prev = none;
+    place.next = none;
+}
+
+/// A node comes between two siblings.
+pub fn put_between(
+    places: &mut [Place],
+    dir: usize,
+    node: usize,
+    name: Label,
+    prev: Spot,
+    next: Spot,
+)
+    requires dir { dir < length places.old }
+    requires node { node < length places.old }
+    requires prev { IfSome prev (λ k. k < length places.old) }
+    requires next { IfSome next (λ k. k < length places.old) }
+    requires most { length places.old ≤ NODE_LIMIT }
+    requires entries { IfSome (slice_get places.old dir) (λ p. p.entries ≤ NODE_LIMIT) }
+    ensures { places.new ≡ put_between dir node name prev next places.old }
+{
+    add_entry(places, dir);
+    let spot = Spot::at(node);
+    lead(places, dir, prev, spot);
+    follow(places, next, spot);
+    enter(places, node, Spot::at(dir), name, prev, next);
+}
+
+/// A node leaves its place between two siblings.
+pub fn take_out(places: &mut [Place], dir: usize, node: usize, prev: Spot, next: Spot)
+    requires dir { dir < length places.old }
+    requires node { node < length places.old }
+    requires prev { IfSome prev (λ k. k < length places.old) }
+    requires next { IfSome next (λ k. k < length places.old) }
+    requires most { length places.old ≤ NODE_LIMIT }
+    requires entries { IfSome (slice_get places.old dir) (λ p. 1 ≤ p.entries) }
+    ensures { places.new ≡ taken_out dir node prev next places.old }
+{
+    drop_entry(places, dir);
+    lead(places, dir, prev, next);
+    follow(places, next, prev);
+    leave(places, node);
+}
+
+/// The siblings of a node.
+pub fn beside(places: &[Place], node: usize) -> (Spot, Spot)
+    requires node { node < length places.now }
+    requires most { length places.now ≤ NODE_LIMIT }
+    ensures { IfSome (slice_get places.now node) (λ p. (result.0 ≡ p.prev) × (result.1 ≡ p.next)) }
+{
+    let place = &places[node];
+    (place.prev, place.next)
+}
+
+/// The sibling after a node. Where no entry names the node, there is none.
+pub fn sibling_after(places: &[Place], node: usize) -> Option<usize>
+    requires { IsPlaces places.now }
+    ensures next { IsNextSibling (graph_of_places places.now) node result }
+    ensures unlinked { IsUnlinked (graph_of_places places.now).kid node → result ≡ None }
+    ensures within { IfSome result (λ n. n < length places.now) }
+{
+    match dir_of(places, node) {
+        Some(_) => {
+            let place = &places[node];
+            place.next.get()
+        }
+        None => None,
+    }
+}
+
+/// The entry after the one that names a node.
+pub fn entry_after(places: &[Place], node: usize) -> Option<(Name, usize)>
+    requires { IsPlaces places.now }
+    ensures entry { IsEntryAfter (graph_of_places places.now) node result }
+    ensures rest { IsNameAfter (graph_of_places places.now) node (option_map (λ entry. entry.0) result) }
+    ensures unlinked { IsUnlinked (graph_of_places places.now).kid node → result ≡ None }
+{
+    match sibling_after(places, node) {
+        Some(n) => {
+            let place = &places[n];
+            Some((place.name.copy(), n))
+        }
+        None => None,
+    }
+}
+
+/// The node of a directory's least name above the given one.
+pub fn least_above(places: &[Place], dir: usize, low: Option<&Name>) -> Option<usize>
+    requires { IsPlaces places.now }
+    ensures { result ≡ next_kid (graph_of_places places.now) dir (option_copied low.entry) }
+{
+    let mut next = first_of(places, dir);
+    while let Some(n) = next {
+        let place = &places[n];
+        if is_higher(place.name.name(), low) {
+            return Some(n);
+        }
+        next = place.next.get();
+    }
+    None
+}
+
+/// The entry of a directory's least name above the given one.
+pub fn next_above(places: &[Place], dir: usize, low: Option<&Name>) -> Option<(Name, usize)>
+    requires { IsPlaces places.now }
+    ensures entry { result ≡ next_entry (graph_of_places places.now) dir (option_copied low.entry) }
+    ensures rest { IsNextName (names_of ((graph_of_places places.now).shape dir)) (option_copied low.entry) (option_map (λ entry. entry.0) result) }
+{
+    match least_above(places, dir, low) {
+        Some(n) => {
+            let place = &places[n];
+            Some((place.name.copy(), n))
+        }
+        None => None,
+    }
+}
