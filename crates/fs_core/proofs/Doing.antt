@@ -6,6 +6,7 @@ use Rattle.fs_names.specs.Shapes.{Shape}
 use Rattle.fs_calls.specs.declared.reply.Reply.{Reply}
 use Rattle.fs_nodes.specs.Graphs.{set_at}
 use Rattle.fs_nodes.specs.Places.{Places}
+use Rattle.fs_nodes.specs.Seen.{seen}
 use Rattle.fs_nodes.specs.Stores.{graph_of}
 use Rattle.fs_locks.specs.Holding.{Holding, holder, room}
 use Rattle.fs_timeline.specs.declared.entry.Entry.TheVariants.{Commit, Return}
@@ -77,7 +78,7 @@ let_go_spare m b k p seat call n kept x old read r e removed =
     spare_removed (state_of m) call (record_of seat x.running.place x.running.op) n kept.run (on_state m b k p seat call (Leaves n) kept x) (ap (λ (q : Running). is_removed q.op.removed n) (sym y) ∙ removed)
 
 pub left_kept : (m : Machine) (b k p seat call n : ℕ) → IsKept m b k p → (x : MovesOn m seat call (Leaves n))
-    → (st : Places) (hs : Holding) (old new : Option Running) → ((r : Running) → old ≡ Some r → graph_of st ≡ releasing (is_removed r.op.removed n) n (graph_of m.store)) → st.limit ≡ m.store.limit
+    → (st : Places) (hs : Holding) (old new : Option Running) → ((r : Running) → old ≡ Some r → graph_of st ≡ releasing (is_removed r.op.removed n) n (graph_of m.store)) → (seen st).limit ≡ (seen m.store).limit
     → holder hs ≡ set_at n None (holder m.holding) → room hs ≡ room m.holding → old ≡ get_or m.seats seat old → Goes (λ a c. IsLetGo a n c) old new
     → Step (state_of m) seat (LetGo n) (state_of (record m { store = st; holding = hs; seats = slice_set m.seats seat new })) × IsKept (record m { store = st; holding = hs; seats = slice_set m.seats seat new }) b k p
 left_kept m b k p seat call n kept x st hs old new graph limit is_hs is_room read goes =
@@ -121,7 +122,7 @@ commit_fits m b k p seat r kept on e f =
     let l : k + walking m.seats ≤ b = kept.within in omega (arith, o, w, l)
 
 pub committed_kept : (m : Machine) (b k p seat call : ℕ) (s : Option ℕ) → IsKept m b k p → (x : MovesOn m seat call (Finishes s)) → PlacedOn m seat None → NoneBelow (state_of m) s
-    → (st : Places) (old new : Option Running) → ((r : Running) → old ≡ Some r → graph_of st ≡ graph_after (graph_of m.store) r.op) → st.limit ≡ m.store.limit → old ≡ get_or m.seats seat old → Goes (λ a c. IsFinished (graph_of m.store) a c) old new
+    → (st : Places) (old new : Option Running) → ((r : Running) → old ≡ Some r → graph_of st ≡ graph_after (graph_of m.store) r.op) → (seen st).limit ≡ (seen m.store).limit → old ≡ get_or m.seats seat old → Goes (λ a c. IsFinished (graph_of m.store) a c) old new
     → Step (state_of m) seat Committed (state_of (record m { store = st; seats = slice_set m.seats seat new; timeline = m.timeline ++ Commit call ∷ [] })) × IsKept (record m { store = st; seats = slice_set m.seats seat new; timeline = m.timeline ++ Commit call ∷ [] }) b (k + 1) (p - 1)
 committed_kept m b k p seat call s kept x unplaced none st old new graph limit read goes =
     let g : (w : Work) × IsFinished (graph_of m.store) x.running.op w × (new ≡ Some (record x.running { op = w })) = goes_on (λ a c. IsFinished (graph_of m.store) a c) m seat call (Finishes s) old new x read goes in
@@ -129,7 +130,7 @@ committed_kept m b k p seat call s kept x unplaced none st old new graph limit r
     (committed_step m b k p seat x.running s kept x.on x.next (unplaced x.running x.on) none st g.0 new (graph x.running (read_on m seat call (Finishes s) old x read)) limit g.1 g.2)
 
 pub carried_kept : (m : Machine) (b k p seat call : ℕ) (s : Option ℕ) (i : ℕ) → IsKept m b k p → (x : MovesOn m seat call (Finishes s)) → PlacedOn m seat (Some i)
-    → (st : Places) (old new : Option Running) → ((r : Running) → old ≡ Some r → graph_of st ≡ graph_after (graph_of m.store) r.op) → st.limit ≡ m.store.limit → old ≡ get_or m.seats seat old → Goes (λ a c. IsFinished (graph_of m.store) a c) old new
+    → (st : Places) (old new : Option Running) → ((r : Running) → old ≡ Some r → graph_of st ≡ graph_after (graph_of m.store) r.op) → (seen st).limit ≡ (seen m.store).limit → old ≡ get_or m.seats seat old → Goes (λ a c. IsFinished (graph_of m.store) a c) old new
     → Step (state_of m) seat CarriedOut (state_of (record m { store = st; seats = slice_set m.seats seat new })) × IsKept (record m { store = st; seats = slice_set m.seats seat new }) b k p
 carried_kept m b k p seat call s i kept x is_placed st old new graph limit read goes =
     let g : (w : Work) × IsFinished (graph_of m.store) x.running.op w × (new ≡ Some (record x.running { op = w })) = goes_on (λ a c. IsFinished (graph_of m.store) a c) m seat call (Finishes s) old new x read goes in
@@ -187,7 +188,7 @@ end_spare m b k p seat call old r kept x read is =
     (spare_reserved (state_of m) call (record_of seat x.running.place x.running.op) kept.run (on_state m b k p seat call Ends kept x))
 
 pub returned_kept : (m : Machine) (b k p seat call : ℕ) → IsKept m b k p → (x : MovesOn m seat call Ends) → (st : Places) (old new : Option Running) (r : Running) (one two : Reply)
-    → old ≡ get_or m.seats seat old → old ≡ Some r → new ≡ None → graph_of st ≡ unreserved r.op.reserved (graph_of m.store) → st.limit ≡ m.store.limit → r.op.reply ≡ Some one → r.op.reply ≡ Some two
+    → old ≡ get_or m.seats seat old → old ≡ Some r → new ≡ None → graph_of st ≡ unreserved r.op.reserved (graph_of m.store) → (seen st).limit ≡ (seen m.store).limit → r.op.reply ≡ Some one → r.op.reply ≡ Some two
     → Step (state_of m) seat (Returned two) (state_of (record m { store = st; seats = slice_set m.seats seat new; timeline = m.timeline ++ Return call one ∷ [] })) × IsKept (record m { store = st; seats = slice_set m.seats seat new; timeline = m.timeline ++ Return call one ∷ [] }) b k (p - 1)
 returned_kept m b k p seat call kept x st old new r one two read is is_new graph limit f g =
     let z : ◌≡◌ {A = Option Reply} (Some two) (Some one) = sym g ∙ f in

@@ -15,6 +15,7 @@ use Rattle.fs_calls.specs.declared.target.EntryCall.TheVariants.{Mkdir, Mknod, U
 use Rattle.fs_calls.specs.declared.call.Call.{Call}
 use Rattle.fs_nodes.specs.Graphs.{Graph, IsGraph, set_at, reserved_in, released_in, empty_graph}
 use Rattle.fs_nodes.specs.Places.{Places}
+use Rattle.fs_nodes.specs.Seen.{seen}
 use Rattle.fs_nodes.specs.Stores.{graph_of, in_use}
 use Rattle.fs_locks.specs.Holding.{Holding, holder, room}
 use Rattle.fs_timeline.specs.declared.entry.Entry.TheVariants.{Begin}
@@ -93,19 +94,19 @@ cancel_graph graph new last limit call w b e = go (reserves (form call)) b
     go (Some shape) (m, less, free, is_w, is_new) = e ∙ ap (λ (x : Work). unreserved x.reserved new) is_w ∙ ap (released_in m) is_new ∙ unreserve graph m shape free
 
 -- whether all numbers are in use, as the refusals tell
-pub full_told : (m : Machine) (call : Call) → IsFull (state_of m) (reserves (form call)) → IsSome (reserves (form call)) × (in_use m.store ≡ m.store.limit)
+pub full_told : (m : Machine) (call : Call) → IsFull (state_of m) (reserves (form call)) → IsSome (reserves (form call)) × (in_use m.store ≡ (seen m.store).limit)
 full_told m call = go (reserves (form call))
   where
-    go : (o : Option Shape) → IsFull (state_of m) o → IsSome o × (in_use m.store ≡ m.store.limit)
+    go : (o : Option Shape) → IsFull (state_of m) o → IsSome o × (in_use m.store ≡ (seen m.store).limit)
     go None h = absurd h
     go (Some shape) h = (refl, h)
 
-full_is : (m : Machine) (o : Option Shape) → IsSome o → in_use m.store ≡ m.store.limit → IsFull (state_of m) o
+full_is : (m : Machine) (o : Option Shape) → IsSome o → in_use m.store ≡ (seen m.store).limit → IsFull (state_of m) o
 full_is m None h e = cc
 full_is m (Some shape) h e = e
 
 -- a begin that is refused
-pub refused_same : (m : Machine) (b k p : ℕ) → IsKept m b k p → (st : Places) (hs : Holding) → graph_of st ≡ graph_of m.store → st.limit ≡ m.store.limit → holder hs ≡ holder m.holding → room m.holding ≤ room hs
+pub refused_same : (m : Machine) (b k p : ℕ) → IsKept m b k p → (st : Places) (hs : Holding) → graph_of st ≡ graph_of m.store → (seen st).limit ≡ (seen m.store).limit → holder hs ≡ holder m.holding → room m.holding ≤ room hs
     → (state_of (record m { store = st; holding = hs }) ≡ state_of m) × IsKept (record m { store = st; holding = hs }) b k p
 refused_same m b k p kept st hs graph limit is_hs more = (
   same,
@@ -132,14 +133,14 @@ seat_busy_step m seat call slot within read some = go slot refl some
 pub free_seat : (m : Machine) (seat : ℕ) (slot : Option Running) → seat < length m.seats → slot ≡ get_or m.seats seat slot → slot ≡ None → slice_get m.seats seat ≡ Some None
 free_seat m seat slot within read is = slice_get_read m.seats _ seat slot refl within read ∙ ap (λ (o : Option Running). Some o) is
 
-pub full_step : (m : Machine) (seat : ℕ) (call : Call) (new : State) → slice_get m.seats seat ≡ Some None → IsSome (reserves (form call)) × (in_use m.store ≡ m.store.limit) → new ≡ state_of m → Begins (state_of m) seat call Full new
+pub full_step : (m : Machine) (seat : ℕ) (call : Call) (new : State) → slice_get m.seats seat ≡ Some None → IsSome (reserves (form call)) × (in_use m.store ≡ (seen m.store).limit) → new ≡ state_of m → Begins (state_of m) seat call Full new
 full_step m seat call new free full same = (number_read m.seats seat None free, full_is m (reserves (form call)) full.0 full.1, same)
 
-pub no_memory_step : (m : Machine) (seat : ℕ) (call : Call) (new : State) → slice_get m.seats seat ≡ Some None → (IsSome (reserves (form call)) × (in_use m.store ≡ m.store.limit) → ⊥) → new ≡ state_of m → Begins (state_of m) seat call No_memory new
+pub no_memory_step : (m : Machine) (seat : ℕ) (call : Call) (new : State) → slice_get m.seats seat ≡ Some None → (IsSome (reserves (form call)) × (in_use m.store ≡ (seen m.store).limit) → ⊥) → new ≡ state_of m → Begins (state_of m) seat call No_memory new
 no_memory_step m seat call new free not same = (number_read m.seats seat None free, λ h. not (full_told m call h), same)
 
 -- a call that begins
-begun_roomy : (m : Machine) (b k p : ℕ) → IsKept m b k p → (call : Call) (st : Places) (hs : Holding) (w : Work) (o : Option Shape) → BegunAs (graph_of m.store) m.store.limit call o w (graph_of st) → HasRoom w.reserved hs → room m.holding ≤ room hs → AreBelow (graph_of st) (room hs)
+begun_roomy : (m : Machine) (b k p : ℕ) → IsKept m b k p → (call : Call) (st : Places) (hs : Holding) (w : Work) (o : Option Shape) → BegunAs (graph_of m.store) (seen m.store).limit call o w (graph_of st) → HasRoom w.reserved hs → room m.holding ≤ room hs → AreBelow (graph_of st) (room hs)
 begun_roomy m b k p kept call st hs w None (is_w, is_new) has more n s e = let less : n < room m.holding = kept.roomy n s (ap (λ (g : Graph). g.shape n) (sym is_new) ∙ e) in omega (arith, less, more)
 begun_roomy m b k p kept call st hs w (Some shape) (c, below, free, is_w, is_new) has more n s e = go (eqb n c) refl (ap (λ (g : Graph). g.shape n) (sym is_new) ∙ e)
   where
@@ -148,7 +149,7 @@ begun_roomy m b k p kept call st hs w (Some shape) (c, below, free, is_w, is_new
     go false f g = let less : n < room m.holding = kept.roomy n s g in omega (arith, less, more)
 
 pub begun_kept : (m : Machine) (b k p seat : ℕ) (call : Call) → IsKept m b k p → slice_get m.seats seat ≡ Some None
-    → (st : Places) (hs : Holding) (w : Work) (number : ℕ) (copy : Call) (slot : Option Running) → BegunAs (graph_of m.store) m.store.limit call (reserves (form call)) w (graph_of st) → st.limit ≡ m.store.limit
+    → (st : Places) (hs : Holding) (w : Work) (number : ℕ) (copy : Call) (slot : Option Running) → BegunAs (graph_of m.store) (seen m.store).limit call (reserves (form call)) w (graph_of st) → (seen st).limit ≡ (seen m.store).limit
     → holder hs ≡ holder m.holding → room m.holding ≤ room hs → HasRoom w.reserved hs → number ≡ b + 1 → copy ≡ call → slot ≡ Some (record { call = number; place = None; op = w })
     → Begins (state_of m) seat call (Begun_as number) (state_of (record m { store = st; holding = hs; seats = slice_set m.seats seat slot; timeline = m.timeline ++ Begin number seat copy ∷ [] })) × IsKept (record m { store = st; holding = hs; seats = slice_set m.seats seat slot; timeline = m.timeline ++ Begin number seat copy ∷ [] }) number k (p + 3 - 1)
 begun_kept m b k p seat call kept free st hs w number copy slot begun limit is_hs more has is_number is_copy is = (
@@ -166,7 +167,7 @@ begun_kept m b k p seat call kept free st hs w number copy slot begun limit is_h
     M : Machine
     M = record m { store = st; holding = hs; seats = slice_set m.seats seat slot; timeline = m.timeline ++ Begin number seat copy ∷ [] }
 
-    fresh : (o : Option Shape) → BegunAs (graph_of m.store) m.store.limit call o w (graph_of st) → w.reply ≡ None
+    fresh : (o : Option Shape) → BegunAs (graph_of m.store) (seen m.store).limit call o w (graph_of st) → w.reply ≡ None
     fresh None (is_w, is_new) = ap (λ (x : Work). x.reply) is_w
     fresh (Some shape) (c, below, unused, is_w, is_new) = ap (λ (x : Work). x.reply) is_w
 
@@ -189,7 +190,7 @@ begun_kept m b k p seat call kept free st hs w number copy slot begun limit is_h
         (records_begun m.seats seat (record { call = number; place = None; op = w }) slot free is none ∙ ap (λ (x : Work). Rattle.fs_nodes.specs.Graphs.set_at number (Some (record_of seat None x)) (records m.seats)) is_w)
         (numbers_set m.seats seat slot (Some (record { call = number; place = None; op = w })) (slice_get_within m.seats seat None free) is)
 
-    reserve : (o : Option Shape) → BegunAs (graph_of m.store) m.store.limit call o w (graph_of st) → Reserves (state_of m) seat call number o (state_of M)
+    reserve : (o : Option Shape) → BegunAs (graph_of m.store) (seen m.store).limit call o w (graph_of st) → Reserves (state_of m) seat call number o (state_of M)
     reserve None (is_w, is_new) = same None (graph_of m.store) is_w is_new
     reserve (Some shape) (c, below, unused, is_w, is_new) = (c, below, unused, same (Some c) (reserved_in c shape (graph_of m.store)) is_w is_new)
 
@@ -221,7 +222,7 @@ empty_below n s bound one e = go (eqb n 0) refl e
     go true f g = let z : n ≡ 0 = eqb_true n 0 f in omega (arith, z, one)
     go false f g = cc
 
-pub new_kept : (st : Places) (hs : Holding) (limit : ℕ) → 1 ≤ limit → graph_of st ≡ empty_graph → st.limit ≡ limit → holder hs ≡ (λ n. None) → 1 ≤ room hs
+pub new_kept : (st : Places) (hs : Holding) (limit : ℕ) → 1 ≤ limit → graph_of st ≡ empty_graph → (seen st).limit ≡ limit → holder hs ≡ (λ n. None) → 1 ≤ room hs
     → (state_of (record { store = st; holding = hs; seats = []; timeline = [] }) ≡ empty limit) × IsKept (record { store = st; holding = hs; seats = []; timeline = [] }) 0 0 0
 new_kept st hs limit one graph is_limit is_hs has = (
   same,
@@ -240,7 +241,7 @@ new_kept st hs limit one graph is_limit is_hs has = (
 
 -- the same by the seat's number, and by the counter
 pub begun_by : (m : Machine) (b k p at seat : ℕ) (call : Call) → IsKept m b k p → at ≡ seat → (old : Option Running) → seat < length m.seats → old ≡ get_or m.seats at old → old ≡ None
-    → (st : Places) (hs : Holding) (w : Work) (number last : ℕ) (copy : Call) (slot : Option Running) → BegunAs (graph_of m.store) m.store.limit call (reserves (form call)) w (graph_of st) → st.limit ≡ m.store.limit
+    → (st : Places) (hs : Holding) (w : Work) (number last : ℕ) (copy : Call) (slot : Option Running) → BegunAs (graph_of m.store) (seen m.store).limit call (reserves (form call)) w (graph_of st) → (seen st).limit ≡ (seen m.store).limit
     → holder hs ≡ holder m.holding → room m.holding ≤ room hs → HasRoom w.reserved hs → number ≡ last → last ≡ b + 1 → copy ≡ call → slot ≡ Some (record { call = number; place = None; op = w })
     → Begins (state_of m) seat call (Begun_as number) (state_of (record m { store = st; holding = hs; seats = slice_set m.seats at slot; timeline = m.timeline ++ Begin number seat copy ∷ [] })) × IsKept (record m { store = st; holding = hs; seats = slice_set m.seats at slot; timeline = m.timeline ++ Begin number seat copy ∷ [] }) last k (p + 3 - 1)
 begun_by m b k p at seat call kept e old within read is_free st hs w number last copy slot begun limit is_hs more has is_last is_number is_copy is =
@@ -257,8 +258,8 @@ none_by_test (Some r) b e f = cc
 
 -- a refusal, by what was made ready
 pub refused_by : (m : Machine) (at seat : ℕ) (call : Call) (slot : Option Running) (b : Bool) (refusal : Refusal) (new : State) → at ≡ seat → seat < length m.seats → slot ≡ get_or m.seats at slot → b ≡ is_some slot → b ≡ false
-    → (◌≡◌ {A = Result Ready Refusal} (Err refusal) (Err refusals.Full) → IsSome (reserves (form call)) × (in_use m.store ≡ m.store.limit))
-    → (IsSome (reserves (form call)) × (in_use m.store ≡ m.store.limit) → ◌≡◌ {A = Result Ready Refusal} (Err refusal) (Err refusals.Full))
+    → (◌≡◌ {A = Result Ready Refusal} (Err refusal) (Err refusals.Full) → IsSome (reserves (form call)) × (in_use m.store ≡ (seen m.store).limit))
+    → (IsSome (reserves (form call)) × (in_use m.store ≡ (seen m.store).limit) → ◌≡◌ {A = Result Ready Refusal} (Err refusal) (Err refusals.Full))
     → (◌≡◌ {A = Result Ready Refusal} (Err refusal) (Err refusals.SeatBusy) → ⊥)
     → new ≡ state_of m → Begins (state_of m) seat call (begun_as (Err refusal)) new
 refused_by m at seat call slot b refusal new e within read some not_some full is_full busy same = subst (λ (s : ℕ). Begins (state_of m) s call (begun_as (Err refusal)) new) e (go refusal full is_full busy)
@@ -266,8 +267,8 @@ refused_by m at seat call slot b refusal new e within read some not_some full is
     free : slice_get m.seats at ≡ Some None
     free = free_seat m at slot (subst (λ (s : ℕ). s < length m.seats) (sym e) within) read (none_by_test slot b some not_some)
 
-    go : (r : Refusal) → (◌≡◌ {A = Result Ready Refusal} (Err r) (Err refusals.Full) → IsSome (reserves (form call)) × (in_use m.store ≡ m.store.limit))
-        → (IsSome (reserves (form call)) × (in_use m.store ≡ m.store.limit) → ◌≡◌ {A = Result Ready Refusal} (Err r) (Err refusals.Full))
+    go : (r : Refusal) → (◌≡◌ {A = Result Ready Refusal} (Err r) (Err refusals.Full) → IsSome (reserves (form call)) × (in_use m.store ≡ (seen m.store).limit))
+        → (IsSome (reserves (form call)) × (in_use m.store ≡ (seen m.store).limit) → ◌≡◌ {A = Result Ready Refusal} (Err r) (Err refusals.Full))
         → (◌≡◌ {A = Result Ready Refusal} (Err r) (Err refusals.SeatBusy) → ⊥) → Begins (state_of m) at call (begun_as (Err r)) new
     go refusals.Full f g h = full_step m at call new free (f refl) same
     go refusals.OutOfMemory f g h = no_memory_step m at call new free (λ x. (let z : ◌≡◌ {A = Result Ready Refusal} (Err refusals.OutOfMemory) (Err refusals.Full) = g x in cc)) same

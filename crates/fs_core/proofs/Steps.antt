@@ -6,6 +6,7 @@ use Rattle.fs_calls.specs.declared.reply.Reply.{Reply}
 use Rattle.fs_names.specs.Shapes.{Shape}
 use Rattle.fs_nodes.specs.Graphs.{Graph, set_at, released_in}
 use Rattle.fs_nodes.specs.Places.{Places}
+use Rattle.fs_nodes.specs.Seen.{seen}
 use Rattle.fs_nodes.specs.Stores.{graph_of}
 use Rattle.fs_locks.specs.Holding as holders
 use Rattle.fs_locks.specs.Holding.{Holding, holder}
@@ -88,7 +89,7 @@ fewer_unreserved graph (Some n) q t e = fewer_released graph n q t e
 
 -- a let go
 pub let_go_step : (m : Machine) (b k p seat : ℕ) (r : Running) (n : ℕ) → IsKept m b k p → slice_get m.seats seat ≡ Some (Some r) → next_of (graph_of m.store) r.op ≡ Leaves n
-    → (st : Places) (hs : Holding) (w : Work) (v : Option Running) → graph_of st ≡ releasing (is_removed r.op.removed n) n (graph_of m.store) → st.limit ≡ m.store.limit
+    → (st : Places) (hs : Holding) (w : Work) (v : Option Running) → graph_of st ≡ releasing (is_removed r.op.removed n) n (graph_of m.store) → (seen st).limit ≡ (seen m.store).limit
     → holder hs ≡ set_at n None (holder m.holding) → holders.room hs ≡ holders.room m.holding → IsLetGo r.op n w → v ≡ Some (record r { op = w })
     → Step (state_of m) seat (LetGo n) (state_of (record m { store = st; holding = hs; seats = slice_set m.seats seat v })) × IsKept (record m { store = st; holding = hs; seats = slice_set m.seats seat v }) b k p
 let_go_step m b k p seat r n kept on move st hs w v graph limit is_hs room left_it is = (
@@ -199,7 +200,7 @@ fewer_made m seat r run on st graph q t e =
 
 -- a walking call that finishes
 pub committed_step : (m : Machine) (b k p seat : ℕ) (r : Running) (s : Option ℕ) → IsKept m b k p → slice_get m.seats seat ≡ Some (Some r) → next_of (graph_of m.store) r.op ≡ Finishes s → r.place ≡ None → NoneBelow (state_of m) s
-    → (st : Places) (w : Work) (v : Option Running) → graph_of st ≡ graph_after (graph_of m.store) r.op → st.limit ≡ m.store.limit → IsFinished (graph_of m.store) r.op w → v ≡ Some (record r { op = w })
+    → (st : Places) (w : Work) (v : Option Running) → graph_of st ≡ graph_after (graph_of m.store) r.op → (seen st).limit ≡ (seen m.store).limit → IsFinished (graph_of m.store) r.op w → v ≡ Some (record r { op = w })
     → Step (state_of m) seat Committed (state_of (record m { store = st; seats = slice_set m.seats seat v; timeline = m.timeline ++ Commit r.call ∷ [] })) × IsKept (record m { store = st; seats = slice_set m.seats seat v; timeline = m.timeline ++ Commit r.call ∷ [] }) b (k + 1) (p - 1)
 committed_step m b k p seat r s kept on move unplaced none st w v graph limit done is = (
   step,
@@ -234,7 +235,7 @@ committed_step m b k p seat r s kept on move unplaced none st w v graph limit do
 
 -- a placed call that finishes
 pub carried_step : (m : Machine) (b k p seat : ℕ) (r : Running) (s : Option ℕ) (i : ℕ) → IsKept m b k p → slice_get m.seats seat ≡ Some (Some r) → next_of (graph_of m.store) r.op ≡ Finishes s → r.place ≡ Some i
-    → (st : Places) (w : Work) (v : Option Running) → graph_of st ≡ graph_after (graph_of m.store) r.op → st.limit ≡ m.store.limit → IsFinished (graph_of m.store) r.op w → v ≡ Some (record r { op = w })
+    → (st : Places) (w : Work) (v : Option Running) → graph_of st ≡ graph_after (graph_of m.store) r.op → (seen st).limit ≡ (seen m.store).limit → IsFinished (graph_of m.store) r.op w → v ≡ Some (record r { op = w })
     → Step (state_of m) seat CarriedOut (state_of (record m { store = st; seats = slice_set m.seats seat v })) × IsKept (record m { store = st; seats = slice_set m.seats seat v }) b k p
 carried_step m b k p seat r s i kept on move is_placed st w v graph limit done is = (
   step,
@@ -269,7 +270,7 @@ carried_step m b k p seat r s i kept on move is_placed st w v graph limit done i
 
 -- a return
 pub returned_step : (m : Machine) (b k p seat : ℕ) (r : Running) (reply : Reply) → IsKept m b k p → slice_get m.seats seat ≡ Some (Some r) → next_of (graph_of m.store) r.op ≡ Ends → r.op.reply ≡ Some reply
-    → (st : Places) (v : Option Running) → graph_of st ≡ unreserved r.op.reserved (graph_of m.store) → st.limit ≡ m.store.limit → v ≡ None
+    → (st : Places) (v : Option Running) → graph_of st ≡ unreserved r.op.reserved (graph_of m.store) → (seen st).limit ≡ (seen m.store).limit → v ≡ None
     → Step (state_of m) seat (Returned reply) (state_of (record m { store = st; seats = slice_set m.seats seat v; timeline = m.timeline ++ Return r.call reply ∷ [] })) × IsKept (record m { store = st; seats = slice_set m.seats seat v; timeline = m.timeline ++ Return r.call reply ∷ [] }) b k (p - 1)
 returned_step m b k p seat r reply kept on move replied st v graph limit is = (
   step,

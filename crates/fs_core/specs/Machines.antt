@@ -2,6 +2,7 @@
 use Rattle.std.specs.Prelude.{ℕ, ◌+◌, eqb, if◌then◌else◌, List, [], ◌∷◌, Option, Some, None, slice_get}
 use Rattle.std.specs.Option.{option_flatten}
 use Rattle.fs_nodes.specs.Places.{Places}
+use Rattle.fs_nodes.specs.Seen.{seen}
 use Rattle.fs_nodes.specs.Stores.{graph_of}
 use Rattle.fs_locks.specs.Holding.{Holding, holder}
 use Rattle.fs_timeline.specs.declared.entry.Entry.{Entry}
@@ -42,7 +43,7 @@ records seats c = record_from 0 seats c
 -- the state that a core is in
 abbrev pub state_of : Machine → State
 state_of machine = record {
-  limit = machine.store.limit;
+  limit = (seen machine.store).limit;
   graph = graph_of machine.store;
   holder = holder machine.holding;
   ops = records machine.seats;

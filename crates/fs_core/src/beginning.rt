@@ -2,6 +2,7 @@
 
 ghost use Rattle.std.specs.Prelude.{◌≡◌, ◌≢◌, ◌+◌, ◌≤◌, ◌↔◌, IfOk, OnOk, OnErr, IsSome, Err};
 ghost use Rattle.fs_nodes.specs.Graphs.{IsGraph};
+ghost use Rattle.fs_nodes.specs.Seen.{seen};
 ghost use Rattle.fs_nodes.specs.Stores.{graph_of, in_use};
 ghost use Rattle.fs_locks.specs.Holding.{holder, room};
 ghost use Rattle.fs_calls.specs.Forms.{form, reserves};
@@ -85,16 +86,16 @@ pub fn make_ready(
     begun: u64,
 ) -> Result<Ready, Refusal>
     requires graph { IsGraph (graph_of store.old) }
-    ensures op { IfOk result (λ ready. BegunAs (graph_of store.old) store.old.limit call.now (reserves (form call.now)) ready.op (graph_of store.new)) }
+    ensures op { IfOk result (λ ready. BegunAs (graph_of store.old) (seen store.old).limit call.now (reserves (form call.now)) ready.op (graph_of store.new)) }
     ensures number { IfOk result (λ ready. ready.number ≡ begun + 1) }
     ensures copy { IfOk result (λ ready. ready.copy ≡ call.now) }
     ensures within { IfOk result (λ ready. HasRoom ready.op.reserved holders.new) }
     ensures places { OnOk result (timeline.new ≡ record timeline.old { reserved = timeline.old.reserved + 3 }) }
-    ensures full { (result ≡ Err refusals.Full) ↔ (IsSome (reserves (form call.now)) × (in_use store.old ≡ store.old.limit)) }
+    ensures full { (result ≡ Err refusals.Full) ↔ (IsSome (reserves (form call.now)) × (in_use store.old ≡ (seen store.old).limit)) }
     ensures seat { result ≢ Err refusals.SeatBusy }
     ensures graph { OnErr result (graph_of store.new ≡ graph_of store.old) }
     ensures timeline { OnErr result (timeline.new ≡ timeline.old) }
-    ensures limit { store.new.limit ≡ store.old.limit }
+    ensures rest { seen store.new ≡ record (seen store.old) { graph = graph_of store.new; room = (seen store.new).room } }
     ensures holders { holder holders.new ≡ holder holders.old }
     ensures more { room holders.old ≤ room holders.new }
 {

@@ -1,7 +1,8 @@
 //! A call under way on a seat, and its changes.
 
 ghost use Rattle.std.specs.Prelude.{◌≡◌, true, None, Some, IsSome};
-ghost use Rattle.fs_nodes.specs.Stores.{graph_of, room};
+ghost use Rattle.fs_nodes.specs.Seen.{seen};
+ghost use Rattle.fs_nodes.specs.Stores.{graph_of};
 ghost use Rattle.fs_machine.specs.Leaving.{is_removed, releasing};
 ghost use Rattle.fs_machine.specs.Works.{IsTook, IsLetGo, IsFinished, IsSpare, CanFinish, graph_after};
 ghost use Rattle.fs_core.specs.Machines.{number_of};
@@ -45,7 +46,7 @@ pub fn let_go(slot: &mut Option<Running>, node: NodeNo, store: &mut Store)
     requires spare { (r : Running) → slot.old ≡ Some r → is_removed r.op.removed node ≡ true → IsSpare (graph_of store.old) node }
     ensures slot { Goes (λ old new. IsLetGo old node new) slot.old slot.new }
     ensures graph { (r : Running) → slot.old ≡ Some r → graph_of store.new ≡ releasing (is_removed r.op.removed node) node (graph_of store.old) }
-    ensures limit { store.new.limit ≡ store.old.limit }
+    ensures rest { seen store.new ≡ record (seen store.old) { graph = graph_of store.new } }
 {
     if let Some(running) = slot {
         running.op.let_go(node, store);
@@ -58,7 +59,7 @@ pub fn carry_out(slot: &mut Option<Running>, store: &mut Store)
     requires can { (r : Running) → slot.old ≡ Some r → CanFinish (graph_of store.old) r.op.reserved r.op.remaining r.op.stand }
     ensures slot { Goes (λ old new. IsFinished (graph_of store.old) old new) slot.old slot.new }
     ensures graph { (r : Running) → slot.old ≡ Some r → graph_of store.new ≡ graph_after (graph_of store.old) r.op }
-    ensures limit { store.new.limit ≡ store.old.limit }
+    ensures rest { seen store.new ≡ record (seen store.old) { graph = graph_of store.new } }
 {
     if let Some(running) = slot {
         running.op.carry_out(store);

@@ -4,8 +4,7 @@ use Rattle.std.specs.Prelude.{is_some}
 use Rattle.fs_names.specs.Names.{Name}
 use Rattle.fs_names.specs.Shapes.{Shape, Dir, File, is_dir, is_file, is_full, names_of, bytes_of}
 use Rattle.fs_nodes.specs.Graphs.{Graph, then_at, entry_shape}
-use Rattle.fs_nodes.specs.Places.{Places}
-use Rattle.fs_nodes.specs.Stores.{graph_of}
+use Rattle.fs_nodes.specs.Seen.{Seen, IsReal}
 use Rattle.fs_calls.specs.declared.target.EntryCall.{EntryCall}
 use Rattle.fs_calls.specs.Rows.{Edit, as_dir, in_row, in_there}
 use Rattle.fs_calls.specs.declared.errno.Errno.{Errno}
@@ -13,7 +12,6 @@ use Rattle.fs_calls.specs.declared.reply.Reply.{Reply}
 use Rattle.fs_finish.specs.declared.finish.Finish.{Finish}
 use Rattle.fs_finish.specs.Endings.{IsEffect, entry_finish}
 use Rattle.fs_machine.specs.Finishes.{entry_effect}
-use Rattle.fs_finish.proofs.UsedLemmas.{kid_used}
 
 -- ---- shapes, by what is asked of them
 
@@ -40,9 +38,9 @@ other_dir (Some (File bytes)) there e = absurd (cc)
 
 -- ---- what an entry names
 
-module _ (store : Places) (dir : ℕ) (x : Name) where
+module _ (store : Seen) (real : IsReal store) (dir : ℕ) (x : Name) where
   abbrev pub graph : Graph
-  graph = graph_of store
+  graph = store.graph
 
   pub entry_is : (n : ℕ) → graph.kid dir x ≡ Some n → entry_shape graph dir x ≡ graph.shape n
   entry_is n k = ap (λ (o : Option ℕ). then_at o graph.shape) k
@@ -51,7 +49,7 @@ module _ (store : Places) (dir : ℕ) (x : Name) where
   entry_none k = ap (λ (o : Option ℕ). then_at o graph.shape) k
 
   pub entry_there : (n : ℕ) → graph.kid dir x ≡ Some n → (graph.shape n ≡ None → ⊥)
-  entry_there n k free = kid_used store.places dir x n k free
+  entry_there n k free = let s : (s : Shape) × (graph.shape n ≡ Some s) = real.to_used dir n x k in absurd (cc)
 
   -- something stands there
   pub entry_some : (n : ℕ) → graph.kid dir x ≡ Some n → (s : Shape) × (entry_shape graph dir x ≡ Some s)

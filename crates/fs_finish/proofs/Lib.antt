@@ -1,4 +1,3 @@
-pub mod UsedLemmas
 pub mod EntryLemmas
 pub mod RenameLemmas
 pub mod ListingLemmas

@@ -1,17 +1,14 @@
 -- On entries that move: what the new name had may go first.
 use Rattle.std.proofs.Common.{◌≡◌, ℕ, Bool, true, false, cond, ◌&&◌, List, [], ◌∷◌, IsTrue, Option, Some, None, refl, sym, ap, ap₂, subst, ◌∙◌, Less, Greater}
-use Rattle.std.specs.Prelude.{eqb, option_map, IfSome}
+use Rattle.std.specs.Prelude.{eqb, IfSome}
 use Rattle.std.specs.Ordering.{is_lt}
 use Rattle.fs_names.specs.Names.{Name, name_cmp, same_name, inserted_name, removed_name, has_name}
 use Rattle.fs_names.specs.Shapes.{Shape, Dir, names_of, is_dir}
 use Rattle.std.proofs.lemmas.Cmp.{tied_itself}
 use Rattle.fs_names.proofs.Lemmas.{name_total, same_name_exact, same_name_refl}
-use Rattle.fs_nodes.specs.declared.node.Content.{Content}
-use Rattle.fs_nodes.specs.declared.node.Content.TheVariants as contents
 use Rattle.fs_nodes.specs.Graphs.{Graph, set_at, unlinked_in, moved_in}
-use Rattle.fs_nodes.specs.Places.{Places}
-use Rattle.fs_nodes.specs.Stores.{graph_of, names_in, shape_with, content_at, is_above}
-use Rattle.fs_nodes.proofs.AscentLemmas.{Ascends, names_ascend}
+use Rattle.fs_nodes.specs.Seen.{Seen, Ascends, IsReal}
+use Rattle.fs_nodes.specs.Stores.{is_above}
 use Rattle.fs_nodes.proofs.GraphLemmas.{graph_by}
 use Rattle.fs_nodes.proofs.NameLemmas.{Compared, Below, Same, Above, compare, above_more, removed_absent, inserted_below, inserted_above}
 use Rattle.fs_nodes.proofs.PlaceLemmas.{eqb_true, eqb_refl}
@@ -87,15 +84,6 @@ put_later x y names a = ap (inserted_name y) (removed_removed x y names) ∙ put
 
 -- ---- graphs
 
--- the names of a directory ascend
-shape_ascends : (store : Places) (d : ℕ) → Ascends None (names_of ((graph_of store).shape d))
-shape_ascends store d = go (content_at store.places d)
-  where
-    go : (o : Option Content) → Ascends None (names_of (option_map (shape_with (names_in store.places d)) o))
-    go None = tt
-    go (Some contents.Dir) = names_ascend store.places d
-    go (Some (contents.File bytes)) = tt
-
 -- the later of three values for one entry counts
 later : {A : Type 0} (a b : Bool) (v w z : A) → cond a v (cond b w (cond a w z)) ≡ cond a v (cond b w z)
 later true b v w z = refl
@@ -159,8 +147,8 @@ entry_stays graph to y d z apart = go (eqb d to) (same_name z y) refl refl
 pub dir_stays : (graph : Graph) (to : ℕ) (y : Name) → IsTrue (is_dir ((unlinked_in to y graph).shape to))
 dir_stays graph to y = subst (λ (b : Bool). IsTrue (is_dir (cond b (Some (Dir (removed_name y (names_of (graph.shape to))))) (graph.shape to)))) (sym (eqb_refl to)) refl
 
-pub moves_again : (store : Places) (from : ℕ) (x : Name) (to : ℕ) (y : Name) (n : ℕ) → moved_in from x to y n (unlinked_in to y (graph_of store)) ≡ moved_in from x to y n (graph_of store)
-moves_again store from x to y n = moved_again (graph_of store) from x to y n (shape_ascends store to)
+pub moves_again : (store : Seen) → IsReal store → (from : ℕ) (x : Name) (to : ℕ) (y : Name) (n : ℕ) → moved_in from x to y n (unlinked_in to y store.graph) ≡ moved_in from x to y n store.graph
+moves_again store real from x to y n = moved_again store.graph from x to y n (real.ascend to)
 
 -- what holds of some number holds of it under another name
 pub if_some : (o o' : Option ℕ) (P Q : ℕ → Type 0) → o ≡ o' → ((n : ℕ) → P n → Q n) → IfSome o P → IfSome o' Q

@@ -4,8 +4,7 @@ use Rattle.std.specs.Prelude.{not, IfSome}
 use Rattle.fs_names.specs.Names.{Name}
 use Rattle.fs_names.specs.Shapes.{Shape, is_full}
 use Rattle.fs_nodes.specs.Graphs.{Graph, entry_shape, moved_in}
-use Rattle.fs_nodes.specs.Places.{Places}
-use Rattle.fs_nodes.specs.Stores.{graph_of}
+use Rattle.fs_nodes.specs.Seen.{Seen, IsReal}
 use Rattle.fs_calls.specs.Rows.{from_row, to_row, moves_row}
 use Rattle.fs_calls.specs.declared.errno.Errno.{Errno}
 use Rattle.fs_calls.specs.declared.reply.Reply.{Reply}
@@ -16,47 +15,47 @@ use Rattle.fs_machine.specs.Finishes.{move_effect}
 use Rattle.fs_machine.specs.Moves.{there_by}
 use Rattle.fs_finish.proofs.EntryLemmas.{entry_some, entry_is}
 
-module _ (store : Places) (source : ℕ) (x : Name) (dest : ℕ) (y : Name) (same_path above one_parent : Bool) (victim reserved : Option ℕ) (moved : ℕ) (k : (graph_of store).kid source x ≡ Some moved) where
+module _ (store : Seen) (real : IsReal store) (source : ℕ) (x : Name) (dest : ℕ) (y : Name) (same_path above one_parent : Bool) (victim reserved : Option ℕ) (moved : ℕ) (k : store.graph.kid source x ≡ Some moved) where
   abbrev there : Option Shape
-  there = there_by above (entry_shape (graph_of store) dest y)
+  there = there_by above (entry_shape store.graph dest y)
 
   abbrev room : Bool
-  room = one_parent || not (is_full ((graph_of store).shape dest))
+  room = one_parent || not (is_full (store.graph.shape dest))
 
   -- a finish by another spelling of the reply
-  by_reply : (row : Reply × Bool) (finish : Finish) (new : Graph) → rename_reply (graph_of store) source x dest y same_path above one_parent ≡ row
-      → IsEffect (move_effect (graph_of store) (between source dest victim) x y reserved row.0 row.1 (Some moved)) finish new
-      → IsEffect (made_between (graph_of store) source x dest y same_path above one_parent victim reserved) finish new
+  by_reply : (row : Reply × Bool) (finish : Finish) (new : Graph) → rename_reply store.graph source x dest y same_path above one_parent ≡ row
+      → IsEffect (move_effect store.graph (between source dest victim) x y reserved row.0 row.1 (Some moved)) finish new
+      → IsEffect (made_between store.graph source x dest y same_path above one_parent victim reserved) finish new
   by_reply row finish new e h =
-      subst (λ (r : Reply × Bool). IsEffect (move_effect (graph_of store) (between source dest victim) x y reserved r.0 r.1 ((graph_of store).kid source x)) finish new) (sym e)
-      (subst (λ (o : Option ℕ). IsEffect (move_effect (graph_of store) (between source dest victim) x y reserved row.0 row.1 o) finish new) (sym k) h)
+      subst (λ (r : Reply × Bool). IsEffect (move_effect store.graph (between source dest victim) x y reserved r.0 r.1 (store.graph.kid source x)) finish new) (sym e)
+      (subst (λ (o : Option ℕ). IsEffect (move_effect store.graph (between source dest victim) x y reserved row.0 row.1 o) finish new) (sym k) h)
 
   -- both paths are the same
-  pub made_same : (finish : Finish) → same_path ≡ true → finish ≡ record { replies = Done; reserved = reserved; removed = None } → IsEffect (made_between (graph_of store) source x dest y same_path above one_parent victim reserved) finish (graph_of store)
+  pub made_same : (finish : Finish) → same_path ≡ true → finish ≡ record { replies = Done; reserved = reserved; removed = None } → IsEffect (made_between store.graph source x dest y same_path above one_parent victim reserved) finish store.graph
   made_same finish same f =
-      let s = entry_some store source x moved k in
-      let e : rename_reply (graph_of store) source x dest y same_path above one_parent ≡ (Done, false) =
+      let s = entry_some store real source x moved k in
+      let e : rename_reply store.graph source x dest y same_path above one_parent ≡ (Done, false) =
       ap (λ (o : Option Shape). from_row o same_path there room) s.1 ∙ ap (λ (b : Bool). from_row (Some s.0) b there room) same in
-      by_reply (Done, false) finish (graph_of store) e
+      by_reply (Done, false) finish store.graph e
       (record { reply = ap (λ (z : Finish). z.replies) f; reserved = ap (λ (z : Finish). z.reserved) f; removed = ap (λ (z : Finish). z.removed) f; graph_is = refl })
 
   -- why the node isn't moved, or that it is
-  reply_by : (fault : Option Errno) → same_path ≡ false → ((s : Shape) → (graph_of store).shape moved ≡ Some s → fault ≡ to_row s there room)
-      → rename_reply (graph_of store) source x dest y same_path above one_parent ≡ moves_row fault
+  reply_by : (fault : Option Errno) → same_path ≡ false → ((s : Shape) → store.graph.shape moved ≡ Some s → fault ≡ to_row s there room)
+      → rename_reply store.graph source x dest y same_path above one_parent ≡ moves_row fault
   reply_by fault same f =
-      let s = entry_some store source x moved k in
+      let s = entry_some store real source x moved k in
       ap (λ (o : Option Shape). from_row o same_path there room) s.1 ∙ ap (λ (b : Bool). from_row (Some s.0) b there room) same
-      ∙ ap moves_row (sym (f s.0 (sym (entry_is store source x moved k) ∙ s.1)))
+      ∙ ap moves_row (sym (f s.0 (sym (entry_is store real source x moved k) ∙ s.1)))
 
-  pub made_failed : (fault : Option Errno) (errno : Errno) (finish : Finish) → same_path ≡ false → ((s : Shape) → (graph_of store).shape moved ≡ Some s → fault ≡ to_row s there room) → fault ≡ Some errno
-      → finish ≡ record { replies = Failed errno; reserved = reserved; removed = None } → IsEffect (made_between (graph_of store) source x dest y same_path above one_parent victim reserved) finish (graph_of store)
+  pub made_failed : (fault : Option Errno) (errno : Errno) (finish : Finish) → same_path ≡ false → ((s : Shape) → store.graph.shape moved ≡ Some s → fault ≡ to_row s there room) → fault ≡ Some errno
+      → finish ≡ record { replies = Failed errno; reserved = reserved; removed = None } → IsEffect (made_between store.graph source x dest y same_path above one_parent victim reserved) finish store.graph
   made_failed fault errno finish same g e f =
-      by_reply (Failed errno, false) finish (graph_of store) (reply_by fault same g ∙ ap moves_row e)
+      by_reply (Failed errno, false) finish store.graph (reply_by fault same g ∙ ap moves_row e)
       (record { reply = ap (λ (z : Finish). z.replies) f; reserved = ap (λ (z : Finish). z.reserved) f; removed = ap (λ (z : Finish). z.removed) f; graph_is = refl })
 
-  pub made_moved : (fault : Option Errno) (done : Reply) (new : Graph) → same_path ≡ false → ((s : Shape) → (graph_of store).shape moved ≡ Some s → fault ≡ to_row s there room) → fault ≡ None → done ≡ Done
-      → IfSome ((graph_of store).kid source x) (λ n. new ≡ moved_in source x dest y n (graph_of store))
-      → IsEffect (made_between (graph_of store) source x dest y same_path above one_parent victim reserved) (record { replies = done; reserved = reserved; removed = victim }) new
+  pub made_moved : (fault : Option Errno) (done : Reply) (new : Graph) → same_path ≡ false → ((s : Shape) → store.graph.shape moved ≡ Some s → fault ≡ to_row s there room) → fault ≡ None → done ≡ Done
+      → IfSome (store.graph.kid source x) (λ n. new ≡ moved_in source x dest y n store.graph)
+      → IsEffect (made_between store.graph source x dest y same_path above one_parent victim reserved) (record { replies = done; reserved = reserved; removed = victim }) new
   made_moved fault told new same g e d h =
       by_reply (Done, true) _ new (reply_by fault same g ∙ ap moves_row e)
-      (record { reply = d; reserved = refl; removed = refl; graph_is = subst (λ (o : Option ℕ). IfSome o (λ n. new ≡ moved_in source x dest y n (graph_of store))) k h })
+      (record { reply = d; reserved = refl; removed = refl; graph_is = subst (λ (o : Option ℕ). IfSome o (λ n. new ≡ moved_in source x dest y n store.graph)) k h })

@@ -4,7 +4,8 @@ ghost use Rattle.std.specs.Prelude.{◌≡◌, ◌<◌, None, IsSome, IsTrue, le
 ghost use Rattle.fs_names.specs.Keys.{last_of};
 ghost use Rattle.fs_names.specs.Shapes.{Shape, is_dir, is_full};
 ghost use Rattle.fs_nodes.specs.Graphs.{entry_shape};
-ghost use Rattle.fs_nodes.specs.Stores.{kid, shape, graph_of, room};
+ghost use Rattle.fs_nodes.specs.Seen.{seen};
+ghost use Rattle.fs_nodes.specs.Stores.{kid, shape, graph_of};
 ghost use Rattle.fs_calls.specs.declared.target.EntryCall.TheVariants as entries;
 ghost use Rattle.fs_calls.specs.Rows.{made, in_there, Remove};
 ghost use Rattle.fs_calls.specs.declared.reply.Reply.TheVariants as answers;
@@ -24,8 +25,7 @@ fn make_in(store: &mut Store, dir: NodeNo, name: &Name, reserved: Option<NodeNo>
     requires dir { IsTrue (is_dir (shape store.old dir)) }
     requires spare { SpareIf (graph_of store.old) reserved }
     ensures made { (new : Shape) → IsEffect (entry_effect (graph_of store.old) dir name.now reserved (made new (is_full (shape store.old dir)) (entry_shape (graph_of store.old) dir name.now))) result (graph_of store.new) }
-    ensures limit { store.new.limit ≡ store.old.limit }
-    ensures room { room store.new ≡ room store.old }
+    ensures rest { seen store.new ≡ record (seen store.old) { graph = graph_of store.new } }
 {
     if store.find(dir, name).is_some() {
         return Finish::failed(Errno::Eexist, reserved);
@@ -43,8 +43,7 @@ fn make_in(store: &mut Store, dir: NodeNo, name: &Name, reserved: Option<NodeNo>
 fn remove(store: &mut Store, dir: NodeNo, name: &Name, reserved: Option<NodeNo>) -> Finish
     requires there { IsSome (kid store.old dir name.now) }
     ensures made { IsEffect (entry_effect (graph_of store.old) dir name.now reserved (answers.Done, Remove)) result (graph_of store.new) }
-    ensures limit { store.new.limit ≡ store.old.limit }
-    ensures room { room store.new ≡ room store.old }
+    ensures rest { seen store.new ≡ record (seen store.old) { graph = graph_of store.new } }
 {
     let node = store.unlink(dir, name);
     Finish {
@@ -57,8 +56,7 @@ fn remove(store: &mut Store, dir: NodeNo, name: &Name, reserved: Option<NodeNo>)
 /// The entry of a file goes.
 fn unlink_in(store: &mut Store, dir: NodeNo, name: &Name, reserved: Option<NodeNo>) -> Finish
     ensures made { IsEffect (entry_effect (graph_of store.old) dir name.now reserved (in_there entries.Unlink (is_full (shape store.old dir)) (entry_shape (graph_of store.old) dir name.now))) result (graph_of store.new) }
-    ensures limit { store.new.limit ≡ store.old.limit }
-    ensures room { room store.new ≡ room store.old }
+    ensures rest { seen store.new ≡ record (seen store.old) { graph = graph_of store.new } }
 {
     let Some(node) = store.find(dir, name) else {
         return Finish::failed(Errno::Enoent, reserved);
@@ -72,8 +70,7 @@ fn unlink_in(store: &mut Store, dir: NodeNo, name: &Name, reserved: Option<NodeN
 /// The entry of an empty directory goes.
 fn rmdir_in(store: &mut Store, dir: NodeNo, name: &Name, reserved: Option<NodeNo>) -> Finish
     ensures made { IsEffect (entry_effect (graph_of store.old) dir name.now reserved (in_there entries.Rmdir (is_full (shape store.old dir)) (entry_shape (graph_of store.old) dir name.now))) result (graph_of store.new) }
-    ensures limit { store.new.limit ≡ store.old.limit }
-    ensures room { room store.new ≡ room store.old }
+    ensures rest { seen store.new ≡ record (seen store.old) { graph = graph_of store.new } }
 {
     let Some(node) = store.find(dir, name) else {
         return Finish::failed(Errno::Enoent, reserved);
@@ -93,8 +90,7 @@ pub fn make(store: &mut Store, dir: NodeNo, path: &Path, reserved: Option<NodeNo
     requires spare { SpareIf (graph_of store.old) reserved }
     ensures mkdir { IsEffect (entry_finish (graph_of store.old) dir (last_of path.now) reserved entries.Mkdir) result (graph_of store.new) }
     ensures mknod { IsEffect (entry_finish (graph_of store.old) dir (last_of path.now) reserved entries.Mknod) result (graph_of store.new) }
-    ensures limit { store.new.limit ≡ store.old.limit }
-    ensures room { room store.new ≡ room store.old }
+    ensures rest { seen store.new ≡ record (seen store.old) { graph = graph_of store.new } }
 {
     if let Some(errno) = dir_fault(store, dir) {
         return Finish::failed(errno, reserved);
@@ -106,8 +102,7 @@ pub fn make(store: &mut Store, dir: NodeNo, path: &Path, reserved: Option<NodeNo
 pub fn unlink(store: &mut Store, dir: NodeNo, path: &Path, reserved: Option<NodeNo>) -> Finish
     requires named { 0 < length path.now }
     ensures unlink { IsEffect (entry_finish (graph_of store.old) dir (last_of path.now) reserved entries.Unlink) result (graph_of store.new) }
-    ensures limit { store.new.limit ≡ store.old.limit }
-    ensures room { room store.new ≡ room store.old }
+    ensures rest { seen store.new ≡ record (seen store.old) { graph = graph_of store.new } }
 {
     if let Some(errno) = dir_fault(store, dir) {
         return Finish::failed(errno, reserved);
@@ -119,8 +114,7 @@ pub fn unlink(store: &mut Store, dir: NodeNo, path: &Path, reserved: Option<Node
 pub fn rmdir(store: &mut Store, dir: NodeNo, path: &Path, reserved: Option<NodeNo>) -> Finish
     requires named { 0 < length path.now }
     ensures rmdir { IsEffect (entry_finish (graph_of store.old) dir (last_of path.now) reserved entries.Rmdir) result (graph_of store.new) }
-    ensures limit { store.new.limit ≡ store.old.limit }
-    ensures room { room store.new ≡ room store.old }
+    ensures rest { seen store.new ≡ record (seen store.old) { graph = graph_of store.new } }
 {
     if let Some(errno) = dir_fault(store, dir) {
         return Finish::failed(errno, reserved);

@@ -5,7 +5,8 @@ ghost use Rattle.fs_names.specs.Keys.{after_prefix, is_proper_prefix, parent_of}
 ghost use Rattle.fs_names.specs.Parts.{is_end};
 ghost use Rattle.fs_names.specs.Shapes.{Shape, is_dir, is_full};
 ghost use Rattle.fs_nodes.specs.Graphs.{entry_shape, moved_in};
-ghost use Rattle.fs_nodes.specs.Stores.{kid, shape, graph_of, room};
+ghost use Rattle.fs_nodes.specs.Seen.{seen};
+ghost use Rattle.fs_nodes.specs.Stores.{kid, shape, graph_of};
 ghost use Rattle.fs_calls.specs.Rows.{to_row};
 ghost use Rattle.fs_finish.specs.Endings.{IsEffect, made_between};
 ghost use Rattle.fs_machine.specs.Moves.{there_by};
@@ -85,8 +86,7 @@ fn clear(store: &mut Store, dir: NodeNo, name: &Name)
     ensures dir { IsTrue (is_dir (shape store.new dir)) }
     ensures others { (d : ℕ) (x : List ℕ) → (d ≡ dir → x ≡ name.now → ⊥) → kid store.new d x ≡ kid store.old d x }
     ensures moves { (from : ℕ) (x : List ℕ) (n : ℕ) → moved_in from x dir name.now n (graph_of store.new) ≡ moved_in from x dir name.now n (graph_of store.old) }
-    ensures limit { store.new.limit ≡ store.old.limit }
-    ensures room { room store.new ≡ room store.old }
+    ensures rest { seen store.new ≡ record (seen store.old) { graph = graph_of store.new } }
 {
     if store.find(dir, name).is_some() {
         store.unlink(dir, name);
@@ -98,9 +98,7 @@ fn replace(store: &mut Store, source: NodeNo, name: &Name, dest: NodeNo, new_nam
     requires there { IsSome (kid store.old source name.now) }
     requires dir { IsTrue (is_dir (shape store.old dest)) }
     requires apart { source ≡ dest → name.now ≡ new_name.now → ⊥ }
-    ensures graph { IfSome (kid store.old source name.now) (λ node. graph_of store.new ≡ moved_in source name.now dest new_name.now node (graph_of store.old)) }
-    ensures limit { store.new.limit ≡ store.old.limit }
-    ensures room { room store.new ≡ room store.old }
+    ensures { IfSome (kid store.old source name.now) (λ node. seen store.new ≡ record (seen store.old) { graph = moved_in source name.now dest new_name.now node (graph_of store.old) }) }
 {
     clear(store, dest, new_name);
     store.move_entry(source, name, dest, new_name);
@@ -120,8 +118,7 @@ pub fn rename(
     requires dir { IsTrue (is_dir (shape store.old dest)) }
     requires apart { source ≡ dest → name.now ≡ new_name.now → paths.same ≡ true }
     ensures made { IsEffect (made_between (graph_of store.old) source name.now dest new_name.now paths.same paths.above paths.one_parent victim reserved) result (graph_of store.new) }
-    ensures limit { store.new.limit ≡ store.old.limit }
-    ensures room { room store.new ≡ room store.old }
+    ensures rest { seen store.new ≡ record (seen store.old) { graph = graph_of store.new } }
 {
     let Some(moved) = store.find(source, name) else {
         return Finish::failed(Errno::Enoent, reserved);

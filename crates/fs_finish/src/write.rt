@@ -3,7 +3,8 @@
 ghost use Rattle.std.specs.Prelude.{◌≡◌, ◌≤◌, ◌+◌, ◌++◌, ◌-◌, ℕ, List, [], None, length, take, drop, replicate, nat_le, IsTrue, vec_capacity};
 ghost use Rattle.fs_names.specs.Shapes.{bytes_of, is_file};
 ghost use Rattle.fs_nodes.specs.Graphs.{content_in};
-ghost use Rattle.fs_nodes.specs.Stores.{shape, graph_of, room};
+ghost use Rattle.fs_nodes.specs.Seen.{seen};
+ghost use Rattle.fs_nodes.specs.Stores.{shape, graph_of};
 ghost use Rattle.fs_calls.specs.Forms as calls;
 ghost use Rattle.fs_calls.specs.Rows.{on_row, written, resized};
 ghost use Rattle.fs_finish.specs.Replies.{refilled};
@@ -35,8 +36,7 @@ fn taken_out(store: &mut Store, file: NodeNo, len: usize, buffer: ByteRoom) -> V
     ensures bytes { result.items ≡ bytes_of (shape store.old file) ++ replicate (len - length (bytes_of (shape store.old file))) 0 }
     ensures file { IsTrue (is_file (shape store.new file)) }
     ensures graph { (bytes : List ℕ) → content_in file bytes (graph_of store.new) ≡ content_in file bytes (graph_of store.old) }
-    ensures limit { store.new.limit ≡ store.old.limit }
-    ensures room { room store.new ≡ room store.old }
+    ensures rest { seen store.new ≡ record (seen store.old) { graph = graph_of store.new } }
 {
     // A store lends its bytes for reading alone. So those of a long enough file are taken out, against the empty buffer, changed
     // where they are, and swapped back by the caller: they are not copied, and the buffer is not needed for them.
@@ -51,9 +51,7 @@ fn put_into(store: &mut Store, file: NodeNo, off: usize, bytes: &[u8], buffer: B
     requires file { IsTrue (is_file (shape store.old file)) }
     requires fits { off + length bytes.now ≤ FILE_LIMIT }
     requires room { off + length bytes.now ≤ buffer }
-    ensures graph { graph_of store.new ≡ content_in file (written (bytes_of (shape store.old file)) off bytes.now) (graph_of store.old) }
-    ensures limit { store.new.limit ≡ store.old.limit }
-    ensures room { room store.new ≡ room store.old }
+    ensures { seen store.new ≡ record (seen store.old) { graph = content_in file (written (bytes_of (shape store.old file)) off bytes.now) (graph_of store.old) } }
 {
     let mut new = taken_out(store, file, off + bytes.len(), buffer);
     put(&mut new, off, bytes);
@@ -64,9 +62,7 @@ fn put_into(store: &mut Store, file: NodeNo, off: usize, bytes: &[u8], buffer: B
 fn resize(store: &mut Store, file: NodeNo, size: usize, buffer: ByteRoom)
     requires file { IsTrue (is_file (shape store.old file)) }
     requires room { size ≤ buffer }
-    ensures graph { graph_of store.new ≡ content_in file (resized (bytes_of (shape store.old file)) size) (graph_of store.old) }
-    ensures limit { store.new.limit ≡ store.old.limit }
-    ensures room { room store.new ≡ room store.old }
+    ensures { seen store.new ≡ record (seen store.old) { graph = content_in file (resized (bytes_of (shape store.old file)) size) (graph_of store.old) } }
 {
     let mut new = taken_out(store, file, size, buffer);
     new.truncate(size);
@@ -77,9 +73,7 @@ fn resize(store: &mut Store, file: NodeNo, size: usize, buffer: ByteRoom)
 pub fn write(store: &mut Store, node: NodeNo, off: u64, bytes: &[u8], prepared: Room) -> Replies
     requires room { SufficesFor (calls.Write off bytes.now) prepared }
     ensures reply { result ≡ (on_row (calls.Write off bytes.now) None (shape store.old node)).0 }
-    ensures graph { graph_of store.new ≡ refilled node (on_row (calls.Write off bytes.now) None (shape store.old node)).1 (graph_of store.old) }
-    ensures limit { store.new.limit ≡ store.old.limit }
-    ensures room { room store.new ≡ room store.old }
+    ensures change { seen store.new ≡ record (seen store.old) { graph = refilled node (on_row (calls.Write off bytes.now) None (shape store.old node)).1 (graph_of store.old) } }
 {
     let Room::Content(buffer) = prepared else {
         unreachable!();
@@ -105,9 +99,7 @@ pub fn write(store: &mut Store, node: NodeNo, off: u64, bytes: &[u8], prepared: 
 pub fn truncate(store: &mut Store, node: NodeNo, size: u64, prepared: Room) -> Replies
     requires room { SufficesFor (calls.Truncate size) prepared }
     ensures reply { result ≡ (on_row (calls.Truncate size) None (shape store.old node)).0 }
-    ensures graph { graph_of store.new ≡ refilled node (on_row (calls.Truncate size) None (shape store.old node)).1 (graph_of store.old) }
-    ensures limit { store.new.limit ≡ store.old.limit }
-    ensures room { room store.new ≡ room store.old }
+    ensures change { seen store.new ≡ record (seen store.old) { graph = refilled node (on_row (calls.Truncate size) None (shape store.old node)).1 (graph_of store.old) } }
 {
     let Room::Content(buffer) = prepared else {
         unreachable!();

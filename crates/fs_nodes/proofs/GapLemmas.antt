@@ -11,7 +11,8 @@ use Rattle.fs_nodes.specs.code.Picks.{lesser}
 use Rattle.fs_nodes.specs.code.Linked.{next_kid, IsBefore, IsLow, IsAt}
 use Rattle.fs_nodes.proofs.NameLemmas.{Compared, Below, Same, Above, compare, find_inserted, length_inserted}
 use Rattle.fs_nodes.proofs.PlaceLemmas.{eqb_refl}
-use Rattle.fs_nodes.proofs.AscentLemmas.{Ascends, above_above, not_itself, below_found}
+use Rattle.fs_nodes.specs.Seen.{Ascends}
+use Rattle.fs_nodes.proofs.AscentLemmas.{above_above, not_itself, below_found}
 use Rattle.fs_nodes.proofs.OrderLemmas.{found_upto, found_has, found_same}
 
 -- a directory's names are those of its entries, in order, and one name is free

@@ -17,3 +17,4 @@ pub mod ReserveLemmas
 pub mod EntryLemmas
 pub mod MoveLemmas
 pub mod SwapLemmas
+pub mod RealLemmas

@@ -6,6 +6,7 @@ use Rattle.fs_names.specs.Shapes.{Shape, Dir, names_of, is_there, is_dir}
 use Rattle.fs_names.proofs.Lemmas.{same_name_refl}
 use Rattle.fs_nodes.specs.declared.place.Place.{Place}
 use Rattle.fs_nodes.specs.Graphs.{Graph, linked_in, unlinked_in, moved_in}
+use Rattle.fs_nodes.specs.Seen.{Seen}
 use Rattle.fs_nodes.specs.Stores.{IsUnlinked}
 use Rattle.fs_nodes.specs.code.Linked.{graph_of_places, IsPlaces}
 use Rattle.fs_nodes.proofs.PlaceLemmas.{eqb_refl}
@@ -54,5 +55,6 @@ between ps from to n x y places there dir free = record {
             let w : true ≡ false = sym h ∙ f in cc
 
 -- both, one after the other
-pub moved_by : (old middle new : Graph) (from to n : ℕ) (x y : Name) → old.kid from x ≡ Some n → middle ≡ unlinked_in from x old → new ≡ linked_in to y n middle → IfSome (old.kid from x) (λ k. new ≡ moved_in from x to y k old)
-moved_by old middle new from to n x y there e f = subst (λ (o : Option ℕ). IfSome o (λ k. new ≡ moved_in from x to y k old)) (sym there) (f ∙ ap (linked_in to y n) e)
+pub moved_seen : (old middle new : Seen) (from to n : ℕ) (x y : Name) → old.graph.kid from x ≡ Some n → middle ≡ record old { graph = unlinked_in from x old.graph } → new ≡ record middle { graph = linked_in to y n middle.graph }
+    → IfSome (old.graph.kid from x) (λ k. new ≡ record old { graph = moved_in from x to y k old.graph })
+moved_seen old middle new from to n x y there e f = subst (λ (o : Option ℕ). IfSome o (λ k. new ≡ record old { graph = moved_in from x to y k old.graph })) (sym there) (f ∙ ap (λ (m : Seen). record m { graph = linked_in to y n m.graph }) e)

@@ -8,7 +8,8 @@ use Rattle.fs_nodes.specs.declared.node.Link.{Link}
 use Rattle.fs_nodes.specs.declared.node.Node.{Node}
 use Rattle.fs_nodes.specs.Stores.{link_of, with_link, names_in, is_above, names_above}
 use Rattle.fs_nodes.specs.code.Linked.{IsBefore}
-use Rattle.fs_nodes.proofs.AscentLemmas.{Ascends, above_above}
+use Rattle.fs_nodes.specs.Seen.{Ascends}
+use Rattle.fs_nodes.proofs.AscentLemmas.{above_above}
 
 -- all names are above none
 pub all_names : (names : List Name) → names_above None names ≡ names

@@ -21,7 +21,8 @@ use Rattle.fs_nodes.specs.code.Linked.{link_with, plain_with, plain, plains, gra
 use Rattle.fs_nodes.proofs.NameLemmas.{Compared, Below, Same, Above, compare}
 use Rattle.fs_nodes.proofs.PlaceLemmas.{kid_link, names_kid}
 use Rattle.fs_nodes.proofs.EditLemmas.{names_shape, kid_within, past_shape}
-use Rattle.fs_nodes.proofs.AscentLemmas.{Ascends, names_ascend, next_names, no_names_above}
+use Rattle.fs_nodes.specs.Seen.{Ascends}
+use Rattle.fs_nodes.proofs.AscentLemmas.{names_ascend, next_names, no_names_above}
 use Rattle.fs_nodes.proofs.OrderLemmas.{all_names, found_upto, found_has, names_length}
 
 -- the names of a directory ascend

@@ -20,7 +20,8 @@ use Rattle.fs_nodes.specs.code.Linked.{link_with, plain_with, plain, plains, gra
 use Rattle.fs_nodes.proofs.PlaceLemmas.{eqb_true, eqb_refl, kid_link, names_kid}
 use Rattle.fs_nodes.proofs.StepLemmas.{link_of_place, next_kid_name}
 use Rattle.fs_nodes.proofs.GapLemmas.{IsFree, IsMember, count_linked, kid_new, kid_old, kid_there, next_other, next_at, next_by, next_self, at_one, low_member}
-use Rattle.fs_nodes.proofs.AscentLemmas.{Ascends, names_ascend, not_itself}
+use Rattle.fs_nodes.specs.Seen.{Ascends}
+use Rattle.fs_nodes.proofs.AscentLemmas.{names_ascend, not_itself}
 use Rattle.fs_nodes.proofs.LinkLemmas.{get_edited, plains_edited, plains_set, is_at, get_led, get_followed, plains_led, plains_followed, same_plain, plain_relinked, one_entry, kid_name, low_kid, kid_low, at_true, at_refl, true_false, eqb_false}
 
 -- each place, where a node left its place between two siblings

@@ -1,4 +1,5 @@
 pub mod Graphs
 pub mod Places
 pub mod Stores
+pub mod Seen
 pub mod code

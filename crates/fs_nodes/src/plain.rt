@@ -1,4 +1,5 @@
 //! The same store without an index, each of whose calls looks at every place: what tests compare `Store` with.
+#![tactic(auto, unfolding(crate::specs::Stores::graph_of, crate::specs::Stores::limit_of, crate::specs::Stores::room))]
 
 ghost use Rattle.std.specs.Prelude.{◌≡◌, ◌≢◌, ◌≤◌, ◌<◌, ◌↔◌, IsTrue, false, IfOk, OnErr, IfSome, IsSome, MatchOption, length, option_map, None, Some, Ok, Err};
 ghost use Rattle.std.specs.Option.{option_copied};
@@ -34,15 +35,14 @@ impl Model for Store {
 }
 
 impl Store {
-    ghost use Rattle.fs_nodes.specs.Stores.{graph_of, kid, shape, in_use, room, IsUnlinked, IsParent, kind_of, new_shape, next_entry, IsNextName, IsStore};
+    ghost use Rattle.fs_nodes.specs.Stores.{graph_of, kid, shape, in_use, room, IsUnlinked, IsParent, kind_of, new_shape, next_entry, IsNextName};
+    ghost use Rattle.fs_nodes.specs.Seen.{seen, IsReal};
 
     /// The root alone, in a store for at most `limit` nodes. The only error is out of memory.
     pub fn new(alloc: Global, limit: usize) -> Result<Store, AllocError>
         requires least { 1 ≤ limit }
         requires most { limit ≤ NODE_LIMIT }
-        ensures graph { IfOk result (λ store. graph_of store ≡ empty_graph) }
-        ensures limit { IfOk result (λ store. store.limit ≡ limit) }
-        ensures room { IfOk result (λ store. room store ≡ 1) }
+        ensures { IfOk result (λ store. seen store ≡ record { graph = empty_graph; limit = limit; room = 1 }) }
     {
         let mut places = Vec::new(alloc);
         places.push(Some(Node::new(alloc, Kind::Dir)))?;
@@ -83,7 +83,8 @@ impl Store {
 
     /// The node that an entry of a directory names. Where the number is no directory's, there is none.
     pub fn find(&self, dir: NodeNo, name: &Name) -> Option<NodeNo>
-        ensures { result ≡ kid self.now dir name.now }
+        ensures node { result ≡ kid self.now dir name.now }
+        ensures real { IsReal (seen self.now) }
     {
         find_in(&self.places, dir, name).map(NodeNo::new)
     }
@@ -115,9 +116,7 @@ impl Store {
         requires used { IsTrue (is_there (shape self.old node)) }
         requires unlinked { IsUnlinked (kid self.old) node }
         requires not_root { node ≢ 0 }
-        ensures graph { graph_of self.new ≡ linked_in dir name.now node (graph_of self.old) }
-        ensures limit { self.new.limit ≡ self.old.limit }
-        ensures room { room self.new ≡ room self.old }
+        ensures { seen self.new ≡ record (seen self.old) { graph = linked_in dir name.now node (graph_of self.old) } }
     {
         let link = Link {
             dir,
@@ -131,13 +130,13 @@ impl Store {
     /// `OutOfMemory` only where each number for which there is a place is in use.
     pub fn reserve(&mut self, kind: Kind) -> Result<NodeNo, NoNode>
         ensures free { IfOk result (λ node. shape self.old node ≡ None) }
-        ensures within { IfOk result (λ node. node < self.old.limit) }
+        ensures unlinked { IfOk result (λ node. IsUnlinked (kid self.old) node) }
+        ensures within { IfOk result (λ node. node < (seen self.old).limit) }
         ensures not_root { IfOk result (λ node. node ≢ 0) }
-        ensures graph { IfOk result (λ node. graph_of self.new ≡ reserved_in node (new_shape kind) (graph_of self.old)) }
-        ensures full { (result ≡ Err NoNode.Full) ↔ (in_use self.old ≡ self.old.limit) }
+        ensures change { IfOk result (λ node. seen self.new ≡ record (seen self.old) { graph = reserved_in node (new_shape kind) (graph_of self.old); room = room self.new }) }
+        ensures full { (result ≡ Err NoNode.Full) ↔ (in_use self.old ≡ (seen self.old).limit) }
         ensures memory { result ≡ Err NoNode.OutOfMemory → in_use self.old ≡ room self.old }
         ensures err { OnErr result (self.new ≡ self.old) }
-        ensures limit { self.new.limit ≡ self.old.limit }
         ensures room { room self.old ≤ room self.new }
     {
         let Some(free) = free_in(&self.places) else {
@@ -152,13 +151,13 @@ impl Store {
     fn reserve_next(&mut self, kind: Kind) -> Result<NodeNo, NoNode>
         requires { in_use self.old ≡ room self.old }
         ensures free { IfOk result (λ node. shape self.old node ≡ None) }
-        ensures within { IfOk result (λ node. node < self.old.limit) }
+        ensures unlinked { IfOk result (λ node. IsUnlinked (kid self.old) node) }
+        ensures within { IfOk result (λ node. node < (seen self.old).limit) }
         ensures not_root { IfOk result (λ node. node ≢ 0) }
-        ensures graph { IfOk result (λ node. graph_of self.new ≡ reserved_in node (new_shape kind) (graph_of self.old)) }
-        ensures full { (result ≡ Err NoNode.Full) ↔ (in_use self.old ≡ self.old.limit) }
+        ensures change { IfOk result (λ node. seen self.new ≡ record (seen self.old) { graph = reserved_in node (new_shape kind) (graph_of self.old); room = room self.new }) }
+        ensures full { (result ≡ Err NoNode.Full) ↔ (in_use self.old ≡ (seen self.old).limit) }
         ensures memory { result ≡ Err NoNode.OutOfMemory → in_use self.old ≡ room self.old }
         ensures err { OnErr result (self.new ≡ self.old) }
-        ensures limit { self.new.limit ≡ self.old.limit }
         ensures room { room self.old ≤ room self.new }
     {
         let next = self.places.len();
@@ -177,9 +176,7 @@ impl Store {
         requires unlinked { IsUnlinked (kid self.old) node }
         requires not_root { node ≢ 0 }
         requires empty { has_entries (shape self.old node) ≡ false }
-        ensures graph { graph_of self.new ≡ released_in node (graph_of self.old) }
-        ensures limit { self.new.limit ≡ self.old.limit }
-        ensures room { room self.new ≡ room self.old }
+        ensures { seen self.new ≡ record (seen self.old) { graph = released_in node (graph_of self.old) } }
     {
         put(&mut self.places[node.get()], None);
     }
@@ -188,9 +185,7 @@ impl Store {
     pub fn unlink(&mut self, dir: NodeNo, name: &Name) -> NodeNo
         requires there { IsSome (kid self.old dir name.now) }
         ensures node { kid self.old dir name.now ≡ Some result }
-        ensures graph { graph_of self.new ≡ unlinked_in dir name.now (graph_of self.old) }
-        ensures limit { self.new.limit ≡ self.old.limit }
-        ensures room { room self.new ≡ room self.old }
+        ensures change { seen self.new ≡ record (seen self.old) { graph = unlinked_in dir name.now (graph_of self.old) } }
     {
         let node = find_in(&self.places, dir, name).unwrap();
         relink(&mut self.places[node], None);
@@ -202,9 +197,7 @@ impl Store {
         requires there { IsSome (kid self.old from name.now) }
         requires dir { IsTrue (is_dir (shape self.old to)) }
         requires absent { kid self.old to new_name.now ≡ None }
-        ensures graph { IfSome (kid self.old from name.now) (λ node. graph_of self.new ≡ moved_in from name.now to new_name.now node (graph_of self.old)) }
-        ensures limit { self.new.limit ≡ self.old.limit }
-        ensures room { room self.new ≡ room self.old }
+        ensures { IfSome (kid self.old from name.now) (λ node. seen self.new ≡ record (seen self.old) { graph = moved_in from name.now to new_name.now node (graph_of self.old) }) }
     {
         let node = find_in(&self.places, from, name).unwrap();
         let link = Link {
@@ -218,9 +211,7 @@ impl Store {
     pub fn swap_content(&mut self, file: NodeNo, bytes: Vec<u8>) -> Vec<u8>
         requires { IsTrue (is_file (shape self.old file)) }
         ensures old { result.items ≡ bytes_of (shape self.old file) }
-        ensures graph { graph_of self.new ≡ content_in file bytes.items (graph_of self.old) }
-        ensures limit { self.new.limit ≡ self.old.limit }
-        ensures room { room self.new ≡ room self.old }
+        ensures change { seen self.new ≡ record (seen self.old) { graph = content_in file bytes.items (graph_of self.old) } }
     {
         swap_bytes(&mut self.places[file.get()], bytes)
     }
@@ -239,15 +230,8 @@ impl Store {
 
         // So the names are all told, in order, when each answer is the next call's `low`.
         ensures rest { IsNextName (names_of (shape self.now dir)) (option_copied low.entry) (option_map (λ entry. entry.0) result) }
+        ensures real { IsReal (seen self.now) }
     {
         least_in(&self.places, dir, low)
-    }
-
-    /// A fact for proofs, that every store keeps: it has no more places than its limit, the root is a directory that no
-    /// entry names, and each entry leads from a directory to its node.
-    pub fn invariant(&self)
-        ensures { IsStore self.now.limit self.now.places }
-    {
-        let _ = &self.places;
     }
 }

@@ -5,11 +5,9 @@ use Rattle.fs_names.specs.Shapes.{Shape, is_there, has_entries}
 use Rattle.fs_names.specs.declared.kind.Kind.{Kind}
 use Rattle.fs_names.specs.declared.kind.Kind.TheVariants as kinds
 use Rattle.fs_nodes.specs.Graphs.{Graph, reserved_in, released_in}
-use Rattle.fs_nodes.specs.Places.{Places}
-use Rattle.fs_nodes.specs.Stores.{graph_of, new_shape}
+use Rattle.fs_nodes.specs.Stores.{new_shape, IsUnlinked}
 use Rattle.fs_nodes.proofs.GraphLemmas.{graph_by}
 use Rattle.fs_nodes.proofs.PlaceLemmas.{eqb_true, eqb_refl}
-use Rattle.fs_finish.proofs.UsedLemmas.{kid_used}
 use Rattle.fs_calls.specs.declared.call.Call.{Call}
 use Rattle.fs_ops.specs.code.Begins.{Reserves}
 use Rattle.fs_machine.specs.Leaving.{unreserved}
@@ -22,12 +20,12 @@ no_entries kinds.Dir = refl
 no_entries kinds.File = refl
 
 -- a number that was reserved may be given back
-pub reserved_spare : (store : Places) (kind : Kind) (n : ℕ) (new : Graph) → (graph_of store).shape n ≡ None → (n ≡ 0 → ⊥) → new ≡ reserved_in n (new_shape kind) (graph_of store) → IsSpare new n
-reserved_spare store kind n new free root e = subst (λ (g : Graph). IsSpare g n) (sym e) (record {
-  used = subst (λ (b : Bool). IsTrue (is_there (cond b (Some (new_shape kind)) ((graph_of store).shape n)))) (sym (eqb_refl n)) refl;
-  unlinked = λ d y k. kid_used store.places d y n k free;
+pub reserved_spare : (graph : Graph) (kind : Kind) (n : ℕ) (new : Graph) → IsUnlinked graph.kid n → (n ≡ 0 → ⊥) → new ≡ reserved_in n (new_shape kind) graph → IsSpare new n
+reserved_spare graph kind n new unlinked root e = subst (λ (g : Graph). IsSpare g n) (sym e) (record {
+  used = subst (λ (b : Bool). IsTrue (is_there (cond b (Some (new_shape kind)) (graph.shape n)))) (sym (eqb_refl n)) refl;
+  unlinked = unlinked;
   not_root = root;
-  empty = ap (λ (b : Bool). has_entries (cond b (Some (new_shape kind)) ((graph_of store).shape n))) (eqb_refl n) ∙ no_entries kind;
+  empty = ap (λ (b : Bool). has_entries (cond b (Some (new_shape kind)) (graph.shape n))) (eqb_refl n) ∙ no_entries kind;
 })
 
 -- and then the graph is as before

@@ -7,8 +7,7 @@ use Rattle.fs_names.specs.Keys.{Key, parent_of, last_of}
 use Rattle.fs_names.specs.Names.{Name}
 use Rattle.fs_names.specs.Shapes.{Shape, is_full}
 use Rattle.fs_nodes.specs.Graphs.{Graph, entry_shape}
-use Rattle.fs_nodes.specs.Places.{Places}
-use Rattle.fs_nodes.specs.Stores.{graph_of}
+use Rattle.fs_nodes.specs.Seen.{Seen, IsReal}
 use Rattle.fs_calls.specs.Forms.{form, Form, AtNode, AtEntry, AtPair, by_text}
 use Rattle.fs_calls.specs.declared.target.PairCall.TheVariants as pairs
 use Rattle.fs_calls.specs.declared.target.EntryCall.{EntryCall}
@@ -34,15 +33,15 @@ use Rattle.fs_ops.proofs.WantLemmas.{walk_tie, head_arrived}
 use Rattle.fs_finish.proofs.EntryLemmas.{entry_some, entry_is}
 
 -- a rename that nothing refuses really moves its node
-pub moves_node : (store : Places) (source : ℕ) (x : Name) (dest : ℕ) (y : Name) (same_path above one_parent : Bool) (moved : ℕ) (fault : Option Errno) → (graph_of store).kid source x ≡ Some moved → same_path ≡ false
-    → ((s : Shape) → (graph_of store).shape moved ≡ Some s → fault ≡ to_row s (there_by above (entry_shape (graph_of store) dest y)) (one_parent || not (is_full ((graph_of store).shape dest)))) → fault ≡ None
-    → moved_node (rename_reply (graph_of store) source x dest y same_path above one_parent).1 ((graph_of store).kid source x) ≡ Some moved
-moves_node store source x dest y same_path above one_parent moved fault k same rows none =
-    let s = entry_some store source x moved k in
-    let row : to_row s.0 (there_by above (entry_shape (graph_of store) dest y)) (one_parent || not (is_full ((graph_of store).shape dest))) ≡ None = sym (rows s.0 (sym (entry_is store source x moved k) ∙ s.1)) ∙ none in
-    ap (λ (o : Option Shape). moved_node (from_row o same_path (there_by above (entry_shape (graph_of store) dest y)) (one_parent || not (is_full ((graph_of store).shape dest)))).1 ((graph_of store).kid source x)) s.1
-    ∙ ap (λ (b : Bool). moved_node (from_row (Some s.0) b (there_by above (entry_shape (graph_of store) dest y)) (one_parent || not (is_full ((graph_of store).shape dest)))).1 ((graph_of store).kid source x)) same
-    ∙ ap (λ (o : Option Errno). moved_node (moves_row o).1 ((graph_of store).kid source x)) row ∙ k
+pub moves_node : (store : Seen) → IsReal store → (source : ℕ) (x : Name) (dest : ℕ) (y : Name) (same_path above one_parent : Bool) (moved : ℕ) (fault : Option Errno) → store.graph.kid source x ≡ Some moved → same_path ≡ false
+    → ((s : Shape) → store.graph.shape moved ≡ Some s → fault ≡ to_row s (there_by above (entry_shape store.graph dest y)) (one_parent || not (is_full (store.graph.shape dest)))) → fault ≡ None
+    → moved_node (rename_reply store.graph source x dest y same_path above one_parent).1 (store.graph.kid source x) ≡ Some moved
+moves_node store real source x dest y same_path above one_parent moved fault k same rows none =
+    let s = entry_some store real source x moved k in
+    let row : to_row s.0 (there_by above (entry_shape store.graph dest y)) (one_parent || not (is_full (store.graph.shape dest))) ≡ None = sym (rows s.0 (sym (entry_is store real source x moved k) ∙ s.1)) ∙ none in
+    ap (λ (o : Option Shape). moved_node (from_row o same_path (there_by above (entry_shape store.graph dest y)) (one_parent || not (is_full (store.graph.shape dest)))).1 (store.graph.kid source x)) s.1
+    ∙ ap (λ (b : Bool). moved_node (from_row (Some s.0) b (there_by above (entry_shape store.graph dest y)) (one_parent || not (is_full (store.graph.shape dest)))).1 (store.graph.kid source x)) same
+    ∙ ap (λ (o : Option Errno). moved_node (moves_row o).1 (store.graph.kid source x)) row ∙ k
 
 -- a stand by what the fork is
 stand_behind : (call : Form) (n : ℕ) (behind : Option ℕ) (fork : Option ForkWay) (victim : Option ℕ) → (stand_with call n behind fork victim).behind ≡ behind

@@ -1,7 +1,8 @@
 //! How calls begin.
 
 ghost use Rattle.std.specs.Prelude.{◌≡◌, ◌≤◌, ◌↔◌, Err, None, IfOk, OnErr, IsSome, length, option_map};
-ghost use Rattle.fs_nodes.specs.Stores.{graph_of, in_use, room, new_shape};
+ghost use Rattle.fs_nodes.specs.Seen.{seen};
+ghost use Rattle.fs_nodes.specs.Stores.{graph_of, in_use, new_shape};
 ghost use Rattle.fs_calls.specs.Forms.{form, reserves, new_shape as entry_shape};
 ghost use Rattle.fs_calls.specs.code.Targets.{form_of};
 ghost use Rattle.fs_machine.specs.Moves.{target};
@@ -65,11 +66,11 @@ fn target_len(aim: Target<'_>) -> usize
 
 /// Reserves a number for the node that a call may add, if it may.
 fn reserve_for(call: &Call, store: &mut Store) -> Result<Option<NodeNo>, NoNode>
-    ensures ok { IfOk result (λ number. HasReserved (graph_of store.old) store.old.limit (reserves (form call.now)) number (graph_of store.new)) }
-    ensures full { (result ≡ Err NoNode.Full) ↔ (IsSome (reserves (form call.now)) × (in_use store.old ≡ store.old.limit)) }
+    ensures ok { IfOk result (λ number. HasReserved (graph_of store.old) (seen store.old).limit (reserves (form call.now)) number (graph_of store.new)) }
+    ensures full { (result ≡ Err NoNode.Full) ↔ (IsSome (reserves (form call.now)) × (in_use store.old ≡ (seen store.old).limit)) }
     ensures err { OnErr result (graph_of store.new ≡ graph_of store.old) }
-    ensures limit { store.new.limit ≡ store.old.limit }
-    ensures room { room store.old ≤ room store.new }
+    ensures rest { seen store.new ≡ record (seen store.old) { graph = graph_of store.new; room = (seen store.new).room } }
+    ensures room { (seen store.old).room ≤ (seen store.new).room }
 {
     match new_kind(call.target()) {
         Some(kind) => Ok(Some(store.reserve(kind)?)),
@@ -107,11 +108,11 @@ impl Op {
     /// Begins a call. It allocates all that the call needs. A call that may add a node reserves a number for it: `Full` comes
     /// exactly where it cannot, and is looked at before memory. After an error the graph is as before.
     pub fn begin(alloc: Global, call: &Call, store: &mut Store) -> Result<Op, NoNode>
-        ensures ok { IfOk result (λ op. BegunAs (graph_of store.old) store.old.limit call.now (reserves (form call.now)) op (graph_of store.new)) }
-        ensures full { (result ≡ Err NoNode.Full) ↔ (IsSome (reserves (form call.now)) × (in_use store.old ≡ store.old.limit)) }
+        ensures ok { IfOk result (λ op. BegunAs (graph_of store.old) (seen store.old).limit call.now (reserves (form call.now)) op (graph_of store.new)) }
+        ensures full { (result ≡ Err NoNode.Full) ↔ (IsSome (reserves (form call.now)) × (in_use store.old ≡ (seen store.old).limit)) }
         ensures err { OnErr result (graph_of store.new ≡ graph_of store.old) }
-        ensures limit { store.new.limit ≡ store.old.limit }
-        ensures room { room store.old ≤ room store.new }
+        ensures rest { seen store.new ≡ record (seen store.old) { graph = graph_of store.new; room = (seen store.new).room } }
+        ensures room { (seen store.old).room ≤ (seen store.new).room }
     {
         let reserved = reserve_for(call, store)?;
         match Op::new(alloc, call) {

@@ -1,7 +1,8 @@
 //! A call is carried out.
 
 ghost use Rattle.std.specs.Prelude.{◌≡◌, None};
-ghost use Rattle.fs_nodes.specs.Stores.{graph_of, room};
+ghost use Rattle.fs_nodes.specs.Seen.{seen};
+ghost use Rattle.fs_nodes.specs.Stores.{graph_of};
 ghost use Rattle.fs_machine.specs.Works.{CanFinish, IsFinished, graph_after};
 
 use crate::finish::finish;
@@ -27,9 +28,7 @@ impl Op {
         requires unfinished { self.old.reply ≡ None }
         requires can { CanFinish (graph_of store.old) self.old.reserved self.old.remaining self.old.stand }
         ensures op { IsFinished (graph_of store.old) self.old self.new }
-        ensures graph { graph_of store.new ≡ graph_after (graph_of store.old) self.old }
-        ensures limit { store.new.limit ≡ store.old.limit }
-        ensures room { room store.new ≡ room store.old }
+        ensures change { seen store.new ≡ record (seen store.old) { graph = graph_after (graph_of store.old) self.old } }
     {
         let prepared = take_room(&mut self.outcome);
         let done = finish(

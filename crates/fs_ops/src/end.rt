@@ -1,7 +1,8 @@
 //! How calls end.
 
 ghost use Rattle.std.specs.Prelude.{◌≡◌, None, Some, IsSome};
-ghost use Rattle.fs_nodes.specs.Stores.{graph_of, room};
+ghost use Rattle.fs_nodes.specs.Seen.{seen};
+ghost use Rattle.fs_nodes.specs.Stores.{graph_of};
 ghost use Rattle.fs_machine.specs.Leaving.{unreserved};
 ghost use Rattle.fs_machine.specs.Works.{SpareIf};
 
@@ -13,9 +14,7 @@ use fs_nodes::{NodeNo, Store};
 /// A number that a call reserved and didn't use leaves the store.
 pub fn give_back(store: &mut Store, reserved: Option<NodeNo>)
     requires { SpareIf (graph_of store.old) reserved }
-    ensures graph { graph_of store.new ≡ unreserved reserved (graph_of store.old) }
-    ensures limit { store.new.limit ≡ store.old.limit }
-    ensures room { room store.new ≡ room store.old }
+    ensures { seen store.new ≡ record (seen store.old) { graph = unreserved reserved (graph_of store.old) } }
 {
     if let Some(node) = reserved {
         store.release(node);
@@ -27,9 +26,7 @@ impl Op {
     pub fn cancel(self, store: &mut Store)
         requires spare { SpareIf (graph_of store.old) self.reserved }
         requires start { self.stand ≡ None }
-        ensures graph { graph_of store.new ≡ unreserved self.reserved (graph_of store.old) }
-        ensures limit { store.new.limit ≡ store.old.limit }
-        ensures room { room store.new ≡ room store.old }
+        ensures { seen store.new ≡ record (seen store.old) { graph = unreserved self.reserved (graph_of store.old) } }
     {
         give_back(store, self.reserved());
     }
@@ -40,9 +37,7 @@ impl Op {
         requires spare { SpareIf (graph_of store.old) self.reserved }
         ensures one { self.reply ≡ Some result.0 }
         ensures two { self.reply ≡ Some result.1 }
-        ensures graph { graph_of store.new ≡ unreserved self.reserved (graph_of store.old) }
-        ensures limit { store.new.limit ≡ store.old.limit }
-        ensures room { room store.new ≡ room store.old }
+        ensures change { seen store.new ≡ record (seen store.old) { graph = unreserved self.reserved (graph_of store.old) } }
     {
         let Op {
             outcome,

@@ -2,7 +2,8 @@
 
 ghost use Rattle.std.specs.Prelude.{◌≡◌, ◌<◌, None, Some, length};
 ghost use Rattle.fs_names.specs.Keys.{last_of};
-ghost use Rattle.fs_nodes.specs.Stores.{graph_of, shape, room};
+ghost use Rattle.fs_nodes.specs.Seen.{seen};
+ghost use Rattle.fs_nodes.specs.Stores.{graph_of, shape};
 ghost use Rattle.fs_calls.specs.Forms.{form, by_text};
 ghost use Rattle.fs_calls.specs.code.Targets.{form_of, node_call};
 ghost use Rattle.fs_calls.specs.Rows.{on_row};
@@ -40,9 +41,7 @@ fn finish_on(
     ensures reply { result.replies ≡ (on_row (node_call call.entry) None (shape store.old node)).0 }
     ensures reserved { result.reserved ≡ reserved }
     ensures removed { result.removed ≡ None }
-    ensures graph { graph_of store.new ≡ refilled node (on_row (node_call call.entry) None (shape store.old node)).1 (graph_of store.old) }
-    ensures limit { store.new.limit ≡ store.old.limit }
-    ensures room { room store.new ≡ room store.old }
+    ensures change { seen store.new ≡ record (seen store.old) { graph = refilled node (on_row (node_call call.entry) None (shape store.old node)).1 (graph_of store.old) } }
 {
     match call {
         NodeCall::Stat => Finish::kept(stat(store, node), reserved),
@@ -71,8 +70,7 @@ fn finish_in(
     requires named { 0 < length path.now }
     requires spare { SpareIf (graph_of store.old) reserved }
     ensures made { IsEffect (entry_finish (graph_of store.old) dir (last_of path.now) reserved entry) result (graph_of store.new) }
-    ensures limit { store.new.limit ≡ store.old.limit }
-    ensures room { room store.new ≡ room store.old }
+    ensures rest { seen store.new ≡ record (seen store.old) { graph = graph_of store.new } }
 {
     match entry {
         EntryCall::Mkdir | EntryCall::Mknod => make(store, dir, path, reserved),
@@ -100,8 +98,7 @@ fn finish_at(
     requires room { Suffices (form_of aim) prepared }
     requires can { CanFinish (graph_of store.old) reserved (dropped walk.now.walked (form_of aim)) (Some (stand_with (form_of aim) node walk.now.behind fork.now victim)) }
     ensures made { IsEffect (effect_at (graph_of store.old) (dropped walk.now.walked (form_of aim.entry)) (stand_with (form_of aim.entry) node walk.now.behind fork.now victim) reserved) result (graph_of store.new) }
-    ensures limit { store.new.limit ≡ store.old.limit }
-    ensures room { room store.new ≡ room store.old }
+    ensures rest { seen store.new ≡ record (seen store.old) { graph = graph_of store.new } }
 {
     match aim {
         Target::Node(call, _) => finish_on(call, node, reserved, prepared, store),
@@ -132,8 +129,7 @@ pub fn finish(
     requires op { IsOp (form call.now) walk.now fork.now (Outcome.Open prepared) }
     requires can { CanFinish (graph_of store.old) reserved (dropped walk.now.walked (form call.now)) (stand_of (form call.now) walk.now.node walk.now.behind fork.now victim) }
     ensures made { IsEffect (finish_by (graph_of store.old) (form call.now) walk.now fork.now victim reserved) result (graph_of store.new) }
-    ensures limit { store.new.limit ≡ store.old.limit }
-    ensures room { room store.new ≡ room store.old }
+    ensures rest { seen store.new ≡ record (seen store.old) { graph = graph_of store.new } }
 {
     if let Some(errno) = call.error_by_paths() {
         return Finish::failed(errno, reserved);

@@ -3,7 +3,8 @@
 ghost use Rattle.std.specs.Prelude.{◌≡◌, ◌≤◌, ◌+◌, ℕ, [], None, length, drop, take};
 ghost use Rattle.fs_names.specs.Keys.{parent_of};
 ghost use Rattle.fs_names.specs.Parts.{common, left};
-ghost use Rattle.fs_nodes.specs.Stores.{shape, graph_of, room};
+ghost use Rattle.fs_nodes.specs.Seen.{seen};
+ghost use Rattle.fs_nodes.specs.Stores.{shape, graph_of};
 ghost use Rattle.fs_calls.specs.Forms as forms;
 ghost use Rattle.fs_calls.specs.declared.target.PairCall.TheVariants as pairs;
 ghost use Rattle.fs_calls.specs.Forms.{by_text};
@@ -70,8 +71,7 @@ pub fn finish_rename(
     requires shared { names ≤ length (common (parent_of path.now) (parent_of new_path.now)) }
     requires apart { source.node ≡ dest.node → take source.walked (drop names path.now) ≡ take dest.walked (drop names new_path.now) }
     ensures made { IsEffect (rename_effect (graph_of store.old) (drop names path.now) (drop names new_path.now) (heads_stand path.now new_path.now names source dest victim) reserved []) result (graph_of store.new) }
-    ensures limit { store.new.limit ≡ store.old.limit }
-    ensures room { room store.new ≡ room store.old }
+    ensures rest { seen store.new ≡ record (seen store.old) { graph = graph_of store.new } }
 {
     let (from, to) = (source.node, dest.node);
     if let Some(errno) = head_fault(store, path, names, source) {

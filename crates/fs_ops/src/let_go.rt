@@ -1,7 +1,8 @@
 //! A call lets a node go.
 
 ghost use Rattle.std.specs.Prelude.{◌≡◌, None, true};
-ghost use Rattle.fs_nodes.specs.Stores.{graph_of, room};
+ghost use Rattle.fs_nodes.specs.Seen.{seen};
+ghost use Rattle.fs_nodes.specs.Stores.{graph_of};
 ghost use Rattle.fs_machine.specs.Leaving.{is_removed, releasing, cleared};
 ghost use Rattle.fs_ops.specs.code.Steps.{way_freed, fork_freed, heads_freed, fork_after, way_after};
 ghost use Rattle.fs_machine.specs.Works.{IsSpare, IsLetGo};
@@ -14,9 +15,7 @@ use fs_walk::{Fork, Walk};
 fn release_removed(removed: &mut Option<NodeNo>, node: NodeNo, store: &mut Store)
     requires { is_removed removed.old node ≡ true → IsSpare (graph_of store.old) node }
     ensures removed { removed.new ≡ cleared (is_removed removed.old node) removed.old }
-    ensures graph { graph_of store.new ≡ releasing (is_removed removed.old node) node (graph_of store.old) }
-    ensures limit { store.new.limit ≡ store.old.limit }
-    ensures room { room store.new ≡ room store.old }
+    ensures change { seen store.new ≡ record (seen store.old) { graph = releasing (is_removed removed.old node) node (graph_of store.old) } }
 {
     if *removed == Some(node) {
         store.release(node);
@@ -70,9 +69,7 @@ impl Op {
     pub fn let_go(&mut self, node: NodeNo, store: &mut Store)
         requires spare { is_removed self.old.removed node ≡ true → IsSpare (graph_of store.old) node }
         ensures op { IsLetGo self.old node self.new }
-        ensures graph { graph_of store.new ≡ releasing (is_removed self.old.removed node) node (graph_of store.old) }
-        ensures limit { store.new.limit ≡ store.old.limit }
-        ensures room { room store.new ≡ room store.old }
+        ensures change { seen store.new ≡ record (seen store.old) { graph = releasing (is_removed self.old.removed node) node (graph_of store.old) } }
     {
         release_removed(&mut self.removed, node, store);
         if self.is_finished() {

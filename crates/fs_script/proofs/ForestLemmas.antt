@@ -1,12 +1,12 @@
 -- The nodes of a store as a forest of the sequential tree: places with links.
-use Rattle.std.proofs.Common.{◌≡◌, ℕ, zero, suc, ◌+◌, ◌≤◌, Bool, true, false, cond, ◌&&◌, List, [], ◌∷◌, ◌++◌, length, map, slice_get, Some, None, Option, is_some, option_and_then, refl, sym, ap, subst, ◌∙◌, arith, T, length-append, Less, Equal, Greater}
+use Rattle.std.proofs.Common.{◌≡◌, ℕ, zero, suc, ◌+◌, ◌≤◌, Bool, true, false, cond, ◌&&◌, List, [], ◌∷◌, ◌++◌, length, map, Some, None, Option, is_some, option_and_then, refl, sym, ap, subst, ◌∙◌, arith, T, length-append, Less, Equal, Greater}
 use Rattle.std.specs.Ordering.{is_lt}
 use Rattle.std.specs.declared.cmp.Ordering.{Ordering}
 use Rattle.std.specs.FinMap.{find, is_sorted}
 use Rattle.std.specs.FinMap.Entries.{below_all}
 use Rattle.fs_names.specs.Names.{Name, name_cmp, same_name, has_name}
 use Rattle.fs_names.specs.Keys.{Key}
-use Rattle.fs_names.specs.Shapes.{Shape}
+use Rattle.fs_names.specs.Shapes.{Shape, names_of}
 use Rattle.fs_names.specs.Shapes as shapes
 use Rattle.fs_names.proofs.Lemmas.{same_name_exact}
 use Rattle.fs_calls.specs.Shapes.{seen}
@@ -16,15 +16,8 @@ use Rattle.fs_seq.proofs.GraphLemmas.{walk-append}
 use Rattle.fs_seq.proofs.ForestTrees.{forest_tree}
 use Rattle.fs_seq.proofs.Resolving.{seen_at, seen_none}
 use Rattle.fs_nodes.specs.Graphs.{Graph, Kids, then_at, at, spell}
-use Rattle.fs_nodes.specs.Stores.{IsStore, content_of, link_of, content_at, link_at, kid_in, names_in, shape_in, graph_in}
-use Rattle.fs_nodes.specs.declared.node.Node.{Node}
-use Rattle.fs_nodes.specs.declared.node.Link.{Link}
-use Rattle.fs_nodes.specs.declared.node.Content.{Content}
-use Rattle.fs_nodes.specs.declared.node.Content.TheVariants as contents
+use Rattle.fs_nodes.specs.Seen.{Seen, Ascends, IsReal}
 use Rattle.fs_nodes.proofs.NameLemmas.{above_more}
-use Rattle.fs_nodes.proofs.AscentLemmas.{Ascends, names_ascend}
-use Rattle.fs_nodes.proofs.PlaceLemmas.{kid_link, names_kid, read_within}
-use Rattle.fs_nodes.proofs.EditLemmas.{past_shape}
 use Rattle.fs_script.specs.TreeText.{IsSpelled}
 use Rattle.fs_script.specs.code.Walks.{number_or, links, place_of, places_from, forest_of}
 
@@ -43,10 +36,10 @@ place_from graph i (suc k) (suc n) past =
     place_from graph (suc i) k n (λ m h. past m (omega (arith, h))) ∙ ap (λ (m : ℕ). place_of graph.kid m (graph.shape m)) e
 
 -- the place of each number
-pub place_in : (ps : List (Option Node)) (n : ℕ) → place_at (forest_of ps) n ≡ place_of (kid_in ps) n (shape_in ps n)
-place_in ps n =
+pub place_in : (st : Seen) → IsReal st → (n : ℕ) → place_at (forest_of st) n ≡ place_of st.graph.kid n (st.graph.shape n)
+place_in st real n =
     let e : 0 + n ≡ n = omega arith in
-    place_from (graph_in ps) 0 (length ps) n (λ m h. past_shape ps m (omega (arith, h))) ∙ ap (λ (m : ℕ). place_of (kid_in ps) m (shape_in ps m)) e
+    place_from st.graph 0 st.room n (λ m h. real.made m (omega (arith, h))) ∙ ap (λ (m : ℕ). place_of st.graph.kid m (st.graph.shape m)) e
 
 -- ---- children
 
@@ -62,31 +55,29 @@ some_of : (o : Option ℕ) → cond (is_some o) (Some (number_or o)) None ≡ o
 some_of None = refl
 some_of (Some n) = refl
 
-kid_of_dir : (limit : ℕ) (ps : List (Option Node)) → IsStore limit ps → (n m : ℕ) (x : Name) → kid_in ps n x ≡ Some m → content_at ps n ≡ Some contents.Dir
-kid_of_dir limit ps store n m x e = store.of_dir m (record { dir = n; name = x }) (kid_link ps n x m e)
-
-no_kid : (limit : ℕ) (ps : List (Option Node)) → IsStore limit ps → (n : ℕ) (x : Name) (c : Option Content) → content_at ps n ≡ c → (c ≡ Some contents.Dir → ⊥) → (o : Option ℕ) → kid_in ps n x ≡ o → None ≡ o
-no_kid limit ps store n x c e other None k = refl
-no_kid limit ps store n x c e other (Some m) k = absurd (other (sym e ∙ kid_of_dir limit ps store n m x k))
+no_kid : (st : Seen) → IsReal st → (n : ℕ) (x : Name) (s : Option Shape) → st.graph.shape n ≡ s → ((names : List Name) → s ≡ Some (shapes.Dir names) → ⊥) → (o : Option ℕ) → st.graph.kid n x ≡ o → None ≡ o
+no_kid st real n x s e other None k = refl
+no_kid st real n x s e other (Some m) k = let d : (names : List Name) × (st.graph.shape n ≡ Some (shapes.Dir names)) = real.of_dir n m x k in absurd (other d.0 (sym e ∙ d.1))
 
 -- the links of the forest are the entries of the store
-pub child_kid : (limit : ℕ) (ps : List (Option Node)) → IsStore limit ps → (n : ℕ) (x : Name) → child (forest_of ps) n x ≡ kid_in ps n x
+pub child_kid : (st : Seen) → IsReal st → (n : ℕ) (x : Name) → child (forest_of st) n x ≡ st.graph.kid n x
 unfolding child
-child_kid limit ps store n x =
-    ap (λ (p : Option Place). find name_cmp x (links_of p)) (place_in ps n) ∙ go (content_at ps n) refl
+child_kid st real n x =
+    ap (λ (p : Option Place). find name_cmp x (links_of p)) (place_in st real n) ∙ go (st.graph.shape n) refl
   where
-    go : (c : Option Content) → content_at ps n ≡ c → find name_cmp x (links_of (place_of (kid_in ps) n (shape_in ps n))) ≡ kid_in ps n x
-    go None e = rw e (no_kid limit ps store n x None e (λ h. cc) (kid_in ps n x) refl)
-    go (Some (contents.File bytes)) e = rw e (no_kid limit ps store n x (Some (contents.File bytes)) e (λ h. cc) (kid_in ps n x) refl)
-    go (Some contents.Dir) e =
-        rw e (found_link (kid_in ps) n x (names_in ps n) ∙ ap (λ (b : Bool). cond b (Some (number_or (kid_in ps n x))) None) (names_kid ps n x) ∙ some_of (kid_in ps n x))
+    go : (s : Option Shape) → st.graph.shape n ≡ s → find name_cmp x (links_of (place_of st.graph.kid n (st.graph.shape n))) ≡ st.graph.kid n x
+    go None e = rw e (no_kid st real n x None e (λ names h. absurd (cc)) (st.graph.kid n x) refl)
+    go (Some (shapes.File bytes)) e = rw e (no_kid st real n x (Some (shapes.File bytes)) e (λ names h. absurd (cc)) (st.graph.kid n x) refl)
+    go (Some (shapes.Dir names)) e =
+        let has : has_name x names ≡ is_some (st.graph.kid n x) = ap (λ (s : Option Shape). has_name x (names_of s)) (sym e) ∙ real.listed n x in
+        rw e (found_link st.graph.kid n x names ∙ ap (λ (b : Bool). cond b (Some (number_or (st.graph.kid n x))) None) has ∙ some_of (st.graph.kid n x))
 
 -- so a key leads where it leads in the store
-walk_at : (limit : ℕ) (ps : List (Option Node)) → IsStore limit ps → (n : ℕ) (key : Key) → walk_from (forest_of ps) n key ≡ at (kid_in ps) n key
-walk_at limit ps store n [] = refl
-walk_at limit ps store n (x ∷ key) = rw (child_kid limit ps store n x) (go (kid_in ps n x) (λ m. walk_at limit ps store m key))
+walk_at : (st : Seen) → IsReal st → (n : ℕ) (key : Key) → walk_from (forest_of st) n key ≡ at st.graph.kid n key
+walk_at st real n [] = refl
+walk_at st real n (x ∷ key) = rw (child_kid st real n x) (go (st.graph.kid n x) (λ m. walk_at st real m key))
   where
-    go : (o : Option ℕ) → ((m : ℕ) → walk_from (forest_of ps) m key ≡ at (kid_in ps) m key) → option_and_then (λ m. walk_from (forest_of ps) m key) o ≡ then_at o (λ m. at (kid_in ps) m key)
+    go : (o : Option ℕ) → ((m : ℕ) → walk_from (forest_of st) m key ≡ at st.graph.kid m key) → option_and_then (λ m. walk_from (forest_of st) m key) o ≡ then_at o (λ m. at st.graph.kid m key)
     go None more = refl
     go (Some m) more = more m
 
@@ -118,65 +109,51 @@ last_step g k x n w = go (walk g k) refl (sym (walk-append g 0 k (x ∷ [])) ∙
     go (Some d) e h = (d, e, by_child (child g d x) h)
 
 -- the entry that names what a key leads to
-end_link : (limit : ℕ) (ps : List (Option Node)) → IsStore limit ps → (k : Key) (x : Name) (n : ℕ) → walk (forest_of ps) (k ++ x ∷ []) ≡ Some n → (d : ℕ) × (walk (forest_of ps) k ≡ Some d) × (link_at ps n ≡ Some (record { dir = d; name = x }))
-end_link limit ps store k x n w =
-    let step = last_step (forest_of ps) k x n w in
-    (step.0, step.1, kid_link ps step.0 x n (sym (child_kid limit ps store step.0 x) ∙ step.2))
+end_link : (st : Seen) → IsReal st → (k : Key) (x : Name) (n : ℕ) → walk (forest_of st) (k ++ x ∷ []) ≡ Some n → (d : ℕ) × (walk (forest_of st) k ≡ Some d) × (st.graph.kid d x ≡ Some n)
+end_link st real k x n w =
+    let step = last_step (forest_of st) k x n w in
+    (step.0, step.1, sym (child_kid st real step.0 x) ∙ step.2)
 
-abbrev dir_or : ℕ → Option Link → ℕ
-dir_or n None = n
-dir_or n (Some link) = link.dir
-
-abbrev name_or : Name → Option Link → Name
-name_or x None = x
-name_or x (Some link) = link.name
-
-not_root : (limit : ℕ) (ps : List (Option Node)) → IsStore limit ps → (k front : Key) (x : Name) → k ≡ front ++ x ∷ [] → walk (forest_of ps) k ≡ Some 0 → ⊥
-not_root limit ps store k front x e w = let l = end_link limit ps store front x 0 (subst (λ (z : Key). walk (forest_of ps) z ≡ Some 0) e w) in let none = store.root_unlinked in let some = l.2 in absurd (cc)
+not_root : (st : Seen) → IsReal st → (k front : Key) (x : Name) → k ≡ front ++ x ∷ [] → walk (forest_of st) k ≡ Some 0 → ⊥
+not_root st real k front x e w = let l = end_link st real front x 0 (subst (λ (z : Key). walk (forest_of st) z ≡ Some 0) e w) in real.root_unlinked l.0 x l.2
 
 -- where both keys have a last name it is the same one, and so are the directories before it
-once_step : (limit : ℕ) (ps : List (Option Node)) → IsStore limit ps → (a b front back : Key) (x y : Name) (n : ℕ) → a ≡ front ++ x ∷ [] → b ≡ back ++ y ∷ [] → walk (forest_of ps) a ≡ Some n → walk (forest_of ps) b ≡ Some n
-    → ((d : ℕ) → walk (forest_of ps) front ≡ Some d → walk (forest_of ps) back ≡ Some d → front ≡ back) → a ≡ b
-once_step limit ps store a b front back x y n e f u v fronts_same =
-    let l = end_link limit ps store front x n (subst (λ (z : Key). walk (forest_of ps) z ≡ Some n) e u) in
-    let r = end_link limit ps store back y n (subst (λ (z : Key). walk (forest_of ps) z ≡ Some n) f v) in
-    let same : ◌≡◌ {A = Option Link} (Some (record { dir = l.0; name = x })) (Some (record { dir = r.0; name = y })) = sym l.2 ∙ r.2 in
-    let dir : l.0 ≡ r.0 = ap (dir_or 0) same in
-    let name : x ≡ y = ap (name_or []) same in
-    let fronts : front ≡ back = fronts_same l.0 l.1 (r.1 ∙ ap Some (sym dir)) in
-    e ∙ ap (λ (z : Key). z ++ x ∷ []) fronts ∙ ap (λ (z : Name). back ++ z ∷ []) name ∙ sym f
+once_step : (st : Seen) → IsReal st → (a b front back : Key) (x y : Name) (n : ℕ) → a ≡ front ++ x ∷ [] → b ≡ back ++ y ∷ [] → walk (forest_of st) a ≡ Some n → walk (forest_of st) b ≡ Some n
+    → ((d : ℕ) → walk (forest_of st) front ≡ Some d → walk (forest_of st) back ≡ Some d → front ≡ back) → a ≡ b
+once_step st real a b front back x y n e f u v fronts_same =
+    let l = end_link st real front x n (subst (λ (z : Key). walk (forest_of st) z ≡ Some n) e u) in
+    let r = end_link st real back y n (subst (λ (z : Key). walk (forest_of st) z ≡ Some n) f v) in
+    let same : (l.0 ≡ r.0) × (x ≡ y) = real.one_name l.0 r.0 n x y l.2 r.2 in
+    let fronts : front ≡ back = fronts_same l.0 l.1 (r.1 ∙ ap Some (sym same.0)) in
+    e ∙ ap (λ (z : Key). z ++ x ∷ []) fronts ∙ ap (λ (z : Name). back ++ z ∷ []) same.1 ∙ sym f
 
-once_by : (limit : ℕ) (ps : List (Option Node)) → IsStore limit ps → (many : ℕ) (a b : Key) (n : ℕ) → length a ≤ many → walk (forest_of ps) a ≡ Some n → walk (forest_of ps) b ≡ Some n → Ended a → Ended b → a ≡ b
-once_by limit ps store many a b n h u v (Nothing e) (Nothing f) = e ∙ sym f
-once_by limit ps store many a b n h u v (Nothing e) (Last front y f) =
-    let root : Some 0 ≡ Some n = subst (λ (z : Key). walk (forest_of ps) z ≡ Some n) e u in
-    absurd (not_root limit ps store b front y f (v ∙ sym root))
-once_by limit ps store many a b n h u v (Last front x e) (Nothing f) =
-    let root : Some 0 ≡ Some n = subst (λ (z : Key). walk (forest_of ps) z ≡ Some n) f v in
-    absurd (not_root limit ps store a front x e (u ∙ sym root))
-once_by limit ps store zero a b n h u v (Last front x e) (Last back y f) = absurd (omega (arith, ap length e, length-append front (x ∷ [])))
-once_by limit ps store (suc less) a b n h u v (Last front x e) (Last back y f) =
+once_by : (st : Seen) → IsReal st → (many : ℕ) (a b : Key) (n : ℕ) → length a ≤ many → walk (forest_of st) a ≡ Some n → walk (forest_of st) b ≡ Some n → Ended a → Ended b → a ≡ b
+once_by st real many a b n h u v (Nothing e) (Nothing f) = e ∙ sym f
+once_by st real many a b n h u v (Nothing e) (Last front y f) =
+    let root : Some 0 ≡ Some n = subst (λ (z : Key). walk (forest_of st) z ≡ Some n) e u in
+    absurd (not_root st real b front y f (v ∙ sym root))
+once_by st real many a b n h u v (Last front x e) (Nothing f) =
+    let root : Some 0 ≡ Some n = subst (λ (z : Key). walk (forest_of st) z ≡ Some n) f v in
+    absurd (not_root st real a front x e (u ∙ sym root))
+once_by st real zero a b n h u v (Last front x e) (Last back y f) = absurd (omega (arith, ap length e, length-append front (x ∷ [])))
+once_by st real (suc less) a b n h u v (Last front x e) (Last back y f) =
     let short : length front ≤ less = omega (arith, ap length e, length-append front (x ∷ [])) in
-    once_step limit ps store a b front back x y n e f u v (λ d p q. once_by limit ps store less front back d short p q (ended front) (ended back))
+    once_step st real a b front back x y n e f u v (λ d p q. once_by st real less front back d short p q (ended front) (ended back))
 
 -- so the places and links are a forest
-inside_by : (limit : ℕ) (ps : List (Option Node)) → IsStore limit ps → (k : Key) (n : ℕ) → walk (forest_of ps) k ≡ Some n → Ended k → (c : Content) × (content_at ps n ≡ Some c)
-inside_by limit ps store k n w (Nothing e) =
-    let root : Some 0 ≡ Some n = subst (λ (z : Key). walk (forest_of ps) z ≡ Some n) e w in
+inside_by : (st : Seen) → IsReal st → (k : Key) (n : ℕ) → walk (forest_of st) k ≡ Some n → Ended k → (s : Shape) × (st.graph.shape n ≡ Some s)
+inside_by st real k n w (Nothing e) =
+    let root : Some 0 ≡ Some n = subst (λ (z : Key). walk (forest_of st) z ≡ Some n) e w in
     let at : 0 ≡ n = cc in
-    (contents.Dir, subst (λ (m : ℕ). content_at ps m ≡ Some contents.Dir) at store.root)
-inside_by limit ps store k n w (Last front x e) =
-    let l = end_link limit ps store front x n (subst (λ (z : Key). walk (forest_of ps) z ≡ Some n) e w) in
-    held (read_within link_of ps n (record { dir = l.0; name = x }) l.2)
-  where
-    held : ((p : Option Node) × (slice_get ps n ≡ Some p) × (link_of p ≡ Some (record { dir = (end_link limit ps store front x n (subst (λ (z : Key). walk (forest_of ps) z ≡ Some n) e w)).0; name = x }))) → (c : Content) × (content_at ps n ≡ Some c)
-    held (None, got, is) = absurd (cc)
-    held (Some node, got, is) = (node.content, ap (λ (o : Option (Option Node)). then_at o content_of) got)
+    (shapes.Dir real.root.0, subst (λ (m : ℕ). st.graph.shape m ≡ Some (shapes.Dir real.root.0)) at real.root.1)
+inside_by st real k n w (Last front x e) =
+    let l = end_link st real front x n (subst (λ (z : Key). walk (forest_of st) z ≡ Some n) e w) in
+    real.to_used l.0 n x l.2
 
--- what is in a place has a place in the forest
-place_some : (ps : List (Option Node)) (n : ℕ) (c : Content) → content_at ps n ≡ Some c → is_some (place_at (forest_of ps) n) ≡ true
-place_some ps n contents.Dir e = rw (place_in ps n, e) refl
-place_some ps n (contents.File bytes) e = rw (place_in ps n, e) refl
+-- what is in use has a place in the forest
+place_some : (st : Seen) → IsReal st → (n : ℕ) (s : Shape) → st.graph.shape n ≡ Some s → is_some (place_at (forest_of st) n) ≡ true
+place_some st real n (shapes.Dir names) e = rw (place_in st real n, e) refl
+place_some st real n (shapes.File bytes) e = rw (place_in st real n, e) refl
 
 less_from : (o : Ordering) → is_lt o ≡ true → o ≡ Less
 less_from Less h = refl
@@ -208,17 +185,17 @@ rising_links : (kid : Kids) (n : ℕ) (low : Option Name) (names : List Name) �
 rising_links kid n low [] a = tt
 rising_links kid n low (x ∷ names) a = both_hold _ _ (below_links kid n x names a.1) (rising_links kid n (Some x) names a.1)
 
-rising_at : (ps : List (Option Node)) (n : ℕ) (c : Option Content) → content_at ps n ≡ c → T (is_sorted name_cmp (links_of (place_of (kid_in ps) n (shape_in ps n))))
-rising_at ps n None e = rw e tt
-rising_at ps n (Some contents.Dir) e = rw e (rising_links (kid_in ps) n None (names_in ps n) (names_ascend ps n))
-rising_at ps n (Some (contents.File bytes)) e = rw e tt
+rising_at : (st : Seen) → IsReal st → (n : ℕ) (s : Option Shape) → st.graph.shape n ≡ s → T (is_sorted name_cmp (links_of (place_of st.graph.kid n (st.graph.shape n))))
+rising_at st real n None e = rw e tt
+rising_at st real n (Some (shapes.Dir names)) e = rw e (rising_links st.graph.kid n None names (subst (λ (s : Option Shape). Ascends None (names_of s)) e (real.ascend n)))
+rising_at st real n (Some (shapes.File bytes)) e = rw e tt
 
-pub store_forest : (limit : ℕ) (ps : List (Option Node)) → IsStore limit ps → IsForest (forest_of ps)
-store_forest limit ps store = record {
-  once = λ a b n u v. once_by limit ps store (length a) a b n (omega arith) u v (ended a) (ended b);
-  inside = λ k n w. let c = inside_by limit ps store k n w (ended k) in place_some ps n c.0 c.1;
-  root = rw (place_in ps 0, store.root) refl;
-  rising = λ n. rw (place_in ps n) (true_from_T _ (rising_at ps n (content_at ps n) refl));
+pub store_forest : (st : Seen) → IsReal st → IsForest (forest_of st)
+store_forest st real = record {
+  once = λ a b n u v. once_by st real (length a) a b n (omega arith) u v (ended a) (ended b);
+  inside = λ k n w. let c = inside_by st real k n w (ended k) in place_some st real n c.0 c.1;
+  root = rw (place_in st real 0, real.root.1) refl;
+  rising = λ n. rw (place_in st real n) (true_from_T _ (rising_at st real n (st.graph.shape n) refl));
 }
 
 -- ---- the tree of the forest is the one that the store spells
@@ -232,17 +209,17 @@ shape_is kid n None = refl
 shape_is kid n (Some (shapes.Dir names)) = ap (λ (l : List Name). Some (shapes.Dir l)) (named_links kid n names)
 shape_is kid n (Some (shapes.File bytes)) = refl
 
-spelled_at : (limit : ℕ) (ps : List (Option Node)) → IsStore limit ps → (k : Key) → seen (tree_of (forest_of ps)) k ≡ spell (graph_in ps) k
-spelled_at limit ps store k = go (walk (forest_of ps) k) refl
+spelled_at : (st : Seen) → IsReal st → (k : Key) → seen (tree_of (forest_of st)) k ≡ spell st.graph k
+spelled_at st real k = go (walk (forest_of st) k) refl
   where
-    forest : IsForest (forest_of ps)
-    forest = store_forest limit ps store
+    forest : IsForest (forest_of st)
+    forest = store_forest st real
 
-    go : (o : Option ℕ) → walk (forest_of ps) k ≡ o → seen (tree_of (forest_of ps)) k ≡ spell (graph_in ps) k
-    go None w = seen_none (forest_of ps) k forest w ∙ sym (ap (λ (o : Option ℕ). then_at o (shape_in ps)) (sym (walk_at limit ps store 0 k) ∙ w))
+    go : (o : Option ℕ) → walk (forest_of st) k ≡ o → seen (tree_of (forest_of st)) k ≡ spell st.graph k
+    go None w = seen_none (forest_of st) k forest w ∙ sym (ap (λ (o : Option ℕ). then_at o st.graph.shape) (sym (walk_at st real 0 k) ∙ w))
     go (Some n) w =
-        seen_at (forest_of ps) k n forest w ∙ ap shape_of (place_in ps n) ∙ shape_is (kid_in ps) n (shape_in ps n)
-        ∙ sym (ap (λ (o : Option ℕ). then_at o (shape_in ps)) (sym (walk_at limit ps store 0 k) ∙ w))
+        seen_at (forest_of st) k n forest w ∙ ap shape_of (place_in st real n) ∙ shape_is st.graph.kid n (st.graph.shape n)
+        ∙ sym (ap (λ (o : Option ℕ). then_at o st.graph.shape) (sym (walk_at st real 0 k) ∙ w))
 
-pub store_tree : (limit : ℕ) (ps : List (Option Node)) → IsStore limit ps → IsSpelled (graph_in ps) (tree_of (forest_of ps))
-store_tree limit ps store = record { tree = forest_tree (forest_of ps) (store_forest limit ps store); spelled = λ i k. spelled_at limit ps store k i }
+pub store_tree : (st : Seen) → IsReal st → IsSpelled st.graph (tree_of (forest_of st))
+store_tree st real = record { tree = forest_tree (forest_of st) (store_forest st real); spelled = λ i k. spelled_at st real k i }

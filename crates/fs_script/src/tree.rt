@@ -2,6 +2,7 @@
 
 ghost use Rattle.std.specs.Prelude.{◌≡◌, ◌++◌, ◌∷◌, [], Some, None, IsTrue, IfOk, OnOk, OnErr, codes, false, true};
 ghost use Rattle.fs_names.specs.Shapes.{is_there, is_dir};
+ghost use Rattle.fs_nodes.specs.Seen.{seen, IsReal};
 ghost use Rattle.fs_nodes.specs.Stores.{graph_of, shape, kid};
 ghost use Rattle.std.specs.List.{flat_map};
 ghost use Rattle.fs_text.specs.Words.{escaped, path_word};
@@ -164,11 +165,11 @@ impl Walk {
         store: &Store,
         line: &mut Addition,
     ) -> Result<bool, AllocError>
-        requires { Leads (forest_of store.now.places) 0 self.old.above self.old.dir }
-        ensures ok { IfOk result (Steps (forest_of store.now.places) self.old line.old.added self.new line.new.added) }
+        requires { Leads (forest_of (seen store.now)) 0 self.old.above self.old.dir }
+        ensures ok { IfOk result (Steps (forest_of (seen store.now)) self.old line.old.added self.new line.new.added) }
         ensures before { line.new.before ≡ line.old.before }
+        ensures real { IsReal (seen store.now) }
     {
-        store.invariant();
         match store.next_name(self.dir, self.low.as_ref()) {
             Some((name, node)) => {
                 self.visit(alloc, store, name, node, line)?;
@@ -181,8 +182,9 @@ impl Walk {
 
 /// The lines of all nodes but the root.
 fn push_nodes(alloc: Global, store: &Store, line: &mut Addition) -> Result<(), AllocError>
-    ensures ok { OnOk result (line.new.added ≡ line.old.added ++ text_at (forest_of store.now.places) (pending_at (forest_of store.now.places) at_root)) }
+    ensures ok { OnOk result (line.new.added ≡ line.old.added ++ text_at (forest_of (seen store.now)) (pending_at (forest_of (seen store.now)) at_root)) }
     ensures before { line.new.before ≡ line.old.before }
+    ensures real { IsReal (seen store.now) }
 {
     let mut walk = Walk::new(alloc);
     'steps: loop {
@@ -195,10 +197,10 @@ fn push_nodes(alloc: Global, store: &Store, line: &mut Addition) -> Result<(), A
 }
 
 fn push_tree(alloc: Global, store: &Store, line: &mut Addition) -> Result<(), AllocError>
-    ensures ok { OnOk result (line.new.added ≡ line.old.added ++ tree_text (tree_of (forest_of store.now.places))) }
+    ensures ok { OnOk result (line.new.added ≡ line.old.added ++ tree_text (tree_of (forest_of (seen store.now)))) }
     ensures before { line.new.before ≡ line.old.before }
+    ensures real { OnOk result (IsReal (seen store.now)) }
 {
-    store.invariant();
     line.push(b"tree\ndir /\n")?;
     push_nodes(alloc, store, line)
 }
@@ -210,7 +212,6 @@ pub fn write_tree(alloc: Global, store: &Store, text: &mut Vec<u8>) -> Result<()
     ensures ok { OnOk result (AppendsTree (graph_of store.now) text.old.items text.new.items) }
     ensures err { OnErr result (text.new.items ≡ text.old.items) }
 {
-    store.invariant();
     let mut line = Addition::new(mem::replace(text, Vec::new(alloc)));
     match push_tree(alloc, store, &mut line) {
         Ok(()) => {

@@ -10,8 +10,8 @@ use Rattle.fs_calls.specs.Tree as tree
 use Rattle.fs_seq.specs.code.Graph.{Place, links_at, child, keys_from, nodes_at}
 use Rattle.fs_seq.specs.code.Graph as forest
 use Rattle.fs_nodes.specs.Graphs.{Graph, Kids}
-use Rattle.fs_nodes.specs.Stores.{graph_in, is_above}
-use Rattle.fs_nodes.specs.declared.node.Node as stored
+use Rattle.fs_nodes.specs.Seen.{Seen}
+use Rattle.fs_nodes.specs.Stores.{is_above}
 use Rattle.fs_script.specs.TreeText.{node_line}
 use Rattle.fs_script.specs.declared.tree.Step.{Step}
 
@@ -36,8 +36,8 @@ abbrev pub places_from : Graph → ℕ → ℕ → forest.Graph
 places_from graph i zero = []
 places_from graph i (suc k) = place_of graph.kid i (graph.shape i) ∷ places_from graph (suc i) k
 
-abbrev pub forest_of : List (Option stored.Node) → forest.Graph
-forest_of ps = places_from (graph_in ps) 0 (length ps)
+abbrev pub forest_of : Seen → forest.Graph
+forest_of store = places_from store.graph 0 store.room
 
 -- what a node is in a tree
 abbrev pub node_seen : Option Shape → Option Node

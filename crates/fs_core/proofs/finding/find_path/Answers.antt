@@ -6,10 +6,10 @@ use Rattle.fs_core.proofs.finding.find_path.Goals as goal
 
 pub returns-in-None : goal.returns-in-None
 returns-in-None c =
-    sym (leads_to (kid c.args.store.now) c.loop-i.node c.args.path.now c.loop-i.i c.name.result.now c.find.result c.name.ensures c.loop-i.invariant c.find.ensures
+    sym (leads_to (kid c.args.store.now) c.loop-i.node c.args.path.now c.loop-i.i c.name.result.now c.find.result c.name.ensures c.loop-i.invariant c.find.ensures.node
     ∙ ap (λ (o : Option ℕ). then_at o (λ m. at (kid c.args.store.now) m (drop (c.loop-i.i + 1) c.args.path.now))) c.in-None.is)
 
 pub loop-i-preserved : goal.loop-i-preserved
 loop-i-preserved c =
-    leads_to (kid c.args.store.now) c.loop-i.node c.args.path.now c.loop-i.i c.name.result.now c.find.result c.name.ensures c.loop-i.invariant c.find.ensures
+    leads_to (kid c.args.store.now) c.loop-i.node c.args.path.now c.loop-i.i c.name.result.now c.find.result c.name.ensures c.loop-i.invariant c.find.ensures.node
     ∙ ap (λ (o : Option ℕ). then_at o (λ m. at (kid c.args.store.now) m (drop (c.loop-i.i + 1) c.args.path.now))) c.in-Some.is

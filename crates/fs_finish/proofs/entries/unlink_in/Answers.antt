@@ -1,5 +1,6 @@
 use Rattle.std.proofs.Common.{ap, sym, ◌∙◌}
 use Rattle.fs_names.specs.Shapes.{is_full}
+use Rattle.fs_nodes.specs.Seen.{seen}
 use Rattle.fs_nodes.specs.Stores.{shape, graph_of}
 use Rattle.fs_calls.specs.declared.target.EntryCall.TheVariants as entries
 use Rattle.fs_calls.specs.Rows.{in_there}
@@ -9,5 +10,5 @@ use Rattle.fs_finish.proofs.entries.unlink_in.Goals as goal
 pub returns-clause-made : goal.returns-clause-made
 returns-clause-made c =
     let s = c.args.store.now in
-    let there = entry_not_dir s c.args.dir c.args.name.now c.in-Some.node (sym c.in-Some.ensures) (sym c.is_dir.ensures ∙ c.if-is_dir.false) in
+    let there = entry_not_dir (seen s) c.in-Some.ensures.real c.args.dir c.args.name.now c.in-Some.node (sym c.in-Some.ensures.node) (sym c.is_dir.ensures ∙ c.if-is_dir.false) in
     row_is (graph_of s) c.args.dir c.args.name.now c.args.reserved _ _ c.remove.result (graph_of c.remove.new.store) (ap (in_there entries.Unlink (is_full (shape s c.args.dir))) there) c.remove.ensures.made

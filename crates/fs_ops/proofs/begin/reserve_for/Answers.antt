@@ -1,6 +1,7 @@
 use Rattle.std.proofs.Common.{Some, subst, Option, ap, ◌∙◌}
 use Rattle.fs_calls.specs.Forms.{reserves}
 use Rattle.fs_names.specs.Shapes.{Shape}
+use Rattle.fs_nodes.specs.Seen.{Seen, seen}
 use Rattle.fs_nodes.specs.Stores.{graph_of}
 use Rattle.fs_ops.specs.code.Begins.{HasReserved}
 use Rattle.fs_machine.specs.Works.{IsSpare}
@@ -13,7 +14,7 @@ returns-in_ok-reserve-in-Some-clause-ok c =
     let new = graph_of c.reserve.new.self in
     let r = c.in_ok-reserve-in-Some.ensures in
     let n = c.in_ok-reserve-in-Some.field-0 in
-    subst (λ (o : Option Shape). HasReserved (graph_of old) old.limit o (Some n) new) (c.in-Some.ensures ∙ ap reserves c.target.ensures) (record {
-      reserves = record { within = r.within; free = r.free; added = r.graph };
-      spare = only n (IsSpare new) (reserved_spare old c.in-Some.kind n new r.free r.not_root r.graph);
+    subst (λ (o : Option Shape). HasReserved (graph_of old) (seen old).limit o (Some n) new) (c.in-Some.ensures ∙ ap reserves c.target.ensures) (record {
+      reserves = record { within = r.within; free = r.free; added = ap (λ (s : Seen). s.graph) r.change };
+      spare = only n (IsSpare new) (reserved_spare (graph_of old) c.in-Some.kind n new r.unlinked r.not_root (ap (λ (s : Seen). s.graph) r.change));
     })

@@ -1,13 +1,9 @@
-use Rattle.std.proofs.Common.{ℕ, List, None, ap, ◌∙◌, arith, refl, ◌≡◌}
+use Rattle.std.proofs.Common.{ap, ◌∙◌, arith, refl, ◌≡◌}
+use Rattle.fs_nodes.specs.Seen.{Seen}
 use Rattle.fs_nodes.specs.Stores.{graph_of}
 use Rattle.fs_calls.specs.code.Targets.{form_of, node_call}
-use Rattle.fs_calls.specs.Forms as calls
-use Rattle.fs_calls.specs.declared.target.EntryCall.TheVariants as entries
-use Rattle.fs_calls.specs.Rows.{on_row}
 use Rattle.fs_walk.specs.declared.head.Head as count
-use Rattle.fs_finish.specs.declared.finish.Finish.{Finish}
-use Rattle.fs_finish.specs.Replies.{refilled}
-use Rattle.fs_ops.proofs.FinishLemmas.{on_arm, in_arm, forked_here, apart_by, rename_by, stat_keeps, readdir_keeps, read_keeps, unchanged}
+use Rattle.fs_ops.proofs.FinishLemmas.{on_arm, in_arm, forked_here, apart_by, rename_by}
 use Rattle.fs_calls.specs.Forms.{AtPair}
 use Rattle.fs_calls.specs.declared.target.PairCall.{PairCall}
 use Rattle.fs_calls.specs.declared.target.PairCall.TheVariants as pairs
@@ -48,4 +44,4 @@ pub returns-in-Node-clause-made : goal.returns-in-Node-clause-made
 returns-in-Node-clause-made c =
     on_arm (graph_of c.args.store.now) (graph_of c.finish_on.new.store) c.args.walk.now c.args.node c.args.fork.now c.args.victim c.args.reserved c.finish_on.result
     (form_of c.args.aim) (node_call c.in-Node.call) c.in-Node.field-1.now (ap form_of c.in-Node.is) c.requires.names c.requires.arrived
-    c.finish_on.ensures.reply c.finish_on.ensures.reserved c.finish_on.ensures.removed c.finish_on.ensures.graph
+    c.finish_on.ensures.reply c.finish_on.ensures.reserved c.finish_on.ensures.removed (ap (λ (s : Seen). s.graph) c.finish_on.ensures.change)

@@ -1,6 +1,6 @@
 use Rattle.std.proofs.Common.{◌∙◌, ap, ◌≡◌, refl}
 use Rattle.fs_nodes.specs.Stores.{graph_of}
-use Rattle.fs_calls.specs.Forms.{AtEntry, AtPair}
+use Rattle.fs_calls.specs.Forms.{AtPair}
 use Rattle.fs_calls.specs.declared.target.PairCall.TheVariants as pairs
 use Rattle.fs_calls.specs.code.Targets.{form_of}
 use Rattle.fs_ops.specs.code.Told.{move_of}

@@ -1,13 +1,14 @@
 use Rattle.std.proofs.Common.{◌≡◌, ◌++◌}
+use Rattle.fs_nodes.specs.Seen.{seen}
 use Rattle.fs_script.specs.code.Walks.{forest_of, Leads, text_at, pending_at, at_root, left}
 use Rattle.fs_script.proofs.tree.push_nodes.Given as goal
 
 abbrev pub invariant-steps : goal.invariant-steps
 invariant-steps l = record {
-  leads : Leads (forest_of l.store.places) 0 l.walk.above l.walk.dir;
-  text : l.line.added ++ text_at (forest_of l.store.places) (pending_at (forest_of l.store.places) l.walk) ≡ l.fn.line.added ++ text_at (forest_of l.store.places) (pending_at (forest_of l.store.places) at_root);
+  leads : Leads (forest_of (seen l.store)) 0 l.walk.above l.walk.dir;
+  text : l.line.added ++ text_at (forest_of (seen l.store)) (pending_at (forest_of (seen l.store)) l.walk) ≡ l.fn.line.added ++ text_at (forest_of (seen l.store)) (pending_at (forest_of (seen l.store)) at_root);
   before : l.line.before ≡ l.fn.line.before;
 }
 
 abbrev pub decreases-steps : goal.decreases-steps
-decreases-steps l = left (forest_of l.store.places) l.walk
+decreases-steps l = left (forest_of (seen l.store)) l.walk

@@ -1,3 +1,5 @@
+use Rattle.std.proofs.Common.{ap}
+use Rattle.fs_nodes.specs.Seen.{Seen}
 use Rattle.fs_core.proofs.Doing.{finish_can, carried_kept}
 use Rattle.fs_core.proofs.machine.Core.carry_out.Goals as goal
 
@@ -7,9 +9,9 @@ carry_out-requires-clause-can c = finish_can _ _ _ _ c.args.seat c.args.call c.a
 pub invariant_of-self : goal.invariant_of-self
 invariant_of-self c =
     (carried_kept _ _ _ _ c.args.seat c.args.call c.args.moved c.args.place c.self.invariant (rw (← c.self.view_is) at c.requires.moves) (rw (← c.self.view_is) at c.requires.placed)
-    c.carry_out.new.store c.index_mut.result.now c.carry_out.new.slot c.carry_out.ensures.graph c.carry_out.ensures.limit c.index_mut.ensures.value c.carry_out.ensures.slot).1
+    c.carry_out.new.store c.index_mut.result.now c.carry_out.new.slot c.carry_out.ensures.graph (ap (λ (s : Seen). s.limit) c.carry_out.ensures.rest) c.index_mut.ensures.value c.carry_out.ensures.slot).1
 
 pub returns-clause-step : goal.returns-clause-step
 returns-clause-step c = rw (← c.self.view_is)
     (carried_kept _ _ _ _ c.args.seat c.args.call c.args.moved c.args.place c.self.invariant (rw (← c.self.view_is) at c.requires.moves) (rw (← c.self.view_is) at c.requires.placed)
-    c.carry_out.new.store c.index_mut.result.now c.carry_out.new.slot c.carry_out.ensures.graph c.carry_out.ensures.limit c.index_mut.ensures.value c.carry_out.ensures.slot).0
+    c.carry_out.new.store c.index_mut.result.now c.carry_out.new.slot c.carry_out.ensures.graph (ap (λ (s : Seen). s.limit) c.carry_out.ensures.rest) c.index_mut.ensures.value c.carry_out.ensures.slot).0

@@ -1,4 +1,5 @@
-use Rattle.std.proofs.Common.{◌+◌}
+use Rattle.std.proofs.Common.{◌+◌, ap}
+use Rattle.fs_nodes.specs.Seen.{Seen}
 use Rattle.fs_core.proofs.Doing.{finish_can, committed_kept, moving_place, finish_fits, fits_below}
 use Rattle.fs_core.proofs.machine.Core.commit.Goals as goal
 
@@ -16,9 +17,9 @@ push-requires c = moving_place _ _ _ _ c.args.seat c.args.call _ c.self.invarian
 pub invariant_of-self : goal.invariant_of-self
 invariant_of-self c = rw c.push.ensures
     (committed_kept _ _ _ _ c.args.seat c.args.call c.args.moved c.self.invariant (rw (← c.self.view_is) at c.requires.moves) (rw (← c.self.view_is) at c.requires.walking) (rw (← c.self.view_is) at c.requires.alone)
-    c.carry_out.new.store c.index_mut.result.now c.carry_out.new.slot c.carry_out.ensures.graph c.carry_out.ensures.limit c.index_mut.ensures.value c.carry_out.ensures.slot).1
+    c.carry_out.new.store c.index_mut.result.now c.carry_out.new.slot c.carry_out.ensures.graph (ap (λ (s : Seen). s.limit) c.carry_out.ensures.rest) c.index_mut.ensures.value c.carry_out.ensures.slot).1
 
 pub returns-clause-step : goal.returns-clause-step
 returns-clause-step c = rw (c.push.ensures, ← c.self.view_is)
     (committed_kept _ _ _ _ c.args.seat c.args.call c.args.moved c.self.invariant (rw (← c.self.view_is) at c.requires.moves) (rw (← c.self.view_is) at c.requires.walking) (rw (← c.self.view_is) at c.requires.alone)
-    c.carry_out.new.store c.index_mut.result.now c.carry_out.new.slot c.carry_out.ensures.graph c.carry_out.ensures.limit c.index_mut.ensures.value c.carry_out.ensures.slot).0
+    c.carry_out.new.store c.index_mut.result.now c.carry_out.new.slot c.carry_out.ensures.graph (ap (λ (s : Seen). s.limit) c.carry_out.ensures.rest) c.index_mut.ensures.value c.carry_out.ensures.slot).0

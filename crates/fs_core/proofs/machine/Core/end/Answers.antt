@@ -1,3 +1,5 @@
+use Rattle.std.proofs.Common.{ap}
+use Rattle.fs_nodes.specs.Seen.{Seen}
 use Rattle.fs_core.proofs.Doing.{end_some, end_fixed, end_spare, moving_place, returned_kept}
 use Rattle.fs_core.proofs.machine.Core.end.Goals as goal
 
@@ -16,9 +18,9 @@ push-requires c = moving_place _ _ _ _ c.args.seat c.args.call _ c.self.invarian
 pub invariant_of-self : goal.invariant_of-self
 invariant_of-self c = rw c.push.ensures
     (returned_kept _ _ _ _ c.args.seat c.args.call c.self.invariant (rw (← c.self.view_is) at c.requires.moves) c.end-reply.new.store c.index_mut.result.now c.take_out-running.new.slot c.take_out-running.result c.end-reply.result.0 c.end-reply.result.1
-    c.index_mut.ensures.value c.take_out-running.ensures.running c.take_out-running.ensures.slot c.end-reply.ensures.graph c.end-reply.ensures.limit c.end-reply.ensures.one c.end-reply.ensures.two).1
+    c.index_mut.ensures.value c.take_out-running.ensures.running c.take_out-running.ensures.slot (ap (λ (s : Seen). s.graph) c.end-reply.ensures.change) (ap (λ (s : Seen). s.limit) c.end-reply.ensures.change) c.end-reply.ensures.one c.end-reply.ensures.two).1
 
 pub returns-clause-step : goal.returns-clause-step
 returns-clause-step c = rw (c.push.ensures, ← c.self.view_is)
     (returned_kept _ _ _ _ c.args.seat c.args.call c.self.invariant (rw (← c.self.view_is) at c.requires.moves) c.end-reply.new.store c.index_mut.result.now c.take_out-running.new.slot c.take_out-running.result c.end-reply.result.0 c.end-reply.result.1
-    c.index_mut.ensures.value c.take_out-running.ensures.running c.take_out-running.ensures.slot c.end-reply.ensures.graph c.end-reply.ensures.limit c.end-reply.ensures.one c.end-reply.ensures.two).0
+    c.index_mut.ensures.value c.take_out-running.ensures.running c.take_out-running.ensures.slot (ap (λ (s : Seen). s.graph) c.end-reply.ensures.change) (ap (λ (s : Seen). s.limit) c.end-reply.ensures.change) c.end-reply.ensures.one c.end-reply.ensures.two).0

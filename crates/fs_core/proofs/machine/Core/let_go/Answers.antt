@@ -1,3 +1,5 @@
+use Rattle.std.proofs.Common.{ap}
+use Rattle.fs_nodes.specs.Seen.{Seen}
 use Rattle.fs_core.proofs.Doing.{let_go_held, let_go_spare, left_kept}
 use Rattle.fs_core.proofs.machine.Core.let_go.Goals as goal
 
@@ -11,9 +13,9 @@ let_go-requires-2 c =
 pub invariant_of-self : goal.invariant_of-self
 invariant_of-self c =
     (left_kept _ _ _ _ c.args.seat c.args.call c.args.node c.self.invariant (rw (← c.self.view_is) at c.requires.moves)
-    c.let_go-2.new.store c.let_go.new.self c.index_mut.result.now c.let_go-2.new.slot c.let_go-2.ensures.graph c.let_go-2.ensures.limit c.let_go.ensures.holders c.let_go.ensures.room c.index_mut.ensures.value c.let_go-2.ensures.slot).1
+    c.let_go-2.new.store c.let_go.new.self c.index_mut.result.now c.let_go-2.new.slot c.let_go-2.ensures.graph (ap (λ (s : Seen). s.limit) c.let_go-2.ensures.rest) c.let_go.ensures.holders c.let_go.ensures.room c.index_mut.ensures.value c.let_go-2.ensures.slot).1
 
 pub returns-clause-step : goal.returns-clause-step
 returns-clause-step c = rw (← c.self.view_is)
     (left_kept _ _ _ _ c.args.seat c.args.call c.args.node c.self.invariant (rw (← c.self.view_is) at c.requires.moves)
-    c.let_go-2.new.store c.let_go.new.self c.index_mut.result.now c.let_go-2.new.slot c.let_go-2.ensures.graph c.let_go-2.ensures.limit c.let_go.ensures.holders c.let_go.ensures.room c.index_mut.ensures.value c.let_go-2.ensures.slot).0
+    c.let_go-2.new.store c.let_go.new.self c.index_mut.result.now c.let_go-2.new.slot c.let_go-2.ensures.graph (ap (λ (s : Seen). s.limit) c.let_go-2.ensures.rest) c.let_go.ensures.holders c.let_go.ensures.room c.index_mut.ensures.value c.let_go-2.ensures.slot).0

@@ -1,4 +1,6 @@
 use Rattle.std.proofs.Common.{ap, ◌∙◌}
+use Rattle.fs_nodes.specs.Graphs.{Graph}
+use Rattle.fs_nodes.specs.Seen.{seen}
 use Rattle.fs_nodes.specs.Stores.{graph_of}
 use Rattle.fs_ops.specs.declared.outcome.Outcome.TheVariants.{Fixed}
 use Rattle.fs_ops.specs.Views.{work_of}
@@ -12,8 +14,10 @@ returns-clause-op c =
     finished_as (graph_of c.args.store.now) _ c.args.self.now (work_of o.call o.walk o.fork o.victim c.finish-done.result.reserved c.finish-done.result.removed (Fixed c.finish-done.result.replies)) c.self.view_is
     (finished_is (graph_of c.args.store.now) o.call o.walk o.fork o.victim o.reserved o.removed o.outcome c.finish-done.result (graph_of c.finish-done.new.store) c.finish-done.ensures.made)
 
-pub returns-clause-graph : goal.returns-clause-graph
-returns-clause-graph c =
+pub returns-clause-change : goal.returns-clause-change
+returns-clause-change c =
     let o = c.self.inside in
-    graph_is (graph_of c.args.store.now) o.call o.walk o.fork o.victim o.reserved o.removed o.outcome c.finish-done.result (graph_of c.finish-done.new.store) c.finish-done.ensures.made
-    ∙ ap (graph_after (graph_of c.args.store.now)) c.self.view_is
+    c.finish-done.ensures.rest
+    ∙ ap (λ (g : Graph). record (seen c.args.store.now) { graph = g })
+    (graph_is (graph_of c.args.store.now) o.call o.walk o.fork o.victim o.reserved o.removed o.outcome c.finish-done.result (graph_of c.finish-done.new.store) c.finish-done.ensures.made
+    ∙ ap (graph_after (graph_of c.args.store.now)) c.self.view_is)
