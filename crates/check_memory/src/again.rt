@@ -34,6 +34,16 @@ impl Again {
         }
     }
 
+    /// A path is written.
+    pub fn text(&mut self, path: &Path) -> Result<Vec<u8>, AllocError> {
+        let mut text = Vec::new(self.alloc);
+        if path.write(&mut text).is_err() {
+            self.note();
+            path.write(&mut text)?;
+        }
+        Ok(text)
+    }
+
     /// A vector of bytes grows.
     pub fn bytes(&mut self, content: &[u8]) -> Result<Bytes, AllocError> {
         let mut bytes = Vec::new(self.alloc);

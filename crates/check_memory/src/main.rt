@@ -1,4 +1,4 @@
-//! Does each thing of the sequential tree, of the core and of the checker that takes memory, and once more where memory was
+//! Does each thing of paths, of the sequential tree, of the core and of the checker that takes memory, and once more where memory was
 //! refused. But for the last line, what it writes is the same whichever growth is refused: `bench/refused` refuses each in turn.
 #![tactic(auto)]
 
@@ -100,11 +100,18 @@ fn journal(rt: &impl Print, again: &mut Again) -> anyhow::Result<Timeline> {
     Ok(timeline)
 }
 
+/// How many bytes a path has that is read and written.
+fn path_bytes(again: &mut Again) -> anyhow::Result<usize> {
+    let path = again.path("/d/e/f/g")?;
+    Ok(again.text(&path)?.len())
+}
+
 fn main(rt: HostRuntime) -> anyhow::Result<()> {
     let mut again = Again {
         alloc: rt.alloc(),
         refused: 0,
     };
+    println!(&rt; "a path of {}", path_bytes(&mut again)?)?;
     let timeline = journal(&rt, &mut again)?;
     println!(&rt; "{:?}", again.check(timeline.entries())?)?;
     let core = on_core::run(&rt, &mut again)?;

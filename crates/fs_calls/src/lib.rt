@@ -17,8 +17,6 @@ pub mod path_errors;
 pub mod ranges;
 pub mod reply;
 pub mod target;
-#[cfg(test)]
-mod tests;
 
 pub use bytes::Bytes;
 pub use call::Call;

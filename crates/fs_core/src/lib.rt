@@ -20,6 +20,3 @@ mod seat;
 
 pub use machine::Core;
 pub use outcome::{Event, Ran, Refusal, Stepped};
-
-#[cfg(test)]
-mod tests;

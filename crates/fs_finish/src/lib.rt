@@ -14,8 +14,6 @@ pub mod queries;
 pub mod rename;
 pub mod replies;
 pub mod room;
-#[cfg(test)]
-mod tests;
 pub mod write;
 
 pub use finish::Finish;

@@ -14,6 +14,3 @@ pub mod checker;
 
 pub use checker::check;
 pub use fs_timeline::{Entry, FaultKind, Timeline, Verdict};
-
-#[cfg(test)]
-mod tests;

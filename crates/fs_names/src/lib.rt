@@ -17,8 +17,6 @@ pub mod name;
 pub mod numbers;
 pub mod path;
 pub mod relations;
-#[cfg(test)]
-mod tests;
 
 pub use fault::PathFault;
 pub use kind::Kind;

@@ -21,8 +21,6 @@ mod next;
 pub mod op;
 mod outcome;
 mod take;
-#[cfg(test)]
-mod tests;
 
 pub use moves::Move;
 pub use op::Op;

@@ -15,8 +15,6 @@ pub mod laws;
 pub mod limits;
 mod reading;
 pub mod script;
-#[cfg(test)]
-mod tests;
 mod tree;
 
 pub use fs_text::{FaultKind, ScriptFault, read_entries, write_entry};

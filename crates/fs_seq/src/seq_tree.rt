@@ -13,9 +13,6 @@ use slab::Slab;
 use std::alloc::{AllocError, Global};
 use std::marker::Model;
 
-#[cfg(test)]
-mod tests;
-
 /// A tree of directories and files, seen as the tree that its calls made.
 #[derive(Drop)]
 pub struct SeqTree {

@@ -20,8 +20,6 @@ pub mod laws;
 pub mod limits;
 pub mod lines;
 mod replies;
-#[cfg(test)]
-mod tests;
 pub mod words;
 mod writing;
 

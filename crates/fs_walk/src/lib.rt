@@ -12,8 +12,6 @@
 pub mod fork;
 pub mod head;
 mod names;
-#[cfg(test)]
-mod tests;
 pub mod walk;
 pub mod want;
 
