@@ -1,13 +1,15 @@
 -- The exit statuses.
 use Rattle.std.specs.Prelude.{ℕ, Bool, ◌==◌, if◌then◌else◌, Result, Ok, Err}
 use Rattle.fs_sched.specs.declared.running.RunEnd.{RunEnd}
-use Rattle.fs_sched.specs.declared.fault.RunFault.{RunFault}
 use Rattle.fs_sched.specs.Faults.{status_of_fault}
+use Rattle.fs_threads.specs.declared.fault.ThreadsFault.{ThreadsFault}
+use Rattle.fs_threads.specs.declared.fault.ThreadsFault.TheVariants.{Run, Lists}
 
--- the status that a command came to, or that of its fault
-abbrev pub status_of : Result ℕ RunFault → ℕ
+-- the status that a command came to, or that of its fault: 4 where there was no worker
+abbrev pub status_of : Result ℕ ThreadsFault → ℕ
 status_of (Ok status) = status
-status_of (Err fault) = status_of_fault fault
+status_of (Err (Run fault)) = status_of_fault fault
+status_of (Err (Lists fault)) = 4
 
 -- success where every call of the script returned, else 1
 abbrev pub status_of_run : RunEnd → ℕ

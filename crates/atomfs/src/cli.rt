@@ -21,6 +21,8 @@ pub enum Subcommand {
     Run(Schedule),
     /// Runs of a script that are drawn from a number, the next one, and so on: the number, and how many.
     Seeds(u64, u64),
+    /// The calls of a script on real threads.
+    Threads,
     /// The verdict on a journal.
     Check,
 }
@@ -49,6 +51,18 @@ Exit status:
 Example:
   atomfs seeds --seed 1 --runs 100 < examples/moved_ancestor.script";
 
+const THREADS_STATUSES: &str = "\
+Exit status:
+  0  the timeline of the calls is lawful
+  1  it has a fault
+  2  usage error
+  3  the input is no script
+  4  out of memory, no node number left, or no worker
+  5  a read or a write failed
+
+Example:
+  atomfs threads < examples/moved_ancestor.script";
+
 const CHECK_STATUSES: &str = "\
 Exit status:
   0  the journal is lawful
@@ -67,7 +81,7 @@ Exit status:
   1  a journal is not lawful, or a script ended with calls left
   2  usage error
   3  malformed input
-  4  out of memory, or no node number left
+  4  out of memory, no node number left, or no worker
   5  a read or a write failed
 
 Example:
@@ -119,6 +133,14 @@ fn seeds_command<'a>(alloc: Global) -> Result<Command<'a>, Error> {
     )
 }
 
+fn threads_command<'a>(alloc: Global) -> Command<'a> {
+    Command::new(alloc, "threads")
+        .about(
+            "Runs each thread of the script on standard input on a real thread, its schedule unused, and writes `lawful calls` and their number, or a fault",
+        )
+        .after_help(THREADS_STATUSES)
+}
+
 fn check_command<'a>(alloc: Global) -> Command<'a> {
     Command::new(alloc, "check")
         .about(
@@ -136,6 +158,7 @@ fn command<'a>(alloc: Global) -> Result<Command<'a>, Error> {
             .subcommand_required(true)
             .subcommand(run_command(alloc)?)?
             .subcommand(seeds_command(alloc)?)?
+            .subcommand(threads_command(alloc))?
             .subcommand(check_command(alloc))?,
     )
 }
@@ -175,6 +198,7 @@ fn subcommand_of<'a>(matches: &ArgMatches<'a>) -> Option<Subcommand>
     match name {
         "run" => Some(Subcommand::Run(schedule_of(given))),
         "seeds" => seeds_of(given),
+        "threads" => Some(Subcommand::Threads),
         "check" => Some(Subcommand::Check),
         _ => None,
     }

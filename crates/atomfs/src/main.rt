@@ -1,5 +1,5 @@
-//! The program `atomfs`. `atomfs run` runs the script on standard input, `atomfs seeds` runs it by drawn schedules, and
-//! `atomfs check` reads a journal there; each writes what came of it.
+//! The program `atomfs`. `atomfs run` runs the script on standard input, `atomfs seeds` runs it by drawn schedules,
+//! `atomfs threads` runs its threads on real ones, and `atomfs check` reads a journal there; each writes what came of it.
 //!
 //! `cli` reads the command line, and `status` has the exit statuses; the definitions are in `specs/`. Each part is proved to
 //! mean what they say. The program from its arguments to its status, and the words of the messages, are tested.
@@ -15,6 +15,7 @@ mod tests;
 
 use cli::Subcommand;
 use fs_sched::{Device, RunFault, Schedule, Sink, Source, check_journal, run_script, run_seeds};
+use fs_threads::{ThreadsFault, run_threads};
 use status::{
     report, status_of_run, status_of_unreadable_args, status_of_usage, status_of_verdict,
 };
@@ -22,6 +23,9 @@ use std::alloc::Global;
 use std::convert::AsStr;
 use std::io::{Read, Write};
 use std::process::ExitCode;
+use std::sync::Wait;
+use std::thread::Threads;
+use std::time::Clock;
 
 /// Runs a script, and answers the status.
 fn run<R: Source, W: Sink>(
@@ -57,6 +61,22 @@ fn seeds<R: Source, W: Sink>(
     }
 }
 
+/// Runs the threads of a script on real ones, and answers the status.
+fn threads<T: Threads + Wait + Clock + Sync, R: Source, W: Sink>(
+    rt: &T,
+    alloc: Global,
+    reader: &mut R,
+    writer: &mut W,
+) -> Result<u8, ThreadsFault>
+    requires reads { R.failures reader.old < 2 ^ 64 - 1 }
+    requires writes { W.failures writer.old < 2 ^ 64 - 1 }
+{
+    match run_threads(rt, alloc, reader, writer) {
+        Ok(lawful) => Ok(status_of_verdict(lawful)),
+        Err(fault) => Err(fault),
+    }
+}
+
 /// Checks a journal, and answers the status.
 fn check<R: Source, W: Sink>(alloc: Global, reader: &mut R, writer: &mut W) -> Result<u8, RunFault>
     requires reads { R.failures reader.old < 2 ^ 64 - 1 }
@@ -70,7 +90,8 @@ fn check<R: Source, W: Sink>(alloc: Global, reader: &mut R, writer: &mut W) -> R
 
 /// Does what a subcommand asks for, from a reader to a writer, and answers the exit status. The message of a fault goes
 /// to `errors`.
-fn perform<R: Source, W: Sink, E: Write>(
+fn perform<T: Threads + Wait + Clock + Sync, R: Source, W: Sink, E: Write>(
+    rt: &T,
     alloc: Global,
     subcommand: &Subcommand,
     reader: &mut R,
@@ -85,29 +106,36 @@ fn perform<R: Source, W: Sink, E: Write>(
         Subcommand::Run(schedule) => run(alloc, reader, writer, *schedule),
         Subcommand::Seeds(first, runs) => seeds(alloc, reader, writer, *first, *runs),
         Subcommand::Check => check(alloc, reader, writer),
+        Subcommand::Threads => return report(errors, threads(rt, alloc, reader, writer)),
     };
-    report(errors, outcome)
+    report(errors, outcome.map_err(ThreadsFault::Run))
 }
 
 /// The exit status of the program, from its arguments on. The first of them is its name.
-fn status_of_args<S: AsStr, R: Read + Drop, W: Write + Drop, E: Write>(
+fn status_of_args<T, S: AsStr, R: Read + Drop, W: Write + Drop, E: Write>(
+    rt: &T,
     alloc: Global,
     args: &[S],
     input: R,
     mut output: W,
     errors: &mut E,
-) -> u8 {
+) -> u8
+where
+    T: Threads + Wait + Clock + Sync,
+{
     match cli::parse(alloc, args) {
         Ok(subcommand) => {
             let mut reader = Device::new(input);
             let mut writer = Device::new(output);
-            perform(alloc, &subcommand, &mut reader, &mut writer, errors)
+            perform(rt, alloc, &subcommand, &mut reader, &mut writer, errors)
         }
         Err(error) => status_of_usage(&mut output, errors, error),
     }
 }
 
-fn exit_status(rt: &HostRuntime) -> u8 {
+/// The same from the arguments of the process. The runtime comes twice: by its own type, and by the right to start threads,
+/// which it has in `main` alone.
+fn exit_status<T: Threads + Wait + Clock + Sync>(rt: &HostRuntime, threads: &T) -> u8 {
     let alloc = rt.alloc();
     let mut errors = rt.stderr();
     let args = match std::env::args(rt) {
@@ -116,11 +144,18 @@ fn exit_status(rt: &HostRuntime) -> u8 {
     };
     let collected: Result<Vec<String>, _> = args.collect(alloc);
     let Ok(args) = collected else {
-        return report(&mut errors, Err(RunFault::OutOfMemory));
+        return report(&mut errors, Err(ThreadsFault::Run(RunFault::OutOfMemory)));
     };
-    status_of_args(alloc, args.as_slice(), rt.stdin(), rt.stdout(), &mut errors)
+    status_of_args(
+        threads,
+        alloc,
+        args.as_slice(),
+        rt.stdin(),
+        rt.stdout(),
+        &mut errors,
+    )
 }
 
 fn main(rt: HostRuntime) -> ExitCode {
-    ExitCode::from(exit_status(&rt))
+    ExitCode::from(exit_status(&rt, &rt))
 }

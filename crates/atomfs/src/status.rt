@@ -8,6 +8,7 @@ ghost use Rattle.atomfs.specs.Statuses.{status_of, status_of_run, status_of_verd
 use clap::Error;
 use clap::error::ErrorKind;
 use fs_sched::{RunEnd, RunFault};
+use fs_threads::ThreadsFault;
 use std::io::{self, ErrorKind as IoErrorKind, Write};
 
 /// The status after a run: success where every call of the script returned.
@@ -24,17 +25,19 @@ pub fn status_of_verdict(lawful: bool) -> u8
     if lawful { 0 } else { 1 }
 }
 
-/// The status that a subcommand came to, or that of its fault, whose message is written.
-pub fn report<E: Write>(errors: &mut E, outcome: Result<u8, RunFault>) -> u8
+/// The status that a subcommand came to, or that of its fault, whose message is written: 4 where there was no worker.
+pub fn report<E: Write>(errors: &mut E, outcome: Result<u8, ThreadsFault>) -> u8
     ensures { result ≡ status_of outcome }
 {
-    match outcome {
-        Ok(status) => status,
-        Err(fault) => {
-            // Where standard error takes no message, the status says it all the same.
-            let _ = writeln!(errors, "atomfs: {fault}");
-            fault.status()
-        }
+    let fault = match outcome {
+        Ok(status) => return status,
+        Err(fault) => fault,
+    };
+    // Where standard error takes no message, the status says it all the same.
+    let _ = writeln!(errors, "atomfs: {fault}");
+    match fault {
+        ThreadsFault::Run(fault) => fault.status(),
+        ThreadsFault::Lists(_) => 4,
     }
 }
 
@@ -44,7 +47,7 @@ pub fn status_of_unreadable_args<E: Write>(errors: &mut E, error: &io::Error) ->
     ensures usage { error_kind error.now ≢ IoErrorKind.OutOfMemory → result ≡ 2 }
 {
     if error.kind() == IoErrorKind::OutOfMemory {
-        return report(errors, Err(RunFault::OutOfMemory));
+        return report(errors, Err(ThreadsFault::Run(RunFault::OutOfMemory)));
     }
     let _ = writeln!(errors, "atomfs: an argument is not UTF-8");
     2
@@ -58,10 +61,10 @@ pub fn status_of_usage<W: Write, E: Write>(output: &mut W, errors: &mut E, error
     ensures usage { kind_of error ≢ ErrorKind.OutOfMemory → kind_of error ≢ ErrorKind.DisplayHelp → kind_of error ≢ ErrorKind.DisplayVersion → result ≡ 2 }
 {
     match error.kind() {
-        ErrorKind::OutOfMemory => report(errors, Err(RunFault::OutOfMemory)),
+        ErrorKind::OutOfMemory => report(errors, Err(ThreadsFault::Run(RunFault::OutOfMemory))),
         ErrorKind::DisplayHelp | ErrorKind::DisplayVersion => match write!(output, "{error}") {
             Ok(()) => 0,
-            Err(_) => report(errors, Err(RunFault::Write)),
+            Err(_) => report(errors, Err(ThreadsFault::Run(RunFault::Write))),
         },
         _ => {
             let _ = write!(errors, "{error}");

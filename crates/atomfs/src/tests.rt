@@ -3,7 +3,9 @@
 mod usage;
 
 use super::*;
+use fs_core::Refusal;
 use fs_sched::{RUN_LIMIT, SEED_LIMIT};
+use fs_share::ListsFault;
 use std::io::{Error, ErrorKind};
 use std::test::Fail;
 
@@ -15,10 +17,15 @@ struct Ended {
     errors: Vec<u8>,
 }
 
-fn run_with(alloc: Global, args: &[&str], input: &[u8]) -> Ended {
+fn run_with<T: Threads + Wait + Clock + Sync>(
+    rt: &T,
+    alloc: Global,
+    args: &[&str],
+    input: &[u8],
+) -> Ended {
     let mut output = Vec::new(alloc);
     let mut errors = Vec::new(alloc);
-    let status = status_of_args(alloc, args, input, &mut output, &mut errors);
+    let status = status_of_args(rt, alloc, args, input, &mut output, &mut errors);
     Ended {
         status,
         output,
@@ -76,7 +83,7 @@ const WRONG: &[u8] = b"atomfs-journal 1\nbegin 1 0 mkdir /a\ncommit 1\nreturn 1 
 
 #[test]
 fn answers(rt: HostRuntime) {
-    let rows: [(&[&str], &[u8], u8, &[u8], &[u8]); 15] = [
+    let rows: [(&[&str], &[u8], u8, &[u8], &[u8]); 19] = [
         (&["atomfs", "run"], ONE_NAME, 0, GIVEN, b""),
         (&["atomfs", "run", "--robin"], ONE_NAME, 0, ROBIN, b""),
         (&["atomfs", "run", "--seed", "2"], ONE_NAME, 0, DRAWN, b""),
@@ -103,6 +110,27 @@ fn answers(rt: HostRuntime) {
             b"seed 9223372036854775807 lawful\n",
             b"",
         ),
+        (
+            &["atomfs", "threads"],
+            ONE_NAME,
+            0,
+            b"lawful calls 2\n",
+            b"",
+        ),
+        (
+            &["atomfs", "threads"],
+            ENDS_EARLY,
+            0,
+            b"lawful calls 1\n",
+            b"",
+        ),
+        (
+            &["atomfs", "threads"],
+            b"atomfs 1\nschedule\n",
+            0,
+            b"lawful calls 0\n",
+            b"",
+        ),
         (&["atomfs", "check"], GIVEN, 0, b"lawful\n", b""),
         (&["atomfs", "check"], WRONG, 1, b"fault 3 WrongReply\n", b""),
         (
@@ -118,6 +146,13 @@ fn answers(rt: HostRuntime) {
             3,
             b"",
             b"atomfs: line 1: BadHeader\n",
+        ),
+        (
+            &["atomfs", "threads"],
+            SLASH,
+            3,
+            b"",
+            b"atomfs: line 3: BadPath TrailingSlash\n",
         ),
         (
             &["atomfs", "seeds", "--seed", "0", "--runs", "1"],
@@ -143,7 +178,7 @@ fn answers(rt: HostRuntime) {
         (&["atomfs", "--version"], b"", 0, b"atomfs 0.1.0\n", b""),
     ];
     for (args, input, status, output, errors) in rows {
-        let ended = run_with(rt.alloc(), args, input);
+        let ended = run_with(&rt, rt.alloc(), args, input);
         assert_eq!(rt; ended.status, status);
         assert_eq!(rt; ended.output.as_slice(), output);
         assert_eq!(rt; ended.errors.as_slice(), errors);
@@ -153,8 +188,9 @@ fn answers(rt: HostRuntime) {
 #[test]
 fn devices_that_fail(rt: HostRuntime) {
     let alloc = rt.alloc();
-    let rows: [&[&str]; 3] = [
+    let rows: [&[&str]; 4] = [
         &["atomfs", "run"],
+        &["atomfs", "threads"],
         &["atomfs", "seeds", "--seed", "1", "--runs", "1"],
         &["atomfs", "check"],
     ];
@@ -162,14 +198,15 @@ fn devices_that_fail(rt: HostRuntime) {
         let mut output = Vec::new(alloc);
         let mut errors = Vec::new(alloc);
         assert_eq!(rt;
-            status_of_args(alloc, args, Broken, &mut output, &mut errors),
+            status_of_args(&rt, alloc, args, Broken, &mut output, &mut errors),
             5
         );
         assert_eq!(rt; output.as_slice(), b"".as_slice());
         assert_eq!(rt; errors.as_slice(), b"atomfs: read failed\n".as_slice());
     }
-    let rows: [(&[&str], &[u8]); 5] = [
+    let rows: [(&[&str], &[u8]); 6] = [
         (&["atomfs", "run"], ENDS_EARLY),
+        (&["atomfs", "threads"], ENDS_EARLY),
         (
             &["atomfs", "seeds", "--seed", "1", "--runs", "1"],
             ENDS_EARLY,
@@ -180,20 +217,44 @@ fn devices_that_fail(rt: HostRuntime) {
     ];
     for (args, input) in rows {
         let mut errors = Vec::new(alloc);
-        assert_eq!(rt; status_of_args(alloc, args, input, Broken, &mut errors), 5);
+        assert_eq!(rt;
+            status_of_args(&rt, alloc, args, input, Broken, &mut errors),
+            5
+        );
         assert_eq!(rt; errors.as_slice(), b"atomfs: write failed\n".as_slice());
     }
     // A message that cannot be written leaves the status as it is.
     let mut output = Vec::new(alloc);
-    let status = status_of_args(alloc, &["atomfs", "run"], SLASH, &mut output, &mut Broken);
+    let status = status_of_args(
+        &rt,
+        alloc,
+        &["atomfs", "run"],
+        SLASH,
+        &mut output,
+        &mut Broken,
+    );
     assert_eq!(rt; status, 3);
 }
 
 #[test]
 fn messages(rt: HostRuntime) {
-    let rows: [(RunFault, u8, &[u8]); 2] = [
-        (RunFault::OutOfMemory, 4, b"atomfs: out of memory\n"),
-        (RunFault::Full, 4, b"atomfs: full\n"),
+    let rows: [(ThreadsFault, u8, &[u8]); 4] = [
+        (
+            ThreadsFault::Run(RunFault::OutOfMemory),
+            4,
+            b"atomfs: out of memory\n",
+        ),
+        (ThreadsFault::Run(RunFault::Full), 4, b"atomfs: full\n"),
+        (
+            ThreadsFault::Lists(ListsFault::NoWorker),
+            4,
+            b"atomfs: no worker\n",
+        ),
+        (
+            ThreadsFault::Lists(ListsFault::Refused(Refusal::SeatBusy)),
+            4,
+            b"atomfs: no worker\n",
+        ),
     ];
     for (fault, status, message) in rows {
         let mut errors = Vec::new(rt.alloc());

@@ -11,8 +11,6 @@ mod desk;
 pub mod gate;
 pub mod lists;
 pub mod session;
-#[cfg(test)]
-mod tests;
 pub mod tree;
 
 pub use desk::advance;

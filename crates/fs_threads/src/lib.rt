@@ -8,8 +8,6 @@
 mod fault;
 mod line;
 mod running;
-#[cfg(test)]
-mod tests;
 
 pub use fault::ThreadsFault;
 pub use running::run_threads;

@@ -9,10 +9,11 @@ A concurrent file tree in memory
 Usage: atomfs <COMMAND>
 
 Commands:
-  run    Runs the script on standard input and writes its journal, its tree and its counts
-  seeds  Runs the script on standard input by drawn schedules, checks each run's journal and writes a line for each
-  check  Reads the journal on standard input and writes `lawful`, or the place and the kind of its first fault
-  help   Print this message or the help of the given subcommand(s)
+  run      Runs the script on standard input and writes its journal, its tree and its counts
+  seeds    Runs the script on standard input by drawn schedules, checks each run's journal and writes a line for each
+  threads  Runs each thread of the script on standard input on a real thread, its schedule unused, and writes `lawful calls` and their number, or a fault
+  check    Reads the journal on standard input and writes `lawful`, or the place and the kind of its first fault
+  help     Print this message or the help of the given subcommand(s)
 
 Options:
   -h, --help     Print help
@@ -23,7 +24,7 @@ Exit status:
   1  a journal is not lawful, or a script ended with calls left
   2  usage error
   3  malformed input
-  4  out of memory, or no node number left
+  4  out of memory, no node number left, or no worker
   5  a read or a write failed
 
 Example:
@@ -74,6 +75,26 @@ Example:
   atomfs seeds --seed 1 --runs 100 < examples/moved_ancestor.script
 ";
 
+const THREADS_HELP: &str = "\
+Runs each thread of the script on standard input on a real thread, its schedule unused, and writes `lawful calls` and their number, or a fault
+
+Usage: atomfs threads
+
+Options:
+  -h, --help  Print help
+
+Exit status:
+  0  the timeline of the calls is lawful
+  1  it has a fault
+  2  usage error
+  3  the input is no script
+  4  out of memory, no node number left, or no worker
+  5  a read or a write failed
+
+Example:
+  atomfs threads < examples/moved_ancestor.script
+";
+
 const CHECK_HELP: &str = "\
 Reads the journal on standard input and writes `lawful`, or the place and the kind of its first fault
 
@@ -96,15 +117,16 @@ Example:
 
 #[test]
 fn help(rt: HostRuntime) {
-    let rows: [(&[&str], &str); 5] = [
+    let rows: [(&[&str], &str); 6] = [
         (&["atomfs", "--help"], HELP),
         (&["atomfs", "help"], HELP),
         (&["atomfs", "run", "--help"], RUN_HELP),
         (&["atomfs", "seeds", "--help"], SEEDS_HELP),
+        (&["atomfs", "threads", "--help"], THREADS_HELP),
         (&["atomfs", "help", "check"], CHECK_HELP),
     ];
     for (args, text) in rows {
-        let ended = run_with(rt.alloc(), args, b"");
+        let ended = run_with(&rt, rt.alloc(), args, b"");
         assert_eq!(rt; ended.status, 0);
         assert_eq!(rt; ended.output.as_slice(), text.as_bytes());
         assert_eq!(rt; ended.errors.as_slice(), b"".as_slice());
@@ -123,10 +145,10 @@ fn ranges(rt: HostRuntime) -> Result<(), Fail> {
 
 #[test]
 fn usage_errors(rt: HostRuntime) {
-    let rows: [(&[&str], &str); 10] = [
+    let rows: [(&[&str], &str); 11] = [
         (
             &["atomfs"],
-            "error: 'atomfs' requires a subcommand but one was not provided\n  [subcommands: run, seeds, check, help]\n\nUsage: atomfs <COMMAND>\n\nFor more information, try '--help'.\n",
+            "error: 'atomfs' requires a subcommand but one was not provided\n  [subcommands: run, seeds, threads, check, help]\n\nUsage: atomfs <COMMAND>\n\nFor more information, try '--help'.\n",
         ),
         (
             &["atomfs", "walk"],
@@ -139,6 +161,10 @@ fn usage_errors(rt: HostRuntime) {
         (
             &["atomfs", "check", "now"],
             "error: unexpected argument 'now' found\n\nUsage: atomfs check\n\nFor more information, try '--help'.\n",
+        ),
+        (
+            &["atomfs", "threads", "--seed", "1"],
+            "error: unexpected argument '--seed' found\n\nUsage: atomfs threads\n\nFor more information, try '--help'.\n",
         ),
         (
             &["atomfs", "run", "--robin", "--seed", "1"],
@@ -173,7 +199,7 @@ fn usage_errors(rt: HostRuntime) {
         ),
     ];
     for (args, text) in rows {
-        let ended = run_with(rt.alloc(), args, b"");
+        let ended = run_with(&rt, rt.alloc(), args, b"");
         assert_eq!(rt; ended.status, 2);
         assert_eq!(rt; ended.output.as_slice(), b"".as_slice());
         assert_eq!(rt; ended.errors.as_slice(), text.as_bytes());

@@ -1,0 +1,91 @@
+//! Calls, and what a timeline says of them.
+
+use fs_calls::Call;
+use fs_names::{CallNo, Path};
+use fs_share::Answer;
+use fs_timeline::Entry;
+use std::alloc::Global;
+
+pub fn path(alloc: Global, text: &[u8]) -> Option<Path> {
+    Path::parse(alloc, text).ok()
+}
+
+pub fn mkdir(alloc: Global, text: &[u8]) -> Option<Call> {
+    Some(Call::Mkdir(path(alloc, text)?))
+}
+
+pub fn mknod(alloc: Global, text: &[u8]) -> Option<Call> {
+    Some(Call::Mknod(path(alloc, text)?))
+}
+
+pub fn stat(alloc: Global, text: &[u8]) -> Option<Call> {
+    Some(Call::Stat(path(alloc, text)?))
+}
+
+pub fn rename(alloc: Global, from: &[u8], to: &[u8]) -> Option<Call> {
+    Some(Call::Rename(path(alloc, from)?, path(alloc, to)?))
+}
+
+pub fn commit_place(entries: &[Entry], call: CallNo) -> Option<usize> {
+    entries.iter().position(|entry| matches!(entry, Entry::Commit(number) if *number == call))
+}
+
+pub fn return_place(entries: &[Entry], call: CallNo) -> Option<usize> {
+    entries.iter().position(|entry| matches!(entry, Entry::Return(number, _) if *number == call))
+}
+
+/// Whether both places are there, the first before the second.
+pub fn is_before(first: Option<usize>, second: Option<usize>) -> bool {
+    match (first, second) {
+        (Some(first), Some(second)) => first < second,
+        _ => false,
+    }
+}
+
+pub fn same_path(one: &Path, other: &Path) -> bool {
+    one.len() == other.len() && one.is_prefix_of(other)
+}
+
+fn same_call(one: &Call, other: &Call) -> bool {
+    match (one, other) {
+        (Call::Mkdir(p), Call::Mkdir(q)) => same_path(p, q),
+        (Call::Mknod(p), Call::Mknod(q)) => same_path(p, q),
+        (Call::Unlink(p), Call::Unlink(q)) => same_path(p, q),
+        (Call::Rmdir(p), Call::Rmdir(q)) => same_path(p, q),
+        (Call::Rename(p, r), Call::Rename(q, s)) => same_path(p, q) && same_path(r, s),
+        (Call::Stat(p), Call::Stat(q)) => same_path(p, q),
+        (Call::Readdir(p), Call::Readdir(q)) => same_path(p, q),
+        (Call::Read(p, a, b), Call::Read(q, c, d)) => same_path(p, q) && a == c && b == d,
+        (Call::Write(p, a, b), Call::Write(q, c, d)) => same_path(p, q) && a == c && b.same(d),
+        (Call::Truncate(p, a), Call::Truncate(q, c)) => same_path(p, q) && a == c,
+        _ => false,
+    }
+}
+
+/// Whether an answer is the reply of its own Return, and its Begin has the call that was handed in.
+pub fn fits(entries: &[Entry], call: &Call, answer: &Answer) -> bool {
+    let mut begun = 0u64;
+    let mut returned = 0u64;
+    for entry in entries {
+        match entry {
+            Entry::Begin(number, _, given) if *number == answer.call => {
+                begun = begun.wrapping_add(if same_call(given, call) { 1 } else { 100 });
+            }
+            Entry::Return(number, reply) if *number == answer.call => {
+                returned = returned.wrapping_add(if reply.same(&answer.reply) { 1 } else { 100 });
+            }
+            _ => {}
+        }
+    }
+    begun == 1 && returned == 1
+}
+
+/// Notes the number of an answer, and tells whether it is new and has a place.
+pub fn is_new(seen: &mut [bool], answer: &Answer) -> bool {
+    let number = answer.call.get() as usize;
+    if number >= seen.len() || seen[number] {
+        return false;
+    }
+    seen[number] = true;
+    true
+}

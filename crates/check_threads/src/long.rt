@@ -1,0 +1,64 @@
+//! A long run of drawn calls by many threads.
+
+use crate::drawing::call;
+use crate::walking::{played, same};
+use fs_calls::Call;
+use fs_core::Stepped;
+use fs_journal::check;
+use fs_share::{Gate, run_lists};
+use fs_timeline::Verdict;
+use rand_core::SeedableRng;
+use rand_pcg::Pcg32;
+use std::alloc::Global;
+use std::sync::Wait;
+use std::thread;
+use std::thread::Threads;
+use std::time::{Clock, Duration};
+
+const THREADS: usize = 8;
+
+/// Lets its caller sleep after it let a node go, so that others get in between while it stands below.
+struct Lingers;
+
+impl Gate for Lingers {
+    fn after<R: Wait + Clock>(&self, rt: &R, stepped: &Stepped) {
+        if matches!(stepped, Stepped::LetGo(_)) {
+            thread::sleep(rt, Duration::from_micros(20));
+        }
+    }
+}
+
+/// How many calls each thread has.
+const CALLS: usize = 2500;
+
+fn list(alloc: Global, random: &mut Pcg32) -> Option<Vec<Call>> {
+    let mut calls = Vec::new(alloc);
+    for _ in 0..CALLS {
+        calls.push(call(alloc, random)?).ok()?;
+    }
+    Some(calls)
+}
+
+fn lists(alloc: Global) -> Option<Vec<Vec<Call>>> {
+    let mut random = Pcg32::seed_from_u64(20_000);
+    let mut lists = Vec::new(alloc);
+    for _ in 0..THREADS {
+        lists.push(list(alloc, &mut random)?).ok()?;
+    }
+    Some(lists)
+}
+
+/// Whether the timeline of the run is lawful, and the nodes that it leaves are those of a sequential tree that played its
+/// commits.
+pub fn is_lawful<R: Threads + Wait + Clock + Sync>(rt: &R, alloc: Global) -> Option<bool> {
+    let lists = lists(alloc)?;
+    let closed = run_lists(rt, alloc, &lists, &Lingers).ok()?;
+    let entries = closed.timeline.entries();
+    let mut tree = played(alloc, entries)?;
+    Some(
+        closed.sessions == THREADS
+            && entries.len() == 3 * THREADS * CALLS
+            && matches!(check(alloc, entries).ok()?, Verdict::Lawful)
+            && same(alloc, &closed.store, &mut tree)?,
+    )
+}

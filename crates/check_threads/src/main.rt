@@ -1,0 +1,58 @@
+//! Runs real threads on shared trees, by sessions, lists and pools, also under gates that hold a call at a place of its walk,
+//! and says of each run whether it came out as it must.
+#![tactic(auto)]
+
+mod answers;
+mod calls;
+mod drawing;
+mod example;
+mod held;
+mod jobs;
+mod long;
+mod shared;
+mod waiting;
+mod walking;
+
+fn say(rt: &impl Print, what: &str, holds: Option<bool>) -> std::io::Result<()> {
+    match holds {
+        Some(true) => println!(rt; "{what}: yes"),
+        Some(false) => println!(rt; "{what}: no"),
+        None => println!(rt; "{what}: not run"),
+    }
+}
+
+fn main(rt: HostRuntime) -> anyhow::Result<()> {
+    let alloc = rt.alloc();
+    let sessions = answers::are_right(&rt, alloc);
+    say(
+        &rt,
+        "each answer of four sessions is that of the timeline",
+        sessions,
+    )?;
+    let overlap = held::others_return(&rt, alloc);
+    say(&rt, "a held call lets another one return", overlap)?;
+    let helped = held::rename_helps(&rt, alloc);
+    say(&rt, "a rename helps a held call", helped)?;
+    let lists = shared::lists_meet(&rt, alloc);
+    say(&rt, "two lists run side by side", lists)?;
+    let pools = shared::jobs_meet(&rt, alloc);
+    say(&rt, "two jobs run side by side", pools)?;
+    let returns = shared::all_return(&rt, alloc);
+    say(&rt, "each call of four lists returns", returns)?;
+    say(
+        &rt,
+        "two lists make directories",
+        example::is_lawful(&rt, alloc),
+    )?;
+    say(
+        &rt,
+        "a thousand jobs are done, once",
+        jobs::are_done(&rt, alloc),
+    )?;
+    say(
+        &rt,
+        "twenty thousand drawn calls are lawful",
+        long::is_lawful(&rt, alloc),
+    )?;
+    Ok(())
+}

@@ -1,0 +1,123 @@
+//! Whether the nodes of a store are those of a sequential tree, by a walk over both.
+
+use crate::calls::path;
+use fs_calls::{Call, Reply};
+use fs_names::{ENTRY_LIMIT, FILE_LIMIT, Kind, Name};
+use fs_nodes::{NodeNo, Store};
+use fs_seq::SeqTree;
+use fs_timeline::Entry;
+use std::alloc::Global;
+
+/// How many nodes are compared at the most.
+const MOST_NODES: u32 = 10_000;
+
+/// The tree after all commits of a timeline whose calls are numbered in the order of their begins, from 1 on.
+pub fn played(alloc: Global, entries: &[Entry]) -> Option<SeqTree> {
+    let mut tree = SeqTree::new(alloc).ok()?;
+    let mut calls = Vec::new(alloc);
+    for entry in entries {
+        match entry {
+            Entry::Begin(_, _, call) => calls.push(call).ok()?,
+            Entry::Commit(number) => {
+                let place = (number.get() as usize).checked_sub(1)?;
+                let call: &Call = calls.get(place)?;
+                tree.apply(alloc, call).ok()?;
+            }
+            _ => {}
+        }
+    }
+    Some(tree)
+}
+
+/// A node that is to be compared, and the text of its path, empty for the root.
+#[derive(Drop)]
+struct Place {
+    node: NodeNo,
+    text: Vec<u8>,
+}
+
+fn entry(alloc: Global, dir: &[u8], name: &Name, node: NodeNo) -> Option<Place> {
+    let mut text = Vec::new(alloc);
+    text.extend_from_slice(dir).ok()?;
+    text.push(b'/').ok()?;
+    text.extend_from_slice(name.bytes()).ok()?;
+    Some(Place { node, text })
+}
+
+/// Puts the entries of a directory on the stack.
+fn add_entries(alloc: Global, store: &Store, dir: &Place, stack: &mut Vec<Place>) -> Option<()> {
+    let mut low: Option<Name> = None;
+    for _ in 0..=ENTRY_LIMIT {
+        if !store.is_used(dir.node) || !store.is_dir(dir.node) {
+            return None;
+        }
+        let Some((name, node)) = store.next_name(dir.node, low.as_ref()) else {
+            return Some(());
+        };
+        stack.push(entry(alloc, &dir.text, &name, node)?).ok()?;
+        low = Some(name);
+    }
+    None
+}
+
+/// What the tree replies at a place.
+fn reply(alloc: Global, tree: &mut SeqTree, at: &Place, reads: bool) -> Option<Reply> {
+    let text: &[u8] = if at.text.is_empty() { b"/" } else { &at.text };
+    let path = path(alloc, text)?;
+    let call = if reads {
+        Call::Read(path, 0, FILE_LIMIT as u64)
+    } else {
+        Call::Stat(path)
+    };
+    tree.apply(alloc, &call).ok()
+}
+
+/// Whether a reply has these bytes.
+fn is_content(reply: Reply, content: &[u8]) -> bool {
+    match reply {
+        Reply::Bytes(bytes) => bytes.as_slice() == content,
+        _ => false,
+    }
+}
+
+/// Whether both have a directory with as many entries, which come on the stack, or a file of the same bytes.
+fn agrees_at(
+    alloc: Global,
+    store: &Store,
+    tree: &mut SeqTree,
+    at: &Place,
+    stack: &mut Vec<Place>,
+) -> Option<bool> {
+    if !store.is_used(at.node) {
+        return Some(false);
+    }
+    if store.is_file(at.node) {
+        return Some(is_content(reply(alloc, tree, at, true)?, store.content(at.node)));
+    }
+    if !store.is_dir(at.node) {
+        return Some(false);
+    }
+    add_entries(alloc, store, at, stack)?;
+    let count = store.entries(at.node);
+    let reply = reply(alloc, tree, at, false)?;
+    Some(matches!(reply, Reply::Stat(Kind::Dir, size) if size == count as u64))
+}
+
+/// Whether both have the same names, kinds and bytes, from the root on.
+pub fn same(alloc: Global, store: &Store, tree: &mut SeqTree) -> Option<bool> {
+    let mut stack = Vec::new(alloc);
+    let root = Place {
+        node: NodeNo::new(0),
+        text: Vec::new(alloc),
+    };
+    stack.push(root).ok()?;
+    for _ in 0..MOST_NODES {
+        let Some(at) = stack.pop() else {
+            return Some(true);
+        };
+        if !agrees_at(alloc, store, tree, &at, &mut stack)? {
+            return Some(false);
+        }
+    }
+    Some(false)
+}

@@ -1,0 +1,3 @@
+pub mod Dones
+pub mod Jobs
+pub mod Pools

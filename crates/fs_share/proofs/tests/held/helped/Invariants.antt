@@ -1,4 +1,0 @@
-use Rattle.fs_share.proofs.tests.held.helped.Given as goal
-
-abbrev pub ghosts-meet : goal.ghosts-meet
-ghosts-meet g a = record { name = a.blank.name; parts = a.blank.parts }
