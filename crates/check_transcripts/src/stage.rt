@@ -53,6 +53,7 @@ fn replies(
 }
 
 impl Stage {
+    /// No core, no tree, no event.
     pub fn new(alloc: Global) -> Stage {
         Stage {
             core: None,

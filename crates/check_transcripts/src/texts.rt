@@ -171,6 +171,7 @@ fn counts(alloc: Global, script: &Script) -> Result<String> {
 }
 
 impl Text {
+    /// An empty text.
     pub fn new(alloc: Global) -> Text {
         Text {
             bytes: Vec::new(alloc),

@@ -123,6 +123,7 @@ fn node_of(text: &str) -> Result<NodeNo> {
 }
 
 impl Walks {
+    /// A walk to the root, and a fork from it.
     pub fn new() -> Walks {
         Walks {
             walk: Walk::new(0),

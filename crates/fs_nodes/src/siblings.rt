@@ -30,7 +30,8 @@ fn first_of(places: &[Place], dir: usize) -> Option<usize>
 pub fn find_steps(places: &[Place], dir: usize, name: &Name) -> (Option<usize>, usize)
     requires { IsPlaces places.now }
     ensures kid { result.0 ≡ (graph_of_places places.now).kid dir name.now }
-    ensures steps { result.1 ≡ looked name.now (names_of ((graph_of_places places.now).shape dir)) }
+    ensures steps { result.1 ≤ length (names_of ((graph_of_places places.now).shape dir)) }
+    ensures looked { result.1 ≡ looked name.now (names_of ((graph_of_places places.now).shape dir)) }
 {
     let label = Label::new(name.copy());
     let mut steps = 0;

@@ -57,7 +57,7 @@ pub enum NotTaken {
     OutOfMemory(Call),
 }
 
-/// No worker had a session. The jobs are as they were.
+/// No worker was made: no session was had, or no place for its tally and answers. The jobs are as they were.
 #[derive(Clone, Copy, Debug, PartialEq, Eq)]
 pub struct NoWorker;
 
@@ -119,7 +119,7 @@ impl<N: Named> Pool<N> {
 
     /// Has the jobs that wait done on a tree by at most so many workers, each with a session of its own, on a thread of its
     /// own where one can be made. Each takes one job after the other, until none is left or it has no place for an answer.
-    /// The error is that no session was had.
+    /// The error is that no worker was made.
     pub fn run<R: Threads + Wait + Clock + Sync, G: Gate + Sync>(
         &mut self,
         rt: &R,

@@ -35,16 +35,22 @@ pub returns-in-Equal-clause-kid : goal.returns-in-Equal-clause-kid
 returns-in-Equal-clause-kid c = sym (sought_found c.args.places.now c.args.dir c.args.name.now c.loop-next.invariant.low c.in-Some.n c.index-places-n.result (here c.args.places.now c.args.dir c.args.name.now c.loop-next.next c.loop-next.steps c.in-Some.n c.index-places-n.result c.requires c.loop-next.invariant c.in-Some.is c.index-places-n.is) (sym (rw (c.new-label.ensures, c.copy.ensures) at c.cmp.ensures) ∙ c.in-Equal.is))
 
 pub returns-in-Equal-clause-steps : goal.returns-in-Equal-clause-steps
-returns-in-Equal-clause-steps c = here_looked c.args.places.now c.args.dir c.args.name.now c.loop-next.next c.loop-next.steps c.in-Some.n c.index-places-n.result c.requires c.loop-next.invariant c.in-Some.is c.index-places-n.is (ap is_lt (sym (rw (c.new-label.ensures, c.copy.ensures) at c.cmp.ensures) ∙ c.in-Equal.is))
+returns-in-Equal-clause-steps c = here_steps c.args.places.now c.args.dir c.args.name.now c.loop-next.next c.loop-next.steps c.in-Some.n c.index-places-n.result c.requires c.loop-next.invariant c.in-Some.is c.index-places-n.is
+
+pub returns-in-Equal-clause-looked : goal.returns-in-Equal-clause-looked
+returns-in-Equal-clause-looked c = here_looked c.args.places.now c.args.dir c.args.name.now c.loop-next.next c.loop-next.steps c.in-Some.n c.index-places-n.result c.requires c.loop-next.invariant c.in-Some.is c.index-places-n.is (ap is_lt (sym (rw (c.new-label.ensures, c.copy.ensures) at c.cmp.ensures) ∙ c.in-Equal.is))
 
 pub returns-in-Greater-clause-kid : goal.returns-in-Greater-clause-kid
 returns-in-Greater-clause-kid c = sym (sought_past c.args.places.now c.args.dir c.args.name.now c.loop-next.invariant.low c.in-Some.n c.index-places-n.result c.requires (here c.args.places.now c.args.dir c.args.name.now c.loop-next.next c.loop-next.steps c.in-Some.n c.index-places-n.result c.requires c.loop-next.invariant c.in-Some.is c.index-places-n.is) c.loop-next.invariant.below (sym (rw (c.new-label.ensures, c.copy.ensures) at c.cmp.ensures) ∙ c.in-Greater.is))
 
 pub returns-in-Greater-clause-steps : goal.returns-in-Greater-clause-steps
-returns-in-Greater-clause-steps c = here_looked c.args.places.now c.args.dir c.args.name.now c.loop-next.next c.loop-next.steps c.in-Some.n c.index-places-n.result c.requires c.loop-next.invariant c.in-Some.is c.index-places-n.is (ap is_lt (sym (rw (c.new-label.ensures, c.copy.ensures) at c.cmp.ensures) ∙ c.in-Greater.is))
+returns-in-Greater-clause-steps c = here_steps c.args.places.now c.args.dir c.args.name.now c.loop-next.next c.loop-next.steps c.in-Some.n c.index-places-n.result c.requires c.loop-next.invariant c.in-Some.is c.index-places-n.is
+
+pub returns-in-Greater-clause-looked : goal.returns-in-Greater-clause-looked
+returns-in-Greater-clause-looked c = here_looked c.args.places.now c.args.dir c.args.name.now c.loop-next.next c.loop-next.steps c.in-Some.n c.index-places-n.result c.requires c.loop-next.invariant c.in-Some.is c.index-places-n.is (ap is_lt (sym (rw (c.new-label.ensures, c.copy.ensures) at c.cmp.ensures) ∙ c.in-Greater.is))
 
 pub returns-clause-kid : goal.returns-clause-kid
 returns-clause-kid c = sym (sought_end c.args.places.now c.args.dir c.args.name.now c.loop-next.invariant.low c.requires c.loop-next.invariant.below (sym c.loop-next.invariant.next_is ∙ c.in_default.is))
 
-pub returns-clause-steps : goal.returns-clause-steps
-returns-clause-steps c = end_looked c.args.places.now c.args.dir c.args.name.now c.loop-next.next c.loop-next.steps c.requires c.loop-next.invariant c.in_default.is
+pub returns-clause-looked : goal.returns-clause-looked
+returns-clause-looked c = end_looked c.args.places.now c.args.dir c.args.name.now c.loop-next.next c.loop-next.steps c.requires c.loop-next.invariant c.in_default.is
