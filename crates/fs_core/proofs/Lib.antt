@@ -8,3 +8,4 @@ pub mod Choosing
 pub mod Doing
 pub mod Readiness
 pub mod Happening
+pub mod Indexing

@@ -12,10 +12,10 @@ ghost use Rattle.fs_core.specs.declared.outcome.Refusal.TheVariants as refusals;
 
 use crate::outcome::Refusal;
 use fs_calls::Call;
+use fs_index::IndexedTimeline;
 use fs_locks::Holders;
 use fs_nodes::{NoNode, NodeNo, Store};
 use fs_ops::Op;
-use fs_timeline::Timeline;
 use std::alloc::{AllocError, Global};
 
 /// How many entries a call appends: it begins, commits and returns.
@@ -51,7 +51,7 @@ fn make_places(
     call: &Call,
     reserved: Option<NodeNo>,
     holders: &mut Holders,
-    timeline: &mut Timeline,
+    timeline: &mut IndexedTimeline,
     begun: u64,
 ) -> Result<(u64, Call), AllocError>
     ensures number { IfOk result (λ places. places.0 ≡ begun + 1) }
@@ -82,7 +82,7 @@ pub fn make_ready(
     call: &Call,
     store: &mut Store,
     holders: &mut Holders,
-    timeline: &mut Timeline,
+    timeline: &mut IndexedTimeline,
     begun: u64,
 ) -> Result<Ready, Refusal>
     requires graph { IsGraph (graph_of store.old) }

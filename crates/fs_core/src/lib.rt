@@ -11,6 +11,7 @@
 #![tactic(auto)]
 
 mod beginning;
+mod commits;
 mod events;
 mod finding;
 mod helping;

@@ -22,6 +22,7 @@ use crate::helping::to_help;
 use crate::outcome::{Refusal, Stepped};
 use crate::seat::{self, Running};
 use fs_calls::Call;
+use fs_index::IndexedTimeline;
 use fs_locks::{HeldBy, Holders};
 use fs_names::{CallNo, NODE_LIMIT, Path, SeatNo};
 use fs_nodes::{NodeNo, Store};
@@ -38,7 +39,7 @@ pub struct Core {
     seats: Vec<Option<Running>>,
     begun: u64,
     commits: u64,
-    timeline: Timeline,
+    timeline: IndexedTimeline,
 }
 
 impl Model for Core {
@@ -220,7 +221,7 @@ impl Core {
             seats: Vec::new(alloc),
             begun: 0,
             commits: 0,
-            timeline: Timeline::new(alloc),
+            timeline: IndexedTimeline::new(alloc),
         })
     }
 
@@ -294,6 +295,13 @@ impl Core {
         self.timeline.entries()
     }
 
+    /// What has happened so far, with the index of its commits.
+    pub(crate) fn index(&self) -> &IndexedTimeline
+        ensures { result.now.entries ≡ self.now.timeline }
+    {
+        &self.timeline
+    }
+
     /// The call that holds a node.
     pub fn holder(&self, node: NodeNo) -> Option<CallNo>
         ensures { result ≡ (state_of self.now).holder node }
@@ -333,7 +341,7 @@ impl Core {
             store,
             ..
         } = self;
-        (timeline, store)
+        (timeline.into_timeline(), store)
     }
 
     /// What every state keeps, told to a caller: a run leads to it, its timeline is lawful, and where no call is under

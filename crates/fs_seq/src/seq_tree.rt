@@ -4,6 +4,7 @@ ghost use Rattle.std.specs.Prelude.{◌≡◌, IfOk, OnOk, OnErr, IsTrue};
 ghost use Rattle.fs_calls.specs.Tree.{root_tree};
 ghost use Rattle.fs_calls.specs.Outcomes.{reply, after};
 ghost use Rattle.fs_seq.specs.Memory.{needs_memory};
+ghost use Rattle.fs_seq.specs.Looks.{is_look};
 
 use crate::nodes::Node;
 use crate::{create, queries, remove, rename, write};
@@ -58,11 +59,24 @@ impl SeqTree {
             Call::Unlink(path) => Ok(self.unlink(path)),
             Call::Rmdir(path) => Ok(self.rmdir(path)),
             Call::Rename(from, to) => self.rename(from, to),
+            Call::Stat(_) | Call::Readdir(_) | Call::Read(_, _, _) => self.look(alloc, call),
+            Call::Write(path, off, bytes) => self.write(path, *off, bytes.as_slice()),
+            Call::Truncate(path, size) => self.truncate(path, *size),
+        }
+    }
+
+    /// The reply of a call that changes nothing: a stat, a readdir or a read. It is the reply that `apply` gives; a call
+    /// that needs to allocate nothing never fails for want of memory.
+    pub fn look(&self, alloc: Global, call: &Call) -> Result<Reply, AllocError>
+        requires { IsTrue (is_look call.now) }
+        ensures reply { IfOk result (λ r. r ≡ reply self.now call.now) }
+        ensures memory { OnErr result (IsTrue (needs_memory self.now call.now)) }
+    {
+        match call {
             Call::Stat(path) => Ok(self.stat(path)),
             Call::Readdir(path) => self.readdir(alloc, path),
             Call::Read(path, off, count) => self.read(alloc, path, *off, *count),
-            Call::Write(path, off, bytes) => self.write(path, *off, bytes.as_slice()),
-            Call::Truncate(path, size) => self.truncate(path, *size),
+            _ => unreachable!(),
         }
     }
 

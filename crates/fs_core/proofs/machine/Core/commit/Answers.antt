@@ -1,6 +1,7 @@
-use Rattle.std.proofs.Common.{◌+◌, ap}
+use Rattle.std.proofs.Common.{◌+◌, ap, refl}
 use Rattle.fs_nodes.specs.Seen.{Seen}
 use Rattle.fs_core.proofs.Doing.{finish_can, committed_kept, moving_place, finish_fits, fits_below}
+use Rattle.fs_core.proofs.Indexing.{commit_next}
 use Rattle.fs_core.proofs.machine.Core.commit.Goals as goal
 
 pub carry_out-requires-clause-can : goal.carry_out-requires-clause-can
@@ -11,8 +12,14 @@ overflow_add-self c =
     let fits = finish_fits _ _ _ _ c.args.seat c.args.call c.args.moved c.self.invariant (rw (← c.self.view_is) at c.requires.moves) (rw (← c.self.view_is) at c.requires.walking) in
     fits_below c.self.inside.begun (c.self.inside.commits + 1) fits c.self.ranges.1.1.1.0.1
 
-pub push-requires : goal.push-requires
-push-requires c = moving_place _ _ _ _ c.args.seat c.args.call _ c.self.invariant (rw (← c.self.view_is) at c.requires.moves)
+pub push-requires-clause-place : goal.push-requires-clause-place
+push-requires-clause-place c = moving_place _ _ _ _ c.args.seat c.args.call _ c.self.invariant (rw (← c.self.view_is) at c.requires.moves)
+
+pub push-requires-clause-fits : goal.push-requires-clause-fits
+push-requires-clause-fits c =
+    commit_next _ _ _ _ c.self.inside.timeline.entries c.args.call refl
+    (committed_kept _ _ _ _ c.args.seat c.args.call c.args.moved c.self.invariant (rw (← c.self.view_is) at c.requires.moves) (rw (← c.self.view_is) at c.requires.walking) (rw (← c.self.view_is) at c.requires.alone)
+    c.carry_out.new.store c.index_mut.result.now c.carry_out.new.slot c.carry_out.ensures.graph (ap (λ (s : Seen). s.limit) c.carry_out.ensures.rest) c.index_mut.ensures.value c.carry_out.ensures.slot).1
 
 pub invariant_of-self : goal.invariant_of-self
 invariant_of-self c = rw c.push.ensures

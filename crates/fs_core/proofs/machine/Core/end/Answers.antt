@@ -12,8 +12,8 @@ end-reply-requires-clause-fixed c = end_fixed _ c.args.seat c.args.call c.index_
 pub end-reply-requires-clause-spare : goal.end-reply-requires-clause-spare
 end-reply-requires-clause-spare c = end_spare _ _ _ _ c.args.seat c.args.call c.index_mut.result.now c.take_out-running.result c.self.invariant (rw (← c.self.view_is) at c.requires.moves) c.index_mut.ensures.value c.take_out-running.ensures.running
 
-pub push-requires : goal.push-requires
-push-requires c = moving_place _ _ _ _ c.args.seat c.args.call _ c.self.invariant (rw (← c.self.view_is) at c.requires.moves)
+pub push-requires-clause-place : goal.push-requires-clause-place
+push-requires-clause-place c = moving_place _ _ _ _ c.args.seat c.args.call _ c.self.invariant (rw (← c.self.view_is) at c.requires.moves)
 
 pub invariant_of-self : goal.invariant_of-self
 invariant_of-self c = rw c.push.ensures

@@ -1,14 +1,20 @@
-use Rattle.std.proofs.Common.{ap, sym, ◌∙◌, refl}
-use Rattle.fs_calls.specs.Outcomes.{after}
+use Rattle.std.proofs.Common.{◌≡◌, ap, sym, ◌∙◌, refl, ◌⊎◌, ⊎_elim, ℕ}
+use Rattle.fs_names.specs.Keys.{Key}
+use Rattle.fs_calls.specs.Tree.{Tree}
+use Rattle.fs_calls.specs.Outcomes.{after, change}
+use Rattle.fs_calls.specs.declared.call.Call.{Call}
 use Rattle.fs_calls.specs.declared.call.Call.TheVariants.{Stat, Readdir, Read}
 use Rattle.fs_seq.proofs.Replies.{leaves, on_ok}
 use Rattle.fs_seq.proofs.seq_tree.SeqTree.apply.Goals as goal
 
+asked : (t : Tree) (call look : Call) → call ≡ look → change t look ≡ t → after t call ≡ t
+asked t call look is same = ap (after t) is ∙ leaves t look same
+
+looked : (t : Tree) (call : Call) → ((p : Key) × (call ≡ Stat p)) ⊎ (((p : Key) × (call ≡ Readdir p)) ⊎ ((p : Key) × (off : ℕ) × (count : ℕ) × (call ≡ Read p off count))) → after t call ≡ t
+looked t call h =
+    ⊎_elim (λ s. asked t call (Stat s.0) s.1 refl)
+    (λ o. ⊎_elim (λ s. asked t call (Readdir s.0) s.1 refl) (λ s. asked t call (Read s.0 s.1 s.2) s.3 refl) o)
+    h
+
 pub returns-in-Stat-clause-tree : goal.returns-in-Stat-clause-tree
-returns-in-Stat-clause-tree c = sym (ap (after c.args.self.now) c.in-Stat.is ∙ leaves c.args.self.now (Stat c.in-Stat.path) refl)
-
-pub returns-in-Readdir-clause-tree : goal.returns-in-Readdir-clause-tree
-returns-in-Readdir-clause-tree c = on_ok c.readdir.result (sym (ap (after c.args.self.now) c.in-Readdir.is ∙ leaves c.args.self.now (Readdir c.in-Readdir.path) refl))
-
-pub returns-in-Read-clause-tree : goal.returns-in-Read-clause-tree
-returns-in-Read-clause-tree c = on_ok c.read.result (sym (ap (after c.args.self.now) c.in-Read.is ∙ leaves c.args.self.now (Read c.in-Read.path c.in-Read.off c.in-Read.count) refl))
+returns-in-Stat-clause-tree c = on_ok c.look.result (sym (looked c.args.self.now c.args.call.now c.in-Stat.is))

@@ -1,0 +1,33 @@
+//! Who committed, in which order, and where a call's commit stands.
+
+ghost use Rattle.std.specs.Prelude.{◌≡◌, ◌<◌, Some, length, slice_get};
+ghost use Rattle.fs_timeline.specs.Timeline.{commits};
+ghost use Rattle.fs_index.specs.Index.{place_of};
+
+use crate::machine::Core;
+use fs_calls::Call;
+use fs_names::CallNo;
+
+impl Core {
+    /// How many calls have committed.
+    pub fn commits(&self) -> usize
+        ensures { result ≡ length (commits self.now.timeline) }
+    {
+        self.index().commits()
+    }
+
+    /// The call that committed after so many others.
+    pub fn committed(&self, i: usize) -> &Call
+        requires { i < length (commits self.now.timeline) }
+        ensures { slice_get (commits self.now.timeline) i ≡ Some result.now }
+    {
+        self.index().committed(i)
+    }
+
+    /// How many commits stand before that of the call of this number; none where it has not committed.
+    pub fn place_of(&self, call: CallNo) -> Option<usize>
+        ensures { result ≡ place_of call self.now.timeline }
+    {
+        self.index().place_of(call)
+    }
+}
