@@ -1,5 +1,5 @@
 -- Threads, lists of calls and words, and the steps of reading a script.
-use Rattle.std.proofs.Common.{◌≡◌, ℕ, ◌+◌, Bool, true, false, not, List, [], ◌∷◌, ◌++◌, length, map, refl, sym, ap, ◌∙◌, position, ◌||◌, arith, get_or, set, Result, Ok, Err}
+use Rattle.std.proofs.Common.{◌≡◌, ℕ, ◌+◌, Bool, true, false, not, List, [], ◌∷◌, ◌++◌, length, map, refl, sym, ap, ◌∙◌, position, ◌||◌, ◌&&◌, codes, arith, get_or, set, Result, Ok, Err}
 use Rattle.std.specs.Prelude.{zero, suc}
 use Rattle.std.specs.List.{list_any, prefix_len}
 use Rattle.std.specs.Str.{bytes_eq}
@@ -7,10 +7,12 @@ use Rattle.std.specs.Prelude.{MatchResult}
 use Rattle.fs_calls.specs.declared.call.Call.{Call}
 use Rattle.fs_text.specs.Lines.{is_passed_over}
 use Rattle.fs_text.specs.Calls.{◌>>=◌}
-use Rattle.fs_text.specs.Journal.{at_line, fault_at}
-use Rattle.fs_text.specs.code.Answers.{Pushes, FailsAs, FailsThere}
-use Rattle.fs_script.specs.Script.{with_call, script_from, step_in_line}
-use Rattle.fs_script.specs.declared.draft.Draft.{Draft}
+use Rattle.fs_text.specs.Journal.{words_of, at_line, fault_at}
+use Rattle.fs_text.specs.code.Answers.{FailsAs, FailsThere}
+use Rattle.fs_script.specs.Limits.{calls_in}
+use Rattle.fs_script.proofs.LimitLemmas.{calls_thread}
+use Rattle.fs_script.specs.Script.{with_call, blocks_from, schedule_from}
+use Rattle.fs_script.specs.code.Drafts.{Pushes, line_in, lines_in}
 use Rattle.fs_script.specs.declared.script.Script.{Script}
 use Rattle.fs_text.specs.declared.fault.ScriptFault.{ScriptFault}
 use Rattle.fs_text.specs.declared.fault.FaultKind.{FaultKind}
@@ -52,49 +54,64 @@ last_set f (x ∷ []) y d (suc n) c len is = absurd (omega arith)
 last_set f (x ∷ z ∷ vs) y d zero c len is = absurd (omega arith)
 last_set f (x ∷ z ∷ vs) y d (suc n) c len is = ap (λ more. f x ∷ more) (last_set f (z ∷ vs) y d n c (omega arith) is)
 
+set_same : {V : Type 0} (f : V → List Call) (vs : List V) (y d : V) (n : ℕ) → f y ≡ f (get_or vs n d) → map f (set vs n y) ≡ map f vs
+set_same f [] y d n is = refl
+set_same f (x ∷ vs) y d zero is = ap (λ z. z ∷ map f vs) is
+set_same f (x ∷ vs) y d (suc n) is = ap (λ more. f x ∷ more) (set_same f vs y d n is)
+
 -- a call was added to the last list, or an allocation failed
 pub call_pushed : {V : Type 0} (f : V → List Call) (r : Result (Unit {0}) FaultKind) (vs : List V) (lists : List (List Call)) (old new d : V) (n : ℕ) (c : Call) → n + 1 ≡ length vs → map f vs ≡ lists → old ≡ get_or vs n d → Pushes r (f old) (f new) c
-    → MatchResult r (λ u. map f (set vs n new) ≡ with_call c lists) (λ k. k ≡ kind.OutOfMemory)
+    → MatchResult r (λ u. map f (set vs n new) ≡ with_call c lists) (λ k. (k ≡ kind.OutOfMemory) × (map f (set vs n new) ≡ lists))
 call_pushed f (Ok u) vs lists old new d n c len view at h = last_set f vs new d n c len (h ∙ ap (λ v. f v ++ c ∷ []) at) ∙ ap (with_call c) view
-call_pushed f (Err k) vs lists old new d n c len view at h = h
+call_pushed f (Err k) vs lists old new d n c len view at h = (h.0, set_same f vs new d n (h.1 ∙ ap f at) ∙ view)
+
+-- a list without calls was added, or an allocation failed
+pub list_pushed : (r : Result (Unit {0}) FaultKind) (old new : List (List Call)) → Pushes r old new [] → calls_in new ≡ calls_in old
+list_pushed (Ok u) old new h = ap calls_in h ∙ calls_thread old
+list_pushed (Err k) old new h = ap calls_in h.1
 
 -- ---- lines, one after the other
 
-step_passed : (n : ℕ) (s : Draft) (line : List ℕ) (more : List (List ℕ)) → is_passed_over line ≡ true → script_from n s (line ∷ more) ≡ script_from (n + 1) s more
-unfolding script_from
-step_passed n s line more p = cond-true _ _ _ p
+step_passed : (b : Bool) (n : ℕ) (s : Script) (line : List ℕ) (more : List (List ℕ)) → is_passed_over line ≡ true → lines_in b n s (line ∷ more) ≡ lines_in b (n + 1) s more
+unfolding blocks_from schedule_from
+step_passed true n s line more p = cond-true _ _ _ p
+step_passed false n s line more p = cond-true _ _ _ p
 
-step_taken : (n : ℕ) (s t : Draft) (line : List ℕ) (more : List (List ℕ)) → is_passed_over line ≡ false → step_in_line s line ≡ Ok t → script_from n s (line ∷ more) ≡ script_from (n + 1) t more
-unfolding script_from
-step_taken n s t line more p h = cond-false _ _ _ p ∙ ap (λ r. at_line n r >>= λ u. script_from (n + 1) u more) h
+step_begun : (b : Bool) (n : ℕ) (s : Script) (line : List ℕ) (more : List (List ℕ)) → is_passed_over line ≡ false → not b && bytes_eq line (codes "schedule") ≡ true → lines_in b n s (line ∷ more) ≡ lines_in true (n + 1) s more
+unfolding blocks_from
+step_begun true n s line more p h = absurd (let z : ◌≡◌ {A = Bool} false true = h in cc)
+step_begun false n s line more p h = cond-false _ _ _ p ∙ cond-true _ _ _ h
 
-step_failed : (n : ℕ) (s : Draft) (line : List ℕ) (more : List (List ℕ)) (k : FaultKind) → is_passed_over line ≡ false → step_in_line s line ≡ Err k → script_from n s (line ∷ more) ≡ Err (fault_at n k)
-unfolding script_from
-step_failed n s line more k p h = cond-false _ _ _ p ∙ ap (λ r. at_line n r >>= λ u. script_from (n + 1) u more) h
-
-step_none : (n : ℕ) (s : Draft) → s.in_schedule ≡ false → script_from n s [] ≡ Err (fault_at n kind.NoSchedule)
-unfolding script_from
-step_none n s h = cond-false _ _ _ h
-
-step_done : (n : ℕ) (s : Draft) → s.in_schedule ≡ true → script_from n s [] ≡ Ok s.script
-unfolding script_from
-step_done n s h = cond-true _ _ _ h
+step_told : (b : Bool) (n : ℕ) (s : Script) (line : List ℕ) (more : List (List ℕ)) → is_passed_over line ≡ false → not b && bytes_eq line (codes "schedule") ≡ false → lines_in b n s (line ∷ more) ≡ (at_line n (words_of line >>= line_in b s) >>= λ t. lines_in b (n + 1) t more)
+unfolding blocks_from schedule_from
+step_told true n s line more p h = cond-false _ _ _ p
+step_told false n s line more p h = cond-false _ _ _ p ∙ cond-false _ _ _ h
 
 abbrev pub Reading : Type 0
 Reading = Result Script ScriptFault
 
-pub line_passed : (whole : Reading) (n : ℕ) (s : Draft) (lines : List (List ℕ)) (line : List ℕ) (more : List (List ℕ)) → whole ≡ script_from n s lines → lines ≡ line ∷ more → is_passed_over line ≡ true → whole ≡ script_from (n + 1) s more
-line_passed whole n s lines line more h cut p = h ∙ ap (script_from n s) cut ∙ step_passed n s line more p
+pub line_passed : (whole : Reading) (b : Bool) (n : ℕ) (s : Script) (lines : List (List ℕ)) (line : List ℕ) (more : List (List ℕ)) → whole ≡ lines_in b n s lines → lines ≡ line ∷ more → is_passed_over line ≡ true → whole ≡ lines_in b (n + 1) s more
+line_passed whole b n s lines line more h cut p = h ∙ ap (lines_in b n s) cut ∙ step_passed b n s line more p
 
-pub line_taken : (whole : Reading) (n : ℕ) (s t : Draft) (lines : List (List ℕ)) (line : List ℕ) (more : List (List ℕ)) → whole ≡ script_from n s lines → lines ≡ line ∷ more → is_passed_over line ≡ false → step_in_line s line ≡ Ok t → whole ≡ script_from (n + 1) t more
-line_taken whole n s t lines line more h cut p given = h ∙ ap (script_from n s) cut ∙ step_taken n s t line more p given
+pub line_begun : (whole : Reading) (b : Bool) (n : ℕ) (s : Script) (lines : List (List ℕ)) (line : List ℕ) (more : List (List ℕ)) → whole ≡ lines_in b n s lines → lines ≡ line ∷ more → is_passed_over line ≡ false → not b && bytes_eq line (codes "schedule") ≡ true → whole ≡ lines_in true (n + 1) s more
+line_begun whole b n s lines line more h cut p e = h ∙ ap (lines_in b n s) cut ∙ step_begun b n s line more p e
 
-pub line_failed : (whole : Reading) (n : ℕ) (s : Draft) (lines : List (List ℕ)) (line : List ℕ) (more : List (List ℕ)) (k : FaultKind) → whole ≡ script_from n s lines → lines ≡ line ∷ more → is_passed_over line ≡ false → FailsAs k (step_in_line s line) → FailsThere n k whole
-line_failed whole n s lines line more kind.OutOfMemory h cut p given = tt
-line_failed whole n s lines line more k h cut p given = h ∙ ap (script_from n s) cut ∙ step_failed n s line more k p given
+line_told : (whole : Reading) (b : Bool) (n : ℕ) (s : Script) (lines : List (List ℕ)) (line : List ℕ) (more : List (List ℕ)) → whole ≡ lines_in b n s lines → lines ≡ line ∷ more → is_passed_over line ≡ false → not b && bytes_eq line (codes "schedule") ≡ false → whole ≡ (at_line n (words_of line >>= line_in b s) >>= λ t. lines_in b (n + 1) t more)
+line_told whole b n s lines line more h cut p e = h ∙ ap (lines_in b n s) cut ∙ step_told b n s line more p e
 
-pub lines_end : (whole : Reading) (n : ℕ) (s : Draft) (lines : List (List ℕ)) → whole ≡ script_from n s lines → lines ≡ [] → s.in_schedule ≡ false → whole ≡ Err (fault_at n kind.NoSchedule)
-lines_end whole n s lines h none e = h ∙ ap (script_from n s) none ∙ step_none n s e
+pub line_taken : (whole : Reading) (b : Bool) (n : ℕ) (s t : Script) (lines : List (List ℕ)) (line : List ℕ) (more : List (List ℕ)) → whole ≡ lines_in b n s lines → lines ≡ line ∷ more → is_passed_over line ≡ false → not b && bytes_eq line (codes "schedule") ≡ false → (words_of line >>= line_in b s) ≡ Ok t → whole ≡ lines_in b (n + 1) t more
+line_taken whole b n s t lines line more h cut p e given = line_told whole b n s lines line more h cut p e ∙ ap (λ r. at_line n r >>= λ u. lines_in b (n + 1) u more) given
 
-pub lines_done : (whole : Reading) (n : ℕ) (s : Draft) (lines : List (List ℕ)) → whole ≡ script_from n s lines → lines ≡ [] → s.in_schedule ≡ true → whole ≡ Ok s.script
-lines_done whole n s lines h none e = h ∙ ap (script_from n s) none ∙ step_done n s e
+pub line_failed : (whole : Reading) (b : Bool) (n : ℕ) (s : Script) (lines : List (List ℕ)) (line : List ℕ) (more : List (List ℕ)) (k : FaultKind) → whole ≡ lines_in b n s lines → lines ≡ line ∷ more → is_passed_over line ≡ false → not b && bytes_eq line (codes "schedule") ≡ false → FailsAs k (words_of line >>= line_in b s) → FailsThere n k whole
+line_failed whole b n s lines line more kind.OutOfMemory h cut p e given = tt
+line_failed whole b n s lines line more k h cut p e given = line_told whole b n s lines line more h cut p e ∙ ap (λ r. at_line n r >>= λ u. lines_in b (n + 1) u more) given
+
+pub lines_end : (whole : Reading) (b : Bool) (n : ℕ) (s : Script) (lines : List (List ℕ)) → whole ≡ lines_in b n s lines → lines ≡ [] → b ≡ false → whole ≡ Err (fault_at n kind.NoSchedule)
+unfolding blocks_from
+lines_end whole true n s lines h none e = absurd (let z : ◌≡◌ {A = Bool} true false = e in cc)
+lines_end whole false n s lines h none e = h ∙ ap (blocks_from n s) none
+
+pub lines_done : (whole : Reading) (b : Bool) (n : ℕ) (s : Script) (lines : List (List ℕ)) → whole ≡ lines_in b n s lines → lines ≡ [] → b ≡ true → whole ≡ Ok s
+unfolding schedule_from
+lines_done whole true n s lines h none e = h ∙ ap (schedule_from n s) none
+lines_done whole false n s lines h none e = absurd (let z : ◌≡◌ {A = Bool} false true = e in cc)

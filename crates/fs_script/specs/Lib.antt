@@ -1,5 +1,6 @@
+pub mod Limits
 pub mod Script
 pub mod TreeText
 pub mod Examples
-pub mod Limits
+pub mod Laws
 pub mod code

@@ -13,17 +13,9 @@ use Rattle.fs_text.specs.declared.fault.ScriptFault.{ScriptFault}
 use Rattle.fs_text.specs.declared.fault.FaultKind.{FaultKind}
 use Rattle.fs_text.specs.declared.fault.FaultKind.TheVariants as kind
 use Rattle.fs_script.specs.declared.script.Script.{Script}
+use Rattle.fs_script.specs.declared.script.Word as schedule
 use Rattle.fs_script.specs.declared.script.Word.TheVariants.{Events, Finish}
-use Rattle.fs_script.specs.declared.draft.Draft.{Draft}
-
-abbrev pub nothing_yet : Draft
-nothing_yet = record {
-  script = record { names = []; lists = []; words = [] };
-  calls = 0;
-  given = 0;
-  in_schedule = false;
-  is_over = false;
-}
+use Rattle.fs_script.specs.Limits.{calls_in, events_in}
 
 -- ---- threads
 
@@ -46,7 +38,23 @@ is_thread (b ∷ bs) = is_lower b && (list_all is_thread_byte (b ∷ bs) && (nat
 abbrev pub seat_named : List Word → Word → Option ℕ
 seat_named names name = position (bytes_eq name) names
 
--- ---- one line of a block
+-- ---- a line of blocks
+
+abbrev pub with_thread : Script → Word → Script
+with_thread s name = record s { names = s.names ++ name ∷ []; lists = s.lists ++ [] ∷ [] }
+
+-- a thread more, which has no calls yet
+abbrev pub new_thread : Script → Word → Result Script FaultKind
+new_thread s name =
+    if not (is_thread name) then Err kind.BadThread
+    else (if list_any (bytes_eq name) s.names then Err kind.ThreadTwice
+    else (if nat_le THREAD_LIMIT (length s.names) then Err kind.TooLarge
+    else Ok (with_thread s name)))
+
+-- what stands behind `thread` is one name
+abbrev pub thread_line : Script → List Word → Result Script FaultKind
+thread_line s (name ∷ []) = new_thread s name
+thread_line s _ = Err kind.BadLine
 
 -- the last list with a call more
 abbrev pub with_call : Call → List (List Call) → List (List Call)
@@ -54,92 +62,85 @@ with_call c [] = []
 with_call c (calls ∷ []) = (calls ++ c ∷ []) ∷ []
 with_call c (calls ∷ next ∷ more) = calls ∷ with_call c (next ∷ more)
 
-abbrev pub with_thread : Draft → Word → Draft
-with_thread s name = record s { script = record s.script { names = s.script.names ++ name ∷ []; lists = s.script.lists ++ [] ∷ [] } }
+-- a call more of the last thread
+abbrev pub new_call : Script → Call → Result Script FaultKind
+new_call s c = if nat_le CALL_LIMIT (calls_in s.lists) then Err kind.TooLarge else Ok (record s { lists = with_call c s.lists })
 
-abbrev pub new_thread : Draft → Word → Result Draft FaultKind
-new_thread s name =
-    if not (is_thread name) then Err kind.BadThread
-    else (if list_any (bytes_eq name) s.script.names then Err kind.ThreadTwice
-    else (if nat_le THREAD_LIMIT (length s.script.names) then Err kind.TooLarge
-    else Ok (with_thread s name)))
+-- no call stands before the first thread
+abbrev pub call_line : Script → List Word → Result Script FaultKind
+call_line s words = if length s.lists == 0 then Err kind.BadLine else (call_of words >>= new_call s)
 
-abbrev pub thread_line : Draft → List Word → Result Draft FaultKind
-thread_line s (name ∷ []) = new_thread s name
-thread_line s _ = Err kind.BadLine
-
-abbrev pub schedule_line : Draft → List Word → Result Draft FaultKind
-schedule_line s [] = Ok (record s { in_schedule = true })
-schedule_line s _ = Err kind.BadLine
-
-abbrev pub counted_call : Draft → Call → Result Draft FaultKind
-counted_call s c =
-    if nat_le CALL_LIMIT s.calls then Err kind.TooLarge
-    else Ok (record s { script = record s.script { lists = with_call c s.script.lists }; calls = s.calls + 1 })
-
--- no call stands before the first block
-abbrev pub call_line : Draft → List Word → Result Draft FaultKind
-call_line s words = if length s.script.lists == 0 then Err kind.BadLine else (call_of words >>= counted_call s)
-
-unfoldable pub block_line : Draft → List Word → Result Draft FaultKind
+-- a line of blocks: a thread, or a call of the last thread
+unfoldable pub block_line : Script → List Word → Result Script FaultKind
 block_line s [] = Err kind.BadLine
-block_line s (first ∷ more) =
-    if bytes_eq first (codes "thread") then thread_line s more
-    else (if bytes_eq first (codes "schedule") then schedule_line s more
-    else call_line s (first ∷ more))
+block_line s (first ∷ more) = if bytes_eq first (codes "thread") then thread_line s more else call_line s (first ∷ more)
 
--- ---- one line of schedule words
+-- ---- a line of the schedule
 
-abbrev pub counted_events : Draft → ℕ → ℕ → Result Draft FaultKind
-counted_events s seat times =
-    if nat_lt EVENT_LIMIT (s.given + times) then Err kind.TooLarge
-    else Ok (record s { script = record s.script { words = s.script.words ++ Events seat times ∷ [] }; given = s.given + times })
+abbrev pub with_word : Script → schedule.Word → Script
+with_word s word = record s { words = s.words ++ word ∷ [] }
 
--- so many events of a thread, where both are there and the number is in its range
-abbrev pub events_word : Draft → Option ℕ → Option ℕ → Result Draft FaultKind
-events_word s (Some seat) (Some times) = if nat_le 1 times && nat_le times EVENT_LIMIT then counted_events s seat times else Err kind.BadWord
+-- so many events more, of the thread with this seat
+abbrev pub new_events : Script → ℕ → ℕ → Result Script FaultKind
+new_events s seat times = if nat_lt EVENT_LIMIT (events_in s.words + times) then Err kind.TooLarge else Ok (with_word s (Events seat times))
+
+-- the thread has to be there, and the number from 1 to its limit
+abbrev pub events_word : Script → Option ℕ → Option ℕ → Result Script FaultKind
+events_word s (Some seat) (Some times) = if nat_le 1 times && nat_le times EVENT_LIMIT then new_events s seat times else Err kind.BadWord
 events_word s _ _ = Err kind.BadWord
 
 abbrev pub is_star : ℕ → Bool
 is_star b = b == 42
 
 -- a thread alone, or a thread, the first `*` and a number
-abbrev pub timed_word : Draft → Word → Option ℕ → Result Draft FaultKind
-timed_word s word None = events_word s (seat_named s.script.names word) (Some 1)
-timed_word s word (Some at) = events_word s (seat_named s.script.names (take at word)) (number_of (drop (at + 1) word))
+abbrev pub timed_word : Script → Word → Option ℕ → Result Script FaultKind
+timed_word s word None = events_word s (seat_named s.names word) (Some 1)
+timed_word s word (Some at) = events_word s (seat_named s.names (take at word)) (number_of (drop (at + 1) word))
 
--- no word stands behind `finish`
-unfoldable pub schedule_word : Draft → Word → Result Draft FaultKind
+abbrev pub has_finish : List schedule.Word → Bool
+has_finish [] = false
+has_finish (Events seat times ∷ words) = has_finish words
+has_finish (Finish ∷ words) = true
+
+-- a word of the schedule: `finish`, behind which none stands, or events of a thread
+unfoldable pub schedule_word : Script → Word → Result Script FaultKind
 schedule_word s word =
-    if s.is_over then Err kind.BadWord
-    else (if bytes_eq word (codes "finish") then Ok (record s { script = record s.script { words = s.script.words ++ Finish ∷ [] }; is_over = true })
+    if has_finish s.words then Err kind.BadWord
+    else (if bytes_eq word (codes "finish") then Ok (with_word s Finish)
     else timed_word s word (position is_star word))
 
-abbrev pub schedule_words : Draft → List Word → Result Draft FaultKind
-schedule_words s [] = Ok s
-schedule_words s (word ∷ more) = schedule_word s word >>= λ t. schedule_words t more
+-- a line of the schedule: its words, from left to right
+abbrev pub schedule_line : Script → List Word → Result Script FaultKind
+schedule_line s [] = Ok s
+schedule_line s (word ∷ more) = schedule_word s word >>= λ t. schedule_line t more
 
 -- ---- the whole text
 
-abbrev pub line_step : Draft → List Word → Result Draft FaultKind
-line_step s words = if s.in_schedule then schedule_words s words else block_line s words
+-- the lines of the schedule, from this number on
+unfoldable pub schedule_from : ℕ → Script → List (List ℕ) → Result Script ScriptFault
+schedule_from n s [] = Ok s
+schedule_from n s (line ∷ more) =
+    if is_passed_over line then schedule_from (n + 1) s more
+    else (at_line n (words_of line >>= schedule_line s) >>= λ t. schedule_from (n + 1) t more)
 
-abbrev pub step_in_line : Draft → List ℕ → Result Draft FaultKind
-step_in_line s line = words_of line >>= line_step s
-
--- what the lines from this number on make of the script so far
-unfoldable pub script_from : ℕ → Draft → List (List ℕ) → Result Script ScriptFault
-script_from n s [] = if s.in_schedule then Ok s.script else Err (fault_at n kind.NoSchedule)
-script_from n s (line ∷ more) =
-    if is_passed_over line then script_from (n + 1) s more
-    else (at_line n (step_in_line s line) >>= λ t. script_from (n + 1) t more)
+-- the lines of blocks, from this number on, up to the line `schedule`
+unfoldable pub blocks_from : ℕ → Script → List (List ℕ) → Result Script ScriptFault
+blocks_from n s [] = Err (fault_at n kind.NoSchedule)
+blocks_from n s (line ∷ more) =
+    if is_passed_over line then blocks_from (n + 1) s more
+    else (if bytes_eq line (codes "schedule") then schedule_from (n + 1) s more
+    else (at_line n (words_of line >>= block_line s) >>= λ t. blocks_from (n + 1) t more))
 
 abbrev pub script_header : List ℕ
 script_header = codes "atomfs 1"
+
+-- the script without a thread
+abbrev pub nothing_yet : Script
+nothing_yet = record { names = []; lists = []; words = [] }
 
 -- what reading a script text gives
 unfoldable pub script_of : List ℕ → Result Script ScriptFault
 script_of text =
     if nat_lt TEXT_LIMIT (length text) then Err (fault_at 1 kind.TooLarge)
-    else (if first_is script_header (lines_of text) then script_from 2 nothing_yet (behind_first (lines_of text))
+    else (if first_is script_header (lines_of text) then blocks_from 2 nothing_yet (behind_first (lines_of text))
     else Err (fault_at 1 kind.BadHeader))

@@ -1,8 +1,11 @@
 //! A script while its lines are read.
 
-ghost use Rattle.std.specs.Prelude.{◌≡◌, ◌<◌, length, map, position, MatchOption, true, false};
+ghost use Rattle.std.specs.Prelude.{Ok, ◌≡◌, ◌<◌, length, map, position, MatchOption, true, false};
 ghost use Rattle.std.specs.List.{list_all};
-ghost use Rattle.fs_script.specs.Script.{nothing_yet, is_lower, is_thread_byte, is_thread, is_star, new_thread, thread_line, schedule_line, counted_call, call_line, block_line, counted_events, events_word, schedule_word, schedule_words, line_step, step_in_line};
+ghost use Rattle.fs_script.specs.Limits.{calls_in, events_in};
+ghost use Rattle.fs_script.specs.Script.{nothing_yet, is_lower, is_thread_byte, is_thread, is_star, new_thread, thread_line, new_call, call_line, block_line, new_events, events_word, with_word, has_finish, schedule_word, schedule_line};
+ghost use Rattle.fs_script.specs.declared.script.Word.TheVariants.{Finish};
+ghost use Rattle.fs_script.specs.code.Drafts.{line_in, step_in};
 ghost use Rattle.fs_text.specs.code.Answers.{Becomes};
 
 use crate::limits::{CALL_LIMIT, EVENT_LIMIT, THREAD_LIMIT, THREAD_NAME_LIMIT};
@@ -14,14 +17,16 @@ use fs_text::lines::cut_words;
 use fs_text::words::{number_of, parts};
 use std::alloc::Global;
 
-/// The script so far, with what its limits count, and where the text stands.
+/// The script so far, with what the next line would have to count anew.
 #[derive(Drop)]
 pub(crate) struct Draft {
     pub(crate) script: Script,
-    pub(crate) calls: usize,
-    pub(crate) given: u64,
-    pub(crate) in_schedule: bool,
-    pub(crate) is_over: bool,
+    calls: usize,
+    given: u64,
+    is_over: bool,
+    ghost calls_counted: { calls ≡ calls_in script.lists },
+    ghost events_counted: { given ≡ events_in script.words },
+    ghost finish_seen: { is_over ≡ has_finish script.words },
 }
 
 fn is_lower(byte: u8) -> bool
@@ -65,7 +70,7 @@ fn star_in(word: &[u8]) -> Option<usize>
 
 impl Draft {
     pub(crate) fn new(alloc: Global) -> Draft
-        ensures { result ≡ nothing_yet }
+        ensures { result.script ≡ nothing_yet }
     {
         Draft {
             script: Script {
@@ -75,31 +80,32 @@ impl Draft {
             },
             calls: 0,
             given: 0,
-            in_schedule: false,
             is_over: false,
         }
     }
 
+    #[tactic(auto, using(crate::proofs::ScriptLemmas::list_pushed))]
     fn take_thread(&mut self, alloc: Global, name: &[u8]) -> Result<(), FaultKind>
-        ensures { Becomes result self.new (new_thread self.old name.now) }
+        ensures { Becomes result self.new.script (new_thread self.old.script name.now) }
     {
+        let Draft { script, .. } = self;
         if !is_thread(name) {
             return Err(FaultKind::BadThread);
         }
-        if self.script.names.contains(name) {
+        if script.names.contains(name) {
             return Err(FaultKind::ThreadTwice);
         }
-        if self.script.names.len() >= THREAD_LIMIT {
+        if script.names.len() >= THREAD_LIMIT {
             return Err(FaultKind::TooLarge);
         }
-        if let Err(kind) = self.script.names.push(alloc, name) {
+        if let Err(kind) = script.names.push(alloc, name) {
             return Err(kind);
         }
-        self.script.lists.push_list(alloc)
+        script.lists.push_list(alloc)
     }
 
     fn take_thread_line(&mut self, alloc: Global, words: &[&[u8]]) -> Result<(), FaultKind>
-        ensures { Becomes result self.new (thread_line self.old (map (λ w. w.now) words.now)) }
+        ensures { Becomes result self.new.script (thread_line self.old.script (map (λ w. w.now) words.now)) }
     {
         match words {
             [name] => self.take_thread(alloc, name),
@@ -107,31 +113,24 @@ impl Draft {
         }
     }
 
-    fn take_schedule_line(&mut self, words: &[&[u8]]) -> Result<(), FaultKind>
-        ensures { Becomes result self.new (schedule_line self.old (map (λ w. w.now) words.now)) }
-    {
-        match words {
-            [] => {
-                self.in_schedule = true;
-                Ok(())
-            }
-            _ => Err(FaultKind::BadLine),
-        }
-    }
-
+    #[tactic(auto, using(crate::proofs::LimitLemmas::calls_more))]
     fn push_call(&mut self, call: Call) -> Result<(), FaultKind>
         requires { 0 < length self.old.script.lists }
-        ensures { Becomes result self.new (counted_call self.old call) }
+        ensures { Becomes result self.new.script (new_call self.old.script call) }
     {
-        if self.calls >= CALL_LIMIT {
+        let Draft { script, calls, .. } = self;
+        if *calls >= CALL_LIMIT {
             return Err(FaultKind::TooLarge);
         }
-        self.calls += 1;
-        self.script.lists.push_call(call)
+        if let Err(kind) = script.lists.push_call(call) {
+            return Err(kind);
+        }
+        *calls += 1;
+        Ok(())
     }
 
     fn take_call_line(&mut self, alloc: Global, words: &[&[u8]]) -> Result<(), FaultKind>
-        ensures { Becomes result self.new (call_line self.old (map (λ w. w.now) words.now)) }
+        ensures { Becomes result self.new.script (call_line self.old.script (map (λ w. w.now) words.now)) }
     {
         if self.script.lists.is_empty() {
             return Err(FaultKind::BadLine);
@@ -144,7 +143,7 @@ impl Draft {
 
     #[tactic(auto, unfolding(crate::specs::Script::block_line))]
     fn take_block_line(&mut self, alloc: Global, words: &[&[u8]]) -> Result<(), FaultKind>
-        ensures { Becomes result self.new (block_line self.old (map (λ w. w.now) words.now)) }
+        ensures { Becomes result self.new.script (block_line self.old.script (map (λ w. w.now) words.now)) }
     {
         let [first, more @ ..] = words else {
             return Err(FaultKind::BadLine);
@@ -152,26 +151,27 @@ impl Draft {
         if *first == b"thread".as_slice() {
             return self.take_thread_line(alloc, more);
         }
-        if *first == b"schedule".as_slice() {
-            return self.take_schedule_line(more);
-        }
         self.take_call_line(alloc, words)
     }
 
+    #[tactic(auto, using(crate::proofs::LimitLemmas::events_more, crate::proofs::LimitLemmas::unfinished_more))]
     fn push_events(&mut self, seat: usize, times: u64) -> Result<(), FaultKind>
-        ensures { Becomes result self.new (counted_events self.old seat times) }
+        ensures { Becomes result self.new.script (new_events self.old.script seat times) }
     {
-        match self.given.checked_add(times) {
-            Some(given) if given <= EVENT_LIMIT => {
-                self.given = given;
-                self.script.words.push(Word::Events(seat, times))
-            }
-            _ => Err(FaultKind::TooLarge),
+        let Draft { script, given, .. } = self;
+        let sum = match given.checked_add(times) {
+            Some(sum) if sum <= EVENT_LIMIT => sum,
+            _ => return Err(FaultKind::TooLarge),
+        };
+        if let Err(kind) = script.words.push(Word::Events(seat, times)) {
+            return Err(kind);
         }
+        *given = sum;
+        Ok(())
     }
 
     fn take_events(&mut self, seat: Option<usize>, times: Option<u64>) -> Result<(), FaultKind>
-        ensures { Becomes result self.new (events_word self.old seat times) }
+        ensures { Becomes result self.new.script (events_word self.old.script seat times) }
     {
         match (seat, times) {
             (Some(seat), Some(times)) if 1 <= times && times <= EVENT_LIMIT => {
@@ -181,16 +181,31 @@ impl Draft {
         }
     }
 
+    #[tactic(auto, using(crate::proofs::LimitLemmas::events_finish, crate::proofs::LimitLemmas::finished))]
+    fn push_finish(&mut self) -> Result<(), FaultKind>
+        ensures { Becomes result self.new.script (Ok (with_word self.old.script Finish)) }
+    {
+        let Draft {
+            script,
+            is_over,
+            ..
+        } = self;
+        if let Err(kind) = script.words.push(Word::Finish) {
+            return Err(kind);
+        }
+        *is_over = true;
+        Ok(())
+    }
+
     #[tactic(auto, unfolding(crate::specs::Script::schedule_word))]
     fn take_word(&mut self, word: &[u8]) -> Result<(), FaultKind>
-        ensures { Becomes result self.new (schedule_word self.old word.now) }
+        ensures { Becomes result self.new.script (schedule_word self.old.script word.now) }
     {
         if self.is_over {
             return Err(FaultKind::BadWord);
         }
         if word == b"finish".as_slice() {
-            self.is_over = true;
-            return self.script.words.push(Word::Finish);
+            return self.push_finish();
         }
         match star_in(word) {
             Some(at) => {
@@ -205,8 +220,8 @@ impl Draft {
         }
     }
 
-    fn take_schedule_words(&mut self, words: &[&[u8]]) -> Result<(), FaultKind>
-        ensures { Becomes result self.new (schedule_words self.old (map (λ w. w.now) words.now)) }
+    fn take_schedule_line(&mut self, words: &[&[u8]]) -> Result<(), FaultKind>
+        ensures { Becomes result self.new.script (schedule_line self.old.script (map (λ w. w.now) words.now)) }
     {
         let mut at = 0;
         'words: while at < words.len() {
@@ -218,27 +233,33 @@ impl Draft {
         Ok(())
     }
 
-    fn take_words(&mut self, alloc: Global, words: &[&[u8]]) -> Result<(), FaultKind>
-        ensures { Becomes result self.new (line_step self.old (map (λ w. w.now) words.now)) }
+    fn take_words(
+        &mut self,
+        alloc: Global,
+        in_schedule: bool,
+        words: &[&[u8]],
+    ) -> Result<(), FaultKind>
+        ensures { Becomes result self.new.script (line_in in_schedule self.old.script (map (λ w. w.now) words.now)) }
     {
-        if self.in_schedule {
-            return self.take_schedule_words(words);
+        if in_schedule {
+            return self.take_schedule_line(words);
         }
         self.take_block_line(alloc, words)
     }
 
-    /// Takes a line that is not passed over. `words` lends its memory.
+    /// Takes a line that is not passed over, behind the line `schedule` or before it. `words` lends its memory.
     pub(crate) fn take_line<'a>(
         &mut self,
         alloc: Global,
+        in_schedule: bool,
         line: &'a [u8],
         words: &mut Vec<&'a [u8]>,
     ) -> Result<(), FaultKind>
-        ensures { Becomes result self.new (step_in_line self.old line.now) }
+        ensures { Becomes result self.new.script (step_in in_schedule self.old.script line.now) }
     {
         if let Err(kind) = cut_words(line, words) {
             return Err(kind);
         }
-        self.take_words(alloc, words.as_slice())
+        self.take_words(alloc, in_schedule, words.as_slice())
     }
 }

@@ -1,8 +1,9 @@
 //! Scripts that are read from their text.
 
-ghost use Rattle.std.specs.Prelude.{◌≤◌, length};
+ghost use Rattle.std.specs.Prelude.{◌≡◌, ◌≤◌, length, codes, not, ◌&&◌};
+ghost use Rattle.std.specs.Str.{bytes_eq};
 ghost use Rattle.fs_text.specs.Lines.{lines_of};
-ghost use Rattle.fs_script.specs.Script.{nothing_yet, script_from, script_of};
+ghost use Rattle.fs_script.specs.Script.{nothing_yet, blocks_from, script_of};
 ghost use Rattle.fs_text.specs.code.Answers.{GivesText};
 
 use crate::draft::Draft;
@@ -12,28 +13,42 @@ use fs_text::lines::{cut_line, is_passed_over};
 use fs_text::{FaultKind, ScriptFault};
 use std::alloc::Global;
 
+/// Whether this is the line at which the schedule begins.
+fn begins_schedule(in_schedule: bool, line: &[u8]) -> bool
+    ensures { result ≡ (not in_schedule && bytes_eq line.now (codes "schedule")) }
+{
+    !in_schedule && line == b"schedule".as_slice()
+}
+
 /// The script that lines make, of which the first has the number 2.
 fn script_in(alloc: Global, text: &[u8]) -> Result<Script, ScriptFault>
     requires { length text.now ≤ TEXT_LIMIT }
-    ensures { GivesText (λ script. script) result (script_from 2 nothing_yet (lines_of text.now)) }
+    ensures { GivesText (λ script. script) result (blocks_from 2 nothing_yet (lines_of text.now)) }
 {
     let mut draft = Draft::new(alloc);
     let mut words = Vec::new(alloc);
     let mut rest = text;
     let mut number: u64 = 2;
+    let mut in_schedule = false;
     'lines: while let Some((line, more)) = cut_line(rest) {
         if is_passed_over(line) {
             rest = more;
             number += 1;
             continue;
         }
-        if let Err(kind) = draft.take_line(alloc, line, &mut words) {
+        if begins_schedule(in_schedule, line) {
+            in_schedule = true;
+            rest = more;
+            number += 1;
+            continue;
+        }
+        if let Err(kind) = draft.take_line(alloc, in_schedule, line, &mut words) {
             return Err(ScriptFault { line: number, kind });
         }
         rest = more;
         number += 1;
     }
-    if !draft.in_schedule {
+    if !in_schedule {
         return Err(ScriptFault {
             line: number,
             kind: FaultKind::NoSchedule,

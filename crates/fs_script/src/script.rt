@@ -4,7 +4,7 @@ ghost use Rattle.std.specs.Prelude.{◌≡◌, ◌↔◌, ◌<◌, ◌==◌, [],
 ghost use Rattle.std.specs.List.{list_any};
 ghost use Rattle.std.specs.Str.{bytes_eq};
 ghost use Rattle.fs_script.specs.Script.{seat_named, with_call};
-ghost use Rattle.fs_text.specs.code.Answers.{Pushes};
+ghost use Rattle.fs_script.specs.code.Drafts.{Pushes};
 ghost use Rattle.fs_text.specs.declared.fault.FaultKind.TheVariants as kind;
 
 use fs_calls::Call;
@@ -152,7 +152,7 @@ impl CallLists {
     /// Adds a call to the last list.
     pub(crate) fn push_call(&mut self, call: Call) -> Result<(), FaultKind>
         requires { 0 < length self.old }
-        ensures { MatchResult result (λ _. self.new ≡ with_call call self.old) (λ k. k ≡ kind.OutOfMemory) }
+        ensures { MatchResult result (λ _. self.new ≡ with_call call self.old) (λ k. (k ≡ kind.OutOfMemory) × (self.new ≡ self.old)) }
     {
         let last = self.lists.len() - 1;
         push_last(&mut self.lists[last], call)

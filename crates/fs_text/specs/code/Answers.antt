@@ -45,8 +45,3 @@ path_fault_of f = kind.BadPath f
 -- words with one more, unless that is empty
 abbrev pub pushed_word : List (List ℕ) → List ℕ → Result (List (List ℕ)) FaultKind
 pushed_word words word = if is_empty word then Err kind.BadLine else Ok (words ++ word ∷ [])
-
--- a last item was added, unless an allocation failed
-abbrev pub Pushes : {X : Type 0} → Result (Unit {0}) FaultKind → List X → List X → X → Type 0
-Pushes (Ok u) old new x = new ≡ old ++ x ∷ []
-Pushes (Err k) old new x = k ≡ kind.OutOfMemory
