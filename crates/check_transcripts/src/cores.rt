@@ -169,6 +169,9 @@ fn holder(alloc: Global, core: &Core, node: u64) -> Result<String> {
 /// What a core answers to a question.
 pub fn question(alloc: Global, core: &Core, word: &str, rest: &str) -> Result<String> {
     core.told();
+    core.told_of_helping();
+    core.told_of_progress();
+    core.told_of_numbers();
     match word {
         "find" => find(alloc, core, rest),
         "holder" => holder(alloc, core, number(rest)?),

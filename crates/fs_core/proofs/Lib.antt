@@ -9,3 +9,4 @@ pub mod Doing
 pub mod Readiness
 pub mod Happening
 pub mod Indexing
+pub mod Resting

@@ -1,5 +1,5 @@
 -- What a core is to its callers, and the state of the machine that it is.
-use Rattle.std.specs.Prelude.{ℕ, ◌+◌, eqb, if◌then◌else◌, List, [], ◌∷◌, Option, Some, None, slice_get}
+use Rattle.std.specs.Prelude.{ℕ, ◌≡◌, ◌+◌, eqb, if◌then◌else◌, List, [], ◌∷◌, Option, Some, None, slice_get}
 use Rattle.std.specs.Option.{option_flatten}
 use Rattle.fs_nodes.specs.Places.{Places}
 use Rattle.fs_nodes.specs.Seen.{seen}
@@ -29,6 +29,10 @@ number_of (Some running) = Some running.call
 
 abbrev pub number_on : List (Option Running) → ℕ → Option ℕ
 number_on seats seat = number_of (running_on seats seat)
+
+-- no call is under way: no seat has one
+abbrev pub IsAtRest : Machine → Type 0
+IsAtRest machine = (seat : ℕ) → number_on machine.seats seat ≡ None
 
 -- the record of the call of a number, among those on the seats from one on
 abbrev pub record_from : ℕ → List (Option Running) → ℕ → Option Record

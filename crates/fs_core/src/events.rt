@@ -6,9 +6,8 @@ ghost use Rattle.fs_nodes.specs.Stores.{graph_of};
 ghost use Rattle.fs_calls.specs.Outcomes.{play};
 ghost use Rattle.fs_calls.specs.Shapes.{seen};
 ghost use Rattle.fs_timeline.specs.Timeline.{IsLawful, commits};
-ghost use Rattle.fs_laws.specs.Headline.{IsIdle};
 ghost use Rattle.fs_core.specs.Events.{IsSeated, Happens, IsRefused, IsRun};
-ghost use Rattle.fs_core.specs.Machines.{state_of};
+ghost use Rattle.fs_core.specs.Machines.{state_of, IsAtRest};
 
 use crate::machine::Core;
 use crate::outcome::{Event, Ran, Refusal};
@@ -41,7 +40,7 @@ impl Core {
 
         // The linearization theorem: well formed with lawful replies, and spelled at rest.
         ensures lawful { IsLawful self.new.timeline }
-        ensures spelled { IsIdle (state_of self.new) → spell (graph_of self.new.store) ≡ seen (play (commits self.new.timeline)) }
+        ensures spelled { IsAtRest self.new → spell (graph_of self.new.store) ≡ seen (play (commits self.new.timeline)) }
         ensures seats { length self.new.seats ≡ length self.old.seats }
     {
         for i in 0..events.len() {

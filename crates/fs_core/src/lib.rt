@@ -2,7 +2,8 @@
 //!
 //! `Core::run` carries the theorem, for any list of begins and steps on any seats: the timeline is lawful (`lawful`),
 //! and where no call is under way the nodes spell the tree that its commits play (`spelled`). `Core::told` tells the
-//! same of a core that was driven by `begin` and `step`. A begin allocates all that its call can need, and a refused
+//! same of a core that was driven by `begin` and `step`; `told_of_helping`, `told_of_progress` and `told_of_numbers` tell
+//! what else every core keeps. A begin allocates all that its call can need, and a refused
 //! one changes nothing; a step does one move of the call on a seat, and cannot fail.
 //!
 //! Enter at `Core::new`, `seat`, `begin`, `step` and `timeline`. What a begin and a step do is
@@ -18,6 +19,7 @@ mod helping;
 pub mod machine;
 pub mod outcome;
 mod seat;
+mod telling;
 
 pub use machine::Core;
 pub use outcome::{Event, Ran, Refusal, Stepped};

@@ -9,11 +9,10 @@ ghost use Rattle.fs_nodes.specs.Stores.{graph_of};
 ghost use Rattle.fs_calls.specs.Outcomes.{play};
 ghost use Rattle.fs_calls.specs.Shapes.{seen};
 ghost use Rattle.fs_timeline.specs.Timeline.{IsLawful, commits};
-ghost use Rattle.fs_laws.specs.Headline.{IsIdle};
 ghost use Rattle.fs_laws.specs.States.{Begins, Step, NoneBelow, Run, empty};
 ghost use Rattle.fs_core.specs.Answers.{begun_as, stepped_as};
 ghost use Rattle.fs_core.specs.code.Helping.{HelpsIf};
-ghost use Rattle.fs_core.specs.Machines.{state_of};
+ghost use Rattle.fs_core.specs.Machines.{state_of, IsAtRest};
 ghost use Rattle.fs_core.specs.code.Seats.{MovesOn, PlacedOn};
 
 use crate::beginning::make_ready;
@@ -349,7 +348,7 @@ impl Core {
     pub fn told(&self)
         ensures run { Run (state_of self.now) }
         ensures lawful { IsLawful self.now.timeline }
-        ensures spelled { IsIdle (state_of self.now) → spell (graph_of self.now.store) ≡ seen (play (commits self.now.timeline)) }
+        ensures spelled { IsAtRest self.now → spell (graph_of self.now.store) ≡ seen (play (commits self.now.timeline)) }
     {
         let _ = &self.timeline;
     }

@@ -1,5 +1,5 @@
 -- Who stands below whom, who holds what, and what the placed calls leave, in every state of a run.
-use Rattle.std.specs.Prelude.{ℕ, ◌≡◌, ◌<◌, List, [], ◌∷◌, true, ◌++◌, Option, Some, ◌⊎◌}
+use Rattle.std.specs.Prelude.{ℕ, ◌≡◌, ◌<◌, ◌≤◌, List, [], ◌∷◌, true, ◌++◌, Option, Some, ◌⊎◌, length}
 use Rattle.fs_names.specs.Keys.{Key}
 use Rattle.fs_calls.specs.Outcomes as tree
 use Rattle.fs_calls.specs.Shapes.{seen}
@@ -80,6 +80,12 @@ EachBelow s moved (d ∷ ds) = IsWalkingBelow s moved d × (IsIn d ds → ⊥) �
 pub record HelpsEachOnce (c moved : ℕ) (s : State) (helped : List ℕ) (new : State) : Type 0 where
   pub helps : EachBelow s moved helped
   pub still : (d : ℕ) → IsWalkingBelow new moved d → IsWalkingBelow s moved d × (IsIn d helped → ⊥)
+  -- so there are at most as many helps as calls walked below the node at first
+  pub most : (below : List ℕ) → ((d : ℕ) → IsWalkingBelow s moved d → IsIn d below) → length helped ≤ length below
+
+-- from this state on, whichever rename is about to move which node, for as long as it stays so
+abbrev pub HelpsAreFew : State → Type 0
+HelpsAreFew s = (c moved : ℕ) (new : State) (helped : List ℕ) → Meanwhile c moved s helped new → HelpsEachOnce c moved s helped new
 
 -- a call's place is the number of commits before its own
 pub record HasPlace (es : List Entry) (c i : ℕ) : Type 0 where

@@ -9,14 +9,13 @@ use Rattle.fs_calls.specs.Outcomes as tree
 use Rattle.fs_calls.specs.Shapes.{seen}
 use Rattle.fs_calls.specs.Tree.{Tree, IsTree}
 use Rattle.fs_calls.specs.declared.call.Call.{Call}
-use Rattle.fs_calls.specs.declared.reply.Reply.{Reply}
-use Rattle.fs_laws.specs.Below.{NoWalkingBelow, NoLaterBelow, NobodyBetween, Settles, PlacesAreCounted, NeverWaitsToFinish, Meanwhile, HelpsEachOnce}
+use Rattle.fs_laws.specs.Below.{NoWalkingBelow, NoLaterBelow, NobodyBetween, Settles, PlacesAreCounted, NeverWaitsToFinish, HelpsAreFew}
 use Rattle.fs_laws.specs.Placed.{Standing, Passes, PastAll, rekey_all}
 use Rattle.fs_laws.specs.Progress.{HasStep, WaitsBelow, IsNeverStuck, IsDetermined}
 use Rattle.fs_laws.specs.Work.{TakesWork, AddsWork}
-use Rattle.fs_laws.specs.OneCall.{StepsTo, MeetsTree}
-use Rattle.fs_laws.specs.States.{State, Begun_as, Begins, Run}
-use Rattle.fs_laws.specs.Headline.{IsIdle, Linearizes}
+use Rattle.fs_laws.specs.OneCall.{MeetsTreeAlone}
+use Rattle.fs_laws.specs.States.{State, Run}
+use Rattle.fs_laws.specs.Headline.{Linearizes}
 
 -- a call that finishes goes past all placed calls
 abbrev pub GoesPastAll : Type 0
@@ -58,7 +57,7 @@ FinishNeverWaits = (s : State) → NeverWaitsToFinish s
 
 -- while a rename is about to move a node, no event brings a walking call below it, and each call that it helps is helped once: there are at most as many as walked below the node at first
 abbrev pub HelpsAreBounded : Type 0
-HelpsAreBounded = (c moved : ℕ) (s new : State) (helped : List ℕ) → Run s → Meanwhile c moved s helped new → HelpsEachOnce c moved s helped new
+HelpsAreBounded = (s : State) → Run s → HelpsAreFew s
 
 -- over every run each seat has a step
 abbrev pub EachSeatSteps : Type 0
@@ -82,7 +81,7 @@ BeginsAddWork = (s : State) → Run s → AddsWork s
 
 -- a call that is begun with no other under way, and stepped to its end, replies and changes as the sequential tree says
 abbrev pub CallsMeetTheTree : Type 0
-CallsMeetTheTree = (s first new : State) (seat c : ℕ) (call : Call) (r : Reply) → Run s → IsIdle s → Begins s seat call (Begun_as c) first → StepsTo seat r new first → MeetsTree s call r new
+CallsMeetTheTree = (s : State) → Run s → MeetsTreeAlone s
 
 -- in every state, of a run or not: what a seat's step answers, and the state after it, are determined
 abbrev pub StepsAreDetermined : Type 0

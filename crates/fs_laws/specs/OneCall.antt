@@ -7,7 +7,7 @@ use Rattle.fs_calls.specs.declared.call.Call.{Call}
 use Rattle.fs_calls.specs.declared.reply.Reply.{Reply}
 use Rattle.fs_nodes.specs.Graphs.{spell}
 use Rattle.fs_laws.specs.Headline.{IsIdle}
-use Rattle.fs_laws.specs.States.{State, Stepped, Idle, Took, Busy, LetGo, Helped, Committed, CarriedOut, Returned, Step}
+use Rattle.fs_laws.specs.States.{State, Begun_as, Begins, Stepped, Idle, Took, Busy, LetGo, Helped, Committed, CarriedOut, Returned, Step}
 
 -- an answer that is no return
 abbrev pub IsNoReturn : Stepped → Type 0
@@ -33,3 +33,7 @@ pub record MeetsTree (s : State) (call : Call) (r : Reply) (new : State) : Type 
   pub replied : r ≡ outcomes.reply tree call
   pub after : spell new.graph ≡ seen (outcomes.after tree call)
   pub idle : IsIdle new
+
+-- so it is of each call that begins in this state, where no call is under way
+abbrev pub MeetsTreeAlone : State → Type 0
+MeetsTreeAlone s = (first new : State) (seat c : ℕ) (call : Call) (r : Reply) → IsIdle s → Begins s seat call (Begun_as c) first → StepsTo seat r new first → MeetsTree s call r new

@@ -1,5 +1,5 @@
 -- A finish keeps each number in use, its kind, and the limits of directories and files.
-use Rattle.std.proofs.Common.{◌≡◌, ℕ, ◌+◌, ◌<◌, ◌≤◌, Bool, true, false, cond, not, ◌||◌, List, [], ◌∷◌, ◌++◌, length, Option, Some, None, refl, sym, ap, ap₂, ◌∙◌, append-nil, subst, ◌⊎◌, inl, inr, arith}
+use Rattle.std.proofs.Common.{◌≡◌, ℕ, ◌+◌, ◌<◌, ◌≤◌, Bool, true, false, not, ◌||◌, List, [], ◌∷◌, ◌++◌, length, Option, Some, None, refl, sym, ap, ap₂, ◌∙◌, append-nil, subst, ◌⊎◌, inl, inr, arith}
 use Rattle.std.specs.Prelude.{nat_lt, nat_le}
 use Rattle.std.proofs.lemmas.Bool.Decides.{nat_tests}
 use Rattle.fs_names.specs.Keys.{Key, after_prefix, parent_of, last_of, has_more}
@@ -17,7 +17,7 @@ use Rattle.fs_calls.proofs.RowNames.{on_dir}
 use Rattle.fs_calls.specs.declared.errno.Errno.{Errno}
 use Rattle.fs_calls.specs.declared.errno.Errno.TheVariants.{Efbig}
 use Rattle.fs_calls.specs.declared.reply.Reply.{Reply}
-use Rattle.fs_calls.specs.declared.reply.Reply.TheVariants.{Done, Wrote, Failed}
+use Rattle.fs_calls.specs.declared.reply.Reply.TheVariants.{Done, Wrote}
 use Rattle.fs_nodes.specs.Graphs.{Graph, set_at, entry_shape, IsGraph, at}
 use Rattle.fs_machine.specs.Finishes.{node_effect, entry_effect, move_effect, rename_effect, effect_at, effect_of, finish}
 use Rattle.fs_machine.specs.Moves.{dir_error, path_error, there_by, rename_at, target}

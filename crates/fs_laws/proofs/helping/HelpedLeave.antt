@@ -1,5 +1,5 @@
 -- Who walks below a node that is about to move has walked there before each event, and a helped call does no longer.
-use Rattle.std.proofs.Common.{◌≡◌, ℕ, Bool, true, false, List, [], ◌∷◌, ◌++◌, Option, Some, None, refl, sym, ap, ◌∙◌, append_assoc, append-nil, subst, ◌⊎◌, inl, inr}
+use Rattle.std.proofs.Common.{◌≡◌, ℕ, suc, ◌≤◌, length, arith, Bool, true, false, List, [], ◌∷◌, ◌++◌, Option, Some, None, refl, sym, ap, ◌∙◌, append_assoc, append-nil, subst, ◌⊎◌, inl, inr}
 use Rattle.fs_names.specs.Keys.{Key, last_of}
 use Rattle.fs_names.specs.Names.{Name}
 use Rattle.fs_names.specs.Shapes.{Shape}
@@ -11,7 +11,7 @@ use Rattle.fs_machine.specs.Finishes.{finish}
 use Rattle.fs_machine.specs.Leaving.{is_removed, releasing, let_go, finished_op, unreserved}
 use Rattle.fs_machine.specs.Moves.{Takes, Leaves, Finishes, next, took, target, head_took, took_by}
 use Rattle.fs_machine.specs.Records.{Phase, Walking, Placed, Finished, Holds, Record, Stand, stand_at}
-use Rattle.fs_laws.specs.Below.{StandsAt, IsAboutToMove, Meanwhile, Now, Begins_another, Steps_another, Helps_one, HelpsEachOnce}
+use Rattle.fs_laws.specs.Below.{StandsAt, IsAboutToMove, Meanwhile, Now, Begins_another, Steps_another, Helps_one, EachBelow, HelpsAreFew}
 use Rattle.fs_timeline.specs.Timeline.{commit_count}
 use Rattle.fs_laws.specs.Invariants.{IsIn, Own, Invariant, HeadsFit}
 use Rattle.fs_laws.specs.Stands.{IsAfter, Located}
@@ -270,13 +270,18 @@ run_on c moved s new helped run (Begins_another {helped = _} {old} seat call ans
 run_on c moved s new helped run (Steps_another {helped = _} {old} seat answer _ w n st a) = Stepping seat answer new (run_on c moved s old helped run w) st
 run_on c moved s new (_ ∷ helped) run (Helps_one {helped = _} {old} seat d _ w on st a) = Stepping seat (Helped d) new (run_on c moved s old helped run w) st
 
-pub helps_each_once : (c moved : ℕ) (s new : State) (helped : List ℕ) → Run s → Meanwhile c moved s helped new → HelpsEachOnce c moved s helped new
+-- what is known of the calls that it helped, without their count
+record EachOnce (c moved : ℕ) (s : State) (helped : List ℕ) (new : State) : Type 0 where
+  pub helps : EachBelow s moved helped
+  pub still : (d : ℕ) → IsWalkingBelow new moved d → IsWalkingBelow s moved d × (IsIn d helped → ⊥)
+
+helps_each_once : (c moved : ℕ) (s new : State) (helped : List ℕ) → Run s → Meanwhile c moved s helped new → EachOnce c moved s helped new
 helps_each_once c moved s new helped run (Now a) = record { helps = tt; still = λ d w. (w, λ i. i) }
 helps_each_once c moved s new helped run (Begins_another {helped = _} {old} seat call answer _ w b a) =
-    let r : HelpsEachOnce c moved s helped old = helps_each_once c moved s old helped run w in
+    let r : EachOnce c moved s helped old = helps_each_once c moved s old helped run w in
     record { helps = r.helps; still = λ d x. r.still d (begin_outside old new moved seat call answer b d x) }
 helps_each_once c moved s new helped run (Steps_another {helped = _} {old} seat answer _ w n st a) =
-    let r : HelpsEachOnce c moved s helped old = helps_each_once c moved s old helped run w in
+    let r : EachOnce c moved s helped old = helps_each_once c moved s old helped run w in
     let m : Mover old c moved = mover old c moved (run_on c moved s old helped run w) (at_last c moved s old helped w) in
     record { helps = r.helps; still = λ d x. r.still d (step_outside old new c moved seat answer m st d x) }
 helps_each_once c moved s new (_ ∷ helped) run (Helps_one {helped = _} {old} seat h _ w on st a) = go st (helps_each_once c moved s old helped run w)
@@ -284,7 +289,7 @@ helps_each_once c moved s new (_ ∷ helped) run (Helps_one {helped = _} {old} s
     m : Mover old c moved
     m = mover old c moved (run_on c moved s old helped run w) (at_last c moved s old helped w)
 
-    go : Step old seat (Helped h) new → HelpsEachOnce c moved s helped old → HelpsEachOnce c moved s (h ∷ helped) new
+    go : Step old seat (Helped h) new → EachOnce c moved s helped old → EachOnce c moved s (h ∷ helped) new
     go (f, op, t, moves, walks, chosen, q, is, same) r =
         let i : ◌≡◌ {A = Option ℕ} (Some c) (Some f) = sym on ∙ moves.0 in
         let j : c ≡ f = cc in
@@ -305,3 +310,44 @@ helps_each_once c moved s new (_ ∷ helped) run (Helps_one {helped = _} {old} s
         out : (A B : Type 0) → (A → ⊥) → (B → ⊥) → A ⊎ B → ⊥
         out A B a b (inl x) = a x
         out A B a b (inr x) = b x
+
+-- each of them walked below the node
+each_walks : (s : State) (moved d : ℕ) (helped : List ℕ) → EachBelow s moved helped → IsIn d helped → IsWalkingBelow s moved d
+each_walks s moved d [] each i = absurd i
+each_walks s moved d (h ∷ helped) (below, apart, rest) (inl same) = subst (IsWalkingBelow s moved) (sym same) below
+each_walks s moved d (h ∷ helped) (below, apart, rest) (inr i) = each_walks s moved d helped rest i
+
+-- a list without one of its numbers
+record Without (d : ℕ) (es : List ℕ) : Type 0 where
+  pub rest : List ℕ
+  pub shorter : length es ≡ suc (length rest)
+  pub others : (x : ℕ) → (d ≡ x → ⊥) → IsIn x es → IsIn x rest
+
+one_more : (d e : ℕ) (es : List ℕ) → Without d es → Without d (e ∷ es)
+one_more d e es w = record { rest = e ∷ w.rest; shorter = ap suc w.shorter; others = others }
+  where
+    others : (x : ℕ) → (d ≡ x → ⊥) → IsIn x (e ∷ es) → IsIn x (e ∷ w.rest)
+    others x differs (inl here) = inl here
+    others x differs (inr i) = inr (w.others x differs i)
+
+without : (d : ℕ) (es : List ℕ) → IsIn d es → Without d es
+without d [] i = absurd i
+without d (e ∷ es) (inr there) = one_more d e es (without d es there)
+without d (e ∷ es) (inl same) = record { rest = es; shorter = refl; others = others }
+  where
+    others : (x : ℕ) → (d ≡ x → ⊥) → IsIn x (e ∷ es) → IsIn x es
+    others x differs (inl here) = absurd (differs (same ∙ sym here))
+    others x differs (inr i) = i
+
+-- calls that are each there once are no more than those of a list that has them all
+no_more : (s : State) (moved : ℕ) (helped below : List ℕ) → EachBelow s moved helped → ((d : ℕ) → IsIn d helped → IsIn d below) → length helped ≤ length below
+no_more s moved [] below each all = omega arith
+no_more s moved (h ∷ helped) below (first, apart, rest) all =
+    let w : Without h below = without h below (all h (inl refl)) in
+    let less : length helped ≤ length w.rest = no_more s moved helped w.rest rest (λ d i. w.others d (λ same. apart (subst (λ (x : ℕ). IsIn x helped) (sym same) i)) (all d (inr i))) in
+    subst (λ (n : ℕ). suc (length helped) ≤ n) (sym w.shorter) (omega arith)
+
+pub helps_are_few : (s : State) → Run s → HelpsAreFew s
+helps_are_few s run c moved new helped w =
+    let r : EachOnce c moved s helped new = helps_each_once c moved s new helped run w in
+    record { helps = r.helps; still = r.still; most = λ below all. no_more s moved helped below r.helps (λ d i. all d (each_walks s moved d helped r.helps i)) }

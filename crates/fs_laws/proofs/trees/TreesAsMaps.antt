@@ -1,33 +1,30 @@
 -- A tree as a sorted list answers each call as the map that is seen of it, and leaves what the map leaves.
-use Rattle.std.proofs.Common.{◌≡◌, ℕ, ◌+◌, length, Bool, true, false, cond, not, ◌||◌, List, [], ◌∷◌, ◌++◌, Option, Some, None, is_some, refl, sym, ap, ap₂, ◌∙◌, append-nil, subst}
-use Rattle.std.specs.Prelude.{nat_lt}
+use Rattle.std.proofs.Common.{◌≡◌, ℕ, Bool, true, false, not, List, [], ◌∷◌, ◌++◌, Option, Some, None, is_some, refl, sym, ap, ap₂, ◌∙◌, append-nil, subst}
 use mathlib.Core.Path.{fun_ext}
 use Rattle.fs_names.specs.First.{or_else}
-use Rattle.fs_names.specs.Keys.{Key, same_key, after_prefix, parent_of, last_of}
+use Rattle.fs_names.specs.Keys.{Key, after_prefix, parent_of, last_of}
 use Rattle.fs_names.specs.Names.{inserted_name, removed_name}
 use Rattle.fs_names.specs.Parts.{HasNames, is_end}
-use Rattle.fs_names.specs.Shapes.{Shape, Dir, File, has_any, is_full, names_of, bytes_of}
-use Rattle.fs_names.specs.declared.limits.TheConstants.{FILE_LIMIT}
+use Rattle.fs_names.specs.Shapes.{Shape, Dir, File, names_of, bytes_of}
 use Rattle.fs_calls.specs.Tree as trees
 use Rattle.fs_calls.specs.Tree.{Tree, Node, look, names_in, inserted, removed, renamed, IsTree}
-use Rattle.fs_calls.specs.Shapes.{seen, shape_of}
+use Rattle.fs_calls.specs.Shapes.{seen}
 use Rattle.fs_calls.specs.Outcomes as list
 use Rattle.fs_calls.specs.Outcomes.{parents_resolution, reply_of, row, fault, success, change, replied}
 use Rattle.fs_calls.specs.Sights.{is_same, row_in}
 use Rattle.fs_calls.specs.Laws.{IsMoved}
-use Rattle.fs_laws.specs.Changes.{Change, changed, no_change, only, resolve, resolve_dir, content_change, edit_change, rename_writes, move_change, looked, unless, reply, after}
-use Rattle.fs_calls.specs.Forms.{form, by_text, new_shape, Form, AtNode, AtEntry, AtPair, NodeCall, Stat, Readdir, Read, Write, Truncate}
+use Rattle.fs_laws.specs.Changes.{Change, changed, no_change, only, content_change, edit_change, rename_writes, move_change, looked, unless, reply}
+use Rattle.fs_calls.specs.Forms.{form, by_text, new_shape, Form, AtNode, AtEntry, AtPair, Write}
 use Rattle.fs_calls.specs.declared.target.PairCall.TheVariants as pairs
 use Rattle.fs_calls.specs.declared.target.EntryCall.{EntryCall}
 use Rattle.fs_calls.specs.declared.target.EntryCall.TheVariants.{Mkdir, Mknod, Unlink, Rmdir}
 use Rattle.fs_laws.specs.Maps.{Map, put, move, write_all}
-use Rattle.fs_calls.specs.Rows.{Edit, Keep, Add, Remove, answered, edit_of, entry_fault, new_bytes, node_fault, node_reply, rename_fault, resized, written}
+use Rattle.fs_calls.specs.Rows.{Keep, Add, Remove, answered, edit_of, new_bytes, node_reply, resized, written}
 use Rattle.fs_calls.specs.declared.call.Call.{Call}
 use Rattle.fs_calls.specs.declared.call.Call.TheVariants as calls
 use Rattle.fs_calls.specs.declared.errno.Errno.{Errno}
-use Rattle.fs_calls.specs.declared.errno.Errno.TheVariants.{Efbig}
 use Rattle.fs_calls.specs.declared.reply.Reply.{Reply}
-use Rattle.fs_calls.specs.declared.reply.Reply.TheVariants.{Done, Wrote, Failed}
+use Rattle.fs_calls.specs.declared.reply.Reply.TheVariants.{Done, Failed}
 use Rattle.fs_names.proofs.FirstLemmas.{or_else-none}
 use Rattle.fs_calls.proofs.KeyLemmas.{is_same_refl, never_same}
 use Rattle.fs_calls.proofs.FaultLemmas.{Makes, mkdir_makes, mknod_makes, Writes, write_writes, truncate_writes, Renames, rename_renames}

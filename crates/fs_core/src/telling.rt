@@ -1,0 +1,71 @@
+//! What every core keeps, told to a caller by calls that do nothing.
+
+ghost use Rattle.std.specs.Prelude.{ℕ, ◌+◌, ◌≤◌};
+ghost use Rattle.fs_nodes.specs.Graphs.{IsGraph};
+ghost use Rattle.fs_nodes.specs.Stores.{graph_of, used_below};
+ghost use Rattle.fs_timeline.specs.Timeline.{begins};
+ghost use Rattle.fs_laws.specs.Below.{
+  NoWalkingBelow,
+  NoLaterBelow,
+  NobodyBetween,
+  Settles,
+  PlacesAreCounted,
+  NeverWaitsToFinish,
+  HelpsAreFew,
+};
+ghost use Rattle.fs_laws.specs.Progress.{HasStep, IsDetermined, WaitsBelow, IsNeverStuck};
+ghost use Rattle.fs_laws.specs.Work.{TakesWork, AddsWork};
+ghost use Rattle.fs_laws.specs.OneCall.{MeetsTreeAlone};
+ghost use Rattle.fs_numbers.specs.Numbers.{NumbersAreKept};
+ghost use Rattle.fs_numbers.specs.Agreement.{PartsAgree};
+ghost use Rattle.fs_numbers.specs.Holdings.{HoldsFour};
+ghost use Rattle.fs_core.specs.Machines.{state_of};
+
+use crate::machine::Core;
+
+impl Core {
+    /// Of helping: no walking call is below a placed one, no placed call below one placed earlier, and no other call
+    /// between a rename's common directory and its heads. The placed calls, each gone on alone in the order of their
+    /// commits, leave the tree that the commits play, and reply what is due to them. A finish never waits, and helps at
+    /// most as many calls as walked below the node that it moves.
+    pub fn told_of_helping(&self)
+        ensures placed_first { NoWalkingBelow (state_of self.now) }
+        ensures earlier_first { NoLaterBelow (state_of self.now) }
+        ensures heads_clear { NobodyBetween (state_of self.now) }
+        ensures settles { Settles (state_of self.now) }
+        ensures places { PlacesAreCounted (state_of self.now) }
+        ensures never_waits { NeverWaitsToFinish (state_of self.now) }
+        ensures few_helps { HelpsAreFew (state_of self.now) }
+    {
+        self.told();
+    }
+
+    /// Of progress: each seat has a step, which the state determines; who waits for a waiting call stands above it; where
+    /// a call is under way, some seat's step lets one go on; each such step takes from a bound on the steps that are
+    /// left, to which a begin adds what its names ask. A call that runs alone replies and changes as the sequential tree
+    /// says.
+    pub fn told_of_progress(&self)
+        ensures steps { (seat : ℕ) → HasStep (state_of self.now) seat }
+        ensures determined { IsDetermined (state_of self.now) }
+        ensures waiters_above { WaitsBelow (state_of self.now) }
+        ensures never_stuck { IsNeverStuck (state_of self.now) }
+        ensures takes_work { TakesWork (state_of self.now) }
+        ensures adds_work { AddsWork (state_of self.now) }
+        ensures alone { MeetsTreeAlone (state_of self.now) }
+    {
+        self.told();
+    }
+
+    /// Of numbers: in use are exactly those that are reached from the root, those that a call under way has reserved and
+    /// not used, and those that it has removed and still holds. The graph is one, a node's holder is the call that holds
+    /// it, a seat's call is the one under way there, and a call holds at most four nodes.
+    pub fn told_of_numbers(&self)
+        ensures no_leak { NumbersAreKept (state_of self.now) }
+        ensures counted { used_below (graph_of self.now.store).shape (state_of self.now).limit ≤ begins self.now.timeline + 1 }
+        ensures graph { IsGraph (graph_of self.now.store) }
+        ensures agree { PartsAgree (state_of self.now) }
+        ensures four { HoldsFour (state_of self.now) }
+    {
+        self.told();
+    }
+}
