@@ -23,6 +23,8 @@ pub struct Tally {
     pub unlawful: u64,
     /// Runs whose nodes at rest are others than the commits make.
     pub others: u64,
+    /// Runs whose commits are told otherwise than they stand in the journal, or whose looks reply otherwise than the calls.
+    pub untold: u64,
 }
 
 /// The count that an answer adds to.
@@ -48,7 +50,7 @@ impl Tally {
     }
 
     /// Each count, with what is counted.
-    pub fn rows(&self) -> [(&'static str, u64); 16] {
+    pub fn rows(&self) -> [(&'static str, u64); 17] {
         [
             ("runs", self.runs),
             (
@@ -69,6 +71,7 @@ impl Tally {
             ("stuck runs", self.stuck),
             ("unlawful journals", self.unlawful),
             ("trees that differ", self.others),
+            ("commits told otherwise", self.untold),
         ]
     }
 }

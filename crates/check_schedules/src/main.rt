@@ -10,6 +10,7 @@ mod drawing;
 mod playing;
 mod running;
 mod scripting;
+mod telling;
 mod walking;
 
 use counting::Tally;
@@ -37,7 +38,7 @@ fn limit(number: u32) -> usize
     if number % 8 == 0 { 12 } else { 1000 }
 }
 
-/// Checks the journal of a run, and the nodes that it left.
+/// Checks the journal of a run, the nodes that it left, and what is told of its commits.
 fn judge(alloc: Global, core: &Core, tally: &mut Tally) -> anyhow::Result<()> {
     let verdict = check(alloc, core.timeline())?;
     if !matches!(verdict, Verdict::Lawful) {
@@ -45,6 +46,9 @@ fn judge(alloc: Global, core: &Core, tally: &mut Tally) -> anyhow::Result<()> {
     }
     if !walking::agree(alloc, core)? {
         tally.others = tally.others.wrapping_add(1);
+    }
+    if !telling::agree(alloc, core)? {
+        tally.untold = tally.untold.wrapping_add(1);
     }
     Ok(())
 }

@@ -80,12 +80,12 @@ fn is_stat(store: &Store, node: NodeNo, reply: &Reply) -> bool {
 fn stat_agrees(
     alloc: Global,
     store: &Store,
-    tree: &mut SeqTree,
+    tree: &SeqTree,
     node: NodeNo,
     text: &[u8],
 ) -> Result<bool> {
     let call = Call::Stat(path(alloc, text)?);
-    let reply = tree.apply(alloc, &call)?;
+    let reply = tree.look(alloc, &call)?;
     Ok(is_stat(store, node, &reply))
 }
 
@@ -101,26 +101,26 @@ fn is_content(store: &Store, node: NodeNo, reply: &Reply) -> bool {
 fn file_agrees(
     alloc: Global,
     store: &Store,
-    tree: &mut SeqTree,
+    tree: &SeqTree,
     node: NodeNo,
     text: &[u8],
 ) -> Result<bool> {
     let call = Call::Read(path(alloc, text)?, 0, FILE_LIMIT as u64);
-    let reply = tree.apply(alloc, &call)?;
+    let reply = tree.look(alloc, &call)?;
     Ok(is_content(store, node, &reply))
 }
 
 /// What the tree replies to a readdir.
-fn readdir(alloc: Global, tree: &mut SeqTree, text: &[u8]) -> Result<Reply> {
+fn readdir(alloc: Global, tree: &SeqTree, text: &[u8]) -> Result<Reply> {
     let call = Call::Readdir(path(alloc, text)?);
-    Ok(tree.apply(alloc, &call)?)
+    Ok(tree.look(alloc, &call)?)
 }
 
 /// Whether both have the same names in a directory, whose entries come on the stack.
 fn dir_agrees(
     alloc: Global,
     store: &Store,
-    tree: &mut SeqTree,
+    tree: &SeqTree,
     node: NodeNo,
     text: &[u8],
     stack: &mut Vec<Text>,
@@ -144,7 +144,7 @@ fn find(alloc: Global, core: &Core, text: &[u8]) -> Result<Option<NodeNo>> {
 fn agrees_at(
     alloc: Global,
     core: &Core,
-    tree: &mut SeqTree,
+    tree: &SeqTree,
     text: &[u8],
     stack: &mut Vec<Text>,
 ) -> Result<bool> {
@@ -165,7 +165,7 @@ fn agrees_at(
 fn next_agrees(
     alloc: Global,
     core: &Core,
-    tree: &mut SeqTree,
+    tree: &SeqTree,
     stack: &mut Vec<Text>,
 ) -> Result<Option<bool>> {
     match stack.pop() {
@@ -175,7 +175,7 @@ fn next_agrees(
 }
 
 /// Compares the nodes from the root on with the tree.
-fn same(alloc: Global, core: &Core, tree: &mut SeqTree) -> Result<bool> {
+fn same(alloc: Global, core: &Core, tree: &SeqTree) -> Result<bool> {
     let mut stack = Vec::new(alloc);
     stack.push(Vec::new(alloc))?;
     for _ in 0..MOST_NODES {
@@ -190,6 +190,6 @@ fn same(alloc: Global, core: &Core, tree: &mut SeqTree) -> Result<bool> {
 
 /// Whether the nodes are those that the commits make.
 pub fn agree(alloc: Global, core: &Core) -> Result<bool> {
-    let mut tree = play(alloc, core.timeline())?;
-    same(alloc, core, &mut tree)
+    let tree = play(alloc, core)?;
+    same(alloc, core, &tree)
 }
