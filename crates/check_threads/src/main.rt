@@ -9,6 +9,7 @@ mod example;
 mod held;
 mod jobs;
 mod long;
+mod scripts;
 mod shared;
 mod waiting;
 mod walking;
@@ -43,6 +44,11 @@ fn main(rt: HostRuntime) -> anyhow::Result<()> {
         &rt,
         "two lists make directories",
         example::is_lawful(&rt, alloc),
+    )?;
+    say(
+        &rt,
+        "scripts run on threads",
+        scripts::are_written(&rt, alloc),
     )?;
     say(
         &rt,
