@@ -19,9 +19,11 @@ use Rattle.fs_script.specs.Limits.{calls_in, events_in}
 
 -- ---- threads
 
+-- a letter of the lower case
 abbrev pub is_lower : ℕ → Bool
 is_lower b = nat_le 97 b && nat_le b 122
 
+-- a digit
 abbrev pub is_digit : ℕ → Bool
 is_digit b = nat_le 48 b && nat_le b 57
 
@@ -40,10 +42,11 @@ seat_named names name = position (bytes_eq name) names
 
 -- ---- a line of blocks
 
+-- the script with a thread more, which has no calls yet
 abbrev pub with_thread : Script → Word → Script
 with_thread s name = record s { names = s.names ++ name ∷ []; lists = s.lists ++ [] ∷ [] }
 
--- a thread more, which has no calls yet
+-- a name that may be a thread's, is none's yet, and for which there is room
 abbrev pub new_thread : Script → Word → Result Script FaultKind
 new_thread s name =
     if not (is_thread name) then Err kind.BadThread
@@ -62,7 +65,7 @@ with_call c [] = []
 with_call c (calls ∷ []) = (calls ++ c ∷ []) ∷ []
 with_call c (calls ∷ next ∷ more) = calls ∷ with_call c (next ∷ more)
 
--- a call more of the last thread
+-- a call more of the last thread, where the script has room for it
 abbrev pub new_call : Script → Call → Result Script FaultKind
 new_call s c = if nat_le CALL_LIMIT (calls_in s.lists) then Err kind.TooLarge else Ok (record s { lists = with_call c s.lists })
 
@@ -77,10 +80,11 @@ block_line s (first ∷ more) = if bytes_eq first (codes "thread") then thread_l
 
 -- ---- a line of the schedule
 
+-- the script with a word more
 abbrev pub with_word : Script → schedule.Word → Script
 with_word s word = record s { words = s.words ++ word ∷ [] }
 
--- so many events more, of the thread with this seat
+-- so many events more of the thread with this seat, where the schedule has room for them
 abbrev pub new_events : Script → ℕ → ℕ → Result Script FaultKind
 new_events s seat times = if nat_lt EVENT_LIMIT (events_in s.words + times) then Err kind.TooLarge else Ok (with_word s (Events seat times))
 
@@ -89,6 +93,7 @@ abbrev pub events_word : Script → Option ℕ → Option ℕ → Result Script 
 events_word s (Some seat) (Some times) = if nat_le 1 times && nat_le times EVENT_LIMIT then new_events s seat times else Err kind.BadWord
 events_word s _ _ = Err kind.BadWord
 
+-- `*`
 abbrev pub is_star : ℕ → Bool
 is_star b = b == 42
 
@@ -97,6 +102,7 @@ abbrev pub timed_word : Script → Word → Option ℕ → Result Script FaultKi
 timed_word s word None = events_word s (seat_named s.names word) (Some 1)
 timed_word s word (Some at) = events_word s (seat_named s.names (take at word)) (number_of (drop (at + 1) word))
 
+-- whether a word was `finish`
 abbrev pub has_finish : List schedule.Word → Bool
 has_finish [] = false
 has_finish (Events seat times ∷ words) = has_finish words
@@ -131,10 +137,11 @@ blocks_from n s (line ∷ more) =
     else (if bytes_eq line (codes "schedule") then schedule_from (n + 1) s more
     else (at_line n (words_of line >>= block_line s) >>= λ t. blocks_from (n + 1) t more))
 
+-- the first line
 abbrev pub script_header : List ℕ
 script_header = codes "atomfs 1"
 
--- the script without a thread
+-- the script before its lines are read
 abbrev pub nothing_yet : Script
 nothing_yet = record { names = []; lists = []; words = [] }
 

@@ -17,7 +17,7 @@ use fs_text::lines::cut_words;
 use fs_text::words::{number_of, parts};
 use std::alloc::Global;
 
-/// The script so far, with what the next line would have to count anew.
+/// The script so far, with its counts of calls and events and whether it had `finish`.
 #[derive(Drop)]
 pub(crate) struct Draft {
     pub(crate) script: Script,

@@ -4,9 +4,9 @@
 //! that is read keeps the limits (`laws::keeps_limits`). `write_tree` appends the text of the tree that the nodes of a
 //! store spell, each directory followed at once by what is below it, and leaves the text as it was if it fails.
 //!
-//! Enter at `read_script` and `write_tree`. The definitions are in `specs/`: `Script` (what reading gives), `Limits`
-//! and `TreeText`; `docs/FORMATS.md` has them in words. `specs/code/Walks.antt` is about the way through the nodes of
-//! a store, and changes no meaning.
+//! Enter at `read_script` and `write_tree`. The definitions are in `specs/`: `Script` (what reading gives), `Limits`,
+//! `Laws` and `TreeText`; `docs/FORMATS.md` has them in words. Those of `specs/code/`, about the steps of the reader and
+//! the way through the nodes of a store, change no meaning.
 #![tactic(auto)]
 
 mod draft;

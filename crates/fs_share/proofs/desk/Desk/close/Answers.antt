@@ -1,8 +1,9 @@
 use Rattle.fs_core.specs.Machines.{state_of}
+use Rattle.fs_core.proofs.Resting.{rest_when_idle}
 use Rattle.fs_share.proofs.Idle.{idle_when_returned}
 use Rattle.fs_share.proofs.desk.Desk.close.Goals as goal
 
 pub returns-clause-spelled : goal.returns-clause-spelled
 returns-clause-spelled g c =
     let parts = c.into_parts-timeline.ensures in
-    rw (parts.timeline, parts.store) (λ all. c.told.ensures.spelled (idle_when_returned (state_of c.args.self.core) c.told.ensures.run all))
+    rw (parts.timeline, parts.store) (λ all. c.told.ensures.spelled (rest_when_idle c.args.self.core c.told.ensures.run (idle_when_returned (state_of c.args.self.core) c.told.ensures.run all)))
