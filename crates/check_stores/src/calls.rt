@@ -1,4 +1,5 @@
-//! The calls of a store that have conditions, each after a look at them; the two stores have the same calls.
+//! The calls of a store that have conditions, each after a look at them. The two stores have the same
+//! calls, so what follows is written twice, word for word.
 
 use fs_names::{Kind, Name};
 use fs_nodes::{NodeNo, Store, plain};
@@ -16,86 +17,138 @@ pub struct Plain {
     pub store: plain::Store,
 }
 
-/// Writes the calls of one of them.
-macro_rules! calls_of {
-    ($Of:ty) => {
-        impl $Of {
-            /// The kind of a node in use.
-            pub fn kind(&self, node: NodeNo) -> Option<Kind> {
-                if !self.store.is_used(node) {
-                    return None;
-                }
-                Some(self.store.kind(node))
-            }
-
-            /// An empty node becomes an entry. It answers whether it could.
-            pub fn link(&mut self, dir: NodeNo, name: &Name, node: NodeNo) -> bool {
-                let is_free =
-                    self.store.find(dir, name).is_none() && self.store.parent(node).is_none();
-                let is_empty = self.store.entries(node) == 0 && node != dir && node.get() != 0;
-                if !(is_free && is_empty && self.store.is_dir(dir) && self.store.is_used(node)) {
-                    return false;
-                }
-                self.store.link(dir, name, node);
-                true
-            }
-
-            /// An entry goes, if there is one.
-            pub fn unlink(&mut self, dir: NodeNo, name: &Name) -> Option<NodeNo> {
-                if self.store.find(dir, name).is_none() {
-                    return None;
-                }
-                Some(self.store.unlink(dir, name))
-            }
-
-            /// An entry gets another name, or goes with an empty node to another directory. It answers whether it could.
-            pub fn move_entry(
-                &mut self,
-                from: NodeNo,
-                name: &Name,
-                to: NodeNo,
-                new_name: &Name,
-            ) -> bool {
-                let Some(node) = self.store.find(from, name) else {
-                    return false;
-                };
-                let may_go = from == to || (self.store.entries(node) == 0 && node != to);
-                let is_free = self.store.find(to, new_name).is_none();
-                if !(may_go && is_free && self.store.is_dir(to)) {
-                    return false;
-                }
-                self.store.move_entry(from, name, to, new_name);
-                true
-            }
-
-            /// The number of an empty node without an entry goes. It answers whether it could.
-            pub fn release(&mut self, node: NodeNo) -> bool {
-                let is_loose = self.store.is_used(node) && self.store.parent(node).is_none();
-                if !(is_loose && self.store.entries(node) == 0 && node.get() != 0) {
-                    return false;
-                }
-                self.store.release(node);
-                true
-            }
-
-            /// A file gets a copy of these bytes, and its old ones are answered.
-            pub fn swap_content(
-                &mut self,
-                alloc: Global,
-                file: NodeNo,
-                bytes: &[u8],
-            ) -> Result<Option<Vec<u8>>, AllocError> {
-                if !self.store.is_file(file) {
-                    return Ok(None);
-                }
-                let mut copied = Vec::new(alloc);
-                copied.extend_from_slice(bytes)?;
-                Ok(Some(self.store.swap_content(file, copied)))
-            }
+impl Linked {
+    /// The kind of a node in use.
+    pub fn kind(&self, node: NodeNo) -> Option<Kind> {
+        if !self.store.is_used(node) {
+            return None;
         }
-    };
+        Some(self.store.kind(node))
+    }
+
+    /// An empty node becomes an entry. It answers whether it could.
+    pub fn link(&mut self, dir: NodeNo, name: &Name, node: NodeNo) -> bool {
+        let is_free = self.store.find(dir, name).is_none() && self.store.parent(node).is_none();
+        let is_empty = self.store.entries(node) == 0 && node != dir && node.get() != 0;
+        if !(is_free && is_empty && self.store.is_dir(dir) && self.store.is_used(node)) {
+            return false;
+        }
+        self.store.link(dir, name, node);
+        true
+    }
+
+    /// An entry goes, if there is one.
+    pub fn unlink(&mut self, dir: NodeNo, name: &Name) -> Option<NodeNo> {
+        if self.store.find(dir, name).is_none() {
+            return None;
+        }
+        Some(self.store.unlink(dir, name))
+    }
+
+    /// An entry gets another name, or goes with an empty node to another directory. It answers whether it could.
+    pub fn move_entry(&mut self, from: NodeNo, name: &Name, to: NodeNo, new_name: &Name) -> bool {
+        let Some(node) = self.store.find(from, name) else {
+            return false;
+        };
+        let may_go = from == to || (self.store.entries(node) == 0 && node != to);
+        let is_free = self.store.find(to, new_name).is_none();
+        if !(may_go && is_free && self.store.is_dir(to)) {
+            return false;
+        }
+        self.store.move_entry(from, name, to, new_name);
+        true
+    }
+
+    /// The number of an empty node without an entry goes. It answers whether it could.
+    pub fn release(&mut self, node: NodeNo) -> bool {
+        let is_loose = self.store.is_used(node) && self.store.parent(node).is_none();
+        if !(is_loose && self.store.entries(node) == 0 && node.get() != 0) {
+            return false;
+        }
+        self.store.release(node);
+        true
+    }
+
+    /// A file gets a copy of these bytes, and its old ones are answered.
+    pub fn swap_content(
+        &mut self,
+        alloc: Global,
+        file: NodeNo,
+        bytes: &[u8],
+    ) -> Result<Option<Vec<u8>>, AllocError> {
+        if !self.store.is_file(file) {
+            return Ok(None);
+        }
+        let mut copied = Vec::new(alloc);
+        copied.extend_from_slice(bytes)?;
+        Ok(Some(self.store.swap_content(file, copied)))
+    }
 }
 
-calls_of!(Linked);
+impl Plain {
+    /// The kind of a node in use.
+    pub fn kind(&self, node: NodeNo) -> Option<Kind> {
+        if !self.store.is_used(node) {
+            return None;
+        }
+        Some(self.store.kind(node))
+    }
 
-calls_of!(Plain);
+    /// An empty node becomes an entry. It answers whether it could.
+    pub fn link(&mut self, dir: NodeNo, name: &Name, node: NodeNo) -> bool {
+        let is_free = self.store.find(dir, name).is_none() && self.store.parent(node).is_none();
+        let is_empty = self.store.entries(node) == 0 && node != dir && node.get() != 0;
+        if !(is_free && is_empty && self.store.is_dir(dir) && self.store.is_used(node)) {
+            return false;
+        }
+        self.store.link(dir, name, node);
+        true
+    }
+
+    /// An entry goes, if there is one.
+    pub fn unlink(&mut self, dir: NodeNo, name: &Name) -> Option<NodeNo> {
+        if self.store.find(dir, name).is_none() {
+            return None;
+        }
+        Some(self.store.unlink(dir, name))
+    }
+
+    /// An entry gets another name, or goes with an empty node to another directory. It answers whether it could.
+    pub fn move_entry(&mut self, from: NodeNo, name: &Name, to: NodeNo, new_name: &Name) -> bool {
+        let Some(node) = self.store.find(from, name) else {
+            return false;
+        };
+        let may_go = from == to || (self.store.entries(node) == 0 && node != to);
+        let is_free = self.store.find(to, new_name).is_none();
+        if !(may_go && is_free && self.store.is_dir(to)) {
+            return false;
+        }
+        self.store.move_entry(from, name, to, new_name);
+        true
+    }
+
+    /// The number of an empty node without an entry goes. It answers whether it could.
+    pub fn release(&mut self, node: NodeNo) -> bool {
+        let is_loose = self.store.is_used(node) && self.store.parent(node).is_none();
+        if !(is_loose && self.store.entries(node) == 0 && node.get() != 0) {
+            return false;
+        }
+        self.store.release(node);
+        true
+    }
+
+    /// A file gets a copy of these bytes, and its old ones are answered.
+    pub fn swap_content(
+        &mut self,
+        alloc: Global,
+        file: NodeNo,
+        bytes: &[u8],
+    ) -> Result<Option<Vec<u8>>, AllocError> {
+        if !self.store.is_file(file) {
+            return Ok(None);
+        }
+        let mut copied = Vec::new(alloc);
+        copied.extend_from_slice(bytes)?;
+        Ok(Some(self.store.swap_content(file, copied)))
+    }
+}
