@@ -67,7 +67,7 @@ impl Write for SlowWriter {
 
 /// A command, its input, and the text that it writes.
 #[derive(Clone, Copy)]
-pub struct Work<'a> {
+pub struct OpValue<'a> {
     pub command: Command,
     pub input: &'a [u8],
     pub text: &'a [u8],
@@ -82,7 +82,7 @@ struct Done {
     written: Vec<u8>,
 }
 
-impl<'a> Work<'a> {
+impl<'a> OpValue<'a> {
     /// Does the command with so many good reads and writes.
     fn done(&self, alloc: Global, reads: usize, writes: usize, fails: bool) -> Done {
         let mut reader = Device::new(SlowReader {

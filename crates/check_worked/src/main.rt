@@ -15,7 +15,7 @@ mod outcome;
 mod parts;
 
 use anyhow::{Result, bail};
-use devices::Work;
+use devices::OpValue;
 use examples::{LINES, journal, script};
 use fs_sched::Schedule;
 use outcome::Command;
@@ -79,7 +79,7 @@ fn fail<R: Files + AllocGlobal + Print>(rt: &R) -> Result<()> {
         (Command::Check, text.as_slice(), b"lawful\n".as_slice()),
     ];
     for (command, input, text) in rows {
-        Work {
+        OpValue {
             command,
             input,
             text,

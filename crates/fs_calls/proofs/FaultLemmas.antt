@@ -1,14 +1,14 @@
 -- What a call without an error finds in a tree.
 use Rattle.std.proofs.Common.{◌≡◌, ◌≢◌, ℕ, ◌+◌, length, Bool, true, false, cond, not, ◌&&◌, ◌||◌, List, [], ◌∷◌, ◌++◌, Some, None, Option, is_some, refl, sym, ap, subst, ◌∙◌}
 use Rattle.std.specs.Prelude.{nat_lt}
-use Rattle.fs_names.specs.First.{on, first}
+use Rattle.fs_names.specs.Failures.{check, first_failure}
 use Rattle.fs_names.specs.Names.{Name}
 use Rattle.fs_names.specs.Keys.{Key, is_root, is_proper_prefix, after_prefix, parent_of}
 use Rattle.fs_names.specs.declared.limits.TheConstants.{FILE_LIMIT}
-use Rattle.fs_names.proofs.FirstLemmas.{or_else-none, on-none}
+use Rattle.fs_names.proofs.FailureLemmas.{or_else-none, check-none}
 use Rattle.fs_calls.specs.Tree as tree
 use Rattle.fs_calls.specs.Tree.{Tree, Node, look, names_in, IsTree}
-use Rattle.fs_calls.specs.Shapes.{seen, shape_of, is_there, is_missing, is_dir, is_file, has_entries, has_any, is_full}
+use Rattle.fs_calls.specs.Shapes.{tree_shapes, shape_of, is_there, is_missing, is_dir, is_file, has_entries, has_any, is_full}
 use Rattle.fs_calls.proofs.RowNames.{making}
 use Rattle.fs_calls.specs.Forms.{form, by_text}
 use Rattle.fs_calls.specs.Rows.{place_errors, has_room}
@@ -26,12 +26,12 @@ use Rattle.fs_calls.proofs.ResolutionLemmas.{nothing_below, empty_below, no_name
 -- no check of several finds anything
 abbrev pub AllNone : {F : Type 0} → List (Option F) → Type 0
 AllNone [] = Unit {0}
-AllNone (check ∷ checks) = (check ≡ None) × AllNone checks
+AllNone (one ∷ others) = (one ≡ None) × AllNone others
 
 -- where the first of several checks finds nothing, none does
-pub all_none : {F : Type 0} (checks : List (Option F)) → first checks ≡ None → AllNone checks
+pub all_none : {F : Type 0} (checks : List (Option F)) → first_failure checks ≡ None → AllNone checks
 all_none [] e = tt
-all_none (check ∷ checks) e = let both = or_else-none check (first checks) e in (both.0, all_none checks both.1)
+all_none (one ∷ others) e = let both = or_else-none one (first_failure others) e in (both.0, all_none others both.1)
 
 -- of two tests of which neither is true, the first is false
 pub or_first : (a b : Bool) → (a || b) ≡ false → a ≡ false
@@ -87,13 +87,13 @@ pub record Makes (t : Tree) (p : Key) : Type 0 where
   pub absent : look t p ≡ None
 
 -- what both find, by their errors
-makes : (t : Tree) (p : Key) → IsTree t → on (is_root p) Eexist ≡ None → making (parents_resolution t p) (seen t (parent_of p)) (seen t p) ≡ None → Makes t p
+makes : (t : Tree) (p : Key) → IsTree t → check (is_root p) Eexist ≡ None → making (parents_resolution t p) (tree_shapes t (parent_of p)) (tree_shapes t p) ≡ None → Makes t p
 makes t p is text h =
-    let none = all_none (parents_resolution t p ∷ on (is_there (seen t p)) Eexist ∷ on (is_full (seen t (parent_of p))) Enospc ∷ []) h in
+    let none = all_none (parents_resolution t p ∷ check (is_there (tree_shapes t p)) Eexist ∷ check (is_full (tree_shapes t (parent_of p))) Enospc ∷ []) h in
     record {
-      named = on-none (is_root p) Eexist text;
+      named = check-none (is_root p) Eexist text;
       parent = parents_resolution-none t p is none.0;
-      absent = absent t p (look t p) (on-none (is_there (seen t p)) Eexist none.1.0);
+      absent = absent t p (look t p) (check-none (is_there (tree_shapes t p)) Eexist none.1.0);
     }
 
 -- what mkdir finds
@@ -113,11 +113,11 @@ pub record Removes (t : Tree) (p : Key) : Type 0 where
 -- what unlink finds
 pub unlink_removes : (t : Tree) (p : Key) → IsTree t → fault t (Unlink p) ≡ None → Removes t p
 unlink_removes t p is h =
-    let none = all_none (parents_resolution t p ∷ on (is_missing (seen t p)) Enoent ∷ on (is_dir (seen t p)) Eperm ∷ []) (row_none t (Unlink p) h) in
-    let missing = on-none (is_missing (seen t p)) Enoent none.1.0 in
-    let dir = on-none (is_dir (seen t p)) Eperm none.1.1.0 in
+    let none = all_none (parents_resolution t p ∷ check (is_missing (tree_shapes t p)) Enoent ∷ check (is_dir (tree_shapes t p)) Eperm ∷ []) (row_none t (Unlink p) h) in
+    let missing = check-none (is_missing (tree_shapes t p)) Enoent none.1.0 in
+    let dir = check-none (is_dir (tree_shapes t p)) Eperm none.1.1.0 in
     record {
-      named = on-none (is_root p) Eperm (by_text_none t (Unlink p) h);
+      named = check-none (is_root p) Eperm (by_text_none t (Unlink p) h);
       there = some_there t p (look t p) missing;
       bare = nothing_below t p is (no_directory t p (look t p) missing dir);
     }
@@ -125,11 +125,11 @@ unlink_removes t p is h =
 -- what rmdir finds
 pub rmdir_removes : (t : Tree) (p : Key) → IsTree t → fault t (Rmdir p) ≡ None → Removes t p
 rmdir_removes t p is h =
-    let none = all_none (parents_resolution t p ∷ on (is_missing (seen t p)) Enoent ∷ on (is_file (seen t p)) Enotdir ∷ on (has_entries (seen t p)) Enotempty ∷ []) (row_none t (Rmdir p) h) in
+    let none = all_none (parents_resolution t p ∷ check (is_missing (tree_shapes t p)) Enoent ∷ check (is_file (tree_shapes t p)) Enotdir ∷ check (has_entries (tree_shapes t p)) Enotempty ∷ []) (row_none t (Rmdir p) h) in
     record {
-      named = on-none (is_root p) Ebusy (by_text_none t (Rmdir p) h);
-      there = some_there t p (look t p) (on-none (is_missing (seen t p)) Enoent none.1.0);
-      bare = bare_below t p (look t p) is refl (on-none (has_entries (seen t p)) Enotempty none.1.1.1.0);
+      named = check-none (is_root p) Ebusy (by_text_none t (Rmdir p) h);
+      there = some_there t p (look t p) (check-none (is_missing (tree_shapes t p)) Enoent none.1.0);
+      bare = bare_below t p (look t p) is refl (check-none (has_entries (tree_shapes t p)) Enotempty none.1.1.1.0);
     }
 
 -- write and truncate find a file
@@ -138,22 +138,22 @@ pub record Writes (t : Tree) (p : Key) : Type 0 where
   pub no_dir : look t p ≢ Some tree.Dir
 
 -- what both find, by their errors
-writes : (t : Tree) (p : Key) (checks : List (Option Errno)) → IsTree t → first (resolution t p ∷ on (is_missing (seen t p)) Enoent ∷ on (is_dir (seen t p)) Eisdir ∷ checks) ≡ None → Writes t p
+writes : (t : Tree) (p : Key) (checks : List (Option Errno)) → IsTree t → first_failure (resolution t p ∷ check (is_missing (tree_shapes t p)) Enoent ∷ check (is_dir (tree_shapes t p)) Eisdir ∷ checks) ≡ None → Writes t p
 writes t p checks is h =
-    let none = all_none (resolution t p ∷ on (is_missing (seen t p)) Enoent ∷ on (is_dir (seen t p)) Eisdir ∷ checks) h in
-    let missing = on-none (is_missing (seen t p)) Enoent none.1.0 in
+    let none = all_none (resolution t p ∷ check (is_missing (tree_shapes t p)) Enoent ∷ check (is_dir (tree_shapes t p)) Eisdir ∷ checks) h in
+    let missing = check-none (is_missing (tree_shapes t p)) Enoent none.1.0 in
     record {
       there = some_there t p (look t p) missing;
-      no_dir = no_directory t p (look t p) missing (on-none (is_dir (seen t p)) Eisdir none.1.1.0);
+      no_dir = no_directory t p (look t p) missing (check-none (is_dir (tree_shapes t p)) Eisdir none.1.1.0);
     }
 
 -- what write finds
 pub write_writes : (t : Tree) (p : Key) (off : ℕ) (bytes : List ℕ) → IsTree t → fault t (Write p off bytes) ≡ None → Writes t p
-write_writes t p off bytes is h = writes t p (on (has_any bytes && nat_lt FILE_LIMIT (off + length bytes)) Efbig ∷ []) is (row_none t (Write p off bytes) h)
+write_writes t p off bytes is h = writes t p (check (has_any bytes && nat_lt FILE_LIMIT (off + length bytes)) Efbig ∷ []) is (row_none t (Write p off bytes) h)
 
 -- what truncate finds
 pub truncate_writes : (t : Tree) (p : Key) (size : ℕ) → IsTree t → fault t (Truncate p size) ≡ None → Writes t p
-truncate_writes t p size is h = writes t p (on (nat_lt FILE_LIMIT size) Efbig ∷ []) is (row_none t (Truncate p size) h)
+truncate_writes t p size is h = writes t p (check (nat_lt FILE_LIMIT size) Efbig ∷ []) is (row_none t (Truncate p size) h)
 
 -- a rename that moves finds a node, a directory for its new place, and nothing below that place; neither path is the
 -- root, and the node does not stand above its new place
@@ -168,16 +168,16 @@ pub record Renames (t : Tree) (p q : Key) : Type 0 where
 -- what a rename finds
 pub rename_renames : (t : Tree) (p q : Key) → IsTree t → fault t (Rename p q) ≡ None → p ≢ q → Renames t p q
 rename_renames t p q is h other =
-    let text = all_none (on (is_root p || is_root q) Ebusy ∷ on (is_proper_prefix p q) Einval ∷ []) (by_text_none t (Rename p q) h) in
-    let roots = on-none (is_root p || is_root q) Ebusy text.0 in
-    let rest = place_errors (seen t p) (seen t q) (has_room (is_same (parent_of p) (parent_of q)) (seen t (parent_of q))) in
-    let none = all_none (parents_resolution t p ∷ parents_resolution t q ∷ on (is_missing (seen t p)) Enoent ∷ cond {A = List (Option Errno)} (is_same p q) [] rest) (row_none t (Rename p q) h) in
+    let text = all_none (check (is_root p || is_root q) Ebusy ∷ check (is_proper_prefix p q) Einval ∷ []) (by_text_none t (Rename p q) h) in
+    let roots = check-none (is_root p || is_root q) Ebusy text.0 in
+    let rest = place_errors (tree_shapes t p) (tree_shapes t q) (has_room (is_same (parent_of p) (parent_of q)) (tree_shapes t (parent_of q))) in
+    let none = all_none (parents_resolution t p ∷ parents_resolution t q ∷ check (is_missing (tree_shapes t p)) Enoent ∷ cond {A = List (Option Errno)} (is_same p q) [] rest) (row_none t (Rename p q) h) in
     let replaced : AllNone rest = subst (λ b. AllNone (cond {A = List (Option Errno)} b [] rest)) (never_same p q other) none.1.1.1 in
     record {
       named = or_first (is_root p) (is_root q) roots;
       new_named = or_second (is_root p) (is_root q) roots;
-      beside = no_prefix p q (on-none (is_proper_prefix p q) Einval text.1.0) other;
+      beside = no_prefix p q (check-none (is_proper_prefix p q) Einval text.1.0) other;
       new_parent = parents_resolution-none t q is none.1.0;
-      there = some_there t p (look t p) (on-none (is_missing (seen t p)) Enoent none.1.1.0);
-      bare = bare_below t q (look t q) is refl (on-none (has_entries (seen t q)) Enotempty replaced.1.1.0);
+      there = some_there t p (look t p) (check-none (is_missing (tree_shapes t p)) Enoent none.1.1.0);
+      bare = bare_below t q (look t q) is refl (check-none (has_entries (tree_shapes t q)) Enotempty replaced.1.1.0);
     }

@@ -2,7 +2,7 @@
 use Rattle.std.proofs.Common.{◌≡◌, Option, Some, None, refl}
 use Rattle.fs_calls.specs.Tree.{Tree}
 use Rattle.fs_calls.specs.Laws.{ErrorsChangeNothing}
-use Rattle.fs_calls.specs.Outcomes.{fault, reply, after, success, change, replied, unless}
+use Rattle.fs_calls.specs.Outcomes.{fault, reply, after, success, change, replied, if_sound}
 use Rattle.fs_calls.specs.declared.call.Call.{Call}
 use Rattle.fs_calls.specs.declared.call.Call.TheVariants.{Mkdir, Mknod, Unlink, Rmdir, Rename, Stat, Readdir, Read, Write, Truncate}
 use Rattle.fs_calls.specs.declared.reply.Reply.TheVariants.{Failed}
@@ -21,7 +21,7 @@ success_changes_nothing t (Read p off count) e h = refl
 success_changes_nothing t (Write p off bytes) e h = absurd (cc)
 success_changes_nothing t (Truncate p size) e h = absurd (cc)
 
-by_fault : (found : Option Errno) (t : Tree) (call : Call) (e : Errno) → replied found (success t call) ≡ Failed e → unless found t (change t call) ≡ t
+by_fault : (found : Option Errno) (t : Tree) (call : Call) (e : Errno) → replied found (success t call) ≡ Failed e → if_sound found t (change t call) ≡ t
 by_fault None t call e h = success_changes_nothing t call e h
 by_fault (Some f) t call e h = refl
 

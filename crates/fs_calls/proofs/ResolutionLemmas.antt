@@ -2,14 +2,14 @@
 use Rattle.std.proofs.Common.{◌≡◌, ◌≢◌, Bool, true, false, cond, ◌||◌, List, [], ◌∷◌, ◌++◌, Some, None, Option, is_some, refl, sym, ap, ◌∙◌, append_assoc}
 use Rattle.std.specs.List.{list_any}
 use Rattle.std.specs.FinMap.{find}
-use Rattle.fs_names.specs.First.{on, or_else, first}
+use Rattle.fs_names.specs.Failures.{check, or_else, first_failure}
 use Rattle.fs_names.specs.Names.{Name, same_name}
 use Rattle.fs_names.specs.Keys.{Key, key_cmp, same_key, after_prefix, parent_of}
-use Rattle.fs_names.proofs.FirstLemmas.{or_else-none, on-none}
+use Rattle.fs_names.proofs.FailureLemmas.{or_else-none, check-none}
 use Rattle.fs_names.proofs.Lemmas.{after_prefix-exact, after_prefix-append}
 use Rattle.fs_calls.specs.Tree as tree
 use Rattle.fs_calls.specs.Tree.{Tree, Node, look, names_in, name_in, only_name, with_name, IsTree}
-use Rattle.fs_calls.specs.Shapes.{seen, shape_of, is_missing, is_file, has_any}
+use Rattle.fs_calls.specs.Shapes.{tree_shapes, shape_of, is_missing, is_file, has_any}
 use Rattle.fs_calls.specs.Outcomes.{resolution, parents_resolution}
 use Rattle.fs_calls.specs.Laws.{HasDirectoriesAbove}
 use Rattle.fs_calls.specs.declared.errno.Errno.{Errno}
@@ -108,8 +108,8 @@ dir_there t d (Some (tree.File bytes)) some no_file = absurd (cc)
 -- where the parent resolves without an error it is a directory
 pub parents_resolution-none : (t : Tree) (p : Key) → IsTree t → parents_resolution t p ≡ None → look t (parent_of p) ≡ Some tree.Dir
 parents_resolution-none t p is h =
-    let later = (or_else-none (resolution t (parent_of p)) (first (on (is_missing (seen t (parent_of p))) Enoent ∷ on (is_file (seen t (parent_of p))) Enotdir ∷ [])) h).1 in
-    let both = or_else-none (on (is_missing (seen t (parent_of p))) Enoent) (first (on (is_file (seen t (parent_of p))) Enotdir ∷ [])) later in
-    let there = on-none (is_missing (seen t (parent_of p))) Enoent both.0 in
-    let no_file = on-none (is_file (seen t (parent_of p))) Enotdir (or_else-none (on (is_file (seen t (parent_of p))) Enotdir) None both.1).0 in
+    let later = (or_else-none (resolution t (parent_of p)) (first_failure (check (is_missing (tree_shapes t (parent_of p))) Enoent ∷ check (is_file (tree_shapes t (parent_of p))) Enotdir ∷ [])) h).1 in
+    let both = or_else-none (check (is_missing (tree_shapes t (parent_of p))) Enoent) (first_failure (check (is_file (tree_shapes t (parent_of p))) Enotdir ∷ [])) later in
+    let there = check-none (is_missing (tree_shapes t (parent_of p))) Enoent both.0 in
+    let no_file = check-none (is_file (tree_shapes t (parent_of p))) Enotdir (or_else-none (check (is_file (tree_shapes t (parent_of p))) Enotdir) None both.1).0 in
     dir_there t (parent_of p) (look t (parent_of p)) there no_file

@@ -1,11 +1,11 @@
 -- The rows of the calls by name, for proofs that speak of one row.
 use Rattle.std.proofs.Common.{◌≡◌, ℕ, Bool, false, List, [], ◌∷◌, Option, Some, None, refl}
-use Rattle.fs_names.specs.First.{on, first}
+use Rattle.fs_names.specs.Failures.{check, first_failure}
 use Rattle.fs_names.specs.Keys.{Key, has_more}
 use Rattle.fs_names.specs.Names.{Name}
 use Rattle.fs_names.specs.Shapes.{Shape, Dir, is_full}
 use Rattle.fs_calls.specs.Forms.{Mkdir, Unlink, Rmdir, NodeCall, Stat, Readdir, Read, Write, Truncate}
-use Rattle.fs_calls.specs.Rows.{node_fault, entry_fault, on_row}
+use Rattle.fs_calls.specs.Rows.{node_fault, entry_fault, node_row}
 use Rattle.fs_calls.specs.declared.errno.Errno.{Errno}
 use Rattle.fs_calls.specs.declared.errno.Errno.TheVariants.{Einval}
 
@@ -35,10 +35,10 @@ truncating found there size = node_fault (Truncate size) found there
 
 -- the error of a rename to a place below the node itself
 abbrev pub if_below : Option Key → Option Errno
-if_below rest = first (on (has_more rest) Einval ∷ [])
+if_below rest = first_failure (check (has_more rest) Einval ∷ [])
 
 -- a directory gets no bytes
-pub on_dir : (c : NodeCall) (names : List Name) → (on_row c None (Some (Dir names))).1 ≡ None
+pub on_dir : (c : NodeCall) (names : List Name) → (node_row c None (Some (Dir names))).1 ≡ None
 on_dir Stat names = refl
 on_dir Readdir names = refl
 on_dir (Read off count) names = refl

@@ -5,8 +5,8 @@ use Rattle.fs_names.specs.Names.{Name}
 use Rattle.fs_names.specs.Keys.{Key, same_key, is_root, after_prefix}
 use Rattle.fs_names.proofs.Lemmas.{after_prefix-exact, after_prefix-append}
 use Rattle.fs_calls.specs.Tree.{Tree, Node, Dir, File, look, root_tree, inserted, removed, renamed, IsTree}
-use Rattle.fs_calls.specs.Shapes.{seen, has_any, bytes_of}
-use Rattle.fs_calls.specs.Outcomes.{fault, after, change, unless, filled, play, play_from}
+use Rattle.fs_calls.specs.Shapes.{tree_shapes, has_any, bytes_of}
+use Rattle.fs_calls.specs.Outcomes.{fault, after, change, if_sound, filled, play, play_from}
 use Rattle.fs_calls.specs.Rows.{written, resized}
 use Rattle.fs_calls.specs.Laws.{StaysATree, PlayedTreesAreTrees, SameTrees, IsMoved, RenamesMove}
 use Rattle.fs_calls.specs.declared.call.Call.{Call}
@@ -175,12 +175,12 @@ tree-change t (Stat p) is h = is
 tree-change t (Readdir p) is h = is
 tree-change t (Read p off count) is h = is
 tree-change t (Write p off bytes) is h =
-    let new : IsTree (inserted t p (File (written (bytes_of (seen t p)) off bytes))) = rewritten t p (File (written (bytes_of (seen t p)) off bytes)) is (write_writes t p off bytes is h) in
-    elim (has_any bytes) as (λ b. IsTree (filled t p (cond {A = Option (List ℕ)} b (Some (written (bytes_of (seen t p)) off bytes)) None))) [ true ↦ new | false ↦ is ]
-tree-change t (Truncate p size) is h = rewritten t p (File (resized (bytes_of (seen t p)) size)) is (truncate_writes t p size is h)
+    let new : IsTree (inserted t p (File (written (bytes_of (tree_shapes t p)) off bytes))) = rewritten t p (File (written (bytes_of (tree_shapes t p)) off bytes)) is (write_writes t p off bytes is h) in
+    elim (has_any bytes) as (λ b. IsTree (filled t p (cond {A = Option (List ℕ)} b (Some (written (bytes_of (tree_shapes t p)) off bytes)) None))) [ true ↦ new | false ↦ is ]
+tree-change t (Truncate p size) is h = rewritten t p (File (resized (bytes_of (tree_shapes t p)) size)) is (truncate_writes t p size is h)
 
 -- the tree after a call, by its first error
-by_fault : (t : Tree) (call : Call) (found : Option Errno) → IsTree t → fault t call ≡ found → IsTree (unless found t (change t call))
+by_fault : (t : Tree) (call : Call) (found : Option Errno) → IsTree t → fault t call ≡ found → IsTree (if_sound found t (change t call))
 by_fault t call None is h = tree-change t call is h
 by_fault t call (Some e) is h = is
 
@@ -218,10 +218,10 @@ played_trees_are_trees calls = let is = played_from root_tree calls tree_root in
 -- what a rename without an error leaves
 after_done : (t : Tree) (p q : Key) → fault t (Rename p q) ≡ None → p ≢ q → after t (Rename p q) ≡ renamed t p q
 unfolding after
-after_done t p q h other = ap (λ found. unless found t (change t (Rename p q))) h ∙ ap (λ b. cond {A = Tree} b t (renamed t p q)) (never_same p q other)
+after_done t p q h other = ap (λ found. if_sound found t (change t (Rename p q))) h ∙ ap (λ b. cond {A = Tree} b t (renamed t p q)) (never_same p q other)
 
 -- a rename of a path onto itself leaves the tree, with an error or without
-onto_itself : (t : Tree) (p : Key) (found : Option Errno) → unless found t (cond {A = Tree} (is_same p p) t (renamed t p p)) ≡ t
+onto_itself : (t : Tree) (p : Key) (found : Option Errno) → if_sound found t (cond {A = Tree} (is_same p p) t (renamed t p p)) ≡ t
 onto_itself t p None = ap (λ b. cond {A = Tree} b t (renamed t p p)) (is_same_refl p)
 onto_itself t p (Some e) = refl
 

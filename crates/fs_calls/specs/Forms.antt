@@ -1,6 +1,6 @@
 -- The forms of calls, by what they look at: a node, an entry of a directory, or two entries.
 use Rattle.std.specs.Prelude.{ℕ, ◌≡◌, ◌||◌, List, [], ◌∷◌, ◌++◌, Option, Some, None}
-use Rattle.fs_names.specs.First.{on, first}
+use Rattle.fs_names.specs.Failures.{check, first_failure}
 use Rattle.fs_names.specs.Keys.{Key, is_root, is_proper_prefix}
 use Rattle.fs_names.specs.Shapes.{Shape, Dir, File}
 use Rattle.fs_calls.specs.declared.call.Call.{Call}
@@ -48,8 +48,8 @@ root_error Rmdir = Ebusy
 -- what the paths of a call decide alone
 abbrev pub by_text : Form → Option Errno
 by_text (AtNode c p) = None
-by_text (AtEntry c p) = on (is_root p) (root_error c)
-by_text (AtPair Rename p q) = first (on (is_root p || is_root q) Ebusy ∷ on (is_proper_prefix p q) Einval ∷ [])
+by_text (AtEntry c p) = check (is_root p) (root_error c)
+by_text (AtPair Rename p q) = first_failure (check (is_root p || is_root q) Ebusy ∷ check (is_proper_prefix p q) Einval ∷ [])
 
 -- the same call with its paths read from k on
 abbrev pub under : Key → Form → Form

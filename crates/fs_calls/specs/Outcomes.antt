@@ -1,10 +1,10 @@
 -- What each call replies on a tree, and the tree after it: the rows, read at the keys of the tree.
 use Rattle.std.specs.Prelude.{ℕ, List, [], ◌∷◌, if◌then◌else◌, Option, Some, None}
-use Rattle.fs_names.specs.First.{or_else}
+use Rattle.fs_names.specs.Failures.{or_else}
 use Rattle.fs_names.specs.Keys.{Key, parent_of}
 use Rattle.fs_calls.specs.Tree as tree
 use Rattle.fs_calls.specs.Tree.{Tree, Node, root_tree, inserted, removed, renamed}
-use Rattle.fs_calls.specs.Shapes.{Shape, Dir, File, seen}
+use Rattle.fs_calls.specs.Shapes.{Shape, Dir, File, tree_shapes}
 use Rattle.fs_calls.specs.Sights.{resolve, resolve_dir, is_same, row_in}
 use Rattle.fs_calls.specs.Forms.{form, by_text, new_shape, Form, AtNode, AtEntry, AtPair}
 use Rattle.fs_calls.specs.declared.target.PairCall.TheVariants as pairs
@@ -16,14 +16,14 @@ use Rattle.fs_calls.specs.declared.errno.Errno.{Errno}
 
 -- resolution, and the parent's resolution
 abbrev pub resolution : Tree → Key → Option Errno
-resolution t p = resolve (seen t) p
+resolution t p = resolve (tree_shapes t) p
 
 abbrev pub parents_resolution : Tree → Key → Option Errno
-parents_resolution t p = resolve_dir (seen t) (parent_of p)
+parents_resolution t p = resolve_dir (tree_shapes t) (parent_of p)
 
 -- the reply and the tree of a call without an error
 abbrev pub reply_of : Tree → Form → Reply
-reply_of t (AtNode c p) = node_reply c (seen t p)
+reply_of t (AtNode c p) = node_reply c (tree_shapes t p)
 reply_of t (AtEntry c p) = answer.Done
 reply_of t (AtPair pairs.Rename p q) = answer.Done
 
@@ -41,13 +41,13 @@ edited t p (Add shape) = inserted t p (node_of shape)
 edited t p Remove = removed t p
 
 abbrev pub change_of : Tree → Form → Tree
-change_of t (AtNode c p) = filled t p (new_bytes c (seen t p))
+change_of t (AtNode c p) = filled t p (new_bytes c (tree_shapes t p))
 change_of t (AtEntry c p) = edited t p (edit_of (new_shape c))
 change_of t (AtPair pairs.Rename p q) = if is_same p q then t else renamed t p q
 
 -- the same of each call
 abbrev pub row : Tree → Call → Option Errno
-row t call = row_in (seen t) (form call)
+row t call = row_in (tree_shapes t) (form call)
 
 abbrev pub success : Tree → Call → Reply
 success t call = reply_of t (form call)
@@ -63,16 +63,16 @@ abbrev pub replied : Option Errno → Reply → Reply
 replied None well = well
 replied (Some e) well = answer.Failed e
 
-abbrev pub unless : Option Errno → Tree → Tree → Tree
-unless None old new = new
-unless (Some e) old new = old
+abbrev pub if_sound : Option Errno → Tree → Tree → Tree
+if_sound None old new = new
+if_sound (Some e) old new = old
 
 -- what a call replies, and the tree after it
 unfoldable pub reply : Tree → Call → Reply
 reply t call = replied (fault t call) (success t call)
 
 unfoldable pub after : Tree → Call → Tree
-after t call = unless (fault t call) t (change t call)
+after t call = if_sound (fault t call) t (change t call)
 
 -- the tree after a list of calls, and from the root alone
 abbrev pub play_from : Tree → List Call → Tree

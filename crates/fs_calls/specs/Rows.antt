@@ -1,7 +1,7 @@
 -- The table of errors, replies and changes. A call answers the first error of its row that holds, and an error changes nothing.
 -- A row speaks of what was read and looks nothing up: the tree reads at keys, the machine at the nodes that it holds.
 use Rattle.std.specs.Prelude.{ℕ, ◌+◌, ◌-◌, Bool, true, false, not, ◌&&◌, ◌||◌, nat_lt, length, take, drop, replicate, List, [], ◌∷◌, ◌++◌, Option, Some, None, if◌then◌else◌}
-use Rattle.fs_names.specs.First.{on, first}
+use Rattle.fs_names.specs.Failures.{check, first_failure}
 use Rattle.fs_names.specs.Names.{Name}
 use Rattle.fs_names.specs.Shapes.{Shape, Dir, File, is_there, is_missing, is_dir, is_file, names_of, bytes_of, has_any, has_entries, is_full}
 use Rattle.fs_names.specs.declared.limits.TheConstants.{FILE_LIMIT}
@@ -17,33 +17,33 @@ use Rattle.fs_calls.specs.declared.reply.Reply.TheVariants as answer
 -- a call on a node, by what stands at the path
 abbrev pub node_errors : NodeCall → Option Shape → List (Option Errno)
 node_errors Stat there = []
-node_errors Readdir there = on (is_file there) Enotdir ∷ []
-node_errors (Read off count) there = on (is_dir there) Eisdir ∷ []
-node_errors (Write off bytes) there = on (is_dir there) Eisdir ∷ on (has_any bytes && nat_lt FILE_LIMIT (off + length bytes)) Efbig ∷ []
-node_errors (Truncate size) there = on (is_dir there) Eisdir ∷ on (nat_lt FILE_LIMIT size) Efbig ∷ []
+node_errors Readdir there = check (is_file there) Enotdir ∷ []
+node_errors (Read off count) there = check (is_dir there) Eisdir ∷ []
+node_errors (Write off bytes) there = check (is_dir there) Eisdir ∷ check (has_any bytes && nat_lt FILE_LIMIT (off + length bytes)) Efbig ∷ []
+node_errors (Truncate size) there = check (is_dir there) Eisdir ∷ check (nat_lt FILE_LIMIT size) Efbig ∷ []
 
 -- a call on an entry, by whether its directory is full and what stands at the path
 abbrev pub entry_errors : EntryCall → Bool → Option Shape → List (Option Errno)
-entry_errors Mkdir full there = on (is_there there) Eexist ∷ on full Enospc ∷ []
-entry_errors Mknod full there = on (is_there there) Eexist ∷ on full Enospc ∷ []
-entry_errors Unlink full there = on (is_missing there) Enoent ∷ on (is_dir there) Eperm ∷ []
-entry_errors Rmdir full there = on (is_missing there) Enoent ∷ on (is_file there) Enotdir ∷ on (has_entries there) Enotempty ∷ []
+entry_errors Mkdir full there = check (is_there there) Eexist ∷ check full Enospc ∷ []
+entry_errors Mknod full there = check (is_there there) Eexist ∷ check full Enospc ∷ []
+entry_errors Unlink full there = check (is_missing there) Enoent ∷ check (is_dir there) Eperm ∷ []
+entry_errors Rmdir full there = check (is_missing there) Enoent ∷ check (is_file there) Enotdir ∷ check (has_entries there) Enotempty ∷ []
 
 -- the new path of a rename, by what stands at both paths and whether the new one has room
 abbrev pub place_errors : Option Shape → Option Shape → Bool → List (Option Errno)
 place_errors moved there room =
-    on (is_file there && is_dir moved) Enotdir
-    ∷ on (is_dir there && is_file moved) Eisdir
-    ∷ on (has_entries there) Enotempty
-    ∷ on (is_missing there && not room) Enospc
+    check (is_file there && is_dir moved) Enotdir
+    ∷ check (is_dir there && is_file moved) Eisdir
+    ∷ check (has_entries there) Enotempty
+    ∷ check (is_missing there && not room) Enospc
     ∷ []
 
 abbrev pub place_fault : Option Shape → Option Shape → Bool → Option Errno
-place_fault moved there room = first (place_errors moved there room)
+place_fault moved there room = first_failure (place_errors moved there room)
 
 -- a rename, by the same and whether both paths are one
 abbrev pub rename_errors : Option Shape → Bool → Option Shape → Bool → List (Option Errno)
-rename_errors moved same_path there room = on (is_missing moved) Enoent ∷ (if same_path then [] else place_errors moved there room)
+rename_errors moved same_path there room = check (is_missing moved) Enoent ∷ (if same_path then [] else place_errors moved there room)
 
 -- an entry has room in the directory from which it comes, and in one that is not full
 abbrev pub has_room : Bool → Option Shape → Bool
@@ -51,17 +51,17 @@ has_room one_parent dir = one_parent || not (is_full dir)
 
 -- a parent's resolution, by that of its path and what stands there
 abbrev pub as_dir : Option Errno → Option Shape → Option Errno
-as_dir found dir = first (found ∷ on (is_missing dir) Enoent ∷ on (is_file dir) Enotdir ∷ [])
+as_dir found dir = first_failure (found ∷ check (is_missing dir) Enoent ∷ check (is_file dir) Enotdir ∷ [])
 
 -- the first error of a row, behind the resolution of the path, of the parent, of both parents
 abbrev pub node_fault : NodeCall → Option Errno → Option Shape → Option Errno
-node_fault c found there = first (found ∷ on (is_missing there) Enoent ∷ node_errors c there)
+node_fault c found there = first_failure (found ∷ check (is_missing there) Enoent ∷ node_errors c there)
 
 abbrev pub entry_fault : EntryCall → Option Errno → Bool → Option Shape → Option Errno
-entry_fault c parent full there = first (parent ∷ entry_errors c full there)
+entry_fault c parent full there = first_failure (parent ∷ entry_errors c full there)
 
 abbrev pub rename_fault : Option Errno → Option Errno → Option Shape → Bool → Option Shape → Bool → Option Errno
-rename_fault source dest moved same_path there room = first (source ∷ dest ∷ rename_errors moved same_path there room)
+rename_fault source dest moved same_path there room = first_failure (source ∷ dest ∷ rename_errors moved same_path there room)
 
 -- ---- replies and changes without an error
 
@@ -113,12 +113,12 @@ answered (Some e) unchanged reply change = (answer.Failed e, unchanged)
 answered None unchanged reply change = (reply, change)
 
 -- a call on a node: its reply, and the new bytes of a file, if any
-abbrev pub on_row : NodeCall → Option Errno → Option Shape → Reply × Option (List ℕ)
-on_row c found there = answered (node_fault c found there) None (node_reply c there) (new_bytes c there)
+abbrev pub node_row : NodeCall → Option Errno → Option Shape → Reply × Option (List ℕ)
+node_row c found there = answered (node_fault c found there) None (node_reply c there) (new_bytes c there)
 
 -- a call on an entry, by the parent's resolution, whether it is full, and what the name stands for
-abbrev pub in_row : EntryCall → Option Errno → Bool → Option Shape → Reply × Edit
-in_row c parent full there = answered (entry_fault c parent full there) Keep answer.Done (edit_of (new_shape c))
+abbrev pub entry_row : EntryCall → Option Errno → Bool → Option Shape → Reply × Edit
+entry_row c parent full there = answered (entry_fault c parent full there) Keep answer.Done (edit_of (new_shape c))
 
 -- a rename, by both parents' resolutions and what p and q stand for: whether it really moves
 abbrev pub rename_row : Option Errno → Option Errno → Option Shape → Bool → Option Shape → Bool → Reply × Bool
@@ -128,15 +128,15 @@ rename_row source dest moved same_path there room = answered (rename_fault sourc
 
 -- a new node, where the entry has room and nothing stands there
 abbrev pub made : Shape → Bool → Option Shape → Reply × Edit
-made new full there = answered (first (entry_errors Mkdir full there)) Keep answer.Done (Add new)
+made new full there = answered (first_failure (entry_errors Mkdir full there)) Keep answer.Done (Add new)
 
 -- a call on an entry whose parent is a directory
-abbrev pub in_there : EntryCall → Bool → Option Shape → Reply × Edit
-in_there c full there = answered (first (entry_errors c full there)) Keep answer.Done (edit_of (new_shape c))
+abbrev pub entry_row_in_dir : EntryCall → Bool → Option Shape → Reply × Edit
+entry_row_in_dir c full there = answered (first_failure (entry_errors c full there)) Keep answer.Done (edit_of (new_shape c))
 
 -- a rename whose parents are directories; of a node that is there; by its error
-abbrev pub from_row : Option Shape → Bool → Option Shape → Bool → Reply × Bool
-from_row moved same_path there room = answered (first (rename_errors moved same_path there room)) false answer.Done (not same_path)
+abbrev pub rename_row_in_dirs : Option Shape → Bool → Option Shape → Bool → Reply × Bool
+rename_row_in_dirs moved same_path there room = answered (first_failure (rename_errors moved same_path there room)) false answer.Done (not same_path)
 
 abbrev pub to_row : Shape → Option Shape → Bool → Option Errno
 to_row moved there room = place_fault (Some moved) there room

@@ -11,5 +11,5 @@ shape_of t k (Some tree.Dir) = Some (Dir (names_in t k))
 shape_of t k (Some (tree.File bytes)) = Some (File bytes)
 
 -- what is seen at a key of a tree
-abbrev pub seen : Tree → Key → Option Shape
-seen t k = shape_of t k (look t k)
+abbrev pub tree_shapes : Tree → Key → Option Shape
+tree_shapes t k = shape_of t k (look t k)

@@ -4,10 +4,10 @@ use Rattle.std.specs.Prelude.{slice_get, MatchOption}
 use Rattle.fs_names.specs.Keys.{Key}
 use Rattle.fs_calls.specs.declared.reply.Reply.{Reply}
 use Rattle.fs_nodes.specs.Graphs.{Graph, at, numbers}
-use Rattle.fs_nodes.specs.Stores.{graph_of, kid}
+use Rattle.fs_nodes.specs.Stores.{graph_of, child}
 use Rattle.fs_locks.specs.Holding.{room}
-use Rattle.fs_machine.specs.Records.{Stand, Walking, Record}
-use Rattle.fs_machine.specs.Works.{phase_of, record_of}
+use Rattle.fs_machine.specs.Records.{Holdings, Walking, Record}
+use Rattle.fs_machine.specs.OpValues.{phase_of, record_of}
 use Rattle.fs_laws.specs.Invariants.{Invariant}
 use Rattle.fs_laws.specs.States.{IsWalkingBelow, IsLowest, NoneBelow, Run}
 use Rattle.fs_laws.proofs.states.Headline.{run_keeps}
@@ -27,24 +27,24 @@ use Rattle.fs_core.proofs.Steps.{walks_phase}
 pub record Walks (r : Running) (n : ℕ) : Type 0 where
   pub unplaced : r.place ≡ None
   pub unanswered : r.op.reply ≡ None
-  pub stand : Stand
-  pub on : r.op.stand ≡ Some stand
-  pub here : stand.node ≡ n
+  pub holdings : Holdings
+  pub on : r.op.holdings ≡ Some holdings
+  pub here : holdings.node ≡ n
 
 pub walks_at : (r : Running) (n : ℕ) → position_of (Some r) ≡ Some n → Walks r n
-walks_at r n e = go r.place r.op.reply r.op.stand refl refl refl e
+walks_at r n e = go r.place r.op.reply r.op.holdings refl refl refl e
   where
-    go : (p : Option ℕ) (q : Option Reply) (s : Option Stand) → r.place ≡ p → r.op.reply ≡ q → r.op.stand ≡ s → position_of (Some (record { call = r.call; place = p; op = record r.op { reply = q; stand = s } })) ≡ Some n → Walks r n
+    go : (p : Option ℕ) (q : Option Reply) (s : Option Holdings) → r.place ≡ p → r.op.reply ≡ q → r.op.holdings ≡ s → position_of (Some (record { call = r.call; place = p; op = record r.op { reply = q; holdings = s } })) ≡ Some n → Walks r n
     go (Some i) q s f g h j = cc
     go None (Some x) s f g h j = cc
     go None None None f g h j = cc
-    go None None (Some st) f g h j = record { unplaced = f; unanswered = g; stand = st; on = h; here = let z : st.node ≡ n = cc in z }
+    go None None (Some st) f g h j = record { unplaced = f; unanswered = g; holdings = st; on = h; here = let z : st.node ≡ n = cc in z }
 
-pub position_at : (r : Running) (st : Stand) → r.place ≡ None → r.op.reply ≡ None → r.op.stand ≡ Some st → position_of (Some r) ≡ Some st.node
+pub position_at : (r : Running) (st : Holdings) → r.place ≡ None → r.op.reply ≡ None → r.op.holdings ≡ Some st → position_of (Some r) ≡ Some st.node
 position_at r st e f g =
     ap (λ (p : Option ℕ). position_of (Some (record r { place = p }))) e
     ∙ ap (λ (q : Option Reply). position_of (Some (record r { place = None; op = record r.op { reply = q } }))) f
-    ∙ ap (λ (s : Option Stand). position_of (Some (record r { place = None; op = record r.op { reply = None; stand = s } }))) g
+    ∙ ap (λ (s : Option Holdings). position_of (Some (record r { place = None; op = record r.op { reply = None; holdings = s } }))) g
 
 walks_by : (p : Option ℕ) (q : Option Reply) → phase_of p q ≡ Walking → (p ≡ None) × (q ≡ None)
 walks_by None None e = (refl, refl)
@@ -53,18 +53,18 @@ walks_by None (Some r) e = cc
 walks_by (Some i) (Some r) e = cc
 
 -- on its seat and by its number
-pub under_walks : (m : Machine) (s seat : ℕ) → Run (state_of m) → (u : IsUnder (kid m.store) m.seats s seat) → IsWalkingBelow (state_of m) s u.running.call
+pub under_walks : (m : Machine) (s seat : ℕ) → Run (state_of m) → (u : IsUnder (child m.store) m.seats s seat) → IsWalkingBelow (state_of m) s u.running.call
 under_walks m s seat run u =
     let w : Walks u.running u.node = walks_at u.running u.node u.position in (
       record_of seat u.running.place u.running.op,
       call_on m seat u.running run u.on,
       walks_phase u.running w.unplaced w.unanswered,
-      (w.stand, u.reached.0, w.on, u.reached.1 ∙ ap (λ (n : ℕ). Some n) (sym w.here)),
+      (w.holdings, u.reached.0, w.on, u.reached.1 ∙ ap (λ (n : ℕ). Some n) (sym w.here)),
     )
 
 pub record Found (m : Machine) (s d : ℕ) : Type 0 where
   pub seat : ℕ
-  pub under : IsUnder (kid m.store) m.seats s seat
+  pub under : IsUnder (child m.store) m.seats s seat
   pub number : under.running.call ≡ d
 
 pub walks_under : (m : Machine) (s d : ℕ) → IsWalkingBelow (state_of m) s d → Found m s d
@@ -73,7 +73,7 @@ walks_under m s d (op, is, phase, (st, key, on, here)) =
     let w : (c.running.place ≡ None) × (c.running.op.reply ≡ None) = walks_by c.running.place c.running.op.reply (sym (ap (λ (o : Record). o.phase) c.is) ∙ phase) in
     record {
       seat = c.seat;
-      under = record { running = c.running; node = st.node; on = c.on; position = position_at c.running st w.0 w.1 (sym (ap (λ (o : Record). o.stand) c.is) ∙ on); reached = (key, here) };
+      under = record { running = c.running; node = st.node; on = c.on; position = position_at c.running st w.0 w.1 (sym (ap (λ (o : Record). o.holdings) c.is) ∙ on); reached = (key, here) };
       number = c.number;
     }
 
@@ -81,33 +81,33 @@ walks_under m s d (op, is, phase, (st, key, on, here)) =
 same_record : (m : Machine) (d : ℕ) (op q : Record) → records m.seats d ≡ Some op → records m.seats d ≡ Some q → op ≡ q
 same_record m d op q e f = let z : ◌≡◌ {A = Option Record} (Some op) (Some q) = sym e ∙ f in cc
 
-same_stand : (op : Record) (st other : Stand) → op.stand ≡ Some st → op.stand ≡ Some other → st ≡ other
-same_stand op st other e f = let z : ◌≡◌ {A = Option Stand} (Some st) (Some other) = sym e ∙ f in cc
+same_holdings : (op : Record) (st other : Holdings) → op.holdings ≡ Some st → op.holdings ≡ Some other → st ≡ other
+same_holdings op st other e f = let z : ◌≡◌ {A = Option Holdings} (Some st) (Some other) = sym e ∙ f in cc
 
 same_running : (m : Machine) (seat : ℕ) (r q : Running) → slice_get m.seats seat ≡ Some (Some r) → slice_get m.seats seat ≡ Some (Some q) → r ≡ q
 same_running m seat r q e f = let z : ◌≡◌ {A = Option (Option Running)} (Some (Some r)) (Some (Some q)) = sym e ∙ f in cc
 
 -- a lowest call on its seat and by its number
-pub lowest_walks : (m : Machine) (s seat : ℕ) → Run (state_of m) → (l : IsLowestOn (kid m.store) m.seats s seat) → IsLowest (state_of m) s l.under.running.call
+pub lowest_walks : (m : Machine) (s seat : ℕ) → Run (state_of m) → (l : IsLowestOn (child m.store) m.seats s seat) → IsLowest (state_of m) s l.under.running.call
 lowest_walks m s seat run l = (under_walks m s seat run l.under, other)
   where
-    u : IsUnder (kid m.store) m.seats s seat
+    u : IsUnder (child m.store) m.seats s seat
     u = l.under
 
     w : Walks u.running u.node
     w = walks_at u.running u.node u.position
 
-    other : (op : Record) (st : Stand) (e : ℕ) → records m.seats u.running.call ≡ Some op → op.stand ≡ Some st → (u.running.call ≡ e → ⊥) → IsWalkingBelow (state_of m) st.node e → ⊥
+    other : (op : Record) (st : Holdings) (e : ℕ) → records m.seats u.running.call ≡ Some op → op.holdings ≡ Some st → (u.running.call ≡ e → ⊥) → IsWalkingBelow (state_of m) st.node e → ⊥
     other op st e is on differs below =
         let z : op ≡ record_of seat u.running.place u.running.op = same_record m u.running.call op _ is (call_on m seat u.running run u.on) in
-        let y : st ≡ w.stand = same_stand (record_of seat u.running.place u.running.op) st w.stand (sym (ap (λ (o : Record). o.stand) z) ∙ on) w.on in
+        let y : st ≡ w.holdings = same_holdings (record_of seat u.running.place u.running.op) st w.holdings (sym (ap (λ (o : Record). o.holdings) z) ∙ on) w.on in
         let f : Found m st.node e = walks_under m st.node e below in
         l.alone f.seat (λ i. differs (ap (λ (r : Running). r.call) (same_running m f.seat u.running f.under.running (subst (λ (j : ℕ). slice_get m.seats j ≡ Some (Some u.running)) i u.on) f.under.on) ∙ f.number))
-        (subst (λ (n : ℕ). IsUnder (kid m.store) m.seats n f.seat) (ap (λ (t : Stand). t.node) y ∙ w.here) f.under)
+        (subst (λ (n : ℕ). IsUnder (child m.store) m.seats n f.seat) (ap (λ (t : Holdings). t.node) y ∙ w.here) f.under)
 
 pub record FoundLowest (m : Machine) (s d : ℕ) : Type 0 where
   pub seat : ℕ
-  pub lowest : IsLowestOn (kid m.store) m.seats s seat
+  pub lowest : IsLowestOn (child m.store) m.seats s seat
   pub number : number_on m.seats seat ≡ Some d
 
 pub walks_lowest : (m : Machine) (s d : ℕ) → Run (state_of m) → IsLowest (state_of m) s d → FoundLowest m s d
@@ -120,9 +120,9 @@ walks_lowest m s d run l =
     w : Walks f.under.running f.under.node
     w = walks_at f.under.running f.under.node f.under.position
 
-    alone : IsAlone (kid m.store) m.seats f.under.node f.seat
+    alone : IsAlone (child m.store) m.seats f.under.node f.seat
     alone k differs u =
-        l.1 (record_of f.seat f.under.running.place f.under.running.op) w.stand u.running.call (ap (records m.seats) (sym f.number) ∙ call_on m f.seat f.under.running run f.under.on) w.on
+        l.1 (record_of f.seat f.under.running.place f.under.running.op) w.holdings u.running.call (ap (records m.seats) (sym f.number) ∙ call_on m f.seat f.under.running run f.under.on) w.on
         (λ e. differs (apart_of m run f.seat k f.under.running u.running f.under.on u.on (f.number ∙ e)))
         (subst (λ (n : ℕ). IsWalkingBelow (state_of m) n u.running.call) (sym w.here) (under_walks m f.under.node k run u))
 
@@ -136,15 +136,15 @@ none_below m s run roomy none d below = go (room m.holding) d below (omega arith
     graph : Graph
     graph = graph_of m.store
 
-    here : (c : ℕ) (op : Record) (st : Stand) → records m.seats c ≡ Some op → op.stand ≡ Some st → numbers graph (inv.key c) ≡ Some st.node
+    here : (c : ℕ) (op : Record) (st : Holdings) → records m.seats c ≡ Some op → op.holdings ≡ Some st → numbers graph (inv.key c) ≡ Some st.node
     here c op st is on = (inv.kept.each c op st is on).located.here
 
-    longer : (d e : ℕ) (op q : Record) (st other : Stand) (key : Key) → records m.seats d ≡ Some op → op.stand ≡ Some st → records m.seats e ≡ Some q → q.stand ≡ Some other → (d ≡ e → ⊥) → at graph.kid st.node key ≡ Some other.node
+    longer : (d e : ℕ) (op q : Record) (st other : Holdings) (key : Key) → records m.seats d ≡ Some op → op.holdings ≡ Some st → records m.seats e ≡ Some q → q.holdings ≡ Some other → (d ≡ e → ⊥) → at graph.child st.node key ≡ Some other.node
         → length (inv.key d) < length (inv.key e)
     longer d e op q st other [] is on is_q on_q differs key_is =
         let z : ◌≡◌ {A = Option ℕ} (Some d) (Some e) = sym (inv.held d op st st.node is on (inl refl)) ∙ inv.held e q other st.node is_q on_q (inl (let y : st.node ≡ other.node = cc in sym y)) in absurd (differs cc)
     longer d e op q st other (x ∷ key) is on is_q on_q differs key_is =
-        let k : inv.key e ≡ inv.key d ++ x ∷ key = inv.kept.one_key (inv.key e) (inv.key d ++ x ∷ key) other.node (here e q other is_q on_q) (at_from graph.kid 0 st.node (inv.key d) (x ∷ key) (here d op st is on) ∙ key_is) in
+        let k : inv.key e ≡ inv.key d ++ x ∷ key = inv.kept.one_key (inv.key e) (inv.key d ++ x ∷ key) other.node (here e q other is_q on_q) (at_from graph.child 0 st.node (inv.key d) (x ∷ key) (here d op st is on) ∙ key_is) in
         let l : length (inv.key e) ≡ length (inv.key d) + length (x ∷ key) = ap length k ∙ length-append (inv.key d) (x ∷ key) in
         let n : length (x ∷ key) ≡ length key + 1 = omega arith in
         omega (arith, l, n)
@@ -156,10 +156,10 @@ none_below m s run roomy none d below = go (room m.holding) d below (omega arith
       (op, is, phase, (st, key, on, at_key)),
       λ p other e is_p on_p differs (q, is_q, phase_q, (st_q, key_q, on_q, at_q)).
           let z : p ≡ op = same_record m d p op is_p is in
-          let y : other ≡ st = same_stand op other st (sym (ap (λ (o : Record). o.stand) z) ∙ on_p) on in
-          let reach : at graph.kid st.node key_q ≡ Some st_q.node = ap (λ (t : Stand). at graph.kid t.node key_q) (sym y) ∙ at_q in
+          let y : other ≡ st = same_holdings op other st (sym (ap (λ (o : Record). o.holdings) z) ∙ on_p) on in
+          let reach : at graph.child st.node key_q ≡ Some st_q.node = ap (λ (t : Holdings). at graph.child t.node key_q) (sym y) ∙ at_q in
           let more : length (inv.key d) < length (inv.key e) = longer d e op q st st_q key_q is on is_q on_q differs reach in
-          go fuel e (q, is_q, phase_q, (st_q, key ++ key_q, on_q, at_from graph.kid s st.node key key_q at_key ∙ reach)) (omega (arith, more, enough)),
+          go fuel e (q, is_q, phase_q, (st_q, key ++ key_q, on_q, at_from graph.child s st.node key key_q at_key ∙ reach)) (omega (arith, more, enough)),
     )
 
 -- what a search needs
@@ -177,12 +177,12 @@ can_search m b k p kept = record {
     rooted seat n None e f = cc
     rooted seat n (Some r) e f =
         let w : Walks r n = walks_at r n f in
-        (inv.key r.call, (inv.kept.each r.call (record_of seat r.place r.op) w.stand (call_on m seat r kept.run e) w.on).located.here ∙ ap (λ (x : ℕ). Some x) w.here)
+        (inv.key r.call, (inv.kept.each r.call (record_of seat r.place r.op) w.holdings (call_on m seat r kept.run e) w.on).located.here ∙ ap (λ (x : ℕ). Some x) w.here)
 
 -- what it finds
-pub chosen_by : (m : Machine) (s seat : ℕ) → Run (state_of m) → HasLeast (kid m.store) m.seats s (length m.seats) (Some seat) → Helps m s seat
+pub chosen_by : (m : Machine) (s seat : ℕ) → Run (state_of m) → HasLeast (child m.store) m.seats s (length m.seats) (Some seat) → Helps m s seat
 chosen_by m s seat run h =
-    let l : IsLowestOn (kid m.store) m.seats s seat = h.1 in
+    let l : IsLowestOn (child m.store) m.seats s seat = h.1 in
     let w : Walks l.under.running l.under.node = walks_at l.under.running l.under.node l.under.position in
     record {
       running = l.under.running;
@@ -193,16 +193,16 @@ chosen_by m s seat run h =
         lowest_walks m s seat run l,
         λ e low.
             let f : FoundLowest m s e = walks_lowest m s e run low in
-            h.2 f.seat l.under.running.call e (under_within (kid m.store) m.seats s f.seat f.lowest.under) f.lowest (number_read m.seats seat (Some l.under.running) l.under.on) f.number,
+            h.2 f.seat l.under.running.call e (under_within (child m.store) m.seats s f.seat f.lowest.under) f.lowest (number_read m.seats seat (Some l.under.running) l.under.on) f.number,
       );
     }
 
-pub none_by : (m : Machine) (s : ℕ) → Run (state_of m) → AreBelow (graph_of m.store) (room m.holding) → HasLeast (kid m.store) m.seats s (length m.seats) None → NoneBelow (state_of m) (Some s)
+pub none_by : (m : Machine) (s : ℕ) → Run (state_of m) → AreBelow (graph_of m.store) (room m.holding) → HasLeast (child m.store) m.seats s (length m.seats) None → NoneBelow (state_of m) (Some s)
 none_by m s run roomy h = none_below m s run roomy (λ e low.
     let f : FoundLowest m s e = walks_lowest m s e run low in
-    h f.seat (under_within (kid m.store) m.seats s f.seat f.lowest.under) f.lowest)
+    h f.seat (under_within (child m.store) m.seats s f.seat f.lowest.under) f.lowest)
 
-pub helps_by : (m : Machine) (b k p s : ℕ) → IsKept m b k p → (o : Option ℕ) → HasLeast (kid m.store) m.seats s (length m.seats) o → MatchOption o (NoneBelow (state_of m) (Some s)) (λ other. Helps m s other)
+pub helps_by : (m : Machine) (b k p s : ℕ) → IsKept m b k p → (o : Option ℕ) → HasLeast (child m.store) m.seats s (length m.seats) o → MatchOption o (NoneBelow (state_of m) (Some s)) (λ other. Helps m s other)
 helps_by m b k p s kept None h = none_by m s kept.run kept.roomy h
 helps_by m b k p s kept (Some seat) h = chosen_by m s seat kept.run h
 
@@ -210,5 +210,5 @@ helps_by m b k p s kept (Some seat) h = chosen_by m s seat kept.run h
 pub search_by : (m : Machine) (b k p : ℕ) (seats : List (Option Running)) (bound : ℕ) → IsKept m b k p → seats ≡ m.seats → bound ≡ room m.holding → CanSearch m.store seats bound
 search_by m b k p seats bound kept e f = subst (λ (xs : List (Option Running)). CanSearch m.store xs bound) (sym e) (subst (λ (n : ℕ). CanSearch m.store m.seats n) (sym f) (can_search m b k p kept))
 
-pub helped_by : (m : Machine) (b k p s : ℕ) (seats : List (Option Running)) → IsKept m b k p → seats ≡ m.seats → (o : Option ℕ) → HasLeast (kid m.store) seats s (length seats) o → MatchOption o (NoneBelow (state_of m) (Some s)) (λ other. Helps m s other)
-helped_by m b k p s seats kept e o h = helps_by m b k p s kept o (subst (λ (xs : List (Option Running)). HasLeast (kid m.store) xs s (length xs) o) e h)
+pub helped_by : (m : Machine) (b k p s : ℕ) (seats : List (Option Running)) → IsKept m b k p → seats ≡ m.seats → (o : Option ℕ) → HasLeast (child m.store) seats s (length seats) o → MatchOption o (NoneBelow (state_of m) (Some s)) (λ other. Helps m s other)
+helped_by m b k p s seats kept e o h = helps_by m b k p s kept o (subst (λ (xs : List (Option Running)). HasLeast (child m.store) xs s (length xs) o) e h)

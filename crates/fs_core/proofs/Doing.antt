@@ -12,7 +12,7 @@ use Rattle.fs_locks.specs.Holding.{Holding, holder, room}
 use Rattle.fs_timeline.specs.declared.entry.Entry.TheVariants.{Commit, Return}
 use Rattle.fs_machine.specs.Leaving.{is_removed, releasing, unreserved}
 use Rattle.fs_machine.specs.Moves.{Move, Takes, Leaves, Finishes, Ends, next}
-use Rattle.fs_machine.specs.Works.{Work, record_of, next_of, IsTook, IsLetGo, IsFinished, IsSpare, SpareIf, CanFinish, graph_after}
+use Rattle.fs_machine.specs.OpValues.{OpValue, record_of, next_of, IsTook, IsLetGo, IsFinished, IsSpare, SpareIf, CanFinish, graph_after}
 use Rattle.fs_laws.specs.States.{Step, Idle, Took, Busy, LetGo, Helped, Committed, CarriedOut, Returned, NoneBelow}
 use Rattle.fs_laws.proofs.calls.NextMoves.{takes_used, takes_another, leaves_held}
 use Rattle.fs_laws.proofs.states.GraphOfARun.{spare_reserved, spare_removed, can_finish}
@@ -41,7 +41,7 @@ pub read_on : (m : Machine) (seat call : ℕ) (move : Move) (old : Option Runnin
 read_on m seat call move old x e =
     let z : ◌≡◌ {A = Option (Option Running)} (Some old) (Some (Some x.running)) = sym (slice_get_read m.seats _ seat old refl (seat_within m seat call move x) e) ∙ x.on in cc
 
-goes_on : (R : Work → Work → Type 0) (m : Machine) (seat call : ℕ) (move : Move) (old new : Option Running) → (x : MovesOn m seat call move) → old ≡ get_or m.seats seat old → Goes R old new → (w : Work) × R x.running.op w × (new ≡ Some (record x.running { op = w }))
+goes_on : (R : OpValue → OpValue → Type 0) (m : Machine) (seat call : ℕ) (move : Move) (old new : Option Running) → (x : MovesOn m seat call move) → old ≡ get_or m.seats seat old → Goes R old new → (w : OpValue) × R x.running.op w × (new ≡ Some (record x.running { op = w }))
 goes_on R m seat call move old new x e g = subst (λ (o : Option Running). Goes R o new) (read_on m seat call move old x e) g
 
 -- a take
@@ -57,7 +57,7 @@ pub took_kept : (m : Machine) (b k p seat call n : ℕ) → IsKept m b k p → M
     → (hs : Holding) (old new : Option Running) → holder hs ≡ set_at n (Some call) (holder m.holding) → room hs ≡ room m.holding → old ≡ get_or m.seats seat old → Goes (λ a c. IsTook a n c) old new
     → Step (state_of m) seat (Took n) (state_of (record m { holding = hs; seats = slice_set m.seats seat new })) × IsKept (record m { holding = hs; seats = slice_set m.seats seat new }) b k p
 took_kept m b k p seat call n kept x free hs old new is_hs is_room read goes =
-    let g : (w : Work) × IsTook x.running.op n w × (new ≡ Some (record x.running { op = w })) = goes_on (λ a c. IsTook a n c) m seat call (Takes n) old new x read goes in
+    let g : (w : OpValue) × IsTook x.running.op n w × (new ≡ Some (record x.running { op = w })) = goes_on (λ a c. IsTook a n c) m seat call (Takes n) old new x read goes in
     took_step m b k p seat x.running n kept x.on x.next free hs g.0 new (is_hs ∙ ap (λ (c : ℕ). set_at n (Some c) (holder m.holding)) (sym x.number)) is_room g.1 g.2
 
 pub busy_step : (m : Machine) (b k p seat call n d : ℕ) → IsKept m b k p → MovesOn m seat call (Takes n) → holder m.holding n ≡ Some d → Step (state_of m) seat (Busy n d) (state_of m)
@@ -82,7 +82,7 @@ pub left_kept : (m : Machine) (b k p seat call n : ℕ) → IsKept m b k p → (
     → holder hs ≡ set_at n None (holder m.holding) → room hs ≡ room m.holding → old ≡ get_or m.seats seat old → Goes (λ a c. IsLetGo a n c) old new
     → Step (state_of m) seat (LetGo n) (state_of (record m { store = st; holding = hs; seats = slice_set m.seats seat new })) × IsKept (record m { store = st; holding = hs; seats = slice_set m.seats seat new }) b k p
 left_kept m b k p seat call n kept x st hs old new graph limit is_hs is_room read goes =
-    let g : (w : Work) × IsLetGo x.running.op n w × (new ≡ Some (record x.running { op = w })) = goes_on (λ a c. IsLetGo a n c) m seat call (Leaves n) old new x read goes in
+    let g : (w : OpValue) × IsLetGo x.running.op n w × (new ≡ Some (record x.running { op = w })) = goes_on (λ a c. IsLetGo a n c) m seat call (Leaves n) old new x read goes in
     let_go_step m b k p seat x.running n kept x.on x.next st hs g.0 new (graph x.running (read_on m seat call (Leaves n) old x read)) limit is_hs is_room g.1 g.2
 
 -- a finish
@@ -92,11 +92,11 @@ finish_open m seat call s x old read r e =
     let y : r ≡ x.running = cc in
     ap (λ (q : Running). q.op.reply) y ∙ unfinished_at (graph_of m.store) x.running.op s x.next
 
-pub finish_can : (m : Machine) (b k p seat call : ℕ) (s : Option ℕ) → IsKept m b k p → (x : MovesOn m seat call (Finishes s)) → (old : Option Running) → old ≡ get_or m.seats seat old → (r : Running) → old ≡ Some r → CanFinish (graph_of m.store) r.op.reserved r.op.remaining r.op.stand
+pub finish_can : (m : Machine) (b k p seat call : ℕ) (s : Option ℕ) → IsKept m b k p → (x : MovesOn m seat call (Finishes s)) → (old : Option Running) → old ≡ get_or m.seats seat old → (r : Running) → old ≡ Some r → CanFinish (graph_of m.store) r.op.reserved r.op.remaining r.op.holdings
 finish_can m b k p seat call s kept x old read r e =
     let z : ◌≡◌ {A = Option Running} (Some r) (Some x.running) = sym e ∙ read_on m seat call (Finishes s) old x read in
     let y : x.running ≡ r = cc in
-    subst (λ (q : Running). CanFinish (graph_of m.store) q.op.reserved q.op.remaining q.op.stand) y
+    subst (λ (q : Running). CanFinish (graph_of m.store) q.op.reserved q.op.remaining q.op.holdings) y
     (can_finish (state_of m) call (record_of seat x.running.place x.running.op) s kept.run (on_state m b k p seat call (Finishes s) kept x) (next_on m seat call (Finishes s) x))
 
 -- a place is there for the entry that is owed, and there are more begins than commits while a call walks
@@ -125,7 +125,7 @@ pub committed_kept : (m : Machine) (b k p seat call : ℕ) (s : Option ℕ) → 
     → (st : Places) (old new : Option Running) → ((r : Running) → old ≡ Some r → graph_of st ≡ graph_after (graph_of m.store) r.op) → (seen st).limit ≡ (seen m.store).limit → old ≡ get_or m.seats seat old → Goes (λ a c. IsFinished (graph_of m.store) a c) old new
     → Step (state_of m) seat Committed (state_of (record m { store = st; seats = slice_set m.seats seat new; timeline = m.timeline ++ Commit call ∷ [] })) × IsKept (record m { store = st; seats = slice_set m.seats seat new; timeline = m.timeline ++ Commit call ∷ [] }) b (k + 1) (p - 1)
 committed_kept m b k p seat call s kept x unplaced none st old new graph limit read goes =
-    let g : (w : Work) × IsFinished (graph_of m.store) x.running.op w × (new ≡ Some (record x.running { op = w })) = goes_on (λ a c. IsFinished (graph_of m.store) a c) m seat call (Finishes s) old new x read goes in
+    let g : (w : OpValue) × IsFinished (graph_of m.store) x.running.op w × (new ≡ Some (record x.running { op = w })) = goes_on (λ a c. IsFinished (graph_of m.store) a c) m seat call (Finishes s) old new x read goes in
     subst (λ (c : ℕ). Step (state_of m) seat Committed (state_of (record m { store = st; seats = slice_set m.seats seat new; timeline = m.timeline ++ Commit c ∷ [] })) × IsKept (record m { store = st; seats = slice_set m.seats seat new; timeline = m.timeline ++ Commit c ∷ [] }) b (k + 1) (p - 1)) x.number
     (committed_step m b k p seat x.running s kept x.on x.next (unplaced x.running x.on) none st g.0 new (graph x.running (read_on m seat call (Finishes s) old x read)) limit g.1 g.2)
 
@@ -133,7 +133,7 @@ pub carried_kept : (m : Machine) (b k p seat call : ℕ) (s : Option ℕ) (i : �
     → (st : Places) (old new : Option Running) → ((r : Running) → old ≡ Some r → graph_of st ≡ graph_after (graph_of m.store) r.op) → (seen st).limit ≡ (seen m.store).limit → old ≡ get_or m.seats seat old → Goes (λ a c. IsFinished (graph_of m.store) a c) old new
     → Step (state_of m) seat CarriedOut (state_of (record m { store = st; seats = slice_set m.seats seat new })) × IsKept (record m { store = st; seats = slice_set m.seats seat new }) b k p
 carried_kept m b k p seat call s i kept x is_placed st old new graph limit read goes =
-    let g : (w : Work) × IsFinished (graph_of m.store) x.running.op w × (new ≡ Some (record x.running { op = w })) = goes_on (λ a c. IsFinished (graph_of m.store) a c) m seat call (Finishes s) old new x read goes in
+    let g : (w : OpValue) × IsFinished (graph_of m.store) x.running.op w × (new ≡ Some (record x.running { op = w })) = goes_on (λ a c. IsFinished (graph_of m.store) a c) m seat call (Finishes s) old new x read goes in
     carried_step m b k p seat x.running s i kept x.on x.next (is_placed x.running x.on) st g.0 new (graph x.running (read_on m seat call (Finishes s) old x read)) limit g.1 g.2
 
 -- a commit's number fits, where the number of begins does

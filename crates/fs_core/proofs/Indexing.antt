@@ -4,7 +4,7 @@ use Rattle.fs_timeline.specs.Timeline.{IsNext, IsWellFormed}
 use Rattle.fs_timeline.specs.declared.entry.Entry.{Entry}
 use Rattle.fs_timeline.specs.declared.entry.Entry.TheVariants.{Commit}
 use Rattle.fs_timeline.proofs.TimelineLemmas.{each_last}
-use Rattle.fs_laws.proofs.journal.BookOfTimeline.{linearizes}
+use Rattle.fs_laws.proofs.journal.ViewOfTimeline.{linearizes}
 use Rattle.fs_core.specs.Machines.{Machine, state_of}
 use Rattle.fs_core.specs.code.Rooms.{IsKept}
 

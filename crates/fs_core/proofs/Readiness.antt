@@ -20,7 +20,7 @@ use Rattle.fs_nodes.specs.Stores.{graph_of, in_use}
 use Rattle.fs_locks.specs.Holding.{Holding, holder, room}
 use Rattle.fs_timeline.specs.declared.entry.Entry.TheVariants.{Begin}
 use Rattle.fs_machine.specs.Leaving.{unreserved}
-use Rattle.fs_machine.specs.Works.{Work, new_work, record_of, BegunAs, IsSpare, SpareIf}
+use Rattle.fs_machine.specs.OpValues.{OpValue, new_value, record_of, BegunAs, IsSpare, SpareIf}
 use Rattle.fs_timeline.specs.Timeline.{begins}
 use Rattle.fs_laws.specs.States.{State, empty, began, Begun_as, Seat_busy, Full, No_memory, IsFull, Reserves, Begins, Run, Start, Beginning}
 use Rattle.fs_laws.proofs.states.Agreement.{not_begun}
@@ -63,35 +63,35 @@ unreserve : (graph : Graph) (n : ℕ) (shape : Shape) → graph.shape n ≡ None
 unreserve graph n shape free = ap (λ (f : ℕ → Option Shape). with_shapes f) (fun_ext (λ m. go m (eqb m n) refl))
   where
     with_shapes : (ℕ → Option Shape) → Graph
-    with_shapes f = record { kid = graph.kid; shape = f }
+    with_shapes f = record { child = graph.child; shape = f }
 
     go : (m : ℕ) (b : Bool) → eqb m n ≡ b → cond b None (cond b (Some shape) (graph.shape m)) ≡ graph.shape m
     go m true e = sym free ∙ ap graph.shape (sym (eqb_true m n e))
     go m false e = refl
 
-pub cancel_spare : (graph new : Graph) (limit : ℕ) (call : Call) (w : Work) → IsGraph graph → BegunAs graph limit call (reserves (form call)) w new → SpareIf new w.reserved
+pub cancel_spare : (graph new : Graph) (limit : ℕ) (call : Call) (w : OpValue) → IsGraph graph → BegunAs graph limit call (reserves (form call)) w new → SpareIf new w.reserved
 cancel_spare graph new limit call w is b = go (reserves (form call)) refl b
   where
     go : (o : Option Shape) → reserves (form call) ≡ o → BegunAs graph limit call o w new → SpareIf new w.reserved
-    go None e (is_w, is_new) n f = let z : ◌≡◌ {A = Option ℕ} None (Some n) = ap (λ (x : Work). x.reserved) (sym is_w) ∙ f in cc
+    go None e (is_w, is_new) n f = let z : ◌≡◌ {A = Option ℕ} None (Some n) = ap (λ (x : OpValue). x.reserved) (sym is_w) ∙ f in cc
     go (Some shape) e (m, less, free, is_w, is_new) n f =
-        let z : ◌≡◌ {A = Option ℕ} (Some m) (Some n) = ap (λ (x : Work). x.reserved) (sym is_w) ∙ f in
+        let z : ◌≡◌ {A = Option ℕ} (Some m) (Some n) = ap (λ (x : OpValue). x.reserved) (sym is_w) ∙ f in
         let y : m ≡ n = cc in
         subst (IsSpare new) y (subst (λ (g : Graph). IsSpare g m) (sym is_new) (spare_new graph m shape is free (reserves_empty (form call) shape e)))
 
-pub cancel_start : (graph new : Graph) (limit : ℕ) (call : Call) (w : Work) → BegunAs graph limit call (reserves (form call)) w new → w.stand ≡ None
+pub cancel_start : (graph new : Graph) (limit : ℕ) (call : Call) (w : OpValue) → BegunAs graph limit call (reserves (form call)) w new → w.holdings ≡ None
 cancel_start graph new limit call w b = go (reserves (form call)) b
   where
-    go : (o : Option Shape) → BegunAs graph limit call o w new → w.stand ≡ None
-    go None (is_w, is_new) = ap (λ (x : Work). x.stand) is_w
-    go (Some shape) (m, less, free, is_w, is_new) = ap (λ (x : Work). x.stand) is_w
+    go : (o : Option Shape) → BegunAs graph limit call o w new → w.holdings ≡ None
+    go None (is_w, is_new) = ap (λ (x : OpValue). x.holdings) is_w
+    go (Some shape) (m, less, free, is_w, is_new) = ap (λ (x : OpValue). x.holdings) is_w
 
-pub cancel_graph : (graph new last : Graph) (limit : ℕ) (call : Call) (w : Work) → BegunAs graph limit call (reserves (form call)) w new → last ≡ unreserved w.reserved new → last ≡ graph
+pub cancel_graph : (graph new last : Graph) (limit : ℕ) (call : Call) (w : OpValue) → BegunAs graph limit call (reserves (form call)) w new → last ≡ unreserved w.reserved new → last ≡ graph
 cancel_graph graph new last limit call w b e = go (reserves (form call)) b
   where
     go : (o : Option Shape) → BegunAs graph limit call o w new → last ≡ graph
-    go None (is_w, is_new) = e ∙ ap (λ (x : Work). unreserved x.reserved new) is_w ∙ is_new
-    go (Some shape) (m, less, free, is_w, is_new) = e ∙ ap (λ (x : Work). unreserved x.reserved new) is_w ∙ ap (released_in m) is_new ∙ unreserve graph m shape free
+    go None (is_w, is_new) = e ∙ ap (λ (x : OpValue). unreserved x.reserved new) is_w ∙ is_new
+    go (Some shape) (m, less, free, is_w, is_new) = e ∙ ap (λ (x : OpValue). unreserved x.reserved new) is_w ∙ ap (released_in m) is_new ∙ unreserve graph m shape free
 
 -- whether all numbers are in use, as the refusals tell
 pub full_told : (m : Machine) (call : Call) → IsFull (state_of m) (reserves (form call)) → IsSome (reserves (form call)) × (in_use m.store ≡ (seen m.store).limit)
@@ -140,16 +140,16 @@ pub no_memory_step : (m : Machine) (seat : ℕ) (call : Call) (new : State) → 
 no_memory_step m seat call new free not same = (number_read m.seats seat None free, λ h. not (full_told m call h), same)
 
 -- a call that begins
-begun_roomy : (m : Machine) (b k p : ℕ) → IsKept m b k p → (call : Call) (st : Places) (hs : Holding) (w : Work) (o : Option Shape) → BegunAs (graph_of m.store) (seen m.store).limit call o w (graph_of st) → HasRoom w.reserved hs → room m.holding ≤ room hs → AreBelow (graph_of st) (room hs)
+begun_roomy : (m : Machine) (b k p : ℕ) → IsKept m b k p → (call : Call) (st : Places) (hs : Holding) (w : OpValue) (o : Option Shape) → BegunAs (graph_of m.store) (seen m.store).limit call o w (graph_of st) → HasRoom w.reserved hs → room m.holding ≤ room hs → AreBelow (graph_of st) (room hs)
 begun_roomy m b k p kept call st hs w None (is_w, is_new) has more n s e = let less : n < room m.holding = kept.roomy n s (ap (λ (g : Graph). g.shape n) (sym is_new) ∙ e) in omega (arith, less, more)
 begun_roomy m b k p kept call st hs w (Some shape) (c, below, free, is_w, is_new) has more n s e = go (eqb n c) refl (ap (λ (g : Graph). g.shape n) (sym is_new) ∙ e)
   where
     go : (t : Bool) → eqb n c ≡ t → cond t (Some shape) ((graph_of m.store).shape n) ≡ Some s → n < room hs
-    go true f g = subst (λ (x : ℕ). x < room hs) (sym (eqb_true n c f)) (has c (ap (λ (x : Work). x.reserved) is_w))
+    go true f g = subst (λ (x : ℕ). x < room hs) (sym (eqb_true n c f)) (has c (ap (λ (x : OpValue). x.reserved) is_w))
     go false f g = let less : n < room m.holding = kept.roomy n s g in omega (arith, less, more)
 
 pub begun_kept : (m : Machine) (b k p seat : ℕ) (call : Call) → IsKept m b k p → slice_get m.seats seat ≡ Some None
-    → (st : Places) (hs : Holding) (w : Work) (number : ℕ) (copy : Call) (slot : Option Running) → BegunAs (graph_of m.store) (seen m.store).limit call (reserves (form call)) w (graph_of st) → (seen st).limit ≡ (seen m.store).limit
+    → (st : Places) (hs : Holding) (w : OpValue) (number : ℕ) (copy : Call) (slot : Option Running) → BegunAs (graph_of m.store) (seen m.store).limit call (reserves (form call)) w (graph_of st) → (seen st).limit ≡ (seen m.store).limit
     → holder hs ≡ holder m.holding → room m.holding ≤ room hs → HasRoom w.reserved hs → number ≡ b + 1 → copy ≡ call → slot ≡ Some (record { call = number; place = None; op = w })
     → Begins (state_of m) seat call (Begun_as number) (state_of (record m { store = st; holding = hs; seats = slice_set m.seats seat slot; timeline = m.timeline ++ Begin number seat copy ∷ [] })) × IsKept (record m { store = st; holding = hs; seats = slice_set m.seats seat slot; timeline = m.timeline ++ Begin number seat copy ∷ [] }) number k (p + 3 - 1)
 begun_kept m b k p seat call kept free st hs w number copy slot begun limit is_hs more has is_number is_copy is = (
@@ -168,8 +168,8 @@ begun_kept m b k p seat call kept free st hs w number copy slot begun limit is_h
     M = record m { store = st; holding = hs; seats = slice_set m.seats seat slot; timeline = m.timeline ++ Begin number seat copy ∷ [] }
 
     fresh : (o : Option Shape) → BegunAs (graph_of m.store) (seen m.store).limit call o w (graph_of st) → w.reply ≡ None
-    fresh None (is_w, is_new) = ap (λ (x : Work). x.reply) is_w
-    fresh (Some shape) (c, below, unused, is_w, is_new) = ap (λ (x : Work). x.reply) is_w
+    fresh None (is_w, is_new) = ap (λ (x : OpValue). x.reply) is_w
+    fresh (Some shape) (c, below, unused, is_w, is_new) = ap (λ (x : OpValue). x.reply) is_w
 
     after : (owed_at slot ≡ 2) × (walking_at slot ≡ 1)
     after = (
@@ -183,11 +183,11 @@ begun_kept m b k p seat call kept free st hs w number copy slot begun limit is_h
     none : records m.seats number ≡ None
     none = not_begun (state_of m) (run_keeps (state_of m) kept.run) number (omega (arith, counted))
 
-    same : (reserved : Option ℕ) (graph : Graph) → w ≡ new_work call reserved → graph_of st ≡ graph → state_of M ≡ began (state_of m) seat call number reserved graph
+    same : (reserved : Option ℕ) (graph : Graph) → w ≡ new_value call reserved → graph_of st ≡ graph → state_of M ≡ began (state_of m) seat call number reserved graph
     same reserved graph is_w is_graph =
         ap (λ (c : Call). state_of (record M { timeline = m.timeline ++ Begin number seat c ∷ [] })) is_copy
         ∙ same_state _ _ _ _ _ _ _ _ _ _ _ limit is_graph is_hs
-        (records_begun m.seats seat (record { call = number; place = None; op = w }) slot free is none ∙ ap (λ (x : Work). Rattle.fs_nodes.specs.Graphs.set_at number (Some (record_of seat None x)) (records m.seats)) is_w)
+        (records_begun m.seats seat (record { call = number; place = None; op = w }) slot free is none ∙ ap (λ (x : OpValue). Rattle.fs_nodes.specs.Graphs.set_at number (Some (record_of seat None x)) (records m.seats)) is_w)
         (numbers_set m.seats seat slot (Some (record { call = number; place = None; op = w })) (slice_get_within m.seats seat None free) is)
 
     reserve : (o : Option Shape) → BegunAs (graph_of m.store) (seen m.store).limit call o w (graph_of st) → Reserves (state_of m) seat call number o (state_of M)
@@ -241,7 +241,7 @@ new_kept st hs limit one graph is_limit is_hs has = (
 
 -- the same by the seat's number, and by the counter
 pub begun_by : (m : Machine) (b k p at seat : ℕ) (call : Call) → IsKept m b k p → at ≡ seat → (old : Option Running) → seat < length m.seats → old ≡ get_or m.seats at old → old ≡ None
-    → (st : Places) (hs : Holding) (w : Work) (number last : ℕ) (copy : Call) (slot : Option Running) → BegunAs (graph_of m.store) (seen m.store).limit call (reserves (form call)) w (graph_of st) → (seen st).limit ≡ (seen m.store).limit
+    → (st : Places) (hs : Holding) (w : OpValue) (number last : ℕ) (copy : Call) (slot : Option Running) → BegunAs (graph_of m.store) (seen m.store).limit call (reserves (form call)) w (graph_of st) → (seen st).limit ≡ (seen m.store).limit
     → holder hs ≡ holder m.holding → room m.holding ≤ room hs → HasRoom w.reserved hs → number ≡ last → last ≡ b + 1 → copy ≡ call → slot ≡ Some (record { call = number; place = None; op = w })
     → Begins (state_of m) seat call (Begun_as number) (state_of (record m { store = st; holding = hs; seats = slice_set m.seats at slot; timeline = m.timeline ++ Begin number seat copy ∷ [] })) × IsKept (record m { store = st; holding = hs; seats = slice_set m.seats at slot; timeline = m.timeline ++ Begin number seat copy ∷ [] }) last k (p + 3 - 1)
 begun_by m b k p at seat call kept e old within read is_free st hs w number last copy slot begun limit is_hs more has is_last is_number is_copy is =

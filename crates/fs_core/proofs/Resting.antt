@@ -1,14 +1,14 @@
 -- A core at rest has no call under way, by seats and by numbers.
 use Rattle.std.proofs.Common.{◌≡◌, ℕ, suc, ◌+◌, List, [], ◌∷◌, Option, Some, None, refl}
 use Rattle.fs_calls.specs.Outcomes.{play}
-use Rattle.fs_calls.specs.Shapes.{seen}
-use Rattle.fs_nodes.specs.Graphs.{spell}
+use Rattle.fs_calls.specs.Shapes.{tree_shapes}
+use Rattle.fs_nodes.specs.Graphs.{graph_shapes}
 use Rattle.fs_nodes.specs.Stores.{graph_of}
 use Rattle.fs_timeline.specs.Timeline.{commits}
 use Rattle.fs_machine.specs.Records.{Record}
 use Rattle.fs_laws.specs.Headline.{IsIdle}
 use Rattle.fs_laws.specs.States.{Run}
-use Rattle.fs_laws.proofs.journal.BookOfTimeline.{linearizes}
+use Rattle.fs_laws.proofs.journal.ViewOfTimeline.{linearizes}
 use Rattle.fs_laws.proofs.states.Headline.{run_keeps}
 use Rattle.fs_core.specs.declared.seat.Running.{Running}
 use Rattle.fs_core.specs.Machines.{Machine, state_of, IsAtRest, number_on, record_from}
@@ -25,7 +25,7 @@ none_from i (Some running ∷ seats) rest c = absurd (none_some running.call (re
 idle_at_rest : (m : Machine) → IsAtRest m → IsIdle (state_of m)
 idle_at_rest m rest c = none_from 0 m.seats rest c
 
-pub spelled_at_rest : (m : Machine) → Run (state_of m) → IsAtRest m → spell (graph_of m.store) ≡ seen (play (commits m.timeline))
+pub spelled_at_rest : (m : Machine) → Run (state_of m) → IsAtRest m → graph_shapes (graph_of m.store) ≡ tree_shapes (play (commits m.timeline))
 spelled_at_rest m run rest = (linearizes (state_of m) run).spelled (idle_at_rest m rest)
 
 -- a seat's call has a record

@@ -2,7 +2,7 @@
 use Rattle.std.proofs.Common.{◌≡◌, ℕ, ◌+◌, ◌<◌, ◌≤◌, Bool, true, false, List, Option, Some, None, length, refl, sym, ap, ◌∙◌, arith, subst, ◌⊎◌, inl, inr}
 use Rattle.std.specs.Prelude.{slice_get, option_and_then, nat_lt, IsTrue}
 use Rattle.std.proofs.lemmas.Option.{slice_get_within}
-use Rattle.fs_nodes.specs.Graphs.{Kids}
+use Rattle.fs_nodes.specs.Graphs.{Children}
 use Rattle.fs_core.specs.declared.seat.Running.{Running}
 use Rattle.fs_core.specs.Machines.{number_on}
 use Rattle.fs_core.specs.code.Searches.{IsReached, position_of, IsUnder, IsAlone, IsLowestOn, HasLeast, is_lesser}
@@ -18,33 +18,33 @@ call_of None n e = cc
 call_of (Some r) n e = (r, refl)
 
 -- a walking call is below a node where its position is
-pub under_at : (kids : Kids) (seats : List (Option Running)) (s seat : ℕ) (slot : Option Running) (n : ℕ) → slice_get seats seat ≡ Some slot → position_of slot ≡ Some n → IsReached kids s n → IsUnder kids seats s seat
-under_at kids seats s seat slot n e f r = let c : (r : Running) × (slot ≡ Some r) = call_of slot n f in
+pub under_at : (children : Children) (seats : List (Option Running)) (s seat : ℕ) (slot : Option Running) (n : ℕ) → slice_get seats seat ≡ Some slot → position_of slot ≡ Some n → IsReached children s n → IsUnder children seats s seat
+under_at children seats s seat slot n e f r = let c : (r : Running) × (slot ≡ Some r) = call_of slot n f in
     record { running = c.0; node = n; on = e ∙ ap (λ (o : Option Running). Some o) c.1; position = ap position_of (sym c.1) ∙ f; reached = r }
 
 -- the position is the one that was read
-pub position_is : (kids : Kids) (seats : List (Option Running)) (s seat : ℕ) (slot : Option Running) (n : ℕ) → slice_get seats seat ≡ Some slot → position_of slot ≡ Some n → (u : IsUnder kids seats s seat) → u.node ≡ n
-position_is kids seats s seat slot n e f u =
+pub position_is : (children : Children) (seats : List (Option Running)) (s seat : ℕ) (slot : Option Running) (n : ℕ) → slice_get seats seat ≡ Some slot → position_of slot ≡ Some n → (u : IsUnder children seats s seat) → u.node ≡ n
+position_is children seats s seat slot n e f u =
     let z : ◌≡◌ {A = Option ℕ} (Some u.node) (Some n) = sym u.position ∙ ap position_of (sym (same_slot seats seat slot u.running e u.on)) ∙ f in cc
 
-pub not_under : (kids : Kids) (seats : List (Option Running)) (s seat : ℕ) (slot : Option Running) → slice_get seats seat ≡ Some slot → position_of slot ≡ None → IsUnder kids seats s seat → ⊥
-not_under kids seats s seat slot e f u = let z : ◌≡◌ {A = Option ℕ} None (Some u.node) = sym f ∙ ap position_of (same_slot seats seat slot u.running e u.on) ∙ u.position in cc
+pub not_under : (children : Children) (seats : List (Option Running)) (s seat : ℕ) (slot : Option Running) → slice_get seats seat ≡ Some slot → position_of slot ≡ None → IsUnder children seats s seat → ⊥
+not_under children seats s seat slot e f u = let z : ◌≡◌ {A = Option ℕ} None (Some u.node) = sym f ∙ ap position_of (same_slot seats seat slot u.running e u.on) ∙ u.position in cc
 
-pub reached_of : (kids : Kids) (seats : List (Option Running)) (s seat : ℕ) (slot : Option Running) (n : ℕ) → slice_get seats seat ≡ Some slot → position_of slot ≡ Some n → IsUnder kids seats s seat → IsReached kids s n
-reached_of kids seats s seat slot n e f u = subst (IsReached kids s) (position_is kids seats s seat slot n e f u) u.reached
+pub reached_of : (children : Children) (seats : List (Option Running)) (s seat : ℕ) (slot : Option Running) (n : ℕ) → slice_get seats seat ≡ Some slot → position_of slot ≡ Some n → IsUnder children seats s seat → IsReached children s n
+reached_of children seats s seat slot n e f u = subst (IsReached children s) (position_is children seats s seat slot n e f u) u.reached
 
 -- a seat with a walking call is there
-pub under_within : (kids : Kids) (seats : List (Option Running)) (s seat : ℕ) → IsUnder kids seats s seat → seat < length seats
-under_within kids seats s seat u = slice_get_within seats seat (Some u.running) u.on
+pub under_within : (children : Children) (seats : List (Option Running)) (s seat : ℕ) → IsUnder children seats s seat → seat < length seats
+under_within children seats s seat u = slice_get_within seats seat (Some u.running) u.on
 
 -- a lowest call
-pub lowest_at : (kids : Kids) (seats : List (Option Running)) (s seat : ℕ) (slot : Option Running) (n : ℕ) → slice_get seats seat ≡ Some slot → position_of slot ≡ Some n → IsReached kids s n → IsAlone kids seats n seat → IsLowestOn kids seats s seat
-lowest_at kids seats s seat slot n e f r a =
-    let u : IsUnder kids seats s seat = under_at kids seats s seat slot n e f r in
-    record { under = u; alone = subst (λ (m : ℕ). IsAlone kids seats m seat) (sym (position_is kids seats s seat slot n e f u)) a }
+pub lowest_at : (children : Children) (seats : List (Option Running)) (s seat : ℕ) (slot : Option Running) (n : ℕ) → slice_get seats seat ≡ Some slot → position_of slot ≡ Some n → IsReached children s n → IsAlone children seats n seat → IsLowestOn children seats s seat
+lowest_at children seats s seat slot n e f r a =
+    let u : IsUnder children seats s seat = under_at children seats s seat slot n e f r in
+    record { under = u; alone = subst (λ (m : ℕ). IsAlone children seats m seat) (sym (position_is children seats s seat slot n e f u)) a }
 
-pub alone_of : (kids : Kids) (seats : List (Option Running)) (s seat : ℕ) (slot : Option Running) (n : ℕ) → slice_get seats seat ≡ Some slot → position_of slot ≡ Some n → IsLowestOn kids seats s seat → IsAlone kids seats n seat
-alone_of kids seats s seat slot n e f l = subst (λ (m : ℕ). IsAlone kids seats m seat) (position_is kids seats s seat slot n e f l.under) l.alone
+pub alone_of : (children : Children) (seats : List (Option Running)) (s seat : ℕ) (slot : Option Running) (n : ℕ) → slice_get seats seat ≡ Some slot → position_of slot ≡ Some n → IsLowestOn children seats s seat → IsAlone children seats n seat
+alone_of children seats s seat slot n e f l = subst (λ (m : ℕ). IsAlone children seats m seat) (position_is children seats s seat slot n e f l.under) l.alone
 
 -- tests of which the answer is known
 pub true_is : (b : Bool) → b ≡ true → IsTrue b
@@ -54,21 +54,21 @@ pub false_is : (b : Bool) → b ≡ false → IsTrue b → ⊥
 false_is b e h = cc
 
 -- a seat more: its call is not lowest, or has the least number so far, or has not
-pub least_same : (kids : Kids) (seats : List (Option Running)) (s seat : ℕ) (chosen : Option ℕ) → (IsLowestOn kids seats s seat → ⊥) → HasLeast kids seats s seat chosen → HasLeast kids seats s (seat + 1) chosen
-least_same kids seats s seat None not h = λ j less l. go j less l (grind arith)
+pub least_same : (children : Children) (seats : List (Option Running)) (s seat : ℕ) (chosen : Option ℕ) → (IsLowestOn children seats s seat → ⊥) → HasLeast children seats s seat chosen → HasLeast children seats s (seat + 1) chosen
+least_same children seats s seat None not h = λ j less l. go j less l (grind arith)
   where
-    go : (j : ℕ) → j < seat + 1 → IsLowestOn kids seats s j → (j < seat) ⊎ (seat ≡ j) → ⊥
+    go : (j : ℕ) → j < seat + 1 → IsLowestOn children seats s j → (j < seat) ⊎ (seat ≡ j) → ⊥
     go j less l (inl m) = h j m l
-    go j less l (inr e) = not (subst (IsLowestOn kids seats s) (sym e) l)
-least_same kids seats s seat (Some k) not h = (omega (arith, h.0), h.1, λ j c d less l e f. go j c d l e f (grind arith))
+    go j less l (inr e) = not (subst (IsLowestOn children seats s) (sym e) l)
+least_same children seats s seat (Some k) not h = (omega (arith, h.0), h.1, λ j c d less l e f. go j c d l e f (grind arith))
   where
-    go : (j c d : ℕ) → IsLowestOn kids seats s j → number_on seats k ≡ Some c → number_on seats j ≡ Some d → (j < seat) ⊎ (seat ≡ j) → c ≤ d
+    go : (j c d : ℕ) → IsLowestOn children seats s j → number_on seats k ≡ Some c → number_on seats j ≡ Some d → (j < seat) ⊎ (seat ≡ j) → c ≤ d
     go j c d l e f (inl m) = h.2 j c d m l e f
-    go j c d l e f (inr g) = absurd (not (subst (IsLowestOn kids seats s) (sym g) l))
+    go j c d l e f (inr g) = absurd (not (subst (IsLowestOn children seats s) (sym g) l))
 
 -- the number of a lowest call
-number_of_lowest : (kids : Kids) (seats : List (Option Running)) (s seat : ℕ) → IsLowestOn kids seats s seat → (c : ℕ) × (number_on seats seat ≡ Some c)
-number_of_lowest kids seats s seat l = (l.under.running.call, number_read seats seat (Some l.under.running) l.under.on)
+number_of_lowest : (children : Children) (seats : List (Option Running)) (s seat : ℕ) → IsLowestOn children seats s seat → (c : ℕ) × (number_on seats seat ≡ Some c)
+number_of_lowest children seats s seat l = (l.under.running.call, number_read seats seat (Some l.under.running) l.under.on)
 
 same_number : (c d : ℕ) → ◌≡◌ {A = Option ℕ} (Some c) (Some d) → c ≡ d
 same_number c d e = cc
@@ -85,32 +85,32 @@ lesser_not o p b c d e f g h = by (sym h ∙ g ∙ ap (λ (x : Option ℕ). is_l
     by : false ≡ nat_lt c d → d ≤ c
     by e = grind arith
 
-pub least_new : (kids : Kids) (seats : List (Option Running)) (s seat : ℕ) (chosen : Option ℕ) (b : Bool) → IsLowestOn kids seats s seat → b ≡ is_lesser (number_on seats seat) (option_and_then (number_on seats) chosen) → b ≡ true
-    → HasLeast kids seats s seat chosen → HasLeast kids seats s (seat + 1) (Some seat)
-least_new kids seats s seat None b low e t h = (omega arith, low, λ j c d less l f g. go j c d l f g (grind arith))
+pub least_new : (children : Children) (seats : List (Option Running)) (s seat : ℕ) (chosen : Option ℕ) (b : Bool) → IsLowestOn children seats s seat → b ≡ is_lesser (number_on seats seat) (option_and_then (number_on seats) chosen) → b ≡ true
+    → HasLeast children seats s seat chosen → HasLeast children seats s (seat + 1) (Some seat)
+least_new children seats s seat None b low e t h = (omega arith, low, λ j c d less l f g. go j c d l f g (grind arith))
   where
-    go : (j c d : ℕ) → IsLowestOn kids seats s j → number_on seats seat ≡ Some c → number_on seats j ≡ Some d → (j < seat) ⊎ (seat ≡ j) → c ≤ d
+    go : (j c d : ℕ) → IsLowestOn children seats s j → number_on seats seat ≡ Some c → number_on seats j ≡ Some d → (j < seat) ⊎ (seat ≡ j) → c ≤ d
     go j c d l f g (inl m) = absurd (h j m l)
     go j c d l f g (inr i) = let z : c ≡ d = same_number c d (sym f ∙ ap (number_on seats) i ∙ g) in omega (arith, z)
-least_new kids seats s seat (Some k) b low e t h = (omega arith, low, λ j c d less l f g. go j c d l f g (grind arith))
+least_new children seats s seat (Some k) b low e t h = (omega arith, low, λ j c d less l f g. go j c d l f g (grind arith))
   where
-    go : (j c d : ℕ) → IsLowestOn kids seats s j → number_on seats seat ≡ Some c → number_on seats j ≡ Some d → (j < seat) ⊎ (seat ≡ j) → c ≤ d
+    go : (j c d : ℕ) → IsLowestOn children seats s j → number_on seats seat ≡ Some c → number_on seats j ≡ Some d → (j < seat) ⊎ (seat ≡ j) → c ≤ d
     go j c d l f g (inl m) =
-        let n : (x : ℕ) × (number_on seats k ≡ Some x) = number_of_lowest kids seats s k h.1 in
+        let n : (x : ℕ) × (number_on seats k ≡ Some x) = number_of_lowest children seats s k h.1 in
         let less : c < n.0 = lesser_less (number_on seats seat) (number_on seats k) b c n.0 f n.1 e t in
         let more : n.0 ≤ d = h.2 j n.0 d m l n.1 g in
         omega (arith, less, more)
     go j c d l f g (inr i) = let z : c ≡ d = same_number c d (sym f ∙ ap (number_on seats) i ∙ g) in omega (arith, z)
 
-pub least_old : (kids : Kids) (seats : List (Option Running)) (s seat : ℕ) (chosen : Option ℕ) (b : Bool) → IsLowestOn kids seats s seat → b ≡ is_lesser (number_on seats seat) (option_and_then (number_on seats) chosen) → b ≡ false
-    → HasLeast kids seats s seat chosen → HasLeast kids seats s (seat + 1) chosen
-least_old kids seats s seat None b low e t h = go (number_on seats seat) (sym t ∙ e)
+pub least_old : (children : Children) (seats : List (Option Running)) (s seat : ℕ) (chosen : Option ℕ) (b : Bool) → IsLowestOn children seats s seat → b ≡ is_lesser (number_on seats seat) (option_and_then (number_on seats) chosen) → b ≡ false
+    → HasLeast children seats s seat chosen → HasLeast children seats s (seat + 1) chosen
+least_old children seats s seat None b low e t h = go (number_on seats seat) (sym t ∙ e)
   where
-    go : (o : Option ℕ) → false ≡ is_lesser o None → HasLeast kids seats s (seat + 1) None
+    go : (o : Option ℕ) → false ≡ is_lesser o None → HasLeast children seats s (seat + 1) None
     go None f = cc
     go (Some c) f = cc
-least_old kids seats s seat (Some k) b low e t h = (omega (arith, h.0), h.1, λ j c d less l f g. go j c d l f g (grind arith))
+least_old children seats s seat (Some k) b low e t h = (omega (arith, h.0), h.1, λ j c d less l f g. go j c d l f g (grind arith))
   where
-    go : (j c d : ℕ) → IsLowestOn kids seats s j → number_on seats k ≡ Some c → number_on seats j ≡ Some d → (j < seat) ⊎ (seat ≡ j) → c ≤ d
+    go : (j c d : ℕ) → IsLowestOn children seats s j → number_on seats k ≡ Some c → number_on seats j ≡ Some d → (j < seat) ⊎ (seat ≡ j) → c ≤ d
     go j c d l f g (inl m) = h.2 j c d m l f g
     go j c d l f g (inr i) = lesser_not (number_on seats seat) (number_on seats k) b d c (ap (number_on seats) i ∙ g) f e t

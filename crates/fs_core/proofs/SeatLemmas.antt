@@ -5,7 +5,7 @@ use Rattle.std.specs.Option.{option_flatten}
 use mathlib.Core.Path.{fun_ext}
 use Rattle.fs_nodes.specs.Graphs.{set_at}
 use Rattle.fs_machine.specs.Records.{Record}
-use Rattle.fs_machine.specs.Works.{record_of}
+use Rattle.fs_machine.specs.OpValues.{record_of}
 use Rattle.std.proofs.Math.Dec.{eqb-suc-zero, eqb-zero-suc, eqb-suc-suc}
 use Rattle.fs_laws.proofs.graphs.Walks.{eqb_refl, eqb_true}
 use Rattle.fs_core.specs.declared.seat.Running.{Running}

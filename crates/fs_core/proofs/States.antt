@@ -9,8 +9,8 @@ use Rattle.fs_timeline.specs.declared.entry.Entry.TheVariants.{Begin, Commit, Re
 use Rattle.fs_names.specs.Keys.{Key}
 use Rattle.fs_machine.specs.Finishes.{finish}
 use Rattle.fs_machine.specs.Moves.{Move, took, took_by, target}
-use Rattle.fs_machine.specs.Records.{Stand, Finished, Record, Records}
-use Rattle.fs_machine.specs.Works.{Work, phase_of, record_of, next_of, IsTook, IsLetGo, IsFinished}
+use Rattle.fs_machine.specs.Records.{Holdings, Finished, Record, Records}
+use Rattle.fs_machine.specs.OpValues.{OpValue, phase_of, record_of, next_of, IsTook, IsLetGo, IsFinished}
 use Rattle.fs_timeline.specs.Timeline.{begins, commit_count}
 use Rattle.fs_laws.specs.Invariants.{Invariant}
 use Rattle.fs_laws.specs.States.{State, Moves, Run}
@@ -55,20 +55,20 @@ same_reply (Some r) None e = cc
 same_reply (Some r) (Some q) e = let z : r ≡ q = cc in ap (λ (x : Reply). Some x) z
 
 took_phase : (op : Record) (n : ℕ) → (took op n).phase ≡ op.phase
-took_phase op n = go op.stand (target op.remaining)
+took_phase op n = go op.holdings (target op.remaining)
   where
-    go : (s : Option Stand) (l : Key) → (took_by op s l n).phase ≡ op.phase
+    go : (s : Option Holdings) (l : Key) → (took_by op s l n).phase ≡ op.phase
     go None l = refl
     go (Some st) [] = refl
     go (Some st) (x ∷ l) = refl
 
-pub took_reply : (old new : Work) (n : ℕ) → IsTook old n new → new.reply ≡ old.reply
+pub took_reply : (old new : OpValue) (n : ℕ) → IsTook old n new → new.reply ≡ old.reply
 took_reply old new n t = same_reply new.reply old.reply (ap (λ (o : Record). o.phase) (t 0 None) ∙ took_phase (record_of 0 None old) n)
 
-pub left_reply : (old new : Work) (n : ℕ) → IsLetGo old n new → new.reply ≡ old.reply
+pub left_reply : (old new : OpValue) (n : ℕ) → IsLetGo old n new → new.reply ≡ old.reply
 left_reply old new n t = same_reply new.reply old.reply (ap (λ (o : Record). o.phase) (t 0 None))
 
-pub finished_reply : (graph : Graph) (old new : Work) → IsFinished graph old new → (r : Reply) × (new.reply ≡ Some r)
+pub finished_reply : (graph : Graph) (old new : OpValue) → IsFinished graph old new → (r : Reply) × (new.reply ≡ Some r)
 finished_reply graph old new t = let r : Reply = (finish graph (record_of 0 None old)).reply in (r, go new.reply r (ap (λ (o : Record). o.phase) (t 0 None)))
   where
     go : (o : Option Reply) (r : Reply) → phase_of None o ≡ Finished r → o ≡ Some r

@@ -15,7 +15,7 @@ use Rattle.fs_machine.specs.Finishes.{finish}
 use Rattle.fs_machine.specs.Leaving.{is_removed, releasing, unreserved}
 use Rattle.fs_machine.specs.Moves.{Takes, Leaves, Finishes, Ends}
 use Rattle.fs_machine.specs.Records.{Phase, Walking, Placed, Record}
-use Rattle.fs_machine.specs.Works.{Work, phase_of, record_of, next_of, IsTook, IsLetGo, IsFinished, graph_after}
+use Rattle.fs_machine.specs.OpValues.{OpValue, phase_of, record_of, next_of, IsTook, IsLetGo, IsFinished, graph_after}
 use Rattle.fs_timeline.specs.Timeline.{commit_count}
 use Rattle.fs_laws.specs.States.{Step, Took, LetGo, Helped, Committed, CarriedOut, Returned, IsChosen, NoneBelow, Run, Stepping}
 use Rattle.fs_laws.specs.Invariants.{Invariant}
@@ -34,16 +34,16 @@ within_seats : (m : Machine) (seat : ℕ) (r : Running) → slice_get m.seats se
 within_seats m seat r on = slice_get_within m.seats seat (Some r) on
 
 -- a call that goes on, walking or not as before
-same_walking : (r : Running) (w : Work) → w.reply ≡ r.op.reply → is_walking (record r { op = w }) ≡ is_walking r
+same_walking : (r : Running) (w : OpValue) → w.reply ≡ r.op.reply → is_walking (record r { op = w }) ≡ is_walking r
 same_walking r w e = ap (λ (o : Option Reply). is_walking (record r { op = record w { reply = o } })) e
 
-same_owed : (r : Running) (w : Work) (v : Option Running) → v ≡ Some (record r { op = w }) → w.reply ≡ r.op.reply → (owed_at v ≡ owed_at (Some r)) × (walking_at v ≡ walking_at (Some r))
+same_owed : (r : Running) (w : OpValue) (v : Option Running) → v ≡ Some (record r { op = w }) → w.reply ≡ r.op.reply → (owed_at v ≡ owed_at (Some r)) × (walking_at v ≡ walking_at (Some r))
 same_owed r w v is e =
     (ap owed_at is ∙ ap (λ (b : Bool). cond b 2 1) (same_walking r w e), ap walking_at is ∙ ap (λ (b : Bool). cond b 1 0) (same_walking r w e))
 
 -- a take
 pub took_step : (m : Machine) (b k p seat : ℕ) (r : Running) (n : ℕ) → IsKept m b k p → slice_get m.seats seat ≡ Some (Some r) → next_of (graph_of m.store) r.op ≡ Takes n → holder m.holding n ≡ None
-    → (hs : Holding) (w : Work) (v : Option Running) → holder hs ≡ set_at n (Some r.call) (holder m.holding) → holders.room hs ≡ holders.room m.holding → IsTook r.op n w → v ≡ Some (record r { op = w })
+    → (hs : Holding) (w : OpValue) (v : Option Running) → holder hs ≡ set_at n (Some r.call) (holder m.holding) → holders.room hs ≡ holders.room m.holding → IsTook r.op n w → v ≡ Some (record r { op = w })
     → Step (state_of m) seat (Took n) (state_of (record m { holding = hs; seats = slice_set m.seats seat v })) × IsKept (record m { holding = hs; seats = slice_set m.seats seat v }) b k p
 took_step m b k p seat r n kept on move free hs w v is_hs room took_it is = (
   step,
@@ -89,7 +89,7 @@ fewer_unreserved graph (Some n) q t e = fewer_released graph n q t e
 
 -- a let go
 pub let_go_step : (m : Machine) (b k p seat : ℕ) (r : Running) (n : ℕ) → IsKept m b k p → slice_get m.seats seat ≡ Some (Some r) → next_of (graph_of m.store) r.op ≡ Leaves n
-    → (st : Places) (hs : Holding) (w : Work) (v : Option Running) → graph_of st ≡ releasing (is_removed r.op.removed n) n (graph_of m.store) → (seen st).limit ≡ (seen m.store).limit
+    → (st : Places) (hs : Holding) (w : OpValue) (v : Option Running) → graph_of st ≡ releasing (is_removed r.op.removed n) n (graph_of m.store) → (seen st).limit ≡ (seen m.store).limit
     → holder hs ≡ set_at n None (holder m.holding) → holders.room hs ≡ holders.room m.holding → IsLetGo r.op n w → v ≡ Some (record r { op = w })
     → Step (state_of m) seat (LetGo n) (state_of (record m { store = st; holding = hs; seats = slice_set m.seats seat v })) × IsKept (record m { store = st; holding = hs; seats = slice_set m.seats seat v }) b k p
 let_go_step m b k p seat r n kept on move st hs w v graph limit is_hs room left_it is = (
@@ -200,7 +200,7 @@ fewer_made m seat r run on st graph q t e =
 
 -- a walking call that finishes
 pub committed_step : (m : Machine) (b k p seat : ℕ) (r : Running) (s : Option ℕ) → IsKept m b k p → slice_get m.seats seat ≡ Some (Some r) → next_of (graph_of m.store) r.op ≡ Finishes s → r.place ≡ None → NoneBelow (state_of m) s
-    → (st : Places) (w : Work) (v : Option Running) → graph_of st ≡ graph_after (graph_of m.store) r.op → (seen st).limit ≡ (seen m.store).limit → IsFinished (graph_of m.store) r.op w → v ≡ Some (record r { op = w })
+    → (st : Places) (w : OpValue) (v : Option Running) → graph_of st ≡ graph_after (graph_of m.store) r.op → (seen st).limit ≡ (seen m.store).limit → IsFinished (graph_of m.store) r.op w → v ≡ Some (record r { op = w })
     → Step (state_of m) seat Committed (state_of (record m { store = st; seats = slice_set m.seats seat v; timeline = m.timeline ++ Commit r.call ∷ [] })) × IsKept (record m { store = st; seats = slice_set m.seats seat v; timeline = m.timeline ++ Commit r.call ∷ [] }) b (k + 1) (p - 1)
 committed_step m b k p seat r s kept on move unplaced none st w v graph limit done is = (
   step,
@@ -235,7 +235,7 @@ committed_step m b k p seat r s kept on move unplaced none st w v graph limit do
 
 -- a placed call that finishes
 pub carried_step : (m : Machine) (b k p seat : ℕ) (r : Running) (s : Option ℕ) (i : ℕ) → IsKept m b k p → slice_get m.seats seat ≡ Some (Some r) → next_of (graph_of m.store) r.op ≡ Finishes s → r.place ≡ Some i
-    → (st : Places) (w : Work) (v : Option Running) → graph_of st ≡ graph_after (graph_of m.store) r.op → (seen st).limit ≡ (seen m.store).limit → IsFinished (graph_of m.store) r.op w → v ≡ Some (record r { op = w })
+    → (st : Places) (w : OpValue) (v : Option Running) → graph_of st ≡ graph_after (graph_of m.store) r.op → (seen st).limit ≡ (seen m.store).limit → IsFinished (graph_of m.store) r.op w → v ≡ Some (record r { op = w })
     → Step (state_of m) seat CarriedOut (state_of (record m { store = st; seats = slice_set m.seats seat v })) × IsKept (record m { store = st; seats = slice_set m.seats seat v }) b k p
 carried_step m b k p seat r s i kept on move is_placed st w v graph limit done is = (
   step,

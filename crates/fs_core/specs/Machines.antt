@@ -7,7 +7,7 @@ use Rattle.fs_nodes.specs.Stores.{graph_of}
 use Rattle.fs_locks.specs.Holding.{Holding, holder}
 use Rattle.fs_timeline.specs.declared.entry.Entry.{Entry}
 use Rattle.fs_machine.specs.Records.{Record, Records}
-use Rattle.fs_machine.specs.Works.{record_of}
+use Rattle.fs_machine.specs.OpValues.{record_of}
 use Rattle.fs_laws.specs.States.{State}
 use Rattle.fs_core.specs.declared.seat.Running.{Running}
 

@@ -6,7 +6,7 @@ ghost use Rattle.fs_nodes.specs.Seen.{seen};
 ghost use Rattle.fs_nodes.specs.Stores.{graph_of, in_use};
 ghost use Rattle.fs_locks.specs.Holding.{holder, room};
 ghost use Rattle.fs_calls.specs.Forms.{form, reserves};
-ghost use Rattle.fs_machine.specs.Works.{BegunAs};
+ghost use Rattle.fs_machine.specs.OpValues.{BegunAs};
 ghost use Rattle.fs_core.specs.Events.{HasRoom};
 ghost use Rattle.fs_core.specs.declared.outcome.Refusal.TheVariants as refusals;
 

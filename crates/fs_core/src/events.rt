@@ -1,10 +1,10 @@
 //! Lists of events on a core, and the linearization theorem of all of them.
 
 ghost use Rattle.std.specs.Prelude.{◌≡◌, All, IfErr, OnOk, length};
-ghost use Rattle.fs_nodes.specs.Graphs.{spell};
+ghost use Rattle.fs_nodes.specs.Graphs.{graph_shapes};
 ghost use Rattle.fs_nodes.specs.Stores.{graph_of};
 ghost use Rattle.fs_calls.specs.Outcomes.{play};
-ghost use Rattle.fs_calls.specs.Shapes.{seen};
+ghost use Rattle.fs_calls.specs.Shapes.{tree_shapes};
 ghost use Rattle.fs_timeline.specs.Timeline.{IsLawful, commits};
 ghost use Rattle.fs_core.specs.Events.{IsSeated, Happens, IsRefused, IsRun};
 ghost use Rattle.fs_core.specs.Machines.{state_of, IsAtRest};
@@ -40,7 +40,7 @@ impl Core {
 
         // The linearization theorem: well formed with lawful replies, and spelled at rest.
         ensures lawful { IsLawful self.new.timeline }
-        ensures spelled { IsAtRest self.new → spell (graph_of self.new.store) ≡ seen (play (commits self.new.timeline)) }
+        ensures spelled { IsAtRest self.new → graph_shapes (graph_of self.new.store) ≡ tree_shapes (play (commits self.new.timeline)) }
         ensures seats { length self.new.seats ≡ length self.old.seats }
     {
         for i in 0..events.len() {

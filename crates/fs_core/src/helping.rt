@@ -2,7 +2,7 @@
 
 ghost use Rattle.std.specs.Prelude.{option_and_then, ◌+◌, ◌≡◌, ℕ, ◌<◌, ◌≤◌, ◌↔◌, IsTrue, IfSome, MatchOption, Some, None, length, slice_get};
 ghost use Rattle.fs_nodes.specs.Graphs.{IsGraph, numbers};
-ghost use Rattle.fs_nodes.specs.Stores.{graph_of, kid};
+ghost use Rattle.fs_nodes.specs.Stores.{graph_of, child};
 ghost use Rattle.fs_core.specs.code.Searches.{IsReached, IsRooted, position_of, IsUnder, IsAlone, IsLowestOn, CanSearch, HasLeast, is_lesser};
 ghost use Rattle.fs_core.specs.code.Rooms.{AreBelow};
 ghost use Rattle.fs_core.specs.Machines.{number_on};
@@ -16,7 +16,7 @@ fn is_reached(store: &Store, bound: usize, from: NodeNo, node: NodeNo) -> bool
     requires graph { IsGraph (graph_of store.now) }
     requires rooted { IsRooted (graph_of store.now) node }
     requires bound { AreBelow (graph_of store.now) bound }
-    ensures { IsTrue result ↔ IsReached (kid store.now) from node }
+    ensures { IsTrue result ↔ IsReached (child store.now) from node }
 {
     // The nodes on the way up differ, and their numbers are below the bound, so the loop reaches the root within it. The bound
     // only shows that the loop ends: an ascent is as long as the node is deep.
@@ -55,7 +55,7 @@ fn is_under(
 ) -> bool
     requires can { CanSearch store.now seats.now bound }
     requires seat { seat < length seats.now }
-    ensures { IsTrue result ↔ IsUnder (kid store.now) seats.now node seat }
+    ensures { IsTrue result ↔ IsUnder (child store.now) seats.now node seat }
 {
     match position(&seats[seat]) {
         Some(at) => is_reached(store, bound, node, at),
@@ -72,7 +72,7 @@ fn is_alone(
     seat: usize,
 ) -> bool
     requires can { CanSearch store.now seats.now bound }
-    ensures { IsTrue result ↔ IsAlone (kid store.now) seats.now node seat }
+    ensures { IsTrue result ↔ IsAlone (child store.now) seats.now node seat }
 {
     for other in 0..seats.len() {
         if other != seat && is_under(store, seats, bound, node, other) {
@@ -92,7 +92,7 @@ fn is_lowest(
 ) -> bool
     requires can { CanSearch store.now seats.now bound }
     requires seat { seat < length seats.now }
-    ensures { IsTrue result ↔ IsLowestOn (kid store.now) seats.now node seat }
+    ensures { IsTrue result ↔ IsLowestOn (child store.now) seats.now node seat }
 {
     match position(&seats[seat]) {
         Some(at) => is_reached(store, bound, node, at) && is_alone(store, seats, bound, at, seat),
@@ -126,8 +126,8 @@ fn lowest_with(
 ) -> Option<usize>
     requires can { CanSearch store.now seats.now bound }
     requires seat { seat < length seats.now }
-    requires before { HasLeast (kid store.now) seats.now node seat chosen }
-    ensures { HasLeast (kid store.now) seats.now node (seat + 1) result }
+    requires before { HasLeast (child store.now) seats.now node seat chosen }
+    ensures { HasLeast (child store.now) seats.now node (seat + 1) result }
 {
     if !is_lowest(store, seats, bound, node, seat) {
         return chosen;
@@ -147,7 +147,7 @@ pub fn to_help(
     node: NodeNo,
 ) -> Option<usize>
     requires can { CanSearch store.now seats.now bound }
-    ensures { HasLeast (kid store.now) seats.now node (length seats.now) result }
+    ensures { HasLeast (child store.now) seats.now node (length seats.now) result }
 {
     // Three nested searches: each seat, each other seat, and the way up from that one's position. So a help costs at most the
     // square of the number of seats times the depth of a position. No index is kept for it, and nothing is allocated.

@@ -4,10 +4,10 @@ ghost use Rattle.std.specs.Prelude.{MatchOption, IfOk, OnOk, OnErr, ◌≡◌, �
 ghost use Rattle.fs_names.specs.declared.limits.TheConstants.{NODE_LIMIT};
 ghost use Rattle.fs_nodes.specs.Graphs.{numbers};
 ghost use Rattle.fs_machine.specs.Moves.{Takes, Leaves, Finishes, Ends};
-ghost use Rattle.fs_nodes.specs.Graphs.{spell};
+ghost use Rattle.fs_nodes.specs.Graphs.{graph_shapes};
 ghost use Rattle.fs_nodes.specs.Stores.{graph_of};
 ghost use Rattle.fs_calls.specs.Outcomes.{play};
-ghost use Rattle.fs_calls.specs.Shapes.{seen};
+ghost use Rattle.fs_calls.specs.Shapes.{tree_shapes};
 ghost use Rattle.fs_timeline.specs.Timeline.{IsLawful, commits};
 ghost use Rattle.fs_laws.specs.States.{Begins, Step, NoneBelow, Run, empty};
 ghost use Rattle.fs_core.specs.Answers.{begun_as, stepped_as};
@@ -348,7 +348,7 @@ impl Core {
     pub fn told(&self)
         ensures run { Run (state_of self.now) }
         ensures lawful { IsLawful self.now.timeline }
-        ensures spelled { IsAtRest self.now → spell (graph_of self.now.store) ≡ seen (play (commits self.now.timeline)) }
+        ensures spelled { IsAtRest self.now → graph_shapes (graph_of self.now.store) ≡ tree_shapes (play (commits self.now.timeline)) }
     {
         let _ = &self.timeline;
     }

@@ -4,7 +4,7 @@ ghost use Rattle.std.specs.Prelude.{◌≡◌, true, None, Some, IsSome};
 ghost use Rattle.fs_nodes.specs.Seen.{seen};
 ghost use Rattle.fs_nodes.specs.Stores.{graph_of};
 ghost use Rattle.fs_machine.specs.Leaving.{is_removed, releasing};
-ghost use Rattle.fs_machine.specs.Works.{IsTook, IsLetGo, IsFinished, IsSpare, CanFinish, graph_after};
+ghost use Rattle.fs_machine.specs.OpValues.{IsTook, IsLetGo, IsFinished, IsSpare, CanFinish, graph_after};
 ghost use Rattle.fs_core.specs.Machines.{number_of};
 ghost use Rattle.fs_core.specs.code.Seats.{Goes, placed};
 ghost use Rattle.fs_core.specs.declared.seat.Running.{Running};
@@ -56,7 +56,7 @@ pub fn let_go(slot: &mut Option<Running>, node: NodeNo, store: &mut Store)
 /// The call on a seat makes its change and fixes its reply.
 pub fn carry_out(slot: &mut Option<Running>, store: &mut Store)
     requires unfinished { (r : Running) → slot.old ≡ Some r → r.op.reply ≡ None }
-    requires can { (r : Running) → slot.old ≡ Some r → CanFinish (graph_of store.old) r.op.reserved r.op.remaining r.op.stand }
+    requires can { (r : Running) → slot.old ≡ Some r → CanFinish (graph_of store.old) r.op.reserved r.op.remaining r.op.holdings }
     ensures slot { Goes (λ old new. IsFinished (graph_of store.old) old new) slot.old slot.new }
     ensures graph { (r : Running) → slot.old ≡ Some r → graph_of store.new ≡ graph_after (graph_of store.old) r.op }
     ensures rest { seen store.new ≡ record (seen store.old) { graph = graph_of store.new } }

@@ -14,7 +14,7 @@ ghost use Rattle.fs_laws.specs.Below.{
   HelpsAreFew,
 };
 ghost use Rattle.fs_laws.specs.Progress.{HasStep, IsDetermined, WaitsBelow, IsNeverStuck};
-ghost use Rattle.fs_laws.specs.Work.{TakesWork, AddsWork};
+ghost use Rattle.fs_laws.specs.StepsLeft.{TakesWork, AddsWork};
 ghost use Rattle.fs_laws.specs.OneCall.{MeetsTreeAlone};
 ghost use Rattle.fs_numbers.specs.Numbers.{NumbersAreKept};
 ghost use Rattle.fs_numbers.specs.Agreement.{PartsAgree};

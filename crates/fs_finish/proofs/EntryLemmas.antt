@@ -6,7 +6,7 @@ use Rattle.fs_names.specs.Shapes.{Shape, Dir, File, is_dir, is_file, is_full, na
 use Rattle.fs_nodes.specs.Graphs.{Graph, then_at, entry_shape}
 use Rattle.fs_nodes.specs.Seen.{Seen, IsReal}
 use Rattle.fs_calls.specs.declared.target.EntryCall.{EntryCall}
-use Rattle.fs_calls.specs.Rows.{Edit, as_dir, in_row, in_there}
+use Rattle.fs_calls.specs.Rows.{Edit, as_dir, entry_row, entry_row_in_dir}
 use Rattle.fs_calls.specs.declared.errno.Errno.{Errno}
 use Rattle.fs_calls.specs.declared.reply.Reply.{Reply}
 use Rattle.fs_finish.specs.declared.finish.Finish.{Finish}
@@ -42,17 +42,17 @@ module _ (store : Seen) (real : IsReal store) (dir : ℕ) (x : Name) where
   abbrev pub graph : Graph
   graph = store.graph
 
-  pub entry_is : (n : ℕ) → graph.kid dir x ≡ Some n → entry_shape graph dir x ≡ graph.shape n
+  pub entry_is : (n : ℕ) → graph.child dir x ≡ Some n → entry_shape graph dir x ≡ graph.shape n
   entry_is n k = ap (λ (o : Option ℕ). then_at o graph.shape) k
 
-  pub entry_none : graph.kid dir x ≡ None → entry_shape graph dir x ≡ None
+  pub entry_none : graph.child dir x ≡ None → entry_shape graph dir x ≡ None
   entry_none k = ap (λ (o : Option ℕ). then_at o graph.shape) k
 
-  pub entry_there : (n : ℕ) → graph.kid dir x ≡ Some n → (graph.shape n ≡ None → ⊥)
+  pub entry_there : (n : ℕ) → graph.child dir x ≡ Some n → (graph.shape n ≡ None → ⊥)
   entry_there n k free = let s : (s : Shape) × (graph.shape n ≡ Some s) = real.to_used dir n x k in absurd (cc)
 
   -- something stands there
-  pub entry_some : (n : ℕ) → graph.kid dir x ≡ Some n → (s : Shape) × (entry_shape graph dir x ≡ Some s)
+  pub entry_some : (n : ℕ) → graph.child dir x ≡ Some n → (s : Shape) × (entry_shape graph dir x ≡ Some s)
   entry_some n k = go (graph.shape n) (entry_is n k) (entry_there n k)
     where
       go : (o : Option Shape) → entry_shape graph dir x ≡ o → (o ≡ None → ⊥) → (s : Shape) × (entry_shape graph dir x ≡ Some s)
@@ -60,16 +60,16 @@ module _ (store : Seen) (real : IsReal store) (dir : ℕ) (x : Name) where
       go (Some s) e there = (s, e)
 
   -- it is a directory, or a file
-  pub entry_dir : (n : ℕ) → graph.kid dir x ≡ Some n → is_dir (graph.shape n) ≡ true → entry_shape graph dir x ≡ Some (Dir (names_of (graph.shape n)))
+  pub entry_dir : (n : ℕ) → graph.child dir x ≡ Some n → is_dir (graph.shape n) ≡ true → entry_shape graph dir x ≡ Some (Dir (names_of (graph.shape n)))
   entry_dir n k e = entry_is n k ∙ dir_shape (graph.shape n) e
 
-  pub entry_file : (n : ℕ) → graph.kid dir x ≡ Some n → is_file (graph.shape n) ≡ true → entry_shape graph dir x ≡ Some (File (bytes_of (graph.shape n)))
+  pub entry_file : (n : ℕ) → graph.child dir x ≡ Some n → is_file (graph.shape n) ≡ true → entry_shape graph dir x ≡ Some (File (bytes_of (graph.shape n)))
   entry_file n k e = entry_is n k ∙ file_shape (graph.shape n) e
 
-  pub entry_not_dir : (n : ℕ) → graph.kid dir x ≡ Some n → is_dir (graph.shape n) ≡ false → entry_shape graph dir x ≡ Some (File (bytes_of (graph.shape n)))
+  pub entry_not_dir : (n : ℕ) → graph.child dir x ≡ Some n → is_dir (graph.shape n) ≡ false → entry_shape graph dir x ≡ Some (File (bytes_of (graph.shape n)))
   entry_not_dir n k e = entry_is n k ∙ other_file (graph.shape n) (entry_there n k) e
 
-  pub entry_not_file : (n : ℕ) → graph.kid dir x ≡ Some n → is_file (graph.shape n) ≡ false → entry_shape graph dir x ≡ Some (Dir (names_of (graph.shape n)))
+  pub entry_not_file : (n : ℕ) → graph.child dir x ≡ Some n → is_file (graph.shape n) ≡ false → entry_shape graph dir x ≡ Some (Dir (names_of (graph.shape n)))
   entry_not_file n k e = entry_is n k ∙ other_dir (graph.shape n) (entry_there n k) e
 
 -- ---- rows
@@ -94,7 +94,7 @@ some_of (Some n) h = (n, refl)
 
 -- a call on an entry at its directory, by a name that is the last one
 pub entry_by : (graph : Graph) (n : ℕ) (x y : Name) (reserved : Option ℕ) (c : EntryCall) (finish : Finish) (new : Graph) → y ≡ x → None ≡ as_dir None (graph.shape n)
-    → IsEffect (entry_effect graph n y reserved (in_there c (is_full (graph.shape n)) (entry_shape graph n y))) finish new → IsEffect (entry_finish graph n x reserved c) finish new
+    → IsEffect (entry_effect graph n y reserved (entry_row_in_dir c (is_full (graph.shape n)) (entry_shape graph n y))) finish new → IsEffect (entry_finish graph n x reserved c) finish new
 entry_by graph n x y reserved c finish new e h made =
     subst (λ (z : Name). IsEffect (entry_finish graph n z reserved c) finish new) e
-    (row_is graph n y reserved _ _ finish new (ap (λ (o : Option Errno). in_row c o (is_full (graph.shape n)) (entry_shape graph n y)) (sym h)) made)
+    (row_is graph n y reserved _ _ finish new (ap (λ (o : Option Errno). entry_row c o (is_full (graph.shape n)) (entry_shape graph n y)) (sym h)) made)

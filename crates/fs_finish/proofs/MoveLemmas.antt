@@ -127,19 +127,19 @@ module _ (graph : Graph) (from : ℕ) (x : Name) (to : ℕ) (y : Name) (n : ℕ)
   -- an entry moves all the same where the new name's entry went first
   pub moved_again : moved_in from x to y n (unlinked_in to y graph) ≡ moved_in from x to y n graph
   moved_again = graph_by
-      (λ d z. later (eqb d to && same_name z y) (eqb d from && same_name z x) (Some n) None (graph.kid d z))
+      (λ d z. later (eqb d to && same_name z y) (eqb d from && same_name z x) (Some n) None (graph.child d z))
       (λ m. ap (λ (l : List Name). cond (eqb m to) (Some (Dir l)) (set_at from (lost without) without m)) names_same
       ∙ shapes_same m (eqb m to) (eqb m from) refl refl (Some (Dir (inserted_name y (names_of (set_at from (lost graph.shape) graph.shape to))))))
 
 -- ---- what stays where an entry goes
 
-pub entry_gone : (graph : Graph) (to : ℕ) (y : Name) → (unlinked_in to y graph).kid to y ≡ None
-entry_gone graph to y = ap₂ (λ (a b : Bool). cond (a && b) None (graph.kid to y)) (eqb_refl to) (same_name_refl y)
+pub entry_gone : (graph : Graph) (to : ℕ) (y : Name) → (unlinked_in to y graph).child to y ≡ None
+entry_gone graph to y = ap₂ (λ (a b : Bool). cond (a && b) None (graph.child to y)) (eqb_refl to) (same_name_refl y)
 
-pub entry_stays : (graph : Graph) (to : ℕ) (y : Name) (d : ℕ) (z : Name) → (d ≡ to → z ≡ y → ⊥) → (unlinked_in to y graph).kid d z ≡ graph.kid d z
+pub entry_stays : (graph : Graph) (to : ℕ) (y : Name) (d : ℕ) (z : Name) → (d ≡ to → z ≡ y → ⊥) → (unlinked_in to y graph).child d z ≡ graph.child d z
 entry_stays graph to y d z apart = go (eqb d to) (same_name z y) refl refl
   where
-    go : (a b : Bool) → eqb d to ≡ a → same_name z y ≡ b → cond (a && b) None (graph.kid d z) ≡ graph.kid d z
+    go : (a b : Bool) → eqb d to ≡ a → same_name z y ≡ b → cond (a && b) None (graph.child d z) ≡ graph.child d z
     go true true e f = absurd (apart (eqb_true d to e) (same_name_exact z y f))
     go true false e f = refl
     go false b e f = refl

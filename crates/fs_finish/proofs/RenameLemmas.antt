@@ -5,7 +5,7 @@ use Rattle.fs_names.specs.Names.{Name}
 use Rattle.fs_names.specs.Shapes.{Shape, is_full}
 use Rattle.fs_nodes.specs.Graphs.{Graph, entry_shape, moved_in}
 use Rattle.fs_nodes.specs.Seen.{Seen, IsReal}
-use Rattle.fs_calls.specs.Rows.{from_row, to_row, moves_row}
+use Rattle.fs_calls.specs.Rows.{rename_row_in_dirs, to_row, moves_row}
 use Rattle.fs_calls.specs.declared.errno.Errno.{Errno}
 use Rattle.fs_calls.specs.declared.reply.Reply.{Reply}
 use Rattle.fs_calls.specs.declared.reply.Reply.TheVariants.{Done, Failed}
@@ -15,7 +15,7 @@ use Rattle.fs_machine.specs.Finishes.{move_effect}
 use Rattle.fs_machine.specs.Moves.{there_by}
 use Rattle.fs_finish.proofs.EntryLemmas.{entry_some, entry_is}
 
-module _ (store : Seen) (real : IsReal store) (source : ℕ) (x : Name) (dest : ℕ) (y : Name) (same_path above one_parent : Bool) (victim reserved : Option ℕ) (moved : ℕ) (k : store.graph.kid source x ≡ Some moved) where
+module _ (store : Seen) (real : IsReal store) (source : ℕ) (x : Name) (dest : ℕ) (y : Name) (same_path above one_parent : Bool) (victim reserved : Option ℕ) (moved : ℕ) (k : store.graph.child source x ≡ Some moved) where
   abbrev there : Option Shape
   there = there_by above (entry_shape store.graph dest y)
 
@@ -27,7 +27,7 @@ module _ (store : Seen) (real : IsReal store) (source : ℕ) (x : Name) (dest : 
       → IsEffect (move_effect store.graph (between source dest victim) x y reserved row.0 row.1 (Some moved)) finish new
       → IsEffect (made_between store.graph source x dest y same_path above one_parent victim reserved) finish new
   by_reply row finish new e h =
-      subst (λ (r : Reply × Bool). IsEffect (move_effect store.graph (between source dest victim) x y reserved r.0 r.1 (store.graph.kid source x)) finish new) (sym e)
+      subst (λ (r : Reply × Bool). IsEffect (move_effect store.graph (between source dest victim) x y reserved r.0 r.1 (store.graph.child source x)) finish new) (sym e)
       (subst (λ (o : Option ℕ). IsEffect (move_effect store.graph (between source dest victim) x y reserved row.0 row.1 o) finish new) (sym k) h)
 
   -- both paths are the same
@@ -35,7 +35,7 @@ module _ (store : Seen) (real : IsReal store) (source : ℕ) (x : Name) (dest : 
   made_same finish same f =
       let s = entry_some store real source x moved k in
       let e : rename_reply store.graph source x dest y same_path above one_parent ≡ (Done, false) =
-      ap (λ (o : Option Shape). from_row o same_path there room) s.1 ∙ ap (λ (b : Bool). from_row (Some s.0) b there room) same in
+      ap (λ (o : Option Shape). rename_row_in_dirs o same_path there room) s.1 ∙ ap (λ (b : Bool). rename_row_in_dirs (Some s.0) b there room) same in
       by_reply (Done, false) finish store.graph e
       (record { reply = ap (λ (z : Finish). z.replies) f; reserved = ap (λ (z : Finish). z.reserved) f; removed = ap (λ (z : Finish). z.removed) f; graph_is = refl })
 
@@ -44,7 +44,7 @@ module _ (store : Seen) (real : IsReal store) (source : ℕ) (x : Name) (dest : 
       → rename_reply store.graph source x dest y same_path above one_parent ≡ moves_row fault
   reply_by fault same f =
       let s = entry_some store real source x moved k in
-      ap (λ (o : Option Shape). from_row o same_path there room) s.1 ∙ ap (λ (b : Bool). from_row (Some s.0) b there room) same
+      ap (λ (o : Option Shape). rename_row_in_dirs o same_path there room) s.1 ∙ ap (λ (b : Bool). rename_row_in_dirs (Some s.0) b there room) same
       ∙ ap moves_row (sym (f s.0 (sym (entry_is store real source x moved k) ∙ s.1)))
 
   pub made_failed : (fault : Option Errno) (errno : Errno) (finish : Finish) → same_path ≡ false → ((s : Shape) → store.graph.shape moved ≡ Some s → fault ≡ to_row s there room) → fault ≡ Some errno
@@ -54,7 +54,7 @@ module _ (store : Seen) (real : IsReal store) (source : ℕ) (x : Name) (dest : 
       (record { reply = ap (λ (z : Finish). z.replies) f; reserved = ap (λ (z : Finish). z.reserved) f; removed = ap (λ (z : Finish). z.removed) f; graph_is = refl })
 
   pub made_moved : (fault : Option Errno) (done : Reply) (new : Graph) → same_path ≡ false → ((s : Shape) → store.graph.shape moved ≡ Some s → fault ≡ to_row s there room) → fault ≡ None → done ≡ Done
-      → IfSome (store.graph.kid source x) (λ n. new ≡ moved_in source x dest y n store.graph)
+      → IfSome (store.graph.child source x) (λ n. new ≡ moved_in source x dest y n store.graph)
       → IsEffect (made_between store.graph source x dest y same_path above one_parent victim reserved) (record { replies = done; reserved = reserved; removed = victim }) new
   made_moved fault told new same g e d h =
       by_reply (Done, true) _ new (reply_by fault same g ∙ ap moves_row e)

@@ -5,13 +5,13 @@ ghost use Rattle.fs_names.specs.Keys.{last_of};
 ghost use Rattle.fs_names.specs.Shapes.{Shape, is_dir, is_full};
 ghost use Rattle.fs_nodes.specs.Graphs.{entry_shape};
 ghost use Rattle.fs_nodes.specs.Seen.{seen};
-ghost use Rattle.fs_nodes.specs.Stores.{kid, shape, graph_of};
+ghost use Rattle.fs_nodes.specs.Stores.{child, shape, graph_of};
 ghost use Rattle.fs_calls.specs.declared.target.EntryCall.TheVariants as entries;
-ghost use Rattle.fs_calls.specs.Rows.{made, in_there, Remove};
+ghost use Rattle.fs_calls.specs.Rows.{made, entry_row_in_dir, Remove};
 ghost use Rattle.fs_calls.specs.declared.reply.Reply.TheVariants as answers;
 ghost use Rattle.fs_finish.specs.Endings.{IsEffect, entry_finish};
 ghost use Rattle.fs_machine.specs.Finishes.{entry_effect};
-ghost use Rattle.fs_machine.specs.Works.{SpareIf};
+ghost use Rattle.fs_machine.specs.OpValues.{SpareIf};
 
 use crate::finish::Finish;
 use crate::queries::dir_fault;
@@ -41,7 +41,7 @@ fn make_in(store: &mut Store, dir: NodeNo, name: &Name, reserved: Option<NodeNo>
 
 /// The entry goes. What it named is the removed node.
 fn remove(store: &mut Store, dir: NodeNo, name: &Name, reserved: Option<NodeNo>) -> Finish
-    requires there { IsSome (kid store.old dir name.now) }
+    requires there { IsSome (child store.old dir name.now) }
     ensures made { IsEffect (entry_effect (graph_of store.old) dir name.now reserved (answers.Done, Remove)) result (graph_of store.new) }
     ensures rest { seen store.new ≡ record (seen store.old) { graph = graph_of store.new } }
 {
@@ -55,7 +55,7 @@ fn remove(store: &mut Store, dir: NodeNo, name: &Name, reserved: Option<NodeNo>)
 
 /// The entry of a file goes.
 fn unlink_in(store: &mut Store, dir: NodeNo, name: &Name, reserved: Option<NodeNo>) -> Finish
-    ensures made { IsEffect (entry_effect (graph_of store.old) dir name.now reserved (in_there entries.Unlink (is_full (shape store.old dir)) (entry_shape (graph_of store.old) dir name.now))) result (graph_of store.new) }
+    ensures made { IsEffect (entry_effect (graph_of store.old) dir name.now reserved (entry_row_in_dir entries.Unlink (is_full (shape store.old dir)) (entry_shape (graph_of store.old) dir name.now))) result (graph_of store.new) }
     ensures rest { seen store.new ≡ record (seen store.old) { graph = graph_of store.new } }
 {
     let Some(node) = store.find(dir, name) else {
@@ -69,7 +69,7 @@ fn unlink_in(store: &mut Store, dir: NodeNo, name: &Name, reserved: Option<NodeN
 
 /// The entry of an empty directory goes.
 fn rmdir_in(store: &mut Store, dir: NodeNo, name: &Name, reserved: Option<NodeNo>) -> Finish
-    ensures made { IsEffect (entry_effect (graph_of store.old) dir name.now reserved (in_there entries.Rmdir (is_full (shape store.old dir)) (entry_shape (graph_of store.old) dir name.now))) result (graph_of store.new) }
+    ensures made { IsEffect (entry_effect (graph_of store.old) dir name.now reserved (entry_row_in_dir entries.Rmdir (is_full (shape store.old dir)) (entry_shape (graph_of store.old) dir name.now))) result (graph_of store.new) }
     ensures rest { seen store.new ≡ record (seen store.old) { graph = graph_of store.new } }
 {
     let Some(node) = store.find(dir, name) else {

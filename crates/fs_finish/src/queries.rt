@@ -4,9 +4,9 @@ ghost use Rattle.std.specs.Prelude.{◌≡◌, ◌≤◌, [], None, length, take
 ghost use Rattle.fs_names.specs.Shapes.{names_of, is_dir};
 ghost use Rattle.fs_nodes.specs.Stores.{shape, graph_of};
 ghost use Rattle.fs_calls.specs.Forms as calls;
-ghost use Rattle.fs_calls.specs.Rows.{as_dir, on_row};
+ghost use Rattle.fs_calls.specs.Rows.{as_dir, node_row};
 ghost use Rattle.fs_machine.specs.Moves.{walk_errno};
-ghost use Rattle.fs_machine.specs.Works.{IsBounded};
+ghost use Rattle.fs_machine.specs.OpValues.{IsBounded};
 ghost use Rattle.fs_finish.specs.Rooms.{SufficesFor};
 
 use crate::replies::Replies;
@@ -46,7 +46,7 @@ fn told(kind: Kind, size: usize) -> Replies
 
 /// The kind of the node and its size.
 pub fn stat(store: &Store, node: NodeNo) -> Replies
-    ensures { result ≡ (on_row calls.Stat None (shape store.now node)).0 }
+    ensures { result ≡ (node_row calls.Stat None (shape store.now node)).0 }
 {
     if store.is_dir(node) {
         return told(Kind::Dir, store.entries(node));
@@ -83,7 +83,7 @@ fn names(store: &Store, dir: NodeNo, room: NameRoom) -> NameList
 pub fn readdir(store: &Store, node: NodeNo, prepared: Room) -> Replies
     requires bounded { IsBounded (graph_of store.now) }
     requires room { SufficesFor calls.Readdir prepared }
-    ensures { result ≡ (on_row calls.Readdir None (shape store.now node)).0 }
+    ensures { result ≡ (node_row calls.Readdir None (shape store.now node)).0 }
 {
     let Room::Lists(one, other) = prepared else {
         unreachable!();
@@ -102,7 +102,7 @@ pub fn readdir(store: &Store, node: NodeNo, prepared: Room) -> Replies
 pub fn read(store: &Store, node: NodeNo, off: u64, count: u64, prepared: Room) -> Replies
     requires bounded { IsBounded (graph_of store.now) }
     requires room { SufficesFor (calls.Read off count) prepared }
-    ensures { result ≡ (on_row (calls.Read off count) None (shape store.now node)).0 }
+    ensures { result ≡ (node_row (calls.Read off count) None (shape store.now node)).0 }
 {
     let Room::Copies(one, other) = prepared else {
         unreachable!();

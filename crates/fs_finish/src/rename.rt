@@ -6,7 +6,7 @@ ghost use Rattle.fs_names.specs.Parts.{is_end};
 ghost use Rattle.fs_names.specs.Shapes.{Shape, is_dir, is_full};
 ghost use Rattle.fs_nodes.specs.Graphs.{entry_shape, moved_in};
 ghost use Rattle.fs_nodes.specs.Seen.{seen};
-ghost use Rattle.fs_nodes.specs.Stores.{kid, shape, graph_of};
+ghost use Rattle.fs_nodes.specs.Stores.{child, shape, graph_of};
 ghost use Rattle.fs_calls.specs.Rows.{to_row};
 ghost use Rattle.fs_finish.specs.Endings.{IsEffect, made_between};
 ghost use Rattle.fs_machine.specs.Moves.{there_by};
@@ -82,9 +82,9 @@ pub fn fault(
 /// The entry of this name goes, if there is one, before another one moves to it.
 fn clear(store: &mut Store, dir: NodeNo, name: &Name)
     requires { IsTrue (is_dir (shape store.old dir)) }
-    ensures absent { kid store.new dir name.now ≡ None }
+    ensures absent { child store.new dir name.now ≡ None }
     ensures dir { IsTrue (is_dir (shape store.new dir)) }
-    ensures others { (d : ℕ) (x : List ℕ) → (d ≡ dir → x ≡ name.now → ⊥) → kid store.new d x ≡ kid store.old d x }
+    ensures others { (d : ℕ) (x : List ℕ) → (d ≡ dir → x ≡ name.now → ⊥) → child store.new d x ≡ child store.old d x }
     ensures moves { (from : ℕ) (x : List ℕ) (n : ℕ) → moved_in from x dir name.now n (graph_of store.new) ≡ moved_in from x dir name.now n (graph_of store.old) }
     ensures rest { seen store.new ≡ record (seen store.old) { graph = graph_of store.new } }
 {
@@ -95,10 +95,10 @@ fn clear(store: &mut Store, dir: NodeNo, name: &Name)
 
 /// Moves an entry. The one that the new name had goes first.
 fn replace(store: &mut Store, source: NodeNo, name: &Name, dest: NodeNo, new_name: &Name)
-    requires there { IsSome (kid store.old source name.now) }
+    requires there { IsSome (child store.old source name.now) }
     requires dir { IsTrue (is_dir (shape store.old dest)) }
     requires apart { source ≡ dest → name.now ≡ new_name.now → ⊥ }
-    ensures { IfSome (kid store.old source name.now) (λ node. seen store.new ≡ record (seen store.old) { graph = moved_in source name.now dest new_name.now node (graph_of store.old) }) }
+    ensures { IfSome (child store.old source name.now) (λ node. seen store.new ≡ record (seen store.old) { graph = moved_in source name.now dest new_name.now node (graph_of store.old) }) }
 {
     clear(store, dest, new_name);
     store.move_entry(source, name, dest, new_name);

@@ -6,7 +6,7 @@ ghost use Rattle.fs_nodes.specs.Graphs.{content_in};
 ghost use Rattle.fs_nodes.specs.Seen.{seen};
 ghost use Rattle.fs_nodes.specs.Stores.{shape, graph_of};
 ghost use Rattle.fs_calls.specs.Forms as calls;
-ghost use Rattle.fs_calls.specs.Rows.{on_row, written, resized};
+ghost use Rattle.fs_calls.specs.Rows.{node_row, written, resized};
 ghost use Rattle.fs_finish.specs.Replies.{refilled};
 ghost use Rattle.fs_finish.specs.Rooms.{SufficesFor};
 
@@ -72,8 +72,8 @@ fn resize(store: &mut Store, file: NodeNo, size: usize, buffer: ByteRoom)
 /// Writes bytes into the file.
 pub fn write(store: &mut Store, node: NodeNo, off: u64, bytes: &[u8], prepared: Room) -> Replies
     requires room { SufficesFor (calls.Write off bytes.now) prepared }
-    ensures reply { result ≡ (on_row (calls.Write off bytes.now) None (shape store.old node)).0 }
-    ensures change { seen store.new ≡ record (seen store.old) { graph = refilled node (on_row (calls.Write off bytes.now) None (shape store.old node)).1 (graph_of store.old) } }
+    ensures reply { result ≡ (node_row (calls.Write off bytes.now) None (shape store.old node)).0 }
+    ensures change { seen store.new ≡ record (seen store.old) { graph = refilled node (node_row (calls.Write off bytes.now) None (shape store.old node)).1 (graph_of store.old) } }
 {
     let Room::Content(buffer) = prepared else {
         unreachable!();
@@ -98,8 +98,8 @@ pub fn write(store: &mut Store, node: NodeNo, off: u64, bytes: &[u8], prepared: 
 /// Cuts the file to a size, or adds zeros up to it.
 pub fn truncate(store: &mut Store, node: NodeNo, size: u64, prepared: Room) -> Replies
     requires room { SufficesFor (calls.Truncate size) prepared }
-    ensures reply { result ≡ (on_row (calls.Truncate size) None (shape store.old node)).0 }
-    ensures change { seen store.new ≡ record (seen store.old) { graph = refilled node (on_row (calls.Truncate size) None (shape store.old node)).1 (graph_of store.old) } }
+    ensures reply { result ≡ (node_row (calls.Truncate size) None (shape store.old node)).0 }
+    ensures change { seen store.new ≡ record (seen store.old) { graph = refilled node (node_row (calls.Truncate size) None (shape store.old node)).1 (graph_of store.old) } }
 {
     let Room::Content(buffer) = prepared else {
         unreachable!();

@@ -11,7 +11,7 @@ use Rattle.fs_timeline.specs.declared.entry.Entry.{Entry}
 use Rattle.fs_timeline.specs.declared.entry.Entry.TheVariants.{Begin, Commit, Return}
 use Rattle.fs_timeline.proofs.AppendLemmas.{or_false, list_any-push, or_else-nothing, call_of-push, is_some-call_of, call_of-kept, commits-push, before_commit-kept, before_commit-first, begun_first-push}
 use Rattle.fs_index.specs.Index.{Fits, place_of}
-use Rattle.fs_index.specs.code.Indexed.{call_begun, begun_at, kept_for, Stands, IsIndex}
+use Rattle.fs_index.specs.code.Indexed.{call_begun, begun_at, kept_for, HasBegin, IsIndex}
 
 -- an element stays where it stood, and the new one stands behind
 push_kept : {A : Type 0} (xs : List A) (y : A) (at : ℕ) (x : A) → slice_get xs at ≡ Some x → slice_get (xs ++ y ∷ []) at ≡ Some x
@@ -121,10 +121,10 @@ place_first c es h =
 
 -- where a call's Begin stands
 stands_kept : (es : List Entry) (e : Entry) (begun more : List ℕ) (c : ℕ) → has_begun c es ≡ true → ((at place : ℕ) → slice_get begun at ≡ Some place → slice_get more at ≡ Some place)
-    → Stands es begun c → Stands (es ++ e ∷ []) more c
+    → HasBegin es begun c → HasBegin (es ++ e ∷ []) more c
 stands_kept es e begun more c h keeps s = go (call_of c es) refl
   where
-    go : (o : Option Call) → call_of c es ≡ o → Stands (es ++ e ∷ []) more c
+    go : (o : Option Call) → call_of c es ≡ o → HasBegin (es ++ e ∷ []) more c
     go None f = let z : false ≡ true = sym (ap (λ (o : Option Call). is_some o) f) ∙ is_some-call_of c es ∙ h in absurd (cc)
     go (Some call) f = record {
       at = s.at;
@@ -185,7 +185,7 @@ index_begun es begun places order c seat call at index number last = record {
         go None f = refl
         go (Some x) f = absurd (cc)
 
-    by : (d : ℕ) (b : Bool) → has_begun d es ≡ b → has_begun d (es ++ Begin c seat call ∷ []) ≡ true → Stands (es ++ Begin c seat call ∷ []) (begun ++ at ∷ []) d
+    by : (d : ℕ) (b : Bool) → has_begun d es ≡ b → has_begun d (es ++ Begin c seat call ∷ []) ≡ true → HasBegin (es ++ Begin c seat call ∷ []) (begun ++ at ∷ []) d
     by d true f h = stands_kept es (Begin c seat call) begun (begun ++ at ∷ []) d f (push_kept begun at) (index.stands d f)
     by d false f h =
         let same : (d == c) ≡ true = sym (list_any-push (is_begin d) es (Begin c seat call) ∙ ap (λ (b : Bool). b || (d == c)) f) ∙ h in
@@ -196,7 +196,7 @@ index_begun es begun places order c seat call at index number last = record {
           numbered = omega (arith, is, number, index.count);
           kept = push_seam begun at (length begun) refl;
           called = ap call_begun (push_seam es (Begin c seat call) at last)
-              ∙ sym (call_of-push d es (Begin c seat call) ∙ ap (λ (o : Option Call). Rattle.fs_names.specs.First.or_else o (begun_as d (Begin c seat call))) (none d f) ∙ ap (λ (b : Bool). cond b (Some call) None) same);
+              ∙ sym (call_of-push d es (Begin c seat call) ∙ ap (λ (o : Option Call). Rattle.fs_names.specs.Failures.or_else o (begun_as d (Begin c seat call))) (none d f) ∙ ap (λ (b : Bool). cond b (Some call) None) same);
         }
 
 -- a Commit
@@ -214,7 +214,7 @@ index_committed es begun places order c at place n index has not number read las
     same : begins (es ++ Commit c ∷ []) ≡ begins es
     same = let p : begins (es ++ Commit c ∷ []) ≡ begins es + 0 = begins_push es (Commit c) in omega (arith, p)
 
-    mine : Stands es begun c
+    mine : HasBegin es begun c
     mine = index.stands c has
 
     here : mine.at ≡ at
@@ -284,7 +284,7 @@ committed_at es begun places order i place index within read =
 -- a begun call's number is above 0 and within the lists by call numbers
 pub within_lists : (es : List Entry) (begun : List ℕ) (places : List (Option ℕ)) (order : List ℕ) (c : ℕ) → IsIndex es begun places order → has_begun c es ≡ true → (1 ≤ c) × (c ≤ length begun) × (c ≤ length places)
 within_lists es begun places order c index has =
-    let s : Stands es begun c = index.stands c has in
+    let s : HasBegin es begun c = index.stands c has in
     let w : s.at < length begun = slice_get_within begun s.at s.place s.kept in
     (omega (arith, s.numbered), omega (arith, s.numbered, w), omega (arith, s.numbered, w, index.count, index.beside))
 

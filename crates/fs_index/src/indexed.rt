@@ -24,10 +24,10 @@ pub struct IndexedTimeline {
 
 impl Model for IndexedTimeline {
     ghost use Rattle.std.specs.Prelude.{◌≡◌, ◌+◌, ◌≤◌, vec_len, vec_capacity};
-    ghost use Rattle.fs_timeline.specs.Kept.{Kept};
+    ghost use Rattle.fs_timeline.specs.TimelineValues.{TimelineValue};
     ghost use Rattle.fs_index.specs.code.Indexed.{IsIndex};
 
-    ghost Value = { Kept };
+    ghost Value = { TimelineValue };
 
     ghost view = { λ t. t.timeline };
 

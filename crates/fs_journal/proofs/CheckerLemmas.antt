@@ -3,7 +3,7 @@ use Rattle.std.proofs.Common.{◌≡◌, ℕ, Bool, true, false, if◌then◌els
 use mathlib.Core.Path.{fun_ext}
 use Rattle.std.specs.Ordering.{is_eq, nat_cmp}
 use Rattle.std.specs.BTreeMap.{BTreeMap, get, Updates}
-use Rattle.fs_names.specs.First.{on, first}
+use Rattle.fs_names.specs.Failures.{check, first_failure}
 use Rattle.fs_calls.specs.declared.call.Call.{Call}
 use Rattle.fs_calls.specs.declared.reply.Reply.{Reply}
 use Rattle.fs_journal.specs.declared.calls.Begun.{Begun}
@@ -14,7 +14,7 @@ use Rattle.fs_timeline.specs.declared.verdict.FaultKind.TheVariants.{BeginTwice,
 use Rattle.fs_calls.specs.Tree.{Tree}
 use Rattle.fs_calls.specs.Outcomes.{reply, after}
 use Rattle.fs_journal.specs.code.Calls.{begun_at, call_in, due_in, is_back}
-use Rattle.fs_timeline.specs.Knowledge.{Knowledge, taken_in, played, is_waiting, known_fault, return_fault, changed}
+use Rattle.fs_timeline.specs.JournalStates.{JournalState, taken_in, played, is_waiting, known_fault, return_fault, changed}
 use Rattle.fs_journal.specs.code.Checkers.{known}
 
 pub same_number : (c q : ℕ) → is_eq (nat_cmp c q) ≡ (c == q)
@@ -44,7 +44,7 @@ changed_back f c a h = fun_ext (λ q. kept_by (c == q) a (f q) (λ same. h ∙ a
 pub last_in : (before after : BTreeMap ℕ ℕ) (seat c : ℕ) → Updates nat_cmp before after seat (Some c) → ◌≡◌ {A = ℕ → Option ℕ} (λ s. get nat_cmp after s) (changed (λ s. get nat_cmp before s) seat (Some c))
 last_in before after seat c h = fun_ext (λ s. h.0 s ∙ ap (λ b. if b then Some c else get nat_cmp before s) (same_number seat s))
 
-not_begun : (o : Option Call) (others : List (Option FaultKind)) → first (on (is_some o) BeginTwice ∷ others) ≡ None → o ≡ None
+not_begun : (o : Option Call) (others : List (Option FaultKind)) → first_failure (check (is_some o) BeginTwice ∷ others) ≡ None → o ≡ None
 not_begun None others h = refl
 not_begun (Some call) others h = absurd (cc)
 
@@ -53,16 +53,16 @@ committed None returned r h = absurd (cc)
 committed (Some due) returned r h = refl
 
 -- an entry in which nothing is wrong: a Begin of a new call, or a Return of a call that has committed
-pub is_new : (k : Knowledge) (c seat : ℕ) (call : Call) → known_fault k (Begin c seat call) ≡ None → k.calls c ≡ None
-is_new k c seat call h = not_begun (k.calls c) (on (is_waiting k.returned (k.last seat)) SeatBusy ∷ []) h
+pub is_new : (k : JournalState) (c seat : ℕ) (call : Call) → known_fault k (Begin c seat call) ≡ None → k.calls c ≡ None
+is_new k c seat call h = not_begun (k.calls c) (check (is_waiting k.returned (k.last seat)) SeatBusy ∷ []) h
 
-pub has_reply : (k : Knowledge) (c : ℕ) (r : Reply) → known_fault k (Return c r) ≡ None → IsSome (k.replies c)
+pub has_reply : (k : JournalState) (c : ℕ) (r : Reply) → known_fault k (Return c r) ≡ None → IsSome (k.replies c)
 has_reply k c r h = committed (k.replies c) (k.returned c) r h
 
 -- what is known, by its parts
 knowledge_by : (calls calls2 : ℕ → Option Call) (replies replies2 : ℕ → Option Reply) (returned returned2 : ℕ → Bool) (last last2 : ℕ → Option ℕ) (tree tree2 : Tree)
     → calls ≡ calls2 → replies ≡ replies2 → returned ≡ returned2 → last ≡ last2 → tree ≡ tree2
-    → ◌≡◌ {A = Knowledge} (record { calls = calls; replies = replies; returned = returned; last = last; tree = tree }) (record { calls = calls2; replies = replies2; returned = returned2; last = last2; tree = tree2 })
+    → ◌≡◌ {A = JournalState} (record { calls = calls; replies = replies; returned = returned; last = last; tree = tree }) (record { calls = calls2; replies = replies2; returned = returned2; last = last2; tree = tree2 })
 knowledge_by calls calls2 replies replies2 returned returned2 last last2 tree tree2 a b c d e = rw (a, b, c, d, e) refl
 
 asks : {A : Type 0} (ask : Option Begun → A) (old new : ℕ → Option Begun) (c : ℕ) (o : Option Begun) → new ≡ changed old c o

@@ -1,7 +1,7 @@
 //! The calls of a journal, by their numbers.
 
 ghost use Rattle.std.specs.Prelude.{◌≡◌, true, false, Some, None, IsSome, IfSome, option_copied, OnOk};
-ghost use Rattle.fs_timeline.specs.Knowledge.{return_fault, changed};
+ghost use Rattle.fs_timeline.specs.JournalStates.{return_fault, changed};
 ghost use Rattle.fs_journal.specs.code.Calls.{begun_at, IsPlaceOf};
 
 use fs_calls::{Call, Reply};

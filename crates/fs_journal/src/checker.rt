@@ -4,7 +4,7 @@ ghost use Rattle.std.specs.Prelude.{◌≡◌, ◌↔◌, true, [], Some, None, 
 ghost use Rattle.fs_timeline.specs.Timeline.{IsLawful};
 ghost use Rattle.fs_timeline.specs.Verdicts.{verdict};
 ghost use Rattle.fs_timeline.specs.Laws.{NamesFirstFault};
-ghost use Rattle.fs_timeline.specs.Knowledge.{known_fault, taken_in, is_waiting, IsTrueOf};
+ghost use Rattle.fs_timeline.specs.JournalStates.{known_fault, taken_in, is_waiting, IsTrueOf};
 ghost use Rattle.fs_journal.specs.code.Checkers.{known};
 
 use crate::calls::Calls;

@@ -1,5 +1,5 @@
 -- The journal of the machine.
 pub mod OneMoreEntry
-pub mod BookAndMachine
-pub mod BookOfTimeline
+pub mod ViewAndMachine
+pub mod ViewOfTimeline
 pub mod PlacesOfPlaced

@@ -2,36 +2,36 @@
 use Rattle.std.specs.Prelude.{ℕ, ◌≡◌, ◌<◌, ◌≤◌, List, [], ◌∷◌, true, ◌++◌, Option, Some, ◌⊎◌, length}
 use Rattle.fs_names.specs.Keys.{Key}
 use Rattle.fs_calls.specs.Outcomes as tree
-use Rattle.fs_calls.specs.Shapes.{seen}
+use Rattle.fs_calls.specs.Shapes.{tree_shapes}
 use Rattle.fs_calls.specs.declared.call.Call.{Call}
 use Rattle.fs_calls.specs.declared.reply.Reply.{Reply}
-use Rattle.fs_nodes.specs.Graphs.{at, spell}
+use Rattle.fs_nodes.specs.Graphs.{at, graph_shapes}
 use Rattle.fs_timeline.specs.Timeline as journal
 use Rattle.fs_timeline.specs.declared.entry.Entry.{Entry}
 use Rattle.fs_machine.specs.Moves.{Finishes, next}
-use Rattle.fs_machine.specs.Records.{Stand, Walking, Placed, Record, Holds}
+use Rattle.fs_machine.specs.Records.{Holdings, Walking, Placed, Record, Holds}
 use Rattle.fs_timeline.specs.Timeline.{commit_count}
 use Rattle.fs_laws.specs.Invariants.{InOrder, IsIn}
 use Rattle.fs_laws.specs.Settled.{settled_graph, settled_replies}
 use Rattle.fs_laws.specs.States.{State, Begun, Begins, Moves, IsBelow, IsWalkingBelow, IsChosen, NoneBelow, Stepped, Helped, Committed, Step}
 
 -- a call under way that stands somewhere
-pub record StandsAt (s : State) (c : ℕ) (op : Record) (st : Stand) : Type 0 where
+pub record IsHolding (s : State) (c : ℕ) (op : Record) (st : Holdings) : Type 0 where
   pub is : s.ops c ≡ Some op
-  pub on : op.stand ≡ Some st
+  pub on : op.holdings ≡ Some st
 
 -- no walking call is below the position of a placed one
 abbrev pub NoWalkingBelow : State → Type 0
-NoWalkingBelow s = (c d i : ℕ) (op : Record) (st : Stand) → StandsAt s c op st → op.phase ≡ Placed i → IsWalkingBelow s st.node d → ⊥
+NoWalkingBelow s = (c d i : ℕ) (op : Record) (st : Holdings) → IsHolding s c op st → op.phase ≡ Placed i → IsWalkingBelow s st.node d → ⊥
 
 -- no placed call is below the position of one placed earlier
 abbrev pub NoLaterBelow : State → Type 0
-NoLaterBelow s = (c d i j : ℕ) (op q : Record) (st : Stand) → StandsAt s c op st → op.phase ≡ Placed i → s.ops d ≡ Some q → q.phase ≡ Placed j → i < j → IsBelow s.graph st.node q → ⊥
+NoLaterBelow s = (c d i j : ℕ) (op q : Record) (st : Holdings) → IsHolding s c op st → op.phase ≡ Placed i → s.ops d ≡ Some q → q.phase ≡ Placed j → i < j → IsBelow s.graph st.node q → ⊥
 
 -- while a rename holds its common directory and has walked from there to a head, no other call holds a node on that way, its ends included
 abbrev pub NobodyBetween : State → Type 0
-NobodyBetween s = (c d n : ℕ) (op q : Record) (st other : Stand) (u v : Key) → (c ≡ d → ⊥) → StandsAt s c op st → StandsAt s d q other
-    → (st.source.walked ≡ u ++ v) ⊎ (st.dest.walked ≡ u ++ v) → at s.graph.kid st.node u ≡ Some n → Holds other n → ⊥
+NobodyBetween s = (c d n : ℕ) (op q : Record) (st other : Holdings) (u v : Key) → (c ≡ d → ⊥) → IsHolding s c op st → IsHolding s d q other
+    → (st.source.walked ≡ u ++ v) ⊎ (st.dest.walked ≡ u ++ v) → at s.graph.child st.node u ≡ Some n → Holds other n → ⊥
 
 -- each of these calls is due this reply
 abbrev pub AreDue : List Entry → List ℕ → List Reply → Type 0
@@ -46,7 +46,7 @@ pub record Settles (s : State) : Type 0 where
   pub in_order : InOrder s.ops order
   pub all : (c : ℕ) (op : Record) (i : ℕ) → s.ops c ≡ Some op → op.phase ≡ Placed i → IsIn c order
   -- the nodes then spell the tree that the commits play
-  pub spelled : spell (settled_graph s.graph s.ops order) ≡ seen (tree.play (journal.commits s.timeline))
+  pub spelled : graph_shapes (settled_graph s.graph s.ops order) ≡ tree_shapes (tree.play (journal.commits s.timeline))
   -- and each replies what is due to its place among the commits
   pub replies : AreDue s.timeline order (settled_replies s.graph s.ops order)
 

@@ -10,7 +10,7 @@ use Rattle.fs_calls.specs.declared.target.PairCall.TheVariants as pairs
 use Rattle.fs_calls.specs.declared.call.Call.{Call}
 use Rattle.fs_laws.specs.Maps.{Map, move, write_all}
 pub use Rattle.fs_calls.specs.Sights.{resolve, resolve_next, resolve_dir}
-use Rattle.fs_calls.specs.Rows.{on_row, Edit, Keep, Add, Remove, in_row, rename_row}
+use Rattle.fs_calls.specs.Rows.{node_row, Edit, Keep, Add, Remove, entry_row, rename_row}
 use Rattle.fs_calls.specs.declared.errno.Errno.{Errno}
 use Rattle.fs_calls.specs.declared.reply.Reply.{Reply}
 use Rattle.fs_calls.specs.declared.reply.Reply.TheVariants.{Failed}
@@ -56,11 +56,11 @@ move_change false ws p q = no_change
 move_change true ws p q = record { writes = ws; moves = Some (p, q) }
 
 -- what a call reads on the tree
-abbrev pub on_looked : Map Shape → NodeCall → Key → Reply × Change
-on_looked tree c p = let r : Reply × Option (List ℕ) = on_row c (resolve tree p) (tree p) in (r.0, content_change p r.1)
+abbrev pub node_looked : Map Shape → NodeCall → Key → Reply × Change
+node_looked tree c p = let r : Reply × Option (List ℕ) = node_row c (resolve tree p) (tree p) in (r.0, content_change p r.1)
 
-abbrev pub in_looked : Map Shape → EntryCall → Key → Key → Name → Reply × Change
-in_looked tree c p d x = let r : Reply × Edit = in_row c (resolve_dir tree d) (is_full (tree d)) (tree p) in (r.0, edit_change d (names_of (tree d)) x p r.1)
+abbrev pub entry_looked : Map Shape → EntryCall → Key → Key → Name → Reply × Change
+entry_looked tree c p d x = let r : Reply × Edit = entry_row c (resolve_dir tree d) (is_full (tree d)) (tree p) in (r.0, edit_change d (names_of (tree d)) x p r.1)
 
 abbrev pub rename_looked : Map Shape → Key → Key → Key → Name → Key → Name → Reply × Change
 rename_looked tree p q d x e y =
@@ -68,18 +68,18 @@ rename_looked tree p q d x e y =
     (r.0, move_change r.1 (rename_writes (is_end (after_prefix d e)) d (names_of (tree d)) x e (names_of (tree e)) y) p q)
 
 abbrev pub looked : Map Shape → Form → Reply × Change
-looked tree (AtNode c p) = on_looked tree c p
-looked tree (AtEntry c p) = in_looked tree c p (parent_of p) (last_of p)
+looked tree (AtNode c p) = node_looked tree c p
+looked tree (AtEntry c p) = entry_looked tree c p (parent_of p) (last_of p)
 looked tree (AtPair pairs.Rename p q) = rename_looked tree p q (parent_of p) (last_of p) (parent_of q) (last_of q)
 
 -- what the paths alone decide comes first
-abbrev pub unless : Option Errno → Reply × Change → Reply × Change
-unless (Some e) o = (Failed e, no_change)
-unless None o = o
+abbrev pub if_sound : Option Errno → Reply × Change → Reply × Change
+if_sound (Some e) o = (Failed e, no_change)
+if_sound None o = o
 
 -- the reply and the change
 abbrev pub outcome : Map Shape → Form → Reply × Change
-outcome tree call = unless (by_text call) (looked tree call)
+outcome tree call = if_sound (by_text call) (looked tree call)
 
 -- the reply, and the tree after the call
 abbrev pub reply : Map Shape → Form → Reply

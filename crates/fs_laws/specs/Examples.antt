@@ -8,7 +8,7 @@ use Rattle.fs_calls.specs.declared.call.Call.{Call}
 use Rattle.fs_calls.specs.declared.call.Call.TheVariants.{Mkdir, Mknod, Unlink, Rmdir, Rename, Write}
 use Rattle.fs_calls.specs.declared.errno.Errno.TheVariants.{Eexist, Ebusy, Eperm, Enotempty}
 use Rattle.fs_calls.specs.declared.reply.Reply.TheVariants.{Done, Wrote, Failed}
-use Rattle.fs_nodes.specs.Graphs.{spell}
+use Rattle.fs_nodes.specs.Graphs.{graph_shapes}
 use Rattle.fs_nodes.specs.Stores.{used_below}
 use Rattle.fs_timeline.specs.declared.entry.Entry.TheVariants.{Begin, Commit, Return}
 use Rattle.fs_laws.specs.Events.{Event, Begins, Steps, Ran}
@@ -35,9 +35,9 @@ first_mkdir =
 pub record FirstMkdir : Type 0 where
   pub ran : Ran first_mkdir
   pub timeline : ran.state.timeline ≡ Begin 1 0 (Mkdir (at "/a")) ∷ Commit 1 ∷ Return 1 Done ∷ []
-  pub at_root : spell ran.state.graph [] ≡ Some (Dir (codes "a" ∷ []))
-  pub at_a : spell ran.state.graph (at "/a") ≡ Some (Dir [])
-  pub at_b : spell ran.state.graph (at "/b") ≡ None
+  pub at_root : graph_shapes ran.state.graph [] ≡ Some (Dir (codes "a" ∷ []))
+  pub at_a : graph_shapes ran.state.graph (at "/a") ≡ Some (Dir [])
+  pub at_b : graph_shapes ran.state.graph (at "/b") ≡ None
 
 -- calls on the root take nothing
 abbrev pub calls_on_the_root : List Event
@@ -66,7 +66,7 @@ waits_for_the_root =
 
 pub record WaitsForTheRoot : Type 0 where
   pub ran : Ran waits_for_the_root
-  pub at_root : spell ran.state.graph [] ≡ Some (Dir (codes "x" ∷ []))
+  pub at_root : graph_shapes ran.state.graph [] ≡ Some (Dir (codes "x" ∷ []))
 
 -- a rename helps a mkdir below the node that it moves
 abbrev pub helped_mkdir : List Event
@@ -84,12 +84,12 @@ helped_mkdir =
 pub record HelpedMkdir : Type 0 where
   pub ran : Ran helped_mkdir
   pub timeline : ran.state.timeline ≡ Begin 1 0 (Mkdir (at "/a")) ∷ Commit 1 ∷ Return 1 Done ∷ Begin 2 0 (Mkdir (at "/a/d")) ∷ Commit 2 ∷ Return 2 Done ∷ Begin 3 0 (Mkdir (at "/a/d/x")) ∷ Begin 4 1 (Rename (at "/a") (at "/b")) ∷ Commit 3 ∷ Commit 4 ∷ Return 4 Done ∷ Return 3 Done ∷ []
-  pub at_root : spell ran.state.graph [] ≡ Some (Dir (codes "b" ∷ []))
-  pub at_b : spell ran.state.graph (at "/b") ≡ Some (Dir (codes "d" ∷ []))
-  pub at_b_d : spell ran.state.graph (at "/b/d") ≡ Some (Dir (codes "x" ∷ []))
-  pub at_b_d_x : spell ran.state.graph (at "/b/d/x") ≡ Some (Dir [])
-  pub at_a : spell ran.state.graph (at "/a") ≡ None
-  pub at_a_d : spell ran.state.graph (at "/a/d") ≡ None
+  pub at_root : graph_shapes ran.state.graph [] ≡ Some (Dir (codes "b" ∷ []))
+  pub at_b : graph_shapes ran.state.graph (at "/b") ≡ Some (Dir (codes "d" ∷ []))
+  pub at_b_d : graph_shapes ran.state.graph (at "/b/d") ≡ Some (Dir (codes "x" ∷ []))
+  pub at_b_d_x : graph_shapes ran.state.graph (at "/b/d/x") ≡ Some (Dir [])
+  pub at_a : graph_shapes ran.state.graph (at "/a") ≡ None
+  pub at_a_d : graph_shapes ran.state.graph (at "/a/d") ≡ None
 
 -- of two calls below, the lowest is helped first
 abbrev pub lowest_first : List Event
@@ -115,9 +115,9 @@ lowest_first =
 
 pub record LowestFirst : Type 0 where
   pub ran : Ran lowest_first
-  pub at_root : spell ran.state.graph [] ≡ Some (Dir (codes "b" ∷ []))
-  pub at_b_d_e_x : spell ran.state.graph (at "/b/d/e/x") ≡ Some (Dir [])
-  pub at_a : spell ran.state.graph (at "/a") ≡ None
+  pub at_root : graph_shapes ran.state.graph [] ≡ Some (Dir (codes "b" ∷ []))
+  pub at_b_d_e_x : graph_shapes ran.state.graph (at "/b/d/e/x") ≡ Some (Dir [])
+  pub at_a : graph_shapes ran.state.graph (at "/a") ≡ None
 
 -- a rename helps a rename below
 abbrev pub helped_rename : List Event
@@ -138,11 +138,11 @@ helped_rename =
 
 pub record HelpedRename : Type 0 where
   pub ran : Ran helped_rename
-  pub at_root : spell ran.state.graph [] ≡ Some (Dir (codes "b" ∷ []))
-  pub at_b : spell ran.state.graph (at "/b") ≡ Some (Dir (codes "p" ∷ codes "q" ∷ []))
-  pub at_b_p : spell ran.state.graph (at "/b/p") ≡ Some (Dir [])
-  pub at_b_q_t : spell ran.state.graph (at "/b/q/t") ≡ Some (File [])
-  pub at_b_p_s : spell ran.state.graph (at "/b/p/s") ≡ None
+  pub at_root : graph_shapes ran.state.graph [] ≡ Some (Dir (codes "b" ∷ []))
+  pub at_b : graph_shapes ran.state.graph (at "/b") ≡ Some (Dir (codes "p" ∷ codes "q" ∷ []))
+  pub at_b_p : graph_shapes ran.state.graph (at "/b/p") ≡ Some (Dir [])
+  pub at_b_q_t : graph_shapes ran.state.graph (at "/b/q/t") ≡ Some (File [])
+  pub at_b_p_s : graph_shapes ran.state.graph (at "/b/p/s") ≡ None
 
 -- an unlink waits for the victim that another call holds
 abbrev pub victim_is_waited_for : List Event
@@ -163,6 +163,6 @@ victim_is_waited_for =
 pub record VictimIsWaitedFor : Type 0 where
   pub ran : Ran victim_is_waited_for
   pub timeline : ran.state.timeline ≡ Begin 1 0 (Mknod (at "/f")) ∷ Commit 1 ∷ Return 1 Done ∷ Begin 2 0 (Write (at "/f") 0 (104 ∷ 105 ∷ [])) ∷ Begin 3 1 (Unlink (at "/f")) ∷ Commit 2 ∷ Return 2 (Wrote 2) ∷ Commit 3 ∷ Return 3 Done ∷ []
-  pub at_root : spell ran.state.graph [] ≡ Some (Dir [])
-  pub at_f : spell ran.state.graph (at "/f") ≡ None
+  pub at_root : graph_shapes ran.state.graph [] ≡ Some (Dir [])
+  pub at_f : graph_shapes ran.state.graph (at "/f") ≡ None
   pub used : used_below ran.state.graph.shape 3 ≡ 1

@@ -1,7 +1,7 @@
 -- The linearization theorem.
 use Rattle.std.specs.Prelude.{ℕ, ◌≡◌, None}
-use Rattle.fs_nodes.specs.Graphs.{spell}
-use Rattle.fs_calls.specs.Shapes.{seen}
+use Rattle.fs_nodes.specs.Graphs.{graph_shapes}
+use Rattle.fs_calls.specs.Shapes.{tree_shapes}
 use Rattle.fs_calls.specs.Outcomes as tree
 use Rattle.fs_timeline.specs.Timeline as journal
 use Rattle.fs_laws.specs.States.{State}
@@ -13,4 +13,4 @@ IsIdle state = (c : ℕ) → state.ops c ≡ None
 -- the timeline is lawful: well formed, and each returned reply is the sequential tree's; and where no call is under way the nodes spell the tree that its commits play
 pub record Linearizes (state : State) : Type 0 where
   pub lawful : journal.IsLawful state.timeline
-  pub spelled : IsIdle state → spell state.graph ≡ seen (tree.play (journal.commits state.timeline))
+  pub spelled : IsIdle state → graph_shapes state.graph ≡ tree_shapes (tree.play (journal.commits state.timeline))

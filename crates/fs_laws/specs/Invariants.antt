@@ -9,32 +9,32 @@ use Rattle.fs_calls.specs.declared.target.EntryCall.{EntryCall}
 use Rattle.fs_laws.specs.Maps.{Map}
 use Rattle.fs_calls.specs.declared.reply.Reply.{Reply}
 use Rattle.fs_calls.specs.declared.call.Call.{Call}
-use Rattle.fs_nodes.specs.Graphs.{Graph, at, numbers, spell, IsGraph}
+use Rattle.fs_nodes.specs.Graphs.{Graph, at, numbers, graph_shapes, IsGraph}
 use Rattle.fs_machine.specs.Moves.{target}
-use Rattle.fs_machine.specs.Records.{Stand, Walking, Placed, Finished, Record, Records, Holds}
-use Rattle.fs_laws.specs.Books.{Book, start, book_of, IsLawful}
+use Rattle.fs_machine.specs.Records.{Holdings, Walking, Placed, Finished, Record, Records, Holds}
+use Rattle.fs_laws.specs.JournalViews.{JournalView, start, view_after, IsLawful}
 use Rattle.fs_timeline.specs.Timeline.{begins, commit_count}
 use Rattle.fs_laws.specs.Settled.{settle, settle_replies}
-use Rattle.fs_laws.specs.Stands.{Kept}
+use Rattle.fs_laws.specs.CallFacts.{CallFacts}
 use Rattle.fs_laws.specs.States.{State, Begun, Begins, Stepped, Step}
 
 -- what a rename keeps at its common directory
-pub record Forked (graph : Graph) (n : ℕ) (p q : Key) (st : Stand) : Type 0 where
-  pub source_at : at graph.kid n st.source.walked ≡ Some st.source.node
-  pub dest_at : at graph.kid n st.dest.walked ≡ Some st.dest.node
+pub record Forked (graph : Graph) (n : ℕ) (p q : Key) (st : Holdings) : Type 0 where
+  pub source_at : at graph.child n st.source.walked ≡ Some st.source.node
+  pub dest_at : at graph.child n st.dest.walked ≡ Some st.dest.node
   pub source_is : parent_of p ≡ st.source.walked ++ left st.source.walked (parent_of p)
   pub dest_is : parent_of q ≡ st.dest.walked ++ left st.dest.walked (parent_of q)
 
 -- what a call keeps where it stands; a rename's heads set out at its common directory
-abbrev pub ForkedAt : Graph → ℕ → Key → Key → Stand → Key → Type 0
+abbrev pub ForkedAt : Graph → ℕ → Key → Key → Holdings → Key → Type 0
 ForkedAt graph n p q st [] = Forked graph n p q st
 ForkedAt graph n p q st (x ∷ l) = Unit {0}
 
 -- the same of each form of call
-abbrev pub StandsWell : Graph → ℕ → Form → Stand → Type 0
-StandsWell graph n (AtNode c p) st = Unit {0}
-StandsWell graph n (AtEntry c p) st = Unit {0}
-StandsWell graph n (AtPair pairs.Rename p q) st = ForkedAt graph n p q st (target (AtPair pairs.Rename p q))
+abbrev pub HeadsSound : Graph → ℕ → Form → Holdings → Type 0
+HeadsSound graph n (AtNode c p) st = Unit {0}
+HeadsSound graph n (AtEntry c p) st = Unit {0}
+HeadsSound graph n (AtPair pairs.Rename p q) st = ForkedAt graph n p q st (target (AtPair pairs.Rename p q))
 
 -- the number that a call reserved, where it has one to link
 abbrev pub HasNumber : Graph → EntryCall → Option ℕ → Type 0
@@ -59,10 +59,10 @@ spots ops key (c ∷ cs) = (key c, remaining_of (ops c)) ∷ spots ops key cs
 -- a call under way that is placed
 pub record IsPlaced (ops : Records) (c : ℕ) : Type 0 where
   pub op : Record
-  pub stand : Stand
+  pub holdings : Holdings
   pub place : ℕ
   pub is : ops c ≡ Some op
-  pub on : op.stand ≡ Some stand
+  pub on : op.holdings ≡ Some holdings
   pub phase : op.phase ≡ Placed place
 
 -- each has a greater place than the one before
@@ -76,18 +76,18 @@ InOrder ops [] = Unit {0}
 InOrder ops (c ∷ cs) = (p : IsPlaced ops c) × AllLater ops p.place cs × InOrder ops cs
 
 -- each of these calls is due this reply
-abbrev pub Dues : Book → List ℕ → List Reply → Type 0
-Dues book [] rs = Unit {0}
-Dues book (c ∷ cs) [] = ⊥
-Dues book (c ∷ cs) (r ∷ rs) = (book.due c ≡ Some r) × Dues book cs rs
+abbrev pub Dues : JournalView → List ℕ → List Reply → Type 0
+Dues view [] rs = Unit {0}
+Dues view (c ∷ cs) [] = ⊥
+Dues view (c ∷ cs) (r ∷ rs) = (view.due c ≡ Some r) × Dues view cs rs
 
--- the actual tree and the calls under way, against the timeline's book
-pub record Tied (tree : Map Shape) (ops : Records) (key : ℕ → Key) (order : List ℕ) (book : Book) : Type 0 where
-  pub played : settle tree (spots ops key order) ≡ book.tree
-  pub dues : Dues book order (settle_replies tree (spots ops key order))
-  pub fixed : (c : ℕ) (op : Record) (r : Reply) → ops c ≡ Some op → op.phase ≡ Finished r → book.due c ≡ Some r
-  pub fresh : (c : ℕ) (op : Record) → ops c ≡ Some op → op.phase ≡ Walking → book.due c ≡ None
-  pub calls : (c : ℕ) (op : Record) → ops c ≡ Some op → book.call c ≡ Some op.call
+-- the actual tree and the calls under way, against the timeline's view
+pub record Tied (tree : Map Shape) (ops : Records) (key : ℕ → Key) (order : List ℕ) (view : JournalView) : Type 0 where
+  pub played : settle tree (spots ops key order) ≡ view.tree
+  pub dues : Dues view order (settle_replies tree (spots ops key order))
+  pub fixed : (c : ℕ) (op : Record) (r : Reply) → ops c ≡ Some op → op.phase ≡ Finished r → view.due c ≡ Some r
+  pub fresh : (c : ℕ) (op : Record) → ops c ≡ Some op → op.phase ≡ Walking → view.due c ≡ None
+  pub calls : (c : ℕ) (op : Record) → ops c ≡ Some op → view.call c ≡ Some op.call
 
 -- a number is in a list
 abbrev pub IsIn : ℕ → List ℕ → Type 0
@@ -95,10 +95,10 @@ IsIn c [] = ⊥
 IsIn c (d ∷ ds) = (c ≡ d) ⊎ IsIn c ds
 
 -- a victim that a call holds before it finishes is what its entry leads to
-abbrev pub VictimAt : Graph → Form → Stand → Type 0
+abbrev pub VictimAt : Graph → Form → Holdings → Type 0
 VictimAt graph (AtNode c p) st = Unit {0}
-VictimAt graph (AtEntry c p) st = (v : ℕ) → st.victim ≡ Some v → graph.kid st.node (last_of p) ≡ Some v
-VictimAt graph (AtPair pairs.Rename p q) st = (v : ℕ) → st.victim ≡ Some v → (graph.kid st.dest.node (last_of q) ≡ Some v) × (parent_of q ≡ st.dest.walked)
+VictimAt graph (AtEntry c p) st = (v : ℕ) → st.victim ≡ Some v → graph.child st.node (last_of p) ≡ Some v
+VictimAt graph (AtPair pairs.Rename p q) st = (v : ℕ) → st.victim ≡ Some v → (graph.child st.dest.node (last_of q) ≡ Some v) × (parent_of q ≡ st.dest.walked)
 
 -- the places of a stand at which a call may hold a node
 pub data Slot : Type 0 where
@@ -108,7 +108,7 @@ abbrev pub if_walked : Key → Option ℕ → Option ℕ
 if_walked [] n = None
 if_walked (x ∷ walked) n = n
 
-abbrev pub in_slot : Stand → Slot → Option ℕ
+abbrev pub in_slot : Holdings → Slot → Option ℕ
 in_slot st At_node = Some st.node
 in_slot st At_behind = st.behind
 in_slot st At_source = if_walked st.source.walked (Some st.source.node)
@@ -118,11 +118,11 @@ in_slot st At_dest_behind = if_walked st.dest.walked st.dest.behind
 in_slot st At_victim = st.victim
 
 -- no node is held at two places
-abbrev pub IsSingle : Stand → Type 0
+abbrev pub IsSingle : Holdings → Type 0
 IsSingle st = (a b : Slot) (n : ℕ) → in_slot st a ≡ Some n → in_slot st b ≡ Some n → a ≡ b
 
 -- a head that has not set out holds no parent
-abbrev pub HeadsFit : Stand → Type 0
+abbrev pub HeadsFit : Holdings → Type 0
 HeadsFit st = (st.source.walked ≡ [] → st.source.behind ≡ None) × (st.dest.walked ≡ [] → st.dest.behind ≡ None)
 
 -- a call that is not finished
@@ -134,21 +134,21 @@ pub record Own (graph : Graph) (op : Record) : Type 0 where
   -- the names walked and what is left make the call
   pub parts : under op.walked op.remaining ≡ form op.call
   -- an unfinished call stands well, by its heads, and has its number if it wants one
-  pub well : (st : Stand) → op.stand ≡ Some st → StandsWell graph st.node op.remaining st
+  pub well : (st : Holdings) → op.holdings ≡ Some st → HeadsSound graph st.node op.remaining st
   -- a reserved number is in use, and nothing leads to it
   pub spare : (n : ℕ) → op.reserved ≡ Some n → ((s : Shape) × (graph.shape n ≡ Some s)) × ((key : Key) → numbers graph key ≡ Some n → ⊥)
   pub number : IsUnfinished op → Fits (form op.call) → NumberFor graph op.remaining op.reserved
   -- a placed call stands somewhere, and its text doesn't decide it
-  pub placed : (i : ℕ) → op.phase ≡ Placed i → (st : Stand) × (op.stand ≡ Some st)
+  pub placed : (i : ℕ) → op.phase ≡ Placed i → (st : Holdings) × (op.holdings ≡ Some st)
   -- the removed node is the victim, named by nobody and without entries
-  pub gone : (n : ℕ) → op.removed ≡ Some n → ((st : Stand) × (op.stand ≡ Some st) × (st.victim ≡ Some n)) × ((key : Key) → numbers graph key ≡ Some n → ⊥) × ((s : Shape) × (graph.shape n ≡ Some s))
+  pub gone : (n : ℕ) → op.removed ≡ Some n → ((st : Holdings) × (op.holdings ≡ Some st) × (st.victim ≡ Some n)) × ((key : Key) → numbers graph key ≡ Some n → ⊥) × ((s : Shape) × (graph.shape n ≡ Some s))
   pub intact : IsUnfinished op → op.removed ≡ None
   pub one_spare : (n : ℕ) → op.reserved ≡ Some n → op.removed ≡ Some n → ⊥
-  pub victim : IsUnfinished op → (st : Stand) → op.stand ≡ Some st → VictimAt graph op.remaining st
+  pub victim : IsUnfinished op → (st : Holdings) → op.holdings ≡ Some st → VictimAt graph op.remaining st
   -- a call that holds nothing yet has walked nothing
-  pub starts : IsUnfinished op → op.stand ≡ None → op.walked ≡ []
-  pub single : (st : Stand) → op.stand ≡ Some st → IsSingle st
-  pub heads : (st : Stand) → op.stand ≡ Some st → HeadsFit st
+  pub starts : IsUnfinished op → op.holdings ≡ None → op.walked ≡ []
+  pub single : (st : Holdings) → op.holdings ≡ Some st → IsSingle st
+  pub heads : (st : Holdings) → op.holdings ≡ Some st → HeadsFit st
 
 -- a number that is in use for this call alone
 abbrev pub HasSpare : Record → ℕ → Type 0
@@ -159,21 +159,21 @@ pub record Invariant (s : State) : Type 0 where
   pub key : ℕ → Key
   pub order : List ℕ
   pub is_graph : IsGraph s.graph
-  pub kept : Kept (numbers s.graph) s.ops key
+  pub kept : CallFacts (numbers s.graph) s.ops key
   pub in_order : InOrder s.ops order
   pub all_placed : (c : ℕ) (op : Record) (i : ℕ) → s.ops c ≡ Some op → op.phase ≡ Placed i → (i < commit_count s.timeline) × IsIn c order
   pub lawful : IsLawful start s.timeline
-  pub tied : Tied (spell s.graph) s.ops key order (book_of start s.timeline)
+  pub tied : Tied (graph_shapes s.graph) s.ops key order (view_after start s.timeline)
   pub own : (c : ℕ) (op : Record) → s.ops c ≡ Some op → Own s.graph op
   -- holders: who stands at a node holds it, and nobody else does
-  pub held : (c : ℕ) (op : Record) (st : Stand) (n : ℕ) → s.ops c ≡ Some op → op.stand ≡ Some st → Holds st n → s.holder n ≡ Some c
+  pub held : (c : ℕ) (op : Record) (st : Holdings) (n : ℕ) → s.ops c ≡ Some op → op.holdings ≡ Some st → Holds st n → s.holder n ≡ Some c
   -- two calls have no reserved or removed number in common
   pub apart : (c d n : ℕ) (p q : Record) → (c ≡ d → ⊥) → s.ops c ≡ Some p → s.ops d ≡ Some q → HasSpare p n → HasSpare q n → ⊥
   -- seats and numbers
   pub seated : (seat c : ℕ) → s.on_seat seat ≡ Some c → (op : Record) × (s.ops c ≡ Some op) × (op.seat ≡ seat)
-  pub busy : (seat : ℕ) → (book_of start s.timeline).busy seat ≡ s.on_seat seat
-  pub seat_of : (c : ℕ) (op : Record) → s.ops c ≡ Some op → ((book_of start s.timeline).seat_of c ≡ Some op.seat) × ((book_of start s.timeline).back c ≡ false)
-  pub fresh : (c : ℕ) → begins s.timeline < c → (book_of start s.timeline).call c ≡ None
+  pub busy : (seat : ℕ) → (view_after start s.timeline).busy seat ≡ s.on_seat seat
+  pub seat_of : (c : ℕ) (op : Record) → s.ops c ≡ Some op → ((view_after start s.timeline).seat_of c ≡ Some op.seat) × ((view_after start s.timeline).back c ≡ false)
+  pub fresh : (c : ℕ) → begins s.timeline < c → (view_after start s.timeline).call c ≡ None
 
 -- one event keeps it: the invariant
 abbrev pub StepKeeps : Stepped → Type 0

@@ -6,13 +6,13 @@ use Rattle.fs_calls.specs.Forms.{form, Form, Fits}
 use Rattle.fs_laws.specs.Maps.{Map}
 use Rattle.fs_laws.specs.Changes.{Change, outcome, changed, reply, after}
 use Rattle.fs_calls.specs.Outcomes as tree
-use Rattle.fs_calls.specs.Shapes.{seen}
+use Rattle.fs_calls.specs.Shapes.{tree_shapes}
 use Rattle.fs_calls.specs.Tree.{Tree, IsTree}
 use Rattle.fs_calls.specs.declared.call.Call.{Call}
 use Rattle.fs_laws.specs.Below.{NoWalkingBelow, NoLaterBelow, NobodyBetween, Settles, PlacesAreCounted, NeverWaitsToFinish, HelpsAreFew}
-use Rattle.fs_laws.specs.Placed.{Standing, Passes, PastAll, rekey_all}
+use Rattle.fs_laws.specs.Placed.{InPlace, Passes, PastAll, rekey_all}
 use Rattle.fs_laws.specs.Progress.{HasStep, WaitsBelow, IsNeverStuck, IsDetermined}
-use Rattle.fs_laws.specs.Work.{TakesWork, AddsWork}
+use Rattle.fs_laws.specs.StepsLeft.{TakesWork, AddsWork}
 use Rattle.fs_laws.specs.OneCall.{MeetsTreeAlone}
 use Rattle.fs_laws.specs.States.{State, Run}
 use Rattle.fs_laws.specs.Headline.{Linearizes}
@@ -20,12 +20,12 @@ use Rattle.fs_laws.specs.Headline.{Linearizes}
 -- a call that finishes goes past all placed calls
 abbrev pub GoesPastAll : Type 0
 GoesPastAll = (tree : Map Shape) (w : Form) (ch : Change) (ps : List (Key × Form))
-    → (outcome tree w).1 ≡ ch → Fits w → Standing tree ps → Passes tree w ch ps
-    → Standing (changed ch tree) (rekey_all ch ps) → PastAll tree w ch ps
+    → (outcome tree w).1 ≡ ch → Fits w → InPlace tree ps → Passes tree w ch ps
+    → InPlace (changed ch tree) (rekey_all ch ps) → PastAll tree w ch ps
 
 -- a tree that is seen as a map answers each call as the map does, and leaves what the map leaves
 abbrev pub TreesAsMaps : Type 0
-TreesAsMaps = (t : Tree) (call : Call) → IsTree t → (tree.reply t call ≡ reply (seen t) (form call)) × (seen (tree.after t call) ≡ after (seen t) (form call))
+TreesAsMaps = (t : Tree) (call : Call) → IsTree t → (tree.reply t call ≡ reply (tree_shapes t) (form call)) × (tree_shapes (tree.after t call) ≡ after (tree_shapes t) (form call))
 
 -- the linearization theorem: over every run the timeline is lawful, and at rest the nodes spell the tree that it plays
 abbrev pub Linearization : Type 0

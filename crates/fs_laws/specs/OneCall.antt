@@ -1,11 +1,11 @@
 -- A call that is begun with no other under way, and stepped to its end.
 use Rattle.std.specs.Prelude.{ℕ, ◌≡◌}
 use Rattle.fs_calls.specs.Outcomes as outcomes
-use Rattle.fs_calls.specs.Shapes.{seen}
+use Rattle.fs_calls.specs.Shapes.{tree_shapes}
 use Rattle.fs_calls.specs.Tree.{Tree, IsTree}
 use Rattle.fs_calls.specs.declared.call.Call.{Call}
 use Rattle.fs_calls.specs.declared.reply.Reply.{Reply}
-use Rattle.fs_nodes.specs.Graphs.{spell}
+use Rattle.fs_nodes.specs.Graphs.{graph_shapes}
 use Rattle.fs_laws.specs.Headline.{IsIdle}
 use Rattle.fs_laws.specs.States.{State, Begun_as, Begins, Stepped, Idle, Took, Busy, LetGo, Helped, Committed, CarriedOut, Returned, Step}
 
@@ -29,9 +29,9 @@ pub data StepsTo (seat : ℕ) (r : Reply) (new : State) : State → Type 0 where
 pub record MeetsTree (s : State) (call : Call) (r : Reply) (new : State) : Type 0 where
   pub tree : Tree
   pub is_tree : IsTree tree
-  pub before : spell s.graph ≡ seen tree
+  pub before : graph_shapes s.graph ≡ tree_shapes tree
   pub replied : r ≡ outcomes.reply tree call
-  pub after : spell new.graph ≡ seen (outcomes.after tree call)
+  pub after : graph_shapes new.graph ≡ tree_shapes (outcomes.after tree call)
   pub idle : IsIdle new
 
 -- so it is of each call that begins in this state, where no call is under way

@@ -26,10 +26,10 @@ abbrev pub looks_into : Map Shape → Key → Key → Bool
 looks_into tree p q = same_kind (tree p) (tree q) && not (is_end (after_prefix p q)) && not (has_more (after_prefix q p))
 
 -- what the call reads lies at no key below k, but for the kind of an entry that it doesn't hold
-abbrev pub Blind : Map Shape → Form → Key → Type 0
-Blind tree (AtNode c p) k = after_prefix k p ≡ None
-Blind tree (AtEntry c p) k = (after_prefix k (parent_of p) ≡ None) × (victim_of c (tree p) ≡ true → after_prefix k p ≡ None)
-Blind tree (AtPair pairs.Rename p q) k = (after_prefix k (parent_of p) ≡ None) × (resolve_dir tree (parent_of p) ≡ None → (after_prefix k (parent_of q) ≡ None) × (looks_into tree p q ≡ true → after_prefix k q ≡ None))
+abbrev pub ReadsNothingBelow : Map Shape → Form → Key → Type 0
+ReadsNothingBelow tree (AtNode c p) k = after_prefix k p ≡ None
+ReadsNothingBelow tree (AtEntry c p) k = (after_prefix k (parent_of p) ≡ None) × (victim_of c (tree p) ≡ true → after_prefix k p ≡ None)
+ReadsNothingBelow tree (AtPair pairs.Rename p q) k = (after_prefix k (parent_of p) ≡ None) × (resolve_dir tree (parent_of p) ≡ None → (after_prefix k (parent_of q) ≡ None) × (looks_into tree p q ≡ true → after_prefix k q ≡ None))
 
 -- neither key begins with the other
 abbrev pub Aside : Key → Key → Type 0
@@ -41,13 +41,13 @@ AllOff k [] = Unit {0}
 AllOff k (w ∷ ws) = (after_prefix k w.0 ≡ None) × AllOff k ws
 
 -- a change that touches nothing below k, unless it moves k itself along
-abbrev pub ClearMove : Option (Key × Key) → Key → Type 0
-ClearMove None k = Unit {0}
-ClearMove (Some m) k = Aside m.0 m.1 × (((r : Key) × (k ≡ m.0 ++ r)) ⊎ (Aside m.0 k × Aside m.1 k))
+abbrev pub MovesNothingBelow : Option (Key × Key) → Key → Type 0
+MovesNothingBelow None k = Unit {0}
+MovesNothingBelow (Some m) k = Aside m.0 m.1 × (((r : Key) × (k ≡ m.0 ++ r)) ⊎ (Aside m.0 k × Aside m.1 k))
 
 -- the same of the writes and the move
-abbrev pub Clear : Change → Key → Type 0
-Clear ch k = AllOff k ch.writes × ClearMove ch.moves k
+abbrev pub ChangesNothingBelow : Change → Key → Type 0
+ChangesNothingBelow ch k = AllOff k ch.writes × MovesNothingBelow ch.moves k
 
 -- where k is after the change
 abbrev pub rekey_by : Key → Key → Option Key → Key
@@ -72,14 +72,14 @@ NoneUnder k [] = Unit {0}
 NoneUnder k (p ∷ ps) = (after_prefix k p.0 ≡ None) × NoneUnder k ps
 
 -- each placed call stands at a key that is there, and none is below one placed earlier
-abbrev pub Standing : Map Shape → List (Key × Form) → Type 0
-Standing tree [] = Unit {0}
-Standing tree (p ∷ ps) = (resolve tree p.0 ≡ None) × Fits p.1 × NoneUnder p.0 ps × Standing tree ps
+abbrev pub InPlace : Map Shape → List (Key × Form) → Type 0
+InPlace tree [] = Unit {0}
+InPlace tree (p ∷ ps) = (resolve tree p.0 ≡ None) × Fits p.1 × NoneUnder p.0 ps × InPlace tree ps
 
 -- the call and its change leave each of them alone
 abbrev pub Passes : Map Shape → Form → Change → List (Key × Form) → Type 0
 Passes tree call ch [] = Unit {0}
-Passes tree call ch (p ∷ ps) = Blind tree call p.0 × Clear ch p.0 × Passes tree call ch ps
+Passes tree call ch (p ∷ ps) = ReadsNothingBelow tree call p.0 × ChangesNothingBelow ch p.0 × Passes tree call ch ps
 
 -- a call that finishes past all placed ones
 pub record PastAll (tree : Map Shape) (w : Form) (ch : Change) (ps : List (Key × Form)) : Type 0 where

@@ -4,7 +4,7 @@ use Rattle.fs_names.specs.Keys.{Key}
 use Rattle.fs_names.specs.Parts.{HasNames}
 use Rattle.fs_nodes.specs.Graphs.{at}
 use Rattle.fs_machine.specs.Moves.{Takes, next}
-use Rattle.fs_machine.specs.Records.{Stand, Record}
+use Rattle.fs_machine.specs.Records.{Holdings, Record}
 use Rattle.fs_laws.specs.States.{State, Stepped, Idle, Took, Busy, LetGo, Helped, Committed, CarriedOut, Returned, Step}
 
 -- a call wants a node that another one holds
@@ -15,12 +15,12 @@ pub record WaitsFor (s : State) (c d : ℕ) (op : Record) : Type 0 where
   pub held : s.holder node ≡ Some d
 
 -- one call stands above a node by one name or more; a call that stands nowhere stands above all
-abbrev pub StandsAbove : State → Record → ℕ → Type 0
-StandsAbove s op n = (st : Stand) → op.stand ≡ Some st → (key : Key) × HasNames key × (at s.graph.kid st.node key ≡ Some n)
+abbrev pub HoldsAbove : State → Record → ℕ → Type 0
+HoldsAbove s op n = (st : Holdings) → op.holdings ≡ Some st → (key : Key) × HasNames key × (at s.graph.child st.node key ≡ Some n)
 
 -- of two calls that wait, the first for the second: the first stands above the second
 abbrev pub WaitsBelow : State → Type 0
-WaitsBelow s = (c d e : ℕ) (op q : Record) → WaitsFor s c d op → WaitsFor s d e q → (other : Stand) × (q.stand ≡ Some other) × StandsAbove s op other.node
+WaitsBelow s = (c d e : ℕ) (op q : Record) → WaitsFor s c d op → WaitsFor s d e q → (other : Holdings) × (q.holdings ≡ Some other) × HoldsAbove s op other.node
 
 -- an answer by which a call went on
 abbrev pub GoesOn : Stepped → Type 0

@@ -9,14 +9,14 @@ use Rattle.fs_laws.specs.Maps.{Map}
 use Rattle.fs_calls.specs.declared.reply.Reply.{Reply}
 use Rattle.fs_nodes.specs.Graphs.{Graph}
 use Rattle.fs_machine.specs.Finishes.{Effect, finish}
-use Rattle.fs_machine.specs.Moves.{Move, Takes, Leaves, Finishes, Ends, next, took, left_stand}
+use Rattle.fs_machine.specs.Moves.{Move, Takes, Leaves, Finishes, Ends, next, took, left_holdings}
 use Rattle.fs_machine.specs.Records.{Record, Records}
 
 -- the record's own moves up to its finish, as if nobody else held a node: at most `steps` of them
 abbrev pub alone_by : ℕ → Graph → Record → Move → Effect
 alone_by zero graph op move = finish graph op
 alone_by (suc steps) graph op (Takes n) = alone_by steps graph (took op n) (next graph (took op n))
-alone_by (suc steps) graph op (Leaves n) = alone_by steps graph (record op { stand = left_stand op.phase op.stand }) (next graph (record op { stand = left_stand op.phase op.stand }))
+alone_by (suc steps) graph op (Leaves n) = alone_by steps graph (record op { holdings = left_holdings op.phase op.holdings }) (next graph (record op { holdings = left_holdings op.phase op.holdings }))
 alone_by (suc steps) graph op (Finishes s) = finish graph op
 alone_by (suc steps) graph op Ends = finish graph op
 

@@ -12,7 +12,7 @@ use Rattle.fs_timeline.specs.declared.entry.Entry.TheVariants.{Begin, Commit, Re
 use Rattle.fs_machine.specs.Finishes.{finish}
 use Rattle.fs_machine.specs.Leaving.{is_removed, releasing, let_go, finished_op, unreserved}
 use Rattle.fs_machine.specs.Moves.{Move, Takes, Leaves, Finishes, Ends, next, took}
-use Rattle.fs_machine.specs.Records.{Stand, Walking, Placed, Finished, Record, Records}
+use Rattle.fs_machine.specs.Records.{Holdings, Walking, Placed, Finished, Record, Records}
 use Rattle.fs_timeline.specs.Timeline.{begins, commit_count}
 
 -- limit, graph, who holds each node, the calls under way by their numbers, the call on each seat, timeline
@@ -35,7 +35,7 @@ pub data Begun : Type 0 where
 
 -- the record of a call that begins
 abbrev pub new_op : ℕ → Call → Option ℕ → Record
-new_op seat call reserved = record { seat = seat; call = call; walked = []; remaining = form call; stand = None; phase = Walking; reserved = reserved; removed = None }
+new_op seat call reserved = record { seat = seat; call = call; walked = []; remaining = form call; holdings = None; phase = Walking; reserved = reserved; removed = None }
 
 -- the state after a begin
 abbrev pub began : State → ℕ → Call → ℕ → Option ℕ → Graph → State
@@ -81,7 +81,7 @@ Moves old seat c op move = (old.on_seat seat ≡ Some c) × (old.ops c ≡ Some 
 
 -- a call's position is at a node or is reached from it
 abbrev pub IsBelow : Graph → ℕ → Record → Type 0
-IsBelow graph s op = (st : Stand) × (key : Key) × (op.stand ≡ Some st) × (at graph.kid s key ≡ Some st.node)
+IsBelow graph s op = (st : Holdings) × (key : Key) × (op.holdings ≡ Some st) × (at graph.child s key ≡ Some st.node)
 
 -- a walking call below s
 abbrev pub IsWalkingBelow : State → ℕ → ℕ → Type 0
@@ -89,7 +89,7 @@ IsWalkingBelow state s d = (op : Record) × (state.ops d ≡ Some op) × (op.pha
 
 -- below s, and no other walking call is at a node that is reached from its position
 abbrev pub IsLowest : State → ℕ → ℕ → Type 0
-IsLowest state s d = IsWalkingBelow state s d × ((op : Record) (st : Stand) (e : ℕ) → state.ops d ≡ Some op → op.stand ≡ Some st → (d ≡ e → ⊥) → IsWalkingBelow state st.node e → ⊥)
+IsLowest state s d = IsWalkingBelow state s d × ((op : Record) (st : Holdings) (e : ℕ) → state.ops d ≡ Some op → op.holdings ≡ Some st → (d ≡ e → ⊥) → IsWalkingBelow state st.node e → ⊥)
 
 -- whom to help: of several, the least number
 abbrev pub IsChosen : State → ℕ → ℕ → Type 0

@@ -6,7 +6,7 @@
 //! code.
 //!
 //! Enter at the module `laws`. Read in `specs/`: `States` (states, begins, steps, runs), `Headline` (the theorem),
-//! `Laws` (all statements), then by law `Below`, `Progress`, `Work`, `OneCall`. Worked runs with the answer of each
+//! `Laws` (all statements), then by law `Below`, `Progress`, `OpValue`, `OneCall`. Worked runs with the answer of each
 //! event are in `Examples`, by the words of `Events`. `Invariants`, `Stands`, `Placed` and `Settled` serve the proofs,
 //! and `docs/ARCHITECTURE.md` has a map of these.
 #![tactic(auto)]

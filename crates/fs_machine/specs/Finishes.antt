@@ -5,14 +5,14 @@ use Rattle.fs_names.specs.Names.{Name}
 use Rattle.fs_names.specs.Shapes.{is_full}
 use Rattle.fs_calls.specs.Forms.{form, Form, AtNode, AtEntry, AtPair, by_text}
 use Rattle.fs_calls.specs.declared.target.PairCall.TheVariants as pairs
-use Rattle.fs_calls.specs.Rows.{on_row, Edit, Keep, Add, Remove, in_row}
+use Rattle.fs_calls.specs.Rows.{node_row, Edit, Keep, Add, Remove, entry_row}
 use Rattle.fs_calls.specs.declared.errno.Errno.{Errno}
 use Rattle.fs_calls.specs.declared.errno.Errno.TheVariants.{Enoent}
 use Rattle.fs_calls.specs.declared.reply.Reply.{Reply}
 use Rattle.fs_calls.specs.declared.reply.Reply.TheVariants.{Failed}
 use Rattle.fs_nodes.specs.Graphs.{Graph, entry_shape, content_in, linked_in, unlinked_in, moved_in}
 use Rattle.fs_machine.specs.Moves.{target, walk_errno, path_error, dir_error, rename_at}
-use Rattle.fs_machine.specs.Records.{Stand, Record}
+use Rattle.fs_machine.specs.Records.{Holdings, Record}
 
 -- the reply, the new graph, the reserved number if it is still unused, the node that was removed
 pub record Effect : Type 0 where
@@ -34,33 +34,33 @@ abbrev pub entry_effect : Graph → ℕ → Name → Option ℕ → Reply × Edi
 entry_effect graph n x reserved (r, Keep) = no_effect r graph reserved
 entry_effect graph n x None (r, Add shape) = no_effect r graph None
 entry_effect graph n x (Some m) (r, Add shape) = record { reply = r; graph = linked_in n x m graph; reserved = None; removed = None }
-entry_effect graph n x reserved (r, Remove) = record { reply = r; graph = unlinked_in n x graph; reserved = reserved; removed = graph.kid n x }
+entry_effect graph n x reserved (r, Remove) = record { reply = r; graph = unlinked_in n x graph; reserved = reserved; removed = graph.child n x }
 
 -- a rename
-abbrev pub move_effect : Graph → Stand → Name → Name → Option ℕ → Reply → Bool → Option ℕ → Effect
+abbrev pub move_effect : Graph → Holdings → Name → Name → Option ℕ → Reply → Bool → Option ℕ → Effect
 move_effect graph st x y reserved r false s = no_effect r graph reserved
 move_effect graph st x y reserved r true None = no_effect r graph reserved
 move_effect graph st x y reserved r true (Some s) = record { reply = r; graph = moved_in st.source.node x st.dest.node y s graph; reserved = reserved; removed = st.victim }
 
 -- a rename that didn't come to its common directory fails where it stands
-abbrev pub rename_effect : Graph → Key → Key → Stand → Option ℕ → Key → Effect
+abbrev pub rename_effect : Graph → Key → Key → Holdings → Option ℕ → Key → Effect
 rename_effect graph p q st reserved (z ∷ l) = no_effect (Failed (walk_errno (graph.shape st.node))) graph reserved
 rename_effect graph p q st reserved [] =
     let r : Reply × Bool = rename_at graph p q st in
-    move_effect graph st (last_of p) (last_of q) reserved r.0 r.1 (graph.kid st.source.node (last_of p))
+    move_effect graph st (last_of p) (last_of q) reserved r.0 r.1 (graph.child st.source.node (last_of p))
 
 -- each form of call where it stands
-abbrev pub effect_at : Graph → Form → Stand → Option ℕ → Effect
-effect_at graph (AtNode c p) st reserved = node_effect graph st.node reserved (on_row c (path_error p (graph.shape st.node)) (graph.shape st.node))
+abbrev pub effect_at : Graph → Form → Holdings → Option ℕ → Effect
+effect_at graph (AtNode c p) st reserved = node_effect graph st.node reserved (node_row c (path_error p (graph.shape st.node)) (graph.shape st.node))
 effect_at graph (AtEntry c p) st reserved =
-    entry_effect graph st.node (last_of p) reserved (in_row c (dir_error (parent_of p) (graph.shape st.node)) (is_full (graph.shape st.node)) (entry_shape graph st.node (last_of p)))
+    entry_effect graph st.node (last_of p) reserved (entry_row c (dir_error (parent_of p) (graph.shape st.node)) (is_full (graph.shape st.node)) (entry_shape graph st.node (last_of p)))
 effect_at graph (AtPair pairs.Rename p q) st reserved = rename_effect graph p q st reserved (target (AtPair pairs.Rename p q))
 
-abbrev pub effect_of : Graph → Record → Option Errno → Option Stand → Effect
+abbrev pub effect_of : Graph → Record → Option Errno → Option Holdings → Effect
 effect_of graph op (Some e) st = no_effect (Failed e) graph op.reserved
 effect_of graph op None None = no_effect (Failed Enoent) graph op.reserved  -- a call finishes at a node or by its text
 effect_of graph op None (Some st) = effect_at graph op.remaining st op.reserved
 
 -- the finish of a call under way
 abbrev pub finish : Graph → Record → Effect
-finish graph op = effect_of graph op (by_text (form op.call)) op.stand
+finish graph op = effect_of graph op (by_text (form op.call)) op.holdings

@@ -2,7 +2,7 @@
 use Rattle.std.specs.Prelude.{ℕ, Bool, true, false, eqb, Option, Some, None}
 use Rattle.fs_nodes.specs.Graphs.{Graph, released_in}
 use Rattle.fs_machine.specs.Finishes.{Effect}
-use Rattle.fs_machine.specs.Moves.{left_stand}
+use Rattle.fs_machine.specs.Moves.{left_holdings}
 use Rattle.fs_machine.specs.Records.{Finished, Record}
 
 -- whether a node is the one that a call removed
@@ -22,7 +22,7 @@ cleared false removed = removed
 
 -- the record of a call that lets a node go
 abbrev pub let_go : Record → ℕ → Record
-let_go op n = record op { stand = left_stand op.phase op.stand; removed = cleared (is_removed op.removed n) op.removed }
+let_go op n = record op { holdings = left_holdings op.phase op.holdings; removed = cleared (is_removed op.removed n) op.removed }
 
 -- the record of a call that finishes
 abbrev pub finished_op : Record → Effect → Record

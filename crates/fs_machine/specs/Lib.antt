@@ -2,4 +2,4 @@ pub mod Records
 pub mod Moves
 pub mod Finishes
 pub mod Leaving
-pub mod Works
+pub mod OpValues

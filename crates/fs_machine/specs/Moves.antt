@@ -13,7 +13,7 @@ use Rattle.fs_calls.specs.declared.errno.Errno.{Errno}
 use Rattle.fs_calls.specs.declared.errno.Errno.TheVariants.{Enoent, Enotdir}
 use Rattle.fs_calls.specs.declared.reply.Reply.{Reply}
 use Rattle.fs_nodes.specs.Graphs.{Graph, entry_shape}
-use Rattle.fs_machine.specs.Records.{Head, Stand, Phase, Walking, Placed, Finished, Record, head_at, stand_at}
+use Rattle.fs_machine.specs.Records.{Head, Holdings, Phase, Walking, Placed, Finished, Record, head_at, holdings_at}
 
 -- the moves: take a node, let one go, finish (with the node that it would really move), return
 pub data Move : Type 0 where
@@ -44,7 +44,7 @@ walk_move (Some (Dir names)) (Some m) = Takes m
 abbrev pub head_move : Graph → ℕ → Option ℕ → Key → Option Move
 head_move graph n (Some m) l = Some (Leaves m)
 head_move graph n None [] = None
-head_move graph n None (x ∷ l) = Some (walk_move (graph.shape n) (graph.kid n x))
+head_move graph n None (x ∷ l) = Some (walk_move (graph.shape n) (graph.child n x))
 
 -- the victim of an unlink or rmdir, taken where its kind is the right one
 abbrev pub victim_of : EntryCall → Option Shape → Bool
@@ -58,8 +58,8 @@ take_if true (Some n) None m = Takes n
 take_if _ _ _ m = m
 
 -- at the parent of an entry
-abbrev pub in_move : Graph → EntryCall → Name → Stand → Move
-in_move graph c x st = take_if (victim_of c (entry_shape graph st.node x)) (graph.kid st.node x) st.victim (Finishes None)
+abbrev pub entry_move : Graph → EntryCall → Name → Holdings → Move
+entry_move graph c x st = take_if (victim_of c (entry_shape graph st.node x)) (graph.child st.node x) st.victim (Finishes None)
 
 -- of a q that is a proper prefix of p it is known by the texts that it is a directory with entries
 abbrev pub there_by : Bool → Option Shape → Option Shape
@@ -88,7 +88,7 @@ dir_error [] shape = as_dir None shape
 dir_error (x ∷ l) shape = Some (walk_errno shape)
 
 -- a rename at both parents: the reply and whether it really moves, by what it reads there
-abbrev pub rename_at : Graph → Key → Key → Stand → Reply × Bool
+abbrev pub rename_at : Graph → Key → Key → Holdings → Reply × Bool
 rename_at graph p q st =
     rename_row
     (dir_error (left st.source.walked (parent_of p)) (graph.shape st.source.node))
@@ -104,12 +104,12 @@ moved_node true s = s
 moved_node false s = None
 
 -- a victim is taken where q is there with p's kind, p is another path and q no proper prefix of p
-abbrev pub rename_move : Graph → Key → Key → Stand → Move
+abbrev pub rename_move : Graph → Key → Key → Holdings → Move
 rename_move graph p q st =
     take_if
     (same_kind (entry_shape graph st.source.node (last_of p)) (entry_shape graph st.dest.node (last_of q)) && not (is_end (after_prefix p q)) && not (has_more (after_prefix q p)))
-    (graph.kid st.dest.node (last_of q)) st.victim
-    (Finishes (moved_node (rename_at graph p q st).1 (graph.kid st.source.node (last_of p))))
+    (graph.child st.dest.node (last_of q)) st.victim
+    (Finishes (moved_node (rename_at graph p q st).1 (graph.child st.source.node (last_of p))))
 
 -- a parent that is a file finishes before the next head sets out
 abbrev pub dir_then : Option Shape → Move → Move
@@ -118,7 +118,7 @@ dir_then (Some (File bytes)) m = Finishes None
 dir_then None m = Finishes None
 
 -- at the common directory
-abbrev pub fork_move : Graph → Key → Key → Stand → Move
+abbrev pub fork_move : Graph → Key → Key → Holdings → Move
 fork_move graph p q st =
     dir_then (graph.shape st.node)
     (first_of (head_move graph st.source.node st.source.behind (left st.source.walked (parent_of p)))
@@ -127,13 +127,13 @@ fork_move graph p q st =
     (dir_then (graph.shape st.dest.node) (rename_move graph p q st)))))
 
 -- at the target
-abbrev pub target_move : Graph → Form → Stand → Move
+abbrev pub target_move : Graph → Form → Holdings → Move
 target_move graph (AtNode c p) st = Finishes None
-target_move graph (AtEntry c p) st = in_move graph c (last_of p) st
+target_move graph (AtEntry c p) st = entry_move graph c (last_of p) st
 target_move graph (AtPair pairs.Rename p q) st = fork_move graph p q st
 
 -- a call that stands somewhere and isn't finished
-abbrev pub next_on : Graph → Form → Stand → Move
+abbrev pub next_on : Graph → Form → Holdings → Move
 next_on graph remaining st = first_of (head_move graph st.node st.behind (target remaining)) (target_move graph remaining st)
 
 -- a finished call lets go the last taken first
@@ -145,12 +145,12 @@ abbrev pub last_of_heads : ℕ → Head → Head → ℕ
 last_of_heads n source dest = first_walked dest.walked dest.node (first_walked source.walked source.node n)
 
 -- the node that was taken last
-abbrev pub last_held : Stand → Option ℕ → ℕ
+abbrev pub last_held : Holdings → Option ℕ → ℕ
 last_held st (Some v) = v
 last_held st None = last_of_heads st.node st.source st.dest
 
 -- by its text, its phase and where it stands
-abbrev pub next_by : Graph → Record → Option Errno → Phase → Option Stand → Move
+abbrev pub next_by : Graph → Record → Option Errno → Phase → Option Holdings → Move
 next_by graph op e (Finished r) None = Ends
 next_by graph op e (Finished r) (Some st) = Leaves (last_held st st.victim)
 next_by graph op (Some e) phase st = Finishes None
@@ -158,7 +158,7 @@ next_by graph op None phase None = Takes 0
 next_by graph op None phase (Some st) = next_on graph op.remaining st
 
 abbrev pub next : Graph → Record → Move
-next graph op = next_by graph op (by_text (form op.call)) op.phase op.stand
+next graph op = next_by graph op (by_text (form op.call)) op.phase op.holdings
 
 -- after a take: a step of the walk, of the source head, of the destination head, or a victim
 abbrev pub tail_of : Key → Key
@@ -178,53 +178,53 @@ behind_of (x ∷ walked) n = Some n
 abbrev pub head_took : Head → Name → ℕ → Head
 head_took h x n = record { walked = h.walked ++ x ∷ []; node = n; behind = behind_of h.walked h.node }
 
-abbrev pub victim_took : Stand → ℕ → Stand
+abbrev pub victim_took : Holdings → ℕ → Holdings
 victim_took st n = record st { victim = Some n }
 
-abbrev pub dest_took : Stand → Key → ℕ → Stand
+abbrev pub dest_took : Holdings → Key → ℕ → Holdings
 dest_took st [] n = victim_took st n
 dest_took st (x ∷ l) n = record st { dest = head_took st.dest x n }
 
-abbrev pub source_took : Stand → Key → Key → ℕ → Stand
+abbrev pub source_took : Holdings → Key → Key → ℕ → Holdings
 source_took st [] l n = dest_took st l n
 source_took st (x ∷ k) l n = record st { source = head_took st.source x n }
 
-abbrev pub target_took : Form → Stand → ℕ → Stand
+abbrev pub target_took : Form → Holdings → ℕ → Holdings
 target_took (AtNode c p) st n = st
 target_took (AtEntry c p) st n = victim_took st n
 target_took (AtPair pairs.Rename p q) st n = source_took st (left st.source.walked (parent_of p)) (left st.dest.walked (parent_of q)) n
 
-abbrev pub took_by : Record → Option Stand → Key → ℕ → Record
-took_by op None l n = record op { stand = Some (stand_at n None) }
-took_by op (Some st) [] n = record op { stand = Some (target_took op.remaining st n) }
-took_by op (Some st) (x ∷ l) n = record op { walked = op.walked ++ x ∷ []; remaining = inner op.remaining; stand = Some (stand_at n (Some st.node)) }
+abbrev pub took_by : Record → Option Holdings → Key → ℕ → Record
+took_by op None l n = record op { holdings = Some (holdings_at n None) }
+took_by op (Some st) [] n = record op { holdings = Some (target_took op.remaining st n) }
+took_by op (Some st) (x ∷ l) n = record op { walked = op.walked ++ x ∷ []; remaining = inner op.remaining; holdings = Some (holdings_at n (Some st.node)) }
 
 abbrev pub took : Record → ℕ → Record
-took op n = took_by op op.stand (target op.remaining) n
+took op n = took_by op op.holdings (target op.remaining) n
 
 -- after a let go: of what is behind the walk or a head; of a finished call, of the last taken
 abbrev pub head_left : Head → Head
 head_left h = record h { behind = None }
 
-abbrev pub left_behind : Stand → Option ℕ → Option ℕ → Stand
+abbrev pub left_behind : Holdings → Option ℕ → Option ℕ → Holdings
 left_behind st (Some m) s = record st { behind = None }
 left_behind st None (Some m) = record st { source = head_left st.source }
 left_behind st None None = record st { dest = head_left st.dest }
 
-abbrev pub left_heads : Stand → Key → Key → Option Stand
+abbrev pub left_heads : Holdings → Key → Key → Option Holdings
 left_heads st (x ∷ dest) source = Some (record st { dest = head_at st.node })
 left_heads st [] (x ∷ source) = Some (record st { source = head_at st.node })
 left_heads st [] [] = None
 
-abbrev pub left_last : Stand → Option ℕ → Option Stand
+abbrev pub left_last : Holdings → Option ℕ → Option Holdings
 left_last st (Some v) = Some (record st { victim = None })
 left_last st None = left_heads st st.dest.walked st.source.walked
 
-abbrev pub left_by_phase : Phase → Stand → Option Stand
+abbrev pub left_by_phase : Phase → Holdings → Option Holdings
 left_by_phase (Finished r) st = left_last st st.victim
 left_by_phase Walking st = Some (left_behind st st.behind st.source.behind)
 left_by_phase (Placed i) st = Some (left_behind st st.behind st.source.behind)
 
-abbrev pub left_stand : Phase → Option Stand → Option Stand
-left_stand phase None = None
-left_stand phase (Some st) = left_by_phase phase st
+abbrev pub left_holdings : Phase → Option Holdings → Option Holdings
+left_holdings phase None = None
+left_holdings phase (Some st) = left_by_phase phase st

@@ -13,7 +13,7 @@ pub record Head : Type 0 where
   pub behind : Option ℕ
 
 -- where a call stands: the position, a parent that it still holds, the two heads (of a rename; else they have walked nothing), a victim
-pub record Stand : Type 0 where
+pub record Holdings : Type 0 where
   pub node : ℕ
   pub behind : Option ℕ
   pub source : Head
@@ -33,7 +33,7 @@ pub record Record : Type 0 where
   pub call : Call
   pub walked : Key
   pub remaining : Form
-  pub stand : Option Stand
+  pub holdings : Option Holdings
   pub phase : Phase
   pub reserved : Option ℕ
   pub removed : Option ℕ
@@ -46,12 +46,12 @@ Records = ℕ → Option Record
 abbrev pub HeadHolds : Head → ℕ → Type 0
 HeadHolds h n = HasNames h.walked × ((h.node ≡ n) ⊎ (h.behind ≡ Some n))
 
-abbrev pub Holds : Stand → ℕ → Type 0
+abbrev pub Holds : Holdings → ℕ → Type 0
 Holds st n = (st.node ≡ n) ⊎ (st.behind ≡ Some n) ⊎ HeadHolds st.source n ⊎ HeadHolds st.dest n ⊎ (st.victim ≡ Some n)
 
 -- the heads before they set out, and a stand at one node
 abbrev pub head_at : ℕ → Head
 head_at n = record { walked = []; node = n; behind = None }
 
-abbrev pub stand_at : ℕ → Option ℕ → Stand
-stand_at n behind = record { node = n; behind = behind; source = head_at n; dest = head_at n; victim = None }
+abbrev pub holdings_at : ℕ → Option ℕ → Holdings
+holdings_at n behind = record { node = n; behind = behind; source = head_at n; dest = head_at n; victim = None }

@@ -1,4 +1,4 @@
-pub mod FirstLemmas
+pub mod FailureLemmas
 pub mod Lemmas
 pub mod ReadingLemmas
 pub mod TextLemmas

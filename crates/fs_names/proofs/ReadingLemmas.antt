@@ -10,8 +10,8 @@ use Rattle.fs_names.specs.Keys.{Key}
 use Rattle.fs_names.specs.declared.fault.PathFault.{PathFault}
 use Rattle.fs_names.specs.declared.fault.PathFault.TheVariants.{TooManyNames}
 use Rattle.fs_names.specs.Reading.{names, is_slash, is_zero, has_bytes, first_fault, name_fault}
-use Rattle.fs_names.specs.First.{on, or_else}
-use Rattle.fs_names.proofs.FirstLemmas.{on-none, or_else-none}
+use Rattle.fs_names.specs.Failures.{check, or_else}
+use Rattle.fs_names.proofs.FailureLemmas.{check-none, or_else-none}
 
 -- where neither of two tests holds, the first does not
 or_first : (a b : Bool) → (a || b) ≡ false → a ≡ false
@@ -29,10 +29,10 @@ onto_stands b [] e h = All-cons (λ p. list_all may_stand p ≡ true) _ [] (λ i
 onto_stands b (p ∷ pieces) e h = All-cons (λ p. list_all may_stand p ≡ true) (b ∷ p) pieces (λ i. e i && h 0 p (omega arith) i) (λ k d lt. h (suc k) d (omega arith))
 
 -- where no byte is zero, each byte between two slashes may stand in a name
-pieces_stand : (bytes : List ℕ) → list_any is_zero bytes ≡ false → All (λ p. list_all may_stand p ≡ true) (slice_split is_slash bytes)
-pieces_stand [] z = All-cons (λ p. list_all may_stand p ≡ true) [] [] refl (All-nil _)
-pieces_stand (b ∷ bytes) z =
-    let rest = pieces_stand bytes (or_second (is_zero b) (list_any is_zero bytes) z) in
+pieces_holdings : (bytes : List ℕ) → list_any is_zero bytes ≡ false → All (λ p. list_all may_stand p ≡ true) (slice_split is_slash bytes)
+pieces_holdings [] z = All-cons (λ p. list_all may_stand p ≡ true) [] [] refl (All-nil _)
+pieces_holdings (b ∷ bytes) z =
+    let rest = pieces_holdings bytes (or_second (is_zero b) (list_any is_zero bytes) z) in
     elim (is_slash b) as (λ s. is_slash b ≡ s → All (λ p. list_all may_stand p ≡ true) (cond {A = List (List ℕ)} s ([] ∷ slice_split is_slash bytes) (onto_first b (slice_split is_slash bytes)))) [
       | true ↦ λ s. All-cons (λ p. list_all may_stand p ≡ true) [] _ refl rest
       | false ↦ λ s. onto_stands b (slice_split is_slash bytes) (λ i. not (or_first (is_zero b) (list_any is_zero bytes) z i) && not (s i)) rest
@@ -42,7 +42,7 @@ pieces_stand (b ∷ bytes) z =
 pub name_stands : (bytes : List ℕ) (k : ℕ) (x : Name) → list_any is_zero bytes ≡ false → (k < length (names bytes)) × (x ≡ get_or (names bytes) k x) → list_all may_stand x ≡ true
 name_stands bytes k x z at =
     subst (λ y. list_all may_stand y ≡ true) (sym at.1)
-    (All-get_or (λ p. list_all may_stand p ≡ true) (names bytes) k x at.0 (All-filter has_bytes (λ p. list_all may_stand p ≡ true) (slice_split is_slash bytes) (pieces_stand bytes z)))
+    (All-get_or (λ p. list_all may_stand p ≡ true) (names bytes) k x at.0 (All-filter has_bytes (λ p. list_all may_stand p ≡ true) (slice_split is_slash bytes) (pieces_holdings bytes z)))
 
 -- where two checks find nothing, both in order find nothing
 none-or_else : {F : Type 0} (a b : Option F) → a ≡ None → b ≡ None → or_else a b ≡ None
@@ -90,7 +90,7 @@ fault_one all read k x fault e count at before here =
 -- a name that is right stands within the limit
 pub within : (n : ℕ) (x : Name) → name_fault n x ≡ None → n < 64
 within n x e =
-    let few : nat_le 64 n ≡ false = on-none _ TooManyNames (or_else-none (on (nat_le 64 n) TooManyNames) _ e).0 in
+    let few : nat_le 64 n ≡ false = check-none _ TooManyNames (or_else-none (check (nat_le 64 n) TooManyNames) _ e).0 in
     grind (arith, nat_tests)
 
 -- names of which none is wrong are no more than the limit

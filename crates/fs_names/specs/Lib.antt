@@ -1,4 +1,4 @@
-pub mod First
+pub mod Failures
 pub mod Names
 pub mod Keys
 pub mod Parts

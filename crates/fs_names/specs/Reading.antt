@@ -1,7 +1,7 @@
 -- How a path is read from bytes.
 use Rattle.std.specs.Prelude.{◌≡◌, ℕ, Bool, true, false, List, [], ◌∷◌, not, ◌&&◌, ◌==◌, nat_le, nat_lt, ◌+◌, ◌-◌, length, slice_index, filter, Option, None, Some, Result, Ok, Err}
 use Rattle.std.specs.List.{slice_split, list_any}
-use Rattle.fs_names.specs.First.{on, or_else, first}
+use Rattle.fs_names.specs.Failures.{check, or_else, first_failure}
 use Rattle.fs_names.specs.Names.{Name, is_dots}
 use Rattle.fs_names.specs.Keys.{Key}
 use Rattle.fs_names.specs.declared.limits.TheConstants.{NAME_LIMIT, PATH_LIMIT}
@@ -41,10 +41,10 @@ ends_in_slash bytes = slice_index bytes (length bytes - 1) == 47
 
 -- what is wrong with a name, of which so many stand before it
 abbrev pub name_fault : ℕ → Name → Option PathFault
-name_fault before name = first
-    (on (nat_le PATH_LIMIT before) TooManyNames
-    ∷ on (nat_lt NAME_LIMIT (length name)) NameTooLong
-    ∷ on (is_dots name) Dot
+name_fault before name = first_failure
+    (check (nat_le PATH_LIMIT before) TooManyNames
+    ∷ check (nat_lt NAME_LIMIT (length name)) NameTooLong
+    ∷ check (is_dots name) Dot
     ∷ [])
 
 -- what is wrong with the first wrong name, from left to right
@@ -54,21 +54,21 @@ first_fault before (name ∷ more) = or_else (name_fault before name) (first_fau
 
 -- the first check that the bytes fail
 abbrev pub path_fault : List ℕ → Option PathFault
-path_fault bytes = first
-    (on (not (starts_at_root bytes)) NotAbsolute
-    ∷ on (list_any is_zero bytes) Nul
+path_fault bytes = first_failure
+    (check (not (starts_at_root bytes)) NotAbsolute
+    ∷ check (list_any is_zero bytes) Nul
     ∷ first_fault 0 (names bytes)
-    ∷ on (has_names (names bytes) && ends_in_slash bytes) TrailingSlash
+    ∷ check (has_names (names bytes) && ends_in_slash bytes) TrailingSlash
     ∷ [])
 
 -- the names, unless there is a fault
-abbrev pub unless : Option PathFault → Key → Result Key PathFault
-unless None key = Ok key
-unless (Some fault) key = Err fault
+abbrev pub if_sound : Option PathFault → Key → Result Key PathFault
+if_sound None key = Ok key
+if_sound (Some fault) key = Err fault
 
 -- the names that the bytes spell, or the first check that fails
 unfoldable pub reading : List ℕ → Result Key PathFault
-reading bytes = unless (path_fault bytes) (names bytes)
+reading bytes = if_sound (path_fault bytes) (names bytes)
 
 -- the fault is what reading finds; out of memory says nothing of the bytes
 abbrev pub FailsWith : PathFault → Result Key PathFault → Type 0

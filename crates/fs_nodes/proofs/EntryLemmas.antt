@@ -12,24 +12,24 @@ use Rattle.fs_nodes.specs.declared.place.Place.{Place}
 use Rattle.fs_nodes.specs.Graphs.{then_at}
 use Rattle.fs_nodes.specs.Stores.{content_of, link_of, link_at, names_in, shape_with, IsParent, IsUnlinked}
 use Rattle.fs_nodes.specs.code.Linked.{plain, plains, graph_of_places, IsBeside, IsNextSibling, IsPlaces}
-use Rattle.fs_nodes.proofs.PlaceLemmas.{kid_link, read_within}
+use Rattle.fs_nodes.proofs.PlaceLemmas.{child_link, read_within}
 use Rattle.fs_nodes.proofs.EditLemmas.{parent_is, no_parent}
-use Rattle.fs_nodes.proofs.StepLemmas.{kid_place, next_within}
+use Rattle.fs_nodes.proofs.StepLemmas.{child_place, next_within}
 
 -- one node, one entry
-pub one_name : (ps : List Place) (d e n : ℕ) (x y : Name) → (graph_of_places ps).kid d x ≡ Some n → (graph_of_places ps).kid e y ≡ Some n → (d ≡ e) × (x ≡ y)
+pub one_name : (ps : List Place) (d e n : ℕ) (x y : Name) → (graph_of_places ps).child d x ≡ Some n → (graph_of_places ps).child e y ≡ Some n → (d ≡ e) × (x ≡ y)
 one_name ps d e n x y f g =
-    let h : ◌≡◌ {A = Option Link} (Some (record { dir = d; name = x })) (Some (record { dir = e; name = y })) = sym (kid_link (plains ps) d x n f) ∙ kid_link (plains ps) e y n g in
+    let h : ◌≡◌ {A = Option Link} (Some (record { dir = d; name = x })) (Some (record { dir = e; name = y })) = sym (child_link (plains ps) d x n f) ∙ child_link (plains ps) e y n g in
     let k : ◌≡◌ {A = Link} (record { dir = d; name = x }) (record { dir = e; name = y }) = cc in
     (ap (λ (l : Link). l.dir) k, ap (λ (l : Link). l.name) k)
 
 -- no entry names the root
-pub root_unlinked : (ps : List Place) (d : ℕ) (x : Name) → IsPlaces ps → (graph_of_places ps).kid d x ≡ Some 0 → ⊥
-root_unlinked ps d x places e = let h : ◌≡◌ {A = Option Link} None (Some (record { dir = d; name = x })) = sym places.store.root_unlinked ∙ kid_link (plains ps) d x 0 e in cc
+pub root_unlinked : (ps : List Place) (d : ℕ) (x : Name) → IsPlaces ps → (graph_of_places ps).child d x ≡ Some 0 → ⊥
+root_unlinked ps d x places e = let h : ◌≡◌ {A = Option Link} None (Some (record { dir = d; name = x })) = sym places.store.root_unlinked ∙ child_link (plains ps) d x 0 e in cc
 
 -- what an entry names is in use
-pub kid_used : (ps : List Place) (d n : ℕ) (x : Name) → (graph_of_places ps).kid d x ≡ Some n → (s : Shape) × ((graph_of_places ps).shape n ≡ Some s)
-kid_used ps d n x e = go (slice_get (plains ps) n) refl (kid_link (plains ps) d x n e)
+pub child_used : (ps : List Place) (d n : ℕ) (x : Name) → (graph_of_places ps).child d x ≡ Some n → (s : Shape) × ((graph_of_places ps).shape n ≡ Some s)
+child_used ps d n x e = go (slice_get (plains ps) n) refl (child_link (plains ps) d x n e)
   where
     go : (o : Option (Option Node)) → slice_get (plains ps) n ≡ o → then_at o link_of ≡ Some (record { dir = d; name = x }) → (s : Shape) × ((graph_of_places ps).shape n ≡ Some s)
     go None f g = absurd (cc)
@@ -37,18 +37,18 @@ kid_used ps d n x e = go (slice_get (plains ps) n) refl (kid_link (plains ps) d 
     go (Some (Some node)) f g = (shape_with (names_in (plains ps) n) node.content, ap (λ (o : Option (Option Node)). option_map (shape_with (names_in (plains ps) n)) (then_at o content_of)) f)
 
 -- the directory of a node's entry
-pub parent_read : (ps : List Place) (n d : ℕ) → IsPlaces ps → option_map (λ l. l.dir) (link_at (plains ps) n) ≡ Some d → IsParent (graph_of_places ps).kid n d
+pub parent_read : (ps : List Place) (n d : ℕ) → IsPlaces ps → option_map (λ l. l.dir) (link_at (plains ps) n) ≡ Some d → IsParent (graph_of_places ps).child n d
 parent_read ps n d places e = go (link_at (plains ps) n) refl e
   where
-    go : (l : Option Link) → link_at (plains ps) n ≡ l → option_map (λ l. l.dir) l ≡ Some d → IsParent (graph_of_places ps).kid n d
+    go : (l : Option Link) → link_at (plains ps) n ≡ l → option_map (λ l. l.dir) l ≡ Some d → IsParent (graph_of_places ps).child n d
     go None f g = absurd (cc)
-    go (Some link) f g = let h : link.dir ≡ d = cc in subst (IsParent (graph_of_places ps).kid n) h (parent_is NODE_LIMIT (plains ps) n link places.store f)
+    go (Some link) f g = let h : link.dir ≡ d = cc in subst (IsParent (graph_of_places ps).child n) h (parent_is NODE_LIMIT (plains ps) n link places.store f)
 
 -- a node without one
-pub parent_none : (ps : List Place) (n : ℕ) → option_map (λ l. l.dir) (link_at (plains ps) n) ≡ None → IsUnlinked (graph_of_places ps).kid n
+pub parent_none : (ps : List Place) (n : ℕ) → option_map (λ l. l.dir) (link_at (plains ps) n) ≡ None → IsUnlinked (graph_of_places ps).child n
 parent_none ps n e = go (link_at (plains ps) n) refl e
   where
-    go : (l : Option Link) → link_at (plains ps) n ≡ l → option_map (λ l. l.dir) l ≡ None → IsUnlinked (graph_of_places ps).kid n
+    go : (l : Option Link) → link_at (plains ps) n ≡ l → option_map (λ l. l.dir) l ≡ None → IsUnlinked (graph_of_places ps).child n
     go None f g = no_parent (plains ps) n f
     go (Some link) f g = absurd (cc)
 
@@ -66,15 +66,15 @@ linked_within ps n d e = go (link_at (plains ps) n) refl e
 
 -- its place leads to the sibling after it
 pub next_read : (ps : List Place) (n : ℕ) (p : Place) → IsPlaces ps → slice_get ps n ≡ Some p → IsNextSibling (graph_of_places ps) n p.next
-next_read ps n p places e dir name kid =
-    let b : IsBeside (graph_of_places ps) n p.next p.prev (Some (record { dir = dir; name = name })) = subst (IsBeside (graph_of_places ps) n p.next p.prev) (kid_place ps dir name n p e kid) (places.each n p e).beside in
+next_read ps n p places e dir name child =
+    let b : IsBeside (graph_of_places ps) n p.next p.prev (Some (record { dir = dir; name = name })) = subst (IsBeside (graph_of_places ps) n p.next p.prev) (child_place ps dir name n p e child) (places.each n p e).beside in
     b.0
 
 -- which has a place too
 pub next_inside : (ps : List Place) (n d : ℕ) (p : Place) → IsPlaces ps → slice_get ps n ≡ Some p → option_map (λ l. l.dir) (link_at (plains ps) n) ≡ Some d → IfSome p.next (λ k. k < length ps)
 next_inside ps n d p places e linked = go p.next refl (parent_read ps n d places linked)
   where
-    go : (o : Option ℕ) → p.next ≡ o → IsParent (graph_of_places ps).kid n d → IfSome o (λ k. k < length ps)
+    go : (o : Option ℕ) → p.next ≡ o → IsParent (graph_of_places ps).child n d → IfSome o (λ k. k < length ps)
     go None f r = tt
     go (Some k) f r = next_within ps d (Some r.0) k (sym (next_read ps n p places e d r.0 r.1) ∙ f)
 

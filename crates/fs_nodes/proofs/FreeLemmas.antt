@@ -16,11 +16,11 @@ use Rattle.fs_nodes.specs.Graphs.{then_at, linked_in, unlinked_in}
 use Rattle.fs_nodes.specs.Stores.{content_of, link_of, content_at, link_at, IsUnlinked}
 use Rattle.fs_nodes.specs.code.Linked.{link_with, plain_with, plain, plains, graph_of_places, IsGap, IsPlaces, put_between, taken_out, led, followed, with_entries, entered}
 use Rattle.fs_nodes.specs.code.Frees.{is_in_list, is_free, next_at, IsChain, IsFreeList, IsLinked}
-use Rattle.fs_nodes.proofs.PlaceLemmas.{eqb_true, kid_link, read_within}
-use Rattle.fs_nodes.proofs.EditLemmas.{place_within, kid_within, past_shape}
+use Rattle.fs_nodes.proofs.PlaceLemmas.{eqb_true, child_link, read_within}
+use Rattle.fs_nodes.proofs.EditLemmas.{place_within, child_within, past_shape}
 use Rattle.fs_nodes.proofs.StepLemmas.{dir_has, get_some, next_within, dir_length, read_place}
 use Rattle.fs_nodes.proofs.UnlinkLemmas.{take_place, get_taken, plains_taken, take_makes}
-use Rattle.fs_nodes.proofs.LinkLemmas.{is_at, put_place, get_put, plains_put, put_makes, length_edited, used_content, at_true, kid_low, true_false, eqb_false}
+use Rattle.fs_nodes.proofs.LinkLemmas.{is_at, put_place, get_put, plains_put, put_makes, length_edited, used_content, at_true, child_low, true_false, eqb_false}
 
 -- a list whose places lead where they led
 pub chain_kept : (ps qs : List Place) (head : Option ℕ) (list : List ℕ) → ((k : ℕ) → is_in_list k list ≡ true → next_at qs k ≡ next_at ps k) → IsChain ps head list → IsChain qs head list
@@ -79,10 +79,10 @@ put_list ps dir n x prev next head p content e c gap l = list_kept ps (put_betwe
     same k = ap (λ (z : List (Option Node)). is_free (slice_get z k)) (plains_put dir n x prev next ps p e) ∙ free_set (plains ps) n (plain p) (relinked (plain p) (Some (record { dir = dir; name = x }))) (slice_get-map plain ps n ∙ ap (option_map plain) e) (relinked_none (plain p) (Some (record { dir = dir; name = x }))) k
 
     not_prev : (k : ℕ) → is_free (slice_get (plains ps) k) ≡ true → is_at prev k ≡ false
-    not_prev k f = eqb_false (is_at prev k) (λ g. far (kid_low (graph_of_places ps) dir gap.low prev k gap.is_low (at_true prev k g)))
+    not_prev k f = eqb_false (is_at prev k) (λ g. far (child_low (graph_of_places ps) dir gap.low prev k gap.is_low (at_true prev k g)))
       where
-        far : (y : Name) × (gap.low ≡ Some y) × ((graph_of_places ps).kid dir y ≡ Some k) → ⊥
-        far r = linked_not_free (plains ps) k (record { dir = dir; name = r.0 }) (kid_link (plains ps) dir r.0 k r.2) f
+        far : (y : Name) × (gap.low ≡ Some y) × ((graph_of_places ps).child dir y ≡ Some k) → ⊥
+        far r = linked_not_free (plains ps) k (record { dir = dir; name = r.0 }) (child_link (plains ps) dir r.0 k r.2) f
 
     not_node : (k : ℕ) → is_free (slice_get (plains ps) k) ≡ true → eqb k n ≡ false
     not_node k f = eqb_false (eqb k n) (λ g. used_not_free ps n p content e c (ap (λ (z : ℕ). is_free (slice_get (plains ps) z)) (sym (eqb_true k n g)) ∙ f))
@@ -114,7 +114,7 @@ used_place ps n h =
     get_some ps n (omega arith)
 
 -- a link, whole
-pub linked_link : (limit : ℕ) (ps qs : List Place) (free : Option ℕ) (dir n : ℕ) (x : Name) (prev next : Option ℕ) → IsLinked limit ps free → IsTrue (is_dir ((graph_of_places ps).shape dir)) → (graph_of_places ps).kid dir x ≡ None → IsTrue (is_there ((graph_of_places ps).shape n)) → IsUnlinked (graph_of_places ps).kid n → (n ≡ 0 → ⊥) → IsGap (graph_of_places ps) dir x prev next
+pub linked_link : (limit : ℕ) (ps qs : List Place) (free : Option ℕ) (dir n : ℕ) (x : Name) (prev next : Option ℕ) → IsLinked limit ps free → IsTrue (is_dir ((graph_of_places ps).shape dir)) → (graph_of_places ps).child dir x ≡ None → IsTrue (is_there ((graph_of_places ps).shape n)) → IsUnlinked (graph_of_places ps).child n → (n ≡ 0 → ⊥) → IsGap (graph_of_places ps) dir x prev next
     → qs ≡ put_between dir n x prev next ps → (graph_of_places qs ≡ linked_in dir x n (graph_of_places ps)) × IsLinked limit qs free
 linked_link limit ps qs free dir n x prev next s is_dir absent used unlinked other gap e =
     let r : (p : Place) × (slice_get ps n ≡ Some p) = used_place ps n used in
@@ -138,8 +138,8 @@ gap_prev ps dir x prev next gap = go prev refl
     go : (o : Option ℕ) → prev ≡ o → IfSome o (λ k. k < length ps)
     go None e = tt
     go (Some k) e =
-        let r : (y : Name) × (gap.low ≡ Some y) × ((graph_of_places ps).kid dir y ≡ Some k) = kid_low (graph_of_places ps) dir gap.low prev k gap.is_low e in
-        let w : k < length (plains ps) = kid_within (plains ps) k dir r.0 r.2 in
+        let r : (y : Name) × (gap.low ≡ Some y) × ((graph_of_places ps).child dir y ≡ Some k) = child_low (graph_of_places ps) dir gap.low prev k gap.is_low e in
+        let w : k < length (plains ps) = child_within (plains ps) k dir r.0 r.2 in
         let l : length (plains ps) ≡ length ps = length-map ps plain in
         omega arith
 
@@ -178,20 +178,20 @@ pub length_taken : (dir n : ℕ) (prev next : Option ℕ) (ps : List Place) → 
 length_taken dir n prev next ps = length_edited n (λ p. entered None p.name None None p) _ ∙ length_followed next prev _ ∙ length_led dir prev next _ ∙ length_edited dir (λ p. with_entries (p.entries - 1) p) ps
 
 -- a node that leaves its place: the free places are as before
-pub take_list : (ps : List Place) (dir n : ℕ) (x : Name) (prev next head : Option ℕ) (p : Place) → slice_get ps n ≡ Some p → (graph_of_places ps).kid dir x ≡ Some n → IsGap (graph_of_places (taken_out dir n prev next ps)) dir x prev next → IsFreeList ps head → IsFreeList (taken_out dir n prev next ps) head
-take_list ps dir n x prev next head p e kid gap l = list_kept ps (taken_out dir n prev next ps) head ways same l
+pub take_list : (ps : List Place) (dir n : ℕ) (x : Name) (prev next head : Option ℕ) (p : Place) → slice_get ps n ≡ Some p → (graph_of_places ps).child dir x ≡ Some n → IsGap (graph_of_places (taken_out dir n prev next ps)) dir x prev next → IsFreeList ps head → IsFreeList (taken_out dir n prev next ps) head
+take_list ps dir n x prev next head p e child gap l = list_kept ps (taken_out dir n prev next ps) head ways same l
   where
     same : (k : ℕ) → is_free (slice_get (plains (taken_out dir n prev next ps)) k) ≡ is_free (slice_get (plains ps) k)
     same k = ap (λ (z : List (Option Node)). is_free (slice_get z k)) (plains_taken dir n prev next ps p e) ∙ free_set (plains ps) n (plain p) (relinked (plain p) None) (slice_get-map plain ps n ∙ ap (option_map plain) e) (relinked_none (plain p) None) k
 
     not_prev : (k : ℕ) → is_free (slice_get (plains ps) k) ≡ true → is_at prev k ≡ false
-    not_prev k f = eqb_false (is_at prev k) (λ g. far (kid_low (graph_of_places (taken_out dir n prev next ps)) dir gap.low prev k gap.is_low (at_true prev k g)))
+    not_prev k f = eqb_false (is_at prev k) (λ g. far (child_low (graph_of_places (taken_out dir n prev next ps)) dir gap.low prev k gap.is_low (at_true prev k g)))
       where
-        far : (y : Name) × (gap.low ≡ Some y) × ((graph_of_places (taken_out dir n prev next ps)).kid dir y ≡ Some k) → ⊥
-        far r = linked_not_free (plains (taken_out dir n prev next ps)) k (record { dir = dir; name = r.0 }) (kid_link (plains (taken_out dir n prev next ps)) dir r.0 k r.2) (same k ∙ f)
+        far : (y : Name) × (gap.low ≡ Some y) × ((graph_of_places (taken_out dir n prev next ps)).child dir y ≡ Some k) → ⊥
+        far r = linked_not_free (plains (taken_out dir n prev next ps)) k (record { dir = dir; name = r.0 }) (child_link (plains (taken_out dir n prev next ps)) dir r.0 k r.2) (same k ∙ f)
 
     not_node : (k : ℕ) → is_free (slice_get (plains ps) k) ≡ true → eqb k n ≡ false
-    not_node k f = eqb_false (eqb k n) (λ g. linked_not_free (plains ps) n (record { dir = dir; name = x }) (kid_link (plains ps) dir x n kid) (ap (λ (z : ℕ). is_free (slice_get (plains ps) z)) (sym (eqb_true k n g)) ∙ f))
+    not_node k f = eqb_false (eqb k n) (λ g. linked_not_free (plains ps) n (record { dir = dir; name = x }) (child_link (plains ps) dir x n child) (ap (λ (z : ℕ). is_free (slice_get (plains ps) z)) (sym (eqb_true k n g)) ∙ f))
 
     ways : (k : ℕ) → is_free (slice_get (plains ps) k) ≡ true → next_at (taken_out dir n prev next ps) k ≡ next_at ps k
     ways k f = ap (λ (o : Option Place). then_at o (λ p. p.next)) (get_taken dir n prev next ps k) ∙ go (slice_get ps k)
@@ -201,10 +201,10 @@ take_list ps dir n x prev next head p e kid gap l = list_kept ps (taken_out dir 
         go (Some q) = ap₂ (λ (a b : Bool). cond a None (cond b next q.next)) (not_node k f) (not_prev k f)
 
 -- an unlink, whole
-pub linked_unlink : (limit : ℕ) (ps qs : List Place) (free : Option ℕ) (dir n : ℕ) (x : Name) (p : Place) (prev next : Option ℕ) → IsLinked limit ps free → slice_get ps n ≡ Some p → prev ≡ p.prev → next ≡ p.next → (graph_of_places ps).kid dir x ≡ Some n
+pub linked_unlink : (limit : ℕ) (ps qs : List Place) (free : Option ℕ) (dir n : ℕ) (x : Name) (p : Place) (prev next : Option ℕ) → IsLinked limit ps free → slice_get ps n ≡ Some p → prev ≡ p.prev → next ≡ p.next → (graph_of_places ps).child dir x ≡ Some n
     → qs ≡ taken_out dir n prev next ps → (graph_of_places qs ≡ unlinked_in dir x (graph_of_places ps)) × IsLinked limit qs free
-linked_unlink limit ps qs free dir n x p prev next s there a b kid e =
-    let made : (graph_of_places (taken_out dir n p.prev p.next ps) ≡ unlinked_in dir x (graph_of_places ps)) × IsPlaces (taken_out dir n p.prev p.next ps) × IsGap (graph_of_places (taken_out dir n p.prev p.next ps)) dir x p.prev p.next = take_makes ps dir n x p s.places there kid in
+linked_unlink limit ps qs free dir n x p prev next s there a b child e =
+    let made : (graph_of_places (taken_out dir n p.prev p.next ps) ≡ unlinked_in dir x (graph_of_places ps)) × IsPlaces (taken_out dir n p.prev p.next ps) × IsGap (graph_of_places (taken_out dir n p.prev p.next ps)) dir x p.prev p.next = take_makes ps dir n x p s.places there child in
     let l : length (taken_out dir n p.prev p.next ps) ≡ length ps = length_taken dir n p.prev p.next ps in
     let f : qs ≡ taken_out dir n p.prev p.next ps = e ∙ ap₂ (λ (i j : Option ℕ). taken_out dir n i j ps) a b in
     subst (λ (z : List Place). (graph_of_places z ≡ unlinked_in dir x (graph_of_places ps)) × IsLinked limit z free) (sym f) (
@@ -213,20 +213,20 @@ linked_unlink limit ps qs free dir n x p prev next s there a b kid e =
         most = s.most;
         within = (let h : length ps ≤ limit = s.within in omega arith);
         places = made.1;
-        list = take_list ps dir n x p.prev p.next free p there kid made.2 s.list;
+        list = take_list ps dir n x p.prev p.next free p there child made.2 s.list;
       },
     )
 
 -- the siblings of a node are places
-pub side_within : (ps : List Place) (dir n : ℕ) (x : Name) (p : Place) → IsPlaces ps → slice_get ps n ≡ Some p → (graph_of_places ps).kid dir x ≡ Some n → IfSome p.prev (λ k. k < length ps) × IfSome p.next (λ k. k < length ps)
-side_within ps dir n x p places there kid =
-    let made : (graph_of_places (taken_out dir n p.prev p.next ps) ≡ unlinked_in dir x (graph_of_places ps)) × IsPlaces (taken_out dir n p.prev p.next ps) × IsGap (graph_of_places (taken_out dir n p.prev p.next ps)) dir x p.prev p.next = take_makes ps dir n x p places there kid in
+pub side_within : (ps : List Place) (dir n : ℕ) (x : Name) (p : Place) → IsPlaces ps → slice_get ps n ≡ Some p → (graph_of_places ps).child dir x ≡ Some n → IfSome p.prev (λ k. k < length ps) × IfSome p.next (λ k. k < length ps)
+side_within ps dir n x p places there child =
+    let made : (graph_of_places (taken_out dir n p.prev p.next ps) ≡ unlinked_in dir x (graph_of_places ps)) × IsPlaces (taken_out dir n p.prev p.next ps) × IsGap (graph_of_places (taken_out dir n p.prev p.next ps)) dir x p.prev p.next = take_makes ps dir n x p places there child in
     let l : length (taken_out dir n p.prev p.next ps) ≡ length ps = length_taken dir n p.prev p.next ps in
     (subst (λ (z : ℕ). IfSome p.prev (λ k. k < z)) l (gap_prev (taken_out dir n p.prev p.next ps) dir x p.prev p.next made.2), subst (λ (z : ℕ). IfSome p.next (λ k. k < z)) l (gap_next (taken_out dir n p.prev p.next ps) dir x p.prev p.next made.2))
 
 -- a directory with an entry counts one at least
-pub some_entries : (ps : List Place) (dir n : ℕ) (x : Name) → IsPlaces ps → (graph_of_places ps).kid dir x ≡ Some n → IfSome (slice_get ps dir) (λ p. 1 ≤ p.entries)
-some_entries ps dir n x places kid = go (slice_get ps dir) refl
+pub some_entries : (ps : List Place) (dir n : ℕ) (x : Name) → IsPlaces ps → (graph_of_places ps).child dir x ≡ Some n → IfSome (slice_get ps dir) (λ p. 1 ≤ p.entries)
+some_entries ps dir n x places child = go (slice_get ps dir) refl
   where
     long : (names : List Name) → has_name x names ≡ true → 1 ≤ length names
     long [] h = absurd (cc)
@@ -236,44 +236,44 @@ some_entries ps dir n x places kid = go (slice_get ps dir) refl
     go None e = tt
     go (Some p) e =
         let h : p.entries ≡ length (names_of ((graph_of_places ps).shape dir)) = (places.each dir p e).entries in
-        let k : 1 ≤ length (names_of ((graph_of_places ps).shape dir)) = long (names_of ((graph_of_places ps).shape dir)) (dir_has ps dir x places ∙ ap is_some kid) in
+        let k : 1 ≤ length (names_of ((graph_of_places ps).shape dir)) = long (names_of ((graph_of_places ps).shape dir)) (dir_has ps dir x places ∙ ap is_some child) in
         omega arith
 
 -- what an entry names has a place
-pub kid_read : (ps : List Place) (dir n : ℕ) (x : Name) (prev next : Option ℕ) → (graph_of_places ps).kid dir x ≡ Some n → IfSome (slice_get ps n) (λ p. (prev ≡ p.prev) × (next ≡ p.next)) → (p : Place) × (slice_get ps n ≡ Some p) × (prev ≡ p.prev) × (next ≡ p.next)
-kid_read ps dir n x prev next kid both =
-    let w : n < length (plains ps) = kid_within (plains ps) n dir x kid in
+pub child_read : (ps : List Place) (dir n : ℕ) (x : Name) (prev next : Option ℕ) → (graph_of_places ps).child dir x ≡ Some n → IfSome (slice_get ps n) (λ p. (prev ≡ p.prev) × (next ≡ p.next)) → (p : Place) × (slice_get ps n ≡ Some p) × (prev ≡ p.prev) × (next ≡ p.next)
+child_read ps dir n x prev next child both =
+    let w : n < length (plains ps) = child_within (plains ps) n dir x child in
     let l : length (plains ps) ≡ length ps = length-map ps plain in
     let r : (p : Place) × (slice_get ps n ≡ Some p) = get_some ps n (omega arith) in
     let t : (prev ≡ r.0.prev) × (next ≡ r.0.next) = subst (λ (o : Option Place). IfSome o (λ p. (prev ≡ p.prev) × (next ≡ p.next))) r.1 both in
     (r.0, r.1, t.0, t.1)
 
 -- the place of what an entry names is within
-pub kid_inside : (ps : List Place) (dir n : ℕ) (x : Name) → (graph_of_places ps).kid dir x ≡ Some n → n < length ps
-kid_inside ps dir n x kid =
-    let w : n < length (plains ps) = kid_within (plains ps) n dir x kid in
+pub child_inside : (ps : List Place) (dir n : ℕ) (x : Name) → (graph_of_places ps).child dir x ≡ Some n → n < length ps
+child_inside ps dir n x child =
+    let w : n < length (plains ps) = child_within (plains ps) n dir x child in
     let l : length (plains ps) ≡ length ps = length-map ps plain in
     omega arith
 
 -- and so is its directory's
-pub dir_inside : (ps : List Place) (dir n : ℕ) (x : Name) → IsPlaces ps → (graph_of_places ps).kid dir x ≡ Some n → dir < length ps
-dir_inside ps dir n x places kid =
-    let d : content_at (plains ps) dir ≡ Some contents.Dir = places.store.of_dir n (record { dir = dir; name = x }) (kid_link (plains ps) dir x n kid) in
+pub dir_inside : (ps : List Place) (dir n : ℕ) (x : Name) → IsPlaces ps → (graph_of_places ps).child dir x ≡ Some n → dir < length ps
+dir_inside ps dir n x places child =
+    let d : content_at (plains ps) dir ≡ Some contents.Dir = places.store.of_dir n (record { dir = dir; name = x }) (child_link (plains ps) dir x n child) in
     let r : (q : Option Node) × (slice_get (plains ps) dir ≡ Some q) × (content_of q ≡ Some contents.Dir) = read_within content_of (plains ps) dir contents.Dir d in
     let w : dir < length (plains ps) = slice_get_within (plains ps) dir r.0 r.1 in
     let l : length (plains ps) ≡ length ps = length-map ps plain in
     omega arith
 
 -- the siblings that the code reads are places
-pub side_read : (ps : List Place) (dir n : ℕ) (x : Name) (prev next : Option ℕ) → IsPlaces ps → (graph_of_places ps).kid dir x ≡ Some n → IfSome (slice_get ps n) (λ p. (prev ≡ p.prev) × (next ≡ p.next)) → IfSome prev (λ k. k < length ps) × IfSome next (λ k. k < length ps)
-side_read ps dir n x prev next places kid both =
-    let r : (p : Place) × (slice_get ps n ≡ Some p) × (prev ≡ p.prev) × (next ≡ p.next) = kid_read ps dir n x prev next kid both in
-    let t : IfSome r.0.prev (λ k. k < length ps) × IfSome r.0.next (λ k. k < length ps) = side_within ps dir n x r.0 places r.1 kid in
+pub side_read : (ps : List Place) (dir n : ℕ) (x : Name) (prev next : Option ℕ) → IsPlaces ps → (graph_of_places ps).child dir x ≡ Some n → IfSome (slice_get ps n) (λ p. (prev ≡ p.prev) × (next ≡ p.next)) → IfSome prev (λ k. k < length ps) × IfSome next (λ k. k < length ps)
+side_read ps dir n x prev next places child both =
+    let r : (p : Place) × (slice_get ps n ≡ Some p) × (prev ≡ p.prev) × (next ≡ p.next) = child_read ps dir n x prev next child both in
+    let t : IfSome r.0.prev (λ k. k < length ps) × IfSome r.0.next (λ k. k < length ps) = side_within ps dir n x r.0 places r.1 child in
     (subst (λ (o : Option ℕ). IfSome o (λ k. k < length ps)) (sym r.2) t.0, subst (λ (o : Option ℕ). IfSome o (λ k. k < length ps)) (sym r.3) t.1)
 
 -- an unlink, as the code makes it
-pub unlink_read : (limit : ℕ) (ps qs : List Place) (free : Option ℕ) (dir n : ℕ) (x : Name) (prev next : Option ℕ) → IsLinked limit ps free → (graph_of_places ps).kid dir x ≡ Some n → IfSome (slice_get ps n) (λ p. (prev ≡ p.prev) × (next ≡ p.next))
+pub unlink_read : (limit : ℕ) (ps qs : List Place) (free : Option ℕ) (dir n : ℕ) (x : Name) (prev next : Option ℕ) → IsLinked limit ps free → (graph_of_places ps).child dir x ≡ Some n → IfSome (slice_get ps n) (λ p. (prev ≡ p.prev) × (next ≡ p.next))
     → qs ≡ taken_out dir n prev next ps → (graph_of_places qs ≡ unlinked_in dir x (graph_of_places ps)) × IsLinked limit qs free
-unlink_read limit ps qs free dir n x prev next s kid both e =
-    let r : (p : Place) × (slice_get ps n ≡ Some p) × (prev ≡ p.prev) × (next ≡ p.next) = kid_read ps dir n x prev next kid both in
-    linked_unlink limit ps qs free dir n x r.0 prev next s r.1 r.2 r.3 kid e
+unlink_read limit ps qs free dir n x prev next s child both e =
+    let r : (p : Place) × (slice_get ps n ≡ Some p) × (prev ≡ p.prev) × (next ≡ p.next) = child_read ps dir n x prev next child both in
+    linked_unlink limit ps qs free dir n x r.0 prev next s r.1 r.2 r.3 child e

@@ -8,7 +8,7 @@ use Rattle.fs_names.proofs.Lemmas.{same_name_exact, same_name_refl}
 use Rattle.fs_nodes.specs.Graphs.{Graph, then_at, linked_in}
 use Rattle.fs_nodes.specs.Stores.{is_above}
 use Rattle.fs_nodes.specs.code.Picks.{lesser}
-use Rattle.fs_nodes.specs.code.Linked.{next_kid, IsBefore, IsLow, IsAt}
+use Rattle.fs_nodes.specs.code.Linked.{next_child, IsBefore, IsLow, IsAt}
 use Rattle.fs_nodes.proofs.NameLemmas.{Compared, Below, Same, Above, compare, find_inserted, length_inserted}
 use Rattle.fs_nodes.proofs.PlaceLemmas.{eqb_refl}
 use Rattle.fs_nodes.specs.Seen.{Ascends}
@@ -18,8 +18,8 @@ use Rattle.fs_nodes.proofs.OrderLemmas.{found_upto, found_has, found_same}
 -- a directory's names are those of its entries, in order, and one name is free
 pub record IsFree (graph : Graph) (dir : ℕ) (x : Name) : Type 0 where
   pub ascends : Ascends None (names_of (graph.shape dir))
-  pub has : (y : Name) → has_name y (names_of (graph.shape dir)) ≡ is_some (graph.kid dir y)
-  pub free : graph.kid dir x ≡ None
+  pub has : (y : Name) → has_name y (names_of (graph.shape dir)) ≡ is_some (graph.child dir y)
+  pub free : graph.child dir x ≡ None
 
 -- the free name is not among the names
 absent : (graph : Graph) (dir : ℕ) (x : Name) → IsFree graph dir x → has_name x (names_of (graph.shape dir)) ≡ false
@@ -42,58 +42,58 @@ pub count_linked : (graph : Graph) (dir : ℕ) (x : Name) (n : ℕ) → IsFree g
 count_linked graph dir x n f = ap length (names_linked graph dir x n) ∙ length_inserted x (names_of (graph.shape dir)) (absent graph dir x f)
 
 -- the new entry
-pub kid_new : (graph : Graph) (dir : ℕ) (x : Name) (n : ℕ) → (linked_in dir x n graph).kid dir x ≡ Some n
-kid_new graph dir x n = ap₂ (λ (a b : Bool). cond (a && b) (Some n) (graph.kid dir x)) (eqb_refl dir) (same_name_refl x)
+pub child_new : (graph : Graph) (dir : ℕ) (x : Name) (n : ℕ) → (linked_in dir x n graph).child dir x ≡ Some n
+child_new graph dir x n = ap₂ (λ (a b : Bool). cond (a && b) (Some n) (graph.child dir x)) (eqb_refl dir) (same_name_refl x)
 
 -- another entry of the directory
-pub kid_old : (graph : Graph) (dir : ℕ) (x y : Name) (n : ℕ) → same_name y x ≡ false → (linked_in dir x n graph).kid dir y ≡ graph.kid dir y
-kid_old graph dir x y n e = ap₂ (λ (a b : Bool). cond (a && b) (Some n) (graph.kid dir y)) (eqb_refl dir) e
+pub child_old : (graph : Graph) (dir : ℕ) (x y : Name) (n : ℕ) → same_name y x ≡ false → (linked_in dir x n graph).child dir y ≡ graph.child dir y
+child_old graph dir x y n e = ap₂ (λ (a b : Bool). cond (a && b) (Some n) (graph.child dir y)) (eqb_refl dir) e
 
 -- the same of one that is there
-pub kid_there : (graph : Graph) (dir : ℕ) (x y : Name) (n m : ℕ) → IsFree graph dir x → graph.kid dir y ≡ Some m → (linked_in dir x n graph).kid dir y ≡ Some m
-kid_there graph dir x y n m f e = kid_old graph dir x y n (other_name graph dir x y f (f.has y ∙ ap is_some e)) ∙ e
+pub child_there : (graph : Graph) (dir : ℕ) (x y : Name) (n m : ℕ) → IsFree graph dir x → graph.child dir y ≡ Some m → (linked_in dir x n graph).child dir y ≡ Some m
+child_there graph dir x y n m f e = child_old graph dir x y n (other_name graph dir x y f (f.has y ∙ ap is_some e)) ∙ e
 
 -- other directories are as before
-pub next_other : (graph : Graph) (dir d : ℕ) (x : Name) (n : ℕ) (low : Option Name) → eqb d dir ≡ false → next_kid (linked_in dir x n graph) d low ≡ next_kid graph d low
-next_other graph dir d x n low e = ap (λ (b : Bool). then_at (find (is_above low) (names_of (cond b (Some (Dir (inserted_name x (names_of (graph.shape dir))))) (graph.shape d)))) ((linked_in dir x n graph).kid d)) e ∙ go (find (is_above low) (names_of (graph.shape d)))
+pub next_other : (graph : Graph) (dir d : ℕ) (x : Name) (n : ℕ) (low : Option Name) → eqb d dir ≡ false → next_child (linked_in dir x n graph) d low ≡ next_child graph d low
+next_other graph dir d x n low e = ap (λ (b : Bool). then_at (find (is_above low) (names_of (cond b (Some (Dir (inserted_name x (names_of (graph.shape dir))))) (graph.shape d)))) ((linked_in dir x n graph).child d)) e ∙ go (find (is_above low) (names_of (graph.shape d)))
   where
-    go : (o : Option Name) → then_at o ((linked_in dir x n graph).kid d) ≡ then_at o (graph.kid d)
+    go : (o : Option Name) → then_at o ((linked_in dir x n graph).child d) ≡ then_at o (graph.child d)
     go None = refl
-    go (Some y) = ap (λ (b : Bool). cond (b && same_name y x) (Some n) (graph.kid d y)) e
+    go (Some y) = ap (λ (b : Bool). cond (b && same_name y x) (Some n) (graph.child d y)) e
 
 -- what comes next with a name more
-next_linked : (graph : Graph) (dir : ℕ) (x : Name) (n : ℕ) (low : Option Name) → next_kid (linked_in dir x n graph) dir low ≡ then_at (lesser (cond (is_above low x) (Some x) None) (find (is_above low) (names_of (graph.shape dir)))) ((linked_in dir x n graph).kid dir)
-next_linked graph dir x n low = ap (λ (o : Option Name). then_at o ((linked_in dir x n graph).kid dir)) (ap (find (is_above low)) (names_linked graph dir x n) ∙ find_inserted low x (names_of (graph.shape dir)))
+next_linked : (graph : Graph) (dir : ℕ) (x : Name) (n : ℕ) (low : Option Name) → next_child (linked_in dir x n graph) dir low ≡ then_at (lesser (cond (is_above low x) (Some x) None) (find (is_above low) (names_of (graph.shape dir)))) ((linked_in dir x n graph).child dir)
+next_linked graph dir x n low = ap (λ (o : Option Name). then_at o ((linked_in dir x n graph).child dir)) (ap (find (is_above low)) (names_linked graph dir x n) ∙ find_inserted low x (names_of (graph.shape dir)))
 
 -- what was next, and still is
-still : (graph : Graph) (dir : ℕ) (x : Name) (n : ℕ) (low : Option Name) → IsFree graph dir x → then_at (find (is_above low) (names_of (graph.shape dir))) ((linked_in dir x n graph).kid dir) ≡ next_kid graph dir low
+still : (graph : Graph) (dir : ℕ) (x : Name) (n : ℕ) (low : Option Name) → IsFree graph dir x → then_at (find (is_above low) (names_of (graph.shape dir))) ((linked_in dir x n graph).child dir) ≡ next_child graph dir low
 still graph dir x n low f = go (find (is_above low) (names_of (graph.shape dir))) refl
   where
-    go : (o : Option Name) → find (is_above low) (names_of (graph.shape dir)) ≡ o → then_at o ((linked_in dir x n graph).kid dir) ≡ then_at o (graph.kid dir)
+    go : (o : Option Name) → find (is_above low) (names_of (graph.shape dir)) ≡ o → then_at o ((linked_in dir x n graph).child dir) ≡ then_at o (graph.child dir)
     go None e = refl
-    go (Some y) e = kid_old graph dir x y n (other_name graph dir x y f (found_has low y (names_of (graph.shape dir)) e))
+    go (Some y) e = child_old graph dir x y n (other_name graph dir x y f (found_has low y (names_of (graph.shape dir)) e))
 
 -- after the place of the new name nothing has changed
-pub next_above : (graph : Graph) (dir : ℕ) (x : Name) (n : ℕ) (low : Option Name) → IsFree graph dir x → is_above low x ≡ false → next_kid (linked_in dir x n graph) dir low ≡ next_kid graph dir low
-next_above graph dir x n low f e = next_linked graph dir x n low ∙ ap (λ (b : Bool). then_at (lesser (cond b (Some x) None) (find (is_above low) (names_of (graph.shape dir)))) ((linked_in dir x n graph).kid dir)) e ∙ still graph dir x n low f
+pub next_above : (graph : Graph) (dir : ℕ) (x : Name) (n : ℕ) (low : Option Name) → IsFree graph dir x → is_above low x ≡ false → next_child (linked_in dir x n graph) dir low ≡ next_child graph dir low
+next_above graph dir x n low f e = next_linked graph dir x n low ∙ ap (λ (b : Bool). then_at (lesser (cond b (Some x) None) (find (is_above low) (names_of (graph.shape dir)))) ((linked_in dir x n graph).child dir)) e ∙ still graph dir x n low f
 
 -- at its place it is next
-pub next_at : (graph : Graph) (dir : ℕ) (x : Name) (n : ℕ) (low : Option Name) → IsFree graph dir x → IsAt graph dir x low → next_kid (linked_in dir x n graph) dir low ≡ Some n
-next_at graph dir x n low f at = next_linked graph dir x n low ∙ ap (λ (b : Bool). then_at (lesser (cond b (Some x) None) (find (is_above low) (names_of (graph.shape dir)))) ((linked_in dir x n graph).kid dir)) at.0 ∙ go (find (is_above low) (names_of (graph.shape dir))) at.1
+pub next_at : (graph : Graph) (dir : ℕ) (x : Name) (n : ℕ) (low : Option Name) → IsFree graph dir x → IsAt graph dir x low → next_child (linked_in dir x n graph) dir low ≡ Some n
+next_at graph dir x n low f at = next_linked graph dir x n low ∙ ap (λ (b : Bool). then_at (lesser (cond b (Some x) None) (find (is_above low) (names_of (graph.shape dir)))) ((linked_in dir x n graph).child dir)) at.0 ∙ go (find (is_above low) (names_of (graph.shape dir))) at.1
   where
-    go : (o : Option Name) → IsBefore x o → then_at (lesser (Some x) o) ((linked_in dir x n graph).kid dir) ≡ Some n
-    go None b = kid_new graph dir x n
-    go (Some y) b = ap (λ (t : Bool). then_at (cond t (Some y) (Some x)) ((linked_in dir x n graph).kid dir)) (below_found y x b) ∙ kid_new graph dir x n
+    go : (o : Option Name) → IsBefore x o → then_at (lesser (Some x) o) ((linked_in dir x n graph).child dir) ≡ Some n
+    go None b = child_new graph dir x n
+    go (Some y) b = ap (λ (t : Bool). then_at (cond t (Some y) (Some x)) ((linked_in dir x n graph).child dir)) (below_found y x b) ∙ child_new graph dir x n
 
 -- each low name is at the place of the new one, or what is next is as before
-pub next_by : (graph : Graph) (dir : ℕ) (x : Name) (n : ℕ) (low : Option Name) → IsFree graph dir x → (next_kid (linked_in dir x n graph) dir low ≡ next_kid graph dir low) ⊎ IsAt graph dir x low
+pub next_by : (graph : Graph) (dir : ℕ) (x : Name) (n : ℕ) (low : Option Name) → IsFree graph dir x → (next_child (linked_in dir x n graph) dir low ≡ next_child graph dir low) ⊎ IsAt graph dir x low
 next_by graph dir x n low f = go (is_above low x) refl
   where
-    by : (o : Option Name) → find (is_above low) (names_of (graph.shape dir)) ≡ o → is_above low x ≡ true → (next_kid (linked_in dir x n graph) dir low ≡ next_kid graph dir low) ⊎ ((is_above low x ≡ true) × IsBefore x o)
+    by : (o : Option Name) → find (is_above low) (names_of (graph.shape dir)) ≡ o → is_above low x ≡ true → (next_child (linked_in dir x n graph) dir low ≡ next_child graph dir low) ⊎ ((is_above low x ≡ true) × IsBefore x o)
     by None e g = inr (g, tt)
     by (Some y) e g = cases (compare x y)
       where
-        cases : Compared x y → (next_kid (linked_in dir x n graph) dir low ≡ next_kid graph dir low) ⊎ ((is_above low x ≡ true) × (is_above (Some x) y ≡ true))
+        cases : Compared x y → (next_child (linked_in dir x n graph) dir low ≡ next_child graph dir low) ⊎ ((is_above low x ≡ true) × (is_above (Some x) y ≡ true))
         cases (Below a b) = inr (g, ap is_lt a)
         cases (Same a) =
             let k : same_name y x ≡ false = other_name graph dir x y f (found_has low y (names_of (graph.shape dir)) e) in
@@ -101,12 +101,12 @@ next_by graph dir x n low f = go (is_above low x) refl
         cases (Above a b) =
             let lower : is_lt (name_cmp y x) ≡ true = ap is_lt b in
             inl (next_linked graph dir x n low
-            ∙ ap₂ (λ (t : Bool) (o : Option Name). then_at (lesser (cond t (Some x) None) o) ((linked_in dir x n graph).kid dir)) g e
-            ∙ ap (λ (t : Bool). then_at (cond t (Some y) (Some x)) ((linked_in dir x n graph).kid dir)) lower
-            ∙ ap (λ (o : Option Name). then_at o ((linked_in dir x n graph).kid dir)) (sym e)
+            ∙ ap₂ (λ (t : Bool) (o : Option Name). then_at (lesser (cond t (Some x) None) o) ((linked_in dir x n graph).child dir)) g e
+            ∙ ap (λ (t : Bool). then_at (cond t (Some y) (Some x)) ((linked_in dir x n graph).child dir)) lower
+            ∙ ap (λ (o : Option Name). then_at o ((linked_in dir x n graph).child dir)) (sym e)
             ∙ still graph dir x n low f)
 
-    go : (b : Bool) → is_above low x ≡ b → (next_kid (linked_in dir x n graph) dir low ≡ next_kid graph dir low) ⊎ IsAt graph dir x low
+    go : (b : Bool) → is_above low x ≡ b → (next_child (linked_in dir x n graph) dir low ≡ next_child graph dir low) ⊎ IsAt graph dir x low
     go false e = inl (next_above graph dir x n low f e)
     go true e = by (find (is_above low) (names_of (graph.shape dir))) refl e
 
@@ -147,5 +147,5 @@ low_member graph dir x None o f l = tt
 low_member graph dir x (Some y) o f l = f.has y ∙ ap is_some l.1
 
 -- what is next after the free name itself
-pub next_self : (graph : Graph) (dir : ℕ) (x : Name) (n : ℕ) (low : Option Name) → IsFree graph dir x → IsAt graph dir x low → next_kid (linked_in dir x n graph) dir (Some x) ≡ next_kid graph dir low
-next_self graph dir x n low f at = next_above graph dir x n (Some x) f (not_itself x) ∙ ap (λ (o : Option Name). then_at o (graph.kid dir)) (found_same low x (names_of (graph.shape dir)) at.0 at.1)
+pub next_self : (graph : Graph) (dir : ℕ) (x : Name) (n : ℕ) (low : Option Name) → IsFree graph dir x → IsAt graph dir x low → next_child (linked_in dir x n graph) dir (Some x) ≡ next_child graph dir low
+next_self graph dir x n low f at = next_above graph dir x n (Some x) f (not_itself x) ∙ ap (λ (o : Option Name). then_at o (graph.child dir)) (found_same low x (names_of (graph.shape dir)) at.0 at.1)

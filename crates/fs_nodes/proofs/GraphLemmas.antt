@@ -10,21 +10,21 @@ use Rattle.fs_nodes.specs.declared.node.Content.{Content}
 use Rattle.fs_nodes.specs.declared.node.Content.TheVariants as contents
 use Rattle.fs_nodes.specs.declared.node.Link.{Link}
 use Rattle.fs_nodes.specs.declared.node.Node.{Node}
-use Rattle.fs_nodes.specs.Graphs.{Graph, Kids, then_at, set_kid, set_at, linked_in, unlinked_in, moved_in, reserved_in, released_in, content_in}
-use Rattle.fs_nodes.specs.Stores.{content_of, link_of, content_at, link_at, is_link, kid_in, with_link, names_in, shape_with, shape_in, graph_in, new_shape}
+use Rattle.fs_nodes.specs.Graphs.{Graph, Children, then_at, set_child, set_at, linked_in, unlinked_in, moved_in, reserved_in, released_in, content_in}
+use Rattle.fs_nodes.specs.Stores.{content_of, link_of, content_at, link_at, is_link, child_in, with_link, names_in, shape_with, shape_in, graph_in, new_shape}
 use Rattle.fs_nodes.specs.code.Edits.{new_content, new_node}
 use Rattle.fs_nodes.proofs.NameLemmas.{removed_inserted}
-use Rattle.fs_nodes.proofs.PlaceLemmas.{eqb_true, eqb_refl, link_exact, kid_linked, kid_same, kid_push, kid_link, names_kid, names_relinked, names_same, names_push, at_set, at_push, same_set, set_back, set_twice, get_set}
+use Rattle.fs_nodes.proofs.PlaceLemmas.{eqb_true, eqb_refl, link_exact, child_linked, child_same, child_push, child_link, names_child, names_relinked, names_same, names_push, at_set, at_push, same_set, set_back, set_twice, get_set}
 use mathlib.Core.Path.{fun_ext}
 
 -- a graph by its two parts
-pub graph_by : {kid kid' : Kids} {shape shape' : ℕ → Option Shape} → ((d : ℕ) (y : Name) → kid d y ≡ kid' d y) → ((m : ℕ) → shape m ≡ shape' m) → ◌≡◌ {A = Graph} (record { kid = kid; shape = shape }) (record { kid = kid'; shape = shape' })
-graph_by e f = ap₂ (λ (k : Kids) (s : ℕ → Option Shape). record { kid = k; shape = s }) (fun_ext (λ d. fun_ext (λ y. e d y))) (fun_ext f)
+pub graph_by : {child child' : Children} {shape shape' : ℕ → Option Shape} → ((d : ℕ) (y : Name) → child d y ≡ child' d y) → ((m : ℕ) → shape m ≡ shape' m) → ◌≡◌ {A = Graph} (record { child = child; shape = shape }) (record { child = child'; shape = shape' })
+graph_by e f = ap₂ (λ (k : Children) (s : ℕ → Option Shape). record { child = k; shape = s }) (fun_ext (λ d. fun_ext (λ y. e d y))) (fun_ext f)
 
 -- a node that no entry named is named by one
-pub linked_graph : (ps : List (Option Node)) (n : ℕ) (p q : Option Node) (link : Link) → slice_get ps n ≡ Some p → link_of p ≡ None → link_of q ≡ Some link → content_of q ≡ content_of p → kid_in ps link.dir link.name ≡ None → content_at ps link.dir ≡ Some contents.Dir
+pub linked_graph : (ps : List (Option Node)) (n : ℕ) (p q : Option Node) (link : Link) → slice_get ps n ≡ Some p → link_of p ≡ None → link_of q ≡ Some link → content_of q ≡ content_of p → child_in ps link.dir link.name ≡ None → content_at ps link.dir ≡ Some contents.Dir
     → graph_in (set ps n q) ≡ linked_in link.dir link.name n (graph_in ps)
-linked_graph ps n p q link there old new same free dir = graph_by (kid_linked ps n p q link free there old new) shapes
+linked_graph ps n p q link there old new same free dir = graph_by (child_linked ps n p q link free there old new) shapes
   where
     by : (m : ℕ) (b : Bool) → eqb m link.dir ≡ b → option_map (shape_with (cond b (inserted_name link.name (names_in ps m)) (names_in ps m))) (content_at ps m) ≡ cond b (Some (Dir (inserted_name link.name (names_of (shape_in ps link.dir))))) (shape_in ps m)
     by m true e = rw (eqb_true m link.dir e, dir) refl
@@ -34,14 +34,14 @@ linked_graph ps n p q link there old new same free dir = graph_by (kid_linked ps
     shapes m = ap₂ (λ (names : List Name) (content : Option Content). option_map (shape_with names) content) (names_relinked ps n p q there old m ∙ ap (λ (l : Option Link). with_link l m (names_in ps m)) new) (same_set content_of ps n p q there same m) ∙ by m (eqb m link.dir) refl
 
 -- what was linked and is unlinked again
-pub unlinked_linked : (graph : Graph) (dir : ℕ) (x : Name) (n : ℕ) (names : List Name) → graph.kid dir x ≡ None → graph.shape dir ≡ Some (Dir names) → has_name x names ≡ false → unlinked_in dir x (linked_in dir x n graph) ≡ graph
-unlinked_linked graph dir x n names free there absent = graph_by kids shapes
+pub unlinked_linked : (graph : Graph) (dir : ℕ) (x : Name) (n : ℕ) (names : List Name) → graph.child dir x ≡ None → graph.shape dir ≡ Some (Dir names) → has_name x names ≡ false → unlinked_in dir x (linked_in dir x n graph) ≡ graph
+unlinked_linked graph dir x n names free there absent = graph_by children shapes
   where
-    kids : (d : ℕ) (y : Name) → set_kid dir x None (set_kid dir x (Some n) graph.kid) d y ≡ graph.kid d y
-    kids d y = by (is_link (Some (record { dir = dir; name = x })) d y) refl
+    children : (d : ℕ) (y : Name) → set_child dir x None (set_child dir x (Some n) graph.child) d y ≡ graph.child d y
+    children d y = by (is_link (Some (record { dir = dir; name = x })) d y) refl
       where
-        by : (b : Bool) → is_link (Some (record { dir = dir; name = x })) d y ≡ b → cond b None (cond b (Some n) (graph.kid d y)) ≡ graph.kid d y
-        by true e = let two : (d ≡ dir) × (y ≡ x) = link_exact (record { dir = dir; name = x }) d y e in sym (ap₂ graph.kid two.0 two.1 ∙ free)
+        by : (b : Bool) → is_link (Some (record { dir = dir; name = x })) d y ≡ b → cond b None (cond b (Some n) (graph.child d y)) ≡ graph.child d y
+        by true e = let two : (d ≡ dir) × (y ≡ x) = link_exact (record { dir = dir; name = x }) d y e in sym (ap₂ graph.child two.0 two.1 ∙ free)
         by false e = refl
 
     old : removed_name x (names_of (set_at dir (Some (Dir (inserted_name x (names_of (graph.shape dir))))) graph.shape dir)) ≡ names
@@ -56,13 +56,13 @@ unlinked_linked graph dir x n names free there absent = graph_by kids shapes
 
 -- each node's entry leads to it
 abbrev pub IsFound : List (Option Node) → Type 0
-IsFound ps = (n : ℕ) (link : Link) → link_at ps n ≡ Some link → kid_in ps link.dir link.name ≡ Some n
+IsFound ps = (n : ℕ) (link : Link) → link_at ps n ≡ Some link → child_in ps link.dir link.name ≡ Some n
 
 -- once a node has lost its entry, that entry is found no more
-pub gone : (ps : List (Option Node)) (n : ℕ) (p q : Option Node) (link : Link) → IsFound ps → slice_get ps n ≡ Some p → link_of p ≡ Some link → link_of q ≡ None → kid_in (set ps n q) link.dir link.name ≡ None
-gone ps n p q link found there old new = go (kid_in (set ps n q) link.dir link.name) refl
+pub gone : (ps : List (Option Node)) (n : ℕ) (p q : Option Node) (link : Link) → IsFound ps → slice_get ps n ≡ Some p → link_of p ≡ Some link → link_of q ≡ None → child_in (set ps n q) link.dir link.name ≡ None
+gone ps n p q link found there old new = go (child_in (set ps n q) link.dir link.name) refl
   where
-    own : kid_in ps link.dir link.name ≡ Some n
+    own : child_in ps link.dir link.name ≡ Some n
     own = found n link (ap (λ (o : Option (Option Node)). then_at o link_of) there ∙ old)
 
     by : (m : ℕ) (b : Bool) → eqb m n ≡ b → cond b (link_of q) (link_at ps m) ≡ Some link → ⊥
@@ -72,15 +72,15 @@ gone ps n p q link found there old new = go (kid_in (set ps n q) link.dir link.n
         let h : m ≡ n = cc in
         let k : true ≡ false = sym (eqb_refl n) ∙ ap (λ (z : ℕ). eqb z n) (sym h) ∙ e in cc
 
-    go : (o : Option ℕ) → kid_in (set ps n q) link.dir link.name ≡ o → kid_in (set ps n q) link.dir link.name ≡ None
+    go : (o : Option ℕ) → child_in (set ps n q) link.dir link.name ≡ o → child_in (set ps n q) link.dir link.name ≡ None
     go None e = e
-    go (Some m) e = absurd (by m (eqb m n) refl (sym (at_set link_of ps n q (slice_get_within ps n p there) m) ∙ kid_link (set ps n q) link.dir link.name m e))
+    go (Some m) e = absurd (by m (eqb m n) refl (sym (at_set link_of ps n q (slice_get_within ps n p there) m) ∙ child_link (set ps n q) link.dir link.name m e))
 
 -- where a node loses its entry, the graph was the new one with it
 pub unlinked_back : (ps : List (Option Node)) (n : ℕ) (p q : Option Node) (link : Link) → IsFound ps → slice_get ps n ≡ Some p → link_of p ≡ Some link → link_of q ≡ None → content_of q ≡ content_of p → content_at ps link.dir ≡ Some contents.Dir
     → graph_in ps ≡ linked_in link.dir link.name n (graph_in (set ps n q))
 unlinked_back ps n p q link found there old new same dir =
-    let free : kid_in (set ps n q) link.dir link.name ≡ None = gone ps n p q link found there old new in
+    let free : child_in (set ps n q) link.dir link.name ≡ None = gone ps n p q link found there old new in
     let dir0 : content_at (set ps n q) link.dir ≡ Some contents.Dir = same_set content_of ps n p q there same link.dir ∙ dir in
     ap graph_in (sym (set_back ps n p q there)) ∙ linked_graph (set ps n q) n q p link (get_set ps n p q there) new old (sym same) free dir0
 
@@ -88,23 +88,23 @@ unlinked_back ps n p q link found there old new same dir =
 pub unlinked_graph : (ps : List (Option Node)) (n : ℕ) (p q : Option Node) (link : Link) → IsFound ps → slice_get ps n ≡ Some p → link_of p ≡ Some link → link_of q ≡ None → content_of q ≡ content_of p → content_at ps link.dir ≡ Some contents.Dir
     → graph_in (set ps n q) ≡ unlinked_in link.dir link.name (graph_in ps)
 unlinked_graph ps n p q link found there old new same dir =
-    let free : kid_in (set ps n q) link.dir link.name ≡ None = gone ps n p q link found there old new in
+    let free : child_in (set ps n q) link.dir link.name ≡ None = gone ps n p q link found there old new in
     let dir0 : content_at (set ps n q) link.dir ≡ Some contents.Dir = same_set content_of ps n p q there same link.dir ∙ dir in
-    let absent : has_name link.name (names_in (set ps n q) link.dir) ≡ false = names_kid (set ps n q) link.dir link.name ∙ ap is_some free in
+    let absent : has_name link.name (names_in (set ps n q) link.dir) ≡ false = names_child (set ps n q) link.dir link.name ∙ ap is_some free in
     let back : graph_in ps ≡ linked_in link.dir link.name n (graph_in (set ps n q)) = ap graph_in (sym (set_back ps n p q there)) ∙ linked_graph (set ps n q) n q p link (get_set ps n p q there) new old (sym same) free dir0 in
     sym (ap (unlinked_in link.dir link.name) back ∙ unlinked_linked (graph_in (set ps n q)) link.dir link.name n (names_in (set ps n q) link.dir) free (ap (option_map (shape_with (names_in (set ps n q) link.dir))) dir0) absent)
 
 -- an entry that is free stays so when another one goes
-pub free_still : (ps : List (Option Node)) (n : ℕ) (p q : Option Node) (link new : Link) → IsFound ps → slice_get ps n ≡ Some p → link_of p ≡ Some link → link_of q ≡ None → content_of q ≡ content_of p → content_at ps link.dir ≡ Some contents.Dir → kid_in ps new.dir new.name ≡ None → kid_in (set ps n q) new.dir new.name ≡ None
-free_still ps n p q link new found there old none same dir free = ap (λ (g : Graph). g.kid new.dir new.name) (unlinked_graph ps n p q link found there old none same dir) ∙ go (is_link (Some link) new.dir new.name)
+pub free_still : (ps : List (Option Node)) (n : ℕ) (p q : Option Node) (link new : Link) → IsFound ps → slice_get ps n ≡ Some p → link_of p ≡ Some link → link_of q ≡ None → content_of q ≡ content_of p → content_at ps link.dir ≡ Some contents.Dir → child_in ps new.dir new.name ≡ None → child_in (set ps n q) new.dir new.name ≡ None
+free_still ps n p q link new found there old none same dir free = ap (λ (g : Graph). g.child new.dir new.name) (unlinked_graph ps n p q link found there old none same dir) ∙ go (is_link (Some link) new.dir new.name)
   where
-    go : (b : Bool) → cond b None (kid_in ps new.dir new.name) ≡ None
+    go : (b : Bool) → cond b None (child_in ps new.dir new.name) ≡ None
     go true = refl
     go false = free
 
 -- a node goes from one entry to another
 pub moved_graph : (ps : List (Option Node)) (n : ℕ) (p q r : Option Node) (link new : Link) → IsFound ps → slice_get ps n ≡ Some p → link_of p ≡ Some link → link_of q ≡ None → content_of q ≡ content_of p → link_of r ≡ Some new → content_of r ≡ content_of p
-    → content_at ps link.dir ≡ Some contents.Dir → content_at ps new.dir ≡ Some contents.Dir → kid_in ps new.dir new.name ≡ None
+    → content_at ps link.dir ≡ Some contents.Dir → content_at ps new.dir ≡ Some contents.Dir → child_in ps new.dir new.name ≡ None
     → graph_in (set ps n r) ≡ moved_in link.dir link.name new.dir new.name n (graph_in ps)
 moved_graph ps n p q r link new found there old none same to same' dir dir' free =
     ap graph_in (sym (set_twice ps n r q))
@@ -118,7 +118,7 @@ new_is kinds.File names e = refl
 
 -- a number with a free place comes into use
 pub reserved_graph : (ps : List (Option Node)) (n : ℕ) (kind : Kind) → slice_get ps n ≡ Some None → names_in ps n ≡ [] → graph_in (set ps n (Some (new_node kind))) ≡ reserved_in n (new_shape kind) (graph_in ps)
-reserved_graph ps n kind there empty = graph_by (kid_same ps n None (Some (new_node kind)) there refl) shapes
+reserved_graph ps n kind there empty = graph_by (child_same ps n None (Some (new_node kind)) there refl) shapes
   where
     by : (m : ℕ) (b : Bool) → eqb m n ≡ b → option_map (shape_with (names_in ps m)) (cond b (Some (new_content kind)) (content_at ps m)) ≡ cond b (Some (new_shape kind)) (shape_in ps m)
     by m true e = ap (λ (s : Shape). Some s) (new_is kind (names_in ps m) (ap (names_in ps) (eqb_true m n e) ∙ empty))
@@ -129,7 +129,7 @@ reserved_graph ps n kind there empty = graph_by (kid_same ps n None (Some (new_n
 
 -- the number after the last place comes into use
 pub pushed_graph : (ps : List (Option Node)) (kind : Kind) → names_in ps (length ps) ≡ [] → graph_in (ps ++ Some (new_node kind) ∷ []) ≡ reserved_in (length ps) (new_shape kind) (graph_in ps)
-pushed_graph ps kind empty = graph_by (kid_push ps (Some (new_node kind)) refl) shapes
+pushed_graph ps kind empty = graph_by (child_push ps (Some (new_node kind)) refl) shapes
   where
     by : (m : ℕ) (b : Bool) → eqb m (length ps) ≡ b → option_map (shape_with (names_in ps m)) (cond b (Some (new_content kind)) (content_at ps m)) ≡ cond b (Some (new_shape kind)) (shape_in ps m)
     by m true e = ap (λ (s : Shape). Some s) (new_is kind (names_in ps m) (ap (names_in ps) (eqb_true m (length ps) e) ∙ empty))
@@ -140,7 +140,7 @@ pushed_graph ps kind empty = graph_by (kid_push ps (Some (new_node kind)) refl) 
 
 -- a number leaves use
 pub released_graph : (ps : List (Option Node)) (n : ℕ) (p : Option Node) → slice_get ps n ≡ Some p → link_of p ≡ None → graph_in (set ps n None) ≡ released_in n (graph_in ps)
-released_graph ps n p there old = graph_by (kid_same ps n p None there (sym old)) shapes
+released_graph ps n p there old = graph_by (child_same ps n p None there (sym old)) shapes
   where
     by : (m : ℕ) (b : Bool) → eqb m n ≡ b → option_map (shape_with (names_in ps m)) (cond b None (content_at ps m)) ≡ cond b None (shape_in ps m)
     by m true e = refl
@@ -151,7 +151,7 @@ released_graph ps n p there old = graph_by (kid_same ps n p None there (sym old)
 
 -- a file's bytes change
 pub refilled_graph : (ps : List (Option Node)) (n : ℕ) (p q : Option Node) (bytes : List ℕ) → slice_get ps n ≡ Some p → link_of q ≡ link_of p → content_of q ≡ Some (contents.File bytes) → graph_in (set ps n q) ≡ content_in n bytes (graph_in ps)
-refilled_graph ps n p q bytes there same new = graph_by (kid_same ps n p q there same) shapes
+refilled_graph ps n p q bytes there same new = graph_by (child_same ps n p q there same) shapes
   where
     by : (m : ℕ) (b : Bool) → eqb m n ≡ b → option_map (shape_with (names_in ps m)) (cond b (Some (contents.File bytes)) (content_at ps m)) ≡ cond b (Some (File bytes)) (shape_in ps m)
     by m true e = refl

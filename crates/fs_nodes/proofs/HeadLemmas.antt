@@ -7,18 +7,18 @@ use Rattle.fs_names.proofs.Lemmas.{name_total}
 use Rattle.fs_nodes.specs.code.Heads.{first, rest, byte_at, number_with, AreBytes, IsHead}
 
 -- how two numbers stand to each other
-data Stand (x y : ℕ) : Type 0 where
-  Lesser : x < y → Stand x y
-  Alike : x ≡ y → Stand x y
-  Larger : y < x → Stand x y
+data Holdings (x y : ℕ) : Type 0 where
+  Lesser : x < y → Holdings x y
+  Alike : x ≡ y → Holdings x y
+  Larger : y < x → Holdings x y
 
-stand : (x y : ℕ) → Stand x y
-stand zero zero = Alike refl
-stand zero (suc y) = Lesser (omega arith)
-stand (suc x) zero = Larger (omega arith)
-stand (suc x) (suc y) = go (stand x y)
+holdings : (x y : ℕ) → Holdings x y
+holdings zero zero = Alike refl
+holdings zero (suc y) = Lesser (omega arith)
+holdings (suc x) zero = Larger (omega arith)
+holdings (suc x) (suc y) = go (holdings x y)
   where
-    go : Stand x y → Stand (suc x) (suc y)
+    go : Holdings x y → Holdings (suc x) (suc y)
     go (Lesser h) = Lesser (omega arith)
     go (Alike h) = Alike (ap suc h)
     go (Larger h) = Larger (omega arith)
@@ -39,9 +39,9 @@ lesser zero a xs ys r h = absurd (omega arith)
 lesser (suc k) a [] [] r h = absurd (omega arith)
 lesser (suc k) a [] (y ∷ ys) r h = refl
 lesser (suc k) a (x ∷ xs) [] r h = absurd (let g : number_with (a * 256 + 0) k [] ≤ number_with (a * 256 + x) k xs = no_more k (a * 256 + 0) (a * 256 + x) xs (omega arith) in omega arith)
-lesser (suc k) a (x ∷ xs) (y ∷ ys) r h = go (stand x y) (λ i. lesser k (a * 256 + y) xs ys r.1 i)
+lesser (suc k) a (x ∷ xs) (y ∷ ys) r h = go (holdings x y) (λ i. lesser k (a * 256 + y) xs ys r.1 i)
   where
-    go : Stand x y → (number_with (a * 256 + y) k xs < number_with (a * 256 + y) k ys → name_cmp xs ys ≡ Less) → name_cmp (x ∷ xs) (y ∷ ys) ≡ Less
+    go : Holdings x y → (number_with (a * 256 + y) k xs < number_with (a * 256 + y) k ys → name_cmp xs ys ≡ Less) → name_cmp (x ∷ xs) (y ∷ ys) ≡ Less
     go (Lesser g) more = ap (λ (o : Ordering). ordering_then o (name_cmp xs ys)) (sym (nat_cmp_is x y Less g))
     go (Alike g) more =
         let i : number_with (a * 256 + y) k xs < number_with (a * 256 + y) k ys = subst (λ (z : ℕ). number_with (a * 256 + z) k xs < number_with (a * 256 + y) k ys) g h in

@@ -11,13 +11,13 @@ use Rattle.fs_nodes.specs.declared.node.Link.{Link}
 use Rattle.fs_nodes.specs.declared.node.Node.{Node}
 use Rattle.fs_nodes.specs.declared.place.Place.{Place}
 use Rattle.fs_nodes.specs.Graphs.{Graph, then_at, linked_in}
-use Rattle.fs_nodes.specs.Stores.{content_of, link_of, link_at, kid_in, names_in, shape_with, graph_in, is_above, IsUnlinked, IsStore}
+use Rattle.fs_nodes.specs.Stores.{content_of, link_of, link_at, child_in, names_in, shape_with, graph_in, is_above, IsUnlinked, IsStore}
 use Rattle.fs_nodes.specs.code.Edits.{relinked}
 use Rattle.fs_nodes.proofs.EditLemmas.{Makes, link_makes}
-use Rattle.fs_nodes.specs.code.Linked.{link_with, plain_with, plain, plains, graph_of_places, next_kid, IsPrev, IsLow, IsAt, IsGap, IsBeside, IsIndexed, IsPlaces, edited, with_first, with_next, with_prev, with_entries, entered, led, followed, put_between}
-use Rattle.fs_nodes.proofs.PlaceLemmas.{eqb_true, eqb_refl, kid_link}
-use Rattle.fs_nodes.proofs.StepLemmas.{dir_ascends, dir_has, link_of_place, next_kid_name}
-use Rattle.fs_nodes.proofs.GapLemmas.{IsFree, IsMember, count_linked, kid_new, kid_there, next_other, next_at, next_by, next_self, at_one, low_member}
+use Rattle.fs_nodes.specs.code.Linked.{link_with, plain_with, plain, plains, graph_of_places, next_child, IsPrev, IsLow, IsAt, IsGap, IsBeside, IsIndexed, IsPlaces, edited, with_first, with_next, with_prev, with_entries, entered, led, followed, put_between}
+use Rattle.fs_nodes.proofs.PlaceLemmas.{eqb_true, eqb_refl, child_link}
+use Rattle.fs_nodes.proofs.StepLemmas.{dir_ascends, dir_has, link_of_place, next_child_name}
+use Rattle.fs_nodes.proofs.GapLemmas.{IsFree, IsMember, count_linked, child_new, child_there, next_other, next_at, next_by, next_self, at_one, low_member}
 
 -- a place that is read after an edit
 pub get_edited : (n : ℕ) (f : Place → Place) (ps : List Place) (m : ℕ) → slice_get (edited n f ps) m ≡ option_map (λ p. cond (eqb m n) (f p) p) (slice_get ps m)
@@ -129,7 +129,7 @@ place_before dir n x prev next ps m q e = go (slice_get ps m) refl (sym (get_put
     go (Some p) f g = let h : put_place dir n x prev next m p ≡ q = cc in (p, f, sym h)
 
 -- a directory in which a name is free
-pub free_in_dir : (ps : List Place) (dir : ℕ) (x : Name) → IsPlaces ps → (graph_of_places ps).kid dir x ≡ None → IsFree (graph_of_places ps) dir x
+pub free_in_dir : (ps : List Place) (dir : ℕ) (x : Name) → IsPlaces ps → (graph_of_places ps).child dir x ≡ None → IsFree (graph_of_places ps) dir x
 free_in_dir ps dir x places e = record {
   ascends = dir_ascends ps dir places;
   has = λ y. dir_has ps dir y places;
@@ -137,9 +137,9 @@ free_in_dir ps dir x places e = record {
 }
 
 -- the entry of a node stands in its own directory under its own name
-pub one_entry : (ps : List Place) (m : ℕ) (link : Link) (d : ℕ) (y : Name) → link_at (plains ps) m ≡ Some link → kid_in (plains ps) d y ≡ Some m → (d ≡ link.dir) × (y ≡ link.name)
+pub one_entry : (ps : List Place) (m : ℕ) (link : Link) (d : ℕ) (y : Name) → link_at (plains ps) m ≡ Some link → child_in (plains ps) d y ≡ Some m → (d ≡ link.dir) × (y ≡ link.name)
 one_entry ps m link d y e f =
-    let h : Some (record { dir = d; name = y }) ≡ Some link = sym (kid_link (plains ps) d y m f) ∙ e in
+    let h : Some (record { dir = d; name = y }) ≡ Some link = sym (child_link (plains ps) d y m f) ∙ e in
     let k : ◌≡◌ {A = Link} (record { dir = d; name = y }) link = cc in
     (ap (λ (l : Link). l.dir) k, ap (λ (l : Link). l.name) k)
 
@@ -157,21 +157,21 @@ pub at_refl : (o : Option ℕ) (m : ℕ) → o ≡ Some m → is_at o m ≡ true
 at_refl o m e = ap (λ (z : Option ℕ). is_at z m) e ∙ eqb_refl m
 
 -- two names of one directory that lead to one node
-pub kid_name : (ps : List Place) (d : ℕ) (y z : Name) (m : ℕ) → kid_in (plains ps) d y ≡ Some m → kid_in (plains ps) d z ≡ Some m → z ≡ y
-kid_name ps d y z m e f =
-    let h : ◌≡◌ {A = Option Link} (Some (record { dir = d; name = z })) (Some (record { dir = d; name = y })) = sym (kid_link (plains ps) d z m f) ∙ kid_link (plains ps) d y m e in
+pub child_name : (ps : List Place) (d : ℕ) (y z : Name) (m : ℕ) → child_in (plains ps) d y ≡ Some m → child_in (plains ps) d z ≡ Some m → z ≡ y
+child_name ps d y z m e f =
+    let h : ◌≡◌ {A = Option Link} (Some (record { dir = d; name = z })) (Some (record { dir = d; name = y })) = sym (child_link (plains ps) d z m f) ∙ child_link (plains ps) d y m e in
     let k : ◌≡◌ {A = Link} (record { dir = d; name = z }) (record { dir = d; name = y }) = cc in
     ap (λ (l : Link). l.name) k
 
 -- the number of a low name
-pub low_kid : (graph : Graph) (dir : ℕ) (low : Option Name) (y : Name) (o : Option ℕ) (m : ℕ) → IsLow graph dir low o → low ≡ Some y → graph.kid dir y ≡ Some m → o ≡ Some m
-low_kid graph dir None y o m l e k = let w : ◌≡◌ {A = Option Name} None (Some y) = e in absurd (cc)
-low_kid graph dir (Some z) y o m l e k = let h : z ≡ y = cc in l.2 ∙ sym l.1 ∙ ap (graph.kid dir) h ∙ k
+pub low_child : (graph : Graph) (dir : ℕ) (low : Option Name) (y : Name) (o : Option ℕ) (m : ℕ) → IsLow graph dir low o → low ≡ Some y → graph.child dir y ≡ Some m → o ≡ Some m
+low_child graph dir None y o m l e k = let w : ◌≡◌ {A = Option Name} None (Some y) = e in absurd (cc)
+low_child graph dir (Some z) y o m l e k = let h : z ≡ y = cc in l.2 ∙ sym l.1 ∙ ap (graph.child dir) h ∙ k
 
 -- and its name
-pub kid_low : (graph : Graph) (dir : ℕ) (low : Option Name) (o : Option ℕ) (m : ℕ) → IsLow graph dir low o → o ≡ Some m → (y : Name) × (low ≡ Some y) × (graph.kid dir y ≡ Some m)
-kid_low graph dir None o m l e = let w : ◌≡◌ {A = Option ℕ} None (Some m) = sym l ∙ e in absurd (cc)
-kid_low graph dir (Some z) o m l e = (z, refl, l.1 ∙ (let w : Some l.0 ≡ Some m = sym l.2 ∙ e in w))
+pub child_low : (graph : Graph) (dir : ℕ) (low : Option Name) (o : Option ℕ) (m : ℕ) → IsLow graph dir low o → o ≡ Some m → (y : Name) × (low ≡ Some y) × (graph.child dir y ≡ Some m)
+child_low graph dir None o m l e = let w : ◌≡◌ {A = Option ℕ} None (Some m) = sym l ∙ e in absurd (cc)
+child_low graph dir (Some z) o m l e = (z, refl, l.1 ∙ (let w : Some l.0 ≡ Some m = sym l.2 ∙ e in w))
 
 -- what is true is not false
 pub true_false : true ≡ false → ⊥
@@ -180,10 +180,10 @@ true_false e = cc
 -- another directory's siblings are as before
 pub prev_other : (graph : Graph) (dir d : ℕ) (x : Name) (n m : ℕ) (o : Option ℕ) → eqb d dir ≡ false → IsPrev graph d m o → IsPrev (linked_in dir x n graph) d m o
 prev_other graph dir d x n m None e h = next_other graph dir d x n None e ∙ h
-prev_other graph dir d x n m (Some k) e h = (h.0, ap (λ (b : Bool). cond (b && same_name h.0 x) (Some n) (graph.kid d h.0)) e ∙ h.1, next_other graph dir d x n (Some h.0) e ∙ h.2)
+prev_other graph dir d x n m (Some k) e h = (h.0, ap (λ (b : Bool). cond (b && same_name h.0 x) (Some n) (graph.child d h.0)) e ∙ h.1, next_other graph dir d x n (Some h.0) e ∙ h.2)
 
 -- the ways of the places where a node came between two siblings
-pub put_indexed : (ps : List Place) (dir n : ℕ) (x : Name) (prev next : Option ℕ) (content : Content) (m : ℕ) (q : Place) → IsPlaces ps → (graph_of_places ps).kid dir x ≡ None → IsGap (graph_of_places ps) dir x prev next
+pub put_indexed : (ps : List Place) (dir n : ℕ) (x : Name) (prev next : Option ℕ) (content : Content) (m : ℕ) (q : Place) → IsPlaces ps → (graph_of_places ps).child dir x ≡ None → IsGap (graph_of_places ps) dir x prev next
     → ((p : Place) → slice_get ps n ≡ Some p → p.content ≡ Some content) → slice_get (put_between dir n x prev next ps) m ≡ Some q → IsIndexed (linked_in dir x n (graph_of_places ps)) m q
 put_indexed ps dir n x prev next content m q places free gap used there =
     let r : (p : Place) × (slice_get ps m ≡ Some p) × (q ≡ put_place dir n x prev next m p) = place_before dir n x prev next ps m q there in
@@ -212,73 +212,73 @@ put_indexed ps dir n x prev next content m q places free gap used there =
         ap (λ (z : ℕ). z + 1) k ∙ sym (count_linked G dir x n f) ∙ ap (λ (z : ℕ). length (names_of ((linked_in dir x n G).shape z))) (sym h)
     entries p e false g = (places.each m p e).entries ∙ ap (λ (t : Bool). length (names_of (cond t (Some (Dir (inserted_name x (names_of (G.shape dir))))) (G.shape m)))) (sym g)
 
-    lead : (p : Place) → slice_get ps m ≡ Some p → m ≡ dir → (low : Option Name) → IsLow G dir low prev → IsAt G dir x low → cond (is_none prev) (Some n) p.first ≡ next_kid (linked_in dir x n G) dir None
+    lead : (p : Place) → slice_get ps m ≡ Some p → m ≡ dir → (low : Option Name) → IsLow G dir low prev → IsAt G dir x low → cond (is_none prev) (Some n) p.first ≡ next_child (linked_in dir x n G) dir None
     lead p e h None l at = ap (λ (o : Option ℕ). cond (is_none o) (Some n) p.first) l ∙ sym (next_at G dir x n None f at)
-    lead p e h (Some y) l at = ap (λ (o : Option ℕ). cond (is_none o) (Some n) p.first) l.2 ∙ (places.each m p e).first ∙ ap (λ (z : ℕ). next_kid G z None) h ∙ by (next_by G dir x n None f)
+    lead p e h (Some y) l at = ap (λ (o : Option ℕ). cond (is_none o) (Some n) p.first) l.2 ∙ (places.each m p e).first ∙ ap (λ (z : ℕ). next_child G z None) h ∙ by (next_by G dir x n None f)
       where
-        by : (next_kid (linked_in dir x n G) dir None ≡ next_kid G dir None) ⊎ IsAt G dir x None → next_kid G dir None ≡ next_kid (linked_in dir x n G) dir None
+        by : (next_child (linked_in dir x n G) dir None ≡ next_child G dir None) ⊎ IsAt G dir x None → next_child G dir None ≡ next_child (linked_in dir x n G) dir None
         by (inl k) = sym k
         by (inr k) = let w : ◌≡◌ {A = Option Name} None (Some y) = at_one G dir x None (Some y) f tt (low_member G dir x (Some y) prev f l) k at in absurd (cc)
 
-    first : (p : Place) → slice_get ps m ≡ Some p → (b : Bool) → eqb m dir ≡ b → cond (b && is_none prev) (Some n) p.first ≡ next_kid (linked_in dir x n G) m None
-    first p e true g = let h : m ≡ dir = eqb_true m dir g in lead p e h gap.low gap.is_low gap.at ∙ ap (λ (z : ℕ). next_kid (linked_in dir x n G) z None) (sym h)
+    first : (p : Place) → slice_get ps m ≡ Some p → (b : Bool) → eqb m dir ≡ b → cond (b && is_none prev) (Some n) p.first ≡ next_child (linked_in dir x n G) m None
+    first p e true g = let h : m ≡ dir = eqb_true m dir g in lead p e h gap.low gap.is_low gap.at ∙ ap (λ (z : ℕ). next_child (linked_in dir x n G) z None) (sym h)
     first p e false g = (places.each m p e).first ∙ sym (next_other G dir m x n None g)
 
     -- the sibling before the new entry
     own : (low : Option Name) → (o : Option ℕ) → IsLow G dir low o → IsAt G dir x low → IsPrev (linked_in dir x n G) dir n o
     own None o l at = subst (IsPrev (linked_in dir x n G) dir n) (sym l) (next_at G dir x n None f at)
-    own (Some y) o l at = subst (IsPrev (linked_in dir x n G) dir n) (sym l.2) (y, kid_there G dir x y n l.0 f l.1, next_at G dir x n (Some y) f at)
+    own (Some y) o l at = subst (IsPrev (linked_in dir x n G) dir n) (sym l.2) (y, child_there G dir x y n l.0 f l.1, next_at G dir x n (Some y) f at)
 
     -- what a sibling says of the next one
-    after : (p : Place) (y : Name) → kid_in (plains ps) dir y ≡ Some m → p.next ≡ next_kid G dir (Some y) → (b : Bool) → is_at prev m ≡ b → cond b (Some n) p.next ≡ next_kid (linked_in dir x n G) dir (Some y)
+    after : (p : Place) (y : Name) → child_in (plains ps) dir y ≡ Some m → p.next ≡ next_child G dir (Some y) → (b : Bool) → is_at prev m ≡ b → cond b (Some n) p.next ≡ next_child (linked_in dir x n G) dir (Some y)
     after p y k old true g =
-        let r : (z : Name) × (gap.low ≡ Some z) × (G.kid dir z ≡ Some m) = kid_low G dir gap.low prev m gap.is_low (at_true prev m g) in
-        let low : gap.low ≡ Some y = r.1 ∙ ap (λ (t : Name). Some t) (kid_name ps dir y r.0 m k r.2) in
+        let r : (z : Name) × (gap.low ≡ Some z) × (G.child dir z ≡ Some m) = child_low G dir gap.low prev m gap.is_low (at_true prev m g) in
+        let low : gap.low ≡ Some y = r.1 ∙ ap (λ (t : Name). Some t) (child_name ps dir y r.0 m k r.2) in
         sym (next_at G dir x n (Some y) f (subst (IsAt G dir x) low gap.at))
     after p y k old false g = old ∙ by (next_by G dir x n (Some y) f)
       where
-        by : (next_kid (linked_in dir x n G) dir (Some y) ≡ next_kid G dir (Some y)) ⊎ IsAt G dir x (Some y) → next_kid G dir (Some y) ≡ next_kid (linked_in dir x n G) dir (Some y)
+        by : (next_child (linked_in dir x n G) dir (Some y) ≡ next_child G dir (Some y)) ⊎ IsAt G dir x (Some y) → next_child G dir (Some y) ≡ next_child (linked_in dir x n G) dir (Some y)
         by (inl h) = sym h
         by (inr h) =
             let low : gap.low ≡ Some y = at_one G dir x gap.low (Some y) f member (f.has y ∙ ap is_some k) gap.at h in
-            absurd (true_false (sym (at_refl prev m (low_kid G dir gap.low y prev m gap.is_low low k)) ∙ g))
+            absurd (true_false (sym (at_refl prev m (low_child G dir gap.low y prev m gap.is_low low k)) ∙ g))
 
     -- the place of the new name is not before a sibling that is not next
-    not_here : (low : Option Name) → IsMember G dir low → IsAt G dir x low → next_kid G dir low ≡ Some m → is_at next m ≡ false → ⊥
+    not_here : (low : Option Name) → IsMember G dir low → IsAt G dir x low → next_child G dir low ≡ Some m → is_at next m ≡ false → ⊥
     not_here low in_dir at h g =
         let e : gap.low ≡ low = at_one G dir x gap.low low f member in_dir gap.at at in
-        true_false (sym (at_refl next m (gap.next_is ∙ ap (next_kid G dir) e ∙ h)) ∙ g)
+        true_false (sym (at_refl next m (gap.next_is ∙ ap (next_child G dir) e ∙ h)) ∙ g)
 
     -- what a sibling says of the one before it
     before : (o : Option ℕ) → IsPrev G dir m o → (b : Bool) → is_at next m ≡ b → IsPrev (linked_in dir x n G) dir m (cond b (Some n) o)
-    before o h true g = (x, kid_new G dir x n, next_self G dir x n gap.low f gap.at ∙ sym gap.next_is ∙ at_true next m g)
+    before o h true g = (x, child_new G dir x n, next_self G dir x n gap.low f gap.at ∙ sym gap.next_is ∙ at_true next m g)
     before None h false g = by (next_by G dir x n None f)
       where
-        by : (next_kid (linked_in dir x n G) dir None ≡ next_kid G dir None) ⊎ IsAt G dir x None → next_kid (linked_in dir x n G) dir None ≡ Some m
+        by : (next_child (linked_in dir x n G) dir None ≡ next_child G dir None) ⊎ IsAt G dir x None → next_child (linked_in dir x n G) dir None ≡ Some m
         by (inl k) = k ∙ h
         by (inr k) = absurd (not_here None tt k h g)
-    before (Some o) h false g = (h.0, kid_there G dir x h.0 n o f h.1, by (next_by G dir x n (Some h.0) f))
+    before (Some o) h false g = (h.0, child_there G dir x h.0 n o f h.1, by (next_by G dir x n (Some h.0) f))
       where
-        by : (next_kid (linked_in dir x n G) dir (Some h.0) ≡ next_kid G dir (Some h.0)) ⊎ IsAt G dir x (Some h.0) → next_kid (linked_in dir x n G) dir (Some h.0) ≡ Some m
+        by : (next_child (linked_in dir x n G) dir (Some h.0) ≡ next_child G dir (Some h.0)) ⊎ IsAt G dir x (Some h.0) → next_child (linked_in dir x n G) dir (Some h.0) ≡ Some m
         by (inl k) = k ∙ h.2
         by (inr k) = absurd (not_here (Some h.0) (f.has h.0 ∙ ap is_some h.1) k h.2 g)
 
     -- a place of another directory is not beside the new entry
-    not_beside : (link : Link) → link_at (plains ps) m ≡ Some link → eqb link.dir dir ≡ false → (y : Name) → G.kid dir y ≡ Some m → ⊥
+    not_beside : (link : Link) → link_at (plains ps) m ≡ Some link → eqb link.dir dir ≡ false → (y : Name) → G.child dir y ≡ Some m → ⊥
     not_beside link k h y e =
         let d : dir ≡ link.dir = (one_entry ps m link dir y k e).0 in
         true_false (sym (ap (λ (z : ℕ). eqb z dir) (sym d) ∙ eqb_refl dir) ∙ h)
 
     far_prev : (link : Link) → link_at (plains ps) m ≡ Some link → eqb link.dir dir ≡ false → is_at prev m ≡ false
-    far_prev link k h = eqb_false (is_at prev m) (λ e. far (kid_low G dir gap.low prev m gap.is_low (at_true prev m e)))
+    far_prev link k h = eqb_false (is_at prev m) (λ e. far (child_low G dir gap.low prev m gap.is_low (at_true prev m e)))
       where
-        far : (y : Name) × (gap.low ≡ Some y) × (G.kid dir y ≡ Some m) → ⊥
+        far : (y : Name) × (gap.low ≡ Some y) × (G.child dir y ≡ Some m) → ⊥
         far r = not_beside link k h r.0 r.2
 
     far_next : (link : Link) → link_at (plains ps) m ≡ Some link → eqb link.dir dir ≡ false → is_at next m ≡ false
-    far_next link k h = eqb_false (is_at next m) (λ e. far (next_kid_name G dir gap.low m (sym gap.next_is ∙ at_true next m e)))
+    far_next link k h = eqb_false (is_at next m) (λ e. far (next_child_name G dir gap.low m (sym gap.next_is ∙ at_true next m e)))
       where
-        far : (y : Name) × (find (is_above gap.low) (names_of (G.shape dir)) ≡ Some y) × (G.kid dir y ≡ Some m) → ⊥
+        far : (y : Name) × (find (is_above gap.low) (names_of (G.shape dir)) ≡ Some y) × (G.child dir y ≡ Some m) → ⊥
         far r = not_beside link k h r.0 r.2
 
     others : (p : Place) → slice_get ps m ≡ Some p → (l : Option Link) → link_of (plain p) ≡ l → IsBeside G m p.next p.prev l → IsBeside (linked_in dir x n G) m (cond (is_at prev m) (Some n) p.next) (cond (is_at next m) (Some n) p.prev) l
@@ -291,14 +291,14 @@ put_indexed ps dir n x prev next content m q places free gap used there =
         by : (t : Bool) → eqb link.dir dir ≡ t → IsBeside (linked_in dir x n G) m (cond (is_at prev m) (Some n) p.next) (cond (is_at next m) (Some n) p.prev) (Some link)
         by true h =
             let d : link.dir ≡ dir = eqb_true link.dir dir h in
-            let kid : G.kid dir link.name ≡ Some m = ap (λ (z : ℕ). G.kid z link.name) (sym d) ∙ places.store.found m link here in
-            let old : p.next ≡ next_kid G dir (Some link.name) = b.0 ∙ ap (λ (z : ℕ). next_kid G z (Some link.name)) d in
+            let child : G.child dir link.name ≡ Some m = ap (λ (z : ℕ). G.child z link.name) (sym d) ∙ places.store.found m link here in
+            let old : p.next ≡ next_child G dir (Some link.name) = b.0 ∙ ap (λ (z : ℕ). next_child G z (Some link.name)) d in
             subst (λ (z : ℕ). IsBeside (linked_in dir x n G) m (cond (is_at prev m) (Some n) p.next) (cond (is_at next m) (Some n) p.prev) (Some (record { dir = z; name = link.name }))) (sym d)
-            (after p link.name kid old (is_at prev m) refl, before p.prev (subst (λ (z : ℕ). IsPrev G z m p.prev) d b.1) (is_at next m) refl)
+            (after p link.name child old (is_at prev m) refl, before p.prev (subst (λ (z : ℕ). IsPrev G z m p.prev) d b.1) (is_at next m) refl)
         by false h =
             let s : is_at prev m ≡ false = far_prev link here h in
             let t : is_at next m ≡ false = far_next link here h in (
-              subst (λ (z : Bool). cond z (Some n) p.next ≡ next_kid (linked_in dir x n G) link.dir (Some link.name)) (sym s) (b.0 ∙ sym (next_other G dir link.dir x n (Some link.name) h)),
+              subst (λ (z : Bool). cond z (Some n) p.next ≡ next_child (linked_in dir x n G) link.dir (Some link.name)) (sym s) (b.0 ∙ sym (next_other G dir link.dir x n (Some link.name) h)),
               subst (λ (z : Bool). IsPrev (linked_in dir x n G) link.dir m (cond z (Some n) p.prev)) (sym t) (prev_other G dir link.dir x n m p.prev h b.1),
             )
 
@@ -353,7 +353,7 @@ used_content ps n p e h = go p.content (subst (λ (o : Option (Option Node)). Is
     go (Some content) k = (content, refl)
 
 -- a node comes between two siblings: the graph that this makes, and that the places stay those of a store
-pub put_makes : (ps : List Place) (dir n : ℕ) (x : Name) (prev next : Option ℕ) (p : Place) → IsPlaces ps → slice_get ps n ≡ Some p → IsTrue (is_dir ((graph_of_places ps).shape dir)) → (graph_of_places ps).kid dir x ≡ None → IsTrue (is_there ((graph_of_places ps).shape n)) → IsUnlinked (graph_of_places ps).kid n → (n ≡ 0 → ⊥) → IsGap (graph_of_places ps) dir x prev next
+pub put_makes : (ps : List Place) (dir n : ℕ) (x : Name) (prev next : Option ℕ) (p : Place) → IsPlaces ps → slice_get ps n ≡ Some p → IsTrue (is_dir ((graph_of_places ps).shape dir)) → (graph_of_places ps).child dir x ≡ None → IsTrue (is_there ((graph_of_places ps).shape n)) → IsUnlinked (graph_of_places ps).child n → (n ≡ 0 → ⊥) → IsGap (graph_of_places ps) dir x prev next
     → (graph_of_places (put_between dir n x prev next ps) ≡ linked_in dir x n (graph_of_places ps)) × IsPlaces (put_between dir n x prev next ps)
 put_makes ps dir n x prev next p places e is_dir free used unlinked other gap =
     let q : Option Node = relinked (plain p) (Some (record { dir = dir; name = x })) in

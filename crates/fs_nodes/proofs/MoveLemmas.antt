@@ -10,17 +10,17 @@ use Rattle.fs_nodes.specs.Seen.{Seen}
 use Rattle.fs_nodes.specs.Stores.{IsUnlinked}
 use Rattle.fs_nodes.specs.code.Linked.{graph_of_places, IsPlaces}
 use Rattle.fs_nodes.proofs.PlaceLemmas.{eqb_refl}
-use Rattle.fs_nodes.proofs.EntryLemmas.{one_name, root_unlinked, kid_used}
+use Rattle.fs_nodes.proofs.EntryLemmas.{one_name, root_unlinked, child_used}
 
 -- what holds of the graph in between
 pub record IsBetween (graph : Graph) (to n : ℕ) (y : Name) : Type 0 where
   pub dir : IsTrue (is_dir (graph.shape to))
-  pub absent : graph.kid to y ≡ None
+  pub absent : graph.child to y ≡ None
   pub used : IsTrue (is_there (graph.shape n))
-  pub unlinked : IsUnlinked graph.kid n
+  pub unlinked : IsUnlinked graph.child n
   pub not_root : n ≡ 0 → ⊥
 
-pub between : (ps : List Place) (from to n : ℕ) (x y : Name) → IsPlaces ps → (graph_of_places ps).kid from x ≡ Some n → IsTrue (is_dir ((graph_of_places ps).shape to)) → (graph_of_places ps).kid to y ≡ None → IsBetween (unlinked_in from x (graph_of_places ps)) to n y
+pub between : (ps : List Place) (from to n : ℕ) (x y : Name) → IsPlaces ps → (graph_of_places ps).child from x ≡ Some n → IsTrue (is_dir ((graph_of_places ps).shape to)) → (graph_of_places ps).child to y ≡ None → IsBetween (unlinked_in from x (graph_of_places ps)) to n y
 between ps from to n x y places there dir free = record {
   dir = go (eqb to from);
   absent = none (eqb to from && same_name y x);
@@ -36,18 +36,18 @@ between ps from to n x y places there dir free = record {
     go true = refl
     go false = dir
 
-    none : (b : Bool) → cond b None ((graph_of_places ps).kid to y) ≡ None
+    none : (b : Bool) → cond b None ((graph_of_places ps).child to y) ≡ None
     none true = refl
     none false = free
 
     node : (b : Bool) → IsTrue (is_there (cond b (Some (Dir (removed_name x (names from)))) ((graph_of_places ps).shape n)))
     node true = refl
-    node false = let r : (s : Shape) × ((graph_of_places ps).shape n ≡ Some s) = kid_used ps from n x there in ap is_there r.1
+    node false = let r : (s : Shape) × ((graph_of_places ps).shape n ≡ Some s) = child_used ps from n x there in ap is_there r.1
 
-    gone : (d : ℕ) (z : Name) → (unlinked_in from x (graph_of_places ps)).kid d z ≡ Some n → ⊥
+    gone : (d : ℕ) (z : Name) → (unlinked_in from x (graph_of_places ps)).child d z ≡ Some n → ⊥
     gone d z e = by (eqb d from && same_name z x) refl e
       where
-        by : (b : Bool) → (eqb d from && same_name z x) ≡ b → cond b None ((graph_of_places ps).kid d z) ≡ Some n → ⊥
+        by : (b : Bool) → (eqb d from && same_name z x) ≡ b → cond b None ((graph_of_places ps).child d z) ≡ Some n → ⊥
         by true f g = cc
         by false f g =
             let r : (d ≡ from) × (z ≡ x) = one_name ps d from n z x g there in
@@ -55,6 +55,6 @@ between ps from to n x y places there dir free = record {
             let w : true ≡ false = sym h ∙ f in cc
 
 -- both, one after the other
-pub moved_seen : (old middle new : Seen) (from to n : ℕ) (x y : Name) → old.graph.kid from x ≡ Some n → middle ≡ record old { graph = unlinked_in from x old.graph } → new ≡ record middle { graph = linked_in to y n middle.graph }
-    → IfSome (old.graph.kid from x) (λ k. new ≡ record old { graph = moved_in from x to y k old.graph })
+pub moved_seen : (old middle new : Seen) (from to n : ℕ) (x y : Name) → old.graph.child from x ≡ Some n → middle ≡ record old { graph = unlinked_in from x old.graph } → new ≡ record middle { graph = linked_in to y n middle.graph }
+    → IfSome (old.graph.child from x) (λ k. new ≡ record old { graph = moved_in from x to y k old.graph })
 moved_seen old middle new from to n x y there e f = subst (λ (o : Option ℕ). IfSome o (λ k. new ≡ record old { graph = moved_in from x to y k old.graph })) (sym there) (f ∙ ap (λ (m : Seen). record m { graph = linked_in to y n m.graph }) e)

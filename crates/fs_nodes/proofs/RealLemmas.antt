@@ -8,7 +8,7 @@ use Rattle.fs_nodes.specs.declared.node.Content.TheVariants as contents
 use Rattle.fs_nodes.specs.declared.node.Link.{Link}
 use Rattle.fs_nodes.specs.declared.node.Node.{Node}
 use Rattle.fs_nodes.specs.Graphs.{Graph, then_at}
-use Rattle.fs_nodes.specs.Stores.{content_of, link_of, content_at, kid_in, names_in, shape_with, shape_in, graph_in, IsUnlinked, IsStore, graph_of, limit_of, room}
+use Rattle.fs_nodes.specs.Stores.{content_of, link_of, content_at, child_in, names_in, shape_with, shape_in, graph_in, IsUnlinked, IsStore, graph_of, limit_of, room}
 use Rattle.fs_names.specs.declared.limits.TheConstants.{NODE_LIMIT}
 use Rattle.fs_nodes.specs.declared.place.Place.{Place}
 use Rattle.fs_nodes.specs.code.Frees.{IsLinked}
@@ -17,7 +17,7 @@ use Rattle.std.proofs.lemmas.List.{length-map}
 use Rattle.fs_nodes.specs.Seen.{seen, Ascends, IsReal}
 use Rattle.fs_nodes.proofs.AscentLemmas.{names_ascend}
 use Rattle.fs_nodes.proofs.EditLemmas.{past_shape}
-use Rattle.fs_nodes.proofs.PlaceLemmas.{kid_link, names_kid, read_within}
+use Rattle.fs_nodes.proofs.PlaceLemmas.{child_link, names_child, read_within}
 
 -- the names of each number ascend
 shape_ascends : (ps : List (Option Node)) (d : ℕ) → Ascends None (names_of (shape_in ps d))
@@ -29,21 +29,21 @@ shape_ascends ps d = go (content_at ps d)
     go (Some (contents.File bytes)) = tt
 
 -- and are those of its entries
-shape_lists : (most : ℕ) (ps : List (Option Node)) → IsStore most ps → (d : ℕ) (x : Name) → has_name x (names_of (shape_in ps d)) ≡ is_some (kid_in ps d x)
+shape_lists : (most : ℕ) (ps : List (Option Node)) → IsStore most ps → (d : ℕ) (x : Name) → has_name x (names_of (shape_in ps d)) ≡ is_some (child_in ps d x)
 shape_lists most ps store d x = go (content_at ps d) refl
   where
-    none : (o : Option ℕ) → kid_in ps d x ≡ o → (content_at ps d ≡ Some contents.Dir → ⊥) → false ≡ is_some o
+    none : (o : Option ℕ) → child_in ps d x ≡ o → (content_at ps d ≡ Some contents.Dir → ⊥) → false ≡ is_some o
     none None k other = refl
-    none (Some n) k other = absurd (other (store.of_dir n (record { dir = d; name = x }) (kid_link ps d x n k)))
+    none (Some n) k other = absurd (other (store.of_dir n (record { dir = d; name = x }) (child_link ps d x n k)))
 
-    go : (o : Option Content) → content_at ps d ≡ o → has_name x (names_of (option_map (shape_with (names_in ps d)) o)) ≡ is_some (kid_in ps d x)
-    go None e = none (kid_in ps d x) refl (λ h. absurd (cc))
-    go (Some contents.Dir) e = names_kid ps d x
-    go (Some (contents.File bytes)) e = none (kid_in ps d x) refl (λ h. absurd (cc))
+    go : (o : Option Content) → content_at ps d ≡ o → has_name x (names_of (option_map (shape_with (names_in ps d)) o)) ≡ is_some (child_in ps d x)
+    go None e = none (child_in ps d x) refl (λ h. absurd (cc))
+    go (Some contents.Dir) e = names_child ps d x
+    go (Some (contents.File bytes)) e = none (child_in ps d x) refl (λ h. absurd (cc))
 
 -- what an entry names is in use
-pub kid_shape : (ps : List (Option Node)) (d n : ℕ) (x : Name) → kid_in ps d x ≡ Some n → (s : Shape) × (shape_in ps n ≡ Some s)
-kid_shape ps d n x e = go (read_within link_of ps n (record { dir = d; name = x }) (kid_link ps d x n e))
+pub child_shape : (ps : List (Option Node)) (d n : ℕ) (x : Name) → child_in ps d x ≡ Some n → (s : Shape) × (shape_in ps n ≡ Some s)
+child_shape ps d n x e = go (read_within link_of ps n (record { dir = d; name = x }) (child_link ps d x n e))
   where
     go : ((p : Option Node) × (slice_get ps n ≡ Some p) × (link_of p ≡ Some (record { dir = d; name = x }))) → (s : Shape) × (shape_in ps n ≡ Some s)
     go (None, got, is) = absurd (cc)
@@ -54,8 +54,8 @@ pub free_shape : (ps : List (Option Node)) (n : ℕ) → slice_get ps n ≡ Some
 free_shape ps n e = ap (λ (o : Option (Option Node)). option_map (shape_with (names_in ps n)) (then_at o content_of)) e
 
 -- what is not in use is linked nowhere
-pub free_unlinked : (ps : List (Option Node)) (n : ℕ) → shape_in ps n ≡ None → IsUnlinked (kid_in ps) n
-free_unlinked ps n free d x e = let s : (s : Shape) × (shape_in ps n ≡ Some s) = kid_shape ps d n x e in absurd (cc)
+pub free_unlinked : (ps : List (Option Node)) (n : ℕ) → shape_in ps n ≡ None → IsUnlinked (child_in ps) n
+free_unlinked ps n free d x e = let s : (s : Shape) × (shape_in ps n ≡ Some s) = child_shape ps d n x e in absurd (cc)
 
 same_link : (d e : ℕ) (x y : Name) → ◌≡◌ {A = Option Link} (Some (record { dir = d; name = x })) (Some (record { dir = e; name = y })) → (d ≡ e) × (x ≡ y)
 same_link d e x y h = let k : ◌≡◌ {A = Link} (record { dir = d; name = x }) (record { dir = e; name = y }) = cc in (ap (λ (l : Link). l.dir) k, ap (λ (l : Link). l.name) k)
@@ -65,10 +65,10 @@ pub real_of : (most limit : ℕ) (ps : List (Option Node)) → IsStore most ps �
 unfolding graph_of limit_of room
 real_of most limit ps store within = record {
   root = (names_in ps 0, ap (option_map (shape_with (names_in ps 0))) store.root);
-  root_unlinked = λ d x e. (let h : ◌≡◌ {A = Option Link} None (Some (record { dir = d; name = x })) = sym store.root_unlinked ∙ kid_link ps d x 0 e in absurd (cc));
-  of_dir = λ d n x e. (names_in ps d, ap (option_map (shape_with (names_in ps d))) (store.of_dir n (record { dir = d; name = x }) (kid_link ps d x n e)));
-  to_used = λ d n x e. kid_shape ps d n x e;
-  one_name = λ d e n x y f g. same_link d e x y (sym (kid_link ps d x n f) ∙ kid_link ps e y n g);
+  root_unlinked = λ d x e. (let h : ◌≡◌ {A = Option Link} None (Some (record { dir = d; name = x })) = sym store.root_unlinked ∙ child_link ps d x 0 e in absurd (cc));
+  of_dir = λ d n x e. (names_in ps d, ap (option_map (shape_with (names_in ps d))) (store.of_dir n (record { dir = d; name = x }) (child_link ps d x n e)));
+  to_used = λ d n x e. child_shape ps d n x e;
+  one_name = λ d e n x y f g. same_link d e x y (sym (child_link ps d x n f) ∙ child_link ps e y n g);
   listed = λ d x. shape_lists most ps store d x;
   ascend = λ d. shape_ascends ps d;
   made = λ n h. past_shape ps n h;

@@ -14,9 +14,9 @@ use Rattle.fs_nodes.specs.declared.node.Link.{Link}
 use Rattle.fs_nodes.specs.declared.node.Node.{Node}
 use Rattle.fs_nodes.specs.declared.place.Place.{Place}
 use Rattle.fs_nodes.specs.code.Edits.{new_content, new_node, IsTaken}
-use Rattle.fs_nodes.specs.Graphs.{Graph, Kids, then_at, set_at, released_in, reserved_in}
+use Rattle.fs_nodes.specs.Graphs.{Graph, Children, then_at, set_at, released_in, reserved_in}
 use Rattle.fs_nodes.specs.Stores.{content_of, link_of, names_in, shape_with, graph_in, is_above, new_shape, used_below, IsUnlinked, IsStore}
-use Rattle.fs_nodes.specs.code.Linked.{link_with, plain_with, plain, plains, graph_of_places, next_kid, IsPrev, IsBeside, IsIndexed, IsPlaces, edited, vacated, filled}
+use Rattle.fs_nodes.specs.code.Linked.{link_with, plain_with, plain, plains, graph_of_places, next_child, IsPrev, IsBeside, IsIndexed, IsPlaces, edited, vacated, filled}
 use Rattle.fs_nodes.specs.code.Frees.{is_in_list, IsApart, is_free, next_at, IsChain, IsFreeList, IsLinked}
 use Rattle.fs_nodes.proofs.PlaceLemmas.{eqb_true, eqb_refl}
 use Rattle.fs_nodes.proofs.EditLemmas.{Makes, release_makes, reserve_makes, push_makes, past_shape}
@@ -25,23 +25,23 @@ use Rattle.fs_nodes.proofs.LinkLemmas.{get_edited, length_edited, plains_set, tr
 use Rattle.fs_nodes.proofs.FreeLemmas.{chain_kept, used_not_free, used_place}
 
 -- what comes next goes by the names alone
-next_same : (kids : Kids) (old new : ℕ → Option Shape) (d : ℕ) (low : Option Name) → names_of (new d) ≡ names_of (old d) → next_kid (record { kid = kids; shape = new }) d low ≡ next_kid (record { kid = kids; shape = old }) d low
-next_same kids old new d low h = ap (λ (names : List Name). then_at (find (is_above low) names) (kids d)) h
+next_same : (children : Children) (old new : ℕ → Option Shape) (d : ℕ) (low : Option Name) → names_of (new d) ≡ names_of (old d) → next_child (record { child = children; shape = new }) d low ≡ next_child (record { child = children; shape = old }) d low
+next_same children old new d low h = ap (λ (names : List Name). then_at (find (is_above low) names) (children d)) h
 
-beside_same : (kids : Kids) (old new : ℕ → Option Shape) (n : ℕ) (next prev : Option ℕ) (l : Option Link) → ((d : ℕ) → names_of (new d) ≡ names_of (old d)) → IsBeside (record { kid = kids; shape = old }) n next prev l → IsBeside (record { kid = kids; shape = new }) n next prev l
-beside_same kids old new n next prev None h b = tt
-beside_same kids old new n next prev (Some link) h b = (b.0 ∙ sym (next_same kids old new link.dir (Some link.name) (h link.dir)), go prev b.1)
+beside_same : (children : Children) (old new : ℕ → Option Shape) (n : ℕ) (next prev : Option ℕ) (l : Option Link) → ((d : ℕ) → names_of (new d) ≡ names_of (old d)) → IsBeside (record { child = children; shape = old }) n next prev l → IsBeside (record { child = children; shape = new }) n next prev l
+beside_same children old new n next prev None h b = tt
+beside_same children old new n next prev (Some link) h b = (b.0 ∙ sym (next_same children old new link.dir (Some link.name) (h link.dir)), go prev b.1)
   where
-    go : (o : Option ℕ) → IsPrev (record { kid = kids; shape = old }) link.dir n o → IsPrev (record { kid = kids; shape = new }) link.dir n o
-    go None i = next_same kids old new link.dir None (h link.dir) ∙ i
-    go (Some k) i = (i.0, i.1, next_same kids old new link.dir (Some i.0) (h link.dir) ∙ i.2)
+    go : (o : Option ℕ) → IsPrev (record { child = children; shape = old }) link.dir n o → IsPrev (record { child = children; shape = new }) link.dir n o
+    go None i = next_same children old new link.dir None (h link.dir) ∙ i
+    go (Some k) i = (i.0, i.1, next_same children old new link.dir (Some i.0) (h link.dir) ∙ i.2)
 
 -- a place's ways, where each directory keeps its names
-pub indexed_same : (kids : Kids) (old new : ℕ → Option Shape) (n : ℕ) (p q : Place) → ((d : ℕ) → names_of (new d) ≡ names_of (old d)) → q.entries ≡ p.entries → q.first ≡ p.first → IsBeside (record { kid = kids; shape = old }) n q.next q.prev (link_of (plain q)) → IsIndexed (record { kid = kids; shape = old }) n p → IsIndexed (record { kid = kids; shape = new }) n q
-indexed_same kids old new n p q h e f b i = record {
+pub indexed_same : (children : Children) (old new : ℕ → Option Shape) (n : ℕ) (p q : Place) → ((d : ℕ) → names_of (new d) ≡ names_of (old d)) → q.entries ≡ p.entries → q.first ≡ p.first → IsBeside (record { child = children; shape = old }) n q.next q.prev (link_of (plain q)) → IsIndexed (record { child = children; shape = old }) n p → IsIndexed (record { child = children; shape = new }) n q
+indexed_same children old new n p q h e f b i = record {
   entries = e ∙ i.entries ∙ sym (ap length (h n));
-  first = f ∙ i.first ∙ sym (next_same kids old new n None (h n));
-  beside = beside_same kids old new n q.next q.prev (link_of (plain q)) h b;
+  first = f ∙ i.first ∙ sym (next_same children old new n None (h n));
+  beside = beside_same children old new n q.next q.prev (link_of (plain q)) h b;
 }
 
 -- a number changes its shape and not its names
@@ -62,17 +62,17 @@ edited_read n f ps m q e = go (slice_get ps m) refl (sym (get_edited n f ps m) �
 
 -- one place is edited, which no entry names then, and directories keep their names
 pub one_indexed : (ps : List Place) (n : ℕ) (f : Place → Place) (s : Option Shape) → IsPlaces ps → names_of s ≡ names_of ((graph_of_places ps).shape n) → ((p : Place) → ((f p).entries ≡ p.entries) × ((f p).first ≡ p.first) × (link_of (plain (f p)) ≡ None))
-    → (m : ℕ) (q : Place) → slice_get (edited n f ps) m ≡ Some q → IsIndexed (record { kid = (graph_of_places ps).kid; shape = set_at n s (graph_of_places ps).shape }) m q
+    → (m : ℕ) (q : Place) → slice_get (edited n f ps) m ≡ Some q → IsIndexed (record { child = (graph_of_places ps).child; shape = set_at n s (graph_of_places ps).shape }) m q
 one_indexed ps n f s places h k m q e =
     let r : (p : Place) × (slice_get ps m ≡ Some p) × (q ≡ cond (eqb m n) (f p) p) = edited_read n f ps m q e in
-    subst (IsIndexed (record { kid = (graph_of_places ps).kid; shape = set_at n s (graph_of_places ps).shape }) m) (sym r.2) (go r.0 (places.each m r.0 r.1) (eqb m n))
+    subst (IsIndexed (record { child = (graph_of_places ps).child; shape = set_at n s (graph_of_places ps).shape }) m) (sym r.2) (go r.0 (places.each m r.0 r.1) (eqb m n))
   where
     names : (d : ℕ) → names_of (set_at n s (graph_of_places ps).shape d) ≡ names_of ((graph_of_places ps).shape d)
     names = names_at (graph_of_places ps).shape n s h
 
-    go : (p : Place) → IsIndexed (graph_of_places ps) m p → (b : Bool) → IsIndexed (record { kid = (graph_of_places ps).kid; shape = set_at n s (graph_of_places ps).shape }) m (cond b (f p) p)
-    go p i true = indexed_same (graph_of_places ps).kid (graph_of_places ps).shape (set_at n s (graph_of_places ps).shape) m p (f p) names (k p).0 (k p).1 (subst (IsBeside (graph_of_places ps) m (f p).next (f p).prev) (sym (k p).2) tt) i
-    go p i false = indexed_same (graph_of_places ps).kid (graph_of_places ps).shape (set_at n s (graph_of_places ps).shape) m p p names refl refl i.beside i
+    go : (p : Place) → IsIndexed (graph_of_places ps) m p → (b : Bool) → IsIndexed (record { child = (graph_of_places ps).child; shape = set_at n s (graph_of_places ps).shape }) m (cond b (f p) p)
+    go p i true = indexed_same (graph_of_places ps).child (graph_of_places ps).shape (set_at n s (graph_of_places ps).shape) m p (f p) names (k p).0 (k p).1 (subst (IsBeside (graph_of_places ps) m (f p).next (f p).prev) (sym (k p).2) tt) i
+    go p i false = indexed_same (graph_of_places ps).child (graph_of_places ps).shape (set_at n s (graph_of_places ps).shape) m p p names refl refl i.beside i
 
 -- the free places, where one node comes or goes
 free_at : (ps : List (Option Node)) (n : ℕ) (p q : Option Node) → slice_get ps n ≡ Some p → (k : ℕ) → is_free (slice_get (set ps n q) k) ≡ cond (eqb k n) (is_free (Some q)) (is_free (slice_get ps k))
@@ -121,7 +121,7 @@ no_entries s h = go (names_of s) h
     go (x ∷ names) g = cc
 
 -- a release, whole
-pub linked_release : (limit : ℕ) (ps qs : List Place) (free : Option ℕ) (n : ℕ) → IsLinked limit ps free → IsTrue (is_there ((graph_of_places ps).shape n)) → IsUnlinked (graph_of_places ps).kid n → (n ≡ 0 → ⊥) → has_entries ((graph_of_places ps).shape n) ≡ false → qs ≡ edited n (vacated free) ps
+pub linked_release : (limit : ℕ) (ps qs : List Place) (free : Option ℕ) (n : ℕ) → IsLinked limit ps free → IsTrue (is_there ((graph_of_places ps).shape n)) → IsUnlinked (graph_of_places ps).child n → (n ≡ 0 → ⊥) → has_entries ((graph_of_places ps).shape n) ≡ false → qs ≡ edited n (vacated free) ps
     → (graph_of_places qs ≡ released_in n (graph_of_places ps)) × IsLinked limit qs (Some n)
 linked_release limit ps qs free n s used unlinked other empty e =
     let r : (p : Place) × (slice_get ps n ≡ Some p) = used_place ps n used in
@@ -320,14 +320,14 @@ linked_push limit ps qs free p kind s room content parent first entries e =
     names : (d : ℕ) → names_of (set_at (length ps) (Some (new_shape kind)) (graph_of_places ps).shape d) ≡ names_of ((graph_of_places ps).shape d)
     names = names_at (graph_of_places ps).shape (length ps) (Some (new_shape kind)) (new_names kind ∙ sym (ap names_of gone))
 
-    none : (d : ℕ) → names_of ((graph_of_places ps).shape d) ≡ [] → next_kid (graph_of_places ps) d None ≡ None
-    none d h = ap (λ (n : List Name). then_at (find (is_above None) n) ((graph_of_places ps).kid d)) h
+    none : (d : ℕ) → names_of ((graph_of_places ps).shape d) ≡ [] → next_child (graph_of_places ps) d None ≡ None
+    none d h = ap (λ (n : List Name). then_at (find (is_above None) n) ((graph_of_places ps).child d)) h
 
     each : (m : ℕ) (q : Place) → (slice_get ps m ≡ Some q) ⊎ ((m ≡ length ps) × (q ≡ p)) → IsIndexed (reserved_in (length ps) (new_shape kind) (graph_of_places ps)) m q
-    each m q (inl h) = indexed_same (graph_of_places ps).kid (graph_of_places ps).shape (set_at (length ps) (Some (new_shape kind)) (graph_of_places ps).shape) m q q names refl refl (s.places.each m q h).beside (s.places.each m q h)
+    each m q (inl h) = indexed_same (graph_of_places ps).child (graph_of_places ps).shape (set_at (length ps) (Some (new_shape kind)) (graph_of_places ps).shape) m q q names refl refl (s.places.each m q h).beside (s.places.each m q h)
     each m q (inr h) =
         let empty : names_of ((graph_of_places ps).shape m) ≡ [] = ap (λ (z : ℕ). names_of ((graph_of_places ps).shape z)) h.0 ∙ ap names_of gone in
-        indexed_same (graph_of_places ps).kid (graph_of_places ps).shape (set_at (length ps) (Some (new_shape kind)) (graph_of_places ps).shape) m q q names refl refl (alone q h.1) (record {
+        indexed_same (graph_of_places ps).child (graph_of_places ps).shape (set_at (length ps) (Some (new_shape kind)) (graph_of_places ps).shape) m q q names refl refl (alone q h.1) (record {
           entries = ap (λ (z : Place). z.entries) h.1 ∙ entries ∙ sym (ap length empty);
           first = ap (λ (z : Place). z.first) h.1 ∙ first ∙ sym (none m empty);
           beside = alone q h.1;

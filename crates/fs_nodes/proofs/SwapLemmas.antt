@@ -77,8 +77,8 @@ linked_swap limit ps qs free n bytes s file e =
     names = names_at (graph_of_places ps).shape n (Some (File bytes)) (file_names ((graph_of_places ps).shape n) bytes file)
 
     go : (m : ℕ) (p : Place) → IsIndexed (graph_of_places ps) m p → (b : Bool) → IsIndexed (content_in n bytes (graph_of_places ps)) m (cond b (with_content bytes p) p)
-    go m p i true = indexed_same (graph_of_places ps).kid (graph_of_places ps).shape (content_in n bytes (graph_of_places ps)).shape m p (with_content bytes p) names refl refl (subst (IsBeside (graph_of_places ps) m p.next p.prev) (sym (link_same bytes p.content (link_with p.parent p.name))) i.beside) i
-    go m p i false = indexed_same (graph_of_places ps).kid (graph_of_places ps).shape (content_in n bytes (graph_of_places ps)).shape m p p names refl refl i.beside i
+    go m p i true = indexed_same (graph_of_places ps).child (graph_of_places ps).shape (content_in n bytes (graph_of_places ps)).shape m p (with_content bytes p) names refl refl (subst (IsBeside (graph_of_places ps) m p.next p.prev) (sym (link_same bytes p.content (link_with p.parent p.name))) i.beside) i
+    go m p i false = indexed_same (graph_of_places ps).child (graph_of_places ps).shape (content_in n bytes (graph_of_places ps)).shape m p p names refl refl i.beside i
 
     each : (m : ℕ) (q : Place) → (p : Place) × (slice_get ps m ≡ Some p) × (q ≡ cond (eqb m n) (with_content bytes p) p) → IsIndexed (content_in n bytes (graph_of_places ps)) m q
     each m q r = subst (IsIndexed (content_in n bytes (graph_of_places ps)) m) (sym r.2) (go m r.0 (s.places.each m r.0 r.1) (eqb m n))

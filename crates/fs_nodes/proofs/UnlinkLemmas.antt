@@ -16,13 +16,13 @@ use Rattle.fs_nodes.specs.Stores.{link_of, link_at, graph_in, is_above, IsStore}
 use Rattle.fs_nodes.specs.code.Edits.{relinked}
 use Rattle.fs_nodes.proofs.EditLemmas.{Makes, unlink_makes, names_shape, found_link, link_content, relinked_content, at_of}
 use Rattle.fs_nodes.proofs.GraphLemmas.{unlinked_back}
-use Rattle.fs_nodes.specs.code.Linked.{link_with, plain_with, plain, plains, graph_of_places, next_kid, IsPrev, IsLow, IsAt, IsGap, IsBeside, IsIndexed, IsPlaces, edited, with_entries, entered, led, followed, taken_out}
-use Rattle.fs_nodes.proofs.PlaceLemmas.{eqb_true, eqb_refl, kid_link, names_kid}
-use Rattle.fs_nodes.proofs.StepLemmas.{link_of_place, next_kid_name}
-use Rattle.fs_nodes.proofs.GapLemmas.{IsFree, IsMember, count_linked, kid_new, kid_old, kid_there, next_other, next_at, next_by, next_self, at_one, low_member}
+use Rattle.fs_nodes.specs.code.Linked.{link_with, plain_with, plain, plains, graph_of_places, next_child, IsPrev, IsLow, IsAt, IsGap, IsBeside, IsIndexed, IsPlaces, edited, with_entries, entered, led, followed, taken_out}
+use Rattle.fs_nodes.proofs.PlaceLemmas.{eqb_true, eqb_refl, child_link, names_child}
+use Rattle.fs_nodes.proofs.StepLemmas.{link_of_place, next_child_name}
+use Rattle.fs_nodes.proofs.GapLemmas.{IsFree, IsMember, count_linked, child_new, child_old, child_there, next_other, next_at, next_by, next_self, at_one, low_member}
 use Rattle.fs_nodes.specs.Seen.{Ascends}
 use Rattle.fs_nodes.proofs.AscentLemmas.{names_ascend, not_itself}
-use Rattle.fs_nodes.proofs.LinkLemmas.{get_edited, plains_edited, plains_set, is_at, get_led, get_followed, plains_led, plains_followed, same_plain, plain_relinked, one_entry, kid_name, low_kid, kid_low, at_true, at_refl, true_false, eqb_false}
+use Rattle.fs_nodes.proofs.LinkLemmas.{get_edited, plains_edited, plains_set, is_at, get_led, get_followed, plains_led, plains_followed, same_plain, plain_relinked, one_entry, child_name, low_child, child_low, at_true, at_refl, true_false, eqb_false}
 
 -- each place, where a node left its place between two siblings
 abbrev pub take_place : ℕ → ℕ → Option ℕ → Option ℕ → ℕ → Place → Place
@@ -67,39 +67,39 @@ place_before dir n prev next ps m q e = go (slice_get ps m) refl (sym (get_taken
 -- another directory's siblings were as they are now
 prev_back : (graph : Graph) (dir d : ℕ) (x : Name) (n m : ℕ) (o : Option ℕ) → eqb d dir ≡ false → IsPrev (linked_in dir x n graph) d m o → IsPrev graph d m o
 prev_back graph dir d x n m None e h = sym (next_other graph dir d x n None e) ∙ h
-prev_back graph dir d x n m (Some k) e h = (h.0, sym (ap (λ (b : Bool). cond (b && same_name h.0 x) (Some n) (graph.kid d h.0)) e) ∙ h.1, sym (next_other graph dir d x n (Some h.0) e) ∙ h.2)
+prev_back graph dir d x n m (Some k) e h = (h.0, sym (ap (λ (b : Bool). cond (b && same_name h.0 x) (Some n) (graph.child d h.0)) e) ∙ h.1, sym (next_other graph dir d x n (Some h.0) e) ∙ h.2)
 
 -- the gap that a node leaves
-pub gap_left : (ps : List Place) (S : Graph) (dir : ℕ) (x : Name) (n : ℕ) (p : Place) → IsPlaces ps → graph_of_places ps ≡ linked_in dir x n S → IsFree S dir x → slice_get ps n ≡ Some p → (graph_of_places ps).kid dir x ≡ Some n → IsGap S dir x p.prev p.next
+pub gap_left : (ps : List Place) (S : Graph) (dir : ℕ) (x : Name) (n : ℕ) (p : Place) → IsPlaces ps → graph_of_places ps ≡ linked_in dir x n S → IsFree S dir x → slice_get ps n ≡ Some p → (graph_of_places ps).child dir x ≡ Some n → IsGap S dir x p.prev p.next
 gap_left ps S dir x n p places back f e k = go p.prev refl b.1
   where
     L : Graph
     L = linked_in dir x n S
 
     l : link_of (plain p) ≡ Some (record { dir = dir; name = x })
-    l = sym (link_of_place ps n p e) ∙ kid_link (plains ps) dir x n k
+    l = sym (link_of_place ps n p e) ∙ child_link (plains ps) dir x n k
 
     b : IsBeside (linked_in dir x n S) n p.next p.prev (Some (record { dir = dir; name = x }))
     b = subst (λ (g : Graph). IsBeside g n p.next p.prev (Some (record { dir = dir; name = x }))) back (subst (IsBeside (graph_of_places ps) n p.next p.prev) l (places.each n p e).beside)
 
     -- what leads to the node is its own name
-    only : (low : Option Name) → next_kid S dir low ≡ Some n → ⊥
+    only : (low : Option Name) → next_child S dir low ≡ Some n → ⊥
     only low h =
-        let r : (y : Name) × (find (is_above low) (names_of (S.shape dir)) ≡ Some y) × (S.kid dir y ≡ Some n) = next_kid_name S dir low n h in
-        let g : (graph_of_places ps).kid dir r.0 ≡ Some n = ap (λ (z : Graph). z.kid dir r.0) back ∙ kid_there S dir x r.0 n n f r.2 in
-        let y : r.0 ≡ x = kid_name ps dir x r.0 n k g in
-        let w : ◌≡◌ {A = Option ℕ} None (Some n) = sym f.free ∙ ap (S.kid dir) (sym y) ∙ r.2 in cc
+        let r : (y : Name) × (find (is_above low) (names_of (S.shape dir)) ≡ Some y) × (S.child dir y ≡ Some n) = next_child_name S dir low n h in
+        let g : (graph_of_places ps).child dir r.0 ≡ Some n = ap (λ (z : Graph). z.child dir r.0) back ∙ child_there S dir x r.0 n n f r.2 in
+        let y : r.0 ≡ x = child_name ps dir x r.0 n k g in
+        let w : ◌≡◌ {A = Option ℕ} None (Some n) = sym f.free ∙ ap (S.child dir) (sym y) ∙ r.2 in cc
 
-    at : (low : Option Name) → next_kid (linked_in dir x n S) dir low ≡ Some n → IsAt S dir x low
+    at : (low : Option Name) → next_child (linked_in dir x n S) dir low ≡ Some n → IsAt S dir x low
     at low h = by (next_by S dir x n low f)
       where
-        by : (next_kid (linked_in dir x n S) dir low ≡ next_kid S dir low) ⊎ IsAt S dir x low → IsAt S dir x low
+        by : (next_child (linked_in dir x n S) dir low ≡ next_child S dir low) ⊎ IsAt S dir x low → IsAt S dir x low
         by (inl g) = absurd (only low (sym g ∙ h))
         by (inr g) = g
 
     go : (o : Option ℕ) → p.prev ≡ o → IsPrev (linked_in dir x n S) dir n p.prev → IsGap S dir x p.prev p.next
     go None g h =
-        let i : next_kid (linked_in dir x n S) dir None ≡ Some n = subst (IsPrev (linked_in dir x n S) dir n) g h in
+        let i : next_child (linked_in dir x n S) dir None ≡ Some n = subst (IsPrev (linked_in dir x n S) dir n) g h in
         record {
           low = None;
           is_low = g;
@@ -107,20 +107,20 @@ gap_left ps S dir x n p places back f e k = go p.prev refl b.1
           next_is = b.0 ∙ next_self S dir x n None f (at None i);
         }
     go (Some m) g h =
-        let i : (name : Name) × ((linked_in dir x n S).kid dir name ≡ Some m) × (next_kid (linked_in dir x n S) dir (Some name) ≡ Some n) = subst (IsPrev (linked_in dir x n S) dir n) g h in
+        let i : (name : Name) × ((linked_in dir x n S).child dir name ≡ Some m) × (next_child (linked_in dir x n S) dir (Some name) ≡ Some n) = subst (IsPrev (linked_in dir x n S) dir n) g h in
         let a : IsAt S dir x (Some i.0) = at (Some i.0) i.2 in
         let d : same_name i.0 x ≡ false = eqb_false (same_name i.0 x) (λ t. true_false (sym a.0 ∙ ap (λ (z : Name). is_above (Some z) x) (same_name_exact i.0 x t) ∙ not_itself x)) in
         record {
           low = Some i.0;
-          is_low = (m, sym (kid_old S dir x i.0 n d) ∙ i.1, g);
+          is_low = (m, sym (child_old S dir x i.0 n d) ∙ i.1, g);
           at = a;
           next_is = b.0 ∙ next_self S dir x n (Some i.0) f a;
         }
 
 -- the ways of the places where a node left its place
-pub take_indexed : (ps : List Place) (S : Graph) (dir n : ℕ) (x : Name) (prev next : Option ℕ) (m : ℕ) (q : Place) → IsPlaces ps → graph_of_places ps ≡ linked_in dir x n S → IsFree S dir x → IsGap S dir x prev next → (graph_of_places ps).kid dir x ≡ Some n
+pub take_indexed : (ps : List Place) (S : Graph) (dir n : ℕ) (x : Name) (prev next : Option ℕ) (m : ℕ) (q : Place) → IsPlaces ps → graph_of_places ps ≡ linked_in dir x n S → IsFree S dir x → IsGap S dir x prev next → (graph_of_places ps).child dir x ≡ Some n
     → slice_get (taken_out dir n prev next ps) m ≡ Some q → IsIndexed S m q
-take_indexed ps S dir n x prev next m q places back f gap kid there =
+take_indexed ps S dir n x prev next m q places back f gap child there =
     let r : (p : Place) × (slice_get ps m ≡ Some p) × (q ≡ take_place dir n prev next m p) = place_before dir n prev next ps m q there in
     subst (IsIndexed S m) (sym r.2) (record {
       entries = entries r.0 r.1 (eqb m dir) refl;
@@ -142,45 +142,45 @@ take_indexed ps S dir n x prev next m q places back f gap kid there =
         omega arith
     entries p e false g = (was p e).entries ∙ ap (λ (t : Bool). length (names_of (cond t (Some (Dir (inserted_name x (names_of (S.shape dir))))) (S.shape m)))) g
 
-    lead : (p : Place) → slice_get ps m ≡ Some p → m ≡ dir → (low : Option Name) → gap.low ≡ low → IsLow S dir low prev → IsAt S dir x low → cond (is_none prev) next p.first ≡ next_kid S dir None
-    lead p e h None g l at = ap (λ (o : Option ℕ). cond (is_none o) next p.first) l ∙ gap.next_is ∙ ap (next_kid S dir) g
-    lead p e h (Some y) g l at = ap (λ (o : Option ℕ). cond (is_none o) next p.first) l.2 ∙ (was p e).first ∙ ap (λ (z : ℕ). next_kid (linked_in dir x n S) z None) h ∙ by (next_by S dir x n None f)
+    lead : (p : Place) → slice_get ps m ≡ Some p → m ≡ dir → (low : Option Name) → gap.low ≡ low → IsLow S dir low prev → IsAt S dir x low → cond (is_none prev) next p.first ≡ next_child S dir None
+    lead p e h None g l at = ap (λ (o : Option ℕ). cond (is_none o) next p.first) l ∙ gap.next_is ∙ ap (next_child S dir) g
+    lead p e h (Some y) g l at = ap (λ (o : Option ℕ). cond (is_none o) next p.first) l.2 ∙ (was p e).first ∙ ap (λ (z : ℕ). next_child (linked_in dir x n S) z None) h ∙ by (next_by S dir x n None f)
       where
-        by : (next_kid (linked_in dir x n S) dir None ≡ next_kid S dir None) ⊎ IsAt S dir x None → next_kid (linked_in dir x n S) dir None ≡ next_kid S dir None
+        by : (next_child (linked_in dir x n S) dir None ≡ next_child S dir None) ⊎ IsAt S dir x None → next_child (linked_in dir x n S) dir None ≡ next_child S dir None
         by (inl k) = k
         by (inr k) = let w : ◌≡◌ {A = Option Name} None (Some y) = at_one S dir x None (Some y) f tt (low_member S dir x (Some y) prev f l) k at in absurd (cc)
 
-    first : (p : Place) → slice_get ps m ≡ Some p → (b : Bool) → eqb m dir ≡ b → cond (b && is_none prev) next p.first ≡ next_kid S m None
-    first p e true g = let h : m ≡ dir = eqb_true m dir g in lead p e h gap.low refl gap.is_low gap.at ∙ ap (λ (z : ℕ). next_kid S z None) (sym h)
+    first : (p : Place) → slice_get ps m ≡ Some p → (b : Bool) → eqb m dir ≡ b → cond (b && is_none prev) next p.first ≡ next_child S m None
+    first p e true g = let h : m ≡ dir = eqb_true m dir g in lead p e h gap.low refl gap.is_low gap.at ∙ ap (λ (z : ℕ). next_child S z None) (sym h)
     first p e false g = (was p e).first ∙ next_other S dir m x n None g
 
     -- a sibling's name is not the one that goes
-    not_gone : (y : Name) → eqb m n ≡ false → (linked_in dir x n S).kid dir y ≡ Some m → same_name y x ≡ false
+    not_gone : (y : Name) → eqb m n ≡ false → (linked_in dir x n S).child dir y ≡ Some m → same_name y x ≡ false
     not_gone y d k = eqb_false (same_name y x) (λ t.
-        let w : Some n ≡ Some m = sym (kid_new S dir x n) ∙ ap ((linked_in dir x n S).kid dir) (sym (same_name_exact y x t)) ∙ k in
+        let w : Some n ≡ Some m = sym (child_new S dir x n) ∙ ap ((linked_in dir x n S).child dir) (sym (same_name_exact y x t)) ∙ k in
         let v : n ≡ m = cc in
         true_false (sym (eqb_refl n) ∙ ap (λ (z : ℕ). eqb z n) v ∙ d))
 
-    here : (y : Name) → eqb m n ≡ false → (linked_in dir x n S).kid dir y ≡ Some m → S.kid dir y ≡ Some m
-    here y d k = sym (kid_old S dir x y n (not_gone y d k)) ∙ k
+    here : (y : Name) → eqb m n ≡ false → (linked_in dir x n S).child dir y ≡ Some m → S.child dir y ≡ Some m
+    here y d k = sym (child_old S dir x y n (not_gone y d k)) ∙ k
 
     -- what a sibling says of the next one
-    after : (p : Place) (y : Name) → S.kid dir y ≡ Some m → p.next ≡ next_kid (linked_in dir x n S) dir (Some y) → (b : Bool) → is_at prev m ≡ b → cond b next p.next ≡ next_kid S dir (Some y)
+    after : (p : Place) (y : Name) → S.child dir y ≡ Some m → p.next ≡ next_child (linked_in dir x n S) dir (Some y) → (b : Bool) → is_at prev m ≡ b → cond b next p.next ≡ next_child S dir (Some y)
     after p y k old true g =
-        let r : (z : Name) × (gap.low ≡ Some z) × (S.kid dir z ≡ Some m) = kid_low S dir gap.low prev m gap.is_low (at_true prev m g) in
-        let s : (graph_of_places ps).kid dir r.0 ≡ Some m = ap (λ (z : Graph). z.kid dir r.0) back ∙ kid_there S dir x r.0 n m f r.2 in
-        let t : (graph_of_places ps).kid dir y ≡ Some m = ap (λ (z : Graph). z.kid dir y) back ∙ kid_there S dir x y n m f k in
-        gap.next_is ∙ ap (next_kid S dir) (r.1 ∙ ap (λ (w : Name). Some w) (kid_name ps dir y r.0 m t s))
+        let r : (z : Name) × (gap.low ≡ Some z) × (S.child dir z ≡ Some m) = child_low S dir gap.low prev m gap.is_low (at_true prev m g) in
+        let s : (graph_of_places ps).child dir r.0 ≡ Some m = ap (λ (z : Graph). z.child dir r.0) back ∙ child_there S dir x r.0 n m f r.2 in
+        let t : (graph_of_places ps).child dir y ≡ Some m = ap (λ (z : Graph). z.child dir y) back ∙ child_there S dir x y n m f k in
+        gap.next_is ∙ ap (next_child S dir) (r.1 ∙ ap (λ (w : Name). Some w) (child_name ps dir y r.0 m t s))
     after p y k old false g = old ∙ by (next_by S dir x n (Some y) f)
       where
-        by : (next_kid (linked_in dir x n S) dir (Some y) ≡ next_kid S dir (Some y)) ⊎ IsAt S dir x (Some y) → next_kid (linked_in dir x n S) dir (Some y) ≡ next_kid S dir (Some y)
+        by : (next_child (linked_in dir x n S) dir (Some y) ≡ next_child S dir (Some y)) ⊎ IsAt S dir x (Some y) → next_child (linked_in dir x n S) dir (Some y) ≡ next_child S dir (Some y)
         by (inl h) = h
         by (inr h) =
             let low : gap.low ≡ Some y = at_one S dir x gap.low (Some y) f member (f.has y ∙ ap is_some k) gap.at h in
-            absurd (true_false (sym (at_refl prev m (low_kid S dir gap.low y prev m gap.is_low low k)) ∙ g))
+            absurd (true_false (sym (at_refl prev m (low_child S dir gap.low y prev m gap.is_low low k)) ∙ g))
 
     -- what leads to the node that goes leads to no other one
-    not_node : (low : Option Name) → eqb m n ≡ false → next_kid (linked_in dir x n S) dir low ≡ Some m → IsAt S dir x low → ⊥
+    not_node : (low : Option Name) → eqb m n ≡ false → next_child (linked_in dir x n S) dir low ≡ Some m → IsAt S dir x low → ⊥
     not_node low d h a =
         let w : Some m ≡ Some n = sym h ∙ next_at S dir x n low f a in
         let v : n ≡ m = cc in
@@ -188,45 +188,45 @@ take_indexed ps S dir n x prev next m q places back f gap kid there =
 
     -- the sibling before, from the gap
     from_gap : (low : Option Name) → gap.low ≡ low → IsLow S dir low prev → next ≡ Some m → IsPrev S dir m prev
-    from_gap None g l h = subst (IsPrev S dir m) (sym l) (ap (next_kid S dir) (sym g) ∙ sym gap.next_is ∙ h)
-    from_gap (Some y) g l h = subst (IsPrev S dir m) (sym l.2) (y, l.1, ap (next_kid S dir) (sym g) ∙ sym gap.next_is ∙ h)
+    from_gap None g l h = subst (IsPrev S dir m) (sym l) (ap (next_child S dir) (sym g) ∙ sym gap.next_is ∙ h)
+    from_gap (Some y) g l h = subst (IsPrev S dir m) (sym l.2) (y, l.1, ap (next_child S dir) (sym g) ∙ sym gap.next_is ∙ h)
 
     -- what a sibling says of the one before it
     before : (o : Option ℕ) → eqb m n ≡ false → IsPrev (linked_in dir x n S) dir m o → (b : Bool) → is_at next m ≡ b → IsPrev S dir m (cond b prev o)
     before o d h true g = from_gap gap.low refl gap.is_low (at_true next m g)
     before None d h false g = by (next_by S dir x n None f)
       where
-        by : (next_kid (linked_in dir x n S) dir None ≡ next_kid S dir None) ⊎ IsAt S dir x None → next_kid S dir None ≡ Some m
+        by : (next_child (linked_in dir x n S) dir None ≡ next_child S dir None) ⊎ IsAt S dir x None → next_child S dir None ≡ Some m
         by (inl k) = sym k ∙ h
         by (inr k) = absurd (not_node None d h k)
-    before (Some o) d h false g = (h.0, sym (kid_old S dir x h.0 n other) ∙ h.1, by (next_by S dir x n (Some h.0) f))
+    before (Some o) d h false g = (h.0, sym (child_old S dir x h.0 n other) ∙ h.1, by (next_by S dir x n (Some h.0) f))
       where
         other : same_name h.0 x ≡ false
         other = eqb_false (same_name h.0 x) (λ t.
-            let w : next ≡ Some m = gap.next_is ∙ sym (next_self S dir x n gap.low f gap.at) ∙ ap (λ (z : Name). next_kid (linked_in dir x n S) dir (Some z)) (sym (same_name_exact h.0 x t)) ∙ h.2 in
+            let w : next ≡ Some m = gap.next_is ∙ sym (next_self S dir x n gap.low f gap.at) ∙ ap (λ (z : Name). next_child (linked_in dir x n S) dir (Some z)) (sym (same_name_exact h.0 x t)) ∙ h.2 in
             true_false (sym (at_refl next m w) ∙ g))
 
-        by : (next_kid (linked_in dir x n S) dir (Some h.0) ≡ next_kid S dir (Some h.0)) ⊎ IsAt S dir x (Some h.0) → next_kid S dir (Some h.0) ≡ Some m
+        by : (next_child (linked_in dir x n S) dir (Some h.0) ≡ next_child S dir (Some h.0)) ⊎ IsAt S dir x (Some h.0) → next_child S dir (Some h.0) ≡ Some m
         by (inl k) = sym k ∙ h.2
         by (inr k) = absurd (not_node (Some h.0) d h.2 k)
 
     -- a place of another directory is not beside the entry that goes
-    not_beside : (link : Link) → link_at (plains ps) m ≡ Some link → eqb link.dir dir ≡ false → (y : Name) → S.kid dir y ≡ Some m → ⊥
+    not_beside : (link : Link) → link_at (plains ps) m ≡ Some link → eqb link.dir dir ≡ false → (y : Name) → S.child dir y ≡ Some m → ⊥
     not_beside link k h y e =
-        let s : (graph_of_places ps).kid dir y ≡ Some m = ap (λ (z : Graph). z.kid dir y) back ∙ kid_there S dir x y n m f e in
+        let s : (graph_of_places ps).child dir y ≡ Some m = ap (λ (z : Graph). z.child dir y) back ∙ child_there S dir x y n m f e in
         let d : dir ≡ link.dir = (one_entry ps m link dir y k s).0 in
         true_false (sym (ap (λ (z : ℕ). eqb z dir) (sym d) ∙ eqb_refl dir) ∙ h)
 
     far_prev : (link : Link) → link_at (plains ps) m ≡ Some link → eqb link.dir dir ≡ false → is_at prev m ≡ false
-    far_prev link k h = eqb_false (is_at prev m) (λ e. far (kid_low S dir gap.low prev m gap.is_low (at_true prev m e)))
+    far_prev link k h = eqb_false (is_at prev m) (λ e. far (child_low S dir gap.low prev m gap.is_low (at_true prev m e)))
       where
-        far : (y : Name) × (gap.low ≡ Some y) × (S.kid dir y ≡ Some m) → ⊥
+        far : (y : Name) × (gap.low ≡ Some y) × (S.child dir y ≡ Some m) → ⊥
         far r = not_beside link k h r.0 r.2
 
     far_next : (link : Link) → link_at (plains ps) m ≡ Some link → eqb link.dir dir ≡ false → is_at next m ≡ false
-    far_next link k h = eqb_false (is_at next m) (λ e. far (next_kid_name S dir gap.low m (sym gap.next_is ∙ at_true next m e)))
+    far_next link k h = eqb_false (is_at next m) (λ e. far (next_child_name S dir gap.low m (sym gap.next_is ∙ at_true next m e)))
       where
-        far : (y : Name) × (find (is_above gap.low) (names_of (S.shape dir)) ≡ Some y) × (S.kid dir y ≡ Some m) → ⊥
+        far : (y : Name) × (find (is_above gap.low) (names_of (S.shape dir)) ≡ Some y) × (S.child dir y ≡ Some m) → ⊥
         far r = not_beside link k h r.0 r.2
 
     others : (p : Place) → slice_get ps m ≡ Some p → eqb m n ≡ false → (l : Option Link) → link_of (plain p) ≡ l → IsBeside (linked_in dir x n S) m p.next p.prev l → IsBeside S m (cond (is_at prev m) next p.next) (cond (is_at next m) prev p.prev) l
@@ -239,15 +239,15 @@ take_indexed ps S dir n x prev next m q places back f gap kid there =
         by : (t : Bool) → eqb link.dir dir ≡ t → IsBeside S m (cond (is_at prev m) next p.next) (cond (is_at next m) prev p.prev) (Some link)
         by true h =
             let i : link.dir ≡ dir = eqb_true link.dir dir h in
-            let in_ps : (graph_of_places ps).kid dir link.name ≡ Some m = ap (λ (z : ℕ). (graph_of_places ps).kid z link.name) (sym i) ∙ places.store.found m link there_link in
-            let in_s : S.kid dir link.name ≡ Some m = here link.name d (sym (ap (λ (z : Graph). z.kid dir link.name) back) ∙ in_ps) in
-            let old : p.next ≡ next_kid (linked_in dir x n S) dir (Some link.name) = b.0 ∙ ap (λ (z : ℕ). next_kid (linked_in dir x n S) z (Some link.name)) i in
+            let in_ps : (graph_of_places ps).child dir link.name ≡ Some m = ap (λ (z : ℕ). (graph_of_places ps).child z link.name) (sym i) ∙ places.store.found m link there_link in
+            let in_s : S.child dir link.name ≡ Some m = here link.name d (sym (ap (λ (z : Graph). z.child dir link.name) back) ∙ in_ps) in
+            let old : p.next ≡ next_child (linked_in dir x n S) dir (Some link.name) = b.0 ∙ ap (λ (z : ℕ). next_child (linked_in dir x n S) z (Some link.name)) i in
             subst (λ (z : ℕ). IsBeside S m (cond (is_at prev m) next p.next) (cond (is_at next m) prev p.prev) (Some (record { dir = z; name = link.name }))) (sym i)
             (after p link.name in_s old (is_at prev m) refl, before p.prev d (subst (λ (z : ℕ). IsPrev (linked_in dir x n S) z m p.prev) i b.1) (is_at next m) refl)
         by false h =
             let s : is_at prev m ≡ false = far_prev link there_link h in
             let t : is_at next m ≡ false = far_next link there_link h in (
-              subst (λ (z : Bool). cond z next p.next ≡ next_kid S link.dir (Some link.name)) (sym s) (b.0 ∙ next_other S dir link.dir x n (Some link.name) h),
+              subst (λ (z : Bool). cond z next p.next ≡ next_child S link.dir (Some link.name)) (sym s) (b.0 ∙ next_other S dir link.dir x n (Some link.name) h),
               subst (λ (z : Bool). IsPrev S link.dir m (cond z prev p.prev)) (sym t) (prev_back S dir link.dir x n m p.prev h b.1),
             )
 
@@ -271,7 +271,7 @@ plains_taken dir n prev next ps p e =
     ∙ ap₂ (λ (l : List (Option Node)) (q : Option Node). set l n q) same (plain_relinked r.0.content (link_with r.0.parent r.0.name) None ∙ ap (λ (q : Option Node). relinked q None) r.2)
 
 -- a node leaves its place: the graph that this makes, and that the places stay those of a store
-pub take_makes : (ps : List Place) (dir n : ℕ) (x : Name) (p : Place) → IsPlaces ps → slice_get ps n ≡ Some p → (graph_of_places ps).kid dir x ≡ Some n
+pub take_makes : (ps : List Place) (dir n : ℕ) (x : Name) (p : Place) → IsPlaces ps → slice_get ps n ≡ Some p → (graph_of_places ps).child dir x ≡ Some n
     → (graph_of_places (taken_out dir n p.prev p.next ps) ≡ unlinked_in dir x (graph_of_places ps)) × IsPlaces (taken_out dir n p.prev p.next ps) × IsGap (graph_of_places (taken_out dir n p.prev p.next ps)) dir x p.prev p.next
 take_makes ps dir n x p places e k = (
   graph,
@@ -313,8 +313,8 @@ take_makes ps dir n x p places e k = (
     free : IsFree (graph_of_places (taken_out dir n p.prev p.next ps)) dir x
     free = record {
       ascends = subst (Ascends None) (sym (names_shape NODE_LIMIT (plains (taken_out dir n p.prev p.next ps)) dir (subst (IsStore NODE_LIMIT) whole made.1))) (names_ascend (plains (taken_out dir n p.prev p.next ps)) dir);
-      has = λ y. ap (has_name y) (names_shape NODE_LIMIT (plains (taken_out dir n p.prev p.next ps)) dir (subst (IsStore NODE_LIMIT) whole made.1)) ∙ names_kid (plains (taken_out dir n p.prev p.next ps)) dir y;
-      free = ap (λ (g : Graph). g.kid dir x) graph ∙ ap₂ (λ (a b : Bool). cond (a && b) None ((graph_of_places ps).kid dir x)) (eqb_refl dir) (same_name_refl x);
+      has = λ y. ap (has_name y) (names_shape NODE_LIMIT (plains (taken_out dir n p.prev p.next ps)) dir (subst (IsStore NODE_LIMIT) whole made.1)) ∙ names_child (plains (taken_out dir n p.prev p.next ps)) dir y;
+      free = ap (λ (g : Graph). g.child dir x) graph ∙ ap₂ (λ (a b : Bool). cond (a && b) None ((graph_of_places ps).child dir x)) (eqb_refl dir) (same_name_refl x);
     }
 
     gap : IsGap (graph_of_places (taken_out dir n p.prev p.next ps)) dir x p.prev p.next

@@ -24,13 +24,13 @@ Ascends low (x ∷ names) = (is_above low x ≡ true) × Ascends (Some x) names
 pub record IsReal (store : Seen) : Type 0 where
   -- the root is a directory that no entry names
   pub root : (names : List Name) × (store.graph.shape 0 ≡ Some (Dir names))
-  pub root_unlinked : IsUnlinked store.graph.kid 0
+  pub root_unlinked : IsUnlinked store.graph.child 0
   -- entries lead from directories to numbers in use, and each number is named at most once
-  pub of_dir : (d n : ℕ) (x : Name) → store.graph.kid d x ≡ Some n → (names : List Name) × (store.graph.shape d ≡ Some (Dir names))
-  pub to_used : (d n : ℕ) (x : Name) → store.graph.kid d x ≡ Some n → (s : Shape) × (store.graph.shape n ≡ Some s)
-  pub one_name : (d e n : ℕ) (x y : Name) → store.graph.kid d x ≡ Some n → store.graph.kid e y ≡ Some n → (d ≡ e) × (x ≡ y)
+  pub of_dir : (d n : ℕ) (x : Name) → store.graph.child d x ≡ Some n → (names : List Name) × (store.graph.shape d ≡ Some (Dir names))
+  pub to_used : (d n : ℕ) (x : Name) → store.graph.child d x ≡ Some n → (s : Shape) × (store.graph.shape n ≡ Some s)
+  pub one_name : (d e n : ℕ) (x y : Name) → store.graph.child d x ≡ Some n → store.graph.child e y ≡ Some n → (d ≡ e) × (x ≡ y)
   -- the names of a directory are those of its entries, and ascend
-  pub listed : (d : ℕ) (x : Name) → has_name x (names_of (store.graph.shape d)) ≡ is_some (store.graph.kid d x)
+  pub listed : (d : ℕ) (x : Name) → has_name x (names_of (store.graph.shape d)) ≡ is_some (store.graph.child d x)
   pub ascend : (d : ℕ) → Ascends None (names_of (store.graph.shape d))
   -- numbers in use are below the room, and that is within the limit
   pub made : (n : ℕ) → store.room ≤ n → store.graph.shape n ≡ None

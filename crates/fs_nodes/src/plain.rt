@@ -35,7 +35,7 @@ impl Model for Store {
 }
 
 impl Store {
-    ghost use Rattle.fs_nodes.specs.Stores.{graph_of, kid, shape, in_use, room, IsUnlinked, IsParent, kind_of, new_shape, next_entry, IsNextName};
+    ghost use Rattle.fs_nodes.specs.Stores.{graph_of, child, shape, in_use, room, IsUnlinked, IsParent, kind_of, new_shape, next_entry, IsNextName};
     ghost use Rattle.fs_nodes.specs.Seen.{seen, IsReal};
 
     /// The root alone, in a store for at most `limit` nodes. The only error is out of memory.
@@ -83,7 +83,7 @@ impl Store {
 
     /// The node that an entry of a directory names. Where the number is no directory's, there is none.
     pub fn find(&self, dir: NodeNo, name: &Name) -> Option<NodeNo>
-        ensures node { result ≡ kid self.now dir name.now }
+        ensures node { result ≡ child self.now dir name.now }
         ensures real { IsReal (seen self.now) }
     {
         find_in(&self.places, dir, name).map(NodeNo::new)
@@ -91,7 +91,7 @@ impl Store {
 
     /// The directory that has the node's entry; none for the root and for what is not linked.
     pub fn parent(&self, node: NodeNo) -> Option<NodeNo>
-        ensures { MatchOption result (IsUnlinked (kid self.now) node) (IsParent (kid self.now) node) }
+        ensures { MatchOption result (IsUnlinked (child self.now) node) (IsParent (child self.now) node) }
     {
         match link_at(&self.places, node) {
             Some(link) => Some(link.dir),
@@ -112,9 +112,9 @@ impl Store {
     /// A directory gets an entry of this name, which names a node that none named.
     pub fn link(&mut self, dir: NodeNo, name: &Name, node: NodeNo)
         requires dir { IsTrue (is_dir (shape self.old dir)) }
-        requires absent { kid self.old dir name.now ≡ None }
+        requires absent { child self.old dir name.now ≡ None }
         requires used { IsTrue (is_there (shape self.old node)) }
-        requires unlinked { IsUnlinked (kid self.old) node }
+        requires unlinked { IsUnlinked (child self.old) node }
         requires not_root { node ≢ 0 }
         ensures { seen self.new ≡ record (seen self.old) { graph = linked_in dir name.now node (graph_of self.old) } }
     {
@@ -130,7 +130,7 @@ impl Store {
     /// `OutOfMemory` only where each number for which there is a place is in use.
     pub fn reserve(&mut self, kind: Kind) -> Result<NodeNo, NoNode>
         ensures free { IfOk result (λ node. shape self.old node ≡ None) }
-        ensures unlinked { IfOk result (λ node. IsUnlinked (kid self.old) node) }
+        ensures unlinked { IfOk result (λ node. IsUnlinked (child self.old) node) }
         ensures within { IfOk result (λ node. node < (seen self.old).limit) }
         ensures not_root { IfOk result (λ node. node ≢ 0) }
         ensures change { IfOk result (λ node. seen self.new ≡ record (seen self.old) { graph = reserved_in node (new_shape kind) (graph_of self.old); room = room self.new }) }
@@ -151,7 +151,7 @@ impl Store {
     fn reserve_next(&mut self, kind: Kind) -> Result<NodeNo, NoNode>
         requires { in_use self.old ≡ room self.old }
         ensures free { IfOk result (λ node. shape self.old node ≡ None) }
-        ensures unlinked { IfOk result (λ node. IsUnlinked (kid self.old) node) }
+        ensures unlinked { IfOk result (λ node. IsUnlinked (child self.old) node) }
         ensures within { IfOk result (λ node. node < (seen self.old).limit) }
         ensures not_root { IfOk result (λ node. node ≢ 0) }
         ensures change { IfOk result (λ node. seen self.new ≡ record (seen self.old) { graph = reserved_in node (new_shape kind) (graph_of self.old); room = room self.new }) }
@@ -173,7 +173,7 @@ impl Store {
     /// The number of a node without entries, which no entry names, is in use no more.
     pub fn release(&mut self, node: NodeNo)
         requires used { IsTrue (is_there (shape self.old node)) }
-        requires unlinked { IsUnlinked (kid self.old) node }
+        requires unlinked { IsUnlinked (child self.old) node }
         requires not_root { node ≢ 0 }
         requires empty { has_entries (shape self.old node) ≡ false }
         ensures { seen self.new ≡ record (seen self.old) { graph = released_in node (graph_of self.old) } }
@@ -183,8 +183,8 @@ impl Store {
 
     /// A directory loses an entry. What it named is answered, and stays in use.
     pub fn unlink(&mut self, dir: NodeNo, name: &Name) -> NodeNo
-        requires there { IsSome (kid self.old dir name.now) }
-        ensures node { kid self.old dir name.now ≡ Some result }
+        requires there { IsSome (child self.old dir name.now) }
+        ensures node { child self.old dir name.now ≡ Some result }
         ensures change { seen self.new ≡ record (seen self.old) { graph = unlinked_in dir name.now (graph_of self.old) } }
     {
         let node = find_in(&self.places, dir, name).unwrap();
@@ -194,10 +194,10 @@ impl Store {
 
     /// An entry goes to another directory, or to another name, with what it names and all below.
     pub fn move_entry(&mut self, from: NodeNo, name: &Name, to: NodeNo, new_name: &Name)
-        requires there { IsSome (kid self.old from name.now) }
+        requires there { IsSome (child self.old from name.now) }
         requires dir { IsTrue (is_dir (shape self.old to)) }
-        requires absent { kid self.old to new_name.now ≡ None }
-        ensures { IfSome (kid self.old from name.now) (λ node. seen self.new ≡ record (seen self.old) { graph = moved_in from name.now to new_name.now node (graph_of self.old) }) }
+        requires absent { child self.old to new_name.now ≡ None }
+        ensures { IfSome (child self.old from name.now) (λ node. seen self.new ≡ record (seen self.old) { graph = moved_in from name.now to new_name.now node (graph_of self.old) }) }
     {
         let node = find_in(&self.places, from, name).unwrap();
         let link = Link {

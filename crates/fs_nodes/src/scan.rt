@@ -3,7 +3,7 @@
 ghost use Rattle.std.specs.Prelude.{◌≡◌, ℕ, IfSome, count_by, ◌<◌, length, MatchOption, option_map, slice_get, Some, None};
 ghost use Rattle.std.specs.Option.{option_copied};
 ghost use Rattle.std.specs.List.{find};
-ghost use Rattle.fs_nodes.specs.Stores.{kid_in, content_at, link_at, link_of, is_link, is_in, names_in, is_above};
+ghost use Rattle.fs_nodes.specs.Stores.{child_in, content_at, link_at, link_of, is_link, is_in, names_in, is_above};
 ghost use Rattle.fs_nodes.specs.code.Picks.{lesser_entry, name_above};
 ghost use Rattle.fs_nodes.specs.code.Edits.{IsTaken};
 
@@ -48,7 +48,7 @@ fn is_entry(place: &Option<Node>, dir: NodeNo, name: &Name) -> bool
 
 /// The node that the entry of a directory names.
 pub fn find_in(places: &[Option<Node>], dir: NodeNo, name: &Name) -> Option<usize>
-    ensures { result ≡ kid_in places.now dir name.now }
+    ensures { result ≡ child_in places.now dir name.now }
 {
     // A directory keeps no list of its entries: each node knows the one entry that names it, so each place is looked at.
     for i in 0..places.len() {

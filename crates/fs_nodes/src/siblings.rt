@@ -4,7 +4,7 @@ ghost use Rattle.std.specs.Prelude.{◌≡◌, ◌≤◌, ◌<◌, ◌+◌, ◌-
 ghost use Rattle.std.specs.Option.{option_copied};
 ghost use Rattle.fs_names.specs.Shapes.{names_of};
 ghost use Rattle.fs_nodes.specs.Stores.{next_entry, looked, IsNextName, IsUnlinked, IsEntryAfter, IsNameAfter};
-ghost use Rattle.fs_nodes.specs.code.Linked.{graph_of_places, next_kid, IsPlaces, IsGap, IsNextSibling, edited, with_entries, entered, led, followed, put_between, taken_out};
+ghost use Rattle.fs_nodes.specs.code.Linked.{graph_of_places, next_child, IsPlaces, IsGap, IsNextSibling, edited, with_entries, entered, led, followed, put_between, taken_out};
 
 use crate::label::Label;
 use crate::place::{Place, dir_of};
@@ -16,7 +16,7 @@ use std::cmp::Ordering;
 /// The place of a directory's first entry.
 fn first_of(places: &[Place], dir: usize) -> Option<usize>
     requires { IsPlaces places.now }
-    ensures { result ≡ next_kid (graph_of_places places.now) dir None }
+    ensures { result ≡ next_child (graph_of_places places.now) dir None }
 {
     if dir < places.len() {
         let place = &places[dir];
@@ -29,7 +29,7 @@ fn first_of(places: &[Place], dir: usize) -> Option<usize>
 /// The node of an entry, and at how many places was looked.
 pub fn find_steps(places: &[Place], dir: usize, name: &Name) -> (Option<usize>, usize)
     requires { IsPlaces places.now }
-    ensures kid { result.0 ≡ (graph_of_places places.now).kid dir name.now }
+    ensures child { result.0 ≡ (graph_of_places places.now).child dir name.now }
     ensures steps { result.1 ≤ length (names_of ((graph_of_places places.now).shape dir)) }
     ensures looked { result.1 ≡ looked name.now (names_of ((graph_of_places places.now).shape dir)) }
 {
@@ -52,7 +52,7 @@ pub fn find_steps(places: &[Place], dir: usize, name: &Name) -> (Option<usize>, 
 pub fn gap(places: &[Place], dir: usize, name: &Name) -> (Spot, Spot)
     requires places { IsPlaces places.now }
     requires dir { dir < length places.now }
-    requires absent { (graph_of_places places.now).kid dir name.now ≡ None }
+    requires absent { (graph_of_places places.now).child dir name.now ≡ None }
     ensures { IsGap (graph_of_places places.now) dir name.now result.0 result.1 }
 {
     let label = Label::new(name.copy());
@@ -204,7 +204,7 @@ pub fn beside(places: &[Place], node: usize) -> (Spot, Spot)
 pub fn sibling_after(places: &[Place], node: usize) -> Option<usize>
     requires { IsPlaces places.now }
     ensures next { IsNextSibling (graph_of_places places.now) node result }
-    ensures unlinked { IsUnlinked (graph_of_places places.now).kid node → result ≡ None }
+    ensures unlinked { IsUnlinked (graph_of_places places.now).child node → result ≡ None }
     ensures within { IfSome result (λ n. n < length places.now) }
 {
     match dir_of(places, node) {
@@ -221,7 +221,7 @@ pub fn entry_after(places: &[Place], node: usize) -> Option<(Name, usize)>
     requires { IsPlaces places.now }
     ensures entry { IsEntryAfter (graph_of_places places.now) node result }
     ensures rest { IsNameAfter (graph_of_places places.now) node (option_map (λ entry. entry.0) result) }
-    ensures unlinked { IsUnlinked (graph_of_places places.now).kid node → result ≡ None }
+    ensures unlinked { IsUnlinked (graph_of_places places.now).child node → result ≡ None }
 {
     match sibling_after(places, node) {
         Some(n) => {
@@ -235,7 +235,7 @@ pub fn entry_after(places: &[Place], node: usize) -> Option<(Name, usize)>
 /// The node of a directory's least name above the given one.
 pub fn least_above(places: &[Place], dir: usize, low: Option<&Name>) -> Option<usize>
     requires { IsPlaces places.now }
-    ensures { result ≡ next_kid (graph_of_places places.now) dir (option_copied low.entry) }
+    ensures { result ≡ next_child (graph_of_places places.now) dir (option_copied low.entry) }
 {
     let mut next = first_of(places, dir);
     while let Some(n) = next {

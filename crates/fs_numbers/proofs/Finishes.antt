@@ -6,7 +6,7 @@ use Rattle.fs_names.specs.Names.{Name}
 use Rattle.fs_names.specs.Shapes.{Shape, is_full}
 use Rattle.fs_calls.specs.Forms.{form, Form, AtNode, AtEntry, AtPair, by_text}
 use Rattle.fs_calls.specs.declared.target.PairCall.TheVariants as pairs
-use Rattle.fs_calls.specs.Rows.{on_row, Edit, Keep, Add, Remove, in_row}
+use Rattle.fs_calls.specs.Rows.{node_row, Edit, Keep, Add, Remove, entry_row}
 use Rattle.fs_calls.specs.declared.errno.Errno.{Errno}
 use Rattle.fs_calls.specs.declared.reply.Reply.{Reply}
 use Rattle.fs_calls.specs.declared.reply.Reply.TheVariants.{Failed}
@@ -14,9 +14,9 @@ use Rattle.fs_nodes.specs.Graphs.{Graph, entry_shape}
 use Rattle.fs_machine.specs.Finishes.{Effect, no_effect, node_effect, entry_effect, move_effect, rename_effect, effect_at, effect_of, finish}
 use Rattle.fs_machine.specs.Leaving.{finished_op}
 use Rattle.fs_machine.specs.Moves.{target, walk_errno, path_error, dir_error, rename_at}
-use Rattle.fs_machine.specs.Records.{Stand, Record}
-use Rattle.fs_numbers.specs.Renamings.{Renaming, renamed_number, renamed_graph, renamed_stand, renamed_record, renamed_made}
-use Rattle.fs_numbers.proofs.Edits.{old_at, kid_at, entry_at, content_renamed, linked_renamed, unlinked_renamed, moved_renamed}
+use Rattle.fs_machine.specs.Records.{Holdings, Record}
+use Rattle.fs_numbers.specs.Renamings.{Renaming, renamed_number, renamed_graph, renamed_holdings, renamed_record, renamed_made}
+use Rattle.fs_numbers.proofs.Edits.{old_at, child_at, entry_at, content_renamed, linked_renamed, unlinked_renamed, moved_renamed}
 use Rattle.fs_numbers.proofs.Moves.{row_renamed}
 
 -- of made graphs the graph alone is to be looked at
@@ -31,36 +31,36 @@ in_renamed : (r : Renaming) (graph : Graph) (n : ℕ) (x : Name) (reserved : Opt
 in_renamed r graph n x reserved (reply, Keep) = refl
 in_renamed r graph n x None (reply, Add shape) = refl
 in_renamed r graph n x (Some m) (reply, Add shape) = same_made reply None None _ _ (sym (linked_renamed r n x m graph))
-in_renamed r graph n x None (reply, Remove) = ap₂ (λ (g : Graph) (o : Option ℕ). record { reply = reply; graph = g; reserved = None; removed = o }) (sym (unlinked_renamed r n x graph)) (kid_at r graph.kid n x)
-in_renamed r graph n x (Some m) (reply, Remove) = ap₂ (λ (g : Graph) (o : Option ℕ). record { reply = reply; graph = g; reserved = Some (r.to m); removed = o }) (sym (unlinked_renamed r n x graph)) (kid_at r graph.kid n x)
+in_renamed r graph n x None (reply, Remove) = ap₂ (λ (g : Graph) (o : Option ℕ). record { reply = reply; graph = g; reserved = None; removed = o }) (sym (unlinked_renamed r n x graph)) (child_at r graph.child n x)
+in_renamed r graph n x (Some m) (reply, Remove) = ap₂ (λ (g : Graph) (o : Option ℕ). record { reply = reply; graph = g; reserved = Some (r.to m); removed = o }) (sym (unlinked_renamed r n x graph)) (child_at r graph.child n x)
 
-move_renamed : (r : Renaming) (graph : Graph) (st : Stand) (x y : Name) (reserved : Option ℕ) (reply : Reply) (really : Bool) (s : Option ℕ) → move_effect (renamed_graph r graph) (renamed_stand r st) x y (renamed_number r reserved) reply really (renamed_number r s) ≡ renamed_made r (move_effect graph st x y reserved reply really s)
+move_renamed : (r : Renaming) (graph : Graph) (st : Holdings) (x y : Name) (reserved : Option ℕ) (reply : Reply) (really : Bool) (s : Option ℕ) → move_effect (renamed_graph r graph) (renamed_holdings r st) x y (renamed_number r reserved) reply really (renamed_number r s) ≡ renamed_made r (move_effect graph st x y reserved reply really s)
 move_renamed r graph st x y reserved reply false s = refl
 move_renamed r graph st x y reserved reply true None = refl
 move_renamed r graph st x y reserved reply true (Some s) = same_made reply (renamed_number r reserved) (renamed_number r st.victim) _ _ (sym (moved_renamed r st.source.node x st.dest.node y s graph))
 
-rename_renamed : (r : Renaming) (graph : Graph) (p q : Key) (st : Stand) (reserved : Option ℕ) (l : Key) → rename_effect (renamed_graph r graph) p q (renamed_stand r st) (renamed_number r reserved) l ≡ renamed_made r (rename_effect graph p q st reserved l)
+rename_renamed : (r : Renaming) (graph : Graph) (p q : Key) (st : Holdings) (reserved : Option ℕ) (l : Key) → rename_effect (renamed_graph r graph) p q (renamed_holdings r st) (renamed_number r reserved) l ≡ renamed_made r (rename_effect graph p q st reserved l)
 rename_renamed r graph p q st reserved (z ∷ l) = ap (λ (s : Option Shape). no_effect (Failed (walk_errno s)) (renamed_graph r graph) (renamed_number r reserved)) (old_at r graph.shape st.node)
 rename_renamed r graph p q st reserved [] =
-    ap₂ (λ (row : Reply × Bool) (s : Option ℕ). move_effect (renamed_graph r graph) (renamed_stand r st) (last_of p) (last_of q) (renamed_number r reserved) row.0 row.1 s) (row_renamed r graph p q st) (kid_at r graph.kid st.source.node (last_of p))
-    ∙ move_renamed r graph st (last_of p) (last_of q) reserved (rename_at graph p q st).0 (rename_at graph p q st).1 (graph.kid st.source.node (last_of p))
+    ap₂ (λ (row : Reply × Bool) (s : Option ℕ). move_effect (renamed_graph r graph) (renamed_holdings r st) (last_of p) (last_of q) (renamed_number r reserved) row.0 row.1 s) (row_renamed r graph p q st) (child_at r graph.child st.source.node (last_of p))
+    ∙ move_renamed r graph st (last_of p) (last_of q) reserved (rename_at graph p q st).0 (rename_at graph p q st).1 (graph.child st.source.node (last_of p))
 
-at_renamed : (r : Renaming) (graph : Graph) (remaining : Form) (st : Stand) (reserved : Option ℕ) → effect_at (renamed_graph r graph) remaining (renamed_stand r st) (renamed_number r reserved) ≡ renamed_made r (effect_at graph remaining st reserved)
+at_renamed : (r : Renaming) (graph : Graph) (remaining : Form) (st : Holdings) (reserved : Option ℕ) → effect_at (renamed_graph r graph) remaining (renamed_holdings r st) (renamed_number r reserved) ≡ renamed_made r (effect_at graph remaining st reserved)
 at_renamed r graph (AtNode c p) st reserved =
-    ap (λ (s : Option Shape). node_effect (renamed_graph r graph) (r.to st.node) (renamed_number r reserved) (on_row c (path_error p s) s)) (old_at r graph.shape st.node)
-    ∙ on_renamed r graph st.node reserved (on_row c (path_error p (graph.shape st.node)) (graph.shape st.node))
+    ap (λ (s : Option Shape). node_effect (renamed_graph r graph) (r.to st.node) (renamed_number r reserved) (node_row c (path_error p s) s)) (old_at r graph.shape st.node)
+    ∙ on_renamed r graph st.node reserved (node_row c (path_error p (graph.shape st.node)) (graph.shape st.node))
 at_renamed r graph (AtEntry c p) st reserved =
-    ap₂ (λ (s t : Option Shape). entry_effect (renamed_graph r graph) (r.to st.node) (last_of p) (renamed_number r reserved) (in_row c (dir_error (parent_of p) s) (is_full s) t)) (old_at r graph.shape st.node) (entry_at r graph st.node (last_of p))
-    ∙ in_renamed r graph st.node (last_of p) reserved (in_row c (dir_error (parent_of p) (graph.shape st.node)) (is_full (graph.shape st.node)) (entry_shape graph st.node (last_of p)))
+    ap₂ (λ (s t : Option Shape). entry_effect (renamed_graph r graph) (r.to st.node) (last_of p) (renamed_number r reserved) (entry_row c (dir_error (parent_of p) s) (is_full s) t)) (old_at r graph.shape st.node) (entry_at r graph st.node (last_of p))
+    ∙ in_renamed r graph st.node (last_of p) reserved (entry_row c (dir_error (parent_of p) (graph.shape st.node)) (is_full (graph.shape st.node)) (entry_shape graph st.node (last_of p)))
 at_renamed r graph (AtPair pairs.Rename p q) st reserved = rename_renamed r graph p q st reserved (target (AtPair pairs.Rename p q))
 
-by_renamed : (r : Renaming) (graph : Graph) (op : Record) (e : Option Errno) (stand : Option Stand) → effect_of (renamed_graph r graph) (renamed_record r op) e (option_map (renamed_stand r) stand) ≡ renamed_made r (effect_of graph op e stand)
-by_renamed r graph op (Some e) stand = refl
+by_renamed : (r : Renaming) (graph : Graph) (op : Record) (e : Option Errno) (holdings : Option Holdings) → effect_of (renamed_graph r graph) (renamed_record r op) e (option_map (renamed_holdings r) holdings) ≡ renamed_made r (effect_of graph op e holdings)
+by_renamed r graph op (Some e) holdings = refl
 by_renamed r graph op None None = refl
 by_renamed r graph op None (Some st) = at_renamed r graph op.remaining st op.reserved
 
 pub finish_renamed : (r : Renaming) (graph : Graph) (op : Record) → finish (renamed_graph r graph) (renamed_record r op) ≡ renamed_made r (finish graph op)
-finish_renamed r graph op = by_renamed r graph op (by_text (form op.call)) op.stand
+finish_renamed r graph op = by_renamed r graph op (by_text (form op.call)) op.holdings
 
 pub finished_renamed : (r : Renaming) (graph : Graph) (op : Record) → finished_op (renamed_record r op) (finish (renamed_graph r graph) (renamed_record r op)) ≡ renamed_record r (finished_op op (finish graph op))
 finished_renamed r graph op = ap (finished_op (renamed_record r op)) (finish_renamed r graph op)

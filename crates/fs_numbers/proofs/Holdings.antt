@@ -11,24 +11,24 @@ use Rattle.fs_calls.specs.declared.reply.Reply.{Reply}
 use Rattle.fs_nodes.specs.Graphs.{Graph, set_at}
 use Rattle.fs_machine.specs.Finishes.{finish}
 use Rattle.fs_machine.specs.Leaving.{let_go, finished_op}
-use Rattle.fs_machine.specs.Moves.{Takes, next, target, head_took, left_behind, left_stand, took, took_by}
-use Rattle.fs_machine.specs.Records.{Stand, Phase, Walking, Placed, Finished, Record, Records, stand_at}
+use Rattle.fs_machine.specs.Moves.{Takes, next, target, head_took, left_behind, left_holdings, took, took_by}
+use Rattle.fs_machine.specs.Records.{Holdings, Phase, Walking, Placed, Finished, Record, Records, holdings_at}
 use Rattle.fs_timeline.specs.Timeline.{commit_count}
 use Rattle.fs_laws.specs.Invariants.{IsUnfinished, VictimAt, HeadsFit}
 use Rattle.fs_laws.specs.States.{State, Run, Start, Beginning, Stepping, Begun, Begins, Begun_as, Seat_busy, Full, No_memory, Reserves, new_op, Step, Stepped, Idle, Took, Busy, LetGo, Helped, Committed, CarriedOut, Returned}
-use Rattle.fs_laws.specs.Work.{one_if, one_walked}
+use Rattle.fs_laws.specs.StepsLeft.{one_if, one_walked}
 use Rattle.fs_laws.proofs.trees.Prefixes.{prefix_append}
 use Rattle.fs_laws.proofs.events.OneCallChanged.{Place, Here, Else, place}
 use Rattle.fs_laws.proofs.events.JustFinished.{Either, Changed, Old, either}
-use Rattle.fs_laws.proofs.events.Take.{TakesFrom, From_nowhere, From_stand, takes_from}
+use Rattle.fs_laws.proofs.events.Take.{TakesFrom, From_nowhere, From_holdings, takes_from}
 use Rattle.fs_laws.proofs.calls.Takes.{Take, Walk, Entry, Source, Dest, Replaced, takes_by}
-use Rattle.fs_laws.proofs.calls.HeadOrder.{Neat, NeatIn, InTurn, IsClosed, in_turn}
+use Rattle.fs_laws.proofs.calls.HeadOrder.{HeadsInOrder, NeatIn, InTurn, IsClosed, in_turn}
 use Rattle.fs_laws.proofs.states.Headline.{run_keeps}
 use Rattle.fs_laws.proofs.states.Agreement.{run_accounts}
 use Rattle.fs_numbers.specs.Holdings.{nodes_held}
 
 -- a parent is held behind only while nothing further is held
-record InOrder (st : Stand) : Type 0 where
+record InOrder (st : Holdings) : Type 0 where
   walk : (m : ℕ) → st.behind ≡ Some m → (st.source.walked ≡ []) × (st.dest.walked ≡ []) × (st.victim ≡ None)
   source : (m : ℕ) → st.source.behind ≡ Some m → (st.dest.walked ≡ []) × (st.victim ≡ None)
   dest : (m : ℕ) → st.dest.behind ≡ Some m → st.victim ≡ None
@@ -36,7 +36,7 @@ record InOrder (st : Stand) : Type 0 where
 no_number : {A : Type 0} (o : Option ℕ) (m : ℕ) → o ≡ None → o ≡ Some m → A
 no_number o m e f = absurd (let z : ◌≡◌ {A = Option ℕ} None (Some m) = sym e ∙ f in cc)
 
-none_behind : (st : Stand) → st.behind ≡ None → st.source.behind ≡ None → st.dest.behind ≡ None → InOrder st
+none_behind : (st : Holdings) → st.behind ≡ None → st.source.behind ≡ None → st.dest.behind ≡ None → InOrder st
 none_behind st a b c = record { walk = λ m e. no_number st.behind m a e; source = λ m e. no_number st.source.behind m b e; dest = λ m e. no_number st.dest.behind m c e }
 
 -- ---- the count
@@ -49,7 +49,7 @@ walked_most : (k : Key) → one_walked k ≤ 1
 walked_most [] = omega arith
 walked_most (x ∷ k) = omega arith
 
-at_most : (st : Stand) → HeadsFit st → InOrder st → nodes_held st ≤ 4
+at_most : (st : Holdings) → HeadsFit st → InOrder st → nodes_held st ≤ 4
 at_most st fit o = behind st.behind refl
   where
     by_dest : (b : Option ℕ) → st.dest.behind ≡ b → st.source.behind ≡ None → st.behind ≡ None → nodes_held st ≤ 4
@@ -94,7 +94,7 @@ at_most st fit o = behind st.behind refl
 
 -- ---- takes
 
-fresh : (n : ℕ) (behind : Option ℕ) → InOrder (stand_at n behind)
+fresh : (n : ℕ) (behind : Option ℕ) → InOrder (holdings_at n behind)
 fresh n behind = record { walk = λ m e. (refl, refl, refl); source = λ m e. no_number None m refl e; dest = λ m e. no_number None m refl e }
 
 not_walked : (k : Key) → (HasNames k → ⊥) → k ≡ []
@@ -112,27 +112,27 @@ goes_on : (x : Name) (l : Key) (k : Key) → k ≡ x ∷ l → k ≡ [] → ⊥
 goes_on x l k e f = let y : ◌≡◌ {A = Key} (x ∷ l) [] = sym e ∙ f in cc
 
 -- what the stand after a take keeps
-took_order : (graph : Graph) (op : Record) (n : ℕ) (st new : Stand) → HeadsFit st → Neat graph op.remaining st → VictimAt graph op.remaining st → (took op n).stand ≡ Some new → Take graph op n st → InOrder new
-took_order graph op n st new fit neat vic on (Walk x l a b kid is) = subst InOrder (stand_is (stand_at n (Some st.node)) new (sym (ap (λ (o : Record). o.stand) is) ∙ on)) (fresh n (Some st.node))
+took_order : (graph : Graph) (op : Record) (n : ℕ) (st new : Holdings) → HeadsFit st → HeadsInOrder graph op.remaining st → VictimAt graph op.remaining st → (took op n).holdings ≡ Some new → Take graph op n st → InOrder new
+took_order graph op n st new fit neat vic on (Walk x l a b child is) = subst InOrder (holdings_is (holdings_at n (Some st.node)) new (sym (ap (λ (o : Record). o.holdings) is) ∙ on)) (fresh n (Some st.node))
   where
-    stand_is : (a b : Stand) → ◌≡◌ {A = Option Stand} (Some a) (Some b) → a ≡ b
-    stand_is a b e = cc
-took_order graph op n st new fit neat vic on (Entry c p rem way b kid off is) = subst InOrder (stand_is (record st { victim = Some n }) new (sym (ap (λ (o : Record). o.stand) is) ∙ on)) (none_behind (record st { victim = Some n }) b (fit.0 mine.source) (fit.1 mine.dest))
+    holdings_is : (a b : Holdings) → ◌≡◌ {A = Option Holdings} (Some a) (Some b) → a ≡ b
+    holdings_is a b e = cc
+took_order graph op n st new fit neat vic on (Entry c p rem way b child off is) = subst InOrder (holdings_is (record st { victim = Some n }) new (sym (ap (λ (o : Record). o.holdings) is) ∙ on)) (none_behind (record st { victim = Some n }) b (fit.0 mine.source) (fit.1 mine.dest))
   where
-    stand_is : (a b : Stand) → ◌≡◌ {A = Option Stand} (Some a) (Some b) → a ≡ b
-    stand_is a b e = cc
+    holdings_is : (a b : Holdings) → ◌≡◌ {A = Option Holdings} (Some a) (Some b) → a ≡ b
+    holdings_is a b e = cc
 
     mine : NeatIn p st
-    mine = subst (λ (f : Form). Neat graph f st) rem neat
-took_order graph op n st new fit neat vic on (Replaced p q names rem way b arrived sb dir at_left db want kid off is) = subst InOrder (stand_is (record st { victim = Some n }) new (sym (ap (λ (o : Record). o.stand) is) ∙ on)) (none_behind (record st { victim = Some n }) b sb db)
+    mine = subst (λ (f : Form). HeadsInOrder graph f st) rem neat
+took_order graph op n st new fit neat vic on (Replaced p q names rem way b arrived sb dir at_left db want child off is) = subst InOrder (holdings_is (record st { victim = Some n }) new (sym (ap (λ (o : Record). o.holdings) is) ∙ on)) (none_behind (record st { victim = Some n }) b sb db)
   where
-    stand_is : (a b : Stand) → ◌≡◌ {A = Option Stand} (Some a) (Some b) → a ≡ b
-    stand_is a b e = cc
-took_order graph op n st new fit neat vic on (Source p q x l rem way b at_left sb kid is) = subst InOrder (stand_is (record st { source = head_took st.source x n }) new (sym (ap (λ (o : Record). o.stand) is) ∙ on))
+    holdings_is : (a b : Holdings) → ◌≡◌ {A = Option Holdings} (Some a) (Some b) → a ≡ b
+    holdings_is a b e = cc
+took_order graph op n st new fit neat vic on (Source p q x l rem way b at_left sb child is) = subst InOrder (holdings_is (record st { source = head_took st.source x n }) new (sym (ap (λ (o : Record). o.holdings) is) ∙ on))
     (record { walk = λ m e. no_number st.behind m b e; source = λ m e. (no_dest, no_victim); dest = λ m e. no_victim })
   where
-    stand_is : (a b : Stand) → ◌≡◌ {A = Option Stand} (Some a) (Some b) → a ≡ b
-    stand_is a b e = cc
+    holdings_is : (a b : Holdings) → ◌≡◌ {A = Option Holdings} (Some a) (Some b) → a ≡ b
+    holdings_is a b e = cc
 
     turn : InTurn graph p st
     turn = in_turn graph p q st op.remaining rem way neat
@@ -142,11 +142,11 @@ took_order graph op n st new fit neat vic on (Source p q x l rem way b at_left s
 
     no_victim : st.victim ≡ None
     no_victim = not_there st.victim (λ v e. goes_on x l (left st.source.walked (parent_of p)) at_left (turn.victim v e).arrived)
-took_order graph op n st new fit neat vic on (Dest p q x l names rem way b arrived sb dir at_left db kid is) = subst InOrder (stand_is (record st { dest = head_took st.dest x n }) new (sym (ap (λ (o : Record). o.stand) is) ∙ on))
+took_order graph op n st new fit neat vic on (Dest p q x l names rem way b arrived sb dir at_left db child is) = subst InOrder (holdings_is (record st { dest = head_took st.dest x n }) new (sym (ap (λ (o : Record). o.holdings) is) ∙ on))
     (record { walk = λ m e. no_number st.behind m b e; source = λ m e. no_number st.source.behind m sb e; dest = λ m e. no_victim })
   where
-    stand_is : (a b : Stand) → ◌≡◌ {A = Option Stand} (Some a) (Some b) → a ≡ b
-    stand_is a b e = cc
+    holdings_is : (a b : Holdings) → ◌≡◌ {A = Option Holdings} (Some a) (Some b) → a ≡ b
+    holdings_is a b e = cc
 
     mine : VictimAt graph (AtPair pairs.Rename p q) st
     mine = subst (λ (f : Form). VictimAt graph f st) rem vic
@@ -156,7 +156,7 @@ took_order graph op n st new fit neat vic on (Dest p q x l names rem way b arriv
 
 -- ---- let goes
 
-left_order : (st : Stand) (b s : Option ℕ) → InOrder st → InOrder (left_behind st b s)
+left_order : (st : Holdings) (b s : Option ℕ) → InOrder st → InOrder (left_behind st b s)
 left_order st (Some m) s o = record { walk = λ k e. no_number None k refl e; source = o.source; dest = o.dest }
 left_order st None (Some m) o = record { walk = o.walk; source = λ k e. no_number None k refl e; dest = o.dest }
 left_order st None None o = record { walk = o.walk; source = o.source; dest = λ k e. no_number None k refl e }
@@ -164,35 +164,35 @@ left_order st None None o = record { walk = o.walk; source = o.source; dest = λ
 -- ---- states
 
 abbrev Ordered : State → Type 0
-Ordered s = (c : ℕ) (op : Record) (st : Stand) → s.ops c ≡ Some op → op.stand ≡ Some st → IsUnfinished op → InOrder st
+Ordered s = (c : ℕ) (op : Record) (st : Holdings) → s.ops c ≡ Some op → op.holdings ≡ Some st → IsUnfinished op → InOrder st
 
-ordered_by : (s new : State) (c : ℕ) (v : Record) → new.ops ≡ set_at c (Some v) s.ops → ((st : Stand) → v.stand ≡ Some st → IsUnfinished v → InOrder st) → Ordered s → Ordered new
+ordered_by : (s new : State) (c : ℕ) (v : Record) → new.ops ≡ set_at c (Some v) s.ops → ((st : Holdings) → v.holdings ≡ Some st → IsUnfinished v → InOrder st) → Ordered s → Ordered new
 ordered_by s new c v ops mine k d q st e on u = go (either s.ops c v d q (sym (ap (λ (f : Records). f d) ops) ∙ e))
   where
     go : Either s.ops c v d q → InOrder st
-    go (Changed i j) = mine st (ap (λ (o : Record). o.stand) j ∙ on) (subst IsUnfinished (sym j) u)
+    go (Changed i j) = mine st (ap (λ (o : Record). o.holdings) j ∙ on) (subst IsUnfinished (sym j) u)
     go (Old h i) = k d q st i on u
 
-stand_one : (a b : Stand) → ◌≡◌ {A = Option Stand} (Some a) (Some b) → a ≡ b
-stand_one a b e = cc
+holdings_one : (a b : Holdings) → ◌≡◌ {A = Option Holdings} (Some a) (Some b) → a ≡ b
+holdings_one a b e = cc
 
-some_none : (st : Stand) → ◌≡◌ {A = Option Stand} None (Some st) → ⊥
+some_none : (st : Holdings) → ◌≡◌ {A = Option Holdings} None (Some st) → ⊥
 some_none st e = cc
 
-taken : (s : State) → Run s → (c : ℕ) (op : Record) (n : ℕ) → s.ops c ≡ Some op → next s.graph op ≡ Takes n → (new : Stand) → (took op n).stand ≡ Some new → InOrder new
+taken : (s : State) → Run s → (c : ℕ) (op : Record) (n : ℕ) → s.ops c ≡ Some op → next s.graph op ≡ Takes n → (new : Holdings) → (took op n).holdings ≡ Some new → InOrder new
 taken s run c op n is m new on = go (takes_from s.graph op n m)
   where
     go : TakesFrom s.graph op n × IsUnfinished op → InOrder new
-    go (From_nowhere text off z, u) = subst InOrder (stand_one (stand_at n None) new (sym (ap (λ (o : Option Stand). (took_by op o (target op.remaining) n).stand) off) ∙ on)) (fresh n None)
-    go (From_stand st at t, u) = took_order s.graph op n st new (((run_keeps s run).own c op is).heads st at) (((run_accounts s run).neat c op st is at).under_way u) (((run_keeps s run).own c op is).victim u st at) on (takes_by s.graph op n st at t)
+    go (From_nowhere text off z, u) = subst InOrder (holdings_one (holdings_at n None) new (sym (ap (λ (o : Option Holdings). (took_by op o (target op.remaining) n).holdings) off) ∙ on)) (fresh n None)
+    go (From_holdings st at t, u) = took_order s.graph op n st new (((run_keeps s run).own c op is).heads st at) (((run_accounts s run).neat c op st is at).under_way u) (((run_keeps s run).own c op is).victim u st at) on (takes_by s.graph op n st at t)
 
-let_gone : (s : State) (c : ℕ) (op : Record) (n : ℕ) → s.ops c ≡ Some op → Ordered s → (new : Stand) → (let_go op n).stand ≡ Some new → IsUnfinished op → InOrder new
-let_gone s c op n is k new on u = go op.phase op.stand refl refl on
+let_gone : (s : State) (c : ℕ) (op : Record) (n : ℕ) → s.ops c ≡ Some op → Ordered s → (new : Holdings) → (let_go op n).holdings ≡ Some new → IsUnfinished op → InOrder new
+let_gone s c op n is k new on u = go op.phase op.holdings refl refl on
   where
-    by : (st : Stand) → op.stand ≡ Some st → ◌≡◌ {A = Option Stand} (Some (left_behind st st.behind st.source.behind)) (Some new) → InOrder new
-    by st j e = subst InOrder (stand_one (left_behind st st.behind st.source.behind) new e) (left_order st st.behind st.source.behind (k c op st is j u))
+    by : (st : Holdings) → op.holdings ≡ Some st → ◌≡◌ {A = Option Holdings} (Some (left_behind st st.behind st.source.behind)) (Some new) → InOrder new
+    by st j e = subst InOrder (holdings_one (left_behind st st.behind st.source.behind) new e) (left_order st st.behind st.source.behind (k c op st is j u))
 
-    go : (p : Phase) (o : Option Stand) → op.phase ≡ p → op.stand ≡ o → left_stand p o ≡ Some new → InOrder new
+    go : (p : Phase) (o : Option Holdings) → op.phase ≡ p → op.holdings ≡ o → left_holdings p o ≡ Some new → InOrder new
     go p None i j e = absurd (some_none new e)
     go (Finished r) (Some st) i j e = absurd (u r i)
     go Walking (Some st) i j e = by st j e
@@ -234,7 +234,7 @@ ordered s (Start limit least) = λ c op st e on u. cc
 ordered s (Beginning {old} seat call answer new run begin) = ordered_begin old s seat call answer begin (ordered old run)
 ordered s (Stepping {old} seat answer new run step) = ordered_step old s seat answer run step (ordered old run)
 
-pub four_held : (s : State) → Run s → (c : ℕ) (op : Record) (st : Stand) → s.ops c ≡ Some op → op.stand ≡ Some st → nodes_held st ≤ 4
+pub four_held : (s : State) → Run s → (c : ℕ) (op : Record) (st : Holdings) → s.ops c ≡ Some op → op.holdings ≡ Some st → nodes_held st ≤ 4
 four_held s run c op st is on = at_most st (((run_keeps s run).own c op is).heads st on) (go op.phase refl)
   where
     unfinished : (p : Phase) → op.phase ≡ p → ((r : Reply) → p ≡ Finished r → ⊥) → IsUnfinished op

@@ -13,10 +13,10 @@ use Rattle.fs_calls.specs.declared.errno.Errno.{Errno}
 use Rattle.fs_calls.specs.declared.reply.Reply.{Reply}
 use Rattle.fs_nodes.specs.Graphs.{Graph, entry_shape}
 use Rattle.fs_machine.specs.Leaving.{is_removed, cleared, releasing, let_go, unreserved}
-use Rattle.fs_machine.specs.Moves.{Move, Takes, Leaves, Finishes, first_of, target, walk_move, head_move, victim_of, take_if, in_move, there_by, same_kind, dir_error, rename_at, moved_node, rename_move, dir_then, fork_move, target_move, first_walked, last_held, next_by, next, behind_of, head_took, dest_took, source_took, target_took, took_by, took, left_behind, left_heads, left_last, left_stand}
-use Rattle.fs_machine.specs.Records.{Head, Stand, Phase, Walking, Placed, Finished, Record}
-use Rattle.fs_numbers.specs.Renamings.{Renaming, renamed_number, renamed_kids, renamed_graph, renamed_head, renamed_stand, renamed_record, renamed_move}
-use Rattle.fs_numbers.proofs.Edits.{eqb_old, old_at, kid_at, entry_at, released_renamed}
+use Rattle.fs_machine.specs.Moves.{Move, Takes, Leaves, Finishes, first_of, target, walk_move, head_move, victim_of, take_if, entry_move, there_by, same_kind, dir_error, rename_at, moved_node, rename_move, dir_then, fork_move, target_move, first_walked, last_held, next_by, next, behind_of, head_took, dest_took, source_took, target_took, took_by, took, left_behind, left_heads, left_last, left_holdings}
+use Rattle.fs_machine.specs.Records.{Head, Holdings, Phase, Walking, Placed, Finished, Record}
+use Rattle.fs_numbers.specs.Renamings.{Renaming, renamed_number, renamed_children, renamed_graph, renamed_head, renamed_holdings, renamed_record, renamed_move}
+use Rattle.fs_numbers.proofs.Edits.{eqb_old, old_at, child_at, entry_at, released_renamed}
 
 -- ---- the next move
 
@@ -29,7 +29,7 @@ walk_renamed r (Some (Dir names)) (Some m) = refl
 head_renamed : (r : Renaming) (graph : Graph) (n : ℕ) (behind : Option ℕ) (l : Key) → head_move (renamed_graph r graph) (r.to n) (renamed_number r behind) l ≡ option_map (renamed_move r) (head_move graph n behind l)
 head_renamed r graph n (Some m) l = refl
 head_renamed r graph n None [] = refl
-head_renamed r graph n None (x ∷ l) = ap (λ (m : Move). Some m) (ap₂ walk_move (old_at r graph.shape n) (kid_at r graph.kid n x) ∙ walk_renamed r (graph.shape n) (graph.kid n x))
+head_renamed r graph n None (x ∷ l) = ap (λ (m : Move). Some m) (ap₂ walk_move (old_at r graph.shape n) (child_at r graph.child n x) ∙ walk_renamed r (graph.shape n) (graph.child n x))
 
 first_renamed : (r : Renaming) (o : Option Move) (m : Move) → first_of (option_map (renamed_move r) o) (renamed_move r m) ≡ renamed_move r (first_of o m)
 first_renamed r None m = refl
@@ -52,18 +52,18 @@ take_renamed r true None held m = refl
 take_renamed r true (Some n) None m = refl
 take_renamed r true (Some n) (Some v) m = refl
 
-in_renamed : (r : Renaming) (graph : Graph) (c : EntryCall) (x : Name) (st : Stand) → in_move (renamed_graph r graph) c x (renamed_stand r st) ≡ renamed_move r (in_move graph c x st)
+in_renamed : (r : Renaming) (graph : Graph) (c : EntryCall) (x : Name) (st : Holdings) → entry_move (renamed_graph r graph) c x (renamed_holdings r st) ≡ renamed_move r (entry_move graph c x st)
 in_renamed r graph c x st =
-    ap₂ (λ (s : Option Shape) (k : Option ℕ). take_if (victim_of c s) k (renamed_number r st.victim) (Finishes None)) (entry_at r graph st.node x) (kid_at r graph.kid st.node x)
-    ∙ take_renamed r (victim_of c (entry_shape graph st.node x)) (graph.kid st.node x) st.victim (Finishes None)
+    ap₂ (λ (s : Option Shape) (k : Option ℕ). take_if (victim_of c s) k (renamed_number r st.victim) (Finishes None)) (entry_at r graph st.node x) (child_at r graph.child st.node x)
+    ∙ take_renamed r (victim_of c (entry_shape graph st.node x)) (graph.child st.node x) st.victim (Finishes None)
 
 -- what a rename reads has no numbers
-row_by : Key → Key → Stand → Option Shape → Option Shape → Option Shape → Option Shape → Reply × Bool
+row_by : Key → Key → Holdings → Option Shape → Option Shape → Option Shape → Option Shape → Reply × Bool
 row_by p q st from to moved there =
     rename_row (dir_error (left st.source.walked (parent_of p)) from) (dir_error (left st.dest.walked (parent_of q)) to) moved (is_end (after_prefix p q))
     (there_by (has_more (after_prefix q p)) there) (is_end (after_prefix (parent_of p) (parent_of q)) || not (is_full to))
 
-pub row_renamed : (r : Renaming) (graph : Graph) (p q : Key) (st : Stand) → rename_at (renamed_graph r graph) p q (renamed_stand r st) ≡ rename_at graph p q st
+pub row_renamed : (r : Renaming) (graph : Graph) (p q : Key) (st : Holdings) → rename_at (renamed_graph r graph) p q (renamed_holdings r st) ≡ rename_at graph p q st
 unfolding row_by
 row_renamed r graph p q st =
     ap₂ (λ (a b : Option Shape). row_by p q st a b (entry_shape (renamed_graph r graph) (r.to st.source.node) (last_of p)) (entry_shape (renamed_graph r graph) (r.to st.dest.node) (last_of q))) (old_at r graph.shape st.source.node) (old_at r graph.shape st.dest.node)
@@ -73,22 +73,22 @@ moved_node_renamed : (r : Renaming) (really : Bool) (s : Option ℕ) → moved_n
 moved_node_renamed r true s = refl
 moved_node_renamed r false s = refl
 
-rename_renamed : (r : Renaming) (graph : Graph) (p q : Key) (st : Stand) → rename_move (renamed_graph r graph) p q (renamed_stand r st) ≡ renamed_move r (rename_move graph p q st)
+rename_renamed : (r : Renaming) (graph : Graph) (p q : Key) (st : Holdings) → rename_move (renamed_graph r graph) p q (renamed_holdings r st) ≡ renamed_move r (rename_move graph p q st)
 rename_renamed r graph p q st =
-    ap₂ (λ (b : Bool) (k : Option ℕ). take_if b k (renamed_number r st.victim) (Finishes (moved_node (rename_at (renamed_graph r graph) p q (renamed_stand r st)).1 (renamed_kids r graph.kid (r.to st.source.node) (last_of p)))))
+    ap₂ (λ (b : Bool) (k : Option ℕ). take_if b k (renamed_number r st.victim) (Finishes (moved_node (rename_at (renamed_graph r graph) p q (renamed_holdings r st)).1 (renamed_children r graph.child (r.to st.source.node) (last_of p)))))
     (ap₂ (λ (a b : Option Shape). same_kind a b && not (is_end (after_prefix p q)) && not (has_more (after_prefix q p))) (entry_at r graph st.source.node (last_of p)) (entry_at r graph st.dest.node (last_of q)))
-    (kid_at r graph.kid st.dest.node (last_of q))
-    ∙ ap (λ (o : Option ℕ). take_if (same_kind (entry_shape graph st.source.node (last_of p)) (entry_shape graph st.dest.node (last_of q)) && not (is_end (after_prefix p q)) && not (has_more (after_prefix q p))) (renamed_number r (graph.kid st.dest.node (last_of q))) (renamed_number r st.victim) (Finishes o))
-    (ap₂ moved_node (ap (λ (row : Reply × Bool). row.1) (row_renamed r graph p q st)) (kid_at r graph.kid st.source.node (last_of p)) ∙ moved_node_renamed r (rename_at graph p q st).1 (graph.kid st.source.node (last_of p)))
-    ∙ take_renamed r (same_kind (entry_shape graph st.source.node (last_of p)) (entry_shape graph st.dest.node (last_of q)) && not (is_end (after_prefix p q)) && not (has_more (after_prefix q p))) (graph.kid st.dest.node (last_of q)) st.victim (Finishes (moved_node (rename_at graph p q st).1 (graph.kid st.source.node (last_of p))))
+    (child_at r graph.child st.dest.node (last_of q))
+    ∙ ap (λ (o : Option ℕ). take_if (same_kind (entry_shape graph st.source.node (last_of p)) (entry_shape graph st.dest.node (last_of q)) && not (is_end (after_prefix p q)) && not (has_more (after_prefix q p))) (renamed_number r (graph.child st.dest.node (last_of q))) (renamed_number r st.victim) (Finishes o))
+    (ap₂ moved_node (ap (λ (row : Reply × Bool). row.1) (row_renamed r graph p q st)) (child_at r graph.child st.source.node (last_of p)) ∙ moved_node_renamed r (rename_at graph p q st).1 (graph.child st.source.node (last_of p)))
+    ∙ take_renamed r (same_kind (entry_shape graph st.source.node (last_of p)) (entry_shape graph st.dest.node (last_of q)) && not (is_end (after_prefix p q)) && not (has_more (after_prefix q p))) (graph.child st.dest.node (last_of q)) st.victim (Finishes (moved_node (rename_at graph p q st).1 (graph.child st.source.node (last_of p))))
 
-fork_renamed : (r : Renaming) (graph : Graph) (p q : Key) (st : Stand) → fork_move (renamed_graph r graph) p q (renamed_stand r st) ≡ renamed_move r (fork_move graph p q st)
+fork_renamed : (r : Renaming) (graph : Graph) (p q : Key) (st : Holdings) → fork_move (renamed_graph r graph) p q (renamed_holdings r st) ≡ renamed_move r (fork_move graph p q st)
 fork_renamed r graph p q st =
     dir_here r graph st.node _ _ (head_then r graph st.source.node st.source.behind (left st.source.walked (parent_of p)) _ _
     (dir_here r graph st.source.node _ _ (head_then r graph st.dest.node st.dest.behind (left st.dest.walked (parent_of q)) _ _
-    (dir_here r graph st.dest.node (rename_move graph p q st) (rename_move (renamed_graph r graph) p q (renamed_stand r st)) (rename_renamed r graph p q st)))))
+    (dir_here r graph st.dest.node (rename_move graph p q st) (rename_move (renamed_graph r graph) p q (renamed_holdings r st)) (rename_renamed r graph p q st)))))
 
-target_renamed : (r : Renaming) (graph : Graph) (remaining : Form) (st : Stand) → target_move (renamed_graph r graph) remaining (renamed_stand r st) ≡ renamed_move r (target_move graph remaining st)
+target_renamed : (r : Renaming) (graph : Graph) (remaining : Form) (st : Holdings) → target_move (renamed_graph r graph) remaining (renamed_holdings r st) ≡ renamed_move r (target_move graph remaining st)
 target_renamed r graph (AtNode c p) st = refl
 target_renamed r graph (AtEntry c p) st = in_renamed r graph c (last_of p) st
 target_renamed r graph (AtPair pairs.Rename p q) st = fork_renamed r graph p q st
@@ -98,24 +98,24 @@ first_walked_renamed : (r : Renaming) (walked : Key) (n m : ℕ) → first_walke
 first_walked_renamed r [] n m = refl
 first_walked_renamed r (x ∷ walked) n m = refl
 
-last_renamed : (r : Renaming) (st : Stand) (victim : Option ℕ) → last_held (renamed_stand r st) (renamed_number r victim) ≡ r.to (last_held st victim)
+last_renamed : (r : Renaming) (st : Holdings) (victim : Option ℕ) → last_held (renamed_holdings r st) (renamed_number r victim) ≡ r.to (last_held st victim)
 last_renamed r st (Some v) = refl
 last_renamed r st None =
     ap (first_walked st.dest.walked (r.to st.dest.node)) (first_walked_renamed r st.source.walked st.source.node st.node)
     ∙ first_walked_renamed r st.dest.walked st.dest.node (first_walked st.source.walked st.source.node st.node)
 
-by_renamed : (r : Renaming) (graph : Graph) (op : Record) (e : Option Errno) (phase : Phase) (stand : Option Stand) → next_by (renamed_graph r graph) (renamed_record r op) e phase (option_map (renamed_stand r) stand) ≡ renamed_move r (next_by graph op e phase stand)
+by_renamed : (r : Renaming) (graph : Graph) (op : Record) (e : Option Errno) (phase : Phase) (holdings : Option Holdings) → next_by (renamed_graph r graph) (renamed_record r op) e phase (option_map (renamed_holdings r) holdings) ≡ renamed_move r (next_by graph op e phase holdings)
 by_renamed r graph op e (Finished reply) None = refl
 by_renamed r graph op e (Finished reply) (Some st) = ap Leaves (last_renamed r st st.victim)
-by_renamed r graph op (Some e) Walking stand = refl
-by_renamed r graph op (Some e) (Placed i) stand = refl
+by_renamed r graph op (Some e) Walking holdings = refl
+by_renamed r graph op (Some e) (Placed i) holdings = refl
 by_renamed r graph op None Walking None = ap Takes (sym r.root)
 by_renamed r graph op None (Placed i) None = ap Takes (sym r.root)
 by_renamed r graph op None Walking (Some st) = head_then r graph st.node st.behind (target op.remaining) _ _ (target_renamed r graph op.remaining st)
 by_renamed r graph op None (Placed i) (Some st) = head_then r graph st.node st.behind (target op.remaining) _ _ (target_renamed r graph op.remaining st)
 
 pub next_renamed : (r : Renaming) (graph : Graph) (op : Record) → next (renamed_graph r graph) (renamed_record r op) ≡ renamed_move r (next graph op)
-next_renamed r graph op = by_renamed r graph op (by_text (form op.call)) op.phase op.stand
+next_renamed r graph op = by_renamed r graph op (by_text (form op.call)) op.phase op.holdings
 
 -- ---- after a take
 
@@ -126,48 +126,48 @@ behind_renamed r (x ∷ walked) n = refl
 head_took_renamed : (r : Renaming) (h : Head) (x : Name) (n : ℕ) → head_took (renamed_head r h) x (r.to n) ≡ renamed_head r (head_took h x n)
 head_took_renamed r h x n = ap (λ (b : Option ℕ). record { walked = h.walked ++ x ∷ []; node = r.to n; behind = b }) (behind_renamed r h.walked h.node)
 
-dest_took_renamed : (r : Renaming) (st : Stand) (l : Key) (n : ℕ) → dest_took (renamed_stand r st) l (r.to n) ≡ renamed_stand r (dest_took st l n)
+dest_took_renamed : (r : Renaming) (st : Holdings) (l : Key) (n : ℕ) → dest_took (renamed_holdings r st) l (r.to n) ≡ renamed_holdings r (dest_took st l n)
 dest_took_renamed r st [] n = refl
-dest_took_renamed r st (x ∷ l) n = ap (λ (h : Head). record (renamed_stand r st) { dest = h }) (head_took_renamed r st.dest x n)
+dest_took_renamed r st (x ∷ l) n = ap (λ (h : Head). record (renamed_holdings r st) { dest = h }) (head_took_renamed r st.dest x n)
 
-source_took_renamed : (r : Renaming) (st : Stand) (k l : Key) (n : ℕ) → source_took (renamed_stand r st) k l (r.to n) ≡ renamed_stand r (source_took st k l n)
+source_took_renamed : (r : Renaming) (st : Holdings) (k l : Key) (n : ℕ) → source_took (renamed_holdings r st) k l (r.to n) ≡ renamed_holdings r (source_took st k l n)
 source_took_renamed r st [] l n = dest_took_renamed r st l n
-source_took_renamed r st (x ∷ k) l n = ap (λ (h : Head). record (renamed_stand r st) { source = h }) (head_took_renamed r st.source x n)
+source_took_renamed r st (x ∷ k) l n = ap (λ (h : Head). record (renamed_holdings r st) { source = h }) (head_took_renamed r st.source x n)
 
-target_took_renamed : (r : Renaming) (remaining : Form) (st : Stand) (n : ℕ) → target_took remaining (renamed_stand r st) (r.to n) ≡ renamed_stand r (target_took remaining st n)
+target_took_renamed : (r : Renaming) (remaining : Form) (st : Holdings) (n : ℕ) → target_took remaining (renamed_holdings r st) (r.to n) ≡ renamed_holdings r (target_took remaining st n)
 target_took_renamed r (AtNode c p) st n = refl
 target_took_renamed r (AtEntry c p) st n = refl
 target_took_renamed r (AtPair pairs.Rename p q) st n = source_took_renamed r st (left st.source.walked (parent_of p)) (left st.dest.walked (parent_of q)) n
 
-took_by_renamed : (r : Renaming) (op : Record) (stand : Option Stand) (l : Key) (n : ℕ) → took_by (renamed_record r op) (option_map (renamed_stand r) stand) l (r.to n) ≡ renamed_record r (took_by op stand l n)
+took_by_renamed : (r : Renaming) (op : Record) (holdings : Option Holdings) (l : Key) (n : ℕ) → took_by (renamed_record r op) (option_map (renamed_holdings r) holdings) l (r.to n) ≡ renamed_record r (took_by op holdings l n)
 took_by_renamed r op None l n = refl
-took_by_renamed r op (Some st) [] n = ap (λ (s : Stand). record (renamed_record r op) { stand = Some s }) (target_took_renamed r op.remaining st n)
+took_by_renamed r op (Some st) [] n = ap (λ (s : Holdings). record (renamed_record r op) { holdings = Some s }) (target_took_renamed r op.remaining st n)
 took_by_renamed r op (Some st) (x ∷ l) n = refl
 
 pub took_renamed : (r : Renaming) (op : Record) (n : ℕ) → took (renamed_record r op) (r.to n) ≡ renamed_record r (took op n)
-took_renamed r op n = took_by_renamed r op op.stand (target op.remaining) n
+took_renamed r op n = took_by_renamed r op op.holdings (target op.remaining) n
 
 -- ---- after a let go, and a return
 
-left_behind_renamed : (r : Renaming) (st : Stand) (b s : Option ℕ) → left_behind (renamed_stand r st) (renamed_number r b) (renamed_number r s) ≡ renamed_stand r (left_behind st b s)
+left_behind_renamed : (r : Renaming) (st : Holdings) (b s : Option ℕ) → left_behind (renamed_holdings r st) (renamed_number r b) (renamed_number r s) ≡ renamed_holdings r (left_behind st b s)
 left_behind_renamed r st (Some m) s = refl
 left_behind_renamed r st None (Some m) = refl
 left_behind_renamed r st None None = refl
 
-left_heads_renamed : (r : Renaming) (st : Stand) (dest source : Key) → left_heads (renamed_stand r st) dest source ≡ option_map (renamed_stand r) (left_heads st dest source)
+left_heads_renamed : (r : Renaming) (st : Holdings) (dest source : Key) → left_heads (renamed_holdings r st) dest source ≡ option_map (renamed_holdings r) (left_heads st dest source)
 left_heads_renamed r st (x ∷ dest) source = refl
 left_heads_renamed r st [] (x ∷ source) = refl
 left_heads_renamed r st [] [] = refl
 
-left_last_renamed : (r : Renaming) (st : Stand) (victim : Option ℕ) → left_last (renamed_stand r st) (renamed_number r victim) ≡ option_map (renamed_stand r) (left_last st victim)
+left_last_renamed : (r : Renaming) (st : Holdings) (victim : Option ℕ) → left_last (renamed_holdings r st) (renamed_number r victim) ≡ option_map (renamed_holdings r) (left_last st victim)
 left_last_renamed r st (Some v) = refl
 left_last_renamed r st None = left_heads_renamed r st st.dest.walked st.source.walked
 
-left_renamed : (r : Renaming) (phase : Phase) (stand : Option Stand) → left_stand phase (option_map (renamed_stand r) stand) ≡ option_map (renamed_stand r) (left_stand phase stand)
+left_renamed : (r : Renaming) (phase : Phase) (holdings : Option Holdings) → left_holdings phase (option_map (renamed_holdings r) holdings) ≡ option_map (renamed_holdings r) (left_holdings phase holdings)
 left_renamed r phase None = refl
 left_renamed r (Finished reply) (Some st) = left_last_renamed r st st.victim
-left_renamed r Walking (Some st) = ap (λ (s : Stand). Some s) (left_behind_renamed r st st.behind st.source.behind)
-left_renamed r (Placed i) (Some st) = ap (λ (s : Stand). Some s) (left_behind_renamed r st st.behind st.source.behind)
+left_renamed r Walking (Some st) = ap (λ (s : Holdings). Some s) (left_behind_renamed r st st.behind st.source.behind)
+left_renamed r (Placed i) (Some st) = ap (λ (s : Holdings). Some s) (left_behind_renamed r st st.behind st.source.behind)
 
 eqb_new : (r : Renaming) (m n : ℕ) → eqb (r.to m) (r.to n) ≡ eqb m n
 eqb_new r m n = sym (eqb_old r (r.to m) n) ∙ ap (λ (k : ℕ). eqb k n) (r.there m)
@@ -182,7 +182,7 @@ cleared_renamed r false removed = refl
 
 pub let_go_renamed : (r : Renaming) (op : Record) (n : ℕ) → let_go (renamed_record r op) (r.to n) ≡ renamed_record r (let_go op n)
 let_go_renamed r op n =
-    ap₂ (λ (s : Option Stand) (o : Option ℕ). record (renamed_record r op) { stand = s; removed = o }) (left_renamed r op.phase op.stand)
+    ap₂ (λ (s : Option Holdings) (o : Option ℕ). record (renamed_record r op) { holdings = s; removed = o }) (left_renamed r op.phase op.holdings)
     (ap (λ (b : Bool). cleared b (renamed_number r op.removed)) (removed_renamed r op.removed n) ∙ cleared_renamed r (is_removed op.removed n) op.removed)
 
 releasing_by : (r : Renaming) (b : Bool) (n : ℕ) (graph : Graph) → releasing b (r.to n) (renamed_graph r graph) ≡ renamed_graph r (releasing b n graph)

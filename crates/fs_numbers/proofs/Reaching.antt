@@ -8,22 +8,22 @@ use Rattle.fs_calls.specs.Forms.{Form, AtNode, AtEntry, AtPair, Fits, new_shape}
 use Rattle.fs_calls.specs.declared.target.EntryCall.{EntryCall}
 use Rattle.fs_calls.specs.declared.target.PairCall.TheVariants as pairs
 use Rattle.fs_laws.specs.Maps.{Map, put_at, move}
-use Rattle.fs_calls.specs.Rows.{on_row, Edit, Keep, Add, Remove, in_row}
+use Rattle.fs_calls.specs.Rows.{node_row, Edit, Keep, Add, Remove, entry_row}
 use Rattle.fs_calls.specs.declared.errno.Errno.{Errno}
 use Rattle.fs_calls.specs.declared.reply.Reply.{Reply}
 use Rattle.fs_nodes.specs.Graphs.{Graph, at, then_at, numbers, entry_shape, IsGraph, linked_in, unlinked_in, moved_in}
 use Rattle.fs_machine.specs.Finishes.{Effect, no_effect, node_effect, entry_effect, move_effect, rename_effect, effect_at}
-use Rattle.fs_machine.specs.Moves.{Finishes, take_if, next_on, victim_of, in_move, first_of, head_move, fork_move, path_error, dir_error, rename_at}
-use Rattle.fs_machine.specs.Records.{Stand}
-use Rattle.fs_laws.specs.Invariants.{ForkedAt, StandsWell, VictimAt, NumberFor, HasNumber}
+use Rattle.fs_machine.specs.Moves.{Finishes, take_if, next_on, victim_of, entry_move, first_of, head_move, fork_move, path_error, dir_error, rename_at}
+use Rattle.fs_machine.specs.Records.{Holdings}
+use Rattle.fs_laws.specs.Invariants.{ForkedAt, HeadsSound, VictimAt, NumberFor, HasNumber}
 use Rattle.fs_laws.specs.Placed.{Aside}
-use Rattle.fs_laws.specs.Stands.{Located}
+use Rattle.fs_laws.specs.CallFacts.{Located}
 use Rattle.fs_laws.proofs.trees.Prefixes.{prefix_append, prefix_some, prefix_both}
 use Rattle.fs_laws.proofs.calls.Located.{key_is, from_more, to_more}
 use Rattle.fs_laws.proofs.graphs.Walks.{at_before, at_child, at_from, then_some}
 use Rattle.fs_laws.proofs.trees.Commuting.{move_to, move_else}
 use Rattle.fs_laws.proofs.graphs.TreesOfChanges.{CanLink, CanUnlink, CanMove, numbers_linked, numbers_unlinked, numbers_moved}
-use Rattle.fs_laws.proofs.finish.Replies.{Leaf, leaf_kids, add_of, remove_of, no_entry, head_stops}
+use Rattle.fs_laws.proofs.finish.Replies.{Leaf, leaf_children, add_of, remove_of, no_entry, head_stops}
 use Rattle.fs_laws.proofs.finish.Changes.{remove_victim}
 use Rattle.fs_laws.proofs.finish.Readings.{arrived}
 use Rattle.fs_laws.proofs.finish.RealMoves.{Real, Replaces, real_of}
@@ -31,16 +31,16 @@ use Rattle.fs_laws.proofs.helping.ReadsNothingBelow.{take_done}
 use Rattle.fs_numbers.specs.Numbers.{IsReached}
 
 -- number is the one that the call has reserved
-pub record Stays (old : Graph) (st : Stand) (number : Option ℕ) (made : Effect) : Type 0 where
+pub record Stays (old : Graph) (st : Holdings) (number : Option ℕ) (made : Effect) : Type 0 where
   pub reached : (n : ℕ) → IsReached old n → IsReached made.graph n ⊎ (made.removed ≡ Some n)
   pub reserved : (n : ℕ) → number ≡ Some n → (made.reserved ≡ Some n) ⊎ IsReached made.graph n
   pub victim : (n : ℕ) → made.removed ≡ Some n → st.victim ≡ Some n
 
-stays_same : (graph : Graph) (st : Stand) (number : Option ℕ) (r : Reply) → Stays graph st number (no_effect r graph number)
+stays_same : (graph : Graph) (st : Holdings) (number : Option ℕ) (r : Reply) → Stays graph st number (no_effect r graph number)
 stays_same graph st number r = record { reached = λ n e. inl e; reserved = λ n e. inl e; victim = λ n e. cc }
 
 -- a call on a node
-stays_on : (graph : Graph) (st : Stand) (number : Option ℕ) (row : Reply × Option (List ℕ)) → Stays graph st number (node_effect graph st.node number row)
+stays_on : (graph : Graph) (st : Holdings) (number : Option ℕ) (row : Reply × Option (List ℕ)) → Stays graph st number (node_effect graph st.node number row)
 stays_on graph st number (r, None) = stays_same graph st number r
 stays_on graph st number (r, Some bytes) = record { reached = λ n e. inl e; reserved = λ n e. inl e; victim = λ n e. cc }
 
@@ -53,7 +53,7 @@ linked_reached graph is k dir x m can n (l, e) = (l, ap (λ (t : Map ℕ). t l) 
     go (Some (y ∷ r)) i = e
     go (Some []) i =
         let j : l ≡ k ++ x ∷ [] = prefix_some (k ++ x ∷ []) l [] i ∙ append-nil (k ++ x ∷ []) in
-        let free : numbers graph (k ++ x ∷ []) ≡ None = at_child graph.kid 0 dir k x can.dir_at ∙ can.free in
+        let free : numbers graph (k ++ x ∷ []) ≡ None = at_child graph.child 0 dir k x can.dir_at ∙ can.free in
         let z : ◌≡◌ {A = Option ℕ} None (Some n) = sym free ∙ ap (numbers graph) (sym j) ∙ e in
         cc
 
@@ -65,23 +65,23 @@ linked_there graph is k dir x m can = (
 )
 
 -- a removal
-unlinked_reached : (graph : Graph) → IsGraph graph → (k : Key) (dir : ℕ) (x : Name) (v : ℕ) → CanUnlink graph k dir x v → (n : ℕ) → IsReached graph n → IsReached (unlinked_in dir x graph) n ⊎ (graph.kid dir x ≡ Some n)
+unlinked_reached : (graph : Graph) → IsGraph graph → (k : Key) (dir : ℕ) (x : Name) (v : ℕ) → CanUnlink graph k dir x v → (n : ℕ) → IsReached graph n → IsReached (unlinked_in dir x graph) n ⊎ (graph.child dir x ≡ Some n)
 unlinked_reached graph is k dir x v can n (l, e) = go (after_prefix (k ++ x ∷ []) l) refl
   where
     by : (o : Option Key) → after_prefix (k ++ x ∷ []) l ≡ o → put_at None (numbers graph) l o ≡ Some n → IsReached (unlinked_in dir x graph) n
     by o i f = (l, ap (λ (t : Map ℕ). t l) (numbers_unlinked graph is k dir x v can) ∙ ap (put_at None (numbers graph) l) i ∙ f)
 
-    go : (o : Option Key) → after_prefix (k ++ x ∷ []) l ≡ o → IsReached (unlinked_in dir x graph) n ⊎ (graph.kid dir x ≡ Some n)
+    go : (o : Option Key) → after_prefix (k ++ x ∷ []) l ≡ o → IsReached (unlinked_in dir x graph) n ⊎ (graph.child dir x ≡ Some n)
     go None i = inl (by None i e)
     go (Some (y ∷ r)) i = inl (by (Some (y ∷ r)) i e)
     go (Some []) i =
         let j : l ≡ k ++ x ∷ [] = prefix_some (k ++ x ∷ []) l [] i ∙ append-nil (k ++ x ∷ []) in
-        inr (sym (at_child graph.kid 0 dir k x can.dir_at) ∙ ap (numbers graph) (sym j) ∙ e)
+        inr (sym (at_child graph.child 0 dir k x can.dir_at) ∙ ap (numbers graph) (sym j) ∙ e)
 
 -- a call on an entry
-stays_in : (graph : Graph) → IsGraph graph → (k : Key) (st : Stand) (o : Option ℕ) (e : EntryCall) (p : Key) (number : Option ℕ) (ed : Option Errno) (full : Bool) → numbers graph k ≡ Some st.node → HasNumber graph e number → VictimAt graph (AtEntry e p) st
-    → (ed ≡ None → in_move graph e (last_of p) st ≡ Finishes o)
-    → (row : Reply × Edit) → in_row e ed full (entry_shape graph st.node (last_of p)) ≡ row → Stays graph st number (entry_effect graph st.node (last_of p) number row)
+stays_in : (graph : Graph) → IsGraph graph → (k : Key) (st : Holdings) (o : Option ℕ) (e : EntryCall) (p : Key) (number : Option ℕ) (ed : Option Errno) (full : Bool) → numbers graph k ≡ Some st.node → HasNumber graph e number → VictimAt graph (AtEntry e p) st
+    → (ed ≡ None → entry_move graph e (last_of p) st ≡ Finishes o)
+    → (row : Reply × Edit) → entry_row e ed full (entry_shape graph st.node (last_of p)) ≡ row → Stays graph st number (entry_effect graph st.node (last_of p) number row)
 stays_in graph is k st o e p number ed full here has vic done (r, Keep) i = stays_same graph st number r
 stays_in graph is k st o e p number ed full here has vic done (r, Add shape) i = subst (λ (n : Option ℕ). Stays graph st n (entry_effect graph st.node (last_of p) n (r, Add shape))) (sym m.1)
     (record {
@@ -107,8 +107,8 @@ stays_in graph is k st o e p number ed full here has vic done (r, Remove) i = ei
     leaf_of None l = absurd l
     leaf_of (Some m) l = (m, refl, l)
 
-    v : (m : ℕ) × (graph.kid st.node (last_of p) ≡ Some m) × Leaf (graph.shape m)
-    v = leaf_of (graph.kid st.node (last_of p)) (remove_of e ed full (entry_shape graph st.node (last_of p)) r i)
+    v : (m : ℕ) × (graph.child st.node (last_of p) ≡ Some m) × Leaf (graph.shape m)
+    v = leaf_of (graph.child st.node (last_of p)) (remove_of e ed full (entry_shape graph st.node (last_of p)) r i)
 
     held : st.victim ≡ Some v.0
     held =
@@ -117,9 +117,9 @@ stays_in graph is k st o e p number ed full here has vic done (r, Remove) i = ei
         w.1 ∙ sym (vic w.0 w.1) ∙ v.1
 
     can : CanUnlink graph k st.node (last_of p) v.0
-    can = record { dir_at = here; there = v.1; leaf = leaf_kids graph is v.0 (graph.shape v.0) refl v.2 }
+    can = record { dir_at = here; there = v.1; leaf = leaf_children graph is v.0 (graph.shape v.0) refl v.2 }
 
-    made : (n : Option ℕ) → Stays graph st n (record { reply = r; graph = unlinked_in st.node (last_of p) graph; reserved = n; removed = graph.kid st.node (last_of p) })
+    made : (n : Option ℕ) → Stays graph st n (record { reply = r; graph = unlinked_in st.node (last_of p) graph; reserved = n; removed = graph.child st.node (last_of p) })
     made n = record {
       reached = λ m reached. unlinked_reached graph is k st.node (last_of p) v.0 can m reached;
       reserved = λ m f. inl f;
@@ -131,24 +131,24 @@ stays_in graph is k st o e p number ed full here has vic done (r, Remove) i = ei
     either (Some m) j = subst (λ (n : Option ℕ). Stays graph st n (entry_effect graph st.node (last_of p) n (r, Remove))) (sym j) (made (Some m))
 
 -- a move
-moved_reached : (graph : Graph) → IsGraph graph → (kf : Key) (from : ℕ) (x : Name) (kt : Key) (st : Stand) (y : Name) (m : ℕ) → CanMove graph kf from x kt st.dest.node y m → Replaces graph st y → (n : ℕ) → IsReached graph n → IsReached (moved_in from x st.dest.node y m graph) n ⊎ (st.victim ≡ Some n)
+moved_reached : (graph : Graph) → IsGraph graph → (kf : Key) (from : ℕ) (x : Name) (kt : Key) (st : Holdings) (y : Name) (m : ℕ) → CanMove graph kf from x kt st.dest.node y m → Replaces graph st y → (n : ℕ) → IsReached graph n → IsReached (moved_in from x st.dest.node y m graph) n ⊎ (st.victim ≡ Some n)
 moved_reached graph is kf from x kt st y m can replaces n (l, e) = go (after_prefix (kt ++ y ∷ []) l) refl
   where
     new : (key : Key) → move (kf ++ x ∷ []) (kt ++ y ∷ []) (numbers graph) key ≡ Some n → IsReached (moved_in from x st.dest.node y m graph) n
     new key f = (key, ap (λ (t : Map ℕ). t key) (numbers_moved graph is kf from x kt st.dest.node y m can) ∙ f)
 
-    entry : numbers graph (kt ++ y ∷ []) ≡ graph.kid st.dest.node y
-    entry = at_child graph.kid 0 st.dest.node kt y can.to_at
+    entry : numbers graph (kt ++ y ∷ []) ≡ graph.child st.dest.node y
+    entry = at_child graph.child 0 st.dest.node kt y can.to_at
 
     over : (r : Key) → numbers graph ((kt ++ y ∷ []) ++ r) ≡ Some n → Replaces graph st y → st.victim ≡ Some n
     over r f (inl none) =
-        let b : (j : ℕ) × (numbers graph (kt ++ y ∷ []) ≡ Some j) × (at graph.kid j r ≡ Some n) = at_before graph.kid 0 n (kt ++ y ∷ []) r f in
+        let b : (j : ℕ) × (numbers graph (kt ++ y ∷ []) ≡ Some j) × (at graph.child j r ≡ Some n) = at_before graph.child 0 n (kt ++ y ∷ []) r f in
         let z : ◌≡◌ {A = Option ℕ} (Some b.0) None = sym b.1 ∙ entry ∙ none in cc
     over [] f (inr (v, there, held, leaf)) = held ∙ sym (entry ∙ there) ∙ ap (numbers graph) (sym (append-nil (kt ++ y ∷ []))) ∙ f
     over (w ∷ r) f (inr (v, there, held, leaf)) =
-        let b : at graph.kid v (w ∷ r) ≡ Some n = sym (at_from graph.kid 0 v (kt ++ y ∷ []) (w ∷ r) (entry ∙ there)) ∙ f in
-        let g : (j : ℕ) × (graph.kid v w ≡ Some j) × (at graph.kid j r ≡ Some n) = then_some (graph.kid v w) (λ j. at graph.kid j r) n b in
-        let z : ◌≡◌ {A = Option ℕ} (Some g.0) None = sym g.1 ∙ leaf_kids graph is v (graph.shape v) refl leaf w in cc
+        let b : at graph.child v (w ∷ r) ≡ Some n = sym (at_from graph.child 0 v (kt ++ y ∷ []) (w ∷ r) (entry ∙ there)) ∙ f in
+        let g : (j : ℕ) × (graph.child v w ≡ Some j) × (at graph.child j r ≡ Some n) = then_some (graph.child v w) (λ j. at graph.child j r) n b in
+        let z : ◌≡◌ {A = Option ℕ} (Some g.0) None = sym g.1 ∙ leaf_children graph is v (graph.shape v) refl leaf w in cc
 
     aside : (o : Option Key) → after_prefix (kf ++ x ∷ []) l ≡ o → after_prefix (kt ++ y ∷ []) l ≡ None → IsReached (moved_in from x st.dest.node y m graph) n
     aside None i j = new l (move_else (kf ++ x ∷ []) (kt ++ y ∷ []) (numbers graph) l j i ∙ e)
@@ -159,8 +159,8 @@ moved_reached graph is kf from x kt st y m can replaces n (l, e) = go (after_pre
     go (Some r) j = inr (over r (ap (numbers graph) (sym (prefix_some (kt ++ y ∷ []) l r j)) ∙ e) replaces)
 
 -- a rename that really moves
-stays_moved : (graph : Graph) → IsGraph graph → (k : Key) (st : Stand) (p q : Key) (number : Option ℕ) (r : Reply) → Located (numbers graph) k st → Fits (AtPair pairs.Rename p q) → Real graph p q st
-    → Stays graph st number (move_effect graph st (last_of p) (last_of q) number r true (graph.kid st.source.node (last_of p)))
+stays_moved : (graph : Graph) → IsGraph graph → (k : Key) (st : Holdings) (p q : Key) (number : Option ℕ) (r : Reply) → Located (numbers graph) k st → Fits (AtPair pairs.Rename p q) → Real graph p q st
+    → Stays graph st number (move_effect graph st (last_of p) (last_of q) number r true (graph.child st.source.node (last_of p)))
 stays_moved graph is k st p q number r loc fits real = subst (λ (n : Option ℕ). Stays graph st number (move_effect graph st (last_of p) (last_of q) number r true n)) (sym real.moved.1)
     (record { reached = λ n reached. moved_reached graph is (k ++ st.source.walked) st.source.node (last_of p) (k ++ st.dest.walked) st (last_of q) real.moved.0 can real.replaces n reached; reserved = λ n f. inl f; victim = λ n f. f })
   where
@@ -176,7 +176,7 @@ stays_moved graph is k st p q number r loc fits real = subst (λ (n : Option ℕ
     can : CanMove graph (k ++ st.source.walked) st.source.node (last_of p) (k ++ st.dest.walked) st.dest.node (last_of q) real.moved.0
     can = record { from_at = loc.source; to_at = loc.dest; there = real.moved.1; aside = aside }
 
-stays_rename : (graph : Graph) → IsGraph graph → (k : Key) (st : Stand) (o : Option ℕ) (p q : Key) (number : Option ℕ) → Located (numbers graph) k st → Fits (AtPair pairs.Rename p q) → VictimAt graph (AtPair pairs.Rename p q) st
+stays_rename : (graph : Graph) → IsGraph graph → (k : Key) (st : Holdings) (o : Option ℕ) (p q : Key) (number : Option ℕ) → Located (numbers graph) k st → Fits (AtPair pairs.Rename p q) → VictimAt graph (AtPair pairs.Rename p q) st
     → (l : Key) → ForkedAt graph st.node p q st l → first_of (head_move graph st.node st.behind l) (fork_move graph p q st) ≡ Finishes o → Stays graph st number (rename_effect graph p q st number l)
 stays_rename graph is k st o p q number loc fits vic (x ∷ l) w m = stays_same graph st number _
 stays_rename graph is k st o p q number loc fits vic [] w m = by (rename_at graph p q st).1 refl
@@ -184,18 +184,18 @@ stays_rename graph is k st o p q number loc fits vic [] w m = by (rename_at grap
     fork : fork_move graph p q st ≡ Finishes o
     fork = (head_stops graph st.node st.behind [] (fork_move graph p q st) o m).1 refl
 
-    by : (b : Bool) → (rename_at graph p q st).1 ≡ b → Stays graph st number (move_effect graph st (last_of p) (last_of q) number (rename_at graph p q st).0 (rename_at graph p q st).1 (graph.kid st.source.node (last_of p)))
-    by false j = subst (λ (b : Bool). Stays graph st number (move_effect graph st (last_of p) (last_of q) number (rename_at graph p q st).0 b (graph.kid st.source.node (last_of p)))) (sym j) (stays_same graph st number (rename_at graph p q st).0)
+    by : (b : Bool) → (rename_at graph p q st).1 ≡ b → Stays graph st number (move_effect graph st (last_of p) (last_of q) number (rename_at graph p q st).0 (rename_at graph p q st).1 (graph.child st.source.node (last_of p)))
+    by false j = subst (λ (b : Bool). Stays graph st number (move_effect graph st (last_of p) (last_of q) number (rename_at graph p q st).0 b (graph.child st.source.node (last_of p)))) (sym j) (stays_same graph st number (rename_at graph p q st).0)
     by true j =
-        subst (λ (b : Bool). Stays graph st number (move_effect graph st (last_of p) (last_of q) number (rename_at graph p q st).0 b (graph.kid st.source.node (last_of p)))) (sym j)
+        subst (λ (b : Bool). Stays graph st number (move_effect graph st (last_of p) (last_of q) number (rename_at graph p q st).0 b (graph.child st.source.node (last_of p)))) (sym j)
         (stays_moved graph is k st p q number (rename_at graph p q st).0 loc fits (real_of graph is p q st o fits w vic fork j))
 
 -- each form of call
-pub stays : (graph : Graph) → IsGraph graph → (k : Key) (st : Stand) (o : Option ℕ) (number : Option ℕ) (remaining : Form) → Located (numbers graph) k st → Fits remaining → StandsWell graph st.node remaining st → VictimAt graph remaining st → NumberFor graph remaining number
+pub stays : (graph : Graph) → IsGraph graph → (k : Key) (st : Holdings) (o : Option ℕ) (number : Option ℕ) (remaining : Form) → Located (numbers graph) k st → Fits remaining → HeadsSound graph st.node remaining st → VictimAt graph remaining st → NumberFor graph remaining number
     → next_on graph remaining st ≡ Finishes o → Stays graph st number (effect_at graph remaining st number)
-stays graph is k st o number (AtNode c p) loc fits well vic has m = stays_on graph st number (on_row c (path_error p (graph.shape st.node)) (graph.shape st.node))
+stays graph is k st o number (AtNode c p) loc fits well vic has m = stays_on graph st number (node_row c (path_error p (graph.shape st.node)) (graph.shape st.node))
 stays graph is k st o number (AtEntry c p) loc fits well vic has m =
     stays_in graph is k st o c p number (dir_error (parent_of p) (graph.shape st.node)) (is_full (graph.shape st.node)) loc.here has vic
-    (λ h. (head_stops graph st.node st.behind (parent_of p) (in_move graph c (last_of p) st) o m).1 (arrived (parent_of p) (graph.shape st.node) h))
-    (in_row c (dir_error (parent_of p) (graph.shape st.node)) (is_full (graph.shape st.node)) (entry_shape graph st.node (last_of p))) refl
+    (λ h. (head_stops graph st.node st.behind (parent_of p) (entry_move graph c (last_of p) st) o m).1 (arrived (parent_of p) (graph.shape st.node) h))
+    (entry_row c (dir_error (parent_of p) (graph.shape st.node)) (is_full (graph.shape st.node)) (entry_shape graph st.node (last_of p))) refl
 stays graph is k st o number (AtPair pairs.Rename p q) loc fits well vic has m = stays_rename graph is k st o p q number loc fits vic (common (parent_of p) (parent_of q)) well m

@@ -9,9 +9,9 @@ use Rattle.fs_nodes.specs.Stores.{new_shape, IsUnlinked}
 use Rattle.fs_nodes.proofs.GraphLemmas.{graph_by}
 use Rattle.fs_nodes.proofs.PlaceLemmas.{eqb_true, eqb_refl}
 use Rattle.fs_calls.specs.declared.call.Call.{Call}
-use Rattle.fs_ops.specs.code.Begins.{Reserves}
+use Rattle.fs_ops.specs.code.Reservations.{Reserves}
 use Rattle.fs_machine.specs.Leaving.{unreserved}
-use Rattle.fs_machine.specs.Works.{Work, new_work, BegunAs, IsSpare}
+use Rattle.fs_machine.specs.OpValues.{OpValue, new_value, BegunAs, IsSpare}
 
 -- ---- numbers in use
 
@@ -20,7 +20,7 @@ no_entries kinds.Dir = refl
 no_entries kinds.File = refl
 
 -- a number that was reserved may be given back
-pub reserved_spare : (graph : Graph) (kind : Kind) (n : ℕ) (new : Graph) → IsUnlinked graph.kid n → (n ≡ 0 → ⊥) → new ≡ reserved_in n (new_shape kind) graph → IsSpare new n
+pub reserved_spare : (graph : Graph) (kind : Kind) (n : ℕ) (new : Graph) → IsUnlinked graph.child n → (n ≡ 0 → ⊥) → new ≡ reserved_in n (new_shape kind) graph → IsSpare new n
 reserved_spare graph kind n new unlinked root e = subst (λ (g : Graph). IsSpare g n) (sym e) (record {
   used = subst (λ (b : Bool). IsTrue (is_there (cond b (Some (new_shape kind)) (graph.shape n)))) (sym (eqb_refl n)) refl;
   unlinked = unlinked;
@@ -43,7 +43,7 @@ undone graph limit (Some shape) None new h = absurd h
 undone graph limit (Some shape) (Some n) new h = ap (released_in n) h.added ∙ given_back graph n shape h.free
 
 -- a call that begins with what was reserved
-pub begun : (graph : Graph) (limit : ℕ) (call : Call) (shape : Option Shape) (number : Option ℕ) (op : Work) (new : Graph) → Reserves graph limit shape number new → op ≡ new_work call number → BegunAs graph limit call shape op new
+pub begun : (graph : Graph) (limit : ℕ) (call : Call) (shape : Option Shape) (number : Option ℕ) (op : OpValue) (new : Graph) → Reserves graph limit shape number new → op ≡ new_value call number → BegunAs graph limit call shape op new
 begun graph limit call None None op new h e = (e, h)
 begun graph limit call None (Some n) op new h e = absurd h
 begun graph limit call (Some shape) None op new h e = absurd h

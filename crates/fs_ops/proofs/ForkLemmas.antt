@@ -12,12 +12,12 @@ use Rattle.fs_walk.specs.declared.want.Want.TheVariants.{Arrived}
 use Rattle.fs_walk.specs.Ways.{Way, ForkWay, head_name}
 use Rattle.fs_walk.specs.Wants.{at_dir, dir_want, then_want, head_want, fork_want}
 use Rattle.fs_machine.specs.Moves.{Move, dir_error, rename_move, fork_move, first_of, head_move, dir_then}
-use Rattle.fs_ops.specs.code.Nexts.{between_move, heads_move}
-use Rattle.fs_ops.specs.code.Steps.{started}
-use Rattle.fs_ops.specs.code.Told.{want_then}
-use Rattle.fs_ops.specs.Views.{Forks, IsForked, head_of, stand_with}
+use Rattle.fs_ops.specs.code.NextByNodes.{between_move, heads_move}
+use Rattle.fs_ops.specs.code.TakeAndLetGo.{started}
+use Rattle.fs_ops.specs.code.MoveNames.{want_then}
+use Rattle.fs_ops.specs.OpValue.{Forks, IsForked, head_of, holdings_with}
 use Rattle.fs_ops.proofs.KeyLemmas.{parent_drop, drop_get, drop_prefix, drop_prefix_back, common_parents, last_drop}
-use Rattle.fs_ops.proofs.TookLemmas.{ahead_none, started_forked, started_stand}
+use Rattle.fs_ops.proofs.TookLemmas.{ahead_none, started_forked, started_holdings}
 use Rattle.fs_ops.proofs.WantLemmas.{left_head, head_dir_tie, dir_tie, then_tie, then_arrived, dir_arrived, head_arrived, want_then_same}
 
 -- a head that has arrived at a directory met no error
@@ -36,7 +36,7 @@ parent_reached graph p k head h e =
 between_is : (graph : Graph) (p q : Key) (fork : ForkWay) (m : ℕ) (behind victim : Option ℕ) → fork.names + fork.source.walked ≤ length (parent_of p) → fork.names + fork.dest.walked ≤ length (parent_of q) → fork.names ≤ length (common (parent_of p) (parent_of q))
     → fork_want graph p q fork ≡ Arrived
     → between_move graph fork.source.node (last_of p) fork.dest.node (last_of q) (is_end (after_prefix p q)) (has_more (after_prefix q p)) (is_end (after_prefix (parent_of p) (parent_of q))) victim
-    ≡ rename_move graph (drop fork.names p) (drop fork.names q) (stand_with (AtPair pairs.Rename p q) m behind (Some fork) victim)
+    ≡ rename_move graph (drop fork.names p) (drop fork.names q) (holdings_with (AtPair pairs.Rename p q) m behind (Some fork) victim)
 between_is graph p q fork m behind victim hs hd hc e =
     let k = fork.names in
     let heads = (then_arrived (at_dir (graph.shape fork.node)) (then_want (dir_want graph fork.source (head_name p k fork.source)) (dir_want graph fork.dest (head_name q k fork.dest))) e).1 in
@@ -64,21 +64,21 @@ fork_tie graph p q fork behind victim m hs hd =
 
 -- a rename at its common directory does what its heads want, and then what it does between both parents
 rename_from : (graph : Graph) (p q : Key) (way : Way) (f : ForkWay) (victim : Option ℕ) (n : ℕ) → IsForked p q way f → way.node ≡ Some n → way.names ≡ length (common (parent_of p) (parent_of q))
-    → heads_move graph p q f victim ≡ fork_move graph (drop way.walked p) (drop way.walked q) (stand_with (AtPair pairs.Rename p q) n way.behind (Some f) victim)
+    → heads_move graph p q f victim ≡ fork_move graph (drop way.walked p) (drop way.walked q) (holdings_with (AtPair pairs.Rename p q) n way.behind (Some f) victim)
 rename_from graph p q way f victim n h at names =
     let short : f.names ≤ length (common (parent_of p) (parent_of q)) = (let a = h.names in let b = h.arrived in omega arith) in
     let same : f.node ≡ n = (let i : way.node ≡ Some f.node = h.node in cc) in
-    want_then_same (fork_want graph p q f) _ (rename_move graph (drop f.names p) (drop f.names q) (stand_with (AtPair pairs.Rename p q) n way.behind (Some f) victim)) (between_is graph p q f n way.behind victim h.source h.dest short)
-    ∙ sym (fork_tie graph p q f way.behind victim (rename_move graph (drop f.names p) (drop f.names q) (stand_with (AtPair pairs.Rename p q) n way.behind (Some f) victim)) h.source h.dest)
+    want_then_same (fork_want graph p q f) _ (rename_move graph (drop f.names p) (drop f.names q) (holdings_with (AtPair pairs.Rename p q) n way.behind (Some f) victim)) (between_is graph p q f n way.behind victim h.source h.dest short)
+    ∙ sym (fork_tie graph p q f way.behind victim (rename_move graph (drop f.names p) (drop f.names q) (holdings_with (AtPair pairs.Rename p q) n way.behind (Some f) victim)) h.source h.dest)
     ∙ ap (λ (m : ℕ). dir_then (graph.shape m)
     (first_of (head_move graph f.source.node f.source.behind (left (head_of p f.names f.source).walked (parent_of (drop f.names p))))
     (dir_then (graph.shape f.source.node)
     (first_of (head_move graph f.dest.node f.dest.behind (left (head_of q f.names f.dest).walked (parent_of (drop f.names q))))
-    (dir_then (graph.shape f.dest.node) (rename_move graph (drop f.names p) (drop f.names q) (stand_with (AtPair pairs.Rename p q) n way.behind (Some f) victim))))))) same
-    ∙ ap (λ (k : ℕ). fork_move graph (drop k p) (drop k q) (stand_with (AtPair pairs.Rename p q) n way.behind (Some f) victim)) h.names
+    (dir_then (graph.shape f.dest.node) (rename_move graph (drop f.names p) (drop f.names q) (holdings_with (AtPair pairs.Rename p q) n way.behind (Some f) victim))))))) same
+    ∙ ap (λ (k : ℕ). fork_move graph (drop k p) (drop k q) (holdings_with (AtPair pairs.Rename p q) n way.behind (Some f) victim)) h.names
 
 pub rename_is : (graph : Graph) (p q : Key) (way : Way) (fork : Option ForkWay) (victim : Option ℕ) (n : ℕ) → way.node ≡ Some n → way.walked ≡ way.names → way.names ≡ length (common (parent_of p) (parent_of q)) → Forks (AtPair pairs.Rename p q) way fork
-    → heads_move graph p q (started fork n way.names) victim ≡ fork_move graph (drop way.walked p) (drop way.walked q) (stand_with (AtPair pairs.Rename p q) n way.behind fork victim)
+    → heads_move graph p q (started fork n way.names) victim ≡ fork_move graph (drop way.walked p) (drop way.walked q) (holdings_with (AtPair pairs.Rename p q) n way.behind fork victim)
 rename_is graph p q way fork victim n at all names forks =
     rename_from graph p q way (started fork n way.names) victim n (started_forked p q way fork n at all names forks) at names
-    ∙ ap (fork_move graph (drop way.walked p) (drop way.walked q)) (sym (started_stand (AtPair pairs.Rename p q) n way.names way.behind fork victim))
+    ∙ ap (fork_move graph (drop way.walked p) (drop way.walked q)) (sym (started_holdings (AtPair pairs.Rename p q) n way.names way.behind fork victim))

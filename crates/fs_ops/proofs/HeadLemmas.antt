@@ -16,10 +16,10 @@ use Rattle.fs_calls.specs.declared.reply.Reply.TheVariants.{Failed}
 use Rattle.fs_walk.specs.declared.head.Head as count
 use Rattle.fs_finish.specs.declared.finish.Finish.{Finish}
 use Rattle.fs_finish.specs.Endings.{IsEffect, between, made_between, rename_reply}
-use Rattle.fs_ops.specs.code.Counted.{heads_stand}
+use Rattle.fs_ops.specs.code.FinishByCounts.{heads_holdings}
 use Rattle.fs_machine.specs.Finishes.{Effect, move_effect, rename_effect}
 use Rattle.fs_machine.specs.Moves.{dir_error, there_by, walk_errno}
-use Rattle.fs_machine.specs.Records.{Stand}
+use Rattle.fs_machine.specs.Records.{Holdings}
 use Rattle.fs_names.proofs.ParentLemmas.{parent_length, common_length}
 use Rattle.fs_ops.proofs.KeyLemmas.{parent_drop}
 use Rattle.fs_names.proofs.PrefixLemmas.{common_is_length}
@@ -165,14 +165,14 @@ module _ (graph : Graph) (p q : Key) (k : ℕ) (source dest : count.Head) (victi
   abbrev dest_error : Option Errno
   dest_error = dir_error (left (take dest.walked (drop k q)) (parent_of (drop k q))) (graph.shape dest.node)
 
-  abbrev stand : Stand
-  stand = heads_stand p q k source dest victim
+  abbrev holdings : Holdings
+  holdings = heads_holdings p q k source dest victim
 
   -- the finish, by its parts
   abbrev by_parts : Option Errno → Option Errno → Name → Name → Bool → Bool → Bool → Effect
   by_parts a b x y same_path above one_parent =
       let r : Reply × Bool = rename_row a b (entry_shape graph source.node x) same_path (there_by above (entry_shape graph dest.node y)) (one_parent || not (is_full (graph.shape dest.node))) in
-      move_effect graph stand x y reserved r.0 r.1 (graph.kid source.node x)
+      move_effect graph holdings x y reserved r.0 r.1 (graph.child source.node x)
 
   abbrev left_parts : Option Errno → Option Errno → Effect
   left_parts a b = by_parts a b (last_of (drop k p)) (last_of (drop k q)) (is_end (after_prefix (drop k p) (drop k q))) (has_more (after_prefix (drop k q) (drop k p))) (is_end (after_prefix (parent_of (drop k p)) (parent_of (drop k q))))
@@ -181,21 +181,21 @@ module _ (graph : Graph) (p q : Key) (k : ℕ) (source dest : count.Head) (victi
   failed_is e finish made m f = subst (λ (z : Effect). IsEffect z finish graph) (sym m)
       (record { reply = ap (λ (z : Finish). z.replies) f; reserved = ap (λ (z : Finish). z.reserved) f; removed = ap (λ (z : Finish). z.removed) f; graph_is = refl })
 
-  pub source_failed : (e : Errno) (finish : Finish) → Some e ≡ source_error → finish ≡ record { replies = Failed e; reserved = reserved; removed = None } → IsEffect (rename_effect graph (drop k p) (drop k q) stand reserved []) finish graph
+  pub source_failed : (e : Errno) (finish : Finish) → Some e ≡ source_error → finish ≡ record { replies = Failed e; reserved = reserved; removed = None } → IsEffect (rename_effect graph (drop k p) (drop k q) holdings reserved []) finish graph
   source_failed e finish h f = failed_is e finish (left_parts source_error dest_error) (ap (λ (o : Option Errno). left_parts o dest_error) (sym h)) f
 
-  pub dest_failed : (e : Errno) (finish : Finish) → None ≡ source_error → Some e ≡ dest_error → finish ≡ record { replies = Failed e; reserved = reserved; removed = None } → IsEffect (rename_effect graph (drop k p) (drop k q) stand reserved []) finish graph
+  pub dest_failed : (e : Errno) (finish : Finish) → None ≡ source_error → Some e ≡ dest_error → finish ≡ record { replies = Failed e; reserved = reserved; removed = None } → IsEffect (rename_effect graph (drop k p) (drop k q) holdings reserved []) finish graph
   dest_failed e finish g h f = failed_is e finish (left_parts source_error dest_error) (ap₂ left_parts (sym g) (sym h)) f
 
   -- only the two nodes and the victim count
-  by_nodes : (x y : Name) (r : Reply × Bool) (s : Option ℕ) → move_effect graph stand x y reserved r.0 r.1 s ≡ move_effect graph (between source.node dest.node victim) x y reserved r.0 r.1 s
+  by_nodes : (x y : Name) (r : Reply × Bool) (s : Option ℕ) → move_effect graph holdings x y reserved r.0 r.1 s ≡ move_effect graph (between source.node dest.node victim) x y reserved r.0 r.1 s
   by_nodes x y (r, false) s = refl
   by_nodes x y (r, true) None = refl
   by_nodes x y (r, true) (Some s) = refl
 
   pub rename_done : (same_path above one_parent : Bool) (finish : Finish) (new : Graph) → by_text (AtPair pairs.Rename p q) ≡ None → k ≤ length (common (parent_of p) (parent_of q)) → None ≡ source_error → None ≡ dest_error
       → same_path ≡ is_end (after_prefix p q) → above ≡ has_more (after_prefix q p) → one_parent ≡ is_end (after_prefix (parent_of p) (parent_of q))
-      → IsEffect (made_between graph source.node (last_of p) dest.node (last_of q) same_path above one_parent victim reserved) finish new → IsEffect (rename_effect graph (drop k p) (drop k q) stand reserved []) finish new
+      → IsEffect (made_between graph source.node (last_of p) dest.node (last_of q) same_path above one_parent victim reserved) finish new → IsEffect (rename_effect graph (drop k p) (drop k q) holdings reserved []) finish new
   rename_done same_path above one_parent finish new text h a b e f g made =
       let named = text_named p q text in
       let short = common_length p q in
@@ -207,7 +207,7 @@ module _ (graph : Graph) (p q : Key) (k : ℕ) (source dest : count.Head) (victi
       let u : has_more (after_prefix (drop k q) (drop k p)) ≡ above = above_left p q k h ∙ sym f in
       let o : is_end (after_prefix (parent_of (drop k p)) (parent_of (drop k q))) ≡ one_parent = one_parent_left p q k h ∙ sym g in
       let parts : left_parts source_error dest_error ≡ by_parts None None (last_of p) (last_of q) same_path above one_parent = (λ i. by_parts (sym a i) (sym b i) (x i) (y i) (s i) (u i) (o i)) in
-      subst (λ (z : Effect). IsEffect z finish new) (sym (parts ∙ by_nodes (last_of p) (last_of q) (rename_reply graph source.node (last_of p) dest.node (last_of q) same_path above one_parent) (graph.kid source.node (last_of p)))) made
+      subst (λ (z : Effect). IsEffect z finish new) (sym (parts ∙ by_nodes (last_of p) (last_of q) (rename_reply graph source.node (last_of p) dest.node (last_of q) same_path above one_parent) (graph.child source.node (last_of p)))) made
 
   -- heads that stand at one node have walked the same names, so that one last name means one path
   pub heads_apart : by_text (AtPair pairs.Rename p q) ≡ None → k ≤ length (common (parent_of p) (parent_of q)) → k + source.walked ≤ length (parent_of p) → k + dest.walked ≤ length (parent_of q)

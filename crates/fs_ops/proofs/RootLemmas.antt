@@ -9,8 +9,8 @@ use Rattle.fs_calls.specs.Forms.{Form, AtNode, AtEntry, AtPair, form}
 use Rattle.fs_calls.specs.declared.target.PairCall.TheVariants as pairs
 use Rattle.fs_calls.specs.declared.call.Call.{Call}
 use Rattle.fs_calls.specs.declared.reply.Reply.{Reply}
-use Rattle.fs_machine.specs.Records.{Record, Walking, Stand, stand_at}
-use Rattle.fs_machine.specs.Works.{Work, new_work, phase_of, BegunAs, IsTook, CanFinish, HeadsApart, IsBounded}
+use Rattle.fs_machine.specs.Records.{Record, Walking, Holdings, holdings_at}
+use Rattle.fs_machine.specs.OpValues.{OpValue, new_value, phase_of, BegunAs, IsTook, CanFinish, HeadsApart, IsBounded}
 
 -- the root alone is within all limits
 no_entries : (b : Bool) (names : List Name) → cond {A = Option Shape} b (Some (Dir [])) None ≡ Some (Dir names) → length names ≤ ENTRY_LIMIT
@@ -25,7 +25,7 @@ empty_bounded : IsBounded empty_graph
 empty_bounded = record { entries = λ n names e. no_entries (eqb n 0) names e; bytes = λ n content e. no_files (eqb n 0) content e }
 
 -- heads that have walked nothing
-unwalked : (f : Form) (n : ℕ) → HeadsApart f (stand_at n None)
+unwalked : (f : Form) (n : ℕ) → HeadsApart f (holdings_at n None)
 unwalked (AtNode c p) n = tt
 unwalked (AtEntry c p) n = tt
 unwalked (AtPair pairs.Rename p q) n = λ e. refl
@@ -39,26 +39,26 @@ none_of None e = refl
 none_of (Some n) e = absurd (cc)
 
 -- a call that reserved nothing leaves the graph
-begun_none : (old new : Graph) (limit : ℕ) (call : Call) (shape : Option Shape) (op : Work) → BegunAs old limit call shape op new → op.reserved ≡ None → (op ≡ new_work call None) × (new ≡ old)
+begun_none : (old new : Graph) (limit : ℕ) (call : Call) (shape : Option Shape) (op : OpValue) → BegunAs old limit call shape op new → op.reserved ≡ None → (op ≡ new_value call None) × (new ≡ old)
 begun_none old new limit call None op h e = h
-begun_none old new limit call (Some s) op h e = let k : op.reserved ≡ Some h.0 = ap (λ (w : Work). w.reserved) h.3 in absurd (cc)
+begun_none old new limit call (Some s) op h e = let k : op.reserved ≡ Some h.0 = ap (λ (w : OpValue). w.reserved) h.3 in absurd (cc)
 
-pub unfinished : (old graph : Graph) (limit : ℕ) (call : Call) (shape : Option Shape) (op new : Work) (n : ℕ) → BegunAs old limit call shape op graph → is_some op.reserved ≡ false → IsTook op n new → new.reply ≡ None
+pub unfinished : (old graph : Graph) (limit : ℕ) (call : Call) (shape : Option Shape) (op new : OpValue) (n : ℕ) → BegunAs old limit call shape op graph → is_some op.reserved ≡ false → IsTook op n new → new.reply ≡ None
 unfinished old graph limit call shape op new n h e took =
     let b = begun_none old graph limit call shape op h (none_of op.reserved e) in
-    let t = subst (λ (w : Work). IsTook w n new) b.0 took in
+    let t = subst (λ (w : OpValue). IsTook w n new) b.0 took in
     open_reply new.reply (ap (λ (r : Record). r.phase) (t 0 None))
 
-pub can_finish : (old graph : Graph) (limit : ℕ) (call : Call) (shape : Option Shape) (op new : Work) (n : ℕ) → old ≡ empty_graph → BegunAs old limit call shape op graph → is_some op.reserved ≡ false → IsTook op n new
-    → CanFinish graph new.reserved new.remaining new.stand
+pub can_finish : (old graph : Graph) (limit : ℕ) (call : Call) (shape : Option Shape) (op new : OpValue) (n : ℕ) → old ≡ empty_graph → BegunAs old limit call shape op graph → is_some op.reserved ≡ false → IsTook op n new
+    → CanFinish graph new.reserved new.remaining new.holdings
 can_finish old graph limit call shape op new n empty h e took =
     let b = begun_none old graph limit call shape op h (none_of op.reserved e) in
-    let t = subst (λ (w : Work). IsTook w n new) b.0 took in
+    let t = subst (λ (w : OpValue). IsTook w n new) b.0 took in
     let r : new.reserved ≡ None = ap (λ (z : Record). z.reserved) (t 0 None) in
     let f : new.remaining ≡ form call = ap (λ (z : Record). z.remaining) (t 0 None) in
-    let s : new.stand ≡ Some (stand_at n None) = ap (λ (z : Record). z.stand) (t 0 None) in
+    let s : new.holdings ≡ Some (holdings_at n None) = ap (λ (z : Record). z.holdings) (t 0 None) in
     record {
       spare = λ m k. absurd (cc);
-      heads = λ st k. let same : st ≡ stand_at n None = cc in subst (λ (z : Stand). HeadsApart new.remaining z) (sym same) (subst (λ (g : Form). HeadsApart g (stand_at n None)) (sym f) (unwalked (form call) n));
+      heads = λ st k. let same : st ≡ holdings_at n None = cc in subst (λ (z : Holdings). HeadsApart new.remaining z) (sym same) (subst (λ (g : Form). HeadsApart g (holdings_at n None)) (sym f) (unwalked (form call) n));
       bounded = subst IsBounded (sym (b.1 ∙ empty)) empty_bounded;
     }

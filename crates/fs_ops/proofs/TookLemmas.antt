@@ -12,9 +12,9 @@ use Rattle.fs_walk.specs.declared.head.Head as count
 use Rattle.fs_walk.specs.Ways as ways
 use Rattle.fs_walk.specs.Ways.{Way, ForkWay, head_name, way_took, may_take, fork_took, has_arrived}
 use Rattle.fs_machine.specs.Moves.{target, inner, behind_of, head_took, source_took, target_took}
-use Rattle.fs_ops.specs.Views.{first_path, dropped, head_of, stand_with, work_of, Forks, IsForked}
-use Rattle.fs_ops.specs.code.Steps.{started, TakesTo}
-use Rattle.fs_machine.specs.Works.{Work, IsTook}
+use Rattle.fs_ops.specs.OpValue.{first_path, dropped, head_of, holdings_with, op_value, Forks, IsForked}
+use Rattle.fs_ops.specs.code.TakeAndLetGo.{started, TakesTo}
+use Rattle.fs_machine.specs.OpValues.{OpValue, IsTook}
 use Rattle.fs_ops.specs.declared.outcome.Outcome.{Outcome}
 use Rattle.fs_ops.proofs.KeyLemmas.{parent_drop, drop_get, tail_drop, target_drop, target_take, take_get}
 use Rattle.fs_ops.proofs.WantLemmas.{left_head}
@@ -57,22 +57,22 @@ inner_dropped k (AtPair pairs.Rename p q) = rw (tail_drop k p, tail_drop k q) re
 
 -- the root is taken
 pub root_took : (call : Call) (way : Way) (fork : Option ForkWay) (victim reserved removed : Option ℕ) (outcome : Outcome) (n : ℕ) → way.node ≡ None
-    → IsTook (work_of call way fork victim reserved removed outcome) n (work_of call (way_took way n) None None reserved removed outcome)
+    → IsTook (op_value call way fork victim reserved removed outcome) n (op_value call (way_took way n) None None reserved removed outcome)
 root_took call way fork victim reserved removed outcome n e seat place = rw e refl
 
 -- where a stand is
-pub stand_node : (call : Form) (n : ℕ) (behind : Option ℕ) (fork : Option ForkWay) (victim : Option ℕ) → (stand_with call n behind fork victim).node ≡ n
-stand_node call n behind None victim = refl
-stand_node call n behind (Some f) victim = refl
+pub holdings_node : (call : Form) (n : ℕ) (behind : Option ℕ) (fork : Option ForkWay) (victim : Option ℕ) → (holdings_with call n behind fork victim).node ≡ n
+holdings_node call n behind None victim = refl
+holdings_node call n behind (Some f) victim = refl
 
 -- a name further
 step_by : (call : Call) (way : Way) (fork : Option ForkWay) (victim reserved removed : Option ℕ) (outcome : Outcome) (n m : ℕ) (x : Name) (l : Key) → way.node ≡ Some m
     → target (dropped way.walked (form call)) ≡ x ∷ l → take (way.walked + 1) (first_path (form call)) ≡ take way.walked (first_path (form call)) ++ x ∷ []
-    → IsTook (work_of call way fork victim reserved removed outcome) n (work_of call (way_took way n) None None reserved removed outcome)
-step_by call way fork victim reserved removed outcome n m x l at rest more seat place = rw (at, rest, more, inner_dropped way.walked (form call), stand_node (form call) m way.behind fork victim) refl
+    → IsTook (op_value call way fork victim reserved removed outcome) n (op_value call (way_took way n) None None reserved removed outcome)
+step_by call way fork victim reserved removed outcome n m x l at rest more seat place = rw (at, rest, more, inner_dropped way.walked (form call), holdings_node (form call) m way.behind fork victim) refl
 
 pub step_took : (call : Call) (way : Way) (fork : Option ForkWay) (victim reserved removed : Option ℕ) (outcome : Outcome) (n m : ℕ) → way.node ≡ Some m → way.names ≡ length (target (form call)) → way.walked < way.names
-    → IsTook (work_of call way fork victim reserved removed outcome) n (work_of call (way_took way n) None None reserved removed outcome)
+    → IsTook (op_value call way fork victim reserved removed outcome) n (op_value call (way_took way n) None None reserved removed outcome)
 step_took call way fork victim reserved removed outcome n m at names less =
     let k = way.walked in
     let name : (x : Name) × (slice_get (target (form call)) k ≡ Some x) = within_some (target (form call)) k (omega arith) in
@@ -82,8 +82,8 @@ step_took call way fork victim reserved removed outcome n m at names less =
 
 -- at the target
 pub arrived_took : (call : Call) (way new : Way) (fork fork_new : Option ForkWay) (victim victim_new reserved removed : Option ℕ) (outcome : Outcome) (n m : ℕ) → way.node ≡ Some m → way.names ≡ length (target (form call)) → way.walked ≡ way.names → new ≡ way
-    → target_took (dropped way.walked (form call)) (stand_with (form call) m way.behind fork victim) n ≡ stand_with (form call) m way.behind fork_new victim_new
-    → IsTook (work_of call way fork victim reserved removed outcome) n (work_of call new fork_new victim_new reserved removed outcome)
+    → target_took (dropped way.walked (form call)) (holdings_with (form call) m way.behind fork victim) n ≡ holdings_with (form call) m way.behind fork_new victim_new
+    → IsTook (op_value call way fork victim reserved removed outcome) n (op_value call new fork_new victim_new reserved removed outcome)
 arrived_took call way new fork fork_new victim victim_new reserved removed outcome n m at names all same stands seat place =
     let rest : target (dropped way.walked (form call)) ≡ [] = target_drop way.walked (form call) (omega arith) ∙ ahead_none (target (form call)) way.walked (slice_get_past (target (form call)) way.walked (omega arith)) in
     rw (same, at, rest, stands) refl
@@ -101,7 +101,7 @@ head_stepped p names head n x e =
 
 -- the heads of a rename after a take
 pub heads_took : (p q : Key) (n m : ℕ) (behind : Option ℕ) (fork : ForkWay) (victim : Option ℕ) → fork.names + fork.source.walked ≤ length (parent_of p) → fork.names + fork.dest.walked ≤ length (parent_of q)
-    → target_took (dropped fork.names (AtPair pairs.Rename p q)) (stand_with (AtPair pairs.Rename p q) m behind (Some fork) victim) n ≡ stand_with (AtPair pairs.Rename p q) m behind (Some (fork_took p q fork n)) (cond (has_arrived p q fork) (Some n) victim)
+    → target_took (dropped fork.names (AtPair pairs.Rename p q)) (holdings_with (AtPair pairs.Rename p q) m behind (Some fork) victim) n ≡ holdings_with (AtPair pairs.Rename p q) m behind (Some (fork_took p q fork n)) (cond (has_arrived p q fork) (Some n) victim)
 heads_took p q n m behind fork victim hs hd =
     rw (left_head fork.names fork.source.walked p hs, left_head fork.names fork.dest.walked q hd) (by_source (head_name p fork.names fork.source) refl)
   where
@@ -109,22 +109,22 @@ heads_took p q n m behind fork victim hs hd =
     names r head = ap (λ (l : Key). slice_get l head.walked) (parent_drop fork.names r) ∙ drop_get fork.names head.walked (parent_of r)
 
     by_dest : (o : Option Name) → head_name q fork.names fork.dest ≡ o → head_name p fork.names fork.source ≡ None
-        → source_took (stand_with (AtPair pairs.Rename p q) m behind (Some fork) victim) (drop fork.source.walked (parent_of (drop fork.names p))) (drop fork.dest.walked (parent_of (drop fork.names q))) n
-        ≡ stand_with (AtPair pairs.Rename p q) m behind (Some (fork_took p q fork n)) (cond (has_arrived p q fork) (Some n) victim)
+        → source_took (holdings_with (AtPair pairs.Rename p q) m behind (Some fork) victim) (drop fork.source.walked (parent_of (drop fork.names p))) (drop fork.dest.walked (parent_of (drop fork.names q))) n
+        ≡ holdings_with (AtPair pairs.Rename p q) m behind (Some (fork_took p q fork n)) (cond (has_arrived p q fork) (Some n) victim)
     by_dest None e f = rw (ahead_none (parent_of (drop fork.names p)) fork.source.walked (names p fork.source ∙ f), ahead_none (parent_of (drop fork.names q)) fork.dest.walked (names q fork.dest ∙ e), e, f) refl
     by_dest (Some x) e f =
         rw (ahead_none (parent_of (drop fork.names p)) fork.source.walked (names p fork.source ∙ f), ahead_some (parent_of (drop fork.names q)) fork.dest.walked x (names q fork.dest ∙ e), head_stepped q fork.names fork.dest n x e, e, f) refl
 
     by_source : (o : Option Name) → head_name p fork.names fork.source ≡ o
-        → source_took (stand_with (AtPair pairs.Rename p q) m behind (Some fork) victim) (drop fork.source.walked (parent_of (drop fork.names p))) (drop fork.dest.walked (parent_of (drop fork.names q))) n
-        ≡ stand_with (AtPair pairs.Rename p q) m behind (Some (fork_took p q fork n)) (cond (has_arrived p q fork) (Some n) victim)
+        → source_took (holdings_with (AtPair pairs.Rename p q) m behind (Some fork) victim) (drop fork.source.walked (parent_of (drop fork.names p))) (drop fork.dest.walked (parent_of (drop fork.names q))) n
+        ≡ holdings_with (AtPair pairs.Rename p q) m behind (Some (fork_took p q fork n)) (cond (has_arrived p q fork) (Some n) victim)
     by_source None e = by_dest (head_name q fork.names fork.dest) refl e
     by_source (Some x) e = rw (ahead_some (parent_of (drop fork.names p)) fork.source.walked x (names p fork.source ∙ e), head_stepped p fork.names fork.source n x e, e) refl
 
 -- the heads of a rename set out from its common directory
-pub started_stand : (call : Form) (n names : ℕ) (behind : Option ℕ) (fork : Option ForkWay) (victim : Option ℕ) → stand_with call n behind fork victim ≡ stand_with call n behind (Some (started fork n names)) victim
-started_stand call n names behind None victim = refl
-started_stand call n names behind (Some fork) victim = refl
+pub started_holdings : (call : Form) (n names : ℕ) (behind : Option ℕ) (fork : Option ForkWay) (victim : Option ℕ) → holdings_with call n behind fork victim ≡ holdings_with call n behind (Some (started fork n names)) victim
+started_holdings call n names behind None victim = refl
+started_holdings call n names behind (Some fork) victim = refl
 
 pub common_short : (a b : Key) → (length (common a b) ≤ length a) × (length (common a b) ≤ length b)
 common_short [] b = (omega arith, omega arith)
@@ -142,11 +142,11 @@ started_forked p q way None m at all names forks =
     record { node = at; names = sym all; arrived = all; source = omega arith; dest = omega arith }
 
 pub rename_stands : (p q : Key) (way : Way) (fork : Option ForkWay) (victim : Option ℕ) (n m : ℕ) → way.node ≡ Some m → way.walked ≡ way.names → way.names ≡ length (common (parent_of p) (parent_of q)) → Forks (AtPair pairs.Rename p q) way fork
-    → target_took (dropped way.walked (AtPair pairs.Rename p q)) (stand_with (AtPair pairs.Rename p q) m way.behind fork victim) n
-    ≡ stand_with (AtPair pairs.Rename p q) m way.behind (Some (fork_took p q (started fork m way.names) n)) (cond (has_arrived p q (started fork m way.names)) (Some n) victim)
+    → target_took (dropped way.walked (AtPair pairs.Rename p q)) (holdings_with (AtPair pairs.Rename p q) m way.behind fork victim) n
+    ≡ holdings_with (AtPair pairs.Rename p q) m way.behind (Some (fork_took p q (started fork m way.names) n)) (cond (has_arrived p q (started fork m way.names)) (Some n) victim)
 rename_stands p q way fork victim n m at all names forks =
     let heads = started_forked p q way fork m at all names forks in
-    rw (started_stand (AtPair pairs.Rename p q) m way.names way.behind fork victim, ← heads.names) (heads_took p q n m way.behind (started fork m way.names) victim heads.source heads.dest)
+    rw (started_holdings (AtPair pairs.Rename p q) m way.names way.behind fork victim, ← heads.names) (heads_took p q n m way.behind (started fork m way.names) victim heads.source heads.dest)
 
 -- and stay within their paths
 parent_within : (p : Key) (i : ℕ) (x : Name) → slice_get (parent_of p) i ≡ Some x → i + 1 ≤ length (parent_of p)
@@ -170,10 +170,10 @@ rename_forks p q way fork n m at all names forks = took_forked p q way (started 
 
 -- a walk that may take a node takes it
 pub walk_took : (call : Call) (way : Way) (fork : Option ForkWay) (victim reserved removed : Option ℕ) (outcome : Outcome) (n : ℕ) → way.names ≡ length (target (form call)) → may_take way ≡ true
-    → IsTook (work_of call way fork victim reserved removed outcome) n (work_of call (way_took way n) None None reserved removed outcome)
+    → IsTook (op_value call way fork victim reserved removed outcome) n (op_value call (way_took way n) None None reserved removed outcome)
 walk_took call way fork victim reserved removed outcome n names may = by_node way.node refl
   where
-    by_node : (o : Option ℕ) → way.node ≡ o → IsTook (work_of call way fork victim reserved removed outcome) n (work_of call (way_took way n) None None reserved removed outcome)
+    by_node : (o : Option ℕ) → way.node ≡ o → IsTook (op_value call way fork victim reserved removed outcome) n (op_value call (way_took way n) None None reserved removed outcome)
     by_node None e = root_took call way fork victim reserved removed outcome n e
     by_node (Some m) e =
         let test : nat_lt way.walked way.names ≡ true = rw e at may in
@@ -191,11 +191,11 @@ walk_arrived way may within = by_node way.node refl
 
 pub target_took_is : (call : Call) (way : Way) (fork fork_new : Option ForkWay) (victim victim_new reserved removed : Option ℕ) (outcome : Outcome) (n : ℕ) → way.names ≡ length (target (form call)) → may_take way ≡ false → way.walked ≤ way.names
     → ((at : ℕ) → way.node ≡ Some at → TakesTo (form call) way at n fork victim fork_new victim_new)
-    → IsTook (work_of call way fork victim reserved removed outcome) n (work_of call way fork_new victim_new reserved removed outcome)
+    → IsTook (op_value call way fork victim reserved removed outcome) n (op_value call way fork_new victim_new reserved removed outcome)
 target_took_is call way fork fork_new victim victim_new reserved removed outcome n names may within stands =
     let arrived : (way.walked ≡ way.names) × ((m : ℕ) × (way.node ≡ Some m)) = walk_arrived way may within in
     arrived_took call way way fork fork_new victim victim_new reserved removed outcome n arrived.1.0 arrived.1.1 names arrived.0 refl (stands arrived.1.0 arrived.1.1)
 
 -- the same from the work that the fields are
-pub took_as : (old old_seen new new_seen : Work) (n : ℕ) → old ≡ old_seen → new ≡ new_seen → IsTook old n new → IsTook old_seen n new_seen
+pub took_as : (old old_seen new new_seen : OpValue) (n : ℕ) → old ≡ old_seen → new ≡ new_seen → IsTook old n new → IsTook old_seen n new_seen
 took_as old old_seen new new_seen n e f h seat place = rw (← e, ← f) (h seat place)

@@ -12,8 +12,8 @@ use Rattle.fs_walk.specs.declared.want.Want.TheVariants.{Take, LetGo, Arrived, F
 use Rattle.fs_walk.specs.Ways.{Way, head_name, name_ahead}
 use Rattle.fs_walk.specs.Wants.{name_want, head_want, then_want, at_dir, dir_want, want}
 use Rattle.fs_machine.specs.Moves.{Move, first_of, walk_move, head_move, dir_then, target}
-use Rattle.fs_ops.specs.code.Told.{want_then}
-use Rattle.fs_ops.specs.Views.{first_path, dropped, head_of}
+use Rattle.fs_ops.specs.code.MoveNames.{want_then}
+use Rattle.fs_ops.specs.OpValue.{first_path, dropped, head_of}
 use Rattle.fs_ops.proofs.KeyLemmas.{left_take, parent_drop, drop_get, target_drop, target_take}
 
 name_tie : (s : Option Shape) (child : Option ℕ) (m : Move) → walk_move s child ≡ want_then (name_want s child) m
@@ -27,7 +27,7 @@ pub head_tie : (graph : Graph) (n : ℕ) (behind : Option ℕ) (l : Key) (k : �
 head_tie graph n (Some b) l k m = refl
 head_tie graph n None [] zero m = refl
 head_tie graph n None [] (suc k) m = refl
-head_tie graph n None (x ∷ l) zero m = name_tie (graph.shape n) (graph.kid n x) m
+head_tie graph n None (x ∷ l) zero m = name_tie (graph.shape n) (graph.child n x) m
 head_tie graph n None (x ∷ l) (suc k) m = head_tie graph n None l k m
 
 -- at a node that has to be a directory
@@ -92,7 +92,7 @@ never_arrived (Some (Dir names)) (Some n) e = cc
 pub head_arrived : (graph : Graph) (n : ℕ) (behind : Option ℕ) (name : Option Name) → head_want graph n behind name ≡ Arrived → name ≡ None
 head_arrived graph n (Some m) name e = absurd (cc)
 head_arrived graph n None None e = refl
-head_arrived graph n None (Some x) e = absurd (never_arrived (graph.shape n) (graph.kid n x) e)
+head_arrived graph n None (Some x) e = absurd (never_arrived (graph.shape n) (graph.child n x) e)
 
 -- what comes after an arrival matters only where there is one
 pub want_then_same : (w : Want) (m k : Move) → (w ≡ Arrived → m ≡ k) → want_then w m ≡ want_then w k

@@ -1,2 +1,2 @@
-pub mod Views
+pub mod OpValue
 pub mod code

@@ -8,8 +8,8 @@ ghost use Rattle.fs_calls.specs.code.Targets.{form_of};
 ghost use Rattle.fs_machine.specs.Moves.{target};
 ghost use Rattle.fs_names.specs.Keys.{parent_of};
 ghost use Rattle.fs_names.specs.Parts.{common};
-ghost use Rattle.fs_ops.specs.code.Begins.{HasReserved};
-ghost use Rattle.fs_machine.specs.Works.{BegunAs, new_work};
+ghost use Rattle.fs_ops.specs.code.Reservations.{HasReserved};
+ghost use Rattle.fs_machine.specs.OpValues.{BegunAs, new_value};
 
 use crate::end::give_back;
 use crate::op::Op;
@@ -81,7 +81,7 @@ fn reserve_for(call: &Call, store: &mut Store) -> Result<Option<NodeNo>, NoNode>
 impl Op {
     /// A call that holds nothing yet, with all memory that it needs to its end.
     fn new(alloc: Global, call: &Call) -> Result<Op, AllocError>
-        ensures { IfOk result (λ op. op ≡ new_work call.now None) }
+        ensures { IfOk result (λ op. op ≡ new_value call.now None) }
     {
         let prepared = Room::new(alloc, call)?;
         let copy = call.copy(alloc)?;

@@ -3,7 +3,7 @@
 ghost use Rattle.std.specs.Prelude.{◌≡◌, None};
 ghost use Rattle.fs_nodes.specs.Seen.{seen};
 ghost use Rattle.fs_nodes.specs.Stores.{graph_of};
-ghost use Rattle.fs_machine.specs.Works.{CanFinish, IsFinished, graph_after};
+ghost use Rattle.fs_machine.specs.OpValues.{CanFinish, IsFinished, graph_after};
 
 use crate::finish::finish;
 use crate::op::Op;
@@ -26,7 +26,7 @@ impl Op {
     /// The buffers that it needs were allocated by `begin`.
     pub fn carry_out(&mut self, store: &mut Store)
         requires unfinished { self.old.reply ≡ None }
-        requires can { CanFinish (graph_of store.old) self.old.reserved self.old.remaining self.old.stand }
+        requires can { CanFinish (graph_of store.old) self.old.reserved self.old.remaining self.old.holdings }
         ensures op { IsFinished (graph_of store.old) self.old self.new }
         ensures change { seen store.new ≡ record (seen store.old) { graph = graph_after (graph_of store.old) self.old } }
     {

@@ -4,7 +4,7 @@ ghost use Rattle.std.specs.Prelude.{◌≡◌, None, Some, IsSome};
 ghost use Rattle.fs_nodes.specs.Seen.{seen};
 ghost use Rattle.fs_nodes.specs.Stores.{graph_of};
 ghost use Rattle.fs_machine.specs.Leaving.{unreserved};
-ghost use Rattle.fs_machine.specs.Works.{SpareIf};
+ghost use Rattle.fs_machine.specs.OpValues.{SpareIf};
 
 use crate::op::Op;
 use crate::outcome::Outcome;
@@ -25,7 +25,7 @@ impl Op {
     /// Undoes a begin: a call that has taken nothing gives its reserved number back.
     pub fn cancel(self, store: &mut Store)
         requires spare { SpareIf (graph_of store.old) self.reserved }
-        requires start { self.stand ≡ None }
+        requires start { self.holdings ≡ None }
         ensures { seen store.new ≡ record (seen store.old) { graph = unreserved self.reserved (graph_of store.old) } }
     {
         give_back(store, self.reserved());

@@ -6,15 +6,15 @@ ghost use Rattle.fs_nodes.specs.Seen.{seen};
 ghost use Rattle.fs_nodes.specs.Stores.{graph_of, shape};
 ghost use Rattle.fs_calls.specs.Forms.{form, by_text};
 ghost use Rattle.fs_calls.specs.code.Targets.{form_of, node_call};
-ghost use Rattle.fs_calls.specs.Rows.{on_row};
+ghost use Rattle.fs_calls.specs.Rows.{node_row};
 ghost use Rattle.fs_finish.specs.Replies.{refilled};
 ghost use Rattle.fs_finish.specs.Endings.{IsEffect, entry_finish};
-ghost use Rattle.fs_ops.specs.code.Counted.{finish_by};
+ghost use Rattle.fs_ops.specs.code.FinishByCounts.{finish_by};
 ghost use Rattle.fs_machine.specs.Finishes.{effect_at};
 ghost use Rattle.fs_finish.specs.Rooms.{Suffices, SufficesFor};
 ghost use Rattle.fs_machine.specs.Moves.{target};
-ghost use Rattle.fs_ops.specs.Views.{Forks, IsOp, dropped, stand_of, stand_with};
-ghost use Rattle.fs_machine.specs.Works.{CanFinish, IsBounded, SpareIf};
+ghost use Rattle.fs_ops.specs.OpValue.{Forks, IsOp, dropped, holdings_of, holdings_with};
+ghost use Rattle.fs_machine.specs.OpValues.{CanFinish, IsBounded, SpareIf};
 
 use crate::heads::{dest_of, finish_rename, source_of};
 use crate::outcome::Outcome;
@@ -38,10 +38,10 @@ fn finish_on(
 ) -> Finish
     requires bounded { IsBounded (graph_of store.old) }
     requires room { SufficesFor (node_call call) prepared }
-    ensures reply { result.replies ≡ (on_row (node_call call.entry) None (shape store.old node)).0 }
+    ensures reply { result.replies ≡ (node_row (node_call call.entry) None (shape store.old node)).0 }
     ensures reserved { result.reserved ≡ reserved }
     ensures removed { result.removed ≡ None }
-    ensures change { seen store.new ≡ record (seen store.old) { graph = refilled node (on_row (node_call call.entry) None (shape store.old node)).1 (graph_of store.old) } }
+    ensures change { seen store.new ≡ record (seen store.old) { graph = refilled node (node_row (node_call call.entry) None (shape store.old node)).1 (graph_of store.old) } }
 {
     match call {
         NodeCall::Stat => Finish::kept(stat(store, node), reserved),
@@ -96,8 +96,8 @@ fn finish_at(
     requires arrived { walk.now.walked ≡ walk.now.names }
     requires forks { Forks (form_of aim) walk.now fork.now }
     requires room { Suffices (form_of aim) prepared }
-    requires can { CanFinish (graph_of store.old) reserved (dropped walk.now.walked (form_of aim)) (Some (stand_with (form_of aim) node walk.now.behind fork.now victim)) }
-    ensures made { IsEffect (effect_at (graph_of store.old) (dropped walk.now.walked (form_of aim.entry)) (stand_with (form_of aim.entry) node walk.now.behind fork.now victim) reserved) result (graph_of store.new) }
+    requires can { CanFinish (graph_of store.old) reserved (dropped walk.now.walked (form_of aim)) (Some (holdings_with (form_of aim) node walk.now.behind fork.now victim)) }
+    ensures made { IsEffect (effect_at (graph_of store.old) (dropped walk.now.walked (form_of aim.entry)) (holdings_with (form_of aim.entry) node walk.now.behind fork.now victim) reserved) result (graph_of store.new) }
     ensures rest { seen store.new ≡ record (seen store.old) { graph = graph_of store.new } }
 {
     match aim {
@@ -127,7 +127,7 @@ pub fn finish(
     store: &mut Store,
 ) -> Finish
     requires op { IsOp (form call.now) walk.now fork.now (Outcome.Open prepared) }
-    requires can { CanFinish (graph_of store.old) reserved (dropped walk.now.walked (form call.now)) (stand_of (form call.now) walk.now.node walk.now.behind fork.now victim) }
+    requires can { CanFinish (graph_of store.old) reserved (dropped walk.now.walked (form call.now)) (holdings_of (form call.now) walk.now.node walk.now.behind fork.now victim) }
     ensures made { IsEffect (finish_by (graph_of store.old) (form call.now) walk.now fork.now victim reserved) result (graph_of store.new) }
     ensures rest { seen store.new ≡ record (seen store.old) { graph = graph_of store.new } }
 {

@@ -4,8 +4,8 @@ ghost use Rattle.std.specs.Prelude.{◌≡◌, None, true};
 ghost use Rattle.fs_nodes.specs.Seen.{seen};
 ghost use Rattle.fs_nodes.specs.Stores.{graph_of};
 ghost use Rattle.fs_machine.specs.Leaving.{is_removed, releasing, cleared};
-ghost use Rattle.fs_ops.specs.code.Steps.{way_freed, fork_freed, heads_freed, fork_after, way_after};
-ghost use Rattle.fs_machine.specs.Works.{IsSpare, IsLetGo};
+ghost use Rattle.fs_ops.specs.code.TakeAndLetGo.{way_freed, fork_freed, heads_freed, fork_after, way_after};
+ghost use Rattle.fs_machine.specs.OpValues.{IsSpare, IsLetGo};
 
 use crate::op::Op;
 use fs_nodes::{NodeNo, Store};

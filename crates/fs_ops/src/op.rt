@@ -22,12 +22,12 @@ pub struct Op {
 
 impl Model for Op {
     ghost use Rattle.fs_calls.specs.Forms.{form};
-    ghost use Rattle.fs_machine.specs.Works.{Work};
-    ghost use Rattle.fs_ops.specs.Views.{work_of, IsOp};
+    ghost use Rattle.fs_machine.specs.OpValues.{OpValue};
+    ghost use Rattle.fs_ops.specs.OpValue.{op_value, IsOp};
 
-    ghost Value = { Work };
+    ghost Value = { OpValue };
 
-    ghost view = { λ o. work_of o.call o.walk o.fork o.victim o.reserved o.removed o.outcome };
+    ghost view = { λ o. op_value o.call o.walk o.fork o.victim o.reserved o.removed o.outcome };
 
     ghost invariant = { λ o. IsOp (form o.call) o.walk o.fork o.outcome };
 }
@@ -35,7 +35,7 @@ impl Model for Op {
 impl Op {
     /// The node where the call stands: a rename with both heads under way stands at its common directory. None: it holds nothing.
     pub fn position(&self) -> Option<NodeNo>
-        ensures { result ≡ option_map (λ st. st.node) self.now.stand }
+        ensures { result ≡ option_map (λ st. st.node) self.now.holdings }
     {
         self.walk.node()
     }

@@ -9,9 +9,9 @@ ghost use Rattle.fs_calls.specs.Forms as forms;
 ghost use Rattle.fs_calls.specs.declared.target.PairCall.TheVariants as pairs;
 ghost use Rattle.fs_walk.specs.Ways.{fork_took, has_arrived};
 ghost use Rattle.fs_machine.specs.Moves.{target};
-ghost use Rattle.fs_ops.specs.Views.{Forks};
-ghost use Rattle.fs_ops.specs.code.Steps.{TakesTo, started};
-ghost use Rattle.fs_machine.specs.Works.{IsTook};
+ghost use Rattle.fs_ops.specs.OpValue.{Forks};
+ghost use Rattle.fs_ops.specs.code.TakeAndLetGo.{TakesTo, started};
+ghost use Rattle.fs_machine.specs.OpValues.{IsTook};
 
 use crate::op::Op;
 use fs_calls::{PairCall, Target};

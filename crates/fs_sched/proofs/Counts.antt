@@ -12,18 +12,18 @@ use Rattle.fs_timeline.specs.declared.entry.Entry.TheVariants.{Begin, Commit, Re
 use Rattle.fs_machine.specs.Finishes.{finish}
 use Rattle.fs_machine.specs.Leaving.{let_go, finished_op}
 use Rattle.fs_machine.specs.Moves.{target, took, took_by}
-use Rattle.fs_machine.specs.Records.{Stand, Phase, Walking, Placed, Finished, Record, Records}
+use Rattle.fs_machine.specs.Records.{Holdings, Phase, Walking, Placed, Finished, Record, Records}
 use Rattle.fs_timeline.specs.Timeline.{begins, commit_count}
 use Rattle.fs_laws.specs.Headline.{IsIdle}
 use Rattle.fs_laws.specs.States.{State, Run, Start, Beginning, Stepping, Begun, Begins, Begun_as, Seat_busy, Full, No_memory, Reserves, began, new_op, Step, Stepped, Idle, Took, Busy, LetGo, Helped, Committed, CarriedOut, Returned, taking, letting_go, helping, carrying, committing, returning}
-use Rattle.fs_laws.specs.Work.{total}
+use Rattle.fs_laws.specs.StepsLeft.{total}
 use Rattle.fs_laws.proofs.journal.OneMoreEntry.{returns_begins, begins_begins}
 use Rattle.fs_laws.proofs.states.GraphOfARun.{begun_before}
 use Rattle.fs_laws.proofs.helping.WhomToHelp.{up_to}
 use Rattle.fs_laws.proofs.events.Help.{upd_here, upd_else, begins_push}
 use Rattle.fs_sched.specs.RunTexts.{is_of, number_of}
-use Rattle.fs_sched.specs.declared.texts.EntryKind.{EntryKind}
-use Rattle.fs_sched.specs.declared.texts.EntryKind.TheVariants as kind
+use Rattle.fs_sched.specs.declared.run_texts.EntryKind.{EntryKind}
+use Rattle.fs_sched.specs.declared.run_texts.EntryKind.TheVariants as kind
 
 -- ---- sums over the calls' numbers
 
@@ -119,7 +119,7 @@ tallied_one s new c op v run is ops same begun returned committed t =
     let p : number_of kind.Commit s.timeline + counted without_place s ≡ number_of kind.Begin s.timeline = t.committed in
     record { returned = omega (arith, a, begun, returned, r); committed = omega (arith, b, begun, committed, p) }
 
-took_phase : (op : Record) (o : Option Stand) (l : Key) (n : ℕ) → (took_by op o l n).phase ≡ op.phase
+took_phase : (op : Record) (o : Option Holdings) (l : Key) (n : ℕ) → (took_by op o l n).phase ≡ op.phase
 took_phase op None l n = refl
 took_phase op (Some st) [] n = refl
 took_phase op (Some st) (x ∷ l) n = refl
@@ -150,7 +150,7 @@ tallied_return s c op r run is done t =
 tallied_step : (s new : State) (seat : ℕ) (answer : Stepped) → Run s → Step s seat answer new → Tallied s → Tallied new
 tallied_step s new seat Idle run (off, same) t = subst Tallied (sym same) t
 tallied_step s new seat (Busy n d) run (c, op, moves, held, same) t = subst Tallied (sym same) t
-tallied_step s new seat (Took n) run (c, op, moves, free, same) t = subst Tallied (sym same) (tallied_quiet s (taking s c op n) c op (took op n) run moves.1 (ap while_walking (took_phase op op.stand (target op.remaining) n)) refl refl t)
+tallied_step s new seat (Took n) run (c, op, moves, free, same) t = subst Tallied (sym same) (tallied_quiet s (taking s c op n) c op (took op n) run moves.1 (ap while_walking (took_phase op op.holdings (target op.remaining) n)) refl refl t)
 tallied_step s new seat (LetGo n) run (c, op, moves, same) t = subst Tallied (sym same) (tallied_quiet s (letting_go s c op n) c op (let_go op n) run moves.1 refl refl refl t)
 tallied_step s new seat (Helped d) run (c, op, u, moves, w, pick, q, is, same) t =
     let a : ◌≡◌ {A = Option Record} (Some pick.0.0.0) (Some q) = sym pick.0.0.1 ∙ is in

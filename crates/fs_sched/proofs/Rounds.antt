@@ -6,7 +6,7 @@ use Rattle.fs_calls.specs.declared.call.Call.{Call}
 use Rattle.fs_machine.specs.Records.{Record}
 use Rattle.fs_laws.specs.Progress.{GoesOn, SomebodyGoesOn}
 use Rattle.fs_laws.specs.States.{State, Run, Beginning, Stepping, Begins, Begun_as, Step, Stepped, Idle, Took, Busy, LetGo, Helped, Committed, CarriedOut, Returned}
-use Rattle.fs_laws.specs.Work.{work, first_work}
+use Rattle.fs_laws.specs.StepsLeft.{steps_left, first_steps}
 use Rattle.fs_laws.proofs.calls.StepsAreDetermined.{one_step}
 use Rattle.fs_laws.proofs.states.Headline.{run_keeps}
 use Rattle.fs_laws.proofs.states.Waiters.{never_stuck}
@@ -28,11 +28,11 @@ owed cost (calls ∷ lists) (n ∷ begun) = cost_of cost (drop n calls) + owed c
 
 -- the steps that a call takes at most, and its begin
 abbrev steps_of : Call → ℕ
-steps_of call = first_work (form call) + 1
+steps_of call = first_steps (form call) + 1
 
 -- the events that are not spent and not busy, at most
 abbrev pub left_over : List (List Call) → Stage → ℕ
-left_over lists s = work s.state + owed steps_of lists s.begun
+left_over lists s = steps_left s.state + owed steps_of lists s.begun
 
 one_call_less : (cost : Call → ℕ) (calls : List Call) (n : ℕ) (call : Call) → slice_get calls n ≡ Some call → cost_of cost (drop (suc n) calls) + cost call ≡ cost_of cost (drop n calls)
 one_call_less cost [] n call e = absurd (let z : ◌≡◌ {A = Option Call} None (Some call) = e in cc)
@@ -63,9 +63,9 @@ same_stage old new a b = ap₂ (λ (s : State) (n : List ℕ). record { state = 
 starts_less : (lists : List (List Call)) (old new : Stage) (seat c : ℕ) (call : Call) → Run old.state → length old.begun ≡ length lists → next_call lists old seat ≡ Some call → Begins old.state seat call (Begun_as c) new.state
     → new.begun ≡ slice_set old.begun seat (get_or old.begun seat 0 + 1) → left_over lists new + 1 ≤ left_over lists old
 starts_less lists old new seat c call run same is begins set =
-    let a : work new.state ≡ work old.state + first_work (form call) = adds_work old.state run seat c call new.state begins in
+    let a : steps_left new.state ≡ steps_left old.state + first_steps (form call) = adds_work old.state run seat c call new.state begins in
     let b : owed steps_of lists new.begun ≡ owed steps_of lists (slice_set old.begun seat (get_or old.begun seat 0 + 1)) = ap (owed steps_of lists) set in
-    let d : owed steps_of lists (slice_set old.begun seat (get_or old.begun seat 0 + 1)) + (first_work (form call) + 1) ≡ owed steps_of lists old.begun = owed_less steps_of lists old.begun seat (get_or old.begun seat 0 + 1) call same (omega arith) is in
+    let d : owed steps_of lists (slice_set old.begun seat (get_or old.begun seat 0 + 1)) + (first_steps (form call) + 1) ≡ owed steps_of lists old.begun = owed_less steps_of lists old.begun seat (get_or old.begun seat 0 + 1) call same (omega arith) is in
     omega (arith, a, b, d)
 
 -- it leaves all as it was, or less to do
@@ -77,7 +77,7 @@ step_falls : (lists : List (List Call)) (old new : Stage) (seat : ℕ) (answer :
 step_falls lists old new seat answer run step kept = by answer step
   where
     goes : (a : Stepped) → Step old.state seat a new.state → GoesOn a → Falls lists old new
-    goes a st g = let w : work new.state + 1 ≤ work old.state = takes_work old.state run seat a new.state st g in let b : owed steps_of lists new.begun ≡ owed steps_of lists old.begun = ap (owed steps_of lists) kept in Less (omega (arith, w, b))
+    goes a st g = let w : steps_left new.state + 1 ≤ steps_left old.state = takes_work old.state run seat a new.state st g in let b : owed steps_of lists new.begun ≡ owed steps_of lists old.begun = ap (owed steps_of lists) kept in Less (omega (arith, w, b))
 
     by : (a : Stepped) → Step old.state seat a new.state → Falls lists old new
     by Idle (off, e) = Same (same_stage old new e kept)
@@ -155,8 +155,8 @@ no_more : (lists : List (List Call)) (s : Stage) (run : Run s.state) (seat c : �
 no_more lists s run seat c answer new on step g (Spent off none e) = none_some (s.state.on_seat seat) c off on
 no_more lists s run seat c answer new on step g (Starts d call off is begins set) = none_some (s.state.on_seat seat) c off on
 no_more lists s run seat c answer new on step g (Goes d other on_d step_d kept) =
-    let a : work new + 1 ≤ work s.state = takes_work s.state run seat answer new step g in
-    let b : work new ≡ work s.state = ap work (one_step s.state seat answer other new s.state step step_d).1 in
+    let a : steps_left new + 1 ≤ steps_left s.state = takes_work s.state run seat answer new step g in
+    let b : steps_left new ≡ steps_left s.state = ap steps_left (one_step s.state seat answer other new s.state step step_d).1 in
     omega (arith, a, b)
 
 -- seats of calls under way are those of threads

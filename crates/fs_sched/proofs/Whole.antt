@@ -19,7 +19,7 @@ use Rattle.fs_text.specs.declared.fault.ScriptFault.{ScriptFault}
 use Rattle.fs_script.specs.declared.script.Script.{Script}
 use Rattle.fs_script.specs.declared.script.Word.{Word}
 use Rattle.fs_sched.specs.RunTexts.{number_of}
-use Rattle.fs_sched.specs.declared.texts.EntryKind.TheVariants as kind
+use Rattle.fs_sched.specs.declared.run_texts.EntryKind.TheVariants as kind
 use Rattle.fs_sched.specs.declared.running.RunEnd.{RunEnd}
 use Rattle.fs_sched.specs.declared.schedule.Schedule.{Schedule}
 use Rattle.fs_sched.specs.declared.schedule.Schedule.TheVariants.{Given, RoundRobin, Seeded}
@@ -85,7 +85,7 @@ abbrev pub one : Call → ℕ
 one call = 1
 
 -- what every stage of a script's run keeps: the calls that began and those that are left are all
-pub record Kept (lists : List (List Call)) (s : Stage) : Type 0 where
+pub record ListFacts (lists : List (List Call)) (s : Stage) : Type 0 where
   pub run : Run s.state
   pub same : length s.begun ≡ length lists
   pub seats : AreSeats lists s
@@ -98,7 +98,7 @@ call_there lists s seat call is = go (ltb seat (length lists)) refl
     go true t = ltb-true _ _ t
     go false f = let z : ◌≡◌ {A = Option Call} None (Some call) = sym (call_past lists s seat (omega (arith, ltb-false _ _ f))) ∙ is in cc
 
-pub event_keeps : (lists : List (List Call)) (old new : Stage) (seat : ℕ) → Event lists old seat new → Kept lists old → Kept lists new
+pub event_keeps : (lists : List (List Call)) (old new : Stage) (seat : ℕ) → Event lists old seat new → ListFacts lists old → ListFacts lists new
 event_keeps lists old new seat (Goes c answer on step kept) k =
     let a : number_of kind.Begin new.state.timeline ≡ number_of kind.Begin old.state.timeline = step_begins old.state new.state seat answer step in
     let b : owed one lists new.begun ≡ owed one lists old.begun = ap (owed one lists) kept in
@@ -124,15 +124,15 @@ event_keeps lists old new seat (Starts c call off is begins set) k =
     by : (x f : ℕ) → new.state.on_seat x ≡ Some f → Place (Option ℕ) seat (Some c) old.state.on_seat x → x < length lists
     by x f on_x (Here e j) = subst (λ (y : ℕ). y < length lists) (sym e) (call_there lists old seat call is)
     by x f on_x (Else n j) = k.seats x f (sym j ∙ (sym (begin_seats old.state new.state seat c call begins x) ∙ on_x))
-event_keeps lists old new seat (Spent off none e) k = subst (Kept lists) (sym e) k
+event_keeps lists old new seat (Spent off none e) k = subst (ListFacts lists) (sym e) k
 
 -- ---- a run
 
-pub events_keep : (lists : List (List Call)) (seats : List ℕ) (old new : Stage) → Events lists old seats new → Kept lists old → Kept lists new
-events_keep lists [] old new e k = subst (Kept lists) (sym e) k
+pub events_keep : (lists : List (List Call)) (seats : List ℕ) (old new : Stage) → Events lists old seats new → ListFacts lists old → ListFacts lists new
+events_keep lists [] old new e k = subst (ListFacts lists) (sym e) k
 events_keep lists (seat ∷ seats) old new (middle, event, rest) k = events_keep lists seats middle new rest (event_keeps lists old middle seat event k)
 
-pub end_keeps : (lists : List (List Call)) (old last : Stage) → ToEnd lists old last → Kept lists old → Kept lists last × IsOver lists last
+pub end_keeps : (lists : List (List Call)) (old last : Stage) → ToEnd lists old last → ListFacts lists old → ListFacts lists last × IsOver lists last
 end_keeps lists old last (Over over) k = (k, over)
 end_keeps lists old last (More {middle} more round rest) k = end_keeps lists middle last rest (events_keep lists _ old middle round k)
 
@@ -151,7 +151,7 @@ owed_all (calls ∷ lists) =
     let g : cost_of one calls ≡ length calls = cost_all calls in
     omega (arith, g, h)
 
-pub kept_start : (lists : List (List Call)) → Kept lists (start (length lists))
+pub kept_start : (lists : List (List Call)) → ListFacts lists (start (length lists))
 kept_start lists = record {
   run = Start NODE_LIMIT (omega arith);
   same = length_zeros (length lists);
@@ -175,7 +175,7 @@ none_owed (calls ∷ lists) (n ∷ begun) h =
     let b : owed one lists begun ≡ 0 = none_owed lists begun (λ seat less. h (suc seat) (omega (arith, less))) in
     omega (arith, a, b)
 
-over_idle : (lists : List (List Call)) (s : Stage) → Kept lists s → IsOver lists s → IsIdle s.state
+over_idle : (lists : List (List Call)) (s : Stage) → ListFacts lists s → IsOver lists s → IsIdle s.state
 over_idle lists s k over c = go (s.state.ops c) refl
   where
     go : (o : Option Record) → s.state.ops c ≡ o → s.state.ops c ≡ None
@@ -195,7 +195,7 @@ record IsComplete (lists : List (List Call)) (es : List Entry) : Type 0 where
   committed : number_of kind.Commit es ≡ calls_in lists
   returned : number_of kind.Return es ≡ calls_in lists
 
-complete : (lists : List (List Call)) (s : Stage) → Kept lists s → IsOver lists s → IsComplete lists s.state.timeline
+complete : (lists : List (List Call)) (s : Stage) → ListFacts lists s → IsOver lists s → IsComplete lists s.state.timeline
 complete lists s k over =
     let z : owed one lists s.begun ≡ 0 = none_owed lists s.begun (λ seat less. (nothing_more _ _ (over seat less)).1) in
     let b : number_of kind.Begin s.state.timeline + owed one lists s.begun ≡ calls_in lists = k.all in
@@ -206,8 +206,8 @@ complete lists s k over =
 
 runs_complete : (schedule : Schedule) (script : Script) (last : Stage) → Runs schedule script last → goes_on schedule script.words ≡ true → IsComplete script.lists last.state.timeline
 runs_complete schedule script last (middle, events, ends) more =
-    let k : Kept script.lists middle = events_keep script.lists (seats_before schedule script.words (length script.lists)) (start (length script.lists)) middle events (kept_start script.lists) in
-    let e : Kept script.lists last × IsOver script.lists last = end_keeps script.lists middle last (ends_by _ script.lists middle last more ends) k in
+    let k : ListFacts script.lists middle = events_keep script.lists (seats_before schedule script.words (length script.lists)) (start (length script.lists)) middle events (kept_start script.lists) in
+    let e : ListFacts script.lists last × IsOver script.lists last = end_keeps script.lists middle last (ends_by _ script.lists middle last more ends) k in
     complete script.lists last e.0 e.1
 
 -- where rounds to the end follow, by the numbers of a run's end

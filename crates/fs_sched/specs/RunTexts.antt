@@ -3,8 +3,8 @@ use Rattle.std.specs.Prelude.{ℕ, ◌≡◌, Bool, true, false, List, ◌++◌,
 use Rattle.std.specs.List.{count_by}
 use Rattle.fs_timeline.specs.declared.entry.Entry.{Entry}
 use Rattle.fs_timeline.specs.declared.entry.Entry.TheVariants.{Begin, Commit, Return}
-use Rattle.fs_sched.specs.declared.texts.EntryKind.{EntryKind}
-use Rattle.fs_sched.specs.declared.texts.EntryKind.TheVariants as kind
+use Rattle.fs_sched.specs.declared.run_texts.EntryKind.{EntryKind}
+use Rattle.fs_sched.specs.declared.run_texts.EntryKind.TheVariants as kind
 use Rattle.fs_calls.specs.Tree.{Tree}
 use Rattle.fs_nodes.specs.Graphs.{Graph}
 use Rattle.fs_text.specs.Journal.{journal_text}

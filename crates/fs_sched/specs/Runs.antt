@@ -8,7 +8,7 @@ use Rattle.fs_script.specs.Script.{script_of}
 use Rattle.fs_script.specs.declared.script.Script.{Script}
 use Rattle.fs_laws.specs.States.{State, Begins, Begun_as, Full, Step, Stepped, empty}
 use Rattle.fs_sched.specs.RunTexts.{IsRunText, number_of}
-use Rattle.fs_sched.specs.declared.texts.EntryKind.TheVariants as kind
+use Rattle.fs_sched.specs.declared.run_texts.EntryKind.TheVariants as kind
 use Rattle.fs_sched.specs.declared.running.RunEnd.{RunEnd}
 use Rattle.fs_sched.specs.Schedules.{is_finish, seats_before, goes_on}
 use Rattle.fs_sched.specs.declared.schedule.Schedule.{Schedule}

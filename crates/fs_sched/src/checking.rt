@@ -8,9 +8,9 @@ ghost use Rattle.fs_sched.specs.Devices.{IsFaultOf, WritesBeginningOf};
 
 use crate::device::{Sink, Source};
 use crate::fault::{RunFault, run_fault};
-use crate::reading::read_text;
+use crate::sink::write_text;
+use crate::source::read_text;
 use crate::verdict_line::{is_lawful, verdict_line};
-use crate::writing::write_text;
 use fs_journal::check;
 use fs_text::read_entries;
 use fs_timeline::Verdict;

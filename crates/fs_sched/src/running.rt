@@ -12,10 +12,10 @@ ghost use Rattle.fs_sched.specs.code.Stages.{stage_of, IsRefusal, IsFaultOrRefus
 use crate::device::{Sink, Source};
 use crate::fault::{RunFault, run_fault};
 use crate::play::Play;
-use crate::reading::read_text;
+use crate::run_texts::{EntryKind, number_of, run_text};
 use crate::schedule::Schedule;
-use crate::texts::{EntryKind, number_of, run_text};
-use crate::writing::write_text;
+use crate::sink::write_text;
+use crate::source::read_text;
 use fs_calls::Call;
 use fs_script::{Script, read_script};
 use fs_timeline::Entry;

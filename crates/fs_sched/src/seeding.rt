@@ -11,11 +11,11 @@ ghost use Rattle.fs_sched.specs.code.Stages.{IsRefusal, IsFaultOrRefusal};
 
 use crate::device::{Sink, Source};
 use crate::fault::{RunFault, run_fault};
-use crate::reading::read_text;
 use crate::running::play;
 use crate::schedule::Schedule;
+use crate::sink::write_text;
+use crate::source::read_text;
 use crate::verdict_line::{is_lawful, push_verdict};
-use crate::writing::write_text;
 use fs_journal::check;
 use fs_script::{Script, read_script};
 use fs_text::Addition;

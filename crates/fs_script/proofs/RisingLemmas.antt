@@ -10,7 +10,7 @@ use Rattle.fs_names.specs.Names.{Name, name_cmp}
 use Rattle.fs_names.specs.Keys.{Key, key_cmp}
 use Rattle.fs_names.proofs.Lemmas.{name_total}
 use Rattle.fs_calls.specs.Tree.{Node, from_list}
-use Rattle.fs_seq.specs.code.Graph.{Graph, links_at, spelled, keys_from, with_node, nodes_at, tree_of, IsForest}
+use Rattle.fs_seq.specs.code.Slots.{Slots, links_at, spelled, keys_from, with_node, nodes_at, tree_of, IsForest}
 use Rattle.fs_calls.proofs.LookLemmas.{look-from_list, look-find, sorted-from_list, same_tree}
 
 -- a key is below all of some, and each of some below all that follow it
@@ -89,7 +89,7 @@ T_from_true : (b : Bool) → b ≡ true → T b
 T_from_true true h = tt
 T_from_true false h = absurd (cc)
 
-keys_rise : (many : ℕ) (g : Graph) (n : ℕ) → ((m : ℕ) → is_sorted name_cmp (links_at g m) ≡ true) → Rise (keys_from many g n)
+keys_rise : (many : ℕ) (g : Slots) (n : ℕ) → ((m : ℕ) → is_sorted name_cmp (links_at g m) ≡ true) → Rise (keys_from many g n)
 keys_rise zero g n rising = tt
 keys_rise (suc many) g n rising =
     (Below-root (λ l. keys_from many g l.1) (links_at g n), Rise-links (λ l. keys_from many g l.1) (links_at g n) (λ l. keys_rise many g l.1 rising) (T_from_true _ (rising n)))
@@ -100,7 +100,7 @@ hold_both : (a b : Bool) → T a → T b → T (a && b)
 hold_both true b p q = q
 hold_both false b p q = p
 
-below_rows : (g : Graph) (k : Key) (ks : List Key) → BelowAll k ks → T (below_all key_cmp k (nodes_at g ks))
+below_rows : (g : Slots) (k : Key) (ks : List Key) → BelowAll k ks → T (below_all key_cmp k (nodes_at g ks))
 below_rows g k [] h = tt
 below_rows g k (q ∷ ks) h = go (spelled g q) (below_rows g k ks h.1)
   where
@@ -108,7 +108,7 @@ below_rows g k (q ∷ ks) h = go (spelled g q) (below_rows g k ks h.1)
     go None more = more
     go (Some e) more = hold_both _ _ h.0 more
 
-rows_rise : (g : Graph) (ks : List Key) → Rise ks → T (is_sorted key_cmp (nodes_at g ks))
+rows_rise : (g : Slots) (ks : List Key) → Rise ks → T (is_sorted key_cmp (nodes_at g ks))
 rows_rise g [] h = tt
 rows_rise g (k ∷ ks) h = go (spelled g k) (rows_rise g ks h.1)
   where
@@ -117,7 +117,7 @@ rows_rise g (k ∷ ks) h = go (spelled g k) (rows_rise g ks h.1)
     go (Some e) more = hold_both _ _ (below_rows g k ks h.0) more
 
 -- the rows in the order of the walk are the tree
-pub walked_rows : (g : Graph) → IsForest g → tree_of g ≡ nodes_at g (keys_from (length g) g 0)
+pub walked_rows : (g : Slots) → IsForest g → tree_of g ≡ nodes_at g (keys_from (length g) g 0)
 unfolding tree_of
 walked_rows g forest =
     let rows : List (Key × Node) = nodes_at g (keys_from (length g) g 0) in

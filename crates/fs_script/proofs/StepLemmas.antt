@@ -8,63 +8,63 @@ use Rattle.fs_names.specs.Shapes as shapes
 use Rattle.fs_text.proofs.WriteLemmas.{root_word}
 use Rattle.fs_calls.specs.Tree.{Node, Tree}
 use Rattle.fs_calls.specs.Tree as tree
-use Rattle.fs_seq.specs.code.Graph.{links_of, node_of, links_at, walk, spelled, keys_from, with_node, nodes_at, tree_of, IsForest}
+use Rattle.fs_seq.specs.code.Slots.{links_of, node_of, links_at, walk, spelled, keys_from, with_node, nodes_at, tree_of, IsForest}
 use Rattle.fs_seq.proofs.GraphLemmas.{shorter}
 use Rattle.fs_seq.proofs.Resolving as resolving
-use Rattle.fs_nodes.specs.Graphs.{Kids}
+use Rattle.fs_nodes.specs.Graphs.{Children}
 use Rattle.fs_nodes.specs.Seen.{Seen, IsReal}
-use Rattle.fs_nodes.specs.Stores.{is_above, names_above, with_kid, next_entry}
+use Rattle.fs_nodes.specs.Stores.{is_above, names_above, with_child, next_entry}
 use Rattle.fs_script.specs.TreeText.{node_line, tree_text}
 use Rattle.fs_script.specs.code.Walks.{number_or, links, place_of, forest_of, node_seen, WalkPlace, key_above, Leads, links_above, pending, pending_at, text_at, Goes, Steps, visited, row_text, IsUp, at_root}
 use Rattle.fs_script.specs.declared.tree.Step.{Step}
-use Rattle.fs_script.proofs.ForestLemmas.{place_in, child_kid, store_forest}
+use Rattle.fs_script.proofs.ForestLemmas.{place_in, named_child, store_forest}
 use Rattle.fs_script.proofs.RisingLemmas.{walked_rows}
 use Rattle.fs_script.proofs.PendingLemmas.{down, up, no_more, leads_down, leads_up, led, behind_all}
 
 -- ---- links
 
-links_by : (kid : Kids) (n : ℕ) (s : Option Shape) → links_of (place_of kid n s) ≡ links kid n (names_of s)
-links_by kid n None = refl
-links_by kid n (Some (shapes.Dir names)) = refl
-links_by kid n (Some (shapes.File bytes)) = refl
+links_by : (child : Children) (n : ℕ) (s : Option Shape) → links_of (place_of child n s) ≡ links child n (names_of s)
+links_by child n None = refl
+links_by child n (Some (shapes.Dir names)) = refl
+links_by child n (Some (shapes.File bytes)) = refl
 
-links_in : (st : Seen) → IsReal st → (n : ℕ) → links_at (forest_of st) n ≡ links st.graph.kid n (names_of (st.graph.shape n))
-links_in st real n = ap links_of (place_in st real n) ∙ links_by st.graph.kid n (st.graph.shape n)
+links_in : (st : Seen) → IsReal st → (n : ℕ) → links_at (forest_of st) n ≡ links st.graph.child n (names_of (st.graph.shape n))
+links_in st real n = ap links_of (place_in st real n) ∙ links_by st.graph.child n (st.graph.shape n)
 
-above_links : (kid : Kids) (n : ℕ) (low : Option Name) (names : List Name) → links_above low (links kid n names) ≡ links kid n (names_above low names)
-above_links kid n low [] = refl
-above_links kid n low (x ∷ names) = go (is_above low x) (above_links kid n low names)
+above_links : (child : Children) (n : ℕ) (low : Option Name) (names : List Name) → links_above low (links child n names) ≡ links child n (names_above low names)
+above_links child n low [] = refl
+above_links child n low (x ∷ names) = go (is_above low x) (above_links child n low names)
   where
-    go : (b : Bool) → links_above low (links kid n names) ≡ links kid n (names_above low names)
-        → cond b ((x, number_or (kid n x)) ∷ links_above low (links kid n names)) (links_above low (links kid n names)) ≡ links kid n (cond b (x ∷ names_above low names) (names_above low names))
-    go true e = ap (λ (z : List (Name × ℕ)). (x, number_or (kid n x)) ∷ z) e
+    go : (b : Bool) → links_above low (links child n names) ≡ links child n (names_above low names)
+        → cond b ((x, number_or (child n x)) ∷ links_above low (links child n names)) (links_above low (links child n names)) ≡ links child n (cond b (x ∷ names_above low names) (names_above low names))
+    go true e = ap (λ (z : List (Name × ℕ)). (x, number_or (child n x)) ∷ z) e
     go false e = e
 
-links_in_above : (st : Seen) → IsReal st → (n : ℕ) (low : Option Name) → links_above low (links_at (forest_of st) n) ≡ links st.graph.kid n (names_above low (names_of (st.graph.shape n)))
-links_in_above st real n low = ap (links_above low) (links_in st real n) ∙ above_links st.graph.kid n low (names_of (st.graph.shape n))
+links_in_above : (st : Seen) → IsReal st → (n : ℕ) (low : Option Name) → links_above low (links_at (forest_of st) n) ≡ links st.graph.child n (names_above low (names_of (st.graph.shape n)))
+links_in_above st real n low = ap (links_above low) (links_in st real n) ∙ above_links st.graph.child n low (names_of (st.graph.shape n))
 
 -- the next link is that of the next name
 pub next_links : (st : Seen) → IsReal st → (dir : ℕ) (low : Option Name) (x : Name) (m : ℕ)
-    → names_above low (names_of (st.graph.shape dir)) ≡ x ∷ names_above (Some x) (names_of (st.graph.shape dir)) → st.graph.kid dir x ≡ Some m
+    → names_above low (names_of (st.graph.shape dir)) ≡ x ∷ names_above (Some x) (names_of (st.graph.shape dir)) → st.graph.child dir x ≡ Some m
     → links_above low (links_at (forest_of st) dir) ≡ (x, m) ∷ links_above (Some x) (links_at (forest_of st) dir)
 next_links st real dir low x m e k =
-    links_in_above st real dir low ∙ ap (links st.graph.kid dir) e
-    ∙ ap (λ (o : Option ℕ). (x, number_or o) ∷ links st.graph.kid dir (names_above (Some x) (names_of (st.graph.shape dir)))) k
+    links_in_above st real dir low ∙ ap (links st.graph.child dir) e
+    ∙ ap (λ (o : Option ℕ). (x, number_or o) ∷ links st.graph.child dir (names_above (Some x) (names_of (st.graph.shape dir)))) k
     ∙ ap (λ (z : List (Name × ℕ)). (x, m) ∷ z) (sym (links_in_above st real dir (Some x)))
 
 -- where no name is left, no link is
 pub no_links : (st : Seen) → IsReal st → (dir : ℕ) (low : Option Name) → names_above low (names_of (st.graph.shape dir)) ≡ [] → links_above low (links_at (forest_of st) dir) ≡ []
-no_links st real dir low e = links_in_above st real dir low ∙ ap (links st.graph.kid dir) e
+no_links st real dir low e = links_in_above st real dir low ∙ ap (links st.graph.child dir) e
 
 -- ---- rows
 
-node_by : (kid : Kids) (n : ℕ) (s : Option Shape) → node_of (place_of kid n s) ≡ node_seen s
-node_by kid n None = refl
-node_by kid n (Some (shapes.Dir names)) = refl
-node_by kid n (Some (shapes.File bytes)) = refl
+node_by : (child : Children) (n : ℕ) (s : Option Shape) → node_of (place_of child n s) ≡ node_seen s
+node_by child n None = refl
+node_by child n (Some (shapes.Dir names)) = refl
+node_by child n (Some (shapes.File bytes)) = refl
 
 node_in : (st : Seen) → IsReal st → (key : Key) (m : ℕ) → walk (forest_of st) key ≡ Some m → spelled (forest_of st) key ≡ node_seen (st.graph.shape m)
-node_in st real key m w = resolving.spelled_at (forest_of st) key m w ∙ ap node_of (place_in st real m) ∙ node_by st.graph.kid m (st.graph.shape m)
+node_in st real key m w = resolving.spelled_at (forest_of st) key m w ∙ ap node_of (place_in st real m) ∙ node_by st.graph.child m (st.graph.shape m)
 
 row_and : (key : Key) (o : Option Node) (rest : List (Key × Node)) → flat_map node_line (with_node key o rest) ≡ row_text key o ++ flat_map node_line rest
 row_and key None rest = refl
@@ -104,7 +104,7 @@ no_links_of_file st real m h = no_links st real m None (go (st.graph.shape m) h)
 -- an entry was written, and the walk went on
 pub visit_goes : (st : Seen) → IsReal st → (old new : WalkPlace) (before after : List ℕ) (x : Name) (m : ℕ)
     → Leads (forest_of st) 0 old.above old.dir
-    → names_above old.low (names_of (st.graph.shape old.dir)) ≡ x ∷ names_above (Some x) (names_of (st.graph.shape old.dir)) → st.graph.kid old.dir x ≡ Some m
+    → names_above old.low (names_of (st.graph.shape old.dir)) ≡ x ∷ names_above (Some x) (names_of (st.graph.shape old.dir)) → st.graph.child old.dir x ≡ Some m
     → after ≡ before ++ row_text (key_above old.above ++ x ∷ []) (node_seen (st.graph.shape m)) → new ≡ visited old x m (is_dir (st.graph.shape m))
     → Goes (forest_of st) old before new after
 visit_goes st real old new before after x m l e k wrote went =
@@ -117,7 +117,7 @@ visit_goes st real old new before after x m l e k wrote went =
     many = length (forest_of st) - 1
 
     below : Leads (forest_of st) 0 (old.above ++ s ∷ []) m
-    below = leads_down (forest_of st) 0 old.above old.dir x m l (child_kid st real old.dir x ∙ k)
+    below = leads_down (forest_of st) 0 old.above old.dir x m l (named_child st real old.dir x ∙ k)
 
     deep : length old.above < many
     deep = omega (arith, shallow st real (old.above ++ s ∷ []) m below, length-append old.above (s ∷ []))
@@ -197,20 +197,20 @@ tree_written st real =
 
 -- ---- what the store's answers say
 
-kid_there : (st : Seen) → IsReal st → (d m : ℕ) (x : Name) → st.graph.kid d x ≡ Some m → is_there (st.graph.shape m) ≡ true
-kid_there st real d m x k = let s : (s : Shape) × (st.graph.shape m ≡ Some s) = real.to_used d m x k in ap is_there s.1
+child_there : (st : Seen) → IsReal st → (d m : ℕ) (x : Name) → st.graph.child d x ≡ Some m → is_there (st.graph.shape m) ≡ true
+child_there st real d m x k = let s : (s : Shape) × (st.graph.shape m ≡ Some s) = real.to_used d m x k in ap is_there s.1
 
-pub entry_kid : (kids : Name → Option ℕ) (o : Option Name) (x : Name) (n : ℕ) → ◌≡◌ {A = Option (Name × ℕ)} (Some (x, n)) (with_kid kids o) → kids x ≡ Some n
-entry_kid kids None x n e = absurd (cc)
-entry_kid kids (Some y) x n e = go (kids y) refl e
+pub entry_child : (children : Name → Option ℕ) (o : Option Name) (x : Name) (n : ℕ) → ◌≡◌ {A = Option (Name × ℕ)} (Some (x, n)) (with_child children o) → children x ≡ Some n
+entry_child children None x n e = absurd (cc)
+entry_child children (Some y) x n e = go (children y) refl e
   where
-    go : (o : Option ℕ) → kids y ≡ o → ◌≡◌ {A = Option (Name × ℕ)} (Some (x, n)) (option_map (λ (m : ℕ). (y, m)) o) → kids x ≡ Some n
+    go : (o : Option ℕ) → children y ≡ o → ◌≡◌ {A = Option (Name × ℕ)} (Some (x, n)) (option_map (λ (m : ℕ). (y, m)) o) → children x ≡ Some n
     go None k f = absurd (cc)
     go (Some m) k f =
         let same : ◌≡◌ {A = Name × ℕ} (x, n) (y, m) = cc in
         let name : x ≡ y = ap (λ (p : Name × ℕ). p.0) same in
         let number : n ≡ m = ap (λ (p : Name × ℕ). p.1) same in
-        ap kids name ∙ k ∙ ap Some (sym number)
+        ap children name ∙ k ∙ ap Some (sym number)
 
 pub all_written : (st : Seen) → IsReal st → (line mid new : List ℕ) → mid ≡ line ++ codes "tree\ndir /\n" → new ≡ mid ++ text_at (forest_of st) (pending_at (forest_of st) at_root) → new ≡ line ++ tree_text (tree_of (forest_of st))
 all_written st real line mid new a b =
@@ -220,7 +220,7 @@ all_written st real line mid new a b =
 
 -- the node that an entry names is there
 pub entry_there : (st : Seen) → IsReal st → (dir m : ℕ) (low : Option Name) (x : Name) → ◌≡◌ {A = Option (Name × ℕ)} (Some (x, m)) (next_entry st.graph dir low) → is_there (st.graph.shape m) ≡ true
-entry_there st real dir m low x e = kid_there st real dir m x (entry_kid (st.graph.kid dir) (find (is_above low) (names_of (st.graph.shape dir))) x m e)
+entry_there st real dir m low x e = child_there st real dir m x (entry_child (st.graph.child dir) (find (is_above low) (names_of (st.graph.shape dir))) x m e)
 
 -- a step that writes an entry
 pub step_visits : (st : Seen) → IsReal st → (old new : WalkPlace) (before after : List ℕ) (x : Name) (m dir : ℕ) (low : Option Name)
@@ -229,11 +229,11 @@ pub step_visits : (st : Seen) → IsReal st → (old new : WalkPlace) (before af
     → after ≡ before ++ row_text (key_above old.above ++ x ∷ []) (node_seen (st.graph.shape m)) → new ≡ visited old x m (is_dir (st.graph.shape m))
     → Goes (forest_of st) old before new after
 step_visits st real old new before after x m dir low d o l rest entry wrote went =
-    let kid : st.graph.kid dir x ≡ Some m = entry_kid (st.graph.kid dir) (find (is_above low) (names_of (st.graph.shape dir))) x m entry in
+    let child : st.graph.child dir x ≡ Some m = entry_child (st.graph.child dir) (find (is_above low) (names_of (st.graph.shape dir))) x m entry in
     visit_goes st real old new before after x m l
     (subst (λ (z : ℕ). names_above old.low (names_of (st.graph.shape z)) ≡ x ∷ names_above (Some x) (names_of (st.graph.shape z))) d
     (subst (λ (z : Option Name). names_above z (names_of (st.graph.shape dir)) ≡ x ∷ names_above (Some x) (names_of (st.graph.shape dir))) o rest))
-    (subst (λ (z : ℕ). st.graph.kid z x ≡ Some m) d kid) wrote went
+    (subst (λ (z : ℕ). st.graph.child z x ≡ Some m) d child) wrote went
 
 -- a step where no entry is left
 pub step_rises : (st : Seen) → IsReal st → (old new : WalkPlace) (before after : List ℕ) (more : Bool) (dir : ℕ) (low : Option Name)

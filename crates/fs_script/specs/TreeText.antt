@@ -3,8 +3,8 @@ use Rattle.std.specs.Prelude.{◌≡◌, ℕ, List, [], ◌∷◌, ◌++◌, cod
 use Rattle.std.specs.List.{flat_map}
 use Rattle.fs_names.specs.Keys.{Key}
 use Rattle.fs_calls.specs.Tree.{Tree, Node, Dir, File, IsTree}
-use Rattle.fs_calls.specs.Shapes.{seen}
-use Rattle.fs_nodes.specs.Graphs.{Graph, spell}
+use Rattle.fs_calls.specs.Shapes.{tree_shapes}
+use Rattle.fs_nodes.specs.Graphs.{Graph, graph_shapes}
 use Rattle.fs_text.specs.Lines.{line_text}
 use Rattle.fs_text.specs.Words.{Word, hex_word, path_word}
 
@@ -23,7 +23,7 @@ tree_text t = codes "tree\n" ++ flat_map node_line t
 -- the tree that the nodes of a graph spell: there is only one
 pub record IsSpelled (graph : Graph) (t : Tree) : Type 0 where
   pub tree : IsTree t
-  pub spelled : seen t ≡ spell graph
+  pub spelled : tree_shapes t ≡ graph_shapes graph
 
 -- a text has the text of the spelled tree behind it
 abbrev pub AppendsTree : Graph → List ℕ → List ℕ → Type 0

@@ -3,12 +3,12 @@
 ghost use Rattle.std.specs.Prelude.{◌≡◌, ◌++◌, ◌∷◌, [], Some, None, IsTrue, IfOk, OnOk, OnErr, codes, false, true};
 ghost use Rattle.fs_names.specs.Shapes.{is_there, is_dir};
 ghost use Rattle.fs_nodes.specs.Seen.{seen, IsReal};
-ghost use Rattle.fs_nodes.specs.Stores.{graph_of, shape, kid};
+ghost use Rattle.fs_nodes.specs.Stores.{graph_of, shape, child};
 ghost use Rattle.std.specs.List.{flat_map};
 ghost use Rattle.fs_text.specs.Words.{escaped, path_word};
 ghost use Rattle.fs_script.specs.TreeText.{tree_text, AppendsTree};
 ghost use Rattle.fs_script.specs.code.Walks.{WalkPlace, forest_of, key_above, Leads, Steps, IsUp, visited, row_text, node_seen, text_at, pending_at, at_root};
-ghost use Rattle.fs_seq.specs.code.Graph.{tree_of};
+ghost use Rattle.fs_seq.specs.code.Slots.{tree_of};
 
 use fs_names::Name;
 use fs_nodes::{NodeNo, Store};

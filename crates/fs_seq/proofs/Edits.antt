@@ -3,27 +3,27 @@ use Rattle.std.proofs.Common.{◌≡◌, ◌≢◌, ℕ, Bool, true, false, cond
 use Rattle.std.proofs.lemmas.Bool.Decides.{nat_tests}
 use Rattle.fs_names.specs.Names.{Name, same_name}
 use Rattle.fs_names.specs.Keys.{Key, same_key, after_prefix}
-use Rattle.fs_seq.specs.code.Graph.{Graph, child, walk_from, walk}
+use Rattle.fs_seq.specs.code.Slots.{Slots, child, walk_from, walk}
 use Rattle.fs_calls.proofs.LookLemmas.{same_key_exact}
 use Rattle.fs_seq.proofs.GraphLemmas.{walk-append, Once}
 use Rattle.fs_calls.proofs.ListLemmas.{by_last, same_front, same_key-snoc, after_prefix-snoc, longer}
 
 -- one step from where a walk ends
-pub on_from : Graph → Name → Option ℕ → Option ℕ
+pub on_from : Slots → Name → Option ℕ → Option ℕ
 on_from g y o = option_and_then (λ m. child g m y) o
 
 -- a step to a child
-pub on_some : (g : Graph) (y : Name) (n m : ℕ) → child g n y ≡ Some m → on_from g y (Some n) ≡ Some m
+pub on_some : (g : Slots) (y : Name) (n m : ℕ) → child g n y ≡ Some m → on_from g y (Some n) ≡ Some m
 unfolding on_from
 on_some g y n m e = e
 
 -- no step from nowhere
-pub on_none : (g : Graph) (y : Name) → on_from g y None ≡ None
+pub on_none : (g : Slots) (y : Name) → on_from g y None ≡ None
 unfolding on_from
 on_none g y = refl
 
 -- no step by a name that is missing
-pub on_missing : (g : Graph) (y : Name) (n : ℕ) → child g n y ≡ None → on_from g y (Some n) ≡ None
+pub on_missing : (g : Slots) (y : Name) (n : ℕ) → child g n y ≡ None → on_from g y (Some n) ≡ None
 unfolding on_from
 on_missing g y n e = e
 
@@ -33,22 +33,22 @@ and_then_some None = refl
 and_then_some (Some m) = refl
 
 -- a walk with one name more
-pub walk-snoc : (g : Graph) (n : ℕ) (k : Key) (y : Name) → walk_from g n (k ++ y ∷ []) ≡ on_from g y (walk_from g n k)
+pub walk-snoc : (g : Slots) (n : ℕ) (k : Key) (y : Name) → walk_from g n (k ++ y ∷ []) ≡ on_from g y (walk_from g n k)
 unfolding on_from
 walk-snoc g n k y = walk-append g n k (y ∷ []) ∙ ap (λ f. option_and_then f (walk_from g n k)) (λ i m. and_then_some (child g m y) i)
 
 -- g' is g, with the name x of the node n leading to s
-pub record Links (g g' : Graph) (n : ℕ) (x : Name) (s : ℕ) : Type 0 where
+pub record Links (g g' : Slots) (n : ℕ) (x : Name) (s : ℕ) : Type 0 where
   pub here : (y : Name) → child g' n y ≡ cond (same_name x y) (Some s) (child g n y)
   pub elsewhere : (j : ℕ) (y : Name) → j ≢ n → child g' j y ≡ child g j y
 
 -- g' is g without the name x of the node n
-pub record Unlinks (g g' : Graph) (n : ℕ) (x : Name) : Type 0 where
+pub record Unlinks (g g' : Slots) (n : ℕ) (x : Name) : Type 0 where
   pub here : (y : Name) → child g' n y ≡ cond (same_name x y) None (child g n y)
   pub elsewhere : (j : ℕ) (y : Name) → j ≢ n → child g' j y ≡ child g j y
 
 -- where a walk leads that may pass the new name
-abbrev pub within : Graph → ℕ → Option ℕ → Option Key → Option ℕ
+abbrev pub within : Slots → ℕ → Option ℕ → Option Key → Option ℕ
 within g s o None = o
 within g s o (Some r) = walk_from g s r
 
@@ -76,7 +76,7 @@ outside_none true = refl
 outside_none false = refl
 
 -- a step by a name that may be new
-within_cond : (g : Graph) (s : ℕ) (b : Bool) (o : Option ℕ) → cond {A = Option ℕ} b (Some s) o ≡ within g s o (cond {A = Option Key} b (Some []) None)
+within_cond : (g : Slots) (s : ℕ) (b : Bool) (o : Option ℕ) → cond {A = Option ℕ} b (Some s) o ≡ within g s o (cond {A = Option Key} b (Some []) None)
 within_cond g s true o = refl
 within_cond g s false o = refl
 
@@ -86,7 +86,7 @@ no_true true h = absurd (h refl)
 no_true false h = refl
 
 -- where a walk by k ends elsewhere than at n, k and one name more is not d and one name more
-apart_keys : (g : Graph) (d k : Key) (n : ℕ) (x y : Name) (o : Option ℕ) → walk g d ≡ Some n → walk g k ≡ o → (o ≡ Some n → ⊥) → same_key (d ++ x ∷ []) (k ++ y ∷ []) ≡ false
+apart_keys : (g : Slots) (d k : Key) (n : ℕ) (x y : Name) (o : Option ℕ) → walk g d ≡ Some n → walk g k ≡ o → (o ≡ Some n → ⊥) → same_key (d ++ x ∷ []) (k ++ y ∷ []) ≡ false
 apart_keys g d k n x y o walked w not_n = no_true _ (λ same.
     let e : d ≡ k = same_front d k x y (same_key_exact _ _ same) in not_n (sym w ∙ ap (walk g) (sym e) ∙ walked))
 
@@ -96,7 +96,7 @@ after_prefix-nothing [] x = refl
 after_prefix-nothing (y ∷ d) x = refl
 
 -- one name more, after a name was taken out
-unlink_step : (g g' : Graph) (d : Key) (n : ℕ) (x : Name) → Once g 0 → walk g d ≡ Some n → Unlinks g g' n x → (k : Key) (y : Name) (a : Option Key) (o : Option ℕ) → walk g k ≡ o
+unlink_step : (g g' : Slots) (d : Key) (n : ℕ) (x : Name) → Once g 0 → walk g d ≡ Some n → Unlinks g g' n x → (k : Key) (y : Name) (a : Option Key) (o : Option ℕ) → walk g k ≡ o
     → on_from g' y (outside o a) ≡ outside (on_from g y o) (longer a y (same_key (d ++ x ∷ []) (k ++ y ∷ [])))
 unfolding on_from
 unlink_step g g' d n x once walked cut k y (Some r) o w = refl
@@ -116,7 +116,7 @@ unlink_step g g' d n x once walked cut k y None (Some j) w =
     ] refl
 
 -- nothing is reached any more by the name, and all else as before
-pub walk-unlinked : (g g' : Graph) (d : Key) (n : ℕ) (x : Name) → Once g 0 → walk g d ≡ Some n → Unlinks g g' n x → (k : Key) → walk g' k ≡ outside (walk g k) (after_prefix (d ++ x ∷ []) k)
+pub walk-unlinked : (g g' : Slots) (d : Key) (n : ℕ) (x : Name) → Once g 0 → walk g d ≡ Some n → Unlinks g g' n x → (k : Key) → walk g' k ≡ outside (walk g k) (after_prefix (d ++ x ∷ []) k)
 walk-unlinked g g' d n x once walked cut = by_last (λ k. walk g' k ≡ outside (walk g k) (after_prefix (d ++ x ∷ []) k))
     (ap (outside (Some 0)) (sym (after_prefix-nothing d x)))
     (λ k y ih.
@@ -126,13 +126,13 @@ walk-unlinked g g' d n x once walked cut = by_last (λ k. walk g' k ≡ outside 
     ∙ ap (outside (walk g (k ++ y ∷ []))) (sym (after_prefix-snoc (d ++ x ∷ []) k y)))
 
 -- steps elsewhere are as before
-same_steps : (g g' : Graph) (n : ℕ) (y : Name) (o : Option ℕ) → ((j : ℕ) → j ≢ n → child g' j y ≡ child g j y) → (o ≡ Some n → ⊥) → on_from g' y o ≡ on_from g y o
+same_steps : (g g' : Slots) (n : ℕ) (y : Name) (o : Option ℕ) → ((j : ℕ) → j ≢ n → child g' j y ≡ child g j y) → (o ≡ Some n → ⊥) → on_from g' y o ≡ on_from g y o
 unfolding on_from
 same_steps g g' n y None same not_n = refl
 same_steps g g' n y (Some j) same not_n = same j (λ e. not_n (ap Some e))
 
 -- one name more, after a name was put in
-link_step : (g g' : Graph) (d : Key) (n : ℕ) (x : Name) (s : ℕ) → Once g 0 → walk g d ≡ Some n → ((r : Key) → walk_from g s r ≡ Some n → ⊥) → Links g g' n x s → (k : Key) (y : Name) (a : Option Key) (o : Option ℕ) → walk g k ≡ o
+link_step : (g g' : Slots) (d : Key) (n : ℕ) (x : Name) (s : ℕ) → Once g 0 → walk g d ≡ Some n → ((r : Key) → walk_from g s r ≡ Some n → ⊥) → Links g g' n x s → (k : Key) (y : Name) (a : Option Key) (o : Option ℕ) → walk g k ≡ o
     → on_from g' y (within g s o a) ≡ within g s (on_from g y o) (longer a y (same_key (d ++ x ∷ []) (k ++ y ∷ [])))
 unfolding on_from
 link_step g g' d n x s once walked apart new k y (Some r) o w =
@@ -154,7 +154,7 @@ link_step g g' d n x s once walked apart new k y None (Some j) w =
     ] refl
 
 -- by the new name all is reached that is reached from s, and all else as before
-pub walk-linked : (g g' : Graph) (d : Key) (n : ℕ) (x : Name) (s : ℕ) → Once g 0 → walk g d ≡ Some n → ((r : Key) → walk_from g s r ≡ Some n → ⊥) → Links g g' n x s
+pub walk-linked : (g g' : Slots) (d : Key) (n : ℕ) (x : Name) (s : ℕ) → Once g 0 → walk g d ≡ Some n → ((r : Key) → walk_from g s r ≡ Some n → ⊥) → Links g g' n x s
     → (k : Key) → walk g' k ≡ within g s (walk g k) (after_prefix (d ++ x ∷ []) k)
 walk-linked g g' d n x s once walked apart new = by_last (λ k. walk g' k ≡ within g s (walk g k) (after_prefix (d ++ x ∷ []) k))
     (ap (within g s (Some 0)) (sym (after_prefix-nothing d x)))

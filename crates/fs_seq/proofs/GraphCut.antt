@@ -6,7 +6,7 @@ use Rattle.fs_names.specs.Names.{Name, name_cmp, same_name}
 use Rattle.fs_names.specs.Keys.{Key, same_key, after_prefix}
 use Rattle.fs_names.proofs.Lemmas.{name_exact, after_prefix-append, after_prefix-exact}
 use Rattle.fs_calls.specs.Tree.{Node, look, removed}
-use Rattle.fs_seq.specs.code.Graph.{Dir, Graph, place_at, links_of, node_of, links_at, child, walk_from, walk, node_at, spelled, tree_of, IsForest, Sets}
+use Rattle.fs_seq.specs.code.Slots.{Dir, Slots, place_at, links_of, node_of, links_at, child, walk_from, walk, node_at, spelled, tree_of, IsForest, Sets}
 use Rattle.fs_seq.specs.code.Nodes.{without}
 use Rattle.fs_calls.proofs.LookLemmas.{same_key_exact, same_key_refl, look-removed, sorted-removed}
 use Rattle.fs_seq.proofs.GraphLemmas.{walk-append, look-tree_of, sorted-tree_of, is_tree_of}
@@ -35,7 +35,7 @@ is_true : (b : Bool) → T b → b ≡ true
 is_true true t = refl
 is_true false t = absurd t
 
-module _ (g g1 g' : Graph) (forest : IsForest g) (d : Key) (n : ℕ) (walked : walk g d ≡ Some n) (links : List (Name × ℕ)) (dir : place_at g n ≡ Some (Dir links)) (x : Name) (m : ℕ) (there : find name_cmp x links ≡ Some m) (leaf : (y : Name) → child g m y ≡ None) (unlinking : Sets g g1 n (Some (Dir (without x links)))) (removing : Sets g1 g' m None) where
+module _ (g g1 g' : Slots) (forest : IsForest g) (d : Key) (n : ℕ) (walked : walk g d ≡ Some n) (links : List (Name × ℕ)) (dir : place_at g n ≡ Some (Dir links)) (x : Name) (m : ℕ) (there : find name_cmp x links ≡ Some m) (leaf : (y : Name) → child g m y ≡ None) (unlinking : Sets g g1 n (Some (Dir (without x links)))) (removing : Sets g1 g' m None) where
   -- the name leads to what is removed
   leads : walk g (d ++ x ∷ []) ≡ Some m
   leads = walk_on g d n x m walked (child_got g n x _ dir ∙ there)

@@ -5,7 +5,7 @@ use Rattle.fs_names.specs.Names.{Name, name_cmp}
 use Rattle.fs_names.specs.Keys.{Key, same_key}
 use Rattle.fs_calls.specs.Tree.{Node, Tree, look, inserted}
 use Rattle.fs_calls.specs.Tree as tree
-use Rattle.fs_seq.specs.code.Graph.{File, Graph, place_at, links_of, node_of, links_at, child, walk_from, walk, node_at, spelled, tree_of, IsForest, Sets}
+use Rattle.fs_seq.specs.code.Slots.{File, Slots, place_at, links_of, node_of, links_at, child, walk_from, walk, node_at, spelled, tree_of, IsForest, Sets}
 use Rattle.fs_calls.proofs.LookLemmas.{same_key_exact, same_key_refl, look-inserted, sorted-inserted}
 use Rattle.fs_seq.proofs.GraphLemmas.{look-tree_of, sorted-tree_of, is_tree_of}
 use Rattle.fs_seq.proofs.Edits.{nat_same, nat_differ}
@@ -13,7 +13,7 @@ use Rattle.fs_seq.proofs.Resolving.{spelled_at, spelled_none}
 use Rattle.fs_seq.proofs.NodeLemmas.{child_got}
 
 -- where all steps are the same, so are all walks
-pub walk-same : (g g' : Graph) → ((j : ℕ) (y : Name) → child g' j y ≡ child g j y) → (n : ℕ) (k : Key) → walk_from g' n k ≡ walk_from g n k
+pub walk-same : (g g' : Slots) → ((j : ℕ) (y : Name) → child g' j y ≡ child g j y) → (n : ℕ) (k : Key) → walk_from g' n k ≡ walk_from g n k
 walk-same g g' same n [] = refl
 walk-same g g' same n (x ∷ k) =
     ap (option_and_then (λ m. walk_from g' m k)) (same n x)
@@ -24,7 +24,7 @@ never : (b : Bool) → (b ≡ true → ⊥) → b ≡ false
 never true h = absurd (h refl)
 never false h = refl
 
-module _ (g g' : Graph) (forest : IsForest g) (p : Key) (n : ℕ) (walked : walk g p ≡ Some n) (old new : List ℕ) (file : place_at g n ≡ Some (File old)) (filling : Sets g g' n (Some (File new))) where
+module _ (g g' : Slots) (forest : IsForest g) (p : Key) (n : ℕ) (walked : walk g p ≡ Some n) (old new : List ℕ) (file : place_at g n ≡ Some (File old)) (filling : Sets g g' n (Some (File new))) where
   -- all children stay
   same_child : (j : ℕ) (y : Name) → child g' j y ≡ child g j y
   same_child j y =

@@ -11,13 +11,13 @@ use Rattle.fs_names.specs.Names.{Name, name_cmp, same_name}
 use Rattle.fs_names.specs.Keys.{Key, key_cmp, same_key}
 use Rattle.fs_names.proofs.Lemmas.{equal_from_is_eq}
 use Rattle.fs_calls.specs.Tree.{Node, Tree, look}
-use Rattle.fs_seq.specs.code.Graph.{Graph, place_at, links_at, child, walk_from, walk, node_at, spelled, keys_from, with_node, nodes_at, tree_of, IsForest}
+use Rattle.fs_seq.specs.code.Slots.{Slots, place_at, links_at, child, walk_from, walk, node_at, spelled, keys_from, with_node, nodes_at, tree_of, IsForest}
 use Rattle.fs_calls.proofs.LookLemmas.{same_key_exact, look-from_list, sorted-from_list, same_tree}
 
 -- ---- walks
 
 -- a walk by two keys is one after the other
-pub walk-append : (g : Graph) (n : ℕ) (a b : Key) → walk_from g n (a ++ b) ≡ option_and_then (λ m. walk_from g m b) (walk_from g n a)
+pub walk-append : (g : Slots) (n : ℕ) (a b : Key) → walk_from g n (a ++ b) ≡ option_and_then (λ m. walk_from g m b) (walk_from g n a)
 walk-append g n [] b = refl
 walk-append g n (x ∷ a) b =
     elim (child g n x) as (λ o. option_and_then (λ m. walk_from g m (a ++ b)) o ≡ option_and_then (λ m. walk_from g m b) (option_and_then (λ m. walk_from g m a) o)) [
@@ -43,7 +43,7 @@ either_same true x = refl
 either_same false x = refl
 
 -- what is found at listed keys
-pub find-nodes_at : (g : Graph) (ks : List Key) (q : Key) → find key_cmp q (nodes_at g ks) ≡ cond (list_any (same_key q) ks) (spelled g q) None
+pub find-nodes_at : (g : Slots) (ks : List Key) (q : Key) → find key_cmp q (nodes_at g ks) ≡ cond (list_any (same_key q) ks) (spelled g q) None
 find-nodes_at g [] q = refl
 find-nodes_at g (k ∷ ks) q =
     elim (same_key q k) as (λ b. same_key q k ≡ b → find key_cmp q (with_node k (spelled g k) (nodes_at g ks)) ≡ cond (b || list_any (same_key q) ks) (spelled g q) None) [
@@ -72,7 +72,7 @@ or_second true b e = refl
 or_second false b e = e
 
 -- a key under a link is listed
-found_under : (many : ℕ) (g : Graph) (x : Name) (k : Key) (m : ℕ) (links : List (Name × ℕ)) → find name_cmp x links ≡ Some m → list_any (same_key k) (keys_from many g m) ≡ true
+found_under : (many : ℕ) (g : Slots) (x : Name) (k : Key) (m : ℕ) (links : List (Name × ℕ)) → find name_cmp x links ≡ Some m → list_any (same_key k) (keys_from many g m) ≡ true
     → list_any (same_key (x ∷ k)) (flat_map (λ (l : Name × ℕ). map (λ r. l.0 ∷ r) (keys_from many g l.1)) links) ≡ true
 found_under many g x k m [] e there = absurd (cc)
 found_under many g x k m (l ∷ links) e there =
@@ -86,7 +86,7 @@ found_under many g x k m (l ∷ links) e there =
     ] refl e
 
 -- a key of fewer names is listed
-pub listed : (many : ℕ) (g : Graph) (n : ℕ) (k : Key) (m : ℕ) → walk_from g n k ≡ Some m → length k < many → list_any (same_key k) (keys_from many g n) ≡ true
+pub listed : (many : ℕ) (g : Slots) (n : ℕ) (k : Key) (m : ℕ) → walk_from g n k ≡ Some m → length k < many → list_any (same_key k) (keys_from many g n) ≡ true
 unfolding child
 listed zero g n k m w h = absurd (omega arith)
 listed (suc many) g n [] m w h = refl
@@ -99,11 +99,11 @@ listed (suc many) g n (x ∷ k) m w h =
 -- ---- no walk is longer than the graph
 
 -- no number is reached from n in two ways
-abbrev pub Once : Graph → ℕ → Type 0
+abbrev pub Once : Slots → ℕ → Type 0
 Once g n = (a b : Key) (j : ℕ) → walk_from g n a ≡ Some j → walk_from g n b ≡ Some j → a ≡ b
 
 -- each number that is reached from n has a place
-abbrev pub Inside : Graph → ℕ → Type 0
+abbrev pub Inside : Slots → ℕ → Type 0
 Inside g n = (k : Key) (j : ℕ) → walk_from g n k ≡ Some j → is_some (place_at g j) ≡ true
 
 -- the numbers, if there are any
@@ -112,12 +112,12 @@ parts_of None = []
 parts_of (Some ns) = ns
 
 -- the numbers on the way
-abbrev visited : Graph → ℕ → Key → List ℕ
+abbrev visited : Slots → ℕ → Key → List ℕ
 visited g n [] = n ∷ []
 visited g n (x ∷ k) = n ∷ parts_of (option_and_then (λ m. Some (visited g m k)) (child g n x))
 
 -- a walk visits one number more than it has names
-length-visited : (g : Graph) (n : ℕ) (k : Key) (j : ℕ) → walk_from g n k ≡ Some j → length (visited g n k) ≡ suc (length k)
+length-visited : (g : Slots) (n : ℕ) (k : Key) (j : ℕ) → walk_from g n k ≡ Some j → length (visited g n k) ≡ suc (length k)
 length-visited g n [] j w = refl
 length-visited g n (x ∷ k) j w =
     elim (child g n x) as (λ o. option_and_then (λ m. walk_from g m k) o ≡ Some j → length (n ∷ parts_of (option_and_then (λ m. Some (visited g m k)) o)) ≡ suc (suc (length k))) [
@@ -126,7 +126,7 @@ length-visited g n (x ∷ k) j w =
     ] w
 
 -- what holds of each number that is reached holds of those on the way
-all_visited : (P : ℕ → Type 0) (g : Graph) (n : ℕ) (k : Key) (j : ℕ) → ((front : Key) (q : ℕ) → walk_from g n front ≡ Some q → P q) → walk_from g n k ≡ Some j → AllByRecursion P (visited g n k)
+all_visited : (P : ℕ → Type 0) (g : Slots) (n : ℕ) (k : Key) (j : ℕ) → ((front : Key) (q : ℕ) → walk_from g n front ≡ Some q → P q) → walk_from g n k ≡ Some j → AllByRecursion P (visited g n k)
 all_visited P g n [] j holds w = (holds [] n refl, tt)
 all_visited P g n (x ∷ k) j holds w =
     elim (child g n x) as (λ o. child g n x ≡ o → option_and_then (λ m. walk_from g m k) o ≡ Some j → AllByRecursion P (n ∷ parts_of (option_and_then (λ m. Some (visited g m k)) o))) [
@@ -135,7 +135,7 @@ all_visited P g n (x ∷ k) j holds w =
     ] refl w
 
 -- from a child too
-Once-child : (g : Graph) (n : ℕ) (x : Name) (m : ℕ) → child g n x ≡ Some m → Once g n → Once g m
+Once-child : (g : Slots) (n : ℕ) (x : Name) (m : ℕ) → child g n x ≡ Some m → Once g n → Once g m
 Once-child g n x m e once a b j u v =
     let both : x ∷ a ≡ x ∷ b = once (x ∷ a) (x ∷ b) j (rw e u) (rw e v) in cc
 
@@ -144,7 +144,7 @@ nat_apart : (a b : ℕ) → a ≢ b → nat_eq a b ≡ false
 nat_apart a b h = grind (arith, nat_tests)
 
 -- a walk visits no number twice
-distinct_visited : (g : Graph) (n : ℕ) (k : Key) (j : ℕ) → Once g n → walk_from g n k ≡ Some j → IsDistinct nat_eq (visited g n k)
+distinct_visited : (g : Slots) (n : ℕ) (k : Key) (j : ℕ) → Once g n → walk_from g n k ≡ Some j → IsDistinct nat_eq (visited g n k)
 unfolding IsDistinct
 distinct_visited g n [] j once w = (tt, tt)
 distinct_visited g n (x ∷ k) j once w =
@@ -186,7 +186,7 @@ below_member bound (x ∷ xs) q all m =
     ] refl m
 
 -- a number with a place is one of the list's
-pub place_below : (g : Graph) (n : ℕ) → is_some (place_at g n) ≡ true → n < length g
+pub place_below : (g : Slots) (n : ℕ) → is_some (place_at g n) ≡ true → n < length g
 unfolding place_at
 place_below [] zero h = absurd (cc)
 place_below [] (suc n) h = absurd (cc)
@@ -194,7 +194,7 @@ place_below (o ∷ g) zero h = omega arith
 place_below (o ∷ g) (suc n) h = let below : n < length g = place_below g n h in omega arith
 
 -- no walk is as long as the graph
-pub shorter : (g : Graph) (n : ℕ) (k : Key) (j : ℕ) → Once g n → Inside g n → walk_from g n k ≡ Some j → length k < length g
+pub shorter : (g : Slots) (n : ℕ) (k : Key) (j : ℕ) → Once g n → Inside g n → walk_from g n k ≡ Some j → length k < length g
 shorter g n k j once inside w =
     let fewer : length (visited g n k) ≤ length (below (length g)) = length-le_from_is_member nat_eq_equiv (visited g n k) (below (length g)) (distinct_visited g n k j once w)
     (λ q m. is_member-below (length g) q (below_member (length g) (visited g n k) q (all_visited (λ y. y < length g) g n k j (λ front q r. place_below g q (inside front q r)) w) m)) in
@@ -209,22 +209,22 @@ cond_none false None h = refl
 cond_none false (Some x) h = absurd (let e : false ≡ true = h refl in cc)
 
 -- what is spelled is reached
-walk_of_spelled : (g : Graph) (k : Key) → is_some (spelled g k) ≡ true → (n : ℕ) × (walk g k ≡ Some n)
+walk_of_spelled : (g : Slots) (k : Key) → is_some (spelled g k) ≡ true → (n : ℕ) × (walk g k ≡ Some n)
 unfolding spelled
 walk_of_spelled g k = elim (walk g k) as (λ o. is_some (option_and_then (node_at g) o) ≡ true → (n : ℕ) × (o ≡ Some n)) [ None ↦ λ e. absurd (cc) | Some n ↦ λ e. (n, refl) ]
 
 -- the tree has at each key what the graph spells there
-pub look-tree_of : (g : Graph) → IsForest g → (k : Key) → look (tree_of g) k ≡ spelled g k
+pub look-tree_of : (g : Slots) → IsForest g → (k : Key) → look (tree_of g) k ≡ spelled g k
 unfolding tree_of
 look-tree_of g forest k =
     look-from_list (nodes_at g (keys_from (length g) g 0)) k ∙ find-nodes_at g (keys_from (length g) g 0) k
     ∙ cond_none _ _ (λ some. let at = walk_of_spelled g k some in listed (length g) g 0 k at.0 at.1 (shorter g 0 k at.0 forest.once forest.inside at.1))
 
 -- the keys of the tree rise
-pub sorted-tree_of : (g : Graph) → T (is_sorted key_cmp (tree_of g))
+pub sorted-tree_of : (g : Slots) → T (is_sorted key_cmp (tree_of g))
 unfolding tree_of
 sorted-tree_of g = sorted-from_list (nodes_at g (keys_from (length g) g 0))
 
 -- a tree is spelled where it has what the graph spells
-pub is_tree_of : (g : Graph) (t : Tree) → IsForest g → T (is_sorted key_cmp t) → ((k : Key) → look t k ≡ spelled g k) → tree_of g ≡ t
+pub is_tree_of : (g : Slots) (t : Tree) → IsForest g → T (is_sorted key_cmp t) → ((k : Key) → look t k ≡ spelled g k) → tree_of g ≡ t
 is_tree_of g t forest sorted same = same_tree (tree_of g) t (sorted-tree_of g) sorted (λ k. look-tree_of g forest k ∙ sym (same k))

@@ -7,7 +7,7 @@ use Rattle.fs_names.specs.Names.{Name, name_cmp, same_name}
 use Rattle.fs_names.specs.Keys.{Key, same_key, after_prefix}
 use Rattle.fs_names.proofs.Lemmas.{name_total, after_prefix-append, after_prefix-exact}
 use Rattle.fs_calls.specs.Tree.{Node, look, inserted}
-use Rattle.fs_seq.specs.code.Graph.{Place, Dir, Graph, place_at, links_of, node_of, links_at, child, walk_from, walk, node_at, spelled, tree_of, IsForest, Sets}
+use Rattle.fs_seq.specs.code.Slots.{Place, Dir, Slots, place_at, links_of, node_of, links_at, child, walk_from, walk, node_at, spelled, tree_of, IsForest, Sets}
 use Rattle.fs_calls.proofs.LookLemmas.{same_key_exact, same_key_refl, look-inserted, sorted-inserted}
 use Rattle.fs_seq.proofs.GraphLemmas.{Once, Inside, look-tree_of, sorted-tree_of, is_tree_of}
 use Rattle.fs_seq.proofs.Edits.{Links, within, walk-linked, nat_same, nat_differ}
@@ -26,10 +26,10 @@ never true h = absurd (h refl)
 never false h = refl
 
 -- a number without a place is not one with a place
-pub other_number : (g : Graph) (s n : ℕ) (P : Place) → place_at g s ≡ None → place_at g n ≡ Some P → s ≢ n
+pub other_number : (g : Slots) (s n : ℕ) (P : Place) → place_at g s ≡ None → place_at g n ≡ Some P → s ≢ n
 other_number g s n P none some e = let both : place_at g n ≡ None = ap (place_at g) (sym e) ∙ none in let wrong : None ≡ Some P = sym both ∙ some in cc
 
-module _ (g g1 g' : Graph) (forest : IsForest g) (new : Place) (bare : links_of (Some new) ≡ []) (d : Key) (n : ℕ) (walked : walk g d ≡ Some n) (links : List (Name × ℕ)) (dir : place_at g n ≡ Some (Dir links)) (x : Name) (absent : find name_cmp x links ≡ None) (s : ℕ) (free : place_at g s ≡ None) (linking : Sets g g1 n (Some (Dir (put name_cmp x s links)))) (adding : Sets g1 g' s (Some new)) where
+module _ (g g1 g' : Slots) (forest : IsForest g) (new : Place) (bare : links_of (Some new) ≡ []) (d : Key) (n : ℕ) (walked : walk g d ≡ Some n) (links : List (Name × ℕ)) (dir : place_at g n ≡ Some (Dir links)) (x : Name) (absent : find name_cmp x links ≡ None) (s : ℕ) (free : place_at g s ≡ None) (linking : Sets g g1 n (Some (Dir (put name_cmp x s links)))) (adding : Sets g1 g' s (Some new)) where
   -- the two numbers differ
   apart : s ≢ n
   apart = other_number g s n _ free dir

@@ -9,7 +9,7 @@ use Rattle.std.proofs.lemmas.Float.{T_from_true}
 use Rattle.fs_names.specs.Names.{Name, name_cmp}
 use Rattle.fs_names.proofs.Lemmas.{name_total}
 use Rattle.fs_seq.specs.declared.nodes.Link.{Link}
-use Rattle.fs_seq.specs.code.Nodes.{pair, pairs, number_of, name_of, without, StandsAt, BelongsAt}
+use Rattle.fs_seq.specs.code.Nodes.{pair, pairs, number_of, name_of, without, IsNameAt, BelongsAt}
 use Rattle.fs_seq.proofs.Rewiring.{without-put}
 use Rattle.fs_seq.proofs.SlabLemmas.{pairs-insert, pairs-remove}
 
@@ -19,8 +19,8 @@ nowhere None x e f = cc
 nowhere (Some l) x e f = cc
 
 -- a name that is not among links stands nowhere
-pub not_standing : (links : List (Name × ℕ)) (x : Name) (i : ℕ) → find name_cmp x links ≡ None → StandsAt links x i → ⊥
-not_standing links x i none at = nowhere (slice_get links i) x at.named (sym at.found ∙ none)
+pub not_in_place : (links : List (Name × ℕ)) (x : Name) (i : ℕ) → find name_cmp x links ≡ None → IsNameAt links x i → ⊥
+not_in_place links x i none at = nowhere (slice_get links i) x at.named (sym at.found ∙ none)
 
 -- a link that went, and one that was put in
 pub replaced : (old left new : List Link) (i at : ℕ) (l : Link) → left ≡ remove old i → new ≡ insert left at l → BelongsAt (pairs left) l.name at → pairs new ≡ put name_cmp l.name l.node (remove (pairs old) i)
@@ -71,8 +71,8 @@ set_rising x n (l ∷ links) (suc i) sorted e =
     ap (λ z. l ∷ z) (set_rising x n links i (both_second _ _ sorted) e) ∙ sym (put_by x n l links Greater below)
 
 -- where a name stands, to write its link anew is to put it
-pub set_standing : (x : Name) (n : ℕ) (links : List (Name × ℕ)) (i : ℕ) → IsTrue (is_sorted name_cmp links) → StandsAt links x i → slice_set links i (x, n) ≡ put name_cmp x n links
-set_standing x n links i sorted at = set_rising x n links i (T_from_true _ sorted) at.named
+pub set_in_place : (x : Name) (n : ℕ) (links : List (Name × ℕ)) (i : ℕ) → IsTrue (is_sorted name_cmp links) → IsNameAt links x i → slice_set links i (x, n) ≡ put name_cmp x n links
+set_in_place x n links i sorted at = set_rising x n links i (T_from_true _ sorted) at.named
 
 -- the order of two names, turned
 turned_name : (x y : Name) (o : Ordering) → name_cmp y x ≡ o → name_cmp x y ≡ ordering_reverse o
@@ -106,19 +106,19 @@ named_elsewhere (m ∷ links) (suc i) zero l other = refl
 named_elsewhere (m ∷ links) (suc i) (suc j) l other = named_elsewhere links i j l (λ e. other (ap suc e))
 
 -- names that differ stand at places that differ
-other_place : (links : List (Name × ℕ)) (x z : Name) (i j : ℕ) → x ≢ z → StandsAt links x i → StandsAt links z j → i ≢ j
+other_place : (links : List (Name × ℕ)) (x z : Name) (i j : ℕ) → x ≢ z → IsNameAt links x i → IsNameAt links z j → i ≢ j
 other_place links x z i j apart at to same =
     let both : Some x ≡ Some z = sym at.named ∙ ap (λ k. name_of (slice_get links k)) same ∙ to.named in
     apart (let e : x ≡ z = cc in e)
 
 -- rising links rise when one is written anew under its name
-rising_set : (z : Name) (n : ℕ) (links : List (Name × ℕ)) (j : ℕ) → IsTrue (is_sorted name_cmp links) → StandsAt links z j → T (is_sorted name_cmp (slice_set links j (z, n)))
-rising_set z n links j rising to = subst (λ ls. T (is_sorted name_cmp ls)) (sym (set_standing z n links j rising to)) (is_sorted-put name_cmp name_total z n links (T_from_true _ rising))
+rising_set : (z : Name) (n : ℕ) (links : List (Name × ℕ)) (j : ℕ) → IsTrue (is_sorted name_cmp links) → IsNameAt links z j → T (is_sorted name_cmp (slice_set links j (z, n)))
+rising_set z n links j rising to = subst (λ ls. T (is_sorted name_cmp ls)) (sym (set_in_place z n links j rising to)) (is_sorted-put name_cmp name_total z n links (T_from_true _ rising))
 
 -- a link is written anew, and then another is taken out
-pub set_then_removed : (x z : Name) (n : ℕ) (links : List (Name × ℕ)) (i j : ℕ) → IsTrue (is_sorted name_cmp links) → x ≢ z → StandsAt links x i → StandsAt links z j
+pub set_then_removed : (x z : Name) (n : ℕ) (links : List (Name × ℕ)) (i j : ℕ) → IsTrue (is_sorted name_cmp links) → x ≢ z → IsNameAt links x i → IsNameAt links z j
     → remove (slice_set links j (z, n)) i ≡ put name_cmp z n (without x links)
 set_then_removed x z n links i j rising apart at to =
     remove_named x (slice_set links j (z, n)) i (rising_set z n links j rising to) (ap name_of (named_elsewhere links i j (z, n) (other_place links x z i j apart at to)) ∙ at.named)
-    ∙ ap (without x) (set_standing z n links j rising to)
+    ∙ ap (without x) (set_in_place z n links j rising to)
     ∙ without-put x z n links apart rising

@@ -9,24 +9,24 @@ use Rattle.fs_calls.specs.declared.errno.Errno.{Errno}
 use Rattle.fs_calls.specs.declared.reply.Reply.{Reply}
 use Rattle.fs_calls.specs.declared.reply.Reply.TheVariants as replies
 use Rattle.fs_calls.specs.Tree.{Tree}
-use Rattle.fs_calls.specs.Shapes.{Shape, seen, names_of, bytes_of}
+use Rattle.fs_calls.specs.Shapes.{Shape, tree_shapes, names_of, bytes_of}
 use Rattle.fs_calls.proofs.RowNames.{listing, reading, writing, truncating}
 use Rattle.fs_calls.specs.Outcomes.{fault, success, reply, replied, resolution}
 use Rattle.fs_calls.specs.Forms as Forms
 use Rattle.fs_calls.specs.Rows.{node_fault, status}
-use Rattle.fs_seq.specs.code.Graph.{Place, Graph, place_at, shape_of, walk, tree_of, IsForest}
+use Rattle.fs_seq.specs.code.Slots.{Place, Slots, place_at, shape_of, walk, tree_of, IsForest}
 use Rattle.fs_seq.specs.code.Effects.{IsSeen}
 use Rattle.fs_seq.proofs.Resolving.{resolution_walked, seen_at}
 
 -- what is seen where a path leads to a number
-pub is_seen : (g : Graph) (p : Key) (n : ℕ) (at : Place) → IsForest g → walk g p ≡ Some n → place_at g n ≡ Some at → IsSeen (tree_of g) p at
+pub is_seen : (g : Slots) (p : Key) (n : ℕ) (at : Place) → IsForest g → walk g p ≡ Some n → place_at g n ≡ Some at → IsSeen (tree_of g) p at
 is_seen g p n at forest w is = record { resolved = resolution_walked g p n forest w; shape = seen_at g p n forest w ∙ ap shape_of is }
 
 -- a call's errors and its reply without one, by the resolution of its path and what is there
 pub record LooksAt (call : Call) (p : Key) (rest : Option Errno → Option Shape → Option Errno) (answer : Option Shape → Reply) : Type 0 where
-  pub errors : (t : Tree) → fault t call ≡ rest (resolution t p) (seen t p)
+  pub errors : (t : Tree) → fault t call ≡ rest (resolution t p) (tree_shapes t p)
   pub lost : (e : Errno) (there : Option Shape) → rest (Some e) there ≡ Some e
-  pub well : (t : Tree) → success t call ≡ answer (seen t p)
+  pub well : (t : Tree) → success t call ≡ answer (tree_shapes t p)
 
 -- the error of stat is that of the resolution
 abbrev pub stating : Option Errno → Option Shape → Option Errno
@@ -60,7 +60,7 @@ truncate_looks p size = record { errors = λ t. refl; lost = λ e there. refl; w
 module _ (call : Call) (p : Key) (rest : Option Errno → Option Shape → Option Errno) (answer : Option Shape → Reply) (by : LooksAt call p rest answer) (t : Tree) where
   -- the error where the path leads nowhere
   pub lost_fault : (e : Errno) → resolution t p ≡ Some e → fault t call ≡ Some e
-  lost_fault e lost = by.errors t ∙ ap (λ f. rest f (seen t p)) lost ∙ by.lost e (seen t p)
+  lost_fault e lost = by.errors t ∙ ap (λ f. rest f (tree_shapes t p)) lost ∙ by.lost e (tree_shapes t p)
 
   -- the error where the path ends at a place
   pub there_fault : (at : Place) → IsSeen t p at → fault t call ≡ rest None (shape_of (Some at))
@@ -81,11 +81,11 @@ module _ (call : Call) (p : Key) (rest : Option Errno → Option Shape → Optio
   there_reply at is = sym (λ i. replied (there_fault at is i) (there_well at is i))
 
 -- a call without an error that takes memory, where the path ends at a place
-pub names_there : (t : Tree) (p : Key) (at : Place) → IsSeen t p at → names_of (seen t p) ≡ names_of (shape_of (Some at))
+pub names_there : (t : Tree) (p : Key) (at : Place) → IsSeen t p at → names_of (tree_shapes t p) ≡ names_of (shape_of (Some at))
 names_there t p at is = ap names_of is.shape
 
 -- the bytes where the path ends at a place
-pub bytes_there : (t : Tree) (p : Key) (at : Place) → IsSeen t p at → bytes_of (seen t p) ≡ bytes_of (shape_of (Some at))
+pub bytes_there : (t : Tree) (p : Key) (at : Place) → IsSeen t p at → bytes_of (tree_shapes t p) ≡ bytes_of (shape_of (Some at))
 bytes_there t p at is = ap bytes_of is.shape
 
 -- ---- names of links, one by one

@@ -10,7 +10,7 @@ use Rattle.fs_calls.specs.declared.call.Call.TheVariants.{Mkdir, Mknod}
 use Rattle.fs_calls.specs.declared.reply.Reply.TheVariants.{Done}
 use Rattle.fs_seq.specs.declared.nodes.Node.TheVariants as nodes
 use Rattle.fs_calls.specs.Tree.{Tree}
-use Rattle.fs_seq.specs.code.Graph.{Dir, Graph, links_of, links_at, node_of, tree_of, IsForest, Sets}
+use Rattle.fs_seq.specs.code.Slots.{Dir, Slots, links_of, links_at, node_of, tree_of, IsForest, Sets}
 use Rattle.fs_seq.specs.code.Nodes.{place}
 use Rattle.fs_seq.specs.code.Effects.{making_fault, tree_node, IsGap, Attaches, Gives}
 use Rattle.fs_seq.proofs.NodeLemmas.{parent_and_last, last_got}
@@ -33,7 +33,7 @@ unfolding fault making_fault
 mknod_fault t p = refl
 
 -- a new node in its place
-pub is_made : (g g' : Graph) (p : Key) (n dir i : ℕ) (x : Name) (node : nodes.the_data) → IsForest g → links_of (Some (place node)) ≡ [] → IsGap g p dir i → n + 1 ≡ length p → slice_get p n ≡ Some x → Attaches g g' dir i x (place node)
+pub is_made : (g g' : Slots) (p : Key) (n dir i : ℕ) (x : Name) (node : nodes.the_data) → IsForest g → links_of (Some (place node)) ≡ [] → IsGap g p dir i → n + 1 ≡ length p → slice_get p n ≡ Some x → Attaches g g' dir i x (place node)
     → Gives g g' (making_fault (tree_of g) p) Done (inserted (tree_of g) p (tree_node node)) Done
 is_made g g' p n dir i x node forest bare gap len named attached =
     let last : x ≡ last_of p = sym (last_got p n x len named) in

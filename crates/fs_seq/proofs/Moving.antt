@@ -5,7 +5,7 @@ use Rattle.fs_names.specs.Names.{Name, name_cmp}
 use Rattle.fs_names.specs.Keys.{Key, after_prefix}
 use Rattle.fs_names.proofs.Lemmas.{after_prefix-append, after_prefix-exact}
 use Rattle.fs_calls.specs.Tree.{look, renamed}
-use Rattle.fs_seq.specs.code.Graph.{Place, Dir, File, Graph, place_at, node_of, links_at, child, walk_from, walk, node_at, spelled, tree_of, IsForest}
+use Rattle.fs_seq.specs.code.Slots.{Place, Dir, File, Slots, place_at, node_of, links_at, child, walk_from, walk, node_at, spelled, tree_of, IsForest}
 use Rattle.fs_seq.proofs.GraphLemmas.{walk-append, Once, look-tree_of, is_tree_of}
 use Rattle.fs_seq.proofs.Edits.{Unlinks, Links, outside, within, walk-unlinked, walk-linked}
 use Rattle.fs_seq.proofs.Resolving.{spelled_at, spelled_none}
@@ -17,7 +17,7 @@ no_nil : (d : Key) (x : Name) (r : Key) → (d ++ x ∷ []) ++ r ≡ d → ⊥
 no_nil d x r e = let h = ap length e in omega (arith, h, length-append (d ++ x ∷ []) r, length-append d (x ∷ []))
 
 -- walks that never come to n are the same in both graphs
-same_walks : (g h : Graph) (n j : ℕ) (k : Key) → ((i : ℕ) (y : Name) → i ≢ n → child h i y ≡ child g i y) → ((r : Key) → walk_from g j r ≡ Some n → ⊥) → walk_from h j k ≡ walk_from g j k
+same_walks : (g h : Slots) (n j : ℕ) (k : Key) → ((i : ℕ) (y : Name) → i ≢ n → child h i y ≡ child g i y) → ((r : Key) → walk_from g j r ≡ Some n → ⊥) → walk_from h j k ≡ walk_from g j k
 same_walks g h n j [] same never = refl
 same_walks g h n j (y ∷ k) same never =
     ap (λ o. option_and_then (λ i. walk_from h i k) o) (same j y (λ e. never [] (ap Some e)))
@@ -33,7 +33,7 @@ placed (Some (Dir links)) = refl
 placed (Some (File bytes)) = refl
 
 -- h is g without the name x1 of n1, and then g' is h with the name x2 of n2, which leads where the old one led
-pub record Relinks (g h g' : Graph) (d1 : Key) (n1 : ℕ) (x1 : Name) (s : ℕ) (d2 : Key) (n2 : ℕ) (x2 : Name) : Type 0 where
+pub record Relinks (g h g' : Slots) (d1 : Key) (n1 : ℕ) (x1 : Name) (s : ℕ) (d2 : Key) (n2 : ℕ) (x2 : Name) : Type 0 where
   pub from : walk g d1 ≡ Some n1
   pub moves : walk g (d1 ++ x1 ∷ []) ≡ Some s
   pub to : walk g d2 ≡ Some n2
@@ -42,7 +42,7 @@ pub record Relinks (g h g' : Graph) (d1 : Key) (n1 : ℕ) (x1 : Name) (s : ℕ) 
   pub removes : Unlinks g h n1 x1
   pub adds : Links h g' n2 x2 s
 
-module _ (g h g' : Graph) (forest : IsForest g) (d1 : Key) (n1 : ℕ) (x1 : Name) (s : ℕ) (d2 : Key) (n2 : ℕ) (x2 : Name) (may : Relinks g h g' d1 n1 x1 s d2 n2 x2) where
+module _ (g h g' : Slots) (forest : IsForest g) (d1 : Key) (n1 : ℕ) (x1 : Name) (s : ℕ) (d2 : Key) (n2 : ℕ) (x2 : Name) (may : Relinks g h g' d1 n1 x1 s d2 n2 x2) where
   -- what is reached from the node that moves
   below : (r : Key) → walk_from g s r ≡ walk g ((d1 ++ x1 ∷ []) ++ r)
   below r = sym (walk-append g 0 (d1 ++ x1 ∷ []) r ∙ ap (option_and_then (λ m. walk_from g m r)) may.moves)

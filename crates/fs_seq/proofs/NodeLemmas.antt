@@ -8,8 +8,8 @@ use Rattle.fs_calls.specs.declared.errno.Errno.TheVariants.{Enoent, Enotdir}
 use Rattle.fs_seq.specs.declared.nodes.Link.{Link}
 use Rattle.fs_seq.specs.declared.nodes.Node.{Node}
 use Rattle.fs_seq.specs.code.Nodes.{verdict}
-use Rattle.fs_seq.specs.code.Graph.{Place, Dir, File, Graph, place_at, links_of, node_of, links_at, child, node_at}
-use Rattle.fs_seq.specs.code.Nodes.{pairs, place, slot_place, graph, number_of, StandsAt, BelongsAt}
+use Rattle.fs_seq.specs.code.Slots.{Place, Dir, File, Slots, place_at, links_of, node_of, links_at, child, node_at}
+use Rattle.fs_seq.specs.code.Nodes.{pairs, place, slot_place, graph, number_of, IsNameAt, BelongsAt}
 
 -- the place of a number is that of its slot
 pub place_of_slot : (slots : List (Option Node)) (n : ℕ) → place_at (map slot_place slots) n ≡ slot_place (get_or slots n None)
@@ -37,16 +37,16 @@ pub has_key : (s : Slab Node) (n : ℕ) → is_some (place_at (graph s) n) ≡ t
 has_key s n e = some_slot (get s n) (ap is_some (sym (place_of_slot s.slots n)) ∙ e)
 
 -- the links of a directory, and those of a file
-pub links_got : (g : Graph) (n : ℕ) (o : Option Place) → place_at g n ≡ o → links_at g n ≡ links_of o
+pub links_got : (g : Slots) (n : ℕ) (o : Option Place) → place_at g n ≡ o → links_at g n ≡ links_of o
 links_got g n o e = ap links_of e
 
 -- a child of a place that was read
-pub child_got : (g : Graph) (n : ℕ) (x : Name) (o : Option Place) → place_at g n ≡ o → child g n x ≡ find name_cmp x (links_of o)
+pub child_got : (g : Slots) (n : ℕ) (x : Name) (o : Option Place) → place_at g n ≡ o → child g n x ≡ find name_cmp x (links_of o)
 unfolding child
 child_got g n x o e = ap (λ z. find name_cmp x (links_of z)) e
 
 -- links that rise where they stand rise
-pub rising_got : (g : Graph) (n : ℕ) (o : Option Place) (links : List (Name × ℕ)) → IsTrue (is_sorted name_cmp (links_at g n)) → place_at g n ≡ o → links_of o ≡ links → IsTrue (is_sorted name_cmp links)
+pub rising_got : (g : Slots) (n : ℕ) (o : Option Place) (links : List (Name × ℕ)) → IsTrue (is_sorted name_cmp (links_at g n)) → place_at g n ≡ o → links_of o ≡ links → IsTrue (is_sorted name_cmp links)
 rising_got g n o links rising e f = subst (λ z. IsTrue (is_sorted name_cmp z)) (ap links_of e ∙ f) rising
 
 -- the number of a link that was read
@@ -61,15 +61,15 @@ length-pairs [] = refl
 length-pairs (l ∷ links) = ap suc (length-pairs links)
 
 -- a step by a name that stands among the links
-pub step_found : (g : Graph) (n : ℕ) (x : Name) (links : List Link) (i : ℕ) (l : Link) → place_at g n ≡ Some (Dir (pairs links)) → StandsAt (pairs links) x i → l ≡ get_or links i l → child g n x ≡ Some l.node
+pub step_found : (g : Slots) (n : ℕ) (x : Name) (links : List Link) (i : ℕ) (l : Link) → place_at g n ≡ Some (Dir (pairs links)) → IsNameAt (pairs links) x i → l ≡ get_or links i l → child g n x ≡ Some l.node
 step_found g n x links i l at stands e = child_got g n x _ at ∙ stands.found ∙ number_read links i l stands.within e
 
 -- a step by a name that does not, and a step from a file
-pub step_missing : (g : Graph) (n : ℕ) (x : Name) (links : List (Name × ℕ)) (i : ℕ) → place_at g n ≡ Some (Dir links) → BelongsAt links x i → (child g n x ≡ None) × (verdict (node_at g n) ≡ Some Enoent)
+pub step_missing : (g : Slots) (n : ℕ) (x : Name) (links : List (Name × ℕ)) (i : ℕ) → place_at g n ≡ Some (Dir links) → BelongsAt links x i → (child g n x ≡ None) × (verdict (node_at g n) ≡ Some Enoent)
 step_missing g n x links i at belongs = (child_got g n x _ at ∙ belongs.absent, ap (λ o. verdict (node_of o)) at)
 
 -- a step from a file
-pub step_file : (g : Graph) (n : ℕ) (x : Name) (bytes : List ℕ) → place_at g n ≡ Some (File bytes) → (child g n x ≡ None) × (verdict (node_at g n) ≡ Some Enotdir)
+pub step_file : (g : Slots) (n : ℕ) (x : Name) (bytes : List ℕ) → place_at g n ≡ Some (File bytes) → (child g n x ≡ None) × (verdict (node_at g n) ≡ Some Enotdir)
 step_file g n x bytes at = (child_got g n x _ at, ap (λ o. verdict (node_of o)) at)
 
 -- ---- paths by their parent and their last name

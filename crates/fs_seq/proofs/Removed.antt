@@ -3,7 +3,7 @@ use Rattle.std.proofs.Common.{◌≡◌, ℕ, ◌<◌, List, [], ◌∷◌, leng
 use Rattle.std.specs.FinMap.{find}
 use Rattle.fs_names.specs.Names.{Name, name_cmp}
 use Rattle.fs_names.specs.Keys.{Key, is_root, parent_of, last_of}
-use Rattle.fs_names.specs.First.{on, or_else}
+use Rattle.fs_names.specs.Failures.{check, or_else}
 use Rattle.std.proofs.lemmas.Bool.Decides.{nat_tests}
 use Rattle.fs_seq.specs.declared.nodes.Link.{Link}
 use Rattle.fs_calls.specs.declared.call.Call.{Call}
@@ -12,10 +12,10 @@ use Rattle.fs_calls.specs.declared.errno.Errno.{Errno}
 use Rattle.fs_calls.specs.declared.errno.Errno.TheVariants.{Eperm, Ebusy, Enoent}
 use Rattle.fs_calls.specs.declared.reply.Reply.TheVariants.{Done, Failed}
 use Rattle.fs_calls.specs.Tree.{Tree, removed}
-use Rattle.fs_calls.specs.Shapes.{Shape, seen, is_missing, has_any}
+use Rattle.fs_calls.specs.Shapes.{Shape, tree_shapes, is_missing, has_any}
 use Rattle.fs_calls.proofs.RowNames.{unlinking, removing}
 use Rattle.fs_calls.specs.Outcomes.{fault, success, change, parents_resolution}
-use Rattle.fs_seq.specs.code.Graph.{Place, Dir, Graph, place_at, links_at, shape_of, child, tree_of, IsForest, Sets}
+use Rattle.fs_seq.specs.code.Slots.{Place, Dir, Slots, place_at, links_at, shape_of, child, tree_of, IsForest, Sets}
 use Rattle.fs_seq.specs.code.Nodes.{pairs, IsTaken, IsFree, without}
 use Rattle.fs_seq.specs.code.Effects.{IsVictim, Detaches, Answers}
 use Rattle.fs_seq.proofs.NodeLemmas.{parent_and_last, child_got}
@@ -25,19 +25,19 @@ use Rattle.fs_seq.proofs.Replies.{works, fails, answers}
 
 -- a call on a path that is not the root, by its parent's error and what is there
 pub record GoesBy (call : Call) (p : Key) (at_root : Errno) (rest : Option Errno → Option Shape → Option Errno) : Type 0 where
-  pub errors : (t : Tree) → fault t call ≡ or_else (on (is_root p) at_root) (rest (parents_resolution t p) (seen t p))
-  pub missing : (parent : Option Errno) (there : Option Shape) (e : Errno) → or_else parent (on (is_missing there) Enoent) ≡ Some e → rest parent there ≡ Some e
+  pub errors : (t : Tree) → fault t call ≡ or_else (check (is_root p) at_root) (rest (parents_resolution t p) (tree_shapes t p))
+  pub missing : (parent : Option Errno) (there : Option Shape) (e : Errno) → or_else parent (check (is_missing there) Enoent) ≡ Some e → rest parent there ≡ Some e
   pub well : (t : Tree) → success t call ≡ Done
   pub makes : (t : Tree) → change t call ≡ removed t p
 
 -- unlink answers what is missing
-unlinking_missing : (parent : Option Errno) (there : Option Shape) (e : Errno) → or_else parent (on (is_missing there) Enoent) ≡ Some e → unlinking parent there ≡ Some e
+unlinking_missing : (parent : Option Errno) (there : Option Shape) (e : Errno) → or_else parent (check (is_missing there) Enoent) ≡ Some e → unlinking parent there ≡ Some e
 unlinking_missing None None e h = h
 unlinking_missing None (Some s) e h = absurd (cc)
 unlinking_missing (Some f) there e h = h
 
 -- rmdir answers what is missing
-removing_missing : (parent : Option Errno) (there : Option Shape) (e : Errno) → or_else parent (on (is_missing there) Enoent) ≡ Some e → removing parent there ≡ Some e
+removing_missing : (parent : Option Errno) (there : Option Shape) (e : Errno) → or_else parent (check (is_missing there) Enoent) ≡ Some e → removing parent there ≡ Some e
 removing_missing None None e h = h
 removing_missing None (Some s) e h = absurd (cc)
 removing_missing (Some f) there e h = h
@@ -63,36 +63,36 @@ some_links [] n e h = absurd (let some : n ≢ 0 = grind (arith, nat_tests) in s
 some_links (l ∷ links) n e h = refl
 
 -- a name that is missing, or whose parent is
-pub entry_lost : (t : Tree) (p : Key) (e : Errno) → parents_resolution t p ≡ Some e → or_else (parents_resolution t p) (on (is_missing (seen t p)) Enoent) ≡ Some e
-entry_lost t p e lost = ap (λ f. or_else f (on (is_missing (seen t p)) Enoent)) lost
+pub entry_lost : (t : Tree) (p : Key) (e : Errno) → parents_resolution t p ≡ Some e → or_else (parents_resolution t p) (check (is_missing (tree_shapes t p)) Enoent) ≡ Some e
+entry_lost t p e lost = ap (λ f. or_else f (check (is_missing (tree_shapes t p)) Enoent)) lost
 
 -- a name that is missing
-pub entry_gone : (g : Graph) (p : Key) (dir i entries : ℕ) → IsForest g → 0 < length p → IsFree g p dir i entries → or_else (parents_resolution (tree_of g) p) (on (is_missing (seen (tree_of g) p)) Enoent) ≡ Some Enoent
+pub entry_gone : (g : Slots) (p : Key) (dir i entries : ℕ) → IsForest g → 0 < length p → IsFree g p dir i entries → or_else (parents_resolution (tree_of g) p) (check (is_missing (tree_shapes (tree_of g) p)) Enoent) ≡ Some Enoent
 entry_gone g p dir i entries forest named spot =
-    (λ j. or_else (free_parents g forest p named dir i entries spot j) (on (is_missing (free_seen g forest p named dir i entries spot j)) Enoent))
+    (λ j. or_else (free_parents g forest p named dir i entries spot j) (check (is_missing (free_seen g forest p named dir i entries spot j)) Enoent))
 
 module _ (call : Call) (p : Key) (at_root : Errno) (rest : Option Errno → Option Shape → Option Errno) (by : GoesBy call p at_root rest) where
   -- the error at the root
   pub root_fault : (t : Tree) → length p ≡ 0 → fault t call ≡ Some at_root
-  root_fault t e = by.errors t ∙ ap (λ b. or_else (on b at_root) (rest (parents_resolution t p) (seen t p))) (root p e)
+  root_fault t e = by.errors t ∙ ap (λ b. or_else (check b at_root) (rest (parents_resolution t p) (tree_shapes t p))) (root p e)
 
   -- the error where the name or its parent is missing
-  pub missing_fault : (t : Tree) (e : Errno) → 0 < length p → or_else (parents_resolution t p) (on (is_missing (seen t p)) Enoent) ≡ Some e → fault t call ≡ Some e
+  pub missing_fault : (t : Tree) (e : Errno) → 0 < length p → or_else (parents_resolution t p) (check (is_missing (tree_shapes t p)) Enoent) ≡ Some e → fault t call ≡ Some e
   missing_fault t e named gone =
-      by.errors t ∙ ap (λ b. or_else (on b at_root) (rest (parents_resolution t p) (seen t p))) (not_root p named) ∙ by.missing (parents_resolution t p) (seen t p) e gone
+      by.errors t ∙ ap (λ b. or_else (check b at_root) (rest (parents_resolution t p) (tree_shapes t p))) (not_root p named) ∙ by.missing (parents_resolution t p) (tree_shapes t p) e gone
 
   -- the error where something is there
-  pub taken_fault : (g : Graph) (dir i n : ℕ) (o : Option Place) → IsForest g → 0 < length p → IsTaken g p dir i n → place_at g n ≡ o → fault (tree_of g) call ≡ rest None (shape_of o)
+  pub taken_fault : (g : Slots) (dir i n : ℕ) (o : Option Place) → IsForest g → 0 < length p → IsTaken g p dir i n → place_at g n ≡ o → fault (tree_of g) call ≡ rest None (shape_of o)
   taken_fault g dir i n o forest named spot at =
       by.errors (tree_of g)
-      ∙ (λ j. or_else (on (not_root p named j) at_root) (rest (taken_parents g forest p named dir i n spot j) ((taken_seen g forest p named dir i n spot ∙ ap shape_of at) j)))
+      ∙ (λ j. or_else (check (not_root p named j) at_root) (rest (taken_parents g forest p named dir i n spot j) ((taken_seen g forest p named dir i n spot ∙ ap shape_of at) j)))
 
   -- a call that fails changes nothing
-  pub refused : (g : Graph) (e : Errno) → IsForest g → fault (tree_of g) call ≡ Some e → Answers g g call (Failed e)
+  pub refused : (g : Slots) (e : Errno) → IsForest g → fault (tree_of g) call ≡ Some e → Answers g g call (Failed e)
   refused g e forest found = answers g g call (Some e) Done (removed (tree_of g) p) _ found (by.well (tree_of g)) (by.makes (tree_of g)) (fails g (Some e) Done (removed (tree_of g) p) e refl forest)
 
   -- one that does not removes what it found
-  pub is_removed : (g g' : Graph) (dir i n : ℕ) → IsForest g → IsVictim g call p dir i n → Detaches g g' dir i n → Answers g g' call Done
+  pub is_removed : (g g' : Slots) (dir i n : ℕ) → IsForest g → IsVictim g call p dir i n → Detaches g g' dir i n → Answers g g' call Done
   is_removed g g' dir i n forest victim detached =
       let spot = victim.spot in
       let leaf : (y : Name) → child g n y ≡ None = λ y. nothing y in

@@ -2,18 +2,18 @@
 use Rattle.std.proofs.Common.{◌≡◌, ◌≢◌, ℕ, suc, ◌<◌, ◌≤◌, Bool, true, false, not, ◌||◌, List, [], ◌∷◌, length, map, Some, None, Option, is_some, Ok, refl, sym, ap, ◌∙◌, arith, nat_eq}
 use Rattle.std.specs.Prelude.{nat_le}
 use Rattle.std.proofs.lemmas.Bool.Decides.{nat_tests}
-use Rattle.fs_names.specs.First.{on, or_else}
+use Rattle.fs_names.specs.Failures.{check, or_else}
 use Rattle.fs_names.specs.Names.{Name}
 use Rattle.fs_names.specs.Keys.{Key, is_root, is_proper_prefix, parent_of, last_of}
 use Rattle.fs_names.specs.declared.limits.TheConstants.{ENTRY_LIMIT}
-use Rattle.fs_names.proofs.FirstLemmas.{on-none}
+use Rattle.fs_names.proofs.FailureLemmas.{check-none}
 use Rattle.fs_calls.specs.Tree.{Tree}
-use Rattle.fs_calls.specs.Shapes.{Shape, seen, is_missing}
+use Rattle.fs_calls.specs.Shapes.{Shape, tree_shapes, is_missing}
 use Rattle.fs_calls.specs.Forms.{form, by_text}
 use Rattle.fs_calls.specs.Sights.{is_same}
 use Rattle.fs_calls.specs.Rows.{has_room, place_fault, rename_fault}
 use Rattle.fs_calls.specs.Outcomes.{parents_resolution, row, fault}
-use Rattle.fs_seq.specs.code.Graph.{Place, Dir, File, Graph, place_at, shape_of, links_at, walk, shape_at, tree_of, IsForest}
+use Rattle.fs_seq.specs.code.Slots.{Place, Dir, File, Slots, place_at, shape_of, links_at, walk, shape_at, tree_of, IsForest}
 use Rattle.fs_seq.specs.code.Nodes.{IsTaken, IsFree, LooksUp}
 use Rattle.fs_seq.specs.declared.nodes.Spot.{Spot}
 use Rattle.fs_seq.specs.declared.nodes.Spot.TheVariants.{Taken, Free}
@@ -29,7 +29,7 @@ use Rattle.fs_calls.proofs.FaultLemmas.{all_none, or_first, or_second}
 -- ---- kinds
 
 -- what replaces what, by the places
-pub kinds : (g : Graph) (n v : ℕ) (a b : Option Place) (o : Option Errno) (room : Bool) → place_at g n ≡ a → place_at g v ≡ b → o ≡ place_fault (shape_of a) (shape_of b) room → o ≡ place_fault (shape_at g n) (shape_at g v) room
+pub kinds : (g : Slots) (n v : ℕ) (a b : Option Place) (o : Option Errno) (room : Bool) → place_at g n ≡ a → place_at g v ≡ b → o ≡ place_fault (shape_of a) (shape_of b) room → o ≡ place_fault (shape_at g n) (shape_at g v) room
 kinds g n v a b o room e f h = h ∙ (λ i. place_fault (shape_of (sym e i)) (shape_of (sym f i)) room)
 
 -- a directory onto one without entries
@@ -56,7 +56,7 @@ fault_row t p q o h found = ap (λ z. or_else z (row t (Rename p q))) h ∙ foun
 
 -- the errors of a rename, by all that is read
 row_by : (t : Tree) (p q : Key) (source dest : Option Errno) (moved there : Option Shape) (one_path one_parent : Bool) (dir : Option Shape)
-    → parents_resolution t p ≡ source → parents_resolution t q ≡ dest → seen t p ≡ moved → is_same p q ≡ one_path → seen t q ≡ there → is_same (parent_of p) (parent_of q) ≡ one_parent → seen t (parent_of q) ≡ dir
+    → parents_resolution t p ≡ source → parents_resolution t q ≡ dest → tree_shapes t p ≡ moved → is_same p q ≡ one_path → tree_shapes t q ≡ there → is_same (parent_of p) (parent_of q) ≡ one_parent → tree_shapes t (parent_of q) ≡ dir
     → row t (Rename p q) ≡ rename_fault source dest moved one_path there (has_room one_parent dir)
 row_by t p q source dest moved there one_path one_parent dir a b c d e f h = λ i. rename_fault (a i) (b i) (c i) (d i) (e i) (has_room (f i) (h i))
 
@@ -67,15 +67,15 @@ alone (Some e) = refl
 
 -- the checks of a rename of a node that is there
 no_error : (moved there : Option Shape) (room : Bool) → is_missing moved ≡ false → rename_fault None None moved true there room ≡ None
-no_error moved there room h = ap (λ b. or_else (on b Enoent) None) h
+no_error moved there room h = ap (λ b. or_else (check b Enoent) None) h
 
 -- another path asks for the kinds and for room
 replaced : (moved there : Option Shape) (room : Bool) → is_missing moved ≡ false → rename_fault None None moved false there room ≡ place_fault moved there room
-replaced moved there room h = ap (λ b. or_else (on b Enoent) (place_fault moved there room)) h
+replaced moved there room h = ap (λ b. or_else (check b Enoent) (place_fault moved there room)) h
 
 -- at a place where nothing stands, only room is asked for
-to_free : (moved : Option Shape) (room : Bool) → place_fault moved None room ≡ on (not room) Enospc
-to_free moved room = alone (on (not room) Enospc)
+to_free : (moved : Option Shape) (room : Bool) → place_fault moved None room ≡ check (not room) Enospc
+to_free moved room = alone (check (not room) Enospc)
 
 -- numbers that the test finds equal are equal
 nat_same : (a b : ℕ) → nat_eq a b ≡ true → a ≡ b
@@ -94,7 +94,7 @@ nat_itself : (a : ℕ) → nat_eq a a ≡ false → ⊥
 nat_itself a h = let e = nat_self a in absurd (cc)
 
 -- where there is room the check finds nothing
-never : (b : Bool) → on (not (b || true)) Enospc ≡ None
+never : (b : Bool) → check (not (b || true)) Enospc ≡ None
 never true = refl
 never false = refl
 
@@ -117,10 +117,10 @@ there_not_missing None e = absurd (cc)
 there_not_missing (Some (Dir links)) e = refl
 there_not_missing (Some (File bytes)) e = refl
 
-module _ (g : Graph) (forest : IsForest g) (p q : Key) (text : by_text (form (Rename p q)) ≡ None) where
+module _ (g : Slots) (forest : IsForest g) (p q : Key) (text : by_text (form (Rename p q)) ≡ None) where
   -- neither path is the root
   roots : is_root p || is_root q ≡ false
-  roots = on-none (is_root p || is_root q) Ebusy (all_none (on (is_root p || is_root q) Ebusy ∷ on (is_proper_prefix p q) Einval ∷ []) text).0
+  roots = check-none (is_root p || is_root q) Ebusy (all_none (check (is_root p || is_root q) Ebusy ∷ check (is_proper_prefix p q) Einval ∷ []) text).0
 
   -- the old path has a name
   pub named : is_root p ≡ false
@@ -139,7 +139,7 @@ module _ (g : Graph) (forest : IsForest g) (p q : Key) (text : by_text (form (Re
   fault_dest e h f = fault_row (tree_of g) p q (Some e) text (row_by (tree_of g) p q None (Some e) _ _ _ _ _ h f refl refl refl refl refl)
 
   -- nothing at the old path
-  pub fault_missing : parents_resolution (tree_of g) p ≡ None → parents_resolution (tree_of g) q ≡ None → seen (tree_of g) p ≡ None → fault (tree_of g) (Rename p q) ≡ Some Enoent
+  pub fault_missing : parents_resolution (tree_of g) p ≡ None → parents_resolution (tree_of g) q ≡ None → tree_shapes (tree_of g) p ≡ None → fault (tree_of g) (Rename p q) ≡ Some Enoent
   fault_missing h f none = fault_row (tree_of g) p q (Some Enoent) text (row_by (tree_of g) p q None None None _ _ _ _ h f none refl refl refl refl)
 
   -- what was looked up has a directory as its parent
@@ -164,14 +164,14 @@ module _ (g : Graph) (forest : IsForest g) (p q : Key) (text : by_text (form (Re
     from : walk g p ≡ Some n
     from = taken_walk p dir i n named at
 
-    seen_from : seen (tree_of g) p ≡ shape_at g n
+    seen_from : tree_shapes (tree_of g) p ≡ shape_at g n
     seen_from = seen_at g p n forest from
 
     there : is_missing (shape_at g n) ≡ false
     there = there_not_missing (place_at g n) (forest.inside p n from)
 
     fault_there : (there : Option Shape) (one_path one_parent : Bool) (dest : Option Shape) (o : Option Errno) → parents_resolution (tree_of g) q ≡ None
-        → is_same p q ≡ one_path → seen (tree_of g) q ≡ there → is_same (parent_of p) (parent_of q) ≡ one_parent → seen (tree_of g) (parent_of q) ≡ dest → rename_fault None None (shape_at g n) one_path there (has_room one_parent dest) ≡ o → fault (tree_of g) (Rename p q) ≡ o
+        → is_same p q ≡ one_path → tree_shapes (tree_of g) q ≡ there → is_same (parent_of p) (parent_of q) ≡ one_parent → tree_shapes (tree_of g) (parent_of q) ≡ dest → rename_fault None None (shape_at g n) one_path there (has_room one_parent dest) ≡ o → fault (tree_of g) (Rename p q) ≡ o
     fault_there there one_path one_parent dest o h e f k l found =
         fault_row (tree_of g) p q o text (row_by (tree_of g) p q None None (shape_at g n) there one_path one_parent dest (looked_up p (Taken dir i n) at) h seen_from e f k l ∙ found)
 
@@ -179,8 +179,8 @@ module _ (g : Graph) (forest : IsForest g) (p q : Key) (text : by_text (form (Re
     pub stays : (dir2 i2 n2 : ℕ) → IsTaken g q dir2 i2 n2 → n2 ≡ n → (fault (tree_of g) (Rename p q) ≡ None) × (p ≡ q)
     stays dir2 i2 n2 to e =
         let same : p ≡ q = forest.once p q n from (taken_walk q dir2 i2 n2 new_named to ∙ ap Some e) in (
-          fault_there (seen (tree_of g) q) true (is_same (parent_of p) (parent_of q)) (seen (tree_of g) (parent_of q)) None (looked_up q (Taken dir2 i2 n2) to) (ap (is_same p) (sym same) ∙ is_same_refl p) refl refl refl
-              (no_error (shape_at g n) (seen (tree_of g) q) (has_room (is_same (parent_of p) (parent_of q)) (seen (tree_of g) (parent_of q))) there),
+          fault_there (tree_shapes (tree_of g) q) true (is_same (parent_of p) (parent_of q)) (tree_shapes (tree_of g) (parent_of q)) None (looked_up q (Taken dir2 i2 n2) to) (ap (is_same p) (sym same) ∙ is_same_refl p) refl refl refl
+              (no_error (shape_at g n) (tree_shapes (tree_of g) q) (has_room (is_same (parent_of p) (parent_of q)) (tree_shapes (tree_of g) (parent_of q))) there),
           same,
         )
 
@@ -194,7 +194,7 @@ module _ (g : Graph) (forest : IsForest g) (p q : Key) (text : by_text (form (Re
     onto dir2 i2 n2 o to other is =
         let w : walk g q ≡ Some n2 = taken_walk q dir2 i2 n2 new_named to in
         let one = is_same (parent_of p) (parent_of q) in
-        let dest = seen (tree_of g) (parent_of q) in
+        let dest = tree_shapes (tree_of g) (parent_of q) in
         fault_there (shape_at g n2) false one dest o (looked_up q (Taken dir2 i2 n2) to) (never_same p q (other_path dir2 i2 n2 to other)) (seen_at g q n2 forest w) refl refl
         (replaced (shape_at g n) (shape_at g n2) (has_room one dest) there ∙ sym (is (has_room one dest)))
 
@@ -218,25 +218,25 @@ module _ (g : Graph) (forest : IsForest g) (p q : Key) (text : by_text (form (Re
     other_free : (dir2 i2 entries : ℕ) → IsFree g q dir2 i2 entries → p ≢ q
     other_free dir2 i2 entries to e = let both : None ≡ Some n = sym (free_walk q dir2 i2 entries new_named to) ∙ ap (walk g) (sym e) ∙ from in absurd (cc)
 
-    fault_free : (dir2 i2 entries : ℕ) → IsFree g q dir2 i2 entries → fault (tree_of g) (Rename p q) ≡ on (not (nat_eq dir dir2 || not (nat_le ENTRY_LIMIT entries))) Enospc
+    fault_free : (dir2 i2 entries : ℕ) → IsFree g q dir2 i2 entries → fault (tree_of g) (Rename p q) ≡ check (not (nat_eq dir dir2 || not (nat_le ENTRY_LIMIT entries))) Enospc
     fault_free dir2 i2 entries to =
-        let dest : seen (tree_of g) (parent_of q) ≡ shape_of (Some (Dir (links_at g dir2))) = seen_at g (parent_of q) dir2 forest to.parent ∙ ap shape_of to.directory in
+        let dest : tree_shapes (tree_of g) (parent_of q) ≡ shape_of (Some (Dir (links_at g dir2))) = seen_at g (parent_of q) dir2 forest to.parent ∙ ap shape_of to.directory in
         let many : length (map (λ l. l.0) (links_at g dir2)) ≡ entries = length_names (links_at g dir2) ∙ sym to.count in
         let room = has_room (nat_eq dir dir2) (shape_of (Some (Dir (links_at g dir2)))) in
         fault_there None false (nat_eq dir dir2) _ _ (looked_up q (Free dir2 i2 entries) to) (never_same p q (other_free dir2 i2 entries to)) (seen_none g q forest (free_walk q dir2 i2 entries new_named to)) (one_parent dir2 i2 entries to) dest
-        (replaced (shape_at g n) None room there ∙ to_free (shape_at g n) room ∙ ap (λ m. on (not (nat_eq dir dir2 || not (nat_le ENTRY_LIMIT m))) Enospc) many)
+        (replaced (shape_at g n) None room there ∙ to_free (shape_at g n) room ∙ ap (λ m. check (not (nat_eq dir dir2 || not (nat_le ENTRY_LIMIT m))) Enospc) many)
 
     pub full : (dir2 i2 entries : ℕ) → IsFree g q dir2 i2 entries → dir2 ≢ dir → ENTRY_LIMIT ≤ entries → fault (tree_of g) (Rename p q) ≡ Some Enospc
-    full dir2 i2 entries to other many = fault_free dir2 i2 entries to ∙ (λ i. on (not (nat_apart dir dir2 (λ e. other (sym e)) i || not (at_limit entries many i))) Enospc)
+    full dir2 i2 entries to other many = fault_free dir2 i2 entries to ∙ (λ i. check (not (nat_apart dir dir2 (λ e. other (sym e)) i || not (at_limit entries many i))) Enospc)
 
     pub moves_beside : (dir2 i2 entries : ℕ) → IsFree g q dir2 i2 entries → dir2 ≡ dir → Moves g p q
     moves_beside dir2 i2 entries to same = record {
-      allowed = fault_free dir2 i2 entries to ∙ ap (λ b. on (not (b || not (nat_le ENTRY_LIMIT entries))) Enospc) (ap (nat_eq dir) same ∙ nat_self dir);
+      allowed = fault_free dir2 i2 entries to ∙ ap (λ b. check (not (b || not (nat_le ENTRY_LIMIT entries))) Enospc) (ap (nat_eq dir) same ∙ nat_self dir);
       differ = other_free dir2 i2 entries to;
     }
 
     pub moves_to : (dir2 i2 entries : ℕ) → IsFree g q dir2 i2 entries → entries < ENTRY_LIMIT → Moves g p q
     moves_to dir2 i2 entries to room = record {
-      allowed = fault_free dir2 i2 entries to ∙ ap (λ b. on (not (nat_eq dir dir2 || not b)) Enospc) (below_limit entries room) ∙ never (nat_eq dir dir2);
+      allowed = fault_free dir2 i2 entries to ∙ ap (λ b. check (not (nat_eq dir dir2 || not b)) Enospc) (below_limit entries room) ∙ never (nat_eq dir dir2);
       differ = other_free dir2 i2 entries to;
     }

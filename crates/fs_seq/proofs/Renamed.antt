@@ -9,8 +9,8 @@ use Rattle.fs_calls.specs.Shapes.{is_missing}
 use Rattle.fs_calls.specs.Forms.{form, by_text}
 use Rattle.fs_calls.specs.Outcomes.{fault, change}
 use Rattle.fs_seq.specs.Memory.{needs_memory}
-use Rattle.fs_seq.specs.code.Graph.{Dir, Graph, place_at, node_of, links_of, links_at, walk, node_at, tree_of, IsForest, Sets}
-use Rattle.fs_seq.specs.code.Nodes.{without, StandsAt, IsTaken, IsFree}
+use Rattle.fs_seq.specs.code.Slots.{Dir, Slots, place_at, node_of, links_of, links_at, walk, node_at, tree_of, IsForest, Sets}
+use Rattle.fs_seq.specs.code.Nodes.{without, IsNameAt, IsTaken, IsFree}
 use Rattle.fs_seq.specs.code.Effects.{Answers}
 use Rattle.fs_seq.specs.code.Renaming.{IsAt, Moves, Plans, Exchanges, Transfers}
 use Rattle.fs_seq.specs.declared.rename.Entry.{Entry}
@@ -25,38 +25,38 @@ use Rattle.fs_seq.proofs.Resolving.{seen_none}
 use Rattle.fs_calls.proofs.FaultLemmas.{Renames, by_text_none, rename_renames}
 use Rattle.fs_seq.proofs.ForestTrees.{forest_tree}
 use Rattle.fs_seq.proofs.Rewiring.{Crosses, Turns, Rewires, which, crossed, turned_in, renamed_free, renamed_onto, find-without, rising-without}
-use Rattle.fs_seq.proofs.LinkEdits.{set_standing, set_then_removed}
+use Rattle.fs_seq.proofs.LinkEdits.{set_in_place, set_then_removed}
 use Rattle.fs_seq.proofs.RenameFaults.{new_named, taken_walk, free_walk}
 use Rattle.fs_seq.proofs.Replies.{works, fails, answers, needs}
 
 -- ---- replies
 
 -- a rename with an error leaves all as it was
-pub failed : (g : Graph) (p q : Key) (e : Errno) → IsForest g → fault (tree_of g) (Rename p q) ≡ Some e → Answers g g (Rename p q) (Failed e)
+pub failed : (g : Slots) (p q : Key) (e : Errno) → IsForest g → fault (tree_of g) (Rename p q) ≡ Some e → Answers g g (Rename p q) (Failed e)
 failed g p q e forest h =
     answers g g (Rename p q) (Some e) Done (change (tree_of g) (Rename p q)) (Failed e) h refl refl (fails g (Some e) Done (change (tree_of g) (Rename p q)) e refl forest)
 
 -- a rename without an error, which leaves the tree of its change
-done : (g g' : Graph) (p q : Key) → fault (tree_of g) (Rename p q) ≡ None → IsForest g' → tree_of g' ≡ change (tree_of g) (Rename p q) → Answers g g' (Rename p q) Done
+done : (g g' : Slots) (p q : Key) → fault (tree_of g) (Rename p q) ≡ None → IsForest g' → tree_of g' ≡ change (tree_of g) (Rename p q) → Answers g g' (Rename p q) Done
 done g g' p q h forest made =
     answers g g' (Rename p q) None Done (change (tree_of g) (Rename p q)) Done h refl refl (works g g' None Done (change (tree_of g) (Rename p q)) refl made forest)
 
 -- and so does one of a path onto itself
-pub stayed : (g : Graph) (p q : Key) → IsForest g → fault (tree_of g) (Rename p q) ≡ None → p ≡ q → Answers g g (Rename p q) Done
+pub stayed : (g : Slots) (p q : Key) → IsForest g → fault (tree_of g) (Rename p q) ≡ None → p ≡ q → Answers g g (Rename p q) Done
 stayed g p q forest h same = done g g p q h forest (sym (same_after (tree_of g) p q same h))
   where
     same_after : (t : Tree) (p q : Key) → p ≡ q → fault t (Rename p q) ≡ None → change t (Rename p q) ≡ t
     same_after t p q e found = ap (λ b. cond {A = Tree} b t (renamed t p q)) (ap (is_same p) (sym e) ∙ is_same_refl p)
 
 -- a rename that is done, by the tree that it leaves
-moved : (g g' : Graph) (p q : Key) → Moves g p q → IsForest g' × (tree_of g' ≡ renamed (tree_of g) p q) → Answers g g' (Rename p q) Done
+moved : (g g' : Slots) (p q : Key) → Moves g p q → IsForest g' × (tree_of g' ≡ renamed (tree_of g) p q) → Answers g g' (Rename p q) Done
 moved g g' p q may made = done g g' p q may.allowed made.0 (made.1 ∙ sym (ap (λ b. cond {A = Tree} b (tree_of g) (renamed (tree_of g) p q)) (never_same p q may.differ)))
 
 -- ---- edits
 
 -- a name is put into one directory, and another is taken out of a second one
-crosses : (g between g' : Graph) (n m i : ℕ) (x z : Name) (s : ℕ) (new : List (Name × ℕ)) → n ≢ m → Sets g between m (Some (Dir new)) → new ≡ put name_cmp z s (links_at g m)
-    → Sets between g' n (Some (Dir (remove (links_at between n) i))) → StandsAt (links_at g n) x i → Crosses g g' n x m z s
+crosses : (g between g' : Slots) (n m i : ℕ) (x z : Name) (s : ℕ) (new : List (Name × ℕ)) → n ≢ m → Sets g between m (Some (Dir new)) → new ≡ put name_cmp z s (links_at g m)
+    → Sets between g' n (Some (Dir (remove (links_at between n) i))) → IsNameAt (links_at g n) x i → Crosses g g' n x m z s
 crosses g between g' n m i x z s new apart linking put_in unlinking at = record {
   apart = apart;
   old = unlinking.here ∙ ap (λ o. Some (Dir (remove (links_of o) i))) (linking.elsewhere n apart) ∙ ap (λ ls. Some (Dir ls)) at.others;
@@ -65,8 +65,8 @@ crosses g between g' n m i x z s new apart linking put_in unlinking at = record 
 }
 
 -- a name of a directory leads elsewhere, and another is taken out of it
-turns : (g between g' : Graph) (n i j : ℕ) (x z : Name) (s : ℕ) → IsTrue (is_sorted name_cmp (links_at g n)) → x ≢ z → Sets g between n (Some (Dir (slice_set (links_at g n) j (z, s)))) → Sets between g' n (Some (Dir (remove (links_at between n) i)))
-    → StandsAt (links_at g n) x i → StandsAt (links_at g n) z j → Turns g g' n x z s
+turns : (g between g' : Slots) (n i j : ℕ) (x z : Name) (s : ℕ) → IsTrue (is_sorted name_cmp (links_at g n)) → x ≢ z → Sets g between n (Some (Dir (slice_set (links_at g n) j (z, s)))) → Sets between g' n (Some (Dir (remove (links_at between n) i)))
+    → IsNameAt (links_at g n) x i → IsNameAt (links_at g n) z j → Turns g g' n x z s
 turns g between g' n i j x z s rising apart leading unlinking at to = record {
   here = unlinking.here ∙ ap (λ o. Some (Dir (remove (links_of o) i))) leading.here ∙ ap (λ ls. Some (Dir ls)) (set_then_removed x z s (links_at g n) i j rising apart at to);
   elsewhere = λ k other. unlinking.elsewhere k other ∙ leading.elsewhere k other;
@@ -75,7 +75,7 @@ turns g between g' n i j x z s rising apart leading unlinking at to = record {
 -- ---- the paths
 
 -- what is planned has no error
-pub allowed : (g : Graph) (p q : Key) (plan : Plan) → Plans g p q (Ok plan) → fault (tree_of g) (Rename p q) ≡ None
+pub allowed : (g : Slots) (p q : Key) (plan : Plan) → Plans g p q (Ok plan) → fault (tree_of g) (Rename p q) ≡ None
 allowed g p q Stay h = h.0
 allowed g p q (Onto entry victim) h = h.0.allowed
 allowed g p q (Within entry) h = h.0.allowed
@@ -87,10 +87,10 @@ has_names [] e = absurd (cc)
 has_names (x ∷ q) e = omega arith
 
 -- a rename that is done has a new path with a name
-pub new_path_named : (g : Graph) (p q : Key) (plan : Plan) → IsForest g → Plans g p q (Ok plan) → 1 ≤ length q
+pub new_path_named : (g : Slots) (p q : Key) (plan : Plan) → IsForest g → Plans g p q (Ok plan) → 1 ≤ length q
 new_path_named g p q plan forest h = has_names q (new_named g forest p q (by_text_none (tree_of g) (Rename p q) (allowed g p q plan h)))
 
-module _ (g : Graph) (forest : IsForest g) (p q : Key) (may : Moves g p q) where
+module _ (g : Slots) (forest : IsForest g) (p q : Key) (may : Moves g p q) where
   -- what such a rename finds in the tree
   renames : Renames (tree_of g) p q
   renames = rename_renames (tree_of g) p q (forest_tree g forest) may.allowed may.differ
@@ -130,7 +130,7 @@ module _ (g : Graph) (forest : IsForest g) (p q : Key) (may : Moves g p q) where
         either_none true = refl
         either_none false = refl
 
-    pub moved_within : (g' : Graph) (x : Name) (i entries : ℕ) → IsFree g q entry.dir i entries → last_of q ≡ x → Sets g g' entry.dir (Some (Dir (put name_cmp x entry.node (remove (links_at g entry.dir) entry.place)))) → Answers g g' (Rename p q) Done
+    pub moved_within : (g' : Slots) (x : Name) (i entries : ℕ) → IsFree g q entry.dir i entries → last_of q ≡ x → Sets g g' entry.dir (Some (Dir (put name_cmp x entry.node (remove (links_at g entry.dir) entry.place)))) → Answers g g' (Rename p q) Done
     moved_within g' x i entries to last edit =
         let links : put name_cmp x entry.node (remove (links_at g entry.dir) entry.place) ≡ put name_cmp (last_of q) entry.node (without (last_of p) (links_at g entry.dir)) = (λ j. put name_cmp (sym last j) entry.node (at.stands.others j)) in
         let turns : Turns g g' entry.dir (last_of p) (last_of q) entry.node = subst (λ ls. Sets g g' entry.dir (Some (Dir ls))) links edit in
@@ -140,23 +140,23 @@ module _ (g : Graph) (forest : IsForest g) (p q : Key) (may : Moves g p q) where
     -- ---- onto another entry
 
     module _ (victim : Entry) (to : IsAt g q victim) where
-      rewired_across : (between unlinked : Graph) → entry.dir ≢ victim.dir → Sets g between victim.dir (Some (Dir (slice_set (links_at g victim.dir) victim.place (last_of q, entry.node))))
+      rewired_across : (between unlinked : Slots) → entry.dir ≢ victim.dir → Sets g between victim.dir (Some (Dir (slice_set (links_at g victim.dir) victim.place (last_of q, entry.node))))
           → Sets between unlinked entry.dir (Some (Dir (remove (links_at between entry.dir) entry.place))) → Rewires g unlinked entry.dir (last_of p) victim.dir (last_of q) entry.node
       rewired_across between unlinked apart leading unlinking =
           crossed g unlinked forest.rising entry.dir (last_of p) victim.dir (last_of q) entry.node dir_node dir_placed (ap node_of to.directory)
           (crosses g between unlinked entry.dir victim.dir entry.place (last_of p) (last_of q) entry.node (slice_set (links_at g victim.dir) victim.place (last_of q, entry.node)) apart leading
-          (set_standing (last_of q) entry.node (links_at g victim.dir) victim.place (forest.rising victim.dir) to.stands) unlinking at.stands)
+          (set_in_place (last_of q) entry.node (links_at g victim.dir) victim.place (forest.rising victim.dir) to.stands) unlinking at.stands)
 
-      rewired_within : (between unlinked : Graph) → victim.dir ≡ entry.dir → Sets g between victim.dir (Some (Dir (slice_set (links_at g victim.dir) victim.place (last_of q, entry.node))))
+      rewired_within : (between unlinked : Slots) → victim.dir ≡ entry.dir → Sets g between victim.dir (Some (Dir (slice_set (links_at g victim.dir) victim.place (last_of q, entry.node))))
           → Sets between unlinked entry.dir (Some (Dir (remove (links_at between entry.dir) entry.place))) → Rewires g unlinked entry.dir (last_of p) victim.dir (last_of q) entry.node
       rewired_within between unlinked same leading unlinking =
           let leading_here : Sets g between entry.dir (Some (Dir (slice_set (links_at g entry.dir) victim.place (last_of q, entry.node)))) = subst (λ d. Sets g between d (Some (Dir (slice_set (links_at g d) victim.place (last_of q, entry.node))))) same leading in
-          let stands_here : StandsAt (links_at g entry.dir) (last_of q) victim.place = subst (λ d. StandsAt (links_at g d) (last_of q) victim.place) same to.stands in
+          let stands_here : IsNameAt (links_at g entry.dir) (last_of q) victim.place = subst (λ d. IsNameAt (links_at g d) (last_of q) victim.place) same to.stands in
           let one : Turns g unlinked entry.dir (last_of p) (last_of q) entry.node = turns g between unlinked entry.dir entry.place victim.place (last_of p) (last_of q) entry.node (forest.rising entry.dir)
           (other_last entry.dir at.parent (to.parent ∙ ap Some same)) leading_here unlinking at.stands stands_here in
           subst (λ d. Rewires g unlinked entry.dir (last_of p) d (last_of q) entry.node) (sym same) (turned_in g unlinked forest.rising entry.dir (last_of p) (last_of q) entry.node dir_node dir_placed one)
 
-      pub moved_onto : (g' : Graph) (x : Name) → last_of q ≡ x → Exchanges g g' entry victim x → Answers g g' (Rename p q) Done
+      pub moved_onto : (g' : Slots) (x : Name) → last_of q ≡ x → Exchanges g g' entry victim x → Answers g g' (Rename p q) Done
       moved_onto g' x last edit =
           let leading : Sets g edit.between victim.dir (Some (Dir (slice_set (links_at g victim.dir) victim.place (last_of q, entry.node)))) = subst (λ y. Sets g edit.between victim.dir (Some (Dir (slice_set (links_at g victim.dir) victim.place (y, entry.node))))) (sym last) edit.leading in
           let rewires : Rewires g edit.unlinked entry.dir (last_of p) victim.dir (last_of q) entry.node =
@@ -168,7 +168,7 @@ module _ (g : Graph) (forest : IsForest g) (p q : Key) (may : Moves g p q) where
     -- ---- to another directory
 
     module _ (dir i entries : ℕ) (to : IsFree g q dir i entries) (apart : entry.dir ≢ dir) where
-      pub moved_across : (g' : Graph) (x : Name) → last_of q ≡ x → Transfers g g' entry dir i x → Answers g g' (Rename p q) Done
+      pub moved_across : (g' : Slots) (x : Name) → last_of q ≡ x → Transfers g g' entry dir i x → Answers g g' (Rename p q) Done
       moved_across g' x last edit =
           let put_in : insert (links_at g dir) i (x, entry.node) ≡ put name_cmp (last_of q) entry.node (links_at g dir) = ap (λ y. insert (links_at g dir) i (y, entry.node)) (sym last) ∙ sym (to.belongs.placed entry.node) in
           moved g g' p q may (renamed_free g forest p q entry.dir entry.node dir renames at.parent at.leads to.parent g'

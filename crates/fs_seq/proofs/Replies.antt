@@ -1,9 +1,9 @@
 -- What a call answers, by its errors, and what it leaves.
 use Rattle.std.proofs.Common.{◌≡◌, true, not, ◌&&◌, Some, None, Option, is_some, Result, Ok, Err, IfOk, OnOk, OnErr, IsTrue, refl, sym, ap, subst, ◌∙◌}
 use Rattle.fs_calls.specs.Tree.{Tree}
-use Rattle.fs_calls.specs.Outcomes.{fault, success, change, reply, after, replied, unless}
+use Rattle.fs_calls.specs.Outcomes.{fault, success, change, reply, after, replied, if_sound}
 use Rattle.fs_seq.specs.Memory.{takes_memory, needs_memory}
-use Rattle.fs_seq.specs.code.Graph.{Graph, tree_of, IsForest}
+use Rattle.fs_seq.specs.code.Slots.{Slots, tree_of, IsForest}
 use Rattle.fs_seq.specs.code.Effects.{Gives, Answers}
 use Rattle.fs_calls.specs.declared.call.Call.{Call}
 use Rattle.fs_calls.specs.declared.reply.Reply.{Reply}
@@ -11,19 +11,19 @@ use Rattle.fs_calls.specs.declared.reply.Reply.TheVariants.{Failed}
 use Rattle.fs_calls.specs.declared.errno.Errno.{Errno}
 
 -- a call without an error
-pub works : (g g' : Graph) (found : Option Errno) (well : Reply) (new : Tree) → found ≡ None → tree_of g' ≡ new → IsForest g' → Gives g g' found well new well
-works g g' found well new none made forest = record { reply = ap (λ f. replied f well) (sym none); tree = made ∙ ap (λ f. unless f (tree_of g) new) (sym none); forest = forest }
+pub works : (g g' : Slots) (found : Option Errno) (well : Reply) (new : Tree) → found ≡ None → tree_of g' ≡ new → IsForest g' → Gives g g' found well new well
+works g g' found well new none made forest = record { reply = ap (λ f. replied f well) (sym none); tree = made ∙ ap (λ f. if_sound f (tree_of g) new) (sym none); forest = forest }
 
 -- a call with one
-pub fails : (g : Graph) (found : Option Errno) (well : Reply) (new : Tree) (e : Errno) → found ≡ Some e → IsForest g → Gives g g found well new (Failed e)
-fails g found well new e some forest = record { reply = ap (λ f. replied f well) (sym some); tree = ap (λ f. unless f (tree_of g) new) (sym some); forest = forest }
+pub fails : (g : Slots) (found : Option Errno) (well : Reply) (new : Tree) (e : Errno) → found ≡ Some e → IsForest g → Gives g g found well new (Failed e)
+fails g found well new e some forest = record { reply = ap (λ f. replied f well) (sym some); tree = ap (λ f. if_sound f (tree_of g) new) (sym some); forest = forest }
 
 -- an answer by the errors of a call is one to the call
-pub answers : (g g' : Graph) (call : Call) (found : Option Errno) (well : Reply) (new : Tree) (r : Reply) → fault (tree_of g) call ≡ found → success (tree_of g) call ≡ well → change (tree_of g) call ≡ new → Gives g g' found well new r → Answers g g' call r
+pub answers : (g g' : Slots) (call : Call) (found : Option Errno) (well : Reply) (new : Tree) (r : Reply) → fault (tree_of g) call ≡ found → success (tree_of g) call ≡ well → change (tree_of g) call ≡ new → Gives g g' found well new r → Answers g g' call r
 unfolding reply after
 answers g g' call found well new r e f h given = record {
   reply = given.reply ∙ (λ i. replied (sym e i) (sym f i));
-  tree = given.tree ∙ (λ i. unless (sym e i) (tree_of g) (sym h i));
+  tree = given.tree ∙ (λ i. if_sound (sym e i) (tree_of g) (sym h i));
   forest = given.forest;
 }
 
@@ -48,7 +48,7 @@ on_err (Ok a) h = tt
 on_err (Err e) h = h
 
 -- a call that fails, and leaves the graph as it was
-pub refused : (g g' : Graph) (call : Call) (e : Errno) → g' ≡ g → IsForest g → fault (tree_of g) call ≡ Some e → Answers g g' call (Failed e)
+pub refused : (g g' : Slots) (call : Call) (e : Errno) → g' ≡ g → IsForest g → fault (tree_of g) call ≡ Some e → Answers g g' call (Failed e)
 refused g g' call e same forest found =
     subst (λ h. Answers g h call (Failed e)) (sym same) (answers g g call (Some e) (success (tree_of g) call) (change (tree_of g) call) (Failed e) found refl refl (fails g (Some e) (success (tree_of g) call) (change (tree_of g) call) e refl forest))
 
@@ -62,6 +62,6 @@ pub leaves : (t : Tree) (call : Call) → change t call ≡ t → after t call �
 unfolding after
 leaves t call same = by_fault (fault t call)
   where
-    by_fault : (found : Option Errno) → unless found t (change t call) ≡ t
+    by_fault : (found : Option Errno) → if_sound found t (change t call) ≡ t
     by_fault None = same
     by_fault (Some e) = refl

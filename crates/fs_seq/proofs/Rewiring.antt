@@ -9,7 +9,7 @@ use Rattle.fs_names.specs.Names.{Name, name_cmp, same_name}
 use Rattle.fs_names.specs.Keys.{Key, after_prefix, parent_of, last_of}
 use Rattle.fs_names.proofs.Lemmas.{name_total, name_exact, same_name_exact}
 use Rattle.fs_calls.specs.Tree.{Dir as IsDir, look, renamed}
-use Rattle.fs_seq.specs.code.Graph.{Place, Dir, Graph, place_at, links_of, node_of, links_at, child, walk, node_at, tree_of, IsForest, Sets}
+use Rattle.fs_seq.specs.code.Slots.{Place, Dir, Slots, place_at, links_of, node_of, links_at, child, walk, node_at, tree_of, IsForest, Sets}
 use Rattle.fs_seq.specs.code.Nodes.{without}
 use Rattle.fs_calls.proofs.KeyLemmas.{no_true, parent_and_last, after_prefix-front}
 use Rattle.fs_seq.proofs.GraphLemmas.{place_below}
@@ -78,47 +78,47 @@ without-put x z s links apart rising =
 -- ---- places
 
 -- the graph without a name of a directory
-pub unlinked : Graph → ℕ → Name → Graph
+pub unlinked : Slots → ℕ → Name → Slots
 unlinked g n x = set g n (Some (Dir (without x (links_at g n))))
 
 -- the directory without the name
-unlinked_here : (g : Graph) (n : ℕ) (x : Name) → is_some (place_at g n) ≡ true → place_at (unlinked g n x) n ≡ Some (Dir (without x (links_at g n)))
+unlinked_here : (g : Slots) (n : ℕ) (x : Name) → is_some (place_at g n) ≡ true → place_at (unlinked g n x) n ≡ Some (Dir (without x (links_at g n)))
 unfolding unlinked place_at
 unlinked_here g n x there = get_or-set_same g n (Some (Dir (without x (links_at g n)))) None (place_below g n there)
 
 -- all other places are as before
-unlinked_elsewhere : (g : Graph) (n : ℕ) (x : Name) (j : ℕ) → j ≢ n → place_at (unlinked g n x) j ≡ place_at g j
+unlinked_elsewhere : (g : Slots) (n : ℕ) (x : Name) (j : ℕ) → j ≢ n → place_at (unlinked g n x) j ≡ place_at g j
 unfolding unlinked place_at
 unlinked_elsewhere g n x j other = get_or-set_other g n j (Some (Dir (without x (links_at g n)))) None other
 
 -- a child is found among the links of its place
-pub child_of : (g : Graph) (n : ℕ) (y : Name) (o : Option Place) → place_at g n ≡ o → child g n y ≡ find name_cmp y (links_of o)
+pub child_of : (g : Slots) (n : ℕ) (y : Name) (o : Option Place) → place_at g n ≡ o → child g n y ≡ find name_cmp y (links_of o)
 child_of g n y o e = child-find g n y ∙ ap (λ z. find name_cmp y (links_of z)) e
 
 -- the same places have the same children
-pub same_child : (g h : Graph) (n : ℕ) (y : Name) → place_at g n ≡ place_at h n → child g n y ≡ child h n y
+pub same_child : (g h : Slots) (n : ℕ) (y : Name) → place_at g n ≡ place_at h n → child g n y ≡ child h n y
 same_child g h n y e = child_of g n y (place_at h n) e ∙ sym (child-find h n y)
 
 -- a graph without a name is without it
-pub unlinked_unlinks : (g : Graph) (n : ℕ) (x : Name) → is_some (place_at g n) ≡ true → Unlinks g (unlinked g n x) n x
+pub unlinked_unlinks : (g : Slots) (n : ℕ) (x : Name) → is_some (place_at g n) ≡ true → Unlinks g (unlinked g n x) n x
 unlinked_unlinks g n x there = record {
   here = λ y. child_of (unlinked g n x) n y _ (unlinked_here g n x there) ∙ find-without x y (links_at g n) ∙ ap (cond (same_name x y) None) (sym (child-find g n y));
   elsewhere = λ j y other. same_child (unlinked g n x) g j y (unlinked_elsewhere g n x j other);
 }
 
 -- a name leaves one directory, and another is put into a second one
-pub record Crosses (g g' : Graph) (n : ℕ) (x : Name) (m : ℕ) (z : Name) (s : ℕ) : Type 0 where
+pub record Crosses (g g' : Slots) (n : ℕ) (x : Name) (m : ℕ) (z : Name) (s : ℕ) : Type 0 where
   pub apart : n ≢ m
   pub old : place_at g' n ≡ Some (Dir (without x (links_at g n)))
   pub new : place_at g' m ≡ Some (Dir (put name_cmp z s (links_at g m)))
   pub others : (j : ℕ) → j ≢ n → j ≢ m → place_at g' j ≡ place_at g j
 
 -- a name leaves a directory, and another is put into it
-abbrev pub Turns : Graph → Graph → ℕ → Name → Name → ℕ → Type 0
+abbrev pub Turns : Slots → Slots → ℕ → Name → Name → ℕ → Type 0
 Turns g g' n x z s = Sets g g' n (Some (Dir (put name_cmp z s (without x (links_at g n)))))
 
 -- what both of them do: the name leads to the node, all directories stay, and their names rise
-pub record Rewires (g g' : Graph) (n : ℕ) (x : Name) (m : ℕ) (z : Name) (s : ℕ) : Type 0 where
+pub record Rewires (g g' : Slots) (n : ℕ) (x : Name) (m : ℕ) (z : Name) (s : ℕ) : Type 0 where
   pub links : Links (unlinked g n x) g' m z s
   pub rising : (j : ℕ) → IsTrue (is_sorted name_cmp (links_at g' j))
   pub kept : (j : ℕ) → node_at g' j ≡ node_at g j
@@ -127,7 +127,7 @@ pub record Rewires (g g' : Graph) (n : ℕ) (x : Name) (m : ℕ) (z : Name) (s :
 pub which : (j n : ℕ) (P : Type 0) → (j ≡ n → P) → (j ≢ n → P) → P
 which j n P same other = elim (nat_eq j n) as (λ b. nat_eq j n ≡ b → P) [ true ↦ λ e. same (nat_same j n e) | false ↦ λ e. other (nat_differ j n e) ] refl
 
-module _ (g g' : Graph) (rising : (j : ℕ) → IsTrue (is_sorted name_cmp (links_at g j))) (n : ℕ) (x : Name) (m : ℕ) (z : Name) (s : ℕ)
+module _ (g g' : Slots) (rising : (j : ℕ) → IsTrue (is_sorted name_cmp (links_at g j))) (n : ℕ) (x : Name) (m : ℕ) (z : Name) (s : ℕ)
     (from : node_at g n ≡ Some IsDir) (there : is_some (place_at g n) ≡ true) (to : node_at g m ≡ Some IsDir) where
   -- what holds of a place holds of one that is the same
   rising_like : (j k : ℕ) (o : Option Place) → j ≡ k → place_at g' k ≡ o → IsTrue (is_sorted name_cmp (links_of o)) → IsTrue (is_sorted name_cmp (links_at g' j))
@@ -161,7 +161,7 @@ module _ (g g' : Graph) (rising : (j : ℕ) → IsTrue (is_sorted name_cmp (link
           (λ at. ap (place_at g') at ∙ edit.old ∙ sym (unlinked_here g n x there) ∙ sym (ap (place_at (unlinked g n x)) at))
           (λ not_n. edit.others j not_n other ∙ sym (unlinked_elsewhere g n x j not_n))
 
-module _ (g g' : Graph) (rising : (j : ℕ) → IsTrue (is_sorted name_cmp (links_at g j))) (n : ℕ) (x z : Name) (s : ℕ) (from : node_at g n ≡ Some IsDir) (there : is_some (place_at g n) ≡ true) where
+module _ (g g' : Slots) (rising : (j : ℕ) → IsTrue (is_sorted name_cmp (links_at g j))) (n : ℕ) (x z : Name) (s : ℕ) (from : node_at g n ≡ Some IsDir) (there : is_some (place_at g n) ≡ true) where
   -- a name that becomes another in its directory
   pub turned_in : Turns g g' n x z s → Rewires g g' n x n z s
   turned_in edit = record {
@@ -181,7 +181,7 @@ module _ (g g' : Graph) (rising : (j : ℕ) → IsTrue (is_sorted name_cmp (link
 
 -- ---- renames
 
-module _ (g : Graph) (forest : IsForest g) (p q : Key) (n s m : ℕ) (may : Renames (tree_of g) p q)
+module _ (g : Slots) (forest : IsForest g) (p q : Key) (n s m : ℕ) (may : Renames (tree_of g) p q)
     (from : walk g (parent_of p) ≡ Some n) (leads : child g n (last_of p) ≡ Some s) (to : walk g (parent_of q) ≡ Some m) where
   -- the old path is its parent and its last name
   old_key : p ≡ parent_of p ++ last_of p ∷ []
@@ -192,7 +192,7 @@ module _ (g : Graph) (forest : IsForest g) (p q : Key) (n s m : ℕ) (may : Rena
   new_key = parent_and_last q may.new_named
 
   -- the edits are those of a link that leads elsewhere
-  relinks : (g' : Graph) → Links (unlinked g n (last_of p)) g' m (last_of q) s → Relinks g (unlinked g n (last_of p)) g' (parent_of p) n (last_of p) s (parent_of q) m (last_of q)
+  relinks : (g' : Slots) → Links (unlinked g n (last_of p)) g' m (last_of q) s → Relinks g (unlinked g n (last_of p)) g' (parent_of p) n (last_of p) s (parent_of q) m (last_of q)
   relinks g' adds = record {
     from = from;
     moves = walk_on g (parent_of p) n (last_of p) s from leads;
@@ -207,7 +207,7 @@ module _ (g : Graph) (forest : IsForest g) (p q : Key) (n s m : ℕ) (may : Rena
       apart = (λ i. after_prefix (sym old_key i) (sym new_key i)) ∙ may.beside
 
   -- the tree after the edits, where the nodes that are reached are kept
-  pub renamed_by : (g' : Graph) → Links (unlinked g n (last_of p)) g' m (last_of q) s → ((j : ℕ) → IsTrue (is_sorted name_cmp (links_at g' j))) → ((k : Key) (j : ℕ) → walk g' k ≡ Some j → node_at g' j ≡ node_at g j)
+  pub renamed_by : (g' : Slots) → Links (unlinked g n (last_of p)) g' m (last_of q) s → ((j : ℕ) → IsTrue (is_sorted name_cmp (links_at g' j))) → ((k : Key) (j : ℕ) → walk g' k ≡ Some j → node_at g' j ≡ node_at g j)
       → IsForest g' × (tree_of g' ≡ renamed (tree_of g) p q)
   renamed_by g' adds rising kept =
       let edits = relinks g' adds in
@@ -218,11 +218,11 @@ module _ (g : Graph) (forest : IsForest g) (p q : Key) (n s m : ℕ) (may : Rena
       )
 
   -- where nothing stood at the new path
-  pub renamed_free : (g' : Graph) → Rewires g g' n (last_of p) m (last_of q) s → IsForest g' × (tree_of g' ≡ renamed (tree_of g) p q)
+  pub renamed_free : (g' : Slots) → Rewires g g' n (last_of p) m (last_of q) s → IsForest g' × (tree_of g' ≡ renamed (tree_of g) p q)
   renamed_free g' edit = renamed_by g' edit.links edit.rising (λ k j w. edit.kept j)
 
   -- the place of the node that stood at the new path is given back
-  pub renamed_onto : (g' g'' : Graph) (v : ℕ) → child g m (last_of q) ≡ Some v → Rewires g g' n (last_of p) m (last_of q) s → Sets g' g'' v None → IsForest g'' × (tree_of g'' ≡ renamed (tree_of g) p q)
+  pub renamed_onto : (g' g'' : Slots) (v : ℕ) → child g m (last_of q) ≡ Some v → Rewires g g' n (last_of p) m (last_of q) s → Sets g' g'' v None → IsForest g'' × (tree_of g'' ≡ renamed (tree_of g) p q)
   renamed_onto g' g'' v old edit gone = renamed_by g'' links rising kept
     where
       at_q : walk g (parent_of q ++ last_of q ∷ []) ≡ Some v
@@ -270,7 +270,7 @@ module _ (g : Graph) (forest : IsForest g) (p q : Key) (n s m : ℕ) (may : Rena
           ap node_of (gone.elsewhere j (λ at. before.2 (forest.once before.0 (parent_of q ++ last_of q ∷ []) v (before.1 ∙ ap Some at) at_q))) ∙ edit.kept j
 
 -- what had a place has one where another directory is written
-pub still_placed : (g g' : Graph) (n : ℕ) (new : Place) (j : ℕ) → Sets g g' n (Some new) → is_some (place_at g j) ≡ true → is_some (place_at g' j) ≡ true
+pub still_placed : (g g' : Slots) (n : ℕ) (new : Place) (j : ℕ) → Sets g g' n (Some new) → is_some (place_at g j) ≡ true → is_some (place_at g' j) ≡ true
 still_placed g g' n new j edit there = which j n (is_some (place_at g' j) ≡ true)
     (λ at. ap (λ i. is_some (place_at g' i)) at ∙ ap is_some edit.here)
     (λ other. ap is_some (edit.elsewhere j other) ∙ there)

@@ -4,7 +4,7 @@ use Rattle.std.specs.FinMap.{find, is_sorted}
 use Rattle.fs_names.specs.Names.{Name, name_cmp}
 use Rattle.fs_names.specs.Keys.{Key}
 use Rattle.fs_calls.specs.Tree.{look, root_tree}
-use Rattle.fs_seq.specs.code.Graph.{Dir, Graph, place_at, node_of, links_at, child, walk_from, walk, spelled, tree_of, IsForest}
+use Rattle.fs_seq.specs.code.Slots.{Dir, Slots, place_at, node_of, links_at, child, walk_from, walk, spelled, tree_of, IsForest}
 use Rattle.fs_seq.proofs.GraphLemmas.{is_tree_of}
 use Rattle.fs_seq.proofs.Edits.{nat_same, nat_differ}
 use Rattle.fs_seq.proofs.Resolving.{spelled_at, spelled_none}
@@ -15,7 +15,7 @@ use Rattle.fs_seq.specs.code.Nodes.{graph, pairs, slot_place}
 use Rattle.fs_seq.proofs.SlabLemmas.{sets_slot}
 use Rattle.fs_seq.proofs.NodeLemmas.{child_got, links_got}
 
-module _ (g : Graph) (root : place_at g 0 ≡ Some (Dir [])) (others : (j : ℕ) → j ≢ 0 → place_at g j ≡ None) where
+module _ (g : Slots) (root : place_at g 0 ≡ Some (Dir [])) (others : (j : ℕ) → j ≢ 0 → place_at g j ≡ None) where
   -- there are no links
   no_links : (j : ℕ) → links_at g j ≡ []
   no_links j =

@@ -7,7 +7,7 @@ use Rattle.std.specs.FinMap.Entries.{by_order, below_all}
 use Rattle.fs_names.specs.Names.{Name, name_cmp, same_name}
 use Rattle.fs_names.proofs.Lemmas.{name_total, name_exact, same_name_refl}
 use Rattle.fs_seq.specs.declared.nodes.Link.{Link}
-use Rattle.fs_seq.specs.code.Nodes.{pair, pairs, without, StandsAt, BelongsAt, Searches}
+use Rattle.fs_seq.specs.code.Nodes.{pair, pairs, without, IsNameAt, BelongsAt, Searches}
 
 -- the first of two
 both_first : (a b : Bool) → T (a && b) → T a
@@ -119,9 +119,9 @@ one_more : (i n : ℕ) → i < n → suc i < suc n
 one_more i n h = omega arith
 
 -- where a name is found, it stands
-pub standing : (x : Name) (links : List Link) (i : ℕ) → T (is_sorted name_cmp (pairs links)) → i < length links → ((d : Link) → name_cmp (get_or links i d).name x ≡ Equal) → StandsAt (pairs links) x i
-standing x [] i sorted h at = absurd (omega arith)
-standing x (l ∷ links) zero sorted h at =
+pub in_place : (x : Name) (links : List Link) (i : ℕ) → T (is_sorted name_cmp (pairs links)) → i < length links → ((d : Link) → name_cmp (get_or links i d).name x ≡ Equal) → IsNameAt (pairs links) x i
+in_place x [] i sorted h at = absurd (omega arith)
+in_place x (l ∷ links) zero sorted h at =
     let same : l.name ≡ x = name_exact l.name x (at l) in
     let here : same_name x l.name ≡ true = ap (same_name x) same ∙ same_name_refl x in
     record {
@@ -130,12 +130,12 @@ standing x (l ∷ links) zero sorted h at =
       found = ap (λ b. cond {A = Option ℕ} b (Some l.node) (find name_cmp x (pairs links))) here;
       others = sym (ap (λ b. cond {A = List (Name × ℕ)} (not b) (pair l ∷ without x (pairs links)) (without x (pairs links))) here ∙ kept_all x (pairs links) (subst (λ y. T (below_all name_cmp y (pairs links))) same (both_first _ _ sorted)));
     }
-standing x (l ∷ links) (suc i) sorted h at =
+in_place x (l ∷ links) (suc i) sorted h at =
     let same : (get_or links i l).name ≡ x = name_exact _ x (at l) in
     let less : name_cmp l.name x ≡ Less = ap (name_cmp l.name) (sym same) ∙ below_each l.name links i l (both_first _ _ sorted) (omega arith) in
     let apart : same_name x l.name ≡ false = ap is_eq (turned x l.name Less less) in
     let near : i < length links = omega arith in
-    let rest : StandsAt (pairs links) x i = standing x links i (both_second _ _ sorted) near at in
+    let rest : IsNameAt (pairs links) x i = in_place x links i (both_second _ _ sorted) near at in
     record {
       within = one_more i (length (pairs links)) rest.within;
       named = rest.named;
@@ -149,7 +149,7 @@ true_T b e = subst T (sym e) tt
 
 -- what a binary search answers
 pub searched : (x : Name) (links : List Link) (r : Result ℕ ℕ) → is_sorted name_cmp (pairs links) ≡ true → IsSearchInRange r (length links) → IsBinarySearchResult (λ (l : Link). name_cmp l.name x) links r → Searches (pairs links) x r
-searched x links (Ok i) sorted range at = standing x links i (true_T _ sorted) range at
+searched x links (Ok i) sorted range at = in_place x links i (true_T _ sorted) range at
 searched x links (Err i) sorted range at =
     let cut = at (searchable x links (true_T _ sorted)) in
     parted x links i (record { lower = λ k d h. cut.0 k d (omega arith) h; higher = λ k d h g. cut.1 k d h g; within = range })

@@ -5,7 +5,7 @@ use Rattle.slab.specs.Slab.{Slab, get, with_value, Updates}
 use Rattle.fs_names.specs.Names.{Name}
 use Rattle.fs_seq.specs.declared.nodes.Link.{Link}
 use Rattle.fs_seq.specs.declared.nodes.Node.{Node}
-use Rattle.fs_seq.specs.code.Graph.{Place, Dir, File, place_at, links_at, Sets}
+use Rattle.fs_seq.specs.code.Slots.{Place, Dir, File, place_at, links_at, Sets}
 use Rattle.fs_seq.specs.code.Nodes.{pair, pairs, place, slot_place, graph}
 use Rattle.fs_seq.proofs.NodeLemmas.{place_of_slot, place_got, place_missing, links_got}
 use Rattle.fs_seq.specs.code.Effects.{Attaches, Detaches}

@@ -5,14 +5,14 @@ use Rattle.std.proofs.lemmas.List.{length-map}
 use Rattle.std.proofs.lemmas.Bool.Decides.{nat_tests}
 use Rattle.fs_names.specs.Names.{Name}
 use Rattle.fs_names.specs.Keys.{Key, is_root, parent_of, last_of}
-use Rattle.fs_names.specs.First.{on, or_else}
+use Rattle.fs_names.specs.Failures.{check, or_else}
 use Rattle.fs_calls.specs.declared.errno.Errno.{Errno}
 use Rattle.fs_calls.specs.declared.errno.Errno.TheVariants.{Eexist, Enospc}
 use Rattle.fs_calls.specs.Tree.{Tree}
-use Rattle.fs_calls.specs.Shapes.{Shape, seen, is_there, is_full}
+use Rattle.fs_calls.specs.Shapes.{Shape, tree_shapes, is_there, is_full}
 use Rattle.fs_calls.specs.Shapes as shapes
 use Rattle.fs_calls.specs.Outcomes.{parents_resolution}
-use Rattle.fs_seq.specs.code.Graph.{Place, Dir, File, Graph, links_at, walk, tree_of, shape_of, shape_at, IsForest}
+use Rattle.fs_seq.specs.code.Slots.{Place, Dir, File, Slots, links_at, walk, tree_of, shape_of, shape_at, IsForest}
 use Rattle.fs_seq.specs.code.Nodes.{IsTaken, IsFree}
 use Rattle.fs_seq.specs.code.Effects.{making_fault, IsGap}
 use Rattle.fs_seq.proofs.Resolving.{walk_on, walk_off, seen_at, seen_none}
@@ -29,7 +29,7 @@ pub root : (p : Key) → length p ≡ 0 → is_root p ≡ true
 root [] e = refl
 root (x ∷ p) e = absurd (omega arith)
 
-module _ (g : Graph) (forest : IsForest g) (p : Key) (named : 0 < length p) (dir i : ℕ) where
+module _ (g : Slots) (forest : IsForest g) (p : Key) (named : 0 < length p) (dir i : ℕ) where
   -- a name that was found: the parent is well, and the path leads to the node
   pub taken_parents : (n : ℕ) → IsTaken g p dir i n → parents_resolution (tree_of g) p ≡ None
   taken_parents n spot = parents_found g p dir _ forest spot.parent spot.directory
@@ -39,7 +39,7 @@ module _ (g : Graph) (forest : IsForest g) (p : Key) (named : 0 < length p) (dir
   taken_walk n spot = ap (walk g) (parent_and_last p named) ∙ walk_on g (parent_of p) dir (last_of p) n spot.parent spot.leads
 
   -- what is seen at the path
-  pub taken_seen : (n : ℕ) → IsTaken g p dir i n → seen (tree_of g) p ≡ shape_at g n
+  pub taken_seen : (n : ℕ) → IsTaken g p dir i n → tree_shapes (tree_of g) p ≡ shape_at g n
   taken_seen n spot = seen_at g p n forest (taken_walk n spot)
 
   -- a name that was not: the parent is well, and nothing is at the path
@@ -47,36 +47,36 @@ module _ (g : Graph) (forest : IsForest g) (p : Key) (named : 0 < length p) (dir
   free_parents entries spot = parents_found g p dir _ forest spot.parent spot.directory
 
   -- nothing is seen at the path
-  pub free_seen : (entries : ℕ) → IsFree g p dir i entries → seen (tree_of g) p ≡ None
+  pub free_seen : (entries : ℕ) → IsFree g p dir i entries → tree_shapes (tree_of g) p ≡ None
   free_seen entries spot =
       seen_none g p forest (ap (walk g) (parent_and_last p named) ∙ walk_off g (parent_of p) dir (last_of p) spot.parent (child_got g dir (last_of p) _ spot.directory ∙ spot.belongs.absent))
 
   -- what is seen at the parent
-  pub free_dir : (entries : ℕ) → IsFree g p dir i entries → seen (tree_of g) (parent_of p) ≡ Some (shapes.Dir (map (λ l. l.0) (links_at g dir)))
+  pub free_dir : (entries : ℕ) → IsFree g p dir i entries → tree_shapes (tree_of g) (parent_of p) ≡ Some (shapes.Dir (map (λ l. l.0) (links_at g dir)))
   free_dir entries spot = seen_at g (parent_of p) dir forest spot.parent ∙ ap shape_of spot.directory
 
   -- whether the parent is full
-  pub free_full : (entries : ℕ) → IsFree g p dir i entries → is_full (seen (tree_of g) (parent_of p)) ≡ nat_le 256 entries
+  pub free_full : (entries : ℕ) → IsFree g p dir i entries → is_full (tree_shapes (tree_of g) (parent_of p)) ≡ nat_le 256 entries
   free_full entries spot = ap is_full (free_dir entries spot) ∙ ap (nat_le 256) (length-map (links_at g dir) (λ (l : Name × ℕ). l.0) ∙ sym spot.count)
 
 -- ---- the errors of the calls that make a node
 
 -- the errors of making a node by what is seen
 abbrev making_by : Bool → Option Errno → Bool → Bool → Option Errno
-making_by root lost there full = or_else (on root Eexist) (or_else lost (or_else (on there Eexist) (or_else (on full Enospc) None)))
+making_by root lost there full = or_else (check root Eexist) (or_else lost (or_else (check there Eexist) (or_else (check full Enospc) None)))
 
 -- a shape sees whether it is the root, the parent's error, whether something is there and whether the parent is full
-making_shape : (t : Tree) (p : Key) → making_fault t p ≡ making_by (is_root p) (parents_resolution t p) (is_there (seen t p)) (is_full (seen t (parent_of p)))
+making_shape : (t : Tree) (p : Key) → making_fault t p ≡ making_by (is_root p) (parents_resolution t p) (is_there (tree_shapes t p)) (is_full (tree_shapes t (parent_of p)))
 unfolding making_fault
 making_shape t p = refl
 
 -- the error at the root
 pub making_root : (t : Tree) (p : Key) → length p ≡ 0 → making_fault t p ≡ Some Eexist
-making_root t p e = making_shape t p ∙ ap (λ b. making_by b (parents_resolution t p) (is_there (seen t p)) (is_full (seen t (parent_of p)))) (root p e)
+making_root t p e = making_shape t p ∙ ap (λ b. making_by b (parents_resolution t p) (is_there (tree_shapes t p)) (is_full (tree_shapes t (parent_of p)))) (root p e)
 
 -- the error of the parent
 pub making_lost : (t : Tree) (p : Key) (e : Errno) → 0 < length p → parents_resolution t p ≡ Some e → making_fault t p ≡ Some e
-making_lost t p e named lost = making_shape t p ∙ (λ i. making_by (not_root p named i) (lost i) (is_there (seen t p)) (is_full (seen t (parent_of p))))
+making_lost t p e named lost = making_shape t p ∙ (λ i. making_by (not_root p named i) (lost i) (is_there (tree_shapes t p)) (is_full (tree_shapes t (parent_of p))))
 
 -- what is seen is there
 there_is : (o : Option Shape) → is_some o ≡ true → is_there o ≡ true
@@ -90,28 +90,28 @@ some_shape (Some (Dir links)) e = refl
 some_shape (Some (File bytes)) e = refl
 
 -- the error of a name that is there
-pub making_taken : (g : Graph) (p : Key) (dir i n : ℕ) → IsForest g → 0 < length p → IsTaken g p dir i n → making_fault (tree_of g) p ≡ Some Eexist
+pub making_taken : (g : Slots) (p : Key) (dir i n : ℕ) → IsForest g → 0 < length p → IsTaken g p dir i n → making_fault (tree_of g) p ≡ Some Eexist
 making_taken g p dir i n forest named spot =
-    let there : is_there (seen (tree_of g) p) ≡ true = there_is _ (ap is_some (taken_seen g forest p named dir i n spot) ∙ some_shape _ (forest.inside p n (taken_walk g forest p named dir i n spot))) in
-    making_shape (tree_of g) p ∙ (λ j. making_by (not_root p named j) (taken_parents g forest p named dir i n spot j) (there j) (is_full (seen (tree_of g) (parent_of p))))
+    let there : is_there (tree_shapes (tree_of g) p) ≡ true = there_is _ (ap is_some (taken_seen g forest p named dir i n spot) ∙ some_shape _ (forest.inside p n (taken_walk g forest p named dir i n spot))) in
+    making_shape (tree_of g) p ∙ (λ j. making_by (not_root p named j) (taken_parents g forest p named dir i n spot j) (there j) (is_full (tree_shapes (tree_of g) (parent_of p))))
 
 -- the error of a name that is not there
-making_free : (g : Graph) (p : Key) (dir i entries : ℕ) → IsForest g → 0 < length p → IsFree g p dir i entries → (b : Bool) → nat_le 256 entries ≡ b → making_fault (tree_of g) p ≡ on b Enospc
+making_free : (g : Slots) (p : Key) (dir i entries : ℕ) → IsForest g → 0 < length p → IsFree g p dir i entries → (b : Bool) → nat_le 256 entries ≡ b → making_fault (tree_of g) p ≡ check b Enospc
 making_free g p dir i entries forest named spot b e =
     making_shape (tree_of g) p
     ∙ (λ j. making_by (not_root p named j) (free_parents g forest p named dir i entries spot j) (is_there (free_seen g forest p named dir i entries spot j)) ((free_full g forest p named dir i entries spot ∙ e) j))
-    ∙ alone (on b Enospc)
+    ∙ alone (check b Enospc)
   where
     alone : (z : Option Errno) → or_else z None ≡ z
     alone None = refl
     alone (Some e) = refl
 
 -- the error of a full directory
-pub making_full : (g : Graph) (p : Key) (dir i entries : ℕ) → IsForest g → 0 < length p → IsFree g p dir i entries → 256 ≤ entries → making_fault (tree_of g) p ≡ Some Enospc
+pub making_full : (g : Slots) (p : Key) (dir i entries : ℕ) → IsForest g → 0 < length p → IsFree g p dir i entries → 256 ≤ entries → making_fault (tree_of g) p ≡ Some Enospc
 making_full g p dir i entries forest named spot h = making_free g p dir i entries forest named spot true (grind (arith, nat_tests))
 
 -- a name that can be made
-pub is_gap : (g : Graph) (p : Key) (dir i entries : ℕ) → IsForest g → 0 < length p → IsFree g p dir i entries → entries < 256 → IsGap g p dir i
+pub is_gap : (g : Slots) (p : Key) (dir i entries : ℕ) → IsForest g → 0 < length p → IsFree g p dir i entries → entries < 256 → IsGap g p dir i
 is_gap g p dir i entries forest named spot h = record {
   sound = making_free g p dir i entries forest named spot false (grind (arith, nat_tests));
   named = named;

@@ -3,7 +3,7 @@ use Rattle.std.proofs.Common.{◌≡◌, ℕ, ◌+◌, Bool, true, false, cond, 
 use Rattle.std.specs.Prelude.{nat_lt}
 use Rattle.slab.specs.Slab.{Slab, get, with_value}
 use Rattle.fs_names.specs.Keys.{Key}
-use Rattle.fs_names.specs.First.{on, or_else}
+use Rattle.fs_names.specs.Failures.{check, or_else}
 use Rattle.fs_calls.specs.declared.call.Call.TheVariants.{Write, Truncate}
 use Rattle.fs_calls.specs.declared.errno.Errno.{Errno}
 use Rattle.fs_calls.specs.declared.errno.Errno.TheVariants.{Efbig}
@@ -12,12 +12,12 @@ use Rattle.fs_calls.specs.declared.reply.Reply.TheVariants as replies
 use Rattle.fs_seq.specs.declared.nodes.Node.{Node}
 use Rattle.fs_calls.specs.Tree.{Tree, inserted}
 use Rattle.fs_calls.specs.Tree as tree
-use Rattle.fs_calls.specs.Shapes.{seen, has_any, bytes_of}
+use Rattle.fs_calls.specs.Shapes.{tree_shapes, has_any, bytes_of}
 use Rattle.fs_calls.proofs.RowNames.{writing, truncating}
 use Rattle.fs_calls.specs.Outcomes.{fault, filled}
 use Rattle.fs_calls.specs.Rows.{written, resized}
 use Rattle.fs_seq.specs.Memory.{needs_memory}
-use Rattle.fs_seq.specs.code.Graph.{File, place_at, walk, tree_of, IsForest}
+use Rattle.fs_seq.specs.code.Slots.{File, place_at, walk, tree_of, IsForest}
 use Rattle.fs_seq.specs.code.Nodes.{place, graph}
 use Rattle.fs_seq.specs.code.Effects.{Answers, Gives, Fills, overflow, too_long, written_if_any, IsSeen}
 use Rattle.fs_seq.proofs.NodeLemmas.{place_got}
@@ -80,9 +80,9 @@ module _ (s : Slab Node) (p : Key) (n : ℕ) (node node' : Node) (old new : List
   write_fault off bytes = there_fault (Write p off bytes) p (λ found there. writing found there off bytes) (λ there. replies.Wrote (length bytes)) (write_looks p off bytes) (tree_of (graph s)) (File old) file_seen ∙ alone (overflow off bytes)
 
   -- a write of nothing leaves the tree
-  gives_written : (off : ℕ) (bytes : List ℕ) (well : Reply) (some : Bool) (r : Reply) (big : Bool) → Fills old new (on (some && big) Efbig) well (cond some (written old off bytes) old) r
-      → Gives (graph s) (graph (with_value s n node')) (on (some && big) Efbig) well (cond some (inserted (tree_of (graph s)) p (tree.File (written old off bytes))) (tree_of (graph s))) r
-  gives_written off bytes well true r big fills = gives_filled (on big Efbig) well (written old off bytes) r fills
+  gives_written : (off : ℕ) (bytes : List ℕ) (well : Reply) (some : Bool) (r : Reply) (big : Bool) → Fills old new (check (some && big) Efbig) well (cond some (written old off bytes) old) r
+      → Gives (graph s) (graph (with_value s n node')) (check (some && big) Efbig) well (cond some (inserted (tree_of (graph s)) p (tree.File (written old off bytes))) (tree_of (graph s))) r
+  gives_written off bytes well true r big fills = gives_filled (check big Efbig) well (written old off bytes) r fills
   gives_written off bytes well false r big fills = record { reply = fills.reply; tree = ap tree_of (stays fills.bytes); forest = subst IsForest (sym (stays fills.bytes)) forest }
 
   -- a file is filled where there is something to write
@@ -95,7 +95,7 @@ module _ (s : Slab Node) (p : Key) (n : ℕ) (node node' : Node) (old new : List
   is_written off bytes r fills = answers (graph s) (graph (with_value s n node')) (Write p off bytes) (overflow off bytes) (replies.Wrote (length bytes))
       (cond (has_any bytes) (inserted (tree_of (graph s)) p (tree.File (written old off bytes))) (tree_of (graph s))) r
       (write_fault off bytes) refl
-      (filled_if (has_any bytes) (written (bytes_of (seen (tree_of (graph s)) p)) off bytes) ∙ ap (λ b. cond (has_any bytes) (inserted (tree_of (graph s)) p (tree.File (written b off bytes))) (tree_of (graph s))) (bytes_there (tree_of (graph s)) p (File old) file_seen))
+      (filled_if (has_any bytes) (written (bytes_of (tree_shapes (tree_of (graph s)) p)) off bytes) ∙ ap (λ b. cond (has_any bytes) (inserted (tree_of (graph s)) p (tree.File (written b off bytes))) (tree_of (graph s))) (bytes_there (tree_of (graph s)) p (File old) file_seen))
       (gives_written off bytes (replies.Wrote (length bytes)) (has_any bytes) r (nat_lt 65536 (off + length bytes)) fills)
 
   -- a write that needs memory

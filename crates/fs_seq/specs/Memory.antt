@@ -2,7 +2,7 @@
 use Rattle.std.specs.Prelude.{◌+◌, Bool, true, false, not, ◌&&◌, nat_lt, length, take, drop, is_some}
 use Rattle.fs_names.specs.Keys.{parent_of}
 use Rattle.fs_calls.specs.Tree.{Tree}
-use Rattle.fs_calls.specs.Shapes.{seen, is_missing, has_any, has_entries, bytes_of}
+use Rattle.fs_calls.specs.Shapes.{tree_shapes, is_missing, has_any, has_entries, bytes_of}
 use Rattle.fs_calls.specs.Outcomes.{fault}
 use Rattle.fs_calls.specs.Sights.{is_same}
 use Rattle.fs_calls.specs.declared.call.Call.{Call}
@@ -14,12 +14,12 @@ takes_memory t (Mkdir p) = true
 takes_memory t (Mknod p) = true
 takes_memory t (Unlink p) = false
 takes_memory t (Rmdir p) = false
-takes_memory t (Rename p q) = is_missing (seen t q) && not (is_same (parent_of p) (parent_of q))
+takes_memory t (Rename p q) = is_missing (tree_shapes t q) && not (is_same (parent_of p) (parent_of q))
 takes_memory t (Stat p) = false
-takes_memory t (Readdir p) = has_entries (seen t p)
-takes_memory t (Read p off count) = has_any (take count (drop off (bytes_of (seen t p))))
-takes_memory t (Write p off bytes) = has_any bytes && nat_lt (length (bytes_of (seen t p))) (off + length bytes)
-takes_memory t (Truncate p size) = nat_lt (length (bytes_of (seen t p))) size
+takes_memory t (Readdir p) = has_entries (tree_shapes t p)
+takes_memory t (Read p off count) = has_any (take count (drop off (bytes_of (tree_shapes t p))))
+takes_memory t (Write p off bytes) = has_any bytes && nat_lt (length (bytes_of (tree_shapes t p))) (off + length bytes)
+takes_memory t (Truncate p size) = nat_lt (length (bytes_of (tree_shapes t p))) size
 
 -- a call with an error takes none
 unfoldable pub needs_memory : Tree → Call → Bool

@@ -1,5 +1,5 @@
 -- What ties the code to the definitions: of it nothing has to be believed.
-pub mod Graph
+pub mod Slots
 pub mod Nodes
 pub mod Effects
 pub mod Renaming

@@ -4,7 +4,7 @@ ghost use Rattle.std.specs.Prelude.{◌≡◌, ◌≤◌, Some, None, [], length
 ghost use Rattle.fs_calls.specs.Tree.{inserted};
 ghost use Rattle.fs_seq.specs.Memory.{needs_memory};
 ghost use Rattle.fs_seq.specs.code.Nodes.{graph, place};
-ghost use Rattle.fs_seq.specs.code.Graph.{IsForest, place_at, links_at, links_of, tree_of, Dir as IsDir};
+ghost use Rattle.fs_seq.specs.code.Slots.{IsForest, place_at, links_at, links_of, tree_of, Dir as IsDir};
 ghost use Rattle.fs_seq.specs.code.Effects.{Answers, Attaches, FindsGap, Gives, making_fault, tree_node};
 
 use crate::nodes::{Link, Node, Spot, add_link, look_up};

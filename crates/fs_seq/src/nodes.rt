@@ -5,7 +5,7 @@ ghost use Rattle.std.specs.FinMap.{is_sorted};
 ghost use Rattle.slab.specs.Slab.{ContainsKey, HasRoomFor};
 ghost use Rattle.fs_names.specs.Names.{name_cmp};
 ghost use Rattle.fs_seq.specs.code.Nodes.{pair, pairs, graph, Searches, Steps, Resolves, LooksUp};
-ghost use Rattle.fs_seq.specs.code.Graph.{IsForest, Sets, place_at, links_at, Dir as IsDir};
+ghost use Rattle.fs_seq.specs.code.Slots.{IsForest, Sets, place_at, links_at, Dir as IsDir};
 
 use fs_calls::Errno;
 use fs_names::{Name, Path};

@@ -5,7 +5,7 @@ ghost use Rattle.fs_calls.specs.Outcomes.{reply, resolution};
 ghost use Rattle.fs_calls.specs.Shapes.{has_any};
 ghost use Rattle.fs_seq.specs.Memory.{needs_memory};
 ghost use Rattle.fs_seq.specs.code.Nodes.{graph, pairs, place};
-ghost use Rattle.fs_seq.specs.code.Graph.{IsForest, tree_of};
+ghost use Rattle.fs_seq.specs.code.Slots.{IsForest, tree_of};
 ghost use Rattle.fs_seq.specs.code.Effects.{IsSeen};
 
 use crate::nodes::{Link, Node, resolve};

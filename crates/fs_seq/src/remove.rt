@@ -2,7 +2,7 @@
 
 ghost use Rattle.std.specs.Prelude.{◌≡◌, ◌<◌, Some, length};
 ghost use Rattle.fs_seq.specs.code.Nodes.{graph};
-ghost use Rattle.fs_seq.specs.code.Graph.{IsForest, place_at, links_at, Dir as IsDir};
+ghost use Rattle.fs_seq.specs.code.Slots.{IsForest, place_at, links_at, Dir as IsDir};
 ghost use Rattle.fs_seq.specs.code.Effects.{Answers, Detaches, FindsEntry, FindsVictim};
 
 use crate::nodes::{Node, Spot, look_up, remove_link};

@@ -26,7 +26,7 @@ impl Model for SeqTree {
     ghost Value = { Tree };
 
     ghost use Rattle.fs_seq.specs.code.Nodes.{graph};
-    ghost use Rattle.fs_seq.specs.code.Graph.{tree_of, IsForest};
+    ghost use Rattle.fs_seq.specs.code.Slots.{tree_of, IsForest};
 
     ghost view = { λ s. tree_of (graph s.nodes) };
 

@@ -5,7 +5,7 @@ ghost use Rattle.fs_calls.specs.Rows.{written, resized};
 ghost use Rattle.fs_calls.specs.Shapes.{has_any};
 ghost use Rattle.fs_seq.specs.Memory.{needs_memory};
 ghost use Rattle.fs_seq.specs.code.Nodes.{graph};
-ghost use Rattle.fs_seq.specs.code.Graph.{IsForest, tree_of};
+ghost use Rattle.fs_seq.specs.code.Slots.{IsForest, tree_of};
 ghost use Rattle.fs_seq.specs.code.Effects.{Answers, Fills, overflow, too_long, written_if_any};
 
 use crate::nodes::{Node, resolve};

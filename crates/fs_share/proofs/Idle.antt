@@ -7,7 +7,7 @@ use Rattle.fs_timeline.specs.Timeline.{has_begun, has_returned}
 use Rattle.fs_timeline.specs.declared.entry.Entry.{Entry}
 use Rattle.fs_timeline.specs.declared.entry.Entry.TheVariants.{Begin, Commit, Return}
 use Rattle.fs_machine.specs.Records.{Record}
-use Rattle.fs_laws.specs.Books.{Book, start, noted, commit_of, book_of}
+use Rattle.fs_laws.specs.JournalViews.{Book, start, noted, commit_of, book_of}
 use Rattle.fs_laws.specs.Headline.{IsIdle}
 use Rattle.fs_laws.specs.Invariants.{Invariant}
 use Rattle.fs_laws.specs.States.{State, Run}
@@ -24,7 +24,7 @@ same_call : (o : Option Call) (book : Book) (n : ℕ) → (commit_of book n o).c
 same_call None book n = refl
 same_call (Some call) book n = refl
 
--- who has not returned by the book has not returned by the entries
+-- who has not returned by the view has not returned by the entries
 not_back : (book : Book) (es : List Entry) (c : ℕ) → (book_of book es).back c ≡ false → (book.back c ≡ false) × (has_returned c es ≡ false)
 not_back book [] c e = (e, refl)
 not_back book (Begin n seat call ∷ es) c e = not_back (noted book (Begin n seat call)) es c e
@@ -37,7 +37,7 @@ not_back book (Return n r ∷ es) c e = go (place n true book.back c) (not_back 
     go (Here i j) later = let z : true ≡ false = sym j ∙ later.0 in cc
     go (Else n_c j) later = (sym j ∙ later.0, ap (λ (b : Bool). b || has_returned c es) (ne_eqb c n n_c) ∙ later.1)
 
--- who began by the book began by the entries
+-- who began by the view began by the entries
 begun : (book : Book) (es : List Entry) (c : ℕ) (call : Call) → (book_of book es).call c ≡ Some call → book.call c ≡ None → has_begun c es ≡ true
 begun book [] c call e none = let z : ◌≡◌ {A = Option Call} None (Some call) = sym none ∙ e in cc
 begun book (Begin n seat x ∷ es) c call e none = go (place n (Some x) book.call c) (begun (noted book (Begin n seat x)) es c call e)

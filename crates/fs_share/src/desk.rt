@@ -1,10 +1,10 @@
 //! What the lock keeps: the core, and the account of the calls that returned.
 
 ghost use Rattle.std.specs.Prelude.{◌≡◌, ◌+◌, ◌<◌, ◌^◌, length, sum_by, vec_len, IfOk};
-ghost use Rattle.fs_nodes.specs.Graphs.{spell};
+ghost use Rattle.fs_nodes.specs.Graphs.{graph_shapes};
 ghost use Rattle.fs_nodes.specs.Stores.{graph_of};
 ghost use Rattle.fs_calls.specs.Outcomes.{play};
-ghost use Rattle.fs_calls.specs.Shapes.{seen};
+ghost use Rattle.fs_calls.specs.Shapes.{tree_shapes};
 ghost use Rattle.fs_timeline.specs.Timeline.{IsLawful, commits};
 ghost use Rattle.fs_laws.specs.States.{Begins, Step};
 ghost use Rattle.fs_core.specs.Answers.{stepped_as};
@@ -120,7 +120,7 @@ impl<N: Named> Desk<N> {
     pub fn close(self, whole: Whole<N>, tallies: Vec<Tally<N>>) -> Closed
         ensures sessions { result.sessions ≡ length self.core.seats }
         ensures lawful { IsLawful result.timeline.entries }
-        ensures spelled { AllReturned result.timeline.entries → spell (graph_of result.store) ≡ seen (play (commits result.timeline.entries)) }
+        ensures spelled { AllReturned result.timeline.entries → graph_shapes (graph_of result.store) ≡ tree_shapes (play (commits result.timeline.entries)) }
         ensures returns { vec_len tallies ≡ result.sessions → returns result.timeline.entries ≡ sum_by (λ tally. tally.count) tallies.items }
     {
         let Desk {

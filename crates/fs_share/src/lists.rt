@@ -1,10 +1,10 @@
 //! Lists of calls, each on a thread of its own.
 
 ghost use Rattle.std.specs.Prelude.{◌≡◌, ◌^◌, ℕ, length, vec_len, sum_by, IfOk};
-ghost use Rattle.fs_nodes.specs.Graphs.{spell};
+ghost use Rattle.fs_nodes.specs.Graphs.{graph_shapes};
 ghost use Rattle.fs_nodes.specs.Stores.{graph_of};
 ghost use Rattle.fs_calls.specs.Outcomes.{play};
-ghost use Rattle.fs_calls.specs.Shapes.{seen};
+ghost use Rattle.fs_calls.specs.Shapes.{tree_shapes};
 ghost use Rattle.fs_timeline.specs.Timeline.{IsLawful, commits};
 ghost use Rattle.fs_share.specs.Returns.{returns, AllReturned};
 
@@ -169,7 +169,7 @@ fn run_named<N: Named + Send + Sync, R: Threads + Wait + Clock + Sync, G: Gate +
     requires parts { blank.parts ≡ N.parts }
     requires all { blank.parts ≡ 2 ^ 63 }
     ensures lawful { IfOk result (λ closed. IsLawful closed.timeline.entries) }
-    ensures spelled { IfOk result (λ closed. AllReturned closed.timeline.entries → spell (graph_of closed.store) ≡ seen (play (commits closed.timeline.entries))) }
+    ensures spelled { IfOk result (λ closed. AllReturned closed.timeline.entries → graph_shapes (graph_of closed.store) ≡ tree_shapes (play (commits closed.timeline.entries))) }
     ensures returns { IfOk result (λ closed. returns closed.timeline.entries ≡ sum_by vec_len lists.now) }
 {
     let Ok(fs) = AtomFs::<N>::open(rt, alloc, blank) else {
@@ -192,7 +192,7 @@ pub fn run_lists<R: Threads + Wait + Clock + Sync, G: Gate + Sync>(
     gate: &G,
 ) -> Result<Closed, ListsFault>
     ensures lawful { IfOk result (λ closed. IsLawful closed.timeline.entries) }
-    ensures spelled { IfOk result (λ closed. AllReturned closed.timeline.entries → spell (graph_of closed.store) ≡ seen (play (commits closed.timeline.entries))) }
+    ensures spelled { IfOk result (λ closed. AllReturned closed.timeline.entries → graph_shapes (graph_of closed.store) ≡ tree_shapes (play (commits closed.timeline.entries))) }
     ensures returns { IfOk result (λ closed. returns closed.timeline.entries ≡ sum_by vec_len lists.now) }
 {
     run_named::<Brand, R, G>(rt, alloc, Blank::new(1 << 63), lists, gate)

@@ -1,10 +1,10 @@
 //! A tree that sessions share, and its end.
 
 ghost use Rattle.std.specs.Prelude.{◌≡◌, ◌+◌, ◌<◌, ◌^◌, length, vec_len, sum_by, IfOk};
-ghost use Rattle.fs_nodes.specs.Graphs.{spell};
+ghost use Rattle.fs_nodes.specs.Graphs.{graph_shapes};
 ghost use Rattle.fs_nodes.specs.Stores.{graph_of};
 ghost use Rattle.fs_calls.specs.Outcomes.{play};
-ghost use Rattle.fs_calls.specs.Shapes.{seen};
+ghost use Rattle.fs_calls.specs.Shapes.{tree_shapes};
 ghost use Rattle.fs_timeline.specs.Timeline.{IsLawful, commits};
 ghost use Rattle.fs_share.specs.Returns.{answered, returns, AllReturned};
 
@@ -132,7 +132,7 @@ impl<N: Named> AtomFs<N> {
     /// Ends the tree. It takes no memory.
     pub fn close<R: Wait>(self, _rt: &R, tallies: Vec<Tally<N>>) -> Closed
         ensures lawful { IsLawful result.timeline.entries }
-        ensures spelled { AllReturned result.timeline.entries → spell (graph_of result.store) ≡ seen (play (commits result.timeline.entries)) }
+        ensures spelled { AllReturned result.timeline.entries → graph_shapes (graph_of result.store) ≡ tree_shapes (play (commits result.timeline.entries)) }
 
         // Where each session handed in its tally, as many calls returned as these add up to.
         ensures returns { vec_len tallies ≡ result.sessions → returns result.timeline.entries ≡ sum_by (λ tally. tally.count) tallies.items }

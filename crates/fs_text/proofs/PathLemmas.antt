@@ -7,10 +7,10 @@ use Rattle.std.proofs.lemmas.List.Elements.{All-cons, All-nil, All-append, All-w
 use Rattle.std.proofs.lemmas.Bool.{and_parts, or_from, not-true, leb-true}
 use Rattle.std.proofs.lemmas.Bool.Decides.{nat_tests}
 use Rattle.std.proofs.lemmas.List.{get_or-append-add}
-use Rattle.fs_names.specs.First.{on, or_else}
+use Rattle.fs_names.specs.Failures.{check, or_else}
 use Rattle.fs_names.specs.Names.{Name, can_name, may_stand, is_dots}
 use Rattle.fs_names.specs.Keys.{Key, names_text, path_text}
-use Rattle.fs_names.specs.Reading.{reading, unless, path_fault, names, has_names, has_bytes, is_slash, is_zero, first_fault, name_fault, ends_in_slash}
+use Rattle.fs_names.specs.Reading.{reading, if_sound, path_fault, names, has_names, has_bytes, is_slash, is_zero, first_fault, name_fault, ends_in_slash}
 use Rattle.fs_names.specs.declared.fault.PathFault.TheVariants.{Nul, NameTooLong, TooManyNames, Dot, TrailingSlash}
 use Rattle.fs_text.specs.Words.{path_word, path_of}
 use Rattle.fs_text.specs.Fits.{AreBytes}
@@ -77,8 +77,8 @@ not_many count h = grind (arith, nat_tests)
 not_long : (n : List ℕ) → length n ≤ 32 → ltb 32 (length n) ≡ false
 not_long n h = grind (arith, nat_tests)
 
-not_on : {F : Type 0} (b : Bool) (f : F) → b ≡ false → on b f ≡ None
-not_on b f e = ap (λ t. on t f) e
+not_on : {F : Type 0} (b : Bool) (f : F) → b ≡ false → check b f ≡ None
+not_on b f e = ap (λ t. check t f) e
 
 -- no check fails
 none_fails : {F : Type 0} (a b : Option F) → a ≡ None → b ≡ None → or_else a b ≡ None
@@ -88,9 +88,9 @@ no_fault : (count : ℕ) (ns : Key) → AllByRecursion NameFacts ns → count + 
 no_fault count [] h few = refl
 no_fault count (n ∷ ns) h few =
     none_fails (name_fault count n) (first_fault (count + 1) ns)
-    (none_fails (on (leb 64 count) TooManyNames) _ (not_on _ TooManyNames (not_many count (omega arith)))
-    (none_fails (on (ltb 32 (length n)) NameTooLong) _ (not_on _ NameTooLong (not_long n h.0.short))
-    (none_fails (on (is_dots n) Dot) None (not_on _ Dot h.0.no_dot) refl)))
+    (none_fails (check (leb 64 count) TooManyNames) _ (not_on _ TooManyNames (not_many count (omega arith)))
+    (none_fails (check (ltb 32 (length n)) NameTooLong) _ (not_on _ NameTooLong (not_long n h.0.short))
+    (none_fails (check (is_dots n) Dot) None (not_on _ Dot h.0.no_dot) refl)))
     (no_fault (count + 1) ns h.1 (omega arith))
 
 not_zero : (b : ℕ) → b ≢ 0 → eqb b 0 ≡ false
@@ -145,14 +145,14 @@ some_right n ns h =
     let again = names_again n ns h.names.0 h.names.1 in
     let clean : list_any is_zero bytes ≡ false = none_zero (n ++ names_text ns) (tail_clean n ns h.names.0 h.names.1) in
     let good : first_fault 0 (names bytes) ≡ None = ap (first_fault 0) again ∙ no_fault 0 (n ∷ ns) h.names (omega (arith, h.few)) in
-    none_fails (on (list_any is_zero bytes) Nul) _ (not_on _ Nul clean)
+    none_fails (check (list_any is_zero bytes) Nul) _ (not_on _ Nul clean)
     (none_fails (first_fault 0 (names bytes)) _ good
-    (none_fails (on (has_names (names bytes) && ends_in_slash bytes) TrailingSlash) None (not_on _ TrailingSlash (and_no _ _ (no_end_slash n ns h.names.0 h.names.1))) refl))
+    (none_fails (check (has_names (names bytes) && ends_in_slash bytes) TrailingSlash) None (not_on _ TrailingSlash (and_no _ _ (no_end_slash n ns h.names.0 h.names.1))) refl))
 
 parse_some : (n : Name) (ns : Key) → KeyFacts (n ∷ ns) → reading (path_text (n ∷ ns)) ≡ Ok (n ∷ ns)
 unfolding reading
 parse_some n ns h =
-    ap (λ f. unless f (names (names_text (n ∷ ns)))) (some_right n ns h) ∙ ap Ok (names_again n ns h.names.0 h.names.1)
+    ap (λ f. if_sound f (names (names_text (n ∷ ns)))) (some_right n ns h) ∙ ap Ok (names_again n ns h.names.0 h.names.1)
 
 parse_nil : reading (path_text []) ≡ Ok []
 unfolding reading

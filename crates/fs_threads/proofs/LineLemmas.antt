@@ -11,7 +11,7 @@ use Rattle.fs_sched.specs.Devices.{IsSameText}
 use Rattle.fs_sched.specs.Runs.{calls_in}
 use Rattle.fs_sched.specs.RunTexts.{is_of, number_of}
 use Rattle.fs_sched.specs.declared.fault.RunFault.TheVariants as run
-use Rattle.fs_sched.specs.declared.texts.EntryKind.TheVariants as kind
+use Rattle.fs_sched.specs.declared.run_texts.EntryKind.TheVariants as kind
 use Rattle.fs_sched.proofs.RunLemmas.{script_same, known_script}
 use Rattle.fs_share.specs.Returns.{returns}
 use Rattle.fs_threads.specs.Faults.{IsOfInput}

@@ -3,12 +3,12 @@ use Rattle.std.proofs.Common.{◌≡◌, ℕ, Bool, true, false, ◌||◌, ◌==
 use Rattle.std.specs.List.{list_any}
 use Rattle.std.proofs.lemmas.Bool.{eqb-true, eq-eqb, or_cases, or_left, or_right}
 use Rattle.std.proofs.lemmas.List.Folds.{list_any-append}
-use Rattle.fs_names.specs.First.{or_else}
-use Rattle.fs_names.proofs.FirstLemmas.{or_else-assoc}
+use Rattle.fs_names.specs.Failures.{or_else}
+use Rattle.fs_names.proofs.FailureLemmas.{or_else-assoc}
 use Rattle.fs_calls.specs.Tree.{Tree}
 use Rattle.fs_calls.specs.Outcomes.{play_from, play, after}
 use Rattle.fs_calls.specs.declared.call.Call.{Call}
-use Rattle.fs_timeline.specs.Timeline.{is_begin, is_commit, is_return, has_begun, has_committed, begun_on, last_on, begun_as, call_of, with_call, commits_of, commits, before_commit, told, due, IsNext, Each, IsWellFormed}
+use Rattle.fs_timeline.specs.Timeline.{is_begin, is_commit, is_return, has_begun, has_committed, begun_on, last_on, begun_as, call_of, with_call, commits_of, commits, before_commit, reply_after, due, IsNext, Each, IsWellFormed}
 use Rattle.fs_timeline.specs.declared.entry.Entry.{Entry}
 use Rattle.fs_timeline.specs.declared.entry.Entry.TheVariants.{Begin, Commit, Return}
 use Rattle.fs_timeline.proofs.TimelineLemmas.{append_nil}
@@ -122,14 +122,14 @@ before_commit-first c (f ∷ es) h =
 -- the reply that is due to a call that has committed stays
 pub due-kept : (c : ℕ) (es : List Entry) (e : Entry) → BegunFirst es → has_committed c es ≡ true → due c (es ++ e ∷ []) ≡ due c es
 due-kept c es e begun h =
-    ap (λ b. told (commits b) (call_of c (es ++ e ∷ []))) (before_commit-kept c es e h)
-    ∙ ap (told (commits (before_commit c es))) (call_of-kept c es e (begun c h))
+    ap (λ b. reply_after (commits b) (call_of c (es ++ e ∷ []))) (before_commit-kept c es e h)
+    ∙ ap (reply_after (commits (before_commit c es))) (call_of-kept c es e (begun c h))
 
 -- the reply that is due to a call that commits now
-pub due-first : (c : ℕ) (es : List Entry) → has_begun c es ≡ true → has_committed c es ≡ false → due c (es ++ Commit c ∷ []) ≡ told (commits es) (call_of c es)
+pub due-first : (c : ℕ) (es : List Entry) → has_begun c es ≡ true → has_committed c es ≡ false → due c (es ++ Commit c ∷ []) ≡ reply_after (commits es) (call_of c es)
 due-first c es begun h =
-    ap (λ b. told (commits b) (call_of c (es ++ Commit c ∷ []))) (before_commit-first c es h)
-    ∙ ap (told (commits es)) (call_of-kept c es (Commit c) begun)
+    ap (λ b. reply_after (commits b) (call_of c (es ++ Commit c ∷ []))) (before_commit-first c es h)
+    ∙ ap (reply_after (commits es)) (call_of-kept c es (Commit c) begun)
 
 play_from-push : (t : Tree) (calls : List Call) (call : Call) → play_from t (calls ++ call ∷ []) ≡ after (play_from t calls) call
 play_from-push t [] call = refl

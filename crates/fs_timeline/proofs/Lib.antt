@@ -2,4 +2,4 @@ pub mod TimelineLemmas
 pub mod AppendLemmas
 pub mod ReplyLemmas
 pub mod VerdictLemmas
-pub mod KnowledgeLemmas
+pub mod JournalStateLemmas

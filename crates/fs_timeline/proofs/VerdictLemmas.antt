@@ -1,6 +1,6 @@
 -- Verdicts and lawful timelines.
 use Rattle.std.proofs.Common.{◌≡◌, ℕ, suc, ◌+◌, ◌-◌, Bool, true, false, not, List, [], ◌∷◌, ◌++◌, take, Option, Some, None, refl, sym, subst, ap, arith, ◌⊎◌, inl, inr, ⊎_elim}
-use Rattle.fs_names.specs.First.{on, first}
+use Rattle.fs_names.specs.Failures.{check, first_failure}
 use Rattle.fs_calls.specs.declared.reply.Reply.{Reply}
 use Rattle.fs_timeline.specs.Timeline.{due, IsNext, IsAnswered, Each, IsLawful}
 use Rattle.fs_timeline.specs.Verdicts.{is_due, entry_fault, fault_or, verdict_from, verdict}
@@ -17,12 +17,12 @@ abbrev pub Fits : List Entry → Entry → Type 0
 Fits before e = IsNext before e × IsAnswered before e
 
 -- a first of two and of three checks that finds nothing
-two_none : {F : Type 0} (a b : Bool) (f g : F) → first (on a f ∷ on b g ∷ []) ≡ None → (a ≡ false) × (b ≡ false)
+two_none : {F : Type 0} (a b : Bool) (f g : F) → first_failure (check a f ∷ check b g ∷ []) ≡ None → (a ≡ false) × (b ≡ false)
 two_none true b f g h = absurd (cc)
 two_none false true f g h = absurd (cc)
 two_none false false f g h = (refl, refl)
 
-three_none : {F : Type 0} (a b d : Bool) (f g k : F) → first (on a f ∷ on b g ∷ on d k ∷ []) ≡ None → (a ≡ false) × (b ≡ false) × (d ≡ false)
+three_none : {F : Type 0} (a b d : Bool) (f g k : F) → first_failure (check a f ∷ check b g ∷ check d k ∷ []) ≡ None → (a ≡ false) × (b ≡ false) × (d ≡ false)
 three_none true b d f g k h = absurd (cc)
 three_none false true d f g k h = absurd (cc)
 three_none false false true f g k h = absurd (cc)

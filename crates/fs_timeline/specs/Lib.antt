@@ -1,6 +1,6 @@
 pub mod Timeline
-pub mod Kept
+pub mod TimelineValues
 pub mod Verdicts
-pub mod Knowledge
+pub mod JournalStates
 pub mod Laws
 pub mod Examples

@@ -1,7 +1,7 @@
 -- Timelines: lists of entries, and which of them are well formed and lawful.
 use Rattle.std.specs.Prelude.{◌≡◌, ℕ, ◌+◌, Bool, true, false, List, [], ◌∷◌, ◌++◌, not, map, ◌==◌, if◌then◌else◌, Option, Some, None}
 use Rattle.std.specs.List.{list_any}
-use Rattle.fs_names.specs.First.{or_else, first}
+use Rattle.fs_names.specs.Failures.{or_else, first_failure}
 use Rattle.fs_calls.specs.Outcomes.{play, reply}
 use Rattle.fs_calls.specs.declared.call.Call.{Call}
 use Rattle.fs_calls.specs.declared.reply.Reply.{Reply}
@@ -59,7 +59,7 @@ begun_as c (Commit d) = None
 begun_as c (Return d r) = None
 
 abbrev pub call_of : ℕ → List Entry → Option Call
-call_of c es = first (map (begun_as c) es)
+call_of c es = first_failure (map (begun_as c) es)
 
 -- the calls of the Commit entries, in order; their Begins stand in `whole`
 abbrev pub with_call : Option Call → List Call → List Call
@@ -82,12 +82,12 @@ before_commit c [] = []
 before_commit c (e ∷ es) = if is_commit c e then [] else e ∷ before_commit c es
 
 -- the reply that the sequential tree gives a call after the commits before its own
-abbrev pub told : List Call → Option Call → Option Reply
-told calls None = None
-told calls (Some call) = Some (reply (play calls) call)
+abbrev pub reply_after : List Call → Option Call → Option Reply
+reply_after calls None = None
+reply_after calls (Some call) = Some (reply (play calls) call)
 
 abbrev pub due : ℕ → List Entry → Option Reply
-due c es = told (commits (before_commit c es)) (call_of c es)
+due c es = reply_after (commits (before_commit c es)) (call_of c es)
 
 -- the entry may come next: a call begins once, on a seat whose last call has returned; commits once, after its Begin; returns once, after its Commit
 abbrev pub IsNext : List Entry → Entry → Type 0

@@ -1,6 +1,6 @@
 -- What the checker says of a timeline: the place and the kind of the first entry that does not fit.
 use Rattle.std.specs.Prelude.{ℕ, ◌+◌, Bool, false, List, [], ◌∷◌, ◌++◌, not, Option, Some, None}
-use Rattle.fs_names.specs.First.{on, first}
+use Rattle.fs_names.specs.Failures.{check, first_failure}
 use Rattle.fs_calls.specs.Replies.{same_reply}
 use Rattle.fs_calls.specs.declared.reply.Reply.{Reply}
 use Rattle.fs_timeline.specs.Timeline.{has_begun, has_committed, has_returned, is_busy, due}
@@ -17,18 +17,18 @@ is_due (Some due) r = same_reply due r
 
 -- what is wrong with an entry after those before it, the first kind that holds
 abbrev pub entry_fault : List Entry → Entry → Option FaultKind
-entry_fault before (Begin c seat call) = first
-    (on (has_begun c before) BeginTwice
-    ∷ on (is_busy seat before) SeatBusy
+entry_fault before (Begin c seat call) = first_failure
+    (check (has_begun c before) BeginTwice
+    ∷ check (is_busy seat before) SeatBusy
     ∷ [])
-entry_fault before (Commit c) = first
-    (on (not (has_begun c before)) CommitUnbegun
-    ∷ on (has_committed c before) CommitTwice
+entry_fault before (Commit c) = first_failure
+    (check (not (has_begun c before)) CommitUnbegun
+    ∷ check (has_committed c before) CommitTwice
     ∷ [])
-entry_fault before (Return c r) = first
-    (on (not (has_committed c before)) ReturnUncommitted
-    ∷ on (has_returned c before) ReturnTwice
-    ∷ on (not (is_due (due c before) r)) WrongReply
+entry_fault before (Return c r) = first_failure
+    (check (not (has_committed c before)) ReturnUncommitted
+    ∷ check (has_returned c before) ReturnTwice
+    ∷ check (not (is_due (due c before) r)) WrongReply
     ∷ [])
 
 abbrev pub fault_or : ℕ → Option FaultKind → Verdict → Verdict

@@ -15,9 +15,9 @@ pub struct Timeline {
 
 impl Model for Timeline {
     ghost use Rattle.std.specs.Prelude.{◌+◌, ◌≤◌, vec_len, vec_capacity};
-    ghost use Rattle.fs_timeline.specs.Kept.{Kept};
+    ghost use Rattle.fs_timeline.specs.TimelineValues.{TimelineValue};
 
-    ghost Value = { Kept };
+    ghost Value = { TimelineValue };
 
     ghost view = { λ t. record { entries = t.list.items; reserved = t.places } };
 

@@ -21,7 +21,7 @@ name_want (Some (Dir names)) (Some m) = Take m
 abbrev pub head_want : Graph → ℕ → Option ℕ → Option Name → Want
 head_want graph n (Some m) name = LetGo m
 head_want graph n None None = Arrived
-head_want graph n None (Some x) = name_want (graph.shape n) (graph.kid n x)
+head_want graph n None (Some x) = name_want (graph.shape n) (graph.child n x)
 
 -- a walk: first the root, then its head
 abbrev pub way_want : Graph → Option ℕ → Option ℕ → Option Name → Want

@@ -2,7 +2,7 @@
 
 ghost use Rattle.std.specs.Prelude.{◌≡◌, option_map};
 ghost use Rattle.std.specs.Option.{option_copied};
-ghost use Rattle.fs_nodes.specs.Stores.{graph_of, shape, kid};
+ghost use Rattle.fs_nodes.specs.Stores.{graph_of, shape, child};
 ghost use Rattle.fs_walk.specs.Wants.{name_want, head_want, then_want, at_dir};
 
 use fs_calls::Errno;
@@ -24,7 +24,7 @@ pub enum Want {
 
 /// At a node with a name ahead.
 fn name_want(store: &Store, node: NodeNo, name: &Name) -> Want
-    ensures { result ≡ name_want (shape store.now node) (kid store.now node name.now) }
+    ensures { result ≡ name_want (shape store.now node) (child store.now node name.now) }
 {
     if store.is_file(node) {
         return Want::Fails(Errno::Enotdir);

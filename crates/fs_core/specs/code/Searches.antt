@@ -1,7 +1,7 @@
 -- Which walking calls are below a node, and which of them is to be helped.
 use Rattle.std.specs.Prelude.{ℕ, ◌≡◌, ◌<◌, ◌≤◌, nat_lt, Bool, true, false, List, Option, Some, None, option_map, slice_get}
 use Rattle.fs_names.specs.Keys.{Key}
-use Rattle.fs_nodes.specs.Graphs.{Graph, Kids, at, numbers, IsGraph}
+use Rattle.fs_nodes.specs.Graphs.{Graph, Children, at, numbers, IsGraph}
 use Rattle.fs_nodes.specs.Places.{Places}
 use Rattle.fs_nodes.specs.Stores.{graph_of}
 use Rattle.fs_core.specs.Machines.{number_on}
@@ -9,12 +9,12 @@ use Rattle.fs_core.specs.declared.seat.Running.{Running}
 use Rattle.fs_core.specs.code.Rooms.{is_walking, AreBelow}
 
 -- a node is another one, or is reached from it
-abbrev pub IsReached : Kids → ℕ → ℕ → Type 0
-IsReached kids s n = (key : Key) × (at kids s key ≡ Some n)
+abbrev pub IsReached : Children → ℕ → ℕ → Type 0
+IsReached children s n = (key : Key) × (at children s key ≡ Some n)
 
 -- the position of a walking call
 abbrev pub position_if : Bool → Running → Option ℕ
-position_if true running = option_map (λ st. st.node) running.op.stand
+position_if true running = option_map (λ st. st.node) running.op.holdings
 position_if false running = None
 
 abbrev pub position_of : Option Running → Option ℕ
@@ -22,21 +22,21 @@ position_of None = None
 position_of (Some running) = position_if (is_walking running) running
 
 -- the walking call on a seat is below a node
-pub record IsUnder (kids : Kids) (seats : List (Option Running)) (s seat : ℕ) : Type 0 where
+pub record IsUnder (children : Children) (seats : List (Option Running)) (s seat : ℕ) : Type 0 where
   pub running : Running
   pub node : ℕ
   pub on : slice_get seats seat ≡ Some (Some running)
   pub position : position_of (Some running) ≡ Some node
-  pub reached : IsReached kids s node
+  pub reached : IsReached children s node
 
 -- no walking call of another seat is below a node
-abbrev pub IsAlone : Kids → List (Option Running) → ℕ → ℕ → Type 0
-IsAlone kids seats node seat = (other : ℕ) → (seat ≡ other → ⊥) → IsUnder kids seats node other → ⊥
+abbrev pub IsAlone : Children → List (Option Running) → ℕ → ℕ → Type 0
+IsAlone children seats node seat = (other : ℕ) → (seat ≡ other → ⊥) → IsUnder children seats node other → ⊥
 
 -- and no other one is below its position
-pub record IsLowestOn (kids : Kids) (seats : List (Option Running)) (s seat : ℕ) : Type 0 where
-  pub under : IsUnder kids seats s seat
-  pub alone : IsAlone kids seats under.node seat
+pub record IsLowestOn (children : Children) (seats : List (Option Running)) (s seat : ℕ) : Type 0 where
+  pub under : IsUnder children seats s seat
+  pub alone : IsAlone children seats under.node seat
 
 -- a number is less than another one, or there is no other
 abbrev pub is_lesser : Option ℕ → Option ℕ → Bool
@@ -45,9 +45,9 @@ is_lesser _ None = true
 is_lesser None (Some d) = true
 
 -- of the seats below one, those with a lowest call: none, or the one with the least number
-abbrev pub HasLeast : Kids → List (Option Running) → ℕ → ℕ → Option ℕ → Type 0
-HasLeast kids seats s i None = (j : ℕ) → j < i → IsLowestOn kids seats s j → ⊥
-HasLeast kids seats s i (Some seat) = (seat < i) × IsLowestOn kids seats s seat × ((j c d : ℕ) → j < i → IsLowestOn kids seats s j → number_on seats seat ≡ Some c → number_on seats j ≡ Some d → c ≤ d)
+abbrev pub HasLeast : Children → List (Option Running) → ℕ → ℕ → Option ℕ → Type 0
+HasLeast children seats s i None = (j : ℕ) → j < i → IsLowestOn children seats s j → ⊥
+HasLeast children seats s i (Some seat) = (seat < i) × IsLowestOn children seats s seat × ((j c d : ℕ) → j < i → IsLowestOn children seats s j → number_on seats seat ≡ Some c → number_on seats j ≡ Some d → c ≤ d)
 
 -- a node is reached from the root
 abbrev pub IsRooted : Graph → ℕ → Type 0

@@ -2,7 +2,7 @@
 use Rattle.std.specs.Prelude.{ℕ, ◌≡◌, Option, Some, None, slice_get}
 use Rattle.fs_nodes.specs.Stores.{graph_of}
 use Rattle.fs_machine.specs.Moves.{Move}
-use Rattle.fs_machine.specs.Works.{Work, next_of}
+use Rattle.fs_machine.specs.OpValues.{OpValue, next_of}
 use Rattle.fs_core.specs.declared.seat.Running.{Running}
 use Rattle.fs_core.specs.Machines.{Machine}
 
@@ -18,9 +18,9 @@ abbrev pub PlacedOn : Machine → ℕ → Option ℕ → Type 0
 PlacedOn machine seat place = (running : Running) → slice_get machine.seats seat ≡ Some (Some running) → running.place ≡ place
 
 -- what may happen to the call on a seat: its work goes on
-abbrev pub Goes : (Work → Work → Type 0) → Option Running → Option Running → Type 0
+abbrev pub Goes : (OpValue → OpValue → Type 0) → Option Running → Option Running → Type 0
 Goes R None new = new ≡ None
-Goes R (Some old) new = (work : Work) × R old.op work × (new ≡ Some (record old { op = work }))
+Goes R (Some old) new = (work : OpValue) × R old.op work × (new ≡ Some (record old { op = work }))
 
 -- it gets a place
 abbrev pub placed : Option Running → ℕ → Option Running

@@ -23,7 +23,7 @@ kept_for places zero = None
 kept_for places (suc at) = option_flatten (slice_get places at)
 
 -- where the Begin of a call stands
-pub record Stands (es : List Entry) (begun : List ℕ) (c : ℕ) : Type 0 where
+pub record HasBegin (es : List Entry) (begun : List ℕ) (c : ℕ) : Type 0 where
   pub at : ℕ
   pub place : ℕ
   pub numbered : c ≡ at + 1
@@ -34,7 +34,7 @@ pub record Stands (es : List Entry) (begun : List ℕ) (c : ℕ) : Type 0 where
 pub record IsIndex (es : List Entry) (begun : List ℕ) (places : List (Option ℕ)) (order : List ℕ) : Type 0 where
   pub count : length begun ≡ begins es
   pub beside : length places ≡ begins es
-  pub stands : (c : ℕ) → has_begun c es ≡ true → Stands es begun c
+  pub stands : (c : ℕ) → has_begun c es ≡ true → HasBegin es begun c
   pub placed : (c : ℕ) → kept_for places c ≡ place_of c es
   pub calls : map (begun_at es) order ≡ map (λ (call : Call). Some call) (commits es)
   pub begun_first : (c : ℕ) → has_committed c es ≡ true → has_begun c es ≡ true

@@ -10,12 +10,12 @@ use Rattle.fs_calls.specs.declared.errno.Errno.{Errno}
 use Rattle.fs_calls.specs.declared.reply.Reply.{Reply}
 use Rattle.fs_nodes.specs.Graphs.{Graph, IsGraph, at}
 use Rattle.fs_machine.specs.Leaving.{let_go}
-use Rattle.fs_machine.specs.Moves.{Move, Leaves, Finishes, next, next_by, next_on, first_of, head_move, target, target_move, fork_move, rename_move, dir_then, left_stand, left_behind, left_last, left_heads, last_held, first_walked}
-use Rattle.fs_machine.specs.Records.{Phase, Walking, Placed, Finished, Holds, Head, HeadHolds, Record, Stand, head_at}
-use Rattle.fs_laws.specs.Invariants.{Forked, ForkedAt, StandsWell, HeadsFit}
+use Rattle.fs_machine.specs.Moves.{Move, Leaves, Finishes, next, next_by, next_on, first_of, head_move, target, target_move, fork_move, rename_move, dir_then, left_holdings, left_behind, left_last, left_heads, last_held, first_walked}
+use Rattle.fs_machine.specs.Records.{Phase, Walking, Placed, Finished, Holds, Head, HeadHolds, Record, Holdings, head_at}
+use Rattle.fs_laws.specs.Invariants.{Forked, ForkedAt, HeadsSound, HeadsFit}
 use Rattle.fs_laws.proofs.graphs.Walks.{then_some}
 use Rattle.fs_laws.proofs.events.LetGo.{Behind, Walk, Source, Dest, behind_of_move}
-use Rattle.fs_laws.proofs.calls.HeadOrder.{SourceThere, InTurn, Neat, IsClosed, NeatOp, neat_heads, left_same, plain_of, in_turn}
+use Rattle.fs_laws.proofs.calls.HeadOrder.{SourceThere, InTurn, HeadsInOrder, IsClosed, HeadsOfCallInOrder, neat_heads, left_same, plain_of, in_turn}
 
 -- a head's move that is passed leaves nothing behind
 head_done : (graph : Graph) (n : ℕ) (b : Option ℕ) (l : Key) (m : Move) (o : Option ℕ) → first_of (head_move graph n b l) m ≡ Finishes o → b ≡ None
@@ -27,15 +27,15 @@ head_over graph n None m o e = e
 head_over graph n (Some k) m o e = cc
 
 -- names lead from a directory alone
-leads_from_dir : (graph : Graph) → IsGraph graph → (n m : ℕ) (w : Key) → HasNames w → at graph.kid n w ≡ Some m → (names : List Name) × (graph.shape n ≡ Some (Dir names))
+leads_from_dir : (graph : Graph) → IsGraph graph → (n m : ℕ) (w : Key) → HasNames w → at graph.child n w ≡ Some m → (names : List Name) × (graph.shape n ≡ Some (Dir names))
 leads_from_dir graph is n m [] h e = absurd h
 leads_from_dir graph is n m (x ∷ w) h e =
-    let g : (c : ℕ) × (graph.kid n x ≡ Some c) × (at graph.kid c w ≡ Some m) = then_some (graph.kid n x) (λ c. at graph.kid c w) m e in
+    let g : (c : ℕ) × (graph.child n x ≡ Some c) × (at graph.child c w ≡ Some m) = then_some (graph.child n x) (λ c. at graph.child c w) m e in
     let d : (names : List Name) × (graph.shape n ≡ Some (Dir names)) × (has_name x names ≡ true) = is.of_dir n g.0 x g.1 in
     (d.0, d.1)
 
 -- a head of a directory that isn't one has walked nothing
-stays_at : (graph : Graph) → IsGraph graph → (n m : ℕ) (w : Key) → ((names : List Name) → graph.shape n ≡ Some (Dir names) → ⊥) → at graph.kid n w ≡ Some m → w ≡ []
+stays_at : (graph : Graph) → IsGraph graph → (n m : ℕ) (w : Key) → ((names : List Name) → graph.shape n ≡ Some (Dir names) → ⊥) → at graph.child n w ≡ Some m → w ≡ []
 stays_at graph is n m [] not_dir e = refl
 stays_at graph is n m (x ∷ w) not_dir e = let d : (names : List Name) × (graph.shape n ≡ Some (Dir names)) = leads_from_dir graph is n m (x ∷ w) tt e in absurd (not_dir d.0 d.1)
 
@@ -44,7 +44,7 @@ no_names : (w : Key) → (HasNames w → ⊥) → w ≡ []
 no_names [] h = refl
 no_names (x ∷ w) h = absurd (h tt)
 
-fork_closed : (graph : Graph) → IsGraph graph → (p q : Key) (st : Stand) (o : Option ℕ) → Forked graph st.node p q st → HeadsFit st → InTurn graph p st → st.behind ≡ None → fork_move graph p q st ≡ Finishes o → IsClosed st
+fork_closed : (graph : Graph) → IsGraph graph → (p q : Key) (st : Holdings) (o : Option ℕ) → Forked graph st.node p q st → HeadsFit st → InTurn graph p st → st.behind ≡ None → fork_move graph p q st ≡ Finishes o → IsClosed st
 fork_closed graph is p q st o f fit turn behind e = at_node (graph.shape st.node) refl e
   where
     at_dest : Move
@@ -78,13 +78,13 @@ fork_closed graph is p q st o f fit turn behind e = at_node (graph.shape st.node
     at_node (Some (Dir names)) i g = source (left st.source.walked (parent_of p)) refl g
 
 -- a call that finishes where it stands
-pub finish_closed : (graph : Graph) → IsGraph graph → (remaining : Form) (st : Stand) (o : Option ℕ) → StandsWell graph st.node remaining st → HeadsFit st → Neat graph remaining st → next_on graph remaining st ≡ Finishes o → IsClosed st
+pub finish_closed : (graph : Graph) → IsGraph graph → (remaining : Form) (st : Holdings) (o : Option ℕ) → HeadsSound graph st.node remaining st → HeadsFit st → HeadsInOrder graph remaining st → next_on graph remaining st ≡ Finishes o → IsClosed st
 finish_closed graph is remaining st o well fit w e = way (target remaining) refl e
   where
     behind : (l : Key) → first_of (head_move graph st.node st.behind l) (target_move graph remaining st) ≡ Finishes o → st.behind ≡ None
     behind l g = head_done graph st.node st.behind l (target_move graph remaining st) o g
 
-    there : (rem : Form) → target rem ≡ [] → StandsWell graph st.node rem st → Neat graph rem st → st.behind ≡ None → target_move graph rem st ≡ Finishes o → IsClosed st
+    there : (rem : Form) → target rem ≡ [] → HeadsSound graph st.node rem st → HeadsInOrder graph rem st → st.behind ≡ None → target_move graph rem st ≡ Finishes o → IsClosed st
     there (AtNode c p) i wl n b g = record { behind = b; source = fit.0 n.source; dest = fit.1 n.dest }
     there (AtEntry c p) i wl n b g = record { behind = b; source = fit.0 n.source; dest = fit.1 n.dest }
     there (AtPair pairs.Rename p q) i wl n b g = fork_closed graph is p q st o (subst (ForkedAt graph st.node p q st) i wl) fit (in_turn graph p q st (AtPair pairs.Rename p q) refl i n) b g
@@ -94,15 +94,15 @@ finish_closed graph is remaining st o well fit w e = way (target remaining) refl
     way [] i g = there remaining i well w (behind [] g) (head_over graph st.node st.behind (target_move graph remaining st) o g)
 
 -- what a call holds but for one node
-abbrev pub StillHolds : Option Stand → ℕ → Type 0
-StillHolds s m = (new : Stand) × (s ≡ Some new) × Holds new m
+abbrev pub StillHolds : Option Holdings → ℕ → Type 0
+StillHolds s m = (new : Holdings) × (s ≡ Some new) × Holds new m
 
 -- one of the three parents on the way
 head_but : (h : Head) (n m : ℕ) → h.behind ≡ Some n → (m ≡ n → ⊥) → HeadHolds h m → HeadHolds (record h { behind = None }) m
 head_but h n m b d (w, inl e) = (w, inl e)
 head_but h n m b d (w, inr e) = let z : ◌≡◌ {A = Option ℕ} (Some n) (Some m) = sym b ∙ e in absurd (d (let y : n ≡ m = cc in sym y))
 
-way_holds : (st : Stand) (n m : ℕ) → Behind st n → (m ≡ n → ⊥) → Holds st m → Holds (left_behind st st.behind st.source.behind) m
+way_holds : (st : Holdings) (n m : ℕ) → Behind st n → (m ≡ n → ⊥) → Holds st m → Holds (left_behind st st.behind st.source.behind) m
 way_holds st n m (Walk e) d h = subst (λ (b : Option ℕ). Holds (left_behind st b st.source.behind) m) (sym e) (go h)
   where
     go : Holds st m → Holds (record st { behind = None }) m
@@ -126,7 +126,7 @@ way_holds st n m (Dest a b e) d h = subst (λ (x : Option ℕ). Holds (left_behi
     go (inr (inr (inr (inr i)))) = inr (inr (inr (inr i)))
 
 -- a finished call that has let go the last taken
-end_holds : (st : Stand) (n m : ℕ) → IsClosed st → last_held st st.victim ≡ n → (m ≡ n → ⊥) → Holds st m → StillHolds (left_last st st.victim) m
+end_holds : (st : Holdings) (n m : ℕ) → IsClosed st → last_held st st.victim ≡ n → (m ≡ n → ⊥) → Holds st m → StillHolds (left_last st st.victim) m
 end_holds st n m cl e d h = victim st.victim refl e
   where
     none_is : (b : Option ℕ) → b ≡ None → b ≡ Some m → ⊥
@@ -176,23 +176,23 @@ end_holds st n m cl e d h = victim st.victim refl e
 
 -- what a let go leaves
 pub record LeftWell (graph : Graph) (op : Record) (n : ℕ) : Type 0 where
-  pub stays : (st : Stand) (m : ℕ) → op.stand ≡ Some st → Holds st m → (m ≡ n → ⊥) → StillHolds (left_stand op.phase op.stand) m
-  pub neat : (new : Stand) → left_stand op.phase op.stand ≡ Some new → NeatOp graph (let_go op n) new
+  pub stays : (st : Holdings) (m : ℕ) → op.holdings ≡ Some st → Holds st m → (m ≡ n → ⊥) → StillHolds (left_holdings op.phase op.holdings) m
+  pub neat : (new : Holdings) → left_holdings op.phase op.holdings ≡ Some new → HeadsOfCallInOrder graph (let_go op n) new
 
-way_left : (graph : Graph) (op : Record) (n : ℕ) (st : Stand) (p : Phase) → op.phase ≡ p → ((r : Reply) → p ≡ Finished r → ⊥) → op.stand ≡ Some st → NeatOp graph op st → left_stand p (Some st) ≡ Some (left_behind st st.behind st.source.behind) → Behind st n → LeftWell graph op n
+way_left : (graph : Graph) (op : Record) (n : ℕ) (st : Holdings) (p : Phase) → op.phase ≡ p → ((r : Reply) → p ≡ Finished r → ⊥) → op.holdings ≡ Some st → HeadsOfCallInOrder graph op st → left_holdings p (Some st) ≡ Some (left_behind st st.behind st.source.behind) → Behind st n → LeftWell graph op n
 way_left graph op n st p ph unfinished on w is b = record {
-  stays = λ s m e h d. (left_behind st st.behind st.source.behind, left_is, way_holds st n m b d (subst (λ (y : Stand). Holds y m) (stand_is s e) h));
-  neat = λ new e. (let z : ◌≡◌ {A = Option Stand} (Some (left_behind st st.behind st.source.behind)) (Some new) = sym left_is ∙ e in subst (NeatOp graph (let_go op n)) (let y : left_behind st st.behind st.source.behind ≡ new = cc in y)
+  stays = λ s m e h d. (left_behind st st.behind st.source.behind, left_is, way_holds st n m b d (subst (λ (y : Holdings). Holds y m) (holdings_is s e) h));
+  neat = λ new e. (let z : ◌≡◌ {A = Option Holdings} (Some (left_behind st st.behind st.source.behind)) (Some new) = sym left_is ∙ e in subst (HeadsOfCallInOrder graph (let_go op n)) (let y : left_behind st st.behind st.source.behind ≡ new = cc in y)
       (record { under_way = λ u. neat_heads graph op.remaining st (left_behind st st.behind st.source.behind) (left_same st st.behind st.source.behind) (w.under_way u); closed = λ r i. absurd (unfinished r (sym ph ∙ i)) }));
 }
   where
-    left_is : left_stand op.phase op.stand ≡ Some (left_behind st st.behind st.source.behind)
-    left_is = ap₂ left_stand ph on ∙ is
+    left_is : left_holdings op.phase op.holdings ≡ Some (left_behind st st.behind st.source.behind)
+    left_is = ap₂ left_holdings ph on ∙ is
 
-    stand_is : (s : Stand) → op.stand ≡ Some s → s ≡ st
-    stand_is s e = let z : ◌≡◌ {A = Option Stand} (Some s) (Some st) = sym e ∙ on in cc
+    holdings_is : (s : Holdings) → op.holdings ≡ Some s → s ≡ st
+    holdings_is s e = let z : ◌≡◌ {A = Option Holdings} (Some s) (Some st) = sym e ∙ on in cc
 
-last_closed : (st new : Stand) → IsClosed st → left_last st st.victim ≡ Some new → IsClosed new
+last_closed : (st new : Holdings) → IsClosed st → left_last st st.victim ≡ Some new → IsClosed new
 last_closed st new c e = victim st.victim e
   where
     source : (w : Key) → left_heads st [] w ≡ Some new → IsClosed new
@@ -207,25 +207,25 @@ last_closed st new c e = victim st.victim e
     victim (Some v) i = let y : record st { victim = None } ≡ new = cc in subst IsClosed y (record { behind = c.behind; source = c.source; dest = c.dest })
     victim None i = dest st.dest.walked i
 
-end_left : (graph : Graph) (op : Record) (n : ℕ) (st : Stand) (r : Reply) → op.phase ≡ Finished r → op.stand ≡ Some st → NeatOp graph op st → last_held st st.victim ≡ n → LeftWell graph op n
+end_left : (graph : Graph) (op : Record) (n : ℕ) (st : Holdings) (r : Reply) → op.phase ≡ Finished r → op.holdings ≡ Some st → HeadsOfCallInOrder graph op st → last_held st st.victim ≡ n → LeftWell graph op n
 end_left graph op n st r ph on w e = record {
-  stays = λ s m i h d. (let g : StillHolds (left_last st st.victim) m = end_holds st n m (w.closed r ph) e d (subst (λ (y : Stand). Holds y m) (stand_is s i) h) in (g.0, left_is ∙ g.1, g.2));
+  stays = λ s m i h d. (let g : StillHolds (left_last st st.victim) m = end_holds st n m (w.closed r ph) e d (subst (λ (y : Holdings). Holds y m) (holdings_is s i) h) in (g.0, left_is ∙ g.1, g.2));
   neat = λ new i. record { under_way = λ u. absurd (u r ph); closed = λ q j. last_closed st new (w.closed r ph) (sym left_is ∙ i) };
 }
   where
-    left_is : left_stand op.phase op.stand ≡ left_last st st.victim
-    left_is = ap₂ left_stand ph on
+    left_is : left_holdings op.phase op.holdings ≡ left_last st st.victim
+    left_is = ap₂ left_holdings ph on
 
-    stand_is : (s : Stand) → op.stand ≡ Some s → s ≡ st
-    stand_is s i = let z : ◌≡◌ {A = Option Stand} (Some s) (Some st) = sym i ∙ on in cc
+    holdings_is : (s : Holdings) → op.holdings ≡ Some s → s ≡ st
+    holdings_is s i = let z : ◌≡◌ {A = Option Holdings} (Some s) (Some st) = sym i ∙ on in cc
 
-pub left_well : (graph : Graph) (op : Record) (n : ℕ) → ((st : Stand) → op.stand ≡ Some st → NeatOp graph op st) → next graph op ≡ Leaves n → LeftWell graph op n
-left_well graph op n w m = go op.phase (by_text (form op.call)) op.stand refl refl m
+pub left_well : (graph : Graph) (op : Record) (n : ℕ) → ((st : Holdings) → op.holdings ≡ Some st → HeadsOfCallInOrder graph op st) → next graph op ≡ Leaves n → LeftWell graph op n
+left_well graph op n w m = go op.phase (by_text (form op.call)) op.holdings refl refl m
   where
     leaves_is : (a b : ℕ) → Leaves a ≡ Leaves b → a ≡ b
     leaves_is a b e = cc
 
-    go : (p : Phase) (e : Option Errno) (s : Option Stand) → op.phase ≡ p → op.stand ≡ s → next_by graph op e p s ≡ Leaves n → LeftWell graph op n
+    go : (p : Phase) (e : Option Errno) (s : Option Holdings) → op.phase ≡ p → op.holdings ≡ s → next_by graph op e p s ≡ Leaves n → LeftWell graph op n
     go (Finished r) e None i j f = cc
     go (Finished r) e (Some st) i j f = end_left graph op n st r i j (w st j) (leaves_is (last_held st st.victim) n f)
     go Walking (Some e) s i j f = cc

@@ -8,12 +8,12 @@ use Rattle.fs_calls.specs.Forms.{form, Form, AtNode, AtEntry, AtPair, by_text, u
 use Rattle.fs_calls.specs.declared.target.PairCall.TheVariants as pairs
 use Rattle.fs_calls.specs.declared.errno.Errno.{Errno}
 use Rattle.fs_nodes.specs.Graphs.{Graph, numbers, IsGraph}
-use Rattle.fs_machine.specs.Moves.{Move, Takes, Leaves, Finishes, Ends, next, next_by, next_on, target, took, inner, tail_of, head_took, head_left, left_stand, left_behind, behind_of}
-use Rattle.fs_machine.specs.Records.{Phase, Walking, Placed, Finished, Holds, Record, Stand, stand_at}
-use Rattle.fs_laws.specs.Invariants.{IsUnfinished, Forked, StandsWell, VictimAt, IsSingle, HeadsFit}
+use Rattle.fs_machine.specs.Moves.{Move, Takes, Leaves, Finishes, Ends, next, next_by, next_on, target, took, inner, tail_of, head_took, head_left, left_holdings, left_behind, behind_of}
+use Rattle.fs_machine.specs.Records.{Phase, Walking, Placed, Finished, Holds, Record, Holdings, holdings_at}
+use Rattle.fs_laws.specs.Invariants.{IsUnfinished, Forked, HeadsSound, VictimAt, IsSingle, HeadsFit}
 use Rattle.fs_laws.specs.Settled.{names_left, alone_by}
-use Rattle.fs_laws.specs.Stands.{Located}
-use Rattle.fs_laws.specs.Work.{one_if, one_unless, to_go, moves_left}
+use Rattle.fs_laws.specs.CallFacts.{Located}
+use Rattle.fs_laws.specs.StepsLeft.{one_if, one_unless, to_go, moves_left}
 use Rattle.fs_laws.proofs.trees.Prefixes.{prefix_append, prefix_some}
 use Rattle.fs_laws.proofs.graphs.Walks.{at_child, at_from}
 use Rattle.fs_laws.proofs.calls.NodesHeld.{single_at, single_victim, single_source, single_dest}
@@ -21,9 +21,9 @@ use Rattle.fs_laws.proofs.events.LetGo.{Lets, Behind, Walk as Walk_behind, Sourc
 use Rattle.fs_laws.proofs.events.Take.{Inner, inner_on, number_inner, fresh_well, fresh_victim}
 use Rattle.fs_laws.proofs.calls.TakesAtTarget.{forked_of, well_of, left_on, no_end}
 use Rattle.fs_laws.proofs.states.ComputedSteps.{on_ends}
-use Rattle.fs_laws.proofs.calls.Takes.{Take, Walk, Entry, Source, Dest, Replaced, takes_by, with_stand}
-use Rattle.fs_laws.proofs.calls.HeadOrder.{Neat, TookWell, took_well, plain_of, neat_heads, neat_fresh}
-use Rattle.fs_laws.proofs.calls.OneUnfinishedCall.{Solo, solo_wants, front_same}
+use Rattle.fs_laws.proofs.calls.Takes.{Take, Walk, Entry, Source, Dest, Replaced, takes_by, with_holdings}
+use Rattle.fs_laws.proofs.calls.HeadOrder.{HeadsInOrder, TookWell, took_well, plain_of, neat_heads, neat_fresh}
+use Rattle.fs_laws.proofs.calls.OneUnfinishedCall.{OneUnfinished, solo_wants, front_same}
 use Rattle.fs_machine.specs.Finishes.{finish}
 
 parent_less : (p : Key) → length (parent_of p) ≤ length p
@@ -46,7 +46,7 @@ unless_one : (o : Option ℕ) → one_unless o ≤ 1
 unless_one None = omega arith
 unless_one (Some n) = omega arith
 
-to_go_less : (remaining : Form) (st : Stand) → to_go remaining st ≤ names_left remaining
+to_go_less : (remaining : Form) (st : Holdings) → to_go remaining st ≤ names_left remaining
 to_go_less (AtNode c p) st = omega arith
 to_go_less (AtEntry c p) st = parent_less p
 to_go_less (AtPair pairs.Rename p q) st =
@@ -57,7 +57,7 @@ to_go_less (AtPair pairs.Rename p q) st =
     omega (arith, a, b, c, d)
 
 -- as many moves as a call alone may make
-pub enough : (remaining : Form) (st : Stand) → moves_left remaining st ≤ names_left remaining + names_left remaining + 4
+pub enough : (remaining : Form) (st : Holdings) → moves_left remaining st ≤ names_left remaining + names_left remaining + 4
 enough remaining st =
     let a : to_go remaining st ≤ names_left remaining = to_go_less remaining st in
     let b : one_if st.behind ≤ 1 = if_one st.behind in
@@ -67,10 +67,10 @@ enough remaining st =
     omega (arith, a, b, c, d, e)
 
 -- the call after a move: the same, at its key or below it, with fewer moves left
-pub record Advanced (graph : Graph) (k : Key) (op : Record) (st : Stand) (v : Record) : Type 0 where
-  pub new : Stand
+pub record Advanced (graph : Graph) (k : Key) (op : Record) (st : Holdings) (v : Record) : Type 0 where
+  pub new : Holdings
   pub r : Key
-  pub solo : Solo graph (k ++ r) v new
+  pub solo : OneUnfinished graph (k ++ r) v new
   pub same : under (k ++ r) v.remaining ≡ under k op.remaining
   pub reserved : v.reserved ≡ op.reserved
   pub phase : v.phase ≡ op.phase
@@ -87,7 +87,7 @@ common_front [] b x l e = cc
 common_front (y ∷ a) [] x l e = cc
 common_front (y ∷ a) (z ∷ b) x l e = ((y, a, refl), (z, b, refl))
 
-walk_less : (remaining : Form) (x : Name) (l : Key) (st : Stand) (n : ℕ) → target remaining ≡ x ∷ l → st.source.walked ≡ [] → st.dest.walked ≡ [] → to_go (inner remaining) (stand_at n (Some st.node)) + 1 ≤ to_go remaining st
+walk_less : (remaining : Form) (x : Name) (l : Key) (st : Holdings) (n : ℕ) → target remaining ≡ x ∷ l → st.source.walked ≡ [] → st.dest.walked ≡ [] → to_go (inner remaining) (holdings_at n (Some st.node)) + 1 ≤ to_go remaining st
 walk_less (AtNode c []) x l st n e i j = cc
 walk_less (AtNode c (y ∷ p)) x l st n e i j = omega arith
 walk_less (AtEntry c p) x l st n e i j = let k : length (parent_of (tail_of p)) + 1 ≡ length (parent_of p) = parent_tail p x l e in omega (arith, k)
@@ -106,14 +106,14 @@ behind_one w n = if_one (behind_of w n)
 left_next : (w l whole : Key) (x : Name) → whole ≡ w ++ x ∷ l → left (w ++ x ∷ []) whole ≡ l
 left_next w l whole x e = ap left_by (ap (after_prefix (w ++ x ∷ [])) (e ∙ sym (append_assoc w (x ∷ []) l)) ∙ prefix_append (w ++ x ∷ []) l)
 
-stay_here : (graph : Graph) (k : Key) (v : Record) (new : Stand) → Solo graph k v new → Solo graph (k ++ []) v new
-stay_here graph k v new s = subst (λ (x : Key). Solo graph x v new) (sym (append-nil k)) s
+stay_here : (graph : Graph) (k : Key) (v : Record) (new : Holdings) → OneUnfinished graph k v new → OneUnfinished graph (k ++ []) v new
+stay_here graph k v new s = subst (λ (x : Key). OneUnfinished graph x v new) (sym (append-nil k)) s
 
 under_here : (k : Key) (f : Form) → under (k ++ []) f ≡ under k f
 under_here k f = ap (λ (x : Key). under x f) (append-nil k)
 
 -- a take
-pub solo_took : (graph : Graph) → IsGraph graph → (k : Key) (op : Record) (n : ℕ) (st : Stand) → Solo graph k op st → Take graph op n st → Advanced graph k op st (took op n)
+pub solo_took : (graph : Graph) → IsGraph graph → (k : Key) (op : Record) (n : ℕ) (st : Holdings) → OneUnfinished graph k op st → Take graph op n st → Advanced graph k op st (took op n)
 solo_took graph is k op n st s t = go t
   where
     free : Holds st n → ⊥
@@ -123,11 +123,11 @@ solo_took graph is k op n st s t = go t
     w = took_well graph op n st s.unfinished s.on s.neat t
 
     -- at the same key, with another stand
-    here : (new : Stand) → took op n ≡ with_stand op new → Located (numbers graph) k new → StandsWell graph new.node op.remaining new → VictimAt graph op.remaining new → IsSingle new → HeadsFit new → moves_left op.remaining new + 1 ≤ moves_left op.remaining st → Advanced graph k op st (took op n)
+    here : (new : Holdings) → took op n ≡ with_holdings op new → Located (numbers graph) k new → HeadsSound graph new.node op.remaining new → VictimAt graph op.remaining new → IsSingle new → HeadsFit new → moves_left op.remaining new + 1 ≤ moves_left op.remaining st → Advanced graph k op st (took op n)
     here new e loc well victim single heads less = subst (Advanced graph k op st) (sym e) (record {
       new = new;
       r = [];
-      solo = stay_here graph k (with_stand op new) new (record {
+      solo = stay_here graph k (with_holdings op new) new (record {
         on = refl;
         unfinished = s.unfinished;
         text = s.text;
@@ -147,10 +147,10 @@ solo_took graph is k op n st s t = go t
     })
       where
         new_is : w.new ≡ new
-        new_is = let z : ◌≡◌ {A = Option Stand} (Some w.new) (Some new) = sym w.on ∙ ap (λ (o : Record). o.stand) e in cc
+        new_is = let z : ◌≡◌ {A = Option Holdings} (Some w.new) (Some new) = sym w.on ∙ ap (λ (o : Record). o.holdings) e in cc
 
-        neat : Neat graph op.remaining new
-        neat = subst (λ (x : Stand). Neat graph op.remaining x) new_is (subst (λ (o : Record). Neat graph o.remaining w.new) e (w.neat.under_way (λ r f. s.unfinished r (ap (λ (o : Record). o.phase) (sym e) ∙ f))))
+        neat : HeadsInOrder graph op.remaining new
+        neat = subst (λ (x : Holdings). HeadsInOrder graph op.remaining x) new_is (subst (λ (o : Record). HeadsInOrder graph o.remaining w.new) e (w.neat.under_way (λ r f. s.unfinished r (ap (λ (o : Record). o.phase) (sym e) ∙ f))))
 
     victim_less : st.victim ≡ None → moves_left op.remaining (record st { victim = Some n }) + 1 ≤ moves_left op.remaining st
     victim_less off = let z : one_unless st.victim ≡ 1 = ap one_unless off in same_go op.remaining z
@@ -161,8 +161,8 @@ solo_took graph is k op n st s t = go t
         same_go (AtPair pairs.Rename p q) z = omega (arith, z)
 
     go : Take graph op n st → Advanced graph k op st (took op n)
-    go (Walk x l way b kid e) = subst (Advanced graph k op st) (sym e) (record {
-      new = stand_at n (Some st.node);
+    go (Walk x l way b child e) = subst (Advanced graph k op st) (sym e) (record {
+      new = holdings_at n (Some st.node);
       r = x ∷ [];
       solo = record {
         on = refl;
@@ -181,7 +181,7 @@ solo_took graph is k op n st s t = go t
       reserved = refl;
       phase = refl;
       less = (
-          let a : to_go (inner op.remaining) (stand_at n (Some st.node)) + 1 ≤ to_go op.remaining st = walk_less op.remaining x l st n way plain.0 plain.1 in
+          let a : to_go (inner op.remaining) (holdings_at n (Some st.node)) + 1 ≤ to_go op.remaining st = walk_less op.remaining x l st n way plain.0 plain.1 in
           let c : one_unless st.victim ≡ 1 = ap one_unless plain.2 in
           omega (arith, a, c));
     })
@@ -193,16 +193,16 @@ solo_took graph is k op n st s t = go t
         step = inner_on k x l op.remaining way
 
         at_n : numbers graph (k ++ x ∷ []) ≡ Some n
-        at_n = at_child graph.kid 0 st.node k x s.loc.here ∙ kid
-    go (Entry e p rem way b kid off t_is) =
+        at_n = at_child graph.child 0 st.node k x s.loc.here ∙ child
+    go (Entry e p rem way b child off t_is) =
         here (record st { victim = Some n }) t_is (record { here = s.loc.here; source = s.loc.source; dest = s.loc.dest })
-        (subst (λ (f : Form). StandsWell graph st.node f (record st { victim = Some n })) (sym rem) tt)
-        (subst (λ (f : Form). VictimAt graph f (record st { victim = Some n })) (sym rem) (λ v i. kid ∙ i))
+        (subst (λ (f : Form). HeadsSound graph st.node f (record st { victim = Some n })) (sym rem) tt)
+        (subst (λ (f : Form). VictimAt graph f (record st { victim = Some n })) (sym rem) (λ v i. child ∙ i))
         (single_victim st n free s.single) s.heads (victim_less off)
-    go (Source p q x l rem way b at_left sb kid t_is) =
+    go (Source p q x l rem way b at_left sb child t_is) =
         here (record st { source = head_took st.source x n }) t_is loc
         (well_of graph st.node p q (record st { source = head_took st.source x n }) op.remaining rem way (record {
-          source_at = sym (at_from graph.kid 0 st.node k (st.source.walked ++ x ∷ []) s.loc.here) ∙ loc.source;
+          source_at = sym (at_from graph.child 0 st.node k (st.source.walked ++ x ∷ []) s.loc.here) ∙ loc.source;
           dest_at = f.dest_at;
           source_is = left_on st.source.walked l (parent_of p) x whole;
           dest_is = f.dest_is;
@@ -222,12 +222,12 @@ solo_took graph is k op n st s t = go t
         whole = f.source_is ∙ ap (λ (y : Key). st.source.walked ++ y) at_left
 
         loc : Located (numbers graph) k (record st { source = head_took st.source x n })
-        loc = record { here = s.loc.here; source = ap (numbers graph) (sym (append_assoc k st.source.walked (x ∷ []))) ∙ at_child graph.kid 0 st.source.node (k ++ st.source.walked) x s.loc.source ∙ kid; dest = s.loc.dest }
-    go (Dest p q x l names rem way b arrived sb dir at_left db kid t_is) =
+        loc = record { here = s.loc.here; source = ap (numbers graph) (sym (append_assoc k st.source.walked (x ∷ []))) ∙ at_child graph.child 0 st.source.node (k ++ st.source.walked) x s.loc.source ∙ child; dest = s.loc.dest }
+    go (Dest p q x l names rem way b arrived sb dir at_left db child t_is) =
         here (record st { dest = head_took st.dest x n }) t_is loc
         (well_of graph st.node p q (record st { dest = head_took st.dest x n }) op.remaining rem way (record {
           source_at = f.source_at;
-          dest_at = sym (at_from graph.kid 0 st.node k (st.dest.walked ++ x ∷ []) s.loc.here) ∙ loc.dest;
+          dest_at = sym (at_from graph.child 0 st.node k (st.dest.walked ++ x ∷ []) s.loc.here) ∙ loc.dest;
           source_is = f.source_is;
           dest_is = left_on st.dest.walked l (parent_of q) x whole;
         }))
@@ -246,17 +246,17 @@ solo_took graph is k op n st s t = go t
         whole = f.dest_is ∙ ap (λ (y : Key). st.dest.walked ++ y) at_left
 
         loc : Located (numbers graph) k (record st { dest = head_took st.dest x n })
-        loc = record { here = s.loc.here; dest = ap (numbers graph) (sym (append_assoc k st.dest.walked (x ∷ []))) ∙ at_child graph.kid 0 st.dest.node (k ++ st.dest.walked) x s.loc.dest ∙ kid; source = s.loc.source }
+        loc = record { here = s.loc.here; dest = ap (numbers graph) (sym (append_assoc k st.dest.walked (x ∷ []))) ∙ at_child graph.child 0 st.dest.node (k ++ st.dest.walked) x s.loc.dest ∙ child; source = s.loc.source }
 
         none_yet : (v : ℕ) → st.victim ≡ Some v → ⊥
         none_yet v e =
-            let g : (graph.kid st.dest.node (last_of q) ≡ Some v) × (parent_of q ≡ st.dest.walked) = subst (λ (h : Form). VictimAt graph h st) rem s.victim v e in
+            let g : (graph.child st.dest.node (last_of q) ≡ Some v) × (parent_of q ≡ st.dest.walked) = subst (λ (h : Form). VictimAt graph h st) rem s.victim v e in
             let z : [] ≡ x ∷ l = front_same st.dest.walked [] (x ∷ l) (append-nil st.dest.walked ∙ sym g.1 ∙ f.dest_is ∙ ap (λ (y : Key). st.dest.walked ++ y) at_left) in
             (let y : ◌≡◌ {A = Key} [] (x ∷ l) = z in cc)
-    go (Replaced p q names rem way b arrived sb dir at_left db want kid off t_is) =
+    go (Replaced p q names rem way b arrived sb dir at_left db want child off t_is) =
         here (record st { victim = Some n }) t_is (record { here = s.loc.here; source = s.loc.source; dest = s.loc.dest })
         (well_of graph st.node p q (record st { victim = Some n }) op.remaining rem way (record { source_at = f.source_at; dest_at = f.dest_at; source_is = f.source_is; dest_is = f.dest_is }))
-        (subst (λ (g : Form). VictimAt graph g (record st { victim = Some n })) (sym rem) (λ v i. (kid ∙ i, f.dest_is ∙ ap (λ (y : Key). st.dest.walked ++ y) at_left ∙ append-nil st.dest.walked)))
+        (subst (λ (g : Form). VictimAt graph g (record st { victim = Some n })) (sym rem) (λ v i. (child ∙ i, f.dest_is ∙ ap (λ (y : Key). st.dest.walked ++ y) at_left ∙ append-nil st.dest.walked)))
         (single_victim st n free s.single) s.heads (victim_less off)
       where
         f : Forked graph st.node p q st
@@ -264,26 +264,26 @@ solo_took graph is k op n st s t = go t
 
 -- the record after a let go, as a call alone makes it
 abbrev pub left_alone : Record → Record
-left_alone op = record op { stand = left_stand op.phase op.stand }
+left_alone op = record op { holdings = left_holdings op.phase op.holdings }
 
-unfinished_left : (op : Record) (st : Stand) → IsUnfinished op → op.stand ≡ Some st → left_stand op.phase op.stand ≡ Some (left_behind st st.behind st.source.behind)
+unfinished_left : (op : Record) (st : Holdings) → IsUnfinished op → op.holdings ≡ Some st → left_holdings op.phase op.holdings ≡ Some (left_behind st st.behind st.source.behind)
 unfinished_left op st u on = go op.phase refl
   where
-    go : (p : Phase) → op.phase ≡ p → left_stand op.phase op.stand ≡ Some (left_behind st st.behind st.source.behind)
-    go Walking e = ap₂ left_stand e on
-    go (Placed i) e = ap₂ left_stand e on
+    go : (p : Phase) → op.phase ≡ p → left_holdings op.phase op.holdings ≡ Some (left_behind st st.behind st.source.behind)
+    go Walking e = ap₂ left_holdings e on
+    go (Placed i) e = ap₂ left_holdings e on
     go (Finished r) e = absurd (u r e)
 
 -- a let go of a parent
-pub solo_left : (graph : Graph) (k : Key) (op : Record) (n : ℕ) (st : Stand) → Solo graph k op st → Behind st n → Advanced graph k op st (left_alone op)
+pub solo_left : (graph : Graph) (k : Key) (op : Record) (n : ℕ) (st : Holdings) → OneUnfinished graph k op st → Behind st n → Advanced graph k op st (left_alone op)
 solo_left graph k op n st s b = go b
   where
-    here : (new : Stand) → left_behind st st.behind st.source.behind ≡ new → Lets st new n → Located (numbers graph) k new → Neat graph op.remaining new → (new.victim ≡ st.victim) × (new.dest.node ≡ st.dest.node) × (new.dest.walked ≡ st.dest.walked) → moves_left op.remaining new + 1 ≤ moves_left op.remaining st → Advanced graph k op st (left_alone op)
+    here : (new : Holdings) → left_behind st st.behind st.source.behind ≡ new → Lets st new n → Located (numbers graph) k new → HeadsInOrder graph op.remaining new → (new.victim ≡ st.victim) × (new.dest.node ≡ st.dest.node) × (new.dest.walked ≡ st.dest.walked) → moves_left op.remaining new + 1 ≤ moves_left op.remaining st → Advanced graph k op st (left_alone op)
     here new e l loc neat same less = record {
       new = new;
       r = [];
       solo = stay_here graph k (left_alone op) new (record {
-        on = unfinished_left op st s.unfinished s.on ∙ ap (λ (x : Stand). Some x) e;
+        on = unfinished_left op st s.unfinished s.on ∙ ap (λ (x : Holdings). Some x) e;
         unfinished = s.unfinished;
         text = s.text;
         loc = loc;
@@ -333,10 +333,10 @@ solo_left graph k op n st s b = go b
 -- the call where it finishes
 pub record Finishing (graph : Graph) (k : Key) (op : Record) (steps : ℕ) : Type 0 where
   pub last : Record
-  pub st : Stand
+  pub st : Holdings
   pub r : Key
   pub o : Option ℕ
-  pub solo : Solo graph (k ++ r) last st
+  pub solo : OneUnfinished graph (k ++ r) last st
   pub move : next_on graph last.remaining st ≡ Finishes o
   pub ends : next graph last ≡ Finishes o
   pub same : under (k ++ r) last.remaining ≡ under k op.remaining
@@ -345,22 +345,22 @@ pub record Finishing (graph : Graph) (k : Key) (op : Record) (steps : ℕ) : Typ
   pub made : alone_by steps graph op (next graph op) ≡ finish graph last
 
 -- the next move of a call that is under way and stands somewhere
-solo_next : (graph : Graph) (k : Key) (op : Record) (st : Stand) → Solo graph k op st → next graph op ≡ next_on graph op.remaining st
+solo_next : (graph : Graph) (k : Key) (op : Record) (st : Holdings) → OneUnfinished graph k op st → next graph op ≡ next_on graph op.remaining st
 solo_next graph k op st s = go op.phase refl
   where
     go : (p : Phase) → op.phase ≡ p → next graph op ≡ next_on graph op.remaining st
-    go Walking e = ap (λ (p : Phase). next_by graph op (by_text (form op.call)) p op.stand) e ∙ ap₂ (λ (t : Option Errno) (x : Option Stand). next_by graph op t Walking x) s.text s.on
-    go (Placed i) e = ap (λ (p : Phase). next_by graph op (by_text (form op.call)) p op.stand) e ∙ ap₂ (λ (t : Option Errno) (x : Option Stand). next_by graph op t (Placed i) x) s.text s.on
+    go Walking e = ap (λ (p : Phase). next_by graph op (by_text (form op.call)) p op.holdings) e ∙ ap₂ (λ (t : Option Errno) (x : Option Holdings). next_by graph op t Walking x) s.text s.on
+    go (Placed i) e = ap (λ (p : Phase). next_by graph op (by_text (form op.call)) p op.holdings) e ∙ ap₂ (λ (t : Option Errno) (x : Option Holdings). next_by graph op t (Placed i) x) s.text s.on
     go (Finished r) e = absurd (s.unfinished r e)
 
 -- the rest of the way, seen from before a move
-further : (graph : Graph) (k : Key) (op v : Record) (st : Stand) (steps more : ℕ) (a : Advanced graph k op st v) → Finishing graph (k ++ a.r) v steps → alone_by more graph op (next graph op) ≡ alone_by steps graph v (next graph v) → Finishing graph k op more
+further : (graph : Graph) (k : Key) (op v : Record) (st : Holdings) (steps more : ℕ) (a : Advanced graph k op st v) → Finishing graph (k ++ a.r) v steps → alone_by more graph op (next graph op) ≡ alone_by steps graph v (next graph v) → Finishing graph k op more
 further graph k op v st steps more a f e = record {
   last = f.last;
   st = f.st;
   r = a.r ++ f.r;
   o = f.o;
-  solo = subst (λ (x : Key). Solo graph x f.last f.st) (append_assoc k a.r f.r) f.solo;
+  solo = subst (λ (x : Key). OneUnfinished graph x f.last f.st) (append_assoc k a.r f.r) f.solo;
   move = f.move;
   ends = f.ends;
   same = ap (λ (x : Key). under x f.last.remaining) (sym (append_assoc k a.r f.r)) ∙ f.same ∙ a.same;
@@ -369,7 +369,7 @@ further graph k op v st steps more a f e = record {
   made = e ∙ f.made;
 }
 
-ended_here : (graph : Graph) (k : Key) (op : Record) (st : Stand) (steps : ℕ) (o : Option ℕ) → Solo graph k op st → next_on graph op.remaining st ≡ Finishes o → alone_by steps graph op (next graph op) ≡ finish graph op → Finishing graph k op steps
+ended_here : (graph : Graph) (k : Key) (op : Record) (st : Holdings) (steps : ℕ) (o : Option ℕ) → OneUnfinished graph k op st → next_on graph op.remaining st ≡ Finishes o → alone_by steps graph op (next graph op) ≡ finish graph op → Finishing graph k op steps
 ended_here graph k op st steps o s m e = record {
   last = op;
   st = st;
@@ -391,7 +391,7 @@ one_less : (a b n : ℕ) → a + 1 ≤ b → b ≤ suc n → a ≤ n
 one_less a b n h g = omega (arith, h, g)
 
 -- a call that goes on alone comes to its finish
-pub finishes_alone : (steps : ℕ) (graph : Graph) → IsGraph graph → (k : Key) (op : Record) (st : Stand) → Solo graph k op st → moves_left op.remaining st ≤ steps → Finishing graph k op steps
+pub finishes_alone : (steps : ℕ) (graph : Graph) → IsGraph graph → (k : Key) (op : Record) (st : Holdings) → OneUnfinished graph k op st → moves_left op.remaining st ≤ steps → Finishing graph k op steps
 finishes_alone zero graph is k op st s few = go (next_on graph op.remaining st) refl
   where
     go : (m : Move) → next_on graph op.remaining st ≡ m → Finishing graph k op zero
@@ -404,7 +404,7 @@ finishes_alone (suc steps) graph is k op st s few = go (λ j v new t f. finishes
     by : (m : Move) → next_on graph op.remaining st ≡ m → alone_by (suc steps) graph op (next graph op) ≡ alone_by (suc steps) graph op m
     by m e = ap (alone_by (suc steps) graph op) (solo_next graph k op st s ∙ e)
 
-    go : ((j : Key) (v : Record) (new : Stand) → Solo graph j v new → moves_left v.remaining new ≤ steps → Finishing graph j v steps) → (m : Move) → next_on graph op.remaining st ≡ m → Finishing graph k op (suc steps)
+    go : ((j : Key) (v : Record) (new : Holdings) → OneUnfinished graph j v new → moves_left v.remaining new ≤ steps → Finishing graph j v steps) → (m : Move) → next_on graph op.remaining st ≡ m → Finishing graph k op (suc steps)
     go rest (Takes n) e =
         let a : Advanced graph k op st (took op n) = solo_took graph is k op n st s (takes_by graph op n st s.on e) in
         further graph k op (took op n) st steps (suc steps) a (rest (k ++ a.r) (took op n) a.new a.solo (one_less (moves_left (took op n).remaining a.new) (moves_left op.remaining st) steps a.less few)) (by (Takes n) e)

@@ -9,59 +9,59 @@ use Rattle.fs_calls.specs.declared.target.PairCall.TheVariants as pairs
 use Rattle.fs_calls.specs.declared.reply.Reply.{Reply}
 use Rattle.fs_nodes.specs.Graphs.{Graph}
 use Rattle.fs_machine.specs.Moves.{target, took, head_took, behind_of, left_behind, took_by, inner}
-use Rattle.fs_machine.specs.Records.{Finished, Holds, Head, HeadHolds, Record, Stand, stand_at}
+use Rattle.fs_machine.specs.Records.{Finished, Holds, Head, HeadHolds, Record, Holdings, holdings_at}
 use Rattle.fs_laws.specs.Invariants.{IsUnfinished}
-use Rattle.fs_laws.proofs.calls.Takes.{Take, Walk, Entry, Source, Dest, Replaced, with_stand, walked_on}
+use Rattle.fs_laws.proofs.calls.Takes.{Take, Walk, Entry, Source, Dest, Replaced, with_holdings, walked_on}
 
 -- the source head has arrived, at a directory
-pub record SourceThere (graph : Graph) (p : Key) (st : Stand) : Type 0 where
+pub record SourceThere (graph : Graph) (p : Key) (st : Holdings) : Type 0 where
   pub arrived : left st.source.walked (parent_of p) ≡ []
   pub names : List Name
   pub dir : graph.shape st.source.node ≡ Some (Dir names)
 
 -- neither head has set out, and there is no victim
-pub record IsPlain (st : Stand) : Type 0 where
+pub record IsPlain (st : Holdings) : Type 0 where
   pub source : st.source.walked ≡ []
   pub dest : st.dest.walked ≡ []
   pub victim : st.victim ≡ None
 
 -- at a rename's common directory the second head, and then the victim, come last
-pub record InTurn (graph : Graph) (p : Key) (st : Stand) : Type 0 where
+pub record InTurn (graph : Graph) (p : Key) (st : Holdings) : Type 0 where
   pub dest : HasNames st.dest.walked → SourceThere graph p st
   pub victim : (v : ℕ) → st.victim ≡ Some v → SourceThere graph p st
 
-abbrev pub NeatAt : Graph → Key → Stand → Key → Type 0
+abbrev pub NeatAt : Graph → Key → Holdings → Key → Type 0
 NeatAt graph p st [] = InTurn graph p st
 NeatAt graph p st (x ∷ l) = IsPlain st
 
 -- the same of each form of call
-pub record NeatIn (p : Key) (st : Stand) : Type 0 where
+pub record NeatIn (p : Key) (st : Holdings) : Type 0 where
   pub source : st.source.walked ≡ []
   pub dest : st.dest.walked ≡ []
   pub victim : HasNames (parent_of p) → st.victim ≡ None
 
-abbrev pub Neat : Graph → Form → Stand → Type 0
-Neat graph (AtNode c p) st = IsPlain st
-Neat graph (AtEntry c p) st = NeatIn p st
-Neat graph (AtPair pairs.Rename p q) st = NeatAt graph p st (target (AtPair pairs.Rename p q))
+abbrev pub HeadsInOrder : Graph → Form → Holdings → Type 0
+HeadsInOrder graph (AtNode c p) st = IsPlain st
+HeadsInOrder graph (AtEntry c p) st = NeatIn p st
+HeadsInOrder graph (AtPair pairs.Rename p q) st = NeatAt graph p st (target (AtPair pairs.Rename p q))
 
 -- no parent is held behind
-pub record IsClosed (st : Stand) : Type 0 where
+pub record IsClosed (st : Holdings) : Type 0 where
   pub behind : st.behind ≡ None
   pub source : st.source.behind ≡ None
   pub dest : st.dest.behind ≡ None
 
-pub record NeatOp (graph : Graph) (op : Record) (st : Stand) : Type 0 where
-  pub under_way : IsUnfinished op → Neat graph op.remaining st
+pub record HeadsOfCallInOrder (graph : Graph) (op : Record) (st : Holdings) : Type 0 where
+  pub under_way : IsUnfinished op → HeadsInOrder graph op.remaining st
   pub closed : (r : Reply) → op.phase ≡ Finished r → IsClosed st
 
 -- a stand at one node
-pub neat_fresh : (graph : Graph) (remaining : Form) (n : ℕ) (behind : Option ℕ) → Neat graph remaining (stand_at n behind)
+pub neat_fresh : (graph : Graph) (remaining : Form) (n : ℕ) (behind : Option ℕ) → HeadsInOrder graph remaining (holdings_at n behind)
 neat_fresh graph (AtNode c p) n behind = record { source = refl; dest = refl; victim = refl }
 neat_fresh graph (AtEntry c p) n behind = record { source = refl; dest = refl; victim = λ h. refl }
 neat_fresh graph (AtPair pairs.Rename p q) n behind = go (common (parent_of p) (parent_of q))
   where
-    go : (l : Key) → NeatAt graph p (stand_at n behind) l
+    go : (l : Key) → NeatAt graph p (holdings_at n behind) l
     go [] = record { dest = λ h. absurd h; victim = λ v e. cc }
     go (x ∷ l) = record { source = refl; dest = refl; victim = refl }
 
@@ -69,10 +69,10 @@ neat_fresh graph (AtPair pairs.Rename p q) n behind = go (common (parent_of p) (
 abbrev pub DirStays : Graph → Graph → ℕ → Type 0
 DirStays old new n = (names : List Name) → old.shape n ≡ Some (Dir names) → (ns : List Name) × (new.shape n ≡ Some (Dir ns))
 
-there_by : (old new : Graph) (p : Key) (st : Stand) → DirStays old new st.source.node → SourceThere old p st → SourceThere new p st
+there_by : (old new : Graph) (p : Key) (st : Holdings) → DirStays old new st.source.node → SourceThere old p st → SourceThere new p st
 there_by old new p st f s = let d : (ns : List Name) × (new.shape st.source.node ≡ Some (Dir ns)) = f s.names s.dir in record { arrived = s.arrived; names = d.0; dir = d.1 }
 
-pub neat_by : (old new : Graph) (remaining : Form) (st : Stand) → DirStays old new st.source.node → Neat old remaining st → Neat new remaining st
+pub neat_by : (old new : Graph) (remaining : Form) (st : Holdings) → DirStays old new st.source.node → HeadsInOrder old remaining st → HeadsInOrder new remaining st
 neat_by old new (AtNode c p) st f w = w
 neat_by old new (AtEntry c p) st f w = w
 neat_by old new (AtPair pairs.Rename p q) st f w = go (common (parent_of p) (parent_of q)) w
@@ -81,17 +81,17 @@ neat_by old new (AtPair pairs.Rename p q) st f w = go (common (parent_of p) (par
     go [] w = record { dest = λ h. there_by old new p st f (w.dest h); victim = λ v e. there_by old new p st f (w.victim v e) }
     go (x ∷ l) w = w
 
-pub neat_op_by : (old new : Graph) (op : Record) (st : Stand) → DirStays old new st.source.node → NeatOp old op st → NeatOp new op st
+pub neat_op_by : (old new : Graph) (op : Record) (st : Holdings) → DirStays old new st.source.node → HeadsOfCallInOrder old op st → HeadsOfCallInOrder new op st
 neat_op_by old new op st f w = record { under_way = λ u. neat_by old new op.remaining st f (w.under_way u); closed = w.closed }
 
 -- a stand with the same heads and victim
-pub record SameHeads (old new : Stand) : Type 0 where
+pub record SameHeads (old new : Holdings) : Type 0 where
   pub source : new.source.walked ≡ old.source.walked
   pub node : new.source.node ≡ old.source.node
   pub dest : new.dest.walked ≡ old.dest.walked
   pub victim : new.victim ≡ old.victim
 
-pub neat_heads : (graph : Graph) (remaining : Form) (old new : Stand) → SameHeads old new → Neat graph remaining old → Neat graph remaining new
+pub neat_heads : (graph : Graph) (remaining : Form) (old new : Holdings) → SameHeads old new → HeadsInOrder graph remaining old → HeadsInOrder graph remaining new
 neat_heads graph (AtNode c p) old new s w = record { source = s.source ∙ w.source; dest = s.dest ∙ w.dest; victim = s.victim ∙ w.victim }
 neat_heads graph (AtEntry c p) old new s w = record { source = s.source ∙ w.source; dest = s.dest ∙ w.dest; victim = λ h. s.victim ∙ w.victim h }
 neat_heads graph (AtPair pairs.Rename p q) old new s w = go (common (parent_of p) (parent_of q)) w
@@ -103,34 +103,34 @@ neat_heads graph (AtPair pairs.Rename p q) old new s w = go (common (parent_of p
     go [] w = record { dest = λ h. there (w.dest (subst HasNames s.dest h)); victim = λ v e. there (w.victim v (sym s.victim ∙ e)) }
     go (x ∷ l) w = record { source = s.source ∙ w.source; dest = s.dest ∙ w.dest; victim = s.victim ∙ w.victim }
 
-pub left_same : (st : Stand) (b s : Option ℕ) → SameHeads st (left_behind st b s)
+pub left_same : (st : Holdings) (b s : Option ℕ) → SameHeads st (left_behind st b s)
 left_same st (Some m) s = record { source = refl; node = refl; dest = refl; victim = refl }
 left_same st None (Some m) = record { source = refl; node = refl; dest = refl; victim = refl }
 left_same st None None = record { source = refl; node = refl; dest = refl; victim = refl }
 
 -- a call with a name to walk has neither heads nor a victim
-pub plain_of : (graph : Graph) (remaining : Form) (st : Stand) (x : Name) (l : Key) → target remaining ≡ x ∷ l → Neat graph remaining st → (st.source.walked ≡ []) × (st.dest.walked ≡ []) × (st.victim ≡ None)
+pub plain_of : (graph : Graph) (remaining : Form) (st : Holdings) (x : Name) (l : Key) → target remaining ≡ x ∷ l → HeadsInOrder graph remaining st → (st.source.walked ≡ []) × (st.dest.walked ≡ []) × (st.victim ≡ None)
 plain_of graph (AtNode c p) st x l e w = (w.source, w.dest, w.victim)
 plain_of graph (AtEntry c p) st x l e w = (w.source, w.dest, w.victim (subst HasNames (sym e) tt))
 plain_of graph (AtPair pairs.Rename p q) st x l e w = let i : IsPlain st = subst (NeatAt graph p st) e w in (i.source, i.dest, i.victim)
 
-pub in_turn : (graph : Graph) (p q : Key) (st : Stand) (remaining : Form) → remaining ≡ AtPair pairs.Rename p q → common (parent_of p) (parent_of q) ≡ [] → Neat graph remaining st → InTurn graph p st
-in_turn graph p q st remaining rem way w = subst (NeatAt graph p st) way (subst (λ (f : Form). Neat graph f st) rem w)
+pub in_turn : (graph : Graph) (p q : Key) (st : Holdings) (remaining : Form) → remaining ≡ AtPair pairs.Rename p q → common (parent_of p) (parent_of q) ≡ [] → HeadsInOrder graph remaining st → InTurn graph p st
+in_turn graph p q st remaining rem way w = subst (NeatAt graph p st) way (subst (λ (f : Form). HeadsInOrder graph f st) rem w)
 
-of_turn : (graph : Graph) (p q : Key) (st : Stand) (remaining : Form) → remaining ≡ AtPair pairs.Rename p q → common (parent_of p) (parent_of q) ≡ [] → InTurn graph p st → Neat graph remaining st
-of_turn graph p q st remaining rem way w = subst (λ (f : Form). Neat graph f st) (sym rem) (subst (NeatAt graph p st) (sym way) w)
+of_turn : (graph : Graph) (p q : Key) (st : Holdings) (remaining : Form) → remaining ≡ AtPair pairs.Rename p q → common (parent_of p) (parent_of q) ≡ [] → InTurn graph p st → HeadsInOrder graph remaining st
+of_turn graph p q st remaining rem way w = subst (λ (f : Form). HeadsInOrder graph f st) (sym rem) (subst (NeatAt graph p st) (sym way) w)
 
 -- a head that is on its way has not arrived
-not_there : (graph : Graph) (p : Key) (st : Stand) (x : Name) (l : Key) → left st.source.walked (parent_of p) ≡ x ∷ l → SourceThere graph p st → ⊥
+not_there : (graph : Graph) (p : Key) (st : Holdings) (x : Name) (l : Key) → left st.source.walked (parent_of p) ≡ x ∷ l → SourceThere graph p st → ⊥
 not_there graph p st x l e t = let z : ◌≡◌ {A = Key} [] (x ∷ l) = sym t.arrived ∙ e in cc
 
 pub record TookWell (graph : Graph) (op : Record) (n : ℕ) : Type 0 where
-  pub new : Stand
-  pub on : (took op n).stand ≡ Some new
+  pub new : Holdings
+  pub on : (took op n).holdings ≡ Some new
   pub seat : (took op n).seat ≡ op.seat
   pub here : Holds new n
-  pub stays : (st : Stand) (m : ℕ) → op.stand ≡ Some st → Holds st m → Holds new m
-  pub neat : NeatOp graph (took op n) new
+  pub stays : (st : Holdings) (m : ℕ) → op.holdings ≡ Some st → Holds st m → Holds new m
+  pub neat : HeadsOfCallInOrder graph (took op n) new
 
 has_pushed : (w : Key) (x : Name) → HasNames (w ++ x ∷ [])
 has_pushed [] x = tt
@@ -146,51 +146,51 @@ head_stays h x n m b (w, inl e) = (has_pushed h.walked x, inr (behind h.walked w
 head_stays h x n m b (w, inr e) = let z : ◌≡◌ {A = Option ℕ} None (Some m) = sym b ∙ e in cc
 
 -- a record with the same phase
-open_only : (graph : Graph) (op v : Record) (st : Stand) → IsUnfinished op → v.phase ≡ op.phase → Neat graph v.remaining st → NeatOp graph v st
+open_only : (graph : Graph) (op v : Record) (st : Holdings) → IsUnfinished op → v.phase ≡ op.phase → HeadsInOrder graph v.remaining st → HeadsOfCallInOrder graph v st
 open_only graph op v st u same w = record { under_way = λ h. w; closed = λ r e. absurd (u r (sym same ∙ e)) }
 
-took_as : (graph : Graph) (op v : Record) (n : ℕ) (new : Stand) → took op n ≡ v → v.stand ≡ Some new → v.seat ≡ op.seat → Holds new n → ((st : Stand) (m : ℕ) → op.stand ≡ Some st → Holds st m → Holds new m) → NeatOp graph v new → TookWell graph op n
+took_as : (graph : Graph) (op v : Record) (n : ℕ) (new : Holdings) → took op n ≡ v → v.holdings ≡ Some new → v.seat ≡ op.seat → Holds new n → ((st : Holdings) (m : ℕ) → op.holdings ≡ Some st → Holds st m → Holds new m) → HeadsOfCallInOrder graph v new → TookWell graph op n
 took_as graph op v n new is on seat here stays neat = record {
   new = new;
-  on = ap (λ (o : Record). o.stand) is ∙ on;
+  on = ap (λ (o : Record). o.holdings) is ∙ on;
   seat = ap (λ (o : Record). o.seat) is ∙ seat;
   here = here;
   stays = stays;
-  neat = subst (λ (o : Record). NeatOp graph o new) (sym is) neat;
+  neat = subst (λ (o : Record). HeadsOfCallInOrder graph o new) (sym is) neat;
 }
 
-pub took_root : (graph : Graph) (op : Record) (n : ℕ) → IsUnfinished op → op.stand ≡ None → TookWell graph op n
-took_root graph op n u off = took_as graph op (record op { stand = Some (stand_at n None) }) n (stand_at n None) (ap (λ (s : Option Stand). took_by op s (target op.remaining) n) off) refl refl (inl refl)
-    (λ st m e h. (let z : ◌≡◌ {A = Option Stand} None (Some st) = sym off ∙ e in cc))
-    (open_only graph op (record op { stand = Some (stand_at n None) }) (stand_at n None) u refl (neat_fresh graph op.remaining n None))
+pub took_root : (graph : Graph) (op : Record) (n : ℕ) → IsUnfinished op → op.holdings ≡ None → TookWell graph op n
+took_root graph op n u off = took_as graph op (record op { holdings = Some (holdings_at n None) }) n (holdings_at n None) (ap (λ (s : Option Holdings). took_by op s (target op.remaining) n) off) refl refl (inl refl)
+    (λ st m e h. (let z : ◌≡◌ {A = Option Holdings} None (Some st) = sym off ∙ e in cc))
+    (open_only graph op (record op { holdings = Some (holdings_at n None) }) (holdings_at n None) u refl (neat_fresh graph op.remaining n None))
 
-pub took_well : (graph : Graph) (op : Record) (n : ℕ) (st : Stand) → IsUnfinished op → op.stand ≡ Some st → Neat graph op.remaining st → Take graph op n st → TookWell graph op n
-took_well graph op n st u on w (Walk x l way b kid is) =
-    took_as graph op (walked_on op st x n) n (stand_at n (Some st.node)) is refl refl (inl refl) (λ s m e h. stays m (subst (λ (y : Stand). Holds y m) (stand_is s e) h))
-    (open_only graph op (walked_on op st x n) (stand_at n (Some st.node)) u refl (neat_fresh graph (inner op.remaining) n (Some st.node)))
+pub took_well : (graph : Graph) (op : Record) (n : ℕ) (st : Holdings) → IsUnfinished op → op.holdings ≡ Some st → HeadsInOrder graph op.remaining st → Take graph op n st → TookWell graph op n
+took_well graph op n st u on w (Walk x l way b child is) =
+    took_as graph op (walked_on op st x n) n (holdings_at n (Some st.node)) is refl refl (inl refl) (λ s m e h. stays m (subst (λ (y : Holdings). Holds y m) (holdings_is s e) h))
+    (open_only graph op (walked_on op st x n) (holdings_at n (Some st.node)) u refl (neat_fresh graph (inner op.remaining) n (Some st.node)))
   where
     plain : (st.source.walked ≡ []) × (st.dest.walked ≡ []) × (st.victim ≡ None)
     plain = plain_of graph op.remaining st x l way w
 
-    stand_is : (s : Stand) → op.stand ≡ Some s → s ≡ st
-    stand_is s e = let z : ◌≡◌ {A = Option Stand} (Some s) (Some st) = sym e ∙ on in cc
+    holdings_is : (s : Holdings) → op.holdings ≡ Some s → s ≡ st
+    holdings_is s e = let z : ◌≡◌ {A = Option Holdings} (Some s) (Some st) = sym e ∙ on in cc
 
-    stays : (m : ℕ) → Holds st m → Holds (stand_at n (Some st.node)) m
+    stays : (m : ℕ) → Holds st m → Holds (holdings_at n (Some st.node)) m
     stays m (inl e) = inr (inl (ap (λ (k : ℕ). Some k) e))
     stays m (inr (inl e)) = let z : ◌≡◌ {A = Option ℕ} None (Some m) = sym b ∙ e in cc
     stays m (inr (inr (inl h))) = absurd (subst HasNames plain.0 h.0)
     stays m (inr (inr (inr (inl h)))) = absurd (subst HasNames plain.1 h.0)
     stays m (inr (inr (inr (inr e)))) = let z : ◌≡◌ {A = Option ℕ} None (Some m) = sym plain.2 ∙ e in cc
-took_well graph op n st u on w (Entry e p rem way b kid off is) =
-    took_as graph op (with_stand op (record st { victim = Some n })) n (record st { victim = Some n }) is refl refl (inr (inr (inr (inr refl)))) (λ s m i h. stays m (subst (λ (y : Stand). Holds y m) (stand_is s i) h))
-    (open_only graph op (with_stand op (record st { victim = Some n })) (record st { victim = Some n }) u refl
-    (subst (λ (f : Form). Neat graph f (record st { victim = Some n })) (sym rem) (record { source = mine.source; dest = mine.dest; victim = λ h. absurd (subst HasNames way h) })))
+took_well graph op n st u on w (Entry e p rem way b child off is) =
+    took_as graph op (with_holdings op (record st { victim = Some n })) n (record st { victim = Some n }) is refl refl (inr (inr (inr (inr refl)))) (λ s m i h. stays m (subst (λ (y : Holdings). Holds y m) (holdings_is s i) h))
+    (open_only graph op (with_holdings op (record st { victim = Some n })) (record st { victim = Some n }) u refl
+    (subst (λ (f : Form). HeadsInOrder graph f (record st { victim = Some n })) (sym rem) (record { source = mine.source; dest = mine.dest; victim = λ h. absurd (subst HasNames way h) })))
   where
     mine : NeatIn p st
-    mine = subst (λ (f : Form). Neat graph f st) rem w
+    mine = subst (λ (f : Form). HeadsInOrder graph f st) rem w
 
-    stand_is : (s : Stand) → op.stand ≡ Some s → s ≡ st
-    stand_is s i = let z : ◌≡◌ {A = Option Stand} (Some s) (Some st) = sym i ∙ on in cc
+    holdings_is : (s : Holdings) → op.holdings ≡ Some s → s ≡ st
+    holdings_is s i = let z : ◌≡◌ {A = Option Holdings} (Some s) (Some st) = sym i ∙ on in cc
 
     stays : (m : ℕ) → Holds st m → Holds (record st { victim = Some n }) m
     stays m (inl i) = inl i
@@ -198,16 +198,16 @@ took_well graph op n st u on w (Entry e p rem way b kid off is) =
     stays m (inr (inr (inl h))) = inr (inr (inl h))
     stays m (inr (inr (inr (inl h)))) = inr (inr (inr (inl h)))
     stays m (inr (inr (inr (inr i)))) = let z : ◌≡◌ {A = Option ℕ} None (Some m) = sym off ∙ i in cc
-took_well graph op n st u on w (Source p q x l rem way b at_left sb kid is) =
-    took_as graph op (with_stand op (record st { source = head_took st.source x n })) n (record st { source = head_took st.source x n }) is refl refl (inr (inr (inl (has_pushed st.source.walked x, inl refl)))) (λ s m i h. stays m (subst (λ (y : Stand). Holds y m) (stand_is s i) h))
-    (open_only graph op (with_stand op (record st { source = head_took st.source x n })) (record st { source = head_took st.source x n }) u refl
+took_well graph op n st u on w (Source p q x l rem way b at_left sb child is) =
+    took_as graph op (with_holdings op (record st { source = head_took st.source x n })) n (record st { source = head_took st.source x n }) is refl refl (inr (inr (inl (has_pushed st.source.walked x, inl refl)))) (λ s m i h. stays m (subst (λ (y : Holdings). Holds y m) (holdings_is s i) h))
+    (open_only graph op (with_holdings op (record st { source = head_took st.source x n })) (record st { source = head_took st.source x n }) u refl
     (of_turn graph p q (record st { source = head_took st.source x n }) op.remaining rem way (record { dest = λ h. absurd (not_there graph p st x l at_left (turn.dest h)); victim = λ v i. absurd (not_there graph p st x l at_left (turn.victim v i)) })))
   where
     turn : InTurn graph p st
     turn = in_turn graph p q st op.remaining rem way w
 
-    stand_is : (s : Stand) → op.stand ≡ Some s → s ≡ st
-    stand_is s i = let z : ◌≡◌ {A = Option Stand} (Some s) (Some st) = sym i ∙ on in cc
+    holdings_is : (s : Holdings) → op.holdings ≡ Some s → s ≡ st
+    holdings_is s i = let z : ◌≡◌ {A = Option Holdings} (Some s) (Some st) = sym i ∙ on in cc
 
     stays : (m : ℕ) → Holds st m → Holds (record st { source = head_took st.source x n }) m
     stays m (inl i) = inl i
@@ -215,13 +215,13 @@ took_well graph op n st u on w (Source p q x l rem way b at_left sb kid is) =
     stays m (inr (inr (inl h))) = inr (inr (inl (head_stays st.source x n m sb h)))
     stays m (inr (inr (inr (inl h)))) = inr (inr (inr (inl h)))
     stays m (inr (inr (inr (inr i)))) = inr (inr (inr (inr i)))
-took_well graph op n st u on w (Dest p q x l names rem way b arrived sb dir at_left db kid is) =
-    took_as graph op (with_stand op (record st { dest = head_took st.dest x n })) n (record st { dest = head_took st.dest x n }) is refl refl (inr (inr (inr (inl (has_pushed st.dest.walked x, inl refl))))) (λ s m i h. stays m (subst (λ (y : Stand). Holds y m) (stand_is s i) h))
-    (open_only graph op (with_stand op (record st { dest = head_took st.dest x n })) (record st { dest = head_took st.dest x n }) u refl
+took_well graph op n st u on w (Dest p q x l names rem way b arrived sb dir at_left db child is) =
+    took_as graph op (with_holdings op (record st { dest = head_took st.dest x n })) n (record st { dest = head_took st.dest x n }) is refl refl (inr (inr (inr (inl (has_pushed st.dest.walked x, inl refl))))) (λ s m i h. stays m (subst (λ (y : Holdings). Holds y m) (holdings_is s i) h))
+    (open_only graph op (with_holdings op (record st { dest = head_took st.dest x n })) (record st { dest = head_took st.dest x n }) u refl
     (of_turn graph p q (record st { dest = head_took st.dest x n }) op.remaining rem way (record { dest = λ h. record { arrived = arrived; names = names; dir = dir }; victim = λ v i. record { arrived = arrived; names = names; dir = dir } })))
   where
-    stand_is : (s : Stand) → op.stand ≡ Some s → s ≡ st
-    stand_is s i = let z : ◌≡◌ {A = Option Stand} (Some s) (Some st) = sym i ∙ on in cc
+    holdings_is : (s : Holdings) → op.holdings ≡ Some s → s ≡ st
+    holdings_is s i = let z : ◌≡◌ {A = Option Holdings} (Some s) (Some st) = sym i ∙ on in cc
 
     stays : (m : ℕ) → Holds st m → Holds (record st { dest = head_took st.dest x n }) m
     stays m (inl i) = inl i
@@ -229,13 +229,13 @@ took_well graph op n st u on w (Dest p q x l names rem way b arrived sb dir at_l
     stays m (inr (inr (inl h))) = inr (inr (inl h))
     stays m (inr (inr (inr (inl h)))) = inr (inr (inr (inl (head_stays st.dest x n m db h))))
     stays m (inr (inr (inr (inr i)))) = inr (inr (inr (inr i)))
-took_well graph op n st u on w (Replaced p q names rem way b arrived sb dir at_left db want kid off is) =
-    took_as graph op (with_stand op (record st { victim = Some n })) n (record st { victim = Some n }) is refl refl (inr (inr (inr (inr refl)))) (λ s m i h. stays m (subst (λ (y : Stand). Holds y m) (stand_is s i) h))
-    (open_only graph op (with_stand op (record st { victim = Some n })) (record st { victim = Some n }) u refl
+took_well graph op n st u on w (Replaced p q names rem way b arrived sb dir at_left db want child off is) =
+    took_as graph op (with_holdings op (record st { victim = Some n })) n (record st { victim = Some n }) is refl refl (inr (inr (inr (inr refl)))) (λ s m i h. stays m (subst (λ (y : Holdings). Holds y m) (holdings_is s i) h))
+    (open_only graph op (with_holdings op (record st { victim = Some n })) (record st { victim = Some n }) u refl
     (of_turn graph p q (record st { victim = Some n }) op.remaining rem way (record { dest = λ h. record { arrived = arrived; names = names; dir = dir }; victim = λ v i. record { arrived = arrived; names = names; dir = dir } })))
   where
-    stand_is : (s : Stand) → op.stand ≡ Some s → s ≡ st
-    stand_is s i = let z : ◌≡◌ {A = Option Stand} (Some s) (Some st) = sym i ∙ on in cc
+    holdings_is : (s : Holdings) → op.holdings ≡ Some s → s ≡ st
+    holdings_is s i = let z : ◌≡◌ {A = Option Holdings} (Some s) (Some st) = sym i ∙ on in cc
 
     stays : (m : ℕ) → Holds st m → Holds (record st { victim = Some n }) m
     stays m (inl i) = inl i

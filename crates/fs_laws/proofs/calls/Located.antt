@@ -5,13 +5,13 @@ use Rattle.fs_names.specs.Keys.{Key, after_prefix, parent_of, last_of}
 use Rattle.fs_names.specs.Names.{Name}
 use Rattle.fs_names.specs.Parts.{is_end, HasNames}
 use Rattle.fs_names.specs.Shapes.{Shape, Dir, File, is_full, names_of}
-use Rattle.fs_laws.specs.Changes.{Change, moved_by, changed, resolve_next, resolve, resolve_dir, content_change, edit_change, rename_writes, move_change, in_looked, rename_looked, looked, unless, outcome, after}
+use Rattle.fs_laws.specs.Changes.{Change, moved_by, changed, resolve_next, resolve, resolve_dir, content_change, edit_change, rename_writes, move_change, entry_looked, rename_looked, looked, if_sound, outcome, after}
 use Rattle.fs_calls.specs.Forms.{Form, AtNode, AtEntry, AtPair, by_text, under, Fits}
 use Rattle.fs_calls.specs.declared.target.PairCall.TheVariants as pairs
 use Rattle.fs_calls.specs.declared.target.EntryCall.{EntryCall}
 use Rattle.fs_calls.proofs.RowNames.{if_below}
 use Rattle.fs_laws.specs.Maps.{Map, below, act, act_at, move, moved_to, moved_from, write_all}
-use Rattle.fs_calls.specs.Rows.{as_dir, on_row, Edit, Keep, Add, Remove, in_row, rename_row}
+use Rattle.fs_calls.specs.Rows.{as_dir, node_row, Edit, Keep, Add, Remove, entry_row, rename_row}
 use Rattle.fs_calls.specs.declared.errno.Errno.{Errno}
 use Rattle.fs_calls.specs.declared.reply.Reply.{Reply}
 use Rattle.fs_laws.proofs.trees.Prefixes.{prefix_some, prefix_both, prefix_deeper}
@@ -123,11 +123,11 @@ move_under : (k : Key) (b : Bool) (ws : List (Key × Option Shape)) (p q : Key) 
 move_under k true ws p q = refl
 move_under k false ws p q = refl
 
-in_under : (tree : Map Shape) (k : Key) (c : EntryCall) (p d : Key) (x : Name) → resolve tree k ≡ None → in_looked tree c (k ++ p) (k ++ d) x ≡ outcome_under k (in_looked (below k tree) c p d x)
+in_under : (tree : Map Shape) (k : Key) (c : EntryCall) (p d : Key) (x : Name) → resolve tree k ≡ None → entry_looked tree c (k ++ p) (k ++ d) x ≡ outcome_under k (entry_looked (below k tree) c p d x)
 in_under tree k c p d x at =
     let r : Option Errno = resolve_dir (below k tree) d in
-    ap (λ (e : Option Errno). ((in_row c (as_dir e (tree (k ++ d))) (is_full (tree (k ++ d))) (tree (k ++ p))).0, edit_change (k ++ d) (names_of (tree (k ++ d))) x (k ++ p) (in_row c (as_dir e (tree (k ++ d))) (is_full (tree (k ++ d))) (tree (k ++ p))).1)) (resolve_under tree k d at)
-    ∙ ap (λ (ch : Change). ((in_row c r (is_full (tree (k ++ d))) (tree (k ++ p))).0, ch)) (edit_under k d (names_of (tree (k ++ d))) x p (in_row c r (is_full (tree (k ++ d))) (tree (k ++ p))).1)
+    ap (λ (e : Option Errno). ((entry_row c (as_dir e (tree (k ++ d))) (is_full (tree (k ++ d))) (tree (k ++ p))).0, edit_change (k ++ d) (names_of (tree (k ++ d))) x (k ++ p) (entry_row c (as_dir e (tree (k ++ d))) (is_full (tree (k ++ d))) (tree (k ++ p))).1)) (resolve_under tree k d at)
+    ∙ ap (λ (ch : Change). ((entry_row c r (is_full (tree (k ++ d))) (tree (k ++ p))).0, ch)) (edit_under k d (names_of (tree (k ++ d))) x p (entry_row c r (is_full (tree (k ++ d))) (tree (k ++ p))).1)
 
 rename_under : (tree : Map Shape) (k p q d : Key) (x : Name) (e : Key) (y : Name) → resolve tree k ≡ None → rename_looked tree (k ++ p) (k ++ q) (k ++ d) x (k ++ e) y ≡ outcome_under k (rename_looked (below k tree) p q d x e y)
 rename_under tree k p q d x e y at =
@@ -139,11 +139,11 @@ rename_under tree k p q d x e y at =
 
 looked_located : (tree : Map Shape) (k : Key) (call : Form) → resolve tree k ≡ None → Fits call → looked tree (under k call) ≡ outcome_under k (looked (below k tree) call)
 looked_located tree k (AtNode c p) at fits =
-    ap (λ (e : Option Errno). ((on_row c e (tree (k ++ p))).0, content_change (k ++ p) (on_row c e (tree (k ++ p))).1)) (resolve_under tree k p at)
-    ∙ ap (λ (ch : Change). ((on_row c (resolve (below k tree) p) (tree (k ++ p))).0, ch)) (content_under k p (on_row c (resolve (below k tree) p) (tree (k ++ p))).1)
+    ap (λ (e : Option Errno). ((node_row c e (tree (k ++ p))).0, content_change (k ++ p) (node_row c e (tree (k ++ p))).1)) (resolve_under tree k p at)
+    ∙ ap (λ (ch : Change). ((node_row c (resolve (below k tree) p) (tree (k ++ p))).0, ch)) (content_under k p (node_row c (resolve (below k tree) p) (tree (k ++ p))).1)
 looked_located tree k (AtEntry c p) at fits =
     let m : HasNames p = in_more c p fits in
-    ap₂ (in_looked tree c (k ++ p)) (dir_under k p m) (last_under k p m) ∙ in_under tree k c p (parent_of p) (last_of p) at
+    ap₂ (entry_looked tree c (k ++ p)) (dir_under k p m) (last_under k p m) ∙ in_under tree k c p (parent_of p) (last_of p) at
 looked_located tree k (AtPair pairs.Rename p q) at fits =
     let m : HasNames p = from_more p q fits in
     let n : HasNames q = to_more p q fits in
@@ -153,9 +153,9 @@ looked_located tree k (AtPair pairs.Rename p q) at fits =
 
 pub outcome_located : (tree : Map Shape) (k : Key) (call : Form) → resolve tree k ≡ None → Fits call → outcome tree (under k call) ≡ outcome_under k (outcome (below k tree) call)
 outcome_located tree k call at fits =
-    ap (λ (e : Option Errno). unless e (looked tree (under k call))) (fits_under k call fits)
+    ap (λ (e : Option Errno). if_sound e (looked tree (under k call))) (fits_under k call fits)
     ∙ looked_located tree k call at fits
-    ∙ ap (λ (e : Option Errno). outcome_under k (unless e (looked (below k tree) call))) (sym fits)
+    ∙ ap (λ (e : Option Errno). outcome_under k (if_sound e (looked (below k tree) call))) (sym fits)
 
 -- a move below k, read from the root
 move_at : (k s t : Key) (tree : Map Shape) → move (k ++ s) (k ++ t) tree ≡ act k (move s t) tree

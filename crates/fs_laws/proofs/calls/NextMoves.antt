@@ -4,12 +4,12 @@ use Rattle.fs_names.specs.Keys.{Key, last_of}
 use Rattle.fs_names.specs.Shapes.{Shape, Dir}
 use Rattle.fs_nodes.specs.Graphs.{numbers, IsGraph}
 use Rattle.fs_machine.specs.Moves.{Takes, Leaves, next}
-use Rattle.fs_machine.specs.Records.{Holds, Record, Stand}
+use Rattle.fs_machine.specs.Records.{Holds, Record, Holdings}
 use Rattle.fs_laws.specs.Invariants.{Invariant}
 use Rattle.fs_laws.specs.States.{State, Run}
 use Rattle.fs_laws.proofs.calls.NodesHeld.{slot_holds}
 use Rattle.fs_laws.proofs.events.LetGo.{LetsGo, On_way, At_end, Last, lets_go}
-use Rattle.fs_laws.proofs.events.Take.{TakesFrom, From_nowhere, From_stand, takes_from}
+use Rattle.fs_laws.proofs.events.Take.{TakesFrom, From_nowhere, From_holdings, takes_from}
 use Rattle.fs_laws.proofs.states.Headline.{run_keeps}
 use Rattle.fs_laws.proofs.calls.Takes.{Take, Walk, Entry, Source, Dest, Replaced, takes_by}
 use Rattle.fs_laws.proofs.calls.OneUnfinishedCall.{solo_of, solo_wants}
@@ -27,34 +27,34 @@ takes_used s c op n run is m = go (takes_from s.graph op n m).0
     graph : IsGraph s.graph
     graph = (run_keeps s run).is_graph
 
-    by : (st : Stand) → Take s.graph op n st → (shape : Shape) × (s.graph.shape n ≡ Some shape)
-    by st (Walk x l way b kid is) = graph.to_used st.node n x kid
-    by st (Entry e p rem way b kid off is) = graph.to_used st.node n (last_of p) kid
-    by st (Source p q x l rem way b at_left sb kid is) = graph.to_used st.source.node n x kid
-    by st (Dest p q x l names rem way b arrived sb dir at_left db kid is) = graph.to_used st.dest.node n x kid
-    by st (Replaced p q names rem way b arrived sb dir at_left db want kid off is) = graph.to_used st.dest.node n (last_of q) kid
+    by : (st : Holdings) → Take s.graph op n st → (shape : Shape) × (s.graph.shape n ≡ Some shape)
+    by st (Walk x l way b child is) = graph.to_used st.node n x child
+    by st (Entry e p rem way b child off is) = graph.to_used st.node n (last_of p) child
+    by st (Source p q x l rem way b at_left sb child is) = graph.to_used st.source.node n x child
+    by st (Dest p q x l names rem way b arrived sb dir at_left db child is) = graph.to_used st.dest.node n x child
+    by st (Replaced p q names rem way b arrived sb dir at_left db want child off is) = graph.to_used st.dest.node n (last_of q) child
 
     go : TakesFrom s.graph op n → (shape : Shape) × (s.graph.shape n ≡ Some shape)
     go (From_nowhere text off z) = (Dir graph.root.0, sym (ap s.graph.shape z) ∙ graph.root.1)
-    go (From_stand st on t) = by st (takes_by s.graph op n st on t)
+    go (From_holdings st on t) = by st (takes_by s.graph op n st on t)
 
 -- what a call wants is held by another, or by nobody
 pub takes_another : (s : State) (c : ℕ) (op : Record) (n : ℕ) → Run s → s.ops c ≡ Some op → next s.graph op ≡ Takes n → s.holder n ≡ Some c → ⊥
 takes_another s c op n run is m held = go (takes_from s.graph op n m).0 ((run_accounts s run).holds n c held)
   where
-    same : (st t : Stand) → op.stand ≡ Some st → op.stand ≡ Some t → t ≡ st
-    same st t e f = let z : ◌≡◌ {A = Option Stand} (Some st) (Some t) = sym e ∙ f in cc
+    same : (st t : Holdings) → op.holdings ≡ Some st → op.holdings ≡ Some t → t ≡ st
+    same st t e f = let z : ◌≡◌ {A = Option Holdings} (Some st) (Some t) = sym e ∙ f in cc
 
     go : TakesFrom s.graph op n → Holder s n c → ⊥
     go (From_nowhere text off z) (q, st, q_is, on, h) =
         let y : ◌≡◌ {A = Option Record} (Some q) (Some op) = sym q_is ∙ is in
         let x : op ≡ q = cc in
-        (let w : ◌≡◌ {A = Option Stand} None (Some st) = sym off ∙ ap (λ (o : Record). o.stand) x ∙ on in cc)
-    go (From_stand st on t) (q, other, q_is, on_q, h) =
+        (let w : ◌≡◌ {A = Option Holdings} None (Some st) = sym off ∙ ap (λ (o : Record). o.holdings) x ∙ on in cc)
+    go (From_holdings st on t) (q, other, q_is, on_q, h) =
         let y : ◌≡◌ {A = Option Record} (Some q) (Some op) = sym q_is ∙ is in
         let x : op ≡ q = cc in
-        let e : other ≡ st = same st other on (ap (λ (o : Record). o.stand) x ∙ on_q) in
-        solo_wants s.graph (run_keeps s run).is_graph ((run_keeps s run).key c) op n st (solo_of s (run_keeps s run) (run_accounts s run) c op st is (takes_from s.graph op n m).1 on) (takes_by s.graph op n st on t) (subst (λ (z : Stand). Holds z n) e h)
+        let e : other ≡ st = same st other on (ap (λ (o : Record). o.holdings) x ∙ on_q) in
+        solo_wants s.graph (run_keeps s run).is_graph ((run_keeps s run).key c) op n st (solo_of s (run_keeps s run) (run_accounts s run) c op st is (takes_from s.graph op n m).1 on) (takes_by s.graph op n st on t) (subst (λ (z : Holdings). Holds z n) e h)
 
 -- what a call lets go it holds
 pub leaves_held : (s : State) (c : ℕ) (op : Record) (n : ℕ) → Run s → s.ops c ≡ Some op → next s.graph op ≡ Leaves n → s.holder n ≡ Some c

@@ -4,7 +4,7 @@ use Rattle.fs_names.specs.Keys.{Key}
 use Rattle.fs_names.specs.Names.{Name}
 use Rattle.fs_names.specs.Parts.{HasNames}
 use Rattle.fs_machine.specs.Moves.{behind_of, head_took}
-use Rattle.fs_machine.specs.Records.{Holds, Stand, stand_at}
+use Rattle.fs_machine.specs.Records.{Holds, Holdings, holdings_at}
 use Rattle.fs_laws.specs.Invariants.{Slot, At_node, At_behind, At_source, At_source_behind, At_dest, At_dest_behind, At_victim, if_walked, in_slot, IsSingle}
 
 -- a head that has set out holds what it has
@@ -12,7 +12,7 @@ if_walked_some : (w : Key) (o : Option ℕ) (q : ℕ) → if_walked w o ≡ Some
 if_walked_some [] o q e = cc
 if_walked_some (x ∷ w) o q e = (tt, e)
 
-pub slot_holds : (st : Stand) (a : Slot) (q : ℕ) → in_slot st a ≡ Some q → Holds st q
+pub slot_holds : (st : Holdings) (a : Slot) (q : ℕ) → in_slot st a ≡ Some q → Holds st q
 slot_holds st At_node q e = inl cc
 slot_holds st At_behind q e = inr (inl e)
 slot_holds st At_source q e = let h : HasNames st.source.walked × (Some st.source.node ≡ Some q) = if_walked_some st.source.walked (Some st.source.node) q e in let i : st.source.node ≡ q = some_is st.source.node q h.1 in inr (inr (inl (h.0, inl i)))
@@ -31,7 +31,7 @@ if_walked_is : (w : Key) (o : Option ℕ) (q : ℕ) → HasNames w → o ≡ Som
 if_walked_is [] o q m e = absurd m
 if_walked_is (x ∷ w) o q m e = e
 
-pub holds_slot : (st : Stand) (q : ℕ) → Holds st q → (a : Slot) × (in_slot st a ≡ Some q)
+pub holds_slot : (st : Holdings) (q : ℕ) → Holds st q → (a : Slot) × (in_slot st a ≡ Some q)
 holds_slot st q (inl e) = (At_node, ap (λ (n : ℕ). Some n) e)
 holds_slot st q (inr (inl e)) = (At_behind, e)
 holds_slot st q (inr (inr (inl (m, inl e)))) = (At_source, if_walked_is st.source.walked (Some st.source.node) q m (ap (λ (n : ℕ). Some n) e))
@@ -41,7 +41,7 @@ holds_slot st q (inr (inr (inr (inl (m, inr e))))) = (At_dest_behind, if_walked_
 holds_slot st q (inr (inr (inr (inr e)))) = (At_victim, e)
 
 -- a node that was held nowhere comes to one place, and all others stay or change places with it
-pub single_grow : (st new : Stand) (n : ℕ) (at : Slot) (swap : Slot → Slot) → ((a : Slot) → swap (swap a) ≡ a)
+pub single_grow : (st new : Holdings) (n : ℕ) (at : Slot) (swap : Slot → Slot) → ((a : Slot) → swap (swap a) ≡ a)
     → ((a : Slot) (q : ℕ) → in_slot new a ≡ Some q → ((a ≡ at) × (q ≡ n)) ⊎ (in_slot st (swap a) ≡ Some q)) → (Holds st n → ⊥) → IsSingle st → IsSingle new
 single_grow st new n at swap twice from free single a b q e f = go (from a q e) (from b q f)
   where
@@ -52,7 +52,7 @@ single_grow st new n at swap twice from free single a b q e f = go (from a q e) 
     go (inr i) (inr j) = sym (twice a) ∙ ap swap (single (swap a) (swap b) q i j) ∙ twice b
 
 -- a stand at one node, with its parent or without
-pub single_at : (n : ℕ) (behind : Option ℕ) → (behind ≡ Some n → ⊥) → IsSingle (stand_at n behind)
+pub single_at : (n : ℕ) (behind : Option ℕ) → (behind ≡ Some n → ⊥) → IsSingle (holdings_at n behind)
 single_at n behind differs At_node At_node q e f = refl
 single_at n behind differs At_behind At_behind q e f = refl
 single_at n behind differs At_node At_behind q e f = absurd (differs (f ∙ sym e))
@@ -69,7 +69,7 @@ single_at n behind differs a At_dest_behind q e f = cc
 single_at n behind differs a At_victim q e f = cc
 
 -- a victim is taken
-pub single_victim : (st : Stand) (n : ℕ) → (Holds st n → ⊥) → IsSingle st → IsSingle (record st { victim = Some n })
+pub single_victim : (st : Holdings) (n : ℕ) → (Holds st n → ⊥) → IsSingle st → IsSingle (record st { victim = Some n })
 single_victim st n free single = single_grow st (record st { victim = Some n }) n At_victim (λ a. a) (λ a. refl) from free single
   where
     from : (a : Slot) (q : ℕ) → in_slot (record st { victim = Some n }) a ≡ Some q → ((a ≡ At_victim) × (q ≡ n)) ⊎ (in_slot st a ≡ Some q)
@@ -90,7 +90,7 @@ push_walked [] x o = refl
 push_walked (y ∷ w) x o = refl
 
 -- a head walks on
-pub single_source : (st : Stand) (x : Name) (n : ℕ) → (Holds st n → ⊥) → IsSingle st → IsSingle (record st { source = head_took st.source x n })
+pub single_source : (st : Holdings) (x : Name) (n : ℕ) → (Holds st n → ⊥) → IsSingle st → IsSingle (record st { source = head_took st.source x n })
 single_source st x n free single = single_grow st (record st { source = head_took st.source x n }) n At_source swap twice from free single
   where
     swap : Slot → Slot
@@ -120,7 +120,7 @@ single_source st x n free single = single_grow st (record st { source = head_too
     from At_dest_behind q e = inr e
     from At_victim q e = inr e
 
-pub single_dest : (st : Stand) (x : Name) (n : ℕ) → (Holds st n → ⊥) → IsSingle st → IsSingle (record st { dest = head_took st.dest x n })
+pub single_dest : (st : Holdings) (x : Name) (n : ℕ) → (Holds st n → ⊥) → IsSingle st → IsSingle (record st { dest = head_took st.dest x n })
 single_dest st x n free single = single_grow st (record st { dest = head_took st.dest x n }) n At_dest swap twice from free single
   where
     swap : Slot → Slot

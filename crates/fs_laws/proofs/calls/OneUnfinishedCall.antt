@@ -7,33 +7,33 @@ use Rattle.fs_calls.specs.Forms.{form, Form, AtPair, by_text, Fits}
 use Rattle.fs_calls.specs.declared.target.PairCall.TheVariants as pairs
 use Rattle.fs_nodes.specs.Graphs.{Graph, numbers, IsGraph, entry_shape}
 use Rattle.fs_machine.specs.Moves.{same_kind}
-use Rattle.fs_machine.specs.Records.{Holds, Record, Stand}
-use Rattle.fs_laws.specs.Invariants.{IsUnfinished, Forked, StandsWell, NumberFor, VictimAt, IsSingle, HeadsFit, Invariant}
-use Rattle.fs_laws.specs.Stands.{Located}
+use Rattle.fs_machine.specs.Records.{Holds, Record, Holdings}
+use Rattle.fs_laws.specs.Invariants.{IsUnfinished, Forked, HeadsSound, NumberFor, VictimAt, IsSingle, HeadsFit, Invariant}
+use Rattle.fs_laws.specs.CallFacts.{Located}
 use Rattle.fs_laws.specs.States.{State}
 use Rattle.fs_laws.proofs.trees.Prefixes.{prefix_append, same_refl}
 use Rattle.fs_laws.proofs.graphs.Walks.{at_child}
 use Rattle.fs_laws.proofs.calls.Located.{key_is, from_more, to_more}
 use Rattle.fs_laws.proofs.calls.Takes.{Take, Walk, Entry, Source, Dest, Replaced}
-use Rattle.fs_laws.proofs.calls.HeadOrder.{SourceThere, NeatIn, Neat, plain_of, in_turn}
-use Rattle.fs_laws.proofs.states.Agreement.{Accounts, text_open}
+use Rattle.fs_laws.proofs.calls.HeadOrder.{SourceThere, NeatIn, HeadsInOrder, plain_of, in_turn}
+use Rattle.fs_laws.proofs.states.Agreement.{StateFacts, text_open}
 use Rattle.fs_laws.proofs.calls.TakesAtTarget.{forked_of}
 
-pub record Solo (graph : Graph) (k : Key) (op : Record) (st : Stand) : Type 0 where
-  pub on : op.stand ≡ Some st
+pub record OneUnfinished (graph : Graph) (k : Key) (op : Record) (st : Holdings) : Type 0 where
+  pub on : op.holdings ≡ Some st
   pub unfinished : IsUnfinished op
   pub text : by_text (form op.call) ≡ None
   pub loc : Located (numbers graph) k st
   pub fits : Fits op.remaining
-  pub well : StandsWell graph st.node op.remaining st
+  pub well : HeadsSound graph st.node op.remaining st
   pub number : NumberFor graph op.remaining op.reserved
   pub victim : VictimAt graph op.remaining st
   pub single : IsSingle st
   pub heads : HeadsFit st
-  pub neat : Neat graph op.remaining st
+  pub neat : HeadsInOrder graph op.remaining st
 
 -- each unfinished call of a run that stands somewhere
-pub solo_of : (s : State) (inv : Invariant s) (acc : Accounts s) (c : ℕ) (op : Record) (st : Stand) → s.ops c ≡ Some op → IsUnfinished op → op.stand ≡ Some st → Solo s.graph (inv.key c) op st
+pub solo_of : (s : State) (inv : Invariant s) (acc : StateFacts s) (c : ℕ) (op : Record) (st : Holdings) → s.ops c ≡ Some op → IsUnfinished op → op.holdings ≡ Some st → OneUnfinished s.graph (inv.key c) op st
 solo_of s inv acc c op st is u on = record {
   on = on;
   unfinished = u;
@@ -79,13 +79,13 @@ not_true true e = cc
 not_true false e = refl
 
 -- a call never wants what it holds
-pub solo_wants : (graph : Graph) → IsGraph graph → (k : Key) (op : Record) (n : ℕ) (st : Stand) → Solo graph k op st → Take graph op n st → Holds st n → ⊥
+pub solo_wants : (graph : Graph) → IsGraph graph → (k : Key) (op : Record) (n : ℕ) (st : Holdings) → OneUnfinished graph k op st → Take graph op n st → Holds st n → ⊥
 solo_wants graph is_graph k op n st solo t h = go t h
   where
     loc : Located (numbers graph) k st
     loc = solo.loc
 
-    neat : Neat graph op.remaining st
+    neat : HeadsInOrder graph op.remaining st
     neat = solo.neat
 
     none_is : (b : Option ℕ) → b ≡ None → b ≡ Some n → ⊥
@@ -95,13 +95,13 @@ solo_wants graph is_graph k op n st solo t h = go t h
     not_longer : (key w : Key) (x : Name) (m : ℕ) → numbers graph key ≡ Some m → m ≡ n → numbers graph ((key ++ w) ++ x ∷ []) ≡ Some n → ⊥
     not_longer key w x m e i f = longer key w x (is_graph.one_key key ((key ++ w) ++ x ∷ []) n (e ∙ ap (λ (y : ℕ). Some y) i) f)
 
-    here : (w : Key) (m : ℕ) (x : Name) → numbers graph (k ++ w) ≡ Some m → graph.kid m x ≡ Some n → numbers graph ((k ++ w) ++ x ∷ []) ≡ Some n
-    here w m x e f = at_child graph.kid 0 m (k ++ w) x e ∙ f
+    here : (w : Key) (m : ℕ) (x : Name) → numbers graph (k ++ w) ≡ Some m → graph.child m x ≡ Some n → numbers graph ((k ++ w) ++ x ∷ []) ≡ Some n
+    here w m x e f = at_child graph.child 0 m (k ++ w) x e ∙ f
 
-    not_node : (w : Key) (m : ℕ) (x : Name) → numbers graph (k ++ w) ≡ Some m → graph.kid m x ≡ Some n → st.node ≡ n → ⊥
+    not_node : (w : Key) (m : ℕ) (x : Name) → numbers graph (k ++ w) ≡ Some m → graph.child m x ≡ Some n → st.node ≡ n → ⊥
     not_node w m x e f i = not_longer (k) w x st.node loc.here i (here w m x e f)
 
-    not_itself : (w : Key) (m : ℕ) (x : Name) → numbers graph (k ++ w) ≡ Some m → graph.kid m x ≡ Some n → m ≡ n → ⊥
+    not_itself : (w : Key) (m : ℕ) (x : Name) → numbers graph (k ++ w) ≡ Some m → graph.child m x ≡ Some n → m ≡ n → ⊥
     not_itself w m x e f i = not_longer (k ++ w) [] x m e i (ap (λ (l : Key). numbers graph (l ++ x ∷ [])) (append-nil (k ++ w)) ∙ here w m x e f)
 
     at_node : numbers graph (k ++ []) ≡ Some st.node
@@ -114,45 +114,45 @@ solo_wants graph is_graph k op n st solo t h = go t h
     arrived_is whole w e i = e ∙ ap (λ (l : Key). w ++ l) i ∙ append-nil w
 
     go : Take graph op n st → Holds st n → ⊥
-    go (Walk x l way b kid t_is) (inl i) = not_node [] st.node x at_node kid i
-    go (Walk x l way b kid t_is) (inr (inl i)) = none_is st.behind b i
-    go (Walk x l way b kid t_is) (inr (inr (inl i))) = subst HasNames (plain_of graph op.remaining st x l way neat).0 i.0
-    go (Walk x l way b kid t_is) (inr (inr (inr (inl i)))) = subst HasNames (plain_of graph op.remaining st x l way neat).1 i.0
-    go (Walk x l way b kid t_is) (inr (inr (inr (inr i)))) = none_is st.victim (plain_of graph op.remaining st x l way neat).2 i
-    go (Entry e p rem way b kid off t_is) (inl i) = not_node [] st.node (last_of p) at_node kid i
-    go (Entry e p rem way b kid off t_is) (inr (inl i)) = none_is st.behind b i
-    go (Entry e p rem way b kid off t_is) (inr (inr (inl i))) = let w : NeatIn p st = subst (λ (f : Form). Neat graph f st) rem neat in subst HasNames w.source i.0
-    go (Entry e p rem way b kid off t_is) (inr (inr (inr (inl i)))) = let w : NeatIn p st = subst (λ (f : Form). Neat graph f st) rem neat in subst HasNames w.dest i.0
-    go (Entry e p rem way b kid off t_is) (inr (inr (inr (inr i)))) = none_is st.victim off i
-    go (Source p q x l rem way b at_left sb kid t_is) (inl i) = not_node st.source.walked st.source.node x loc.source kid i
-    go (Source p q x l rem way b at_left sb kid t_is) (inr (inl i)) = none_is st.behind b i
-    go (Source p q x l rem way b at_left sb kid t_is) (inr (inr (inl (_, inl i)))) = not_itself st.source.walked st.source.node x loc.source kid i
-    go (Source p q x l rem way b at_left sb kid t_is) (inr (inr (inl (_, inr i)))) = none_is st.source.behind sb i
-    go (Source p q x l rem way b at_left sb kid t_is) (inr (inr (inr (inl i)))) = let t : SourceThere graph p st = (in_turn graph p q st op.remaining rem way neat).dest i.0 in let z : ◌≡◌ {A = Key} [] (x ∷ l) = sym t.arrived ∙ at_left in cc
-    go (Source p q x l rem way b at_left sb kid t_is) (inr (inr (inr (inr i)))) = let t : SourceThere graph p st = (in_turn graph p q st op.remaining rem way neat).victim n i in let z : ◌≡◌ {A = Key} [] (x ∷ l) = sym t.arrived ∙ at_left in cc
-    go (Dest p q x l names rem way b arrived sb dir at_left db kid t_is) (inl i) = not_node st.dest.walked st.dest.node x loc.dest kid i
-    go (Dest p q x l names rem way b arrived sb dir at_left db kid t_is) (inr (inl i)) = none_is st.behind b i
-    go (Dest p q x l names rem way b arrived sb dir at_left db kid t_is) (inr (inr (inl (more, inl i)))) =
+    go (Walk x l way b child t_is) (inl i) = not_node [] st.node x at_node child i
+    go (Walk x l way b child t_is) (inr (inl i)) = none_is st.behind b i
+    go (Walk x l way b child t_is) (inr (inr (inl i))) = subst HasNames (plain_of graph op.remaining st x l way neat).0 i.0
+    go (Walk x l way b child t_is) (inr (inr (inr (inl i)))) = subst HasNames (plain_of graph op.remaining st x l way neat).1 i.0
+    go (Walk x l way b child t_is) (inr (inr (inr (inr i)))) = none_is st.victim (plain_of graph op.remaining st x l way neat).2 i
+    go (Entry e p rem way b child off t_is) (inl i) = not_node [] st.node (last_of p) at_node child i
+    go (Entry e p rem way b child off t_is) (inr (inl i)) = none_is st.behind b i
+    go (Entry e p rem way b child off t_is) (inr (inr (inl i))) = let w : NeatIn p st = subst (λ (f : Form). HeadsInOrder graph f st) rem neat in subst HasNames w.source i.0
+    go (Entry e p rem way b child off t_is) (inr (inr (inr (inl i)))) = let w : NeatIn p st = subst (λ (f : Form). HeadsInOrder graph f st) rem neat in subst HasNames w.dest i.0
+    go (Entry e p rem way b child off t_is) (inr (inr (inr (inr i)))) = none_is st.victim off i
+    go (Source p q x l rem way b at_left sb child t_is) (inl i) = not_node st.source.walked st.source.node x loc.source child i
+    go (Source p q x l rem way b at_left sb child t_is) (inr (inl i)) = none_is st.behind b i
+    go (Source p q x l rem way b at_left sb child t_is) (inr (inr (inl (_, inl i)))) = not_itself st.source.walked st.source.node x loc.source child i
+    go (Source p q x l rem way b at_left sb child t_is) (inr (inr (inl (_, inr i)))) = none_is st.source.behind sb i
+    go (Source p q x l rem way b at_left sb child t_is) (inr (inr (inr (inl i)))) = let t : SourceThere graph p st = (in_turn graph p q st op.remaining rem way neat).dest i.0 in let z : ◌≡◌ {A = Key} [] (x ∷ l) = sym t.arrived ∙ at_left in cc
+    go (Source p q x l rem way b at_left sb child t_is) (inr (inr (inr (inr i)))) = let t : SourceThere graph p st = (in_turn graph p q st op.remaining rem way neat).victim n i in let z : ◌≡◌ {A = Key} [] (x ∷ l) = sym t.arrived ∙ at_left in cc
+    go (Dest p q x l names rem way b arrived sb dir at_left db child t_is) (inl i) = not_node st.dest.walked st.dest.node x loc.dest child i
+    go (Dest p q x l names rem way b arrived sb dir at_left db child t_is) (inr (inl i)) = none_is st.behind b i
+    go (Dest p q x l names rem way b arrived sb dir at_left db child t_is) (inr (inr (inl (more, inl i)))) =
         let f : Forked graph st.node p q st = forked p q rem way in
-        let same : k ++ st.source.walked ≡ (k ++ st.dest.walked) ++ x ∷ [] = is_graph.one_key (k ++ st.source.walked) ((k ++ st.dest.walked) ++ x ∷ []) n (loc.source ∙ ap (λ (y : ℕ). Some y) i) (here st.dest.walked st.dest.node x loc.dest kid) in
+        let same : k ++ st.source.walked ≡ (k ++ st.dest.walked) ++ x ∷ [] = is_graph.one_key (k ++ st.source.walked) ((k ++ st.dest.walked) ++ x ∷ []) n (loc.source ∙ ap (λ (y : ℕ). Some y) i) (here st.dest.walked st.dest.node x loc.dest child) in
         let w : st.source.walked ≡ st.dest.walked ++ x ∷ [] = front_same (k) st.source.walked (st.dest.walked ++ x ∷ []) (same ∙ append_assoc (k) st.dest.walked (x ∷ [])) in
         let a : parent_of p ≡ st.source.walked = arrived_is (parent_of p) st.source.walked f.source_is arrived in
         let d : parent_of q ≡ st.source.walked ++ l = f.dest_is ∙ ap (λ (y : Key). st.dest.walked ++ y) at_left ∙ sym (append_assoc st.dest.walked (x ∷ []) l) ∙ ap (λ (y : Key). y ++ l) (sym w) in
         common_some st.source.walked l more (sym (ap₂ common a d) ∙ way)
-    go (Dest p q x l names rem way b arrived sb dir at_left db kid t_is) (inr (inr (inl (more, inr i)))) = none_is st.source.behind sb i
-    go (Dest p q x l names rem way b arrived sb dir at_left db kid t_is) (inr (inr (inr (inl (_, inl i))))) = not_itself st.dest.walked st.dest.node x loc.dest kid i
-    go (Dest p q x l names rem way b arrived sb dir at_left db kid t_is) (inr (inr (inr (inl (_, inr i))))) = none_is st.dest.behind db i
-    go (Dest p q x l names rem way b arrived sb dir at_left db kid t_is) (inr (inr (inr (inr i)))) =
-        let v : (graph.kid st.dest.node (last_of q) ≡ Some n) × (parent_of q ≡ st.dest.walked) = subst (λ (g : Form). VictimAt graph g st) rem solo.victim n i in
+    go (Dest p q x l names rem way b arrived sb dir at_left db child t_is) (inr (inr (inl (more, inr i)))) = none_is st.source.behind sb i
+    go (Dest p q x l names rem way b arrived sb dir at_left db child t_is) (inr (inr (inr (inl (_, inl i))))) = not_itself st.dest.walked st.dest.node x loc.dest child i
+    go (Dest p q x l names rem way b arrived sb dir at_left db child t_is) (inr (inr (inr (inl (_, inr i))))) = none_is st.dest.behind db i
+    go (Dest p q x l names rem way b arrived sb dir at_left db child t_is) (inr (inr (inr (inr i)))) =
+        let v : (graph.child st.dest.node (last_of q) ≡ Some n) × (parent_of q ≡ st.dest.walked) = subst (λ (g : Form). VictimAt graph g st) rem solo.victim n i in
         let f : Forked graph st.node p q st = forked p q rem way in
         let e : [] ≡ x ∷ l = front_same st.dest.walked [] (x ∷ l) (append-nil st.dest.walked ∙ sym v.1 ∙ f.dest_is ∙ ap (λ (y : Key). st.dest.walked ++ y) at_left) in
         (let z : ◌≡◌ {A = Key} [] (x ∷ l) = e in cc)
-    go (Replaced p q names rem way b arrived sb dir at_left db want kid off t_is) (inl i) = not_node st.dest.walked st.dest.node (last_of q) loc.dest kid i
-    go (Replaced p q names rem way b arrived sb dir at_left db want kid off t_is) (inr (inl i)) = none_is st.behind b i
-    go (Replaced p q names rem way b arrived sb dir at_left db want kid off t_is) (inr (inr (inl (more, inl i)))) =
+    go (Replaced p q names rem way b arrived sb dir at_left db want child off t_is) (inl i) = not_node st.dest.walked st.dest.node (last_of q) loc.dest child i
+    go (Replaced p q names rem way b arrived sb dir at_left db want child off t_is) (inr (inl i)) = none_is st.behind b i
+    go (Replaced p q names rem way b arrived sb dir at_left db want child off t_is) (inr (inr (inl (more, inl i)))) =
         let f : Forked graph st.node p q st = forked p q rem way in
         let fits : Fits (AtPair pairs.Rename p q) = subst Fits rem solo.fits in
-        let same : k ++ st.source.walked ≡ (k ++ st.dest.walked) ++ last_of q ∷ [] = is_graph.one_key (k ++ st.source.walked) ((k ++ st.dest.walked) ++ last_of q ∷ []) n (loc.source ∙ ap (λ (y : ℕ). Some y) i) (here st.dest.walked st.dest.node (last_of q) loc.dest kid) in
+        let same : k ++ st.source.walked ≡ (k ++ st.dest.walked) ++ last_of q ∷ [] = is_graph.one_key (k ++ st.source.walked) ((k ++ st.dest.walked) ++ last_of q ∷ []) n (loc.source ∙ ap (λ (y : ℕ). Some y) i) (here st.dest.walked st.dest.node (last_of q) loc.dest child) in
         let w : st.source.walked ≡ st.dest.walked ++ last_of q ∷ [] = front_same (k) st.source.walked (st.dest.walked ++ last_of q ∷ []) (same ∙ append_assoc (k) st.dest.walked (last_of q ∷ [])) in
         let a : parent_of p ≡ st.source.walked = arrived_is (parent_of p) st.source.walked f.source_is arrived in
         let d : parent_of q ≡ st.dest.walked = arrived_is (parent_of q) st.dest.walked f.dest_is at_left in
@@ -161,7 +161,7 @@ solo_wants graph is_graph k op n st solo t h = go t h
         let above : has_more (after_prefix q p) ≡ true = ap has_more (ap (after_prefix q) p_is ∙ prefix_append q (last_of p ∷ [])) in
         let below : has_more (after_prefix q p) ≡ false = not_true (has_more (after_prefix q p)) (all_true (same_kind (entry_shape graph st.source.node (last_of p)) (entry_shape graph st.dest.node (last_of q))) (not (is_end (after_prefix p q))) (not (has_more (after_prefix q p))) want) in
         (let z : true ≡ false = sym above ∙ below in cc)
-    go (Replaced p q names rem way b arrived sb dir at_left db want kid off t_is) (inr (inr (inl (more, inr i)))) = none_is st.source.behind sb i
-    go (Replaced p q names rem way b arrived sb dir at_left db want kid off t_is) (inr (inr (inr (inl (_, inl i))))) = not_itself st.dest.walked st.dest.node (last_of q) loc.dest kid i
-    go (Replaced p q names rem way b arrived sb dir at_left db want kid off t_is) (inr (inr (inr (inl (_, inr i))))) = none_is st.dest.behind db i
-    go (Replaced p q names rem way b arrived sb dir at_left db want kid off t_is) (inr (inr (inr (inr i)))) = none_is st.victim off i
+    go (Replaced p q names rem way b arrived sb dir at_left db want child off t_is) (inr (inr (inl (more, inr i)))) = none_is st.source.behind sb i
+    go (Replaced p q names rem way b arrived sb dir at_left db want child off t_is) (inr (inr (inr (inl (_, inl i))))) = not_itself st.dest.walked st.dest.node (last_of q) loc.dest child i
+    go (Replaced p q names rem way b arrived sb dir at_left db want child off t_is) (inr (inr (inr (inl (_, inr i))))) = none_is st.dest.behind db i
+    go (Replaced p q names rem way b arrived sb dir at_left db want child off t_is) (inr (inr (inr (inr i)))) = none_is st.victim off i

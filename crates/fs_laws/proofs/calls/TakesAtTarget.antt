@@ -8,10 +8,10 @@ use Rattle.fs_calls.specs.Forms.{Form, AtNode, AtEntry, AtPair}
 use Rattle.fs_calls.specs.declared.target.PairCall.TheVariants as pairs
 use Rattle.fs_calls.specs.declared.target.EntryCall.{EntryCall}
 use Rattle.fs_nodes.specs.Graphs.{Graph, numbers, entry_shape, set_at}
-use Rattle.fs_machine.specs.Moves.{Move, Takes, Finishes, next_on, first_of, head_move, take_if, target, target_move, in_move, fork_move, rename_move, dir_then, victim_of, same_kind, rename_at, moved_node, took, head_took, behind_of, source_took, target_took, took_by}
-use Rattle.fs_machine.specs.Records.{Holds, Record, Stand}
-use Rattle.fs_laws.specs.Invariants.{Forked, ForkedAt, StandsWell, VictimAt, HeadsFit, IsSingle, IsUnfinished, Own, Invariant, StepKeeps}
-use Rattle.fs_laws.specs.Stands.{Keeps, Located}
+use Rattle.fs_machine.specs.Moves.{Move, Takes, Finishes, next_on, first_of, head_move, take_if, target, target_move, entry_move, fork_move, rename_move, dir_then, victim_of, same_kind, rename_at, moved_node, took, head_took, behind_of, source_took, target_took, took_by}
+use Rattle.fs_machine.specs.Records.{Holds, Record, Holdings}
+use Rattle.fs_laws.specs.Invariants.{Forked, ForkedAt, HeadsSound, VictimAt, HeadsFit, IsSingle, IsUnfinished, Own, Invariant, StepKeeps}
+use Rattle.fs_laws.specs.CallFacts.{Keeps, Located}
 use Rattle.fs_laws.specs.States.{State, Took, taking}
 use Rattle.fs_laws.proofs.trees.Prefixes.{prefix_append}
 use Rattle.fs_laws.proofs.graphs.Walks.{at_child, at_from}
@@ -19,48 +19,48 @@ use Rattle.fs_laws.proofs.events.OneCallChanged.{kept_take, takes_source, takes_
 use Rattle.fs_laws.proofs.helping.RenamesReadNothingBelow.{source_held, dest_held}
 use Rattle.fs_laws.proofs.events.RecordChanged.{renewed}
 use Rattle.fs_laws.proofs.calls.NodesHeld.{single_victim, single_source, single_dest}
-use Rattle.fs_laws.proofs.events.Take.{TakesFrom, From_nowhere, From_stand, takes_from, Taker, is_free, take_keeps, take_root, take_walk, head_takes, head_passes}
+use Rattle.fs_laws.proofs.events.Take.{TakesFrom, From_nowhere, From_holdings, takes_from, Taker, is_free, take_keeps, take_root, take_walk, head_takes, head_passes}
 
 -- the same call at a new stand
-own_stand : (graph : Graph) (op : Record) (new : Stand) → Own graph op → IsUnfinished op → StandsWell graph new.node op.remaining new → VictimAt graph op.remaining new → IsSingle new → HeadsFit new → Own graph (record op { stand = Some new })
-own_stand graph op new o unf well victim single heads = record {
+own_holdings : (graph : Graph) (op : Record) (new : Holdings) → Own graph op → IsUnfinished op → HeadsSound graph new.node op.remaining new → VictimAt graph op.remaining new → IsSingle new → HeadsFit new → Own graph (record op { holdings = Some new })
+own_holdings graph op new o unf well victim single heads = record {
   parts = o.parts;
-  well = λ st e. subst (λ (s : Stand). StandsWell graph s.node op.remaining s) (stand_is st e) well;
+  well = λ st e. subst (λ (s : Holdings). HeadsSound graph s.node op.remaining s) (holdings_is st e) well;
   spare = o.spare;
   number = o.number;
   placed = λ i e. (new, refl);
   gone = λ m e. (let z : ◌≡◌ {A = Option ℕ} None (Some m) = sym (o.intact unf) ∙ e in absurd (none_some m z));
   intact = o.intact;
   one_spare = o.one_spare;
-  victim = λ u st e. subst (λ (s : Stand). VictimAt graph op.remaining s) (stand_is st e) victim;
+  victim = λ u st e. subst (λ (s : Holdings). VictimAt graph op.remaining s) (holdings_is st e) victim;
   starts = λ u e. cc;
-  single = λ st e. subst IsSingle (stand_is st e) single;
-  heads = λ st e. subst HeadsFit (stand_is st e) heads;
+  single = λ st e. subst IsSingle (holdings_is st e) single;
+  heads = λ st e. subst HeadsFit (holdings_is st e) heads;
 }
   where
     none_some : (m : ℕ) → ◌≡◌ {A = Option ℕ} None (Some m) → ⊥
     none_some m e = cc
 
-    stand_is : (st : Stand) → ◌≡◌ {A = Option Stand} (Some new) (Some st) → new ≡ st
-    stand_is st e = cc
+    holdings_is : (st : Holdings) → ◌≡◌ {A = Option Holdings} (Some new) (Some st) → new ≡ st
+    holdings_is st e = cc
 
 -- a take that leaves the position
-take_there : (old : State) (inv : Invariant old) (c : ℕ) (op : Record) (n : ℕ) (st new : Stand) → Taker old inv c op n → op.stand ≡ Some st → took op n ≡ record op { stand = Some new } → new.node ≡ st.node
-    → Taken (numbers old.graph) (inv.key c) st (inv.key c) new n → Located (numbers old.graph) (inv.key c) new → StandsWell old.graph new.node op.remaining new → VictimAt old.graph op.remaining new → IsSingle new → HeadsFit new
+take_there : (old : State) (inv : Invariant old) (c : ℕ) (op : Record) (n : ℕ) (st new : Holdings) → Taker old inv c op n → op.holdings ≡ Some st → took op n ≡ record op { holdings = Some new } → new.node ≡ st.node
+    → Taken (numbers old.graph) (inv.key c) st (inv.key c) new n → Located (numbers old.graph) (inv.key c) new → HeadsSound old.graph new.node op.remaining new → VictimAt old.graph op.remaining new → IsSingle new → HeadsFit new
     → Invariant (taking old c op n)
 take_there old inv c op n st new t on took_is node taken loc well victim single heads = subst (λ (v : Record). Invariant (renewed old c v old.graph (set_at n (Some c) old.holder))) (sym took_is)
-    (take_keeps old inv c op (record op { stand = Some new }) n (inv.key c) t refl refl refl refl refl
-    (kept_take (numbers old.graph) old.ops inv.key c op st n (inv.key c) new (record op { stand = Some new }) inv.kept t.is on refl refl (is_free old inv n t.free) taken
+    (take_keeps old inv c op (record op { holdings = Some new }) n (inv.key c) t refl refl refl refl refl
+    (kept_take (numbers old.graph) old.ops inv.key c op st n (inv.key c) new (record op { holdings = Some new }) inv.kept t.is on refl refl (is_free old inv n t.free) taken
     (let k : Keeps (numbers old.graph) (inv.key c) op st = inv.kept.each c op st t.is on in record { located = loc; walking = k.walking; fits = k.fits }))
     (λ i e. refl)
-    (own_stand old.graph op new (inv.own c op t.is) t.unfinished well victim single heads)
-    (λ s q e h. holds s q (stand_is s e) h))
+    (own_holdings old.graph op new (inv.own c op t.is) t.unfinished well victim single heads)
+    (λ s q e h. holds s q (holdings_is s e) h))
   where
-    stand_is : (s : Stand) → ◌≡◌ {A = Option Stand} (Some new) (Some s) → new ≡ s
-    stand_is s e = cc
+    holdings_is : (s : Holdings) → ◌≡◌ {A = Option Holdings} (Some new) (Some s) → new ≡ s
+    holdings_is s e = cc
 
-    holds : (s : Stand) (q : ℕ) → new ≡ s → Holds s q → (q ≡ n) ⊎ (old.holder q ≡ Some c)
-    holds s q e h = by (taken.grows q (subst (λ (y : Stand). Holds y q) (sym e) h))
+    holds : (s : Holdings) (q : ℕ) → new ≡ s → Holds s q → (q ≡ n) ⊎ (old.holder q ≡ Some c)
+    holds s q e h = by (taken.grows q (subst (λ (y : Holdings). Holds y q) (sym e) h))
       where
         by : Holds st q ⊎ (q ≡ n) → (q ≡ n) ⊎ (old.holder q ≡ Some c)
         by (inl i) = inr (inv.held c op st q t.is on i)
@@ -73,27 +73,27 @@ victim_taken true None held m n e = cc
 victim_taken true (Some k) (Some v) m n e = cc
 victim_taken true (Some k) None m n e = let z : k ≡ n = cc in (ap (λ (x : ℕ). Some x) z, refl)
 
-not_held : (old : State) (inv : Invariant old) (c : ℕ) (op : Record) (n : ℕ) (st : Stand) → Taker old inv c op n → op.stand ≡ Some st → Holds st n → ⊥
+not_held : (old : State) (inv : Invariant old) (c : ℕ) (op : Record) (n : ℕ) (st : Holdings) → Taker old inv c op n → op.holdings ≡ Some st → Holds st n → ⊥
 not_held old inv c op n st t on h = is_free old inv n t.free c op st t.is on h
 
 -- the victim of a call on an entry
-take_entry : (old : State) (inv : Invariant old) (c : ℕ) (op : Record) (n : ℕ) (st : Stand) (e : EntryCall) (p : Key) → Taker old inv c op n → op.stand ≡ Some st → op.remaining ≡ AtEntry e p → parent_of p ≡ [] → in_move old.graph e (last_of p) st ≡ Takes n → Invariant (taking old c op n)
+take_entry : (old : State) (inv : Invariant old) (c : ℕ) (op : Record) (n : ℕ) (st : Holdings) (e : EntryCall) (p : Key) → Taker old inv c op n → op.holdings ≡ Some st → op.remaining ≡ AtEntry e p → parent_of p ≡ [] → entry_move old.graph e (last_of p) st ≡ Takes n → Invariant (taking old c op n)
 take_entry old inv c op n st e p t on rem way m =
     take_there old inv c op n st (record st { victim = Some n }) t on took_is refl
-    (takes_victim (numbers old.graph) (inv.key c) st (inv.key c) st.node (last_of p) n loc.here (inl refl) (at_child old.graph.kid 0 st.node (inv.key c) (last_of p) loc.here ∙ taken.0))
+    (takes_victim (numbers old.graph) (inv.key c) st (inv.key c) st.node (last_of p) n loc.here (inl refl) (at_child old.graph.child 0 st.node (inv.key c) (last_of p) loc.here ∙ taken.0))
     (record { here = loc.here; source = loc.source; dest = loc.dest })
-    (subst (λ (f : Form). StandsWell old.graph st.node f (record st { victim = Some n })) (sym rem) tt)
+    (subst (λ (f : Form). HeadsSound old.graph st.node f (record st { victim = Some n })) (sym rem) tt)
     (subst (λ (f : Form). VictimAt old.graph f (record st { victim = Some n })) (sym rem) (λ v i. taken.0 ∙ i))
     (single_victim st n (not_held old inv c op n st t on) ((inv.own c op t.is).single st on)) ((inv.own c op t.is).heads st on)
   where
     loc : Located (numbers old.graph) (inv.key c) st
     loc = (inv.kept.each c op st t.is on).located
 
-    taken : (old.graph.kid st.node (last_of p) ≡ Some n) × (st.victim ≡ None)
-    taken = victim_taken (victim_of e (entry_shape old.graph st.node (last_of p))) (old.graph.kid st.node (last_of p)) st.victim None n m
+    taken : (old.graph.child st.node (last_of p) ≡ Some n) × (st.victim ≡ None)
+    taken = victim_taken (victim_of e (entry_shape old.graph st.node (last_of p))) (old.graph.child st.node (last_of p)) st.victim None n m
 
-    took_is : took op n ≡ record op { stand = Some (record st { victim = Some n }) }
-    took_is = ap₂ (λ (s : Option Stand) (k : Key). took_by op s k n) on (ap target rem ∙ way) ∙ ap (λ (f : Form). record op { stand = Some (target_took f st n) }) rem
+    took_is : took op n ≡ record op { holdings = Some (record st { victim = Some n }) }
+    took_is = ap₂ (λ (s : Option Holdings) (k : Key). took_by op s k n) on (ap target rem ∙ way) ∙ ap (λ (f : Form). record op { holdings = Some (target_took f st n) }) rem
 
 pub no_end : (w : Key) (x : Name) → w ++ x ∷ [] ≡ [] → ⊥
 no_end [] x e = cc
@@ -106,25 +106,25 @@ left_on w l whole x e =
     let j : left (w ++ x ∷ []) whole ≡ l = ap left_by (ap (after_prefix (w ++ x ∷ [])) i ∙ prefix_append (w ++ x ∷ []) l) in
     i ∙ ap (λ (k : Key). (w ++ x ∷ []) ++ k) (sym j)
 
-behind_held : (st : Stand) (w : Key) (node m : ℕ) → Holds st node → behind_of w node ≡ Some m → Holds st m
+behind_held : (st : Holdings) (w : Key) (node m : ℕ) → Holds st node → behind_of w node ≡ Some m → Holds st m
 behind_held st [] node m h e = cc
 behind_held st (x ∷ w) node m h e = let z : node ≡ m = cc in subst (Holds st) z h
 
-pub forked_of : (graph : Graph) (n : ℕ) (p q : Key) (st : Stand) (remaining : Form) → remaining ≡ AtPair pairs.Rename p q → common (parent_of p) (parent_of q) ≡ [] → StandsWell graph n remaining st → Forked graph n p q st
-forked_of graph n p q st remaining rem way well = subst (ForkedAt graph n p q st) way (subst (λ (f : Form). StandsWell graph n f st) rem well)
+pub forked_of : (graph : Graph) (n : ℕ) (p q : Key) (st : Holdings) (remaining : Form) → remaining ≡ AtPair pairs.Rename p q → common (parent_of p) (parent_of q) ≡ [] → HeadsSound graph n remaining st → Forked graph n p q st
+forked_of graph n p q st remaining rem way well = subst (ForkedAt graph n p q st) way (subst (λ (f : Form). HeadsSound graph n f st) rem well)
 
-pub well_of : (graph : Graph) (n : ℕ) (p q : Key) (st : Stand) (remaining : Form) → remaining ≡ AtPair pairs.Rename p q → common (parent_of p) (parent_of q) ≡ [] → Forked graph n p q st → StandsWell graph n remaining st
-well_of graph n p q st remaining rem way f = subst (λ (g : Form). StandsWell graph n g st) (sym rem) (subst (ForkedAt graph n p q st) (sym way) f)
+pub well_of : (graph : Graph) (n : ℕ) (p q : Key) (st : Holdings) (remaining : Form) → remaining ≡ AtPair pairs.Rename p q → common (parent_of p) (parent_of q) ≡ [] → Forked graph n p q st → HeadsSound graph n remaining st
+well_of graph n p q st remaining rem way f = subst (λ (g : Form). HeadsSound graph n g st) (sym rem) (subst (ForkedAt graph n p q st) (sym way) f)
 
 -- the next node of the source head
-take_source : (old : State) (inv : Invariant old) (c : ℕ) (op : Record) (n : ℕ) (st : Stand) (p q : Key) (x : Name) (l : Key) → Taker old inv c op n → op.stand ≡ Some st → op.remaining ≡ AtPair pairs.Rename p q → common (parent_of p) (parent_of q) ≡ []
-    → left st.source.walked (parent_of p) ≡ x ∷ l → old.graph.kid st.source.node x ≡ Some n → Invariant (taking old c op n)
-take_source old inv c op n st p q x l t on rem way left_is kid =
+take_source : (old : State) (inv : Invariant old) (c : ℕ) (op : Record) (n : ℕ) (st : Holdings) (p q : Key) (x : Name) (l : Key) → Taker old inv c op n → op.holdings ≡ Some st → op.remaining ≡ AtPair pairs.Rename p q → common (parent_of p) (parent_of q) ≡ []
+    → left st.source.walked (parent_of p) ≡ x ∷ l → old.graph.child st.source.node x ≡ Some n → Invariant (taking old c op n)
+take_source old inv c op n st p q x l t on rem way left_is child =
     take_there old inv c op n st (record st { source = head_took st.source x n }) t on took_is refl
     (takes_source (numbers old.graph) (inv.key c) st (record st { source = head_took st.source x n }) x n loc.source held at_n refl refl refl refl refl refl (λ m e. behind_held st st.source.walked st.source.node m held e))
     new_loc
     (well_of old.graph st.node p q (record st { source = head_took st.source x n }) op.remaining rem way (record {
-      source_at = sym (at_from old.graph.kid 0 st.node (inv.key c) (st.source.walked ++ x ∷ []) loc.here) ∙ new_loc.source;
+      source_at = sym (at_from old.graph.child 0 st.node (inv.key c) (st.source.walked ++ x ∷ []) loc.here) ∙ new_loc.source;
       dest_at = f.dest_at;
       source_is = left_on st.source.walked l (parent_of p) x (f.source_is ∙ ap (λ (k : Key). st.source.walked ++ k) left_is);
       dest_is = f.dest_is;
@@ -145,27 +145,27 @@ take_source old inv c op n st p q x l t on rem way left_is kid =
     held = source_held (numbers old.graph) (inv.key c) st loc
 
     at_n : numbers old.graph ((inv.key c ++ st.source.walked) ++ x ∷ []) ≡ Some n
-    at_n = at_child old.graph.kid 0 st.source.node (inv.key c ++ st.source.walked) x loc.source ∙ kid
+    at_n = at_child old.graph.child 0 st.source.node (inv.key c ++ st.source.walked) x loc.source ∙ child
 
     new_loc : Located (numbers old.graph) (inv.key c) (record st { source = head_took st.source x n })
     new_loc = record { here = loc.here; source = ap (numbers old.graph) (sym (append_assoc (inv.key c) st.source.walked (x ∷ []))) ∙ at_n; dest = loc.dest }
 
-    took_is : took op n ≡ record op { stand = Some (record st { source = head_took st.source x n }) }
+    took_is : took op n ≡ record op { holdings = Some (record st { source = head_took st.source x n }) }
     took_is =
-        ap₂ (λ (s : Option Stand) (k : Key). took_by op s k n) on (ap target rem ∙ way)
-        ∙ ap (λ (g : Form). record op { stand = Some (target_took g st n) }) rem
-        ∙ ap (λ (k : Key). record op { stand = Some (source_took st k (left st.dest.walked (parent_of q)) n) }) left_is
+        ap₂ (λ (s : Option Holdings) (k : Key). took_by op s k n) on (ap target rem ∙ way)
+        ∙ ap (λ (g : Form). record op { holdings = Some (target_took g st n) }) rem
+        ∙ ap (λ (k : Key). record op { holdings = Some (source_took st k (left st.dest.walked (parent_of q)) n) }) left_is
 
 -- the next node of the destination head
-take_dest : (old : State) (inv : Invariant old) (c : ℕ) (op : Record) (n : ℕ) (st : Stand) (p q : Key) (x : Name) (l : Key) → Taker old inv c op n → op.stand ≡ Some st → op.remaining ≡ AtPair pairs.Rename p q → common (parent_of p) (parent_of q) ≡ []
-    → left st.source.walked (parent_of p) ≡ [] → left st.dest.walked (parent_of q) ≡ x ∷ l → old.graph.kid st.dest.node x ≡ Some n → Invariant (taking old c op n)
-take_dest old inv c op n st p q x l t on rem way source_none left_is kid =
+take_dest : (old : State) (inv : Invariant old) (c : ℕ) (op : Record) (n : ℕ) (st : Holdings) (p q : Key) (x : Name) (l : Key) → Taker old inv c op n → op.holdings ≡ Some st → op.remaining ≡ AtPair pairs.Rename p q → common (parent_of p) (parent_of q) ≡ []
+    → left st.source.walked (parent_of p) ≡ [] → left st.dest.walked (parent_of q) ≡ x ∷ l → old.graph.child st.dest.node x ≡ Some n → Invariant (taking old c op n)
+take_dest old inv c op n st p q x l t on rem way source_none left_is child =
     take_there old inv c op n st (record st { dest = head_took st.dest x n }) t on took_is refl
     (takes_dest (numbers old.graph) (inv.key c) st (record st { dest = head_took st.dest x n }) x n loc.dest held at_n refl refl refl refl refl refl (λ m e. behind_held st st.dest.walked st.dest.node m held e))
     new_loc
     (well_of old.graph st.node p q (record st { dest = head_took st.dest x n }) op.remaining rem way (record {
       source_at = f.source_at;
-      dest_at = sym (at_from old.graph.kid 0 st.node (inv.key c) (st.dest.walked ++ x ∷ []) loc.here) ∙ new_loc.dest;
+      dest_at = sym (at_from old.graph.child 0 st.node (inv.key c) (st.dest.walked ++ x ∷ []) loc.here) ∙ new_loc.dest;
       source_is = f.source_is;
       dest_is = left_on st.dest.walked l (parent_of q) x (f.dest_is ∙ ap (λ (k : Key). st.dest.walked ++ k) left_is);
     }))
@@ -194,23 +194,23 @@ take_dest old inv c op n st p q x l t on rem way source_none left_is kid =
         let z : ◌≡◌ {A = Key} [] (x ∷ l) = sym i ∙ left_is in cc
 
     at_n : numbers old.graph ((inv.key c ++ st.dest.walked) ++ x ∷ []) ≡ Some n
-    at_n = at_child old.graph.kid 0 st.dest.node (inv.key c ++ st.dest.walked) x loc.dest ∙ kid
+    at_n = at_child old.graph.child 0 st.dest.node (inv.key c ++ st.dest.walked) x loc.dest ∙ child
 
     new_loc : Located (numbers old.graph) (inv.key c) (record st { dest = head_took st.dest x n })
     new_loc = record { here = loc.here; dest = ap (numbers old.graph) (sym (append_assoc (inv.key c) st.dest.walked (x ∷ []))) ∙ at_n; source = loc.source }
 
-    took_is : took op n ≡ record op { stand = Some (record st { dest = head_took st.dest x n }) }
+    took_is : took op n ≡ record op { holdings = Some (record st { dest = head_took st.dest x n }) }
     took_is =
-        ap₂ (λ (s : Option Stand) (k : Key). took_by op s k n) on (ap target rem ∙ way)
-        ∙ ap (λ (g : Form). record op { stand = Some (target_took g st n) }) rem
-        ∙ ap₂ (λ (k j : Key). record op { stand = Some (source_took st k j n) }) source_none left_is
+        ap₂ (λ (s : Option Holdings) (k : Key). took_by op s k n) on (ap target rem ∙ way)
+        ∙ ap (λ (g : Form). record op { holdings = Some (target_took g st n) }) rem
+        ∙ ap₂ (λ (k j : Key). record op { holdings = Some (source_took st k j n) }) source_none left_is
 
 -- the victim of a rename
-take_replaced : (old : State) (inv : Invariant old) (c : ℕ) (op : Record) (n : ℕ) (st : Stand) (p q : Key) → Taker old inv c op n → op.stand ≡ Some st → op.remaining ≡ AtPair pairs.Rename p q → common (parent_of p) (parent_of q) ≡ []
+take_replaced : (old : State) (inv : Invariant old) (c : ℕ) (op : Record) (n : ℕ) (st : Holdings) (p q : Key) → Taker old inv c op n → op.holdings ≡ Some st → op.remaining ≡ AtPair pairs.Rename p q → common (parent_of p) (parent_of q) ≡ []
     → left st.source.walked (parent_of p) ≡ [] → left st.dest.walked (parent_of q) ≡ [] → rename_move old.graph p q st ≡ Takes n → Invariant (taking old c op n)
 take_replaced old inv c op n st p q t on rem way source_none dest_none m =
     take_there old inv c op n st (record st { victim = Some n }) t on took_is refl
-    (takes_victim (numbers old.graph) (inv.key c) st (inv.key c ++ st.dest.walked) st.dest.node (last_of q) n loc.dest (dest_held (numbers old.graph) (inv.key c) st loc) (at_child old.graph.kid 0 st.dest.node (inv.key c ++ st.dest.walked) (last_of q) loc.dest ∙ taken.0))
+    (takes_victim (numbers old.graph) (inv.key c) st (inv.key c ++ st.dest.walked) st.dest.node (last_of q) n loc.dest (dest_held (numbers old.graph) (inv.key c) st loc) (at_child old.graph.child 0 st.dest.node (inv.key c ++ st.dest.walked) (last_of q) loc.dest ∙ taken.0))
     (record { here = loc.here; source = loc.source; dest = loc.dest })
     (well_of old.graph st.node p q (record st { victim = Some n }) op.remaining rem way (record { source_at = f.source_at; dest_at = f.dest_at; source_is = f.source_is; dest_is = f.dest_is }))
     (subst (λ (g : Form). VictimAt old.graph g (record st { victim = Some n })) (sym rem) (λ v i. (taken.0 ∙ i, f.dest_is ∙ ap (λ (k : Key). st.dest.walked ++ k) dest_none ∙ append-nil st.dest.walked)))
@@ -225,14 +225,14 @@ take_replaced old inv c op n st p q t on rem way source_none dest_none m =
     f : Forked old.graph st.node p q st
     f = forked_of old.graph st.node p q st op.remaining rem way (own.well st on)
 
-    taken : (old.graph.kid st.dest.node (last_of q) ≡ Some n) × (st.victim ≡ None)
-    taken = victim_taken (same_kind (entry_shape old.graph st.source.node (last_of p)) (entry_shape old.graph st.dest.node (last_of q)) && not (is_end (after_prefix p q)) && not (has_more (after_prefix q p))) (old.graph.kid st.dest.node (last_of q)) st.victim (moved_node (rename_at old.graph p q st).1 (old.graph.kid st.source.node (last_of p))) n m
+    taken : (old.graph.child st.dest.node (last_of q) ≡ Some n) × (st.victim ≡ None)
+    taken = victim_taken (same_kind (entry_shape old.graph st.source.node (last_of p)) (entry_shape old.graph st.dest.node (last_of q)) && not (is_end (after_prefix p q)) && not (has_more (after_prefix q p))) (old.graph.child st.dest.node (last_of q)) st.victim (moved_node (rename_at old.graph p q st).1 (old.graph.child st.source.node (last_of p))) n m
 
-    took_is : took op n ≡ record op { stand = Some (record st { victim = Some n }) }
+    took_is : took op n ≡ record op { holdings = Some (record st { victim = Some n }) }
     took_is =
-        ap₂ (λ (s : Option Stand) (k : Key). took_by op s k n) on (ap target rem ∙ way)
-        ∙ ap (λ (g : Form). record op { stand = Some (target_took g st n) }) rem
-        ∙ ap₂ (λ (k j : Key). record op { stand = Some (source_took st k j n) }) source_none dest_none
+        ap₂ (λ (s : Option Holdings) (k : Key). took_by op s k n) on (ap target rem ∙ way)
+        ∙ ap (λ (g : Form). record op { holdings = Some (target_took g st n) }) rem
+        ∙ ap₂ (λ (k j : Key). record op { holdings = Some (source_took st k j n) }) source_none dest_none
 
 dir_takes : (t : Option Shape) (m : Move) (n : ℕ) → dir_then t m ≡ Takes n → m ≡ Takes n
 dir_takes None m n e = cc
@@ -240,7 +240,7 @@ dir_takes (Some (Dir names)) m n e = e
 dir_takes (Some (File bytes)) m n e = cc
 
 -- at the common directory
-take_fork : (old : State) (inv : Invariant old) (c : ℕ) (op : Record) (n : ℕ) (st : Stand) (p q : Key) → Taker old inv c op n → op.stand ≡ Some st → op.remaining ≡ AtPair pairs.Rename p q → common (parent_of p) (parent_of q) ≡ [] → fork_move old.graph p q st ≡ Takes n → Invariant (taking old c op n)
+take_fork : (old : State) (inv : Invariant old) (c : ℕ) (op : Record) (n : ℕ) (st : Holdings) (p q : Key) → Taker old inv c op n → op.holdings ≡ Some st → op.remaining ≡ AtPair pairs.Rename p q → common (parent_of p) (parent_of q) ≡ [] → fork_move old.graph p q st ≡ Takes n → Invariant (taking old c op n)
 take_fork old inv c op n st p q t on rem way m = source (left st.source.walked (parent_of p)) refl (dir_takes (old.graph.shape st.node) (first_of (head_move old.graph st.source.node st.source.behind (left st.source.walked (parent_of p))) (dir_then (old.graph.shape st.source.node) (first_of (head_move old.graph st.dest.node st.dest.behind (left st.dest.walked (parent_of q))) (dir_then (old.graph.shape st.dest.node) (rename_move old.graph p q st))))) n m)
   where
     dest : (l : Key) → left st.source.walked (parent_of p) ≡ [] → left st.dest.walked (parent_of q) ≡ l → first_of (head_move old.graph st.dest.node st.dest.behind l) (dir_then (old.graph.shape st.dest.node) (rename_move old.graph p q st)) ≡ Takes n → Invariant (taking old c op n)
@@ -257,7 +257,7 @@ take_fork old inv c op n st p q t on rem way m = source (left st.source.walked (
         dest (left st.dest.walked (parent_of q)) i refl (dir_takes (old.graph.shape st.source.node) (first_of (head_move old.graph st.dest.node st.dest.behind (left st.dest.walked (parent_of q))) (dir_then (old.graph.shape st.dest.node) (rename_move old.graph p q st))) n h.1)
 
 -- from where the call stands
-take_from : (old : State) (inv : Invariant old) (c : ℕ) (op : Record) (n : ℕ) (st : Stand) → Taker old inv c op n → op.stand ≡ Some st → next_on old.graph op.remaining st ≡ Takes n → Invariant (taking old c op n)
+take_from : (old : State) (inv : Invariant old) (c : ℕ) (op : Record) (n : ℕ) (st : Holdings) → Taker old inv c op n → op.holdings ≡ Some st → next_on old.graph op.remaining st ≡ Takes n → Invariant (taking old c op n)
 take_from old inv c op n st t on m = way (target op.remaining) refl m
   where
     there : (rem : Form) → op.remaining ≡ rem → target rem ≡ [] → target_move old.graph rem st ≡ Takes n → Invariant (taking old c op n)
@@ -285,4 +285,4 @@ keeps_took n old new seat inv (c, op, moves, free, same) = subst Invariant (sym 
 
     go : TakesFrom old.graph op n → Invariant (taking old c op n)
     go (From_nowhere text off z) = take_root old inv c op n t text off z
-    go (From_stand st on m) = take_from old inv c op n st t on m
+    go (From_holdings st on m) = take_from old inv c op n st t on m

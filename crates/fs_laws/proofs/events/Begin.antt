@@ -10,32 +10,32 @@ use Rattle.fs_calls.specs.declared.target.EntryCall.TheVariants.{Mkdir, Mknod, U
 use Rattle.fs_laws.specs.Maps.{Map}
 use Rattle.fs_calls.specs.declared.call.Call.{Call}
 use Rattle.fs_calls.specs.declared.reply.Reply.{Reply}
-use Rattle.fs_nodes.specs.Graphs.{Graph, numbers, spell, set_at, IsGraph, reserved_in}
+use Rattle.fs_nodes.specs.Graphs.{Graph, numbers, graph_shapes, set_at, IsGraph, reserved_in}
 use Rattle.fs_timeline.specs.declared.entry.Entry.TheVariants.{Begin}
-use Rattle.fs_machine.specs.Records.{Phase, Walking, Placed, Finished, Holds, Record, Stand}
-use Rattle.fs_laws.specs.Books.{Book, start, book_of, noted}
+use Rattle.fs_machine.specs.Records.{Phase, Walking, Placed, Finished, Holds, Record, Holdings}
+use Rattle.fs_laws.specs.JournalViews.{JournalView, start, view_after, noted}
 use Rattle.fs_timeline.specs.Timeline.{begins, commit_count}
 use Rattle.fs_laws.specs.Invariants.{remaining_of, spots, IsPlaced, HasSpare, IsIn, NumberFor, Own, Invariant, BeginKeeps, Tied, Dues}
 use Rattle.fs_laws.specs.Settled.{settle, settle_replies}
-use Rattle.fs_laws.specs.Stands.{Kept}
+use Rattle.fs_laws.specs.CallFacts.{CallFacts}
 use Rattle.fs_laws.specs.States.{State, Begun_as, Reserves, began, new_op}
 use Rattle.fs_laws.proofs.events.OneCallChanged.{Place, Here, Else, place}
 use Rattle.fs_laws.proofs.events.OtherChanges.{kept_none}
 use Rattle.fs_laws.proofs.events.Help.{upd_same, upd_else}
-use Rattle.fs_laws.proofs.journal.OneMoreEntry.{book_push, lawful_push, begins_commits, begins_begins, unknown_of, dues_due}
+use Rattle.fs_laws.proofs.journal.OneMoreEntry.{view_push, lawful_push, begins_commits, begins_begins, unknown_of, dues_due}
 use Rattle.fs_laws.proofs.calls.OwnRecord.{reached_used}
 use Rattle.fs_laws.proofs.events.JustFinished.{Either, Changed, Old, either}
 use Rattle.fs_laws.proofs.events.Commit.{order_without, placed_in}
 use Rattle.fs_laws.proofs.events.RecordChanged.{settle_same}
 use Rattle.fs_laws.proofs.events.Take.{under_nil}
-use Rattle.fs_laws.proofs.graphs.Release.{own_kids, spell_reserved, graph_reserved}
+use Rattle.fs_laws.proofs.graphs.Release.{own_children, shapes_reserved, graph_reserved}
 use Rattle.fs_laws.proofs.events.Return.{numbers_by}
 
 -- the graph with the number that the new call reserves
 pub record Given (old : State) (call : Form) (reserved : Option ℕ) (graph : Graph) : Type 0 where
-  pub kids : graph.kid ≡ old.graph.kid
+  pub children : graph.child ≡ old.graph.child
   pub is_graph : IsGraph graph
-  pub spelled : spell graph ≡ spell old.graph
+  pub spelled : graph_shapes graph ≡ graph_shapes old.graph
   pub shapes : (m : ℕ) (s : Shape) → old.graph.shape m ≡ Some s → graph.shape m ≡ old.graph.shape m
   pub new : (m : ℕ) → reserved ≡ Some m → (old.graph.shape m ≡ None) × ((s : Shape) × (graph.shape m ≡ Some s))
   pub number : Fits call → NumberFor graph call reserved
@@ -50,16 +50,16 @@ begin_keeps old inv seat call c reserved graph free number g = record {
   key = inv.key;
   order = inv.order;
   is_graph = g.is_graph;
-  kept = subst (λ (t : Map ℕ). Kept t (set_at c (Some op) old.ops) inv.key) (sym (numbers_by old.graph graph g.kids)) (subst (λ (k : ℕ → Key). Kept (numbers old.graph) (set_at c (Some op) old.ops) k) (upd_same c inv.key) (kept_none (numbers old.graph) old.ops inv.key c op inv.kept refl));
+  kept = subst (λ (t : Map ℕ). CallFacts t (set_at c (Some op) old.ops) inv.key) (sym (numbers_by old.graph graph g.children)) (subst (λ (k : ℕ → Key). CallFacts (numbers old.graph) (set_at c (Some op) old.ops) k) (upd_same c inv.key) (kept_none (numbers old.graph) old.ops inv.key c op inv.kept refl));
   in_order = order_without old.ops c (Some op) inv.order others inv.in_order;
   all_placed = λ d q i e f. all_placed d q i (either old.ops c op d q e) f;
   lawful = lawful_push start old.timeline (Begin c seat call) inv.lawful (unknown, inv.busy seat ∙ free);
-  tied = subst (λ (t : Map Shape). Tied t (set_at c (Some op) old.ops) inv.key inv.order (book_of start (old.timeline ++ Begin c seat call ∷ []))) (sym g.spelled) (subst (Tied (spell old.graph) (set_at c (Some op) old.ops) inv.key inv.order) (sym book_is) tied);
+  tied = subst (λ (t : Map Shape). Tied t (set_at c (Some op) old.ops) inv.key inv.order (view_after start (old.timeline ++ Begin c seat call ∷ []))) (sym g.spelled) (subst (Tied (graph_shapes old.graph) (set_at c (Some op) old.ops) inv.key inv.order) (sym view_is) tied);
   own = λ d q e. own d q (either old.ops c op d q e);
   held = λ d q st n e. held d q st n (either old.ops c op d q e);
   apart = λ x y n p q differs e f. apart x y n p q differs (either old.ops c op x p e) (either old.ops c op y q f);
   seated = seated;
-  busy = λ s. ap (λ (k : Book). k.busy s) book_is ∙ busy s (place seat (Some c) (book_of start old.timeline).busy s) (place seat (Some c) old.on_seat s);
+  busy = λ s. ap (λ (k : JournalView). k.busy s) view_is ∙ busy s (place seat (Some c) (view_after start old.timeline).busy s) (place seat (Some c) old.on_seat s);
   seat_of = λ d q e. seat_of d q (either old.ops c op d q e);
   fresh = fresh;
 }
@@ -67,13 +67,13 @@ begin_keeps old inv seat call c reserved graph free number g = record {
     op : Record
     op = new_op seat call reserved
 
-    book_is : book_of start (old.timeline ++ Begin c seat call ∷ []) ≡ noted (book_of start old.timeline) (Begin c seat call)
-    book_is = book_push start old.timeline (Begin c seat call)
+    view_is : view_after start (old.timeline ++ Begin c seat call ∷ []) ≡ noted (view_after start old.timeline) (Begin c seat call)
+    view_is = view_push start old.timeline (Begin c seat call)
 
-    unknown : (book_of start old.timeline).call c ≡ None
+    unknown : (view_after start old.timeline).call c ≡ None
     unknown = inv.fresh c (let z : c ≡ begins old.timeline + 1 = number in omega (arith, z))
 
-    nothing : ((book_of start old.timeline).due c ≡ None) × ((book_of start old.timeline).back c ≡ false)
+    nothing : ((view_after start old.timeline).due c ≡ None) × ((view_after start old.timeline).back c ≡ false)
     nothing = unknown_of start old.timeline (λ d e. (refl, refl)) inv.lawful c unknown
 
     none : old.ops c ≡ None
@@ -93,39 +93,39 @@ begin_keeps old inv seat call c reserved graph free number g = record {
     all_placed d q i (Changed e f) h = let z : ◌≡◌ {A = Phase} Walking (Placed i) = ap (λ (o : Record). o.phase) f ∙ h in cc
     all_placed d q i (Old m e) h = let a : (i < commit_count old.timeline) × IsIn d inv.order = inv.all_placed d q i e h in (subst (λ (n : ℕ). i < n) (sym (begins_commits old.timeline c seat call)) a.0, a.1)
 
-    both : (settle (spell old.graph) (spots (set_at c (Some (new_op seat call reserved)) old.ops) inv.key inv.order) ≡ settle (spell old.graph) (spots old.ops inv.key inv.order)) × (settle_replies (spell old.graph) (spots (set_at c (Some (new_op seat call reserved)) old.ops) inv.key inv.order) ≡ settle_replies (spell old.graph) (spots old.ops inv.key inv.order))
-    both = settle_same (spell old.graph) old.ops (set_at c (Some (new_op seat call reserved)) old.ops) inv.key inv.key inv.order (λ d i. ap (λ (o : Option Record). under (inv.key d) (remaining_of o)) (upd_else c (Some (new_op seat call reserved)) old.ops d (others d i)))
+    both : (settle (graph_shapes old.graph) (spots (set_at c (Some (new_op seat call reserved)) old.ops) inv.key inv.order) ≡ settle (graph_shapes old.graph) (spots old.ops inv.key inv.order)) × (settle_replies (graph_shapes old.graph) (spots (set_at c (Some (new_op seat call reserved)) old.ops) inv.key inv.order) ≡ settle_replies (graph_shapes old.graph) (spots old.ops inv.key inv.order))
+    both = settle_same (graph_shapes old.graph) old.ops (set_at c (Some (new_op seat call reserved)) old.ops) inv.key inv.key inv.order (λ d i. ap (λ (o : Option Record). under (inv.key d) (remaining_of o)) (upd_else c (Some (new_op seat call reserved)) old.ops d (others d i)))
 
-    tied : Tied (spell old.graph) (set_at c (Some (new_op seat call reserved)) old.ops) inv.key inv.order (noted (book_of start old.timeline) (Begin c seat call))
+    tied : Tied (graph_shapes old.graph) (set_at c (Some (new_op seat call reserved)) old.ops) inv.key inv.order (noted (view_after start old.timeline) (Begin c seat call))
     tied = record {
       played = both.0 ∙ inv.tied.played;
-      dues = dues_due (book_of start old.timeline) (noted (book_of start old.timeline) (Begin c seat call)) inv.order (settle_replies (spell old.graph) (spots (set_at c (Some (new_op seat call reserved)) old.ops) inv.key inv.order)) (λ d. refl) (subst (Dues (book_of start old.timeline) inv.order) (sym both.1) inv.tied.dues);
+      dues = dues_due (view_after start old.timeline) (noted (view_after start old.timeline) (Begin c seat call)) inv.order (settle_replies (graph_shapes old.graph) (spots (set_at c (Some (new_op seat call reserved)) old.ops) inv.key inv.order)) (λ d. refl) (subst (Dues (view_after start old.timeline) inv.order) (sym both.1) inv.tied.dues);
       fixed = λ d q r e f. fixed d q r (either old.ops c (new_op seat call reserved) d q e) f;
       fresh = λ d q e f. not_due d q (either old.ops c (new_op seat call reserved) d q e) f;
       calls = λ d q e. calls d q (either old.ops c (new_op seat call reserved) d q e);
     }
       where
-        fixed : (d : ℕ) (q : Record) (r : Reply) → Either old.ops c (new_op seat call reserved) d q → q.phase ≡ Finished r → (book_of start old.timeline).due d ≡ Some r
+        fixed : (d : ℕ) (q : Record) (r : Reply) → Either old.ops c (new_op seat call reserved) d q → q.phase ≡ Finished r → (view_after start old.timeline).due d ≡ Some r
         fixed d q r (Changed e f) h = let z : ◌≡◌ {A = Phase} Walking (Finished r) = ap (λ (o : Record). o.phase) f ∙ h in cc
         fixed d q r (Old m e) h = inv.tied.fixed d q r e h
 
-        not_due : (d : ℕ) (q : Record) → Either old.ops c (new_op seat call reserved) d q → q.phase ≡ Walking → (book_of start old.timeline).due d ≡ None
-        not_due d q (Changed e f) h = ap (book_of start old.timeline).due e ∙ nothing.0
+        not_due : (d : ℕ) (q : Record) → Either old.ops c (new_op seat call reserved) d q → q.phase ≡ Walking → (view_after start old.timeline).due d ≡ None
+        not_due d q (Changed e f) h = ap (view_after start old.timeline).due e ∙ nothing.0
         not_due d q (Old m e) h = inv.tied.fresh d q e h
 
-        calls : (d : ℕ) (q : Record) → Either old.ops c (new_op seat call reserved) d q → set_at c (Some call) (book_of start old.timeline).call d ≡ Some q.call
-        calls d q (Changed e f) = here (place c (Some call) (book_of start old.timeline).call d)
+        calls : (d : ℕ) (q : Record) → Either old.ops c (new_op seat call reserved) d q → set_at c (Some call) (view_after start old.timeline).call d ≡ Some q.call
+        calls d q (Changed e f) = here (place c (Some call) (view_after start old.timeline).call d)
           where
-            here : Place (Option Call) c (Some call) (book_of start old.timeline).call d → set_at c (Some call) (book_of start old.timeline).call d ≡ Some q.call
+            here : Place (Option Call) c (Some call) (view_after start old.timeline).call d → set_at c (Some call) (view_after start old.timeline).call d ≡ Some q.call
             here (Here i j) = j ∙ ap (λ (o : Record). Some o.call) f
             here (Else n j) = absurd (n e)
-        calls d q (Old m e) = upd_else c (Some call) (book_of start old.timeline).call d m ∙ inv.tied.calls d q e
+        calls d q (Old m e) = upd_else c (Some call) (view_after start old.timeline).call d m ∙ inv.tied.calls d q e
 
     new_own : Own graph (new_op seat call reserved)
     new_own = record {
       parts = under_nil (form call);
       well = λ st e. cc;
-      spare = λ m e. ((g.new m e).1, λ key i. unreached_by old inv m (g.new m e).0 key (sym (ap (λ (t : Map ℕ). t key) (numbers_by old.graph graph g.kids)) ∙ i));
+      spare = λ m e. ((g.new m e).1, λ key i. unreached_by old inv m (g.new m e).0 key (sym (ap (λ (t : Map ℕ). t key) (numbers_by old.graph graph g.children)) ∙ i));
       number = λ u f. g.number f;
       placed = λ i e. cc;
       gone = λ m e. cc;
@@ -143,10 +143,10 @@ begin_keeps old inv seat call c reserved graph free number g = record {
 
     own : (d : ℕ) (q : Record) → Either old.ops c (new_op seat call reserved) d q → Own graph q
     own d q (Changed e f) = subst (Own graph) f new_own
-    own d q (Old m e) = own_kids old.graph graph g.kids q (λ k h. (let u : (s : Shape) × (old.graph.shape k ≡ Some s) = spare_used d k q e h in g.shapes k u.0 u.1)) (inv.own d q e)
+    own d q (Old m e) = own_children old.graph graph g.children q (λ k h. (let u : (s : Shape) × (old.graph.shape k ≡ Some s) = spare_used d k q e h in g.shapes k u.0 u.1)) (inv.own d q e)
 
-    held : (d : ℕ) (q : Record) (st : Stand) (n : ℕ) → Either old.ops c (new_op seat call reserved) d q → q.stand ≡ Some st → Holds st n → old.holder n ≡ Some d
-    held d q st n (Changed e f) h i = let z : ◌≡◌ {A = Option Stand} None (Some st) = ap (λ (o : Record). o.stand) f ∙ h in cc
+    held : (d : ℕ) (q : Record) (st : Holdings) (n : ℕ) → Either old.ops c (new_op seat call reserved) d q → q.holdings ≡ Some st → Holds st n → old.holder n ≡ Some d
+    held d q st n (Changed e f) h i = let z : ◌≡◌ {A = Option Holdings} None (Some st) = ap (λ (o : Record). o.holdings) f ∙ h in cc
     held d q st n (Old m e) h i = inv.held d q st n e h i
 
     -- the new number is nobody's
@@ -173,25 +173,25 @@ begin_keeps old inv seat call c reserved graph free number g = record {
             let w : (q : Record) × (old.ops d ≡ Some q) × (q.seat ≡ s) = inv.seated s d (sym j ∙ e) in
             (w.0, upd_else c (Some (new_op seat call reserved)) old.ops d (not_new d w.0 w.1) ∙ w.1, w.2)
 
-    busy : (s : ℕ) → Place (Option ℕ) seat (Some c) (book_of start old.timeline).busy s → Place (Option ℕ) seat (Some c) old.on_seat s → set_at seat (Some c) (book_of start old.timeline).busy s ≡ set_at seat (Some c) old.on_seat s
+    busy : (s : ℕ) → Place (Option ℕ) seat (Some c) (view_after start old.timeline).busy s → Place (Option ℕ) seat (Some c) old.on_seat s → set_at seat (Some c) (view_after start old.timeline).busy s ≡ set_at seat (Some c) old.on_seat s
     busy s (Here i j) (Here k l) = j ∙ sym l
     busy s (Here i j) (Else n l) = absurd (n i)
     busy s (Else n j) (Here k l) = absurd (n k)
     busy s (Else n j) (Else m l) = j ∙ inv.busy s ∙ sym l
 
-    seat_of : (d : ℕ) (q : Record) → Either old.ops c (new_op seat call reserved) d q → ((book_of start (old.timeline ++ Begin c seat call ∷ [])).seat_of d ≡ Some q.seat) × ((book_of start (old.timeline ++ Begin c seat call ∷ [])).back d ≡ false)
-    seat_of d q (Changed e f) = (ap (λ (k : Book). k.seat_of d) book_is ∙ here (place c (Some seat) (book_of start old.timeline).seat_of d), ap (λ (k : Book). k.back d) book_is ∙ ap (book_of start old.timeline).back e ∙ nothing.1)
+    seat_of : (d : ℕ) (q : Record) → Either old.ops c (new_op seat call reserved) d q → ((view_after start (old.timeline ++ Begin c seat call ∷ [])).seat_of d ≡ Some q.seat) × ((view_after start (old.timeline ++ Begin c seat call ∷ [])).back d ≡ false)
+    seat_of d q (Changed e f) = (ap (λ (k : JournalView). k.seat_of d) view_is ∙ here (place c (Some seat) (view_after start old.timeline).seat_of d), ap (λ (k : JournalView). k.back d) view_is ∙ ap (view_after start old.timeline).back e ∙ nothing.1)
       where
-        here : Place (Option ℕ) c (Some seat) (book_of start old.timeline).seat_of d → set_at c (Some seat) (book_of start old.timeline).seat_of d ≡ Some q.seat
+        here : Place (Option ℕ) c (Some seat) (view_after start old.timeline).seat_of d → set_at c (Some seat) (view_after start old.timeline).seat_of d ≡ Some q.seat
         here (Here i j) = j ∙ ap (λ (o : Record). Some o.seat) f
         here (Else n j) = absurd (n e)
-    seat_of d q (Old m e) = (ap (λ (k : Book). k.seat_of d) book_is ∙ upd_else c (Some seat) (book_of start old.timeline).seat_of d m ∙ (inv.seat_of d q e).0, ap (λ (k : Book). k.back d) book_is ∙ (inv.seat_of d q e).1)
+    seat_of d q (Old m e) = (ap (λ (k : JournalView). k.seat_of d) view_is ∙ upd_else c (Some seat) (view_after start old.timeline).seat_of d m ∙ (inv.seat_of d q e).0, ap (λ (k : JournalView). k.back d) view_is ∙ (inv.seat_of d q e).1)
 
-    fresh : (d : ℕ) → begins (old.timeline ++ Begin c seat call ∷ []) < d → (book_of start (old.timeline ++ Begin c seat call ∷ [])).call d ≡ None
+    fresh : (d : ℕ) → begins (old.timeline ++ Begin c seat call ∷ []) < d → (view_after start (old.timeline ++ Begin c seat call ∷ [])).call d ≡ None
     fresh d less =
         let a : begins (old.timeline ++ Begin c seat call ∷ []) ≡ begins old.timeline + 1 = begins_begins old.timeline c seat call in
         let z : c ≡ begins old.timeline + 1 = number in
-        ap (λ (k : Book). k.call d) book_is ∙ upd_else c (Some call) (book_of start old.timeline).call d (λ i. (let y : d ≡ c = i in omega (arith, a, z, less, y))) ∙ inv.fresh d (omega (arith, a, less))
+        ap (λ (k : JournalView). k.call d) view_is ∙ upd_else c (Some call) (view_after start old.timeline).call d (λ i. (let y : d ≡ c = i in omega (arith, a, z, less, y))) ∙ inv.fresh d (omega (arith, a, less))
 
 -- a directory that is made has no names
 bare_new : (e : EntryCall) (s : Shape) → new_shape e ≡ Some s → (names : List Name) (x : Name) → s ≡ Dir names → has_name x names ≡ true → ⊥
@@ -231,7 +231,7 @@ keeps_begun c old new seat call inv (free, number, r) = go (reserves (form call)
   where
     go : (o : Option Shape) → reserves (form call) ≡ o → Reserves old seat call c o new → Invariant new
     go None i same = subst Invariant (sym same) (begin_keeps old inv seat call c None old.graph free number (record {
-      kids = refl;
+      children = refl;
       is_graph = inv.is_graph;
       spelled = refl;
       shapes = λ m s e. refl;
@@ -242,9 +242,9 @@ keeps_begun c old new seat call inv (free, number, r) = go (reserves (form call)
         let loose : (key : Key) → numbers old.graph key ≡ Some n → ⊥ = unreached_by old inv n unused in
         let here : (reserved_in n s old.graph).shape n ≡ Some s = there n s (place n (Some s) old.graph.shape n) in
         subst Invariant (sym same) (begin_keeps old inv seat call c (Some n) (reserved_in n s old.graph) free number (record {
-          kids = refl;
+          children = refl;
           is_graph = graph_reserved old.graph inv.is_graph n s unused (bare_of (form call) s i);
-          spelled = spell_reserved old.graph inv.is_graph n s unused;
+          spelled = shapes_reserved old.graph inv.is_graph n s unused;
           shapes = λ m t e. upd_else n (Some s) old.graph.shape m (λ j. (let z : ◌≡◌ {A = Option Shape} None (Some t) = sym unused ∙ ap old.graph.shape (sym j) ∙ e in cc));
           new = λ m e. new_number n m s unused here e;
           number = number_given (reserved_in n s old.graph) (form call) s n i here loose;

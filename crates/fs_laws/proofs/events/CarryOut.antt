@@ -7,27 +7,27 @@ use Rattle.fs_calls.specs.Forms.{form, Form, under, Fits, by_text}
 use Rattle.fs_laws.specs.Maps.{Map}
 use Rattle.fs_calls.specs.declared.errno.Errno.{Errno}
 use Rattle.fs_calls.specs.declared.reply.Reply.{Reply}
-use Rattle.fs_nodes.specs.Graphs.{Graph, numbers, spell, set_at}
+use Rattle.fs_nodes.specs.Graphs.{Graph, numbers, graph_shapes, set_at}
 use Rattle.fs_machine.specs.Finishes.{Effect, effect_at, effect_of, finish}
 use Rattle.fs_machine.specs.Moves.{Finishes, next_on}
-use Rattle.fs_machine.specs.Records.{Phase, Walking, Placed, Finished, Record, Records, Stand}
-use Rattle.fs_laws.specs.Books.{start, book_of}
+use Rattle.fs_machine.specs.Records.{Phase, Walking, Placed, Finished, Record, Records, Holdings}
+use Rattle.fs_laws.specs.JournalViews.{start, view_after}
 use Rattle.fs_laws.specs.Invariants.{remaining_of, spots, IsPlaced, AllLater, InOrder, HasSpare, IsIn, Own, Invariant, StepKeeps, Tied}
-use Rattle.fs_laws.specs.Placed.{Standing, rekey, rekey_by, rekey_move, rekey_all}
+use Rattle.fs_laws.specs.Placed.{InPlace, rekey, rekey_by, rekey_move, rekey_all}
 use Rattle.fs_laws.specs.Settled.{settle, settle_replies}
-use Rattle.fs_laws.specs.Stands.{IsAfter, Kept}
+use Rattle.fs_laws.specs.CallFacts.{IsAfter, CallFacts}
 use Rattle.fs_machine.specs.Leaving.{finished_op}
 use Rattle.fs_laws.specs.States.{State, CarriedOut, carrying}
 use Rattle.fs_laws.proofs.trees.Prefixes.{prefix_deeper}
 use Rattle.fs_laws.proofs.calls.Located.{change_under, moves_under, fits_under}
 use Rattle.fs_laws.proofs.helping.SettledThroughHelp.{Carried, carried}
-use Rattle.fs_laws.proofs.helping.SettledThroughRename.{standing_of, two_calls}
-use Rattle.fs_laws.proofs.journal.BookAndMachine.{phased, tied_carry}
+use Rattle.fs_laws.proofs.helping.SettledThroughRename.{in_place_of, two_calls}
+use Rattle.fs_laws.proofs.journal.ViewAndMachine.{phased, tied_carry}
 use Rattle.fs_laws.proofs.graphs.Alterations.{Altered, Reached}
 use Rattle.fs_laws.proofs.finish.Changes.{Finisher}
 use Rattle.fs_laws.proofs.calls.OwnRecord.{own_other, own_finished}
 use Rattle.fs_laws.proofs.events.JustFinished.{Closing, ended, ends_keep}
-use Rattle.fs_laws.proofs.events.Commit.{Ready, By_text, Stands, ready, Facts, facts, passes_list, spots_rekey, order_without, placed_in}
+use Rattle.fs_laws.proofs.events.Commit.{Ready, By_text, By_holdings, ready, Facts, facts, passes_list, spots_rekey, order_without, placed_in}
 
 -- a list parted at a number
 pub record Split (c : ℕ) (order : List ℕ) : Type 0 where
@@ -139,9 +139,9 @@ spots_off ops key ch (d ∷ cs) h = ap₂ (λ (k : Key) (ps : List (Key × Form)
 pub text_nowhere : (graph : Graph) (op : Record) (e : Errno) → Own graph op → Fits op.remaining → by_text (form op.call) ≡ Some e → ⊥
 text_nowhere graph op e own fits text = let z : ◌≡◌ {A = Option Errno} (Some e) None = sym text ∙ ap by_text (sym own.parts) ∙ fits_under op.walked op.remaining fits in cc
 
-carry_standing : (old : State) (inv : Invariant old) (c : ℕ) (op : Record) (i : ℕ) (st : Stand) (o : Option ℕ) (front back : List ℕ) → inv.order ≡ front ++ c ∷ back → old.ops c ≡ Some op → op.phase ≡ Placed i → by_text (form op.call) ≡ None → op.stand ≡ Some st → next_on old.graph op.remaining st ≡ Finishes o
+carry_in_place : (old : State) (inv : Invariant old) (c : ℕ) (op : Record) (i : ℕ) (st : Holdings) (o : Option ℕ) (front back : List ℕ) → inv.order ≡ front ++ c ∷ back → old.ops c ≡ Some op → op.phase ≡ Placed i → by_text (form op.call) ≡ None → op.holdings ≡ Some st → next_on old.graph op.remaining st ≡ Finishes o
     → Invariant (carrying old c op)
-carry_standing old inv c op i st o front back order_is is pl text on n =
+carry_in_place old inv c op i st o front back order_is is pl text on n =
     subst (λ (m : Effect). Invariant (ended old c op m old.timeline)) (sym made_is) (ends_keep old inv c op (effect_at old.graph op.remaining st op.reserved) old.timeline made_ends)
   where
     own : Own old.graph op
@@ -151,7 +151,7 @@ carry_standing old inv c op i st o front back order_is is pl text on n =
     unfinished r e = let z : ◌≡◌ {A = Phase} (Placed i) (Finished r) = sym pl ∙ e in cc
 
     pc : IsPlaced old.ops c
-    pc = record { op = op; stand = st; place = i; is = is; on = on; phase = pl }
+    pc = record { op = op; holdings = st; place = i; is = is; on = on; phase = pl }
 
     ordered : InOrder old.ops (front ++ c ∷ back)
     ordered = subst (InOrder old.ops) order_is inv.in_order
@@ -161,7 +161,7 @@ carry_standing old inv c op i st o front back order_is is pl text on n =
     places d q a b differs e g h same = go (in_parts d c front back (subst (IsIn d) order_is (inv.all_placed d q a e g).1))
       where
         pd : IsPlaced old.ops d
-        pd = record { op = q; stand = ((inv.own d q e).placed a g).0; place = a; is = e; on = ((inv.own d q e).placed a g).1; phase = g }
+        pd = record { op = q; holdings = ((inv.own d q e).placed a g).0; place = a; is = e; on = ((inv.own d q e).placed a g).1; phase = g }
 
         b_is : i ≡ b
         b_is = let z : ◌≡◌ {A = Phase} (Placed i) (Placed b) = sym pl ∙ h in cc
@@ -196,7 +196,7 @@ carry_standing old inv c op i st o front back order_is is pl text on n =
     new_is : Altered old.graph (effect_at old.graph op.remaining st op.reserved).graph facts_of.does.linked st
     new_is = facts_of.does.altered
 
-    new_kept : Kept (numbers (effect_at old.graph op.remaining st op.reserved).graph) old.ops (λ d. rekey facts_of.ch (inv.key d))
+    new_kept : CallFacts (numbers (effect_at old.graph op.remaining st op.reserved).graph) old.ops (λ d. rekey facts_of.ch (inv.key d))
     new_kept = facts_of.does.kept
 
     ordered_front : InOrder old.ops front
@@ -208,14 +208,14 @@ carry_standing old inv c op i st o front back order_is is pl text on n =
     differs_back : (d : ℕ) (p : IsPlaced old.ops d) → IsIn d back → c ≡ d → ⊥
     differs_back d p j e = two_calls old.ops c d pc p (back_more old.ops c front back ordered pc d p j) e
 
-    all : Carried (spell old.graph) (spots old.ops inv.key front) (spots old.ops inv.key back) (inv.key c) op.remaining facts_of.ch
+    all : Carried (graph_shapes old.graph) (spots old.ops inv.key front) (spots old.ops inv.key back) (inv.key c) op.remaining facts_of.ch
     all =
-        carried (spell old.graph) (spots old.ops inv.key front) (spots old.ops inv.key back) (inv.key c) op.remaining facts_of.ch facts_of.out facts_of.fits
-        (standing_of old.graph inv.is_graph old.ops inv.key inv.kept front ordered_front)
+        carried (graph_shapes old.graph) (spots old.ops inv.key front) (spots old.ops inv.key back) (inv.key c) op.remaining facts_of.ch facts_of.out facts_of.fits
+        (in_place_of old.graph inv.is_graph old.ops inv.key inv.kept front ordered_front)
         (passes_list old.graph old.ops inv.key c op st facts_of front ordered_front (λ d p j. (differs_front d p j, subst (λ (z : Phase). IsAfter (Placed p.place) z) (sym pl) (front_less old.ops c front back ordered pc d p j))))
-        (subst (λ (t : Map Shape). Standing t (rekey_all facts_of.ch (spots old.ops inv.key front))) facts_of.tree_is
-        (subst (Standing (spell (effect_at old.graph op.remaining st op.reserved).graph)) (spots_rekey old.ops inv.key facts_of.ch front)
-        (standing_of (effect_at old.graph op.remaining st op.reserved).graph new_is.is_graph old.ops (λ d. rekey facts_of.ch (inv.key d)) facts_of.does.kept front ordered_front)))
+        (subst (λ (t : Map Shape). InPlace t (rekey_all facts_of.ch (spots old.ops inv.key front))) facts_of.tree_is
+        (subst (InPlace (graph_shapes (effect_at old.graph op.remaining st op.reserved).graph)) (spots_rekey old.ops inv.key facts_of.ch front)
+        (in_place_of (effect_at old.graph op.remaining st op.reserved).graph new_is.is_graph old.ops (λ d. rekey facts_of.ch (inv.key d)) facts_of.does.kept front ordered_front)))
 
     back_is : spots old.ops (λ d. rekey facts_of.ch (inv.key d)) back ≡ spots old.ops inv.key back
     back_is = spots_off old.ops inv.key facts_of.ch back still
@@ -224,7 +224,7 @@ carry_standing old inv c op i st o front back order_is is pl text on n =
         still d j =
             let p : IsPlaced old.ops d = placed_in old.ops d back (order_back old.ops front (c ∷ back) ordered).2 j in
             let off : after_prefix (inv.key c) (inv.key d) ≡ None =
-            (inv.kept.pairs c d op p.op st p.stand (differs_back d p j) is p.is on p.on).after (subst (λ (z : Phase). IsAfter z p.op.phase) (sym pl) (subst (λ (z : Phase). IsAfter (Placed i) z) (sym p.phase) (back_more old.ops c front back ordered pc d p j))) in
+            (inv.kept.pairs c d op p.op st p.holdings (differs_back d p j) is p.is on p.on).after (subst (λ (z : Phase). IsAfter z p.op.phase) (sym pl) (subst (λ (z : Phase). IsAfter (Placed i) z) (sym p.phase) (back_more old.ops c front back ordered pc d p j))) in
             ap (λ (x : Change). rekey x (inv.key d)) facts_of.is_under.1 ∙ rekey_off (inv.key c) facts_of.is_under.0 (inv.key d) off
 
     whole : spots old.ops inv.key (front ++ c ∷ back) ≡ spots old.ops inv.key front ++ (inv.key c, op.remaining) ∷ spots old.ops inv.key back
@@ -233,10 +233,10 @@ carry_standing old inv c op i st o front back order_is is pl text on n =
     new_spots : spots old.ops (λ d. rekey facts_of.ch (inv.key d)) (front ++ back) ≡ rekey_all facts_of.ch (spots old.ops inv.key front) ++ spots old.ops inv.key back
     new_spots = spots_append old.ops (λ d. rekey facts_of.ch (inv.key d)) front back ∙ ap₂ (λ (a b : List (Key × Form)). a ++ b) (spots_rekey old.ops inv.key facts_of.ch front) back_is
 
-    tied : Tied (spell (effect_at old.graph op.remaining st op.reserved).graph) (set_at c (Some (phased op (Finished (reply (spell old.graph) (under (inv.key c) op.remaining)), (effect_at old.graph op.remaining st op.reserved).reserved, (effect_at old.graph op.remaining st op.reserved).removed))) old.ops) (λ d. rekey facts_of.ch (inv.key d)) (front ++ back) (book_of start old.timeline)
-    tied = tied_carry (effect_at old.graph op.remaining st op.reserved).reserved (effect_at old.graph op.remaining st op.reserved).removed (spell old.graph) (spell (effect_at old.graph op.remaining st op.reserved).graph) old.ops inv.key (λ d. rekey facts_of.ch (inv.key d)) front back (book_of start old.timeline) c op i
-        (subst (λ (x : List ℕ). Tied (spell old.graph) old.ops inv.key x (book_of start old.timeline)) order_is inv.tied) is pl
-        (ap₂ settle facts_of.tree_is new_spots ∙ all.tree_is ∙ sym (ap (settle (spell old.graph)) whole))
+    tied : Tied (graph_shapes (effect_at old.graph op.remaining st op.reserved).graph) (set_at c (Some (phased op (Finished (reply (graph_shapes old.graph) (under (inv.key c) op.remaining)), (effect_at old.graph op.remaining st op.reserved).reserved, (effect_at old.graph op.remaining st op.reserved).removed))) old.ops) (λ d. rekey facts_of.ch (inv.key d)) (front ++ back) (view_after start old.timeline)
+    tied = tied_carry (effect_at old.graph op.remaining st op.reserved).reserved (effect_at old.graph op.remaining st op.reserved).removed (graph_shapes old.graph) (graph_shapes (effect_at old.graph op.remaining st op.reserved).graph) old.ops inv.key (λ d. rekey facts_of.ch (inv.key d)) front back (view_after start old.timeline) c op i
+        (subst (λ (x : List ℕ). Tied (graph_shapes old.graph) old.ops inv.key x (view_after start old.timeline)) order_is inv.tied) is pl
+        (ap₂ settle facts_of.tree_is new_spots ∙ all.tree_is ∙ sym (ap (settle (graph_shapes old.graph)) whole))
         all.same_reply
         (ap₂ settle_replies facts_of.tree_is (spots_rekey old.ops inv.key facts_of.ch front) ∙ all.front_replies)
         (ap₂ settle_replies (ap₂ settle facts_of.tree_is (spots_rekey old.ops inv.key facts_of.ch front)) back_is ∙ all.back_replies)
@@ -261,7 +261,7 @@ carry_standing old inv c op i st o front back order_is is pl text on n =
       in_order = order_without old.ops c (Some (finished_op op (effect_at old.graph op.remaining st op.reserved))) (front ++ back) others (order_drop old.ops c front back ordered);
       all_placed = λ d q j m e g. ((inv.all_placed d q j e g).0, joined d m (in_parts d c front back (subst (IsIn d) order_is (inv.all_placed d q j e g).1)));
       lawful = inv.lawful;
-      tied = subst (λ (r : Reply). Tied (spell (effect_at old.graph op.remaining st op.reserved).graph) (set_at c (Some (phased op (Finished r, (effect_at old.graph op.remaining st op.reserved).reserved, (effect_at old.graph op.remaining st op.reserved).removed))) old.ops) (λ d. rekey facts_of.ch (inv.key d)) (front ++ back) (book_of start old.timeline)) (sym facts_of.reply_is) tied;
+      tied = subst (λ (r : Reply). Tied (graph_shapes (effect_at old.graph op.remaining st op.reserved).graph) (set_at c (Some (phased op (Finished r, (effect_at old.graph op.remaining st op.reserved).reserved, (effect_at old.graph op.remaining st op.reserved).removed))) old.ops) (λ d. rekey facts_of.ch (inv.key d)) (front ++ back) (view_after start old.timeline)) (sym facts_of.reply_is) tied;
       own = own_finished old.graph (effect_at old.graph op.remaining st op.reserved) facts_of.does.linked st (rekey facts_of.ch (inv.key c)) op inv.is_graph new_is own on (new_kept.each c op st is on).located (λ m j. (facts_of.does.links m j).1) facts_of.does.reserved facts_of.does.removed;
       own_other = λ d q m e.
           own_other old.graph (effect_at old.graph op.remaining st op.reserved).graph facts_of.does.linked st (rekey facts_of.ch (inv.key d)) q new_is (inv.own d q e)
@@ -289,5 +289,5 @@ keeps_carried old new seat inv (c, op, s, i, moves, pl, same) = subst Invariant 
     parts = split_at c inv.order (inv.all_placed c op i moves.1 pl).1
 
     go : Ready old.graph op s → Invariant (carrying old c op)
-    go (By_text e text) = let p : (st : Stand) × (op.stand ≡ Some st) = (inv.own c op moves.1).placed i pl in absurd (text_nowhere old.graph op e (inv.own c op moves.1) (inv.kept.each c op p.0 moves.1 p.1).fits text)
-    go (Stands st text on n) = carry_standing old inv c op i st s parts.front parts.back parts.is moves.1 pl text on n
+    go (By_text e text) = let p : (st : Holdings) × (op.holdings ≡ Some st) = (inv.own c op moves.1).placed i pl in absurd (text_nowhere old.graph op e (inv.own c op moves.1) (inv.kept.each c op p.0 moves.1 p.1).fits text)
+    go (By_holdings st text on n) = carry_in_place old inv c op i st s parts.front parts.back parts.is moves.1 pl text on n

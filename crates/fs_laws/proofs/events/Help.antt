@@ -3,20 +3,20 @@ use Rattle.std.proofs.Common.{◌≡◌, ℕ, ◌<◌, ◌+◌, false, List, [],
 use mathlib.Core.Path.{fun_ext}
 use Rattle.fs_names.specs.Keys.{Key, after_prefix}
 use Rattle.fs_calls.specs.Forms.{form, under}
-use Rattle.fs_nodes.specs.Graphs.{Graph, at, numbers, spell, set_at}
+use Rattle.fs_nodes.specs.Graphs.{Graph, at, numbers, graph_shapes, set_at}
 use Rattle.fs_timeline.specs.declared.entry.Entry.{Entry}
 use Rattle.fs_timeline.specs.declared.entry.Entry.TheVariants.{Begin, Commit, Return}
-use Rattle.fs_machine.specs.Records.{Stand, Phase, Walking, Placed, Finished, Record, Records, Holds}
-use Rattle.fs_laws.specs.Books.{Book, start, book_of, IsNext}
+use Rattle.fs_machine.specs.Records.{Holdings, Phase, Walking, Placed, Finished, Record, Records, Holds}
+use Rattle.fs_laws.specs.JournalViews.{JournalView, start, view_after, IsNext}
 use Rattle.fs_timeline.specs.Timeline.{begins, commit_count}
 use Rattle.fs_laws.specs.Invariants.{HasSpare, IsIn, Own, Invariant, StepKeeps, IsPlaced, AllLater, InOrder, Tied}
-use Rattle.fs_laws.specs.Stands.{Keeps, Kept}
+use Rattle.fs_laws.specs.CallFacts.{Keeps, CallFacts}
 use Rattle.fs_laws.specs.States.{State, Helped, IsWalkingBelow, helping}
 use Rattle.fs_laws.proofs.trees.Prefixes.{prefix_some}
 use Rattle.fs_laws.proofs.graphs.Walks.{at_from}
 use Rattle.fs_laws.proofs.events.OneCallChanged.{Place, Here, Else, place, kept_help}
-use Rattle.fs_laws.proofs.journal.OneMoreEntry.{book_push, lawful_push}
-use Rattle.fs_laws.proofs.journal.BookAndMachine.{phased, committed, noted_commit, not_placed, tied_help}
+use Rattle.fs_laws.proofs.journal.OneMoreEntry.{view_push, lawful_push}
+use Rattle.fs_laws.proofs.journal.ViewAndMachine.{phased, committed, noted_commit, not_placed, tied_help}
 
 pub commits_push : (es : List Entry) (d : ℕ) → commit_count (es ++ Commit d ∷ []) ≡ commit_count es + 1
 commits_push [] d = refl
@@ -62,10 +62,10 @@ in_last d (x ∷ cs) = inr (in_last d cs)
 
 -- the helped call goes to the end of the order
 abbrev pub to_new : (ops : Records) (d : ℕ) (v : Option Record) (x : ℕ) → (x ≡ d → ⊥) → IsPlaced ops x → IsPlaced (set_at d v ops) x
-to_new ops d v x n p = record { op = p.op; stand = p.stand; place = p.place; is = upd_else d v ops x n ∙ p.is; on = p.on; phase = p.phase }
+to_new ops d v x n p = record { op = p.op; holdings = p.holdings; place = p.place; is = upd_else d v ops x n ∙ p.is; on = p.on; phase = p.phase }
 
 abbrev pub to_old : (ops : Records) (d : ℕ) (v : Option Record) (x : ℕ) → (x ≡ d → ⊥) → IsPlaced (set_at d v ops) x → IsPlaced ops x
-to_old ops d v x n p = record { op = p.op; stand = p.stand; place = p.place; is = sym (upd_else d v ops x n) ∙ p.is; on = p.on; phase = p.phase }
+to_old ops d v x n p = record { op = p.op; holdings = p.holdings; place = p.place; is = sym (upd_else d v ops x n) ∙ p.is; on = p.on; phase = p.phase }
 
 later_push : (ops : Records) (d : ℕ) (q : Record) (num i : ℕ) → ops d ≡ Some q → q.phase ≡ Walking → i < num → (cs : List ℕ) → AllLater ops i cs → InOrder ops cs → AllLater (set_at d (Some (record q { phase = Placed num })) ops) i (cs ++ d ∷ [])
 later_push ops d q num i is w less [] l o = (last, tt)
@@ -80,8 +80,8 @@ later_push ops d q num i is w less [] l o = (last, tt)
 later_push ops d q num i is w less (x ∷ cs) l o =
     ((λ p. l.0 (to_old ops d (Some (record q { phase = Placed num })) x (not_placed ops d x q is w o.0) p)), later_push ops d q num i is w less cs l.1 o.2)
 
-pub order_push : (ops : Records) (d : ℕ) (q : Record) (st : Stand) (num : ℕ) → ops d ≡ Some q → q.phase ≡ Walking → q.stand ≡ Some st → ((c : ℕ) (p : IsPlaced ops c) → p.place < num) → (cs : List ℕ) → InOrder ops cs → InOrder (set_at d (Some (record q { phase = Placed num })) ops) (cs ++ d ∷ [])
-order_push ops d q st num is w on less [] o = (record { op = record q { phase = Placed num }; stand = st; place = num; is = upd_here d (Some (record q { phase = Placed num })) ops; on = on; phase = refl }, tt, tt)
+pub order_push : (ops : Records) (d : ℕ) (q : Record) (st : Holdings) (num : ℕ) → ops d ≡ Some q → q.phase ≡ Walking → q.holdings ≡ Some st → ((c : ℕ) (p : IsPlaced ops c) → p.place < num) → (cs : List ℕ) → InOrder ops cs → InOrder (set_at d (Some (record q { phase = Placed num })) ops) (cs ++ d ∷ [])
+order_push ops d q st num is w on less [] o = (record { op = record q { phase = Placed num }; holdings = st; place = num; is = upd_here d (Some (record q { phase = Placed num })) ops; on = on; phase = refl }, tt, tt)
 order_push ops d q st num is w on less (x ∷ cs) o = (
   to_new ops d (Some (record q { phase = Placed num })) x (not_placed ops d x q is w o.0) o.0,
   later_push ops d q num o.0.place is w (less x o.0) cs o.1 o.2,
@@ -89,10 +89,10 @@ order_push ops d q st num is w on less (x ∷ cs) o = (
 )
 
 -- what helping asks: the call walks, stands, and no walking call is below it
-pub record Helps (old : State) (d : ℕ) (q : Record) (st : Stand) : Type 0 where
+pub record Helps (old : State) (d : ℕ) (q : Record) (st : Holdings) : Type 0 where
   pub is : old.ops d ≡ Some q
   pub walks : q.phase ≡ Walking
-  pub on : q.stand ≡ Some st
+  pub on : q.holdings ≡ Some st
   pub lowest : (e : ℕ) → (d ≡ e → ⊥) → IsWalkingBelow old st.node e → ⊥
 
 abbrev placed_op : State → Record → Record
@@ -121,7 +121,7 @@ old_of : (old : State) (d : ℕ) (q : Record) (c : ℕ) (op : Record) → old.op
 old_of old d q c op is (Mine e f) = record { op = q; is = ap old.ops e ∙ is; reserved = ap (λ (o : Record). o.reserved) f; removed = ap (λ (o : Record). o.removed) f }
 old_of old d q c op is (Other n e) = record { op = op; is = e; reserved = refl; removed = refl }
 
-own_placed : (graph : Graph) (q : Record) (st : Stand) (n : ℕ) → q.phase ≡ Walking → q.stand ≡ Some st → Own graph q → Own graph (record q { phase = Placed n })
+own_placed : (graph : Graph) (q : Record) (st : Holdings) (n : ℕ) → q.phase ≡ Walking → q.holdings ≡ Some st → Own graph q → Own graph (record q { phase = Placed n })
 own_placed graph q st n w on o = record {
   parts = o.parts;
   well = o.well;
@@ -137,27 +137,27 @@ own_placed graph q st n w on o = record {
   gone = o.gone;
 }
 
-helped_inv : (old : State) (d : ℕ) (q : Record) (st : Stand) → Invariant old → Helps old d q st → Invariant (helping old d q)
+helped_inv : (old : State) (d : ℕ) (q : Record) (st : Holdings) → Invariant old → Helps old d q st → Invariant (helping old d q)
 helped_inv old d q st inv h = record {
   key = inv.key;
   order = inv.order ++ d ∷ [];
   is_graph = inv.is_graph;
-  kept = subst (λ (k : ℕ → Key). Kept (numbers old.graph) (set_at d (Some (placed_op old q)) old.ops) k) (upd_same d inv.key) (kept_help (numbers old.graph) old.ops inv.key d q (commit_count old.timeline) inv.kept h.is h.walks none_below (λ x p j e f. (inv.all_placed x p j e f).0));
+  kept = subst (λ (k : ℕ → Key). CallFacts (numbers old.graph) (set_at d (Some (placed_op old q)) old.ops) k) (upd_same d inv.key) (kept_help (numbers old.graph) old.ops inv.key d q (commit_count old.timeline) inv.kept h.is h.walks none_below (λ x p j e f. (inv.all_placed x p j e f).0));
   in_order = order_push old.ops d q st (commit_count old.timeline) h.is h.walks h.on (λ x p. (inv.all_placed x p.op p.place p.is p.phase).0) inv.order inv.in_order;
   all_placed = λ x p i e f. all_placed x p i (which old d q x p e) f;
   lawful = lawful_push start old.timeline (Commit d) inv.lawful both.0;
-  tied = subst (Tied (spell old.graph) (set_at d (Some (placed_op old q)) old.ops) inv.key (inv.order ++ d ∷ [])) (sym book_is) both.1;
+  tied = subst (Tied (graph_shapes old.graph) (set_at d (Some (placed_op old q)) old.ops) inv.key (inv.order ++ d ∷ [])) (sym view_is) both.1;
   own = λ x p e. own x p (which old d q x p e);
   held = λ x p z n e. held x p z n (which old d q x p e);
   apart = λ x y n p r differs e f. apart x y n p r differs (old_of old d q x p h.is (which old d q x p e)) (old_of old d q y r h.is (which old d q y r f));
   seated = seated;
-  busy = λ x. ap (λ (b : Book). b.busy x) book_is ∙ inv.busy x;
+  busy = λ x. ap (λ (b : JournalView). b.busy x) view_is ∙ inv.busy x;
   seat_of = λ x p e. seat_of x p (which old d q x p e);
-  fresh = λ x less. ap (λ (b : Book). b.call x) book_is ∙ inv.fresh x (subst (λ (m : ℕ). m < x) (begins_push old.timeline d) less);
+  fresh = λ x less. ap (λ (b : JournalView). b.call x) view_is ∙ inv.fresh x (subst (λ (m : ℕ). m < x) (begins_push old.timeline d) less);
 }
   where
-    book : Book
-    book = book_of start old.timeline
+    view : JournalView
+    view = view_after start old.timeline
 
     mine : Keeps (numbers old.graph) (inv.key d) q st
     mine = inv.kept.each d q st h.is h.on
@@ -165,20 +165,20 @@ helped_inv old d q st inv h = record {
     stands : under (inv.key d) q.remaining ≡ form q.call
     stands = ap (λ (k : Key). under k q.remaining) (mine.walking h.walks) ∙ (inv.own d q h.is).parts
 
-    both : IsNext (book_of start old.timeline) (Commit d) × Tied (spell old.graph) (set_at d (Some (phased q (Placed (commit_count old.timeline), q.reserved, q.removed))) old.ops) inv.key (inv.order ++ d ∷ []) (committed (book_of start old.timeline) d (form q.call))
-    both = tied_help (spell old.graph) old.ops inv.key inv.order (book_of start old.timeline) d q (commit_count old.timeline) inv.tied h.is h.walks inv.in_order stands
+    both : IsNext (view_after start old.timeline) (Commit d) × Tied (graph_shapes old.graph) (set_at d (Some (phased q (Placed (commit_count old.timeline), q.reserved, q.removed))) old.ops) inv.key (inv.order ++ d ∷ []) (committed (view_after start old.timeline) d (form q.call))
+    both = tied_help (graph_shapes old.graph) old.ops inv.key inv.order (view_after start old.timeline) d q (commit_count old.timeline) inv.tied h.is h.walks inv.in_order stands
 
-    book_is : book_of start (old.timeline ++ Commit d ∷ []) ≡ committed (book_of start old.timeline) d (form q.call)
-    book_is = book_push start old.timeline (Commit d) ∙ noted_commit (book_of start old.timeline) d q.call (inv.tied.calls d q h.is)
+    view_is : view_after start (old.timeline ++ Commit d ∷ []) ≡ committed (view_after start old.timeline) d (form q.call)
+    view_is = view_push start old.timeline (Commit d) ∙ noted_commit (view_after start old.timeline) d q.call (inv.tied.calls d q h.is)
 
-    none_below : (e : ℕ) (p : Record) (other : Stand) → (d ≡ e → ⊥) → old.ops e ≡ Some p → p.stand ≡ Some other → p.phase ≡ Walking → after_prefix (inv.key d) (inv.key e) ≡ None
+    none_below : (e : ℕ) (p : Record) (other : Holdings) → (d ≡ e → ⊥) → old.ops e ≡ Some p → p.holdings ≡ Some other → p.phase ≡ Walking → after_prefix (inv.key d) (inv.key e) ≡ None
     none_below e p other n is_e on_e w_e = go (after_prefix (inv.key d) (inv.key e)) refl
       where
         go : (o : Option Key) → after_prefix (inv.key d) (inv.key e) ≡ o → o ≡ None
         go None i = refl
         go (Some r) i =
             let there : numbers old.graph (inv.key e) ≡ Some other.node = (inv.kept.each e p other is_e on_e).located.here in
-            let b : at old.graph.kid st.node r ≡ Some other.node = sym (at_from old.graph.kid 0 st.node (inv.key d) r mine.located.here) ∙ ap (numbers old.graph) (sym (prefix_some (inv.key d) (inv.key e) r i)) ∙ there in
+            let b : at old.graph.child st.node r ≡ Some other.node = sym (at_from old.graph.child 0 st.node (inv.key d) r mine.located.here) ∙ ap (numbers old.graph) (sym (prefix_some (inv.key d) (inv.key e) r i)) ∙ there in
             absurd (h.lowest e n (p, is_e, w_e, (other, r, on_e, b)))
 
     all_placed : (x : ℕ) (p : Record) (i : ℕ) → Which old d q x p → p.phase ≡ Placed i → (i < commit_count (old.timeline ++ Commit d ∷ [])) × IsIn x (inv.order ++ d ∷ [])
@@ -197,19 +197,19 @@ helped_inv old d q st inv h = record {
     own x p (Mine e f) = subst (Own old.graph) f (own_placed old.graph q st (commit_count old.timeline) h.walks h.on (inv.own d q h.is))
     own x p (Other n e) = inv.own x p e
 
-    held : (x : ℕ) (p : Record) (z : Stand) (n : ℕ) → Which old d q x p → p.stand ≡ Some z → Holds z n → old.holder n ≡ Some x
-    held x p z n (Mine e f) g i = inv.held d q z n h.is (ap (λ (o : Record). o.stand) f ∙ g) i ∙ ap (λ (y : ℕ). Some y) (sym e)
+    held : (x : ℕ) (p : Record) (z : Holdings) (n : ℕ) → Which old d q x p → p.holdings ≡ Some z → Holds z n → old.holder n ≡ Some x
+    held x p z n (Mine e f) g i = inv.held d q z n h.is (ap (λ (o : Record). o.holdings) f ∙ g) i ∙ ap (λ (y : ℕ). Some y) (sym e)
     held x p z n (Other m e) g i = inv.held x p z n e g i
 
-    seat_of : (x : ℕ) (p : Record) → Which old d q x p → ((book_of start (old.timeline ++ Commit d ∷ [])).seat_of x ≡ Some p.seat) × ((book_of start (old.timeline ++ Commit d ∷ [])).back x ≡ false)
+    seat_of : (x : ℕ) (p : Record) → Which old d q x p → ((view_after start (old.timeline ++ Commit d ∷ [])).seat_of x ≡ Some p.seat) × ((view_after start (old.timeline ++ Commit d ∷ [])).back x ≡ false)
     seat_of x p (Mine e f) =
-        let a : ((book_of start old.timeline).seat_of d ≡ Some q.seat) × ((book_of start old.timeline).back d ≡ false) = inv.seat_of d q h.is in (
-          ap (λ (b : Book). b.seat_of x) book_is ∙ ap (book_of start old.timeline).seat_of e ∙ a.0 ∙ ap (λ (o : Record). Some o.seat) f,
-          ap (λ (b : Book). b.back x) book_is ∙ ap (book_of start old.timeline).back e ∙ a.1,
+        let a : ((view_after start old.timeline).seat_of d ≡ Some q.seat) × ((view_after start old.timeline).back d ≡ false) = inv.seat_of d q h.is in (
+          ap (λ (b : JournalView). b.seat_of x) view_is ∙ ap (view_after start old.timeline).seat_of e ∙ a.0 ∙ ap (λ (o : Record). Some o.seat) f,
+          ap (λ (b : JournalView). b.back x) view_is ∙ ap (view_after start old.timeline).back e ∙ a.1,
         )
     seat_of x p (Other n e) =
-        let a : ((book_of start old.timeline).seat_of x ≡ Some p.seat) × ((book_of start old.timeline).back x ≡ false) = inv.seat_of x p e in
-        (ap (λ (b : Book). b.seat_of x) book_is ∙ a.0, ap (λ (b : Book). b.back x) book_is ∙ a.1)
+        let a : ((view_after start old.timeline).seat_of x ≡ Some p.seat) × ((view_after start old.timeline).back x ≡ false) = inv.seat_of x p e in
+        (ap (λ (b : JournalView). b.seat_of x) view_is ∙ a.0, ap (λ (b : JournalView). b.back x) view_is ∙ a.1)
 
     spared : (p r : Record) (n : ℕ) → p.reserved ≡ r.reserved → p.removed ≡ r.removed → HasSpare r n → HasSpare p n
     spared p r n e f (inl g) = inl (e ∙ g)
@@ -235,6 +235,6 @@ keeps_helped d old new seat inv (c, op, s, moves, walks, (((p, is_p, w, (st, r, 
     subst Invariant (sym same_name) (helped_inv old d q st inv (record {
       is = is_q;
       walks = subst (λ (o : Record). o.phase ≡ Walking) e w;
-      on = subst (λ (o : Record). o.stand ≡ Some st) e on;
+      on = subst (λ (o : Record). o.holdings ≡ Some st) e on;
       lowest = λ x n. lowest p st x is_p on n;
     }))

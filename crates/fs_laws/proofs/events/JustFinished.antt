@@ -1,14 +1,14 @@
 -- A state in which one call has just finished keeps what every state keeps.
 use Rattle.std.proofs.Common.{◌≡◌, ℕ, ◌<◌, false, List, Option, Some, sym, ap, ◌∙◌, subst, ◌⊎◌, inl, inr}
 use Rattle.fs_names.specs.Keys.{Key}
-use Rattle.fs_nodes.specs.Graphs.{numbers, spell, set_at, IsGraph}
+use Rattle.fs_nodes.specs.Graphs.{numbers, graph_shapes, set_at, IsGraph}
 use Rattle.fs_timeline.specs.declared.entry.Entry.{Entry}
 use Rattle.fs_machine.specs.Finishes.{Effect}
-use Rattle.fs_machine.specs.Records.{Phase, Placed, Finished, Holds, Record, Records, Stand}
-use Rattle.fs_laws.specs.Books.{Book, start, book_of, IsLawful}
+use Rattle.fs_machine.specs.Records.{Phase, Placed, Finished, Holds, Record, Records, Holdings}
+use Rattle.fs_laws.specs.JournalViews.{JournalView, start, view_after, IsLawful}
 use Rattle.fs_timeline.specs.Timeline.{begins, commit_count}
 use Rattle.fs_laws.specs.Invariants.{HasSpare, IsIn, Own, Invariant, InOrder, Tied}
-use Rattle.fs_laws.specs.Stands.{Kept}
+use Rattle.fs_laws.specs.CallFacts.{CallFacts}
 use Rattle.fs_machine.specs.Leaving.{finished_op}
 use Rattle.fs_laws.specs.States.{State}
 use Rattle.fs_laws.proofs.graphs.Alterations.{Shapes, Reached}
@@ -27,8 +27,8 @@ either old c v d q e = go (place c (Some v) old d)
     go (Here i j) = let a : ◌≡◌ {A = Option Record} (Some v) (Some q) = sym j ∙ e in Changed i (let b : v ≡ q = cc in b)
     go (Else n j) = Old n (sym j ∙ e)
 
--- the books agree on who is under way
-pub record SameCalls (old new : Book) : Type 0 where
+-- the views agree on who is under way
+pub record SameCalls (old new : JournalView) : Type 0 where
   pub call : (c : ℕ) → new.call c ≡ old.call c
   pub seat_of : (c : ℕ) → new.seat_of c ≡ old.seat_of c
   pub back : (c : ℕ) → new.back c ≡ old.back c
@@ -39,16 +39,16 @@ pub record Closing (old : State) (inv : Invariant old) (c : ℕ) (op : Record) (
   pub key : ℕ → Key
   pub order : List ℕ
   pub is_graph : IsGraph made.graph
-  pub kept : Kept (numbers made.graph) old.ops key
+  pub kept : CallFacts (numbers made.graph) old.ops key
   pub in_order : InOrder (set_at c (Some (finished_op op made)) old.ops) order
   pub all_placed : (d : ℕ) (q : Record) (i : ℕ) → (d ≡ c → ⊥) → old.ops d ≡ Some q → q.phase ≡ Placed i → (i < commit_count timeline) × IsIn d order
   pub lawful : IsLawful start timeline
-  pub tied : Tied (spell made.graph) (set_at c (Some (finished_op op made)) old.ops) key order (book_of start timeline)
+  pub tied : Tied (graph_shapes made.graph) (set_at c (Some (finished_op op made)) old.ops) key order (view_after start timeline)
   pub own : Own made.graph (finished_op op made)
   pub own_other : (d : ℕ) (q : Record) → (d ≡ c → ⊥) → old.ops d ≡ Some q → Own made.graph q
   pub spares : (n : ℕ) → HasSpare (finished_op op made) n → HasSpare op n ⊎ Reached old.graph n
   pub shapes : Shapes old.graph.shape made.graph.shape (Reached old.graph)
-  pub calls : SameCalls (book_of start old.timeline) (book_of start timeline)
+  pub calls : SameCalls (view_after start old.timeline) (view_after start timeline)
   pub begun : begins timeline ≡ begins old.timeline
 
 -- the state after it
@@ -60,7 +60,7 @@ ends_keep old inv c op made timeline f = record {
   key = f.key;
   order = f.order;
   is_graph = f.is_graph;
-  kept = subst (λ (k : ℕ → Key). Kept (numbers made.graph) (set_at c (Some done) old.ops) k) (upd_same c f.key) (kept_finish (numbers made.graph) old.ops f.key c op made f.kept f.is);
+  kept = subst (λ (k : ℕ → Key). CallFacts (numbers made.graph) (set_at c (Some done) old.ops) k) (upd_same c f.key) (kept_finish (numbers made.graph) old.ops f.key c op made f.kept f.is);
   in_order = f.in_order;
   all_placed = λ d q i e g. all_placed d q i (either old.ops c done d q e) g;
   lawful = f.lawful;
@@ -85,8 +85,8 @@ ends_keep old inv c op made timeline f = record {
     own d q (Changed e g) = subst (Own made.graph) g f.own
     own d q (Old n e) = f.own_other d q n e
 
-    held : (d : ℕ) (q : Record) (st : Stand) (n : ℕ) → Either old.ops c (finished_op op made) d q → q.stand ≡ Some st → Holds st n → old.holder n ≡ Some d
-    held d q st n (Changed e g) h i = inv.held c op st n f.is (ap (λ (o : Record). o.stand) g ∙ h) i ∙ ap (λ (m : ℕ). Some m) (sym e)
+    held : (d : ℕ) (q : Record) (st : Holdings) (n : ℕ) → Either old.ops c (finished_op op made) d q → q.holdings ≡ Some st → Holds st n → old.holder n ≡ Some d
+    held d q st n (Changed e g) h i = inv.held c op st n f.is (ap (λ (o : Record). o.holdings) g ∙ h) i ∙ ap (λ (m : ℕ). Some m) (sym e)
     held d q st n (Old m e) h i = inv.held d q st n e h i
 
     -- a spare number of another call is not reached
@@ -114,10 +114,10 @@ ends_keep old inv c op made timeline f = record {
             (finished_op op made, j, ap (λ (o : Record). o.seat) b ∙ h)
         go (Else n j) (q, g, h) = (q, j ∙ g, h)
 
-    seat_of : (d : ℕ) (q : Record) → Either old.ops c (finished_op op made) d q → ((book_of start timeline).seat_of d ≡ Some q.seat) × ((book_of start timeline).back d ≡ false)
+    seat_of : (d : ℕ) (q : Record) → Either old.ops c (finished_op op made) d q → ((view_after start timeline).seat_of d ≡ Some q.seat) × ((view_after start timeline).back d ≡ false)
     seat_of d q (Changed e g) =
-        let a : ((book_of start old.timeline).seat_of c ≡ Some op.seat) × ((book_of start old.timeline).back c ≡ false) = inv.seat_of c op f.is in
-        (f.calls.seat_of d ∙ ap (book_of start old.timeline).seat_of e ∙ a.0 ∙ ap (λ (o : Record). Some o.seat) g, f.calls.back d ∙ ap (book_of start old.timeline).back e ∙ a.1)
+        let a : ((view_after start old.timeline).seat_of c ≡ Some op.seat) × ((view_after start old.timeline).back c ≡ false) = inv.seat_of c op f.is in
+        (f.calls.seat_of d ∙ ap (view_after start old.timeline).seat_of e ∙ a.0 ∙ ap (λ (o : Record). Some o.seat) g, f.calls.back d ∙ ap (view_after start old.timeline).back e ∙ a.1)
     seat_of d q (Old n e) =
-        let a : ((book_of start old.timeline).seat_of d ≡ Some q.seat) × ((book_of start old.timeline).back d ≡ false) = inv.seat_of d q e in
+        let a : ((view_after start old.timeline).seat_of d ≡ Some q.seat) × ((view_after start old.timeline).back d ≡ false) = inv.seat_of d q e in
         (f.calls.seat_of d ∙ a.0, f.calls.back d ∙ a.1)

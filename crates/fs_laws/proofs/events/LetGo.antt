@@ -10,12 +10,12 @@ use Rattle.fs_calls.specs.declared.target.PairCall.TheVariants as pairs
 use Rattle.fs_laws.specs.Maps.{Map}
 use Rattle.fs_calls.specs.declared.errno.Errno.{Errno}
 use Rattle.fs_calls.specs.declared.reply.Reply.{Reply}
-use Rattle.fs_nodes.specs.Graphs.{Graph, at, numbers, spell, entry_shape, set_at, IsGraph, released_in}
+use Rattle.fs_nodes.specs.Graphs.{Graph, at, numbers, graph_shapes, entry_shape, set_at, IsGraph, released_in}
 use Rattle.fs_machine.specs.Leaving.{is_removed, releasing, cleared}
-use Rattle.fs_machine.specs.Moves.{Move, Leaves, Finishes, next, next_by, next_on, first_of, head_move, walk_move, take_if, target, target_move, victim_of, same_kind, rename_move, rename_at, moved_node, dir_then, last_held, first_walked, head_left, left_behind, left_heads, left_last, left_stand}
-use Rattle.fs_machine.specs.Records.{Phase, Walking, Placed, Finished, Holds, Record, Stand, head_at}
-use Rattle.fs_laws.specs.Invariants.{ForkedAt, StandsWell, VictimAt, HasSpare, HeadsFit, IsSingle, IsUnfinished, Own, Invariant, StepKeeps, Slot, At_node, At_behind, At_source, At_source_behind, At_dest, At_dest_behind, At_victim, if_walked, in_slot}
-use Rattle.fs_laws.specs.Stands.{Kept, Shrinks}
+use Rattle.fs_machine.specs.Moves.{Move, Leaves, Finishes, next, next_by, next_on, first_of, head_move, walk_move, take_if, target, target_move, victim_of, same_kind, rename_move, rename_at, moved_node, dir_then, last_held, first_walked, head_left, left_behind, left_heads, left_last, left_holdings}
+use Rattle.fs_machine.specs.Records.{Phase, Walking, Placed, Finished, Holds, Record, Holdings, head_at}
+use Rattle.fs_laws.specs.Invariants.{ForkedAt, HeadsSound, VictimAt, HasSpare, HeadsFit, IsSingle, IsUnfinished, Own, Invariant, StepKeeps, Slot, At_node, At_behind, At_source, At_source_behind, At_dest, At_dest_behind, At_victim, if_walked, in_slot}
+use Rattle.fs_laws.specs.CallFacts.{CallFacts, Shrinks}
 use Rattle.fs_laws.specs.States.{State, LetGo, letting_go}
 use Rattle.fs_laws.proofs.graphs.Walks.{eqb_refl}
 use Rattle.fs_laws.proofs.events.OneCallChanged.{kept_shrink}
@@ -24,10 +24,10 @@ use Rattle.fs_laws.proofs.events.Help.{upd_else}
 use Rattle.fs_laws.proofs.events.JustFinished.{Either, Changed, Old}
 use Rattle.fs_laws.proofs.events.RecordChanged.{renewed, renews_keep}
 use Rattle.fs_laws.proofs.calls.NodesHeld.{slot_holds, holds_slot}
-use Rattle.fs_laws.proofs.graphs.Release.{own_kids, numbers_kids, release_else, spell_released, graph_released}
+use Rattle.fs_laws.proofs.graphs.Release.{own_children, numbers_children, release_else, shapes_released, graph_released}
 
 -- a stand that lets the node n go from a slot
-pub record Lets (st new : Stand) (n : ℕ) : Type 0 where
+pub record Lets (st new : Holdings) (n : ℕ) : Type 0 where
   pub gone : Slot
   pub was : in_slot st gone ≡ Some n
   pub stays : (a : Slot) (q : ℕ) → in_slot new a ≡ Some q → (in_slot st a ≡ Some q) × (a ≡ gone → ⊥)
@@ -36,7 +36,7 @@ pub record Lets (st new : Stand) (n : ℕ) : Type 0 where
   pub dest : ((new.dest.walked ≡ st.dest.walked) × (new.dest.node ≡ st.dest.node)) ⊎ ((new.dest.walked ≡ []) × (new.dest.node ≡ st.node))
   pub heads : HeadsFit st → HeadsFit new
 
-shrinks_of : (st new : Stand) (n : ℕ) → Lets st new n → Shrinks st new
+shrinks_of : (st new : Holdings) (n : ℕ) → Lets st new n → Shrinks st new
 shrinks_of st new n l = record {
   node = l.node;
   holds = λ q h. (let a : (a : Slot) × (in_slot new a ≡ Some q) = holds_slot new q h in slot_holds st a.0 q (l.stays a.0 q a.1).0);
@@ -44,18 +44,18 @@ shrinks_of st new n l = record {
   dest = l.dest;
 }
 
-pub single_of : (st new : Stand) (n : ℕ) → Lets st new n → IsSingle st → IsSingle new
+pub single_of : (st new : Holdings) (n : ℕ) → Lets st new n → IsSingle st → IsSingle new
 single_of st new n l s a b q e f = s a b q (l.stays a q e).0 (l.stays b q f).0
 
 -- what it still holds is another node
-other_of : (st new : Stand) (n q : ℕ) → Lets st new n → IsSingle st → Holds new q → q ≡ n → ⊥
+other_of : (st new : Holdings) (n q : ℕ) → Lets st new n → IsSingle st → Holds new q → q ≡ n → ⊥
 other_of st new n q l s h e =
     let a : (a : Slot) × (in_slot new a ≡ Some q) = holds_slot new q h in
     let w : (in_slot st a.0 ≡ Some q) × (a.0 ≡ l.gone → ⊥) = l.stays a.0 q a.1 in
     w.1 (s a.0 l.gone n (w.0 ∙ ap (λ (x : ℕ). Some x) e) l.was)
 
 -- a parent behind the walk
-pub lets_behind : (st : Stand) (n : ℕ) → st.behind ≡ Some n → Lets st (record st { behind = None }) n
+pub lets_behind : (st : Holdings) (n : ℕ) → st.behind ≡ Some n → Lets st (record st { behind = None }) n
 lets_behind st n e = record { gone = At_behind; was = e; stays = stays; node = refl; source = inl (refl, refl); dest = inl (refl, refl); heads = λ h. h }
   where
     stays : (a : Slot) (q : ℕ) → in_slot (record st { behind = None }) a ≡ Some q → (in_slot st a ≡ Some q) × (a ≡ At_behind → ⊥)
@@ -76,7 +76,7 @@ has_walked [] behind n h e = let z : ◌≡◌ {A = Option ℕ} None (Some n) = 
 has_walked (x ∷ w) behind n h e = e
 
 -- a parent behind a head
-pub lets_source_behind : (st : Stand) (n : ℕ) → HeadsFit st → st.source.behind ≡ Some n → Lets st (record st { source = head_left st.source }) n
+pub lets_source_behind : (st : Holdings) (n : ℕ) → HeadsFit st → st.source.behind ≡ Some n → Lets st (record st { source = head_left st.source }) n
 lets_source_behind st n fit e = record { gone = At_source_behind; was = has_walked st.source.walked st.source.behind n fit.0 e; stays = stays; node = refl; source = inl (refl, refl); dest = inl (refl, refl); heads = λ h. ((λ i. refl), h.1) }
   where
     stays : (a : Slot) (q : ℕ) → in_slot (record st { source = head_left st.source }) a ≡ Some q → (in_slot st a ≡ Some q) × (a ≡ At_source_behind → ⊥)
@@ -88,7 +88,7 @@ lets_source_behind st n fit e = record { gone = At_source_behind; was = has_walk
     stays At_dest_behind q f = (f, λ i. cc)
     stays At_victim q f = (f, λ i. cc)
 
-pub lets_dest_behind : (st : Stand) (n : ℕ) → HeadsFit st → st.dest.behind ≡ Some n → Lets st (record st { dest = head_left st.dest }) n
+pub lets_dest_behind : (st : Holdings) (n : ℕ) → HeadsFit st → st.dest.behind ≡ Some n → Lets st (record st { dest = head_left st.dest }) n
 lets_dest_behind st n fit e = record { gone = At_dest_behind; was = has_walked st.dest.walked st.dest.behind n fit.1 e; stays = stays; node = refl; source = inl (refl, refl); dest = inl (refl, refl); heads = λ h. (h.0, (λ i. refl)) }
   where
     stays : (a : Slot) (q : ℕ) → in_slot (record st { dest = head_left st.dest }) a ≡ Some q → (in_slot st a ≡ Some q) × (a ≡ At_dest_behind → ⊥)
@@ -101,7 +101,7 @@ lets_dest_behind st n fit e = record { gone = At_dest_behind; was = has_walked s
     stays At_victim q f = (f, λ i. cc)
 
 -- the last taken of a finished call
-lets_victim : (st : Stand) (n : ℕ) → st.victim ≡ Some n → Lets st (record st { victim = None }) n
+lets_victim : (st : Holdings) (n : ℕ) → st.victim ≡ Some n → Lets st (record st { victim = None }) n
 lets_victim st n e = record { gone = At_victim; was = e; stays = stays; node = refl; source = inl (refl, refl); dest = inl (refl, refl); heads = λ h. h }
   where
     stays : (a : Slot) (q : ℕ) → in_slot (record st { victim = None }) a ≡ Some q → (in_slot st a ≡ Some q) × (a ≡ At_victim → ⊥)
@@ -113,7 +113,7 @@ lets_victim st n e = record { gone = At_victim; was = e; stays = stays; node = r
     stays At_dest_behind q f = (f, λ i. cc)
     stays At_victim q f = cc
 
-lets_dest : (st : Stand) (n : ℕ) (x : Name) (w : Key) → st.dest.walked ≡ x ∷ w → st.dest.node ≡ n → Lets st (record st { dest = head_at st.node }) n
+lets_dest : (st : Holdings) (n : ℕ) (x : Name) (w : Key) → st.dest.walked ≡ x ∷ w → st.dest.node ≡ n → Lets st (record st { dest = head_at st.node }) n
 lets_dest st n x w walked e = record { gone = At_dest; was = ap (λ (l : Key). if_walked l (Some st.dest.node)) walked ∙ ap (λ (m : ℕ). Some m) e; stays = stays; node = refl; source = inl (refl, refl); dest = inr (refl, refl); heads = λ h. (h.0, (λ i. refl)) }
   where
     stays : (a : Slot) (q : ℕ) → in_slot (record st { dest = head_at st.node }) a ≡ Some q → (in_slot st a ≡ Some q) × (a ≡ At_dest → ⊥)
@@ -125,7 +125,7 @@ lets_dest st n x w walked e = record { gone = At_dest; was = ap (λ (l : Key). i
     stays At_dest_behind q f = cc
     stays At_victim q f = (f, λ i. cc)
 
-lets_source : (st : Stand) (n : ℕ) (x : Name) (w : Key) → st.source.walked ≡ x ∷ w → st.source.node ≡ n → Lets st (record st { source = head_at st.node }) n
+lets_source : (st : Holdings) (n : ℕ) (x : Name) (w : Key) → st.source.walked ≡ x ∷ w → st.source.node ≡ n → Lets st (record st { source = head_at st.node }) n
 lets_source st n x w walked e = record { gone = At_source; was = ap (λ (l : Key). if_walked l (Some st.source.node)) walked ∙ ap (λ (m : ℕ). Some m) e; stays = stays; node = refl; source = inr (refl, refl); dest = inl (refl, refl); heads = λ h. ((λ i. refl), h.1) }
   where
     stays : (a : Slot) (q : ℕ) → in_slot (record st { source = head_at st.node }) a ≡ Some q → (in_slot st a ≡ Some q) × (a ≡ At_source → ⊥)
@@ -139,9 +139,9 @@ lets_source st n x w walked e = record { gone = At_source; was = ap (λ (l : Key
 
 -- how a call lets go
 pub data LetsGo (op : Record) (n : ℕ) : Type 0 where
-  On_way : (st new : Stand) → IsUnfinished op → op.stand ≡ Some st → left_stand op.phase op.stand ≡ Some new → (HeadsFit st → Lets st new n) → (new.victim ≡ st.victim) × (new.dest.node ≡ st.dest.node) × (new.dest.walked ≡ st.dest.walked) → LetsGo op n
-  At_end : (st new : Stand) (r : Reply) → op.phase ≡ Finished r → op.stand ≡ Some st → left_stand op.phase op.stand ≡ Some new → Lets st new n → ((v : ℕ) → st.victim ≡ Some v → v ≡ n) → LetsGo op n
-  Last : (st : Stand) (r : Reply) → op.phase ≡ Finished r → op.stand ≡ Some st → left_stand op.phase op.stand ≡ None → st.node ≡ n → ((v : ℕ) → st.victim ≡ Some v → v ≡ n) → LetsGo op n
+  On_way : (st new : Holdings) → IsUnfinished op → op.holdings ≡ Some st → left_holdings op.phase op.holdings ≡ Some new → (HeadsFit st → Lets st new n) → (new.victim ≡ st.victim) × (new.dest.node ≡ st.dest.node) × (new.dest.walked ≡ st.dest.walked) → LetsGo op n
+  At_end : (st new : Holdings) (r : Reply) → op.phase ≡ Finished r → op.holdings ≡ Some st → left_holdings op.phase op.holdings ≡ Some new → Lets st new n → ((v : ℕ) → st.victim ≡ Some v → v ≡ n) → LetsGo op n
+  Last : (st : Holdings) (r : Reply) → op.phase ≡ Finished r → op.holdings ≡ Some st → left_holdings op.phase op.holdings ≡ None → st.node ≡ n → ((v : ℕ) → st.victim ≡ Some v → v ≡ n) → LetsGo op n
 
 never_walk : (s : Option Shape) (child : Option ℕ) (n : ℕ) → walk_move s child ≡ Leaves n → ⊥
 never_walk None child n e = cc
@@ -164,20 +164,20 @@ dir_leaves (Some (File bytes)) m n e = cc
 head_leaves : (graph : Graph) (h : ℕ) (behind : Option ℕ) (l : Key) (m : Move) (n : ℕ) → first_of (head_move graph h behind l) m ≡ Leaves n → (behind ≡ Some n) ⊎ ((behind ≡ None) × (m ≡ Leaves n))
 head_leaves graph h (Some b) l m n e = inl (let z : b ≡ n = cc in ap (λ (x : ℕ). Some x) z)
 head_leaves graph h None [] m n e = inr (refl, e)
-head_leaves graph h None (x ∷ l) m n e = absurd (never_walk (graph.shape h) (graph.kid h x) n e)
+head_leaves graph h None (x ∷ l) m n e = absurd (never_walk (graph.shape h) (graph.child h x) n e)
 
 -- which of the three parents a call on its way lets go
-pub data Behind (st : Stand) (n : ℕ) : Type 0 where
+pub data Behind (st : Holdings) (n : ℕ) : Type 0 where
   Walk : st.behind ≡ Some n → Behind st n
   Source : st.behind ≡ None → st.source.behind ≡ Some n → Behind st n
   Dest : st.behind ≡ None → st.source.behind ≡ None → st.dest.behind ≡ Some n → Behind st n
 
-pub behind_of_move : (graph : Graph) (rem : Form) (st : Stand) (n : ℕ) → next_on graph rem st ≡ Leaves n → Behind st n
+pub behind_of_move : (graph : Graph) (rem : Form) (st : Holdings) (n : ℕ) → next_on graph rem st ≡ Leaves n → Behind st n
 behind_of_move graph rem st n m = walk (head_leaves graph st.node st.behind (target rem) (target_move graph rem st) n m)
   where
     dest : (p q : Key) → st.behind ≡ None → st.source.behind ≡ None → (st.dest.behind ≡ Some n) ⊎ ((st.dest.behind ≡ None) × (dir_then (graph.shape st.dest.node) (rename_move graph p q st) ≡ Leaves n)) → Behind st n
     dest p q i j (inl e) = Dest i j e
-    dest p q i j (inr e) = absurd (never_take (same_kind (entry_shape graph st.source.node (last_of p)) (entry_shape graph st.dest.node (last_of q)) && not (is_end (after_prefix p q)) && not (has_more (after_prefix q p))) (graph.kid st.dest.node (last_of q)) st.victim (moved_node (rename_at graph p q st).1 (graph.kid st.source.node (last_of p))) n (dir_leaves (graph.shape st.dest.node) (rename_move graph p q st) n e.1))
+    dest p q i j (inr e) = absurd (never_take (same_kind (entry_shape graph st.source.node (last_of p)) (entry_shape graph st.dest.node (last_of q)) && not (is_end (after_prefix p q)) && not (has_more (after_prefix q p))) (graph.child st.dest.node (last_of q)) st.victim (moved_node (rename_at graph p q st).1 (graph.child st.source.node (last_of p))) n (dir_leaves (graph.shape st.dest.node) (rename_move graph p q st) n e.1))
 
     source : (p q : Key) → st.behind ≡ None → (st.source.behind ≡ Some n) ⊎ ((st.source.behind ≡ None) × (dir_then (graph.shape st.source.node) (first_of (head_move graph st.dest.node st.dest.behind (left st.dest.walked (parent_of q))) (dir_then (graph.shape st.dest.node) (rename_move graph p q st))) ≡ Leaves n)) → Behind st n
     source p q i (inl e) = Source i e
@@ -188,7 +188,7 @@ behind_of_move graph rem st n m = walk (head_leaves graph st.node st.behind (tar
       where
         none : Finishes None ≡ Leaves n → ⊥
         none e = cc
-    there (AtEntry c p) i e = absurd (never_take (victim_of c (entry_shape graph st.node (last_of p))) (graph.kid st.node (last_of p)) st.victim None n e)
+    there (AtEntry c p) i e = absurd (never_take (victim_of c (entry_shape graph st.node (last_of p))) (graph.child st.node (last_of p)) st.victim None n e)
     there (AtPair pairs.Rename p q) i e =
         let rest : Move = dir_then (graph.shape st.source.node) (first_of (head_move graph st.dest.node st.dest.behind (left st.dest.walked (parent_of q))) (dir_then (graph.shape st.dest.node) (rename_move graph p q st))) in
         source p q i (head_leaves graph st.source.node st.source.behind (left st.source.walked (parent_of p)) rest n (dir_leaves (graph.shape st.node) (first_of (head_move graph st.source.node st.source.behind (left st.source.walked (parent_of p))) rest) n e))
@@ -197,7 +197,7 @@ behind_of_move graph rem st n m = walk (head_leaves graph st.node st.behind (tar
     walk (inl e) = Walk e
     walk (inr e) = there rem e.0 e.1
 
-on_way : (op : Record) (n : ℕ) (st : Stand) → IsUnfinished op → op.stand ≡ Some st → left_stand op.phase op.stand ≡ Some (left_behind st st.behind st.source.behind) → Behind st n → LetsGo op n
+on_way : (op : Record) (n : ℕ) (st : Holdings) → IsUnfinished op → op.holdings ≡ Some st → left_holdings op.phase op.holdings ≡ Some (left_behind st st.behind st.source.behind) → Behind st n → LetsGo op n
 on_way op n st u on is (Walk e) = On_way st (record st { behind = None }) u on (is ∙ ap (λ (b : Option ℕ). Some (left_behind st b st.source.behind)) e) (λ h. lets_behind st n e) (refl, refl, refl)
 on_way op n st u on is (Source i e) = On_way st (record st { source = head_left st.source }) u on (is ∙ ap₂ (λ (b s : Option ℕ). Some (left_behind st b s)) i e) (λ h. lets_source_behind st n h e) (refl, refl, refl)
 on_way op n st u on is (Dest i j e) = On_way st (record st { dest = head_left st.dest }) u on (is ∙ ap₂ (λ (b s : Option ℕ). Some (left_behind st b s)) i j) (λ h. lets_dest_behind st n h e) (refl, refl, refl)
@@ -206,11 +206,11 @@ no_victim : (o : Option ℕ) (n : ℕ) → o ≡ None → (v : ℕ) → o ≡ So
 no_victim o n e v f = let z : ◌≡◌ {A = Option ℕ} None (Some v) = sym e ∙ f in cc
 
 -- a finished call
-at_end : (op : Record) (n : ℕ) (st : Stand) (r : Reply) → op.phase ≡ Finished r → op.stand ≡ Some st → last_held st st.victim ≡ n → LetsGo op n
+at_end : (op : Record) (n : ℕ) (st : Holdings) (r : Reply) → op.phase ≡ Finished r → op.holdings ≡ Some st → last_held st st.victim ≡ n → LetsGo op n
 at_end op n st r ph on e = victim st.victim refl e
   where
-    left_is : left_stand op.phase op.stand ≡ left_last st st.victim
-    left_is = ap₂ left_stand ph on
+    left_is : left_holdings op.phase op.holdings ≡ left_last st st.victim
+    left_is = ap₂ left_holdings ph on
 
     source : (w : Key) → st.victim ≡ None → st.dest.walked ≡ [] → st.source.walked ≡ w → first_walked w st.source.node st.node ≡ n → LetsGo op n
     source (x ∷ w) i j k f = At_end st (record st { source = head_at st.node }) r ph on (left_is ∙ ap (left_last st) i ∙ ap₂ (left_heads st) j k) (lets_source st n x w k f) (no_victim st.victim n i)
@@ -225,7 +225,7 @@ at_end op n st r ph on e = victim st.victim refl e
     victim None i f = dest st.dest.walked i refl f
 
 pub lets_go : (graph : Graph) (op : Record) (n : ℕ) → next graph op ≡ Leaves n → LetsGo op n
-lets_go graph op n m = go op.phase (by_text (form op.call)) op.stand refl refl m
+lets_go graph op n m = go op.phase (by_text (form op.call)) op.holdings refl refl m
   where
     no_end : (p : Phase) → op.phase ≡ p → ((r : Reply) → p ≡ Finished r → ⊥) → IsUnfinished op
     no_end p i f r e = f r (sym i ∙ e)
@@ -233,33 +233,33 @@ lets_go graph op n m = go op.phase (by_text (form op.call)) op.stand refl refl m
     leaves_is : (a b : ℕ) → Leaves a ≡ Leaves b → a ≡ b
     leaves_is a b e = cc
 
-    go : (p : Phase) (e : Option Errno) (s : Option Stand) → op.phase ≡ p → op.stand ≡ s → next_by graph op e p s ≡ Leaves n → LetsGo op n
+    go : (p : Phase) (e : Option Errno) (s : Option Holdings) → op.phase ≡ p → op.holdings ≡ s → next_by graph op e p s ≡ Leaves n → LetsGo op n
     go (Finished r) e None i j f = cc
     go (Finished r) e (Some st) i j f = at_end op n st r i j (leaves_is (last_held st st.victim) n f)
     go Walking (Some e) s i j f = cc
     go (Placed k) (Some e) s i j f = cc
     go Walking None None i j f = cc
     go (Placed k) None None i j f = cc
-    go Walking None (Some st) i j f = on_way op n st (no_end Walking i (λ r e. cc)) j (ap₂ left_stand i j) (behind_of_move graph op.remaining st n f)
-    go (Placed k) None (Some st) i j f = on_way op n st (no_end (Placed k) i (λ r e. cc)) j (ap₂ left_stand i j) (behind_of_move graph op.remaining st n f)
+    go Walking None (Some st) i j f = on_way op n st (no_end Walking i (λ r e. cc)) j (ap₂ left_holdings i j) (behind_of_move graph op.remaining st n f)
+    go (Placed k) None (Some st) i j f = on_way op n st (no_end (Placed k) i (λ r e. cc)) j (ap₂ left_holdings i j) (behind_of_move graph op.remaining st n f)
 
 -- the record after it, and the state, by what is left and what was removed
-abbrev after_left : Record → Option Stand → Record
-after_left op s = record op { stand = s; removed = None }
+abbrev after_left : Record → Option Holdings → Record
+after_left op s = record op { holdings = s; removed = None }
 
-abbrev let_as : State → ℕ → Record → ℕ → Option Stand → Option ℕ → State
+abbrev let_as : State → ℕ → Record → ℕ → Option Holdings → Option ℕ → State
 let_as old c op n s m = record old {
   graph = releasing (is_removed m n) n old.graph;
   holder = set_at n None old.holder;
-  ops = set_at c (Some (record op { stand = s; removed = cleared (is_removed m n) m })) old.ops;
+  ops = set_at c (Some (record op { holdings = s; removed = cleared (is_removed m n) m })) old.ops;
 }
 
-own_left : (graph : Graph) (op : Record) (s : Option Stand) → Own graph op
-    → ((st : Stand) → s ≡ Some st → StandsWell graph st.node op.remaining st)
-    → ((i : ℕ) → op.phase ≡ Placed i → (st : Stand) × (s ≡ Some st))
-    → (IsUnfinished op → (st : Stand) → s ≡ Some st → VictimAt graph op.remaining st)
+own_left : (graph : Graph) (op : Record) (s : Option Holdings) → Own graph op
+    → ((st : Holdings) → s ≡ Some st → HeadsSound graph st.node op.remaining st)
+    → ((i : ℕ) → op.phase ≡ Placed i → (st : Holdings) × (s ≡ Some st))
+    → (IsUnfinished op → (st : Holdings) → s ≡ Some st → VictimAt graph op.remaining st)
     → (IsUnfinished op → s ≡ None → op.walked ≡ [])
-    → ((st : Stand) → s ≡ Some st → IsSingle st × HeadsFit st)
+    → ((st : Holdings) → s ≡ Some st → IsSingle st × HeadsFit st)
     → Own graph (after_left op s)
 own_left graph op s o well placed victim starts fit = record {
   parts = o.parts;
@@ -277,26 +277,26 @@ own_left graph op s o well placed victim starts fit = record {
 }
 
 -- the state keeps all, where the graph has the same entries
-let_keeps : (old : State) (inv : Invariant old) (c : ℕ) (op : Record) (n : ℕ) (s : Option Stand) (graph : Graph) → old.ops c ≡ Some op
-    → graph.kid ≡ old.graph.kid → IsGraph graph → spell graph ≡ spell old.graph
+let_keeps : (old : State) (inv : Invariant old) (c : ℕ) (op : Record) (n : ℕ) (s : Option Holdings) (graph : Graph) → old.ops c ≡ Some op
+    → graph.child ≡ old.graph.child → IsGraph graph → graph_shapes graph ≡ graph_shapes old.graph
     → ((d m : ℕ) (q : Record) → (d ≡ c → ⊥) → old.ops d ≡ Some q → HasSpare q m → graph.shape m ≡ old.graph.shape m)
     → ((m : ℕ) → op.reserved ≡ Some m → graph.shape m ≡ old.graph.shape m)
-    → Kept (numbers old.graph) (set_at c (Some (after_left op s)) old.ops) (set_at c (inv.key c) inv.key)
+    → CallFacts (numbers old.graph) (set_at c (Some (after_left op s)) old.ops) (set_at c (inv.key c) inv.key)
     → Own old.graph (after_left op s)
     → old.holder n ≡ Some c
-    → ((st : Stand) (q : ℕ) → s ≡ Some st → Holds st q → (old.holder q ≡ Some c) × (q ≡ n → ⊥))
+    → ((st : Holdings) (q : ℕ) → s ≡ Some st → Holds st q → (old.holder q ≡ Some c) × (q ≡ n → ⊥))
     → Invariant (renewed old c (after_left op s) graph (set_at n None old.holder))
-let_keeps old inv c op n s graph is kids is_graph spelled others mine kept own held_n holds = renews_keep old inv c op (after_left op s) graph (set_at n None old.holder) (inv.key c) (record {
+let_keeps old inv c op n s graph is children is_graph spelled others mine kept own held_n holds = renews_keep old inv c op (after_left op s) graph (set_at n None old.holder) (inv.key c) (record {
   is = is;
   seat = refl;
   call = refl;
   phase = refl;
   is_graph = is_graph;
-  kept = subst (λ (t : Map ℕ). Kept t (set_at c (Some (after_left op s)) old.ops) (set_at c (inv.key c) inv.key)) (sym (fun_ext (numbers_kids old.graph graph kids))) kept;
+  kept = subst (λ (t : Map ℕ). CallFacts t (set_at c (Some (after_left op s)) old.ops) (set_at c (inv.key c) inv.key)) (sym (fun_ext (numbers_children old.graph graph children))) kept;
   spelled = spelled;
   under_same = λ i e. refl;
-  own = own_kids old.graph graph kids (after_left op s) mine_shape own;
-  own_other = λ d q m e. own_kids old.graph graph kids q (λ k h. others d k q m e h) (inv.own d q e);
+  own = own_children old.graph graph children (after_left op s) mine_shape own;
+  own_other = λ d q m e. own_children old.graph graph children q (λ k h. others d k q m e h) (inv.own d q e);
   held = held;
   spares = spares;
 })
@@ -309,26 +309,26 @@ let_keeps old inv c op n s graph is kids is_graph spelled others mine kept own h
     spares m (inl e) = inl e
     spares m (inr e) = cc
 
-    held : (d : ℕ) (q : Record) (st : Stand) (m : ℕ) → Either old.ops c (after_left op s) d q → q.stand ≡ Some st → Holds st m → set_at n None old.holder m ≡ Some d
+    held : (d : ℕ) (q : Record) (st : Holdings) (m : ℕ) → Either old.ops c (after_left op s) d q → q.holdings ≡ Some st → Holds st m → set_at n None old.holder m ≡ Some d
     held d q st m (Changed e g) f h =
-        let w : (old.holder m ≡ Some c) × (m ≡ n → ⊥) = holds st m (ap (λ (o : Record). o.stand) g ∙ f) h in
+        let w : (old.holder m ≡ Some c) × (m ≡ n → ⊥) = holds st m (ap (λ (o : Record). o.holdings) g ∙ f) h in
         upd_else n None old.holder m w.1 ∙ w.0 ∙ ap (λ (x : ℕ). Some x) (sym e)
     held d q st m (Old k e) f h =
         let w : old.holder m ≡ Some d = inv.held d q st m e f h in
         upd_else n None old.holder m (λ i. (let z : ◌≡◌ {A = Option ℕ} (Some d) (Some c) = sym w ∙ ap old.holder i ∙ held_n in k (let y : d ≡ c = cc in y))) ∙ w
 
 -- with what was removed: nothing, or the node that is let go
-let_either : (old : State) (inv : Invariant old) (c : ℕ) (op : Record) (n : ℕ) (s : Option Stand) → old.ops c ≡ Some op → left_stand op.phase op.stand ≡ s
+let_either : (old : State) (inv : Invariant old) (c : ℕ) (op : Record) (n : ℕ) (s : Option Holdings) → old.ops c ≡ Some op → left_holdings op.phase op.holdings ≡ s
     → ((m : ℕ) → op.removed ≡ Some m → m ≡ n)
-    → Kept (numbers old.graph) (set_at c (Some (after_left op s)) old.ops) (set_at c (inv.key c) inv.key)
+    → CallFacts (numbers old.graph) (set_at c (Some (after_left op s)) old.ops) (set_at c (inv.key c) inv.key)
     → Own old.graph (after_left op s)
     → old.holder n ≡ Some c
-    → ((st : Stand) (q : ℕ) → s ≡ Some st → Holds st q → (old.holder q ≡ Some c) × (q ≡ n → ⊥))
+    → ((st : Holdings) (q : ℕ) → s ≡ Some st → Holds st q → (old.holder q ≡ Some c) × (q ≡ n → ⊥))
     → Invariant (letting_go old c op n)
 let_either old inv c op n s is left only kept own held_n holds = go op.removed refl
   where
     released : Invariant (renewed old c (after_left op s) (released_in n old.graph) (set_at n None old.holder)) → Invariant (let_as old c op n s (Some n))
-    released i = subst (λ (b : Bool). Invariant (record old { graph = releasing b n old.graph; holder = set_at n None old.holder; ops = set_at c (Some (record op { stand = s; removed = cleared b (Some n) })) old.ops })) (sym (eqb_refl n)) i
+    released i = subst (λ (b : Bool). Invariant (record old { graph = releasing b n old.graph; holder = set_at n None old.holder; ops = set_at c (Some (record op { holdings = s; removed = cleared b (Some n) })) old.ops })) (sym (eqb_refl n)) i
 
     go : (m : Option ℕ) → op.removed ≡ m → Invariant (letting_go old c op n)
     go None e = subst Invariant (sym (ap₂ (let_as old c op n) left e))
@@ -339,32 +339,32 @@ let_either old inv c op n s is left only kept own held_n holds = go op.removed r
         let loose : (key : Key) → numbers old.graph key ≡ Some n → ⊥ = ((inv.own c op is).gone n r).1 in
         subst Invariant (sym (ap₂ (let_as old c op n) left r))
         (released (let_keeps old inv c op n s (released_in n old.graph) is refl
-        (graph_released old.graph inv.is_graph n loose) (spell_released old.graph n loose)
+        (graph_released old.graph inv.is_graph n loose) (shapes_released old.graph n loose)
         (λ d k q differs f h. release_else old.graph n k (λ j. inv.apart c d n op q (λ z. differs (sym z)) is f (inr r) (subst (HasSpare q) j h)))
         (λ k f. release_else old.graph n k (λ j. (inv.own c op is).one_spare n (f ∙ ap (λ (x : ℕ). Some x) j) r))
         kept own held_n holds))
 
 -- a head that stays, or is back where it set out
-head_well : (graph : Graph) (n : ℕ) (w w2 : Key) (h h2 : ℕ) (whole : Key) → ((w2 ≡ w) × (h2 ≡ h)) ⊎ ((w2 ≡ []) × (h2 ≡ n)) → at graph.kid n w ≡ Some h → whole ≡ w ++ left w whole → (at graph.kid n w2 ≡ Some h2) × (whole ≡ w2 ++ left w2 whole)
-head_well graph n w w2 h h2 whole (inl (i, j)) e f = (ap (at graph.kid n) i ∙ e ∙ ap (λ (x : ℕ). Some x) (sym j), f ∙ ap (λ (k : Key). k ++ left k whole) (sym i))
-head_well graph n w w2 h h2 whole (inr (i, j)) e f = (ap (at graph.kid n) i ∙ ap (λ (x : ℕ). Some x) (sym j), ap (λ (k : Key). k ++ left k whole) (sym i))
+head_well : (graph : Graph) (n : ℕ) (w w2 : Key) (h h2 : ℕ) (whole : Key) → ((w2 ≡ w) × (h2 ≡ h)) ⊎ ((w2 ≡ []) × (h2 ≡ n)) → at graph.child n w ≡ Some h → whole ≡ w ++ left w whole → (at graph.child n w2 ≡ Some h2) × (whole ≡ w2 ++ left w2 whole)
+head_well graph n w w2 h h2 whole (inl (i, j)) e f = (ap (at graph.child n) i ∙ e ∙ ap (λ (x : ℕ). Some x) (sym j), f ∙ ap (λ (k : Key). k ++ left k whole) (sym i))
+head_well graph n w w2 h h2 whole (inr (i, j)) e f = (ap (at graph.child n) i ∙ ap (λ (x : ℕ). Some x) (sym j), ap (λ (k : Key). k ++ left k whole) (sym i))
 
-pub well_left : (graph : Graph) (st new : Stand) (n : ℕ) (remaining : Form) → Lets st new n → StandsWell graph st.node remaining st → StandsWell graph new.node remaining new
+pub well_left : (graph : Graph) (st new : Holdings) (n : ℕ) (remaining : Form) → Lets st new n → HeadsSound graph st.node remaining st → HeadsSound graph new.node remaining new
 well_left graph st new n (AtNode c p) l w = w
 well_left graph st new n (AtEntry c p) l w = w
-well_left graph st new n (AtPair pairs.Rename p q) l w = subst (λ (m : ℕ). StandsWell graph m (AtPair pairs.Rename p q) new) (sym l.node) (go (common (parent_of p) (parent_of q)) w)
+well_left graph st new n (AtPair pairs.Rename p q) l w = subst (λ (m : ℕ). HeadsSound graph m (AtPair pairs.Rename p q) new) (sym l.node) (go (common (parent_of p) (parent_of q)) w)
   where
     go : (k : Key) → ForkedAt graph st.node p q st k → ForkedAt graph st.node p q new k
     go (x ∷ k) w = w
     go [] w =
-        let s : (at graph.kid st.node new.source.walked ≡ Some new.source.node) × (parent_of p ≡ new.source.walked ++ left new.source.walked (parent_of p)) = head_well graph st.node st.source.walked new.source.walked st.source.node new.source.node (parent_of p) l.source w.source_at w.source_is in
-        let d : (at graph.kid st.node new.dest.walked ≡ Some new.dest.node) × (parent_of q ≡ new.dest.walked ++ left new.dest.walked (parent_of q)) = head_well graph st.node st.dest.walked new.dest.walked st.dest.node new.dest.node (parent_of q) l.dest w.dest_at w.dest_is in
+        let s : (at graph.child st.node new.source.walked ≡ Some new.source.node) × (parent_of p ≡ new.source.walked ++ left new.source.walked (parent_of p)) = head_well graph st.node st.source.walked new.source.walked st.source.node new.source.node (parent_of p) l.source w.source_at w.source_is in
+        let d : (at graph.child st.node new.dest.walked ≡ Some new.dest.node) × (parent_of q ≡ new.dest.walked ++ left new.dest.walked (parent_of q)) = head_well graph st.node st.dest.walked new.dest.walked st.dest.node new.dest.node (parent_of q) l.dest w.dest_at w.dest_is in
         record { source_at = s.0; dest_at = d.0; source_is = s.1; dest_is = d.1 }
 
-pub victim_left : (graph : Graph) (st new : Stand) (remaining : Form) → new.node ≡ st.node → (new.victim ≡ st.victim) × (new.dest.node ≡ st.dest.node) × (new.dest.walked ≡ st.dest.walked) → VictimAt graph remaining st → VictimAt graph remaining new
+pub victim_left : (graph : Graph) (st new : Holdings) (remaining : Form) → new.node ≡ st.node → (new.victim ≡ st.victim) × (new.dest.node ≡ st.dest.node) × (new.dest.walked ≡ st.dest.walked) → VictimAt graph remaining st → VictimAt graph remaining new
 victim_left graph st new (AtNode c p) node same w = w
-victim_left graph st new (AtEntry c p) node same w = λ v e. ap (λ (m : ℕ). graph.kid m (last_of p)) node ∙ w v (sym same.0 ∙ e)
-victim_left graph st new (AtPair pairs.Rename p q) node same w = λ v e. (ap (λ (m : ℕ). graph.kid m (last_of q)) same.1 ∙ (w v (sym same.0 ∙ e)).0, (w v (sym same.0 ∙ e)).1 ∙ sym same.2)
+victim_left graph st new (AtEntry c p) node same w = λ v e. ap (λ (m : ℕ). graph.child m (last_of p)) node ∙ w v (sym same.0 ∙ e)
+victim_left graph st new (AtPair pairs.Rename p q) node same w = λ v e. (ap (λ (m : ℕ). graph.child m (last_of q)) same.1 ∙ (w v (sym same.0 ∙ e)).0, (w v (sym same.0 ∙ e)).1 ∙ sym same.2)
 
 pub keeps_let_go : (n : ℕ) → StepKeeps (LetGo n)
 keeps_let_go n old new seat inv (c, op, moves, same) = subst Invariant (sym same) (go (lets_go old.graph op n moves.2))
@@ -375,38 +375,38 @@ keeps_let_go n old new seat inv (c, op, moves, same) = subst Invariant (sym same
     own : Own old.graph op
     own = inv.own c op moves.1
 
-    some_is : (a b : Stand) → ◌≡◌ {A = Option Stand} (Some a) (Some b) → a ≡ b
+    some_is : (a b : Holdings) → ◌≡◌ {A = Option Holdings} (Some a) (Some b) → a ≡ b
     some_is a b e = cc
 
     -- where the call still stands somewhere
-    standing : (st left : Stand) → op.stand ≡ Some st → left_stand op.phase op.stand ≡ Some left → Lets st left n
-        → ((m : ℕ) → op.removed ≡ Some m → m ≡ n) → ((i : ℕ) → op.phase ≡ Placed i → (s : Stand) × (◌≡◌ {A = Option Stand} (Some left) (Some s))) → (IsUnfinished op → VictimAt old.graph op.remaining left) → Invariant (letting_go old c op n)
-    standing st left on left_is l only placed victim =
+    in_place : (st left : Holdings) → op.holdings ≡ Some st → left_holdings op.phase op.holdings ≡ Some left → Lets st left n
+        → ((m : ℕ) → op.removed ≡ Some m → m ≡ n) → ((i : ℕ) → op.phase ≡ Placed i → (s : Holdings) × (◌≡◌ {A = Option Holdings} (Some left) (Some s))) → (IsUnfinished op → VictimAt old.graph op.remaining left) → Invariant (letting_go old c op n)
+    in_place st left on left_is l only placed victim =
         let held_n : old.holder n ≡ Some c = inv.held c op st n moves.1 on (slot_holds st l.gone n l.was) in
-        let kept : Kept (numbers old.graph) (set_at c (Some (after_left op (Some left))) old.ops) (set_at c (inv.key c) inv.key) =
+        let kept : CallFacts (numbers old.graph) (set_at c (Some (after_left op (Some left))) old.ops) (set_at c (inv.key c) inv.key) =
         kept_shrink (numbers old.graph) old.ops inv.key c op (after_left op (Some left)) st left inv.kept moves.1 on refl refl refl refl (shrinks_of st left n l) in
         let own_new : Own old.graph (after_left op (Some left)) = own_left old.graph op (Some left) own
-        (λ s e. subst (λ (x : Stand). StandsWell old.graph x.node op.remaining x) (some_is left s e) (well_left old.graph st left n op.remaining l (own.well st on)))
+        (λ s e. subst (λ (x : Holdings). HeadsSound old.graph x.node op.remaining x) (some_is left s e) (well_left old.graph st left n op.remaining l (own.well st on)))
         placed
         (λ u s e. subst (VictimAt old.graph op.remaining) (some_is left s e) (victim u))
         (λ u e. cc)
-        (λ s e. subst (λ (x : Stand). IsSingle x × HeadsFit x) (some_is left s e) (single_of st left n l (own.single st on), l.heads (own.heads st on))) in
+        (λ s e. subst (λ (x : Holdings). IsSingle x × HeadsFit x) (some_is left s e) (single_of st left n l (own.single st on), l.heads (own.heads st on))) in
         let_either old inv c op n (Some left) moves.1 left_is only kept own_new held_n
-        (λ s q e h. (let w : Holds left q = subst (λ (x : Stand). Holds x q) (sym (some_is left s e)) h in (inv.held c op st q moves.1 on ((shrinks_of st left n l).holds q w), other_of st left n q l (own.single st on) w)))
+        (λ s q e h. (let w : Holds left q = subst (λ (x : Holdings). Holds x q) (sym (some_is left s e)) h in (inv.held c op st q moves.1 on ((shrinks_of st left n l).holds q w), other_of st left n q l (own.single st on) w)))
 
     -- what is removed is the victim
-    removed_is : (st : Stand) → op.stand ≡ Some st → ((v : ℕ) → st.victim ≡ Some v → v ≡ n) → (m : ℕ) → op.removed ≡ Some m → m ≡ n
+    removed_is : (st : Holdings) → op.holdings ≡ Some st → ((v : ℕ) → st.victim ≡ Some v → v ≡ n) → (m : ℕ) → op.removed ≡ Some m → m ≡ n
     removed_is st on f m e =
-        let g : (s : Stand) × (op.stand ≡ Some s) × (s.victim ≡ Some m) = (own.gone m e).0 in
-        let z : ◌≡◌ {A = Option Stand} (Some g.0) (Some st) = sym g.1 ∙ on in
-        f m (ap (λ (s : Stand). s.victim) (sym (some_is g.0 st z)) ∙ g.2)
+        let g : (s : Holdings) × (op.holdings ≡ Some s) × (s.victim ≡ Some m) = (own.gone m e).0 in
+        let z : ◌≡◌ {A = Option Holdings} (Some g.0) (Some st) = sym g.1 ∙ on in
+        f m (ap (λ (s : Holdings). s.victim) (sym (some_is g.0 st z)) ∙ g.2)
 
     go : LetsGo op n → Invariant (letting_go old c op n)
     go (On_way st left u on left_is lets same) =
         let l : Lets st left n = lets (own.heads st on) in
-        standing st left on left_is l (λ m e. (let z : ◌≡◌ {A = Option ℕ} None (Some m) = sym (own.intact u) ∙ e in cc)) (λ i e. (left, refl)) (λ v. victim_left old.graph st left op.remaining l.node same (own.victim u st on))
+        in_place st left on left_is l (λ m e. (let z : ◌≡◌ {A = Option ℕ} None (Some m) = sym (own.intact u) ∙ e in cc)) (λ i e. (left, refl)) (λ v. victim_left old.graph st left op.remaining l.node same (own.victim u st on))
     go (At_end st left r ph on left_is l only) =
-        standing st left on left_is l (removed_is st on only) (λ i e. (let z : ◌≡◌ {A = Phase} (Finished r) (Placed i) = sym ph ∙ e in cc)) (λ u. absurd (u r ph))
+        in_place st left on left_is l (removed_is st on only) (λ i e. (let z : ◌≡◌ {A = Phase} (Finished r) (Placed i) = sym ph ∙ e in cc)) (λ u. absurd (u r ph))
     go (Last st r ph on left_is node only) =
         let held_n : old.holder n ≡ Some c = inv.held c op st n moves.1 on (inl node) in
         let_either old inv c op n None moves.1 left_is (removed_is st on only)

@@ -6,9 +6,9 @@ use Rattle.fs_names.specs.Parts.{HasNames}
 use Rattle.fs_laws.specs.Maps.{Map, move}
 use Rattle.fs_nodes.specs.Graphs.{set_at}
 use Rattle.fs_machine.specs.Finishes.{Effect}
-use Rattle.fs_machine.specs.Records.{Finished, Head, HeadHolds, Holds, Record, Records, Phase, Placed, Stand, Walking}
+use Rattle.fs_machine.specs.Records.{Finished, Head, HeadHolds, Holds, Record, Records, Phase, Placed, Holdings, Walking}
 use Rattle.fs_laws.specs.Placed.{rekey_by}
-use Rattle.fs_laws.specs.Stands.{IsAfter, IsClear, IsFree, Keeps, Kept, Pair, Shrinks}
+use Rattle.fs_laws.specs.CallFacts.{IsAfter, IsClear, IsFree, Keeps, CallFacts, Pair, Shrinks}
 use Rattle.fs_machine.specs.Leaving.{finished_op}
 use Rattle.fs_laws.proofs.graphs.Walks.{eqb_refl, eqb_true}
 use Rattle.fs_laws.proofs.events.TwoCalls.{clear_take, clear_walk, after_take, after_walk, pair_moved, located_moved, pair_helped_first, pair_helped_second}
@@ -26,22 +26,22 @@ place c v f d = go (eqb d c) refl
     go false e = Else (λ s. let t : eqb d c ≡ true = ap (λ (n : ℕ). eqb n c) s ∙ eqb_refl c in cc) (ap (λ (b : Bool). cond b v (f d)) e)
 
 -- one call's record and key change, and the tree doesn't
-pub kept_update : (tree : Map ℕ) (ops : Records) (key : ℕ → Key) (c : ℕ) (op : Record) (k : Key) → Kept tree ops key
-    → ((st : Stand) → op.stand ≡ Some st → Keeps tree k op st)
-    → ((d : ℕ) (q : Record) (st other : Stand) → (c ≡ d → ⊥) → ops d ≡ Some q → op.stand ≡ Some st → q.stand ≡ Some other → Pair tree k st op.phase (key d) other q.phase × Pair tree (key d) other q.phase k st op.phase)
-    → Kept tree (set_at c (Some op) ops) (set_at c k key)
+pub kept_update : (tree : Map ℕ) (ops : Records) (key : ℕ → Key) (c : ℕ) (op : Record) (k : Key) → CallFacts tree ops key
+    → ((st : Holdings) → op.holdings ≡ Some st → Keeps tree k op st)
+    → ((d : ℕ) (q : Record) (st other : Holdings) → (c ≡ d → ⊥) → ops d ≡ Some q → op.holdings ≡ Some st → q.holdings ≡ Some other → Pair tree k st op.phase (key d) other q.phase × Pair tree (key d) other q.phase k st op.phase)
+    → CallFacts tree (set_at c (Some op) ops) (set_at c k key)
 kept_update tree ops key c op k kept own both = record { one_key = kept.one_key; each = each; pairs = pairs }
   where
-    each : (d : ℕ) (q : Record) (st : Stand) → set_at c (Some op) ops d ≡ Some q → q.stand ≡ Some st → Keeps tree (set_at c k key d) q st
+    each : (d : ℕ) (q : Record) (st : Holdings) → set_at c (Some op) ops d ≡ Some q → q.holdings ≡ Some st → Keeps tree (set_at c k key d) q st
     each d q st e f = go (place c (Some op) ops d) (place c k key d)
       where
         go : Place (Option Record) c (Some op) ops d → Place Key c k key d → Keeps tree (set_at c k key d) q st
-        go (Here i j) (Here _ l) = let z : op ≡ q = (let y : ◌≡◌ {A = Option Record} (Some op) (Some q) = sym j ∙ e in cc) in rw (l, ← z) (own st (ap (λ (o : Record). o.stand) z ∙ f))
+        go (Here i j) (Here _ l) = let z : op ≡ q = (let y : ◌≡◌ {A = Option Record} (Some op) (Some q) = sym j ∙ e in cc) in rw (l, ← z) (own st (ap (λ (o : Record). o.holdings) z ∙ f))
         go (Here i j) (Else n _) = absurd (n i)
         go (Else n _) (Here i _) = absurd (n i)
         go (Else n j) (Else _ l) = rw l (kept.each d q st (sym j ∙ e) f)
 
-    pairs : (a b : ℕ) (p q : Record) (st other : Stand) → (a ≡ b → ⊥) → set_at c (Some op) ops a ≡ Some p → set_at c (Some op) ops b ≡ Some q → p.stand ≡ Some st → q.stand ≡ Some other → Pair tree (set_at c k key a) st p.phase (set_at c k key b) other q.phase
+    pairs : (a b : ℕ) (p q : Record) (st other : Holdings) → (a ≡ b → ⊥) → set_at c (Some op) ops a ≡ Some p → set_at c (Some op) ops b ≡ Some q → p.holdings ≡ Some st → q.holdings ≡ Some other → Pair tree (set_at c k key a) st p.phase (set_at c k key b) other q.phase
     pairs a b p q st other n e f g h = go (place c (Some op) ops a) (place c k key a) (place c (Some op) ops b) (place c k key b)
       where
         go : Place (Option Record) c (Some op) ops a → Place Key c k key a → Place (Option Record) c (Some op) ops b → Place Key c k key b → Pair tree (set_at c k key a) st p.phase (set_at c k key b) other q.phase
@@ -52,26 +52,26 @@ kept_update tree ops key c op k kept own both = record { one_key = kept.one_key;
         go (Here i _) (Here _ _) (Here j _) (Here _ _) = absurd (n (i ∙ sym j))
         go (Here i j) (Here _ l) (Else m x) (Else _ y) =
             let z : op ≡ p = (let w : ◌≡◌ {A = Option Record} (Some op) (Some p) = sym j ∙ e in cc) in
-            rw (l, y, ← z) (both b q st other (λ w. m (sym w)) (sym x ∙ f) (ap (λ (o : Record). o.stand) z ∙ g) h).0
+            rw (l, y, ← z) (both b q st other (λ w. m (sym w)) (sym x ∙ f) (ap (λ (o : Record). o.holdings) z ∙ g) h).0
         go (Else m x) (Else _ y) (Here i j) (Here _ l) =
             let z : op ≡ q = (let w : ◌≡◌ {A = Option Record} (Some op) (Some q) = sym j ∙ f in cc) in
-            rw (l, y, ← z) (both a p other st (λ w. m (sym w)) (sym x ∙ e) (ap (λ (o : Record). o.stand) z ∙ h) g).1
+            rw (l, y, ← z) (both a p other st (λ w. m (sym w)) (sym x ∙ e) (ap (λ (o : Record). o.holdings) z ∙ h) g).1
         go (Else m x) (Else _ y) (Else o z) (Else _ w) = rw (y, w) (kept.pairs a b p q st other n (sym x ∙ e) (sym z ∙ f) g h)
 
 -- two calls hold no node in common
-pub apart_of : {tree : Map ℕ} {ops : Records} {key : ℕ → Key} → Kept tree ops key → (c d : ℕ) (p q : Record) (st other : Stand) → (c ≡ d → ⊥) → ops c ≡ Some p → ops d ≡ Some q → p.stand ≡ Some st → q.stand ≡ Some other → (n : ℕ) → Holds st n → Holds other n → ⊥
+pub apart_of : {tree : Map ℕ} {ops : Records} {key : ℕ → Key} → CallFacts tree ops key → (c d : ℕ) (p q : Record) (st other : Holdings) → (c ≡ d → ⊥) → ops c ≡ Some p → ops d ≡ Some q → p.holdings ≡ Some st → q.holdings ≡ Some other → (n : ℕ) → Holds st n → Holds other n → ⊥
 apart_of kept c d p q st other n e f g h = (kept.pairs c d p q st other n e f g h).apart
 
-clear_nil : (tree : Map ℕ) (key : Key) (other : Stand) → IsClear tree key [] other
+clear_nil : (tree : Map ℕ) (key : Key) (other : Holdings) → IsClear tree key [] other
 clear_nil tree key other [] v n mu mv is at has = absurd mu
 clear_nil tree key other (x ∷ u) v n mu mv is at has = cc
 
 -- help: the call that is helped gets its place
-pub kept_help : (tree : Map ℕ) (ops : Records) (key : ℕ → Key) (c : ℕ) (op : Record) (place_no : ℕ) → Kept tree ops key
+pub kept_help : (tree : Map ℕ) (ops : Records) (key : ℕ → Key) (c : ℕ) (op : Record) (place_no : ℕ) → CallFacts tree ops key
     → ops c ≡ Some op → op.phase ≡ Walking
-    → ((d : ℕ) (q : Record) (other : Stand) → (c ≡ d → ⊥) → ops d ≡ Some q → q.stand ≡ Some other → q.phase ≡ Walking → after_prefix (key c) (key d) ≡ None)
+    → ((d : ℕ) (q : Record) (other : Holdings) → (c ≡ d → ⊥) → ops d ≡ Some q → q.holdings ≡ Some other → q.phase ≡ Walking → after_prefix (key c) (key d) ≡ None)
     → ((d : ℕ) (q : Record) (j : ℕ) → ops d ≡ Some q → q.phase ≡ Placed j → j < place_no)
-    → Kept tree (set_at c (Some (record op { phase = Placed place_no })) ops) (set_at c (key c) key)
+    → CallFacts tree (set_at c (Some (record op { phase = Placed place_no })) ops) (set_at c (key c) key)
 kept_help tree ops key c op place_no kept is walks none_below last =
     kept_update tree ops key c (record op { phase = Placed place_no }) (key c) kept
     (λ st e. let k : Keeps tree (key c) op st = kept.each c op st is e in record { located = k.located; walking = λ w. cc; fits = k.fits })
@@ -81,7 +81,7 @@ kept_help tree ops key c op place_no kept is walks none_below last =
     ))
 
 -- a take, of the next node of the walk, of a head or of a victim
-pub record Takes (tree : Map ℕ) (k : Key) (st : Stand) (new_k : Key) (new : Stand) (n : ℕ) : Type 0 where
+pub record Takes (tree : Map ℕ) (k : Key) (st : Holdings) (new_k : Key) (new : Holdings) (n : ℕ) : Type 0 where
   pub parent_key : Key
   pub parent : ℕ
   pub name : Name
@@ -92,22 +92,22 @@ pub record Takes (tree : Map ℕ) (k : Key) (st : Stand) (new_k : Key) (new : St
   -- the position stays, or it is the node that is taken
   pub position : (new_k ≡ k) ⊎ ((parent_key ≡ k) × (new_k ≡ k ++ name ∷ []))
   -- each head stays, or its last node was held
-  pub source : (other : Stand) → ((q : ℕ) → Holds st q → Holds other q → ⊥) → IsClear tree k st.source.walked other → IsClear tree new_k new.source.walked other
-  pub dest : (other : Stand) → ((q : ℕ) → Holds st q → Holds other q → ⊥) → IsClear tree k st.dest.walked other → IsClear tree new_k new.dest.walked other
+  pub source : (other : Holdings) → ((q : ℕ) → Holds st q → Holds other q → ⊥) → IsClear tree k st.source.walked other → IsClear tree new_k new.source.walked other
+  pub dest : (other : Holdings) → ((q : ℕ) → Holds st q → Holds other q → ⊥) → IsClear tree k st.dest.walked other → IsClear tree new_k new.dest.walked other
 
-pub kept_take : (tree : Map ℕ) (ops : Records) (key : ℕ → Key) (c : ℕ) (op : Record) (st : Stand) (n : ℕ) (k : Key) (new : Stand) (op_new : Record) → Kept tree ops key
-    → ops c ≡ Some op → op.stand ≡ Some st → op_new.stand ≡ Some new → op_new.phase ≡ op.phase
+pub kept_take : (tree : Map ℕ) (ops : Records) (key : ℕ → Key) (c : ℕ) (op : Record) (st : Holdings) (n : ℕ) (k : Key) (new : Holdings) (op_new : Record) → CallFacts tree ops key
+    → ops c ≡ Some op → op.holdings ≡ Some st → op_new.holdings ≡ Some new → op_new.phase ≡ op.phase
     → IsFree ops n → Takes tree (key c) st k new n → Keeps tree k op_new new
-    → Kept tree (set_at c (Some op_new) ops) (set_at c k key)
+    → CallFacts tree (set_at c (Some op_new) ops) (set_at c k key)
 kept_take tree ops key c op st n k new op_new kept is on on_new same_phase free t own =
     kept_update tree ops key c op_new k kept
-    (λ s e. subst (Keeps tree k op_new) (let z : new ≡ s = same_stand new s (sym on_new ∙ e) in z) own)
-    (λ d q s other differs e f g. subst (λ (x : Stand). Pair tree k x op_new.phase (key d) other q.phase × Pair tree (key d) other q.phase k x op_new.phase) (same_stand new s (sym on_new ∙ f)) (both d q other differs e g))
+    (λ s e. subst (Keeps tree k op_new) (let z : new ≡ s = same_holdings new s (sym on_new ∙ e) in z) own)
+    (λ d q s other differs e f g. subst (λ (x : Holdings). Pair tree k x op_new.phase (key d) other q.phase × Pair tree (key d) other q.phase k x op_new.phase) (same_holdings new s (sym on_new ∙ f)) (both d q other differs e g))
   where
-    same_stand : (a b : Stand) → ◌≡◌ {A = Option Stand} (Some a) (Some b) → a ≡ b
-    same_stand a b e = cc
+    same_holdings : (a b : Holdings) → ◌≡◌ {A = Option Holdings} (Some a) (Some b) → a ≡ b
+    same_holdings a b e = cc
 
-    both : (d : ℕ) (q : Record) (other : Stand) → (c ≡ d → ⊥) → ops d ≡ Some q → q.stand ≡ Some other → Pair tree k new op_new.phase (key d) other q.phase × Pair tree (key d) other q.phase k new op_new.phase
+    both : (d : ℕ) (q : Record) (other : Holdings) → (c ≡ d → ⊥) → ops d ≡ Some q → q.holdings ≡ Some other → Pair tree k new op_new.phase (key d) other q.phase × Pair tree (key d) other q.phase k new op_new.phase
     both d q other differs e g = (record { apart = apart; after = after_first; source = t.source other first.apart first.source; dest = t.dest other first.apart first.dest }, record { apart = λ m h i. apart m i h; after = after_second; source = clear second.source; dest = clear second.dest })
       where
         first : Pair tree (key c) st op.phase (key d) other q.phase
@@ -150,7 +150,7 @@ kept_take tree ops key c op st n k new op_new kept is on on_new same_phase free 
         clear {walked} old = clear_take tree kept.one_key (key d) walked other st t.parent_key t.parent n t.name new there.located.here (λ m h i. first.apart m i h) t.parent_at t.parent_held t.node_at t.grows old
 
 -- the take of the next node on the way to the target (no head has set out)
-pub takes_walk : (tree : Map ℕ) (k : Key) (st new : Stand) (x : Name) (n : ℕ) → tree k ≡ Some st.node → tree (k ++ x ∷ []) ≡ Some n
+pub takes_walk : (tree : Map ℕ) (k : Key) (st new : Holdings) (x : Name) (n : ℕ) → tree k ≡ Some st.node → tree (k ++ x ∷ []) ≡ Some n
     → new.node ≡ n → new.behind ≡ Some st.node → new.source.walked ≡ [] → new.dest.walked ≡ [] → new.victim ≡ None
     → Takes tree k st (k ++ x ∷ []) new n
 takes_walk tree k st new x n here at_n node behind source dest victim = record {
@@ -174,7 +174,7 @@ takes_walk tree k st new x n here at_n node behind source dest victim = record {
     grows q (inr (inr (inr (inr h)))) = let e : ◌≡◌ {A = Option ℕ} None (Some q) = sym victim ∙ h in cc
 
 -- the take of the next node of the source head; of the destination head in the same way
-pub takes_source : (tree : Map ℕ) (k : Key) (st new : Stand) (x : Name) (n : ℕ) → tree (k ++ st.source.walked) ≡ Some st.source.node → Holds st st.source.node → tree ((k ++ st.source.walked) ++ x ∷ []) ≡ Some n
+pub takes_source : (tree : Map ℕ) (k : Key) (st new : Holdings) (x : Name) (n : ℕ) → tree (k ++ st.source.walked) ≡ Some st.source.node → Holds st st.source.node → tree ((k ++ st.source.walked) ++ x ∷ []) ≡ Some n
     → new.node ≡ st.node → new.behind ≡ st.behind → new.dest ≡ st.dest → new.victim ≡ st.victim
     → new.source.node ≡ n → new.source.walked ≡ st.source.walked ++ x ∷ [] → ((m : ℕ) → new.source.behind ≡ Some m → Holds st m)
     → Takes tree k st k new n
@@ -203,7 +203,7 @@ takes_source tree k st new x n here held at_n node behind dest victim source wal
     grows q (inr (inr (inr (inr h)))) = inl (inr (inr (inr (inr (sym victim ∙ h)))))
 
 -- the take of the next node of the destination head
-pub takes_dest : (tree : Map ℕ) (k : Key) (st new : Stand) (x : Name) (n : ℕ) → tree (k ++ st.dest.walked) ≡ Some st.dest.node → Holds st st.dest.node → tree ((k ++ st.dest.walked) ++ x ∷ []) ≡ Some n
+pub takes_dest : (tree : Map ℕ) (k : Key) (st new : Holdings) (x : Name) (n : ℕ) → tree (k ++ st.dest.walked) ≡ Some st.dest.node → Holds st st.dest.node → tree ((k ++ st.dest.walked) ++ x ∷ []) ≡ Some n
     → new.node ≡ st.node → new.behind ≡ st.behind → new.source ≡ st.source → new.victim ≡ st.victim
     → new.dest.node ≡ n → new.dest.walked ≡ st.dest.walked ++ x ∷ [] → ((m : ℕ) → new.dest.behind ≡ Some m → Holds st m)
     → Takes tree k st k new n
@@ -232,7 +232,7 @@ takes_dest tree k st new x n here held at_n node behind dest victim source walke
     grows q (inr (inr (inr (inr h)))) = inl (inr (inr (inr (inr (sym victim ∙ h)))))
 
 -- the take of a victim
-pub takes_victim : (tree : Map ℕ) (k : Key) (st : Stand) (parent_key : Key) (parent : ℕ) (x : Name) (n : ℕ) → tree parent_key ≡ Some parent → Holds st parent → tree (parent_key ++ x ∷ []) ≡ Some n
+pub takes_victim : (tree : Map ℕ) (k : Key) (st : Holdings) (parent_key : Key) (parent : ℕ) (x : Name) (n : ℕ) → tree parent_key ≡ Some parent → Holds st parent → tree (parent_key ++ x ∷ []) ≡ Some n
     → Takes tree k st k (record st { victim = Some n }) n
 takes_victim tree k st parent_key parent x n here held at_n = record {
   parent_key = parent_key;
@@ -255,17 +255,17 @@ takes_victim tree k st parent_key parent x n here held at_n = record {
     grows q (inr (inr (inr (inr h)))) = inr cc
 
 -- a call lets a node go: it stands where it stood, and holds less
-pub kept_shrink : (tree : Map ℕ) (ops : Records) (key : ℕ → Key) (c : ℕ) (op op_new : Record) (st new : Stand) → Kept tree ops key
-    → ops c ≡ Some op → op.stand ≡ Some st → op_new.stand ≡ Some new → op_new.phase ≡ op.phase → op_new.walked ≡ op.walked → op_new.remaining ≡ op.remaining
+pub kept_shrink : (tree : Map ℕ) (ops : Records) (key : ℕ → Key) (c : ℕ) (op op_new : Record) (st new : Holdings) → CallFacts tree ops key
+    → ops c ≡ Some op → op.holdings ≡ Some st → op_new.holdings ≡ Some new → op_new.phase ≡ op.phase → op_new.walked ≡ op.walked → op_new.remaining ≡ op.remaining
     → Shrinks st new
-    → Kept tree (set_at c (Some op_new) ops) (set_at c (key c) key)
+    → CallFacts tree (set_at c (Some op_new) ops) (set_at c (key c) key)
 kept_shrink tree ops key c op op_new st new kept is on on_new same_phase same_walked same_rel less =
     kept_update tree ops key c op_new (key c) kept
-    (λ s e. subst (Keeps tree (key c) op_new) (same_stand new s (sym on_new ∙ e)) own)
-    (λ d q s other differs e f g. subst (λ (x : Stand). Pair tree (key c) x op_new.phase (key d) other q.phase × Pair tree (key d) other q.phase (key c) x op_new.phase) (same_stand new s (sym on_new ∙ f)) (both d q other differs e g))
+    (λ s e. subst (Keeps tree (key c) op_new) (same_holdings new s (sym on_new ∙ e)) own)
+    (λ d q s other differs e f g. subst (λ (x : Holdings). Pair tree (key c) x op_new.phase (key d) other q.phase × Pair tree (key d) other q.phase (key c) x op_new.phase) (same_holdings new s (sym on_new ∙ f)) (both d q other differs e g))
   where
-    same_stand : (a b : Stand) → ◌≡◌ {A = Option Stand} (Some a) (Some b) → a ≡ b
-    same_stand a b e = cc
+    same_holdings : (a b : Holdings) → ◌≡◌ {A = Option Holdings} (Some a) (Some b) → a ≡ b
+    same_holdings a b e = cc
 
     old : Keeps tree (key c) op st
     old = kept.each c op st is on
@@ -285,11 +285,11 @@ kept_shrink tree ops key c op op_new st new kept is on on_new same_phase same_wa
       fits = rw same_rel old.fits;
     }
 
-    fewer : (walked walked_new : Key) (node node_new : ℕ) (other : Stand) → ((walked_new ≡ walked) × (node_new ≡ node)) ⊎ ((walked_new ≡ []) × (node_new ≡ st.node)) → IsClear tree (key c) walked other → IsClear tree (key c) walked_new other
+    fewer : (walked walked_new : Key) (node node_new : ℕ) (other : Holdings) → ((walked_new ≡ walked) × (node_new ≡ node)) ⊎ ((walked_new ≡ []) × (node_new ≡ st.node)) → IsClear tree (key c) walked other → IsClear tree (key c) walked_new other
     fewer walked walked_new node node_new other (inl h) e = rw h.0 e
     fewer walked walked_new node node_new other (inr h) e = rw h.0 (clear_nil tree (key c) other)
 
-    both : (d : ℕ) (q : Record) (other : Stand) → (c ≡ d → ⊥) → ops d ≡ Some q → q.stand ≡ Some other → Pair tree (key c) new op_new.phase (key d) other q.phase × Pair tree (key d) other q.phase (key c) new op_new.phase
+    both : (d : ℕ) (q : Record) (other : Holdings) → (c ≡ d → ⊥) → ops d ≡ Some q → q.holdings ≡ Some other → Pair tree (key c) new op_new.phase (key d) other q.phase × Pair tree (key d) other q.phase (key c) new op_new.phase
     both d q other differs e g = (
       record {
         apart = λ m h i. first.apart m (less.holds m h) i;
@@ -312,8 +312,8 @@ kept_shrink tree ops key c op op_new st new kept is on on_new same_phase same_wa
         second = kept.pairs d c q op other st (λ s. differs (sym s)) e is g on
 
 -- a call that is finished stands where it stood until it lets go
-pub kept_finish : (tree : Map ℕ) (ops : Records) (key : ℕ → Key) (c : ℕ) (op : Record) (made : Effect) → Kept tree ops key → ops c ≡ Some op
-    → Kept tree (set_at c (Some (finished_op op made)) ops) (set_at c (key c) key)
+pub kept_finish : (tree : Map ℕ) (ops : Records) (key : ℕ → Key) (c : ℕ) (op : Record) (made : Effect) → CallFacts tree ops key → ops c ≡ Some op
+    → CallFacts tree (set_at c (Some (finished_op op made)) ops) (set_at c (key c) key)
 kept_finish tree ops key c op made kept is =
     kept_update tree ops key c (finished_op op made) (key c) kept
     (λ st e. let k : Keeps tree (key c) op st = kept.each c op st is e in record { located = k.located; walking = λ w. cc; fits = k.fits })
@@ -333,15 +333,15 @@ kept_finish tree ops key c op made kept is =
 pub record Spares (tree : Map ℕ) (ops : Records) (key : ℕ → Key) (s t kt : Key) (y : Name) : Type 0 where
   pub none : (r : Key) → tree (t ++ r) ≡ None
   pub ends_in : t ≡ kt ++ y ∷ []
-  pub source : (d : ℕ) (q : Record) (st : Stand) → ops d ≡ Some q → q.stand ≡ Some st → (u v : Key) → after_prefix s (key d) ≡ None → st.source.walked ≡ u ++ v → after_prefix s (key d ++ u) ≡ None
-  pub dest : (d : ℕ) (q : Record) (st : Stand) → ops d ≡ Some q → q.stand ≡ Some st → (u v : Key) → after_prefix s (key d) ≡ None → st.dest.walked ≡ u ++ v → after_prefix s (key d ++ u) ≡ None
-  pub walking : (d : ℕ) (q : Record) (st : Stand) → ops d ≡ Some q → q.stand ≡ Some st → q.phase ≡ Walking → after_prefix s (key d) ≡ None
-  pub off : (d e : ℕ) (p q : Record) (st other : Stand) → ops d ≡ Some p → ops e ≡ Some q → p.stand ≡ Some st → q.stand ≡ Some other → IsAfter p.phase q.phase → (after_prefix (key d) kt ≡ None) ⊎ ((after_prefix s (key d) ≡ None) × (after_prefix s (key e) ≡ None))
+  pub source : (d : ℕ) (q : Record) (st : Holdings) → ops d ≡ Some q → q.holdings ≡ Some st → (u v : Key) → after_prefix s (key d) ≡ None → st.source.walked ≡ u ++ v → after_prefix s (key d ++ u) ≡ None
+  pub dest : (d : ℕ) (q : Record) (st : Holdings) → ops d ≡ Some q → q.holdings ≡ Some st → (u v : Key) → after_prefix s (key d) ≡ None → st.dest.walked ≡ u ++ v → after_prefix s (key d ++ u) ≡ None
+  pub walking : (d : ℕ) (q : Record) (st : Holdings) → ops d ≡ Some q → q.holdings ≡ Some st → q.phase ≡ Walking → after_prefix s (key d) ≡ None
+  pub off : (d e : ℕ) (p q : Record) (st other : Holdings) → ops d ≡ Some p → ops e ≡ Some q → p.holdings ≡ Some st → q.holdings ≡ Some other → IsAfter p.phase q.phase → (after_prefix (key d) kt ≡ None) ⊎ ((after_prefix s (key d) ≡ None) × (after_prefix s (key e) ≡ None))
 
-pub kept_move : (tree : Map ℕ) (ops : Records) (key : ℕ → Key) (s t kt : Key) (y : Name) → Kept tree ops key
+pub kept_move : (tree : Map ℕ) (ops : Records) (key : ℕ → Key) (s t kt : Key) (y : Name) → CallFacts tree ops key
     → ((a b : Key) (n : ℕ) → move s t tree a ≡ Some n → move s t tree b ≡ Some n → a ≡ b)
     → Spares tree ops key s t kt y
-    → Kept (move s t tree) ops (λ d. rekey_by t (key d) (after_prefix s (key d)))
+    → CallFacts (move s t tree) ops (λ d. rekey_by t (key d) (after_prefix s (key d)))
 kept_move tree ops key s t kt y kept one sp = record {
   one_key = one;
   each = λ d q st e f.

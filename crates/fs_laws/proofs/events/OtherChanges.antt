@@ -5,8 +5,8 @@ use Rattle.fs_names.specs.Parts.{HasNames}
 use Rattle.fs_calls.specs.Forms.{Fits}
 use Rattle.fs_laws.specs.Maps.{Map, put, put_at}
 use Rattle.fs_nodes.specs.Graphs.{set_at}
-use Rattle.fs_machine.specs.Records.{Finished, Head, HeadHolds, Holds, Record, Records, Phase, Placed, Stand, Walking}
-use Rattle.fs_laws.specs.Stands.{IsAfter, IsClear, IsFree, Keeps, Kept, Pair}
+use Rattle.fs_machine.specs.Records.{Finished, Head, HeadHolds, Holds, Record, Records, Phase, Placed, Holdings, Walking}
+use Rattle.fs_laws.specs.CallFacts.{IsAfter, IsClear, IsFree, Keeps, CallFacts, Pair}
 use Rattle.fs_laws.proofs.graphs.Walks.{eqb_refl, eqb_true}
 use Rattle.fs_laws.proofs.trees.Commuting.{put_other}
 use Rattle.fs_laws.proofs.events.TwoCalls.{after_take_root}
@@ -17,13 +17,13 @@ added : (tree : Map ℕ) (t : Key) (n : ℕ) → tree t ≡ None → (key : Key)
 added tree t n free key m e = put_other t (Some n) tree key (λ h. (let z : ◌≡◌ {A = Option ℕ} None (Some m) = sym free ∙ ap tree (sym h) ∙ e in cc))
 
 -- a commit that links a node: nobody's place changes
-pub kept_put : (tree : Map ℕ) (ops : Records) (key : ℕ → Key) (t : Key) (n : ℕ) → Kept tree ops key → tree t ≡ None
+pub kept_put : (tree : Map ℕ) (ops : Records) (key : ℕ → Key) (t : Key) (n : ℕ) → CallFacts tree ops key → tree t ≡ None
     → ((a b : Key) (m : ℕ) → tree (a ++ b) ≡ Some m → (q : ℕ) × (tree a ≡ Some q))
     → ((a b : Key) (m : ℕ) → put t (Some n) tree a ≡ Some m → put t (Some n) tree b ≡ Some m → a ≡ b)
-    → Kept (put t (Some n) tree) ops key
+    → CallFacts (put t (Some n) tree) ops key
 kept_put tree ops key t n kept free closed one = record { one_key = one; each = each; pairs = pairs }
   where
-    each : (d : ℕ) (q : Record) (st : Stand) → ops d ≡ Some q → q.stand ≡ Some st → Keeps (put t (Some n) tree) (key d) q st
+    each : (d : ℕ) (q : Record) (st : Holdings) → ops d ≡ Some q → q.holdings ≡ Some st → Keeps (put t (Some n) tree) (key d) q st
     each d q st e f =
         let k : Keeps tree (key d) q st = kept.each d q st e f in
         record {
@@ -36,36 +36,36 @@ kept_put tree ops key t n kept free closed one = record { one_key = one; each = 
           fits = k.fits;
         }
 
-    clear : (k walked : Key) (h : ℕ) (other : Stand) → tree (k ++ walked) ≡ Some h → IsClear tree k walked other → IsClear (put t (Some n) tree) k walked other
+    clear : (k walked : Key) (h : ℕ) (other : Holdings) → tree (k ++ walked) ≡ Some h → IsClear tree k walked other → IsClear (put t (Some n) tree) k walked other
     clear k walked h other there old u v m mu mv is at_m has =
         let q : (q : ℕ) × (tree (k ++ u) ≡ Some q) = closed (k ++ u) v h (ap tree (append_assoc k u v) ∙ ap (λ (l : Key). tree (k ++ l)) (sym is) ∙ there) in
         old u v m mu mv is (sym (added tree t n free (k ++ u) q.0 q.1) ∙ at_m) has
 
-    pairs : (c d : ℕ) (p q : Record) (st other : Stand) → (c ≡ d → ⊥) → ops c ≡ Some p → ops d ≡ Some q → p.stand ≡ Some st → q.stand ≡ Some other → Pair (put t (Some n) tree) (key c) st p.phase (key d) other q.phase
+    pairs : (c d : ℕ) (p q : Record) (st other : Holdings) → (c ≡ d → ⊥) → ops c ≡ Some p → ops d ≡ Some q → p.holdings ≡ Some st → q.holdings ≡ Some other → Pair (put t (Some n) tree) (key c) st p.phase (key d) other q.phase
     pairs c d p q st other differs e f g h =
         let old : Pair tree (key c) st p.phase (key d) other q.phase = kept.pairs c d p q st other differs e f g h in
         let k : Keeps tree (key c) p st = kept.each c p st e g in
         record { apart = old.apart; after = old.after; source = clear (key c) st.source.walked st.source.node other k.located.source old.source; dest = clear (key c) st.dest.walked st.dest.node other k.located.dest old.dest }
 
 -- a walking call that holds nothing takes the root
-pub kept_root : (tree : Map ℕ) (ops : Records) (key : ℕ → Key) (c : ℕ) (op op_new : Record) (new : Stand) → Kept tree ops key
+pub kept_root : (tree : Map ℕ) (ops : Records) (key : ℕ → Key) (c : ℕ) (op op_new : Record) (new : Holdings) → CallFacts tree ops key
     → ops c ≡ Some op → op.phase ≡ Walking → op_new.phase ≡ Walking → op_new.walked ≡ [] → Fits op_new.remaining
-    → op_new.stand ≡ Some new → tree [] ≡ Some new.node → ((q : ℕ) → Holds new q → q ≡ new.node)
+    → op_new.holdings ≡ Some new → tree [] ≡ Some new.node → ((q : ℕ) → Holds new q → q ≡ new.node)
     → new.source.walked ≡ [] → new.source.node ≡ new.node → new.dest.walked ≡ [] → new.dest.node ≡ new.node
     → IsFree ops new.node
-    → Kept tree (set_at c (Some op_new) ops) (set_at c [] key)
+    → CallFacts tree (set_at c (Some op_new) ops) (set_at c [] key)
 kept_root tree ops key c op op_new new kept is walks walks_new walked fits on at_root holds sw sn dw dn free =
     kept_update tree ops key c op_new [] kept
-    (λ s e. subst (Keeps tree [] op_new) (same_stand new s (sym on ∙ e)) own)
-    (λ d q s other differs e f g. subst (λ (x : Stand). Pair tree [] x op_new.phase (key d) other q.phase × Pair tree (key d) other q.phase [] x op_new.phase) (same_stand new s (sym on ∙ f)) (both d q other differs e g))
+    (λ s e. subst (Keeps tree [] op_new) (same_holdings new s (sym on ∙ e)) own)
+    (λ d q s other differs e f g. subst (λ (x : Holdings). Pair tree [] x op_new.phase (key d) other q.phase × Pair tree (key d) other q.phase [] x op_new.phase) (same_holdings new s (sym on ∙ f)) (both d q other differs e g))
   where
-    same_stand : (a b : Stand) → ◌≡◌ {A = Option Stand} (Some a) (Some b) → a ≡ b
-    same_stand a b e = cc
+    same_holdings : (a b : Holdings) → ◌≡◌ {A = Option Holdings} (Some a) (Some b) → a ≡ b
+    same_holdings a b e = cc
 
     own : Keeps tree [] op_new new
     own = record { located = record { here = at_root; source = rw (sw, sn) at_root; dest = rw (dw, dn) at_root }; walking = λ w. sym walked; fits = fits }
 
-    no_clear : (k walked : Key) (other : Stand) → walked ≡ [] → IsClear tree k walked other
+    no_clear : (k walked : Key) (other : Holdings) → walked ≡ [] → IsClear tree k walked other
     no_clear k walked other e [] v m mu mv i j h = absurd mu
     no_clear k walked other e (x ∷ u) v m mu mv i j h = let z : ◌≡◌ {A = Key} [] (x ∷ (u ++ v)) = sym e ∙ i in cc
 
@@ -74,7 +74,7 @@ kept_root tree ops key c op op_new new kept is walks walks_new walked fits on at
     walk_after (Placed i) h = h
     walk_after (Finished r) h = h
 
-    both : (d : ℕ) (q : Record) (other : Stand) → (c ≡ d → ⊥) → ops d ≡ Some q → q.stand ≡ Some other → Pair tree [] new op_new.phase (key d) other q.phase × Pair tree (key d) other q.phase [] new op_new.phase
+    both : (d : ℕ) (q : Record) (other : Holdings) → (c ≡ d → ⊥) → ops d ≡ Some q → q.holdings ≡ Some other → Pair tree [] new op_new.phase (key d) other q.phase × Pair tree (key d) other q.phase [] new op_new.phase
     both d q other differs e g = (
       record {
         apart = λ m h i. free d q other e g (subst (Holds other) (holds m h) i);
@@ -99,11 +99,11 @@ kept_root tree ops key c op op_new new kept is walks walks_new walked fits on at
             no_more (y ∷ k) u mu e = cc
 
 -- a call that begins, or has let everything go, or ends: it stands nowhere
-pub kept_none : (tree : Map ℕ) (ops : Records) (key : ℕ → Key) (c : ℕ) (op : Record) → Kept tree ops key → op.stand ≡ None → Kept tree (set_at c (Some op) ops) (set_at c (key c) key)
+pub kept_none : (tree : Map ℕ) (ops : Records) (key : ℕ → Key) (c : ℕ) (op : Record) → CallFacts tree ops key → op.holdings ≡ None → CallFacts tree (set_at c (Some op) ops) (set_at c (key c) key)
 kept_none tree ops key c op kept off =
     kept_update tree ops key c op (key c) kept
-    (λ s e. (let z : ◌≡◌ {A = Option Stand} None (Some s) = sym off ∙ e in cc))
-    (λ d q s other differs e f g. (let z : ◌≡◌ {A = Option Stand} None (Some s) = sym off ∙ f in cc))
+    (λ s e. (let z : ◌≡◌ {A = Option Holdings} None (Some s) = sym off ∙ e in cc))
+    (λ d q s other differs e f g. (let z : ◌≡◌ {A = Option Holdings} None (Some s) = sym off ∙ f in cc))
 
 -- a removal: the victim's node is nobody's place
 cut_some : (t : Key) (tree : Map ℕ) (key : Key) (m : ℕ) → put t None tree key ≡ Some m → tree key ≡ Some m
@@ -114,9 +114,9 @@ cut_some t tree key m e = go (after_prefix t key) e
     go (Some []) e = cc
     go (Some (x ∷ r)) e = e
 
-pub kept_cut : (tree : Map ℕ) (ops : Records) (key : ℕ → Key) (t : Key) → Kept tree ops key
-    → ((d : ℕ) (q : Record) (st : Stand) → ops d ≡ Some q → q.stand ≡ Some st → (key d ≡ t → ⊥) × ((key d ++ st.source.walked ≡ t → ⊥) × (key d ++ st.dest.walked ≡ t → ⊥)))
-    → Kept (put t None tree) ops key
+pub kept_cut : (tree : Map ℕ) (ops : Records) (key : ℕ → Key) (t : Key) → CallFacts tree ops key
+    → ((d : ℕ) (q : Record) (st : Holdings) → ops d ≡ Some q → q.holdings ≡ Some st → (key d ≡ t → ⊥) × ((key d ++ st.source.walked ≡ t → ⊥) × (key d ++ st.dest.walked ≡ t → ⊥)))
+    → CallFacts (put t None tree) ops key
 kept_cut tree ops key t kept off = record {
   one_key = λ a b n e f. kept.one_key a b n (cut_some t tree a n e) (cut_some t tree b n f);
   each = λ d q st e f.
@@ -136,21 +136,21 @@ kept_cut tree ops key t kept off = record {
       record { apart = old.apart; after = old.after; source = clear (key c) st.source.walked other old.source; dest = clear (key c) st.dest.walked other old.dest };
 }
   where
-    clear : (k walked : Key) (other : Stand) → IsClear tree k walked other → IsClear (put t None tree) k walked other
+    clear : (k walked : Key) (other : Holdings) → IsClear tree k walked other → IsClear (put t None tree) k walked other
     clear k walked other old u v m mu mv is at_m has = old u v m mu mv is (cut_some t tree (k ++ u) m at_m) has
 
 -- where one call holds the node at t, which none of its own places is, no call's place is there
-pub victim_off : (tree : Map ℕ) (ops : Records) (key : ℕ → Key) (c : ℕ) (op : Record) (st : Stand) (t : Key) (v : ℕ) → Kept tree ops key
-    → ops c ≡ Some op → op.stand ≡ Some st → st.victim ≡ Some v → tree t ≡ Some v
+pub victim_off : (tree : Map ℕ) (ops : Records) (key : ℕ → Key) (c : ℕ) (op : Record) (st : Holdings) (t : Key) (v : ℕ) → CallFacts tree ops key
+    → ops c ≡ Some op → op.holdings ≡ Some st → st.victim ≡ Some v → tree t ≡ Some v
     → (key c ≡ t → ⊥) × ((key c ++ st.source.walked ≡ t → ⊥) × (key c ++ st.dest.walked ≡ t → ⊥))
-    → (d : ℕ) (q : Record) (other : Stand) → ops d ≡ Some q → q.stand ≡ Some other → (key d ≡ t → ⊥) × ((key d ++ other.source.walked ≡ t → ⊥) × (key d ++ other.dest.walked ≡ t → ⊥))
+    → (d : ℕ) (q : Record) (other : Holdings) → ops d ≡ Some q → q.holdings ≡ Some other → (key d ≡ t → ⊥) × ((key d ++ other.source.walked ≡ t → ⊥) × (key d ++ other.dest.walked ≡ t → ⊥))
 victim_off tree ops key c op st t v kept is on vic at_t own d q other e f = by (eqb d c) refl
   where
     mine : d ≡ c → other ≡ st
     mine i =
         let a : ◌≡◌ {A = Option Record} (Some q) (Some op) = sym e ∙ ap ops i ∙ is in
         let b : q ≡ op = cc in
-        let h : ◌≡◌ {A = Option Stand} (Some other) (Some st) = sym f ∙ ap (λ (o : Record). o.stand) b ∙ on in
+        let h : ◌≡◌ {A = Option Holdings} (Some other) (Some st) = sym f ∙ ap (λ (o : Record). o.holdings) b ∙ on in
         (let j : other ≡ st = cc in j)
 
     k : Keeps tree (key d) q other

@@ -7,13 +7,13 @@ use Rattle.fs_calls.specs.Forms.{Form, under}
 use Rattle.fs_laws.specs.Maps.{Map}
 use Rattle.fs_calls.specs.declared.call.Call.{Call}
 use Rattle.fs_calls.specs.declared.reply.Reply.{Reply}
-use Rattle.fs_nodes.specs.Graphs.{Graph, numbers, spell, set_at, IsGraph}
-use Rattle.fs_machine.specs.Records.{Phase, Placed, Holds, Record, Records, Stand}
-use Rattle.fs_laws.specs.Books.{start, book_of}
+use Rattle.fs_nodes.specs.Graphs.{Graph, numbers, graph_shapes, set_at, IsGraph}
+use Rattle.fs_machine.specs.Records.{Phase, Placed, Holds, Record, Records, Holdings}
+use Rattle.fs_laws.specs.JournalViews.{start, view_after}
 use Rattle.fs_timeline.specs.Timeline.{commit_count}
 use Rattle.fs_laws.specs.Invariants.{remaining_of, spots, IsPlaced, AllLater, InOrder, HasSpare, IsIn, Own, Invariant, Tied, Dues}
 use Rattle.fs_laws.specs.Settled.{settle, settle_replies}
-use Rattle.fs_laws.specs.Stands.{Kept}
+use Rattle.fs_laws.specs.CallFacts.{CallFacts}
 use Rattle.fs_laws.specs.States.{State}
 use Rattle.fs_laws.proofs.events.OneCallChanged.{Place, Here, Else, place}
 use Rattle.fs_laws.proofs.events.Commit.{placed_in}
@@ -46,12 +46,12 @@ pub record Renews (old : State) (inv : Invariant old) (c : ℕ) (op v : Record) 
   pub call : v.call ≡ op.call
   pub phase : v.phase ≡ op.phase
   pub is_graph : IsGraph graph
-  pub kept : Kept (numbers graph) (set_at c (Some v) old.ops) (set_at c k inv.key)
-  pub spelled : spell graph ≡ spell old.graph
+  pub kept : CallFacts (numbers graph) (set_at c (Some v) old.ops) (set_at c k inv.key)
+  pub spelled : graph_shapes graph ≡ graph_shapes old.graph
   pub under_same : (i : ℕ) → op.phase ≡ Placed i → under k v.remaining ≡ under (inv.key c) op.remaining
   pub own : Own graph v
   pub own_other : (d : ℕ) (q : Record) → (d ≡ c → ⊥) → old.ops d ≡ Some q → Own graph q
-  pub held : (d : ℕ) (q : Record) (st : Stand) (n : ℕ) → Either old.ops c v d q → q.stand ≡ Some st → Holds st n → holder n ≡ Some d
+  pub held : (d : ℕ) (q : Record) (st : Holdings) (n : ℕ) → Either old.ops c v d q → q.holdings ≡ Some st → Holds st n → holder n ≡ Some d
   pub spares : (n : ℕ) → HasSpare v n → HasSpare op n
 
 -- the state after it
@@ -67,7 +67,7 @@ renews_keep old inv c op v graph holder k f = record {
   in_order = order_map old.ops (set_at c (Some v) old.ops) placed_new same_place inv.order inv.in_order;
   all_placed = λ d q i e g. all_placed d q i (either old.ops c v d q e) g;
   lawful = inv.lawful;
-  tied = subst (λ (t : Map Shape). Tied t (set_at c (Some v) old.ops) (set_at c k inv.key) inv.order (book_of start old.timeline)) (sym f.spelled) tied;
+  tied = subst (λ (t : Map Shape). Tied t (set_at c (Some v) old.ops) (set_at c k inv.key) inv.order (view_after start old.timeline)) (sym f.spelled) tied;
   own = λ d q e. own d q (either old.ops c v d q e);
   held = λ d q st n e. f.held d q st n (either old.ops c v d q e);
   apart = λ x y n p q differs e g. apart x y n p q differs (either old.ops c v x p e) (either old.ops c v y q g);
@@ -90,9 +90,9 @@ renews_keep old inv c op v graph holder k f = record {
             let a : ◌≡◌ {A = Option Record} (Some p.op) (Some op) = sym p.is ∙ ap old.ops i ∙ f.is in
             let b : p.op ≡ op = cc in
             let ph : v.phase ≡ Placed p.place = f.phase ∙ ap (λ (o : Record). o.phase) (sym b) ∙ p.phase in
-            let s : (st : Stand) × (v.stand ≡ Some st) = f.own.placed p.place ph in
-            record { op = v; stand = s.0; place = p.place; is = j; on = s.1; phase = ph }
-        go (Else n j) = record { op = p.op; stand = p.stand; place = p.place; is = j ∙ p.is; on = p.on; phase = p.phase }
+            let s : (st : Holdings) × (v.holdings ≡ Some st) = f.own.placed p.place ph in
+            record { op = v; holdings = s.0; place = p.place; is = j; on = s.1; phase = ph }
+        go (Else n j) = record { op = p.op; holdings = p.holdings; place = p.place; is = j ∙ p.is; on = p.on; phase = p.phase }
 
     same_place : (d : ℕ) (p : IsPlaced old.ops d) (q : IsPlaced (set_at c (Some v) old.ops) d) → p.place ≡ q.place
     same_place d p q =
@@ -123,13 +123,13 @@ renews_keep old inv c op v graph holder k f = record {
         go (Else n j) (Here i l) = absurd (n i)
         go (Else n j) (Else m l) = ap₂ (λ (x : Key) (o : Option Record). under x (remaining_of o)) l j
 
-    both : (settle (spell old.graph) (spots (set_at c (Some v) old.ops) (set_at c k inv.key) inv.order) ≡ settle (spell old.graph) (spots old.ops inv.key inv.order)) × (settle_replies (spell old.graph) (spots (set_at c (Some v) old.ops) (set_at c k inv.key) inv.order) ≡ settle_replies (spell old.graph) (spots old.ops inv.key inv.order))
-    both = settle_same (spell old.graph) old.ops (set_at c (Some v) old.ops) inv.key (set_at c k inv.key) inv.order same_under
+    both : (settle (graph_shapes old.graph) (spots (set_at c (Some v) old.ops) (set_at c k inv.key) inv.order) ≡ settle (graph_shapes old.graph) (spots old.ops inv.key inv.order)) × (settle_replies (graph_shapes old.graph) (spots (set_at c (Some v) old.ops) (set_at c k inv.key) inv.order) ≡ settle_replies (graph_shapes old.graph) (spots old.ops inv.key inv.order))
+    both = settle_same (graph_shapes old.graph) old.ops (set_at c (Some v) old.ops) inv.key (set_at c k inv.key) inv.order same_under
 
-    tied : Tied (spell old.graph) (set_at c (Some v) old.ops) (set_at c k inv.key) inv.order (book_of start old.timeline)
+    tied : Tied (graph_shapes old.graph) (set_at c (Some v) old.ops) (set_at c k inv.key) inv.order (view_after start old.timeline)
     tied = record {
       played = both.0 ∙ inv.tied.played;
-      dues = subst (Dues (book_of start old.timeline) inv.order) (sym both.1) inv.tied.dues;
+      dues = subst (Dues (view_after start old.timeline) inv.order) (sym both.1) inv.tied.dues;
       fixed = λ d q r e g. (let p : (p : Record) × (old.ops d ≡ Some p) × (q.phase ≡ p.phase) × (q.call ≡ p.call) × (q.seat ≡ p.seat) = was d q (either old.ops c v d q e) in inv.tied.fixed d p.0 r p.1 (sym p.2 ∙ g));
       fresh = λ d q e g. (let p : (p : Record) × (old.ops d ≡ Some p) × (q.phase ≡ p.phase) × (q.call ≡ p.call) × (q.seat ≡ p.seat) = was d q (either old.ops c v d q e) in inv.tied.fresh d p.0 p.1 (sym p.2 ∙ g));
       calls = λ d q e. (let p : (p : Record) × (old.ops d ≡ Some p) × (q.phase ≡ p.phase) × (q.call ≡ p.call) × (q.seat ≡ p.seat) = was d q (either old.ops c v d q e) in inv.tied.calls d p.0 p.1 ∙ ap (λ (x : Call). Some x) (sym p.3));
@@ -159,8 +159,8 @@ renews_keep old inv c op v graph holder k f = record {
             (v, j, f.seat ∙ ap (λ (o : Record). o.seat) b ∙ h)
         go (Else n j) (q, g, h) = (q, j ∙ g, h)
 
-    seat_of : (d : ℕ) (q : Record) → Either old.ops c v d q → ((book_of start old.timeline).seat_of d ≡ Some q.seat) × ((book_of start old.timeline).back d ≡ false)
+    seat_of : (d : ℕ) (q : Record) → Either old.ops c v d q → ((view_after start old.timeline).seat_of d ≡ Some q.seat) × ((view_after start old.timeline).back d ≡ false)
     seat_of d q w =
         let p : (p : Record) × (old.ops d ≡ Some p) × (q.phase ≡ p.phase) × (q.call ≡ p.call) × (q.seat ≡ p.seat) = was d q w in
-        let a : ((book_of start old.timeline).seat_of d ≡ Some p.0.seat) × ((book_of start old.timeline).back d ≡ false) = inv.seat_of d p.0 p.1 in
+        let a : ((view_after start old.timeline).seat_of d ≡ Some p.0.seat) × ((view_after start old.timeline).back d ≡ false) = inv.seat_of d p.0 p.1 in
         (a.0 ∙ ap (λ (n : ℕ). Some n) (sym p.4), a.1)

@@ -6,80 +6,80 @@ use Rattle.fs_names.specs.Shapes.{Shape}
 use Rattle.fs_calls.specs.Forms.{form, under, by_text}
 use Rattle.fs_laws.specs.Maps.{Map}
 use Rattle.fs_calls.specs.declared.reply.Reply.{Reply}
-use Rattle.fs_nodes.specs.Graphs.{Graph, at, numbers, spell, set_at, IsGraph}
+use Rattle.fs_nodes.specs.Graphs.{Graph, at, numbers, graph_shapes, set_at, IsGraph}
 use Rattle.fs_timeline.specs.declared.entry.Entry.TheVariants.{Return}
 use Rattle.fs_machine.specs.Leaving.{unreserved}
 use Rattle.fs_machine.specs.Moves.{Ends, next, next_by}
-use Rattle.fs_machine.specs.Records.{Phase, Placed, Finished, Record, Stand}
-use Rattle.fs_laws.specs.Books.{Book, start, book_of, noted, free_seat}
+use Rattle.fs_machine.specs.Records.{Phase, Placed, Finished, Record, Holdings}
+use Rattle.fs_laws.specs.JournalViews.{JournalView, start, view_after, noted, free_seat}
 use Rattle.fs_timeline.specs.Timeline.{commit_count}
 use Rattle.fs_laws.specs.Invariants.{remaining_of, spots, IsPlaced, HasSpare, IsIn, Invariant, StepKeeps, Tied, Dues}
 use Rattle.fs_laws.specs.Settled.{settle, settle_replies}
-use Rattle.fs_laws.specs.Stands.{Kept}
+use Rattle.fs_laws.specs.CallFacts.{CallFacts}
 use Rattle.fs_laws.specs.States.{State, Returned}
 use Rattle.fs_laws.proofs.events.OneCallChanged.{Place, Here, Else, place}
 use Rattle.fs_laws.proofs.events.Help.{upd_else}
-use Rattle.fs_laws.proofs.journal.OneMoreEntry.{book_push, lawful_push, returns_commits, returns_begins, dues_due}
+use Rattle.fs_laws.proofs.journal.OneMoreEntry.{view_push, lawful_push, returns_commits, returns_begins, dues_due}
 use Rattle.fs_laws.proofs.events.Commit.{order_without, placed_in}
 use Rattle.fs_laws.proofs.events.RecordChanged.{settle_same}
-use Rattle.fs_laws.proofs.graphs.Release.{own_kids, release_else, spell_released, graph_released}
+use Rattle.fs_laws.proofs.graphs.Release.{own_children, release_else, shapes_released, graph_released}
 
 -- the graph after the reserved number is given back
 pub record GivenBack (old : State) (op : Record) (graph : Graph) : Type 0 where
-  pub kids : graph.kid ≡ old.graph.kid
+  pub children : graph.child ≡ old.graph.child
   pub is_graph : IsGraph graph
-  pub spelled : spell graph ≡ spell old.graph
+  pub spelled : graph_shapes graph ≡ graph_shapes old.graph
   pub shapes : (m : ℕ) → (HasSpare op m → ⊥) → graph.shape m ≡ old.graph.shape m
 
 given_back : (old : State) (inv : Invariant old) (c : ℕ) (op : Record) → old.ops c ≡ Some op → (o : Option ℕ) → op.reserved ≡ o → GivenBack old op (unreserved o old.graph)
-given_back old inv c op is None e = record { kids = refl; is_graph = inv.is_graph; spelled = refl; shapes = λ m h. refl }
+given_back old inv c op is None e = record { children = refl; is_graph = inv.is_graph; spelled = refl; shapes = λ m h. refl }
 given_back old inv c op is (Some n) e =
     let loose : (key : Key) → numbers old.graph key ≡ Some n → ⊥ = ((inv.own c op is).spare n e).1 in
     record {
-      kids = refl;
+      children = refl;
       is_graph = graph_released old.graph inv.is_graph n loose;
-      spelled = spell_released old.graph n loose;
+      spelled = shapes_released old.graph n loose;
       shapes = λ m h. release_else old.graph n m (λ i. h (inl (e ∙ ap (λ (x : ℕ). Some x) (sym i))));
     }
 
 -- a call that ends stands nowhere
-pub ends_nowhere : (graph : Graph) (op : Record) (r : Reply) → op.phase ≡ Finished r → next graph op ≡ Ends → op.stand ≡ None
-ends_nowhere graph op r ph m = go op.stand refl (ap (λ (p : Phase). next_by graph op (by_text (form op.call)) p op.stand) (sym ph) ∙ m)
+pub ends_nowhere : (graph : Graph) (op : Record) (r : Reply) → op.phase ≡ Finished r → next graph op ≡ Ends → op.holdings ≡ None
+ends_nowhere graph op r ph m = go op.holdings refl (ap (λ (p : Phase). next_by graph op (by_text (form op.call)) p op.holdings) (sym ph) ∙ m)
   where
-    go : (s : Option Stand) → op.stand ≡ s → next_by graph op (by_text (form op.call)) (Finished r) s ≡ Ends → op.stand ≡ None
+    go : (s : Option Holdings) → op.holdings ≡ s → next_by graph op (by_text (form op.call)) (Finished r) s ≡ Ends → op.holdings ≡ None
     go None i e = i
     go (Some st) i e = cc
 
-pub numbers_by : (old new : Graph) → new.kid ≡ old.kid → numbers new ≡ numbers old
+pub numbers_by : (old new : Graph) → new.child ≡ old.child → numbers new ≡ numbers old
 numbers_by old new e = ap (λ (k : ℕ → Name → Option ℕ). λ (key : Key). at k 0 key) e
 
-return_keeps : (old : State) (inv : Invariant old) (c : ℕ) (op : Record) (r : Reply) (graph : Graph) → old.ops c ≡ Some op → op.phase ≡ Finished r → op.stand ≡ None → GivenBack old op graph
+return_keeps : (old : State) (inv : Invariant old) (c : ℕ) (op : Record) (r : Reply) (graph : Graph) → old.ops c ≡ Some op → op.phase ≡ Finished r → op.holdings ≡ None → GivenBack old op graph
     → Invariant (record old { graph = graph; ops = set_at c None old.ops; on_seat = set_at op.seat None old.on_seat; timeline = old.timeline ++ Return c r ∷ [] })
 return_keeps old inv c op r graph is ph off b = record {
   key = inv.key;
   order = inv.order;
   is_graph = b.is_graph;
-  kept = subst (λ (t : Map ℕ). Kept t (set_at c None old.ops) inv.key) (sym (numbers_by old.graph graph b.kids)) kept;
+  kept = subst (λ (t : Map ℕ). CallFacts t (set_at c None old.ops) inv.key) (sym (numbers_by old.graph graph b.children)) kept;
   in_order = order_without old.ops c None inv.order others inv.in_order;
   all_placed = λ d q i e f. (let a : (i < commit_count old.timeline) × IsIn d inv.order = inv.all_placed d q i (was d q e).1 f in (subst (λ (n : ℕ). i < n) (sym (returns_commits old.timeline c r)) a.0, a.1));
   lawful = lawful_push start old.timeline (Return c r) inv.lawful (due, (inv.seat_of c op is).1);
-  tied = subst (λ (t : Map Shape). Tied t (set_at c None old.ops) inv.key inv.order (book_of start (old.timeline ++ Return c r ∷ []))) (sym b.spelled) (subst (Tied (spell old.graph) (set_at c None old.ops) inv.key inv.order) (sym book_is) tied);
-  own = λ d q e. own_kids old.graph graph b.kids q (λ m h. b.shapes m (λ g. inv.apart c d m op q (λ i. (was d q e).0 (sym i)) is (was d q e).1 g h)) (inv.own d q (was d q e).1);
+  tied = subst (λ (t : Map Shape). Tied t (set_at c None old.ops) inv.key inv.order (view_after start (old.timeline ++ Return c r ∷ []))) (sym b.spelled) (subst (Tied (graph_shapes old.graph) (set_at c None old.ops) inv.key inv.order) (sym view_is) tied);
+  own = λ d q e. own_children old.graph graph b.children q (λ m h. b.shapes m (λ g. inv.apart c d m op q (λ i. (was d q e).0 (sym i)) is (was d q e).1 g h)) (inv.own d q (was d q e).1);
   held = λ d q st n e f h. inv.held d q st n (was d q e).1 f h;
   apart = λ x y n p q differs e f. inv.apart x y n p q differs (was x p e).1 (was y q f).1;
   seated = seated;
-  busy = λ s. ap (λ (k : Book). k.busy s) book_is ∙ ap (λ (o : Option ℕ). free_seat (book_of start old.timeline) o s) (inv.seat_of c op is).0 ∙ busy s (place op.seat None (book_of start old.timeline).busy s) (place op.seat None old.on_seat s);
+  busy = λ s. ap (λ (k : JournalView). k.busy s) view_is ∙ ap (λ (o : Option ℕ). free_seat (view_after start old.timeline) o s) (inv.seat_of c op is).0 ∙ busy s (place op.seat None (view_after start old.timeline).busy s) (place op.seat None old.on_seat s);
   seat_of = λ d q e. (
-    ap (λ (k : Book). k.seat_of d) book_is ∙ (inv.seat_of d q (was d q e).1).0,
-    ap (λ (k : Book). k.back d) book_is ∙ upd_else c true (book_of start old.timeline).back d (was d q e).0 ∙ (inv.seat_of d q (was d q e).1).1,
+    ap (λ (k : JournalView). k.seat_of d) view_is ∙ (inv.seat_of d q (was d q e).1).0,
+    ap (λ (k : JournalView). k.back d) view_is ∙ upd_else c true (view_after start old.timeline).back d (was d q e).0 ∙ (inv.seat_of d q (was d q e).1).1,
   );
-  fresh = λ d less. ap (λ (k : Book). k.call d) book_is ∙ inv.fresh d (subst (λ (n : ℕ). n < d) (returns_begins old.timeline c r) less);
+  fresh = λ d less. ap (λ (k : JournalView). k.call d) view_is ∙ inv.fresh d (subst (λ (n : ℕ). n < d) (returns_begins old.timeline c r) less);
 }
   where
-    book_is : book_of start (old.timeline ++ Return c r ∷ []) ≡ noted (book_of start old.timeline) (Return c r)
-    book_is = book_push start old.timeline (Return c r)
+    view_is : view_after start (old.timeline ++ Return c r ∷ []) ≡ noted (view_after start old.timeline) (Return c r)
+    view_is = view_push start old.timeline (Return c r)
 
-    due : (book_of start old.timeline).due c ≡ Some r
+    due : (view_after start old.timeline).due c ≡ Some r
     due = inv.tied.fixed c op r is ph
 
     was : (d : ℕ) (q : Record) → set_at c None old.ops d ≡ Some q → (d ≡ c → ⊥) × (old.ops d ≡ Some q)
@@ -97,20 +97,20 @@ return_keeps old inv c op r graph is ph off b = record {
         let z : ◌≡◌ {A = Phase} (Placed p.place) (Finished r) = sym p.phase ∙ ap (λ (o : Record). o.phase) f ∙ ph in
         cc
 
-    kept : Kept (numbers old.graph) (set_at c None old.ops) inv.key
+    kept : CallFacts (numbers old.graph) (set_at c None old.ops) inv.key
     kept = record {
       one_key = inv.kept.one_key;
       each = λ d q st e f. inv.kept.each d q st (was d q e).1 f;
       pairs = λ d e p q st other n f g h i. inv.kept.pairs d e p q st other n (was d p f).1 (was e q g).1 h i;
     }
 
-    both : (settle (spell old.graph) (spots (set_at c None old.ops) inv.key inv.order) ≡ settle (spell old.graph) (spots old.ops inv.key inv.order)) × (settle_replies (spell old.graph) (spots (set_at c None old.ops) inv.key inv.order) ≡ settle_replies (spell old.graph) (spots old.ops inv.key inv.order))
-    both = settle_same (spell old.graph) old.ops (set_at c None old.ops) inv.key inv.key inv.order (λ d i. ap (λ (o : Option Record). under (inv.key d) (remaining_of o)) (upd_else c None old.ops d (others d i)))
+    both : (settle (graph_shapes old.graph) (spots (set_at c None old.ops) inv.key inv.order) ≡ settle (graph_shapes old.graph) (spots old.ops inv.key inv.order)) × (settle_replies (graph_shapes old.graph) (spots (set_at c None old.ops) inv.key inv.order) ≡ settle_replies (graph_shapes old.graph) (spots old.ops inv.key inv.order))
+    both = settle_same (graph_shapes old.graph) old.ops (set_at c None old.ops) inv.key inv.key inv.order (λ d i. ap (λ (o : Option Record). under (inv.key d) (remaining_of o)) (upd_else c None old.ops d (others d i)))
 
-    tied : Tied (spell old.graph) (set_at c None old.ops) inv.key inv.order (noted (book_of start old.timeline) (Return c r))
+    tied : Tied (graph_shapes old.graph) (set_at c None old.ops) inv.key inv.order (noted (view_after start old.timeline) (Return c r))
     tied = record {
       played = both.0 ∙ inv.tied.played;
-      dues = dues_due (book_of start old.timeline) (noted (book_of start old.timeline) (Return c r)) inv.order (settle_replies (spell old.graph) (spots (set_at c None old.ops) inv.key inv.order)) (λ d. refl) (subst (Dues (book_of start old.timeline) inv.order) (sym both.1) inv.tied.dues);
+      dues = dues_due (view_after start old.timeline) (noted (view_after start old.timeline) (Return c r)) inv.order (settle_replies (graph_shapes old.graph) (spots (set_at c None old.ops) inv.key inv.order)) (λ d. refl) (subst (Dues (view_after start old.timeline) inv.order) (sym both.1) inv.tied.dues);
       fixed = λ d q s e f. inv.tied.fixed d q s (was d q e).1 f;
       fresh = λ d q e f. inv.tied.fresh d q (was d q e).1 f;
       calls = λ d q e. inv.tied.calls d q (was d q e).1;
@@ -129,7 +129,7 @@ return_keeps old inv c op r graph is ph off b = record {
             n (sym (ap (λ (o : Record). o.seat) f ∙ g.2))) in
             (g.0, upd_else c None old.ops d differs ∙ g.1, g.2)
 
-    busy : (s : ℕ) → Place (Option ℕ) op.seat None (book_of start old.timeline).busy s → Place (Option ℕ) op.seat None old.on_seat s → set_at op.seat None (book_of start old.timeline).busy s ≡ set_at op.seat None old.on_seat s
+    busy : (s : ℕ) → Place (Option ℕ) op.seat None (view_after start old.timeline).busy s → Place (Option ℕ) op.seat None old.on_seat s → set_at op.seat None (view_after start old.timeline).busy s ≡ set_at op.seat None old.on_seat s
     busy s (Here i j) (Here k l) = j ∙ sym l
     busy s (Here i j) (Else n l) = absurd (n i)
     busy s (Else n j) (Here k l) = absurd (n k)

@@ -13,9 +13,9 @@ use Rattle.fs_calls.specs.declared.errno.Errno.{Errno}
 use Rattle.fs_calls.specs.declared.reply.Reply.{Reply}
 use Rattle.fs_nodes.specs.Graphs.{Graph, numbers, set_at}
 use Rattle.fs_machine.specs.Moves.{Move, Takes, next, next_by, next_on, first_of, head_move, walk_move, target, inner, took, took_by}
-use Rattle.fs_machine.specs.Records.{Phase, Walking, Placed, Finished, Holds, Record, Stand, stand_at}
-use Rattle.fs_laws.specs.Invariants.{ForkedAt, StandsWell, NumberFor, VictimAt, HasSpare, HeadsFit, IsSingle, IsUnfinished, Own, Invariant}
-use Rattle.fs_laws.specs.Stands.{IsFree, Keeps, Kept}
+use Rattle.fs_machine.specs.Records.{Phase, Walking, Placed, Finished, Holds, Record, Holdings, holdings_at}
+use Rattle.fs_laws.specs.Invariants.{ForkedAt, HeadsSound, NumberFor, VictimAt, HasSpare, HeadsFit, IsSingle, IsUnfinished, Own, Invariant}
+use Rattle.fs_laws.specs.CallFacts.{IsFree, Keeps, CallFacts}
 use Rattle.fs_laws.specs.States.{State, taking}
 use Rattle.fs_laws.proofs.trees.Prefixes.{same_true}
 use Rattle.fs_laws.proofs.graphs.Walks.{at_child}
@@ -27,36 +27,36 @@ use Rattle.fs_laws.proofs.calls.NodesHeld.{single_at}
 
 -- a call that takes: the root first, or from where it stands
 pub data TakesFrom (graph : Graph) (op : Record) (n : ℕ) : Type 0 where
-  From_nowhere : by_text (form op.call) ≡ None → op.stand ≡ None → 0 ≡ n → TakesFrom graph op n
-  From_stand : (st : Stand) → op.stand ≡ Some st → next_on graph op.remaining st ≡ Takes n → TakesFrom graph op n
+  From_nowhere : by_text (form op.call) ≡ None → op.holdings ≡ None → 0 ≡ n → TakesFrom graph op n
+  From_holdings : (st : Holdings) → op.holdings ≡ Some st → next_on graph op.remaining st ≡ Takes n → TakesFrom graph op n
 
 pub takes_from : (graph : Graph) (op : Record) (n : ℕ) → next graph op ≡ Takes n → TakesFrom graph op n × IsUnfinished op
-takes_from graph op n m = go op.phase (by_text (form op.call)) op.stand refl refl refl m
+takes_from graph op n m = go op.phase (by_text (form op.call)) op.holdings refl refl refl m
   where
     walking : (p : Phase) → op.phase ≡ p → ((r : Reply) → p ≡ Finished r → ⊥) → IsUnfinished op
     walking p i f r e = f r (sym i ∙ e)
 
-    go : (p : Phase) (e : Option Errno) (s : Option Stand) → op.phase ≡ p → by_text (form op.call) ≡ e → op.stand ≡ s → next_by graph op e p s ≡ Takes n → TakesFrom graph op n × IsUnfinished op
+    go : (p : Phase) (e : Option Errno) (s : Option Holdings) → op.phase ≡ p → by_text (form op.call) ≡ e → op.holdings ≡ s → next_by graph op e p s ≡ Takes n → TakesFrom graph op n × IsUnfinished op
     go (Finished r) e None h i j f = cc
     go (Finished r) e (Some st) h i j f = cc
     go Walking (Some e) s h i j f = cc
     go (Placed k) (Some e) s h i j f = cc
     go Walking None None h i j f = (From_nowhere i j (let z : 0 ≡ n = cc in z), walking Walking h (λ r e. cc))
     go (Placed k) None None h i j f = (From_nowhere i j (let z : 0 ≡ n = cc in z), walking (Placed k) h (λ r e. cc))
-    go Walking None (Some st) h i j f = (From_stand st j f, walking Walking h (λ r e. cc))
-    go (Placed k) None (Some st) h i j f = (From_stand st j f, walking (Placed k) h (λ r e. cc))
+    go Walking None (Some st) h i j f = (From_holdings st j f, walking Walking h (λ r e. cc))
+    go (Placed k) None (Some st) h i j f = (From_holdings st j f, walking (Placed k) h (λ r e. cc))
 
 -- a call that stands at one node stands well, and has no victim
-pub fresh_well : (graph : Graph) (n : ℕ) (behind : Option ℕ) (remaining : Form) → StandsWell graph n remaining (stand_at n behind)
+pub fresh_well : (graph : Graph) (n : ℕ) (behind : Option ℕ) (remaining : Form) → HeadsSound graph n remaining (holdings_at n behind)
 fresh_well graph n behind (AtNode c p) = tt
 fresh_well graph n behind (AtEntry c p) = tt
 fresh_well graph n behind (AtPair pairs.Rename p q) = go (common (parent_of p) (parent_of q))
   where
-    go : (l : Key) → ForkedAt graph n p q (stand_at n behind) l
+    go : (l : Key) → ForkedAt graph n p q (holdings_at n behind) l
     go [] = record { source_at = refl; dest_at = refl; source_is = refl; dest_is = refl }
     go (x ∷ l) = tt
 
-pub fresh_victim : (graph : Graph) (n : ℕ) (behind : Option ℕ) (remaining : Form) → VictimAt graph remaining (stand_at n behind)
+pub fresh_victim : (graph : Graph) (n : ℕ) (behind : Option ℕ) (remaining : Form) → VictimAt graph remaining (holdings_at n behind)
 fresh_victim graph n behind (AtNode c p) = tt
 fresh_victim graph n behind (AtEntry c p) = λ v e. cc
 fresh_victim graph n behind (AtPair pairs.Rename p q) = λ v e. cc
@@ -73,10 +73,10 @@ is_free old inv n free d q other e f h = let z : ◌≡◌ {A = Option ℕ} None
 -- the state after a take, by what its record keeps
 pub take_keeps : (old : State) (inv : Invariant old) (c : ℕ) (op v : Record) (n : ℕ) (k : Key) → Taker old inv c op n
     → v.seat ≡ op.seat → v.call ≡ op.call → v.phase ≡ op.phase → v.reserved ≡ op.reserved → v.removed ≡ op.removed
-    → Kept (numbers old.graph) (set_at c (Some v) old.ops) (set_at c k inv.key)
+    → CallFacts (numbers old.graph) (set_at c (Some v) old.ops) (set_at c k inv.key)
     → ((i : ℕ) → op.phase ≡ Placed i → under k v.remaining ≡ under (inv.key c) op.remaining)
     → Own old.graph v
-    → ((st : Stand) (q : ℕ) → v.stand ≡ Some st → Holds st q → (q ≡ n) ⊎ (old.holder q ≡ Some c))
+    → ((st : Holdings) (q : ℕ) → v.holdings ≡ Some st → Holds st q → (q ≡ n) ⊎ (old.holder q ≡ Some c))
     → Invariant (renewed old c v old.graph (set_at n (Some c) old.holder))
 take_keeps old inv c op v n k t seat call phase reserved removed kept same own holds = renews_keep old inv c op v old.graph (set_at n (Some c) old.holder) k (record {
   is = t.is;
@@ -111,8 +111,8 @@ take_keeps old inv c op v n k t seat call phase reserved removed kept same own h
         go (Here i j) = j
         go (Else m j) = absurd (m e)
 
-    held : (d : ℕ) (q : Record) (st : Stand) (m : ℕ) → Either old.ops c v d q → q.stand ≡ Some st → Holds st m → set_at n (Some c) old.holder m ≡ Some d
-    held d q st m (Changed e g) f h = by (holds st m (ap (λ (o : Record). o.stand) g ∙ f) h)
+    held : (d : ℕ) (q : Record) (st : Holdings) (m : ℕ) → Either old.ops c v d q → q.holdings ≡ Some st → Holds st m → set_at n (Some c) old.holder m ≡ Some d
+    held d q st m (Changed e g) f h = by (holds st m (ap (λ (o : Record). o.holdings) g ∙ f) h)
       where
         by : (m ≡ n) ⊎ (old.holder m ≡ Some c) → set_at n (Some c) old.holder m ≡ Some d
         by (inl i) = taken m i ∙ ap (λ (x : ℕ). Some x) (sym e)
@@ -120,28 +120,28 @@ take_keeps old inv c op v n k t seat call phase reserved removed kept same own h
     held d q st m (Old k e) f h = new_holder d m (inv.held d q st m e f h)
 
 -- what a record keeps that now stands at one node
-own_fresh : (graph : Graph) (op v : Record) (n : ℕ) (behind : Option ℕ) → Own graph op → IsUnfinished op → v.phase ≡ op.phase → v.reserved ≡ op.reserved → v.removed ≡ op.removed → v.call ≡ op.call → v.stand ≡ Some (stand_at n behind)
+own_fresh : (graph : Graph) (op v : Record) (n : ℕ) (behind : Option ℕ) → Own graph op → IsUnfinished op → v.phase ≡ op.phase → v.reserved ≡ op.reserved → v.removed ≡ op.removed → v.call ≡ op.call → v.holdings ≡ Some (holdings_at n behind)
     → under v.walked v.remaining ≡ form op.call → (NumberFor graph op.remaining op.reserved → NumberFor graph v.remaining op.reserved) → (behind ≡ Some n → ⊥) → Own graph v
 own_fresh graph op v n behind o unf phase reserved removed call on parts number differs = record {
   parts = parts ∙ ap form (sym call);
-  well = λ st e. subst (λ (s : Stand). StandsWell graph s.node v.remaining s) (stand_is st e) (fresh_well graph n behind v.remaining);
+  well = λ st e. subst (λ (s : Holdings). HeadsSound graph s.node v.remaining s) (holdings_is st e) (fresh_well graph n behind v.remaining);
   spare = λ m e. o.spare m (sym reserved ∙ e);
   number = λ u f. subst (NumberFor graph v.remaining) (sym reserved) (number (o.number unf (ap (λ (x : Call). by_text (form x)) (sym call) ∙ f)));
-  placed = λ i e. (stand_at n behind, on);
+  placed = λ i e. (holdings_at n behind, on);
   gone = λ m e. (let z : ◌≡◌ {A = Option ℕ} None (Some m) = sym (o.intact unf) ∙ sym removed ∙ e in absurd (none_some m z));
   intact = λ u. removed ∙ o.intact unf;
   one_spare = λ m e f. o.one_spare m (sym reserved ∙ e) (sym removed ∙ f);
-  victim = λ u st e. subst (λ (s : Stand). VictimAt graph v.remaining s) (stand_is st e) (fresh_victim graph n behind v.remaining);
-  starts = λ u e. (let z : ◌≡◌ {A = Option Stand} None (Some (stand_at n behind)) = sym e ∙ on in cc);
-  single = λ st e. subst IsSingle (stand_is st e) (single_at n behind differs);
-  heads = λ st e. subst HeadsFit (stand_is st e) ((λ i. refl), (λ i. refl));
+  victim = λ u st e. subst (λ (s : Holdings). VictimAt graph v.remaining s) (holdings_is st e) (fresh_victim graph n behind v.remaining);
+  starts = λ u e. (let z : ◌≡◌ {A = Option Holdings} None (Some (holdings_at n behind)) = sym e ∙ on in cc);
+  single = λ st e. subst IsSingle (holdings_is st e) (single_at n behind differs);
+  heads = λ st e. subst HeadsFit (holdings_is st e) ((λ i. refl), (λ i. refl));
 }
   where
     none_some : (m : ℕ) → ◌≡◌ {A = Option ℕ} None (Some m) → ⊥
     none_some m e = cc
 
-    stand_is : (st : Stand) → v.stand ≡ Some st → stand_at n behind ≡ st
-    stand_is st e = let z : ◌≡◌ {A = Option Stand} (Some (stand_at n behind)) (Some st) = sym on ∙ e in cc
+    holdings_is : (st : Holdings) → v.holdings ≡ Some st → holdings_at n behind ≡ st
+    holdings_is st e = let z : ◌≡◌ {A = Option Holdings} (Some (holdings_at n behind)) (Some st) = sym on ∙ e in cc
 
 pub under_nil : (call : Form) → under [] call ≡ call
 under_nil (AtNode c p) = refl
@@ -149,18 +149,18 @@ under_nil (AtEntry c p) = refl
 under_nil (AtPair pairs.Rename p q) = refl
 
 -- the root
-pub take_root : (old : State) (inv : Invariant old) (c : ℕ) (op : Record) (n : ℕ) → Taker old inv c op n → by_text (form op.call) ≡ None → op.stand ≡ None → 0 ≡ n → Invariant (taking old c op n)
+pub take_root : (old : State) (inv : Invariant old) (c : ℕ) (op : Record) (n : ℕ) → Taker old inv c op n → by_text (form op.call) ≡ None → op.holdings ≡ None → 0 ≡ n → Invariant (taking old c op n)
 take_root old inv c op n t text off at_root = subst (λ (v : Record). Invariant (renewed old c v old.graph (set_at n (Some c) old.holder))) (sym took_is)
-    (take_keeps old inv c op (record op { stand = Some (stand_at n None) }) n [] t refl refl refl refl refl kept (λ i e. absurd (not_placed i e)) own holds)
+    (take_keeps old inv c op (record op { holdings = Some (holdings_at n None) }) n [] t refl refl refl refl refl kept (λ i e. absurd (not_placed i e)) own holds)
   where
     o : Own old.graph op
     o = inv.own c op t.is
 
-    took_is : took op n ≡ record op { stand = Some (stand_at n None) }
-    took_is = ap (λ (s : Option Stand). took_by op s (target op.remaining) n) off
+    took_is : took op n ≡ record op { holdings = Some (holdings_at n None) }
+    took_is = ap (λ (s : Option Holdings). took_by op s (target op.remaining) n) off
 
     not_placed : (i : ℕ) → op.phase ≡ Placed i → ⊥
-    not_placed i e = let p : (st : Stand) × (op.stand ≡ Some st) = o.placed i e in let z : ◌≡◌ {A = Option Stand} None (Some p.0) = sym off ∙ p.1 in cc
+    not_placed i e = let p : (st : Holdings) × (op.holdings ≡ Some st) = o.placed i e in let z : ◌≡◌ {A = Option Holdings} None (Some p.0) = sym off ∙ p.1 in cc
 
     walks : op.phase ≡ Walking
     walks = go op.phase refl
@@ -176,21 +176,21 @@ take_root old inv c op n t text off at_root = subst (λ (v : Record). Invariant 
     fits : Fits op.remaining
     fits = ap by_text (sym (under_nil op.remaining) ∙ ap (λ (k : Key). under k op.remaining) (sym walked) ∙ o.parts) ∙ text
 
-    only : (q : ℕ) → Holds (stand_at n None) q → q ≡ n
+    only : (q : ℕ) → Holds (holdings_at n None) q → q ≡ n
     only q (inl e) = sym e
     only q (inr (inl e)) = cc
     only q (inr (inr (inl h))) = absurd h.0
     only q (inr (inr (inr (inl h)))) = absurd h.0
     only q (inr (inr (inr (inr e)))) = cc
 
-    kept : Kept (numbers old.graph) (set_at c (Some (record op { stand = Some (stand_at n None) })) old.ops) (set_at c [] inv.key)
-    kept = kept_root (numbers old.graph) old.ops inv.key c op (record op { stand = Some (stand_at n None) }) (stand_at n None) inv.kept t.is walks walks walked fits refl (ap (λ (m : ℕ). Some m) at_root) only refl refl refl refl (is_free old inv n t.free)
+    kept : CallFacts (numbers old.graph) (set_at c (Some (record op { holdings = Some (holdings_at n None) })) old.ops) (set_at c [] inv.key)
+    kept = kept_root (numbers old.graph) old.ops inv.key c op (record op { holdings = Some (holdings_at n None) }) (holdings_at n None) inv.kept t.is walks walks walked fits refl (ap (λ (m : ℕ). Some m) at_root) only refl refl refl refl (is_free old inv n t.free)
 
-    own : Own old.graph (record op { stand = Some (stand_at n None) })
-    own = own_fresh old.graph op (record op { stand = Some (stand_at n None) }) n None o t.unfinished refl refl refl refl refl o.parts (λ x. x) (λ e. cc)
+    own : Own old.graph (record op { holdings = Some (holdings_at n None) })
+    own = own_fresh old.graph op (record op { holdings = Some (holdings_at n None) }) n None o t.unfinished refl refl refl refl refl o.parts (λ x. x) (λ e. cc)
 
-    holds : (st : Stand) (q : ℕ) → ◌≡◌ {A = Option Stand} (Some (stand_at n None)) (Some st) → Holds st q → (q ≡ n) ⊎ (old.holder q ≡ Some c)
-    holds st q e h = let z : stand_at n None ≡ st = cc in inl (only q (subst (λ (s : Stand). Holds s q) (sym z) h))
+    holds : (st : Holdings) (q : ℕ) → ◌≡◌ {A = Option Holdings} (Some (holdings_at n None)) (Some st) → Holds st q → (q ≡ n) ⊎ (old.holder q ≡ Some c)
+    holds st q e h = let z : holdings_at n None ≡ st = cc in inl (only q (subst (λ (s : Holdings). Holds s q) (sym z) h))
 
 -- one name on, the call is the same
 pub record Inner (k x : Key) (rem : Form) : Type 0 where
@@ -240,27 +240,27 @@ walk_takes (Some (File bytes)) child n e = cc
 walk_takes (Some (Dir names)) None n e = cc
 walk_takes (Some (Dir names)) (Some m) n e = cc
 
-pub head_takes : (graph : Graph) (h : ℕ) (behind : Option ℕ) (x : Name) (l : Key) (m : Move) (n : ℕ) → first_of (head_move graph h behind (x ∷ l)) m ≡ Takes n → (behind ≡ None) × (graph.kid h x ≡ Some n)
+pub head_takes : (graph : Graph) (h : ℕ) (behind : Option ℕ) (x : Name) (l : Key) (m : Move) (n : ℕ) → first_of (head_move graph h behind (x ∷ l)) m ≡ Takes n → (behind ≡ None) × (graph.child h x ≡ Some n)
 head_takes graph h (Some b) x l m n e = cc
-head_takes graph h None x l m n e = (refl, walk_takes (graph.shape h) (graph.kid h x) n e)
+head_takes graph h None x l m n e = (refl, walk_takes (graph.shape h) (graph.child h x) n e)
 
 pub head_passes : (graph : Graph) (h : ℕ) (behind : Option ℕ) (m : Move) (n : ℕ) → first_of (head_move graph h behind []) m ≡ Takes n → (behind ≡ None) × (m ≡ Takes n)
 head_passes graph h (Some b) m n e = cc
 head_passes graph h None m n e = (refl, e)
 
 -- the next node on the way to the target
-pub take_walk : (old : State) (inv : Invariant old) (c : ℕ) (op : Record) (n : ℕ) (st : Stand) (x : Name) (l : Key) → Taker old inv c op n → op.stand ≡ Some st → target op.remaining ≡ x ∷ l → old.graph.kid st.node x ≡ Some n → Invariant (taking old c op n)
-take_walk old inv c op n st x l t on way kid = subst (λ (v : Record). Invariant (renewed old c v old.graph (set_at n (Some c) old.holder))) (sym took_is)
+pub take_walk : (old : State) (inv : Invariant old) (c : ℕ) (op : Record) (n : ℕ) (st : Holdings) (x : Name) (l : Key) → Taker old inv c op n → op.holdings ≡ Some st → target op.remaining ≡ x ∷ l → old.graph.child st.node x ≡ Some n → Invariant (taking old c op n)
+take_walk old inv c op n st x l t on way child = subst (λ (v : Record). Invariant (renewed old c v old.graph (set_at n (Some c) old.holder))) (sym took_is)
     (take_keeps old inv c op v n (inv.key c ++ x ∷ []) t refl refl refl refl refl kept (λ i e. step.same) own holds)
   where
     v : Record
-    v = record op { walked = op.walked ++ x ∷ []; remaining = inner op.remaining; stand = Some (stand_at n (Some st.node)) }
+    v = record op { walked = op.walked ++ x ∷ []; remaining = inner op.remaining; holdings = Some (holdings_at n (Some st.node)) }
 
     o : Own old.graph op
     o = inv.own c op t.is
 
-    took_is : took op n ≡ record op { walked = op.walked ++ x ∷ []; remaining = inner op.remaining; stand = Some (stand_at n (Some st.node)) }
-    took_is = ap₂ (λ (s : Option Stand) (k : Key). took_by op s k n) on way
+    took_is : took op n ≡ record op { walked = op.walked ++ x ∷ []; remaining = inner op.remaining; holdings = Some (holdings_at n (Some st.node)) }
+    took_is = ap₂ (λ (s : Option Holdings) (k : Key). took_by op s k n) on way
 
     k : Keeps (numbers old.graph) (inv.key c) op st
     k = inv.kept.each c op st t.is on
@@ -269,25 +269,25 @@ take_walk old inv c op n st x l t on way kid = subst (λ (v : Record). Invariant
     step = inner_on (inv.key c) x l op.remaining way
 
     at_n : numbers old.graph (inv.key c ++ x ∷ []) ≡ Some n
-    at_n = at_child old.graph.kid 0 st.node (inv.key c) x k.located.here ∙ kid
+    at_n = at_child old.graph.child 0 st.node (inv.key c) x k.located.here ∙ child
 
-    kept : Kept (numbers old.graph) (set_at c (Some (record op { walked = op.walked ++ x ∷ []; remaining = inner op.remaining; stand = Some (stand_at n (Some st.node)) })) old.ops) (set_at c (inv.key c ++ x ∷ []) inv.key)
-    kept = kept_take (numbers old.graph) old.ops inv.key c op st n (inv.key c ++ x ∷ []) (stand_at n (Some st.node)) (record op { walked = op.walked ++ x ∷ []; remaining = inner op.remaining; stand = Some (stand_at n (Some st.node)) }) inv.kept t.is on refl refl (is_free old inv n t.free)
-        (takes_walk (numbers old.graph) (inv.key c) st (stand_at n (Some st.node)) x n k.located.here at_n refl refl refl refl refl)
+    kept : CallFacts (numbers old.graph) (set_at c (Some (record op { walked = op.walked ++ x ∷ []; remaining = inner op.remaining; holdings = Some (holdings_at n (Some st.node)) })) old.ops) (set_at c (inv.key c ++ x ∷ []) inv.key)
+    kept = kept_take (numbers old.graph) old.ops inv.key c op st n (inv.key c ++ x ∷ []) (holdings_at n (Some st.node)) (record op { walked = op.walked ++ x ∷ []; remaining = inner op.remaining; holdings = Some (holdings_at n (Some st.node)) }) inv.kept t.is on refl refl (is_free old inv n t.free)
+        (takes_walk (numbers old.graph) (inv.key c) st (holdings_at n (Some st.node)) x n k.located.here at_n refl refl refl refl refl)
         (record {
           located = record { here = at_n; source = ap (numbers old.graph) (append-nil (inv.key c ++ x ∷ [])) ∙ at_n; dest = ap (numbers old.graph) (append-nil (inv.key c ++ x ∷ [])) ∙ at_n };
           walking = λ w. ap (λ (y : Key). y ++ x ∷ []) (k.walking w);
           fits = step.fits k.fits;
         })
 
-    own : Own old.graph (record op { walked = op.walked ++ x ∷ []; remaining = inner op.remaining; stand = Some (stand_at n (Some st.node)) })
-    own = own_fresh old.graph op (record op { walked = op.walked ++ x ∷ []; remaining = inner op.remaining; stand = Some (stand_at n (Some st.node)) }) n (Some st.node) o t.unfinished refl refl refl refl refl ((inner_on op.walked x l op.remaining way).same ∙ o.parts) (number_inner old.graph op.remaining op.reserved)
+    own : Own old.graph (record op { walked = op.walked ++ x ∷ []; remaining = inner op.remaining; holdings = Some (holdings_at n (Some st.node)) })
+    own = own_fresh old.graph op (record op { walked = op.walked ++ x ∷ []; remaining = inner op.remaining; holdings = Some (holdings_at n (Some st.node)) }) n (Some st.node) o t.unfinished refl refl refl refl refl ((inner_on op.walked x l op.remaining way).same ∙ o.parts) (number_inner old.graph op.remaining op.reserved)
         (λ e. (let z : st.node ≡ n = cc in let y : ◌≡◌ {A = Option ℕ} None (Some c) = sym t.free ∙ ap old.holder (sym z) ∙ inv.held c op st st.node t.is on (inl refl) in cc))
 
-    holds : (s : Stand) (q : ℕ) → ◌≡◌ {A = Option Stand} (Some (stand_at n (Some st.node))) (Some s) → Holds s q → (q ≡ n) ⊎ (old.holder q ≡ Some c)
-    holds s q e h = let z : stand_at n (Some st.node) ≡ s = cc in by (subst (λ (y : Stand). Holds y q) (sym z) h)
+    holds : (s : Holdings) (q : ℕ) → ◌≡◌ {A = Option Holdings} (Some (holdings_at n (Some st.node))) (Some s) → Holds s q → (q ≡ n) ⊎ (old.holder q ≡ Some c)
+    holds s q e h = let z : holdings_at n (Some st.node) ≡ s = cc in by (subst (λ (y : Holdings). Holds y q) (sym z) h)
       where
-        by : Holds (stand_at n (Some st.node)) q → (q ≡ n) ⊎ (old.holder q ≡ Some c)
+        by : Holds (holdings_at n (Some st.node)) q → (q ≡ n) ⊎ (old.holder q ≡ Some c)
         by (inl i) = inl (sym i)
         by (inr (inl i)) = inr (let y : st.node ≡ q = cc in subst (λ (m : ℕ). old.holder m ≡ Some c) y (inv.held c op st st.node t.is on (inl refl)))
         by (inr (inr (inl i))) = absurd i.0

@@ -5,9 +5,9 @@ use Rattle.fs_names.specs.Keys.{Key, after_prefix}
 use Rattle.fs_names.specs.Names.{Name, same_name}
 use Rattle.fs_names.specs.Parts.{HasNames}
 use Rattle.fs_laws.specs.Maps.{Map, move}
-use Rattle.fs_machine.specs.Records.{Finished, Holds, Phase, Placed, Stand, Walking}
+use Rattle.fs_machine.specs.Records.{Finished, Holds, Phase, Placed, Holdings, Walking}
 use Rattle.fs_laws.specs.Placed.{rekey_by}
-use Rattle.fs_laws.specs.Stands.{IsAfter, IsClear, Located, Pair}
+use Rattle.fs_laws.specs.CallFacts.{IsAfter, IsClear, Located, Pair}
 use Rattle.fs_laws.proofs.trees.Prefixes.{same_refl, prefix_some, prefix_both, prefix_deeper, prefix_none}
 use Rattle.fs_laws.proofs.trees.Commuting.{move_to, move_else}
 use Rattle.fs_laws.proofs.helping.FinishPassesPlaced.{child_cases}
@@ -32,7 +32,7 @@ pub ends_same : (a b : Key) (x y : Name) → a ++ x ∷ [] ≡ b ++ y ∷ [] →
 ends_same a b x y e = same_from_push a b x y e
 
 -- the other call takes a child of a node that it holds: nothing strictly between is taken
-pub clear_take : (tree : Map ℕ) → OneKey tree → (key walked : Key) (st other : Stand) (km : Key) (m n : ℕ) (x : Name) (new : Stand)
+pub clear_take : (tree : Map ℕ) → OneKey tree → (key walked : Key) (st other : Holdings) (km : Key) (m n : ℕ) (x : Name) (new : Holdings)
     → tree key ≡ Some st.node → ((q : ℕ) → Holds st q → Holds other q → ⊥)
     → tree km ≡ Some m → Holds other m → tree (km ++ x ∷ []) ≡ Some n
     → ((q : ℕ) → Holds new q → Holds other q ⊎ (q ≡ n))
@@ -58,7 +58,7 @@ clear_take tree one key walked st other km m n x new here apart at_m holds at_n 
     go (inr e) = child (ends u mu) (ends u mu).front refl e
 
 -- the call's own head walks on: what it leaves between is its own
-pub clear_walk : (tree : Map ℕ) (key walked : Key) (x : Name) (h : ℕ) (st other : Stand) → tree (key ++ walked) ≡ Some h → Holds st h → ((q : ℕ) → Holds st q → Holds other q → ⊥) → IsClear tree key walked other → IsClear tree key (walked ++ x ∷ []) other
+pub clear_walk : (tree : Map ℕ) (key walked : Key) (x : Name) (h : ℕ) (st other : Holdings) → tree (key ++ walked) ≡ Some h → Holds st h → ((q : ℕ) → Holds st q → Holds other q → ⊥) → IsClear tree key walked other → IsClear tree key (walked ++ x ∷ []) other
 clear_walk tree key walked x h st other at_h holds apart clear u v q mu mv is at_q has = go (ends v mv)
   where
     go : Ends v → ⊥
@@ -76,7 +76,7 @@ clear_walk tree key walked x h st other at_h holds apart clear u v q mu mv is at
         by (y ∷ f) i = clear u e.front q mu (subst HasNames (sym i) tt) same_name at_q has
 
 -- the other call walks on: it does not come to a position below ours
-pub after_take : (tree : Map ℕ) (key other : Key) (st : Stand) (n : ℕ) (x : Name) → tree key ≡ Some st.node → tree (other ++ x ∷ []) ≡ Some n → (Holds st n → ⊥) → after_prefix key other ≡ None → after_prefix key (other ++ x ∷ []) ≡ None
+pub after_take : (tree : Map ℕ) (key other : Key) (st : Holdings) (n : ℕ) (x : Name) → tree key ≡ Some st.node → tree (other ++ x ∷ []) ≡ Some n → (Holds st n → ⊥) → after_prefix key other ≡ None → after_prefix key (other ++ x ∷ []) ≡ None
 after_take tree key other st n x here at_n free e = go (child_cases key other x e)
   where
     go : (after_prefix key (other ++ x ∷ []) ≡ None) ⊎ (key ≡ other ++ x ∷ []) → after_prefix key (other ++ x ∷ []) ≡ None
@@ -84,7 +84,7 @@ after_take tree key other st n x here at_n free e = go (child_cases key other x 
     go (inr h) = let z : ◌≡◌ {A = Option ℕ} (Some st.node) (Some n) = sym here ∙ ap tree h ∙ at_n in absurd (free (inl (let y : st.node ≡ n = cc in y)))
 
 -- the other call takes the root
-pub after_take_root : (tree : Map ℕ) (key : Key) (st : Stand) (n : ℕ) → tree key ≡ Some st.node → tree [] ≡ Some n → (Holds st n → ⊥) → after_prefix key [] ≡ None
+pub after_take_root : (tree : Map ℕ) (key : Key) (st : Holdings) (n : ℕ) → tree key ≡ Some st.node → tree [] ≡ Some n → (Holds st n → ⊥) → after_prefix key [] ≡ None
 after_take_root tree [] st n here at_n free = let z : ◌≡◌ {A = Option ℕ} (Some st.node) (Some n) = sym here ∙ at_n in absurd (free (inl (let y : st.node ≡ n = cc in y)))
 after_take_root tree (x ∷ key) st n here at_n free = refl
 
@@ -110,7 +110,7 @@ parted (y ∷ a) b (x ∷ c) d e f =
     record { mid = p.mid; more = p.more; left = (let l : c ≡ a ++ p.mid = p.left in cc); right = p.right }
 
 -- a node that the other holds, and that hangs from its position by what a head has walked, is not below ours
-pub held_off : (tree : Map ℕ) (key : Key) (st other : Stand) (other_key walked : Key) (h : ℕ)
+pub held_off : (tree : Map ℕ) (key : Key) (st other : Holdings) (other_key walked : Key) (h : ℕ)
     → tree key ≡ Some st.node → ((q : ℕ) → Holds st q → Holds other q → ⊥)
     → tree (other_key ++ walked) ≡ Some h → Holds other h
     → IsClear tree other_key walked st
@@ -129,7 +129,7 @@ held_off tree key st other other_key walked h here apart at_h holds clear off = 
     go (Some r) e = let p : Parted other_key key walked r = parted other_key walked key r (prefix_some key (other_key ++ walked) r e) off in absurd (between r p r refl)
 
 -- what we have walked doesn't go through an entry of a node that the other holds
-pub walked_off : (tree : Map ℕ) (key walked : Key) (st other : Stand) (kf : Key) (x : Name) (h : ℕ)
+pub walked_off : (tree : Map ℕ) (key walked : Key) (st other : Holdings) (kf : Key) (x : Name) (h : ℕ)
     → tree key ≡ Some st.node → ((q : ℕ) → Holds st q → Holds other q → ⊥)
     → tree kf ≡ Some h → Holds other h
     → IsClear tree key walked other
@@ -199,7 +199,7 @@ after_moved tree s t kc kd kt y c d none ends_in at_c at_d off e = go (after_pre
     go None None i j = e
 
 -- the whole pair goes past the move of a third call
-pub pair_moved : (tree : Map ℕ) (s t kt : Key) (y : Name) (kc : Key) (c : Stand) (pc : Phase) (kd : Key) (d : Stand) (pd : Phase)
+pub pair_moved : (tree : Map ℕ) (s t kt : Key) (y : Name) (kc : Key) (c : Holdings) (pc : Phase) (kd : Key) (d : Holdings) (pd : Phase)
     → ((r : Key) → tree (t ++ r) ≡ None) → t ≡ kt ++ y ∷ []
     → Located tree kc c → Located tree kd d
     → ((u v : Key) → after_prefix s kc ≡ None → c.source.walked ≡ u ++ v → after_prefix s (kc ++ u) ≡ None)
@@ -219,7 +219,7 @@ pair_moved tree s t kt y kc c pc kd d pd none ends_in lc ld spared_source spared
     by (inr h) e = rw (h.0, h.1) e
 
 -- and so does where it stands
-pub located_moved : (tree : Map ℕ) (s t kc : Key) (c : Stand) → ((r : Key) → tree (t ++ r) ≡ None) → Located tree kc c
+pub located_moved : (tree : Map ℕ) (s t kc : Key) (c : Holdings) → ((r : Key) → tree (t ++ r) ≡ None) → Located tree kc c
     → ((u v : Key) → after_prefix s kc ≡ None → c.source.walked ≡ u ++ v → after_prefix s (kc ++ u) ≡ None)
     → ((u v : Key) → after_prefix s kc ≡ None → c.dest.walked ≡ u ++ v → after_prefix s (kc ++ u) ≡ None)
     → Located (move s t tree) (rekey_by t kc (after_prefix s kc)) c
@@ -233,7 +233,7 @@ located_moved tree s t kc c none l spared_source spared_dest = record {
 }
 
 -- a helped call: the walking ones are not below it, and it comes last
-pub pair_helped_first : (tree : Map ℕ) (kc : Key) (c : Stand) (i : ℕ) (kd : Key) (d : Stand) (pd : Phase) → Pair tree kc c Walking kd d pd → (pd ≡ Walking → after_prefix kc kd ≡ None) → ((j : ℕ) → pd ≡ Placed j → j < i) → Pair tree kc c (Placed i) kd d pd
+pub pair_helped_first : (tree : Map ℕ) (kc : Key) (c : Holdings) (i : ℕ) (kd : Key) (d : Holdings) (pd : Phase) → Pair tree kc c Walking kd d pd → (pd ≡ Walking → after_prefix kc kd ≡ None) → ((j : ℕ) → pd ≡ Placed j → j < i) → Pair tree kc c (Placed i) kd d pd
 pair_helped_first tree kc c i kd d pd pair none_below last = record {
   apart = pair.apart;
   after = after_of pd none_below last;
@@ -246,7 +246,7 @@ pair_helped_first tree kc c i kd d pd pair none_below last = record {
     after_of (Placed j) n l h = let k : j < i = l j refl in absurd (omega arith)
     after_of (Finished r) n l h = absurd h
 
-pub pair_helped_second : (tree : Map ℕ) (kc : Key) (c : Stand) (pc : Phase) (kd : Key) (d : Stand) (i : ℕ) → Pair tree kc c pc kd d Walking → Pair tree kc c pc kd d (Placed i)
+pub pair_helped_second : (tree : Map ℕ) (kc : Key) (c : Holdings) (pc : Phase) (kd : Key) (d : Holdings) (i : ℕ) → Pair tree kc c pc kd d Walking → Pair tree kc c pc kd d (Placed i)
 pair_helped_second tree kc c pc kd d i pair = record {
   apart = pair.apart;
   after = after_of pc pair.after;

@@ -8,55 +8,55 @@ use Rattle.fs_calls.specs.Forms.{NodeCall, Form, AtEntry, new_shape}
 use Rattle.fs_calls.specs.declared.target.EntryCall.{EntryCall}
 use Rattle.fs_calls.specs.declared.target.EntryCall.TheVariants.{Mkdir, Mknod, Unlink, Rmdir}
 use Rattle.fs_laws.specs.Maps.{Map, put}
-use Rattle.fs_calls.specs.Rows.{on_row, Edit, Keep, Add, Remove, in_row}
+use Rattle.fs_calls.specs.Rows.{node_row, Edit, Keep, Add, Remove, entry_row}
 use Rattle.fs_calls.proofs.RowNames.{on_dir}
 use Rattle.fs_calls.specs.declared.errno.Errno.{Errno}
 use Rattle.fs_calls.specs.declared.reply.Reply.{Reply}
 use Rattle.fs_nodes.specs.Graphs.{Graph, at, then_at, numbers, entry_shape, IsGraph, linked_in, unlinked_in}
 use Rattle.fs_machine.specs.Finishes.{Effect, no_effect, node_effect, entry_effect}
-use Rattle.fs_machine.specs.Moves.{Finishes, take_if, next_on, victim_of, in_move}
-use Rattle.fs_machine.specs.Records.{Walking, Placed, Record, Records, Stand}
-use Rattle.fs_laws.specs.Invariants.{StandsWell, VictimAt, NumberFor, HasNumber, IsSingle, At_node, At_source, At_dest, At_victim, if_walked}
+use Rattle.fs_machine.specs.Moves.{Finishes, take_if, next_on, victim_of, entry_move}
+use Rattle.fs_machine.specs.Records.{Walking, Placed, Record, Records, Holdings}
+use Rattle.fs_laws.specs.Invariants.{HeadsSound, VictimAt, NumberFor, HasNumber, IsSingle, At_node, At_source, At_dest, At_victim, if_walked}
 use Rattle.fs_laws.specs.Placed.{rekey, rekey_move}
-use Rattle.fs_laws.specs.Stands.{Located, Kept}
+use Rattle.fs_laws.specs.CallFacts.{Located, CallFacts}
 use Rattle.fs_laws.proofs.calls.Located.{change_under}
 use Rattle.fs_laws.proofs.graphs.Walks.{at_before, at_child}
 use Rattle.fs_laws.proofs.graphs.TreesOfChanges.{CanLink, CanUnlink, numbers_linked, numbers_unlinked, put_one}
-use Rattle.fs_laws.proofs.finish.Replies.{Leaf, leaf_kids, add_of, remove_of, no_entry}
+use Rattle.fs_laws.proofs.finish.Replies.{Leaf, leaf_children, add_of, remove_of, no_entry}
 use Rattle.fs_laws.proofs.events.OtherChanges.{kept_put, kept_cut, victim_off}
 use Rattle.fs_laws.proofs.graphs.Alterations.{Altered, Reached, altered_same, altered_content, altered_linked, altered_unlinked, unlinked_gone}
 use Rattle.fs_laws.proofs.helping.ReadsNothingBelow.{take_done}
 
 -- a call that stands somewhere and whose next move is to finish
-pub record Finisher (graph : Graph) (ops : Records) (key : ℕ → Key) (c : ℕ) (op : Record) (st : Stand) (o : Option ℕ) : Type 0 where
+pub record Finisher (graph : Graph) (ops : Records) (key : ℕ → Key) (c : ℕ) (op : Record) (st : Holdings) (o : Option ℕ) : Type 0 where
   pub is_graph : IsGraph graph
-  pub kept : Kept (numbers graph) ops key
+  pub kept : CallFacts (numbers graph) ops key
   pub is : ops c ≡ Some op
-  pub on : op.stand ≡ Some st
+  pub on : op.holdings ≡ Some st
   pub unfinished : (op.phase ≡ Walking) ⊎ ((j : ℕ) × (op.phase ≡ Placed j))
-  pub well : StandsWell graph st.node op.remaining st
+  pub well : HeadsSound graph st.node op.remaining st
   pub victim : VictimAt graph op.remaining st
   pub single : IsSingle st
   pub number : NumberFor graph op.remaining op.reserved
   pub next : next_on graph op.remaining st ≡ Finishes o
   -- while it walks, no walking call is below what it would move
-  pub none_below : op.phase ≡ Walking → (s d : ℕ) (q : Record) (other : Stand) (r : Key) → o ≡ Some s → ops d ≡ Some q → q.stand ≡ Some other → q.phase ≡ Walking → at graph.kid s r ≡ Some other.node → ⊥
+  pub none_below : op.phase ≡ Walking → (s d : ℕ) (q : Record) (other : Holdings) (r : Key) → o ≡ Some s → ops d ≡ Some q → q.holdings ≡ Some other → q.phase ≡ Walking → at graph.child s r ≡ Some other.node → ⊥
   -- no two calls have one place
   pub places : (d : ℕ) (q : Record) (i j : ℕ) → (c ≡ d → ⊥) → ops d ≡ Some q → q.phase ≡ Placed i → op.phase ≡ Placed j → i ≡ j → ⊥
 
 -- what its finish does
-pub record Does (graph : Graph) (ops : Records) (key : ℕ → Key) (st : Stand) (number : Option ℕ) (ch : Change) (made : Effect) : Type 0 where
+pub record Does (graph : Graph) (ops : Records) (key : ℕ → Key) (st : Holdings) (number : Option ℕ) (ch : Change) (made : Effect) : Type 0 where
   pub linked : Option ℕ
   pub altered : Altered graph made.graph linked st
-  pub kept : Kept (numbers made.graph) ops (λ d. rekey ch (key d))
+  pub kept : CallFacts (numbers made.graph) ops (λ d. rekey ch (key d))
   pub links : (n : ℕ) → linked ≡ Some n → (number ≡ Some n) × (made.reserved ≡ None)
   pub reserved : (n : ℕ) → made.reserved ≡ Some n → number ≡ Some n
   pub removed : (n : ℕ) → made.removed ≡ Some n → (st.victim ≡ Some n) × ((l : Key) → numbers made.graph l ≡ Some n → ⊥) × Reached graph n
 
-kept_still : (tree : Map ℕ) (ops : Records) (key : ℕ → Key) (ch : Change) → ch.moves ≡ None → Kept tree ops key → Kept tree ops (λ d. rekey ch (key d))
-kept_still tree ops key ch e k = subst (λ (m : Option (Key × Key)). Kept tree ops (λ d. rekey_move m (key d))) (sym e) k
+kept_still : (tree : Map ℕ) (ops : Records) (key : ℕ → Key) (ch : Change) → ch.moves ≡ None → CallFacts tree ops key → CallFacts tree ops (λ d. rekey ch (key d))
+kept_still tree ops key ch e k = subst (λ (m : Option (Key × Key)). CallFacts tree ops (λ d. rekey_move m (key d))) (sym e) k
 
-pub does_nothing : (graph : Graph) (ops : Records) (key : ℕ → Key) (st : Stand) (reserved : Option ℕ) (ch : Change) (r : Reply) → IsGraph graph → Kept (numbers graph) ops key → ch.moves ≡ None → Does graph ops key st reserved ch (no_effect r graph reserved)
+pub does_nothing : (graph : Graph) (ops : Records) (key : ℕ → Key) (st : Holdings) (reserved : Option ℕ) (ch : Change) (r : Reply) → IsGraph graph → CallFacts (numbers graph) ops key → ch.moves ≡ None → Does graph ops key st reserved ch (no_effect r graph reserved)
 does_nothing graph ops key st reserved ch r is kept e = record {
   linked = None;
   altered = altered_same graph st is;
@@ -73,13 +73,13 @@ no_bytes r x bytes e f = let z : ◌≡◌ {A = Option (List ℕ)} None (Some by
 no_some : (bytes : List ℕ) → ◌≡◌ {A = Option (List ℕ)} None (Some bytes) → ⊥
 no_some bytes e = cc
 
-pub content_of : (c : NodeCall) (e : Option Errno) (s : Option Shape) (bytes : List ℕ) → (on_row c e s).1 ≡ Some bytes → (old : List ℕ) × (s ≡ Some (File old))
+pub content_of : (c : NodeCall) (e : Option Errno) (s : Option Shape) (bytes : List ℕ) → (node_row c e s).1 ≡ Some bytes → (old : List ℕ) × (s ≡ Some (File old))
 content_of c (Some e) s bytes i = cc
 content_of c None None bytes i = cc
 content_of c None (Some (Dir names)) bytes i = absurd (no_some bytes (sym (on_dir c names) ∙ i))
 content_of c None (Some (File old)) bytes i = (old, refl)
 
-pub does_on : (graph : Graph) (ops : Records) (key : ℕ → Key) (st : Stand) (reserved : Option ℕ) (k p : Key) (b : Option (List ℕ)) (row : Reply × Option (List ℕ)) → IsGraph graph → Kept (numbers graph) ops key → numbers graph k ≡ Some st.node
+pub does_on : (graph : Graph) (ops : Records) (key : ℕ → Key) (st : Holdings) (reserved : Option ℕ) (k p : Key) (b : Option (List ℕ)) (row : Reply × Option (List ℕ)) → IsGraph graph → CallFacts (numbers graph) ops key → numbers graph k ≡ Some st.node
     → ((bytes : List ℕ) → row.1 ≡ Some bytes → (old : List ℕ) × (graph.shape st.node ≡ Some (File old)))
     → Does graph ops key st reserved (change_under k (content_change p b)) (node_effect graph st.node reserved row)
 does_on graph ops key st reserved k p b (r, None) is kept at_k file = does_nothing graph ops key st reserved (change_under k (content_change p b)) r is kept (none b)
@@ -101,7 +101,7 @@ does_on graph ops key st reserved k p b (r, Some bytes) is kept at_k file = reco
     none (Some bytes) = refl
 
 -- an entry is removed where its victim is a right one
-pub remove_victim : (c : EntryCall) (e : Option Errno) (full : Bool) (there : Option Shape) → (in_row c e full there).1 ≡ Remove → (e ≡ None) × (victim_of c there ≡ true)
+pub remove_victim : (c : EntryCall) (e : Option Errno) (full : Bool) (there : Option Shape) → (entry_row c e full there).1 ≡ Remove → (e ≡ None) × (victim_of c there ≡ true)
 remove_victim c (Some e) full there i = cc
 remove_victim Mkdir None true None i = cc
 remove_victim Mkdir None false None i = cc
@@ -118,7 +118,7 @@ remove_victim Rmdir None full (Some (Dir [])) i = (refl, refl)
 remove_victim Rmdir None full (Some (Dir (x ∷ names))) i = cc
 
 -- a victim that the call holds is none of its own places
-pub own_off : (tree : Map ℕ) (k : Key) (st : Stand) (t : Key) (v : ℕ) → Located tree k st → IsSingle st → st.victim ≡ Some v → tree t ≡ Some v
+pub own_off : (tree : Map ℕ) (k : Key) (st : Holdings) (t : Key) (v : ℕ) → Located tree k st → IsSingle st → st.victim ≡ Some v → tree t ≡ Some v
     → (k ≡ t → ⊥) × ((k ++ st.source.walked ≡ t → ⊥) × (k ++ st.dest.walked ≡ t → ⊥))
 own_off tree k st t v loc single vic at_t = (here, (λ e. source st.source.walked refl e, λ e. dest st.dest.walked refl e))
   where
@@ -142,13 +142,13 @@ none_moves k d names x p (Add s) = refl
 none_moves k d names x p Remove = refl
 
 closed_of : (graph : Graph) (a b : Key) (m : ℕ) → numbers graph (a ++ b) ≡ Some m → (q : ℕ) × (numbers graph a ≡ Some q)
-closed_of graph a b m e = let g : (q : ℕ) × (numbers graph a ≡ Some q) × (at graph.kid q b ≡ Some m) = at_before graph.kid 0 m a b e in (g.0, g.1)
+closed_of graph a b m e = let g : (q : ℕ) × (numbers graph a ≡ Some q) × (at graph.child q b ≡ Some m) = at_before graph.child 0 m a b e in (g.0, g.1)
 
-pub does_in : (graph : Graph) (ops : Records) (key : ℕ → Key) (c : ℕ) (op : Record) (st : Stand) (o : Option ℕ) (e : EntryCall) (p d : Key) (names : List Name) (z : Name) (pp : Key) (change : Edit) (ed : Option Errno) (full : Bool)
+pub does_in : (graph : Graph) (ops : Records) (key : ℕ → Key) (c : ℕ) (op : Record) (st : Holdings) (o : Option ℕ) (e : EntryCall) (p d : Key) (names : List Name) (z : Name) (pp : Key) (change : Edit) (ed : Option Errno) (full : Bool)
     → Finisher graph ops key c op st o → op.remaining ≡ AtEntry e p
     → (dir : ed ≡ None → (ns : List Name) × (graph.shape st.node ≡ Some (Dir ns)))
-    → (done : ed ≡ None → in_move graph e (last_of p) st ≡ Finishes o)
-    → (row : Reply × Edit) → in_row e ed full (entry_shape graph st.node (last_of p)) ≡ row
+    → (done : ed ≡ None → entry_move graph e (last_of p) st ≡ Finishes o)
+    → (row : Reply × Edit) → entry_row e ed full (entry_shape graph st.node (last_of p)) ≡ row
     → Does graph ops key st op.reserved (change_under (key c) (edit_change d names z pp change)) (entry_effect graph st.node (last_of p) op.reserved row)
 does_in graph ops key c op st o e p d names z pp change ed full f rem dir done (r, Keep) i = does_nothing graph ops key st op.reserved (change_under (key c) (edit_change d names z pp change)) r f.is_graph f.kept (none_moves (key c) d names z pp change)
 does_in graph ops key c op st o e p d names z pp change ed full f rem dir done (r, Add shape) i = subst (λ (n : Option ℕ). Does graph ops key st n (change_under (key c) (edit_change d names z pp change)) (entry_effect graph st.node (last_of p) n (r, Add shape))) (sym has.1) made
@@ -172,9 +172,9 @@ does_in graph ops key c op st o e p d names z pp change ed full f rem dir done (
     ns = dir add.0
 
     free : numbers graph (key c ++ last_of p ∷ []) ≡ None
-    free = at_child graph.kid 0 st.node (key c) (last_of p) here ∙ can.free
+    free = at_child graph.child 0 st.node (key c) (last_of p) here ∙ can.free
 
-    put_kept : Kept (put (key c ++ last_of p ∷ []) (Some has.0) (numbers graph)) ops key
+    put_kept : CallFacts (put (key c ++ last_of p ∷ []) (Some has.0) (numbers graph)) ops key
     put_kept = kept_put (numbers graph) ops key (key c ++ last_of p ∷ []) has.0 f.kept free (closed_of graph) (put_one (numbers graph) (key c ++ last_of p ∷ []) has.0 has.3 f.is_graph.one_key)
 
     made : Does graph ops key st (Some has.0) (change_under (key c) (edit_change d names z pp change)) (entry_effect graph st.node (last_of p) (Some has.0) (r, Add shape))
@@ -182,7 +182,7 @@ does_in graph ops key c op st o e p d names z pp change ed full f rem dir done (
       linked = Some has.0;
       altered = altered_linked graph st (key c) (last_of p) has.0 ns.0 f.is_graph can ns.1;
       kept = kept_still (numbers (linked_in st.node (last_of p) has.0 graph)) ops key (change_under (key c) (edit_change d names z pp change)) (none_moves (key c) d names z pp change)
-          (subst (λ (t : Map ℕ). Kept t ops key) (sym (numbers_linked graph f.is_graph (key c) st.node (last_of p) has.0 can)) put_kept);
+          (subst (λ (t : Map ℕ). CallFacts t ops key) (sym (numbers_linked graph f.is_graph (key c) st.node (last_of p) has.0 can)) put_kept);
       links = λ n j. (j, refl);
       reserved = λ n j. cc;
       removed = λ n j. cc;
@@ -196,8 +196,8 @@ does_in graph ops key c op st o e p d names z pp change ed full f rem dir done (
     leaf_of None l = absurd l
     leaf_of (Some m) l = (m, refl, l)
 
-    v : (m : ℕ) × (graph.kid st.node (last_of p) ≡ Some m) × Leaf (graph.shape m)
-    v = leaf_of (graph.kid st.node (last_of p)) (remove_of e ed full (entry_shape graph st.node (last_of p)) r i)
+    v : (m : ℕ) × (graph.child st.node (last_of p) ≡ Some m) × Leaf (graph.shape m)
+    v = leaf_of (graph.child st.node (last_of p)) (remove_of e ed full (entry_shape graph st.node (last_of p)) r i)
 
     held : st.victim ≡ Some v.0
     held =
@@ -210,24 +210,24 @@ does_in graph ops key c op st o e p d names z pp change ed full f rem dir done (
     loc = (f.kept.each c op st f.is f.on).located
 
     can : CanUnlink graph (key c) st.node (last_of p) v.0
-    can = record { dir_at = loc.here; there = v.1; leaf = leaf_kids graph f.is_graph v.0 (graph.shape v.0) refl v.2 }
+    can = record { dir_at = loc.here; there = v.1; leaf = leaf_children graph f.is_graph v.0 (graph.shape v.0) refl v.2 }
 
     at_t : numbers graph (key c ++ last_of p ∷ []) ≡ Some v.0
-    at_t = at_child graph.kid 0 st.node (key c) (last_of p) loc.here ∙ v.1
+    at_t = at_child graph.child 0 st.node (key c) (last_of p) loc.here ∙ v.1
 
     ns : (ns : List Name) × (graph.shape st.node ≡ Some (Dir ns))
     ns = dir want.0
 
-    cut : Kept (put (key c ++ last_of p ∷ []) None (numbers graph)) ops key
+    cut : CallFacts (put (key c ++ last_of p ∷ []) None (numbers graph)) ops key
     cut = kept_cut (numbers graph) ops key (key c ++ last_of p ∷ []) f.kept
         (victim_off (numbers graph) ops key c op st (key c ++ last_of p ∷ []) v.0 f.kept f.is f.on held at_t (own_off (numbers graph) (key c) st (key c ++ last_of p ∷ []) v.0 loc f.single held at_t))
 
-    made : (n : Option ℕ) → Does graph ops key st n (change_under (key c) (edit_change d names z pp change)) (record { reply = r; graph = unlinked_in st.node (last_of p) graph; reserved = n; removed = graph.kid st.node (last_of p) })
+    made : (n : Option ℕ) → Does graph ops key st n (change_under (key c) (edit_change d names z pp change)) (record { reply = r; graph = unlinked_in st.node (last_of p) graph; reserved = n; removed = graph.child st.node (last_of p) })
     made n = record {
       linked = None;
       altered = altered_unlinked graph st (key c) (last_of p) v.0 ns.0 f.is_graph can ns.1;
       kept = kept_still (numbers (unlinked_in st.node (last_of p) graph)) ops key (change_under (key c) (edit_change d names z pp change)) (none_moves (key c) d names z pp change)
-          (subst (λ (t : Map ℕ). Kept t ops key) (sym (numbers_unlinked graph f.is_graph (key c) st.node (last_of p) v.0 can)) cut);
+          (subst (λ (t : Map ℕ). CallFacts t ops key) (sym (numbers_unlinked graph f.is_graph (key c) st.node (last_of p) v.0 can)) cut);
       links = λ m j. cc;
       reserved = λ m j. j;
       removed = λ m j.

@@ -3,7 +3,7 @@ use Rattle.std.proofs.Common.{◌≡◌, ℕ, ◌+◌, ◌<◌, ◌≤◌, Bool,
 use Rattle.std.specs.Prelude.{nat_lt, nat_le}
 use Rattle.std.proofs.lemmas.Bool.Decides.{nat_tests}
 use Rattle.fs_names.specs.Keys.{Key, after_prefix, parent_of, last_of, has_more}
-use Rattle.fs_names.specs.First.{on, first}
+use Rattle.fs_names.specs.Failures.{check, first_failure}
 use Rattle.fs_names.specs.Names.{Name, inserted_name, removed_name, has_name}
 use Rattle.fs_names.specs.Parts.{common, left, is_end}
 use Rattle.fs_names.specs.Shapes.{Shape, Dir, File, names_of, is_full}
@@ -12,7 +12,7 @@ use Rattle.fs_calls.specs.Forms.{form, NodeCall, Stat, Readdir, Read, Write, Tru
 use Rattle.fs_calls.specs.declared.target.PairCall.TheVariants as pairs
 use Rattle.fs_calls.specs.declared.target.EntryCall.{EntryCall}
 use Rattle.fs_calls.specs.declared.target.EntryCall.TheVariants.{Mkdir, Mknod, Unlink, Rmdir}
-use Rattle.fs_calls.specs.Rows.{answered, on_row, Edit, Keep, Add, Remove, in_there, in_row, to_row, written, resized}
+use Rattle.fs_calls.specs.Rows.{answered, node_row, Edit, Keep, Add, Remove, entry_row_in_dir, entry_row, to_row, written, resized}
 use Rattle.fs_calls.proofs.RowNames.{on_dir}
 use Rattle.fs_calls.specs.declared.errno.Errno.{Errno}
 use Rattle.fs_calls.specs.declared.errno.Errno.TheVariants.{Efbig}
@@ -21,8 +21,8 @@ use Rattle.fs_calls.specs.declared.reply.Reply.TheVariants.{Done, Wrote}
 use Rattle.fs_nodes.specs.Graphs.{Graph, set_at, entry_shape, IsGraph, at}
 use Rattle.fs_machine.specs.Finishes.{node_effect, entry_effect, move_effect, rename_effect, effect_at, effect_of, finish}
 use Rattle.fs_machine.specs.Moves.{dir_error, path_error, there_by, rename_at, target}
-use Rattle.fs_machine.specs.Records.{Record, Stand}
-use Rattle.fs_laws.specs.Invariants.{Forked, ForkedAt, StandsWell}
+use Rattle.fs_machine.specs.Records.{Record, Holdings}
+use Rattle.fs_laws.specs.Invariants.{Forked, ForkedAt, HeadsSound}
 use Rattle.fs_laws.proofs.trees.Prefixes.{prefix_some, same_refl}
 use Rattle.fs_laws.proofs.events.OneCallChanged.{Place, Here, Else, place}
 use Rattle.fs_laws.proofs.finish.Replies.{some_entry}
@@ -97,23 +97,23 @@ resizes_then f g h a b = record {
 }
 
 -- a call on a node
-on_resizes : (graph : Graph) → AllWithin graph.shape → (n : ℕ) (c : NodeCall) (e : Option Errno) (reserved : Option ℕ) (s : Option Shape) → graph.shape n ≡ s → Resizes graph.shape (node_effect graph n reserved (on_row c e s)).graph.shape
+on_resizes : (graph : Graph) → AllWithin graph.shape → (n : ℕ) (c : NodeCall) (e : Option Errno) (reserved : Option ℕ) (s : Option Shape) → graph.shape n ≡ s → Resizes graph.shape (node_effect graph n reserved (node_row c e s)).graph.shape
 on_resizes graph w n c (Some e) reserved s i = resizes_same graph.shape w
 on_resizes graph w n c None reserved None i = resizes_same graph.shape w
 on_resizes graph w n c None reserved (Some (Dir names)) i =
-    subst (λ (o : Option (List ℕ)). Resizes graph.shape (node_effect graph n reserved ((on_row c None (Some (Dir names))).0, o)).graph.shape) (sym (on_dir c names)) (resizes_same graph.shape w)
+    subst (λ (o : Option (List ℕ)). Resizes graph.shape (node_effect graph n reserved ((node_row c None (Some (Dir names))).0, o)).graph.shape) (sym (on_dir c names)) (resizes_same graph.shape w)
 on_resizes graph w n Stat None reserved (Some (File bytes)) i = resizes_same graph.shape w
 on_resizes graph w n Readdir None reserved (Some (File bytes)) i = resizes_same graph.shape w
 on_resizes graph w n (Read off count) None reserved (Some (File bytes)) i = resizes_same graph.shape w
 on_resizes graph w n (Write off []) None reserved (Some (File bytes)) i = resizes_same graph.shape w
 on_resizes graph w n (Write off (b ∷ new)) None reserved (Some (File bytes)) i = go (nat_lt FILE_LIMIT (off + length (b ∷ new))) refl
   where
-    go : (c : Bool) → nat_lt FILE_LIMIT (off + length (b ∷ new)) ≡ c → Resizes graph.shape (node_effect graph n reserved (answered (first (on c Efbig ∷ [])) None (Wrote (length (b ∷ new))) (Some (written bytes off (b ∷ new))))).graph.shape
+    go : (c : Bool) → nat_lt FILE_LIMIT (off + length (b ∷ new)) ≡ c → Resizes graph.shape (node_effect graph n reserved (answered (first_failure (check c Efbig ∷ [])) None (Wrote (length (b ∷ new))) (Some (written bytes off (b ∷ new))))).graph.shape
     go true e = resizes_same graph.shape w
     go false e = resizes_set graph.shape n (File bytes) (File (written bytes off (b ∷ new))) w i tt (length_written bytes off (b ∷ new) (w n (File bytes) i) (grind (arith, nat_tests)))
 on_resizes graph w n (Truncate size) None reserved (Some (File bytes)) i = go (nat_lt FILE_LIMIT size) refl
   where
-    go : (c : Bool) → nat_lt FILE_LIMIT size ≡ c → Resizes graph.shape (node_effect graph n reserved (answered (first (on c Efbig ∷ [])) None Done (Some (resized bytes size)))).graph.shape
+    go : (c : Bool) → nat_lt FILE_LIMIT size ≡ c → Resizes graph.shape (node_effect graph n reserved (answered (first_failure (check c Efbig ∷ [])) None Done (Some (resized bytes size)))).graph.shape
     go true e = resizes_same graph.shape w
     go false e = resizes_set graph.shape n (File bytes) (File (resized bytes size)) w i tt (length_resized bytes size (w n (File bytes) i) (grind (arith, nat_tests)))
 
@@ -136,7 +136,7 @@ edit_resizes graph w n x names i None (r, Remove) room = resizes_set graph.shape
 edit_resizes graph w n x names i (Some m) (r, Remove) room = resizes_set graph.shape n (Dir names) (Dir (removed_name x (names_of (graph.shape n)))) w i tt (subst (λ (l : List Name). Within (Dir (removed_name x l))) (sym (names_are graph n names i)) (without_fits x names (w n (Dir names) i)))
 
 -- a node is added where there is room
-add_room : (c : EntryCall) (full : Bool) (there : Option Shape) (s : Shape) → (in_there c full there).1 ≡ Add s → full ≡ false
+add_room : (c : EntryCall) (full : Bool) (there : Option Shape) (s : Shape) → (entry_row_in_dir c full there).1 ≡ Add s → full ≡ false
 add_room Mkdir full (Some t) s e = cc
 add_room Mkdir true None s e = cc
 add_room Mkdir false None s e = refl
@@ -154,11 +154,11 @@ add_room Rmdir full (Some (Dir (x ∷ names))) s e = cc
 has_room : (n : ℕ) → nat_le ENTRY_LIMIT n ≡ false → n < ENTRY_LIMIT
 has_room n e = grind (arith, nat_tests)
 
-in_resizes : (graph : Graph) → AllWithin graph.shape → (n : ℕ) (c : EntryCall) (x : Name) (reserved : Option ℕ) (there : Option Shape) (e : Option Errno) → (e ≡ None → (names : List Name) × (graph.shape n ≡ Some (Dir names))) → Resizes graph.shape (entry_effect graph n x reserved (in_row c e (is_full (graph.shape n)) there)).graph.shape
+in_resizes : (graph : Graph) → AllWithin graph.shape → (n : ℕ) (c : EntryCall) (x : Name) (reserved : Option ℕ) (there : Option Shape) (e : Option Errno) → (e ≡ None → (names : List Name) × (graph.shape n ≡ Some (Dir names))) → Resizes graph.shape (entry_effect graph n x reserved (entry_row c e (is_full (graph.shape n)) there)).graph.shape
 in_resizes graph w n c x reserved there (Some e) dir = resizes_same graph.shape w
 in_resizes graph w n c x reserved there None dir =
     let d : (names : List Name) × (graph.shape n ≡ Some (Dir names)) = dir refl in
-    edit_resizes graph w n x d.0 d.1 reserved (in_there c (is_full (graph.shape n)) there) (λ s e. has_room (length d.0) (ap is_full (sym d.1) ∙ add_room c (is_full (graph.shape n)) there s e))
+    edit_resizes graph w n x d.0 d.1 reserved (entry_row_in_dir c (is_full (graph.shape n)) there) (λ s e. has_room (length d.0) (ap is_full (sym d.1) ∙ add_room c (is_full (graph.shape n)) there s e))
 
 -- paths with one parent: a rename that stands at its common directory has walked nothing of them
 end_is : (a b : Key) → is_end (after_prefix a b) ≡ true → a ≡ b
@@ -177,25 +177,25 @@ nil_front : (a b : Key) → [] ≡ a ++ b → a ≡ []
 nil_front [] b e = refl
 nil_front (x ∷ a) b e = cc
 
-one_parent : (graph : Graph) (p q : Key) (st : Stand) → Forked graph st.node p q st → target (AtPair pairs.Rename p q) ≡ [] → is_end (after_prefix (parent_of p) (parent_of q)) ≡ true → st.source.node ≡ st.dest.node
+one_parent : (graph : Graph) (p q : Key) (st : Holdings) → Forked graph st.node p q st → target (AtPair pairs.Rename p q) ≡ [] → is_end (after_prefix (parent_of p) (parent_of q)) ≡ true → st.source.node ≡ st.dest.node
 one_parent graph p q st f way same =
     let e : parent_of p ≡ parent_of q = end_is (parent_of p) (parent_of q) same in
     let a : parent_of p ≡ [] = sym (common_self (parent_of p)) ∙ ap (common (parent_of p)) e ∙ way in
     let b : st.source.walked ≡ [] = nil_front st.source.walked (left st.source.walked (parent_of p)) (sym a ∙ f.source_is) in
     let c : st.dest.walked ≡ [] = nil_front st.dest.walked (left st.dest.walked (parent_of q)) (sym (sym e ∙ a) ∙ f.dest_is) in
-    let s : ◌≡◌ {A = Option ℕ} (Some st.node) (Some st.source.node) = sym (ap (λ (k : Key). at graph.kid st.node k) b) ∙ f.source_at in
-    let d : ◌≡◌ {A = Option ℕ} (Some st.node) (Some st.dest.node) = sym (ap (λ (k : Key). at graph.kid st.node k) c) ∙ f.dest_at in
+    let s : ◌≡◌ {A = Option ℕ} (Some st.node) (Some st.source.node) = sym (ap (λ (k : Key). at graph.child st.node k) b) ∙ f.source_at in
+    let d : ◌≡◌ {A = Option ℕ} (Some st.node) (Some st.dest.node) = sym (ap (λ (k : Key). at graph.child st.node k) c) ∙ f.dest_at in
     let t : st.node ≡ st.source.node = cc in
     let u : st.node ≡ st.dest.node = cc in
     sym t ∙ u
 
 -- the new entry of a rename has room: in its own directory, in one that is not full, or in place of another
-abbrev Room : Graph → Stand → List Name → Name → Type 0
+abbrev Room : Graph → Holdings → List Name → Name → Type 0
 Room graph st names y = (st.source.node ≡ st.dest.node) ⊎ (length names < ENTRY_LIMIT) ⊎ (has_name y names ≡ true)
 
-moved_resizes : (graph : Graph) → AllWithin graph.shape → (st : Stand) (x y : Name) (reserved : Option ℕ) (r : Reply) (m : ℕ) (from to : List Name) → graph.shape st.source.node ≡ Some (Dir from) → graph.shape st.dest.node ≡ Some (Dir to) → has_name x from ≡ true → Room graph st to y
+moved_resizes : (graph : Graph) → AllWithin graph.shape → (st : Holdings) (x y : Name) (reserved : Option ℕ) (r : Reply) (m : ℕ) (from to : List Name) → graph.shape st.source.node ≡ Some (Dir from) → graph.shape st.dest.node ≡ Some (Dir to) → has_name x from ≡ true → Room graph st to y
     → Resizes graph.shape (move_effect graph st x y reserved r true (Some m)).graph.shape
-moved_resizes graph w st x y reserved r m from to f t had room = resizes_then graph.shape mid (set_at st.dest.node (Some (Dir (inserted_name y (names_of (mid st.dest.node))))) mid) first (second (place st.source.node (Some (Dir (removed_name x (names_of (graph.shape st.source.node))))) graph.shape st.dest.node))
+moved_resizes graph w st x y reserved r m from to f t had room = resizes_then graph.shape mid (set_at st.dest.node (Some (Dir (inserted_name y (names_of (mid st.dest.node))))) mid) first_failure (second (place st.source.node (Some (Dir (removed_name x (names_of (graph.shape st.source.node))))) graph.shape st.dest.node))
   where
     mid : ℕ → Option Shape
     mid = set_at st.source.node (Some (Dir (removed_name x (names_of (graph.shape st.source.node))))) graph.shape
@@ -206,12 +206,12 @@ moved_resizes graph w st x y reserved r m from to f t had room = resizes_then gr
     to_fits : Within (Dir to)
     to_fits = w st.dest.node (Dir to) t
 
-    first : Resizes graph.shape (set_at st.source.node (Some (Dir (removed_name x (names_of (graph.shape st.source.node))))) graph.shape)
-    first = resizes_set graph.shape st.source.node (Dir from) (Dir (removed_name x (names_of (graph.shape st.source.node)))) w f tt (subst (λ (l : List Name). Within (Dir (removed_name x l))) (sym (names_are graph st.source.node from f)) (without_fits x from (w st.source.node (Dir from) f)))
+    first_failure : Resizes graph.shape (set_at st.source.node (Some (Dir (removed_name x (names_of (graph.shape st.source.node))))) graph.shape)
+    first_failure = resizes_set graph.shape st.source.node (Dir from) (Dir (removed_name x (names_of (graph.shape st.source.node)))) w f tt (subst (λ (l : List Name). Within (Dir (removed_name x l))) (sym (names_are graph st.source.node from f)) (without_fits x from (w st.source.node (Dir from) f)))
 
     put : (names : List Name) → set_at st.source.node (Some (Dir (removed_name x (names_of (graph.shape st.source.node))))) graph.shape st.dest.node ≡ Some (Dir names) → Within (Dir (inserted_name y names))
         → Resizes (set_at st.source.node (Some (Dir (removed_name x (names_of (graph.shape st.source.node))))) graph.shape) (set_at st.dest.node (Some (Dir (inserted_name y (names_of (mid st.dest.node))))) mid)
-    put names e fits = resizes_set mid st.dest.node (Dir names) (Dir (inserted_name y (names_of (mid st.dest.node)))) first.within e tt (subst (λ (l : List Name). Within (Dir (inserted_name y l))) (sym (ap names_of e)) fits)
+    put names e fits = resizes_set mid st.dest.node (Dir names) (Dir (inserted_name y (names_of (mid st.dest.node)))) first_failure.within e tt (subst (λ (l : List Name). Within (Dir (inserted_name y l))) (sym (ap names_of e)) fits)
 
     fits_else : (st.dest.node ≡ st.source.node → ⊥) → Room graph st to y → Within (Dir (inserted_name y to))
     fits_else n (inl e) = absurd (n (sym e))
@@ -240,7 +240,7 @@ room_of m true e = refl
 room_of (Dir names) false e = cc
 room_of (File bytes) false e = cc
 
-rename_resizes : (graph : Graph) → IsGraph graph → AllWithin graph.shape → (p q : Key) (st : Stand) (reserved : Option ℕ) → Forked graph st.node p q st → target (AtPair pairs.Rename p q) ≡ [] → (b : Bool) → (rename_at graph p q st).1 ≡ b → (o : Option ℕ) → graph.kid st.source.node (last_of p) ≡ o
+rename_resizes : (graph : Graph) → IsGraph graph → AllWithin graph.shape → (p q : Key) (st : Holdings) (reserved : Option ℕ) → Forked graph st.node p q st → target (AtPair pairs.Rename p q) ≡ [] → (b : Bool) → (rename_at graph p q st).1 ≡ b → (o : Option ℕ) → graph.child st.source.node (last_of p) ≡ o
     → Resizes graph.shape (move_effect graph st (last_of p) (last_of q) reserved (rename_at graph p q st).0 b o).graph.shape
 rename_resizes graph is w p q st reserved f way false e o i = resizes_same graph.shape w
 rename_resizes graph is w p q st reserved f way true e None i = resizes_same graph.shape w
@@ -256,7 +256,7 @@ rename_resizes graph is w p q st reserved f way true e (Some m) i =
     to : (names : List Name) × (graph.shape st.dest.node ≡ Some (Dir names))
     to = dir_of_none (left st.dest.walked (parent_of q)) (graph.shape st.dest.node) real.dest
 
-    listed : (n k : ℕ) (x : Name) (names : List Name) → graph.shape n ≡ Some (Dir names) → graph.kid n x ≡ Some k → has_name x names ≡ true
+    listed : (n k : ℕ) (x : Name) (names : List Name) → graph.shape n ≡ Some (Dir names) → graph.child n x ≡ Some k → has_name x names ≡ true
     listed n k x names a b =
         let d : (ns : List Name) × (graph.shape n ≡ Some (Dir ns)) × (has_name x ns ≡ true) = is.of_dir n k x b in
         let z : ◌≡◌ {A = Option Shape} (Some (Dir d.0)) (Some (Dir names)) = sym d.1 ∙ a in
@@ -279,22 +279,22 @@ rename_resizes graph is w p q st reserved f way true e (Some m) i =
     room : (there : Option Shape) → entry_shape graph st.dest.node (last_of q) ≡ there → Room graph st to.0 (last_of q)
     room None j = free (or_true (is_end (after_prefix (parent_of p) (parent_of q))) (not (is_full (graph.shape st.dest.node)))
         (room_of real.moved (is_end (after_prefix (parent_of p) (parent_of q)) || not (is_full (graph.shape st.dest.node))) (ap (λ (t : Option Shape). to_row real.moved t (is_end (after_prefix (parent_of p) (parent_of q)) || not (is_full (graph.shape st.dest.node)))) (sym (ap₂ there_by not_above j)) ∙ real.to)))
-    room (Some s) j = let g : (k : ℕ) × (graph.kid st.dest.node (last_of q) ≡ Some k) × (graph.shape k ≡ Some s) = some_entry graph st.dest.node (last_of q) s j in inr (inr (listed st.dest.node g.0 (last_of q) to.0 to.1 g.1))
+    room (Some s) j = let g : (k : ℕ) × (graph.child st.dest.node (last_of q) ≡ Some k) × (graph.shape k ≡ Some s) = some_entry graph st.dest.node (last_of q) s j in inr (inr (listed st.dest.node g.0 (last_of q) to.0 to.1 g.1))
 
 -- a call that finishes where it stands, and any call that finishes
-made_resizes : (graph : Graph) → IsGraph graph → AllWithin graph.shape → (remaining : Form) (st : Stand) (reserved : Option ℕ) → StandsWell graph st.node remaining st → Resizes graph.shape (effect_at graph remaining st reserved).graph.shape
+made_resizes : (graph : Graph) → IsGraph graph → AllWithin graph.shape → (remaining : Form) (st : Holdings) (reserved : Option ℕ) → HeadsSound graph st.node remaining st → Resizes graph.shape (effect_at graph remaining st reserved).graph.shape
 made_resizes graph is w (AtNode c p) st reserved well = on_resizes graph w st.node c (path_error p (graph.shape st.node)) reserved (graph.shape st.node) refl
 made_resizes graph is w (AtEntry c p) st reserved well = in_resizes graph w st.node c (last_of p) reserved (entry_shape graph st.node (last_of p)) (dir_error (parent_of p) (graph.shape st.node)) (dir_of_none (parent_of p) (graph.shape st.node))
 made_resizes graph is w (AtPair pairs.Rename p q) st reserved well = go (target (AtPair pairs.Rename p q)) refl well
   where
     go : (l : Key) → target (AtPair pairs.Rename p q) ≡ l → ForkedAt graph st.node p q st l → Resizes graph.shape (rename_effect graph p q st reserved l).graph.shape
-    go [] i f = rename_resizes graph is w p q st reserved f i (rename_at graph p q st).1 refl (graph.kid st.source.node (last_of p)) refl
+    go [] i f = rename_resizes graph is w p q st reserved f i (rename_at graph p q st).1 refl (graph.child st.source.node (last_of p)) refl
     go (x ∷ l) i f = resizes_same graph.shape w
 
-pub finish_resizes : (graph : Graph) → IsGraph graph → AllWithin graph.shape → (op : Record) → ((st : Stand) → op.stand ≡ Some st → StandsWell graph st.node op.remaining st) → Resizes graph.shape (finish graph op).graph.shape
-finish_resizes graph is w op well = go (by_text (form op.call)) op.stand well
+pub finish_resizes : (graph : Graph) → IsGraph graph → AllWithin graph.shape → (op : Record) → ((st : Holdings) → op.holdings ≡ Some st → HeadsSound graph st.node op.remaining st) → Resizes graph.shape (finish graph op).graph.shape
+finish_resizes graph is w op well = go (by_text (form op.call)) op.holdings well
   where
-    go : (e : Option Errno) (s : Option Stand) → ((st : Stand) → s ≡ Some st → StandsWell graph st.node op.remaining st) → Resizes graph.shape (effect_of graph op e s).graph.shape
+    go : (e : Option Errno) (s : Option Holdings) → ((st : Holdings) → s ≡ Some st → HeadsSound graph st.node op.remaining st) → Resizes graph.shape (effect_of graph op e s).graph.shape
     go (Some e) s h = resizes_same graph.shape w
     go None None h = resizes_same graph.shape w
     go None (Some st) h = made_resizes graph is w op.remaining st op.reserved (h st refl)

@@ -9,92 +9,92 @@ use Rattle.fs_laws.specs.Changes.{resolve_next, resolve, resolve_dir}
 use Rattle.fs_calls.specs.Forms.{NodeCall}
 use Rattle.fs_calls.specs.declared.target.EntryCall.{EntryCall}
 use Rattle.fs_laws.specs.Maps.{Map, below}
-use Rattle.fs_calls.specs.Rows.{as_dir, on_row, in_row, to_row, moves_row, from_row, rename_row}
+use Rattle.fs_calls.specs.Rows.{as_dir, node_row, entry_row, to_row, moves_row, rename_row_in_dirs, rename_row}
 use Rattle.fs_calls.specs.declared.errno.Errno.{Errno}
-use Rattle.fs_nodes.specs.Graphs.{Graph, then_at, at, numbers, spell, entry_shape, IsGraph}
+use Rattle.fs_nodes.specs.Graphs.{Graph, then_at, at, numbers, graph_shapes, entry_shape, IsGraph}
 use Rattle.fs_machine.specs.Moves.{Finishes, walk_move, walk_errno, path_error, dir_error, there_by, rename_at}
-use Rattle.fs_machine.specs.Records.{Stand}
+use Rattle.fs_machine.specs.Records.{Holdings}
 use Rattle.fs_laws.proofs.trees.Prefixes.{prefix_some}
 use Rattle.fs_laws.proofs.calls.Located.{resolve_under, key_is}
 use Rattle.fs_laws.proofs.graphs.Walks.{at_from, at_before, at_child, then_some}
 use Rattle.fs_laws.proofs.graphs.TreesOfChanges.{resolve_found}
 
 -- the tree that a node spells
-abbrev pub spell_from : Graph → ℕ → Map Shape
-spell_from graph n key = then_at (at graph.kid n key) graph.shape
+abbrev pub shapes_from : Graph → ℕ → Map Shape
+shapes_from graph n key = then_at (at graph.child n key) graph.shape
 
-pub below_is : (graph : Graph) (k : Key) (n : ℕ) → numbers graph k ≡ Some n → below k (spell graph) ≡ spell_from graph n
-below_is graph k n e = fun_ext (λ r. ap (λ (o : Option ℕ). then_at o graph.shape) (at_from graph.kid 0 n k r e))
+pub below_is : (graph : Graph) (k : Key) (n : ℕ) → numbers graph k ≡ Some n → below k (graph_shapes graph) ≡ shapes_from graph n
+below_is graph k n e = fun_ext (λ r. ap (λ (o : Option ℕ). then_at o graph.shape) (at_from graph.child 0 n k r e))
 
 -- a node with names left, at which the walk stops
-next_stopped : (here child : Option Shape) (kid : Option ℕ) (rest : Option Errno) → (kid ≡ None → child ≡ None) → walk_move here kid ≡ Finishes None → resolve_next here child rest ≡ Some (walk_errno here)
-next_stopped None child kid rest h e = refl
-next_stopped (Some (File bytes)) child kid rest h e = refl
-next_stopped (Some (Dir names)) child (Some m) rest h e = cc
-next_stopped (Some (Dir names)) child None rest h e = ap (λ (o : Option Shape). resolve_next (Some (Dir names)) o rest) (h refl)
+next_stopped : (here below : Option Shape) (child : Option ℕ) (rest : Option Errno) → (child ≡ None → below ≡ None) → walk_move here child ≡ Finishes None → resolve_next here below rest ≡ Some (walk_errno here)
+next_stopped None below child rest h e = refl
+next_stopped (Some (File bytes)) below child rest h e = refl
+next_stopped (Some (Dir names)) below (Some m) rest h e = cc
+next_stopped (Some (Dir names)) below None rest h e = ap (λ (o : Option Shape). resolve_next (Some (Dir names)) o rest) (h refl)
 
-pub stopped : (graph : Graph) → IsGraph graph → (n h : ℕ) (s : Shape) (w l : Key) (x : Name) → graph.shape n ≡ Some s → at graph.kid n w ≡ Some h → walk_move (graph.shape h) (graph.kid h x) ≡ Finishes None → resolve (spell_from graph n) (w ++ x ∷ l) ≡ Some (walk_errno (graph.shape h))
+pub stopped : (graph : Graph) → IsGraph graph → (n h : ℕ) (s : Shape) (w l : Key) (x : Name) → graph.shape n ≡ Some s → at graph.child n w ≡ Some h → walk_move (graph.shape h) (graph.child h x) ≡ Finishes None → resolve (shapes_from graph n) (w ++ x ∷ l) ≡ Some (walk_errno (graph.shape h))
 stopped graph is n h s w l x u e f =
-    resolve_under (spell_from graph n) w (x ∷ l) (resolve_found graph is n h w s u e)
-    ∙ ap (λ (t : Map Shape). resolve t (x ∷ l)) (fun_ext (λ r. ap (λ (o : Option ℕ). then_at o graph.shape) (at_from graph.kid n h w r e)))
-    ∙ next_stopped (graph.shape h) (spell_from graph h (x ∷ [])) (graph.kid h x) (resolve (below (x ∷ []) (spell_from graph h)) l)
-    (λ i. ap (λ (o : Option ℕ). then_at (then_at o (λ m. at graph.kid m [])) graph.shape) i) f
+    resolve_under (shapes_from graph n) w (x ∷ l) (resolve_found graph is n h w s u e)
+    ∙ ap (λ (t : Map Shape). resolve t (x ∷ l)) (fun_ext (λ r. ap (λ (o : Option ℕ). then_at o graph.shape) (at_from graph.child n h w r e)))
+    ∙ next_stopped (graph.shape h) (shapes_from graph h (x ∷ [])) (graph.child h x) (resolve (below (x ∷ []) (shapes_from graph h)) l)
+    (λ i. ap (λ (o : Option ℕ). then_at (then_at o (λ m. at graph.child m [])) graph.shape) i) f
 
 abbrev pub Stops : Graph → ℕ → Key → Type 0
 Stops graph h [] = Unit {0}
-Stops graph h (x ∷ l) = walk_move (graph.shape h) (graph.kid h x) ≡ Finishes None
+Stops graph h (x ∷ l) = walk_move (graph.shape h) (graph.child h x) ≡ Finishes None
 
-there : (graph : Graph) (n h : ℕ) (w : Key) → at graph.kid n w ≡ Some h → spell_from graph n w ≡ graph.shape h
+there : (graph : Graph) (n h : ℕ) (w : Key) → at graph.child n w ≡ Some h → shapes_from graph n w ≡ graph.shape h
 there graph n h w e = ap (λ (o : Option ℕ). then_at o graph.shape) e
 
-pub path_read : (graph : Graph) → IsGraph graph → (n : ℕ) (s : Shape) (p : Key) → graph.shape n ≡ Some s → Stops graph n p → path_error p (graph.shape n) ≡ resolve (spell_from graph n) p
+pub path_read : (graph : Graph) → IsGraph graph → (n : ℕ) (s : Shape) (p : Key) → graph.shape n ≡ Some s → Stops graph n p → path_error p (graph.shape n) ≡ resolve (shapes_from graph n) p
 path_read graph is n s [] u f = refl
 path_read graph is n s (x ∷ l) u f = sym (stopped graph is n n s [] l x u refl f)
 
-pub dir_read : (graph : Graph) → IsGraph graph → (n h : ℕ) (s : Shape) (w l : Key) → graph.shape n ≡ Some s → at graph.kid n w ≡ Some h → Stops graph h l → dir_error l (graph.shape h) ≡ resolve_dir (spell_from graph n) (w ++ l)
+pub dir_read : (graph : Graph) → IsGraph graph → (n h : ℕ) (s : Shape) (w l : Key) → graph.shape n ≡ Some s → at graph.child n w ≡ Some h → Stops graph h l → dir_error l (graph.shape h) ≡ resolve_dir (shapes_from graph n) (w ++ l)
 dir_read graph is n h s w [] u e f =
-    sym (ap (resolve_dir (spell_from graph n)) (append-nil w) ∙ ap₂ as_dir (resolve_found graph is n h w s u e) (there graph n h w e))
-dir_read graph is n h s w (x ∷ l) u e f = sym (ap (λ (o : Option Errno). as_dir o (spell_from graph n (w ++ x ∷ l))) (stopped graph is n h s w l x u e f))
+    sym (ap (resolve_dir (shapes_from graph n)) (append-nil w) ∙ ap₂ as_dir (resolve_found graph is n h w s u e) (there graph n h w e))
+dir_read graph is n h s w (x ∷ l) u e f = sym (ap (λ (o : Option Errno). as_dir o (shapes_from graph n (w ++ x ∷ l))) (stopped graph is n h s w l x u e f))
 
-entry_read : (graph : Graph) (n h : ℕ) (w : Key) (x : Name) → at graph.kid n w ≡ Some h → entry_shape graph h x ≡ spell_from graph n (w ++ x ∷ [])
-entry_read graph n h w x e = sym (ap (λ (o : Option ℕ). then_at o graph.shape) (at_child graph.kid n h w x e))
+entry_read : (graph : Graph) (n h : ℕ) (w : Key) (x : Name) → at graph.child n w ≡ Some h → entry_shape graph h x ≡ shapes_from graph n (w ++ x ∷ [])
+entry_read graph n h w x e = sym (ap (λ (o : Option ℕ). then_at o graph.shape) (at_child graph.child n h w x e))
 
 -- stat, readdir, read, write, truncate
-on_same : (c : NodeCall) (e : Option Errno) (s t : Option Shape) → (e ≡ None → s ≡ t) → on_row c e s ≡ on_row c e t
+on_same : (c : NodeCall) (e : Option Errno) (s t : Option Shape) → (e ≡ None → s ≡ t) → node_row c e s ≡ node_row c e t
 on_same c (Some e) s t h = refl
-on_same c None s t h = ap (on_row c None) (h refl)
+on_same c None s t h = ap (node_row c None) (h refl)
 
 pub on_finish : (graph : Graph) → IsGraph graph → (n : ℕ) (s : Shape) (c : NodeCall) (p : Key) → graph.shape n ≡ Some s → Stops graph n p
-    → on_row c (path_error p (graph.shape n)) (graph.shape n) ≡ on_row c (resolve (spell_from graph n) p) (spell_from graph n p)
-on_finish graph is n s c p u f = on_same c (path_error p (graph.shape n)) (graph.shape n) (spell_from graph n p) (at_end p) ∙ ap (λ (e : Option Errno). on_row c e (spell_from graph n p)) (path_read graph is n s p u f)
+    → node_row c (path_error p (graph.shape n)) (graph.shape n) ≡ node_row c (resolve (shapes_from graph n) p) (shapes_from graph n p)
+on_finish graph is n s c p u f = on_same c (path_error p (graph.shape n)) (graph.shape n) (shapes_from graph n p) (at_end p) ∙ ap (λ (e : Option Errno). node_row c e (shapes_from graph n p)) (path_read graph is n s p u f)
   where
-    at_end : (p : Key) → path_error p (graph.shape n) ≡ None → graph.shape n ≡ spell_from graph n p
+    at_end : (p : Key) → path_error p (graph.shape n) ≡ None → graph.shape n ≡ shapes_from graph n p
     at_end [] e = refl
     at_end (x ∷ l) e = cc
 
 -- mkdir, mknod, unlink, rmdir
-in_same : (c : EntryCall) (e : Option Errno) (f g : Bool) (s t : Option Shape) → (e ≡ None → (f ≡ g) × (s ≡ t)) → in_row c e f s ≡ in_row c e g t
+in_same : (c : EntryCall) (e : Option Errno) (f g : Bool) (s t : Option Shape) → (e ≡ None → (f ≡ g) × (s ≡ t)) → entry_row c e f s ≡ entry_row c e g t
 in_same c (Some e) f g s t h = refl
-in_same c None f g s t h = let i : (f ≡ g) × (s ≡ t) = h refl in ap₂ (in_row c None) i.0 i.1
+in_same c None f g s t h = let i : (f ≡ g) × (s ≡ t) = h refl in ap₂ (entry_row c None) i.0 i.1
 
 pub in_finish : (graph : Graph) → IsGraph graph → (n : ℕ) (s : Shape) (c : EntryCall) (p : Key) → HasNames p → graph.shape n ≡ Some s → Stops graph n (parent_of p)
-    → in_row c (dir_error (parent_of p) (graph.shape n)) (is_full (graph.shape n)) (entry_shape graph n (last_of p))
-    ≡ in_row c (resolve_dir (spell_from graph n) (parent_of p)) (is_full (spell_from graph n (parent_of p))) (spell_from graph n p)
+    → entry_row c (dir_error (parent_of p) (graph.shape n)) (is_full (graph.shape n)) (entry_shape graph n (last_of p))
+    ≡ entry_row c (resolve_dir (shapes_from graph n) (parent_of p)) (is_full (shapes_from graph n (parent_of p))) (shapes_from graph n p)
 in_finish graph is n s c p m u f =
-    in_same c (dir_error (parent_of p) (graph.shape n)) (is_full (graph.shape n)) (is_full (spell_from graph n (parent_of p))) (entry_shape graph n (last_of p)) (spell_from graph n p) (at_end (parent_of p) refl)
-    ∙ ap (λ (e : Option Errno). in_row c e (is_full (spell_from graph n (parent_of p))) (spell_from graph n p)) (dir_read graph is n n s [] (parent_of p) u refl f)
+    in_same c (dir_error (parent_of p) (graph.shape n)) (is_full (graph.shape n)) (is_full (shapes_from graph n (parent_of p))) (entry_shape graph n (last_of p)) (shapes_from graph n p) (at_end (parent_of p) refl)
+    ∙ ap (λ (e : Option Errno). entry_row c e (is_full (shapes_from graph n (parent_of p))) (shapes_from graph n p)) (dir_read graph is n n s [] (parent_of p) u refl f)
   where
-    at_end : (d : Key) → parent_of p ≡ d → dir_error d (graph.shape n) ≡ None → (is_full (graph.shape n) ≡ is_full (spell_from graph n (parent_of p))) × (entry_shape graph n (last_of p) ≡ spell_from graph n p)
+    at_end : (d : Key) → parent_of p ≡ d → dir_error d (graph.shape n) ≡ None → (is_full (graph.shape n) ≡ is_full (shapes_from graph n (parent_of p))) × (entry_shape graph n (last_of p) ≡ shapes_from graph n p)
     at_end [] i e = (
-      ap (λ (l : Key). is_full (spell_from graph n l)) (sym i),
-      entry_read graph n n [] (last_of p) refl ∙ ap (spell_from graph n) (ap (λ (l : Key). l ++ last_of p ∷ []) (sym i) ∙ sym (key_is p m)),
+      ap (λ (l : Key). is_full (shapes_from graph n l)) (sym i),
+      entry_read graph n n [] (last_of p) refl ∙ ap (shapes_from graph n) (ap (λ (l : Key). l ++ last_of p ∷ []) (sym i) ∙ sym (key_is p m)),
     )
     at_end (x ∷ l) i e = cc
 
 -- rename at its common directory
-pub record ForkAt (graph : Graph) (n : ℕ) (p q : Key) (st : Stand) : Type 0 where
-  pub source_at : at graph.kid n st.source.walked ≡ Some st.source.node
-  pub dest_at : at graph.kid n st.dest.walked ≡ Some st.dest.node
+pub record ForkAt (graph : Graph) (n : ℕ) (p q : Key) (st : Holdings) : Type 0 where
+  pub source_at : at graph.child n st.source.walked ≡ Some st.source.node
+  pub dest_at : at graph.child n st.dest.walked ≡ Some st.dest.node
   pub source_is : parent_of p ≡ st.source.walked ++ left st.source.walked (parent_of p)
   pub dest_is : parent_of q ≡ st.dest.walked ++ left st.dest.walked (parent_of q)
   pub source_stops : Stops graph st.source.node (left st.source.walked (parent_of p))
@@ -113,72 +113,72 @@ full_there : (m : Shape) (a b : Name) (xs ys : List Name) (room : Bool) → to_r
 full_there (Dir names) a b xs ys room = refl
 full_there (File bytes) a b xs ys room = refl
 
-from_full : (m : Option Shape) (same_path : Bool) (a b : Name) (xs ys : List Name) (room : Bool) → from_row m same_path (Some (Dir (a ∷ xs))) room ≡ from_row m same_path (Some (Dir (b ∷ ys))) room
+from_full : (m : Option Shape) (same_path : Bool) (a b : Name) (xs ys : List Name) (room : Bool) → rename_row_in_dirs m same_path (Some (Dir (a ∷ xs))) room ≡ rename_row_in_dirs m same_path (Some (Dir (b ∷ ys))) room
 from_full None same_path a b xs ys room = refl
 from_full (Some m) true a b xs ys room = refl
 from_full (Some m) false a b xs ys room = ap moves_row (full_there m a b xs ys room)
 
 -- a q that is a proper prefix of a p that is there is a directory with entries
 prefix_read : (graph : Graph) → IsGraph graph → (n : ℕ) (p q : Key) (o : Option Key) (same_path room : Bool) → after_prefix q p ≡ o
-    → from_row (spell_from graph n p) same_path (there_by (has_more o) (spell_from graph n q)) room ≡ from_row (spell_from graph n p) same_path (spell_from graph n q) room
+    → rename_row_in_dirs (shapes_from graph n p) same_path (there_by (has_more o) (shapes_from graph n q)) room ≡ rename_row_in_dirs (shapes_from graph n p) same_path (shapes_from graph n q) room
 prefix_read graph is n p q None same_path room e = refl
 prefix_read graph is n p q (Some []) same_path room e = refl
-prefix_read graph is n p q (Some (z ∷ r)) same_path room e = go (at graph.kid n p) refl
+prefix_read graph is n p q (Some (z ∷ r)) same_path room e = go (at graph.child n p) refl
   where
-    go : (o : Option ℕ) → at graph.kid n p ≡ o → from_row (then_at (at graph.kid n p) graph.shape) same_path (Some (Dir ([] ∷ []))) room ≡ from_row (then_at (at graph.kid n p) graph.shape) same_path (spell_from graph n q) room
+    go : (o : Option ℕ) → at graph.child n p ≡ o → rename_row_in_dirs (then_at (at graph.child n p) graph.shape) same_path (Some (Dir ([] ∷ []))) room ≡ rename_row_in_dirs (then_at (at graph.child n p) graph.shape) same_path (shapes_from graph n q) room
     go None i = rw i refl
     go (Some m) i =
-        let b : (h : ℕ) × (at graph.kid n q ≡ Some h) × (at graph.kid h (z ∷ r) ≡ Some m) = at_before graph.kid n m q (z ∷ r) (sym (ap (at graph.kid n) (prefix_some q p (z ∷ r) e)) ∙ i) in
-        let g : (c : ℕ) × (graph.kid b.0 z ≡ Some c) × (at graph.kid c r ≡ Some m) = then_some (graph.kid b.0 z) (λ c. at graph.kid c r) m b.2 in
+        let b : (h : ℕ) × (at graph.child n q ≡ Some h) × (at graph.child h (z ∷ r) ≡ Some m) = at_before graph.child n m q (z ∷ r) (sym (ap (at graph.child n) (prefix_some q p (z ∷ r) e)) ∙ i) in
+        let g : (c : ℕ) × (graph.child b.0 z ≡ Some c) × (at graph.child c r ≡ Some m) = then_some (graph.child b.0 z) (λ c. at graph.child c r) m b.2 in
         let d : (names : List Name) × (graph.shape b.0 ≡ Some (Dir names)) × (has_name z names ≡ true) = is.of_dir b.0 g.0 z g.1 in
         let f : (y : Name) × (ys : List Name) × (d.0 ≡ y ∷ ys) = some_names z d.0 d.2 in
-        from_full (then_at (at graph.kid n p) graph.shape) same_path [] f.0 [] f.1 room
-        ∙ ap (λ (t : Option Shape). from_row (then_at (at graph.kid n p) graph.shape) same_path t room) (sym (there graph n b.0 q b.1 ∙ d.1 ∙ ap (λ (ns : List Name). Some (Dir ns)) f.2))
+        from_full (then_at (at graph.child n p) graph.shape) same_path [] f.0 [] f.1 room
+        ∙ ap (λ (t : Option Shape). rename_row_in_dirs (then_at (at graph.child n p) graph.shape) same_path t room) (sym (there graph n b.0 q b.1 ∙ d.1 ∙ ap (λ (ns : List Name). Some (Dir ns)) f.2))
 
-rename_same : (d e f : Option Errno) (m n : Option Shape) (b : Bool) (s t : Option Shape) (r u : Bool) → (d ≡ None → (e ≡ f) × (e ≡ None → from_row m b s r ≡ from_row n b t u)) → rename_row d e m b s r ≡ rename_row d f n b t u
+rename_same : (d e f : Option Errno) (m n : Option Shape) (b : Bool) (s t : Option Shape) (r u : Bool) → (d ≡ None → (e ≡ f) × (e ≡ None → rename_row_in_dirs m b s r ≡ rename_row_in_dirs n b t u)) → rename_row d e m b s r ≡ rename_row d f n b t u
 rename_same (Some d) e f m n b s t r u h = refl
 rename_same None e f m n b s t r u h = go e f (h refl)
   where
-    go : (e f : Option Errno) → (e ≡ f) × (e ≡ None → from_row m b s r ≡ from_row n b t u) → rename_row None e m b s r ≡ rename_row None f n b t u
+    go : (e f : Option Errno) → (e ≡ f) × (e ≡ None → rename_row_in_dirs m b s r ≡ rename_row_in_dirs n b t u) → rename_row None e m b s r ≡ rename_row None f n b t u
     go None None i = i.1 refl
     go (Some e) (Some f) i = let z : ◌≡◌ {A = Option Errno} (Some e) (Some f) = i.0 in cc
     go None (Some f) i = let z : ◌≡◌ {A = Option Errno} None (Some f) = i.0 in cc
     go (Some e) None i = let z : ◌≡◌ {A = Option Errno} (Some e) None = i.0 in cc
 
-pub rename_finish : (graph : Graph) → IsGraph graph → (n : ℕ) (s : Shape) (p q : Key) (st : Stand) → HasNames p → HasNames q → graph.shape n ≡ Some s → ForkAt graph n p q st
+pub rename_finish : (graph : Graph) → IsGraph graph → (n : ℕ) (s : Shape) (p q : Key) (st : Holdings) → HasNames p → HasNames q → graph.shape n ≡ Some s → ForkAt graph n p q st
     → rename_at graph p q st
-    ≡ rename_row (resolve_dir (spell_from graph n) (parent_of p)) (resolve_dir (spell_from graph n) (parent_of q)) (spell_from graph n p) (is_end (after_prefix p q)) (spell_from graph n q) (is_end (after_prefix (parent_of p) (parent_of q)) || not (is_full (spell_from graph n (parent_of q))))
+    ≡ rename_row (resolve_dir (shapes_from graph n) (parent_of p)) (resolve_dir (shapes_from graph n) (parent_of q)) (shapes_from graph n p) (is_end (after_prefix p q)) (shapes_from graph n q) (is_end (after_prefix (parent_of p) (parent_of q)) || not (is_full (shapes_from graph n (parent_of q))))
 rename_finish graph is n s p q st mp mq u at_c =
-    rename_same (dir_error (left st.source.walked (parent_of p)) (graph.shape st.source.node)) (dir_error (left st.dest.walked (parent_of q)) (graph.shape st.dest.node)) (resolve_dir (spell_from graph n) (parent_of q)) (entry_shape graph st.source.node (last_of p)) (spell_from graph n p) (is_end (after_prefix p q))
-    (there_by (has_more (after_prefix q p)) (entry_shape graph st.dest.node (last_of q))) (spell_from graph n q)
-    (is_end (after_prefix (parent_of p) (parent_of q)) || not (is_full (graph.shape st.dest.node))) (is_end (after_prefix (parent_of p) (parent_of q)) || not (is_full (spell_from graph n (parent_of q))))
+    rename_same (dir_error (left st.source.walked (parent_of p)) (graph.shape st.source.node)) (dir_error (left st.dest.walked (parent_of q)) (graph.shape st.dest.node)) (resolve_dir (shapes_from graph n) (parent_of q)) (entry_shape graph st.source.node (last_of p)) (shapes_from graph n p) (is_end (after_prefix p q))
+    (there_by (has_more (after_prefix q p)) (entry_shape graph st.dest.node (last_of q))) (shapes_from graph n q)
+    (is_end (after_prefix (parent_of p) (parent_of q)) || not (is_full (graph.shape st.dest.node))) (is_end (after_prefix (parent_of p) (parent_of q)) || not (is_full (shapes_from graph n (parent_of q))))
     (λ i. (dest_read i, λ j. rest i j))
-    ∙ ap (λ (e : Option Errno). rename_row e (resolve_dir (spell_from graph n) (parent_of q)) (spell_from graph n p) (is_end (after_prefix p q)) (spell_from graph n q) (is_end (after_prefix (parent_of p) (parent_of q)) || not (is_full (spell_from graph n (parent_of q))))) source_read
+    ∙ ap (λ (e : Option Errno). rename_row e (resolve_dir (shapes_from graph n) (parent_of q)) (shapes_from graph n p) (is_end (after_prefix p q)) (shapes_from graph n q) (is_end (after_prefix (parent_of p) (parent_of q)) || not (is_full (shapes_from graph n (parent_of q))))) source_read
   where
-    source_read : dir_error (left st.source.walked (parent_of p)) (graph.shape st.source.node) ≡ resolve_dir (spell_from graph n) (parent_of p)
-    source_read = dir_read graph is n st.source.node s st.source.walked (left st.source.walked (parent_of p)) u at_c.source_at at_c.source_stops ∙ ap (resolve_dir (spell_from graph n)) (sym at_c.source_is)
+    source_read : dir_error (left st.source.walked (parent_of p)) (graph.shape st.source.node) ≡ resolve_dir (shapes_from graph n) (parent_of p)
+    source_read = dir_read graph is n st.source.node s st.source.walked (left st.source.walked (parent_of p)) u at_c.source_at at_c.source_stops ∙ ap (resolve_dir (shapes_from graph n)) (sym at_c.source_is)
 
-    dest_read : dir_error (left st.source.walked (parent_of p)) (graph.shape st.source.node) ≡ None → dir_error (left st.dest.walked (parent_of q)) (graph.shape st.dest.node) ≡ resolve_dir (spell_from graph n) (parent_of q)
-    dest_read i = dir_read graph is n st.dest.node s st.dest.walked (left st.dest.walked (parent_of q)) u at_c.dest_at (at_c.dest_stops i) ∙ ap (resolve_dir (spell_from graph n)) (sym at_c.dest_is)
+    dest_read : dir_error (left st.source.walked (parent_of p)) (graph.shape st.source.node) ≡ None → dir_error (left st.dest.walked (parent_of q)) (graph.shape st.dest.node) ≡ resolve_dir (shapes_from graph n) (parent_of q)
+    dest_read i = dir_read graph is n st.dest.node s st.dest.walked (left st.dest.walked (parent_of q)) u at_c.dest_at (at_c.dest_stops i) ∙ ap (resolve_dir (shapes_from graph n)) (sym at_c.dest_is)
 
-    p_read : dir_error (left st.source.walked (parent_of p)) (graph.shape st.source.node) ≡ None → entry_shape graph st.source.node (last_of p) ≡ spell_from graph n p
+    p_read : dir_error (left st.source.walked (parent_of p)) (graph.shape st.source.node) ≡ None → entry_shape graph st.source.node (last_of p) ≡ shapes_from graph n p
     p_read i =
         entry_read graph n st.source.node st.source.walked (last_of p) at_c.source_at
-        ∙ ap (spell_from graph n) (ap (λ (l : Key). l ++ last_of p ∷ []) (sym (at_c.source_is ∙ ap (λ (l : Key). st.source.walked ++ l) (arrived (left st.source.walked (parent_of p)) (graph.shape st.source.node) i) ∙ append-nil st.source.walked)) ∙ sym (key_is p mp))
+        ∙ ap (shapes_from graph n) (ap (λ (l : Key). l ++ last_of p ∷ []) (sym (at_c.source_is ∙ ap (λ (l : Key). st.source.walked ++ l) (arrived (left st.source.walked (parent_of p)) (graph.shape st.source.node) i) ∙ append-nil st.source.walked)) ∙ sym (key_is p mp))
 
     e_is : dir_error (left st.dest.walked (parent_of q)) (graph.shape st.dest.node) ≡ None → parent_of q ≡ st.dest.walked
     e_is j = at_c.dest_is ∙ ap (λ (l : Key). st.dest.walked ++ l) (arrived (left st.dest.walked (parent_of q)) (graph.shape st.dest.node) j) ∙ append-nil st.dest.walked
 
-    q_read : dir_error (left st.dest.walked (parent_of q)) (graph.shape st.dest.node) ≡ None → entry_shape graph st.dest.node (last_of q) ≡ spell_from graph n q
-    q_read j = entry_read graph n st.dest.node st.dest.walked (last_of q) at_c.dest_at ∙ ap (spell_from graph n) (ap (λ (l : Key). l ++ last_of q ∷ []) (sym (e_is j)) ∙ sym (key_is q mq))
+    q_read : dir_error (left st.dest.walked (parent_of q)) (graph.shape st.dest.node) ≡ None → entry_shape graph st.dest.node (last_of q) ≡ shapes_from graph n q
+    q_read j = entry_read graph n st.dest.node st.dest.walked (last_of q) at_c.dest_at ∙ ap (shapes_from graph n) (ap (λ (l : Key). l ++ last_of q ∷ []) (sym (e_is j)) ∙ sym (key_is q mq))
 
-    e_read : dir_error (left st.dest.walked (parent_of q)) (graph.shape st.dest.node) ≡ None → graph.shape st.dest.node ≡ spell_from graph n (parent_of q)
-    e_read j = sym (ap (spell_from graph n) (e_is j) ∙ there graph n st.dest.node st.dest.walked at_c.dest_at)
+    e_read : dir_error (left st.dest.walked (parent_of q)) (graph.shape st.dest.node) ≡ None → graph.shape st.dest.node ≡ shapes_from graph n (parent_of q)
+    e_read j = sym (ap (shapes_from graph n) (e_is j) ∙ there graph n st.dest.node st.dest.walked at_c.dest_at)
 
     rest : dir_error (left st.source.walked (parent_of p)) (graph.shape st.source.node) ≡ None → dir_error (left st.dest.walked (parent_of q)) (graph.shape st.dest.node) ≡ None
-        → from_row (entry_shape graph st.source.node (last_of p)) (is_end (after_prefix p q)) (there_by (has_more (after_prefix q p)) (entry_shape graph st.dest.node (last_of q))) (is_end (after_prefix (parent_of p) (parent_of q)) || not (is_full (graph.shape st.dest.node)))
-        ≡ from_row (spell_from graph n p) (is_end (after_prefix p q)) (spell_from graph n q) (is_end (after_prefix (parent_of p) (parent_of q)) || not (is_full (spell_from graph n (parent_of q))))
+        → rename_row_in_dirs (entry_shape graph st.source.node (last_of p)) (is_end (after_prefix p q)) (there_by (has_more (after_prefix q p)) (entry_shape graph st.dest.node (last_of q))) (is_end (after_prefix (parent_of p) (parent_of q)) || not (is_full (graph.shape st.dest.node)))
+        ≡ rename_row_in_dirs (shapes_from graph n p) (is_end (after_prefix p q)) (shapes_from graph n q) (is_end (after_prefix (parent_of p) (parent_of q)) || not (is_full (shapes_from graph n (parent_of q))))
     rest i j =
-        ap₂ (λ (m t : Option Shape). from_row m (is_end (after_prefix p q)) (there_by (has_more (after_prefix q p)) t) (is_end (after_prefix (parent_of p) (parent_of q)) || not (is_full (graph.shape st.dest.node)))) (p_read i) (q_read j)
-        ∙ ap (λ (t : Option Shape). from_row (spell_from graph n p) (is_end (after_prefix p q)) (there_by (has_more (after_prefix q p)) (spell_from graph n q)) (is_end (after_prefix (parent_of p) (parent_of q)) || not (is_full t))) (e_read j)
-        ∙ prefix_read graph is n p q (after_prefix q p) (is_end (after_prefix p q)) (is_end (after_prefix (parent_of p) (parent_of q)) || not (is_full (spell_from graph n (parent_of q)))) refl
+        ap₂ (λ (m t : Option Shape). rename_row_in_dirs m (is_end (after_prefix p q)) (there_by (has_more (after_prefix q p)) t) (is_end (after_prefix (parent_of p) (parent_of q)) || not (is_full (graph.shape st.dest.node)))) (p_read i) (q_read j)
+        ∙ ap (λ (t : Option Shape). rename_row_in_dirs (shapes_from graph n p) (is_end (after_prefix p q)) (there_by (has_more (after_prefix q p)) (shapes_from graph n q)) (is_end (after_prefix (parent_of p) (parent_of q)) || not (is_full t))) (e_read j)
+        ∙ prefix_read graph is n p q (after_prefix q p) (is_end (after_prefix p q)) (is_end (after_prefix (parent_of p) (parent_of q)) || not (is_full (shapes_from graph n (parent_of q)))) refl

@@ -9,7 +9,7 @@ use Rattle.fs_calls.specs.declared.target.PairCall.TheVariants as pairs
 use Rattle.fs_calls.specs.Rows.{to_row}
 use Rattle.fs_nodes.specs.Graphs.{Graph, at, then_at, entry_shape, IsGraph}
 use Rattle.fs_machine.specs.Moves.{Move, Finishes, first_of, head_move, take_if, same_kind, fork_move, rename_move, dir_then, dir_error, rename_at, there_by, moved_node}
-use Rattle.fs_machine.specs.Records.{Stand}
+use Rattle.fs_machine.specs.Records.{Holdings}
 use Rattle.fs_laws.specs.Invariants.{Forked, VictimAt}
 use Rattle.fs_laws.specs.Placed.{Aside}
 use Rattle.fs_laws.proofs.graphs.Walks.{then_some}
@@ -19,15 +19,15 @@ use Rattle.fs_laws.proofs.finish.TreeAfter.{Really, really, full_row, paths_asid
 use Rattle.fs_laws.proofs.helping.ReadsNothingBelow.{take_done}
 
 -- what the entry leads to: nothing, or the victim that the rename holds
-abbrev pub Replaces : Graph → Stand → Name → Type 0
-Replaces graph st y = (graph.kid st.dest.node y ≡ None) ⊎ ((v : ℕ) × (graph.kid st.dest.node y ≡ Some v) × (st.victim ≡ Some v) × Leaf (graph.shape v))
+abbrev pub Replaces : Graph → Holdings → Name → Type 0
+Replaces graph st y = (graph.child st.dest.node y ≡ None) ⊎ ((v : ℕ) × (graph.child st.dest.node y ≡ Some v) × (st.victim ≡ Some v) × Leaf (graph.shape v))
 
-pub record Real (graph : Graph) (p q : Key) (st : Stand) : Type 0 where
+pub record Real (graph : Graph) (p q : Key) (st : Holdings) : Type 0 where
   pub source_is : parent_of p ≡ st.source.walked
   pub dest_is : parent_of q ≡ st.dest.walked
   pub source_dir : (names : List Name) × (graph.shape st.source.node ≡ Some (Dir names))
   pub dest_dir : (names : List Name) × (graph.shape st.dest.node ≡ Some (Dir names))
-  pub moved : (m : ℕ) × (graph.kid st.source.node (last_of p) ≡ Some m)
+  pub moved : (m : ℕ) × (graph.child st.source.node (last_of p) ≡ Some m)
   pub aside : Aside p q
   pub replaces : Replaces graph st (last_of q)
 
@@ -54,15 +54,15 @@ all_true true true w i j k = cc
 all_true true false true i j k = cc
 
 -- a walk that is more than nothing sets out from a directory
-pub walked_dir : (graph : Graph) → IsGraph graph → (n h : ℕ) (w : Key) (names : List Name) → at graph.kid n w ≡ Some h → graph.shape h ≡ Some (Dir names) → (ns : List Name) × (graph.shape n ≡ Some (Dir ns))
+pub walked_dir : (graph : Graph) → IsGraph graph → (n h : ℕ) (w : Key) (names : List Name) → at graph.child n w ≡ Some h → graph.shape h ≡ Some (Dir names) → (ns : List Name) × (graph.shape n ≡ Some (Dir ns))
 walked_dir graph is n h [] names e f = let z : n ≡ h = cc in (names, ap graph.shape z ∙ f)
 walked_dir graph is n h (x ∷ w) names e f =
-    let g : (c : ℕ) × (graph.kid n x ≡ Some c) × (at graph.kid c w ≡ Some h) = then_some (graph.kid n x) (λ c. at graph.kid c w) h e in
+    let g : (c : ℕ) × (graph.child n x ≡ Some c) × (at graph.child c w ≡ Some h) = then_some (graph.child n x) (λ c. at graph.child c w) h e in
     let d : (ns : List Name) × (graph.shape n ≡ Some (Dir ns)) × (has_name x ns ≡ true) = is.of_dir n g.0 x g.1 in
     (d.0, d.1)
 
 -- at both parents, that are directories, the next move is decided by the entries
-pub at_entries : (graph : Graph) → IsGraph graph → (p q : Key) (st : Stand) (o : Option ℕ) → Forked graph st.node p q st
+pub at_entries : (graph : Graph) → IsGraph graph → (p q : Key) (st : Holdings) (o : Option ℕ) → Forked graph st.node p q st
     → dir_error (left st.source.walked (parent_of p)) (graph.shape st.source.node) ≡ None → dir_error (left st.dest.walked (parent_of q)) (graph.shape st.dest.node) ≡ None
     → fork_move graph p q st ≡ Finishes o → rename_move graph p q st ≡ Finishes o
 at_entries graph is p q st o f es ed e =
@@ -78,26 +78,26 @@ at_entries graph is p q st o f es ed e =
     dir_then_is (graph.shape st.dest.node) dd.0 (rename_move graph p q st) o dd.1 d
 
 -- a victim that the kinds ask for is held
-pub victim_held : (graph : Graph) (p q : Key) (st : Stand) (o : Option ℕ) (v : ℕ) → VictimAt graph (AtPair pairs.Rename p q) st → rename_move graph p q st ≡ Finishes o → graph.kid st.dest.node (last_of q) ≡ Some v
+pub victim_held : (graph : Graph) (p q : Key) (st : Holdings) (o : Option ℕ) (v : ℕ) → VictimAt graph (AtPair pairs.Rename p q) st → rename_move graph p q st ≡ Finishes o → graph.child st.dest.node (last_of q) ≡ Some v
     → (same_kind (entry_shape graph st.source.node (last_of p)) (entry_shape graph st.dest.node (last_of q)) && not (is_end (after_prefix p q)) && not (has_more (after_prefix q p))) ≡ true → st.victim ≡ Some v
-victim_held graph p q st o v victim e kid want =
+victim_held graph p q st o v victim e child want =
     let b : Bool = same_kind (entry_shape graph st.source.node (last_of p)) (entry_shape graph st.dest.node (last_of q)) && not (is_end (after_prefix p q)) && not (has_more (after_prefix q p)) in
-    let m : Option ℕ = moved_node (rename_at graph p q st).1 (graph.kid st.source.node (last_of p)) in
-    let t : take_if b (Some v) st.victim (Finishes m) ≡ Finishes o = ap (λ (n : Option ℕ). take_if b n st.victim (Finishes m)) (sym kid) ∙ e in
+    let m : Option ℕ = moved_node (rename_at graph p q st).1 (graph.child st.source.node (last_of p)) in
+    let t : take_if b (Some v) st.victim (Finishes m) ≡ Finishes o = ap (λ (n : Option ℕ). take_if b n st.victim (Finishes m)) (sym child) ∙ e in
     let w : (w : ℕ) × (st.victim ≡ Some w) = take_done b v st.victim o m want t in
-    let z : ◌≡◌ {A = Option ℕ} (Some w.0) (Some v) = sym (victim w.0 w.1).0 ∙ kid in
+    let z : ◌≡◌ {A = Option ℕ} (Some w.0) (Some v) = sym (victim w.0 w.1).0 ∙ child in
     w.1 ∙ z
 
-pub real_of : (graph : Graph) → IsGraph graph → (p q : Key) (st : Stand) (o : Option ℕ) → Fits (AtPair pairs.Rename p q) → Forked graph st.node p q st → VictimAt graph (AtPair pairs.Rename p q) st → fork_move graph p q st ≡ Finishes o → (rename_at graph p q st).1 ≡ true
+pub real_of : (graph : Graph) → IsGraph graph → (p q : Key) (st : Holdings) (o : Option ℕ) → Fits (AtPair pairs.Rename p q) → Forked graph st.node p q st → VictimAt graph (AtPair pairs.Rename p q) st → fork_move graph p q st ≡ Finishes o → (rename_at graph p q st).1 ≡ true
     → Real graph p q st
 real_of graph is p q st o fits f victim e moves = record {
   source_is = f.source_is ∙ ap (λ (l : Key). st.source.walked ++ l) (arrived (left st.source.walked (parent_of p)) (graph.shape st.source.node) w.source) ∙ append-nil st.source.walked;
   dest_is = f.dest_is ∙ ap (λ (l : Key). st.dest.walked ++ l) (arrived (left st.dest.walked (parent_of q)) (graph.shape st.dest.node) w.dest) ∙ append-nil st.dest.walked;
   source_dir = dir_of_none (left st.source.walked (parent_of p)) (graph.shape st.source.node) w.source;
   dest_dir = dir_of_none (left st.dest.walked (parent_of q)) (graph.shape st.dest.node) w.dest;
-  moved = let g : (m : ℕ) × (graph.kid st.source.node (last_of p) ≡ Some m) × (graph.shape m ≡ Some w.moved) = some_entry graph st.source.node (last_of p) w.moved w.is in (g.0, g.1);
+  moved = let g : (m : ℕ) × (graph.child st.source.node (last_of p) ≡ Some m) × (graph.shape m ≡ Some w.moved) = some_entry graph st.source.node (last_of p) w.moved w.is in (g.0, g.1);
   aside = paths_aside p q fits w.other above;
-  replaces = replaces (graph.kid st.dest.node (last_of q)) refl;
+  replaces = replaces (graph.child st.dest.node (last_of q)) refl;
 }
   where
     room : Bool
@@ -116,7 +116,7 @@ real_of graph is p q st o fits f victim e moves = record {
     no_prefix : has_more (after_prefix q p) ≡ false
     no_prefix = (let z : (b : Bool) → has_more (after_prefix q p) ≡ b → has_more (after_prefix q p) ≡ false = λ b i. i ∙ not_above b i in z (has_more (after_prefix q p)) refl)
 
-    replaces : (v : Option ℕ) → graph.kid st.dest.node (last_of q) ≡ v → Replaces graph st (last_of q)
+    replaces : (v : Option ℕ) → graph.child st.dest.node (last_of q) ≡ v → Replaces graph st (last_of q)
     replaces None i = inl i
     replaces (Some v) i =
         let u : (s : Shape) × (graph.shape v ≡ Some s) = is.to_used st.dest.node v (last_of q) i in

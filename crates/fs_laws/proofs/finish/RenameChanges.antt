@@ -9,24 +9,24 @@ use Rattle.fs_laws.specs.Changes.{Change, resolve, resolve_dir, looked, move_cha
 use Rattle.fs_calls.specs.Forms.{Form, AtNode, AtEntry, AtPair, Fits, by_text}
 use Rattle.fs_calls.specs.declared.target.PairCall.TheVariants as pairs
 use Rattle.fs_laws.specs.Maps.{Map, below, put, put_at, move, moved_to, moved_from}
-use Rattle.fs_calls.specs.Rows.{on_row, in_row, rename_row}
+use Rattle.fs_calls.specs.Rows.{node_row, entry_row, rename_row}
 use Rattle.fs_calls.specs.declared.errno.Errno.{Errno}
 use Rattle.fs_calls.specs.declared.reply.Reply.{Reply}
 use Rattle.fs_calls.specs.declared.reply.Reply.TheVariants.{Failed}
-use Rattle.fs_nodes.specs.Graphs.{Graph, at, numbers, spell, entry_shape, moved_in}
+use Rattle.fs_nodes.specs.Graphs.{Graph, at, numbers, graph_shapes, entry_shape, moved_in}
 use Rattle.fs_machine.specs.Finishes.{move_effect, rename_effect, effect_at}
-use Rattle.fs_machine.specs.Moves.{Finishes, first_of, head_move, take_if, same_kind, next_on, in_move, fork_move, rename_move, moved_node, path_error, dir_error, walk_errno, rename_at}
-use Rattle.fs_machine.specs.Records.{Walking, Record, Records, Stand}
-use Rattle.fs_laws.specs.Invariants.{ForkedAt, StandsWell, VictimAt}
+use Rattle.fs_machine.specs.Moves.{Finishes, first_of, head_move, take_if, same_kind, next_on, entry_move, fork_move, rename_move, moved_node, path_error, dir_error, walk_errno, rename_at}
+use Rattle.fs_machine.specs.Records.{Walking, Record, Records, Holdings}
+use Rattle.fs_laws.specs.Invariants.{ForkedAt, HeadsSound, VictimAt}
 use Rattle.fs_laws.specs.Placed.{Aside, rekey_by}
-use Rattle.fs_laws.specs.Stands.{Located, Kept}
+use Rattle.fs_laws.specs.CallFacts.{Located, CallFacts}
 use Rattle.fs_laws.proofs.trees.Prefixes.{prefix_append, prefix_some, prefix_both}
 use Rattle.fs_laws.proofs.calls.Located.{key_is, from_more, to_more, change_under}
 use Rattle.fs_laws.proofs.graphs.Walks.{at_before, at_child, at_from, then_some}
 use Rattle.fs_laws.proofs.trees.Commuting.{put_other}
 use Rattle.fs_laws.proofs.graphs.TreesOfChanges.{CanMove, numbers_moved, move_one}
 use Rattle.fs_laws.proofs.finish.Readings.{Stops, ForkAt, below_is, dir_read, rename_finish, arrived}
-use Rattle.fs_laws.proofs.finish.Replies.{head_stops, fork_stops, common_is, leaf_kids}
+use Rattle.fs_laws.proofs.finish.Replies.{head_stops, fork_stops, common_is, leaf_children}
 use Rattle.fs_laws.proofs.events.OneCallChanged.{kept_move}
 use Rattle.fs_laws.proofs.events.OtherChanges.{kept_cut, victim_off}
 use Rattle.fs_laws.proofs.helping.MovesSpareOthers.{Moves, spares_of}
@@ -61,9 +61,9 @@ take_same true (Some n) (Some v) m o e = cc
 take_same false n held m o e = cc
 
 -- a rename that really moves
-does_move : (graph : Graph) (ops : Records) (key : ℕ → Key) (c : ℕ) (op : Record) (st : Stand) (o : Option ℕ) (p q : Key) (ws : List (Key × Option Shape)) (r : Reply) → Finisher graph ops key c op st o → op.remaining ≡ AtPair pairs.Rename p q → Fits (AtPair pairs.Rename p q)
-    → Real graph p q st → ((m : ℕ) → graph.kid st.source.node (last_of p) ≡ Some m → o ≡ Some m)
-    → Does graph ops key st op.reserved (change_under (key c) (move_change true ws p q)) (move_effect graph st (last_of p) (last_of q) op.reserved r true (graph.kid st.source.node (last_of p)))
+does_move : (graph : Graph) (ops : Records) (key : ℕ → Key) (c : ℕ) (op : Record) (st : Holdings) (o : Option ℕ) (p q : Key) (ws : List (Key × Option Shape)) (r : Reply) → Finisher graph ops key c op st o → op.remaining ≡ AtPair pairs.Rename p q → Fits (AtPair pairs.Rename p q)
+    → Real graph p q st → ((m : ℕ) → graph.child st.source.node (last_of p) ≡ Some m → o ≡ Some m)
+    → Does graph ops key st op.reserved (change_under (key c) (move_change true ws p q)) (move_effect graph st (last_of p) (last_of q) op.reserved r true (graph.child st.source.node (last_of p)))
 does_move graph ops key c op st o p q ws r f rem fits real moved_is = subst (λ (n : Option ℕ). Does graph ops key st op.reserved (change_under (key c) (move_change true ws p q)) (move_effect graph st (last_of p) (last_of q) op.reserved r true n)) (sym real.moved.1) made
   where
     loc : Located (numbers graph) (key c) st
@@ -90,18 +90,18 @@ does_move graph ops key c op st o p q ws r f rem fits real moved_is = subst (λ 
     can : CanMove graph (key c ++ st.source.walked) st.source.node (last_of p) (key c ++ st.dest.walked) st.dest.node (last_of q) real.moved.0
     can = record { from_at = loc.source; to_at = loc.dest; there = real.moved.1; aside = aside }
 
-    entry : numbers graph ((key c ++ st.dest.walked) ++ last_of q ∷ []) ≡ graph.kid st.dest.node (last_of q)
-    entry = at_child graph.kid 0 st.dest.node (key c ++ st.dest.walked) (last_of q) loc.dest
+    entry : numbers graph ((key c ++ st.dest.walked) ++ last_of q ∷ []) ≡ graph.child st.dest.node (last_of q)
+    entry = at_child graph.child 0 st.dest.node (key c ++ st.dest.walked) (last_of q) loc.dest
 
     s_at : numbers graph ((key c ++ st.source.walked) ++ last_of p ∷ []) ≡ Some real.moved.0
-    s_at = at_child graph.kid 0 st.source.node (key c ++ st.source.walked) (last_of p) loc.source ∙ real.moved.1
+    s_at = at_child graph.child 0 st.source.node (key c ++ st.source.walked) (last_of p) loc.source ∙ real.moved.1
 
     replaced : Replaces graph st (last_of q) → Replaced graph st.dest.node (last_of q)
     replaced (inl n) = inl n
-    replaced (inr (v, n, h, leaf)) = inr (v, n, leaf_kids graph f.is_graph v (graph.shape v) refl leaf)
+    replaced (inr (v, n, h, leaf)) = inr (v, n, leaf_children graph f.is_graph v (graph.shape v) refl leaf)
 
     -- nobody stands at what is overwritten
-    off : Replaces graph st (last_of q) → (d : ℕ) (x : Record) (other : Stand) → ops d ≡ Some x → x.stand ≡ Some other → (key d ≡ (key c ++ st.dest.walked) ++ last_of q ∷ [] → ⊥) × ((key d ++ other.source.walked ≡ (key c ++ st.dest.walked) ++ last_of q ∷ [] → ⊥) × (key d ++ other.dest.walked ≡ (key c ++ st.dest.walked) ++ last_of q ∷ [] → ⊥))
+    off : Replaces graph st (last_of q) → (d : ℕ) (x : Record) (other : Holdings) → ops d ≡ Some x → x.holdings ≡ Some other → (key d ≡ (key c ++ st.dest.walked) ++ last_of q ∷ [] → ⊥) × ((key d ++ other.source.walked ≡ (key c ++ st.dest.walked) ++ last_of q ∷ [] → ⊥) × (key d ++ other.dest.walked ≡ (key c ++ st.dest.walked) ++ last_of q ∷ [] → ⊥))
     off (inl n) d x other e g =
         let l : Located (numbers graph) (key d) other = (f.kept.each d x other e g).located in
         let none : (a : Key) (i : ℕ) → numbers graph a ≡ Some i → a ≡ (key c ++ st.dest.walked) ++ last_of q ∷ [] → ⊥ = λ a i h j. (let z : ◌≡◌ {A = Option ℕ} (Some i) None = sym h ∙ ap (numbers graph) j ∙ entry ∙ n in cc) in
@@ -109,7 +109,7 @@ does_move graph ops key c op st o p q ws r f rem fits real moved_is = subst (λ 
     off (inr (v, n, h, leaf)) d x other e g =
         victim_off (numbers graph) ops key c op st ((key c ++ st.dest.walked) ++ last_of q ∷ []) v f.kept f.is f.on h (entry ∙ n) (own_off (numbers graph) (key c) st ((key c ++ st.dest.walked) ++ last_of q ∷ []) v loc f.single h (entry ∙ n)) d x other e g
 
-    cut : Kept (put ((key c ++ st.dest.walked) ++ last_of q ∷ []) None (numbers graph)) ops key
+    cut : CallFacts (put ((key c ++ st.dest.walked) ++ last_of q ∷ []) None (numbers graph)) ops key
     cut = kept_cut (numbers graph) ops key ((key c ++ st.dest.walked) ++ last_of q ∷ []) f.kept (off real.replaces)
 
     free : (a : Key) → put ((key c ++ st.dest.walked) ++ last_of q ∷ []) None (numbers graph) (((key c ++ st.dest.walked) ++ last_of q ∷ []) ++ a) ≡ None
@@ -118,12 +118,12 @@ does_move graph ops key c op st o p q ws r f rem fits real moved_is = subst (λ 
         deep : (y : Name) (a : Key) (h : Option ℕ) → numbers graph (((key c ++ st.dest.walked) ++ last_of q ∷ []) ++ y ∷ a) ≡ h → Replaces graph st (last_of q) → h ≡ None
         deep y a None e w = refl
         deep y a (Some i) e (inl n) =
-            let b : (j : ℕ) × (numbers graph ((key c ++ st.dest.walked) ++ last_of q ∷ []) ≡ Some j) × (at graph.kid j (y ∷ a) ≡ Some i) = at_before graph.kid 0 i ((key c ++ st.dest.walked) ++ last_of q ∷ []) (y ∷ a) e in
+            let b : (j : ℕ) × (numbers graph ((key c ++ st.dest.walked) ++ last_of q ∷ []) ≡ Some j) × (at graph.child j (y ∷ a) ≡ Some i) = at_before graph.child 0 i ((key c ++ st.dest.walked) ++ last_of q ∷ []) (y ∷ a) e in
             let z : ◌≡◌ {A = Option ℕ} (Some b.0) None = sym b.1 ∙ entry ∙ n in cc
         deep y a (Some i) e (inr (v, n, h, leaf)) =
-            let b : at graph.kid v (y ∷ a) ≡ Some i = sym (at_from graph.kid 0 v ((key c ++ st.dest.walked) ++ last_of q ∷ []) (y ∷ a) (entry ∙ n)) ∙ e in
-            let g : (j : ℕ) × (graph.kid v y ≡ Some j) × (at graph.kid j a ≡ Some i) = then_some (graph.kid v y) (λ j. at graph.kid j a) i b in
-            let z : ◌≡◌ {A = Option ℕ} (Some g.0) None = sym g.1 ∙ leaf_kids graph f.is_graph v (graph.shape v) refl leaf y in cc
+            let b : at graph.child v (y ∷ a) ≡ Some i = sym (at_from graph.child 0 v ((key c ++ st.dest.walked) ++ last_of q ∷ []) (y ∷ a) (entry ∙ n)) ∙ e in
+            let g : (j : ℕ) × (graph.child v y ≡ Some j) × (at graph.child j a ≡ Some i) = then_some (graph.child v y) (λ j. at graph.child j a) i b in
+            let z : ◌≡◌ {A = Option ℕ} (Some g.0) None = sym g.1 ∙ leaf_children graph f.is_graph v (graph.shape v) refl leaf y in cc
 
         inside : (a : Key) → put_at None (numbers graph) (((key c ++ st.dest.walked) ++ last_of q ∷ []) ++ a) (Some a) ≡ None
         inside [] = refl
@@ -142,24 +142,24 @@ does_move graph ops key c op st o p q ws r f rem fits real moved_is = subst (λ 
       places = f.places;
     }
       where
-        below_none : op.phase ≡ Walking → (d : ℕ) (x : Record) (other : Stand) → ops d ≡ Some x → x.stand ≡ Some other → x.phase ≡ Walking → (a : Option Key) → after_prefix ((key c ++ st.source.walked) ++ last_of p ∷ []) (key d) ≡ a → a ≡ None
+        below_none : op.phase ≡ Walking → (d : ℕ) (x : Record) (other : Holdings) → ops d ≡ Some x → x.holdings ≡ Some other → x.phase ≡ Walking → (a : Option Key) → after_prefix ((key c ++ st.source.walked) ++ last_of p ∷ []) (key d) ≡ a → a ≡ None
         below_none w d x other e g i None j = refl
         below_none w d x other e g i (Some a) j =
-            let there : at graph.kid real.moved.0 a ≡ Some other.node = sym (at_from graph.kid 0 real.moved.0 ((key c ++ st.source.walked) ++ last_of p ∷ []) a s_at) ∙ ap (numbers graph) (sym (prefix_some ((key c ++ st.source.walked) ++ last_of p ∷ []) (key d) a j)) ∙ (f.kept.each d x other e g).located.here in
+            let there : at graph.child real.moved.0 a ≡ Some other.node = sym (at_from graph.child 0 real.moved.0 ((key c ++ st.source.walked) ++ last_of p ∷ []) a s_at) ∙ ap (numbers graph) (sym (prefix_some ((key c ++ st.source.walked) ++ last_of p ∷ []) (key d) a j)) ∙ (f.kept.each d x other e g).located.here in
             absurd (f.none_below w real.moved.0 d x other a (moved_is real.moved.0 real.moved.1) e g i there)
 
-    moved : Kept (move ((key c ++ st.source.walked) ++ last_of p ∷ []) ((key c ++ st.dest.walked) ++ last_of q ∷ []) (numbers graph)) ops (λ d. rekey_by ((key c ++ st.dest.walked) ++ last_of q ∷ []) (key d) (after_prefix ((key c ++ st.source.walked) ++ last_of p ∷ []) (key d)))
+    moved : CallFacts (move ((key c ++ st.source.walked) ++ last_of p ∷ []) ((key c ++ st.dest.walked) ++ last_of q ∷ []) (numbers graph)) ops (λ d. rekey_by ((key c ++ st.dest.walked) ++ last_of q ∷ []) (key d) (after_prefix ((key c ++ st.source.walked) ++ last_of p ∷ []) (key d)))
     moved =
-        subst (λ (t : Map ℕ). Kept t ops (λ d. rekey_by ((key c ++ st.dest.walked) ++ last_of q ∷ []) (key d) (after_prefix ((key c ++ st.source.walked) ++ last_of p ∷ []) (key d)))) (move_cut ((key c ++ st.source.walked) ++ last_of p ∷ []) ((key c ++ st.dest.walked) ++ last_of q ∷ []) (numbers graph) aside)
+        subst (λ (t : Map ℕ). CallFacts t ops (λ d. rekey_by ((key c ++ st.dest.walked) ++ last_of q ∷ []) (key d) (after_prefix ((key c ++ st.source.walked) ++ last_of p ∷ []) (key d)))) (move_cut ((key c ++ st.source.walked) ++ last_of p ∷ []) ((key c ++ st.dest.walked) ++ last_of q ∷ []) (numbers graph) aside)
         (kept_move (put ((key c ++ st.dest.walked) ++ last_of q ∷ []) None (numbers graph)) ops key ((key c ++ st.source.walked) ++ last_of p ∷ []) ((key c ++ st.dest.walked) ++ last_of q ∷ []) (key c ++ st.dest.walked) (last_of q) cut
         (move_one (put ((key c ++ st.dest.walked) ++ last_of q ∷ []) None (numbers graph)) ((key c ++ st.source.walked) ++ last_of p ∷ []) ((key c ++ st.dest.walked) ++ last_of q ∷ []) cut.one_key)
         (spares_of (put ((key c ++ st.dest.walked) ++ last_of q ∷ []) None (numbers graph)) ops key c op st (last_of p) (last_of q) cut moves))
 
-    new_kept : Kept (numbers (moved_in st.source.node (last_of p) st.dest.node (last_of q) real.moved.0 graph)) ops (λ d. rekey_by (key c ++ q) (key d) (after_prefix (key c ++ p) (key d)))
+    new_kept : CallFacts (numbers (moved_in st.source.node (last_of p) st.dest.node (last_of q) real.moved.0 graph)) ops (λ d. rekey_by (key c ++ q) (key d) (after_prefix (key c ++ p) (key d)))
     new_kept =
-        subst (λ (t : Map ℕ). Kept t ops (λ d. rekey_by (key c ++ q) (key d) (after_prefix (key c ++ p) (key d)))) (sym (numbers_moved graph f.is_graph (key c ++ st.source.walked) st.source.node (last_of p) (key c ++ st.dest.walked) st.dest.node (last_of q) real.moved.0 can))
-        (subst (λ (t : Key). Kept (move ((key c ++ st.source.walked) ++ last_of p ∷ []) ((key c ++ st.dest.walked) ++ last_of q ∷ []) (numbers graph)) ops (λ d. rekey_by t (key d) (after_prefix (key c ++ p) (key d)))) t_is
-        (subst (λ (s : Key). Kept (move ((key c ++ st.source.walked) ++ last_of p ∷ []) ((key c ++ st.dest.walked) ++ last_of q ∷ []) (numbers graph)) ops (λ d. rekey_by ((key c ++ st.dest.walked) ++ last_of q ∷ []) (key d) (after_prefix s (key d)))) s_is moved))
+        subst (λ (t : Map ℕ). CallFacts t ops (λ d. rekey_by (key c ++ q) (key d) (after_prefix (key c ++ p) (key d)))) (sym (numbers_moved graph f.is_graph (key c ++ st.source.walked) st.source.node (last_of p) (key c ++ st.dest.walked) st.dest.node (last_of q) real.moved.0 can))
+        (subst (λ (t : Key). CallFacts (move ((key c ++ st.source.walked) ++ last_of p ∷ []) ((key c ++ st.dest.walked) ++ last_of q ∷ []) (numbers graph)) ops (λ d. rekey_by t (key d) (after_prefix (key c ++ p) (key d)))) t_is
+        (subst (λ (s : Key). CallFacts (move ((key c ++ st.source.walked) ++ last_of p ∷ []) ((key c ++ st.dest.walked) ++ last_of q ∷ []) (numbers graph)) ops (λ d. rekey_by ((key c ++ st.dest.walked) ++ last_of q ∷ []) (key d) (after_prefix s (key d)))) s_is moved))
 
     vic : VictimAt graph (AtPair pairs.Rename p q) st
     vic = subst (λ (x : Form). VictimAt graph x st) rem f.victim
@@ -174,18 +174,18 @@ does_move graph ops key c op st o p q ws r f rem fits real moved_is = subst (λ 
       removed = λ n j. (j, moved_gone graph f.is_graph (key c ++ st.source.walked) st.source.node (last_of p) (key c ++ st.dest.walked) st.dest.node (last_of q) real.moved.0 n can (vic n j).0, ((key c ++ st.dest.walked) ++ last_of q ∷ [], entry ∙ (vic n j).0));
     }
 
-does_rename : (graph : Graph) (ops : Records) (key : ℕ → Key) (c : ℕ) (op : Record) (st : Stand) (o : Option ℕ) (p q : Key) (s : Shape) → Finisher graph ops key c op st o → op.remaining ≡ AtPair pairs.Rename p q → Fits (AtPair pairs.Rename p q) → graph.shape st.node ≡ Some s
-    → Does graph ops key st op.reserved (change_under (key c) (looked (below (key c) (spell graph)) (AtPair pairs.Rename p q)).1) (effect_at graph (AtPair pairs.Rename p q) st op.reserved)
-does_rename graph ops key c op st o p q s f rem fits u = go (common (parent_of p) (parent_of q)) refl (subst (λ (x : Form). StandsWell graph st.node x st) rem f.well) (ap (λ (x : Form). next_on graph x st) (sym rem) ∙ f.next)
+does_rename : (graph : Graph) (ops : Records) (key : ℕ → Key) (c : ℕ) (op : Record) (st : Holdings) (o : Option ℕ) (p q : Key) (s : Shape) → Finisher graph ops key c op st o → op.remaining ≡ AtPair pairs.Rename p q → Fits (AtPair pairs.Rename p q) → graph.shape st.node ≡ Some s
+    → Does graph ops key st op.reserved (change_under (key c) (looked (below (key c) (graph_shapes graph)) (AtPair pairs.Rename p q)).1) (effect_at graph (AtPair pairs.Rename p q) st op.reserved)
+does_rename graph ops key c op st o p q s f rem fits u = go (common (parent_of p) (parent_of q)) refl (subst (λ (x : Form). HeadsSound graph st.node x st) rem f.well) (ap (λ (x : Form). next_on graph x st) (sym rem) ∙ f.next)
   where
     loc : Located (numbers graph) (key c) st
     loc = (f.kept.each c op st f.is f.on).located
 
     ch : Bool → Change
-    ch b = change_under (key c) (move_change b (rename_writes (is_end (after_prefix (parent_of p) (parent_of q))) (parent_of p) (names_of (spell graph (key c ++ parent_of p))) (last_of p) (parent_of q) (names_of (spell graph (key c ++ parent_of q))) (last_of q)) p q)
+    ch b = change_under (key c) (move_change b (rename_writes (is_end (after_prefix (parent_of p) (parent_of q))) (parent_of p) (names_of (graph_shapes graph (key c ++ parent_of p))) (last_of p) (parent_of q) (names_of (graph_shapes graph (key c ++ parent_of q))) (last_of q)) p q)
 
     row : Reply × Bool
-    row = rename_row (resolve_dir (below (key c) (spell graph)) (parent_of p)) (resolve_dir (below (key c) (spell graph)) (parent_of q)) (spell graph (key c ++ p)) (is_end (after_prefix p q)) (spell graph (key c ++ q)) (is_end (after_prefix (parent_of p) (parent_of q)) || not (is_full (spell graph (key c ++ parent_of q))))
+    row = rename_row (resolve_dir (below (key c) (graph_shapes graph)) (parent_of p)) (resolve_dir (below (key c) (graph_shapes graph)) (parent_of q)) (graph_shapes graph (key c ++ p)) (is_end (after_prefix p q)) (graph_shapes graph (key c ++ q)) (is_end (after_prefix (parent_of p) (parent_of q)) || not (is_full (graph_shapes graph (key c ++ parent_of q))))
 
     go : (l : Key) → common (parent_of p) (parent_of q) ≡ l → ForkedAt graph st.node p q st l → first_of (head_move graph st.node st.behind l) (fork_move graph p q st) ≡ Finishes o
         → Does graph ops key st op.reserved (ch row.1) (rename_effect graph p q st op.reserved l)
@@ -193,9 +193,9 @@ does_rename graph ops key c op st o p q s f rem fits u = go (common (parent_of p
         let stop : Stops graph st.node (x ∷ l) = (head_stops graph st.node st.behind (x ∷ l) (fork_move graph p q st) o e).0 in
         let r : (r : Key) × (parent_of p ≡ common (parent_of p) (parent_of q) ++ r) = common_is (parent_of p) (parent_of q) in
         let d : parent_of p ≡ x ∷ (l ++ r.0) = r.1 ∙ ap (λ (z : Key). z ++ r.0) i in
-        let res : resolve_dir (below (key c) (spell graph)) (parent_of p) ≡ Some (walk_errno (graph.shape st.node)) =
+        let res : resolve_dir (below (key c) (graph_shapes graph)) (parent_of p) ≡ Some (walk_errno (graph.shape st.node)) =
         ap₂ resolve_dir (below_is graph (key c) st.node loc.here) d ∙ sym (dir_read graph f.is_graph st.node st.node s [] (x ∷ (l ++ r.0)) u refl stop) in
-        let no : row.1 ≡ false = ap (λ (z : Option Errno). (rename_row z (resolve_dir (below (key c) (spell graph)) (parent_of q)) (spell graph (key c ++ p)) (is_end (after_prefix p q)) (spell graph (key c ++ q)) (is_end (after_prefix (parent_of p) (parent_of q)) || not (is_full (spell graph (key c ++ parent_of q))))).1) res in
+        let no : row.1 ≡ false = ap (λ (z : Option Errno). (rename_row z (resolve_dir (below (key c) (graph_shapes graph)) (parent_of q)) (graph_shapes graph (key c ++ p)) (is_end (after_prefix p q)) (graph_shapes graph (key c ++ q)) (is_end (after_prefix (parent_of p) (parent_of q)) || not (is_full (graph_shapes graph (key c ++ parent_of q))))).1) res in
         does_nothing graph ops key st op.reserved (ch row.1) (Failed (walk_errno (graph.shape st.node))) f.is_graph f.kept (ap (λ (b : Bool). (ch b).moves) no)
     go [] i w e = by (rename_at graph p q st).1 refl
       where
@@ -213,43 +213,43 @@ does_rename graph ops key c op st o p q s f rem fits u = go (common (parent_of p
         vic : VictimAt graph (AtPair pairs.Rename p q) st
         vic = subst (λ (x : Form). VictimAt graph x st) rem f.victim
 
-        by : (b : Bool) → (rename_at graph p q st).1 ≡ b → Does graph ops key st op.reserved (ch row.1) (move_effect graph st (last_of p) (last_of q) op.reserved (rename_at graph p q st).0 (rename_at graph p q st).1 (graph.kid st.source.node (last_of p)))
+        by : (b : Bool) → (rename_at graph p q st).1 ≡ b → Does graph ops key st op.reserved (ch row.1) (move_effect graph st (last_of p) (last_of q) op.reserved (rename_at graph p q st).0 (rename_at graph p q st).1 (graph.child st.source.node (last_of p)))
         by false j =
-            subst (λ (b : Bool). Does graph ops key st op.reserved (ch row.1) (move_effect graph st (last_of p) (last_of q) op.reserved (rename_at graph p q st).0 b (graph.kid st.source.node (last_of p)))) (sym j)
+            subst (λ (b : Bool). Does graph ops key st op.reserved (ch row.1) (move_effect graph st (last_of p) (last_of q) op.reserved (rename_at graph p q st).0 b (graph.child st.source.node (last_of p)))) (sym j)
             (does_nothing graph ops key st op.reserved (ch row.1) (rename_at graph p q st).0 f.is_graph f.kept (ap (λ (b : Bool). (ch b).moves) (sym (ap (λ (r : Reply × Bool). r.1) rows) ∙ j)))
         by true j =
             let real : Real graph p q st = real_of graph f.is_graph p q st o fits w vic fork j in
             let w2 : rename_move graph p q st ≡ Finishes o = at_entries graph f.is_graph p q st o w (error_none st.source.walked (parent_of p) (graph.shape st.source.node) real.source_is real.source_dir) (error_none st.dest.walked (parent_of q) (graph.shape st.dest.node) real.dest_is real.dest_dir) fork in
-            let same : moved_node (rename_at graph p q st).1 (graph.kid st.source.node (last_of p)) ≡ o = finishes_same w2 in
-            let d : Does graph ops key st op.reserved (ch true) (move_effect graph st (last_of p) (last_of q) op.reserved (rename_at graph p q st).0 true (graph.kid st.source.node (last_of p))) =
-            does_move graph ops key c op st o p q (rename_writes (is_end (after_prefix (parent_of p) (parent_of q))) (parent_of p) (names_of (spell graph (key c ++ parent_of p))) (last_of p) (parent_of q) (names_of (spell graph (key c ++ parent_of q))) (last_of q)) (rename_at graph p q st).0 f rem fits real
-            (λ m h. sym same ∙ ap (λ (b : Bool). moved_node b (graph.kid st.source.node (last_of p))) j ∙ h) in
-            subst (λ (b : Bool). Does graph ops key st op.reserved (ch b) (move_effect graph st (last_of p) (last_of q) op.reserved (rename_at graph p q st).0 (rename_at graph p q st).1 (graph.kid st.source.node (last_of p)))) (sym j ∙ ap (λ (r : Reply × Bool). r.1) rows)
-            (subst (λ (b : Bool). Does graph ops key st op.reserved (ch true) (move_effect graph st (last_of p) (last_of q) op.reserved (rename_at graph p q st).0 b (graph.kid st.source.node (last_of p)))) (sym j) d)
+            let same : moved_node (rename_at graph p q st).1 (graph.child st.source.node (last_of p)) ≡ o = finishes_same w2 in
+            let d : Does graph ops key st op.reserved (ch true) (move_effect graph st (last_of p) (last_of q) op.reserved (rename_at graph p q st).0 true (graph.child st.source.node (last_of p))) =
+            does_move graph ops key c op st o p q (rename_writes (is_end (after_prefix (parent_of p) (parent_of q))) (parent_of p) (names_of (graph_shapes graph (key c ++ parent_of p))) (last_of p) (parent_of q) (names_of (graph_shapes graph (key c ++ parent_of q))) (last_of q)) (rename_at graph p q st).0 f rem fits real
+            (λ m h. sym same ∙ ap (λ (b : Bool). moved_node b (graph.child st.source.node (last_of p))) j ∙ h) in
+            subst (λ (b : Bool). Does graph ops key st op.reserved (ch b) (move_effect graph st (last_of p) (last_of q) op.reserved (rename_at graph p q st).0 (rename_at graph p q st).1 (graph.child st.source.node (last_of p)))) (sym j ∙ ap (λ (r : Reply × Bool). r.1) rows)
+            (subst (λ (b : Bool). Does graph ops key st op.reserved (ch true) (move_effect graph st (last_of p) (last_of q) op.reserved (rename_at graph p q st).0 b (graph.child st.source.node (last_of p)))) (sym j) d)
           where
             error_none : (a b : Key) (t : Option Shape) → b ≡ a → (names : List Name) × (t ≡ Some (Dir names)) → dir_error (left a b) t ≡ None
             error_none a b t z n = ap₂ dir_error (ap (left a) (z ∙ sym (append-nil a)) ∙ ap left_by (prefix_append a [])) n.1
 
-            finishes_same : rename_move graph p q st ≡ Finishes o → moved_node (rename_at graph p q st).1 (graph.kid st.source.node (last_of p)) ≡ o
-            finishes_same h = take_same (same_kind (entry_shape graph st.source.node (last_of p)) (entry_shape graph st.dest.node (last_of q)) && not (is_end (after_prefix p q)) && not (has_more (after_prefix q p))) (graph.kid st.dest.node (last_of q)) st.victim (moved_node (rename_at graph p q st).1 (graph.kid st.source.node (last_of p))) o h
+            finishes_same : rename_move graph p q st ≡ Finishes o → moved_node (rename_at graph p q st).1 (graph.child st.source.node (last_of p)) ≡ o
+            finishes_same h = take_same (same_kind (entry_shape graph st.source.node (last_of p)) (entry_shape graph st.dest.node (last_of q)) && not (is_end (after_prefix p q)) && not (has_more (after_prefix q p))) (graph.child st.dest.node (last_of q)) st.victim (moved_node (rename_at graph p q st).1 (graph.child st.source.node (last_of p))) o h
 
 -- each form of call
-pub does : (graph : Graph) (ops : Records) (key : ℕ → Key) (c : ℕ) (op : Record) (st : Stand) (o : Option ℕ) (s : Shape) → Finisher graph ops key c op st o → Fits op.remaining → graph.shape st.node ≡ Some s
-    → Does graph ops key st op.reserved (change_under (key c) (looked (below (key c) (spell graph)) op.remaining).1) (effect_at graph op.remaining st op.reserved)
+pub does : (graph : Graph) (ops : Records) (key : ℕ → Key) (c : ℕ) (op : Record) (st : Holdings) (o : Option ℕ) (s : Shape) → Finisher graph ops key c op st o → Fits op.remaining → graph.shape st.node ≡ Some s
+    → Does graph ops key st op.reserved (change_under (key c) (looked (below (key c) (graph_shapes graph)) op.remaining).1) (effect_at graph op.remaining st op.reserved)
 does graph ops key c op st o s f fits u = go op.remaining refl
   where
     loc : Located (numbers graph) (key c) st
     loc = (f.kept.each c op st f.is f.on).located
 
-    by : (rem : Form) → op.remaining ≡ rem → Fits rem → next_on graph rem st ≡ Finishes o → Does graph ops key st op.reserved (change_under (key c) (looked (below (key c) (spell graph)) rem).1) (effect_at graph rem st op.reserved)
-    by (AtNode e p) i fit n = does_on graph ops key st op.reserved (key c) p (on_row e (resolve (below (key c) (spell graph)) p) (spell graph (key c ++ p))).1 (on_row e (path_error p (graph.shape st.node)) (graph.shape st.node)) f.is_graph f.kept loc.here (λ bytes h. content_of e (path_error p (graph.shape st.node)) (graph.shape st.node) bytes h)
+    by : (rem : Form) → op.remaining ≡ rem → Fits rem → next_on graph rem st ≡ Finishes o → Does graph ops key st op.reserved (change_under (key c) (looked (below (key c) (graph_shapes graph)) rem).1) (effect_at graph rem st op.reserved)
+    by (AtNode e p) i fit n = does_on graph ops key st op.reserved (key c) p (node_row e (resolve (below (key c) (graph_shapes graph)) p) (graph_shapes graph (key c ++ p))).1 (node_row e (path_error p (graph.shape st.node)) (graph.shape st.node)) f.is_graph f.kept loc.here (λ bytes h. content_of e (path_error p (graph.shape st.node)) (graph.shape st.node) bytes h)
     by (AtEntry e p) i fit n =
-        does_in graph ops key c op st o e p (parent_of p) (names_of (spell graph (key c ++ parent_of p))) (last_of p) p (in_row e (resolve_dir (below (key c) (spell graph)) (parent_of p)) (is_full (spell graph (key c ++ parent_of p))) (spell graph (key c ++ p))).1
+        does_in graph ops key c op st o e p (parent_of p) (names_of (graph_shapes graph (key c ++ parent_of p))) (last_of p) p (entry_row e (resolve_dir (below (key c) (graph_shapes graph)) (parent_of p)) (is_full (graph_shapes graph (key c ++ parent_of p))) (graph_shapes graph (key c ++ p))).1
         (dir_error (parent_of p) (graph.shape st.node)) (is_full (graph.shape st.node)) f i
         (λ h. dir_of_none (parent_of p) (graph.shape st.node) h)
-        (λ h. (head_stops graph st.node st.behind (parent_of p) (in_move graph e (last_of p) st) o n).1 (arrived (parent_of p) (graph.shape st.node) h))
-        (in_row e (dir_error (parent_of p) (graph.shape st.node)) (is_full (graph.shape st.node)) (entry_shape graph st.node (last_of p))) refl
+        (λ h. (head_stops graph st.node st.behind (parent_of p) (entry_move graph e (last_of p) st) o n).1 (arrived (parent_of p) (graph.shape st.node) h))
+        (entry_row e (dir_error (parent_of p) (graph.shape st.node)) (is_full (graph.shape st.node)) (entry_shape graph st.node (last_of p))) refl
     by (AtPair pairs.Rename p q) i fit n = does_rename graph ops key c op st o p q s f i fit u
 
-    go : (rem : Form) → op.remaining ≡ rem → Does graph ops key st op.reserved (change_under (key c) (looked (below (key c) (spell graph)) op.remaining).1) (effect_at graph op.remaining st op.reserved)
-    go rem i = subst (λ (x : Form). Does graph ops key st op.reserved (change_under (key c) (looked (below (key c) (spell graph)) x).1) (effect_at graph x st op.reserved)) (sym i) (by rem i (ap by_text (sym i) ∙ fits) (ap (λ (x : Form). next_on graph x st) (sym i) ∙ f.next))
+    go : (rem : Form) → op.remaining ≡ rem → Does graph ops key st op.reserved (change_under (key c) (looked (below (key c) (graph_shapes graph)) op.remaining).1) (effect_at graph op.remaining st op.reserved)
+    go rem i = subst (λ (x : Form). Does graph ops key st op.reserved (change_under (key c) (looked (below (key c) (graph_shapes graph)) x).1) (effect_at graph x st op.reserved)) (sym i) (by rem i (ap by_text (sym i) ∙ fits) (ap (λ (x : Form). next_on graph x st) (sym i) ∙ f.next))

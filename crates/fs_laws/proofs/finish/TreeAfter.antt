@@ -4,25 +4,25 @@ use Rattle.fs_names.specs.Keys.{Key, after_prefix, has_more, parent_of, last_of}
 use Rattle.fs_names.specs.Names.{Name}
 use Rattle.fs_names.specs.Parts.{is_end, common, left}
 use Rattle.fs_names.specs.Shapes.{Shape, Dir, File, is_full, names_of}
-use Rattle.fs_laws.specs.Changes.{Change, changed, resolve, resolve_dir, looked, content_change, edit_change, move_change, rename_writes, outcome, after, unless}
+use Rattle.fs_laws.specs.Changes.{Change, changed, resolve, resolve_dir, looked, content_change, edit_change, move_change, rename_writes, outcome, after, if_sound}
 use Rattle.fs_calls.specs.Forms.{NodeCall, Form, AtNode, AtEntry, AtPair, by_text, under, Fits}
 use Rattle.fs_calls.specs.declared.target.PairCall.TheVariants as pairs
 use Rattle.fs_calls.proofs.RowNames.{if_below}
 use Rattle.fs_laws.specs.Maps.{Map, put, move, write_all}
-use Rattle.fs_calls.specs.Rows.{as_dir, on_row, Edit, in_row, to_row, moves_row, rename_row}
+use Rattle.fs_calls.specs.Rows.{as_dir, node_row, Edit, entry_row, to_row, moves_row, rename_row}
 use Rattle.fs_calls.specs.declared.errno.Errno.{Errno}
 use Rattle.fs_calls.specs.declared.reply.Reply.{Reply}
-use Rattle.fs_nodes.specs.Graphs.{Graph, then_at, at, numbers, spell, entry_shape, IsGraph}
+use Rattle.fs_nodes.specs.Graphs.{Graph, then_at, at, numbers, graph_shapes, entry_shape, IsGraph}
 use Rattle.fs_machine.specs.Finishes.{node_effect, move_effect, rename_effect, effect_at}
 use Rattle.fs_machine.specs.Moves.{Finishes, first_of, head_move, fork_move, target_move, next_on, walk_errno, dir_error, there_by, rename_at}
-use Rattle.fs_machine.specs.Records.{Stand}
-use Rattle.fs_laws.specs.Invariants.{ForkedAt, StandsWell, NumberFor}
+use Rattle.fs_machine.specs.Records.{Holdings}
+use Rattle.fs_laws.specs.Invariants.{ForkedAt, HeadsSound, NumberFor}
 use Rattle.fs_laws.specs.Placed.{Aside}
 use Rattle.fs_laws.proofs.trees.Prefixes.{prefix_append, prefix_some, prefix_both}
 use Rattle.fs_laws.proofs.calls.Located.{outcome_located, change_under, writes_at, key_is, in_more, from_more, to_more, below_text}
 use Rattle.fs_laws.proofs.graphs.Walks.{at_from, eqb_refl, eqb_true}
-use Rattle.fs_laws.proofs.graphs.TreesOfChanges.{resolve_at, spell_content, spell_moved}
-use Rattle.fs_laws.proofs.finish.Readings.{spell_from, below_is, Stops, in_finish, rename_finish, ForkAt, dir_read, path_read, arrived}
+use Rattle.fs_laws.proofs.graphs.TreesOfChanges.{resolve_at, shapes_content, shapes_moved}
+use Rattle.fs_laws.proofs.finish.Readings.{shapes_from, below_is, Stops, in_finish, rename_finish, ForkAt, dir_read, path_read, arrived}
 use Rattle.fs_laws.proofs.finish.Replies.{head_stops, fork_stops, common_is, edit_tree, some_entry}
 
 -- a row by which a rename really moves
@@ -88,32 +88,32 @@ same_dirs graph is k a b from to e f = go (eqb to from) (after_prefix a b) refl 
     go false None i j = refl
     go false (Some (x ∷ r)) i j = refl
 
-on_tree : (graph : Graph) → IsGraph graph → (k : Key) (n : ℕ) (reserved : Option ℕ) (r : Reply × Option (List ℕ)) → numbers graph k ≡ Some n → spell (node_effect graph n reserved r).graph ≡ changed (change_under k (content_change [] r.1)) (spell graph)
+on_tree : (graph : Graph) → IsGraph graph → (k : Key) (n : ℕ) (reserved : Option ℕ) (r : Reply × Option (List ℕ)) → numbers graph k ≡ Some n → graph_shapes (node_effect graph n reserved r).graph ≡ changed (change_under k (content_change [] r.1)) (graph_shapes graph)
 on_tree graph is k n reserved (r, None) e = refl
-on_tree graph is k n reserved (r, Some bytes) e = spell_content graph is k n bytes e ∙ ap (λ (l : Key). put l (Some (File bytes)) (spell graph)) (sym (append-nil k))
+on_tree graph is k n reserved (r, Some bytes) e = shapes_content graph is k n bytes e ∙ ap (λ (l : Key). put l (Some (File bytes)) (graph_shapes graph)) (sym (append-nil k))
 
-on_none : (graph : Graph) (k : Key) (c : NodeCall) (p : Key) (e : Option Errno) (f : Errno) (s : Option Shape) → Some f ≡ e → spell graph ≡ changed (change_under k (content_change p (on_row c e s).1)) (spell graph)
-on_none graph k c p e f s i = ap (λ (o : Option Errno). changed (change_under k (content_change p (on_row c o s).1)) (spell graph)) i
+on_none : (graph : Graph) (k : Key) (c : NodeCall) (p : Key) (e : Option Errno) (f : Errno) (s : Option Shape) → Some f ≡ e → graph_shapes graph ≡ changed (change_under k (content_change p (node_row c e s).1)) (graph_shapes graph)
+on_none graph k c p e f s i = ap (λ (o : Option Errno). changed (change_under k (content_change p (node_row c o s).1)) (graph_shapes graph)) i
 
 -- a rename that really moves
-move_tree : (graph : Graph) → IsGraph graph → (k : Key) (n : ℕ) (p q : Key) (st : Stand) (reserved : Option ℕ) (r : Reply) → numbers graph k ≡ Some n → Fits (AtPair pairs.Rename p q) → ForkAt graph n p q st
+move_tree : (graph : Graph) → IsGraph graph → (k : Key) (n : ℕ) (p q : Key) (st : Holdings) (reserved : Option ℕ) (r : Reply) → numbers graph k ≡ Some n → Fits (AtPair pairs.Rename p q) → ForkAt graph n p q st
     → Really (dir_error (left st.source.walked (parent_of p)) (graph.shape st.source.node)) (dir_error (left st.dest.walked (parent_of q)) (graph.shape st.dest.node)) (entry_shape graph st.source.node (last_of p)) (is_end (after_prefix p q)) (there_by (has_more (after_prefix q p)) (entry_shape graph st.dest.node (last_of q))) (is_end (after_prefix (parent_of p) (parent_of q)) || not (is_full (graph.shape st.dest.node)))
-    → spell (move_effect graph st (last_of p) (last_of q) reserved r true (graph.kid st.source.node (last_of p))).graph
-    ≡ changed (change_under k (move_change true (rename_writes (is_end (after_prefix (parent_of p) (parent_of q))) (parent_of p) (names_of (spell_from graph n (parent_of p))) (last_of p) (parent_of q) (names_of (spell_from graph n (parent_of q))) (last_of q)) p q)) (spell graph)
+    → graph_shapes (move_effect graph st (last_of p) (last_of q) reserved r true (graph.child st.source.node (last_of p))).graph
+    ≡ changed (change_under k (move_change true (rename_writes (is_end (after_prefix (parent_of p) (parent_of q))) (parent_of p) (names_of (shapes_from graph n (parent_of p))) (last_of p) (parent_of q) (names_of (shapes_from graph n (parent_of q))) (last_of q)) p q)) (graph_shapes graph)
 move_tree graph is k n p q st reserved r at_k fits f w =
-    ap (λ (o : Option ℕ). spell (move_effect graph st (last_of p) (last_of q) reserved r true o).graph) m.1
-    ∙ spell_moved graph is (k ++ st.source.walked) st.source.node (last_of p) (k ++ st.dest.walked) st.dest.node (last_of q) m.0 (record { from_at = from_at; to_at = to_at; there = m.1; aside = aside })
-    ∙ ap₂ (λ (s t : Key). move s t (write_all (rename_writes (eqb st.dest.node st.source.node) (k ++ st.source.walked) (names_of (graph.shape st.source.node)) (last_of p) (k ++ st.dest.walked) (names_of (graph.shape st.dest.node)) (last_of q)) (spell graph))) p_key q_key
-    ∙ ap (λ (ws : List (Key × Option Shape)). move (k ++ p) (k ++ q) (write_all ws (spell graph))) writes
+    ap (λ (o : Option ℕ). graph_shapes (move_effect graph st (last_of p) (last_of q) reserved r true o).graph) m.1
+    ∙ shapes_moved graph is (k ++ st.source.walked) st.source.node (last_of p) (k ++ st.dest.walked) st.dest.node (last_of q) m.0 (record { from_at = from_at; to_at = to_at; there = m.1; aside = aside })
+    ∙ ap₂ (λ (s t : Key). move s t (write_all (rename_writes (eqb st.dest.node st.source.node) (k ++ st.source.walked) (names_of (graph.shape st.source.node)) (last_of p) (k ++ st.dest.walked) (names_of (graph.shape st.dest.node)) (last_of q)) (graph_shapes graph))) p_key q_key
+    ∙ ap (λ (ws : List (Key × Option Shape)). move (k ++ p) (k ++ q) (write_all ws (graph_shapes graph))) writes
   where
-    m : (m : ℕ) × (graph.kid st.source.node (last_of p) ≡ Some m) × (graph.shape m ≡ Some w.moved)
+    m : (m : ℕ) × (graph.child st.source.node (last_of p) ≡ Some m) × (graph.shape m ≡ Some w.moved)
     m = some_entry graph st.source.node (last_of p) w.moved w.is
 
     from_at : numbers graph (k ++ st.source.walked) ≡ Some st.source.node
-    from_at = at_from graph.kid 0 n k st.source.walked at_k ∙ f.source_at
+    from_at = at_from graph.child 0 n k st.source.walked at_k ∙ f.source_at
 
     to_at : numbers graph (k ++ st.dest.walked) ≡ Some st.dest.node
-    to_at = at_from graph.kid 0 n k st.dest.walked at_k ∙ f.dest_at
+    to_at = at_from graph.child 0 n k st.dest.walked at_k ∙ f.dest_at
 
     d_is : parent_of p ≡ st.source.walked
     d_is = f.source_is ∙ ap (λ (l : Key). st.source.walked ++ l) (arrived (left st.source.walked (parent_of p)) (graph.shape st.source.node) w.source) ∙ append-nil st.source.walked
@@ -133,65 +133,65 @@ move_tree graph is k n p q st reserved r at_k fits f w =
     aside : Aside ((k ++ st.source.walked) ++ last_of p ∷ []) ((k ++ st.dest.walked) ++ last_of q ∷ [])
     aside = rw (p_key, q_key) (prefix_both k p q ∙ apart.0, prefix_both k q p ∙ apart.1)
 
-    names_at : (h : ℕ) (u d : Key) → d ≡ u → at graph.kid n u ≡ Some h → names_of (graph.shape h) ≡ names_of (spell_from graph n d)
-    names_at h u d i e = sym (ap (λ (l : Key). names_of (spell_from graph n l)) i ∙ ap (λ (o : Option ℕ). names_of (then_at o graph.shape)) e)
+    names_at : (h : ℕ) (u d : Key) → d ≡ u → at graph.child n u ≡ Some h → names_of (graph.shape h) ≡ names_of (shapes_from graph n d)
+    names_at h u d i e = sym (ap (λ (l : Key). names_of (shapes_from graph n l)) i ∙ ap (λ (o : Option ℕ). names_of (then_at o graph.shape)) e)
 
     same_name : eqb st.dest.node st.source.node ≡ is_end (after_prefix (parent_of p) (parent_of q))
     same_name = same_dirs graph is k st.source.walked st.dest.walked st.source.node st.dest.node from_at to_at ∙ ap₂ (λ (a b : Key). is_end (after_prefix a b)) (sym d_is) (sym e_is)
 
     writes : rename_writes (eqb st.dest.node st.source.node) (k ++ st.source.walked) (names_of (graph.shape st.source.node)) (last_of p) (k ++ st.dest.walked) (names_of (graph.shape st.dest.node)) (last_of q)
-        ≡ (change_under k (move_change true (rename_writes (is_end (after_prefix (parent_of p) (parent_of q))) (parent_of p) (names_of (spell_from graph n (parent_of p))) (last_of p) (parent_of q) (names_of (spell_from graph n (parent_of q))) (last_of q)) p q)).writes
+        ≡ (change_under k (move_change true (rename_writes (is_end (after_prefix (parent_of p) (parent_of q))) (parent_of p) (names_of (shapes_from graph n (parent_of p))) (last_of p) (parent_of q) (names_of (shapes_from graph n (parent_of q))) (last_of q)) p q)).writes
     writes =
         ap (λ (b : Bool). rename_writes b (k ++ st.source.walked) (names_of (graph.shape st.source.node)) (last_of p) (k ++ st.dest.walked) (names_of (graph.shape st.dest.node)) (last_of q)) same_name
         ∙ ap₂ (λ (a b : Key). rename_writes (is_end (after_prefix (parent_of p) (parent_of q))) (k ++ a) (names_of (graph.shape st.source.node)) (last_of p) (k ++ b) (names_of (graph.shape st.dest.node)) (last_of q)) (sym d_is) (sym e_is)
         ∙ ap₂ (λ (a b : List Name). rename_writes (is_end (after_prefix (parent_of p) (parent_of q))) (k ++ parent_of p) a (last_of p) (k ++ parent_of q) b (last_of q)) (names_at st.source.node st.source.walked (parent_of p) d_is f.source_at) (names_at st.dest.node st.dest.walked (parent_of q) e_is f.dest_at)
-        ∙ writes_at k (is_end (after_prefix (parent_of p) (parent_of q))) (parent_of p) (names_of (spell_from graph n (parent_of p))) (last_of p) (parent_of q) (names_of (spell_from graph n (parent_of q))) (last_of q)
+        ∙ writes_at k (is_end (after_prefix (parent_of p) (parent_of q))) (parent_of p) (names_of (shapes_from graph n (parent_of p))) (last_of p) (parent_of q) (names_of (shapes_from graph n (parent_of q))) (last_of q)
 
-looked_tree : (graph : Graph) → IsGraph graph → (k : Key) (s : Shape) (remaining : Form) (st : Stand) (reserved o : Option ℕ) → numbers graph k ≡ Some st.node → graph.shape st.node ≡ Some s → Fits remaining → StandsWell graph st.node remaining st → NumberFor graph remaining reserved → next_on graph remaining st ≡ Finishes o
-    → spell (effect_at graph remaining st reserved).graph ≡ changed (change_under k (looked (spell_from graph st.node) remaining).1) (spell graph)
-looked_tree graph is k s (AtNode c []) st reserved o at_k u fits well has e = on_tree graph is k st.node reserved (on_row c None (graph.shape st.node)) at_k
+looked_tree : (graph : Graph) → IsGraph graph → (k : Key) (s : Shape) (remaining : Form) (st : Holdings) (reserved o : Option ℕ) → numbers graph k ≡ Some st.node → graph.shape st.node ≡ Some s → Fits remaining → HeadsSound graph st.node remaining st → NumberFor graph remaining reserved → next_on graph remaining st ≡ Finishes o
+    → graph_shapes (effect_at graph remaining st reserved).graph ≡ changed (change_under k (looked (shapes_from graph st.node) remaining).1) (graph_shapes graph)
+looked_tree graph is k s (AtNode c []) st reserved o at_k u fits well has e = on_tree graph is k st.node reserved (node_row c None (graph.shape st.node)) at_k
 looked_tree graph is k s (AtNode c (x ∷ p)) st reserved o at_k u fits well has e =
-    on_none graph k c (x ∷ p) (resolve (spell_from graph st.node) (x ∷ p)) (walk_errno (graph.shape st.node)) (spell_from graph st.node (x ∷ p))
+    on_none graph k c (x ∷ p) (resolve (shapes_from graph st.node) (x ∷ p)) (walk_errno (graph.shape st.node)) (shapes_from graph st.node (x ∷ p))
     (path_read graph is st.node s (x ∷ p) u (head_stops graph st.node st.behind (x ∷ p) (Finishes None) o e).0)
 looked_tree graph is k s (AtEntry c []) st reserved o at_k u fits well has e = absurd (in_more c [] fits)
 looked_tree graph is k s (AtEntry c (x ∷ [])) st reserved o at_k u fits well has e =
     edit_tree graph is k st.node (names_of (graph.shape st.node)) c x reserved (row).0 (row).1 at_k has refl
-    ∙ ap (λ (r : Reply × Edit). changed (change_under k (edit_change [] (names_of (graph.shape st.node)) x (x ∷ []) r.1)) (spell graph)) (in_finish graph is st.node s c (x ∷ []) tt u tt)
+    ∙ ap (λ (r : Reply × Edit). changed (change_under k (edit_change [] (names_of (graph.shape st.node)) x (x ∷ []) r.1)) (graph_shapes graph)) (in_finish graph is st.node s c (x ∷ []) tt u tt)
   where
     row : Reply × Edit
-    row = in_row c (as_dir None (graph.shape st.node)) (is_full (graph.shape st.node)) (entry_shape graph st.node x)
+    row = entry_row c (as_dir None (graph.shape st.node)) (is_full (graph.shape st.node)) (entry_shape graph st.node x)
 looked_tree graph is k s (AtEntry c (x ∷ y ∷ p)) st reserved o at_k u fits well has e =
-    ap (λ (r : Reply × Edit). changed (change_under k (edit_change (x ∷ parent_of (y ∷ p)) (names_of (spell_from graph st.node (x ∷ parent_of (y ∷ p)))) (last_of (y ∷ p)) (x ∷ y ∷ p) r.1)) (spell graph))
+    ap (λ (r : Reply × Edit). changed (change_under k (edit_change (x ∷ parent_of (y ∷ p)) (names_of (shapes_from graph st.node (x ∷ parent_of (y ∷ p)))) (last_of (y ∷ p)) (x ∷ y ∷ p) r.1)) (graph_shapes graph))
     (in_finish graph is st.node s c (x ∷ y ∷ p) tt u (head_stops graph st.node st.behind (x ∷ parent_of (y ∷ p)) (target_move graph (AtEntry c (x ∷ y ∷ p)) st) o e).0)
 looked_tree graph is k s (AtPair pairs.Rename p q) st reserved o at_k u fits well has e = go (common (parent_of p) (parent_of q)) refl well e
   where
     after_row : Reply × Bool → Map Shape
-    after_row r = changed (change_under k (move_change r.1 (rename_writes (is_end (after_prefix (parent_of p) (parent_of q))) (parent_of p) (names_of (spell_from graph st.node (parent_of p))) (last_of p) (parent_of q) (names_of (spell_from graph st.node (parent_of q))) (last_of q)) p q)) (spell graph)
+    after_row r = changed (change_under k (move_change r.1 (rename_writes (is_end (after_prefix (parent_of p) (parent_of q))) (parent_of p) (names_of (shapes_from graph st.node (parent_of p))) (last_of p) (parent_of q) (names_of (shapes_from graph st.node (parent_of q))) (last_of q)) p q)) (graph_shapes graph)
 
-    by : ForkAt graph st.node p q st → (b : Bool) → (rename_at graph p q st).1 ≡ b → spell (move_effect graph st (last_of p) (last_of q) reserved (rename_at graph p q st).0 b (graph.kid st.source.node (last_of p))).graph ≡ changed (change_under k (move_change b (rename_writes (is_end (after_prefix (parent_of p) (parent_of q))) (parent_of p) (names_of (spell_from graph st.node (parent_of p))) (last_of p) (parent_of q) (names_of (spell_from graph st.node (parent_of q))) (last_of q)) p q)) (spell graph)
+    by : ForkAt graph st.node p q st → (b : Bool) → (rename_at graph p q st).1 ≡ b → graph_shapes (move_effect graph st (last_of p) (last_of q) reserved (rename_at graph p q st).0 b (graph.child st.source.node (last_of p))).graph ≡ changed (change_under k (move_change b (rename_writes (is_end (after_prefix (parent_of p) (parent_of q))) (parent_of p) (names_of (shapes_from graph st.node (parent_of p))) (last_of p) (parent_of q) (names_of (shapes_from graph st.node (parent_of q))) (last_of q)) p q)) (graph_shapes graph)
     by f false i = refl
     by f true i = move_tree graph is k st.node p q st reserved (rename_at graph p q st).0 at_k fits f (really (dir_error (left st.source.walked (parent_of p)) (graph.shape st.source.node)) (dir_error (left st.dest.walked (parent_of q)) (graph.shape st.dest.node)) (entry_shape graph st.source.node (last_of p)) (is_end (after_prefix p q)) (there_by (has_more (after_prefix q p)) (entry_shape graph st.dest.node (last_of q))) (is_end (after_prefix (parent_of p) (parent_of q)) || not (is_full (graph.shape st.dest.node))) i)
 
     go : (l : Key) → common (parent_of p) (parent_of q) ≡ l → ForkedAt graph st.node p q st l → first_of (head_move graph st.node st.behind l) (fork_move graph p q st) ≡ Finishes o
-        → spell (rename_effect graph p q st reserved l).graph ≡ changed (change_under k (looked (spell_from graph st.node) (AtPair pairs.Rename p q)).1) (spell graph)
+        → graph_shapes (rename_effect graph p q st reserved l).graph ≡ changed (change_under k (looked (shapes_from graph st.node) (AtPair pairs.Rename p q)).1) (graph_shapes graph)
     go [] i w f =
         let moves : fork_move graph p q st ≡ Finishes o = (head_stops graph st.node st.behind [] (fork_move graph p q st) o f).1 refl in
         let fork : ForkAt graph st.node p q st = fork_stops graph is st.node p q st o refl w moves in
         by fork (rename_at graph p q st).1 refl
-        ∙ ap (λ (r : Reply × Bool). changed (change_under k (move_change r.1 (rename_writes (is_end (after_prefix (parent_of p) (parent_of q))) (parent_of p) (names_of (spell_from graph st.node (parent_of p))) (last_of p) (parent_of q) (names_of (spell_from graph st.node (parent_of q))) (last_of q)) p q)) (spell graph))
+        ∙ ap (λ (r : Reply × Bool). changed (change_under k (move_change r.1 (rename_writes (is_end (after_prefix (parent_of p) (parent_of q))) (parent_of p) (names_of (shapes_from graph st.node (parent_of p))) (last_of p) (parent_of q) (names_of (shapes_from graph st.node (parent_of q))) (last_of q)) p q)) (graph_shapes graph))
         (rename_finish graph is st.node s p q st (from_more p q fits) (to_more p q fits) u fork)
     go (x ∷ l) i w f =
         let n_stops : Stops graph st.node (x ∷ l) = (head_stops graph st.node st.behind (x ∷ l) (fork_move graph p q st) o f).0 in
         let r : (r : Key) × (parent_of p ≡ common (parent_of p) (parent_of q) ++ r) = common_is (parent_of p) (parent_of q) in
         let d : parent_of p ≡ x ∷ (l ++ r.0) = r.1 ∙ ap (λ (k : Key). k ++ r.0) i in
-        let res : resolve_dir (spell_from graph st.node) (parent_of p) ≡ Some (walk_errno (graph.shape st.node)) = ap (resolve_dir (spell_from graph st.node)) d ∙ sym (dir_read graph is st.node st.node s [] (x ∷ (l ++ r.0)) u refl n_stops) in
-        ap (λ (z : Option Errno). changed (change_under k (move_change (rename_row z (resolve_dir (spell_from graph st.node) (parent_of q)) (spell_from graph st.node p) (is_end (after_prefix p q)) (spell_from graph st.node q) (is_end (after_prefix (parent_of p) (parent_of q)) || not (is_full (spell_from graph st.node (parent_of q))))).1 (rename_writes (is_end (after_prefix (parent_of p) (parent_of q))) (parent_of p) (names_of (spell_from graph st.node (parent_of p))) (last_of p) (parent_of q) (names_of (spell_from graph st.node (parent_of q))) (last_of q)) p q)) (spell graph)) (sym res)
+        let res : resolve_dir (shapes_from graph st.node) (parent_of p) ≡ Some (walk_errno (graph.shape st.node)) = ap (resolve_dir (shapes_from graph st.node)) d ∙ sym (dir_read graph is st.node st.node s [] (x ∷ (l ++ r.0)) u refl n_stops) in
+        ap (λ (z : Option Errno). changed (change_under k (move_change (rename_row z (resolve_dir (shapes_from graph st.node) (parent_of q)) (shapes_from graph st.node p) (is_end (after_prefix p q)) (shapes_from graph st.node q) (is_end (after_prefix (parent_of p) (parent_of q)) || not (is_full (shapes_from graph st.node (parent_of q))))).1 (rename_writes (is_end (after_prefix (parent_of p) (parent_of q))) (parent_of p) (names_of (shapes_from graph st.node (parent_of p))) (last_of p) (parent_of q) (names_of (shapes_from graph st.node (parent_of q))) (last_of q)) p q)) (graph_shapes graph)) (sym res)
 
 -- the tree that a finish leaves is the one that the present call leaves
-pub finish_tree : (graph : Graph) → IsGraph graph → (k : Key) (s : Shape) (remaining : Form) (st : Stand) (reserved o : Option ℕ) → numbers graph k ≡ Some st.node → graph.shape st.node ≡ Some s → Fits remaining → StandsWell graph st.node remaining st → NumberFor graph remaining reserved → next_on graph remaining st ≡ Finishes o
-    → spell (effect_at graph remaining st reserved).graph ≡ after (spell graph) (under k remaining)
+pub finish_tree : (graph : Graph) → IsGraph graph → (k : Key) (s : Shape) (remaining : Form) (st : Holdings) (reserved o : Option ℕ) → numbers graph k ≡ Some st.node → graph.shape st.node ≡ Some s → Fits remaining → HeadsSound graph st.node remaining st → NumberFor graph remaining reserved → next_on graph remaining st ≡ Finishes o
+    → graph_shapes (effect_at graph remaining st reserved).graph ≡ after (graph_shapes graph) (under k remaining)
 finish_tree graph is k s remaining st reserved o at_k u fits well has e =
     looked_tree graph is k s remaining st reserved o at_k u fits well has e
-    ∙ ap (λ (z : Option Errno). changed (change_under k (unless z (looked (spell_from graph st.node) remaining)).1) (spell graph)) (sym fits)
-    ∙ ap (λ (t : Map Shape). changed (change_under k (outcome t remaining).1) (spell graph)) (sym (below_is graph k st.node at_k))
-    ∙ sym (ap (λ (r : Reply × Change). changed r.1 (spell graph)) (outcome_located (spell graph) k remaining (resolve_at graph is st.node k at_k) fits))
+    ∙ ap (λ (z : Option Errno). changed (change_under k (if_sound z (looked (shapes_from graph st.node) remaining)).1) (graph_shapes graph)) (sym fits)
+    ∙ ap (λ (t : Map Shape). changed (change_under k (outcome t remaining).1) (graph_shapes graph)) (sym (below_is graph k st.node at_k))
+    ∙ sym (ap (λ (r : Reply × Change). changed r.1 (graph_shapes graph)) (outcome_located (graph_shapes graph) k remaining (resolve_at graph is st.node k at_k) fits))

@@ -4,8 +4,8 @@ use Rattle.fs_names.specs.Keys.{Key, after_prefix}
 use Rattle.fs_names.specs.Names.{Name, inserted_name, removed_name}
 use Rattle.fs_names.specs.Shapes.{Shape, Dir, File, names_of}
 use Rattle.fs_laws.specs.Maps.{Map, put, put_at, move, moved_to, moved_from}
-use Rattle.fs_nodes.specs.Graphs.{Graph, Kids, numbers, IsGraph, set_kid, set_at, content_in, linked_in, unlinked_in, moved_in}
-use Rattle.fs_machine.specs.Records.{Holds, Stand}
+use Rattle.fs_nodes.specs.Graphs.{Graph, Children, numbers, IsGraph, set_child, set_at, content_in, linked_in, unlinked_in, moved_in}
+use Rattle.fs_machine.specs.Records.{Holds, Holdings}
 use Rattle.fs_laws.proofs.trees.Prefixes.{prefix_append}
 use Rattle.fs_laws.proofs.graphs.Walks.{at_child, set_else}
 use Rattle.fs_laws.proofs.graphs.TreesOfChanges.{CanLink, CanUnlink, CanMove, numbers_linked, numbers_unlinked, numbers_moved}
@@ -51,21 +51,21 @@ abbrev pub Reached : Graph → ℕ → Type 0
 Reached graph n = (k : Key) × (numbers graph k ≡ Some n)
 
 -- what a change by a call that stands so leaves; linked is the number that it links, if any
-pub record Altered (old new : Graph) (linked : Option ℕ) (st : Stand) : Type 0 where
+pub record Altered (old new : Graph) (linked : Option ℕ) (st : Holdings) : Type 0 where
   pub is_graph : IsGraph new
   pub reach : (l : Key) (n : ℕ) → numbers new l ≡ Some n → Reached old n ⊎ (linked ≡ Some n)
   pub shapes : Shapes old.shape new.shape (Reached old)
-  pub kid_same : (m : ℕ) (x : Name) → (Holds st m → ⊥) → new.kid m x ≡ old.kid m x
+  pub child_same : (m : ℕ) (x : Name) → (Holds st m → ⊥) → new.child m x ≡ old.child m x
 
-pub altered_same : (graph : Graph) (st : Stand) → IsGraph graph → Altered graph graph None st
-altered_same graph st is = record { is_graph = is; reach = λ l n e. inl (l, e); shapes = shapes_same graph.shape (Reached graph); kid_same = λ m x h. refl }
+pub altered_same : (graph : Graph) (st : Holdings) → IsGraph graph → Altered graph graph None st
+altered_same graph st is = record { is_graph = is; reach = λ l n e. inl (l, e); shapes = shapes_same graph.shape (Reached graph); child_same = λ m x h. refl }
 
-pub altered_content : (graph : Graph) (st : Stand) (k : Key) (bytes old : List ℕ) → IsGraph graph → numbers graph k ≡ Some st.node → graph.shape st.node ≡ Some (File old) → Altered graph (content_in st.node bytes graph) None st
+pub altered_content : (graph : Graph) (st : Holdings) (k : Key) (bytes old : List ℕ) → IsGraph graph → numbers graph k ≡ Some st.node → graph.shape st.node ≡ Some (File old) → Altered graph (content_in st.node bytes graph) None st
 altered_content graph st k bytes old is at_k file = record {
   is_graph = graph_content graph st.node old bytes file is;
   reach = λ l n e. inl (l, e);
   shapes = shapes_set graph.shape (Reached graph) st.node (File bytes) (File old) (k, at_k) file;
-  kid_same = λ m x h. refl;
+  child_same = λ m x h. refl;
 }
 
 put_reach : (t : Key) (v : Option ℕ) (tree : Map ℕ) (l : Key) (n : ℕ) → put t v tree l ≡ Some n → (tree l ≡ Some n) ⊎ (v ≡ Some n)
@@ -76,27 +76,27 @@ put_reach t v tree l n e = go (after_prefix t l) e
     go (Some []) e = inr e
     go (Some (x ∷ r)) e = inl e
 
-kid_else : (dir : ℕ) (x : Name) (v : Option ℕ) (kid : Kids) (st : Stand) → Holds st dir → (m : ℕ) (y : Name) → (Holds st m → ⊥) → set_kid dir x v kid m y ≡ kid m y
-kid_else dir x v kid st held m y h = set_else dir x v kid m y (λ i j. h (subst (Holds st) (sym i) held))
+child_else : (dir : ℕ) (x : Name) (v : Option ℕ) (child : Children) (st : Holdings) → Holds st dir → (m : ℕ) (y : Name) → (Holds st m → ⊥) → set_child dir x v child m y ≡ child m y
+child_else dir x v child st held m y h = set_else dir x v child m y (λ i j. h (subst (Holds st) (sym i) held))
 
-pub altered_linked : (graph : Graph) (st : Stand) (k : Key) (x : Name) (n : ℕ) (names : List Name) → IsGraph graph → CanLink graph k st.node x n → graph.shape st.node ≡ Some (Dir names) → Altered graph (linked_in st.node x n graph) (Some n) st
+pub altered_linked : (graph : Graph) (st : Holdings) (k : Key) (x : Name) (n : ℕ) (names : List Name) → IsGraph graph → CanLink graph k st.node x n → graph.shape st.node ≡ Some (Dir names) → Altered graph (linked_in st.node x n graph) (Some n) st
 altered_linked graph st k x n names is can dir = record {
   is_graph = graph_linked graph is k st.node x n names can dir;
   reach = λ l m e. reach l m (put_reach (k ++ x ∷ []) (Some n) (numbers graph) l m (ap (λ (t : Map ℕ). t l) (sym (numbers_linked graph is k st.node x n can)) ∙ e));
   shapes = shapes_set graph.shape (Reached graph) st.node (Dir (inserted_name x (names_of (graph.shape st.node)))) (Dir names) (k, can.dir_at) dir;
-  kid_same = λ m y h. kid_else st.node x (Some n) graph.kid st (inl refl) m y h;
+  child_same = λ m y h. child_else st.node x (Some n) graph.child st (inl refl) m y h;
 }
   where
     reach : (l : Key) (m : ℕ) → (numbers graph l ≡ Some m) ⊎ (Some n ≡ Some m) → Reached graph m ⊎ (Some n ≡ Some m)
     reach l m (inl e) = inl (l, e)
     reach l m (inr e) = inr e
 
-pub altered_unlinked : (graph : Graph) (st : Stand) (k : Key) (x : Name) (n : ℕ) (names : List Name) → IsGraph graph → CanUnlink graph k st.node x n → graph.shape st.node ≡ Some (Dir names) → Altered graph (unlinked_in st.node x graph) None st
+pub altered_unlinked : (graph : Graph) (st : Holdings) (k : Key) (x : Name) (n : ℕ) (names : List Name) → IsGraph graph → CanUnlink graph k st.node x n → graph.shape st.node ≡ Some (Dir names) → Altered graph (unlinked_in st.node x graph) None st
 altered_unlinked graph st k x n names is can dir = record {
   is_graph = graph_unlinked graph is k st.node x n names can dir;
   reach = λ l m e. reach l m (put_reach (k ++ x ∷ []) None (numbers graph) l m (ap (λ (t : Map ℕ). t l) (sym (numbers_unlinked graph is k st.node x n can)) ∙ e));
   shapes = shapes_set graph.shape (Reached graph) st.node (Dir (removed_name x (names_of (graph.shape st.node)))) (Dir names) (k, can.dir_at) dir;
-  kid_same = λ m y h. kid_else st.node x None graph.kid st (inl refl) m y h;
+  child_same = λ m y h. child_else st.node x None graph.child st (inl refl) m y h;
 }
   where
     reach : (l : Key) (m : ℕ) → (numbers graph l ≡ Some m) ⊎ (None ≡ Some m) → Reached graph m ⊎ (None ≡ Some m)
@@ -108,7 +108,7 @@ pub unlinked_gone : (graph : Graph) → IsGraph graph → (k : Key) (dir : ℕ) 
 unlinked_gone graph is k dir x n can l e = go (after_prefix (k ++ x ∷ []) l) refl (ap (λ (t : Map ℕ). t l) (sym (numbers_unlinked graph is k dir x n can)) ∙ e)
   where
     at_t : numbers graph (k ++ x ∷ []) ≡ Some n
-    at_t = at_child graph.kid 0 dir k x can.dir_at ∙ can.there
+    at_t = at_child graph.child 0 dir k x can.dir_at ∙ can.there
 
     same_key : numbers graph l ≡ Some n → (o : Option Key) → after_prefix (k ++ x ∷ []) l ≡ o → o ≡ Some []
     same_key f o i =
@@ -132,7 +132,7 @@ move_reach s t tree l n e = go (after_prefix t l) e
     go (Some r) e = (s ++ r, e)
     go None e = elsewhere (after_prefix s l) e
 
-pub altered_moved : (graph : Graph) (st : Stand) → IsGraph graph → (kf : Key) (x : Name) (kt : Key) (y : Name) (n : ℕ) (names others : List Name) → CanMove graph kf st.source.node x kt st.dest.node y n
+pub altered_moved : (graph : Graph) (st : Holdings) → IsGraph graph → (kf : Key) (x : Name) (kt : Key) (y : Name) (n : ℕ) (names others : List Name) → CanMove graph kf st.source.node x kt st.dest.node y n
     → graph.shape st.source.node ≡ Some (Dir names) → graph.shape st.dest.node ≡ Some (Dir others) → Replaced graph st.dest.node y → Holds st st.source.node → Holds st st.dest.node
     → Altered graph (moved_in st.source.node x st.dest.node y n graph) None st
 altered_moved graph st is kf x kt y n names others can from_dir to_dir replaced from_held to_held = record {
@@ -140,7 +140,7 @@ altered_moved graph st is kf x kt y n names others can from_dir to_dir replaced 
   reach = λ l m e. inl (move_reach (kf ++ x ∷ []) (kt ++ y ∷ []) (numbers graph) l m (ap (λ (t : Map ℕ). t l) (sym (numbers_moved graph is kf st.source.node x kt st.dest.node y n can)) ∙ e));
   shapes = shapes_then graph.shape cut (set_at st.dest.node (Some (Dir (inserted_name y (names_of (cut st.dest.node))))) cut) (Reached graph) first
       (shapes_set cut (Reached graph) st.dest.node (Dir (inserted_name y (names_of (cut st.dest.node)))) in_use.0 (kt, can.to_at) in_use.1);
-  kid_same = λ m z h. kid_else st.dest.node y (Some n) (set_kid st.source.node x None graph.kid) st to_held m z h ∙ kid_else st.source.node x None graph.kid st from_held m z h;
+  child_same = λ m z h. child_else st.dest.node y (Some n) (set_child st.source.node x None graph.child) st to_held m z h ∙ child_else st.source.node x None graph.child st from_held m z h;
 }
   where
     cut : ℕ → Option Shape
@@ -153,11 +153,11 @@ altered_moved graph st is kf x kt y n names others can from_dir to_dir replaced 
     in_use = first.to_new st.dest.node (Dir others) to_dir
 
 -- the victim of a move is nowhere
-pub moved_gone : (graph : Graph) → IsGraph graph → (kf : Key) (from : ℕ) (x : Name) (kt : Key) (to : ℕ) (y : Name) (n v : ℕ) → CanMove graph kf from x kt to y n → graph.kid to y ≡ Some v → (l : Key) → numbers (moved_in from x to y n graph) l ≡ Some v → ⊥
+pub moved_gone : (graph : Graph) → IsGraph graph → (kf : Key) (from : ℕ) (x : Name) (kt : Key) (to : ℕ) (y : Name) (n v : ℕ) → CanMove graph kf from x kt to y n → graph.child to y ≡ Some v → (l : Key) → numbers (moved_in from x to y n graph) l ≡ Some v → ⊥
 moved_gone graph is kf from x kt to y n v can there l e = go (after_prefix (kt ++ y ∷ []) l) refl (ap (λ (t : Map ℕ). t l) (sym (numbers_moved graph is kf from x kt to y n can)) ∙ e)
   where
     at_t : numbers graph (kt ++ y ∷ []) ≡ Some v
-    at_t = at_child graph.kid 0 to kt y can.to_at ∙ there
+    at_t = at_child graph.child 0 to kt y can.to_at ∙ there
 
     elsewhere : (o : Option Key) → after_prefix (kt ++ y ∷ []) l ≡ None → moved_from (numbers graph) l o ≡ Some v → ⊥
     elsewhere (Some r) i f = cc

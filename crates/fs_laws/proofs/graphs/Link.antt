@@ -29,9 +29,9 @@ graph_linked graph is kd dir x n names can dir_is = record {
     stays : (m : ℕ) (key : Key) → numbers graph key ≡ Some m → numbers (linked_in dir x n graph) key ≡ Some m
     stays m key e =
         ap (λ (t : Map ℕ). t key) new_numbers
-        ∙ put_other (kd ++ x ∷ []) (Some n) (numbers graph) key (λ i. (let z : ◌≡◌ {A = Option ℕ} (Some m) None = sym e ∙ ap (numbers graph) i ∙ at_child graph.kid 0 dir kd x can.dir_at ∙ can.free in cc))
+        ∙ put_other (kd ++ x ∷ []) (Some n) (numbers graph) key (λ i. (let z : ◌≡◌ {A = Option ℕ} (Some m) None = sym e ∙ ap (numbers graph) i ∙ at_child graph.child 0 dir kd x can.dir_at ∙ can.free in cc))
         ∙ e
 
-    loose : (m q : ℕ) (z : Name) (b c : Bool) → eqb m dir ≡ b → cond (b && c) (Some n) (graph.kid m z) ≡ Some q → (key : Key) × (numbers (linked_in dir x n graph) key ≡ Some m)
+    loose : (m q : ℕ) (z : Name) (b c : Bool) → eqb m dir ≡ b → cond (b && c) (Some n) (graph.child m z) ≡ Some q → (key : Key) × (numbers (linked_in dir x n graph) key ≡ Some m)
     loose m q z true c i e = (kd, stays m kd (can.dir_at ∙ ap (λ (d : ℕ). Some d) (sym (eqb_true m dir i))))
     loose m q z false c i e = let l : (key : Key) × (numbers graph key ≡ Some m) = is.loose m q z e in (l.0, stays m l.0 l.1)

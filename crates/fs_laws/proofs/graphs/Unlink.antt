@@ -12,7 +12,7 @@ use Rattle.fs_laws.proofs.graphs.Local.{Local, local_of, local_unlinked}
 
 pub graph_unlinked : (graph : Graph) → IsGraph graph → (kd : Key) (dir : ℕ) (x : Name) (n : ℕ) (names : List Name) → CanUnlink graph kd dir x n → graph.shape dir ≡ Some (Dir names) → IsGraph (unlinked_in dir x graph)
 graph_unlinked graph is kd dir x n names can dir_is = record {
-  one_key = λ a b m e f. is.one_key a b m (at_cut graph.kid dir x 0 m a e) (at_cut graph.kid dir x 0 m b f);
+  one_key = λ a b m e f. is.one_key a b m (at_cut graph.child dir x 0 m a e) (at_cut graph.child dir x 0 m b f);
   of_dir = all.of_dir;
   to_used = all.to_used;
   listed = all.listed;
@@ -20,22 +20,22 @@ graph_unlinked graph is kd dir x n names can dir_is = record {
   loose = λ m q z e. loose m q z (was m q z (eqb m dir && same_name z x) e);
 }
   where
-    was : (m q : ℕ) (z : Name) (b : Bool) → cond b None (graph.kid m z) ≡ Some q → graph.kid m z ≡ Some q
+    was : (m q : ℕ) (z : Name) (b : Bool) → cond b None (graph.child m z) ≡ Some q → graph.child m z ≡ Some q
     was m q z true e = cc
     was m q z false e = e
 
     all : Local (unlinked_in dir x graph)
     all = local_unlinked graph (local_of graph is) dir x names dir_is
 
-    loose : (m q : ℕ) (z : Name) → graph.kid m z ≡ Some q → (key : Key) × (numbers (unlinked_in dir x graph) key ≡ Some m)
+    loose : (m q : ℕ) (z : Name) → graph.child m z ≡ Some q → (key : Key) × (numbers (unlinked_in dir x graph) key ≡ Some m)
     loose m q z e =
         let l : (key : Key) × (numbers graph key ≡ Some m) = is.loose m q z e in (
           l.0,
           ap (λ (t : Map ℕ). t l.0) (numbers_unlinked graph is kd dir x n can)
               ∙ put_other (kd ++ x ∷ []) None (numbers graph) l.0 (λ i.
-              (let a : ◌≡◌ {A = Option ℕ} (Some m) (Some n) = sym l.1 ∙ ap (numbers graph) i ∙ at_child graph.kid 0 dir kd x can.dir_at ∙ can.there in
+              (let a : ◌≡◌ {A = Option ℕ} (Some m) (Some n) = sym l.1 ∙ ap (numbers graph) i ∙ at_child graph.child 0 dir kd x can.dir_at ∙ can.there in
               let b : m ≡ n = cc in
-              let c : ◌≡◌ {A = Option ℕ} None (Some q) = sym (can.leaf z) ∙ ap (λ (d : ℕ). graph.kid d z) (sym b) ∙ e in
+              let c : ◌≡◌ {A = Option ℕ} None (Some q) = sym (can.leaf z) ∙ ap (λ (d : ℕ). graph.child d z) (sym b) ∙ e in
               cc))
               ∙ l.1,
         )

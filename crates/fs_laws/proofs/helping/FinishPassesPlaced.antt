@@ -5,18 +5,18 @@ use Rattle.fs_names.specs.Keys.{Key, after_prefix, has_more, parent_of, last_of}
 use Rattle.fs_names.specs.Names.{Name, same_name, inserted_name, removed_name}
 use Rattle.fs_names.specs.Parts.{is_end, HasNames}
 use Rattle.fs_names.specs.Shapes.{Shape, Dir, File, is_full, names_of}
-use Rattle.fs_laws.specs.Changes.{Change, moved_by, changed, resolve, resolve_dir, content_change, edit_change, rename_writes, move_change, in_looked, rename_looked, looked, unless, outcome, reply, after}
+use Rattle.fs_laws.specs.Changes.{Change, moved_by, changed, resolve, resolve_dir, content_change, edit_change, rename_writes, move_change, entry_looked, rename_looked, looked, if_sound, outcome, reply, after}
 use Rattle.fs_calls.specs.Forms.{Form, AtNode, AtEntry, AtPair, by_text, under, Fits}
 use Rattle.fs_calls.specs.declared.target.PairCall.TheVariants as pairs
 use Rattle.fs_calls.specs.declared.target.EntryCall.{EntryCall}
 use Rattle.fs_calls.specs.declared.target.EntryCall.TheVariants.{Mkdir, Mknod, Unlink, Rmdir}
 use Rattle.fs_laws.specs.Maps.{Map, below, act, put, move, write_all}
-use Rattle.fs_calls.specs.Rows.{as_dir, on_row, Edit, Keep, Add, Remove, made, in_there, in_row, to_row, moves_row, from_row, rename_row}
+use Rattle.fs_calls.specs.Rows.{as_dir, node_row, Edit, Keep, Add, Remove, made, entry_row_in_dir, entry_row, to_row, moves_row, rename_row_in_dirs, rename_row}
 use Rattle.fs_calls.proofs.RowNames.{on_dir}
 use Rattle.fs_calls.specs.declared.errno.Errno.{Errno}
 use Rattle.fs_calls.specs.declared.reply.Reply.{Reply}
 use Rattle.fs_machine.specs.Moves.{victim_of, same_kind}
-use Rattle.fs_laws.specs.Placed.{NoneUnder, kind, Agree, looks_into, Blind, Aside, AllOff, ClearMove, Clear, rekey, rekey_by, rekey_move, rekey_all, Standing, Passes, PastAll}
+use Rattle.fs_laws.specs.Placed.{NoneUnder, kind, Agree, looks_into, ReadsNothingBelow, Aside, AllOff, MovesNothingBelow, ChangesNothingBelow, rekey, rekey_by, rekey_move, rekey_all, InPlace, Passes, PastAll}
 use Rattle.fs_laws.specs.Settled.{settle, settle_replies}
 use Rattle.fs_laws.proofs.trees.Prefixes.{same_true, prefix_append, prefix_some, prefix_none, prefix_longer}
 use Rattle.fs_laws.proofs.trees.Commuting.{act_in, act_out, inside_differs, put_other, move_act_under, move_act_apart, move_to, move_else}
@@ -84,7 +84,7 @@ made_kind new full None (Some (File n)) h = cc
 made_kind new full (Some (Dir n)) None h = cc
 made_kind new full (Some (File n)) None h = cc
 
-in_kind : (c : EntryCall) (full : Bool) (s t : Option Shape) → victim_of c s ≡ false → kind s ≡ kind t → in_there c full s ≡ in_there c full t
+in_kind : (c : EntryCall) (full : Bool) (s t : Option Shape) → victim_of c s ≡ false → kind s ≡ kind t → entry_row_in_dir c full s ≡ entry_row_in_dir c full t
 in_kind Mkdir full s t v h = made_kind (Dir []) full s t h
 in_kind Mknod full s t v h = made_kind (File []) full s t h
 in_kind Unlink full None None v h = refl
@@ -102,7 +102,7 @@ in_kind Rmdir full (Some (File n)) (Some (File m)) v h = refl
 in_kind Rmdir full (Some (File n)) (Some (Dir m)) v h = cc
 in_kind Rmdir full (Some (Dir n)) t v h = cc
 
-row_in_kind : (c : EntryCall) (e : Option Errno) (full : Bool) (s t : Option Shape) → in_there c full s ≡ in_there c full t → in_row c e full s ≡ in_row c e full t
+row_in_kind : (c : EntryCall) (e : Option Errno) (full : Bool) (s t : Option Shape) → entry_row_in_dir c full s ≡ entry_row_in_dir c full t → entry_row c e full s ≡ entry_row c e full t
 row_in_kind c (Some e) full s t h = refl
 row_in_kind c None full s t h = h
 
@@ -140,7 +140,7 @@ to_there (File m) (Some (Dir n)) (Some (Dir q)) room v h = refl
 to_there (Dir m) (Some (File n)) (Some (Dir q)) room v h = cc
 to_there (File m) (Some (Dir n)) (Some (File q)) room v h = cc
 
-from_moved : (m n : Option Shape) (same_path : Bool) (s : Option Shape) (room : Bool) → kind m ≡ kind n → from_row m same_path s room ≡ from_row n same_path s room
+from_moved : (m n : Option Shape) (same_path : Bool) (s : Option Shape) (room : Bool) → kind m ≡ kind n → rename_row_in_dirs m same_path s room ≡ rename_row_in_dirs n same_path s room
 from_moved None None same_path s room h = refl
 from_moved (Some m) (Some n) true s room h = refl
 from_moved (Some m) (Some n) false s room h = ap moves_row (to_moved m n s room h)
@@ -149,7 +149,7 @@ from_moved None (Some (File n)) same_path s room h = cc
 from_moved (Some (Dir n)) None same_path s room h = cc
 from_moved (Some (File n)) None same_path s room h = cc
 
-from_there : (m : Option Shape) (same_path : Bool) (s t : Option Shape) (room : Bool) → (same_path ≡ false → same_kind m s ≡ true → s ≡ t) → kind s ≡ kind t → from_row m same_path s room ≡ from_row m same_path t room
+from_there : (m : Option Shape) (same_path : Bool) (s t : Option Shape) (room : Bool) → (same_path ≡ false → same_kind m s ≡ true → s ≡ t) → kind s ≡ kind t → rename_row_in_dirs m same_path s room ≡ rename_row_in_dirs m same_path t room
 from_there None same_path s t room v h = refl
 from_there (Some m) true s t room v h = refl
 from_there (Some m) false s t room v h = ap moves_row (go (same_kind (Some m) s) refl)
@@ -158,26 +158,26 @@ from_there (Some m) false s t room v h = ap moves_row (go (same_kind (Some m) s)
     go true e = ap (λ (o : Option Shape). to_row m o room) (v refl e)
     go false e = to_there m s t room e h
 
-rename_kind : (d e f : Option Errno) (m n : Option Shape) (b : Bool) (s t : Option Shape) (r u : Bool) → (d ≡ None → (e ≡ f) × (from_row m b s r ≡ from_row n b t u)) → rename_row d e m b s r ≡ rename_row d f n b t u
+rename_kind : (d e f : Option Errno) (m n : Option Shape) (b : Bool) (s t : Option Shape) (r u : Bool) → (d ≡ None → (e ≡ f) × (rename_row_in_dirs m b s r ≡ rename_row_in_dirs n b t u)) → rename_row d e m b s r ≡ rename_row d f n b t u
 rename_kind (Some d) e f m n b s t r u h = refl
 rename_kind None e f m n b s t r u h = go e f (h refl)
   where
-    go : (e f : Option Errno) → (e ≡ f) × (from_row m b s r ≡ from_row n b t u) → rename_row None e m b s r ≡ rename_row None f n b t u
+    go : (e f : Option Errno) → (e ≡ f) × (rename_row_in_dirs m b s r ≡ rename_row_in_dirs n b t u) → rename_row None e m b s r ≡ rename_row None f n b t u
     go None None i = i.1
     go (Some e) (Some f) i = let z : ◌≡◌ {A = Option Errno} (Some e) (Some f) = i.0 in cc
     go None (Some f) i = let z : ◌≡◌ {A = Option Errno} None (Some f) = i.0 in cc
     go (Some e) None i = let z : ◌≡◌ {A = Option Errno} (Some e) None = i.0 in cc
 
 -- a call that reads nothing below k answers the same on trees that agree
-in_agree : (k : Key) (a b : Map Shape) (c : EntryCall) (p : Key) → HasNames p → Agree k a b → Blind a (AtEntry c p) k → in_looked a c p (parent_of p) (last_of p) ≡ in_looked b c p (parent_of p) (last_of p)
+in_agree : (k : Key) (a b : Map Shape) (c : EntryCall) (p : Key) → HasNames p → Agree k a b → ReadsNothingBelow a (AtEntry c p) k → entry_looked a c p (parent_of p) (last_of p) ≡ entry_looked b c p (parent_of p) (last_of p)
 in_agree k a b c p m g h =
     let da : Option Errno = resolve_dir a (parent_of p) in
-    let row : in_row c da (is_full (a (parent_of p))) (a p) ≡ in_row c da (is_full (a (parent_of p))) (b p) = row_in_kind c da (is_full (a (parent_of p))) (a p) (b p) (there (victim_of c (a p)) refl) in
+    let row : entry_row c da (is_full (a (parent_of p))) (a p) ≡ entry_row c da (is_full (a (parent_of p))) (b p) = row_in_kind c da (is_full (a (parent_of p))) (a p) (b p) (there (victim_of c (a p)) refl) in
     ap (λ (r : Reply × Edit). (r.0, edit_change (parent_of p) (names_of (a (parent_of p))) (last_of p) p r.1)) row
-    ∙ ap₂ (λ (e : Option Errno) (s : Option Shape). ((in_row c e (is_full s) (b p)).0, edit_change (parent_of p) (names_of s) (last_of p) p (in_row c e (is_full s) (b p)).1)) (dir_agree k (parent_of p) a b g h.0) (g.off (parent_of p) h.0)
+    ∙ ap₂ (λ (e : Option Errno) (s : Option Shape). ((entry_row c e (is_full s) (b p)).0, edit_change (parent_of p) (names_of s) (last_of p) p (entry_row c e (is_full s) (b p)).1)) (dir_agree k (parent_of p) a b g h.0) (g.off (parent_of p) h.0)
   where
-    there : (v : Bool) → victim_of c (a p) ≡ v → in_there c (is_full (a (parent_of p))) (a p) ≡ in_there c (is_full (a (parent_of p))) (b p)
-    there true e = ap (in_there c (is_full (a (parent_of p)))) (g.off p (h.1 e))
+    there : (v : Bool) → victim_of c (a p) ≡ v → entry_row_in_dir c (is_full (a (parent_of p))) (a p) ≡ entry_row_in_dir c (is_full (a (parent_of p))) (b p)
+    there true e = ap (entry_row_in_dir c (is_full (a (parent_of p)))) (g.off p (h.1 e))
     there false e = in_kind c (is_full (a (parent_of p))) (a p) (b p) e (kind_agree k a b p g m h.0)
 
 -- q is a proper prefix of p: it is not below k, as it is at or above p's parent
@@ -194,7 +194,7 @@ prefix_off k p q (Some (x ∷ r)) m e b h = prefix_before k q (parent_of (x ∷ 
 abbrev answer_of : Key → Key → Key → Name → Key → Name → List Name → List Name → Reply × Bool → Reply × Change
 answer_of p q d x e y names others r = (r.0, move_change r.1 (rename_writes (is_end (after_prefix d e)) d names x e others y) p q)
 
-rename_agree : (k : Key) (a b : Map Shape) (p q d e : Key) (x y : Name) → d ≡ parent_of p → e ≡ parent_of q → HasNames p → HasNames q → Agree k a b → Blind a (AtPair pairs.Rename p q) k
+rename_agree : (k : Key) (a b : Map Shape) (p q d e : Key) (x y : Name) → d ≡ parent_of p → e ≡ parent_of q → HasNames p → HasNames q → Agree k a b → ReadsNothingBelow a (AtPair pairs.Rename p q) k
     → rename_looked a p q d x e y ≡ rename_looked b p q d x e y
 rename_agree k a b p q d e x y is_d is_e mp mq g h = by (resolve_dir a d) refl
   where
@@ -252,19 +252,19 @@ rename_agree k a b p q d e x y is_d is_e mp mq g h = by (resolve_dir a d) refl
                   ∙ from_moved (a p) (b p) (is_end (after_prefix p q)) (b q) (is_end (after_prefix d e) || not (is_full (a e))) p_kind,
             ))
 
-pub outcome_agree : (k : Key) (a b : Map Shape) (call : Form) → Agree k a b → Blind a call k → outcome a call ≡ outcome b call
-outcome_agree k a b (AtNode c p) g h = ap₂ (λ (e : Option Errno) (s : Option Shape). ((on_row c e s).0, content_change p (on_row c e s).1)) (resolve_agree k p a b g h) (g.off p h)
+pub outcome_agree : (k : Key) (a b : Map Shape) (call : Form) → Agree k a b → ReadsNothingBelow a call k → outcome a call ≡ outcome b call
+outcome_agree k a b (AtNode c p) g h = ap₂ (λ (e : Option Errno) (s : Option Shape). ((node_row c e s).0, content_change p (node_row c e s).1)) (resolve_agree k p a b g h) (g.off p h)
 outcome_agree k a b (AtEntry c p) g h = go p g h
   where
-    go : (p : Key) → Agree k a b → Blind a (AtEntry c p) k → outcome a (AtEntry c p) ≡ outcome b (AtEntry c p)
+    go : (p : Key) → Agree k a b → ReadsNothingBelow a (AtEntry c p) k → outcome a (AtEntry c p) ≡ outcome b (AtEntry c p)
     go [] g h = refl
     go (x ∷ p) g h = in_agree k a b c (x ∷ p) tt g h
 outcome_agree k a b (AtPair pairs.Rename p q) g h = go p q g h
   where
-    go : (p q : Key) → Agree k a b → Blind a (AtPair pairs.Rename p q) k → outcome a (AtPair pairs.Rename p q) ≡ outcome b (AtPair pairs.Rename p q)
+    go : (p q : Key) → Agree k a b → ReadsNothingBelow a (AtPair pairs.Rename p q) k → outcome a (AtPair pairs.Rename p q) ≡ outcome b (AtPair pairs.Rename p q)
     go [] q g h = refl
     go (x ∷ p) [] g h = refl
-    go (x ∷ p) (y ∷ q) g h = ap (unless (by_text (AtPair pairs.Rename (x ∷ p) (y ∷ q)))) (rename_agree k a b (x ∷ p) (y ∷ q) (parent_of (x ∷ p)) (parent_of (y ∷ q)) (last_of (x ∷ p)) (last_of (y ∷ q)) refl refl tt tt g h)
+    go (x ∷ p) (y ∷ q) g h = ap (if_sound (by_text (AtPair pairs.Rename (x ∷ p) (y ∷ q)))) (rename_agree k a b (x ∷ p) (y ∷ q) (parent_of (x ∷ p)) (parent_of (y ∷ q)) (last_of (x ∷ p)) (last_of (y ∷ q)) refl refl tt tt g h)
 
 -- looks_into reads kinds alone
 same_kind_kind : (s t u v : Option Shape) → kind s ≡ kind u → kind t ≡ kind v → same_kind s t ≡ same_kind u v
@@ -304,7 +304,7 @@ victim_kind c (Some (Dir t)) None h = cc
 victim_kind c (Some (File t)) None h = cc
 
 -- what is blind to k2 on one tree is so on another that agrees off k
-pub blind_agree : (k j : Key) (a b : Map Shape) (call : Form) → Agree k a b → Fits call → Blind a call k → Blind a call j → Blind b call j
+pub blind_agree : (k j : Key) (a b : Map Shape) (call : Form) → Agree k a b → Fits call → ReadsNothingBelow a call k → ReadsNothingBelow a call j → ReadsNothingBelow b call j
 blind_agree k j a b (AtNode c p) g f h i = i
 blind_agree k j a b (AtEntry c p) g f h i = (i.0, λ v. i.1 (victim_kind c (a p) (b p) (kind_agree k a b p g (in_more c p f) h.0) ∙ v))
 blind_agree k j a b (AtPair pairs.Rename p q) g f h i = (
@@ -344,11 +344,11 @@ looked_root tree (AtNode c p) fits = go (resolve tree p) (tree p) refl
     file bytes None i = refl
     file bytes (Some new) i = put_kind p (Some (File new)) tree (λ j. sym (ap kind (ap tree (sym j) ∙ i)))
 
-    go : (e : Option Errno) (s : Option Shape) → tree p ≡ s → kind (changed (content_change p (on_row c e s).1) tree []) ≡ kind (tree [])
+    go : (e : Option Errno) (s : Option Shape) → tree p ≡ s → kind (changed (content_change p (node_row c e s).1) tree []) ≡ kind (tree [])
     go (Some e) s i = refl
     go None None i = refl
     go None (Some (Dir names)) i = ap (λ (o : Option (List ℕ)). kind (changed (content_change p o) tree [])) (on_dir c names)
-    go None (Some (File bytes)) i = file bytes (on_row c None (Some (File bytes))).1 i
+    go None (Some (File bytes)) i = file bytes (node_row c None (Some (File bytes))).1 i
 looked_root tree (AtEntry c p) fits = go (resolve_dir tree (parent_of p)) refl
   where
     m : HasNames p
@@ -359,9 +359,9 @@ looked_root tree (AtEntry c p) fits = go (resolve_dir tree (parent_of p)) refl
     edit (Add s) i = put_more p (Some s) (put (parent_of p) (Some (Dir (inserted_name (last_of p) (names_of (tree (parent_of p)))))) tree) m ∙ put_kind (parent_of p) (Some (Dir (inserted_name (last_of p) (names_of (tree (parent_of p)))))) tree (root_dir tree (parent_of p) i)
     edit Remove i = put_more p None (put (parent_of p) (Some (Dir (removed_name (last_of p) (names_of (tree (parent_of p)))))) tree) m ∙ put_kind (parent_of p) (Some (Dir (removed_name (last_of p) (names_of (tree (parent_of p)))))) tree (root_dir tree (parent_of p) i)
 
-    go : (e : Option Errno) → resolve_dir tree (parent_of p) ≡ e → kind (changed (edit_change (parent_of p) (names_of (tree (parent_of p))) (last_of p) p (in_row c e (is_full (tree (parent_of p))) (tree p)).1) tree []) ≡ kind (tree [])
+    go : (e : Option Errno) → resolve_dir tree (parent_of p) ≡ e → kind (changed (edit_change (parent_of p) (names_of (tree (parent_of p))) (last_of p) p (entry_row c e (is_full (tree (parent_of p))) (tree p)).1) tree []) ≡ kind (tree [])
     go (Some e) i = refl
-    go None i = edit (in_there c (is_full (tree (parent_of p))) (tree p)).1 i
+    go None i = edit (entry_row_in_dir c (is_full (tree (parent_of p))) (tree p)).1 i
 looked_root tree (AtPair pairs.Rename p q) fits = go (resolve_dir tree (parent_of p)) (resolve_dir tree (parent_of q)) refl refl
   where
     two : (b : Bool) (names others : List Name) → resolve_dir tree (parent_of p) ≡ None → resolve_dir tree (parent_of q) ≡ None → kind (write_all (rename_writes b (parent_of p) names (last_of p) (parent_of q) others (last_of q)) tree []) ≡ kind (tree [])
@@ -380,10 +380,10 @@ looked_root tree (AtPair pairs.Rename p q) fits = go (resolve_dir tree (parent_o
         → kind (changed (move_change (rename_row d e (tree p) (is_end (after_prefix p q)) (tree q) (is_end (after_prefix (parent_of p) (parent_of q)) || not (is_full (tree (parent_of q))))).1 (rename_writes (is_end (after_prefix (parent_of p) (parent_of q))) (parent_of p) (names_of (tree (parent_of p))) (last_of p) (parent_of q) (names_of (tree (parent_of q))) (last_of q)) p q) tree []) ≡ kind (tree [])
     go (Some d) e i j = refl
     go None (Some e) i j = refl
-    go None None i j = by (from_row (tree p) (is_end (after_prefix p q)) (tree q) (is_end (after_prefix (parent_of p) (parent_of q)) || not (is_full (tree (parent_of q))))) (is_end (after_prefix (parent_of p) (parent_of q))) (names_of (tree (parent_of p))) (names_of (tree (parent_of q))) i j
+    go None None i j = by (rename_row_in_dirs (tree p) (is_end (after_prefix p q)) (tree q) (is_end (after_prefix (parent_of p) (parent_of q)) || not (is_full (tree (parent_of q))))) (is_end (after_prefix (parent_of p) (parent_of q))) (names_of (tree (parent_of p))) (names_of (tree (parent_of q))) i j
 
 pub after_root : (tree : Map Shape) (call : Form) → Fits call → kind (after tree call []) ≡ kind (tree [])
-after_root tree call fits = ap (λ (e : Option Errno). kind (changed (unless e (looked tree call)).1 tree [])) fits ∙ looked_root tree call fits
+after_root tree call fits = ap (λ (e : Option Errno). kind (changed (if_sound e (looked tree call)).1 tree [])) fits ∙ looked_root tree call fits
 
 -- so its change can be seen below it alone
 pub agree_after : (tree : Map Shape) (k : Key) (call : Form) → resolve tree k ≡ None → Fits call → Agree k tree (after tree (under k call))
@@ -395,16 +395,16 @@ agree_after tree k call at fits = record {
 }
 
 -- calls that stand elsewhere go on standing
-pub standing_agree : (k : Key) (a b : Map Shape) (ps : List (Key × Form)) → Agree k a b → NoneUnder k ps → Standing a ps → Standing b ps
-standing_agree k a b [] g n s = tt
-standing_agree k a b (p ∷ ps) g n s = (sym (resolve_agree k p.0 a b g n.0) ∙ s.0, s.1, s.2, standing_agree k a b ps g n.1 s.3)
+pub in_place_agree : (k : Key) (a b : Map Shape) (ps : List (Key × Form)) → Agree k a b → NoneUnder k ps → InPlace a ps → InPlace b ps
+in_place_agree k a b [] g n s = tt
+in_place_agree k a b (p ∷ ps) g n s = (sym (resolve_agree k p.0 a b g n.0) ∙ s.0, s.1, s.2, in_place_agree k a b ps g n.1 s.3)
 
-pub passes_agree : (k : Key) (a b : Map Shape) (call : Form) (ch : Change) (ps : List (Key × Form)) → Agree k a b → Fits call → Blind a call k → Passes a call ch ps → Passes b call ch ps
+pub passes_agree : (k : Key) (a b : Map Shape) (call : Form) (ch : Change) (ps : List (Key × Form)) → Agree k a b → Fits call → ReadsNothingBelow a call k → Passes a call ch ps → Passes b call ch ps
 passes_agree k a b call ch [] g f h s = tt
 passes_agree k a b call ch (p ∷ ps) g f h s = (blind_agree k p.0 a b call g f h s.0, s.1, passes_agree k a b call ch ps g f h s.2)
 
 -- a move goes past what acts at k, which goes along with it
-move_act : (m : Option (Key × Key)) (k : Key) (f : Map Shape → Map Shape) (tree : Map Shape) → ClearMove m k → moved_by m (act k f tree) ≡ act (rekey_move m k) f (moved_by m tree)
+move_act : (m : Option (Key × Key)) (k : Key) (f : Map Shape → Map Shape) (tree : Map Shape) → MovesNothingBelow m k → moved_by m (act k f tree) ≡ act (rekey_move m k) f (moved_by m tree)
 move_act None k f tree c = refl
 move_act (Some m) k f tree c = go c.1
   where
@@ -412,11 +412,11 @@ move_act (Some m) k f tree c = go c.1
     go (inl u) = rw (u.1, prefix_append m.0 u.0) (move_act_under m.0 m.1 u.0 f tree c.0.0 c.0.1)
     go (inr u) = rw u.0.0 (move_act_apart m.0 m.1 k f tree u.0.0 u.0.1 u.1.0 u.1.1)
 
-pub change_act : (ch : Change) (k : Key) (f : Map Shape → Map Shape) (tree : Map Shape) → Clear ch k → changed ch (act k f tree) ≡ act (rekey ch k) f (changed ch tree)
+pub change_act : (ch : Change) (k : Key) (f : Map Shape → Map Shape) (tree : Map Shape) → ChangesNothingBelow ch k → changed ch (act k f tree) ≡ act (rekey ch k) f (changed ch tree)
 change_act ch k f tree c = ap (moved_by ch.moves) (writes_act ch.writes k f tree c.0) ∙ move_act ch.moves k f (write_all ch.writes tree) c.1
 
 -- the tree below k goes along
-move_below : (m : Option (Key × Key)) (k : Key) (tree : Map Shape) → ClearMove m k → below (rekey_move m k) (moved_by m tree) ≡ below k tree
+move_below : (m : Option (Key × Key)) (k : Key) (tree : Map Shape) → MovesNothingBelow m k → below (rekey_move m k) (moved_by m tree) ≡ below k tree
 move_below None k tree c = refl
 move_below (Some m) k tree c = go c.1
   where
@@ -428,7 +428,7 @@ writes_below : (ws : List (Key × Option Shape)) (k : Key) (tree : Map Shape) �
 writes_below [] k tree off = refl
 writes_below (w ∷ ws) k tree off = writes_below ws k (put w.0 w.1 tree) off.1 ∙ fun_ext (λ q. put_other w.0 w.1 tree (k ++ q) (inside_differs k w.0 q off.0))
 
-pub below_rekey : (ch : Change) (k : Key) (tree : Map Shape) → Clear ch k → below (rekey ch k) (changed ch tree) ≡ below k tree
+pub below_rekey : (ch : Change) (k : Key) (tree : Map Shape) → ChangesNothingBelow ch k → below (rekey ch k) (changed ch tree) ≡ below k tree
 below_rekey ch k tree c = move_below ch.moves k (write_all ch.writes tree) c.1 ∙ writes_below ch.writes k tree c.0
 
 -- one call that finishes past one that stands at k
@@ -437,7 +437,7 @@ pub record Past (tree : Map Shape) (w : Form) (ch : Change) (k : Key) (call : Fo
   pub same_outcome : outcome (after tree (under k call)) w ≡ outcome tree w
   pub same_reply : reply (after tree w) (under (rekey ch k) call) ≡ reply tree (under k call)
 
-pub past : (tree : Map Shape) (w : Form) (ch : Change) (k : Key) (call : Form) → (outcome tree w).1 ≡ ch → resolve tree k ≡ None → Fits call → Blind tree w k → Clear ch k → resolve (changed ch tree) (rekey ch k) ≡ None → Past tree w ch k call
+pub past : (tree : Map Shape) (w : Form) (ch : Change) (k : Key) (call : Form) → (outcome tree w).1 ≡ ch → resolve tree k ≡ None → Fits call → ReadsNothingBelow tree w k → ChangesNothingBelow ch k → resolve (changed ch tree) (rekey ch k) ≡ None → Past tree w ch k call
 past tree w ch k call is at fits blind clear there =
     let g : Agree k tree (after tree (under k call)) = agree_after tree k call at fits in
     let o : outcome tree w ≡ outcome (after tree (under k call)) w = outcome_agree k tree (after tree (under k call)) w g blind in
@@ -456,7 +456,7 @@ past tree w ch k call is at fits blind clear there =
           ∙ sym (ap (λ (o : Reply × Change). o.0) (outcome_located tree k call at fits));
     }
 
-pub past_all : (tree : Map Shape) (w : Form) (ch : Change) (ps : List (Key × Form)) → (outcome tree w).1 ≡ ch → Fits w → Standing tree ps → Passes tree w ch ps → Standing (changed ch tree) (rekey_all ch ps) → PastAll tree w ch ps
+pub past_all : (tree : Map Shape) (w : Form) (ch : Change) (ps : List (Key × Form)) → (outcome tree w).1 ≡ ch → Fits w → InPlace tree ps → Passes tree w ch ps → InPlace (changed ch tree) (rekey_all ch ps) → PastAll tree w ch ps
 past_all tree w ch [] is f s p t = record { tree_is = refl; same_outcome = refl; same_replies = refl }
 past_all tree w ch (p ∷ ps) is f s h t =
     let one : Past tree w ch p.0 p.1 = past tree w ch p.0 p.1 is s.0 s.1 h.0 h.1 t.0 in
@@ -467,9 +467,9 @@ past_all tree w ch (p ∷ ps) is f s h t =
     ap (λ (c : Change). after (changed c tree) (under (rekey ch p.0) p.1)) (sym is) ∙ sym one.tree_is ∙ ap (λ (c : Change). changed c (after tree (under p.0 p.1))) is2 in
     let rest : PastAll (after tree (under p.0 p.1)) w ch ps =
     past_all (after tree (under p.0 p.1)) w ch ps is2 f
-    (standing_agree p.0 tree (after tree (under p.0 p.1)) ps g s.2 s.3)
+    (in_place_agree p.0 tree (after tree (under p.0 p.1)) ps g s.2 s.3)
     (passes_agree p.0 tree (after tree (under p.0 p.1)) w ch ps g f h.0 h.2)
-    (subst (λ (u : Map Shape). Standing u (rekey_all ch ps)) same_tree (standing_agree (rekey ch p.0) (changed ch tree) (after (changed ch tree) (under (rekey ch p.0) p.1)) (rekey_all ch ps) moved t.2 t.3)) in
+    (subst (λ (u : Map Shape). InPlace u (rekey_all ch ps)) same_tree (in_place_agree (rekey ch p.0) (changed ch tree) (after (changed ch tree) (under (rekey ch p.0) p.1)) (rekey_all ch ps) moved t.2 t.3)) in
     record {
       tree_is = ap (λ (u : Map Shape). settle u (rekey_all ch ps)) (sym one.tree_is) ∙ rest.tree_is;
       same_outcome = rest.same_outcome ∙ one.same_outcome;

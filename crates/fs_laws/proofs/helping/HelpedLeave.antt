@@ -6,15 +6,15 @@ use Rattle.fs_names.specs.Shapes.{Shape}
 use Rattle.fs_calls.specs.Forms.{form, reserves}
 use Rattle.fs_calls.specs.declared.call.Call.{Call}
 use Rattle.fs_calls.specs.declared.reply.Reply.{Reply}
-use Rattle.fs_nodes.specs.Graphs.{Graph, Kids, at, numbers, set_at, reserved_in, then_at}
+use Rattle.fs_nodes.specs.Graphs.{Graph, Children, at, numbers, set_at, reserved_in, then_at}
 use Rattle.fs_machine.specs.Finishes.{finish}
 use Rattle.fs_machine.specs.Leaving.{is_removed, releasing, let_go, finished_op, unreserved}
 use Rattle.fs_machine.specs.Moves.{Takes, Leaves, Finishes, next, took, target, head_took, took_by}
-use Rattle.fs_machine.specs.Records.{Phase, Walking, Placed, Finished, Holds, Record, Stand, stand_at}
-use Rattle.fs_laws.specs.Below.{StandsAt, IsAboutToMove, Meanwhile, Now, Begins_another, Steps_another, Helps_one, EachBelow, HelpsAreFew}
+use Rattle.fs_machine.specs.Records.{Phase, Walking, Placed, Finished, Holds, Record, Holdings, holdings_at}
+use Rattle.fs_laws.specs.Below.{IsHolding, IsAboutToMove, Meanwhile, Now, Begins_another, Steps_another, Helps_one, EachBelow, HelpsAreFew}
 use Rattle.fs_timeline.specs.Timeline.{commit_count}
 use Rattle.fs_laws.specs.Invariants.{IsIn, Own, Invariant, HeadsFit}
-use Rattle.fs_laws.specs.Stands.{IsAfter, Located}
+use Rattle.fs_laws.specs.CallFacts.{IsAfter, Located}
 use Rattle.fs_laws.specs.States.{State, Begun, Begun_as, Seat_busy, Full, No_memory, Begins, Reserves, new_op, began, Stepped, Idle, Took, Busy, LetGo, Helped, Committed, CarriedOut, Returned, Step, Run, Beginning, Stepping, taking, letting_go, helping, carrying, returning, IsWalkingBelow, NoneBelow}
 use Rattle.fs_laws.proofs.graphs.Walks.{at_child, at_from, then_some}
 use Rattle.fs_laws.proofs.events.OneCallChanged.{Place, Here, Else, place}
@@ -22,14 +22,14 @@ use Rattle.fs_laws.proofs.events.TwoCalls.{Ends as Snoc, ends, ends_same}
 use Rattle.fs_laws.proofs.helping.RenamesReadNothingBelow.{source_held}
 use Rattle.fs_laws.proofs.events.JustFinished.{Either, Changed, Old, either}
 use Rattle.fs_laws.proofs.events.LetGo.{LetsGo, On_way, At_end, Last, lets_go}
-use Rattle.fs_laws.proofs.events.Take.{TakesFrom, From_nowhere, From_stand, takes_from}
-use Rattle.fs_laws.proofs.calls.Takes.{Take, Walk, Entry, Source, Dest, Replaced, takes_by, with_stand, walked_on}
+use Rattle.fs_laws.proofs.events.Take.{TakesFrom, From_nowhere, From_holdings, takes_from}
+use Rattle.fs_laws.proofs.calls.Takes.{Take, Walk, Entry, Source, Dest, Replaced, takes_by, with_holdings, walked_on}
 use Rattle.fs_laws.proofs.states.Headline.{run_keeps}
 use Rattle.fs_laws.proofs.helping.WhoStandsBelow.{not_below}
 use Rattle.fs_laws.proofs.helping.NobodyEnters.{ToMove, to_move, NewEntry, Same_entry, Linked, Moved, finish_entries}
 
-stand_is : (a b : Stand) → ◌≡◌ {A = Option Stand} (Some a) (Some b) → a ≡ b
-stand_is a b e = cc
+holdings_is : (a b : Holdings) → ◌≡◌ {A = Option Holdings} (Some a) (Some b) → a ≡ b
+holdings_is a b e = cc
 
 none_some : {A : Type 0} (o : Option A) (v : A) → o ≡ None → o ≡ Some v → ⊥
 none_some o v e f = let z : ◌≡◌ {A = Option _} None (Some v) = sym e ∙ f in cc
@@ -54,26 +54,26 @@ moved_located : (s : State) (c moved : ℕ) (m : Mover s c moved) → Located (n
 moved_located s c moved m = (m.inv.kept.each c m.op m.to.st m.is m.to.on).located
 
 at_moved : (s : State) (c moved : ℕ) (m : Mover s c moved) → numbers s.graph (parent_key s c moved m ++ last_of m.to.p ∷ []) ≡ Some moved
-at_moved s c moved m = at_child s.graph.kid 0 m.to.st.source.node (parent_key s c moved m) (last_of m.to.p) (moved_located s c moved m).source ∙ m.to.kid
+at_moved s c moved m = at_child s.graph.child 0 m.to.st.source.node (parent_key s c moved m) (last_of m.to.p) (moved_located s c moved m).source ∙ m.to.child
 
-at_below : (s : State) (c moved : ℕ) (m : Mover s c moved) (key : Key) (n : ℕ) → at s.graph.kid moved key ≡ Some n → numbers s.graph ((parent_key s c moved m ++ last_of m.to.p ∷ []) ++ key) ≡ Some n
-at_below s c moved m key n e = at_from s.graph.kid 0 moved (parent_key s c moved m ++ last_of m.to.p ∷ []) key (at_moved s c moved m) ∙ e
+at_below : (s : State) (c moved : ℕ) (m : Mover s c moved) (key : Key) (n : ℕ) → at s.graph.child moved key ≡ Some n → numbers s.graph ((parent_key s c moved m ++ last_of m.to.p ∷ []) ++ key) ≡ Some n
+at_below s c moved m key n e = at_from s.graph.child 0 moved (parent_key s c moved m ++ last_of m.to.p ∷ []) key (at_moved s c moved m) ∙ e
 
 snoc_nil : (a b : Key) (x : Name) → (a ++ x ∷ []) ++ b ≡ [] → ⊥
 snoc_nil [] b x e = cc
 snoc_nil (y ∷ a) b x e = cc
 
 -- a step of the walk leads below the node from below it alone
-walk_below : (s : State) (c moved : ℕ) (m : Mover s c moved) (f n : ℕ) (op : Record) (st : Stand) (x : Name) (key : Key) → (f ≡ c → ⊥) → StandsAt s f op st → s.graph.kid st.node x ≡ Some n → at s.graph.kid moved key ≡ Some n → (r : Key) × (at s.graph.kid moved r ≡ Some st.node)
-walk_below s c moved m f n op st x key differs a kid e = go key e
+walk_below : (s : State) (c moved : ℕ) (m : Mover s c moved) (f n : ℕ) (op : Record) (st : Holdings) (x : Name) (key : Key) → (f ≡ c → ⊥) → IsHolding s f op st → s.graph.child st.node x ≡ Some n → at s.graph.child moved key ≡ Some n → (r : Key) × (at s.graph.child moved r ≡ Some st.node)
+walk_below s c moved m f n op st x key differs a child e = go key e
   where
     there : Located (numbers s.graph) (m.inv.key f) st
     there = (m.inv.kept.each f op st a.is a.on).located
 
     at_n : numbers s.graph (m.inv.key f ++ x ∷ []) ≡ Some n
-    at_n = at_child s.graph.kid 0 st.node (m.inv.key f) x there.here ∙ kid
+    at_n = at_child s.graph.child 0 st.node (m.inv.key f) x there.here ∙ child
 
-    same : (key : Key) → at s.graph.kid moved key ≡ Some n → (parent_key s c moved m ++ last_of m.to.p ∷ []) ++ key ≡ m.inv.key f ++ x ∷ []
+    same : (key : Key) → at s.graph.child moved key ≡ Some n → (parent_key s c moved m ++ last_of m.to.p ∷ []) ++ key ≡ m.inv.key f ++ x ∷ []
     same key e = m.inv.is_graph.one_key ((parent_key s c moved m ++ last_of m.to.p ∷ []) ++ key) (m.inv.key f ++ x ∷ []) n (at_below s c moved m key n e) at_n
 
     -- a call that stands at the parent would share it
@@ -83,17 +83,17 @@ walk_below s c moved m f n op st x key differs a kid e = go key e
         let y : m.to.st.source.node ≡ st.node = cc in
         (m.inv.kept.pairs c f m.op op m.to.st st (λ j. differs (sym j)) m.is a.is m.to.on a.on).apart st.node (subst (Holds m.to.st) y (source_held (numbers s.graph) (m.inv.key c) m.to.st (moved_located s c moved m))) (inl refl)
 
-    go : (key : Key) → at s.graph.kid moved key ≡ Some n → (r : Key) × (at s.graph.kid moved r ≡ Some st.node)
+    go : (key : Key) → at s.graph.child moved key ≡ Some n → (r : Key) × (at s.graph.child moved r ≡ Some st.node)
     go [] e = absurd (shared (ends_same (m.inv.key c ++ m.to.st.source.walked) (m.inv.key f) (last_of m.to.p) x (sym (append-nil (parent_key s c moved m ++ last_of m.to.p ∷ [])) ∙ same [] e)).0)
     go (y ∷ key) e =
         let d : Snoc (y ∷ key) = ends (y ∷ key) tt in
         let k : (parent_key s c moved m ++ last_of m.to.p ∷ []) ++ d.front ≡ m.inv.key f =
         (ends_same ((parent_key s c moved m ++ last_of m.to.p ∷ []) ++ d.front) (m.inv.key f) d.last x
         (append_assoc (parent_key s c moved m ++ last_of m.to.p ∷ []) d.front (d.last ∷ []) ∙ ap (λ (l : Key). (parent_key s c moved m ++ last_of m.to.p ∷ []) ++ l) (sym d.is) ∙ same (y ∷ key) e)).0 in
-        (d.front, sym (at_from s.graph.kid 0 moved (parent_key s c moved m ++ last_of m.to.p ∷ []) d.front (at_moved s c moved m)) ∙ ap (numbers s.graph) k ∙ there.here)
+        (d.front, sym (at_from s.graph.child 0 moved (parent_key s c moved m ++ last_of m.to.p ∷ []) d.front (at_moved s c moved m)) ∙ ap (numbers s.graph) k ∙ there.here)
 
 -- the root is not below it
-root_not_below : (s : State) (c moved : ℕ) (m : Mover s c moved) (key : Key) (n : ℕ) → 0 ≡ n → at s.graph.kid moved key ≡ Some n → ⊥
+root_not_below : (s : State) (c moved : ℕ) (m : Mover s c moved) (key : Key) (n : ℕ) → 0 ≡ n → at s.graph.child moved key ≡ Some n → ⊥
 root_not_below s c moved m key n z e = snoc_nil (parent_key s c moved m) key (last_of m.to.p) (m.inv.is_graph.one_key ((parent_key s c moved m ++ last_of m.to.p ∷ []) ++ key) [] n (at_below s c moved m key n e) (ap (λ (x : ℕ). Some x) z))
 
 -- a take
@@ -107,57 +107,57 @@ took_outside s c moved m f n op is move d (q, q_is, walks, (st, key, on, e)) = g
         let z : Takes n ≡ Finishes (Some moved) = sym move ∙ ap (next s.graph) b ∙ m.move in cc
 
     -- where it stood
-    from : (before : Stand) (v : Record) → took op n ≡ v → v.phase ≡ op.phase → op.stand ≡ Some before → (r : Key) × (at s.graph.kid moved r ≡ Some before.node) → d ≡ f → took op n ≡ q → IsWalkingBelow s moved d
+    from : (before : Holdings) (v : Record) → took op n ≡ v → v.phase ≡ op.phase → op.holdings ≡ Some before → (r : Key) × (at s.graph.child moved r ≡ Some before.node) → d ≡ f → took op n ≡ q → IsWalkingBelow s moved d
     from before v v_is ph on_before r i j = (op, ap s.ops i ∙ is, sym ph ∙ ap (λ (o : Record). o.phase) (sym v_is ∙ j) ∙ walks, (before, r.0, on_before, r.1))
 
-    at_new : (v : Record) (new : Stand) → took op n ≡ v → v.stand ≡ Some new → took op n ≡ q → new ≡ st
-    at_new v new v_is on_v j = stand_is new st (sym on_v ∙ ap (λ (o : Record). o.stand) (sym v_is ∙ j) ∙ on)
+    at_new : (v : Record) (new : Holdings) → took op n ≡ v → v.holdings ≡ Some new → took op n ≡ q → new ≡ st
+    at_new v new v_is on_v j = holdings_is new st (sym on_v ∙ ap (λ (o : Record). o.holdings) (sym v_is ∙ j) ∙ on)
 
-    here : (before new : Stand) (v : Record) → took op n ≡ v → v.phase ≡ op.phase → v.stand ≡ Some new → new.node ≡ before.node → op.stand ≡ Some before → d ≡ f → took op n ≡ q → IsWalkingBelow s moved d
-    here before new v v_is ph on_v same on_before i j = from before v v_is ph on_before (key, e ∙ ap (λ (x : Stand). Some x.node) (sym (at_new v new v_is on_v j)) ∙ ap (λ (x : ℕ). Some x) same) i j
+    here : (before new : Holdings) (v : Record) → took op n ≡ v → v.phase ≡ op.phase → v.holdings ≡ Some new → new.node ≡ before.node → op.holdings ≡ Some before → d ≡ f → took op n ≡ q → IsWalkingBelow s moved d
+    here before new v v_is ph on_v same on_before i j = from before v v_is ph on_before (key, e ∙ ap (λ (x : Holdings). Some x.node) (sym (at_new v new v_is on_v j)) ∙ ap (λ (x : ℕ). Some x) same) i j
 
-    by : (before : Stand) → op.stand ≡ Some before → Take s.graph op n before → d ≡ f → took op n ≡ q → IsWalkingBelow s moved d
-    by before on_b (Walk x l way b kid t) i j =
-        let new : Stand = stand_at n (Some before.node) in
-        let at_n : at s.graph.kid moved key ≡ Some n = e ∙ ap (λ (z : Stand). Some z.node) (sym (at_new (walked_on op before x n) (stand_at n (Some before.node)) t refl j)) in
-        from before (walked_on op before x n) t refl on_b (walk_below s c moved m f n op before x key not_mover (record { is = is; on = on_b }) kid at_n) i j
-    by before on_b (Entry c2 p rem way b kid off t) i j = here before (record before { victim = Some n }) (with_stand op (record before { victim = Some n })) t refl refl refl on_b i j
-    by before on_b (Source p q2 x l rem way b at_left sb kid t) i j = here before (record before { source = head_took before.source x n }) (with_stand op (record before { source = head_took before.source x n })) t refl refl refl on_b i j
-    by before on_b (Dest p q2 x l names rem way b arrived sb dir at_left db kid t) i j = here before (record before { dest = head_took before.dest x n }) (with_stand op (record before { dest = head_took before.dest x n })) t refl refl refl on_b i j
-    by before on_b (Replaced p q2 names rem way b arrived sb dir at_left db want kid off t) i j = here before (record before { victim = Some n }) (with_stand op (record before { victim = Some n })) t refl refl refl on_b i j
+    by : (before : Holdings) → op.holdings ≡ Some before → Take s.graph op n before → d ≡ f → took op n ≡ q → IsWalkingBelow s moved d
+    by before on_b (Walk x l way b child t) i j =
+        let new : Holdings = holdings_at n (Some before.node) in
+        let at_n : at s.graph.child moved key ≡ Some n = e ∙ ap (λ (z : Holdings). Some z.node) (sym (at_new (walked_on op before x n) (holdings_at n (Some before.node)) t refl j)) in
+        from before (walked_on op before x n) t refl on_b (walk_below s c moved m f n op before x key not_mover (record { is = is; on = on_b }) child at_n) i j
+    by before on_b (Entry c2 p rem way b child off t) i j = here before (record before { victim = Some n }) (with_holdings op (record before { victim = Some n })) t refl refl refl on_b i j
+    by before on_b (Source p q2 x l rem way b at_left sb child t) i j = here before (record before { source = head_took before.source x n }) (with_holdings op (record before { source = head_took before.source x n })) t refl refl refl on_b i j
+    by before on_b (Dest p q2 x l names rem way b arrived sb dir at_left db child t) i j = here before (record before { dest = head_took before.dest x n }) (with_holdings op (record before { dest = head_took before.dest x n })) t refl refl refl on_b i j
+    by before on_b (Replaced p q2 names rem way b arrived sb dir at_left db want child off t) i j = here before (record before { victim = Some n }) (with_holdings op (record before { victim = Some n })) t refl refl refl on_b i j
 
     taken : TakesFrom s.graph op n → d ≡ f → took op n ≡ q → IsWalkingBelow s moved d
     taken (From_nowhere text off z) i j =
-        let v : took op n ≡ record op { stand = Some (stand_at n None) } = ap (λ (o : Option Stand). took_by op o (target op.remaining) n) off in
-        absurd (root_not_below s c moved m key st.node (z ∙ ap (λ (x : Stand). x.node) (at_new (record op { stand = Some (stand_at n None) }) (stand_at n None) v refl j)) e)
-    taken (From_stand before on_b t) i j = by before on_b (takes_by s.graph op n before on_b t) i j
+        let v : took op n ≡ record op { holdings = Some (holdings_at n None) } = ap (λ (o : Option Holdings). took_by op o (target op.remaining) n) off in
+        absurd (root_not_below s c moved m key st.node (z ∙ ap (λ (x : Holdings). x.node) (at_new (record op { holdings = Some (holdings_at n None) }) (holdings_at n None) v refl j)) e)
+    taken (From_holdings before on_b t) i j = by before on_b (takes_by s.graph op n before on_b t) i j
 
     go : Either s.ops f (took op n) d q → IsWalkingBelow s moved d
     go (Changed i j) = taken (takes_from s.graph op n move).0 i j
     go (Old k i) = (q, i, walks, (st, key, on, e))
 
 -- a let go
-kid_released : (b : Bool) (n : ℕ) (graph : Graph) → (releasing b n graph).kid ≡ graph.kid
-kid_released true n graph = refl
-kid_released false n graph = refl
+child_released : (b : Bool) (n : ℕ) (graph : Graph) → (releasing b n graph).child ≡ graph.child
+child_released true n graph = refl
+child_released false n graph = refl
 
-kid_unreserved : (o : Option ℕ) (graph : Graph) → (unreserved o graph).kid ≡ graph.kid
-kid_unreserved None graph = refl
-kid_unreserved (Some n) graph = refl
+child_unreserved : (o : Option ℕ) (graph : Graph) → (unreserved o graph).child ≡ graph.child
+child_unreserved None graph = refl
+child_unreserved (Some n) graph = refl
 
 abbrev HeadsFitOf : Record → Type 0
-HeadsFitOf op = (st : Stand) → op.stand ≡ Some st → HeadsFit st
+HeadsFitOf op = (st : Holdings) → op.holdings ≡ Some st → HeadsFit st
 
 let_go_outside : (s : State) (moved f n : ℕ) (op : Record) → s.ops f ≡ Some op → next s.graph op ≡ Leaves n → HeadsFitOf op → (d : ℕ) → IsWalkingBelow (letting_go s f op n) moved d → IsWalkingBelow s moved d
 let_go_outside s moved f n op is move fit d (q, q_is, walks, (st, key, on, e)) = go (either s.ops f (let_go op n) d q q_is)
   where
-    at_old : at s.graph.kid moved key ≡ Some st.node
-    at_old = sym (ap (λ (k : Kids). at k moved key) (kid_released (is_removed op.removed n) n s.graph)) ∙ e
+    at_old : at s.graph.child moved key ≡ Some st.node
+    at_old = sym (ap (λ (k : Children). at k moved key) (child_released (is_removed op.removed n) n s.graph)) ∙ e
 
     left : LetsGo op n → d ≡ f → let_go op n ≡ q → IsWalkingBelow s moved d
     left (On_way before new u on_b left_is lets same) i j =
-        let l : new ≡ st = stand_is new st (sym left_is ∙ ap (λ (o : Record). o.stand) j ∙ on) in
-        (op, ap s.ops i ∙ is, ap (λ (o : Record). o.phase) j ∙ walks, (before, key, on_b, at_old ∙ ap (λ (x : ℕ). Some x) (sym (ap (λ (x : Stand). x.node) l) ∙ (lets (fit before on_b)).node)))
+        let l : new ≡ st = holdings_is new st (sym left_is ∙ ap (λ (o : Record). o.holdings) j ∙ on) in
+        (op, ap s.ops i ∙ is, ap (λ (o : Record). o.phase) j ∙ walks, (before, key, on_b, at_old ∙ ap (λ (x : ℕ). Some x) (sym (ap (λ (x : Holdings). x.node) l) ∙ (lets (fit before on_b)).node)))
     left (At_end before new r ph on_b left_is l only) i j = let z : ◌≡◌ {A = Phase} (Finished r) Walking = sym ph ∙ ap (λ (o : Record). o.phase) j ∙ walks in cc
     left (Last before r ph on_b left_is node only) i j = let z : ◌≡◌ {A = Phase} (Finished r) Walking = sym ph ∙ ap (λ (o : Record). o.phase) j ∙ walks in cc
 
@@ -167,8 +167,8 @@ let_go_outside s moved f n op is move fit d (q, q_is, walks, (st, key, on, e)) =
 
 -- a finish of another call
 finish_outside : (s : State) (inv : Invariant s) (moved f : ℕ) (op : Record) (o : Option ℕ) → s.ops f ≡ Some op → next s.graph op ≡ Finishes o
-    → ((d b : ℕ) (q : Record) (st before : Stand) (r w : Key) → (d ≡ f → ⊥) → StandsAt s d q st → q.phase ≡ Walking → op.stand ≡ Some before → at s.graph.kid before.node w ≡ Some b → o ≡ Some b → at s.graph.kid b r ≡ Some st.node → ⊥)
-    → (d : ℕ) (q : Record) (st : Stand) (key : Key) → (d ≡ f → ⊥) → s.ops d ≡ Some q → q.phase ≡ Walking → q.stand ≡ Some st → at (finish s.graph op).graph.kid moved key ≡ Some st.node → at s.graph.kid moved key ≡ Some st.node
+    → ((d b : ℕ) (q : Record) (st before : Holdings) (r w : Key) → (d ≡ f → ⊥) → IsHolding s d q st → q.phase ≡ Walking → op.holdings ≡ Some before → at s.graph.child before.node w ≡ Some b → o ≡ Some b → at s.graph.child b r ≡ Some st.node → ⊥)
+    → (d : ℕ) (q : Record) (st : Holdings) (key : Key) → (d ≡ f → ⊥) → s.ops d ≡ Some q → q.phase ≡ Walking → q.holdings ≡ Some st → at (finish s.graph op).graph.child moved key ≡ Some st.node → at s.graph.child moved key ≡ Some st.node
 finish_outside s inv moved f op o is move alone d q st key differs q_is walks on e = same key moved e
   where
     own : Own s.graph op
@@ -178,26 +178,26 @@ finish_outside s inv moved f op o is move alone d q st key differs q_is walks on
     there = (inv.kept.each d q st q_is on).located.here
 
     -- nothing leads from a reserved number, and nobody stands there
-    loose : (b : ℕ) (w : Key) → op.reserved ≡ Some b → at s.graph.kid b w ≡ Some st.node → ⊥
+    loose : (b : ℕ) (w : Key) → op.reserved ≡ Some b → at s.graph.child b w ≡ Some st.node → ⊥
     loose b [] r g = (own.spare b r).1 (inv.key d) (there ∙ sym g)
     loose b (y ∷ w) r g =
-        let k : (v : ℕ) × (s.graph.kid b y ≡ Some v) × (at s.graph.kid v w ≡ Some st.node) = then_some (s.graph.kid b y) (λ v. at s.graph.kid v w) st.node g in
+        let k : (v : ℕ) × (s.graph.child b y ≡ Some v) × (at s.graph.child v w ≡ Some st.node) = then_some (s.graph.child b y) (λ v. at s.graph.child v w) st.node g in
         let l : (key : Key) × (numbers s.graph key ≡ Some b) = inv.is_graph.loose b k.0 y k.1 in
         (own.spare b r).1 l.0 l.1
 
-    step : (a b : ℕ) (x : Name) (w : Key) → NewEntry s.graph op o a b x → at s.graph.kid b w ≡ Some st.node → at s.graph.kid a (x ∷ w) ≡ Some st.node
-    step a b x w (Same_entry g) h = ap (λ (v : Option ℕ). then_at v (λ k. at s.graph.kid k w)) g ∙ h
+    step : (a b : ℕ) (x : Name) (w : Key) → NewEntry s.graph op o a b x → at s.graph.child b w ≡ Some st.node → at s.graph.child a (x ∷ w) ≡ Some st.node
+    step a b x w (Same_entry g) h = ap (λ (v : Option ℕ). then_at v (λ k. at s.graph.child k w)) g ∙ h
     step a b x w (Linked g) h = absurd (loose b w g h)
     step a b x w (Moved before v on_b g i) h = absurd (alone d b q st before w v differs (record { is = q_is; on = on }) walks on_b g i h)
 
-    same : (w : Key) (a : ℕ) → at (finish s.graph op).graph.kid a w ≡ Some st.node → at s.graph.kid a w ≡ Some st.node
+    same : (w : Key) (a : ℕ) → at (finish s.graph op).graph.child a w ≡ Some st.node → at s.graph.child a w ≡ Some st.node
     same [] a g = g
     same (x ∷ w) a g =
-        let k : (b : ℕ) × ((finish s.graph op).graph.kid a x ≡ Some b) × (at (finish s.graph op).graph.kid b w ≡ Some st.node) = then_some ((finish s.graph op).graph.kid a x) (λ b. at (finish s.graph op).graph.kid b w) st.node g in
+        let k : (b : ℕ) × ((finish s.graph op).graph.child a x ≡ Some b) × (at (finish s.graph op).graph.child b w ≡ Some st.node) = then_some ((finish s.graph op).graph.child a x) (λ b. at (finish s.graph op).graph.child b w) st.node g in
         step a k.0 x w (finish_entries s.graph inv.is_graph op o own.well move a k.0 x k.1) (same w k.0 k.2)
 
 finishing_outside : (s : State) (inv : Invariant s) (moved f : ℕ) (op : Record) (o : Option ℕ) → s.ops f ≡ Some op → next s.graph op ≡ Finishes o
-    → ((d b : ℕ) (q : Record) (st before : Stand) (r w : Key) → (d ≡ f → ⊥) → StandsAt s d q st → q.phase ≡ Walking → op.stand ≡ Some before → at s.graph.kid before.node w ≡ Some b → o ≡ Some b → at s.graph.kid b r ≡ Some st.node → ⊥)
+    → ((d b : ℕ) (q : Record) (st before : Holdings) (r w : Key) → (d ≡ f → ⊥) → IsHolding s d q st → q.phase ≡ Walking → op.holdings ≡ Some before → at s.graph.child before.node w ≡ Some b → o ≡ Some b → at s.graph.child b r ≡ Some st.node → ⊥)
     → (d : ℕ) → IsWalkingBelow (carrying s f op) moved d → IsWalkingBelow s moved d
 finishing_outside s inv moved f op o is move alone d (q, q_is, walks, (st, key, on, e)) = go (either s.ops f (finished_op op (finish s.graph op)) d q q_is)
   where
@@ -219,15 +219,15 @@ returned_outside s moved f op r d (q, q_is, walks, (st, key, on, e)) = go (place
   where
     go : Place (Option Record) f None s.ops d → IsWalkingBelow s moved d
     go (Here i j) = absurd (none_some (set_at f None s.ops d) q j q_is)
-    go (Else k j) = (q, sym j ∙ q_is, walks, (st, key, on, sym (ap (λ (g : Kids). at g moved key) (kid_unreserved op.reserved s.graph)) ∙ e))
+    go (Else k j) = (q, sym j ∙ q_is, walks, (st, key, on, sym (ap (λ (g : Children). at g moved key) (child_unreserved op.reserved s.graph)) ∙ e))
 
 -- a begin
-began_outside : (s : State) (moved seat : ℕ) (call : Call) (c : ℕ) (reserved : Option ℕ) (graph : Graph) → graph.kid ≡ s.graph.kid → (d : ℕ) → IsWalkingBelow (began s seat call c reserved graph) moved d → IsWalkingBelow s moved d
-began_outside s moved seat call c reserved graph kids d (q, q_is, walks, (st, key, on, e)) = go (either s.ops c (new_op seat call reserved) d q q_is)
+began_outside : (s : State) (moved seat : ℕ) (call : Call) (c : ℕ) (reserved : Option ℕ) (graph : Graph) → graph.child ≡ s.graph.child → (d : ℕ) → IsWalkingBelow (began s seat call c reserved graph) moved d → IsWalkingBelow s moved d
+began_outside s moved seat call c reserved graph children d (q, q_is, walks, (st, key, on, e)) = go (either s.ops c (new_op seat call reserved) d q q_is)
   where
     go : Either s.ops c (new_op seat call reserved) d q → IsWalkingBelow s moved d
-    go (Changed i j) = let z : ◌≡◌ {A = Option Stand} None (Some st) = ap (λ (x : Record). x.stand) j ∙ on in cc
-    go (Old k i) = (q, i, walks, (st, key, on, sym (ap (λ (g : Kids). at g moved key) kids) ∙ e))
+    go (Changed i j) = let z : ◌≡◌ {A = Option Holdings} None (Some st) = ap (λ (x : Record). x.holdings) j ∙ on in cc
+    go (Old k i) = (q, i, walks, (st, key, on, sym (ap (λ (g : Children). at g moved key) children) ∙ e))
 
 -- any step while the rename is about to move the node
 step_outside : (old new : State) (c moved seat : ℕ) (answer : Stepped) → Mover old c moved → Step old seat answer new → (d : ℕ) → IsWalkingBelow new moved d → IsWalkingBelow old moved d
@@ -243,7 +243,7 @@ step_outside old new c moved seat Committed m (f, op, o, moves, walks, none, sam
 step_outside old new c moved seat CarriedOut m (f, op, o, i, moves, placed, same) d w =
     finishing_outside old m.inv moved f op o moves.1 moves.2
     (λ e b q st before r v differs a q_walks on at_b is at_st.
-    not_below old m.inv f e op q before (λ j. differs (sym j)) (record { is = moves.1; on = on }) a.is (subst (λ (x : Phase). IsAfter x q.phase) (sym placed) (subst (IsAfter (Placed i)) (sym q_walks) tt)) (st, v ++ r, a.on, at_from old.graph.kid before.node b v r at_b ∙ at_st))
+    not_below old m.inv f e op q before (λ j. differs (sym j)) (record { is = moves.1; on = on }) a.is (subst (λ (x : Phase). IsAfter x q.phase) (sym placed) (subst (IsAfter (Placed i)) (sym q_walks) tt)) (st, v ++ r, a.on, at_from old.graph.child before.node b v r at_b ∙ at_st))
     d (subst (λ (s : State). IsWalkingBelow s moved d) same w)
 step_outside old new c moved seat (Returned r) m (f, op, moves, ph, same) d w = returned_outside old moved f op r d (subst (λ (s : State). IsWalkingBelow s moved d) same w)
 

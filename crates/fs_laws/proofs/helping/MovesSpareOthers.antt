@@ -4,9 +4,9 @@ use Rattle.std.proofs.lemmas.Bool.{cases_lt}
 use Rattle.fs_names.specs.Keys.{Key, after_prefix}
 use Rattle.fs_names.specs.Names.{Name}
 use Rattle.fs_laws.specs.Maps.{Map}
-use Rattle.fs_machine.specs.Records.{Finished, Holds, Record, Records, Phase, Placed, Stand, Walking}
+use Rattle.fs_machine.specs.Records.{Finished, Holds, Record, Records, Phase, Placed, Holdings, Walking}
 use Rattle.fs_laws.specs.Placed.{Aside}
-use Rattle.fs_laws.specs.Stands.{IsAfter, Keeps, Kept}
+use Rattle.fs_laws.specs.CallFacts.{IsAfter, Keeps, CallFacts}
 use Rattle.fs_laws.proofs.trees.Prefixes.{prefix_deeper}
 use Rattle.fs_laws.proofs.helping.FinishPassesPlaced.{prefix_before}
 use Rattle.fs_laws.proofs.graphs.Walks.{eqb_refl, eqb_true, prefix_shorter}
@@ -14,16 +14,16 @@ use Rattle.fs_laws.proofs.events.TwoCalls.{held_off, walked_off}
 use Rattle.fs_laws.proofs.events.OneCallChanged.{Spares}
 
 -- a call that is about to finish with a move
-pub record Moves (tree : Map ℕ) (ops : Records) (key : ℕ → Key) (c : ℕ) (op : Record) (st : Stand) (x y : Name) : Type 0 where
+pub record Moves (tree : Map ℕ) (ops : Records) (key : ℕ → Key) (c : ℕ) (op : Record) (st : Holdings) (x y : Name) : Type 0 where
   pub is : ops c ≡ Some op
-  pub on : op.stand ≡ Some st
+  pub on : op.holdings ≡ Some st
   pub unfinished : (op.phase ≡ Walking) ⊎ ((j : ℕ) × (op.phase ≡ Placed j))
   pub source_held : Holds st st.source.node
   pub dest_held : Holds st st.dest.node
   pub free : (r : Key) → tree (((key c ++ st.dest.walked) ++ y ∷ []) ++ r) ≡ None
   pub aside : Aside ((key c ++ st.source.walked) ++ x ∷ []) ((key c ++ st.dest.walked) ++ y ∷ [])
   -- the rule of helping: while it walks, no walking call is below what it moves
-  pub none_below : op.phase ≡ Walking → (d : ℕ) (q : Record) (other : Stand) → (c ≡ d → ⊥) → ops d ≡ Some q → q.stand ≡ Some other → q.phase ≡ Walking → after_prefix ((key c ++ st.source.walked) ++ x ∷ []) (key d) ≡ None
+  pub none_below : op.phase ≡ Walking → (d : ℕ) (q : Record) (other : Holdings) → (c ≡ d → ⊥) → ops d ≡ Some q → q.holdings ≡ Some other → q.phase ≡ Walking → after_prefix ((key c ++ st.source.walked) ++ x ∷ []) (key d) ≡ None
   -- no two calls have one place
   pub places : (d : ℕ) (q : Record) (i j : ℕ) → (c ≡ d → ⊥) → ops d ≡ Some q → q.phase ≡ Placed i → op.phase ≡ Placed j → i ≡ j → ⊥
 
@@ -32,7 +32,7 @@ after_itself Walking h = h
 after_itself (Placed i) h = omega arith
 after_itself (Finished r) h = h
 
-pub spares_of : (tree : Map ℕ) (ops : Records) (key : ℕ → Key) (c : ℕ) (op : Record) (st : Stand) (x y : Name) → Kept tree ops key → Moves tree ops key c op st x y
+pub spares_of : (tree : Map ℕ) (ops : Records) (key : ℕ → Key) (c : ℕ) (op : Record) (st : Holdings) (x y : Name) → CallFacts tree ops key → Moves tree ops key c op st x y
     → Spares tree ops key ((key c ++ st.source.walked) ++ x ∷ []) ((key c ++ st.dest.walked) ++ y ∷ []) (key c ++ st.dest.walked) y
 spares_of tree ops key c op st x y kept m = record { none = m.free; ends_in = refl; source = source; dest = dest; walking = walking; off = off }
   where
@@ -49,11 +49,11 @@ spares_of tree ops key c op st x y kept m = record { none = m.free; ends_in = re
         go true e = inl (eqb_true c d e)
         go false e = inr (λ h. let t : eqb c d ≡ true = ap (eqb c) (sym h) ∙ eqb_refl c in cc)
 
-    mine : (d : ℕ) (q : Record) (other : Stand) → c ≡ d → ops d ≡ Some q → q.stand ≡ Some other → (op ≡ q) × (st ≡ other)
+    mine : (d : ℕ) (q : Record) (other : Holdings) → c ≡ d → ops d ≡ Some q → q.holdings ≡ Some other → (op ≡ q) × (st ≡ other)
     mine d q other e f g =
         let a : ◌≡◌ {A = Option Record} (Some op) (Some q) = sym m.is ∙ ap ops e ∙ f in
         let b : op ≡ q = cc in
-        let h : ◌≡◌ {A = Option Stand} (Some st) (Some other) = sym m.on ∙ ap (λ (o : Record). o.stand) b ∙ g in
+        let h : ◌≡◌ {A = Option Holdings} (Some st) (Some other) = sym m.on ∙ ap (λ (o : Record). o.holdings) b ∙ g in
         (b, (let i : st ≡ other = cc in i))
 
     -- the moved node is deeper than all that the call itself has walked
@@ -73,24 +73,24 @@ spares_of tree ops key c op st x y kept m = record { none = m.free; ends_in = re
     deeper : (k : Key) → after_prefix (key c) k ≡ None → after_prefix ((key c ++ st.source.walked) ++ x ∷ []) k ≡ None
     deeper k e = rw append_assoc (prefix_deeper (key c) (st.source.walked ++ x ∷ []) k e)
 
-    apart : (d : ℕ) (q : Record) (other : Stand) → (c ≡ d → ⊥) → ops d ≡ Some q → q.stand ≡ Some other → (n : ℕ) → Holds other n → Holds st n → ⊥
+    apart : (d : ℕ) (q : Record) (other : Holdings) → (c ≡ d → ⊥) → ops d ≡ Some q → q.holdings ≡ Some other → (n : ℕ) → Holds other n → Holds st n → ⊥
     apart d q other n f g r h i = (kept.pairs c d op q st other n m.is f m.on g).apart r i h
 
-    source : (d : ℕ) (q : Record) (other : Stand) → ops d ≡ Some q → q.stand ≡ Some other → (u v : Key) → after_prefix ((key c ++ st.source.walked) ++ x ∷ []) (key d) ≡ None → other.source.walked ≡ u ++ v → after_prefix ((key c ++ st.source.walked) ++ x ∷ []) (key d ++ u) ≡ None
+    source : (d : ℕ) (q : Record) (other : Holdings) → ops d ≡ Some q → q.holdings ≡ Some other → (u v : Key) → after_prefix ((key c ++ st.source.walked) ++ x ∷ []) (key d) ≡ None → other.source.walked ≡ u ++ v → after_prefix ((key c ++ st.source.walked) ++ x ∷ []) (key d ++ u) ≡ None
     source d q other f g u v e i = go (decide d)
       where
         go : (c ≡ d) ⊎ (c ≡ d → ⊥) → after_prefix ((key c ++ st.source.walked) ++ x ∷ []) (key d ++ u) ≡ None
-        go (inl j) = subst (λ (n : ℕ). after_prefix ((key c ++ st.source.walked) ++ x ∷ []) (key n ++ u) ≡ None) j (part st.source.walked u v off_source (ap (λ (o : Stand). o.source.walked) (mine d q other j f g).1 ∙ i))
+        go (inl j) = subst (λ (n : ℕ). after_prefix ((key c ++ st.source.walked) ++ x ∷ []) (key n ++ u) ≡ None) j (part st.source.walked u v off_source (ap (λ (o : Holdings). o.source.walked) (mine d q other j f g).1 ∙ i))
         go (inr n) = walked_off tree (key d) other.source.walked other st (key c ++ st.source.walked) x st.source.node (kept.each d q other f g).located.here (apart d q other n f g) here.located.source m.source_held (kept.pairs d c q op other st (λ h. n (sym h)) f m.is g m.on).source u v e i
 
-    dest : (d : ℕ) (q : Record) (other : Stand) → ops d ≡ Some q → q.stand ≡ Some other → (u v : Key) → after_prefix ((key c ++ st.source.walked) ++ x ∷ []) (key d) ≡ None → other.dest.walked ≡ u ++ v → after_prefix ((key c ++ st.source.walked) ++ x ∷ []) (key d ++ u) ≡ None
+    dest : (d : ℕ) (q : Record) (other : Holdings) → ops d ≡ Some q → q.holdings ≡ Some other → (u v : Key) → after_prefix ((key c ++ st.source.walked) ++ x ∷ []) (key d) ≡ None → other.dest.walked ≡ u ++ v → after_prefix ((key c ++ st.source.walked) ++ x ∷ []) (key d ++ u) ≡ None
     dest d q other f g u v e i = go (decide d)
       where
         go : (c ≡ d) ⊎ (c ≡ d → ⊥) → after_prefix ((key c ++ st.source.walked) ++ x ∷ []) (key d ++ u) ≡ None
-        go (inl j) = subst (λ (n : ℕ). after_prefix ((key c ++ st.source.walked) ++ x ∷ []) (key n ++ u) ≡ None) j (part st.dest.walked u v off_dest (ap (λ (o : Stand). o.dest.walked) (mine d q other j f g).1 ∙ i))
+        go (inl j) = subst (λ (n : ℕ). after_prefix ((key c ++ st.source.walked) ++ x ∷ []) (key n ++ u) ≡ None) j (part st.dest.walked u v off_dest (ap (λ (o : Holdings). o.dest.walked) (mine d q other j f g).1 ∙ i))
         go (inr n) = walked_off tree (key d) other.dest.walked other st (key c ++ st.source.walked) x st.source.node (kept.each d q other f g).located.here (apart d q other n f g) here.located.source m.source_held (kept.pairs d c q op other st (λ h. n (sym h)) f m.is g m.on).dest u v e i
 
-    walking : (d : ℕ) (q : Record) (other : Stand) → ops d ≡ Some q → q.stand ≡ Some other → q.phase ≡ Walking → after_prefix ((key c ++ st.source.walked) ++ x ∷ []) (key d) ≡ None
+    walking : (d : ℕ) (q : Record) (other : Holdings) → ops d ≡ Some q → q.holdings ≡ Some other → q.phase ≡ Walking → after_prefix ((key c ++ st.source.walked) ++ x ∷ []) (key d) ≡ None
     walking d q other f g w = go (decide d) m.unfinished
       where
         go : (c ≡ d) ⊎ (c ≡ d → ⊥) → (op.phase ≡ Walking) ⊎ ((j : ℕ) × (op.phase ≡ Placed j)) → after_prefix ((key c ++ st.source.walked) ++ x ∷ []) (key d) ≡ None
@@ -98,13 +98,13 @@ spares_of tree ops key c op st x y kept m = record { none = m.free; ends_in = re
         go (inr n) (inl e) = m.none_below e d q other n f g w
         go (inr n) (inr e) = deeper (key d) ((kept.pairs c d op q st other n m.is f m.on g).after (subst (λ (p : Phase). IsAfter op.phase p) (sym w) (subst (λ (p : Phase). IsAfter p Walking) (sym e.1) tt)))
 
-    off : (d e : ℕ) (p q : Record) (sd se : Stand) → ops d ≡ Some p → ops e ≡ Some q → p.stand ≡ Some sd → q.stand ≡ Some se → IsAfter p.phase q.phase → (after_prefix (key d) (key c ++ st.dest.walked) ≡ None) ⊎ ((after_prefix ((key c ++ st.source.walked) ++ x ∷ []) (key d) ≡ None) × (after_prefix ((key c ++ st.source.walked) ++ x ∷ []) (key e) ≡ None))
+    off : (d e : ℕ) (p q : Record) (sd se : Holdings) → ops d ≡ Some p → ops e ≡ Some q → p.holdings ≡ Some sd → q.holdings ≡ Some se → IsAfter p.phase q.phase → (after_prefix (key d) (key c ++ st.dest.walked) ≡ None) ⊎ ((after_prefix ((key c ++ st.source.walked) ++ x ∷ []) (key d) ≡ None) × (after_prefix ((key c ++ st.source.walked) ++ x ∷ []) (key e) ≡ None))
     off d e p q sd se f g h i after = go (decide d) (decide e)
       where
         late : (n : c ≡ d → ⊥) → IsAfter p.phase op.phase → after_prefix (key d) (key c ++ st.dest.walked) ≡ None
         late n a = held_off tree (key d) sd st (key c) st.dest.walked st.dest.node (kept.each d p sd f h).located.here (apart d p sd n f h) here.located.dest m.dest_held (kept.pairs c d op p st sd n m.is f m.on h).dest ((kept.pairs d c p op sd st (λ z. n (sym z)) f m.is h m.on).after a)
 
-        early : (a : ℕ) (r : Record) (sr : Stand) (n : c ≡ a → ⊥) → ops a ≡ Some r → r.stand ≡ Some sr → IsAfter op.phase r.phase → after_prefix ((key c ++ st.source.walked) ++ x ∷ []) (key a) ≡ None
+        early : (a : ℕ) (r : Record) (sr : Holdings) (n : c ≡ a → ⊥) → ops a ≡ Some r → r.holdings ≡ Some sr → IsAfter op.phase r.phase → after_prefix ((key c ++ st.source.walked) ++ x ∷ []) (key a) ≡ None
         early a r sr n u v w = deeper (key a) ((kept.pairs c a op r st sr n m.is u m.on v).after w)
 
         other : (n : c ≡ d → ⊥) (pd po pq : Phase) → p.phase ≡ pd → op.phase ≡ po → q.phase ≡ pq → IsAfter pd pq → (op.phase ≡ Walking) ⊎ ((j : ℕ) × (op.phase ≡ Placed j)) → (after_prefix (key d) (key c ++ st.dest.walked) ≡ None) ⊎ ((after_prefix ((key c ++ st.source.walked) ++ x ∷ []) (key d) ≡ None) × (after_prefix ((key c ++ st.source.walked) ++ x ∷ []) (key e) ≡ None))

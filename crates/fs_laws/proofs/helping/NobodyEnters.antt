@@ -6,14 +6,14 @@ use Rattle.fs_names.specs.Parts.{common, left, is_end}
 use Rattle.fs_names.specs.Shapes.{Shape, Dir, File, is_full}
 use Rattle.fs_calls.specs.Forms.{form, Form, AtNode, AtEntry, AtPair, by_text}
 use Rattle.fs_calls.specs.declared.target.PairCall.TheVariants as pairs
-use Rattle.fs_calls.specs.Rows.{on_row, Edit, Keep, Add, Remove, in_row}
+use Rattle.fs_calls.specs.Rows.{node_row, Edit, Keep, Add, Remove, entry_row}
 use Rattle.fs_calls.specs.declared.errno.Errno.{Errno}
 use Rattle.fs_calls.specs.declared.reply.Reply.{Reply}
-use Rattle.fs_nodes.specs.Graphs.{Graph, Kids, at, set_kid, entry_shape, IsGraph}
+use Rattle.fs_nodes.specs.Graphs.{Graph, Children, at, set_child, entry_shape, IsGraph}
 use Rattle.fs_machine.specs.Finishes.{node_effect, entry_effect, move_effect, rename_effect, effect_at, effect_of, finish}
 use Rattle.fs_machine.specs.Moves.{Move, Finishes, next, next_by, next_on, first_of, head_move, walk_move, take_if, target, target_move, fork_move, rename_move, rename_at, moved_node, dir_then, dir_error, path_error, there_by, victim_of}
-use Rattle.fs_machine.specs.Records.{Phase, Walking, Placed, Finished, Record, Stand}
-use Rattle.fs_laws.specs.Invariants.{Forked, ForkedAt, StandsWell}
+use Rattle.fs_machine.specs.Records.{Phase, Walking, Placed, Finished, Record, Holdings}
+use Rattle.fs_laws.specs.Invariants.{Forked, ForkedAt, HeadsSound}
 use Rattle.fs_laws.proofs.graphs.Walks.{at_child}
 use Rattle.fs_laws.proofs.finish.RealMoves.{at_entries}
 use Rattle.fs_laws.proofs.finish.TreeAfter.{Really, really}
@@ -22,13 +22,13 @@ use Rattle.fs_laws.proofs.calls.Takes.{wants}
 
 -- a rename that is to move a node, at both parents
 pub record ToMove (graph : Graph) (op : Record) (moved : ℕ) : Type 0 where
-  pub st : Stand
+  pub st : Holdings
   pub p : Key
   pub q : Key
-  pub on : op.stand ≡ Some st
+  pub on : op.holdings ≡ Some st
   pub remaining : op.remaining ≡ AtPair pairs.Rename p q
   pub way : common (parent_of p) (parent_of q) ≡ []
-  pub kid : graph.kid st.source.node (last_of p) ≡ Some moved
+  pub child : graph.child st.source.node (last_of p) ≡ Some moved
 
 moved_some : (b : Bool) (s : Option ℕ) (m : ℕ) → Finishes (moved_node b s) ≡ Finishes (Some m) → (b ≡ true) × (s ≡ Some m)
 moved_some true (Some n) m e = let z : n ≡ m = cc in (refl, ap (λ (x : ℕ). Some x) z)
@@ -50,7 +50,7 @@ take_over false k v o m e = e
 first_some : (graph : Graph) (n : ℕ) (b : Option ℕ) (l : Key) (rest : Move) (m : ℕ) → first_of (head_move graph n b l) rest ≡ Finishes (Some m) → (l ≡ []) × (rest ≡ Finishes (Some m))
 first_some graph n (Some k) l rest m e = cc
 first_some graph n None [] rest m e = (refl, e)
-first_some graph n None (x ∷ l) rest m e = absurd (walk_some (graph.shape n) (graph.kid n x) m e)
+first_some graph n None (x ∷ l) rest m e = absurd (walk_some (graph.shape n) (graph.child n x) m e)
 
 dir_some : (s : Option Shape) (rest : Move) (m : ℕ) → dir_then s rest ≡ Finishes (Some m) → rest ≡ Finishes (Some m)
 dir_some None rest m e = cc
@@ -58,31 +58,31 @@ dir_some (Some (File bytes)) rest m e = cc
 dir_some (Some (Dir names)) rest m e = e
 
 pub to_move : (graph : Graph) (op : Record) (moved : ℕ) → next graph op ≡ Finishes (Some moved) → ToMove graph op moved
-to_move graph op moved e = go op.phase (by_text (form op.call)) op.stand refl e
+to_move graph op moved e = go op.phase (by_text (form op.call)) op.holdings refl e
   where
-    at_fork : (st : Stand) (p q : Key) → op.stand ≡ Some st → op.remaining ≡ AtPair pairs.Rename p q → common (parent_of p) (parent_of q) ≡ [] → fork_move graph p q st ≡ Finishes (Some moved) → ToMove graph op moved
+    at_fork : (st : Holdings) (p q : Key) → op.holdings ≡ Some st → op.remaining ≡ AtPair pairs.Rename p q → common (parent_of p) (parent_of q) ≡ [] → fork_move graph p q st ≡ Finishes (Some moved) → ToMove graph op moved
     at_fork st p q on rem way f =
         let at_dest : Move = dir_then (graph.shape st.dest.node) (rename_move graph p q st) in
         let rest : Move = dir_then (graph.shape st.source.node) (first_of (head_move graph st.dest.node st.dest.behind (left st.dest.walked (parent_of q))) at_dest) in
         let a : (left st.source.walked (parent_of p) ≡ []) × (rest ≡ Finishes (Some moved)) = first_some graph st.source.node st.source.behind (left st.source.walked (parent_of p)) rest moved (dir_some (graph.shape st.node) (first_of (head_move graph st.source.node st.source.behind (left st.source.walked (parent_of p))) rest) moved f) in
         let b : (left st.dest.walked (parent_of q) ≡ []) × (at_dest ≡ Finishes (Some moved)) = first_some graph st.dest.node st.dest.behind (left st.dest.walked (parent_of q)) at_dest moved (dir_some (graph.shape st.source.node) (first_of (head_move graph st.dest.node st.dest.behind (left st.dest.walked (parent_of q))) at_dest) moved a.1) in
-        let m : Finishes (moved_node (rename_at graph p q st).1 (graph.kid st.source.node (last_of p))) ≡ Finishes (Some moved) = take_over (wants graph p q st) (graph.kid st.dest.node (last_of q)) st.victim (moved_node (rename_at graph p q st).1 (graph.kid st.source.node (last_of p))) (Some moved) (dir_some (graph.shape st.dest.node) (rename_move graph p q st) moved b.1) in
-        record { st = st; p = p; q = q; on = on; remaining = rem; way = way; kid = (moved_some (rename_at graph p q st).1 (graph.kid st.source.node (last_of p)) moved m).1 }
+        let m : Finishes (moved_node (rename_at graph p q st).1 (graph.child st.source.node (last_of p))) ≡ Finishes (Some moved) = take_over (wants graph p q st) (graph.child st.dest.node (last_of q)) st.victim (moved_node (rename_at graph p q st).1 (graph.child st.source.node (last_of p))) (Some moved) (dir_some (graph.shape st.dest.node) (rename_move graph p q st) moved b.1) in
+        record { st = st; p = p; q = q; on = on; remaining = rem; way = way; child = (moved_some (rename_at graph p q st).1 (graph.child st.source.node (last_of p)) moved m).1 }
 
     none_is : Finishes None ≡ Finishes (Some moved) → ⊥
     none_is f = cc
 
-    there : (st : Stand) (rem : Form) → op.stand ≡ Some st → op.remaining ≡ rem → target rem ≡ [] → target_move graph rem st ≡ Finishes (Some moved) → ToMove graph op moved
+    there : (st : Holdings) (rem : Form) → op.holdings ≡ Some st → op.remaining ≡ rem → target rem ≡ [] → target_move graph rem st ≡ Finishes (Some moved) → ToMove graph op moved
     there st (AtNode c p) on i w f = absurd (none_is f)
-    there st (AtEntry c p) on i w f = absurd (none_is (take_over (victim_of c (entry_shape graph st.node (last_of p))) (graph.kid st.node (last_of p)) st.victim None (Some moved) f))
+    there st (AtEntry c p) on i w f = absurd (none_is (take_over (victim_of c (entry_shape graph st.node (last_of p))) (graph.child st.node (last_of p)) st.victim None (Some moved) f))
     there st (AtPair pairs.Rename p q) on i w f = at_fork st p q on i w f
 
-    stands : (st : Stand) → op.stand ≡ Some st → next_on graph op.remaining st ≡ Finishes (Some moved) → ToMove graph op moved
+    stands : (st : Holdings) → op.holdings ≡ Some st → next_on graph op.remaining st ≡ Finishes (Some moved) → ToMove graph op moved
     stands st on f =
         let a : (target op.remaining ≡ []) × (target_move graph op.remaining st ≡ Finishes (Some moved)) = first_some graph st.node st.behind (target op.remaining) (target_move graph op.remaining st) moved f in
         there st op.remaining on refl a.0 a.1
 
-    go : (p : Phase) (t : Option Errno) (s : Option Stand) → op.stand ≡ s → next_by graph op t p s ≡ Finishes (Some moved) → ToMove graph op moved
+    go : (p : Phase) (t : Option Errno) (s : Option Holdings) → op.holdings ≡ s → next_by graph op t p s ≡ Finishes (Some moved) → ToMove graph op moved
     go (Finished r) t None i f = cc
     go (Finished r) t (Some st) i f = cc
     go Walking (Some x) s i f = cc
@@ -93,51 +93,51 @@ to_move graph op moved e = go op.phase (by_text (form op.call)) op.stand refl e
     go (Placed k) None (Some st) i f = stands st i f
 
 -- an entry that was set: the new one, or an old one
-set_or : (dir : ℕ) (x : Name) (v : Option ℕ) (kid : Kids) (a : ℕ) (y : Name) (b : ℕ) → set_kid dir x v kid a y ≡ Some b → (v ≡ Some b) ⊎ (kid a y ≡ Some b)
-set_or dir x v kid a y b e = go (eqb a dir && same_name y x) e
+set_or : (dir : ℕ) (x : Name) (v : Option ℕ) (child : Children) (a : ℕ) (y : Name) (b : ℕ) → set_child dir x v child a y ≡ Some b → (v ≡ Some b) ⊎ (child a y ≡ Some b)
+set_or dir x v child a y b e = go (eqb a dir && same_name y x) e
   where
-    go : (t : Bool) → cond t v (kid a y) ≡ Some b → (v ≡ Some b) ⊎ (kid a y ≡ Some b)
+    go : (t : Bool) → cond t v (child a y) ≡ Some b → (v ≡ Some b) ⊎ (child a y ≡ Some b)
     go true f = inl f
     go false f = inr f
 
 -- an entry after a finish: an old one, or that of the reserved number, or of the moved node
 pub data NewEntry (graph : Graph) (op : Record) (o : Option ℕ) (a b : ℕ) (x : Name) : Type 0 where
-  Same_entry : graph.kid a x ≡ Some b → NewEntry graph op o a b x
+  Same_entry : graph.child a x ≡ Some b → NewEntry graph op o a b x
   Linked : op.reserved ≡ Some b → NewEntry graph op o a b x
-  Moved : (st : Stand) (w : Key) → op.stand ≡ Some st → at graph.kid st.node w ≡ Some b → o ≡ Some b → NewEntry graph op o a b x
+  Moved : (st : Holdings) (w : Key) → op.holdings ≡ Some st → at graph.child st.node w ≡ Some b → o ≡ Some b → NewEntry graph op o a b x
 
 some_is : (m b : ℕ) → ◌≡◌ {A = Option ℕ} (Some m) (Some b) → m ≡ b
 some_is m b e = cc
 
-on_entries : (graph : Graph) (n : ℕ) (r : Option ℕ) (row : Reply × Option (List ℕ)) → (node_effect graph n r row).graph.kid ≡ graph.kid
+on_entries : (graph : Graph) (n : ℕ) (r : Option ℕ) (row : Reply × Option (List ℕ)) → (node_effect graph n r row).graph.child ≡ graph.child
 on_entries graph n r (t, None) = refl
 on_entries graph n r (t, Some bytes) = refl
 
-in_entries : (graph : Graph) (op : Record) (o : Option ℕ) (n : ℕ) (y : Name) (row : Reply × Edit) (r : Option ℕ) → op.reserved ≡ r → (a b : ℕ) (x : Name) → (entry_effect graph n y r row).graph.kid a x ≡ Some b → NewEntry graph op o a b x
+in_entries : (graph : Graph) (op : Record) (o : Option ℕ) (n : ℕ) (y : Name) (row : Reply × Edit) (r : Option ℕ) → op.reserved ≡ r → (a b : ℕ) (x : Name) → (entry_effect graph n y r row).graph.child a x ≡ Some b → NewEntry graph op o a b x
 in_entries graph op o n y (t, Keep) r i a b x e = Same_entry e
 in_entries graph op o n y (t, Add shape) None i a b x e = Same_entry e
-in_entries graph op o n y (t, Add shape) (Some m) i a b x e = go (set_or n y (Some m) graph.kid a x b e)
+in_entries graph op o n y (t, Add shape) (Some m) i a b x e = go (set_or n y (Some m) graph.child a x b e)
   where
-    go : (Some m ≡ Some b) ⊎ (graph.kid a x ≡ Some b) → NewEntry graph op o a b x
+    go : (Some m ≡ Some b) ⊎ (graph.child a x ≡ Some b) → NewEntry graph op o a b x
     go (inl f) = Linked (i ∙ f)
     go (inr f) = Same_entry f
-in_entries graph op o n y (t, Remove) None i a b x e = go (set_or n y None graph.kid a x b e)
+in_entries graph op o n y (t, Remove) None i a b x e = go (set_or n y None graph.child a x b e)
   where
-    go : (None ≡ Some b) ⊎ (graph.kid a x ≡ Some b) → NewEntry graph op o a b x
+    go : (None ≡ Some b) ⊎ (graph.child a x ≡ Some b) → NewEntry graph op o a b x
     go (inl f) = cc
     go (inr f) = Same_entry f
-in_entries graph op o n y (t, Remove) (Some m) i a b x e = go (set_or n y None graph.kid a x b e)
+in_entries graph op o n y (t, Remove) (Some m) i a b x e = go (set_or n y None graph.child a x b e)
   where
-    go : (None ≡ Some b) ⊎ (graph.kid a x ≡ Some b) → NewEntry graph op o a b x
+    go : (None ≡ Some b) ⊎ (graph.child a x ≡ Some b) → NewEntry graph op o a b x
     go (inl f) = cc
     go (inr f) = Same_entry f
 
 -- a rename at both parents
-rename_entries : (graph : Graph) → IsGraph graph → (op : Record) (o : Option ℕ) (p q : Key) (st : Stand) → op.stand ≡ Some st → Forked graph st.node p q st → fork_move graph p q st ≡ Finishes o → (t : Bool) → (rename_at graph p q st).1 ≡ t → (s : Option ℕ) → graph.kid st.source.node (last_of p) ≡ s
-    → (r : Reply) (a b : ℕ) (x : Name) → (move_effect graph st (last_of p) (last_of q) op.reserved r t s).graph.kid a x ≡ Some b → NewEntry graph op o a b x
+rename_entries : (graph : Graph) → IsGraph graph → (op : Record) (o : Option ℕ) (p q : Key) (st : Holdings) → op.holdings ≡ Some st → Forked graph st.node p q st → fork_move graph p q st ≡ Finishes o → (t : Bool) → (rename_at graph p q st).1 ≡ t → (s : Option ℕ) → graph.child st.source.node (last_of p) ≡ s
+    → (r : Reply) (a b : ℕ) (x : Name) → (move_effect graph st (last_of p) (last_of q) op.reserved r t s).graph.child a x ≡ Some b → NewEntry graph op o a b x
 rename_entries graph is op o p q st on f fork false i s j r a b x e = Same_entry e
 rename_entries graph is op o p q st on f fork true i None j r a b x e = Same_entry e
-rename_entries graph is op o p q st on f fork true i (Some m) j r a b x e = go (set_or st.dest.node (last_of q) (Some m) (set_kid st.source.node (last_of p) None graph.kid) a x b e)
+rename_entries graph is op o p q st on f fork true i (Some m) j r a b x e = go (set_or st.dest.node (last_of q) (Some m) (set_child st.source.node (last_of p) None graph.child) a x b e)
   where
     real : Really (dir_error (left st.source.walked (parent_of p)) (graph.shape st.source.node)) (dir_error (left st.dest.walked (parent_of q)) (graph.shape st.dest.node)) (entry_shape graph st.source.node (last_of p)) (is_end (after_prefix p q)) (there_by (has_more (after_prefix q p)) (entry_shape graph st.dest.node (last_of q))) (is_end (after_prefix (parent_of p) (parent_of q)) || not (is_full (graph.shape st.dest.node)))
     real = really (dir_error (left st.source.walked (parent_of p)) (graph.shape st.source.node)) (dir_error (left st.dest.walked (parent_of q)) (graph.shape st.dest.node)) (entry_shape graph st.source.node (last_of p)) (is_end (after_prefix p q)) (there_by (has_more (after_prefix q p)) (entry_shape graph st.dest.node (last_of q))) (is_end (after_prefix (parent_of p) (parent_of q)) || not (is_full (graph.shape st.dest.node))) i
@@ -145,32 +145,32 @@ rename_entries graph is op o p q st on f fork true i (Some m) j r a b x e = go (
     o_is : o ≡ Some m
     o_is =
         let mv : rename_move graph p q st ≡ Finishes o = at_entries graph is p q st o f real.source real.dest fork in
-        let z : Finishes (moved_node (rename_at graph p q st).1 (graph.kid st.source.node (last_of p))) ≡ Finishes o = take_over (wants graph p q st) (graph.kid st.dest.node (last_of q)) st.victim (moved_node (rename_at graph p q st).1 (graph.kid st.source.node (last_of p))) o mv in
+        let z : Finishes (moved_node (rename_at graph p q st).1 (graph.child st.source.node (last_of p))) ≡ Finishes o = take_over (wants graph p q st) (graph.child st.dest.node (last_of q)) st.victim (moved_node (rename_at graph p q st).1 (graph.child st.source.node (last_of p))) o mv in
         let y : Finishes (Some m) ≡ Finishes o = sym (ap₂ (λ (c : Bool) (k : Option ℕ). Finishes (moved_node c k)) i j) ∙ z in
         sym (let w : Some m ≡ o = cc in w)
 
-    rest : (None ≡ Some b) ⊎ (graph.kid a x ≡ Some b) → NewEntry graph op o a b x
+    rest : (None ≡ Some b) ⊎ (graph.child a x ≡ Some b) → NewEntry graph op o a b x
     rest (inl g) = cc
     rest (inr g) = Same_entry g
 
-    go : (Some m ≡ Some b) ⊎ (set_kid st.source.node (last_of p) None graph.kid a x ≡ Some b) → NewEntry graph op o a b x
+    go : (Some m ≡ Some b) ⊎ (set_child st.source.node (last_of p) None graph.child a x ≡ Some b) → NewEntry graph op o a b x
     go (inl g) = let y : m ≡ b = some_is m b g in
-        Moved st (st.source.walked ++ last_of p ∷ []) on (at_child graph.kid st.node st.source.node st.source.walked (last_of p) f.source_at ∙ j ∙ g) (o_is ∙ g)
-    go (inr g) = rest (set_or st.source.node (last_of p) None graph.kid a x b g)
+        Moved st (st.source.walked ++ last_of p ∷ []) on (at_child graph.child st.node st.source.node st.source.walked (last_of p) f.source_at ∙ j ∙ g) (o_is ∙ g)
+    go (inr g) = rest (set_or st.source.node (last_of p) None graph.child a x b g)
 
-pub finish_entries : (graph : Graph) → IsGraph graph → (op : Record) (o : Option ℕ) → ((st : Stand) → op.stand ≡ Some st → StandsWell graph st.node op.remaining st) → next graph op ≡ Finishes o → (a b : ℕ) (x : Name) → (finish graph op).graph.kid a x ≡ Some b → NewEntry graph op o a b x
-finish_entries graph is op o well m a b x e = go op.phase (by_text (form op.call)) op.stand refl m e
+pub finish_entries : (graph : Graph) → IsGraph graph → (op : Record) (o : Option ℕ) → ((st : Holdings) → op.holdings ≡ Some st → HeadsSound graph st.node op.remaining st) → next graph op ≡ Finishes o → (a b : ℕ) (x : Name) → (finish graph op).graph.child a x ≡ Some b → NewEntry graph op o a b x
+finish_entries graph is op o well m a b x e = go op.phase (by_text (form op.call)) op.holdings refl m e
   where
-    there : (st : Stand) (rem : Form) → op.stand ≡ Some st → StandsWell graph st.node rem st → next_on graph rem st ≡ Finishes o → (effect_at graph rem st op.reserved).graph.kid a x ≡ Some b → NewEntry graph op o a b x
-    there st (AtNode c p) on w n f = Same_entry (sym (ap (λ (k : Kids). k a x) (on_entries graph st.node op.reserved (on_row c (path_error p (graph.shape st.node)) (graph.shape st.node)))) ∙ f)
-    there st (AtEntry c p) on w n f = in_entries graph op o st.node (last_of p) (in_row c (dir_error (parent_of p) (graph.shape st.node)) (is_full (graph.shape st.node)) (entry_shape graph st.node (last_of p))) op.reserved refl a b x f
+    there : (st : Holdings) (rem : Form) → op.holdings ≡ Some st → HeadsSound graph st.node rem st → next_on graph rem st ≡ Finishes o → (effect_at graph rem st op.reserved).graph.child a x ≡ Some b → NewEntry graph op o a b x
+    there st (AtNode c p) on w n f = Same_entry (sym (ap (λ (k : Children). k a x) (on_entries graph st.node op.reserved (node_row c (path_error p (graph.shape st.node)) (graph.shape st.node)))) ∙ f)
+    there st (AtEntry c p) on w n f = in_entries graph op o st.node (last_of p) (entry_row c (dir_error (parent_of p) (graph.shape st.node)) (is_full (graph.shape st.node)) (entry_shape graph st.node (last_of p))) op.reserved refl a b x f
     there st (AtPair pairs.Rename p q) on w n f = by (target (AtPair pairs.Rename p q)) refl w n f
       where
-        by : (l : Key) → target (AtPair pairs.Rename p q) ≡ l → ForkedAt graph st.node p q st l → first_of (head_move graph st.node st.behind l) (fork_move graph p q st) ≡ Finishes o → (rename_effect graph p q st op.reserved l).graph.kid a x ≡ Some b → NewEntry graph op o a b x
-        by [] i w n f = rename_entries graph is op o p q st on w ((head_stops graph st.node st.behind [] (fork_move graph p q st) o n).1 refl) (rename_at graph p q st).1 refl (graph.kid st.source.node (last_of p)) refl (rename_at graph p q st).0 a b x f
+        by : (l : Key) → target (AtPair pairs.Rename p q) ≡ l → ForkedAt graph st.node p q st l → first_of (head_move graph st.node st.behind l) (fork_move graph p q st) ≡ Finishes o → (rename_effect graph p q st op.reserved l).graph.child a x ≡ Some b → NewEntry graph op o a b x
+        by [] i w n f = rename_entries graph is op o p q st on w ((head_stops graph st.node st.behind [] (fork_move graph p q st) o n).1 refl) (rename_at graph p q st).1 refl (graph.child st.source.node (last_of p)) refl (rename_at graph p q st).0 a b x f
         by (y ∷ l) i w n f = Same_entry f
 
-    go : (p : Phase) (t : Option Errno) (s : Option Stand) → op.stand ≡ s → next_by graph op t p s ≡ Finishes o → (effect_of graph op t s).graph.kid a x ≡ Some b → NewEntry graph op o a b x
+    go : (p : Phase) (t : Option Errno) (s : Option Holdings) → op.holdings ≡ s → next_by graph op t p s ≡ Finishes o → (effect_of graph op t s).graph.child a x ≡ Some b → NewEntry graph op o a b x
     go (Finished r) t None i n f = cc
     go (Finished r) t (Some st) i n f = cc
     go Walking (Some k) s i n f = Same_entry f

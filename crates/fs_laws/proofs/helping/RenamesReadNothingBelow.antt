@@ -11,36 +11,36 @@ use Rattle.fs_laws.specs.Maps.{Map, below}
 use Rattle.fs_calls.specs.Rows.{as_dir, rename_row}
 use Rattle.fs_calls.specs.declared.errno.Errno.{Errno}
 use Rattle.fs_calls.specs.declared.reply.Reply.{Reply}
-use Rattle.fs_nodes.specs.Graphs.{Graph, at, then_at, numbers, spell, entry_shape, IsGraph}
+use Rattle.fs_nodes.specs.Graphs.{Graph, at, then_at, numbers, graph_shapes, entry_shape, IsGraph}
 use Rattle.fs_machine.specs.Moves.{Finishes, first_of, head_move, next_on, same_kind, fork_move, dir_error, walk_errno, rename_at}
-use Rattle.fs_machine.specs.Records.{Holds, Stand}
-use Rattle.fs_laws.specs.Invariants.{ForkedAt, StandsWell, VictimAt}
-use Rattle.fs_laws.specs.Placed.{AllOff, Clear, Aside, looks_into}
-use Rattle.fs_laws.specs.Stands.{Located, IsClear}
+use Rattle.fs_machine.specs.Records.{Holds, Holdings}
+use Rattle.fs_laws.specs.Invariants.{ForkedAt, HeadsSound, VictimAt}
+use Rattle.fs_laws.specs.Placed.{AllOff, ChangesNothingBelow, Aside, looks_into}
+use Rattle.fs_laws.specs.CallFacts.{Located, IsClear}
 use Rattle.fs_laws.proofs.trees.Prefixes.{prefix_append, prefix_some, prefix_both}
 use Rattle.fs_laws.proofs.helping.FinishPassesPlaced.{child_cases}
 use Rattle.fs_laws.proofs.calls.Located.{key_is, dir_under, resolve_under, from_more, to_more, change_under}
 use Rattle.fs_laws.proofs.graphs.Walks.{at_before, at_child, at_from, then_some}
 use Rattle.fs_laws.proofs.graphs.TreesOfChanges.{resolve_at}
 use Rattle.fs_laws.proofs.finish.Readings.{Stops, ForkAt, below_is, dir_read, arrived, rename_finish}
-use Rattle.fs_laws.proofs.finish.Replies.{head_stops, fork_stops, common_is, Leaf, leaf_kids}
+use Rattle.fs_laws.proofs.finish.Replies.{head_stops, fork_stops, common_is, Leaf, leaf_children}
 use Rattle.fs_laws.proofs.events.TwoCalls.{held_off}
 use Rattle.fs_laws.proofs.helping.ReadsNothingBelow.{Front, Off, stopped_off, on_off, in_off}
 use Rattle.fs_laws.proofs.finish.RealMoves.{Real, Replaces, real_of, at_entries, victim_held}
 
 -- the node of a head is held, by the head or as the position
-pub head_held : (tree : Map ℕ) (k : Key) (st : Stand) (walked : Key) (node : ℕ) → tree k ≡ Some st.node → tree (k ++ walked) ≡ Some node → (HasNames walked → Holds st node) → Holds st node
+pub head_held : (tree : Map ℕ) (k : Key) (st : Holdings) (walked : Key) (node : ℕ) → tree k ≡ Some st.node → tree (k ++ walked) ≡ Some node → (HasNames walked → Holds st node) → Holds st node
 head_held tree k st [] node here at_w f = let z : ◌≡◌ {A = Option ℕ} (Some st.node) (Some node) = sym here ∙ sym (ap tree (append-nil k)) ∙ at_w in inl (let y : st.node ≡ node = cc in y)
 head_held tree k st (x ∷ w) node here at_w f = f tt
 
-pub source_held : (tree : Map ℕ) (k : Key) (st : Stand) → Located tree k st → Holds st st.source.node
+pub source_held : (tree : Map ℕ) (k : Key) (st : Holdings) → Located tree k st → Holds st st.source.node
 source_held tree k st l = head_held tree k st st.source.walked st.source.node l.here l.source (λ m. inr (inr (inl (m, inl refl))))
 
-pub dest_held : (tree : Map ℕ) (k : Key) (st : Stand) → Located tree k st → Holds st st.dest.node
+pub dest_held : (tree : Map ℕ) (k : Key) (st : Holdings) → Located tree k st → Holds st st.dest.node
 dest_held tree k st l = head_held tree k st st.dest.walked st.dest.node l.here l.dest (λ m. inr (inr (inr (inl (m, inl refl)))))
 
 -- where a head's walk has stopped
-head_off : (graph : Graph) → IsGraph graph → (k : Key) (st : Stand) (kd : Key) (other : Stand) (walked l whole : Key) (node : ℕ) → Front graph k st kd other → numbers graph (k ++ walked) ≡ Some node → Holds st node → IsClear (numbers graph) k walked other → Stops graph node l → whole ≡ walked ++ l
+head_off : (graph : Graph) → IsGraph graph → (k : Key) (st : Holdings) (kd : Key) (other : Holdings) (walked l whole : Key) (node : ℕ) → Front graph k st kd other → numbers graph (k ++ walked) ≡ Some node → Holds st node → IsClear (numbers graph) k walked other → Stops graph node l → whole ≡ walked ++ l
     → after_prefix kd (k ++ whole) ≡ None
 head_off graph is k st kd other walked l whole node f at_h held clear stop i =
     ap (after_prefix kd) (ap (λ (z : Key). k ++ z) i ∙ sym (append_assoc k walked l))
@@ -56,9 +56,9 @@ leaf_off graph is t kd v m at_t leaf there differs = go (after_prefix t kd) refl
         let z : ◌≡◌ {A = Option ℕ} (Some v) (Some m) = sym at_t ∙ sym (ap (numbers graph) (prefix_some t kd [] e ∙ append-nil t)) ∙ there in
         absurd (differs (let y : v ≡ m = cc in y))
     go (Some (x ∷ r)) e =
-        let a : at graph.kid v (x ∷ r) ≡ Some m = sym (at_from graph.kid 0 v t (x ∷ r) at_t) ∙ ap (numbers graph) (sym (prefix_some t kd (x ∷ r) e)) ∙ there in
-        let g : (c : ℕ) × (graph.kid v x ≡ Some c) × (at graph.kid c r ≡ Some m) = then_some (graph.kid v x) (λ c. at graph.kid c r) m a in
-        let z : ◌≡◌ {A = Option ℕ} None (Some g.0) = sym (leaf_kids graph is v (graph.shape v) refl leaf x) ∙ g.1 in
+        let a : at graph.child v (x ∷ r) ≡ Some m = sym (at_from graph.child 0 v t (x ∷ r) at_t) ∙ ap (numbers graph) (sym (prefix_some t kd (x ∷ r) e)) ∙ there in
+        let g : (c : ℕ) × (graph.child v x ≡ Some c) × (at graph.child c r ≡ Some m) = then_some (graph.child v x) (λ c. at graph.child c r) m a in
+        let z : ◌≡◌ {A = Option ℕ} None (Some g.0) = sym (leaf_children graph is v (graph.shape v) refl leaf x) ∙ g.1 in
         cc
 
 none_off : (graph : Graph) → (t kd : Key) (m : ℕ) → numbers graph t ≡ None → numbers graph kd ≡ Some m → after_prefix t kd ≡ None
@@ -67,7 +67,7 @@ none_off graph t kd m at_t there = go (after_prefix t kd) refl
     go : (o : Option Key) → after_prefix t kd ≡ o → o ≡ None
     go None e = refl
     go (Some r) e =
-        let b : (q : ℕ) × (numbers graph t ≡ Some q) × (at graph.kid q r ≡ Some m) = at_before graph.kid 0 m t r (ap (numbers graph) (sym (prefix_some t kd r e)) ∙ there) in
+        let b : (q : ℕ) × (numbers graph t ≡ Some q) × (at graph.child q r ≡ Some m) = at_before graph.child 0 m t r (ap (numbers graph) (sym (prefix_some t kd r e)) ∙ there) in
         let z : ◌≡◌ {A = Option ℕ} None (Some b.0) = sym at_t ∙ b.1 in
         cc
 
@@ -75,7 +75,7 @@ both_sides : (u v w : Bool) → (u && v && w) ≡ true → u ≡ true
 both_sides true v w e = refl
 both_sides false v w e = e
 
-pub rename_off : (graph : Graph) → IsGraph graph → (k : Key) (p q : Key) (st : Stand) (o : Option ℕ) (kd : Key) (other : Stand) (s : Shape) → Located (numbers graph) k st → graph.shape st.node ≡ Some s → Fits (AtPair pairs.Rename p q) → StandsWell graph st.node (AtPair pairs.Rename p q) st → VictimAt graph (AtPair pairs.Rename p q) st
+pub rename_off : (graph : Graph) → IsGraph graph → (k : Key) (p q : Key) (st : Holdings) (o : Option ℕ) (kd : Key) (other : Holdings) (s : Shape) → Located (numbers graph) k st → graph.shape st.node ≡ Some s → Fits (AtPair pairs.Rename p q) → HeadsSound graph st.node (AtPair pairs.Rename p q) st → VictimAt graph (AtPair pairs.Rename p q) st
     → next_on graph (AtPair pairs.Rename p q) st ≡ Finishes o → Front graph k st kd other
     → Off graph k (AtPair pairs.Rename p q) kd
 rename_off graph is k p q st o kd other s loc u fits well victim e f = go (common (parent_of p) (parent_of q)) refl well e
@@ -87,30 +87,30 @@ rename_off graph is k p q st o kd other s loc u fits well victim e f = go (commo
     mq = to_more p q fits
 
     tree : Map Shape
-    tree = below k (spell graph)
+    tree = below k (graph_shapes graph)
 
     ch : Bool → Change
-    ch b = change_under k (move_change b (rename_writes (is_end (after_prefix (parent_of p) (parent_of q))) (parent_of p) (names_of (spell graph (k ++ parent_of p))) (last_of p) (parent_of q) (names_of (spell graph (k ++ parent_of q))) (last_of q)) p q)
+    ch b = change_under k (move_change b (rename_writes (is_end (after_prefix (parent_of p) (parent_of q))) (parent_of p) (names_of (graph_shapes graph (k ++ parent_of p))) (last_of p) (parent_of q) (names_of (graph_shapes graph (k ++ parent_of q))) (last_of q)) p q)
 
     row : Reply × Bool
-    row = rename_row (resolve_dir (below k (spell graph)) (parent_of p)) (resolve_dir (below k (spell graph)) (parent_of q)) (spell graph (k ++ p)) (is_end (after_prefix p q)) (spell graph (k ++ q)) (is_end (after_prefix (parent_of p) (parent_of q)) || not (is_full (spell graph (k ++ parent_of q))))
+    row = rename_row (resolve_dir (below k (graph_shapes graph)) (parent_of p)) (resolve_dir (below k (graph_shapes graph)) (parent_of q)) (graph_shapes graph (k ++ p)) (is_end (after_prefix p q)) (graph_shapes graph (k ++ q)) (is_end (after_prefix (parent_of p) (parent_of q)) || not (is_full (graph_shapes graph (k ++ parent_of q))))
 
-    dir_at_root : (d : Key) → resolve_dir (spell graph) (k ++ d) ≡ resolve_dir (below k (spell graph)) d
-    dir_at_root d = ap (λ (z : Option Errno). as_dir z (spell graph (k ++ d))) (resolve_under (spell graph) k d (resolve_at graph is st.node k loc.here))
+    dir_at_root : (d : Key) → resolve_dir (graph_shapes graph) (k ++ d) ≡ resolve_dir (below k (graph_shapes graph)) d
+    dir_at_root d = ap (λ (z : Option Errno). as_dir z (graph_shapes graph (k ++ d))) (resolve_under (graph_shapes graph) k d (resolve_at graph is st.node k loc.here))
 
     made : (off0 : after_prefix kd (k ++ parent_of p) ≡ None)
-        → (resolve_dir (below k (spell graph)) (parent_of p) ≡ None → (after_prefix kd (k ++ parent_of q) ≡ None) × (looks_into (spell graph) (k ++ p) (k ++ q) ≡ true → after_prefix kd (k ++ q) ≡ None))
-        → Clear (ch row.1) kd → Off graph k (AtPair pairs.Rename p q) kd
+        → (resolve_dir (below k (graph_shapes graph)) (parent_of p) ≡ None → (after_prefix kd (k ++ parent_of q) ≡ None) × (looks_into (graph_shapes graph) (k ++ p) (k ++ q) ≡ true → after_prefix kd (k ++ q) ≡ None))
+        → ChangesNothingBelow (ch row.1) kd → Off graph k (AtPair pairs.Rename p q) kd
     made off0 rest clear = record {
       blind = (
         ap (after_prefix kd) (dir_under k p mp) ∙ off0,
-        λ r. (let z : (after_prefix kd (k ++ parent_of q) ≡ None) × (looks_into (spell graph) (k ++ p) (k ++ q) ≡ true → after_prefix kd (k ++ q) ≡ None) = rest (sym (dir_at_root (parent_of p)) ∙ ap (resolve_dir (spell graph)) (sym (dir_under k p mp)) ∙ r) in (ap (after_prefix kd) (dir_under k q mq) ∙ z.0, z.1)),
+        λ r. (let z : (after_prefix kd (k ++ parent_of q) ≡ None) × (looks_into (graph_shapes graph) (k ++ p) (k ++ q) ≡ true → after_prefix kd (k ++ q) ≡ None) = rest (sym (dir_at_root (parent_of p)) ∙ ap (resolve_dir (graph_shapes graph)) (sym (dir_under k p mp)) ∙ r) in (ap (after_prefix kd) (dir_under k q mq) ∙ z.0, z.1)),
       );
       clear = clear;
     }
 
-    stuck : (d : Errno) → resolve_dir (below k (spell graph)) (parent_of p) ≡ Some d → Clear (ch row.1) kd
-    stuck d r = subst (λ (z : Option Errno). Clear (ch (rename_row z (resolve_dir (below k (spell graph)) (parent_of q)) (spell graph (k ++ p)) (is_end (after_prefix p q)) (spell graph (k ++ q)) (is_end (after_prefix (parent_of p) (parent_of q)) || not (is_full (spell graph (k ++ parent_of q))))).1) kd) (sym r) (tt, tt)
+    stuck : (d : Errno) → resolve_dir (below k (graph_shapes graph)) (parent_of p) ≡ Some d → ChangesNothingBelow (ch row.1) kd
+    stuck d r = subst (λ (z : Option Errno). ChangesNothingBelow (ch (rename_row z (resolve_dir (below k (graph_shapes graph)) (parent_of q)) (graph_shapes graph (k ++ p)) (is_end (after_prefix p q)) (graph_shapes graph (k ++ q)) (is_end (after_prefix (parent_of p) (parent_of q)) || not (is_full (graph_shapes graph (k ++ parent_of q))))).1) kd) (sym r) (tt, tt)
 
     go : (l : Key) → common (parent_of p) (parent_of q) ≡ l → ForkedAt graph st.node p q st l → first_of (head_move graph st.node st.behind l) (fork_move graph p q st) ≡ Finishes o → Off graph k (AtPair pairs.Rename p q) kd
     go (x ∷ l) i w g =
@@ -118,7 +118,7 @@ rename_off graph is k p q st o kd other s loc u fits well victim e f = go (commo
         let r : (r : Key) × (parent_of p ≡ common (parent_of p) (parent_of q) ++ r) = common_is (parent_of p) (parent_of q) in
         let d : parent_of p ≡ x ∷ (l ++ r.0) = r.1 ∙ ap (λ (z : Key). z ++ r.0) i in
         let off0 : after_prefix kd (k ++ parent_of p) ≡ None = ap (λ (z : Key). after_prefix kd (k ++ z)) d ∙ stopped_off graph is k kd (x ∷ (l ++ r.0)) st.node other.node loc.here stop f.there f.off in
-        let res : resolve_dir (below k (spell graph)) (parent_of p) ≡ Some (walk_errno (graph.shape st.node)) =
+        let res : resolve_dir (below k (graph_shapes graph)) (parent_of p) ≡ Some (walk_errno (graph.shape st.node)) =
         ap₂ resolve_dir (below_is graph k st.node loc.here) d ∙ sym (dir_read graph is st.node st.node s [] (x ∷ (l ++ r.0)) u refl stop) in
         made off0 (λ z. absurd (let y : ◌≡◌ {A = Option Errno} (Some (walk_errno (graph.shape st.node))) None = sym res ∙ z in (cc))) (stuck (walk_errno (graph.shape st.node)) res)
     go [] i w g = made off0 rest (clear row.1 refl)
@@ -132,7 +132,7 @@ rename_off graph is k p q st o kd other s loc u fits well victim e f = go (commo
         off0 : after_prefix kd (k ++ parent_of p) ≡ None
         off0 = head_off graph is k st kd other st.source.walked (left st.source.walked (parent_of p)) (parent_of p) st.source.node f loc.source (source_held (numbers graph) k st loc) f.source stops.source_stops w.source_is
 
-        source_read : resolve_dir (below k (spell graph)) (parent_of p) ≡ dir_error (left st.source.walked (parent_of p)) (graph.shape st.source.node)
+        source_read : resolve_dir (below k (graph_shapes graph)) (parent_of p) ≡ dir_error (left st.source.walked (parent_of p)) (graph.shape st.source.node)
         source_read = ap₂ resolve_dir (below_is graph k st.node loc.here) w.source_is ∙ sym (dir_read graph is st.node st.source.node s st.source.walked (left st.source.walked (parent_of p)) u w.source_at stops.source_stops)
 
         off1 : dir_error (left st.source.walked (parent_of p)) (graph.shape st.source.node) ≡ None → after_prefix kd (k ++ parent_of q) ≡ None
@@ -142,20 +142,20 @@ rename_off graph is k p q st o kd other s loc u fits well victim e f = go (commo
         q_is = ap (λ (l : Key). k ++ l) (key_is q mq) ∙ sym (append_assoc k (parent_of q) (last_of q ∷ []))
 
         -- the entry of the destination
-        entry : parent_of q ≡ st.dest.walked → numbers graph (k ++ q) ≡ graph.kid st.dest.node (last_of q)
-        entry d = ap (numbers graph) (q_is ∙ ap (λ (l : Key). (k ++ l) ++ last_of q ∷ []) d) ∙ at_child graph.kid 0 st.dest.node (k ++ st.dest.walked) (last_of q) loc.dest
+        entry : parent_of q ≡ st.dest.walked → numbers graph (k ++ q) ≡ graph.child st.dest.node (last_of q)
+        entry d = ap (numbers graph) (q_is ∙ ap (λ (l : Key). (k ++ l) ++ last_of q ∷ []) d) ∙ at_child graph.child 0 st.dest.node (k ++ st.dest.walked) (last_of q) loc.dest
 
-        entry_p : parent_of p ≡ st.source.walked → numbers graph (k ++ p) ≡ graph.kid st.source.node (last_of p)
-        entry_p d = ap (numbers graph) (ap (λ (l : Key). k ++ l) (key_is p mp) ∙ sym (append_assoc k (parent_of p) (last_of p ∷ [])) ∙ ap (λ (l : Key). (k ++ l) ++ last_of p ∷ []) d) ∙ at_child graph.kid 0 st.source.node (k ++ st.source.walked) (last_of p) loc.source
+        entry_p : parent_of p ≡ st.source.walked → numbers graph (k ++ p) ≡ graph.child st.source.node (last_of p)
+        entry_p d = ap (numbers graph) (ap (λ (l : Key). k ++ l) (key_is p mp) ∙ sym (append_assoc k (parent_of p) (last_of p ∷ [])) ∙ ap (λ (l : Key). (k ++ l) ++ last_of p ∷ []) d) ∙ at_child graph.child 0 st.source.node (k ++ st.source.walked) (last_of p) loc.source
 
         arrived_at : (walked whole l : Key) (t : Option Shape) → whole ≡ walked ++ l → dir_error l t ≡ None → whole ≡ walked
         arrived_at walked whole l t i z = i ∙ ap (λ (y : Key). walked ++ y) (arrived l t z) ∙ append-nil walked
 
-        into : dir_error (left st.source.walked (parent_of p)) (graph.shape st.source.node) ≡ None → looks_into (spell graph) (k ++ p) (k ++ q) ≡ true → after_prefix kd (k ++ q) ≡ None
+        into : dir_error (left st.source.walked (parent_of p)) (graph.shape st.source.node) ≡ None → looks_into (graph_shapes graph) (k ++ p) (k ++ q) ≡ true → after_prefix kd (k ++ q) ≡ None
         into es look = by (left st.dest.walked (parent_of q)) refl
           where
-            want : (same_kind (spell graph (k ++ p)) (spell graph (k ++ q)) && not (is_end (after_prefix p q)) && not (has_more (after_prefix q p))) ≡ true
-            want = ap₂ (λ (a b : Option Key). same_kind (spell graph (k ++ p)) (spell graph (k ++ q)) && not (is_end a) && not (has_more b)) (sym (prefix_both k p q)) (sym (prefix_both k q p)) ∙ look
+            want : (same_kind (graph_shapes graph (k ++ p)) (graph_shapes graph (k ++ q)) && not (is_end (after_prefix p q)) && not (has_more (after_prefix q p))) ≡ true
+            want = ap₂ (λ (a b : Option Key). same_kind (graph_shapes graph (k ++ p)) (graph_shapes graph (k ++ q)) && not (is_end a) && not (has_more b)) (sym (prefix_both k p q)) (sym (prefix_both k q p)) ∙ look
 
             by : (l : Key) → left st.dest.walked (parent_of q) ≡ l → after_prefix kd (k ++ q) ≡ None
             by (z ∷ l) j =
@@ -169,16 +169,16 @@ rename_off graph is k p q st o kd other s loc u fits well victim e f = go (commo
                 ends : (after_prefix kd ((k ++ parent_of q) ++ last_of q ∷ []) ≡ None) ⊎ (kd ≡ (k ++ parent_of q) ++ last_of q ∷ []) → after_prefix kd (k ++ q) ≡ None
                 ends (inl h) = ap (after_prefix kd) q_is ∙ h
                 ends (inr h) =
-                    let kid : graph.kid st.dest.node (last_of q) ≡ Some other.node = sym (entry d_is) ∙ ap (numbers graph) (q_is ∙ sym h) ∙ f.there in
-                    let dd : (names : List Name) × (graph.shape st.dest.node ≡ Some (Dir names)) × (has_name (last_of q) names ≡ true) = is.of_dir st.dest.node other.node (last_of q) kid in
+                    let child : graph.child st.dest.node (last_of q) ≡ Some other.node = sym (entry d_is) ∙ ap (numbers graph) (q_is ∙ sym h) ∙ f.there in
+                    let dd : (names : List Name) × (graph.shape st.dest.node ≡ Some (Dir names)) × (has_name (last_of q) names ≡ true) = is.of_dir st.dest.node other.node (last_of q) child in
                     let ed : dir_error (left st.dest.walked (parent_of q)) (graph.shape st.dest.node) ≡ None = ap₂ dir_error j dd.1 in
-                    let kinds : same_kind (entry_shape graph st.source.node (last_of p)) (entry_shape graph st.dest.node (last_of q)) ≡ same_kind (spell graph (k ++ p)) (spell graph (k ++ q)) =
+                    let kinds : same_kind (entry_shape graph st.source.node (last_of p)) (entry_shape graph st.dest.node (last_of q)) ≡ same_kind (graph_shapes graph (k ++ p)) (graph_shapes graph (k ++ q)) =
                     ap₂ (λ (a b : Option ℕ). same_kind (then_at a graph.shape) (then_at b graph.shape)) (sym (entry_p (arrived_at st.source.walked (parent_of p) (left st.source.walked (parent_of p)) (graph.shape st.source.node) w.source_is es))) (sym (entry d_is)) in
-                    let v : st.victim ≡ Some other.node = victim_held graph p q st o other.node victim (at_entries graph is p q st o w es ed fork) kid
+                    let v : st.victim ≡ Some other.node = victim_held graph p q st o other.node victim (at_entries graph is p q st o w es ed fork) child
                     (ap (λ (b : Bool). b && not (is_end (after_prefix p q)) && not (has_more (after_prefix q p))) kinds ∙ want) in
                     absurd (f.apart other.node (inl refl) (inr (inr (inr (inr v)))))
 
-        rest : resolve_dir (below k (spell graph)) (parent_of p) ≡ None → (after_prefix kd (k ++ parent_of q) ≡ None) × (looks_into (spell graph) (k ++ p) (k ++ q) ≡ true → after_prefix kd (k ++ q) ≡ None)
+        rest : resolve_dir (below k (graph_shapes graph)) (parent_of p) ≡ None → (after_prefix kd (k ++ parent_of q) ≡ None) × (looks_into (graph_shapes graph) (k ++ p) (k ++ q) ≡ true → after_prefix kd (k ++ q) ≡ None)
         rest r = let es : dir_error (left st.source.walked (parent_of p)) (graph.shape st.source.node) ≡ None = sym source_read ∙ r in (off1 es, into es)
 
         rows : rename_at graph p q st ≡ row
@@ -186,7 +186,7 @@ rename_off graph is k p q st o kd other s loc u fits well victim e f = go (commo
             rename_finish graph is st.node s p q st mp mq u stops
             ∙ ap (λ (t : Map Shape). rename_row (resolve_dir t (parent_of p)) (resolve_dir t (parent_of q)) (t p) (is_end (after_prefix p q)) (t q) (is_end (after_prefix (parent_of p) (parent_of q)) || not (is_full (t (parent_of q))))) (sym (below_is graph k st.node loc.here))
 
-        clear : (b : Bool) → row.1 ≡ b → Clear (ch b) kd
+        clear : (b : Bool) → row.1 ≡ b → ChangesNothingBelow (ch b) kd
         clear false j = (tt, tt)
         clear true j = (writes (is_end (after_prefix (parent_of p) (parent_of q))), (asides, lies (after_prefix (k ++ p) kd) refl))
           where
@@ -199,7 +199,7 @@ rename_off graph is k p q st o kd other s loc u fits well victim e f = go (commo
                 left_none : (a b : Key) → b ≡ a → left a b ≡ []
                 left_none a b z = ap (left a) (z ∙ sym (append-nil a)) ∙ ap left_by (prefix_append a [])
 
-            writes : (b : Bool) → AllOff kd (change_under k (move_change true (rename_writes b (parent_of p) (names_of (spell graph (k ++ parent_of p))) (last_of p) (parent_of q) (names_of (spell graph (k ++ parent_of q))) (last_of q)) p q)).writes
+            writes : (b : Bool) → AllOff kd (change_under k (move_change true (rename_writes b (parent_of p) (names_of (graph_shapes graph (k ++ parent_of p))) (last_of p) (parent_of q) (names_of (graph_shapes graph (k ++ parent_of q))) (last_of q)) p q)).writes
             writes true = (off0, tt)
             writes false = (off0, (off1 es, tt))
 
@@ -239,7 +239,7 @@ rename_off graph is k p q st o kd other s loc u fits well victim e f = go (commo
                 by (inr h) = let y : ◌≡◌ {A = Option Key} (Some []) None = sym (itself (k ++ p)) ∙ ap (after_prefix (k ++ p)) (sym h) ∙ z in cc
 
 -- all forms of calls
-pub off_of : (graph : Graph) → IsGraph graph → (k : Key) (remaining : Form) (st : Stand) (o : Option ℕ) (kd : Key) (other : Stand) (s t : Shape) → Located (numbers graph) k st → graph.shape st.node ≡ Some s → graph.shape other.node ≡ Some t → Fits remaining → StandsWell graph st.node remaining st → VictimAt graph remaining st
+pub off_of : (graph : Graph) → IsGraph graph → (k : Key) (remaining : Form) (st : Holdings) (o : Option ℕ) (kd : Key) (other : Holdings) (s t : Shape) → Located (numbers graph) k st → graph.shape st.node ≡ Some s → graph.shape other.node ≡ Some t → Fits remaining → HeadsSound graph st.node remaining st → VictimAt graph remaining st
     → next_on graph remaining st ≡ Finishes o → Front graph k st kd other
     → Off graph k remaining kd
 off_of graph is k (AtNode c p) st o kd other s t loc u v fits well victim e f = on_off graph is k c p st o kd other loc.here e f

@@ -7,15 +7,15 @@ use Rattle.fs_laws.specs.Changes.{reply, after}
 use Rattle.fs_calls.specs.Forms.{Form, AtNode, AtEntry, AtPair, under, Fits}
 use Rattle.fs_calls.specs.declared.target.PairCall.TheVariants as pairs
 use Rattle.fs_laws.specs.Maps.{Map}
-use Rattle.fs_calls.specs.Rows.{on_row, Edit, Keep, Add, Remove, in_row}
+use Rattle.fs_calls.specs.Rows.{node_row, Edit, Keep, Add, Remove, entry_row}
 use Rattle.fs_calls.specs.declared.reply.Reply.{Reply}
-use Rattle.fs_nodes.specs.Graphs.{Graph, Kids, at, numbers, spell, set_kid, set_at, entry_shape, IsGraph, unlinked_in}
+use Rattle.fs_nodes.specs.Graphs.{Graph, Children, at, numbers, graph_shapes, set_child, set_at, entry_shape, IsGraph, unlinked_in}
 use Rattle.fs_machine.specs.Finishes.{Effect, node_effect, entry_effect, move_effect, rename_effect, effect_at, effect_of, finish}
 use Rattle.fs_machine.specs.Moves.{Finishes, next, next_on, target, dir_error, path_error, rename_at}
-use Rattle.fs_machine.specs.Records.{Phase, Walking, Placed, Finished, Record, Records, Stand}
-use Rattle.fs_laws.specs.Invariants.{remaining_of, spots, IsPlaced, AllLater, InOrder, IsIn, NumberFor, VictimAt, Invariant, StandsWell}
+use Rattle.fs_machine.specs.Records.{Phase, Walking, Placed, Finished, Record, Records, Holdings}
+use Rattle.fs_laws.specs.Invariants.{remaining_of, spots, IsPlaced, AllLater, InOrder, IsIn, NumberFor, VictimAt, Invariant, HeadsSound}
 use Rattle.fs_laws.specs.Settled.{names_left, alone, settled_by, settled_graph, settled_reply, settled_replies, settle, settle_replies}
-use Rattle.fs_laws.specs.Stands.{Kept, Keeps, Pair, Located, IsAfter}
+use Rattle.fs_laws.specs.CallFacts.{CallFacts, Keeps, Pair, Located, IsAfter}
 use Rattle.fs_laws.specs.States.{State, Run}
 use Rattle.fs_laws.proofs.trees.Prefixes.{prefix_append, prefix_longer}
 use Rattle.fs_laws.proofs.graphs.Walks.{at_same, at_before, at_child, at_from, set_else, then_some}
@@ -31,52 +31,52 @@ use Rattle.fs_laws.proofs.finish.RenameChanges.{does}
 use Rattle.fs_laws.proofs.calls.OwnRecord.{reached_used, well_by}
 use Rattle.fs_laws.proofs.calls.HeadOrder.{neat_by}
 use Rattle.fs_laws.proofs.states.Headline.{run_keeps}
-use Rattle.fs_laws.proofs.states.Agreement.{Accounts, run_accounts}
+use Rattle.fs_laws.proofs.states.Agreement.{StateFacts, run_accounts}
 use Rattle.fs_laws.proofs.helping.NobodyEnters.{NewEntry, Same_entry, Linked, Moved, finish_entries}
-use Rattle.fs_laws.proofs.calls.OneUnfinishedCall.{Solo, solo_of}
+use Rattle.fs_laws.proofs.calls.OneUnfinishedCall.{OneUnfinished, solo_of}
 use Rattle.fs_laws.proofs.calls.GoingOnAlone.{Finishing, finishes_alone, enough}
 
 -- a node that a finish does not touch
 pub record Untouched (graph new : Graph) (a : ℕ) : Type 0 where
-  pub kid : (y : Name) → new.kid a y ≡ graph.kid a y
+  pub child : (y : Name) → new.child a y ≡ graph.child a y
   pub shape : new.shape a ≡ graph.shape a
 
 untouched : (graph : Graph) (a : ℕ) → Untouched graph graph a
-untouched graph a = record { kid = λ y. refl; shape = refl }
+untouched graph a = record { child = λ y. refl; shape = refl }
 
 on_untouched : (graph : Graph) (n a : ℕ) (r : Option ℕ) (row : Reply × Option (List ℕ)) → (a ≡ n → ⊥) → Untouched graph (node_effect graph n r row).graph a
 on_untouched graph n a r (t, None) h = untouched graph a
-on_untouched graph n a r (t, Some bytes) h = record { kid = λ y. refl; shape = upd_else n (Some (File bytes)) graph.shape a h }
+on_untouched graph n a r (t, Some bytes) h = record { child = λ y. refl; shape = upd_else n (Some (File bytes)) graph.shape a h }
 
 in_untouched : (graph : Graph) (n a : ℕ) (x : Name) (r : Option ℕ) (row : Reply × Edit) → (a ≡ n → ⊥) → Untouched graph (entry_effect graph n x r row).graph a
 in_untouched graph n a x r (t, Keep) h = untouched graph a
 in_untouched graph n a x None (t, Add shape) h = untouched graph a
-in_untouched graph n a x (Some m) (t, Add shape) h = record { kid = λ y. set_else n x (Some m) graph.kid a y (λ i j. h i); shape = upd_else n _ graph.shape a h }
-in_untouched graph n a x None (t, Remove) h = record { kid = λ y. set_else n x None graph.kid a y (λ i j. h i); shape = upd_else n _ graph.shape a h }
-in_untouched graph n a x (Some m) (t, Remove) h = record { kid = λ y. set_else n x None graph.kid a y (λ i j. h i); shape = upd_else n _ graph.shape a h }
+in_untouched graph n a x (Some m) (t, Add shape) h = record { child = λ y. set_else n x (Some m) graph.child a y (λ i j. h i); shape = upd_else n _ graph.shape a h }
+in_untouched graph n a x None (t, Remove) h = record { child = λ y. set_else n x None graph.child a y (λ i j. h i); shape = upd_else n _ graph.shape a h }
+in_untouched graph n a x (Some m) (t, Remove) h = record { child = λ y. set_else n x None graph.child a y (λ i j. h i); shape = upd_else n _ graph.shape a h }
 
-moved_untouched : (graph : Graph) (st : Stand) (a : ℕ) (x y : Name) (reserved : Option ℕ) (r : Reply) (b : Bool) (s : Option ℕ) → (a ≡ st.source.node → ⊥) → (a ≡ st.dest.node → ⊥) → Untouched graph (move_effect graph st x y reserved r b s).graph a
+moved_untouched : (graph : Graph) (st : Holdings) (a : ℕ) (x y : Name) (reserved : Option ℕ) (r : Reply) (b : Bool) (s : Option ℕ) → (a ≡ st.source.node → ⊥) → (a ≡ st.dest.node → ⊥) → Untouched graph (move_effect graph st x y reserved r b s).graph a
 moved_untouched graph st a x y reserved r false s h g = untouched graph a
 moved_untouched graph st a x y reserved r true None h g = untouched graph a
 moved_untouched graph st a x y reserved r true (Some m) h g = record {
-  kid = λ z. set_else st.dest.node y (Some m) (set_kid st.source.node x None graph.kid) a z (λ i j. g i) ∙ set_else st.source.node x None graph.kid a z (λ i j. h i);
+  child = λ z. set_else st.dest.node y (Some m) (set_child st.source.node x None graph.child) a z (λ i j. g i) ∙ set_else st.source.node x None graph.child a z (λ i j. h i);
   shape = upd_else st.dest.node (Some (Dir (inserted_name y (names_of ((unlinked_in st.source.node x graph).shape st.dest.node))))) (unlinked_in st.source.node x graph).shape a g ∙ upd_else st.source.node (Some (Dir (removed_name x (names_of (graph.shape st.source.node))))) graph.shape a h;
 }
 
-made_untouched : (graph : Graph) (remaining : Form) (st : Stand) (reserved : Option ℕ) (a : ℕ) → (a ≡ st.node → ⊥) → (a ≡ st.source.node → ⊥) → (a ≡ st.dest.node → ⊥) → Untouched graph (effect_at graph remaining st reserved).graph a
-made_untouched graph (AtNode c p) st reserved a h g i = on_untouched graph st.node a reserved (on_row c (path_error p (graph.shape st.node)) (graph.shape st.node)) h
-made_untouched graph (AtEntry c p) st reserved a h g i = in_untouched graph st.node a (last_of p) reserved (in_row c (dir_error (parent_of p) (graph.shape st.node)) (is_full (graph.shape st.node)) (entry_shape graph st.node (last_of p))) h
+made_untouched : (graph : Graph) (remaining : Form) (st : Holdings) (reserved : Option ℕ) (a : ℕ) → (a ≡ st.node → ⊥) → (a ≡ st.source.node → ⊥) → (a ≡ st.dest.node → ⊥) → Untouched graph (effect_at graph remaining st reserved).graph a
+made_untouched graph (AtNode c p) st reserved a h g i = on_untouched graph st.node a reserved (node_row c (path_error p (graph.shape st.node)) (graph.shape st.node)) h
+made_untouched graph (AtEntry c p) st reserved a h g i = in_untouched graph st.node a (last_of p) reserved (entry_row c (dir_error (parent_of p) (graph.shape st.node)) (is_full (graph.shape st.node)) (entry_shape graph st.node (last_of p))) h
 made_untouched graph (AtPair pairs.Rename p q) st reserved a h g i = go (target (AtPair pairs.Rename p q))
   where
     go : (l : Key) → Untouched graph (rename_effect graph p q st reserved l).graph a
-    go [] = moved_untouched graph st a (last_of p) (last_of q) reserved (rename_at graph p q st).0 (rename_at graph p q st).1 (graph.kid st.source.node (last_of p)) g i
+    go [] = moved_untouched graph st a (last_of p) (last_of q) reserved (rename_at graph p q st).0 (rename_at graph p q st).1 (graph.child st.source.node (last_of p)) g i
     go (x ∷ l) = untouched graph a
 
 -- a placed call that has gone on alone: what it made, against the old graph
 pub record Gone (graph : Graph) (k : Key) (op : Record) (made : Effect) : Type 0 where
   pub is_graph : IsGraph made.graph
-  pub tree : spell made.graph ≡ after (spell graph) (under k op.remaining)
-  pub replied : made.reply ≡ reply (spell graph) (under k op.remaining)
+  pub tree : graph_shapes made.graph ≡ after (graph_shapes graph) (under k op.remaining)
+  pub replied : made.reply ≡ reply (graph_shapes graph) (under k op.remaining)
   -- nodes that are reached by keys that don't begin with k are not touched
   pub untouched : (u : Key) (a : ℕ) → numbers graph u ≡ Some a → after_prefix k u ≡ None → Untouched graph made.graph a
   -- a number in no use by others to which nothing leads stays so
@@ -91,13 +91,13 @@ only op c q e = go (place 0 (Some op) (λ d. None) c)
     go (Else n j) = let z : ◌≡◌ {A = Option Record} None (Some q) = sym j ∙ e in cc
 
 -- it stands alone in the graph
-lone_kept : (graph : Graph) → IsGraph graph → (k : Key) (op : Record) (st : Stand) (i : ℕ) → op.phase ≡ Placed i → Solo graph k op st → Kept (numbers graph) (set_at 0 (Some op) (λ d. None)) (λ d. k)
+lone_kept : (graph : Graph) → IsGraph graph → (k : Key) (op : Record) (st : Holdings) (i : ℕ) → op.phase ≡ Placed i → OneUnfinished graph k op st → CallFacts (numbers graph) (set_at 0 (Some op) (λ d. None)) (λ d. k)
 lone_kept graph is k op st i ph s = record { one_key = is.one_key; each = each; pairs = pairs }
   where
-    each : (c : ℕ) (q : Record) (other : Stand) → set_at 0 (Some op) (λ d. None) c ≡ Some q → q.stand ≡ Some other → Keeps (numbers graph) k q other
+    each : (c : ℕ) (q : Record) (other : Holdings) → set_at 0 (Some op) (λ d. None) c ≡ Some q → q.holdings ≡ Some other → Keeps (numbers graph) k q other
     each c q other e on =
         let o : (c ≡ 0) × (op ≡ q) = only op c q e in
-        let z : ◌≡◌ {A = Option Stand} (Some st) (Some other) = sym s.on ∙ ap (λ (x : Record). x.stand) o.1 ∙ on in
+        let z : ◌≡◌ {A = Option Holdings} (Some st) (Some other) = sym s.on ∙ ap (λ (x : Record). x.holdings) o.1 ∙ on in
         let y : st ≡ other = cc in
         record {
           located = subst (Located (numbers graph) k) y s.loc;
@@ -105,10 +105,10 @@ lone_kept graph is k op st i ph s = record { one_key = is.one_key; each = each; 
           fits = subst (λ (x : Record). Fits x.remaining) o.1 s.fits;
         }
 
-    pairs : (c d : ℕ) (p q : Record) (a b : Stand) → (c ≡ d → ⊥) → set_at 0 (Some op) (λ d. None) c ≡ Some p → set_at 0 (Some op) (λ d. None) d ≡ Some q → p.stand ≡ Some a → q.stand ≡ Some b → Pair (numbers graph) k a p.phase k b q.phase
+    pairs : (c d : ℕ) (p q : Record) (a b : Holdings) → (c ≡ d → ⊥) → set_at 0 (Some op) (λ d. None) c ≡ Some p → set_at 0 (Some op) (λ d. None) d ≡ Some q → p.holdings ≡ Some a → q.holdings ≡ Some b → Pair (numbers graph) k a p.phase k b q.phase
     pairs c d p q a b differs e f g h = absurd (differs ((only op c p e).0 ∙ sym (only op d q f).0))
 
-lone_finisher : (graph : Graph) → IsGraph graph → (k : Key) (op : Record) (st : Stand) (i : ℕ) (o : Option ℕ) → op.phase ≡ Placed i → Solo graph k op st → next_on graph op.remaining st ≡ Finishes o → Finisher graph (set_at 0 (Some op) (λ d. None)) (λ d. k) 0 op st o
+lone_finisher : (graph : Graph) → IsGraph graph → (k : Key) (op : Record) (st : Holdings) (i : ℕ) (o : Option ℕ) → op.phase ≡ Placed i → OneUnfinished graph k op st → next_on graph op.remaining st ≡ Finishes o → Finisher graph (set_at 0 (Some op) (λ d. None)) (λ d. k) 0 op st o
 lone_finisher graph is k op st i o ph s m = record {
   is_graph = is;
   kept = lone_kept graph is k op st i ph s;
@@ -125,12 +125,12 @@ lone_finisher graph is k op st i o ph s m = record {
 }
 
 -- a finish of a call that stands alone
-gone_made : (graph : Graph) → IsGraph graph → (k r : Key) (op last : Record) (st : Stand) (i : ℕ) (o : Option ℕ) → last.phase ≡ Placed i → Solo graph (k ++ r) last st → next_on graph last.remaining st ≡ Finishes o → next graph last ≡ Finishes o
+gone_made : (graph : Graph) → IsGraph graph → (k r : Key) (op last : Record) (st : Holdings) (i : ℕ) (o : Option ℕ) → last.phase ≡ Placed i → OneUnfinished graph (k ++ r) last st → next_on graph last.remaining st ≡ Finishes o → next graph last ≡ Finishes o
     → under (k ++ r) last.remaining ≡ under k op.remaining → last.reserved ≡ op.reserved → Gone graph k op (effect_at graph last.remaining st last.reserved)
 gone_made graph is k r op last st i o ph s m n same reserved = record {
   is_graph = new_graph;
-  tree = finish_tree graph is (k ++ r) used.0 last.remaining st last.reserved o s.loc.here used.1 s.fits s.well s.number m ∙ ap (after (spell graph)) same;
-  replied = finish_reply graph is (k ++ r) used.0 last.remaining st last.reserved o s.loc.here used.1 s.fits s.well m ∙ ap (reply (spell graph)) same;
+  tree = finish_tree graph is (k ++ r) used.0 last.remaining st last.reserved o s.loc.here used.1 s.fits s.well s.number m ∙ ap (after (graph_shapes graph)) same;
+  replied = finish_reply graph is (k ++ r) used.0 last.remaining st last.reserved o s.loc.here used.1 s.fits s.well m ∙ ap (reply (graph_shapes graph)) same;
   untouched = λ u a e off. made_untouched graph last.remaining st last.reserved a (outside u a e off r st.node s.loc.here) (outside u a e off (r ++ st.source.walked) st.source.node (below st.source.walked st.source.node s.loc.source)) (outside u a e off (r ++ st.dest.walked) st.dest.node (below st.dest.walked st.dest.node s.loc.dest));
   loose = λ v free mine. (stays v free mine, shape v free);
 }
@@ -158,41 +158,41 @@ gone_made graph is k r op last st i o ph s m n same reserved = record {
 
     -- no entry leads to it
     entry : (v a : ℕ) (x : Name) → ((u : Key) → numbers graph u ≡ Some v → ⊥) → (op.reserved ≡ Some v → ⊥) → NewEntry graph last o a v x → ⊥
-    entry v a x free mine (Same_entry e) = let l : (key : Key) × (numbers graph key ≡ Some a) = is.loose a v x e in free (l.0 ++ x ∷ []) (at_child graph.kid 0 a l.0 x l.1 ∙ e)
+    entry v a x free mine (Same_entry e) = let l : (key : Key) × (numbers graph key ≡ Some a) = is.loose a v x e in free (l.0 ++ x ∷ []) (at_child graph.child 0 a l.0 x l.1 ∙ e)
     entry v a x free mine (Linked e) = mine (sym reserved ∙ e)
-    entry v a x free mine (Moved stand w on e g) =
-        let z : ◌≡◌ {A = Option Stand} (Some stand) (Some st) = sym on ∙ s.on in
-        let y : stand ≡ st = cc in
-        free ((k ++ r) ++ w) (at_from graph.kid 0 st.node (k ++ r) w s.loc.here ∙ ap (λ (b : Stand). at graph.kid b.node w) (sym y) ∙ e)
+    entry v a x free mine (Moved holdings w on e g) =
+        let z : ◌≡◌ {A = Option Holdings} (Some holdings) (Some st) = sym on ∙ s.on in
+        let y : holdings ≡ st = cc in
+        free ((k ++ r) ++ w) (at_from graph.child 0 st.node (k ++ r) w s.loc.here ∙ ap (λ (b : Holdings). at graph.child b.node w) (sym y) ∙ e)
 
     stays : (v : ℕ) → ((u : Key) → numbers graph u ≡ Some v → ⊥) → (op.reserved ≡ Some v → ⊥) → (u : Key) → numbers (effect_at graph last.remaining st last.reserved).graph u ≡ Some v → ⊥
     stays v free mine [] e = free [] e
     stays v free mine (y ∷ u) e =
         let d : Snoc (y ∷ u) = ends (y ∷ u) tt in
-        let kid : Kids = (effect_at graph last.remaining st last.reserved).graph.kid in
-        let b : (a : ℕ) × (at kid 0 d.front ≡ Some a) × (at kid a (d.last ∷ []) ≡ Some v) = at_before kid 0 v d.front (d.last ∷ []) (ap (at kid 0) (sym d.is) ∙ e) in
-        let g : (c : ℕ) × (kid b.0 d.last ≡ Some c) × (◌≡◌ {A = Option ℕ} (Some c) (Some v)) = then_some (kid b.0 d.last) (λ c. Some c) v b.2 in
-        let h : (finish graph last).graph.kid b.0 d.last ≡ Some v = ap (λ (t : Effect). t.graph.kid b.0 d.last) made_is ∙ g.1 ∙ g.2 in
+        let child : Children = (effect_at graph last.remaining st last.reserved).graph.child in
+        let b : (a : ℕ) × (at child 0 d.front ≡ Some a) × (at child a (d.last ∷ []) ≡ Some v) = at_before child 0 v d.front (d.last ∷ []) (ap (at child 0) (sym d.is) ∙ e) in
+        let g : (c : ℕ) × (child b.0 d.last ≡ Some c) × (◌≡◌ {A = Option ℕ} (Some c) (Some v)) = then_some (child b.0 d.last) (λ c. Some c) v b.2 in
+        let h : (finish graph last).graph.child b.0 d.last ≡ Some v = ap (λ (t : Effect). t.graph.child b.0 d.last) made_is ∙ g.1 ∙ g.2 in
         entry v b.0 d.last free mine (finish_entries graph is last o (λ other on. well_there other on) n b.0 v d.last h)
       where
-        well_there : (other : Stand) → last.stand ≡ Some other → StandsWell graph other.node last.remaining other
-        well_there other on = let z : ◌≡◌ {A = Option Stand} (Some st) (Some other) = sym s.on ∙ on in subst (λ (x : Stand). StandsWell graph x.node last.remaining x) (let y : st ≡ other = cc in y) s.well
+        well_there : (other : Holdings) → last.holdings ≡ Some other → HeadsSound graph other.node last.remaining other
+        well_there other on = let z : ◌≡◌ {A = Option Holdings} (Some st) (Some other) = sym s.on ∙ on in subst (λ (x : Holdings). HeadsSound graph x.node last.remaining x) (let y : st ≡ other = cc in y) s.well
 
-pub gone : (graph : Graph) → IsGraph graph → (k : Key) (op : Record) (st : Stand) (i : ℕ) → op.phase ≡ Placed i → Solo graph k op st → Gone graph k op (alone graph op)
+pub gone : (graph : Graph) → IsGraph graph → (k : Key) (op : Record) (st : Holdings) (i : ℕ) → op.phase ≡ Placed i → OneUnfinished graph k op st → Gone graph k op (alone graph op)
 gone graph is k op st i ph s =
     let f : Finishing graph k op (names_left op.remaining + names_left op.remaining + 4) = finishes_alone (names_left op.remaining + names_left op.remaining + 4) graph is k op st s (enough op.remaining st) in
     let e : alone graph op ≡ effect_at graph f.last.remaining f.st f.last.reserved = f.made ∙ ap₂ (effect_of graph f.last) f.solo.text f.solo.on in
     subst (Gone graph k op) (sym e) (gone_made graph is k f.r op f.last f.st i f.o (f.phase ∙ ph) f.solo f.move f.ends f.same f.reserved)
 
 -- another call whose keys don't begin with k
-pub record OffKeys (k kd : Key) (st : Stand) : Type 0 where
+pub record OffKeys (k kd : Key) (st : Holdings) : Type 0 where
   pub here : after_prefix k kd ≡ None
   pub source : after_prefix k (kd ++ st.source.walked) ≡ None
   pub dest : after_prefix k (kd ++ st.dest.walked) ≡ None
 
 -- stays where it is
 numbers_stay : (graph : Graph) (made : Effect) (k : Key) (op : Record) → Gone graph k op made → (u : Key) → after_prefix k u ≡ None → numbers made.graph u ≡ numbers graph u
-numbers_stay graph made k op g u off = sym (at_same graph.kid made.graph.kid 0 u (λ v w x m i j. sym ((g.untouched v m j (front v (x ∷ w) i)).kid x)))
+numbers_stay graph made k op g u off = sym (at_same graph.child made.graph.child 0 u (λ v w x m i j. sym ((g.untouched v m j (front v (x ∷ w) i)).child x)))
   where
     front : (v w : Key) → u ≡ v ++ w → after_prefix k v ≡ None
     front v w i = go (after_prefix k v) refl
@@ -201,7 +201,7 @@ numbers_stay graph made k op g u off = sym (at_same graph.kid made.graph.kid 0 u
         go None e = refl
         go (Some r) e = let z : ◌≡◌ {A = Option Key} None (Some (r ++ w)) = sym off ∙ ap (after_prefix k) i ∙ prefix_longer k v w r e in cc
 
-solo_stays : (graph : Graph) (made : Effect) (k : Key) (op : Record) → Gone graph k op made → (kd : Key) (q : Record) (st : Stand) → OffKeys k kd st → ((n : ℕ) → op.reserved ≡ Some n → q.reserved ≡ Some n → ⊥) → Solo graph kd q st → Solo made.graph kd q st
+solo_stays : (graph : Graph) (made : Effect) (k : Key) (op : Record) → Gone graph k op made → (kd : Key) (q : Record) (st : Holdings) → OffKeys k kd st → ((n : ℕ) → op.reserved ≡ Some n → q.reserved ≡ Some n → ⊥) → OneUnfinished graph kd q st → OneUnfinished made.graph kd q st
 solo_stays graph made k op g kd q st off apart s = record {
   on = s.on;
   unfinished = s.unfinished;
@@ -233,27 +233,27 @@ solo_stays graph made k op g kd q st off apart s = record {
 
     victim : (f : Form) → VictimAt graph f st → VictimAt made.graph f st
     victim (AtNode c p) w = w
-    victim (AtEntry c p) w = λ v e. (g.untouched kd st.node s.loc.here off.here).kid (last_of p) ∙ w v e
-    victim (AtPair pairs.Rename a b) w = λ v e. ((g.untouched (kd ++ st.dest.walked) st.dest.node s.loc.dest off.dest).kid (last_of b) ∙ (w v e).0, (w v e).1)
+    victim (AtEntry c p) w = λ v e. (g.untouched kd st.node s.loc.here off.here).child (last_of p) ∙ w v e
+    victim (AtPair pairs.Rename a b) w = λ v e. ((g.untouched (kd ++ st.dest.walked) st.dest.node s.loc.dest off.dest).child (last_of b) ∙ (w v e).0, (w v e).1)
 
 -- placed calls in their order, each where it stands, and the later ones off its keys
 pub record PlacedSolo (graph : Graph) (ops : Records) (key : ℕ → Key) (c : ℕ) : Type 0 where
   pub op : Record
-  pub st : Stand
+  pub st : Holdings
   pub place_no : ℕ
   pub is : ops c ≡ Some op
   pub phase : op.phase ≡ Placed place_no
-  pub solo : Solo graph (key c) op st
+  pub solo : OneUnfinished graph (key c) op st
 
 abbrev pub Ahead : Records → (ℕ → Key) → ℕ → Record → List ℕ → Type 0
-Ahead ops key c op cs = (d : ℕ) (q : Record) (st : Stand) → IsIn d cs → ops d ≡ Some q → q.stand ≡ Some st → OffKeys (key c) (key d) st × ((n : ℕ) → op.reserved ≡ Some n → q.reserved ≡ Some n → ⊥)
+Ahead ops key c op cs = (d : ℕ) (q : Record) (st : Holdings) → IsIn d cs → ops d ≡ Some q → q.holdings ≡ Some st → OffKeys (key c) (key d) st × ((n : ℕ) → op.reserved ≡ Some n → q.reserved ≡ Some n → ⊥)
 
 abbrev pub Stack : Graph → Records → (ℕ → Key) → List ℕ → Type 0
 Stack graph ops key [] = Unit {0}
 Stack graph ops key (c ∷ cs) = (p : PlacedSolo graph ops key c) × Ahead ops key c p.op cs × Stack graph ops key cs
 
 stack_stays : (graph : Graph) (made : Effect) (ops : Records) (key : ℕ → Key) (k : Key) (op : Record) → Gone graph k op made → (cs : List ℕ)
-    → ((d : ℕ) (q : Record) (st : Stand) → IsIn d cs → ops d ≡ Some q → q.stand ≡ Some st → OffKeys k (key d) st × ((n : ℕ) → op.reserved ≡ Some n → q.reserved ≡ Some n → ⊥))
+    → ((d : ℕ) (q : Record) (st : Holdings) → IsIn d cs → ops d ≡ Some q → q.holdings ≡ Some st → OffKeys k (key d) st × ((n : ℕ) → op.reserved ≡ Some n → q.reserved ≡ Some n → ⊥))
     → Stack graph ops key cs → Stack made.graph ops key cs
 stack_stays graph made ops key k op g [] off s = tt
 stack_stays graph made ops key k op g (d ∷ cs) off s =
@@ -263,17 +263,17 @@ stack_stays graph made ops key k op g (d ∷ cs) off s =
 
 -- the placed calls alone, one after another
 pub settles_alone : (graph : Graph) → IsGraph graph → (ops : Records) (key : ℕ → Key) (cs : List ℕ) → Stack graph ops key cs
-    → (spell (settled_graph graph ops cs) ≡ settle (spell graph) (spots ops key cs)) × (settled_replies graph ops cs ≡ settle_replies (spell graph) (spots ops key cs))
+    → (graph_shapes (settled_graph graph ops cs) ≡ settle (graph_shapes graph) (spots ops key cs)) × (settled_replies graph ops cs ≡ settle_replies (graph_shapes graph) (spots ops key cs))
 settles_alone graph is ops key [] s = (refl, refl)
 settles_alone graph is ops key (c ∷ cs) s =
     let p : PlacedSolo graph ops key c = s.0 in
     let g : Gone graph (key c) p.op (alone graph p.op) = gone graph is (key c) p.op p.st p.place_no p.phase p.solo in
-    let rest : (spell (settled_graph (alone graph p.op).graph ops cs) ≡ settle (spell (alone graph p.op).graph) (spots ops key cs)) × (settled_replies (alone graph p.op).graph ops cs ≡ settle_replies (spell (alone graph p.op).graph) (spots ops key cs)) =
+    let rest : (graph_shapes (settled_graph (alone graph p.op).graph ops cs) ≡ settle (graph_shapes (alone graph p.op).graph) (spots ops key cs)) × (settled_replies (alone graph p.op).graph ops cs ≡ settle_replies (graph_shapes (alone graph p.op).graph) (spots ops key cs)) =
     settles_alone (alone graph p.op).graph g.is_graph ops key cs (stack_stays graph (alone graph p.op) ops key (key c) p.op g cs s.1 s.2) in
     let call : under (key c) p.op.remaining ≡ under (key c) (remaining_of (ops c)) = ap (λ (o : Option Record). under (key c) (remaining_of o)) (sym p.is) in (
-      ap (λ (o : Option Record). spell (settled_graph (settled_by graph o) ops cs)) p.is ∙ rest.0 ∙ ap (λ (t : Map Shape). settle t (spots ops key cs)) (g.tree ∙ ap (after (spell graph)) call),
+      ap (λ (o : Option Record). graph_shapes (settled_graph (settled_by graph o) ops cs)) p.is ∙ rest.0 ∙ ap (λ (t : Map Shape). settle t (spots ops key cs)) (g.tree ∙ ap (after (graph_shapes graph)) call),
       ap (λ (o : Option Record). settled_reply graph o (settled_replies (settled_by graph o) ops cs)) p.is
-          ∙ ap₂ (λ (r : Reply) (rs : List Reply). r ∷ rs) (g.replied ∙ ap (reply (spell graph)) call) (rest.1 ∙ ap (λ (t : Map Shape). settle_replies t (spots ops key cs)) (g.tree ∙ ap (after (spell graph)) call)),
+          ∙ ap₂ (λ (r : Reply) (rs : List Reply). r ∷ rs) (g.replied ∙ ap (reply (graph_shapes graph)) call) (rest.1 ∙ ap (λ (t : Map Shape). settle_replies t (spots ops key cs)) (g.tree ∙ ap (after (graph_shapes graph)) call)),
     )
 
 -- those of a run
@@ -282,7 +282,7 @@ later_in ops i d [] l j p = absurd j
 later_in ops i d (c ∷ cs) l (inl e) p = subst (λ (x : ℕ). (p : IsPlaced ops x) → i < p.place) (sym e) l.0 p
 later_in ops i d (c ∷ cs) l (inr j) p = later_in ops i d cs l.1 j p
 
-run_stack : (s : State) (inv : Invariant s) (acc : Accounts s) (cs : List ℕ) → InOrder s.ops cs → Stack s.graph s.ops inv.key cs
+run_stack : (s : State) (inv : Invariant s) (acc : StateFacts s) (cs : List ℕ) → InOrder s.ops cs → Stack s.graph s.ops inv.key cs
 run_stack s inv acc [] o = tt
 run_stack s inv acc (c ∷ cs) o = (first, ahead, run_stack s inv acc cs o.2)
   where
@@ -290,7 +290,7 @@ run_stack s inv acc (c ∷ cs) o = (first, ahead, run_stack s inv acc cs o.2)
     p = o.0
 
     first : PlacedSolo s.graph s.ops inv.key c
-    first = record { op = o.0.op; st = o.0.stand; place_no = o.0.place; is = o.0.is; phase = o.0.phase; solo = solo_of s inv acc c o.0.op o.0.stand o.0.is (λ r e. (let z : ◌≡◌ {A = Phase} (Placed o.0.place) (Finished r) = sym o.0.phase ∙ e in cc)) o.0.on }
+    first = record { op = o.0.op; st = o.0.holdings; place_no = o.0.place; is = o.0.is; phase = o.0.phase; solo = solo_of s inv acc c o.0.op o.0.holdings o.0.is (λ r e. (let z : ◌≡◌ {A = Phase} (Placed o.0.place) (Finished r) = sym o.0.phase ∙ e in cc)) o.0.on }
 
     ahead : Ahead s.ops inv.key c o.0.op cs
     ahead d q st i is on = (off, λ n e f. inv.apart c d n o.0.op q differs o.0.is is (inl e) (inl f))
@@ -315,14 +315,14 @@ run_stack s inv acc (c ∷ cs) o = (first, ahead, run_stack s inv acc cs o.2)
             let w : o.0.place ≡ h.place = cc in
             omega (arith, less, w)
 
-        pair : Pair (numbers s.graph) (inv.key c) o.0.stand o.0.op.phase (inv.key d) st q.phase
-        pair = inv.kept.pairs c d o.0.op q o.0.stand st differs o.0.is is o.0.on on
+        pair : Pair (numbers s.graph) (inv.key c) o.0.holdings o.0.op.phase (inv.key d) st q.phase
+        pair = inv.kept.pairs c d o.0.op q o.0.holdings st differs o.0.is is o.0.on on
 
-        back : Pair (numbers s.graph) (inv.key d) st q.phase (inv.key c) o.0.stand o.0.op.phase
-        back = inv.kept.pairs d c q o.0.op st o.0.stand (λ e. differs (sym e)) is o.0.is on o.0.on
+        back : Pair (numbers s.graph) (inv.key d) st q.phase (inv.key c) o.0.holdings o.0.op.phase
+        back = inv.kept.pairs d c q o.0.op st o.0.holdings (λ e. differs (sym e)) is o.0.is on o.0.on
 
-        mine : Located (numbers s.graph) (inv.key c) o.0.stand
-        mine = (inv.kept.each c o.0.op o.0.stand o.0.is o.0.on).located
+        mine : Located (numbers s.graph) (inv.key c) o.0.holdings
+        mine = (inv.kept.each c o.0.op o.0.holdings o.0.is o.0.on).located
 
         its : Located (numbers s.graph) (inv.key d) st
         its = (inv.kept.each d q st is on).located
@@ -333,11 +333,11 @@ run_stack s inv acc (c ∷ cs) o = (first, ahead, run_stack s inv acc cs o.2)
         off : OffKeys (inv.key c) (inv.key d) st
         off = record {
           here = none;
-          source = held_off (numbers s.graph) (inv.key c) o.0.stand st (inv.key d) st.source.walked st.source.node mine.here pair.apart its.source (source_held (numbers s.graph) (inv.key d) st its) back.source none;
-          dest = held_off (numbers s.graph) (inv.key c) o.0.stand st (inv.key d) st.dest.walked st.dest.node mine.here pair.apart its.dest (dest_held (numbers s.graph) (inv.key d) st its) back.dest none;
+          source = held_off (numbers s.graph) (inv.key c) o.0.holdings st (inv.key d) st.source.walked st.source.node mine.here pair.apart its.source (source_held (numbers s.graph) (inv.key d) st its) back.source none;
+          dest = held_off (numbers s.graph) (inv.key c) o.0.holdings st (inv.key d) st.dest.walked st.dest.node mine.here pair.apart its.dest (dest_held (numbers s.graph) (inv.key d) st its) back.dest none;
         }
 
 pub run_settles_alone : (s : State) (run : Run s)
-    → (spell (settled_graph s.graph s.ops (run_keeps s run).order) ≡ settle (spell s.graph) (spots s.ops (run_keeps s run).key (run_keeps s run).order))
-    × (settled_replies s.graph s.ops (run_keeps s run).order ≡ settle_replies (spell s.graph) (spots s.ops (run_keeps s run).key (run_keeps s run).order))
+    → (graph_shapes (settled_graph s.graph s.ops (run_keeps s run).order) ≡ settle (graph_shapes s.graph) (spots s.ops (run_keeps s run).key (run_keeps s run).order))
+    × (settled_replies s.graph s.ops (run_keeps s run).order ≡ settle_replies (graph_shapes s.graph) (spots s.ops (run_keeps s run).key (run_keeps s run).order))
 run_settles_alone s run = settles_alone s.graph (run_keeps s run).is_graph s.ops (run_keeps s run).key (run_keeps s run).order (run_stack s (run_keeps s run) (run_accounts s run) (run_keeps s run).order (run_keeps s run).in_order)

@@ -6,7 +6,7 @@ use Rattle.fs_laws.specs.Changes.{Change, changed, outcome, reply, after}
 use Rattle.fs_calls.specs.Forms.{Form, under, Fits}
 use Rattle.fs_laws.specs.Maps.{Map}
 use Rattle.fs_calls.specs.declared.reply.Reply.{Reply}
-use Rattle.fs_laws.specs.Placed.{Passes, PastAll, Standing, rekey_all}
+use Rattle.fs_laws.specs.Placed.{Passes, PastAll, InPlace, rekey_all}
 use Rattle.fs_laws.proofs.helping.FinishPassesPlaced.{past_all}
 use Rattle.fs_laws.specs.Settled.{settle, settle_replies}
 
@@ -40,7 +40,7 @@ pub record Carried (tree : Map Shape) (front back : List (Key × Form)) (k : Key
   pub front_replies : settle_replies (changed ch tree) (rekey_all ch front) ≡ settle_replies tree front
   pub back_replies : settle_replies (settle (changed ch tree) (rekey_all ch front)) back ≡ settle_replies (after (settle tree front) (under k remaining)) back
 
-pub carried : (tree : Map Shape) (front back : List (Key × Form)) (k : Key) (remaining : Form) (ch : Change) → (outcome tree (under k remaining)).1 ≡ ch → Fits (under k remaining) → Standing tree front → Passes tree (under k remaining) ch front → Standing (changed ch tree) (rekey_all ch front) → Carried tree front back k remaining ch
+pub carried : (tree : Map Shape) (front back : List (Key × Form)) (k : Key) (remaining : Form) (ch : Change) → (outcome tree (under k remaining)).1 ≡ ch → Fits (under k remaining) → InPlace tree front → Passes tree (under k remaining) ch front → InPlace (changed ch tree) (rekey_all ch front) → Carried tree front back k remaining ch
 carried tree front back k remaining ch is fits s p t =
     let all : PastAll tree (under k remaining) ch front = past_all tree (under k remaining) ch front is fits s p t in
     let same_tree : settle (changed ch tree) (rekey_all ch front) ≡ after (settle tree front) (under k remaining) = ap (λ (c : Change). settle (changed c tree) (rekey_all ch front)) (sym is) ∙ all.tree_is in

@@ -6,30 +6,30 @@ use Rattle.fs_nodes.specs.Graphs.{at, numbers}
 use Rattle.fs_timeline.specs.Timeline as journal
 use Rattle.fs_timeline.specs.declared.entry.Entry.{Entry}
 use Rattle.fs_machine.specs.Moves.{Move, Takes, Leaves, Finishes, Ends, next}
-use Rattle.fs_machine.specs.Records.{Stand, Phase, Walking, Placed, Record, Holds}
-use Rattle.fs_laws.specs.Below.{StandsAt, NoWalkingBelow, NoLaterBelow, NobodyBetween, AreDue, Settles, HelpsOrCommits, Helps, Commits, NeverWaitsToFinish}
-use Rattle.fs_laws.specs.Books.{Book, start, book_of}
+use Rattle.fs_machine.specs.Records.{Holdings, Phase, Walking, Placed, Record, Holds}
+use Rattle.fs_laws.specs.Below.{IsHolding, NoWalkingBelow, NoLaterBelow, NobodyBetween, AreDue, Settles, HelpsOrCommits, Helps, Commits, NeverWaitsToFinish}
+use Rattle.fs_laws.specs.JournalViews.{JournalView, start, view_after}
 use Rattle.fs_laws.specs.Invariants.{Invariant, Dues}
-use Rattle.fs_laws.specs.Stands.{Pair, IsAfter, IsClear, Located}
+use Rattle.fs_laws.specs.CallFacts.{Pair, IsAfter, IsClear, Located}
 use Rattle.fs_laws.specs.States.{State, Run, Moves, IsBelow, IsChosen, NoneBelow, Stepped, Idle, Took, Busy, LetGo, Helped, Committed, CarriedOut, Returned, Step}
 use Rattle.fs_laws.proofs.trees.Prefixes.{prefix_append}
 use Rattle.fs_laws.proofs.graphs.Walks.{at_from}
 use Rattle.fs_laws.proofs.helping.RenamesReadNothingBelow.{source_held, dest_held}
 use Rattle.fs_laws.proofs.states.Headline.{run_keeps}
-use Rattle.fs_laws.proofs.journal.BookOfTimeline.{Ties, run_ties}
+use Rattle.fs_laws.proofs.journal.ViewOfTimeline.{Ties, run_ties}
 use Rattle.fs_laws.proofs.helping.SettledAlone.{run_settles_alone}
 
 -- two keys at which two positions stand, the second below the first
-key_below : (s : State) (inv : Invariant s) (c d : ℕ) (p q : Record) (st other : Stand) (r : Key) → StandsAt s c p st → StandsAt s d q other → at s.graph.kid st.node r ≡ Some other.node → inv.key d ≡ inv.key c ++ r
+key_below : (s : State) (inv : Invariant s) (c d : ℕ) (p q : Record) (st other : Holdings) (r : Key) → IsHolding s c p st → IsHolding s d q other → at s.graph.child st.node r ≡ Some other.node → inv.key d ≡ inv.key c ++ r
 key_below s inv c d p q st other r a b e =
     let here : numbers s.graph (inv.key c) ≡ Some st.node = (inv.kept.each c p st a.is a.on).located.here in
     let there : numbers s.graph (inv.key d) ≡ Some other.node = (inv.kept.each d q other b.is b.on).located.here in
-    inv.is_graph.one_key (inv.key d) (inv.key c ++ r) other.node there (at_from s.graph.kid 0 st.node (inv.key c) r here ∙ e)
+    inv.is_graph.one_key (inv.key d) (inv.key c ++ r) other.node there (at_from s.graph.child 0 st.node (inv.key c) r here ∙ e)
 
 -- who is to go on after another is not below it
-pub not_below : (s : State) (inv : Invariant s) (c d : ℕ) (p q : Record) (st : Stand) → (c ≡ d → ⊥) → StandsAt s c p st → s.ops d ≡ Some q → IsAfter p.phase q.phase → IsBelow s.graph st.node q → ⊥
+pub not_below : (s : State) (inv : Invariant s) (c d : ℕ) (p q : Record) (st : Holdings) → (c ≡ d → ⊥) → IsHolding s c p st → s.ops d ≡ Some q → IsAfter p.phase q.phase → IsBelow s.graph st.node q → ⊥
 not_below s inv c d p q st differs a is after (other, r, on, e) =
-    let b : StandsAt s d q other = record { is = is; on = on } in
+    let b : IsHolding s d q other = record { is = is; on = on } in
     let k : inv.key d ≡ inv.key c ++ r = key_below s inv c d p q st other r a b e in
     let none : after_prefix (inv.key c) (inv.key d) ≡ None = (inv.kept.pairs c d p q st other differs a.is is a.on on).after after in
     let z : ◌≡◌ {A = Option Key} None (Some r) = sym none ∙ ap (after_prefix (inv.key c)) k ∙ prefix_append (inv.key c) r in
@@ -67,7 +67,7 @@ nobody_between s run c d n op q st other u v differs a b walked e held = go walk
     loc = (inv.kept.each c op st a.is a.on).located
 
     at_n : numbers s.graph (inv.key c ++ u) ≡ Some n
-    at_n = at_from s.graph.kid 0 st.node (inv.key c) u loc.here ∙ e
+    at_n = at_from s.graph.child 0 st.node (inv.key c) u loc.here ∙ e
 
     -- a head's own node is held
     at_end : (walked : Key) (node : ℕ) → walked ≡ u → numbers s.graph (inv.key c ++ walked) ≡ Some node → Holds st node → ⊥
@@ -85,21 +85,21 @@ nobody_between s run c d n op q st other u v differs a b walked e held = go walk
     go (inr i) = way u v st.dest.walked st.dest.node i at_n loc.dest (dest_held (numbers s.graph) (inv.key c) st loc) pair.dest
 
 -- the replies of the placed calls
-are_due : (es : List Entry) (book : Book) → ((c : ℕ) (r : Reply) → book.due c ≡ Some r → journal.due c es ≡ Some r) → (cs : List ℕ) (rs : List Reply) → Dues book cs rs → AreDue es cs rs
-are_due es book h [] rs d = tt
-are_due es book h (c ∷ cs) [] d = d
-are_due es book h (c ∷ cs) (r ∷ rs) d = (h c r d.0, are_due es book h cs rs d.1)
+are_due : (es : List Entry) (view : JournalView) → ((c : ℕ) (r : Reply) → view.due c ≡ Some r → journal.due c es ≡ Some r) → (cs : List ℕ) (rs : List Reply) → Dues view cs rs → AreDue es cs rs
+are_due es view h [] rs d = tt
+are_due es view h (c ∷ cs) [] d = d
+are_due es view h (c ∷ cs) (r ∷ rs) d = (h c r d.0, are_due es view h cs rs d.1)
 
 pub settles : (s : State) → Run s → Settles s
 settles s run =
     let inv : Invariant s = run_keeps s run in
-    let ties : Ties (book_of start s.timeline) s.timeline = run_ties s run in
+    let ties : Ties (view_after start s.timeline) s.timeline = run_ties s run in
     record {
       order = (run_keeps s run).order;
       in_order = (run_keeps s run).in_order;
       all = λ c op i e f. ((run_keeps s run).all_placed c op i e f).1;
       spelled = (run_settles_alone s run).0 ∙ (run_keeps s run).tied.played ∙ ties.tree;
-      replies = are_due s.timeline (book_of start s.timeline) ties.due (run_keeps s run).order _ (subst (Dues (book_of start s.timeline) (run_keeps s run).order) (sym (run_settles_alone s run).1) (run_keeps s run).tied.dues);
+      replies = are_due s.timeline (view_after start s.timeline) ties.due (run_keeps s run).order _ (subst (Dues (view_after start s.timeline) (run_keeps s run).order) (sym (run_settles_alone s run).1) (run_keeps s run).tied.dues);
     }
 
 -- a call walks and is to finish

@@ -5,10 +5,10 @@ use Rattle.std.proofs.lemmas.Bool.Decides.{nat_tests}
 use Rattle.std.proofs.lemmas.List.{length-append}
 use Rattle.fs_names.specs.Keys.{Key, after_prefix}
 use Rattle.fs_nodes.specs.Graphs.{at, numbers}
-use Rattle.fs_machine.specs.Records.{Phase, Walking, Placed, Finished, Record, Records, Stand}
+use Rattle.fs_machine.specs.Records.{Phase, Walking, Placed, Finished, Record, Records, Holdings}
 use Rattle.fs_timeline.specs.Timeline.{begins}
 use Rattle.fs_laws.specs.Invariants.{Invariant}
-use Rattle.fs_laws.specs.Work.{total}
+use Rattle.fs_laws.specs.StepsLeft.{total}
 use Rattle.fs_laws.specs.States.{State, Run, IsWalkingBelow, IsLowest, IsChosen, NoneBelow}
 use Rattle.fs_laws.proofs.trees.Prefixes.{prefix_append, prefix_some}
 use Rattle.fs_laws.proofs.graphs.Walks.{at_from, eqb_refl, eqb_true}
@@ -116,7 +116,7 @@ within_total g (suc n) c h = go (up_to c n h) (within_total g n c)
     go (inr i) f = let k : g c ≤ total g n = f i in omega (arith, k)
 
 -- a walking call that stands somewhere
-abbrev walks_by : Phase → Option Stand → Bool
+abbrev walks_by : Phase → Option Holdings → Bool
 walks_by Walking (Some st) = true
 walks_by Walking None = false
 walks_by (Placed i) st = false
@@ -124,7 +124,7 @@ walks_by (Finished r) st = false
 
 abbrev walks_on : Option Record → Bool
 walks_on None = false
-walks_on (Some op) = walks_by op.phase op.stand
+walks_on (Some op) = walks_by op.phase op.holdings
 
 -- where a walking call is, by the names that it has walked
 abbrev walked_of : Option Record → Key
@@ -137,15 +137,15 @@ is_under ops k d = walks_on (ops d) && is_some (after_prefix k (walked_of (ops d
 
 record Walks (s : State) (d : ℕ) : Type 0 where
   pub op : Record
-  pub st : Stand
+  pub st : Holdings
   pub is : s.ops d ≡ Some op
   pub walks : op.phase ≡ Walking
-  pub on : op.stand ≡ Some st
+  pub on : op.holdings ≡ Some st
 
 walks_of : (s : State) (d : ℕ) → walks_on (s.ops d) ≡ true → Walks s d
 walks_of s d e = go (s.ops d) refl e
   where
-    by : (op : Record) → s.ops d ≡ Some op → (p : Phase) (o : Option Stand) → op.phase ≡ p → op.stand ≡ o → walks_by p o ≡ true → Walks s d
+    by : (op : Record) → s.ops d ≡ Some op → (p : Phase) (o : Option Holdings) → op.phase ≡ p → op.holdings ≡ o → walks_by p o ≡ true → Walks s d
     by op i Walking (Some st) ph on f = record { op = op; st = st; is = i; walks = ph; on = on }
     by op i Walking None ph on f = cc
     by op i (Placed j) o ph on f = cc
@@ -153,7 +153,7 @@ walks_of s d e = go (s.ops d) refl e
 
     go : (o : Option Record) → s.ops d ≡ o → walks_on o ≡ true → Walks s d
     go None i f = cc
-    go (Some op) i f = by op i op.phase op.stand refl refl f
+    go (Some op) i f = by op i op.phase op.holdings refl refl f
 
 both : (a b : Bool) → a ≡ true → b ≡ true → (a && b) ≡ true
 both true b e f = f
@@ -163,7 +163,7 @@ parts : (a b : Bool) → (a && b) ≡ true → (a ≡ true) × (b ≡ true)
 parts true b e = (refl, e)
 parts false b e = cc
 
-at_walked : (s : State) (inv : Invariant s) (d : ℕ) (op : Record) (st : Stand) → s.ops d ≡ Some op → op.phase ≡ Walking → op.stand ≡ Some st → numbers s.graph (walked_of (s.ops d)) ≡ Some st.node
+at_walked : (s : State) (inv : Invariant s) (d : ℕ) (op : Record) (st : Holdings) → s.ops d ≡ Some op → op.phase ≡ Walking → op.holdings ≡ Some st → numbers s.graph (walked_of (s.ops d)) ≡ Some st.node
 at_walked s inv d op st is walks on = ap (numbers s.graph) (ap walked_of is ∙ sym ((inv.kept.each d op st is on).walking walks)) ∙ (inv.kept.each d op st is on).located.here
 
 -- the record of a call that walks below a node is a walking call's
@@ -174,7 +174,7 @@ walks_here s n d op w is = let a : ◌≡◌ {A = Option Record} (Some w.0) (Som
 to_under : (s : State) (inv : Invariant s) (k : Key) (n d : ℕ) → numbers s.graph k ≡ Some n → IsWalkingBelow s n d → is_under s.ops k d ≡ true
 to_under s inv k n d at_k (op, is, walks, (st, r, on, e)) =
     let there : numbers s.graph (walked_of (s.ops d)) ≡ Some st.node = at_walked s inv d op st is walks on in
-    let same : walked_of (s.ops d) ≡ k ++ r = inv.is_graph.one_key (walked_of (s.ops d)) (k ++ r) st.node there (at_from s.graph.kid 0 n k r at_k ∙ e) in
+    let same : walked_of (s.ops d) ≡ k ++ r = inv.is_graph.one_key (walked_of (s.ops d)) (k ++ r) st.node there (at_from s.graph.child 0 n k r at_k ∙ e) in
     both (walks_on (s.ops d)) (is_some (after_prefix k (walked_of (s.ops d)))) (ap walks_on is ∙ ap₂ walks_by walks on) (ap is_some (ap (after_prefix k) same ∙ prefix_append k r))
 
 from_under : (s : State) (inv : Invariant s) (k : Key) (n d : ℕ) → numbers s.graph k ≡ Some n → is_under s.ops k d ≡ true → IsWalkingBelow s n d
@@ -187,7 +187,7 @@ from_under s inv k n d at_k e = go (after_prefix k (walked_of (s.ops d))) refl (
     go None i f = cc
     go (Some r) i f =
         let there : numbers s.graph (walked_of (s.ops d)) ≡ Some w.st.node = at_walked s inv d w.op w.st w.is w.walks w.on in
-        (w.op, w.is, w.walks, (w.st, r, w.on, sym (at_from s.graph.kid 0 n k r at_k) ∙ ap (numbers s.graph) (sym (prefix_some k (walked_of (s.ops d)) r i)) ∙ there))
+        (w.op, w.is, w.walks, (w.st, r, w.on, sym (at_from s.graph.child 0 n k r at_k) ∙ ap (numbers s.graph) (sym (prefix_some k (walked_of (s.ops d)) r i)) ∙ there))
 
 -- another one below a call's position
 abbrev is_deeper : Records → ℕ → ℕ → Bool
@@ -236,7 +236,7 @@ to_lowest s run inv k n d at_k e = (below, deepest)
     below : IsWalkingBelow s n d
     below = from_under s inv k n d at_k p.0
 
-    deepest : (op : Record) (st : Stand) (c : ℕ) → s.ops d ≡ Some op → op.stand ≡ Some st → (d ≡ c → ⊥) → IsWalkingBelow s st.node c → ⊥
+    deepest : (op : Record) (st : Holdings) (c : ℕ) → s.ops d ≡ Some op → op.holdings ≡ Some st → (d ≡ c → ⊥) → IsWalkingBelow s st.node c → ⊥
     deepest op st c is on differs w =
         let there : numbers s.graph (walked_of (s.ops d)) ≡ Some st.node = at_walked s inv d op st is (walks_here s n d op below is) on in
         let under : is_under s.ops (walked_of (s.ops d)) c ≡ true = to_under s inv (walked_of (s.ops d)) st.node c there w in
@@ -258,7 +258,7 @@ from_lowest s inv k n d at_k (w, deepest) = both (is_under s.ops k d) (none_of (
 longest_lowest : (s : State) → Run s → (inv : Invariant s) (k : Key) (n d : ℕ) → numbers s.graph k ≡ Some n → is_under s.ops k d ≡ true → ((c : ℕ) → c ≤ begins s.timeline → is_under s.ops k c ≡ true → length (walked_of (s.ops c)) ≤ length (walked_of (s.ops d))) → IsLowest s n d
 longest_lowest s run inv k n d at_k under longest = (from_under s inv k n d at_k under, deepest)
   where
-    deepest : (op : Record) (st : Stand) (c : ℕ) → s.ops d ≡ Some op → op.stand ≡ Some st → (d ≡ c → ⊥) → IsWalkingBelow s st.node c → ⊥
+    deepest : (op : Record) (st : Holdings) (c : ℕ) → s.ops d ≡ Some op → op.holdings ≡ Some st → (d ≡ c → ⊥) → IsWalkingBelow s st.node c → ⊥
     deepest op st c is on differs (q, q_is, walks, (other, r, on_q, e)) = go r e same
       where
         was : IsWalkingBelow s n d
@@ -268,18 +268,18 @@ longest_lowest s run inv k n d at_k under longest = (from_under s inv k n d at_k
         there = at_walked s inv d op st is (walks_here s n d op was is) on
 
         same : walked_of (s.ops c) ≡ walked_of (s.ops d) ++ r
-        same = inv.is_graph.one_key (walked_of (s.ops c)) (walked_of (s.ops d) ++ r) other.node (at_walked s inv c q other q_is walks on_q) (at_from s.graph.kid 0 st.node (walked_of (s.ops d)) r there ∙ e)
+        same = inv.is_graph.one_key (walked_of (s.ops c)) (walked_of (s.ops d) ++ r) other.node (at_walked s inv c q other q_is walks on_q) (at_from s.graph.child 0 st.node (walked_of (s.ops d)) r there ∙ e)
 
         -- it is below the node too
         deeper : IsWalkingBelow s n c
         deeper =
             let a : ◌≡◌ {A = Option Record} (Some was.0) (Some op) = sym was.1 ∙ is in
             let b : was.0 ≡ op = cc in
-            let f : ◌≡◌ {A = Option Stand} (Some was.3.0) (Some st) = sym was.3.2 ∙ ap (λ (o : Record). o.stand) b ∙ on in
+            let f : ◌≡◌ {A = Option Holdings} (Some was.3.0) (Some st) = sym was.3.2 ∙ ap (λ (o : Record). o.holdings) b ∙ on in
             let g : was.3.0 ≡ st = cc in
-            (q, q_is, walks, (other, was.3.1 ++ r, on_q, at_from s.graph.kid n st.node was.3.1 r (was.3.3 ∙ ap (λ (x : Stand). Some x.node) g) ∙ e))
+            (q, q_is, walks, (other, was.3.1 ++ r, on_q, at_from s.graph.child n st.node was.3.1 r (was.3.3 ∙ ap (λ (x : Holdings). Some x.node) g) ∙ e))
 
-        go : (r : Key) → at s.graph.kid st.node r ≡ Some other.node → walked_of (s.ops c) ≡ walked_of (s.ops d) ++ r → ⊥
+        go : (r : Key) → at s.graph.child st.node r ≡ Some other.node → walked_of (s.ops c) ≡ walked_of (s.ops d) ++ r → ⊥
         go [] f i =
             let z : ◌≡◌ {A = Option ℕ} (Some st.node) (Some other.node) = f in
             let y : st.node ≡ other.node = cc in

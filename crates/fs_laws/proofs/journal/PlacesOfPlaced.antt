@@ -13,13 +13,13 @@ use Rattle.fs_timeline.proofs.TimelineLemmas.{lawful_appended}
 use Rattle.fs_machine.specs.Finishes.{finish}
 use Rattle.fs_machine.specs.Leaving.{let_go, finished_op}
 use Rattle.fs_machine.specs.Moves.{target, took, took_by}
-use Rattle.fs_machine.specs.Records.{Phase, Placed, Record, Stand}
+use Rattle.fs_machine.specs.Records.{Phase, Placed, Record, Holdings}
 use Rattle.fs_laws.specs.Below.{HasPlace, PlacesAreCounted}
 use Rattle.fs_timeline.specs.Timeline.{commit_count}
 use Rattle.fs_laws.specs.States.{State, Begun, Begun_as, Seat_busy, Full, No_memory, Begins, Reserves, new_op, began, Run, Start, Beginning, Stepping, Stepped, Idle, Took, Busy, LetGo, Helped, Committed, CarriedOut, Returned, Step}
 use Rattle.fs_laws.proofs.events.OneCallChanged.{Place, Here, Else, place}
 use Rattle.fs_laws.proofs.events.JustFinished.{Either, Changed, Old, either}
-use Rattle.fs_laws.proofs.journal.BookOfTimeline.{linearizes}
+use Rattle.fs_laws.proofs.journal.ViewOfTimeline.{linearizes}
 use Rattle.fs_laws.proofs.graphs.Walks.{eqb_refl}
 
 or_left : (a b : Bool) → a ≡ true → (a || b) ≡ true
@@ -45,9 +45,9 @@ place_new es c h = record {
 }
 
 took_phase : (op : Record) (n : ℕ) → (took op n).phase ≡ op.phase
-took_phase op n = go op.stand (target op.remaining)
+took_phase op n = go op.holdings (target op.remaining)
   where
-    go : (s : Option Stand) (l : Key) → (took_by op s l n).phase ≡ op.phase
+    go : (s : Option Holdings) (l : Key) → (took_by op s l n).phase ≡ op.phase
     go None l = refl
     go (Some st) [] = refl
     go (Some st) (x ∷ l) = refl

@@ -10,7 +10,7 @@ use Rattle.fs_calls.specs.declared.call.Call.{Call}
 use Rattle.fs_calls.specs.declared.reply.Reply.{Reply}
 use Rattle.fs_nodes.specs.Graphs.{Graph, numbers, reserved_in}
 use Rattle.fs_machine.specs.Moves.{Move, Takes, Leaves, Finishes, Ends, next, next_by}
-use Rattle.fs_machine.specs.Records.{Stand, Phase, Walking, Placed, Finished, Record}
+use Rattle.fs_machine.specs.Records.{Holdings, Phase, Walking, Placed, Finished, Record}
 use Rattle.fs_timeline.specs.Timeline.{begins}
 use Rattle.fs_laws.specs.Events.{Event, Begins, Steps, events_of, Ran}
 use Rattle.fs_laws.specs.Invariants.{Invariant}
@@ -28,12 +28,12 @@ source_of (AtNode c p) = p
 source_of (AtEntry c p) = p
 source_of (AtPair pairs.Rename p q) = p
 
-abbrev source_walked : Option Stand → Key
+abbrev source_walked : Option Holdings → Key
 source_walked None = []
 source_walked (Some st) = st.source.walked
 
 abbrev moved_key : Record → Key
-moved_key op = op.walked ++ source_walked op.stand ++ last_of (source_of op.remaining) ∷ []
+moved_key op = op.walked ++ source_walked op.holdings ++ last_of (source_of op.remaining) ∷ []
 
 abbrev to_help : State → Record → Option ℕ → Option ℕ
 to_help old op None = None
@@ -78,7 +78,7 @@ stepped old seat = seat_by old (old.on_seat seat)
 
 -- a rename moves the node at that key
 at_moved : (s : State) → Run s → (c : ℕ) (op : Record) (n : ℕ) → s.ops c ≡ Some op → op.phase ≡ Walking → next s.graph op ≡ Finishes (Some n) → numbers s.graph (moved_key op) ≡ Some n
-at_moved s run c op n is walks m = ap (numbers s.graph) same ∙ at_child s.graph.kid 0 t.st.source.node (inv.key c ++ t.st.source.walked) (last_of t.p) (inv.kept.each c op t.st is t.on).located.source ∙ t.kid
+at_moved s run c op n is walks m = ap (numbers s.graph) same ∙ at_child s.graph.child 0 t.st.source.node (inv.key c ++ t.st.source.walked) (last_of t.p) (inv.kept.each c op t.st is t.on).located.source ∙ t.child
   where
     inv : Invariant s
     inv = run_keeps s run
@@ -88,8 +88,8 @@ at_moved s run c op n is walks m = ap (numbers s.graph) same ∙ at_child s.grap
 
     same : moved_key op ≡ inv.key c ++ t.st.source.walked ++ last_of t.p ∷ []
     same =
-        ap (λ (k : Key). k ++ source_walked op.stand ++ last_of (source_of op.remaining) ∷ []) (sym ((inv.kept.each c op t.st is t.on).walking walks))
-        ∙ ap₂ (λ (o : Option Stand) (f : Form). inv.key c ++ source_walked o ++ last_of (source_of f) ∷ []) t.on t.remaining
+        ap (λ (k : Key). k ++ source_walked op.holdings ++ last_of (source_of op.remaining) ∷ []) (sym ((inv.kept.each c op t.st is t.on).walking walks))
+        ∙ ap₂ (λ (o : Option Holdings) (f : Form). inv.key c ++ source_walked o ++ last_of (source_of f) ∷ []) t.on t.remaining
 
 pub stepped_is : (old : State) → Run old → (seat : ℕ) → Step old seat (stepped old seat).0 (stepped old seat).1
 stepped_is old run seat = on_it (old.on_seat seat) refl
@@ -109,7 +109,7 @@ stepped_is old run seat = on_it (old.on_seat seat) refl
     finishing : (c : ℕ) (op : Record) (o : Option ℕ) (phase : Phase) → op.phase ≡ phase → Moves old seat c op (Finishes o) → Step old seat (finish_by old c op phase (to_help old op o)).0 (finish_by old c op phase (to_help old op o)).1
     finishing c op o Walking w m = walking c op o m w
     finishing c op o (Placed i) w m = (c, op, o, i, m, w, refl)
-    finishing c op o (Finished r) w m = absurd (by_finishes old.graph op (by_text (form op.call)) r op.stand o (ap (λ (p : Phase). next_by old.graph op (by_text (form op.call)) p op.stand) (sym w) ∙ m.2))
+    finishing c op o (Finished r) w m = absurd (by_finishes old.graph op (by_text (form op.call)) r op.holdings o (ap (λ (p : Phase). next_by old.graph op (by_text (form op.call)) p op.holdings) (sym w) ∙ m.2))
 
     ending : (c : ℕ) (op : Record) (phase : Phase) (r : Reply) → op.phase ≡ phase → phase ≡ Finished r → Moves old seat c op Ends → Step old seat (end_by old c op phase).0 (end_by old c op phase).1
     ending c op (Finished q) r w i m = (c, op, m, w, refl)
@@ -124,7 +124,7 @@ stepped_is old run seat = on_it (old.on_seat seat) refl
     moving c op (Takes n) m = takes c op n (old.holder n) refl m
     moving c op (Leaves n) m = (c, op, m, refl)
     moving c op (Finishes o) m = finishing c op o op.phase refl m
-    moving c op Ends m = let r : (r : Reply) × (op.phase ≡ Finished r) = by_ends old.graph op (by_text (form op.call)) op.phase op.stand m.2 in ending c op op.phase r.0 refl r.1 m
+    moving c op Ends m = let r : (r : Reply) × (op.phase ≡ Finished r) = by_ends old.graph op (by_text (form op.call)) op.phase op.holdings m.2 in ending c op op.phase r.0 refl r.1 m
 
     under_way : (c : ℕ) (o : Option Record) → old.on_seat seat ≡ Some c → old.ops c ≡ o → Step old seat (op_by old c o).0 (op_by old c o).1
     under_way c None e f = let s : (op : Record) × (old.ops c ≡ Some op) × (op.seat ≡ seat) = (run_keeps old run).seated seat c e in let z : ◌≡◌ {A = Option Record} None (Some s.0) = sym f ∙ s.1 in cc

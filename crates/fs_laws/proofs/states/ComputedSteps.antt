@@ -9,7 +9,7 @@ use Rattle.fs_calls.specs.declared.errno.Errno.{Errno}
 use Rattle.fs_calls.specs.declared.reply.Reply.{Reply}
 use Rattle.fs_nodes.specs.Graphs.{Graph}
 use Rattle.fs_machine.specs.Moves.{Move, Finishes, Ends, first_of, head_move, walk_move, take_if, dir_then, rename_move, target_move, target, next_on, next_by}
-use Rattle.fs_machine.specs.Records.{Stand, Phase, Walking, Placed, Finished, Record}
+use Rattle.fs_machine.specs.Records.{Holdings, Phase, Walking, Placed, Finished, Record}
 
 walk_ends : (s : Option Shape) (k : Option ℕ) → walk_move s k ≡ Ends → ⊥
 walk_ends None k e = cc
@@ -20,7 +20,7 @@ walk_ends (Some (Dir names)) (Some m) e = cc
 first_ends : (graph : Graph) (n : ℕ) (b : Option ℕ) (l : Key) (m : Move) → (m ≡ Ends → ⊥) → first_of (head_move graph n b l) m ≡ Ends → ⊥
 first_ends graph n (Some x) l m h e = cc
 first_ends graph n None [] m h e = h e
-first_ends graph n None (x ∷ l) m h e = walk_ends (graph.shape n) (graph.kid n x) e
+first_ends graph n None (x ∷ l) m h e = walk_ends (graph.shape n) (graph.child n x) e
 
 dir_ends : (s : Option Shape) (m : Move) → (m ≡ Ends → ⊥) → dir_then s m ≡ Ends → ⊥
 dir_ends None m h e = cc
@@ -36,10 +36,10 @@ take_ends false k v s e = cc
 some_ends : (b : Bool) (k v s : Option ℕ) (m : Move) → take_if b k v (Finishes s) ≡ m → m ≡ Ends → ⊥
 some_ends b k v s m i e = take_ends b k v s (i ∙ e)
 
-rename_ends : (graph : Graph) (p q : Key) (st : Stand) (m : Move) → rename_move graph p q st ≡ m → m ≡ Ends → ⊥
+rename_ends : (graph : Graph) (p q : Key) (st : Holdings) (m : Move) → rename_move graph p q st ≡ m → m ≡ Ends → ⊥
 rename_ends graph p q st m i e = some_ends _ _ _ _ m i e
 
-target_ends : (graph : Graph) (remaining : Form) (st : Stand) → target_move graph remaining st ≡ Ends → ⊥
+target_ends : (graph : Graph) (remaining : Form) (st : Holdings) → target_move graph remaining st ≡ Ends → ⊥
 target_ends graph (AtNode c p) st e = cc
 target_ends graph (AtEntry c p) st e = some_ends _ _ _ _ Ends e refl
 target_ends graph (AtPair pairs.Rename p q) st e =
@@ -49,11 +49,11 @@ target_ends graph (AtPair pairs.Rename p q) st e =
     (first_ends graph st.dest.node st.dest.behind (left st.dest.walked (parent_of q)) _
     (dir_ends (graph.shape st.dest.node) (rename_move graph p q st) (rename_ends graph p q st (rename_move graph p q st) refl))))) e
 
-pub on_ends : (graph : Graph) (remaining : Form) (st : Stand) → next_on graph remaining st ≡ Ends → ⊥
+pub on_ends : (graph : Graph) (remaining : Form) (st : Holdings) → next_on graph remaining st ≡ Ends → ⊥
 on_ends graph remaining st e = first_ends graph st.node st.behind (target remaining) (target_move graph remaining st) (target_ends graph remaining st) e
 
 -- only a finished call returns
-pub by_ends : (graph : Graph) (op : Record) (e : Option Errno) (phase : Phase) (st : Option Stand) → next_by graph op e phase st ≡ Ends → (r : Reply) × (phase ≡ Finished r)
+pub by_ends : (graph : Graph) (op : Record) (e : Option Errno) (phase : Phase) (st : Option Holdings) → next_by graph op e phase st ≡ Ends → (r : Reply) × (phase ≡ Finished r)
 by_ends graph op e (Finished r) st i = (r, refl)
 by_ends graph op (Some f) Walking st i = cc
 by_ends graph op (Some f) (Placed j) st i = cc
@@ -63,6 +63,6 @@ by_ends graph op None Walking (Some st) i = absurd (on_ends graph op.remaining s
 by_ends graph op None (Placed j) (Some st) i = absurd (on_ends graph op.remaining st i)
 
 -- only one that is not finished finishes
-pub by_finishes : (graph : Graph) (op : Record) (e : Option Errno) (r : Reply) (st : Option Stand) (s : Option ℕ) → next_by graph op e (Finished r) st ≡ Finishes s → ⊥
+pub by_finishes : (graph : Graph) (op : Record) (e : Option Errno) (r : Reply) (st : Option Holdings) (s : Option ℕ) → next_by graph op e (Finished r) st ≡ Finishes s → ⊥
 by_finishes graph op e r None s i = cc
 by_finishes graph op e r (Some st) s i = cc

@@ -12,11 +12,11 @@ use Rattle.fs_calls.specs.declared.reply.Reply.{Reply}
 use Rattle.fs_nodes.specs.Graphs.{Graph, numbers, IsGraph}
 use Rattle.fs_machine.specs.Leaving.{is_removed}
 use Rattle.fs_machine.specs.Moves.{Finishes, Ends, next, next_by}
-use Rattle.fs_machine.specs.Records.{Phase, Walking, Placed, Finished, Record, Stand}
-use Rattle.fs_machine.specs.Works.{IsSpare, SpareIf, IsBounded, HeadsApart, CanFinish}
+use Rattle.fs_machine.specs.Records.{Phase, Walking, Placed, Finished, Record, Holdings}
+use Rattle.fs_machine.specs.OpValues.{IsSpare, SpareIf, IsBounded, HeadsApart, CanFinish}
 use Rattle.fs_timeline.specs.Timeline.{begins}
 use Rattle.fs_laws.specs.Invariants.{Invariant}
-use Rattle.fs_laws.specs.Stands.{Located}
+use Rattle.fs_laws.specs.CallFacts.{Located}
 use Rattle.fs_laws.specs.States.{State, Run}
 use Rattle.fs_laws.proofs.trees.Prefixes.{same_refl}
 use Rattle.fs_laws.proofs.graphs.Walks.{at_child, eqb_true}
@@ -30,7 +30,7 @@ use Rattle.fs_laws.proofs.calls.OneUnfinishedCall.{front_same}
 spare_of : (graph : Graph) → IsGraph graph → (n : ℕ) (shape : Shape) → graph.shape n ≡ Some shape → ((key : Key) → numbers graph key ≡ Some n → ⊥) → IsSpare graph n
 spare_of graph is n shape used loose = record {
   used = subst (λ (o : Option Shape). IsTrue (is_there o)) (sym used) (search rules);
-  unlinked = λ d x e. (let g : (key : Key) × (numbers graph key ≡ Some d) = is.loose d n x e in loose (g.0 ++ x ∷ []) (at_child graph.kid 0 d g.0 x g.1 ∙ e));
+  unlinked = λ d x e. (let g : (key : Key) × (numbers graph key ≡ Some d) = is.loose d n x e in loose (g.0 ++ x ∷ []) (at_child graph.child 0 d g.0 x g.1 ∙ e));
   not_root = λ e. loose [] (ap (λ (m : ℕ). Some m) (sym e));
   empty = empty (graph.shape n) refl;
 }
@@ -40,7 +40,7 @@ spare_of graph is n shape used loose = record {
     empty (Some (File bytes)) e = refl
     empty (Some (Dir [])) e = refl
     empty (Some (Dir (x ∷ names))) e =
-        let k : (m : ℕ) × (graph.kid n x ≡ Some m) = is.listed n (x ∷ names) x e (ap (λ (b : Bool). cond b true (has_name x names)) (same_refl x)) in
+        let k : (m : ℕ) × (graph.child n x ≡ Some m) = is.listed n (x ∷ names) x e (ap (λ (b : Bool). cond b true (has_name x names)) (same_refl x)) in
         let g : (key : Key) × (numbers graph key ≡ Some n) = is.loose n k.0 x k.1 in
         absurd (loose g.0 g.1)
 
@@ -68,7 +68,7 @@ pub used_under : (s : State) (n : ℕ) (shape : Shape) → Run s → s.graph.sha
 used_under s n shape run e = (run_accounts s run).below n shape e
 
 -- heads that stand at one node have walked the same names
-pub heads_apart : (s : State) (c : ℕ) (op : Record) (st : Stand) → Run s → s.ops c ≡ Some op → op.stand ≡ Some st → HeadsApart op.remaining st
+pub heads_apart : (s : State) (c : ℕ) (op : Record) (st : Holdings) → Run s → s.ops c ≡ Some op → op.holdings ≡ Some st → HeadsApart op.remaining st
 heads_apart s c op st run is on = go op.remaining
   where
     inv : Invariant s
@@ -83,18 +83,18 @@ heads_apart s c op st run is on = go op.remaining
     go (AtPair pairs.Rename p q) = λ same. front_same (inv.key c) st.source.walked st.dest.walked (inv.is_graph.one_key (inv.key c ++ st.source.walked) (inv.key c ++ st.dest.walked) st.source.node loc.source (loc.dest ∙ ap (λ (n : ℕ). Some n) (sym same)))
 
 -- what a finish needs
-pub can_finish : (s : State) (c : ℕ) (op : Record) (t : Option ℕ) → Run s → s.ops c ≡ Some op → next s.graph op ≡ Finishes t → CanFinish s.graph op.reserved op.remaining op.stand
+pub can_finish : (s : State) (c : ℕ) (op : Record) (t : Option ℕ) → Run s → s.ops c ≡ Some op → next s.graph op ≡ Finishes t → CanFinish s.graph op.reserved op.remaining op.holdings
 can_finish s c op t run is m = record { spare = spare_reserved s c op run is; heads = λ st on. heads_apart s c op st run is on; bounded = run_bounded s run }
 
 -- who ends is finished and stands nowhere
-pub ends_finished : (s : State) (c : ℕ) (op : Record) → next s.graph op ≡ Ends → (r : Reply) × (op.phase ≡ Finished r) × (op.stand ≡ None)
-ends_finished s c op m = let r : (r : Reply) × (op.phase ≡ Finished r) = by_ends s.graph op (by_text (form op.call)) op.phase op.stand m in (r.0, r.1, ends_nowhere s.graph op r.0 r.1 m)
+pub ends_finished : (s : State) (c : ℕ) (op : Record) → next s.graph op ≡ Ends → (r : Reply) × (op.phase ≡ Finished r) × (op.holdings ≡ None)
+ends_finished s c op m = let r : (r : Reply) × (op.phase ≡ Finished r) = by_ends s.graph op (by_text (form op.call)) op.phase op.holdings m in (r.0, r.1, ends_nowhere s.graph op r.0 r.1 m)
 
 -- who finishes walks, or is placed
 pub finishes_open : (s : State) (op : Record) (t : Option ℕ) → next s.graph op ≡ Finishes t → (op.phase ≡ Walking) ⊎ ((i : ℕ) × (op.phase ≡ Placed i))
-finishes_open s op t m = go op.phase (by_text (form op.call)) op.stand refl m
+finishes_open s op t m = go op.phase (by_text (form op.call)) op.holdings refl m
   where
-    go : (p : Phase) (e : Option Errno) (st : Option Stand) → op.phase ≡ p → next_by s.graph op e p st ≡ Finishes t → (op.phase ≡ Walking) ⊎ ((i : ℕ) × (op.phase ≡ Placed i))
+    go : (p : Phase) (e : Option Errno) (st : Option Holdings) → op.phase ≡ p → next_by s.graph op e p st ≡ Finishes t → (op.phase ≡ Walking) ⊎ ((i : ℕ) × (op.phase ≡ Placed i))
     go Walking e st i f = inl i
     go (Placed k) e st i f = inr (k, i)
     go (Finished r) e None i f = cc

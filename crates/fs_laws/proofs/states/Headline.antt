@@ -6,11 +6,11 @@ use Rattle.fs_names.specs.Names.{Name, has_name, same_name}
 use Rattle.fs_names.specs.Shapes.{Dir}
 use Rattle.fs_laws.specs.Changes.{play_from, root_tree}
 use Rattle.fs_calls.specs.declared.call.Call.{Call}
-use Rattle.fs_nodes.specs.Graphs.{numbers, spell, IsGraph, empty_graph}
+use Rattle.fs_nodes.specs.Graphs.{numbers, graph_shapes, IsGraph, empty_graph}
 use Rattle.fs_timeline.specs.declared.entry.Entry.{Entry}
 use Rattle.fs_timeline.specs.declared.entry.Entry.TheVariants.{Begin, Commit, Return}
 use Rattle.fs_machine.specs.Records.{Record, Records}
-use Rattle.fs_laws.specs.Books.{IsLawful, commits_of, with_call, Book, start, noted, commit_of, book_of}
+use Rattle.fs_laws.specs.JournalViews.{IsLawful, commits_of, with_call, JournalView, start, noted, commit_of, view_after}
 use Rattle.fs_laws.specs.Headline.{IsIdle}
 use Rattle.fs_laws.specs.Invariants.{Invariant, StepKeeps, BeginKeeps, spots, IsPlaced, InOrder}
 use Rattle.fs_laws.specs.Settled.{settle}
@@ -23,28 +23,28 @@ use Rattle.fs_laws.proofs.events.LetGo.{keeps_let_go}
 use Rattle.fs_laws.proofs.events.Return.{keeps_returned}
 use Rattle.fs_laws.proofs.events.Begin.{keeps_begun}
 
--- by the book: the timeline is well formed and each returned reply is the sequential tree's; where no call is under way, the nodes spell that tree
+-- by the view: the timeline is well formed and each returned reply is the sequential tree's; where no call is under way, the nodes spell that tree
 pub record Headline (state : State) : Type 0 where
   pub lawful : IsLawful start state.timeline
-  pub spelled : IsIdle state → spell state.graph ≡ play_from root_tree (commits_of start.call state.timeline)
+  pub spelled : IsIdle state → graph_shapes state.graph ≡ play_from root_tree (commits_of start.call state.timeline)
 
--- the tree of the book is what the calls of the Commit entries make
-with_played : (o : Option Call) (book : Book) (n : ℕ) (calls : List Call) → play_from (commit_of book n o).tree calls ≡ play_from book.tree (with_call o calls)
-with_played None book n calls = refl
-with_played (Some call) book n calls = refl
+-- the tree of the view is what the calls of the Commit entries make
+with_played : (o : Option Call) (view : JournalView) (n : ℕ) (calls : List Call) → play_from (commit_of view n o).tree calls ≡ play_from view.tree (with_call o calls)
+with_played None view n calls = refl
+with_played (Some call) view n calls = refl
 
-same_call : (o : Option Call) (book : Book) (n : ℕ) → (commit_of book n o).call ≡ book.call
-same_call None book n = refl
-same_call (Some call) book n = refl
+same_call : (o : Option Call) (view : JournalView) (n : ℕ) → (commit_of view n o).call ≡ view.call
+same_call None view n = refl
+same_call (Some call) view n = refl
 
-pub book_plays : (book : Book) (es : List Entry) → (book_of book es).tree ≡ play_from book.tree (commits_of book.call es)
-book_plays book [] = refl
-book_plays book (Begin n seat call ∷ es) = book_plays (noted book (Begin n seat call)) es
-book_plays book (Commit n ∷ es) =
-    book_plays (commit_of book n (book.call n)) es
-    ∙ ap (λ (c : ℕ → Option Call). play_from (commit_of book n (book.call n)).tree (commits_of c es)) (same_call (book.call n) book n)
-    ∙ with_played (book.call n) book n (commits_of book.call es)
-book_plays book (Return n r ∷ es) = book_plays (noted book (Return n r)) es
+pub view_plays : (view : JournalView) (es : List Entry) → (view_after view es).tree ≡ play_from view.tree (commits_of view.call es)
+view_plays view [] = refl
+view_plays view (Begin n seat call ∷ es) = view_plays (noted view (Begin n seat call)) es
+view_plays view (Commit n ∷ es) =
+    view_plays (commit_of view n (view.call n)) es
+    ∙ ap (λ (c : ℕ → Option Call). play_from (commit_of view n (view.call n)).tree (commits_of c es)) (same_call (view.call n) view n)
+    ∙ with_played (view.call n) view n (commits_of view.call es)
+view_plays view (Return n r ∷ es) = view_plays (noted view (Return n r)) es
 
 idle_order : (ops : Records) (order : List ℕ) → InOrder ops order → ((c : ℕ) → ops c ≡ None) → order ≡ []
 idle_order ops [] o idle = refl
@@ -55,9 +55,9 @@ pub headline_of : (s : State) → Invariant s → Headline s
 headline_of s inv = record {
   lawful = inv.lawful;
   spelled = λ idle.
-      ap (λ (cs : List ℕ). settle (spell s.graph) (spots s.ops inv.key cs)) (sym (idle_order s.ops inv.order inv.in_order idle))
+      ap (λ (cs : List ℕ). settle (graph_shapes s.graph) (spots s.ops inv.key cs)) (sym (idle_order s.ops inv.order inv.in_order idle))
       ∙ inv.tied.played
-      ∙ book_plays start s.timeline;
+      ∙ view_plays start s.timeline;
 }
 
 -- the empty state
@@ -79,7 +79,7 @@ graph_start = record {
     listed n names x true e h = let z : [] ≡ names = cc in let w : false ≡ true = ap (has_name x) z ∙ h in cc
     listed n names x false e h = cc
 
-spelled_start : (key : Key) → spell empty_graph key ≡ root_tree key
+spelled_start : (key : Key) → graph_shapes empty_graph key ≡ root_tree key
 spelled_start [] = refl
 spelled_start (x ∷ key) = refl
 

@@ -8,34 +8,34 @@ use Rattle.fs_calls.specs.Forms.{form, Form, by_text}
 use Rattle.fs_calls.specs.declared.reply.Reply.{Reply}
 use Rattle.fs_nodes.specs.Graphs.{numbers}
 use Rattle.fs_machine.specs.Moves.{Move, Takes, Leaves, Finishes, Ends, next, next_on}
-use Rattle.fs_machine.specs.Records.{Walking, Placed, Finished, Holds, Record, Stand}
+use Rattle.fs_machine.specs.Records.{Walking, Placed, Finished, Holds, Record, Holdings}
 use Rattle.fs_timeline.specs.Timeline.{begins}
 use Rattle.fs_laws.specs.Invariants.{IsUnfinished, Forked, VictimAt, Invariant}
 use Rattle.fs_laws.specs.Progress.{WaitsFor, WaitsBelow, GoesOn, SomebodyGoesOn, IsNeverStuck, HasStep}
-use Rattle.fs_laws.specs.Stands.{Located, Pair}
+use Rattle.fs_laws.specs.CallFacts.{Located, Pair}
 use Rattle.fs_laws.specs.States.{State, Run, NoneBelow, IsChosen, Stepped, Idle, Took, Busy, LetGo, Helped, Committed, CarriedOut, Returned, Step, taking, letting_go, helping, carrying, committing, returning}
 use Rattle.fs_laws.proofs.graphs.Walks.{at_child, at_from}
 use Rattle.fs_laws.proofs.states.WaitsForOneBelow.{Keeps_waiting, waits_below}
 use Rattle.fs_laws.proofs.helping.RenamesReadNothingBelow.{source_held, dest_held}
 use Rattle.fs_laws.proofs.states.ComputedSteps.{by_ends}
-use Rattle.fs_laws.proofs.events.Take.{TakesFrom, From_nowhere, From_stand, takes_from}
+use Rattle.fs_laws.proofs.events.Take.{TakesFrom, From_nowhere, From_holdings, takes_from}
 use Rattle.fs_laws.proofs.calls.TakesAtTarget.{forked_of}
 use Rattle.fs_laws.proofs.states.Headline.{run_keeps}
 use Rattle.fs_laws.proofs.calls.Takes.{Take, Walk, Entry, Source, Dest, Replaced, takes_by}
-use Rattle.fs_laws.proofs.calls.HeadOrder.{SourceThere, NeatIn, Neat, plain_of, in_turn}
-use Rattle.fs_laws.proofs.states.Agreement.{Accounts, Holder, run_accounts}
+use Rattle.fs_laws.proofs.calls.HeadOrder.{SourceThere, NeatIn, HeadsInOrder, plain_of, in_turn}
+use Rattle.fs_laws.proofs.states.Agreement.{StateFacts, Holder, run_accounts}
 use Rattle.fs_laws.proofs.calls.NextMoves.{takes_another}
 use Rattle.fs_laws.proofs.calls.OneUnfinishedCall.{front_same}
 use Rattle.fs_laws.proofs.states.GraphOfARun.{begun_before, call_seat, finishes_open}
 use Rattle.fs_laws.proofs.helping.NobodyEnters.{ToMove, to_move}
 use Rattle.fs_laws.proofs.helping.WhomToHelp.{within_total, chosen_or_none}
-use Rattle.fs_laws.specs.Work.{total}
+use Rattle.fs_laws.specs.StepsLeft.{total}
 
 -- a call that wants a node holds others as its position or as its heads' nodes
-holds_waiting : (s : State) (inv : Invariant s) (acc : Accounts s) (c : ℕ) (op : Record) (m n : ℕ) (st : Stand) → s.ops c ≡ Some op → IsUnfinished op → op.stand ≡ Some st → Take s.graph op m st → Holds st n → Keeps_waiting st n
+holds_waiting : (s : State) (inv : Invariant s) (acc : StateFacts s) (c : ℕ) (op : Record) (m n : ℕ) (st : Holdings) → s.ops c ≡ Some op → IsUnfinished op → op.holdings ≡ Some st → Take s.graph op m st → Holds st n → Keeps_waiting st n
 holds_waiting s inv acc c op m n st is u on t h = go t h
   where
-    neat : Neat s.graph op.remaining st
+    neat : HeadsInOrder s.graph op.remaining st
     neat = (acc.neat c op st is on).under_way u
 
     none_is : {P : Type 0} (b : Option ℕ) → b ≡ None → b ≡ Some n → P
@@ -46,38 +46,38 @@ holds_waiting s inv acc c op m n st is u on t h = go t h
 
     go : Take s.graph op m st → Holds st n → Keeps_waiting st n
     go t (inl i) = inl i
-    go (Walk x l way b kid t_is) (inr (inl i)) = none_is st.behind b i
-    go (Walk x l way b kid t_is) (inr (inr (inl i))) = absurd (subst HasNames (plain_of s.graph op.remaining st x l way neat).0 i.0)
-    go (Walk x l way b kid t_is) (inr (inr (inr (inl i)))) = absurd (subst HasNames (plain_of s.graph op.remaining st x l way neat).1 i.0)
-    go (Walk x l way b kid t_is) (inr (inr (inr (inr i)))) = none_is st.victim (plain_of s.graph op.remaining st x l way neat).2 i
-    go (Entry e p rem way b kid off t_is) (inr (inl i)) = none_is st.behind b i
-    go (Entry e p rem way b kid off t_is) (inr (inr (inl i))) = let w : NeatIn p st = subst (λ (f : Form). Neat s.graph f st) rem neat in absurd (subst HasNames w.source i.0)
-    go (Entry e p rem way b kid off t_is) (inr (inr (inr (inl i)))) = let w : NeatIn p st = subst (λ (f : Form). Neat s.graph f st) rem neat in absurd (subst HasNames w.dest i.0)
-    go (Entry e p rem way b kid off t_is) (inr (inr (inr (inr i)))) = none_is st.victim off i
-    go (Source p q x l rem way b at_left sb kid t_is) (inr (inl i)) = none_is st.behind b i
-    go (Source p q x l rem way b at_left sb kid t_is) (inr (inr (inl (w, inl i)))) = inr (inl (w, i))
-    go (Source p q x l rem way b at_left sb kid t_is) (inr (inr (inl (_, inr i)))) = none_is st.source.behind sb i
-    go (Source p q x l rem way b at_left sb kid t_is) (inr (inr (inr (inl i)))) = absurd (not_there p x l at_left ((in_turn s.graph p q st op.remaining rem way neat).dest i.0))
-    go (Source p q x l rem way b at_left sb kid t_is) (inr (inr (inr (inr i)))) = absurd (not_there p x l at_left ((in_turn s.graph p q st op.remaining rem way neat).victim n i))
-    go (Dest p q x l names rem way b arrived sb dir at_left db kid t_is) (inr (inl i)) = none_is st.behind b i
-    go (Dest p q x l names rem way b arrived sb dir at_left db kid t_is) (inr (inr (inl (w, inl i)))) = inr (inl (w, i))
-    go (Dest p q x l names rem way b arrived sb dir at_left db kid t_is) (inr (inr (inl (_, inr i)))) = none_is st.source.behind sb i
-    go (Dest p q x l names rem way b arrived sb dir at_left db kid t_is) (inr (inr (inr (inl (w, inl i))))) = inr (inr (w, i))
-    go (Dest p q x l names rem way b arrived sb dir at_left db kid t_is) (inr (inr (inr (inl (_, inr i))))) = none_is st.dest.behind db i
-    go (Dest p q x l names rem way b arrived sb dir at_left db kid t_is) (inr (inr (inr (inr i)))) =
-        let v : (s.graph.kid st.dest.node (last_of q) ≡ Some n) × (parent_of q ≡ st.dest.walked) = subst (λ (g : Form). VictimAt s.graph g st) rem ((inv.own c op is).victim u st on) n i in
+    go (Walk x l way b child t_is) (inr (inl i)) = none_is st.behind b i
+    go (Walk x l way b child t_is) (inr (inr (inl i))) = absurd (subst HasNames (plain_of s.graph op.remaining st x l way neat).0 i.0)
+    go (Walk x l way b child t_is) (inr (inr (inr (inl i)))) = absurd (subst HasNames (plain_of s.graph op.remaining st x l way neat).1 i.0)
+    go (Walk x l way b child t_is) (inr (inr (inr (inr i)))) = none_is st.victim (plain_of s.graph op.remaining st x l way neat).2 i
+    go (Entry e p rem way b child off t_is) (inr (inl i)) = none_is st.behind b i
+    go (Entry e p rem way b child off t_is) (inr (inr (inl i))) = let w : NeatIn p st = subst (λ (f : Form). HeadsInOrder s.graph f st) rem neat in absurd (subst HasNames w.source i.0)
+    go (Entry e p rem way b child off t_is) (inr (inr (inr (inl i)))) = let w : NeatIn p st = subst (λ (f : Form). HeadsInOrder s.graph f st) rem neat in absurd (subst HasNames w.dest i.0)
+    go (Entry e p rem way b child off t_is) (inr (inr (inr (inr i)))) = none_is st.victim off i
+    go (Source p q x l rem way b at_left sb child t_is) (inr (inl i)) = none_is st.behind b i
+    go (Source p q x l rem way b at_left sb child t_is) (inr (inr (inl (w, inl i)))) = inr (inl (w, i))
+    go (Source p q x l rem way b at_left sb child t_is) (inr (inr (inl (_, inr i)))) = none_is st.source.behind sb i
+    go (Source p q x l rem way b at_left sb child t_is) (inr (inr (inr (inl i)))) = absurd (not_there p x l at_left ((in_turn s.graph p q st op.remaining rem way neat).dest i.0))
+    go (Source p q x l rem way b at_left sb child t_is) (inr (inr (inr (inr i)))) = absurd (not_there p x l at_left ((in_turn s.graph p q st op.remaining rem way neat).victim n i))
+    go (Dest p q x l names rem way b arrived sb dir at_left db child t_is) (inr (inl i)) = none_is st.behind b i
+    go (Dest p q x l names rem way b arrived sb dir at_left db child t_is) (inr (inr (inl (w, inl i)))) = inr (inl (w, i))
+    go (Dest p q x l names rem way b arrived sb dir at_left db child t_is) (inr (inr (inl (_, inr i)))) = none_is st.source.behind sb i
+    go (Dest p q x l names rem way b arrived sb dir at_left db child t_is) (inr (inr (inr (inl (w, inl i))))) = inr (inr (w, i))
+    go (Dest p q x l names rem way b arrived sb dir at_left db child t_is) (inr (inr (inr (inl (_, inr i))))) = none_is st.dest.behind db i
+    go (Dest p q x l names rem way b arrived sb dir at_left db child t_is) (inr (inr (inr (inr i)))) =
+        let v : (s.graph.child st.dest.node (last_of q) ≡ Some n) × (parent_of q ≡ st.dest.walked) = subst (λ (g : Form). VictimAt s.graph g st) rem ((inv.own c op is).victim u st on) n i in
         let f : Forked s.graph st.node p q st = forked_of s.graph st.node p q st op.remaining rem way ((inv.own c op is).well st on) in
         let e : [] ≡ x ∷ l = front_same st.dest.walked [] (x ∷ l) (append-nil st.dest.walked ∙ sym v.1 ∙ f.dest_is ∙ ap (λ (y : Key). st.dest.walked ++ y) at_left) in
         (let z : ◌≡◌ {A = Key} [] (x ∷ l) = e in cc)
-    go (Replaced p q names rem way b arrived sb dir at_left db want kid off t_is) (inr (inl i)) = none_is st.behind b i
-    go (Replaced p q names rem way b arrived sb dir at_left db want kid off t_is) (inr (inr (inl (w, inl i)))) = inr (inl (w, i))
-    go (Replaced p q names rem way b arrived sb dir at_left db want kid off t_is) (inr (inr (inl (_, inr i)))) = none_is st.source.behind sb i
-    go (Replaced p q names rem way b arrived sb dir at_left db want kid off t_is) (inr (inr (inr (inl (w, inl i))))) = inr (inr (w, i))
-    go (Replaced p q names rem way b arrived sb dir at_left db want kid off t_is) (inr (inr (inr (inl (_, inr i))))) = none_is st.dest.behind db i
-    go (Replaced p q names rem way b arrived sb dir at_left db want kid off t_is) (inr (inr (inr (inr i)))) = none_is st.victim off i
+    go (Replaced p q names rem way b arrived sb dir at_left db want child off t_is) (inr (inl i)) = none_is st.behind b i
+    go (Replaced p q names rem way b arrived sb dir at_left db want child off t_is) (inr (inr (inl (w, inl i)))) = inr (inl (w, i))
+    go (Replaced p q names rem way b arrived sb dir at_left db want child off t_is) (inr (inr (inl (_, inr i)))) = none_is st.source.behind sb i
+    go (Replaced p q names rem way b arrived sb dir at_left db want child off t_is) (inr (inr (inr (inl (w, inl i))))) = inr (inr (w, i))
+    go (Replaced p q names rem way b arrived sb dir at_left db want child off t_is) (inr (inr (inr (inl (_, inr i))))) = none_is st.dest.behind db i
+    go (Replaced p q names rem way b arrived sb dir at_left db want child off t_is) (inr (inr (inr (inr i)))) = none_is st.victim off i
 
 -- where the wanted node is: one name below a node that the call holds at its position or below
-record Below (s : State) (k : Key) (st : Stand) (n : ℕ) : Type 0 where
+record Below (s : State) (k : Key) (st : Holdings) (n : ℕ) : Type 0 where
   pub w : Key
   pub m : ℕ
   pub x : Name
@@ -85,27 +85,27 @@ record Below (s : State) (k : Key) (st : Stand) (n : ℕ) : Type 0 where
   pub held : Holds st m
   pub at_n : numbers s.graph ((k ++ w) ++ x ∷ []) ≡ Some n
 
-wants_below : (s : State) (inv : Invariant s) (c : ℕ) (op : Record) (n : ℕ) (st : Stand) → s.ops c ≡ Some op → op.stand ≡ Some st → Take s.graph op n st → Below s (inv.key c) st n
+wants_below : (s : State) (inv : Invariant s) (c : ℕ) (op : Record) (n : ℕ) (st : Holdings) → s.ops c ≡ Some op → op.holdings ≡ Some st → Take s.graph op n st → Below s (inv.key c) st n
 wants_below s inv c op n st is on t = go t
   where
     loc : Located (numbers s.graph) (inv.key c) st
     loc = (inv.kept.each c op st is on).located
 
-    of : (w : Key) (m : ℕ) (x : Name) → numbers s.graph (inv.key c ++ w) ≡ Some m → Holds st m → s.graph.kid m x ≡ Some n → Below s (inv.key c) st n
-    of w m x e h kid = record { w = w; m = m; x = x; at_m = e; held = h; at_n = at_child s.graph.kid 0 m (inv.key c ++ w) x e ∙ kid }
+    of : (w : Key) (m : ℕ) (x : Name) → numbers s.graph (inv.key c ++ w) ≡ Some m → Holds st m → s.graph.child m x ≡ Some n → Below s (inv.key c) st n
+    of w m x e h child = record { w = w; m = m; x = x; at_m = e; held = h; at_n = at_child s.graph.child 0 m (inv.key c ++ w) x e ∙ child }
 
     here : numbers s.graph (inv.key c ++ []) ≡ Some st.node
     here = ap (numbers s.graph) (append-nil (inv.key c)) ∙ loc.here
 
     go : Take s.graph op n st → Below s (inv.key c) st n
-    go (Walk x l way b kid t_is) = of [] st.node x here (inl refl) kid
-    go (Entry e p rem way b kid off t_is) = of [] st.node (last_of p) here (inl refl) kid
-    go (Source p q x l rem way b at_left sb kid t_is) = of st.source.walked st.source.node x loc.source (source_held (numbers s.graph) (inv.key c) st loc) kid
-    go (Dest p q x l names rem way b arrived sb dir at_left db kid t_is) = of st.dest.walked st.dest.node x loc.dest (dest_held (numbers s.graph) (inv.key c) st loc) kid
-    go (Replaced p q names rem way b arrived sb dir at_left db want kid off t_is) = of st.dest.walked st.dest.node (last_of q) loc.dest (dest_held (numbers s.graph) (inv.key c) st loc) kid
+    go (Walk x l way b child t_is) = of [] st.node x here (inl refl) child
+    go (Entry e p rem way b child off t_is) = of [] st.node (last_of p) here (inl refl) child
+    go (Source p q x l rem way b at_left sb child t_is) = of st.source.walked st.source.node x loc.source (source_held (numbers s.graph) (inv.key c) st loc) child
+    go (Dest p q x l names rem way b arrived sb dir at_left db child t_is) = of st.dest.walked st.dest.node x loc.dest (dest_held (numbers s.graph) (inv.key c) st loc) child
+    go (Replaced p q names rem way b arrived sb dir at_left db want child off t_is) = of st.dest.walked st.dest.node (last_of q) loc.dest (dest_held (numbers s.graph) (inv.key c) st loc) child
 
 -- of two calls that wait, the first for the second, by their keys
-waits_key : (s : State) (run : Run s) (c d e : ℕ) (op q : Record) (st other : Stand) → WaitsFor s c d op → op.stand ≡ Some st → WaitsFor s d e q → q.stand ≡ Some other → (r : Key) × HasNames r × ((run_keeps s run).key d ≡ (run_keeps s run).key c ++ r)
+waits_key : (s : State) (run : Run s) (c d e : ℕ) (op q : Record) (st other : Holdings) → WaitsFor s c d op → op.holdings ≡ Some st → WaitsFor s d e q → q.holdings ≡ Some other → (r : Key) × HasNames r × ((run_keeps s run).key d ≡ (run_keeps s run).key c ++ r)
 waits_key s run c d e op q st other a on b on_q = go (takes_from s.graph op a.node a.wants) (takes_from s.graph q b.node b.wants) ((run_accounts s run).holds a.node d a.held)
   where
     inv : Invariant s
@@ -120,21 +120,21 @@ waits_key s run c d e op q st other a on b on_q = go (takes_from s.graph op a.no
     back : Pair (numbers s.graph) ((run_keeps s run).key d) other q.phase ((run_keeps s run).key c) st op.phase
     back = (run_keeps s run).kept.pairs d c q op other st (λ i. differs (sym i)) b.is a.is on_q on
 
-    same : (f g : Stand) (o : Option Stand) → o ≡ Some f → o ≡ Some g → f ≡ g
-    same f g o i j = let z : ◌≡◌ {A = Option Stand} (Some f) (Some g) = sym i ∙ j in cc
+    same : (f g : Holdings) (o : Option Holdings) → o ≡ Some f → o ≡ Some g → f ≡ g
+    same f g o i j = let z : ◌≡◌ {A = Option Holdings} (Some f) (Some g) = sym i ∙ j in cc
 
     holds : Holder s a.node d → Holds other a.node
     holds (r, t, is, on_t, h) =
         let z : ◌≡◌ {A = Option Record} (Some r) (Some q) = sym is ∙ b.is in
         let y : r ≡ q = cc in
-        subst (λ (x : Stand). Holds x a.node) (same t other q.stand (ap (λ (o : Record). o.stand) (sym y) ∙ on_t) on_q) h
+        subst (λ (x : Holdings). Holds x a.node) (same t other q.holdings (ap (λ (o : Record). o.holdings) (sym y) ∙ on_t) on_q) h
 
     go : TakesFrom s.graph op a.node × IsUnfinished op → TakesFrom s.graph q b.node × IsUnfinished q → Holder s a.node d → (r : Key) × HasNames r × ((run_keeps s run).key d ≡ (run_keeps s run).key c ++ r)
-    go (From_nowhere text off z, u) t h = let y : ◌≡◌ {A = Option Stand} None (Some st) = sym off ∙ on in cc
-    go (From_stand x on_x m, u) (From_nowhere text off z, v) h = let y : ◌≡◌ {A = Option Stand} None (Some other) = sym off ∙ on_q in cc
-    go (From_stand x on_x m, u) (From_stand y on_y n, v) h =
-        let w : Below s ((run_keeps s run).key c) st a.node = wants_below s (run_keeps s run) c op a.node st a.is on (takes_by s.graph op a.node st on (subst (λ (z : Stand). next_on s.graph op.remaining z ≡ Takes a.node) (same x st op.stand on_x on) m)) in
-        let keeps : Keeps_waiting other a.node = holds_waiting s (run_keeps s run) (run_accounts s run) d q b.node a.node other b.is v on_q (takes_by s.graph q b.node other on_q (subst (λ (z : Stand). next_on s.graph q.remaining z ≡ Takes b.node) (same y other q.stand on_y on_q) n)) (holds h) in
+    go (From_nowhere text off z, u) t h = let y : ◌≡◌ {A = Option Holdings} None (Some st) = sym off ∙ on in cc
+    go (From_holdings x on_x m, u) (From_nowhere text off z, v) h = let y : ◌≡◌ {A = Option Holdings} None (Some other) = sym off ∙ on_q in cc
+    go (From_holdings x on_x m, u) (From_holdings y on_y n, v) h =
+        let w : Below s ((run_keeps s run).key c) st a.node = wants_below s (run_keeps s run) c op a.node st a.is on (takes_by s.graph op a.node st on (subst (λ (z : Holdings). next_on s.graph op.remaining z ≡ Takes a.node) (same x st op.holdings on_x on) m)) in
+        let keeps : Keeps_waiting other a.node = holds_waiting s (run_keeps s run) (run_accounts s run) d q b.node a.node other b.is v on_q (takes_by s.graph q b.node other on_q (subst (λ (z : Holdings). next_on s.graph q.remaining z ≡ Takes b.node) (same y other q.holdings on_y on_q) n)) (holds h) in
         let r : (r : Key) × (HasNames r × ((run_keeps s run).key d ≡ (run_keeps s run).key c ++ r)) =
         waits_below (numbers s.graph) (run_keeps s run).is_graph.one_key ((run_keeps s run).key c) w.w st ((run_keeps s run).key d) other w.m a.node w.x
         ((run_keeps s run).kept.each c op st a.is on).located ((run_keeps s run).kept.each d q other b.is on_q).located
@@ -142,22 +142,22 @@ waits_key s run c d e op q st other a on b on_q = go (takes_from s.graph op a.no
         (r.0, r.1.0, r.1.1)
 
 -- a call that holds a node stands somewhere
-holder_stands : (s : State) → Run s → (n d : ℕ) → s.holder n ≡ Some d → (q : Record) × (st : Stand) × (s.ops d ≡ Some q) × (q.stand ≡ Some st)
+holder_stands : (s : State) → Run s → (n d : ℕ) → s.holder n ≡ Some d → (q : Record) × (st : Holdings) × (s.ops d ≡ Some q) × (q.holdings ≡ Some st)
 holder_stands s run n d e = let h : Holder s n d = (run_accounts s run).holds n d e in (h.0, h.1, h.2, h.3)
 
 pub waits_above : (s : State) → Run s → WaitsBelow s
 waits_above s run c d e op q a b =
-    let h : (r : Record) × (st : Stand) × (s.ops d ≡ Some r) × (r.stand ≡ Some st) = holder_stands s run a.node d a.held in
+    let h : (r : Record) × (st : Holdings) × (s.ops d ≡ Some r) × (r.holdings ≡ Some st) = holder_stands s run a.node d a.held in
     let z : ◌≡◌ {A = Option Record} (Some h.0) (Some q) = sym h.2 ∙ b.is in
     let y : h.0 ≡ q = cc in
-    let on_q : q.stand ≡ Some h.1 = ap (λ (o : Record). o.stand) (sym y) ∙ h.3 in (
+    let on_q : q.holdings ≡ Some h.1 = ap (λ (o : Record). o.holdings) (sym y) ∙ h.3 in (
       h.1,
       on_q,
       λ st on.
           (let k : (r : Key) × HasNames r × ((run_keeps s run).key d ≡ (run_keeps s run).key c ++ r) = waits_key s run c d e op q st h.1 a on b on_q in
           let here : numbers s.graph ((run_keeps s run).key c) ≡ Some st.node = ((run_keeps s run).kept.each c op st a.is on).located.here in
           let there : numbers s.graph ((run_keeps s run).key d) ≡ Some h.1.node = ((run_keeps s run).kept.each d q h.1 b.is on_q).located.here in
-          (k.0, k.1, sym (at_from s.graph.kid 0 st.node ((run_keeps s run).key c) k.0 here) ∙ ap (numbers s.graph) (sym k.2) ∙ there)),
+          (k.0, k.1, sym (at_from s.graph.child 0 st.node ((run_keeps s run).key c) k.0 here) ∙ ap (numbers s.graph) (sym k.2) ∙ there)),
     )
 
 -- what a call's step does: it goes on, or waits
@@ -177,7 +177,7 @@ none_or_chosen s run c op (Some n) is m = go (chosen_or_none s run (inv.key c ++
     t = to_move s.graph op n m
 
     at_n : numbers s.graph ((run_keeps s run).key c ++ (to_move s.graph op n m).st.source.walked ++ last_of (to_move s.graph op n m).p ∷ []) ≡ Some n
-    at_n = at_child s.graph.kid 0 (to_move s.graph op n m).st.source.node ((run_keeps s run).key c ++ (to_move s.graph op n m).st.source.walked) (last_of (to_move s.graph op n m).p) ((run_keeps s run).kept.each c op (to_move s.graph op n m).st is (to_move s.graph op n m).on).located.source ∙ (to_move s.graph op n m).kid
+    at_n = at_child s.graph.child 0 (to_move s.graph op n m).st.source.node ((run_keeps s run).key c ++ (to_move s.graph op n m).st.source.walked) (last_of (to_move s.graph op n m).p) ((run_keeps s run).kept.each c op (to_move s.graph op n m).st is (to_move s.graph op n m).on).located.source ∙ (to_move s.graph op n m).child
 
     go : NoneBelow s (Some n) ⊎ ((d : ℕ) × IsChosen s n d) → NoneBelow s (Some n) ⊎ ((k d : ℕ) × (Some n ≡ Some k) × IsChosen s k d)
     go (inl h) = inl h
@@ -202,7 +202,7 @@ does_step s run c op is = go (next s.graph op) refl
     go (Takes n) m = takes n m (s.holder n) refl
     go (Leaves n) m = AtNode (LetGo n) (letting_go s c op n) (c, op, (on, is, m), refl) tt
     go (Finishes o) m = finishes o m (none_or_chosen s run c op o is m) (finishes_open s op o m)
-    go Ends m = let r : (r : Reply) × (op.phase ≡ Finished r) = by_ends s.graph op (by_text (form op.call)) op.phase op.stand m in AtNode (Returned r.0) (returning s c op r.0) (c, op, (on, is, m), r.1, refl) tt
+    go Ends m = let r : (r : Reply) × (op.phase ≡ Finished r) = by_ends s.graph op (by_text (form op.call)) op.phase op.holdings m in AtNode (Returned r.0) (returning s c op r.0) (c, op, (on, is, m), r.1, refl) tt
 
 -- each seat has a step
 pub has_step : (s : State) → Run s → (seat : ℕ) → HasStep s seat
@@ -219,7 +219,7 @@ has_step s run seat = go (s.on_seat seat) refl
 -- a call's step: it goes on, or it waits for a call that stands somewhere
 pub data Next (s : State) (c : ℕ) (op : Record) : Type 0 where
   Now : SomebodyGoesOn s → Next s c op
-  Then : (d : ℕ) (q : Record) (other : Stand) → WaitsFor s c d op → s.ops d ≡ Some q → q.stand ≡ Some other → Next s c op
+  Then : (d : ℕ) (q : Record) (other : Holdings) → WaitsFor s c d op → s.ops d ≡ Some q → q.holdings ≡ Some other → Next s c op
 
 next_of : (s : State) (run : Run s) (c : ℕ) (op : Record) → s.ops c ≡ Some op → Next s c op
 next_of s run c op is = go (does_step s run c op is)
@@ -227,7 +227,7 @@ next_of s run c op is = go (does_step s run c op is)
     go : Does s c op → Next s c op
     go (AtNode answer new step h) = Now (record { seat = op.seat; answer = answer; new = new; step = step; goes_on = h })
     go (Waiting n d m held) =
-        let h : (r : Record) × (st : Stand) × (s.ops d ≡ Some r) × (r.stand ≡ Some st) = holder_stands s run n d held in
+        let h : (r : Record) × (st : Holdings) × (s.ops d ≡ Some r) × (r.holdings ≡ Some st) = holder_stands s run n d held in
         Then d h.0 h.1 (record { is = is; node = n; wants = m; held = held }) h.2 h.3
 
 has_length : (r : Key) → HasNames r → 1 ≤ length r
@@ -235,7 +235,7 @@ has_length [] h = absurd h
 has_length (x ∷ r) h = omega arith
 
 -- who waits for a call that waits is less deep
-deeper : (s : State) (run : Run s) (c d e : ℕ) (op q : Record) (st other : Stand) → WaitsFor s c d op → op.stand ≡ Some st → WaitsFor s d e q → q.stand ≡ Some other → length ((run_keeps s run).key c) + 1 ≤ length ((run_keeps s run).key d)
+deeper : (s : State) (run : Run s) (c d e : ℕ) (op q : Record) (st other : Holdings) → WaitsFor s c d op → op.holdings ≡ Some st → WaitsFor s d e q → q.holdings ≡ Some other → length ((run_keeps s run).key c) + 1 ≤ length ((run_keeps s run).key d)
 deeper s run c d e op q st other a on b on_q =
     let k : (r : Key) × HasNames r × ((run_keeps s run).key d ≡ (run_keeps s run).key c ++ r) = waits_key s run c d e op q st other a on b on_q in
     let l : length ((run_keeps s run).key d) ≡ length ((run_keeps s run).key c) + length k.0 = ap length k.2 ∙ length-append ((run_keeps s run).key c) k.0 in
@@ -253,7 +253,7 @@ nearer : (s : State) (run : Run s) (c d k : ℕ) → Far s run c (suc k) → len
 nearer s run c d k far more = omega (arith, far, more)
 
 -- from a call that waits, along those for which each waits, each deeper than the one before
-climb : (k : ℕ) (s : State) (run : Run s) (c d : ℕ) (op q : Record) (st other : Stand) → WaitsFor s c d op → op.stand ≡ Some st → s.ops d ≡ Some q → q.stand ≡ Some other → Far s run c k → Next s d q → SomebodyGoesOn s
+climb : (k : ℕ) (s : State) (run : Run s) (c d : ℕ) (op q : Record) (st other : Holdings) → WaitsFor s c d op → op.holdings ≡ Some st → s.ops d ≡ Some q → q.holdings ≡ Some other → Far s run c k → Next s d q → SomebodyGoesOn s
 climb k s run c d op q st other w on is on_q far (Now h) = h
 climb zero s run c d op q st other w on is on_q far (Then e r another v is_e on_e) = absurd (too_deep s run c d q is far (deeper s run c d e op q st other w on v on_q))
 climb (suc k) s run c d op q st other w on is on_q far (Then e r another v is_e on_e) = climb k s run d e q r other another v on_q is_e on_e (nearer s run c d k far (deeper s run c d e op q st other w on v on_q)) (next_of s run e r is_e)
@@ -267,7 +267,7 @@ never_stuck s run c op is = go (next_of s run c op is)
     far : (d : ℕ) → Far s run d (total (λ e. length ((run_keeps s run).key e)) (begins s.timeline))
     far d = omega arith
 
-    second : (d : ℕ) (q : Record) (other : Stand) → s.ops d ≡ Some q → q.stand ≡ Some other → Next s d q → SomebodyGoesOn s
+    second : (d : ℕ) (q : Record) (other : Holdings) → s.ops d ≡ Some q → q.holdings ≡ Some other → Next s d q → SomebodyGoesOn s
     second d q other is_d on_d (Now h) = h
     second d q other is_d on_d (Then e r another v is_e on_e) = climb (total (λ x. length ((run_keeps s run).key x)) (begins s.timeline)) s run d e q r other another v on_d is_e on_e (far d) (next_of s run e r is_e)
 

@@ -4,17 +4,17 @@ use Rattle.fs_names.specs.Keys.{Key, after_prefix}
 use Rattle.fs_names.specs.Names.{Name}
 use Rattle.fs_names.specs.Parts.{HasNames}
 use Rattle.fs_laws.specs.Maps.{Map}
-use Rattle.fs_machine.specs.Records.{Holds, Stand}
-use Rattle.fs_laws.specs.Stands.{IsClear, Located}
+use Rattle.fs_machine.specs.Records.{Holds, Holdings}
+use Rattle.fs_laws.specs.CallFacts.{IsClear, Located}
 use Rattle.fs_laws.proofs.helping.FinishPassesPlaced.{child_cases}
 use Rattle.fs_laws.proofs.events.TwoCalls.{OneKey, Ends, ends, ends_same}
 
 -- a call that waits itself holds a node as its position or as a head's node: a parent still held is let go next, and a victim is followed by the finish
-abbrev pub Keeps_waiting : Stand → ℕ → Type 0
+abbrev pub Keeps_waiting : Holdings → ℕ → Type 0
 Keeps_waiting st n = (st.node ≡ n) ⊎ (HasNames st.source.walked × (st.source.node ≡ n)) ⊎ (HasNames st.dest.walked × (st.dest.node ≡ n))
 
 -- the first wants a child of a node that it holds, at its position or below it by what it has walked; the other holds that child and waits itself: then the other's position is below the first's by one name or more
-pub waits_below : (tree : Map ℕ) → OneKey tree → (kc w : Key) (c : Stand) (kd : Key) (d : Stand) (m n : ℕ) (x : Name)
+pub waits_below : (tree : Map ℕ) → OneKey tree → (kc w : Key) (c : Holdings) (kd : Key) (d : Holdings) (m n : ℕ) (x : Name)
     → Located tree kc c → Located tree kd d
     → tree (kc ++ w) ≡ Some m → Holds c m → tree ((kc ++ w) ++ x ∷ []) ≡ Some n
     → ((q : ℕ) → Holds d q → Holds c q → ⊥) → IsClear tree kd d.source.walked c → IsClear tree kd d.dest.walked c
@@ -48,7 +48,7 @@ waits_below tree one kc w c kd d m n x lc ld at_m held at_n apart source dest (i
     by (inr a) = head d.dest.walked d.dest.node a.0 ld.dest a.1 dest
 
 -- while a call holds the parent of s, no other call's position gets below s by a take
-pub none_enters : (tree : Map ℕ) (kf kd : Key) (x y : Name) (sp m : ℕ) (mover other : Stand) → tree kf ≡ Some sp → Holds mover sp → tree kd ≡ Some m → Holds other m → ((q : ℕ) → Holds mover q → Holds other q → ⊥)
+pub none_enters : (tree : Map ℕ) (kf kd : Key) (x y : Name) (sp m : ℕ) (mover other : Holdings) → tree kf ≡ Some sp → Holds mover sp → tree kd ≡ Some m → Holds other m → ((q : ℕ) → Holds mover q → Holds other q → ⊥)
     → after_prefix (kf ++ x ∷ []) kd ≡ None → after_prefix (kf ++ x ∷ []) (kd ++ y ∷ []) ≡ None
 none_enters tree kf kd x y sp m mover other at_sp held at_m holds apart off = go (child_cases (kf ++ x ∷ []) kd y off)
   where

@@ -8,7 +8,7 @@ use Rattle.fs_names.specs.Shapes.{Shape, Dir, File, names_of}
 use Rattle.fs_calls.proofs.ListLemmas.{true_T}
 use Rattle.fs_calls.specs.Tree as trees
 use Rattle.fs_calls.specs.Tree.{Tree, Node, look, names_in, inserted, removed, IsTree}
-use Rattle.fs_calls.specs.Shapes.{seen, shape_of}
+use Rattle.fs_calls.specs.Shapes.{tree_shapes, shape_of}
 use Rattle.fs_laws.specs.Maps.{Map, put, put_at}
 use Rattle.fs_calls.proofs.LookLemmas.{same_key_exact, same_key_refl, look-inserted, look-removed, sorted-inserted, sorted-removed}
 use Rattle.fs_calls.proofs.ResolutionLemmas.{nothing_below}
@@ -70,12 +70,12 @@ child_of k d z x e = same_from_push k d z x e
 no_dir : ◌≡◌ {A = Option Node} None (Some trees.Dir) → ⊥
 no_dir e = cc
 
-pub names_seen : (t : Tree) (d : Key) → look t d ≡ Some trees.Dir → names_of (seen t d) ≡ names_in t d
+pub names_seen : (t : Tree) (d : Key) → look t d ≡ Some trees.Dir → names_of (tree_shapes t d) ≡ names_in t d
 names_seen t d e = ap (λ (o : Option Node). names_of (shape_of t d o)) e
 
 -- a key that the change passes
-pub passes : (t new : Tree) (m : Map Shape) (k : Key) → T (is_sorted key_cmp t) → look new k ≡ look t k → m k ≡ seen t k → ((z : Name) → is_some (look new (k ++ z ∷ [])) ≡ is_some (look t (k ++ z ∷ []))) → ShowsAt new k (look new k) (m k)
-passes t new m k sorted same shown names = subst (ShowsAt new k (look new k)) (sym shown) (subst (λ (o : Option Node). ShowsAt new k o (seen t k)) (sym same) (shows_same t new k k (look t k) sorted names))
+pub passes : (t new : Tree) (m : Map Shape) (k : Key) → T (is_sorted key_cmp t) → look new k ≡ look t k → m k ≡ tree_shapes t k → ((z : Name) → is_some (look new (k ++ z ∷ [])) ≡ is_some (look t (k ++ z ∷ []))) → ShowsAt new k (look new k) (m k)
+passes t new m k sorted same shown names = subst (ShowsAt new k (look new k)) (sym shown) (subst (λ (o : Option Node). ShowsAt new k o (tree_shapes t k)) (sym same) (shows_same t new k k (look t k) sorted names))
 
 -- a new node without entries
 pub data Bare (node : Node) (s : Shape) : Type 0 where
@@ -83,7 +83,7 @@ pub data Bare (node : Node) (s : Shape) : Type 0 where
   A_file : (bytes : List ℕ) → node ≡ trees.File bytes → s ≡ File bytes → Bare node s
 
 pub seen_made : (t : Tree) (d : Key) (x : Name) (node : Node) (s : Shape) → IsTree t → Bare node s → look t d ≡ Some trees.Dir → look t (d ++ x ∷ []) ≡ None
-    → (k : Key) → seen (inserted t (d ++ x ∷ []) node) k ≡ put (d ++ x ∷ []) (Some s) (put d (Some (Dir (inserted_name x (names_of (seen t d))))) (seen t)) k
+    → (k : Key) → tree_shapes (inserted t (d ++ x ∷ []) node) k ≡ put (d ++ x ∷ []) (Some s) (put d (Some (Dir (inserted_name x (names_of (tree_shapes t d))))) (tree_shapes t)) k
 seen_made t d x node s is bare dir none = seen_by new m (sorted-inserted t p node (true_T is.sorted)) (λ k. at k (same_or k p) (same_or k d))
   where
     p : Key
@@ -93,7 +93,7 @@ seen_made t d x node s is bare dir none = seen_by new m (sorted-inserted t p nod
     new = inserted t (d ++ x ∷ []) node
 
     m : Map Shape
-    m = put (d ++ x ∷ []) (Some s) (put d (Some (Dir (inserted_name x (names_of (seen t d))))) (seen t))
+    m = put (d ++ x ∷ []) (Some s) (put d (Some (Dir (inserted_name x (names_of (tree_shapes t d))))) (tree_shapes t))
 
     longer : d ≡ d ++ x ∷ [] → ⊥
     longer e = let z : ◌≡◌ {A = Option Key} (Some []) (Some (x ∷ [])) = sym (ap (after_prefix d) (sym (append-nil d)) ∙ prefix_append d []) ∙ ap (after_prefix d) e ∙ prefix_append d (x ∷ []) in cc
@@ -115,19 +115,19 @@ seen_made t d x node s is bare dir none = seen_by new m (sorted-inserted t p nod
         by (Equals e) = ap (λ (y : Name). has_name y (inserted_name x (names_in t d))) e ∙ has_with x (names_in t d) ∙ sym (ap (λ (y : Name). is_some (look (inserted t (d ++ x ∷ []) node) (d ++ y ∷ []))) e ∙ ap is_some (inserted_here t (d ++ x ∷ []) node))
         by (Differs e h) = with_else x z (names_in t d) e ∙ old_has t d z ∙ sym (ap is_some (inserted_else t (d ++ x ∷ []) node (d ++ z ∷ []) (λ i. h (child_of d d z x i).1)))
 
-    at : (k : Key) → SameKey k (d ++ x ∷ []) → SameKey k d → ShowsAt (inserted t (d ++ x ∷ []) node) k (look (inserted t (d ++ x ∷ []) node) k) (put (d ++ x ∷ []) (Some s) (put d (Some (Dir (inserted_name x (names_of (seen t d))))) (seen t)) k)
+    at : (k : Key) → SameKey k (d ++ x ∷ []) → SameKey k d → ShowsAt (inserted t (d ++ x ∷ []) node) k (look (inserted t (d ++ x ∷ []) node) k) (put (d ++ x ∷ []) (Some s) (put d (Some (Dir (inserted_name x (names_of (tree_shapes t d))))) (tree_shapes t)) k)
     at k (Same e i) r = subst (λ (y : Key). ShowsAt new y (look new y) (m y)) (sym e)
-        (subst (λ (u : Option Shape). ShowsAt new p (look new p) u) (sym (put_here p (Some s) (put d (Some (Dir (inserted_name x (names_of (seen t d))))) (seen t))))
+        (subst (λ (u : Option Shape). ShowsAt new p (look new p) u) (sym (put_here p (Some s) (put d (Some (Dir (inserted_name x (names_of (tree_shapes t d))))) (tree_shapes t))))
         (subst (λ (o : Option Node). ShowsAt new p o (Some s)) (sym (inserted_here t p node)) (fresh bare)))
     at k (Other h i) (Same e j) = subst (λ (y : Key). ShowsAt new y (look new y) (m y)) (sym e)
-        (subst (λ (u : Option Shape). ShowsAt new d (look new d) u) (sym (put_other p (Some s) (put d (Some (Dir (inserted_name x (names_of (seen t d))))) (seen t)) d longer ∙ put_here d (Some (Dir (inserted_name x (names_of (seen t d))))) (seen t) ∙ ap (λ (ns : List Name). Some (Dir (inserted_name x ns))) (names_seen t d dir)))
+        (subst (λ (u : Option Shape). ShowsAt new d (look new d) u) (sym (put_other p (Some s) (put d (Some (Dir (inserted_name x (names_of (tree_shapes t d))))) (tree_shapes t)) d longer ∙ put_here d (Some (Dir (inserted_name x (names_of (tree_shapes t d))))) (tree_shapes t) ∙ ap (λ (ns : List Name). Some (Dir (inserted_name x ns))) (names_seen t d dir)))
         (subst (λ (o : Option Node). ShowsAt new d o (Some (Dir (inserted_name x (names_in t d))))) (sym (inserted_else t p node d longer ∙ dir)) (rising_with x (names_in t d) (rising_names t d (true_T is.sorted)), parent)))
     at k (Other h i) (Other g j) = passes t new m k (true_T is.sorted) (inserted_else t p node k h)
-        (put_other p (Some s) (put d (Some (Dir (inserted_name x (names_of (seen t d))))) (seen t)) k h ∙ put_other d (Some (Dir (inserted_name x (names_of (seen t d))))) (seen t) k g)
+        (put_other p (Some s) (put d (Some (Dir (inserted_name x (names_of (tree_shapes t d))))) (tree_shapes t)) k h ∙ put_other d (Some (Dir (inserted_name x (names_of (tree_shapes t d))))) (tree_shapes t) k g)
         (λ z. ap is_some (inserted_else t p node (k ++ z ∷ []) (λ e. g (child_of k d z x e).0)))
 
-pub seen_written : (t : Tree) (p : Key) (old bytes : List ℕ) → IsTree t → look t p ≡ Some (trees.File old) → (k : Key) → seen (inserted t p (trees.File bytes)) k ≡ put p (Some (File bytes)) (seen t) k
-seen_written t p old bytes is file = seen_by (inserted t p (trees.File bytes)) (put p (Some (File bytes)) (seen t)) (sorted-inserted t p (trees.File bytes) (true_T is.sorted)) (λ k. at k (same_or k p))
+pub seen_written : (t : Tree) (p : Key) (old bytes : List ℕ) → IsTree t → look t p ≡ Some (trees.File old) → (k : Key) → tree_shapes (inserted t p (trees.File bytes)) k ≡ put p (Some (File bytes)) (tree_shapes t) k
+seen_written t p old bytes is file = seen_by (inserted t p (trees.File bytes)) (put p (Some (File bytes)) (tree_shapes t)) (sorted-inserted t p (trees.File bytes) (true_T is.sorted)) (λ k. at k (same_or k p))
   where
     new : Tree
     new = inserted t p (trees.File bytes)
@@ -139,13 +139,13 @@ seen_written t p old bytes is file = seen_by (inserted t p (trees.File bytes)) (
         by (Same e i) = ap (λ (y : Key). is_some (look (inserted t p (trees.File bytes)) y)) e ∙ ap is_some (inserted_here t p (trees.File bytes)) ∙ sym (ap (λ (y : Key). is_some (look t y)) e ∙ ap is_some file)
         by (Other h i) = ap is_some (inserted_else t p (trees.File bytes) k h)
 
-    at : (k : Key) → SameKey k p → ShowsAt (inserted t p (trees.File bytes)) k (look (inserted t p (trees.File bytes)) k) (put p (Some (File bytes)) (seen t) k)
-    at k (Same e i) = subst (λ (y : Key). ShowsAt new y (look new y) (put p (Some (File bytes)) (seen t) y)) (sym e)
-        (subst (λ (u : Option Shape). ShowsAt new p (look new p) u) (sym (put_here p (Some (File bytes)) (seen t))) (subst (λ (o : Option Node). ShowsAt new p o (Some (File bytes))) (sym (inserted_here t p (trees.File bytes))) refl))
-    at k (Other h i) = passes t new (put p (Some (File bytes)) (seen t)) k (true_T is.sorted) (inserted_else t p (trees.File bytes) k h) (put_other p (Some (File bytes)) (seen t) k h) (λ z. names (k ++ z ∷ []))
+    at : (k : Key) → SameKey k p → ShowsAt (inserted t p (trees.File bytes)) k (look (inserted t p (trees.File bytes)) k) (put p (Some (File bytes)) (tree_shapes t) k)
+    at k (Same e i) = subst (λ (y : Key). ShowsAt new y (look new y) (put p (Some (File bytes)) (tree_shapes t) y)) (sym e)
+        (subst (λ (u : Option Shape). ShowsAt new p (look new p) u) (sym (put_here p (Some (File bytes)) (tree_shapes t))) (subst (λ (o : Option Node). ShowsAt new p o (Some (File bytes))) (sym (inserted_here t p (trees.File bytes))) refl))
+    at k (Other h i) = passes t new (put p (Some (File bytes)) (tree_shapes t)) k (true_T is.sorted) (inserted_else t p (trees.File bytes) k h) (put_other p (Some (File bytes)) (tree_shapes t) k h) (λ z. names (k ++ z ∷ []))
 
 pub seen_removed : (t : Tree) (d : Key) (x : Name) → IsTree t → look t d ≡ Some trees.Dir
-    → (k : Key) → seen (removed t (d ++ x ∷ [])) k ≡ put (d ++ x ∷ []) None (put d (Some (Dir (removed_name x (names_of (seen t d))))) (seen t)) k
+    → (k : Key) → tree_shapes (removed t (d ++ x ∷ [])) k ≡ put (d ++ x ∷ []) None (put d (Some (Dir (removed_name x (names_of (tree_shapes t d))))) (tree_shapes t)) k
 seen_removed t d x is dir = seen_by new m (sorted-removed t p (true_T is.sorted)) (λ k. at k (same_or k p) (same_or k d))
   where
     p : Key
@@ -155,7 +155,7 @@ seen_removed t d x is dir = seen_by new m (sorted-removed t p (true_T is.sorted)
     new = removed t (d ++ x ∷ [])
 
     m : Map Shape
-    m = put (d ++ x ∷ []) None (put d (Some (Dir (removed_name x (names_of (seen t d))))) (seen t))
+    m = put (d ++ x ∷ []) None (put d (Some (Dir (removed_name x (names_of (tree_shapes t d))))) (tree_shapes t))
 
     longer : d ≡ d ++ x ∷ [] → ⊥
     longer e = let z : ◌≡◌ {A = Option Key} (Some []) (Some (x ∷ [])) = sym (ap (after_prefix d) (sym (append-nil d)) ∙ prefix_append d []) ∙ ap (after_prefix d) e ∙ prefix_append d (x ∷ []) in cc
@@ -167,13 +167,13 @@ seen_removed t d x is dir = seen_by new m (sorted-removed t p (true_T is.sorted)
         by (Equals e) = ap (λ (y : Name). has_name y (removed_name x (names_in t d))) e ∙ has_without x (names_in t d) ∙ sym (ap (λ (y : Name). is_some (look (removed t (d ++ x ∷ [])) (d ++ y ∷ []))) e ∙ ap is_some (removed_here t (d ++ x ∷ [])))
         by (Differs e h) = without_else x z (names_in t d) e ∙ old_has t d z ∙ sym (ap is_some (removed_else t (d ++ x ∷ []) (d ++ z ∷ []) (λ i. h (child_of d d z x i).1)))
 
-    at : (k : Key) → SameKey k (d ++ x ∷ []) → SameKey k d → ShowsAt (removed t (d ++ x ∷ [])) k (look (removed t (d ++ x ∷ [])) k) (put (d ++ x ∷ []) None (put d (Some (Dir (removed_name x (names_of (seen t d))))) (seen t)) k)
+    at : (k : Key) → SameKey k (d ++ x ∷ []) → SameKey k d → ShowsAt (removed t (d ++ x ∷ [])) k (look (removed t (d ++ x ∷ [])) k) (put (d ++ x ∷ []) None (put d (Some (Dir (removed_name x (names_of (tree_shapes t d))))) (tree_shapes t)) k)
     at k (Same e i) r = subst (λ (y : Key). ShowsAt new y (look new y) (m y)) (sym e)
-        (subst (λ (u : Option Shape). ShowsAt new p (look new p) u) (sym (put_here p None (put d (Some (Dir (removed_name x (names_of (seen t d))))) (seen t))))
+        (subst (λ (u : Option Shape). ShowsAt new p (look new p) u) (sym (put_here p None (put d (Some (Dir (removed_name x (names_of (tree_shapes t d))))) (tree_shapes t))))
         (subst (λ (o : Option Node). ShowsAt new p o None) (sym (removed_here t p)) tt))
     at k (Other h i) (Same e j) = subst (λ (y : Key). ShowsAt new y (look new y) (m y)) (sym e)
-        (subst (λ (u : Option Shape). ShowsAt new d (look new d) u) (sym (put_other p None (put d (Some (Dir (removed_name x (names_of (seen t d))))) (seen t)) d longer ∙ put_here d (Some (Dir (removed_name x (names_of (seen t d))))) (seen t) ∙ ap (λ (ns : List Name). Some (Dir (removed_name x ns))) (names_seen t d dir)))
+        (subst (λ (u : Option Shape). ShowsAt new d (look new d) u) (sym (put_other p None (put d (Some (Dir (removed_name x (names_of (tree_shapes t d))))) (tree_shapes t)) d longer ∙ put_here d (Some (Dir (removed_name x (names_of (tree_shapes t d))))) (tree_shapes t) ∙ ap (λ (ns : List Name). Some (Dir (removed_name x ns))) (names_seen t d dir)))
         (subst (λ (o : Option Node). ShowsAt new d o (Some (Dir (removed_name x (names_in t d))))) (sym (removed_else t p d longer ∙ dir)) (rising_without x (names_in t d) (rising_names t d (true_T is.sorted)), parent)))
     at k (Other h i) (Other g j) = passes t new m k (true_T is.sorted) (removed_else t p k h)
-        (put_other p None (put d (Some (Dir (removed_name x (names_of (seen t d))))) (seen t)) k h ∙ put_other d (Some (Dir (removed_name x (names_of (seen t d))))) (seen t) k g)
+        (put_other p None (put d (Some (Dir (removed_name x (names_of (tree_shapes t d))))) (tree_shapes t)) k h ∙ put_other d (Some (Dir (removed_name x (names_of (tree_shapes t d))))) (tree_shapes t) k g)
         (λ z. ap is_some (removed_else t p (k ++ z ∷ []) (λ e. g (child_of k d z x e).0)))

@@ -7,7 +7,7 @@ use Rattle.fs_names.specs.Shapes.{Shape, Dir, names_of}
 use Rattle.fs_calls.proofs.ListLemmas.{true_T}
 use Rattle.fs_calls.specs.Tree as trees
 use Rattle.fs_calls.specs.Tree.{Tree, Node, look, names_in, IsTree}
-use Rattle.fs_calls.specs.Shapes.{seen}
+use Rattle.fs_calls.specs.Shapes.{tree_shapes}
 use Rattle.fs_laws.specs.Changes.{rename_writes}
 use Rattle.fs_calls.specs.Laws.{IsMoved}
 use Rattle.fs_laws.specs.Maps.{Map, put, move, write_all}
@@ -42,8 +42,8 @@ child_off p k z off differs = go (child_cases p k z off)
     go (inr h) = absurd (differs (sym h))
 
 pub seen_moved : (t new : Tree) (d : Key) (x : Name) (e : Key) (y : Name) → Moved t new d x e y → (k : Key)
-    → seen new k ≡ move (d ++ x ∷ []) (e ++ y ∷ []) (write_all (rename_writes (is_end (after_prefix d e)) d (names_of (seen t d)) x e (names_of (seen t e)) y) (seen t)) k
-seen_moved t new d x e y f = seen_by new (move (d ++ x ∷ []) (e ++ y ∷ []) (write_all (rename_writes (is_end (after_prefix d e)) d (names_of (seen t d)) x e (names_of (seen t e)) y) (seen t))) (true_T f.is_new.sorted) (λ k. below k (after_prefix (e ++ y ∷ []) k) (after_prefix (d ++ x ∷ []) k) refl refl)
+    → tree_shapes new k ≡ move (d ++ x ∷ []) (e ++ y ∷ []) (write_all (rename_writes (is_end (after_prefix d e)) d (names_of (tree_shapes t d)) x e (names_of (tree_shapes t e)) y) (tree_shapes t)) k
+seen_moved t new d x e y f = seen_by new (move (d ++ x ∷ []) (e ++ y ∷ []) (write_all (rename_writes (is_end (after_prefix d e)) d (names_of (tree_shapes t d)) x e (names_of (tree_shapes t e)) y) (tree_shapes t))) (true_T f.is_new.sorted) (λ k. below k (after_prefix (e ++ y ∷ []) k) (after_prefix (d ++ x ∷ []) k) refl refl)
   where
     p : Key
     p = d ++ x ∷ []
@@ -52,7 +52,7 @@ seen_moved t new d x e y f = seen_by new (move (d ++ x ∷ []) (e ++ y ∷ []) (
     q = e ++ y ∷ []
 
     written : Map Shape
-    written = write_all (rename_writes (is_end (after_prefix d e)) d (names_of (seen t d)) x e (names_of (seen t e)) y) (seen t)
+    written = write_all (rename_writes (is_end (after_prefix d e)) d (names_of (tree_shapes t d)) x e (names_of (tree_shapes t e)) y) (tree_shapes t)
 
     d_off_p : after_prefix (d ++ x ∷ []) d ≡ None
     d_off_p = prefix_shorter d x
@@ -67,9 +67,9 @@ seen_moved t new d x e y f = seen_by new (move (d ++ x ∷ []) (e ++ y ∷ []) (
     e_off_p = prefix_before (d ++ x ∷ []) e (y ∷ []) f.aside.0
 
     -- a key that isn't a parent keeps its names
-    write_else : (b : Bool) (k : Key) → (k ≡ d → ⊥) → (k ≡ e → ⊥) → write_all (rename_writes b d (names_of (seen t d)) x e (names_of (seen t e)) y) (seen t) k ≡ seen t k
-    write_else true k nd ne = put_other d (Some (Dir (inserted_name y (removed_name x (names_of (seen t d)))))) (seen t) k nd
-    write_else false k nd ne = put_other e (Some (Dir (inserted_name y (names_of (seen t e))))) (put d (Some (Dir (removed_name x (names_of (seen t d))))) (seen t)) k ne ∙ put_other d (Some (Dir (removed_name x (names_of (seen t d))))) (seen t) k nd
+    write_else : (b : Bool) (k : Key) → (k ≡ d → ⊥) → (k ≡ e → ⊥) → write_all (rename_writes b d (names_of (tree_shapes t d)) x e (names_of (tree_shapes t e)) y) (tree_shapes t) k ≡ tree_shapes t k
+    write_else true k nd ne = put_other d (Some (Dir (inserted_name y (removed_name x (names_of (tree_shapes t d)))))) (tree_shapes t) k nd
+    write_else false k nd ne = put_other e (Some (Dir (inserted_name y (names_of (tree_shapes t e))))) (put d (Some (Dir (removed_name x (names_of (tree_shapes t d))))) (tree_shapes t)) k ne ∙ put_other d (Some (Dir (removed_name x (names_of (tree_shapes t d))))) (tree_shapes t) k nd
 
     differs_below : (k a b : Key) → after_prefix k a ≡ Some b → (c : Key) → after_prefix k c ≡ None → a ≡ c → ⊥
     differs_below k a b i c off j = let z : ◌≡◌ {A = Option Key} (Some b) None = sym i ∙ ap (after_prefix k) j ∙ off in cc
@@ -130,40 +130,40 @@ seen_moved t new d x e y f = seen_by new (move (d ++ x ∷ []) (e ++ y ∷ []) (
     new_e : look new e ≡ Some trees.Dir
     new_e = same_else e e_off_p e_off_q ∙ f.to_dir
 
-    at_d : (b : Bool) → is_end (after_prefix d e) ≡ b → ShowsAt new d (look new d) (write_all (rename_writes b d (names_of (seen t d)) x e (names_of (seen t e)) y) (seen t) d)
+    at_d : (b : Bool) → is_end (after_prefix d e) ≡ b → ShowsAt new d (look new d) (write_all (rename_writes b d (names_of (tree_shapes t d)) x e (names_of (tree_shapes t e)) y) (tree_shapes t) d)
     at_d true i =
         dir_at d (inserted_name y (removed_name x (names_in t d))) new_d (rising_with y (removed_name x (names_in t d)) (rising_without x (names_in t d) (rising_names t d (true_T f.is.sorted)))) (has_both ((ends_same true i (after_prefix d e) refl).0 refl))
-        (put d (Some (Dir (inserted_name y (removed_name x (names_of (seen t d)))))) (seen t) d)
-        (put_here d (Some (Dir (inserted_name y (removed_name x (names_of (seen t d)))))) (seen t) ∙ ap (λ (ns : List Name). Some (Dir (inserted_name y (removed_name x ns)))) (names_seen t d f.from_dir))
+        (put d (Some (Dir (inserted_name y (removed_name x (names_of (tree_shapes t d)))))) (tree_shapes t) d)
+        (put_here d (Some (Dir (inserted_name y (removed_name x (names_of (tree_shapes t d)))))) (tree_shapes t) ∙ ap (λ (ns : List Name). Some (Dir (inserted_name y (removed_name x ns)))) (names_seen t d f.from_dir))
     at_d false i =
         dir_at d (removed_name x (names_in t d)) new_d (rising_without x (names_in t d) (rising_names t d (true_T f.is.sorted))) (has_less ((ends_same false i (after_prefix d e) refl).1 refl))
-        (put e (Some (Dir (inserted_name y (names_of (seen t e))))) (put d (Some (Dir (removed_name x (names_of (seen t d))))) (seen t)) d)
-        (put_other e (Some (Dir (inserted_name y (names_of (seen t e))))) (put d (Some (Dir (removed_name x (names_of (seen t d))))) (seen t)) d ((ends_same false i (after_prefix d e) refl).1 refl)
-        ∙ put_here d (Some (Dir (removed_name x (names_of (seen t d))))) (seen t) ∙ ap (λ (ns : List Name). Some (Dir (removed_name x ns))) (names_seen t d f.from_dir))
+        (put e (Some (Dir (inserted_name y (names_of (tree_shapes t e))))) (put d (Some (Dir (removed_name x (names_of (tree_shapes t d))))) (tree_shapes t)) d)
+        (put_other e (Some (Dir (inserted_name y (names_of (tree_shapes t e))))) (put d (Some (Dir (removed_name x (names_of (tree_shapes t d))))) (tree_shapes t)) d ((ends_same false i (after_prefix d e) refl).1 refl)
+        ∙ put_here d (Some (Dir (removed_name x (names_of (tree_shapes t d))))) (tree_shapes t) ∙ ap (λ (ns : List Name). Some (Dir (removed_name x ns))) (names_seen t d f.from_dir))
 
-    at_e : (b : Bool) → is_end (after_prefix d e) ≡ b → (e ≡ d → ⊥) → ShowsAt new e (look new e) (write_all (rename_writes b d (names_of (seen t d)) x e (names_of (seen t e)) y) (seen t) e)
+    at_e : (b : Bool) → is_end (after_prefix d e) ≡ b → (e ≡ d → ⊥) → ShowsAt new e (look new e) (write_all (rename_writes b d (names_of (tree_shapes t d)) x e (names_of (tree_shapes t e)) y) (tree_shapes t) e)
     at_e true i other = absurd (other (sym ((ends_same true i (after_prefix d e) refl).0 refl)))
     at_e false i other =
         dir_at e (inserted_name y (names_in t e)) new_e (rising_with y (names_in t e) (rising_names t e (true_T f.is.sorted))) (has_more (λ j. other (sym j)))
-        (put e (Some (Dir (inserted_name y (names_of (seen t e))))) (put d (Some (Dir (removed_name x (names_of (seen t d))))) (seen t)) e)
-        (put_here e (Some (Dir (inserted_name y (names_of (seen t e))))) (put d (Some (Dir (removed_name x (names_of (seen t d))))) (seen t)) ∙ ap (λ (ns : List Name). Some (Dir (inserted_name y ns))) (names_seen t e f.to_dir))
+        (put e (Some (Dir (inserted_name y (names_of (tree_shapes t e))))) (put d (Some (Dir (removed_name x (names_of (tree_shapes t d))))) (tree_shapes t)) e)
+        (put_here e (Some (Dir (inserted_name y (names_of (tree_shapes t e))))) (put d (Some (Dir (removed_name x (names_of (tree_shapes t d))))) (tree_shapes t)) ∙ ap (λ (ns : List Name). Some (Dir (inserted_name y ns))) (names_seen t e f.to_dir))
 
-    at_else : (k : Key) → after_prefix (e ++ y ∷ []) k ≡ None → after_prefix (d ++ x ∷ []) k ≡ None → SameKey k d → SameKey k e → ShowsAt new k (look new k) (write_all (rename_writes (is_end (after_prefix d e)) d (names_of (seen t d)) x e (names_of (seen t e)) y) (seen t) k)
-    at_else k a b (Same i j) r = subst (λ (l : Key). ShowsAt new l (look new l) (write_all (rename_writes (is_end (after_prefix d e)) d (names_of (seen t d)) x e (names_of (seen t e)) y) (seen t) l)) (sym i) (at_d (is_end (after_prefix d e)) refl)
-    at_else k a b (Other n j) (Same i h) = subst (λ (l : Key). ShowsAt new l (look new l) (write_all (rename_writes (is_end (after_prefix d e)) d (names_of (seen t d)) x e (names_of (seen t e)) y) (seen t) l)) (sym i) (at_e (is_end (after_prefix d e)) refl (λ m. n (i ∙ m)))
-    at_else k a b (Other n j) (Other m h) = passes t new (write_all (rename_writes (is_end (after_prefix d e)) d (names_of (seen t d)) x e (names_of (seen t e)) y) (seen t)) k (true_T f.is.sorted) (same_else k b a) (write_else (is_end (after_prefix d e)) k n m)
+    at_else : (k : Key) → after_prefix (e ++ y ∷ []) k ≡ None → after_prefix (d ++ x ∷ []) k ≡ None → SameKey k d → SameKey k e → ShowsAt new k (look new k) (write_all (rename_writes (is_end (after_prefix d e)) d (names_of (tree_shapes t d)) x e (names_of (tree_shapes t e)) y) (tree_shapes t) k)
+    at_else k a b (Same i j) r = subst (λ (l : Key). ShowsAt new l (look new l) (write_all (rename_writes (is_end (after_prefix d e)) d (names_of (tree_shapes t d)) x e (names_of (tree_shapes t e)) y) (tree_shapes t) l)) (sym i) (at_d (is_end (after_prefix d e)) refl)
+    at_else k a b (Other n j) (Same i h) = subst (λ (l : Key). ShowsAt new l (look new l) (write_all (rename_writes (is_end (after_prefix d e)) d (names_of (tree_shapes t d)) x e (names_of (tree_shapes t e)) y) (tree_shapes t) l)) (sym i) (at_e (is_end (after_prefix d e)) refl (λ m. n (i ∙ m)))
+    at_else k a b (Other n j) (Other m h) = passes t new (write_all (rename_writes (is_end (after_prefix d e)) d (names_of (tree_shapes t d)) x e (names_of (tree_shapes t e)) y) (tree_shapes t)) k (true_T f.is.sorted) (same_else k b a) (write_else (is_end (after_prefix d e)) k n m)
         (λ z. ap is_some (same_else (k ++ z ∷ []) (child_off (d ++ x ∷ []) k z b (λ i. n (child_of k d z x i).0)) (child_off (e ++ y ∷ []) k z a (λ i. m (child_of k e z y i).0))))
 
-    below : (k : Key) (a b : Option Key) → after_prefix (e ++ y ∷ []) k ≡ a → after_prefix (d ++ x ∷ []) k ≡ b → ShowsAt new k (look new k) (move (d ++ x ∷ []) (e ++ y ∷ []) (write_all (rename_writes (is_end (after_prefix d e)) d (names_of (seen t d)) x e (names_of (seen t e)) y) (seen t)) k)
-    below k (Some r) b i j = subst (λ (l : Key). ShowsAt new l (look new l) (move (d ++ x ∷ []) (e ++ y ∷ []) (write_all (rename_writes (is_end (after_prefix d e)) d (names_of (seen t d)) x e (names_of (seen t e)) y) (seen t)) l)) (sym (prefix_some (e ++ y ∷ []) k r i))
-        (subst (ShowsAt new ((e ++ y ∷ []) ++ r) (look new ((e ++ y ∷ []) ++ r))) (sym (move_to (d ++ x ∷ []) (e ++ y ∷ []) (write_all (rename_writes (is_end (after_prefix d e)) d (names_of (seen t d)) x e (names_of (seen t e)) y) (seen t)) r
+    below : (k : Key) (a b : Option Key) → after_prefix (e ++ y ∷ []) k ≡ a → after_prefix (d ++ x ∷ []) k ≡ b → ShowsAt new k (look new k) (move (d ++ x ∷ []) (e ++ y ∷ []) (write_all (rename_writes (is_end (after_prefix d e)) d (names_of (tree_shapes t d)) x e (names_of (tree_shapes t e)) y) (tree_shapes t)) k)
+    below k (Some r) b i j = subst (λ (l : Key). ShowsAt new l (look new l) (move (d ++ x ∷ []) (e ++ y ∷ []) (write_all (rename_writes (is_end (after_prefix d e)) d (names_of (tree_shapes t d)) x e (names_of (tree_shapes t e)) y) (tree_shapes t)) l)) (sym (prefix_some (e ++ y ∷ []) k r i))
+        (subst (ShowsAt new ((e ++ y ∷ []) ++ r) (look new ((e ++ y ∷ []) ++ r))) (sym (move_to (d ++ x ∷ []) (e ++ y ∷ []) (write_all (rename_writes (is_end (after_prefix d e)) d (names_of (tree_shapes t d)) x e (names_of (tree_shapes t e)) y) (tree_shapes t)) r
         ∙ write_else (is_end (after_prefix d e)) ((d ++ x ∷ []) ++ r) (differs_below (d ++ x ∷ []) ((d ++ x ∷ []) ++ r) r (prefix_append (d ++ x ∷ []) r) d d_off_p) (differs_below (d ++ x ∷ []) ((d ++ x ∷ []) ++ r) r (prefix_append (d ++ x ∷ []) r) e e_off_p)))
-        (subst (λ (o : Option Node). ShowsAt new ((e ++ y ∷ []) ++ r) o (seen t ((d ++ x ∷ []) ++ r))) (sym (f.moved.arrived r))
+        (subst (λ (o : Option Node). ShowsAt new ((e ++ y ∷ []) ++ r) o (tree_shapes t ((d ++ x ∷ []) ++ r))) (sym (f.moved.arrived r))
         (shows_same t new ((d ++ x ∷ []) ++ r) ((e ++ y ∷ []) ++ r) (look t ((d ++ x ∷ []) ++ r)) (true_T f.is.sorted)
         (λ z. ap (λ (l : Key). is_some (look new l)) (append_assoc (e ++ y ∷ []) r (z ∷ [])) ∙ ap is_some (f.moved.arrived (r ++ z ∷ [])) ∙ ap (λ (l : Key). is_some (look t l)) (sym (append_assoc (d ++ x ∷ []) r (z ∷ [])))))))
     below k None (Some r) i j =
-        subst (ShowsAt new k (look new k)) (sym (move_gone (d ++ x ∷ []) (e ++ y ∷ []) (write_all (rename_writes (is_end (after_prefix d e)) d (names_of (seen t d)) x e (names_of (seen t e)) y) (seen t)) k r i j))
+        subst (ShowsAt new k (look new k)) (sym (move_gone (d ++ x ∷ []) (e ++ y ∷ []) (write_all (rename_writes (is_end (after_prefix d e)) d (names_of (tree_shapes t d)) x e (names_of (tree_shapes t e)) y) (tree_shapes t)) k r i j))
         (subst (λ (o : Option Node). ShowsAt new k o None) (sym (ap (look new) (prefix_some (d ++ x ∷ []) k r j) ∙ f.moved.gone r)) tt)
     below k None None i j =
-        subst (ShowsAt new k (look new k)) (sym (move_else (d ++ x ∷ []) (e ++ y ∷ []) (write_all (rename_writes (is_end (after_prefix d e)) d (names_of (seen t d)) x e (names_of (seen t e)) y) (seen t)) k i j))
+        subst (ShowsAt new k (look new k)) (sym (move_else (d ++ x ∷ []) (e ++ y ∷ []) (write_all (rename_writes (is_end (after_prefix d e)) d (names_of (tree_shapes t d)) x e (names_of (tree_shapes t e)) y) (tree_shapes t)) k i j))
         (at_else k i j (same_or k d) (same_or k e))

@@ -11,7 +11,7 @@ use Rattle.fs_names.specs.Shapes.{Shape, Dir, File}
 use Rattle.fs_names.proofs.Lemmas.{name_total, after_prefix-exact}
 use Rattle.fs_calls.specs.Tree as trees
 use Rattle.fs_calls.specs.Tree.{Tree, Node, look, names_in, name_in, only_name, with_name, IsTree}
-use Rattle.fs_calls.specs.Shapes.{seen, shape_of}
+use Rattle.fs_calls.specs.Shapes.{tree_shapes, shape_of}
 use Rattle.fs_laws.specs.Maps.{Map}
 use Rattle.fs_calls.proofs.Children.{names_in-links}
 use Rattle.fs_calls.proofs.ResolutionLemmas.{any-names_in}
@@ -126,7 +126,7 @@ abbrev pub Shows : Tree → Map Shape → Type 0
 Shows t m = (k : Key) → ShowsAt t k (look t k) (m k)
 
 -- such a map is what is seen
-pub seen_by : (t : Tree) (m : Map Shape) → T (is_sorted key_cmp t) → Shows t m → (k : Key) → seen t k ≡ m k
+pub seen_by : (t : Tree) (m : Map Shape) → T (is_sorted key_cmp t) → Shows t m → (k : Key) → tree_shapes t k ≡ m k
 seen_by t m sorted h k = go (look t k) (m k) (h k)
   where
     go : (o : Option Node) (s : Option Shape) → ShowsAt t k o s → shape_of t k o ≡ s

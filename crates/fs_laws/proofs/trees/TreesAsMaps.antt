@@ -1,19 +1,19 @@
 -- A tree as a sorted list answers each call as the map that is seen of it, and leaves what the map leaves.
 use Rattle.std.proofs.Common.{◌≡◌, ℕ, Bool, true, false, not, List, [], ◌∷◌, ◌++◌, Option, Some, None, is_some, refl, sym, ap, ap₂, ◌∙◌, append-nil, subst}
 use mathlib.Core.Path.{fun_ext}
-use Rattle.fs_names.specs.First.{or_else}
+use Rattle.fs_names.specs.Failures.{or_else}
 use Rattle.fs_names.specs.Keys.{Key, after_prefix, parent_of, last_of}
 use Rattle.fs_names.specs.Names.{inserted_name, removed_name}
 use Rattle.fs_names.specs.Parts.{HasNames, is_end}
 use Rattle.fs_names.specs.Shapes.{Shape, Dir, File, names_of, bytes_of}
 use Rattle.fs_calls.specs.Tree as trees
 use Rattle.fs_calls.specs.Tree.{Tree, Node, look, names_in, inserted, removed, renamed, IsTree}
-use Rattle.fs_calls.specs.Shapes.{seen}
+use Rattle.fs_calls.specs.Shapes.{tree_shapes}
 use Rattle.fs_calls.specs.Outcomes as list
 use Rattle.fs_calls.specs.Outcomes.{parents_resolution, reply_of, row, fault, success, change, replied}
 use Rattle.fs_calls.specs.Sights.{is_same, row_in}
 use Rattle.fs_calls.specs.Laws.{IsMoved}
-use Rattle.fs_laws.specs.Changes.{Change, changed, no_change, only, content_change, edit_change, rename_writes, move_change, looked, unless, reply}
+use Rattle.fs_laws.specs.Changes.{Change, changed, no_change, only, content_change, edit_change, rename_writes, move_change, looked, if_sound, reply}
 use Rattle.fs_calls.specs.Forms.{form, by_text, new_shape, Form, AtNode, AtEntry, AtPair, Write}
 use Rattle.fs_calls.specs.declared.target.PairCall.TheVariants as pairs
 use Rattle.fs_calls.specs.declared.target.EntryCall.{EntryCall}
@@ -25,7 +25,7 @@ use Rattle.fs_calls.specs.declared.call.Call.TheVariants as calls
 use Rattle.fs_calls.specs.declared.errno.Errno.{Errno}
 use Rattle.fs_calls.specs.declared.reply.Reply.{Reply}
 use Rattle.fs_calls.specs.declared.reply.Reply.TheVariants.{Done, Failed}
-use Rattle.fs_names.proofs.FirstLemmas.{or_else-none}
+use Rattle.fs_names.proofs.FailureLemmas.{or_else-none}
 use Rattle.fs_calls.proofs.KeyLemmas.{is_same_refl, never_same}
 use Rattle.fs_calls.proofs.FaultLemmas.{Makes, mkdir_makes, mknod_makes, Writes, write_writes, truncate_writes, Renames, rename_renames}
 use Rattle.fs_calls.proofs.ResolutionLemmas.{parents_resolution-none}
@@ -50,19 +50,19 @@ looked_fails m (AtEntry c p) e h = ap (λ (o : Option Errno). let r = answered o
 looked_fails m (AtPair pairs.Rename p q) e h =
     ap (λ (o : Option Errno). let r = answered o false Done (not (is_end (after_prefix p q))) in (r.0, move_change r.1 (rename_writes (is_end (after_prefix (parent_of p) (parent_of q))) (parent_of p) (names_of (m (parent_of p))) (last_of p) (parent_of q) (names_of (m (parent_of q))) (last_of q)) p q)) h
 
-looked_done : (t : Tree) (f : Form) → row_in (seen t) f ≡ None → looked (seen t) f ≡ (reply_of t f, change_in (seen t) f)
-looked_done t (AtNode c p) h = ap (λ (o : Option Errno). let r = answered o None (node_reply c (seen t p)) (new_bytes c (seen t p)) in (r.0, content_change p r.1)) h
-looked_done t (AtEntry c p) h = ap (λ (o : Option Errno). let r = answered o Keep Done (edit_of (new_shape c)) in (r.0, edit_change (parent_of p) (names_of (seen t (parent_of p))) (last_of p) p r.1)) h
+looked_done : (t : Tree) (f : Form) → row_in (tree_shapes t) f ≡ None → looked (tree_shapes t) f ≡ (reply_of t f, change_in (tree_shapes t) f)
+looked_done t (AtNode c p) h = ap (λ (o : Option Errno). let r = answered o None (node_reply c (tree_shapes t p)) (new_bytes c (tree_shapes t p)) in (r.0, content_change p r.1)) h
+looked_done t (AtEntry c p) h = ap (λ (o : Option Errno). let r = answered o Keep Done (edit_of (new_shape c)) in (r.0, edit_change (parent_of p) (names_of (tree_shapes t (parent_of p))) (last_of p) p r.1)) h
 looked_done t (AtPair pairs.Rename p q) h =
-    ap (λ (o : Option Errno). let r = answered o false Done (not (is_end (after_prefix p q))) in (r.0, move_change r.1 (rename_writes (is_end (after_prefix (parent_of p) (parent_of q))) (parent_of p) (names_of (seen t (parent_of p))) (last_of p) (parent_of q) (names_of (seen t (parent_of q))) (last_of q)) p q)) h
+    ap (λ (o : Option Errno). let r = answered o false Done (not (is_end (after_prefix p q))) in (r.0, move_change r.1 (rename_writes (is_end (after_prefix (parent_of p) (parent_of q))) (parent_of p) (names_of (tree_shapes t (parent_of p))) (last_of p) (parent_of q) (names_of (tree_shapes t (parent_of q))) (last_of q)) p q)) h
 
-pub reply_is : (t : Tree) → IsTree t → (call : Call) → list.reply t call ≡ reply (seen t) (form call)
+pub reply_is : (t : Tree) → IsTree t → (call : Call) → list.reply t call ≡ reply (tree_shapes t) (form call)
 unfolding list.reply fault
 reply_is t is call = go (by_text (form call)) (row t call) refl
   where
-    go : (x y : Option Errno) → row t call ≡ y → replied (or_else x y) (success t call) ≡ (unless x (looked (seen t) (form call))).0
+    go : (x y : Option Errno) → row t call ≡ y → replied (or_else x y) (success t call) ≡ (if_sound x (looked (tree_shapes t) (form call))).0
     go (Some e) y h = refl
-    go None (Some e) h = sym (ap (λ (r : Reply × Change). r.0) (looked_fails (seen t) (form call) e h))
+    go None (Some e) h = sym (ap (λ (r : Reply × Change). r.0) (looked_fails (tree_shapes t) (form call) e h))
     go None None h = sym (ap (λ (r : Reply × Change). r.0) (looked_done t (form call) h))
 
 -- ---- what is left, without an error
@@ -71,35 +71,35 @@ row_none : (t : Tree) (call : Call) → fault t call ≡ None → (by_text (form
 unfolding fault
 row_none t call h = or_else-none (by_text (form call)) (row t call) h
 
-make_tree : (t : Tree) → IsTree t → (p : Key) (node : Node) (s : Shape) → Bare node s → HasNames p → Makes t p → (k : Key) → seen (inserted t p node) k ≡ changed (edit_change (parent_of p) (names_of (seen t (parent_of p))) (last_of p) p (Add s)) (seen t) k
+make_tree : (t : Tree) → IsTree t → (p : Key) (node : Node) (s : Shape) → Bare node s → HasNames p → Makes t p → (k : Key) → tree_shapes (inserted t p node) k ≡ changed (edit_change (parent_of p) (names_of (tree_shapes t (parent_of p))) (last_of p) p (Add s)) (tree_shapes t) k
 make_tree t is p node s bare more makes k =
-    subst (λ (y : Key). seen (inserted t y node) k ≡ put y (Some s) (put (parent_of p) (Some (Dir (inserted_name (last_of p) (names_of (seen t (parent_of p)))))) (seen t)) k) (sym (key_is p more))
+    subst (λ (y : Key). tree_shapes (inserted t y node) k ≡ put y (Some s) (put (parent_of p) (Some (Dir (inserted_name (last_of p) (names_of (tree_shapes t (parent_of p)))))) (tree_shapes t)) k) (sym (key_is p more))
     (seen_made t (parent_of p) (last_of p) node s is bare makes.parent (ap (look t) (sym (key_is p more)) ∙ makes.absent) k)
 
-remove_tree : (t : Tree) → IsTree t → (p : Key) → HasNames p → look t (parent_of p) ≡ Some trees.Dir → (k : Key) → seen (removed t p) k ≡ changed (edit_change (parent_of p) (names_of (seen t (parent_of p))) (last_of p) p Remove) (seen t) k
+remove_tree : (t : Tree) → IsTree t → (p : Key) → HasNames p → look t (parent_of p) ≡ Some trees.Dir → (k : Key) → tree_shapes (removed t p) k ≡ changed (edit_change (parent_of p) (names_of (tree_shapes t (parent_of p))) (last_of p) p Remove) (tree_shapes t) k
 remove_tree t is p more dir k =
-    subst (λ (y : Key). seen (removed t y) k ≡ put y None (put (parent_of p) (Some (Dir (removed_name (last_of p) (names_of (seen t (parent_of p)))))) (seen t)) k) (sym (key_is p more))
+    subst (λ (y : Key). tree_shapes (removed t y) k ≡ put y None (put (parent_of p) (Some (Dir (removed_name (last_of p) (names_of (tree_shapes t (parent_of p)))))) (tree_shapes t)) k) (sym (key_is p more))
     (seen_removed t (parent_of p) (last_of p) is dir k)
 
 -- where an entry goes, its parent is a directory
-entry_parent : (t : Tree) → IsTree t → (c : EntryCall) (p : Key) → row_in (seen t) (AtEntry c p) ≡ None → look t (parent_of p) ≡ Some trees.Dir
+entry_parent : (t : Tree) → IsTree t → (c : EntryCall) (p : Key) → row_in (tree_shapes t) (AtEntry c p) ≡ None → look t (parent_of p) ≡ Some trees.Dir
 entry_parent t is c p h = parents_resolution-none t p is (or_else-none (parents_resolution t p) _ h).0
 
 -- what a call on a file writes
-fill_tree : (t : Tree) → IsTree t → (p : Key) (bytes : List ℕ) → Writes t p → (k : Key) → seen (inserted t p (trees.File bytes)) k ≡ changed (only ((p, Some (File bytes)) ∷ [])) (seen t) k
+fill_tree : (t : Tree) → IsTree t → (p : Key) (bytes : List ℕ) → Writes t p → (k : Key) → tree_shapes (inserted t p (trees.File bytes)) k ≡ changed (only ((p, Some (File bytes)) ∷ [])) (tree_shapes t) k
 fill_tree t is p bytes file k = go (look t p) refl
   where
-    go : (o : Option Node) → look t p ≡ o → seen (inserted t p (trees.File bytes)) k ≡ changed (only ((p, Some (File bytes)) ∷ [])) (seen t) k
+    go : (o : Option Node) → look t p ≡ o → tree_shapes (inserted t p (trees.File bytes)) k ≡ changed (only ((p, Some (File bytes)) ∷ [])) (tree_shapes t) k
     go None i = let z : false ≡ true = ap is_some (sym i) ∙ file.there in cc
     go (Some trees.Dir) i = absurd (file.no_dir i)
     go (Some (trees.File old)) i = seen_written t p old bytes is i k
 
-write_tree : (t : Tree) → IsTree t → (p : Key) (off : ℕ) (bytes : List ℕ) → Writes t p → (k : Key) → seen (change t (calls.Write p off bytes)) k ≡ changed (change_in (seen t) (AtNode (Write off bytes) p)) (seen t) k
+write_tree : (t : Tree) → IsTree t → (p : Key) (off : ℕ) (bytes : List ℕ) → Writes t p → (k : Key) → tree_shapes (change t (calls.Write p off bytes)) k ≡ changed (change_in (tree_shapes t) (AtNode (Write off bytes) p)) (tree_shapes t) k
 write_tree t is p off [] file k = refl
-write_tree t is p off (b ∷ new) file k = fill_tree t is p (written (bytes_of (seen t p)) off (b ∷ new)) file k
+write_tree t is p off (b ∷ new) file k = fill_tree t is p (written (bytes_of (tree_shapes t p)) off (b ∷ new)) file k
 
 -- a rename
-rename_tree : (t : Tree) → IsTree t → (p q : Key) → fault t (calls.Rename p q) ≡ None → HasNames p → HasNames q → (k : Key) → seen (list.after t (calls.Rename p q)) k ≡ changed (change_in (seen t) (AtPair pairs.Rename p q)) (seen t) k
+rename_tree : (t : Tree) → IsTree t → (p q : Key) → fault t (calls.Rename p q) ≡ None → HasNames p → HasNames q → (k : Key) → tree_shapes (list.after t (calls.Rename p q)) k ≡ changed (change_in (tree_shapes t) (AtPair pairs.Rename p q)) (tree_shapes t) k
 rename_tree t is p q none mp mq k = by (same_or p q)
   where
     d : Key
@@ -109,13 +109,13 @@ rename_tree t is p q none mp mq k = by (same_or p q)
     e = parent_of q
 
     ws : List (Key × Option Shape)
-    ws = rename_writes (is_end (after_prefix (parent_of p) (parent_of q))) (parent_of p) (names_of (seen t (parent_of p))) (last_of p) (parent_of q) (names_of (seen t (parent_of q))) (last_of q)
+    ws = rename_writes (is_end (after_prefix (parent_of p) (parent_of q))) (parent_of p) (names_of (tree_shapes t (parent_of p))) (last_of p) (parent_of q) (names_of (tree_shapes t (parent_of q))) (last_of q)
 
-    by : SameKey p q → seen (list.after t (calls.Rename p q)) k ≡ changed (move_change (not (is_end (after_prefix p q))) ws p q) (seen t) k
+    by : SameKey p q → tree_shapes (list.after t (calls.Rename p q)) k ≡ changed (move_change (not (is_end (after_prefix p q))) ws p q) (tree_shapes t) k
     by (Same i j) =
-        ap (λ (s : Tree). seen s k) (ap (λ (y : Key). list.after t (calls.Rename p y)) (sym i) ∙ renames_move.onto_itself t p)
-        ∙ sym (ap (λ (b : Bool). changed (move_change (not b) ws p q) (seen t) k) (ap (is_same p) (sym i) ∙ is_same_refl p))
-    by (Other n j) = moved_seen ∙ sym (ap (λ (b : Bool). changed (move_change (not b) ws p q) (seen t) k) apart)
+        ap (λ (s : Tree). tree_shapes s k) (ap (λ (y : Key). list.after t (calls.Rename p y)) (sym i) ∙ renames_move.onto_itself t p)
+        ∙ sym (ap (λ (b : Bool). changed (move_change (not b) ws p q) (tree_shapes t) k) (ap (is_same p) (sym i) ∙ is_same_refl p))
+    by (Other n j) = moved_seen ∙ sym (ap (λ (b : Bool). changed (move_change (not b) ws p q) (tree_shapes t) k) apart)
       where
         apart : is_end (after_prefix p q) ≡ false
         apart = never_same p q n
@@ -145,35 +145,35 @@ rename_tree t is p q none mp mq k = by (same_or p q)
           there = ap (λ (y : Key). is_some (look t y)) (sym p_is) ∙ r.there;
         }
 
-        moved_seen : seen (list.after t (calls.Rename p q)) k ≡ changed (move_change true ws p q) (seen t) k
-        moved_seen = seen_moved t (list.after t (calls.Rename p q)) (parent_of p) (last_of p) (parent_of q) (last_of q) f k ∙ ap₂ (λ (a b : Key). move a b (write_all ws (seen t)) k) (sym p_is) (sym q_is)
+        moved_seen : tree_shapes (list.after t (calls.Rename p q)) k ≡ changed (move_change true ws p q) (tree_shapes t) k
+        moved_seen = seen_moved t (list.after t (calls.Rename p q)) (parent_of p) (last_of p) (parent_of q) (last_of q) f k ∙ ap₂ (λ (a b : Key). move a b (write_all ws (tree_shapes t)) k) (sym p_is) (sym q_is)
 
 after_none : (t : Tree) (call : Call) → fault t call ≡ None → list.after t call ≡ change t call
 unfolding list.after
-after_none t call h = ap (λ (e : Option Errno). list.unless e t (change t call)) h
+after_none t call h = ap (λ (e : Option Errno). list.if_sound e t (change t call)) h
 
 -- each call without an error
-changes_same : (t : Tree) → IsTree t → (call : Call) → fault t call ≡ None → (k : Key) → seen (change t call) k ≡ changed (change_in (seen t) (form call)) (seen t) k
+changes_same : (t : Tree) → IsTree t → (call : Call) → fault t call ≡ None → (k : Key) → tree_shapes (change t call) k ≡ changed (change_in (tree_shapes t) (form call)) (tree_shapes t) k
 changes_same t is (calls.Mkdir p) none k = make_tree t is p trees.Dir (Dir []) (A_dir refl refl) (in_more Mkdir p (row_none t (calls.Mkdir p) none).0) (mkdir_makes t p is none) k
 changes_same t is (calls.Mknod p) none k = make_tree t is p (trees.File []) (File []) (A_file [] refl refl) (in_more Mknod p (row_none t (calls.Mknod p) none).0) (mknod_makes t p is none) k
 changes_same t is (calls.Unlink p) none k = remove_tree t is p (in_more Unlink p (row_none t (calls.Unlink p) none).0) (entry_parent t is Unlink p (row_none t (calls.Unlink p) none).1) k
 changes_same t is (calls.Rmdir p) none k = remove_tree t is p (in_more Rmdir p (row_none t (calls.Rmdir p) none).0) (entry_parent t is Rmdir p (row_none t (calls.Rmdir p) none).1) k
 changes_same t is (calls.Rename p q) none k =
     let fits = (row_none t (calls.Rename p q) none).0 in
-    ap (λ (s : Tree). seen s k) (sym (after_none t (calls.Rename p q) none)) ∙ rename_tree t is p q none (from_more p q fits) (to_more p q fits) k
+    ap (λ (s : Tree). tree_shapes s k) (sym (after_none t (calls.Rename p q) none)) ∙ rename_tree t is p q none (from_more p q fits) (to_more p q fits) k
 changes_same t is (calls.Stat p) none k = refl
 changes_same t is (calls.Readdir p) none k = refl
 changes_same t is (calls.Read p off count) none k = refl
 changes_same t is (calls.Write p off bytes) none k = write_tree t is p off bytes (write_writes t p off bytes is none) k
-changes_same t is (calls.Truncate p size) none k = fill_tree t is p (resized (bytes_of (seen t p)) size) (truncate_writes t p size is none) k
+changes_same t is (calls.Truncate p size) none k = fill_tree t is p (resized (bytes_of (tree_shapes t p)) size) (truncate_writes t p size is none) k
 
 pub trees_as_maps : TreesAsMaps
 unfolding list.reply list.after fault
 trees_as_maps t call is = (reply_is t is call, go (by_text (form call)) (row t call) refl refl)
   where
-    go : (x y : Option Errno) → by_text (form call) ≡ x → row t call ≡ y → seen (list.unless (or_else x y) t (change t call)) ≡ changed (unless x (looked (seen t) (form call))).1 (seen t)
+    go : (x y : Option Errno) → by_text (form call) ≡ x → row t call ≡ y → tree_shapes (list.if_sound (or_else x y) t (change t call)) ≡ changed (if_sound x (looked (tree_shapes t) (form call))).1 (tree_shapes t)
     go (Some e) y i h = refl
-    go None (Some e) i h = sym (ap (λ (r : Reply × Change). changed r.1 (seen t)) (looked_fails (seen t) (form call) e h))
+    go None (Some e) i h = sym (ap (λ (r : Reply × Change). changed r.1 (tree_shapes t)) (looked_fails (tree_shapes t) (form call) e h))
     go None None i h =
         let none : fault t call ≡ None = ap₂ or_else i h in
-        fun_ext (λ k. changes_same t is call none k) ∙ sym (ap (λ (r : Reply × Change). changed r.1 (seen t)) (looked_done t (form call) h))
+        fun_ext (λ k. changes_same t is call none k) ∙ sym (ap (λ (r : Reply × Change). changed r.1 (tree_shapes t)) (looked_done t (form call) h))

@@ -32,22 +32,22 @@ abbrev pub graph_of_places : List Place → Graph
 graph_of_places ps = graph_in (plains ps)
 
 -- the node of a directory's least name, or of the least one above a name
-abbrev pub next_kid : Graph → ℕ → Option Name → Option ℕ
-next_kid graph dir low = then_at (find (is_above low) (names_of (graph.shape dir))) (graph.kid dir)
+abbrev pub next_child : Graph → ℕ → Option Name → Option ℕ
+next_child graph dir low = then_at (find (is_above low) (names_of (graph.shape dir))) (graph.child dir)
 
 -- the sibling after a node
 abbrev pub IsNextSibling : Graph → ℕ → Option ℕ → Type 0
-IsNextSibling graph n next = (dir : ℕ) (name : Name) → graph.kid dir name ≡ Some n → next ≡ next_kid graph dir (Some name)
+IsNextSibling graph n next = (dir : ℕ) (name : Name) → graph.child dir name ≡ Some n → next ≡ next_child graph dir (Some name)
 
 -- the sibling before a node; the first one has none
 abbrev pub IsPrev : Graph → ℕ → ℕ → Option ℕ → Type 0
-IsPrev graph dir n None = next_kid graph dir None ≡ Some n
-IsPrev graph dir n (Some m) = (name : Name) × (graph.kid dir name ≡ Some m) × (next_kid graph dir (Some name) ≡ Some n)
+IsPrev graph dir n None = next_child graph dir None ≡ Some n
+IsPrev graph dir n (Some m) = (name : Name) × (graph.child dir name ≡ Some m) × (next_child graph dir (Some name) ≡ Some n)
 
 -- the siblings of a node
 abbrev pub IsBeside : Graph → ℕ → Option ℕ → Option ℕ → Option Link → Type 0
 IsBeside graph n next prev None = Unit {0}
-IsBeside graph n next prev (Some link) = (next ≡ next_kid graph link.dir (Some link.name)) × IsPrev graph link.dir n prev
+IsBeside graph n next prev (Some link) = (next ≡ next_child graph link.dir (Some link.name)) × IsPrev graph link.dir n prev
 
 -- a name that comes before the first one above the low one, or where there is none
 abbrev pub IsBefore : Name → Option Name → Type 0
@@ -57,7 +57,7 @@ IsBefore x (Some y) = is_above (Some x) y ≡ true
 -- a low name is one of the directory, and its node is that of a number; none has none
 abbrev pub IsLow : Graph → ℕ → Option Name → Option ℕ → Type 0
 IsLow graph dir None o = o ≡ None
-IsLow graph dir (Some y) o = (m : ℕ) × (graph.kid dir y ≡ Some m) × (o ≡ Some m)
+IsLow graph dir (Some y) o = (m : ℕ) × (graph.child dir y ≡ Some m) × (o ≡ Some m)
 
 -- a low name between which and a free one nothing stands
 abbrev pub IsAt : Graph → ℕ → Name → Option Name → Type 0
@@ -68,12 +68,12 @@ pub record IsGap (graph : Graph) (dir : ℕ) (x : Name) (prev next : Option ℕ)
   pub low : Option Name
   pub is_low : IsLow graph dir low prev
   pub at : IsAt graph dir x low
-  pub next_is : next ≡ next_kid graph dir low
+  pub next_is : next ≡ next_child graph dir low
 
 -- a place's ways are those of its number in a graph
 pub record IsIndexed (graph : Graph) (n : ℕ) (p : Place) : Type 0 where
   pub entries : p.entries ≡ length (names_of (graph.shape n))
-  pub first : p.first ≡ next_kid graph n None
+  pub first : p.first ≡ next_child graph n None
   pub beside : IsBeside graph n p.next p.prev (link_of (plain p))
 
 -- what the places of a store keep

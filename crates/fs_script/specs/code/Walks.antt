@@ -7,9 +7,9 @@ use Rattle.fs_names.specs.Shapes.{Shape}
 use Rattle.fs_names.specs.Shapes as shapes
 use Rattle.fs_calls.specs.Tree.{Node}
 use Rattle.fs_calls.specs.Tree as tree
-use Rattle.fs_seq.specs.code.Graph.{Place, links_at, child, keys_from, nodes_at}
-use Rattle.fs_seq.specs.code.Graph as forest
-use Rattle.fs_nodes.specs.Graphs.{Graph, Kids}
+use Rattle.fs_seq.specs.code.Slots.{Place, links_at, child, keys_from, nodes_at}
+use Rattle.fs_seq.specs.code.Slots as forest
+use Rattle.fs_nodes.specs.Graphs.{Graph, Children}
 use Rattle.fs_nodes.specs.Seen.{Seen}
 use Rattle.fs_nodes.specs.Stores.{is_above}
 use Rattle.fs_script.specs.TreeText.{node_line}
@@ -22,21 +22,21 @@ number_or None = 0
 number_or (Some n) = n
 
 -- each name with the number of its node
-abbrev pub links : Kids → ℕ → List Name → List (Name × ℕ)
-links kid n [] = []
-links kid n (x ∷ names) = (x, number_or (kid n x)) ∷ links kid n names
+abbrev pub links : Children → ℕ → List Name → List (Name × ℕ)
+links child n [] = []
+links child n (x ∷ names) = (x, number_or (child n x)) ∷ links child n names
 
-abbrev pub place_of : Kids → ℕ → Option Shape → Option Place
-place_of kid n None = None
-place_of kid n (Some (shapes.Dir names)) = Some (forest.Dir (links kid n names))
-place_of kid n (Some (shapes.File bytes)) = Some (forest.File bytes)
+abbrev pub place_of : Children → ℕ → Option Shape → Option Place
+place_of child n None = None
+place_of child n (Some (shapes.Dir names)) = Some (forest.Dir (links child n names))
+place_of child n (Some (shapes.File bytes)) = Some (forest.File bytes)
 
 -- so many places, of which the first has the number i
-abbrev pub places_from : Graph → ℕ → ℕ → forest.Graph
+abbrev pub places_from : Graph → ℕ → ℕ → forest.Slots
 places_from graph i zero = []
-places_from graph i (suc k) = place_of graph.kid i (graph.shape i) ∷ places_from graph (suc i) k
+places_from graph i (suc k) = place_of graph.child i (graph.shape i) ∷ places_from graph (suc i) k
 
-abbrev pub forest_of : Seen → forest.Graph
+abbrev pub forest_of : Seen → forest.Slots
 forest_of store = places_from store.graph 0 store.room
 
 -- what a node is in a tree
@@ -58,7 +58,7 @@ key_above [] = []
 key_above (s ∷ steps) = s.name ∷ key_above steps
 
 -- the steps lead from a number to another
-abbrev pub Leads : forest.Graph → ℕ → List Step → ℕ → Type 0
+abbrev pub Leads : forest.Slots → ℕ → List Step → ℕ → Type 0
 Leads g n [] dir = n ≡ dir
 Leads g n (s ∷ steps) dir = (n ≡ s.dir) × (m : ℕ) × (child g n s.name ≡ Some m) × Leads g m steps dir
 
@@ -66,34 +66,34 @@ abbrev pub links_above : Option Name → List (Name × ℕ) → List (Name × �
 links_above low ls = filter (λ (l : Name × ℕ). is_above low l.0) ls
 
 -- the keys behind some links of the directory at a key, of fewer than so many names behind each link
-abbrev pub keys_behind : ℕ → forest.Graph → Key → List (Name × ℕ) → List Key
+abbrev pub keys_behind : ℕ → forest.Slots → Key → List (Name × ℕ) → List Key
 keys_behind many g key ls = flat_map (λ (l : Name × ℕ). map (λ (k : Key). key ++ l.0 ∷ k) (keys_from many g l.1)) ls
 
 -- the keys that are still to come: those behind the directory's other links, and then those behind the other links above
-abbrev pub pending : ℕ → forest.Graph → Key → List Step → ℕ → Option Name → List Key
+abbrev pub pending : ℕ → forest.Slots → Key → List Step → ℕ → Option Name → List Key
 pending many g key [] dir low = keys_behind many g key (links_above low (links_at g dir))
 pending zero g key (s ∷ steps) dir low = []
 pending (suc many) g key (s ∷ steps) dir low = pending many g (key ++ s.name ∷ []) steps dir low ++ keys_behind (suc many) g key (links_above (Some s.name) (links_at g s.dir))
 
-abbrev pub pending_at : forest.Graph → WalkPlace → List Key
+abbrev pub pending_at : forest.Slots → WalkPlace → List Key
 pending_at g w = pending (length g - 1) g [] w.above w.dir w.low
 
 -- the text of the nodes at some keys
-abbrev pub text_at : forest.Graph → List Key → List ℕ
+abbrev pub text_at : forest.Slots → List Key → List ℕ
 text_at g ks = flat_map node_line (nodes_at g ks)
 
 -- how far it is to the end: two for each key, one for each step
-abbrev pub left : forest.Graph → WalkPlace → ℕ
+abbrev pub left : forest.Slots → WalkPlace → ℕ
 left g w = 2 * length (pending_at g w) + length w.above
 
 -- a step of the walk: what was written and what is to come are together what they were
-pub record Goes (g : forest.Graph) (old : WalkPlace) (before : List ℕ) (new : WalkPlace) (after : List ℕ) : Type 0 where
+pub record Goes (g : forest.Slots) (old : WalkPlace) (before : List ℕ) (new : WalkPlace) (after : List ℕ) : Type 0 where
   pub leads : Leads g 0 new.above new.dir
   pub text : after ++ text_at g (pending_at g new) ≡ before ++ text_at g (pending_at g old)
   pub nearer : left g new < left g old
 
 -- a step, or the end, where nothing is to come
-abbrev pub Steps : forest.Graph → WalkPlace → List ℕ → WalkPlace → List ℕ → Bool → Type 0
+abbrev pub Steps : forest.Slots → WalkPlace → List ℕ → WalkPlace → List ℕ → Bool → Type 0
 Steps g old before new after true = Goes g old before new after
 Steps g old before new after false = (text_at g (pending_at g old) ≡ []) × (after ≡ before)
 

@@ -2,15 +2,15 @@
 use Rattle.std.specs.Prelude.{◌≡◌, ℕ, ◌+◌, ◌&&◌, nat_lt, length, List, [], insert, remove, ◌<◌, Option, Some, None, Result, Ok, Err, if◌then◌else◌}
 use Rattle.fs_names.specs.Names.{Name}
 use Rattle.fs_names.specs.Keys.{Key, is_root, parent_of, last_of}
-use Rattle.fs_names.specs.First.{on, or_else}
+use Rattle.fs_names.specs.Failures.{check, or_else}
 use Rattle.fs_names.specs.declared.limits.TheConstants.{FILE_LIMIT}
 use Rattle.fs_calls.specs.Tree as tree
 use Rattle.fs_calls.specs.Tree.{Tree}
-use Rattle.fs_calls.specs.Shapes.{seen, is_missing, has_any, is_full}
-use Rattle.fs_calls.specs.Outcomes.{fault, resolution, parents_resolution, reply, after, replied, unless}
+use Rattle.fs_calls.specs.Shapes.{tree_shapes, is_missing, has_any, is_full}
+use Rattle.fs_calls.specs.Outcomes.{fault, resolution, parents_resolution, reply, after, replied, if_sound}
 use Rattle.fs_calls.specs.declared.target.EntryCall.TheVariants.{Mkdir}
 use Rattle.fs_calls.specs.Rows.{entry_fault, written}
-use Rattle.fs_seq.specs.code.Graph.{Place, Dir, Graph, place_at, links_at, shape_of, walk, tree_of, IsForest, Sets}
+use Rattle.fs_seq.specs.code.Slots.{Place, Dir, Slots, place_at, links_at, shape_of, walk, tree_of, IsForest, Sets}
 use Rattle.fs_seq.specs.code.Nodes.{BelongsAt, IsTaken}
 use Rattle.fs_seq.specs.declared.nodes.Node.{Node}
 use Rattle.fs_seq.specs.declared.nodes.Node.TheVariants as nodes
@@ -20,13 +20,13 @@ use Rattle.fs_calls.specs.declared.errno.Errno.{Errno}
 use Rattle.fs_calls.specs.declared.errno.Errno.TheVariants.{Eexist, Enoent, Efbig}
 
 -- a call's reply, and the graph that it leaves, by its errors, its reply without one and the tree that it then makes
-pub record Gives (g g' : Graph) (found : Option Errno) (well : Reply) (new : Tree) (r : Reply) : Type 0 where
+pub record Gives (g g' : Slots) (found : Option Errno) (well : Reply) (new : Tree) (r : Reply) : Type 0 where
   pub reply : r ≡ replied found well
-  pub tree : tree_of g' ≡ unless found (tree_of g) new
+  pub tree : tree_of g' ≡ if_sound found (tree_of g) new
   pub forest : IsForest g'
 
 -- the same, of a call
-pub record Answers (g g' : Graph) (call : Call) (r : Reply) : Type 0 where
+pub record Answers (g g' : Slots) (call : Call) (r : Reply) : Type 0 where
   pub reply : r ≡ reply (tree_of g) call
   pub tree : tree_of g' ≡ after (tree_of g) call
   pub forest : IsForest g'
@@ -38,10 +38,10 @@ tree_node (nodes.File bytes) = tree.File bytes.items
 
 -- the errors of the calls that make a node
 unfoldable pub making_fault : Tree → Key → Option Errno
-making_fault t p = or_else (on (is_root p) Eexist) (entry_fault Mkdir (parents_resolution t p) (is_full (seen t (parent_of p))) (seen t p))
+making_fault t p = or_else (check (is_root p) Eexist) (entry_fault Mkdir (parents_resolution t p) (is_full (tree_shapes t (parent_of p))) (tree_shapes t p))
 
 -- a directory in which a path's last name can be made, and the place where it belongs
-pub record IsGap (g : Graph) (p : Key) (dir i : ℕ) : Type 0 where
+pub record IsGap (g : Slots) (p : Key) (dir i : ℕ) : Type 0 where
   pub sound : making_fault (tree_of g) p ≡ None
   pub named : 0 < length p
   pub parent : walk g (parent_of p) ≡ Some dir
@@ -49,45 +49,45 @@ pub record IsGap (g : Graph) (p : Key) (dir i : ℕ) : Type 0 where
   pub belongs : BelongsAt (links_at g dir) (last_of p) i
 
 -- a gap that was found, or why there is none
-abbrev pub FindsGap : Graph → Key → Result (ℕ × ℕ) Errno → Type 0
+abbrev pub FindsGap : Slots → Key → Result (ℕ × ℕ) Errno → Type 0
 FindsGap g p (Ok at) = IsGap g p at.0 at.1
 FindsGap g p (Err e) = making_fault (tree_of g) p ≡ Some e
 
 -- a new place under a number that had none, and an entry for it
-pub record Attaches (g g' : Graph) (dir i : ℕ) (x : Name) (new : Place) : Type 0 where
+pub record Attaches (g g' : Slots) (dir i : ℕ) (x : Name) (new : Place) : Type 0 where
   pub number : ℕ
-  pub between : Graph
+  pub between : Slots
   pub free : place_at g number ≡ None
   pub linking : Sets g between dir (Some (Dir (insert (links_at g dir) i (x, number))))
   pub adding : Sets between g' number (Some new)
 
 -- an entry that was found, or why there is none
-abbrev pub FindsEntry : Graph → Key → Result (ℕ × ℕ × ℕ) Errno → Type 0
+abbrev pub FindsEntry : Slots → Key → Result (ℕ × ℕ × ℕ) Errno → Type 0
 FindsEntry g p (Ok at) = IsTaken g p at.0 at.1 at.2
-FindsEntry g p (Err e) = or_else (parents_resolution (tree_of g) p) (on (is_missing (seen (tree_of g) p)) Enoent) ≡ Some e
+FindsEntry g p (Err e) = or_else (parents_resolution (tree_of g) p) (check (is_missing (tree_shapes (tree_of g) p)) Enoent) ≡ Some e
 
 -- an entry without entries of its own, which a call removes
-pub record IsVictim (g : Graph) (call : Call) (p : Key) (dir i n : ℕ) : Type 0 where
+pub record IsVictim (g : Slots) (call : Call) (p : Key) (dir i n : ℕ) : Type 0 where
   pub sound : fault (tree_of g) call ≡ None
   pub named : 0 < length p
   pub spot : IsTaken g p dir i n
   pub leaf : links_at g n ≡ []
 
 -- a victim that was found, or why there is none
-abbrev pub FindsVictim : Graph → Call → Key → Result (ℕ × ℕ × ℕ) Errno → Type 0
+abbrev pub FindsVictim : Slots → Call → Key → Result (ℕ × ℕ × ℕ) Errno → Type 0
 FindsVictim g call p (Ok at) = IsVictim g call p at.0 at.1 at.2
 FindsVictim g call p (Err e) = fault (tree_of g) call ≡ Some e
 
 -- an entry and its place, both gone
-pub record Detaches (g g' : Graph) (dir i n : ℕ) : Type 0 where
-  pub between : Graph
+pub record Detaches (g g' : Slots) (dir i n : ℕ) : Type 0 where
+  pub between : Slots
   pub unlinking : Sets g between dir (Some (Dir (remove (links_at g dir) i)))
   pub removing : Sets between g' n None
 
 -- a path is resolved, and this is the place at which it ends
 pub record IsSeen (t : Tree) (p : Key) (at : Place) : Type 0 where
   pub resolved : resolution t p ≡ None
-  pub shape : seen t p ≡ shape_of (Some at)
+  pub shape : tree_shapes t p ≡ shape_of (Some at)
 
 -- bytes that stay where there is an error
 abbrev pub bytes_unless : Option Errno → List ℕ → List ℕ → List ℕ
@@ -96,7 +96,7 @@ bytes_unless (Some e) old new = old
 
 -- a write makes the file too large
 abbrev pub overflow : ℕ → List ℕ → Option Errno
-overflow off bytes = on (has_any bytes && nat_lt FILE_LIMIT (off + length bytes)) Efbig
+overflow off bytes = check (has_any bytes && nat_lt FILE_LIMIT (off + length bytes)) Efbig
 
 -- the bytes of a file after a write, which does nothing where there is nothing to write
 abbrev pub written_if_any : List ℕ → ℕ → List ℕ → List ℕ
@@ -104,7 +104,7 @@ written_if_any old off bytes = if has_any bytes then written old off bytes else 
 
 -- a size is more than a file can have
 abbrev pub too_long : ℕ → Option Errno
-too_long size = on (nat_lt FILE_LIMIT size) Efbig
+too_long size = check (nat_lt FILE_LIMIT size) Efbig
 
 -- the reply of a call on a file's bytes, and the bytes that it leaves, by its error, its reply without one and the bytes that it then makes
 pub record Fills (old new : List ℕ) (found : Option Errno) (well : Reply) (made : List ℕ) (r : Reply) : Type 0 where

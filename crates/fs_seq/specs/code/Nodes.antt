@@ -14,8 +14,8 @@ use Rattle.fs_seq.specs.declared.nodes.Spot.{Spot}
 use Rattle.fs_seq.specs.declared.nodes.Spot.TheVariants.{Taken, Free}
 use Rattle.fs_calls.specs.Tree as trees
 use Rattle.fs_calls.specs.Outcomes.{resolution, parents_resolution}
-use Rattle.fs_seq.specs.code.Graph.{Place, Graph, place_at, links_at, node_at, child, walk, tree_of}
-use Rattle.fs_seq.specs.code.Graph as places
+use Rattle.fs_seq.specs.code.Slots.{Place, Slots, place_at, links_at, node_at, child, walk, tree_of}
+use Rattle.fs_seq.specs.code.Slots as places
 
 -- the name of a link, with its number
 abbrev pub pair : Link → Name × ℕ
@@ -36,7 +36,7 @@ slot_place None = None
 slot_place (Some node) = Some (place node)
 
 -- the places of a slab's slots
-abbrev pub graph : Slab Node → Graph
+abbrev pub graph : Slab Node → Slots
 graph nodes = map slot_place nodes.slots
 
 -- the number of the link at a place
@@ -54,7 +54,7 @@ abbrev pub without : Name → List (Name × ℕ) → List (Name × ℕ)
 without x links = where_key name_cmp (λ y. not (same_name x y)) links
 
 -- a name stands at this place among links
-pub record StandsAt (links : List (Name × ℕ)) (x : Name) (i : ℕ) : Type 0 where
+pub record IsNameAt (links : List (Name × ℕ)) (x : Name) (i : ℕ) : Type 0 where
   pub within : i < length links
   pub named : name_of (slice_get links i) ≡ Some x
   pub found : find name_cmp x links ≡ number_of (slice_get links i)
@@ -68,7 +68,7 @@ pub record BelongsAt (links : List (Name × ℕ)) (x : Name) (i : ℕ) : Type 0 
 
 -- where a name stands among links, or where it belongs
 abbrev pub Searches : List (Name × ℕ) → Name → Result ℕ ℕ → Type 0
-Searches links x r = MatchResult r (StandsAt links x) (BelongsAt links x)
+Searches links x r = MatchResult r (IsNameAt links x) (BelongsAt links x)
 
 -- what a node says of the names behind its key, none of which leads on
 abbrev pub verdict : Option trees.Node → Option Errno
@@ -77,31 +77,31 @@ verdict (Some trees.Dir) = Some Enoent
 verdict (Some (trees.File bytes)) = Some Enotdir
 
 -- a step from a number by a name: where it leads, or why it leads nowhere
-abbrev pub Steps : Graph → ℕ → Name → Result ℕ Errno → Type 0
+abbrev pub Steps : Slots → ℕ → Name → Result ℕ Errno → Type 0
 Steps g n x (Ok m) = child g n x ≡ Some m
 Steps g n x (Err e) = (child g n x ≡ None) × (verdict (node_at g n) ≡ Some e)
 
 -- names resolved: the number to which they lead, or the error
-abbrev pub Resolves : Graph → Key → Result ℕ Errno → Type 0
+abbrev pub Resolves : Slots → Key → Result ℕ Errno → Type 0
 Resolves g k (Ok n) = walk g k ≡ Some n
 Resolves g k (Err e) = resolution (tree_of g) k ≡ Some e
 
 -- a directory, the place of a path's last name among its links, and the number to which it leads
-pub record IsTaken (g : Graph) (p : Key) (dir i n : ℕ) : Type 0 where
+pub record IsTaken (g : Slots) (p : Key) (dir i n : ℕ) : Type 0 where
   pub parent : walk g (parent_of p) ≡ Some dir
   pub directory : place_at g dir ≡ Some (places.Dir (links_at g dir))
-  pub stands : StandsAt (links_at g dir) (last_of p) i
+  pub stands : IsNameAt (links_at g dir) (last_of p) i
   pub leads : child g dir (last_of p) ≡ Some n
 
 -- a directory without a path's last name, the place where it belongs, and how many links there are
-pub record IsFree (g : Graph) (p : Key) (dir i entries : ℕ) : Type 0 where
+pub record IsFree (g : Slots) (p : Key) (dir i entries : ℕ) : Type 0 where
   pub parent : walk g (parent_of p) ≡ Some dir
   pub directory : place_at g dir ≡ Some (places.Dir (links_at g dir))
   pub belongs : BelongsAt (links_at g dir) (last_of p) i
   pub count : entries ≡ length (links_at g dir)
 
 -- a path's last name looked up in its parent, or why there is no directory
-abbrev pub LooksUp : Graph → Key → Result Spot Errno → Type 0
+abbrev pub LooksUp : Slots → Key → Result Spot Errno → Type 0
 LooksUp g p (Ok (Taken dir i n)) = IsTaken g p dir i n
 LooksUp g p (Ok (Free dir i entries)) = IsFree g p dir i entries
 LooksUp g p (Err e) = parents_resolution (tree_of g) p ≡ Some e

@@ -3,7 +3,7 @@ use Rattle.std.specs.Prelude.{◌≡◌, ◌≢◌, ℕ, insert, remove, slice_s
 use Rattle.fs_names.specs.Names.{Name}
 use Rattle.fs_names.specs.Keys.{Key}
 use Rattle.fs_calls.specs.Outcomes.{fault}
-use Rattle.fs_seq.specs.code.Graph.{Graph, Dir, links_at, tree_of, Sets}
+use Rattle.fs_seq.specs.code.Slots.{Slots, Dir, links_at, tree_of, Sets}
 use Rattle.fs_seq.specs.code.Nodes.{IsTaken, IsFree}
 use Rattle.fs_calls.specs.declared.call.Call.TheVariants.{Rename}
 use Rattle.fs_calls.specs.declared.errno.Errno.{Errno}
@@ -12,16 +12,16 @@ use Rattle.fs_seq.specs.declared.rename.Plan.{Plan}
 use Rattle.fs_seq.specs.declared.rename.Plan.TheVariants.{Stay, Onto, Within, Across}
 
 -- the entry at a path
-abbrev pub IsAt : Graph → Key → Entry → Type 0
+abbrev pub IsAt : Slots → Key → Entry → Type 0
 IsAt g p entry = IsTaken g p entry.dir entry.place entry.node
 
 -- a rename without an error, of one path to another
-pub record Moves (g : Graph) (p q : Key) : Type 0 where
+pub record Moves (g : Slots) (p q : Key) : Type 0 where
   pub allowed : fault (tree_of g) (Rename p q) ≡ None
   pub differ : p ≢ q
 
 -- nothing to do, an entry onto another, an entry of a new name in its directory, or an entry to another directory; or the first error
-abbrev pub Plans : Graph → Key → Key → Result Plan Errno → Type 0
+abbrev pub Plans : Slots → Key → Key → Result Plan Errno → Type 0
 Plans g p q (Ok Stay) = (fault (tree_of g) (Rename p q) ≡ None) × (p ≡ q)
 Plans g p q (Ok (Onto entry victim)) = Moves g p q × IsAt g p entry × IsAt g q victim
 Plans g p q (Ok (Within entry)) = Moves g p q × IsAt g p entry × ((i entries : ℕ) × IsFree g q entry.dir i entries)
@@ -29,15 +29,15 @@ Plans g p q (Ok (Across entry dir i)) = Moves g p q × IsAt g p entry × ((entri
 Plans g p q (Err e) = fault (tree_of g) (Rename p q) ≡ Some e
 
 -- an entry is led to the node of another one, which is taken out, and its own node is removed
-pub record Exchanges (g g' : Graph) (entry victim : Entry) (x : Name) : Type 0 where
-  pub between : Graph
-  pub unlinked : Graph
+pub record Exchanges (g g' : Slots) (entry victim : Entry) (x : Name) : Type 0 where
+  pub between : Slots
+  pub unlinked : Slots
   pub leading : Sets g between victim.dir (Some (Dir (slice_set (links_at g victim.dir) victim.place (x, entry.node))))
   pub unlinking : Sets between unlinked entry.dir (Some (Dir (remove (links_at between entry.dir) entry.place)))
   pub removing : Sets unlinked g' victim.node None
 
 -- an entry is put into another directory at a place, and the old one is taken out
-pub record Transfers (g g' : Graph) (entry : Entry) (dir i : ℕ) (x : Name) : Type 0 where
-  pub between : Graph
+pub record Transfers (g g' : Slots) (entry : Entry) (dir i : ℕ) (x : Name) : Type 0 where
+  pub between : Slots
   pub linking : Sets g between dir (Some (Dir (insert (links_at g dir) i (x, entry.node))))
   pub unlinking : Sets between g' entry.dir (Some (Dir (remove (links_at between entry.dir) entry.place)))

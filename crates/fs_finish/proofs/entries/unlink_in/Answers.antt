@@ -3,7 +3,7 @@ use Rattle.fs_names.specs.Shapes.{is_full}
 use Rattle.fs_nodes.specs.Seen.{seen}
 use Rattle.fs_nodes.specs.Stores.{shape, graph_of}
 use Rattle.fs_calls.specs.declared.target.EntryCall.TheVariants as entries
-use Rattle.fs_calls.specs.Rows.{in_there}
+use Rattle.fs_calls.specs.Rows.{entry_row_in_dir}
 use Rattle.fs_finish.proofs.EntryLemmas.{row_is, entry_not_dir}
 use Rattle.fs_finish.proofs.entries.unlink_in.Goals as goal
 
@@ -11,4 +11,4 @@ pub returns-clause-made : goal.returns-clause-made
 returns-clause-made c =
     let s = c.args.store.now in
     let there = entry_not_dir (seen s) c.in-Some.ensures.real c.args.dir c.args.name.now c.in-Some.node (sym c.in-Some.ensures.node) (sym c.is_dir.ensures ∙ c.if-is_dir.false) in
-    row_is (graph_of s) c.args.dir c.args.name.now c.args.reserved _ _ c.remove.result (graph_of c.remove.new.store) (ap (in_there entries.Unlink (is_full (shape s c.args.dir))) there) c.remove.ensures.made
+    row_is (graph_of s) c.args.dir c.args.name.now c.args.reserved _ _ c.remove.result (graph_of c.remove.new.store) (ap (entry_row_in_dir entries.Unlink (is_full (shape s c.args.dir))) there) c.remove.ensures.made

@@ -1,13 +1,13 @@
 use Rattle.std.proofs.Common.{◌≡◌, ℕ, ap₂, ◌∙◌}
 use Rattle.fs_nodes.specs.Graphs.{Graph, moved_in}
 use Rattle.fs_nodes.specs.Seen.{Seen, seen}
-use Rattle.fs_nodes.specs.Stores.{graph_of, kid}
+use Rattle.fs_nodes.specs.Stores.{graph_of, child}
 use Rattle.fs_finish.proofs.MoveLemmas.{if_some}
 use Rattle.fs_finish.proofs.rename.replace.Goals as goal
 
 pub returns : goal.returns
 returns c =
-    if_some (kid c.clear.new.store c.args.source c.args.name.now) (kid c.args.store.now c.args.source c.args.name.now)
+    if_some (child c.clear.new.store c.args.source c.args.name.now) (child c.args.store.now c.args.source c.args.name.now)
     (λ (n : ℕ). seen c.move_entry.new.self ≡ record (seen c.clear.new.store) { graph = moved_in c.args.source c.args.name.now c.args.dest c.args.new_name.now n (graph_of c.clear.new.store) })
     (λ (n : ℕ). seen c.move_entry.new.self ≡ record (seen c.args.store.now) { graph = moved_in c.args.source c.args.name.now c.args.dest c.args.new_name.now n (graph_of c.args.store.now) })
     (c.clear.ensures.others c.args.source c.args.name.now c.requires.apart)

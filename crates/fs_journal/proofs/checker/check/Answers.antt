@@ -1,6 +1,6 @@
 use Rattle.std.proofs.Common.{◌≡◌, ◌∙◌, take, None}
 use Rattle.fs_timeline.specs.Verdicts.{entry_fault}
-use Rattle.fs_timeline.proofs.KnowledgeLemmas.{known_fault-entry_fault, fault_is_verdict, verdict_goes_on, true_of_more, end_is_lawful, lawful_by_verdict}
+use Rattle.fs_timeline.proofs.JournalStateLemmas.{known_fault-entry_fault, fault_is_verdict, verdict_goes_on, true_of_more, end_is_lawful, lawful_by_verdict}
 use Rattle.fs_timeline.proofs.VerdictLemmas.{names_first_fault}
 use Rattle.fs_journal.proofs.checker.check.Goals as goal
 

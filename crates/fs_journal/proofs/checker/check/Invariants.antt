@@ -1,6 +1,6 @@
 use Rattle.std.proofs.Common.{◌≡◌, ◌+◌, take, drop}
 use Rattle.fs_timeline.specs.Verdicts.{verdict, verdict_from}
-use Rattle.fs_timeline.specs.Knowledge.{IsTrueOf}
+use Rattle.fs_timeline.specs.JournalStates.{IsTrueOf}
 use Rattle.fs_journal.specs.code.Checkers.{known}
 use Rattle.fs_journal.proofs.checker.check.Given as goal
 

@@ -1,10 +1,10 @@
 use Rattle.std.proofs.Common.{◌≡◌, ◌<◌, ◌∙◌, sym, arith, Some}
 use Rattle.fs_names.specs.declared.limits.TheConstants.{NODE_LIMIT}
-use Rattle.fs_nodes.specs.code.Linked.{graph_of_places, next_kid}
+use Rattle.fs_nodes.specs.code.Linked.{graph_of_places, next_child}
 use Rattle.fs_nodes.proofs.StepLemmas.{first_place, passed_first, passed_more, passed_smaller, passed_gap, passed_end, next_within, next_below}
 use Rattle.fs_nodes.proofs.siblings.gap.Goals as goal
 
-at_some : (c : goal.In-Some) → next_kid (graph_of_places c.args.places.now) c.args.dir c.loop-n.invariant.low ≡ Some c.in-Some.n
+at_some : (c : goal.In-Some) → next_child (graph_of_places c.args.places.now) c.args.dir c.loop-n.invariant.low ≡ Some c.in-Some.n
 at_some c = sym c.loop-n.invariant.next_is ∙ sym c.get.ensures ∙ c.in-Some.is
 
 pub loop-n-init : goal.loop-n-init

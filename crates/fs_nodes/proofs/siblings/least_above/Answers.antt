@@ -1,11 +1,11 @@
 use Rattle.std.proofs.Common.{◌≡◌, ◌<◌, ◌∙◌, sym, arith, Some}
 use Rattle.std.specs.Option.{option_copied}
 use Rattle.fs_names.specs.declared.limits.TheConstants.{NODE_LIMIT}
-use Rattle.fs_nodes.specs.code.Linked.{graph_of_places, next_kid}
+use Rattle.fs_nodes.specs.code.Linked.{graph_of_places, next_child}
 use Rattle.fs_nodes.proofs.StepLemmas.{asked_first, asked_more, asked_found, asked_end, rank_smaller, next_within, next_below}
 use Rattle.fs_nodes.proofs.siblings.least_above.Goals as goal
 
-at_some : (c : goal.In-Some) → next_kid (graph_of_places c.args.places.now) c.args.dir c.loop-next.invariant.base ≡ Some c.in-Some.n
+at_some : (c : goal.In-Some) → next_child (graph_of_places c.args.places.now) c.args.dir c.loop-next.invariant.base ≡ Some c.in-Some.n
 at_some c = sym c.loop-next.invariant.next_is ∙ c.in-Some.is
 
 pub loop-next-init : goal.loop-next-init

@@ -16,4 +16,4 @@ pub returns-in-Some-clause-within : goal.returns-in-Some-clause-within
 returns-in-Some-clause-within c = rw c.get.ensures (next_inside c.args.places.now c.args.node c.in-Some.field-0 c.index-places-node.result c.requires (place c) (sym c.dir_of.ensures ∙ c.in-Some.is))
 
 pub returns-in-None-clause-next : goal.returns-in-None-clause-next
-returns-in-None-clause-next c = λ dir name kid. absurd (parent_none c.args.places.now c.args.node (sym c.dir_of.ensures ∙ c.in-None.is) dir name kid)
+returns-in-None-clause-next c = λ dir name child. absurd (parent_none c.args.places.now c.args.node (sym c.dir_of.ensures ∙ c.in-None.is) dir name child)

@@ -3,8 +3,8 @@ use Rattle.fs_calls.specs.Forms.{reserves}
 use Rattle.fs_names.specs.Shapes.{Shape}
 use Rattle.fs_nodes.specs.Seen.{Seen, seen}
 use Rattle.fs_nodes.specs.Stores.{graph_of}
-use Rattle.fs_ops.specs.code.Begins.{HasReserved}
-use Rattle.fs_machine.specs.Works.{IsSpare}
+use Rattle.fs_ops.specs.code.Reservations.{HasReserved}
+use Rattle.fs_machine.specs.OpValues.{IsSpare}
 use Rattle.fs_ops.proofs.BeginLemmas.{reserved_spare, only}
 use Rattle.fs_ops.proofs.begin.reserve_for.Goals as goal
 

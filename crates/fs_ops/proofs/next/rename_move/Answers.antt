@@ -1,8 +1,8 @@
 use Rattle.std.proofs.Common.{◌∙◌, Option, sym, ap}
 use Rattle.fs_nodes.specs.Stores.{graph_of}
 use Rattle.fs_walk.specs.Ways.{ForkWay, new_fork}
-use Rattle.fs_ops.specs.code.Nexts.{heads_move}
-use Rattle.fs_ops.specs.code.Steps.{started}
+use Rattle.fs_ops.specs.code.NextByNodes.{heads_move}
+use Rattle.fs_ops.specs.code.TakeAndLetGo.{started}
 use Rattle.fs_ops.proofs.ForkLemmas.{rename_is}
 use Rattle.fs_ops.proofs.next.rename_move.Goals as goal
 

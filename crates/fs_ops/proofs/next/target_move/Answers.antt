@@ -3,7 +3,7 @@ use Rattle.fs_nodes.specs.Stores.{graph_of}
 use Rattle.fs_calls.specs.Forms.{AtPair}
 use Rattle.fs_calls.specs.declared.target.PairCall.TheVariants as pairs
 use Rattle.fs_calls.specs.code.Targets.{form_of}
-use Rattle.fs_ops.specs.code.Told.{move_of}
+use Rattle.fs_ops.specs.code.MoveNames.{move_of}
 use Rattle.fs_ops.proofs.NextLemmas.{entry_is_next, target_by_form}
 use Rattle.fs_calls.specs.declared.target.PairCall.{PairCall}
 use Rattle.fs_ops.proofs.next.target_move.Goals as goal

@@ -1,6 +1,6 @@
 use Rattle.std.proofs.Common.{◌<◌, length, sym, ◌∙◌, arith}
 use Rattle.fs_seq.specs.code.Nodes.{graph}
-use Rattle.fs_seq.specs.code.Graph.{tree_of}
+use Rattle.fs_seq.specs.code.Slots.{tree_of}
 use Rattle.fs_seq.proofs.Spots.{making_root, making_lost, making_taken, making_full, is_gap}
 use Rattle.fs_seq.proofs.create.gap.Goals as goal
 

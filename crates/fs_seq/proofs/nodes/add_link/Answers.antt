@@ -1,6 +1,6 @@
 use Rattle.std.proofs.Common.{◌≤◌, ap, sym, subst, ◌∙◌, length, is_some, insert}
 use Rattle.fs_seq.specs.code.Nodes.{pairs, place, pair}
-use Rattle.fs_seq.specs.code.Graph.{Dir}
+use Rattle.fs_seq.specs.code.Slots.{Dir}
 use Rattle.fs_seq.proofs.NodeLemmas.{has_key, length-pairs}
 use Rattle.fs_seq.proofs.SlabLemmas.{sets_value, same_graph, pairs-insert, links_read, dir_not_file}
 use Rattle.fs_seq.proofs.nodes.add_link.Goals as goal

@@ -1,6 +1,6 @@
 use Rattle.std.proofs.Common.{◌≡◌, ◌+◌, ◌-◌, ◌∙◌, ap, sym, Some, length, arith}
 use Rattle.fs_seq.specs.code.Nodes.{graph, pairs}
-use Rattle.fs_seq.specs.code.Graph.{tree_of, walk}
+use Rattle.fs_seq.specs.code.Slots.{tree_of, walk}
 use Rattle.fs_seq.proofs.NodeLemmas.{has_key, place_got, rising_got, take_parent}
 use Rattle.fs_seq.proofs.Parents.{parents_lost, parents_found, is_taken, is_free}
 use Rattle.fs_seq.proofs.nodes.look_up.Goals as goal

@@ -1,6 +1,6 @@
 use Rattle.std.proofs.Common.{◌<◌, ap, sym, subst, ◌∙◌, length, is_some, remove}
 use Rattle.fs_seq.specs.code.Nodes.{pairs, place}
-use Rattle.fs_seq.specs.code.Graph.{Dir}
+use Rattle.fs_seq.specs.code.Slots.{Dir}
 use Rattle.fs_seq.proofs.NodeLemmas.{has_key, length-pairs}
 use Rattle.fs_seq.proofs.SlabLemmas.{sets_value, pairs-remove, links_read, dir_not_file}
 use Rattle.fs_seq.proofs.nodes.remove_link.Goals as goal

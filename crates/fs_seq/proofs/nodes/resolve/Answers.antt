@@ -1,6 +1,6 @@
 use Rattle.std.proofs.Common.{◌∙◌, ap, take, drop, suc, add-one}
 use Rattle.fs_seq.specs.code.Nodes.{graph}
-use Rattle.fs_seq.specs.code.Graph.{walk, tree_of}
+use Rattle.fs_seq.specs.code.Slots.{walk, tree_of}
 use Rattle.fs_calls.specs.Outcomes.{resolution}
 use Rattle.fs_seq.proofs.NodeLemmas.{has_key, take_snoc, take_around}
 use Rattle.fs_seq.proofs.Resolving.{walk_on, resolution_stuck}

@@ -1,6 +1,6 @@
 use Rattle.std.proofs.Common.{◌≡◌, take, Some}
 use Rattle.fs_seq.specs.code.Nodes.{graph}
-use Rattle.fs_seq.specs.code.Graph.{walk}
+use Rattle.fs_seq.specs.code.Slots.{walk}
 use Rattle.fs_seq.proofs.nodes.resolve.Given as goal
 
 -- the names so far lead to the node

@@ -1,6 +1,6 @@
 use Rattle.std.proofs.Common.{ap, sym, ◌∙◌}
 use Rattle.fs_seq.specs.code.Nodes.{graph}
-use Rattle.fs_seq.specs.code.Graph.{walk}
+use Rattle.fs_seq.specs.code.Slots.{walk}
 use Rattle.fs_calls.proofs.ListLemmas.{take_whole}
 use Rattle.fs_seq.proofs.NodeLemmas.{has_key, place_got}
 use Rattle.fs_seq.proofs.Looked.{is_seen}

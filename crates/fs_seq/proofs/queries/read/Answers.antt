@@ -2,7 +2,7 @@ use Rattle.std.proofs.Common.{ap, sym, subst, ◌∙◌, take, drop}
 use Rattle.fs_seq.specs.code.Nodes.{graph, place}
 use Rattle.fs_calls.specs.Shapes.{bytes_of, has_any}
 use Rattle.fs_calls.proofs.RowNames.{reading}
-use Rattle.fs_seq.specs.code.Graph.{tree_of}
+use Rattle.fs_seq.specs.code.Slots.{tree_of}
 use Rattle.fs_seq.specs.code.Effects.{IsSeen}
 use Rattle.fs_calls.specs.declared.call.Call.TheVariants.{Read}
 use Rattle.fs_calls.specs.declared.reply.Reply.TheVariants as replies

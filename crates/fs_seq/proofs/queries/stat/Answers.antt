@@ -3,7 +3,7 @@ use Rattle.std.proofs.lemmas.List.{length-map}
 use Rattle.fs_names.specs.declared.kind.Kind.TheVariants as kind
 use Rattle.fs_seq.specs.code.Nodes.{graph, place, pairs}
 use Rattle.fs_calls.specs.Rows.{status}
-use Rattle.fs_seq.specs.code.Graph.{tree_of}
+use Rattle.fs_seq.specs.code.Slots.{tree_of}
 use Rattle.fs_seq.specs.code.Effects.{IsSeen}
 use Rattle.fs_calls.specs.declared.call.Call.TheVariants.{Stat}
 use Rattle.fs_calls.specs.declared.reply.Reply.TheVariants as replies

@@ -3,8 +3,8 @@ use Rattle.fs_calls.specs.declared.call.Call.TheVariants.{Rmdir}
 use Rattle.fs_calls.specs.declared.errno.Errno.TheVariants.{Ebusy, Enotempty}
 use Rattle.fs_calls.proofs.RowNames.{removing}
 use Rattle.fs_seq.specs.code.Nodes.{graph, pairs}
-use Rattle.fs_seq.specs.code.Graph.{tree_of, links_of, Dir}
-use Rattle.fs_names.specs.First.{on, or_else}
+use Rattle.fs_seq.specs.code.Slots.{tree_of, links_of, Dir}
+use Rattle.fs_names.specs.Failures.{check, or_else}
 use Rattle.fs_seq.proofs.NodeLemmas.{has_key, place_got}
 use Rattle.fs_seq.proofs.Spots.{taken_walk}
 use Rattle.fs_seq.proofs.Removed.{rmdir_goes, root_fault, missing_fault, taken_fault, no_links, some_links}
@@ -57,4 +57,4 @@ returns-else-is_empty c =
     let spot = c.in-Ok.ensures in
     let at = place_got c.args.nodes.now c.in-Ok.node _ (c.index.ensures ∙ ap Some c.in-Dir.is) in
     taken_fault (Rmdir p) p Ebusy removing (rmdir_goes p) (graph c.args.nodes.now) _ _ c.in-Ok.node _ c.requires named spot at
-    ∙ ap (λ b. or_else (on b Enotempty) None) (some_links c.in-Dir.links.items c.in-Dir.links.len c.in-Dir.links.ok.0 (sym c.is_empty.ensures ∙ c.if-is_empty.false))
+    ∙ ap (λ b. or_else (check b Enotempty) None) (some_links c.in-Dir.links.items c.in-Dir.links.len c.in-Dir.links.ok.0 (sym c.is_empty.ensures ∙ c.if-is_empty.false))

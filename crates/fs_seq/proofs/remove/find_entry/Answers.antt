@@ -1,5 +1,5 @@
 use Rattle.fs_seq.specs.code.Nodes.{graph}
-use Rattle.fs_seq.specs.code.Graph.{tree_of}
+use Rattle.fs_seq.specs.code.Slots.{tree_of}
 use Rattle.fs_seq.proofs.Removed.{entry_lost, entry_gone}
 use Rattle.fs_seq.proofs.remove.find_entry.Goals as goal
 

@@ -3,7 +3,7 @@ use Rattle.fs_calls.specs.declared.call.Call.TheVariants.{Unlink}
 use Rattle.fs_calls.specs.declared.errno.Errno.TheVariants.{Eperm}
 use Rattle.fs_calls.proofs.RowNames.{unlinking}
 use Rattle.fs_seq.specs.code.Nodes.{graph}
-use Rattle.fs_seq.specs.code.Graph.{tree_of, links_of}
+use Rattle.fs_seq.specs.code.Slots.{tree_of, links_of}
 use Rattle.fs_seq.proofs.NodeLemmas.{has_key, place_got}
 use Rattle.fs_seq.proofs.Spots.{taken_walk}
 use Rattle.fs_seq.proofs.Removed.{unlink_goes, root_fault, missing_fault, taken_fault}

@@ -1,6 +1,6 @@
 use Rattle.std.proofs.Common.{subst, Some}
 use Rattle.std.specs.Prelude.{slice_set}
-use Rattle.fs_seq.specs.code.Graph.{Dir, Sets, links_at}
+use Rattle.fs_seq.specs.code.Slots.{Dir, Sets, links_at}
 use Rattle.fs_seq.specs.code.Nodes.{graph}
 use Rattle.fs_seq.proofs.NodeLemmas.{has_key}
 use Rattle.fs_seq.proofs.SlabLemmas.{sets_slot}

@@ -3,7 +3,7 @@ use Rattle.std.specs.FinMap.{find, is_sorted}
 use Rattle.fs_names.specs.Names.{name_cmp}
 use Rattle.fs_seq.specs.code.Nodes.{pairs, BelongsAt}
 use Rattle.fs_seq.proofs.SlabLemmas.{pairs-remove}
-use Rattle.fs_seq.proofs.LinkEdits.{not_standing, replaced}
+use Rattle.fs_seq.proofs.LinkEdits.{not_in_place, replaced}
 use Rattle.fs_seq.proofs.rename.replace.Goals as goal
 
 pub search-requires : goal.search-requires
@@ -11,7 +11,7 @@ search-requires c = ap (is_sorted name_cmp) (ap pairs (c.deref.ensures.value ∙
 
 pub unreachable-requires : goal.unreachable-requires
 unreachable-requires c =
-    not_standing (pairs c.deref.result.now) c.args.link.name c.in-Ok.field-0
+    not_in_place (pairs c.deref.result.now) c.args.link.name c.in-Ok.field-0
     (ap (find name_cmp c.args.link.name) (ap pairs (c.deref.ensures.value ∙ c.remove.ensures.items) ∙ pairs-remove c.args.links.now.items c.args.i) ∙ c.requires.absent)
     c.in-Ok.ensures
 

@@ -2,7 +2,7 @@ use Rattle.std.proofs.Common.{◌<◌, ap, sym, subst, ◌∙◌, length, is_som
 use Rattle.std.specs.FinMap.{find, put, is_sorted}
 use Rattle.fs_names.specs.Names.{name_cmp}
 use Rattle.fs_seq.specs.code.Nodes.{place}
-use Rattle.fs_seq.specs.code.Graph.{Dir}
+use Rattle.fs_seq.specs.code.Slots.{Dir}
 use Rattle.fs_seq.proofs.NodeLemmas.{has_key}
 use Rattle.fs_seq.proofs.SlabLemmas.{sets_value, links_read, dir_not_file}
 use Rattle.fs_seq.proofs.rename.replace_link.Goals as goal

@@ -1,6 +1,6 @@
 use Rattle.std.proofs.Common.{◌<◌, ap, sym, subst, ◌∙◌, length, is_some, slice_set}
 use Rattle.fs_seq.specs.code.Nodes.{pair, place}
-use Rattle.fs_seq.specs.code.Graph.{Dir}
+use Rattle.fs_seq.specs.code.Slots.{Dir}
 use Rattle.fs_seq.proofs.NodeLemmas.{has_key, length-pairs}
 use Rattle.fs_seq.proofs.SlabLemmas.{sets_value, links_read, dir_not_file}
 use Rattle.fs_seq.proofs.LinkEdits.{pairs-set}

@@ -2,7 +2,7 @@ use Rattle.std.proofs.Common.{ap, sym, ◌∙◌, Some, refl, length}
 use Rattle.fs_seq.specs.code.Nodes.{graph, place}
 use Rattle.fs_calls.proofs.RowNames.{writing}
 use Rattle.fs_calls.specs.Outcomes.{resolution}
-use Rattle.fs_seq.specs.code.Graph.{walk, tree_of, File}
+use Rattle.fs_seq.specs.code.Slots.{walk, tree_of, File}
 use Rattle.fs_calls.specs.declared.call.Call.TheVariants.{Write}
 use Rattle.fs_calls.specs.declared.reply.Reply.TheVariants as replies
 use Rattle.fs_calls.proofs.ListLemmas.{take_whole}

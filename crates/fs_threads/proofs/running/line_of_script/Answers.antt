@@ -1,7 +1,7 @@
 use Rattle.std.proofs.Common.{◌≡◌, ◌∙◌, ap, map, sum_by, vec_len}
 use Rattle.fs_sched.specs.Runs.{calls_in}
 use Rattle.fs_sched.specs.RunTexts.{number_of}
-use Rattle.fs_sched.specs.declared.texts.EntryKind.TheVariants as kind
+use Rattle.fs_sched.specs.declared.run_texts.EntryKind.TheVariants as kind
 use Rattle.fs_threads.specs.Lines.{lawful_line}
 use Rattle.fs_threads.proofs.LineLemmas.{number_is, calls_are}
 use Rattle.fs_threads.proofs.running.line_of_script.Goals as goal

@@ -1,4 +1,4 @@
-use Rattle.fs_laws.proofs.journal.BookOfTimeline.{linearizes}
+use Rattle.fs_laws.proofs.journal.ViewOfTimeline.{linearizes}
 use Rattle.fs_core.proofs.Resting.{spelled_at_rest}
 use Rattle.fs_core.proofs.machine.Core.told.Goals as goal
 

@@ -1,7 +1,7 @@
 use Rattle.std.proofs.Common.{◌≡◌, ◌<◌, Some, set, length, sym, ◌∙◌, arith}
 use Rattle.fs_nodes.specs.Graphs.{moved_in}
-use Rattle.fs_nodes.specs.Stores.{kid_in, graph_in, graph_of, limit_of, room}
-use Rattle.fs_nodes.proofs.EditLemmas.{Makes, move_edit, kid_within}
+use Rattle.fs_nodes.specs.Stores.{child_in, graph_in, graph_of, limit_of, room}
+use Rattle.fs_nodes.proofs.EditLemmas.{Makes, move_edit, child_within}
 use Rattle.std.proofs.lemmas.List.{length-set}
 use Rattle.fs_nodes.proofs.RealLemmas.{seen_by}
 use Rattle.fs_nodes.proofs.plain.Store.move_entry.Goals as goal
@@ -9,10 +9,10 @@ use Rattle.fs_nodes.proofs.plain.Store.move_entry.Goals as goal
 pub index_mut-requires : goal.index_mut-requires
 unfolding graph_of limit_of room
 index_mut-requires c =
-    let h : c.unwrap-node.result < length c.deref.result.now = kid_within c.deref.result.now c.unwrap-node.result c.args.from c.args.name.now (sym c.find_in.ensures ∙ c.unwrap-node.ensures) in
+    let h : c.unwrap-node.result < length c.deref.result.now = child_within c.deref.result.now c.unwrap-node.result c.args.from c.args.name.now (sym c.find_in.ensures ∙ c.unwrap-node.ensures) in
     omega (arith, c.deref.ensures.len)
 
-found : (c : goal.After-self-1) → kid_in c.self.inside.places.items c.args.from c.args.name.now ≡ Some c.unwrap-node.result
+found : (c : goal.After-self-1) → child_in c.self.inside.places.items c.args.from c.args.name.now ≡ Some c.unwrap-node.result
 unfolding graph_of limit_of room
 found c = rw c.deref.ensures.value at (sym c.find_in.ensures) ∙ c.unwrap-node.ensures
 

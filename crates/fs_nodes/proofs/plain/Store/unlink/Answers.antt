@@ -1,7 +1,7 @@
 use Rattle.std.proofs.Common.{◌<◌, set, length, sym, ◌∙◌, arith}
 use Rattle.fs_nodes.specs.Graphs.{unlinked_in}
 use Rattle.fs_nodes.specs.Stores.{graph_in, graph_of, limit_of, room}
-use Rattle.fs_nodes.proofs.EditLemmas.{Makes, unlink_edit, kid_within}
+use Rattle.fs_nodes.proofs.EditLemmas.{Makes, unlink_edit, child_within}
 use Rattle.std.proofs.lemmas.List.{length-set}
 use Rattle.fs_nodes.proofs.RealLemmas.{seen_by}
 use Rattle.fs_nodes.proofs.plain.Store.unlink.Goals as goal
@@ -9,7 +9,7 @@ use Rattle.fs_nodes.proofs.plain.Store.unlink.Goals as goal
 pub index_mut-requires : goal.index_mut-requires
 unfolding graph_of limit_of room
 index_mut-requires c =
-    let h : c.unwrap-node.result < length c.deref.result.now = kid_within c.deref.result.now c.unwrap-node.result c.args.dir c.args.name.now (sym c.find_in.ensures ∙ c.unwrap-node.ensures) in
+    let h : c.unwrap-node.result < length c.deref.result.now = child_within c.deref.result.now c.unwrap-node.result c.args.dir c.args.name.now (sym c.find_in.ensures ∙ c.unwrap-node.ensures) in
     omega (arith, c.deref.ensures.len)
 
 made : (c : goal.After-new) → Makes c.self.inside.limit (set c.self.inside.places.items c.unwrap-node.result c.relink.new.place) (unlinked_in c.args.dir c.args.name.now (graph_in c.self.inside.places.items))

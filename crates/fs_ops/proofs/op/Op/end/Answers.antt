@@ -1,6 +1,6 @@
 use Rattle.std.proofs.Common.{ap, sym, subst, Option, ℕ}
 use Rattle.fs_nodes.specs.Stores.{graph_of}
-use Rattle.fs_machine.specs.Works.{SpareIf}
+use Rattle.fs_machine.specs.OpValues.{SpareIf}
 use Rattle.fs_ops.proofs.op.Op.end.Goals as goal
 
 pub give_back-requires : goal.give_back-requires

@@ -1,23 +1,23 @@
 use Rattle.std.proofs.Common.{◌≡◌, ℕ, ◌∙◌, Some, None, refl, sym, ap, subst}
 use Rattle.fs_calls.specs.Forms.{Form}
-use Rattle.fs_ops.specs.code.Steps.{TakesTo}
+use Rattle.fs_ops.specs.code.TakeAndLetGo.{TakesTo}
 use Rattle.fs_walk.specs.Ways.{Way, way_took}
-use Rattle.fs_ops.specs.Views.{work_of}
+use Rattle.fs_ops.specs.OpValue.{op_value}
 use Rattle.fs_ops.proofs.TookLemmas.{walk_took, target_took_is, walk_arrived, took_as}
 use Rattle.fs_ops.proofs.op.Op.took.Goals as goal
 
 pub returns-then-may_take : goal.returns-then-may_take
 returns-then-may_take c =
     let o = c.self.inside in
-    took_as (work_of o.call o.walk o.fork o.victim o.reserved o.removed o.outcome) c.args.self.now (work_of o.call (way_took o.walk c.args.node) None None o.reserved o.removed o.outcome) (work_of o.call c.took.new.self None None o.reserved o.removed o.outcome) c.args.node
-    c.self.view_is (ap (λ (way : Way). work_of o.call way None None o.reserved o.removed o.outcome) (sym c.took.ensures))
+    took_as (op_value o.call o.walk o.fork o.victim o.reserved o.removed o.outcome) c.args.self.now (op_value o.call (way_took o.walk c.args.node) None None o.reserved o.removed o.outcome) (op_value o.call c.took.new.self None None o.reserved o.removed o.outcome) c.args.node
+    c.self.view_is (ap (λ (way : Way). op_value o.call way None None o.reserved o.removed o.outcome) (sym c.took.ensures))
     (walk_took o.call o.walk o.fork o.victim o.reserved o.removed o.outcome c.args.node c.self.invariant.names (sym c.may_take.ensures.may ∙ c.if-may_take.true))
 
 pub returns-else-may_take : goal.returns-else-may_take
 returns-else-may_take c =
     let o = c.self.inside in
     let new = c.took_at_target.new in
-    took_as (work_of o.call o.walk o.fork o.victim o.reserved o.removed o.outcome) c.args.self.now (work_of o.call o.walk new.fork new.victim o.reserved o.removed o.outcome) (work_of o.call o.walk new.fork new.victim o.reserved o.removed o.outcome) c.args.node
+    took_as (op_value o.call o.walk o.fork o.victim o.reserved o.removed o.outcome) c.args.self.now (op_value o.call o.walk new.fork new.victim o.reserved o.removed o.outcome) (op_value o.call o.walk new.fork new.victim o.reserved o.removed o.outcome) c.args.node
     c.self.view_is refl
     (target_took_is o.call o.walk o.fork new.fork o.victim new.victim o.reserved o.removed o.outcome c.args.node c.self.invariant.names (sym c.may_take.ensures.may ∙ c.if-may_take.false) c.may_take.ensures.within
     (subst (λ (f : Form). (at : ℕ) → o.walk.node ≡ Some at → TakesTo f o.walk at c.args.node o.fork o.victim new.fork new.victim) c.target.ensures c.took_at_target.ensures.stands))

@@ -1,0 +1,59 @@
+-- What every two calls under way keep. Key has the key of each position; it is no part of the state: the theorem over runs gives one.
+use Rattle.std.specs.Prelude.{ℕ, ◌≡◌, ◌<◌, [], ◌++◌, Some, None, ◌⊎◌}
+use Rattle.fs_names.specs.Keys.{Key, after_prefix}
+use Rattle.fs_names.specs.Parts.{HasNames}
+use Rattle.fs_calls.specs.Forms.{Fits}
+use Rattle.fs_laws.specs.Maps.{Map}
+use Rattle.fs_machine.specs.Records.{Holdings, Phase, Walking, Placed, Record, Records, Holds}
+
+-- the call stands at this key, by the numbers at the keys
+pub record Located (tree : Map ℕ) (key : Key) (st : Holdings) : Type 0 where
+  pub here : tree key ≡ Some st.node
+  pub source : tree (key ++ st.source.walked) ≡ Some st.source.node
+  pub dest : tree (key ++ st.dest.walked) ≡ Some st.dest.node
+
+-- the second is to go on after the first: it is walking, or placed later
+abbrev pub IsAfter : Phase → Phase → Type 0
+IsAfter (Placed i) Walking = Unit {0}
+IsAfter (Placed i) (Placed j) = i < j
+IsAfter _ _ = ⊥
+
+-- no node strictly between a key and what a head has walked from it is held by the other call
+abbrev pub IsClear : Map ℕ → Key → Key → Holdings → Type 0
+IsClear tree key walked other = (u v : Key) (n : ℕ) → HasNames u → HasNames v → walked ≡ u ++ v → tree (key ++ u) ≡ Some n → Holds other n → ⊥
+
+-- what two calls keep, in this order: a node has one holder; no walking or later placed call below a placed one; nobody between a common directory and its heads
+pub record Pair (tree : Map ℕ) (key : Key) (st : Holdings) (phase : Phase) (other_key : Key) (other : Holdings) (other_phase : Phase) : Type 0 where
+  pub apart : (n : ℕ) → Holds st n → Holds other n → ⊥
+  pub after : IsAfter phase other_phase → after_prefix key other_key ≡ None
+  pub source : IsClear tree key st.source.walked other
+  pub dest : IsClear tree key st.dest.walked other
+
+-- what lets a call go past the move of another from s to t: it is below s and goes along, or no key that it has walked lies there
+pub record GoesAlong (s t : Key) (key : Key) (st : Holdings) (under : Type 0) : Type 0 where
+  pub lies : under ⊎ (after_prefix s key ≡ None)
+  pub source : (u v : Key) → after_prefix s key ≡ None → st.source.walked ≡ u ++ v → after_prefix s (key ++ u) ≡ None
+  pub dest : (u v : Key) → after_prefix s key ≡ None → st.dest.walked ≡ u ++ v → after_prefix s (key ++ u) ≡ None
+
+-- what one call keeps
+pub record Keeps (tree : Map ℕ) (key : Key) (op : Record) (st : Holdings) : Type 0 where
+  pub located : Located tree key st
+  pub walking : op.phase ≡ Walking → key ≡ op.walked
+  pub fits : Fits op.remaining
+
+-- what all calls keep
+pub record CallFacts (tree : Map ℕ) (ops : Records) (key : ℕ → Key) : Type 0 where
+  pub one_key : (a b : Key) (n : ℕ) → tree a ≡ Some n → tree b ≡ Some n → a ≡ b
+  pub each : (c : ℕ) (op : Record) (st : Holdings) → ops c ≡ Some op → op.holdings ≡ Some st → Keeps tree (key c) op st
+  pub pairs : (c d : ℕ) (p q : Record) (st other : Holdings) → (c ≡ d → ⊥) → ops c ≡ Some p → ops d ≡ Some q → p.holdings ≡ Some st → q.holdings ≡ Some other → Pair tree (key c) st p.phase (key d) other q.phase
+
+-- nobody holds a node
+abbrev pub IsFree : Records → ℕ → Type 0
+IsFree ops n = (d : ℕ) (q : Record) (other : Holdings) → ops d ≡ Some q → q.holdings ≡ Some other → Holds other n → ⊥
+
+-- what one call may hold less of
+pub record Shrinks (st new : Holdings) : Type 0 where
+  pub node : new.node ≡ st.node
+  pub holds : (n : ℕ) → Holds new n → Holds st n
+  pub source : ((new.source.walked ≡ st.source.walked) × (new.source.node ≡ st.source.node)) ⊎ ((new.source.walked ≡ []) × (new.source.node ≡ st.node))
+  pub dest : ((new.dest.walked ≡ st.dest.walked) × (new.dest.node ≡ st.dest.node)) ⊎ ((new.dest.walked ≡ []) × (new.dest.node ≡ st.node))

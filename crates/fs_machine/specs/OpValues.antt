@@ -1,0 +1,92 @@
+-- A call as a machine of its own: what its code keeps. Its seat and its place among the commits are told by whoever runs it.
+use Rattle.std.specs.Prelude.{ℕ, ◌≡◌, ◌≢◌, ◌<◌, ◌≤◌, IsTrue, false, List, [], Option, Some, None, length}
+use Rattle.fs_names.specs.Keys.{Key}
+use Rattle.fs_names.specs.Names.{Name}
+use Rattle.fs_names.specs.Shapes.{Shape, Dir, File, is_there, has_entries}
+use Rattle.fs_names.specs.declared.limits.TheConstants.{ENTRY_LIMIT, FILE_LIMIT}
+use Rattle.fs_calls.specs.Forms.{form, Form, AtNode, AtEntry, AtPair}
+use Rattle.fs_calls.specs.declared.target.PairCall.TheVariants as pairs
+use Rattle.fs_calls.specs.declared.call.Call.{Call}
+use Rattle.fs_calls.specs.declared.reply.Reply.{Reply}
+use Rattle.fs_nodes.specs.Graphs.{Graph, reserved_in}
+use Rattle.fs_nodes.specs.Stores.{IsUnlinked}
+use Rattle.fs_machine.specs.Finishes.{finish}
+use Rattle.fs_machine.specs.Leaving.{let_go, finished_op}
+use Rattle.fs_machine.specs.Moves.{Move, next, took}
+use Rattle.fs_machine.specs.Records.{Holdings, Phase, Walking, Placed, Finished, Record}
+
+-- the call, what it has walked of its paths and what is left of it, where it stands, its reply once it is fixed, its reserved number and the node that it removed
+pub record OpValue : Type 0 where
+  pub call : Call
+  pub walked : Key
+  pub remaining : Form
+  pub holdings : Option Holdings
+  pub reply : Option Reply
+  pub reserved : Option ℕ
+  pub removed : Option ℕ
+
+-- its phase, where it may have a place in the timeline
+abbrev pub phase_of : Option ℕ → Option Reply → Phase
+phase_of place (Some r) = Finished r
+phase_of (Some i) None = Placed i
+phase_of None None = Walking
+
+-- its record on a seat
+abbrev pub record_of : ℕ → Option ℕ → OpValue → Record
+record_of seat place work =
+    record { seat = seat; call = work.call; walked = work.walked; remaining = work.remaining; holdings = work.holdings; phase = phase_of place work.reply; reserved = work.reserved; removed = work.removed }
+
+-- a call that begins
+abbrev pub new_value : Call → Option ℕ → OpValue
+new_value call reserved = record { call = call; walked = []; remaining = form call; holdings = None; reply = None; reserved = reserved; removed = None }
+
+-- its next move; neither its seat nor its place matters
+abbrev pub next_of : Graph → OpValue → Move
+next_of graph work = next graph (record_of 0 None work)
+
+-- after a take, a let go and a finish: on each seat and with each place the record is what the machine says
+abbrev pub IsTook : OpValue → ℕ → OpValue → Type 0
+IsTook old n new = (seat : ℕ) (place : Option ℕ) → record_of seat place new ≡ took (record_of seat place old) n
+
+abbrev pub IsLetGo : OpValue → ℕ → OpValue → Type 0
+IsLetGo old n new = (seat : ℕ) (place : Option ℕ) → record_of seat place new ≡ let_go (record_of seat place old) n
+
+abbrev pub IsFinished : Graph → OpValue → OpValue → Type 0
+IsFinished graph old new = (seat : ℕ) (place : Option ℕ) → record_of seat place new ≡ finished_op (record_of seat place old) (finish graph (record_of seat place old))
+
+-- the graph after its finish
+abbrev pub graph_after : Graph → OpValue → Graph
+graph_after graph work = (finish graph (record_of 0 None work)).graph
+
+-- a begin on a graph with a limit: a call that reserves gets some number below the limit that was not in use
+abbrev pub BegunAs : Graph → ℕ → Call → Option Shape → OpValue → Graph → Type 0
+BegunAs graph limit call None work new = (work ≡ new_value call None) × (new ≡ graph)
+BegunAs graph limit call (Some shape) work new = (n : ℕ) × (n < limit) × (graph.shape n ≡ None) × (work ≡ new_value call (Some n)) × (new ≡ reserved_in n shape graph)
+
+-- a number that is in use, that no entry names, and without entries: it may be linked, or released
+pub record IsSpare (graph : Graph) (n : ℕ) : Type 0 where
+  pub used : IsTrue (is_there (graph.shape n))
+  pub unlinked : IsUnlinked graph.child n
+  pub not_root : n ≢ 0
+  pub empty : has_entries (graph.shape n) ≡ false
+
+-- a number that a call may have reserved, or removed
+abbrev pub SpareIf : Graph → Option ℕ → Type 0
+SpareIf graph number = (n : ℕ) → number ≡ Some n → IsSpare graph n
+
+-- no directory and no file is above its limit
+pub record IsBounded (graph : Graph) : Type 0 where
+  pub entries : (n : ℕ) (names : List Name) → graph.shape n ≡ Some (Dir names) → length names ≤ ENTRY_LIMIT
+  pub bytes : (n : ℕ) (content : List ℕ) → graph.shape n ≡ Some (File content) → length content ≤ FILE_LIMIT
+
+-- heads of a rename that stand at one node have walked the same names
+abbrev pub HeadsApart : Form → Holdings → Type 0
+HeadsApart (AtNode c p) st = Unit {0}
+HeadsApart (AtEntry c p) st = Unit {0}
+HeadsApart (AtPair pairs.Rename p q) st = st.source.node ≡ st.dest.node → st.source.walked ≡ st.dest.walked
+
+-- what a finish needs of the graph
+pub record CanFinish (graph : Graph) (reserved : Option ℕ) (remaining : Form) (holdings : Option Holdings) : Type 0 where
+  pub spare : SpareIf graph reserved
+  pub heads : (st : Holdings) → holdings ≡ Some st → HeadsApart remaining st
+  pub bounded : IsBounded graph

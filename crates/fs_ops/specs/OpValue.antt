@@ -1,0 +1,90 @@
+-- What the code of a call keeps, seen as its work: counts of walked names in the place of keys.
+use Rattle.std.specs.Prelude.{ℕ, ◌≡◌, ◌+◌, ◌≤◌, length, take, drop, Option, Some, None}
+use Rattle.fs_names.specs.Keys.{Key, parent_of}
+use Rattle.fs_calls.specs.Forms.{Form, AtNode, AtEntry, AtPair, form}
+use Rattle.fs_calls.specs.declared.target.PairCall.TheVariants as pairs
+use Rattle.fs_calls.specs.declared.call.Call.{Call}
+use Rattle.fs_calls.specs.declared.reply.Reply.{Reply}
+use Rattle.fs_walk.specs.Ways.{Way, ForkWay}
+use Rattle.fs_walk.specs.declared.head.Head as count
+use Rattle.fs_ops.specs.declared.outcome.Outcome.{Outcome}
+use Rattle.fs_ops.specs.declared.outcome.Outcome.TheVariants.{Open, Fixed}
+use Rattle.fs_machine.specs.Moves.{target}
+use Rattle.fs_machine.specs.Records.{Head, Holdings, head_at}
+use Rattle.fs_finish.specs.Rooms.{Suffices}
+use Rattle.fs_machine.specs.OpValues.{OpValue}
+
+-- the path that is walked first, and the one that is walked second
+abbrev pub first_path : Form → Key
+first_path (AtNode c p) = p
+first_path (AtEntry c p) = p
+first_path (AtPair pairs.Rename p q) = p
+
+abbrev pub second_path : Form → Key
+second_path (AtNode c p) = p
+second_path (AtEntry c p) = p
+second_path (AtPair pairs.Rename p q) = q
+
+-- the form of a call without so many first names of each path
+abbrev pub dropped : ℕ → Form → Form
+dropped n (AtNode c p) = AtNode c (drop n p)
+dropped n (AtEntry c p) = AtEntry c (drop n p)
+dropped n (AtPair pairs.Rename p q) = AtPair pairs.Rename (drop n p) (drop n q)
+
+-- a head that has walked so many names of a path behind those to the common directory
+abbrev pub head_of : Key → ℕ → count.Head → Head
+head_of path names head = record { walked = take head.walked (drop names path); node = head.node; behind = head.behind }
+
+-- where a call stands: at first both heads are where the walk is
+abbrev pub holdings_with : Form → ℕ → Option ℕ → Option ForkWay → Option ℕ → Holdings
+holdings_with call n behind None victim = record { node = n; behind = behind; source = head_at n; dest = head_at n; victim = victim }
+holdings_with call n behind (Some fork) victim =
+    record { node = n; behind = behind; source = head_of (first_path call) fork.names fork.source; dest = head_of (second_path call) fork.names fork.dest; victim = victim }
+
+abbrev pub holdings_of : Form → Option ℕ → Option ℕ → Option ForkWay → Option ℕ → Option Holdings
+holdings_of call None behind fork victim = None
+holdings_of call (Some n) behind fork victim = Some (holdings_with call n behind fork victim)
+
+-- the reply once it is fixed
+abbrev pub reply_of : Outcome → Option Reply
+reply_of (Open prepared) = None
+reply_of (Fixed reply) = Some reply
+
+-- the whole work
+abbrev pub op_value : Call → Way → Option ForkWay → Option ℕ → Option ℕ → Option ℕ → Outcome → OpValue
+op_value call way fork victim reserved removed outcome =
+    record {
+      call = call;
+      walked = take way.walked (first_path (form call));
+      remaining = dropped way.walked (form call);
+      holdings = holdings_of (form call) way.node way.behind fork victim;
+      reply = reply_of outcome;
+      reserved = reserved;
+      removed = removed;
+    }
+
+-- a fork of a rename whose walk has come to the common directory; each head is on its way to a parent
+pub record IsForked (p q : Key) (way : Way) (fork : ForkWay) : Type 0 where
+  pub node : way.node ≡ Some fork.node
+  pub names : fork.names ≡ way.walked
+  pub arrived : way.walked ≡ way.names
+  pub source : fork.names + fork.source.walked ≤ length (parent_of p)
+  pub dest : fork.names + fork.dest.walked ≤ length (parent_of q)
+
+-- other calls have none
+abbrev pub Forks : Form → Way → Option ForkWay → Type 0
+Forks call way None = Unit {0}
+Forks (AtPair pairs.Rename p q) way (Some fork) = IsForked p q way fork
+Forks (AtNode c p) way (Some fork) = ⊥
+Forks (AtEntry c p) way (Some fork) = ⊥
+
+-- before the finish there is room for it
+abbrev pub IsReady : Form → Outcome → Type 0
+IsReady call (Open prepared) = Suffices call prepared
+IsReady call (Fixed reply) = Unit {0}
+
+-- what the fields of a call keep: the walk goes to the target
+pub record IsOp (call : Form) (way : Way) (fork : Option ForkWay) (outcome : Outcome) : Type 0 where
+  pub names : way.names ≡ length (target call)
+  pub forks : Forks call way fork
+  pub ready : IsReady call outcome

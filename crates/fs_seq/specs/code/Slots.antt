@@ -1,0 +1,103 @@
+-- Places under numbers, and the tree that they spell.
+use Rattle.std.specs.Prelude.{◌≡◌, ◌≢◌, ℕ, zero, suc, true, List, [], ◌∷◌, length, map, Option, Some, None, is_some, slice_index_or, option_and_then, IsTrue}
+use Rattle.std.specs.List.{flat_map}
+use Rattle.std.specs.FinMap.{find, is_sorted}
+use Rattle.fs_names.specs.Names.{Name, name_cmp}
+use Rattle.fs_names.specs.Keys.{Key}
+use Rattle.fs_calls.specs.Tree.{Node, Dir as IsDir, File as IsFile, Tree, from_list}
+use Rattle.fs_calls.specs.Shapes.{Shape}
+use Rattle.fs_calls.specs.Shapes as shapes
+
+-- a directory, by the names of its entries and their numbers, or a file
+pub data Place : Type 0 where
+  Dir : List (Name × ℕ) → Place
+  File : List ℕ → Place
+
+-- a place or none under each number from 0 on
+abbrev pub Slots : Type 0
+Slots = List (Option Place)
+
+-- the place of a number
+unfoldable pub place_at : Slots → ℕ → Option Place
+place_at g n = slice_index_or g n None
+
+-- the links of a directory
+abbrev pub links_of : Option Place → List (Name × ℕ)
+links_of None = []
+links_of (Some (Dir links)) = links
+links_of (Some (File bytes)) = []
+
+-- what a place is in a tree
+abbrev pub node_of : Option Place → Option Node
+node_of None = None
+node_of (Some (Dir links)) = Some IsDir
+node_of (Some (File bytes)) = Some (IsFile bytes)
+
+-- what a call sees of a place
+abbrev pub shape_of : Option Place → Option Shape
+shape_of None = None
+shape_of (Some (Dir links)) = Some (shapes.Dir (map (λ l. l.0) links))
+shape_of (Some (File bytes)) = Some (shapes.File bytes)
+
+-- the links under a number
+abbrev pub links_at : Slots → ℕ → List (Name × ℕ)
+links_at g n = links_of (place_at g n)
+
+-- the number of a name's node in the directory n
+unfoldable pub child : Slots → ℕ → Name → Option ℕ
+child g n x = find name_cmp x (links_at g n)
+
+-- the number to which names lead from n
+abbrev pub walk_from : Slots → ℕ → Key → Option ℕ
+walk_from g n [] = Some n
+walk_from g n (x ∷ k) = option_and_then (λ m. walk_from g m k) (child g n x)
+
+-- the number to which a key leads
+abbrev pub walk : Slots → Key → Option ℕ
+walk g k = walk_from g 0 k
+
+-- what the place of a number is in a tree
+abbrev pub node_at : Slots → ℕ → Option Node
+node_at g n = node_of (place_at g n)
+
+-- what stands at a key
+unfoldable pub spelled : Slots → Key → Option Node
+spelled g k = option_and_then (node_at g) (walk g k)
+
+-- what a call sees at a key
+abbrev pub shape_at : Slots → ℕ → Option Shape
+shape_at g n = shape_of (place_at g n)
+
+-- the keys of fewer than so many names that lead on from n
+abbrev pub keys_from : ℕ → Slots → ℕ → List Key
+keys_from zero g n = []
+keys_from (suc many) g n = [] ∷ flat_map (λ (l : Name × ℕ). map (λ k. l.0 ∷ k) (keys_from many g l.1)) (links_at g n)
+
+-- an entry where there is one
+abbrev pub with_node : Key → Option Node → List (Key × Node) → List (Key × Node)
+with_node k None rest = rest
+with_node k (Some e) rest = (k, e) ∷ rest
+
+-- the entries at these keys
+abbrev pub nodes_at : Slots → List Key → List (Key × Node)
+nodes_at g [] = []
+nodes_at g (k ∷ ks) = with_node k (spelled g k) (nodes_at g ks)
+
+-- the tree whose keys are the names that lead from 0
+unfoldable pub tree_of : Slots → Tree
+tree_of g = from_list (nodes_at g (keys_from (length g) g 0))
+
+-- what a graph keeps
+pub record IsForest (g : Slots) : Type 0 where
+  -- no number is reached in two ways
+  pub once : (a b : Key) (n : ℕ) → walk g a ≡ Some n → walk g b ≡ Some n → a ≡ b
+  -- each number that is reached has a place
+  pub inside : (k : Key) (n : ℕ) → walk g k ≡ Some n → is_some (place_at g n) ≡ true
+  pub root : node_at g 0 ≡ Some IsDir
+  -- the names of a directory rise
+  pub rising : (n : ℕ) → IsTrue (is_sorted name_cmp (links_at g n))
+
+-- g' has this under the number n, and under all others what g has
+pub record Sets (g g' : Slots) (n : ℕ) (o : Option Place) : Type 0 where
+  pub here : place_at g' n ≡ o
+  pub elsewhere : (j : ℕ) → j ≢ n → place_at g' j ≡ place_at g j
