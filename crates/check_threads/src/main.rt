@@ -6,6 +6,7 @@ mod answers;
 mod calls;
 mod drawing;
 mod example;
+mod faults;
 mod held;
 mod jobs;
 mod long;
@@ -50,6 +51,7 @@ fn main(rt: HostRuntime) -> anyhow::Result<()> {
         "scripts run on threads",
         scripts::are_written(&rt, alloc),
     )?;
+    faults::write_words(&rt)?;
     say(
         &rt,
         "a thousand jobs are done, once",
