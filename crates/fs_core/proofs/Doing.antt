@@ -9,13 +9,15 @@ use Rattle.fs_nodes.specs.Places.{Places}
 use Rattle.fs_nodes.specs.Seen.{seen}
 use Rattle.fs_nodes.specs.Stores.{graph_of}
 use Rattle.fs_locks.specs.Holding.{Holding, holder, room}
+use Rattle.fs_locks.specs.declared.word.TheConstants.{CALL_LIMIT}
 use Rattle.fs_timeline.specs.declared.entry.Entry.TheVariants.{Commit, Return}
+use Rattle.fs_timeline.specs.Timeline.{begins}
 use Rattle.fs_machine.specs.Leaving.{is_removed, releasing, unreserved}
 use Rattle.fs_machine.specs.Moves.{Move, Takes, Leaves, Finishes, Ends, next}
 use Rattle.fs_machine.specs.OpValues.{OpValue, record_of, next_of, IsTook, IsLetGo, IsFinished, IsSpare, SpareIf, CanFinish, graph_after}
 use Rattle.fs_laws.specs.States.{Step, Idle, Took, Busy, LetGo, Helped, Committed, CarriedOut, Returned, NoneBelow}
 use Rattle.fs_laws.proofs.calls.NextMoves.{takes_used, takes_another, leaves_held}
-use Rattle.fs_laws.proofs.states.GraphOfARun.{spare_reserved, spare_removed, can_finish}
+use Rattle.fs_laws.proofs.states.GraphOfARun.{spare_reserved, spare_removed, can_finish, begun_before}
 use Rattle.fs_core.specs.declared.seat.Running.{Running}
 use Rattle.fs_core.specs.Machines.{Machine, state_of, number_of, records}
 use Rattle.fs_core.specs.code.Rooms.{walking, walking_at, owed_at, owed, IsKept}
@@ -49,6 +51,14 @@ pub take_within : (m : Machine) (b k p seat call n : ℕ) → IsKept m b k p →
 take_within m b k p seat call n kept x =
     let s : (s : Shape) × ((graph_of m.store).shape n ≡ Some s) = takes_used (state_of m) call (record_of seat x.running.place x.running.op) n kept.run (on_state m b k p seat call (Takes n) kept x) (next_on m seat call (Takes n) x) in
     kept.roomy n s.0 s.1
+
+-- a call under way is not the one whose number cannot hold a node
+pub take_few : (m : Machine) (b k p seat call : ℕ) (move : Move) → IsKept m b k p → MovesOn m seat call move → call < CALL_LIMIT
+take_few m b k p seat call move kept x =
+    let before : call ≤ begins m.timeline = begun_before (state_of m) call (record_of seat x.running.place x.running.op) kept.run (on_state m b k p seat call move kept x) in
+    let less : b < CALL_LIMIT = kept.few in
+    let is : b ≡ begins m.timeline = kept.begun_is in
+    omega (arith, before, less, is)
 
 pub take_another : (m : Machine) (b k p seat call n : ℕ) → IsKept m b k p → MovesOn m seat call (Takes n) → holder m.holding n ≡ Some call → ⊥
 take_another m b k p seat call n kept x held = takes_another (state_of m) call (record_of seat x.running.place x.running.op) n kept.run (on_state m b k p seat call (Takes n) kept x) (next_on m seat call (Takes n) x) held

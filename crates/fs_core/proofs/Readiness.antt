@@ -18,6 +18,7 @@ use Rattle.fs_nodes.specs.Places.{Places}
 use Rattle.fs_nodes.specs.Seen.{seen}
 use Rattle.fs_nodes.specs.Stores.{graph_of, in_use}
 use Rattle.fs_locks.specs.Holding.{Holding, holder, room}
+use Rattle.fs_locks.specs.declared.word.TheConstants.{CALL_LIMIT}
 use Rattle.fs_timeline.specs.declared.entry.Entry.TheVariants.{Begin}
 use Rattle.fs_machine.specs.Leaving.{unreserved}
 use Rattle.fs_machine.specs.OpValues.{OpValue, new_value, record_of, BegunAs, IsSpare, SpareIf}
@@ -114,6 +115,7 @@ refused_same m b k p kept st hs graph limit is_hs more = (
     run = subst Run (sym same) kept.run;
     roomy = λ n s e. (let less : n < room m.holding = kept.roomy n s (ap (λ (g : Graph). g.shape n) (sym graph) ∙ e) in omega (arith, less, more));
     begun_is = kept.begun_is;
+    few = kept.few;
     commits_is = kept.commits_is;
     within = kept.within;
     owed_is = kept.owed_is;
@@ -150,14 +152,15 @@ begun_roomy m b k p kept call st hs w (Some shape) (c, below, free, is_w, is_new
 
 pub begun_kept : (m : Machine) (b k p seat : ℕ) (call : Call) → IsKept m b k p → slice_get m.seats seat ≡ Some None
     → (st : Places) (hs : Holding) (w : OpValue) (number : ℕ) (copy : Call) (slot : Option Running) → BegunAs (graph_of m.store) (seen m.store).limit call (reserves (form call)) w (graph_of st) → (seen st).limit ≡ (seen m.store).limit
-    → holder hs ≡ holder m.holding → room m.holding ≤ room hs → HasRoom w.reserved hs → number ≡ b + 1 → copy ≡ call → slot ≡ Some (record { call = number; place = None; op = w })
+    → holder hs ≡ holder m.holding → room m.holding ≤ room hs → HasRoom w.reserved hs → number ≡ b + 1 → number < CALL_LIMIT → copy ≡ call → slot ≡ Some (record { call = number; place = None; op = w })
     → Begins (state_of m) seat call (Begun_as number) (state_of (record m { store = st; holding = hs; seats = slice_set m.seats seat slot; timeline = m.timeline ++ Begin number seat copy ∷ [] })) × IsKept (record m { store = st; holding = hs; seats = slice_set m.seats seat slot; timeline = m.timeline ++ Begin number seat copy ∷ [] }) number k (p + 3 - 1)
-begun_kept m b k p seat call kept free st hs w number copy slot begun limit is_hs more has is_number is_copy is = (
+begun_kept m b k p seat call kept free st hs w number copy slot begun limit is_hs more has is_number few is_copy is = (
   step,
   record {
     run = Beginning seat call (Begun_as number) _ kept.run step;
     roomy = begun_roomy m b k p kept call st hs w (reserves (form call)) begun has more;
     begun_is = is_number ∙ ap (λ (n : ℕ). n + 1) kept.begun_is ∙ sym (begins_more m.timeline number seat copy);
+    few = few;
     commits_is = kept.commits_is ∙ sym (commits_begin m.timeline number seat copy);
     within = omega (arith, walking_set m.seats seat None slot free, after.1, kept.within, is_number);
     owed_is = omega (arith, owed_set m.seats seat None slot free, after.0, kept.owed_is);
@@ -205,6 +208,7 @@ seat_kept m b k p kept seats is = (
     run = subst Run (sym same) kept.run;
     roomy = kept.roomy;
     begun_is = kept.begun_is;
+    few = kept.few;
     commits_is = kept.commits_is;
     within = subst (λ (n : ℕ). k + n ≤ b) (sym (ap walking is ∙ walking_more m.seats)) kept.within;
     owed_is = subst (λ (n : ℕ). n ≤ p) (sym (ap owed is ∙ owed_more m.seats)) kept.owed_is;
@@ -230,6 +234,7 @@ new_kept st hs limit one graph is_limit is_hs has = (
     run = subst Run (sym same) (Start limit one);
     roomy = λ n s e. empty_below n s (room hs) has (ap (λ (g : Graph). g.shape n) (sym graph) ∙ e);
     begun_is = refl;
+    few = omega arith;
     commits_is = refl;
     within = omega arith;
     owed_is = omega arith;
@@ -242,12 +247,12 @@ new_kept st hs limit one graph is_limit is_hs has = (
 -- the same by the seat's number, and by the counter
 pub begun_by : (m : Machine) (b k p at seat : ℕ) (call : Call) → IsKept m b k p → at ≡ seat → (old : Option Running) → seat < length m.seats → old ≡ get_or m.seats at old → old ≡ None
     → (st : Places) (hs : Holding) (w : OpValue) (number last : ℕ) (copy : Call) (slot : Option Running) → BegunAs (graph_of m.store) (seen m.store).limit call (reserves (form call)) w (graph_of st) → (seen st).limit ≡ (seen m.store).limit
-    → holder hs ≡ holder m.holding → room m.holding ≤ room hs → HasRoom w.reserved hs → number ≡ last → last ≡ b + 1 → copy ≡ call → slot ≡ Some (record { call = number; place = None; op = w })
+    → holder hs ≡ holder m.holding → room m.holding ≤ room hs → HasRoom w.reserved hs → number ≡ last → last ≡ b + 1 → last < CALL_LIMIT → copy ≡ call → slot ≡ Some (record { call = number; place = None; op = w })
     → Begins (state_of m) seat call (Begun_as number) (state_of (record m { store = st; holding = hs; seats = slice_set m.seats at slot; timeline = m.timeline ++ Begin number seat copy ∷ [] })) × IsKept (record m { store = st; holding = hs; seats = slice_set m.seats at slot; timeline = m.timeline ++ Begin number seat copy ∷ [] }) last k (p + 3 - 1)
-begun_by m b k p at seat call kept e old within read is_free st hs w number last copy slot begun limit is_hs more has is_last is_number is_copy is =
+begun_by m b k p at seat call kept e old within read is_free st hs w number last copy slot begun limit is_hs more has is_last is_number few is_copy is =
     subst (λ (s : ℕ). Begins (state_of m) s call (Begun_as number) (state_of (record m { store = st; holding = hs; seats = slice_set m.seats at slot; timeline = m.timeline ++ Begin number s copy ∷ [] })) × IsKept (record m { store = st; holding = hs; seats = slice_set m.seats at slot; timeline = m.timeline ++ Begin number s copy ∷ [] }) last k (p + 3 - 1)) e
     (subst (λ (l : ℕ). Begins (state_of m) at call (Begun_as number) (state_of (record m { store = st; holding = hs; seats = slice_set m.seats at slot; timeline = m.timeline ++ Begin number at copy ∷ [] })) × IsKept (record m { store = st; holding = hs; seats = slice_set m.seats at slot; timeline = m.timeline ++ Begin number at copy ∷ [] }) l k (p + 3 - 1)) is_last
-    (begun_kept m b k p at call kept (free_seat m at old (subst (λ (s : ℕ). s < length m.seats) (sym e) within) read is_free) st hs w number copy slot begun limit is_hs more has (is_last ∙ is_number) is_copy is))
+    (begun_kept m b k p at call kept (free_seat m at old (subst (λ (s : ℕ). s < length m.seats) (sym e) within) read is_free) st hs w number copy slot begun limit is_hs more has (is_last ∙ is_number) (subst (λ (n : ℕ). n < CALL_LIMIT) (sym is_last) few) is_copy is))
 
 pub busy_by : (m : Machine) (at seat : ℕ) (call : Call) (slot : Option Running) (b : Bool) → at ≡ seat → seat < length m.seats → slot ≡ get_or m.seats at slot → b ≡ is_some slot → b ≡ true → Begins (state_of m) seat call Seat_busy (state_of m)
 busy_by m at seat call slot b e within read some yes_some = subst (λ (s : ℕ). Begins (state_of m) s call Seat_busy (state_of m)) e (seat_busy_step m at call slot (subst (λ (s : ℕ). s < length m.seats) (sym e) within) read (sym some ∙ yes_some))

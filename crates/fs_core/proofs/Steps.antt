@@ -51,6 +51,7 @@ took_step m b k p seat r n kept on move free hs w v is_hs room took_it is = (
     run = Stepping seat (Took n) _ kept.run step;
     roomy = rw room kept.roomy;
     begun_is = kept.begun_is;
+    few = kept.few;
     commits_is = kept.commits_is;
     within = omega (arith, walking_set m.seats seat (Some r) v on, same.1, kept.within);
     owed_is = omega (arith, owed_set m.seats seat (Some r) v on, same.0, kept.owed_is);
@@ -98,6 +99,7 @@ let_go_step m b k p seat r n kept on move st hs w v graph limit is_hs room left_
     run = Stepping seat (LetGo n) _ kept.run step;
     roomy = λ q t e. rw room (let u : (u : Shape) × ((graph_of m.store).shape q ≡ Some u) = fewer_left (graph_of m.store) (is_removed r.op.removed n) n q t (ap (λ (g : Graph). g.shape q) (sym graph) ∙ e) in kept.roomy q u.0 u.1);
     begun_is = kept.begun_is;
+    few = kept.few;
     commits_is = kept.commits_is;
     within = omega (arith, walking_set m.seats seat (Some r) v on, same.1, kept.within);
     owed_is = omega (arith, owed_set m.seats seat (Some r) v on, same.0, kept.owed_is);
@@ -155,6 +157,7 @@ helped_step m b k p seat r s kept on move unplaced other q on_other q_unplaced q
     run = Stepping seat (Helped q.call) _ kept.run step;
     roomy = kept.roomy;
     begun_is = kept.begun_is ∙ sym (begins_commit m.timeline q.call);
+    few = kept.few;
     commits_is = ap (λ (x : ℕ). x + 1) kept.commits_is ∙ sym (commits_more m.timeline q.call);
     within = omega (arith, walking_set m.seats other (Some q) v on_other, before.1, after.1, kept.within);
     owed_is = omega (arith, owed_set m.seats other (Some q) v on_other, before.0, after.0, kept.owed_is);
@@ -208,6 +211,7 @@ committed_step m b k p seat r s kept on move unplaced none st w v graph limit do
     run = Stepping seat Committed _ kept.run step;
     roomy = λ q t e. (let u : (u : Shape) × ((graph_of m.store).shape q ≡ Some u) = fewer_made m seat r kept.run on st graph q t e in kept.roomy q u.0 u.1);
     begun_is = kept.begun_is ∙ sym (begins_commit m.timeline r.call);
+    few = kept.few;
     commits_is = ap (λ (x : ℕ). x + 1) kept.commits_is ∙ sym (commits_more m.timeline r.call);
     within = omega (arith, walking_set m.seats seat (Some r) v on, before.1, after.1, kept.within);
     owed_is = omega (arith, owed_set m.seats seat (Some r) v on, before.0, after.0, kept.owed_is);
@@ -243,6 +247,7 @@ carried_step m b k p seat r s i kept on move is_placed st w v graph limit done i
     run = Stepping seat CarriedOut _ kept.run step;
     roomy = λ q t e. (let u : (u : Shape) × ((graph_of m.store).shape q ≡ Some u) = fewer_made m seat r kept.run on st graph q t e in kept.roomy q u.0 u.1);
     begun_is = kept.begun_is;
+    few = kept.few;
     commits_is = kept.commits_is;
     within = omega (arith, walking_set m.seats seat (Some r) v on, before.1, after.1, kept.within);
     owed_is = omega (arith, owed_set m.seats seat (Some r) v on, before.0, after.0, kept.owed_is);
@@ -278,6 +283,7 @@ returned_step m b k p seat r reply kept on move replied st v graph limit is = (
     run = Stepping seat (Returned reply) _ kept.run step;
     roomy = λ q t e. (let u : (u : Shape) × ((graph_of m.store).shape q ≡ Some u) = fewer_unreserved (graph_of m.store) r.op.reserved q t (ap (λ (g : Graph). g.shape q) (sym graph) ∙ e) in kept.roomy q u.0 u.1);
     begun_is = kept.begun_is ∙ sym (begins_return m.timeline r.call reply);
+    few = kept.few;
     commits_is = kept.commits_is ∙ sym (commits_return m.timeline r.call reply);
     within = omega (arith, walking_set m.seats seat (Some r) v on, before.1, after.1, kept.within);
     owed_is = omega (arith, owed_set m.seats seat (Some r) v on, before.0, after.0, kept.owed_is);

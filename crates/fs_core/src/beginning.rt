@@ -1,10 +1,11 @@
 //! What a begin allocates, so that no step needs memory.
 
-ghost use Rattle.std.specs.Prelude.{◌≡◌, ◌≢◌, ◌+◌, ◌≤◌, ◌↔◌, IfOk, OnOk, OnErr, IsSome, Err};
+ghost use Rattle.std.specs.Prelude.{◌≡◌, ◌≢◌, ◌+◌, ◌<◌, ◌≤◌, ◌↔◌, IfOk, OnOk, OnErr, IsSome, Err};
 ghost use Rattle.fs_nodes.specs.Graphs.{IsGraph};
 ghost use Rattle.fs_nodes.specs.Seen.{seen};
 ghost use Rattle.fs_nodes.specs.Stores.{graph_of, in_use};
 ghost use Rattle.fs_locks.specs.Holding.{holder, room};
+ghost use Rattle.fs_locks.specs.declared.word.TheConstants.{CALL_LIMIT};
 ghost use Rattle.fs_calls.specs.Forms.{form, reserves};
 ghost use Rattle.fs_machine.specs.OpValues.{BegunAs};
 ghost use Rattle.fs_core.specs.Events.{HasRoom};
@@ -13,7 +14,7 @@ ghost use Rattle.fs_core.specs.declared.outcome.Refusal.TheVariants as refusals;
 use crate::outcome::Refusal;
 use fs_calls::Call;
 use fs_index::IndexedTimeline;
-use fs_locks::Holders;
+use fs_locks::{CALL_LIMIT, Holders};
 use fs_nodes::{NoNode, NodeNo, Store};
 use fs_ops::Op;
 use std::alloc::{AllocError, Global};
@@ -55,6 +56,7 @@ fn make_places(
     begun: u64,
 ) -> Result<(u64, Call), AllocError>
     ensures number { IfOk result (λ places. places.0 ≡ begun + 1) }
+    ensures few { IfOk result (λ places. places.0 < CALL_LIMIT) }
     ensures copy { IfOk result (λ places. places.1 ≡ call.now) }
     ensures within { OnOk result (HasRoom reserved holders.new) }
     ensures places { OnOk result (timeline.new ≡ record timeline.old { reserved = timeline.old.reserved + 3 }) }
@@ -62,10 +64,13 @@ fn make_places(
     ensures more { room holders.old ≤ room holders.new }
     ensures err { OnErr result (timeline.new ≡ timeline.old) }
 {
-    // Never met: it would take 2^64 begins.
+    // Never met: it would take 2^64 - 2 begins. The number after them would be one that cannot hold a node.
     let Some(number) = begun.checked_add(1) else {
         return Err(AllocError);
     };
+    if number >= CALL_LIMIT {
+        return Err(AllocError);
+    }
 
     // The second copy of the call, for its Begin entry: the first is in its record. Both are made here, so that its commit
     // and its return, which append a number or a reply that is there, copy nothing.
@@ -88,6 +93,7 @@ pub fn make_ready(
     requires graph { IsGraph (graph_of store.old) }
     ensures op { IfOk result (λ ready. BegunAs (graph_of store.old) (seen store.old).limit call.now (reserves (form call.now)) ready.op (graph_of store.new)) }
     ensures number { IfOk result (λ ready. ready.number ≡ begun + 1) }
+    ensures few { IfOk result (λ ready. ready.number < CALL_LIMIT) }
     ensures copy { IfOk result (λ ready. ready.copy ≡ call.now) }
     ensures within { IfOk result (λ ready. HasRoom ready.op.reserved holders.new) }
     ensures places { OnOk result (timeline.new ≡ record timeline.old { reserved = timeline.old.reserved + 3 }) }

@@ -3,6 +3,7 @@
 ghost use Rattle.std.specs.Prelude.{◌≡◌, ◌≢◌, ◌<◌, ◌↔◌, max, IsOk, IsSome, IfErr, OnOk, OnErr, Some, None};
 ghost use Rattle.fs_nodes.specs.Graphs.{set_at};
 
+use crate::word::{CALL_LIMIT, HolderWord};
 use fs_names::CallNo;
 use fs_nodes::NodeNo;
 use std::alloc::{AllocError, Global};
@@ -13,10 +14,11 @@ use std::marker::Model;
 pub struct HeldBy(pub CallNo);
 
 /// The finite map from nodes to the calls that hold them: a node is held by one call at most.
-/// Room is made before: the nodes with a number below it can be taken. Only `make_room` allocates.
+/// Room is made before: the nodes with a number below it can be taken, each by a call with a number below `CALL_LIMIT`.
+/// Only `make_room` allocates, one word for each number of a node.
 #[derive(Drop)]
 pub struct Holders {
-    holders: Vec<Option<CallNo>>,
+    holders: Vec<HolderWord>,
 }
 
 impl Model for Holders {
@@ -28,10 +30,10 @@ impl Model for Holders {
     ghost view = { λ h. h.holders.items };
 }
 
-fn set(place: &mut Option<CallNo>, call: Option<CallNo>)
-    ensures { place.new ≡ call }
+fn set(place: &mut HolderWord, holder: HolderWord)
+    ensures { place.new ≡ holder }
 {
-    *place = call;
+    *place = holder;
 }
 
 impl Holders {
@@ -54,7 +56,7 @@ impl Holders {
         ensures err { OnErr result (self.new ≡ self.old) }
     {
         if count > self.holders.len() {
-            self.holders.resize(count, None)?;
+            self.holders.resize(count, HolderWord::none())?;
         }
         Ok(())
     }
@@ -63,16 +65,17 @@ impl Holders {
     pub fn take(&mut self, node: NodeNo, call: CallNo) -> Result<(), HeldBy>
         requires within { node < room self.old }
         requires other { holder self.old node ≢ Some call }
+        requires call { call < CALL_LIMIT }
         ensures free { IsOk result ↔ (holder self.old node ≡ None) }
         ensures ok { OnOk result (holder self.new ≡ set_at node (Some call) (holder self.old)) }
         ensures held { IfErr result (λ by. holder self.old node ≡ Some by.0) }
         ensures err { OnErr result (self.new ≡ self.old) }
         ensures room { room self.new ≡ room self.old }
     {
-        if let Some(holder) = self.holders[node.get()] {
+        if let Some(holder) = self.holders[node.get()].get() {
             return Err(HeldBy(holder));
         }
-        set(&mut self.holders[node.get()], Some(call));
+        set(&mut self.holders[node.get()], HolderWord::of(call));
         Ok(())
     }
 
@@ -82,14 +85,17 @@ impl Holders {
         ensures holders { holder self.new ≡ set_at node None (holder self.old) }
         ensures room { room self.new ≡ room self.old }
     {
-        set(&mut self.holders[node.get()], None);
+        set(&mut self.holders[node.get()], HolderWord::none());
     }
 
     /// The call that holds the node. Where there is no room for its number, there is none.
     pub fn holder(&self, node: NodeNo) -> Option<CallNo>
         ensures { result ≡ holder self.now node }
     {
-        self.holders.get(node.get()).copied().flatten()
+        match self.holders.get(node.get()) {
+            Some(holder) => holder.get(),
+            None => None,
+        }
     }
 
     /// The nodes with a number below it can be taken.

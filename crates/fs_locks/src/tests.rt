@@ -2,13 +2,17 @@
 
 use crate::held::Held;
 use crate::holders::{HeldBy, Holders};
+use crate::word::CALL_LIMIT;
 use fs_names::CallNo;
 use fs_nodes::NodeNo;
 use std::alloc::AllocError;
 
 /// None where the call may not be made.
 fn take(holders: &mut Holders, node: NodeNo, call: CallNo) -> Option<Result<(), HeldBy>> {
-    if node.get() >= holders.room() || holders.holder(node) == Some(call) {
+    if node.get() >= holders.room()
+        || holders.holder(node) == Some(call)
+        || call.get() >= CALL_LIMIT
+    {
         return None;
     }
     Some(holders.take(node, call))
@@ -31,6 +35,24 @@ fn one_holder_at_a_time(rt: HostRuntime) -> Result<(), AllocError> {
     holders.let_go(node);
     assert_eq!(rt; take(&mut holders, node, second), Some(Ok(())));
     assert_eq!(rt; holders.holder(NodeNo::new(2)), None);
+    Ok(())
+}
+
+#[test]
+fn all_calls_but_the_last_can_hold(rt: HostRuntime) -> Result<(), AllocError> {
+    let (root, node) = (NodeNo::new(0), NodeNo::new(1));
+    let (least, greatest) = (CallNo::new(0), CallNo::new(u64::MAX - 1));
+    let mut holders = Holders::new(rt.alloc());
+    holders.make_room(2)?;
+    assert_eq!(rt; take(&mut holders, root, least), Some(Ok(())));
+    assert_eq!(rt; take(&mut holders, node, greatest), Some(Ok(())));
+    assert_eq!(rt; holders.holder(root), Some(least));
+    assert_eq!(rt; holders.holder(node), Some(greatest));
+    assert_eq!(rt;
+        take(&mut holders, root, greatest),
+        Some(Err(HeldBy(least)))
+    );
+    assert_eq!(rt; take(&mut holders, root, CallNo::new(u64::MAX)), None);
     Ok(())
 }
 

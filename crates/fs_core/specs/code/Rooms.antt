@@ -4,6 +4,7 @@ use Rattle.fs_names.specs.Shapes.{Shape}
 use Rattle.fs_nodes.specs.Graphs.{Graph}
 use Rattle.fs_nodes.specs.Stores.{graph_of}
 use Rattle.fs_locks.specs.Holding.{room}
+use Rattle.fs_locks.specs.declared.word.TheConstants.{CALL_LIMIT}
 use Rattle.fs_timeline.specs.Timeline.{begins, commit_count}
 use Rattle.fs_laws.specs.States.{Run}
 use Rattle.fs_core.specs.declared.seat.Running.{Running}
@@ -35,11 +36,13 @@ owed (slot ∷ seats) = owed_at slot + owed seats
 abbrev pub AreBelow : Graph → ℕ → Type 0
 AreBelow graph bound = (n : ℕ) (shape : Shape) → graph.shape n ≡ Some shape → n < bound
 
--- a state that a run gives, a holder's place for each number in use, exact counters, a place for each entry that is owed
+-- a state that a run gives, a holder's place for each number in use, exact counters, no call whose number cannot hold a node,
+-- a place for each entry that is owed
 pub record IsKept (machine : Machine) (begun commits reserved : ℕ) : Type 0 where
   pub run : Run (state_of machine)
   pub roomy : AreBelow (graph_of machine.store) (room machine.holding)
   pub begun_is : begun ≡ begins machine.timeline
+  pub few : begun < CALL_LIMIT
   pub commits_is : commits ≡ commit_count machine.timeline
   pub within : commits + walking machine.seats ≤ begun
   pub owed_is : owed machine.seats ≤ reserved

@@ -19,13 +19,13 @@ pub invariant_of-self-in-Ok : goal.invariant_of-self-in-Ok
 invariant_of-self-in-Ok c = rw (c.push.ensures, c.in-Ok.ensures.places)
     (begun_by _ _ _ _ c.get-at.result c.args.seat c.args.call.now c.self.invariant c.get-at.ensures c.index.result.now (rw (← c.self.view_is) at c.requires.seat) c.index.ensures (none_by_test c.index.result.now c.is_some.result c.is_some.ensures c.if-is_some.false)
     c.make_ready.new.store c.make_ready.new.holders c.in-Ok.ready.op c.new-call.result c.in-Ok.ready.number c.in-Ok.ready.copy c.put.new.slot c.in-Ok.ensures.op (ap (λ (s : Seen). s.limit) c.in-Ok.ensures.rest) c.in-Ok.ensures.holders c.in-Ok.ensures.more c.in-Ok.ensures.within
-    c.new-call.ensures c.in-Ok.ensures.number c.in-Ok.ensures.copy c.put.ensures).1
+    c.new-call.ensures c.in-Ok.ensures.number c.in-Ok.ensures.few c.in-Ok.ensures.copy c.put.ensures).1
 
 pub returns-in-Ok-clause-begins : goal.returns-in-Ok-clause-begins
 returns-in-Ok-clause-begins c = rw (c.push.ensures, c.in-Ok.ensures.places, ← c.self.view_is)
     (begun_by _ _ _ _ c.get-at.result c.args.seat c.args.call.now c.self.invariant c.get-at.ensures c.index.result.now (rw (← c.self.view_is) at c.requires.seat) c.index.ensures (none_by_test c.index.result.now c.is_some.result c.is_some.ensures c.if-is_some.false)
     c.make_ready.new.store c.make_ready.new.holders c.in-Ok.ready.op c.new-call.result c.in-Ok.ready.number c.in-Ok.ready.copy c.put.new.slot c.in-Ok.ensures.op (ap (λ (s : Seen). s.limit) c.in-Ok.ensures.rest) c.in-Ok.ensures.holders c.in-Ok.ensures.more c.in-Ok.ensures.within
-    c.new-call.ensures c.in-Ok.ensures.number c.in-Ok.ensures.copy c.put.ensures).0
+    c.new-call.ensures c.in-Ok.ensures.number c.in-Ok.ensures.few c.in-Ok.ensures.copy c.put.ensures).0
 
 pub returns-in-Err-clause-begins : goal.returns-in-Err-clause-begins
 returns-in-Err-clause-begins c = rw (c.in-Err.ensures.timeline, ← c.self.view_is)

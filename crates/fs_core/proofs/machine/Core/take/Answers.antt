@@ -1,5 +1,5 @@
 use Rattle.std.proofs.Common.{ℕ, Some, refl, sym, ap, ◌∙◌}
-use Rattle.fs_core.proofs.Doing.{take_within, take_another, took_kept, busy_step}
+use Rattle.fs_core.proofs.Doing.{take_within, take_another, take_few, took_kept, busy_step}
 use Rattle.fs_core.proofs.machine.Core.take.Goals as goal
 
 pub take-requires-clause-within : goal.take-requires-clause-within
@@ -7,6 +7,9 @@ take-requires-clause-within c = take_within _ _ _ _ c.args.seat c.args.call c.ar
 
 pub take-requires-clause-other : goal.take-requires-clause-other
 take-requires-clause-other c held = take_another _ _ _ _ c.args.seat c.args.call c.args.node c.self.invariant (rw (← c.self.view_is) at c.requires.moves) held
+
+pub take-requires-clause-call : goal.take-requires-clause-call
+take-requires-clause-call c = take_few _ _ _ _ c.args.seat c.args.call _ c.self.invariant (rw (← c.self.view_is) at c.requires.moves)
 
 pub invariant_of-self-in-Ok : goal.invariant_of-self-in-Ok
 invariant_of-self-in-Ok c =
