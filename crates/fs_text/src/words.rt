@@ -95,7 +95,8 @@ fn path_fault(fault: PathFault) -> FaultKind
     }
 }
 
-pub(crate) fn path_at(alloc: Global, word: &[u8]) -> Result<Path, FaultKind>
+/// The path that a word is, unescaped.
+pub fn path_at(alloc: Global, word: &[u8]) -> Result<Path, FaultKind>
     ensures { Gives (λ path. path) result (path_at word.now) }
 {
     let Ok(bytes) = percent_decode(word).into_cow(alloc) else {

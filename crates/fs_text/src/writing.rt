@@ -207,13 +207,17 @@ fn push_entry(alloc: Global, entry: &Entry, line: &mut Addition) -> Result<(), A
     line.push(b"\n")
 }
 
-/// Appends the line of an entry. An `Err`, which is out of memory, leaves the text as it was.
-pub fn write_entry(alloc: Global, entry: &Entry, text: &mut Vec<u8>) -> Result<(), AllocError>
-    ensures ok { OnOk result (text.new.items ≡ text.old.items ++ entry_line entry.now) }
-    ensures err { OnErr result (text.new.items ≡ text.old.items) }
+/// Puts a text back: with what was added behind it, or as it was where the addition failed.
+fn put_back(
+    added: Result<(), AllocError>,
+    line: Addition,
+    text: &mut Vec<u8>,
+) -> Result<(), AllocError>
+    ensures same { result ≡ added }
+    ensures ok { OnOk result (text.new.items ≡ line.before ++ line.added) }
+    ensures err { OnErr result (text.new.items ≡ line.before) }
 {
-    let mut line = Addition::new(mem::replace(text, Vec::new(alloc)));
-    match push_entry(alloc, entry, &mut line) {
+    match added {
         Ok(()) => {
             *text = line.kept();
             Ok(())
@@ -223,4 +227,25 @@ pub fn write_entry(alloc: Global, entry: &Entry, text: &mut Vec<u8>) -> Result<(
             Err(error)
         }
     }
+}
+
+/// Appends the line of an entry. An `Err`, which is out of memory, leaves the text as it was.
+pub fn write_entry(alloc: Global, entry: &Entry, text: &mut Vec<u8>) -> Result<(), AllocError>
+    ensures ok { OnOk result (text.new.items ≡ text.old.items ++ entry_line entry.now) }
+    ensures err { OnErr result (text.new.items ≡ text.old.items) }
+{
+    let mut line = Addition::new(mem::replace(text, Vec::new(alloc)));
+    let added = push_entry(alloc, entry, &mut line);
+    put_back(added, line, text)
+}
+
+/// Appends the text of a reply: its words with a space between, as the line of its return has them behind the call's
+/// number, and no line feed. An `Err`, which is out of memory, leaves the text as it was.
+pub fn write_reply(alloc: Global, reply: &Reply, text: &mut Vec<u8>) -> Result<(), AllocError>
+    ensures ok { OnOk result (text.new.items ≡ text.old.items ++ join_with_byte 32 (reply_words reply.now)) }
+    ensures err { OnErr result (text.new.items ≡ text.old.items) }
+{
+    let mut line = Addition::new(mem::replace(text, Vec::new(alloc)));
+    let added = push_reply(alloc, reply, &mut line);
+    put_back(added, line, text)
 }

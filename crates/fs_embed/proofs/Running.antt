@@ -1,0 +1,79 @@
+-- Steps of one seat up to its return, or up to a node that another call holds.
+use Rattle.std.proofs.Common.{◌≡◌, ℕ, ◌+◌, ◌<◌, ◌≤◌, Bool, true, false, Option, Some, None, IsSome, is_some, refl, sym, ap, ◌∙◌, subst, arith}
+use Rattle.fs_names.specs.Shapes.{Shape}
+use Rattle.fs_calls.specs.Forms.{form, reserves}
+use Rattle.fs_calls.specs.declared.call.Call.{Call}
+use Rattle.fs_calls.specs.declared.reply.Reply.{Reply}
+use Rattle.fs_nodes.specs.Graphs.{set_at}
+use Rattle.fs_laws.specs.OneCall.{IsNoReturn, StepsTo, Goes_on}
+use Rattle.fs_laws.specs.Progress.{GoesOn}
+use Rattle.fs_laws.specs.States.{State, Begins, Begun_as, Reserves, Run, Step, Stepped, Idle, Took, Busy, LetGo, Helped, Committed, CarriedOut, Returned}
+use Rattle.fs_laws.specs.StepsLeft.{steps_left}
+use Rattle.fs_laws.proofs.states.StepsTakeWork.{takes_work}
+use Rattle.fs_laws.proofs.events.Help.{upd_here}
+use Rattle.fs_core.specs.Answers.{stepped_as}
+use Rattle.fs_core.specs.declared.outcome.Stepped.{Stepped as Answer}
+use Rattle.fs_core.specs.declared.outcome.Stepped.TheVariants as answers
+use Rattle.fs_embed.specs.Calls.{Steps, Still, Then, IsWaiting}
+
+-- steps before those up to a return are steps up to it
+pub steps_to : (seat : ℕ) (r : Reply) (new : State) {old middle : State} → Steps seat old middle → StepsTo seat r new middle → StepsTo seat r new old
+steps_to seat r new Still rest = rest
+steps_to seat r new (Then answer on before step) rest = steps_to seat r new before (Goes_on answer _ on step rest)
+
+-- a step that waits changes nothing, and the next one would wait too
+pub waits : (seat node holder : ℕ) (first old new : State) → Steps seat first old → Step old seat (Busy node holder) new → Steps seat first new × IsWaiting new seat holder
+waits seat node holder first old new before step =
+    let same : old ≡ new = sym step.4 in
+    (subst (λ (s : State). Steps seat first s) same before, (node, subst (λ (s : State). Step s seat (Busy node holder) s) same (step.0, step.1, step.2, step.3, refl)))
+
+-- a step that does not return leaves the call on its seat
+pub keeps : (seat : ℕ) (answer : Stepped) (old new : State) → IsNoReturn answer → Step old seat answer new → new.on_seat seat ≡ old.on_seat seat
+keeps seat Idle old new on step = ap (λ (s : State). s.on_seat seat) step.1
+keeps seat (Took n) old new on step = ap (λ (s : State). s.on_seat seat) step.4
+keeps seat (Busy n d) old new on step = ap (λ (s : State). s.on_seat seat) step.4
+keeps seat (LetGo n) old new on step = ap (λ (s : State). s.on_seat seat) step.3
+keeps seat (Helped d) old new on step = ap (λ (s : State). s.on_seat seat) step.8
+keeps seat Committed old new on step = ap (λ (s : State). s.on_seat seat) step.6
+keeps seat CarriedOut old new on step = ap (λ (s : State). s.on_seat seat) step.6
+keeps seat (Returned r) old new on step = absurd on
+
+-- a step by which a call went on leaves less to do
+pub less : (seat : ℕ) (answer : Stepped) (old new : State) → Run old → GoesOn answer → Step old seat answer new → steps_left new < steps_left old
+less seat answer old new run goes step = let w : steps_left new + 1 ≤ steps_left old = takes_work old run seat answer new step goes in omega (arith, w)
+
+-- ---- what the core answered
+
+-- an answer that is no return
+pub no_return : (answer : Answer) → ((r : Reply) → answer ≡ answers.Returned r → ⊥) → IsNoReturn (stepped_as answer)
+no_return answers.Idle ends = tt
+no_return (answers.Took n) ends = tt
+no_return (answers.Busy n d) ends = tt
+no_return (answers.LetGo n) ends = tt
+no_return (answers.Helped d) ends = tt
+no_return answers.Committed ends = tt
+no_return answers.CarriedOut ends = tt
+no_return (answers.Returned r) ends = ends r refl
+
+-- a step of a seat with a call under way, which does not wait and does not return, goes on with the call
+pub goes : (seat : ℕ) (answer : Answer) (old new : State) → IsSome (old.on_seat seat) → Step old seat (stepped_as answer) new
+    → ((n d : ℕ) → answer ≡ answers.Busy n d → ⊥) → ((r : Reply) → answer ≡ answers.Returned r → ⊥) → GoesOn (stepped_as answer)
+goes seat answers.Idle old new there step busy ends = let none : is_some (old.on_seat seat) ≡ false = ap is_some step.0 in absurd (let z : ◌≡◌ {A = Bool} false true = sym none ∙ there in cc)
+goes seat (answers.Took n) old new there step busy ends = tt
+goes seat (answers.Busy n d) old new there step busy ends = absurd (busy n d refl)
+goes seat (answers.LetGo n) old new there step busy ends = tt
+goes seat (answers.Helped d) old new there step busy ends = tt
+goes seat answers.Committed old new there step busy ends = tt
+goes seat answers.CarriedOut old new there step busy ends = tt
+goes seat (answers.Returned r) old new there step busy ends = tt
+
+-- the call of a begin is on its seat
+pub seated : (seat number : ℕ) (call : Call) (old new : State) → Begins old seat call (Begun_as number) new → IsSome (new.on_seat seat)
+seated seat number call old new begins = on_it (reserves (form call)) begins.2
+  where
+    here : (seat number : ℕ) (on_seat : ℕ → Option ℕ) → IsSome (set_at seat (Some number) on_seat seat)
+    here seat number on_seat = ap is_some (upd_here seat (Some number) on_seat)
+
+    on_it : (wanted : Option Shape) → Reserves old seat call number wanted new → IsSome (new.on_seat seat)
+    on_it None is = ap (λ (s : State). is_some (s.on_seat seat)) is ∙ here seat number old.on_seat
+    on_it (Some shape) (n, below, free, is) = ap (λ (s : State). is_some (s.on_seat seat)) is ∙ here seat number old.on_seat

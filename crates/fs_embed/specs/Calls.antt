@@ -1,0 +1,91 @@
+-- What begins, steps and calls that are given as lines do to a core.
+use Rattle.std.specs.Prelude.{◌≡◌, ℕ, ◌≤◌, List, Result, Ok, Err, length}
+use Rattle.fs_calls.specs.declared.call.Call.{Call}
+use Rattle.fs_calls.specs.declared.reply.Reply.{Reply}
+use Rattle.fs_text.specs.declared.fault.FaultKind.{FaultKind}
+use Rattle.fs_text.specs.declared.fault.FaultKind.TheVariants as kind
+use Rattle.fs_text.specs.Calls.{◌>>=◌, call_of}
+use Rattle.fs_text.specs.Journal.{words_of}
+use Rattle.fs_laws.specs.OneCall.{IsNoReturn, StepsTo}
+use Rattle.fs_laws.specs.States as machine
+use Rattle.fs_laws.specs.States.{State, Begins, Step}
+use Rattle.fs_core.specs.Answers.{stepped_as}
+use Rattle.fs_core.specs.Events.{refused_as}
+use Rattle.fs_core.specs.Machines.{Machine, state_of}
+use Rattle.fs_core.specs.declared.outcome.Stepped.{Stepped}
+use Rattle.fs_core.specs.declared.outcome.Stepped.TheVariants.{Idle, Took, Busy, LetGo, Helped, Committed, CarriedOut, Returned}
+use Rattle.fs_embed.specs.declared.calls.NotBegun.{NotBegun}
+use Rattle.fs_embed.specs.declared.calls.NotBegun.TheVariants as not_begun
+use Rattle.fs_embed.specs.declared.calls.NotReturned.{NotReturned}
+use Rattle.fs_embed.specs.declared.calls.NotReturned.TheVariants as not_returned
+
+-- the call that a line spells, or what is wrong with the line
+abbrev pub call_in : List ℕ → Result Call FaultKind
+call_in line = words_of line >>= call_of
+
+-- the call of a line begins on a seat under a number, and this is the state after
+abbrev pub Opens : Machine → ℕ → List ℕ → ℕ → State → Type 0
+Opens old seat line number first = (call : Call) × (call_in line ≡ Ok call) × Begins (state_of old) seat call (machine.Begun_as number) first
+
+-- the same, and nothing else happens
+abbrev pub BeginsLine : Machine → ℕ → List ℕ → ℕ → Machine → Type 0
+BeginsLine old seat line number new = Opens old seat line number (state_of new)
+
+-- a line that is no call; out of memory says nothing of the line
+abbrev pub IsNoCall : List ℕ → FaultKind → Type 0
+IsNoCall line kind.OutOfMemory = Unit {0}
+IsNoCall line k = call_in line ≡ Err k
+
+-- why the call of a line did not begin, and that nothing changed
+abbrev pub IsNotBegun : Machine → ℕ → List ℕ → NotBegun → Machine → Type 0
+IsNotBegun old seat line not_begun.NoSeat new = (length old.seats ≤ seat) × (new ≡ old)
+IsNotBegun old seat line (not_begun.Line k) new = IsNoCall line k × (new ≡ old)
+IsNotBegun old seat line (not_begun.Refused refusal) new = (call : Call) × (call_in line ≡ Ok call) × Begins (state_of old) seat call (refused_as refusal) (state_of new)
+
+-- steps of a seat, none or more, of which none returns
+pub data Steps (seat : ℕ) : State → State → Type 0 where
+  Still : {state : State} → Steps seat state state
+  Then : {old middle new : State} (answer : machine.Stepped) → IsNoReturn answer → Steps seat old middle → Step middle seat answer new → Steps seat old new
+
+-- the call of a line begins under a number, and steps of its seat follow, up to the one that returns with this reply
+abbrev pub RunsLine : Machine → ℕ → List ℕ → ℕ → Reply → Machine → Type 0
+RunsLine old seat line number reply new = (first : State) × Opens old seat line number first × StepsTo seat reply (state_of new) first
+
+-- the next step of a seat finds a node held by this call, and changes nothing
+abbrev pub IsWaiting : State → ℕ → ℕ → Type 0
+IsWaiting state seat holder = (node : ℕ) × Step state seat (machine.Busy node holder) state
+
+-- the call of a line begins under a number, and steps of its seat follow, up to one that finds a node held by this call
+abbrev pub WaitsLine : Machine → ℕ → List ℕ → ℕ → ℕ → Machine → Type 0
+WaitsLine old seat line number holder new = (first : State) × Opens old seat line number first × Steps seat first (state_of new) × IsWaiting (state_of new) seat holder
+
+-- why the call of a line did not return: it did not begin, and nothing changed; or it is under way and waits
+abbrev pub IsNotReturned : Machine → ℕ → List ℕ → NotReturned → Machine → Type 0
+IsNotReturned old seat line (not_returned.NotBegun why) new = IsNotBegun old seat line why new
+IsNotReturned old seat line (not_returned.Waits number holder) new = WaitsLine old seat line number holder new
+
+-- the number of what a step did
+abbrev pub code_of : Stepped → ℕ
+code_of Idle = 0
+code_of (Took n) = 1
+code_of (Busy n c) = 2
+code_of (LetGo n) = 3
+code_of (Helped c) = 4
+code_of Committed = 5
+code_of CarriedOut = 6
+code_of (Returned r) = 7
+
+-- what it did it to: the call that holds the node or that was helped, else the node, else nothing
+abbrev pub about_of : Stepped → ℕ
+about_of Idle = 0
+about_of (Took n) = n
+about_of (Busy n c) = c
+about_of (LetGo n) = n
+about_of (Helped c) = c
+about_of Committed = 0
+about_of CarriedOut = 0
+about_of (Returned r) = 0
+
+-- a step of a seat, told by two numbers
+abbrev pub StepsAs : Machine → ℕ → ℕ → ℕ → Machine → Type 0
+StepsAs old seat code about new = (answer : Stepped) × (code ≡ code_of answer) × (about ≡ about_of answer) × Step (state_of old) seat (stepped_as answer) (state_of new)

@@ -1,0 +1,162 @@
+//! Calls that are given as lines.
+
+ghost use Rattle.std.specs.Prelude.{◌≡◌, ◌<◌, ◌≤◌, length, IfOk, OnOk, IfErr, IsSome, MatchOption, MatchBool};
+ghost use Rattle.fs_laws.specs.OneCall.{StepsTo};
+ghost use Rattle.fs_core.specs.Machines.{state_of};
+ghost use Rattle.fs_text.specs.code.Answers.{Gives};
+ghost use Rattle.fs_embed.specs.Calls.{call_in, BeginsLine, IsNotBegun, RunsLine, IsNotReturned, Steps, IsWaiting, StepsAs, code_of, about_of};
+
+use fs_calls::{Call, Reply};
+use fs_core::{Core, Refusal, Stepped};
+use fs_names::{CallNo, SeatNo};
+use fs_text::FaultKind;
+use fs_text::calls::call_at;
+use fs_text::lines::cut_words;
+use std::alloc::Global;
+
+/// Why the call of a line did not begin. Nothing has changed by it.
+#[derive(Clone, Copy, Debug, PartialEq, Eq)]
+pub enum NotBegun {
+    /// There is no such seat.
+    NoSeat,
+    /// The line spells no call: what is wrong with it, or out of memory as it was read.
+    Line(FaultKind),
+    /// The core refused the call.
+    Refused(Refusal),
+}
+
+/// A call that returned: its number, and its reply.
+#[derive(Drop)]
+pub struct Returned {
+    pub number: CallNo,
+    pub reply: Reply,
+}
+
+/// Why the call of a line did not return.
+#[derive(Clone, Copy, Debug, PartialEq, Eq)]
+pub enum NotReturned {
+    /// It did not begin, and nothing has changed.
+    NotBegun(NotBegun),
+    /// The call of the first number is under way on its seat, and waits for a node that the call of the second holds.
+    Waits(CallNo, CallNo),
+}
+
+/// What a step did, as numbers: which answer it was, and what it speaks of (the call that holds the node or that was
+/// helped, else the node, else 0).
+#[derive(Clone, Copy, Debug, PartialEq, Eq)]
+pub struct StepTold {
+    pub code: u8,
+    pub about: u64,
+}
+
+/// The call that a line spells.
+fn read_call(alloc: Global, line: &[u8]) -> Result<Call, FaultKind>
+    ensures { Gives (λ call. call) result (call_in line.now) }
+{
+    let mut words = Vec::new(alloc);
+    if let Err(kind) = cut_words(line, &mut words) {
+        return Err(kind);
+    }
+    call_at(alloc, words.as_slice())
+}
+
+/// Whether a core has this seat.
+fn has_seat(core: &Core, seat: SeatNo) -> bool
+    ensures { MatchBool result (seat < length core.now.seats) (length core.now.seats ≤ seat) }
+{
+    seat.get() < core.seats() as u64
+}
+
+/// Begins the call that a line spells on a seat, and answers its number.
+pub fn begin_line(
+    alloc: Global,
+    core: &mut Core,
+    seat: SeatNo,
+    line: &[u8],
+) -> Result<CallNo, NotBegun>
+    ensures begun { IfOk result (λ number. BeginsLine core.old seat line.now number core.new) }
+    ensures seat { OnOk result (seat < length core.old.seats) }
+    ensures refused { IfErr result (λ why. IsNotBegun core.old seat line.now why core.new) }
+    ensures seats { length core.new.seats ≡ length core.old.seats }
+{
+    if !has_seat(core, seat) {
+        return Err(NotBegun::NoSeat);
+    }
+    let call = match read_call(alloc, line) {
+        Ok(call) => call,
+        Err(kind) => return Err(NotBegun::Line(kind)),
+    };
+    match core.begin(alloc, seat, &call) {
+        Ok(number) => Ok(number),
+        Err(refusal) => Err(NotBegun::Refused(refusal)),
+    }
+}
+
+/// Steps of a seat with a call under way, until it returns or waits: its reply, or the number of the call it waits for.
+fn finish(core: &mut Core, seat: SeatNo) -> Result<Reply, CallNo>
+    requires seat { seat < length core.old.seats }
+    requires under_way { IsSome ((state_of core.old).on_seat seat) }
+    ensures returned { IfOk result (λ reply. StepsTo seat reply (state_of core.new) (state_of core.old)) }
+    ensures waits { IfErr result (λ holder. Steps seat (state_of core.old) (state_of core.new) × IsWaiting (state_of core.new) seat holder) }
+    ensures seats { length core.new.seats ≡ length core.old.seats }
+{
+    'steps: loop {
+        core.told();
+        match core.step(seat) {
+            Stepped::Returned(reply) => return Ok(reply),
+            Stepped::Busy(_, holder) => return Err(holder),
+            _ => {}
+        }
+    }
+}
+
+/// Runs the call that a line spells on a seat, from its begin to its return. A call that comes to a node which a call of
+/// another seat holds stays under way there: `step_seat` goes on with it.
+pub fn run_line(
+    alloc: Global,
+    core: &mut Core,
+    seat: SeatNo,
+    line: &[u8],
+) -> Result<Returned, NotReturned>
+    ensures returned { IfOk result (λ done. RunsLine core.old seat line.now done.number done.reply core.new) }
+    ensures unreturned { IfErr result (λ why. IsNotReturned core.old seat line.now why core.new) }
+    ensures seats { length core.new.seats ≡ length core.old.seats }
+{
+    let number = match begin_line(alloc, core, seat, line) {
+        Ok(number) => number,
+        Err(why) => return Err(NotReturned::NotBegun(why)),
+    };
+    match finish(core, seat) {
+        Ok(reply) => Ok(Returned { number, reply }),
+        Err(holder) => Err(NotReturned::Waits(number, holder)),
+    }
+}
+
+/// What a step did, as numbers.
+fn told(stepped: &Stepped) -> StepTold
+    ensures code { result.code ≡ code_of stepped.now }
+    ensures about { result.about ≡ about_of stepped.now }
+{
+    let (code, about) = match stepped {
+        Stepped::Idle => (0, 0),
+        Stepped::Took(node) => (1, node.get() as u64),
+        Stepped::Busy(_, holder) => (2, holder.get()),
+        Stepped::LetGo(node) => (3, node.get() as u64),
+        Stepped::Helped(helped) => (4, helped.get()),
+        Stepped::Committed => (5, 0),
+        Stepped::CarriedOut => (6, 0),
+        Stepped::Returned(_) => (7, 0),
+    };
+    StepTold { code, about }
+}
+
+/// Does one step of the call on a seat, and tells what it did; `None` where there is no such seat.
+pub fn step_seat(core: &mut Core, seat: SeatNo) -> Option<StepTold>
+    ensures step { MatchOption result ((length core.old.seats ≤ seat) × (core.new ≡ core.old)) (λ step. StepsAs core.old seat step.code step.about core.new) }
+    ensures seats { length core.new.seats ≡ length core.old.seats }
+{
+    if !has_seat(core, seat) {
+        return None;
+    }
+    Some(told(&core.step(seat)))
+}
