@@ -5,7 +5,7 @@ ghost use Rattle.std.specs.Prelude.{◌≡◌, ◌^◌};
 use crate::calls::{fits, is_new, mkdir, mknod, path, rename, stat};
 use fs_calls::{Bytes, Call};
 use fs_journal::check;
-use fs_share::{Answer, AtomFs, Closed, Named, Open, Tally};
+use fs_share::{Answer, AtomFs, Closed, Named, Open, Opened, Tally};
 use fs_timeline::{Entry, Verdict};
 use std::alloc::Global;
 use std::marker::Brand;
@@ -96,21 +96,19 @@ fn two_play<N: Named + Send + Sync, R: Threads + Wait + Clock + Sync>(
     Some((one?, other?))
 }
 
-fn on_four_threads<N: Named + Send + Sync, R: Threads + Wait + Clock + Sync>(
+/// The answers of four sessions, each of one list, and their tallies.
+type Sessions<N> = (Vec<Vec<Answer>>, Vec<Tally<N>>);
+
+fn four_play<N: Named + Send + Sync, R: Threads + Wait + Clock + Sync>(
     rt: &R,
     alloc: Global,
-    blank: Blank,
+    fs: &AtomFs<N>,
     list: &[Call],
-) -> Option<Four>
-    requires name { blank.name ≡ N.name }
-    requires parts { blank.parts ≡ N.parts }
-    requires all { blank.parts ≡ 2 ^ 63 }
-{
-    let fs = AtomFs::<N>::open(rt, alloc, blank).ok()?;
+) -> Option<Sessions<N>> {
     let (first, second) = thread::join(
         rt,
-        || two_play(rt, alloc, &fs, list),
-        || two_play(rt, alloc, &fs, list),
+        || two_play(rt, alloc, fs, list),
+        || two_play(rt, alloc, fs, list),
     );
     let mut answers = Vec::new(alloc);
     let mut tallies = Vec::new(alloc);
@@ -120,6 +118,26 @@ fn on_four_threads<N: Named + Send + Sync, R: Threads + Wait + Clock + Sync>(
         answers.push(other.answers).ok()?;
         tallies.push(other.tally).ok()?;
     }
+    Some((answers, tallies))
+}
+
+fn on_four_threads<N: Named + Send + Sync, R: Threads + Wait + Clock + Sync>(
+    rt: &R,
+    alloc: Global,
+    opened: Opened,
+    blank: Blank,
+    list: &[Call],
+) -> Option<Four>
+    requires book { opened ≡ N.book }
+    requires name { blank.name ≡ N.name }
+    requires parts { blank.parts ≡ N.parts }
+    requires all { blank.parts ≡ 2 ^ 63 }
+{
+    let fs = AtomFs::<N>::open(rt, alloc, opened, blank).ok()?;
+    let Some((answers, tallies)) = four_play(rt, alloc, &fs, list) else {
+        let _closed = fs.close(rt, Vec::new(alloc));
+        return None;
+    };
     Some(Four {
         answers,
         closed: fs.close(rt, tallies),
@@ -131,7 +149,7 @@ fn four_sessions<R: Threads + Wait + Clock + Sync>(
     alloc: Global,
     list: &[Call],
 ) -> Option<Four> {
-    on_four_threads::<Brand, R>(rt, alloc, Blank::new(1 << 63), list)
+    on_four_threads::<Brand, R>(rt, alloc, Opened::new(), Blank::new(1 << 63), list)
 }
 
 /// Whether each answer fits, and no two have one number.

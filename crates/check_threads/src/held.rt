@@ -8,7 +8,7 @@ use fs_calls::{Call, Reply};
 use fs_core::Stepped;
 use fs_names::{Kind, Path};
 use fs_nodes::{NodeNo, Store};
-use fs_share::{Answer, AtomFs, Closed, Gate, Named, Open, Tally};
+use fs_share::{Answer, AtomFs, Closed, Gate, Named, Open, Opened, Tally};
 use std::alloc::Global;
 use std::marker::Brand;
 use std::sync::Wait;
@@ -93,20 +93,18 @@ struct Both {
     closed: Closed,
 }
 
+/// What a held call and another one were answered, whether the flag was found, and the tallies of all sessions.
+type Met<N> = (Answer, Answer, bool, Vec<Tally<N>>);
+
 /// Makes the directories, then runs a call that is held and another one meanwhile.
-fn meet<N: Named + Send + Sync, R: Threads + Wait + Clock + Sync>(
+fn meet_on<N: Named + Send + Sync, R: Threads + Wait + Clock + Sync>(
     rt: &R,
     alloc: Global,
-    blank: Blank,
+    fs: &AtomFs<N>,
     made: &[Call],
     calls: (Call, Call),
     at: u64,
-) -> Option<Both>
-    requires name { blank.name ≡ N.name }
-    requires parts { blank.parts ≡ N.parts }
-    requires all { blank.parts ≡ 2 ^ 63 }
-{
-    let fs = AtomFs::<N>::open(rt, alloc, blank).ok()?;
+) -> Option<Met<N>> {
     let mut session = fs.session(rt).ok()?;
     for call in made {
         session.call(rt, alloc, call, &Open).ok()?;
@@ -116,18 +114,41 @@ fn meet<N: Named + Send + Sync, R: Threads + Wait + Clock + Sync>(
     let gate = Holds::new(at);
     let (a, b) = thread::join(
         rt,
-        || one(rt, alloc, &fs, &first, &gate),
-        || other(rt, alloc, &fs, &second, &gate),
+        || one(rt, alloc, fs, &first, &gate),
+        || other(rt, alloc, fs, &second, &gate),
     );
     let ((held, first), (other, second)) = (a?, b?);
     let mut tallies = Vec::new(alloc);
     tallies.push(made).ok()?;
     tallies.push(first).ok()?;
     tallies.push(second).ok()?;
+    Some((held, other, gate.found.load(Ordering::SeqCst) == 1, tallies))
+}
+
+/// The same on a tree of its own.
+fn meet<N: Named + Send + Sync, R: Threads + Wait + Clock + Sync>(
+    rt: &R,
+    alloc: Global,
+    opened: Opened,
+    blank: Blank,
+    made: &[Call],
+    calls: (Call, Call),
+    at: u64,
+) -> Option<Both>
+    requires book { opened ≡ N.book }
+    requires name { blank.name ≡ N.name }
+    requires parts { blank.parts ≡ N.parts }
+    requires all { blank.parts ≡ 2 ^ 63 }
+{
+    let fs = AtomFs::<N>::open(rt, alloc, opened, blank).ok()?;
+    let Some((held, other, found, tallies)) = meet_on(rt, alloc, &fs, made, calls, at) else {
+        let _closed = fs.close(rt, Vec::new(alloc));
+        return None;
+    };
     Some(Both {
         held,
         other,
-        found: gate.found.load(Ordering::SeqCst) == 1,
+        found,
         closed: fs.close(rt, tallies),
     })
 }
@@ -137,7 +158,15 @@ fn overlap<R: Threads + Wait + Clock + Sync>(rt: &R, alloc: Global) -> Option<Bo
     made.push(mkdir(alloc, b"/a")?).ok()?;
     made.push(mkdir(alloc, b"/b")?).ok()?;
     let calls = (mkdir(alloc, b"/a/x")?, stat(alloc, b"/b")?);
-    meet::<Brand, R>(rt, alloc, Blank::new(1 << 63), &made, calls, 1)
+    meet::<Brand, R>(
+        rt,
+        alloc,
+        Opened::new(),
+        Blank::new(1 << 63),
+        &made,
+        calls,
+        1,
+    )
 }
 
 /// Whether a call that is held lets another one return before it commits.
@@ -161,7 +190,15 @@ fn helped<R: Threads + Wait + Clock + Sync>(rt: &R, alloc: Global) -> Option<Bot
     made.push(mkdir(alloc, b"/a")?).ok()?;
     made.push(mkdir(alloc, b"/a/d")?).ok()?;
     let calls = (mkdir(alloc, b"/a/d/x")?, rename(alloc, b"/a", b"/b")?);
-    meet::<Brand, R>(rt, alloc, Blank::new(1 << 63), &made, calls, 2)
+    meet::<Brand, R>(
+        rt,
+        alloc,
+        Opened::new(),
+        Blank::new(1 << 63),
+        &made,
+        calls,
+        2,
+    )
 }
 
 /// Whether a path leads from the root to a directory.

@@ -6,7 +6,7 @@ use crate::calls::{fits, is_new, mknod, path, same_path};
 use fs_calls::{Call, Errno, Reply};
 use fs_journal::check;
 use fs_pool::{Collected, Done, NotTaken, Pool};
-use fs_share::{Answer, AtomFs, Closed, Named, Open};
+use fs_share::{Answer, AtomFs, Closed, Named, Open, Opened};
 use fs_timeline::{Entry, Verdict};
 use std::alloc::Global;
 use std::marker::Brand;
@@ -62,24 +62,39 @@ struct Worked {
     closed: Closed,
 }
 
+/// Whether a full pool handed a job back, and what became of the others.
+fn work_on<N: Named + Send + Sync, R: Threads + Wait + Clock + Sync>(
+    rt: &R,
+    alloc: Global,
+    fs: &AtomFs<N>,
+) -> Option<(bool, Collected<N>)> {
+    let mut pool = Pool::<N>::new(rt, alloc, JOBS as usize).ok()?;
+    let full = submit_all(alloc, &mut pool)? && hands_back(alloc, &mut pool)?;
+    pool.run(rt, alloc, fs, WORKERS, &Open).ok()?;
+    Some((full, pool.collect()))
+}
+
 fn work<N: Named + Send + Sync, R: Threads + Wait + Clock + Sync>(
     rt: &R,
     alloc: Global,
+    opened: Opened,
     blank: Blank,
 ) -> Option<Worked>
+    requires book { opened ≡ N.book }
     requires name { blank.name ≡ N.name }
     requires parts { blank.parts ≡ N.parts }
     requires all { blank.parts ≡ 2 ^ 63 }
 {
-    let fs = AtomFs::<N>::open(rt, alloc, blank).ok()?;
-    let mut pool = Pool::<N>::new(rt, alloc, JOBS as usize).ok()?;
-    let full = submit_all(alloc, &mut pool)? && hands_back(alloc, &mut pool)?;
-    pool.run(rt, alloc, &fs, WORKERS, &Open).ok()?;
+    let fs = AtomFs::<N>::open(rt, alloc, opened, blank).ok()?;
+    let Some((full, collected)) = work_on(rt, alloc, &fs) else {
+        let _closed = fs.close(rt, Vec::new(alloc));
+        return None;
+    };
     let Collected {
         done,
         left,
         tallies,
-    } = pool.collect();
+    } = collected;
     Some(Worked {
         full,
         done,
@@ -89,7 +104,7 @@ fn work<N: Named + Send + Sync, R: Threads + Wait + Clock + Sync>(
 }
 
 fn named_work<R: Threads + Wait + Clock + Sync>(rt: &R, alloc: Global) -> Option<Worked> {
-    work::<Brand, R>(rt, alloc, Blank::new(1 << 63))
+    work::<Brand, R>(rt, alloc, Opened::new(), Blank::new(1 << 63))
 }
 
 /// Whether the answer of a job is that of the timeline, under a number of its own.

@@ -7,7 +7,7 @@ use crate::waiting::is_set;
 use fs_calls::Call;
 use fs_core::Stepped;
 use fs_pool::Pool;
-use fs_share::{AtomFs, Closed, Gate, ListsFault, Named, Open, run_lists};
+use fs_share::{AtomFs, Closed, Gate, ListsFault, Named, Open, Opened, Tally, run_lists};
 use std::alloc::Global;
 use std::marker::Brand;
 use std::sync::Wait;
@@ -78,22 +78,38 @@ pub fn lists_meet<R: Threads + Wait + Clock + Sync>(rt: &R, alloc: Global) -> Op
 }
 
 /// Two jobs by two workers.
+fn jobs_on<N: Named + Send + Sync, R: Threads + Wait + Clock + Sync>(
+    rt: &R,
+    alloc: Global,
+    fs: &AtomFs<N>,
+    gate: &FirstWaits,
+) -> Option<Vec<Tally<N>>> {
+    let mut pool = Pool::<N>::new(rt, alloc, 2).ok()?;
+    pool.submit(stat(alloc, b"/x")?).ok()?;
+    pool.submit(stat(alloc, b"/y")?).ok()?;
+    pool.run(rt, alloc, fs, 2, gate).ok()?;
+    Some(pool.collect().tallies)
+}
+
+/// The same on a tree of its own.
 fn two_jobs<N: Named + Send + Sync, R: Threads + Wait + Clock + Sync>(
     rt: &R,
     alloc: Global,
+    opened: Opened,
     blank: Blank,
     gate: &FirstWaits,
 ) -> Option<Closed>
+    requires book { opened ≡ N.book }
     requires name { blank.name ≡ N.name }
     requires parts { blank.parts ≡ N.parts }
     requires all { blank.parts ≡ 2 ^ 63 }
 {
-    let fs = AtomFs::<N>::open(rt, alloc, blank).ok()?;
-    let mut pool = Pool::<N>::new(rt, alloc, 2).ok()?;
-    pool.submit(stat(alloc, b"/x")?).ok()?;
-    pool.submit(stat(alloc, b"/y")?).ok()?;
-    pool.run(rt, alloc, &fs, 2, gate).ok()?;
-    Some(fs.close(rt, pool.collect().tallies))
+    let fs = AtomFs::<N>::open(rt, alloc, opened, blank).ok()?;
+    let Some(tallies) = jobs_on(rt, alloc, &fs, gate) else {
+        let _closed = fs.close(rt, Vec::new(alloc));
+        return None;
+    };
+    Some(fs.close(rt, tallies))
 }
 
 fn named_jobs<R: Threads + Wait + Clock + Sync>(
@@ -101,7 +117,7 @@ fn named_jobs<R: Threads + Wait + Clock + Sync>(
     alloc: Global,
     gate: &FirstWaits,
 ) -> Option<Closed> {
-    two_jobs::<Brand, R>(rt, alloc, Blank::new(1 << 63), gate)
+    two_jobs::<Brand, R>(rt, alloc, Opened::new(), Blank::new(1 << 63), gate)
 }
 
 /// Whether the gate lets one worker's job return while it holds the other's.

@@ -1,2 +1,5 @@
 pub mod Counting
 pub mod Idle
+pub mod Placing
+pub mod Publishing
+pub mod Same

@@ -1,48 +1,39 @@
-//! What the lock keeps: the core, and the account of the calls that returned.
+//! What the lock keeps: the board, and the account of the calls that returned.
 
-ghost use Rattle.std.specs.Prelude.{◌≡◌, ◌+◌, ◌<◌, ◌^◌, length, sum_by, vec_len, IfOk};
+ghost use Rattle.std.specs.Prelude.{◌≡◌, ◌+◌, ◌<◌, ◌^◌, length, sum_by, vec_len, IfOk, IfSome};
 ghost use Rattle.fs_nodes.specs.Graphs.{graph_shapes};
 ghost use Rattle.fs_nodes.specs.Stores.{graph_of};
 ghost use Rattle.fs_calls.specs.Outcomes.{play};
 ghost use Rattle.fs_calls.specs.Shapes.{tree_shapes};
 ghost use Rattle.fs_timeline.specs.Timeline.{IsLawful, commits};
-ghost use Rattle.fs_laws.specs.States.{Begins, Step};
-ghost use Rattle.fs_core.specs.Answers.{stepped_as};
-ghost use Rattle.fs_core.specs.Machines.{state_of};
+ghost use Rattle.fs_share.specs.Boards.{IsListed};
 ghost use Rattle.fs_share.specs.Returns.{answered, returns, AllReturned};
 
+use crate::board::Board;
 use crate::session::Tally;
-use crate::tree::{Closed, Named, Whole};
-use fs_calls::Call;
-use fs_core::{Core, Refusal, Stepped};
+use crate::tree::{Closed, Whole};
+use fs_calls::{Call, Reply};
+use fs_core::{Refusal, Stepped};
 use fs_names::{CallNo, SeatNo};
 use fs_nodes::NodeNo;
+use fs_observe::{Named, NoPlace, Observer, Stamp};
 use std::alloc::{AllocError, Global};
+use std::sync::Wait;
 use std::sync::ledger::{Book, Share};
 
 /// The most seats that there may be: a part of the ledger is left for each.
 const MOST_SEATS: usize = usize::MAX / 4;
 
-/// The core, the book of the calls that returned, with a part of its ledger left for each seat that is still to be
-/// made, and how many sessions wait for a node.
-#[derive(Drop)]
+/// The board, the book of the calls that returned, with a part of its ledger left for each seat that is still to be made,
+/// and how many sessions wait for a node. It is not `Drop`: end it by `close`.
 pub(crate) struct Desk<N: Named> {
-    pub core: Core,
+    pub board: Board<N>,
     pub book: Book<N>,
     pub rest: Share<N>,
     pub waiting: u64,
-    ghost counted: { returns core.timeline ≡ book.total },
-    ghost parts: { rest.parts + length core.seats ≡ 2 ^ 63 },
+    ghost counted: { returns board.core.timeline ≡ book.total },
+    ghost parts: { rest.parts + length board.core.seats ≡ 2 ^ 63 },
     ghost nothing: { rest.amount ≡ 0 },
-}
-
-/// What a worker does while it is lent the core: one step of its seat's call.
-pub fn advance(core: &mut Core, seat: SeatNo) -> Stepped
-    requires seat { seat < length core.old.seats }
-    ensures step { Step (state_of core.old) seat (stepped_as result) (state_of core.new) }
-    ensures seats { length core.new.seats ≡ length core.old.seats }
-{
-    core.step(seat)
 }
 
 /// 1 where the call returned.
@@ -56,23 +47,23 @@ pub(crate) fn count_of(stepped: &Stepped) -> u64
 }
 
 /// One step of a seat's call; where the seat is not there, no call is under way on it.
-fn step_on(core: &mut Core, seat: SeatNo) -> Stepped
-    ensures returns { returns core.new.timeline ≡ returns core.old.timeline + answered result }
-    ensures seats { length core.new.seats ≡ length core.old.seats }
+fn step_on<N: Named>(board: &mut Board<N>, seat: SeatNo) -> Stepped
+    ensures returns { returns board.new.core.timeline ≡ returns board.old.core.timeline + answered result }
+    ensures seats { length board.new.core.seats ≡ length board.old.core.seats }
 {
-    if seat.get() < core.seats() as u64 {
-        advance(core, seat)
+    if seat.get() < board.core().seats() as u64 {
+        board.step(seat)
     } else {
         Stepped::Idle
     }
 }
 
 /// How many entries there are.
-fn entry_count(core: &Core) -> usize
-    ensures count { result ≡ length core.now.timeline }
+fn entry_count<N: Named>(board: &Board<N>) -> usize
+    ensures count { result ≡ length board.now.core.timeline }
     ensures bound { result < 2 ^ 64 }
 {
-    core.timeline().len()
+    board.core().timeline().len()
 }
 
 impl<N: Named> Desk<N> {
@@ -80,20 +71,20 @@ impl<N: Named> Desk<N> {
     pub fn seat(&mut self) -> Result<(SeatNo, Share<N>), AllocError>
         ensures { IfOk result (λ made. (made.1.parts ≡ 1) × (made.1.amount ≡ 0)) }
     {
-        let Desk { core, rest, .. } = self;
-        if core.seats() >= MOST_SEATS {
+        let Desk { board, rest, .. } = self;
+        if board.core().seats() >= MOST_SEATS {
             return Err(AllocError);
         }
-        let seat = core.seat()?;
+        let seat = board.seat()?;
         Ok((seat, rest.split_off(1, 0)))
     }
 
     /// A call begins on a seat.
     pub fn begin(&mut self, alloc: Global, seat: SeatNo, call: &Call) -> Result<CallNo, Refusal> {
-        if seat.get() >= self.core.seats() as u64 {
+        if seat.get() >= self.board.core().seats() as u64 {
             return Err(Refusal::SeatBusy);
         }
-        self.core.begin(alloc, seat, call)
+        self.board.begin(alloc, seat, call)
     }
 
     /// One step of a seat's call. A call that returns counts for the share.
@@ -103,37 +94,59 @@ impl<N: Named> Desk<N> {
         ensures amount { mine.new.amount ≡ mine.old.amount + answered result }
         ensures room { mine.new.amount < 2 ^ 64 }
     {
-        let Desk { core, book, .. } = self;
-        let stepped = step_on(core, seat);
+        let Desk { board, book, .. } = self;
+        let stepped = step_on(board, seat);
         book.add(mine, count_of(&stepped));
-        let _room = entry_count(core);
+        let _room = entry_count(board);
         book.audit(mine);
         stepped
     }
 
     /// Whether a call holds a node.
     pub fn is_held(&self, node: NodeNo) -> bool {
-        self.core.holder(node).is_some()
+        self.board.core().holder(node).is_some()
+    }
+
+    /// An observer that was told nothing yet.
+    pub fn observer(&mut self) -> Result<Observer<N>, NoPlace> {
+        let Desk { board, .. } = self;
+        board.observer()
+    }
+
+    /// Publishes each commit, and tells of a call.
+    pub fn tell<R: Wait>(
+        &mut self,
+        rt: &R,
+        alloc: Global,
+        number: CallNo,
+        call: &Call,
+        reply: &Reply,
+    ) -> (usize, Option<Stamp<N>>)
+        ensures { IfSome result.1 (λ stamp. IsListed stamp result.0 call.now reply.now) }
+    {
+        let Desk { board, .. } = self;
+        board.tell(rt, alloc, number, call, reply)
     }
 
     /// The timeline, the nodes and the number of seats. The tallies are of this tree, by their type.
-    pub fn close(self, whole: Whole<N>, tallies: Vec<Tally<N>>) -> Closed
-        ensures sessions { result.sessions ≡ length self.core.seats }
+    pub fn close<R: Wait>(self, rt: &R, whole: Whole<N>, tallies: Vec<Tally<N>>) -> Closed
+        ensures sessions { result.sessions ≡ length self.board.core.seats }
         ensures lawful { IsLawful result.timeline.entries }
         ensures spelled { AllReturned result.timeline.entries → graph_shapes (graph_of result.store) ≡ tree_shapes (play (commits result.timeline.entries)) }
         ensures returns { vec_len tallies ≡ result.sessions → returns result.timeline.entries ≡ sum_by (λ tally. tally.count) tallies.items }
     {
         let Desk {
-            core,
+            board,
             mut book,
             mut rest,
-            ..
+            waiting: _,
         } = self;
         for tally in tallies {
             rest.merge(tally.share);
         }
         book.audit(&mut rest);
         let _whole = whole;
+        let core = board.close(rt);
         core.told();
         let sessions = core.seats();
         let (timeline, store) = core.into_parts();

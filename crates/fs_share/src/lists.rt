@@ -10,9 +10,10 @@ ghost use Rattle.fs_share.specs.Returns.{returns, AllReturned};
 
 use crate::gate::Gate;
 use crate::session::Tally;
-use crate::tree::{AtomFs, Closed, Named};
+use crate::tree::{AtomFs, Closed};
 use fs_calls::Call;
 use fs_core::Refusal;
+use fs_observe::{Named, Opened};
 use std::alloc::Global;
 use std::marker::Brand;
 use std::sync::Wait;
@@ -161,10 +162,12 @@ fn play_lists<N: Named + Send + Sync, R: Threads + Wait + Clock + Sync, G: Gate 
 fn run_named<N: Named + Send + Sync, R: Threads + Wait + Clock + Sync, G: Gate + Sync>(
     rt: &R,
     alloc: Global,
+    opened: Opened,
     blank: Blank,
     lists: &[Vec<Call>],
     gate: &G,
 ) -> Result<Closed, ListsFault>
+    requires book { opened ≡ N.book }
     requires name { blank.name ≡ N.name }
     requires parts { blank.parts ≡ N.parts }
     requires all { blank.parts ≡ 2 ^ 63 }
@@ -172,16 +175,21 @@ fn run_named<N: Named + Send + Sync, R: Threads + Wait + Clock + Sync, G: Gate +
     ensures spelled { IfOk result (λ closed. AllReturned closed.timeline.entries → graph_shapes (graph_of closed.store) ≡ tree_shapes (play (commits closed.timeline.entries))) }
     ensures returns { IfOk result (λ closed. returns closed.timeline.entries ≡ sum_by vec_len lists.now) }
 {
-    let Ok(fs) = AtomFs::<N>::open(rt, alloc, blank) else {
-        return Err(out_of_memory());
-    };
-    let tallies = play_lists(rt, alloc, &fs, lists, gate)?;
-    let workers = tallies.len();
-    let closed = fs.close(rt, tallies);
-    if closed.sessions != workers {
-        return Err(ListsFault::NoWorker);
+    let fs = AtomFs::<N>::open(rt, alloc, opened, blank).map_err(|_| out_of_memory())?;
+    match play_lists(rt, alloc, &fs, lists, gate) {
+        Ok(tallies) => {
+            let workers = tallies.len();
+            let closed = fs.close(rt, tallies);
+            if closed.sessions != workers {
+                return Err(ListsFault::NoWorker);
+            }
+            Ok(closed)
+        }
+        Err(fault) => {
+            let _lost = fs.close(rt, Vec::new(alloc));
+            Err(fault)
+        }
     }
-    Ok(closed)
 }
 
 /// Plays each list on a new tree by a worker of its own, with a session of its own, and ends the tree.
@@ -195,5 +203,5 @@ pub fn run_lists<R: Threads + Wait + Clock + Sync, G: Gate + Sync>(
     ensures spelled { IfOk result (λ closed. AllReturned closed.timeline.entries → graph_shapes (graph_of closed.store) ≡ tree_shapes (play (commits closed.timeline.entries))) }
     ensures returns { IfOk result (λ closed. returns closed.timeline.entries ≡ sum_by vec_len lists.now) }
 {
-    run_named::<Brand, R, G>(rt, alloc, Blank::new(1 << 63), lists, gate)
+    run_named::<Brand, R, G>(rt, alloc, Opened::new(), Blank::new(1 << 63), lists, gate)
 }

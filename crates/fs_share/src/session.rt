@@ -1,15 +1,17 @@
 //! What one thread holds of a tree.
 
-ghost use Rattle.std.specs.Prelude.{◌≡◌, ◌+◌, OnOk, OnErr};
+ghost use Rattle.std.specs.Prelude.{◌≡◌, ◌+◌, IfOk, IfSome, OnOk, OnErr};
+ghost use Rattle.fs_share.specs.Boards.{IsListed};
 ghost use Rattle.fs_share.specs.Returns.{answered};
 
 use crate::desk::count_of;
 use crate::gate::Gate;
-use crate::tree::{AtomFs, Named};
+use crate::tree::AtomFs;
 use fs_calls::{Call, Reply};
 use fs_core::{Refusal, Stepped};
 use fs_names::{CallNo, SeatNo};
 use fs_nodes::NodeNo;
+use fs_observe::{Named, Stamp};
 use std::alloc::Global;
 use std::sync::Wait;
 use std::sync::ledger::Share;
@@ -20,6 +22,15 @@ use std::time::Clock;
 pub struct Answer {
     pub call: CallNo,
     pub reply: Reply,
+}
+
+/// An answer that can be handed on: how many commits stand before the call's own, and a stamp that tells a published list
+/// with the call. There is no stamp where no memory was left to publish; a later publishing then shows the call too.
+#[derive(Drop)]
+pub struct Told<N: Named> {
+    pub answer: Answer,
+    pub place: usize,
+    pub stamp: Option<Stamp<N>>,
 }
 
 /// A seat of one's own in a tree.
@@ -75,6 +86,30 @@ impl<'a, N: Named> Session<'a, N> {
             };
         }
         unreachable!()
+    }
+
+    /// The same as `call`, and then publishes each commit. Whoever has the stamp can have any observer of the tree show
+    /// the call; `place` and the stamp rest on what is compared under the lock at publishing.
+    pub fn call_told<R: Wait + Clock, G: Gate>(
+        &mut self,
+        rt: &R,
+        alloc: Global,
+        call: &Call,
+        gate: &G,
+    ) -> Result<Told<N>, Refusal>
+        ensures ok { OnOk result (self.new.count ≡ self.old.count + 1) }
+        ensures err { OnErr result (self.new.count ≡ self.old.count) }
+
+        // The call stands at the place in the stamp's list, and the reply is the sequential tree's after the calls before it.
+        ensures told { IfOk result (λ told. IfSome told.stamp (λ stamp. IsListed stamp told.place call.now told.answer.reply)) }
+    {
+        let answer = self.call(rt, alloc, call, gate)?;
+        let (place, stamp) = self.fs.tell(rt, alloc, answer.call, call, &answer.reply);
+        Ok(Told {
+            answer,
+            place,
+            stamp,
+        })
     }
 
     /// One step under the lock, once the node that is wanted is free.

@@ -1,29 +1,27 @@
 //! A tree that sessions share, and its end.
 
-ghost use Rattle.std.specs.Prelude.{◌≡◌, ◌+◌, ◌<◌, ◌^◌, length, vec_len, sum_by, IfOk};
+ghost use Rattle.std.specs.Prelude.{◌≡◌, ◌+◌, ◌<◌, ◌^◌, length, vec_len, sum_by, IfOk, IfSome};
 ghost use Rattle.fs_nodes.specs.Graphs.{graph_shapes};
 ghost use Rattle.fs_nodes.specs.Stores.{graph_of};
 ghost use Rattle.fs_calls.specs.Outcomes.{play};
 ghost use Rattle.fs_calls.specs.Shapes.{tree_shapes};
 ghost use Rattle.fs_timeline.specs.Timeline.{IsLawful, commits};
+ghost use Rattle.fs_share.specs.Boards.{IsListed};
 ghost use Rattle.fs_share.specs.Returns.{answered, returns, AllReturned};
 
+use crate::board::Board;
 use crate::desk::Desk;
 use crate::session::{Session, Tally};
-use fs_calls::Call;
-use fs_core::{Core, Refusal, Stepped};
+use fs_calls::{Call, Reply};
+use fs_core::{Refusal, Stepped};
 use fs_names::{CallNo, SeatNo};
 use fs_nodes::{NodeNo, Store};
+use fs_observe::{Named, NoPlace, Observer, Opened, Stamp};
 use fs_timeline::Timeline;
 use std::alloc::{AllocError, Global};
-use std::marker::{Brand, PhantomData};
-use std::sync::ledger::{Blank, Ledger, Share};
+use std::marker::PhantomData;
+use std::sync::ledger::{Blank, Share};
 use std::sync::{Condvar, Mutex, MutexGuard, Wait};
-
-/// Names a tree.
-pub trait Named: Ledger {}
-
-impl Named for Brand {}
 
 /// That the tree's ledger has 2^63 parts.
 #[derive(Drop)]
@@ -32,8 +30,7 @@ pub(crate) struct Whole<N: Named> {
     ghost parts: { N.parts ≡ 2 ^ 63 },
 }
 
-/// A tree that sessions share.
-#[derive(Drop)]
+/// A tree that sessions share, and that observers read. It is not `Drop`: end it by `close`.
 pub struct AtomFs<N: Named> {
     desk: Mutex<Desk<N>>,
     freed: Condvar,
@@ -49,17 +46,23 @@ pub struct Closed {
 }
 
 impl<N: Named> AtomFs<N> {
-    /// A tree with the root alone. The only error is out of memory.
-    pub fn open<R: Wait>(_rt: &R, alloc: Global, blank: Blank) -> Result<AtomFs<N>, AllocError>
+    /// A tree with the root alone, under the name of this blank and this history. The only error is out of memory.
+    pub fn open<R: Wait>(
+        rt: &R,
+        alloc: Global,
+        opened: Opened,
+        blank: Blank,
+    ) -> Result<AtomFs<N>, AllocError>
+        requires book { opened ≡ N.book }
         requires name { blank.name ≡ N.name }
         requires parts { blank.parts ≡ N.parts }
         requires all { blank.parts ≡ 2 ^ 63 }
     {
-        let core = Core::new(alloc)?;
+        let board = Board::open(rt, alloc, opened)?;
         let (book, rest) = blank.open::<N>();
         Ok(AtomFs {
             desk: Mutex::new(Desk {
-                core,
+                board,
                 book,
                 rest,
                 waiting: 0,
@@ -73,13 +76,24 @@ impl<N: Named> AtomFs<N> {
     pub fn session<R: Wait>(&self, rt: &R) -> Result<Session<'_, N>, AllocError>
         ensures { IfOk result (λ session. session.count ≡ 0) }
     {
-        let (seat, share) = self.desk.lock(rt).seat()?;
+        let mut desk = self.desk.lock(rt);
+        let made = desk.seat();
+        MutexGuard::unlock(desk);
+        let (seat, share) = made?;
         Ok(Session {
             fs: self,
             seat,
             count: 0,
             share,
         })
+    }
+
+    /// An observer that was told nothing yet. The error is that none of the 64 reader places is free, or no memory.
+    pub fn observer<R: Wait>(&self, rt: &R) -> Result<Observer<N>, NoPlace> {
+        let mut desk = self.desk.lock(rt);
+        let observer = desk.observer();
+        MutexGuard::unlock(desk);
+        observer
     }
 
     /// A call begins on a seat.
@@ -90,7 +104,10 @@ impl<N: Named> AtomFs<N> {
         seat: SeatNo,
         call: &Call,
     ) -> Result<CallNo, Refusal> {
-        self.desk.lock(rt).begin(alloc, seat, call)
+        let mut desk = self.desk.lock(rt);
+        let begun = desk.begin(alloc, seat, call);
+        MutexGuard::unlock(desk);
+        begun
     }
 
     /// The lock, once no call holds the node that is wanted. Who waits is counted, and a node that is let go wakes the
@@ -122,22 +139,43 @@ impl<N: Named> AtomFs<N> {
         let mut desk = self.lock(rt, wanted);
         let stepped = desk.step(seat, mine);
         let wakes = desk.waiting > 0 && matches!(stepped, Stepped::LetGo(_));
-        drop(desk);
+        MutexGuard::unlock(desk);
         if wakes {
             self.freed.notify_all();
         }
         stepped
     }
 
-    /// Ends the tree. It takes no memory.
-    pub fn close<R: Wait>(self, _rt: &R, tallies: Vec<Tally<N>>) -> Closed
+    /// Publishes each commit, and tells of a call.
+    pub(crate) fn tell<R: Wait>(
+        &self,
+        rt: &R,
+        alloc: Global,
+        number: CallNo,
+        call: &Call,
+        reply: &Reply,
+    ) -> (usize, Option<Stamp<N>>)
+        ensures { IfSome result.1 (λ stamp. IsListed stamp result.0 call.now reply.now) }
+    {
+        let mut desk = self.desk.lock(rt);
+        let told = desk.tell(rt, alloc, number, call, reply);
+        MutexGuard::unlock(desk);
+        told
+    }
+
+    /// Ends the tree, and with it what its observers read. It takes no memory.
+    pub fn close<R: Wait>(self, rt: &R, tallies: Vec<Tally<N>>) -> Closed
         ensures lawful { IsLawful result.timeline.entries }
         ensures spelled { AllReturned result.timeline.entries → graph_shapes (graph_of result.store) ≡ tree_shapes (play (commits result.timeline.entries)) }
 
         // Where each session handed in its tally, as many calls returned as these add up to.
         ensures returns { vec_len tallies ≡ result.sessions → returns result.timeline.entries ≡ sum_by (λ tally. tally.count) tallies.items }
     {
-        let AtomFs { desk, whole, .. } = self;
-        desk.into_inner().close(whole, tallies)
+        let AtomFs {
+            desk,
+            freed: _freed,
+            whole,
+        } = self;
+        desk.into_inner().close(rt, whole, tallies)
     }
 }

@@ -1,4 +1,7 @@
 use Rattle.check_threads.proofs.jobs.named_work.Given as goal
 
-abbrev pub ghosts-work : goal.ghosts-work
-ghosts-work g a = record { name = a.blank.name; parts = a.blank.parts }
+abbrev pub ghosts-work-N-Named : goal.ghosts-work-N-Named
+ghosts-work-N-Named g a = record { book = a.opened }
+
+abbrev pub ghosts-work-N-Ledger : goal.ghosts-work-N-Ledger
+ghosts-work-N-Ledger g a = record { name = a.blank.name; parts = a.blank.parts }

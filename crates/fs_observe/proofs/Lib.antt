@@ -1,0 +1,4 @@
+pub mod Adding
+pub mod Fronts
+pub mod Keeping
+pub mod Taking

@@ -1,0 +1,245 @@
+//! The writer of what observers see.
+
+ghost use Rattle.std.specs.Prelude.{◌≡◌, ◌+◌, ◌<◌, ◌≤◌, ◌^◌, ◌++◌, ◌∷◌, [], drop, fold, length, Some, None, IfOk, IfSome, OnOk, OnErr, MatchResult};
+ghost use mathlib.Core.List.{IsPrefix};
+ghost use Rattle.fs_calls.specs.Tree.{root_tree};
+ghost use Rattle.left_right.specs.Sides.{view};
+ghost use Rattle.fs_observe.specs.Observed.{Knows};
+ghost use Rattle.fs_observe.specs.Playing.{total, IsPlayed};
+ghost use Rattle.fs_observe.specs.Tied.{Tied, IsNext, entered};
+
+use crate::history::{Front, History, Named, Opened, Token};
+use crate::observer::{NoPlace, Observer, Stamp};
+use crate::shown::{Known, Op, Publishes, Rule, Shown, Tells};
+use core::mem::replace_with;
+use fs_calls::Call;
+use fs_seq::SeqTree;
+use left_right::writer::Writer;
+use std::alloc::{AllocError, Global};
+use std::marker::Model;
+use std::sync::Wait;
+
+/// How many observers there may be at a time.
+const READER_PLACES: usize = 64;
+
+/// The most calls that a publisher takes in.
+const MOST_CALLS: u64 = 1 << 61;
+
+type Copies = Writer<Shown, Op, Known, Rule>;
+
+/// The two copies of a tree that its observers read, and the calls that they lack. Contracts see its lists. It is not
+/// `Drop`: end it by `close`.
+pub struct Publisher<N: Named> {
+    writer: Copies,
+    front: Front<N>,
+    start: Front<N>,
+    history: History<N>,
+    held: Option<Op>,
+}
+
+impl<N: Named> Model for Publisher<N> {
+    ghost use Rattle.std.specs.Prelude.{◌≡◌, [], drop};
+    ghost use Rattle.left_right.specs.Sides.{view as known_by};
+    ghost use Rattle.fs_observe.specs.Lists.{Lists};
+    ghost use Rattle.fs_observe.specs.Observed.{Knows};
+    ghost use Rattle.fs_observe.specs.Tied.{Tied, entered};
+
+    ghost Value = { Lists };
+
+    ghost view = { λ p. record { published = p.writer.desk.shown.value.token.log; taken = p.front; entered = entered p.front p.held } };
+
+    ghost invariant = { λ p. Tied N.book p.writer.desk.shown.value (drop p.writer.behind p.writer.log.items) p.front p.held × Knows N.book (known_by p.writer.desk.place) × (p.start ≡ []) };
+}
+
+/// A copy that has played nothing.
+fn first_copy(alloc: Global, token: &Token) -> Result<Shown, AllocError>
+    ensures { IfOk result (λ shown. shown ≡ record { tree = root_tree; count = 0; token = token.now; alloc = alloc }) }
+{
+    Ok(Shown {
+        tree: SeqTree::new(alloc)?,
+        count: 0,
+        token: token.again(),
+        alloc,
+    })
+}
+
+/// Shows readers a copy that has played each call.
+fn show<R: Wait>(writer: Copies, rt: &R) -> (Copies, Result<(), AllocError>)
+    requires played { IsPlayed (total writer.desk.shown.value (drop writer.behind writer.log.items)) }
+    requires book { (total writer.desk.shown.value (drop writer.behind writer.log.items)).token.book ≡ writer.desk.shown.value.token.book }
+    ensures total { total result.0.desk.shown.value (drop result.0.behind result.0.log.items) ≡ total writer.desk.shown.value (drop writer.behind writer.log.items) }
+    ensures ok { OnOk result.1 (result.0.desk.shown.value ≡ total writer.desk.shown.value (drop writer.behind writer.log.items)) }
+    ensures err { OnErr result.1 (result.0.desk.shown.value ≡ writer.desk.shown.value) }
+    ensures place { MatchResult result.1 (λ _. view result.0.desk.place ≡ (total writer.desk.shown.value (drop writer.behind writer.log.items)).token ∷ []) (λ _. view result.0.desk.place ≡ view writer.desk.place) }
+{
+    writer.publish_as::<Publishes, R>(rt)
+}
+
+/// A writer that has shown its first copy.
+fn copies<R: Wait>(rt: &R, alloc: Global, first: Shown, second: Shown) -> Result<Copies, AllocError>
+    requires alike { first ≡ second }
+    requires played { IsPlayed first }
+    ensures shown { IfOk result (λ w. (w.desk.shown.value ≡ first) × (total w.desk.shown.value (drop w.behind w.log.items) ≡ first)) }
+    ensures place { IfOk result (λ w. view w.desk.place ≡ first.token ∷ []) }
+{
+    let writer = Writer::new(alloc, first, second, READER_PLACES)?;
+    let (writer, done) = show(writer, rt);
+    match done {
+        Ok(()) => Ok(writer),
+        Err(_) => {
+            let _shown = writer.take(rt);
+            Err(AllocError)
+        }
+    }
+}
+
+/// The call as an operation: the one that is held, which is of the same call, or a new one, which the history has then.
+fn next_op<N: Named>(
+    alloc: Global,
+    front: &Front<N>,
+    history: &History<N>,
+    held: Option<Op>,
+    call: &Call,
+) -> Result<Op, AllocError>
+    requires room { length front.now < 2 ^ 62 }
+    requires held { IfSome held (λ op. IsNext N.book front.now op × (op.call ≡ call.now)) }
+    ensures next { IfOk result (λ op. IsNext N.book front.now op) }
+    ensures call { IfOk result (λ op. op.call ≡ call.now) }
+    ensures err { OnErr result (held ≡ None) }
+{
+    if let Some(op) = held {
+        return Ok(op);
+    }
+    let call = call.copy(alloc)?;
+    let mut next = front.again();
+    if !next.add(history, &call) {
+        return Err(AllocError);
+    }
+    Ok(Op {
+        call,
+        token: next.token(),
+    })
+}
+
+/// Keeps an operation.
+fn hold(held: &mut Option<Op>, op: Op)
+    ensures { held.new ≡ Some op }
+{
+    *held = Some(op);
+}
+
+/// Has an operation wait to be shown, and counts its call as taken in. Out of memory it is held.
+fn append_op<N: Named>(
+    writer: &mut Copies,
+    front: &mut Front<N>,
+    held: &mut Option<Op>,
+    op: Op,
+) -> Result<(), AllocError>
+    requires tied { Tied N.book writer.old.desk.shown.value (drop writer.old.behind writer.old.log.items) front.old held.old }
+    requires none { held.old ≡ None }
+    requires next { IsNext N.book front.old op }
+    requires room { length front.old < 2 ^ 62 }
+    ensures tied { Tied N.book writer.new.desk.shown.value (drop writer.new.behind writer.new.log.items) front.new held.new }
+    ensures desk { writer.new.desk ≡ writer.old.desk }
+    ensures ok { OnOk result ((front.new ≡ front.old ++ op.call ∷ []) × (held.new ≡ None)) }
+    ensures err { OnErr result (front.new ≡ front.old) }
+    ensures entered { entered front.new held.new ≡ front.old ++ op.call ∷ [] }
+{
+    let next = Front::of(&op.token, front.len() + 1);
+    match writer.append(op) {
+        Ok(()) => {
+            *front = next;
+            Ok(())
+        }
+        Err(op) => {
+            hold(held, op);
+            Err(AllocError)
+        }
+    }
+}
+
+impl<N: Named> Publisher<N> {
+    /// A publisher that has published the list of no calls. The only error is out of memory.
+    pub fn open<R: Wait>(rt: &R, alloc: Global, opened: Opened) -> Result<Publisher<N>, AllocError>
+        requires { opened ≡ N.book }
+        ensures { IfOk result (λ p. p ≡ record { published = []; taken = []; entered = [] }) }
+    {
+        let (history, front) = opened.named::<N>();
+        let token = front.token();
+        let first = first_copy(alloc, &token)?;
+        let second = first_copy(alloc, &token)?;
+        let writer = copies(rt, alloc, first, second)?;
+        Ok(Publisher {
+            writer,
+            start: front.again(),
+            front,
+            history,
+            held: None,
+        })
+    }
+
+    /// An observer that was told nothing yet. The error is that none of the reader places is free, or no memory.
+    pub fn observer(&mut self) -> Result<Observer<N>, NoPlace>
+        ensures same { self.new ≡ self.old }
+    {
+        let Publisher { writer, start, .. } = self;
+        let Ok(mut reader) = writer.factory().reader() else {
+            return Err(NoPlace);
+        };
+        reader.learn::<Tells>(writer.tell::<Tells>());
+        Ok(Observer::new(reader, start.again()))
+    }
+
+    /// How many calls it has taken in.
+    pub fn taken(&self) -> usize
+        ensures { result ≡ length self.now.taken }
+    {
+        self.front.len() as usize
+    }
+
+    /// Takes in a call after the others. Out of memory the call may stand in the history; it is then the one that comes next.
+    pub fn take_in(&mut self, alloc: Global, call: &Call) -> Result<(), AllocError>
+        requires { IsPrefix self.old.entered (self.old.taken ++ call.now ∷ []) }
+        ensures published { self.new.published ≡ self.old.published }
+        ensures ok { OnOk result ((self.new.taken ≡ self.old.taken ++ call.now ∷ []) × (self.new.entered ≡ self.new.taken)) }
+        ensures err { OnErr result (self.new.taken ≡ self.old.taken) }
+        ensures entered { OnErr result (IsPrefix self.new.entered (self.old.taken ++ call.now ∷ [])) }
+    {
+        let Publisher {
+            writer,
+            front,
+            history,
+            held,
+            ..
+        } = self;
+        if front.len() >= MOST_CALLS {
+            return Err(AllocError);
+        }
+        let op = next_op(alloc, front, history, held.take(), call)?;
+        append_op(writer, front, held, op)
+    }
+
+    /// Shows observers the tree after all calls that were taken in, and tells that list. It waits for observers that still
+    /// read the tree that was shown before the last. Out of memory they see what they saw.
+    pub fn publish<R: Wait>(&mut self, rt: &R) -> Result<Stamp<N>, AllocError>
+        ensures taken { (self.new.taken ≡ self.old.taken) × (self.new.entered ≡ self.old.entered) }
+        ensures ok { IfOk result (λ stamp. (stamp ≡ self.old.taken) × (self.new.published ≡ self.old.taken)) }
+        ensures err { OnErr result (self.new.published ≡ self.old.published) }
+    {
+        let Publisher { writer, front, .. } = self;
+        replace_with(writer, rt, show)?;
+        Ok(Stamp::new(front.again()))
+    }
+
+    /// Ends the publisher. Its observers answer no more.
+    pub fn close<R: Wait>(self, rt: &R) {
+        let Publisher {
+            writer,
+            front: _front,
+            start: _start,
+            history: _history,
+            held: _held,
+        } = self;
+        let _shown = writer.take(rt);
+    }
+}

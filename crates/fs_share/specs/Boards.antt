@@ -1,0 +1,26 @@
+-- What the core's lock keeps, as its callers see it, and what it keeps of the publisher's lists.
+use Rattle.std.specs.Prelude.{◌≡◌, ℕ, ◌+◌, ◌<◌, ◌≤◌, List, length, take, slice_get, Some}
+use mathlib.Core.List.{IsPrefix}
+use Rattle.fs_calls.specs.Outcomes.{play, reply}
+use Rattle.fs_calls.specs.declared.call.Call.{Call}
+use Rattle.fs_calls.specs.declared.reply.Reply.{Reply}
+use Rattle.fs_core.specs.Machines.{Machine}
+use Rattle.fs_observe.specs.Lists.{Lists}
+
+-- the core, and the list that observers are shown
+pub record Boarded : Type 0 where
+  pub core : Machine
+  pub published : List Call
+
+-- each of the publisher's lists is a beginning of the commits, and at most one call waits for memory
+pub record AreBeginnings (commits : List Call) (lists : Lists) : Type 0 where
+  pub published : IsPrefix lists.published commits
+  pub taken : IsPrefix lists.taken commits
+  pub entered : IsPrefix lists.entered commits
+  pub one_more : length lists.entered ≤ length lists.taken + 1
+
+-- the call stands at the place in the list, and the reply is the sequential tree's after the calls before it
+pub record IsListed (list : List Call) (place : ℕ) (call : Call) (answer : Reply) : Type 0 where
+  pub inside : place < length list
+  pub stands : slice_get list place ≡ Some call
+  pub replied : answer ≡ reply (play (take place list)) call

@@ -1,0 +1,194 @@
+//! What the core's lock keeps of the tree: the core, and the publisher of what observers see.
+
+ghost use Rattle.std.specs.Prelude.{◌≡◌, ◌+◌, ◌<◌, ◌++◌, ◌∷◌, [], None, Some, IfOk, IfSome, IfNone, OnOk, OnErr, length, slice_get};
+ghost use mathlib.Core.List.{IsPrefix};
+ghost use Rattle.fs_timeline.specs.Timeline.{commits};
+ghost use Rattle.fs_laws.specs.States.{Begins, Step};
+ghost use Rattle.fs_core.specs.Answers.{begun_as, stepped_as};
+ghost use Rattle.fs_core.specs.Machines.{state_of};
+ghost use Rattle.fs_share.specs.Boards.{AreBeginnings, IsListed};
+
+use crate::told::told_place;
+use fs_calls::{Call, Reply};
+use fs_core::{Core, Refusal, Stepped};
+use fs_names::{CallNo, SeatNo};
+use fs_observe::{Named, NoPlace, Observer, Opened, Publisher, Stamp};
+use std::alloc::{AllocError, Global};
+use std::marker::Model;
+use std::sync::Wait;
+
+/// The core, and the publisher of what observers see. Contracts see the core and the published list, which is a beginning
+/// of the committed calls. It is not `Drop`: it ends by the end of its tree.
+pub struct Board<N: Named> {
+    core: Core,
+    publisher: Publisher<N>,
+}
+
+impl<N: Named> Model for Board<N> {
+    ghost use Rattle.fs_timeline.specs.Timeline.{commits};
+    ghost use Rattle.fs_share.specs.Boards.{Boarded, AreBeginnings};
+
+    ghost Value = { Boarded };
+
+    ghost view = { λ board. record { core = board.core; published = board.publisher.published } };
+
+    ghost invariant = { λ board. AreBeginnings (commits board.core.timeline) board.publisher };
+}
+
+/// What a worker does while it is lent the core: one step of its seat's call.
+pub fn advance(core: &mut Core, seat: SeatNo) -> Stepped
+    requires seat { seat < length core.old.seats }
+    ensures step { Step (state_of core.old) seat (stepped_as result) (state_of core.new) }
+    ensures seats { length core.new.seats ≡ length core.old.seats }
+{
+    core.step(seat)
+}
+
+/// The publisher takes in the commit at this place, which is its next.
+fn take_in<N: Named>(
+    core: &Core,
+    publisher: &mut Publisher<N>,
+    alloc: Global,
+    place: usize,
+) -> Result<(), AllocError>
+    requires beginnings { AreBeginnings (commits core.now.timeline) publisher.old }
+    requires next { place ≡ length publisher.old.taken }
+    requires committed { place < length (commits core.now.timeline) }
+    ensures beginnings { AreBeginnings (commits core.now.timeline) publisher.new }
+    ensures published { publisher.new.published ≡ publisher.old.published }
+    ensures next { OnOk result (length publisher.new.taken ≡ place + 1) }
+{
+    publisher.take_in(alloc, core.committed(place))
+}
+
+/// The publisher takes in each commit that it has not.
+fn catch_up<N: Named>(
+    core: &Core,
+    publisher: &mut Publisher<N>,
+    alloc: Global,
+) -> Result<(), AllocError>
+    requires { AreBeginnings (commits core.now.timeline) publisher.old }
+    ensures beginnings { AreBeginnings (commits core.now.timeline) publisher.new }
+    ensures published { publisher.new.published ≡ publisher.old.published }
+    ensures all { OnOk result (publisher.new.taken ≡ commits core.now.timeline) }
+{
+    for place in publisher.taken()..core.commits() {
+        take_in(core, publisher, alloc, place)?;
+    }
+    Ok(())
+}
+
+impl<N: Named> Board<N> {
+    /// A core without seats or entries, of which nothing is published. The only error is out of memory.
+    pub(crate) fn open<R: Wait>(
+        rt: &R,
+        alloc: Global,
+        opened: Opened,
+    ) -> Result<Board<N>, AllocError>
+        requires { opened ≡ N.book }
+        ensures seats { IfOk result (λ board. board.core.seats ≡ []) }
+        ensures timeline { IfOk result (λ board. board.core.timeline ≡ []) }
+    {
+        let core = Core::new(alloc)?;
+        let publisher = Publisher::open(rt, alloc, opened)?;
+        Ok(Board { core, publisher })
+    }
+
+    /// The core.
+    pub(crate) fn core(&self) -> &Core
+        ensures { result.now ≡ self.now.core }
+    {
+        &self.core
+    }
+
+    /// One more seat.
+    pub(crate) fn seat(&mut self) -> Result<SeatNo, AllocError>
+        ensures published { self.new.published ≡ self.old.published }
+        ensures seats { OnOk result (self.new.core.seats ≡ self.old.core.seats ++ None ∷ []) }
+        ensures state { state_of self.new.core ≡ state_of self.old.core }
+        ensures err { OnErr result (self.new.core.seats ≡ self.old.core.seats) }
+    {
+        let Board { core, .. } = self;
+        core.seat()
+    }
+
+    /// A call begins on a seat.
+    pub(crate) fn begin(
+        &mut self,
+        alloc: Global,
+        seat: SeatNo,
+        call: &Call,
+    ) -> Result<CallNo, Refusal>
+        requires seat { seat < length self.old.core.seats }
+        ensures published { self.new.published ≡ self.old.published }
+        ensures begins { Begins (state_of self.old.core) seat call.now (begun_as result) (state_of self.new.core) }
+        ensures seats { length self.new.core.seats ≡ length self.old.core.seats }
+    {
+        let Board { core, .. } = self;
+        core.told();
+        core.begin(alloc, seat, call)
+    }
+
+    /// One step of a seat's call, by `advance`.
+    pub(crate) fn step(&mut self, seat: SeatNo) -> Stepped
+        requires seat { seat < length self.old.core.seats }
+        ensures published { self.new.published ≡ self.old.published }
+        ensures step { Step (state_of self.old.core) seat (stepped_as result) (state_of self.new.core) }
+        ensures seats { length self.new.core.seats ≡ length self.old.core.seats }
+    {
+        let Board { core, .. } = self;
+        core.told();
+        advance(core, seat)
+    }
+
+    /// An observer that was told nothing yet.
+    pub(crate) fn observer(&mut self) -> Result<Observer<N>, NoPlace>
+        ensures same { self.new ≡ self.old }
+    {
+        let Board { publisher, .. } = self;
+        publisher.observer()
+    }
+
+    /// Publishes each commit, and tells that list. It waits for observers that still read the tree that was shown before
+    /// the last. Out of memory the published list is what it was; those commits that were taken in are published by the
+    /// next that succeeds.
+    pub fn publish<R: Wait>(&mut self, rt: &R, alloc: Global) -> Option<Stamp<N>>
+        ensures core { self.new.core ≡ self.old.core }
+        ensures begins { IsPrefix self.new.published (commits self.new.core.timeline) }
+        ensures some { IfSome result (λ stamp. (stamp ≡ commits self.new.core.timeline) × (self.new.published ≡ commits self.new.core.timeline)) }
+        ensures none { IfNone result (self.new.published ≡ self.old.published) }
+    {
+        let Board { core, publisher } = self;
+        catch_up(core, publisher, alloc).ok()?;
+        publisher.publish(rt).ok()
+    }
+
+    /// How many commits stand before that of a call, and a stamp of a list that holds the call, where the timeline's
+    /// entries of its number are those of this call and reply.
+    pub(crate) fn tell<R: Wait>(
+        &mut self,
+        rt: &R,
+        alloc: Global,
+        number: CallNo,
+        call: &Call,
+        reply: &Reply,
+    ) -> (usize, Option<Stamp<N>>)
+        ensures core { self.new.core ≡ self.old.core }
+        ensures told { IfSome result.1 (λ stamp. IsListed stamp result.0 call.now reply.now) }
+    {
+        let stamp = self.publish(rt, alloc);
+        match told_place(&self.core, number, call, reply) {
+            Some(place) => (place, stamp),
+            None => (self.core.place_of(number).unwrap_or(0), None),
+        }
+    }
+
+    /// Ends the publisher, and gives the core back.
+    pub(crate) fn close<R: Wait>(self, rt: &R) -> Core
+        ensures { result ≡ self.core }
+    {
+        let Board { core, publisher } = self;
+        publisher.close(rt);
+        core
+    }
+}
