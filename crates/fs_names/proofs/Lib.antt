@@ -4,3 +4,4 @@ pub mod ReadingLemmas
 pub mod TextLemmas
 pub mod ParentLemmas
 pub mod PrefixLemmas
+pub mod SearchLemmas

@@ -1,5 +1,5 @@
 -- Parts of keys.
-use Rattle.std.specs.Prelude.{Bool, true, false, if◌then◌else◌, List, [], ◌∷◌, Option, Some, None}
+use Rattle.std.specs.Prelude.{Bool, true, false, if◌then◌else◌, [], ◌∷◌, Option, Some, None}
 use Rattle.fs_names.specs.Names.{same_name}
 use Rattle.fs_names.specs.Keys.{Key, after_prefix}
 

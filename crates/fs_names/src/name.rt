@@ -1,6 +1,6 @@
 //! Names of entries.
 
-ghost use Rattle.std.specs.Prelude.{◌≡◌, IsTrue, MatchOption, false};
+ghost use Rattle.std.specs.Prelude.{◌≡◌, IsTrue, MatchOption, false, true};
 ghost use Rattle.std.specs.List.{list_all};
 ghost use Rattle.fs_names.specs.Names.{can_name, may_stand, is_dots, same_name};
 
@@ -49,11 +49,19 @@ impl Name {
     pub fn read(bytes: &[u8]) -> Option<Name>
         ensures { MatchOption result (can_name bytes.now ≡ false) (λ n. IsTrue (can_name bytes.now) × (n ≡ bytes.now)) }
     {
-        if bytes.is_empty()
-            || bytes.len() > NAME_LIMIT
-            || !all_may_stand(bytes)
-            || only_dots(bytes)
-        {
+        if all_may_stand(bytes) {
+            Name::read_in_place(bytes)
+        } else {
+            None
+        }
+    }
+
+    /// The same of bytes that may stand in a name.
+    pub(crate) fn read_in_place(bytes: &[u8]) -> Option<Name>
+        requires { list_all may_stand bytes.now ≡ true }
+        ensures { MatchOption result (can_name bytes.now ≡ false) (λ n. IsTrue (can_name bytes.now) × (n ≡ bytes.now)) }
+    {
+        if bytes.is_empty() || bytes.len() > NAME_LIMIT || only_dots(bytes) {
             return None;
         }
         match ArrayVec::try_from(bytes) {

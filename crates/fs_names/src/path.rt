@@ -9,6 +9,7 @@ ghost use Rattle.fs_names.specs.Reading.{reading, names, first_fault, name_fault
 use crate::fault::PathFault;
 use crate::limits::{NAME_LIMIT, PATH_LIMIT};
 use crate::name::Name;
+use memchr::memchr;
 use smallvec::SmallVec;
 use std::alloc::{AllocError, Global};
 use std::marker::Model;
@@ -48,7 +49,7 @@ fn name_after(before: usize, bytes: &[u8]) -> Result<Name, PathFault>
     if bytes.len() > NAME_LIMIT {
         return Err(PathFault::NameTooLong);
     }
-    match Name::read(bytes) {
+    match Name::read_in_place(bytes) {
         Some(name) => Ok(name),
         None => Err(PathFault::Dot),
     }
@@ -102,7 +103,7 @@ fn ends_in_slash(bytes: &[u8]) -> bool
 fn has_zero(bytes: &[u8]) -> bool
     ensures { result ≡ list_any is_zero bytes.now }
 {
-    bytes.iter().any(|b| *b == 0)
+    memchr(0, bytes).is_some()
 }
 
 impl Path {

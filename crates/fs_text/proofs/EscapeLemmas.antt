@@ -1,8 +1,9 @@
 -- Escaped bytes are read again, and are what the crate writes by its set.
-use Rattle.std.proofs.Common.{◌≡◌, ◌≢◌, ℕ, ◌<◌, ◌≤◌, Bool, true, false, not, cond, inl, inr, ⊎_elim, List, [], ◌∷◌, ◌++◌, length, sym, refl, ap, ◌∙◌, arith, ◌&&◌}
+use Rattle.std.proofs.Common.{◌≡◌, ◌≢◌, ℕ, ◌<◌, ◌≤◌, Bool, true, false, not, cond, inl, inr, ⊎_elim, List, [], ◌∷◌, ◌++◌, length, sym, refl, ap, ◌∙◌, arith, ◌&&◌, ◌||◌}
 use Rattle.std.proofs.lemmas.List.Elements.{All-cons, All-nil, All-append, All-weaker}
 use Rattle.std.proofs.lemmas.Bool.{cond-true, cond-false, cases_Bool, and_parts, cases_lt}
 use Rattle.std.specs.Prelude.{zero, suc}
+use Rattle.std.specs.List.{list_any}
 use Rattle.std.proofs.lemmas.Bool.Decides.{nat_tests}
 use Rattle.percent_encoding.specs.AsciiSet.{contains, should_percent_encode}
 use Rattle.percent_encoding.specs.Percent.{percent_encode_byte, percent_encode, percent_decode}
@@ -24,6 +25,11 @@ escaped_nil : escaped [] ≡ []
 unfolding escaped
 escaped_nil = refl
 
+-- where neither of two tests holds, both fail
+or_false : (a b : Bool) → (a || b) ≡ false → (a ≡ false) × (b ≡ false)
+or_false true b h = absurd (cc)
+or_false false b h = (refl, h)
+
 no_percent : (b : ℕ) → is_escaped b ≡ false → b ≢ 37
 no_percent b e = grind (arith, nat_tests)
 
@@ -42,6 +48,13 @@ escape_again (b ∷ bs) small =
     (λ e. rw (escaped_cons_yes b bs e) (percent_decode-percent_encode_byte b (escaped bs) small.0 ∙ rest))
     (λ e. rw (escaped_cons_no b bs e) (percent_decode_not_percent b (escaped bs) (no_percent b e) ∙ rest))
     (cases_Bool (is_escaped b))
+
+-- where no byte is escaped, the bytes stand for themselves
+pub escaped_plain : (bs : List ℕ) → list_any is_escaped bs ≡ false → escaped bs ≡ bs
+escaped_plain [] h = escaped_nil
+escaped_plain (b ∷ bs) h =
+    let parts = or_false (is_escaped b) (list_any is_escaped bs) h in
+    escaped_cons_no b bs parts.0 ∙ ap (λ x. b ∷ x) (escaped_plain bs parts.1)
 
 -- no space, no line feed
 pub dark_escaped : (bs : List ℕ) → IsDark (escaped bs)

@@ -5,3 +5,4 @@ pub mod WriteLemmas
 pub mod ReadLemmas
 pub mod PathLemmas
 pub mod EntryLemmas
+pub mod DigitLemmas

@@ -18,9 +18,15 @@ use Rattle.hex.specs.declared.error.FromHexError.TheVariants as hex
 use Rattle.fs_text.specs.declared.fault.FaultKind.{FaultKind}
 use Rattle.fs_text.specs.declared.fault.FaultKind.TheVariants as kind
 use Rattle.fs_text.specs.Calls.{hex_at, or_fault, ◌>>=◌, or_bad_path}
-use Rattle.fs_text.specs.code.Answers.{FailsAs, FailsThere, hex_fault_of, path_fault_of, pushed_word}
+use Rattle.fs_text.specs.code.Answers.{Gives, FailsAs, FailsThere, hex_fault_of, path_fault_of, pushed_word}
 use Rattle.fs_text.specs.Journal.{words_of, name_at, names_at, at_line, entry_in_line, entries_from, is_tree_line}
 use Rattle.fs_text.specs.declared.fault.ScriptFault.{ScriptFault}
+use Rattle.std.specs.Prelude.{suc, MatchResult, IsTrue, is_some, not, Option}
+use Rattle.memchr.specs.Find.{IsFirstByte, is_byte}
+use Rattle.percent_encoding.specs.Percent.{percent_decode}
+use Rattle.percent_encoding.proofs.PercentLemmas.{percent_decode-nil, percent_decode_not_percent}
+use Rattle.fs_calls.specs.declared.bytes.Bytes.{Bytes}
+use Rattle.fs_names.proofs.SearchLemmas.{found_none}
 use Rattle.fs_names.specs.Keys.{Key}
 use Rattle.fs_names.specs.Reading.{FailsWith}
 use Rattle.fs_names.specs.declared.fault.PathFault.{PathFault}
@@ -75,6 +81,26 @@ not_empty_test n h = grind (arith, nat_tests)
 pub hex_decoded : (w : List ℕ) (r : Result (List ℕ) FromHexError) → bytes_eq w (codes "-") ≡ false → 0 < length w → decode_of w ≡ r → hex_of w ≡ found_bytes r
 unfolding hex_of
 hex_decoded w r h some e = cond-false _ _ _ h ∙ cond-false _ _ _ (not_empty_test (length w) some) ∙ ap found_bytes e
+
+-- what digits are read as, where there is memory
+pub hex_given : (w : List ℕ) (r : Result Bytes FaultKind) → bytes_eq w (codes "-") ≡ false → 0 < length w
+    → MatchResult r (λ bytes. decode_of w ≡ Ok bytes) (λ e. e ≡ kind.OutOfMemory) → Gives (λ bytes. bytes) r (hex_at w)
+hex_given w (Ok bytes) h some e = ap (or_fault kind.BadHex) (hex_decoded w (Ok bytes) h some e)
+hex_given w (Err f) h some e = rw e tt
+
+-- ---- words without escapes
+
+plain_decoded : (w : List ℕ) → All (λ b. is_byte 37 b ≡ false) w → percent_decode w ≡ w
+plain_decoded [] h = percent_decode-nil
+plain_decoded (b ∷ bs) h =
+    let here : is_byte 37 b ≡ false = h 0 b (omega arith) in
+    percent_decode_not_percent b bs (grind (arith, nat_tests)) ∙ ap (λ x. b ∷ x) (plain_decoded bs (λ k d lt. h (suc k) d (omega arith)))
+
+-- a word in which no `%` is found stands for its own bytes
+pub unescaped : (w : List ℕ) (r : Option ℕ) (b : Bool) → IsFirstByte (is_byte 37) w r → is_some r ≡ not b → IsTrue b → percent_decode w ≡ w
+unescaped w None b h e t = plain_decoded w (found_none 37 w h)
+unescaped w (Some k) true h e t = absurd (cc)
+unescaped w (Some k) false h e t = absurd (cc)
 
 -- ---- lines
 

@@ -1,8 +1,10 @@
 //! What is appended to a text, and can be taken back.
 
 ghost use Rattle.std.specs.Prelude.{◌≡◌, ◌++◌, [], OnOk, decimal};
-ghost use Rattle.fs_text.specs.Words.{escaped, hex_word};
+ghost use Rattle.std.specs.List.{list_any};
+ghost use Rattle.fs_text.specs.Words.{is_escaped, escaped, hex_word};
 
+use crate::digits::push_digits;
 use crate::escaping::ESCAPED;
 use itoa::Buffer;
 use percent_encoding::percent_encode;
@@ -26,6 +28,19 @@ impl Model for Addition {
     ghost view = { λ a. record { before = take a.start a.text.items; added = drop a.start a.text.items } };
 
     ghost invariant = { λ a. a.start ≤ length a.text.items };
+}
+
+fn is_escaped(byte: u8) -> bool
+    ensures { result ≡ is_escaped byte }
+{
+    byte <= b' ' || byte == b'%' || byte >= 127
+}
+
+/// Whether a byte is escaped.
+fn any_escaped(bytes: &[u8]) -> bool
+    ensures { result ≡ list_any is_escaped bytes.now }
+{
+    bytes.iter().any(|b| is_escaped(*b))
 }
 
 impl Addition {
@@ -81,8 +96,7 @@ impl Addition {
         if bytes.is_empty() {
             return self.push(b"-");
         }
-        let word = hex::encode(alloc, bytes)?;
-        self.push(word.as_bytes())
+        push_digits(bytes, &mut self.text)
     }
 
     /// Bytes of a name with escapes. It takes memory beside the text's where one is needed.
@@ -90,6 +104,9 @@ impl Addition {
         ensures ok { OnOk result (self.new.added ≡ self.old.added ++ escaped bytes.now) }
         ensures before { self.new.before ≡ self.old.before }
     {
+        if !any_escaped(bytes) {
+            return self.push(bytes);
+        }
         let word = percent_encode(bytes, ESCAPED).into_cow(alloc)?;
         self.push(word.as_bytes())
     }

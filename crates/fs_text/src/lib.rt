@@ -12,6 +12,7 @@
 
 pub mod addition;
 pub mod calls;
+mod digits;
 mod escaping;
 pub mod examples;
 pub mod fault;

@@ -8,11 +8,12 @@ ghost use Rattle.fs_text.specs.declared.fault.FaultKind.TheVariants as kind;
 
 use crate::fault::FaultKind;
 use crate::words::parts;
+use memchr::memchr;
 
 fn line_end(text: &[u8]) -> Option<usize>
     ensures { result ≡ position is_line_feed text.now }
 {
-    text.iter().position(|b| *b == b'\n')
+    memchr(b'\n', text)
 }
 
 /// The line at the front and what is behind it, where there is one.
@@ -42,7 +43,7 @@ pub fn is_passed_over(line: &[u8]) -> bool
 fn word_end(line: &[u8]) -> Option<usize>
     ensures { result ≡ position is_space line.now }
 {
-    line.iter().position(|b| *b == b' ')
+    memchr(b' ', line)
 }
 
 /// Adds a word, unless it is empty: then a space stands where none may.

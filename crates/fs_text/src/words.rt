@@ -1,17 +1,23 @@
 //! Words of a line that are read: numbers, bytes of files, paths and names.
 
-ghost use Rattle.std.specs.Prelude.{◌≡◌, ◌<◌, ◌+◌, length, take, drop, Some, None};
+ghost use Rattle.std.specs.Prelude.{◌≡◌, ◌<◌, ◌+◌, ◌%◌, length, take, drop, Some, None, Ok, true, IsTrue, MatchResult};
 ghost use Rattle.std.specs.List.{list_all};
 ghost use Rattle.std.specs.Char.{is_ascii_digit};
 ghost use Rattle.fs_text.specs.Words.{is_number_text, number_of};
-ghost use Rattle.fs_text.specs.Calls.{number_at, hex_at, path_at};
+ghost use Rattle.hex.specs.Hex.{is_hex_digit, decode_of};
+ghost use Rattle.percent_encoding.specs.Percent.{percent_decode};
+ghost use Rattle.fs_names.specs.Reading.{reading};
+ghost use Rattle.fs_text.specs.declared.fault.FaultKind.TheVariants as kind;
+ghost use Rattle.fs_text.specs.Calls.{number_at, hex_at, path_at, or_bad_path};
 ghost use Rattle.fs_text.specs.Journal.{name_at, read_name};
 ghost use Rattle.fs_text.specs.code.Answers.{Gives, hex_fault_of, path_fault_of};
 
+use crate::digits::{are_digits, write_bytes};
 use crate::fault::FaultKind;
 use fs_calls::Bytes;
 use fs_names::{Name, Path, PathFault};
 use hex::FromHexError;
+use memchr::memchr;
 use percent_encoding::percent_decode;
 use std::alloc::Global;
 
@@ -71,6 +77,19 @@ fn hex_fault(error: FromHexError) -> FaultKind
     }
 }
 
+/// The bytes that pairs of digits spell.
+fn bytes_at(alloc: Global, word: &[u8]) -> Result<Bytes, FaultKind>
+    requires even { length word.now % 2 ≡ 0 }
+    requires digits { list_all is_hex_digit word.now ≡ true }
+    ensures { MatchResult result (λ bytes. decode_of word.now ≡ Ok bytes) (λ e. e ≡ kind.OutOfMemory) }
+{
+    let Ok(mut bytes) = vec![in alloc; 0u8; word.len() / 2] else {
+        return Err(FaultKind::OutOfMemory);
+    };
+    write_bytes(word, bytes.as_mut_slice());
+    Ok(Bytes::new(bytes))
+}
+
 pub(crate) fn hex_at(alloc: Global, word: &[u8]) -> Result<Bytes, FaultKind>
     ensures { Gives (λ bytes. bytes) result (hex_at word.now) }
 {
@@ -79,6 +98,9 @@ pub(crate) fn hex_at(alloc: Global, word: &[u8]) -> Result<Bytes, FaultKind>
     }
     if word.is_empty() {
         return Err(FaultKind::BadHex);
+    }
+    if word.len() % 2 == 0 && are_digits(word) {
+        return bytes_at(alloc, word);
     }
     match hex::decode(alloc, word) {
         Ok(bytes) => Ok(Bytes::new(bytes)),
@@ -95,17 +117,33 @@ fn path_fault(fault: PathFault) -> FaultKind
     }
 }
 
+/// Whether a word has no escape, and so stands for its own bytes.
+fn is_unescaped(word: &[u8]) -> bool
+    ensures { IsTrue result → percent_decode word.now ≡ word.now }
+{
+    memchr(b'%', word).is_none()
+}
+
+fn read_path(alloc: Global, bytes: &[u8]) -> Result<Path, FaultKind>
+    ensures { Gives (λ path. path) result (or_bad_path (reading bytes.now)) }
+{
+    match Path::parse(alloc, bytes) {
+        Ok(path) => Ok(path),
+        Err(fault) => Err(path_fault(fault)),
+    }
+}
+
 /// The path that a word is, unescaped.
 pub fn path_at(alloc: Global, word: &[u8]) -> Result<Path, FaultKind>
     ensures { Gives (λ path. path) result (path_at word.now) }
 {
+    if is_unescaped(word) {
+        return read_path(alloc, word);
+    }
     let Ok(bytes) = percent_decode(word).into_cow(alloc) else {
         return Err(FaultKind::OutOfMemory);
     };
-    match Path::parse(alloc, &bytes) {
-        Ok(path) => Ok(path),
-        Err(fault) => Err(path_fault(fault)),
-    }
+    read_path(alloc, &bytes)
 }
 
 fn read_name(bytes: &[u8]) -> Result<Name, FaultKind>
@@ -120,6 +158,9 @@ fn read_name(bytes: &[u8]) -> Result<Name, FaultKind>
 pub(crate) fn name_at(alloc: Global, word: &[u8]) -> Result<Name, FaultKind>
     ensures { Gives (λ name. name) result (name_at word.now) }
 {
+    if is_unescaped(word) {
+        return read_name(word);
+    }
     let Ok(bytes) = percent_decode(word).into_cow(alloc) else {
         return Err(FaultKind::OutOfMemory);
     };

@@ -3,7 +3,7 @@ use Rattle.std.specs.Str.{bytes_eq}
 use Rattle.std.proofs.lemmas.Bool.Decides.{nat_tests}
 use Rattle.fs_text.specs.Calls.{or_fault}
 use Rattle.fs_text.specs.declared.fault.FaultKind.TheVariants as kind
-use Rattle.fs_text.proofs.ReadLemmas.{hex_dash, hex_empty, hex_decoded, hex_failed}
+use Rattle.fs_text.proofs.ReadLemmas.{hex_dash, hex_empty, hex_decoded, hex_failed, hex_given}
 use Rattle.fs_text.proofs.words.hex_at.Goals as goal
 
 pub returns-then-eq : goal.returns-then-eq
@@ -32,3 +32,10 @@ returns-in-Err c =
     let e : bytes_eq w (codes "-") ≡ false = ap (bytes_eq w) (sym c.as_slice.ensures) ∙ sym c.eq.ensures ∙ c.if-eq.false in
     let some : 0 < length w = grind (arith, nat_tests) in
     rw c.hex_fault.ensures (hex_failed w c.in-Err.error e some c.in-Err.ensures.err)
+
+pub returns-then-are_digits : goal.returns-then-are_digits
+returns-then-are_digits c =
+    let w = c.args.word.now in
+    let e : bytes_eq w (codes "-") ≡ false = ap (bytes_eq w) (sym c.as_slice.ensures) ∙ sym c.eq.ensures ∙ c.if-eq.false in
+    let some : 0 < length w = grind (arith, nat_tests) in
+    hex_given w c.bytes_at.result e some c.bytes_at.ensures

@@ -1,0 +1,5 @@
+use Rattle.fs_text.proofs.ReadLemmas.{unescaped}
+use Rattle.fs_text.proofs.words.is_unescaped.Goals as goal
+
+pub returns : goal.returns
+returns c = unescaped c.args.word.now c.memchr.result c.is_none.result c.memchr.ensures c.is_none.ensures
