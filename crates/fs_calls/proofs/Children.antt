@@ -27,7 +27,7 @@ name_in-append : (d : Key) (x : Name) → name_in d (d ++ x ∷ []) ≡ Some x
 name_in-append d x = ap only_name (after_prefix-append d (x ∷ []))
 
 -- names, each with the same mark
-abbrev marked : List Name → List (Name × ℕ)
+abbrev pub marked : List Name → List (Name × ℕ)
 marked [] = []
 marked (x ∷ names) = (x, 0) ∷ marked names
 
@@ -102,7 +102,7 @@ sorted_with t d k None is h r = r
 sorted_with t d k (Some y) is h r = both _ _ (below-names_in t d y (subst (λ q. T (below_all key_cmp q t)) (name_in-exact d k y is) h)) r
 
 -- the names of a directory rise
-sorted-names_in : (t : Tree) (d : Key) → T (is_sorted key_cmp t) → T (is_sorted name_cmp (marked (names_in t d)))
+pub sorted-names_in : (t : Tree) (d : Key) → T (is_sorted key_cmp t) → T (is_sorted name_cmp (marked (names_in t d)))
 sorted-names_in [] d h = tt
 sorted-names_in (e ∷ t) d h = sorted_with t d e.0 (name_in d e.0) refl (first _ _ h) (sorted-names_in t d (second _ _ h))
 

@@ -1,7 +1,7 @@
 -- When two replies are the same.
-use Rattle.std.specs.Prelude.{ℕ, Bool, true, false, ◌&&◌, ◌==◌, List, nat_eq}
+use Rattle.std.specs.Prelude.{ℕ, Bool, true, false, ◌&&◌, ◌==◌, List}
 use lib.Pointwise.{pointwise}
-use Rattle.fs_names.specs.Names.{Name}
+use Rattle.fs_names.specs.Names.{Name, same_bytes}
 use Rattle.fs_names.specs.declared.kind.Kind.{Kind}
 use Rattle.fs_names.specs.declared.kind.Kind.TheVariants as kind
 use Rattle.fs_calls.specs.declared.errno.Errno.{Errno}
@@ -27,9 +27,6 @@ number_of Ebusy = 7
 number_of Eperm = 8
 number_of Enospc = 9
 number_of Efbig = 10
-
-abbrev pub same_bytes : List ℕ → List ℕ → Bool
-same_bytes = pointwise nat_eq
 
 abbrev pub same_names : List Name → List Name → Bool
 same_names = pointwise same_bytes

@@ -1,10 +1,6 @@
 //! The calls on a tree.
 
-ghost use Rattle.std.specs.Prelude.{◌≡◌, IfOk};
-
-use crate::bytes::Bytes;
-use fs_names::Path;
-use std::alloc::{AllocError, Global};
+use fs_names::{Bytes, Path};
 
 /// A call on a tree, by path.
 #[derive(Drop)]
@@ -30,26 +26,4 @@ pub enum Call {
     Write(Path, u64, Bytes),
     /// Cuts a file to a size, or adds zeros up to it (POSIX.1-2017, XSH 3, truncate()).
     Truncate(Path, u64),
-}
-
-impl Call {
-    /// The same call again.
-    pub fn copy(&self, alloc: Global) -> Result<Call, AllocError>
-        ensures { IfOk result (λ call. call ≡ self.now) }
-    {
-        match self {
-            Call::Mkdir(path) => Ok(Call::Mkdir(path.copy(alloc)?)),
-            Call::Mknod(path) => Ok(Call::Mknod(path.copy(alloc)?)),
-            Call::Unlink(path) => Ok(Call::Unlink(path.copy(alloc)?)),
-            Call::Rmdir(path) => Ok(Call::Rmdir(path.copy(alloc)?)),
-            Call::Rename(from, to) => Ok(Call::Rename(from.copy(alloc)?, to.copy(alloc)?)),
-            Call::Stat(path) => Ok(Call::Stat(path.copy(alloc)?)),
-            Call::Readdir(path) => Ok(Call::Readdir(path.copy(alloc)?)),
-            Call::Read(path, offset, count) => Ok(Call::Read(path.copy(alloc)?, *offset, *count)),
-            Call::Write(path, offset, bytes) => {
-                Ok(Call::Write(path.copy(alloc)?, *offset, bytes.copy()?))
-            }
-            Call::Truncate(path, size) => Ok(Call::Truncate(path.copy(alloc)?, *size)),
-        }
-    }
 }

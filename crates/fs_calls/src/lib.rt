@@ -7,7 +7,6 @@
 //! The module `laws` has what holds of these definitions, `examples` has worked rows that the check computes.
 #![tactic(auto)]
 
-pub mod bytes;
 pub mod call;
 pub mod errno;
 pub mod examples;
@@ -18,9 +17,9 @@ pub mod ranges;
 pub mod reply;
 pub mod target;
 
-pub use bytes::Bytes;
 pub use call::Call;
 pub use errno::Errno;
+pub use fs_names::Bytes;
 pub use name_list::NameList;
 pub use path_errors::rename_error;
 pub use reply::Reply;

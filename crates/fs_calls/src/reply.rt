@@ -3,10 +3,9 @@
 ghost use Rattle.std.specs.Prelude.{◌≡◌};
 ghost use Rattle.fs_calls.specs.Replies.{same_kind, same_reply};
 
-use crate::bytes::Bytes;
 use crate::errno::Errno;
 use crate::name_list::NameList;
-use fs_names::Kind;
+use fs_names::{Bytes, Kind};
 
 /// The reply of a call.
 #[derive(Drop)]

@@ -1,6 +1,6 @@
 -- Ascents from a node to the root, which are shorter than a bound of the numbers in use, and whether they meet a node.
-use Rattle.std.proofs.Common.{◌≡◌, ℕ, zero, suc, ◌+◌, ◌<◌, ◌≤◌, Bool, true, false, eqb, List, [], ◌∷◌, ◌++◌, Option, Some, None, length, length-append, drop, refl, sym, ap, ◌∙◌, arith}
-use Rattle.std.specs.Prelude.{◌||◌, nat_eq, slice_get}
+use Rattle.std.proofs.Common.{◌≡◌, ℕ, ◌+◌, ◌<◌, ◌≤◌, Bool, true, false, eqb, List, [], ◌∷◌, ◌++◌, Option, Some, None, length, length-append, refl, sym, ap, ◌∙◌, arith}
+use Rattle.std.specs.Prelude.{◌||◌, nat_eq}
 use Rattle.std.specs.List.{AllByRecursion, IsDistinct, list_any}
 use Rattle.std.proofs.lemmas.Map.Steps.{length-le_from_distinct_below}
 use Rattle.fs_names.specs.Keys.{Key}
@@ -145,12 +145,3 @@ climbs_top graph bound s node above i c other loose r = go (c.down r)
 -- numbers of which the test says that they differ
 pub differ_by : (n m : ℕ) → false ≡ nat_eq n m → n ≡ m → ⊥
 differ_by n m e f = grind arith
-
--- one name more of a path
-pub leads_on : (child : Children) (n : ℕ) (key : Key) (i : ℕ) (x : Name) → slice_get key i ≡ Some x → at child n (drop i key) ≡ then_at (child n x) (λ m. at child m (drop (i + 1) key))
-leads_on child n [] i x e = cc
-leads_on child n (y ∷ key) zero x e = let z : y ≡ x = cc in ap (λ (w : Name). then_at (child n w) (λ m. at child m key)) z
-leads_on child n (y ∷ key) (suc i) x e = let z : suc i + 1 ≡ suc (i + 1) = omega arith in rw z (leads_on child n key i x e)
-
-pub leads_to : (child : Children) (n : ℕ) (key : Key) (i : ℕ) (x : Name) (o : Option ℕ) → slice_get key i ≡ Some x → at child 0 key ≡ at child n (drop i key) → o ≡ child n x → at child 0 key ≡ then_at o (λ m. at child m (drop (i + 1) key))
-leads_to child n key i x o e so_far read = so_far ∙ leads_on child n key i x e ∙ ap (λ (p : Option ℕ). then_at p (λ m. at child m (drop (i + 1) key))) (sym read)

@@ -9,7 +9,7 @@ use Rattle.fs_locks.specs.Holding.{room}
 use Rattle.fs_machine.specs.Records.{Holdings, Walking, Record}
 use Rattle.fs_machine.specs.OpValues.{phase_of, record_of}
 use Rattle.fs_laws.specs.Invariants.{Invariant}
-use Rattle.fs_laws.specs.States.{IsWalkingBelow, IsLowest, NoneBelow, Run}
+use Rattle.fs_machine.specs.States.{IsWalkingBelow, IsLowest, NoneBelow, Run}
 use Rattle.fs_laws.proofs.states.Headline.{run_keeps}
 use Rattle.fs_laws.proofs.graphs.Walks.{at_from}
 use Rattle.fs_core.specs.declared.seat.Running.{Running}

@@ -13,9 +13,12 @@ use Rattle.fs_locks.specs.declared.word.TheConstants.{CALL_LIMIT}
 use Rattle.fs_timeline.specs.declared.entry.Entry.TheVariants.{Commit, Return}
 use Rattle.fs_timeline.specs.Timeline.{begins}
 use Rattle.fs_machine.specs.Leaving.{is_removed, releasing, unreserved}
-use Rattle.fs_machine.specs.Moves.{Move, Takes, Leaves, Finishes, Ends, next}
+use Rattle.fs_machine.specs.Moves.{next}
+use Rattle.fs_machine.specs.declared.moves.Move.{Move}
+use Rattle.fs_machine.specs.declared.moves.Move.TheVariants.{Take as Takes, LetGo as Leaves, Finish as Finishes, Return as Ends}
 use Rattle.fs_machine.specs.OpValues.{OpValue, record_of, next_of, IsTook, IsLetGo, IsFinished, IsSpare, SpareIf, CanFinish, graph_after}
-use Rattle.fs_laws.specs.States.{Step, Idle, Took, Busy, LetGo, Helped, Committed, CarriedOut, Returned, NoneBelow}
+use Rattle.fs_machine.specs.States.{Step, NoneBelow}
+use Rattle.fs_machine.specs.declared.answers.Stepped.TheVariants.{Idle, Took, Busy, LetGo, Helped, Committed, CarriedOut, Returned}
 use Rattle.fs_laws.proofs.calls.NextMoves.{takes_used, takes_another, leaves_held}
 use Rattle.fs_laws.proofs.states.GraphOfARun.{spare_reserved, spare_removed, can_finish, begun_before}
 use Rattle.fs_core.specs.declared.seat.Running.{Running}

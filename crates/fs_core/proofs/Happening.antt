@@ -1,7 +1,7 @@
 -- Events in order, with one more.
 use Rattle.std.proofs.Common.{◌≡◌, ℕ, suc, ◌+◌, ◌<◌, List, [], ◌∷◌, ◌++◌, length, take, get_or, refl, sym, ap, ◌∙◌, arith, subst}
 use Rattle.std.proofs.Math.Seq.{take-suc}
-use Rattle.fs_laws.specs.States.{State}
+use Rattle.fs_machine.specs.States.{State}
 use Rattle.fs_core.specs.declared.outcome.Event.{Event}
 use Rattle.fs_core.specs.Events.{Happens, AllHappen}
 

@@ -1,10 +1,6 @@
 -- What a begin rests on and leaves.
 use Rattle.std.proofs.Common.{◌≡◌, ℕ, ◌+◌, ◌-◌, ◌<◌, ◌≤◌, Bool, true, false, cond, eqb, List, [], ◌∷◌, ◌++◌, Option, Some, None, length, get_or, refl, sym, ap, ◌∙◌, arith, subst}
-use Rattle.std.specs.Prelude.{slice_get, slice_set, IsSome, is_some, Result, Err}
-use Rattle.fs_core.specs.Answers.{begun_as}
-use Rattle.fs_core.specs.declared.outcome.Refusal.{Refusal}
-use Rattle.fs_core.specs.declared.outcome.Refusal.TheVariants as refusals
-use Rattle.fs_core.specs.declared.beginning.Ready.{Ready}
+use Rattle.std.specs.Prelude.{slice_get, slice_set, IsSome, is_some, Ok, Err}
 use mathlib.Core.Path.{fun_ext}
 use Rattle.std.proofs.lemmas.Option.{slice_get_within, slice_get_read}
 use Rattle.fs_names.specs.Shapes.{Shape, Dir, File, is_there, has_entries}
@@ -16,14 +12,15 @@ use Rattle.fs_calls.specs.declared.call.Call.{Call}
 use Rattle.fs_nodes.specs.Graphs.{Graph, IsGraph, set_at, reserved_in, released_in, empty_graph}
 use Rattle.fs_nodes.specs.Places.{Places}
 use Rattle.fs_nodes.specs.Seen.{seen}
-use Rattle.fs_nodes.specs.Stores.{graph_of, in_use}
+use Rattle.fs_nodes.specs.Stores.{graph_of}
 use Rattle.fs_locks.specs.Holding.{Holding, holder, room}
 use Rattle.fs_locks.specs.declared.word.TheConstants.{CALL_LIMIT}
 use Rattle.fs_timeline.specs.declared.entry.Entry.TheVariants.{Begin}
 use Rattle.fs_machine.specs.Leaving.{unreserved}
 use Rattle.fs_machine.specs.OpValues.{OpValue, new_value, record_of, BegunAs, IsSpare, SpareIf}
 use Rattle.fs_timeline.specs.Timeline.{begins}
-use Rattle.fs_laws.specs.States.{State, empty, began, Begun_as, Seat_busy, Full, No_memory, IsFull, Reserves, Begins, Run, Start, Beginning}
+use Rattle.fs_machine.specs.States.{empty, began, Reserves, Begins, Run, Start, Beginning}
+use Rattle.fs_machine.specs.declared.answers.Refusal.TheVariants.{SeatBusy}
 use Rattle.fs_laws.proofs.states.Agreement.{not_begun}
 use Rattle.fs_laws.proofs.states.Headline.{run_keeps}
 use Rattle.fs_laws.proofs.graphs.Walks.{eqb_refl, eqb_true}
@@ -94,18 +91,6 @@ cancel_graph graph new last limit call w b e = go (reserves (form call)) b
     go None (is_w, is_new) = e ∙ ap (λ (x : OpValue). unreserved x.reserved new) is_w ∙ is_new
     go (Some shape) (m, less, free, is_w, is_new) = e ∙ ap (λ (x : OpValue). unreserved x.reserved new) is_w ∙ ap (released_in m) is_new ∙ unreserve graph m shape free
 
--- whether all numbers are in use, as the refusals tell
-pub full_told : (m : Machine) (call : Call) → IsFull (state_of m) (reserves (form call)) → IsSome (reserves (form call)) × (in_use m.store ≡ (seen m.store).limit)
-full_told m call = go (reserves (form call))
-  where
-    go : (o : Option Shape) → IsFull (state_of m) o → IsSome o × (in_use m.store ≡ (seen m.store).limit)
-    go None h = absurd h
-    go (Some shape) h = (refl, h)
-
-full_is : (m : Machine) (o : Option Shape) → IsSome o → in_use m.store ≡ (seen m.store).limit → IsFull (state_of m) o
-full_is m None h e = cc
-full_is m (Some shape) h e = e
-
 -- a begin that is refused
 pub refused_same : (m : Machine) (b k p : ℕ) → IsKept m b k p → (st : Places) (hs : Holding) → graph_of st ≡ graph_of m.store → (seen st).limit ≡ (seen m.store).limit → holder hs ≡ holder m.holding → room m.holding ≤ room hs
     → (state_of (record m { store = st; holding = hs }) ≡ state_of m) × IsKept (record m { store = st; holding = hs }) b k p
@@ -125,21 +110,15 @@ refused_same m b k p kept st hs graph limit is_hs more = (
     same : state_of (record m { store = st; holding = hs }) ≡ state_of m
     same = same_state _ _ _ _ _ _ _ _ _ _ _ limit graph is_hs refl refl
 
-pub seat_busy_step : (m : Machine) (seat : ℕ) (call : Call) (slot : Option Running) → seat < length m.seats → slot ≡ get_or m.seats seat slot → IsSome slot → Begins (state_of m) seat call Seat_busy (state_of m)
+pub seat_busy_step : (m : Machine) (seat : ℕ) (call : Call) (slot : Option Running) → seat < length m.seats → slot ≡ get_or m.seats seat slot → IsSome slot → Begins (state_of m) seat call (Err SeatBusy) (state_of m)
 seat_busy_step m seat call slot within read some = go slot refl some
   where
-    go : (o : Option Running) → slot ≡ o → IsSome o → Begins (state_of m) seat call Seat_busy (state_of m)
+    go : (o : Option Running) → slot ≡ o → IsSome o → Begins (state_of m) seat call (Err SeatBusy) (state_of m)
     go None e h = cc
     go (Some r) e h = (r.call, number_read m.seats seat slot (slice_get_read m.seats _ seat slot refl within read) ∙ ap number_of e, refl)
 
 pub free_seat : (m : Machine) (seat : ℕ) (slot : Option Running) → seat < length m.seats → slot ≡ get_or m.seats seat slot → slot ≡ None → slice_get m.seats seat ≡ Some None
 free_seat m seat slot within read is = slice_get_read m.seats _ seat slot refl within read ∙ ap (λ (o : Option Running). Some o) is
-
-pub full_step : (m : Machine) (seat : ℕ) (call : Call) (new : State) → slice_get m.seats seat ≡ Some None → IsSome (reserves (form call)) × (in_use m.store ≡ (seen m.store).limit) → new ≡ state_of m → Begins (state_of m) seat call Full new
-full_step m seat call new free full same = (number_read m.seats seat None free, full_is m (reserves (form call)) full.0 full.1, same)
-
-pub no_memory_step : (m : Machine) (seat : ℕ) (call : Call) (new : State) → slice_get m.seats seat ≡ Some None → (IsSome (reserves (form call)) × (in_use m.store ≡ (seen m.store).limit) → ⊥) → new ≡ state_of m → Begins (state_of m) seat call No_memory new
-no_memory_step m seat call new free not same = (number_read m.seats seat None free, λ h. not (full_told m call h), same)
 
 -- a call that begins
 begun_roomy : (m : Machine) (b k p : ℕ) → IsKept m b k p → (call : Call) (st : Places) (hs : Holding) (w : OpValue) (o : Option Shape) → BegunAs (graph_of m.store) (seen m.store).limit call o w (graph_of st) → HasRoom w.reserved hs → room m.holding ≤ room hs → AreBelow (graph_of st) (room hs)
@@ -153,11 +132,11 @@ begun_roomy m b k p kept call st hs w (Some shape) (c, below, free, is_w, is_new
 pub begun_kept : (m : Machine) (b k p seat : ℕ) (call : Call) → IsKept m b k p → slice_get m.seats seat ≡ Some None
     → (st : Places) (hs : Holding) (w : OpValue) (number : ℕ) (copy : Call) (slot : Option Running) → BegunAs (graph_of m.store) (seen m.store).limit call (reserves (form call)) w (graph_of st) → (seen st).limit ≡ (seen m.store).limit
     → holder hs ≡ holder m.holding → room m.holding ≤ room hs → HasRoom w.reserved hs → number ≡ b + 1 → number < CALL_LIMIT → copy ≡ call → slot ≡ Some (record { call = number; place = None; op = w })
-    → Begins (state_of m) seat call (Begun_as number) (state_of (record m { store = st; holding = hs; seats = slice_set m.seats seat slot; timeline = m.timeline ++ Begin number seat copy ∷ [] })) × IsKept (record m { store = st; holding = hs; seats = slice_set m.seats seat slot; timeline = m.timeline ++ Begin number seat copy ∷ [] }) number k (p + 3 - 1)
+    → Begins (state_of m) seat call (Ok number) (state_of (record m { store = st; holding = hs; seats = slice_set m.seats seat slot; timeline = m.timeline ++ Begin number seat copy ∷ [] })) × IsKept (record m { store = st; holding = hs; seats = slice_set m.seats seat slot; timeline = m.timeline ++ Begin number seat copy ∷ [] }) number k (p + 3 - 1)
 begun_kept m b k p seat call kept free st hs w number copy slot begun limit is_hs more has is_number few is_copy is = (
   step,
   record {
-    run = Beginning seat call (Begun_as number) _ kept.run step;
+    run = Beginning seat call (Ok number) _ kept.run step;
     roomy = begun_roomy m b k p kept call st hs w (reserves (form call)) begun has more;
     begun_is = is_number ∙ ap (λ (n : ℕ). n + 1) kept.begun_is ∙ sym (begins_more m.timeline number seat copy);
     few = few;
@@ -197,7 +176,7 @@ begun_kept m b k p seat call kept free st hs w number copy slot begun limit is_h
     reserve None (is_w, is_new) = same None (graph_of m.store) is_w is_new
     reserve (Some shape) (c, below, unused, is_w, is_new) = (c, below, unused, same (Some c) (reserved_in c shape (graph_of m.store)) is_w is_new)
 
-    step : Begins (state_of m) seat call (Begun_as number) (state_of M)
+    step : Begins (state_of m) seat call (Ok number) (state_of M)
     step = (number_read m.seats seat None free, counted, reserve (reserves (form call)) begun)
 
 -- a seat more
@@ -248,33 +227,15 @@ new_kept st hs limit one graph is_limit is_hs has = (
 pub begun_by : (m : Machine) (b k p at seat : ℕ) (call : Call) → IsKept m b k p → at ≡ seat → (old : Option Running) → seat < length m.seats → old ≡ get_or m.seats at old → old ≡ None
     → (st : Places) (hs : Holding) (w : OpValue) (number last : ℕ) (copy : Call) (slot : Option Running) → BegunAs (graph_of m.store) (seen m.store).limit call (reserves (form call)) w (graph_of st) → (seen st).limit ≡ (seen m.store).limit
     → holder hs ≡ holder m.holding → room m.holding ≤ room hs → HasRoom w.reserved hs → number ≡ last → last ≡ b + 1 → last < CALL_LIMIT → copy ≡ call → slot ≡ Some (record { call = number; place = None; op = w })
-    → Begins (state_of m) seat call (Begun_as number) (state_of (record m { store = st; holding = hs; seats = slice_set m.seats at slot; timeline = m.timeline ++ Begin number seat copy ∷ [] })) × IsKept (record m { store = st; holding = hs; seats = slice_set m.seats at slot; timeline = m.timeline ++ Begin number seat copy ∷ [] }) last k (p + 3 - 1)
+    → Begins (state_of m) seat call (Ok number) (state_of (record m { store = st; holding = hs; seats = slice_set m.seats at slot; timeline = m.timeline ++ Begin number seat copy ∷ [] })) × IsKept (record m { store = st; holding = hs; seats = slice_set m.seats at slot; timeline = m.timeline ++ Begin number seat copy ∷ [] }) last k (p + 3 - 1)
 begun_by m b k p at seat call kept e old within read is_free st hs w number last copy slot begun limit is_hs more has is_last is_number few is_copy is =
-    subst (λ (s : ℕ). Begins (state_of m) s call (Begun_as number) (state_of (record m { store = st; holding = hs; seats = slice_set m.seats at slot; timeline = m.timeline ++ Begin number s copy ∷ [] })) × IsKept (record m { store = st; holding = hs; seats = slice_set m.seats at slot; timeline = m.timeline ++ Begin number s copy ∷ [] }) last k (p + 3 - 1)) e
-    (subst (λ (l : ℕ). Begins (state_of m) at call (Begun_as number) (state_of (record m { store = st; holding = hs; seats = slice_set m.seats at slot; timeline = m.timeline ++ Begin number at copy ∷ [] })) × IsKept (record m { store = st; holding = hs; seats = slice_set m.seats at slot; timeline = m.timeline ++ Begin number at copy ∷ [] }) l k (p + 3 - 1)) is_last
+    subst (λ (s : ℕ). Begins (state_of m) s call (Ok number) (state_of (record m { store = st; holding = hs; seats = slice_set m.seats at slot; timeline = m.timeline ++ Begin number s copy ∷ [] })) × IsKept (record m { store = st; holding = hs; seats = slice_set m.seats at slot; timeline = m.timeline ++ Begin number s copy ∷ [] }) last k (p + 3 - 1)) e
+    (subst (λ (l : ℕ). Begins (state_of m) at call (Ok number) (state_of (record m { store = st; holding = hs; seats = slice_set m.seats at slot; timeline = m.timeline ++ Begin number at copy ∷ [] })) × IsKept (record m { store = st; holding = hs; seats = slice_set m.seats at slot; timeline = m.timeline ++ Begin number at copy ∷ [] }) l k (p + 3 - 1)) is_last
     (begun_kept m b k p at call kept (free_seat m at old (subst (λ (s : ℕ). s < length m.seats) (sym e) within) read is_free) st hs w number copy slot begun limit is_hs more has (is_last ∙ is_number) (subst (λ (n : ℕ). n < CALL_LIMIT) (sym is_last) few) is_copy is))
 
-pub busy_by : (m : Machine) (at seat : ℕ) (call : Call) (slot : Option Running) (b : Bool) → at ≡ seat → seat < length m.seats → slot ≡ get_or m.seats at slot → b ≡ is_some slot → b ≡ true → Begins (state_of m) seat call Seat_busy (state_of m)
-busy_by m at seat call slot b e within read some yes_some = subst (λ (s : ℕ). Begins (state_of m) s call Seat_busy (state_of m)) e (seat_busy_step m at call slot (subst (λ (s : ℕ). s < length m.seats) (sym e) within) read (sym some ∙ yes_some))
+pub busy_by : (m : Machine) (at seat : ℕ) (call : Call) (slot : Option Running) (b : Bool) → at ≡ seat → seat < length m.seats → slot ≡ get_or m.seats at slot → b ≡ is_some slot → b ≡ true → Begins (state_of m) seat call (Err SeatBusy) (state_of m)
+busy_by m at seat call slot b e within read some yes_some = subst (λ (s : ℕ). Begins (state_of m) s call (Err SeatBusy) (state_of m)) e (seat_busy_step m at call slot (subst (λ (s : ℕ). s < length m.seats) (sym e) within) read (sym some ∙ yes_some))
 
 pub none_by_test : {A : Type 0} (slot : Option A) (b : Bool) → b ≡ is_some slot → b ≡ false → slot ≡ None
 none_by_test None b e f = refl
 none_by_test (Some r) b e f = cc
-
--- a refusal, by what was made ready
-pub refused_by : (m : Machine) (at seat : ℕ) (call : Call) (slot : Option Running) (b : Bool) (refusal : Refusal) (new : State) → at ≡ seat → seat < length m.seats → slot ≡ get_or m.seats at slot → b ≡ is_some slot → b ≡ false
-    → (◌≡◌ {A = Result Ready Refusal} (Err refusal) (Err refusals.Full) → IsSome (reserves (form call)) × (in_use m.store ≡ (seen m.store).limit))
-    → (IsSome (reserves (form call)) × (in_use m.store ≡ (seen m.store).limit) → ◌≡◌ {A = Result Ready Refusal} (Err refusal) (Err refusals.Full))
-    → (◌≡◌ {A = Result Ready Refusal} (Err refusal) (Err refusals.SeatBusy) → ⊥)
-    → new ≡ state_of m → Begins (state_of m) seat call (begun_as (Err refusal)) new
-refused_by m at seat call slot b refusal new e within read some not_some full is_full busy same = subst (λ (s : ℕ). Begins (state_of m) s call (begun_as (Err refusal)) new) e (go refusal full is_full busy)
-  where
-    free : slice_get m.seats at ≡ Some None
-    free = free_seat m at slot (subst (λ (s : ℕ). s < length m.seats) (sym e) within) read (none_by_test slot b some not_some)
-
-    go : (r : Refusal) → (◌≡◌ {A = Result Ready Refusal} (Err r) (Err refusals.Full) → IsSome (reserves (form call)) × (in_use m.store ≡ (seen m.store).limit))
-        → (IsSome (reserves (form call)) × (in_use m.store ≡ (seen m.store).limit) → ◌≡◌ {A = Result Ready Refusal} (Err r) (Err refusals.Full))
-        → (◌≡◌ {A = Result Ready Refusal} (Err r) (Err refusals.SeatBusy) → ⊥) → Begins (state_of m) at call (begun_as (Err r)) new
-    go refusals.Full f g h = full_step m at call new free (f refl) same
-    go refusals.OutOfMemory f g h = no_memory_step m at call new free (λ x. (let z : ◌≡◌ {A = Result Ready Refusal} (Err refusals.OutOfMemory) (Err refusals.Full) = g x in cc)) same
-    go refusals.SeatBusy f g h = absurd (h refl)

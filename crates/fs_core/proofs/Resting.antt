@@ -6,8 +6,8 @@ use Rattle.fs_nodes.specs.Graphs.{graph_shapes}
 use Rattle.fs_nodes.specs.Stores.{graph_of}
 use Rattle.fs_timeline.specs.Timeline.{commits}
 use Rattle.fs_machine.specs.Records.{Record}
-use Rattle.fs_laws.specs.Headline.{IsIdle}
-use Rattle.fs_laws.specs.States.{Run}
+use Rattle.fs_machine.specs.Headline.{IsIdle}
+use Rattle.fs_machine.specs.States.{Run}
 use Rattle.fs_laws.proofs.journal.ViewOfTimeline.{linearizes}
 use Rattle.fs_laws.proofs.states.Headline.{run_keeps}
 use Rattle.fs_core.specs.declared.seat.Running.{Running}

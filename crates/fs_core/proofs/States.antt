@@ -8,12 +8,13 @@ use Rattle.fs_timeline.specs.declared.entry.Entry.{Entry}
 use Rattle.fs_timeline.specs.declared.entry.Entry.TheVariants.{Begin, Commit, Return}
 use Rattle.fs_names.specs.Keys.{Key}
 use Rattle.fs_machine.specs.Finishes.{finish}
-use Rattle.fs_machine.specs.Moves.{Move, took, took_by, target}
+use Rattle.fs_machine.specs.Moves.{took, took_by, target}
+use Rattle.fs_machine.specs.declared.moves.Move.{Move}
 use Rattle.fs_machine.specs.Records.{Holdings, Finished, Record, Records}
 use Rattle.fs_machine.specs.OpValues.{OpValue, phase_of, record_of, next_of, IsTook, IsLetGo, IsFinished}
 use Rattle.fs_timeline.specs.Timeline.{begins, commit_count}
 use Rattle.fs_laws.specs.Invariants.{Invariant}
-use Rattle.fs_laws.specs.States.{State, Moves, Run}
+use Rattle.fs_machine.specs.States.{State, Moves, Run}
 use Rattle.fs_laws.proofs.states.Headline.{run_keeps}
 use Rattle.fs_core.specs.declared.seat.Running.{Running}
 use Rattle.fs_core.specs.Machines.{Machine, state_of, records}

@@ -13,11 +13,12 @@ use Rattle.fs_locks.specs.Holding.{Holding, holder}
 use Rattle.fs_timeline.specs.declared.entry.Entry.TheVariants.{Commit, Return}
 use Rattle.fs_machine.specs.Finishes.{finish}
 use Rattle.fs_machine.specs.Leaving.{is_removed, releasing, unreserved}
-use Rattle.fs_machine.specs.Moves.{Takes, Leaves, Finishes, Ends}
+use Rattle.fs_machine.specs.declared.moves.Move.TheVariants.{Take as Takes, LetGo as Leaves, Finish as Finishes, Return as Ends}
 use Rattle.fs_machine.specs.Records.{Phase, Walking, Placed, Record}
 use Rattle.fs_machine.specs.OpValues.{OpValue, phase_of, record_of, next_of, IsTook, IsLetGo, IsFinished, graph_after}
 use Rattle.fs_timeline.specs.Timeline.{commit_count}
-use Rattle.fs_laws.specs.States.{Step, Took, LetGo, Helped, Committed, CarriedOut, Returned, IsChosen, NoneBelow, Run, Stepping}
+use Rattle.fs_machine.specs.States.{Step, IsChosen, NoneBelow, Run, Stepping}
+use Rattle.fs_machine.specs.declared.answers.Stepped.TheVariants.{Took, LetGo, Helped, Committed, CarriedOut, Returned}
 use Rattle.fs_laws.specs.Invariants.{Invariant}
 use Rattle.fs_laws.proofs.states.Agreement.{run_accounts}
 use Rattle.fs_laws.proofs.states.Headline.{run_keeps}

@@ -5,7 +5,8 @@ use Rattle.fs_calls.specs.declared.reply.Reply.{Reply}
 use Rattle.fs_calls.specs.Forms.{form, by_text}
 use Rattle.fs_nodes.specs.Graphs.{Graph}
 use Rattle.fs_machine.specs.Finishes.{effect_of, finish}
-use Rattle.fs_machine.specs.Moves.{Finishes, Ends, next, next_by}
+use Rattle.fs_machine.specs.Moves.{next, next_by}
+use Rattle.fs_machine.specs.declared.moves.Move.TheVariants.{Finish as Finishes, Return as Ends}
 use Rattle.fs_machine.specs.Records.{Holdings, Finished}
 use Rattle.fs_laws.proofs.states.ComputedSteps.{by_ends}
 use Rattle.fs_machine.specs.OpValues.{OpValue, phase_of, record_of, next_of}

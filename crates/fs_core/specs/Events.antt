@@ -1,12 +1,11 @@
 -- Runs of events, and what is made ready for a call that begins.
-use Rattle.std.specs.Prelude.{ℕ, ◌≡◌, ◌<◌, List, [], ◌∷◌, Option, Some, None, length, take, slice_get}
+use Rattle.std.specs.Prelude.{ℕ, ◌≡◌, ◌<◌, List, [], ◌∷◌, Option, Some, None, length, take, slice_get, Ok, Err}
 use Rattle.fs_locks.specs.Holding.{Holding, room}
-use Rattle.fs_laws.specs.States as machine
-use Rattle.fs_laws.specs.States.{State, Begins, Step}
+use Rattle.fs_machine.specs.States.{State, Begins, Step}
+use Rattle.fs_machine.specs.declared.answers.Stepped.{Stepped}
 use Rattle.fs_core.specs.declared.outcome.Event.{Event}
 use Rattle.fs_core.specs.declared.outcome.Event.TheVariants as events
-use Rattle.fs_core.specs.declared.outcome.Refusal.{Refusal}
-use Rattle.fs_core.specs.declared.outcome.Refusal.TheVariants.{OutOfMemory, Full, SeatBusy}
+use Rattle.fs_machine.specs.declared.answers.Refusal.{Refusal}
 
 -- the seat of an event is there
 abbrev pub IsSeated : ℕ → Event → Type 0
@@ -15,23 +14,17 @@ IsSeated seats (events.Step seat) = seat < seats
 
 -- an event that is done: a begin that succeeds, or a step
 abbrev pub Happens : State → Event → State → Type 0
-Happens old (events.Begin seat call) new = (c : ℕ) × Begins old seat call (machine.Begun_as c) new
-Happens old (events.Step seat) new = (answer : machine.Stepped) × Step old seat answer new
+Happens old (events.Begin seat call) new = (c : ℕ) × Begins old seat call (Ok c) new
+Happens old (events.Step seat) new = (answer : Stepped) × Step old seat answer new
 
 -- events in order
 abbrev pub AllHappen : State → List Event → State → Type 0
 AllHappen old [] new = new ≡ old
 AllHappen old (event ∷ events) new = (middle : State) × Happens old event middle × AllHappen middle events new
 
--- a refusal as the answer of a begin
-abbrev pub refused_as : Refusal → machine.Begun
-refused_as OutOfMemory = machine.No_memory
-refused_as Full = machine.Full
-refused_as SeatBusy = machine.Seat_busy
-
 -- a begin that is refused
 abbrev pub IsRefused : State → Event → Refusal → State → Type 0
-IsRefused old (events.Begin seat call) refusal new = Begins old seat call (refused_as refusal) new
+IsRefused old (events.Begin seat call) refusal new = Begins old seat call (Err refusal) new
 IsRefused old (events.Step seat) refusal new = ⊥
 
 -- a begin that is refused at a place of a list

@@ -1,4 +1,3 @@
 pub mod Machines
-pub mod Answers
 pub mod Events
 pub mod code

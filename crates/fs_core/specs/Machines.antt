@@ -8,7 +8,7 @@ use Rattle.fs_locks.specs.Holding.{Holding, holder}
 use Rattle.fs_timeline.specs.declared.entry.Entry.{Entry}
 use Rattle.fs_machine.specs.Records.{Record, Records}
 use Rattle.fs_machine.specs.OpValues.{record_of}
-use Rattle.fs_laws.specs.States.{State}
+use Rattle.fs_machine.specs.States.{State}
 use Rattle.fs_core.specs.declared.seat.Running.{Running}
 
 -- the nodes, who holds them, the call under way on each seat, the entries so far

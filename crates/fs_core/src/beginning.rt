@@ -9,12 +9,12 @@ ghost use Rattle.fs_locks.specs.declared.word.TheConstants.{CALL_LIMIT};
 ghost use Rattle.fs_calls.specs.Forms.{form, reserves};
 ghost use Rattle.fs_machine.specs.OpValues.{BegunAs};
 ghost use Rattle.fs_core.specs.Events.{HasRoom};
-ghost use Rattle.fs_core.specs.declared.outcome.Refusal.TheVariants as refusals;
+ghost use Rattle.fs_machine.specs.declared.answers.Refusal.TheVariants as refusals;
 
-use crate::outcome::Refusal;
 use fs_calls::Call;
 use fs_index::IndexedTimeline;
 use fs_locks::{CALL_LIMIT, Holders};
+use fs_machine::Refusal;
 use fs_nodes::{NoNode, NodeNo, Store};
 use fs_ops::Op;
 use std::alloc::{AllocError, Global};

@@ -10,7 +10,8 @@ ghost use Rattle.fs_core.specs.Events.{IsSeated, Happens, IsRefused, IsRun};
 ghost use Rattle.fs_core.specs.Machines.{state_of, IsAtRest};
 
 use crate::machine::Core;
-use crate::outcome::{Event, Ran, Refusal};
+use crate::outcome::{Event, Ran};
+use fs_machine::Refusal;
 use std::alloc::Global;
 
 impl Core {

@@ -7,19 +7,19 @@
 //! one changes nothing; a step does one move of the call on a seat, and cannot fail.
 //!
 //! Enter at `Core::new`, `seat`, `begin`, `step` and `timeline`. What a begin and a step do is
-//! `fs_laws/specs/States.antt`. In `specs/` here `Machines` says which of those states a core is in, `Answers` what its
-//! answers are there, and `Events` what a list of events does; `specs/code/` ties the code to them, and changes no meaning.
+//! `fs_machine/specs/States.antt`. In `specs/` here `Machines` says which of those states a core is in, and `Events` what
+//! a list of events does; `specs/code/` ties the code to them, and changes no meaning.
 #![tactic(auto)]
 
 mod beginning;
 mod commits;
 mod events;
-mod finding;
 mod helping;
 pub mod machine;
 pub mod outcome;
 mod seat;
 mod telling;
 
+pub use fs_machine::{Refusal, Stepped};
 pub use machine::Core;
-pub use outcome::{Event, Ran, Refusal, Stepped};
+pub use outcome::{Event, Ran};

@@ -3,30 +3,29 @@
 ghost use Rattle.std.specs.Prelude.{MatchOption, IfOk, OnOk, OnErr, ◌≡◌, ◌<◌, ◌≤◌, ◌++◌, ◌∷◌, [], ℕ, None, Some, length};
 ghost use Rattle.fs_names.specs.declared.limits.TheConstants.{NODE_LIMIT};
 ghost use Rattle.fs_nodes.specs.Graphs.{numbers};
-ghost use Rattle.fs_machine.specs.Moves.{Takes, Leaves, Finishes, Ends};
+ghost use Rattle.fs_machine.specs.declared.moves.Move.TheVariants.{Take as Takes, LetGo as Leaves, Finish as Finishes, Return as Ends};
 ghost use Rattle.fs_nodes.specs.Graphs.{graph_shapes};
 ghost use Rattle.fs_nodes.specs.Stores.{graph_of};
 ghost use Rattle.fs_calls.specs.Outcomes.{play};
 ghost use Rattle.fs_calls.specs.Shapes.{tree_shapes};
 ghost use Rattle.fs_timeline.specs.Timeline.{IsLawful, commits};
-ghost use Rattle.fs_laws.specs.States.{Begins, Step, NoneBelow, Run, empty};
-ghost use Rattle.fs_core.specs.Answers.{begun_as, stepped_as};
+ghost use Rattle.fs_machine.specs.States.{Begins, Step, NoneBelow, Run, empty};
 ghost use Rattle.fs_core.specs.code.Helping.{HelpsIf};
 ghost use Rattle.fs_core.specs.Machines.{state_of, IsAtRest};
 ghost use Rattle.fs_core.specs.code.Seats.{MovesOn, PlacedOn};
 
 use crate::beginning::make_ready;
-use crate::finding::find_path;
 use crate::helping::to_help;
-use crate::outcome::{Refusal, Stepped};
 use crate::seat::{self, Running};
 use fs_calls::Call;
 use fs_index::IndexedTimeline;
 use fs_locks::{HeldBy, Holders};
+use fs_machine::{Refusal, Stepped};
 use fs_names::{CallNo, NODE_LIMIT, Path, SeatNo};
 use fs_nodes::{NodeNo, Store};
 use fs_ops::Move;
 use fs_timeline::{Entry, Timeline};
+use fs_walk::find_path;
 use std::alloc::{AllocError, Global};
 use std::marker::Model;
 
@@ -81,7 +80,7 @@ impl Core {
     fn take(&mut self, seat: usize, call: CallNo, node: NodeNo) -> Stepped
         requires seat { seat < length self.old.seats }
         requires moves { MovesOn self.old seat call (Takes node) }
-        ensures step { Step (state_of self.old) seat (stepped_as result) (state_of self.new) }
+        ensures step { Step (state_of self.old) seat result (state_of self.new) }
         ensures seats { length self.new.seats ≡ length self.old.seats }
     {
         match self.holders.take(node, call) {
@@ -97,7 +96,7 @@ impl Core {
     fn let_go(&mut self, seat: usize, call: CallNo, node: NodeNo) -> Stepped
         requires seat { seat < length self.old.seats }
         requires moves { MovesOn self.old seat call (Leaves node) }
-        ensures step { Step (state_of self.old) seat (stepped_as result) (state_of self.new) }
+        ensures step { Step (state_of self.old) seat result (state_of self.new) }
         ensures seats { length self.new.seats ≡ length self.old.seats }
     {
         self.holders.let_go(node);
@@ -112,7 +111,7 @@ impl Core {
         requires moves { MovesOn self.old seat call (Finishes moved) }
         requires walking { PlacedOn self.old seat None }
         requires alone { NoneBelow (state_of self.old) moved }
-        ensures step { Step (state_of self.old) seat (stepped_as result) (state_of self.new) }
+        ensures step { Step (state_of self.old) seat result (state_of self.new) }
         ensures seats { length self.new.seats ≡ length self.old.seats }
     {
         seat::carry_out(&mut self.seats[seat], &mut self.store);
@@ -126,7 +125,7 @@ impl Core {
         requires seat { seat < length self.old.seats }
         requires moves { MovesOn self.old seat call (Finishes moved) }
         requires placed { PlacedOn self.old seat (Some place) }
-        ensures step { Step (state_of self.old) seat (stepped_as result) (state_of self.new) }
+        ensures step { Step (state_of self.old) seat result (state_of self.new) }
         ensures seats { length self.new.seats ≡ length self.old.seats }
     {
         seat::carry_out(&mut self.seats[seat], &mut self.store);
@@ -148,7 +147,7 @@ impl Core {
         requires seat { seat < length self.old.seats }
         requires moves { MovesOn self.old seat call (Finishes moved) }
         requires walking { PlacedOn self.old seat None }
-        ensures step { Step (state_of self.old) seat (stepped_as result) (state_of self.new) }
+        ensures step { Step (state_of self.old) seat result (state_of self.new) }
         ensures seats { length self.new.seats ≡ length self.old.seats }
     {
         match self.to_help(&moved) {
@@ -166,7 +165,7 @@ impl Core {
     fn end(&mut self, seat: usize, call: CallNo) -> Stepped
         requires seat { seat < length self.old.seats }
         requires moves { MovesOn self.old seat call Ends }
-        ensures step { Step (state_of self.old) seat (stepped_as result) (state_of self.new) }
+        ensures step { Step (state_of self.old) seat result (state_of self.new) }
         ensures seats { length self.new.seats ≡ length self.old.seats }
     {
         let running = seat::take_out(&mut self.seats[seat]);
@@ -178,7 +177,7 @@ impl Core {
     /// The call on a seat does its next move.
     pub fn step(&mut self, seat: SeatNo) -> Stepped
         requires seat { seat < length self.old.seats }
-        ensures step { Step (state_of self.old) seat (stepped_as result) (state_of self.new) }
+        ensures step { Step (state_of self.old) seat result (state_of self.new) }
         ensures seats { length self.new.seats ≡ length self.old.seats }
     {
         let at = seat.get() as usize;
@@ -256,7 +255,7 @@ impl Core {
     /// way, else `Full` exactly where the call reserves a number and all are in use.
     pub fn begin(&mut self, alloc: Global, seat: SeatNo, call: &Call) -> Result<CallNo, Refusal>
         requires seat { seat < length self.old.seats }
-        ensures begins { Begins (state_of self.old) seat call.now (begun_as result) (state_of self.new) }
+        ensures begins { Begins (state_of self.old) seat call.now result (state_of self.new) }
         ensures seats { length self.new.seats ≡ length self.old.seats }
     {
         let at = seat.get() as usize;

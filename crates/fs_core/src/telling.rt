@@ -13,7 +13,8 @@ ghost use Rattle.fs_laws.specs.Below.{
   NeverWaitsToFinish,
   HelpsAreFew,
 };
-ghost use Rattle.fs_laws.specs.Progress.{HasStep, IsDetermined, WaitsBelow, IsNeverStuck};
+ghost use Rattle.fs_laws.specs.Progress.{HasStep, WaitsBelow, IsNeverStuck};
+ghost use Rattle.fs_machine.specs.Laws.{IsDetermined};
 ghost use Rattle.fs_laws.specs.StepsLeft.{TakesWork, AddsWork};
 ghost use Rattle.fs_laws.specs.OneCall.{MeetsTreeAlone};
 ghost use Rattle.fs_numbers.specs.Numbers.{NumbersAreKept};

@@ -1,5 +1,5 @@
 -- Steps of one seat up to its return, or up to a node that another call holds.
-use Rattle.std.proofs.Common.{◌≡◌, ℕ, ◌+◌, ◌<◌, ◌≤◌, Bool, true, false, Option, Some, None, IsSome, is_some, refl, sym, ap, ◌∙◌, subst, arith}
+use Rattle.std.proofs.Common.{◌≡◌, ℕ, ◌+◌, ◌<◌, ◌≤◌, Bool, true, false, Option, Some, None, Ok, IsSome, is_some, refl, sym, ap, ◌∙◌, subst, arith}
 use Rattle.fs_names.specs.Shapes.{Shape}
 use Rattle.fs_calls.specs.Forms.{form, reserves}
 use Rattle.fs_calls.specs.declared.call.Call.{Call}
@@ -7,13 +7,14 @@ use Rattle.fs_calls.specs.declared.reply.Reply.{Reply}
 use Rattle.fs_nodes.specs.Graphs.{set_at}
 use Rattle.fs_laws.specs.OneCall.{IsNoReturn, StepsTo, Goes_on}
 use Rattle.fs_laws.specs.Progress.{GoesOn}
-use Rattle.fs_laws.specs.States.{State, Begins, Begun_as, Reserves, Run, Step, Stepped, Idle, Took, Busy, LetGo, Helped, Committed, CarriedOut, Returned}
+use Rattle.fs_machine.specs.States.{State, Begins, Reserves, Run, Step}
+use Rattle.fs_machine.specs.declared.answers.Stepped.{Stepped}
+use Rattle.fs_machine.specs.declared.answers.Stepped.TheVariants.{Idle, Took, Busy, LetGo, Helped, Committed, CarriedOut, Returned}
 use Rattle.fs_laws.specs.StepsLeft.{steps_left}
 use Rattle.fs_laws.proofs.states.StepsTakeWork.{takes_work}
 use Rattle.fs_laws.proofs.events.Help.{upd_here}
-use Rattle.fs_core.specs.Answers.{stepped_as}
-use Rattle.fs_core.specs.declared.outcome.Stepped.{Stepped as Answer}
-use Rattle.fs_core.specs.declared.outcome.Stepped.TheVariants as answers
+use Rattle.fs_machine.specs.declared.answers.Stepped.{Stepped as Answer}
+use Rattle.fs_machine.specs.declared.answers.Stepped.TheVariants as answers
 use Rattle.fs_embed.specs.Calls.{Steps, Still, Then, IsWaiting}
 
 -- steps before those up to a return are steps up to it
@@ -45,7 +46,7 @@ less seat answer old new run goes step = let w : steps_left new + 1 ≤ steps_le
 -- ---- what the core answered
 
 -- an answer that is no return
-pub no_return : (answer : Answer) → ((r : Reply) → answer ≡ answers.Returned r → ⊥) → IsNoReturn (stepped_as answer)
+pub no_return : (answer : Answer) → ((r : Reply) → answer ≡ answers.Returned r → ⊥) → IsNoReturn answer
 no_return answers.Idle ends = tt
 no_return (answers.Took n) ends = tt
 no_return (answers.Busy n d) ends = tt
@@ -56,8 +57,8 @@ no_return answers.CarriedOut ends = tt
 no_return (answers.Returned r) ends = ends r refl
 
 -- a step of a seat with a call under way, which does not wait and does not return, goes on with the call
-pub goes : (seat : ℕ) (answer : Answer) (old new : State) → IsSome (old.on_seat seat) → Step old seat (stepped_as answer) new
-    → ((n d : ℕ) → answer ≡ answers.Busy n d → ⊥) → ((r : Reply) → answer ≡ answers.Returned r → ⊥) → GoesOn (stepped_as answer)
+pub goes : (seat : ℕ) (answer : Answer) (old new : State) → IsSome (old.on_seat seat) → Step old seat answer new
+    → ((n d : ℕ) → answer ≡ answers.Busy n d → ⊥) → ((r : Reply) → answer ≡ answers.Returned r → ⊥) → GoesOn answer
 goes seat answers.Idle old new there step busy ends = let none : is_some (old.on_seat seat) ≡ false = ap is_some step.0 in absurd (let z : ◌≡◌ {A = Bool} false true = sym none ∙ there in cc)
 goes seat (answers.Took n) old new there step busy ends = tt
 goes seat (answers.Busy n d) old new there step busy ends = absurd (busy n d refl)
@@ -68,7 +69,7 @@ goes seat answers.CarriedOut old new there step busy ends = tt
 goes seat (answers.Returned r) old new there step busy ends = tt
 
 -- the call of a begin is on its seat
-pub seated : (seat number : ℕ) (call : Call) (old new : State) → Begins old seat call (Begun_as number) new → IsSome (new.on_seat seat)
+pub seated : (seat number : ℕ) (call : Call) (old new : State) → Begins old seat call (Ok number) new → IsSome (new.on_seat seat)
 seated seat number call old new begins = on_it (reserves (form call)) begins.2
   where
     here : (seat number : ℕ) (on_seat : ℕ → Option ℕ) → IsSome (set_at seat (Some number) on_seat seat)

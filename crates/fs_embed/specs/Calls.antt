@@ -7,13 +7,10 @@ use Rattle.fs_text.specs.declared.fault.FaultKind.TheVariants as kind
 use Rattle.fs_text.specs.Calls.{◌>>=◌, call_of}
 use Rattle.fs_text.specs.Journal.{words_of}
 use Rattle.fs_laws.specs.OneCall.{IsNoReturn, StepsTo}
-use Rattle.fs_laws.specs.States as machine
-use Rattle.fs_laws.specs.States.{State, Begins, Step}
-use Rattle.fs_core.specs.Answers.{stepped_as}
-use Rattle.fs_core.specs.Events.{refused_as}
+use Rattle.fs_machine.specs.States.{State, Begins, Step}
 use Rattle.fs_core.specs.Machines.{Machine, state_of}
-use Rattle.fs_core.specs.declared.outcome.Stepped.{Stepped}
-use Rattle.fs_core.specs.declared.outcome.Stepped.TheVariants.{Idle, Took, Busy, LetGo, Helped, Committed, CarriedOut, Returned}
+use Rattle.fs_machine.specs.declared.answers.Stepped.{Stepped}
+use Rattle.fs_machine.specs.declared.answers.Stepped.TheVariants.{Idle, Took, Busy, LetGo, Helped, Committed, CarriedOut, Returned}
 use Rattle.fs_embed.specs.declared.calls.NotBegun.{NotBegun}
 use Rattle.fs_embed.specs.declared.calls.NotBegun.TheVariants as not_begun
 use Rattle.fs_embed.specs.declared.calls.NotReturned.{NotReturned}
@@ -25,7 +22,7 @@ call_in line = words_of line >>= call_of
 
 -- the call of a line begins on a seat under a number, and this is the state after
 abbrev pub Opens : Machine → ℕ → List ℕ → ℕ → State → Type 0
-Opens old seat line number first = (call : Call) × (call_in line ≡ Ok call) × Begins (state_of old) seat call (machine.Begun_as number) first
+Opens old seat line number first = (call : Call) × (call_in line ≡ Ok call) × Begins (state_of old) seat call (Ok number) first
 
 -- the same, and nothing else happens
 abbrev pub BeginsLine : Machine → ℕ → List ℕ → ℕ → Machine → Type 0
@@ -40,12 +37,12 @@ IsNoCall line k = call_in line ≡ Err k
 abbrev pub IsNotBegun : Machine → ℕ → List ℕ → NotBegun → Machine → Type 0
 IsNotBegun old seat line not_begun.NoSeat new = (length old.seats ≤ seat) × (new ≡ old)
 IsNotBegun old seat line (not_begun.Line k) new = IsNoCall line k × (new ≡ old)
-IsNotBegun old seat line (not_begun.Refused refusal) new = (call : Call) × (call_in line ≡ Ok call) × Begins (state_of old) seat call (refused_as refusal) (state_of new)
+IsNotBegun old seat line (not_begun.Refused refusal) new = (call : Call) × (call_in line ≡ Ok call) × Begins (state_of old) seat call (Err refusal) (state_of new)
 
 -- steps of a seat, none or more, of which none returns
 pub data Steps (seat : ℕ) : State → State → Type 0 where
   Still : {state : State} → Steps seat state state
-  Then : {old middle new : State} (answer : machine.Stepped) → IsNoReturn answer → Steps seat old middle → Step middle seat answer new → Steps seat old new
+  Then : {old middle new : State} (answer : Stepped) → IsNoReturn answer → Steps seat old middle → Step middle seat answer new → Steps seat old new
 
 -- the call of a line begins under a number, and steps of its seat follow, up to the one that returns with this reply
 abbrev pub RunsLine : Machine → ℕ → List ℕ → ℕ → Reply → Machine → Type 0
@@ -53,7 +50,7 @@ RunsLine old seat line number reply new = (first : State) × Opens old seat line
 
 -- the next step of a seat finds a node held by this call, and changes nothing
 abbrev pub IsWaiting : State → ℕ → ℕ → Type 0
-IsWaiting state seat holder = (node : ℕ) × Step state seat (machine.Busy node holder) state
+IsWaiting state seat holder = (node : ℕ) × Step state seat (Busy node holder) state
 
 -- the call of a line begins under a number, and steps of its seat follow, up to one that finds a node held by this call
 abbrev pub WaitsLine : Machine → ℕ → List ℕ → ℕ → ℕ → Machine → Type 0
@@ -88,4 +85,4 @@ about_of (Returned r) = 0
 
 -- a step of a seat, told by two numbers
 abbrev pub StepsAs : Machine → ℕ → ℕ → ℕ → Machine → Type 0
-StepsAs old seat code about new = (answer : Stepped) × (code ≡ code_of answer) × (about ≡ about_of answer) × Step (state_of old) seat (stepped_as answer) (state_of new)
+StepsAs old seat code about new = (answer : Stepped) × (code ≡ code_of answer) × (about ≡ about_of answer) × Step (state_of old) seat answer (state_of new)

@@ -9,4 +9,3 @@ pub mod FinishedHoldings
 pub mod OneUnfinishedCall
 pub mod NextMoves
 pub mod GoingOnAlone
-pub mod StepsAreDetermined

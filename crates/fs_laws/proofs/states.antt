@@ -5,6 +5,7 @@ pub mod Headline
 pub mod Agreement
 pub mod GraphOfARun
 pub mod Waiters
+pub mod Sums
 pub mod StepsTakeWork
 pub mod OneCall
 pub mod ComputedRuns

@@ -1,7 +1,8 @@
 -- The events of a run, each with its answer.
 use Rattle.std.specs.Prelude.{ℕ, ◌≡◌, List, [], ◌∷◌, ◌++◌}
 use Rattle.fs_calls.specs.declared.call.Call.{Call}
-use Rattle.fs_laws.specs.States.{State, Begun, Stepped, Run, Start, Beginning, Stepping}
+use Rattle.fs_machine.specs.States.{State, Begun, Run, Start, Beginning, Stepping}
+use Rattle.fs_machine.specs.declared.answers.Stepped.{Stepped}
 
 -- a call is to begin on a seat, or a seat is stepped; with the answer
 pub data Event : Type 0 where

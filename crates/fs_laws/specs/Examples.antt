@@ -1,5 +1,5 @@
 -- Worked examples of the machine: runs of it, with what each step answers and what the nodes spell at the end.
-use Rattle.std.specs.Prelude.{◌≡◌, ℕ, List, [], ◌∷◌, ◌++◌, Some, None, codes}
+use Rattle.std.specs.Prelude.{◌≡◌, ℕ, List, [], ◌∷◌, ◌++◌, Some, None, codes, Ok}
 use Prim.Native.String.{String}
 use Rattle.fs_names.specs.Keys.{Key}
 use Rattle.fs_names.specs.Reading.{names}
@@ -12,14 +12,15 @@ use Rattle.fs_nodes.specs.Graphs.{graph_shapes}
 use Rattle.fs_nodes.specs.Stores.{used_below}
 use Rattle.fs_timeline.specs.declared.entry.Entry.TheVariants.{Begin, Commit, Return}
 use Rattle.fs_laws.specs.Events.{Event, Begins, Steps, Ran}
-use Rattle.fs_laws.specs.States.{Begun_as, Stepped, Took, Busy, LetGo, Helped, Committed, CarriedOut, Returned}
+use Rattle.fs_machine.specs.declared.answers.Stepped.{Stepped}
+use Rattle.fs_machine.specs.declared.answers.Stepped.TheVariants.{Took, Busy, LetGo, Helped, Committed, CarriedOut, Returned}
 
 abbrev pub at : String → Key
 at text = names (codes text)
 
 -- a call begins on a seat, by this number
 abbrev pub begins : ℕ → Call → ℕ → List Event
-begins seat call c = Begins seat call (Begun_as c) ∷ []
+begins seat call c = Begins seat call (Ok c) ∷ []
 
 -- a seat is stepped, with these answers
 abbrev pub steps : ℕ → List Stepped → List Event

@@ -16,7 +16,8 @@ use Rattle.fs_laws.specs.JournalViews.{JournalView, start, view_after, IsLawful}
 use Rattle.fs_timeline.specs.Timeline.{begins, commit_count}
 use Rattle.fs_laws.specs.Settled.{settle, settle_replies}
 use Rattle.fs_laws.specs.CallFacts.{CallFacts}
-use Rattle.fs_laws.specs.States.{State, Begun, Begins, Stepped, Step}
+use Rattle.fs_machine.specs.States.{State, Begun, Begins, Step}
+use Rattle.fs_machine.specs.declared.answers.Stepped.{Stepped}
 
 -- what a rename keeps at its common directory
 pub record Forked (graph : Graph) (n : ℕ) (p q : Key) (st : Holdings) : Type 0 where

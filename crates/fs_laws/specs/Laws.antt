@@ -11,11 +11,11 @@ use Rattle.fs_calls.specs.Tree.{Tree, IsTree}
 use Rattle.fs_calls.specs.declared.call.Call.{Call}
 use Rattle.fs_laws.specs.Below.{NoWalkingBelow, NoLaterBelow, NobodyBetween, Settles, PlacesAreCounted, NeverWaitsToFinish, HelpsAreFew}
 use Rattle.fs_laws.specs.Placed.{InPlace, Passes, PastAll, rekey_all}
-use Rattle.fs_laws.specs.Progress.{HasStep, WaitsBelow, IsNeverStuck, IsDetermined}
+use Rattle.fs_laws.specs.Progress.{HasStep, WaitsBelow, IsNeverStuck}
 use Rattle.fs_laws.specs.StepsLeft.{TakesWork, AddsWork}
 use Rattle.fs_laws.specs.OneCall.{MeetsTreeAlone}
-use Rattle.fs_laws.specs.States.{State, Run}
-use Rattle.fs_laws.specs.Headline.{Linearizes}
+use Rattle.fs_machine.specs.States.{State, Run}
+use Rattle.fs_machine.specs.Headline.{Linearizes}
 
 -- a call that finishes goes past all placed calls
 abbrev pub GoesPastAll : Type 0
@@ -82,7 +82,3 @@ BeginsAddWork = (s : State) → Run s → AddsWork s
 -- a call that is begun with no other under way, and stepped to its end, replies and changes as the sequential tree says
 abbrev pub CallsMeetTheTree : Type 0
 CallsMeetTheTree = (s : State) → Run s → MeetsTreeAlone s
-
--- in every state, of a run or not: what a seat's step answers, and the state after it, are determined
-abbrev pub StepsAreDetermined : Type 0
-StepsAreDetermined = (s : State) → IsDetermined s

@@ -1,6 +1,4 @@
 pub mod JournalViews
-pub mod States
-pub mod Headline
 pub mod Settled
 pub mod Placed
 pub mod CallFacts

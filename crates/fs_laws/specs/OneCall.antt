@@ -1,13 +1,15 @@
 -- A call that is begun with no other under way, and stepped to its end.
-use Rattle.std.specs.Prelude.{ℕ, ◌≡◌}
+use Rattle.std.specs.Prelude.{ℕ, ◌≡◌, Ok}
 use Rattle.fs_calls.specs.Outcomes as outcomes
 use Rattle.fs_calls.specs.Shapes.{tree_shapes}
 use Rattle.fs_calls.specs.Tree.{Tree, IsTree}
 use Rattle.fs_calls.specs.declared.call.Call.{Call}
 use Rattle.fs_calls.specs.declared.reply.Reply.{Reply}
 use Rattle.fs_nodes.specs.Graphs.{graph_shapes}
-use Rattle.fs_laws.specs.Headline.{IsIdle}
-use Rattle.fs_laws.specs.States.{State, Begun_as, Begins, Stepped, Idle, Took, Busy, LetGo, Helped, Committed, CarriedOut, Returned, Step}
+use Rattle.fs_machine.specs.Headline.{IsIdle}
+use Rattle.fs_machine.specs.States.{State, Begins, Step}
+use Rattle.fs_machine.specs.declared.answers.Stepped.{Stepped}
+use Rattle.fs_machine.specs.declared.answers.Stepped.TheVariants.{Idle, Took, Busy, LetGo, Helped, Committed, CarriedOut, Returned}
 
 -- an answer that is no return
 abbrev pub IsNoReturn : Stepped → Type 0
@@ -36,4 +38,4 @@ pub record MeetsTree (s : State) (call : Call) (r : Reply) (new : State) : Type 
 
 -- so it is of each call that begins in this state, where no call is under way
 abbrev pub MeetsTreeAlone : State → Type 0
-MeetsTreeAlone s = (first new : State) (seat c : ℕ) (call : Call) (r : Reply) → IsIdle s → Begins s seat call (Begun_as c) first → StepsTo seat r new first → MeetsTree s call r new
+MeetsTreeAlone s = (first new : State) (seat c : ℕ) (call : Call) (r : Reply) → IsIdle s → Begins s seat call (Ok c) first → StepsTo seat r new first → MeetsTree s call r new

@@ -3,9 +3,12 @@ use Rattle.std.specs.Prelude.{ℕ, ◌≡◌, Some}
 use Rattle.fs_names.specs.Keys.{Key}
 use Rattle.fs_names.specs.Parts.{HasNames}
 use Rattle.fs_nodes.specs.Graphs.{at}
-use Rattle.fs_machine.specs.Moves.{Takes, next}
+use Rattle.fs_machine.specs.Moves.{next}
+use Rattle.fs_machine.specs.declared.moves.Move.TheVariants.{Take as Takes}
 use Rattle.fs_machine.specs.Records.{Holdings, Record}
-use Rattle.fs_laws.specs.States.{State, Stepped, Idle, Took, Busy, LetGo, Helped, Committed, CarriedOut, Returned, Step}
+use Rattle.fs_machine.specs.States.{State, Step}
+use Rattle.fs_machine.specs.declared.answers.Stepped.{Stepped}
+use Rattle.fs_machine.specs.declared.answers.Stepped.TheVariants.{Idle, Took, Busy, LetGo, Helped, Committed, CarriedOut, Returned}
 
 -- a call wants a node that another one holds
 pub record WaitsFor (s : State) (c d : ℕ) (op : Record) : Type 0 where
@@ -50,7 +53,3 @@ pub record HasStep (s : State) (seat : ℕ) : Type 0 where
   pub answer : Stepped
   pub new : State
   pub step : Step s seat answer new
-
--- what a seat's step answers, and the state after it, are determined
-abbrev pub IsDetermined : State → Type 0
-IsDetermined s = (seat : ℕ) (a b : Stepped) (new other : State) → Step s seat a new → Step s seat b other → (a ≡ b) × (new ≡ other)

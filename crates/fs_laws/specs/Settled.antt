@@ -9,7 +9,9 @@ use Rattle.fs_laws.specs.Maps.{Map}
 use Rattle.fs_calls.specs.declared.reply.Reply.{Reply}
 use Rattle.fs_nodes.specs.Graphs.{Graph}
 use Rattle.fs_machine.specs.Finishes.{Effect, finish}
-use Rattle.fs_machine.specs.Moves.{Move, Takes, Leaves, Finishes, Ends, next, took, left_holdings}
+use Rattle.fs_machine.specs.Moves.{next, took, left_holdings}
+use Rattle.fs_machine.specs.declared.moves.Move.{Move}
+use Rattle.fs_machine.specs.declared.moves.Move.TheVariants.{Take as Takes, LetGo as Leaves, Finish as Finishes, Return as Ends}
 use Rattle.fs_machine.specs.Records.{Record, Records}
 
 -- the record's own moves up to its finish, as if nobody else held a node: at most `steps` of them

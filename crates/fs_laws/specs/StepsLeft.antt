@@ -1,5 +1,5 @@
 -- How many steps the calls under way have left at most.
-use Rattle.std.specs.Prelude.{ℕ, zero, suc, ◌≡◌, ◌+◌, ◌≤◌, [], ◌∷◌, Option, Some, None, length}
+use Rattle.std.specs.Prelude.{ℕ, zero, suc, ◌≡◌, ◌+◌, ◌≤◌, [], ◌∷◌, Option, Some, None, length, Ok}
 use Rattle.fs_names.specs.Keys.{Key, parent_of}
 use Rattle.fs_names.specs.Parts.{left}
 use Rattle.fs_calls.specs.Forms.{form, Form, AtNode, AtEntry, AtPair}
@@ -9,7 +9,8 @@ use Rattle.fs_machine.specs.Records.{Holdings, Phase, Walking, Placed, Finished,
 use Rattle.fs_timeline.specs.Timeline.{begins}
 use Rattle.fs_laws.specs.Progress.{GoesOn}
 use Rattle.fs_laws.specs.Settled.{names_left}
-use Rattle.fs_laws.specs.States.{State, Begun_as, Begins, Stepped, Step}
+use Rattle.fs_machine.specs.States.{State, Begins, Step}
+use Rattle.fs_machine.specs.declared.answers.Stepped.{Stepped}
 
 -- the sum over the numbers up to n
 abbrev pub total : (ℕ → ℕ) → ℕ → ℕ
@@ -72,4 +73,4 @@ TakesWork s = (seat : ℕ) (answer : Stepped) (new : State) → Step s seat answ
 
 -- a begin adds no more than what the call's names ask
 abbrev pub AddsWork : State → Type 0
-AddsWork s = (seat c : ℕ) (call : Call) (new : State) → Begins s seat call (Begun_as c) new → steps_left new ≡ steps_left s + first_steps (form call)
+AddsWork s = (seat c : ℕ) (call : Call) (new : State) → Begins s seat call (Ok c) new → steps_left new ≡ steps_left s + first_steps (form call)

@@ -17,7 +17,6 @@ ghost use Rattle.fs_laws.specs.Laws.{
   BeginsAddWork,
   PlacesAreTold,
   CallsMeetTheTree,
-  StepsAreDetermined,
 };
 
 /// A call that finishes goes past all placed calls: they settle to what it leaves of their settled tree, it answers the
@@ -75,11 +74,6 @@ pub fn finish_never_waits()
 /// helps meanwhile walked below it from the first, and none is helped twice; so it helps at most as many as stood there.
 pub fn helps_are_bounded()
     ensures { HelpsAreBounded }
-{}
-
-/// What a seat's step answers, and the state after it, are determined by the state.
-pub fn steps_are_determined()
-    ensures { StepsAreDetermined }
 {}
 
 /// In every state of a run each seat has a step.

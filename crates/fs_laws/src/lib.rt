@@ -5,9 +5,9 @@
 //! runs alone. `fs_core` proves that its begins and steps are those of the machine, so each law holds of the running
 //! code.
 //!
-//! Enter at the module `laws`. Read in `specs/`: `States` (states, begins, steps, runs), `Headline` (the theorem),
-//! `Laws` (all statements), then by law `Below`, `Progress`, `OpValue`, `OneCall`. Worked runs with the answer of each
-//! event are in `Examples`, by the words of `Events`. `Invariants`, `Stands`, `Placed` and `Settled` serve the proofs,
+//! Enter at the module `laws`. The machine that they speak of is `fs_machine`. Read in `specs/`: `Laws` (all
+//! statements), then by law `Below`, `Progress`, `OpValue`, `OneCall`. Worked runs with the answer of each event are in
+//! `Examples`, by the words of `Events`. `Invariants`, `Stands`, `Placed` and `Settled` serve the proofs,
 //! and `docs/ARCHITECTURE.md` has a map of these.
 #![tactic(auto)]
 

@@ -1,4 +1,5 @@
 -- The next move of a call under way, and its record after a take and after a let go.
+-- The moves are those of `src/moves.rt`, read here as sentences: a call takes a node, leaves one, finishes, ends.
 use Rattle.std.specs.Prelude.{ℕ, Bool, true, false, not, ◌&&◌, ◌||◌, [], ◌∷◌, ◌++◌, Option, Some, None}
 use Rattle.fs_names.specs.Keys.{Key, after_prefix, has_more, parent_of, last_of}
 use Rattle.fs_names.specs.Names.{Name}
@@ -13,14 +14,9 @@ use Rattle.fs_calls.specs.declared.errno.Errno.{Errno}
 use Rattle.fs_calls.specs.declared.errno.Errno.TheVariants.{Enoent, Enotdir}
 use Rattle.fs_calls.specs.declared.reply.Reply.{Reply}
 use Rattle.fs_nodes.specs.Graphs.{Graph, entry_shape}
+use Rattle.fs_machine.specs.declared.moves.Move.{Move}
+use Rattle.fs_machine.specs.declared.moves.Move.TheVariants.{Take as Takes, LetGo as Leaves, Finish as Finishes, Return as Ends}
 use Rattle.fs_machine.specs.Records.{Head, Holdings, Phase, Walking, Placed, Finished, Record, head_at, holdings_at}
-
--- the moves: take a node, let one go, finish (with the node that it would really move), return
-pub data Move : Type 0 where
-  Takes : ℕ → Move
-  Leaves : ℕ → Move
-  Finishes : Option ℕ → Move
-  Ends : Move
 
 -- the first of two moves
 abbrev pub first_of : Option Move → Move → Move

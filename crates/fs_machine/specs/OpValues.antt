@@ -12,7 +12,8 @@ use Rattle.fs_nodes.specs.Graphs.{Graph, reserved_in}
 use Rattle.fs_nodes.specs.Stores.{IsUnlinked}
 use Rattle.fs_machine.specs.Finishes.{finish}
 use Rattle.fs_machine.specs.Leaving.{let_go, finished_op}
-use Rattle.fs_machine.specs.Moves.{Move, next, took}
+use Rattle.fs_machine.specs.Moves.{next, took}
+use Rattle.fs_machine.specs.declared.moves.Move.{Move}
 use Rattle.fs_machine.specs.Records.{Holdings, Phase, Walking, Placed, Finished, Record}
 
 -- the call, what it has walked of its paths and what is left of it, where it stands, its reply once it is fixed, its reserved number and the node that it removed

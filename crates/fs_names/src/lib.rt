@@ -1,4 +1,5 @@
-//! The words of all other crates: names and paths, the kinds of nodes, the numbers of calls and seats, the limits.
+//! The words of all other crates: names and paths, the bytes and kinds of nodes, the numbers of calls and seats, the
+//! limits.
 //!
 //! A `Path` is a list of at most 64 `Name`s, and the root is the path of none. Contracts see a path as the list of its
 //! names, a name as its bytes, and a number as itself. What `Path::parse` answers is exactly what the specification
@@ -9,6 +10,7 @@
 //! the crates above, `Shapes` (what is seen of a node) and `First` (the first of several checks that fails).
 #![tactic(auto)]
 
+pub mod bytes;
 pub mod examples;
 pub mod fault;
 pub mod kind;
@@ -18,6 +20,7 @@ pub mod numbers;
 pub mod path;
 pub mod relations;
 
+pub use bytes::Bytes;
 pub use fault::PathFault;
 pub use kind::Kind;
 pub use limits::{ENTRY_LIMIT, FILE_LIMIT, NAME_LIMIT, NODE_LIMIT, PATH_LIMIT};

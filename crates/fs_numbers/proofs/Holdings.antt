@@ -1,5 +1,5 @@
 -- A call holds at most four nodes.
-use Rattle.std.proofs.Common.{◌≡◌, ℕ, ◌≤◌, [], ◌∷◌, Option, Some, None, refl, sym, ap, ◌∙◌, append-nil, subst, arith}
+use Rattle.std.proofs.Common.{◌≡◌, ℕ, ◌≤◌, [], ◌∷◌, Option, Some, None, refl, sym, ap, ◌∙◌, append-nil, subst, arith, Ok, Err}
 use Rattle.fs_names.specs.Keys.{Key, parent_of}
 use Rattle.fs_names.specs.Names.{Name}
 use Rattle.fs_names.specs.Parts.{left, left_by, HasNames}
@@ -11,11 +11,15 @@ use Rattle.fs_calls.specs.declared.reply.Reply.{Reply}
 use Rattle.fs_nodes.specs.Graphs.{Graph, set_at}
 use Rattle.fs_machine.specs.Finishes.{finish}
 use Rattle.fs_machine.specs.Leaving.{let_go, finished_op}
-use Rattle.fs_machine.specs.Moves.{Takes, next, target, head_took, left_behind, left_holdings, took, took_by}
+use Rattle.fs_machine.specs.Moves.{next, target, head_took, left_behind, left_holdings, took, took_by}
+use Rattle.fs_machine.specs.declared.moves.Move.TheVariants.{Take as Takes}
 use Rattle.fs_machine.specs.Records.{Holdings, Phase, Walking, Placed, Finished, Record, Records, holdings_at}
 use Rattle.fs_timeline.specs.Timeline.{commit_count}
 use Rattle.fs_laws.specs.Invariants.{IsUnfinished, VictimAt, HeadsFit}
-use Rattle.fs_laws.specs.States.{State, Run, Start, Beginning, Stepping, Begun, Begins, Begun_as, Seat_busy, Full, No_memory, Reserves, new_op, Step, Stepped, Idle, Took, Busy, LetGo, Helped, Committed, CarriedOut, Returned}
+use Rattle.fs_machine.specs.States.{State, Run, Start, Beginning, Stepping, Begun, Begins, Reserves, new_op, Step}
+use Rattle.fs_machine.specs.declared.answers.Refusal.TheVariants.{SeatBusy, Full, OutOfMemory}
+use Rattle.fs_machine.specs.declared.answers.Stepped.{Stepped}
+use Rattle.fs_machine.specs.declared.answers.Stepped.TheVariants.{Idle, Took, Busy, LetGo, Helped, Committed, CarriedOut, Returned}
 use Rattle.fs_laws.specs.StepsLeft.{one_if, one_walked}
 use Rattle.fs_laws.proofs.trees.Prefixes.{prefix_append}
 use Rattle.fs_laws.proofs.events.OneCallChanged.{Place, Here, Else, place}
@@ -220,10 +224,10 @@ ordered_step s new seat (Returned r) run (c, op, moves, ph, same) k = λ d q st 
     was d q e (Else h j) = sym j ∙ e
 
 ordered_begin : (s new : State) (seat : ℕ) (call : Call) (answer : Begun) → Begins s seat call answer new → Ordered s → Ordered new
-ordered_begin s new seat call Seat_busy (c, on, same) k = subst Ordered (sym same) k
-ordered_begin s new seat call Full (off, full, same) k = subst Ordered (sym same) k
-ordered_begin s new seat call No_memory (off, room, same) k = subst Ordered (sym same) k
-ordered_begin s new seat call (Begun_as c) (off, number, r) k = go (reserves (form call)) r
+ordered_begin s new seat call (Err SeatBusy) (c, on, same) k = subst Ordered (sym same) k
+ordered_begin s new seat call (Err Full) (off, full, same) k = subst Ordered (sym same) k
+ordered_begin s new seat call (Err OutOfMemory) (off, room, same) k = subst Ordered (sym same) k
+ordered_begin s new seat call (Ok c) (off, number, r) k = go (reserves (form call)) r
   where
     go : (o : Option Shape) → Reserves s seat call c o new → Ordered new
     go None same = ordered_by s new c (new_op seat call None) (ap (λ (x : State). x.ops) same) (λ st on u. absurd (some_none st on)) k

@@ -13,7 +13,9 @@ use Rattle.fs_calls.specs.declared.errno.Errno.{Errno}
 use Rattle.fs_calls.specs.declared.reply.Reply.{Reply}
 use Rattle.fs_nodes.specs.Graphs.{Graph, entry_shape}
 use Rattle.fs_machine.specs.Leaving.{is_removed, cleared, releasing, let_go, unreserved}
-use Rattle.fs_machine.specs.Moves.{Move, Takes, Leaves, Finishes, first_of, target, walk_move, head_move, victim_of, take_if, entry_move, there_by, same_kind, dir_error, rename_at, moved_node, rename_move, dir_then, fork_move, target_move, first_walked, last_held, next_by, next, behind_of, head_took, dest_took, source_took, target_took, took_by, took, left_behind, left_heads, left_last, left_holdings}
+use Rattle.fs_machine.specs.Moves.{first_of, target, walk_move, head_move, victim_of, take_if, entry_move, there_by, same_kind, dir_error, rename_at, moved_node, rename_move, dir_then, fork_move, target_move, first_walked, last_held, next_by, next, behind_of, head_took, dest_took, source_took, target_took, took_by, took, left_behind, left_heads, left_last, left_holdings}
+use Rattle.fs_machine.specs.declared.moves.Move.{Move}
+use Rattle.fs_machine.specs.declared.moves.Move.TheVariants.{Take as Takes, LetGo as Leaves, Finish as Finishes}
 use Rattle.fs_machine.specs.Records.{Head, Holdings, Phase, Walking, Placed, Finished, Record}
 use Rattle.fs_numbers.specs.Renamings.{Renaming, renamed_number, renamed_children, renamed_graph, renamed_head, renamed_holdings, renamed_record, renamed_move}
 use Rattle.fs_numbers.proofs.Edits.{eqb_old, old_at, child_at, entry_at, released_renamed}

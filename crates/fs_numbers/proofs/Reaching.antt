@@ -13,7 +13,8 @@ use Rattle.fs_calls.specs.declared.errno.Errno.{Errno}
 use Rattle.fs_calls.specs.declared.reply.Reply.{Reply}
 use Rattle.fs_nodes.specs.Graphs.{Graph, at, then_at, numbers, entry_shape, IsGraph, linked_in, unlinked_in, moved_in}
 use Rattle.fs_machine.specs.Finishes.{Effect, no_effect, node_effect, entry_effect, move_effect, rename_effect, effect_at}
-use Rattle.fs_machine.specs.Moves.{Finishes, take_if, next_on, victim_of, entry_move, first_of, head_move, fork_move, path_error, dir_error, rename_at}
+use Rattle.fs_machine.specs.Moves.{take_if, next_on, victim_of, entry_move, first_of, head_move, fork_move, path_error, dir_error, rename_at}
+use Rattle.fs_machine.specs.declared.moves.Move.TheVariants.{Finish as Finishes}
 use Rattle.fs_machine.specs.Records.{Holdings}
 use Rattle.fs_laws.specs.Invariants.{ForkedAt, HeadsSound, VictimAt, NumberFor, HasNumber}
 use Rattle.fs_laws.specs.Placed.{Aside}

@@ -11,10 +11,10 @@ use Rattle.fs_walk.specs.declared.head.Head as count
 use Rattle.fs_walk.specs.declared.want.Want.TheVariants.{Arrived}
 use Rattle.fs_walk.specs.Ways.{Way, ForkWay, head_name}
 use Rattle.fs_walk.specs.Wants.{at_dir, dir_want, then_want, head_want, fork_want}
-use Rattle.fs_machine.specs.Moves.{Move, dir_error, rename_move, fork_move, first_of, head_move, dir_then}
-use Rattle.fs_ops.specs.code.NextByNodes.{between_move, heads_move}
+use Rattle.fs_machine.specs.Moves.{dir_error, rename_move, fork_move, first_of, head_move, dir_then}
+use Rattle.fs_machine.specs.declared.moves.Move.{Move}
+use Rattle.fs_ops.specs.code.NextByNodes.{between_move, heads_move, want_then}
 use Rattle.fs_ops.specs.code.TakeAndLetGo.{started}
-use Rattle.fs_ops.specs.code.MoveNames.{want_then}
 use Rattle.fs_ops.specs.OpValue.{Forks, IsForked, head_of, holdings_with}
 use Rattle.fs_ops.proofs.KeyLemmas.{parent_drop, drop_get, drop_prefix, drop_prefix_back, common_parents, last_drop}
 use Rattle.fs_ops.proofs.TookLemmas.{ahead_none, started_forked, started_holdings}

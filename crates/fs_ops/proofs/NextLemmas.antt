@@ -18,10 +18,11 @@ use Rattle.fs_walk.specs.declared.want.Want.TheVariants.{Arrived}
 use Rattle.fs_walk.specs.Ways.{Way, ForkWay, name_ahead, fork_last}
 use Rattle.fs_walk.specs.Wants.{want, way_want}
 use Rattle.fs_finish.specs.Endings.{rename_reply}
-use Rattle.fs_machine.specs.Moves.{Move, Finishes, Leaves, there_by, moved_node, take_if, victim_of, target, target_move, first_of, head_move, last_held, next_by}
-use Rattle.fs_ops.specs.code.NextByNodes.{way_move, last_move, held_last}
+use Rattle.fs_machine.specs.Moves.{there_by, moved_node, take_if, victim_of, target, target_move, first_of, head_move, last_held, next_by}
+use Rattle.fs_machine.specs.declared.moves.Move.{Move}
+use Rattle.fs_machine.specs.declared.moves.Move.TheVariants.{Finish as Finishes, LetGo as Leaves}
+use Rattle.fs_ops.specs.code.NextByNodes.{way_move, last_move, held_last, want_then}
 use Rattle.fs_machine.specs.Records.{Finished}
-use Rattle.fs_ops.specs.code.MoveNames.{want_then}
 use Rattle.fs_ops.specs.OpValue.{Forks, first_path, dropped, holdings_with, holdings_of, op_value, reply_of}
 use Rattle.fs_machine.specs.OpValues.{record_of, next_of}
 use Rattle.fs_ops.specs.declared.outcome.Outcome.{Outcome}

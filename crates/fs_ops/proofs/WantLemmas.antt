@@ -11,8 +11,9 @@ use Rattle.fs_walk.specs.declared.want.Want.{Want}
 use Rattle.fs_walk.specs.declared.want.Want.TheVariants.{Take, LetGo, Arrived, Fails}
 use Rattle.fs_walk.specs.Ways.{Way, head_name, name_ahead}
 use Rattle.fs_walk.specs.Wants.{name_want, head_want, then_want, at_dir, dir_want, want}
-use Rattle.fs_machine.specs.Moves.{Move, first_of, walk_move, head_move, dir_then, target}
-use Rattle.fs_ops.specs.code.MoveNames.{want_then}
+use Rattle.fs_machine.specs.Moves.{first_of, walk_move, head_move, dir_then, target}
+use Rattle.fs_machine.specs.declared.moves.Move.{Move}
+use Rattle.fs_ops.specs.code.NextByNodes.{want_then}
 use Rattle.fs_ops.specs.OpValue.{first_path, dropped, head_of}
 use Rattle.fs_ops.proofs.KeyLemmas.{left_take, parent_drop, drop_get, target_drop, target_take}
 

@@ -3,4 +3,3 @@ pub mod FinishByCounts
 pub mod NextByNodes
 pub mod TakeAndLetGo
 pub mod Reservations
-pub mod MoveNames

@@ -16,11 +16,10 @@ mod end;
 mod finish;
 mod heads;
 mod let_go;
-pub mod moves;
 mod next;
 pub mod op;
 mod outcome;
 mod take;
 
-pub use moves::Move;
+pub use fs_machine::Move;
 pub use op::Op;

@@ -1,6 +1,6 @@
 -- What workers hand back.
 use Rattle.std.specs.Prelude.{ℕ, zero, suc, ◌+◌, List, [], ◌∷◌, map, Result, Ok, Err, Vec}
-use Rattle.fs_core.specs.declared.outcome.Refusal.{Refusal}
+use Rattle.fs_machine.specs.declared.answers.Refusal.{Refusal}
 use Rattle.fs_share.specs.declared.session.Answer.{Answer}
 use Rattle.fs_pool.specs.declared.done.Done.{Done}
 use Rattle.fs_pool.specs.Jobs.{total}

@@ -1,5 +1,5 @@
 -- How many calls began, took their place and returned, over every run of the machine.
-use Rattle.std.proofs.Common.{◌≡◌, ℕ, zero, suc, ◌+◌, ◌≤◌, ◌⊎◌, inl, inr, cond, List, [], ◌∷◌, ◌++◌, Option, Some, None, refl, sym, ap, ap₂, ◌∙◌, subst, arith}
+use Rattle.std.proofs.Common.{◌≡◌, ℕ, zero, suc, ◌+◌, cond, List, [], ◌∷◌, ◌++◌, Option, Some, None, refl, sym, ap, ap₂, ◌∙◌, subst, arith, Ok, Err}
 use Rattle.std.proofs.lemmas.List.Sums.{sum_by_push}
 use Rattle.fs_names.specs.Keys.{Key}
 use Rattle.fs_names.specs.Shapes.{Shape}
@@ -14,37 +14,21 @@ use Rattle.fs_machine.specs.Leaving.{let_go, finished_op}
 use Rattle.fs_machine.specs.Moves.{target, took, took_by}
 use Rattle.fs_machine.specs.Records.{Holdings, Phase, Walking, Placed, Finished, Record, Records}
 use Rattle.fs_timeline.specs.Timeline.{begins, commit_count}
-use Rattle.fs_laws.specs.Headline.{IsIdle}
-use Rattle.fs_laws.specs.States.{State, Run, Start, Beginning, Stepping, Begun, Begins, Begun_as, Seat_busy, Full, No_memory, Reserves, began, new_op, Step, Stepped, Idle, Took, Busy, LetGo, Helped, Committed, CarriedOut, Returned, taking, letting_go, helping, carrying, committing, returning}
+use Rattle.fs_machine.specs.Headline.{IsIdle}
+use Rattle.fs_machine.specs.States.{State, Run, Start, Beginning, Stepping, Begun, Begins, Reserves, began, new_op, Step, taking, letting_go, helping, carrying, committing, returning}
+use Rattle.fs_machine.specs.declared.answers.Refusal.TheVariants.{SeatBusy, Full, OutOfMemory}
+use Rattle.fs_machine.specs.declared.answers.Stepped.{Stepped}
+use Rattle.fs_machine.specs.declared.answers.Stepped.TheVariants.{Idle, Took, Busy, LetGo, Helped, Committed, CarriedOut, Returned}
 use Rattle.fs_laws.specs.StepsLeft.{total}
 use Rattle.fs_laws.proofs.journal.OneMoreEntry.{returns_begins, begins_begins}
 use Rattle.fs_laws.proofs.states.GraphOfARun.{begun_before}
-use Rattle.fs_laws.proofs.helping.WhomToHelp.{up_to}
+use Rattle.fs_laws.proofs.states.Sums.{total_same, total_one}
 use Rattle.fs_laws.proofs.events.Help.{upd_here, upd_else, begins_push}
 use Rattle.fs_sched.specs.RunTexts.{is_of, number_of}
 use Rattle.fs_sched.specs.declared.run_texts.EntryKind.{EntryKind}
 use Rattle.fs_sched.specs.declared.run_texts.EntryKind.TheVariants as kind
 
 -- ---- sums over the calls' numbers
-
--- of functions that are the same, or differ at one number
-total_same : (f g : ℕ → ℕ) (n : ℕ) → ((c : ℕ) → c ≤ n → f c ≡ g c) → total f n ≡ total g n
-total_same f g zero h = h 0 (omega arith)
-total_same f g (suc n) h = ap₂ (λ (a b : ℕ). a + b) (total_same f g n (λ c i. h c (omega (arith, i)))) (h (suc n) (omega arith))
-
-total_one : (f g : ℕ → ℕ) (c n : ℕ) → c ≤ n → ((d : ℕ) → (d ≡ c → ⊥) → f d ≡ g d) → total f n + g c ≡ total g n + f c
-total_one f g c zero i h = let z : c ≡ 0 = omega (arith, i) in let a : g c ≡ g 0 = ap g z in let b : f c ≡ f 0 = ap f z in omega (arith, a, b)
-total_one f g c (suc n) i h = go (up_to c n i) (total_one f g c n)
-  where
-    here : c ≡ suc n → total f n ≡ total g n
-    here e = total_same f g n (λ d j. h d (λ k. (let z : d ≡ suc n = k ∙ e in omega (arith, z, j))))
-
-    go : (c ≡ suc n) ⊎ (c ≤ n) → (c ≤ n → ((d : ℕ) → (d ≡ c → ⊥) → f d ≡ g d) → total f n + g c ≡ total g n + f c) → (total f n + f (suc n)) + g c ≡ (total g n + g (suc n)) + f c
-    go (inl e) rest = let a : total f n ≡ total g n = here e in let b : f c ≡ f (suc n) = ap f e in let d : g c ≡ g (suc n) = ap g e in omega (arith, a, b, d)
-    go (inr k) rest =
-        let a : total f n + g c ≡ total g n + f c = rest k h in
-        let b : f (suc n) ≡ g (suc n) = h (suc n) (λ e. (let z : suc n ≡ c = e in omega (arith, z, k))) in
-        omega (arith, a, b)
 
 total_more : (f : ℕ → ℕ) (n : ℕ) → total f (n + 1) ≡ total f n + f (n + 1)
 total_more f n = let e : n + 1 ≡ suc n = omega arith in ap (total f) e ∙ ap (λ (x : ℕ). total f n + f x) (sym e)
@@ -172,10 +156,10 @@ tallied_began s seat call c reserved graph number t =
     record { returned = omega (arith, b, q, u, x); committed = omega (arith, b, p, v, y) }
 
 tallied_begin : (s new : State) (seat : ℕ) (call : Call) (answer : Begun) → Begins s seat call answer new → Tallied s → Tallied new
-tallied_begin s new seat call Seat_busy (c, on, same) t = subst Tallied (sym same) t
-tallied_begin s new seat call Full (off, full, same) t = subst Tallied (sym same) t
-tallied_begin s new seat call No_memory (off, room, same) t = subst Tallied (sym same) t
-tallied_begin s new seat call (Begun_as c) (off, number, r) t = go (reserves (form call)) r
+tallied_begin s new seat call (Err SeatBusy) (c, on, same) t = subst Tallied (sym same) t
+tallied_begin s new seat call (Err Full) (off, full, same) t = subst Tallied (sym same) t
+tallied_begin s new seat call (Err OutOfMemory) (off, room, same) t = subst Tallied (sym same) t
+tallied_begin s new seat call (Ok c) (off, number, r) t = go (reserves (form call)) r
   where
     go : (o : Option Shape) → Reserves s seat call c o new → Tallied new
     go None same = subst Tallied (sym same) (tallied_began s seat call c None s.graph number t)

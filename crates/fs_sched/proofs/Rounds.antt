@@ -1,13 +1,15 @@
 -- Rounds to the end come to an end: each leaves less to do.
-use Rattle.std.proofs.Common.{◌≡◌, ℕ, zero, suc, ◌+◌, ◌<◌, ◌≤◌, ◌||◌, Bool, true, false, List, [], ◌∷◌, length, drop, get_or, slice_get, slice_set, is_some, Option, Some, None, refl, sym, ap, ap₂, ◌∙◌, subst, arith}
+use Rattle.std.proofs.Common.{◌≡◌, ℕ, zero, suc, ◌+◌, ◌<◌, ◌≤◌, ◌||◌, Bool, true, false, List, [], ◌∷◌, length, drop, get_or, slice_get, slice_set, is_some, Option, Some, None, refl, sym, ap, ap₂, ◌∙◌, subst, arith, Ok}
 use Rattle.std.specs.List.{range_with_len}
 use Rattle.fs_calls.specs.Forms.{form}
 use Rattle.fs_calls.specs.declared.call.Call.{Call}
 use Rattle.fs_machine.specs.Records.{Record}
 use Rattle.fs_laws.specs.Progress.{GoesOn, SomebodyGoesOn}
-use Rattle.fs_laws.specs.States.{State, Run, Beginning, Stepping, Begins, Begun_as, Step, Stepped, Idle, Took, Busy, LetGo, Helped, Committed, CarriedOut, Returned}
+use Rattle.fs_machine.specs.States.{State, Run, Beginning, Stepping, Begins, Step}
+use Rattle.fs_machine.specs.declared.answers.Stepped.{Stepped}
+use Rattle.fs_machine.specs.declared.answers.Stepped.TheVariants.{Idle, Took, Busy, LetGo, Helped, Committed, CarriedOut, Returned}
 use Rattle.fs_laws.specs.StepsLeft.{steps_left, first_steps}
-use Rattle.fs_laws.proofs.calls.StepsAreDetermined.{one_step}
+use Rattle.fs_machine.proofs.StepsAreDetermined.{one_step}
 use Rattle.fs_laws.proofs.states.Headline.{run_keeps}
 use Rattle.fs_laws.proofs.states.Waiters.{never_stuck}
 use Rattle.fs_laws.proofs.states.StepsTakeWork.{takes_work, adds_work}
@@ -60,7 +62,7 @@ none_some o c a b = let z : ◌≡◌ {A = Option ℕ} None (Some c) = sym a ∙
 same_stage : (old new : Stage) → new.state ≡ old.state → new.begun ≡ old.begun → new ≡ old
 same_stage old new a b = ap₂ (λ (s : State) (n : List ℕ). record { state = s; begun = n }) a b
 
-starts_less : (lists : List (List Call)) (old new : Stage) (seat c : ℕ) (call : Call) → Run old.state → length old.begun ≡ length lists → next_call lists old seat ≡ Some call → Begins old.state seat call (Begun_as c) new.state
+starts_less : (lists : List (List Call)) (old new : Stage) (seat c : ℕ) (call : Call) → Run old.state → length old.begun ≡ length lists → next_call lists old seat ≡ Some call → Begins old.state seat call (Ok c) new.state
     → new.begun ≡ slice_set old.begun seat (get_or old.begun seat 0 + 1) → left_over lists new + 1 ≤ left_over lists old
 starts_less lists old new seat c call run same is begins set =
     let a : steps_left new.state ≡ steps_left old.state + first_steps (form call) = adds_work old.state run seat c call new.state begins in
@@ -96,7 +98,7 @@ event_falls lists old new seat run same (Spent off none e) = Same e
 
 pub event_run : (lists : List (List Call)) (old new : Stage) (seat : ℕ) → Run old.state → Event lists old seat new → Run new.state
 event_run lists old new seat run (Goes c answer on step kept) = Stepping seat answer new.state run step
-event_run lists old new seat run (Starts c call off is begins set) = Beginning seat call (Begun_as c) new.state run begins
+event_run lists old new seat run (Starts c call off is begins set) = Beginning seat call (Ok c) new.state run begins
 event_run lists old new seat run (Spent off none e) = subst (λ (s : Stage). Run s.state) (sym e) run
 
 length_set : (xs : List ℕ) (i v : ℕ) → length (slice_set xs i v) ≡ length xs

@@ -11,8 +11,10 @@ use Rattle.fs_nodes.specs.Graphs.{set_at}
 use Rattle.fs_timeline.specs.declared.entry.Entry.{Entry}
 use Rattle.fs_timeline.specs.declared.entry.Entry.TheVariants.{Begin, Commit, Return}
 use Rattle.fs_machine.specs.Records.{Record}
-use Rattle.fs_laws.specs.Headline.{IsIdle}
-use Rattle.fs_laws.specs.States.{State, Run, Start, Begins, Begun_as, Reserves, Step, Stepped, Idle, Took, Busy, LetGo, Helped, Committed, CarriedOut, Returned}
+use Rattle.fs_machine.specs.Headline.{IsIdle}
+use Rattle.fs_machine.specs.States.{State, Run, Start, Begins, Reserves, Step}
+use Rattle.fs_machine.specs.declared.answers.Stepped.{Stepped}
+use Rattle.fs_machine.specs.declared.answers.Stepped.TheVariants.{Idle, Took, Busy, LetGo, Helped, Committed, CarriedOut, Returned}
 use Rattle.fs_laws.proofs.events.OneCallChanged.{Place, Here, Else, place}
 use Rattle.fs_laws.proofs.states.GraphOfARun.{call_seat}
 use Rattle.fs_text.specs.declared.fault.ScriptFault.{ScriptFault}
@@ -66,14 +68,14 @@ step_seats s new seat (Returned r) (c, op, moves, ph, same) x d on = go (place o
     go (Else n j) = sym j ∙ (sym (ap (λ (u : State). u.on_seat x) same) ∙ on)
 
 -- a begin begins one, on its seat
-begin_begins : (s new : State) (seat c : ℕ) (call : Call) → Begins s seat call (Begun_as c) new → number_of kind.Begin new.timeline ≡ number_of kind.Begin s.timeline + 1
+begin_begins : (s new : State) (seat c : ℕ) (call : Call) → Begins s seat call (Ok c) new → number_of kind.Begin new.timeline ≡ number_of kind.Begin s.timeline + 1
 begin_begins s new seat c call (off, number, r) = go (reserves (form call)) r
   where
     go : (o : Option Shape) → Reserves s seat call c o new → number_of kind.Begin new.timeline ≡ number_of kind.Begin s.timeline + 1
     go None same = ap (λ (x : State). number_of kind.Begin x.timeline) same ∙ number_push kind.Begin s.timeline (Begin c seat call)
     go (Some shape) (n, less, unused, same) = ap (λ (x : State). number_of kind.Begin x.timeline) same ∙ number_push kind.Begin s.timeline (Begin c seat call)
 
-begin_seats : (s new : State) (seat c : ℕ) (call : Call) → Begins s seat call (Begun_as c) new → (x : ℕ) → new.on_seat x ≡ set_at seat (Some c) s.on_seat x
+begin_seats : (s new : State) (seat c : ℕ) (call : Call) → Begins s seat call (Ok c) new → (x : ℕ) → new.on_seat x ≡ set_at seat (Some c) s.on_seat x
 begin_seats s new seat c call (off, number, r) x = go (reserves (form call)) r
   where
     go : (o : Option Shape) → Reserves s seat call c o new → new.on_seat x ≡ set_at seat (Some c) s.on_seat x

@@ -1,12 +1,14 @@
 -- Runs of scripts, event by event.
-use Rattle.std.specs.Prelude.{ℕ, ◌≡◌, ◌+◌, ◌-◌, ◌^◌, min, ◌<◌, Bool, true, false, ◌||◌, ◌⊎◌, List, [], ◌∷◌, length, replicate, get_or, slice_get, slice_set, is_some, Ok, Option, Some, None}
+use Rattle.std.specs.Prelude.{ℕ, ◌≡◌, ◌+◌, ◌-◌, ◌^◌, min, ◌<◌, Bool, true, false, ◌||◌, ◌⊎◌, List, [], ◌∷◌, length, replicate, get_or, slice_get, slice_set, is_some, Ok, Option, Some, None, Err}
 use Rattle.std.specs.List.{range_with_len, list_any}
 use Rattle.fs_names.specs.declared.limits.TheConstants.{NODE_LIMIT}
 use Rattle.fs_timeline.specs.declared.entry.Entry.{Entry}
 use Rattle.fs_calls.specs.declared.call.Call.{Call}
 use Rattle.fs_script.specs.Script.{script_of}
 use Rattle.fs_script.specs.declared.script.Script.{Script}
-use Rattle.fs_laws.specs.States.{State, Begins, Begun_as, Full, Step, Stepped, empty}
+use Rattle.fs_machine.specs.States.{State, Begins, Step, empty}
+use Rattle.fs_machine.specs.declared.answers.Refusal.TheVariants.{Full}
+use Rattle.fs_machine.specs.declared.answers.Stepped.{Stepped}
 use Rattle.fs_sched.specs.RunTexts.{IsRunText, number_of}
 use Rattle.fs_sched.specs.declared.run_texts.EntryKind.TheVariants as kind
 use Rattle.fs_sched.specs.declared.running.RunEnd.{RunEnd}
@@ -33,7 +35,7 @@ has_more lists s seat = is_some (s.state.on_seat seat) || is_some (next_call lis
 -- an event of a thread: a step of its call under way, else the begin of its next call, else nothing
 pub data Event (lists : List (List Call)) (old : Stage) (seat : ℕ) (new : Stage) : Type 0 where
   Goes : (c : ℕ) (answer : Stepped) → old.state.on_seat seat ≡ Some c → Step old.state seat answer new.state → new.begun ≡ old.begun → Event lists old seat new
-  Starts : (c : ℕ) (call : Call) → old.state.on_seat seat ≡ None → next_call lists old seat ≡ Some call → Begins old.state seat call (Begun_as c) new.state
+  Starts : (c : ℕ) (call : Call) → old.state.on_seat seat ≡ None → next_call lists old seat ≡ Some call → Begins old.state seat call (Ok c) new.state
       → new.begun ≡ slice_set old.begun seat (get_or old.begun seat 0 + 1) → Event lists old seat new
   Spent : old.state.on_seat seat ≡ None → next_call lists old seat ≡ None → new ≡ old → Event lists old seat new
 
@@ -74,7 +76,7 @@ Runs schedule script last = RunsFrom schedule script (start (length script.lists
 
 -- the next event of a thread is the begin of a call, and all numbers are in use
 abbrev pub IsRefused : List (List Call) → Stage → ℕ → Type 0
-IsRefused lists s seat = (call : Call) × (next_call lists s seat ≡ Some call) × Begins s.state seat call Full s.state
+IsRefused lists s seat = (call : Call) × (next_call lists s seat ≡ Some call) × Begins s.state seat call (Err Full) s.state
 
 -- one of these events is such a begin, after those before it
 abbrev pub Stops : List (List Call) → Stage → List ℕ → Type 0

@@ -5,12 +5,11 @@ use Rattle.fs_calls.specs.Forms.{form, reserves}
 use Rattle.fs_calls.specs.declared.call.Call.{Call}
 use Rattle.fs_timeline.specs.declared.entry.Entry.{Entry}
 use Rattle.fs_timeline.specs.declared.entry.Entry.TheVariants.{Begin, Commit, Return}
-use Rattle.fs_laws.specs.States.{State, Begins, Reserves, Step}
-use Rattle.fs_core.specs.Answers.{begun_as, stepped_as}
-use Rattle.fs_core.specs.declared.outcome.Refusal.{Refusal}
-use Rattle.fs_core.specs.declared.outcome.Refusal.TheVariants.{OutOfMemory, Full, SeatBusy}
-use Rattle.fs_core.specs.declared.outcome.Stepped.{Stepped}
-use Rattle.fs_core.specs.declared.outcome.Stepped.TheVariants.{Idle, Took, Busy, LetGo, Helped, Committed, CarriedOut, Returned}
+use Rattle.fs_machine.specs.States.{State, Begins, Reserves, Step}
+use Rattle.fs_machine.specs.declared.answers.Refusal.TheVariants.{OutOfMemory, Full, SeatBusy}
+use Rattle.fs_machine.specs.declared.answers.Stepped.{Stepped}
+use Rattle.fs_machine.specs.declared.answers.Stepped.TheVariants.{Idle, Took, Busy, LetGo, Helped, Committed, CarriedOut, Returned}
+use Rattle.fs_machine.specs.declared.answers.Refusal.{Refusal}
 use Rattle.fs_share.specs.Returns.{returns, answered}
 
 pub returns_append : (xs ys : List Entry) → returns (xs ++ ys) ≡ returns xs + returns ys
@@ -30,7 +29,7 @@ abbrev count : State → ℕ
 count s = returns s.timeline
 
 -- a step adds a return exactly where it answers one
-pub step_counts : (s t : State) (seat : ℕ) (a : Stepped) → Step s seat (stepped_as a) t → returns t.timeline ≡ returns s.timeline + answered a
+pub step_counts : (s t : State) (seat : ℕ) (a : Stepped) → Step s seat a t → returns t.timeline ≡ returns s.timeline + answered a
 step_counts s t seat Idle h = omega (arith, ap count h.1)
 step_counts s t seat (Took n) (c, op, moves, free, same) = omega (arith, ap count same)
 step_counts s t seat (Busy n d) (c, op, moves, held, same) = omega (arith, ap count same)
@@ -45,7 +44,7 @@ reserve_counts s t seat call c None same = omega (arith, ap count same, returns_
 reserve_counts s t seat call c (Some shape) (n, less, free, same) = omega (arith, ap count same, returns_append s.timeline (Begin c seat call ∷ []))
 
 -- a begin adds none
-pub begin_counts : (s t : State) (seat : ℕ) (call : Call) (r : Result ℕ Refusal) → Begins s seat call (begun_as r) t → returns t.timeline ≡ returns s.timeline
+pub begin_counts : (s t : State) (seat : ℕ) (call : Call) (r : Result ℕ Refusal) → Begins s seat call r t → returns t.timeline ≡ returns s.timeline
 begin_counts s t seat call (Ok c) (free, number, made) = reserve_counts s t seat call c (reserves (form call)) made
 begin_counts s t seat call (Err OutOfMemory) (free, full, same) = ap count same
 begin_counts s t seat call (Err Full) (free, full, same) = ap count same

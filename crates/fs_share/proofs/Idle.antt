@@ -8,9 +8,9 @@ use Rattle.fs_timeline.specs.declared.entry.Entry.{Entry}
 use Rattle.fs_timeline.specs.declared.entry.Entry.TheVariants.{Begin, Commit, Return}
 use Rattle.fs_machine.specs.Records.{Record}
 use Rattle.fs_laws.specs.JournalViews.{Book, start, noted, commit_of, book_of}
-use Rattle.fs_laws.specs.Headline.{IsIdle}
+use Rattle.fs_machine.specs.Headline.{IsIdle}
 use Rattle.fs_laws.specs.Invariants.{Invariant}
-use Rattle.fs_laws.specs.States.{State, Run}
+use Rattle.fs_machine.specs.States.{State, Run}
 use Rattle.fs_laws.proofs.states.Headline.{run_keeps}
 use Rattle.fs_laws.proofs.events.OneCallChanged.{Place, Here, Else, place}
 use Rattle.fs_share.specs.Returns.{AllReturned}

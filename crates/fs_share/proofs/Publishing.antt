@@ -8,12 +8,11 @@ use Rattle.fs_timeline.specs.Timeline.{commits, commits_of, IsLawful}
 use Rattle.fs_timeline.specs.declared.entry.Entry.{Entry}
 use Rattle.fs_timeline.specs.declared.entry.Entry.TheVariants.{Begin, Commit, Return}
 use Rattle.fs_timeline.proofs.AppendLemmas.{commits-push, begun_first}
-use Rattle.fs_laws.specs.States.{State, Begins, Reserves, Step}
-use Rattle.fs_core.specs.Answers.{begun_as, stepped_as}
-use Rattle.fs_core.specs.declared.outcome.Refusal.{Refusal}
-use Rattle.fs_core.specs.declared.outcome.Refusal.TheVariants.{OutOfMemory, Full, SeatBusy}
-use Rattle.fs_core.specs.declared.outcome.Stepped.{Stepped}
-use Rattle.fs_core.specs.declared.outcome.Stepped.TheVariants.{Idle, Took, Busy, LetGo, Helped, Committed, CarriedOut, Returned}
+use Rattle.fs_machine.specs.States.{State, Begins, Reserves, Step}
+use Rattle.fs_machine.specs.declared.answers.Refusal.{Refusal}
+use Rattle.fs_machine.specs.declared.answers.Refusal.TheVariants.{OutOfMemory, Full, SeatBusy}
+use Rattle.fs_machine.specs.declared.answers.Stepped.{Stepped}
+use Rattle.fs_machine.specs.declared.answers.Stepped.TheVariants.{Idle, Took, Busy, LetGo, Helped, Committed, CarriedOut, Returned}
 use Rattle.fs_observe.specs.Lists.{Lists}
 use Rattle.fs_observe.proofs.Fronts.{prefix_self, prefix_trans, prefix_shorter, prefix_more, prefix_length}
 use Rattle.fs_share.specs.Boards.{AreBeginnings}
@@ -28,7 +27,7 @@ more es new e law h = subst (λ (l : List Entry). IsPrefix (commits es) (commits
 abbrev line : State → List Entry
 line s = s.timeline
 
-pub step_grows : (s t : State) (seat : ℕ) (a : Stepped) → IsLawful s.timeline → Step s seat (stepped_as a) t → IsPrefix (commits s.timeline) (commits t.timeline)
+pub step_grows : (s t : State) (seat : ℕ) (a : Stepped) → IsLawful s.timeline → Step s seat a t → IsPrefix (commits s.timeline) (commits t.timeline)
 step_grows s t seat Idle law h = kept _ _ (ap line h.1)
 step_grows s t seat (Took n) law (c, op, moves, free, same) = kept _ _ (ap line same)
 step_grows s t seat (Busy n d) law (c, op, moves, held, same) = kept _ _ (ap line same)
@@ -42,7 +41,7 @@ reserve_grows : (s t : State) (seat : ℕ) (call : Call) (c : ℕ) (shape : Opti
 reserve_grows s t seat call c None law same = more _ _ (Begin c seat call) law (ap line same)
 reserve_grows s t seat call c (Some shape) law (n, less, free, same) = more _ _ (Begin c seat call) law (ap line same)
 
-pub begin_grows : (s t : State) (seat : ℕ) (call : Call) (r : Result ℕ Refusal) → IsLawful s.timeline → Begins s seat call (begun_as r) t → IsPrefix (commits s.timeline) (commits t.timeline)
+pub begin_grows : (s t : State) (seat : ℕ) (call : Call) (r : Result ℕ Refusal) → IsLawful s.timeline → Begins s seat call r t → IsPrefix (commits s.timeline) (commits t.timeline)
 begin_grows s t seat call (Ok c) law (free, number, made) = reserve_grows s t seat call c (reserves (form call)) law made
 begin_grows s t seat call (Err OutOfMemory) law (free, full, same) = kept _ _ (ap line same)
 begin_grows s t seat call (Err Full) law (free, full, same) = kept _ _ (ap line same)

@@ -3,8 +3,8 @@ use Rattle.std.specs.Prelude.{ℕ, ◌≡◌, ◌+◌, true, List, [], ◌∷◌
 use Rattle.fs_timeline.specs.Timeline.{has_begun, has_returned}
 use Rattle.fs_timeline.specs.declared.entry.Entry.{Entry}
 use Rattle.fs_timeline.specs.declared.entry.Entry.TheVariants.{Begin, Commit, Return}
-use Rattle.fs_core.specs.declared.outcome.Stepped.{Stepped}
-use Rattle.fs_core.specs.declared.outcome.Stepped.TheVariants.{Returned}
+use Rattle.fs_machine.specs.declared.answers.Stepped.{Stepped}
+use Rattle.fs_machine.specs.declared.answers.Stepped.TheVariants.{Returned}
 
 -- how many Return entries there are
 abbrev pub returns : List Entry → ℕ

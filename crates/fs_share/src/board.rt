@@ -3,8 +3,7 @@
 ghost use Rattle.std.specs.Prelude.{◌≡◌, ◌+◌, ◌<◌, ◌++◌, ◌∷◌, [], None, Some, IfOk, IfSome, IfNone, OnOk, OnErr, length, slice_get};
 ghost use mathlib.Core.List.{IsPrefix};
 ghost use Rattle.fs_timeline.specs.Timeline.{commits};
-ghost use Rattle.fs_laws.specs.States.{Begins, Step};
-ghost use Rattle.fs_core.specs.Answers.{begun_as, stepped_as};
+ghost use Rattle.fs_machine.specs.States.{Begins, Step};
 ghost use Rattle.fs_core.specs.Machines.{state_of};
 ghost use Rattle.fs_share.specs.Boards.{AreBeginnings, IsListed};
 
@@ -38,7 +37,7 @@ impl<N: Named> Model for Board<N> {
 /// What a worker does while it is lent the core: one step of its seat's call.
 pub fn advance(core: &mut Core, seat: SeatNo) -> Stepped
     requires seat { seat < length core.old.seats }
-    ensures step { Step (state_of core.old) seat (stepped_as result) (state_of core.new) }
+    ensures step { Step (state_of core.old) seat result (state_of core.new) }
     ensures seats { length core.new.seats ≡ length core.old.seats }
 {
     core.step(seat)
@@ -121,7 +120,7 @@ impl<N: Named> Board<N> {
     ) -> Result<CallNo, Refusal>
         requires seat { seat < length self.old.core.seats }
         ensures published { self.new.published ≡ self.old.published }
-        ensures begins { Begins (state_of self.old.core) seat call.now (begun_as result) (state_of self.new.core) }
+        ensures begins { Begins (state_of self.old.core) seat call.now result (state_of self.new.core) }
         ensures seats { length self.new.core.seats ≡ length self.old.core.seats }
     {
         let Board { core, .. } = self;
@@ -133,7 +132,7 @@ impl<N: Named> Board<N> {
     pub(crate) fn step(&mut self, seat: SeatNo) -> Stepped
         requires seat { seat < length self.old.core.seats }
         ensures published { self.new.published ≡ self.old.published }
-        ensures step { Step (state_of self.old.core) seat (stepped_as result) (state_of self.new.core) }
+        ensures step { Step (state_of self.old.core) seat result (state_of self.new.core) }
         ensures seats { length self.new.core.seats ≡ length self.old.core.seats }
     {
         let Board { core, .. } = self;

@@ -25,7 +25,7 @@ use Rattle.std.specs.Prelude.{suc, MatchResult, IsTrue, is_some, not, Option}
 use Rattle.memchr.specs.Find.{IsFirstByte, is_byte}
 use Rattle.percent_encoding.specs.Percent.{percent_decode}
 use Rattle.percent_encoding.proofs.PercentLemmas.{percent_decode-nil, percent_decode_not_percent}
-use Rattle.fs_calls.specs.declared.bytes.Bytes.{Bytes}
+use Rattle.fs_names.specs.declared.bytes.Bytes.{Bytes}
 use Rattle.fs_names.proofs.SearchLemmas.{found_none}
 use Rattle.fs_names.specs.Keys.{Key}
 use Rattle.fs_names.specs.Reading.{FailsWith}

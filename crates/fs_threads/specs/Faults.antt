@@ -1,6 +1,6 @@
 -- The faults of scripts on threads.
 use Rattle.std.specs.Prelude.{Result}
-use Rattle.fs_core.specs.declared.outcome.Refusal.TheVariants as refusal
+use Rattle.fs_machine.specs.declared.answers.Refusal.TheVariants as refusal
 use Rattle.fs_text.specs.declared.fault.ScriptFault.{ScriptFault}
 use Rattle.fs_sched.specs.code.Stages.{IsFaultOrRefusal}
 use Rattle.fs_sched.specs.declared.fault.RunFault.TheVariants as run

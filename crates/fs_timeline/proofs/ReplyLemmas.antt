@@ -4,7 +4,8 @@ use Rattle.std.proofs.lemmas.Bool.{eqb-true, eq-eqb, and_parts, and_from}
 use lib.Pointwise.{pointwise}
 use Rattle.fs_names.specs.declared.kind.Kind.{Kind}
 use Rattle.fs_names.specs.declared.kind.Kind.TheVariants as kind
-use Rattle.fs_calls.specs.Replies.{same_kind, number_of, same_bytes, same_reply}
+use Rattle.fs_names.specs.Names.{same_bytes}
+use Rattle.fs_calls.specs.Replies.{same_kind, number_of, same_reply}
 use Rattle.fs_calls.specs.declared.errno.Errno.{Errno}
 use Rattle.fs_calls.specs.declared.errno.Errno.TheVariants.{Enoent, Enotdir, Eexist, Enotempty, Eisdir, Einval, Ebusy, Eperm, Enospc, Efbig}
 use Rattle.fs_calls.specs.declared.reply.Reply.{Reply}

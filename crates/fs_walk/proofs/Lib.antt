@@ -1,1 +1,2 @@
 pub mod ParentLemmas
+pub mod FindLemmas

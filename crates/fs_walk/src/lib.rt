@@ -5,16 +5,19 @@
 //! now: to take a node, to let one go, that it has arrived, or the errno with which it fails. The caller does that, and
 //! tells the walk by `took` and `let_go`. No call allocates.
 //!
-//! Enter at `Walk::new` and `Walk::next`, for a rename at `Fork::new` and `Fork::next`. The definitions are in
-//! `specs/`: `Ways` (where walks stand, and what a take and a let go make of them) and `Wants` (what they want next).
+//! Enter at `Walk::new` and `Walk::next`, for a rename at `Fork::new` and `Fork::next`; `find_path` goes along a path at
+//! once. The definitions are in `specs/`: `Ways` (where walks stand, and what a take and a let go make of them) and
+//! `Wants` (what they want next).
 #![tactic(auto)]
 
+pub mod find;
 pub mod fork;
 pub mod head;
 mod names;
 pub mod walk;
 pub mod want;
 
+pub use find::find_path;
 pub use fork::Fork;
 pub use head::Head;
 pub use walk::Walk;

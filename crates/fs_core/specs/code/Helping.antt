@@ -1,6 +1,6 @@
 -- The call that a walking call helps before it may finish.
 use Rattle.std.specs.Prelude.{ℕ, ◌≡◌, Option, Some, None, slice_get}
-use Rattle.fs_laws.specs.States.{IsChosen}
+use Rattle.fs_machine.specs.States.{IsChosen}
 use Rattle.fs_core.specs.declared.seat.Running.{Running}
 use Rattle.fs_core.specs.Machines.{Machine, state_of}
 

@@ -1,7 +1,7 @@
 -- Changes of what is on one seat, and moves of the call there.
 use Rattle.std.specs.Prelude.{ℕ, ◌≡◌, Option, Some, None, slice_get}
 use Rattle.fs_nodes.specs.Stores.{graph_of}
-use Rattle.fs_machine.specs.Moves.{Move}
+use Rattle.fs_machine.specs.declared.moves.Move.{Move}
 use Rattle.fs_machine.specs.OpValues.{OpValue, next_of}
 use Rattle.fs_core.specs.declared.seat.Running.{Running}
 use Rattle.fs_core.specs.Machines.{Machine}

@@ -10,7 +10,9 @@ use Rattle.fs_calls.specs.declared.errno.Errno.{Errno}
 use Rattle.fs_calls.specs.declared.reply.Reply.{Reply}
 use Rattle.fs_nodes.specs.Graphs.{Graph, IsGraph, at}
 use Rattle.fs_machine.specs.Leaving.{let_go}
-use Rattle.fs_machine.specs.Moves.{Move, Leaves, Finishes, next, next_by, next_on, first_of, head_move, target, target_move, fork_move, rename_move, dir_then, left_holdings, left_behind, left_last, left_heads, last_held, first_walked}
+use Rattle.fs_machine.specs.Moves.{next, next_by, next_on, first_of, head_move, target, target_move, fork_move, rename_move, dir_then, left_holdings, left_behind, left_last, left_heads, last_held, first_walked}
+use Rattle.fs_machine.specs.declared.moves.Move.{Move}
+use Rattle.fs_machine.specs.declared.moves.Move.TheVariants.{LetGo as Leaves, Finish as Finishes}
 use Rattle.fs_machine.specs.Records.{Phase, Walking, Placed, Finished, Holds, Head, HeadHolds, Record, Holdings, head_at}
 use Rattle.fs_laws.specs.Invariants.{Forked, ForkedAt, HeadsSound, HeadsFit}
 use Rattle.fs_laws.proofs.graphs.Walks.{then_some}

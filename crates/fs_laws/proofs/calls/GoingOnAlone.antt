@@ -8,7 +8,9 @@ use Rattle.fs_calls.specs.Forms.{form, Form, AtNode, AtEntry, AtPair, by_text, u
 use Rattle.fs_calls.specs.declared.target.PairCall.TheVariants as pairs
 use Rattle.fs_calls.specs.declared.errno.Errno.{Errno}
 use Rattle.fs_nodes.specs.Graphs.{Graph, numbers, IsGraph}
-use Rattle.fs_machine.specs.Moves.{Move, Takes, Leaves, Finishes, Ends, next, next_by, next_on, target, took, inner, tail_of, head_took, head_left, left_holdings, left_behind, behind_of}
+use Rattle.fs_machine.specs.Moves.{next, next_by, next_on, target, took, inner, tail_of, head_took, head_left, left_holdings, left_behind, behind_of}
+use Rattle.fs_machine.specs.declared.moves.Move.{Move}
+use Rattle.fs_machine.specs.declared.moves.Move.TheVariants.{Take as Takes, LetGo as Leaves, Finish as Finishes, Return as Ends}
 use Rattle.fs_machine.specs.Records.{Phase, Walking, Placed, Finished, Holds, Record, Holdings, holdings_at}
 use Rattle.fs_laws.specs.Invariants.{IsUnfinished, Forked, HeadsSound, VictimAt, IsSingle, HeadsFit}
 use Rattle.fs_laws.specs.Settled.{names_left, alone_by}

@@ -3,10 +3,11 @@ use Rattle.std.proofs.Common.{◌≡◌, ℕ, Option, Some, None, sym, ap, ◌�
 use Rattle.fs_names.specs.Keys.{Key, last_of}
 use Rattle.fs_names.specs.Shapes.{Shape, Dir}
 use Rattle.fs_nodes.specs.Graphs.{numbers, IsGraph}
-use Rattle.fs_machine.specs.Moves.{Takes, Leaves, next}
+use Rattle.fs_machine.specs.Moves.{next}
+use Rattle.fs_machine.specs.declared.moves.Move.TheVariants.{Take as Takes, LetGo as Leaves}
 use Rattle.fs_machine.specs.Records.{Holds, Record, Holdings}
 use Rattle.fs_laws.specs.Invariants.{Invariant}
-use Rattle.fs_laws.specs.States.{State, Run}
+use Rattle.fs_machine.specs.States.{State, Run}
 use Rattle.fs_laws.proofs.calls.NodesHeld.{slot_holds}
 use Rattle.fs_laws.proofs.events.LetGo.{LetsGo, On_way, At_end, Last, lets_go}
 use Rattle.fs_laws.proofs.events.Take.{TakesFrom, From_nowhere, From_holdings, takes_from}

@@ -10,7 +10,7 @@ use Rattle.fs_machine.specs.Moves.{same_kind}
 use Rattle.fs_machine.specs.Records.{Holds, Record, Holdings}
 use Rattle.fs_laws.specs.Invariants.{IsUnfinished, Forked, HeadsSound, NumberFor, VictimAt, IsSingle, HeadsFit, Invariant}
 use Rattle.fs_laws.specs.CallFacts.{Located}
-use Rattle.fs_laws.specs.States.{State}
+use Rattle.fs_machine.specs.States.{State}
 use Rattle.fs_laws.proofs.trees.Prefixes.{prefix_append, same_refl}
 use Rattle.fs_laws.proofs.graphs.Walks.{at_child}
 use Rattle.fs_laws.proofs.calls.Located.{key_is, from_more, to_more}

@@ -8,11 +8,14 @@ use Rattle.fs_calls.specs.Forms.{Form, AtNode, AtEntry, AtPair}
 use Rattle.fs_calls.specs.declared.target.PairCall.TheVariants as pairs
 use Rattle.fs_calls.specs.declared.target.EntryCall.{EntryCall}
 use Rattle.fs_nodes.specs.Graphs.{Graph, numbers, entry_shape, set_at}
-use Rattle.fs_machine.specs.Moves.{Move, Takes, Finishes, next_on, first_of, head_move, take_if, target, target_move, entry_move, fork_move, rename_move, dir_then, victim_of, same_kind, rename_at, moved_node, took, head_took, behind_of, source_took, target_took, took_by}
+use Rattle.fs_machine.specs.Moves.{next_on, first_of, head_move, take_if, target, target_move, entry_move, fork_move, rename_move, dir_then, victim_of, same_kind, rename_at, moved_node, took, head_took, behind_of, source_took, target_took, took_by}
+use Rattle.fs_machine.specs.declared.moves.Move.{Move}
+use Rattle.fs_machine.specs.declared.moves.Move.TheVariants.{Take as Takes, Finish as Finishes}
 use Rattle.fs_machine.specs.Records.{Holds, Record, Holdings}
 use Rattle.fs_laws.specs.Invariants.{Forked, ForkedAt, HeadsSound, VictimAt, HeadsFit, IsSingle, IsUnfinished, Own, Invariant, StepKeeps}
 use Rattle.fs_laws.specs.CallFacts.{Keeps, Located}
-use Rattle.fs_laws.specs.States.{State, Took, taking}
+use Rattle.fs_machine.specs.States.{State, taking}
+use Rattle.fs_machine.specs.declared.answers.Stepped.TheVariants.{Took}
 use Rattle.fs_laws.proofs.trees.Prefixes.{prefix_append}
 use Rattle.fs_laws.proofs.graphs.Walks.{at_child, at_from}
 use Rattle.fs_laws.proofs.events.OneCallChanged.{kept_take, takes_source, takes_dest, takes_victim, Takes as Taken}

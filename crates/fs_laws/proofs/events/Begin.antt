@@ -1,5 +1,5 @@
 -- A begin keeps what every state keeps.
-use Rattle.std.proofs.Common.{◌≡◌, ℕ, ◌<◌, ◌+◌, true, false, List, [], ◌∷◌, ◌++◌, Option, Some, None, refl, sym, ap, ◌∙◌, arith, subst, inl, inr}
+use Rattle.std.proofs.Common.{◌≡◌, ℕ, ◌<◌, ◌+◌, true, false, List, [], ◌∷◌, ◌++◌, Option, Some, None, refl, sym, ap, ◌∙◌, arith, subst, inl, inr, Ok}
 use Rattle.fs_names.specs.Keys.{Key}
 use Rattle.fs_names.specs.Names.{Name, has_name}
 use Rattle.fs_names.specs.Shapes.{Shape, Dir, File}
@@ -18,7 +18,7 @@ use Rattle.fs_timeline.specs.Timeline.{begins, commit_count}
 use Rattle.fs_laws.specs.Invariants.{remaining_of, spots, IsPlaced, HasSpare, IsIn, NumberFor, Own, Invariant, BeginKeeps, Tied, Dues}
 use Rattle.fs_laws.specs.Settled.{settle, settle_replies}
 use Rattle.fs_laws.specs.CallFacts.{CallFacts}
-use Rattle.fs_laws.specs.States.{State, Begun_as, Reserves, began, new_op}
+use Rattle.fs_machine.specs.States.{State, Reserves, began, new_op}
 use Rattle.fs_laws.proofs.events.OneCallChanged.{Place, Here, Else, place}
 use Rattle.fs_laws.proofs.events.OtherChanges.{kept_none}
 use Rattle.fs_laws.proofs.events.Help.{upd_same, upd_else}
@@ -226,7 +226,7 @@ number_none graph (AtEntry c (y ∷ p)) i f = λ shape j. (let z : ◌≡◌ {A 
     no_shape : (s : Shape) → ◌≡◌ {A = Option Shape} None (Some s) → ⊥
     no_shape s e = cc
 
-pub keeps_begun : (c : ℕ) → BeginKeeps (Begun_as c)
+pub keeps_begun : (c : ℕ) → BeginKeeps (Ok c)
 keeps_begun c old new seat call inv (free, number, r) = go (reserves (form call)) refl r
   where
     go : (o : Option Shape) → reserves (form call) ≡ o → Reserves old seat call c o new → Invariant new

@@ -9,7 +9,8 @@ use Rattle.fs_calls.specs.declared.errno.Errno.{Errno}
 use Rattle.fs_calls.specs.declared.reply.Reply.{Reply}
 use Rattle.fs_nodes.specs.Graphs.{Graph, numbers, graph_shapes, set_at}
 use Rattle.fs_machine.specs.Finishes.{Effect, effect_at, effect_of, finish}
-use Rattle.fs_machine.specs.Moves.{Finishes, next_on}
+use Rattle.fs_machine.specs.Moves.{next_on}
+use Rattle.fs_machine.specs.declared.moves.Move.TheVariants.{Finish as Finishes}
 use Rattle.fs_machine.specs.Records.{Phase, Walking, Placed, Finished, Record, Records, Holdings}
 use Rattle.fs_laws.specs.JournalViews.{start, view_after}
 use Rattle.fs_laws.specs.Invariants.{remaining_of, spots, IsPlaced, AllLater, InOrder, HasSpare, IsIn, Own, Invariant, StepKeeps, Tied}
@@ -17,7 +18,8 @@ use Rattle.fs_laws.specs.Placed.{InPlace, rekey, rekey_by, rekey_move, rekey_all
 use Rattle.fs_laws.specs.Settled.{settle, settle_replies}
 use Rattle.fs_laws.specs.CallFacts.{IsAfter, CallFacts}
 use Rattle.fs_machine.specs.Leaving.{finished_op}
-use Rattle.fs_laws.specs.States.{State, CarriedOut, carrying}
+use Rattle.fs_machine.specs.States.{State, carrying}
+use Rattle.fs_machine.specs.declared.answers.Stepped.TheVariants.{CarriedOut}
 use Rattle.fs_laws.proofs.trees.Prefixes.{prefix_deeper}
 use Rattle.fs_laws.proofs.calls.Located.{change_under, moves_under, fits_under}
 use Rattle.fs_laws.proofs.helping.SettledThroughHelp.{Carried, carried}

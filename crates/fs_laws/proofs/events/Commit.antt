@@ -13,7 +13,8 @@ use Rattle.fs_nodes.specs.Graphs.{Graph, numbers, graph_shapes, set_at}
 use Rattle.fs_timeline.specs.declared.entry.Entry.{Entry}
 use Rattle.fs_timeline.specs.declared.entry.Entry.TheVariants.{Commit}
 use Rattle.fs_machine.specs.Finishes.{Effect, no_effect, effect_at, effect_of, finish}
-use Rattle.fs_machine.specs.Moves.{Finishes, next, next_by, next_on}
+use Rattle.fs_machine.specs.Moves.{next, next_by, next_on}
+use Rattle.fs_machine.specs.declared.moves.Move.TheVariants.{Finish as Finishes}
 use Rattle.fs_machine.specs.Records.{Phase, Walking, Placed, Finished, Record, Records, Holdings}
 use Rattle.fs_laws.specs.JournalViews.{JournalView, start, view_after, IsNext}
 use Rattle.fs_timeline.specs.Timeline.{commit_count}
@@ -22,7 +23,8 @@ use Rattle.fs_laws.specs.Placed.{ReadsNothingBelow, ChangesNothingBelow, Passes,
 use Rattle.fs_laws.specs.Settled.{settle, settle_replies}
 use Rattle.fs_laws.specs.CallFacts.{IsAfter, Keeps, CallFacts, Pair}
 use Rattle.fs_machine.specs.Leaving.{finished_op}
-use Rattle.fs_laws.specs.States.{State, Committed, NoneBelow, committing}
+use Rattle.fs_machine.specs.States.{State, NoneBelow, committing}
+use Rattle.fs_machine.specs.declared.answers.Stepped.TheVariants.{Committed}
 use Rattle.fs_laws.proofs.calls.Located.{change_under, outcome_located, fits_under}
 use Rattle.fs_laws.proofs.helping.FinishPassesPlaced.{past_all}
 use Rattle.fs_laws.proofs.graphs.TreesOfChanges.{resolve_at}

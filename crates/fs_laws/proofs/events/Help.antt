@@ -11,7 +11,8 @@ use Rattle.fs_laws.specs.JournalViews.{JournalView, start, view_after, IsNext}
 use Rattle.fs_timeline.specs.Timeline.{begins, commit_count}
 use Rattle.fs_laws.specs.Invariants.{HasSpare, IsIn, Own, Invariant, StepKeeps, IsPlaced, AllLater, InOrder, Tied}
 use Rattle.fs_laws.specs.CallFacts.{Keeps, CallFacts}
-use Rattle.fs_laws.specs.States.{State, Helped, IsWalkingBelow, helping}
+use Rattle.fs_machine.specs.States.{State, IsWalkingBelow, helping}
+use Rattle.fs_machine.specs.declared.answers.Stepped.TheVariants.{Helped}
 use Rattle.fs_laws.proofs.trees.Prefixes.{prefix_some}
 use Rattle.fs_laws.proofs.graphs.Walks.{at_from}
 use Rattle.fs_laws.proofs.events.OneCallChanged.{Place, Here, Else, place, kept_help}

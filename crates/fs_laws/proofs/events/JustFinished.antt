@@ -10,7 +10,7 @@ use Rattle.fs_timeline.specs.Timeline.{begins, commit_count}
 use Rattle.fs_laws.specs.Invariants.{HasSpare, IsIn, Own, Invariant, InOrder, Tied}
 use Rattle.fs_laws.specs.CallFacts.{CallFacts}
 use Rattle.fs_machine.specs.Leaving.{finished_op}
-use Rattle.fs_laws.specs.States.{State}
+use Rattle.fs_machine.specs.States.{State}
 use Rattle.fs_laws.proofs.graphs.Alterations.{Shapes, Reached}
 use Rattle.fs_laws.proofs.events.OneCallChanged.{Place, Here, Else, place, kept_finish}
 use Rattle.fs_laws.proofs.events.Help.{upd_same}

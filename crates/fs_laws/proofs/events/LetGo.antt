@@ -12,11 +12,14 @@ use Rattle.fs_calls.specs.declared.errno.Errno.{Errno}
 use Rattle.fs_calls.specs.declared.reply.Reply.{Reply}
 use Rattle.fs_nodes.specs.Graphs.{Graph, at, numbers, graph_shapes, entry_shape, set_at, IsGraph, released_in}
 use Rattle.fs_machine.specs.Leaving.{is_removed, releasing, cleared}
-use Rattle.fs_machine.specs.Moves.{Move, Leaves, Finishes, next, next_by, next_on, first_of, head_move, walk_move, take_if, target, target_move, victim_of, same_kind, rename_move, rename_at, moved_node, dir_then, last_held, first_walked, head_left, left_behind, left_heads, left_last, left_holdings}
+use Rattle.fs_machine.specs.Moves.{next, next_by, next_on, first_of, head_move, walk_move, take_if, target, target_move, victim_of, same_kind, rename_move, rename_at, moved_node, dir_then, last_held, first_walked, head_left, left_behind, left_heads, left_last, left_holdings}
+use Rattle.fs_machine.specs.declared.moves.Move.{Move}
+use Rattle.fs_machine.specs.declared.moves.Move.TheVariants.{LetGo as Leaves, Finish as Finishes}
 use Rattle.fs_machine.specs.Records.{Phase, Walking, Placed, Finished, Holds, Record, Holdings, head_at}
 use Rattle.fs_laws.specs.Invariants.{ForkedAt, HeadsSound, VictimAt, HasSpare, HeadsFit, IsSingle, IsUnfinished, Own, Invariant, StepKeeps, Slot, At_node, At_behind, At_source, At_source_behind, At_dest, At_dest_behind, At_victim, if_walked, in_slot}
 use Rattle.fs_laws.specs.CallFacts.{CallFacts, Shrinks}
-use Rattle.fs_laws.specs.States.{State, LetGo, letting_go}
+use Rattle.fs_machine.specs.States.{State, letting_go}
+use Rattle.fs_machine.specs.declared.answers.Stepped.TheVariants.{LetGo}
 use Rattle.fs_laws.proofs.graphs.Walks.{eqb_refl}
 use Rattle.fs_laws.proofs.events.OneCallChanged.{kept_shrink}
 use Rattle.fs_laws.proofs.events.OtherChanges.{kept_none}

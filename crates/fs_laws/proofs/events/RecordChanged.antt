@@ -14,7 +14,7 @@ use Rattle.fs_timeline.specs.Timeline.{commit_count}
 use Rattle.fs_laws.specs.Invariants.{remaining_of, spots, IsPlaced, AllLater, InOrder, HasSpare, IsIn, Own, Invariant, Tied, Dues}
 use Rattle.fs_laws.specs.Settled.{settle, settle_replies}
 use Rattle.fs_laws.specs.CallFacts.{CallFacts}
-use Rattle.fs_laws.specs.States.{State}
+use Rattle.fs_machine.specs.States.{State}
 use Rattle.fs_laws.proofs.events.OneCallChanged.{Place, Here, Else, place}
 use Rattle.fs_laws.proofs.events.Commit.{placed_in}
 use Rattle.fs_laws.proofs.events.JustFinished.{Either, Changed, Old, either}

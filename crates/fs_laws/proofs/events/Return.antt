@@ -9,14 +9,16 @@ use Rattle.fs_calls.specs.declared.reply.Reply.{Reply}
 use Rattle.fs_nodes.specs.Graphs.{Graph, at, numbers, graph_shapes, set_at, IsGraph}
 use Rattle.fs_timeline.specs.declared.entry.Entry.TheVariants.{Return}
 use Rattle.fs_machine.specs.Leaving.{unreserved}
-use Rattle.fs_machine.specs.Moves.{Ends, next, next_by}
+use Rattle.fs_machine.specs.Moves.{next, next_by}
+use Rattle.fs_machine.specs.declared.moves.Move.TheVariants.{Return as Ends}
 use Rattle.fs_machine.specs.Records.{Phase, Placed, Finished, Record, Holdings}
 use Rattle.fs_laws.specs.JournalViews.{JournalView, start, view_after, noted, free_seat}
 use Rattle.fs_timeline.specs.Timeline.{commit_count}
 use Rattle.fs_laws.specs.Invariants.{remaining_of, spots, IsPlaced, HasSpare, IsIn, Invariant, StepKeeps, Tied, Dues}
 use Rattle.fs_laws.specs.Settled.{settle, settle_replies}
 use Rattle.fs_laws.specs.CallFacts.{CallFacts}
-use Rattle.fs_laws.specs.States.{State, Returned}
+use Rattle.fs_machine.specs.States.{State}
+use Rattle.fs_machine.specs.declared.answers.Stepped.TheVariants.{Returned}
 use Rattle.fs_laws.proofs.events.OneCallChanged.{Place, Here, Else, place}
 use Rattle.fs_laws.proofs.events.Help.{upd_else}
 use Rattle.fs_laws.proofs.journal.OneMoreEntry.{view_push, lawful_push, returns_commits, returns_begins, dues_due}

@@ -12,11 +12,13 @@ use Rattle.fs_calls.specs.declared.call.Call.{Call}
 use Rattle.fs_calls.specs.declared.errno.Errno.{Errno}
 use Rattle.fs_calls.specs.declared.reply.Reply.{Reply}
 use Rattle.fs_nodes.specs.Graphs.{Graph, numbers, set_at}
-use Rattle.fs_machine.specs.Moves.{Move, Takes, next, next_by, next_on, first_of, head_move, walk_move, target, inner, took, took_by}
+use Rattle.fs_machine.specs.Moves.{next, next_by, next_on, first_of, head_move, walk_move, target, inner, took, took_by}
+use Rattle.fs_machine.specs.declared.moves.Move.{Move}
+use Rattle.fs_machine.specs.declared.moves.Move.TheVariants.{Take as Takes}
 use Rattle.fs_machine.specs.Records.{Phase, Walking, Placed, Finished, Holds, Record, Holdings, holdings_at}
 use Rattle.fs_laws.specs.Invariants.{ForkedAt, HeadsSound, NumberFor, VictimAt, HasSpare, HeadsFit, IsSingle, IsUnfinished, Own, Invariant}
 use Rattle.fs_laws.specs.CallFacts.{IsFree, Keeps, CallFacts}
-use Rattle.fs_laws.specs.States.{State, taking}
+use Rattle.fs_machine.specs.States.{State, taking}
 use Rattle.fs_laws.proofs.trees.Prefixes.{same_true}
 use Rattle.fs_laws.proofs.graphs.Walks.{at_child}
 use Rattle.fs_laws.proofs.events.OneCallChanged.{Place, Here, Else, place, kept_take, takes_walk}

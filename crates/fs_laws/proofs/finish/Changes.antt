@@ -14,7 +14,8 @@ use Rattle.fs_calls.specs.declared.errno.Errno.{Errno}
 use Rattle.fs_calls.specs.declared.reply.Reply.{Reply}
 use Rattle.fs_nodes.specs.Graphs.{Graph, at, then_at, numbers, entry_shape, IsGraph, linked_in, unlinked_in}
 use Rattle.fs_machine.specs.Finishes.{Effect, no_effect, node_effect, entry_effect}
-use Rattle.fs_machine.specs.Moves.{Finishes, take_if, next_on, victim_of, entry_move}
+use Rattle.fs_machine.specs.Moves.{take_if, next_on, victim_of, entry_move}
+use Rattle.fs_machine.specs.declared.moves.Move.TheVariants.{Finish as Finishes}
 use Rattle.fs_machine.specs.Records.{Walking, Placed, Record, Records, Holdings}
 use Rattle.fs_laws.specs.Invariants.{HeadsSound, VictimAt, NumberFor, HasNumber, IsSingle, At_node, At_source, At_dest, At_victim, if_walked}
 use Rattle.fs_laws.specs.Placed.{rekey, rekey_move}

@@ -17,7 +17,9 @@ use Rattle.fs_calls.specs.declared.reply.Reply.{Reply}
 use Rattle.fs_calls.specs.declared.reply.Reply.TheVariants.{Done, Failed}
 use Rattle.fs_nodes.specs.Graphs.{Graph, then_at, at, numbers, graph_shapes, entry_shape, IsGraph, unlinked_in}
 use Rattle.fs_machine.specs.Finishes.{node_effect, entry_effect, move_effect, rename_effect, effect_at}
-use Rattle.fs_machine.specs.Moves.{Move, Finishes, first_of, head_move, dir_then, fork_move, rename_move, target_move, next_on, walk_move, walk_errno, path_error, dir_error, rename_at}
+use Rattle.fs_machine.specs.Moves.{first_of, head_move, dir_then, fork_move, rename_move, target_move, next_on, walk_move, walk_errno, path_error, dir_error, rename_at}
+use Rattle.fs_machine.specs.declared.moves.Move.{Move}
+use Rattle.fs_machine.specs.declared.moves.Move.TheVariants.{Finish as Finishes}
 use Rattle.fs_machine.specs.Records.{Holdings}
 use Rattle.fs_laws.specs.Invariants.{Forked, ForkedAt, HeadsSound, HasNumber}
 use Rattle.fs_laws.proofs.calls.Located.{outcome_located, change_under, in_more, from_more, to_more}

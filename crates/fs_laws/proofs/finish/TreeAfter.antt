@@ -14,7 +14,8 @@ use Rattle.fs_calls.specs.declared.errno.Errno.{Errno}
 use Rattle.fs_calls.specs.declared.reply.Reply.{Reply}
 use Rattle.fs_nodes.specs.Graphs.{Graph, then_at, at, numbers, graph_shapes, entry_shape, IsGraph}
 use Rattle.fs_machine.specs.Finishes.{node_effect, move_effect, rename_effect, effect_at}
-use Rattle.fs_machine.specs.Moves.{Finishes, first_of, head_move, fork_move, target_move, next_on, walk_errno, dir_error, there_by, rename_at}
+use Rattle.fs_machine.specs.Moves.{first_of, head_move, fork_move, target_move, next_on, walk_errno, dir_error, there_by, rename_at}
+use Rattle.fs_machine.specs.declared.moves.Move.TheVariants.{Finish as Finishes}
 use Rattle.fs_machine.specs.Records.{Holdings}
 use Rattle.fs_laws.specs.Invariants.{ForkedAt, HeadsSound, NumberFor}
 use Rattle.fs_laws.specs.Placed.{Aside}

@@ -1,5 +1,5 @@
 -- Who walks below a node that is about to move has walked there before each event, and a helped call does no longer.
-use Rattle.std.proofs.Common.{◌≡◌, ℕ, suc, ◌≤◌, length, arith, Bool, true, false, List, [], ◌∷◌, ◌++◌, Option, Some, None, refl, sym, ap, ◌∙◌, append_assoc, append-nil, subst, ◌⊎◌, inl, inr}
+use Rattle.std.proofs.Common.{◌≡◌, ℕ, suc, ◌≤◌, length, arith, Bool, true, false, List, [], ◌∷◌, ◌++◌, Option, Some, None, refl, sym, ap, ◌∙◌, append_assoc, append-nil, subst, ◌⊎◌, inl, inr, Ok, Err}
 use Rattle.fs_names.specs.Keys.{Key, last_of}
 use Rattle.fs_names.specs.Names.{Name}
 use Rattle.fs_names.specs.Shapes.{Shape}
@@ -9,13 +9,17 @@ use Rattle.fs_calls.specs.declared.reply.Reply.{Reply}
 use Rattle.fs_nodes.specs.Graphs.{Graph, Children, at, numbers, set_at, reserved_in, then_at}
 use Rattle.fs_machine.specs.Finishes.{finish}
 use Rattle.fs_machine.specs.Leaving.{is_removed, releasing, let_go, finished_op, unreserved}
-use Rattle.fs_machine.specs.Moves.{Takes, Leaves, Finishes, next, took, target, head_took, took_by}
+use Rattle.fs_machine.specs.Moves.{next, took, target, head_took, took_by}
+use Rattle.fs_machine.specs.declared.moves.Move.TheVariants.{Take as Takes, LetGo as Leaves, Finish as Finishes}
 use Rattle.fs_machine.specs.Records.{Phase, Walking, Placed, Finished, Holds, Record, Holdings, holdings_at}
 use Rattle.fs_laws.specs.Below.{IsHolding, IsAboutToMove, Meanwhile, Now, Begins_another, Steps_another, Helps_one, EachBelow, HelpsAreFew}
 use Rattle.fs_timeline.specs.Timeline.{commit_count}
 use Rattle.fs_laws.specs.Invariants.{IsIn, Own, Invariant, HeadsFit}
 use Rattle.fs_laws.specs.CallFacts.{IsAfter, Located}
-use Rattle.fs_laws.specs.States.{State, Begun, Begun_as, Seat_busy, Full, No_memory, Begins, Reserves, new_op, began, Stepped, Idle, Took, Busy, LetGo, Helped, Committed, CarriedOut, Returned, Step, Run, Beginning, Stepping, taking, letting_go, helping, carrying, returning, IsWalkingBelow, NoneBelow}
+use Rattle.fs_machine.specs.States.{State, Begun, Begins, Reserves, new_op, began, Step, Run, Beginning, Stepping, taking, letting_go, helping, carrying, returning, IsWalkingBelow, NoneBelow}
+use Rattle.fs_machine.specs.declared.answers.Refusal.TheVariants.{SeatBusy, Full, OutOfMemory}
+use Rattle.fs_machine.specs.declared.answers.Stepped.{Stepped}
+use Rattle.fs_machine.specs.declared.answers.Stepped.TheVariants.{Idle, Took, Busy, LetGo, Helped, Committed, CarriedOut, Returned}
 use Rattle.fs_laws.proofs.graphs.Walks.{at_child, at_from, then_some}
 use Rattle.fs_laws.proofs.events.OneCallChanged.{Place, Here, Else, place}
 use Rattle.fs_laws.proofs.events.TwoCalls.{Ends as Snoc, ends, ends_same}
@@ -248,10 +252,10 @@ step_outside old new c moved seat CarriedOut m (f, op, o, i, moves, placed, same
 step_outside old new c moved seat (Returned r) m (f, op, moves, ph, same) d w = returned_outside old moved f op r d (subst (λ (s : State). IsWalkingBelow s moved d) same w)
 
 begin_outside : (old new : State) (moved seat : ℕ) (call : Call) (answer : Begun) → Begins old seat call answer new → (d : ℕ) → IsWalkingBelow new moved d → IsWalkingBelow old moved d
-begin_outside old new moved seat call Seat_busy (x, on, same) d w = subst (λ (s : State). IsWalkingBelow s moved d) same w
-begin_outside old new moved seat call Full (on, full, same) d w = subst (λ (s : State). IsWalkingBelow s moved d) same w
-begin_outside old new moved seat call No_memory (on, full, same) d w = subst (λ (s : State). IsWalkingBelow s moved d) same w
-begin_outside old new moved seat call (Begun_as c) (free, number, r) d w = go (reserves (form call)) r
+begin_outside old new moved seat call (Err SeatBusy) (x, on, same) d w = subst (λ (s : State). IsWalkingBelow s moved d) same w
+begin_outside old new moved seat call (Err Full) (on, full, same) d w = subst (λ (s : State). IsWalkingBelow s moved d) same w
+begin_outside old new moved seat call (Err OutOfMemory) (on, full, same) d w = subst (λ (s : State). IsWalkingBelow s moved d) same w
+begin_outside old new moved seat call (Ok c) (free, number, r) d w = go (reserves (form call)) r
   where
     go : (o : Option Shape) → Reserves old seat call c o new → IsWalkingBelow old moved d
     go None same = began_outside old moved seat call c None old.graph refl d (subst (λ (s : State). IsWalkingBelow s moved d) same w)

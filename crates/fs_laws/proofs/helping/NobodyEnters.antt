@@ -11,7 +11,9 @@ use Rattle.fs_calls.specs.declared.errno.Errno.{Errno}
 use Rattle.fs_calls.specs.declared.reply.Reply.{Reply}
 use Rattle.fs_nodes.specs.Graphs.{Graph, Children, at, set_child, entry_shape, IsGraph}
 use Rattle.fs_machine.specs.Finishes.{node_effect, entry_effect, move_effect, rename_effect, effect_at, effect_of, finish}
-use Rattle.fs_machine.specs.Moves.{Move, Finishes, next, next_by, next_on, first_of, head_move, walk_move, take_if, target, target_move, fork_move, rename_move, rename_at, moved_node, dir_then, dir_error, path_error, there_by, victim_of}
+use Rattle.fs_machine.specs.Moves.{next, next_by, next_on, first_of, head_move, walk_move, take_if, target, target_move, fork_move, rename_move, rename_at, moved_node, dir_then, dir_error, path_error, there_by, victim_of}
+use Rattle.fs_machine.specs.declared.moves.Move.{Move}
+use Rattle.fs_machine.specs.declared.moves.Move.TheVariants.{Finish as Finishes}
 use Rattle.fs_machine.specs.Records.{Phase, Walking, Placed, Finished, Record, Holdings}
 use Rattle.fs_laws.specs.Invariants.{Forked, ForkedAt, HeadsSound}
 use Rattle.fs_laws.proofs.graphs.Walks.{at_child}

@@ -12,7 +12,8 @@ use Rattle.fs_calls.specs.Rows.{as_dir, rename_row}
 use Rattle.fs_calls.specs.declared.errno.Errno.{Errno}
 use Rattle.fs_calls.specs.declared.reply.Reply.{Reply}
 use Rattle.fs_nodes.specs.Graphs.{Graph, at, then_at, numbers, graph_shapes, entry_shape, IsGraph}
-use Rattle.fs_machine.specs.Moves.{Finishes, first_of, head_move, next_on, same_kind, fork_move, dir_error, walk_errno, rename_at}
+use Rattle.fs_machine.specs.Moves.{first_of, head_move, next_on, same_kind, fork_move, dir_error, walk_errno, rename_at}
+use Rattle.fs_machine.specs.declared.moves.Move.TheVariants.{Finish as Finishes}
 use Rattle.fs_machine.specs.Records.{Holds, Holdings}
 use Rattle.fs_laws.specs.Invariants.{ForkedAt, HeadsSound, VictimAt}
 use Rattle.fs_laws.specs.Placed.{AllOff, ChangesNothingBelow, Aside, looks_into}

@@ -11,12 +11,13 @@ use Rattle.fs_calls.specs.Rows.{node_row, Edit, Keep, Add, Remove, entry_row}
 use Rattle.fs_calls.specs.declared.reply.Reply.{Reply}
 use Rattle.fs_nodes.specs.Graphs.{Graph, Children, at, numbers, graph_shapes, set_child, set_at, entry_shape, IsGraph, unlinked_in}
 use Rattle.fs_machine.specs.Finishes.{Effect, node_effect, entry_effect, move_effect, rename_effect, effect_at, effect_of, finish}
-use Rattle.fs_machine.specs.Moves.{Finishes, next, next_on, target, dir_error, path_error, rename_at}
+use Rattle.fs_machine.specs.Moves.{next, next_on, target, dir_error, path_error, rename_at}
+use Rattle.fs_machine.specs.declared.moves.Move.TheVariants.{Finish as Finishes}
 use Rattle.fs_machine.specs.Records.{Phase, Walking, Placed, Finished, Record, Records, Holdings}
 use Rattle.fs_laws.specs.Invariants.{remaining_of, spots, IsPlaced, AllLater, InOrder, IsIn, NumberFor, VictimAt, Invariant, HeadsSound}
 use Rattle.fs_laws.specs.Settled.{names_left, alone, settled_by, settled_graph, settled_reply, settled_replies, settle, settle_replies}
 use Rattle.fs_laws.specs.CallFacts.{CallFacts, Keeps, Pair, Located, IsAfter}
-use Rattle.fs_laws.specs.States.{State, Run}
+use Rattle.fs_machine.specs.States.{State, Run}
 use Rattle.fs_laws.proofs.trees.Prefixes.{prefix_append, prefix_longer}
 use Rattle.fs_laws.proofs.graphs.Walks.{at_same, at_before, at_child, at_from, set_else, then_some}
 use Rattle.fs_laws.proofs.events.OneCallChanged.{Place, Here, Else, place}

@@ -5,13 +5,17 @@ use Rattle.fs_calls.specs.declared.reply.Reply.{Reply}
 use Rattle.fs_nodes.specs.Graphs.{at, numbers}
 use Rattle.fs_timeline.specs.Timeline as journal
 use Rattle.fs_timeline.specs.declared.entry.Entry.{Entry}
-use Rattle.fs_machine.specs.Moves.{Move, Takes, Leaves, Finishes, Ends, next}
+use Rattle.fs_machine.specs.Moves.{next}
+use Rattle.fs_machine.specs.declared.moves.Move.{Move}
+use Rattle.fs_machine.specs.declared.moves.Move.TheVariants.{Take as Takes, LetGo as Leaves, Finish as Finishes, Return as Ends}
 use Rattle.fs_machine.specs.Records.{Holdings, Phase, Walking, Placed, Record, Holds}
 use Rattle.fs_laws.specs.Below.{IsHolding, NoWalkingBelow, NoLaterBelow, NobodyBetween, AreDue, Settles, HelpsOrCommits, Helps, Commits, NeverWaitsToFinish}
 use Rattle.fs_laws.specs.JournalViews.{JournalView, start, view_after}
 use Rattle.fs_laws.specs.Invariants.{Invariant, Dues}
 use Rattle.fs_laws.specs.CallFacts.{Pair, IsAfter, IsClear, Located}
-use Rattle.fs_laws.specs.States.{State, Run, Moves, IsBelow, IsChosen, NoneBelow, Stepped, Idle, Took, Busy, LetGo, Helped, Committed, CarriedOut, Returned, Step}
+use Rattle.fs_machine.specs.States.{State, Run, Moves, IsBelow, IsChosen, NoneBelow, Step}
+use Rattle.fs_machine.specs.declared.answers.Stepped.{Stepped}
+use Rattle.fs_machine.specs.declared.answers.Stepped.TheVariants.{Idle, Took, Busy, LetGo, Helped, Committed, CarriedOut, Returned}
 use Rattle.fs_laws.proofs.trees.Prefixes.{prefix_append}
 use Rattle.fs_laws.proofs.graphs.Walks.{at_from}
 use Rattle.fs_laws.proofs.helping.RenamesReadNothingBelow.{source_held, dest_held}

@@ -9,7 +9,7 @@ use Rattle.fs_machine.specs.Records.{Phase, Walking, Placed, Finished, Record, R
 use Rattle.fs_timeline.specs.Timeline.{begins}
 use Rattle.fs_laws.specs.Invariants.{Invariant}
 use Rattle.fs_laws.specs.StepsLeft.{total}
-use Rattle.fs_laws.specs.States.{State, Run, IsWalkingBelow, IsLowest, IsChosen, NoneBelow}
+use Rattle.fs_machine.specs.States.{State, Run, IsWalkingBelow, IsLowest, IsChosen, NoneBelow}
 use Rattle.fs_laws.proofs.trees.Prefixes.{prefix_append, prefix_some}
 use Rattle.fs_laws.proofs.graphs.Walks.{at_from, eqb_refl, eqb_true}
 use Rattle.fs_laws.proofs.states.Headline.{run_keeps}

@@ -1,5 +1,5 @@
 -- A placed call's place is the number of commits before its own.
-use Rattle.std.proofs.Common.{◌≡◌, ℕ, Bool, true, false, ◌||◌, List, [], ◌∷◌, ◌++◌, Option, Some, None, refl, sym, ap, ◌∙◌, subst}
+use Rattle.std.proofs.Common.{◌≡◌, ℕ, Bool, true, false, ◌||◌, List, [], ◌∷◌, ◌++◌, Option, Some, None, refl, sym, ap, ◌∙◌, subst, Ok, Err}
 use Rattle.fs_names.specs.Keys.{Key}
 use Rattle.fs_names.specs.Shapes.{Shape}
 use Rattle.fs_calls.specs.Forms.{form, reserves}
@@ -16,7 +16,10 @@ use Rattle.fs_machine.specs.Moves.{target, took, took_by}
 use Rattle.fs_machine.specs.Records.{Phase, Placed, Record, Holdings}
 use Rattle.fs_laws.specs.Below.{HasPlace, PlacesAreCounted}
 use Rattle.fs_timeline.specs.Timeline.{commit_count}
-use Rattle.fs_laws.specs.States.{State, Begun, Begun_as, Seat_busy, Full, No_memory, Begins, Reserves, new_op, began, Run, Start, Beginning, Stepping, Stepped, Idle, Took, Busy, LetGo, Helped, Committed, CarriedOut, Returned, Step}
+use Rattle.fs_machine.specs.States.{State, Begun, Begins, Reserves, new_op, began, Run, Start, Beginning, Stepping, Step}
+use Rattle.fs_machine.specs.declared.answers.Refusal.TheVariants.{SeatBusy, Full, OutOfMemory}
+use Rattle.fs_machine.specs.declared.answers.Stepped.{Stepped}
+use Rattle.fs_machine.specs.declared.answers.Stepped.TheVariants.{Idle, Took, Busy, LetGo, Helped, Committed, CarriedOut, Returned}
 use Rattle.fs_laws.proofs.events.OneCallChanged.{Place, Here, Else, place}
 use Rattle.fs_laws.proofs.events.JustFinished.{Either, Changed, Old, either}
 use Rattle.fs_laws.proofs.journal.ViewOfTimeline.{linearizes}
@@ -95,10 +98,10 @@ step_places old new seat (Helped x) run h (c, op, t, m, w, pick, q, is, same) = 
     go d i p ph (Old n f) = place_more old.timeline (Commit x) d i (h d i p f ph)
 
 begin_places : (old new : State) (seat : ℕ) (call : Call) (answer : Begun) → PlacesAreCounted old → Begins old seat call answer new → PlacesAreCounted new
-begin_places old new seat call Seat_busy h (c, on, same) = subst PlacesAreCounted (sym same) h
-begin_places old new seat call Full h (on, full, same) = subst PlacesAreCounted (sym same) h
-begin_places old new seat call No_memory h (on, full, same) = subst PlacesAreCounted (sym same) h
-begin_places old new seat call (Begun_as c) h (free, number, r) = go (reserves (form call)) r
+begin_places old new seat call (Err SeatBusy) h (c, on, same) = subst PlacesAreCounted (sym same) h
+begin_places old new seat call (Err Full) h (on, full, same) = subst PlacesAreCounted (sym same) h
+begin_places old new seat call (Err OutOfMemory) h (on, full, same) = subst PlacesAreCounted (sym same) h
+begin_places old new seat call (Ok c) h (free, number, r) = go (reserves (form call)) r
   where
     by : (reserved : Option ℕ) (graph : Graph) → PlacesAreCounted (began old seat call c reserved graph)
     by reserved graph = λ d i q e ph. place_more old.timeline (Begin c seat call) d i (other_places old h c (new_op seat call reserved) (λ k f. cc) d i q e ph)

@@ -32,7 +32,7 @@ use Rattle.fs_laws.proofs.graphs.Walks.{eqb_refl, eqb_true}
 use Rattle.fs_laws.proofs.events.OneCallChanged.{Place, Here, Else, place}
 use Rattle.fs_laws.proofs.journal.OneMoreEntry.{Unknown, unknown_step}
 use Rattle.fs_laws.proofs.states.Headline.{Headline, run_keeps, headline_of, view_plays}
-use Rattle.fs_laws.specs.States.{State, Run}
+use Rattle.fs_machine.specs.States.{State, Run}
 
 -- two words for one changed value
 changed_is : {A : Type 0} (n : ℕ) (v : A) (f g : ℕ → A) (m : ℕ) → f m ≡ g m → set_at n v f m ≡ changed g n v m

@@ -1,5 +1,5 @@
 -- What every state of a run keeps besides: who is a node's holder stands at it, calls under way are on their seats, and numbers and sizes are within their limits.
-use Rattle.std.proofs.Common.{◌≡◌, ℕ, ◌+◌, ◌<◌, ◌≤◌, Bool, true, false, List, [], ◌∷◌, Option, Some, None, refl, sym, ap, ◌∙◌, subst, arith}
+use Rattle.std.proofs.Common.{◌≡◌, ℕ, ◌+◌, ◌<◌, ◌≤◌, Bool, true, false, List, [], ◌∷◌, Option, Some, None, refl, sym, ap, ◌∙◌, subst, arith, Ok, Err}
 use Rattle.fs_names.specs.Keys.{Key}
 use Rattle.fs_names.specs.Names.{Name}
 use Rattle.fs_names.specs.Shapes.{Shape, Dir, File}
@@ -11,13 +11,17 @@ use Rattle.fs_calls.specs.declared.reply.Reply.{Reply}
 use Rattle.fs_nodes.specs.Graphs.{Graph, empty_graph, numbers, set_at, released_in, reserved_in}
 use Rattle.fs_machine.specs.Finishes.{finish}
 use Rattle.fs_machine.specs.Leaving.{is_removed, releasing, let_go, finished_op, unreserved}
-use Rattle.fs_machine.specs.Moves.{Finishes, next, took, left_holdings, next_on}
+use Rattle.fs_machine.specs.Moves.{next, took, left_holdings, next_on}
+use Rattle.fs_machine.specs.declared.moves.Move.TheVariants.{Finish as Finishes}
 use Rattle.fs_machine.specs.Records.{Phase, Walking, Placed, Finished, Holds, Record, Records, Holdings}
 use Rattle.fs_laws.specs.JournalViews.{start, view_after}
 use Rattle.fs_timeline.specs.Timeline.{begins, commit_count}
 use Rattle.fs_laws.specs.Invariants.{IsUnfinished, Own, Invariant}
 use Rattle.fs_laws.specs.CallFacts.{Keeps}
-use Rattle.fs_laws.specs.States.{State, empty, Begun, Begun_as, Seat_busy, Full, No_memory, began, new_op, Reserves, Begins, Stepped, Idle, Took, Busy, LetGo, Helped, Committed, CarriedOut, Returned, Step, taking, letting_go, helping, carrying, committing, returning, Run, Start, Beginning, Stepping}
+use Rattle.fs_machine.specs.States.{State, empty, Begun, began, new_op, Reserves, Begins, Step, taking, letting_go, helping, carrying, committing, returning, Run, Start, Beginning, Stepping}
+use Rattle.fs_machine.specs.declared.answers.Refusal.TheVariants.{SeatBusy, Full, OutOfMemory}
+use Rattle.fs_machine.specs.declared.answers.Stepped.{Stepped}
+use Rattle.fs_machine.specs.declared.answers.Stepped.TheVariants.{Idle, Took, Busy, LetGo, Helped, Committed, CarriedOut, Returned}
 use Rattle.fs_laws.proofs.graphs.Walks.{eqb_true}
 use Rattle.fs_laws.proofs.calls.Located.{fits_under}
 use Rattle.fs_laws.proofs.events.OneCallChanged.{Place, Here, Else, place}
@@ -422,7 +426,7 @@ reserved_is old acc n shape free less fits = record {
     below m s e (Here i j) = subst (λ (k : ℕ). k < old.limit) (sym i) less
     below m s e (Else h j) = acc.below m s (sym j ∙ e)
 
-account_begun : (c : ℕ) (old new : State) (seat : ℕ) (call : Call) → Invariant old → StateFacts old → Begins old seat call (Begun_as c) new → StateFacts new
+account_begun : (c : ℕ) (old new : State) (seat : ℕ) (call : Call) → Invariant old → StateFacts old → Begins old seat call (Ok c) new → StateFacts new
 account_begun c old new seat call inv acc (free, number, r) = go (reserves (form call)) refl r
   where
     unused : old.ops c ≡ None
@@ -461,10 +465,10 @@ step_accounts CarriedOut old new seat inv acc st = account_carried old new seat 
 step_accounts (Returned r) old new seat inv acc st = account_returned r old new seat inv acc st
 
 begin_accounts : (answer : Begun) (old new : State) (seat : ℕ) (call : Call) → Invariant old → StateFacts old → Begins old seat call answer new → StateFacts new
-begin_accounts (Begun_as c) old new seat call inv acc b = account_begun c old new seat call inv acc b
-begin_accounts Seat_busy old new seat call inv acc (c, on, same) = subst StateFacts (sym same) acc
-begin_accounts Full old new seat call inv acc (on, full, same) = subst StateFacts (sym same) acc
-begin_accounts No_memory old new seat call inv acc (on, full, same) = subst StateFacts (sym same) acc
+begin_accounts (Ok c) old new seat call inv acc b = account_begun c old new seat call inv acc b
+begin_accounts (Err SeatBusy) old new seat call inv acc (c, on, same) = subst StateFacts (sym same) acc
+begin_accounts (Err Full) old new seat call inv acc (on, full, same) = subst StateFacts (sym same) acc
+begin_accounts (Err OutOfMemory) old new seat call inv acc (on, full, same) = subst StateFacts (sym same) acc
 
 -- every state of a run keeps them
 pub run_accounts : (s : State) → Run s → StateFacts s

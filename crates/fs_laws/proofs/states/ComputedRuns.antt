@@ -1,5 +1,5 @@
 -- The machine computed: in each state of a run the step that is computed is the step, and so runs are computed.
-use Rattle.std.proofs.Common.{◌≡◌, ℕ, zero, suc, ◌+◌, ◌<◌, Bool, true, false, cond, not, ◌&&◌, List, [], ◌∷◌, ◌++◌, Option, Some, None, is_some, refl, sym, ap, ap₂, ◌∙◌, append_assoc, append-nil, arith}
+use Rattle.std.proofs.Common.{◌≡◌, ℕ, zero, suc, ◌+◌, ◌<◌, Bool, true, false, cond, not, ◌&&◌, List, [], ◌∷◌, ◌++◌, Option, Some, None, is_some, refl, sym, ap, ap₂, ◌∙◌, append_assoc, append-nil, arith, Ok}
 use Rattle.std.specs.Prelude.{nat_lt}
 use Rattle.std.proofs.lemmas.Bool.Decides.{nat_tests}
 use Rattle.fs_names.specs.Keys.{Key, last_of}
@@ -9,13 +9,17 @@ use Rattle.fs_calls.specs.declared.target.PairCall.TheVariants as pairs
 use Rattle.fs_calls.specs.declared.call.Call.{Call}
 use Rattle.fs_calls.specs.declared.reply.Reply.{Reply}
 use Rattle.fs_nodes.specs.Graphs.{Graph, numbers, reserved_in}
-use Rattle.fs_machine.specs.Moves.{Move, Takes, Leaves, Finishes, Ends, next, next_by}
+use Rattle.fs_machine.specs.Moves.{next, next_by}
+use Rattle.fs_machine.specs.declared.moves.Move.{Move}
+use Rattle.fs_machine.specs.declared.moves.Move.TheVariants.{Take as Takes, LetGo as Leaves, Finish as Finishes, Return as Ends}
 use Rattle.fs_machine.specs.Records.{Holdings, Phase, Walking, Placed, Finished, Record}
 use Rattle.fs_timeline.specs.Timeline.{begins}
 use Rattle.fs_laws.specs.Events.{Event, Begins, Steps, events_of, Ran}
 use Rattle.fs_laws.specs.Invariants.{Invariant}
-use Rattle.fs_laws.specs.States as machine
-use Rattle.fs_laws.specs.States.{State, empty, Begun_as, began, Reserves, Stepped, Idle, Took, Busy, LetGo, Helped, Committed, CarriedOut, Returned, Moves, Step, taking, letting_go, helping, carrying, committing, returning, Run, Start, Beginning, Stepping}
+use Rattle.fs_machine.specs.States as machine
+use Rattle.fs_machine.specs.States.{State, empty, began, Reserves, Moves, Step, taking, letting_go, helping, carrying, committing, returning, Run, Start, Beginning, Stepping}
+use Rattle.fs_machine.specs.declared.answers.Stepped.{Stepped}
+use Rattle.fs_machine.specs.declared.answers.Stepped.TheVariants.{Idle, Took, Busy, LetGo, Helped, Committed, CarriedOut, Returned}
 use Rattle.fs_laws.proofs.states.ComputedSteps.{by_ends, by_finishes}
 use Rattle.fs_laws.proofs.helping.WhomToHelp.{whom, IsRight, whom_is}
 use Rattle.fs_laws.proofs.helping.NobodyEnters.{ToMove, to_move}
@@ -165,7 +169,7 @@ both : (a b : Bool) → (a && b) ≡ true → (a ≡ true) × (b ≡ true)
 both true b e = (refl, e)
 both false b e = cc
 
-beginning_is : (old : State) (seat : ℕ) (call : Call) → can_begin old seat call ≡ true → machine.Begins old seat call (Begun_as (begins old.timeline + 1)) (beginning old seat call)
+beginning_is : (old : State) (seat : ℕ) (call : Call) → can_begin old seat call ≡ true → machine.Begins old seat call (Ok (begins old.timeline + 1)) (beginning old seat call)
 beginning_is old seat call e = (is_none (old.on_seat seat) p.0, refl, go (reserves (form call)) p.1)
   where
     p : (not (is_some (old.on_seat seat)) ≡ true) × (has_free old (reserves (form call)) ≡ true)
@@ -193,16 +197,16 @@ can_be s (Steps seat answer ∷ es) = can_be (stepped s seat).1 es
 
 abbrev pub told : State → List Event → List Event
 told s [] = []
-told s (Begins seat call answer ∷ es) = Begins seat call (Begun_as (begins s.timeline + 1)) ∷ told (beginning s seat call) es
+told s (Begins seat call answer ∷ es) = Begins seat call (Ok (begins s.timeline + 1)) ∷ told (beginning s seat call) es
 told s (Steps seat answer ∷ es) = Steps seat (stepped s seat).0 ∷ told (stepped s seat).1 es
 
 played : (s : State) (run : Run s) (es : List Event) → can_be s es ≡ true → (later : Run (after s es)) × (events_of (after s es) later ≡ events_of s run ++ told s es)
 played s run [] e = (run, sym (append-nil (events_of s run)))
 played s run (Begins seat call answer ∷ es) e =
     let p : (can_begin s seat call ≡ true) × (can_be (beginning s seat call) es ≡ true) = both (can_begin s seat call) (can_be (beginning s seat call) es) e in
-    let now : Run (beginning s seat call) = Beginning seat call (Begun_as (begins s.timeline + 1)) (beginning s seat call) run (beginning_is s seat call p.0) in
+    let now : Run (beginning s seat call) = Beginning seat call (Ok (begins s.timeline + 1)) (beginning s seat call) run (beginning_is s seat call p.0) in
     let r : (later : Run (after (beginning s seat call) es)) × (events_of (after (beginning s seat call) es) later ≡ events_of (beginning s seat call) now ++ told (beginning s seat call) es) = played (beginning s seat call) now es p.1 in
-    (r.0, r.1 ∙ append_assoc (events_of s run) (Begins seat call (Begun_as (begins s.timeline + 1)) ∷ []) (told (beginning s seat call) es))
+    (r.0, r.1 ∙ append_assoc (events_of s run) (Begins seat call (Ok (begins s.timeline + 1)) ∷ []) (told (beginning s seat call) es))
 played s run (Steps seat answer ∷ es) e =
     let now : Run (stepped s seat).1 = Stepping seat (stepped s seat).0 (stepped s seat).1 run (stepped_is s run seat) in
     let r : (later : Run (after (stepped s seat).1 es)) × (events_of (after (stepped s seat).1 es) later ≡ events_of (stepped s seat).1 now ++ told (stepped s seat).1 es) = played (stepped s seat).1 now es e in

@@ -8,7 +8,9 @@ use Rattle.fs_calls.specs.declared.target.PairCall.TheVariants as pairs
 use Rattle.fs_calls.specs.declared.errno.Errno.{Errno}
 use Rattle.fs_calls.specs.declared.reply.Reply.{Reply}
 use Rattle.fs_nodes.specs.Graphs.{Graph}
-use Rattle.fs_machine.specs.Moves.{Move, Finishes, Ends, first_of, head_move, walk_move, take_if, dir_then, rename_move, target_move, target, next_on, next_by}
+use Rattle.fs_machine.specs.Moves.{first_of, head_move, walk_move, take_if, dir_then, rename_move, target_move, target, next_on, next_by}
+use Rattle.fs_machine.specs.declared.moves.Move.{Move}
+use Rattle.fs_machine.specs.declared.moves.Move.TheVariants.{Finish as Finishes, Return as Ends}
 use Rattle.fs_machine.specs.Records.{Holdings, Phase, Walking, Placed, Finished, Record}
 
 walk_ends : (s : Option Shape) (k : Option ℕ) → walk_move s k ≡ Ends → ⊥

@@ -11,13 +11,14 @@ use Rattle.fs_calls.specs.declared.errno.Errno.{Errno}
 use Rattle.fs_calls.specs.declared.reply.Reply.{Reply}
 use Rattle.fs_nodes.specs.Graphs.{Graph, numbers, IsGraph}
 use Rattle.fs_machine.specs.Leaving.{is_removed}
-use Rattle.fs_machine.specs.Moves.{Finishes, Ends, next, next_by}
+use Rattle.fs_machine.specs.Moves.{next, next_by}
+use Rattle.fs_machine.specs.declared.moves.Move.TheVariants.{Finish as Finishes, Return as Ends}
 use Rattle.fs_machine.specs.Records.{Phase, Walking, Placed, Finished, Record, Holdings}
 use Rattle.fs_machine.specs.OpValues.{IsSpare, SpareIf, IsBounded, HeadsApart, CanFinish}
 use Rattle.fs_timeline.specs.Timeline.{begins}
 use Rattle.fs_laws.specs.Invariants.{Invariant}
 use Rattle.fs_laws.specs.CallFacts.{Located}
-use Rattle.fs_laws.specs.States.{State, Run}
+use Rattle.fs_machine.specs.States.{State, Run}
 use Rattle.fs_laws.proofs.trees.Prefixes.{same_refl}
 use Rattle.fs_laws.proofs.graphs.Walks.{at_child, eqb_true}
 use Rattle.fs_laws.proofs.states.ComputedSteps.{by_ends}

@@ -1,5 +1,5 @@
 -- What every state of a run keeps, and the headline from it.
-use Rattle.std.proofs.Common.{◌≡◌, ℕ, Bool, true, false, cond, eqb, List, [], ◌∷◌, Option, Some, None, refl, sym, ap, ◌∙◌, subst}
+use Rattle.std.proofs.Common.{◌≡◌, ℕ, Bool, true, false, cond, eqb, List, [], ◌∷◌, Option, Some, None, refl, sym, ap, ◌∙◌, subst, Ok, Err}
 use mathlib.Core.Path.{fun_ext}
 use Rattle.fs_names.specs.Keys.{Key}
 use Rattle.fs_names.specs.Names.{Name, has_name, same_name}
@@ -11,10 +11,13 @@ use Rattle.fs_timeline.specs.declared.entry.Entry.{Entry}
 use Rattle.fs_timeline.specs.declared.entry.Entry.TheVariants.{Begin, Commit, Return}
 use Rattle.fs_machine.specs.Records.{Record, Records}
 use Rattle.fs_laws.specs.JournalViews.{IsLawful, commits_of, with_call, JournalView, start, noted, commit_of, view_after}
-use Rattle.fs_laws.specs.Headline.{IsIdle}
+use Rattle.fs_machine.specs.Headline.{IsIdle}
 use Rattle.fs_laws.specs.Invariants.{Invariant, StepKeeps, BeginKeeps, spots, IsPlaced, InOrder}
 use Rattle.fs_laws.specs.Settled.{settle}
-use Rattle.fs_laws.specs.States.{State, empty, Begun, Begun_as, Seat_busy, Full, No_memory, Stepped, Idle, Took, Busy, LetGo, Helped, Committed, CarriedOut, Returned, Run, Start, Beginning, Stepping}
+use Rattle.fs_machine.specs.States.{State, empty, Begun, Run, Start, Beginning, Stepping}
+use Rattle.fs_machine.specs.declared.answers.Refusal.TheVariants.{SeatBusy, Full, OutOfMemory}
+use Rattle.fs_machine.specs.declared.answers.Stepped.{Stepped}
+use Rattle.fs_machine.specs.declared.answers.Stepped.TheVariants.{Idle, Took, Busy, LetGo, Helped, Committed, CarriedOut, Returned}
 use Rattle.fs_laws.proofs.events.Help.{keeps_helped}
 use Rattle.fs_laws.proofs.events.Commit.{keeps_committed}
 use Rattle.fs_laws.proofs.events.CarryOut.{keeps_carried}
@@ -108,13 +111,13 @@ keeps_idle old new seat inv st = subst Invariant (sym st.1) inv
 pub keeps_busy : (n d : ℕ) → StepKeeps (Busy n d)
 keeps_busy n d old new seat inv (c, op, m, h, same_name) = subst Invariant (sym same_name) inv
 
-pub keeps_seat_busy : BeginKeeps Seat_busy
+pub keeps_seat_busy : BeginKeeps (Err SeatBusy)
 keeps_seat_busy old new seat call inv (c, on, same_name) = subst Invariant (sym same_name) inv
 
-pub keeps_full : BeginKeeps Full
+pub keeps_full : BeginKeeps (Err Full)
 keeps_full old new seat call inv (on, full, same_name) = subst Invariant (sym same_name) inv
 
-pub keeps_no_memory : BeginKeeps No_memory
+pub keeps_no_memory : BeginKeeps (Err OutOfMemory)
 keeps_no_memory old new seat call inv (on, full, same_name) = subst Invariant (sym same_name) inv
 
 -- each step and each begin keeps it
@@ -129,10 +132,10 @@ step_keeps CarriedOut = keeps_carried
 step_keeps (Returned r) = keeps_returned r
 
 pub begin_keeps : (answer : Begun) → BeginKeeps answer
-begin_keeps (Begun_as c) = keeps_begun c
-begin_keeps Seat_busy = keeps_seat_busy
-begin_keeps Full = keeps_full
-begin_keeps No_memory = keeps_no_memory
+begin_keeps (Ok c) = keeps_begun c
+begin_keeps (Err SeatBusy) = keeps_seat_busy
+begin_keeps (Err Full) = keeps_full
+begin_keeps (Err OutOfMemory) = keeps_no_memory
 
 -- every state of a run keeps it
 pub run_keeps : (s : State) → Run s → Invariant s

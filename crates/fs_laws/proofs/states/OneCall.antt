@@ -1,5 +1,5 @@
 -- A call that is begun with no other under way, and stepped to its end, meets the sequential tree.
-use Rattle.std.proofs.Common.{◌≡◌, ℕ, ◌+◌, Bool, true, false, eqb, [], ◌∷◌, ◌++◌, Option, Some, None, refl, sym, ap, ap₂, ◌∙◌, subst, ◌⊎◌, inl, inr, arith}
+use Rattle.std.proofs.Common.{◌≡◌, ℕ, ◌+◌, Bool, true, false, eqb, [], ◌∷◌, ◌++◌, Option, Some, None, refl, sym, ap, ap₂, ◌∙◌, subst, ◌⊎◌, inl, inr, arith, Ok}
 use Rattle.fs_names.specs.Shapes.{Shape}
 use Rattle.fs_laws.specs.Changes.{reply, after}
 use Rattle.fs_calls.specs.Forms.{form, reserves}
@@ -16,10 +16,12 @@ use Rattle.fs_timeline.specs.declared.entry.Entry.TheVariants.{Begin, Commit, Re
 use Rattle.fs_machine.specs.Records.{Walking, Record}
 use Rattle.fs_laws.specs.JournalViews.{JournalView, start, view_after, noted, commit_of}
 use Rattle.fs_timeline.specs.Timeline.{begins}
-use Rattle.fs_laws.specs.Headline.{IsIdle}
+use Rattle.fs_machine.specs.Headline.{IsIdle}
 use Rattle.fs_laws.specs.Invariants.{Invariant}
 use Rattle.fs_laws.specs.OneCall.{IsNoReturn, StepsTo, Returns, Goes_on, MeetsTree}
-use Rattle.fs_laws.specs.States.{State, Begun_as, Begins, Reserves, new_op, began, Run, Beginning, Stepping, Stepped, Idle, Took, Busy, LetGo, Helped, Committed, CarriedOut, Returned, Step, returning}
+use Rattle.fs_machine.specs.States.{State, Begins, Reserves, new_op, began, Run, Beginning, Stepping, Step, returning}
+use Rattle.fs_machine.specs.declared.answers.Stepped.{Stepped}
+use Rattle.fs_machine.specs.declared.answers.Stepped.TheVariants.{Idle, Took, Busy, LetGo, Helped, Committed, CarriedOut, Returned}
 use Rattle.fs_laws.proofs.graphs.Walks.{eqb_refl, eqb_true}
 use Rattle.fs_laws.proofs.journal.OneMoreEntry.{view_push, unknown_of}
 use Rattle.fs_laws.proofs.events.Help.{upd_here, upd_else}
@@ -163,7 +165,7 @@ steps_end b c seat call new r u none w (Goes_on answer next plain st rest) = ste
 idle_spells : (s : State) → Run s → IsIdle s → graph_shapes s.graph ≡ (view_after start s.timeline).tree
 idle_spells s run idle = (linearizes s run).spelled idle ∙ sym (run_ties s run).tree
 
-pub meets_tree : (s first new : State) (seat c : ℕ) (call : Call) (r : Reply) → Run s → IsIdle s → Begins s seat call (Begun_as c) first → StepsTo seat r new first → MeetsTree s call r new
+pub meets_tree : (s first new : State) (seat c : ℕ) (call : Call) (r : Reply) → Run s → IsIdle s → Begins s seat call (Ok c) first → StepsTo seat r new first → MeetsTree s call r new
 meets_tree s first new seat c call r run idle begin steps = result
   where
     b : JournalView
@@ -180,7 +182,7 @@ meets_tree s first new seat c call r run idle begin steps = result
 
     began_during : (reserved : Option ℕ) (graph : Graph) → first ≡ began s seat call c reserved graph → During (view_after start s.timeline) c seat call first
     began_during reserved graph same = subst (During (view_after start s.timeline) c seat call) (sym same) (record {
-      run = subst Run same (Beginning seat call (Begun_as c) first run begin);
+      run = subst Run same (Beginning seat call (Ok c) first run begin);
       others = λ d n. upd_else c (Some (new_op seat call reserved)) s.ops d n ∙ idle d;
       mine = upd_here seat (Some c) s.on_seat;
       view = inl (view_push start s.timeline (Begin c seat call));

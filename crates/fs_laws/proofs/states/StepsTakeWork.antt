@@ -1,5 +1,5 @@
 -- Each step by which a call goes on leaves fewer steps.
-use Rattle.std.proofs.Common.{◌≡◌, ℕ, zero, suc, ◌+◌, ◌≤◌, [], ◌∷◌, Option, Some, None, refl, sym, ap, ap₂, ◌∙◌, subst, ◌⊎◌, inl, inr, arith}
+use Rattle.std.proofs.Common.{◌≡◌, ℕ, suc, ◌+◌, ◌≤◌, [], ◌∷◌, Option, Some, None, refl, sym, ap, ap₂, ◌∙◌, subst, arith}
 use Rattle.fs_names.specs.Keys.{Key}
 use Rattle.fs_names.specs.Shapes.{Shape}
 use Rattle.fs_calls.specs.Forms.{form, Form, by_text, reserves}
@@ -9,12 +9,14 @@ use Rattle.fs_calls.specs.declared.reply.Reply.{Reply}
 use Rattle.fs_nodes.specs.Graphs.{Graph, set_at, reserved_in}
 use Rattle.fs_machine.specs.Finishes.{finish, Effect}
 use Rattle.fs_machine.specs.Leaving.{let_go, finished_op}
-use Rattle.fs_machine.specs.Moves.{Takes, Leaves, next, next_by, took, took_by, target, left_holdings, left_last, left_heads, next_on}
+use Rattle.fs_machine.specs.Moves.{next, next_by, took, took_by, target, left_holdings, left_last, left_heads, next_on}
+use Rattle.fs_machine.specs.declared.moves.Move.TheVariants.{Take as Takes, LetGo as Leaves}
 use Rattle.fs_machine.specs.Records.{Phase, Walking, Placed, Finished, Record, Records, Holdings, holdings_at}
 use Rattle.fs_timeline.specs.Timeline.{begins, commit_count}
 use Rattle.fs_laws.specs.Invariants.{IsUnfinished}
 use Rattle.fs_laws.specs.Settled.{names_left}
-use Rattle.fs_laws.specs.States.{State, Reserves, began, new_op, Run, Idle, Took, Busy, LetGo, Helped, Committed, CarriedOut, Returned, taking, letting_go, helping, carrying, committing, returning}
+use Rattle.fs_machine.specs.States.{State, Reserves, began, new_op, Run, taking, letting_go, helping, carrying, committing, returning}
+use Rattle.fs_machine.specs.declared.answers.Stepped.TheVariants.{Idle, Took, Busy, LetGo, Helped, Committed, CarriedOut, Returned}
 use Rattle.fs_laws.specs.StepsLeft.{total, one_if, moves_left, one_walked, first_steps, steps_left_by, steps_left_of, steps_left, TakesWork, AddsWork}
 use Rattle.fs_laws.proofs.events.Help.{upd_here, upd_else, begins_push}
 use Rattle.fs_laws.proofs.journal.OneMoreEntry.{returns_begins, begins_begins}
@@ -25,28 +27,9 @@ use Rattle.fs_laws.proofs.events.Return.{ends_nowhere}
 use Rattle.fs_laws.proofs.states.Headline.{run_keeps}
 use Rattle.fs_laws.proofs.states.Agreement.{run_accounts}
 use Rattle.fs_laws.proofs.states.GraphOfARun.{begun_before}
-use Rattle.fs_laws.proofs.helping.WhomToHelp.{up_to}
+use Rattle.fs_laws.proofs.states.Sums.{total_same, total_one}
 use Rattle.fs_laws.proofs.calls.OneUnfinishedCall.{solo_of}
 use Rattle.fs_laws.proofs.calls.GoingOnAlone.{Advanced, solo_took, solo_left, left_alone, enough, if_one}
-
--- sums of two functions that differ at one number, or nowhere
-total_same : (f g : ℕ → ℕ) (n : ℕ) → ((c : ℕ) → c ≤ n → f c ≡ g c) → total f n ≡ total g n
-total_same f g zero h = h 0 (omega arith)
-total_same f g (suc n) h = ap₂ (λ (a b : ℕ). a + b) (total_same f g n (λ c i. h c (omega (arith, i)))) (h (suc n) (omega arith))
-
-total_one : (f g : ℕ → ℕ) (c n : ℕ) → c ≤ n → ((d : ℕ) → (d ≡ c → ⊥) → f d ≡ g d) → total f n + g c ≡ total g n + f c
-total_one f g c zero i h = let z : c ≡ 0 = omega (arith, i) in let a : g c ≡ g 0 = ap g z in let b : f c ≡ f 0 = ap f z in omega (arith, a, b)
-total_one f g c (suc n) i h = go (up_to c n i) (total_one f g c n)
-  where
-    here : c ≡ suc n → total f n ≡ total g n
-    here e = total_same f g n (λ d j. h d (λ k. (let z : d ≡ suc n = k ∙ e in omega (arith, z, j))))
-
-    go : (c ≡ suc n) ⊎ (c ≤ n) → (c ≤ n → ((d : ℕ) → (d ≡ c → ⊥) → f d ≡ g d) → total f n + g c ≡ total g n + f c) → (total f n + f (suc n)) + g c ≡ (total g n + g (suc n)) + f c
-    go (inl e) rest = let a : total f n ≡ total g n = here e in let b : f c ≡ f (suc n) = ap f e in let d : g c ≡ g (suc n) = ap g e in omega (arith, a, b, d)
-    go (inr k) rest =
-        let a : total f n + g c ≡ total g n + f c = rest k h in
-        let b : f (suc n) ≡ g (suc n) = h (suc n) (λ e. (let z : suc n ≡ c = e in omega (arith, z, k))) in
-        omega (arith, a, b)
 
 -- one call's record changes
 changed_work : (ops : Records) (c n : ℕ) (v : Option Record) → c ≤ n → total (λ d. steps_left_of (set_at c v ops d)) n + steps_left_of (ops c) ≡ total (λ d. steps_left_of (ops d)) n + steps_left_of v

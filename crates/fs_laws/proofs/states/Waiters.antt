@@ -7,13 +7,17 @@ use Rattle.fs_names.specs.Parts.{HasNames, left}
 use Rattle.fs_calls.specs.Forms.{form, Form, by_text}
 use Rattle.fs_calls.specs.declared.reply.Reply.{Reply}
 use Rattle.fs_nodes.specs.Graphs.{numbers}
-use Rattle.fs_machine.specs.Moves.{Move, Takes, Leaves, Finishes, Ends, next, next_on}
+use Rattle.fs_machine.specs.Moves.{next, next_on}
+use Rattle.fs_machine.specs.declared.moves.Move.{Move}
+use Rattle.fs_machine.specs.declared.moves.Move.TheVariants.{Take as Takes, LetGo as Leaves, Finish as Finishes, Return as Ends}
 use Rattle.fs_machine.specs.Records.{Walking, Placed, Finished, Holds, Record, Holdings}
 use Rattle.fs_timeline.specs.Timeline.{begins}
 use Rattle.fs_laws.specs.Invariants.{IsUnfinished, Forked, VictimAt, Invariant}
 use Rattle.fs_laws.specs.Progress.{WaitsFor, WaitsBelow, GoesOn, SomebodyGoesOn, IsNeverStuck, HasStep}
 use Rattle.fs_laws.specs.CallFacts.{Located, Pair}
-use Rattle.fs_laws.specs.States.{State, Run, NoneBelow, IsChosen, Stepped, Idle, Took, Busy, LetGo, Helped, Committed, CarriedOut, Returned, Step, taking, letting_go, helping, carrying, committing, returning}
+use Rattle.fs_machine.specs.States.{State, Run, NoneBelow, IsChosen, Step, taking, letting_go, helping, carrying, committing, returning}
+use Rattle.fs_machine.specs.declared.answers.Stepped.{Stepped}
+use Rattle.fs_machine.specs.declared.answers.Stepped.TheVariants.{Idle, Took, Busy, LetGo, Helped, Committed, CarriedOut, Returned}
 use Rattle.fs_laws.proofs.graphs.Walks.{at_child, at_from}
 use Rattle.fs_laws.proofs.states.WaitsForOneBelow.{Keeps_waiting, waits_below}
 use Rattle.fs_laws.proofs.helping.RenamesReadNothingBelow.{source_held, dest_held}

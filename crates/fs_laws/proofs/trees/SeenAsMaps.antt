@@ -1,26 +1,21 @@
 -- What a map has to say to be what is seen of a tree.
-use Rattle.std.proofs.Common.{◌≡◌, ℕ, Bool, true, false, cond, not, ◌&&◌, ◌||◌, List, [], ◌∷◌, ◌++◌, map, Option, Some, None, is_some, refl, sym, ap, ◌∙◌, subst, T, Ordering, Less, Equal, Greater}
+use Rattle.std.proofs.Common.{◌≡◌, ℕ, Bool, true, false, cond, not, ◌||◌, List, [], ◌∷◌, ◌++◌, map, Option, Some, None, is_some, refl, sym, ap, ◌∙◌, subst, T, Ordering, Less, Equal, Greater}
 use Rattle.std.specs.List.{list_any}
-use Rattle.std.specs.Ordering.{is_eq, is_lt, ordering_then}
+use Rattle.std.specs.Ordering.{is_eq, is_lt}
 use Rattle.std.specs.FinMap.{find, put as put_entry, is_sorted}
-use Rattle.std.specs.FinMap.Entries.{by_order, below_all, where_key, is_sorted-put, is_sorted-where_key}
-use Rattle.std.proofs.lemmas.Cmp.{tied_itself}
-use Rattle.fs_names.specs.Keys.{Key, key_cmp, after_prefix}
+use Rattle.std.specs.FinMap.Entries.{by_order, where_key, is_sorted-put, is_sorted-where_key}
+use Rattle.fs_names.specs.Keys.{Key, key_cmp}
 use Rattle.fs_names.specs.Names.{Name, name_cmp, same_name, inserted_name, removed_name, has_name}
 use Rattle.fs_names.specs.Shapes.{Shape, Dir, File}
-use Rattle.fs_names.proofs.Lemmas.{name_total, after_prefix-exact}
+use Rattle.fs_names.proofs.Lemmas.{name_total}
 use Rattle.fs_calls.specs.Tree as trees
-use Rattle.fs_calls.specs.Tree.{Tree, Node, look, names_in, name_in, only_name, with_name, IsTree}
+use Rattle.fs_calls.specs.Tree.{Tree, Node, look, names_in, IsTree}
 use Rattle.fs_calls.specs.Shapes.{tree_shapes, shape_of}
 use Rattle.fs_laws.specs.Maps.{Map}
-use Rattle.fs_calls.proofs.Children.{names_in-links}
+use Rattle.fs_calls.proofs.Children.{marked, sorted-names_in, names_in-links}
 use Rattle.fs_calls.proofs.ResolutionLemmas.{any-names_in}
 
--- names, each with the same mark
-abbrev pub marked : List Name → List (Name × ℕ)
-marked [] = []
-marked (x ∷ names) = (x, 0) ∷ marked names
-
+-- names in rising order
 abbrev pub Rising : List Name → Type 0
 Rising names = T (is_sorted name_cmp (marked names))
 
@@ -49,46 +44,8 @@ names_as : (t : Tree) (d : Key) (names : List Name) → T (is_sorted key_cmp t) 
 names_as t d names sorted rising same = names_in-links t d (marked names) sorted rising (λ x. sym (same x) ∙ sym (marked_has x names)) ∙ marked_names names
 
 -- the names of a directory rise
-only_name-exact : (o : Option Key) (x : Name) → only_name o ≡ Some x → o ≡ Some (x ∷ [])
-only_name-exact None x e = cc
-only_name-exact (Some []) x e = cc
-only_name-exact (Some (y ∷ [])) x e = let s : y ≡ x = cc in cc
-only_name-exact (Some (y ∷ z ∷ k)) x e = cc
-
-name_in-exact : (d k : Key) (x : Name) → name_in d k ≡ Some x → k ≡ d ++ x ∷ []
-name_in-exact d k x e = after_prefix-exact d k (x ∷ []) (only_name-exact (after_prefix d k) x e)
-
-lt-snoc : (d : Key) (x y : Name) → is_lt (key_cmp (d ++ x ∷ []) (d ++ y ∷ [])) ≡ is_lt (name_cmp x y)
-lt-snoc [] x y = elim (name_cmp x y) as (λ o. is_lt (ordering_then o Equal) ≡ is_lt o) [ Less ↦ refl | Equal ↦ refl | Greater ↦ refl ]
-lt-snoc (a ∷ d) x y = rw (tied_itself name_total a) (lt-snoc d x y)
-
-both : (a b : Bool) → T a → T b → T (a && b)
-both true b p q = q
-both false b p q = p
-
-first : (a b : Bool) → T (a && b) → T a
-first true b p = tt
-first false b p = p
-
-second : (a b : Bool) → T (a && b) → T b
-second true b p = p
-second false b p = absurd p
-
-below_with : (d : Key) (x : Name) (k : Key) (rest : List Name) (o : Option Name) → name_in d k ≡ o → T (is_lt (key_cmp (d ++ x ∷ []) k)) → T (below_all name_cmp x (marked rest)) → T (below_all name_cmp x (marked (with_name o rest)))
-below_with d x k rest None is h r = r
-below_with d x k rest (Some y) is h r = both _ _ (subst T (ap (λ q. is_lt (key_cmp (d ++ x ∷ []) q)) (name_in-exact d k y is) ∙ lt-snoc d x y) h) r
-
-below-names_in : (t : Tree) (d : Key) (x : Name) → T (below_all key_cmp (d ++ x ∷ []) t) → T (below_all name_cmp x (marked (names_in t d)))
-below-names_in [] d x h = tt
-below-names_in (e ∷ t) d x h = below_with d x e.0 (names_in t d) (name_in d e.0) refl (first _ _ h) (below-names_in t d x (second _ _ h))
-
-sorted_with : (t : Tree) (d : Key) (k : Key) (o : Option Name) → name_in d k ≡ o → T (below_all key_cmp k t) → T (is_sorted name_cmp (marked (names_in t d))) → T (is_sorted name_cmp (marked (with_name o (names_in t d))))
-sorted_with t d k None is h r = r
-sorted_with t d k (Some y) is h r = both _ _ (below-names_in t d y (subst (λ q. T (below_all key_cmp q t)) (name_in-exact d k y is) h)) r
-
 pub rising_names : (t : Tree) (d : Key) → T (is_sorted key_cmp t) → Rising (names_in t d)
-rising_names [] d h = tt
-rising_names (e ∷ t) d h = sorted_with t d e.0 (name_in d e.0) refl (first _ _ h) (rising_names t d (second _ _ h))
+rising_names = sorted-names_in
 
 -- and so they do with a name more or less
 marked_put : (x : Name) (names : List Name) → marked (inserted_name x names) ≡ put_entry name_cmp x 0 (marked names)

@@ -7,10 +7,13 @@ use Rattle.fs_calls.specs.Forms.{Form}
 use Rattle.fs_nodes.specs.Graphs.{Graph, entry_shape}
 use Rattle.fs_walk.specs.Ways.{ForkWay, fork_last}
 use Rattle.fs_walk.specs.Wants.{fork_want}
+use Rattle.fs_walk.specs.declared.want.Want.{Want}
+use Rattle.fs_walk.specs.declared.want.Want.TheVariants as wants
 use Rattle.fs_finish.specs.Endings.{rename_reply}
-use Rattle.fs_machine.specs.Moves.{Move, Takes, Leaves, Finishes, Ends, take_if, same_kind, moved_node, next_on}
+use Rattle.fs_machine.specs.Moves.{take_if, same_kind, moved_node, next_on}
+use Rattle.fs_machine.specs.declared.moves.Move.{Move}
+use Rattle.fs_machine.specs.declared.moves.Move.TheVariants.{Take as Takes, LetGo as Leaves, Finish as Finishes, Return as Ends}
 use Rattle.fs_machine.specs.Records.{Holdings}
-use Rattle.fs_ops.specs.code.MoveNames.{want_then}
 
 -- the node that was taken last: the victim, or that of the head that walked last, or that of the walk
 abbrev pub held_last : ℕ → Option ForkWay → Option ℕ → ℕ
@@ -35,6 +38,13 @@ between_move graph source x dest y same_path above one_parent victim =
     (same_kind (entry_shape graph source x) (entry_shape graph dest y) && not same_path && not above)
     (graph.child dest y) victim
     (Finishes (moved_node (rename_reply graph source x dest y same_path above one_parent).1 (graph.child source x)))
+
+-- what a walk wants, and what comes when it has arrived; one that fails finishes
+abbrev pub want_then : Want → Move → Move
+want_then (wants.Take n) next = Takes n
+want_then (wants.LetGo n) next = Leaves n
+want_then wants.Arrived next = next
+want_then (wants.Fails e) next = Finishes None
 
 -- what both heads of a rename want, and what comes at both parents
 abbrev pub heads_move : Graph → Key → Key → ForkWay → Option ℕ → Move

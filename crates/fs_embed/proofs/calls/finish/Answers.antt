@@ -1,5 +1,4 @@
 use Rattle.std.proofs.Common.{◌∙◌, is_some, refl, ap}
-use Rattle.fs_core.specs.Answers.{stepped_as}
 use Rattle.fs_core.specs.Machines.{state_of}
 use Rattle.fs_laws.specs.OneCall.{Returns}
 use Rattle.fs_embed.specs.Calls.{Still, Then}
@@ -16,12 +15,12 @@ pub returns-in-Busy-clause-waits : goal.returns-in-Busy-clause-waits
 returns-in-Busy-clause-waits c = waits c.args.seat c.in-Busy.field-0 c.in-Busy.holder (state_of c.args.core.now) (state_of c.steps.core) (state_of c.step.new.self) c.steps.invariant.steps c.in-Busy.ensures.step
 
 pub steps-smaller : goal.steps-smaller
-steps-smaller c = less c.args.seat (stepped_as c.step.result) (state_of c.steps.core) (state_of c.step.new.self) c.told.ensures.run
+steps-smaller c = less c.args.seat c.step.result (state_of c.steps.core) (state_of c.step.new.self) c.told.ensures.run
     (goes c.args.seat c.step.result (state_of c.steps.core) (state_of c.step.new.self) c.steps.invariant.under_way c.step.ensures.step c.in_default.not-Busy c.in_default.not-Returned) c.step.ensures.step
 
 pub steps-preserved : goal.steps-preserved
 steps-preserved c = let on = no_return c.step.result c.in_default.not-Returned in record {
   seats = c.step.ensures.seats ∙ c.steps.invariant.seats;
-  under_way = ap is_some (keeps c.args.seat (stepped_as c.step.result) (state_of c.steps.core) (state_of c.step.new.self) on c.step.ensures.step) ∙ c.steps.invariant.under_way;
-  steps = Then (stepped_as c.step.result) on c.steps.invariant.steps c.step.ensures.step;
+  under_way = ap is_some (keeps c.args.seat c.step.result (state_of c.steps.core) (state_of c.step.new.self) on c.step.ensures.step) ∙ c.steps.invariant.under_way;
+  steps = Then c.step.result on c.steps.invariant.steps c.step.ensures.step;
 }

@@ -6,7 +6,7 @@ use Rattle.fs_walk.specs.Wants.{want}
 use Rattle.fs_walk.specs.declared.want.Want.{Want}
 use Rattle.fs_walk.specs.declared.want.Want.TheVariants.{Take, LetGo, Fails, Arrived}
 use Rattle.fs_machine.specs.Moves.{target_move}
-use Rattle.fs_ops.specs.code.MoveNames.{want_then}
+use Rattle.fs_ops.specs.code.NextByNodes.{want_then}
 use Rattle.fs_ops.specs.OpValue.{first_path, dropped, holdings_with}
 use Rattle.fs_ops.proofs.NextLemmas.{way_is, has_walked}
 use Rattle.fs_ops.proofs.next.way_move.Goals as goal

@@ -1,4 +1,4 @@
-use Rattle.fs_laws.proofs.calls.StepsAreDetermined.{one_step}
+use Rattle.fs_machine.proofs.StepsAreDetermined.{one_step}
 use Rattle.fs_laws.proofs.states.OneCall.{meets_tree}
 use Rattle.fs_laws.proofs.states.StepsTakeWork.{takes_work, adds_work}
 use Rattle.fs_laws.proofs.states.Waiters.{has_step, never_stuck, waits_above}

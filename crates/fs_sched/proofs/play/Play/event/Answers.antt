@@ -1,7 +1,6 @@
 use Rattle.std.proofs.Common.{ℕ, refl, sym, ap, subst, ◌∙◌, ◌≤◌, length, arith}
-use Rattle.fs_core.specs.Answers.{stepped_as}
 use Rattle.fs_core.specs.Machines.{number_on, state_of}
-use Rattle.fs_laws.specs.States.{Step}
+use Rattle.fs_machine.specs.States.{Step}
 use Rattle.fs_sched.specs.Runs.{Goes}
 use Rattle.fs_sched.proofs.Staging.{spent_past}
 use Rattle.fs_sched.proofs.play.Play.event.Goals as goal
@@ -11,7 +10,7 @@ returns-then-seat-len-clause-event c = let h : length c.args.lists.now ≤ c.arg
 
 pub returns-in-Some-clause-event : goal.returns-in-Some-clause-event
 returns-in-Some-clause-event c =
-    Goes c.in-Some.field-0 (stepped_as c.step.result)
+    Goes c.in-Some.field-0 c.step.result
     (ap (number_on c.args.self.now.core.seats) (sym c.new-on.ensures) ∙ sym c.under_way.ensures ∙ c.in-Some.is)
-    (subst (λ (s : ℕ). Step (state_of c.args.self.now.core) s (stepped_as c.step.result) (state_of c.step.new.self)) c.new-on.ensures c.step.ensures.step)
+    (subst (λ (s : ℕ). Step (state_of c.args.self.now.core) s c.step.result (state_of c.step.new.self)) c.new-on.ensures c.step.ensures.step)
     refl

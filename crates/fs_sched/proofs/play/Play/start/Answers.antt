@@ -1,6 +1,6 @@
-use Rattle.std.proofs.Common.{ℕ, ◌≡◌, ◌+◌, ◌<◌, length, get_or, slice_set, ap, subst, ◌∙◌, arith}
+use Rattle.std.proofs.Common.{ℕ, ◌≡◌, ◌+◌, ◌<◌, length, get_or, slice_set, ap, subst, ◌∙◌, arith, Ok}
 use Rattle.fs_core.specs.Machines.{state_of}
-use Rattle.fs_laws.specs.States.{Begins, Begun_as}
+use Rattle.fs_machine.specs.States.{Begins}
 use Rattle.fs_sched.specs.Runs.{Starts}
 use Rattle.fs_sched.specs.code.Stages.{stage_of}
 use Rattle.fs_sched.proofs.Staging.{call_there, default_same}
@@ -14,5 +14,5 @@ returns-in-Ok-clause-event c =
     let at : c.index-at.result.now ≡ get_or c.args.self.now.begun.items c.args.seat 0 = c.index-at.ensures ∙ default_same c.args.self.now.begun.items c.args.seat _ 0 within in
     Starts c.in-Ok.field-0 c.index-calls-at.result c.requires.free
     (call_there c.args.lists.now c.calls_of-calls.result.now (stage_of c.args.self.now) c.args.seat c.index-at.result.now c.index-calls-at.result c.calls_of-calls.ensures at less c.index-calls-at.is)
-    (subst (λ (s : ℕ). Begins (state_of c.args.self.now.core) s c.index-calls-at.result (Begun_as c.in-Ok.field-0) (state_of c.begin.new.self)) c.new.ensures c.in-Ok.ensures.begins)
+    (subst (λ (s : ℕ). Begins (state_of c.args.self.now.core) s c.index-calls-at.result (Ok c.in-Ok.field-0) (state_of c.begin.new.self)) c.new.ensures c.in-Ok.ensures.begins)
     (ap (λ (n : ℕ). slice_set c.args.self.now.begun.items c.args.seat (n + 1)) at)

@@ -4,7 +4,7 @@ use Rattle.fs_nodes.specs.Graphs.{graph_shapes}
 use Rattle.fs_calls.specs.Shapes.{tree_shapes}
 use Rattle.fs_calls.specs.Outcomes as tree
 use Rattle.fs_timeline.specs.Timeline as journal
-use Rattle.fs_laws.specs.States.{State}
+use Rattle.fs_machine.specs.States.{State}
 
 -- no call is under way
 abbrev pub IsIdle : State → Type 0

@@ -1,12 +1,12 @@
-//! The bytes of a file.
+//! The bytes of files.
 
 ghost use Rattle.std.specs.Prelude.{◌≡◌, IfOk};
-ghost use Rattle.fs_calls.specs.Replies.{same_bytes};
+ghost use Rattle.fs_names.specs.Names.{same_bytes};
 
 use std::alloc::AllocError;
 use std::marker::Model;
 
-/// Bytes, seen as their list: those of a file that a call writes or a reply holds.
+/// Bytes, seen as their list: those of a file, or those that a call writes or a reply holds.
 #[derive(Debug, Drop)]
 pub struct Bytes {
     items: Vec<u8>,
@@ -33,6 +33,14 @@ impl Bytes {
         ensures { result.now ≡ self.now }
     {
         self.items.as_slice()
+    }
+
+    /// Takes these bytes, and hands the old ones out.
+    pub fn swap(&mut self, items: Vec<u8>) -> Vec<u8>
+        ensures new { self.new ≡ items.items }
+        ensures old { result.items ≡ self.old }
+    {
+        std::mem::replace(&mut self.items, items)
     }
 
     /// Gives the vector back.

@@ -1,10 +1,13 @@
 -- What a step answers, and the state after it, are determined by the state.
 use Rattle.std.proofs.Common.{◌≡◌, ℕ, ◌≤◌, Option, Some, None, refl, sym, ap, ap₂, ◌∙◌, arith, subst}
 use Rattle.fs_calls.specs.declared.reply.Reply.{Reply}
-use Rattle.fs_machine.specs.Moves.{Move, Takes, Leaves, Finishes, Ends, next}
+use Rattle.fs_machine.specs.Moves.{next}
+use Rattle.fs_machine.specs.declared.moves.Move.{Move}
+use Rattle.fs_machine.specs.declared.moves.Move.TheVariants.{Take as Takes, LetGo as Leaves, Finish as Finishes, Return as Ends}
 use Rattle.fs_machine.specs.Records.{Phase, Walking, Placed, Finished, Record}
-use Rattle.fs_laws.specs.Progress.{IsDetermined}
-use Rattle.fs_laws.specs.States.{State, Moves, NoneBelow, IsChosen, Idle, Took, Busy, LetGo, Helped, Committed, CarriedOut, Returned, taking, letting_go, helping, carrying, committing, returning}
+use Rattle.fs_machine.specs.Laws.{IsDetermined}
+use Rattle.fs_machine.specs.States.{State, Moves, NoneBelow, IsChosen, taking, letting_go, helping, carrying, committing, returning}
+use Rattle.fs_machine.specs.declared.answers.Stepped.TheVariants.{Idle, Took, Busy, LetGo, Helped, Committed, CarriedOut, Returned}
 
 -- three equations at once
 ap3 : {A B C D : Type 0} (f : A → B → C → D) {a b : A} {c d : B} {x y : C} → a ≡ b → c ≡ d → x ≡ y → f a c x ≡ f b d y

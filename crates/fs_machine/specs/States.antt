@@ -1,5 +1,5 @@
 -- States of the core, what a begin and a step may do, and runs.
-use Rattle.std.specs.Prelude.{ℕ, ◌≡◌, ◌+◌, ◌<◌, ◌≤◌, List, [], ◌∷◌, ◌++◌, Option, Some, None}
+use Rattle.std.specs.Prelude.{ℕ, ◌≡◌, ◌+◌, ◌<◌, ◌≤◌, List, [], ◌∷◌, ◌++◌, Option, Some, None, Result, Ok, Err}
 use Rattle.fs_names.specs.Keys.{Key}
 use Rattle.fs_names.specs.Shapes.{Shape}
 use Rattle.fs_calls.specs.Forms.{form, reserves}
@@ -11,7 +11,13 @@ use Rattle.fs_timeline.specs.declared.entry.Entry.{Entry}
 use Rattle.fs_timeline.specs.declared.entry.Entry.TheVariants.{Begin, Commit, Return}
 use Rattle.fs_machine.specs.Finishes.{finish}
 use Rattle.fs_machine.specs.Leaving.{is_removed, releasing, let_go, finished_op, unreserved}
-use Rattle.fs_machine.specs.Moves.{Move, Takes, Leaves, Finishes, Ends, next, took}
+use Rattle.fs_machine.specs.Moves.{next, took}
+use Rattle.fs_machine.specs.declared.moves.Move.{Move}
+use Rattle.fs_machine.specs.declared.moves.Move.TheVariants.{Take as Takes, LetGo as Leaves, Finish as Finishes, Return as Ends}
+use Rattle.fs_machine.specs.declared.answers.Refusal.{Refusal}
+use Rattle.fs_machine.specs.declared.answers.Refusal.TheVariants.{SeatBusy, Full, OutOfMemory}
+use Rattle.fs_machine.specs.declared.answers.Stepped.{Stepped}
+use Rattle.fs_machine.specs.declared.answers.Stepped.TheVariants.{Idle, Took, Busy, LetGo, Helped, Committed, CarriedOut, Returned}
 use Rattle.fs_machine.specs.Records.{Holdings, Walking, Placed, Finished, Record, Records}
 use Rattle.fs_timeline.specs.Timeline.{begins, commit_count}
 
@@ -28,10 +34,9 @@ pub record State : Type 0 where
 abbrev pub empty : ℕ → State
 empty limit = record { limit = limit; graph = empty_graph; holder = λ n. None; ops = λ c. None; on_seat = λ s. None; timeline = [] }
 
--- what a begin answers
-pub data Begun : Type 0 where
-  Begun_as : ℕ → Begun
-  Seat_busy Full No_memory : Begun
+-- what a begin answers: the call's number, or why it could not begin
+abbrev pub Begun : Type 0
+Begun = Result ℕ Refusal
 
 -- the record of a call that begins
 abbrev pub new_op : ℕ → Call → Option ℕ → Record
@@ -59,21 +64,10 @@ IsFull old (Some shape) = used_below old.graph.shape old.limit ≡ old.limit
 
 -- the relation of a begin
 abbrev pub Begins : State → ℕ → Call → Begun → State → Type 0
-Begins old seat call Seat_busy new = (c : ℕ) × (old.on_seat seat ≡ Some c) × (new ≡ old)
-Begins old seat call Full new = (old.on_seat seat ≡ None) × IsFull old (reserves (form call)) × (new ≡ old)
-Begins old seat call No_memory new = (old.on_seat seat ≡ None) × (IsFull old (reserves (form call)) → ⊥) × (new ≡ old)
-Begins old seat call (Begun_as c) new = (old.on_seat seat ≡ None) × (c ≡ begins old.timeline + 1) × Reserves old seat call c (reserves (form call)) new
-
--- what a step answers
-pub data Stepped : Type 0 where
-  Idle : Stepped
-  Took : ℕ → Stepped
-  Busy : ℕ → ℕ → Stepped
-  LetGo : ℕ → Stepped
-  Helped : ℕ → Stepped
-  Committed : Stepped
-  CarriedOut : Stepped
-  Returned : Reply → Stepped
+Begins old seat call (Err SeatBusy) new = (c : ℕ) × (old.on_seat seat ≡ Some c) × (new ≡ old)
+Begins old seat call (Err Full) new = (old.on_seat seat ≡ None) × IsFull old (reserves (form call)) × (new ≡ old)
+Begins old seat call (Err OutOfMemory) new = (old.on_seat seat ≡ None) × (IsFull old (reserves (form call)) → ⊥) × (new ≡ old)
+Begins old seat call (Ok c) new = (old.on_seat seat ≡ None) × (c ≡ begins old.timeline + 1) × Reserves old seat call c (reserves (form call)) new
 
 -- the call is on the seat, and this is its next move
 abbrev pub Moves : State → ℕ → ℕ → Record → Move → Type 0

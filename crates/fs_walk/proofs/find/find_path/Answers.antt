@@ -1,8 +1,8 @@
 use Rattle.std.proofs.Common.{ℕ, ◌+◌, Option, drop, sym, ap, ◌∙◌}
 use Rattle.fs_nodes.specs.Graphs.{at, then_at}
 use Rattle.fs_nodes.specs.Stores.{child}
-use Rattle.fs_core.proofs.Below.{leads_to}
-use Rattle.fs_core.proofs.finding.find_path.Goals as goal
+use Rattle.fs_walk.proofs.FindLemmas.{leads_to}
+use Rattle.fs_walk.proofs.find.find_path.Goals as goal
 
 pub returns-in-None : goal.returns-in-None
 returns-in-None c =

@@ -1,4 +1,4 @@
-//! The moves that a call under way may answer as its next.
+//! The moves that a call under way may do next.
 
 use fs_nodes::NodeNo;
 

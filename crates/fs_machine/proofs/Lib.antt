@@ -1,0 +1,4 @@
+pub mod StepsAreDetermined
+pub mod StepsAddEntries
+pub mod LowestIsHelped
+pub mod FinishKeepsNumbers
