@@ -28,18 +28,25 @@ impl Linked {
 
     /// An empty node becomes an entry. It answers whether it could.
     pub fn link(&mut self, dir: NodeNo, name: &Name, node: NodeNo) -> bool {
+        if node == dir {
+            return false;
+        }
+        if self.store.entries(node) > 0 {
+            return false;
+        }
         let is_free = self.store.find(dir, name).is_none() && self.store.parent(node).is_none();
-        let is_empty = self.store.entries(node) == 0 && node != dir && node.get() != 0;
-        if !(is_free && is_empty && self.store.is_dir(dir) && self.store.is_used(node)) {
+        let is_other = node.get() != 0 && self.store.is_used(node);
+        if !(is_free && is_other && self.store.is_dir(dir)) {
             return false;
         }
         self.store.link(dir, name, node);
         true
     }
 
-    /// An entry goes, if there is one.
+    /// The entry of a file or of an empty directory goes, if there is one.
     pub fn unlink(&mut self, dir: NodeNo, name: &Name) -> Option<NodeNo> {
-        if self.store.find(dir, name).is_none() {
+        let node = self.store.find(dir, name)?;
+        if self.store.entries(node) > 0 {
             return None;
         }
         Some(self.store.unlink(dir, name))
@@ -50,9 +57,16 @@ impl Linked {
         let Some(node) = self.store.find(from, name) else {
             return false;
         };
-        let may_go = from == to || (self.store.entries(node) == 0 && node != to);
+        if from != to {
+            if node == to {
+                return false;
+            }
+            if self.store.entries(node) > 0 {
+                return false;
+            }
+        }
         let is_free = self.store.find(to, new_name).is_none();
-        if !(may_go && is_free && self.store.is_dir(to)) {
+        if !(is_free && self.store.is_dir(to)) {
             return false;
         }
         self.store.move_entry(from, name, to, new_name);
@@ -96,18 +110,25 @@ impl Plain {
 
     /// An empty node becomes an entry. It answers whether it could.
     pub fn link(&mut self, dir: NodeNo, name: &Name, node: NodeNo) -> bool {
+        if node == dir {
+            return false;
+        }
+        if self.store.entries(node) > 0 {
+            return false;
+        }
         let is_free = self.store.find(dir, name).is_none() && self.store.parent(node).is_none();
-        let is_empty = self.store.entries(node) == 0 && node != dir && node.get() != 0;
-        if !(is_free && is_empty && self.store.is_dir(dir) && self.store.is_used(node)) {
+        let is_other = node.get() != 0 && self.store.is_used(node);
+        if !(is_free && is_other && self.store.is_dir(dir)) {
             return false;
         }
         self.store.link(dir, name, node);
         true
     }
 
-    /// An entry goes, if there is one.
+    /// The entry of a file or of an empty directory goes, if there is one.
     pub fn unlink(&mut self, dir: NodeNo, name: &Name) -> Option<NodeNo> {
-        if self.store.find(dir, name).is_none() {
+        let node = self.store.find(dir, name)?;
+        if self.store.entries(node) > 0 {
             return None;
         }
         Some(self.store.unlink(dir, name))
@@ -118,9 +139,16 @@ impl Plain {
         let Some(node) = self.store.find(from, name) else {
             return false;
         };
-        let may_go = from == to || (self.store.entries(node) == 0 && node != to);
+        if from != to {
+            if node == to {
+                return false;
+            }
+            if self.store.entries(node) > 0 {
+                return false;
+            }
+        }
         let is_free = self.store.find(to, new_name).is_none();
-        if !(may_go && is_free && self.store.is_dir(to)) {
+        if !(is_free && self.store.is_dir(to)) {
             return false;
         }
         self.store.move_entry(from, name, to, new_name);

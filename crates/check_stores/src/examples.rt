@@ -31,6 +31,7 @@ pub fn two_numbers(alloc: Global) -> Result<()> {
     let dir = used.store.reserve(Kind::Dir)?;
     let full = used.store.reserve(Kind::File);
     hold(full == Err(NoNode::Full), "a third number")?;
+    hold(!used.link(dir, &a, dir), "no directory below itself")?;
     hold(used.link(root, &a, dir), "an entry")?;
     hold(used.store.find(root, &a) == Some(dir), "the entry's node")?;
     hold(used.store.find(dir, &a).is_none(), "another directory")?;
@@ -72,7 +73,9 @@ pub fn names_in_order(alloc: Global) -> Result<()> {
     )?;
     hold(used.move_entry(root, &b, second, &bb), "another directory")?;
     hold(used.store.find(second, &bb) == Some(third), "its new name")?;
-    hold(used.store.entries(root) == 2, "two are left")
+    hold(used.store.entries(root) == 2, "two are left")?;
+    hold(!used.move_entry(root, &a, second, &b), "nor after a move")?;
+    hold(used.unlink(root, &a).is_none(), "an entry below it")
 }
 
 /// The bytes of a file are handed over and handed out.

@@ -6,12 +6,11 @@ use Rattle.std.proofs.lemmas.Map.Steps.{length-le_from_distinct_below}
 use Rattle.fs_names.specs.Keys.{Key}
 use Rattle.fs_names.specs.Names.{Name}
 use Rattle.fs_names.specs.Shapes.{Shape, Dir}
-use Rattle.fs_nodes.specs.Graphs.{Graph, Children, at, then_at, numbers, IsGraph}
+use Rattle.fs_nodes.specs.Graphs.{Graph, Children, at, then_at, numbers, IsGraph, IsReached}
 use Rattle.fs_nodes.specs.Stores.{IsUnlinked, IsParent}
 use Rattle.fs_laws.proofs.graphs.Walks.{eqb_true, at_from, at_before, at_child}
 use Rattle.fs_laws.proofs.events.TwoCalls.{Ends, ends, ends_same}
 use Rattle.fs_core.specs.code.Rooms.{AreBelow}
-use Rattle.fs_core.specs.code.Searches.{IsReached}
 
 -- no key is itself with more names
 no_more : (front : Key) (x : Name) (u : Key) → front ≡ front ++ x ∷ u → ⊥

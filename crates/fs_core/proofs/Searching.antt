@@ -2,10 +2,10 @@
 use Rattle.std.proofs.Common.{◌≡◌, ℕ, ◌+◌, ◌<◌, ◌≤◌, Bool, true, false, List, Option, Some, None, length, refl, sym, ap, ◌∙◌, arith, subst, ◌⊎◌, inl, inr}
 use Rattle.std.specs.Prelude.{slice_get, option_and_then, nat_lt, IsTrue}
 use Rattle.std.proofs.lemmas.Option.{slice_get_within}
-use Rattle.fs_nodes.specs.Graphs.{Children}
+use Rattle.fs_nodes.specs.Graphs.{Children, IsReached}
 use Rattle.fs_core.specs.declared.seat.Running.{Running}
 use Rattle.fs_core.specs.Machines.{number_on}
-use Rattle.fs_core.specs.code.Searches.{IsReached, position_of, IsUnder, IsAlone, IsLowestOn, HasLeast, is_lesser}
+use Rattle.fs_core.specs.code.Searches.{position_of, IsUnder, IsAlone, IsLowestOn, HasLeast, is_lesser}
 use Rattle.fs_core.proofs.SeatLemmas.{number_read}
 
 -- the call of a seat that was read

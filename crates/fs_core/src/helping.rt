@@ -1,9 +1,9 @@
 //! Whom a rename helps: among the walking calls below the node that it would move.
 
 ghost use Rattle.std.specs.Prelude.{option_and_then, ◌+◌, ◌≡◌, ℕ, ◌<◌, ◌≤◌, ◌↔◌, IsTrue, IfSome, MatchOption, Some, None, length, slice_get};
-ghost use Rattle.fs_nodes.specs.Graphs.{IsGraph, numbers};
+ghost use Rattle.fs_nodes.specs.Graphs.{IsGraph, IsReached, numbers};
 ghost use Rattle.fs_nodes.specs.Stores.{graph_of, child};
-ghost use Rattle.fs_core.specs.code.Searches.{IsReached, IsRooted, position_of, IsUnder, IsAlone, IsLowestOn, CanSearch, HasLeast, is_lesser};
+ghost use Rattle.fs_core.specs.code.Searches.{IsRooted, position_of, IsUnder, IsAlone, IsLowestOn, CanSearch, HasLeast, is_lesser};
 ghost use Rattle.fs_core.specs.code.Rooms.{AreBelow};
 ghost use Rattle.fs_core.specs.Machines.{number_on};
 ghost use Rattle.std.specs.Option.{ForSome};

@@ -2,7 +2,7 @@
 use Rattle.std.proofs.Common.{◌≡◌, ℕ, ◌≤◌, ◌<◌, true, false, List, [], ◌∷◌, length, Option, Some, None, refl, sym, ap, subst, ◌∙◌, arith}
 use Rattle.std.specs.Prelude.{is_some}
 use Rattle.fs_names.specs.Names.{Name}
-use Rattle.fs_names.specs.Shapes.{Shape, Dir, File, is_dir, is_file, is_full, names_of, bytes_of}
+use Rattle.fs_names.specs.Shapes.{Shape, Dir, File, is_dir, is_file, is_full, has_entries, names_of, bytes_of}
 use Rattle.fs_nodes.specs.Graphs.{Graph, then_at, entry_shape}
 use Rattle.fs_nodes.specs.Seen.{Seen, IsReal}
 use Rattle.fs_calls.specs.declared.target.EntryCall.{EntryCall}
@@ -35,6 +35,12 @@ pub other_dir : (s : Option Shape) → (s ≡ None → ⊥) → is_file s ≡ fa
 other_dir None there e = absurd (there refl)
 other_dir (Some (Dir names)) there e = refl
 other_dir (Some (File bytes)) there e = absurd (cc)
+
+-- what is no directory has no entries
+pub file_bare : (s : Option Shape) → is_dir s ≡ false → has_entries s ≡ false
+file_bare None e = refl
+file_bare (Some (Dir names)) e = absurd (cc)
+file_bare (Some (File bytes)) e = refl
 
 -- ---- what an entry names
 

@@ -1,9 +1,9 @@
 -- On the rows of renames.
-use Rattle.std.proofs.Common.{◌≡◌, ℕ, Bool, true, false, Option, Some, None, refl, sym, ap, subst, ◌∙◌, ◌||◌}
+use Rattle.std.proofs.Common.{◌≡◌, ℕ, Bool, true, false, List, [], ◌∷◌, Option, Some, None, refl, sym, ap, subst, ◌∙◌, ◌||◌}
 use Rattle.std.specs.Prelude.{not, IfSome}
 use Rattle.fs_names.specs.Names.{Name}
-use Rattle.fs_names.specs.Shapes.{Shape, is_full}
-use Rattle.fs_nodes.specs.Graphs.{Graph, entry_shape, moved_in}
+use Rattle.fs_names.specs.Shapes.{Shape, Dir, File, has_entries, is_full}
+use Rattle.fs_nodes.specs.Graphs.{Graph, then_at, entry_shape, moved_in}
 use Rattle.fs_nodes.specs.Seen.{Seen, IsReal}
 use Rattle.fs_calls.specs.Rows.{rename_row_in_dirs, to_row, moves_row}
 use Rattle.fs_calls.specs.declared.errno.Errno.{Errno}
@@ -59,3 +59,22 @@ module _ (store : Seen) (real : IsReal store) (source : ℕ) (x : Name) (dest : 
   made_moved fault told new same g e d h =
       by_reply (Done, true) _ new (reply_by fault same g ∙ ap moves_row e)
       (record { reply = d; reserved = refl; removed = refl; graph_is = subst (λ (o : Option ℕ). IfSome o (λ n. new ≡ moved_in source x dest y n store.graph)) k h })
+
+-- what takes the place of an entry's node needs it to have no entries
+pub replaced_bare : (graph : Graph) (dest : ℕ) (y : Name) (above room : Bool) (s : Shape) → to_row s (there_by above (entry_shape graph dest y)) room ≡ None → IfSome (graph.child dest y) (λ n. has_entries (graph.shape n) ≡ false)
+replaced_bare graph dest y above room s e = go (graph.child dest y) refl
+  where
+    full : (t : Shape) (x : Name) (names : List Name) → to_row t (Some (Dir (x ∷ names))) room ≡ None → ⊥
+    full (Dir l) x names f = cc
+    full (File bytes) x names f = cc
+
+    bare : (t : Option Shape) (b : Bool) → to_row s (there_by b t) room ≡ None → has_entries t ≡ false
+    bare t true f = absurd (full s [] [] f)
+    bare None false f = refl
+    bare (Some (File bytes)) false f = refl
+    bare (Some (Dir [])) false f = refl
+    bare (Some (Dir (x ∷ names))) false f = absurd (full s x names f)
+
+    go : (o : Option ℕ) → graph.child dest y ≡ o → IfSome o (λ n. has_entries (graph.shape n) ≡ false)
+    go None k = tt
+    go (Some n) k = bare (graph.shape n) above (ap (λ (o : Option ℕ). to_row s (there_by above (then_at o graph.shape)) room) (sym k) ∙ e)

@@ -1,8 +1,8 @@
 //! How the calls on an entry finish at its directory.
 
-ghost use Rattle.std.specs.Prelude.{◌≡◌, ◌<◌, None, IsSome, IsTrue, length};
+ghost use Rattle.std.specs.Prelude.{◌≡◌, ◌≢◌, ◌<◌, false, None, Some, IfSome, IsSome, IsTrue, length};
 ghost use Rattle.fs_names.specs.Keys.{last_of};
-ghost use Rattle.fs_names.specs.Shapes.{Shape, is_dir, is_full};
+ghost use Rattle.fs_names.specs.Shapes.{Shape, is_dir, has_entries, is_full};
 ghost use Rattle.fs_nodes.specs.Graphs.{entry_shape};
 ghost use Rattle.fs_nodes.specs.Seen.{seen};
 ghost use Rattle.fs_nodes.specs.Stores.{child, shape, graph_of};
@@ -24,6 +24,7 @@ use fs_nodes::{NodeNo, Store};
 fn make_in(store: &mut Store, dir: NodeNo, name: &Name, reserved: Option<NodeNo>) -> Finish
     requires dir { IsTrue (is_dir (shape store.old dir)) }
     requires spare { SpareIf (graph_of store.old) reserved }
+    requires other { reserved ≢ Some dir }
     ensures made { (new : Shape) → IsEffect (entry_effect (graph_of store.old) dir name.now reserved (made new (is_full (shape store.old dir)) (entry_shape (graph_of store.old) dir name.now))) result (graph_of store.new) }
     ensures rest { seen store.new ≡ record (seen store.old) { graph = graph_of store.new } }
 {
@@ -39,9 +40,10 @@ fn make_in(store: &mut Store, dir: NodeNo, name: &Name, reserved: Option<NodeNo>
     Finish::kept(Replies::done(), None)
 }
 
-/// The entry goes. What it named is the removed node.
+/// The entry of a file or of an empty directory goes. What it named is the removed node.
 fn remove(store: &mut Store, dir: NodeNo, name: &Name, reserved: Option<NodeNo>) -> Finish
     requires there { IsSome (child store.old dir name.now) }
+    requires bare { IfSome (child store.old dir name.now) (λ node. has_entries (shape store.old node) ≡ false) }
     ensures made { IsEffect (entry_effect (graph_of store.old) dir name.now reserved (answers.Done, Remove)) result (graph_of store.new) }
     ensures rest { seen store.new ≡ record (seen store.old) { graph = graph_of store.new } }
 {
@@ -84,10 +86,11 @@ fn rmdir_in(store: &mut Store, dir: NodeNo, name: &Name, reserved: Option<NodeNo
     remove(store, dir, name, reserved)
 }
 
-/// A mkdir or mknod: the reserved number gets the entry.
+/// A mkdir or mknod: the reserved number, which is not the directory, gets the entry.
 pub fn make(store: &mut Store, dir: NodeNo, path: &Path, reserved: Option<NodeNo>) -> Finish
     requires named { 0 < length path.now }
     requires spare { SpareIf (graph_of store.old) reserved }
+    requires other { reserved ≢ Some dir }
     ensures mkdir { IsEffect (entry_finish (graph_of store.old) dir (last_of path.now) reserved entries.Mkdir) result (graph_of store.new) }
     ensures mknod { IsEffect (entry_finish (graph_of store.old) dir (last_of path.now) reserved entries.Mknod) result (graph_of store.new) }
     ensures rest { seen store.new ≡ record (seen store.old) { graph = graph_of store.new } }

@@ -63,8 +63,10 @@ fn put_names(store: &Store, dir: NodeNo, names: &mut Vec<Name>)
     requires room { length (names_of (shape store.now dir)) ≤ vec_capacity names.old }
     ensures { names.new.items ≡ names_of (shape store.now dir) }
 {
-    while let Some((name, _)) = store.next_name(dir, names.last()) {
+    let mut next = store.next_name(dir, None);
+    while let Some((name, node)) = next {
         names.push_reserved(name);
+        next = store.next_entry_after(node);
     }
 }
 

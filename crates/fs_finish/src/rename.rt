@@ -1,10 +1,10 @@
 //! How a rename finishes at its two directories.
 
-ghost use Rattle.std.specs.Prelude.{◌≡◌, ◌||◌, Bool, ℕ, List, not, true, None, Some, IfSome, IsSome, IsTrue};
+ghost use Rattle.std.specs.Prelude.{◌≡◌, ◌||◌, Bool, ℕ, List, not, true, false, None, Some, IfSome, IsSome, IsTrue};
 ghost use Rattle.fs_names.specs.Keys.{after_prefix, is_proper_prefix, parent_of};
 ghost use Rattle.fs_names.specs.Parts.{is_end};
-ghost use Rattle.fs_names.specs.Shapes.{Shape, is_dir, is_full};
-ghost use Rattle.fs_nodes.specs.Graphs.{entry_shape, moved_in};
+ghost use Rattle.fs_names.specs.Shapes.{Shape, is_dir, has_entries, is_full};
+ghost use Rattle.fs_nodes.specs.Graphs.{entry_shape, moved_in, IsReached};
 ghost use Rattle.fs_nodes.specs.Seen.{seen};
 ghost use Rattle.fs_nodes.specs.Stores.{child, shape, graph_of};
 ghost use Rattle.fs_calls.specs.Rows.{to_row};
@@ -79,12 +79,14 @@ pub fn fault(
     }
 }
 
-/// The entry of this name goes, if there is one, before another one moves to it.
+/// The entry of this name goes, if there is one, before another one moves to it. What it named has no entries.
 fn clear(store: &mut Store, dir: NodeNo, name: &Name)
-    requires { IsTrue (is_dir (shape store.old dir)) }
+    requires dir { IsTrue (is_dir (shape store.old dir)) }
+    requires bare { IfSome (child store.old dir name.now) (λ node. has_entries (shape store.old node) ≡ false) }
     ensures absent { child store.new dir name.now ≡ None }
     ensures dir { IsTrue (is_dir (shape store.new dir)) }
     ensures others { (d : ℕ) (x : List ℕ) → (d ≡ dir → x ≡ name.now → ⊥) → child store.new d x ≡ child store.old d x }
+    ensures fewer { (n m : ℕ) → IsReached (child store.new) n m → IsReached (child store.old) n m }
     ensures moves { (from : ℕ) (x : List ℕ) (n : ℕ) → moved_in from x dir name.now n (graph_of store.new) ≡ moved_in from x dir name.now n (graph_of store.old) }
     ensures rest { seen store.new ≡ record (seen store.old) { graph = graph_of store.new } }
 {
@@ -98,13 +100,16 @@ fn replace(store: &mut Store, source: NodeNo, name: &Name, dest: NodeNo, new_nam
     requires there { IsSome (child store.old source name.now) }
     requires dir { IsTrue (is_dir (shape store.old dest)) }
     requires apart { source ≡ dest → name.now ≡ new_name.now → ⊥ }
+    requires bare { IfSome (child store.old dest new_name.now) (λ node. has_entries (shape store.old node) ≡ false) }
+    requires below { IfSome (child store.old source name.now) (λ node. IsReached (child store.old) node dest → ⊥) }
     ensures { IfSome (child store.old source name.now) (λ node. seen store.new ≡ record (seen store.old) { graph = moved_in source name.now dest new_name.now node (graph_of store.old) }) }
 {
     clear(store, dest, new_name);
     store.move_entry(source, name, dest, new_name);
 }
 
-/// A rename: the entry goes to the other directory, or to another name. The victim is the removed node.
+/// A rename: the entry goes to the other directory, which is not below what moves, or to another name. The victim is the
+/// removed node.
 pub fn rename(
     store: &mut Store,
     source: NodeNo,
@@ -117,6 +122,7 @@ pub fn rename(
 ) -> Finish
     requires dir { IsTrue (is_dir (shape store.old dest)) }
     requires apart { source ≡ dest → name.now ≡ new_name.now → paths.same ≡ true }
+    requires below { IfSome (child store.old source name.now) (λ node. IsReached (child store.old) node dest → ⊥) }
     ensures made { IsEffect (made_between (graph_of store.old) source name.now dest new_name.now paths.same paths.above paths.one_parent victim reserved) result (graph_of store.new) }
     ensures rest { seen store.new ≡ record (seen store.old) { graph = graph_of store.new } }
 {

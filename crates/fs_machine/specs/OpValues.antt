@@ -1,6 +1,6 @@
 -- A call as a machine of its own: what its code keeps. Its seat and its place among the commits are told by whoever runs it.
 use Rattle.std.specs.Prelude.{ℕ, ◌≡◌, ◌≢◌, ◌<◌, ◌≤◌, IsTrue, false, List, [], Option, Some, None, length}
-use Rattle.fs_names.specs.Keys.{Key}
+use Rattle.fs_names.specs.Keys.{Key, parent_of, last_of}
 use Rattle.fs_names.specs.Names.{Name}
 use Rattle.fs_names.specs.Shapes.{Shape, Dir, File, is_there, has_entries}
 use Rattle.fs_names.specs.declared.limits.TheConstants.{ENTRY_LIMIT, FILE_LIMIT}
@@ -8,7 +8,7 @@ use Rattle.fs_calls.specs.Forms.{form, Form, AtNode, AtEntry, AtPair}
 use Rattle.fs_calls.specs.declared.target.PairCall.TheVariants as pairs
 use Rattle.fs_calls.specs.declared.call.Call.{Call}
 use Rattle.fs_calls.specs.declared.reply.Reply.{Reply}
-use Rattle.fs_nodes.specs.Graphs.{Graph, reserved_in}
+use Rattle.fs_nodes.specs.Graphs.{Graph, reserved_in, IsReached}
 use Rattle.fs_nodes.specs.Stores.{IsUnlinked}
 use Rattle.fs_machine.specs.Finishes.{finish}
 use Rattle.fs_machine.specs.Leaving.{let_go, finished_op}
@@ -86,8 +86,16 @@ HeadsApart (AtNode c p) st = Unit {0}
 HeadsApart (AtEntry c p) st = Unit {0}
 HeadsApart (AtPair pairs.Rename p q) st = st.source.node ≡ st.dest.node → st.source.walked ≡ st.dest.walked
 
--- what a finish needs of the graph
+-- from the node that a rename would move its new directory is not reached, once its heads have come to both parents
+abbrev pub MovesApart : Graph → Form → Holdings → Type 0
+MovesApart graph (AtNode c p) st = Unit {0}
+MovesApart graph (AtEntry c p) st = Unit {0}
+MovesApart graph (AtPair pairs.Rename p q) st = (n : ℕ) → st.source.walked ≡ parent_of p → st.dest.walked ≡ parent_of q → graph.child st.source.node (last_of p) ≡ Some n → IsReached graph.child n st.dest.node → ⊥
+
+-- what a finish needs of the graph: among others, that the reserved number is not the node stood at
 pub record CanFinish (graph : Graph) (reserved : Option ℕ) (remaining : Form) (holdings : Option Holdings) : Type 0 where
   pub spare : SpareIf graph reserved
   pub heads : (st : Holdings) → holdings ≡ Some st → HeadsApart remaining st
+  pub other : (st : Holdings) → holdings ≡ Some st → reserved ≢ Some st.node
+  pub apart : (st : Holdings) → holdings ≡ Some st → MovesApart graph remaining st
   pub bounded : IsBounded graph

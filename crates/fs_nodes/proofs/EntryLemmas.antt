@@ -10,7 +10,7 @@ use Rattle.fs_nodes.specs.declared.node.Link.{Link}
 use Rattle.fs_nodes.specs.declared.node.Node.{Node}
 use Rattle.fs_nodes.specs.declared.place.Place.{Place}
 use Rattle.fs_nodes.specs.Graphs.{then_at}
-use Rattle.fs_nodes.specs.Stores.{content_of, link_of, link_at, names_in, shape_with, IsParent, IsUnlinked}
+use Rattle.fs_nodes.specs.Stores.{content_of, link_of, link_at, names_in, shape_with, with_child, IsParent, IsUnlinked}
 use Rattle.fs_nodes.specs.code.Linked.{plain, plains, graph_of_places, IsBeside, IsNextSibling, IsPlaces}
 use Rattle.fs_nodes.proofs.PlaceLemmas.{child_link, read_within}
 use Rattle.fs_nodes.proofs.EditLemmas.{parent_is, no_parent}
@@ -81,3 +81,16 @@ next_inside ps n d p places e linked = go p.next refl (parent_read ps n d places
 -- nothing is not something
 pub none_some : {A : Type 0} (o : Option A) (x : A) → o ≡ None → o ≡ Some x → ⊥
 none_some o x e f = cc
+
+-- the node of an entry that is told with its name
+pub entry_child : (children : Name → Option ℕ) (o : Option Name) (x : Name) (n : ℕ) → ◌≡◌ {A = Option (Name × ℕ)} (Some (x, n)) (with_child children o) → children x ≡ Some n
+entry_child children None x n e = absurd (cc)
+entry_child children (Some y) x n e = go (children y) refl e
+  where
+    go : (o : Option ℕ) → children y ≡ o → ◌≡◌ {A = Option (Name × ℕ)} (Some (x, n)) (option_map (λ (m : ℕ). (y, m)) o) → children x ≡ Some n
+    go None k f = absurd (cc)
+    go (Some m) k f =
+        let same : ◌≡◌ {A = Name × ℕ} (x, n) (y, m) = cc in
+        let name : x ≡ y = ap (λ (p : Name × ℕ). p.0) same in
+        let number : n ≡ m = ap (λ (p : Name × ℕ). p.1) same in
+        ap children name ∙ k ∙ ap Some (sym number)

@@ -12,7 +12,7 @@ use Rattle.fs_nodes.specs.declared.node.Link.{Link}
 use Rattle.fs_nodes.specs.declared.node.Node.{Node}
 use Rattle.fs_nodes.specs.declared.place.Place.{Place}
 use Rattle.fs_nodes.specs.code.Edits.{relinked}
-use Rattle.fs_nodes.specs.Graphs.{then_at, linked_in, unlinked_in}
+use Rattle.fs_nodes.specs.Graphs.{then_at, linked_in, unlinked_in, IsReached}
 use Rattle.fs_nodes.specs.Stores.{content_of, link_of, content_at, link_at, IsUnlinked}
 use Rattle.fs_nodes.specs.code.Linked.{link_with, plain_with, plain, plains, graph_of_places, IsGap, IsPlaces, put_between, taken_out, led, followed, with_entries, entered}
 use Rattle.fs_nodes.specs.code.Frees.{is_in_list, is_free, next_at, IsChain, IsFreeList, IsLinked}
@@ -114,12 +114,12 @@ used_place ps n h =
     get_some ps n (omega arith)
 
 -- a link, whole
-pub linked_link : (limit : ℕ) (ps qs : List Place) (free : Option ℕ) (dir n : ℕ) (x : Name) (prev next : Option ℕ) → IsLinked limit ps free → IsTrue (is_dir ((graph_of_places ps).shape dir)) → (graph_of_places ps).child dir x ≡ None → IsTrue (is_there ((graph_of_places ps).shape n)) → IsUnlinked (graph_of_places ps).child n → (n ≡ 0 → ⊥) → IsGap (graph_of_places ps) dir x prev next
+pub linked_link : (limit : ℕ) (ps qs : List Place) (free : Option ℕ) (dir n : ℕ) (x : Name) (prev next : Option ℕ) → IsLinked limit ps free → IsTrue (is_dir ((graph_of_places ps).shape dir)) → (graph_of_places ps).child dir x ≡ None → IsTrue (is_there ((graph_of_places ps).shape n)) → IsUnlinked (graph_of_places ps).child n → (n ≡ 0 → ⊥) → (IsReached (graph_of_places ps).child n dir → ⊥) → IsGap (graph_of_places ps) dir x prev next
     → qs ≡ put_between dir n x prev next ps → (graph_of_places qs ≡ linked_in dir x n (graph_of_places ps)) × IsLinked limit qs free
-linked_link limit ps qs free dir n x prev next s is_dir absent used unlinked other gap e =
+linked_link limit ps qs free dir n x prev next s is_dir absent used unlinked other apart gap e =
     let r : (p : Place) × (slice_get ps n ≡ Some p) = used_place ps n used in
     let content : (c : Content) × (r.0.content ≡ Some c) = used_content ps n r.0 r.1 used in
-    let made : (graph_of_places (put_between dir n x prev next ps) ≡ linked_in dir x n (graph_of_places ps)) × IsPlaces (put_between dir n x prev next ps) = put_makes ps dir n x prev next r.0 s.places r.1 is_dir absent used unlinked other gap in
+    let made : (graph_of_places (put_between dir n x prev next ps) ≡ linked_in dir x n (graph_of_places ps)) × IsPlaces (put_between dir n x prev next ps) = put_makes ps dir n x prev next r.0 s.places r.1 is_dir absent used unlinked other apart gap in
     let l : length (put_between dir n x prev next ps) ≡ length ps = length_put dir n x prev next ps in
     subst (λ (z : List Place). (graph_of_places z ≡ linked_in dir x n (graph_of_places ps)) × IsLinked limit z free) (sym e) (
       made.0,

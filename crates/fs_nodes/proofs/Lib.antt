@@ -2,6 +2,7 @@ pub mod NameLemmas
 pub mod PlaceLemmas
 pub mod AscentLemmas
 pub mod PickLemmas
+pub mod CycleLemmas
 pub mod GraphLemmas
 pub mod StoreLemmas
 pub mod EditLemmas

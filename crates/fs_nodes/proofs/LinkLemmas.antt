@@ -10,7 +10,7 @@ use Rattle.fs_nodes.specs.declared.node.Content.{Content}
 use Rattle.fs_nodes.specs.declared.node.Link.{Link}
 use Rattle.fs_nodes.specs.declared.node.Node.{Node}
 use Rattle.fs_nodes.specs.declared.place.Place.{Place}
-use Rattle.fs_nodes.specs.Graphs.{Graph, then_at, linked_in}
+use Rattle.fs_nodes.specs.Graphs.{Graph, then_at, linked_in, IsReached}
 use Rattle.fs_nodes.specs.Stores.{content_of, link_of, link_at, child_in, names_in, shape_with, graph_in, is_above, IsUnlinked, IsStore}
 use Rattle.fs_nodes.specs.code.Edits.{relinked}
 use Rattle.fs_nodes.proofs.EditLemmas.{Makes, link_makes}
@@ -353,12 +353,12 @@ used_content ps n p e h = go p.content (subst (λ (o : Option (Option Node)). Is
     go (Some content) k = (content, refl)
 
 -- a node comes between two siblings: the graph that this makes, and that the places stay those of a store
-pub put_makes : (ps : List Place) (dir n : ℕ) (x : Name) (prev next : Option ℕ) (p : Place) → IsPlaces ps → slice_get ps n ≡ Some p → IsTrue (is_dir ((graph_of_places ps).shape dir)) → (graph_of_places ps).child dir x ≡ None → IsTrue (is_there ((graph_of_places ps).shape n)) → IsUnlinked (graph_of_places ps).child n → (n ≡ 0 → ⊥) → IsGap (graph_of_places ps) dir x prev next
+pub put_makes : (ps : List Place) (dir n : ℕ) (x : Name) (prev next : Option ℕ) (p : Place) → IsPlaces ps → slice_get ps n ≡ Some p → IsTrue (is_dir ((graph_of_places ps).shape dir)) → (graph_of_places ps).child dir x ≡ None → IsTrue (is_there ((graph_of_places ps).shape n)) → IsUnlinked (graph_of_places ps).child n → (n ≡ 0 → ⊥) → (IsReached (graph_of_places ps).child n dir → ⊥) → IsGap (graph_of_places ps) dir x prev next
     → (graph_of_places (put_between dir n x prev next ps) ≡ linked_in dir x n (graph_of_places ps)) × IsPlaces (put_between dir n x prev next ps)
-put_makes ps dir n x prev next p places e is_dir free used unlinked other gap =
+put_makes ps dir n x prev next p places e is_dir free used unlinked other apart gap =
     let q : Option Node = relinked (plain p) (Some (record { dir = dir; name = x })) in
     let at : slice_get (plains ps) n ≡ Some (plain p) = slice_get-map plain ps n ∙ ap (option_map plain) e in
-    let made : Makes NODE_LIMIT (set (plains ps) n q) (linked_in dir x n (graph_of_places ps)) = link_makes NODE_LIMIT (plains ps) n dir x (plain p) q places.store at is_dir free used unlinked other refl in
+    let made : Makes NODE_LIMIT (set (plains ps) n q) (linked_in dir x n (graph_of_places ps)) = link_makes NODE_LIMIT (plains ps) n dir x (plain p) q places.store at is_dir free used unlinked other apart refl in
     let here : set (plains ps) n q ≡ plains (put_between dir n x prev next ps) = sym (plains_put dir n x prev next ps p e) in
     let graph : graph_of_places (put_between dir n x prev next ps) ≡ linked_in dir x n (graph_of_places ps) = subst (λ (l : List (Option Node)). graph_in l ≡ linked_in dir x n (graph_of_places ps)) here made.0 in
     let content : (c : Content) × (p.content ≡ Some c) = used_content ps n p e used in (

@@ -69,6 +69,7 @@ real_of most limit ps store within = record {
   of_dir = λ d n x e. (names_in ps d, ap (option_map (shape_with (names_in ps d))) (store.of_dir n (record { dir = d; name = x }) (child_link ps d x n e)));
   to_used = λ d n x e. child_shape ps d n x e;
   one_name = λ d e n x y f g. same_link d e x y (sym (child_link ps d x n f) ∙ child_link ps e y n g);
+  acyclic = store.acyclic;
   listed = λ d x. shape_lists most ps store d x;
   ascend = λ d. shape_ascends ps d;
   made = λ n h. past_shape ps n h;

@@ -2,7 +2,7 @@
 use Rattle.std.specs.Prelude.{ℕ, ◌≡◌, ◌≤◌, true, is_some, List, [], ◌∷◌, Option, Some, None}
 use Rattle.fs_names.specs.Names.{Name, has_name}
 use Rattle.fs_names.specs.Shapes.{Shape, Dir, names_of}
-use Rattle.fs_nodes.specs.Graphs.{Graph}
+use Rattle.fs_nodes.specs.Graphs.{Graph, IsAcyclic}
 use Rattle.fs_nodes.specs.Places.{Places}
 use Rattle.fs_nodes.specs.Stores.{graph_of, limit_of, room, is_above, IsUnlinked}
 
@@ -29,6 +29,8 @@ pub record IsReal (store : Seen) : Type 0 where
   pub of_dir : (d n : ℕ) (x : Name) → store.graph.child d x ≡ Some n → (names : List Name) × (store.graph.shape d ≡ Some (Dir names))
   pub to_used : (d n : ℕ) (x : Name) → store.graph.child d x ≡ Some n → (s : Shape) × (store.graph.shape n ≡ Some s)
   pub one_name : (d e n : ℕ) (x y : Name) → store.graph.child d x ≡ Some n → store.graph.child e y ≡ Some n → (d ≡ e) × (x ≡ y)
+  -- no node is reached from itself
+  pub acyclic : IsAcyclic store.graph.child
   -- the names of a directory are those of its entries, and ascend
   pub listed : (d : ℕ) (x : Name) → has_name x (names_of (store.graph.shape d)) ≡ is_some (store.graph.child d x)
   pub ascend : (d : ℕ) → Ascends None (names_of (store.graph.shape d))

@@ -4,7 +4,7 @@
 ghost use Rattle.std.specs.Prelude.{◌≡◌, ◌≢◌, ◌≤◌, ◌<◌, ◌↔◌, IsTrue, false, IfOk, OnErr, IfSome, IsSome, MatchOption, length, option_map, None, Some, Ok, Err};
 ghost use Rattle.std.specs.Option.{option_copied};
 ghost use Rattle.fs_names.specs.Shapes.{is_there, is_dir, is_file, has_entries, names_of, bytes_of};
-ghost use Rattle.fs_nodes.specs.Graphs.{empty_graph, linked_in, unlinked_in, moved_in, reserved_in, released_in, content_in};
+ghost use Rattle.fs_nodes.specs.Graphs.{empty_graph, linked_in, unlinked_in, moved_in, reserved_in, released_in, content_in, IsReached};
 
 use crate::node::{Content, Link, Node, add_place, put, relink, swap_bytes};
 use crate::number::NodeNo;
@@ -109,13 +109,14 @@ impl Store {
         }
     }
 
-    /// A directory gets an entry of this name, which names a node that none named.
+    /// A directory gets an entry of this name, which names a node that none named and from which the directory is not reached.
     pub fn link(&mut self, dir: NodeNo, name: &Name, node: NodeNo)
         requires dir { IsTrue (is_dir (shape self.old dir)) }
         requires absent { child self.old dir name.now ≡ None }
         requires used { IsTrue (is_there (shape self.old node)) }
         requires unlinked { IsUnlinked (child self.old) node }
         requires not_root { node ≢ 0 }
+        requires apart { IsReached (child self.old) node dir → ⊥ }
         ensures { seen self.new ≡ record (seen self.old) { graph = linked_in dir name.now node (graph_of self.old) } }
     {
         let link = Link {
@@ -181,9 +182,10 @@ impl Store {
         put(&mut self.places[node.get()], None);
     }
 
-    /// A directory loses an entry. What it named is answered, and stays in use.
+    /// A directory loses the entry of a file or of an empty directory. What it named is answered, and stays in use.
     pub fn unlink(&mut self, dir: NodeNo, name: &Name) -> NodeNo
         requires there { IsSome (child self.old dir name.now) }
+        requires bare { IfSome (child self.old dir name.now) (λ node. has_entries (shape self.old node) ≡ false) }
         ensures node { child self.old dir name.now ≡ Some result }
         ensures change { seen self.new ≡ record (seen self.old) { graph = unlinked_in dir name.now (graph_of self.old) } }
     {
@@ -192,11 +194,12 @@ impl Store {
         NodeNo::new(node)
     }
 
-    /// An entry goes to another directory, or to another name, with what it names and all below.
+    /// An entry goes to another directory, or to another name, with what it names and all below; the new directory is not there.
     pub fn move_entry(&mut self, from: NodeNo, name: &Name, to: NodeNo, new_name: &Name)
         requires there { IsSome (child self.old from name.now) }
         requires dir { IsTrue (is_dir (shape self.old to)) }
         requires absent { child self.old to new_name.now ≡ None }
+        requires apart { IfSome (child self.old from name.now) (λ node. IsReached (child self.old) node to → ⊥) }
         ensures { IfSome (child self.old from name.now) (λ node. seen self.new ≡ record (seen self.old) { graph = moved_in from name.now to new_name.now node (graph_of self.old) }) }
     {
         let node = find_in(&self.places, from, name).unwrap();

@@ -25,7 +25,7 @@ use Rattle.fs_machine.specs.Records.{Holdings, Record, Finished}
 use Rattle.fs_finish.specs.Replies.{refilled}
 use Rattle.fs_ops.specs.code.TakeAndLetGo.{started}
 use Rattle.fs_ops.specs.OpValue.{dropped, holdings_of, holdings_with, op_value, IsForked, Forks}
-use Rattle.fs_machine.specs.OpValues.{OpValue, HeadsApart, IsFinished, graph_after, record_of}
+use Rattle.fs_machine.specs.OpValues.{OpValue, HeadsApart, MovesApart, IsFinished, graph_after, record_of}
 use Rattle.fs_names.proofs.ParentLemmas.{parent_length}
 use Rattle.fs_ops.proofs.KeyLemmas.{parent_drop, target_drop}
 use Rattle.fs_ops.proofs.HeadLemmas.{some_left, none_left, last_drop}
@@ -150,6 +150,20 @@ module _ (way : Way) (n : ℕ) (fork : Option ForkWay) (victim : Option ℕ) (f 
       ∙ h (sym (ap (λ (z : count.Head). z.node) s) ∙ same ∙ ap (λ (z : count.Head). z.node) d)
       ∙ (λ i. take ((sym d i).walked) (drop (forked_here.names i) q))
 
+  -- from what it would move its new directory is not reached
+  pub below_here : (graph : Graph) (k : ℕ) (source dest : count.Head) → k ≡ way.walked → MovesApart graph (dropped way.walked f) (holdings_with f n way.behind fork victim) → source ≡ (started fork n way.names).source → dest ≡ (started fork n way.names).dest
+      → MovesApart graph (AtPair pairs.Rename (drop k p) (drop k q)) (heads_holdings p q k source dest victim)
+  below_here graph k source dest z apart s d =
+      let heads : ForkWay = started fork n way.names in
+      let h : MovesApart graph (AtPair pairs.Rename (drop way.walked p) (drop way.walked q)) (holdings_with (AtPair pairs.Rename p q) n way.behind (Some heads) victim) =
+      subst (λ (y : Holdings). MovesApart graph (AtPair pairs.Rename (drop way.walked p) (drop way.walked q)) y) (here_holdings way.behind fork way.names)
+      (subst (λ (y : Form). MovesApart graph (dropped way.walked y) (holdings_with y n way.behind fork victim)) e apart) in
+      let counted : MovesApart graph (AtPair pairs.Rename (drop way.walked p) (drop way.walked q)) (heads_holdings p q way.walked heads.source heads.dest victim) =
+      subst (λ (m : ℕ). MovesApart graph (AtPair pairs.Rename (drop way.walked p) (drop way.walked q)) (heads_holdings p q m heads.source heads.dest victim)) forked_here.names h in
+      subst (λ (m : ℕ). MovesApart graph (AtPair pairs.Rename (drop m p) (drop m q)) (heads_holdings p q m source dest victim)) (sym z)
+      (subst (λ (o : count.Head). MovesApart graph (AtPair pairs.Rename (drop way.walked p) (drop way.walked q)) (heads_holdings p q way.walked source o victim)) (sym d)
+      (subst (λ (o : count.Head). MovesApart graph (AtPair pairs.Rename (drop way.walked p) (drop way.walked q)) (heads_holdings p q way.walked o heads.dest victim)) (sym s) counted))
+
 -- a call whose walk failed
 lost_at : (graph : Graph) (rest : Form) (st : Holdings) (reserved : Option ℕ) (z : Name) (l : Key) → target rest ≡ z ∷ l → effect_at graph rest st reserved ≡ no_effect (Failed (walk_errno (graph.shape st.node))) graph reserved
 lost_at graph (AtNode c p) st reserved z l e = ap (λ (k : Key). node_effect graph st.node reserved (node_row c (path_error k (graph.shape st.node)) (graph.shape st.node))) e
@@ -184,6 +198,11 @@ pub apart_by : (way : Way) (n : ℕ) (fork : Option ForkWay) (victim : Option �
     → source.node ≡ dest.node → take source.walked (drop k p) ≡ take dest.walked (drop k q)
 apart_by way n fork victim f p q e names arrived node forks k source dest z apart s d same =
     subst (λ (m : ℕ). take source.walked (drop m p) ≡ take dest.walked (drop m q)) (sym z) (apart_here way n fork victim f p q e names arrived node forks source dest apart s d same)
+
+pub below_by : (graph : Graph) (way : Way) (n : ℕ) (fork : Option ForkWay) (victim : Option ℕ) (f : Form) (p q : Key) → f ≡ AtPair pairs.Rename p q → way.names ≡ length (target f) → way.walked ≡ way.names → way.node ≡ Some n → Forks f way fork
+    → (k : ℕ) (source dest : count.Head) → k ≡ way.walked → MovesApart graph (dropped way.walked f) (holdings_with f n way.behind fork victim) → source ≡ (started fork n way.names).source → dest ≡ (started fork n way.names).dest
+    → MovesApart graph (AtPair pairs.Rename (drop k p) (drop k q)) (heads_holdings p q k source dest victim)
+below_by graph way n fork victim f p q e names arrived node forks k source dest z apart s d = below_here way n fork victim f p q e names arrived node forks graph k source dest z apart s d
 
 pub rename_by : (graph new : Graph) (way : Way) (n : ℕ) (fork : Option ForkWay) (victim reserved : Option ℕ) (finish : Finish) (f : Form) (p q : Key) (k : ℕ) (source dest : count.Head) → k ≡ way.walked
     → f ≡ AtPair pairs.Rename p q → way.names ≡ length (target f) → way.walked ≡ way.names → way.node ≡ Some n → Forks f way fork → source ≡ (started fork n way.names).source → dest ≡ (started fork n way.names).dest

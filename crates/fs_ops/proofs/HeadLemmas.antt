@@ -1,12 +1,12 @@
 -- On renames that finish where their heads stand.
 use Rattle.std.proofs.Common.{◌≡◌, ℕ, zero, suc, ◌+◌, ◌-◌, ◌≤◌, ◌<◌, Bool, true, false, cond, [], ◌∷◌, ◌++◌, length, take, drop, Option, Some, None, refl, sym, ap, ap₂, subst, ◌∙◌, ◌||◌, arith, length-drop, append-nil}
-use Rattle.std.specs.Prelude.{not}
+use Rattle.std.specs.Prelude.{not, IfSome}
 use Rattle.fs_names.specs.Names.{Name, same_name}
 use Rattle.fs_names.specs.Keys.{Key, after_prefix, common_len, has_more, last_of, parent_of}
 use Rattle.fs_names.specs.Parts.{is_end, common, left}
 use Rattle.fs_names.specs.Shapes.{Shape, Dir, File, is_dir, is_full}
 use Rattle.fs_names.proofs.Lemmas.{same_name_exact, same_name_refl, after_prefix-append}
-use Rattle.fs_nodes.specs.Graphs.{Graph, entry_shape}
+use Rattle.fs_nodes.specs.Graphs.{Graph, entry_shape, IsReached}
 use Rattle.fs_calls.specs.Forms.{AtPair, by_text}
 use Rattle.fs_calls.specs.declared.target.PairCall.TheVariants as pairs
 use Rattle.fs_calls.specs.Rows.{rename_row, as_dir}
@@ -20,6 +20,7 @@ use Rattle.fs_ops.specs.code.FinishByCounts.{heads_holdings}
 use Rattle.fs_machine.specs.Finishes.{Effect, move_effect, rename_effect}
 use Rattle.fs_machine.specs.Moves.{dir_error, there_by, walk_errno}
 use Rattle.fs_machine.specs.Records.{Holdings}
+use Rattle.fs_machine.specs.OpValues.{MovesApart}
 use Rattle.fs_names.proofs.ParentLemmas.{parent_length, common_length}
 use Rattle.fs_ops.proofs.KeyLemmas.{parent_drop}
 use Rattle.fs_names.proofs.PrefixLemmas.{common_is_length}
@@ -158,6 +159,11 @@ source_named p q e = (text_named p q e).0
 pub dest_named : (p q : Key) → by_text (AtPair pairs.Rename p q) ≡ None → 0 < length q
 dest_named p q e = (text_named p q e).1
 
+-- what holds of each number that may be there
+if_each : (o : Option ℕ) (P : ℕ → Type 0) → ((n : ℕ) → o ≡ Some n → P n) → IfSome o P
+if_each None P h = tt
+if_each (Some n) P h = h n refl
+
 module _ (graph : Graph) (p q : Key) (k : ℕ) (source dest : count.Head) (victim reserved : Option ℕ) where
   abbrev source_error : Option Errno
   source_error = dir_error (left (take source.walked (drop k p)) (parent_of (drop k p))) (graph.shape source.node)
@@ -222,3 +228,15 @@ module _ (graph : Graph) (p q : Key) (k : ℕ) (source dest : count.Head) (victi
       let parents : parent_of (drop k p) ≡ parent_of (drop k q) = sym (walked_all p k source.walked (graph.shape source.node) sw (sym a)) ∙ apart n ∙ walked_all q k dest.walked (graph.shape dest.node) dw (sym b) in
       let lasts : last_of (drop k p) ≡ last_of (drop k q) = last_drop k p (omega arith) ∙ l ∙ sym (last_drop k q (omega arith)) in
       sym (same_left p q k h) ∙ whole (drop k p) (drop k q) (same_key (drop k p) (drop k q) (omega arith) (omega arith) parents lasts)
+
+  -- from what the rename moves its new directory is not reached
+  pub heads_below : by_text (AtPair pairs.Rename p q) ≡ None → k ≤ length (common (parent_of p) (parent_of q)) → k + source.walked ≤ length (parent_of p) → k + dest.walked ≤ length (parent_of q)
+      → MovesApart graph (AtPair pairs.Rename (drop k p) (drop k q)) holdings → None ≡ source_error → None ≡ dest_error
+      → (x : Name) → x ≡ last_of p → IfSome (graph.child source.node x) (λ n. IsReached graph.child n dest.node → ⊥)
+  heads_below text h sw dw apart a b x e =
+      let named = text_named p q text in
+      let short = common_length p q in
+      let lp = parent_length p in
+      let last : last_of (drop k p) ≡ x = last_drop k p (omega arith) ∙ sym e in
+      if_each (graph.child source.node x) (λ n. IsReached graph.child n dest.node → ⊥) (λ n f.
+      apart n (walked_all p k source.walked (graph.shape source.node) sw (sym a)) (walked_all q k dest.walked (graph.shape dest.node) dw (sym b)) (ap (graph.child source.node) last ∙ f))

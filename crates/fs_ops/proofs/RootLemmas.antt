@@ -2,6 +2,7 @@
 use Rattle.std.proofs.Common.{◌≡◌, ℕ, ◌≤◌, Bool, true, false, cond, List, [], length, Option, Some, None, refl, sym, ap, subst, ◌∙◌, arith}
 use Rattle.std.specs.Prelude.{eqb, is_some}
 use Rattle.fs_names.specs.Names.{Name}
+use Rattle.fs_names.specs.Keys.{last_of}
 use Rattle.fs_names.specs.Shapes.{Shape, Dir, File}
 use Rattle.fs_names.specs.declared.limits.TheConstants.{ENTRY_LIMIT, FILE_LIMIT}
 use Rattle.fs_nodes.specs.Graphs.{Graph, empty_graph}
@@ -10,7 +11,7 @@ use Rattle.fs_calls.specs.declared.target.PairCall.TheVariants as pairs
 use Rattle.fs_calls.specs.declared.call.Call.{Call}
 use Rattle.fs_calls.specs.declared.reply.Reply.{Reply}
 use Rattle.fs_machine.specs.Records.{Record, Walking, Holdings, holdings_at}
-use Rattle.fs_machine.specs.OpValues.{OpValue, new_value, phase_of, BegunAs, IsTook, CanFinish, HeadsApart, IsBounded}
+use Rattle.fs_machine.specs.OpValues.{OpValue, new_value, phase_of, BegunAs, IsTook, CanFinish, HeadsApart, MovesApart, IsBounded}
 
 -- the root alone is within all limits
 no_entries : (b : Bool) (names : List Name) → cond {A = Option Shape} b (Some (Dir [])) None ≡ Some (Dir names) → length names ≤ ENTRY_LIMIT
@@ -29,6 +30,12 @@ unwalked : (f : Form) (n : ℕ) → HeadsApart f (holdings_at n None)
 unwalked (AtNode c p) n = tt
 unwalked (AtEntry c p) n = tt
 unwalked (AtPair pairs.Rename p q) n = λ e. refl
+
+-- nothing moves where there is no entry
+unmoved : (graph : Graph) (f : Form) (n : ℕ) → graph ≡ empty_graph → MovesApart graph f (holdings_at n None)
+unmoved graph (AtNode c p) n e = tt
+unmoved graph (AtEntry c p) n e = tt
+unmoved graph (AtPair pairs.Rename p q) n e = λ m source dest child way. (let z : ◌≡◌ {A = Option ℕ} None (Some m) = ap (λ (g : Graph). g.child n (last_of p)) (sym e) ∙ child in cc)
 
 open_reply : (o : Option Reply) → phase_of None o ≡ Walking → o ≡ None
 open_reply None e = refl
@@ -60,5 +67,7 @@ can_finish old graph limit call shape op new n empty h e took =
     record {
       spare = λ m k. absurd (cc);
       heads = λ st k. let same : st ≡ holdings_at n None = cc in subst (λ (z : Holdings). HeadsApart new.remaining z) (sym same) (subst (λ (g : Form). HeadsApart g (holdings_at n None)) (sym f) (unwalked (form call) n));
+      other = λ st k z. absurd (cc);
+      apart = λ st k. let same : st ≡ holdings_at n None = cc in subst (λ (z : Holdings). MovesApart graph new.remaining z) (sym same) (subst (λ (g : Form). MovesApart graph g (holdings_at n None)) (sym f) (unmoved graph (form call) n (b.1 ∙ empty)));
       bounded = subst IsBounded (sym (b.1 ∙ empty)) empty_bounded;
     }

@@ -1,6 +1,6 @@
 //! How a call finishes where it stands.
 
-ghost use Rattle.std.specs.Prelude.{◌≡◌, ◌<◌, None, Some, length};
+ghost use Rattle.std.specs.Prelude.{◌≡◌, ◌≢◌, ◌<◌, None, Some, length};
 ghost use Rattle.fs_names.specs.Keys.{last_of};
 ghost use Rattle.fs_nodes.specs.Seen.{seen};
 ghost use Rattle.fs_nodes.specs.Stores.{graph_of, shape};
@@ -69,6 +69,7 @@ fn finish_in(
 ) -> Finish
     requires named { 0 < length path.now }
     requires spare { SpareIf (graph_of store.old) reserved }
+    requires other { reserved ≢ Some dir }
     ensures made { IsEffect (entry_finish (graph_of store.old) dir (last_of path.now) reserved entry) result (graph_of store.new) }
     ensures rest { seen store.new ≡ record (seen store.old) { graph = graph_of store.new } }
 {

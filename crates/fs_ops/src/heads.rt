@@ -12,6 +12,7 @@ ghost use Rattle.fs_finish.specs.Endings.{IsEffect};
 ghost use Rattle.fs_ops.specs.code.FinishByCounts.{heads_holdings};
 ghost use Rattle.fs_machine.specs.Finishes.{rename_effect};
 ghost use Rattle.fs_machine.specs.Moves.{dir_error};
+ghost use Rattle.fs_machine.specs.OpValues.{MovesApart};
 ghost use Rattle.fs_ops.specs.code.TakeAndLetGo.{started};
 
 use fs_calls::Errno;
@@ -70,6 +71,7 @@ pub fn finish_rename(
     requires dest { names + dest.walked ≤ length (parent_of new_path.now) }
     requires shared { names ≤ length (common (parent_of path.now) (parent_of new_path.now)) }
     requires apart { source.node ≡ dest.node → take source.walked (drop names path.now) ≡ take dest.walked (drop names new_path.now) }
+    requires below { MovesApart (graph_of store.old) (forms.AtPair pairs.Rename (drop names path.now) (drop names new_path.now)) (heads_holdings path.now new_path.now names source dest victim) }
     ensures made { IsEffect (rename_effect (graph_of store.old) (drop names path.now) (drop names new_path.now) (heads_holdings path.now new_path.now names source dest victim) reserved []) result (graph_of store.new) }
     ensures rest { seen store.new ≡ record (seen store.old) { graph = graph_of store.new } }
 {

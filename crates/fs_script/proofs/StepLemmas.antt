@@ -8,14 +8,16 @@ use Rattle.fs_names.specs.Shapes as shapes
 use Rattle.fs_text.proofs.WriteLemmas.{root_word}
 use Rattle.fs_calls.specs.Tree.{Node, Tree}
 use Rattle.fs_calls.specs.Tree as tree
-use Rattle.fs_seq.specs.code.Slots.{links_of, node_of, links_at, walk, spelled, keys_from, with_node, nodes_at, tree_of, IsForest}
+use Rattle.fs_seq.specs.code.Slots as forest
+use Rattle.fs_seq.specs.code.Slots.{links_of, node_of, links_at, child, walk, spelled, keys_from, with_node, nodes_at, tree_of, IsForest}
 use Rattle.fs_seq.proofs.GraphLemmas.{shorter}
 use Rattle.fs_seq.proofs.Resolving as resolving
 use Rattle.fs_nodes.specs.Graphs.{Children}
 use Rattle.fs_nodes.specs.Seen.{Seen, IsReal}
-use Rattle.fs_nodes.specs.Stores.{is_above, names_above, with_child, next_entry}
+use Rattle.fs_nodes.specs.Stores.{is_above, names_above, next_entry}
+use Rattle.fs_nodes.proofs.EntryLemmas.{entry_child}
 use Rattle.fs_script.specs.TreeText.{node_line, tree_text}
-use Rattle.fs_script.specs.code.Walks.{number_or, links, place_of, forest_of, node_seen, WalkPlace, key_above, Leads, links_above, pending, pending_at, text_at, Goes, Steps, visited, row_text, IsUp, at_root}
+use Rattle.fs_script.specs.code.Walks.{number_or, links, place_of, forest_of, node_seen, WalkPlace, key_above, Leads, IsLast, links_above, pending, pending_at, text_at, Goes, Steps, visited, row_text, IsUp, at_root}
 use Rattle.fs_script.specs.declared.tree.Step.{Step}
 use Rattle.fs_script.proofs.ForestLemmas.{place_in, named_child, store_forest}
 use Rattle.fs_script.proofs.RisingLemmas.{walked_rows}
@@ -200,18 +202,6 @@ tree_written st real =
 child_there : (st : Seen) → IsReal st → (d m : ℕ) (x : Name) → st.graph.child d x ≡ Some m → is_there (st.graph.shape m) ≡ true
 child_there st real d m x k = let s : (s : Shape) × (st.graph.shape m ≡ Some s) = real.to_used d m x k in ap is_there s.1
 
-pub entry_child : (children : Name → Option ℕ) (o : Option Name) (x : Name) (n : ℕ) → ◌≡◌ {A = Option (Name × ℕ)} (Some (x, n)) (with_child children o) → children x ≡ Some n
-entry_child children None x n e = absurd (cc)
-entry_child children (Some y) x n e = go (children y) refl e
-  where
-    go : (o : Option ℕ) → children y ≡ o → ◌≡◌ {A = Option (Name × ℕ)} (Some (x, n)) (option_map (λ (m : ℕ). (y, m)) o) → children x ≡ Some n
-    go None k f = absurd (cc)
-    go (Some m) k f =
-        let same : ◌≡◌ {A = Name × ℕ} (x, n) (y, m) = cc in
-        let name : x ≡ y = ap (λ (p : Name × ℕ). p.0) same in
-        let number : n ≡ m = ap (λ (p : Name × ℕ). p.1) same in
-        ap children name ∙ k ∙ ap Some (sym number)
-
 pub all_written : (st : Seen) → IsReal st → (line mid new : List ℕ) → mid ≡ line ++ codes "tree\ndir /\n" → new ≡ mid ++ text_at (forest_of st) (pending_at (forest_of st) at_root) → new ≡ line ++ tree_text (tree_of (forest_of st))
 all_written st real line mid new a b =
     b ∙ ap (λ (z : List ℕ). z ++ text_at (forest_of st) (pending_at (forest_of st) at_root)) a
@@ -223,25 +213,43 @@ pub entry_there : (st : Seen) → IsReal st → (dir m : ℕ) (low : Option Name
 entry_there st real dir m low x e = child_there st real dir m x (entry_child (st.graph.child dir) (find (is_above low) (names_of (st.graph.shape dir))) x m e)
 
 -- a step that writes an entry
-pub step_visits : (st : Seen) → IsReal st → (old new : WalkPlace) (before after : List ℕ) (x : Name) (m dir : ℕ) (low : Option Name)
-    → dir ≡ old.dir → low ≡ old.low → Leads (forest_of st) 0 old.above old.dir
-    → names_above low (names_of (st.graph.shape dir)) ≡ x ∷ names_above (Some x) (names_of (st.graph.shape dir)) → ◌≡◌ {A = Option (Name × ℕ)} (Some (x, m)) (next_entry st.graph dir low)
+pub step_visits : (st : Seen) → IsReal st → (old new : WalkPlace) (before after : List ℕ) (x : Name) (m : ℕ)
+    → Leads (forest_of st) 0 old.above old.dir
+    → names_above old.low (names_of (st.graph.shape old.dir)) ≡ x ∷ names_above (Some x) (names_of (st.graph.shape old.dir)) → ◌≡◌ {A = Option (Name × ℕ)} (Some (x, m)) (next_entry st.graph old.dir old.low)
     → after ≡ before ++ row_text (key_above old.above ++ x ∷ []) (node_seen (st.graph.shape m)) → new ≡ visited old x m (is_dir (st.graph.shape m))
     → Goes (forest_of st) old before new after
-step_visits st real old new before after x m dir low d o l rest entry wrote went =
-    let child : st.graph.child dir x ≡ Some m = entry_child (st.graph.child dir) (find (is_above low) (names_of (st.graph.shape dir))) x m entry in
-    visit_goes st real old new before after x m l
-    (subst (λ (z : ℕ). names_above old.low (names_of (st.graph.shape z)) ≡ x ∷ names_above (Some x) (names_of (st.graph.shape z))) d
-    (subst (λ (z : Option Name). names_above z (names_of (st.graph.shape dir)) ≡ x ∷ names_above (Some x) (names_of (st.graph.shape dir))) o rest))
-    (subst (λ (z : ℕ). st.graph.child z x ≡ Some m) d child) wrote went
+step_visits st real old new before after x m l rest entry wrote went =
+    visit_goes st real old new before after x m l rest (entry_child (st.graph.child old.dir) (find (is_above old.low) (names_of (st.graph.shape old.dir))) x m entry) wrote went
 
--- a step where no entry is left
-pub step_rises : (st : Seen) → IsReal st → (old new : WalkPlace) (before after : List ℕ) (more : Bool) (dir : ℕ) (low : Option Name)
-    → dir ≡ old.dir → low ≡ old.low → Leads (forest_of st) 0 old.above old.dir → names_above low (names_of (st.graph.shape dir)) ≡ [] → IsUp old new more → after ≡ before
-    → Steps (forest_of st) old before new after more
-step_rises st real old new before after more dir low d o l rest went same =
-    up_goes st real old new before after more l
-    (subst (λ (z : ℕ). names_above old.low (names_of (st.graph.shape z)) ≡ []) d (subst (λ (z : Option Name). names_above z (names_of (st.graph.shape dir)) ≡ []) o rest)) went same
+-- behind which entry a walk stands
+pub low_some : (child : Children) (dir n : ℕ) (low : Option Name) (last : Option ℕ) → IsLast child dir low last → last ≡ Some n → (x : Name) × (low ≡ Some x) × (child dir x ≡ Some n)
+low_some child dir n None last h e = let z : ◌≡◌ {A = Option ℕ} None (Some n) = sym h ∙ e in absurd (cc)
+low_some child dir n (Some x) last (m, h, k) e = (x, refl, k ∙ sym h ∙ e)
+
+pub low_none : (child : Children) (dir : ℕ) (low : Option Name) (last : Option ℕ) → IsLast child dir low last → last ≡ None → low ≡ None
+low_none child dir None last h e = refl
+low_none child dir (Some x) last (m, h, k) e = let z : ◌≡◌ {A = Option ℕ} (Some m) None = sym h ∙ e in absurd (cc)
+
+-- after an entry was written
+pub last_visited : (child : Children) (old new : WalkPlace) (x : Name) (m : ℕ) (b : Bool) → child old.dir x ≡ Some m → new ≡ visited old x m b → IsLast child new.dir new.low new.last
+last_visited child old new x m b k went = subst (λ (w : WalkPlace). IsLast child w.dir w.low w.last) (sym went) (go b)
+  where
+    go : (c : Bool) → IsLast child (visited old x m c).dir (visited old x m c).low (visited old x m c).last
+    go true = refl
+    go false = (m, refl, k)
+
+-- after a step up
+last_step : (g : forest.Slots) (n : ℕ) (steps : List Step) (s : Step) (dir : ℕ) → Leads g n (steps ++ s ∷ []) dir → child g s.dir s.name ≡ Some dir
+last_step g n [] s dir (e, m, c, l) = ap (λ (k : ℕ). child g k s.name) (sym e) ∙ c ∙ ap Some l
+last_step g n (t ∷ steps) s dir (e, m, c, l) = last_step g m steps s dir l
+
+pub last_up : (st : Seen) → IsReal st → (old new : WalkPlace) (more : Bool) → Leads (forest_of st) 0 old.above old.dir → IsLast st.graph.child old.dir old.low old.last → IsUp old new more → IsLast st.graph.child new.dir new.low new.last
+last_up st real old new false l last u = subst (λ (w : WalkPlace). IsLast st.graph.child w.dir w.low w.last) (sym u.1) last
+last_up st real old new true l last u =
+    let s : Step = u.0 in
+    let above : Leads (forest_of st) 0 (new.above ++ s ∷ []) old.dir = subst (λ (z : List Step). Leads (forest_of st) 0 z old.dir) u.1 l in
+    let child : st.graph.child new.dir s.name ≡ Some old.dir = ap (λ (d : ℕ). st.graph.child d s.name) u.2 ∙ sym (named_child st real s.dir s.name) ∙ last_step (forest_of st) 0 new.above s old.dir above in
+    subst (λ (o : Option Name). IsLast st.graph.child new.dir o new.last) (sym u.3) (old.dir, u.4, child)
 
 pub kept_after : (before added kept old new : List ℕ) (text : List ℕ) → kept ≡ before ++ added → before ≡ old → added ≡ new ++ text → new ≡ [] → kept ≡ old ++ text
 kept_after before added kept old new text a b c d = a ∙ ap (λ (z : List ℕ). z ++ added) b ∙ ap (λ (z : List ℕ). old ++ z) (c ∙ ap (λ (z : List ℕ). z ++ text) d)

@@ -1,13 +1,13 @@
 //! Trees as they are written.
 
-ghost use Rattle.std.specs.Prelude.{◌≡◌, ◌++◌, ◌∷◌, [], Some, None, IsTrue, IfOk, OnOk, OnErr, codes, false, true};
-ghost use Rattle.fs_names.specs.Shapes.{is_there, is_dir};
+ghost use Rattle.std.specs.Prelude.{◌≡◌, ◌++◌, ◌∷◌, [], Some, None, IsTrue, IfOk, OnOk, OnErr, option_map, codes, false, true};
+ghost use Rattle.fs_names.specs.Shapes.{is_there, is_dir, names_of};
 ghost use Rattle.fs_nodes.specs.Seen.{seen, IsReal};
-ghost use Rattle.fs_nodes.specs.Stores.{graph_of, shape, child};
+ghost use Rattle.fs_nodes.specs.Stores.{graph_of, shape, child, next_entry, IsNextName};
 ghost use Rattle.std.specs.List.{flat_map};
 ghost use Rattle.fs_text.specs.Words.{escaped, path_word};
 ghost use Rattle.fs_script.specs.TreeText.{tree_text, AppendsTree};
-ghost use Rattle.fs_script.specs.code.Walks.{WalkPlace, forest_of, key_above, Leads, Steps, IsUp, visited, row_text, node_seen, text_at, pending_at, at_root};
+ghost use Rattle.fs_script.specs.code.Walks.{WalkPlace, forest_of, key_above, Leads, IsLast, Steps, IsUp, visited, row_text, node_seen, text_at, pending_at, at_root};
 ghost use Rattle.fs_seq.specs.code.Slots.{tree_of};
 
 use fs_names::Name;
@@ -24,12 +24,14 @@ pub(crate) struct Step {
     pub(crate) name: Name,
 }
 
-/// A walk through the nodes in the order of their keys. It stands at a directory, behind the entry `low`.
+/// A walk through the nodes in the order of their keys. It stands at a directory, behind the entry `low`, whose node is
+/// `last`: so the next entry is found without a look at those before it.
 #[derive(Drop)]
 pub(crate) struct Walk {
     above: Vec<Step>,
     dir: NodeNo,
     low: Option<Name>,
+    last: Option<NodeNo>,
 }
 
 impl Model for Walk {
@@ -37,7 +39,7 @@ impl Model for Walk {
 
     ghost Value = { WalkPlace };
 
-    ghost view = { λ w. record { above = w.above.items; dir = w.dir; low = w.low } };
+    ghost view = { λ w. record { above = w.above.items; dir = w.dir; low = w.low; last = w.last } };
 }
 
 /// The names of some steps, each behind a slash.
@@ -95,12 +97,13 @@ fn push_row(
 impl Walk {
     /// At the root, before its first entry.
     fn new(alloc: Global) -> Walk
-        ensures { result ≡ record { above = []; dir = 0; low = None } }
+        ensures { result ≡ record { above = []; dir = 0; low = None; last = None } }
     {
         Walk {
             above: Vec::new(alloc),
             dir: NodeNo::new(0),
             low: None,
+            last: None,
         }
     }
 
@@ -116,6 +119,7 @@ impl Walk {
             Ok(()) => {
                 self.dir = node;
                 self.low = None;
+                self.last = None;
                 Ok(())
             }
             Err(_) => Err(AllocError),
@@ -141,6 +145,7 @@ impl Walk {
             return self.go_down(name, node);
         }
         self.low = Some(name);
+        self.last = Some(node);
         Ok(())
     }
 
@@ -150,11 +155,25 @@ impl Walk {
     {
         match self.above.pop() {
             Some(step) => {
+                self.last = Some(self.dir);
                 self.dir = step.dir;
                 self.low = Some(step.name);
                 true
             }
             None => false,
+        }
+    }
+
+    /// The next entry of the directory.
+    fn next(&self, store: &Store) -> Option<(Name, NodeNo)>
+        requires { IsLast (child store.now) self.now.dir self.now.low self.now.last }
+        ensures entry { result ≡ next_entry (graph_of store.now) self.now.dir self.now.low }
+        ensures rest { IsNextName (names_of (shape store.now self.now.dir)) self.now.low (option_map (λ entry. entry.0) result) }
+        ensures real { IsReal (seen store.now) }
+    {
+        match self.last {
+            Some(node) => store.next_entry_after(node),
+            None => store.next_name(self.dir, None),
         }
     }
 
@@ -165,12 +184,14 @@ impl Walk {
         store: &Store,
         line: &mut Addition,
     ) -> Result<bool, AllocError>
-        requires { Leads (forest_of (seen store.now)) 0 self.old.above self.old.dir }
+        requires leads { Leads (forest_of (seen store.now)) 0 self.old.above self.old.dir }
+        requires last { IsLast (child store.now) self.old.dir self.old.low self.old.last }
         ensures ok { IfOk result (Steps (forest_of (seen store.now)) self.old line.old.added self.new line.new.added) }
+        ensures last { OnOk result (IsLast (child store.now) self.new.dir self.new.low self.new.last) }
         ensures before { line.new.before ≡ line.old.before }
         ensures real { IsReal (seen store.now) }
     {
-        match store.next_name(self.dir, self.low.as_ref()) {
+        match self.next(store) {
             Some((name, node)) => {
                 self.visit(alloc, store, name, node, line)?;
                 Ok(true)

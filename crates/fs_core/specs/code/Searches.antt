@@ -1,16 +1,12 @@
 -- Which walking calls are below a node, and which of them is to be helped.
 use Rattle.std.specs.Prelude.{ℕ, ◌≡◌, ◌<◌, ◌≤◌, nat_lt, Bool, true, false, List, Option, Some, None, option_map, slice_get}
 use Rattle.fs_names.specs.Keys.{Key}
-use Rattle.fs_nodes.specs.Graphs.{Graph, Children, at, numbers, IsGraph}
+use Rattle.fs_nodes.specs.Graphs.{Graph, Children, numbers, IsGraph, IsReached}
 use Rattle.fs_nodes.specs.Places.{Places}
 use Rattle.fs_nodes.specs.Stores.{graph_of}
 use Rattle.fs_core.specs.Machines.{number_on}
 use Rattle.fs_core.specs.declared.seat.Running.{Running}
 use Rattle.fs_core.specs.code.Rooms.{is_walking, AreBelow}
-
--- a node is another one, or is reached from it
-abbrev pub IsReached : Children → ℕ → ℕ → Type 0
-IsReached children s n = (key : Key) × (at children s key ≡ Some n)
 
 -- the position of a walking call
 abbrev pub position_if : Bool → Running → Option ℕ

@@ -1,26 +1,30 @@
 -- What holds of the graph, the seats and the numbers, in every state of a run.
-use Rattle.std.proofs.Common.{◌≡◌, ℕ, ◌<◌, ◌≤◌, Bool, true, false, cond, IsTrue, [], ◌∷◌, ◌++◌, Option, Some, None, refl, sym, ap, ◌∙◌, subst, ◌⊎◌, inl, inr, arith, rules}
+use Rattle.std.proofs.Common.{◌≡◌, ℕ, ◌<◌, ◌≤◌, Bool, true, false, cond, IsTrue, [], ◌∷◌, ◌++◌, Option, Some, None, refl, sym, ap, ◌∙◌, subst, ◌⊎◌, inl, inr, arith, append_assoc, rules}
 use Rattle.std.specs.Prelude.{nat_lt}
 use Rattle.std.proofs.lemmas.Bool.Decides.{nat_tests}
-use Rattle.fs_names.specs.Keys.{Key}
-use Rattle.fs_names.specs.Names.{has_name}
+use Rattle.fs_names.specs.Keys.{Key, after_prefix, parent_of, last_of}
+use Rattle.fs_names.specs.Parts.{HasNames}
+use Rattle.fs_names.specs.Names.{Name, has_name}
 use Rattle.fs_names.specs.Shapes.{Shape, Dir, File, is_there, has_entries}
-use Rattle.fs_calls.specs.Forms.{form, Form, AtNode, AtEntry, AtPair, by_text}
+use Rattle.fs_calls.specs.Forms.{form, Form, AtNode, AtEntry, AtPair, Fits, by_text}
 use Rattle.fs_calls.specs.declared.target.PairCall.TheVariants as pairs
 use Rattle.fs_calls.specs.declared.errno.Errno.{Errno}
+use Rattle.fs_calls.specs.declared.errno.Errno.TheVariants.{Einval}
 use Rattle.fs_calls.specs.declared.reply.Reply.{Reply}
-use Rattle.fs_nodes.specs.Graphs.{Graph, numbers, IsGraph}
+use Rattle.fs_nodes.specs.Graphs.{Graph, at, numbers, IsGraph}
 use Rattle.fs_machine.specs.Leaving.{is_removed}
 use Rattle.fs_machine.specs.Moves.{next, next_by}
 use Rattle.fs_machine.specs.declared.moves.Move.TheVariants.{Finish as Finishes, Return as Ends}
 use Rattle.fs_machine.specs.Records.{Phase, Walking, Placed, Finished, Record, Holdings}
-use Rattle.fs_machine.specs.OpValues.{IsSpare, SpareIf, IsBounded, HeadsApart, CanFinish}
+use Rattle.fs_machine.specs.OpValues.{IsSpare, SpareIf, IsBounded, HeadsApart, MovesApart, CanFinish}
 use Rattle.fs_timeline.specs.Timeline.{begins}
 use Rattle.fs_laws.specs.Invariants.{Invariant}
 use Rattle.fs_laws.specs.CallFacts.{Located}
 use Rattle.fs_machine.specs.States.{State, Run}
-use Rattle.fs_laws.proofs.trees.Prefixes.{same_refl}
-use Rattle.fs_laws.proofs.graphs.Walks.{at_child, eqb_true}
+use Rattle.fs_laws.proofs.trees.Prefixes.{same_refl, prefix_append}
+use Rattle.fs_calls.proofs.RowNames.{if_below}
+use Rattle.fs_laws.proofs.calls.Located.{key_is, from_more, to_more, below_text}
+use Rattle.fs_laws.proofs.graphs.Walks.{at_child, at_from, eqb_true}
 use Rattle.fs_laws.proofs.states.ComputedSteps.{by_ends}
 use Rattle.fs_laws.proofs.events.Return.{ends_nowhere}
 use Rattle.fs_laws.proofs.states.Headline.{run_keeps}
@@ -83,9 +87,47 @@ heads_apart s c op st run is on = go op.remaining
     go (AtEntry e p) = tt
     go (AtPair pairs.Rename p q) = λ same. front_same (inv.key c) st.source.walked st.dest.walked (inv.is_graph.one_key (inv.key c ++ st.source.walked) (inv.key c ++ st.dest.walked) st.source.node loc.source (loc.dest ∙ ap (λ (n : ℕ). Some n) (sym same)))
 
+-- a key that goes on from another one is not beside it
+goes_on : (p way : Key) (x : Name) → if_below (after_prefix p (p ++ (way ++ x ∷ []))) ≡ None → ⊥
+goes_on p [] x e = let z : ◌≡◌ {A = Option Errno} (Some Einval) None = sym (ap if_below (prefix_append p (x ∷ []))) ∙ e in cc
+goes_on p (y ∷ way) x e = let z : ◌≡◌ {A = Option Errno} (Some Einval) None = sym (ap if_below (prefix_append p (y ∷ (way ++ x ∷ [])))) ∙ e in cc
+
+-- a call never stands at the number that it reserved
+pub reserved_other : (s : State) (c : ℕ) (op : Record) (st : Holdings) → Run s → s.ops c ≡ Some op → op.holdings ≡ Some st → op.reserved ≡ Some st.node → ⊥
+reserved_other s c op st run is on e =
+    let inv : Invariant s = run_keeps s run in
+    ((inv.own c op is).spare st.node e).1 (inv.key c) (inv.kept.each c op st is on).located.here
+
+-- from what a rename would move its new directory is not reached: else the old path would be the beginning of the new one
+pub moves_apart : (s : State) (c : ℕ) (op : Record) (st : Holdings) → Run s → s.ops c ≡ Some op → op.holdings ≡ Some st → MovesApart s.graph op.remaining st
+moves_apart s c op st run is on = go op.remaining (inv.kept.each c op st is on).fits
+  where
+    inv : Invariant s
+    inv = run_keeps s run
+
+    loc : Located (numbers s.graph) (inv.key c) st
+    loc = (inv.kept.each c op st is on).located
+
+    reaches : (p q way : Key) (n : ℕ) → st.source.walked ≡ parent_of p → st.dest.walked ≡ parent_of q → HasNames p → s.graph.child st.source.node (last_of p) ≡ Some n → at s.graph.child n way ≡ Some st.dest.node → p ++ way ≡ parent_of q
+    reaches p q way n source dest some child reach =
+        let from : numbers s.graph ((inv.key c ++ st.source.walked) ++ last_of p ∷ []) ≡ Some n = at_child s.graph.child 0 st.source.node (inv.key c ++ st.source.walked) (last_of p) loc.source ∙ child in
+        let to : numbers s.graph (((inv.key c ++ st.source.walked) ++ last_of p ∷ []) ++ way) ≡ Some st.dest.node = at_from s.graph.child 0 n ((inv.key c ++ st.source.walked) ++ last_of p ∷ []) way from ∙ reach in
+        let same : ((inv.key c ++ st.source.walked) ++ last_of p ∷ []) ++ way ≡ inv.key c ++ st.dest.walked = inv.is_graph.one_key (((inv.key c ++ st.source.walked) ++ last_of p ∷ []) ++ way) (inv.key c ++ st.dest.walked) st.dest.node to loc.dest in
+        let split : ((inv.key c ++ st.source.walked) ++ last_of p ∷ []) ++ way ≡ inv.key c ++ ((st.source.walked ++ last_of p ∷ []) ++ way) = ap (λ (k : Key). k ++ way) (append_assoc (inv.key c) st.source.walked (last_of p ∷ [])) ∙ append_assoc (inv.key c) (st.source.walked ++ last_of p ∷ []) way in
+        ap (λ (k : Key). k ++ way) (key_is p some ∙ ap (λ (k : Key). k ++ last_of p ∷ []) (sym source))
+        ∙ front_same (inv.key c) ((st.source.walked ++ last_of p ∷ []) ++ way) st.dest.walked (sym split ∙ same)
+        ∙ dest
+
+    go : (f : Form) → Fits f → MovesApart s.graph f st
+    go (AtNode e p) fits = tt
+    go (AtEntry e p) fits = tt
+    go (AtPair pairs.Rename p q) fits = λ n source dest child (way, reach).
+        let whole : q ≡ p ++ (way ++ last_of q ∷ []) = key_is q (to_more p q fits) ∙ ap (λ (k : Key). k ++ last_of q ∷ []) (sym (reaches p q way n source dest (from_more p q fits) child reach)) ∙ append_assoc p way (last_of q ∷ []) in
+        goes_on p way (last_of q) (ap (λ (k : Key). if_below (after_prefix p k)) (sym whole) ∙ sym (below_text p q (from_more p q fits) (to_more p q fits)) ∙ fits)
+
 -- what a finish needs
 pub can_finish : (s : State) (c : ℕ) (op : Record) (t : Option ℕ) → Run s → s.ops c ≡ Some op → next s.graph op ≡ Finishes t → CanFinish s.graph op.reserved op.remaining op.holdings
-can_finish s c op t run is m = record { spare = spare_reserved s c op run is; heads = λ st on. heads_apart s c op st run is on; bounded = run_bounded s run }
+can_finish s c op t run is m = record { spare = spare_reserved s c op run is; heads = λ st on. heads_apart s c op st run is on; other = λ st on. reserved_other s c op st run is on; apart = λ st on. moves_apart s c op st run is on; bounded = run_bounded s run }
 
 -- who ends is finished and stands nowhere
 pub ends_finished : (s : State) (c : ℕ) (op : Record) → next s.graph op ≡ Ends → (r : Reply) × (op.phase ≡ Finished r) × (op.holdings ≡ None)

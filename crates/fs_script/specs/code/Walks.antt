@@ -47,11 +47,17 @@ node_seen (Some (shapes.File bytes)) = Some (tree.File bytes)
 
 -- ---- where a walk stands
 
--- the steps down from the root, the directory that they lead to, and the entry of it that was written last
+-- the steps down from the root, the directory that they lead to, and the entry of it that was written last, by its name and its node
 pub record WalkPlace : Type 0 where
   pub above : List Step
   pub dir : ℕ
   pub low : Option Name
+  pub last : Option ℕ
+
+-- the node is the one that the entry of the name names
+abbrev pub IsLast : Children → ℕ → Option Name → Option ℕ → Type 0
+IsLast child dir None last = last ≡ None
+IsLast child dir (Some x) last = (n : ℕ) × (last ≡ Some n) × (child dir x ≡ Some n)
 
 abbrev pub key_above : List Step → Key
 key_above [] = []
@@ -99,19 +105,19 @@ Steps g old before new after false = (text_at g (pending_at g old) ≡ []) × (a
 
 -- the walk after an entry was written: down to a directory, or on behind a file
 abbrev pub visited : WalkPlace → Name → ℕ → Bool → WalkPlace
-visited w name node true = record { above = w.above ++ record { dir = w.dir; name = name } ∷ []; dir = node; low = None }
-visited w name node false = record { above = w.above; dir = w.dir; low = Some name }
+visited w name node true = record { above = w.above ++ record { dir = w.dir; name = name } ∷ []; dir = node; low = None; last = None }
+visited w name node false = record { above = w.above; dir = w.dir; low = Some name; last = Some node }
 
 -- the line of a node at a key, where there is one
 abbrev pub row_text : Key → Option Node → List ℕ
 row_text key None = []
 row_text key (Some node) = node_line (key, node)
 
--- one step up by the last of the steps above, or none is above and nothing changed
+-- one step up by the last of the steps above, behind the directory left, or none is above and nothing changed
 abbrev pub IsUp : WalkPlace → WalkPlace → Bool → Type 0
-IsUp old new true = (s : Step) × (old.above ≡ new.above ++ s ∷ []) × (new.dir ≡ s.dir) × (new.low ≡ Some s.name)
+IsUp old new true = (s : Step) × (old.above ≡ new.above ++ s ∷ []) × (new.dir ≡ s.dir) × (new.low ≡ Some s.name) × (new.last ≡ Some old.dir)
 IsUp old new false = (old.above ≡ []) × (new ≡ old)
 
 -- the start of a walk
 abbrev pub at_root : WalkPlace
-at_root = record { above = []; dir = 0; low = None }
+at_root = record { above = []; dir = 0; low = None; last = None }

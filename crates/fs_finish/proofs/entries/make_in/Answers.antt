@@ -1,8 +1,9 @@
-use Rattle.std.proofs.Common.{ap, sym, ◌∙◌, refl}
+use Rattle.std.proofs.Common.{ℕ, Some, ap, sym, ◌∙◌, refl}
 use Rattle.fs_names.specs.Shapes.{is_full}
 use Rattle.fs_nodes.specs.Seen.{seen}
 use Rattle.fs_nodes.specs.Stores.{shape, graph_of}
 use Rattle.fs_calls.specs.Rows.{made}
+use Rattle.fs_nodes.proofs.CycleLemmas.{bare_reaches}
 use Rattle.fs_finish.proofs.EntryLemmas.{row_is, entry_some, some_of}
 use Rattle.fs_finish.proofs.entries.make_in.Goals as goal
 
@@ -23,3 +24,7 @@ link-requires-clause-unlinked c = (c.requires.spare c.in-Some.node c.in-Some.is)
 
 pub link-requires-clause-not_root : goal.link-requires-clause-not_root
 link-requires-clause-not_root c = (c.requires.spare c.in-Some.node c.in-Some.is).not_root
+
+pub link-requires-clause-apart : goal.link-requires-clause-apart
+link-requires-clause-apart c = λ way.
+    c.requires.other (c.in-Some.is ∙ ap (λ (n : ℕ). Some n) (bare_reaches (seen c.args.store.now) c.find.ensures.real c.in-Some.node c.args.dir (c.requires.spare c.in-Some.node c.in-Some.is).empty way))

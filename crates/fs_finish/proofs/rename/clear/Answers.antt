@@ -1,8 +1,9 @@
 use Rattle.std.proofs.Common.{IsTrue, ap, sym, subst, ◌∙◌}
 use Rattle.fs_names.specs.Shapes.{is_dir}
-use Rattle.fs_nodes.specs.Graphs.{Graph, moved_in}
+use Rattle.fs_nodes.specs.Graphs.{Graph, moved_in, IsReached}
+use Rattle.fs_nodes.proofs.CycleLemmas.{reached_less}
 use Rattle.fs_nodes.specs.Seen.{Seen, seen}
-use Rattle.fs_nodes.specs.Stores.{graph_of}
+use Rattle.fs_nodes.specs.Stores.{graph_of, child}
 use Rattle.fs_finish.proofs.MoveLemmas.{entry_gone, entry_stays, dir_stays, moves_again}
 use Rattle.fs_finish.proofs.rename.clear.Goals as goal
 
@@ -17,3 +18,7 @@ returns-then-is_some-clause-others c d x apart = ap (λ (g : Graph). g.child d x
 
 pub returns-then-is_some-clause-moves : goal.returns-then-is_some-clause-moves
 returns-then-is_some-clause-moves c from x n = ap (moved_in from x c.args.dir c.args.name.now n) (ap (λ (s : Seen). s.graph) c.unlink.ensures.change) ∙ moves_again (seen c.args.store.now) c.find.ensures.real from x c.args.dir c.args.name.now n
+
+pub returns-then-is_some-clause-fewer : goal.returns-then-is_some-clause-fewer
+returns-then-is_some-clause-fewer c n m way =
+    reached_less (child c.args.store.now) c.args.dir c.args.name.now n m (subst (λ (g : Graph). IsReached g.child n m) (ap (λ (s : Seen). s.graph) c.unlink.ensures.change) way)

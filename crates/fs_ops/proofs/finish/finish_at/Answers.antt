@@ -1,9 +1,10 @@
-use Rattle.std.proofs.Common.{ap, ◌∙◌, arith, refl, ◌≡◌}
+use Rattle.std.proofs.Common.{ℕ, Some, ap, sym, ◌∙◌, arith, refl, ◌≡◌}
 use Rattle.fs_nodes.specs.Seen.{Seen}
 use Rattle.fs_nodes.specs.Stores.{graph_of}
 use Rattle.fs_calls.specs.code.Targets.{form_of, node_call}
 use Rattle.fs_walk.specs.declared.head.Head as count
-use Rattle.fs_ops.proofs.FinishLemmas.{on_arm, in_arm, forked_here, apart_by, rename_by}
+use Rattle.fs_ops.proofs.FinishLemmas.{on_arm, in_arm, forked_here, apart_by, below_by, rename_by}
+use Rattle.fs_ops.proofs.TookLemmas.{holdings_node}
 use Rattle.fs_calls.specs.Forms.{AtPair}
 use Rattle.fs_calls.specs.declared.target.PairCall.{PairCall}
 use Rattle.fs_calls.specs.declared.target.PairCall.TheVariants as pairs
@@ -28,6 +29,15 @@ pub finish_rename-requires-clause-apart : goal.finish_rename-requires-clause-apa
 finish_rename-requires-clause-apart c n =
     apart_by c.args.walk.now c.args.node c.args.fork.now c.args.victim (form_of c.args.aim) c.in-Pair-Rename-default-default.path.now c.in-Pair-Rename-default-default.new_path.now (ap form_of c.in-Pair-Rename-default-default.is ∙ ap (λ (k : PairCall). AtPair k c.in-Pair-Rename-default-default.path.now c.in-Pair-Rename-default-default.new_path.now) (only_rename c.in-Pair-Rename-default-default.field-0)) c.requires.names c.requires.arrived c.requires.node c.requires.forks
     c.walked.result c.source_of.result c.dest_of.result c.walked.ensures.walked (c.requires.can.heads _ refl) (c.source_of.ensures c.args.walk.now.names) (c.dest_of.ensures c.args.walk.now.names) n
+
+pub finish_rename-requires-clause-below : goal.finish_rename-requires-clause-below
+finish_rename-requires-clause-below c =
+    below_by (graph_of c.args.store.now) c.args.walk.now c.args.node c.args.fork.now c.args.victim (form_of c.args.aim) c.in-Pair-Rename-default-default.path.now c.in-Pair-Rename-default-default.new_path.now (ap form_of c.in-Pair-Rename-default-default.is ∙ ap (λ (k : PairCall). AtPair k c.in-Pair-Rename-default-default.path.now c.in-Pair-Rename-default-default.new_path.now) (only_rename c.in-Pair-Rename-default-default.field-0)) c.requires.names c.requires.arrived c.requires.node c.requires.forks
+    c.walked.result c.source_of.result c.dest_of.result c.walked.ensures.walked (c.requires.can.apart _ refl) (c.source_of.ensures c.args.walk.now.names) (c.dest_of.ensures c.args.walk.now.names)
+
+pub finish_in-requires-clause-other : goal.finish_in-requires-clause-other
+finish_in-requires-clause-other c e =
+    c.requires.can.other _ refl (e ∙ ap (λ (n : ℕ). Some n) (sym (holdings_node (form_of c.args.aim) c.args.node c.args.walk.now.behind c.args.fork.now c.args.victim)))
 
 pub returns-in-Pair-Rename-default-default-clause-made : goal.returns-in-Pair-Rename-default-default-clause-made
 returns-in-Pair-Rename-default-default-clause-made c =

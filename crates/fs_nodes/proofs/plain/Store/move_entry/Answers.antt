@@ -19,7 +19,7 @@ found c = rw c.deref.ensures.value at (sym c.find_in.ensures) ∙ c.unwrap-node.
 made : (c : goal.After-self-1) → Makes c.self.inside.limit (set c.self.inside.places.items c.unwrap-node.result c.relink.new.place) (moved_in c.args.from c.args.name.now c.args.to c.args.new_name.now c.unwrap-node.result (graph_in c.self.inside.places.items))
 unfolding graph_of limit_of room
 made c = move_edit c.self.inside.limit c.self.inside.places.items c.unwrap-node.result c.args.from c.args.name.now c.args.to c.args.new_name.now c.index_mut.result.now c.relink.new.place c.self.invariant
-    (found c) (rw (← c.self.view_is) at c.requires.dir) (rw (← c.self.view_is) at c.requires.absent) c.index_mut.ensures.value (rw c.copy.ensures at c.relink.ensures)
+    (found c) (rw (← c.self.view_is) at c.requires.dir) (rw (← c.self.view_is) at c.requires.absent) (rw (← c.self.view_is, found c) at c.requires.apart) c.index_mut.ensures.value (rw c.copy.ensures at c.relink.ensures)
 
 pub invariant_of-self : goal.invariant_of-self
 unfolding graph_of limit_of room
