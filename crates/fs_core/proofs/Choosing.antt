@@ -14,7 +14,7 @@ use Rattle.fs_laws.proofs.states.Headline.{run_keeps}
 use Rattle.fs_laws.proofs.graphs.Walks.{at_from}
 use Rattle.fs_core.specs.declared.seat.Running.{Running}
 use Rattle.fs_core.specs.code.Helping.{Helps}
-use Rattle.fs_core.specs.Machines.{Machine, state_of, number_on, records}
+use Rattle.fs_core.specs.CoreValues.{CoreValue, state_of, number_on, records}
 use Rattle.fs_core.specs.code.Rooms.{AreBelow, IsKept}
 use Rattle.fs_core.specs.code.Searches.{position_of, IsUnder, IsAlone, IsLowestOn, HasLeast, CanSearch}
 use Rattle.fs_core.proofs.Below.{key_within}
@@ -53,7 +53,7 @@ walks_by None (Some r) e = cc
 walks_by (Some i) (Some r) e = cc
 
 -- on its seat and by its number
-pub under_walks : (m : Machine) (s seat : ℕ) → Run (state_of m) → (u : IsUnder (child m.store) m.seats s seat) → IsWalkingBelow (state_of m) s u.running.call
+pub under_walks : (m : CoreValue) (s seat : ℕ) → Run (state_of m) → (u : IsUnder (child m.store) m.seats s seat) → IsWalkingBelow (state_of m) s u.running.call
 under_walks m s seat run u =
     let w : Walks u.running u.node = walks_at u.running u.node u.position in (
       record_of seat u.running.place u.running.op,
@@ -62,12 +62,12 @@ under_walks m s seat run u =
       (w.holdings, u.reached.0, w.on, u.reached.1 ∙ ap (λ (n : ℕ). Some n) (sym w.here)),
     )
 
-pub record Found (m : Machine) (s d : ℕ) : Type 0 where
+pub record Found (m : CoreValue) (s d : ℕ) : Type 0 where
   pub seat : ℕ
   pub under : IsUnder (child m.store) m.seats s seat
   pub number : under.running.call ≡ d
 
-pub walks_under : (m : Machine) (s d : ℕ) → IsWalkingBelow (state_of m) s d → Found m s d
+pub walks_under : (m : CoreValue) (s d : ℕ) → IsWalkingBelow (state_of m) s d → Found m s d
 walks_under m s d (op, is, phase, (st, key, on, here)) =
     let c : Comes 0 m.seats d op = record_comes m.seats d op is in
     let w : (c.running.place ≡ None) × (c.running.op.reply ≡ None) = walks_by c.running.place c.running.op.reply (sym (ap (λ (o : Record). o.phase) c.is) ∙ phase) in
@@ -78,17 +78,17 @@ walks_under m s d (op, is, phase, (st, key, on, here)) =
     }
 
 -- the records of one number, and the calls of one seat
-same_record : (m : Machine) (d : ℕ) (op q : Record) → records m.seats d ≡ Some op → records m.seats d ≡ Some q → op ≡ q
+same_record : (m : CoreValue) (d : ℕ) (op q : Record) → records m.seats d ≡ Some op → records m.seats d ≡ Some q → op ≡ q
 same_record m d op q e f = let z : ◌≡◌ {A = Option Record} (Some op) (Some q) = sym e ∙ f in cc
 
 same_holdings : (op : Record) (st other : Holdings) → op.holdings ≡ Some st → op.holdings ≡ Some other → st ≡ other
 same_holdings op st other e f = let z : ◌≡◌ {A = Option Holdings} (Some st) (Some other) = sym e ∙ f in cc
 
-same_running : (m : Machine) (seat : ℕ) (r q : Running) → slice_get m.seats seat ≡ Some (Some r) → slice_get m.seats seat ≡ Some (Some q) → r ≡ q
+same_running : (m : CoreValue) (seat : ℕ) (r q : Running) → slice_get m.seats seat ≡ Some (Some r) → slice_get m.seats seat ≡ Some (Some q) → r ≡ q
 same_running m seat r q e f = let z : ◌≡◌ {A = Option (Option Running)} (Some (Some r)) (Some (Some q)) = sym e ∙ f in cc
 
 -- a lowest call on its seat and by its number
-pub lowest_walks : (m : Machine) (s seat : ℕ) → Run (state_of m) → (l : IsLowestOn (child m.store) m.seats s seat) → IsLowest (state_of m) s l.under.running.call
+pub lowest_walks : (m : CoreValue) (s seat : ℕ) → Run (state_of m) → (l : IsLowestOn (child m.store) m.seats s seat) → IsLowest (state_of m) s l.under.running.call
 lowest_walks m s seat run l = (under_walks m s seat run l.under, other)
   where
     u : IsUnder (child m.store) m.seats s seat
@@ -105,12 +105,12 @@ lowest_walks m s seat run l = (under_walks m s seat run l.under, other)
         l.alone f.seat (λ i. differs (ap (λ (r : Running). r.call) (same_running m f.seat u.running f.under.running (subst (λ (j : ℕ). slice_get m.seats j ≡ Some (Some u.running)) i u.on) f.under.on) ∙ f.number))
         (subst (λ (n : ℕ). IsUnder (child m.store) m.seats n f.seat) (ap (λ (t : Holdings). t.node) y ∙ w.here) f.under)
 
-pub record FoundLowest (m : Machine) (s d : ℕ) : Type 0 where
+pub record FoundLowest (m : CoreValue) (s d : ℕ) : Type 0 where
   pub seat : ℕ
   pub lowest : IsLowestOn (child m.store) m.seats s seat
   pub number : number_on m.seats seat ≡ Some d
 
-pub walks_lowest : (m : Machine) (s d : ℕ) → Run (state_of m) → IsLowest (state_of m) s d → FoundLowest m s d
+pub walks_lowest : (m : CoreValue) (s d : ℕ) → Run (state_of m) → IsLowest (state_of m) s d → FoundLowest m s d
 walks_lowest m s d run l =
     record { seat = f.seat; lowest = record { under = f.under; alone = alone }; number = number_read m.seats f.seat (Some f.under.running) f.under.on ∙ ap (λ (n : ℕ). Some n) f.number }
   where
@@ -127,7 +127,7 @@ walks_lowest m s d run l =
         (subst (λ (n : ℕ). IsWalkingBelow (state_of m) n u.running.call) (sym w.here) (under_walks m f.under.node k run u))
 
 -- where no call is lowest, none is below: else one of them would be deepest
-pub none_below : (m : Machine) (s : ℕ) → Run (state_of m) → AreBelow (graph_of m.store) (room m.holding) → ((e : ℕ) → IsLowest (state_of m) s e → ⊥) → (d : ℕ) → IsWalkingBelow (state_of m) s d → ⊥
+pub none_below : (m : CoreValue) (s : ℕ) → Run (state_of m) → AreBelow (graph_of m.store) (room m.holding) → ((e : ℕ) → IsLowest (state_of m) s e → ⊥) → (d : ℕ) → IsWalkingBelow (state_of m) s d → ⊥
 none_below m s run roomy none d below = go (room m.holding) d below (omega arith)
   where
     inv : Invariant (state_of m)
@@ -163,7 +163,7 @@ none_below m s run roomy none d below = go (room m.holding) d below (omega arith
     )
 
 -- what a search needs
-pub can_search : (m : Machine) (b k p : ℕ) → IsKept m b k p → CanSearch m.store m.seats (room m.holding)
+pub can_search : (m : CoreValue) (b k p : ℕ) → IsKept m b k p → CanSearch m.store m.seats (room m.holding)
 can_search m b k p kept = record {
   graph = inv.is_graph;
   within = kept.roomy;
@@ -180,7 +180,7 @@ can_search m b k p kept = record {
         (inv.key r.call, (inv.kept.each r.call (record_of seat r.place r.op) w.holdings (call_on m seat r kept.run e) w.on).located.here ∙ ap (λ (x : ℕ). Some x) w.here)
 
 -- what it finds
-pub chosen_by : (m : Machine) (s seat : ℕ) → Run (state_of m) → HasLeast (child m.store) m.seats s (length m.seats) (Some seat) → Helps m s seat
+pub chosen_by : (m : CoreValue) (s seat : ℕ) → Run (state_of m) → HasLeast (child m.store) m.seats s (length m.seats) (Some seat) → Helps m s seat
 chosen_by m s seat run h =
     let l : IsLowestOn (child m.store) m.seats s seat = h.1 in
     let w : Walks l.under.running l.under.node = walks_at l.under.running l.under.node l.under.position in
@@ -197,18 +197,18 @@ chosen_by m s seat run h =
       );
     }
 
-pub none_by : (m : Machine) (s : ℕ) → Run (state_of m) → AreBelow (graph_of m.store) (room m.holding) → HasLeast (child m.store) m.seats s (length m.seats) None → NoneBelow (state_of m) (Some s)
+pub none_by : (m : CoreValue) (s : ℕ) → Run (state_of m) → AreBelow (graph_of m.store) (room m.holding) → HasLeast (child m.store) m.seats s (length m.seats) None → NoneBelow (state_of m) (Some s)
 none_by m s run roomy h = none_below m s run roomy (λ e low.
     let f : FoundLowest m s e = walks_lowest m s e run low in
     h f.seat (under_within (child m.store) m.seats s f.seat f.lowest.under) f.lowest)
 
-pub helps_by : (m : Machine) (b k p s : ℕ) → IsKept m b k p → (o : Option ℕ) → HasLeast (child m.store) m.seats s (length m.seats) o → MatchOption o (NoneBelow (state_of m) (Some s)) (λ other. Helps m s other)
+pub helps_by : (m : CoreValue) (b k p s : ℕ) → IsKept m b k p → (o : Option ℕ) → HasLeast (child m.store) m.seats s (length m.seats) o → MatchOption o (NoneBelow (state_of m) (Some s)) (λ other. Helps m s other)
 helps_by m b k p s kept None h = none_by m s kept.run kept.roomy h
 helps_by m b k p s kept (Some seat) h = chosen_by m s seat kept.run h
 
 -- the same of a list that the seats are
-pub search_by : (m : Machine) (b k p : ℕ) (seats : List (Option Running)) (bound : ℕ) → IsKept m b k p → seats ≡ m.seats → bound ≡ room m.holding → CanSearch m.store seats bound
+pub search_by : (m : CoreValue) (b k p : ℕ) (seats : List (Option Running)) (bound : ℕ) → IsKept m b k p → seats ≡ m.seats → bound ≡ room m.holding → CanSearch m.store seats bound
 search_by m b k p seats bound kept e f = subst (λ (xs : List (Option Running)). CanSearch m.store xs bound) (sym e) (subst (λ (n : ℕ). CanSearch m.store m.seats n) (sym f) (can_search m b k p kept))
 
-pub helped_by : (m : Machine) (b k p s : ℕ) (seats : List (Option Running)) → IsKept m b k p → seats ≡ m.seats → (o : Option ℕ) → HasLeast (child m.store) seats s (length seats) o → MatchOption o (NoneBelow (state_of m) (Some s)) (λ other. Helps m s other)
+pub helped_by : (m : CoreValue) (b k p s : ℕ) (seats : List (Option Running)) → IsKept m b k p → seats ≡ m.seats → (o : Option ℕ) → HasLeast (child m.store) seats s (length seats) o → MatchOption o (NoneBelow (state_of m) (Some s)) (λ other. Helps m s other)
 helped_by m b k p s seats kept e o h = helps_by m b k p s kept o (subst (λ (xs : List (Option Running)). HasLeast (child m.store) xs s (length xs) o) e h)

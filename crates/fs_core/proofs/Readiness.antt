@@ -26,7 +26,7 @@ use Rattle.fs_laws.proofs.states.Headline.{run_keeps}
 use Rattle.fs_laws.proofs.graphs.Walks.{eqb_refl, eqb_true}
 use Rattle.fs_core.specs.Events.{HasRoom}
 use Rattle.fs_core.specs.declared.seat.Running.{Running}
-use Rattle.fs_core.specs.Machines.{Machine, state_of, number_on, number_of, records}
+use Rattle.fs_core.specs.CoreValues.{CoreValue, state_of, number_on, number_of, records}
 use Rattle.fs_core.specs.code.Rooms.{AreBelow, walking, walking_at, owed_at, owed, IsKept}
 use Rattle.fs_core.proofs.SeatLemmas.{records_begun, records_more, numbers_set, numbers_more, number_read, owed_set, owed_more, walking_set, walking_more}
 use Rattle.fs_core.proofs.States.{same_state, begins_more, commits_begin}
@@ -92,7 +92,7 @@ cancel_graph graph new last limit call w b e = go (reserves (form call)) b
     go (Some shape) (m, less, free, is_w, is_new) = e ∙ ap (λ (x : OpValue). unreserved x.reserved new) is_w ∙ ap (released_in m) is_new ∙ unreserve graph m shape free
 
 -- a begin that is refused
-pub refused_same : (m : Machine) (b k p : ℕ) → IsKept m b k p → (st : Places) (hs : Holding) → graph_of st ≡ graph_of m.store → (seen st).limit ≡ (seen m.store).limit → holder hs ≡ holder m.holding → room m.holding ≤ room hs
+pub refused_same : (m : CoreValue) (b k p : ℕ) → IsKept m b k p → (st : Places) (hs : Holding) → graph_of st ≡ graph_of m.store → (seen st).limit ≡ (seen m.store).limit → holder hs ≡ holder m.holding → room m.holding ≤ room hs
     → (state_of (record m { store = st; holding = hs }) ≡ state_of m) × IsKept (record m { store = st; holding = hs }) b k p
 refused_same m b k p kept st hs graph limit is_hs more = (
   same,
@@ -110,18 +110,18 @@ refused_same m b k p kept st hs graph limit is_hs more = (
     same : state_of (record m { store = st; holding = hs }) ≡ state_of m
     same = same_state _ _ _ _ _ _ _ _ _ _ _ limit graph is_hs refl refl
 
-pub seat_busy_step : (m : Machine) (seat : ℕ) (call : Call) (slot : Option Running) → seat < length m.seats → slot ≡ get_or m.seats seat slot → IsSome slot → Begins (state_of m) seat call (Err SeatBusy) (state_of m)
+pub seat_busy_step : (m : CoreValue) (seat : ℕ) (call : Call) (slot : Option Running) → seat < length m.seats → slot ≡ get_or m.seats seat slot → IsSome slot → Begins (state_of m) seat call (Err SeatBusy) (state_of m)
 seat_busy_step m seat call slot within read some = go slot refl some
   where
     go : (o : Option Running) → slot ≡ o → IsSome o → Begins (state_of m) seat call (Err SeatBusy) (state_of m)
     go None e h = cc
     go (Some r) e h = (r.call, number_read m.seats seat slot (slice_get_read m.seats _ seat slot refl within read) ∙ ap number_of e, refl)
 
-pub free_seat : (m : Machine) (seat : ℕ) (slot : Option Running) → seat < length m.seats → slot ≡ get_or m.seats seat slot → slot ≡ None → slice_get m.seats seat ≡ Some None
+pub free_seat : (m : CoreValue) (seat : ℕ) (slot : Option Running) → seat < length m.seats → slot ≡ get_or m.seats seat slot → slot ≡ None → slice_get m.seats seat ≡ Some None
 free_seat m seat slot within read is = slice_get_read m.seats _ seat slot refl within read ∙ ap (λ (o : Option Running). Some o) is
 
 -- a call that begins
-begun_roomy : (m : Machine) (b k p : ℕ) → IsKept m b k p → (call : Call) (st : Places) (hs : Holding) (w : OpValue) (o : Option Shape) → BegunAs (graph_of m.store) (seen m.store).limit call o w (graph_of st) → HasRoom w.reserved hs → room m.holding ≤ room hs → AreBelow (graph_of st) (room hs)
+begun_roomy : (m : CoreValue) (b k p : ℕ) → IsKept m b k p → (call : Call) (st : Places) (hs : Holding) (w : OpValue) (o : Option Shape) → BegunAs (graph_of m.store) (seen m.store).limit call o w (graph_of st) → HasRoom w.reserved hs → room m.holding ≤ room hs → AreBelow (graph_of st) (room hs)
 begun_roomy m b k p kept call st hs w None (is_w, is_new) has more n s e = let less : n < room m.holding = kept.roomy n s (ap (λ (g : Graph). g.shape n) (sym is_new) ∙ e) in omega (arith, less, more)
 begun_roomy m b k p kept call st hs w (Some shape) (c, below, free, is_w, is_new) has more n s e = go (eqb n c) refl (ap (λ (g : Graph). g.shape n) (sym is_new) ∙ e)
   where
@@ -129,7 +129,7 @@ begun_roomy m b k p kept call st hs w (Some shape) (c, below, free, is_w, is_new
     go true f g = subst (λ (x : ℕ). x < room hs) (sym (eqb_true n c f)) (has c (ap (λ (x : OpValue). x.reserved) is_w))
     go false f g = let less : n < room m.holding = kept.roomy n s g in omega (arith, less, more)
 
-pub begun_kept : (m : Machine) (b k p seat : ℕ) (call : Call) → IsKept m b k p → slice_get m.seats seat ≡ Some None
+pub begun_kept : (m : CoreValue) (b k p seat : ℕ) (call : Call) → IsKept m b k p → slice_get m.seats seat ≡ Some None
     → (st : Places) (hs : Holding) (w : OpValue) (number : ℕ) (copy : Call) (slot : Option Running) → BegunAs (graph_of m.store) (seen m.store).limit call (reserves (form call)) w (graph_of st) → (seen st).limit ≡ (seen m.store).limit
     → holder hs ≡ holder m.holding → room m.holding ≤ room hs → HasRoom w.reserved hs → number ≡ b + 1 → number < CALL_LIMIT → copy ≡ call → slot ≡ Some (record { call = number; place = None; op = w })
     → Begins (state_of m) seat call (Ok number) (state_of (record m { store = st; holding = hs; seats = slice_set m.seats seat slot; timeline = m.timeline ++ Begin number seat copy ∷ [] })) × IsKept (record m { store = st; holding = hs; seats = slice_set m.seats seat slot; timeline = m.timeline ++ Begin number seat copy ∷ [] }) number k (p + 3 - 1)
@@ -146,7 +146,7 @@ begun_kept m b k p seat call kept free st hs w number copy slot begun limit is_h
   },
 )
   where
-    M : Machine
+    M : CoreValue
     M = record m { store = st; holding = hs; seats = slice_set m.seats seat slot; timeline = m.timeline ++ Begin number seat copy ∷ [] }
 
     fresh : (o : Option Shape) → BegunAs (graph_of m.store) (seen m.store).limit call o w (graph_of st) → w.reply ≡ None
@@ -180,7 +180,7 @@ begun_kept m b k p seat call kept free st hs w number copy slot begun limit is_h
     step = (number_read m.seats seat None free, counted, reserve (reserves (form call)) begun)
 
 -- a seat more
-pub seat_kept : (m : Machine) (b k p : ℕ) → IsKept m b k p → (seats : List (Option Running)) → seats ≡ m.seats ++ None ∷ [] → (state_of (record m { seats = seats }) ≡ state_of m) × IsKept (record m { seats = seats }) b k p
+pub seat_kept : (m : CoreValue) (b k p : ℕ) → IsKept m b k p → (seats : List (Option Running)) → seats ≡ m.seats ++ None ∷ [] → (state_of (record m { seats = seats }) ≡ state_of m) × IsKept (record m { seats = seats }) b k p
 seat_kept m b k p kept seats is = (
   same,
   record {
@@ -224,7 +224,7 @@ new_kept st hs limit one graph is_limit is_hs has = (
     same = same_state _ _ _ _ _ _ _ _ _ _ _ is_limit graph is_hs refl (fun_ext (λ n. refl))
 
 -- the same by the seat's number, and by the counter
-pub begun_by : (m : Machine) (b k p at seat : ℕ) (call : Call) → IsKept m b k p → at ≡ seat → (old : Option Running) → seat < length m.seats → old ≡ get_or m.seats at old → old ≡ None
+pub begun_by : (m : CoreValue) (b k p at seat : ℕ) (call : Call) → IsKept m b k p → at ≡ seat → (old : Option Running) → seat < length m.seats → old ≡ get_or m.seats at old → old ≡ None
     → (st : Places) (hs : Holding) (w : OpValue) (number last : ℕ) (copy : Call) (slot : Option Running) → BegunAs (graph_of m.store) (seen m.store).limit call (reserves (form call)) w (graph_of st) → (seen st).limit ≡ (seen m.store).limit
     → holder hs ≡ holder m.holding → room m.holding ≤ room hs → HasRoom w.reserved hs → number ≡ last → last ≡ b + 1 → last < CALL_LIMIT → copy ≡ call → slot ≡ Some (record { call = number; place = None; op = w })
     → Begins (state_of m) seat call (Ok number) (state_of (record m { store = st; holding = hs; seats = slice_set m.seats at slot; timeline = m.timeline ++ Begin number seat copy ∷ [] })) × IsKept (record m { store = st; holding = hs; seats = slice_set m.seats at slot; timeline = m.timeline ++ Begin number seat copy ∷ [] }) last k (p + 3 - 1)
@@ -233,7 +233,7 @@ begun_by m b k p at seat call kept e old within read is_free st hs w number last
     (subst (λ (l : ℕ). Begins (state_of m) at call (Ok number) (state_of (record m { store = st; holding = hs; seats = slice_set m.seats at slot; timeline = m.timeline ++ Begin number at copy ∷ [] })) × IsKept (record m { store = st; holding = hs; seats = slice_set m.seats at slot; timeline = m.timeline ++ Begin number at copy ∷ [] }) l k (p + 3 - 1)) is_last
     (begun_kept m b k p at call kept (free_seat m at old (subst (λ (s : ℕ). s < length m.seats) (sym e) within) read is_free) st hs w number copy slot begun limit is_hs more has (is_last ∙ is_number) (subst (λ (n : ℕ). n < CALL_LIMIT) (sym is_last) few) is_copy is))
 
-pub busy_by : (m : Machine) (at seat : ℕ) (call : Call) (slot : Option Running) (b : Bool) → at ≡ seat → seat < length m.seats → slot ≡ get_or m.seats at slot → b ≡ is_some slot → b ≡ true → Begins (state_of m) seat call (Err SeatBusy) (state_of m)
+pub busy_by : (m : CoreValue) (at seat : ℕ) (call : Call) (slot : Option Running) (b : Bool) → at ≡ seat → seat < length m.seats → slot ≡ get_or m.seats at slot → b ≡ is_some slot → b ≡ true → Begins (state_of m) seat call (Err SeatBusy) (state_of m)
 busy_by m at seat call slot b e within read some yes_some = subst (λ (s : ℕ). Begins (state_of m) s call (Err SeatBusy) (state_of m)) e (seat_busy_step m at call slot (subst (λ (s : ℕ). s < length m.seats) (sym e) within) read (sym some ∙ yes_some))
 
 pub none_by_test : {A : Type 0} (slot : Option A) (b : Bool) → b ≡ is_some slot → b ≡ false → slot ≡ None

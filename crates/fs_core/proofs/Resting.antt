@@ -11,7 +11,7 @@ use Rattle.fs_machine.specs.States.{Run}
 use Rattle.fs_laws.proofs.journal.ViewOfTimeline.{linearizes}
 use Rattle.fs_laws.proofs.states.Headline.{run_keeps}
 use Rattle.fs_core.specs.declared.seat.Running.{Running}
-use Rattle.fs_core.specs.Machines.{Machine, state_of, IsAtRest, number_on, record_from}
+use Rattle.fs_core.specs.CoreValues.{CoreValue, state_of, IsAtRest, number_on, record_from}
 
 -- no record where no seat has a call
 none_from : (i : ℕ) (seats : List (Option Running)) → ((seat : ℕ) → number_on seats seat ≡ None) → (c : ℕ) → record_from i seats c ≡ None
@@ -22,14 +22,14 @@ none_from i (Some running ∷ seats) rest c = absurd (none_some running.call (re
     none_some : (n : ℕ) → ◌≡◌ {A = Option ℕ} (Some n) None → ⊥
     none_some n e = cc
 
-idle_at_rest : (m : Machine) → IsAtRest m → IsIdle (state_of m)
+idle_at_rest : (m : CoreValue) → IsAtRest m → IsIdle (state_of m)
 idle_at_rest m rest c = none_from 0 m.seats rest c
 
-pub spelled_at_rest : (m : Machine) → Run (state_of m) → IsAtRest m → graph_shapes (graph_of m.store) ≡ tree_shapes (play (commits m.timeline))
+pub spelled_at_rest : (m : CoreValue) → Run (state_of m) → IsAtRest m → graph_shapes (graph_of m.store) ≡ tree_shapes (play (commits m.timeline))
 spelled_at_rest m run rest = (linearizes (state_of m) run).spelled (idle_at_rest m rest)
 
 -- a seat's call has a record
-pub rest_when_idle : (m : Machine) → Run (state_of m) → IsIdle (state_of m) → IsAtRest m
+pub rest_when_idle : (m : CoreValue) → Run (state_of m) → IsIdle (state_of m) → IsAtRest m
 rest_when_idle m run idle seat = go (number_on m.seats seat) refl
   where
     go : (o : Option ℕ) → number_on m.seats seat ≡ o → number_on m.seats seat ≡ None

@@ -4,7 +4,7 @@ use Rattle.std.specs.Prelude.{slice_get, option_and_then, nat_lt, IsTrue}
 use Rattle.std.proofs.lemmas.Option.{slice_get_within}
 use Rattle.fs_nodes.specs.Graphs.{Children, IsReached}
 use Rattle.fs_core.specs.declared.seat.Running.{Running}
-use Rattle.fs_core.specs.Machines.{number_on}
+use Rattle.fs_core.specs.CoreValues.{number_on}
 use Rattle.fs_core.specs.code.Searches.{position_of, IsUnder, IsAlone, IsLowestOn, HasLeast, is_lesser}
 use Rattle.fs_core.proofs.SeatLemmas.{number_read}
 

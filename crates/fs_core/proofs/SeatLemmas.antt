@@ -9,7 +9,7 @@ use Rattle.fs_machine.specs.OpValues.{record_of}
 use Rattle.std.proofs.Math.Dec.{eqb-suc-zero, eqb-zero-suc, eqb-suc-suc}
 use Rattle.fs_laws.proofs.graphs.Walks.{eqb_refl, eqb_true}
 use Rattle.fs_core.specs.declared.seat.Running.{Running}
-use Rattle.fs_core.specs.Machines.{number_of, number_on, record_from, records}
+use Rattle.fs_core.specs.CoreValues.{number_of, number_on, record_from, records}
 use Rattle.fs_core.specs.code.Rooms.{walking_at, walking, owed_at, owed}
 
 -- no two seats have a call of one number

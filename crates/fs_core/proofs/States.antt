@@ -17,7 +17,7 @@ use Rattle.fs_laws.specs.Invariants.{Invariant}
 use Rattle.fs_machine.specs.States.{State, Moves, Run}
 use Rattle.fs_laws.proofs.states.Headline.{run_keeps}
 use Rattle.fs_core.specs.declared.seat.Running.{Running}
-use Rattle.fs_core.specs.Machines.{Machine, state_of, records}
+use Rattle.fs_core.specs.CoreValues.{CoreValue, state_of, records}
 use Rattle.fs_core.proofs.SeatLemmas.{AreApart, number_read, records_at}
 use Rattle.fs_core.proofs.WorkLemmas.{next_is}
 
@@ -31,7 +31,7 @@ same_state l m a b h k o p s t e f1 f2 f3 f4 f5 =
     ∙ ap (λ (x : Records). made_of m b k x s e) f4 ∙ ap (λ (x : ℕ → Option ℕ). made_of m b k p x e) f5
 
 -- in a state of a run, no two seats have a call of one number
-pub apart_of : (m : Machine) → Run (state_of m) → AreApart m.seats
+pub apart_of : (m : CoreValue) → Run (state_of m) → AreApart m.seats
 apart_of m run i j r q e f g =
     let inv : Invariant (state_of m) = run_keeps (state_of m) run in
     let a : (op : Record) × (records m.seats r.call ≡ Some op) × (op.seat ≡ i) = inv.seated i r.call (number_read m.seats i (Some r) e) in
@@ -41,10 +41,10 @@ apart_of m run i j r q e f g =
     sym a.2 ∙ ap (λ (o : Record). o.seat) w ∙ b.2
 
 -- the call on a seat
-pub call_on : (m : Machine) (seat : ℕ) (r : Running) → Run (state_of m) → slice_get m.seats seat ≡ Some (Some r) → records m.seats r.call ≡ Some (record_of seat r.place r.op)
+pub call_on : (m : CoreValue) (seat : ℕ) (r : Running) → Run (state_of m) → slice_get m.seats seat ≡ Some (Some r) → records m.seats r.call ≡ Some (record_of seat r.place r.op)
 call_on m seat r run on = records_at m.seats seat r on (apart_of m run)
 
-pub moves : (m : Machine) (seat : ℕ) (r : Running) (move : Move) → Run (state_of m) → slice_get m.seats seat ≡ Some (Some r) → next_of (graph_of m.store) r.op ≡ move
+pub moves : (m : CoreValue) (seat : ℕ) (r : Running) (move : Move) → Run (state_of m) → slice_get m.seats seat ≡ Some (Some r) → next_of (graph_of m.store) r.op ≡ move
     → Moves (state_of m) seat r.call (record_of seat r.place r.op) move
 moves m seat r move run on e = (number_read m.seats seat (Some r) on, call_on m seat r run on, next_is (graph_of m.store) seat r.place r.op ∙ e)
 

@@ -24,14 +24,14 @@ use Rattle.fs_laws.proofs.states.Agreement.{run_accounts}
 use Rattle.fs_laws.proofs.states.Headline.{run_keeps}
 use Rattle.fs_laws.proofs.finish.Limits.{finish_resizes}
 use Rattle.fs_core.specs.declared.seat.Running.{Running}
-use Rattle.fs_core.specs.Machines.{Machine, state_of, records}
+use Rattle.fs_core.specs.CoreValues.{CoreValue, state_of, records}
 use Rattle.fs_core.specs.code.Rooms.{is_walking, walking_at, owed_at, IsKept}
 use Rattle.fs_core.proofs.SeatLemmas.{records_changed, records_ended, numbers_set, numbers_changed, owed_set, walking_set}
 use Rattle.fs_core.proofs.WorkLemmas.{finish_is, unfinished_at}
 use Rattle.fs_core.proofs.States.{same_state, apart_of, call_on, moves, took_reply, left_reply, finished_reply, begins_commit, begins_return, commits_more, commits_return}
 
 -- a seat with a call is there
-within_seats : (m : Machine) (seat : ℕ) (r : Running) → slice_get m.seats seat ≡ Some (Some r) → seat < length m.seats
+within_seats : (m : CoreValue) (seat : ℕ) (r : Running) → slice_get m.seats seat ≡ Some (Some r) → seat < length m.seats
 within_seats m seat r on = slice_get_within m.seats seat (Some r) on
 
 -- a call that goes on, walking or not as before
@@ -43,7 +43,7 @@ same_owed r w v is e =
     (ap owed_at is ∙ ap (λ (b : Bool). cond b 2 1) (same_walking r w e), ap walking_at is ∙ ap (λ (b : Bool). cond b 1 0) (same_walking r w e))
 
 -- a take
-pub took_step : (m : Machine) (b k p seat : ℕ) (r : Running) (n : ℕ) → IsKept m b k p → slice_get m.seats seat ≡ Some (Some r) → next_of (graph_of m.store) r.op ≡ Takes n → holder m.holding n ≡ None
+pub took_step : (m : CoreValue) (b k p seat : ℕ) (r : Running) (n : ℕ) → IsKept m b k p → slice_get m.seats seat ≡ Some (Some r) → next_of (graph_of m.store) r.op ≡ Takes n → holder m.holding n ≡ None
     → (hs : Holding) (w : OpValue) (v : Option Running) → holder hs ≡ set_at n (Some r.call) (holder m.holding) → holders.room hs ≡ holders.room m.holding → IsTook r.op n w → v ≡ Some (record r { op = w })
     → Step (state_of m) seat (Took n) (state_of (record m { holding = hs; seats = slice_set m.seats seat v })) × IsKept (record m { holding = hs; seats = slice_set m.seats seat v }) b k p
 took_step m b k p seat r n kept on move free hs w v is_hs room took_it is = (
@@ -90,7 +90,7 @@ fewer_unreserved graph None q t e = (t, e)
 fewer_unreserved graph (Some n) q t e = fewer_released graph n q t e
 
 -- a let go
-pub let_go_step : (m : Machine) (b k p seat : ℕ) (r : Running) (n : ℕ) → IsKept m b k p → slice_get m.seats seat ≡ Some (Some r) → next_of (graph_of m.store) r.op ≡ Leaves n
+pub let_go_step : (m : CoreValue) (b k p seat : ℕ) (r : Running) (n : ℕ) → IsKept m b k p → slice_get m.seats seat ≡ Some (Some r) → next_of (graph_of m.store) r.op ≡ Leaves n
     → (st : Places) (hs : Holding) (w : OpValue) (v : Option Running) → graph_of st ≡ releasing (is_removed r.op.removed n) n (graph_of m.store) → (seen st).limit ≡ (seen m.store).limit
     → holder hs ≡ set_at n None (holder m.holding) → holders.room hs ≡ holders.room m.holding → IsLetGo r.op n w → v ≡ Some (record r { op = w })
     → Step (state_of m) seat (LetGo n) (state_of (record m { store = st; holding = hs; seats = slice_set m.seats seat v })) × IsKept (record m { store = st; holding = hs; seats = slice_set m.seats seat v }) b k p
@@ -148,7 +148,7 @@ placed_phase : (i : ℕ) (o : Option Reply) → o ≡ None → phase_of (Some i)
 placed_phase i o f = ap (λ (o : Option Reply). phase_of (Some i) o) f
 
 -- a call that is helped
-pub helped_step : (m : Machine) (b k p seat : ℕ) (r : Running) (s : ℕ) → IsKept m b k p → slice_get m.seats seat ≡ Some (Some r) → next_of (graph_of m.store) r.op ≡ Finishes (Some s) → r.place ≡ None
+pub helped_step : (m : CoreValue) (b k p seat : ℕ) (r : Running) (s : ℕ) → IsKept m b k p → slice_get m.seats seat ≡ Some (Some r) → next_of (graph_of m.store) r.op ≡ Finishes (Some s) → r.place ≡ None
     → (other : ℕ) (q : Running) → slice_get m.seats other ≡ Some (Some q) → q.place ≡ None → q.op.reply ≡ None → IsChosen (state_of m) s q.call
     → (v : Option Running) → v ≡ Some (record q { place = Some k })
     → Step (state_of m) seat (Helped q.call) (state_of (record m { seats = slice_set m.seats other v; timeline = m.timeline ++ Commit q.call ∷ [] })) × IsKept (record m { seats = slice_set m.seats other v; timeline = m.timeline ++ Commit q.call ∷ [] }) b (k + 1) (p - 1)
@@ -193,17 +193,17 @@ helped_step m b k p seat r s kept on move unplaced other q on_other q_unplaced q
     )
 
 -- the graph and the record after a finish
-graph_made : (m : Machine) (seat : ℕ) (r : Running) (st : Places) → graph_of st ≡ graph_after (graph_of m.store) r.op → graph_of st ≡ (finish (graph_of m.store) (record_of seat r.place r.op)).graph
+graph_made : (m : CoreValue) (seat : ℕ) (r : Running) (st : Places) → graph_of st ≡ graph_after (graph_of m.store) r.op → graph_of st ≡ (finish (graph_of m.store) (record_of seat r.place r.op)).graph
 graph_made m seat r st e = e ∙ ap (λ (x : Rattle.fs_machine.specs.Finishes.Effect). x.graph) (sym (finish_is (graph_of m.store) seat r.place r.op))
 
-fewer_made : (m : Machine) (seat : ℕ) (r : Running) → Run (state_of m) → slice_get m.seats seat ≡ Some (Some r) → (st : Places) → graph_of st ≡ graph_after (graph_of m.store) r.op → (q : ℕ) (t : Shape) → (graph_of st).shape q ≡ Some t → (u : Shape) × ((graph_of m.store).shape q ≡ Some u)
+fewer_made : (m : CoreValue) (seat : ℕ) (r : Running) → Run (state_of m) → slice_get m.seats seat ≡ Some (Some r) → (st : Places) → graph_of st ≡ graph_after (graph_of m.store) r.op → (q : ℕ) (t : Shape) → (graph_of st).shape q ≡ Some t → (u : Shape) × ((graph_of m.store).shape q ≡ Some u)
 fewer_made m seat r run on st graph q t e =
     let inv : Invariant (state_of m) = run_keeps (state_of m) run in
     (finish_resizes (graph_of m.store) inv.is_graph (run_accounts (state_of m) run).within (record_of seat r.place r.op) (inv.own r.call (record_of seat r.place r.op) (call_on m seat r run on)).well).to_old q t
     (ap (λ (g : Graph). g.shape q) (sym (graph_made m seat r st graph)) ∙ e)
 
 -- a walking call that finishes
-pub committed_step : (m : Machine) (b k p seat : ℕ) (r : Running) (s : Option ℕ) → IsKept m b k p → slice_get m.seats seat ≡ Some (Some r) → next_of (graph_of m.store) r.op ≡ Finishes s → r.place ≡ None → NoneBelow (state_of m) s
+pub committed_step : (m : CoreValue) (b k p seat : ℕ) (r : Running) (s : Option ℕ) → IsKept m b k p → slice_get m.seats seat ≡ Some (Some r) → next_of (graph_of m.store) r.op ≡ Finishes s → r.place ≡ None → NoneBelow (state_of m) s
     → (st : Places) (w : OpValue) (v : Option Running) → graph_of st ≡ graph_after (graph_of m.store) r.op → (seen st).limit ≡ (seen m.store).limit → IsFinished (graph_of m.store) r.op w → v ≡ Some (record r { op = w })
     → Step (state_of m) seat Committed (state_of (record m { store = st; seats = slice_set m.seats seat v; timeline = m.timeline ++ Commit r.call ∷ [] })) × IsKept (record m { store = st; seats = slice_set m.seats seat v; timeline = m.timeline ++ Commit r.call ∷ [] }) b (k + 1) (p - 1)
 committed_step m b k p seat r s kept on move unplaced none st w v graph limit done is = (
@@ -239,7 +239,7 @@ committed_step m b k p seat r s kept on move unplaced none st w v graph limit do
     )
 
 -- a placed call that finishes
-pub carried_step : (m : Machine) (b k p seat : ℕ) (r : Running) (s : Option ℕ) (i : ℕ) → IsKept m b k p → slice_get m.seats seat ≡ Some (Some r) → next_of (graph_of m.store) r.op ≡ Finishes s → r.place ≡ Some i
+pub carried_step : (m : CoreValue) (b k p seat : ℕ) (r : Running) (s : Option ℕ) (i : ℕ) → IsKept m b k p → slice_get m.seats seat ≡ Some (Some r) → next_of (graph_of m.store) r.op ≡ Finishes s → r.place ≡ Some i
     → (st : Places) (w : OpValue) (v : Option Running) → graph_of st ≡ graph_after (graph_of m.store) r.op → (seen st).limit ≡ (seen m.store).limit → IsFinished (graph_of m.store) r.op w → v ≡ Some (record r { op = w })
     → Step (state_of m) seat CarriedOut (state_of (record m { store = st; seats = slice_set m.seats seat v })) × IsKept (record m { store = st; seats = slice_set m.seats seat v }) b k p
 carried_step m b k p seat r s i kept on move is_placed st w v graph limit done is = (
@@ -275,7 +275,7 @@ carried_step m b k p seat r s i kept on move is_placed st w v graph limit done i
     )
 
 -- a return
-pub returned_step : (m : Machine) (b k p seat : ℕ) (r : Running) (reply : Reply) → IsKept m b k p → slice_get m.seats seat ≡ Some (Some r) → next_of (graph_of m.store) r.op ≡ Ends → r.op.reply ≡ Some reply
+pub returned_step : (m : CoreValue) (b k p seat : ℕ) (r : Running) (reply : Reply) → IsKept m b k p → slice_get m.seats seat ≡ Some (Some r) → next_of (graph_of m.store) r.op ≡ Ends → r.op.reply ≡ Some reply
     → (st : Places) (v : Option Running) → graph_of st ≡ unreserved r.op.reserved (graph_of m.store) → (seen st).limit ≡ (seen m.store).limit → v ≡ None
     → Step (state_of m) seat (Returned reply) (state_of (record m { store = st; seats = slice_set m.seats seat v; timeline = m.timeline ++ Return r.call reply ∷ [] })) × IsKept (record m { store = st; seats = slice_set m.seats seat v; timeline = m.timeline ++ Return r.call reply ∷ [] }) b k (p - 1)
 returned_step m b k p seat r reply kept on move replied st v graph limit is = (

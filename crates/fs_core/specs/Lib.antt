@@ -1,3 +1,3 @@
-pub mod Machines
+pub mod CoreValues
 pub mod Events
 pub mod code

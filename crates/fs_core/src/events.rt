@@ -7,7 +7,7 @@ ghost use Rattle.fs_calls.specs.Outcomes.{play};
 ghost use Rattle.fs_calls.specs.Shapes.{tree_shapes};
 ghost use Rattle.fs_timeline.specs.Timeline.{IsLawful, commits};
 ghost use Rattle.fs_core.specs.Events.{IsSeated, Happens, IsRefused, IsRun};
-ghost use Rattle.fs_core.specs.Machines.{state_of, IsAtRest};
+ghost use Rattle.fs_core.specs.CoreValues.{state_of, IsAtRest};
 
 use crate::machine::Core;
 use crate::outcome::{Event, Ran};

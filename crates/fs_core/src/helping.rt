@@ -5,7 +5,7 @@ ghost use Rattle.fs_nodes.specs.Graphs.{IsGraph, IsReached, numbers};
 ghost use Rattle.fs_nodes.specs.Stores.{graph_of, child};
 ghost use Rattle.fs_core.specs.code.Searches.{IsRooted, position_of, IsUnder, IsAlone, IsLowestOn, CanSearch, HasLeast, is_lesser};
 ghost use Rattle.fs_core.specs.code.Rooms.{AreBelow};
-ghost use Rattle.fs_core.specs.Machines.{number_on};
+ghost use Rattle.fs_core.specs.CoreValues.{number_on};
 ghost use Rattle.std.specs.Option.{ForSome};
 
 use crate::seat::{Running, number};

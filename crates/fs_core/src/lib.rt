@@ -7,7 +7,7 @@
 //! one changes nothing; a step does one move of the call on a seat, and cannot fail.
 //!
 //! Enter at `Core::new`, `seat`, `begin`, `step` and `timeline`. What a begin and a step do is
-//! `fs_machine/specs/States.antt`. In `specs/` here `Machines` says which of those states a core is in, and `Events` what
+//! `fs_machine/specs/States.antt`. In `specs/` here `CoreValues` says which of those states a core is in, and `Events` what
 //! a list of events does; `specs/code/` ties the code to them, and changes no meaning.
 #![tactic(auto)]
 

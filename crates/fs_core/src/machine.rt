@@ -11,7 +11,7 @@ ghost use Rattle.fs_calls.specs.Shapes.{tree_shapes};
 ghost use Rattle.fs_timeline.specs.Timeline.{IsLawful, commits};
 ghost use Rattle.fs_machine.specs.States.{Begins, Step, NoneBelow, Run, empty};
 ghost use Rattle.fs_core.specs.code.Helping.{HelpsIf};
-ghost use Rattle.fs_core.specs.Machines.{state_of, IsAtRest};
+ghost use Rattle.fs_core.specs.CoreValues.{state_of, IsAtRest};
 ghost use Rattle.fs_core.specs.code.Seats.{MovesOn, PlacedOn};
 
 use crate::beginning::make_ready;
@@ -41,10 +41,10 @@ pub struct Core {
 }
 
 impl Model for Core {
-    ghost use Rattle.fs_core.specs.Machines.{Machine};
+    ghost use Rattle.fs_core.specs.CoreValues.{CoreValue};
     ghost use Rattle.fs_core.specs.code.Rooms.{IsKept};
 
-    ghost Value = { Machine };
+    ghost Value = { CoreValue };
 
     ghost view = { λ a. record { store = a.store; holding = a.holders; seats = a.seats.items; timeline = a.timeline.entries } };
 

@@ -5,7 +5,7 @@ ghost use Rattle.fs_nodes.specs.Seen.{seen};
 ghost use Rattle.fs_nodes.specs.Stores.{graph_of};
 ghost use Rattle.fs_machine.specs.Leaving.{is_removed, releasing};
 ghost use Rattle.fs_machine.specs.OpValues.{IsTook, IsLetGo, IsFinished, IsSpare, CanFinish, graph_after};
-ghost use Rattle.fs_core.specs.Machines.{number_of};
+ghost use Rattle.fs_core.specs.CoreValues.{number_of};
 ghost use Rattle.fs_core.specs.code.Seats.{Goes, placed};
 ghost use Rattle.fs_core.specs.declared.seat.Running.{Running};
 

@@ -20,7 +20,7 @@ ghost use Rattle.fs_laws.specs.OneCall.{MeetsTreeAlone};
 ghost use Rattle.fs_numbers.specs.Numbers.{NumbersAreKept};
 ghost use Rattle.fs_numbers.specs.Agreement.{PartsAgree};
 ghost use Rattle.fs_numbers.specs.Holdings.{HoldsFour};
-ghost use Rattle.fs_core.specs.Machines.{state_of};
+ghost use Rattle.fs_core.specs.CoreValues.{state_of};
 
 use crate::machine::Core;
 

@@ -8,7 +8,7 @@ use Rattle.fs_text.specs.Calls.{◌>>=◌, call_of}
 use Rattle.fs_text.specs.Journal.{words_of}
 use Rattle.fs_laws.specs.OneCall.{IsNoReturn, StepsTo}
 use Rattle.fs_machine.specs.States.{State, Begins, Step}
-use Rattle.fs_core.specs.Machines.{Machine, state_of}
+use Rattle.fs_core.specs.CoreValues.{CoreValue, state_of}
 use Rattle.fs_machine.specs.declared.answers.Stepped.{Stepped}
 use Rattle.fs_machine.specs.declared.answers.Stepped.TheVariants.{Idle, Took, Busy, LetGo, Helped, Committed, CarriedOut, Returned}
 use Rattle.fs_embed.specs.declared.calls.NotBegun.{NotBegun}
@@ -21,11 +21,11 @@ abbrev pub call_in : List ℕ → Result Call FaultKind
 call_in line = words_of line >>= call_of
 
 -- the call of a line begins on a seat under a number, and this is the state after
-abbrev pub Opens : Machine → ℕ → List ℕ → ℕ → State → Type 0
+abbrev pub Opens : CoreValue → ℕ → List ℕ → ℕ → State → Type 0
 Opens old seat line number first = (call : Call) × (call_in line ≡ Ok call) × Begins (state_of old) seat call (Ok number) first
 
 -- the same, and nothing else happens
-abbrev pub BeginsLine : Machine → ℕ → List ℕ → ℕ → Machine → Type 0
+abbrev pub BeginsLine : CoreValue → ℕ → List ℕ → ℕ → CoreValue → Type 0
 BeginsLine old seat line number new = Opens old seat line number (state_of new)
 
 -- a line that is no call; out of memory says nothing of the line
@@ -34,7 +34,7 @@ IsNoCall line kind.OutOfMemory = Unit {0}
 IsNoCall line k = call_in line ≡ Err k
 
 -- why the call of a line did not begin, and that nothing changed
-abbrev pub IsNotBegun : Machine → ℕ → List ℕ → NotBegun → Machine → Type 0
+abbrev pub IsNotBegun : CoreValue → ℕ → List ℕ → NotBegun → CoreValue → Type 0
 IsNotBegun old seat line not_begun.NoSeat new = (length old.seats ≤ seat) × (new ≡ old)
 IsNotBegun old seat line (not_begun.Line k) new = IsNoCall line k × (new ≡ old)
 IsNotBegun old seat line (not_begun.Refused refusal) new = (call : Call) × (call_in line ≡ Ok call) × Begins (state_of old) seat call (Err refusal) (state_of new)
@@ -45,7 +45,7 @@ pub data Steps (seat : ℕ) : State → State → Type 0 where
   Then : {old middle new : State} (answer : Stepped) → IsNoReturn answer → Steps seat old middle → Step middle seat answer new → Steps seat old new
 
 -- the call of a line begins under a number, and steps of its seat follow, up to the one that returns with this reply
-abbrev pub RunsLine : Machine → ℕ → List ℕ → ℕ → Reply → Machine → Type 0
+abbrev pub RunsLine : CoreValue → ℕ → List ℕ → ℕ → Reply → CoreValue → Type 0
 RunsLine old seat line number reply new = (first : State) × Opens old seat line number first × StepsTo seat reply (state_of new) first
 
 -- the next step of a seat finds a node held by this call, and changes nothing
@@ -53,11 +53,11 @@ abbrev pub IsWaiting : State → ℕ → ℕ → Type 0
 IsWaiting state seat holder = (node : ℕ) × Step state seat (Busy node holder) state
 
 -- the call of a line begins under a number, and steps of its seat follow, up to one that finds a node held by this call
-abbrev pub WaitsLine : Machine → ℕ → List ℕ → ℕ → ℕ → Machine → Type 0
+abbrev pub WaitsLine : CoreValue → ℕ → List ℕ → ℕ → ℕ → CoreValue → Type 0
 WaitsLine old seat line number holder new = (first : State) × Opens old seat line number first × Steps seat first (state_of new) × IsWaiting (state_of new) seat holder
 
 -- why the call of a line did not return: it did not begin, and nothing changed; or it is under way and waits
-abbrev pub IsNotReturned : Machine → ℕ → List ℕ → NotReturned → Machine → Type 0
+abbrev pub IsNotReturned : CoreValue → ℕ → List ℕ → NotReturned → CoreValue → Type 0
 IsNotReturned old seat line (not_returned.NotBegun why) new = IsNotBegun old seat line why new
 IsNotReturned old seat line (not_returned.Waits number holder) new = WaitsLine old seat line number holder new
 
@@ -84,5 +84,5 @@ about_of CarriedOut = 0
 about_of (Returned r) = 0
 
 -- a step of a seat, told by two numbers
-abbrev pub StepsAs : Machine → ℕ → ℕ → ℕ → Machine → Type 0
+abbrev pub StepsAs : CoreValue → ℕ → ℕ → ℕ → CoreValue → Type 0
 StepsAs old seat code about new = (answer : Stepped) × (code ≡ code_of answer) × (about ≡ about_of answer) × Step (state_of old) seat answer (state_of new)

@@ -4,7 +4,7 @@ use Rattle.fs_names.specs.Keys.{Key}
 use Rattle.fs_names.specs.declared.kind.Kind.{Kind}
 use Rattle.fs_nodes.specs.Graphs.{Graph, numbers}
 use Rattle.fs_nodes.specs.Stores.{kind_of}
-use Rattle.fs_core.specs.Machines.{Machine, state_of}
+use Rattle.fs_core.specs.CoreValues.{CoreValue, state_of}
 use Rattle.fs_text.specs.Calls.{path_at}
 use Rattle.fs_text.specs.declared.fault.FaultKind.{FaultKind}
 use Rattle.fs_text.specs.declared.fault.FaultKind.TheVariants as kind
@@ -15,7 +15,7 @@ kind_at graph None = None
 kind_at graph (Some node) = kind_of (graph.shape node)
 
 -- the kind of the node to which the path that a word spells leads
-abbrev pub Leads : Machine → List ℕ → Option Kind → Type 0
+abbrev pub Leads : CoreValue → List ℕ → Option Kind → Type 0
 Leads machine word kind = (path : Key) × (path_at word ≡ Ok path) × (kind ≡ kind_at (state_of machine).graph (numbers (state_of machine).graph path))
 
 -- a word that is no path; out of memory says nothing of it

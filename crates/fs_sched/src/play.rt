@@ -3,7 +3,7 @@
 ghost use Rattle.std.specs.Prelude.{◌≡◌, ◌<◌, [], IfOk, OnOk, IfErr, IsErrOf, IsTrue, IsFalse, length, get_or, replicate};
 ghost use Rattle.std.specs.List.{range_with_len};
 ghost use Rattle.fs_names.specs.declared.limits.TheConstants.{NODE_LIMIT};
-ghost use Rattle.fs_core.specs.Machines.{state_of};
+ghost use Rattle.fs_core.specs.CoreValues.{state_of};
 ghost use Rattle.fs_machine.specs.States.{empty};
 ghost use Rattle.fs_sched.specs.Runs.{start, has_more, Event, Events, Round, IsOver, IsUnfinished, ToEnd, RunsFrom, IsRefused, Stops, StopsInRounds, StopsFrom};
 ghost use Rattle.fs_sched.specs.Schedules.{word_seats, given_seats, drawn_seats, seats_before};

@@ -4,12 +4,12 @@ use mathlib.Core.List.{IsPrefix}
 use Rattle.fs_calls.specs.Outcomes.{play, reply}
 use Rattle.fs_calls.specs.declared.call.Call.{Call}
 use Rattle.fs_calls.specs.declared.reply.Reply.{Reply}
-use Rattle.fs_core.specs.Machines.{Machine}
+use Rattle.fs_core.specs.CoreValues.{CoreValue}
 use Rattle.fs_observe.specs.Lists.{Lists}
 
 -- the core, and the list that observers are shown
 pub record Boarded : Type 0 where
-  pub core : Machine
+  pub core : CoreValue
   pub published : List Call
 
 -- each of the publisher's lists is a beginning of the commits, and at most one call waits for memory

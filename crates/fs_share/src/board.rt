@@ -4,7 +4,7 @@ ghost use Rattle.std.specs.Prelude.{◌≡◌, ◌+◌, ◌<◌, ◌++◌, ◌�
 ghost use mathlib.Core.List.{IsPrefix};
 ghost use Rattle.fs_timeline.specs.Timeline.{commits};
 ghost use Rattle.fs_machine.specs.States.{Begins, Step};
-ghost use Rattle.fs_core.specs.Machines.{state_of};
+ghost use Rattle.fs_core.specs.CoreValues.{state_of};
 ghost use Rattle.fs_share.specs.Boards.{AreBeginnings, IsListed};
 
 use crate::told::told_place;

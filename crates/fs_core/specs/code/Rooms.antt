@@ -8,7 +8,7 @@ use Rattle.fs_locks.specs.declared.word.TheConstants.{CALL_LIMIT}
 use Rattle.fs_timeline.specs.Timeline.{begins, commit_count}
 use Rattle.fs_machine.specs.States.{Run}
 use Rattle.fs_core.specs.declared.seat.Running.{Running}
-use Rattle.fs_core.specs.Machines.{Machine, state_of}
+use Rattle.fs_core.specs.CoreValues.{CoreValue, state_of}
 
 -- a call without a place in the timeline
 abbrev pub is_walking : Running → Bool
@@ -38,7 +38,7 @@ AreBelow graph bound = (n : ℕ) (shape : Shape) → graph.shape n ≡ Some shap
 
 -- a state that a run gives, a holder's place for each number in use, exact counters, no call whose number cannot hold a node,
 -- a place for each entry that is owed
-pub record IsKept (machine : Machine) (begun commits reserved : ℕ) : Type 0 where
+pub record IsKept (machine : CoreValue) (begun commits reserved : ℕ) : Type 0 where
   pub run : Run (state_of machine)
   pub roomy : AreBelow (graph_of machine.store) (room machine.holding)
   pub begun_is : begun ≡ begins machine.timeline

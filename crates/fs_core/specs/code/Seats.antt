@@ -4,17 +4,17 @@ use Rattle.fs_nodes.specs.Stores.{graph_of}
 use Rattle.fs_machine.specs.declared.moves.Move.{Move}
 use Rattle.fs_machine.specs.OpValues.{OpValue, next_of}
 use Rattle.fs_core.specs.declared.seat.Running.{Running}
-use Rattle.fs_core.specs.Machines.{Machine}
+use Rattle.fs_core.specs.CoreValues.{CoreValue}
 
 -- the call on a seat, its number, and its next move
-pub record MovesOn (machine : Machine) (seat call : ℕ) (move : Move) : Type 0 where
+pub record MovesOn (machine : CoreValue) (seat call : ℕ) (move : Move) : Type 0 where
   pub running : Running
   pub on : slice_get machine.seats seat ≡ Some (Some running)
   pub number : running.call ≡ call
   pub next : next_of (graph_of machine.store) running.op ≡ move
 
 -- whether another call gave it its place
-abbrev pub PlacedOn : Machine → ℕ → Option ℕ → Type 0
+abbrev pub PlacedOn : CoreValue → ℕ → Option ℕ → Type 0
 PlacedOn machine seat place = (running : Running) → slice_get machine.seats seat ≡ Some (Some running) → running.place ≡ place
 
 -- what may happen to the call on a seat: its work goes on

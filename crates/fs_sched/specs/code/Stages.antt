@@ -1,6 +1,6 @@
 -- Where a run stands that the code does.
 use Rattle.std.specs.Prelude.{ℕ, ◌≡◌, length, Result, Err}
-use Rattle.fs_core.specs.Machines.{state_of}
+use Rattle.fs_core.specs.CoreValues.{state_of}
 use Rattle.fs_text.specs.declared.fault.ScriptFault.{ScriptFault}
 use Rattle.fs_sched.specs.Runs.{Stage}
 use Rattle.fs_sched.specs.declared.play.Play.{Play}

@@ -1,5 +1,5 @@
 use Rattle.std.proofs.Common.{◌∙◌, is_some, refl, ap}
-use Rattle.fs_core.specs.Machines.{state_of}
+use Rattle.fs_core.specs.CoreValues.{state_of}
 use Rattle.fs_laws.specs.OneCall.{Returns}
 use Rattle.fs_embed.specs.Calls.{Still, Then}
 use Rattle.fs_embed.proofs.Running.{steps_to, waits, keeps, less, no_return, goes}

@@ -1,6 +1,6 @@
 use Rattle.std.proofs.Common.{◌≡◌, length, IsSome}
 use Rattle.fs_laws.specs.StepsLeft.{steps_left}
-use Rattle.fs_core.specs.Machines.{state_of}
+use Rattle.fs_core.specs.CoreValues.{state_of}
 use Rattle.fs_embed.specs.Calls.{Steps}
 use Rattle.fs_embed.proofs.calls.finish.Given as goal
 

@@ -1,4 +1,4 @@
-use Rattle.fs_core.specs.Machines.{state_of}
+use Rattle.fs_core.specs.CoreValues.{state_of}
 use Rattle.fs_embed.proofs.Running.{seated}
 use Rattle.fs_embed.proofs.calls.run_line.Goals as goal
 

@@ -1,4 +1,4 @@
-use Rattle.fs_core.specs.Machines.{state_of}
+use Rattle.fs_core.specs.CoreValues.{state_of}
 use Rattle.fs_share.proofs.Counting.{step_counts}
 use Rattle.fs_share.proofs.desk.step_on.Goals as goal
 

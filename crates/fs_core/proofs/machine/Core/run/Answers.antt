@@ -1,5 +1,5 @@
 use Rattle.std.proofs.Common.{◌∙◌}
-use Rattle.fs_core.specs.Machines.{state_of}
+use Rattle.fs_core.specs.CoreValues.{state_of}
 use Rattle.fs_core.proofs.Happening.{happen_more}
 use Rattle.fs_core.proofs.machine.Core.run.Goals as goal
 

@@ -1,6 +1,6 @@
 use Rattle.std.proofs.Common.{◌≡◌, length, take}
 use Rattle.fs_core.specs.Events.{AllHappen}
-use Rattle.fs_core.specs.Machines.{state_of}
+use Rattle.fs_core.specs.CoreValues.{state_of}
 use Rattle.fs_core.proofs.machine.Core.run.Given as goal
 
 -- the events so far

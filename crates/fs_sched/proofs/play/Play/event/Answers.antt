@@ -1,5 +1,5 @@
 use Rattle.std.proofs.Common.{ℕ, refl, sym, ap, subst, ◌∙◌, ◌≤◌, length, arith}
-use Rattle.fs_core.specs.Machines.{number_on, state_of}
+use Rattle.fs_core.specs.CoreValues.{number_on, state_of}
 use Rattle.fs_machine.specs.States.{Step}
 use Rattle.fs_sched.specs.Runs.{Goes}
 use Rattle.fs_sched.proofs.Staging.{spent_past}

@@ -1,5 +1,5 @@
 use Rattle.std.proofs.Common.{ℕ, ◌≡◌, ◌+◌, ◌<◌, length, get_or, slice_set, ap, subst, ◌∙◌, arith, Ok}
-use Rattle.fs_core.specs.Machines.{state_of}
+use Rattle.fs_core.specs.CoreValues.{state_of}
 use Rattle.fs_machine.specs.States.{Begins}
 use Rattle.fs_sched.specs.Runs.{Starts}
 use Rattle.fs_sched.specs.code.Stages.{stage_of}

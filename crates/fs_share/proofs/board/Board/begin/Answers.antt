@@ -1,4 +1,4 @@
-use Rattle.fs_core.specs.Machines.{state_of}
+use Rattle.fs_core.specs.CoreValues.{state_of}
 use Rattle.fs_timeline.specs.Timeline.{commits}
 use Rattle.fs_share.proofs.Publishing.{begin_grows, beginnings_grow}
 use Rattle.fs_share.proofs.board.Board.begin.Goals as goal

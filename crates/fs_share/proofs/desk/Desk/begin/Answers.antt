@@ -1,5 +1,5 @@
 use Rattle.std.proofs.Common.{arith, ◌∙◌}
-use Rattle.fs_core.specs.Machines.{state_of}
+use Rattle.fs_core.specs.CoreValues.{state_of}
 use Rattle.fs_share.proofs.Counting.{begin_counts}
 use Rattle.fs_share.proofs.desk.Desk.begin.Goals as goal
 

@@ -1,4 +1,4 @@
-use Rattle.fs_core.specs.Machines.{state_of}
+use Rattle.fs_core.specs.CoreValues.{state_of}
 use Rattle.fs_core.proofs.Resting.{rest_when_idle}
 use Rattle.fs_share.proofs.Idle.{idle_when_returned}
 use Rattle.fs_share.proofs.desk.Desk.close.Goals as goal

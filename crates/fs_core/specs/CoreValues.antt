@@ -12,7 +12,7 @@ use Rattle.fs_machine.specs.States.{State}
 use Rattle.fs_core.specs.declared.seat.Running.{Running}
 
 -- the nodes, who holds them, the call under way on each seat, the entries so far
-pub record Machine : Type 0 where
+pub record CoreValue : Type 0 where
   pub store : Places
   pub holding : Holding
   pub seats : List (Option Running)
@@ -31,7 +31,7 @@ abbrev pub number_on : List (Option Running) → ℕ → Option ℕ
 number_on seats seat = number_of (running_on seats seat)
 
 -- no call is under way: no seat has one
-abbrev pub IsAtRest : Machine → Type 0
+abbrev pub IsAtRest : CoreValue → Type 0
 IsAtRest machine = (seat : ℕ) → number_on machine.seats seat ≡ None
 
 -- the record of the call of a number, among those on the seats from one on
@@ -45,7 +45,7 @@ abbrev pub records : List (Option Running) → Records
 records seats c = record_from 0 seats c
 
 -- the state that a core is in
-abbrev pub state_of : Machine → State
+abbrev pub state_of : CoreValue → State
 state_of machine = record {
   limit = (seen machine.store).limit;
   graph = graph_of machine.store;
