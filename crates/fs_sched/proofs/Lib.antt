@@ -13,3 +13,4 @@ pub mod Stopping
 pub mod OneText
 pub mod Filling
 pub mod Existing
+pub mod OverLemmas

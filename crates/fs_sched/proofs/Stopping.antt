@@ -17,7 +17,7 @@ stop_more lists old now new all rest more seat e lead event stops = lead (subst 
 pub stop_here : (lists : List (List Call)) (old now : Stage) (all rest more : List ℕ) (seat : ℕ) → rest ≡ seat ∷ more → LeadsToStop lists old all now rest → IsRefused lists now seat → Stops lists old all
 stop_here lists old now all rest more seat e lead refused = lead (subst (λ (r : List ℕ). Stops lists now r) (sym e) (inl refused))
 
-stop_after : (lists : List (List Call)) (old now : Stage) (xs ys : List ℕ) → Events lists old xs now → Stops lists now ys → Stops lists old (xs ++ ys)
+pub stop_after : (lists : List (List Call)) (old now : Stage) (xs ys : List ℕ) → Events lists old xs now → Stops lists now ys → Stops lists old (xs ++ ys)
 stop_after lists old now [] ys e stops = subst (λ (s : Stage). Stops lists s ys) e stops
 stop_after lists old now (x ∷ xs) ys (middle, event, rest) stops = inr (middle, event, stop_after lists middle now xs ys rest stops)
 

@@ -1,13 +1,13 @@
 //! A script's run, event by event.
 
-ghost use Rattle.std.specs.Prelude.{◌≡◌, ◌<◌, [], IfOk, OnOk, IfErr, IsErrOf, IsTrue, IsFalse, length, get_or, replicate};
+ghost use Rattle.std.specs.Prelude.{◌≡◌, ◌<◌, ◌≤◌, ◌+◌, ◌-◌, ◌^◌, ℕ, [], IfOk, OnOk, OnErr, IfErr, IsErrOf, Ok, Err, true, length, get_or, replicate, slice_set};
 ghost use Rattle.std.specs.List.{range_with_len};
 ghost use Rattle.fs_names.specs.declared.limits.TheConstants.{NODE_LIMIT};
 ghost use Rattle.fs_core.specs.CoreValues.{state_of};
-ghost use Rattle.fs_machine.specs.States.{empty};
-ghost use Rattle.fs_sched.specs.Runs.{start, has_more, Event, Events, Round, IsOver, IsUnfinished, ToEnd, RunsFrom, IsRefused, Stops, StopsInRounds, StopsFrom};
+ghost use Rattle.fs_machine.specs.States.{empty, Begins};
+ghost use Rattle.fs_sched.specs.Runs.{start, has_more, Event, Events, Round, ToEnd, RunsFrom, IsRefused, Stops, StopsInRounds, StopsFrom};
 ghost use Rattle.fs_sched.specs.Schedules.{word_seats, given_seats, drawn_seats, seats_before};
-ghost use Rattle.fs_sched.specs.code.Stages.{stage_of, IsSeated, IsRefusal};
+ghost use Rattle.fs_sched.specs.code.Stages.{stage_of, IsSeated, AreOver, IsRefusal};
 
 use crate::fault::RunFault;
 use crate::schedule::{DRAW_LIMIT, Draws, Schedule};
@@ -91,18 +91,47 @@ impl Play {
             || self.begun[seat] < calls_of(lists, seat).len()
     }
 
-    /// Whether some thread has.
-    fn is_unfinished(&self, lists: &CallLists) -> bool
-        requires { IsSeated self.now (length lists.now) }
-        ensures unfinished { IsTrue result → IsUnfinished lists.now (stage_of self.now) }
-        ensures over { IsFalse result → IsOver lists.now (stage_of self.now) }
+    /// The first thread from one on that has; where none has, the number of threads. Threads that are over stay so: a
+    /// caller goes on from the answer, and asks no thread that is over again.
+    fn first_left(&self, lists: &CallLists, from: usize) -> usize
+        requires seats { IsSeated self.now (length lists.now) }
+        requires over { AreOver lists.now (stage_of self.now) from }
+        ensures over { AreOver lists.now (stage_of self.now) result }
+        ensures left { result < length lists.now → has_more lists.now (stage_of self.now) result ≡ true }
     {
-        for seat in 0..self.begun.len() {
+        for seat in from..self.begun.len() {
             if self.has_more(lists, seat) {
-                return true;
+                return seat;
             }
         }
-        false
+        self.begun.len()
+    }
+
+    /// A thread's call begins, of which so many have begun.
+    fn begin(
+        &mut self,
+        alloc: Global,
+        seat: usize,
+        begun: usize,
+        call: &Call,
+    ) -> Result<(), RunFault>
+        requires seat { seat < length self.old.begun.items }
+        requires seats { seat < length self.old.core.seats }
+        requires few { begun < 2 ^ 64 - 1 }
+        ensures begins { OnOk result ((c : ℕ) × Begins (state_of self.old.core) seat call.now (Ok c) (state_of self.new.core)) }
+        ensures counted { OnOk result (self.new.begun.items ≡ slice_set self.old.begun.items seat (begun + 1)) }
+        ensures seats { length self.new.core.seats ≡ length self.old.core.seats }
+        ensures same { OnErr result (self.new.begun.items ≡ self.old.begun.items) }
+        ensures fault { IfErr result IsRefusal }
+        ensures full { IsErrOf result RunFault.Full → Begins (state_of self.old.core) seat call.now (Err Refusal.Full) (state_of self.old.core) }
+    {
+        match self.core.begin(alloc, SeatNo::new(seat as u64), call) {
+            Ok(_) => {
+                self.begun[seat] = begun + 1;
+                Ok(())
+            }
+            Err(refusal) => Err(refused(refusal)),
+        }
     }
 
     /// The next call of a thread begins, where one is left.
@@ -120,12 +149,9 @@ impl Play {
         if at >= calls.len() {
             return Ok(());
         }
-        match self.core.begin(alloc, SeatNo::new(seat as u64), &calls[at]) {
-            Ok(_) => {
-                self.begun[seat] = at + 1;
-                Ok(())
-            }
-            Err(refusal) => Err(refused(refusal)),
+        match self.begin(alloc, seat, at, &calls[at]) {
+            Ok(()) => Ok(()),
+            Err(fault) => Err(fault),
         }
     }
 
@@ -207,8 +233,10 @@ impl Play {
         ensures full { IsErrOf result RunFault.Full → Stops lists.now (stage_of self.old) (drawn_seats seed (length lists.now) DRAW_LIMIT) }
     {
         let mut draws = Draws::new(seed);
+        let mut first = 0;
         for _ in 0..DRAW_LIMIT {
-            if !self.is_unfinished(lists) {
+            first = self.first_left(lists, first);
+            if first >= self.begun.len() {
                 return Ok(());
             }
             let seat = draws.seat(self.begun.len());
@@ -217,15 +245,17 @@ impl Play {
         Ok(())
     }
 
-    /// One event of each thread.
-    fn round(&mut self, alloc: Global, lists: &CallLists) -> Result<(), RunFault>
-        requires { IsSeated self.old (length lists.now) }
+    /// One event of each thread, of which those before `first` are over.
+    fn round(&mut self, alloc: Global, lists: &CallLists, first: usize) -> Result<(), RunFault>
+        requires seats { IsSeated self.old (length lists.now) }
+        requires over { AreOver lists.now (stage_of self.old) first }
+        requires within { first ≤ length lists.now }
         ensures round { OnOk result (Round lists.now (stage_of self.old) (stage_of self.new)) }
         ensures seats { IsSeated self.new (length lists.now) }
         ensures fault { IfErr result IsRefusal }
         ensures full { IsErrOf result RunFault.Full → Stops lists.now (stage_of self.old) (range_with_len 0 (length lists.now)) }
     {
-        for seat in 0..self.begun.len() {
+        for seat in first..self.begun.len() {
             self.event(alloc, lists, seat)?;
         }
         Ok(())
@@ -238,11 +268,15 @@ impl Play {
         ensures fault { IfErr result IsRefusal }
         ensures full { IsErrOf result RunFault.Full → StopsInRounds lists.now (stage_of self.old) }
     {
-        'rounds: while self.is_unfinished(lists) {
+        let mut first = 0;
+        'rounds: loop {
+            first = self.first_left(lists, first);
+            if first >= self.begun.len() {
+                return Ok(());
+            }
             self.core.told();
-            self.round(alloc, lists)?;
+            self.round(alloc, lists, first)?;
         }
-        Ok(())
     }
 
     /// The events before rounds to the end.

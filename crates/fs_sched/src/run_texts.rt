@@ -3,6 +3,7 @@
 ghost use Rattle.std.specs.Prelude.{◌≡◌, ◌++◌, OnOk, IfOk, decimal};
 ghost use Rattle.fs_nodes.specs.Stores.{graph_of};
 ghost use Rattle.fs_text.specs.Journal.{journal_text};
+ghost use Rattle.fs_sched.specs.declared.run_texts.EntryKind.TheVariants as kind;
 ghost use Rattle.fs_sched.specs.RunTexts.{is_of, number_of, counts_line, end_line, IsRunText};
 
 use fs_nodes::Store;
@@ -45,6 +46,37 @@ pub fn number_of(kind: EntryKind, entries: &[Entry]) -> usize
     count
 }
 
+/// How many entries of each kind there are.
+#[derive(Clone, Copy, Debug, PartialEq, Eq)]
+pub(crate) struct Counts {
+    pub(crate) begun: usize,
+    pub(crate) committed: usize,
+    pub(crate) returned: usize,
+}
+
+/// The same of these entries, in one pass.
+pub(crate) fn counts_of(entries: &[Entry]) -> Counts
+    ensures begun { result.begun ≡ number_of kind.Begin entries.now }
+    ensures committed { result.committed ≡ number_of kind.Commit entries.now }
+    ensures returned { result.returned ≡ number_of kind.Return entries.now }
+{
+    let mut begun = 0;
+    let mut committed = 0;
+    let mut returned = 0;
+    for entry in entries {
+        match entry {
+            Entry::Begin(_, _, _) => begun += 1,
+            Entry::Commit(_) => committed += 1,
+            Entry::Return(_, _) => returned += 1,
+        }
+    }
+    Counts {
+        begun,
+        committed,
+        returned,
+    }
+}
+
 /// A journal's header line, and a line for each entry.
 fn journal_text(alloc: Global, entries: &[Entry]) -> Result<Vec<u8>, AllocError>
     ensures { IfOk result (λ text. text.items ≡ journal_text entries.now) }
@@ -65,18 +97,13 @@ fn push_count(word: &[u8], count: usize, line: &mut Addition) -> Result<(), Allo
     line.push_number(count as u64)
 }
 
-fn push_counts(
-    begun: usize,
-    committed: usize,
-    returned: usize,
-    line: &mut Addition,
-) -> Result<(), AllocError>
-    ensures ok { OnOk result (line.new.added ≡ line.old.added ++ counts_line begun committed returned) }
+fn push_counts(counts: Counts, line: &mut Addition) -> Result<(), AllocError>
+    ensures ok { OnOk result (line.new.added ≡ line.old.added ++ counts_line counts.begun counts.committed counts.returned) }
     ensures before { line.new.before ≡ line.old.before }
 {
-    push_count(b"begun ", begun, line)?;
-    push_count(b" committed ", committed, line)?;
-    push_count(b" returned ", returned, line)?;
+    push_count(b"begun ", counts.begun, line)?;
+    push_count(b" committed ", counts.committed, line)?;
+    push_count(b" returned ", counts.returned, line)?;
     line.push(b"\n")
 }
 
@@ -85,12 +112,7 @@ fn end_line(alloc: Global, entries: &[Entry]) -> Result<Vec<u8>, AllocError>
     ensures { IfOk result (λ text. text.items ≡ end_line entries.now) }
 {
     let mut line = Addition::new(Vec::new(alloc));
-    push_counts(
-        number_of(EntryKind::Begin, entries),
-        number_of(EntryKind::Commit, entries),
-        number_of(EntryKind::Return, entries),
-        &mut line,
-    )?;
+    push_counts(counts_of(entries), &mut line)?;
     Ok(line.kept())
 }
 

@@ -12,7 +12,7 @@ ghost use Rattle.fs_sched.specs.code.Stages.{stage_of, IsRefusal, IsFaultOrRefus
 use crate::device::{Sink, Source};
 use crate::fault::{RunFault, run_fault};
 use crate::play::Play;
-use crate::run_texts::{EntryKind, number_of, run_text};
+use crate::run_texts::{counts_of, run_text};
 use crate::schedule::Schedule;
 use crate::sink::write_text;
 use crate::source::read_text;
@@ -51,10 +51,11 @@ fn count_calls(lists: &[Vec<Call>]) -> usize
 fn end_of(script: &Script, entries: &[Entry]) -> RunEnd
     ensures { result ≡ end_of script.now entries.now }
 {
+    let counts = counts_of(entries);
     RunEnd {
-        begun: number_of(EntryKind::Begin, entries),
-        committed: number_of(EntryKind::Commit, entries),
-        returned: number_of(EntryKind::Return, entries),
+        begun: counts.begun,
+        committed: counts.committed,
+        returned: counts.returned,
         calls: count_calls(script.lists.as_slice()),
     }
 }

@@ -1,8 +1,9 @@
 -- Where a run stands that the code does.
-use Rattle.std.specs.Prelude.{ℕ, ◌≡◌, length, Result, Err}
+use Rattle.std.specs.Prelude.{ℕ, ◌≡◌, ◌<◌, false, List, length, Result, Err}
+use Rattle.fs_calls.specs.declared.call.Call.{Call}
 use Rattle.fs_core.specs.CoreValues.{state_of}
 use Rattle.fs_text.specs.declared.fault.ScriptFault.{ScriptFault}
-use Rattle.fs_sched.specs.Runs.{Stage}
+use Rattle.fs_sched.specs.Runs.{Stage, has_more}
 use Rattle.fs_sched.specs.declared.play.Play.{Play}
 use Rattle.fs_sched.specs.declared.fault.RunFault.{RunFault}
 use Rattle.fs_sched.specs.declared.fault.RunFault.TheVariants.{Input, Read, Write, OutOfMemory, Full}
@@ -15,6 +16,10 @@ stage_of play = record { state = state_of play.core; begun = play.begun.items }
 pub record IsSeated (play : Play) (threads : ℕ) : Type 0 where
   pub seats : length play.core.seats ≡ threads
   pub begun : length play.begun.items ≡ threads
+
+-- the threads before this one have nothing left to do
+abbrev pub AreOver : List (List Call) → Stage → ℕ → Type 0
+AreOver lists s from = (seat : ℕ) → seat < from → has_more lists s seat ≡ false
 
 -- what a call's refusal gives
 abbrev pub IsRefusal : RunFault → Type 0

@@ -5,5 +5,5 @@ use Rattle.fs_sched.proofs.run_texts.push_counts.Goals as goal
 
 pub returns-clause-ok : goal.returns-clause-ok
 returns-clause-ok c =
-    on_ok_weaker c.push.result (λ e. three_pushed _ (codes "begun ") (decimal c.args.begun) (codes " committed ") (decimal c.args.committed) (codes " returned ") (decimal c.args.returned) (codes "\n") _ _ _ _
+    on_ok_weaker c.push.result (λ e. three_pushed _ (codes "begun ") (decimal c.args.counts.begun) (codes " committed ") (decimal c.args.counts.committed) (codes " returned ") (decimal c.args.counts.returned) (codes "\n") _ _ _ _
     c.in_ok-push_count.ensures.ok c.in_ok-push_count-2.ensures.ok c.in_ok-push_count-3.ensures.ok e) c.push.ensures.ok

@@ -1,24 +1,26 @@
 use Rattle.std.proofs.Common.{◌≡◌, Err, length, ap, rules, arith}
 use Rattle.fs_sched.specs.code.Stages.{stage_of}
 use Rattle.fs_sched.proofs.Staging.{lead_more, lead_end, draws_more, draws_end, over_stays}
+use Rattle.fs_sched.proofs.OverLemmas.{event_over}
 use Rattle.fs_sched.proofs.Stopping.{stop_more, stop_here}
 use Rattle.fs_sched.specs.declared.fault.RunFault.TheVariants.{Full}
 use Rattle.fs_sched.proofs.play.Play.drawn.Goals as goal
 
-pub returns-then-not-is_unfinished-clause-events : goal.returns-then-not-is_unfinished-clause-events
-returns-then-not-is_unfinished-clause-events c = c.loop.invariant.lead (stage_of c.loop.self) (over_stays c.args.lists.now c.loop.self c.loop.invariant.seats (c.if-not-is_unfinished.ensures.over (search rules)) _)
+pub returns-then-first-len-clause-events : goal.returns-then-first-len-clause-events
+returns-then-first-len-clause-events c = c.loop.invariant.lead (stage_of c.loop.self) (over_stays c.args.lists.now c.loop.self c.loop.invariant.seats (λ seat less. c.first_left-first.ensures.over seat (omega arith)) _)
 
 pub loop-preserved : goal.loop-preserved
 loop-preserved c =
     let h : length c.loop.self.begun.items ≡ length c.args.lists.now = c.loop.invariant.seats.begun in
-    let e : c.len.result ≡ length c.args.lists.now = omega (arith, h) in
+    let e : c.len-in-loop.result ≡ length c.args.lists.now = omega (arith, h) in
     record {
+      over = λ k less. event_over c.args.lists.now (stage_of c.loop.self) (stage_of c.event.new.self) c.seat-seat.result k c.in_ok-event.ensures.event (c.first_left-first.ensures.over k less);
       seats = c.in_ok-event.ensures.seats;
       stop = stop_more c.args.lists.now (stage_of c.args.self.now) (stage_of c.loop.self) (stage_of c.event.new.self) _ _ _ c.seat-seat.result
-          (draws_more c.len.result (length c.args.lists.now) c.loop.counter c.seat-seat.result c.loop.draws c.seat-seat.new.self e c.loop-test.true c.seat-seat.ensures)
+          (draws_more c.len-in-loop.result (length c.args.lists.now) c.loop.counter c.seat-seat.result c.loop.draws c.seat-seat.new.self e c.loop-test.true c.seat-seat.ensures)
           c.loop.invariant.stop c.in_ok-event.ensures.event;
       lead = lead_more c.args.lists.now (stage_of c.args.self.now) (stage_of c.loop.self) (stage_of c.event.new.self) _ _ _ c.seat-seat.result
-          (draws_more c.len.result (length c.args.lists.now) c.loop.counter c.seat-seat.result c.loop.draws c.seat-seat.new.self e c.loop-test.true c.seat-seat.ensures)
+          (draws_more c.len-in-loop.result (length c.args.lists.now) c.loop.counter c.seat-seat.result c.loop.draws c.seat-seat.new.self e c.loop-test.true c.seat-seat.ensures)
           c.loop.invariant.lead c.in_ok-event.ensures.event;
     }
 
@@ -28,7 +30,7 @@ returns-clause-events c = lead_end c.args.lists.now (stage_of c.args.self.now) (
 pub returns-in_err-event-clause-full : goal.returns-in_err-event-clause-full
 returns-in_err-event-clause-full c f =
     let h : length c.loop.self.begun.items ≡ length c.args.lists.now = c.loop.invariant.seats.begun in
-    let e : c.len.result ≡ length c.args.lists.now = omega (arith, h) in
+    let e : c.len-in-loop.result ≡ length c.args.lists.now = omega (arith, h) in
     stop_here c.args.lists.now (stage_of c.args.self.now) (stage_of c.loop.self) _ _ _ c.seat-seat.result
-    (draws_more c.len.result (length c.args.lists.now) c.loop.counter c.seat-seat.result c.loop.draws c.seat-seat.new.self e c.loop-test.true c.seat-seat.ensures)
+    (draws_more c.len-in-loop.result (length c.args.lists.now) c.loop.counter c.seat-seat.result c.loop.draws c.seat-seat.new.self e c.loop-test.true c.seat-seat.ensures)
     c.loop.invariant.stop (c.in_err-event.ensures.full (let k : c.in_err-event.field-0.0 ≡ Full = search rules in ap Err k))

@@ -1,6 +1,7 @@
-use Rattle.std.proofs.Common.{◌≡◌, Err, ap, rules}
+use Rattle.std.proofs.Common.{◌≡◌, Err, length, ap, rules, arith}
 use Rattle.fs_sched.specs.Runs.{Over, InRound}
 use Rattle.fs_sched.specs.code.Stages.{stage_of}
+use Rattle.fs_sched.proofs.OverLemmas.{events_over, there}
 use Rattle.fs_sched.proofs.Rounds.{round_smaller}
 use Rattle.fs_sched.proofs.Staging.{round_more, seats_there}
 use Rattle.fs_sched.proofs.Stopping.{stop_round}
@@ -8,17 +9,18 @@ use Rattle.fs_sched.specs.declared.fault.RunFault.TheVariants.{Full}
 use Rattle.fs_sched.proofs.play.Play.finish.Goals as goal
 
 pub rounds-smaller : goal.rounds-smaller
-rounds-smaller c = round_smaller c.args.lists.now (stage_of c.rounds.self) (stage_of c.round.new.self) c.told.ensures.run c.rounds.invariant.seats.begun (seats_there c.args.lists.now c.rounds.self c.rounds.invariant.seats) (c.rounds-test.ensures.unfinished (search rules)) c.in_ok-round.ensures.round
+rounds-smaller c = round_smaller c.args.lists.now (stage_of c.rounds.self) (stage_of c.round.new.self) c.told.ensures.run c.rounds.invariant.seats.begun (seats_there c.args.lists.now c.rounds.self c.rounds.invariant.seats) (there c.args.lists.now (stage_of c.rounds.self) c.first_left-first.result (length c.rounds.self.begun.items) c.rounds.invariant.seats.begun (omega arith) c.first_left-first.ensures.left) c.in_ok-round.ensures.round
 
 pub rounds-preserved : goal.rounds-preserved
 rounds-preserved c = record {
+  over = λ k less. events_over c.args.lists.now _ (stage_of c.rounds.self) (stage_of c.round.new.self) k c.in_ok-round.ensures.round (c.first_left-first.ensures.over k less);
   seats = c.in_ok-round.ensures.seats;
-  stop = stop_round c.args.lists.now (stage_of c.args.self.now) (stage_of c.rounds.self) (stage_of c.round.new.self) c.rounds.invariant.stop (c.rounds-test.ensures.unfinished (search rules)) c.in_ok-round.ensures.round;
-  lead = round_more c.args.lists.now (stage_of c.args.self.now) (stage_of c.rounds.self) (stage_of c.round.new.self) c.rounds.invariant.lead (c.rounds-test.ensures.unfinished (search rules)) c.in_ok-round.ensures.round;
+  stop = stop_round c.args.lists.now (stage_of c.args.self.now) (stage_of c.rounds.self) (stage_of c.round.new.self) c.rounds.invariant.stop (there c.args.lists.now (stage_of c.rounds.self) c.first_left-first.result (length c.rounds.self.begun.items) c.rounds.invariant.seats.begun (omega arith) c.first_left-first.ensures.left) c.in_ok-round.ensures.round;
+  lead = round_more c.args.lists.now (stage_of c.args.self.now) (stage_of c.rounds.self) (stage_of c.round.new.self) c.rounds.invariant.lead (there c.args.lists.now (stage_of c.rounds.self) c.first_left-first.result (length c.rounds.self.begun.items) c.rounds.invariant.seats.begun (omega arith) c.first_left-first.ensures.left) c.in_ok-round.ensures.round;
 }
 
-pub returns-clause-ended : goal.returns-clause-ended
-returns-clause-ended c = c.rounds.invariant.lead (stage_of c.rounds.self) (Over (c.rounds-test.ensures.over (search rules)))
+pub returns-then-first-len-clause-ended : goal.returns-then-first-len-clause-ended
+returns-then-first-len-clause-ended c = c.rounds.invariant.lead (stage_of c.rounds.self) (Over (λ seat less. c.first_left-first.ensures.over seat (omega arith)))
 
 pub returns-in_err-round-clause-full : goal.returns-in_err-round-clause-full
-returns-in_err-round-clause-full c e = c.rounds.invariant.stop (InRound (c.rounds-test.ensures.unfinished (search rules)) (c.in_err-round.ensures.full (let k : c.in_err-round.field-0.0 ≡ Full = search rules in ap Err k)))
+returns-in_err-round-clause-full c e = c.rounds.invariant.stop (InRound (there c.args.lists.now (stage_of c.rounds.self) c.first_left-first.result (length c.rounds.self.begun.items) c.rounds.invariant.seats.begun (omega arith) c.first_left-first.ensures.left) (c.in_err-round.ensures.full (let k : c.in_err-round.field-0.0 ≡ Full = search rules in ap Err k)))

@@ -1,9 +1,17 @@
 use Rattle.std.proofs.Common.{◌≡◌, ◌<◌, Err, length, ap, rules, arith}
 use Rattle.fs_sched.specs.code.Stages.{stage_of}
 use Rattle.fs_sched.proofs.Staging.{lead_more, range_more}
+use Rattle.fs_sched.proofs.OverLemmas.{lead_from, stop_from}
 use Rattle.fs_sched.proofs.Stopping.{stop_more, stop_here}
 use Rattle.fs_sched.specs.declared.fault.RunFault.TheVariants.{Full}
 use Rattle.fs_sched.proofs.play.Play.round.Goals as goal
+
+pub loop-seat-init : goal.loop-seat-init
+loop-seat-init c = record {
+  seats = c.requires.seats;
+  stop = stop_from c.args.lists.now (stage_of c.args.self.now) c.args.first (length c.args.lists.now) c.requires.within c.requires.over;
+  lead = lead_from c.args.lists.now (stage_of c.args.self.now) c.args.first (length c.args.lists.now) c.requires.within c.requires.over;
+}
 
 pub loop-seat-preserved : goal.loop-seat-preserved
 loop-seat-preserved c =

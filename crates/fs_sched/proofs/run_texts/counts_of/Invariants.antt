@@ -1,0 +1,12 @@
+use Rattle.std.proofs.Common.{◌≡◌, take}
+use Rattle.fs_sched.specs.RunTexts.{number_of}
+use Rattle.fs_sched.specs.declared.run_texts.EntryKind.TheVariants as kind
+use Rattle.fs_sched.proofs.run_texts.counts_of.Given as goal
+
+-- the numbers of the entries so far
+abbrev pub invariant-loop-entry : goal.invariant-loop-entry
+invariant-loop-entry l = record {
+  begun : l.begun ≡ number_of kind.Begin (take l.entry-index l.entries);
+  committed : l.committed ≡ number_of kind.Commit (take l.entry-index l.entries);
+  returned : l.returned ≡ number_of kind.Return (take l.entry-index l.entries);
+}
