@@ -1,0 +1,504 @@
+// A plain tree on hash maps, with no locks, no steps and no proof: what the program is measured against.
+//
+// plain run < SCRIPT: the run text of a script of one thread that ends in `finish`, as `atomfs run` writes it.
+// plain check < JOURNAL: reads a journal, replays the commits and compares the replies: `lawful`, or `fault` and a place.
+use std::collections::HashMap;
+use std::io::{Read, Write};
+
+#[derive(Clone, PartialEq)]
+enum Reply {
+    Done,
+    Stat(bool, u64),
+    Names(Vec<Vec<u8>>),
+    Bytes(Vec<u8>),
+    Wrote(u64),
+    Failed(&'static str),
+}
+
+#[derive(Clone)]
+enum Call {
+    Mkdir(Vec<u8>),
+    Mknod(Vec<u8>),
+    Unlink(Vec<u8>),
+    Rmdir(Vec<u8>),
+    Rename(Vec<u8>, Vec<u8>),
+    Stat(Vec<u8>),
+    Readdir(Vec<u8>),
+    Read(Vec<u8>, u64, u64),
+    Write(Vec<u8>, u64, Vec<u8>),
+    Truncate(Vec<u8>, u64),
+}
+
+enum Node {
+    Dir(HashMap<Vec<u8>, usize>),
+    File(Vec<u8>),
+}
+
+struct Tree {
+    nodes: Vec<Node>,
+    free: Vec<usize>,
+}
+
+type Answer = Result<Reply, &'static str>;
+
+const ERRORS: [&str; 10] = [
+    "ENOENT", "ENOTDIR", "EEXIST", "ENOTEMPTY", "EISDIR", "EINVAL", "EBUSY", "EPERM", "ENOSPC", "EFBIG",
+];
+const ENTRIES: usize = 256;
+const BYTES: u64 = 65_536;
+
+fn names(path: &[u8]) -> impl Iterator<Item = &[u8]> {
+    path.split(|b| *b == b'/').filter(|name| !name.is_empty())
+}
+
+/// The parent's path, and the last name.
+fn parts(path: &[u8]) -> (&[u8], &[u8]) {
+    let at = path.iter().rposition(|b| *b == b'/').unwrap();
+    (&path[..at], &path[at + 1..])
+}
+
+impl Tree {
+    fn new() -> Tree {
+        Tree { nodes: vec![Node::Dir(HashMap::new())], free: Vec::new() }
+    }
+
+    fn dir(&mut self, node: usize) -> Result<&mut HashMap<Vec<u8>, usize>, &'static str> {
+        match &mut self.nodes[node] {
+            Node::Dir(entries) => Ok(entries),
+            Node::File(_) => Err("ENOTDIR"),
+        }
+    }
+
+    fn find(&self, path: &[u8]) -> Result<usize, &'static str> {
+        let mut node = 0;
+        for name in names(path) {
+            match &self.nodes[node] {
+                Node::Dir(entries) => node = *entries.get(name).ok_or("ENOENT")?,
+                Node::File(_) => return Err("ENOTDIR"),
+            }
+        }
+        Ok(node)
+    }
+
+    fn file(&mut self, path: &[u8]) -> Result<&mut Vec<u8>, &'static str> {
+        let node = self.find(path)?;
+        match &mut self.nodes[node] {
+            Node::File(bytes) => Ok(bytes),
+            Node::Dir(_) => Err("EISDIR"),
+        }
+    }
+
+    fn add(&mut self, path: &[u8], node: Node) -> Answer {
+        if path.len() == 1 {
+            return Err("EEXIST");
+        }
+        let (above, name) = parts(path);
+        let dir = self.find(above)?;
+        let entries = self.dir(dir)?;
+        if entries.contains_key(name) {
+            return Err("EEXIST");
+        }
+        if entries.len() >= ENTRIES {
+            return Err("ENOSPC");
+        }
+        let number = match self.free.pop() {
+            Some(number) => {
+                self.nodes[number] = node;
+                number
+            }
+            None => {
+                self.nodes.push(node);
+                self.nodes.len() - 1
+            }
+        };
+        self.dir(dir)?.insert(name.to_vec(), number);
+        Ok(Reply::Done)
+    }
+
+    fn remove(&mut self, dir: usize, name: &[u8]) -> Answer {
+        let node = self.dir(dir)?.remove(name).unwrap();
+        self.nodes[node] = Node::File(Vec::new());
+        self.free.push(node);
+        Ok(Reply::Done)
+    }
+
+    fn unlink(&mut self, path: &[u8]) -> Answer {
+        if path.len() == 1 {
+            return Err("EPERM");
+        }
+        let (above, name) = parts(path);
+        let dir = self.find(above)?;
+        let node = *self.dir(dir)?.get(name).ok_or("ENOENT")?;
+        match self.nodes[node] {
+            Node::Dir(_) => Err("EPERM"),
+            Node::File(_) => self.remove(dir, name),
+        }
+    }
+
+    fn rmdir(&mut self, path: &[u8]) -> Answer {
+        if path.len() == 1 {
+            return Err("EBUSY");
+        }
+        let (above, name) = parts(path);
+        let dir = self.find(above)?;
+        let node = *self.dir(dir)?.get(name).ok_or("ENOENT")?;
+        if !self.dir(node)?.is_empty() {
+            return Err("ENOTEMPTY");
+        }
+        self.remove(dir, name)
+    }
+
+    fn rename(&mut self, from: &[u8], to: &[u8]) -> Answer {
+        if from.len() == 1 || to.len() == 1 {
+            return Err("EBUSY");
+        }
+        if to.len() > from.len() && to.starts_with(from) && to[from.len()] == b'/' {
+            return Err("EINVAL");
+        }
+        let ((above, name), (beyond, new)) = (parts(from), parts(to));
+        let old_dir = self.find(above)?;
+        self.dir(old_dir)?;
+        let new_dir = self.find(beyond)?;
+        self.dir(new_dir)?;
+        let node = *self.dir(old_dir)?.get(name).ok_or("ENOENT")?;
+        if from == to {
+            return Ok(Reply::Done);
+        }
+        let is_dir = matches!(self.nodes[node], Node::Dir(_));
+        match self.dir(new_dir)?.get(new).copied() {
+            Some(victim) => {
+                match &self.nodes[victim] {
+                    Node::Dir(_) if !is_dir => return Err("EISDIR"),
+                    Node::Dir(entries) if !entries.is_empty() => return Err("ENOTEMPTY"),
+                    Node::File(_) if is_dir => return Err("ENOTDIR"),
+                    _ => {}
+                }
+                self.remove(new_dir, new)?;
+            }
+            None if old_dir != new_dir && self.dir(new_dir)?.len() >= ENTRIES => return Err("ENOSPC"),
+            None => {}
+        }
+        self.dir(old_dir)?.remove(name);
+        self.dir(new_dir)?.insert(new.to_vec(), node);
+        Ok(Reply::Done)
+    }
+
+    fn write(&mut self, path: &[u8], off: u64, more: &[u8]) -> Answer {
+        let bytes = self.file(path)?;
+        let end = off.saturating_add(more.len() as u64);
+        if !more.is_empty() {
+            if end > BYTES {
+                return Err("EFBIG");
+            }
+            if bytes.len() < end as usize {
+                bytes.resize(end as usize, 0);
+            }
+            bytes[off as usize..end as usize].copy_from_slice(more);
+        }
+        Ok(Reply::Wrote(more.len() as u64))
+    }
+
+    fn stat(&self, path: &[u8]) -> Answer {
+        Ok(match &self.nodes[self.find(path)?] {
+            Node::Dir(entries) => Reply::Stat(true, entries.len() as u64),
+            Node::File(bytes) => Reply::Stat(false, bytes.len() as u64),
+        })
+    }
+
+    fn apply(&mut self, call: &Call) -> Reply {
+        let answer = match call {
+            Call::Mkdir(path) => self.add(path, Node::Dir(HashMap::new())),
+            Call::Mknod(path) => self.add(path, Node::File(Vec::new())),
+            Call::Unlink(path) => self.unlink(path),
+            Call::Rmdir(path) => self.rmdir(path),
+            Call::Rename(from, to) => self.rename(from, to),
+            Call::Stat(path) => self.stat(path),
+            Call::Readdir(path) => self.find(path).and_then(|node| self.dir(node)).map(|entries| {
+                let mut all: Vec<Vec<u8>> = entries.keys().cloned().collect();
+                all.sort_unstable();
+                Reply::Names(all)
+            }),
+            Call::Read(path, off, count) => self.file(path).map(|bytes| {
+                let from = (*off).min(bytes.len() as u64) as usize;
+                let to = off.saturating_add(*count).min(bytes.len() as u64) as usize;
+                Reply::Bytes(bytes[from..to].to_vec())
+            }),
+            Call::Write(path, off, bytes) => self.write(path, *off, bytes),
+            Call::Truncate(path, size) => self.file(path).and_then(|bytes| {
+                if *size > BYTES {
+                    return Err("EFBIG");
+                }
+                bytes.resize(*size as usize, 0);
+                Ok(Reply::Done)
+            }),
+        };
+        answer.unwrap_or_else(Reply::Failed)
+    }
+}
+
+fn number(word: &[u8]) -> u64 {
+    word.iter().fold(0, |n, b| n * 10 + u64::from(b - b'0'))
+}
+
+fn unescaped(word: &[u8]) -> Vec<u8> {
+    let mut bytes = Vec::with_capacity(word.len());
+    let mut at = 0;
+    while at < word.len() {
+        if word[at] == b'%' {
+            bytes.push(digit(word[at + 1]) * 16 + digit(word[at + 2]));
+            at += 3;
+        } else {
+            bytes.push(word[at]);
+            at += 1;
+        }
+    }
+    bytes
+}
+
+fn digit(byte: u8) -> u8 {
+    match byte {
+        b'0'..=b'9' => byte - b'0',
+        b'a'..=b'f' => byte - b'a' + 10,
+        b'A'..=b'F' => byte - b'A' + 10,
+        _ => panic!("no digit"),
+    }
+}
+
+fn bytes_of(word: &[u8]) -> Vec<u8> {
+    if word == b"-" {
+        return Vec::new();
+    }
+    word.chunks_exact(2).map(|pair| digit(pair[0]) * 16 + digit(pair[1])).collect()
+}
+
+fn call_of(words: &[&[u8]]) -> Call {
+    let path = unescaped(words[1]);
+    match words[0] {
+        b"mkdir" => Call::Mkdir(path),
+        b"mknod" => Call::Mknod(path),
+        b"unlink" => Call::Unlink(path),
+        b"rmdir" => Call::Rmdir(path),
+        b"rename" => Call::Rename(path, unescaped(words[2])),
+        b"stat" => Call::Stat(path),
+        b"readdir" => Call::Readdir(path),
+        b"read" => Call::Read(path, number(words[2]), number(words[3])),
+        b"write" => Call::Write(path, number(words[2]), bytes_of(words[3])),
+        b"truncate" => Call::Truncate(path, number(words[2])),
+        _ => panic!("no call"),
+    }
+}
+
+fn reply_of(words: &[&[u8]]) -> Reply {
+    match words[0] {
+        b"ok" => Reply::Done,
+        b"stat" => Reply::Stat(words[1] == b"dir", number(words[2])),
+        b"names" => Reply::Names(words[1..].iter().map(|word| unescaped(word)).collect()),
+        b"bytes" => Reply::Bytes(bytes_of(words[1])),
+        b"wrote" => Reply::Wrote(number(words[1])),
+        _ => Reply::Failed(ERRORS.iter().find(|it| it.as_bytes() == words[1]).unwrap()),
+    }
+}
+
+fn push_escaped(text: &mut Vec<u8>, bytes: &[u8]) {
+    for byte in bytes {
+        match byte {
+            0..=32 | b'%' | 127.. => write!(text, "%{byte:02X}").unwrap(),
+            _ => text.push(*byte),
+        }
+    }
+}
+
+fn push_hex(text: &mut Vec<u8>, bytes: &[u8]) {
+    if bytes.is_empty() {
+        text.push(b'-');
+    }
+    for byte in bytes {
+        text.push(b"0123456789abcdef"[usize::from(byte >> 4)]);
+        text.push(b"0123456789abcdef"[usize::from(byte & 15)]);
+    }
+}
+
+fn push_call(text: &mut Vec<u8>, call: &Call) {
+    let (word, path) = match call {
+        Call::Mkdir(path) => ("mkdir ", path),
+        Call::Mknod(path) => ("mknod ", path),
+        Call::Unlink(path) => ("unlink ", path),
+        Call::Rmdir(path) => ("rmdir ", path),
+        Call::Rename(path, _) => ("rename ", path),
+        Call::Stat(path) => ("stat ", path),
+        Call::Readdir(path) => ("readdir ", path),
+        Call::Read(path, _, _) => ("read ", path),
+        Call::Write(path, _, _) => ("write ", path),
+        Call::Truncate(path, _) => ("truncate ", path),
+    };
+    text.extend_from_slice(word.as_bytes());
+    push_escaped(text, path);
+    match call {
+        Call::Rename(_, to) => {
+            text.push(b' ');
+            push_escaped(text, to);
+        }
+        Call::Read(_, off, count) => write!(text, " {off} {count}").unwrap(),
+        Call::Write(_, off, bytes) => {
+            write!(text, " {off} ").unwrap();
+            push_hex(text, bytes);
+        }
+        Call::Truncate(_, size) => write!(text, " {size}").unwrap(),
+        _ => {}
+    }
+}
+
+fn push_reply(text: &mut Vec<u8>, reply: &Reply) {
+    match reply {
+        Reply::Done => text.extend_from_slice(b"ok"),
+        Reply::Stat(true, size) => write!(text, "stat dir {size}").unwrap(),
+        Reply::Stat(false, size) => write!(text, "stat file {size}").unwrap(),
+        Reply::Names(names) => {
+            text.extend_from_slice(b"names");
+            for name in names {
+                text.push(b' ');
+                push_escaped(text, name);
+            }
+        }
+        Reply::Bytes(bytes) => {
+            text.extend_from_slice(b"bytes ");
+            push_hex(text, bytes);
+        }
+        Reply::Wrote(size) => write!(text, "wrote {size}").unwrap(),
+        Reply::Failed(error) => write!(text, "failed {error}").unwrap(),
+    }
+}
+
+fn push_tree(text: &mut Vec<u8>, tree: &Tree, node: usize, path: &mut Vec<u8>) {
+    match &tree.nodes[node] {
+        Node::File(bytes) => {
+            text.extend_from_slice(b"file ");
+            push_escaped(text, path);
+            text.push(b' ');
+            push_hex(text, bytes);
+            text.push(b'\n');
+        }
+        Node::Dir(entries) => {
+            text.extend_from_slice(b"dir ");
+            push_escaped(text, if path.is_empty() { b"/" } else { path });
+            text.push(b'\n');
+            let mut sorted: Vec<(&Vec<u8>, &usize)> = entries.iter().collect();
+            sorted.sort_unstable();
+            for (name, node) in sorted {
+                let len = path.len();
+                path.push(b'/');
+                path.extend_from_slice(name);
+                push_tree(text, tree, *node, path);
+                path.truncate(len);
+            }
+        }
+    }
+}
+
+/// A script's calls, kept, played, and kept again with their replies, and then the text.
+fn run(input: &[u8]) -> Vec<u8> {
+    let calls: Vec<Call> = input
+        .split(|b| *b == b'\n')
+        .skip(2)
+        .take_while(|line| *line != b"schedule")
+        .map(|line| call_of(&line.split(|b| *b == b' ').collect::<Vec<_>>()))
+        .collect();
+    let mut tree = Tree::new();
+    let mut journal = Vec::new();
+    for call in &calls {
+        journal.push((call.clone(), tree.apply(call)));
+    }
+    let mut text = b"atomfs-journal 1\n".to_vec();
+    for (index, (call, reply)) in journal.iter().enumerate() {
+        let number = index + 1;
+        write!(text, "begin {number} 0 ").unwrap();
+        push_call(&mut text, call);
+        write!(text, "\ncommit {number}\nreturn {number} ").unwrap();
+        push_reply(&mut text, reply);
+        text.push(b'\n');
+    }
+    text.extend_from_slice(b"tree\n");
+    push_tree(&mut text, &tree, 0, &mut Vec::new());
+    let count = calls.len();
+    writeln!(text, "begun {count} committed {count} returned {count}").unwrap();
+    text
+}
+
+/// What is known of a call: it, the reply that is due once it has committed, and whether it has returned.
+struct Begun {
+    call: Call,
+    due: Option<Reply>,
+    returned: bool,
+}
+
+enum Entry {
+    Begin(u64, u64, Call),
+    Commit(u64),
+    Return(u64, Reply),
+}
+
+fn entry_of(line: &[u8]) -> Entry {
+    let words: Vec<&[u8]> = line.split(|b| *b == b' ').collect();
+    match words[0] {
+        b"begin" => Entry::Begin(number(words[1]), number(words[2]), call_of(&words[3..])),
+        b"commit" => Entry::Commit(number(words[1])),
+        _ => Entry::Return(number(words[1]), reply_of(&words[2..])),
+    }
+}
+
+/// Whether an entry fits those before it.
+fn fits(entry: Entry, tree: &mut Tree, calls: &mut HashMap<u64, Begun>, last: &mut HashMap<u64, u64>) -> bool {
+    match entry {
+        Entry::Begin(number, seat, call) => {
+            let is_busy = last.get(&seat).is_some_and(|it| !calls[it].returned);
+            if calls.contains_key(&number) || is_busy {
+                return false;
+            }
+            last.insert(seat, number);
+            calls.insert(number, Begun { call, due: None, returned: false });
+            true
+        }
+        Entry::Commit(number) => match calls.get_mut(&number) {
+            Some(begun) if begun.due.is_none() => {
+                begun.due = Some(tree.apply(&begun.call));
+                true
+            }
+            _ => false,
+        },
+        Entry::Return(number, reply) => match calls.get_mut(&number) {
+            Some(begun) if !begun.returned && begun.due.as_ref() == Some(&reply) => {
+                begun.returned = true;
+                true
+            }
+            _ => false,
+        },
+    }
+}
+
+/// The entries, read and kept, and then the verdict on them.
+fn check(input: &[u8]) -> Vec<u8> {
+    let entries: Vec<Entry> = input
+        .split(|b| *b == b'\n')
+        .skip(1)
+        .take_while(|line| *line != b"tree" && !line.is_empty())
+        .map(entry_of)
+        .collect();
+    let (mut tree, mut calls, mut last) = (Tree::new(), HashMap::new(), HashMap::new());
+    for (index, entry) in entries.into_iter().enumerate() {
+        if !fits(entry, &mut tree, &mut calls, &mut last) {
+            return format!("fault {}\n", index + 1).into_bytes();
+        }
+    }
+    b"lawful\n".to_vec()
+}
+
+fn main() {
+    let mut input = Vec::new();
+    std::io::stdin().lock().read_to_end(&mut input).unwrap();
+    let text = match std::env::args().nth(1).as_deref() {
+        Some("run") => run(&input),
+        Some("check") => check(&input),
+        _ => panic!("plain run, or plain check"),
+    };
+    std::io::stdout().lock().write_all(&text).unwrap();
+}
