@@ -1,6 +1,5 @@
 //! The lines of the docs: a told caller hands its stamp on to a thread that has an observer.
 
-use crate::rows::Row;
 use fs_calls::{Call, Reply};
 use fs_names::{Kind, Path};
 use fs_share::{AtomFs, Named, Observer, Open, Stamp};
@@ -23,26 +22,21 @@ fn sees<N: Named>(
 }
 
 /// Whether two threads that are handed the stamp of a told call both see the call.
-pub struct HandedOn;
-
-impl Row for HandedOn {
-    fn holds<N: Named + Send + Sync, R: Threads + Wait + Clock + Sync>(
-        &self,
-        rt: &R,
-        alloc: Global,
-        fs: &AtomFs<N>,
-    ) -> Option<bool> {
-        let mut session = fs.session(rt).ok()?;
-        let call = Call::Mkdir(Path::parse(alloc, b"/a").ok()?);
-        let told = session.call_told(rt, alloc, &call, &Open).ok()?;
-        let stamp = told.stamp?;
-        let mut first = fs.observer(rt).ok()?;
-        let mut second = fs.observer(rt).ok()?;
-        let (one, other) = thread::join(
-            rt,
-            || sees(alloc, &mut first, &stamp, b"/a"),
-            || sees(alloc, &mut second, &stamp, b"/a"),
-        );
-        Some(one? && other?)
-    }
+pub fn handed_on<N: Named + Send + Sync, R: Threads + Wait + Clock + Sync>(
+    rt: &R,
+    alloc: Global,
+    fs: &AtomFs<N>,
+) -> Option<bool> {
+    let mut session = fs.session(rt).ok()?;
+    let call = Call::Mkdir(Path::parse(alloc, b"/a").ok()?);
+    let told = session.call_told(rt, alloc, &call, &Open).ok()?;
+    let stamp = told.stamp?;
+    let mut first = fs.observer(rt).ok()?;
+    let mut second = fs.observer(rt).ok()?;
+    let (one, other) = thread::join(
+        rt,
+        || sees(alloc, &mut first, &stamp, b"/a"),
+        || sees(alloc, &mut second, &stamp, b"/a"),
+    );
+    Some(one? && other?)
 }

@@ -34,17 +34,13 @@ struct Sample {
 
 /// What the writer and the observers share.
 #[derive(Drop)]
-struct Long {
+pub struct Long {
     done: AtomicU64,
     samples: Mutex<Vec<Vec<Sample>>>,
 }
 
 /// Makes the calls.
-fn writes<N: Named, R: Wait + Clock>(
-    rt: &R,
-    alloc: Global,
-    fs: &AtomFs<N>,
-) -> Option<bool> {
+fn writes<N: Named, R: Wait + Clock>(rt: &R, alloc: Global, fs: &AtomFs<N>) -> Option<bool> {
     let mut random = Pcg32::seed_from_u64(20_001);
     let mut session = fs.session(rt).ok()?;
     for number in 0..CALLS {
@@ -62,7 +58,7 @@ fn writes<N: Named, R: Wait + Clock>(
 }
 
 /// One answer, where the list did not grow meanwhile.
-fn sample<N: Named>(alloc: Global, observer: &mut Observer<N>, text: &[u8]) -> Option<Sample> {
+fn take_sample<N: Named>(alloc: Global, observer: &mut Observer<N>, text: &[u8]) -> Option<Sample> {
     let path = path(alloc, text)?;
     for _ in 0..1000u64 {
         let before = observer.count();
@@ -88,13 +84,13 @@ fn watches<N: Named, R: Wait + Clock>(
         if long.done.load(Ordering::SeqCst) == 1 {
             break;
         }
-        if let Some(sample) = sample(alloc, observer, text) {
+        if let Some(sample) = take_sample(alloc, observer, text) {
             samples.push(sample).ok()?;
         }
         thread::sleep(rt, Duration::from_micros(500));
     }
     if is_set(rt, &long.done) {
-        samples.push(sample(alloc, observer, text)?).ok()?;
+        samples.push(take_sample(alloc, observer, text)?).ok()?;
     }
     let mut all = long.samples.lock(rt);
     let kept = all.push(samples).ok();
@@ -102,60 +98,68 @@ fn watches<N: Named, R: Wait + Clock>(
     kept
 }
 
-impl Long {
-    fn pair<N: Named + Send + Sync, R: Threads + Wait + Clock + Sync>(
-        &self,
-        rt: &R,
-        alloc: Global,
-        fs: &AtomFs<N>,
-        texts: (&[u8], &[u8]),
-    ) -> Option<()> {
-        let mut first = fs.observer(rt).ok()?;
-        let mut second = fs.observer(rt).ok()?;
-        let (one, other) = thread::join(
-            rt,
-            || watches(rt, alloc, &mut first, self, texts.0),
-            || watches(rt, alloc, &mut second, self, texts.1),
-        );
-        one?;
-        other
-    }
-
-    fn four<N: Named + Send + Sync, R: Threads + Wait + Clock + Sync>(
-        &self,
-        rt: &R,
-        alloc: Global,
-        fs: &AtomFs<N>,
-    ) -> Option<()> {
-        let (one, other) = thread::join(
-            rt,
-            || self.pair(rt, alloc, fs, (b"/a", b"/b")),
-            || self.pair(rt, alloc, fs, (b"/a/b", b"/c/a")),
-        );
-        one?;
-        other
-    }
+/// Two observers on two threads.
+fn pair<N: Named + Send + Sync, R: Threads + Wait + Clock + Sync>(
+    rt: &R,
+    alloc: Global,
+    fs: &AtomFs<N>,
+    long: &Long,
+    one_text: &[u8],
+    other_text: &[u8],
+) -> Option<()> {
+    let mut first = fs.observer(rt).ok()?;
+    let mut second = fs.observer(rt).ok()?;
+    let (one, other) = thread::join(
+        rt,
+        || watches(rt, alloc, &mut first, long, one_text),
+        || watches(rt, alloc, &mut second, long, other_text),
+    );
+    one?;
+    other
 }
 
-impl Row for Long {
-    fn holds<N: Named + Send + Sync, R: Threads + Wait + Clock + Sync>(
-        &self,
-        rt: &R,
-        alloc: Global,
-        fs: &AtomFs<N>,
-    ) -> Option<bool> {
-        let (written, watched) = thread::join(
-            rt,
-            || {
-                let written = writes(rt, alloc, fs);
-                self.done.store(1, Ordering::SeqCst);
-                written
-            },
-            || self.four(rt, alloc, fs),
-        );
-        watched?;
-        written
-    }
+/// Four observers on four threads.
+fn four<N: Named + Send + Sync, R: Threads + Wait + Clock + Sync>(
+    rt: &R,
+    alloc: Global,
+    fs: &AtomFs<N>,
+    long: &Long,
+) -> Option<()> {
+    let (one, other) = thread::join(
+        rt,
+        || pair(rt, alloc, fs, long, b"/a", b"/b"),
+        || pair(rt, alloc, fs, long, b"/a/b", b"/c/a"),
+    );
+    one?;
+    other
+}
+
+/// Makes the calls, and tells the observers that it is done.
+fn writes_all<N: Named, R: Wait + Clock>(
+    rt: &R,
+    alloc: Global,
+    fs: &AtomFs<N>,
+    long: &Long,
+) -> Option<bool> {
+    let written = writes(rt, alloc, fs);
+    long.done.store(1, Ordering::SeqCst);
+    written
+}
+
+/// A writer and four observers. Whether the writer was told of each tenth call.
+pub fn run<N: Named + Send + Sync, R: Threads + Wait + Clock + Sync>(
+    rt: &R,
+    alloc: Global,
+    fs: &AtomFs<N>,
+    long: &Long,
+) -> Option<bool> {
+    let (written, watched) = thread::join(
+        rt,
+        || writes_all(rt, alloc, fs, long),
+        || four(rt, alloc, fs, long),
+    );
+    watched?;
+    written
 }
 
 /// The calls that a timeline commits, in order. Its calls are numbered in the order of their begins, from 1 on.
@@ -195,7 +199,9 @@ fn fit(alloc: Global, commits: &[&Call], samples: &[Sample]) -> Option<bool> {
         }
         play(alloc, &mut tree, commits, played, sample.count)?;
         played = sample.count;
-        let reply = tree.look(alloc, &Call::Stat(sample.path.copy(alloc).ok()?)).ok()?;
+        let reply = tree
+            .look(alloc, &Call::Stat(sample.path.copy(alloc).ok()?))
+            .ok()?;
         if !reply.same(&sample.reply) {
             return Some(false);
         }
@@ -209,7 +215,7 @@ pub fn are_right<R: Threads + Wait + Clock + Sync>(rt: &R, alloc: Global) -> Opt
         done: AtomicU64::new(0),
         samples: Mutex::new(Vec::new(alloc)),
     };
-    let (written, closed) = left_of(rt, alloc, &long)?;
+    let (written, closed) = left_of(rt, alloc, &Row::Long(&long))?;
     let Long { samples, .. } = long;
     let samples = samples.into_inner();
     let commits = commits(alloc, closed.timeline.entries())?;

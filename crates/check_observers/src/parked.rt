@@ -1,7 +1,6 @@
 //! An observer that answers while a call is held by its gate.
 
 use crate::calls::{is_done, mkdir, path, rename};
-use crate::rows::Row;
 use fs_calls::Reply;
 use fs_core::Stepped;
 use fs_share::{AtomFs, Gate, Named, Open};
@@ -58,18 +57,22 @@ fn held<N: Named, R: Wait + Clock>(
     gate: &Holds,
 ) -> Option<bool> {
     let mut session = fs.session(rt).ok()?;
-    let answer = session.call(rt, alloc, &mkdir(alloc, b"/a/d/x")?, gate).ok()?;
+    let answer = session
+        .call(rt, alloc, &mkdir(alloc, b"/a/d/x")?, gate)
+        .ok()?;
     Some(is_done(&answer.reply))
 }
 
 /// Moves the directory above the call that is held, and has an observer look at what is moved.
 fn moves<N: Named, R: Wait + Clock>(rt: &R, alloc: Global, fs: &AtomFs<N>) -> Option<bool> {
     let mut session = fs.session(rt).ok()?;
-    let told = session.call_told(rt, alloc, &rename(alloc, b"/a", b"/b")?, &Open).ok()?;
+    let told = session
+        .call_told(rt, alloc, &rename(alloc, b"/a", b"/b")?, &Open)
+        .ok()?;
     let mut observer = fs.observer(rt).ok()?;
     observer.learn(&told.stamp?);
     let is_seen = match observer.readdir(alloc, &path(alloc, b"/b/d")?).ok()? {
-        Reply::Names(names) => names.len() == 1,
+        Reply::Names(names) => names.as_slice().len() == 1,
         _ => false,
     };
     let child = observer.stat(alloc, &path(alloc, b"/b/d/x")?).ok()?;
@@ -94,29 +97,26 @@ fn other<N: Named, R: Wait + Clock>(
 }
 
 /// An observer that learns the stamp of a rename shows the moved names, while the call that it helped is still held.
-pub struct Moved;
-
-impl Row for Moved {
-    fn holds<N: Named + Send + Sync, R: Threads + Wait + Clock + Sync>(
-        &self,
-        rt: &R,
-        alloc: Global,
-        fs: &AtomFs<N>,
-    ) -> Option<bool> {
-        let mut session = fs.session(rt).ok()?;
-        session.call(rt, alloc, &mkdir(alloc, b"/a")?, &Open).ok()?;
-        session.call(rt, alloc, &mkdir(alloc, b"/a/d")?, &Open).ok()?;
-        let gate = Holds {
-            let_go: AtomicU64::new(0),
-            stands: AtomicU64::new(0),
-            flag: AtomicU64::new(0),
-            found: AtomicU64::new(0),
-        };
-        let (first, second) = thread::join(
-            rt,
-            || held(rt, alloc, fs, &gate),
-            || other(rt, alloc, fs, &gate),
-        );
-        Some(first? && second? && gate.found.load(Ordering::SeqCst) == 1)
-    }
+pub fn moved<N: Named + Send + Sync, R: Threads + Wait + Clock + Sync>(
+    rt: &R,
+    alloc: Global,
+    fs: &AtomFs<N>,
+) -> Option<bool> {
+    let mut session = fs.session(rt).ok()?;
+    session.call(rt, alloc, &mkdir(alloc, b"/a")?, &Open).ok()?;
+    session
+        .call(rt, alloc, &mkdir(alloc, b"/a/d")?, &Open)
+        .ok()?;
+    let gate = Holds {
+        let_go: AtomicU64::new(0),
+        stands: AtomicU64::new(0),
+        flag: AtomicU64::new(0),
+        found: AtomicU64::new(0),
+    };
+    let (first, second) = thread::join(
+        rt,
+        || held(rt, alloc, fs, &gate),
+        || other(rt, alloc, fs, &gate),
+    );
+    Some(first? && second? && gate.found.load(Ordering::SeqCst) == 1)
 }
