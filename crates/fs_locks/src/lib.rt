@@ -12,7 +12,7 @@ pub mod held;
 pub mod holders;
 #[cfg(test)]
 mod tests;
-pub mod word;
+mod word;
 
 pub use held::{HELD_LIMIT, Held};
 pub use holders::{HeldBy, Holders};
