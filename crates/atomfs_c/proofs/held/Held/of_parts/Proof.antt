@@ -1,0 +1,58 @@
+-- The pointer, under another type, and the allocator move into a handle, and what the parts owned goes with them.
+use mathlib.Core.Path.{◌≡◌, refl, sym, subst, ap, ◌∙◌}
+use mathlib.Core.List.{List, [], ◌∷◌, ◌++◌}
+use lib.Dec.{T, lit<}
+use mir.MapTy.{inst_fn}
+use mir.Raw.{raw as bare}
+use mir.Val.{Val, vptr, vstruct, vcons, vnil, of_list, has_ty, WT}
+use base.Logic.{SProp, ent, id⊢, never, fst∗}
+use base.Fml.{ftrue, fsep, flft}
+use contract.BorrowLft.{◌⊑◌}
+use contract.Monad.{fact}
+use contract.Running.{tables}
+use prog.Wp.{WpFn}
+use types.Logic.{sem}
+use types.Kit.{Item, at_ret, ‵, raw, ◌⊛◌, some, later, ◌$◌, ◌∵◌, !, qed, by, move, drop, use1, join, split, split3, pick, rewrite, fsplit, fjoin, fpick, fpack, feq_l, feq_i, suffices, await, done}
+use types.Part.{whole, sub, agg}
+use types.Run.{stop, fld, lit, no_more, and_then, of_opd, returns, enter, first, blocks, exec}
+use types.ByLocal.{alloc_all, pass_all, free_all, look_at, get, get_in, sets, lands_as, lands_last, env}
+use denote.Exit.{yes, no}
+use denote.RattleType.{RattleType, Valss}
+use denote.RawPtr.{Ptr, RawPtr, block_ptr, null_ptr, ptr_val, in_a_block}
+use denote.Signature.{plain, type_at}
+use denote.Steps.{heard, nothing, only}
+use denote.Struct.Tuple.{Tuple}
+use denote.Struct.Struct.{within}
+use denote.Struct.Owning.{shape}
+use denote.Triple.Call.{calls_at, calls_at_last}
+use denote.Triple.Spec.{triple_of}
+use denote.Triple.Walked.{says, Stays, stay_dropped, walk_of, ends_at, Goes-dropped}
+use Rattle.core.proofs.alloc.Calls.{α, token, handle_tells, Goes-blank, Fits}
+use Rattle.core.proofs.alloc.Shapes.{after}
+use Rattle.core.proofs.atomic.Steps.{fm}
+use Rattle.std.proofs.raw_atomic.Walks.{proved_at}
+use Rattle.std.specs.Prelude.{Option, Some, None}
+use Rattle.std_alloc.proofs.BoxSteps.Form.{Bx, D, τ, R, P, B, args, owning, box_ty, word, box_typed}
+use Rattle.std_alloc.proofs.BoxSteps.Steps.{box_out, box_in}
+use Rattle.std_alloc.specs.Box.Ownership.{box_owns}
+use Rattle.std_alloc.proofs.ResultValues.{and_tt}
+use Rattle.atomfs_c.proofs.Boxes.{core_box as E, takes_parts as From, at_values}
+use Rattle.atomfs_c.specs.contracts.held.Held.of_parts as F
+use Rattle.atomfs_c.specs.contracts.held.Held.of_parts.Key.{name as #self}
+use Rattle.atomfs_c.proofs.held.Held.of_parts.Statement.{statement}
+use Rattle.atomfs_c.proofs.held.Held.of_parts.Code as code
+
+pub of_parts_spec : {M : Type 1} → statement M
+of_parts_spec 𝓤 𝓛 𝓜 𝓡 wired =
+    let H = 𝓛.H in let 𝓣 = tables 𝓤 H 𝓜 𝓡 𝓡.env in let To = type_at (F.signature).result tt in let c = F.clauses 𝓛 𝓜.mem 𝓡.returns in
+    let hs : Stays (F.ended).signature.params (F.ended).kept = (stay_dropped From yes, tt) in
+    proved_at 𝓛 F.ended hs c 𝓜 𝓡 (Goes-dropped 𝓛 0 From yes (λ κs x f. refl), tt) #self code.function (code.unfolded 𝓤 H 𝓜 𝓡 wired) (λ z are.
+    let Run : List Val → SProp 𝓤 = λ ws. WpFn 𝓤 H 𝓣.C 𝓣.Λ code.function ws ((walk_of 𝓛 F.ended hs c).post z) in
+    let v : D E = record { ptr = z.0.3.0.ptr; alloc = z.0.3.0.alloc; value = z.0.3.0.value } in
+    let made : To.Denot = record { at = v.ptr; alloc = v.alloc; core = Some v.value } in
+    qed 𝓛 ((‵ ftrue ⊛ ‵ (fsep ((B E).own_val v z.0.4.0) ftrue)) ∷ raw (base.Logic.emp 𝓤) ∷ []) ∵ split ! $ drop ! $ fsplit ! $
+    box_out E ! v z.0.4.0 (λ b o h e told fits. box_in E ! v b o v.value e refl $ use1 𝓛 (‵ (To.own_val made (word E h b o ∷ []))) (id⊢ 𝓤 (sem 𝓛 (To.own_val made (word E h b o ∷ [])))) $ move ! (1 ∷ 2 ∷ []) $ drop ! $ drop ! $
+    let w : Val = word E h b o in let typed = box_typed E h b o fits in
+    suffices ! (Run (w ∷ [])) (at_values 𝓤 Run z.0.4.0 w told) $ enter ! 𝓣.C 𝓣.Λ code.function (w ∷ []) _ $ alloc_all ! (λ ls. pass_all ! refl (typed, tt) $
+    sets ! (of_opd ! (get_in ! (fld ! refl (stop !)) (sub ! 0 refl (whole !)))) refl (tt, tt) $ sets ! (of_opd ! (get_in ! (fld ! refl (stop !)) (sub ! 1 refl (whole !)))) refl fits $ sets ! (of_opd ! (get ! refl)) refl (tt, tt) $ sets ! (agg ! (and_then ! (get ! refl) (and_then ! (get ! refl) (no_more !)))) refl typed $ returns ! (look_at ! 0 refl) $ free_all ! refl $
+    suffices ! _ (ends_at 𝓛 F.ended hs c z w made (tt, tt) (tt, tt)) $ says ! refl $ nothing ! $ nothing ! $ fjoin ! $ join ! $ nothing ! $ join ! $ done !)))

@@ -1,0 +1,73 @@
+-- The parts are given to `from_raw` with all that they own, and its box comes back.
+use mathlib.Core.Path.{◌≡◌, refl, sym, subst, ap, ◌∙◌}
+use mathlib.Core.List.{List, [], ◌∷◌, ◌++◌}
+use lib.Dec.{T, lit<}
+use mir.MapTy.{inst_fn}
+use mir.Raw.{raw as bare}
+use mir.Val.{Val, vptr, vstruct, vcons, vnil, of_list, has_ty, WT}
+use base.Logic.{SProp, ent, id⊢, never, fst∗}
+use base.Fml.{ftrue, fsep, flft}
+use contract.BorrowLft.{◌⊑◌}
+use contract.Monad.{fact}
+use contract.Running.{tables}
+use prog.Wp.{WpFn}
+use types.Logic.{sem}
+use types.Kit.{Item, at_ret, ‵, raw, ◌⊛◌, some, later, ◌$◌, ◌∵◌, !, qed, by, move, drop, use1, join, split, split3, pick, rewrite, fsplit, fjoin, fpick, fpack, feq_l, feq_i, suffices, await, done}
+use types.Part.{whole, sub, agg}
+use types.Run.{stop, fld, lit, no_more, and_then, of_opd, returns, enter, first, blocks, exec}
+use types.ByLocal.{alloc_all, pass_all, free_all, look_at, get, get_in, sets, lands_as, lands_last, env}
+use denote.Exit.{yes, no}
+use denote.RattleType.{RattleType, Valss}
+use denote.RawPtr.{Ptr, RawPtr, block_ptr, null_ptr, ptr_val, in_a_block}
+use denote.Signature.{plain, type_at}
+use denote.Steps.{heard, nothing, only}
+use denote.Struct.Tuple.{Tuple}
+use denote.Struct.Struct.{within}
+use denote.Struct.Owning.{shape}
+use denote.Triple.Call.{calls_at, calls_at_last}
+use denote.Triple.Spec.{triple_of}
+use denote.Triple.Walked.{says, Stays, stay_dropped, walk_of, ends_at, Goes-dropped}
+use Rattle.core.proofs.alloc.Calls.{α, token, handle_tells, Goes-blank, Fits}
+use Rattle.core.proofs.alloc.Shapes.{after}
+use Rattle.core.proofs.atomic.Steps.{fm}
+use Rattle.std.proofs.raw_atomic.Walks.{proved_at}
+use Rattle.std.specs.Prelude.{Option, Some, None}
+use Rattle.std_alloc.proofs.BoxSteps.Form.{Bx, D, τ, R, P, B, args, owning, box_ty, word, box_typed}
+use Rattle.std_alloc.proofs.BoxSteps.Steps.{box_out, box_in}
+use Rattle.std_alloc.specs.Box.Ownership.{box_owns}
+use Rattle.std_alloc.proofs.ResultValues.{and_tt}
+use Rattle.atomfs_c.proofs.Boxes.{parts_of, at_values}
+use Rattle.std_alloc.specs.contracts.boxed.Box.from_raw as callee
+use Rattle.std_alloc.proofs.boxed.Box.from_raw.Met.{met}
+use Rattle.atomfs_c.specs.contracts.parts.Parts.into_box as F
+use Rattle.atomfs_c.specs.contracts.parts.Parts.into_box.Key.{name as #self}
+use Rattle.atomfs_c.proofs.parts.Parts.into_box.Statement.{statement}
+use Rattle.atomfs_c.proofs.parts.Parts.into_box.Code as code
+
+pub into_box_spec : {M : Type 1} → statement M
+into_box_spec 𝓤 𝓛 𝓜 𝓡 wired X Z LX LZ g d dd allocator md =
+    let H = 𝓛.H in let 𝓣 = tables 𝓤 H 𝓜 𝓡 𝓡.env in
+    let E : Bx = record { row = X; laws = LX; al = record { row = Z; laws = LZ; g = g; d = d; drops = dd } } in
+    let En = F.ended X Z g d dd in let c = F.clauses X Z g d dd 𝓛 𝓜.mem 𝓡.returns in
+    let fn = inst_fn (args E) code.function in let hs : Stays En.signature.params En.kept = (stay_dropped (plain (λ _. parts_of E)) no, tt) in
+    let closes = triple_of 𝓛 (callee.signature X Z g d dd) (callee.spec X Z g d dd 𝓛 𝓜.mem 𝓡.returns) in
+    proved_at 𝓛 En hs c 𝓜 𝓡 (Goes-blank 𝓛 2 (plain (λ _. parts_of E)) no (λ κs x f. tt), tt) (#self (args E)) fn (code.unfolded 𝓤 H 𝓜 𝓡 wired (X, (Z, tt)) d dd) (λ z are.
+    let κs = z.0.0 in let qs = z.0.1 in let a = z.0.3.0.alloc in let x = z.0.3.0.value in let Post : Val → SProp 𝓤 = (walk_of 𝓛 En hs c).post z in let Run : List Val → SProp 𝓤 = λ ws. WpFn 𝓤 H 𝓣.C 𝓣.Λ fn ws Post in
+    let v : D E = record { ptr = z.0.3.0.ptr; alloc = a; value = x } in
+    let lives : Item 𝓤 = ‵ (flft κs.0 qs.0) ⊛ ‵ (flft κs.1.0 qs.1.0) ⊛ ‵ ftrue in let in_x : Item 𝓤 = raw (fact 𝓤 (κs.0 ⊑ X.lives)) in let in_a : Item 𝓤 = raw (fact 𝓤 (κs.1.0 ⊑ Z.lives)) in
+    qed 𝓛 ((lives ⊛ ‵ (fsep ((B E).own_val v z.0.4.0) ftrue)) ∷ (in_x ⊛ in_a ⊛ ‵ ftrue) ∷ []) ∵ split ! $ move ! (1 ∷ []) $ fsplit ! $
+    box_out E ! v z.0.4.0 (λ b o h e told fits. fjoin ! $
+    let w : Val = word E h b o in let y : closes.Ghost = ((κs, qs, tt, (a, (block_ptr b o, tt)), (h ∷ [], (vptr b o ∷ [], tt))), x) in
+    suffices ! (Run (w ∷ [])) (at_values 𝓤 Run z.0.4.0 w told) $ enter ! 𝓣.C 𝓣.Λ fn (w ∷ []) _ $ alloc_all ! (λ ls. pass_all ! refl (box_typed E h b o fits, tt) $
+    sets ! (of_opd ! (get_in ! (fld ! refl (stop !)) (sub ! 0 refl (whole !)))) refl (tt, tt) $ sets ! (of_opd ! (get_in ! (fld ! refl (stop !)) (sub ! 1 refl (whole !)))) refl fits $ first ! $ blocks ! $ sets ! (of_opd ! (get ! refl)) refl fits $
+    -- the lifetimes and what is owned, as the call wants them
+    move ! (4 ∷ []) $ split3 ! $ move ! (2 ∷ []) $ drop ! $ move ! (1 ∷ 2 ∷ []) $ join ! $ move ! (1 ∷ 0 ∷ []) $ join ! $
+    move ! (2 ∷ []) $ feq_i ! (List Val) (vptr b o ∷ []) (vptr b o ∷ []) refl $ fjoin ! $ move ! (2 ∷ 0 ∷ []) $ fjoin ! $ move ! (2 ∷ 0 ∷ []) $ join ! $ join ! $ use1 𝓛 (raw (closes.pre y)) (id⊢ 𝓤 (closes.pre y)) $
+    calls_at_last ! (fm 𝓛 𝓜 𝓡) closes (met 𝓤 𝓛 𝓜 𝓡 (code.calls-std_alloc::boxed::Box::from_raw 𝓡.env wired) X Z LX LZ g d dd allocator md) y (and_then ! (get ! refl) (and_then ! (get ! refl) (no_more !))) (λ u.
+    use1 𝓛 (later (some (λ (r : D E). (lives ⊛ ‵ ((B E).own_val r (u ∷ []))) ⊛ some (λ (_ : Unit {0} × (Unit {0} × Unit {0})). ‵ (fsep ftrue (fsep ftrue ftrue)) ⊛ (raw (fact 𝓤 (r.value ≡ x)) ⊛ raw (fact 𝓤 (r.alloc ≡ a))))))) (id⊢ 𝓤 (closes.post y u)) $
+    await ! tt $ pick ! (λ r. split ! $ move ! (1 ∷ []) $ pick ! (λ _. split3 ! $ drop ! $ heard ! (r.value ≡ x) (λ same. drop ! $ split ! $ move ! (1 ∷ []) $
+    -- the box that came back, as one machine value
+    box_out E ! r (u ∷ []) (λ b₁ o₁ h₁ e₁ is fits₁. box_in E ! r b₁ o₁ r.value e₁ refl $ rewrite ! 0 (λ (us : List Val). ‵ ((B E).own_val r us)) (sym is) refl $
+    let typed : T (has_ty (box_ty E) u) × WT u = subst (λ (s : Val). T (has_ty (box_ty E) s) × WT s) (sym (ap only is)) (box_typed E h₁ b₁ o₁ fits₁) in
+    lands_last ! refl typed $ exec ! 𝓣.C 𝓣.Λ (env fn.locals ls) (after 3 fn.body) (at_ret (env fn.locals ls) Post) $ sets ! (of_opd ! (get ! refl)) refl typed $ returns ! (look_at ! 0 refl) $ free_all ! refl $
+    suffices ! _ (ends_at 𝓛 En hs c z u r ((tt, (tt, tt)), tt) (tt, tt)) $ says ! same $ nothing ! $ nothing ! $ fjoin ! $ join ! $ move ! (1 ∷ 0 ∷ []) $ join ! $ done !))))))))

@@ -1,0 +1,123 @@
+//! Handles of C's, and the exports that open and close them.
+
+ghost use Rattle.std.specs.Prelude.{◌≡◌, ◌≢◌, ◌<◌, ◌++◌, ◌∷◌, [], ◌⊎◌, ◌↔◌, Some, None, is_some, IsSome, IsSomeAnd, MatchOption, length};
+ghost use Rattle.fs_names.specs.declared.limits.TheConstants.{NODE_LIMIT};
+ghost use Rattle.fs_machine.specs.States.{empty};
+ghost use Rattle.fs_core.specs.CoreValues.{state_of};
+ghost use Rattle.atomfs_c.specs.Exports.{Goes, ToldIfClosed, IsLawful, IsSpelled};
+
+use crate::held::Held;
+use crate::parts::Parts;
+use crate::status::{ALREADY_OPEN, BAD_LIMIT, CLOSED, NO_MEMORY, OK};
+use fs_core::Core;
+use fs_names::NODE_LIMIT;
+use std::alloc::Global;
+use std::mem;
+
+/// A handle: whether it is open, and its core where it is.
+#[repr(C)]
+#[derive(Drop)]
+pub struct Handle {
+    is_open: bool,
+    pub held: Held,
+    ghost told: { is_open ≡ is_some held.core },
+}
+
+/// A closed handle.
+fn closed(alloc: Global) -> Handle
+    ensures { result.held.core ≡ None }
+{
+    Handle {
+        is_open: false,
+        held: Held::closed(alloc),
+    }
+}
+
+/// Takes the core out of a handle, which is closed then; `None` where it was closed before.
+pub fn take(alloc: Global, handle: &mut Handle) -> Option<Box<Core>>
+    ensures core { MatchOption result (handle.old.held.core ≡ None) (λ core. handle.old.held.core ≡ Some core.value) }
+    ensures closed { handle.new.held.core ≡ None }
+{
+    if !handle.is_open {
+        return None;
+    }
+    let Handle { held, .. } = mem::replace(handle, closed(alloc));
+    Some(held.into_parts().into_box())
+}
+
+/// Puts a core behind a handle, and tells what every core keeps.
+pub fn put(handle: &mut Handle, core: Box<Core>)
+    ensures core { handle.new.held.core ≡ Some core.value }
+    ensures lawful { IsLawful handle.new.held.core }
+    ensures spelled { IsSpelled handle.new.held.core }
+{
+    core.told();
+    *handle = Handle {
+        is_open: true,
+        held: Held::of_parts(Parts::of(core)),
+    };
+}
+
+/// Opens a closed handle: a core of no seats and no entries, for at most `limit` nodes, the root included.
+#[unsafe(no_mangle)]
+pub extern "C" fn atomfs_open(alloc: Global, handle: &mut Handle, limit: usize) -> u8
+    ensures opened { result ≡ OK → (handle.old.held.core ≡ None) × IsSomeAnd handle.new.held.core (λ core. (state_of core ≡ empty limit) × (core.seats ≡ [])) }
+    ensures open { IsSome handle.old.held.core → result ≡ ALREADY_OPEN }
+    ensures limit { result ≡ BAD_LIMIT → (limit ≡ 0) ⊎ (NODE_LIMIT < limit) }
+    ensures refused { result ≢ OK → (CLOSED < result) × (handle.new.held.core ≡ handle.old.held.core) }
+{
+    if handle.is_open {
+        return ALREADY_OPEN;
+    }
+    if limit == 0 || limit > NODE_LIMIT {
+        return BAD_LIMIT;
+    }
+    let Ok(core) = Core::with_limit(alloc, limit) else {
+        return NO_MEMORY;
+    };
+    match Box::new(alloc, core) {
+        Ok(core) => {
+            put(handle, core);
+            OK
+        }
+        Err(_) => NO_MEMORY,
+    }
+}
+
+/// Closes a handle, and frees its core with its nodes and its journal.
+#[unsafe(no_mangle)]
+pub extern "C" fn atomfs_close(alloc: Global, handle: &mut Handle) -> u8
+    ensures status { MatchOption handle.old.held.core (result ≡ CLOSED) (λ core. result ≡ OK) }
+    ensures closed { handle.new.held.core ≡ None }
+{
+    match take(alloc, handle) {
+        Some(core) => {
+            drop(core);
+            OK
+        }
+        None => CLOSED,
+    }
+}
+
+/// Adds a seat, and tells its number: the first is 0, each next one more.
+#[unsafe(no_mangle)]
+pub extern "C" fn atomfs_seat(alloc: Global, handle: &mut Handle, seat: &mut u64) -> u8
+    ensures seated { result ≡ OK → Goes (λ old new. (seat.new ≡ length old.seats) × (new.seats ≡ old.seats ++ None ∷ []) × (state_of new ≡ state_of old)) handle.old.held.core handle.new.held.core }
+    ensures refused { CLOSED < result → Goes (λ old new. (result ≡ NO_MEMORY) × (new.seats ≡ old.seats) × (state_of new ≡ state_of old)) handle.old.held.core handle.new.held.core }
+    ensures closed { ToldIfClosed result handle.old.held.core handle.new.held.core }
+    ensures lawful { IsLawful handle.new.held.core }
+    ensures spelled { IsSpelled handle.new.held.core }
+{
+    let Some(mut core) = take(alloc, handle) else {
+        return CLOSED;
+    };
+    let made = core.seat();
+    put(handle, core);
+    match made {
+        Ok(number) => {
+            *seat = number.get();
+            OK
+        }
+        Err(_) => NO_MEMORY,
+    }
+}

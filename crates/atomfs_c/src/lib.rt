@@ -1,0 +1,19 @@
+//! AtomFS for C: a static library whose exports carry the linearization theorem.
+//!
+//! A `Handle` lies in C's memory and owns a boxed core. Each export takes the core out of the handle, calls `fs_embed`, and
+//! puts the core back; it tells its answer by a status (`status`) and what it found in bytes that the caller gives. Every
+//! export that changes a core says what it did as begins and steps of the machine, that the timeline is lawful after it
+//! (`lawful`), and that the nodes spell the tree of its commits at rest (`spelled`). Each refuses a closed handle.
+//!
+//! Enter at `handles`, `calls`, `texts` and `runs`, which have the exports; `embed/atomfs.h` declares them for C. In
+//! `specs/`: `Handles` says what a handle owns, `Statuses` which number each answer has, `Exports` what the clauses say.
+//! `docs/EMBEDDING.md` has what a C caller must keep to.
+#![tactic(auto)]
+
+mod calls;
+mod handles;
+mod held;
+mod parts;
+mod runs;
+mod status;
+mod texts;

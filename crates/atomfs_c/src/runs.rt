@@ -1,0 +1,63 @@
+//! The exports that run a script and check a journal. They take no handle.
+
+ghost use Rattle.std.specs.Prelude.{◌≡◌, ◌≢◌, ◌<◌, ℕ, List, Ok};
+ghost use Rattle.fs_timeline.specs.declared.verdict.Verdict.{Verdict};
+ghost use Rattle.fs_script.specs.Script.{script_of};
+ghost use Rattle.fs_sched.specs.Checks.{verdict_line, verdict_of};
+ghost use Rattle.fs_sched.specs.EachRun.{AreOfTheRun};
+ghost use Rattle.fs_sched.specs.declared.running.RunEnd.{RunEnd};
+ghost use Rattle.atomfs_c.specs.Exports.{Tells};
+ghost use Rattle.atomfs_c.specs.Statuses.{IsToldFault, TellsFault};
+
+use crate::status::{CLOSED, NO_MEMORY, UNTOLD, fault_status};
+use crate::texts::tell;
+use fs_embed::{NoText, check_text, run_text};
+use fs_sched::Schedule;
+use std::alloc::Global;
+
+/// Tells why a run has no text: its number, and the line of a fault of the input.
+fn tell_fault(fault: NoText, count: &mut usize) -> u8
+    ensures told { IsToldFault fault result count.new }
+    ensures refused { CLOSED < result }
+{
+    match fault {
+        NoText::Input(fault) => {
+            *count = fault.line as usize;
+            fault_status(fault.kind)
+        }
+        NoText::OutOfMemory => NO_MEMORY,
+    }
+}
+
+/// Runs a script by its own schedule, and tells its run text, as `atomfs run` prints it. Where the script has a fault its
+/// line is told in the place of a length.
+#[unsafe(no_mangle)]
+pub extern "C" fn atomfs_run(alloc: Global, script: &[u8], out: &mut [u8], count: &mut usize) -> u8
+    ensures ran { result < UNTOLD → (end : RunEnd) × (text : List ℕ) × AreOfTheRun Schedule.Given script.now end text × Tells result text count.new out.old out.new }
+    ensures fault { CLOSED < result → TellsFault (script_of script.now) result count.new }
+    ensures told { result ≢ CLOSED }
+{
+    match run_text(alloc, script, Schedule::Given) {
+        Ok(text) => tell(text.as_slice(), out, count),
+        Err(fault) => tell_fault(fault, count),
+    }
+}
+
+/// Checks a journal, and tells the line of the verdict, as `atomfs check` prints it. Where the journal's text has a fault
+/// its line is told in the place of a length.
+#[unsafe(no_mangle)]
+pub extern "C" fn atomfs_check(
+    alloc: Global,
+    journal: &[u8],
+    out: &mut [u8],
+    count: &mut usize,
+) -> u8
+    ensures judged { result < UNTOLD → (v : Verdict) × (verdict_of journal.now ≡ Ok v) × Tells result (verdict_line v) count.new out.old out.new }
+    ensures fault { CLOSED < result → TellsFault (verdict_of journal.now) result count.new }
+    ensures told { result ≢ CLOSED }
+{
+    match check_text(alloc, journal) {
+        Ok(line) => tell(line.as_slice(), out, count),
+        Err(fault) => tell_fault(fault, count),
+    }
+}

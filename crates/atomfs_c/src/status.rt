@@ -1,0 +1,121 @@
+//! The numbers that exports answer.
+
+ghost use Rattle.std.specs.Prelude.{◌≡◌, ◌<◌, ◌≤◌};
+ghost use Rattle.atomfs_c.specs.Statuses.{fault_status, refusal_status, begin_status};
+
+use fs_core::Refusal;
+use fs_embed::NotBegun;
+use fs_text::FaultKind;
+
+/// Done, and all that was asked for is told.
+pub const OK: u8 = 0;
+
+/// Done, but the text is longer than the caller's bytes, which are as before: its length is told.
+pub const TOO_SMALL: u8 = 1;
+
+/// The call returned, and an allocation for the text of its reply failed.
+pub const UNTOLD: u8 = 2;
+
+/// The call is under way, and waits for a node that a call of another seat holds.
+pub const WAITS: u8 = 3;
+
+/// The handle is closed. From this number on nothing has changed.
+pub const CLOSED: u8 = 4;
+
+/// The handle is open already.
+pub const ALREADY_OPEN: u8 = 5;
+
+/// No core has this limit of nodes.
+pub const BAD_LIMIT: u8 = 6;
+
+/// An allocation failed.
+pub const NO_MEMORY: u8 = 7;
+
+/// There is no such seat.
+pub const NO_SEAT: u8 = 8;
+
+/// The seat has a call under way.
+pub const SEAT_BUSY: u8 = 9;
+
+/// The call reserves a node number, and all are in use.
+pub const FULL: u8 = 10;
+
+/// No call of this number has returned.
+pub const NO_REPLY: u8 = 11;
+
+/// The first line is another than it has to be. The numbers from here on are faults of a text.
+pub const BAD_HEADER: u8 = 16;
+
+/// A line has a form that no line has at its place.
+pub const BAD_LINE: u8 = 17;
+
+/// The name of a thread is none.
+pub const BAD_THREAD: u8 = 18;
+
+/// A thread has two blocks.
+pub const THREAD_TWICE: u8 = 19;
+
+/// A word is no path.
+pub const BAD_PATH: u8 = 20;
+
+/// A word is no number.
+pub const BAD_NUMBER: u8 = 21;
+
+/// A word is no bytes.
+pub const BAD_HEX: u8 = 22;
+
+/// A script ends without a line `schedule`.
+pub const NO_SCHEDULE: u8 = 23;
+
+/// A word of a schedule is none.
+pub const BAD_WORD: u8 = 24;
+
+/// A limit is passed.
+pub const TOO_LARGE: u8 = 25;
+
+/// A reply is none.
+pub const BAD_REPLY: u8 = 26;
+
+/// The number of a fault of a text.
+pub fn fault_status(kind: FaultKind) -> u8
+    ensures number { result ≡ fault_status kind }
+    ensures refused { CLOSED < result }
+{
+    match kind {
+        FaultKind::BadHeader => BAD_HEADER,
+        FaultKind::BadLine => BAD_LINE,
+        FaultKind::BadThread => BAD_THREAD,
+        FaultKind::ThreadTwice => THREAD_TWICE,
+        FaultKind::BadPath(_) => BAD_PATH,
+        FaultKind::BadNumber => BAD_NUMBER,
+        FaultKind::BadHex => BAD_HEX,
+        FaultKind::NoSchedule => NO_SCHEDULE,
+        FaultKind::BadWord => BAD_WORD,
+        FaultKind::TooLarge => TOO_LARGE,
+        FaultKind::OutOfMemory => NO_MEMORY,
+        FaultKind::BadReply => BAD_REPLY,
+    }
+}
+
+fn refusal_status(refusal: Refusal) -> u8
+    ensures number { result ≡ refusal_status refusal }
+    ensures refused { CLOSED < result }
+{
+    match refusal {
+        Refusal::OutOfMemory => NO_MEMORY,
+        Refusal::Full => FULL,
+        Refusal::SeatBusy => SEAT_BUSY,
+    }
+}
+
+/// The number of the reason why a call did not begin.
+pub fn begin_status(why: NotBegun) -> u8
+    ensures number { result ≡ begin_status why }
+    ensures refused { CLOSED < result }
+{
+    match why {
+        NotBegun::NoSeat => NO_SEAT,
+        NotBegun::Line(kind) => fault_status(kind),
+        NotBegun::Refused(refusal) => refusal_status(refusal),
+    }
+}
