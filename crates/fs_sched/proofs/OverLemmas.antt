@@ -1,12 +1,14 @@
 -- Threads that are over stay so.
-use Rattle.std.proofs.Common.{◌≡◌, ℕ, zero, suc, ◌+◌, ◌-◌, ◌<◌, ◌≤◌, eqb, cond, Bool, true, false, ◌||◌, List, [], ◌∷◌, ◌++◌, length, get_or, slice_get, slice_set, is_some, Option, Some, None, refl, sym, ap, ap₂, ◌∙◌, subst, arith}
+use Rattle.std.proofs.Common.{◌≡◌, ℕ, zero, suc, ◌+◌, ◌-◌, ◌<◌, ◌≤◌, eqb, cond, Bool, true, false, ◌||◌, List, [], ◌∷◌, ◌++◌, length, get_or, slice_get, slice_set, is_some, Option, Some, None, Ok, refl, sym, ap, ap₂, ◌∙◌, subst, arith}
 use Rattle.std.specs.List.{range_with_len}
 use Rattle.std.proofs.lemmas.Bool.{cond-false, eqb-true}
 use Rattle.fs_calls.specs.declared.call.Call.{Call}
 use Rattle.fs_calls.specs.Forms.{form, reserves}
 use Rattle.fs_names.specs.Shapes.{Shape}
 use Rattle.fs_nodes.specs.Graphs.{set_at}
-use Rattle.fs_laws.specs.States.{State, Begins, Begun_as, Reserves, Step, Stepped, Idle, Took, Busy, LetGo, Helped, Committed, CarriedOut, Returned}
+use Rattle.fs_machine.specs.States.{State, Begins, Reserves, Step}
+use Rattle.fs_machine.specs.declared.answers.Stepped.{Stepped}
+use Rattle.fs_machine.specs.declared.answers.Stepped.TheVariants.{Idle, Took, Busy, LetGo, Helped, Committed, CarriedOut, Returned}
 use Rattle.fs_sched.specs.Runs.{Stage, next_call, has_more, Event, Goes, Starts, Spent, Events, Stops, IsUnfinished}
 use Rattle.fs_sched.specs.code.Stages.{AreOver}
 use Rattle.fs_sched.proofs.Staging.{Leads, lead_many, nothing_more}
@@ -40,7 +42,7 @@ step_off old new seat k CarriedOut (c, op, o, i, m, placed, e) h = ap (λ (s : S
 step_off old new seat k (Returned r) (c, op, m, ph, e) h = ap (λ (s : State). s.on_seat k) e ∙ set_none op.seat k old.on_seat h
 
 -- a begin puts one on its own seat alone
-begins_off : (old new : State) (seat k c : ℕ) (call : Call) → Begins old seat call (Begun_as c) new → (k ≡ seat → ⊥) → old.on_seat k ≡ None → new.on_seat k ≡ None
+begins_off : (old new : State) (seat k c : ℕ) (call : Call) → Begins old seat call (Ok c) new → (k ≡ seat → ⊥) → old.on_seat k ≡ None → new.on_seat k ≡ None
 begins_off old new seat k c call begins ne h = go (reserves (form call)) begins.2
   where
     go : (o : Option Shape) → Reserves old seat call c o new → new.on_seat k ≡ None
