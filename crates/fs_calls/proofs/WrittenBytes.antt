@@ -20,7 +20,7 @@ drop-nil zero = refl
 drop-nil (suc n) = refl
 
 -- the front of bytes that were made longer
-front_grown : (old : List ℕ) (off m : ℕ) → off ≤ m → take off (old ++ replicate (m - length old) 0) ≡ take off old ++ replicate (off - length old) 0
+pub front_grown : (old : List ℕ) (off m : ℕ) → off ≤ m → take off (old ++ replicate (m - length old) 0) ≡ take off old ++ replicate (off - length old) 0
 front_grown [] off m h =
     take-replicate off (m - 0) 0 (omega arith) ∙ ap (λ n. replicate n 0) (let same : off ≡ off - 0 = omega arith in same) ∙ ap (λ z. z ++ replicate (off - 0) 0) (sym (take-nil off))
 front_grown (b ∷ old) zero m h = ap (λ n. replicate n 0) (let none : 0 ≡ 0 - suc (length old) = omega arith in none)

@@ -1,12 +1,12 @@
 -- On the bytes of files in a graph.
-use Rattle.std.proofs.Common.{◌≡◌, ℕ, zero, suc, ◌-◌, ◌≤◌, Bool, true, false, cond, List, [], ◌∷◌, ◌++◌, length, take, IsTrue, Some, refl, sym, ap, subst, ◌∙◌, arith}
+use Rattle.std.proofs.Common.{◌≡◌, ℕ, ◌-◌, Bool, true, false, cond, List, ◌++◌, length, take, IsTrue, Some, refl, sym, ap, subst, ◌∙◌, arith}
 use Rattle.std.specs.Prelude.{replicate, eqb}
-use Rattle.std.proofs.lemmas.List.{take-replicate}
 use Rattle.fs_names.specs.Shapes.{File, is_file}
 use Rattle.fs_nodes.specs.Graphs.{Graph, content_in}
 use Rattle.fs_nodes.proofs.GraphLemmas.{graph_by}
 use Rattle.fs_nodes.proofs.PlaceLemmas.{eqb_refl}
 use Rattle.fs_calls.specs.Rows.{resized}
+use Rattle.fs_calls.proofs.WrittenBytes.{front_grown}
 
 -- the later of two values for one number counts
 later : {A : Type 0} (b : Bool) (v w x : A) → cond b v (cond b w x) ≡ cond b v x
@@ -21,22 +21,6 @@ content_twice n bytes old graph = graph_by (λ d y. refl) (λ m. later (eqb m n)
 pub content_file : (n : ℕ) (bytes : List ℕ) (graph : Graph) → IsTrue (is_file ((content_in n bytes graph).shape n))
 content_file n bytes graph = subst (λ (b : Bool). IsTrue (is_file (cond b (Some (File bytes)) (graph.shape n)))) (sym (eqb_refl n)) refl
 
--- a front of nothing
-take-nil : {A : Type 0} (n : ℕ) → take {A = A} n [] ≡ []
-take-nil zero = refl
-take-nil (suc n) = refl
-
--- the front of bytes that were made longer
-front_lengthened : (old : List ℕ) (off m : ℕ) → off ≤ m → take off (old ++ replicate (m - length old) 0) ≡ take off old ++ replicate (off - length old) 0
-front_lengthened [] off m h =
-    take-replicate off (m - 0) 0 (omega arith) ∙ ap (λ n. replicate n 0) (let same : off ≡ off - 0 = omega arith in same) ∙ ap (λ z. z ++ replicate (off - 0) 0) (sym (take-nil off))
-front_lengthened (b ∷ old) zero m h = ap (λ n. replicate n 0) (let none : 0 ≡ 0 - suc (length old) = omega arith in none)
-front_lengthened (b ∷ old) (suc off) zero h = absurd (omega arith)
-front_lengthened (b ∷ old) (suc off) (suc m) h =
-    ap (λ n. b ∷ take off (old ++ replicate n 0)) (let less : suc m - suc (length old) ≡ m - length old = omega arith in less)
-    ∙ ap (λ z. b ∷ z) (front_lengthened old off m (omega arith))
-    ∙ ap (λ n. b ∷ (take off old ++ replicate n 0)) (let less : off - length old ≡ suc off - suc (length old) = omega arith in less)
-
 -- bytes made long enough and cut are resized
 pub cut : (old new : List ℕ) (size : ℕ) → new ≡ old ++ replicate (size - length old) 0 → take size new ≡ resized old size
-cut old new size e = ap (take size) e ∙ front_lengthened old size size (omega arith)
+cut old new size e = ap (take size) e ∙ front_grown old size size (omega arith)

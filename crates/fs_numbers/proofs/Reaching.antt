@@ -11,9 +11,9 @@ use Rattle.fs_laws.specs.Maps.{Map, put_at, move}
 use Rattle.fs_calls.specs.Rows.{node_row, Edit, Keep, Add, Remove, entry_row}
 use Rattle.fs_calls.specs.declared.errno.Errno.{Errno}
 use Rattle.fs_calls.specs.declared.reply.Reply.{Reply}
-use Rattle.fs_nodes.specs.Graphs.{Graph, at, then_at, numbers, entry_shape, IsGraph, linked_in, unlinked_in, moved_in}
+use Rattle.fs_nodes.specs.Graphs.{Graph, at, numbers, entry_shape, IsGraph, linked_in, unlinked_in, moved_in}
 use Rattle.fs_machine.specs.Finishes.{Effect, no_effect, node_effect, entry_effect, move_effect, rename_effect, effect_at}
-use Rattle.fs_machine.specs.Moves.{take_if, next_on, victim_of, entry_move, first_of, head_move, fork_move, path_error, dir_error, rename_at}
+use Rattle.fs_machine.specs.Moves.{next_on, entry_move, first_of, head_move, fork_move, path_error, dir_error, rename_at}
 use Rattle.fs_machine.specs.declared.moves.Move.TheVariants.{Finish as Finishes}
 use Rattle.fs_machine.specs.Records.{Holdings}
 use Rattle.fs_laws.specs.Invariants.{ForkedAt, HeadsSound, VictimAt, NumberFor, HasNumber}
@@ -24,11 +24,10 @@ use Rattle.fs_laws.proofs.calls.Located.{key_is, from_more, to_more}
 use Rattle.fs_laws.proofs.graphs.Walks.{at_before, at_child, at_from, then_some}
 use Rattle.fs_laws.proofs.trees.Commuting.{move_to, move_else}
 use Rattle.fs_laws.proofs.graphs.TreesOfChanges.{CanLink, CanUnlink, CanMove, numbers_linked, numbers_unlinked, numbers_moved}
-use Rattle.fs_laws.proofs.finish.Replies.{Leaf, leaf_children, add_of, remove_of, no_entry, head_stops}
-use Rattle.fs_laws.proofs.finish.Changes.{remove_victim}
+use Rattle.fs_laws.proofs.finish.Replies.{Leaf, leaf_children, add_of, no_entry, head_stops}
+use Rattle.fs_laws.proofs.finish.Changes.{removed_leaf}
 use Rattle.fs_laws.proofs.finish.Readings.{arrived}
 use Rattle.fs_laws.proofs.finish.RealMoves.{Real, Replaces, real_of}
-use Rattle.fs_laws.proofs.helping.ReadsNothingBelow.{take_done}
 use Rattle.fs_numbers.specs.Numbers.{IsReached}
 
 -- number is the one that the call has reserved
@@ -101,21 +100,8 @@ stays_in graph is k st o e p number ed full here has vic done (r, Add shape) i =
     can = record { dir_at = here; free = no_entry graph is st.node (last_of p) add.2; used = (shape, m.2); unlinked = m.3 }
 stays_in graph is k st o e p number ed full here has vic done (r, Remove) i = either number refl
   where
-    want : (ed ≡ None) × (victim_of e (entry_shape graph st.node (last_of p)) ≡ true)
-    want = remove_victim e ed full (entry_shape graph st.node (last_of p)) (ap (λ (x : Reply × Edit). x.1) i)
-
-    leaf_of : (v : Option ℕ) → Leaf (then_at v graph.shape) → (m : ℕ) × (v ≡ Some m) × Leaf (graph.shape m)
-    leaf_of None l = absurd l
-    leaf_of (Some m) l = (m, refl, l)
-
-    v : (m : ℕ) × (graph.child st.node (last_of p) ≡ Some m) × Leaf (graph.shape m)
-    v = leaf_of (graph.child st.node (last_of p)) (remove_of e ed full (entry_shape graph st.node (last_of p)) r i)
-
-    held : st.victim ≡ Some v.0
-    held =
-        let t : take_if (victim_of e (entry_shape graph st.node (last_of p))) (Some v.0) st.victim (Finishes None) ≡ Finishes o = ap (λ (n : Option ℕ). take_if (victim_of e (entry_shape graph st.node (last_of p))) n st.victim (Finishes None)) (sym v.1) ∙ done want.0 in
-        let w : (w : ℕ) × (st.victim ≡ Some w) = take_done (victim_of e (entry_shape graph st.node (last_of p))) v.0 st.victim o None want.1 t in
-        w.1 ∙ sym (vic w.0 w.1) ∙ v.1
+    v : (v : ℕ) × (graph.child st.node (last_of p) ≡ Some v) × Leaf (graph.shape v) × (st.victim ≡ Some v)
+    v = removed_leaf graph st o e p ed full vic done r i
 
     can : CanUnlink graph k st.node (last_of p) v.0
     can = record { dir_at = here; there = v.1; leaf = leaf_children graph is v.0 (graph.shape v.0) refl v.2 }
@@ -124,7 +110,7 @@ stays_in graph is k st o e p number ed full here has vic done (r, Remove) i = ei
     made n = record {
       reached = λ m reached. unlinked_reached graph is k st.node (last_of p) v.0 can m reached;
       reserved = λ m f. inl f;
-      victim = λ m f. held ∙ sym v.1 ∙ f;
+      victim = λ m f. v.3 ∙ sym v.1 ∙ f;
     }
 
     either : (n : Option ℕ) → number ≡ n → Stays graph st number (entry_effect graph st.node (last_of p) number (r, Remove))

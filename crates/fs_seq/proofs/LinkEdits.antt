@@ -11,6 +11,7 @@ use Rattle.fs_names.proofs.Lemmas.{name_total}
 use Rattle.fs_seq.specs.declared.nodes.Link.{Link}
 use Rattle.fs_seq.specs.code.Nodes.{pair, pairs, number_of, name_of, without, IsNameAt, BelongsAt}
 use Rattle.fs_seq.proofs.Rewiring.{without-put}
+use Rattle.fs_seq.proofs.SearchLemmas.{both_first, both_second, is_less}
 use Rattle.fs_seq.proofs.SlabLemmas.{pairs-insert, pairs-remove}
 
 -- a link with a name has a number
@@ -33,22 +34,6 @@ pub pairs-set : (links : List Link) (i : ℕ) (l : Link) → pairs (slice_set li
 pairs-set [] i l = refl
 pairs-set (m ∷ links) zero l = refl
 pairs-set (m ∷ links) (suc i) l = ap (λ z. pair m ∷ z) (pairs-set links i l)
-
--- of two facts the first holds
-both_first : (a b : Bool) → T (a && b) → T a
-both_first true b p = tt
-both_first false b p = p
-
--- and so does the second
-both_second : (a b : Bool) → T (a && b) → T b
-both_second true b p = p
-both_second false b p = absurd p
-
--- an order that answers less
-is_less : (o : Ordering) → T (is_lt o) → o ≡ Less
-is_less Less h = refl
-is_less Equal h = absurd h
-is_less Greater h = absurd h
 
 -- a name below all is below the one at a place
 below_named : (y x : Name) (links : List (Name × ℕ)) (i : ℕ) → T (below_all name_cmp y links) → name_of (slice_get links i) ≡ Some x → name_cmp y x ≡ Less

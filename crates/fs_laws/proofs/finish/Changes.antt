@@ -145,6 +145,29 @@ none_moves k d names x p Remove = refl
 closed_of : (graph : Graph) (a b : Key) (m : ℕ) → numbers graph (a ++ b) ≡ Some m → (q : ℕ) × (numbers graph a ≡ Some q)
 closed_of graph a b m e = let g : (q : ℕ) × (numbers graph a ≡ Some q) × (at graph.child q b ≡ Some m) = at_before graph.child 0 m a b e in (g.0, g.1)
 
+-- the leaf that a removal takes out is the victim that the call holds
+pub removed_leaf : (graph : Graph) (st : Holdings) (o : Option ℕ) (e : EntryCall) (p : Key) (ed : Option Errno) (full : Bool)
+    → VictimAt graph (AtEntry e p) st → (done : ed ≡ None → entry_move graph e (last_of p) st ≡ Finishes o)
+    → (r : Reply) → entry_row e ed full (entry_shape graph st.node (last_of p)) ≡ (r, Remove)
+    → (v : ℕ) × (graph.child st.node (last_of p) ≡ Some v) × Leaf (graph.shape v) × (st.victim ≡ Some v)
+removed_leaf graph st o e p ed full vic done r i = (v.0, v.1, v.2, held)
+  where
+    want : (ed ≡ None) × (victim_of e (entry_shape graph st.node (last_of p)) ≡ true)
+    want = remove_victim e ed full (entry_shape graph st.node (last_of p)) (ap (λ (x : Reply × Edit). x.1) i)
+
+    leaf_of : (v : Option ℕ) → Leaf (then_at v graph.shape) → (m : ℕ) × (v ≡ Some m) × Leaf (graph.shape m)
+    leaf_of None l = absurd l
+    leaf_of (Some m) l = (m, refl, l)
+
+    v : (m : ℕ) × (graph.child st.node (last_of p) ≡ Some m) × Leaf (graph.shape m)
+    v = leaf_of (graph.child st.node (last_of p)) (remove_of e ed full (entry_shape graph st.node (last_of p)) r i)
+
+    held : st.victim ≡ Some v.0
+    held =
+        let t : take_if (victim_of e (entry_shape graph st.node (last_of p))) (Some v.0) st.victim (Finishes None) ≡ Finishes o = ap (λ (n : Option ℕ). take_if (victim_of e (entry_shape graph st.node (last_of p))) n st.victim (Finishes None)) (sym v.1) ∙ done want.0 in
+        let w : (w : ℕ) × (st.victim ≡ Some w) = take_done (victim_of e (entry_shape graph st.node (last_of p))) v.0 st.victim o None want.1 t in
+        w.1 ∙ sym (vic w.0 w.1) ∙ v.1
+
 pub does_in : (graph : Graph) (ops : Records) (key : ℕ → Key) (c : ℕ) (op : Record) (st : Holdings) (o : Option ℕ) (e : EntryCall) (p d : Key) (names : List Name) (z : Name) (pp : Key) (change : Edit) (ed : Option Errno) (full : Bool)
     → Finisher graph ops key c op st o → op.remaining ≡ AtEntry e p
     → (dir : ed ≡ None → (ns : List Name) × (graph.shape st.node ≡ Some (Dir ns)))
@@ -193,19 +216,11 @@ does_in graph ops key c op st o e p d names z pp change ed full f rem dir done (
     want : (ed ≡ None) × (victim_of e (entry_shape graph st.node (last_of p)) ≡ true)
     want = remove_victim e ed full (entry_shape graph st.node (last_of p)) (ap (λ (x : Reply × Edit). x.1) i)
 
-    leaf_of : (v : Option ℕ) → Leaf (then_at v graph.shape) → (m : ℕ) × (v ≡ Some m) × Leaf (graph.shape m)
-    leaf_of None l = absurd l
-    leaf_of (Some m) l = (m, refl, l)
-
-    v : (m : ℕ) × (graph.child st.node (last_of p) ≡ Some m) × Leaf (graph.shape m)
-    v = leaf_of (graph.child st.node (last_of p)) (remove_of e ed full (entry_shape graph st.node (last_of p)) r i)
+    v : (v : ℕ) × (graph.child st.node (last_of p) ≡ Some v) × Leaf (graph.shape v) × (st.victim ≡ Some v)
+    v = removed_leaf graph st o e p ed full (subst (λ (x : Form). VictimAt graph x st) rem f.victim) done r i
 
     held : st.victim ≡ Some v.0
-    held =
-        let t : take_if (victim_of e (entry_shape graph st.node (last_of p))) (Some v.0) st.victim (Finishes None) ≡ Finishes o = ap (λ (n : Option ℕ). take_if (victim_of e (entry_shape graph st.node (last_of p))) n st.victim (Finishes None)) (sym v.1) ∙ done want.0 in
-        let w : (w : ℕ) × (st.victim ≡ Some w) = take_done (victim_of e (entry_shape graph st.node (last_of p))) v.0 st.victim o None want.1 t in
-        let vic : VictimAt graph (AtEntry e p) st = subst (λ (x : Form). VictimAt graph x st) rem f.victim in
-        w.1 ∙ sym (vic w.0 w.1) ∙ v.1
+    held = v.3
 
     loc : Located (numbers graph) (key c) st
     loc = (f.kept.each c op st f.is f.on).located
