@@ -2,8 +2,12 @@
 //
 // plain run < SCRIPT: the run text of a script of one thread that ends in `finish`, as `atomfs run` writes it.
 // plain check < JOURNAL: reads a journal, replays the commits and compares the replies: `lawful`, or `fault` and a place.
+// plain threads < SCRIPT: each thread's calls on a thread of its own; one mutex, taken at each event: how many calls, and in how many microseconds.
 use std::collections::HashMap;
+use std::hint::black_box;
 use std::io::{Read, Write};
+use std::sync::Mutex;
+use std::time::Instant;
 
 #[derive(Clone, PartialEq)]
 enum Reply {
@@ -492,13 +496,87 @@ fn check(input: &[u8]) -> Vec<u8> {
     b"lawful\n".to_vec()
 }
 
+/// What one mutex keeps: the tree, and the journal by copies.
+struct Shared {
+    tree: Tree,
+    journal: Vec<Entry>,
+    begun: u64,
+}
+
+impl Shared {
+    fn begin(&mut self, seat: u64, call: &Call) -> u64 {
+        self.begun += 1;
+        self.journal.push(Entry::Begin(self.begun, seat, call.clone()));
+        self.begun
+    }
+
+    fn commit(&mut self, number: u64, call: &Call) -> Reply {
+        let reply = self.tree.apply(call);
+        self.journal.push(Entry::Commit(number));
+        reply
+    }
+
+    fn end(&mut self, number: u64, reply: &Reply) {
+        self.journal.push(Entry::Return(number, reply.clone()));
+    }
+}
+
+/// How many events a call has between its begin and its return, where nobody stands in its way: a take and a let go for
+/// each name, those of the root, and a commit.
+fn steps(call: &Call) -> usize {
+    let depth = |path: &[u8]| names(path).count();
+    match call {
+        Call::Stat(p) | Call::Readdir(p) | Call::Read(p, ..) | Call::Write(p, ..) | Call::Truncate(p, _) => 3 + 2 * depth(p),
+        Call::Mkdir(p) | Call::Mknod(p) | Call::Unlink(p) | Call::Rmdir(p) => 1 + 2 * depth(p),
+        Call::Rename(p, q) => 3 + 2 * depth(p).max(depth(q)),
+    }
+}
+
+/// The calls of a thread, an event at a time.
+fn play(shared: &Mutex<Shared>, seat: u64, calls: &[Call]) -> Vec<Reply> {
+    calls
+        .iter()
+        .map(|call| {
+            let number = shared.lock().unwrap().begin(seat, call);
+            for _ in 1..steps(call) {
+                black_box(&mut *shared.lock().unwrap());
+            }
+            let reply = shared.lock().unwrap().commit(number, call);
+            shared.lock().unwrap().end(number, &reply);
+            reply
+        })
+        .collect()
+}
+
+/// Each block's calls on a thread of its own.
+fn threads(input: &[u8]) -> Vec<u8> {
+    let mut blocks: Vec<Vec<Call>> = Vec::new();
+    for line in input.split(|b| *b == b'\n').skip(1).take_while(|line| *line != b"schedule") {
+        match line.strip_prefix(b"thread ") {
+            Some(_) => blocks.push(Vec::new()),
+            None => blocks.last_mut().unwrap().push(call_of(&line.split(|b| *b == b' ').collect::<Vec<_>>())),
+        }
+    }
+    let shared = Mutex::new(Shared { tree: Tree::new(), journal: Vec::new(), begun: 0 });
+    let began = Instant::now();
+    std::thread::scope(|scope| {
+        for (seat, calls) in blocks.iter().enumerate() {
+            let shared = &shared;
+            scope.spawn(move || play(shared, seat as u64, calls));
+        }
+    });
+    let micros = began.elapsed().as_micros();
+    format!("calls: {}\nmicroseconds: {micros}\n", shared.into_inner().unwrap().journal.len() / 3).into_bytes()
+}
+
 fn main() {
     let mut input = Vec::new();
     std::io::stdin().lock().read_to_end(&mut input).unwrap();
     let text = match std::env::args().nth(1).as_deref() {
         Some("run") => run(&input),
         Some("check") => check(&input),
-        _ => panic!("plain run, or plain check"),
+        Some("threads") => threads(&input),
+        _ => panic!("plain run, check or threads"),
     };
     std::io::stdout().lock().write_all(&text).unwrap();
 }
