@@ -7,9 +7,8 @@ use Rattle.fs_text.specs.declared.fault.ScriptFault.{ScriptFault}
 use Rattle.fs_text.specs.declared.fault.FaultKind.TheVariants as kind
 use Rattle.fs_script.specs.Script.{script_of}
 use Rattle.fs_script.specs.declared.script.Script.{Script}
-use Rattle.fs_sched.specs.Devices.{IsSameText, WritesBeginning}
+use Rattle.fs_sched.specs.Devices.{IsSameText, IsFaultOrRefusal, WritesBeginning}
 use Rattle.fs_sched.specs.Runs.{IsRunOf}
-use Rattle.fs_sched.specs.code.Stages.{IsFaultOrRefusal}
 use Rattle.fs_sched.specs.declared.fault.RunFault.{RunFault}
 use Rattle.fs_sched.specs.declared.fault.RunFault.TheVariants.{Input}
 use Rattle.fs_sched.specs.declared.running.RunEnd.{RunEnd}

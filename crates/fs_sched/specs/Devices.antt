@@ -26,6 +26,14 @@ IsFaultOf given Write = ⊥
 IsFaultOf given OutOfMemory = Unit {0}
 IsFaultOf given Full = ⊥
 
+-- the fault of the input, or a call's refusal
+abbrev pub IsFaultOrRefusal : {X : Type 0} → Result X ScriptFault → RunFault → Type 0
+IsFaultOrRefusal given (Input f) = given ≡ Err f
+IsFaultOrRefusal given Read = ⊥
+IsFaultOrRefusal given Write = ⊥
+IsFaultOrRefusal given OutOfMemory = Unit {0}
+IsFaultOrRefusal given Full = Unit {0}
+
 -- a beginning of the text was written, and not all of it
 abbrev pub WritesBeginning : List ℕ → Option (List ℕ) → Option (List ℕ) → Type 0
 WritesBeginning text old new = (n : ℕ) × (n < length text) × Appends old new (take n text)

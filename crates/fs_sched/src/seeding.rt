@@ -4,10 +4,10 @@ ghost use Rattle.std.specs.Prelude.{◌≡◌, ◌≢◌, ◌+◌, ◌-◌, ◌<
 ghost use Rattle.std.specs.Io.KnownBytes.{Appends, IsAtEnd};
 ghost use Rattle.fs_text.specs.declared.fault.ScriptFault.{ScriptFault};
 ghost use Rattle.fs_script.specs.Script.{script_of};
-ghost use Rattle.fs_sched.specs.Devices.{WritesBeginning};
+ghost use Rattle.fs_sched.specs.Devices.{IsFaultOrRefusal, WritesBeginning};
 ghost use Rattle.fs_sched.specs.Runs.{FillsUp};
 ghost use Rattle.fs_sched.specs.Seeds.{seed_line, lawful_line, IsLawfulFrom, AreLawful, AreRunsOf, OneFillsUp, OneReachesFull};
-ghost use Rattle.fs_sched.specs.code.Stages.{IsRefusal, IsFaultOrRefusal};
+ghost use Rattle.fs_sched.specs.code.Stages.{IsRefusal};
 
 use crate::device::{Sink, Source};
 use crate::fault::{RunFault, run_fault};

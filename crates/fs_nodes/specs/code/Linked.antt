@@ -1,32 +1,16 @@
 -- What the places of a store with sibling links say, and what they keep.
-use Rattle.std.specs.Prelude.{ℕ, true, zero, suc, ◌≡◌, ◌+◌, ◌-◌, List, [], ◌∷◌, Option, Some, None, map, length, slice_get}
+use Rattle.std.specs.Prelude.{ℕ, true, zero, suc, ◌≡◌, ◌+◌, ◌-◌, List, [], ◌∷◌, Option, Some, None, length, slice_get}
 use Rattle.std.specs.List.{find}
 use Rattle.fs_names.specs.Names.{Name}
 use Rattle.fs_names.specs.Shapes.{names_of}
 use Rattle.fs_names.specs.declared.limits.TheConstants.{NODE_LIMIT}
 use Rattle.fs_nodes.specs.declared.node.Content.{Content}
 use Rattle.fs_nodes.specs.declared.node.Link.{Link}
-use Rattle.fs_nodes.specs.declared.node.Node.{Node}
 use Rattle.fs_nodes.specs.declared.place.Place.{Place}
 use Rattle.fs_nodes.specs.code.Edits.{refilled, given_back}
 use Rattle.fs_nodes.specs.Graphs.{Graph, then_at}
+use Rattle.fs_nodes.specs.Places.{plain, plains}
 use Rattle.fs_nodes.specs.Stores.{link_of, graph_in, is_above, IsStore}
-
--- the entry that names a node, by its directory and its name
-abbrev pub link_with : Option ℕ → Name → Option Link
-link_with None name = None
-link_with (Some dir) name = Some (record { dir = dir; name = name })
-
--- a place without its ways to others
-abbrev pub plain_with : Option Content → Option Link → Option Node
-plain_with None link = None
-plain_with (Some content) link = Some (record { content = content; link = link })
-
-abbrev pub plain : Place → Option Node
-plain p = plain_with p.content (link_with p.parent p.name)
-
-abbrev pub plains : List Place → List (Option Node)
-plains ps = map plain ps
 
 abbrev pub graph_of_places : List Place → Graph
 graph_of_places ps = graph_in (plains ps)

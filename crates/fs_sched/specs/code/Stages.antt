@@ -1,8 +1,7 @@
 -- Where a run stands that the code does.
-use Rattle.std.specs.Prelude.{ℕ, ◌≡◌, ◌<◌, false, List, length, Result, Err}
+use Rattle.std.specs.Prelude.{ℕ, ◌≡◌, ◌<◌, false, List, length}
 use Rattle.fs_calls.specs.declared.call.Call.{Call}
 use Rattle.fs_core.specs.CoreValues.{state_of}
-use Rattle.fs_text.specs.declared.fault.ScriptFault.{ScriptFault}
 use Rattle.fs_sched.specs.Runs.{Stage, has_more}
 use Rattle.fs_sched.specs.declared.play.Play.{Play}
 use Rattle.fs_sched.specs.declared.fault.RunFault.{RunFault}
@@ -28,11 +27,3 @@ IsRefusal Read = ⊥
 IsRefusal Write = ⊥
 IsRefusal OutOfMemory = Unit {0}
 IsRefusal Full = Unit {0}
-
--- the fault of the input, or a call's refusal
-abbrev pub IsFaultOrRefusal : {X : Type 0} → Result X ScriptFault → RunFault → Type 0
-IsFaultOrRefusal given (Input f) = given ≡ Err f
-IsFaultOrRefusal given Read = ⊥
-IsFaultOrRefusal given Write = ⊥
-IsFaultOrRefusal given OutOfMemory = Unit {0}
-IsFaultOrRefusal given Full = Unit {0}
