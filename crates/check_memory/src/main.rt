@@ -1,5 +1,6 @@
-//! Does each thing of paths, of the sequential tree, of the core and of the checker that takes memory, and once more where memory was
-//! refused. But for the last line, what it writes is the same whichever growth is refused: `bench/refused` refuses each in turn.
+//! Does each thing of paths, of the sequential tree, of the core and of the checker that takes memory, and once more where
+//! memory was refused. But for the last line, what it writes is the same whichever growth is refused: `bench/refused`
+//! refuses each in turn.
 #![tactic(auto)]
 
 mod again;

@@ -1,4 +1,4 @@
-//! What is counted.
+//! What is counted of the drawn runs.
 
 use fs_core::Stepped;
 

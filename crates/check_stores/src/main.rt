@@ -1,5 +1,6 @@
-//! Uses a store as its examples do, then draws calls of a store and gives each to the store with sibling links and to the one without an index. It prints how
-//! many calls of each kind were drawn and how many could do what they are for, and how many answers differed: none.
+//! Uses a store as its examples do, then draws calls of a store and gives each to the store with sibling links and to the
+//! one without an index. It prints how many calls of each kind were drawn and how many could do what they are for, and how
+//! many answers differed: none.
 #![tactic(auto)]
 
 mod calls;

@@ -1,4 +1,4 @@
-//! What is counted.
+//! What is counted of the drawn calls of stores.
 
 /// How many calls of each kind were drawn, and how many of them did what they are for.
 #[derive(Clone, Copy, Debug, Default)]

@@ -6,7 +6,7 @@
 //! formats; `run_text` and `check_text` have the work of the runners over bytes. No function has a `requires`.
 //!
 //! Enter at `run_line`. The definitions are in `specs/`: `Calls` says what begins, steps and calls of a line do, by the
-//! machine of `fs_laws`, and `Texts` what the texts are.
+//! machine of `fs_machine`, and `Texts` what the texts are.
 #![tactic(auto)]
 
 mod calls;

@@ -5,8 +5,8 @@
 //! about who wrote them: call numbers and seats may be any numbers.
 //!
 //! Enter at `check`. What is lawful, and the verdict, is defined in `fs_timeline`, whose types are handed on here;
-//! `specs/JournalState.antt` there is what a checker knows of the entries so far. `specs/code/` here says how the tables of
-//! the code are that knowledge, and changes no meaning.
+//! `specs/JournalStates.antt` there is what a checker knows of the entries so far. `specs/code/` here says how the tables
+//! of the code are that knowledge, and changes no meaning.
 #![tactic(auto)]
 
 mod calls;

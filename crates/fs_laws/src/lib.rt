@@ -6,9 +6,9 @@
 //! code.
 //!
 //! Enter at the module `laws`. The machine that they speak of is `fs_machine`. Read in `specs/`: `Laws` (all
-//! statements), then by law `Below`, `Progress`, `OpValue`, `OneCall`. Worked runs with the answer of each event are in
-//! `Examples`, by the words of `Events`. `Invariants`, `Stands`, `Placed` and `Settled` serve the proofs,
-//! and `docs/ARCHITECTURE.md` has a map of these.
+//! statements), then by law `Below`, `Progress`, `StepsLeft`, `OneCall`. Worked runs with the answer of each event are in
+//! `Examples`, by the words of `Events`. `Invariants`, `CallFacts`, `JournalViews` and `Placed` serve the proofs, and
+//! `docs/ARCHITECTURE.md` has a map of these.
 #![tactic(auto)]
 
 pub mod examples;

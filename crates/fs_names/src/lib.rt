@@ -7,7 +7,7 @@
 //!
 //! Enter at `Path::parse` and `Name::read`; the limits are constants of the module `limits`. The definitions are in
 //! `specs/`: `Names` (what a name is, and the order), `Keys` (parent, prefix), `Reading` (how bytes are read), and, for
-//! the crates above, `Shapes` (what is seen of a node) and `First` (the first of several checks that fails).
+//! the crates above, `Shapes` (what is seen of a node) and `Failures` (the first of several checks that fails).
 #![tactic(auto)]
 
 pub mod bytes;

@@ -3,10 +3,8 @@
 //! A store is seen as a graph (what each number is, and which entry leads where), a limit on the numbers in use and the
 //! room made for numbers. Each call says what is seen after it: it changes the graph as its clause says, and nothing
 //! else. `Store::find` tells what every store keeps. `Store::reserve` answers `Full` exactly where as many numbers are
-//! in use as the limit. Only `Store::new` and `Store::reserve` allocate. Each node leads to the first of its entries and
-//! to the entries beside its own, in byte order, so a call looks at the entries of one directory (`Store::find_steps`
-//! says at how many of them), and the number that was released last is the first to be reserved again. `plain::Store`
-//! has the same contract without an index, for tests alone.
+//! in use as the limit. Only `Store::new` and `Store::reserve` allocate. `plain::Store` has the same contract without an
+//! index, for tests alone.
 //!
 //! Enter at `Store`. The definitions are in `specs/`: `Graphs` (graphs, their changes, and the tree that a graph
 //! spells), `Seen` (what is seen of a store, and what every store keeps) and `Stores` (the graph that a store is, by its

@@ -5,8 +5,8 @@
 //! last, `end`. Each of these does what the machine's definitions say, and none of them needs memory. An `Op` knows of
 //! no other call: who holds a node, and whom a rename helps, is decided in `fs_core`.
 //!
-//! Enter at `Op::begin` and `Op::next`. The definitions that the contracts cite are `fs_machine/specs/Works.antt` and
-//! `Moves.antt`. `specs/Views.antt` here says what the fields of an `Op` are in these words; `specs/code/` ties the code
+//! Enter at `Op::begin` and `Op::next`. The definitions that the contracts cite are `fs_machine/specs/OpValues.antt` and
+//! `Moves.antt`. `specs/OpValue.antt` here says what the fields of an `Op` are in these words; `specs/code/` ties the code
 //! to them, and changes no meaning. The modules are named as what they do: `begin`, `next`, `take`, and so on.
 #![tactic(auto)]
 
