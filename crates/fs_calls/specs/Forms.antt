@@ -20,6 +20,7 @@ pub data NodeCall : Type 0 where
   Write : ℕ → List ℕ → NodeCall
   Truncate : ℕ → NodeCall
 
+-- a call by what it looks at: the node at a path, the entry that a path names, the entries of two paths
 pub data Form : Type 0 where
   AtNode : NodeCall → Key → Form
   AtEntry : EntryCall → Key → Form

@@ -14,44 +14,51 @@ use Rattle.fs_calls.specs.declared.reply.Reply.{Reply}
 use Rattle.fs_calls.specs.declared.reply.Reply.TheVariants as answer
 use Rattle.fs_calls.specs.declared.errno.Errno.{Errno}
 
--- resolution, and the parent's resolution
+-- the resolution of a key in a tree
 abbrev pub resolution : Tree → Key → Option Errno
 resolution t p = resolve (tree_shapes t) p
 
+-- the resolution of the parent of a key
 abbrev pub parents_resolution : Tree → Key → Option Errno
 parents_resolution t p = resolve_dir (tree_shapes t) (parent_of p)
 
--- the reply and the tree of a call without an error
+-- the reply to a call without an error
 abbrev pub reply_of : Tree → Form → Reply
 reply_of t (AtNode c p) = node_reply c (tree_shapes t p)
 reply_of t (AtEntry c p) = answer.Done
 reply_of t (AtPair pairs.Rename p q) = answer.Done
 
+-- the file at a key has new bytes from now on; None: the tree stays
 abbrev pub filled : Tree → Key → Option (List ℕ) → Tree
 filled t p None = t
 filled t p (Some bytes) = inserted t p (tree.File bytes)
 
+-- the node that is seen so; a directory of a tree keeps no names
 abbrev pub node_of : Shape → Node
 node_of (Dir names) = tree.Dir
 node_of (File bytes) = tree.File bytes
 
+-- the tree after what a call makes of an entry
 abbrev pub edited : Tree → Key → Edit → Tree
 edited t p Keep = t
 edited t p (Add shape) = inserted t p (node_of shape)
 edited t p Remove = removed t p
 
+-- the tree after a call without an error
 abbrev pub change_of : Tree → Form → Tree
 change_of t (AtNode c p) = filled t p (new_bytes c (tree_shapes t p))
 change_of t (AtEntry c p) = edited t p (edit_of (new_shape c))
 change_of t (AtPair pairs.Rename p q) = if is_same p q then t else renamed t p q
 
--- the same of each call
+-- the first error behind those that the paths decide alone
 abbrev pub row : Tree → Call → Option Errno
 row t call = row_in (tree_shapes t) (form call)
 
+-- the reply to a call, if it has no error
 abbrev pub success : Tree → Call → Reply
 success t call = reply_of t (form call)
 
+-- the tree after a call, if it has no error
 abbrev pub change : Tree → Call → Tree
 change t call = change_of t (form call)
 
@@ -59,33 +66,38 @@ change t call = change_of t (form call)
 unfoldable pub fault : Tree → Call → Option Errno
 fault t call = or_else (by_text (form call)) (row t call)
 
+-- an error is the reply, and else what a call without one replies
 abbrev pub replied : Option Errno → Reply → Reply
 replied None well = well
 replied (Some e) well = answer.Failed e
 
+-- an error leaves the tree as it was
 abbrev pub if_sound : Option Errno → Tree → Tree → Tree
 if_sound None old new = new
 if_sound (Some e) old new = old
 
--- what a call replies, and the tree after it
+-- what a call replies on a tree
 unfoldable pub reply : Tree → Call → Reply
 reply t call = replied (fault t call) (success t call)
 
+-- the tree after a call
 unfoldable pub after : Tree → Call → Tree
 after t call = if_sound (fault t call) t (change t call)
 
--- the tree after a list of calls, and from the root alone
+-- the tree after a list of calls
 abbrev pub play_from : Tree → List Call → Tree
 play_from t [] = t
 play_from t (call ∷ calls) = play_from (after t call) calls
 
+-- the tree after a list of calls, from the root alone
 abbrev pub play : List Call → Tree
 play calls = play_from root_tree calls
 
--- the replies to a list of calls, and from the root alone
+-- the replies to a list of calls
 abbrev pub replies_from : Tree → List Call → List Reply
 replies_from t [] = []
 replies_from t (call ∷ calls) = reply t call ∷ replies_from (after t call) calls
 
+-- the replies to a list of calls, from the root alone
 abbrev pub replies : List Call → List Reply
 replies calls = replies_from root_tree calls

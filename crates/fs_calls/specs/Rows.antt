@@ -38,6 +38,7 @@ place_errors moved there room =
     ∷ check (is_missing there && not room) Enospc
     ∷ []
 
+-- the first error of the new path
 abbrev pub place_fault : Option Shape → Option Shape → Bool → Option Errno
 place_fault moved there room = first_failure (place_errors moved there room)
 
@@ -53,13 +54,15 @@ has_room one_parent dir = one_parent || not (is_full dir)
 abbrev pub as_dir : Option Errno → Option Shape → Option Errno
 as_dir found dir = first_failure (found ∷ check (is_missing dir) Enoent ∷ check (is_file dir) Enotdir ∷ [])
 
--- the first error of a row, behind the resolution of the path, of the parent, of both parents
+-- the first error of a call on a node, behind the resolution of its path
 abbrev pub node_fault : NodeCall → Option Errno → Option Shape → Option Errno
 node_fault c found there = first_failure (found ∷ check (is_missing there) Enoent ∷ node_errors c there)
 
+-- the same of a call on an entry, behind the resolution of its parent
 abbrev pub entry_fault : EntryCall → Option Errno → Bool → Option Shape → Option Errno
 entry_fault c parent full there = first_failure (parent ∷ entry_errors c full there)
 
+-- the same of a rename, behind the resolutions of both parents
 abbrev pub rename_fault : Option Errno → Option Errno → Option Shape → Bool → Option Shape → Bool → Option Errno
 rename_fault source dest moved same_path there room = first_failure (source ∷ dest ∷ rename_errors moved same_path there room)
 
@@ -95,12 +98,13 @@ new_bytes (Read off count) there = None
 new_bytes (Write off bytes) there = if has_any bytes then Some (written (bytes_of there) off bytes) else None
 new_bytes (Truncate size) there = Some (resized (bytes_of there) size)
 
--- what a call on an entry makes of it: a new node stands there, or the entry goes
+-- what a call on an entry makes of it: it stays, a new node stands there, or it goes
 pub data Edit : Type 0 where
   Keep : Edit
   Add : Shape → Edit
   Remove : Edit
 
+-- a call that makes no node removes the entry
 abbrev pub edit_of : Option Shape → Edit
 edit_of None = Remove
 edit_of (Some new) = Add new
@@ -134,12 +138,14 @@ made new full there = answered (first_failure (entry_errors Mkdir full there)) K
 abbrev pub entry_row_in_dir : EntryCall → Bool → Option Shape → Reply × Edit
 entry_row_in_dir c full there = answered (first_failure (entry_errors c full there)) Keep answer.Done (edit_of (new_shape c))
 
--- a rename whose parents are directories; of a node that is there; by its error
+-- a rename whose parents are directories
 abbrev pub rename_row_in_dirs : Option Shape → Bool → Option Shape → Bool → Reply × Bool
 rename_row_in_dirs moved same_path there room = answered (first_failure (rename_errors moved same_path there room)) false answer.Done (not same_path)
 
+-- the first error of the new path, of a node that is there
 abbrev pub to_row : Shape → Option Shape → Bool → Option Errno
 to_row moved there room = place_fault (Some moved) there room
 
+-- such a rename by its error: without one it moves the node
 abbrev pub moves_row : Option Errno → Reply × Bool
 moves_row found = answered found false answer.Done true

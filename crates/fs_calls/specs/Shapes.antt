@@ -5,6 +5,7 @@ pub use Rattle.fs_names.specs.Shapes.{Shape, Dir, File, is_there, is_missing, is
 use Rattle.fs_calls.specs.Tree as tree
 use Rattle.fs_calls.specs.Tree.{Tree, Node, look, names_in}
 
+-- what is seen of a node at a key: a directory with its names, or a file with its bytes
 abbrev pub shape_of : Tree → Key → Option Node → Option Shape
 shape_of t k None = None
 shape_of t k (Some tree.Dir) = Some (Dir (names_in t k))

@@ -13,13 +13,14 @@ use Rattle.fs_calls.specs.declared.errno.Errno.TheVariants.{Enoent, Enotdir}
 abbrev pub Sight : Type 0
 Sight = Key → Option Shape
 
--- resolution from the root, name by name; None where the key is there
+-- the first name, by what stands at the directory and at the name; then the rest
 abbrev pub resolve_next : Option Shape → Option Shape → Option Errno → Option Errno
 resolve_next (Some (Dir names)) (Some child) rest = rest
 resolve_next (Some (Dir names)) None rest = Some Enoent
 resolve_next (Some (File bytes)) child rest = Some Enotdir
 resolve_next None child rest = Some Enoent
 
+-- resolution from the root, name by name; None where the key is there
 abbrev pub resolve : Sight → Key → Option Errno
 resolve sight [] = None
 resolve sight (x ∷ p) = resolve_next (sight []) (sight (x ∷ [])) (resolve (λ k. sight (x ∷ k)) p)

@@ -28,16 +28,18 @@ pub record IsTree (t : Tree) : Type 0 where
 abbrev pub root_tree : Tree
 root_tree = ([], Dir) ∷ []
 
--- the name of a key in the directory d, where it is an entry of d
+-- the one name that follows a prefix; None where none or more follow
 abbrev pub only_name : Option Key → Option Name
 only_name None = None
 only_name (Some []) = None
 only_name (Some (x ∷ [])) = Some x
 only_name (Some (x ∷ y ∷ k)) = None
 
+-- the name of a key in the directory d, where it is an entry of d
 abbrev pub name_in : Key → Key → Option Name
 name_in d k = only_name (after_prefix d k)
 
+-- a list with one name more in front, if there is one
 abbrev pub with_name : Option Name → List Name → List Name
 with_name None names = names
 with_name (Some x) names = x ∷ names
@@ -55,11 +57,12 @@ inserted t k n = put key_cmp k n t
 unfoldable pub removed : Tree → Key → Tree
 removed t k = where_key key_cmp (λ e. not (same_key k e)) t
 
--- a key with prefix p gets the prefix q instead
+-- the prefix q before what followed another one; the key itself, where that was no prefix
 abbrev pub with_prefix : Key → Key → Option Key → Key
 with_prefix q k None = k
 with_prefix q k (Some rest) = q ++ rest
 
+-- a key with prefix p gets the prefix q instead
 abbrev pub moved_key : Key → Key → Key → Key
 moved_key p q k = with_prefix q k (after_prefix p k)
 

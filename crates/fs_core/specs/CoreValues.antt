@@ -27,6 +27,7 @@ abbrev pub number_of : Option Running → Option ℕ
 number_of None = None
 number_of (Some running) = Some running.call
 
+-- the number of the call under way on a seat
 abbrev pub number_on : List (Option Running) → ℕ → Option ℕ
 number_on seats seat = number_of (running_on seats seat)
 

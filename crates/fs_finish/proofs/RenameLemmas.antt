@@ -39,7 +39,7 @@ module _ (store : Seen) (real : IsReal store) (source : ℕ) (x : Name) (dest : 
       by_reply (Done, false) finish store.graph e
       (record { reply = ap (λ (z : Finish). z.replies) f; reserved = ap (λ (z : Finish). z.reserved) f; removed = ap (λ (z : Finish). z.removed) f; graph_is = refl })
 
-  -- why the node isn't moved, or that it is
+  -- why the node is not moved, or that it is
   reply_by : (fault : Option Errno) → same_path ≡ false → ((s : Shape) → store.graph.shape moved ≡ Some s → fault ≡ to_row s there room)
       → rename_reply store.graph source x dest y same_path above one_parent ≡ moves_row fault
   reply_by fault same f =

@@ -43,7 +43,7 @@ impl Paths {
     }
 }
 
-/// Why a node doesn't take the place of another one, by their kinds.
+/// Why a node does not take the place of another one, by their kinds.
 fn kinds_fault(store: &Store, moved: NodeNo, there: NodeNo) -> Option<Errno>
     ensures { (s t : Shape) (room : Bool) → shape store.now moved ≡ Some s → shape store.now there ≡ Some t → result ≡ to_row s (Some t) room }
 {
@@ -55,7 +55,7 @@ fn kinds_fault(store: &Store, moved: NodeNo, there: NodeNo) -> Option<Errno>
     }
 }
 
-/// Why a node isn't moved to the new path.
+/// Why a node is not moved to the new path.
 pub fn fault(
     store: &Store,
     moved: NodeNo,

@@ -101,7 +101,7 @@ VictimAt graph (AtNode c p) st = Unit {0}
 VictimAt graph (AtEntry c p) st = (v : ℕ) → st.victim ≡ Some v → graph.child st.node (last_of p) ≡ Some v
 VictimAt graph (AtPair pairs.Rename p q) st = (v : ℕ) → st.victim ≡ Some v → (graph.child st.dest.node (last_of q) ≡ Some v) × (parent_of q ≡ st.dest.walked)
 
--- the places of a stand at which a call may hold a node
+-- the places of its holdings at which a call may hold a node
 pub data Slot : Type 0 where
   At_node At_behind At_source At_source_behind At_dest At_dest_behind At_victim : Slot
 
@@ -139,7 +139,7 @@ pub record Own (graph : Graph) (op : Record) : Type 0 where
   -- a reserved number is in use, and nothing leads to it
   pub spare : (n : ℕ) → op.reserved ≡ Some n → ((s : Shape) × (graph.shape n ≡ Some s)) × ((key : Key) → numbers graph key ≡ Some n → ⊥)
   pub number : IsUnfinished op → Fits (form op.call) → NumberFor graph op.remaining op.reserved
-  -- a placed call stands somewhere, and its text doesn't decide it
+  -- a placed call stands somewhere, and its paths do not decide it
   pub placed : (i : ℕ) → op.phase ≡ Placed i → (st : Holdings) × (op.holdings ≡ Some st)
   -- the removed node is the victim, named by nobody and without entries
   pub gone : (n : ℕ) → op.removed ≡ Some n → ((st : Holdings) × (op.holdings ≡ Some st) × (st.victim ≡ Some n)) × ((key : Key) → numbers graph key ≡ Some n → ⊥) × ((s : Shape) × (graph.shape n ≡ Some s))

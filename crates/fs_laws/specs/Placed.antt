@@ -25,7 +25,7 @@ pub record Agree (k : Key) (a b : Map Shape) : Type 0 where
 abbrev pub looks_into : Map Shape → Key → Key → Bool
 looks_into tree p q = same_kind (tree p) (tree q) && not (is_end (after_prefix p q)) && not (has_more (after_prefix q p))
 
--- what the call reads lies at no key below k, but for the kind of an entry that it doesn't hold
+-- what the call reads lies at no key below k, but for the kind of an entry that it does not hold
 abbrev pub ReadsNothingBelow : Map Shape → Form → Key → Type 0
 ReadsNothingBelow tree (AtNode c p) k = after_prefix k p ≡ None
 ReadsNothingBelow tree (AtEntry c p) k = (after_prefix k (parent_of p) ≡ None) × (victim_of c (tree p) ≡ true → after_prefix k p ≡ None)

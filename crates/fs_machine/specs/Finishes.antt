@@ -25,11 +25,12 @@ pub record Effect : Type 0 where
 abbrev pub no_effect : Reply → Graph → Option ℕ → Effect
 no_effect r graph reserved = record { reply = r; graph = graph; reserved = reserved; removed = None }
 
--- a call on a node, and on an entry
+-- a call on a node
 abbrev pub node_effect : Graph → ℕ → Option ℕ → Reply × Option (List ℕ) → Effect
 node_effect graph n reserved (r, None) = no_effect r graph reserved
 node_effect graph n reserved (r, Some bytes) = no_effect r (content_in n bytes graph) reserved
 
+-- a call on an entry: a new node has the reserved number, and the number of a removed one is kept
 abbrev pub entry_effect : Graph → ℕ → Name → Option ℕ → Reply × Edit → Effect
 entry_effect graph n x reserved (r, Keep) = no_effect r graph reserved
 entry_effect graph n x None (r, Add shape) = no_effect r graph None
@@ -42,7 +43,7 @@ move_effect graph st x y reserved r false s = no_effect r graph reserved
 move_effect graph st x y reserved r true None = no_effect r graph reserved
 move_effect graph st x y reserved r true (Some s) = record { reply = r; graph = moved_in st.source.node x st.dest.node y s graph; reserved = reserved; removed = st.victim }
 
--- a rename that didn't come to its common directory fails where it stands
+-- a rename that did not come to its common directory fails where it stands
 abbrev pub rename_effect : Graph → Key → Key → Holdings → Option ℕ → Key → Effect
 rename_effect graph p q st reserved (z ∷ l) = no_effect (Failed (walk_errno (graph.shape st.node))) graph reserved
 rename_effect graph p q st reserved [] =
@@ -56,9 +57,10 @@ effect_at graph (AtEntry c p) st reserved =
     entry_effect graph st.node (last_of p) reserved (entry_row c (dir_error (parent_of p) (graph.shape st.node)) (is_full (graph.shape st.node)) (entry_shape graph st.node (last_of p)))
 effect_at graph (AtPair pairs.Rename p q) st reserved = rename_effect graph p q st reserved (target (AtPair pairs.Rename p q))
 
+-- a call that its paths decide, and else where it stands
 abbrev pub effect_of : Graph → Record → Option Errno → Option Holdings → Effect
 effect_of graph op (Some e) st = no_effect (Failed e) graph op.reserved
-effect_of graph op None None = no_effect (Failed Enoent) graph op.reserved  -- a call finishes at a node or by its text
+effect_of graph op None None = no_effect (Failed Enoent) graph op.reserved  -- a call finishes at a node or by its paths
 effect_of graph op None (Some st) = effect_at graph op.remaining st op.reserved
 
 -- the finish of a call under way

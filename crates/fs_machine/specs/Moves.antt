@@ -1,5 +1,6 @@
 -- The next move of a call under way, and its record after a take and after a let go.
 -- The moves are those of `src/moves.rt`, read here as sentences: a call takes a node, leaves one, finishes, ends.
+-- A number of a move is that of the table in `docs/MACHINE.md`.
 use Rattle.std.specs.Prelude.{ℕ, Bool, true, false, not, ◌&&◌, ◌||◌, [], ◌∷◌, ◌++◌, Option, Some, None}
 use Rattle.fs_names.specs.Keys.{Key, after_prefix, has_more, parent_of, last_of}
 use Rattle.fs_names.specs.Names.{Name}
@@ -29,14 +30,14 @@ target (AtNode c p) = p
 target (AtEntry c p) = parent_of p
 target (AtPair pairs.Rename p q) = common (parent_of p) (parent_of q)
 
--- at a node with a name left: a file or a missing name finishes, a name that is there is taken
+-- move 3, at a node with a name left: a file or a missing name finishes, a name that is there is taken
 abbrev pub walk_move : Option Shape → Option ℕ → Move
 walk_move None child = Finishes None
 walk_move (Some (File bytes)) child = Finishes None
 walk_move (Some (Dir names)) None = Finishes None
 walk_move (Some (Dir names)) (Some m) = Takes m
 
--- one head: it lets go what is behind it, then walks on; None where it has arrived
+-- move 3 of one head: it lets go what is behind it, then walks on; None where it has arrived
 abbrev pub head_move : Graph → ℕ → Option ℕ → Key → Option Move
 head_move graph n (Some m) l = Some (Leaves m)
 head_move graph n None [] = None
@@ -53,11 +54,11 @@ abbrev pub take_if : Bool → Option ℕ → Option ℕ → Move → Move
 take_if true (Some n) None m = Takes n
 take_if _ _ _ m = m
 
--- at the parent of an entry
+-- move 4, at the parent of an entry
 abbrev pub entry_move : Graph → EntryCall → Name → Holdings → Move
 entry_move graph c x st = take_if (victim_of c (entry_shape graph st.node x)) (graph.child st.node x) st.victim (Finishes None)
 
--- of a q that is a proper prefix of p it is known by the texts that it is a directory with entries
+-- of a q that is a proper prefix of p it is known by the paths that it is a directory with entries
 abbrev pub there_by : Bool → Option Shape → Option Shape
 there_by true there = Some (Dir ([] ∷ []))
 there_by false there = there
@@ -68,17 +69,18 @@ same_kind (Some (Dir a)) (Some (Dir b)) = true
 same_kind (Some (File a)) (Some (File b)) = true
 same_kind _ _ = false
 
--- the errors of both parents (None: arrived at a directory)
+-- why a walk with names left ends at a node
 abbrev pub walk_errno : Option Shape → Errno
 walk_errno None = Enoent
 walk_errno (Some (Dir names)) = Enoent
 walk_errno (Some (File bytes)) = Enotdir
 
--- at a node with these names left to a path, and to a parent: with names left, the walk failed there
+-- the error at a node with these names left to a path: with names left, the walk failed there
 abbrev pub path_error : Key → Option Shape → Option Errno
 path_error [] shape = None
 path_error (x ∷ l) shape = Some (walk_errno shape)
 
+-- the same of the parent of a path; None: it has arrived at a directory
 abbrev pub dir_error : Key → Option Shape → Option Errno
 dir_error [] shape = as_dir None shape
 dir_error (x ∷ l) shape = Some (walk_errno shape)
@@ -99,7 +101,7 @@ abbrev pub moved_node : Bool → Option ℕ → Option ℕ
 moved_node true s = s
 moved_node false s = None
 
--- a victim is taken where q is there with p's kind, p is another path and q no proper prefix of p
+-- move 6: a victim is taken where q is there with p's kind, p is another path and q no proper prefix of p
 abbrev pub rename_move : Graph → Key → Key → Holdings → Move
 rename_move graph p q st =
     take_if
@@ -113,7 +115,7 @@ dir_then (Some (Dir names)) m = m
 dir_then (Some (File bytes)) m = Finishes None
 dir_then None m = Finishes None
 
--- at the common directory
+-- move 5, at the common directory
 abbrev pub fork_move : Graph → Key → Key → Holdings → Move
 fork_move graph p q st =
     dir_then (graph.shape st.node)
@@ -122,30 +124,31 @@ fork_move graph p q st =
     (first_of (head_move graph st.dest.node st.dest.behind (left st.dest.walked (parent_of q)))
     (dir_then (graph.shape st.dest.node) (rename_move graph p q st)))))
 
--- at the target
+-- moves 4 to 6, at the target
 abbrev pub target_move : Graph → Form → Holdings → Move
 target_move graph (AtNode c p) st = Finishes None
 target_move graph (AtEntry c p) st = entry_move graph c (last_of p) st
 target_move graph (AtPair pairs.Rename p q) st = fork_move graph p q st
 
--- a call that stands somewhere and isn't finished
+-- moves 3 to 6: a call that holds a node and is not finished
 abbrev pub next_on : Graph → Form → Holdings → Move
 next_on graph remaining st = first_of (head_move graph st.node st.behind (target remaining)) (target_move graph remaining st)
 
--- a finished call lets go the last taken first
+-- the first of two nodes, if its head has set out, and else the second
 abbrev pub first_walked : Key → ℕ → ℕ → ℕ
 first_walked [] n m = m
 first_walked (x ∷ walked) n m = n
 
+-- the node that was taken last, by both heads: the destination head sets out second
 abbrev pub last_of_heads : ℕ → Head → Head → ℕ
 last_of_heads n source dest = first_walked dest.walked dest.node (first_walked source.walked source.node n)
 
--- the node that was taken last
+-- the node that was taken last, which a finished call lets go first (move 9)
 abbrev pub last_held : Holdings → Option ℕ → ℕ
 last_held st (Some v) = v
 last_held st None = last_of_heads st.node st.source st.dest
 
--- by its text, its phase and where it stands
+-- in this order: moves 10 and 9 of a finished call, 1 by its paths, 2 at the root, 3 to 6 from where it stands
 abbrev pub next_by : Graph → Record → Option Errno → Phase → Option Holdings → Move
 next_by graph op e (Finished r) None = Ends
 next_by graph op e (Finished r) (Some st) = Leaves (last_held st st.victim)
@@ -153,74 +156,88 @@ next_by graph op (Some e) phase st = Finishes None
 next_by graph op None phase None = Takes 0
 next_by graph op None phase (Some st) = next_on graph op.remaining st
 
+-- the next move of a record on a graph
 abbrev pub next : Graph → Record → Move
 next graph op = next_by graph op (by_text (form op.call)) op.phase op.holdings
 
--- after a take: a step of the walk, of the source head, of the destination head, or a victim
+-- a path without its first name
 abbrev pub tail_of : Key → Key
 tail_of [] = []
 tail_of (x ∷ p) = p
 
+-- what is left of the paths of a call after a step of its walk
 abbrev pub inner : Form → Form
 inner (AtNode c p) = AtNode c (tail_of p)
 inner (AtEntry c p) = AtEntry c (tail_of p)
 inner (AtPair pairs.Rename p q) = AtPair pairs.Rename (tail_of p) (tail_of q)
 
--- a parent that is the common directory is not let go
+-- a parent stays behind a head that has set out; one that is the common directory is not let go
 abbrev pub behind_of : Key → ℕ → Option ℕ
 behind_of [] n = None
 behind_of (x ∷ walked) n = Some n
 
+-- a head after a step to a node
 abbrev pub head_took : Head → Name → ℕ → Head
 head_took h x n = record { walked = h.walked ++ x ∷ []; node = n; behind = behind_of h.walked h.node }
 
+-- a victim is taken
 abbrev pub victim_took : Holdings → ℕ → Holdings
 victim_took st n = record st { victim = Some n }
 
+-- with names left the destination head takes a step, and else a victim is taken
 abbrev pub dest_took : Holdings → Key → ℕ → Holdings
 dest_took st [] n = victim_took st n
 dest_took st (x ∷ l) n = record st { dest = head_took st.dest x n }
 
+-- with names left the source head takes a step, and else it is up to the destination head
 abbrev pub source_took : Holdings → Key → Key → ℕ → Holdings
 source_took st [] l n = dest_took st l n
 source_took st (x ∷ k) l n = record st { source = head_took st.source x n }
 
+-- where a call stands after a take at its target: a victim, or a step of a head
 abbrev pub target_took : Form → Holdings → ℕ → Holdings
 target_took (AtNode c p) st n = st
 target_took (AtEntry c p) st n = victim_took st n
 target_took (AtPair pairs.Rename p q) st n = source_took st (left st.source.walked (parent_of p)) (left st.dest.walked (parent_of q)) n
 
+-- the record after a take: of the root, at the target, of the next node of the walk
 abbrev pub took_by : Record → Option Holdings → Key → ℕ → Record
 took_by op None l n = record op { holdings = Some (holdings_at n None) }
 took_by op (Some st) [] n = record op { holdings = Some (target_took op.remaining st n) }
 took_by op (Some st) (x ∷ l) n = record op { walked = op.walked ++ x ∷ []; remaining = inner op.remaining; holdings = Some (holdings_at n (Some st.node)) }
 
+-- the same, by where it stands and what is left to its target
 abbrev pub took : Record → ℕ → Record
 took op n = took_by op op.holdings (target op.remaining) n
 
--- after a let go: of what is behind the walk or a head; of a finished call, of the last taken
+-- a head that let go of its parent
 abbrev pub head_left : Head → Head
 head_left h = record h { behind = None }
 
+-- what is behind the walk, else behind the source head, else behind the destination head
 abbrev pub left_behind : Holdings → Option ℕ → Option ℕ → Holdings
 left_behind st (Some m) s = record st { behind = None }
 left_behind st None (Some m) = record st { source = head_left st.source }
 left_behind st None None = record st { dest = head_left st.dest }
 
+-- the node of the destination head goes, else that of the source head, else the position, and nothing is held
 abbrev pub left_heads : Holdings → Key → Key → Option Holdings
 left_heads st (x ∷ dest) source = Some (record st { dest = head_at st.node })
 left_heads st [] (x ∷ source) = Some (record st { source = head_at st.node })
 left_heads st [] [] = None
 
+-- of a finished call the victim goes first, then what its heads hold
 abbrev pub left_last : Holdings → Option ℕ → Option Holdings
 left_last st (Some v) = Some (record st { victim = None })
 left_last st None = left_heads st st.dest.walked st.source.walked
 
+-- of a finished call goes what was taken last, of another one what is behind
 abbrev pub left_by_phase : Phase → Holdings → Option Holdings
 left_by_phase (Finished r) st = left_last st st.victim
 left_by_phase Walking st = Some (left_behind st st.behind st.source.behind)
 left_by_phase (Placed i) st = Some (left_behind st st.behind st.source.behind)
 
+-- where a call stands after a let go
 abbrev pub left_holdings : Phase → Option Holdings → Option Holdings
 left_holdings phase None = None
 left_holdings phase (Some st) = left_by_phase phase st

@@ -34,8 +34,8 @@ phase_of None None = Walking
 
 -- its record on a seat
 abbrev pub record_of : ℕ → Option ℕ → OpValue → Record
-record_of seat place work =
-    record { seat = seat; call = work.call; walked = work.walked; remaining = work.remaining; holdings = work.holdings; phase = phase_of place work.reply; reserved = work.reserved; removed = work.removed }
+record_of seat place op =
+    record { seat = seat; call = op.call; walked = op.walked; remaining = op.remaining; holdings = op.holdings; phase = phase_of place op.reply; reserved = op.reserved; removed = op.removed }
 
 -- a call that begins
 abbrev pub new_value : Call → Option ℕ → OpValue
@@ -43,26 +43,28 @@ new_value call reserved = record { call = call; walked = []; remaining = form ca
 
 -- its next move; neither its seat nor its place matters
 abbrev pub next_of : Graph → OpValue → Move
-next_of graph work = next graph (record_of 0 None work)
+next_of graph op = next graph (record_of 0 None op)
 
--- after a take, a let go and a finish: on each seat and with each place the record is what the machine says
+-- after a take: on each seat and with each place the record is what the machine says
 abbrev pub IsTook : OpValue → ℕ → OpValue → Type 0
 IsTook old n new = (seat : ℕ) (place : Option ℕ) → record_of seat place new ≡ took (record_of seat place old) n
 
+-- the same after a let go
 abbrev pub IsLetGo : OpValue → ℕ → OpValue → Type 0
 IsLetGo old n new = (seat : ℕ) (place : Option ℕ) → record_of seat place new ≡ let_go (record_of seat place old) n
 
+-- the same after a finish on a graph
 abbrev pub IsFinished : Graph → OpValue → OpValue → Type 0
 IsFinished graph old new = (seat : ℕ) (place : Option ℕ) → record_of seat place new ≡ finished_op (record_of seat place old) (finish graph (record_of seat place old))
 
 -- the graph after its finish
 abbrev pub graph_after : Graph → OpValue → Graph
-graph_after graph work = (finish graph (record_of 0 None work)).graph
+graph_after graph op = (finish graph (record_of 0 None op)).graph
 
 -- a begin on a graph with a limit: a call that reserves gets some number below the limit that was not in use
 abbrev pub BegunAs : Graph → ℕ → Call → Option Shape → OpValue → Graph → Type 0
-BegunAs graph limit call None work new = (work ≡ new_value call None) × (new ≡ graph)
-BegunAs graph limit call (Some shape) work new = (n : ℕ) × (n < limit) × (graph.shape n ≡ None) × (work ≡ new_value call (Some n)) × (new ≡ reserved_in n shape graph)
+BegunAs graph limit call None op new = (op ≡ new_value call None) × (new ≡ graph)
+BegunAs graph limit call (Some shape) op new = (n : ℕ) × (n < limit) × (graph.shape n ≡ None) × (op ≡ new_value call (Some n)) × (new ≡ reserved_in n shape graph)
 
 -- a number that is in use, that no entry names, and without entries: it may be linked, or released
 pub record IsSpare (graph : Graph) (n : ℕ) : Type 0 where

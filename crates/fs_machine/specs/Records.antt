@@ -42,16 +42,18 @@ pub record Record : Type 0 where
 abbrev pub Records : Type 0
 Records = ℕ → Option Record
 
--- the nodes that a call holds
+-- a head holds a node, once it has set out: its own, or the parent behind it
 abbrev pub HeadHolds : Head → ℕ → Type 0
 HeadHolds h n = HasNames h.walked × ((h.node ≡ n) ⊎ (h.behind ≡ Some n))
 
+-- a call that stands so holds a node: the position, a parent, a node of its heads, or the victim
 abbrev pub Holds : Holdings → ℕ → Type 0
 Holds st n = (st.node ≡ n) ⊎ (st.behind ≡ Some n) ⊎ HeadHolds st.source n ⊎ HeadHolds st.dest n ⊎ (st.victim ≡ Some n)
 
--- the heads before they set out, and a stand at one node
+-- a head before it sets out
 abbrev pub head_at : ℕ → Head
 head_at n = record { walked = []; node = n; behind = None }
 
+-- the holdings at one node
 abbrev pub holdings_at : ℕ → Option ℕ → Holdings
 holdings_at n behind = record { node = n; behind = behind; source = head_at n; dest = head_at n; victim = None }

@@ -51,7 +51,7 @@ began old seat call c reserved graph = record old {
   timeline = old.timeline ++ Begin c seat call ∷ [];
 }
 
--- a call that reserves gets some number below the limit that isn't in use
+-- a call that reserves gets some number below the limit that is not in use
 abbrev pub Reserves : State → ℕ → Call → ℕ → Option Shape → State → Type 0
 Reserves old seat call c None new = new ≡ began old seat call c None old.graph
 Reserves old seat call c (Some shape) new =

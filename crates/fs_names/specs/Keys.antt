@@ -34,6 +34,7 @@ after_prefix [] k = Some k
 after_prefix (x ∷ p) [] = None
 after_prefix (x ∷ p) (y ∷ k) = if same_name x y then after_prefix p k else None
 
+-- whether a key is that of the root
 abbrev pub is_root : Key → Bool
 is_root [] = true
 is_root (x ∷ k) = false
@@ -56,6 +57,7 @@ has_more None = false
 has_more (Some []) = false
 has_more (Some (x ∷ k)) = true
 
+-- whether the first key is a prefix of the second, and shorter
 abbrev pub is_proper_prefix : Key → Key → Bool
 is_proper_prefix p q = has_more (after_prefix p q)
 

@@ -34,15 +34,17 @@ name_cmp = slice_cmp nat_cmp
 abbrev pub same_name : Name → Name → Bool
 same_name x y = eq_by_cmp name_cmp x y
 
--- a directory's names, in byte order, each once: with a name more, with a name less, and whether a name is among them
+-- a directory's names, in byte order, each once, with one more
 abbrev pub inserted_name : Name → List Name → List Name
 inserted_name x [] = x ∷ []
 inserted_name x (y ∷ ys) = if same_name x y then y ∷ ys else (if is_lt (name_cmp x y) then x ∷ y ∷ ys else y ∷ inserted_name x ys)
 
+-- a directory's names with one less
 abbrev pub removed_name : Name → List Name → List Name
 removed_name x [] = []
 removed_name x (y ∷ ys) = if same_name x y then removed_name x ys else y ∷ removed_name x ys
 
+-- whether a name is among them
 abbrev pub has_name : Name → List Name → Bool
 has_name x [] = false
 has_name x (y ∷ ys) = if same_name x y then true else has_name x ys

@@ -20,10 +20,11 @@ common [] q = []
 common (x ∷ p) [] = []
 common (x ∷ p) (y ∷ q) = if same_name x y then x ∷ common p q else []
 
--- what is left to walk of a key, behind the names that are walked
+-- what follows a prefix; nothing where it is no prefix
 abbrev pub left_by : Option Key → Key
 left_by None = []
 left_by (Some rest) = rest
 
+-- the names of a key behind those that are walked
 abbrev pub left : Key → Key → Key
 left walked whole = left_by (after_prefix walked whole)

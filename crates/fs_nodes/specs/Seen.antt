@@ -12,6 +12,7 @@ pub record Seen : Type 0 where
   pub limit : ℕ
   pub room : ℕ
 
+-- what is seen of a store
 abbrev pub seen : Places → Seen
 seen store = record { graph = graph_of store; limit = limit_of store; room = room store }
 

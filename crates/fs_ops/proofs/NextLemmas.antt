@@ -44,7 +44,7 @@ moves_node store real source x dest y same_path above one_parent moved fault k s
     ∙ ap (λ (b : Bool). moved_node (rename_row_in_dirs (Some s.0) b (there_by above (entry_shape store.graph dest y)) (one_parent || not (is_full (store.graph.shape dest)))).1 (store.graph.child source x)) same
     ∙ ap (λ (o : Option Errno). moved_node (moves_row o).1 (store.graph.child source x)) row ∙ k
 
--- a stand by what the fork is
+-- holdings by what the fork is
 holdings_behind : (call : Form) (n : ℕ) (behind : Option ℕ) (fork : Option ForkWay) (victim : Option ℕ) → (holdings_with call n behind fork victim).behind ≡ behind
 holdings_behind call n behind None victim = refl
 holdings_behind call n behind (Some f) victim = refl

@@ -60,7 +60,7 @@ pub root_took : (call : Call) (way : Way) (fork : Option ForkWay) (victim reserv
     → IsTook (op_value call way fork victim reserved removed outcome) n (op_value call (way_took way n) None None reserved removed outcome)
 root_took call way fork victim reserved removed outcome n e seat place = rw e refl
 
--- where a stand is
+-- the position of holdings
 pub holdings_node : (call : Form) (n : ℕ) (behind : Option ℕ) (fork : Option ForkWay) (victim : Option ℕ) → (holdings_with call n behind fork victim).node ≡ n
 holdings_node call n behind None victim = refl
 holdings_node call n behind (Some f) victim = refl
@@ -196,6 +196,6 @@ target_took_is call way fork fork_new victim victim_new reserved removed outcome
     let arrived : (way.walked ≡ way.names) × ((m : ℕ) × (way.node ≡ Some m)) = walk_arrived way may within in
     arrived_took call way way fork fork_new victim victim_new reserved removed outcome n arrived.1.0 arrived.1.1 names arrived.0 refl (stands arrived.1.0 arrived.1.1)
 
--- the same from the work that the fields are
+-- the same from the value that the fields are
 pub took_as : (old old_seen new new_seen : OpValue) (n : ℕ) → old ≡ old_seen → new ≡ new_seen → IsTook old n new → IsTook old_seen n new_seen
 took_as old old_seen new new_seen n e f h seat place = rw (← e, ← f) (h seat place)

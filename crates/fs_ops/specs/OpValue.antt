@@ -1,4 +1,4 @@
--- What the code of a call keeps, seen as its work: counts of walked names in the place of keys.
+-- What the code of a call keeps, seen as an OpValue: counts of walked names in the place of keys.
 use Rattle.std.specs.Prelude.{ℕ, ◌≡◌, ◌+◌, ◌≤◌, length, take, drop, Option, Some, None}
 use Rattle.fs_names.specs.Keys.{Key, parent_of}
 use Rattle.fs_calls.specs.Forms.{Form, AtNode, AtEntry, AtPair, form}
@@ -14,12 +14,13 @@ use Rattle.fs_machine.specs.Records.{Head, Holdings, head_at}
 use Rattle.fs_finish.specs.Rooms.{Suffices}
 use Rattle.fs_machine.specs.OpValues.{OpValue}
 
--- the path that is walked first, and the one that is walked second
+-- the path that is walked first
 abbrev pub first_path : Form → Key
 first_path (AtNode c p) = p
 first_path (AtEntry c p) = p
 first_path (AtPair pairs.Rename p q) = p
 
+-- the path that is walked second
 abbrev pub second_path : Form → Key
 second_path (AtNode c p) = p
 second_path (AtEntry c p) = p
@@ -41,6 +42,7 @@ holdings_with call n behind None victim = record { node = n; behind = behind; so
 holdings_with call n behind (Some fork) victim =
     record { node = n; behind = behind; source = head_of (first_path call) fork.names fork.source; dest = head_of (second_path call) fork.names fork.dest; victim = victim }
 
+-- the same, or nothing where it holds no node
 abbrev pub holdings_of : Form → Option ℕ → Option ℕ → Option ForkWay → Option ℕ → Option Holdings
 holdings_of call None behind fork victim = None
 holdings_of call (Some n) behind fork victim = Some (holdings_with call n behind fork victim)
@@ -50,7 +52,7 @@ abbrev pub reply_of : Outcome → Option Reply
 reply_of (Open prepared) = None
 reply_of (Fixed reply) = Some reply
 
--- the whole work
+-- the whole value
 abbrev pub op_value : Call → Way → Option ForkWay → Option ℕ → Option ℕ → Option ℕ → Outcome → OpValue
 op_value call way fork victim reserved removed outcome =
     record {

@@ -11,7 +11,7 @@ use crate::outcome::Outcome;
 use fs_calls::Reply;
 use fs_nodes::{NodeNo, Store};
 
-/// A number that a call reserved and didn't use leaves the store.
+/// A number that a call reserved and did not use leaves the store.
 pub fn give_back(store: &mut Store, reserved: Option<NodeNo>)
     requires { SpareIf (graph_of store.old) reserved }
     ensures { seen store.new ≡ record (seen store.old) { graph = unreserved reserved (graph_of store.old) } }

@@ -117,7 +117,7 @@ fn finish_at(
     }
 }
 
-/// A call by its texts, or where its walk ended.
+/// A call by its paths, or where its walk ended.
 pub fn finish(
     call: &Call,
     walk: &Walk,

@@ -6,7 +6,7 @@ use fs_finish::room::Room;
 /// The room for a finish, or what came of it.
 #[derive(Drop)]
 pub enum Outcome {
-    /// The call isn't finished.
+    /// The call is not finished.
     Open(Room),
     /// Its replies are fixed.
     Fixed(Replies),

@@ -210,7 +210,7 @@ impl Play {
         }
     }
 
-    /// Those that words give, from left to right.
+    /// The events that words give, from left to right.
     fn words(&mut self, alloc: Global, lists: &CallLists, words: &[Word]) -> Result<(), RunFault>
         requires { IsSeated self.old (length lists.now) }
         ensures events { OnOk result (Events lists.now (stage_of self.old) (given_seats words.now) (stage_of self.new)) }

@@ -11,6 +11,7 @@ use Rattle.fs_text.specs.declared.fault.FaultKind.TheVariants as kind
 
 -- ---- written
 
+-- the words of a call
 abbrev pub call_words : Call → List Word
 call_words (Mkdir p) = codes "mkdir" ∷ path_word p ∷ []
 call_words (Mknod p) = codes "mknod" ∷ path_word p ∷ []
@@ -25,25 +26,31 @@ call_words (Truncate p size) = codes "truncate" ∷ path_word p ∷ decimal size
 
 -- ---- read: the first step that fails is the answer
 
+-- the next step goes on with what the step before it gives
 infixl 10 ◌>>=◌
 abbrev pub ◌>>=◌ : {A B F : Type 0} → Result A F → (A → Result B F) → Result B F
 Ok x >>= f = f x
 Err e >>= f = Err e
 
+-- where nothing is found the fault is this one
 abbrev pub or_fault : {X : Type 0} → FaultKind → Option X → Result X FaultKind
 or_fault k (Some x) = Ok x
 or_fault k None = Err k
 
+-- a fault of a path is the fault `BadPath`
 abbrev pub or_bad_path : Result Key PathFault → Result Key FaultKind
 or_bad_path (Ok key) = Ok key
 or_bad_path (Err f) = Err (kind.BadPath f)
 
+-- a word as a path
 abbrev pub path_at : Word → Result Key FaultKind
 path_at word = or_bad_path (path_of word)
 
+-- a word as a number
 abbrev pub number_at : Word → Result ℕ FaultKind
 number_at word = or_fault kind.BadNumber (number_of word)
 
+-- a word of hexadecimal digits as bytes
 abbrev pub hex_at : Word → Result (List ℕ) FaultKind
 hex_at word = or_fault kind.BadHex (hex_of word)
 
@@ -55,6 +62,7 @@ pub data CallForm : Type 0 where
   two_numbers : (Key → ℕ → ℕ → Call) → CallForm
   number_and_bytes : (Key → ℕ → List ℕ → Call) → CallForm
 
+-- the form of a call by its first word, where more than one path stands behind that
 abbrev pub longer_form_of : Word → Option CallForm
 longer_form_of word =
     if bytes_eq word (codes "rename") then Some (two_paths Rename)
@@ -63,6 +71,7 @@ longer_form_of word =
     else (if bytes_eq word (codes "truncate") then Some (a_number Truncate)
     else None)))
 
+-- the form of a call by its first word
 abbrev pub form_of : Word → Option CallForm
 form_of word =
     if bytes_eq word (codes "mkdir") then Some (one_path Mkdir)
@@ -78,34 +87,43 @@ abbrev pub one_path_of : List Word → Result Key FaultKind
 one_path_of (p ∷ []) = path_at p
 one_path_of _ = Err kind.BadLine
 
+-- two words as two paths
 abbrev pub two_paths_at : Word → Word → Result (Key × Key) FaultKind
 two_paths_at p q = path_at p >>= λ from. path_at q >>= λ to. Ok (from, to)
 
+-- the words of two paths; another number of words is a bad line
 abbrev pub two_paths_of : List Word → Result (Key × Key) FaultKind
 two_paths_of (p ∷ q ∷ []) = two_paths_at p q
 two_paths_of _ = Err kind.BadLine
 
+-- two words as a path and a number
 abbrev pub a_number_at : Word → Word → Result (Key × ℕ) FaultKind
 a_number_at p n = path_at p >>= λ key. number_at n >>= λ size. Ok (key, size)
 
+-- the words of a path and a number; another number of words is a bad line
 abbrev pub a_number_of : List Word → Result (Key × ℕ) FaultKind
 a_number_of (p ∷ n ∷ []) = a_number_at p n
 a_number_of _ = Err kind.BadLine
 
+-- three words as a path and two numbers
 abbrev pub two_numbers_at : Word → Word → Word → Result (Key × ℕ × ℕ) FaultKind
 two_numbers_at p m n = path_at p >>= λ key. number_at m >>= λ off. number_at n >>= λ count. Ok (key, off, count)
 
+-- the words of a path and two numbers; another number of words is a bad line
 abbrev pub two_numbers_of : List Word → Result (Key × ℕ × ℕ) FaultKind
 two_numbers_of (p ∷ m ∷ n ∷ []) = two_numbers_at p m n
 two_numbers_of _ = Err kind.BadLine
 
+-- three words as a path, a number and bytes
 abbrev pub number_and_bytes_at : Word → Word → Word → Result (Key × ℕ × List ℕ) FaultKind
 number_and_bytes_at p n h = path_at p >>= λ key. number_at n >>= λ off. hex_at h >>= λ bytes. Ok (key, off, bytes)
 
+-- the words of a path, a number and bytes; another number of words is a bad line
 abbrev pub number_and_bytes_of : List Word → Result (Key × ℕ × List ℕ) FaultKind
 number_and_bytes_of (p ∷ n ∷ h ∷ []) = number_and_bytes_at p n h
 number_and_bytes_of _ = Err kind.BadLine
 
+-- the call of a form, with the arguments that the words spell
 abbrev pub arguments_at : CallForm → List Word → Result Call FaultKind
 arguments_at (one_path make) words = one_path_of words >>= λ key. Ok (make key)
 arguments_at (two_paths make) words = two_paths_of words >>= λ both. Ok (make both.0 both.1)
@@ -113,6 +131,7 @@ arguments_at (a_number make) words = a_number_of words >>= λ found. Ok (make fo
 arguments_at (two_numbers make) words = two_numbers_of words >>= λ found. Ok (make found.0 found.1 found.2)
 arguments_at (number_and_bytes make) words = number_and_bytes_of words >>= λ found. Ok (make found.0 found.1 found.2)
 
+-- how many words stand behind the first
 abbrev pub argument_count : CallForm → ℕ
 argument_count (one_path make) = 1
 argument_count (two_paths make) = 2
@@ -120,6 +139,7 @@ argument_count (a_number make) = 2
 argument_count (two_numbers make) = 3
 argument_count (number_and_bytes make) = 3
 
+-- the same; a first word that begins no call is a bad line
 abbrev pub formed_call : Option CallForm → List Word → Result Call FaultKind
 formed_call None words = Err kind.BadLine
 formed_call (Some form) words = arguments_at form words
@@ -129,6 +149,7 @@ unfoldable pub call_of : List Word → Result Call FaultKind
 call_of [] = Err kind.BadLine
 call_of (first ∷ more) = formed_call (form_of first) more
 
+-- whether a call has this first word, and so many words behind it
 abbrev pub is_formed : Option CallForm → List Word → Bool
 is_formed None words = false
 is_formed (Some form) words = length words == argument_count form

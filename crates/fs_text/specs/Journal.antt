@@ -22,10 +22,12 @@ use Rattle.fs_text.specs.declared.fault.FaultKind.TheVariants as kind
 
 -- ---- written: an entry is its words
 
+-- the word of a kind
 abbrev pub kind_word : Kind → Word
 kind_word Dir = codes "dir"
 kind_word File = codes "file"
 
+-- the word of an error number
 abbrev pub errno_word : Errno → Word
 errno_word errno.Enoent = codes "ENOENT"
 errno_word errno.Enotdir = codes "ENOTDIR"
@@ -38,6 +40,7 @@ errno_word errno.Eperm = codes "EPERM"
 errno_word errno.Enospc = codes "ENOSPC"
 errno_word errno.Efbig = codes "EFBIG"
 
+-- the words of a reply
 abbrev pub reply_words : Reply → List Word
 reply_words Done = codes "ok" ∷ []
 reply_words (Stat k size) = codes "stat" ∷ kind_word k ∷ decimal size ∷ []
@@ -46,6 +49,7 @@ reply_words (Bytes bytes) = codes "bytes" ∷ hex_word bytes ∷ []
 reply_words (Wrote size) = codes "wrote" ∷ decimal size ∷ []
 reply_words (Failed e) = codes "failed" ∷ errno_word e ∷ []
 
+-- the words of an entry
 abbrev pub entry_words : Entry → List Word
 entry_words (Begin call_no seat call) = codes "begin" ∷ decimal call_no ∷ decimal seat ∷ call_words call
 entry_words (Commit call_no) = codes "commit" ∷ decimal call_no ∷ []
@@ -55,6 +59,7 @@ entry_words (Return call_no reply) = codes "return" ∷ decimal call_no ∷ repl
 abbrev pub entry_line : Entry → List ℕ
 entry_line e = line_text (entry_words e)
 
+-- the first line of a journal
 abbrev pub journal_header : List ℕ
 journal_header = codes "atomfs-journal 1"
 
@@ -64,9 +69,11 @@ journal_text es = journal_header ++ 10 ∷ flat_map entry_line es
 
 -- ---- read: replies
 
+-- the kind that a word names
 abbrev pub kind_named : Word → Option Kind
 kind_named word = if bytes_eq word (codes "dir") then Some Dir else (if bytes_eq word (codes "file") then Some File else None)
 
+-- the error number that a word names
 abbrev pub errno_of : Word → Option Errno
 errno_of word =
     if bytes_eq word (codes "ENOENT") then Some errno.Enoent
@@ -81,38 +88,48 @@ errno_of word =
     else (if bytes_eq word (codes "EFBIG") then Some errno.Efbig
     else None)))))))))
 
+-- bytes as a name; else the reply is a bad one
 abbrev pub read_name : List ℕ → Result Name FaultKind
 read_name name = if can_name name then Ok name else Err kind.BadReply
 
+-- a word as a name, read back from its escapes
 abbrev pub name_at : Word → Result Name FaultKind
 name_at word = read_name (percent_decode word)
 
+-- words as names; the first that is none is the answer
 abbrev pub names_at : List Word → Result (List Name) FaultKind
 names_at [] = Ok []
 names_at (word ∷ more) = name_at word >>= λ n. names_at more >>= λ ns. Ok (n ∷ ns)
 
+-- what stands behind `ok`: nothing
 abbrev pub done_of : List Word → Result Reply FaultKind
 done_of [] = Ok Done
 done_of _ = Err kind.BadReply
 
+-- a kind and a size as the reply to a stat
 abbrev pub stated_at : Word → Word → Result Reply FaultKind
 stated_at k n = or_fault kind.BadReply (kind_named k) >>= λ found. number_at n >>= λ size. Ok (Stat found size)
 
+-- what stands behind `stat`: two words
 abbrev pub stated_of : List Word → Result Reply FaultKind
 stated_of (k ∷ n ∷ []) = stated_at k n
 stated_of _ = Err kind.BadReply
 
+-- what stands behind `names`: any number of names
 abbrev pub names_of : List Word → Result Reply FaultKind
 names_of words = names_at words >>= λ ns. Ok (Names ns)
 
+-- what stands behind `bytes`: one word of hexadecimal digits
 abbrev pub bytes_of : List Word → Result Reply FaultKind
 bytes_of (h ∷ []) = hex_at h >>= λ bytes. Ok (Bytes bytes)
 bytes_of _ = Err kind.BadReply
 
+-- what stands behind `wrote`: one number
 abbrev pub wrote_of : List Word → Result Reply FaultKind
 wrote_of (n ∷ []) = number_at n >>= λ size. Ok (Wrote size)
 wrote_of _ = Err kind.BadReply
 
+-- what stands behind `failed`: one error number
 abbrev pub failed_of : List Word → Result Reply FaultKind
 failed_of (e ∷ []) = or_fault kind.BadReply (errno_of e) >>= λ found. Ok (Failed found)
 failed_of _ = Err kind.BadReply
@@ -131,17 +148,21 @@ reply_of (first ∷ more) =
 
 -- ---- read: entries
 
+-- a Begin by its number, its seat and the words of its call
 abbrev pub begin_at : Word → Word → List Word → Result Entry FaultKind
 begin_at c s call = number_at c >>= λ call_no. number_at s >>= λ seat. call_of call >>= λ found. Ok (Begin call_no seat found)
 
+-- what stands behind `begin`; a call of another form is a bad line
 abbrev pub begin_of : List Word → Result Entry FaultKind
 begin_of (c ∷ s ∷ call) = if has_call_form call then begin_at c s call else Err kind.BadLine
 begin_of _ = Err kind.BadLine
 
+-- what stands behind `commit`: one number
 abbrev pub commit_of : List Word → Result Entry FaultKind
 commit_of (c ∷ []) = number_at c >>= λ call_no. Ok (Commit call_no)
 commit_of _ = Err kind.BadLine
 
+-- what stands behind `return`: a number, and the words of a reply
 abbrev pub return_of : List Word → Result Entry FaultKind
 return_of (c ∷ first ∷ more) = number_at c >>= λ call_no. reply_of (first ∷ more) >>= λ found. Ok (Return call_no found)
 return_of _ = Err kind.BadLine
@@ -165,13 +186,16 @@ entry_in_line line = words_of line >>= entry_of
 
 -- ---- read: the text
 
+-- a fault of this kind in the line of this number
 abbrev pub fault_at : ℕ → FaultKind → ScriptFault
 fault_at n k = record { line = n; kind = k }
 
+-- a fault is that of the line of this number
 abbrev pub at_line : {X : Type 0} → ℕ → Result X FaultKind → Result X ScriptFault
 at_line n (Ok x) = Ok x
 at_line n (Err k) = Err (fault_at n k)
 
+-- whether a line is the one behind which a tree stands
 abbrev pub is_tree_line : List ℕ → Bool
 is_tree_line line = bytes_eq line (codes "tree")
 
@@ -183,10 +207,12 @@ entries_from n (line ∷ more) =
     else (if is_tree_line line then Ok []
     else (at_line n (entry_in_line line) >>= λ e. entries_from (n + 1) more >>= λ es. Ok (e ∷ es)))
 
+-- whether the first line is the one that is wanted
 abbrev pub first_is : List ℕ → List (List ℕ) → Bool
 first_is wanted [] = false
 first_is wanted (line ∷ more) = bytes_eq line wanted
 
+-- the lines behind the first
 abbrev pub behind_first : List (List ℕ) → List (List ℕ)
 behind_first [] = []
 behind_first (line ∷ more) = more

@@ -8,42 +8,48 @@ use Rattle.fs_calls.specs.declared.reply.Reply.{Reply}
 use Rattle.fs_timeline.specs.declared.entry.Entry.{Entry}
 use Rattle.fs_timeline.specs.declared.entry.Entry.TheVariants.{Begin, Commit, Return}
 
--- whether an entry is the Begin, the Commit or the Return of a call
+-- whether an entry is the Begin of the call of a number
 abbrev pub is_begin : ℕ → Entry → Bool
 is_begin c (Begin d seat call) = c == d
 is_begin c (Commit d) = false
 is_begin c (Return d r) = false
 
+-- whether an entry is its Commit
 abbrev pub is_commit : ℕ → Entry → Bool
 is_commit c (Begin d seat call) = false
 is_commit c (Commit d) = c == d
 is_commit c (Return d r) = false
 
+-- whether an entry is its Return
 abbrev pub is_return : ℕ → Entry → Bool
 is_return c (Begin d seat call) = false
 is_return c (Commit d) = false
 is_return c (Return d r) = c == d
 
--- whether a call has begun, committed, returned
+-- whether the call of a number has begun
 abbrev pub has_begun : ℕ → List Entry → Bool
 has_begun c es = list_any (is_begin c) es
 
+-- whether it has committed
 abbrev pub has_committed : ℕ → List Entry → Bool
 has_committed c es = list_any (is_commit c) es
 
+-- whether it has returned
 abbrev pub has_returned : ℕ → List Entry → Bool
 has_returned c es = list_any (is_return c) es
 
--- the number of the last call on a seat
+-- the number of the call that an entry begins on a seat
 abbrev pub begun_on : ℕ → Entry → Option ℕ
 begun_on s (Begin c seat call) = if s == seat then Some c else None
 begun_on s (Commit c) = None
 begun_on s (Return c r) = None
 
+-- the number of the last call that began on a seat
 abbrev pub last_on : ℕ → List Entry → Option ℕ
 last_on s [] = None
 last_on s (e ∷ es) = or_else (last_on s es) (begun_on s e)
 
+-- whether there is such a call, and it has not returned
 abbrev pub is_open : Option ℕ → List Entry → Bool
 is_open None es = false
 is_open (Some c) es = not (has_returned c es)
@@ -52,20 +58,22 @@ is_open (Some c) es = not (has_returned c es)
 abbrev pub is_busy : ℕ → List Entry → Bool
 is_busy s es = is_open (last_on s es) es
 
--- the call of a number, by its first Begin
+-- the call that an entry begins under a number
 abbrev pub begun_as : ℕ → Entry → Option Call
 begun_as c (Begin d seat call) = if c == d then Some call else None
 begun_as c (Commit d) = None
 begun_as c (Return d r) = None
 
+-- the call of a number, by its first Begin
 abbrev pub call_of : ℕ → List Entry → Option Call
 call_of c es = first_failure (map (begun_as c) es)
 
--- the calls of the Commit entries, in order; their Begins stand in `whole`
+-- a list with one call more in front, if there is one
 abbrev pub with_call : Option Call → List Call → List Call
 with_call None calls = calls
 with_call (Some call) calls = call ∷ calls
 
+-- the calls of the Commit entries, in order; their Begins stand in `whole`
 abbrev pub commits_of : List Entry → List Entry → List Call
 commits_of whole [] = []
 commits_of whole (Begin c seat call ∷ es) = commits_of whole es
@@ -81,11 +89,12 @@ abbrev pub before_commit : ℕ → List Entry → List Entry
 before_commit c [] = []
 before_commit c (e ∷ es) = if is_commit c e then [] else e ∷ before_commit c es
 
--- the reply that the sequential tree gives a call after the commits before its own
+-- the reply that the sequential tree gives a call after these calls
 abbrev pub reply_after : List Call → Option Call → Option Reply
 reply_after calls None = None
 reply_after calls (Some call) = Some (reply (play calls) call)
 
+-- the reply that is due to the call of a number
 abbrev pub due : ℕ → List Entry → Option Reply
 due c es = reply_after (commits (before_commit c es)) (call_of c es)
 
@@ -106,6 +115,7 @@ abbrev pub Each : (List Entry → Entry → Type 0) → List Entry → List Entr
 Each P before [] = Unit {0}
 Each P before (e ∷ es) = P before e × Each P (before ++ e ∷ []) es
 
+-- each entry may come next after those before it
 abbrev pub IsWellFormed : List Entry → Type 0
 IsWellFormed es = Each IsNext [] es
 
@@ -114,13 +124,14 @@ pub record IsLawful (es : List Entry) : Type 0 where
   pub well_formed : IsWellFormed es
   pub replies : Each IsAnswered [] es
 
--- how many calls began, and how many committed
+-- how many calls began
 abbrev pub begins : List Entry → ℕ
 begins [] = 0
 begins (Begin n seat call ∷ es) = begins es + 1
 begins (Commit n ∷ es) = begins es
 begins (Return n r ∷ es) = begins es
 
+-- how many calls committed
 abbrev pub commit_count : List Entry → ℕ
 commit_count [] = 0
 commit_count (Begin n seat call ∷ es) = commit_count es

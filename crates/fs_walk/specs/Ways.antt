@@ -24,6 +24,7 @@ pub record IsWay (names walked : ℕ) : Type 0 where
   pub within : walked ≤ names
   pub most : names ≤ PATH_LIMIT
 
+-- the same of two heads
 pub record IsForkWay (names : ℕ) (source dest : Head) : Type 0 where
   pub most : names ≤ PATH_LIMIT
   pub source_most : source.walked ≤ PATH_LIMIT
@@ -33,18 +34,20 @@ pub record IsForkWay (names : ℕ) (source dest : Head) : Type 0 where
 abbrev pub new_way : ℕ → Way
 new_way names = record { names = names; walked = 0; node = None; behind = None }
 
--- both heads at the common directory
+-- a head at the common directory
 abbrev pub start_at : ℕ → Head
 start_at n = record { walked = 0; node = n; behind = None }
 
+-- both heads at the common directory
 abbrev pub new_fork : ℕ → ℕ → ForkWay
 new_fork n names = record { node = n; names = names; source = start_at n; dest = start_at n }
 
--- the node behind a head, that of the source head first
+-- the first of two nodes, if there is one, and else the second
 abbrev pub first_behind : Option ℕ → Option ℕ → Option ℕ
 first_behind (Some n) dest = Some n
 first_behind None dest = dest
 
+-- the node behind the source head, or else behind the other
 abbrev pub fork_behind : ForkWay → Option ℕ
 fork_behind fork = first_behind fork.source.behind fork.dest.behind
 
@@ -61,14 +64,16 @@ abbrev pub way_took_by : Option ℕ → Way → ℕ → Way
 way_took_by None way n = record way { node = Some n; behind = None }
 way_took_by (Some m) way n = record way { walked = way.walked + 1; node = Some n; behind = Some m }
 
+-- the same, by the node that it holds
 abbrev pub way_took : Way → ℕ → Way
 way_took way n = way_took_by way.node way n
 
--- whether a take makes sense: nothing is held, or a name is ahead
+-- whether a walk may take a node: it holds nothing, or a name is ahead
 abbrev pub may_take_by : Option ℕ → Bool → Bool
 may_take_by None ahead = true
 may_take_by (Some n) ahead = ahead
 
+-- the same, by where the walk stands
 abbrev pub may_take : Way → Bool
 may_take way = may_take_by way.node (nat_lt way.walked way.names)
 
@@ -77,10 +82,11 @@ abbrev pub behind_left : Option ℕ → ℕ → Option ℕ
 behind_left None n = None
 behind_left (Some m) n = cond (eqb m n) None (Some m)
 
--- one head after it let go of a node behind it, and of everything
+-- one head after it let go of a node behind it
 abbrev pub way_left : Way → ℕ → Way
 way_left way n = record way { behind = behind_left way.behind n }
 
+-- one head after it let go of everything
 abbrev pub way_ended : Way → Way
 way_ended way = record way { node = None; behind = None }
 
@@ -88,10 +94,11 @@ way_ended way = record way { node = None; behind = None }
 abbrev pub head_took : Head → ℕ → Head
 head_took head n = record { walked = head.walked + 1; node = n; behind = cond (nat_lt 0 head.walked) (Some head.node) None }
 
--- the name ahead of a walk, and of a head on its way to the parent of a path
+-- the name ahead of a walk
 abbrev pub name_ahead : Key → Way → Option Name
 name_ahead path way = slice_get (take way.names path) way.walked
 
+-- the name ahead of a head on its way to the parent of a path
 abbrev pub head_name : Key → ℕ → Head → Option Name
 head_name path names head = slice_get (parent_of path) (names + head.walked)
 
@@ -101,6 +108,7 @@ fork_took_by (Some x) dest fork n = record fork { source = head_took fork.source
 fork_took_by None (Some x) fork n = record fork { dest = head_took fork.dest n }
 fork_took_by None None fork n = fork
 
+-- both heads after a take, by the paths of a rename
 abbrev pub fork_took : Key → Key → ForkWay → ℕ → ForkWay
 fork_took source dest fork n = fork_took_by (head_name source fork.names fork.source) (head_name dest fork.names fork.dest) fork n
 
@@ -108,14 +116,16 @@ fork_took source dest fork n = fork_took_by (head_name source fork.names fork.so
 abbrev pub has_arrived : Key → Key → ForkWay → Bool
 has_arrived source dest fork = not (is_some (head_name source fork.names fork.source) || is_some (head_name dest fork.names fork.dest))
 
--- both heads after they let go of a node behind the one, and else behind the other
+-- a head after it let go of a node behind it
 abbrev pub head_left : Head → ℕ → Head
 head_left head n = record head { behind = behind_left head.behind n }
 
+-- a node behind the source head goes, and else one behind the other
 abbrev pub fork_left_by : Option ℕ → ForkWay → ℕ → ForkWay
 fork_left_by (Some m) fork n = record fork { source = head_left fork.source n }
 fork_left_by None fork n = record fork { dest = head_left fork.dest n }
 
+-- both heads after a let go
 abbrev pub fork_left : ForkWay → ℕ → ForkWay
 fork_left fork n = fork_left_by fork.source.behind fork n
 

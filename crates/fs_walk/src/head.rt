@@ -26,6 +26,7 @@ impl Head {
             behind: None,
         }
     }
+
     /// It steps to a node. Where it stood stays behind it, if that is not the common directory.
     pub fn took(&mut self, node: NodeNo)
         requires { self.old.walked < PATH_LIMIT }

@@ -17,7 +17,7 @@ pub record MovesOn (machine : CoreValue) (seat call : ℕ) (move : Move) : Type 
 abbrev pub PlacedOn : CoreValue → ℕ → Option ℕ → Type 0
 PlacedOn machine seat place = (running : Running) → slice_get machine.seats seat ≡ Some (Some running) → running.place ≡ place
 
--- what may happen to the call on a seat: its work goes on
+-- what may happen to the call on a seat: its value is another one
 abbrev pub Goes : (OpValue → OpValue → Type 0) → Option Running → Option Running → Type 0
 Goes R None new = new ≡ None
 Goes R (Some old) new = (work : OpValue) × R old.op work × (new ≡ Some (record old { op = work }))

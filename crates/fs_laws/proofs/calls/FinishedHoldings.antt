@@ -36,7 +36,7 @@ leads_from_dir graph is n m (x ∷ w) h e =
     let d : (names : List Name) × (graph.shape n ≡ Some (Dir names)) × (has_name x names ≡ true) = is.of_dir n g.0 x g.1 in
     (d.0, d.1)
 
--- a head of a directory that isn't one has walked nothing
+-- a head of a directory that is none has walked nothing
 stays_at : (graph : Graph) → IsGraph graph → (n m : ℕ) (w : Key) → ((names : List Name) → graph.shape n ≡ Some (Dir names) → ⊥) → at graph.child n w ≡ Some m → w ≡ []
 stays_at graph is n m [] not_dir e = refl
 stays_at graph is n m (x ∷ w) not_dir e = let d : (names : List Name) × (graph.shape n ≡ Some (Dir names)) = leads_from_dir graph is n m (x ∷ w) tt e in absurd (not_dir d.0 d.1)

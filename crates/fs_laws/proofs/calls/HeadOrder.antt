@@ -55,7 +55,7 @@ pub record HeadsOfCallInOrder (graph : Graph) (op : Record) (st : Holdings) : Ty
   pub under_way : IsUnfinished op → HeadsInOrder graph op.remaining st
   pub closed : (r : Reply) → op.phase ≡ Finished r → IsClosed st
 
--- a stand at one node
+-- holdings at one node
 pub neat_fresh : (graph : Graph) (remaining : Form) (n : ℕ) (behind : Option ℕ) → HeadsInOrder graph remaining (holdings_at n behind)
 neat_fresh graph (AtNode c p) n behind = record { source = refl; dest = refl; victim = refl }
 neat_fresh graph (AtEntry c p) n behind = record { source = refl; dest = refl; victim = λ h. refl }
@@ -84,7 +84,7 @@ neat_by old new (AtPair pairs.Rename p q) st f w = go (common (parent_of p) (par
 pub neat_op_by : (old new : Graph) (op : Record) (st : Holdings) → DirStays old new st.source.node → HeadsOfCallInOrder old op st → HeadsOfCallInOrder new op st
 neat_op_by old new op st f w = record { under_way = λ u. neat_by old new op.remaining st f (w.under_way u); closed = w.closed }
 
--- a stand with the same heads and victim
+-- holdings with the same heads and victim
 pub record SameHeads (old new : Holdings) : Type 0 where
   pub source : new.source.walked ≡ old.source.walked
   pub node : new.source.node ≡ old.source.node

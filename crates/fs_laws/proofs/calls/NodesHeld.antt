@@ -1,4 +1,4 @@
--- The nodes of a stand, each at one place.
+-- The nodes that a call holds, each at one place.
 use Rattle.std.proofs.Common.{◌≡◌, ℕ, [], ◌∷◌, ◌++◌, Option, Some, refl, sym, ap, ◌∙◌, subst, ◌⊎◌, inl, inr}
 use Rattle.fs_names.specs.Keys.{Key}
 use Rattle.fs_names.specs.Names.{Name}
@@ -51,7 +51,7 @@ single_grow st new n at swap twice from free single a b q e f = go (from a q e) 
     go (inr i) (inl j) = absurd (free (subst (Holds st) j.1 (slot_holds st (swap a) q i)))
     go (inr i) (inr j) = sym (twice a) ∙ ap swap (single (swap a) (swap b) q i j) ∙ twice b
 
--- a stand at one node, with its parent or without
+-- holdings at one node, with its parent or without
 pub single_at : (n : ℕ) (behind : Option ℕ) → (behind ≡ Some n → ⊥) → IsSingle (holdings_at n behind)
 single_at n behind differs At_node At_node q e f = refl
 single_at n behind differs At_behind At_behind q e f = refl

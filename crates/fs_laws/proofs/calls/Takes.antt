@@ -18,7 +18,7 @@ use Rattle.fs_laws.proofs.events.Take.{head_takes, head_passes}
 abbrev pub wants : Graph → Key → Key → Holdings → Bool
 wants graph p q st = same_kind (entry_shape graph st.source.node (last_of p)) (entry_shape graph st.dest.node (last_of q)) && not (is_end (after_prefix p q)) && not (has_more (after_prefix q p))
 
--- the stand after a take at the target
+-- the holdings after a take at the target
 abbrev pub with_holdings : Record → Holdings → Record
 with_holdings op st = record op { holdings = Some st }
 
@@ -83,7 +83,7 @@ fork_takes graph op n st p q on rem way behind m = source (left st.source.walked
         dir_takes (graph.shape st.source.node) (first_of (head_move graph st.dest.node st.dest.behind (left st.dest.walked (parent_of q))) at_dest) n h.1 in
         dest (left st.dest.walked (parent_of q)) i h.0 d.0 refl d.1
 
--- each take from a stand is one of these
+-- each take of a call that holds a node is one of these
 pub takes_by : (graph : Graph) (op : Record) (n : ℕ) (st : Holdings) → op.holdings ≡ Some st → next_on graph op.remaining st ≡ Takes n → Take graph op n st
 takes_by graph op n st on m = way (target op.remaining) refl m
   where

@@ -137,7 +137,7 @@ spots_off : (ops : Records) (key : ℕ → Key) (ch : Change) (cs : List ℕ) �
 spots_off ops key ch [] h = refl
 spots_off ops key ch (d ∷ cs) h = ap₂ (λ (k : Key) (ps : List (Key × Form)). (k, remaining_of (ops d)) ∷ ps) (h d (inl refl)) (spots_off ops key ch cs (λ e i. h e (inr i)))
 
--- a call that stands is not decided by its text
+-- a call that stands is not decided by its paths
 pub text_nowhere : (graph : Graph) (op : Record) (e : Errno) → Own graph op → Fits op.remaining → by_text (form op.call) ≡ Some e → ⊥
 text_nowhere graph op e own fits text = let z : ◌≡◌ {A = Option Errno} (Some e) None = sym text ∙ ap by_text (sym own.parts) ∙ fits_under op.walked op.remaining fits in cc
 

@@ -42,7 +42,7 @@ use Rattle.fs_laws.proofs.finish.RenameChanges.{does}
 use Rattle.fs_laws.proofs.calls.OwnRecord.{reached_used, own_other, own_finished}
 use Rattle.fs_laws.proofs.events.JustFinished.{Closing, ended, ends_keep, SameCalls}
 
--- a call whose next move is to finish is decided by its text, or stands somewhere
+-- a call whose next move is to finish is decided by its paths, or stands somewhere
 pub data Ready (graph : Graph) (op : Record) (o : Option ℕ) : Type 0 where
   By_text : (e : Errno) → by_text (form op.call) ≡ Some e → Ready graph op o
   By_holdings : (st : Holdings) → by_text (form op.call) ≡ None → op.holdings ≡ Some st → next_on graph op.remaining st ≡ Finishes o → Ready graph op o
@@ -259,7 +259,7 @@ commit_in_place old inv c op st o is w below text on n =
         spares k (inl i) = inl (inl (facts_of.does.reserved k i))
         spares k (inr i) = inr (facts_of.does.removed k i).2
 
--- a walking call that its text decides
+-- a walking call that its paths decide
 commit_text : (old : State) (inv : Invariant old) (c : ℕ) (op : Record) (e : Errno) → old.ops c ≡ Some op → op.phase ≡ Walking → by_text (form op.call) ≡ Some e → Invariant (committing old c op)
 commit_text old inv c op e is w text = subst (λ (m : Effect). Invariant (ended old c op m (old.timeline ++ Commit c ∷ []))) (sym made_is) (ends_keep old inv c op (no_effect (Failed e) old.graph op.reserved) (old.timeline ++ Commit c ∷ []) made_ends)
   where
@@ -290,7 +290,7 @@ commit_text old inv c op e is w text = subst (λ (m : Effect). Invariant (ended 
     view_is : view_after start (old.timeline ++ Commit c ∷ []) ≡ committed (view_after start old.timeline) c (form op.call)
     view_is = view_push start old.timeline (Commit c) ∙ noted_commit (view_after start old.timeline) c op.call call_known
 
-    -- a call that stands somewhere is not decided by its text
+    -- a call that stands somewhere is not decided by its paths
     nowhere : (st : Holdings) → op.holdings ≡ Some st → ⊥
     nowhere st on =
         let f : Fits (under op.walked op.remaining) = fits_under op.walked op.remaining (inv.kept.each c op st is on).fits in

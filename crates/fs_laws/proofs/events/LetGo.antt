@@ -29,7 +29,7 @@ use Rattle.fs_laws.proofs.events.RecordChanged.{renewed, renews_keep}
 use Rattle.fs_laws.proofs.calls.NodesHeld.{slot_holds, holds_slot}
 use Rattle.fs_laws.proofs.graphs.Release.{own_children, numbers_children, release_else, shapes_released, graph_released}
 
--- a stand that lets the node n go from a slot
+-- holdings that let the node n go from a slot
 pub record Lets (st new : Holdings) (n : ℕ) : Type 0 where
   pub gone : Slot
   pub was : in_slot st gone ≡ Some n

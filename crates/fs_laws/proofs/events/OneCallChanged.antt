@@ -25,7 +25,7 @@ place c v f d = go (eqb d c) refl
     go true e = Here (eqb_true d c e) (ap (λ (b : Bool). cond b v (f d)) e)
     go false e = Else (λ s. let t : eqb d c ≡ true = ap (λ (n : ℕ). eqb n c) s ∙ eqb_refl c in cc) (ap (λ (b : Bool). cond b v (f d)) e)
 
--- one call's record and key change, and the tree doesn't
+-- one call's record and key change, and the tree does not
 pub kept_update : (tree : Map ℕ) (ops : Records) (key : ℕ → Key) (c : ℕ) (op : Record) (k : Key) → CallFacts tree ops key
     → ((st : Holdings) → op.holdings ≡ Some st → Keeps tree k op st)
     → ((d : ℕ) (q : Record) (st other : Holdings) → (c ≡ d → ⊥) → ops d ≡ Some q → op.holdings ≡ Some st → q.holdings ≡ Some other → Pair tree k st op.phase (key d) other q.phase × Pair tree (key d) other q.phase k st op.phase)

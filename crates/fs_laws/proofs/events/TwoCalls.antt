@@ -128,7 +128,7 @@ held_off tree key st other other_key walked h here apart at_h holds clear off = 
     go None e = refl
     go (Some r) e = let p : Parted other_key key walked r = parted other_key walked key r (prefix_some key (other_key ++ walked) r e) off in absurd (between r p r refl)
 
--- what we have walked doesn't go through an entry of a node that the other holds
+-- what we have walked does not go through an entry of a node that the other holds
 pub walked_off : (tree : Map ℕ) (key walked : Key) (st other : Holdings) (kf : Key) (x : Name) (h : ℕ)
     → tree key ≡ Some st.node → ((q : ℕ) → Holds st q → Holds other q → ⊥)
     → tree kf ≡ Some h → Holds other h

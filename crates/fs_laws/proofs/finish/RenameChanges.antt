@@ -37,7 +37,7 @@ use Rattle.fs_laws.proofs.finish.RealMoves.{Real, Replaces, real_of, at_entries,
 use Rattle.fs_laws.proofs.helping.RenamesReadNothingBelow.{source_held, dest_held}
 use Rattle.fs_laws.proofs.finish.Changes.{Finisher, Does, does_nothing, does_on, does_in, content_of, own_off}
 
--- a move doesn't see what it overwrites
+-- a move does not see what it overwrites
 move_cut : (s t : Key) (tree : Map ℕ) → Aside s t → move s t (put t None tree) ≡ move s t tree
 move_cut s t tree aside = fun_ext (λ key. go key (after_prefix t key) refl)
   where

@@ -78,7 +78,7 @@ pub record Gone (graph : Graph) (k : Key) (op : Record) (made : Effect) : Type 0
   pub is_graph : IsGraph made.graph
   pub tree : graph_shapes made.graph ≡ after (graph_shapes graph) (under k op.remaining)
   pub replied : made.reply ≡ reply (graph_shapes graph) (under k op.remaining)
-  -- nodes that are reached by keys that don't begin with k are not touched
+  -- nodes that are reached by keys that do not begin with k are not touched
   pub untouched : (u : Key) (a : ℕ) → numbers graph u ≡ Some a → after_prefix k u ≡ None → Untouched graph made.graph a
   -- a number in no use by others to which nothing leads stays so
   pub loose : (m : ℕ) → ((u : Key) → numbers graph u ≡ Some m → ⊥) → (op.reserved ≡ Some m → ⊥) → ((u : Key) → numbers made.graph u ≡ Some m → ⊥) × (made.graph.shape m ≡ graph.shape m)
@@ -185,7 +185,7 @@ gone graph is k op st i ph s =
     let e : alone graph op ≡ effect_at graph f.last.remaining f.st f.last.reserved = f.made ∙ ap₂ (effect_of graph f.last) f.solo.text f.solo.on in
     subst (Gone graph k op) (sym e) (gone_made graph is k f.r op f.last f.st i f.o (f.phase ∙ ph) f.solo f.move f.ends f.same f.reserved)
 
--- another call whose keys don't begin with k
+-- another call whose keys do not begin with k
 pub record OffKeys (k kd : Key) (st : Holdings) : Type 0 where
   pub here : after_prefix k kd ≡ None
   pub source : after_prefix k (kd ++ st.source.walked) ≡ None

@@ -50,7 +50,7 @@ pub record StateFacts (s : State) : Type 0 where
 none_some : {A : Type 0} (o : Option A) (v : A) → o ≡ None → o ≡ Some v → ⊥
 none_some o v e f = let z : ◌≡◌ {A = Option _} None (Some v) = sym e ∙ f in cc
 
--- a call that stands somewhere is not decided by its text
+-- a call that stands somewhere is not decided by its paths
 pub text_open : (s : State) (inv : Invariant s) (c : ℕ) (op : Record) (st : Holdings) → s.ops c ≡ Some op → op.holdings ≡ Some st → by_text (form op.call) ≡ None
 text_open s inv c op st is on = ap by_text (sym (inv.own c op is).parts) ∙ fits_under op.walked op.remaining (inv.kept.each c op st is on).fits
 

@@ -138,7 +138,7 @@ stepped_is old run seat = on_it (old.on_seat seat) refl
     on_it None e = (e, refl)
     on_it (Some c) e = under_way c (old.ops c) e refl
 
--- a begin with ample memory: the first number that isn't in use is reserved (of so many looked at)
+-- a begin with ample memory: the first number that is not in use is reserved (of so many looked at)
 abbrev free_from : ℕ → Graph → ℕ → ℕ
 free_from zero graph n = n
 free_from (suc f) graph n = cond (is_some (graph.shape n)) (free_from f graph (suc n)) n

@@ -93,7 +93,7 @@ move_act_under s t k f tree st ts = fun_ext (λ key. go key (after_prefix t key)
         rw (prefix_some t key r e) (move_to s t (act (s ++ k) f tree) r ∙ inner (t ++ r) r refl (after_prefix k r) refl)
     go key None e = outer key (after_prefix s key) e refl
 
--- apart from both keys: the move and what acts there don't meet
+-- apart from both keys: the move and what acts there do not meet
 pub move_act_apart : {V : Type 0} (s t k : Key) (f : Map V → Map V) (tree : Map V) → after_prefix s k ≡ None → after_prefix k s ≡ None → after_prefix t k ≡ None → after_prefix k t ≡ None → move s t (act k f tree) ≡ act k f (move s t tree)
 move_act_apart s t k f tree sk ks tk kt = fun_ext (λ key. go key (after_prefix k key) refl)
   where

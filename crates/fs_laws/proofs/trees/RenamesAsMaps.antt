@@ -66,7 +66,7 @@ seen_moved t new d x e y f = seen_by new (move (d ++ x ∷ []) (e ++ y ∷ []) (
     e_off_p : after_prefix (d ++ x ∷ []) e ≡ None
     e_off_p = prefix_before (d ++ x ∷ []) e (y ∷ []) f.aside.0
 
-    -- a key that isn't a parent keeps its names
+    -- a key that is no parent keeps its names
     write_else : (b : Bool) (k : Key) → (k ≡ d → ⊥) → (k ≡ e → ⊥) → write_all (rename_writes b d (names_of (tree_shapes t d)) x e (names_of (tree_shapes t e)) y) (tree_shapes t) k ≡ tree_shapes t k
     write_else true k nd ne = put_other d (Some (Dir (inserted_name y (removed_name x (names_of (tree_shapes t d)))))) (tree_shapes t) k nd
     write_else false k nd ne = put_other e (Some (Dir (inserted_name y (names_of (tree_shapes t e))))) (put d (Some (Dir (removed_name x (names_of (tree_shapes t d))))) (tree_shapes t)) k ne ∙ put_other d (Some (Dir (removed_name x (names_of (tree_shapes t d))))) (tree_shapes t) k nd

@@ -12,7 +12,7 @@ use Rattle.fs_machine.specs.Finishes.{Effect, no_effect, effect_at}
 use Rattle.fs_machine.specs.Records.{Holdings}
 use Rattle.fs_ops.specs.OpValue.{dropped, head_of, holdings_of}
 
--- a finish by the texts, by what is left of the call and where it stands
+-- a finish by the paths, by what is left of the call and where it stands
 abbrev pub finished_by : Graph → Option Errno → Form → Option Holdings → Option ℕ → Effect
 finished_by graph (Some e) left st reserved = no_effect (Failed e) graph reserved
 finished_by graph None left None reserved = no_effect (Failed Enoent) graph reserved

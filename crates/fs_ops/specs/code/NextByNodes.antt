@@ -26,7 +26,7 @@ abbrev pub last_move : Option ℕ → Option ForkWay → Option ℕ → Move
 last_move None fork victim = Ends
 last_move (Some n) fork victim = Leaves (held_last n fork victim)
 
--- a call that isn't finished, and that its paths do not decide: it takes the root first
+-- a call that is not finished, and that its paths do not decide: it takes the root first
 abbrev pub way_move : Graph → Form → Option Holdings → Move
 way_move graph remaining None = Takes 0
 way_move graph remaining (Some st) = next_on graph remaining st
