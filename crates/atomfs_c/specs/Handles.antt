@@ -7,6 +7,7 @@ use Rattle.std.specs.Global.{Global}
 use Rattle.std_heap.specs.contracts.GlobalAllocator.TheImpl.{ghosts}
 use Rattle.fs_core.specs.contracts.machine.Core.{the_row}
 
+-- the memory that a handle owns
 abbrev pub held_owns : Global → Ptr → Option the_row.Denot → Fml
 held_owns alloc at (Some core) = box_owns (ghosts.dealloc_token alloc) the_row at core
 held_owns alloc at None = ftrue

@@ -9,6 +9,7 @@ use Rattle.fs_calls.specs.declared.errno.Errno.TheVariants.{Enoent, Enotdir, Eex
 use Rattle.fs_calls.specs.declared.reply.Reply.{Reply}
 use Rattle.fs_calls.specs.declared.reply.Reply.TheVariants.{Done, Stat, Names, Bytes, Wrote, Failed}
 
+-- whether two kinds are the same
 abbrev pub same_kind : Kind → Kind → Bool
 same_kind kind.Dir kind.Dir = true
 same_kind kind.Dir kind.File = false
@@ -28,6 +29,7 @@ number_of Eperm = 8
 number_of Enospc = 9
 number_of Efbig = 10
 
+-- whether two lists of names are the same
 abbrev pub same_names : List Name → List Name → Bool
 same_names = pointwise same_bytes
 

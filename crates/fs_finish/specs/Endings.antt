@@ -31,6 +31,7 @@ abbrev pub rename_reply : Graph → ℕ → Name → ℕ → Name → Bool → B
 rename_reply graph source x dest y same_path above one_parent =
     rename_row None None (entry_shape graph source x) same_path (there_by above (entry_shape graph dest y)) (one_parent || not (is_full (graph.shape dest)))
 
+-- the effect of that rename
 abbrev pub made_between : Graph → ℕ → Name → ℕ → Name → Bool → Bool → Bool → Option ℕ → Option ℕ → Effect
 made_between graph source x dest y same_path above one_parent victim reserved =
     let r : Reply × Bool = rename_reply graph source x dest y same_path above one_parent in

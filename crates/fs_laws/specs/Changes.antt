@@ -20,26 +20,29 @@ pub record Change : Type 0 where
   pub writes : List (Key × Option Shape)
   pub moves : Option (Key × Key)
 
--- what a change makes of a tree
+-- a tree after a move, if there is one
 abbrev pub moved_by : Option (Key × Key) → Map Shape → Map Shape
 moved_by None tree = tree
 moved_by (Some m) tree = move m.0 m.1 tree
 
+-- what a change makes of a tree: first its writes, then its move
 abbrev pub changed : Change → Map Shape → Map Shape
 changed ch tree = moved_by ch.moves (write_all ch.writes tree)
 
--- nothing changes, or some keys are written
+-- nothing changes
 abbrev pub no_change : Change
 no_change = record { writes = []; moves = None }
 
+-- some keys are written, and nothing moves
 abbrev pub only : List (Key × Option Shape) → Change
 only ws = record { writes = ws; moves = None }
 
--- the changes that the rows ask for
+-- the changes that the rows ask for: of the bytes of a file
 abbrev pub content_change : Key → Option (List ℕ) → Change
 content_change p None = no_change
 content_change p (Some bytes) = only ((p, Some (File bytes)) ∷ [])
 
+-- of an entry: its own key, and the names of its directory
 abbrev pub edit_change : Key → List Name → Name → Key → Edit → Change
 edit_change d names x p Keep = no_change
 edit_change d names x p (Add shape) = only ((d, Some (Dir (inserted_name x names))) ∷ (p, Some shape) ∷ [])
@@ -55,18 +58,21 @@ abbrev pub move_change : Bool → List (Key × Option Shape) → Key → Key →
 move_change false ws p q = no_change
 move_change true ws p q = record { writes = ws; moves = Some (p, q) }
 
--- what a call reads on the tree
+-- the reply to a call on a node, and its change, by what it reads on the tree
 abbrev pub node_looked : Map Shape → NodeCall → Key → Reply × Change
 node_looked tree c p = let r : Reply × Option (List ℕ) = node_row c (resolve tree p) (tree p) in (r.0, content_change p r.1)
 
+-- the same of a call on an entry of the directory d
 abbrev pub entry_looked : Map Shape → EntryCall → Key → Key → Name → Reply × Change
 entry_looked tree c p d x = let r : Reply × Edit = entry_row c (resolve_dir tree d) (is_full (tree d)) (tree p) in (r.0, edit_change d (names_of (tree d)) x p r.1)
 
+-- the same of a rename from the directory d to the directory e
 abbrev pub rename_looked : Map Shape → Key → Key → Key → Name → Key → Name → Reply × Change
 rename_looked tree p q d x e y =
     let r : Reply × Bool = rename_row (resolve_dir tree d) (resolve_dir tree e) (tree p) (is_end (after_prefix p q)) (tree q) (is_end (after_prefix d e) || not (is_full (tree e))) in
     (r.0, move_change r.1 (rename_writes (is_end (after_prefix d e)) d (names_of (tree d)) x e (names_of (tree e)) y) p q)
 
+-- the same of each form of call
 abbrev pub looked : Map Shape → Form → Reply × Change
 looked tree (AtNode c p) = node_looked tree c p
 looked tree (AtEntry c p) = entry_looked tree c p (parent_of p) (last_of p)
@@ -81,14 +87,15 @@ if_sound None o = o
 abbrev pub outcome : Map Shape → Form → Reply × Change
 outcome tree call = if_sound (by_text call) (looked tree call)
 
--- the reply, and the tree after the call
+-- the reply
 abbrev pub reply : Map Shape → Form → Reply
 reply tree call = (outcome tree call).0
 
+-- the tree after the call
 abbrev pub after : Map Shape → Form → Map Shape
 after tree call = changed (outcome tree call).1 tree
 
--- the tree after a list of calls, and from the root alone
+-- the tree after a list of calls
 abbrev pub play_from : Map Shape → List Call → Map Shape
 play_from tree [] = tree
 play_from tree (call ∷ calls) = play_from (after tree (form call)) calls
@@ -98,5 +105,6 @@ abbrev pub root_tree : Map Shape
 root_tree [] = Some (Dir [])
 root_tree (x ∷ key) = None
 
+-- the tree after a list of calls, from the root alone
 abbrev pub play : List Call → Map Shape
 play calls = play_from root_tree calls

@@ -105,10 +105,12 @@ VictimAt graph (AtPair pairs.Rename p q) st = (v : ℕ) → st.victim ≡ Some v
 pub data Slot : Type 0 where
   At_node At_behind At_source At_source_behind At_dest At_dest_behind At_victim : Slot
 
+-- a node of a head that has set out
 abbrev pub if_walked : Key → Option ℕ → Option ℕ
 if_walked [] n = None
 if_walked (x ∷ walked) n = n
 
+-- the node at each of these places
 abbrev pub in_slot : Holdings → Slot → Option ℕ
 in_slot st At_node = Some st.node
 in_slot st At_behind = st.behind

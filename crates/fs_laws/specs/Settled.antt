@@ -47,6 +47,7 @@ abbrev pub settled_reply : Graph → Option Record → List Reply → List Reply
 settled_reply graph None rs = rs
 settled_reply graph (Some op) rs = (alone graph op).reply ∷ rs
 
+-- the replies of all of them, in order
 abbrev pub settled_replies : Graph → Records → List ℕ → List Reply
 settled_replies graph ops [] = []
 settled_replies graph ops (c ∷ cs) = settled_reply graph (ops c) (settled_replies (settled_by graph (ops c)) ops cs)

@@ -17,11 +17,12 @@ abbrev pub total : (ℕ → ℕ) → ℕ → ℕ
 total g zero = g 0
 total g (suc n) = total g n + g (suc n)
 
--- one where there is a number, and one where there is none
+-- one where there is a number, and none where there is none
 abbrev pub one_if : Option ℕ → ℕ
 one_if None = 0
 one_if (Some n) = 1
 
+-- one where there is no number, and none where there is one
 abbrev pub one_unless : Option ℕ → ℕ
 one_unless None = 1
 one_unless (Some n) = 0

@@ -46,15 +46,18 @@ MayFree (Returned r) = Unit {0}
 abbrev pub FreesByLeavingAlone : State → Type 0
 FreesByLeavingAlone s = (seat n : ℕ) (answer : Stepped) (new : State) → Step s seat answer new → (MayFree answer → ⊥) → IsTrue (is_there (s.graph.shape n)) → IsTrue (is_there (new.graph.shape n))
 
--- each of these in every state
+-- each step of each state is determined
 abbrev pub StepsAreDetermined : Type 0
 StepsAreDetermined = (s : State) → IsDetermined s
 
+-- each step of each state adds the entries that its answer tells, and no other
 abbrev pub StepsAddTheirEntries : Type 0
 StepsAddTheirEntries = (s : State) → AddsItsEntries s
 
+-- in each state a rename helps a call below which no walking call stands
 abbrev pub TheLowestIsHelped : Type 0
 TheLowestIsHelped = (s : State) → HelpsTheLowest s
 
+-- in each state a number leaves by a let go or a return alone
 abbrev pub LeavingFreesAlone : Type 0
 LeavingFreesAlone = (s : State) → FreesByLeavingAlone s

@@ -8,6 +8,7 @@ use Rattle.fs_calls.specs.declared.call.Call.{Call}
 pub record IsKept (cells : List Cell) (log : List Call) : Type 0 where
   pub words : cells ≡ (length log, true) ∷ (0, true) ∷ []
 
+-- the first word of a book
 abbrev pub head_of : Book → Named
 head_of b = record { tracked = true; key = 0; book = b }
 

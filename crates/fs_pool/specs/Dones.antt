@@ -5,9 +5,11 @@ use Rattle.fs_share.specs.declared.session.Answer.{Answer}
 use Rattle.fs_pool.specs.declared.done.Done.{Done}
 use Rattle.fs_pool.specs.Jobs.{total}
 
+-- the numbers of the jobs that are done
 abbrev pub numbers : List Done → List ℕ
 numbers dones = map (λ d. d.no) dones
 
+-- an answer that is Ok counts for one
 abbrev pub one_if_ok : Result Answer Refusal → ℕ
 one_if_ok (Ok a) = 1
 one_if_ok (Err e) = 0

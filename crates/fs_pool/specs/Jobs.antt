@@ -5,6 +5,7 @@ use lib.ListN.{get_elem?}
 use Rattle.fs_pool.specs.declared.job.Job.{Job}
 use Rattle.fs_pool.specs.declared.queue.Hand.{Hand}
 
+-- a hand that has so many parts of the queue, and has put and popped these jobs
 abbrev pub hand : ℕ → List ℕ → List ℕ → Hand
 hand parts put popped = record { parts = parts; put = put; popped = popped }
 
@@ -17,9 +18,11 @@ total f (x ∷ xs) = f x + total f xs
 abbrev pub one : ℕ → ℕ
 one n = 1
 
+-- a hand with all parts, before the first job
 abbrev pub start : Hand
 start = hand 18446744073709551616 [] []
 
+-- the numbers of jobs
 abbrev pub numbers : List Job → List ℕ
 numbers jobs = map (λ j. j.no) jobs
 
@@ -27,6 +30,7 @@ numbers jobs = map (λ j. j.no) jobs
 abbrev pub IdleIsEmpty : List Hand → Type 0
 IdleIsEmpty views = (seat : ℕ) (v : Hand) → get_elem? views seat ≡ some v → v.parts ≡ 0 → (v.put ≡ []) × (v.popped ≡ [])
 
+-- what all hands put is what they popped and what the queue holds; together they have all parts
 abbrev pub Balanced : List Job → List Hand → Type 0
 Balanced items views =
     (total (λ (v : Hand). v.parts) views ≡ 18446744073709551616)

@@ -9,6 +9,7 @@ use Rattle.fs_timeline.specs.declared.verdict.FaultKind.TheVariants as kind
 use Rattle.fs_text.specs.Journal.{entries_of}
 use Rattle.fs_text.specs.declared.fault.ScriptFault.{ScriptFault}
 
+-- the word of a kind of fault
 abbrev pub kind_word : FaultKind → List ℕ
 kind_word kind.BeginTwice = codes "BeginTwice"
 kind_word kind.SeatBusy = codes "SeatBusy"
@@ -18,6 +19,7 @@ kind_word kind.ReturnUncommitted = codes "ReturnUncommitted"
 kind_word kind.ReturnTwice = codes "ReturnTwice"
 kind_word kind.WrongReply = codes "WrongReply"
 
+-- whether a verdict is Lawful
 abbrev pub is_lawful : Verdict → Bool
 is_lawful Lawful = true
 is_lawful (Fault place k) = false
@@ -27,6 +29,7 @@ abbrev pub verdict_line : Verdict → List ℕ
 verdict_line Lawful = codes "lawful\n"
 verdict_line (Fault place k) = codes "fault " ++ (decimal place ++ (codes " " ++ (kind_word k ++ codes "\n")))
 
+-- the verdict on the entries that were read, or the fault of the text
 abbrev pub judged : Result (List Entry) ScriptFault → Result Verdict ScriptFault
 judged (Ok es) = Ok (verdict es)
 judged (Err f) = Err f

@@ -11,6 +11,7 @@ abbrev pub by_kind : ScriptFault → FaultKind → RunFault
 by_kind f kind.OutOfMemory = OutOfMemory
 by_kind f k = Input f
 
+-- the fault of a run whose input has this fault
 abbrev pub run_fault_of : ScriptFault → RunFault
 run_fault_of f = by_kind f f.kind
 

@@ -20,6 +20,7 @@ word_seats Finish = []
 abbrev pub given_seats : List Word → List ℕ
 given_seats words = flat_map word_seats words
 
+-- whether a word stands for rounds to the end
 abbrev pub is_finish : Word → Bool
 is_finish (Events seat times) = false
 is_finish Finish = true

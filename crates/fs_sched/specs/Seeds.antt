@@ -14,6 +14,7 @@ use Rattle.fs_sched.specs.declared.schedule.Schedule.TheVariants.{Seeded}
 abbrev pub seed_line : ℕ → Verdict → List ℕ
 seed_line n v = codes "seed " ++ (decimal n ++ (codes " " ++ verdict_line v))
 
+-- the line of a drawn run whose journal is lawful
 abbrev pub lawful_line : ℕ → List ℕ
 lawful_line n = seed_line n Lawful
 

@@ -8,6 +8,7 @@ use Rattle.fs_nodes.specs.Graphs.{Graph, graph_shapes}
 use Rattle.fs_text.specs.Lines.{line_text}
 use Rattle.fs_text.specs.Words.{Word, hex_word, path_word}
 
+-- the words of a node at a key
 abbrev pub node_words : Key → Node → List Word
 node_words key Dir = codes "dir" ∷ path_word key ∷ []
 node_words key (File bytes) = codes "file" ∷ path_word key ∷ hex_word bytes ∷ []

@@ -11,12 +11,15 @@ use Rattle.fs_calls.specs.declared.reply.Reply.TheVariants as reply
 use Rattle.fs_timeline.specs.declared.entry.Entry.{Entry}
 use Rattle.fs_timeline.specs.declared.entry.Entry.TheVariants.{Begin, Commit, Return}
 
+-- each is below 256
 abbrev pub AreBytes : List ℕ → Type 0
 AreBytes bs = AllByRecursion (λ b. b < 256) bs
 
+-- a number of 64 bits
 abbrev pub IsU64 : ℕ → Type 0
 IsU64 n = n < 2 ^ 64
 
+-- what may be a name, in bytes
 pub record IsName (n : Name) : Type 0 where
   pub test : can_name n ≡ true
   pub bytes : AreBytes n
@@ -26,6 +29,7 @@ pub record IsKey (key : Key) : Type 0 where
   pub few : length key ≤ PATH_LIMIT
   pub names : AllByRecursion IsName key
 
+-- the paths, numbers and bytes of a call
 abbrev pub FitsCall : Call → Type 0
 FitsCall (call.Mkdir p) = IsKey p
 FitsCall (call.Mknod p) = IsKey p
@@ -38,6 +42,7 @@ FitsCall (call.Read p off count) = IsKey p × IsU64 off × IsU64 count
 FitsCall (call.Write p off bytes) = IsKey p × IsU64 off × AreBytes bytes
 FitsCall (call.Truncate p size) = IsKey p × IsU64 size
 
+-- the names, numbers and bytes of a reply
 abbrev pub FitsReply : Reply → Type 0
 FitsReply reply.Done = Unit {0}
 FitsReply (reply.Stat k size) = IsU64 size
@@ -46,10 +51,12 @@ FitsReply (reply.Bytes bytes) = AreBytes bytes
 FitsReply (reply.Wrote size) = IsU64 size
 FitsReply (reply.Failed e) = Unit {0}
 
+-- the numbers of an entry, its call or its reply
 abbrev pub FitsEntry : Entry → Type 0
 FitsEntry (Begin c s x) = IsU64 c × IsU64 s × FitsCall x
 FitsEntry (Commit c) = IsU64 c
 FitsEntry (Return c r) = IsU64 c × FitsReply r
 
+-- each entry of a list
 abbrev pub AllFit : List Entry → Type 0
 AllFit es = AllByRecursion FitsEntry es

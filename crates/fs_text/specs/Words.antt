@@ -27,6 +27,7 @@ number_of word = if is_number_text word && nat_lt (digits_value 10 word) (2 ^ 64
 
 -- ---- bytes of files
 
+-- what is found, if it is no error
 abbrev pub found_bytes : {E : Type 0} → Result (List ℕ) E → Option (List ℕ)
 found_bytes (Ok bytes) = Some bytes
 found_bytes (Err e) = None

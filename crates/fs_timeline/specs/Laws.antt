@@ -10,10 +10,11 @@ use Rattle.fs_timeline.specs.declared.verdict.Verdict.TheVariants.{Lawful, Fault
 abbrev pub LawfulWithoutTheLast : Type 0
 LawfulWithoutTheLast = (es : List Entry) (last : Entry) → IsLawful (es ++ last ∷ []) → IsLawful es
 
--- a timeline with one more entry is well formed, and lawful, exactly where it was so before and the entry fits
+-- with one entry more a timeline is well formed exactly where it was and the entry fits
 abbrev pub WellFormedAppended : Type 0
 WellFormedAppended = (es : List Entry) (e : Entry) → IsWellFormed (es ++ e ∷ []) ↔ (IsWellFormed es × IsNext es e)
 
+-- with one entry more a timeline is lawful exactly where it was, the entry fits, and its reply is the one that is due
 abbrev pub LawfulAppended : Type 0
 LawfulAppended = (es : List Entry) (e : Entry) → IsLawful (es ++ e ∷ []) ↔ (IsLawful es × IsNext es e × IsAnswered es e)
 
@@ -31,5 +32,6 @@ abbrev pub NamesFirstFault : List Entry → Verdict → Type 0
 NamesFirstFault es Lawful = Unit {0}
 NamesFirstFault es (Fault place kind) = IsFirstFault es place
 
+-- the verdict on each list of entries names the first fault, if it is one
 abbrev pub FaultsAreFirst : Type 0
 FaultsAreFirst = (es : List Entry) → NamesFirstFault es (verdict es)

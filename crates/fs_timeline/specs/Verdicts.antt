@@ -11,6 +11,7 @@ use Rattle.fs_timeline.specs.declared.verdict.Verdict.TheVariants.{Lawful, Fault
 use Rattle.fs_timeline.specs.declared.verdict.FaultKind.{FaultKind}
 use Rattle.fs_timeline.specs.declared.verdict.FaultKind.TheVariants.{BeginTwice, SeatBusy, CommitUnbegun, CommitTwice, ReturnUncommitted, ReturnTwice, WrongReply}
 
+-- whether a reply is the one that is due
 abbrev pub is_due : Option Reply → Reply → Bool
 is_due None r = false
 is_due (Some due) r = same_reply due r
@@ -31,6 +32,7 @@ entry_fault before (Return c r) = first_failure
     ∷ check (not (is_due (due c before) r)) WrongReply
     ∷ [])
 
+-- a fault at this place, or the verdict on what comes later
 abbrev pub fault_or : ℕ → Option FaultKind → Verdict → Verdict
 fault_or place None later = later
 fault_or place (Some kind) later = Fault place kind
@@ -40,5 +42,6 @@ abbrev pub verdict_from : List Entry → ℕ → List Entry → Verdict
 verdict_from before place [] = Lawful
 verdict_from before place (e ∷ es) = fault_or place (entry_fault before e) (verdict_from (before ++ e ∷ []) (place + 1) es)
 
+-- the verdict on a timeline
 abbrev pub verdict : List Entry → Verdict
 verdict es = verdict_from [] 1 es

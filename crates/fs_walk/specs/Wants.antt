@@ -28,6 +28,7 @@ abbrev pub way_want : Graph → Option ℕ → Option ℕ → Option Name → Wa
 way_want graph None behind name = Take 0
 way_want graph (Some n) behind name = head_want graph n behind name
 
+-- what a walk along a path wants next
 abbrev pub want : Graph → Key → Way → Want
 want graph path way = way_want graph way.node way.behind (name_ahead path way)
 
