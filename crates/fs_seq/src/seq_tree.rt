@@ -66,7 +66,7 @@ impl SeqTree {
     }
 
     /// The reply of a call that changes nothing: a stat, a readdir or a read. It is the reply that `apply` gives; a call
-    /// that needs to allocate nothing never fails so.
+    /// that needs to allocate nothing never fails.
     pub fn look(&self, alloc: Global, call: &Call) -> Result<Reply, AllocError>
         requires { IsTrue (is_look call.now) }
         ensures reply { IfOk result (λ r. r ≡ reply self.now call.now) }
