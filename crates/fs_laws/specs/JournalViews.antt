@@ -10,11 +10,12 @@ use Rattle.fs_nodes.specs.Graphs.{set_at}
 use Rattle.fs_laws.specs.Maps.{Map}
 use Rattle.fs_calls.specs.declared.reply.Reply.{Reply}
 
--- the calls of the Commit entries, in order, by the calls that began before
+-- a list with one call more in front, if there is one
 abbrev pub with_call : Option Call → List Call → List Call
 with_call None calls = calls
 with_call (Some call) calls = call ∷ calls
 
+-- the calls of the Commit entries, in order, by the calls that began before
 abbrev pub commits_of : (ℕ → Option Call) → List Entry → List Call
 commits_of call [] = []
 commits_of call (Begin n seat c ∷ es) = commits_of (set_at n (Some c) call) es
@@ -34,10 +35,12 @@ pub record JournalView : Type 0 where
 abbrev pub start : JournalView
 start = record { tree = root_tree; call = λ n. None; seat_of = λ n. None; due = λ n. None; back = λ n. false; busy = λ n. None }
 
+-- after the Commit of a call: the tree after it, and the reply that is due to it
 abbrev pub commit_of : JournalView → ℕ → Option Call → JournalView
 commit_of view n None = view
 commit_of view n (Some call) = record view { tree = after view.tree (form call); due = set_at n (Some (reply view.tree (form call))) view.due }
 
+-- who is on each seat, where a call on this one returned
 abbrev pub free_seat : JournalView → Option ℕ → ℕ → Option ℕ
 free_seat view None s = view.busy s
 free_seat view (Some seat) s = set_at seat None view.busy s

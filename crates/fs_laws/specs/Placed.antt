@@ -49,15 +49,17 @@ MovesNothingBelow (Some m) k = Aside m.0 m.1 × (((r : Key) × (k ≡ m.0 ++ r))
 abbrev pub ChangesNothingBelow : Change → Key → Type 0
 ChangesNothingBelow ch k = AllOff k ch.writes × MovesNothingBelow ch.moves k
 
--- where k is after the change
+-- where k is after a move to t, by what follows the moved key in k
 abbrev pub rekey_by : Key → Key → Option Key → Key
 rekey_by t k None = k
 rekey_by t k (Some r) = t ++ r
 
+-- where k is after a move, if there is one
 abbrev pub rekey_move : Option (Key × Key) → Key → Key
 rekey_move None k = k
 rekey_move (Some m) k = rekey_by m.1 k (after_prefix m.0 k)
 
+-- where k is after a change
 abbrev pub rekey : Change → Key → Key
 rekey ch k = rekey_move ch.moves k
 

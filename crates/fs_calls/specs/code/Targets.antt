@@ -6,6 +6,7 @@ use Rattle.fs_calls.specs.declared.target.NodeCall.TheVariants.{Stat, Readdir, R
 use Rattle.fs_calls.specs.declared.target.Target.{Target}
 use Rattle.fs_calls.specs.declared.target.Target.TheVariants.{Node, Entry, Pair}
 
+-- a call on a node, with its bytes as a list
 abbrev pub node_call : NodeCall → forms.NodeCall
 node_call Stat = forms.Stat
 node_call Readdir = forms.Readdir
@@ -13,6 +14,7 @@ node_call (Read off count) = forms.Read off count
 node_call (Write off bytes) = forms.Write off bytes.now
 node_call (Truncate size) = forms.Truncate size
 
+-- the form that a target is
 abbrev pub form_of : Target → Form
 form_of (Node c p) = AtNode (node_call c) p.now
 form_of (Entry c p) = AtEntry c p.now

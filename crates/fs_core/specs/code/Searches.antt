@@ -13,6 +13,7 @@ abbrev pub position_if : Bool → Running → Option ℕ
 position_if true running = option_map (λ st. st.node) running.op.holdings
 position_if false running = None
 
+-- the position of the call on a seat, where it is walking
 abbrev pub position_of : Option Running → Option ℕ
 position_of None = None
 position_of (Some running) = position_if (is_walking running) running

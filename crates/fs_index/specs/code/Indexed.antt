@@ -14,6 +14,7 @@ call_begun (Some (Begin c seat call)) = Some call
 call_begun (Some (Commit c)) = None
 call_begun (Some (Return c r)) = None
 
+-- the call that the entry at a place begins
 abbrev pub begun_at : List Entry → ℕ → Option Call
 begun_at es at = call_begun (slice_get es at)
 

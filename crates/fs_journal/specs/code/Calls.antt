@@ -22,15 +22,17 @@ abbrev pub IsPlaceOf : List Begun → ℕ → Option ℕ → Type 0
 IsPlaceOf calls c None = in_order_at calls c ≡ None
 IsPlaceOf calls c (Some place) = (c ≡ suc place) × (place < length calls)
 
--- the call, the reply that is due to it, whether it has returned
+-- the call that was found
 abbrev pub call_in : Option Begun → Option Call
 call_in None = None
 call_in (Some begun) = Some begun.call.now
 
+-- the reply that is due to a call that was found
 abbrev pub due_in : Option Begun → Option Reply
 due_in None = None
 due_in (Some begun) = begun.due
 
+-- whether it was found and has returned
 abbrev pub is_back : Option Begun → Bool
 is_back None = false
 is_back (Some begun) = begun.returned

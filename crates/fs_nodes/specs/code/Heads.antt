@@ -7,6 +7,7 @@ abbrev pub first : List ℕ → ℕ
 first [] = 0
 first (b ∷ bytes) = b
 
+-- the bytes behind the first one
 abbrev pub rest : List ℕ → List ℕ
 rest [] = []
 rest (b ∷ bytes) = bytes

@@ -12,6 +12,7 @@ use Rattle.fs_nodes.specs.Graphs.{Graph, then_at}
 use Rattle.fs_nodes.specs.Places.{plain, plains}
 use Rattle.fs_nodes.specs.Stores.{link_of, graph_in, is_above, IsStore}
 
+-- the graph that places are
 abbrev pub graph_of_places : List Place → Graph
 graph_of_places ps = graph_in (plains ps)
 
@@ -71,16 +72,19 @@ edited n f [] = []
 edited zero f (p ∷ ps) = f p ∷ ps
 edited (suc n) f (p ∷ ps) = p ∷ edited n f ps
 
--- a way of a place leads elsewhere from now on
+-- the first entry is another one from now on
 abbrev pub with_first : Option ℕ → Place → Place
 with_first to p = record p { first = to }
 
+-- the next sibling is another one
 abbrev pub with_next : Option ℕ → Place → Place
 with_next to p = record p { next = to }
 
+-- the sibling before is another one
 abbrev pub with_prev : Option ℕ → Place → Place
 with_prev to p = record p { prev = to }
 
+-- a directory has so many entries
 abbrev pub with_entries : ℕ → Place → Place
 with_entries count p = record p { entries = count }
 
@@ -119,10 +123,11 @@ abbrev pub content_with : List ℕ → Option Content → Option Content
 content_with bytes None = None
 content_with bytes (Some content) = Some (refilled content bytes)
 
--- what comes back for them
+-- what comes back for them: the old bytes, or the given ones where there is no content
 abbrev pub content_old : List ℕ → Option Content → List ℕ
 content_old bytes None = bytes
 content_old bytes (Some content) = given_back content bytes
 
+-- the file of a place has these bytes from now on
 abbrev pub with_content : List ℕ → Place → Place
 with_content bytes p = record p { content = content_with bytes p.content }

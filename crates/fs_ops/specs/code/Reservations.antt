@@ -17,6 +17,7 @@ Reserves graph limit None (Some n) new = ⊥
 Reserves graph limit (Some shape) None new = ⊥
 Reserves graph limit (Some shape) (Some n) new = IsReserved graph limit shape n new
 
+-- a number was reserved where one is wanted, and it may be linked or released
 pub record HasReserved (graph : Graph) (limit : ℕ) (shape : Option Shape) (number : Option ℕ) (new : Graph) : Type 0 where
   pub reserves : Reserves graph limit shape number new
   pub spare : SpareIf new number

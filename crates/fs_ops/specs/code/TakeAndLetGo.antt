@@ -23,6 +23,7 @@ abbrev pub fork_freed_by : Option ℕ → ForkWay → ForkWay
 fork_freed_by (Some n) fork = record fork { source = record fork.source { behind = None } }
 fork_freed_by None fork = record fork { dest = record fork.dest { behind = None } }
 
+-- a fork after it let go of the one node behind its heads
 abbrev pub fork_freed : ForkWay → ForkWay
 fork_freed fork = fork_freed_by fork.source.behind fork
 
@@ -37,6 +38,7 @@ fork_after (Some v) fork = fork
 fork_after None None = None
 fork_after None (Some fork) = cond (has_set_out fork) (Some (fork_returned fork)) None
 
+-- the walk after a let go of a finished call
 abbrev pub way_after : Option ℕ → Option ForkWay → Way → Way
 way_after (Some v) fork way = way
 way_after None None way = way_ended way

@@ -19,6 +19,7 @@ abbrev pub line_in : Bool → Script → List Word → Result Script FaultKind
 line_in true s words = schedule_line s words
 line_in false s words = block_line s words
 
+-- a script after one more line
 abbrev pub step_in : Bool → Script → List ℕ → Result Script FaultKind
 step_in b s line = words_of line >>= line_in b s
 

@@ -17,6 +17,7 @@ use Rattle.fs_script.specs.declared.tree.Step.{Step}
 
 -- ---- the nodes as places with links
 
+-- a number; 0 where there is none
 abbrev pub number_or : Option ℕ → ℕ
 number_or None = 0
 number_or (Some n) = n
@@ -26,6 +27,7 @@ abbrev pub links : Children → ℕ → List Name → List (Name × ℕ)
 links child n [] = []
 links child n (x ∷ names) = (x, number_or (child n x)) ∷ links child n names
 
+-- what a number is, as a place with links
 abbrev pub place_of : Children → ℕ → Option Shape → Option Place
 place_of child n None = None
 place_of child n (Some (shapes.Dir names)) = Some (forest.Dir (links child n names))
@@ -36,6 +38,7 @@ abbrev pub places_from : Graph → ℕ → ℕ → forest.Slots
 places_from graph i zero = []
 places_from graph i (suc k) = place_of graph.child i (graph.shape i) ∷ places_from graph (suc i) k
 
+-- the places of a store
 abbrev pub forest_of : Seen → forest.Slots
 forest_of store = places_from store.graph 0 store.room
 
@@ -59,6 +62,7 @@ abbrev pub IsLast : Children → ℕ → Option Name → Option ℕ → Type 0
 IsLast child dir None last = last ≡ None
 IsLast child dir (Some x) last = (n : ℕ) × (last ≡ Some n) × (child dir x ≡ Some n)
 
+-- the key that steps lead to
 abbrev pub key_above : List Step → Key
 key_above [] = []
 key_above (s ∷ steps) = s.name ∷ key_above steps
@@ -68,6 +72,7 @@ abbrev pub Leads : forest.Slots → ℕ → List Step → ℕ → Type 0
 Leads g n [] dir = n ≡ dir
 Leads g n (s ∷ steps) dir = (n ≡ s.dir) × (m : ℕ) × (child g n s.name ≡ Some m) × Leads g m steps dir
 
+-- the links whose names are above the low one
 abbrev pub links_above : Option Name → List (Name × ℕ) → List (Name × ℕ)
 links_above low ls = filter (λ (l : Name × ℕ). is_above low l.0) ls
 
@@ -81,6 +86,7 @@ pending many g key [] dir low = keys_behind many g key (links_above low (links_a
 pending zero g key (s ∷ steps) dir low = []
 pending (suc many) g key (s ∷ steps) dir low = pending many g (key ++ s.name ∷ []) steps dir low ++ keys_behind (suc many) g key (links_above (Some s.name) (links_at g s.dir))
 
+-- the keys that are still to come where a walk stands
 abbrev pub pending_at : forest.Slots → WalkPlace → List Key
 pending_at g w = pending (length g - 1) g [] w.above w.dir w.low
 

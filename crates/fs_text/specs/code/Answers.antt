@@ -25,6 +25,7 @@ abbrev pub FailsThere : {Y : Type 0} → ℕ → FaultKind → Result Y ScriptFa
 FailsThere n kind.OutOfMemory given = Unit {0}
 FailsThere n k given = given ≡ Err (fault_at n k)
 
+-- what a reader of a whole text answers, where its value is seen in other words
 abbrev pub GivesText : {X Y : Type 0} → (X → Y) → Result X ScriptFault → Result Y ScriptFault → Type 0
 GivesText view (Ok x) given = given ≡ Ok (view x)
 GivesText view (Err f) given = FailsThere f.line f.kind given
@@ -34,10 +35,12 @@ abbrev pub Becomes : {X : Type 0} → Result (Unit {0}) FaultKind → X → Resu
 Becomes (Ok u) new given = given ≡ Ok new
 Becomes (Err k) new given = FailsAs k given
 
+-- the fault of a word of hexadecimal digits
 abbrev pub hex_fault_of : FromHexError → FaultKind
 hex_fault_of hex.OutOfMemory = kind.OutOfMemory
 hex_fault_of e = kind.BadHex
 
+-- the fault of a word that is no path
 abbrev pub path_fault_of : PathFault → FaultKind
 path_fault_of path.OutOfMemory = kind.OutOfMemory
 path_fault_of f = kind.BadPath f
