@@ -5,3 +5,4 @@ pub mod Parts
 pub mod Shapes
 pub mod Reading
 pub mod Examples
+pub mod code

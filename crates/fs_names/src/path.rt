@@ -13,27 +13,31 @@ use memchr::memchr;
 use smallvec::SmallVec;
 use std::alloc::{AllocError, Global};
 use std::marker::Model;
+use std::sync::Arc;
 
 /// The names from the root to a node, at most 64: an absolute pathname without dots, symbolic links
 /// or a trailing slash (POSIX.1-2017, XBD 4.13, Pathname Resolution).
 #[derive(Drop)]
 pub struct Path {
-    names: SmallVec<Name, INLINE_NAMES>,
+    // Copies share the names: a call's path stands in a script, in the record of the call and in its journal. The root
+    // shares nothing, and so takes no memory.
+    names: Option<Arc<SmallVec<Name, INLINE_NAMES>>>,
 }
 
-/// How many names a path holds inline, before it allocates: few, as each inline name adds to the size of every path,
-/// and as most paths are short.
-pub const INLINE_NAMES: usize = 2;
+/// How many names stand in the one allocation that the copies of a path share; for more there is a second one.
+const INLINE_NAMES: usize = 2;
 
 impl Model for Path {
-    ghost use Rattle.std.specs.Prelude.{ℕ, List};
+    ghost use Rattle.std.specs.Prelude.{ℕ, List, option_map};
+    ghost use Rattle.std.specs.Arc.{arc_value};
     ghost use Rattle.fs_names.specs.Keys.{IsPath};
+    ghost use Rattle.fs_names.specs.code.SharedNames.{shared_names};
 
     ghost Value = { List (List ℕ) };
 
-    ghost view = { λ p. p.names.items };
+    ghost view = { λ p. shared_names (option_map arc_value p.names) };
 
-    ghost invariant = { λ p. IsPath p.names.items };
+    ghost invariant = { λ p. IsPath (shared_names (option_map arc_value p.names)) };
 }
 
 /// Bytes as a name, of which so many stand before it, or what is wrong with them.
@@ -82,6 +86,22 @@ fn names_of(alloc: Global, bytes: &[u8]) -> Result<SmallVec<Name, INLINE_NAMES>,
     Ok(read)
 }
 
+/// The path of these names.
+fn path_of(alloc: Global, names: SmallVec<Name, INLINE_NAMES>) -> Result<Path, PathFault>
+    requires { IsPath names.items }
+    ensures path { IfOk result (λ path. path ≡ names.items) }
+    ensures fault { IfErr result (λ fault. fault ≡ PathFault.OutOfMemory) }
+    ensures memory { OnErr result (0 < length names.items) }
+{
+    if names.is_empty() {
+        return Ok(Path { names: None });
+    }
+    match Arc::new(alloc, names) {
+        Ok(names) => Ok(Path { names: Some(names) }),
+        Err(_) => Err(PathFault::OutOfMemory),
+    }
+}
+
 fn starts_at_root(bytes: &[u8]) -> bool
     ensures { result ≡ starts_at_root bytes.now }
 {
@@ -108,13 +128,13 @@ fn has_zero(bytes: &[u8]) -> bool
 
 impl Path {
     /// Reads a path. The fault is the first check that the bytes fail, from left to right; consecutive slashes count
-    /// as one, and a path of slashes only is the root. It allocates at most once, and only for more names than a path
-    /// holds inline; if that fails it answers `OutOfMemory`, whatever is wrong with the names.
+    /// as one, and a path of slashes only is the root. It allocates only for names, and before it reads them; if that
+    /// fails it answers `OutOfMemory`, whatever is wrong with the names.
     #[tactic(auto, unfolding(crate::specs::Reading::reading))]
     pub fn parse(alloc: Global, bytes: &[u8]) -> Result<Path, PathFault>
         ensures path { IfOk result (λ path. reading bytes.now ≡ Ok path) }
         ensures fault { IfErr result (λ fault. FailsWith fault (reading bytes.now)) }
-        ensures memory { result ≡ Err PathFault.OutOfMemory → INLINE_NAMES < length (names bytes.now) }
+        ensures memory { result ≡ Err PathFault.OutOfMemory → 0 < length (names bytes.now) }
     {
         if !starts_at_root(bytes) {
             return Err(PathFault::NotAbsolute);
@@ -129,19 +149,32 @@ impl Path {
         if !names.is_empty() && ends_in_slash(bytes) {
             return Err(PathFault::TrailingSlash);
         }
-        Ok(Path { names })
+        path_of(alloc, names)
     }
 
-    /// The same path again. It allocates at most once, and only for more names than a path holds inline.
+    /// The same path again, which shares its names with this one. It takes no memory: an `Err` says that the names are
+    /// shared so often that their owners are no longer counted.
     pub fn copy(&self, alloc: Global) -> Result<Path, AllocError>
         ensures ok { IfOk result (λ path. path ≡ self.now) }
-        ensures memory { OnErr result (INLINE_NAMES < length self.now) }
+        ensures memory { OnErr result (0 < length self.now) }
     {
-        let mut names = SmallVec::with_capacity(alloc, self.len())?;
-        for name in self.names.as_slice() {
-            names.push_reserved(name.copy());
+        match &self.names {
+            Some(names) if !self.is_empty() => {
+                let names = names.clone()?;
+                Ok(Path { names: Some(names) })
+            }
+            _ => Ok(Path { names: None }),
         }
-        Ok(Path { names })
+    }
+
+    fn names(&self) -> &[Name]
+        ensures names { result.now ≡ self.now }
+        ensures path { IsPath self.now }
+    {
+        match &self.names {
+            Some(names) => names.as_slice(),
+            None => &[],
+        }
     }
 
     /// How many names it has: none for the root, and at most 64.
@@ -149,7 +182,7 @@ impl Path {
         ensures len { result ≡ length self.now }
         ensures path { IsPath self.now }
     {
-        self.names.len()
+        self.names().len()
     }
 
     /// Whether it is the root, which has no names.
@@ -164,7 +197,7 @@ impl Path {
         requires { i < length self.now }
         ensures { slice_get self.now i ≡ Some result.now }
     {
-        &self.names[i]
+        &self.names()[i]
     }
 
     /// Whether the other path begins with all names of this one; each path does so with its own.

@@ -39,7 +39,7 @@ fn byte(bytes: &[u8], index: usize) -> u64
 }
 
 /// The first eight bytes as one number, the first one above all others.
-fn head(bytes: &[u8]) -> u64
+pub fn head(bytes: &[u8]) -> u64
     ensures { IsHead result bytes.now }
 {
     let word = byte(bytes, 0);
@@ -77,16 +77,17 @@ impl Label {
         self.name.copy()
     }
 
-    /// How the two names stand to each other.
-    pub fn cmp(&self, other: &Label) -> Ordering
-        ensures { result ≡ name_cmp self.now other.now }
+    /// How it stands to a name whose first bytes are this number.
+    pub fn cmp(&self, first: u64, name: &Name) -> Ordering
+        requires { IsHead first name.now }
+        ensures { result ≡ name_cmp self.now name.now }
     {
-        if self.head < other.head {
+        if self.head < first {
             return Ordering::Less;
         }
-        if other.head < self.head {
+        if first < self.head {
             return Ordering::Greater;
         }
-        self.name.cmp(&other.name)
+        self.name.cmp(name)
     }
 }

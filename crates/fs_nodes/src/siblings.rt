@@ -6,7 +6,7 @@ ghost use Rattle.fs_names.specs.Shapes.{names_of};
 ghost use Rattle.fs_nodes.specs.Stores.{next_entry, looked, IsNextName, IsUnlinked, IsEntryAfter, IsNameAfter};
 ghost use Rattle.fs_nodes.specs.code.Linked.{graph_of_places, next_child, IsPlaces, IsGap, IsNextSibling, edited, with_entries, entered, led, followed, put_between, taken_out};
 
-use crate::label::Label;
+use crate::label::{Label, head};
 use crate::place::{Place, dir_of};
 use crate::scan::is_higher;
 use crate::spot::Spot;
@@ -33,13 +33,13 @@ pub fn find_steps(places: &[Place], dir: usize, name: &Name) -> (Option<usize>, 
     ensures steps { result.1 ≤ length (names_of ((graph_of_places places.now).shape dir)) }
     ensures looked { result.1 ≡ looked name.now (names_of ((graph_of_places places.now).shape dir)) }
 {
-    let label = Label::new(name.copy());
+    let start = head(name.bytes());
     let mut steps = 0;
     let mut next = first_of(places, dir);
     while let Some(n) = next {
         let place = &places[n];
         steps += 1;
-        match place.name.cmp(&label) {
+        match place.name.cmp(start, name) {
             Ordering::Less => next = place.next.get(),
             Ordering::Equal => return (Some(n), steps),
             Ordering::Greater => return (None, steps),
@@ -55,13 +55,13 @@ pub fn gap(places: &[Place], dir: usize, name: &Name) -> (Spot, Spot)
     requires absent { (graph_of_places places.now).child dir name.now ≡ None }
     ensures { IsGap (graph_of_places places.now) dir name.now result.0 result.1 }
 {
-    let label = Label::new(name.copy());
+    let start = head(name.bytes());
     let mut prev = Spot::none();
     let first = &places[dir];
     let mut next = first.first;
     while let Some(n) = next.get() {
         let place = &places[n];
-        match place.name.cmp(&label) {
+        match place.name.cmp(start, name) {
             Ordering::Less => {}
             _ => return (prev, next),
         }

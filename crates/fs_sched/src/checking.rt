@@ -16,15 +16,16 @@ use fs_text::read_entries;
 use fs_timeline::Verdict;
 use std::alloc::Global;
 
-/// The verdict on a journal text.
-fn check_text(alloc: Global, text: &[u8]) -> Result<Verdict, RunFault>
-    ensures ok { IfOk result (λ v. verdict_of text.now ≡ Ok v) }
-    ensures err { IfErr result (IsFaultOf (verdict_of text.now)) }
+/// The verdict on a journal text, which is let go once it is read.
+fn check_text(alloc: Global, text: Vec<u8>) -> Result<Verdict, RunFault>
+    ensures ok { IfOk result (λ v. verdict_of text.items ≡ Ok v) }
+    ensures err { IfErr result (IsFaultOf (verdict_of text.items)) }
 {
-    let entries = match read_entries(alloc, text) {
+    let entries = match read_entries(alloc, text.as_slice()) {
         Ok(entries) => entries,
         Err(fault) => return Err(run_fault(fault)),
     };
+    drop(text);
     match check(alloc, &entries) {
         Ok(verdict) => Ok(verdict),
         Err(_) => Err(RunFault::OutOfMemory),
@@ -60,7 +61,7 @@ pub fn check_journal<R: Source, W: Sink>(
         Ok(text) => text,
         Err(fault) => return Err(fault),
     };
-    let verdict = match check_text(alloc, &text) {
+    let verdict = match check_text(alloc, text) {
         Ok(verdict) => verdict,
         Err(fault) => return Err(fault),
     };

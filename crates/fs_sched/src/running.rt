@@ -48,15 +48,16 @@ fn count_calls(lists: &[Vec<Call>]) -> usize
     count
 }
 
-fn end_of(script: &Script, entries: &[Entry]) -> RunEnd
-    ensures { result ≡ end_of script.now entries.now }
+/// How a run of a script with so many calls ended.
+fn end_of(calls: usize, entries: &[Entry]) -> RunEnd
+    ensures { (script : Script) → calls ≡ min (2 ^ 64 - 1) (calls_in script.lists) → result ≡ end_of script entries.now }
 {
     let counts = counts_of(entries);
     RunEnd {
         begun: counts.begun,
         committed: counts.committed,
         returned: counts.returned,
-        calls: count_calls(script.lists.as_slice()),
+        calls,
     }
 }
 
@@ -75,37 +76,40 @@ pub(crate) fn play(alloc: Global, script: &Script, schedule: Schedule) -> Result
     }
 }
 
-/// The text of a run of a script, and how it ended.
-fn make_text(alloc: Global, script: &Script, schedule: Schedule) -> Result<MadeText, RunFault>
-    ensures output { IfOk result (λ made. IsOutput schedule script.now made.end made.text.items) }
+/// The text of a run of a script, and how it ended. The script is let go before the text is made.
+fn make_text(alloc: Global, script: Script, schedule: Schedule) -> Result<MadeText, RunFault>
+    ensures output { IfOk result (λ made. IsOutput schedule script made.end made.text.items) }
     ensures fault { IfErr result IsRefusal }
-    ensures full { IsErrOf result RunFault.Full → FillsUp schedule script.now }
+    ensures full { IsErrOf result RunFault.Full → FillsUp schedule script }
 {
-    let play = match play(alloc, script, schedule) {
+    let play = match play(alloc, &script, schedule) {
         Ok(play) => play,
         Err(fault) => return Err(fault),
     };
+    let calls = count_calls(script.lists.as_slice());
+    drop(script);
     let entries = play.core.timeline();
     match run_text(alloc, entries, play.core.store()) {
         Ok(text) => Ok(MadeText {
             text,
-            end: end_of(script, entries),
+            end: end_of(calls, entries),
         }),
         Err(_) => Err(RunFault::OutOfMemory),
     }
 }
 
-/// The same of the script that a text has.
-fn text_of_script(alloc: Global, text: &[u8], schedule: Schedule) -> Result<MadeText, RunFault>
-    ensures output { IfOk result (λ made. IsRunOf schedule text.now made.end made.text.items) }
-    ensures fault { IfErr result (IsFaultOrRefusal (script_of text.now)) }
-    ensures full { IsErrOf result RunFault.Full → ReachesFull schedule text.now }
+/// The same of the script that a text has, which is let go once it is read.
+fn text_of_script(alloc: Global, text: Vec<u8>, schedule: Schedule) -> Result<MadeText, RunFault>
+    ensures output { IfOk result (λ made. IsRunOf schedule text.items made.end made.text.items) }
+    ensures fault { IfErr result (IsFaultOrRefusal (script_of text.items)) }
+    ensures full { IsErrOf result RunFault.Full → ReachesFull schedule text.items }
 {
-    let script = match read_script(alloc, text) {
+    let script = match read_script(alloc, text.as_slice()) {
         Ok(script) => script,
         Err(fault) => return Err(run_fault(fault)),
     };
-    make_text(alloc, &script, schedule)
+    drop(text);
+    make_text(alloc, script, schedule)
 }
 
 /// Reads a script to its end, runs it by a schedule, and writes the text of the run, which is made before its first
@@ -141,7 +145,7 @@ pub fn run_script<R: Source, W: Sink>(
         Ok(text) => text,
         Err(fault) => return Err(fault),
     };
-    let made = match text_of_script(alloc, &text, schedule) {
+    let made = match text_of_script(alloc, text, schedule) {
         Ok(made) => made,
         Err(fault) => return Err(fault),
     };

@@ -96,19 +96,25 @@ fn make_lines(alloc: Global, script: &Script, seed: u64, runs: u64) -> Result<Ma
     })
 }
 
-/// The same of the script that a text has.
-fn lines_of_script(alloc: Global, text: &[u8], seed: u64, runs: u64) -> Result<MadeLines, RunFault>
+/// The same of the script that a text has, which is let go once it is read.
+fn lines_of_script(
+    alloc: Global,
+    text: Vec<u8>,
+    seed: u64,
+    runs: u64,
+) -> Result<MadeLines, RunFault>
     requires seed { seed ≤ SEED_LIMIT }
     requires runs { runs ≤ RUN_LIMIT }
-    ensures ok { IfOk result (λ made. AreRunsOf seed runs text.now made.text.items) }
+    ensures ok { IfOk result (λ made. AreRunsOf seed runs text.items made.text.items) }
     ensures lawful { IfOk result (λ made. made.lawful ≡ true) }
-    ensures fault { IfErr result (IsFaultOrRefusal (script_of text.now)) }
-    ensures full { IsErrOf result RunFault.Full → OneReachesFull seed runs text.now }
+    ensures fault { IfErr result (IsFaultOrRefusal (script_of text.items)) }
+    ensures full { IsErrOf result RunFault.Full → OneReachesFull seed runs text.items }
 {
-    let script = match read_script(alloc, text) {
+    let script = match read_script(alloc, text.as_slice()) {
         Ok(script) => script,
         Err(fault) => return Err(run_fault(fault)),
     };
+    drop(text);
     make_lines(alloc, &script, seed, runs)
 }
 
@@ -147,7 +153,7 @@ pub fn run_seeds<R: Source, W: Sink>(
         Ok(text) => text,
         Err(fault) => return Err(fault),
     };
-    let made = match lines_of_script(alloc, &text, seed, runs) {
+    let made = match lines_of_script(alloc, text, seed, runs) {
         Ok(made) => made,
         Err(fault) => return Err(fault),
     };

@@ -6,3 +6,4 @@ pub mod ReadLemmas
 pub mod PathLemmas
 pub mod EntryLemmas
 pub mod DigitLemmas
+pub mod PlainLemmas

@@ -1,11 +1,12 @@
 //! What is appended to a text, and can be taken back.
 
-ghost use Rattle.std.specs.Prelude.{◌≡◌, ◌++◌, [], OnOk, decimal};
+ghost use Rattle.std.specs.Prelude.{◌≡◌, ◌++◌, [], OnOk, Ok, true, false, decimal};
 ghost use Rattle.std.specs.List.{list_any};
-ghost use Rattle.fs_text.specs.Words.{is_escaped, escaped, hex_word};
+ghost use Rattle.fs_text.specs.Words.{is_escaped, escaped, hex_word, path_word};
 
 use crate::digits::push_digits;
 use crate::escaping::ESCAPED;
+use fs_names::Path;
 use itoa::Buffer;
 use percent_encoding::percent_encode;
 use std::alloc::{AllocError, Global};
@@ -36,11 +37,15 @@ fn is_escaped(byte: u8) -> bool
     byte <= b' ' || byte == b'%' || byte >= 127
 }
 
-/// Whether a byte is escaped.
+/// Whether a byte is escaped, by a loop without branches.
 fn any_escaped(bytes: &[u8]) -> bool
     ensures { result ≡ list_any is_escaped bytes.now }
 {
-    bytes.iter().any(|b| is_escaped(*b))
+    let mut any = false;
+    for i in 0..bytes.len() {
+        any = any | is_escaped(bytes[i]);
+    }
+    any
 }
 
 impl Addition {
@@ -109,5 +114,20 @@ impl Addition {
         }
         let word = percent_encode(bytes, ESCAPED).into_cow(alloc)?;
         self.push(word.as_bytes())
+    }
+
+    /// Appends a path where none of its bytes is escaped, and answers whether it did. The only error is out of memory.
+    pub(crate) fn push_plain(&mut self, path: &Path) -> Result<bool, AllocError>
+        ensures plain { result ≡ Ok true → self.new.added ≡ self.old.added ++ path_word path.now }
+        ensures other { result ≡ Ok false → self.new.added ≡ self.old.added }
+        ensures before { self.new.before ≡ self.old.before }
+    {
+        let from = self.text.len();
+        path.write(&mut self.text)?;
+        if any_escaped(&self.text[from..]) {
+            self.text.truncate(from);
+            return Ok(false);
+        }
+        Ok(true)
     }
 }

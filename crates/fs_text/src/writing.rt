@@ -14,7 +14,8 @@ use fs_timeline::Entry;
 use std::alloc::{AllocError, Global};
 use std::mem;
 
-fn push_path(alloc: Global, path: &Path, line: &mut Addition) -> Result<(), AllocError>
+/// A path name by name.
+fn push_steps(alloc: Global, path: &Path, line: &mut Addition) -> Result<(), AllocError>
     ensures ok { OnOk result (line.new.added ≡ line.old.added ++ path_word path.now) }
     ensures before { line.new.before ≡ line.old.before }
 {
@@ -26,6 +27,16 @@ fn push_path(alloc: Global, path: &Path, line: &mut Addition) -> Result<(), Allo
         line.push_escaped(alloc, path.name(i).bytes())?;
     }
     Ok(())
+}
+
+fn push_path(alloc: Global, path: &Path, line: &mut Addition) -> Result<(), AllocError>
+    ensures ok { OnOk result (line.new.added ≡ line.old.added ++ path_word path.now) }
+    ensures before { line.new.before ≡ line.old.before }
+{
+    if line.push_plain(path)? {
+        return Ok(());
+    }
+    push_steps(alloc, path, line)
 }
 
 /// A word with its space, and a path behind it.

@@ -29,25 +29,25 @@ pub loop-next-smaller : goal.loop-next-smaller
 loop-next-smaller c = let h : c.loop-next.steps + 1 ≤ length (names_of ((graph_of_places c.args.places.now).shape c.args.dir)) = here_steps c.args.places.now c.args.dir c.args.name.now c.loop-next.next c.loop-next.steps c.in-Some.n c.index-places-n.result c.requires c.loop-next.invariant c.in-Some.is c.index-places-n.is in omega arith
 
 pub loop-next-preserved : goal.loop-next-preserved
-loop-next-preserved c = here_more c.args.places.now c.args.dir c.args.name.now c.loop-next.next c.get-next.result c.loop-next.steps c.in-Some.n c.index-places-n.result c.requires c.loop-next.invariant c.in-Some.is c.index-places-n.is (sym (rw (c.new-label.ensures, c.copy.ensures) at c.cmp.ensures) ∙ c.in-Less.is) c.get-next.ensures
+loop-next-preserved c = here_more c.args.places.now c.args.dir c.args.name.now c.loop-next.next c.get-next.result c.loop-next.steps c.in-Some.n c.index-places-n.result c.requires c.loop-next.invariant c.in-Some.is c.index-places-n.is (sym c.cmp.ensures ∙ c.in-Less.is) c.get-next.ensures
 
 pub returns-in-Equal-clause-child : goal.returns-in-Equal-clause-child
-returns-in-Equal-clause-child c = sym (sought_found c.args.places.now c.args.dir c.args.name.now c.loop-next.invariant.low c.in-Some.n c.index-places-n.result (here c.args.places.now c.args.dir c.args.name.now c.loop-next.next c.loop-next.steps c.in-Some.n c.index-places-n.result c.requires c.loop-next.invariant c.in-Some.is c.index-places-n.is) (sym (rw (c.new-label.ensures, c.copy.ensures) at c.cmp.ensures) ∙ c.in-Equal.is))
+returns-in-Equal-clause-child c = sym (sought_found c.args.places.now c.args.dir c.args.name.now c.loop-next.invariant.low c.in-Some.n c.index-places-n.result (here c.args.places.now c.args.dir c.args.name.now c.loop-next.next c.loop-next.steps c.in-Some.n c.index-places-n.result c.requires c.loop-next.invariant c.in-Some.is c.index-places-n.is) (sym c.cmp.ensures ∙ c.in-Equal.is))
 
 pub returns-in-Equal-clause-steps : goal.returns-in-Equal-clause-steps
 returns-in-Equal-clause-steps c = here_steps c.args.places.now c.args.dir c.args.name.now c.loop-next.next c.loop-next.steps c.in-Some.n c.index-places-n.result c.requires c.loop-next.invariant c.in-Some.is c.index-places-n.is
 
 pub returns-in-Equal-clause-looked : goal.returns-in-Equal-clause-looked
-returns-in-Equal-clause-looked c = here_looked c.args.places.now c.args.dir c.args.name.now c.loop-next.next c.loop-next.steps c.in-Some.n c.index-places-n.result c.requires c.loop-next.invariant c.in-Some.is c.index-places-n.is (ap is_lt (sym (rw (c.new-label.ensures, c.copy.ensures) at c.cmp.ensures) ∙ c.in-Equal.is))
+returns-in-Equal-clause-looked c = here_looked c.args.places.now c.args.dir c.args.name.now c.loop-next.next c.loop-next.steps c.in-Some.n c.index-places-n.result c.requires c.loop-next.invariant c.in-Some.is c.index-places-n.is (ap is_lt (sym c.cmp.ensures ∙ c.in-Equal.is))
 
 pub returns-in-Greater-clause-child : goal.returns-in-Greater-clause-child
-returns-in-Greater-clause-child c = sym (sought_past c.args.places.now c.args.dir c.args.name.now c.loop-next.invariant.low c.in-Some.n c.index-places-n.result c.requires (here c.args.places.now c.args.dir c.args.name.now c.loop-next.next c.loop-next.steps c.in-Some.n c.index-places-n.result c.requires c.loop-next.invariant c.in-Some.is c.index-places-n.is) c.loop-next.invariant.below (sym (rw (c.new-label.ensures, c.copy.ensures) at c.cmp.ensures) ∙ c.in-Greater.is))
+returns-in-Greater-clause-child c = sym (sought_past c.args.places.now c.args.dir c.args.name.now c.loop-next.invariant.low c.in-Some.n c.index-places-n.result c.requires (here c.args.places.now c.args.dir c.args.name.now c.loop-next.next c.loop-next.steps c.in-Some.n c.index-places-n.result c.requires c.loop-next.invariant c.in-Some.is c.index-places-n.is) c.loop-next.invariant.below (sym c.cmp.ensures ∙ c.in-Greater.is))
 
 pub returns-in-Greater-clause-steps : goal.returns-in-Greater-clause-steps
 returns-in-Greater-clause-steps c = here_steps c.args.places.now c.args.dir c.args.name.now c.loop-next.next c.loop-next.steps c.in-Some.n c.index-places-n.result c.requires c.loop-next.invariant c.in-Some.is c.index-places-n.is
 
 pub returns-in-Greater-clause-looked : goal.returns-in-Greater-clause-looked
-returns-in-Greater-clause-looked c = here_looked c.args.places.now c.args.dir c.args.name.now c.loop-next.next c.loop-next.steps c.in-Some.n c.index-places-n.result c.requires c.loop-next.invariant c.in-Some.is c.index-places-n.is (ap is_lt (sym (rw (c.new-label.ensures, c.copy.ensures) at c.cmp.ensures) ∙ c.in-Greater.is))
+returns-in-Greater-clause-looked c = here_looked c.args.places.now c.args.dir c.args.name.now c.loop-next.next c.loop-next.steps c.in-Some.n c.index-places-n.result c.requires c.loop-next.invariant c.in-Some.is c.index-places-n.is (ap is_lt (sym c.cmp.ensures ∙ c.in-Greater.is))
 
 pub returns-clause-child : goal.returns-clause-child
 returns-clause-child c = sym (sought_end c.args.places.now c.args.dir c.args.name.now c.loop-next.invariant.low c.requires c.loop-next.invariant.below (sym c.loop-next.invariant.next_is ∙ c.in_default.is))

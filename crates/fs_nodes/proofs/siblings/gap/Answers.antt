@@ -17,13 +17,13 @@ pub bounds-places-n : goal.bounds-places-n
 bounds-places-n c = next_within c.args.places.now c.args.dir c.loop-n.invariant.low c.in-Some.n (at_some c)
 
 pub returns-in_default-cmp : goal.returns-in_default-cmp
-returns-in_default-cmp c = passed_gap c.args.places.now c.args.dir c.args.name.now c.loop-n.prev c.loop-n.next c.in-Some.n c.index-places-n.result c.requires.places c.loop-n.invariant (sym c.get.ensures ∙ c.in-Some.is) c.index-places-n.is c.requires.absent (λ e. c.in_default-cmp.not-Less ((rw (c.new-label.ensures, c.copy.ensures) at c.cmp.ensures) ∙ e))
+returns-in_default-cmp c = passed_gap c.args.places.now c.args.dir c.args.name.now c.loop-n.prev c.loop-n.next c.in-Some.n c.index-places-n.result c.requires.places c.loop-n.invariant (sym c.get.ensures ∙ c.in-Some.is) c.index-places-n.is c.requires.absent (λ e. c.in_default-cmp.not-Less (c.cmp.ensures ∙ e))
 
 pub loop-n-smaller : goal.loop-n-smaller
 loop-n-smaller c = passed_smaller c.args.places.now c.args.dir c.args.name.now c.loop-n.prev c.loop-n.next c.in-Some.n c.index-places-n.result c.requires.places c.loop-n.invariant (sym c.get.ensures ∙ c.in-Some.is) c.index-places-n.is
 
 pub loop-n-preserved : goal.loop-n-preserved
-loop-n-preserved c = passed_more c.args.places.now c.args.dir c.args.name.now c.loop-n.prev c.loop-n.next c.in-Some.n c.index-places-n.result c.requires.places c.loop-n.invariant (sym c.get.ensures ∙ c.in-Some.is) c.index-places-n.is (sym (rw (c.new-label.ensures, c.copy.ensures) at c.cmp.ensures) ∙ c.in-Less.is)
+loop-n-preserved c = passed_more c.args.places.now c.args.dir c.args.name.now c.loop-n.prev c.loop-n.next c.in-Some.n c.index-places-n.result c.requires.places c.loop-n.invariant (sym c.get.ensures ∙ c.in-Some.is) c.index-places-n.is (sym c.cmp.ensures ∙ c.in-Less.is)
 
 pub returns : goal.returns
 returns c = passed_end c.args.places.now c.args.dir c.args.name.now c.loop-n.prev c.loop-n.next c.requires.places c.loop-n.invariant (sym c.get.ensures ∙ c.in_default.is)

@@ -1,7 +1,7 @@
 use Rattle.std.proofs.Common.{rules, ◌≢◌, ◌≤◌, [], length, arith, ap, ◌∙◌, ◌++◌, ◌+◌, refl}
 use Rattle.fs_text.specs.Words.{escaped}
 use Rattle.fs_text.proofs.WriteLemmas.{root_word, name_pushed, path_pushed}
-use Rattle.fs_text.proofs.writing.push_path.Goals as goal
+use Rattle.fs_text.proofs.writing.push_steps.Goals as goal
 
 pub returns-then-is_empty-clause-ok : goal.returns-then-is_empty-clause-ok
 returns-then-is_empty-clause-ok c = rw (root_word c.args.path.now (c.is_empty.ensures.0 (search rules))) (search rules)
