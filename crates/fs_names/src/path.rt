@@ -25,7 +25,7 @@ pub struct Path {
 }
 
 /// How many names stand in the one allocation that the copies of a path share; for more there is a second one.
-const INLINE_NAMES: usize = 2;
+const INLINE_NAMES: usize = 7;
 
 impl Model for Path {
     ghost use Rattle.std.specs.Prelude.{ℕ, List, option_map};
