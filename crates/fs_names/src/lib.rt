@@ -3,7 +3,7 @@
 //!
 //! A `Path` is a list of at most 64 `Name`s, and the root is the path of none. Contracts see a path as the list of its
 //! names, a name as its bytes, and a number as itself. What `Path::parse` answers is exactly what the specification
-//! says of the bytes. `Path::parse`, `Path::copy` and `Path::write` are the calls that may allocate.
+//! says of the bytes. `Path::parse` and `Path::write` are the calls that may allocate.
 //!
 //! Enter at `Path::parse` and `Name::read`; the limits are constants of the module `limits`. The definitions are in
 //! `specs/`: `Names` (what a name is, and the order), `Keys` (parent, prefix), `Reading` (how bytes are read), and, for
