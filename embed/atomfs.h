@@ -6,7 +6,11 @@
  *   - a handle is made by ATOMFS_INIT, is never copied, and its fields are never touched;
  *   - an open handle owns its tree and its journal until atomfs_close, which frees both. Nothing else frees memory of it.
  *
- * Lines, replies, journals, trees and scripts are those of docs/FORMATS.md, with no byte 0 behind them. */
+ * Lines, replies, journals, trees and scripts are those of docs/FORMATS.md, with no byte 0 behind them.
+ *
+ * A text is written to out, which has room for so many bytes, and *count is its length. Where out is too small it is left as
+ * it was and *count is the length that is needed; nothing is lost, and the text can be asked for again. Where a function
+ * answers 3 or more, look at no more of what it writes to than is said with it. */
 #ifndef ATOMFS_H
 #define ATOMFS_H
 
@@ -34,9 +38,10 @@ typedef struct atomfs {
 enum {
     ATOMFS_OK = 0,
     /* From here to ATOMFS_WAITS the call or the look was done, or the call is under way. */
-    ATOMFS_TOO_SMALL = 1,     /* done; the text has *count bytes, out has fewer, and is as before: ask again */
+    ATOMFS_TOO_SMALL = 1,     /* done; the text has *count bytes, out has fewer, and is as before: ask again, for the reply of
+                                 a call by atomfs_reply, since atomfs_call would make it a second time */
     ATOMFS_UNTOLD = 2,        /* the call returned; no memory for its reply's text: ask atomfs_reply */
-    ATOMFS_WAITS = 3,         /* the call is under way, and a call of another seat holds the node that it wants next */
+    ATOMFS_WAITS = 3,         /* the call *number is under way, and a call of another seat holds the node that it wants next */
     /* From here on nothing has changed. */
     ATOMFS_CLOSED = 4,        /* the handle is closed */
     ATOMFS_ALREADY_OPEN = 5,  /* the handle is open */
@@ -90,13 +95,14 @@ uint8_t atomfs_begin(atomfs *fs, uint64_t seat, const char *line, size_t length,
 /* Does one step of the call on a seat. *did is one of ATOMFS_DID_, and *about what it speaks of. OK, CLOSED, NO_SEAT. */
 uint8_t atomfs_step(atomfs *fs, uint64_t seat, uint8_t *did, uint64_t *about);
 
-/* Begins the call that a line spells and steps it to its return. out has the reply's text, of *count bytes.
+/* Begins the call that a line spells and steps it to its return. *number is the call's number, and out has the reply's text.
  * OK; TOO_SMALL and UNTOLD, where the call has returned all the same, and atomfs_reply tells its reply; WAITS, where the
  * call is under way on its seat, and atomfs_step goes on with it; what atomfs_begin answers else. */
 uint8_t atomfs_call(atomfs *fs, uint64_t seat, const char *line, size_t length, char *out, size_t room, size_t *count,
                     uint64_t *number);
 
-/* Tells the reply of a call that has returned, as often as it is asked. OK, TOO_SMALL, CLOSED, NO_REPLY, NO_MEMORY. */
+/* Tells the reply of a call that has returned, as often as it is asked. It looks through the journal from its last entry
+ * back, so an old reply takes as long as there are entries since. OK, TOO_SMALL, CLOSED, NO_REPLY, NO_MEMORY. */
 uint8_t atomfs_reply(atomfs *fs, uint64_t number, char *out, size_t room, size_t *count);
 
 /* Tells the journal's lines from the entry first on, counted from 0, without the header line. *entries is how many
