@@ -85,6 +85,13 @@ pub extern "C" fn atomfs_journal(
     }
 }
 
+/// The text of the tree of a core.
+fn text_of_tree(alloc: Global, core: &Core) -> Result<Vec<u8>, AllocError>
+    ensures { IfOk result (λ text. IsTreeText (graph_of core.now.store) text.items) }
+{
+    tree_text(alloc, core.store())
+}
+
 /// Tells the text of the tree that the nodes spell.
 #[unsafe(no_mangle)]
 pub extern "C" fn atomfs_tree(
@@ -100,7 +107,7 @@ pub extern "C" fn atomfs_tree(
     let Some(core) = take(alloc, handle) else {
         return CLOSED;
     };
-    let text = tree_text(alloc, core.store());
+    let text = text_of_tree(alloc, &core);
     put(handle, core);
     match text {
         Ok(text) => tell(text.as_slice(), out, count),

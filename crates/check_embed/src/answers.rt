@@ -1,42 +1,10 @@
 //! The words of answers.
 
-use anyhow::{Result, bail};
-use fs_core::Refusal;
+use anyhow::Result;
 use fs_embed::{NoText, NotBegun, NotReturned, Returned, StepTold, reply_text};
 use fs_names::{CallNo, Kind};
-use fs_text::words::number_of;
 use std::alloc::Global;
-
-/// The first word of a line, and what stands behind it.
-pub fn first_word(line: &str) -> (&str, &str) {
-    line.split_once(' ').unwrap_or((line, ""))
-}
-
-/// The text of bytes.
-pub fn text_of(alloc: Global, bytes: &[u8]) -> Result<String> {
-    Ok(String::from_str(alloc, str::from_utf8(bytes)?)?)
-}
-
-/// Words as they are.
-pub fn plain(alloc: Global, words: &str) -> Result<String> {
-    Ok(String::from_str(alloc, words)?)
-}
-
-/// The number that a word is.
-pub fn number(word: &str) -> Result<u64> {
-    match number_of(word.as_bytes()) {
-        Some(number) => Ok(number),
-        None => bail!("{word}: no number"),
-    }
-}
-
-fn refusal_words(refusal: Refusal) -> &'static str {
-    match refusal {
-        Refusal::OutOfMemory => "refused: out of memory",
-        Refusal::Full => "refused: full",
-        Refusal::SeatBusy => "refused: seat busy",
-    }
-}
+use transcripts::{plain, refusal_words, text_of};
 
 /// Why a call did not begin.
 pub fn not_begun(alloc: Global, why: NotBegun) -> Result<String> {

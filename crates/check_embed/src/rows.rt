@@ -3,33 +3,23 @@
 //! PATH` tells what a path leads to. `copy ROOM TEXT` copies a text to so many bytes. `|LINE` adds a line to a text, which
 //! `script` runs by its own schedule, `robin` by round robin, and `check` takes for a journal; an empty line clears it.
 
-use crate::answers::{begun, first_word, kind_words, made, number, plain, ran, stepped, text_of};
-use anyhow::{Result, bail, ensure};
+use crate::answers::{begun, kind_words, made, ran, stepped};
+use anyhow::{Result, bail};
 use fs_core::Core;
 use fs_embed::{
     begin_line, check_text, copy_out, find_reply, journal_text, kind_of, reply_text, run_line,
     run_text, step_seat, tree_text,
 };
-use fs_names::{CallNo, NODE_LIMIT, SeatNo};
+use fs_names::{CallNo, SeatNo};
 use fs_sched::Schedule;
 use std::alloc::Global;
+use transcripts::{Answers, first_word, new_core, number, plain, text_of};
 
 /// A core if there is one, and a text.
 #[derive(Drop)]
 pub struct Rows {
     core: Option<Core>,
     text: Vec<u8>,
-}
-
-/// A core for so many nodes, with so many seats.
-fn make(alloc: Global, limit: u64, seats: u64) -> Result<Core> {
-    let limit = limit as usize;
-    ensure!(limit >= 1 && limit <= NODE_LIMIT, "a limit out of range");
-    let mut core = Core::with_limit(alloc, limit)?;
-    for _ in 0..seats {
-        core.seat()?;
-    }
-    Ok(core)
 }
 
 fn begin(alloc: Global, core: &mut Core, rest: &str) -> Result<String> {
@@ -104,7 +94,7 @@ impl Rows {
 
     fn set_up(&mut self, alloc: Global, rest: &str) -> Result<String> {
         let (limit, seats) = first_word(rest);
-        self.core = Some(make(alloc, number(limit)?, number(seats)?)?);
+        self.core = Some(new_core(alloc, number(limit)?, number(seats)?)?);
         plain(alloc, "")
     }
 
@@ -125,9 +115,10 @@ impl Rows {
         self.text.push(b'\n')?;
         plain(alloc, "")
     }
+}
 
-    /// The answer of the next line: nothing, a few words, or whole lines.
-    pub fn answer(&mut self, alloc: Global, line: &str) -> Result<String> {
+impl Answers for Rows {
+    fn answer(&mut self, alloc: Global, line: &str) -> Result<String> {
         if let Some(line) = line.strip_prefix('|') {
             return self.add(alloc, line);
         }

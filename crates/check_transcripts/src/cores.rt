@@ -3,32 +3,19 @@
 ghost use Rattle.std.specs.Prelude.{◌≡◌, ◌<◌, All, IfOk, IfSome, length};
 ghost use Rattle.fs_core.specs.Events.{IsSeated};
 
-use crate::answers::{
-    begin_text, journal_text, number, number_text, plain, refusal_words, returned_text, step_text,
-    text_of, verdict_text,
-};
+use crate::answers::{begin_text, returned_text, step_text};
 use anyhow::{Result, bail, ensure};
 use fs_calls::{Call, Reply};
 use fs_core::{Core, Event, Stepped};
-use fs_names::{NODE_LIMIT, Path, SeatNo};
+use fs_names::{Path, SeatNo};
 use fs_nodes::{NodeNo, Store};
 use fs_script::write_tree;
 use fs_timeline::Entry;
 use std::alloc::Global;
+use transcripts::{journal_text, number, number_text, plain, refusal_words, text_of, verdict_text};
 
 /// More steps than a call has that is alone.
 const MOST_STEPS: usize = 1000;
-
-/// A core for so many nodes, with so many seats.
-pub fn make(alloc: Global, limit: u64, seats: u64) -> Result<Core> {
-    let limit = limit as usize;
-    ensure!(limit >= 1 && limit <= NODE_LIMIT, "a limit out of range");
-    let mut core = Core::with_limit(alloc, limit)?;
-    for _ in 0..seats {
-        core.seat()?;
-    }
-    Ok(core)
-}
 
 /// The reply of a step that returned.
 fn returned(stepped: Stepped) -> Option<Reply> {
@@ -70,12 +57,12 @@ pub fn begin(alloc: Global, core: &mut Core, seat: u64, call: &Call) -> Result<S
 /// The call on a seat does its next step.
 pub fn step(alloc: Global, core: &mut Core, seat: u64) -> Result<String> {
     ensure!((seat as usize) < core.seats(), "no such seat");
-    step_text(alloc, core.step(SeatNo::new(seat)))
+    step_text(alloc, &core.step(SeatNo::new(seat)))
 }
 
 /// The call on a seat goes on up to its return.
 pub fn end(alloc: Global, core: &mut Core, seat: u64) -> Result<String> {
-    returned_text(alloc, finish(core, seat)?)
+    returned_text(alloc, &finish(core, seat)?)
 }
 
 /// A call on the first seat from its begin to its return.

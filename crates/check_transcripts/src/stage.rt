@@ -4,15 +4,15 @@
 //! and `then SEAT` are kept for `run`. The questions are `find PATH`, `holder NODE`, `under_way SEAT`, `seats`, `entries`,
 //! `journal`, `nodes`, and `last` for the last line of the nodes' text; `parts` takes the core apart.
 
-use crate::answers::{Answers, call_of, first_word, number, plain, reply_text};
+use crate::answers::{call_of, reply_text};
 use crate::cores;
-use crate::texts::numbered;
 use anyhow::{Result, bail, ensure};
 use fs_calls::{Call, Reply};
 use fs_core::Core;
 use fs_seq::SeqTree;
 use fs_text::words::number_of;
 use std::alloc::{AllocError, Global};
+use transcripts::{Answers, first_word, new_core, number, numbered, plain};
 
 /// The first words of calls.
 const CALLS: [&str; 10] = [
@@ -72,7 +72,7 @@ impl Stage {
     /// A core alone.
     fn set_up(&mut self, alloc: Global, text: &str) -> Result<String> {
         let (limit, seats) = first_word(text);
-        self.core = Some(cores::make(alloc, number(limit)?, number(seats)?)?);
+        self.core = Some(new_core(alloc, number(limit)?, number(seats)?)?);
         self.tree = None;
         plain(alloc, "")
     }
@@ -137,7 +137,7 @@ impl Stage {
     /// The text of the reply of a call that is alone.
     fn replied(&mut self, alloc: Global, call: &Call) -> Result<String> {
         let reply = self.reply(alloc, call)?;
-        reply_text(alloc, reply)
+        reply_text(alloc, &reply)
     }
 
     /// A call that is alone.

@@ -6,7 +6,7 @@
 ghost use Rattle.std.specs.Prelude.{◌≤◌, IfOk};
 ghost use Rattle.fs_names.specs.declared.limits.TheConstants.{PATH_LIMIT};
 
-use crate::answers::{Answers, call_of, first_word, number, number_text, plain};
+use crate::answers::call_of;
 use anyhow::{Result, bail, ensure};
 use fs_calls::Call;
 use fs_names::{NODE_LIMIT, PATH_LIMIT, Path};
@@ -14,6 +14,7 @@ use fs_nodes::{NodeNo, Store};
 use fs_ops::Op;
 use fs_walk::{Fork, Walk};
 use std::alloc::Global;
+use transcripts::{Answers, first_word, number, number_text, plain};
 
 /// Where the source head of a fork goes.
 const SOURCE: &[u8] = b"/a/b/c/x";

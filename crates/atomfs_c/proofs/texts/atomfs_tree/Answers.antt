@@ -8,4 +8,4 @@ use Rattle.atomfs_c.proofs.texts.atomfs_tree.Goals as goal
 pub returns-in-Ok-clause-tree : goal.returns-in-Ok-clause-tree
 returns-in-Ok-clause-tree c below =
     subst (λ (o : Option CoreValue). IsSomeAnd o (λ core. (x : List ℕ) × IsTreeText (graph_of core.store) x × Tells c.tell.result x c.tell.new.count c.args.out.now c.tell.new.out)) (sym c.in-Some.ensures.core)
-    (c.in-Ok.text.items, (rw (c.store.ensures, c.deref.ensures) at c.in-Ok.ensures), (rw c.as_slice.ensures.value at c.tell.ensures.tells))
+    (c.in-Ok.text.items, (rw c.deref.ensures at c.in-Ok.ensures), (rw c.as_slice.ensures.value at c.tell.ensures.tells))

@@ -3,11 +3,11 @@
 //! and `==`), `paths PATH PATH` paths, `copy PATH` a path and its copy, and `numbers N N` numbers (by `cmp` and `==`);
 //! `parent PATH` tells how many names the parent has, and the last name, and `faults` the words of all faults.
 
-use crate::answers::{Answers, first_word, number, number_text, plain};
 use crate::words::{bytes_of, shown};
 use anyhow::{Result, bail};
 use fs_names::{CallNo, Name, Path, PathFault, SeatNo};
 use std::alloc::{AllocError, Global};
+use transcripts::{Answers, first_word, number, number_text, plain};
 
 /// What answers them.
 #[derive(Drop)]

@@ -3,7 +3,6 @@
 //! `call WORDS` read, `added BYTES` appends in each way and `back BYTES` takes it back; `same REPLY = REPLY` compares,
 //! `errno NAME` gives the number of an error, and `held BYTES` puts bytes and names into lists and takes them out.
 
-use crate::answers::{Answers, first_word, number, number_text, plain, text_of};
 use anyhow::{Result, bail, ensure};
 use fs_calls::{Bytes, NameList, Reply};
 use fs_names::Name;
@@ -14,6 +13,7 @@ use fs_text::{Addition, FaultKind, read_entries};
 use fs_timeline::Entry;
 use percent_encoding::percent_decode;
 use std::alloc::{AllocError, Global};
+use transcripts::{Answers, first_word, number, number_text, plain, text_of};
 
 /// What answers them.
 #[derive(Drop)]

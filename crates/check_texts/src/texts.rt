@@ -4,9 +4,6 @@
 //! counts them, and `seat NAME` answers a thread's seat. A fault is answered with its line. `most_places` asks a timeline for
 //! more places than there are numbers.
 
-use crate::answers::{
-    Answers, first_word, journal_text, number, number_text, plain, text_of, verdict_text,
-};
 use anyhow::{Result, bail};
 use fs_calls::Call;
 use fs_names::{CallNo, SeatNo};
@@ -14,19 +11,9 @@ use fs_script::{Script, ScriptFault, Word, read_script};
 use fs_text::{read_entries, write_entry};
 use fs_timeline::{Entry, Timeline};
 use std::alloc::{AllocError, Global};
-
-/// A line with a number in the place of each `#`.
-pub fn numbered(alloc: Global, line: &str, number: u64) -> Result<Vec<u8>> {
-    let number = format!(in alloc; "{number}")?;
-    let mut numbered = Vec::new(alloc);
-    for (place, piece) in line.split('#').enumerate() {
-        if place > 0 {
-            numbered.extend_from_slice(number.as_bytes())?;
-        }
-        numbered.extend_from_slice(piece.as_bytes())?;
-    }
-    Ok(numbered)
-}
+use transcripts::{
+    Answers, first_word, journal_text, number, number_text, numbered, plain, text_of, verdict_text,
+};
 
 /// The text of the paragraph.
 #[derive(Drop)]
