@@ -6,7 +6,6 @@ use mathlib.Core.Path.{◌≡◌, refl, ap, sym, subst}
 use seplogic.Ra.Ura.{Ura}
 use mir.Val.{Val}
 use base.Logic.{SProp, ent, id⊢}
-use types.Logic.{Logic}
 use denote.Param.{bounded}
 use denote.RattleType.{RattleType}
 use denote.Signature.{Slot, plain}

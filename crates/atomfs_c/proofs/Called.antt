@@ -1,5 +1,5 @@
 -- What the status of a call that was run says of it.
-use Rattle.std.proofs.Common.{◌≡◌, ◌<◌, ◌≤◌, ℕ, List, Result, Ok, Err, IfOk, IfErr, Option, Some, None, sym, subst, arith}
+use Rattle.std.proofs.Common.{◌≡◌, ◌<◌, ◌≤◌, ℕ, List, Result, Ok, Err, IfOk, IfErr, Option, Some, sym, subst, arith}
 use Rattle.fs_calls.specs.declared.reply.Reply.{Reply}
 use Rattle.fs_core.specs.CoreValues.{CoreValue}
 use Rattle.fs_embed.specs.Calls.{RunsLine, WaitsLine, IsNotReturned}

@@ -1,4 +1,4 @@
-use Rattle.std.proofs.Common.{◌≡◌, Option, IsSomeAnd, sym, subst}
+use Rattle.std.proofs.Common.{Option, IsSomeAnd, sym, subst}
 use Rattle.fs_core.specs.CoreValues.{CoreValue}
 use Rattle.fs_embed.specs.Texts.{HasNoReply}
 use Rattle.atomfs_c.proofs.texts.atomfs_reply.Goals as goal

@@ -1,4 +1,4 @@
-use Rattle.std.proofs.Common.{◌≡◌, ℕ, List, Option, IsSomeAnd, sym, subst}
+use Rattle.std.proofs.Common.{ℕ, List, Option, IsSomeAnd, sym, subst}
 use Rattle.fs_core.specs.CoreValues.{CoreValue}
 use Rattle.fs_nodes.specs.Stores.{graph_of}
 use Rattle.fs_embed.specs.Texts.{IsTreeText}

@@ -1,4 +1,4 @@
-use Rattle.std.proofs.Common.{◌≡◌, List, sym, subst}
+use Rattle.std.proofs.Common.{List, sym, subst}
 use Rattle.fs_timeline.specs.declared.entry.Entry.{Entry}
 use Rattle.fs_embed.specs.Texts.{IsReply}
 use Rattle.atomfs_c.proofs.texts.text_of_reply.Goals as goal
