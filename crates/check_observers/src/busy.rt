@@ -1,0 +1,110 @@
+//! An observer that answers while a writer publishes in a loop.
+
+use crate::calls::{is_dir, is_missing, mkdir, rmdir, tell_by};
+use fs_share::{AtomFs, Named, Observer, Session};
+use std::alloc::Global;
+use std::sync::Wait;
+use std::sync::atomic::{AtomicU64, Ordering};
+use std::thread;
+use std::thread::Threads;
+use std::time::Clock;
+
+/// How many calls are told at the most, two in each round.
+const ROUNDS: usize = 500_000;
+
+/// The observer asks until it is shown so many calls.
+const SHOWN: u64 = 200;
+
+/// Makes a directory and removes it, each told.
+fn round<N: Named, R: Wait + Clock>(
+    rt: &R,
+    alloc: Global,
+    session: &mut Session<'_, N>,
+    place: usize,
+) -> Option<()> {
+    tell_by(rt, alloc, session, mkdir(alloc, b"/a"), place)?;
+    tell_by(
+        rt,
+        alloc,
+        session,
+        rmdir(alloc, b"/a"),
+        place.checked_add(1)?,
+    )?;
+    Some(())
+}
+
+/// What either thread tells the other.
+#[derive(Drop)]
+struct Flags {
+    asked: AtomicU64,
+    over: AtomicU64,
+}
+
+/// Publishes until the observer has asked. Whether it has.
+fn publishes<N: Named, R: Wait + Clock>(
+    rt: &R,
+    alloc: Global,
+    fs: &AtomFs<N>,
+    flags: &Flags,
+) -> Option<bool> {
+    let mut session = fs.session(rt).ok()?;
+    for number in 0..ROUNDS {
+        round(rt, alloc, &mut session, 2 * number)?;
+        if flags.asked.load(Ordering::SeqCst) == 1 {
+            return Some(true);
+        }
+    }
+    Some(false)
+}
+
+/// Whether an observer answers by its list, in which the directory is made and removed in turn.
+fn answers<N: Named>(alloc: Global, observer: &mut Observer<N>) -> Option<bool> {
+    let count = observer.count();
+    let is_right = if count % 2 == 0 {
+        is_missing(alloc, observer, b"/a")?
+    } else {
+        is_dir(alloc, observer, b"/a")?
+    };
+    Some(is_right || observer.count() != count)
+}
+
+/// Asks until many calls are shown, or the writer is over. Whether each answer was that of its list.
+fn asks<N: Named, R: Wait>(rt: &R, alloc: Global, fs: &AtomFs<N>, flags: &Flags) -> Option<bool> {
+    let mut observer = fs.observer(rt).ok()?;
+    for _ in 0..u64::MAX {
+        if !answers(alloc, &mut observer)? {
+            return Some(false);
+        }
+        let is_enough = observer.count() >= SHOWN;
+        if is_enough || flags.over.load(Ordering::SeqCst) == 1 {
+            return Some(is_enough);
+        }
+    }
+    Some(false)
+}
+
+/// A writer that publishes in a loop, and an observer, which ends first.
+pub fn meet<N: Named + Send + Sync, R: Threads + Wait + Clock + Sync>(
+    rt: &R,
+    alloc: Global,
+    fs: &AtomFs<N>,
+) -> Option<bool> {
+    let flags = Flags {
+        asked: AtomicU64::new(0),
+        over: AtomicU64::new(0),
+    };
+    let (published, answered) = thread::join(
+        rt,
+        || {
+            let published = publishes(rt, alloc, fs, &flags);
+            flags.over.store(1, Ordering::SeqCst);
+            published
+        },
+        || {
+            let answered = asks(rt, alloc, fs, &flags);
+            flags.asked.store(1, Ordering::SeqCst);
+            answered
+        },
+    );
+    Some(published? && answered?)
+}

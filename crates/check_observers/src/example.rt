@@ -1,0 +1,46 @@
+//! The lines of the docs.
+
+use fs_calls::{Call, Reply};
+use fs_names::{Kind, Path};
+use fs_share::{AtomFs, Named, Open, Stamp};
+use std::alloc::Global;
+use std::sync::Wait;
+use std::thread;
+use std::thread::Threads;
+use std::time::Clock;
+
+/// Whether an observer that is handed a stamp is shown an empty directory.
+fn is_shown<N: Named, R: Wait>(
+    rt: &R,
+    alloc: Global,
+    fs: &AtomFs<N>,
+    stamp: &Stamp<N>,
+) -> Option<bool> {
+    let mut observer = fs.observer(rt).ok()?;
+    observer.learn(stamp);
+    let reply = observer.stat(alloc, &Path::parse(alloc, b"/a").ok()?).ok()?;
+    Some(matches!(reply, Reply::Stat(Kind::Dir, 0)))
+}
+
+/// Makes a directory by a call that is told.
+fn make<N: Named, R: Wait + Clock>(rt: &R, alloc: Global, fs: &AtomFs<N>) -> Option<Stamp<N>> {
+    let mut session = fs.session(rt).ok()?;
+    let call = Call::Mkdir(Path::parse(alloc, b"/a").ok()?);
+    let told = session.call_told(rt, alloc, &call, &Open).ok()?;
+    told.stamp
+}
+
+/// Whether two threads that are handed the stamp are both shown what was made.
+pub fn is_handed_on<N: Named + Send + Sync, R: Threads + Wait + Clock + Sync>(
+    rt: &R,
+    alloc: Global,
+    fs: &AtomFs<N>,
+) -> Option<bool> {
+    let stamp = make(rt, alloc, fs)?;
+    let (one, other) = thread::join(
+        rt,
+        || is_shown(rt, alloc, fs, &stamp),
+        || is_shown(rt, alloc, fs, &stamp),
+    );
+    Some(one? && other?)
+}

@@ -1,0 +1,70 @@
+//! A tree for each row.
+
+ghost use Rattle.std.specs.Prelude.{◌≡◌, ◌^◌};
+
+use crate::{busy, drawn, example, held, places, told};
+use fs_share::{AtomFs, Named, Opened};
+use std::alloc::Global;
+use std::marker::Brand;
+use std::sync::Wait;
+use std::sync::ledger::Blank;
+use std::thread::Threads;
+use std::time::Clock;
+
+/// What is done on a tree. A number is that of the event after which a call is held.
+#[derive(Clone, Copy)]
+pub enum Row {
+    HandedOn,
+    First,
+    BothStamps,
+    Written,
+    Untold,
+    Parked(u64),
+    Moved(u64),
+    Places,
+    Busy,
+    Drawn,
+}
+
+fn holds<N: Named + Send + Sync, R: Threads + Wait + Clock + Sync>(
+    rt: &R,
+    alloc: Global,
+    fs: &AtomFs<N>,
+    row: Row,
+) -> Option<bool> {
+    match row {
+        Row::HandedOn => example::is_handed_on(rt, alloc, fs),
+        Row::First => told::first(rt, alloc, fs),
+        Row::BothStamps => told::both_stamps(rt, alloc, fs),
+        Row::Written => told::written(rt, alloc, fs),
+        Row::Untold => told::untold(rt, alloc, fs),
+        Row::Parked(at) => held::beside(rt, alloc, fs, at, false),
+        Row::Moved(at) => held::beside(rt, alloc, fs, at, true),
+        Row::Places => places::sixty_four(rt, alloc, fs),
+        Row::Busy => busy::meet(rt, alloc, fs),
+        Row::Drawn => drawn::are_right(rt, alloc, fs),
+    }
+}
+
+fn on_named<N: Named + Send + Sync, R: Threads + Wait + Clock + Sync>(
+    rt: &R,
+    alloc: Global,
+    opened: Opened,
+    blank: Blank,
+    row: Row,
+) -> Option<bool>
+    requires book { opened ≡ N.book }
+    requires name { blank.name ≡ N.name }
+    requires parts { blank.parts ≡ N.parts }
+    requires all { blank.parts ≡ 2 ^ 63 }
+{
+    let fs = AtomFs::<N>::open(rt, alloc, opened, blank).ok()?;
+    let holds = holds(rt, alloc, &fs, row);
+    let _closed = fs.close(rt, Vec::new(alloc));
+    holds
+}
+
+/// Whether the row holds on a tree of its own.
+pub fn on_tree<R: Threads + Wait + Clock + Sync>(rt: &R, alloc: Global, row: Row) -> Option<bool> {
+    on_named::<Brand, R>(rt, alloc, Opened::new(), Blank::new(1 << 63), row)
+}
