@@ -21,11 +21,15 @@ use std::sync::Arc;
 pub struct Path {
     // Copies share the names: a call's path stands in a script, in the record of the call and in its journal. The root
     // shares nothing, and so takes no memory.
-    names: Option<Arc<SmallVec<Name, INLINE_NAMES>>>,
+    names: Option<Arc<SmallVec<Name, SHARED_NAMES>>>,
 }
 
+/// How many names a path holds in itself, before it allocates: none, since each would add to the size of every entry of
+/// a journal.
+pub const INLINE_NAMES: usize = 0;
+
 /// How many names stand in the one allocation that the copies of a path share; for more there is a second one.
-const INLINE_NAMES: usize = 7;
+const SHARED_NAMES: usize = 7;
 
 impl Model for Path {
     ghost use Rattle.std.specs.Prelude.{ℕ, List, option_map};
@@ -70,11 +74,11 @@ fn count_names(bytes: &[u8]) -> usize
 }
 
 /// The names between the slashes of bytes without zeros. Room for them is made once, and before they are read.
-fn names_of(alloc: Global, bytes: &[u8]) -> Result<SmallVec<Name, INLINE_NAMES>, PathFault>
+fn names_of(alloc: Global, bytes: &[u8]) -> Result<SmallVec<Name, SHARED_NAMES>, PathFault>
     requires { list_any is_zero bytes.now ≡ false }
     ensures names { IfOk result (λ read. (read.items ≡ names bytes.now) × (first_fault 0 (names bytes.now) ≡ None)) }
     ensures fault { IfErr result (λ fault. fault ≢ PathFault.OutOfMemory → first_fault 0 (names bytes.now) ≡ Some fault) }
-    ensures memory { result ≡ Err PathFault.OutOfMemory → INLINE_NAMES < length (names bytes.now) }
+    ensures memory { result ≡ Err PathFault.OutOfMemory → SHARED_NAMES < length (names bytes.now) }
 {
     let room = count_names(bytes).min(PATH_LIMIT);
     let Ok(mut read) = SmallVec::with_capacity(alloc, room) else {
@@ -87,11 +91,11 @@ fn names_of(alloc: Global, bytes: &[u8]) -> Result<SmallVec<Name, INLINE_NAMES>,
 }
 
 /// The path of these names.
-fn path_of(alloc: Global, names: SmallVec<Name, INLINE_NAMES>) -> Result<Path, PathFault>
+fn path_of(alloc: Global, names: SmallVec<Name, SHARED_NAMES>) -> Result<Path, PathFault>
     requires { IsPath names.items }
     ensures path { IfOk result (λ path. path ≡ names.items) }
     ensures fault { IfErr result (λ fault. fault ≡ PathFault.OutOfMemory) }
-    ensures memory { OnErr result (0 < length names.items) }
+    ensures memory { OnErr result (INLINE_NAMES < length names.items) }
 {
     if names.is_empty() {
         return Ok(Path { names: None });
@@ -134,7 +138,7 @@ impl Path {
     pub fn parse(alloc: Global, bytes: &[u8]) -> Result<Path, PathFault>
         ensures path { IfOk result (λ path. reading bytes.now ≡ Ok path) }
         ensures fault { IfErr result (λ fault. FailsWith fault (reading bytes.now)) }
-        ensures memory { result ≡ Err PathFault.OutOfMemory → 0 < length (names bytes.now) }
+        ensures memory { result ≡ Err PathFault.OutOfMemory → INLINE_NAMES < length (names bytes.now) }
     {
         if !starts_at_root(bytes) {
             return Err(PathFault::NotAbsolute);
@@ -156,7 +160,7 @@ impl Path {
     /// shared so often that their owners are no longer counted.
     pub fn copy(&self, alloc: Global) -> Result<Path, AllocError>
         ensures ok { IfOk result (λ path. path ≡ self.now) }
-        ensures memory { OnErr result (0 < length self.now) }
+        ensures memory { OnErr result (INLINE_NAMES < length self.now) }
     {
         match &self.names {
             Some(names) if !self.is_empty() => {
