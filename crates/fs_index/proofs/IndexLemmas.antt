@@ -1,15 +1,15 @@
 -- The index of a timeline with one more entry.
-use Rattle.std.proofs.Common.{◌≡◌, ℕ, zero, suc, ◌+◌, ◌-◌, ◌<◌, ◌≤◌, Bool, true, false, ◌||◌, ◌==◌, cond, List, [], ◌∷◌, ◌++◌, Option, Some, None, is_some, length, map, get_or, refl, sym, ap, ap₂, ◌∙◌, subst, arith, ⊎_elim, append-nil}
+use Rattle.std.proofs.Common.{◌≡◌, ℕ, zero, suc, ◌+◌, ◌-◌, ◌<◌, ◌≤◌, Bool, true, false, ◌||◌, ◌==◌, cond, List, [], ◌∷◌, ◌++◌, Option, Some, None, is_some, length, map, get_or, refl, sym, ap, ap₂, ◌∙◌, subst, arith, append-nil}
 use Rattle.std.specs.Prelude.{slice_get, slice_set}
 use Rattle.std.specs.Option.{option_flatten}
-use Rattle.std.proofs.lemmas.Bool.{eqb-true, eq-eqb, or_cases, or_right}
+use Rattle.std.proofs.lemmas.Bool.{eqb-true, eq-eqb, or_right}
 use Rattle.std.proofs.lemmas.Option.{slice_get_within, slice_get_read}
 use Rattle.fs_calls.specs.declared.call.Call.{Call}
 use Rattle.fs_calls.specs.declared.reply.Reply.{Reply}
-use Rattle.fs_timeline.specs.Timeline.{is_begin, is_commit, has_begun, has_committed, begun_as, call_of, with_call, commits_of, commits, before_commit, begins}
+use Rattle.fs_timeline.specs.Timeline.{is_begin, is_commit, has_begun, has_committed, begun_as, call_of, with_call, commits, before_commit, begins}
 use Rattle.fs_timeline.specs.declared.entry.Entry.{Entry}
 use Rattle.fs_timeline.specs.declared.entry.Entry.TheVariants.{Begin, Commit, Return}
-use Rattle.fs_timeline.proofs.AppendLemmas.{or_false, list_any-push, or_else-nothing, call_of-push, is_some-call_of, call_of-kept, commits-push, before_commit-kept, before_commit-first, begun_first-push}
+use Rattle.fs_timeline.proofs.AppendLemmas.{or_false, list_any-push, call_of-push, is_some-call_of, call_of-kept, commits-push, before_commit-kept, before_commit-first, begun_first-push}
 use Rattle.fs_index.specs.Index.{Fits, place_of}
 use Rattle.fs_index.specs.code.Indexed.{call_begun, begun_at, kept_for, HasBegin, IsIndex}
 

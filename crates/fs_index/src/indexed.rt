@@ -1,6 +1,6 @@
 //! The timeline with its index.
 
-ghost use Rattle.std.specs.Prelude.{◌≡◌, ◌+◌, ◌-◌, ◌<◌, [], ◌∷◌, ◌++◌, Some, OnOk, OnErr, length, slice_get};
+ghost use Rattle.std.specs.Prelude.{◌≡◌, ◌+◌, ◌-◌, ◌<◌, [], ◌∷◌, ◌++◌, ◌^◌, Some, OnOk, OnErr, length, slice_get};
 ghost use Rattle.fs_timeline.specs.Timeline.{commits};
 ghost use Rattle.fs_index.specs.Index.{Fits, place_of};
 
@@ -59,13 +59,14 @@ impl IndexedTimeline {
     }
 
     /// Reserves this many places beside those that are reserved already. Out of memory nothing changes.
+    /// More than a vector can have are out of memory too: where they are reserved, entries and places are fewer than 2^63.
     pub fn make_places(&mut self, count: usize) -> Result<(), AllocError>
         ensures ok { OnOk result (self.new ≡ record self.old { reserved = self.old.reserved + count }) }
+        ensures few { OnOk result (length self.new.entries + self.new.reserved < 2 ^ 63) }
         ensures err { OnErr result (self.new ≡ self.old) }
     {
-        let Some(places) = self.reserved.checked_add(count) else {
-            return Err(AllocError);
-        };
+        // A sum that saturates is more than a vector can have, which refuses it.
+        let places = self.reserved.saturating_add(count);
         self.begun.reserve(places)?;
         self.places.reserve(places)?;
         self.order.reserve(places)?;

@@ -1,6 +1,6 @@
 //! The timeline of a run, with places that are reserved for its next entries.
 
-ghost use Rattle.std.specs.Prelude.{◌≡◌, ◌+◌, ◌-◌, ◌<◌, [], ◌∷◌, ◌++◌, OnOk, OnErr};
+ghost use Rattle.std.specs.Prelude.{◌≡◌, ◌+◌, ◌-◌, ◌<◌, [], ◌∷◌, ◌++◌, ◌^◌, length, OnOk, OnErr};
 
 use crate::entry::Entry;
 use std::alloc::{AllocError, Global};
@@ -36,13 +36,14 @@ impl Timeline {
     }
 
     /// Reserves this many places beside those that are reserved already. Out of memory nothing changes.
+    /// More than a vector can have are out of memory too: where they are reserved, entries and places are fewer than 2^63.
     pub fn make_places(&mut self, count: usize) -> Result<(), AllocError>
         ensures ok { OnOk result (self.new ≡ record self.old { reserved = self.old.reserved + count }) }
+        ensures few { OnOk result (length self.new.entries + self.new.reserved < 2 ^ 63) }
         ensures err { OnErr result (self.new ≡ self.old) }
     {
-        let Some(places) = self.places.checked_add(count) else {
-            return Err(AllocError);
-        };
+        // A sum that saturates is more than a vector can have, which refuses it.
+        let places = self.places.saturating_add(count);
         self.list.reserve(places)?;
         self.places = places;
         Ok(())

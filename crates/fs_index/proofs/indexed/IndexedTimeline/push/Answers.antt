@@ -1,4 +1,4 @@
-use Rattle.std.proofs.Common.{◌≤◌, ◌<◌, ◌-◌, ◌+◌, ℕ, length, arith, ◌≡◌, sym, ap, ◌∙◌}
+use Rattle.std.proofs.Common.{◌≤◌, ◌<◌, ◌-◌, ℕ, length, arith, ap}
 use Rattle.fs_index.proofs.IndexLemmas.{index_begun, index_pushed, index_returned, commit_within, fits_begin}
 use Rattle.fs_index.proofs.indexed.IndexedTimeline.push.Goals as goal
 
