@@ -1,8 +1,9 @@
 -- What a begin rests on and leaves.
-use Rattle.std.proofs.Common.{◌≡◌, ℕ, ◌+◌, ◌-◌, ◌<◌, ◌≤◌, Bool, true, false, cond, eqb, List, [], ◌∷◌, ◌++◌, Option, Some, None, length, get_or, refl, sym, ap, ◌∙◌, arith, subst}
-use Rattle.std.specs.Prelude.{slice_get, slice_set, IsSome, is_some, Ok, Err}
+use Rattle.std.proofs.Common.{◌≡◌, ℕ, ◌+◌, ◌-◌, ◌^◌, ◌<◌, ◌≤◌, Bool, true, false, cond, eqb, List, [], ◌∷◌, ◌++◌, Option, Some, None, length, get_or, refl, sym, ap, ◌∙◌, arith, subst}
+use Rattle.std.specs.Prelude.{slice_get, slice_set, IsSome, IfSome, is_some, Ok, Err}
 use mathlib.Core.Path.{fun_ext}
 use Rattle.std.proofs.lemmas.Option.{slice_get_within, slice_get_read}
+use Rattle.fs_names.specs.declared.limits.TheConstants.{NODE_LIMIT}
 use Rattle.fs_names.specs.Shapes.{Shape, Dir, File, is_there, has_entries}
 use Rattle.fs_calls.specs.Forms.{form, Form, AtNode, AtEntry, AtPair, new_shape, reserves}
 use Rattle.fs_calls.specs.declared.target.PairCall.TheVariants as pairs
@@ -15,7 +16,9 @@ use Rattle.fs_nodes.specs.Seen.{seen}
 use Rattle.fs_nodes.specs.Stores.{graph_of}
 use Rattle.fs_locks.specs.Holding.{Holding, holder, room}
 use Rattle.fs_locks.specs.declared.word.TheConstants.{CALL_LIMIT}
-use Rattle.fs_timeline.specs.declared.entry.Entry.TheVariants.{Begin}
+use Rattle.fs_timeline.specs.TimelineValues.{TimelineValue}
+use Rattle.fs_timeline.specs.declared.entry.Entry.{Entry}
+use Rattle.fs_timeline.specs.declared.entry.Entry.TheVariants.{Begin, Commit, Return}
 use Rattle.fs_machine.specs.Leaving.{unreserved}
 use Rattle.fs_machine.specs.OpValues.{OpValue, new_value, record_of, BegunAs, IsSpare, SpareIf}
 use Rattle.fs_timeline.specs.Timeline.{begins}
@@ -30,6 +33,28 @@ use Rattle.fs_core.specs.CoreValues.{CoreValue, state_of, number_on, number_of, 
 use Rattle.fs_core.specs.code.Rooms.{AreBelow, walking, walking_at, owed_at, owed, IsKept}
 use Rattle.fs_core.proofs.SeatLemmas.{records_begun, records_more, numbers_set, numbers_more, number_read, owed_set, owed_more, walking_set, walking_more}
 use Rattle.fs_core.proofs.States.{same_state, begins_more, commits_begin}
+
+-- each call that has begun has its entry
+pub few_begins : (es : List Entry) → begins es ≤ length es
+few_begins [] = omega arith
+few_begins (Begin n seat call ∷ es) = let l : begins es ≤ length es = few_begins es in omega (arith, l)
+few_begins (Commit n ∷ es) = let l : begins es ≤ length es = few_begins es in omega (arith, l)
+few_begins (Return n r ∷ es) = let l : begins es ≤ length es = few_begins es in omega (arith, l)
+
+-- and with places for more in a vector, one call more can hold a node
+pub number_fits : (old new : TimelineValue) (places begun : ℕ) → begun ≡ begins old.entries → new ≡ record old { reserved = places } → length new.entries + new.reserved < 2 ^ 63 → begun + 1 < CALL_LIMIT
+number_fits old new places begun counted is few =
+    let l : begins old.entries ≤ length old.entries = few_begins old.entries in
+    let same : length new.entries ≡ length old.entries = ap (λ (t : TimelineValue). length t.entries) is in
+    omega (arith, l, same, few, counted)
+
+-- a number that a begin has reserved is below the limit
+pub reserved_below : (graph new : Graph) (limit : ℕ) (call : Call) (w : OpValue) → limit ≤ NODE_LIMIT → BegunAs graph limit call (reserves (form call)) w new → IfSome w.reserved (λ n. n < NODE_LIMIT)
+reserved_below graph new limit call w most b = go (reserves (form call)) b
+  where
+    go : (o : Option Shape) → BegunAs graph limit call o w new → IfSome w.reserved (λ n. n < NODE_LIMIT)
+    go None (is_w, is_new) = subst (λ (r : Option ℕ). IfSome r (λ n. n < NODE_LIMIT)) (sym (ap (λ (x : OpValue). x.reserved) is_w)) tt
+    go (Some shape) (m, less, free, is_w, is_new) = subst (λ (r : Option ℕ). IfSome r (λ n. n < NODE_LIMIT)) (sym (ap (λ (x : OpValue). x.reserved) is_w)) (omega (arith, less, most))
 
 -- a kind's node is empty
 new_empty : (c : EntryCall) (shape : Shape) → new_shape c ≡ Some shape → has_entries (Some shape) ≡ false
@@ -98,6 +123,7 @@ refused_same m b k p kept st hs graph limit is_hs more = (
   same,
   record {
     run = subst Run (sym same) kept.run;
+    limited = omega (arith, limit, kept.limited);
     roomy = λ n s e. (let less : n < room m.holding = kept.roomy n s (ap (λ (g : Graph). g.shape n) (sym graph) ∙ e) in omega (arith, less, more));
     begun_is = kept.begun_is;
     few = kept.few;
@@ -137,6 +163,7 @@ begun_kept m b k p seat call kept free st hs w number copy slot begun limit is_h
   step,
   record {
     run = Beginning seat call (Ok number) _ kept.run step;
+    limited = omega (arith, limit, kept.limited);
     roomy = begun_roomy m b k p kept call st hs w (reserves (form call)) begun has more;
     begun_is = is_number ∙ ap (λ (n : ℕ). n + 1) kept.begun_is ∙ sym (begins_more m.timeline number seat copy);
     few = few;
@@ -185,6 +212,7 @@ seat_kept m b k p kept seats is = (
   same,
   record {
     run = subst Run (sym same) kept.run;
+    limited = kept.limited;
     roomy = kept.roomy;
     begun_is = kept.begun_is;
     few = kept.few;
@@ -205,12 +233,13 @@ empty_below n s bound one e = go (eqb n 0) refl e
     go true f g = let z : n ≡ 0 = eqb_true n 0 f in omega (arith, z, one)
     go false f g = cc
 
-pub new_kept : (st : Places) (hs : Holding) (limit : ℕ) → 1 ≤ limit → graph_of st ≡ empty_graph → (seen st).limit ≡ limit → holder hs ≡ (λ n. None) → 1 ≤ room hs
+pub new_kept : (st : Places) (hs : Holding) (limit : ℕ) → 1 ≤ limit → limit ≤ NODE_LIMIT → graph_of st ≡ empty_graph → (seen st).limit ≡ limit → holder hs ≡ (λ n. None) → 1 ≤ room hs
     → (state_of (record { store = st; holding = hs; seats = []; timeline = [] }) ≡ empty limit) × IsKept (record { store = st; holding = hs; seats = []; timeline = [] }) 0 0 0
-new_kept st hs limit one graph is_limit is_hs has = (
+new_kept st hs limit one most graph is_limit is_hs has = (
   same,
   record {
     run = subst Run (sym same) (Start limit one);
+    limited = omega (arith, is_limit, most);
     roomy = λ n s e. empty_below n s (room hs) has (ap (λ (g : Graph). g.shape n) (sym graph) ∙ e);
     begun_is = refl;
     few = omega arith;

@@ -50,6 +50,7 @@ took_step m b k p seat r n kept on move free hs w v is_hs room took_it is = (
   step,
   record {
     run = Stepping seat (Took n) _ kept.run step;
+    limited = kept.limited;
     roomy = rw room kept.roomy;
     begun_is = kept.begun_is;
     few = kept.few;
@@ -98,6 +99,7 @@ let_go_step m b k p seat r n kept on move st hs w v graph limit is_hs room left_
   step,
   record {
     run = Stepping seat (LetGo n) _ kept.run step;
+    limited = omega (arith, limit, kept.limited);
     roomy = λ q t e. rw room (let u : (u : Shape) × ((graph_of m.store).shape q ≡ Some u) = fewer_left (graph_of m.store) (is_removed r.op.removed n) n q t (ap (λ (g : Graph). g.shape q) (sym graph) ∙ e) in kept.roomy q u.0 u.1);
     begun_is = kept.begun_is;
     few = kept.few;
@@ -156,6 +158,7 @@ helped_step m b k p seat r s kept on move unplaced other q on_other q_unplaced q
   step,
   record {
     run = Stepping seat (Helped q.call) _ kept.run step;
+    limited = kept.limited;
     roomy = kept.roomy;
     begun_is = kept.begun_is ∙ sym (begins_commit m.timeline q.call);
     few = kept.few;
@@ -210,6 +213,7 @@ committed_step m b k p seat r s kept on move unplaced none st w v graph limit do
   step,
   record {
     run = Stepping seat Committed _ kept.run step;
+    limited = omega (arith, limit, kept.limited);
     roomy = λ q t e. (let u : (u : Shape) × ((graph_of m.store).shape q ≡ Some u) = fewer_made m seat r kept.run on st graph q t e in kept.roomy q u.0 u.1);
     begun_is = kept.begun_is ∙ sym (begins_commit m.timeline r.call);
     few = kept.few;
@@ -246,6 +250,7 @@ carried_step m b k p seat r s i kept on move is_placed st w v graph limit done i
   step,
   record {
     run = Stepping seat CarriedOut _ kept.run step;
+    limited = omega (arith, limit, kept.limited);
     roomy = λ q t e. (let u : (u : Shape) × ((graph_of m.store).shape q ≡ Some u) = fewer_made m seat r kept.run on st graph q t e in kept.roomy q u.0 u.1);
     begun_is = kept.begun_is;
     few = kept.few;
@@ -282,6 +287,7 @@ returned_step m b k p seat r reply kept on move replied st v graph limit is = (
   step,
   record {
     run = Stepping seat (Returned reply) _ kept.run step;
+    limited = omega (arith, limit, kept.limited);
     roomy = λ q t e. (let u : (u : Shape) × ((graph_of m.store).shape q ≡ Some u) = fewer_unreserved (graph_of m.store) r.op.reserved q t (ap (λ (g : Graph). g.shape q) (sym graph) ∙ e) in kept.roomy q u.0 u.1);
     begun_is = kept.begun_is ∙ sym (begins_return m.timeline r.call reply);
     few = kept.few;

@@ -1,19 +1,21 @@
 //! What a begin allocates, so that no step needs memory.
 
-ghost use Rattle.std.specs.Prelude.{◌≡◌, ◌≢◌, ◌+◌, ◌<◌, ◌≤◌, ◌↔◌, IfOk, OnOk, OnErr, IsSome, Err};
+ghost use Rattle.std.specs.Prelude.{◌≡◌, ◌≢◌, ◌+◌, ◌<◌, ◌≤◌, ◌↔◌, IfOk, IfSome, OnOk, OnErr, IsSome, Err};
+ghost use Rattle.fs_names.specs.declared.limits.TheConstants.{NODE_LIMIT};
 ghost use Rattle.fs_nodes.specs.Graphs.{IsGraph};
 ghost use Rattle.fs_nodes.specs.Seen.{seen};
 ghost use Rattle.fs_nodes.specs.Stores.{graph_of, in_use};
 ghost use Rattle.fs_locks.specs.Holding.{holder, room};
 ghost use Rattle.fs_locks.specs.declared.word.TheConstants.{CALL_LIMIT};
 ghost use Rattle.fs_calls.specs.Forms.{form, reserves};
+ghost use Rattle.fs_timeline.specs.Timeline.{begins};
 ghost use Rattle.fs_machine.specs.OpValues.{BegunAs};
 ghost use Rattle.fs_core.specs.Events.{HasRoom};
 ghost use Rattle.fs_machine.specs.declared.answers.Refusal.TheVariants as refusals;
 
 use fs_calls::Call;
 use fs_index::IndexedTimeline;
-use fs_locks::{CALL_LIMIT, Holders};
+use fs_locks::Holders;
 use fs_machine::Refusal;
 use fs_nodes::{NoNode, NodeNo, Store};
 use fs_ops::Op;
@@ -32,6 +34,7 @@ pub struct Ready {
 
 /// Makes room for the holder of a reserved number.
 fn make_room(holders: &mut Holders, reserved: Option<NodeNo>) -> Result<(), AllocError>
+    requires { IfSome reserved (λ node. node < NODE_LIMIT) }
     ensures within { OnOk result (HasRoom reserved holders.new) }
     ensures holders { holder holders.new ≡ holder holders.old }
     ensures more { room holders.old ≤ room holders.new }
@@ -39,11 +42,7 @@ fn make_room(holders: &mut Holders, reserved: Option<NodeNo>) -> Result<(), Allo
     let Some(node) = reserved else {
         return Ok(());
     };
-    // Never met: the number is that of a place in a vector.
-    let Some(count) = node.get().checked_add(1) else {
-        return Err(AllocError);
-    };
-    holders.make_room(count)
+    holders.make_room(node.get() + 1)
 }
 
 /// The next call's number and its copy, with room for the holder of its reserved number and for its entries.
@@ -55,6 +54,8 @@ fn make_places(
     timeline: &mut IndexedTimeline,
     begun: u64,
 ) -> Result<(u64, Call), AllocError>
+    requires reserved { IfSome reserved (λ node. node < NODE_LIMIT) }
+    requires begun { begun ≡ begins timeline.old.entries }
     ensures number { IfOk result (λ places. places.0 ≡ begun + 1) }
     ensures few { IfOk result (λ places. places.0 < CALL_LIMIT) }
     ensures copy { IfOk result (λ places. places.1 ≡ call.now) }
@@ -64,20 +65,14 @@ fn make_places(
     ensures more { room holders.old ≤ room holders.new }
     ensures err { OnErr result (timeline.new ≡ timeline.old) }
 {
-    // Never met: it would take 2^64 - 2 begins. The number after them would be one that cannot hold a node.
-    let Some(number) = begun.checked_add(1) else {
-        return Err(AllocError);
-    };
-    if number >= CALL_LIMIT {
-        return Err(AllocError);
-    }
-
     // The second copy of the call, for its Begin entry: the first is in its record. Both are made here, so that its commit
     // and its return, which append a number or a reply that is there, copy nothing.
     let copy = call.copy(alloc)?;
     make_room(holders, reserved)?;
     timeline.make_places(ENTRIES_OF_A_CALL)?;
-    Ok((number, copy))
+
+    // Each begin has its entry, and a vector has fewer than 2^63, so the number is one that can hold a node.
+    Ok((begun + 1, copy))
 }
 
 /// All that a call can need from its begin on. After a refusal the nodes, the holders and the timeline are as before:
@@ -91,6 +86,8 @@ pub fn make_ready(
     begun: u64,
 ) -> Result<Ready, Refusal>
     requires graph { IsGraph (graph_of store.old) }
+    requires limit { (seen store.old).limit ≤ NODE_LIMIT }
+    requires begun { begun ≡ begins timeline.old.entries }
     ensures op { IfOk result (λ ready. BegunAs (graph_of store.old) (seen store.old).limit call.now (reserves (form call.now)) ready.op (graph_of store.new)) }
     ensures number { IfOk result (λ ready. ready.number ≡ begun + 1) }
     ensures few { IfOk result (λ ready. ready.number < CALL_LIMIT) }

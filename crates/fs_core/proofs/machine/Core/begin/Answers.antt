@@ -9,7 +9,7 @@ returns-then-is_some-clause-begins c = rw (← c.self.view_is)
     (busy_by _ c.get-at.result c.args.seat c.args.call.now c.index.result.now c.is_some.result c.get-at.ensures (rw (← c.self.view_is) at c.requires.seat) c.index.ensures c.is_some.ensures c.if-is_some.true)
 
 pub make_ready-requires : goal.make_ready-requires
-make_ready-requires c = record { graph = (run_keeps _ c.self.invariant.run).is_graph }
+make_ready-requires c = record { graph = (run_keeps _ c.self.invariant.run).is_graph; limit = c.self.invariant.limited; begun = c.self.invariant.begun_is }
 
 pub invariant_of-self : goal.invariant_of-self
 invariant_of-self c = rw c.in-Err.ensures.timeline
