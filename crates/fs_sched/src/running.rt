@@ -6,7 +6,7 @@ ghost use Rattle.fs_text.specs.declared.fault.ScriptFault.{ScriptFault};
 ghost use Rattle.fs_script.specs.Script.{script_of};
 ghost use Rattle.fs_sched.specs.Devices.{IsFaultOrRefusal, WritesBeginning};
 ghost use Rattle.fs_sched.specs.Runs.{Runs, calls_in, end_of, IsOutput, IsRunOf, IsWhole, HasFinish, FillsUp, ReachesFull};
-ghost use Rattle.fs_sched.specs.EachRun.{AreOfTheRun};
+ghost use Rattle.fs_sched.specs.EachRun.{AreOfTheRun, RunsAreReadAgain, EachIsReadAgain};
 ghost use Rattle.fs_sched.specs.code.Stages.{stage_of, IsRefusal};
 
 use crate::device::{Sink, Source};
@@ -18,6 +18,7 @@ use crate::sink::write_text;
 use crate::source::read_text;
 use fs_calls::Call;
 use fs_script::{Script, read_script};
+use fs_text::told_of_entries;
 use fs_timeline::Entry;
 use std::alloc::Global;
 
@@ -79,6 +80,7 @@ pub(crate) fn play(alloc: Global, script: &Script, schedule: Schedule) -> Result
 /// The text of a run of a script, and how it ended. The script is let go before the text is made.
 fn make_text(alloc: Global, script: Script, schedule: Schedule) -> Result<MadeText, RunFault>
     ensures output { IfOk result (λ made. IsOutput schedule script made.end made.text.items) }
+    ensures again { OnOk result (RunsAreReadAgain schedule script) }
     ensures fault { IfErr result IsRefusal }
     ensures full { IsErrOf result RunFault.Full → FillsUp schedule script }
 {
@@ -89,6 +91,9 @@ fn make_text(alloc: Global, script: Script, schedule: Schedule) -> Result<MadeTe
     let calls = count_calls(script.lists.as_slice());
     drop(script);
     let entries = play.core.timeline();
+
+    // By their types the entries are such as a journal is read again with.
+    told_of_entries(entries);
     match run_text(alloc, entries, play.core.store()) {
         Ok(text) => Ok(MadeText {
             text,
@@ -101,6 +106,7 @@ fn make_text(alloc: Global, script: Script, schedule: Schedule) -> Result<MadeTe
 /// The same of the script that a text has, which is let go once it is read.
 fn text_of_script(alloc: Global, text: Vec<u8>, schedule: Schedule) -> Result<MadeText, RunFault>
     ensures output { IfOk result (λ made. IsRunOf schedule text.items made.end made.text.items) }
+    ensures again { OnOk result (EachIsReadAgain schedule text.items) }
     ensures fault { IfErr result (IsFaultOrRefusal (script_of text.items)) }
     ensures full { IsErrOf result RunFault.Full → ReachesFull schedule text.items }
 {
@@ -128,6 +134,9 @@ pub fn run_script<R: Source, W: Sink>(
     ensures end { OnOk result (IsAtEnd (R.remaining reader.new)) }
     ensures input { (f : ScriptFault) → result ≡ Err (RunFault.Input f) → IfSome (R.remaining reader.old) (λ input. script_of input ≡ Err f) }
     ensures full { result ≢ Err RunFault.Full }
+
+    // Cut before its tree, the text is read again as the entries of the run, where it keeps the limit of texts.
+    ensures again { OnOk result (IfSome (R.remaining reader.old) (EachIsReadAgain schedule)) }
 
     // Where rounds to the end follow, each call of the script began, took its place and returned.
     ensures whole { IfOk result (λ end. schedule ≢ Schedule.Given → IsWhole end) }

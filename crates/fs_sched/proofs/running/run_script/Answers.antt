@@ -1,7 +1,7 @@
 use Rattle.std.specs.Io.KnownBytes.{Appends}
 use Rattle.std.proofs.Common.{refl, subst, Err, ap, ◌≡◌, ◌<◌, ◌≤◌, ◌^◌, length, arith}
 use Rattle.fs_sched.proofs.RunLemmas.{script_short, known_fault, known_run, begins_same}
-use Rattle.fs_sched.proofs.OneText.{known_each}
+use Rattle.fs_sched.proofs.OneText.{known_each, known_again}
 use Rattle.fs_sched.proofs.Filling.{never_full}
 use Rattle.fs_sched.proofs.Whole.{whole_always, known_whole}
 use Rattle.fs_sched.proofs.running.run_script.Goals as goal
@@ -18,6 +18,9 @@ returns-in-Ok-write_text-clause-ran g c = (
   known_each _ _ _ c.args.schedule (known_run _ _ _ _ _ _ refl c.in-Ok.ensures.same c.in-Ok-text_of_script.ensures.output),
   subst (Appends _ _) c.deref.ensures.value c.in-Ok-write_text.ensures.ok,
 )
+
+pub returns-in-Ok-write_text-clause-again : goal.returns-in-Ok-write_text-clause-again
+returns-in-Ok-write_text-clause-again g c = known_again _ _ _ c.args.schedule refl c.in-Ok.ensures.same c.in-Ok-text_of_script.ensures.again
 
 pub returns-in-Ok-write_text-clause-end : goal.returns-in-Ok-write_text-clause-end
 returns-in-Ok-write_text-clause-end g c = let short : length c.in-Ok.text.items ≤ 16777216 = script_short _ _ _ refl c.in-Ok-text_of_script.ensures.output.1 in c.in-Ok.ensures.end (omega arith)
