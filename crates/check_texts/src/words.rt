@@ -1,10 +1,11 @@
 //! The lines of `words`: what lines, words, calls and replies are made of. Bytes are written with escapes. `cut BYTES` cuts
 //! a line off, `passed BYTES` tells a comment, `words BYTES` cuts words, `parts AT BYTES` two parts, `number BYTES` and
-//! `call WORDS` read, `added BYTES` appends in each way and `back BYTES` takes it back; `same REPLY = REPLY` compares,
-//! `errno NAME` gives the number of an error, and `held BYTES` puts bytes and names into lists and takes them out.
+//! `call WORDS` read, `added BYTES` appends in each way and `back BYTES` takes it back; `same REPLY = REPLY` and
+//! `calls CALL = CALL` compare, `errno NAME` gives the number of an error, and `held BYTES` puts bytes and names into lists
+//! and takes them out.
 
 use anyhow::{Result, bail, ensure};
-use fs_calls::{Bytes, NameList, Reply};
+use fs_calls::{Bytes, Call, NameList, Reply};
 use fs_names::Name;
 use fs_text::calls::call_at;
 use fs_text::lines::{cut_line, cut_words, is_passed_over};
@@ -70,6 +71,24 @@ fn call(alloc: Global, text: &[u8]) -> Result<String> {
         None => plain(alloc, "a call"),
         Some(fault) => Ok(format!(in alloc; "{fault}")?),
     }
+}
+
+/// The call that a text spells.
+fn spelled(alloc: Global, text: &str) -> Result<Call> {
+    let mut words = Vec::new(alloc);
+    cut_words(text.as_bytes(), &mut words)?;
+    match call_at(alloc, &words) {
+        Ok(call) => Ok(call),
+        Err(fault) => bail!("{text}: {fault}"),
+    }
+}
+
+fn same_call(alloc: Global, text: &str) -> Result<bool> {
+    let Some((first, second)) = text.split_once(" = ") else {
+        bail!("{text}: one call");
+    };
+    let first = spelled(alloc, first)?;
+    Ok(spelled(alloc, second)?.same(&first))
 }
 
 /// Bytes behind `|`: as they are, their count, as hex digits, and with escapes.
@@ -158,6 +177,7 @@ impl Answers for Words {
         match word {
             "" => plain(alloc, ""),
             "same" => Ok(format!(in alloc; "{}", same(alloc, rest)?)?),
+            "calls" => Ok(format!(in alloc; "{}", same_call(alloc, rest)?)?),
             "errno" => errno(alloc, rest),
             "parts" => {
                 let (at, bytes) = first_word(rest);

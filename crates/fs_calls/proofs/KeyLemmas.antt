@@ -1,5 +1,5 @@
 -- Lemmas on keys: parents, last names and prefixes.
-use Rattle.std.proofs.Common.{◌≡◌, ◌≢◌, Bool, true, false, cond, List, [], ◌∷◌, ◌++◌, Some, None, Option, refl, sym, ap, ◌∙◌, append_assoc, append-nil, Less, Equal, Greater}
+use Rattle.std.proofs.Common.{◌≡◌, ◌≢◌, ◌↔◌, Bool, true, false, cond, List, [], ◌∷◌, ◌++◌, Some, None, Option, refl, sym, ap, ◌∙◌, append_assoc, append-nil, Less, Equal, Greater}
 use Rattle.std.specs.Ordering.{is_eq, ordering_then}
 use Rattle.std.proofs.lemmas.Cmp.{tied_itself}
 use Rattle.fs_names.specs.Names.{Name, name_cmp, same_name}
@@ -33,6 +33,10 @@ is_same_exact p q h = go (after_prefix p q) refl h
 
 pub is_same_refl : (p : Key) → is_same p p ≡ true
 is_same_refl p = ap is_end (ap (after_prefix p) (sym (append-nil p)) ∙ after_prefix-append p [])
+
+-- paths are the same exactly where they are equal
+pub same_path : (p q : Key) → is_same p q ≡ true ↔ p ≡ q
+same_path p q = (is_same_exact p q, λ e. ap (is_same p) (sym e) ∙ is_same_refl p)
 
 pub never_same : (p q : Key) → p ≢ q → is_same p q ≡ false
 never_same p q h = no_true (is_same p q) (λ same. h (is_same_exact p q same))

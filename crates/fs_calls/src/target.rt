@@ -1,6 +1,7 @@
-//! What a call looks at: a node, an entry of a directory, or two entries; and a call made again from these.
+//! What a call looks at: a node, an entry of a directory, or two entries; and by these, a call made again and two calls
+//! compared.
 
-ghost use Rattle.std.specs.Prelude.{◌≡◌, IfOk};
+ghost use Rattle.std.specs.Prelude.{◌≡◌, ◌↔◌, IfOk, IsTrue};
 ghost use Rattle.fs_calls.specs.Forms.{form, by_text};
 ghost use Rattle.fs_calls.specs.Forms as forms;
 ghost use Rattle.fs_calls.specs.code.Targets.{form_of, node_call};
@@ -90,6 +91,70 @@ fn on_pair(pair: PairCall, from: Path, to: Path) -> Call
     }
 }
 
+/// Whether the paths are one.
+#[tactic(auto, using(crate::proofs::KeyLemmas::same_path))]
+fn same_path(one: &Path, other: &Path) -> bool
+    ensures { IsTrue result ↔ one.now ≡ other.now }
+{
+    one.same(other)
+}
+
+/// Whether the bytes are the same.
+fn same_bytes(one: &Bytes, other: &Bytes) -> bool
+    ensures { IsTrue result ↔ one.now ≡ other.now }
+{
+    one.same(other)
+}
+
+/// Whether the same is done to a node.
+fn same_node(one: NodeCall<'_>, other: NodeCall<'_>) -> bool
+    ensures { IsTrue result ↔ node_call one.entry ≡ node_call other.entry }
+{
+    match one {
+        NodeCall::Stat => matches!(other, NodeCall::Stat),
+        NodeCall::Readdir => matches!(other, NodeCall::Readdir),
+        NodeCall::Read(offset, count) => {
+            matches!(other, NodeCall::Read(from, most) if from == offset && most == count)
+        }
+        NodeCall::Write(offset, bytes) => {
+            matches!(other, NodeCall::Write(from, more) if from == offset && same_bytes(bytes, more))
+        }
+        NodeCall::Truncate(size) => matches!(other, NodeCall::Truncate(to) if to == size),
+    }
+}
+
+/// Whether the same is done to an entry.
+fn same_entry(one: EntryCall, other: EntryCall) -> bool
+    ensures { IsTrue result ↔ one ≡ other }
+{
+    one == other
+}
+
+/// Whether the same is done to two entries.
+fn same_pair(one: PairCall, other: PairCall) -> bool
+    ensures { IsTrue result ↔ one ≡ other }
+{
+    one == other
+}
+
+/// Whether what is looked at, and what is done there, are the same.
+fn same_target(one: Target<'_>, other: Target<'_>) -> bool
+    ensures { IsTrue result ↔ form_of one.entry ≡ form_of other.entry }
+{
+    match (one, other) {
+        (Target::Node(node, path), Target::Node(other_node, other_path)) => {
+            same_node(node, other_node) && same_path(path, other_path)
+        }
+        (Target::Entry(entry, path), Target::Entry(other_entry, other_path)) => {
+            same_entry(entry, other_entry) && same_path(path, other_path)
+        }
+        (Target::Pair(pair, from, to), Target::Pair(other_pair, other_from, other_to)) => {
+            same_pair(pair, other_pair) && same_path(from, other_from) && same_path(to, other_to)
+        }
+        (Target::Node(_, _) | Target::Entry(_, _) | Target::Pair(_, _, _), _) => false,
+    }
+}
+
 impl Call {
     /// What it looks at.
     pub fn target(&self) -> Target<'_>
@@ -119,5 +184,12 @@ impl Call {
             Target::Entry(entry, path) => Ok(on_entry(entry, path.copy(alloc)?)),
             Target::Pair(pair, from, to) => Ok(on_pair(pair, from.copy(alloc)?, to.copy(alloc)?)),
         }
+    }
+    /// Whether the other call is the same.
+    #[tactic(auto, using(crate::proofs::FormLemmas::same_call))]
+    pub fn same(&self, other: &Call) -> bool
+        ensures { IsTrue result ↔ self.now ≡ other.now }
+    {
+        same_target(self.target(), other.target())
     }
 }
