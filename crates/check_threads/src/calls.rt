@@ -42,26 +42,6 @@ pub fn is_before(first: Option<usize>, second: Option<usize>) -> bool {
     }
 }
 
-pub fn same_path(one: &Path, other: &Path) -> bool {
-    one.len() == other.len() && one.is_prefix_of(other)
-}
-
-fn same_call(one: &Call, other: &Call) -> bool {
-    match (one, other) {
-        (Call::Mkdir(p), Call::Mkdir(q)) => same_path(p, q),
-        (Call::Mknod(p), Call::Mknod(q)) => same_path(p, q),
-        (Call::Unlink(p), Call::Unlink(q)) => same_path(p, q),
-        (Call::Rmdir(p), Call::Rmdir(q)) => same_path(p, q),
-        (Call::Rename(p, r), Call::Rename(q, s)) => same_path(p, q) && same_path(r, s),
-        (Call::Stat(p), Call::Stat(q)) => same_path(p, q),
-        (Call::Readdir(p), Call::Readdir(q)) => same_path(p, q),
-        (Call::Read(p, a, b), Call::Read(q, c, d)) => same_path(p, q) && a == c && b == d,
-        (Call::Write(p, a, b), Call::Write(q, c, d)) => same_path(p, q) && a == c && b.same(d),
-        (Call::Truncate(p, a), Call::Truncate(q, c)) => same_path(p, q) && a == c,
-        _ => false,
-    }
-}
-
 /// Whether an answer is the reply of its own Return, and its Begin has the call that was handed in.
 pub fn fits(entries: &[Entry], call: &Call, answer: &Answer) -> bool {
     let mut begun = 0u64;
@@ -69,7 +49,7 @@ pub fn fits(entries: &[Entry], call: &Call, answer: &Answer) -> bool {
     for entry in entries {
         match entry {
             Entry::Begin(number, _, given) if *number == answer.call => {
-                begun = begun.wrapping_add(if same_call(given, call) { 1 } else { 100 });
+                begun = begun.wrapping_add(if given.same(call) { 1 } else { 100 });
             }
             Entry::Return(number, reply) if *number == answer.call => {
                 returned = returned.wrapping_add(if reply.same(&answer.reply) { 1 } else { 100 });

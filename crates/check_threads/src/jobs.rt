@@ -2,7 +2,7 @@
 
 ghost use Rattle.std.specs.Prelude.{◌≡◌, ◌^◌};
 
-use crate::calls::{fits, is_new, mknod, path, same_path};
+use crate::calls::{fits, is_new, mknod, path};
 use fs_calls::{Call, Errno, Reply};
 use fs_journal::check;
 use fs_pool::{Collected, Done, NotTaken, Pool};
@@ -48,7 +48,7 @@ fn submit_all<N: Named>(alloc: Global, pool: &mut Pool<N>) -> Option<bool> {
 fn hands_back<N: Named>(alloc: Global, pool: &mut Pool<N>) -> Option<bool> {
     let more = path(alloc, b"/more")?;
     match pool.submit(mknod(alloc, b"/more")?) {
-        Err(NotTaken::QueueFull(Call::Mknod(back))) => Some(same_path(&back, &more)),
+        Err(NotTaken::QueueFull(Call::Mknod(back))) => Some(back.same(&more)),
         _ => Some(false),
     }
 }
