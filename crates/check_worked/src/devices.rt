@@ -1,69 +1,10 @@
-//! Readers and writers that move one byte a call, and that fail after some bytes.
+//! Commands over readers and writers that move one byte a call, and that fail after some bytes.
 
 use crate::outcome::{Command, perform};
 use anyhow::{Result, ensure};
 use fs_sched::{Device, RunFault};
 use std::alloc::Global;
-use std::io::{self, Error, ErrorKind, Read, Write};
-
-/// A reader that gives one byte a call, and fails after some bytes.
-#[derive(Drop)]
-struct SlowReader<'a> {
-    bytes: &'a [u8],
-    good: usize,
-}
-
-impl<'a> Read for SlowReader<'a> {
-    fn read(&mut self, buffer: &mut [u8]) -> io::Result<usize> {
-        if self.good == 0 {
-            return Err(Error::from(ErrorKind::Other));
-        }
-        if buffer.is_empty() {
-            return Ok(0);
-        }
-        match self.bytes.split_first() {
-            None => Ok(0),
-            Some((first, rest)) => {
-                buffer[0] = *first;
-                self.bytes = rest;
-                self.good -= 1;
-                Ok(1)
-            }
-        }
-    }
-}
-
-/// A writer that takes one byte a call, and after some bytes fails, or takes nothing.
-#[derive(Drop)]
-struct SlowWriter {
-    bytes: Vec<u8>,
-    good: usize,
-    fails: bool,
-}
-
-impl Write for SlowWriter {
-    fn write(&mut self, piece: &[u8]) -> io::Result<usize> {
-        let Some(first) = piece.first() else {
-            return Ok(0);
-        };
-        if self.good == 0 {
-            return if self.fails {
-                Err(Error::from(ErrorKind::Other))
-            } else {
-                Ok(0)
-            };
-        }
-        if self.bytes.push(*first).is_err() {
-            return Err(Error::from(ErrorKind::OutOfMemory));
-        }
-        self.good -= 1;
-        Ok(1)
-    }
-
-    fn flush(&mut self) -> io::Result<()> {
-        Ok(())
-    }
-}
+use transcripts::{SlowReader, SlowWriter};
 
 /// A command, its input, and the text that it writes.
 #[derive(Clone, Copy)]
@@ -85,15 +26,8 @@ struct Done {
 impl<'a> OpValue<'a> {
     /// Does the command with so many good reads and writes.
     fn done(&self, alloc: Global, reads: usize, writes: usize, fails: bool) -> Done {
-        let mut reader = Device::new(SlowReader {
-            bytes: self.input,
-            good: reads,
-        });
-        let mut writer = Device::new(SlowWriter {
-            bytes: Vec::new(alloc),
-            good: writes,
-            fails,
-        });
+        let mut reader = Device::new(SlowReader::new(self.input, reads));
+        let mut writer = Device::new(SlowWriter::new(alloc, writes, fails));
         let answer = perform(alloc, &mut reader, &mut writer, self.command);
         Done {
             answer,
