@@ -3,7 +3,7 @@
 ghost use Rattle.std.specs.Prelude.{◌≡◌, ◌^◌};
 
 use crate::calls::{commit_place, is_before, mkdir, path, rename, return_place, stat};
-use crate::waiting::is_set;
+use crate::waiting::{TURNS, is_set, is_set_within};
 use fs_calls::{Call, Reply};
 use fs_core::Stepped;
 use fs_names::{Kind, Path};
@@ -18,21 +18,28 @@ use std::thread;
 use std::thread::Threads;
 use std::time::Clock;
 
-/// Holds its caller after it let so many nodes go, until the flag is set.
+/// Holds its caller after so many events, until the flag is set or the turns are over.
 #[derive(Drop)]
 struct Holds {
-    let_go: AtomicU64,
-    at: u64,
+    hold: Hold,
+    events: AtomicU64,
     stands: AtomicU64,
     flag: AtomicU64,
     found: AtomicU64,
 }
 
+/// After how many events a call is held, and for how many turns of a millisecond.
+#[derive(Clone, Copy)]
+pub struct Hold {
+    pub after: u64,
+    pub turns: u64,
+}
+
 impl Holds {
-    fn new(at: u64) -> Holds {
+    fn new(hold: Hold) -> Holds {
         Holds {
-            let_go: AtomicU64::new(0),
-            at,
+            hold,
+            events: AtomicU64::new(0),
             stands: AtomicU64::new(0),
             flag: AtomicU64::new(0),
             found: AtomicU64::new(0),
@@ -41,15 +48,12 @@ impl Holds {
 }
 
 impl Gate for Holds {
-    fn after<R: Wait + Clock>(&self, rt: &R, stepped: &Stepped) {
-        if !matches!(stepped, Stepped::LetGo(_)) {
-            return;
-        }
-        if self.let_go.fetch_add(1, Ordering::SeqCst).wrapping_add(1) != self.at {
+    fn after<R: Wait + Clock>(&self, rt: &R, _stepped: &Stepped) {
+        if self.events.fetch_add(1, Ordering::SeqCst).wrapping_add(1) != self.hold.after {
             return;
         }
         self.stands.store(1, Ordering::SeqCst);
-        if is_set(rt, &self.flag) {
+        if is_set_within(rt, &self.flag, self.hold.turns) {
             self.found.store(1, Ordering::SeqCst);
         }
     }
@@ -68,6 +72,19 @@ fn one<N: Named, R: Wait + Clock, G: Gate>(
     Some((answer, session.end()))
 }
 
+/// The call that is held. Where it has fewer events than it is held after, the other one begins behind it.
+fn held<N: Named, R: Wait + Clock>(
+    rt: &R,
+    alloc: Global,
+    fs: &AtomFs<N>,
+    call: &Call,
+    gate: &Holds,
+) -> Option<(Answer, Tally<N>)> {
+    let answer = one(rt, alloc, fs, call, gate);
+    gate.stands.store(1, Ordering::SeqCst);
+    answer
+}
+
 /// One call once the held caller stands, after which the caller is let go.
 fn other<N: Named, R: Wait + Clock>(
     rt: &R,
@@ -84,17 +101,18 @@ fn other<N: Named, R: Wait + Clock>(
     Some(answer)
 }
 
-/// What came of a held call and another one.
+/// What came of a held call and another one: whether it was held, and whether the other one returned meanwhile.
 #[derive(Drop)]
-struct Both {
-    held: Answer,
-    other: Answer,
-    found: bool,
-    closed: Closed,
+pub struct Both {
+    pub held: Answer,
+    pub other: Answer,
+    pub was_held: bool,
+    pub found: bool,
+    pub closed: Closed,
 }
 
-/// What a held call and another one were answered, whether the flag was found, and the tallies of all sessions.
-type Met<N> = (Answer, Answer, bool, Vec<Tally<N>>);
+/// What a held call and another one were answered, what the gate saw, and the tallies of all sessions.
+type Met<N> = (Answer, Answer, Holds, Vec<Tally<N>>);
 
 /// Makes the directories, then runs a call that is held and another one meanwhile.
 fn meet_on<N: Named + Send + Sync, R: Threads + Wait + Clock + Sync>(
@@ -102,8 +120,8 @@ fn meet_on<N: Named + Send + Sync, R: Threads + Wait + Clock + Sync>(
     alloc: Global,
     fs: &AtomFs<N>,
     made: &[Call],
-    calls: (Call, Call),
-    at: u64,
+    calls: (&Call, &Call),
+    hold: Hold,
 ) -> Option<Met<N>> {
     let mut session = fs.session(rt).ok()?;
     for call in made {
@@ -111,29 +129,29 @@ fn meet_on<N: Named + Send + Sync, R: Threads + Wait + Clock + Sync>(
     }
     let made = session.end();
     let (first, second) = calls;
-    let gate = Holds::new(at);
+    let gate = Holds::new(hold);
     let (a, b) = thread::join(
         rt,
-        || one(rt, alloc, fs, &first, &gate),
-        || other(rt, alloc, fs, &second, &gate),
+        || held(rt, alloc, fs, first, &gate),
+        || other(rt, alloc, fs, second, &gate),
     );
     let ((held, first), (other, second)) = (a?, b?);
     let mut tallies = Vec::new(alloc);
     tallies.push(made).ok()?;
     tallies.push(first).ok()?;
     tallies.push(second).ok()?;
-    Some((held, other, gate.found.load(Ordering::SeqCst) == 1, tallies))
+    Some((held, other, gate, tallies))
 }
 
 /// The same on a tree of its own.
-fn meet<N: Named + Send + Sync, R: Threads + Wait + Clock + Sync>(
+fn meet_named<N: Named + Send + Sync, R: Threads + Wait + Clock + Sync>(
     rt: &R,
     alloc: Global,
     opened: Opened,
     blank: Blank,
     made: &[Call],
-    calls: (Call, Call),
-    at: u64,
+    calls: (&Call, &Call),
+    hold: Hold,
 ) -> Option<Both>
     requires book { opened ≡ N.book }
     requires name { blank.name ≡ N.name }
@@ -141,32 +159,48 @@ fn meet<N: Named + Send + Sync, R: Threads + Wait + Clock + Sync>(
     requires all { blank.parts ≡ 2 ^ 63 }
 {
     let fs = AtomFs::<N>::open(rt, alloc, opened, blank).ok()?;
-    let Some((held, other, found, tallies)) = meet_on(rt, alloc, &fs, made, calls, at) else {
+    let Some((held, other, gate, tallies)) = meet_on(rt, alloc, &fs, made, calls, hold) else {
         let _closed = fs.close(rt, Vec::new(alloc));
         return None;
     };
     Some(Both {
         held,
         other,
-        found,
+        was_held: gate.events.load(Ordering::SeqCst) >= hold.after,
+        found: gate.found.load(Ordering::SeqCst) == 1,
         closed: fs.close(rt, tallies),
     })
+}
+
+/// On a tree that some calls made, a call is held by its gate, and another one begins meanwhile.
+pub fn meet<R: Threads + Wait + Clock + Sync>(
+    rt: &R,
+    alloc: Global,
+    made: &[Call],
+    calls: (&Call, &Call),
+    hold: Hold,
+) -> Option<Both> {
+    meet_named::<Brand, R>(
+        rt,
+        alloc,
+        Opened::new(),
+        Blank::new(1 << 63),
+        made,
+        calls,
+        hold,
+    )
 }
 
 fn overlap<R: Threads + Wait + Clock + Sync>(rt: &R, alloc: Global) -> Option<Both> {
     let mut made = Vec::new(alloc);
     made.push(mkdir(alloc, b"/a")?).ok()?;
     made.push(mkdir(alloc, b"/b")?).ok()?;
-    let calls = (mkdir(alloc, b"/a/x")?, stat(alloc, b"/b")?);
-    meet::<Brand, R>(
-        rt,
-        alloc,
-        Opened::new(),
-        Blank::new(1 << 63),
-        &made,
-        calls,
-        1,
-    )
+    let hold = Hold {
+        after: 3,
+        turns: TURNS,
+    };
+    let calls = (&mkdir(alloc, b"/a/x")?, &stat(alloc, b"/b")?);
+    meet(rt, alloc, &made, calls, hold)
 }
 
 /// Whether a call that is held lets another one return before it commits.
@@ -189,16 +223,12 @@ fn helped<R: Threads + Wait + Clock + Sync>(rt: &R, alloc: Global) -> Option<Bot
     let mut made = Vec::new(alloc);
     made.push(mkdir(alloc, b"/a")?).ok()?;
     made.push(mkdir(alloc, b"/a/d")?).ok()?;
-    let calls = (mkdir(alloc, b"/a/d/x")?, rename(alloc, b"/a", b"/b")?);
-    meet::<Brand, R>(
-        rt,
-        alloc,
-        Opened::new(),
-        Blank::new(1 << 63),
-        &made,
-        calls,
-        2,
-    )
+    let hold = Hold {
+        after: 5,
+        turns: TURNS,
+    };
+    let calls = (&mkdir(alloc, b"/a/d/x")?, &rename(alloc, b"/a", b"/b")?);
+    meet(rt, alloc, &made, calls, hold)
 }
 
 /// Whether a path leads from the root to a directory.

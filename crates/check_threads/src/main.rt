@@ -10,10 +10,17 @@ mod faults;
 mod held;
 mod jobs;
 mod long;
+mod parked;
 mod scripts;
 mod shared;
 mod waiting;
 mod walking;
+
+use parked::{Beside, WORDS, events_beside};
+use std::alloc::Global;
+use std::sync::Wait;
+use std::thread::Threads;
+use std::time::Clock;
 
 fn say(rt: &impl Print, what: &str, holds: Option<bool>) -> std::io::Result<()> {
     match holds {
@@ -21,6 +28,25 @@ fn say(rt: &impl Print, what: &str, holds: Option<bool>) -> std::io::Result<()> 
         Some(false) => println!(rt; "{what}: no"),
         None => println!(rt; "{what}: not run"),
     }
+}
+
+/// Calls of each kind, held after each of their events.
+fn say_parked<R: Print + Threads + Wait + Clock + Sync>(
+    rt: &R,
+    alloc: Global,
+    beside: Beside,
+    what: &str,
+) -> std::io::Result<()> {
+    for kind in 0..WORDS.len() {
+        let word = WORDS[kind];
+        match events_beside(rt, alloc, kind, beside) {
+            Some(events) => println!(rt;
+                "{word}, held after each of {events} events, {what}: yes"
+            )?,
+            None => println!(rt; "{word}, {what}: no")?,
+        }
+    }
+    Ok(())
 }
 
 fn main(rt: HostRuntime) -> anyhow::Result<()> {
@@ -35,6 +61,18 @@ fn main(rt: HostRuntime) -> anyhow::Result<()> {
     say(&rt, "a held call lets another one return", overlap)?;
     let helped = held::rename_helps(&rt, alloc);
     say(&rt, "a rename helps a held call", helped)?;
+    say_parked(
+        &rt,
+        alloc,
+        Beside::Move,
+        "beside the move of the directory above",
+    )?;
+    say_parked(
+        &rt,
+        alloc,
+        Beside::Removal,
+        "beside a removal of what it is at",
+    )?;
     let lists = shared::lists_meet(&rt, alloc);
     say(&rt, "two lists run side by side", lists)?;
     let pools = shared::jobs_meet(&rt, alloc);

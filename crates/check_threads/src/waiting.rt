@@ -5,11 +5,16 @@ use std::thread;
 use std::time::{Clock, Duration};
 
 /// The most turns of a millisecond.
-const TURNS: u64 = 10_000;
+pub const TURNS: u64 = 10_000;
 
 /// Waits until a flag is set, and tells whether it was.
 pub fn is_set<R: Clock>(rt: &R, flag: &AtomicU64) -> bool {
-    for _ in 0..TURNS {
+    is_set_within(rt, flag, TURNS)
+}
+
+/// Waits for so many turns.
+pub fn is_set_within<R: Clock>(rt: &R, flag: &AtomicU64, turns: u64) -> bool {
+    for _ in 0..turns {
         if flag.load(Ordering::SeqCst) == 1 {
             return true;
         }
