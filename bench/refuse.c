@@ -1,11 +1,16 @@
 /* An allocator that refuses one growth: loaded before the C library, it answers NULL at the call of malloc or realloc
-   that the environment's REFUSE names, counted from 1, and writes to the file REFUSE_COUNT how many there were. */
+   that the environment's REFUSE names, counted from 1, and writes to the file REFUSE_COUNT how many there were: at the
+   end of main, and at _exit, by which a program ends that tells a status or has run threads. */
 #define _GNU_SOURCE
 #include <dlfcn.h>
+#include <stdatomic.h>
 #include <stdio.h>
 #include <stdlib.h>
+#include <sys/syscall.h>
+#include <unistd.h>
 
-static long calls, refused;
+static atomic_long calls;
+static long refused;
 static void *(*real_malloc)(size_t);
 static void *(*real_realloc)(void *, size_t);
 
@@ -31,10 +36,16 @@ void *realloc(void *block, size_t size) {
 
 __attribute__((destructor)) static void end(void) {
     const char *path = getenv("REFUSE_COUNT");
-    long all = calls;
+    long all = atomic_load(&calls);
     FILE *file = path ? fopen(path, "w") : NULL;
     if (file) {
         fprintf(file, "%ld\n", all);
         fclose(file);
     }
+}
+
+void _exit(int status) {
+    end();
+    syscall(SYS_exit_group, status);
+    __builtin_unreachable();
 }

@@ -1,0 +1,61 @@
+//! What allocates, done once more where memory was refused.
+
+use fs_calls::{Call, Reply};
+use fs_names::Path;
+use fs_pool::{JobNo, NotTaken, Pool};
+use fs_share::{Answer, Named, Observer, Open, Session, Told};
+use std::alloc::{AllocError, Global};
+use std::sync::Wait;
+use std::time::Clock;
+
+pub fn path(alloc: Global, text: &[u8]) -> Option<Path> {
+    match Path::parse(alloc, text) {
+        Ok(path) => Some(path),
+        Err(_) => Path::parse(alloc, text).ok(),
+    }
+}
+
+/// A session's call.
+pub fn call<N: Named, R: Wait + Clock>(
+    rt: &R,
+    alloc: Global,
+    session: &mut Session<'_, N>,
+    call: &Call,
+) -> Option<Answer> {
+    match session.call(rt, alloc, call, &Open) {
+        Ok(answer) => Some(answer),
+        Err(_) => session.call(rt, alloc, call, &Open).ok(),
+    }
+}
+
+/// A session's told call.
+pub fn told<N: Named, R: Wait + Clock>(
+    rt: &R,
+    alloc: Global,
+    session: &mut Session<'_, N>,
+    call: &Call,
+) -> Option<Told<N>> {
+    match session.call_told(rt, alloc, call, &Open) {
+        Ok(told) => Some(told),
+        Err(_) => session.call_told(rt, alloc, call, &Open).ok(),
+    }
+}
+
+/// The names of a directory, by an observer, which shows as many commits after a refusal as before.
+pub fn readdir<N: Named>(alloc: Global, observer: &mut Observer<N>, path: &Path) -> Option<Reply> {
+    let shown = observer.count();
+    match observer.readdir(alloc, path) {
+        Ok(reply) => Some(reply),
+        Err(AllocError) if observer.count() == shown => observer.readdir(alloc, path).ok(),
+        Err(AllocError) => None,
+    }
+}
+
+/// A job that is submitted: a refusal hands the call back.
+pub fn submit<N: Named>(pool: &mut Pool<N>, call: Call) -> Option<JobNo> {
+    match pool.submit(call) {
+        Ok(number) => Some(number),
+        Err(NotTaken::OutOfMemory(call)) => pool.submit(call).ok(),
+        Err(NotTaken::QueueFull(_)) => None,
+    }
+}

@@ -1,0 +1,197 @@
+//! Sessions, told calls, observers and jobs on a tree that is shared.
+
+ghost use Rattle.std.specs.Prelude.{◌≡◌, ◌^◌};
+
+use crate::again::{call, path, readdir, submit, told};
+use fs_calls::{Call, Reply};
+use fs_pool::Pool;
+use fs_share::{AtomFs, Closed, Named, Observer, Open, Opened, Session, Stamp, Tally};
+use std::alloc::Global;
+use std::marker::Brand;
+use std::sync::Wait;
+use std::sync::ledger::Blank;
+use std::thread::Threads;
+use std::time::Clock;
+
+/// What was seen on a shared tree.
+#[derive(Drop)]
+pub struct Seen {
+    /// How many calls a session had answered.
+    pub answered: usize,
+    /// How many names an observer shows who was told.
+    pub shown: usize,
+    /// The numbers of the jobs.
+    pub numbers: (u64, u64),
+    /// How many jobs were done or are left.
+    pub jobs: usize,
+}
+
+/// A session, asked for once more where it was refused.
+fn session<'a, N: Named, R: Wait>(rt: &R, fs: &'a AtomFs<N>) -> Option<Session<'a, N>> {
+    match fs.session(rt) {
+        Ok(session) => Some(session),
+        Err(_) => fs.session(rt).ok(),
+    }
+}
+
+/// An observer, asked for once more where it was refused.
+fn observer<N: Named, R: Wait>(rt: &R, fs: &AtomFs<N>) -> Option<Observer<N>> {
+    match fs.observer(rt) {
+        Ok(observer) => Some(observer),
+        Err(_) => fs.observer(rt).ok(),
+    }
+}
+
+/// How many calls are answered.
+fn answers<N: Named, R: Wait + Clock>(
+    rt: &R,
+    alloc: Global,
+    session: &mut Session<'_, N>,
+    calls: &[Call],
+) -> Option<usize> {
+    let mut answered = 0usize;
+    for each in calls {
+        let _answer = call(rt, alloc, session, each)?;
+        answered = answered.wrapping_add(1);
+    }
+    Some(answered)
+}
+
+/// The stamp of a told call.
+fn stamp_of<N: Named, R: Wait + Clock>(
+    rt: &R,
+    alloc: Global,
+    session: &mut Session<'_, N>,
+    call: &Call,
+) -> Option<Stamp<N>> {
+    let told = told(rt, alloc, session, call)?;
+    told.stamp
+}
+
+/// The stamp of the last of told calls. Where it has none, the stamp of a further one tells of it too.
+fn newest<N: Named, R: Wait + Clock>(
+    rt: &R,
+    alloc: Global,
+    session: &mut Session<'_, N>,
+    calls: &[Call],
+) -> Option<Stamp<N>> {
+    for each in calls {
+        let _stamp = stamp_of(rt, alloc, session, each);
+    }
+    let last = calls.last()?;
+    match stamp_of(rt, alloc, session, last) {
+        Some(stamp) => Some(stamp),
+        None => stamp_of(rt, alloc, session, last),
+    }
+}
+
+/// How many names an observer shows at the root who learns of told calls.
+fn shown<N: Named, R: Wait + Clock>(
+    rt: &R,
+    alloc: Global,
+    fs: &AtomFs<N>,
+    stamp: &Stamp<N>,
+) -> Option<usize> {
+    let root = path(alloc, b"/")?;
+    let mut observer = observer(rt, fs)?;
+    observer.learn(stamp);
+    match readdir(alloc, &mut observer, &root)? {
+        Reply::Names(names) => Some(names.as_slice().len()),
+        _ => None,
+    }
+}
+
+/// The numbers of two jobs, how many are done or left, and the tallies of their workers. A worker that finds no memory for
+/// an answer stops, and leaves its job to the second run.
+fn jobs<N: Named + Send + Sync, R: Threads + Wait + Clock + Sync>(
+    rt: &R,
+    alloc: Global,
+    fs: &AtomFs<N>,
+) -> Option<((u64, u64), usize, Vec<Tally<N>>)> {
+    let calls = (
+        Call::Stat(path(alloc, b"/a")?),
+        Call::Stat(path(alloc, b"/c")?),
+    );
+    let mut pool = match Pool::<N>::new(rt, alloc, 2) {
+        Ok(pool) => pool,
+        Err(_) => Pool::<N>::new(rt, alloc, 2).ok()?,
+    };
+    let first = submit(&mut pool, calls.0)?;
+    let second = submit(&mut pool, calls.1)?;
+    let _first = pool.run(rt, alloc, fs, 1, &Open);
+    let _second = pool.run(rt, alloc, fs, 1, &Open);
+    let collected = pool.collect();
+    let count = collected.done.len().wrapping_add(collected.left.len());
+    Some(((first.get(), second.get()), count, collected.tallies))
+}
+
+/// What is seen on a tree, by one session after the other.
+fn on<N: Named + Send + Sync, R: Threads + Wait + Clock + Sync>(
+    rt: &R,
+    alloc: Global,
+    fs: &AtomFs<N>,
+    calls: &[Call],
+    told: &[Call],
+) -> Option<(Seen, Vec<Tally<N>>)> {
+    let mut session = session(rt, fs)?;
+    let answered = answers(rt, alloc, &mut session, calls)?;
+    let stamp = newest(rt, alloc, &mut session, told)?;
+    let shown = shown(rt, alloc, fs, &stamp)?;
+    let (numbers, jobs, mut tallies) = jobs(rt, alloc, fs)?;
+    if tallies.reserve(1).is_err() {
+        tallies.reserve(1).ok()?;
+    }
+    tallies.push(session.end()).ok()?;
+    let seen = Seen {
+        answered,
+        shown,
+        numbers,
+        jobs,
+    };
+    Some((seen, tallies))
+}
+
+/// The same on a tree of a name, which is closed; none where the tree was refused.
+fn on_named<N: Named + Send + Sync, R: Threads + Wait + Clock + Sync>(
+    rt: &R,
+    alloc: Global,
+    opened: Opened,
+    blank: Blank,
+    calls: &[Call],
+    told: &[Call],
+) -> Option<Option<(Seen, Closed)>>
+    requires book { opened ≡ N.book }
+    requires name { blank.name ≡ N.name }
+    requires parts { blank.parts ≡ N.parts }
+    requires all { blank.parts ≡ 2 ^ 63 }
+{
+    let fs = AtomFs::<N>::open(rt, alloc, opened, blank).ok()?;
+    let Some((seen, tallies)) = on(rt, alloc, &fs, calls, told) else {
+        let _closed = fs.close(rt, Vec::new(alloc));
+        return Some(None);
+    };
+    Some(Some((seen, fs.close(rt, tallies))))
+}
+
+/// The same on a tree of its own; none where the tree was refused.
+fn once<R: Threads + Wait + Clock + Sync>(
+    rt: &R,
+    alloc: Global,
+    calls: &[Call],
+    told: &[Call],
+) -> Option<Option<(Seen, Closed)>> {
+    on_named::<Brand, R>(rt, alloc, Opened::new(), Blank::new(1 << 63), calls, told)
+}
+
+/// What is seen on a tree, and what stands when it was closed.
+pub fn on_tree<R: Threads + Wait + Clock + Sync>(
+    rt: &R,
+    alloc: Global,
+    calls: &[Call],
+    told: &[Call],
+) -> Option<(Seen, Closed)> {
+    match once(rt, alloc, calls, told) {
+        Some(came) => came,
+        None => once(rt, alloc, calls, told)?,
+    }
+}
