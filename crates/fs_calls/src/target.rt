@@ -185,6 +185,7 @@ impl Call {
             Target::Pair(pair, from, to) => Ok(on_pair(pair, from.copy(alloc)?, to.copy(alloc)?)),
         }
     }
+
     /// Whether the other call is the same.
     #[tactic(auto, using(crate::proofs::FormLemmas::same_call))]
     pub fn same(&self, other: &Call) -> bool
