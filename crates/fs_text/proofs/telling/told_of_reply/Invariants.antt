@@ -1,7 +1,7 @@
 use Rattle.std.proofs.Common.{take}
 use Rattle.std.specs.List.{AllByRecursion}
 use Rattle.fs_text.specs.Fits.{IsName}
-use Rattle.fs_text.proofs.telling.told_of_names.Given as goal
+use Rattle.fs_text.proofs.telling.told_of_reply.Given as goal
 
 abbrev pub invariant-loop-name : goal.invariant-loop-name
-invariant-loop-name l = AllByRecursion IsName (take l.name-index l.names)
+invariant-loop-name l = AllByRecursion IsName (take l.name-index l.list)
