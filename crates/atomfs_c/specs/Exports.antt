@@ -1,7 +1,7 @@
 -- What exports say of the core behind a handle, and of the bytes that a caller gives.
 use Rattle.std.specs.Prelude.{◌≡◌, ◌<◌, ◌≤◌, ℕ, Result, Ok, Err, List, Option, Some, None, IsSome, IsSomeAnd, IfSome, length}
 use Rattle.fs_calls.specs.Outcomes.{play}
-use Rattle.fs_calls.specs.Shapes.{tree_shapes}
+use Rattle.fs_calls.specs.Sights.{tree_shapes}
 use Rattle.fs_nodes.specs.Graphs.{graph_shapes}
 use Rattle.fs_nodes.specs.Stores.{graph_of}
 use Rattle.fs_timeline.specs.Timeline as timeline

@@ -8,7 +8,7 @@ use Rattle.fs_names.specs.declared.limits.TheConstants.{FILE_LIMIT}
 use Rattle.fs_names.proofs.FailureLemmas.{or_else-none, check-none}
 use Rattle.fs_calls.specs.Tree as tree
 use Rattle.fs_calls.specs.Tree.{Tree, Node, look, names_in, IsTree}
-use Rattle.fs_calls.specs.Shapes.{tree_shapes, shape_of, is_there, is_missing, is_dir, is_file, has_entries, has_any, is_full}
+use Rattle.fs_calls.specs.Sights.{tree_shapes, shape_of, is_there, is_missing, is_dir, is_file, has_entries, has_any, is_full}
 use Rattle.fs_calls.proofs.RowNames.{making}
 use Rattle.fs_calls.specs.Forms.{form, by_text}
 use Rattle.fs_calls.specs.Rows.{place_errors, has_room}

@@ -3,8 +3,7 @@ use Rattle.std.proofs.Common.{◌≡◌, ◌≢◌, ◌↔◌, Bool, true, false
 use Rattle.std.specs.Ordering.{is_eq, ordering_then}
 use Rattle.std.proofs.lemmas.Cmp.{tied_itself}
 use Rattle.fs_names.specs.Names.{Name, name_cmp, same_name}
-use Rattle.fs_names.specs.Keys.{Key, same_key, after_prefix, is_root, is_proper_prefix, has_more, parent_of, last_of}
-use Rattle.fs_names.specs.Parts.{is_end}
+use Rattle.fs_names.specs.Keys.{Key, same_key, after_prefix, is_root, is_proper_prefix, has_more, parent_of, last_of, is_end}
 use Rattle.fs_calls.specs.Sights.{is_same}
 use Rattle.fs_names.proofs.Lemmas.{name_total, same_name_refl, after_prefix-exact, after_prefix-append}
 use Rattle.fs_calls.proofs.LookLemmas.{same_key_exact, same_key_refl}

@@ -9,7 +9,7 @@ use Rattle.fs_names.proofs.FailureLemmas.{or_else-none, check-none}
 use Rattle.fs_names.proofs.Lemmas.{after_prefix-exact, after_prefix-append}
 use Rattle.fs_calls.specs.Tree as tree
 use Rattle.fs_calls.specs.Tree.{Tree, Node, look, names_in, name_in, only_name, with_name, IsTree}
-use Rattle.fs_calls.specs.Shapes.{tree_shapes, shape_of, is_missing, is_file, has_any}
+use Rattle.fs_calls.specs.Sights.{tree_shapes, shape_of, is_missing, is_file, has_any}
 use Rattle.fs_calls.specs.Outcomes.{resolution, parents_resolution}
 use Rattle.fs_calls.specs.Laws.{HasDirectoriesAbove}
 use Rattle.fs_calls.specs.declared.errno.Errno.{Errno}

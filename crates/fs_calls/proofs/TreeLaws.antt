@@ -5,7 +5,7 @@ use Rattle.fs_names.specs.Names.{Name}
 use Rattle.fs_names.specs.Keys.{Key, same_key, is_root, after_prefix}
 use Rattle.fs_names.proofs.Lemmas.{after_prefix-exact, after_prefix-append}
 use Rattle.fs_calls.specs.Tree.{Tree, Node, Dir, File, look, root_tree, inserted, removed, renamed, IsTree}
-use Rattle.fs_calls.specs.Shapes.{tree_shapes, has_any, bytes_of}
+use Rattle.fs_calls.specs.Sights.{tree_shapes, has_any, bytes_of}
 use Rattle.fs_calls.specs.Outcomes.{fault, after, change, if_sound, filled, play, play_from}
 use Rattle.fs_calls.specs.Rows.{written, resized}
 use Rattle.fs_calls.specs.Laws.{StaysATree, PlayedTreesAreTrees, SameTrees, IsMoved, RenamesMove}

@@ -1,5 +1,4 @@
 pub mod Tree
-pub mod Shapes
 pub mod Forms
 pub mod Rows
 pub mod Sights

@@ -4,7 +4,7 @@ use Rattle.fs_names.specs.Failures.{or_else}
 use Rattle.fs_names.specs.Keys.{Key, parent_of}
 use Rattle.fs_calls.specs.Tree as tree
 use Rattle.fs_calls.specs.Tree.{Tree, Node, root_tree, inserted, removed, renamed}
-use Rattle.fs_calls.specs.Shapes.{Shape, Dir, File, tree_shapes}
+use Rattle.fs_calls.specs.Sights.{Shape, Dir, File, tree_shapes}
 use Rattle.fs_calls.specs.Sights.{resolve, resolve_dir, is_same, row_in}
 use Rattle.fs_calls.specs.Forms.{form, by_text, new_shape, Form, AtNode, AtEntry, AtPair}
 use Rattle.fs_calls.specs.declared.target.PairCall.TheVariants as pairs

@@ -1,8 +1,9 @@
--- Resolution of paths where it is told what stands at each key, and the rows read there.
+-- What stands at each key of a tree, resolution of paths there, and the rows read there.
 use Rattle.std.specs.Prelude.{Bool, List, [], ◌∷◌, Option, Some, None}
-use Rattle.fs_names.specs.Keys.{Key, after_prefix, parent_of}
-use Rattle.fs_names.specs.Parts.{is_end}
-use Rattle.fs_names.specs.Shapes.{Shape, Dir, File, is_full}
+use Rattle.fs_names.specs.Keys.{Key, after_prefix, parent_of, is_end}
+pub use Rattle.fs_names.specs.Shapes.{Shape, Dir, File, is_there, is_missing, is_dir, is_file, names_of, bytes_of, has_any, has_entries, is_full}
+use Rattle.fs_calls.specs.Tree as tree
+use Rattle.fs_calls.specs.Tree.{Tree, Node, look, names_in}
 use Rattle.fs_calls.specs.Forms.{Form, AtNode, AtEntry, AtPair}
 use Rattle.fs_calls.specs.declared.target.PairCall.TheVariants as pairs
 use Rattle.fs_calls.specs.Rows.{as_dir, node_fault, entry_fault, rename_fault, has_room}
@@ -12,6 +13,16 @@ use Rattle.fs_calls.specs.declared.errno.Errno.TheVariants.{Enoent, Enotdir}
 -- what stands at each key
 abbrev pub Sight : Type 0
 Sight = Key → Option Shape
+
+-- a node at a key: a directory with its names, or a file with its bytes
+abbrev pub shape_of : Tree → Key → Option Node → Option Shape
+shape_of t k None = None
+shape_of t k (Some tree.Dir) = Some (Dir (names_in t k))
+shape_of t k (Some (tree.File bytes)) = Some (File bytes)
+
+-- the sight of a tree
+abbrev pub tree_shapes : Tree → Sight
+tree_shapes t k = shape_of t k (look t k)
 
 -- the first name, by what stands at the directory and at the name; then the rest
 abbrev pub resolve_next : Option Shape → Option Shape → Option Errno → Option Errno

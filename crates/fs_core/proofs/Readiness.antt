@@ -11,17 +11,16 @@ use Rattle.fs_calls.specs.declared.target.EntryCall.{EntryCall}
 use Rattle.fs_calls.specs.declared.target.EntryCall.TheVariants.{Mkdir, Mknod, Unlink, Rmdir}
 use Rattle.fs_calls.specs.declared.call.Call.{Call}
 use Rattle.fs_nodes.specs.Graphs.{Graph, IsGraph, set_at, reserved_in, released_in, empty_graph}
-use Rattle.fs_nodes.specs.Places.{Places}
+use Rattle.fs_nodes.specs.Stores.{Places}
 use Rattle.fs_nodes.specs.Seen.{seen}
 use Rattle.fs_nodes.specs.Stores.{graph_of}
 use Rattle.fs_locks.specs.Holding.{Holding, holder, room}
 use Rattle.fs_locks.specs.declared.word.TheConstants.{CALL_LIMIT}
-use Rattle.fs_timeline.specs.TimelineValues.{TimelineValue}
 use Rattle.fs_timeline.specs.declared.entry.Entry.{Entry}
 use Rattle.fs_timeline.specs.declared.entry.Entry.TheVariants.{Begin, Commit, Return}
 use Rattle.fs_machine.specs.Leaving.{unreserved}
 use Rattle.fs_machine.specs.OpValues.{OpValue, new_value, record_of, BegunAs, IsSpare, SpareIf}
-use Rattle.fs_timeline.specs.Timeline.{begins}
+use Rattle.fs_timeline.specs.Timeline.{begins, TimelineValue}
 use Rattle.fs_machine.specs.States.{empty, began, Reserves, Begins, Run, Start, Beginning}
 use Rattle.fs_machine.specs.declared.answers.Refusal.TheVariants.{SeatBusy}
 use Rattle.fs_laws.proofs.states.Agreement.{not_begun}

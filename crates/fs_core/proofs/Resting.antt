@@ -1,7 +1,7 @@
 -- A core at rest has no call under way, by seats and by numbers.
 use Rattle.std.proofs.Common.{◌≡◌, ℕ, suc, ◌+◌, List, [], ◌∷◌, Option, Some, None, refl}
 use Rattle.fs_calls.specs.Outcomes.{play}
-use Rattle.fs_calls.specs.Shapes.{tree_shapes}
+use Rattle.fs_calls.specs.Sights.{tree_shapes}
 use Rattle.fs_nodes.specs.Graphs.{graph_shapes}
 use Rattle.fs_nodes.specs.Stores.{graph_of}
 use Rattle.fs_timeline.specs.Timeline.{commits}

@@ -5,7 +5,7 @@ use Rattle.std.proofs.lemmas.Option.{slice_get_within}
 use Rattle.fs_calls.specs.declared.reply.Reply.{Reply}
 use Rattle.fs_names.specs.Shapes.{Shape}
 use Rattle.fs_nodes.specs.Graphs.{Graph, set_at, released_in}
-use Rattle.fs_nodes.specs.Places.{Places}
+use Rattle.fs_nodes.specs.Stores.{Places}
 use Rattle.fs_nodes.specs.Seen.{seen}
 use Rattle.fs_nodes.specs.Stores.{graph_of}
 use Rattle.fs_locks.specs.Holding as holders

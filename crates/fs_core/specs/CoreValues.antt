@@ -1,10 +1,10 @@
 -- What a core is to its callers, and the state of the machine that it is.
 use Rattle.std.specs.Prelude.{ℕ, ◌≡◌, ◌+◌, eqb, if◌then◌else◌, List, [], ◌∷◌, Option, Some, None, slice_get}
 use Rattle.std.specs.Option.{option_flatten}
-use Rattle.fs_nodes.specs.Places.{Places}
+use Rattle.fs_nodes.specs.Stores.{Places}
 use Rattle.fs_nodes.specs.Seen.{seen}
 use Rattle.fs_nodes.specs.Stores.{graph_of}
-use Rattle.fs_locks.specs.Holding.{Holding, holder}
+use Rattle.fs_locks.specs.Holding.{holder}
 use Rattle.fs_timeline.specs.declared.entry.Entry.{Entry}
 use Rattle.fs_machine.specs.Records.{Record, Records}
 use Rattle.fs_machine.specs.OpValues.{record_of}
@@ -14,7 +14,7 @@ use Rattle.fs_core.specs.declared.seat.Running.{Running}
 -- the nodes, who holds them, the call under way on each seat, the entries so far
 pub record CoreValue : Type 0 where
   pub store : Places
-  pub holding : Holding
+  pub holding : List (Option ℕ)
   pub seats : List (Option Running)
   pub timeline : List Entry
 

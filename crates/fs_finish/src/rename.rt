@@ -1,8 +1,7 @@
 //! How a rename finishes at its two directories.
 
 ghost use Rattle.std.specs.Prelude.{◌≡◌, ◌||◌, Bool, ℕ, List, not, true, false, None, Some, IfSome, IsSome, IsTrue};
-ghost use Rattle.fs_names.specs.Keys.{after_prefix, is_proper_prefix, parent_of};
-ghost use Rattle.fs_names.specs.Parts.{is_end};
+ghost use Rattle.fs_names.specs.Keys.{after_prefix, is_proper_prefix, parent_of, is_end};
 ghost use Rattle.fs_names.specs.Shapes.{Shape, is_dir, has_entries, is_full};
 ghost use Rattle.fs_nodes.specs.Graphs.{entry_shape, moved_in, IsReached};
 ghost use Rattle.fs_nodes.specs.Seen.{seen};

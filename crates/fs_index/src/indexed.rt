@@ -24,7 +24,7 @@ pub struct IndexedTimeline {
 
 impl Model for IndexedTimeline {
     ghost use Rattle.std.specs.Prelude.{◌≡◌, ◌+◌, ◌≤◌, vec_len, vec_capacity};
-    ghost use Rattle.fs_timeline.specs.TimelineValues.{TimelineValue};
+    ghost use Rattle.fs_timeline.specs.Timeline.{TimelineValue};
     ghost use Rattle.fs_index.specs.code.Indexed.{IsIndex};
 
     ghost Value = { TimelineValue };

@@ -6,7 +6,7 @@ use Rattle.fs_calls.specs.Forms.{form, Form, Fits}
 use Rattle.fs_laws.specs.Maps.{Map}
 use Rattle.fs_laws.specs.Changes.{Change, outcome, changed, reply, after}
 use Rattle.fs_calls.specs.Outcomes as tree
-use Rattle.fs_calls.specs.Shapes.{tree_shapes}
+use Rattle.fs_calls.specs.Sights.{tree_shapes}
 use Rattle.fs_calls.specs.Tree.{Tree, IsTree}
 use Rattle.fs_calls.specs.declared.call.Call.{Call}
 use Rattle.fs_laws.specs.Below.{NoWalkingBelow, NoLaterBelow, NobodyBetween, Settles, PlacesAreCounted, NeverWaitsToFinish, HelpsAreFew}

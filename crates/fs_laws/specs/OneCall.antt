@@ -1,7 +1,7 @@
 -- A call that is begun with no other under way, and stepped to its end.
 use Rattle.std.specs.Prelude.{ℕ, ◌≡◌, Ok}
 use Rattle.fs_calls.specs.Outcomes as outcomes
-use Rattle.fs_calls.specs.Shapes.{tree_shapes}
+use Rattle.fs_calls.specs.Sights.{tree_shapes}
 use Rattle.fs_calls.specs.Tree.{Tree, IsTree}
 use Rattle.fs_calls.specs.declared.call.Call.{Call}
 use Rattle.fs_calls.specs.declared.reply.Reply.{Reply}

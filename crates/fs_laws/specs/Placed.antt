@@ -1,7 +1,6 @@
 -- Placed calls, and the change of a call that goes past them.
 use Rattle.std.specs.Prelude.{◌≡◌, Bool, true, false, not, ◌&&◌, List, [], ◌∷◌, ◌++◌, Option, Some, None, ◌⊎◌}
-use Rattle.fs_names.specs.Keys.{Key, after_prefix, has_more, parent_of}
-use Rattle.fs_names.specs.Parts.{is_end}
+use Rattle.fs_names.specs.Keys.{Key, after_prefix, has_more, parent_of, is_end}
 use Rattle.fs_names.specs.Shapes.{Shape, Dir, File}
 use Rattle.fs_laws.specs.Changes.{Change, resolve, resolve_dir, outcome, after}
 use Rattle.fs_calls.specs.Forms.{Form, AtNode, AtEntry, AtPair, Fits}

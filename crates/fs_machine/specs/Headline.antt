@@ -1,7 +1,7 @@
 -- The linearization theorem.
 use Rattle.std.specs.Prelude.{ℕ, ◌≡◌, None}
 use Rattle.fs_nodes.specs.Graphs.{graph_shapes}
-use Rattle.fs_calls.specs.Shapes.{tree_shapes}
+use Rattle.fs_calls.specs.Sights.{tree_shapes}
 use Rattle.fs_calls.specs.Outcomes as tree
 use Rattle.fs_timeline.specs.Timeline as journal
 use Rattle.fs_machine.specs.States.{State}

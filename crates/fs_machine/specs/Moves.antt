@@ -2,9 +2,9 @@
 -- The moves are those of `src/moves.rt`, read here as sentences: a call takes a node, leaves one, finishes, ends.
 -- A number of a move is that of the table in `docs/MACHINE.md`.
 use Rattle.std.specs.Prelude.{ℕ, Bool, true, false, not, ◌&&◌, ◌||◌, [], ◌∷◌, ◌++◌, Option, Some, None}
-use Rattle.fs_names.specs.Keys.{Key, after_prefix, has_more, parent_of, last_of}
+use Rattle.fs_names.specs.Keys.{Key, after_prefix, has_more, parent_of, last_of, is_end}
 use Rattle.fs_names.specs.Names.{Name}
-use Rattle.fs_names.specs.Parts.{is_end, common, left}
+use Rattle.fs_names.specs.Parts.{common, left}
 use Rattle.fs_names.specs.Shapes.{Shape, Dir, File, is_full}
 use Rattle.fs_calls.specs.Forms.{form, Form, AtNode, AtEntry, AtPair, by_text}
 use Rattle.fs_calls.specs.declared.target.PairCall.TheVariants as pairs

@@ -3,8 +3,8 @@ use Rattle.std.proofs.Common.{◌≡◌, ℕ, suc, ◌+◌, ◌≤◌, ◌<◌, 
 use Rattle.std.specs.Prelude.{slice_get, is_some, nat_eq, nat_le}
 use Rattle.std.proofs.lemmas.Bool.Decides.{nat_tests}
 use Rattle.fs_names.specs.Names.{Name, same_name}
-use Rattle.fs_names.specs.Keys.{Key, after_prefix, common_len, has_more, last_of, parent_of}
-use Rattle.fs_names.specs.Parts.{is_end, common}
+use Rattle.fs_names.specs.Keys.{Key, after_prefix, common_len, has_more, last_of, parent_of, is_end}
+use Rattle.fs_names.specs.Parts.{common}
 use Rattle.fs_names.proofs.Lemmas.{after_prefix-exact, prefix_common}
 use Rattle.fs_names.proofs.ParentLemmas.{common_length}
 

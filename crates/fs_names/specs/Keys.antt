@@ -51,6 +51,12 @@ last_of [] = []
 last_of (x ∷ []) = x
 last_of (x ∷ y ∷ k) = last_of (y ∷ k)
 
+-- whether the prefix is there and is the whole key
+abbrev pub is_end : Option Key → Bool
+is_end None = false
+is_end (Some []) = true
+is_end (Some (x ∷ rest)) = false
+
 -- whether a name or more follows a prefix
 abbrev pub has_more : Option Key → Bool
 has_more None = false

@@ -1,5 +1,5 @@
 -- Parts of keys.
-use Rattle.std.specs.Prelude.{Bool, true, false, if◌then◌else◌, [], ◌∷◌, Option, Some, None}
+use Rattle.std.specs.Prelude.{if◌then◌else◌, [], ◌∷◌, Option, Some, None}
 use Rattle.fs_names.specs.Names.{same_name}
 use Rattle.fs_names.specs.Keys.{Key, after_prefix}
 
@@ -7,12 +7,6 @@ use Rattle.fs_names.specs.Keys.{Key, after_prefix}
 abbrev pub HasNames : Key → Type 0
 HasNames [] = ⊥
 HasNames (x ∷ key) = Unit {0}
-
--- whether the prefix is there and is the whole key
-abbrev pub is_end : Option Key → Bool
-is_end None = false
-is_end (Some []) = true
-is_end (Some (x ∷ rest)) = false
 
 -- the longest common prefix
 abbrev pub common : Key → Key → Key

@@ -1,8 +1,7 @@
 //! How a path stands to its parent, and to another path.
 
 ghost use Rattle.std.specs.Prelude.{◌≡◌, ◌<◌, ◌≤◌, length};
-ghost use Rattle.fs_names.specs.Keys.{after_prefix, is_proper_prefix, last_of, parent_of};
-ghost use Rattle.fs_names.specs.Parts.{is_end};
+ghost use Rattle.fs_names.specs.Keys.{after_prefix, is_proper_prefix, last_of, parent_of, is_end};
 
 use crate::limits::PATH_LIMIT;
 use crate::name::Name;

@@ -11,7 +11,7 @@ use Rattle.fs_nodes.specs.declared.node.Node.{Node}
 use Rattle.fs_nodes.specs.declared.place.Place.{Place}
 use Rattle.fs_nodes.specs.Graphs.{then_at}
 use Rattle.fs_nodes.specs.Stores.{content_of, link_of, link_at, names_in, shape_with, with_child, IsParent, IsUnlinked}
-use Rattle.fs_nodes.specs.Places.{plain, plains}
+use Rattle.fs_nodes.specs.Stores.{plain, plains}
 use Rattle.fs_nodes.specs.code.Linked.{graph_of_places, IsBeside, IsNextSibling, IsPlaces}
 use Rattle.fs_nodes.proofs.PlaceLemmas.{child_link, read_within}
 use Rattle.fs_nodes.proofs.EditLemmas.{parent_is, no_parent}

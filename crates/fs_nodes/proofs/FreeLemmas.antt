@@ -14,7 +14,7 @@ use Rattle.fs_nodes.specs.declared.place.Place.{Place}
 use Rattle.fs_nodes.specs.code.Edits.{relinked}
 use Rattle.fs_nodes.specs.Graphs.{then_at, linked_in, unlinked_in, IsReached}
 use Rattle.fs_nodes.specs.Stores.{content_of, link_of, content_at, link_at, IsUnlinked}
-use Rattle.fs_nodes.specs.Places.{link_with, plain_with, plain, plains}
+use Rattle.fs_nodes.specs.Stores.{link_with, plain_with, plain, plains}
 use Rattle.fs_nodes.specs.code.Linked.{graph_of_places, IsGap, IsPlaces, put_between, taken_out, led, followed, with_entries, entered}
 use Rattle.fs_nodes.specs.code.Frees.{is_in_list, is_free, next_at, IsChain, IsFreeList, IsLinked}
 use Rattle.fs_nodes.proofs.PlaceLemmas.{eqb_true, child_link, read_within}

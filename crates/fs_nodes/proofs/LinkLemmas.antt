@@ -14,7 +14,7 @@ use Rattle.fs_nodes.specs.Graphs.{Graph, then_at, linked_in, IsReached}
 use Rattle.fs_nodes.specs.Stores.{content_of, link_of, link_at, child_in, names_in, shape_with, graph_in, is_above, IsUnlinked, IsStore}
 use Rattle.fs_nodes.specs.code.Edits.{relinked}
 use Rattle.fs_nodes.proofs.EditLemmas.{Makes, link_makes}
-use Rattle.fs_nodes.specs.Places.{link_with, plain_with, plain, plains}
+use Rattle.fs_nodes.specs.Stores.{link_with, plain_with, plain, plains}
 use Rattle.fs_nodes.specs.code.Linked.{graph_of_places, next_child, IsPrev, IsLow, IsAt, IsGap, IsBeside, IsIndexed, IsPlaces, edited, with_first, with_next, with_prev, with_entries, entered, led, followed, put_between}
 use Rattle.fs_nodes.proofs.PlaceLemmas.{eqb_true, eqb_refl, child_link}
 use Rattle.fs_nodes.proofs.StepLemmas.{dir_ascends, dir_has, link_of_place, next_child_name}

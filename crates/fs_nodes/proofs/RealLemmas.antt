@@ -12,7 +12,7 @@ use Rattle.fs_nodes.specs.Stores.{content_of, link_of, content_at, child_in, nam
 use Rattle.fs_names.specs.declared.limits.TheConstants.{NODE_LIMIT}
 use Rattle.fs_nodes.specs.declared.place.Place.{Place}
 use Rattle.fs_nodes.specs.code.Frees.{IsLinked}
-use Rattle.fs_nodes.specs.Places.{plain, plains}
+use Rattle.fs_nodes.specs.Stores.{plain, plains}
 use Rattle.fs_nodes.specs.code.Linked.{graph_of_places}
 use Rattle.std.proofs.lemmas.List.{length-map}
 use Rattle.fs_nodes.specs.Seen.{seen, Ascends, IsReal}

@@ -16,7 +16,7 @@ use Rattle.fs_nodes.specs.declared.place.Place.{Place}
 use Rattle.fs_nodes.specs.code.Edits.{new_content, new_node, IsTaken}
 use Rattle.fs_nodes.specs.Graphs.{Graph, Children, then_at, set_at, released_in, reserved_in}
 use Rattle.fs_nodes.specs.Stores.{content_of, link_of, names_in, shape_with, graph_in, is_above, new_shape, used_below, IsUnlinked, IsStore}
-use Rattle.fs_nodes.specs.Places.{link_with, plain_with, plain, plains}
+use Rattle.fs_nodes.specs.Stores.{link_with, plain_with, plain, plains}
 use Rattle.fs_nodes.specs.code.Linked.{graph_of_places, next_child, IsPrev, IsBeside, IsIndexed, IsPlaces, edited, vacated, filled}
 use Rattle.fs_nodes.specs.code.Frees.{is_in_list, IsApart, is_free, next_at, IsChain, IsFreeList, IsLinked}
 use Rattle.fs_nodes.proofs.PlaceLemmas.{eqb_true, eqb_refl}

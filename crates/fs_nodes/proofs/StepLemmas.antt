@@ -17,7 +17,7 @@ use Rattle.fs_nodes.specs.declared.node.Node.{Node}
 use Rattle.fs_nodes.specs.declared.place.Place.{Place}
 use Rattle.fs_nodes.specs.Graphs.{Graph, then_at}
 use Rattle.fs_nodes.specs.Stores.{link_of, link_at, child_in, names_in, shape_in, is_above, names_above, next_entry, with_child, IsNextName}
-use Rattle.fs_nodes.specs.Places.{link_with, plain_with, plain, plains}
+use Rattle.fs_nodes.specs.Stores.{link_with, plain_with, plain, plains}
 use Rattle.fs_nodes.specs.code.Linked.{graph_of_places, next_child, IsBefore, IsLow, IsGap, IsBeside, IsPlaces}
 use Rattle.fs_nodes.proofs.NameLemmas.{Compared, Below, Same, Above, compare}
 use Rattle.fs_nodes.proofs.PlaceLemmas.{child_link, names_child}

@@ -11,7 +11,7 @@ use Rattle.fs_nodes.specs.declared.place.Place.{Place}
 use Rattle.fs_nodes.specs.code.Edits.{with_bytes, handed_out}
 use Rattle.fs_nodes.specs.Graphs.{Graph, then_at, content_in}
 use Rattle.fs_nodes.specs.Stores.{link_of, graph_in, IsStore}
-use Rattle.fs_nodes.specs.Places.{link_with, plain_with, plain, plains}
+use Rattle.fs_nodes.specs.Stores.{link_with, plain_with, plain, plains}
 use Rattle.fs_nodes.specs.code.Linked.{graph_of_places, IsBeside, IsIndexed, edited, content_with, content_old, with_content}
 use Rattle.fs_nodes.specs.code.Frees.{is_free, next_at, IsLinked}
 use Rattle.fs_nodes.proofs.PlaceLemmas.{eqb_true}

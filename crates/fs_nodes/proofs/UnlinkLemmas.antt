@@ -16,7 +16,7 @@ use Rattle.fs_nodes.specs.Stores.{link_of, link_at, graph_in, is_above, IsStore}
 use Rattle.fs_nodes.specs.code.Edits.{relinked}
 use Rattle.fs_nodes.proofs.EditLemmas.{Makes, unlink_makes, names_shape, found_link, link_content, relinked_content, at_of}
 use Rattle.fs_nodes.proofs.GraphLemmas.{unlinked_back}
-use Rattle.fs_nodes.specs.Places.{link_with, plain_with, plain, plains}
+use Rattle.fs_nodes.specs.Stores.{link_with, plain_with, plain, plains}
 use Rattle.fs_nodes.specs.code.Linked.{graph_of_places, next_child, IsPrev, IsLow, IsAt, IsGap, IsBeside, IsIndexed, IsPlaces, edited, with_entries, entered, led, followed, taken_out}
 use Rattle.fs_nodes.proofs.PlaceLemmas.{eqb_true, eqb_refl, child_link, names_child}
 use Rattle.fs_nodes.proofs.StepLemmas.{link_of_place, next_child_name}

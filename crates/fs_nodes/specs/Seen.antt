@@ -3,7 +3,7 @@ use Rattle.std.specs.Prelude.{ℕ, ◌≡◌, ◌≤◌, true, is_some, List, []
 use Rattle.fs_names.specs.Names.{Name, has_name}
 use Rattle.fs_names.specs.Shapes.{Shape, Dir, names_of}
 use Rattle.fs_nodes.specs.Graphs.{Graph, IsAcyclic}
-use Rattle.fs_nodes.specs.Places.{Places}
+use Rattle.fs_nodes.specs.Stores.{Places}
 use Rattle.fs_nodes.specs.Stores.{graph_of, limit_of, room, is_above, IsUnlinked}
 
 -- a graph, the limit on numbers in use, and for how many numbers there is room

@@ -4,7 +4,7 @@ ghost use Rattle.std.specs.Prelude.{◌≡◌, ◌≤◌, ◌<◌, ◌++◌, ◌
 ghost use Rattle.fs_nodes.specs.code.Edits.{new_content};
 ghost use Rattle.std.specs.Option.{option_copied};
 ghost use Rattle.fs_nodes.specs.Stores.{content_at, link_at};
-ghost use Rattle.fs_nodes.specs.Places.{plains};
+ghost use Rattle.fs_nodes.specs.Stores.{plains};
 ghost use Rattle.fs_nodes.specs.code.Linked.{edited, filled, vacated, content_with, content_old, with_content};
 
 use crate::label::Label;

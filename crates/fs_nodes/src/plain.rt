@@ -24,7 +24,7 @@ pub struct Store {
 }
 
 impl Model for Store {
-    ghost use Rattle.fs_nodes.specs.Places.{Places};
+    ghost use Rattle.fs_nodes.specs.Stores.{Places};
     ghost use Rattle.fs_nodes.specs.Stores.{IsStore};
 
     ghost Value = { Places };

@@ -1,8 +1,8 @@
 -- What both heads of a rename do next.
 use Rattle.std.proofs.Common.{◌≡◌, ℕ, ◌+◌, ◌≤◌, [], List, length, drop, slice_get, Option, Some, None, refl, sym, ap, ◌∙◌, arith}
-use Rattle.fs_names.specs.Keys.{Key, parent_of, last_of, after_prefix, has_more}
+use Rattle.fs_names.specs.Keys.{Key, parent_of, last_of, after_prefix, has_more, is_end}
 use Rattle.fs_names.specs.Names.{Name}
-use Rattle.fs_names.specs.Parts.{left, common, is_end}
+use Rattle.fs_names.specs.Parts.{left, common}
 use Rattle.fs_names.specs.Shapes.{Shape, Dir}
 use Rattle.fs_calls.specs.Forms.{AtPair}
 use Rattle.fs_calls.specs.declared.target.PairCall.TheVariants as pairs

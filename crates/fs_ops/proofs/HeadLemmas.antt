@@ -2,8 +2,8 @@
 use Rattle.std.proofs.Common.{◌≡◌, ℕ, zero, suc, ◌+◌, ◌-◌, ◌≤◌, ◌<◌, Bool, true, false, cond, [], ◌∷◌, ◌++◌, length, take, drop, Option, Some, None, refl, sym, ap, ap₂, subst, ◌∙◌, ◌||◌, arith, length-drop, append-nil}
 use Rattle.std.specs.Prelude.{not, IfSome}
 use Rattle.fs_names.specs.Names.{Name, same_name}
-use Rattle.fs_names.specs.Keys.{Key, after_prefix, common_len, has_more, last_of, parent_of}
-use Rattle.fs_names.specs.Parts.{is_end, common, left}
+use Rattle.fs_names.specs.Keys.{Key, after_prefix, common_len, has_more, last_of, parent_of, is_end}
+use Rattle.fs_names.specs.Parts.{common, left}
 use Rattle.fs_names.specs.Shapes.{Shape, Dir, File, is_dir, is_full}
 use Rattle.fs_names.proofs.Lemmas.{same_name_exact, same_name_refl, after_prefix-append}
 use Rattle.fs_nodes.specs.Graphs.{Graph, entry_shape, IsReached}

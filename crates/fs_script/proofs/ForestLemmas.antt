@@ -9,7 +9,7 @@ use Rattle.fs_names.specs.Keys.{Key}
 use Rattle.fs_names.specs.Shapes.{Shape, names_of}
 use Rattle.fs_names.specs.Shapes as shapes
 use Rattle.fs_names.proofs.Lemmas.{same_name_exact}
-use Rattle.fs_calls.specs.Shapes.{tree_shapes}
+use Rattle.fs_calls.specs.Sights.{tree_shapes}
 use Rattle.fs_seq.specs.code.Slots.{Place, links_of, place_at, shape_of, links_at, child, walk_from, walk, node_at, shape_at, tree_of, IsForest}
 use Rattle.fs_seq.specs.code.Slots as forest
 use Rattle.fs_seq.proofs.GraphLemmas.{walk-append}

@@ -9,7 +9,7 @@ use Rattle.fs_calls.specs.declared.errno.Errno.{Errno}
 use Rattle.fs_calls.specs.declared.reply.Reply.{Reply}
 use Rattle.fs_calls.specs.declared.reply.Reply.TheVariants as replies
 use Rattle.fs_calls.specs.Tree.{Tree}
-use Rattle.fs_calls.specs.Shapes.{Shape, tree_shapes, names_of, bytes_of}
+use Rattle.fs_calls.specs.Sights.{Shape, tree_shapes, names_of, bytes_of}
 use Rattle.fs_calls.proofs.RowNames.{listing, reading, writing, truncating}
 use Rattle.fs_calls.specs.Outcomes.{fault, success, reply, replied, resolution}
 use Rattle.fs_calls.specs.Forms as Forms

@@ -7,7 +7,7 @@ use Rattle.fs_calls.specs.declared.errno.Errno.{Errno}
 use Rattle.fs_calls.specs.declared.errno.Errno.TheVariants.{Enotdir}
 use Rattle.fs_seq.specs.declared.nodes.Link.{Link}
 use Rattle.fs_calls.specs.Tree.{Tree}
-use Rattle.fs_calls.specs.Shapes.{tree_shapes, is_file}
+use Rattle.fs_calls.specs.Sights.{tree_shapes, is_file}
 use Rattle.fs_calls.specs.Outcomes.{resolution, parents_resolution}
 use Rattle.fs_calls.specs.Rows.{as_dir}
 use Rattle.fs_seq.specs.code.Slots.{Place, Dir, File, Slots, place_at, links_at, child, walk, tree_of, shape_of, IsForest}

@@ -12,7 +12,7 @@ use Rattle.fs_calls.specs.declared.errno.Errno.{Errno}
 use Rattle.fs_calls.specs.declared.errno.Errno.TheVariants.{Eperm, Ebusy, Enoent}
 use Rattle.fs_calls.specs.declared.reply.Reply.TheVariants.{Done, Failed}
 use Rattle.fs_calls.specs.Tree.{Tree, removed}
-use Rattle.fs_calls.specs.Shapes.{Shape, tree_shapes, is_missing, has_any}
+use Rattle.fs_calls.specs.Sights.{Shape, tree_shapes, is_missing, has_any}
 use Rattle.fs_calls.proofs.RowNames.{unlinking, removing}
 use Rattle.fs_calls.specs.Outcomes.{fault, success, change, parents_resolution}
 use Rattle.fs_seq.specs.code.Slots.{Place, Dir, Slots, place_at, links_at, shape_of, child, tree_of, IsForest, Sets}

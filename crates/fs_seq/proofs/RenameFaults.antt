@@ -8,7 +8,7 @@ use Rattle.fs_names.specs.Keys.{Key, is_root, is_proper_prefix, parent_of, last_
 use Rattle.fs_names.specs.declared.limits.TheConstants.{ENTRY_LIMIT}
 use Rattle.fs_names.proofs.FailureLemmas.{check-none}
 use Rattle.fs_calls.specs.Tree.{Tree}
-use Rattle.fs_calls.specs.Shapes.{Shape, tree_shapes, is_missing}
+use Rattle.fs_calls.specs.Sights.{Shape, tree_shapes, is_missing}
 use Rattle.fs_calls.specs.Forms.{form, by_text}
 use Rattle.fs_calls.specs.Sights.{is_same}
 use Rattle.fs_calls.specs.Rows.{has_room, place_fault, rename_fault}

@@ -5,7 +5,7 @@ use Rattle.std.specs.FinMap.{find, put, is_sorted}
 use Rattle.fs_names.specs.Names.{Name, name_cmp, same_name}
 use Rattle.fs_names.specs.Keys.{Key, is_root, parent_of, last_of}
 use Rattle.fs_calls.specs.Tree.{Tree, renamed, Dir as IsDir}
-use Rattle.fs_calls.specs.Shapes.{is_missing}
+use Rattle.fs_calls.specs.Sights.{is_missing}
 use Rattle.fs_calls.specs.Forms.{form, by_text}
 use Rattle.fs_calls.specs.Outcomes.{fault, change}
 use Rattle.fs_seq.specs.Memory.{needs_memory}

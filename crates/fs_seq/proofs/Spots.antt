@@ -9,8 +9,8 @@ use Rattle.fs_names.specs.Failures.{check, or_else}
 use Rattle.fs_calls.specs.declared.errno.Errno.{Errno}
 use Rattle.fs_calls.specs.declared.errno.Errno.TheVariants.{Eexist, Enospc}
 use Rattle.fs_calls.specs.Tree.{Tree}
-use Rattle.fs_calls.specs.Shapes.{Shape, tree_shapes, is_there, is_full}
-use Rattle.fs_calls.specs.Shapes as shapes
+use Rattle.fs_calls.specs.Sights.{Shape, tree_shapes, is_there, is_full}
+use Rattle.fs_calls.specs.Sights as shapes
 use Rattle.fs_calls.specs.Outcomes.{parents_resolution}
 use Rattle.fs_seq.specs.code.Slots.{Place, Dir, File, Slots, links_at, walk, tree_of, shape_of, shape_at, IsForest}
 use Rattle.fs_seq.specs.code.Nodes.{IsTaken, IsFree}

@@ -12,7 +12,7 @@ use Rattle.fs_calls.specs.declared.reply.Reply.TheVariants as replies
 use Rattle.fs_seq.specs.declared.nodes.Node.{Node}
 use Rattle.fs_calls.specs.Tree.{Tree, inserted}
 use Rattle.fs_calls.specs.Tree as tree
-use Rattle.fs_calls.specs.Shapes.{tree_shapes, has_any, bytes_of}
+use Rattle.fs_calls.specs.Sights.{tree_shapes, has_any, bytes_of}
 use Rattle.fs_calls.proofs.RowNames.{writing, truncating}
 use Rattle.fs_calls.specs.Outcomes.{fault, filled}
 use Rattle.fs_calls.specs.Rows.{written, resized}

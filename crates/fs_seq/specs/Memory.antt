@@ -2,7 +2,7 @@
 use Rattle.std.specs.Prelude.{◌+◌, Bool, true, false, not, ◌&&◌, nat_lt, length, take, drop, is_some}
 use Rattle.fs_names.specs.Keys.{parent_of}
 use Rattle.fs_calls.specs.Tree.{Tree}
-use Rattle.fs_calls.specs.Shapes.{tree_shapes, is_missing, has_any, has_entries, bytes_of}
+use Rattle.fs_calls.specs.Sights.{tree_shapes, is_missing, has_any, has_entries, bytes_of}
 use Rattle.fs_calls.specs.Outcomes.{fault}
 use Rattle.fs_calls.specs.Sights.{is_same}
 use Rattle.fs_calls.specs.declared.call.Call.{Call}

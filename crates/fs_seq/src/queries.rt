@@ -2,7 +2,7 @@
 
 ghost use Rattle.std.specs.Prelude.{◌≡◌, Some, MatchResult, IfOk, OnErr, IsTrue, map, take, drop};
 ghost use Rattle.fs_calls.specs.Outcomes.{reply, resolution};
-ghost use Rattle.fs_calls.specs.Shapes.{has_any};
+ghost use Rattle.fs_calls.specs.Sights.{has_any};
 ghost use Rattle.fs_seq.specs.Memory.{needs_memory};
 ghost use Rattle.fs_seq.specs.code.Nodes.{graph, pairs, place};
 ghost use Rattle.fs_seq.specs.code.Slots.{IsForest, tree_of};

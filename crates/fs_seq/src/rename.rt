@@ -5,7 +5,7 @@ ghost use Rattle.std.specs.FinMap.{find, put, is_sorted};
 ghost use Rattle.fs_names.specs.Names.{name_cmp};
 ghost use Rattle.fs_seq.specs.code.Nodes.{pair, pairs, graph};
 ghost use Rattle.fs_seq.specs.code.Slots.{IsForest, Sets, place_at, links_at, shape_at, tree_of, Dir as IsDir};
-ghost use Rattle.fs_calls.specs.Shapes.{Shape};
+ghost use Rattle.fs_calls.specs.Sights.{Shape};
 ghost use Rattle.fs_calls.specs.Forms.{form, by_text};
 ghost use Rattle.fs_calls.specs.Rows.{place_fault};
 ghost use Rattle.fs_seq.specs.code.Renaming.{Plans, Exchanges, Transfers};

@@ -2,7 +2,7 @@
 
 ghost use Rattle.std.specs.Prelude.{◌≡◌, ◌≤◌, ◌<◌, ◌+◌, ◌++◌, ◌-◌, take, drop, replicate, IfOk, OnOk, OnErr, IsTrue, length, nat_lt, nat_le, None, ◌&&◌};
 ghost use Rattle.fs_calls.specs.Rows.{written, resized};
-ghost use Rattle.fs_calls.specs.Shapes.{has_any};
+ghost use Rattle.fs_calls.specs.Sights.{has_any};
 ghost use Rattle.fs_seq.specs.Memory.{needs_memory};
 ghost use Rattle.fs_seq.specs.code.Nodes.{graph};
 ghost use Rattle.fs_seq.specs.code.Slots.{IsForest, tree_of};

@@ -1,5 +1,4 @@
 pub mod Timeline
-pub mod TimelineValues
 pub mod Verdicts
 pub mod JournalStates
 pub mod Laws

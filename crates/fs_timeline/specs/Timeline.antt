@@ -8,6 +8,11 @@ use Rattle.fs_calls.specs.declared.reply.Reply.{Reply}
 use Rattle.fs_timeline.specs.declared.entry.Entry.{Entry}
 use Rattle.fs_timeline.specs.declared.entry.Entry.TheVariants.{Begin, Commit, Return}
 
+-- a timeline in memory: its entries, and for how many more a place is reserved
+pub record TimelineValue : Type 0 where
+  pub entries : List Entry
+  pub reserved : ℕ
+
 -- whether an entry is the Begin of the call of a number
 abbrev pub is_begin : ℕ → Entry → Bool
 is_begin c (Begin d seat call) = c == d

@@ -15,7 +15,7 @@ pub struct Timeline {
 
 impl Model for Timeline {
     ghost use Rattle.std.specs.Prelude.{◌+◌, ◌≤◌, vec_len, vec_capacity};
-    ghost use Rattle.fs_timeline.specs.TimelineValues.{TimelineValue};
+    ghost use Rattle.fs_timeline.specs.Timeline.{TimelineValue};
 
     ghost Value = { TimelineValue };
 

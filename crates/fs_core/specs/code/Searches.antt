@@ -2,7 +2,7 @@
 use Rattle.std.specs.Prelude.{ℕ, ◌≡◌, ◌<◌, ◌≤◌, nat_lt, Bool, true, false, List, Option, Some, None, option_map, slice_get}
 use Rattle.fs_names.specs.Keys.{Key}
 use Rattle.fs_nodes.specs.Graphs.{Graph, Children, numbers, IsGraph, IsReached}
-use Rattle.fs_nodes.specs.Places.{Places}
+use Rattle.fs_nodes.specs.Stores.{Places}
 use Rattle.fs_nodes.specs.Stores.{graph_of}
 use Rattle.fs_core.specs.CoreValues.{number_on}
 use Rattle.fs_core.specs.declared.seat.Running.{Running}

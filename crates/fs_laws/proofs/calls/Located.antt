@@ -1,9 +1,9 @@
 -- A call that stands at a key acts below it, by what it does on the tree below.
 use Rattle.std.proofs.Common.{◌≡◌, ℕ, Bool, true, false, not, ◌||◌, List, [], ◌∷◌, ◌++◌, Option, Some, None, refl, sym, ap, ap₂, ◌∙◌, append_assoc}
 use mathlib.Core.Path.{fun_ext}
-use Rattle.fs_names.specs.Keys.{Key, after_prefix, parent_of, last_of}
+use Rattle.fs_names.specs.Keys.{Key, after_prefix, parent_of, last_of, is_end}
 use Rattle.fs_names.specs.Names.{Name}
-use Rattle.fs_names.specs.Parts.{is_end, HasNames}
+use Rattle.fs_names.specs.Parts.{HasNames}
 use Rattle.fs_names.specs.Shapes.{Shape, Dir, File, is_full, names_of}
 use Rattle.fs_laws.specs.Changes.{Change, moved_by, changed, resolve_next, resolve, resolve_dir, content_change, edit_change, rename_writes, move_change, entry_looked, rename_looked, looked, if_sound, outcome, after}
 use Rattle.fs_calls.specs.Forms.{Form, AtNode, AtEntry, AtPair, by_text, under, Fits}

@@ -1,8 +1,8 @@
 -- An unfinished call by itself: what it keeps where it stands, whatever the others do; and that it never wants what it holds.
 use Rattle.std.proofs.Common.{◌≡◌, ℕ, Bool, true, false, not, ◌&&◌, [], ◌∷◌, ◌++◌, Option, Some, None, refl, sym, ap, ap₂, ◌∙◌, append_assoc, append-nil, subst, inl, inr}
-use Rattle.fs_names.specs.Keys.{Key, after_prefix, parent_of, last_of, has_more}
+use Rattle.fs_names.specs.Keys.{Key, after_prefix, parent_of, last_of, has_more, is_end}
 use Rattle.fs_names.specs.Names.{Name}
-use Rattle.fs_names.specs.Parts.{HasNames, common, left, is_end}
+use Rattle.fs_names.specs.Parts.{HasNames, common, left}
 use Rattle.fs_calls.specs.Forms.{form, Form, AtPair, by_text, Fits}
 use Rattle.fs_calls.specs.declared.target.PairCall.TheVariants as pairs
 use Rattle.fs_nodes.specs.Graphs.{Graph, numbers, IsGraph, entry_shape}

@@ -2,10 +2,10 @@
 use Rattle.std.proofs.Common.{◌≡◌, ℕ, ◌+◌, ◌<◌, ◌≤◌, Bool, true, false, not, ◌||◌, List, [], ◌∷◌, ◌++◌, length, Option, Some, None, refl, sym, ap, ap₂, ◌∙◌, append-nil, subst, ◌⊎◌, inl, inr, arith}
 use Rattle.std.specs.Prelude.{nat_lt, nat_le}
 use Rattle.std.proofs.lemmas.Bool.Decides.{nat_tests}
-use Rattle.fs_names.specs.Keys.{Key, after_prefix, parent_of, last_of, has_more}
+use Rattle.fs_names.specs.Keys.{Key, after_prefix, parent_of, last_of, has_more, is_end}
 use Rattle.fs_names.specs.Failures.{check, first_failure}
 use Rattle.fs_names.specs.Names.{Name, inserted_name, removed_name, has_name}
-use Rattle.fs_names.specs.Parts.{common, left, is_end}
+use Rattle.fs_names.specs.Parts.{common, left}
 use Rattle.fs_names.specs.Shapes.{Shape, Dir, File, names_of, is_full}
 use Rattle.fs_names.specs.declared.limits.TheConstants.{ENTRY_LIMIT, FILE_LIMIT}
 use Rattle.fs_calls.specs.Forms.{form, NodeCall, Stat, Readdir, Read, Write, Truncate, Form, AtNode, AtEntry, AtPair, by_text}

@@ -1,9 +1,9 @@
 -- Where the next move is to finish, the rows read at held nodes what the sequential tree reads at the located paths.
 use Rattle.std.proofs.Common.{◌≡◌, ℕ, Bool, true, false, not, ◌||◌, List, [], ◌∷◌, ◌++◌, Option, Some, None, refl, sym, ap, ap₂, ◌∙◌, append-nil}
 use mathlib.Core.Path.{fun_ext}
-use Rattle.fs_names.specs.Keys.{Key, after_prefix, has_more, parent_of, last_of}
+use Rattle.fs_names.specs.Keys.{Key, after_prefix, has_more, parent_of, last_of, is_end}
 use Rattle.fs_names.specs.Names.{Name, has_name}
-use Rattle.fs_names.specs.Parts.{is_end, left, HasNames}
+use Rattle.fs_names.specs.Parts.{left, HasNames}
 use Rattle.fs_names.specs.Shapes.{Shape, Dir, File, is_full}
 use Rattle.fs_laws.specs.Changes.{resolve_next, resolve, resolve_dir}
 use Rattle.fs_calls.specs.Forms.{NodeCall}

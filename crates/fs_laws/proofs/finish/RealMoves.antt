@@ -1,8 +1,8 @@
 -- A rename that really moves: what is known where it finishes.
 use Rattle.std.proofs.Common.{◌≡◌, ℕ, Bool, true, false, not, ◌&&◌, ◌||◌, List, [], ◌∷◌, ◌++◌, Option, Some, None, refl, sym, ap, ap₂, ◌∙◌, append-nil, subst, ◌⊎◌, inl, inr}
-use Rattle.fs_names.specs.Keys.{Key, after_prefix, parent_of, last_of, has_more}
+use Rattle.fs_names.specs.Keys.{Key, after_prefix, parent_of, last_of, has_more, is_end}
 use Rattle.fs_names.specs.Names.{Name, has_name}
-use Rattle.fs_names.specs.Parts.{left, is_end}
+use Rattle.fs_names.specs.Parts.{left}
 use Rattle.fs_names.specs.Shapes.{Shape, Dir, File, is_full}
 use Rattle.fs_calls.specs.Forms.{AtPair, Fits}
 use Rattle.fs_calls.specs.declared.target.PairCall.TheVariants as pairs

@@ -1,9 +1,9 @@
 -- What the finish of a rename, and of each form of call, does.
 use Rattle.std.proofs.Common.{◌≡◌, ℕ, Bool, true, false, not, ◌&&◌, ◌||◌, List, [], ◌∷◌, ◌++◌, Option, Some, None, refl, sym, ap, ap₂, ◌∙◌, append_assoc, append-nil, subst, inl, inr}
 use mathlib.Core.Path.{fun_ext}
-use Rattle.fs_names.specs.Keys.{Key, after_prefix, parent_of, last_of, has_more}
+use Rattle.fs_names.specs.Keys.{Key, after_prefix, parent_of, last_of, has_more, is_end}
 use Rattle.fs_names.specs.Names.{Name}
-use Rattle.fs_names.specs.Parts.{common, is_end, left, left_by}
+use Rattle.fs_names.specs.Parts.{common, left, left_by}
 use Rattle.fs_names.specs.Shapes.{Shape, Dir, is_full, names_of}
 use Rattle.fs_laws.specs.Changes.{Change, resolve, resolve_dir, looked, move_change, rename_writes}
 use Rattle.fs_calls.specs.Forms.{Form, AtNode, AtEntry, AtPair, Fits, by_text}

@@ -1,8 +1,8 @@
 -- A finish gives the reply of the sequential tree and the tree that it leaves, at the key where the call stands.
 use Rattle.std.proofs.Common.{◌≡◌, ℕ, Bool, true, false, cond, not, ◌||◌, List, [], ◌∷◌, ◌++◌, Option, Some, None, refl, sym, ap, ap₂, ◌∙◌, append-nil, subst}
-use Rattle.fs_names.specs.Keys.{Key, after_prefix, parent_of, last_of}
+use Rattle.fs_names.specs.Keys.{Key, after_prefix, parent_of, last_of, is_end}
 use Rattle.fs_names.specs.Names.{Name, same_name, has_name, inserted_name, removed_name}
-use Rattle.fs_names.specs.Parts.{is_end, common, left}
+use Rattle.fs_names.specs.Parts.{common, left}
 use Rattle.fs_names.specs.Shapes.{Shape, Dir, File, is_full, names_of}
 use Rattle.fs_laws.specs.Changes.{Change, changed, resolve_dir, looked, edit_change, reply, if_sound}
 use Rattle.fs_calls.specs.Forms.{Form, AtNode, AtEntry, AtPair, under, new_shape, Fits}

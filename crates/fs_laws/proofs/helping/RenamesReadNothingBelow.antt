@@ -1,8 +1,8 @@
 -- What a rename that is about to finish reads and moves lies below no call that is to go on before it.
 use Rattle.std.proofs.Common.{◌≡◌, ℕ, Bool, true, false, not, ◌&&◌, ◌||◌, List, [], ◌∷◌, ◌++◌, Option, Some, None, refl, sym, ap, ap₂, ◌∙◌, append_assoc, append-nil, subst, ◌⊎◌, inl, inr}
-use Rattle.fs_names.specs.Keys.{Key, after_prefix, parent_of, last_of, has_more}
+use Rattle.fs_names.specs.Keys.{Key, after_prefix, parent_of, last_of, has_more, is_end}
 use Rattle.fs_names.specs.Names.{Name, has_name}
-use Rattle.fs_names.specs.Parts.{HasNames, common, left, left_by, is_end}
+use Rattle.fs_names.specs.Parts.{HasNames, common, left, left_by}
 use Rattle.fs_names.specs.Shapes.{Shape, Dir, is_full, names_of}
 use Rattle.fs_laws.specs.Changes.{Change, resolve_dir, move_change, rename_writes}
 use Rattle.fs_calls.specs.Forms.{Form, AtNode, AtEntry, AtPair, Fits}

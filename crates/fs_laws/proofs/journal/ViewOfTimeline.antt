@@ -8,7 +8,7 @@ use Rattle.fs_laws.specs.Changes.{reply, after, root_tree}
 use Rattle.fs_calls.specs.Forms.{form}
 use Rattle.fs_laws.specs.Maps.{Map}
 use Rattle.fs_calls.specs.Outcomes as tree
-use Rattle.fs_calls.specs.Shapes.{tree_shapes}
+use Rattle.fs_calls.specs.Sights.{tree_shapes}
 use Rattle.fs_calls.specs.Tree as trees
 use Rattle.fs_calls.specs.Tree.{Tree, Node, look, names_in, IsTree}
 use Rattle.fs_calls.specs.declared.call.Call.{Call}

@@ -5,7 +5,7 @@ use Rattle.fs_laws.specs.Changes.{reply, after}
 use Rattle.fs_calls.specs.Forms.{form, reserves}
 use Rattle.fs_laws.specs.Maps.{Map}
 use Rattle.fs_calls.specs.Outcomes as outcomes
-use Rattle.fs_calls.specs.Shapes.{tree_shapes}
+use Rattle.fs_calls.specs.Sights.{tree_shapes}
 use Rattle.fs_calls.specs.Tree.{Tree, IsTree}
 use Rattle.fs_calls.specs.declared.call.Call.{Call}
 use Rattle.fs_calls.specs.declared.reply.Reply.{Reply}

@@ -8,7 +8,7 @@ use Rattle.fs_names.specs.Shapes.{Shape, Dir, File, names_of}
 use Rattle.fs_calls.proofs.ListLemmas.{true_T}
 use Rattle.fs_calls.specs.Tree as trees
 use Rattle.fs_calls.specs.Tree.{Tree, Node, look, names_in, inserted, removed, IsTree}
-use Rattle.fs_calls.specs.Shapes.{tree_shapes, shape_of}
+use Rattle.fs_calls.specs.Sights.{tree_shapes, shape_of}
 use Rattle.fs_laws.specs.Maps.{Map, put, put_at}
 use Rattle.fs_calls.proofs.LookLemmas.{same_key_exact, same_key_refl, look-inserted, look-removed, sorted-inserted, sorted-removed}
 use Rattle.fs_calls.proofs.ResolutionLemmas.{nothing_below}

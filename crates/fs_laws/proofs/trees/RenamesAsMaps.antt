@@ -1,13 +1,12 @@
 -- What a rename leaves of a tree, seen as a map.
 use Rattle.std.proofs.Common.{◌≡◌, Bool, true, false, List, [], ◌∷◌, ◌++◌, Option, Some, None, is_some, refl, sym, ap, ap₂, ◌∙◌, append_assoc, append-nil, subst, ◌⊎◌, inl, inr}
-use Rattle.fs_names.specs.Keys.{Key, after_prefix}
+use Rattle.fs_names.specs.Keys.{Key, after_prefix, is_end}
 use Rattle.fs_names.specs.Names.{Name, inserted_name, removed_name, has_name}
-use Rattle.fs_names.specs.Parts.{is_end}
 use Rattle.fs_names.specs.Shapes.{Shape, Dir, names_of}
 use Rattle.fs_calls.proofs.ListLemmas.{true_T}
 use Rattle.fs_calls.specs.Tree as trees
 use Rattle.fs_calls.specs.Tree.{Tree, Node, look, names_in, IsTree}
-use Rattle.fs_calls.specs.Shapes.{tree_shapes}
+use Rattle.fs_calls.specs.Sights.{tree_shapes}
 use Rattle.fs_laws.specs.Changes.{rename_writes}
 use Rattle.fs_calls.specs.Laws.{IsMoved}
 use Rattle.fs_laws.specs.Maps.{Map, put, move, write_all}

@@ -10,7 +10,7 @@ use Rattle.fs_names.specs.Shapes.{Shape, Dir, File}
 use Rattle.fs_names.proofs.Lemmas.{name_total}
 use Rattle.fs_calls.specs.Tree as trees
 use Rattle.fs_calls.specs.Tree.{Tree, Node, look, names_in, IsTree}
-use Rattle.fs_calls.specs.Shapes.{tree_shapes, shape_of}
+use Rattle.fs_calls.specs.Sights.{tree_shapes, shape_of}
 use Rattle.fs_laws.specs.Maps.{Map}
 use Rattle.fs_calls.proofs.Children.{marked, sorted-names_in, names_in-links}
 use Rattle.fs_calls.proofs.ResolutionLemmas.{any-names_in}

@@ -2,13 +2,13 @@
 use Rattle.std.proofs.Common.{◌≡◌, ℕ, Bool, true, false, not, List, [], ◌∷◌, ◌++◌, Option, Some, None, is_some, refl, sym, ap, ap₂, ◌∙◌, append-nil, subst}
 use mathlib.Core.Path.{fun_ext}
 use Rattle.fs_names.specs.Failures.{or_else}
-use Rattle.fs_names.specs.Keys.{Key, after_prefix, parent_of, last_of}
+use Rattle.fs_names.specs.Keys.{Key, after_prefix, parent_of, last_of, is_end}
 use Rattle.fs_names.specs.Names.{inserted_name, removed_name}
-use Rattle.fs_names.specs.Parts.{HasNames, is_end}
+use Rattle.fs_names.specs.Parts.{HasNames}
 use Rattle.fs_names.specs.Shapes.{Shape, Dir, File, names_of, bytes_of}
 use Rattle.fs_calls.specs.Tree as trees
 use Rattle.fs_calls.specs.Tree.{Tree, Node, look, names_in, inserted, removed, renamed, IsTree}
-use Rattle.fs_calls.specs.Shapes.{tree_shapes}
+use Rattle.fs_calls.specs.Sights.{tree_shapes}
 use Rattle.fs_calls.specs.Outcomes as list
 use Rattle.fs_calls.specs.Outcomes.{parents_resolution, reply_of, row, fault, success, change, replied}
 use Rattle.fs_calls.specs.Sights.{is_same, row_in}

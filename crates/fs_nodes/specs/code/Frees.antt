@@ -4,7 +4,7 @@ use Rattle.fs_names.specs.declared.limits.TheConstants.{NODE_LIMIT}
 use Rattle.fs_nodes.specs.declared.node.Node.{Node}
 use Rattle.fs_nodes.specs.declared.place.Place.{Place}
 use Rattle.fs_nodes.specs.Graphs.{then_at}
-use Rattle.fs_nodes.specs.Places.{plains}
+use Rattle.fs_nodes.specs.Stores.{plains}
 use Rattle.fs_nodes.specs.code.Linked.{IsPlaces}
 
 -- whether a number is in a list

@@ -9,7 +9,7 @@ use Rattle.fs_nodes.specs.declared.node.Link.{Link}
 use Rattle.fs_nodes.specs.declared.place.Place.{Place}
 use Rattle.fs_nodes.specs.code.Edits.{refilled, given_back}
 use Rattle.fs_nodes.specs.Graphs.{Graph, then_at}
-use Rattle.fs_nodes.specs.Places.{plain, plains}
+use Rattle.fs_nodes.specs.Stores.{plain, plains}
 use Rattle.fs_nodes.specs.Stores.{link_of, graph_in, is_above, IsStore}
 
 -- the graph that places are

@@ -1,8 +1,7 @@
 -- Next moves by the nodes where a call stands.
 use Rattle.std.specs.Prelude.{ℕ, Bool, not, ◌&&◌, Option, Some, None}
-use Rattle.fs_names.specs.Keys.{Key, parent_of, last_of, after_prefix, has_more}
+use Rattle.fs_names.specs.Keys.{Key, parent_of, last_of, after_prefix, has_more, is_end}
 use Rattle.fs_names.specs.Names.{Name}
-use Rattle.fs_names.specs.Parts.{is_end}
 use Rattle.fs_calls.specs.Forms.{Form}
 use Rattle.fs_nodes.specs.Graphs.{Graph, entry_shape}
 use Rattle.fs_walk.specs.Ways.{ForkWay, fork_last}

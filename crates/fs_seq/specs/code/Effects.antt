@@ -6,7 +6,7 @@ use Rattle.fs_names.specs.Failures.{check, or_else}
 use Rattle.fs_names.specs.declared.limits.TheConstants.{FILE_LIMIT}
 use Rattle.fs_calls.specs.Tree as tree
 use Rattle.fs_calls.specs.Tree.{Tree}
-use Rattle.fs_calls.specs.Shapes.{tree_shapes, is_missing, has_any, is_full}
+use Rattle.fs_calls.specs.Sights.{tree_shapes, is_missing, has_any, is_full}
 use Rattle.fs_calls.specs.Outcomes.{fault, resolution, parents_resolution, reply, after, replied, if_sound}
 use Rattle.fs_calls.specs.declared.target.EntryCall.TheVariants.{Mkdir}
 use Rattle.fs_calls.specs.Rows.{entry_fault, written}

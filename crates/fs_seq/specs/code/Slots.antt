@@ -5,8 +5,8 @@ use Rattle.std.specs.FinMap.{find, is_sorted}
 use Rattle.fs_names.specs.Names.{Name, name_cmp}
 use Rattle.fs_names.specs.Keys.{Key}
 use Rattle.fs_calls.specs.Tree.{Node, Dir as IsDir, File as IsFile, Tree, from_list}
-use Rattle.fs_calls.specs.Shapes.{Shape}
-use Rattle.fs_calls.specs.Shapes as shapes
+use Rattle.fs_calls.specs.Sights.{Shape}
+use Rattle.fs_calls.specs.Sights as shapes
 
 -- a directory, by the names of its entries and their numbers, or a file
 pub data Place : Type 0 where

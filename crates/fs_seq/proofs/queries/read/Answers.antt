@@ -1,6 +1,6 @@
 use Rattle.std.proofs.Common.{ap, sym, subst, ◌∙◌, take, drop}
 use Rattle.fs_seq.specs.code.Nodes.{graph, place}
-use Rattle.fs_calls.specs.Shapes.{bytes_of, has_any}
+use Rattle.fs_calls.specs.Sights.{bytes_of, has_any}
 use Rattle.fs_calls.proofs.RowNames.{reading}
 use Rattle.fs_seq.specs.code.Slots.{tree_of}
 use Rattle.fs_seq.specs.code.Effects.{IsSeen}

@@ -1,6 +1,6 @@
 use Rattle.std.proofs.Common.{ap, sym, subst, ◌∙◌, map}
 use Rattle.fs_seq.specs.code.Nodes.{graph, place, pairs}
-use Rattle.fs_calls.specs.Shapes.{names_of, has_any}
+use Rattle.fs_calls.specs.Sights.{names_of, has_any}
 use Rattle.fs_calls.proofs.RowNames.{listing}
 use Rattle.fs_seq.specs.code.Slots.{tree_of}
 use Rattle.fs_seq.specs.code.Effects.{IsSeen}
