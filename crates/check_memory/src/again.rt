@@ -1,7 +1,8 @@
 //! What allocates, done once more after an allocation failed.
 
-ghost use Rattle.std.specs.Prelude.{◌≡◌, ◌<◌, ◌≤◌, ◌+◌, IfOk, OnOk, length};
+ghost use Rattle.std.specs.Prelude.{◌≡◌, ◌<◌, ◌≤◌, ◌+◌, IfOk, IsTrue, OnOk, length};
 ghost use Rattle.fs_names.specs.declared.limits.TheConstants.{NODE_LIMIT};
+ghost use Rattle.fs_seq.specs.Looks.{is_look};
 
 use fs_calls::{Bytes, Call, Reply};
 use fs_core::{Core, Refusal};
@@ -83,6 +84,19 @@ impl Again {
             Err(_) => {
                 self.note();
                 tree.apply(self.alloc, call)
+            }
+        }
+    }
+
+    /// A sequential tree is looked at by a stat, a readdir or a read.
+    pub fn look(&mut self, tree: &SeqTree, call: &Call) -> Result<Reply, AllocError>
+        requires { IsTrue (is_look call.now) }
+    {
+        match tree.look(self.alloc, call) {
+            Ok(reply) => Ok(reply),
+            Err(_) => {
+                self.note();
+                tree.look(self.alloc, call)
             }
         }
     }

@@ -91,6 +91,16 @@ fn step(
     note(again, timeline, number, call, reply)
 }
 
+/// Looks at a tree, and shows what is seen.
+fn look(rt: &impl Print, again: &mut Again, tree: &SeqTree) -> anyhow::Result<()> {
+    let stat = Call::Stat(again.path("/d")?);
+    show(rt, &again.look(tree, &stat)?)?;
+    let readdir = Call::Readdir(again.path("/d")?);
+    show(rt, &again.look(tree, &readdir)?)?;
+    let read = Call::Read(again.path("/d/e/a")?, 3, 5);
+    Ok(show(rt, &again.look(tree, &read)?)?)
+}
+
 /// The journal of all calls.
 fn journal(rt: &impl Print, again: &mut Again) -> anyhow::Result<Timeline> {
     let mut tree = again.tree()?;
@@ -98,6 +108,7 @@ fn journal(rt: &impl Print, again: &mut Again) -> anyhow::Result<Timeline> {
     for (index, row) in CALLS.iter().enumerate() {
         step(rt, again, &mut tree, &mut timeline, index as u64, row)?;
     }
+    look(rt, again, &tree)?;
     Ok(timeline)
 }
 

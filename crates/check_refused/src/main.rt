@@ -1,9 +1,10 @@
 //! Does each thing of shared trees and of texts that takes memory, and once more where memory was refused: sessions, told
-//! calls, observers, jobs, scripts, journals and trees. What it writes is the same whichever growth is refused:
+//! calls, observers, jobs, lists of calls, scripts, journals and trees. What it writes is the same whichever growth is refused:
 //! `bench/refused` refuses each in turn.
 #![tactic(auto)]
 
 mod again;
+mod lists;
 mod shared;
 mod texts;
 
@@ -53,6 +54,8 @@ fn run<R: Print + Threads + Wait + Clock + Sync>(rt: &R, alloc: Global) -> Optio
     let journal = texts::journal(alloc, closed.timeline.entries())?;
     let is_read_back = texts::is_read_back(alloc, &journal)?;
     println!(rt; "the journal is read back: {is_read_back}").ok()?;
+    let returns = lists::returns(rt, alloc, script.lists.as_slice())?;
+    println!(rt; "the lists returned {returns}").ok()?;
     let tree = texts::tree(alloc, &closed.store)?;
     println!(rt; "the tree has {} bytes", tree.len()).ok()?;
     Some(())
