@@ -1,4 +1,4 @@
-// A std::sync::RwLock round the tree of plain.rs: what the observers of crates/bench_observers are measured against.
+// A std::sync::RwLock round the tree of plain.rs: what the observers of crates/bench are measured against.
 //
 // rwlock READS: the reads a second of 1, 2 and 4 readers, so many each, beside a writer that sleeps 100 microseconds between two calls.
 #[allow(dead_code)]

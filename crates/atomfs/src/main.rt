@@ -1,24 +1,22 @@
 //! The program `atomfs`. `atomfs run` runs the script on standard input, `atomfs seeds` runs it by drawn schedules,
 //! `atomfs threads` runs its threads on real ones, and `atomfs check` reads a journal there; each writes what came of it.
 //!
-//! `cli` reads the command line, and `status` has the exit statuses; the definitions are in `specs/`. Each part is proved to
-//! mean what they say. The program from its arguments to its status, and the words of the messages, are tested.
+//! `fs_command` reads the command line and has the exit statuses. Each part is proved to mean what its clauses say. The
+//! program from its arguments to its status, and the words of the messages, are tested.
 #![tactic(auto)]
 
 ghost use Rattle.std.specs.Prelude.{◌-◌, ◌<◌, ◌^◌};
-ghost use Rattle.atomfs.specs.Commands.{IsWithin};
+ghost use Rattle.fs_command.specs.Commands.{IsWithin};
 
-mod cli;
-mod status;
 #[cfg(test)]
 mod tests;
 
-use cli::Subcommand;
+use fs_command::{
+    Subcommand, parse, report, status_of_run, status_of_unreadable_args, status_of_usage,
+    status_of_verdict,
+};
 use fs_sched::{Device, RunFault, Schedule, Sink, Source, check_journal, run_script, run_seeds};
 use fs_threads::{ThreadsFault, run_threads};
-use status::{
-    report, status_of_run, status_of_unreadable_args, status_of_usage, status_of_verdict,
-};
 use std::alloc::Global;
 use std::convert::AsStr;
 use std::io::{Read, Write};
@@ -123,7 +121,7 @@ fn status_of_args<T, S: AsStr, R: Read + Drop, W: Write + Drop, E: Write>(
 where
     T: Threads + Wait + Clock + Sync,
 {
-    match cli::parse(alloc, args) {
+    match parse(alloc, args) {
         Ok(subcommand) => {
             let mut reader = Device::new(input);
             let mut writer = Device::new(output);

@@ -13,6 +13,7 @@ mod examples;
 mod folder;
 mod outcome;
 mod parts;
+mod threads;
 
 use anyhow::{Result, bail};
 use devices::OpValue;
@@ -95,6 +96,8 @@ fn main(rt: HostRuntime) -> Result<()> {
         go_through_folder(&rt, folder)?;
     }
     fail(&rt)?;
+    threads::compare(&rt, rt.alloc())?;
+    println!(rt; "threads over devices that fail: as they should")?;
     parts::compare_beginnings(
         rt.alloc(),
         &folder::bytes(&rt, "runs/lowest_first", "script")?,

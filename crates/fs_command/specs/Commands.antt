@@ -1,8 +1,8 @@
 -- What the command line asks for.
 use Rattle.std.specs.Prelude.{ℕ, ◌≤◌, List, codes}
 use Rattle.fs_sched.specs.declared.seeding.TheConstants.{SEED_LIMIT, RUN_LIMIT}
-use Rattle.atomfs.specs.declared.cli.Subcommand.{Subcommand}
-use Rattle.atomfs.specs.declared.cli.Subcommand.TheVariants.{Run, Seeds, Threads, Check}
+use Rattle.fs_command.specs.declared.cli.Subcommand.{Subcommand}
+use Rattle.fs_command.specs.declared.cli.Subcommand.TheVariants.{Run, Seeds, Threads, Check}
 
 -- the word by which a subcommand is asked for
 abbrev pub name_of : Subcommand → List ℕ

@@ -1,6 +1,5 @@
 //! Counts what calls cost as a tree grows: the events of the calls that make it, and the entries that are looked at on the
 //! way to its files. Counts are the same on every machine, so a search through the whole tree could not come back unseen.
-#![tactic(auto)]
 
 use anyhow::Result;
 use fs_calls::Call;
@@ -82,10 +81,11 @@ fn count(alloc: Global, files: usize) -> Result<(usize, usize)> {
     Ok((all_events, all_looks))
 }
 
-fn main(rt: HostRuntime) -> Result<()> {
+/// Counts for trees of growing size.
+pub fn run(rt: &impl Print, alloc: Global) -> Result<()> {
     for files in [8, 64, 512, 4096] {
-        let (events, looks) = count(rt.alloc(), files)?;
-        println!(&rt; "{files} files: {events} events, {looks} entries looked at")?;
+        let (events, looks) = count(alloc, files)?;
+        println!(rt; "{files} files: {events} events, {looks} entries looked at")?;
     }
     Ok(())
 }

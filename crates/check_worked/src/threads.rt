@@ -1,7 +1,6 @@
-//! Plays a script on threads over a reader and a writer that move one byte a call. Each read fails in turn, the one at the
-//! end too, and is told, and nothing is written; each write fails in turn, or takes nothing, and is told, and what was written
-//! is as much as went well.
-#![tactic(auto)]
+//! A script that is played on threads over readers and writers that move one byte a call. Each read fails in turn, the one
+//! at the end too, and is told, and nothing is written; each write fails in turn, or takes nothing, and is told, and what was
+//! written is as much as went well.
 
 use anyhow::{Result, ensure};
 use fs_sched::{Device, RunFault};
@@ -64,13 +63,11 @@ fn compare_writes<R: Threads + Wait + Clock + Sync>(
     Ok(())
 }
 
-fn main(rt: HostRuntime) -> Result<()> {
-    let alloc = rt.alloc();
-    let well = has_answer(&rt, alloc, (ALL, ALL, true), Ok(true), Some(LINE));
+/// All is well byte by byte, and each failure is told.
+pub fn compare<R: Threads + Wait + Clock + Sync>(rt: &R, alloc: Global) -> Result<()> {
+    let well = has_answer(rt, alloc, (ALL, ALL, true), Ok(true), Some(LINE));
     ensure!(well, "byte by byte");
-    compare_reads(&rt, alloc)?;
-    compare_writes(&rt, alloc, true)?;
-    compare_writes(&rt, alloc, false)?;
-    println!(&rt; "threads over devices that fail: as they should")?;
-    Ok(())
+    compare_reads(rt, alloc)?;
+    compare_writes(rt, alloc, true)?;
+    compare_writes(rt, alloc, false)
 }

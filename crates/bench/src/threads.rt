@@ -1,17 +1,12 @@
-//! Times the calls of a script's threads, each by a session of its own on one shared tree: `bench_threads time < SCRIPT`.
-//! Without the word it does the same, and prints no times.
-#![tactic(auto)]
+//! The calls of a script's threads, each by a session of its own on one shared tree.
 
 use anyhow::{Result, bail};
 use fs_script::read_script;
 use fs_share::{Open, run_lists};
 use std::alloc::Global;
-use std::io::Read;
-use std::rt::{Clock, Env};
 use std::sync::Wait;
 use std::thread::Threads;
-use std::time::{Duration, Instant};
-use std::{env, io};
+use std::time::{Clock, Duration, Instant};
 
 /// How many calls returned, and how long all of them took.
 #[derive(Drop)]
@@ -36,20 +31,16 @@ fn play<R: Threads + Wait + Clock + Sync>(rt: &R, alloc: Global, text: &[u8]) ->
     })
 }
 
-/// Whether times are asked for.
-fn is_timed(rt: &(impl Env + Alloc)) -> io::Result<bool> {
-    let mut words = env::args(rt)?;
-    let _program = words.next();
-    Ok(words.next().is_some())
-}
-
-fn main(rt: HostRuntime) -> Result<()> {
-    let alloc = rt.alloc();
-    let mut text = Vec::new(alloc);
-    rt.stdin().read_to_end(&mut text)?;
-    let played = play(&rt, alloc, &text)?;
+/// Plays the lists of a script, whose reading is not timed.
+pub fn run<R: Print + Threads + Wait + Clock + Sync>(
+    rt: &R,
+    alloc: Global,
+    text: &[u8],
+    timed: bool,
+) -> Result<()> {
+    let played = play(rt, alloc, text)?;
     println!(rt; "calls: {}", played.calls)?;
-    if is_timed(&rt)? {
+    if timed {
         println!(rt; "microseconds: {}", played.time.as_micros())?;
     }
     Ok(())

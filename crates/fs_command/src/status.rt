@@ -3,7 +3,7 @@
 ghost use Rattle.std.specs.Prelude.{◌≡◌, ◌≢◌, ◌⊎◌};
 ghost use Rattle.std.specs.IoError.{error_kind};
 ghost use Rattle.clap.specs.Values.{kind_of};
-ghost use Rattle.atomfs.specs.Statuses.{status_of, status_of_run, status_of_verdict};
+ghost use Rattle.fs_command.specs.Statuses.{status_of, status_of_run, status_of_verdict};
 
 use clap::Error;
 use clap::error::ErrorKind;

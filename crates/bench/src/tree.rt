@@ -1,29 +1,15 @@
-//! Times the sequential tree and the journal checker on drawn calls: `bench_tree CALLS`.
-//! Without a number it does the same with a few calls, and prints no times.
-#![tactic(auto)]
+//! The sequential tree and the journal checker on drawn calls.
 
 mod measure;
 mod workload;
 
+use anyhow::Result;
 use measure::{apply_all, check_all, journal};
 use std::alloc::Global;
-use std::rt::{Clock, Env};
+use std::io;
+use std::rt::Clock;
 use std::time::Duration;
-use std::{env, io};
 use workload::draw;
-
-/// How many calls are drawn where no number is given.
-const FEW: u32 = 500;
-
-/// The number that was asked for, if there is one.
-fn asked(rt: &(impl Env + Alloc)) -> io::Result<Option<u32>> {
-    let mut words = env::args(rt)?;
-    let _program = words.next();
-    match words.next() {
-        Some(word) => Ok(word.as_str().parse().ok()),
-        None => Ok(None),
-    }
-}
 
 fn report(rt: &impl Print, what: &str, count: usize, time: Duration) -> io::Result<()> {
     let micros = time.as_micros();
@@ -34,7 +20,8 @@ fn report(rt: &impl Print, what: &str, count: usize, time: Duration) -> io::Resu
     println!(rt; "{what}: {count} in {micros} microseconds, {rate} thousand a second")
 }
 
-fn run(rt: &(impl Print + Clock), alloc: Global, calls: u32, timed: bool) -> anyhow::Result<()> {
+/// Draws so many calls, applies them, and checks their journal.
+pub fn run(rt: &(impl Print + Clock), alloc: Global, calls: u32, timed: bool) -> Result<()> {
     let drawn = draw(alloc, calls)?;
     let count = drawn.calls.len();
     println!(rt; "{count} calls, {} nodes at the end", drawn.nodes)?;
@@ -50,12 +37,4 @@ fn run(rt: &(impl Print + Clock), alloc: Global, calls: u32, timed: bool) -> any
         report(rt, "check, entries", entries.len(), time)?;
     }
     Ok(())
-}
-
-fn main(rt: HostRuntime) -> anyhow::Result<()> {
-    let alloc = rt.alloc();
-    match asked(&rt)? {
-        Some(calls) => run(&rt, alloc, calls, true),
-        None => run(&rt, alloc, FEW, false),
-    }
 }

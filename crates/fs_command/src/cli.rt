@@ -3,7 +3,7 @@
 ghost use Rattle.std.specs.Prelude.{◌≡◌, Some, None, IfOk, IfSome, codes};
 ghost use Rattle.std.specs.Option.{ForSome};
 ghost use Rattle.clap.specs.Matches.{found_of, one_text, subcommand_name_of};
-ghost use Rattle.atomfs.specs.Commands.{IsWithin, name_of};
+ghost use Rattle.fs_command.specs.Commands.{IsWithin, name_of};
 
 use clap::error::ErrorKind;
 use clap::{Arg, ArgAction, ArgMatches, Command, Error, value_parser};

@@ -1,9 +1,12 @@
-//! A tree whose observers are timed.
+//! Observers beside a told writer.
 
 ghost use Rattle.std.specs.Prelude.{◌≡◌, ◌^◌};
 
-use crate::reading::timed;
+mod reading;
+
+use anyhow::Result;
 use fs_share::{AtomFs, Named, Opened};
+use reading::timed;
 use std::alloc::Global;
 use std::marker::Brand;
 use std::sync::Wait;
@@ -31,7 +34,7 @@ fn on_named<N: Named + Send + Sync, R: Threads + Wait + Clock + Sync>(
 }
 
 /// How long so many observers take for so many reads each, on a tree of its own, beside a told writer.
-pub fn on_tree<R: Threads + Wait + Clock + Sync>(
+fn on_tree<R: Threads + Wait + Clock + Sync>(
     rt: &R,
     alloc: Global,
     observers: u64,
@@ -45,4 +48,30 @@ pub fn on_tree<R: Threads + Wait + Clock + Sync>(
         observers,
         reads,
     )
+}
+
+/// So many reads by each of one, two and four observers.
+pub fn run<R: Print + Threads + Wait + Clock + Sync>(
+    rt: &R,
+    alloc: Global,
+    reads: u64,
+    timed: bool,
+) -> Result<()> {
+    for observers in [1u64, 2, 4] {
+        let Some(time) = on_tree(rt, alloc, observers, reads) else {
+            println!(rt; "{observers} observers: not run")?;
+            continue;
+        };
+        let all = reads.wrapping_mul(observers);
+        if !timed {
+            println!(rt; "{observers} observers: {all} reads")?;
+            continue;
+        }
+        let rate = u128::from(all)
+            .wrapping_mul(1000)
+            .checked_div(time.as_micros())
+            .unwrap_or(0);
+        println!(rt; "{observers} observers: {rate} thousand reads a second")?;
+    }
+    Ok(())
 }

@@ -1,6 +1,6 @@
 //! How long a tree takes for calls, and the checker for their journal.
 
-use crate::workload::Drawn;
+use super::workload::Drawn;
 use anyhow::Result;
 use fs_journal::check;
 use fs_names::{CallNo, SeatNo};

@@ -1,4 +1,4 @@
-use Rattle.bench_observers.proofs.tree.on_tree.Given as goal
+use Rattle.bench.proofs.observers.on_tree.Given as goal
 
 abbrev pub ghosts-on_named-N-Named : goal.ghosts-on_named-N-Named
 ghosts-on_named-N-Named g a = record { book = a.opened }
