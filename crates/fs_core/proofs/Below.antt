@@ -21,7 +21,7 @@ no_more front x u e =
     absurd (omega arith)
 
 -- no node that is reached from the root leads back to itself
-acyclic : (graph : Graph) → IsGraph graph → (front : Key) (n : ℕ) (x : Name) (u : Key) → numbers graph front ≡ Some n → at graph.child n (x ∷ u) ≡ Some n → ⊥
+pub acyclic : (graph : Graph) → IsGraph graph → (front : Key) (n : ℕ) (x : Name) (u : Key) → numbers graph front ≡ Some n → at graph.child n (x ∷ u) ≡ Some n → ⊥
 acyclic graph is front n x u at_n back = no_more front x u (is.one_key front (front ++ x ∷ u) n at_n (at_from graph.child 0 n front (x ∷ u) at_n ∙ back))
 
 -- the nodes of a path
@@ -105,7 +105,7 @@ one_parent graph is m p n x y e f =
     cc
 
 -- what reaches a node reaches the directory that has its entry
-reaches_parent : (graph : Graph) → IsGraph graph → (s p n : ℕ) (y : Name) → graph.child p y ≡ Some n → (n ≡ s → ⊥) → IsReached graph.child s n → IsReached graph.child s p
+pub reaches_parent : (graph : Graph) → IsGraph graph → (s p n : ℕ) (y : Name) → graph.child p y ≡ Some n → (n ≡ s → ⊥) → IsReached graph.child s n → IsReached graph.child s p
 reaches_parent graph is s p n y f other ([], e) = let z : s ≡ n = cc in absurd (other (sym z))
 reaches_parent graph is s p n y f other (x ∷ u, e) =
     let d : Ends (x ∷ u) = ends (x ∷ u) tt in
@@ -126,9 +126,6 @@ climbs_up graph is bound s node above i p c other (y, f) = record {
       (b.0, b.1, omega arith);
 }
 
-pub climbs_out : (graph : Graph) (bound s node above : ℕ) → Climbs graph bound s node above bound → ⊥
-climbs_out graph bound s node above c = let h : length c.deep.0 + bound < bound = c.deep.2 in absurd (omega arith)
-
 -- what no entry names is reached from itself alone
 pub climbs_top : (graph : Graph) (bound s node above i : ℕ) → Climbs graph bound s node above i → (above ≡ s → ⊥) → IsUnlinked graph.child above → IsReached graph.child s node → ⊥
 climbs_top graph bound s node above i c other loose r = go (c.down r)
@@ -144,3 +141,7 @@ climbs_top graph bound s node above i c other loose r = go (c.down r)
 -- numbers of which the test says that they differ
 pub differ_by : (n m : ℕ) → false ≡ nat_eq n m → n ≡ m → ⊥
 differ_by n m e f = grind arith
+
+-- and that they are one
+pub same_by : (n m : ℕ) → true ≡ nat_eq n m → n ≡ m
+same_by n m e = grind arith

@@ -1,11 +1,11 @@
 -- The call to help is the one that the machine chooses; where there is none, no walking call is below.
 use Rattle.std.proofs.Common.{◌≡◌, ℕ, zero, suc, ◌+◌, ◌<◌, ◌≤◌, List, [], ◌∷◌, ◌++◌, Option, Some, None, length, length-append, refl, sym, ap, ◌∙◌, arith, subst, inl}
-use Rattle.std.specs.Prelude.{slice_get, MatchOption}
+use Rattle.std.specs.Prelude.{slice_get, is_some, MatchOption}
 use Rattle.fs_names.specs.Keys.{Key}
 use Rattle.fs_calls.specs.declared.reply.Reply.{Reply}
 use Rattle.fs_nodes.specs.Graphs.{Graph, at, numbers}
 use Rattle.fs_nodes.specs.Stores.{graph_of, child}
-use Rattle.fs_locks.specs.Holding.{room}
+use Rattle.fs_locks.specs.Holding.{holder, room}
 use Rattle.fs_machine.specs.Records.{Holdings, Walking, Record}
 use Rattle.fs_machine.specs.OpValues.{phase_of, record_of}
 use Rattle.fs_laws.specs.Invariants.{Invariant}
@@ -13,13 +13,14 @@ use Rattle.fs_machine.specs.States.{IsWalkingBelow, IsLowest, NoneBelow, Run}
 use Rattle.fs_laws.proofs.states.Headline.{run_keeps}
 use Rattle.fs_laws.proofs.graphs.Walks.{at_from}
 use Rattle.fs_core.specs.declared.seat.Running.{Running}
-use Rattle.fs_core.specs.code.Helping.{Helps}
+use Rattle.fs_core.specs.code.Helping.{Helps, HelpsIf}
 use Rattle.fs_core.specs.CoreValues.{CoreValue, state_of, number_on, records}
 use Rattle.fs_core.specs.code.Rooms.{AreBelow, IsKept}
-use Rattle.fs_core.specs.code.Searches.{position_of, IsUnder, IsAlone, IsLowestOn, HasLeast, CanSearch}
+use Rattle.fs_core.specs.code.Searches.{position_of, position_on, IsUnder, IsAlone, IsLowestOn, HasLeast, HasLeastIf, IsRooted, CanSearch}
 use Rattle.fs_core.proofs.Below.{key_within}
 use Rattle.fs_core.proofs.SeatLemmas.{number_read, Comes, record_comes}
 use Rattle.fs_core.proofs.Searching.{under_within}
+use Rattle.fs_core.proofs.Ways.{walks_on}
 use Rattle.fs_core.proofs.States.{apart_of, call_on}
 use Rattle.fs_core.proofs.Steps.{walks_phase}
 
@@ -162,22 +163,37 @@ none_below m s run roomy none d below = go (room m.holding) d below (omega arith
           go fuel e (q, is_q, phase_q, (st_q, key ++ key_q, on_q, at_from graph.child s st.node key key_q at_key ∙ reach)) (omega (arith, more, enough)),
     )
 
+-- a walking call on its seat: it holds its position
+standing : (m : CoreValue) (seat n : ℕ) → Run (state_of m) → position_on m.seats seat ≡ Some n → (r : Running) × (slice_get m.seats seat ≡ Some (Some r)) × IsRooted (graph_of m.store) n × (holder m.holding n ≡ Some r.call)
+standing m seat n run e =
+    let x : (r : Running) × (slice_get m.seats seat ≡ Some (Some r)) × (position_of (Some r) ≡ Some n) = walks_on m.seats seat n e in
+    let w : Walks x.0 n = walks_at x.0 n x.2 in
+    let is : records m.seats x.0.call ≡ Some (record_of seat x.0.place x.0.op) = call_on m seat x.0 run x.1 in
+    let inv : Invariant (state_of m) = run_keeps (state_of m) run in (
+      x.0,
+      x.1,
+      (inv.key x.0.call, (inv.kept.each x.0.call (record_of seat x.0.place x.0.op) w.holdings is w.on).located.here ∙ ap (λ (k : ℕ). Some k) w.here),
+      inv.held x.0.call (record_of seat x.0.place x.0.op) w.holdings n is w.on (inl w.here),
+    )
+
 -- what a search needs
-pub can_search : (m : CoreValue) (b k p : ℕ) → IsKept m b k p → CanSearch m.store m.seats (room m.holding)
+pub can_search : (m : CoreValue) (b k p : ℕ) → IsKept m b k p → CanSearch m.store m.holding m.seats
 can_search m b k p kept = record {
-  graph = inv.is_graph;
+  graph = (run_keeps (state_of m) kept.run).is_graph;
   within = kept.roomy;
-  rooted = rooted;
+  rooted = λ seat n e. (standing m seat n kept.run e).2;
+  held = λ seat n e. ap is_some (standing m seat n kept.run e).3;
+  apart = apart;
 }
   where
-    inv : Invariant (state_of m)
-    inv = run_keeps (state_of m) kept.run
+    same_call : (n c d : ℕ) → holder m.holding n ≡ Some c → holder m.holding n ≡ Some d → c ≡ d
+    same_call n c d e f = let z : ◌≡◌ {A = Option ℕ} (Some c) (Some d) = sym e ∙ f in cc
 
-    rooted : (seat n : ℕ) (slot : Option Running) → slice_get m.seats seat ≡ Some slot → position_of slot ≡ Some n → (key : Key) × (numbers (graph_of m.store) key ≡ Some n)
-    rooted seat n None e f = cc
-    rooted seat n (Some r) e f =
-        let w : Walks r n = walks_at r n f in
-        (inv.key r.call, (inv.kept.each r.call (record_of seat r.place r.op) w.holdings (call_on m seat r kept.run e) w.on).located.here ∙ ap (λ (x : ℕ). Some x) w.here)
+    apart : (seat other n : ℕ) → position_on m.seats seat ≡ Some n → position_on m.seats other ≡ Some n → seat ≡ other
+    apart seat other n e f =
+        let x : (r : Running) × (slice_get m.seats seat ≡ Some (Some r)) × IsRooted (graph_of m.store) n × (holder m.holding n ≡ Some r.call) = standing m seat n kept.run e in
+        let y : (r : Running) × (slice_get m.seats other ≡ Some (Some r)) × IsRooted (graph_of m.store) n × (holder m.holding n ≡ Some r.call) = standing m other n kept.run f in
+        apart_of m kept.run seat other x.0 y.0 x.1 y.1 (same_call n x.0.call y.0.call x.3 y.3)
 
 -- what it finds
 pub chosen_by : (m : CoreValue) (s seat : ℕ) → Run (state_of m) → HasLeast (child m.store) m.seats s (length m.seats) (Some seat) → Helps m s seat
@@ -207,8 +223,13 @@ helps_by m b k p s kept None h = none_by m s kept.run kept.roomy h
 helps_by m b k p s kept (Some seat) h = chosen_by m s seat kept.run h
 
 -- the same of a list that the seats are
-pub search_by : (m : CoreValue) (b k p : ℕ) (seats : List (Option Running)) (bound : ℕ) → IsKept m b k p → seats ≡ m.seats → bound ≡ room m.holding → CanSearch m.store seats bound
-search_by m b k p seats bound kept e f = subst (λ (xs : List (Option Running)). CanSearch m.store xs bound) (sym e) (subst (λ (n : ℕ). CanSearch m.store m.seats n) (sym f) (can_search m b k p kept))
+pub search_by : (m : CoreValue) (b k p : ℕ) (seats : List (Option Running)) → IsKept m b k p → seats ≡ m.seats → CanSearch m.store m.holding seats
+search_by m b k p seats kept e = subst (λ (xs : List (Option Running)). CanSearch m.store m.holding xs) (sym e) (can_search m b k p kept)
 
-pub helped_by : (m : CoreValue) (b k p s : ℕ) (seats : List (Option Running)) → IsKept m b k p → seats ≡ m.seats → (o : Option ℕ) → HasLeast (child m.store) seats s (length seats) o → MatchOption o (NoneBelow (state_of m) (Some s)) (λ other. Helps m s other)
-helped_by m b k p s seats kept e o h = helps_by m b k p s kept o (subst (λ (xs : List (Option Running)). HasLeast (child m.store) xs s (length xs) o) e h)
+-- and before a finish that may move a node
+helps_if : (m : CoreValue) (b k p : ℕ) → IsKept m b k p → (moved o : Option ℕ) → HasLeastIf (child m.store) m.seats moved o → MatchOption o (NoneBelow (state_of m) moved) (λ other. HelpsIf m moved other)
+helps_if m b k p kept None o h = subst (λ (x : Option ℕ). MatchOption x (NoneBelow (state_of m) None) (λ other. HelpsIf m None other)) (sym h) tt
+helps_if m b k p kept (Some s) o h = helps_by m b k p s kept o h
+
+pub chosen_if : (m : CoreValue) (b k p : ℕ) (seats : List (Option Running)) → IsKept m b k p → seats ≡ m.seats → (moved o : Option ℕ) → HasLeastIf (child m.store) seats moved o → MatchOption o (NoneBelow (state_of m) moved) (λ other. HelpsIf m moved other)
+chosen_if m b k p seats kept e moved o h = helps_if m b k p kept moved o (subst (λ (xs : List (Option Running)). HasLeastIf (child m.store) xs moved o) e h)

@@ -4,6 +4,7 @@ pub mod States
 pub mod Steps
 pub mod Below
 pub mod Searching
+pub mod Ways
 pub mod Choosing
 pub mod Doing
 pub mod Readiness

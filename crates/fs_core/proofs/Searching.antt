@@ -1,50 +1,16 @@
 -- What a search among the seats finds.
-use Rattle.std.proofs.Common.{◌≡◌, ℕ, ◌+◌, ◌<◌, ◌≤◌, Bool, true, false, List, Option, Some, None, length, refl, sym, ap, ◌∙◌, arith, subst, ◌⊎◌, inl, inr}
-use Rattle.std.specs.Prelude.{slice_get, option_and_then, nat_lt, IsTrue}
+use Rattle.std.proofs.Common.{◌≡◌, ℕ, ◌+◌, ◌<◌, ◌≤◌, Bool, true, false, List, Option, Some, None, length, sym, ap, ◌∙◌, arith, subst, ◌⊎◌, inl, inr}
+use Rattle.std.specs.Prelude.{option_and_then, nat_lt, IsTrue}
 use Rattle.std.proofs.lemmas.Option.{slice_get_within}
-use Rattle.fs_nodes.specs.Graphs.{Children, IsReached}
+use Rattle.fs_nodes.specs.Graphs.{Children}
 use Rattle.fs_core.specs.declared.seat.Running.{Running}
 use Rattle.fs_core.specs.CoreValues.{number_on}
-use Rattle.fs_core.specs.code.Searches.{position_of, IsUnder, IsAlone, IsLowestOn, HasLeast, is_lesser}
+use Rattle.fs_core.specs.code.Searches.{IsUnder, IsLowestOn, HasLeast, is_lesser}
 use Rattle.fs_core.proofs.SeatLemmas.{number_read}
-
--- the call of a seat that was read
-pub same_slot : (seats : List (Option Running)) (seat : ℕ) (slot : Option Running) (r : Running) → slice_get seats seat ≡ Some slot → slice_get seats seat ≡ Some (Some r) → slot ≡ Some r
-same_slot seats seat slot r e f = let z : ◌≡◌ {A = Option (Option Running)} (Some slot) (Some (Some r)) = sym e ∙ f in cc
-
--- a slot with a position has a call
-call_of : (slot : Option Running) (n : ℕ) → position_of slot ≡ Some n → (r : Running) × (slot ≡ Some r)
-call_of None n e = cc
-call_of (Some r) n e = (r, refl)
-
--- a walking call is below a node where its position is
-pub under_at : (children : Children) (seats : List (Option Running)) (s seat : ℕ) (slot : Option Running) (n : ℕ) → slice_get seats seat ≡ Some slot → position_of slot ≡ Some n → IsReached children s n → IsUnder children seats s seat
-under_at children seats s seat slot n e f r = let c : (r : Running) × (slot ≡ Some r) = call_of slot n f in
-    record { running = c.0; node = n; on = e ∙ ap (λ (o : Option Running). Some o) c.1; position = ap position_of (sym c.1) ∙ f; reached = r }
-
--- the position is the one that was read
-pub position_is : (children : Children) (seats : List (Option Running)) (s seat : ℕ) (slot : Option Running) (n : ℕ) → slice_get seats seat ≡ Some slot → position_of slot ≡ Some n → (u : IsUnder children seats s seat) → u.node ≡ n
-position_is children seats s seat slot n e f u =
-    let z : ◌≡◌ {A = Option ℕ} (Some u.node) (Some n) = sym u.position ∙ ap position_of (sym (same_slot seats seat slot u.running e u.on)) ∙ f in cc
-
-pub not_under : (children : Children) (seats : List (Option Running)) (s seat : ℕ) (slot : Option Running) → slice_get seats seat ≡ Some slot → position_of slot ≡ None → IsUnder children seats s seat → ⊥
-not_under children seats s seat slot e f u = let z : ◌≡◌ {A = Option ℕ} None (Some u.node) = sym f ∙ ap position_of (same_slot seats seat slot u.running e u.on) ∙ u.position in cc
-
-pub reached_of : (children : Children) (seats : List (Option Running)) (s seat : ℕ) (slot : Option Running) (n : ℕ) → slice_get seats seat ≡ Some slot → position_of slot ≡ Some n → IsUnder children seats s seat → IsReached children s n
-reached_of children seats s seat slot n e f u = subst (IsReached children s) (position_is children seats s seat slot n e f u) u.reached
 
 -- a seat with a walking call is there
 pub under_within : (children : Children) (seats : List (Option Running)) (s seat : ℕ) → IsUnder children seats s seat → seat < length seats
 under_within children seats s seat u = slice_get_within seats seat (Some u.running) u.on
-
--- a lowest call
-pub lowest_at : (children : Children) (seats : List (Option Running)) (s seat : ℕ) (slot : Option Running) (n : ℕ) → slice_get seats seat ≡ Some slot → position_of slot ≡ Some n → IsReached children s n → IsAlone children seats n seat → IsLowestOn children seats s seat
-lowest_at children seats s seat slot n e f r a =
-    let u : IsUnder children seats s seat = under_at children seats s seat slot n e f r in
-    record { under = u; alone = subst (λ (m : ℕ). IsAlone children seats m seat) (sym (position_is children seats s seat slot n e f u)) a }
-
-pub alone_of : (children : Children) (seats : List (Option Running)) (s seat : ℕ) (slot : Option Running) (n : ℕ) → slice_get seats seat ≡ Some slot → position_of slot ≡ Some n → IsLowestOn children seats s seat → IsAlone children seats n seat
-alone_of children seats s seat slot n e f l = subst (λ (m : ℕ). IsAlone children seats m seat) (position_is children seats s seat slot n e f l.under) l.alone
 
 -- tests of which the answer is known
 pub true_is : (b : Bool) → b ≡ true → IsTrue b

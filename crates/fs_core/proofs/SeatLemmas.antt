@@ -1,5 +1,5 @@
 -- Lists of seats: what is on each, the records by number, and what is owed, after one seat changed.
-use Rattle.std.proofs.Common.{◌≡◌, ℕ, zero, suc, ◌+◌, ◌<◌, Bool, true, false, cond, eqb, List, [], ◌∷◌, ◌++◌, Option, Some, None, length, refl, sym, ap, ◌∙◌, arith, subst}
+use Rattle.std.proofs.Common.{◌≡◌, ℕ, zero, suc, ◌+◌, ◌<◌, Bool, true, false, cond, eqb, List, [], ◌∷◌, ◌++◌, Option, Some, None, length, length-append, length-set, refl, sym, ap, ◌∙◌, arith, subst}
 use Rattle.std.specs.Prelude.{slice_get, slice_set}
 use Rattle.std.specs.Option.{option_flatten}
 use mathlib.Core.Path.{fun_ext}
@@ -228,3 +228,11 @@ owed_more (slot ∷ seats) = ap (λ (n : ℕ). owed_at slot + n) (owed_more seat
 pub walking_more : (seats : List (Option Running)) → walking (seats ++ None ∷ []) ≡ walking seats
 walking_more [] = refl
 walking_more (slot ∷ seats) = ap (λ (n : ℕ). walking_at slot + n) (walking_more seats)
+
+-- a change of one element leaves as many as another list has
+pub length_after : {A B : Type 0} (xs : List A) (ys : List B) (i : ℕ) (y : B) → length xs ≡ length ys → length xs ≡ length (slice_set ys i y)
+length_after xs ys i y e = e ∙ sym (length-set ys i y)
+
+-- and one more in each too
+pub length_more : {A B : Type 0} (xs new : List A) (ys after : List B) (x : A) (y : B) → new ≡ xs ++ x ∷ [] → after ≡ ys ++ y ∷ [] → length xs ≡ length ys → length new ≡ length after
+length_more xs new ys after x y e f g = ap length e ∙ length-append xs (x ∷ []) ∙ ap (λ (n : ℕ). n + 1) g ∙ sym (length-append ys (y ∷ [])) ∙ sym (ap length f)

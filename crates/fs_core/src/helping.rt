@@ -1,36 +1,34 @@
 //! Whom a rename helps: among the walking calls below the node that it would move.
 
-ghost use Rattle.std.specs.Prelude.{option_and_then, ◌+◌, ◌≡◌, ℕ, ◌<◌, ◌≤◌, ◌↔◌, IsTrue, IfSome, MatchOption, Some, None, length, slice_get};
-ghost use Rattle.fs_nodes.specs.Graphs.{IsGraph, IsReached, numbers};
-ghost use Rattle.fs_nodes.specs.Stores.{graph_of, child};
-ghost use Rattle.fs_core.specs.code.Searches.{IsRooted, position_of, IsUnder, IsAlone, IsLowestOn, CanSearch, HasLeast, is_lesser};
-ghost use Rattle.fs_core.specs.code.Rooms.{AreBelow};
-ghost use Rattle.fs_core.specs.CoreValues.{number_on};
+ghost use Rattle.std.specs.Prelude.{option_and_then, ◌≡◌, ℕ, ◌<◌, ◌↔◌, IsTrue, IsSome, false, Some, None, length};
 ghost use Rattle.std.specs.Option.{ForSome};
+ghost use Rattle.fs_nodes.specs.Graphs.{IsReached};
+ghost use Rattle.fs_nodes.specs.Stores.{child};
+ghost use Rattle.fs_locks.specs.Holding.{holder};
+ghost use Rattle.fs_core.specs.code.Searches.{position_of, position_on, StandsIf, MeetsIf, IsNearest, IsMet, IsUnmet, IsWay, AreWays, CanSearch, HasLeast, HasLeastIf, is_lesser};
+ghost use Rattle.fs_core.specs.CoreValues.{number_on};
 
 use crate::seat::{Running, number};
+use fs_locks::Holders;
 use fs_nodes::{NodeNo, Store};
 
-/// Whether a node is another one, or is reached from it; it is looked for upwards, through at most `bound` nodes.
-fn is_reached(store: &Store, bound: usize, from: NodeNo, node: NodeNo) -> bool
-    requires graph { IsGraph (graph_of store.now) }
-    requires rooted { IsRooted (graph_of store.now) node }
-    requires bound { AreBelow (graph_of store.now) bound }
-    ensures { IsTrue result ↔ IsReached (child store.now) from node }
+/// What the way up from the position of a walking call comes to: whether it passes the node that would be moved, and the seat
+/// of the nearest other walking call up to there.
+#[derive(Clone, Copy)]
+pub struct Way {
+    pub below: bool,
+    pub above: Option<usize>,
+}
+
+/// The way of a seat on which no call walks.
+pub fn no_way() -> Way
+    ensures below { result.below ≡ false }
+    ensures above { result.above ≡ None }
 {
-    // The nodes on the way up differ, and their numbers are below the bound, so the loop reaches the root within it. The bound
-    // only shows that the loop ends: an ascent is as long as the node is deep.
-    let mut above = node;
-    for _step in 0..bound {
-        if above == from {
-            return true;
-        }
-        match store.parent(above) {
-            Some(parent) => above = parent,
-            None => return false,
-        }
+    Way {
+        below: false,
+        above: None,
     }
-    false
 }
 
 /// The position of a walking call.
@@ -45,59 +43,137 @@ fn position(slot: &Option<Running>) -> Option<NodeNo>
     }
 }
 
-/// Whether the walking call on a seat is below a node.
-fn is_under(
-    store: &Store,
-    seats: &[Option<Running>],
-    bound: usize,
-    node: NodeNo,
-    seat: usize,
-) -> bool
-    requires can { CanSearch store.now seats.now bound }
-    requires seat { seat < length seats.now }
-    ensures { IsTrue result ↔ IsUnder (child store.now) seats.now node seat }
+/// Whether the call on a seat walks and is at a node.
+fn is_at(seats: &[Option<Running>], seat: usize, node: NodeNo) -> bool
+    requires { seat < length seats.now }
+    ensures { IsTrue result ↔ (position_on seats.now seat ≡ Some node) }
 {
     match position(&seats[seat]) {
-        Some(at) => is_reached(store, bound, node, at),
+        Some(at) => at == node,
         None => false,
     }
 }
 
-/// Whether no walking call of another seat is below a node.
-fn is_alone(
-    store: &Store,
-    seats: &[Option<Running>],
-    bound: usize,
-    node: NodeNo,
-    seat: usize,
-) -> bool
-    requires can { CanSearch store.now seats.now bound }
-    ensures { IsTrue result ↔ IsAlone (child store.now) seats.now node seat }
+/// The seat of a walking call at a node, other than the one on a seat.
+fn other_at(seats: &[Option<Running>], node: NodeNo, seat: usize) -> Option<usize>
+    ensures { StandsIf seats.now node seat result }
 {
     for other in 0..seats.len() {
-        if other != seat && is_under(store, seats, bound, node, other) {
-            return false;
+        if other != seat && is_at(seats, other, node) {
+            return Some(other);
         }
     }
-    true
+    None
 }
 
-/// Whether the walking call on a seat is below a node, and no other walking call is below its position.
-fn is_lowest(
-    store: &Store,
+/// Whom a way has met with one node more: the nearest call stays, and the seats are looked at only where the node is held.
+fn met_with(
+    holders: &Holders,
     seats: &[Option<Running>],
-    bound: usize,
     node: NodeNo,
     seat: usize,
-) -> bool
-    requires can { CanSearch store.now seats.now bound }
+    met: Option<usize>,
+) -> Option<usize>
+    requires held { (j : ℕ) → position_on seats.now j ≡ Some node → IsSome (holder holders.now node) }
+    ensures { MeetsIf seats.now node seat met result }
+{
+    if met.is_some() || holders.holder(node).is_none() {
+        return met;
+    }
+    other_at(seats, node, seat)
+}
+
+/// The way up from the position of the walking call on a seat, to the node that would be moved or else to the root.
+fn way_from(
+    store: &Store,
+    holders: &Holders,
+    seats: &[Option<Running>],
+    node: NodeNo,
+    seat: usize,
+    position: NodeNo,
+) -> Way
+    requires can { CanSearch store.now holders.now seats.now }
+    requires position { position_on seats.now seat ≡ Some position }
+    ensures below { IsTrue result.below ↔ IsReached (child store.now) node position }
+    ensures above { IsNearest (child store.now) seats.now node seat position result.above }
+{
+    // The nodes on the way up differ, and each has room for its holder, so the loop reaches the root within that room. The
+    // bound only shows that the loop ends: a way is as long as the position is deep.
+    let mut above = position;
+    let mut met: Option<usize> = None;
+    for _step in 0..holders.room() {
+        met = met_with(holders, seats, above, seat, met);
+        if above == node {
+            return Way {
+                below: true,
+                above: met,
+            };
+        }
+        match store.parent(above) {
+            Some(parent) => above = parent,
+            None => {
+                return Way {
+                    below: false,
+                    above: met,
+                };
+            }
+        }
+    }
+    no_way()
+}
+
+/// The way of a seat.
+fn way_of(
+    store: &Store,
+    holders: &Holders,
+    seats: &[Option<Running>],
+    node: NodeNo,
+    seat: usize,
+) -> Way
+    requires can { CanSearch store.now holders.now seats.now }
     requires seat { seat < length seats.now }
-    ensures { IsTrue result ↔ IsLowestOn (child store.now) seats.now node seat }
+    ensures { IsWay (child store.now) seats.now node seat result }
 {
     match position(&seats[seat]) {
-        Some(at) => is_reached(store, bound, node, at) && is_alone(store, seats, bound, at, seat),
-        None => false,
+        Some(at) => way_from(store, holders, seats, node, seat, at),
+        None => no_way(),
     }
+}
+
+fn put(place: &mut Way, way: Way)
+    ensures { place.new ≡ way }
+{
+    *place = way;
+}
+
+/// Finds the way of each seat.
+fn find_ways(
+    store: &Store,
+    holders: &Holders,
+    seats: &[Option<Running>],
+    ways: &mut [Way],
+    node: NodeNo,
+)
+    requires can { CanSearch store.now holders.now seats.now }
+    requires ways { length ways.old ≡ length seats.now }
+    ensures ways { AreWays (child store.now) seats.now node (length seats.now) ways.new }
+    ensures length { length ways.new ≡ length ways.old }
+{
+    for seat in 0..seats.len() {
+        put(&mut ways[seat], way_of(store, holders, seats, node, seat));
+    }
+}
+
+/// Whether the call on a seat is the nearest one above another.
+fn is_met(ways: &[Way], seat: usize) -> bool
+    ensures { IsTrue result ↔ IsMet ways.now seat }
+{
+    for other in 0..ways.len() {
+        if ways[other].above == Some(seat) {
+            return true;
+        }
+    }
+    false
 }
 
 /// Whether the call on a seat has a lesser number than the one on another seat.
@@ -115,45 +191,56 @@ fn is_less(seats: &[Option<Running>], seat: usize, other: Option<usize>) -> bool
     }
 }
 
-/// Of the seats up to this one, the one with the lowest call of the least number, by what the seats before it gave.
-fn lowest_with(
-    store: &Store,
-    seats: &[Option<Running>],
-    bound: usize,
-    node: NodeNo,
-    seat: usize,
-    chosen: Option<usize>,
-) -> Option<usize>
-    requires can { CanSearch store.now seats.now bound }
-    requires seat { seat < length seats.now }
-    requires before { HasLeast (child store.now) seats.now node seat chosen }
-    ensures { HasLeast (child store.now) seats.now node (seat + 1) result }
+/// Whether a seat's way passes the node that would be moved, and no way meets its call.
+fn is_lowest(ways: &[Way], seat: usize) -> bool
+    requires { seat < length ways.now }
+    ensures { IsTrue result ↔ IsUnmet ways.now seat }
 {
-    if !is_lowest(store, seats, bound, node, seat) {
-        return chosen;
-    }
-    if is_less(seats, seat, chosen) {
-        Some(seat)
-    } else {
-        chosen
-    }
+    ways[seat].below && !is_met(ways, seat)
 }
 
-/// Of the walking calls below a node of which each has no other one below its position, the one with the least number: its seat.
+/// Of the walking calls below a node of which each has no other one below its position, the one with the least number: its
+/// seat. Each seat has a place for its way, whatever stands there before.
 pub fn to_help(
     store: &Store,
+    holders: &Holders,
     seats: &[Option<Running>],
-    bound: usize,
+    ways: &mut [Way],
     node: NodeNo,
 ) -> Option<usize>
-    requires can { CanSearch store.now seats.now bound }
-    ensures { HasLeast (child store.now) seats.now node (length seats.now) result }
+    requires can { CanSearch store.now holders.now seats.now }
+    requires ways { length ways.old ≡ length seats.now }
+    ensures chosen { HasLeast (child store.now) seats.now node (length seats.now) result }
+    ensures ways { length ways.new ≡ length ways.old }
 {
-    // Three nested searches: each seat, each other seat, and the way up from that one's position. So a help costs at most the
-    // square of the number of seats times the depth of a position. No index is kept for it, and nothing is allocated.
+    // Who is not lowest is the nearest one above some other, so one way up from each position is enough. A help looks, for each
+    // seat, at the nodes from its position up to the one that would be moved, at each seat where one of these is held, until a
+    // walking call is met, and at each seat's way. Nothing is allocated.
+    find_ways(store, holders, seats, ways, node);
     let mut chosen: Option<usize> = None;
     for seat in 0..seats.len() {
-        chosen = lowest_with(store, seats, bound, node, seat, chosen);
+        if is_lowest(ways, seat) && is_less(seats, seat, chosen) {
+            chosen = Some(seat);
+        }
     }
     chosen
+}
+
+/// The same before a finish that may move a node: no seat where it moves none.
+pub fn to_help_before(
+    store: &Store,
+    holders: &Holders,
+    seats: &[Option<Running>],
+    ways: &mut [Way],
+    moved: &Option<NodeNo>,
+) -> Option<usize>
+    requires can { CanSearch store.now holders.now seats.now }
+    requires ways { length ways.old ≡ length seats.now }
+    ensures chosen { HasLeastIf (child store.now) seats.now moved.now result }
+    ensures ways { length ways.new ≡ length ways.old }
+{
+    match moved {
+        Some(node) => to_help(store, holders, seats, ways, *node),
+        None => None,
+    }
 }

@@ -1,6 +1,6 @@
 //! The shared state of all calls, its begins and its steps.
 
-ghost use Rattle.std.specs.Prelude.{MatchOption, IfOk, OnOk, OnErr, ◌≡◌, ◌<◌, ◌≤◌, ◌++◌, ◌∷◌, [], ℕ, None, Some, length};
+ghost use Rattle.std.specs.Prelude.{IfOk, OnOk, OnErr, ◌≡◌, ◌<◌, ◌≤◌, ◌++◌, ◌∷◌, [], ℕ, None, Some, length};
 ghost use Rattle.fs_names.specs.declared.limits.TheConstants.{NODE_LIMIT};
 ghost use Rattle.fs_nodes.specs.Graphs.{numbers};
 ghost use Rattle.fs_machine.specs.declared.moves.Move.TheVariants.{Take as Takes, LetGo as Leaves, Finish as Finishes, Return as Ends};
@@ -10,12 +10,11 @@ ghost use Rattle.fs_calls.specs.Outcomes.{play};
 ghost use Rattle.fs_calls.specs.Sights.{tree_shapes};
 ghost use Rattle.fs_timeline.specs.Timeline.{IsLawful, commits};
 ghost use Rattle.fs_machine.specs.States.{Begins, Step, NoneBelow, Run, empty};
-ghost use Rattle.fs_core.specs.code.Helping.{HelpsIf};
 ghost use Rattle.fs_core.specs.CoreValues.{state_of, IsAtRest};
 ghost use Rattle.fs_core.specs.code.Seats.{MovesOn, PlacedOn};
 
 use crate::beginning::make_ready;
-use crate::helping::to_help;
+use crate::helping::{Way, no_way, to_help_before};
 use crate::seat::{self, Running};
 use fs_calls::Call;
 use fs_index::IndexedTimeline;
@@ -38,9 +37,12 @@ pub struct Core {
     begun: u64,
     commits: u64,
     timeline: IndexedTimeline,
+    // A place for each seat, for the search of whom to help: of the core's value it is no part.
+    ways: Vec<Way>,
 }
 
 impl Model for Core {
+    ghost use Rattle.std.specs.Prelude.{◌≡◌, length};
     ghost use Rattle.fs_core.specs.CoreValues.{CoreValue};
     ghost use Rattle.fs_core.specs.code.Rooms.{IsKept};
 
@@ -48,7 +50,7 @@ impl Model for Core {
 
     ghost view = { λ a. record { store = a.store; holding = a.holders; seats = a.seats.items; timeline = a.timeline.entries } };
 
-    ghost invariant = { λ a. IsKept (record { store = a.store; holding = a.holders; seats = a.seats.items; timeline = a.timeline.entries }) a.begun a.commits a.timeline.reserved };
+    ghost invariant = { λ a. IsKept (record { store = a.store; holding = a.holders; seats = a.seats.items; timeline = a.timeline.entries }) a.begun a.commits a.timeline.reserved × (length a.ways.items ≡ length a.seats.items) };
 }
 
 /// A match on a call's next move, whose arms are written from a table: the moves that are made in every phase of a call, and
@@ -132,16 +134,6 @@ impl Core {
         Stepped::CarriedOut
     }
 
-    /// The seat of the call to help before a finish that would move a node; none where no walking call is below it.
-    fn to_help(&self, moved: &Option<NodeNo>) -> Option<usize>
-        ensures { MatchOption result (NoneBelow (state_of self.now) moved.now) (λ other. HelpsIf self.now moved.now other) }
-    {
-        match moved {
-            Some(node) => to_help(&self.store, &self.seats, self.holders.room(), *node),
-            None => None,
-        }
-    }
-
     /// The walking call on a seat helps a walking call below the node that it would move; where there is none, it commits.
     fn help_or_commit(&mut self, seat: usize, call: CallNo, moved: Option<NodeNo>) -> Stepped
         requires seat { seat < length self.old.seats }
@@ -150,7 +142,13 @@ impl Core {
         ensures step { Step (state_of self.old) seat result (state_of self.new) }
         ensures seats { length self.new.seats ≡ length self.old.seats }
     {
-        match self.to_help(&moved) {
+        match to_help_before(
+            &self.store,
+            &self.holders,
+            &self.seats,
+            &mut self.ways,
+            &moved,
+        ) {
             Some(other) => {
                 let helped = seat::give_place(&mut self.seats[other], self.commits);
                 self.commits += 1;
@@ -220,6 +218,7 @@ impl Core {
             begun: 0,
             commits: 0,
             timeline: IndexedTimeline::new(alloc),
+            ways: Vec::new(alloc),
         })
     }
 
@@ -239,7 +238,11 @@ impl Core {
         ensures err { OnErr result (self.new.seats ≡ self.old.seats) }
     {
         let seat = self.seats.len() as u64;
-        self.seats.push(None)?;
+        self.ways.push(no_way())?;
+        if let Err(refused) = self.seats.push(None) {
+            self.ways.pop();
+            return Err(refused.into());
+        }
         Ok(SeatNo::new(seat))
     }
 

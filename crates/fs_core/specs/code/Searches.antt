@@ -1,10 +1,12 @@
 -- Which walking calls are below a node, and which of them is to be helped.
-use Rattle.std.specs.Prelude.{ℕ, ◌≡◌, ◌<◌, ◌≤◌, nat_lt, Bool, true, false, List, Option, Some, None, option_map, slice_get}
+use Rattle.std.specs.Prelude.{ℕ, ◌≡◌, ◌<◌, ◌≤◌, ◌↔◌, nat_lt, Bool, true, false, IsTrue, IsSome, List, Option, Some, None, option_map, length, slice_get}
 use Rattle.fs_names.specs.Keys.{Key}
 use Rattle.fs_nodes.specs.Graphs.{Graph, Children, numbers, IsGraph, IsReached}
 use Rattle.fs_nodes.specs.Stores.{Places}
 use Rattle.fs_nodes.specs.Stores.{graph_of}
-use Rattle.fs_core.specs.CoreValues.{number_on}
+use Rattle.fs_locks.specs.Holding.{Holding, holder, room}
+use Rattle.fs_core.specs.CoreValues.{number_on, running_on}
+use Rattle.fs_core.specs.declared.helping.Way.{Way}
 use Rattle.fs_core.specs.declared.seat.Running.{Running}
 use Rattle.fs_core.specs.code.Rooms.{is_walking, AreBelow}
 
@@ -17,6 +19,10 @@ position_if false running = None
 abbrev pub position_of : Option Running → Option ℕ
 position_of None = None
 position_of (Some running) = position_if (is_walking running) running
+
+-- the position of the walking call on a seat
+abbrev pub position_on : List (Option Running) → ℕ → Option ℕ
+position_on seats seat = position_of (running_on seats seat)
 
 -- the walking call on a seat is below a node
 pub record IsUnder (children : Children) (seats : List (Option Running)) (s seat : ℕ) : Type 0 where
@@ -46,12 +52,68 @@ abbrev pub HasLeast : Children → List (Option Running) → ℕ → ℕ → Opt
 HasLeast children seats s i None = (j : ℕ) → j < i → IsLowestOn children seats s j → ⊥
 HasLeast children seats s i (Some seat) = (seat < i) × IsLowestOn children seats s seat × ((j c d : ℕ) → j < i → IsLowestOn children seats s j → number_on seats seat ≡ Some c → number_on seats j ≡ Some d → c ≤ d)
 
+-- the same before a finish that may move a node
+abbrev pub HasLeastIf : Children → List (Option Running) → Option ℕ → Option ℕ → Type 0
+HasLeastIf children seats None chosen = chosen ≡ None
+HasLeastIf children seats (Some s) chosen = HasLeast children seats s (length seats) chosen
+
 -- a node is reached from the root
 abbrev pub IsRooted : Graph → ℕ → Type 0
 IsRooted graph n = (key : Key) × (numbers graph key ≡ Some n)
 
--- what a search needs: a graph with all its numbers below a bound, and each walking call at a node that is reached from the root
-pub record CanSearch (store : Places) (seats : List (Option Running)) (bound : ℕ) : Type 0 where
+-- what a search needs: a graph in which each number has room for a holder, and each walking call at a node that is reached from
+-- the root, that is held, and at which there is no other one
+pub record CanSearch (store : Places) (holding : Holding) (seats : List (Option Running)) : Type 0 where
   pub graph : IsGraph (graph_of store)
-  pub within : AreBelow (graph_of store) bound
-  pub rooted : (seat n : ℕ) (slot : Option Running) → slice_get seats seat ≡ Some slot → position_of slot ≡ Some n → IsRooted (graph_of store) n
+  pub within : AreBelow (graph_of store) (room holding)
+  pub rooted : (seat n : ℕ) → position_on seats seat ≡ Some n → IsRooted (graph_of store) n
+  pub held : (seat n : ℕ) → position_on seats seat ≡ Some n → IsSome (holder holding n)
+  pub apart : (seat other n : ℕ) → position_on seats seat ≡ Some n → position_on seats other ≡ Some n → seat ≡ other
+
+-- a walking call at a node, other than the one on a seat: its seat
+abbrev pub StandsIf : List (Option Running) → ℕ → ℕ → Option ℕ → Type 0
+StandsIf seats n seat None = (j : ℕ) → (seat ≡ j → ⊥) → position_on seats j ≡ Some n → ⊥
+StandsIf seats n seat (Some k) = (seat ≡ k → ⊥) × (position_on seats k ≡ Some n)
+
+-- the one that was met before, else one at a node
+abbrev pub MeetsIf : List (Option Running) → ℕ → ℕ → Option ℕ → Option ℕ → Type 0
+MeetsIf seats n seat None result = StandsIf seats n seat result
+MeetsIf seats n seat (Some k) result = result ≡ Some k
+
+-- another walking call is above a position, and whoever else is above that is above this one too
+abbrev pub IsAbove : Children → List (Option Running) → ℕ → ℕ → ℕ → Type 0
+IsAbove children seats seat position k =
+    (n : ℕ) × (seat ≡ k → ⊥) × (position_on seats k ≡ Some n) × IsReached children n position × ((j m : ℕ) → (seat ≡ j → ⊥) → position_on seats j ≡ Some m → IsReached children m position → IsReached children m n)
+
+-- the nearest other walking call above the position of the one on a seat; none only where none is below a node and above it
+abbrev pub IsNearest : Children → List (Option Running) → ℕ → ℕ → ℕ → Option ℕ → Type 0
+IsNearest children seats s seat position None = (j m : ℕ) → (seat ≡ j → ⊥) → position_on seats j ≡ Some m → IsReached children s m → IsReached children m position → ⊥
+IsNearest children seats s seat position (Some k) = IsAbove children seats seat position k
+
+-- the same of a seat, on which perhaps no call walks
+abbrev pub IsNearestIf : Children → List (Option Running) → ℕ → ℕ → Option ℕ → Option ℕ → Type 0
+IsNearestIf children seats s seat None above = above ≡ None
+IsNearestIf children seats s seat (Some position) above = IsNearest children seats s seat position above
+
+-- the way up from the position of the walking call on a seat
+pub record IsWay (children : Children) (seats : List (Option Running)) (s seat : ℕ) (way : Way) : Type 0 where
+  pub below : IsTrue way.below ↔ IsUnder children seats s seat
+  pub above : IsNearestIf children seats s seat (position_on seats seat) way.above
+
+-- the ways of the seats below one
+abbrev pub AreWays : Children → List (Option Running) → ℕ → ℕ → List Way → Type 0
+AreWays children seats s i ways = (j : ℕ) (way : Way) → j < i → slice_get ways j ≡ Some way → IsWay children seats s j way
+
+-- the call on a seat is the nearest one above another
+pub record IsMet (ways : List Way) (seat : ℕ) : Type 0 where
+  pub other : ℕ
+  pub way : Way
+  pub on : slice_get ways other ≡ Some way
+  pub above : way.above ≡ Some seat
+
+-- its way passes the node, and no way meets it
+pub record IsUnmet (ways : List Way) (seat : ℕ) : Type 0 where
+  pub way : Way
+  pub on : slice_get ways seat ≡ Some way
+  pub below : IsTrue way.below
+  pub unmet : IsMet ways seat → ⊥

@@ -3,7 +3,7 @@ use Rattle.fs_core.proofs.Resting.{spelled_at_rest}
 use Rattle.fs_core.proofs.machine.Core.told.Goals as goal
 
 pub returns-clause-lawful : goal.returns-clause-lawful
-returns-clause-lawful c = rw (← c.self.view_is) (linearizes _ c.self.invariant.run).lawful
+returns-clause-lawful c = rw (← c.self.view_is) (linearizes _ c.self.invariant.0.run).lawful
 
 pub returns-clause-spelled : goal.returns-clause-spelled
-returns-clause-spelled c = spelled_at_rest c.args.self.now (rw (← c.self.view_is) c.self.invariant.run)
+returns-clause-spelled c = spelled_at_rest c.args.self.now (rw (← c.self.view_is) c.self.invariant.0.run)

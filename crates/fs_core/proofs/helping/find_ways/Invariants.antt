@@ -1,0 +1,11 @@
+use Rattle.std.proofs.Common.{◌≡◌, length}
+use Rattle.fs_nodes.specs.Stores.{child}
+use Rattle.fs_core.specs.code.Searches.{AreWays}
+use Rattle.fs_core.proofs.helping.find_ways.Given as goal
+
+-- the ways so far
+abbrev pub invariant-loop-seat : goal.invariant-loop-seat
+invariant-loop-seat l = record {
+  ways : AreWays (child l.store) l.seats l.node l.seat l.ways;
+  same : length l.ways ≡ length l.fn.ways;
+}
