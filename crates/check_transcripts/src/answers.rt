@@ -11,9 +11,9 @@ use std::alloc::Global;
 use transcripts::{plain, refusal_words, text_of};
 
 /// The call that a text spells.
-pub fn call_of(alloc: Global, text: &str) -> Result<Call> {
+pub fn call_of(alloc: Global, text: &[u8]) -> Result<Call> {
     let mut words = Vec::new(alloc);
-    cut_words(text.as_bytes(), &mut words)?;
+    cut_words(text, &mut words)?;
     Ok(call_at(alloc, &words)?)
 }
 

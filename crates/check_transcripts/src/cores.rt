@@ -129,9 +129,10 @@ fn under_way(alloc: Global, core: &Core, seat: u64) -> Result<String> {
 
 /// The text of a journal, and what the checker says of it.
 fn journal(alloc: Global, entries: &[Entry]) -> Result<String> {
-    let text = text_of(alloc, &journal_text(alloc, entries)?)?;
-    let verdict = verdict_text(alloc, entries)?;
-    Ok(format!(in alloc; "{}{}\n", text.as_str(), verdict.as_str())?)
+    let mut text = journal_text(alloc, entries)?;
+    text.extend_from_slice(verdict_text(alloc, entries)?.as_bytes())?;
+    text.push(b'\n')?;
+    text_of(alloc, &text)
 }
 
 /// The last line of the text of the tree.

@@ -11,7 +11,7 @@ use fs_calls::{Call, Reply};
 use fs_core::Core;
 use fs_seq::SeqTree;
 use fs_text::words::number_of;
-use std::alloc::{AllocError, Global};
+use std::alloc::Global;
 use transcripts::{Answers, first_word, new_core, number, numbered, plain};
 
 /// The first words of calls.
@@ -32,24 +32,33 @@ fn call_if_any(alloc: Global, text: &str) -> Result<Option<Call>> {
     if text.is_empty() {
         return Ok(None);
     }
-    Ok(Some(call_of(alloc, text)?))
+    Ok(Some(call_of(alloc, text.as_bytes())?))
 }
 
 /// A call with a number in the place of each `#`.
 fn numbered_call(alloc: Global, text: &str, number: u64) -> Result<Call> {
-    let line = numbered(alloc, text, number)?;
-    call_of(alloc, str::from_utf8(&line)?)
+    call_of(alloc, &numbered(alloc, text, number)?)
 }
 
-/// Whether a copy of a call has this reply on a tree.
-fn replies(
-    alloc: Global,
-    tree: &mut SeqTree,
-    call: &Call,
-    reply: &Reply,
-) -> Result<bool, AllocError> {
+/// A tree gives a copy of a call this reply.
+fn agree(alloc: Global, tree: &mut SeqTree, call: &Call, reply: &Reply) -> Result<()> {
     let copy = call.copy(alloc)?;
-    Ok(tree.apply(alloc, &copy)?.same(reply))
+    let is_same = tree.apply(alloc, &copy)?.same(reply);
+    ensure!(is_same, "the tree replies otherwise");
+    Ok(())
+}
+
+/// The call that a text spells begins on a seat.
+fn begin(alloc: Global, core: &mut Core, seat: u64, text: &str) -> Result<String> {
+    let call = call_of(alloc, text.as_bytes())?;
+    cores::begin(alloc, core, seat, &call)
+}
+
+/// A core with one seat.
+fn one_seat(alloc: Global) -> Result<Core> {
+    let mut core = Core::new(alloc)?;
+    core.seat()?;
+    Ok(core)
 }
 
 impl Stage {
@@ -69,38 +78,45 @@ impl Stage {
         }
     }
 
+    /// A core, with a sequential tree beside it or none.
+    fn put(&mut self, core: Core, tree: Option<SeqTree>) {
+        self.core = Some(core);
+        self.tree = tree;
+    }
+
     /// A core alone.
     fn set_up(&mut self, alloc: Global, text: &str) -> Result<String> {
         let (limit, seats) = first_word(text);
-        self.core = Some(new_core(alloc, number(limit)?, number(seats)?)?);
-        self.tree = None;
+        self.put(new_core(alloc, number(limit)?, number(seats)?)?, None);
         plain(alloc, "")
     }
 
     /// A sequential tree, with a core beside it.
     fn plant(&mut self, alloc: Global) -> Result<String> {
-        let mut core = Core::new(alloc)?;
-        core.seat()?;
-        self.core = Some(core);
-        self.tree = Some(SeqTree::new(alloc)?);
+        let tree = SeqTree::new(alloc)?;
+        self.put(one_seat(alloc)?, Some(tree));
         plain(alloc, "")
+    }
+
+    /// Where there is a tree, it gives a call this reply.
+    fn compare(&mut self, alloc: Global, call: &Call, reply: &Reply) -> Result<()> {
+        match &mut self.tree {
+            Some(tree) => agree(alloc, tree, call, reply),
+            None => Ok(()),
+        }
     }
 
     /// The reply of a call that is alone: both give the same where there are two trees.
     fn reply(&mut self, alloc: Global, call: &Call) -> Result<Reply> {
         let reply = cores::whole(alloc, self.core()?, call)?;
-        if let Some(tree) = &mut self.tree {
-            ensure!(
-                replies(alloc, tree, call, &reply)?,
-                "the tree replies otherwise"
-            );
-        }
+        self.compare(alloc, call, &reply)?;
         Ok(reply)
     }
 
-    /// Whether a call that is alone is done.
-    fn does(&mut self, alloc: Global, call: &Call) -> Result<bool> {
-        let reply = self.reply(alloc, call)?;
+    /// Whether a call of a round, which is alone, is done.
+    fn does(&mut self, alloc: Global, text: &str, round: u64) -> Result<bool> {
+        let call = numbered_call(alloc, text, round)?;
+        let reply = self.reply(alloc, &call)?;
         Ok(matches!(&reply, Reply::Done))
     }
 
@@ -108,8 +124,7 @@ impl Stage {
     fn round(&mut self, alloc: Global, calls: &str, round: u64) -> Result<u64> {
         let mut done: u64 = 0;
         for text in calls.split("; ") {
-            let call = numbered_call(alloc, text, round)?;
-            done = done.wrapping_add(self.does(alloc, &call)? as u64);
+            done = done.wrapping_add(self.does(alloc, text, round)? as u64);
         }
         Ok(done)
     }
@@ -130,7 +145,7 @@ impl Stage {
         match text {
             "" => cores::step(alloc, core, seat),
             "end" => cores::end(alloc, core, seat),
-            _ => cores::begin(alloc, core, seat, &call_of(alloc, text)?),
+            _ => begin(alloc, core, seat, text),
         }
     }
 
@@ -142,7 +157,7 @@ impl Stage {
 
     /// A call that is alone.
     fn call(&mut self, alloc: Global, line: &str) -> Result<String> {
-        let call = call_of(alloc, line)?;
+        let call = call_of(alloc, line.as_bytes())?;
         self.replied(alloc, &call)
     }
 

@@ -3,7 +3,9 @@
 //! parents of `/a/b/c/x` and `/a/y`: `fork NODE NAMES`, `fork_took NODE`, `fork_left NODE`, `fork_back`. `cancel LIMIT CALL`
 //! begins a call on a new tree of so many nodes at the most, and cancels it.
 
-ghost use Rattle.std.specs.Prelude.{◌≤◌, IfOk};
+ghost use Rattle.std.specs.Prelude.{◌≡◌, ◌≤◌, IfOk, IfSome, None};
+ghost use Rattle.fs_machine.specs.OpValues.{SpareIf};
+ghost use Rattle.fs_nodes.specs.Stores.{graph_of};
 ghost use Rattle.fs_names.specs.declared.limits.TheConstants.{PATH_LIMIT};
 
 use crate::answers::call_of;
@@ -78,13 +80,22 @@ fn fork_text(alloc: Global, fork: &Fork) -> Result<String> {
     )?)
 }
 
-/// Whether the number that a call on a new tree reserved is in use after the call is cancelled.
-fn cancel(op: Op, store: &mut Store) -> Option<bool> {
+/// The number that a call which has begun reserved: nothing else has it, and the call stands nowhere.
+fn reserved(op: &Op, store: &Store) -> Option<NodeNo>
+    ensures spare { IfSome result (λ _. SpareIf (graph_of store.now) op.now.reserved) }
+    ensures start { IfSome result (λ _. op.now.holdings ≡ None) }
+{
     let node = op.reserved()?;
     let is_loose = store.is_used(node) && store.parent(node).is_none();
     if !(is_loose && store.entries(node) == 0 && node.get() != 0) || op.position().is_some() {
         return None;
     }
+    Some(node)
+}
+
+/// Whether the number that a call on a new tree reserved is in use after the call is cancelled.
+fn cancel(op: Op, store: &mut Store) -> Option<bool> {
+    let node = reserved(&op, store)?;
     op.cancel(store);
     Some(store.is_used(node))
 }
@@ -105,8 +116,9 @@ fn cancelled(alloc: Global, limit: u64, call: &Call) -> Result<String> {
 /// A call that begins, and is cancelled.
 fn cancel_line(alloc: Global, text: &str) -> Result<String> {
     let (limit, call) = first_word(text);
-    let call = call_of(alloc, call)?;
-    cancelled(alloc, number(limit)?, &call)
+    let limit = number(limit)?;
+    let call = call_of(alloc, call.as_bytes())?;
+    cancelled(alloc, limit, &call)
 }
 
 /// The number of names that a text is.
