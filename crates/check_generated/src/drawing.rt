@@ -63,19 +63,25 @@ fn add_lines(
     Ok(())
 }
 
-/// A script of three threads.
-fn script(alloc: Global, random: &mut Pcg32) -> Result<Vec<u8>, AllocError> {
-    let mut text = Vec::from_slice(alloc, b"atomfs 1\n")?;
+/// Adds the blocks of three threads and a schedule.
+fn add_blocks(random: &mut Pcg32, text: &mut Vec<u8>) -> Result<(), AllocError> {
     for thread in THREADS {
         text.extend_from_slice(b"thread ")?;
-        fill(random, thread, b'\n', &mut text)?;
-        add_lines(random, &CALLS, 6, &mut text)?;
+        fill(random, thread, b'\n', text)?;
+        add_lines(random, &CALLS, 6, text)?;
     }
     text.extend_from_slice(b"schedule\n")?;
-    add_lines(random, &EVENTS, 8, &mut text)?;
+    add_lines(random, &EVENTS, 8, text)?;
     if below(random, 3) > 0 {
         text.extend_from_slice(b"finish\n")?;
     }
+    Ok(())
+}
+
+/// A script of three threads.
+fn script(alloc: Global, random: &mut Pcg32) -> Result<Vec<u8>, AllocError> {
+    let mut text = Vec::from_slice(alloc, b"atomfs 1\n")?;
+    add_blocks(random, &mut text)?;
     Ok(text)
 }
 
@@ -117,15 +123,19 @@ fn run_text(alloc: Global, random: &mut Pcg32) -> Result<Vec<u8>> {
     Ok(writer.inner)
 }
 
+/// Adds one of the words of all lines, and the byte behind it.
+fn add_word(random: &mut Pcg32, behind: u8, text: &mut Vec<u8>) -> Result<(), AllocError> {
+    text.extend_from_slice(pick(random, &WORDS).as_bytes())?;
+    text.push(behind)?;
+    Ok(())
+}
+
 /// Adds a line of words.
 fn add_words(random: &mut Pcg32, text: &mut Vec<u8>) -> Result<(), AllocError> {
     for _ in 0..below(random, 4) {
-        text.extend_from_slice(pick(random, &WORDS).as_bytes())?;
-        text.push(b' ')?;
+        add_word(random, b' ', text)?;
     }
-    text.extend_from_slice(pick(random, &WORDS).as_bytes())?;
-    text.push(b'\n')?;
-    Ok(())
+    add_word(random, b'\n', text)
 }
 
 fn lines(alloc: Global, random: &mut Pcg32) -> Result<Vec<u8>, AllocError> {
@@ -156,61 +166,76 @@ fn later(random: &mut Pcg32, limit: usize) -> usize {
     below(random, limit.wrapping_sub(1)).wrapping_add(1)
 }
 
-/// The text with two of its lines behind the first exchanged.
-fn exchanged(alloc: Global, random: &mut Pcg32, text: &[u8]) -> Result<Vec<u8>, AllocError> {
+/// The lines of a text.
+fn cut(alloc: Global, text: &[u8]) -> Result<Vec<&[u8]>, AllocError> {
     let mut lines = Vec::new(alloc);
     for line in text.split(|b| *b == b'\n') {
         lines.push(line)?;
     }
+    Ok(lines)
+}
+
+/// The place that this one is exchanged with; itself where it is neither of the two.
+fn other_place(place: usize, first: usize, second: usize) -> usize {
+    if place == first {
+        second
+    } else if place == second {
+        first
+    } else {
+        place
+    }
+}
+
+/// The text with two of its lines behind the first exchanged.
+fn exchanged(alloc: Global, random: &mut Pcg32, text: &[u8]) -> Result<Vec<u8>, AllocError> {
+    let lines = cut(alloc, text)?;
     let (first, second) = (later(random, lines.len()), later(random, lines.len()));
     let mut swapped = Vec::new(alloc);
     for (place, line) in lines.iter().enumerate() {
-        let other = if place == first {
-            second
-        } else if place == second {
-            first
-        } else {
-            place
-        };
+        let other = lines.get(other_place(place, first, second));
         if place > 0 {
             swapped.push(b'\n')?;
         }
-        swapped.extend_from_slice(lines.get(other).unwrap_or(line))?;
+        swapped.extend_from_slice(other.unwrap_or(line))?;
     }
     Ok(swapped)
 }
 
+/// Three pieces, one behind the other.
+fn joined(alloc: Global, front: &[u8], middle: &[u8], rest: &[u8]) -> Result<Vec<u8>, AllocError> {
+    let mut text = Vec::from_slice(alloc, front)?;
+    text.extend_from_slice(middle)?;
+    text.extend_from_slice(rest)?;
+    Ok(text)
+}
+
 /// The text with a byte changed, dropped or doubled, or with two lines exchanged.
-fn changed(alloc: Global, random: &mut Pcg32, text: Vec<u8>) -> Result<Vec<u8>, AllocError> {
+fn changed(alloc: Global, random: &mut Pcg32, text: &[u8]) -> Result<Vec<u8>, AllocError> {
     let at = below(random, text.len());
     if at >= text.len() {
-        return Ok(text);
+        return Vec::from_slice(alloc, text);
     }
     let (front, back) = text.split_at(at);
     let Some((first, rest)) = back.split_first() else {
-        return Ok(text);
+        return Vec::from_slice(alloc, text);
     };
-    let mut changed = Vec::from_slice(alloc, front)?;
     match below(random, 4) {
-        0 => changed.push(byte(random))?,
-        1 => (),
-        2 => changed.extend_from_slice(&[*first, *first])?,
-        _ => return exchanged(alloc, random, &text),
+        0 => joined(alloc, front, &[byte(random)], rest),
+        1 => joined(alloc, front, &[], rest),
+        2 => joined(alloc, front, &[*first, *first], rest),
+        _ => exchanged(alloc, random, text),
     }
-    changed.extend_from_slice(rest)?;
-    Ok(changed)
 }
 
 /// The text with one or two changes.
-fn often_changed(
-    alloc: Global,
-    random: &mut Pcg32,
-    mut text: Vec<u8>,
-) -> Result<Vec<u8>, AllocError> {
-    for _ in 0..=below(random, 2) {
-        text = changed(alloc, random, text)?;
+fn often_changed(alloc: Global, random: &mut Pcg32, text: &[u8]) -> Result<Vec<u8>, AllocError> {
+    let is_twice = below(random, 2) > 0;
+    let once = changed(alloc, random, text)?;
+    if is_twice {
+        changed(alloc, random, &once)
+    } else {
+        Ok(once)
     }
-    Ok(text)
 }
 
 /// A text that is drawn in this way.
@@ -224,7 +249,7 @@ pub fn draw(alloc: Global, random: &mut Pcg32, way: Way) -> Result<Vec<u8>> {
     };
     match way {
         Way::ChangedScript | Way::ChangedJournal | Way::ChangedRun => {
-            Ok(often_changed(alloc, random, text)?)
+            Ok(often_changed(alloc, random, &text)?)
         }
         _ => Ok(text),
     }

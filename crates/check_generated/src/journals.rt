@@ -21,23 +21,32 @@ pub fn is_lawful_text(alloc: Global, text: &[u8]) -> Result<bool> {
     are_lawful(alloc, &read_entries(alloc, text)?)
 }
 
-/// The fault that the checker tells, if any. Else it writes a verdict that fits its answer, and that of `check`.
+/// The fault that an answer of the checker tells, if any. Else it wrote a verdict that fits its answer, and that of `check`.
+fn fault_in(
+    answer: Result<bool, RunFault>,
+    written: &[u8],
+    lawful: Option<bool>,
+) -> Result<Option<ScriptFault>> {
+    match answer {
+        Ok(answer) => {
+            let line_fits = answer == (written == b"lawful\n".as_slice());
+            ensure!(lawful == Some(answer), "another verdict");
+            ensure!(line_fits, "another line");
+            Ok(None)
+        }
+        Err(RunFault::Input(fault)) => {
+            ensure!(written.is_empty(), "something is written");
+            Ok(Some(fault))
+        }
+        Err(fault) => bail!("{fault}: no fault of a text"),
+    }
+}
+
+/// What the checker tells of a text.
 fn checked(alloc: Global, text: &[u8], lawful: Option<bool>) -> Result<Option<ScriptFault>> {
     let mut writer = Device::new(Vec::new(alloc));
-    let fault = match check_journal(alloc, &mut Device::new(text), &mut writer) {
-        Ok(answer) => {
-            ensure!(lawful == Some(answer), "another verdict");
-            ensure!(
-                answer == (writer.inner.as_slice() == b"lawful\n".as_slice()),
-                "another line"
-            );
-            return Ok(None);
-        }
-        Err(RunFault::Input(fault)) => fault,
-        Err(fault) => bail!("{fault}: no fault of a text"),
-    };
-    ensure!(writer.inner.is_empty(), "something is written");
-    Ok(Some(fault))
+    let answer = check_journal(alloc, &mut Device::new(text), &mut writer);
+    fault_in(answer, &writer.inner, lawful)
 }
 
 /// The fault of a text as a journal, if any: the reader and the checker tell the same.

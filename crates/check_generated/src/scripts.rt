@@ -80,17 +80,29 @@ fn written(alloc: Global, names: &[&[u8]], script: &Script) -> Result<Vec<u8>> {
     Ok(text)
 }
 
-/// A script has a list of calls for each thread, which it names as its text does, and it is written and read again as the same.
-fn compare_script(alloc: Global, text: &[u8], script: &Script) -> Result<()> {
-    let names = names_of(alloc, text, script)?;
+/// A script has a list of calls for each thread, which it names as its text does.
+fn compare_names(names: &[&[u8]], script: &Script) -> Result<()> {
     ensure!(names.len() == script.names.len(), "a thread without name");
     ensure!(names.len() == script.lists.as_slice().len(), "lists");
     for (seat, name) in names.iter().enumerate() {
         ensure!(script.names.seat(name) == Some(seat), "another seat");
     }
+    Ok(())
+}
+
+/// The text of the script that a text is.
+fn rewritten(alloc: Global, names: &[&[u8]], text: &[u8]) -> Result<Vec<u8>> {
+    let script = read_script(alloc, text)?;
+    written(alloc, names, &script)
+}
+
+/// A script names its threads as its text does, and it is written and read again as the same.
+fn compare_script(alloc: Global, text: &[u8], script: &Script) -> Result<()> {
+    let names = names_of(alloc, text, script)?;
+    compare_names(&names, script)?;
     let text = written(alloc, &names, script)?;
-    let again = written(alloc, &names, &read_script(alloc, &text)?)?;
-    ensure!(again == text, "another script");
+    let is_same = rewritten(alloc, &names, &text)? == text;
+    ensure!(is_same, "another script");
     Ok(())
 }
 
@@ -106,17 +118,14 @@ fn read(alloc: Global, text: &[u8]) -> Result<Option<ScriptFault>> {
 }
 
 /// The fault of the input, if that is the answer of a runner, which then has written nothing.
-fn input_fault<T: Drop>(
-    answer: Result<T, RunFault>,
-    written: &[u8],
-) -> Result<Option<ScriptFault>> {
-    match answer {
-        Ok(_) => Ok(None),
-        Err(RunFault::Input(fault)) => {
+fn input_fault(fault: Option<RunFault>, written: &[u8]) -> Result<Option<ScriptFault>> {
+    match fault {
+        None => Ok(None),
+        Some(RunFault::Input(fault)) => {
             ensure!(written.is_empty(), "something is written");
             Ok(Some(fault))
         }
-        Err(fault) => bail!("{fault}: no fault of a text"),
+        Some(fault) => bail!("{fault}: no fault of a text"),
     }
 }
 
@@ -124,7 +133,7 @@ fn input_fault<T: Drop>(
 fn run(alloc: Global, text: &[u8]) -> Result<Option<ScriptFault>> {
     let mut writer = Device::new(Vec::new(alloc));
     let answer = run_script(alloc, &mut Device::new(text), &mut writer, Schedule::Given);
-    let fault = input_fault(answer, &writer.inner)?;
+    let fault = input_fault(answer.err(), &writer.inner)?;
     if fault.is_none() {
         ensure!(journals::is_lawful_text(alloc, &writer.inner)?, "a run");
     }
@@ -135,7 +144,7 @@ fn run(alloc: Global, text: &[u8]) -> Result<Option<ScriptFault>> {
 fn drawn(alloc: Global, text: &[u8]) -> Result<Option<ScriptFault>> {
     let mut writer = Device::new(Vec::new(alloc));
     let answer = run_seeds(alloc, &mut Device::new(text), &mut writer, 7, 1);
-    let fault = input_fault(answer, &writer.inner)?;
+    let fault = input_fault(answer.err(), &writer.inner)?;
     if fault.is_none() {
         ensure!(
             writer.inner.as_slice() == b"seed 7 lawful\n".as_slice(),
