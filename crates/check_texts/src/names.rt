@@ -13,21 +13,27 @@ use transcripts::{Answers, first_word, number, number_text, plain};
 #[derive(Drop)]
 pub struct Names;
 
+/// Adds the names of a path.
+fn add_names<'a>(path: &'a Path, pieces: &mut Vec<&'a [u8]>) -> Result<(), AllocError> {
+    for i in 0..path.len() {
+        pieces.push(path.name(i).bytes())?;
+    }
+    Ok(())
+}
+
 /// A path as it is written, and then its names.
 fn path_text(alloc: Global, path: &Path) -> Result<String> {
     let mut text = Vec::from_slice(alloc, b"at ")?;
     path.write(&mut text)?;
     let mut pieces = Vec::new(alloc);
     pieces.push(text.as_slice())?;
-    for i in 0..path.len() {
-        pieces.push(path.name(i).bytes())?;
-    }
+    add_names(path, &mut pieces)?;
     shown(alloc, &pieces)
 }
 
 /// The same of the path that bytes are, or the fault.
-fn path(alloc: Global, bytes: &[u8]) -> Result<String> {
-    match Path::parse(alloc, bytes) {
+fn path(alloc: Global, text: &str) -> Result<String> {
+    match Path::parse(alloc, &bytes_of(alloc, text)?) {
         Ok(path) => path_text(alloc, &path),
         Err(fault) => Ok(format!(in alloc; "{fault}")?),
     }
@@ -60,8 +66,8 @@ fn long(alloc: Global, count: u64, text: &[u8]) -> Result<String> {
     }
 }
 
-fn name(alloc: Global, bytes: &[u8]) -> Result<String> {
-    match Name::read(bytes) {
+fn name(alloc: Global, text: &str) -> Result<String> {
+    match Name::read(&bytes_of(alloc, text)?) {
         Some(name) => shown(alloc, &[name.copy().bytes()]),
         None => number_text(alloc, None),
     }
@@ -93,7 +99,7 @@ fn compared(alloc: Global, first: &Path, second: &Path) -> Result<String> {
 }
 
 /// How many names the parent has, and the last name, if any.
-fn parent(alloc: Global, path: &Path) -> Result<String> {
+fn parent_text(alloc: Global, path: &Path) -> Result<String> {
     let above = format!(in alloc; "{}", path.parent_len())?;
     if path.is_empty() {
         return Ok(above);
@@ -117,6 +123,11 @@ fn paths(alloc: Global, first: &str, second: &str) -> Result<String> {
     let first = path_of(alloc, first)?;
     let second = path_of(alloc, second)?;
     compared(alloc, &first, &second)
+}
+
+fn parent(alloc: Global, text: &str) -> Result<String> {
+    let path = path_of(alloc, text)?;
+    parent_text(alloc, &path)
 }
 
 fn copy(alloc: Global, text: &str) -> Result<String> {
@@ -155,12 +166,12 @@ impl Answers for Names {
         let (first, second) = first_word(rest);
         match word {
             "" => plain(alloc, ""),
-            "path" => path(alloc, &bytes_of(alloc, rest)?),
+            "path" => path(alloc, rest),
             "long" => long(alloc, number(first)?, &bytes_of(alloc, second)?),
-            "name" => name(alloc, &bytes_of(alloc, rest)?),
+            "name" => name(alloc, rest),
             "order" => order(alloc, first, second),
             "paths" => paths(alloc, first, second),
-            "parent" => parent(alloc, &path_of(alloc, first)?),
+            "parent" => parent(alloc, first),
             "copy" => copy(alloc, first),
             "numbers" => numbers(alloc, number(first)?, number(second)?),
             "faults" => faults(alloc),

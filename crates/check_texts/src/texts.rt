@@ -46,12 +46,18 @@ fn journal(alloc: Global, text: &[u8]) -> Result<String> {
     }
 }
 
-/// A timeline of entries, with a place for each.
+/// Adds an entry in a place of its own.
+fn add_entry(timeline: &mut Timeline, entry: Entry) -> Result<(), AllocError> {
+    timeline.make_places(1)?;
+    timeline.push(entry);
+    Ok(())
+}
+
+/// A timeline of entries.
 fn timeline(alloc: Global, entries: Vec<Entry>) -> Result<Timeline, AllocError> {
     let mut timeline = Timeline::new(alloc);
     for entry in entries {
-        timeline.make_places(1)?;
-        timeline.push(entry);
+        add_entry(&mut timeline, entry)?;
     }
     Ok(timeline)
 }
@@ -78,16 +84,21 @@ fn has_most_places(alloc: Global) -> Result<bool, AllocError> {
 }
 
 /// Adds a call as it is written in a journal.
-fn add_call(alloc: Global, seat: u64, call: Call, text: &mut Vec<u8>) -> Result<(), AllocError> {
-    let entry = Entry::Begin(CallNo::new(1), SeatNo::new(seat), call);
+fn add_call(
+    alloc: Global,
+    seat: SeatNo,
+    call: &Call,
+    text: &mut Vec<u8>,
+) -> Result<(), AllocError> {
+    let entry = Entry::Begin(CallNo::new(1), seat, call.copy(alloc)?);
     write_entry(alloc, &entry, text)
 }
 
 /// Adds the calls of a thread.
 fn add_calls(
     alloc: Global,
-    seat: u64,
-    calls: Vec<Call>,
+    seat: SeatNo,
+    calls: &[Call],
     text: &mut Vec<u8>,
 ) -> Result<(), AllocError> {
     for call in calls {
@@ -97,10 +108,10 @@ fn add_calls(
 }
 
 /// The calls of threads, in order.
-fn calls_text(alloc: Global, lists: Vec<Vec<Call>>) -> Result<Vec<u8>, AllocError> {
+fn calls_text(alloc: Global, lists: &[Vec<Call>]) -> Result<Vec<u8>, AllocError> {
     let mut text = Vec::new(alloc);
-    for (seat, calls) in lists.into_iter().enumerate() {
-        add_calls(alloc, seat as u64, calls, &mut text)?;
+    for (seat, calls) in lists.iter().enumerate() {
+        add_calls(alloc, SeatNo::new(seat as u64), calls, &mut text)?;
     }
     Ok(text)
 }
@@ -120,11 +131,21 @@ fn add_words(alloc: Global, words: &[Word], text: &mut Vec<u8>) -> Result<()> {
     Ok(())
 }
 
+/// The calls of threads in order, and then the words of a schedule.
+fn all_text(alloc: Global, lists: &[Vec<Call>], words: &[Word]) -> Result<Vec<u8>> {
+    let mut text = calls_text(alloc, lists)?;
+    add_words(alloc, words, &mut text)?;
+    Ok(text)
+}
+
 /// The calls of a script in order, and then its words.
 fn script_text(alloc: Global, script: Script) -> Result<String> {
-    let Script { lists, words, .. } = script;
-    let mut text = calls_text(alloc, lists.into_vec())?;
-    add_words(alloc, words.as_slice(), &mut text)?;
+    let Script {
+        names: _names,
+        lists,
+        words,
+    } = script;
+    let text = all_text(alloc, &lists.into_vec(), words.as_slice())?;
     if text.is_empty() {
         return plain(alloc, "no call, no word");
     }
@@ -138,11 +159,10 @@ fn seat(alloc: Global, script: &Script, name: &str) -> Result<String> {
 }
 
 /// What a script answers to a question.
-fn on_script(alloc: Global, script: Script, word: &str, rest: &str) -> Result<String> {
+fn on_script(alloc: Global, script: &Script, word: &str, rest: &str) -> Result<String> {
     match word {
-        "script" => script_text(alloc, script),
-        "counts" => counts(alloc, &script),
-        "seat" => seat(alloc, &script, rest),
+        "counts" => counts(alloc, script),
+        "seat" => seat(alloc, script, rest),
         _ => bail!("{word}: no line of a transcript"),
     }
 }
@@ -185,10 +205,18 @@ impl Text {
         Ok(())
     }
 
+    /// The script that the text is, written again.
+    fn script_again(&self, alloc: Global) -> Result<String> {
+        match read_script(alloc, &self.bytes) {
+            Ok(script) => script_text(alloc, script),
+            Err(fault) => fault_text(alloc, fault),
+        }
+    }
+
     /// What the script that the text is answers to a question.
     fn script(&self, alloc: Global, word: &str, rest: &str) -> Result<String> {
         match read_script(alloc, &self.bytes) {
-            Ok(script) => on_script(alloc, script, word, rest),
+            Ok(script) => on_script(alloc, &script, word, rest),
             Err(fault) => fault_text(alloc, fault),
         }
     }
@@ -199,6 +227,7 @@ impl Text {
         match word {
             "journal" => journal(alloc, &self.bytes),
             "verdict" => verdict(alloc, &self.bytes),
+            "script" => self.script_again(alloc),
             "most_places" => plain(
                 alloc,
                 if has_most_places(alloc)? {

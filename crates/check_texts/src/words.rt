@@ -77,10 +77,7 @@ fn call(alloc: Global, text: &[u8]) -> Result<String> {
 fn spelled(alloc: Global, text: &str) -> Result<Call> {
     let mut words = Vec::new(alloc);
     cut_words(text.as_bytes(), &mut words)?;
-    match call_at(alloc, &words) {
-        Ok(call) => Ok(call),
-        Err(fault) => bail!("{text}: {fault}"),
-    }
+    Ok(call_at(alloc, &words)?)
 }
 
 fn same_call(alloc: Global, text: &str) -> Result<bool> {
@@ -101,21 +98,17 @@ fn addition(alloc: Global, bytes: &[u8]) -> Result<Addition, AllocError> {
     Ok(line)
 }
 
-/// The reply of a return.
-fn reply_of(entry: Option<Entry>) -> Option<Reply> {
-    match entry {
-        Some(Entry::Return(_, reply)) => Some(reply),
-        _ => None,
-    }
+/// The entry of a return with the reply that a text spells.
+fn return_of(alloc: Global, text: &str) -> Result<Vec<Entry>> {
+    let line = format!(in alloc; "atomfs-journal 1\nreturn 1 {text}\n")?;
+    Ok(read_entries(alloc, line.as_bytes())?)
 }
 
-/// The reply that a text spells.
-fn reply(alloc: Global, text: &str) -> Result<Reply> {
-    let line = format!(in alloc; "atomfs-journal 1\nreturn 1 {text}\n")?;
-    let mut entries = read_entries(alloc, line.as_bytes())?;
-    match reply_of(entries.pop()) {
-        Some(reply) => Ok(reply),
-        None => bail!("{text}: no reply"),
+/// The reply of a return.
+fn reply_in(entries: &[Entry]) -> Result<&Reply> {
+    match entries.last() {
+        Some(Entry::Return(_, reply)) => Ok(reply),
+        _ => bail!("no reply"),
     }
 }
 
@@ -123,8 +116,8 @@ fn same(alloc: Global, text: &str) -> Result<bool> {
     let Some((first, second)) = text.split_once(" = ") else {
         bail!("{text}: one reply");
     };
-    let first = reply(alloc, first)?;
-    Ok(reply(alloc, second)?.same(&first))
+    let (first, second) = (return_of(alloc, first)?, return_of(alloc, second)?);
+    Ok(reply_in(&second)?.same(reply_in(&first)?))
 }
 
 /// The number of the error of a reply.
@@ -137,8 +130,8 @@ fn number_in(reply: &Reply) -> Option<u64> {
 
 fn errno(alloc: Global, name: &str) -> Result<String> {
     let text = format!(in alloc; "failed {name}")?;
-    let reply = reply(alloc, text.as_str())?;
-    number_text(alloc, number_in(&reply))
+    let entries = return_of(alloc, text.as_str())?;
+    number_text(alloc, number_in(reply_in(&entries)?))
 }
 
 /// Bytes, and their name, put into lists, copied and taken out again.
