@@ -7,9 +7,11 @@ use fs_nodes::{NoNode, NodeNo, Store};
 use std::alloc::Global;
 
 /// An error where an answer is not the one that is wanted.
-fn hold(wanted: bool, what: &'static str) -> Result<()> {
-    if !wanted {
-        bail!("not so: {what}");
+fn hold(answers: &[(bool, &'static str)]) -> Result<()> {
+    for (wanted, what) in answers {
+        if !*wanted {
+            bail!("not so: {what}");
+        }
     }
     Ok(())
 }
@@ -21,61 +23,102 @@ fn name(bytes: &[u8]) -> Result<Name> {
     }
 }
 
+/// The one free number of a store of two nodes becomes a directory's, which gets an entry and another name, and goes.
+fn use_number(used: &mut Linked, dir: NodeNo, a: &Name, b: &Name) -> Result<()> {
+    let root = NodeNo::new(0);
+    hold(&[
+        (!used.link(dir, a, dir), "no directory below itself"),
+        (used.link(root, a, dir), "an entry"),
+        (used.store.find(root, a) == Some(dir), "the entry's node"),
+        (used.store.find(dir, a).is_none(), "another directory"),
+        (used.store.parent(dir) == Some(root), "the parent"),
+        (used.move_entry(root, a, root, b), "another name"),
+        (used.store.find(root, a).is_none(), "the old name"),
+        (used.unlink(root, b) == Some(dir), "what goes"),
+        (used.store.entries(root) == 0, "no entries"),
+        (used.release(dir), "a number back"),
+        (!used.store.is_used(dir), "the number is free"),
+    ])
+}
+
+/// A number is had once, and again when it was given back.
+fn use_twice(used: &mut Linked, a: &Name, b: &Name) -> Result<()> {
+    let dir = used.store.reserve(Kind::Dir)?;
+    let full = used.store.reserve(Kind::File);
+    hold(&[(full == Err(NoNode::Full), "a third number")])?;
+    use_number(used, dir, a, b)?;
+    let file = used.store.reserve(Kind::File)?;
+    hold(&[
+        (file == dir, "the number again"),
+        (used.store.is_file(file), "a file now"),
+    ])
+}
+
 /// A store of two nodes, whose one free number is used twice.
 pub fn two_numbers(alloc: Global) -> Result<()> {
-    let root = NodeNo::new(0);
-    let (a, b) = (name(b"a")?, name(b"b")?);
     let mut used = Linked {
         store: Store::new(alloc, 2)?,
     };
-    let dir = used.store.reserve(Kind::Dir)?;
-    let full = used.store.reserve(Kind::File);
-    hold(full == Err(NoNode::Full), "a third number")?;
-    hold(!used.link(dir, &a, dir), "no directory below itself")?;
-    hold(used.link(root, &a, dir), "an entry")?;
-    hold(used.store.find(root, &a) == Some(dir), "the entry's node")?;
-    hold(used.store.find(dir, &a).is_none(), "another directory")?;
-    hold(used.store.parent(dir) == Some(root), "the parent")?;
-    hold(used.move_entry(root, &a, root, &b), "another name")?;
-    hold(used.store.find(root, &a).is_none(), "the old name")?;
-    hold(used.unlink(root, &b) == Some(dir), "what goes")?;
-    hold(used.store.entries(root) == 0, "no entries")?;
-    hold(used.release(dir), "a number back")?;
-    hold(!used.store.is_used(dir), "the number is free")?;
-    let file = used.store.reserve(Kind::File)?;
-    hold(file == dir, "the number again")?;
-    hold(used.store.is_file(file), "a file now")
+    use_twice(&mut used, &name(b"a")?, &name(b"b")?)
 }
 
-/// Names come in the order of their bytes.
-pub fn names_in_order(alloc: Global) -> Result<()> {
+/// Whether an entry that was read is this one.
+fn is_entry(entry: Option<(Name, NodeNo)>, name: &Name, node: NodeNo) -> bool {
+    match &entry {
+        Some((other, number)) => other.same(name) && *number == node,
+        None => false,
+    }
+}
+
+/// Names come in the order of their bytes, and an entry moves from one directory to another.
+fn use_names(used: &mut Linked, a: &Name, b: &Name, bb: &Name) -> Result<()> {
     let root = NodeNo::new(0);
-    let (a, b, bb) = (name(b"a")?, name(b"b")?, name(b"bb")?);
-    let mut used = Linked {
-        store: Store::new(alloc, 8)?,
-    };
     let first = used.store.reserve(Kind::File)?;
     let second = used.store.reserve(Kind::Dir)?;
     let third = used.store.reserve(Kind::File)?;
-    hold(used.link(root, &bb, first), "bb")?;
-    hold(used.link(root, &a, second), "a")?;
-    hold(used.link(root, &b, third), "b")?;
-    let least = used.store.next_name(root, None);
-    hold(least == Some((name(b"a")?, second)), "a is the first")?;
-    let next = used.store.next_entry_after(second);
-    hold(next == Some((name(b"b")?, third)), "b is the next")?;
-    let last = used.store.next_name(root, Some(&b));
-    hold(last == Some((name(b"bb")?, first)), "bb is the last")?;
-    hold(used.store.next_entry_after(first).is_none(), "the end")?;
-    hold(
-        used.store.find_steps(root, &b) == (Some(third), 2),
-        "two looked at",
-    )?;
-    hold(used.move_entry(root, &b, second, &bb), "another directory")?;
-    hold(used.store.find(second, &bb) == Some(third), "its new name")?;
-    hold(used.store.entries(root) == 2, "two are left")?;
-    hold(!used.move_entry(root, &a, second, &b), "nor after a move")?;
-    hold(used.unlink(root, &a).is_none(), "an entry below it")
+    hold(&[
+        (used.link(root, bb, first), "bb"),
+        (used.link(root, a, second), "a"),
+        (used.link(root, b, third), "b"),
+        (
+            is_entry(used.store.next_name(root, None), a, second),
+            "a is the first",
+        ),
+        (
+            is_entry(used.store.next_entry_after(second), b, third),
+            "b is the next",
+        ),
+        (
+            is_entry(used.store.next_name(root, Some(b)), bb, first),
+            "bb is the last",
+        ),
+        (used.store.next_entry_after(first).is_none(), "the end"),
+        (
+            used.store.find_steps(root, b) == (Some(third), 2),
+            "two looked at",
+        ),
+        (used.move_entry(root, b, second, bb), "another directory"),
+        (used.store.find(second, bb) == Some(third), "its new name"),
+        (used.store.entries(root) == 2, "two are left"),
+        (!used.move_entry(root, a, second, b), "nor after a move"),
+        (used.unlink(root, a).is_none(), "an entry below it"),
+    ])
+}
+
+/// A store of eight nodes, with three entries.
+pub fn names_in_order(alloc: Global) -> Result<()> {
+    let mut used = Linked {
+        store: Store::new(alloc, 8)?,
+    };
+    use_names(&mut used, &name(b"a")?, &name(b"b")?, &name(b"bb")?)
+}
+
+/// Whether the bytes that were handed out are these.
+fn are_bytes(old: Option<Vec<u8>>, bytes: &[u8]) -> bool {
+    match &old {
+        Some(old) => old.as_slice() == bytes,
+        None => false,
+    }
 }
 
 /// The bytes of a file are handed over and handed out.
@@ -84,13 +127,14 @@ pub fn bytes_of_a_file(alloc: Global) -> Result<()> {
         store: Store::new(alloc, 2)?,
     };
     let file = used.store.reserve(Kind::File)?;
-    hold(used.store.content(file).is_empty(), "no bytes")?;
-    let none = used.swap_content(alloc, file, b"abc")?;
-    hold(none.is_some_and(|old| old.is_empty()), "nothing out")?;
-    hold(used.store.content(file) == b"abc".as_slice(), "the bytes")?;
-    let old = used.swap_content(alloc, file, b"")?;
-    hold(
-        old.is_some_and(|old| old.as_slice() == b"abc".as_slice()),
-        "the bytes out",
-    )
+    let is_new = used.store.content(file).is_empty();
+    let is_empty = are_bytes(used.swap_content(alloc, file, b"abc")?, b"");
+    let is_kept = used.store.content(file) == b"abc".as_slice();
+    let is_old = are_bytes(used.swap_content(alloc, file, b"")?, b"abc");
+    hold(&[
+        (is_new, "no bytes"),
+        (is_empty, "nothing out"),
+        (is_kept, "the bytes"),
+        (is_old, "the bytes out"),
+    ])
 }

@@ -117,19 +117,27 @@ fn draw(alloc: Global, random: &mut Pcg32, twins: &mut Twins, tally: &mut Tally)
     Ok(())
 }
 
-fn main(rt: HostRuntime) -> Result<()> {
-    examples::two_numbers(rt.alloc())?;
-    examples::names_in_order(rt.alloc())?;
-    examples::bytes_of_a_file(rt.alloc())?;
+/// All drawn calls.
+fn draw_all(alloc: Global, twins: &mut Twins, tally: &mut Tally) -> Result<()> {
     let mut random = Pcg32::seed_from_u64(1);
+    for _ in 0..CALLS {
+        draw(alloc, &mut random, twins, tally)?;
+    }
+    Ok(())
+}
+
+/// The store in use.
+fn use_store(alloc: Global) -> Result<()> {
+    examples::two_numbers(alloc)?;
+    examples::names_in_order(alloc)?;
+    examples::bytes_of_a_file(alloc)
+}
+
+fn main(rt: HostRuntime) -> Result<()> {
+    use_store(rt.alloc())?;
     let mut twins = Twins::new(rt.alloc())?;
     let mut tally = Tally::default();
-    for _ in 0..CALLS {
-        draw(rt.alloc(), &mut random, &mut twins, &mut tally)?;
-    }
-    for (what, row) in tally.rows() {
-        println!(&rt; "{what}: {} of {}", row.done, row.drawn)?;
-    }
-    println!(&rt; "answers that differ: {}", twins.others)?;
+    draw_all(rt.alloc(), &mut twins, &mut tally)?;
+    tally.write(&rt, twins.others)?;
     Ok(())
 }

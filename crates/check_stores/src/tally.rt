@@ -1,7 +1,9 @@
 //! What is counted of the drawn calls of stores.
 
+use std::io;
+
 /// How many calls of each kind were drawn, and how many of them did what they are for.
-#[derive(Clone, Copy, Debug, Default)]
+#[derive(Clone, Copy, Default)]
 pub struct Row {
     pub drawn: u32,
     pub done: u32,
@@ -18,7 +20,7 @@ impl Row {
 }
 
 /// The rows of all calls.
-#[derive(Clone, Copy, Debug, Default)]
+#[derive(Clone, Copy, Default)]
 pub struct Tally {
     pub reserve: Row,
     pub link: Row,
@@ -33,7 +35,7 @@ pub struct Tally {
 
 impl Tally {
     /// Each row, with the name of its call.
-    pub fn rows(&self) -> [(&'static str, Row); 9] {
+    fn rows(&self) -> [(&'static str, Row); 9] {
         [
             ("reserve", self.reserve),
             ("link", self.link),
@@ -45,5 +47,13 @@ impl Tally {
             ("is_used, kind, parent, entries, content", self.look),
             ("next_name, next_entry_after", self.read),
         ]
+    }
+
+    /// Writes the rows, and how many answers differed.
+    pub fn write(&self, rt: &impl Print, others: u32) -> io::Result<()> {
+        for (what, row) in self.rows() {
+            println!(rt; "{what}: {} of {}", row.done, row.drawn)?;
+        }
+        println!(rt; "answers that differ: {others}")
     }
 }

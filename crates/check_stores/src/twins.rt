@@ -9,7 +9,7 @@ use std::alloc::{AllocError, Global};
 const LIMIT: usize = 30;
 
 /// A node's number in each of the two stores.
-#[derive(Clone, Copy, Debug, PartialEq, Eq)]
+#[derive(Clone, Copy, PartialEq, Eq)]
 pub struct Twin {
     pub linked: NodeNo,
     pub plain: NodeNo,
