@@ -15,22 +15,16 @@ const ROUNDS: usize = 500_000;
 /// The observer asks until it is shown so many calls.
 const SHOWN: u64 = 200;
 
-/// Makes a directory and removes it, each told.
+/// Makes a directory and removes it. Whether each is told.
 fn round<N: Named, R: Wait + Clock>(
     rt: &R,
     alloc: Global,
     session: &mut Session<'_, N>,
     place: usize,
-) -> Option<()> {
-    tell_by(rt, alloc, session, mkdir(alloc, b"/a"), place)?;
-    tell_by(
-        rt,
-        alloc,
-        session,
-        rmdir(alloc, b"/a"),
-        place.checked_add(1)?,
-    )?;
-    Some(())
+) -> bool {
+    let made = tell_by(rt, alloc, session, mkdir(alloc, b"/a"), place).is_some();
+    let place = place.wrapping_add(1);
+    made && tell_by(rt, alloc, session, rmdir(alloc, b"/a"), place).is_some()
 }
 
 /// What either thread tells the other.
@@ -49,7 +43,9 @@ fn publishes<N: Named, R: Wait + Clock>(
 ) -> Option<bool> {
     let mut session = fs.session(rt).ok()?;
     for number in 0..ROUNDS {
-        round(rt, alloc, &mut session, 2 * number)?;
+        if !round(rt, alloc, &mut session, 2 * number) {
+            return None;
+        }
         if flags.asked.load(Ordering::SeqCst) == 1 {
             return Some(true);
         }
@@ -69,10 +65,9 @@ fn answers<N: Named>(alloc: Global, observer: &mut Observer<N>) -> Option<bool> 
 }
 
 /// Asks until many calls are shown, or the writer is over. Whether each answer was that of its list.
-fn asks<N: Named, R: Wait>(rt: &R, alloc: Global, fs: &AtomFs<N>, flags: &Flags) -> Option<bool> {
-    let mut observer = fs.observer(rt).ok()?;
+fn asks<N: Named>(alloc: Global, observer: &mut Observer<N>, flags: &Flags) -> Option<bool> {
     for _ in 0..u64::MAX {
-        if !answers(alloc, &mut observer)? {
+        if !answers(alloc, observer)? {
             return Some(false);
         }
         let is_enough = observer.count() >= SHOWN;
@@ -81,6 +76,17 @@ fn asks<N: Named, R: Wait>(rt: &R, alloc: Global, fs: &AtomFs<N>, flags: &Flags)
         }
     }
     Some(false)
+}
+
+/// The same by an observer of its own.
+fn observes<N: Named, R: Wait>(
+    rt: &R,
+    alloc: Global,
+    fs: &AtomFs<N>,
+    flags: &Flags,
+) -> Option<bool> {
+    let mut observer = fs.observer(rt).ok()?;
+    asks(alloc, &mut observer, flags)
 }
 
 /// A writer that publishes in a loop, and an observer, which ends first.
@@ -101,7 +107,7 @@ pub fn meet<N: Named + Send + Sync, R: Threads + Wait + Clock + Sync>(
             published
         },
         || {
-            let answered = asks(rt, alloc, fs, &flags);
+            let answered = observes(rt, alloc, fs, &flags);
             flags.asked.store(1, Ordering::SeqCst);
             answered
         },

@@ -2,7 +2,7 @@
 
 use fs_calls::{Call, Errno, Reply};
 use fs_names::{Kind, Path};
-use fs_share::{AtomFs, Named, Observer, Open, Session, Stamp};
+use fs_share::{AtomFs, Gate, Named, Observer, Open, Session, Stamp, Told};
 use std::alloc::Global;
 use std::sync::Wait;
 use std::time::Clock;
@@ -19,6 +19,30 @@ pub fn rmdir(alloc: Global, text: &[u8]) -> Option<Call> {
     Some(Call::Rmdir(path(alloc, text)?))
 }
 
+/// The stamp of a told call, which must succeed and have this place.
+fn stamp_of<N: Named>(told: Told<N>, place: usize) -> Option<Stamp<N>> {
+    let Told {
+        answer,
+        place: at,
+        stamp,
+    } = told;
+    let is_right = at == place && !matches!(answer.reply, Reply::Failed(_));
+    if is_right { stamp } else { None }
+}
+
+fn told_by<N: Named, R: Wait + Clock>(
+    rt: &R,
+    alloc: Global,
+    session: &mut Session<'_, N>,
+    call: &Call,
+    place: usize,
+) -> Option<Stamp<N>> {
+    match session.call_told(rt, alloc, call, &Open) {
+        Ok(told) => stamp_of(told, place),
+        Err(_) => None,
+    }
+}
+
 /// Makes a call that is told, which must succeed, have this place, and a stamp.
 pub fn tell_by<N: Named, R: Wait + Clock>(
     rt: &R,
@@ -27,11 +51,8 @@ pub fn tell_by<N: Named, R: Wait + Clock>(
     call: Option<Call>,
     place: usize,
 ) -> Option<Stamp<N>> {
-    let told = session.call_told(rt, alloc, &call?, &Open).ok()?;
-    if told.place != place || matches!(told.answer.reply, Reply::Failed(_)) {
-        return None;
-    }
-    told.stamp
+    let call = call?;
+    told_by(rt, alloc, session, &call, place)
 }
 
 /// The same by a session of its own.
@@ -42,13 +63,60 @@ pub fn tell<N: Named, R: Wait + Clock>(
     call: Option<Call>,
     place: usize,
 ) -> Option<Stamp<N>> {
+    match fs.session(rt) {
+        Ok(mut session) => tell_by(rt, alloc, &mut session, call, place),
+        Err(_) => None,
+    }
+}
+
+/// An observer that has learned of a call that is told.
+pub fn told_of<N: Named, R: Wait + Clock>(
+    rt: &R,
+    alloc: Global,
+    fs: &AtomFs<N>,
+    call: Option<Call>,
+    place: usize,
+) -> Option<Observer<N>> {
+    let stamp = tell(rt, alloc, fs, call, place)?;
+    let mut observer = fs.observer(rt).ok()?;
+    observer.learn(&stamp);
+    Some(observer)
+}
+
+/// Whether a call that is not told is replied that it is done.
+fn is_done<N: Named, R: Wait + Clock, G: Gate>(
+    rt: &R,
+    alloc: Global,
+    fs: &AtomFs<N>,
+    call: &Call,
+    gate: &G,
+) -> Option<bool> {
     let mut session = fs.session(rt).ok()?;
-    tell_by(rt, alloc, &mut session, call, place)
+    let answer = session.call(rt, alloc, call, gate).ok()?;
+    Some(matches!(answer.reply, Reply::Done))
+}
+
+/// Makes a directory by a call that is not told. Whether it is made.
+pub fn makes<N: Named, R: Wait + Clock, G: Gate>(
+    rt: &R,
+    alloc: Global,
+    fs: &AtomFs<N>,
+    text: &[u8],
+    gate: &G,
+) -> Option<bool> {
+    let call = mkdir(alloc, text)?;
+    is_done(rt, alloc, fs, &call, gate)
+}
+
+/// What an observer shows at a path.
+fn stat<N: Named>(alloc: Global, observer: &mut Observer<N>, text: &[u8]) -> Option<Reply> {
+    let path = path(alloc, text)?;
+    observer.stat(alloc, &path).ok()
 }
 
 /// Whether an observer shows an empty directory.
 pub fn is_dir<N: Named>(alloc: Global, observer: &mut Observer<N>, text: &[u8]) -> Option<bool> {
-    let reply = observer.stat(alloc, &path(alloc, text)?).ok()?;
+    let reply = stat(alloc, observer, text)?;
     Some(matches!(reply, Reply::Stat(Kind::Dir, 0)))
 }
 
@@ -58,7 +126,7 @@ pub fn is_missing<N: Named>(
     observer: &mut Observer<N>,
     text: &[u8],
 ) -> Option<bool> {
-    let reply = observer.stat(alloc, &path(alloc, text)?).ok()?;
+    let reply = stat(alloc, observer, text)?;
     Some(matches!(reply, Reply::Failed(Errno::Enoent)))
 }
 

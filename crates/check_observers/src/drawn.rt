@@ -85,11 +85,12 @@ fn write<N: Named, R: Wait + Clock>(
         return Some(true);
     }
     let notes = run.notes.load(Ordering::SeqCst);
-    let told = session.call_told(rt, alloc, call, &Open).ok()?;
-    if place % 1000 == 999 && !reaches(rt, &run.notes, notes.wrapping_add(OBSERVERS as u64)) {
-        return Some(false);
-    }
-    Some(told.place == place && told.stamp.is_some())
+    let is_told = match session.call_told(rt, alloc, call, &Open) {
+        Ok(told) => told.place == place && told.stamp.is_some(),
+        Err(_) => return None,
+    };
+    let noted = notes.wrapping_add(OBSERVERS as u64);
+    Some(is_told && (place % 1000 != 999 || reaches(rt, &run.notes, noted)))
 }
 
 /// One session makes all calls.
@@ -118,6 +119,21 @@ struct Note {
     bytes: Reply,
 }
 
+/// What an observer answers of a path, by the list that it has before.
+fn note_of<N: Named>(alloc: Global, observer: &mut Observer<N>, path: Path) -> Option<Note> {
+    let count = observer.count();
+    let stat = observer.stat(alloc, &path).ok()?;
+    let names = observer.readdir(alloc, &path).ok()?;
+    let bytes = observer.read(alloc, &path, 0, 9).ok()?;
+    Some(Note {
+        count,
+        path,
+        stat,
+        names,
+        bytes,
+    })
+}
+
 /// Answers by one list, unless it is that of the last note, or another one was published meanwhile.
 fn take_note<N: Named>(
     alloc: Global,
@@ -125,23 +141,15 @@ fn take_note<N: Named>(
     random: &mut Pcg32,
     last: Option<u64>,
 ) -> Option<Option<Note>> {
-    let count = observer.count();
-    if last == Some(count) {
+    if last == Some(observer.count()) {
         return Some(None);
     }
-    let path = drawn_path(alloc, random)?;
-    let note = Note {
-        count,
-        stat: observer.stat(alloc, &path).ok()?,
-        names: observer.readdir(alloc, &path).ok()?,
-        bytes: observer.read(alloc, &path, 0, 9).ok()?,
-        path,
-    };
-    if observer.count() == count {
-        Some(Some(note))
+    let note = note_of(alloc, observer, drawn_path(alloc, random)?)?;
+    Some(if observer.count() == note.count {
+        Some(note)
     } else {
-        Some(None)
-    }
+        None
+    })
 }
 
 /// Notes answers, one by each list that it meets, until the writer is over.
@@ -174,7 +182,8 @@ fn watches<N: Named, R: Wait + Clock>(
 fn replies(alloc: Global, tree: &SeqTree, call: &Call, noted: &Reply) -> Option<bool>
     requires { IsTrue (is_look call.now) }
 {
-    Some(tree.look(alloc, call).ok()?.same(noted))
+    let reply = tree.look(alloc, call).ok()?;
+    Some(reply.same(noted))
 }
 
 fn same_stat(alloc: Global, tree: &SeqTree, note: &Note) -> Option<bool> {

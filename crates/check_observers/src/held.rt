@@ -1,10 +1,10 @@
 //! Observers and a told rename, while a call is held by its gate.
 
-use crate::calls::{has_name, is_dir, mkdir, path, tell};
+use crate::calls::{has_name, is_dir, makes, mkdir, path, tell, told_of};
 use crate::waiting::reaches;
-use fs_calls::{Call, Reply};
+use fs_calls::Call;
 use fs_core::Stepped;
-use fs_share::{AtomFs, Gate, Named};
+use fs_share::{AtomFs, Gate, Named, Observer};
 use std::alloc::Global;
 use std::sync::Wait;
 use std::sync::atomic::{AtomicU64, Ordering};
@@ -46,35 +46,26 @@ impl Gate for Holds {
     }
 }
 
-/// The call that is held. Whether it made its directory.
-fn makes<N: Named, R: Wait + Clock>(
-    rt: &R,
-    alloc: Global,
-    fs: &AtomFs<N>,
-    gate: &Holds,
-) -> Option<bool> {
-    let mut session = fs.session(rt).ok()?;
-    let call = mkdir(alloc, b"/a/d/x")?;
-    let answer = session.call(rt, alloc, &call, gate).ok()?;
-    Some(matches!(answer.reply, Reply::Done))
+/// Whether an observer answers by what was told.
+fn shows<N: Named>(alloc: Global, observer: &mut Observer<N>) -> Option<bool> {
+    let is_named = has_name(alloc, observer, b"/a", b'd')?;
+    Some(is_named && is_dir(alloc, observer, b"/a/d")? && observer.count() == 2)
 }
 
-/// Whether an observer answers by what was told.
+/// The same of an observer of its own.
 fn answers<N: Named, R: Wait>(rt: &R, alloc: Global, fs: &AtomFs<N>) -> Option<bool> {
     let mut observer = fs.observer(rt).ok()?;
-    let is_named = has_name(alloc, &mut observer, b"/a", b'd')?;
-    Some(is_named && is_dir(alloc, &mut observer, b"/a/d")? && observer.count() == 2)
+    shows(alloc, &mut observer)
 }
 
 fn rename(alloc: Global) -> Option<Call> {
-    Some(Call::Rename(path(alloc, b"/a")?, path(alloc, b"/b")?))
+    let from = path(alloc, b"/a")?;
+    Some(Call::Rename(from, path(alloc, b"/b")?))
 }
 
 /// Renames the directory above, behind the call that is held. Whether an observer that is told shows what that call made.
 fn moves<N: Named, R: Wait + Clock>(rt: &R, alloc: Global, fs: &AtomFs<N>) -> Option<bool> {
-    let stamp = tell(rt, alloc, fs, rename(alloc), 3)?;
-    let mut observer = fs.observer(rt).ok()?;
-    observer.learn(&stamp);
+    let mut observer = told_of(rt, alloc, fs, rename(alloc), 3)?;
     Some(has_name(alloc, &mut observer, b"/b/d", b'x')? && observer.count() == 4)
 }
 
@@ -110,7 +101,7 @@ pub fn beside<N: Named + Send + Sync, R: Threads + Wait + Clock + Sync>(
     let gate = Holds::new(at);
     let (made, seen) = thread::join(
         rt,
-        || makes(rt, alloc, fs, &gate),
+        || makes(rt, alloc, fs, b"/a/d/x", &gate),
         || meanwhile(rt, alloc, fs, &gate, is_moved),
     );
     Some(made? && seen? && gate.found.load(Ordering::SeqCst) == 1)

@@ -13,6 +13,10 @@ mod told;
 mod waiting;
 
 use rows::{Row, on_tree};
+use std::alloc::Global;
+use std::sync::Wait;
+use std::thread::Threads;
+use std::time::Clock;
 
 fn word(holds: Option<bool>) -> &'static str {
     match holds {
@@ -22,49 +26,67 @@ fn word(holds: Option<bool>) -> &'static str {
     }
 }
 
-fn main(rt: HostRuntime) -> anyhow::Result<()> {
-    let alloc = rt.alloc();
-    let handed = on_tree(&rt, alloc, Row::HandedOn);
-    println!(rt; "two threads are shown a told call: {}", word(handed))?;
-    let first = on_tree(&rt, alloc, Row::First);
-    println!(rt; "the first told call has place 0: {}", word(first))?;
-    let both = on_tree(&rt, alloc, Row::BothStamps);
-    println!(rt; "an older stamp takes nothing back: {}", word(both))?;
-    let written = on_tree(&rt, alloc, Row::Written);
-    println!(rt; "what a told caller wrote is read: {}", word(written))?;
-    let untold = on_tree(&rt, alloc, Row::Untold);
-    println!(rt;
-        "an untold call is shown by the next stamp, not before: {}",
-        word(untold)
-    )?;
+/// A line for a row.
+fn say<R: Print + Threads + Wait + Clock + Sync>(
+    rt: &R,
+    alloc: Global,
+    row: Row,
+    what: &str,
+) -> std::io::Result<()> {
+    println!(rt; "{what}: {}", word(on_tree(rt, alloc, row)))
+}
+
+/// A line for a row in which a call is held.
+fn say_held<R: Print + Threads + Wait + Clock + Sync>(
+    rt: &R,
+    alloc: Global,
+    row: Row,
+    what: &str,
+    at: u64,
+) -> std::io::Result<()> {
+    let holds = word(on_tree(rt, alloc, row));
+    println!(rt; "{what}, a call held after event {at}: {holds}")
+}
+
+/// The rows in which observers learn of calls.
+const TOLD: [(Row, &str); 5] = [
+    (Row::HandedOn, "two threads are shown a told call"),
+    (Row::First, "the first told call has place 0"),
+    (Row::BothStamps, "an older stamp takes nothing back"),
+    (Row::Written, "what a told caller wrote is read"),
+    (
+        Row::Untold,
+        "an untold call is shown by the next stamp, not before",
+    ),
+];
+
+/// The rows of many observers and calls.
+const MANY: [(Row, &str); 3] = [
+    (Row::Places, "64 observers, and a place that is given back"),
+    (Row::Busy, "an observer answers while a writer publishes"),
+    (
+        Row::Drawn,
+        "each answer during 20000 drawn calls is that of its list",
+    ),
+];
+
+fn say_all<R: Print + Threads + Wait + Clock + Sync>(rt: &R, alloc: Global) -> std::io::Result<()> {
+    for (row, what) in TOLD {
+        say(rt, alloc, row, what)?;
+    }
     for at in 1..9u64 {
-        let parked = on_tree(&rt, alloc, Row::Parked(at));
-        println!(rt;
-            "an observer answers, a call held after event {at}: {}",
-            word(parked)
-        )?;
+        say_held(rt, alloc, Row::Parked(at), "an observer answers", at)?;
     }
     for at in 3..9u64 {
-        let moved = on_tree(&rt, alloc, Row::Moved(at));
-        println!(rt;
-            "a told rename is shown, a call held after event {at}: {}",
-            word(moved)
-        )?;
+        say_held(rt, alloc, Row::Moved(at), "a told rename is shown", at)?;
     }
-    let places = on_tree(&rt, alloc, Row::Places);
-    println!(rt;
-        "64 observers, and a place that is given back: {}",
-        word(places)
-    )?;
-    let busy = on_tree(&rt, alloc, Row::Busy);
-    println!(rt;
-        "an observer answers while a writer publishes: {}",
-        word(busy)
-    )?;
-    let drawn = on_tree(&rt, alloc, Row::Drawn);
-    println!(rt;
-        "each answer during 20000 drawn calls is that of its list: {}",
-        word(drawn)
-    )?;
+    for (row, what) in MANY {
+        say(rt, alloc, row, what)?;
+    }
+    Ok(())
+}
+
+fn main(rt: HostRuntime) -> anyhow::Result<()> {
+    say_all(&rt, rt.alloc())?;
     Ok(())
 }
