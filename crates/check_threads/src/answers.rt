@@ -2,12 +2,11 @@
 
 ghost use Rattle.std.specs.Prelude.{◌≡◌, ◌^◌};
 
-use crate::calls::{fits, is_new, of_thread};
-use crate::walking::is_lawful;
-use fs_calls::Call;
-use fs_script::read_script;
-use fs_share::{Answer, AtomFs, Closed, Named, Open, Opened, Session, Tally};
-use fs_timeline::Entry;
+use crate::calls::{fits, is_new, mkdir, mknod, path, rename, stat};
+use fs_calls::{Bytes, Call};
+use fs_journal::check;
+use fs_share::{Answer, AtomFs, Closed, Named, Open, Opened, Tally};
+use fs_timeline::{Entry, Verdict};
 use std::alloc::Global;
 use std::marker::Brand;
 use std::sync::Wait;
@@ -16,43 +15,28 @@ use std::thread;
 use std::thread::Threads;
 use std::time::Clock;
 
-/// The calls of each session.
-const CALLS: &[u8] = b"\
-atomfs 1
-thread session
-mkdir /d
-mknod /s
-write /s 0 6869
-read /s 0 2
-truncate /s 1
-stat /s
-readdir /
-rename /s /t
-unlink /t
-rmdir /d
-schedule
-";
+fn calls(alloc: Global) -> Option<Vec<Call>> {
+    let mut list = Vec::new(alloc);
+    let bytes = Vec::from_slice(alloc, b"hi").ok()?;
+    list.push(mkdir(alloc, b"/d")?).ok()?;
+    list.push(mknod(alloc, b"/s")?).ok()?;
+    list.push(Call::Write(path(alloc, b"/s")?, 0, Bytes::new(bytes)))
+        .ok()?;
+    list.push(Call::Read(path(alloc, b"/s")?, 0, 2)).ok()?;
+    list.push(Call::Truncate(path(alloc, b"/s")?, 1)).ok()?;
+    list.push(stat(alloc, b"/s")?).ok()?;
+    list.push(Call::Readdir(path(alloc, b"/")?)).ok()?;
+    list.push(rename(alloc, b"/s", b"/t")?).ok()?;
+    list.push(Call::Unlink(path(alloc, b"/t")?)).ok()?;
+    list.push(Call::Rmdir(path(alloc, b"/d")?)).ok()?;
+    Some(list)
+}
 
 /// The answers of a session, in the order of its calls, and its tally.
 #[derive(Drop)]
 struct Played<N: Named> {
     answers: Vec<Answer>,
     tally: Tally<N>,
-}
-
-/// Makes each of the calls.
-fn play<N: Named, R: Wait + Clock>(
-    rt: &R,
-    alloc: Global,
-    session: &mut Session<'_, N>,
-    list: &[Call],
-    answers: &mut Vec<Answer>,
-) -> Option<()> {
-    for call in list {
-        let answer = session.call(rt, alloc, call, &Open).ok()?;
-        answers.push(answer).ok()?;
-    }
-    Some(())
 }
 
 /// Twenty times the calls, by a session of its own.
@@ -65,7 +49,11 @@ fn plays<N: Named, R: Wait + Clock>(
     let mut session = fs.session(rt).ok()?;
     let mut answers = Vec::new(alloc);
     for _ in 0..20u64 {
-        play(rt, alloc, &mut session, list, &mut answers)?;
+        for call in list {
+            answers
+                .push(session.call(rt, alloc, call, &Open).ok()?)
+                .ok()?;
+        }
     }
     Some(Played {
         answers,
@@ -94,36 +82,43 @@ struct Four {
     closed: Closed,
 }
 
-/// The answers of sessions, each of one list, and their tallies.
-#[derive(Drop)]
-struct Sessions<N: Named> {
-    answers: Vec<Vec<Answer>>,
-    tallies: Vec<Tally<N>>,
+fn two_play<N: Named + Send + Sync, R: Threads + Wait + Clock + Sync>(
+    rt: &R,
+    alloc: Global,
+    fs: &AtomFs<N>,
+    list: &[Call],
+) -> Option<(Played<N>, Played<N>)> {
+    let (one, other) = thread::join(
+        rt,
+        || plays(rt, alloc, fs, list),
+        || plays(rt, alloc, fs, list),
+    );
+    Some((one?, other?))
 }
 
-/// Adds what a session got.
-fn add<N: Named>(sessions: &mut Sessions<N>, played: Option<Played<N>>) -> Option<()> {
-    let Played { answers, tally } = played?;
-    sessions.answers.push(answers).ok()?;
-    sessions.tallies.push(tally).ok()
-}
+/// The answers of four sessions, each of one list, and their tallies.
+type Sessions<N> = (Vec<Vec<Answer>>, Vec<Tally<N>>);
 
-/// Four sessions, each on a thread of its own.
 fn four_play<N: Named + Send + Sync, R: Threads + Wait + Clock + Sync>(
     rt: &R,
     alloc: Global,
     fs: &AtomFs<N>,
     list: &[Call],
 ) -> Option<Sessions<N>> {
-    let four = thread::map_indices(rt, alloc, 4, &|_number| plays(rt, alloc, fs, list)).ok()?;
-    let mut sessions = Sessions {
-        answers: Vec::new(alloc),
-        tallies: Vec::new(alloc),
-    };
-    for played in four {
-        add(&mut sessions, played)?;
+    let (first, second) = thread::join(
+        rt,
+        || two_play(rt, alloc, fs, list),
+        || two_play(rt, alloc, fs, list),
+    );
+    let mut answers = Vec::new(alloc);
+    let mut tallies = Vec::new(alloc);
+    for (one, other) in [first?, second?] {
+        answers.push(one.answers).ok()?;
+        tallies.push(one.tally).ok()?;
+        answers.push(other.answers).ok()?;
+        tallies.push(other.tally).ok()?;
     }
-    Some(sessions)
+    Some((answers, tallies))
 }
 
 fn on_four_threads<N: Named + Send + Sync, R: Threads + Wait + Clock + Sync>(
@@ -139,7 +134,7 @@ fn on_four_threads<N: Named + Send + Sync, R: Threads + Wait + Clock + Sync>(
     requires all { blank.parts ≡ 2 ^ 63 }
 {
     let fs = AtomFs::<N>::open(rt, alloc, opened, blank).ok()?;
-    let Some(Sessions { answers, tallies }) = four_play(rt, alloc, &fs, list) else {
+    let Some((answers, tallies)) = four_play(rt, alloc, &fs, list) else {
         let _closed = fs.close(rt, Vec::new(alloc));
         return None;
     };
@@ -172,17 +167,15 @@ fn fit(entries: &[Entry], list: &[Call], four: &[Vec<Answer>]) -> bool {
     count == 800
 }
 
-/// Whether four sessions got the replies of their own returns.
-fn is_right(alloc: Global, list: &[Call], four: &Four) -> Option<bool> {
-    let entries = four.closed.timeline.entries();
-    let is_whole = four.closed.sessions == 4 && entries.len() == 2400;
-    Some(is_lawful(alloc, entries)? && is_whole && fit(entries, list, &four.answers))
-}
-
 /// Whether four sessions, each twenty times the ten calls, get the replies of their own returns.
 pub fn are_right<R: Threads + Wait + Clock + Sync>(rt: &R, alloc: Global) -> Option<bool> {
-    let script = read_script(alloc, CALLS).ok()?;
-    let list = of_thread(&script, 0)?;
-    let four = four_sessions(rt, alloc, list)?;
-    is_right(alloc, list, &four)
+    let list = calls(alloc)?;
+    let four = four_sessions(rt, alloc, &list)?;
+    let entries = four.closed.timeline.entries();
+    Some(
+        four.closed.sessions == 4
+            && entries.len() == 2400
+            && fit(entries, &list, &four.answers)
+            && matches!(check(alloc, entries).ok()?, Verdict::Lawful),
+    )
 }

@@ -2,13 +2,16 @@
 
 use fs_calls::Call;
 use fs_names::{CallNo, Path};
-use fs_script::Script;
 use fs_share::Answer;
 use fs_timeline::Entry;
 use std::alloc::Global;
 
 pub fn path(alloc: Global, text: &[u8]) -> Option<Path> {
     Path::parse(alloc, text).ok()
+}
+
+pub fn mkdir(alloc: Global, text: &[u8]) -> Option<Call> {
+    Some(Call::Mkdir(path(alloc, text)?))
 }
 
 pub fn mknod(alloc: Global, text: &[u8]) -> Option<Call> {
@@ -19,18 +22,8 @@ pub fn stat(alloc: Global, text: &[u8]) -> Option<Call> {
     Some(Call::Stat(path(alloc, text)?))
 }
 
-/// So many calls that ask for the same.
-pub fn stats(alloc: Global, text: &[u8], count: u64) -> Option<Vec<Call>> {
-    let mut calls = Vec::new(alloc);
-    for _ in 0..count {
-        calls.push(stat(alloc, text)?).ok()?;
-    }
-    Some(calls)
-}
-
-/// The calls of a script's thread.
-pub fn of_thread(script: &Script, thread: usize) -> Option<&[Call]> {
-    Some(script.lists.as_slice().get(thread)?.as_slice())
+pub fn rename(alloc: Global, from: &[u8], to: &[u8]) -> Option<Call> {
+    Some(Call::Rename(path(alloc, from)?, path(alloc, to)?))
 }
 
 pub fn commit_place(entries: &[Entry], call: CallNo) -> Option<usize> {

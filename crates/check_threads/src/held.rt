@@ -2,13 +2,12 @@
 
 ghost use Rattle.std.specs.Prelude.{◌≡◌, ◌^◌};
 
-use crate::calls::{commit_place, is_before, of_thread, path, return_place};
+use crate::calls::{commit_place, is_before, mkdir, path, rename, return_place, stat};
 use crate::waiting::{TURNS, is_set, is_set_within};
 use fs_calls::{Call, Reply};
 use fs_core::Stepped;
 use fs_names::{Kind, Path};
 use fs_nodes::{NodeNo, Store};
-use fs_script::{Script, read_script};
 use fs_share::{Answer, AtomFs, Closed, Gate, Named, Open, Opened, Tally};
 use std::alloc::Global;
 use std::marker::Brand;
@@ -112,36 +111,8 @@ pub struct Both {
     pub closed: Closed,
 }
 
-/// What a held call and another one were answered, and the tallies of all sessions.
-#[derive(Drop)]
-struct Met<N: Named> {
-    held: Answer,
-    other: Answer,
-    tallies: Vec<Tally<N>>,
-}
-
-/// The calls that are made before, by a session of its own.
-fn makes<N: Named, R: Wait + Clock>(
-    rt: &R,
-    alloc: Global,
-    fs: &AtomFs<N>,
-    calls: &[Call],
-) -> Option<Tally<N>> {
-    let mut session = fs.session(rt).ok()?;
-    for call in calls {
-        session.call(rt, alloc, call, &Open).ok()?;
-    }
-    Some(session.end())
-}
-
-fn three<N: Named>(
-    alloc: Global,
-    one: Tally<N>,
-    other: Tally<N>,
-    third: Tally<N>,
-) -> Option<Vec<Tally<N>>> {
-    vec![in alloc; one, other, third].ok()
-}
+/// What a held call and another one were answered, what the gate saw, and the tallies of all sessions.
+type Met<N> = (Answer, Answer, Holds, Vec<Tally<N>>);
 
 /// Makes the directories, then runs a call that is held and another one meanwhile.
 fn meet_on<N: Named + Send + Sync, R: Threads + Wait + Clock + Sync>(
@@ -150,22 +121,26 @@ fn meet_on<N: Named + Send + Sync, R: Threads + Wait + Clock + Sync>(
     fs: &AtomFs<N>,
     made: &[Call],
     calls: (&Call, &Call),
-    gate: &Holds,
+    hold: Hold,
 ) -> Option<Met<N>> {
-    let made = makes(rt, alloc, fs, made)?;
+    let mut session = fs.session(rt).ok()?;
+    for call in made {
+        session.call(rt, alloc, call, &Open).ok()?;
+    }
+    let made = session.end();
     let (first, second) = calls;
-    let (first, second) = thread::join(
+    let gate = Holds::new(hold);
+    let (a, b) = thread::join(
         rt,
-        || held(rt, alloc, fs, first, gate),
-        || other(rt, alloc, fs, second, gate),
+        || held(rt, alloc, fs, first, &gate),
+        || other(rt, alloc, fs, second, &gate),
     );
-    let (held, first) = first?;
-    let (other, second) = second?;
-    Some(Met {
-        held,
-        other,
-        tallies: three(alloc, made, first, second)?,
-    })
+    let ((held, first), (other, second)) = (a?, b?);
+    let mut tallies = Vec::new(alloc);
+    tallies.push(made).ok()?;
+    tallies.push(first).ok()?;
+    tallies.push(second).ok()?;
+    Some((held, other, gate, tallies))
 }
 
 /// The same on a tree of its own.
@@ -184,16 +159,10 @@ fn meet_named<N: Named + Send + Sync, R: Threads + Wait + Clock + Sync>(
     requires all { blank.parts ≡ 2 ^ 63 }
 {
     let fs = AtomFs::<N>::open(rt, alloc, opened, blank).ok()?;
-    let gate = Holds::new(hold);
-    let Some(met) = meet_on(rt, alloc, &fs, made, calls, &gate) else {
+    let Some((held, other, gate, tallies)) = meet_on(rt, alloc, &fs, made, calls, hold) else {
         let _closed = fs.close(rt, Vec::new(alloc));
         return None;
     };
-    let Met {
-        held,
-        other,
-        tallies,
-    } = met;
     Some(Both {
         held,
         other,
@@ -222,46 +191,21 @@ pub fn meet<R: Threads + Wait + Clock + Sync>(
     )
 }
 
-/// A call of a script is held after so many events, and another one begins meanwhile.
-fn meet_of<R: Threads + Wait + Clock + Sync>(
-    rt: &R,
-    alloc: Global,
-    script: &Script,
-    after: u64,
-) -> Option<Both> {
-    let made = of_thread(script, 0)?;
-    let held = of_thread(script, 1)?.first()?;
-    let other = of_thread(script, 2)?.first()?;
-    let turns = TURNS;
-    meet(rt, alloc, made, (held, other), Hold { after, turns })
+fn overlap<R: Threads + Wait + Clock + Sync>(rt: &R, alloc: Global) -> Option<Both> {
+    let mut made = Vec::new(alloc);
+    made.push(mkdir(alloc, b"/a")?).ok()?;
+    made.push(mkdir(alloc, b"/b")?).ok()?;
+    let hold = Hold {
+        after: 3,
+        turns: TURNS,
+    };
+    let calls = (&mkdir(alloc, b"/a/x")?, &stat(alloc, b"/b")?);
+    meet(rt, alloc, &made, calls, hold)
 }
-
-fn meet_by<R: Threads + Wait + Clock + Sync>(
-    rt: &R,
-    alloc: Global,
-    text: &[u8],
-    after: u64,
-) -> Option<Both> {
-    let script = read_script(alloc, text).ok()?;
-    meet_of(rt, alloc, &script, after)
-}
-
-/// Calls in two directories.
-const OVERLAP: &[u8] = b"\
-atomfs 1
-thread made
-mkdir /a
-mkdir /b
-thread held
-mkdir /a/x
-thread other
-stat /b
-schedule
-";
 
 /// Whether a call that is held lets another one return before it commits.
 pub fn others_return<R: Threads + Wait + Clock + Sync>(rt: &R, alloc: Global) -> Option<bool> {
-    let both = meet_by(rt, alloc, OVERLAP, 3)?;
+    let both = overlap(rt, alloc)?;
     let replied = matches!(both.held.reply, Reply::Done)
         && matches!(both.other.reply, Reply::Stat(Kind::Dir, 0));
     let entries = both.closed.timeline.entries();
@@ -275,18 +219,17 @@ pub fn others_return<R: Threads + Wait + Clock + Sync>(rt: &R, alloc: Global) ->
     )
 }
 
-/// A call below a directory that is moved.
-const HELPED: &[u8] = b"\
-atomfs 1
-thread made
-mkdir /a
-mkdir /a/d
-thread held
-mkdir /a/d/x
-thread other
-rename /a /b
-schedule
-";
+fn helped<R: Threads + Wait + Clock + Sync>(rt: &R, alloc: Global) -> Option<Both> {
+    let mut made = Vec::new(alloc);
+    made.push(mkdir(alloc, b"/a")?).ok()?;
+    made.push(mkdir(alloc, b"/a/d")?).ok()?;
+    let hold = Hold {
+        after: 5,
+        turns: TURNS,
+    };
+    let calls = (&mkdir(alloc, b"/a/d/x")?, &rename(alloc, b"/a", b"/b")?);
+    meet(rt, alloc, &made, calls, hold)
+}
 
 /// Whether a path leads from the root to a directory.
 fn is_dir(store: &Store, path: &Path) -> bool {
@@ -304,7 +247,8 @@ fn is_dir(store: &Store, path: &Path) -> bool {
 }
 
 /// Whether a rename commits a held call below it ahead of itself and returns, and the call finishes in the moved tree.
-fn is_helped(alloc: Global, both: &Both) -> Option<bool> {
+pub fn rename_helps<R: Threads + Wait + Clock + Sync>(rt: &R, alloc: Global) -> Option<bool> {
+    let both = helped(rt, alloc)?;
     let replied = matches!(both.held.reply, Reply::Done) && matches!(both.other.reply, Reply::Done);
     let entries = both.closed.timeline.entries();
     let (held, other) = (both.held.call, both.other.call);
@@ -316,10 +260,4 @@ fn is_helped(alloc: Global, both: &Both) -> Option<bool> {
             && is_before(return_place(entries, other), return_place(entries, held))
             && is_dir(&both.closed.store, &moved),
     )
-}
-
-/// The same of a call below a directory that is moved.
-pub fn rename_helps<R: Threads + Wait + Clock + Sync>(rt: &R, alloc: Global) -> Option<bool> {
-    let both = meet_by(rt, alloc, HELPED, 5)?;
-    is_helped(alloc, &both)
 }

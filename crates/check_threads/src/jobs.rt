@@ -3,11 +3,11 @@
 ghost use Rattle.std.specs.Prelude.{◌≡◌, ◌^◌};
 
 use crate::calls::{fits, is_new, mknod, path};
-use crate::walking::is_lawful;
 use fs_calls::{Call, Errno, Reply};
+use fs_journal::check;
 use fs_pool::{Collected, Done, NotTaken, Pool};
 use fs_share::{Answer, AtomFs, Closed, Named, Open, Opened};
-use fs_timeline::Entry;
+use fs_timeline::{Entry, Verdict};
 use std::alloc::Global;
 use std::marker::Brand;
 use std::sync::Wait;
@@ -107,13 +107,18 @@ fn named_work<R: Threads + Wait + Clock + Sync>(rt: &R, alloc: Global) -> Option
     work::<Brand, R>(rt, alloc, Opened::new(), Blank::new(1 << 63))
 }
 
-/// Whether the answer of a job is that of the timeline.
-fn is_right(alloc: Global, entries: &[Entry], number: u64, answer: &Answer) -> Option<bool> {
-    let call = call(alloc, number)?;
-    Some(fits(entries, &call, answer))
+/// Whether the answer of a job is that of the timeline, under a number of its own.
+fn is_right(
+    alloc: Global,
+    entries: &[Entry],
+    seen: &mut [bool],
+    number: u64,
+    answer: &Answer,
+) -> Option<bool> {
+    Some(is_new(seen, answer) && fits(entries, &call(alloc, number)?, answer))
 }
 
-/// Whether the numbers are those of all jobs, in order, and each answer is right, under a number of its own.
+/// Whether the numbers are those of all jobs, in order, and each answer is right.
 fn are_right(alloc: Global, entries: &[Entry], done: &[Done]) -> Option<bool> {
     let mut seen = [false; 1001];
     let mut number = 0u64;
@@ -121,8 +126,7 @@ fn are_right(alloc: Global, entries: &[Entry], done: &[Done]) -> Option<bool> {
         let Ok(answer) = &one.answer else {
             return Some(false);
         };
-        let is_own = one.no.get() == number && is_new(&mut seen, answer);
-        if !is_own || !is_right(alloc, entries, number, answer)? {
+        if one.no.get() != number || !is_right(alloc, entries, &mut seen, number, answer)? {
             return Some(false);
         }
         number = number.wrapping_add(1);
@@ -148,19 +152,16 @@ fn counts(done: &[Done]) -> (u64, u64) {
 }
 
 /// Whether each of a thousand jobs is done once, as the timeline says: 256 make a file, and the others find no place.
-fn is_done(alloc: Global, worked: &Worked) -> Option<bool> {
-    let entries = worked.closed.timeline.entries();
-    let is_whole = worked.full
-        && worked.left == 0
-        && counts(&worked.done) == (256, 744)
-        && entries.len() == 3000
-        && worked.closed.sessions == WORKERS;
-    let are_right = are_right(alloc, entries, &worked.done)?;
-    Some(is_lawful(alloc, entries)? && is_whole && are_right)
-}
-
-/// The same of the jobs of a pool.
 pub fn are_done<R: Threads + Wait + Clock + Sync>(rt: &R, alloc: Global) -> Option<bool> {
     let worked = named_work(rt, alloc)?;
-    is_done(alloc, &worked)
+    let entries = worked.closed.timeline.entries();
+    Some(
+        worked.full
+            && worked.left == 0
+            && counts(&worked.done) == (256, 744)
+            && entries.len() == 3000
+            && worked.closed.sessions == WORKERS
+            && are_right(alloc, entries, &worked.done)?
+            && matches!(check(alloc, entries).ok()?, Verdict::Lawful),
+    )
 }

@@ -1,10 +1,12 @@
 //! A long run of drawn calls by many threads.
 
 use crate::drawing::call;
-use crate::walking::is_played;
+use crate::walking::{played, same};
 use fs_calls::Call;
 use fs_core::Stepped;
-use fs_share::{Closed, Gate, run_lists};
+use fs_journal::check;
+use fs_share::{Gate, run_lists};
+use fs_timeline::Verdict;
 use rand_core::SeedableRng;
 use rand_pcg::Pcg32;
 use std::alloc::Global;
@@ -46,22 +48,17 @@ fn lists(alloc: Global) -> Option<Vec<Vec<Call>>> {
     Some(lists)
 }
 
-/// What the run leaves.
-fn closed<R: Threads + Wait + Clock + Sync>(rt: &R, alloc: Global) -> Option<Closed> {
-    let lists = lists(alloc)?;
-    run_lists(rt, alloc, &lists, &Lingers).ok()
-}
-
-/// Whether a run made all calls, its timeline is lawful, and the nodes that it leaves are those of a sequential tree that
-/// played its commits.
-fn is_whole(alloc: Global, closed: &Closed) -> Option<bool> {
-    let count = closed.timeline.entries().len();
-    let is_long = closed.sessions == THREADS && count == 3 * THREADS * CALLS;
-    Some(is_played(alloc, closed)? && is_long)
-}
-
-/// The same of drawn calls.
+/// Whether the timeline of the run is lawful, and the nodes that it leaves are those of a sequential tree that played its
+/// commits.
 pub fn is_lawful<R: Threads + Wait + Clock + Sync>(rt: &R, alloc: Global) -> Option<bool> {
-    let closed = closed(rt, alloc)?;
-    is_whole(alloc, &closed)
+    let lists = lists(alloc)?;
+    let closed = run_lists(rt, alloc, &lists, &Lingers).ok()?;
+    let entries = closed.timeline.entries();
+    let mut tree = played(alloc, entries)?;
+    Some(
+        closed.sessions == THREADS
+            && entries.len() == 3 * THREADS * CALLS
+            && matches!(check(alloc, entries).ok()?, Verdict::Lawful)
+            && same(alloc, &closed.store, &mut tree)?,
+    )
 }

@@ -48,8 +48,8 @@ fn written<R: Threads + Wait + Clock + Sync>(
 
 /// Whether each row is written so.
 pub fn are_written<R: Threads + Wait + Clock + Sync>(rt: &R, alloc: Global) -> Option<bool> {
-    for (script, want) in &ROWS {
-        if written(rt, alloc, script)?.as_slice() != *want {
+    for (script, want) in ROWS {
+        if written(rt, alloc, script)?.as_slice() != want {
             return Some(false);
         }
     }

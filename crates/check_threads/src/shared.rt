@@ -2,12 +2,12 @@
 
 ghost use Rattle.std.specs.Prelude.{◌≡◌, ◌^◌};
 
-use crate::calls::{stat, stats};
+use crate::calls::stat;
 use crate::waiting::is_set;
 use fs_calls::Call;
 use fs_core::Stepped;
-use fs_pool::{Collected, Pool};
-use fs_share::{AtomFs, Closed, Gate, Named, Open, Opened, Tally, run_lists};
+use fs_pool::Pool;
+use fs_share::{AtomFs, Closed, Gate, ListsFault, Named, Open, Opened, Tally, run_lists};
 use std::alloc::Global;
 use std::marker::Brand;
 use std::sync::Wait;
@@ -53,30 +53,28 @@ impl Gate for FirstWaits {
     }
 }
 
-/// Two lists of a call each.
+fn one_call(alloc: Global, call: Call) -> Option<Vec<Call>> {
+    let mut list = Vec::new(alloc);
+    list.push(call).ok()?;
+    Some(list)
+}
+
 fn two_lists<R: Threads + Wait + Clock + Sync>(
     rt: &R,
     alloc: Global,
     gate: &FirstWaits,
-) -> Option<Closed> {
-    let first = stats(alloc, b"/x", 1)?;
-    let second = stats(alloc, b"/y", 1)?;
-    run_lists(rt, alloc, &[first, second], gate).ok()
+) -> Option<Result<Closed, ListsFault>> {
+    let mut lists = Vec::new(alloc);
+    lists.push(one_call(alloc, stat(alloc, b"/x")?)?).ok()?;
+    lists.push(one_call(alloc, stat(alloc, b"/y")?)?).ok()?;
+    Some(run_lists(rt, alloc, &lists, gate))
 }
 
 /// Whether the gate lets one list's call return while it holds the other's.
 pub fn lists_meet<R: Threads + Wait + Clock + Sync>(rt: &R, alloc: Global) -> Option<bool> {
     let gate = FirstWaits::new();
-    let closed = two_lists(rt, alloc, &gate)?;
+    let closed = two_lists(rt, alloc, &gate)?.ok()?;
     Some(gate.has_met() && closed.sessions == 2 && closed.timeline.entries().len() == 6)
-}
-
-/// Hands a job to a pool. Whether it is taken.
-fn submit<N: Named>(alloc: Global, pool: &mut Pool<N>, text: &[u8]) -> bool {
-    match stat(alloc, text) {
-        Some(call) => pool.submit(call).is_ok(),
-        None => false,
-    }
 }
 
 /// Two jobs by two workers.
@@ -87,15 +85,10 @@ fn jobs_on<N: Named + Send + Sync, R: Threads + Wait + Clock + Sync>(
     gate: &FirstWaits,
 ) -> Option<Vec<Tally<N>>> {
     let mut pool = Pool::<N>::new(rt, alloc, 2).ok()?;
-    let are_done = submit(alloc, &mut pool, b"/x")
-        && submit(alloc, &mut pool, b"/y")
-        && pool.run(rt, alloc, fs, 2, gate).is_ok();
-    let Collected {
-        done: _done,
-        left: _left,
-        tallies,
-    } = pool.collect();
-    if are_done { Some(tallies) } else { None }
+    pool.submit(stat(alloc, b"/x")?).ok()?;
+    pool.submit(stat(alloc, b"/y")?).ok()?;
+    pool.run(rt, alloc, fs, 2, gate).ok()?;
+    Some(pool.collect().tallies)
 }
 
 /// The same on a tree of its own.
@@ -134,18 +127,23 @@ pub fn jobs_meet<R: Threads + Wait + Clock + Sync>(rt: &R, alloc: Global) -> Opt
     Some(gate.has_met() && closed.sessions == 2 && closed.timeline.entries().len() == 6)
 }
 
-/// Four lists of fifty calls.
-fn many_lists(alloc: Global) -> Option<Vec<Vec<Call>>> {
+fn many_lists<R: Threads + Wait + Clock + Sync>(
+    rt: &R,
+    alloc: Global,
+) -> Option<Result<Closed, ListsFault>> {
     let mut lists = Vec::new(alloc);
     for _ in 0..4u64 {
-        lists.push(stats(alloc, b"/x", 50)?).ok()?;
+        let mut list = Vec::new(alloc);
+        for _ in 0..50u64 {
+            list.push(stat(alloc, b"/x")?).ok()?;
+        }
+        lists.push(list).ok()?;
     }
-    Some(lists)
+    Some(run_lists(rt, alloc, &lists, &Open))
 }
 
 /// Whether as many calls return as four lists have.
 pub fn all_return<R: Threads + Wait + Clock + Sync>(rt: &R, alloc: Global) -> Option<bool> {
-    let lists = many_lists(alloc)?;
-    let closed = run_lists(rt, alloc, &lists, &Open).ok()?;
+    let closed = many_lists(rt, alloc)?.ok()?;
     Some(closed.sessions == 4 && closed.timeline.entries().len() == 600)
 }

@@ -2,42 +2,30 @@
 
 use crate::calls::path;
 use fs_calls::{Call, Reply};
-use fs_journal::check;
 use fs_names::{ENTRY_LIMIT, FILE_LIMIT, Kind, Name};
 use fs_nodes::{NodeNo, Store};
 use fs_seq::SeqTree;
-use fs_share::Closed;
-use fs_timeline::{Entry, Verdict};
+use fs_timeline::Entry;
 use std::alloc::Global;
 
 /// How many nodes are compared at the most.
 const MOST_NODES: u32 = 10_000;
 
-/// Makes the call of a commit, the calls being numbered from 1 on.
-fn play(alloc: Global, tree: &mut SeqTree, calls: &[&Call], number: u64) -> Option<()> {
-    let place = (number as usize).checked_sub(1)?;
-    let call: &Call = calls.get(place)?;
-    tree.apply(alloc, call).ok()?;
-    Some(())
-}
-
-/// Makes the calls of all commits.
-fn play_all(alloc: Global, tree: &mut SeqTree, entries: &[Entry]) -> Option<()> {
+/// The tree after all commits of a timeline whose calls are numbered in the order of their begins, from 1 on.
+pub fn played(alloc: Global, entries: &[Entry]) -> Option<SeqTree> {
+    let mut tree = SeqTree::new(alloc).ok()?;
     let mut calls = Vec::new(alloc);
     for entry in entries {
         match entry {
             Entry::Begin(_, _, call) => calls.push(call).ok()?,
-            Entry::Commit(number) => play(alloc, tree, &calls, number.get())?,
+            Entry::Commit(number) => {
+                let place = (number.get() as usize).checked_sub(1)?;
+                let call: &Call = calls.get(place)?;
+                tree.apply(alloc, call).ok()?;
+            }
             _ => {}
         }
     }
-    Some(())
-}
-
-/// The tree after all commits of a timeline whose calls are numbered in the order of their begins, from 1 on.
-fn played(alloc: Global, entries: &[Entry]) -> Option<SeqTree> {
-    let mut tree = SeqTree::new(alloc).ok()?;
-    play_all(alloc, &mut tree, entries)?;
     Some(tree)
 }
 
@@ -72,20 +60,15 @@ fn add_entries(alloc: Global, store: &Store, dir: &Place, stack: &mut Vec<Place>
     None
 }
 
-/// A call that looks at a place.
-fn look(alloc: Global, at: &Place, reads: bool) -> Option<Call> {
+/// What the tree replies at a place.
+fn reply(alloc: Global, tree: &mut SeqTree, at: &Place, reads: bool) -> Option<Reply> {
     let text: &[u8] = if at.text.is_empty() { b"/" } else { &at.text };
     let path = path(alloc, text)?;
-    Some(if reads {
+    let call = if reads {
         Call::Read(path, 0, FILE_LIMIT as u64)
     } else {
         Call::Stat(path)
-    })
-}
-
-/// What the tree replies at a place.
-fn reply(alloc: Global, tree: &mut SeqTree, at: &Place, reads: bool) -> Option<Reply> {
-    let call = look(alloc, at, reads)?;
+    };
     tree.apply(alloc, &call).ok()
 }
 
@@ -121,7 +104,7 @@ fn agrees_at(
 }
 
 /// Whether both have the same names, kinds and bytes, from the root on.
-fn same(alloc: Global, store: &Store, tree: &mut SeqTree) -> Option<bool> {
+pub fn same(alloc: Global, store: &Store, tree: &mut SeqTree) -> Option<bool> {
     let mut stack = Vec::new(alloc);
     let root = Place {
         node: NodeNo::new(0),
@@ -137,19 +120,4 @@ fn same(alloc: Global, store: &Store, tree: &mut SeqTree) -> Option<bool> {
         }
     }
     Some(false)
-}
-
-/// Whether a timeline is lawful.
-pub fn is_lawful(alloc: Global, entries: &[Entry]) -> Option<bool> {
-    let verdict = check(alloc, entries).ok()?;
-    Some(matches!(verdict, Verdict::Lawful))
-}
-
-/// Whether the timeline of a run is lawful, and the nodes that it leaves are those of a sequential tree that played its
-/// commits.
-pub fn is_played(alloc: Global, closed: &Closed) -> Option<bool> {
-    let entries = closed.timeline.entries();
-    let is_lawful = is_lawful(alloc, entries)?;
-    let mut tree = played(alloc, entries)?;
-    Some(same(alloc, &closed.store, &mut tree)? && is_lawful)
 }
