@@ -87,24 +87,33 @@ Exit status:
 Example:
   atomfs run < examples/moved_ancestor.script";
 
-fn run_command<'a>(alloc: Global) -> Result<Command<'a>, Error> {
-    let robin = Arg::new(alloc, "robin")
+fn robin_argument<'a>(alloc: Global) -> Arg<'a> {
+    Arg::new(alloc, "robin")
         .long("robin")
         .action(ArgAction::SetTrue)
-        .help("One event of each thread in turn, in place of the script's schedule");
-    let seed = Arg::new(alloc, "seed")
-        .long("seed")
-        .value_name("N")
-        .value_parser(value_parser!(u64))
-        .conflicts_with("robin")?
-        .help("Threads drawn from N, 0 to 18446744073709551615, as `atomfs seeds` draws them");
+        .help("One event of each thread in turn, in place of the script's schedule")
+}
+
+fn drawn_argument<'a>(alloc: Global) -> Result<Arg<'a>, Error> {
+    Ok(
+        Arg::new(alloc, "seed")
+            .long("seed")
+            .value_name("N")
+            .value_parser(value_parser!(u64))
+            .conflicts_with("robin")?
+            .help("Threads drawn from N, 0 to 18446744073709551615, as `atomfs seeds` draws them"),
+    )
+}
+
+fn run_command<'a>(alloc: Global) -> Result<Command<'a>, Error> {
+    let seed = drawn_argument(alloc)?;
     Ok(
         Command::new(alloc, "run")
             .about(
                 "Runs the script on standard input and writes its journal, its tree and its counts",
             )
             .after_help(RUN_STATUSES)
-            .arg(robin)?
+            .arg(robin_argument(alloc))?
             .arg(seed)?,
     )
 }
