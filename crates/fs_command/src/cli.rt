@@ -94,7 +94,7 @@ fn robin_argument<'a>(alloc: Global) -> Arg<'a> {
         .help("One event of each thread in turn, in place of the script's schedule")
 }
 
-fn drawn_argument<'a>(alloc: Global) -> Result<Arg<'a>, Error> {
+fn seed_argument<'a>(alloc: Global) -> Result<Arg<'a>, Error> {
     Ok(
         Arg::new(alloc, "seed")
             .long("seed")
@@ -106,7 +106,7 @@ fn drawn_argument<'a>(alloc: Global) -> Result<Arg<'a>, Error> {
 }
 
 fn run_command<'a>(alloc: Global) -> Result<Command<'a>, Error> {
-    let seed = drawn_argument(alloc)?;
+    let seed = seed_argument(alloc)?;
     Ok(
         Command::new(alloc, "run")
             .about(
