@@ -1,5 +1,5 @@
 -- The line of what was read is the line of the input, and its number is that of the script's calls.
-use Rattle.std.proofs.Common.{◌≡◌, ℕ, ◌+◌, cond, List, [], ◌∷◌, length, map, sum_by, Option, Some, None, Err, refl, sym, ap, ◌∙◌, subst, arith}
+use Rattle.std.proofs.Common.{◌≡◌, ℕ, ◌+◌, cond, List, [], ◌∷◌, length, map, sum_by, Option, Some, None, Result, Err, refl, sym, ap, ◌∙◌, subst, arith}
 use Rattle.std.specs.Prelude.{IfSome}
 use Rattle.std.proofs.lemmas.List.Sums.{sum_by-cons}
 use Rattle.fs_calls.specs.declared.call.Call.{Call}
@@ -7,6 +7,7 @@ use Rattle.fs_timeline.specs.declared.entry.Entry.{Entry}
 use Rattle.fs_timeline.specs.declared.entry.Entry.TheVariants.{Begin, Commit, Return}
 use Rattle.fs_text.specs.declared.fault.ScriptFault.{ScriptFault}
 use Rattle.fs_script.specs.Script.{script_of}
+use Rattle.fs_script.specs.declared.script.Script.{Script}
 use Rattle.fs_sched.specs.Devices.{IsSameText}
 use Rattle.fs_sched.specs.Runs.{calls_in}
 use Rattle.fs_sched.specs.RunTexts.{is_of, number_of}
@@ -14,10 +15,10 @@ use Rattle.fs_sched.specs.declared.fault.RunFault.TheVariants as run
 use Rattle.fs_sched.specs.declared.run_texts.EntryKind.TheVariants as kind
 use Rattle.fs_sched.proofs.RunLemmas.{script_same, known_script}
 use Rattle.fs_share.specs.Returns.{returns}
-use Rattle.fs_threads.specs.Faults.{IsOfInput}
+use Rattle.fs_threads.specs.Faults.{IsOfInput, IsOfThreads}
 use Rattle.fs_threads.specs.Lines.{IsLineOf}
 use Rattle.fs_threads.specs.declared.fault.ThreadsFault.{ThreadsFault}
-use Rattle.fs_threads.specs.declared.fault.ThreadsFault.TheVariants.{Run}
+use Rattle.fs_threads.specs.declared.fault.ThreadsFault.TheVariants.{Run, Lists}
 
 -- the returns of a timeline, by two words
 number_cons : (e : Entry) (es : List Entry) → number_of kind.Return (e ∷ es) ≡ cond (is_of kind.Return e) 1 0 + number_of kind.Return es
@@ -40,3 +41,12 @@ known_line (Some input) text items line e s h = (h.0, sym (script_same items inp
 
 pub known_fault : (r : Option (List ℕ)) (text items : List ℕ) (fault : ThreadsFault) (f : ScriptFault) → text ≡ items → IfSome r (IsSameText items) → IsOfInput (script_of text) fault → fault ≡ Run (run.Input f) → IfSome r (λ input. script_of input ≡ Err f)
 known_fault r text items fault f e s h k = known_script r text items (Err f) e s (subst (IsOfInput (script_of text)) k h)
+
+-- a fault of the threads is one with any input
+pub input_of_threads : (given : Result Script ScriptFault) (fault : ThreadsFault) → IsOfThreads fault → IsOfInput given fault
+input_of_threads given (Run (run.Input _)) h = elim h [ ]
+input_of_threads given (Run run.Read) h = elim h [ ]
+input_of_threads given (Run run.Write) h = elim h [ ]
+input_of_threads given (Run run.OutOfMemory) h = tt
+input_of_threads given (Run run.Full) h = tt
+input_of_threads given (Lists fault) h = tt

@@ -1,22 +1,56 @@
 //! The runner that plays a script's blocks on threads.
 
-ghost use Rattle.std.specs.Prelude.{◌≡◌, ◌≢◌, ◌+◌, ◌-◌, ◌<◌, ◌^◌, ℕ, List, true, Ok, Err, IfOk, OnOk, OnErr, IfErr, IfSome, IsErrOf};
+ghost use Rattle.std.specs.Prelude.{◌≡◌, ◌≢◌, ◌+◌, ◌-◌, ◌<◌, ◌^◌, ℕ, List, map, true, Ok, Err, IfOk, OnOk, OnErr, IfErr, IfSome, IsErrOf};
 ghost use Rattle.std.specs.Io.KnownBytes.{Appends, IsAtEnd};
 ghost use Rattle.fs_text.specs.declared.fault.ScriptFault.{ScriptFault};
+ghost use Rattle.fs_timeline.specs.Timeline.{IsLawful};
 ghost use Rattle.fs_script.specs.Script.{script_of};
 ghost use Rattle.fs_sched.specs.Devices.{WritesBeginning};
-ghost use Rattle.fs_threads.specs.Faults.{IsOfInput};
-ghost use Rattle.fs_threads.specs.Lines.{IsLineOf};
+ghost use Rattle.fs_sched.specs.Runs.{calls_in};
+ghost use Rattle.fs_sched.specs.RunTexts.{number_of};
+ghost use Rattle.fs_threads.specs.Faults.{IsOfInput, IsOfThreads};
+ghost use Rattle.fs_threads.specs.Lines.{lawful_line, IsLineOf};
 
 use crate::fault::{ThreadsFault, threads_fault};
 use crate::line::{MadeLine, make_line};
-use fs_sched::{RunFault, Sink, Source, read_text, run_fault, write_text};
+use fs_calls::Call;
+use fs_sched::{EntryKind, RunFault, Sink, Source, read_text, run_fault, write_text};
 use fs_script::read_script;
 use fs_share::{Open, run_lists};
+use fs_timeline::Entry;
 use std::alloc::Global;
 use std::sync::Wait;
 use std::thread::Threads;
 use std::time::Clock;
+
+/// The line of a lawful timeline. The only error is out of memory.
+fn line_of_entries(alloc: Global, entries: &[Entry]) -> Result<MadeLine, ThreadsFault>
+    requires { IsLawful entries.now }
+    ensures text { IfOk result (λ made. made.text.items ≡ lawful_line (number_of EntryKind.Return entries.now)) }
+    ensures lawful { IfOk result (λ made. made.lawful ≡ true) }
+    ensures fault { IfErr result IsOfThreads }
+{
+    match make_line(alloc, entries) {
+        Ok(made) => Ok(made),
+        Err(_) => Err(ThreadsFault::Run(RunFault::OutOfMemory)),
+    }
+}
+
+/// The line of lists of calls, once they were played on threads.
+fn line_of_lists<R: Threads + Wait + Clock + Sync>(
+    rt: &R,
+    alloc: Global,
+    lists: &[Vec<Call>],
+) -> Result<MadeLine, ThreadsFault>
+    ensures line { IfOk result (λ made. made.text.items ≡ lawful_line (calls_in (map (λ calls. calls.items) lists.now))) }
+    ensures lawful { IfOk result (λ made. made.lawful ≡ true) }
+    ensures fault { IfErr result IsOfThreads }
+{
+    match run_lists(rt, alloc, lists, &Open) {
+        Ok(closed) => line_of_entries(alloc, closed.timeline.entries()),
+        Err(fault) => Err(threads_fault(fault)),
+    }
+}
 
 /// The line of the script that a text has, once its blocks were played on threads.
 fn line_of_script<R: Threads + Wait + Clock + Sync>(
@@ -28,17 +62,9 @@ fn line_of_script<R: Threads + Wait + Clock + Sync>(
     ensures lawful { IfOk result (λ made. made.lawful ≡ true) }
     ensures fault { IfErr result (IsOfInput (script_of text.now)) }
 {
-    let script = match read_script(alloc, text) {
-        Ok(script) => script,
-        Err(fault) => return Err(ThreadsFault::Run(run_fault(fault))),
-    };
-    let closed = match run_lists(rt, alloc, script.lists.as_slice(), &Open) {
-        Ok(closed) => closed,
-        Err(fault) => return Err(threads_fault(fault)),
-    };
-    match make_line(alloc, closed.timeline.entries()) {
-        Ok(made) => Ok(made),
-        Err(_) => Err(ThreadsFault::Run(RunFault::OutOfMemory)),
+    match read_script(alloc, text) {
+        Ok(script) => line_of_lists(rt, alloc, script.lists.as_slice()),
+        Err(fault) => Err(ThreadsFault::Run(run_fault(fault))),
     }
 }
 

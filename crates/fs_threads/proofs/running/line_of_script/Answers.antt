@@ -1,14 +1,19 @@
-use Rattle.std.proofs.Common.{◌≡◌, ◌∙◌, ap, map, sum_by, vec_len}
+use Rattle.std.proofs.Common.{◌≡◌, ◌∙◌, ap, map}
+use Rattle.std.proofs.lemmas.Result.{IfOk-weaker, IfErr-weaker}
+use Rattle.fs_script.specs.Script.{script_of}
 use Rattle.fs_sched.specs.Runs.{calls_in}
-use Rattle.fs_sched.specs.RunTexts.{number_of}
-use Rattle.fs_sched.specs.declared.run_texts.EntryKind.TheVariants as kind
-use Rattle.fs_threads.specs.Lines.{lawful_line}
-use Rattle.fs_threads.proofs.LineLemmas.{number_is, calls_are}
+use Rattle.fs_threads.specs.Faults.{IsOfInput, IsOfThreads}
+use Rattle.fs_threads.specs.Lines.{lawful_line, IsLineOf}
+use Rattle.fs_threads.proofs.LineLemmas.{input_of_threads}
 use Rattle.fs_threads.proofs.running.line_of_script.Goals as goal
 
-pub returns-in-Ok-make_line-clause-line : goal.returns-in-Ok-make_line-clause-line
-returns-in-Ok-make_line-clause-line g c =
-    let lists = c.as_slice.result.now in
-    let counted : sum_by vec_len lists ≡ calls_in (map (λ v. v.items) lists) = calls_are (λ v. v.items) vec_len (λ v. v.ok.0) lists in
-    let number = ap (number_of kind.Return) c.entries.ensures ∙ number_is c.in-Ok-run_lists.closed.timeline.entries ∙ c.in-Ok-run_lists.ensures.returns ∙ counted ∙ ap calls_in c.as_slice.ensures in
-    (c.in-Ok.script, c.in-Ok.ensures, c.in-Ok-make_line.ensures.text ∙ ap lawful_line number)
+pub returns-in-Ok-clause-line : goal.returns-in-Ok-clause-line
+returns-in-Ok-clause-line g c =
+    let same = ap (λ lists. lawful_line (calls_in lists)) c.as_slice.ensures in
+    IfOk-weaker c.line_of_lists.result
+    (λ made. made.text.items ≡ lawful_line (calls_in (map (λ v. v.items) c.as_slice.result.now)))
+    (λ made. IsLineOf c.args.text.now made.text.items)
+    (λ made is. (c.in-Ok.script, c.in-Ok.ensures, is ∙ same)) c.line_of_lists.ensures.line
+
+pub returns-in-Ok-clause-fault : goal.returns-in-Ok-clause-fault
+returns-in-Ok-clause-fault g c = IfErr-weaker c.line_of_lists.result IsOfThreads (IsOfInput (script_of c.args.text.now)) (λ fault is. input_of_threads _ fault is) c.line_of_lists.ensures.fault
