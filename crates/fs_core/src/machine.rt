@@ -172,18 +172,15 @@ impl Core {
         Stepped::Returned(again)
     }
 
-    /// The call on a seat does its next move.
-    pub fn step(&mut self, seat: SeatNo) -> Stepped
-        requires seat { seat < length self.old.seats }
-        ensures step { Step (state_of self.old) seat result (state_of self.new) }
+    /// The call on a seat does the move that is its next.
+    fn make_move(&mut self, at: usize, call: CallNo, place: Option<u64>, next: Move) -> Stepped
+        requires seat { at < length self.old.seats }
+        requires moves { MovesOn self.old at call next }
+        requires placed { PlacedOn self.old at place }
+        ensures step { Step (state_of self.old) at result (state_of self.new) }
         ensures seats { length self.new.seats ≡ length self.old.seats }
     {
-        let at = seat.get() as usize;
-        let Some(running) = &self.seats[at] else {
-            return Stepped::Idle;
-        };
-        let (call, place) = (running.call, running.place);
-        by_move! { running.op.next(&self.store), place;
+        by_move! { next, place;
             always {
                 Move::Take(node) => self.take(at, call, node),
                 Move::LetGo(node) => self.let_go(at, call, node),
@@ -196,6 +193,21 @@ impl Core {
                 }
             }
         }
+    }
+
+    /// The call on a seat does its next move.
+    pub fn step(&mut self, seat: SeatNo) -> Stepped
+        requires seat { seat < length self.old.seats }
+        ensures step { Step (state_of self.old) seat result (state_of self.new) }
+        ensures seats { length self.new.seats ≡ length self.old.seats }
+    {
+        let at = seat.get() as usize;
+        let Some(running) = &self.seats[at] else {
+            return Stepped::Idle;
+        };
+        let (call, place) = (running.call, running.place);
+        let next = running.op.next(&self.store);
+        self.make_move(at, call, place, next)
     }
 
     /// No nodes but the root, no seats and no entries, for at most `limit` nodes, the root included. The only error is
