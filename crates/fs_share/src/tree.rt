@@ -72,20 +72,29 @@ impl<N: Named> AtomFs<N> {
         })
     }
 
-    /// A session with a seat of its own. The only error is out of memory.
-    pub fn session<R: Wait>(&self, rt: &R) -> Result<Session<'_, N>, AllocError>
-        ensures { IfOk result (λ session. session.count ≡ 0) }
+    /// One more seat, with a part of the ledger. The only error is out of memory.
+    fn seat<R: Wait>(&self, rt: &R) -> Result<(SeatNo, Share<N>), AllocError>
+        ensures { IfOk result (λ made. (made.1.parts ≡ 1) × (made.1.amount ≡ 0)) }
     {
         let mut desk = self.desk.lock(rt);
         let made = desk.seat();
         MutexGuard::unlock(desk);
-        let (seat, share) = made?;
-        Ok(Session {
-            fs: self,
-            seat,
-            count: 0,
-            share,
-        })
+        made
+    }
+
+    /// A session with a seat of its own. The only error is out of memory.
+    pub fn session<R: Wait>(&self, rt: &R) -> Result<Session<'_, N>, AllocError>
+        ensures { IfOk result (λ session. session.count ≡ 0) }
+    {
+        match self.seat(rt) {
+            Ok((seat, share)) => Ok(Session {
+                fs: self,
+                seat,
+                count: 0,
+                share,
+            }),
+            Err(refused) => Err(refused),
+        }
     }
 
     /// An observer that was told nothing yet. The error is that none of the 64 reader places is free, or no memory.
