@@ -1,6 +1,6 @@
 //! Nodes in a slab, walks along names, and the entries of directories.
 
-ghost use Rattle.std.specs.Prelude.{◌≡◌, ◌<◌, ◌≤◌, Some, IsTrue, OnOk, OnErr, length, take, insert, remove};
+ghost use Rattle.std.specs.Prelude.{◌≡◌, ◌<◌, ◌≤◌, Some, IsTrue, OnOk, OnErr, length, take, insert, remove, vec_len};
 ghost use Rattle.std.specs.FinMap.{is_sorted};
 ghost use Rattle.slab.specs.Slab.{ContainsKey, HasRoomFor};
 ghost use Rattle.fs_names.specs.Names.{name_cmp};
@@ -93,6 +93,18 @@ pub fn look_up(nodes: &Slab<Node>, path: &Path) -> Result<Spot, Errno>
     }
 }
 
+/// Adds a link at a place among others.
+fn insert_link(links: &mut Vec<Link>, i: usize, link: Link) -> Result<(), AllocError>
+    requires { i ≤ vec_len links.old }
+    ensures ok { OnOk result (links.new.items ≡ insert links.old.items i link) }
+    ensures err { OnErr result (links.new.items ≡ links.old.items) }
+{
+    match links.insert(i, link) {
+        Ok(()) => Ok(()),
+        Err(_) => Err(AllocError),
+    }
+}
+
 /// Adds an entry to a directory at a place.
 pub fn add_link(nodes: &mut Slab<Node>, dir: usize, i: usize, link: Link) -> Result<(), AllocError>
     requires directory { place_at (graph nodes.old) dir ≡ Some (IsDir (links_at (graph nodes.old) dir)) }
@@ -103,10 +115,7 @@ pub fn add_link(nodes: &mut Slab<Node>, dir: usize, i: usize, link: Link) -> Res
     ensures room { HasRoomFor nodes.old 1 → HasRoomFor nodes.new 1 }
 {
     match &mut nodes[dir] {
-        Node::Dir(links) => match links.insert(i, link) {
-            Ok(()) => Ok(()),
-            Err(_) => Err(AllocError),
-        },
+        Node::Dir(links) => insert_link(links, i, link),
         Node::File(_) => Ok(()),
     }
 }
