@@ -2,11 +2,11 @@
 
 ghost use Rattle.std.specs.Prelude.{◌≡◌, ◌^◌};
 
-use crate::calls::{fits, is_new, mkdir, mknod, path, rename, stat};
-use fs_calls::{Bytes, Call};
-use fs_journal::check;
-use fs_share::{Answer, AtomFs, Closed, Named, Open, Opened, Tally};
-use fs_timeline::{Entry, Verdict};
+use crate::calls::{calls_of, fits, is_lawful, is_new};
+use fs_calls::Call;
+use fs_script::read_script;
+use fs_share::{Answer, AtomFs, Closed, Named, Open, Opened, Session, Tally};
+use fs_timeline::Entry;
 use std::alloc::Global;
 use std::marker::Brand;
 use std::sync::Wait;
@@ -15,22 +15,22 @@ use std::thread;
 use std::thread::Threads;
 use std::time::Clock;
 
-fn calls(alloc: Global) -> Option<Vec<Call>> {
-    let mut list = Vec::new(alloc);
-    let bytes = Vec::from_slice(alloc, b"hi").ok()?;
-    list.push(mkdir(alloc, b"/d")?).ok()?;
-    list.push(mknod(alloc, b"/s")?).ok()?;
-    list.push(Call::Write(path(alloc, b"/s")?, 0, Bytes::new(bytes)))
-        .ok()?;
-    list.push(Call::Read(path(alloc, b"/s")?, 0, 2)).ok()?;
-    list.push(Call::Truncate(path(alloc, b"/s")?, 1)).ok()?;
-    list.push(stat(alloc, b"/s")?).ok()?;
-    list.push(Call::Readdir(path(alloc, b"/")?)).ok()?;
-    list.push(rename(alloc, b"/s", b"/t")?).ok()?;
-    list.push(Call::Unlink(path(alloc, b"/t")?)).ok()?;
-    list.push(Call::Rmdir(path(alloc, b"/d")?)).ok()?;
-    Some(list)
-}
+/// The calls of each session.
+const CALLS: &[u8] = b"\
+atomfs 1
+thread each
+mkdir /d
+mknod /s
+write /s 0 6869
+read /s 0 2
+truncate /s 1
+stat /s
+readdir /
+rename /s /t
+unlink /t
+rmdir /d
+schedule
+";
 
 /// The answers of a session, in the order of its calls, and its tally.
 #[derive(Drop)]
@@ -39,7 +39,24 @@ struct Played<N: Named> {
     tally: Tally<N>,
 }
 
-/// Twenty times the calls, by a session of its own.
+/// Twenty times the calls.
+fn play<N: Named, R: Wait + Clock>(
+    rt: &R,
+    alloc: Global,
+    session: &mut Session<'_, N>,
+    list: &[Call],
+    answers: &mut Vec<Answer>,
+) -> Option<()> {
+    for _ in 0..20u64 {
+        for call in list {
+            let answer = session.call(rt, alloc, call, &Open).ok()?;
+            answers.push(answer).ok()?;
+        }
+    }
+    Some(())
+}
+
+/// The same by a session of its own.
 fn plays<N: Named, R: Wait + Clock>(
     rt: &R,
     alloc: Global,
@@ -48,13 +65,7 @@ fn plays<N: Named, R: Wait + Clock>(
 ) -> Option<Played<N>> {
     let mut session = fs.session(rt).ok()?;
     let mut answers = Vec::new(alloc);
-    for _ in 0..20u64 {
-        for call in list {
-            answers
-                .push(session.call(rt, alloc, call, &Open).ok()?)
-                .ok()?;
-        }
-    }
+    play(rt, alloc, &mut session, list, &mut answers)?;
     Some(Played {
         answers,
         tally: session.end(),
@@ -73,13 +84,6 @@ fn fitting(entries: &[Entry], list: &[Call], answers: &[Answer]) -> u64 {
         }
     }
     count
-}
-
-/// What four sessions on four threads got.
-#[derive(Drop)]
-struct Four {
-    answers: Vec<Vec<Answer>>,
-    closed: Closed,
 }
 
 fn two_play<N: Named + Send + Sync, R: Threads + Wait + Clock + Sync>(
@@ -110,14 +114,9 @@ fn four_play<N: Named + Send + Sync, R: Threads + Wait + Clock + Sync>(
         || two_play(rt, alloc, fs, list),
         || two_play(rt, alloc, fs, list),
     );
-    let mut answers = Vec::new(alloc);
-    let mut tallies = Vec::new(alloc);
-    for (one, other) in [first?, second?] {
-        answers.push(one.answers).ok()?;
-        tallies.push(one.tally).ok()?;
-        answers.push(other.answers).ok()?;
-        tallies.push(other.tally).ok()?;
-    }
+    let ((a, b), (c, d)) = (first?, second?);
+    let answers = vec![in alloc; a.answers, b.answers, c.answers, d.answers].ok()?;
+    let tallies = vec![in alloc; a.tally, b.tally, c.tally, d.tally].ok()?;
     Some((answers, tallies))
 }
 
@@ -127,7 +126,7 @@ fn on_four_threads<N: Named + Send + Sync, R: Threads + Wait + Clock + Sync>(
     opened: Opened,
     blank: Blank,
     list: &[Call],
-) -> Option<Four>
+) -> Option<(Vec<Vec<Answer>>, Closed)>
     requires book { opened ≡ N.book }
     requires name { blank.name ≡ N.name }
     requires parts { blank.parts ≡ N.parts }
@@ -138,18 +137,7 @@ fn on_four_threads<N: Named + Send + Sync, R: Threads + Wait + Clock + Sync>(
         let _closed = fs.close(rt, Vec::new(alloc));
         return None;
     };
-    Some(Four {
-        answers,
-        closed: fs.close(rt, tallies),
-    })
-}
-
-fn four_sessions<R: Threads + Wait + Clock + Sync>(
-    rt: &R,
-    alloc: Global,
-    list: &[Call],
-) -> Option<Four> {
-    on_four_threads::<Brand, R>(rt, alloc, Opened::new(), Blank::new(1 << 63), list)
+    Some((answers, fs.close(rt, tallies)))
 }
 
 /// Whether each answer fits, and no two have one number.
@@ -167,15 +155,35 @@ fn fit(entries: &[Entry], list: &[Call], four: &[Vec<Answer>]) -> bool {
     count == 800
 }
 
+/// Whether these are the answers of the sessions of a timeline.
+fn all_fit(alloc: Global, list: &[Call], answers: &[Vec<Answer>], closed: &Closed) -> Option<bool> {
+    let entries = closed.timeline.entries();
+    Some(
+        closed.sessions == 4
+            && entries.len() == 2400
+            && fit(entries, list, answers)
+            && is_lawful(alloc, entries)?,
+    )
+}
+
+/// The same of the sessions that play a list.
+fn play_four<R: Threads + Wait + Clock + Sync>(
+    rt: &R,
+    alloc: Global,
+    list: &[Call],
+) -> Option<bool> {
+    let (answers, closed) = on_four_threads::<Brand, R>(
+        rt,
+        alloc,
+        Opened::new(),
+        Blank::new(1 << 63),
+        list,
+    )?;
+    all_fit(alloc, list, &answers, &closed)
+}
+
 /// Whether four sessions, each twenty times the ten calls, get the replies of their own returns.
 pub fn are_right<R: Threads + Wait + Clock + Sync>(rt: &R, alloc: Global) -> Option<bool> {
-    let list = calls(alloc)?;
-    let four = four_sessions(rt, alloc, &list)?;
-    let entries = four.closed.timeline.entries();
-    Some(
-        four.closed.sessions == 4
-            && entries.len() == 2400
-            && fit(entries, &list, &four.answers)
-            && matches!(check(alloc, entries).ok()?, Verdict::Lawful),
-    )
+    let script = read_script(alloc, CALLS).ok()?;
+    play_four(rt, alloc, calls_of(&script, 0)?)
 }

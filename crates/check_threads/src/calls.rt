@@ -1,29 +1,25 @@
 //! Calls, and what a timeline says of them.
 
 use fs_calls::Call;
+use fs_journal::check;
 use fs_names::{CallNo, Path};
+use fs_script::Script;
 use fs_share::Answer;
-use fs_timeline::Entry;
+use fs_timeline::{Entry, Verdict};
 use std::alloc::Global;
 
 pub fn path(alloc: Global, text: &[u8]) -> Option<Path> {
     Path::parse(alloc, text).ok()
 }
 
-pub fn mkdir(alloc: Global, text: &[u8]) -> Option<Call> {
-    Some(Call::Mkdir(path(alloc, text)?))
+/// The calls of a script's thread.
+pub fn calls_of(script: &Script, thread: usize) -> Option<&[Call]> {
+    Some(script.lists.as_slice().get(thread)?.as_slice())
 }
 
-pub fn mknod(alloc: Global, text: &[u8]) -> Option<Call> {
-    Some(Call::Mknod(path(alloc, text)?))
-}
-
-pub fn stat(alloc: Global, text: &[u8]) -> Option<Call> {
-    Some(Call::Stat(path(alloc, text)?))
-}
-
-pub fn rename(alloc: Global, from: &[u8], to: &[u8]) -> Option<Call> {
-    Some(Call::Rename(path(alloc, from)?, path(alloc, to)?))
+/// Whether a timeline is lawful.
+pub fn is_lawful(alloc: Global, entries: &[Entry]) -> Option<bool> {
+    Some(matches!(check(alloc, entries).ok()?, Verdict::Lawful))
 }
 
 pub fn commit_place(entries: &[Entry], call: CallNo) -> Option<usize> {

@@ -2,12 +2,13 @@
 
 ghost use Rattle.std.specs.Prelude.{◌≡◌, ◌^◌};
 
-use crate::calls::{commit_place, is_before, mkdir, path, rename, return_place, stat};
+use crate::calls::{calls_of, commit_place, is_before, path, return_place};
 use crate::waiting::{TURNS, is_set, is_set_within};
 use fs_calls::{Call, Reply};
 use fs_core::Stepped;
 use fs_names::{Kind, Path};
 use fs_nodes::{NodeNo, Store};
+use fs_script::{Script, read_script};
 use fs_share::{Answer, AtomFs, Closed, Gate, Named, Open, Opened, Tally};
 use std::alloc::Global;
 use std::marker::Brand;
@@ -59,6 +60,9 @@ impl Gate for Holds {
     }
 }
 
+/// An answer, and the tally of its session.
+type Called<N> = (Answer, Tally<N>);
+
 /// One call by a session of its own.
 fn one<N: Named, R: Wait + Clock, G: Gate>(
     rt: &R,
@@ -66,7 +70,7 @@ fn one<N: Named, R: Wait + Clock, G: Gate>(
     fs: &AtomFs<N>,
     call: &Call,
     gate: &G,
-) -> Option<(Answer, Tally<N>)> {
+) -> Option<Called<N>> {
     let mut session = fs.session(rt).ok()?;
     let answer = session.call(rt, alloc, call, gate).ok()?;
     Some((answer, session.end()))
@@ -79,7 +83,7 @@ fn held<N: Named, R: Wait + Clock>(
     fs: &AtomFs<N>,
     call: &Call,
     gate: &Holds,
-) -> Option<(Answer, Tally<N>)> {
+) -> Option<Called<N>> {
     let answer = one(rt, alloc, fs, call, gate);
     gate.stands.store(1, Ordering::SeqCst);
     answer
@@ -92,7 +96,7 @@ fn other<N: Named, R: Wait + Clock>(
     fs: &AtomFs<N>,
     call: &Call,
     gate: &Holds,
-) -> Option<(Answer, Tally<N>)> {
+) -> Option<Called<N>> {
     if !is_set(rt, &gate.stands) {
         return None;
     }
@@ -111,36 +115,53 @@ pub struct Both {
     pub closed: Closed,
 }
 
-/// What a held call and another one were answered, what the gate saw, and the tallies of all sessions.
-type Met<N> = (Answer, Answer, Holds, Vec<Tally<N>>);
+/// Makes what the tree has, by a session of its own.
+fn make<N: Named, R: Wait + Clock>(
+    rt: &R,
+    alloc: Global,
+    fs: &AtomFs<N>,
+    calls: &[Call],
+) -> Option<Tally<N>> {
+    let mut session = fs.session(rt).ok()?;
+    for call in calls {
+        session.call(rt, alloc, call, &Open).ok()?;
+    }
+    Some(session.end())
+}
 
-/// Makes the directories, then runs a call that is held and another one meanwhile.
+/// Runs a call that is held and another one meanwhile.
+fn both_call<N: Named + Send + Sync, R: Threads + Wait + Clock + Sync>(
+    rt: &R,
+    alloc: Global,
+    fs: &AtomFs<N>,
+    calls: (&Call, &Call),
+    gate: &Holds,
+) -> Option<(Called<N>, Called<N>)> {
+    let (first, second) = calls;
+    let (held, other) = thread::join(
+        rt,
+        || held(rt, alloc, fs, first, gate),
+        || other(rt, alloc, fs, second, gate),
+    );
+    Some((held?, other?))
+}
+
+/// The answers of both calls, and the tallies of all sessions.
+type Met<N> = (Answer, Answer, Vec<Tally<N>>);
+
+/// Makes what the tree has, then runs both calls.
 fn meet_on<N: Named + Send + Sync, R: Threads + Wait + Clock + Sync>(
     rt: &R,
     alloc: Global,
     fs: &AtomFs<N>,
     made: &[Call],
     calls: (&Call, &Call),
-    hold: Hold,
+    gate: &Holds,
 ) -> Option<Met<N>> {
-    let mut session = fs.session(rt).ok()?;
-    for call in made {
-        session.call(rt, alloc, call, &Open).ok()?;
-    }
-    let made = session.end();
-    let (first, second) = calls;
-    let gate = Holds::new(hold);
-    let (a, b) = thread::join(
-        rt,
-        || held(rt, alloc, fs, first, &gate),
-        || other(rt, alloc, fs, second, &gate),
-    );
-    let ((held, first), (other, second)) = (a?, b?);
-    let mut tallies = Vec::new(alloc);
-    tallies.push(made).ok()?;
-    tallies.push(first).ok()?;
-    tallies.push(second).ok()?;
-    Some((held, other, gate, tallies))
+    let made = make(rt, alloc, fs, made)?;
+    let (held, other) = both_call(rt, alloc, fs, calls, gate)?;
+    let tallies = vec![in alloc; made, held.1, other.1].ok()?;
+    Some((held.0, other.0, tallies))
 }
 
 /// The same on a tree of its own.
@@ -159,7 +180,8 @@ fn meet_named<N: Named + Send + Sync, R: Threads + Wait + Clock + Sync>(
     requires all { blank.parts ≡ 2 ^ 63 }
 {
     let fs = AtomFs::<N>::open(rt, alloc, opened, blank).ok()?;
-    let Some((held, other, gate, tallies)) = meet_on(rt, alloc, &fs, made, calls, hold) else {
+    let gate = Holds::new(hold);
+    let Some((held, other, tallies)) = meet_on(rt, alloc, &fs, made, calls, &gate) else {
         let _closed = fs.close(rt, Vec::new(alloc));
         return None;
     };
@@ -180,32 +202,44 @@ pub fn meet<R: Threads + Wait + Clock + Sync>(
     calls: (&Call, &Call),
     hold: Hold,
 ) -> Option<Both> {
-    meet_named::<Brand, R>(
-        rt,
-        alloc,
-        Opened::new(),
-        Blank::new(1 << 63),
-        made,
-        calls,
-        hold,
-    )
+    let (opened, blank) = (Opened::new(), Blank::new(1 << 63));
+    meet_named::<Brand, R>(rt, alloc, opened, blank, made, calls, hold)
 }
 
-fn overlap<R: Threads + Wait + Clock + Sync>(rt: &R, alloc: Global) -> Option<Both> {
-    let mut made = Vec::new(alloc);
-    made.push(mkdir(alloc, b"/a")?).ok()?;
-    made.push(mkdir(alloc, b"/b")?).ok()?;
-    let hold = Hold {
-        after: 3,
-        turns: TURNS,
-    };
-    let calls = (&mkdir(alloc, b"/a/x")?, &stat(alloc, b"/b")?);
-    meet(rt, alloc, &made, calls, hold)
+/// The calls that make the tree, the one that is held, and the other one.
+const OVERLAP: &[u8] =
+    b"atomfs 1\nthread made\nmkdir /a\nmkdir /b\nthread held\nmkdir /a/x\nthread other\nstat /b\nschedule\n";
+
+const HELP: &[u8] =
+    b"atomfs 1\nthread made\nmkdir /a\nmkdir /a/d\nthread held\nmkdir /a/d/x\nthread other\nrename /a /b\nschedule\n";
+
+fn meet_by<R: Threads + Wait + Clock + Sync>(
+    rt: &R,
+    alloc: Global,
+    script: &Script,
+    after: u64,
+) -> Option<Both> {
+    let made = calls_of(script, 0)?;
+    let held = calls_of(script, 1)?.first()?;
+    let other = calls_of(script, 2)?.first()?;
+    let turns = TURNS;
+    meet(rt, alloc, made, (held, other), Hold { after, turns })
+}
+
+/// A call of a script is held after so many events, and another one begins meanwhile.
+fn meet_script<R: Threads + Wait + Clock + Sync>(
+    rt: &R,
+    alloc: Global,
+    text: &[u8],
+    after: u64,
+) -> Option<Both> {
+    let script = read_script(alloc, text).ok()?;
+    meet_by(rt, alloc, &script, after)
 }
 
 /// Whether a call that is held lets another one return before it commits.
 pub fn others_return<R: Threads + Wait + Clock + Sync>(rt: &R, alloc: Global) -> Option<bool> {
-    let both = overlap(rt, alloc)?;
+    let both = meet_script(rt, alloc, OVERLAP, 3)?;
     let replied = matches!(both.held.reply, Reply::Done)
         && matches!(both.other.reply, Reply::Stat(Kind::Dir, 0));
     let entries = both.closed.timeline.entries();
@@ -217,18 +251,6 @@ pub fn others_return<R: Threads + Wait + Clock + Sync>(rt: &R, alloc: Global) ->
             && entries.len() == 12
             && is_before(returned, commit_place(entries, both.held.call)),
     )
-}
-
-fn helped<R: Threads + Wait + Clock + Sync>(rt: &R, alloc: Global) -> Option<Both> {
-    let mut made = Vec::new(alloc);
-    made.push(mkdir(alloc, b"/a")?).ok()?;
-    made.push(mkdir(alloc, b"/a/d")?).ok()?;
-    let hold = Hold {
-        after: 5,
-        turns: TURNS,
-    };
-    let calls = (&mkdir(alloc, b"/a/d/x")?, &rename(alloc, b"/a", b"/b")?);
-    meet(rt, alloc, &made, calls, hold)
 }
 
 /// Whether a path leads from the root to a directory.
@@ -248,11 +270,11 @@ fn is_dir(store: &Store, path: &Path) -> bool {
 
 /// Whether a rename commits a held call below it ahead of itself and returns, and the call finishes in the moved tree.
 pub fn rename_helps<R: Threads + Wait + Clock + Sync>(rt: &R, alloc: Global) -> Option<bool> {
-    let both = helped(rt, alloc)?;
+    let moved = path(alloc, b"/b/d/x")?;
+    let both = meet_script(rt, alloc, HELP, 5)?;
     let replied = matches!(both.held.reply, Reply::Done) && matches!(both.other.reply, Reply::Done);
     let entries = both.closed.timeline.entries();
     let (held, other) = (both.held.call, both.other.call);
-    let moved = path(alloc, b"/b/d/x")?;
     Some(
         both.found
             && replied

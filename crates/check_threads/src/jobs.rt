@@ -1,13 +1,12 @@
-//! A thousand jobs by eight workers.
+//! Jobs by the workers of a pool; a thousand by eight workers.
 
 ghost use Rattle.std.specs.Prelude.{◌≡◌, ◌^◌};
 
-use crate::calls::{fits, is_new, mknod, path};
+use crate::calls::{fits, is_lawful, is_new, path};
 use fs_calls::{Call, Errno, Reply};
-use fs_journal::check;
 use fs_pool::{Collected, Done, NotTaken, Pool};
-use fs_share::{Answer, AtomFs, Closed, Named, Open, Opened};
-use fs_timeline::{Entry, Verdict};
+use fs_share::{Answer, AtomFs, Closed, Gate, Named, Open, Opened};
+use fs_timeline::Entry;
 use std::alloc::Global;
 use std::marker::Brand;
 use std::sync::Wait;
@@ -30,55 +29,83 @@ fn call(alloc: Global, number: u64) -> Option<Call> {
     text[2] = digit(number / 100);
     text[3] = digit(number / 10);
     text[4] = digit(number);
-    mknod(alloc, &text)
+    Some(Call::Mknod(path(alloc, &text)?))
 }
 
-/// Hands the jobs to a pool. Whether each has its number.
-fn submit_all<N: Named>(alloc: Global, pool: &mut Pool<N>) -> Option<bool> {
+/// The calls of all jobs.
+fn calls(alloc: Global) -> Option<Vec<Call>> {
+    let mut calls = Vec::new(alloc);
     for number in 0..JOBS {
-        let no = pool.submit(call(alloc, number)?).ok()?;
+        calls.push(call(alloc, number)?).ok()?;
+    }
+    Some(calls)
+}
+
+/// Hands jobs to a pool. Whether each has its number.
+fn submit_all<N: Named>(alloc: Global, pool: &mut Pool<N>, calls: &[Call]) -> Option<bool> {
+    let mut number = 0u64;
+    for call in calls {
+        let no = pool.submit(call.copy(alloc).ok()?).ok()?;
         if no.get() != number {
             return Some(false);
         }
+        number = number.wrapping_add(1);
     }
     Some(true)
 }
 
 /// Whether a pool that is full hands the call of one more job back.
-fn hands_back<N: Named>(alloc: Global, pool: &mut Pool<N>) -> Option<bool> {
-    let more = path(alloc, b"/more")?;
-    match pool.submit(mknod(alloc, b"/more")?) {
-        Err(NotTaken::QueueFull(Call::Mknod(back))) => Some(back.same(&more)),
-        _ => Some(false),
+fn hands_back<N: Named>(pool: &mut Pool<N>, more: Call, again: &Call) -> bool {
+    match pool.submit(more) {
+        Err(NotTaken::QueueFull(back)) => back.same(again),
+        _ => false,
     }
 }
 
-/// What became of the jobs, and of the tree.
+/// The same of a call that stands in no job.
+fn is_full<N: Named>(alloc: Global, pool: &mut Pool<N>) -> Option<bool> {
+    let again = Call::Mknod(path(alloc, b"/more")?);
+    let more = again.copy(alloc).ok()?;
+    Some(hands_back(pool, more, &again))
+}
+
+/// What became of jobs, and of the tree.
 #[derive(Drop)]
-struct Worked {
+pub struct Worked {
     full: bool,
     done: Vec<Done>,
     left: usize,
-    closed: Closed,
+    pub closed: Closed,
 }
 
-/// Whether a full pool handed a job back, and what became of the others.
-fn work_on<N: Named + Send + Sync, R: Threads + Wait + Clock + Sync>(
+/// Whether a full pool handed a job back, and what became of the jobs.
+fn work_on<N: Named + Send + Sync, R: Threads + Wait + Clock + Sync, G: Gate + Sync>(
     rt: &R,
     alloc: Global,
     fs: &AtomFs<N>,
+    calls: &[Call],
+    workers: usize,
+    gate: &G,
 ) -> Option<(bool, Collected<N>)> {
-    let mut pool = Pool::<N>::new(rt, alloc, JOBS as usize).ok()?;
-    let full = submit_all(alloc, &mut pool)? && hands_back(alloc, &mut pool)?;
-    pool.run(rt, alloc, fs, WORKERS, &Open).ok()?;
+    let capacity = calls.len();
+    if capacity == 0 {
+        return None;
+    }
+    let mut pool = Pool::<N>::new(rt, alloc, capacity).ok()?;
+    let full = submit_all(alloc, &mut pool, calls)? && is_full(alloc, &mut pool)?;
+    pool.run(rt, alloc, fs, workers, gate).ok()?;
     Some((full, pool.collect()))
 }
 
-fn work<N: Named + Send + Sync, R: Threads + Wait + Clock + Sync>(
+/// The same on a tree of its own.
+fn work<N: Named + Send + Sync, R: Threads + Wait + Clock + Sync, G: Gate + Sync>(
     rt: &R,
     alloc: Global,
     opened: Opened,
     blank: Blank,
+    calls: &[Call],
+    workers: usize,
+    gate: &G,
 ) -> Option<Worked>
     requires book { opened ≡ N.book }
     requires name { blank.name ≡ N.name }
@@ -86,52 +113,44 @@ fn work<N: Named + Send + Sync, R: Threads + Wait + Clock + Sync>(
     requires all { blank.parts ≡ 2 ^ 63 }
 {
     let fs = AtomFs::<N>::open(rt, alloc, opened, blank).ok()?;
-    let Some((full, collected)) = work_on(rt, alloc, &fs) else {
+    let Some((full, collected)) = work_on(rt, alloc, &fs, calls, workers, gate) else {
         let _closed = fs.close(rt, Vec::new(alloc));
         return None;
     };
-    let Collected {
-        done,
-        left,
-        tallies,
-    } = collected;
     Some(Worked {
         full,
-        done,
-        left: left.len(),
-        closed: fs.close(rt, tallies),
+        done: collected.done,
+        left: collected.left.len(),
+        closed: fs.close(rt, collected.tallies),
     })
 }
 
-fn named_work<R: Threads + Wait + Clock + Sync>(rt: &R, alloc: Global) -> Option<Worked> {
-    work::<Brand, R>(rt, alloc, Opened::new(), Blank::new(1 << 63))
-}
-
-/// Whether the answer of a job is that of the timeline, under a number of its own.
-fn is_right(
+/// Has jobs done by so many workers under a gate.
+pub fn work_all<R: Threads + Wait + Clock + Sync, G: Gate + Sync>(
+    rt: &R,
     alloc: Global,
-    entries: &[Entry],
-    seen: &mut [bool],
-    number: u64,
-    answer: &Answer,
-) -> Option<bool> {
-    Some(is_new(seen, answer) && fits(entries, &call(alloc, number)?, answer))
+    calls: &[Call],
+    workers: usize,
+    gate: &G,
+) -> Option<Worked> {
+    let (opened, blank) = (Opened::new(), Blank::new(1 << 63));
+    work::<Brand, R, G>(rt, alloc, opened, blank, calls, workers, gate)
 }
 
-/// Whether the numbers are those of all jobs, in order, and each answer is right.
-fn are_right(alloc: Global, entries: &[Entry], done: &[Done]) -> Option<bool> {
+/// Whether the numbers are those of all jobs, in order, and each answer is that of the timeline, under a number of its own.
+fn are_right(entries: &[Entry], calls: &[Call], done: &[Done]) -> bool {
     let mut seen = [false; 1001];
     let mut number = 0u64;
     for one in done {
-        let Ok(answer) = &one.answer else {
-            return Some(false);
+        let (Some(call), Ok(answer)) = (calls.get(number as usize), &one.answer) else {
+            return false;
         };
-        if one.no.get() != number || !is_right(alloc, entries, &mut seen, number, answer)? {
-            return Some(false);
+        if one.no.get() != number || !is_new(&mut seen, answer) || !fits(entries, call, answer) {
+            return false;
         }
         number = number.wrapping_add(1);
     }
-    Some(number == JOBS)
+    number == JOBS
 }
 
 /// How many jobs made a file, and how many found no place.
@@ -151,9 +170,8 @@ fn counts(done: &[Done]) -> (u64, u64) {
     (made, no_place)
 }
 
-/// Whether each of a thousand jobs is done once, as the timeline says: 256 make a file, and the others find no place.
-pub fn are_done<R: Threads + Wait + Clock + Sync>(rt: &R, alloc: Global) -> Option<bool> {
-    let worked = named_work(rt, alloc)?;
+/// Whether each job was done once, as the timeline says: 256 made a file, and the others found no place.
+fn is_worked(alloc: Global, calls: &[Call], worked: &Worked) -> Option<bool> {
     let entries = worked.closed.timeline.entries();
     Some(
         worked.full
@@ -161,7 +179,14 @@ pub fn are_done<R: Threads + Wait + Clock + Sync>(rt: &R, alloc: Global) -> Opti
             && counts(&worked.done) == (256, 744)
             && entries.len() == 3000
             && worked.closed.sessions == WORKERS
-            && are_right(alloc, entries, &worked.done)?
-            && matches!(check(alloc, entries).ok()?, Verdict::Lawful),
+            && are_right(entries, calls, &worked.done)
+            && is_lawful(alloc, entries)?,
     )
+}
+
+/// Whether a thousand jobs are done so.
+pub fn are_done<R: Threads + Wait + Clock + Sync>(rt: &R, alloc: Global) -> Option<bool> {
+    let calls = calls(alloc)?;
+    let worked = work_all(rt, alloc, &calls, WORKERS, &Open)?;
+    is_worked(alloc, &calls, &worked)
 }

@@ -1,12 +1,10 @@
 //! A long run of drawn calls by many threads.
 
 use crate::drawing::call;
-use crate::walking::{played, same};
+use crate::walking::is_played;
 use fs_calls::Call;
 use fs_core::Stepped;
-use fs_journal::check;
-use fs_share::{Gate, run_lists};
-use fs_timeline::Verdict;
+use fs_share::{Closed, Gate, run_lists};
 use rand_core::SeedableRng;
 use rand_pcg::Pcg32;
 use std::alloc::Global;
@@ -48,17 +46,17 @@ fn lists(alloc: Global) -> Option<Vec<Vec<Call>>> {
     Some(lists)
 }
 
-/// Whether the timeline of the run is lawful, and the nodes that it leaves are those of a sequential tree that played its
-/// commits.
-pub fn is_lawful<R: Threads + Wait + Clock + Sync>(rt: &R, alloc: Global) -> Option<bool> {
+fn run<R: Threads + Wait + Clock + Sync>(rt: &R, alloc: Global) -> Option<Closed> {
     let lists = lists(alloc)?;
-    let closed = run_lists(rt, alloc, &lists, &Lingers).ok()?;
-    let entries = closed.timeline.entries();
-    let mut tree = played(alloc, entries)?;
+    run_lists(rt, alloc, &lists, &Lingers).ok()
+}
+
+/// Whether the timeline of the run has each call and is lawful, and its commits make the nodes that it leaves.
+pub fn is_lawful<R: Threads + Wait + Clock + Sync>(rt: &R, alloc: Global) -> Option<bool> {
+    let closed = run(rt, alloc)?;
     Some(
         closed.sessions == THREADS
-            && entries.len() == 3 * THREADS * CALLS
-            && matches!(check(alloc, entries).ok()?, Verdict::Lawful)
-            && same(alloc, &closed.store, &mut tree)?,
+            && closed.timeline.entries().len() == 3 * THREADS * CALLS
+            && is_played(alloc, &closed)?,
     )
 }

@@ -23,11 +23,12 @@ use std::thread::Threads;
 use std::time::Clock;
 
 fn say(rt: &impl Print, what: &str, holds: Option<bool>) -> std::io::Result<()> {
-    match holds {
-        Some(true) => println!(rt; "{what}: yes"),
-        Some(false) => println!(rt; "{what}: no"),
-        None => println!(rt; "{what}: not run"),
-    }
+    let word = match holds {
+        Some(true) => "yes",
+        Some(false) => "no",
+        None => "not run",
+    };
+    println!(rt; "{what}: {word}")
 }
 
 /// Calls of each kind, held after each of their events.
@@ -35,8 +36,11 @@ fn say_parked<R: Print + Threads + Wait + Clock + Sync>(
     rt: &R,
     alloc: Global,
     beside: Beside,
-    what: &str,
 ) -> std::io::Result<()> {
+    let what = match beside {
+        Beside::Move => "beside the move of the directory above",
+        Beside::Removal => "beside a removal of what it is at",
+    };
     for kind in 0..WORDS.len() {
         let word = WORDS[kind];
         match events_beside(rt, alloc, kind, beside) {
@@ -61,44 +65,22 @@ fn main(rt: HostRuntime) -> anyhow::Result<()> {
     say(&rt, "a held call lets another one return", overlap)?;
     let helped = held::rename_helps(&rt, alloc);
     say(&rt, "a rename helps a held call", helped)?;
-    say_parked(
-        &rt,
-        alloc,
-        Beside::Move,
-        "beside the move of the directory above",
-    )?;
-    say_parked(
-        &rt,
-        alloc,
-        Beside::Removal,
-        "beside a removal of what it is at",
-    )?;
+    say_parked(&rt, alloc, Beside::Move)?;
+    say_parked(&rt, alloc, Beside::Removal)?;
     let lists = shared::lists_meet(&rt, alloc);
     say(&rt, "two lists run side by side", lists)?;
     let pools = shared::jobs_meet(&rt, alloc);
     say(&rt, "two jobs run side by side", pools)?;
     let returns = shared::all_return(&rt, alloc);
     say(&rt, "each call of four lists returns", returns)?;
-    say(
-        &rt,
-        "two lists make directories",
-        example::is_lawful(&rt, alloc),
-    )?;
-    say(
-        &rt,
-        "scripts run on threads",
-        scripts::are_written(&rt, alloc),
-    )?;
+    let example = example::is_lawful(&rt, alloc);
+    say(&rt, "two lists make directories", example)?;
+    let scripts = scripts::are_written(&rt, alloc);
+    say(&rt, "scripts run on threads", scripts)?;
     faults::write_words(&rt)?;
-    say(
-        &rt,
-        "a thousand jobs are done, once",
-        jobs::are_done(&rt, alloc),
-    )?;
-    say(
-        &rt,
-        "twenty thousand drawn calls are lawful",
-        long::is_lawful(&rt, alloc),
-    )?;
+    let jobs = jobs::are_done(&rt, alloc);
+    say(&rt, "a thousand jobs are done, once", jobs)?;
+    let drawn = long::is_lawful(&rt, alloc);
+    say(&rt, "twenty thousand drawn calls are lawful", drawn)?;
     Ok(())
 }

@@ -1,14 +1,12 @@
 //! Calls of every kind, each held after each of its events, beside a call that moves the directory above it and beside one
 //! that removes what it is at.
 
-use crate::calls::{commit_place, is_before};
+use crate::calls::{calls_of, commit_place, is_before};
 use crate::held::{Both, Hold, meet};
 use crate::waiting::TURNS;
-use crate::walking::{played, same};
+use crate::walking::is_played;
 use fs_calls::{Call, Reply};
-use fs_journal::check;
 use fs_script::{Script, read_script};
-use fs_timeline::Verdict;
 use std::alloc::Global;
 use std::sync::Wait;
 use std::thread::Threads;
@@ -72,23 +70,6 @@ pub enum Beside {
     Removal,
 }
 
-/// The calls of a thread.
-fn calls(script: &Script, thread: usize) -> Option<&[Call]> {
-    Some(script.lists.as_slice().get(thread)?.as_slice())
-}
-
-/// Whether the timeline of both calls and of those before them is lawful, and the nodes are those of its commits.
-fn is_lawful(alloc: Global, both: &Both, before: usize) -> Option<bool> {
-    let entries = both.closed.timeline.entries();
-    let mut tree = played(alloc, entries)?;
-    Some(
-        both.closed.sessions == 3
-            && entries.len() == before.checked_add(2)?.checked_mul(3)?
-            && matches!(check(alloc, entries).ok()?, Verdict::Lawful)
-            && same(alloc, &both.closed.store, &mut tree)?,
-    )
-}
-
 /// Whether the move of the directory above returned while the call was held below, and helped it or found it committed.
 fn is_passed_by(both: &Both) -> bool {
     let entries = both.closed.timeline.entries();
@@ -101,6 +82,31 @@ fn is_passed_by(both: &Both) -> bool {
     both.found && is_ahead && is_done
 }
 
+/// Whether the call was held, where the timeline and the nodes are as they must be, and it was passed by if it can be.
+fn was_held(alloc: Global, both: &Both, before: usize, is_passed: bool) -> Option<bool> {
+    let count = before.checked_add(2)?.checked_mul(3)?;
+    let is_right = both.closed.sessions == 3
+        && both.closed.timeline.entries().len() == count
+        && (!both.was_held || !is_passed || is_passed_by(both))
+        && is_played(alloc, &both.closed)?;
+    is_right.then_some(both.was_held)
+}
+
+/// The same of a call that is held after so many events.
+fn is_held<R: Threads + Wait + Clock + Sync>(
+    rt: &R,
+    alloc: Global,
+    made: &[Call],
+    calls: (&Call, &Call),
+    beside: Beside,
+    after: u64,
+) -> Option<bool> {
+    let is_passed = beside == Beside::Move && after >= BELOW;
+    let turns = if is_passed { TURNS } else { SHORT };
+    let both = meet(rt, alloc, made, calls, Hold { after, turns })?;
+    was_held(alloc, &both, made.len(), is_passed)
+}
+
 /// How many events a call of some kind has, where all is as it must be, whichever of them it is held after.
 fn events<R: Threads + Wait + Clock + Sync>(
     rt: &R,
@@ -109,24 +115,15 @@ fn events<R: Threads + Wait + Clock + Sync>(
     kind: usize,
     beside: Beside,
 ) -> Option<u64> {
-    let made = calls(script, 0)?;
-    let held = calls(script, 1)?.get(kind)?;
+    let made = calls_of(script, 0)?;
+    let held = calls_of(script, 1)?.get(kind)?;
     let other = match beside {
-        Beside::Move => calls(script, 3)?.first()?,
-        Beside::Removal => calls(script, 2)?.get(kind)?,
+        Beside::Move => calls_of(script, 3)?.first()?,
+        Beside::Removal => calls_of(script, 2)?.get(kind)?,
     };
     for after in 1..MOST_EVENTS {
-        let is_passed = beside == Beside::Move && after >= BELOW;
-        let turns = if is_passed { TURNS } else { SHORT };
-        let both = meet(rt, alloc, made, (held, other), Hold { after, turns })?;
-        if !is_lawful(alloc, &both, made.len())? {
-            return None;
-        }
-        if !both.was_held {
+        if !is_held(rt, alloc, made, (held, other), beside, after)? {
             return Some(after - 1);
-        }
-        if is_passed && !is_passed_by(&both) {
-            return None;
         }
     }
     None

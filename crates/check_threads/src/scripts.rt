@@ -40,9 +40,10 @@ fn written<R: Threads + Wait + Clock + Sync>(
     let mut writer = Device::new(Vec::new(alloc));
     match run_threads(rt, alloc, &mut reader, &mut writer) {
         Ok(true) => Some(writer.inner),
-        Ok(false) => None,
-        Err(_) if !writer.inner.is_empty() => None,
-        Err(fault) => Some(format!(in alloc; "{fault}").ok()?.into_bytes()),
+        Err(fault) if writer.inner.is_empty() => Some(
+            format!(in alloc; "{fault}").ok()?.into_bytes(),
+        ),
+        _ => None,
     }
 }
 

@@ -1,32 +1,35 @@
 //! Whether the nodes of a store are those of a sequential tree, by a walk over both.
 
-use crate::calls::path;
+use crate::calls::{is_lawful, path};
 use fs_calls::{Call, Reply};
-use fs_names::{ENTRY_LIMIT, FILE_LIMIT, Kind, Name};
+use fs_names::{CallNo, ENTRY_LIMIT, FILE_LIMIT, Kind, Name};
 use fs_nodes::{NodeNo, Store};
 use fs_seq::SeqTree;
+use fs_share::Closed;
 use fs_timeline::Entry;
 use std::alloc::Global;
 
 /// How many nodes are compared at the most.
 const MOST_NODES: u32 = 10_000;
 
-/// The tree after all commits of a timeline whose calls are numbered in the order of their begins, from 1 on.
-pub fn played(alloc: Global, entries: &[Entry]) -> Option<SeqTree> {
-    let mut tree = SeqTree::new(alloc).ok()?;
+/// Plays a call by its number, from 1 on.
+fn apply(alloc: Global, tree: &mut SeqTree, calls: &[&Call], number: CallNo) -> Option<()> {
+    let place = (number.get() as usize).checked_sub(1)?;
+    tree.apply(alloc, calls.get(place)?).ok()?;
+    Some(())
+}
+
+/// Plays all commits of a timeline whose calls are numbered in the order of their begins.
+fn play(alloc: Global, tree: &mut SeqTree, entries: &[Entry]) -> Option<()> {
     let mut calls = Vec::new(alloc);
     for entry in entries {
         match entry {
             Entry::Begin(_, _, call) => calls.push(call).ok()?,
-            Entry::Commit(number) => {
-                let place = (number.get() as usize).checked_sub(1)?;
-                let call: &Call = calls.get(place)?;
-                tree.apply(alloc, call).ok()?;
-            }
+            Entry::Commit(number) => apply(alloc, tree, &calls, *number)?,
             _ => {}
         }
     }
-    Some(tree)
+    Some(())
 }
 
 /// A node that is to be compared, and the text of its path, empty for the root.
@@ -60,15 +63,19 @@ fn add_entries(alloc: Global, store: &Store, dir: &Place, stack: &mut Vec<Place>
     None
 }
 
-/// What the tree replies at a place.
-fn reply(alloc: Global, tree: &mut SeqTree, at: &Place, reads: bool) -> Option<Reply> {
+fn call(alloc: Global, at: &Place, reads: bool) -> Option<Call> {
     let text: &[u8] = if at.text.is_empty() { b"/" } else { &at.text };
     let path = path(alloc, text)?;
-    let call = if reads {
+    Some(if reads {
         Call::Read(path, 0, FILE_LIMIT as u64)
     } else {
         Call::Stat(path)
-    };
+    })
+}
+
+/// What the tree replies at a place.
+fn reply(alloc: Global, tree: &mut SeqTree, at: &Place, reads: bool) -> Option<Reply> {
+    let call = call(alloc, at, reads)?;
     tree.apply(alloc, &call).ok()
 }
 
@@ -103,21 +110,41 @@ fn agrees_at(
     Some(matches!(reply, Reply::Stat(Kind::Dir, size) if size == count as u64))
 }
 
-/// Whether both have the same names, kinds and bytes, from the root on.
-pub fn same(alloc: Global, store: &Store, tree: &mut SeqTree) -> Option<bool> {
-    let mut stack = Vec::new(alloc);
-    let root = Place {
-        node: NodeNo::new(0),
-        text: Vec::new(alloc),
-    };
-    stack.push(root).ok()?;
+/// Whether they agree at each place on the stack, and below.
+fn agree_below(
+    alloc: Global,
+    store: &Store,
+    tree: &mut SeqTree,
+    stack: &mut Vec<Place>,
+) -> Option<bool> {
     for _ in 0..MOST_NODES {
         let Some(at) = stack.pop() else {
             return Some(true);
         };
-        if !agrees_at(alloc, store, tree, &at, &mut stack)? {
+        if !agrees_at(alloc, store, tree, &at, stack)? {
             return Some(false);
         }
     }
     Some(false)
+}
+
+/// Whether both have the same names, kinds and bytes, from the root on.
+fn same(alloc: Global, store: &Store, tree: &mut SeqTree) -> Option<bool> {
+    let root = Place {
+        node: NodeNo::new(0),
+        text: Vec::new(alloc),
+    };
+    let mut stack = vec![in alloc; root].ok()?;
+    agree_below(alloc, store, tree, &mut stack)
+}
+
+/// Whether a run's timeline is lawful, and the nodes that it leaves are those of a sequential tree that played its commits.
+pub fn is_played(alloc: Global, closed: &Closed) -> Option<bool> {
+    let entries = closed.timeline.entries();
+    if !is_lawful(alloc, entries)? {
+        return Some(false);
+    }
+    let mut tree = SeqTree::new(alloc).ok()?;
+    play(alloc, &mut tree, entries)?;
+    same(alloc, &closed.store, &mut tree)
 }

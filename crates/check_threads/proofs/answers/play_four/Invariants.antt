@@ -1,4 +1,4 @@
-use Rattle.check_threads.proofs.answers.four_sessions.Given as goal
+use Rattle.check_threads.proofs.answers.play_four.Given as goal
 
 abbrev pub ghosts-on_four_threads-N-Named : goal.ghosts-on_four_threads-N-Named
 ghosts-on_four_threads-N-Named g a = record { book = a.opened }
