@@ -69,6 +69,13 @@ pub fn tell<N: Named, R: Wait + Clock>(
     }
 }
 
+/// An observer that has learned a stamp.
+fn learned<N: Named, R: Wait>(rt: &R, fs: &AtomFs<N>, stamp: &Stamp<N>) -> Option<Observer<N>> {
+    let mut observer = fs.observer(rt).ok()?;
+    observer.learn(stamp);
+    Some(observer)
+}
+
 /// An observer that has learned of a call that is told.
 pub fn told_of<N: Named, R: Wait + Clock>(
     rt: &R,
@@ -78,20 +85,17 @@ pub fn told_of<N: Named, R: Wait + Clock>(
     place: usize,
 ) -> Option<Observer<N>> {
     let stamp = tell(rt, alloc, fs, call, place)?;
-    let mut observer = fs.observer(rt).ok()?;
-    observer.learn(&stamp);
-    Some(observer)
+    learned(rt, fs, &stamp)
 }
 
 /// Whether a call that is not told is replied that it is done.
 fn is_done<N: Named, R: Wait + Clock, G: Gate>(
     rt: &R,
     alloc: Global,
-    fs: &AtomFs<N>,
+    session: &mut Session<'_, N>,
     call: &Call,
     gate: &G,
 ) -> Option<bool> {
-    let mut session = fs.session(rt).ok()?;
     let answer = session.call(rt, alloc, call, gate).ok()?;
     Some(matches!(answer.reply, Reply::Done))
 }
@@ -104,19 +108,34 @@ pub fn makes<N: Named, R: Wait + Clock, G: Gate>(
     text: &[u8],
     gate: &G,
 ) -> Option<bool> {
+    let mut session = fs.session(rt).ok()?;
     let call = mkdir(alloc, text)?;
-    is_done(rt, alloc, fs, &call, gate)
+    is_done(rt, alloc, &mut session, &call, gate)
 }
 
 /// What an observer shows at a path.
-fn stat<N: Named>(alloc: Global, observer: &mut Observer<N>, text: &[u8]) -> Option<Reply> {
+pub fn stat<N: Named>(alloc: Global, observer: &mut Observer<N>, path: &Path) -> Option<Reply> {
+    observer.stat(alloc, path).ok()
+}
+
+/// The names that an observer shows in a directory.
+pub fn names<N: Named>(alloc: Global, observer: &mut Observer<N>, path: &Path) -> Option<Reply> {
+    observer.readdir(alloc, path).ok()
+}
+
+/// The first nine bytes that an observer shows in a file.
+pub fn bytes<N: Named>(alloc: Global, observer: &mut Observer<N>, path: &Path) -> Option<Reply> {
+    observer.read(alloc, path, 0, 9).ok()
+}
+
+fn stat_at<N: Named>(alloc: Global, observer: &mut Observer<N>, text: &[u8]) -> Option<Reply> {
     let path = path(alloc, text)?;
-    observer.stat(alloc, &path).ok()
+    stat(alloc, observer, &path)
 }
 
 /// Whether an observer shows an empty directory.
 pub fn is_dir<N: Named>(alloc: Global, observer: &mut Observer<N>, text: &[u8]) -> Option<bool> {
-    let reply = stat(alloc, observer, text)?;
+    let reply = stat_at(alloc, observer, text)?;
     Some(matches!(reply, Reply::Stat(Kind::Dir, 0)))
 }
 
@@ -126,7 +145,7 @@ pub fn is_missing<N: Named>(
     observer: &mut Observer<N>,
     text: &[u8],
 ) -> Option<bool> {
-    let reply = stat(alloc, observer, text)?;
+    let reply = stat_at(alloc, observer, text)?;
     Some(matches!(reply, Reply::Failed(Errno::Enoent)))
 }
 
@@ -148,6 +167,6 @@ pub fn has_name<N: Named>(
     text: &[u8],
     byte: u8,
 ) -> Option<bool> {
-    let reply = observer.readdir(alloc, &path(alloc, text)?).ok()?;
+    let reply = names(alloc, observer, &path(alloc, text)?)?;
     Some(is_one_name(&reply, byte))
 }

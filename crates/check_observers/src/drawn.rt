@@ -3,7 +3,7 @@
 ghost use Rattle.std.specs.Prelude.{IsTrue};
 ghost use Rattle.fs_seq.specs.Looks.{is_look};
 
-use crate::calls::path;
+use crate::calls::{bytes, names, path, stat};
 use crate::waiting::reaches;
 use fs_calls::{Bytes, Call, Reply};
 use fs_names::Path;
@@ -119,19 +119,25 @@ struct Note {
     bytes: Reply,
 }
 
+/// Puts what an observer answers of its path into a note.
+fn fill<N: Named>(alloc: Global, observer: &mut Observer<N>, note: &mut Note) -> Option<()> {
+    note.stat = stat(alloc, observer, &note.path)?;
+    note.names = names(alloc, observer, &note.path)?;
+    note.bytes = bytes(alloc, observer, &note.path)?;
+    Some(())
+}
+
 /// What an observer answers of a path, by the list that it has before.
 fn note_of<N: Named>(alloc: Global, observer: &mut Observer<N>, path: Path) -> Option<Note> {
-    let count = observer.count();
-    let stat = observer.stat(alloc, &path).ok()?;
-    let names = observer.readdir(alloc, &path).ok()?;
-    let bytes = observer.read(alloc, &path, 0, 9).ok()?;
-    Some(Note {
-        count,
+    let mut note = Note {
+        count: observer.count(),
         path,
-        stat,
-        names,
-        bytes,
-    })
+        stat: Reply::Done,
+        names: Reply::Done,
+        bytes: Reply::Done,
+    };
+    fill(alloc, observer, &mut note)?;
+    Some(note)
 }
 
 /// Answers by one list, unless it is that of the last note, or another one was published meanwhile.

@@ -1,15 +1,15 @@
 //! Calls that are told, and observers that learn their stamps.
 
-use crate::calls::{is_dir, is_missing, makes, mkdir, path, rmdir, tell, told_of};
+use crate::calls::{bytes, is_dir, is_missing, makes, mkdir, path, rmdir, tell, told_of};
 use fs_calls::{Bytes, Call, Reply};
-use fs_share::{AtomFs, Named, Observer, Open};
+use fs_share::{AtomFs, Named, Observer, Open, Stamp};
 use std::alloc::Global;
 use std::sync::Wait;
 use std::time::Clock;
 
-/// Whether an observer shows nothing at all.
-fn is_empty<N: Named>(alloc: Global, observer: &mut Observer<N>) -> Option<bool> {
-    Some(observer.count() == 0 && is_missing(alloc, observer, b"/a")?)
+/// Whether an observer shows no directory, by a list of so many calls.
+fn is_bare<N: Named>(alloc: Global, observer: &mut Observer<N>, count: u64) -> Option<bool> {
+    Some(is_missing(alloc, observer, b"/a")? && observer.count() == count)
 }
 
 /// Whether an observer shows the directory, by a list of so many calls.
@@ -24,7 +24,7 @@ fn shows_first<N: Named, R: Wait + Clock>(
     fs: &AtomFs<N>,
     observer: &mut Observer<N>,
 ) -> Option<bool> {
-    let nothing = is_empty(alloc, observer)?;
+    let nothing = is_bare(alloc, observer, 0)?;
     tell(rt, alloc, fs, mkdir(alloc, b"/a"), 0)?;
     Some(nothing && is_made(alloc, observer, 1)?)
 }
@@ -35,16 +35,26 @@ pub fn first<N: Named, R: Wait + Clock>(rt: &R, alloc: Global, fs: &AtomFs<N>) -
     shows_first(rt, alloc, fs, &mut observer)
 }
 
-/// An observer that learns the second stamp, then the first, shows both calls.
+/// An observer that learns the second stamp, then the first, which is given, shows both calls.
+fn shows_both<N: Named, R: Wait + Clock>(
+    rt: &R,
+    alloc: Global,
+    fs: &AtomFs<N>,
+    made: &Stamp<N>,
+) -> Option<bool> {
+    let mut observer = told_of(rt, alloc, fs, rmdir(alloc, b"/a"), 1)?;
+    observer.learn(made);
+    is_bare(alloc, &mut observer, 2)
+}
+
+/// The same of the stamps of a directory that is made and removed.
 pub fn both_stamps<N: Named, R: Wait + Clock>(
     rt: &R,
     alloc: Global,
     fs: &AtomFs<N>,
 ) -> Option<bool> {
     let made = tell(rt, alloc, fs, mkdir(alloc, b"/a"), 0)?;
-    let mut observer = told_of(rt, alloc, fs, rmdir(alloc, b"/a"), 1)?;
-    observer.learn(&made);
-    Some(is_missing(alloc, &mut observer, b"/a")? && observer.count() == 2)
+    shows_both(rt, alloc, fs, &made)
 }
 
 fn mknod(alloc: Global) -> Option<Call> {
@@ -52,17 +62,22 @@ fn mknod(alloc: Global) -> Option<Call> {
 }
 
 fn write(alloc: Global) -> Option<Call> {
-    let bytes = Bytes::new(Vec::from_slice(alloc, b"hi").ok()?);
-    Some(Call::Write(path(alloc, b"/f")?, 0, bytes))
+    let text = Vec::from_slice(alloc, b"hi").ok()?;
+    Some(Call::Write(path(alloc, b"/f")?, 0, Bytes::new(text)))
+}
+
+/// Whether the reply is these bytes.
+fn is_text(reply: &Reply, want: &[u8]) -> bool {
+    match reply {
+        Reply::Bytes(bytes) => bytes.as_slice() == want,
+        _ => false,
+    }
 }
 
 /// Whether an observer reads these bytes.
 fn reads<N: Named>(alloc: Global, observer: &mut Observer<N>, want: &[u8]) -> Option<bool> {
-    let path = path(alloc, b"/f")?;
-    match observer.read(alloc, &path, 0, 9).ok()? {
-        Reply::Bytes(bytes) => Some(bytes.as_slice() == want),
-        _ => Some(false),
-    }
+    let reply = bytes(alloc, observer, &path(alloc, b"/f")?)?;
+    Some(is_text(&reply, want))
 }
 
 /// An observer reads what a told call wrote.
@@ -72,6 +87,16 @@ pub fn written<N: Named, R: Wait + Clock>(rt: &R, alloc: Global, fs: &AtomFs<N>)
     reads(alloc, &mut observer, b"hi")
 }
 
+/// Whether an observer shows a directory and one more call once it has learned a stamp.
+fn shows_more<N: Named>(
+    alloc: Global,
+    observer: &mut Observer<N>,
+    stamp: &Stamp<N>,
+) -> Option<bool> {
+    observer.learn(stamp);
+    is_made(alloc, observer, 2)
+}
+
 /// A call that is not told is shown once a later one is told, and not before.
 fn shows_untold<N: Named, R: Wait + Clock>(
     rt: &R,
@@ -79,10 +104,11 @@ fn shows_untold<N: Named, R: Wait + Clock>(
     fs: &AtomFs<N>,
     observer: &mut Observer<N>,
 ) -> Option<bool> {
-    let is_hidden = makes(rt, alloc, fs, b"/a", &Open)? && is_empty(alloc, observer)?;
+    let is_done = makes(rt, alloc, fs, b"/a", &Open)?;
+    let is_hidden = is_bare(alloc, observer, 0)?;
     let stamp = tell(rt, alloc, fs, mkdir(alloc, b"/b"), 1)?;
-    observer.learn(&stamp);
-    Some(is_hidden && is_made(alloc, observer, 2)?)
+    let is_shown = shows_more(alloc, observer, &stamp)?;
+    Some(is_done && is_hidden && is_shown)
 }
 
 /// The same by an observer of its own.
