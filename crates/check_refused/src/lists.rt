@@ -14,10 +14,9 @@ fn played<R: Threads + Wait + Clock + Sync>(
     alloc: Global,
     lists: &[Vec<Call>],
 ) -> Option<Closed> {
-    match run_lists(rt, alloc, lists, &Open) {
-        Ok(closed) => Some(closed),
-        Err(_) => run_lists(rt, alloc, lists, &Open).ok(),
-    }
+    run_lists(rt, alloc, lists, &Open)
+        .or_else(|_| run_lists(rt, alloc, lists, &Open))
+        .ok()
 }
 
 /// How many calls of the lists returned.

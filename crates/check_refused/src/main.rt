@@ -1,9 +1,10 @@
-//! Does each thing of shared trees and of texts that takes memory, and once more where memory was refused: sessions, told
-//! calls, observers, jobs, lists of calls, scripts, journals and trees. What it writes is the same whichever growth is refused:
+//! Does each thing that takes memory, and once more where memory was refused: on shared trees sessions, told calls,
+//! observers, jobs and lists of calls; scripts, journals and trees as texts; by one thread alone paths, the sequential tree,
+//! the core and the checker. But for the last line, what it writes is the same whichever growth is refused:
 //! `bench/refused` refuses each in turn.
 #![tactic(auto)]
 
-mod again;
+mod alone;
 mod lists;
 mod shared;
 mod texts;
@@ -66,5 +67,5 @@ fn main(rt: HostRuntime) -> anyhow::Result<()> {
     if run(&rt, alloc).is_none() {
         println!(&rt; "stopped")?;
     }
-    Ok(())
+    alone::run(&rt, alloc)
 }

@@ -2,7 +2,9 @@
 
 ghost use Rattle.std.specs.Prelude.{◌≡◌, ◌^◌};
 
-use crate::again::{call, path, readdir, submit, told};
+mod again;
+
+use again::{call, path, readdir, submit, told};
 use fs_calls::{Call, Reply};
 use fs_pool::Pool;
 use fs_share::{AtomFs, Closed, Named, Observer, Open, Opened, Session, Stamp, Tally};
@@ -28,18 +30,12 @@ pub struct Seen {
 
 /// A session, asked for once more where it was refused.
 fn session<'a, N: Named, R: Wait>(rt: &R, fs: &'a AtomFs<N>) -> Option<Session<'a, N>> {
-    match fs.session(rt) {
-        Ok(session) => Some(session),
-        Err(_) => fs.session(rt).ok(),
-    }
+    fs.session(rt).or_else(|_| fs.session(rt)).ok()
 }
 
 /// An observer, asked for once more where it was refused.
 fn observer<N: Named, R: Wait>(rt: &R, fs: &AtomFs<N>) -> Option<Observer<N>> {
-    match fs.observer(rt) {
-        Ok(observer) => Some(observer),
-        Err(_) => fs.observer(rt).ok(),
-    }
+    fs.observer(rt).or_else(|_| fs.observer(rt)).ok()
 }
 
 /// How many calls are answered.

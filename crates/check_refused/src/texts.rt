@@ -7,18 +7,16 @@ use std::alloc::Global;
 
 /// A script that is read.
 pub fn script(alloc: Global, text: &[u8]) -> Option<Script> {
-    match read_script(alloc, text) {
-        Ok(script) => Some(script),
-        Err(_) => read_script(alloc, text).ok(),
-    }
+    read_script(alloc, text)
+        .or_else(|_| read_script(alloc, text))
+        .ok()
 }
 
 /// A journal's entries that are read.
 fn entries_of(alloc: Global, text: &[u8]) -> Option<Vec<Entry>> {
-    match read_entries(alloc, text) {
-        Ok(entries) => Some(entries),
-        Err(_) => read_entries(alloc, text).ok(),
-    }
+    read_entries(alloc, text)
+        .or_else(|_| read_entries(alloc, text))
+        .ok()
 }
 
 /// The text of a journal. What was refused left the text as it was.

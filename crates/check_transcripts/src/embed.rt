@@ -1,9 +1,13 @@
-//! The lines of `rows`. `core LIMIT SEATS` makes a core. `begin SEAT CALL` begins the call of a line, `step SEAT` does a step
-//! of a seat, and `run SEAT CALL` runs a call. `reply NUMBER`, `journal FIRST` and `tree` write texts of the core, and `kind
-//! PATH` tells what a path leads to. `copy ROOM TEXT` copies a text to so many bytes. `|LINE` adds a line to a text, which
-//! `script` runs by its own schedule, `robin` by round robin, and `check` takes for a journal; an empty line clears it.
+//! The lines of `embed`, which give calls as lines to a core, as a program does that has AtomFS inside.
+//!
+//! `core LIMIT SEATS` makes a core. `begin SEAT CALL` begins the call of a line, `step SEAT` does a step of a seat, and
+//! `run SEAT CALL` runs a call. `reply NUMBER`, `journal FIRST` and `tree` write texts of the core, and `kind PATH` tells what
+//! a path leads to. `copy ROOM TEXT` copies a text to so many bytes. `|LINE` adds a line to a text, which `script` runs by its
+//! own schedule, `robin` by round robin, and `check` takes for a journal; an empty line clears it.
 
-use crate::answers::{begun, kind_words, made, ran, stepped};
+mod answers;
+
+use answers::{begun, kind_words, made, ran, stepped};
 use anyhow::{Result, bail};
 use fs_core::Core;
 use fs_embed::{

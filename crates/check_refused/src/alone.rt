@@ -1,7 +1,7 @@
-//! Does each thing of paths, of the sequential tree, of the core and of the checker that takes memory, and once more where
-//! memory was refused. But for the last line, what it writes is the same whichever growth is refused: `bench/refused`
-//! refuses each in turn.
-#![tactic(auto)]
+//! Paths, the sequential tree, the core and the checker, by one thread alone.
+
+ghost use Rattle.std.specs.Prelude.{IsTrue};
+ghost use Rattle.fs_seq.specs.Looks.{is_look};
 
 mod again;
 mod calls;
@@ -13,6 +13,7 @@ use fs_calls::{Call, Reply};
 use fs_names::{CallNo, Kind, SeatNo};
 use fs_seq::SeqTree;
 use fs_timeline::{Entry, Timeline};
+use std::alloc::Global;
 use std::io;
 
 /// The call of a row.
@@ -32,7 +33,7 @@ fn call(again: &mut Again, row: &Row) -> anyhow::Result<Call> {
     })
 }
 
-pub(crate) fn show(rt: &impl Print, reply: &Reply) -> io::Result<()> {
+fn show(rt: &impl Print, reply: &Reply) -> io::Result<()> {
     match reply {
         Reply::Done => println!(rt; "done"),
         Reply::Stat(Kind::Dir, entries) => println!(rt; "a directory of {entries}"),
@@ -60,7 +61,7 @@ fn note(
 }
 
 /// A copy of the call of a row.
-pub(crate) fn copy(again: &mut Again, row: &Row) -> anyhow::Result<Call> {
+fn copy(again: &mut Again, row: &Row) -> anyhow::Result<Call> {
     let call = call(again, row)?;
     Ok(again.copy(&call)?)
 }
@@ -91,24 +92,42 @@ fn step(
     note(again, timeline, number, call, reply)
 }
 
-/// Looks at a tree, and shows what is seen.
-fn look(rt: &impl Print, again: &mut Again, tree: &SeqTree) -> anyhow::Result<()> {
-    let stat = Call::Stat(again.path("/d")?);
-    show(rt, &again.look(tree, &stat)?)?;
-    let readdir = Call::Readdir(again.path("/d")?);
-    show(rt, &again.look(tree, &readdir)?)?;
-    let read = Call::Read(again.path("/d/e/a")?, 3, 5);
-    Ok(show(rt, &again.look(tree, &read)?)?)
+/// Shows what a look at a tree sees.
+fn show_look(rt: &impl Print, again: &mut Again, tree: &SeqTree, call: &Call) -> anyhow::Result<()>
+    requires { IsTrue (is_look call.now) }
+{
+    let reply = again.look(tree, call)?;
+    Ok(show(rt, &reply)?)
 }
 
-/// The journal of all calls.
+/// Looks at a tree by a stat, a readdir and a read.
+fn look(rt: &impl Print, again: &mut Again, tree: &SeqTree) -> anyhow::Result<()> {
+    let stat = Call::Stat(again.path("/d")?);
+    show_look(rt, again, tree, &stat)?;
+    let readdir = Call::Readdir(again.path("/d")?);
+    show_look(rt, again, tree, &readdir)?;
+    let read = Call::Read(again.path("/d/e/a")?, 3, 5);
+    show_look(rt, again, tree, &read)
+}
+
+/// All calls on a tree, noted in a journal, and looks at it.
+fn play(
+    rt: &impl Print,
+    again: &mut Again,
+    tree: &mut SeqTree,
+    timeline: &mut Timeline,
+) -> anyhow::Result<()> {
+    for (index, row) in CALLS.iter().enumerate() {
+        step(rt, again, tree, timeline, index as u64, row)?;
+    }
+    look(rt, again, tree)
+}
+
+/// The journal of all calls on a tree.
 fn journal(rt: &impl Print, again: &mut Again) -> anyhow::Result<Timeline> {
     let mut tree = again.tree()?;
     let mut timeline = Timeline::new(again.alloc);
-    for (index, row) in CALLS.iter().enumerate() {
-        step(rt, again, &mut tree, &mut timeline, index as u64, row)?;
-    }
-    look(rt, again, &tree)?;
+    play(rt, again, &mut tree, &mut timeline)?;
     Ok(timeline)
 }
 
@@ -118,16 +137,28 @@ fn path_bytes(again: &mut Again) -> anyhow::Result<usize> {
     Ok(again.text(&path)?.len())
 }
 
-fn main(rt: HostRuntime) -> anyhow::Result<()> {
-    let mut again = Again {
-        alloc: rt.alloc(),
-        refused: 0,
-    };
-    println!(&rt; "a path of {}", path_bytes(&mut again)?)?;
-    let timeline = journal(&rt, &mut again)?;
-    println!(&rt; "{:?}", again.check(timeline.entries())?)?;
-    let core = on_core::run(&rt, &mut again)?;
-    println!(&rt; "{:?}", again.check(core.timeline())?)?;
-    println!(&rt; "refused: {}", again.refused)?;
-    Ok(())
+/// Shows the verdict on a journal.
+fn show_verdict(rt: &impl Print, again: &mut Again, entries: &[Entry]) -> anyhow::Result<()> {
+    let verdict = again.check(entries)?;
+    Ok(println!(rt; "{verdict:?}")?)
+}
+
+fn check_tree(rt: &impl Print, again: &mut Again) -> anyhow::Result<()> {
+    let timeline = journal(rt, again)?;
+    show_verdict(rt, again, timeline.entries())
+}
+
+fn check_core(rt: &impl Print, again: &mut Again) -> anyhow::Result<()> {
+    let core = on_core::run(rt, again)?;
+    show_verdict(rt, again, core.timeline())
+}
+
+/// What is done, and written. The last line tells how often memory was refused.
+pub fn run(rt: &impl Print, alloc: Global) -> anyhow::Result<()> {
+    let mut again = Again { alloc, refused: 0 };
+    let bytes = path_bytes(&mut again)?;
+    println!(rt; "a path of {bytes}")?;
+    check_tree(rt, &mut again)?;
+    check_core(rt, &mut again)?;
+    Ok(println!(rt; "refused: {}", again.refused)?)
 }

@@ -9,10 +9,9 @@ use std::sync::Wait;
 use std::time::Clock;
 
 pub fn path(alloc: Global, text: &[u8]) -> Option<Path> {
-    match Path::parse(alloc, text) {
-        Ok(path) => Some(path),
-        Err(_) => Path::parse(alloc, text).ok(),
-    }
+    Path::parse(alloc, text)
+        .or_else(|_| Path::parse(alloc, text))
+        .ok()
 }
 
 /// A session's call.

@@ -2,9 +2,10 @@
 
 ghost use Rattle.std.specs.Prelude.{◌≡◌, ◌<◌, length};
 
-use crate::again::Again;
-use crate::calls::{CALLS, Row};
-use crate::{copy, show};
+use super::again::Again;
+use super::calls::{CALLS, Row};
+use super::{copy, show};
+use fs_calls::Call;
 use fs_core::{Core, Stepped};
 use fs_names::SeatNo;
 use std::io;
@@ -41,7 +42,24 @@ fn finish(rt: &impl Print, core: &mut Core, seat: SeatNo) -> io::Result<()>
     Ok(())
 }
 
-/// The call of a row, alone, from its begin to its return.
+/// A call, alone, from its begin to its return.
+fn run_call(
+    rt: &impl Print,
+    again: &mut Again,
+    core: &mut Core,
+    seat: SeatNo,
+    call: &Call,
+) -> io::Result<()>
+    requires { seat < length core.old.seats }
+    ensures { length core.new.seats ≡ length core.old.seats }
+{
+    if again.begin(core, seat, call).is_err() {
+        println!(rt; "refused")?;
+    }
+    finish(rt, core, seat)
+}
+
+/// The same of the call of a row.
 fn run_row(
     rt: &impl Print,
     again: &mut Again,
@@ -53,19 +71,21 @@ fn run_row(
     ensures { length core.new.seats ≡ length core.old.seats }
 {
     let call = copy(again, row)?;
-    if again.begin(core, seat, &call).is_err() {
-        println!(rt; "refused")?;
-    }
-    finish(rt, core, seat)?;
-    Ok(())
+    Ok(run_call(rt, again, core, seat, &call)?)
 }
 
 /// All calls on one seat of a core.
+fn run_rows(rt: &impl Print, again: &mut Again, core: &mut Core) -> anyhow::Result<()> {
+    let seat = again.seat(core)?;
+    for row in CALLS.iter() {
+        run_row(rt, again, core, seat, row)?;
+    }
+    Ok(())
+}
+
+/// A core on which all calls have returned.
 pub fn run(rt: &impl Print, again: &mut Again) -> anyhow::Result<Core> {
     let mut core = again.core(LIMIT)?;
-    let seat = again.seat(&mut core)?;
-    for row in CALLS.iter() {
-        run_row(rt, again, &mut core, seat, row)?;
-    }
+    run_rows(rt, again, &mut core)?;
     Ok(core)
 }
