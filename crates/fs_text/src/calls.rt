@@ -133,6 +133,7 @@ fn longer_call_at(alloc: Global, first: &[u8], more: &[&[u8]]) -> Result<Call, F
     Err(FaultKind::BadLine)
 }
 
+/// The call whose first word is this, with these words behind it.
 fn formed_call_at(alloc: Global, first: &[u8], more: &[&[u8]]) -> Result<Call, FaultKind>
     ensures { Gives (λ call. call) result (formed_call (form_of first.now) (map (λ w. w.now) more.now)) }
 {

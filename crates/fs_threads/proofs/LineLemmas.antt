@@ -15,7 +15,8 @@ use Rattle.fs_sched.specs.declared.fault.RunFault.TheVariants as run
 use Rattle.fs_sched.specs.declared.run_texts.EntryKind.TheVariants as kind
 use Rattle.fs_sched.proofs.RunLemmas.{script_same, known_script}
 use Rattle.fs_share.specs.Returns.{returns}
-use Rattle.fs_threads.specs.Faults.{IsOfInput, IsOfThreads}
+use Rattle.fs_threads.specs.Faults.{IsOfInput}
+use Rattle.fs_threads.specs.code.ThreadFaults.{IsOfThreads}
 use Rattle.fs_threads.specs.Lines.{IsLineOf}
 use Rattle.fs_threads.specs.declared.fault.ThreadsFault.{ThreadsFault}
 use Rattle.fs_threads.specs.declared.fault.ThreadsFault.TheVariants.{Run, Lists}

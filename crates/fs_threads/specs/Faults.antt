@@ -3,7 +3,6 @@ use Rattle.std.specs.Prelude.{Result}
 use Rattle.fs_machine.specs.declared.answers.Refusal.TheVariants as refusal
 use Rattle.fs_text.specs.declared.fault.ScriptFault.{ScriptFault}
 use Rattle.fs_sched.specs.Devices.{IsFaultOrRefusal}
-use Rattle.fs_sched.specs.code.Stages.{IsRefusal}
 use Rattle.fs_sched.specs.declared.fault.RunFault.TheVariants as run
 use Rattle.fs_share.specs.declared.lists.ListsFault.{ListsFault}
 use Rattle.fs_share.specs.declared.lists.ListsFault.TheVariants.{NoWorker, Refused}
@@ -21,8 +20,3 @@ threads_fault_of (Refused refusal.SeatBusy) = Lists (Refused refusal.SeatBusy)
 abbrev pub IsOfInput : {X : Type 0} → Result X ScriptFault → ThreadsFault → Type 0
 IsOfInput given (Run fault) = IsFaultOrRefusal given fault
 IsOfInput given (Lists fault) = Unit {0}
-
--- a fault of the threads: a call's refusal, or a worker's
-abbrev pub IsOfThreads : ThreadsFault → Type 0
-IsOfThreads (Run fault) = IsRefusal fault
-IsOfThreads (Lists fault) = Unit {0}

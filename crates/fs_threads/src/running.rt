@@ -8,7 +8,8 @@ ghost use Rattle.fs_script.specs.Script.{script_of};
 ghost use Rattle.fs_sched.specs.Devices.{WritesBeginning};
 ghost use Rattle.fs_sched.specs.Runs.{calls_in};
 ghost use Rattle.fs_sched.specs.RunTexts.{number_of};
-ghost use Rattle.fs_threads.specs.Faults.{IsOfInput, IsOfThreads};
+ghost use Rattle.fs_threads.specs.Faults.{IsOfInput};
+ghost use Rattle.fs_threads.specs.code.ThreadFaults.{IsOfThreads};
 ghost use Rattle.fs_threads.specs.Lines.{lawful_line, IsLineOf};
 
 use crate::fault::{ThreadsFault, threads_fault};

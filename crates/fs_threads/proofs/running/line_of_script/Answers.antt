@@ -2,7 +2,8 @@ use Rattle.std.proofs.Common.{◌≡◌, ◌∙◌, ap, map}
 use Rattle.std.proofs.lemmas.Result.{IfOk-weaker, IfErr-weaker}
 use Rattle.fs_script.specs.Script.{script_of}
 use Rattle.fs_sched.specs.Runs.{calls_in}
-use Rattle.fs_threads.specs.Faults.{IsOfInput, IsOfThreads}
+use Rattle.fs_threads.specs.Faults.{IsOfInput}
+use Rattle.fs_threads.specs.code.ThreadFaults.{IsOfThreads}
 use Rattle.fs_threads.specs.Lines.{lawful_line, IsLineOf}
 use Rattle.fs_threads.proofs.LineLemmas.{input_of_threads}
 use Rattle.fs_threads.proofs.running.line_of_script.Goals as goal
