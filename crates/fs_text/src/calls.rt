@@ -133,40 +133,33 @@ fn longer_call_at(alloc: Global, first: &[u8], more: &[&[u8]]) -> Result<Call, F
     Err(FaultKind::BadLine)
 }
 
-/// The call whose first word is this, with these words behind it.
-fn formed_call_at(alloc: Global, first: &[u8], more: &[&[u8]]) -> Result<Call, FaultKind>
-    ensures { Gives (λ call. call) result (formed_call (form_of first.now) (map (λ w. w.now) more.now)) }
-{
-    if first == b"mkdir".as_slice() {
-        return Ok(Call::Mkdir(one_path(alloc, more)?));
-    }
-    if first == b"mknod".as_slice() {
-        return Ok(Call::Mknod(one_path(alloc, more)?));
-    }
-    if first == b"unlink".as_slice() {
-        return Ok(Call::Unlink(one_path(alloc, more)?));
-    }
-    if first == b"rmdir".as_slice() {
-        return Ok(Call::Rmdir(one_path(alloc, more)?));
-    }
-    if first == b"stat".as_slice() {
-        return Ok(Call::Stat(one_path(alloc, more)?));
-    }
-    if first == b"readdir".as_slice() {
-        return Ok(Call::Readdir(one_path(alloc, more)?));
-    }
-    longer_call_at(alloc, first, more)
-}
-
 /// The call that words spell.
 #[tactic(auto, unfolding(crate::specs::Calls::call_of))]
 pub fn call_at(alloc: Global, words: &[&[u8]]) -> Result<Call, FaultKind>
     ensures { Gives (λ call. call) result (call_of (map (λ w. w.now) words.now)) }
 {
-    match words {
-        [] => Err(FaultKind::BadLine),
-        [first, more @ ..] => formed_call_at(alloc, first, more),
+    let [first, more @ ..] = words else {
+        return Err(FaultKind::BadLine);
+    };
+    if *first == b"mkdir".as_slice() {
+        return Ok(Call::Mkdir(one_path(alloc, more)?));
     }
+    if *first == b"mknod".as_slice() {
+        return Ok(Call::Mknod(one_path(alloc, more)?));
+    }
+    if *first == b"unlink".as_slice() {
+        return Ok(Call::Unlink(one_path(alloc, more)?));
+    }
+    if *first == b"rmdir".as_slice() {
+        return Ok(Call::Rmdir(one_path(alloc, more)?));
+    }
+    if *first == b"stat".as_slice() {
+        return Ok(Call::Stat(one_path(alloc, more)?));
+    }
+    if *first == b"readdir".as_slice() {
+        return Ok(Call::Readdir(one_path(alloc, more)?));
+    }
+    longer_call_at(alloc, first, more)
 }
 
 /// How many words stand behind the first word of a call.
