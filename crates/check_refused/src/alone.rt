@@ -143,11 +143,13 @@ fn show_verdict(rt: &impl Print, again: &mut Again, entries: &[Entry]) -> anyhow
     Ok(println!(rt; "{verdict:?}")?)
 }
 
+/// Checks the journal of all calls on a tree.
 fn check_tree(rt: &impl Print, again: &mut Again) -> anyhow::Result<()> {
     let timeline = journal(rt, again)?;
     show_verdict(rt, again, timeline.entries())
 }
 
+/// Checks the timeline of a core on which all calls have returned.
 fn check_core(rt: &impl Print, again: &mut Again) -> anyhow::Result<()> {
     let core = on_core::run(rt, again)?;
     show_verdict(rt, again, core.timeline())
