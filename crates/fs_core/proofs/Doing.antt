@@ -25,10 +25,17 @@ use Rattle.fs_core.specs.declared.seat.Running.{Running}
 use Rattle.fs_core.specs.CoreValues.{CoreValue, state_of, number_of, records}
 use Rattle.fs_core.specs.code.Rooms.{walking, walking_at, owed_at, owed, IsKept}
 use Rattle.fs_core.specs.code.Helping.{Helps, HelpsIf}
-use Rattle.fs_core.specs.code.Seats.{MovesOn, PlacedOn, Goes, placed}
+use Rattle.fs_core.specs.code.Seats.{MovesOn, PlacedOn, PlansOn, Goes, placed}
+use Rattle.fs_finish.specs.Plans.{Changes}
+use Rattle.fs_finish.specs.declared.plan.Plan.{Plan}
+use Rattle.fs_nodes.specs.Seen.{IsReal}
+use Rattle.fs_ops.specs.PlanOf.{HasSetOut, IsPlan, plan_of}
+use Rattle.fs_ops.specs.code.NextByNodes.{IfFinish}
+use Rattle.fs_ops.specs.declared.next.Next.{Next}
 use Rattle.fs_core.proofs.SeatLemmas.{number_read}
 use Rattle.fs_core.proofs.States.{call_on, moves}
 use Rattle.fs_core.proofs.Steps.{took_step, let_go_step, helped_step, committed_step, carried_step, returned_step}
+use Rattle.fs_core.proofs.SetsOut.{sets_out}
 use Rattle.fs_core.proofs.WorkLemmas.{next_is, unfinished_at, finished_at}
 
 -- the call on a seat in the machine's state
@@ -111,6 +118,12 @@ finish_can m b k p seat call s kept x old read r e =
     let y : x.running ≡ r = cc in
     subst (λ (q : Running). CanFinish (graph_of m.store) q.op.reserved q.op.remaining q.op.holdings) y
     (can_finish (state_of m) call (record_of seat x.running.place x.running.op) s kept.run (on_state m b k p seat call (Finishes s) kept x) (next_on m seat call (Finishes s) x))
+
+pub finish_plan : (m : CoreValue) (seat call : ℕ) (s : Option ℕ) (plan : Plan) → (x : MovesOn m seat call (Finishes s)) → PlansOn m seat plan → (old : Option Running) → old ≡ get_or m.seats seat old → (r : Running) → old ≡ Some r → IsPlan (seen m.store) r.op plan
+finish_plan m seat call s plan x plans old read r e =
+    let z : ◌≡◌ {A = Option Running} (Some r) (Some x.running) = sym e ∙ read_on m seat call (Finishes s) old x read in
+    let y : x.running ≡ r = cc in
+    subst (λ (q : Running). IsPlan (seen m.store) q.op plan) y (plans x.running x.on)
 
 -- a place is there for the entry that is owed, and there are more begins than commits while a call walks
 owes : (seats : List (Option Running)) (seat : ℕ) (slot : Option Running) → slice_get seats seat ≡ Some slot → (owed_at slot ≤ owed seats) × (walking_at slot ≤ walking seats)
@@ -253,6 +266,17 @@ pub placed_at : (m : CoreValue) (seat : ℕ) (slot : Option Running) (r : Runnin
 placed_at m seat slot r place within read is e q on =
     let z : ◌≡◌ {A = Option (Option Running)} (Some (Some q)) (Some (Some r)) = sym on ∙ slice_get_read m.seats _ seat slot refl within read ∙ ap (λ (o : Option Running). Some o) is in
     let y : q ≡ r = cc in ap (λ (x : Running). x.place) y ∙ e
+
+pub plans_at : (m : CoreValue) (b k p seat : ℕ) (slot : Option Running) (r : Running) (next : Next) → IsKept m b k p → seat < length m.seats → slot ≡ get_or m.seats seat slot → slot ≡ Some r
+    → IfFinish next (λ plan. HasSetOut (graph_of m.store) r.op → plan ≡ plan_of (graph_of m.store) r.op) → IfFinish next (λ plan. Changes plan (IsReal (seen m.store))) → IfFinish next (PlansOn m seat)
+plans_at m b k p seat slot r (Next.Take n) kept within read is plan found = tt
+plans_at m b k p seat slot r (Next.LetGo n) kept within read is plan found = tt
+plans_at m b k p seat slot r Next.Return kept within read is plan found = tt
+plans_at m b k p seat slot r (Next.Finish plan) kept within read is h found = λ q on.
+    (let here : slice_get m.seats seat ≡ Some (Some r) = slice_get_read m.seats _ seat slot refl within read ∙ ap (λ (o : Option Running). Some o) is in
+    let z : ◌≡◌ {A = Option (Option Running)} (Some (Some r)) (Some (Some q)) = sym here ∙ on in
+    let y : r ≡ q = cc in
+    subst (λ (x : Running). IsPlan (seen m.store) x.op plan) y (record { is = h (λ st e. sets_out (state_of m) r.call (record_of seat r.place r.op) st kept.run (call_on m seat r kept.run here) e); real = found }))
 
 pub idle_step : (m : CoreValue) (seat : ℕ) (slot : Option Running) → seat < length m.seats → slot ≡ get_or m.seats seat slot → slot ≡ None → Step (state_of m) seat Idle (state_of m)
 idle_step m seat slot within read is = (number_read m.seats seat slot (slice_get_read m.seats _ seat slot refl within read) ∙ ap number_of is, refl)

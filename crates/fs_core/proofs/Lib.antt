@@ -6,6 +6,7 @@ pub mod Below
 pub mod Searching
 pub mod Ways
 pub mod Choosing
+pub mod SetsOut
 pub mod Doing
 pub mod Readiness
 pub mod Happening

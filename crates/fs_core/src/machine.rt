@@ -11,18 +11,21 @@ ghost use Rattle.fs_calls.specs.Sights.{tree_shapes};
 ghost use Rattle.fs_timeline.specs.Timeline.{IsLawful, commits};
 ghost use Rattle.fs_machine.specs.States.{Begins, Step, NoneBelow, Run, empty};
 ghost use Rattle.fs_core.specs.CoreValues.{state_of, IsAtRest};
-ghost use Rattle.fs_core.specs.code.Seats.{MovesOn, PlacedOn};
+ghost use Rattle.fs_core.specs.code.Seats.{MovesOn, PlacedOn, PlansOn};
+ghost use Rattle.fs_finish.specs.Plans.{moved_by};
+ghost use Rattle.fs_ops.specs.code.NextByNodes.{IfFinish, move_of};
 
 use crate::beginning::make_ready;
 use crate::helping::{Way, no_way, to_help_before};
 use crate::seat::{self, Running};
 use fs_calls::Call;
+use fs_finish::Plan;
 use fs_index::IndexedTimeline;
 use fs_locks::{HeldBy, Holders};
 use fs_machine::{Refusal, Stepped};
 use fs_names::{CallNo, NODE_LIMIT, Path, SeatNo};
 use fs_nodes::{NodeNo, Store};
-use fs_ops::Move;
+use fs_ops::Next;
 use fs_timeline::{Entry, Timeline};
 use fs_walk::find_path;
 use std::alloc::{AllocError, Global};
@@ -108,36 +111,39 @@ impl Core {
 
     /// The walking call on a seat takes its place in the timeline, makes its change and fixes its reply. The entry is the
     /// call's number: the call itself stands in its Begin entry.
-    fn commit(&mut self, seat: usize, call: CallNo, moved: Option<NodeNo>) -> Stepped
+    fn commit(&mut self, seat: usize, call: CallNo, plan: Plan) -> Stepped
         requires seat { seat < length self.old.seats }
-        requires moves { MovesOn self.old seat call (Finishes moved) }
+        requires moves { MovesOn self.old seat call (Finishes (moved_by plan)) }
+        requires plan { PlansOn self.old seat plan }
         requires walking { PlacedOn self.old seat None }
-        requires alone { NoneBelow (state_of self.old) moved }
+        requires alone { NoneBelow (state_of self.old) (moved_by plan) }
         ensures step { Step (state_of self.old) seat result (state_of self.new) }
         ensures seats { length self.new.seats ≡ length self.old.seats }
     {
-        seat::carry_out(&mut self.seats[seat], &mut self.store);
+        seat::carry_out(&mut self.seats[seat], plan, &mut self.store);
         self.commits += 1;
         self.timeline.push(Entry::Commit(call));
         Stepped::Committed
     }
 
     /// The placed call on a seat makes its change and fixes its reply.
-    fn carry_out(&mut self, seat: usize, call: CallNo, moved: Option<NodeNo>, place: u64) -> Stepped
+    fn carry_out(&mut self, seat: usize, call: CallNo, plan: Plan, place: u64) -> Stepped
         requires seat { seat < length self.old.seats }
-        requires moves { MovesOn self.old seat call (Finishes moved) }
+        requires moves { MovesOn self.old seat call (Finishes (moved_by plan)) }
+        requires plan { PlansOn self.old seat plan }
         requires placed { PlacedOn self.old seat (Some place) }
         ensures step { Step (state_of self.old) seat result (state_of self.new) }
         ensures seats { length self.new.seats ≡ length self.old.seats }
     {
-        seat::carry_out(&mut self.seats[seat], &mut self.store);
+        seat::carry_out(&mut self.seats[seat], plan, &mut self.store);
         Stepped::CarriedOut
     }
 
     /// The walking call on a seat helps a walking call below the node that it would move; where there is none, it commits.
-    fn help_or_commit(&mut self, seat: usize, call: CallNo, moved: Option<NodeNo>) -> Stepped
+    fn help_or_commit(&mut self, seat: usize, call: CallNo, plan: Plan) -> Stepped
         requires seat { seat < length self.old.seats }
-        requires moves { MovesOn self.old seat call (Finishes moved) }
+        requires moves { MovesOn self.old seat call (Finishes (moved_by plan)) }
+        requires plan { PlansOn self.old seat plan }
         requires walking { PlacedOn self.old seat None }
         ensures step { Step (state_of self.old) seat result (state_of self.new) }
         ensures seats { length self.new.seats ≡ length self.old.seats }
@@ -147,7 +153,7 @@ impl Core {
             &self.holders,
             &self.seats,
             &mut self.ways,
-            &moved,
+            &plan.moved(),
         ) {
             Some(other) => {
                 let helped = seat::give_place(&mut self.seats[other], self.commits);
@@ -155,7 +161,7 @@ impl Core {
                 self.timeline.push(Entry::Commit(helped));
                 Stepped::Helped(helped)
             }
-            None => self.commit(seat, call, moved),
+            None => self.commit(seat, call, plan),
         }
     }
 
@@ -173,23 +179,24 @@ impl Core {
     }
 
     /// The call on a seat does the move that is its next.
-    fn make_move(&mut self, at: usize, call: CallNo, place: Option<u64>, next: Move) -> Stepped
+    fn make_move(&mut self, at: usize, call: CallNo, place: Option<u64>, next: Next) -> Stepped
         requires seat { at < length self.old.seats }
-        requires moves { MovesOn self.old at call next }
+        requires moves { MovesOn self.old at call (move_of next) }
+        requires plan { IfFinish next (PlansOn self.old at) }
         requires placed { PlacedOn self.old at place }
         ensures step { Step (state_of self.old) at result (state_of self.new) }
         ensures seats { length self.new.seats ≡ length self.old.seats }
     {
         by_move! { next, place;
             always {
-                Move::Take(node) => self.take(at, call, node),
-                Move::LetGo(node) => self.let_go(at, call, node),
-                Move::Return => self.end(at, call),
+                Next::Take(node) => self.take(at, call, node),
+                Next::LetGo(node) => self.let_go(at, call, node),
+                Next::Return => self.end(at, call),
             }
             by_phase {
-                Move::Finish(moved) => {
-                    walking => self.help_or_commit(at, call, moved),
-                    placed place => self.carry_out(at, call, moved, place),
+                Next::Finish(plan) => {
+                    walking => self.help_or_commit(at, call, plan),
+                    placed place => self.carry_out(at, call, plan, place),
                 }
             }
         }

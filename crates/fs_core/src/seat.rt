@@ -5,10 +5,12 @@ ghost use Rattle.fs_nodes.specs.Seen.{seen};
 ghost use Rattle.fs_nodes.specs.Stores.{graph_of};
 ghost use Rattle.fs_machine.specs.Leaving.{is_removed, releasing};
 ghost use Rattle.fs_machine.specs.OpValues.{IsTook, IsLetGo, IsFinished, IsSpare, CanFinish, graph_after};
+ghost use Rattle.fs_ops.specs.PlanOf.{IsPlan};
 ghost use Rattle.fs_core.specs.CoreValues.{number_of};
 ghost use Rattle.fs_core.specs.code.Seats.{Goes, placed};
 ghost use Rattle.fs_core.specs.declared.seat.Running.{Running};
 
+use fs_finish::Plan;
 use fs_names::CallNo;
 use fs_nodes::{NodeNo, Store};
 use fs_ops::Op;
@@ -53,16 +55,17 @@ pub fn let_go(slot: &mut Option<Running>, node: NodeNo, store: &mut Store)
     }
 }
 
-/// The call on a seat makes its change and fixes its reply.
-pub fn carry_out(slot: &mut Option<Running>, store: &mut Store)
+/// The call on a seat does what its finish is, and fixes its reply.
+pub fn carry_out(slot: &mut Option<Running>, plan: Plan, store: &mut Store)
     requires unfinished { (r : Running) → slot.old ≡ Some r → r.op.reply ≡ None }
     requires can { (r : Running) → slot.old ≡ Some r → CanFinish (graph_of store.old) r.op.reserved r.op.remaining r.op.holdings }
+    requires plan { (r : Running) → slot.old ≡ Some r → IsPlan (seen store.old) r.op plan }
     ensures slot { Goes (λ old new. IsFinished (graph_of store.old) old new) slot.old slot.new }
     ensures graph { (r : Running) → slot.old ≡ Some r → graph_of store.new ≡ graph_after (graph_of store.old) r.op }
     ensures rest { seen store.new ≡ record (seen store.old) { graph = graph_of store.new } }
 {
     if let Some(running) = slot {
-        running.op.carry_out(store);
+        running.op.carry_out(plan, store);
     }
 }
 

@@ -1,5 +1,5 @@
+pub mod AnswerLemmas
 pub mod EntryLemmas
-pub mod RenameLemmas
 pub mod ListingLemmas
 pub mod WritingLemmas
 pub mod MoveLemmas

@@ -1,14 +1,15 @@
 -- On entries that move: what the new name had may go first.
 use Rattle.std.proofs.Common.{◌≡◌, ℕ, Bool, true, false, cond, ◌&&◌, List, [], ◌∷◌, IsTrue, Option, Some, None, refl, sym, ap, ap₂, subst, ◌∙◌, Less, Greater}
-use Rattle.std.specs.Prelude.{eqb, IfSome}
+use Rattle.std.specs.Prelude.{eqb, IfSome, IsSome}
 use Rattle.std.specs.Ordering.{is_lt}
 use Rattle.fs_names.specs.Names.{Name, name_cmp, same_name, inserted_name, removed_name, has_name}
 use Rattle.fs_names.specs.Shapes.{Shape, Dir, names_of, is_dir}
 use Rattle.std.proofs.lemmas.Cmp.{tied_itself}
 use Rattle.fs_names.proofs.Lemmas.{name_total, same_name_exact, same_name_refl}
 use Rattle.fs_nodes.specs.Graphs.{Graph, set_at, unlinked_in, moved_in}
-use Rattle.fs_nodes.specs.Seen.{Seen, Ascends, IsReal}
-use Rattle.fs_nodes.specs.Stores.{is_above}
+use Rattle.fs_nodes.specs.Seen.{Seen, seen, Ascends, IsReal}
+use Rattle.fs_nodes.specs.Stores.{Places, is_above, child, graph_of}
+use Rattle.fs_finish.specs.declared.plan.Moving.{Moving}
 use Rattle.fs_nodes.proofs.GraphLemmas.{graph_by}
 use Rattle.fs_nodes.proofs.NameLemmas.{Compared, Below, Same, Above, compare, above_more, removed_absent, inserted_below, inserted_above}
 use Rattle.fs_nodes.proofs.PlaceLemmas.{eqb_true, eqb_refl}
@@ -150,10 +151,19 @@ dir_stays graph to y = subst (λ (b : Bool). IsTrue (is_dir (cond b (Some (Dir (
 pub moves_again : (store : Seen) → IsReal store → (from : ℕ) (x : Name) (to : ℕ) (y : Name) (n : ℕ) → moved_in from x to y n (unlinked_in to y store.graph) ≡ moved_in from x to y n store.graph
 moves_again store real from x to y n = moved_again store.graph from x to y n (real.ascend to)
 
--- what holds of some number holds of it under another name
-pub if_some : (o o' : Option ℕ) (P Q : ℕ → Type 0) → o ≡ o' → ((n : ℕ) → P n → Q n) → IfSome o P → IfSome o' Q
-if_some o o' P Q e f h = subst (λ (z : Option ℕ). IfSome z Q) e (go o h)
-  where
-    go : (z : Option ℕ) → IfSome z P → IfSome z Q
-    go None g = g
-    go (Some n) g = f n g
+-- of an entry that is there
+pub some_there : (o : Option ℕ) (n : ℕ) → o ≡ Some n → IsSome o
+some_there None n e = absurd (cc)
+some_there (Some m) n e = refl
+
+pub if_there : (o : Option ℕ) (n : ℕ) (P : ℕ → Type 0) → o ≡ Some n → P n → IfSome o P
+if_there o n P e h = subst (λ (z : Option ℕ). IfSome z P) (sym e) h
+
+-- an entry has moved where the one of its new name went first
+pub entry_moved : (old cleared new : Places) (m : Moving) (x y : Name) → child cleared m.source x ≡ Some m.moved → seen cleared ≡ record (seen old) { graph = graph_of cleared }
+    → moved_in m.source x m.dest y m.moved (graph_of cleared) ≡ moved_in m.source x m.dest y m.moved (graph_of old)
+    → IfSome (child cleared m.source x) (λ n. seen new ≡ record (seen cleared) { graph = moved_in m.source x m.dest y n (graph_of cleared) })
+    → seen new ≡ record (seen old) { graph = moved_in m.source x m.dest y m.moved (graph_of old) }
+entry_moved old cleared new m x y there rest again h =
+    subst (λ (z : Option ℕ). IfSome z (λ n. seen new ≡ record (seen cleared) { graph = moved_in m.source x m.dest y n (graph_of cleared) })) there h
+    ∙ ap₂ (λ (s : Seen) (g : Graph). record s { graph = g }) rest again

@@ -1,3 +1,4 @@
 pub mod Rooms
 pub mod Replies
 pub mod Endings
+pub mod Plans

@@ -1,39 +1,110 @@
 //! How the calls on an entry finish at its directory.
 
-ghost use Rattle.std.specs.Prelude.{◌≡◌, ◌≢◌, ◌<◌, false, None, Some, IfSome, IsSome, IsTrue, length};
-ghost use Rattle.fs_names.specs.Keys.{last_of};
-ghost use Rattle.fs_names.specs.Shapes.{Shape, is_dir, has_entries, is_full};
-ghost use Rattle.fs_nodes.specs.Graphs.{entry_shape};
-ghost use Rattle.fs_nodes.specs.Seen.{seen};
+ghost use Rattle.std.specs.Prelude.{◌≡◌, ◌≢◌, false, None, IfSome, IsSome, IsTrue};
+ghost use Rattle.fs_names.specs.Failures.{first_failure};
+ghost use Rattle.fs_names.specs.Shapes.{is_dir, is_there, has_entries, is_full};
+ghost use Rattle.fs_nodes.specs.Graphs.{then_at};
+ghost use Rattle.fs_nodes.specs.Seen.{seen, IsReal};
 ghost use Rattle.fs_nodes.specs.Stores.{child, shape, graph_of};
+ghost use Rattle.fs_calls.specs.Forms.{new_shape};
 ghost use Rattle.fs_calls.specs.declared.target.EntryCall.TheVariants as entries;
-ghost use Rattle.fs_calls.specs.Rows.{made, entry_row_in_dir, Remove};
-ghost use Rattle.fs_calls.specs.declared.reply.Reply.TheVariants as answers;
-ghost use Rattle.fs_finish.specs.Endings.{IsEffect, entry_finish};
-ghost use Rattle.fs_machine.specs.Finishes.{entry_effect};
+ghost use Rattle.fs_calls.specs.Rows.{as_dir, entry_fault, entry_errors};
+ghost use Rattle.fs_finish.specs.Endings.{IsEffect};
+ghost use Rattle.fs_finish.specs.Plans.{entry_plan, added, removed};
 ghost use Rattle.fs_machine.specs.OpValues.{SpareIf};
 
 use crate::finish::Finish;
+use crate::plan::Plan;
 use crate::queries::dir_fault;
 use crate::replies::Replies;
-use fs_calls::Errno;
-use fs_names::{ENTRY_LIMIT, Name, Path};
+use fs_calls::{EntryCall, Errno};
+use fs_names::{ENTRY_LIMIT, Name};
 use fs_nodes::{NodeNo, Store};
 
-/// The reserved number gets an entry in a directory.
-fn make_in(store: &mut Store, dir: NodeNo, name: &Name, reserved: Option<NodeNo>) -> Finish
-    requires dir { IsTrue (is_dir (shape store.old dir)) }
-    requires spare { SpareIf (graph_of store.old) reserved }
-    requires other { reserved ≢ Some dir }
-    ensures made { (new : Shape) → IsEffect (entry_effect (graph_of store.old) dir name.now reserved (made new (is_full (shape store.old dir)) (entry_shape (graph_of store.old) dir name.now))) result (graph_of store.new) }
-    ensures rest { seen store.new ≡ record (seen store.old) { graph = graph_of store.new } }
+/// Why a directory gets no new entry, by what the name stands for.
+fn make_fault(store: &Store, dir: NodeNo, there: Option<NodeNo>) -> Option<Errno>
+    requires used { IfSome there (λ node. IsTrue (is_there (shape store.now node))) }
+    ensures { result ≡ first_failure (entry_errors entries.Mkdir (is_full (shape store.now dir)) (then_at there (shape store.now))) }
 {
-    if store.find(dir, name).is_some() {
-        return Finish::failed(Errno::Eexist, reserved);
+    if there.is_some() {
+        return Some(Errno::Eexist);
     }
     if store.entries(dir) >= ENTRY_LIMIT {
-        return Finish::failed(Errno::Enospc, reserved);
+        return Some(Errno::Enospc);
     }
+    None
+}
+
+/// Why the entry of a file does not go.
+fn unlink_fault(store: &Store, there: Option<NodeNo>) -> Option<Errno>
+    requires used { IfSome there (λ node. IsTrue (is_there (shape store.now node))) }
+    ensures { result ≡ first_failure (entry_errors entries.Unlink false (then_at there (shape store.now))) }
+{
+    let Some(node) = there else {
+        return Some(Errno::Enoent);
+    };
+    if store.is_dir(node) {
+        return Some(Errno::Eperm);
+    }
+    None
+}
+
+/// Why the entry of an empty directory does not go.
+fn rmdir_fault(store: &Store, there: Option<NodeNo>) -> Option<Errno>
+    requires used { IfSome there (λ node. IsTrue (is_there (shape store.now node))) }
+    ensures { result ≡ first_failure (entry_errors entries.Rmdir false (then_at there (shape store.now))) }
+{
+    let Some(node) = there else {
+        return Some(Errno::Enoent);
+    };
+    if store.is_file(node) {
+        return Some(Errno::Enotdir);
+    }
+    if store.entries(node) > 0 {
+        return Some(Errno::Enotempty);
+    }
+    None
+}
+
+/// Why a call on an entry fails at a node that should be its directory, by what the name stands for there.
+fn fault(store: &Store, dir: NodeNo, entry: EntryCall, there: Option<NodeNo>) -> Option<Errno>
+    requires used { IfSome there (λ node. IsTrue (is_there (shape store.now node))) }
+    ensures { result ≡ entry_fault entry (as_dir None (shape store.now dir)) (is_full (shape store.now dir)) (then_at there (shape store.now)) }
+{
+    if let Some(errno) = dir_fault(store, dir) {
+        return Some(errno);
+    }
+    match entry {
+        EntryCall::Mkdir | EntryCall::Mknod => make_fault(store, dir, there),
+        EntryCall::Unlink => unlink_fault(store, there),
+        EntryCall::Rmdir => rmdir_fault(store, there),
+    }
+}
+
+/// What a call on an entry does at a node that should be its directory, by what the name stands for there.
+pub fn entry_plan(store: &Store, dir: NodeNo, entry: EntryCall, there: Option<NodeNo>) -> Plan
+    requires used { IfSome there (λ node. IsTrue (is_there (shape store.now node))) }
+    ensures { result ≡ entry_plan (entry_fault entry (as_dir None (shape store.now dir)) (is_full (shape store.now dir)) (then_at there (shape store.now))) (new_shape entry) dir }
+{
+    if let Some(errno) = fault(store, dir, entry, there) {
+        return Plan::Fails(errno);
+    }
+    match entry {
+        EntryCall::Mkdir | EntryCall::Mknod => Plan::Adds(dir),
+        EntryCall::Unlink | EntryCall::Rmdir => Plan::Removes(dir),
+    }
+}
+
+/// The reserved number, which is not the directory, gets an entry there.
+pub fn add(store: &mut Store, dir: NodeNo, name: &Name, reserved: Option<NodeNo>) -> Finish
+    requires real { IsReal (seen store.old) }
+    requires dir { IsTrue (is_dir (shape store.old dir)) }
+    requires absent { child store.old dir name.now ≡ None }
+    requires spare { SpareIf (graph_of store.old) reserved }
+    requires other { reserved ≢ Some dir }
+    ensures made { IsEffect (added (graph_of store.old) dir name.now reserved) result (graph_of store.new) }
+    ensures rest { seen store.new ≡ record (seen store.old) { graph = graph_of store.new } }
+{
     if let Some(node) = reserved {
         store.link(dir, name, node);
     }
@@ -41,10 +112,10 @@ fn make_in(store: &mut Store, dir: NodeNo, name: &Name, reserved: Option<NodeNo>
 }
 
 /// The entry of a file or of an empty directory goes. What it named is the removed node.
-fn remove(store: &mut Store, dir: NodeNo, name: &Name, reserved: Option<NodeNo>) -> Finish
+pub fn remove(store: &mut Store, dir: NodeNo, name: &Name, reserved: Option<NodeNo>) -> Finish
     requires there { IsSome (child store.old dir name.now) }
     requires bare { IfSome (child store.old dir name.now) (λ node. has_entries (shape store.old node) ≡ false) }
-    ensures made { IsEffect (entry_effect (graph_of store.old) dir name.now reserved (answers.Done, Remove)) result (graph_of store.new) }
+    ensures made { IsEffect (removed (graph_of store.old) dir name.now reserved) result (graph_of store.new) }
     ensures rest { seen store.new ≡ record (seen store.old) { graph = graph_of store.new } }
 {
     let node = store.unlink(dir, name);
@@ -53,74 +124,4 @@ fn remove(store: &mut Store, dir: NodeNo, name: &Name, reserved: Option<NodeNo>)
         reserved,
         removed: Some(node),
     }
-}
-
-/// The entry of a file goes.
-fn unlink_in(store: &mut Store, dir: NodeNo, name: &Name, reserved: Option<NodeNo>) -> Finish
-    ensures made { IsEffect (entry_effect (graph_of store.old) dir name.now reserved (entry_row_in_dir entries.Unlink (is_full (shape store.old dir)) (entry_shape (graph_of store.old) dir name.now))) result (graph_of store.new) }
-    ensures rest { seen store.new ≡ record (seen store.old) { graph = graph_of store.new } }
-{
-    let Some(node) = store.find(dir, name) else {
-        return Finish::failed(Errno::Enoent, reserved);
-    };
-    if store.is_dir(node) {
-        return Finish::failed(Errno::Eperm, reserved);
-    }
-    remove(store, dir, name, reserved)
-}
-
-/// The entry of an empty directory goes.
-fn rmdir_in(store: &mut Store, dir: NodeNo, name: &Name, reserved: Option<NodeNo>) -> Finish
-    ensures made { IsEffect (entry_effect (graph_of store.old) dir name.now reserved (entry_row_in_dir entries.Rmdir (is_full (shape store.old dir)) (entry_shape (graph_of store.old) dir name.now))) result (graph_of store.new) }
-    ensures rest { seen store.new ≡ record (seen store.old) { graph = graph_of store.new } }
-{
-    let Some(node) = store.find(dir, name) else {
-        return Finish::failed(Errno::Enoent, reserved);
-    };
-    if store.is_file(node) {
-        return Finish::failed(Errno::Enotdir, reserved);
-    }
-    if store.entries(node) > 0 {
-        return Finish::failed(Errno::Enotempty, reserved);
-    }
-    remove(store, dir, name, reserved)
-}
-
-/// A mkdir or mknod: the reserved number, which is not the directory, gets the entry.
-pub fn make(store: &mut Store, dir: NodeNo, path: &Path, reserved: Option<NodeNo>) -> Finish
-    requires named { 0 < length path.now }
-    requires spare { SpareIf (graph_of store.old) reserved }
-    requires other { reserved ≢ Some dir }
-    ensures mkdir { IsEffect (entry_finish (graph_of store.old) dir (last_of path.now) reserved entries.Mkdir) result (graph_of store.new) }
-    ensures mknod { IsEffect (entry_finish (graph_of store.old) dir (last_of path.now) reserved entries.Mknod) result (graph_of store.new) }
-    ensures rest { seen store.new ≡ record (seen store.old) { graph = graph_of store.new } }
-{
-    if let Some(errno) = dir_fault(store, dir) {
-        return Finish::failed(errno, reserved);
-    }
-    make_in(store, dir, path.last_name(), reserved)
-}
-
-/// An unlink: the entry of a file goes.
-pub fn unlink(store: &mut Store, dir: NodeNo, path: &Path, reserved: Option<NodeNo>) -> Finish
-    requires named { 0 < length path.now }
-    ensures unlink { IsEffect (entry_finish (graph_of store.old) dir (last_of path.now) reserved entries.Unlink) result (graph_of store.new) }
-    ensures rest { seen store.new ≡ record (seen store.old) { graph = graph_of store.new } }
-{
-    if let Some(errno) = dir_fault(store, dir) {
-        return Finish::failed(errno, reserved);
-    }
-    unlink_in(store, dir, path.last_name(), reserved)
-}
-
-/// A rmdir: the entry of an empty directory goes.
-pub fn rmdir(store: &mut Store, dir: NodeNo, path: &Path, reserved: Option<NodeNo>) -> Finish
-    requires named { 0 < length path.now }
-    ensures rmdir { IsEffect (entry_finish (graph_of store.old) dir (last_of path.now) reserved entries.Rmdir) result (graph_of store.new) }
-    ensures rest { seen store.new ≡ record (seen store.old) { graph = graph_of store.new } }
-{
-    if let Some(errno) = dir_fault(store, dir) {
-        return Finish::failed(errno, reserved);
-    }
-    rmdir_in(store, dir, path.last_name(), reserved)
 }

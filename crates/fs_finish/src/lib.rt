@@ -1,21 +1,30 @@
 //! What a call does to the store when it finishes: its reply and its change, at the nodes where its walk has ended.
 //!
-//! The functions of `queries`, `entries`, `write` and `rename` are the rows of the table of errors, read at these nodes:
-//! each replies and changes what its row says, and an error changes nothing. No finish needs memory: `Room::new` has
-//! allocated its buffers when the call began. Each reply is made twice (`Replies`), for the caller and for the journal.
+//! A finish is decided before it is made. `entry_plan` and `rename_plan` find what it does (`Plan`): they are the rows of the table
+//! of errors, read at the nodes where the call stands, and look at each entry once. `carry_out` does what the plan says and
+//! decides nothing; the calls on a node alone are decided where they are made (`queries`, `write`). An error changes nothing.
+//! No finish needs memory: `Room::new` has allocated its buffers when the call began. Each reply is made twice (`Replies`),
+//! for the caller and for the journal.
 //!
-//! Enter at `Room::new` and at these modules. The definitions are in `specs/`: `Endings` (a finish as the code answers
-//! it) and `Rooms` (what suffices for it). Both speak of the machine's finish, `fs_machine/specs/Finishes.antt`.
+//! Enter at `plan` and at `carrying`. The definitions are in `specs/`: `Plans` (what a finish does, its effect, and what that
+//! needs), `Endings` (a finish as the code answers it) and `Rooms` (what suffices for it). The effects are those of the
+//! machine's finish, `fs_machine/specs/Finishes.antt`.
 #![tactic(auto)]
 
+pub mod carrying;
 pub mod entries;
 pub mod finish;
+pub mod paths;
+pub mod plan;
 pub mod queries;
 pub mod rename;
 pub mod replies;
 pub mod room;
 pub mod write;
 
+pub use carrying::carry_out;
 pub use finish::Finish;
+pub use paths::Paths;
+pub use plan::{Moving, Plan};
 pub use replies::Replies;
 pub use room::Room;

@@ -1,46 +1,22 @@
 //! How a rename finishes at its two directories.
 
-ghost use Rattle.std.specs.Prelude.{◌≡◌, ◌||◌, Bool, ℕ, List, not, true, false, None, Some, IfSome, IsSome, IsTrue};
-ghost use Rattle.fs_names.specs.Keys.{after_prefix, is_proper_prefix, parent_of, is_end};
-ghost use Rattle.fs_names.specs.Shapes.{Shape, is_dir, has_entries, is_full};
-ghost use Rattle.fs_nodes.specs.Graphs.{entry_shape, moved_in, IsReached};
-ghost use Rattle.fs_nodes.specs.Seen.{seen};
+ghost use Rattle.std.specs.Prelude.{◌≡◌, ◌||◌, Bool, ℕ, List, not, false, None, Some, IfSome, IsTrue, is_some};
+ghost use Rattle.fs_names.specs.Shapes.{Shape, is_dir, is_there, has_entries, is_full};
+ghost use Rattle.fs_nodes.specs.Graphs.{moved_in, then_at, IsReached};
+ghost use Rattle.fs_nodes.specs.Seen.{seen, IsReal};
 ghost use Rattle.fs_nodes.specs.Stores.{child, shape, graph_of};
-ghost use Rattle.fs_calls.specs.Rows.{to_row};
-ghost use Rattle.fs_finish.specs.Endings.{IsEffect, made_between};
+ghost use Rattle.fs_calls.specs.Rows.{to_row, rename_fault};
+ghost use Rattle.fs_finish.specs.Endings.{IsEffect};
+ghost use Rattle.fs_finish.specs.Plans.{moved, moving, rename_plan};
 ghost use Rattle.fs_machine.specs.Moves.{there_by};
 
 use crate::finish::Finish;
+use crate::paths::Paths;
+use crate::plan::{Moving, Plan};
 use crate::replies::Replies;
 use fs_calls::Errno;
-use fs_names::{ENTRY_LIMIT, Name, Path};
+use fs_names::{ENTRY_LIMIT, Name};
 use fs_nodes::{NodeNo, Store};
-
-/// How the paths of a rename stand to each other.
-#[derive(Clone, Copy, Debug, PartialEq, Eq)]
-pub struct Paths {
-    /// Both are the same.
-    pub same: bool,
-    /// The new one is a proper prefix of the old one.
-    pub above: bool,
-    /// They have one parent.
-    pub one_parent: bool,
-}
-
-impl Paths {
-    /// How a path and the new one stand to each other.
-    pub fn new(path: &Path, new_path: &Path) -> Paths
-        ensures same { result.same ≡ is_end (after_prefix path.now new_path.now) }
-        ensures above { result.above ≡ is_proper_prefix new_path.now path.now }
-        ensures one_parent { result.one_parent ≡ is_end (after_prefix (parent_of path.now) (parent_of new_path.now)) }
-    {
-        Paths {
-            same: path.same(new_path),
-            above: new_path.is_proper_prefix_of(path),
-            one_parent: path.has_parent_of(new_path),
-        }
-    }
-}
 
 /// Why a node does not take the place of another one, by their kinds.
 fn kinds_fault(store: &Store, moved: NodeNo, there: NodeNo) -> Option<Errno>
@@ -54,16 +30,17 @@ fn kinds_fault(store: &Store, moved: NodeNo, there: NodeNo) -> Option<Errno>
     }
 }
 
-/// Why a node is not moved to the new path.
-pub fn fault(
+/// Why a node is not moved to the new path, by what stands there.
+fn place_fault(
     store: &Store,
     moved: NodeNo,
     dest: NodeNo,
-    new_name: &Name,
+    there: Option<NodeNo>,
     paths: Paths,
 ) -> Option<Errno>
+    requires used { IfSome there (λ node. IsTrue (is_there (shape store.now node))) }
     ensures { (s : Shape) → shape store.now moved ≡ Some s
-        → result ≡ to_row s (there_by paths.above (entry_shape (graph_of store.now) dest new_name.now)) (paths.one_parent || not (is_full (shape store.now dest))) }
+        → result ≡ to_row s (there_by paths.above (then_at there (shape store.now))) (paths.one_parent || not (is_full (shape store.now dest))) }
 {
     if paths.above {
         return Some(match store.is_dir(moved) {
@@ -71,16 +48,52 @@ pub fn fault(
             false => Errno::Eisdir,
         });
     }
-    match store.find(dest, new_name) {
+    match there {
         Some(there) => kinds_fault(store, moved, there),
         None if paths.one_parent || store.entries(dest) < ENTRY_LIMIT => None,
         None => Some(Errno::Enospc),
     }
 }
 
+/// What a rename does from one directory to the other, by what stands for both names there and by the victim that it holds.
+pub fn rename_plan(
+    store: &Store,
+    source: NodeNo,
+    moved: Option<NodeNo>,
+    dest: NodeNo,
+    there: Option<NodeNo>,
+    paths: Paths,
+    victim: Option<NodeNo>,
+) -> Plan
+    requires moved { IfSome moved (λ node. IsTrue (is_there (shape store.now node))) }
+    requires used { IfSome there (λ node. IsTrue (is_there (shape store.now node))) }
+    ensures { result ≡ rename_plan
+        (rename_fault None None (then_at moved (shape store.now)) paths.same (there_by paths.above (then_at there (shape store.now))) (paths.one_parent || not (is_full (shape store.now dest))))
+        paths.same (moving source dest (is_some there) victim moved) }
+{
+    let Some(moved) = moved else {
+        return Plan::Fails(Errno::Enoent);
+    };
+    if paths.same {
+        return Plan::Stays;
+    }
+    match place_fault(store, moved, dest, there, paths) {
+        Some(errno) => Plan::Fails(errno),
+        None => Plan::Moves(Moving {
+            source,
+            dest,
+            moved,
+            replaces: there.is_some(),
+            victim,
+        }),
+    }
+}
+
 /// The entry of this name goes, if there is one, before another one moves to it. What it named has no entries.
-fn clear(store: &mut Store, dir: NodeNo, name: &Name)
+fn clear(store: &mut Store, dir: NodeNo, name: &Name, is_there: bool)
+    requires real { IsReal (seen store.old) }
     requires dir { IsTrue (is_dir (shape store.old dir)) }
+    requires there { is_there ≡ is_some (child store.old dir name.now) }
     requires bare { IfSome (child store.old dir name.now) (λ node. has_entries (shape store.old node) ≡ false) }
     ensures absent { child store.new dir name.now ≡ None }
     ensures dir { IsTrue (is_dir (shape store.new dir)) }
@@ -89,55 +102,35 @@ fn clear(store: &mut Store, dir: NodeNo, name: &Name)
     ensures moves { (from : ℕ) (x : List ℕ) (n : ℕ) → moved_in from x dir name.now n (graph_of store.new) ≡ moved_in from x dir name.now n (graph_of store.old) }
     ensures rest { seen store.new ≡ record (seen store.old) { graph = graph_of store.new } }
 {
-    if store.find(dir, name).is_some() {
+    if is_there {
         store.unlink(dir, name);
     }
 }
 
-/// Moves an entry. The one that the new name had goes first.
-fn replace(store: &mut Store, source: NodeNo, name: &Name, dest: NodeNo, new_name: &Name)
-    requires there { IsSome (child store.old source name.now) }
-    requires dir { IsTrue (is_dir (shape store.old dest)) }
-    requires apart { source ≡ dest → name.now ≡ new_name.now → ⊥ }
-    requires bare { IfSome (child store.old dest new_name.now) (λ node. has_entries (shape store.old node) ≡ false) }
-    requires below { IfSome (child store.old source name.now) (λ node. IsReached (child store.old) node dest → ⊥) }
-    ensures { IfSome (child store.old source name.now) (λ node. seen store.new ≡ record (seen store.old) { graph = moved_in source name.now dest new_name.now node (graph_of store.old) }) }
-{
-    clear(store, dest, new_name);
-    store.move_entry(source, name, dest, new_name);
-}
-
-/// A rename: the entry goes to the other directory, which is not below what moves, or to another name. The victim is the
-/// removed node.
+/// An entry goes to the other directory, which is not below what moves, or to another name; the one that the new name had goes
+/// first. The victim is the removed node.
 pub fn rename(
     store: &mut Store,
-    source: NodeNo,
+    moving: Moving,
     name: &Name,
-    dest: NodeNo,
     new_name: &Name,
-    paths: Paths,
-    victim: Option<NodeNo>,
     reserved: Option<NodeNo>,
 ) -> Finish
-    requires dir { IsTrue (is_dir (shape store.old dest)) }
-    requires apart { source ≡ dest → name.now ≡ new_name.now → paths.same ≡ true }
-    requires below { IfSome (child store.old source name.now) (λ node. IsReached (child store.old) node dest → ⊥) }
-    ensures made { IsEffect (made_between (graph_of store.old) source name.now dest new_name.now paths.same paths.above paths.one_parent victim reserved) result (graph_of store.new) }
+    requires real { IsReal (seen store.old) }
+    requires there { child store.old moving.source name.now ≡ Some moving.moved }
+    requires dir { IsTrue (is_dir (shape store.old moving.dest)) }
+    requires replaces { moving.replaces ≡ is_some (child store.old moving.dest new_name.now) }
+    requires bare { IfSome (child store.old moving.dest new_name.now) (λ node. has_entries (shape store.old node) ≡ false) }
+    requires apart { moving.source ≡ moving.dest → name.now ≡ new_name.now → ⊥ }
+    requires below { IsReached (child store.old) moving.moved moving.dest → ⊥ }
+    ensures made { IsEffect (moved (graph_of store.old) moving name.now new_name.now reserved) result (graph_of store.new) }
     ensures rest { seen store.new ≡ record (seen store.old) { graph = graph_of store.new } }
 {
-    let Some(moved) = store.find(source, name) else {
-        return Finish::failed(Errno::Enoent, reserved);
-    };
-    if paths.same {
-        return Finish::kept(Replies::done(), reserved);
-    }
-    if let Some(errno) = fault(store, moved, dest, new_name, paths) {
-        return Finish::failed(errno, reserved);
-    }
-    replace(store, source, name, dest, new_name);
+    clear(store, moving.dest, new_name, moving.replaces);
+    store.move_entry(moving.source, name, moving.dest, new_name);
     Finish {
         replies: Replies::done(),
         reserved,
-        removed: victim,
+        removed: moving.victim,
     }
 }

@@ -1,225 +1,131 @@
--- On finishes, each call by its own row.
-use Rattle.std.proofs.Common.{◌≡◌, ℕ, ◌<◌, Bool, true, false, List, [], ◌∷◌, length, take, drop, Option, Some, None, refl, sym, ap, subst, ◌∙◌, arith}
+-- On finishes: a plan does what the machine's finish does, and it can be carried out.
+use Rattle.std.proofs.Common.{◌≡◌, ℕ, ◌+◌, ◌≤◌, ◌<◌, Bool, true, false, [], ◌∷◌, length, take, drop, ◌-◌, Option, Some, None, refl, sym, ap, ap₂, subst, ◌∙◌, ◌||◌, arith, length-drop}
+use Rattle.std.specs.Prelude.{not, is_some, IfSome, IsSome}
+use Rattle.fs_names.specs.Failures.{or_else, first_failure}
 use Rattle.fs_names.specs.Names.{Name}
-use Rattle.fs_names.specs.Keys.{Key, last_of, parent_of}
-use Rattle.fs_names.specs.Shapes.{Shape, Dir, File, is_full}
-use Rattle.fs_nodes.specs.Graphs.{Graph, entry_shape}
-use Rattle.fs_calls.specs.Forms.{Form, AtNode, AtEntry, AtPair, NodeCall, Stat, Readdir, Read, by_text, form}
+use Rattle.fs_names.specs.Keys.{Key, last_of, parent_of, after_prefix, has_more, is_end}
+use Rattle.fs_names.specs.Parts.{common}
+use Rattle.fs_names.specs.Shapes.{Shape, Dir, File, is_dir, is_there, has_entries, is_full}
+use Rattle.fs_nodes.specs.Graphs.{Graph, then_at, entry_shape}
+use Rattle.fs_nodes.specs.Seen.{Seen, IsReal}
+use Rattle.fs_calls.specs.Forms.{Form, AtNode, AtEntry, AtPair, by_text, form, new_shape}
 use Rattle.fs_calls.specs.declared.target.PairCall.TheVariants as pairs
 use Rattle.fs_calls.specs.declared.target.EntryCall.{EntryCall}
-use Rattle.fs_calls.specs.Rows.{node_row, entry_row}
+use Rattle.fs_calls.specs.declared.target.EntryCall.TheVariants as entries
+use Rattle.fs_calls.specs.Rows.{Keep, answered, edit_of, as_dir, entry_errors, entry_fault, place_errors, rename_fault}
 use Rattle.fs_calls.specs.declared.call.Call.{Call}
 use Rattle.fs_calls.specs.declared.errno.Errno.{Errno}
-use Rattle.fs_calls.specs.declared.reply.Reply.{Reply}
-use Rattle.fs_calls.specs.declared.reply.Reply.TheVariants.{Failed}
+use Rattle.fs_calls.specs.declared.errno.Errno.TheVariants.{Enoent}
+use Rattle.fs_calls.specs.declared.reply.Reply.TheVariants.{Failed, Done}
 use Rattle.fs_walk.specs.Ways.{Way, ForkWay}
-use Rattle.fs_walk.specs.declared.head.Head as count
 use Rattle.fs_finish.specs.declared.finish.Finish.{Finish}
+use Rattle.fs_finish.specs.declared.plan.Plan.{Plan}
+use Rattle.fs_finish.specs.declared.plan.Plan.TheVariants.{Fails, Stays, Answers, Adds, Removes, Moves}
+use Rattle.fs_finish.specs.Endings.{IsEffect}
+use Rattle.fs_finish.specs.Plans.{node_plan, entry_plan, rename_plan, moving, carried, added, removed, moved, Changes, CanCarryOut}
+use Rattle.fs_machine.specs.Finishes.{Effect, no_effect, entry_effect, move_effect, effect_at, effect_of, finish}
+use Rattle.fs_machine.specs.Moves.{target, path_error, dir_error, there_by}
+use Rattle.fs_machine.specs.Records.{Holdings, Record, Finished}
+use Rattle.fs_machine.specs.OpValues.{OpValue, CanFinish, HeadsApart, MovesApart, SpareIf, IsFinished, graph_after, record_of}
 use Rattle.fs_ops.specs.declared.outcome.Outcome.{Outcome}
 use Rattle.fs_ops.specs.declared.outcome.Outcome.TheVariants.{Fixed}
-use Rattle.fs_finish.specs.Endings.{IsEffect, entry_finish}
-use Rattle.fs_ops.specs.code.FinishByCounts.{heads_holdings, finished_by, finish_by}
-use Rattle.fs_machine.specs.Finishes.{Effect, no_effect, node_effect, entry_effect, move_effect, rename_effect, effect_at, effect_of, finish}
-use Rattle.fs_machine.specs.Moves.{target, path_error, dir_error, rename_at, walk_errno}
-use Rattle.fs_machine.specs.Records.{Holdings, Record, Finished}
-use Rattle.fs_finish.specs.Replies.{refilled}
+use Rattle.fs_ops.specs.OpValue.{dropped, holdings_of, holdings_with, op_value, IsForked, Forks, IsOp}
+use Rattle.fs_ops.specs.PlanOf.{pair_plan, plan_at, plan_by, plan_of, IsPlan}
 use Rattle.fs_ops.specs.code.TakeAndLetGo.{started}
-use Rattle.fs_ops.specs.OpValue.{dropped, holdings_of, holdings_with, op_value, IsForked, Forks}
-use Rattle.fs_machine.specs.OpValues.{OpValue, HeadsApart, MovesApart, IsFinished, graph_after, record_of}
-use Rattle.fs_names.proofs.ParentLemmas.{parent_length}
-use Rattle.fs_ops.proofs.KeyLemmas.{parent_drop, target_drop}
-use Rattle.fs_ops.proofs.HeadLemmas.{some_left, none_left, last_drop}
-use Rattle.fs_ops.proofs.TookLemmas.{holdings_node, started_forked}
+use Rattle.fs_ops.proofs.KeyLemmas.{last_drop, target_drop}
+use Rattle.fs_ops.proofs.HeadLemmas.{head_error, text_named, is_parent, head_dir, heads_apart, heads_below}
+use Rattle.fs_ops.proofs.PlanLemmas.{pair_by, lost_plan, node_is, entry_is, pair_is}
+use Rattle.fs_ops.proofs.TookLemmas.{common_short, holdings_node, started_forked, started_holdings}
 
--- a finish by another spelling
-pub as_made : (made made' : Effect) (finish : Finish) (new : Graph) → made ≡ made' → IsEffect made' finish new → IsEffect made finish new
-as_made made made' finish new e h = subst (λ (m : Effect). IsEffect m finish new) (sym e) h
+-- ---- a plan does what the machine's finish does
 
--- a call on a node
-kept_on : (graph : Graph) (n : ℕ) (reserved : Option ℕ) (row : Reply × Option (List ℕ)) (finish : Finish) (new : Graph) → finish.replies ≡ row.0 → finish.reserved ≡ reserved → finish.removed ≡ None → new ≡ refilled n row.1 graph
-    → IsEffect (node_effect graph n reserved row) finish new
-kept_on graph n reserved (r, None) finish new a b c d = record { reply = a; reserved = b; removed = c; graph_is = d }
-kept_on graph n reserved (r, Some bytes) finish new a b c d = record { reply = a; reserved = b; removed = c; graph_is = d }
+-- by what is left of the call
+entry_carried : (graph : Graph) (c : EntryCall) (p : Key) (n : ℕ) (reserved : Option ℕ) (fault : Option Errno) (new : Option Shape) → carried graph (AtEntry c p) reserved (entry_plan fault new n) ≡ entry_effect graph n (last_of p) reserved (answered fault Keep Done (edit_of new))
+entry_carried graph c p n None (Some e) new = refl
+entry_carried graph c p n (Some m) (Some e) new = refl
+entry_carried graph c p n None None (Some s) = refl
+entry_carried graph c p n (Some m) None (Some s) = refl
+entry_carried graph c p n None None None = refl
+entry_carried graph c p n (Some m) None None = refl
 
--- the calls that change nothing
-pub stat_keeps : (s : Option Shape) → (node_row Stat None s).1 ≡ None
-stat_keeps None = refl
-stat_keeps (Some (Dir names)) = refl
-stat_keeps (Some (File bytes)) = refl
+rename_carried : (graph : Graph) (p q : Key) (st : Holdings) (replaces : Bool) (reserved : Option ℕ) (fault : Option Errno) (same_path : Bool) (child : Option ℕ)
+    → carried graph (AtPair pairs.Rename p q) reserved (rename_plan fault same_path (moving st.source.node st.dest.node replaces st.victim child))
+    ≡ move_effect graph st (last_of p) (last_of q) reserved (answered fault false Done (not same_path)).0 (answered fault false Done (not same_path)).1 child
+rename_carried graph p q st replaces reserved (Some e) same_path child = refl
+rename_carried graph p q st replaces reserved None true child = refl
+rename_carried graph p q st replaces reserved None false None = refl
+rename_carried graph p q st replaces reserved None false (Some n) = refl
 
-pub readdir_keeps : (s : Option Shape) → (node_row Readdir None s).1 ≡ None
-readdir_keeps None = refl
-readdir_keeps (Some (Dir names)) = refl
-readdir_keeps (Some (File bytes)) = refl
+carried_at : (graph : Graph) (rest : Form) (st : Holdings) (reserved : Option ℕ) → carried graph rest reserved (plan_at graph rest st) ≡ effect_at graph rest st reserved
+carried_at graph (AtNode c []) st reserved = refl
+carried_at graph (AtNode c (x ∷ p)) st reserved = refl
+carried_at graph (AtEntry c p) st reserved = entry_carried graph c p st.node reserved (entry_fault c (dir_error (parent_of p) (graph.shape st.node)) (is_full (graph.shape st.node)) (entry_shape graph st.node (last_of p))) (new_shape c)
+carried_at graph (AtPair pairs.Rename p q) st reserved = by (target (AtPair pairs.Rename p q))
+  where
+    by : (l : Key) → carried graph (AtPair pairs.Rename p q) reserved (pair_plan graph p q st l) ≡ Rattle.fs_machine.specs.Finishes.rename_effect graph p q st reserved l
+    by (z ∷ l) = refl
+    by [] = rename_carried graph p q st (is_some (graph.child st.dest.node (last_of q))) reserved _ (is_end (after_prefix p q)) (graph.child st.source.node (last_of p))
 
-pub read_keeps : (off count : ℕ) (s : Option Shape) → (node_row (Read off count) None s).1 ≡ None
-read_keeps off count None = refl
-read_keeps off count (Some (Dir names)) = refl
-read_keeps off count (Some (File bytes)) = refl
+-- and by the whole call, whose last names are the same
+names_carried : (graph : Graph) (p q x y : Key) (reserved : Option ℕ) → last_of p ≡ last_of x → last_of q ≡ last_of y → (plan : Plan) → carried graph (AtPair pairs.Rename p q) reserved plan ≡ carried graph (AtPair pairs.Rename x y) reserved plan
+names_carried graph p q x y reserved e f (Fails errno) = refl
+names_carried graph p q x y reserved e f Stays = refl
+names_carried graph p q x y reserved e f (Answers n) = refl
+names_carried graph p q x y reserved e f (Adds dir) = ap (λ (z : Name). added graph dir z reserved) e
+names_carried graph p q x y reserved e f (Removes dir) = ap (λ (z : Name). removed graph dir z reserved) e
+names_carried graph p q x y reserved e f (Moves m) = ap₂ (λ (z w : Name). moved graph m z w reserved) e f
 
-pub unchanged : (graph : Graph) (n : ℕ) (bytes : Option (List ℕ)) → bytes ≡ None → graph ≡ refilled n bytes graph
-unchanged graph n bytes e = sym (ap (λ (o : Option (List ℕ)). refilled n o graph) e)
+name_carried : (graph : Graph) (c : EntryCall) (p x : Key) (reserved : Option ℕ) → last_of p ≡ last_of x → (plan : Plan) → carried graph (AtEntry c p) reserved plan ≡ carried graph (AtEntry c x) reserved plan
+name_carried graph c p x reserved e (Fails errno) = refl
+name_carried graph c p x reserved e Stays = refl
+name_carried graph c p x reserved e (Answers n) = refl
+name_carried graph c p x reserved e (Adds dir) = ap (λ (z : Name). added graph dir z reserved) e
+name_carried graph c p x reserved e (Removes dir) = ap (λ (z : Name). removed graph dir z reserved) e
+name_carried graph c p x reserved e (Moves m) = ap₂ (λ (z w : Name). moved graph m z w reserved) e e
 
-module _ (graph new : Graph) (way : Way) (n : ℕ) (fork : Option ForkWay) (victim reserved : Option ℕ) (finish : Finish) where
-  abbrev At : Form → Type 0
-  At f = IsEffect (effect_at graph (dropped way.walked f) (holdings_with f n way.behind fork victim) reserved) finish new
+carried_whole : (graph : Graph) (call : Form) (k : ℕ) (st : Holdings) (reserved : Option ℕ) → k ≤ length (target call) → carried graph call reserved (plan_at graph (dropped k call) st) ≡ carried graph (dropped k call) reserved (plan_at graph (dropped k call) st)
+carried_whole graph (AtNode c p) k st reserved h = by (path_error (drop k p) (graph.shape st.node))
+  where
+    by : (o : Option Errno) → carried graph (AtNode c p) reserved (node_plan o st.node) ≡ carried graph (AtNode c (drop k p)) reserved (node_plan o st.node)
+    by None = refl
+    by (Some e) = refl
+carried_whole graph (AtEntry c p) k st reserved h = name_carried graph c p (drop k p) reserved (sym (last_drop k p h)) (plan_at graph (AtEntry c (drop k p)) st)
+carried_whole graph (AtPair pairs.Rename p q) k st reserved h =
+    let s = common_short (parent_of p) (parent_of q) in
+    names_carried graph p q (drop k p) (drop k q) reserved (sym (last_drop k p (omega arith))) (sym (last_drop k q (omega arith))) (plan_at graph (AtPair pairs.Rename (drop k p) (drop k q)) st)
 
-  abbrev Arrives : Form → Type 0
-  Arrives f = way.names ≡ length (target f)
+-- a finish by the paths, by what is left of the call and where it stands
+abbrev finished_by : Graph → Option Errno → Form → Option Holdings → Option ℕ → Effect
+finished_by graph (Some e) rest st reserved = no_effect (Failed e) graph reserved
+finished_by graph None rest None reserved = no_effect (Failed Enoent) graph reserved
+finished_by graph None rest (Some st) reserved = effect_at graph rest st reserved
 
-  -- a call on a node that has come to it
-  on_at : (c : NodeCall) (p : Key) → way.names ≡ length p → way.walked ≡ way.names → finish.replies ≡ (node_row c None (graph.shape n)).0 → finish.reserved ≡ reserved → finish.removed ≡ None
-      → new ≡ refilled n (node_row c None (graph.shape n)).1 graph → At (AtNode c p)
-  on_at c p names arrived a b r d =
-      let at : (holdings_with (AtNode c p) n way.behind fork victim).node ≡ n = holdings_node (AtNode c p) n way.behind fork victim in
-      let none : drop way.walked p ≡ [] = none_left way.walked p (omega arith) in
-      as_made _ (node_effect graph n reserved (node_row c None (graph.shape n))) finish new (λ i. node_effect graph (at i) reserved (node_row c (path_error (none i) (graph.shape (at i))) (graph.shape (at i)))) (kept_on graph n reserved (node_row c None (graph.shape n)) finish new a b r d)
+carried_by : (graph : Graph) (call : Form) (k : ℕ) (e : Option Errno) (st : Option Holdings) (reserved : Option ℕ) → k ≤ length (target call) → carried graph call reserved (plan_by graph e (dropped k call) st) ≡ finished_by graph e (dropped k call) st reserved
+carried_by graph call k (Some e) st reserved h = refl
+carried_by graph call k None None reserved h = refl
+carried_by graph call k None (Some st) reserved h = carried_whole graph call k st reserved h ∙ carried_at graph (dropped k call) st reserved
 
-  pub on_arm : (f : Form) (c : NodeCall) (p : Key) → f ≡ AtNode c p → Arrives f → way.walked ≡ way.names → finish.replies ≡ (node_row c None (graph.shape n)).0 → finish.reserved ≡ reserved → finish.removed ≡ None
-      → new ≡ refilled n (node_row c None (graph.shape n)).1 graph → At f
-  on_arm f c p e names arrived a b r d = subst At (sym e) (on_at c p (subst Arrives e names) arrived a b r d)
-
-  -- a call on an entry that has come to its directory
-  named : (c : EntryCall) (p : Key) → by_text (AtEntry c p) ≡ None → 0 < length p
-  named c [] e = absurd (cc)
-  named c (x ∷ p) e = omega arith
-
-  in_at : (c : EntryCall) (p : Key) → by_text (AtEntry c p) ≡ None → way.names ≡ length (parent_of p) → way.walked ≡ way.names → IsEffect (entry_finish graph n (last_of p) reserved c) finish new → At (AtEntry c p)
-  in_at c p text names arrived made =
-      let at : (holdings_with (AtEntry c p) n way.behind fork victim).node ≡ n = holdings_node (AtEntry c p) n way.behind fork victim in
-      let some = named c p text in
-      let len = parent_length p in
-      let none : parent_of (drop way.walked p) ≡ [] = parent_drop way.walked p ∙ none_left way.walked (parent_of p) (omega arith) in
-      let last : last_of (drop way.walked p) ≡ last_of p = last_drop way.walked p (omega arith) in
-      as_made _ (entry_finish graph n (last_of p) reserved c) finish new
-      (λ i. entry_effect graph (at i) (last i) reserved (entry_row c (dir_error (none i) (graph.shape (at i))) (is_full (graph.shape (at i))) (entry_shape graph (at i) (last i)))) made
-
-  pub in_arm : (f : Form) (c : EntryCall) (p : Key) → f ≡ AtEntry c p → by_text f ≡ None → Arrives f → way.walked ≡ way.names → IsEffect (entry_finish graph n (last_of p) reserved c) finish new → At f
-  in_arm f c p e text names arrived made = subst At (sym e) (in_at c p (subst (λ (z : Form). by_text z ≡ None) e text) (subst Arrives e names) arrived made)
-
-  -- a rename that has come to its common directory
-  by_heads : (p q : Key) (x y : Name) (st : Holdings) (r : Reply × Bool) (s : Option ℕ)
-      → move_effect graph st x y reserved r.0 r.1 s ≡ move_effect graph (record { node = st.source.node; behind = None; source = st.source; dest = st.dest; victim = st.victim }) x y reserved r.0 r.1 s
-  by_heads p q x y st (r, false) s = refl
-  by_heads p q x y st (r, true) None = refl
-  by_heads p q x y st (r, true) (Some s) = refl
-
-  started_holdings : (p q : Key) (behind : Option ℕ) (o : Option ForkWay) (names : ℕ) → holdings_with (AtPair pairs.Rename p q) n behind o victim ≡ holdings_with (AtPair pairs.Rename p q) n behind (Some (started o n names)) victim
-  started_holdings p q behind None names = refl
-  started_holdings p q behind (Some heads) names = refl
-
-  rename_at_heads : (p q : Key) (source dest : count.Head) → way.names ≡ length (target (AtPair pairs.Rename p q)) → way.walked ≡ way.names → way.node ≡ Some n → Forks (AtPair pairs.Rename p q) way fork
-      → source ≡ (started fork n way.names).source → dest ≡ (started fork n way.names).dest
-      → IsEffect (rename_effect graph (drop way.walked p) (drop way.walked q) (heads_holdings p q way.walked source dest victim) reserved []) finish new → At (AtPair pairs.Rename p q)
-  rename_at_heads p q source dest names arrived node forks s d made =
-      let heads : ForkWay = started fork n way.names in
-      let forked : IsForked p q way heads = started_forked p q way fork n node arrived names forks in
-      let st : Holdings = holdings_with (AtPair pairs.Rename p q) n way.behind (Some heads) victim in
-      let k : ℕ = way.walked in
-      let none : target (dropped k (AtPair pairs.Rename p q)) ≡ [] = target_drop k (AtPair pairs.Rename p q) (omega arith) ∙ none_left k (target (AtPair pairs.Rename p q)) (omega arith) in
-      let same : heads_holdings p q k source dest victim ≡ heads_holdings p q heads.names heads.source heads.dest victim = (λ i. heads_holdings p q (sym forked.names i) (s i) (d i) victim) in
-      let parts : rename_effect graph (drop k p) (drop k q) (holdings_with (AtPair pairs.Rename p q) n way.behind fork victim) reserved (target (dropped k (AtPair pairs.Rename p q))) ≡ rename_effect graph (drop k p) (drop k q) st reserved [] =
-      (λ i. rename_effect graph (drop k p) (drop k q) (started_holdings p q way.behind fork way.names i) reserved (none i)) in
-      let nodes : rename_effect graph (drop k p) (drop k q) st reserved [] ≡ rename_effect graph (drop k p) (drop k q) (heads_holdings p q heads.names heads.source heads.dest victim) reserved [] =
-      by_heads p q (last_of (drop k p)) (last_of (drop k q)) st (rename_at graph (drop k p) (drop k q) st) (graph.child heads.source.node (last_of (drop k p))) in
-      as_made _ _ finish new (parts ∙ nodes ∙ ap (λ (z : Holdings). rename_effect graph (drop k p) (drop k q) z reserved []) (sym same)) made
-
-  pub rename_arm : (f : Form) (p q : Key) (source dest : count.Head) → f ≡ AtPair pairs.Rename p q → Arrives f → way.walked ≡ way.names → way.node ≡ Some n → Forks f way fork
-      → source ≡ (started fork n way.names).source → dest ≡ (started fork n way.names).dest
-      → IsEffect (rename_effect graph (drop way.walked p) (drop way.walked q) (heads_holdings p q way.walked source dest victim) reserved []) finish new → At f
-  rename_arm f p q source dest e names arrived node forks s d made =
-      subst At (sym e) (rename_at_heads p q source dest (subst Arrives e names) arrived node (subst (λ (z : Form). Forks z way fork) e forks) s d made)
-
--- the heads of such a rename
-module _ (way : Way) (n : ℕ) (fork : Option ForkWay) (victim : Option ℕ) (f : Form) (p q : Key) (e : f ≡ AtPair pairs.Rename p q) (names : way.names ≡ length (target f)) (arrived : way.walked ≡ way.names) (node : way.node ≡ Some n) (forks : Forks f way fork) where
-  pub forked_here : IsForked p q way (started fork n way.names)
-  forked_here = started_forked p q way fork n node arrived (subst (λ (z : Form). way.names ≡ length (target z)) e names) (subst (λ (z : Form). Forks z way fork) e forks)
-
-  here_holdings : (behind : Option ℕ) (o : Option ForkWay) (m : ℕ) → holdings_with (AtPair pairs.Rename p q) n behind o victim ≡ holdings_with (AtPair pairs.Rename p q) n behind (Some (started o n m)) victim
-  here_holdings behind None m = refl
-  here_holdings behind (Some heads) m = refl
-
-  pub apart_here : (source dest : count.Head) → HeadsApart (dropped way.walked f) (holdings_with f n way.behind fork victim) → source ≡ (started fork n way.names).source → dest ≡ (started fork n way.names).dest
-      → source.node ≡ dest.node → take source.walked (drop way.walked p) ≡ take dest.walked (drop way.walked q)
-  apart_here source dest apart s d same =
-      let heads : ForkWay = started fork n way.names in
-      let h : HeadsApart (AtPair pairs.Rename (drop way.walked p) (drop way.walked q)) (holdings_with (AtPair pairs.Rename p q) n way.behind (Some heads) victim) =
-      subst (λ (z : Holdings). HeadsApart (AtPair pairs.Rename (drop way.walked p) (drop way.walked q)) z) (here_holdings way.behind fork way.names)
-      (subst (λ (z : Form). HeadsApart (dropped way.walked z) (holdings_with z n way.behind fork victim)) e apart) in
-      (λ i. take ((s i).walked) (drop (sym forked_here.names i) p))
-      ∙ h (sym (ap (λ (z : count.Head). z.node) s) ∙ same ∙ ap (λ (z : count.Head). z.node) d)
-      ∙ (λ i. take ((sym d i).walked) (drop (forked_here.names i) q))
-
-  -- from what it would move its new directory is not reached
-  pub below_here : (graph : Graph) (k : ℕ) (source dest : count.Head) → k ≡ way.walked → MovesApart graph (dropped way.walked f) (holdings_with f n way.behind fork victim) → source ≡ (started fork n way.names).source → dest ≡ (started fork n way.names).dest
-      → MovesApart graph (AtPair pairs.Rename (drop k p) (drop k q)) (heads_holdings p q k source dest victim)
-  below_here graph k source dest z apart s d =
-      let heads : ForkWay = started fork n way.names in
-      let h : MovesApart graph (AtPair pairs.Rename (drop way.walked p) (drop way.walked q)) (holdings_with (AtPair pairs.Rename p q) n way.behind (Some heads) victim) =
-      subst (λ (y : Holdings). MovesApart graph (AtPair pairs.Rename (drop way.walked p) (drop way.walked q)) y) (here_holdings way.behind fork way.names)
-      (subst (λ (y : Form). MovesApart graph (dropped way.walked y) (holdings_with y n way.behind fork victim)) e apart) in
-      let counted : MovesApart graph (AtPair pairs.Rename (drop way.walked p) (drop way.walked q)) (heads_holdings p q way.walked heads.source heads.dest victim) =
-      subst (λ (m : ℕ). MovesApart graph (AtPair pairs.Rename (drop way.walked p) (drop way.walked q)) (heads_holdings p q m heads.source heads.dest victim)) forked_here.names h in
-      subst (λ (m : ℕ). MovesApart graph (AtPair pairs.Rename (drop m p) (drop m q)) (heads_holdings p q m source dest victim)) (sym z)
-      (subst (λ (o : count.Head). MovesApart graph (AtPair pairs.Rename (drop way.walked p) (drop way.walked q)) (heads_holdings p q way.walked source o victim)) (sym d)
-      (subst (λ (o : count.Head). MovesApart graph (AtPair pairs.Rename (drop way.walked p) (drop way.walked q)) (heads_holdings p q way.walked o heads.dest victim)) (sym s) counted))
-
--- a call whose walk failed
-lost_at : (graph : Graph) (rest : Form) (st : Holdings) (reserved : Option ℕ) (z : Name) (l : Key) → target rest ≡ z ∷ l → effect_at graph rest st reserved ≡ no_effect (Failed (walk_errno (graph.shape st.node))) graph reserved
-lost_at graph (AtNode c p) st reserved z l e = ap (λ (k : Key). node_effect graph st.node reserved (node_row c (path_error k (graph.shape st.node)) (graph.shape st.node))) e
-lost_at graph (AtEntry c p) st reserved z l e = ap (λ (k : Key). entry_effect graph st.node (last_of p) reserved (entry_row c (dir_error k (graph.shape st.node)) (is_full (graph.shape st.node)) (entry_shape graph st.node (last_of p)))) e
-lost_at graph (AtPair pairs.Rename p q) st reserved z l e = ap (λ (k : Key). rename_effect graph p q st reserved k) e
-
-pub lost : (graph : Graph) (f : Form) (way : Way) (n : ℕ) (fork : Option ForkWay) (victim reserved : Option ℕ) (errno : Errno) (finish : Finish) → by_text f ≡ None → way.node ≡ Some n → way.names ≡ length (target f) → way.walked < way.names
-    → errno ≡ walk_errno (graph.shape n) → finish ≡ record { replies = Failed errno; reserved = reserved; removed = None } → IsEffect (finish_by graph f way fork victim reserved) finish graph
-lost graph f way n fork victim reserved errno finish text node names short e h =
-    let some = some_left way.walked (target f) (omega arith) in
-    let st : Holdings = holdings_with f n way.behind fork victim in
-    let at : st.node ≡ n = holdings_node f n way.behind fork victim in
-    as_made _ (no_effect (Failed errno) graph reserved) finish graph
-    ((λ i. finished_by graph (text i) (dropped way.walked f) (holdings_of f (node i) way.behind fork victim) reserved)
-    ∙ lost_at graph (dropped way.walked f) st reserved some.0 some.1 (target_drop way.walked f (omega arith) ∙ some.2)
-    ∙ ap (λ (x : Errno). no_effect (Failed x) graph reserved) (ap (λ (m : ℕ). walk_errno (graph.shape m)) at ∙ sym e))
-    (record { reply = ap (λ (z : Finish). z.replies) h; reserved = ap (λ (z : Finish). z.reserved) h; removed = ap (λ (z : Finish). z.removed) h; graph_is = refl })
-
--- the finish of a record is the one by counts of names
-made_same : (graph : Graph) (op : Record) (e : Option Errno) (st : Option Holdings) → effect_of graph op e st ≡ finished_by graph e op.remaining st op.reserved
-made_same graph op (Some e) st = refl
-made_same graph op None None = refl
-made_same graph op None (Some st) = refl
-
-pub finish_is : (graph : Graph) (call : Call) (way : Way) (fork : Option ForkWay) (victim reserved removed : Option ℕ) (outcome : Outcome) (seat : ℕ) (place : Option ℕ)
-    → finish graph (record_of seat place (op_value call way fork victim reserved removed outcome)) ≡ finish_by graph (form call) way fork victim reserved
-finish_is graph call way fork victim reserved removed outcome seat place = made_same graph (record_of seat place (op_value call way fork victim reserved removed outcome)) (by_text (form call)) (holdings_of (form call) way.node way.behind fork victim)
-
--- the same with the number of names as the code has it
-pub apart_by : (way : Way) (n : ℕ) (fork : Option ForkWay) (victim : Option ℕ) (f : Form) (p q : Key) → f ≡ AtPair pairs.Rename p q → way.names ≡ length (target f) → way.walked ≡ way.names → way.node ≡ Some n → Forks f way fork
-    → (k : ℕ) (source dest : count.Head) → k ≡ way.walked → HeadsApart (dropped way.walked f) (holdings_with f n way.behind fork victim) → source ≡ (started fork n way.names).source → dest ≡ (started fork n way.names).dest
-    → source.node ≡ dest.node → take source.walked (drop k p) ≡ take dest.walked (drop k q)
-apart_by way n fork victim f p q e names arrived node forks k source dest z apart s d same =
-    subst (λ (m : ℕ). take source.walked (drop m p) ≡ take dest.walked (drop m q)) (sym z) (apart_here way n fork victim f p q e names arrived node forks source dest apart s d same)
-
-pub below_by : (graph : Graph) (way : Way) (n : ℕ) (fork : Option ForkWay) (victim : Option ℕ) (f : Form) (p q : Key) → f ≡ AtPair pairs.Rename p q → way.names ≡ length (target f) → way.walked ≡ way.names → way.node ≡ Some n → Forks f way fork
-    → (k : ℕ) (source dest : count.Head) → k ≡ way.walked → MovesApart graph (dropped way.walked f) (holdings_with f n way.behind fork victim) → source ≡ (started fork n way.names).source → dest ≡ (started fork n way.names).dest
-    → MovesApart graph (AtPair pairs.Rename (drop k p) (drop k q)) (heads_holdings p q k source dest victim)
-below_by graph way n fork victim f p q e names arrived node forks k source dest z apart s d = below_here way n fork victim f p q e names arrived node forks graph k source dest z apart s d
-
-pub rename_by : (graph new : Graph) (way : Way) (n : ℕ) (fork : Option ForkWay) (victim reserved : Option ℕ) (finish : Finish) (f : Form) (p q : Key) (k : ℕ) (source dest : count.Head) → k ≡ way.walked
-    → f ≡ AtPair pairs.Rename p q → way.names ≡ length (target f) → way.walked ≡ way.names → way.node ≡ Some n → Forks f way fork → source ≡ (started fork n way.names).source → dest ≡ (started fork n way.names).dest
-    → IsEffect (rename_effect graph (drop k p) (drop k q) (heads_holdings p q k source dest victim) reserved []) finish new
-    → IsEffect (effect_at graph (dropped way.walked f) (holdings_with f n way.behind fork victim) reserved) finish new
-rename_by graph new way n fork victim reserved finish f p q k source dest z e names arrived node forks s d made =
-    rename_arm graph new way n fork victim reserved finish f p q source dest e names arrived node forks s d
-    (subst (λ (m : ℕ). IsEffect (rename_effect graph (drop m p) (drop m q) (heads_holdings p q m source dest victim) reserved []) finish new) z made)
+finish_by : (graph : Graph) (op : Record) (e : Option Errno) (st : Option Holdings) → effect_of graph op e st ≡ finished_by graph e op.remaining st op.reserved
+finish_by graph op (Some e) st = refl
+finish_by graph op None None = refl
+finish_by graph op None (Some st) = refl
 
 -- the record and the graph after a finish
-module _ (graph : Graph) (call : Call) (way : Way) (fork : Option ForkWay) (victim reserved removed : Option ℕ) (outcome : Outcome) (done : Finish) (new : Graph) (made : IsEffect (finish_by graph (form call) way fork victim reserved) done new) where
+module _ (graph : Graph) (call : Call) (way : Way) (fork : Option ForkWay) (victim reserved removed : Option ℕ) (outcome : Outcome) (op : IsOp (form call) way fork outcome)
+    (plan : Plan) (is : plan ≡ plan_of graph (op_value call way fork victim reserved removed outcome)) (done : Finish) (new : Graph) (made : IsEffect (carried graph (form call) reserved plan) done new) where
   abbrev before : OpValue
   before = op_value call way fork victim reserved removed outcome
 
+  effect_is : (seat : ℕ) (place : Option ℕ) → carried graph (form call) reserved plan ≡ finish graph (record_of seat place before)
+  effect_is seat place =
+      let h : way.walked ≤ length (target (form call)) = omega (arith, op.within, op.names) in
+      ap (carried graph (form call) reserved) is
+      ∙ carried_by graph (form call) way.walked (by_text (form call)) before.holdings reserved h
+      ∙ sym (finish_by graph (record_of seat place before) (by_text (form call)) before.holdings)
+
   pub finished_is : IsFinished graph before (op_value call way fork victim done.reserved done.removed (Fixed done.replies))
   finished_is seat place =
-      let e = sym (finish_is graph call way fork victim reserved removed outcome seat place) in
+      let e = effect_is seat place in
       let r : done.replies ≡ (finish graph (record_of seat place before)).reply = made.reply ∙ ap (λ (m : Effect). m.reply) e in
       let s : done.reserved ≡ (finish graph (record_of seat place before)).reserved = made.reserved ∙ ap (λ (m : Effect). m.reserved) e in
       let t : done.removed ≡ (finish graph (record_of seat place before)).removed = made.removed ∙ ap (λ (m : Effect). m.removed) e in
@@ -235,7 +141,185 @@ module _ (graph : Graph) (call : Call) (way : Way) (fork : Option ForkWay) (vict
       })
 
   pub graph_is : new ≡ graph_after graph before
-  graph_is = made.graph_is ∙ ap (λ (m : Effect). m.graph) (sym (finish_is graph call way fork victim reserved removed outcome 0 None))
+  graph_is = made.graph_is ∙ ap (λ (m : Effect). m.graph) (effect_is 0 None)
 
 pub finished_as : (graph : Graph) (old seen new : OpValue) → old ≡ seen → IsFinished graph old new → IsFinished graph seen new
 finished_as graph old seen new e h = subst (λ (w : OpValue). IsFinished graph w new) e h
+
+-- ---- a plan can be carried out
+
+both_none : (a b : Option Errno) → or_else a b ≡ None → (a ≡ None) × (b ≡ None)
+both_none None b e = (refl, e)
+both_none (Some f) b e = absurd (cc)
+
+makes_free : (full : Bool) (there : Option Shape) → first_failure (entry_errors entries.Mkdir full there) ≡ None → there ≡ None
+makes_free full None e = refl
+makes_free full (Some s) e = absurd (cc)
+
+unlinks_bare : (full : Bool) (there : Option Shape) → first_failure (entry_errors entries.Unlink full there) ≡ None → (is_there there ≡ true) × (has_entries there ≡ false)
+unlinks_bare full None e = absurd (cc)
+unlinks_bare full (Some (Dir l)) e = absurd (cc)
+unlinks_bare full (Some (File bytes)) e = (refl, refl)
+
+removes_bare : (full : Bool) (there : Option Shape) → first_failure (entry_errors entries.Rmdir full there) ≡ None → (is_there there ≡ true) × (has_entries there ≡ false)
+removes_bare full None e = absurd (cc)
+removes_bare full (Some (Dir [])) e = (refl, refl)
+removes_bare full (Some (Dir (x ∷ l))) e = absurd (cc)
+removes_bare full (Some (File bytes)) e = absurd (cc)
+
+-- what an entry names
+child_free : (store : Seen) (n : ℕ) (x : Name) → IsReal store → entry_shape store.graph n x ≡ None → store.graph.child n x ≡ None
+child_free store n x real e = by (store.graph.child n x) refl
+  where
+    by : (o : Option ℕ) → store.graph.child n x ≡ o → o ≡ None
+    by None k = refl
+    by (Some m) k = let s = real.to_used n m x k in let z : ◌≡◌ {A = Option Shape} None (Some s.0) = sym e ∙ ap (λ (o : Option ℕ). then_at o store.graph.shape) k ∙ s.1 in absurd (cc)
+
+bare_if : (o : Option ℕ) (shapes : ℕ → Option Shape) → has_entries (then_at o shapes) ≡ false → IfSome o (λ n. has_entries (shapes n) ≡ false)
+bare_if None shapes e = tt
+bare_if (Some n) shapes e = e
+
+there_if : (o : Option ℕ) (shapes : ℕ → Option Shape) → is_there (then_at o shapes) ≡ true → IsSome o
+there_if None shapes e = absurd (cc)
+there_if (Some n) shapes e = refl
+
+-- a call on an entry
+module _ (store : Seen) (p : Key) (n : ℕ) (reserved : Option ℕ) (named : 0 < length p) (spare : SpareIf store.graph reserved) (other : reserved ≡ Some n → ⊥) where
+  abbrev there : Option Shape
+  there = entry_shape store.graph n (last_of p)
+
+  can_add : (c : EntryCall) → IsReal store → as_dir None (store.graph.shape n) ≡ None → there ≡ None → CanCarryOut store (AtEntry c p) reserved (Adds n)
+  can_add c real dir free = (named, record { real = real; dir = is_parent (store.graph.shape n) dir; absent = child_free store n (last_of p) real free; spare = spare; other = other })
+
+  can_remove : (c : EntryCall) → (is_there there ≡ true) × (has_entries there ≡ false) → CanCarryOut store (AtEntry c p) reserved (Removes n)
+  can_remove c h = (named, record { there = there_if (store.graph.child n (last_of p)) store.graph.shape h.0; bare = bare_if (store.graph.child n (last_of p)) store.graph.shape h.1 })
+
+  entry_can : (c : EntryCall) (fault : Option Errno) → entry_fault c (as_dir None (store.graph.shape n)) (is_full (store.graph.shape n)) there ≡ fault → Changes (entry_plan fault (new_shape c) n) (IsReal store)
+      → CanCarryOut store (AtEntry c p) reserved (entry_plan fault (new_shape c) n)
+  entry_can c (Some e) h real = tt
+  entry_can entries.Mkdir None h real = let b = both_none (as_dir None (store.graph.shape n)) _ h in can_add entries.Mkdir real b.0 (makes_free (is_full (store.graph.shape n)) there b.1)
+  entry_can entries.Mknod None h real = let b = both_none (as_dir None (store.graph.shape n)) _ h in can_add entries.Mknod real b.0 (makes_free (is_full (store.graph.shape n)) there b.1)
+  entry_can entries.Unlink None h real = can_remove entries.Unlink (unlinks_bare (is_full (store.graph.shape n)) there (both_none (as_dir None (store.graph.shape n)) _ h).1)
+  entry_can entries.Rmdir None h real = can_remove entries.Rmdir (removes_bare (is_full (store.graph.shape n)) there (both_none (as_dir None (store.graph.shape n)) _ h).1)
+
+-- what a rename may replace has no entries
+place_bare : (s t : Option Shape) (room : Bool) → first_failure (place_errors s t room) ≡ None → has_entries t ≡ false
+place_bare s None room e = refl
+place_bare s (Some (File bytes)) room e = refl
+place_bare s (Some (Dir [])) room e = refl
+place_bare s (Some (Dir (x ∷ l))) room e = absurd (full s e)
+  where
+    full : (s : Option Shape) → first_failure (place_errors s (Some (Dir (x ∷ l))) room) ≡ None → ⊥
+    full None h = cc
+    full (Some (Dir m)) h = cc
+    full (Some (File bytes)) h = cc
+
+there_bare : (above : Bool) (there : Option Shape) → has_entries (there_by above there) ≡ false → has_entries there ≡ false
+there_bare true there e = absurd (cc)
+there_bare false there e = e
+
+-- a rename
+module _ (store : Seen) (p q : Key) (heads : ForkWay) (m : ℕ) (behind victim reserved : Option ℕ) (text : by_text (AtPair pairs.Rename p q) ≡ None) (short : heads.names ≤ length (common (parent_of p) (parent_of q)))
+    (source : heads.names + heads.source.walked ≤ length (parent_of p)) (dest : heads.names + heads.dest.walked ≤ length (parent_of q))
+    (apart : heads.source.node ≡ heads.dest.node → take heads.source.walked (drop heads.names p) ≡ take heads.dest.walked (drop heads.names q))
+    (below : MovesApart store.graph (AtPair pairs.Rename (drop heads.names p) (drop heads.names q)) (holdings_with (AtPair pairs.Rename p q) m behind (Some heads) victim)) where
+  abbrev a : Option Errno
+  a = head_error store.graph p heads.names heads.source
+
+  abbrev b : Option Errno
+  b = head_error store.graph q heads.names heads.dest
+
+  abbrev from : Option Shape
+  from = entry_shape store.graph heads.source.node (last_of p)
+
+  abbrev to : Option Shape
+  to = there_by (has_more (after_prefix q p)) (entry_shape store.graph heads.dest.node (last_of q))
+
+  abbrev room : Bool
+  room = is_end (after_prefix (parent_of p) (parent_of q)) || not (is_full (store.graph.shape heads.dest.node))
+
+  abbrev replaces : Bool
+  replaces = is_some (store.graph.child heads.dest.node (last_of q))
+
+  can_move : (n : ℕ) → is_end (after_prefix p q) ≡ false → rename_fault a b from false to room ≡ None → store.graph.child heads.source.node (last_of p) ≡ Some n → IsReal store
+      → CanCarryOut store (AtPair pairs.Rename p q) reserved (Moves (record { source = heads.source.node; dest = heads.dest.node; moved = n; replaces = replaces; victim = victim }))
+  can_move n other none child real =
+      let named = text_named p q text in
+      let one = both_none a _ none in
+      let two = both_none b _ one.1 in
+      let rest = both_none (Rattle.fs_names.specs.Failures.check (Rattle.fs_names.specs.Shapes.is_missing from) Enoent) _ two.1 in (
+        named.0,
+        named.1,
+        record {
+          real = real;
+          there = child;
+          dir = head_dir _ (store.graph.shape heads.dest.node) two.0;
+          replaces = refl;
+          bare = bare_if (store.graph.child heads.dest.node (last_of q)) store.graph.shape (there_bare (has_more (after_prefix q p)) (entry_shape store.graph heads.dest.node (last_of q)) (place_bare from to room rest.1));
+          apart = λ n l. (let same : is_end (after_prefix p q) ≡ true = heads_apart store.graph p q heads text short source dest one.0 two.0 apart n l in cc);
+          below = heads_below store.graph p q heads text short source dest one.0 two.0 m behind victim below n child;
+        },
+      )
+
+  pair_can_by : (same_path : Bool) → is_end (after_prefix p q) ≡ same_path → (fault : Option Errno) → rename_fault a b from same_path to room ≡ fault → (o : Option ℕ) → store.graph.child heads.source.node (last_of p) ≡ o
+      → Changes (rename_plan fault same_path (moving heads.source.node heads.dest.node replaces victim o)) (IsReal store) → CanCarryOut store (AtPair pairs.Rename p q) reserved (rename_plan fault same_path (moving heads.source.node heads.dest.node replaces victim o))
+  pair_can_by same_path e (Some f) h o k real = tt
+  pair_can_by true e None h o k real = tt
+  pair_can_by false e None h None k real = tt
+  pair_can_by false e None h (Some n) k real = can_move n e h k real
+
+  pair_can : Changes (pair_by store.graph p q heads victim a b) (IsReal store) → CanCarryOut store (AtPair pairs.Rename p q) reserved (pair_by store.graph p q heads victim a b)
+  pair_can real = pair_can_by (is_end (after_prefix p q)) refl (rename_fault a b from (is_end (after_prefix p q)) to room) refl (store.graph.child heads.source.node (last_of p)) refl real
+
+-- ---- each call
+
+entry_named : (c : EntryCall) (p : Key) → by_text (AtEntry c p) ≡ None → 0 < length p
+entry_named c [] e = absurd (cc)
+entry_named c (x ∷ p) e = omega arith
+
+abbrev CanBy : Seen → Form → Option ℕ → Plan → Type 0
+CanBy store call reserved plan = Changes plan (IsReal store) → CanCarryOut store call reserved plan
+
+-- at its target
+arrived_can : (store : Seen) (call : Form) (way : Way) (n : ℕ) (fork : Option ForkWay) (victim reserved : Option ℕ) → by_text call ≡ None → way.node ≡ Some n → way.names ≡ length (target call) → way.walked ≡ way.names → Forks call way fork
+    → CanFinish store.graph reserved (dropped way.walked call) (Some (holdings_with call n way.behind fork victim)) → CanBy store call reserved (plan_at store.graph (dropped way.walked call) (holdings_with call n way.behind fork victim))
+arrived_can store (AtNode c p) way n fork victim reserved text node names arrived forks can = subst (CanBy store (AtNode c p) reserved) (sym (node_is store.graph way n fork victim arrived c p names)) (λ real. tt)
+arrived_can store (AtEntry c p) way n fork victim reserved text node names arrived forks can =
+    let at : (holdings_with (AtEntry c p) n way.behind fork victim).node ≡ n = holdings_node (AtEntry c p) n way.behind fork victim in
+    subst (CanBy store (AtEntry c p) reserved) (sym (entry_is store.graph way n fork victim arrived c p names))
+    (entry_can store p n reserved (entry_named c p text) can.spare (λ e. can.other _ refl (e ∙ ap (λ (m : ℕ). Some m) (sym at))) c (entry_fault c (as_dir None (store.graph.shape n)) (is_full (store.graph.shape n)) (entry_shape store.graph n (last_of p))) refl)
+arrived_can store (AtPair pairs.Rename p q) way n fork victim reserved text node names arrived forks can =
+    let heads : ForkWay = started fork n way.names in
+    let forked : IsForked p q way heads = started_forked p q way fork n node arrived names forks in
+    let short : heads.names ≤ length (common (parent_of p) (parent_of q)) = omega (arith, forked.names) in
+    let same = started_holdings (AtPair pairs.Rename p q) n way.names way.behind fork victim in
+    let apart : HeadsApart (AtPair pairs.Rename (drop way.walked p) (drop way.walked q)) (holdings_with (AtPair pairs.Rename p q) n way.behind (Some heads) victim) = subst (λ (z : Holdings). HeadsApart (AtPair pairs.Rename (drop way.walked p) (drop way.walked q)) z) same (can.heads _ refl) in
+    let moves : MovesApart store.graph (AtPair pairs.Rename (drop way.walked p) (drop way.walked q)) (holdings_with (AtPair pairs.Rename p q) n way.behind (Some heads) victim) = subst (λ (z : Holdings). MovesApart store.graph (AtPair pairs.Rename (drop way.walked p) (drop way.walked q)) z) same (can.apart _ refl) in
+    let below : MovesApart store.graph (AtPair pairs.Rename (drop heads.names p) (drop heads.names q)) (holdings_with (AtPair pairs.Rename p q) n way.behind (Some heads) victim) =
+    subst (λ (m : ℕ). MovesApart store.graph (AtPair pairs.Rename (drop m p) (drop m q)) (holdings_with (AtPair pairs.Rename p q) n way.behind (Some heads) victim)) (sym forked.names) moves in
+    subst (CanBy store (AtPair pairs.Rename p q) reserved) (sym (pair_is store.graph way n fork victim arrived p q node names forks))
+    (pair_can store p q heads n way.behind victim reserved text short forked.source forked.dest apart below)
+
+left_none : (k : ℕ) (l : Key) → drop k l ≡ [] → length l ≤ k
+left_none k l e = let h : length (drop k l) ≡ length l - k = length-drop k l in let z : length (drop k l) ≡ 0 = ap length e in omega (arith, h, z)
+
+can_by : (store : Seen) (call : Form) (way : Way) (fork : Option ForkWay) (victim reserved : Option ℕ) (e : Option Errno) (o : Option ℕ) → by_text call ≡ e → way.node ≡ o → way.names ≡ length (target call) → way.walked ≤ way.names → Forks call way fork
+    → CanFinish store.graph reserved (dropped way.walked call) (holdings_of call o way.behind fork victim) → CanBy store call reserved (plan_by store.graph e (dropped way.walked call) (holdings_of call o way.behind fork victim))
+can_by store call way fork victim reserved (Some e) o text node names within forks can = λ real. tt
+can_by store call way fork victim reserved None None text node names within forks can = λ real. tt
+can_by store call way fork victim reserved None (Some n) text node names within forks can = by (target (dropped way.walked call)) refl
+  where
+    st : Holdings
+    st = holdings_with call n way.behind fork victim
+
+    by : (l : Key) → target (dropped way.walked call) ≡ l → CanBy store call reserved (plan_at store.graph (dropped way.walked call) st)
+    by (z ∷ l) is = subst (CanBy store call reserved) (sym (lost_plan store.graph (dropped way.walked call) st z l is)) (λ real. tt)
+    by [] is =
+        let past : length (target call) ≤ way.walked = left_none way.walked (target call) (sym (target_drop way.walked call (omega arith)) ∙ is) in
+        arrived_can store call way n fork victim reserved text node names (omega arith) forks can
+
+-- the plan of a call in a store
+pub can_carry_out : (store : Seen) (call : Call) (way : Way) (fork : Option ForkWay) (victim reserved removed : Option ℕ) (outcome : Outcome) (plan : Plan) → IsOp (form call) way fork outcome → IsPlan store (op_value call way fork victim reserved removed outcome) plan
+    → CanFinish store.graph reserved (dropped way.walked (form call)) (holdings_of (form call) way.node way.behind fork victim) → CanCarryOut store (form call) reserved plan
+can_carry_out store call way fork victim reserved removed outcome plan op planned can =
+    subst (CanBy store (form call) reserved) (sym planned.is) (can_by store (form call) way fork victim reserved (by_text (form call)) way.node refl refl op.names op.within op.forks can) planned.real

@@ -1,36 +1,72 @@
 -- What both heads of a rename do next.
-use Rattle.std.proofs.Common.{◌≡◌, ℕ, ◌+◌, ◌≤◌, [], List, length, drop, slice_get, Option, Some, None, refl, sym, ap, ◌∙◌, arith}
+use Rattle.std.proofs.Common.{◌≡◌, ℕ, ◌+◌, ◌≤◌, Bool, true, false, ◌&&◌, ◌||◌, [], List, length, drop, slice_get, Option, Some, None, refl, sym, ap, ◌∙◌, arith}
+use Rattle.std.specs.Prelude.{not, is_some}
 use Rattle.fs_names.specs.Keys.{Key, parent_of, last_of, after_prefix, has_more, is_end}
 use Rattle.fs_names.specs.Names.{Name}
 use Rattle.fs_names.specs.Parts.{left, common}
-use Rattle.fs_names.specs.Shapes.{Shape, Dir}
+use Rattle.fs_names.specs.Shapes.{Shape, Dir, is_full}
 use Rattle.fs_calls.specs.Forms.{AtPair}
 use Rattle.fs_calls.specs.declared.target.PairCall.TheVariants as pairs
-use Rattle.fs_nodes.specs.Graphs.{Graph}
+use Rattle.fs_nodes.specs.Graphs.{Graph, entry_shape}
+use Rattle.fs_calls.specs.Rows.{answered, rename_fault, rename_row}
+use Rattle.fs_calls.specs.declared.errno.Errno.{Errno}
+use Rattle.fs_calls.specs.declared.reply.Reply.TheVariants.{Done}
+use Rattle.fs_finish.specs.Plans.{rename_plan, moving, moved_by}
+use Rattle.fs_finish.specs.declared.plan.Plan.{Plan}
 use Rattle.fs_walk.specs.declared.head.Head as count
 use Rattle.fs_walk.specs.declared.want.Want.TheVariants.{Arrived}
 use Rattle.fs_walk.specs.Ways.{Way, ForkWay, head_name}
 use Rattle.fs_walk.specs.Wants.{at_dir, dir_want, then_want, head_want, fork_want}
-use Rattle.fs_machine.specs.Moves.{dir_error, rename_move, fork_move, first_of, head_move, dir_then}
+use Rattle.fs_machine.specs.Moves.{dir_error, rename_move, fork_move, first_of, head_move, dir_then, same_kind, there_by, moved_node, take_if}
+use Rattle.fs_machine.specs.declared.moves.Move.TheVariants.{Finish as Finishes}
 use Rattle.fs_machine.specs.declared.moves.Move.{Move}
-use Rattle.fs_ops.specs.code.NextByNodes.{between_move, heads_move, want_then}
+use Rattle.fs_ops.specs.code.NextByNodes.{move_of, to_take, take_or, between_next, heads_next}
 use Rattle.fs_ops.specs.code.TakeAndLetGo.{started}
 use Rattle.fs_ops.specs.OpValue.{Forks, IsForked, head_of, holdings_with}
 use Rattle.fs_ops.proofs.KeyLemmas.{parent_drop, drop_get, drop_prefix, drop_prefix_back, common_parents, last_drop}
 use Rattle.fs_ops.proofs.TookLemmas.{ahead_none, started_forked, started_holdings}
-use Rattle.fs_ops.proofs.WantLemmas.{left_head, head_dir_tie, dir_tie, then_tie, then_arrived, dir_arrived, head_arrived, want_then_same}
+use Rattle.fs_ops.proofs.WantLemmas.{want_then, move_want, left_head, head_dir_tie, dir_tie, then_tie, then_arrived, dir_arrived, head_arrived, want_then_same}
 
 -- a head that has arrived at a directory met no error
 no_error : (l : Key) (s : Option Shape) (names : List Name) → l ≡ [] → s ≡ Some (Dir names) → dir_error l s ≡ None
 no_error l s names e f = rw (e, f) refl
 
-parent_reached : (graph : Graph) (p : Key) (k : ℕ) (head : count.Head) → k + head.walked ≤ length (parent_of p) → dir_want graph head (head_name p k head) ≡ Arrived
+pub parent_reached : (graph : Graph) (p : Key) (k : ℕ) (head : count.Head) → k + head.walked ≤ length (parent_of p) → dir_want graph head (head_name p k head) ≡ Arrived
     → dir_error (left (head_of p k head).walked (parent_of (drop k p))) (graph.shape head.node) ≡ None
 parent_reached graph p k head h e =
     let both = then_arrived (head_want graph head.node head.behind (head_name p k head)) (at_dir (graph.shape head.node)) e in
     let dir = dir_arrived (graph.shape head.node) both.1 in
     let name : slice_get (parent_of (drop k p)) head.walked ≡ None = ap (λ (l : Key). slice_get l head.walked) (parent_drop k p) ∙ (drop_get k head.walked (parent_of p) ∙ head_arrived graph head.node head.behind (head_name p k head) both.0) in
     no_error (left (head_of p k head).walked (parent_of (drop k p))) (graph.shape head.node) dir.0 (left_head k head.walked p h ∙ ahead_none (parent_of (drop k p)) head.walked name) dir.1
+
+-- ---- moves of plans
+
+pub move_take : (b : Bool) (there victim : Option ℕ) (plan : Plan) → move_of (take_or (to_take b there victim) plan) ≡ take_if b there victim (Finishes (moved_by plan))
+move_take true (Some n) None plan = refl
+move_take true (Some n) (Some v) plan = refl
+move_take true None victim plan = refl
+move_take false there victim plan = refl
+
+moved_rename : (fault : Option Errno) (same_path : Bool) (source dest : ℕ) (replaces : Bool) (victim child : Option ℕ)
+    → moved_by (rename_plan fault same_path (moving source dest replaces victim child)) ≡ moved_node (answered fault false Done (not same_path)).1 child
+moved_rename (Some e) same_path source dest replaces victim child = refl
+moved_rename None true source dest replaces victim child = refl
+moved_rename None false source dest replaces victim None = refl
+moved_rename None false source dest replaces victim (Some n) = refl
+
+-- a rename from one directory to another
+abbrev between_move : Graph → ℕ → Name → ℕ → Name → Bool → Bool → Bool → Option ℕ → Move
+between_move graph source x dest y same_path above one_parent victim =
+    take_if (same_kind (entry_shape graph source x) (entry_shape graph dest y) && not same_path && not above) (graph.child dest y) victim
+    (Finishes (moved_node (rename_row None None (entry_shape graph source x) same_path (there_by above (entry_shape graph dest y)) (one_parent || not (is_full (graph.shape dest)))).1 (graph.child source x)))
+
+move_between : (graph : Graph) (source : ℕ) (x : Name) (dest : ℕ) (y : Name) (same_path above one_parent : Bool) (victim : Option ℕ)
+    → move_of (between_next graph source x dest y same_path above one_parent victim) ≡ between_move graph source x dest y same_path above one_parent victim
+move_between graph source x dest y same_path above one_parent victim =
+    let wanted : Bool = same_kind (entry_shape graph source x) (entry_shape graph dest y) && not same_path && not above in
+    let fault : Option Errno = rename_fault None None (entry_shape graph source x) same_path (there_by above (entry_shape graph dest y)) (one_parent || not (is_full (graph.shape dest))) in
+    move_take wanted (graph.child dest y) victim _
+    ∙ ap (λ (m : Option ℕ). take_if wanted (graph.child dest y) victim (Finishes m)) (moved_rename fault same_path source dest (is_some (graph.child dest y)) victim (graph.child source x))
 
 -- with both parents held
 between_is : (graph : Graph) (p q : Key) (fork : ForkWay) (m : ℕ) (behind victim : Option ℕ) → fork.names + fork.source.walked ≤ length (parent_of p) → fork.names + fork.dest.walked ≤ length (parent_of q) → fork.names ≤ length (common (parent_of p) (parent_of q))
@@ -64,11 +100,13 @@ fork_tie graph p q fork behind victim m hs hd =
 
 -- a rename at its common directory does what its heads want, and then what it does between both parents
 rename_from : (graph : Graph) (p q : Key) (way : Way) (f : ForkWay) (victim : Option ℕ) (n : ℕ) → IsForked p q way f → way.node ≡ Some n → way.names ≡ length (common (parent_of p) (parent_of q))
-    → heads_move graph p q f victim ≡ fork_move graph (drop way.walked p) (drop way.walked q) (holdings_with (AtPair pairs.Rename p q) n way.behind (Some f) victim)
+    → move_of (heads_next graph p q f victim) ≡ fork_move graph (drop way.walked p) (drop way.walked q) (holdings_with (AtPair pairs.Rename p q) n way.behind (Some f) victim)
 rename_from graph p q way f victim n h at names =
     let short : f.names ≤ length (common (parent_of p) (parent_of q)) = (let a = h.names in let b = h.arrived in omega arith) in
     let same : f.node ≡ n = (let i : way.node ≡ Some f.node = h.node in cc) in
-    want_then_same (fork_want graph p q f) _ (rename_move graph (drop f.names p) (drop f.names q) (holdings_with (AtPair pairs.Rename p q) n way.behind (Some f) victim)) (between_is graph p q f n way.behind victim h.source h.dest short)
+    move_want (fork_want graph p q f) (between_next graph f.source.node (last_of p) f.dest.node (last_of q) (is_end (after_prefix p q)) (has_more (after_prefix q p)) (is_end (after_prefix (parent_of p) (parent_of q))) victim)
+    ∙ ap (want_then (fork_want graph p q f)) (move_between graph f.source.node (last_of p) f.dest.node (last_of q) (is_end (after_prefix p q)) (has_more (after_prefix q p)) (is_end (after_prefix (parent_of p) (parent_of q))) victim)
+    ∙ want_then_same (fork_want graph p q f) _ (rename_move graph (drop f.names p) (drop f.names q) (holdings_with (AtPair pairs.Rename p q) n way.behind (Some f) victim)) (between_is graph p q f n way.behind victim h.source h.dest short)
     ∙ sym (fork_tie graph p q f way.behind victim (rename_move graph (drop f.names p) (drop f.names q) (holdings_with (AtPair pairs.Rename p q) n way.behind (Some f) victim)) h.source h.dest)
     ∙ ap (λ (m : ℕ). dir_then (graph.shape m)
     (first_of (head_move graph f.source.node f.source.behind (left (head_of p f.names f.source).walked (parent_of (drop f.names p))))
@@ -78,7 +116,7 @@ rename_from graph p q way f victim n h at names =
     ∙ ap (λ (k : ℕ). fork_move graph (drop k p) (drop k q) (holdings_with (AtPair pairs.Rename p q) n way.behind (Some f) victim)) h.names
 
 pub rename_is : (graph : Graph) (p q : Key) (way : Way) (fork : Option ForkWay) (victim : Option ℕ) (n : ℕ) → way.node ≡ Some n → way.walked ≡ way.names → way.names ≡ length (common (parent_of p) (parent_of q)) → Forks (AtPair pairs.Rename p q) way fork
-    → heads_move graph p q (started fork n way.names) victim ≡ fork_move graph (drop way.walked p) (drop way.walked q) (holdings_with (AtPair pairs.Rename p q) n way.behind fork victim)
+    → move_of (heads_next graph p q (started fork n way.names) victim) ≡ fork_move graph (drop way.walked p) (drop way.walked q) (holdings_with (AtPair pairs.Rename p q) n way.behind fork victim)
 rename_is graph p q way fork victim n at all names forks =
     rename_from graph p q way (started fork n way.names) victim n (started_forked p q way fork n at all names forks) at names
     ∙ ap (fork_move graph (drop way.walked p) (drop way.walked q)) (sym (started_holdings (AtPair pairs.Rename p q) n way.names way.behind fork victim))

@@ -6,5 +6,6 @@ pub mod BeginLemmas
 pub mod NextLemmas
 pub mod ForkLemmas
 pub mod HeadLemmas
+pub mod PlanLemmas
 pub mod FinishLemmas
 pub mod RootLemmas

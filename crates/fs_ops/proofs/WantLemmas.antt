@@ -13,9 +13,25 @@ use Rattle.fs_walk.specs.Ways.{Way, head_name, name_ahead}
 use Rattle.fs_walk.specs.Wants.{name_want, head_want, then_want, at_dir, dir_want, want}
 use Rattle.fs_machine.specs.Moves.{first_of, walk_move, head_move, dir_then, target}
 use Rattle.fs_machine.specs.declared.moves.Move.{Move}
-use Rattle.fs_ops.specs.code.NextByNodes.{want_then}
-use Rattle.fs_ops.specs.OpValue.{first_path, dropped, head_of}
+use Rattle.fs_machine.specs.declared.moves.Move.TheVariants.{Take as Takes, LetGo as Leaves, Finish as Finishes}
+use Rattle.fs_ops.specs.code.NextByNodes.{move_of, want_next}
+use Rattle.fs_ops.specs.declared.next.Next.{Next}
+use Rattle.fs_finish.specs.Plans.{first_path}
+use Rattle.fs_ops.specs.OpValue.{dropped, head_of}
 use Rattle.fs_ops.proofs.KeyLemmas.{left_take, parent_drop, drop_get, target_drop, target_take}
+
+-- the move that a walk wants, and what comes when it has arrived; one that fails finishes
+abbrev pub want_then : Want → Move → Move
+want_then (Take n) next = Takes n
+want_then (LetGo n) next = Leaves n
+want_then Arrived next = next
+want_then (Fails e) next = Finishes None
+
+pub move_want : (w : Want) (next : Next) → move_of (want_next w next) ≡ want_then w (move_of next)
+move_want (Take n) next = refl
+move_want (LetGo n) next = refl
+move_want Arrived next = refl
+move_want (Fails e) next = refl
 
 name_tie : (s : Option Shape) (child : Option ℕ) (m : Move) → walk_move s child ≡ want_then (name_want s child) m
 name_tie None child m = refl

@@ -1,2 +1,3 @@
 pub mod OpValue
+pub mod PlanOf
 pub mod code

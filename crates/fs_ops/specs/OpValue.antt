@@ -11,20 +11,9 @@ use Rattle.fs_ops.specs.declared.outcome.Outcome.{Outcome}
 use Rattle.fs_ops.specs.declared.outcome.Outcome.TheVariants.{Open, Fixed}
 use Rattle.fs_machine.specs.Moves.{target}
 use Rattle.fs_machine.specs.Records.{Head, Holdings, head_at}
+use Rattle.fs_finish.specs.Plans.{first_path, second_path}
 use Rattle.fs_finish.specs.Rooms.{Suffices}
 use Rattle.fs_machine.specs.OpValues.{OpValue}
-
--- the path that is walked first
-abbrev pub first_path : Form → Key
-first_path (AtNode c p) = p
-first_path (AtEntry c p) = p
-first_path (AtPair pairs.Rename p q) = p
-
--- the path that is walked second
-abbrev pub second_path : Form → Key
-second_path (AtNode c p) = p
-second_path (AtEntry c p) = p
-second_path (AtPair pairs.Rename p q) = q
 
 -- the form of a call without so many first names of each path
 abbrev pub dropped : ℕ → Form → Form
@@ -88,5 +77,6 @@ IsReady call (Fixed reply) = Unit {0}
 -- what the fields of a call keep: the walk goes to the target
 pub record IsOp (call : Form) (way : Way) (fork : Option ForkWay) (outcome : Outcome) : Type 0 where
   pub names : way.names ≡ length (target call)
+  pub within : way.walked ≤ way.names
   pub forks : Forks call way fork
   pub ready : IsReady call outcome

@@ -1,5 +1,4 @@
 -- What ties the code to the definitions: of it nothing has to be believed.
-pub mod FinishByCounts
 pub mod NextByNodes
 pub mod TakeAndLetGo
 pub mod Reservations

@@ -4,10 +4,12 @@ ghost use Rattle.std.specs.Prelude.{◌≡◌, None};
 ghost use Rattle.fs_nodes.specs.Seen.{seen};
 ghost use Rattle.fs_nodes.specs.Stores.{graph_of};
 ghost use Rattle.fs_machine.specs.OpValues.{CanFinish, IsFinished, graph_after};
+ghost use Rattle.fs_ops.specs.PlanOf.{IsPlan};
 
-use crate::finish::finish;
 use crate::op::Op;
 use crate::outcome::Outcome;
+use fs_finish::carrying::carry_out;
+use fs_finish::plan::Plan;
 use fs_finish::room::Room;
 use fs_nodes::Store;
 
@@ -22,24 +24,17 @@ fn take_room(outcome: &mut Outcome) -> Room
 }
 
 impl Op {
-    /// Makes the call's change where it stands and fixes its reply, by its rows of the table of errors; an error changes nothing.
-    /// The buffers that it needs were allocated by `begin`.
-    pub fn carry_out(&mut self, store: &mut Store)
+    /// Does what the call's finish is in this store, as `next` found it, and fixes its reply; an error changes nothing. The buffers
+    /// that it needs were allocated by `begin`.
+    pub fn carry_out(&mut self, plan: Plan, store: &mut Store)
         requires unfinished { self.old.reply ≡ None }
         requires can { CanFinish (graph_of store.old) self.old.reserved self.old.remaining self.old.holdings }
+        requires plan { IsPlan (seen store.old) self.old plan }
         ensures op { IsFinished (graph_of store.old) self.old self.new }
         ensures change { seen store.new ≡ record (seen store.old) { graph = graph_after (graph_of store.old) self.old } }
     {
         let prepared = take_room(&mut self.outcome);
-        let done = finish(
-            &self.call,
-            &self.walk,
-            &self.fork,
-            self.victim,
-            self.reserved,
-            prepared,
-            store,
-        );
+        let done = carry_out(self.call.target(), plan, self.reserved, prepared, store);
         self.reserved = done.reserved;
         self.removed = done.removed;
         self.outcome = Outcome::Fixed(done.replies);

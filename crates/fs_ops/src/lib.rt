@@ -2,24 +2,24 @@
 //!
 //! `Op::begin` allocates all that its call can need, and reserves a number for a node that it may add. From then on
 //! `Op::next` answers the next move, and the caller tells what came of it by `took`, `let_go`, `carry_out` and, at
-//! last, `end`. Each of these does what the machine's definitions say, and none of them needs memory. An `Op` knows of
-//! no other call: who holds a node, and whom a rename helps, is decided in `fs_core`.
+//! last, `end`. Each of these does what the machine's definitions say, and none of them needs memory. What a finish does is
+//! found once, by `next`: its plan is handed to `carry_out`, which looks nothing up. An `Op` knows of no other call: who
+//! holds a node, and whom a rename helps, is decided in `fs_core`.
 //!
 //! Enter at `Op::begin` and `Op::next`. The definitions that the contracts cite are `fs_machine/specs/OpValues.antt` and
-//! `Moves.antt`. `specs/OpValue.antt` here says what the fields of an `Op` are in these words; `specs/code/` ties the code
-//! to them, and changes no meaning. The modules are named as what they do: `begin`, `next`, `take`, and so on.
+//! `Moves.antt`, and `specs/PlanOf.antt` here for plans. `specs/OpValue.antt` says what the fields of an `Op` are in these
+//! words; `specs/code/` ties the code to them, and changes no meaning. The modules are named as what they do: `begin`, `next`,
+//! `take`, and so on.
 #![tactic(auto)]
 
 mod begin;
 mod carry_out;
 mod end;
-mod finish;
-mod heads;
 mod let_go;
-mod next;
+pub mod next;
 pub mod op;
 mod outcome;
 mod take;
 
-pub use fs_machine::Move;
+pub use next::Next;
 pub use op::Op;

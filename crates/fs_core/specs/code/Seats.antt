@@ -1,8 +1,11 @@
 -- Changes of what is on one seat, and moves of the call there.
 use Rattle.std.specs.Prelude.{ℕ, ◌≡◌, Option, Some, None, slice_get}
+use Rattle.fs_nodes.specs.Seen.{seen}
 use Rattle.fs_nodes.specs.Stores.{graph_of}
+use Rattle.fs_finish.specs.declared.plan.Plan.{Plan}
 use Rattle.fs_machine.specs.declared.moves.Move.{Move}
 use Rattle.fs_machine.specs.OpValues.{OpValue, next_of}
+use Rattle.fs_ops.specs.PlanOf.{IsPlan}
 use Rattle.fs_core.specs.declared.seat.Running.{Running}
 use Rattle.fs_core.specs.CoreValues.{CoreValue}
 
@@ -16,6 +19,10 @@ pub record MovesOn (machine : CoreValue) (seat call : ℕ) (move : Move) : Type 
 -- whether another call gave it its place
 abbrev pub PlacedOn : CoreValue → ℕ → Option ℕ → Type 0
 PlacedOn machine seat place = (running : Running) → slice_get machine.seats seat ≡ Some (Some running) → running.place ≡ place
+
+-- what its finish does, in the store as it is
+abbrev pub PlansOn : CoreValue → ℕ → Plan → Type 0
+PlansOn machine seat plan = (running : Running) → slice_get machine.seats seat ≡ Some (Some running) → IsPlan (seen machine.store) running.op plan
 
 -- what may happen to the call on a seat: its value is another one
 abbrev pub Goes : (OpValue → OpValue → Type 0) → Option Running → Option Running → Type 0

@@ -1,18 +1,45 @@
--- Next moves by the nodes where a call stands.
-use Rattle.std.specs.Prelude.{ℕ, Bool, not, ◌&&◌, Option, Some, None}
+-- What a call does next, by the nodes where it stands.
+use Rattle.std.specs.Prelude.{ℕ, Bool, not, ◌&&◌, ◌||◌, true, is_some, Option, Some, None}
 use Rattle.fs_names.specs.Keys.{Key, parent_of, last_of, after_prefix, has_more, is_end}
 use Rattle.fs_names.specs.Names.{Name}
-use Rattle.fs_calls.specs.Forms.{Form}
+use Rattle.fs_names.specs.Shapes.{is_full}
+use Rattle.fs_calls.specs.Forms.{Form, AtNode, AtEntry, AtPair, new_shape}
+use Rattle.fs_calls.specs.declared.target.EntryCall.{EntryCall}
+use Rattle.fs_calls.specs.declared.target.PairCall.TheVariants as pairs
+use Rattle.fs_calls.specs.Rows.{as_dir, entry_fault, rename_fault}
 use Rattle.fs_nodes.specs.Graphs.{Graph, entry_shape}
-use Rattle.fs_walk.specs.Ways.{ForkWay, fork_last}
-use Rattle.fs_walk.specs.Wants.{fork_want}
+use Rattle.fs_nodes.specs.Seen.{Seen, IsReal}
+use Rattle.fs_walk.specs.Ways.{Way, ForkWay, fork_last}
+use Rattle.fs_walk.specs.Wants.{want, fork_want}
 use Rattle.fs_walk.specs.declared.want.Want.{Want}
 use Rattle.fs_walk.specs.declared.want.Want.TheVariants as wants
-use Rattle.fs_finish.specs.Endings.{rename_reply}
-use Rattle.fs_machine.specs.Moves.{take_if, same_kind, moved_node, next_on}
+use Rattle.fs_finish.specs.Plans.{entry_plan, rename_plan, moving, moved_by, first_path, Changes}
+use Rattle.fs_finish.specs.declared.plan.Plan.{Plan}
+use Rattle.fs_finish.specs.declared.plan.Plan.TheVariants.{Fails, Answers}
+use Rattle.fs_machine.specs.Moves.{same_kind, there_by, victim_of}
 use Rattle.fs_machine.specs.declared.moves.Move.{Move}
-use Rattle.fs_machine.specs.declared.moves.Move.TheVariants.{Take as Takes, LetGo as Leaves, Finish as Finishes, Return as Ends}
-use Rattle.fs_machine.specs.Records.{Holdings}
+use Rattle.fs_machine.specs.declared.moves.Move.TheVariants as moves
+use Rattle.fs_ops.specs.declared.next.Next.{Next}
+use Rattle.fs_ops.specs.declared.next.Next.TheVariants.{Take as Takes, LetGo as Leaves, Finish as Finishes, Return as Ends}
+use Rattle.fs_ops.specs.code.TakeAndLetGo.{started}
+
+-- the move that it is
+abbrev pub move_of : Next → Move
+move_of (Takes n) = moves.Take n
+move_of (Leaves n) = moves.LetGo n
+move_of (Finishes plan) = moves.Finish (moved_by plan)
+move_of Ends = moves.Return
+
+-- what holds of the plan of a finish
+abbrev pub IfFinish : Next → (Plan → Type 0) → Type 0
+IfFinish (Takes n) P = Unit {0}
+IfFinish (Leaves n) P = Unit {0}
+IfFinish (Finishes plan) P = P plan
+IfFinish Ends P = Unit {0}
+
+-- a finish that changes a directory was found in a store
+abbrev pub IsFound : Next → Seen → Type 0
+IsFound next store = IfFinish next (λ plan. Changes plan (IsReal store))
 
 -- the node that was taken last: the victim, or that of the head that walked last, or that of the walk
 abbrev pub held_last : ℕ → Option ForkWay → Option ℕ → ℕ
@@ -21,32 +48,60 @@ held_last n (Some fork) None = fork_last fork
 held_last n None None = n
 
 -- a finished call lets it go; one that holds nothing returns
-abbrev pub last_move : Option ℕ → Option ForkWay → Option ℕ → Move
-last_move None fork victim = Ends
-last_move (Some n) fork victim = Leaves (held_last n fork victim)
+abbrev pub last_next : Option ℕ → Option ForkWay → Option ℕ → Next
+last_next None fork victim = Ends
+last_next (Some n) fork victim = Leaves (held_last n fork victim)
 
--- a call that is not finished, and that its paths do not decide: it takes the root first
-abbrev pub way_move : Graph → Form → Option Holdings → Move
-way_move graph remaining None = Takes 0
-way_move graph remaining (Some st) = next_on graph remaining st
+-- a victim that is wanted, there and not yet held
+abbrev pub to_take : Bool → Option ℕ → Option ℕ → Option ℕ
+to_take true (Some n) None = Some n
+to_take _ _ _ = None
 
--- a rename from one directory to another: it takes a node that it replaces, and else finishes
-abbrev pub between_move : Graph → ℕ → Name → ℕ → Name → Bool → Bool → Bool → Option ℕ → Move
-between_move graph source x dest y same_path above one_parent victim =
-    take_if
-    (same_kind (entry_shape graph source x) (entry_shape graph dest y) && not same_path && not above)
-    (graph.child dest y) victim
-    (Finishes (moved_node (rename_reply graph source x dest y same_path above one_parent).1 (graph.child source x)))
+-- is taken, and else the call finishes
+abbrev pub take_or : Option ℕ → Plan → Next
+take_or (Some n) plan = Takes n
+take_or None plan = Finishes plan
+
+-- a call on an entry at its directory
+abbrev pub entry_next : Graph → ℕ → EntryCall → Name → Option ℕ → Next
+entry_next graph n c x victim =
+    take_or (to_take (victim_of c (entry_shape graph n x)) (graph.child n x) victim)
+    (entry_plan (entry_fault c (as_dir None (graph.shape n)) (is_full (graph.shape n)) (entry_shape graph n x)) (new_shape c) n)
+
+-- a rename from one directory to another
+abbrev pub between_next : Graph → ℕ → Name → ℕ → Name → Bool → Bool → Bool → Option ℕ → Next
+between_next graph source x dest y same_path above one_parent victim =
+    take_or
+    (to_take (same_kind (entry_shape graph source x) (entry_shape graph dest y) && not same_path && not above) (graph.child dest y) victim)
+    (rename_plan
+    (rename_fault None None (entry_shape graph source x) same_path (there_by above (entry_shape graph dest y)) (one_parent || not (is_full (graph.shape dest))))
+    same_path
+    (moving source dest (is_some (graph.child dest y)) victim (graph.child source x)))
 
 -- what a walk wants, and what comes when it has arrived; one that fails finishes
-abbrev pub want_then : Want → Move → Move
-want_then (wants.Take n) next = Takes n
-want_then (wants.LetGo n) next = Leaves n
-want_then wants.Arrived next = next
-want_then (wants.Fails e) next = Finishes None
+abbrev pub want_next : Want → Next → Next
+want_next (wants.Take n) next = Takes n
+want_next (wants.LetGo n) next = Leaves n
+want_next wants.Arrived next = next
+want_next (wants.Fails e) next = Finishes (Fails e)
 
 -- what both heads of a rename want, and what comes at both parents
-abbrev pub heads_move : Graph → Key → Key → ForkWay → Option ℕ → Move
-heads_move graph p q fork victim =
-    want_then (fork_want graph p q fork)
-    (between_move graph fork.source.node (last_of p) fork.dest.node (last_of q) (is_end (after_prefix p q)) (has_more (after_prefix q p)) (is_end (after_prefix (parent_of p) (parent_of q))) victim)
+abbrev pub heads_next : Graph → Key → Key → ForkWay → Option ℕ → Next
+heads_next graph p q fork victim =
+    want_next (fork_want graph p q fork)
+    (between_next graph fork.source.node (last_of p) fork.dest.node (last_of q) (is_end (after_prefix p q)) (has_more (after_prefix q p)) (is_end (after_prefix (parent_of p) (parent_of q))) victim)
+
+-- a call at its target, to which so many names lead
+abbrev pub target_next : Graph → Form → ℕ → ℕ → Option ForkWay → Option ℕ → Next
+target_next graph (AtNode c p) n names fork victim = Finishes (Answers n)
+target_next graph (AtEntry c p) n names fork victim = entry_next graph n c (last_of p) victim
+target_next graph (AtPair pairs.Rename p q) n names fork victim = heads_next graph p q (started fork n names) victim
+
+-- a call that is not finished, and that its paths do not decide: it takes the root first
+abbrev pub way_next_at : Graph → Form → Way → Option ℕ → Option ForkWay → Option ℕ → Next
+way_next_at graph call way None fork victim = Takes 0
+way_next_at graph call way (Some n) fork victim = want_next (want graph (first_path call) way) (target_next graph call n way.names fork victim)
+
+-- the same by where its walk is
+abbrev pub way_next : Graph → Form → Way → Option ForkWay → Option ℕ → Next
+way_next graph call way fork victim = way_next_at graph call way way.node fork victim

@@ -1,23 +1,44 @@
-use Rattle.std.proofs.Common.{ap, ◌∙◌}
+use Rattle.std.proofs.Common.{ap, sym, subst, ◌∙◌}
+use Rattle.fs_calls.specs.Forms.{Form}
 use Rattle.fs_nodes.specs.Graphs.{Graph}
 use Rattle.fs_nodes.specs.Seen.{seen}
 use Rattle.fs_nodes.specs.Stores.{graph_of}
+use Rattle.fs_finish.specs.Endings.{IsEffect}
+use Rattle.fs_finish.specs.Plans.{carried, CanCarryOut}
 use Rattle.fs_ops.specs.declared.outcome.Outcome.TheVariants.{Fixed}
 use Rattle.fs_ops.specs.OpValue.{op_value}
-use Rattle.fs_machine.specs.OpValues.{graph_after}
-use Rattle.fs_ops.proofs.FinishLemmas.{finished_is, graph_is, finished_as}
+use Rattle.fs_ops.specs.PlanOf.{IsPlan}
+use Rattle.fs_machine.specs.OpValues.{OpValue, CanFinish, graph_after}
+use Rattle.fs_ops.proofs.FinishLemmas.{finished_is, graph_is, finished_as, can_carry_out}
 use Rattle.fs_ops.proofs.op.Op.carry_out.Goals as goal
+
+pub carry_out-done-requires-clause-can : goal.carry_out-done-requires-clause-can
+carry_out-done-requires-clause-can c =
+    let o = c.self.inside in
+    let store = seen c.args.store.now in
+    subst (λ (f : Form). CanCarryOut store f o.reserved c.args.plan) (sym c.target.ensures)
+    (can_carry_out store o.call o.walk o.fork o.victim o.reserved o.removed o.outcome c.args.plan c.self.invariant
+    (subst (λ (w : OpValue). IsPlan store w c.args.plan) (sym c.self.view_is) c.requires.plan)
+    (subst (λ (w : OpValue). CanFinish store.graph w.reserved w.remaining w.holdings) (sym c.self.view_is) c.requires.can))
 
 pub returns-clause-op : goal.returns-clause-op
 returns-clause-op c =
     let o = c.self.inside in
-    finished_as (graph_of c.args.store.now) _ c.args.self.now (op_value o.call o.walk o.fork o.victim c.finish-done.result.reserved c.finish-done.result.removed (Fixed c.finish-done.result.replies)) c.self.view_is
-    (finished_is (graph_of c.args.store.now) o.call o.walk o.fork o.victim o.reserved o.removed o.outcome c.finish-done.result (graph_of c.finish-done.new.store) c.finish-done.ensures.made)
+    let g = graph_of c.args.store.now in
+    let new = graph_of c.carry_out-done.new.store in
+    let is = (subst (λ (w : OpValue). IsPlan (seen c.args.store.now) w c.args.plan) (sym c.self.view_is) c.requires.plan).is in
+    finished_as g _ c.args.self.now (op_value o.call o.walk o.fork o.victim c.carry_out-done.result.reserved c.carry_out-done.result.removed (Fixed c.carry_out-done.result.replies)) c.self.view_is
+    (finished_is g o.call o.walk o.fork o.victim o.reserved o.removed o.outcome c.self.invariant c.args.plan is c.carry_out-done.result new
+    (subst (λ (f : Form). IsEffect (carried g f o.reserved c.args.plan) c.carry_out-done.result new) c.target.ensures c.carry_out-done.ensures.made))
 
 pub returns-clause-change : goal.returns-clause-change
 returns-clause-change c =
     let o = c.self.inside in
-    c.finish-done.ensures.rest
-    ∙ ap (λ (g : Graph). record (seen c.args.store.now) { graph = g })
-    (graph_is (graph_of c.args.store.now) o.call o.walk o.fork o.victim o.reserved o.removed o.outcome c.finish-done.result (graph_of c.finish-done.new.store) c.finish-done.ensures.made
-    ∙ ap (graph_after (graph_of c.args.store.now)) c.self.view_is)
+    let g = graph_of c.args.store.now in
+    let new = graph_of c.carry_out-done.new.store in
+    let is = (subst (λ (w : OpValue). IsPlan (seen c.args.store.now) w c.args.plan) (sym c.self.view_is) c.requires.plan).is in
+    c.carry_out-done.ensures.rest
+    ∙ ap (λ (h : Graph). record (seen c.args.store.now) { graph = h })
+    (graph_is g o.call o.walk o.fork o.victim o.reserved o.removed o.outcome c.self.invariant c.args.plan is c.carry_out-done.result new
+    (subst (λ (f : Form). IsEffect (carried g f o.reserved c.args.plan) c.carry_out-done.result new) c.target.ensures c.carry_out-done.ensures.made)
+    ∙ ap (graph_after g) c.self.view_is)

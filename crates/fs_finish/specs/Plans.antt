@@ -1,0 +1,135 @@
+-- What a finish does, by its row of the table of errors, and the effect of that.
+use Rattle.std.specs.Prelude.{ℕ, ◌≡◌, ◌≢◌, ◌<◌, Bool, true, false, IsTrue, IfSome, IsSome, is_some, length, Option, Some, None}
+use Rattle.fs_names.specs.Keys.{Key, last_of}
+use Rattle.fs_names.specs.Names.{Name}
+use Rattle.fs_names.specs.Shapes.{Shape, is_dir, has_entries}
+use Rattle.fs_nodes.specs.Graphs.{Graph, linked_in, unlinked_in, moved_in, IsReached}
+use Rattle.fs_nodes.specs.Seen.{Seen, IsReal}
+use Rattle.fs_calls.specs.Forms.{Form, AtNode, AtEntry, AtPair}
+use Rattle.fs_calls.specs.declared.target.PairCall.TheVariants as pairs
+use Rattle.fs_calls.specs.Rows.{node_row}
+use Rattle.fs_calls.specs.declared.errno.Errno.{Errno}
+use Rattle.fs_calls.specs.declared.reply.Reply.TheVariants.{Done, Failed}
+use Rattle.fs_finish.specs.declared.plan.Moving.{Moving}
+use Rattle.fs_finish.specs.declared.plan.Plan.{Plan}
+use Rattle.fs_finish.specs.declared.plan.Plan.TheVariants.{Fails, Stays, Answers, Adds, Removes, Moves}
+use Rattle.fs_machine.specs.Finishes.{Effect, no_effect, node_effect}
+use Rattle.fs_machine.specs.OpValues.{SpareIf}
+
+-- ---- plans, by the first error of a row
+
+-- a call on a node
+abbrev pub node_plan : Option Errno → ℕ → Plan
+node_plan (Some e) n = Fails e
+node_plan None n = Answers n
+
+-- a call on an entry, by what it would add: one that adds nothing removes
+abbrev pub entry_plan : Option Errno → Option Shape → ℕ → Plan
+entry_plan (Some e) new dir = Fails e
+entry_plan None (Some shape) dir = Adds dir
+entry_plan None None dir = Removes dir
+
+-- a rename, by whether both paths are one, and by what it would do
+abbrev pub rename_plan : Option Errno → Bool → Plan → Plan
+rename_plan (Some e) same_path plan = Fails e
+rename_plan None true plan = Stays
+rename_plan None false plan = plan
+
+-- a node that is there goes from one directory to the other
+abbrev pub moving : ℕ → ℕ → Bool → Option ℕ → Option ℕ → Plan
+moving source dest replaces victim None = Stays
+moving source dest replaces victim (Some n) = Moves (record { source = source; dest = dest; moved = n; replaces = replaces; victim = victim })
+
+-- the node that a finish would really move
+abbrev pub moved_by : Plan → Option ℕ
+moved_by (Fails e) = None
+moved_by Stays = None
+moved_by (Answers n) = None
+moved_by (Adds dir) = None
+moved_by (Removes dir) = None
+moved_by (Moves m) = Some m.moved
+
+-- ---- their effects
+
+-- the path that is walked first
+abbrev pub first_path : Form → Key
+first_path (AtNode c p) = p
+first_path (AtEntry c p) = p
+first_path (AtPair pairs.Rename p q) = p
+
+-- the path that is walked second
+abbrev pub second_path : Form → Key
+second_path (AtNode c p) = p
+second_path (AtEntry c p) = p
+second_path (AtPair pairs.Rename p q) = q
+
+-- a call on a node answers there; the others have no answer of their own
+abbrev pub answered_at : Graph → Form → ℕ → Option ℕ → Effect
+answered_at graph (AtNode c p) n reserved = node_effect graph n reserved (node_row c None (graph.shape n))
+answered_at graph (AtEntry c p) n reserved = no_effect Done graph reserved
+answered_at graph (AtPair pairs.Rename p q) n reserved = no_effect Done graph reserved
+
+-- the reserved number gets an entry
+abbrev pub added : Graph → ℕ → Name → Option ℕ → Effect
+added graph dir x None = no_effect Done graph None
+added graph dir x (Some n) = record { reply = Done; graph = linked_in dir x n graph; reserved = None; removed = None }
+
+-- an entry goes
+abbrev pub removed : Graph → ℕ → Name → Option ℕ → Effect
+removed graph dir x reserved = record { reply = Done; graph = unlinked_in dir x graph; reserved = reserved; removed = graph.child dir x }
+
+-- an entry goes to another directory, or to another name
+abbrev pub moved : Graph → Moving → Name → Name → Option ℕ → Effect
+moved graph m x y reserved = record { reply = Done; graph = moved_in m.source x m.dest y m.moved graph; reserved = reserved; removed = m.victim }
+
+-- a plan that is carried out
+abbrev pub carried : Graph → Form → Option ℕ → Plan → Effect
+carried graph call reserved (Fails e) = no_effect (Failed e) graph reserved
+carried graph call reserved Stays = no_effect Done graph reserved
+carried graph call reserved (Answers n) = answered_at graph call n reserved
+carried graph call reserved (Adds dir) = added graph dir (last_of (first_path call)) reserved
+carried graph call reserved (Removes dir) = removed graph dir (last_of (first_path call)) reserved
+carried graph call reserved (Moves m) = moved graph m (last_of (first_path call)) (last_of (second_path call)) reserved
+
+-- ---- what they need of the store
+
+-- what a node was found by, among others that the store is one
+abbrev pub Changes : Plan → Type 0 → Type 0
+Changes (Fails e) R = Unit {0}
+Changes Stays R = Unit {0}
+Changes (Answers n) R = Unit {0}
+Changes (Adds dir) R = R
+Changes (Removes dir) R = R
+Changes (Moves m) R = R
+
+-- a directory where the name is free, and a number that is not its own
+pub record CanAdd (store : Seen) (n : ℕ) (x : Name) (reserved : Option ℕ) : Type 0 where
+  pub real : IsReal store
+  pub dir : IsTrue (is_dir (store.graph.shape n))
+  pub absent : store.graph.child n x ≡ None
+  pub spare : SpareIf store.graph reserved
+  pub other : reserved ≢ Some n
+
+-- an entry of a node without entries
+pub record CanRemove (store : Seen) (dir : ℕ) (x : Name) : Type 0 where
+  pub there : IsSome (store.graph.child dir x)
+  pub bare : IfSome (store.graph.child dir x) (λ n. has_entries (store.graph.shape n) ≡ false)
+
+-- an entry, and another name in a directory that is not below what it names; what stands there has no entries
+pub record CanMove (store : Seen) (m : Moving) (x y : Name) : Type 0 where
+  pub real : IsReal store
+  pub there : store.graph.child m.source x ≡ Some m.moved
+  pub dir : IsTrue (is_dir (store.graph.shape m.dest))
+  pub replaces : m.replaces ≡ is_some (store.graph.child m.dest y)
+  pub bare : IfSome (store.graph.child m.dest y) (λ n. has_entries (store.graph.shape n) ≡ false)
+  pub apart : m.source ≡ m.dest → x ≡ y → ⊥
+  pub below : IsReached store.graph.child m.moved m.dest → ⊥
+
+-- a plan that can be carried out, of a call whose paths have names where it needs them
+abbrev pub CanCarryOut : Seen → Form → Option ℕ → Plan → Type 0
+CanCarryOut store call reserved (Fails e) = Unit {0}
+CanCarryOut store call reserved Stays = Unit {0}
+CanCarryOut store call reserved (Answers n) = Unit {0}
+CanCarryOut store call reserved (Adds dir) = (0 < length (first_path call)) × CanAdd store dir (last_of (first_path call)) reserved
+CanCarryOut store call reserved (Removes dir) = (0 < length (first_path call)) × CanRemove store dir (last_of (first_path call))
+CanCarryOut store call reserved (Moves m) = (0 < length (first_path call)) × (0 < length (second_path call)) × CanMove store m (last_of (first_path call)) (last_of (second_path call))

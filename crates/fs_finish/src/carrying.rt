@@ -1,0 +1,86 @@
+//! A plan is carried out.
+
+ghost use Rattle.std.specs.Prelude.{◌≡◌, None};
+ghost use Rattle.fs_nodes.specs.Seen.{seen};
+ghost use Rattle.fs_nodes.specs.Stores.{shape, graph_of};
+ghost use Rattle.fs_calls.specs.Rows.{node_row};
+ghost use Rattle.fs_calls.specs.code.Targets.{form_of, node_call};
+ghost use Rattle.fs_finish.specs.Endings.{IsEffect};
+ghost use Rattle.fs_finish.specs.Plans.{carried, answered_at, CanCarryOut};
+ghost use Rattle.fs_finish.specs.Replies.{refilled};
+ghost use Rattle.fs_finish.specs.Rooms.{Suffices, SufficesFor};
+ghost use Rattle.fs_machine.specs.OpValues.{IsBounded};
+
+use crate::entries::{add, remove};
+use crate::finish::Finish;
+use crate::paths::{first_path, second_path};
+use crate::plan::Plan;
+use crate::queries::{read, readdir, stat};
+use crate::rename::rename;
+use crate::replies::Replies;
+use crate::room::Room;
+use crate::write::{truncate, write};
+use fs_calls::{NodeCall, Target};
+use fs_nodes::{NodeNo, Store};
+
+/// A call on a node replies there, and changes its bytes.
+fn answer(call: NodeCall<'_>, node: NodeNo, prepared: Room, store: &mut Store) -> Replies
+    requires bounded { IsBounded (graph_of store.old) }
+    requires room { SufficesFor (node_call call) prepared }
+    ensures reply { result ≡ (node_row (node_call call.entry) None (shape store.old node)).0 }
+    ensures change { seen store.new ≡ record (seen store.old) { graph = refilled node (node_row (node_call call.entry) None (shape store.old node)).1 (graph_of store.old) } }
+{
+    match call {
+        NodeCall::Stat => stat(store, node),
+        NodeCall::Readdir => readdir(store, node, prepared),
+        NodeCall::Read(off, count) => read(store, node, off, count, prepared),
+        NodeCall::Write(off, bytes) => write(store, node, off, bytes.as_slice(), prepared),
+        NodeCall::Truncate(size) => truncate(store, node, size, prepared),
+    }
+}
+
+/// A call answers at a node.
+fn answer_at(
+    aim: Target<'_>,
+    node: NodeNo,
+    reserved: Option<NodeNo>,
+    prepared: Room,
+    store: &mut Store,
+) -> Finish
+    requires bounded { IsBounded (graph_of store.old) }
+    requires room { Suffices (form_of aim) prepared }
+    ensures made { IsEffect (answered_at (graph_of store.old) (form_of aim.entry) node reserved) result (graph_of store.new) }
+    ensures rest { seen store.new ≡ record (seen store.old) { graph = graph_of store.new } }
+{
+    match aim {
+        Target::Node(call, _) => Finish::kept(answer(call, node, prepared, store), reserved),
+        Target::Entry(_, _) | Target::Pair(_, _, _) => Finish::kept(Replies::done(), reserved),
+    }
+}
+
+/// Does what a plan says, of a call at this target that has this number reserved and this room prepared.
+pub fn carry_out(
+    aim: Target<'_>,
+    plan: Plan,
+    reserved: Option<NodeNo>,
+    prepared: Room,
+    store: &mut Store,
+) -> Finish
+    requires bounded { IsBounded (graph_of store.old) }
+    requires room { Suffices (form_of aim) prepared }
+    requires can { CanCarryOut (seen store.old) (form_of aim) reserved plan }
+    ensures made { IsEffect (carried (graph_of store.old) (form_of aim.entry) reserved plan) result (graph_of store.new) }
+    ensures rest { seen store.new ≡ record (seen store.old) { graph = graph_of store.new } }
+{
+    match plan {
+        Plan::Fails(errno) => Finish::failed(errno, reserved),
+        Plan::Stays => Finish::kept(Replies::done(), reserved),
+        Plan::Answers(node) => answer_at(aim, node, reserved, prepared, store),
+        Plan::Adds(dir) => add(store, dir, first_path(aim).last_name(), reserved),
+        Plan::Removes(dir) => remove(store, dir, first_path(aim).last_name(), reserved),
+        Plan::Moves(moving) => {
+            let (from, to) = (first_path(aim), second_path(aim));
+            rename(store, moving, from.last_name(), to.last_name(), reserved)
+        }
+    }
+}

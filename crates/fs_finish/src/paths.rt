@@ -1,0 +1,53 @@
+//! The paths of a call, and how those of a rename stand to each other.
+
+ghost use Rattle.std.specs.Prelude.{◌≡◌};
+ghost use Rattle.fs_names.specs.Keys.{after_prefix, is_proper_prefix, parent_of, is_end};
+ghost use Rattle.fs_calls.specs.code.Targets.{form_of};
+ghost use Rattle.fs_finish.specs.Plans.{first_path, second_path};
+
+use fs_calls::Target;
+use fs_names::Path;
+
+/// The path that a call walks first.
+pub fn first_path<'a>(aim: Target<'a>) -> &'a Path
+    ensures { result.now ≡ first_path (form_of aim.entry) }
+{
+    match aim {
+        Target::Node(_, path) | Target::Entry(_, path) | Target::Pair(_, path, _) => path,
+    }
+}
+
+/// The path that it walks second: for all calls but a rename the same one.
+pub fn second_path<'a>(aim: Target<'a>) -> &'a Path
+    ensures { result.now ≡ second_path (form_of aim.entry) }
+{
+    match aim {
+        Target::Node(_, path) | Target::Entry(_, path) | Target::Pair(_, _, path) => path,
+    }
+}
+
+/// How the paths of a rename stand to each other.
+#[derive(Clone, Copy, Debug, PartialEq, Eq)]
+pub struct Paths {
+    /// Both are the same.
+    pub same: bool,
+    /// The new one is a proper prefix of the old one.
+    pub above: bool,
+    /// They have one parent.
+    pub one_parent: bool,
+}
+
+impl Paths {
+    /// How a path and the new one stand to each other.
+    pub fn new(path: &Path, new_path: &Path) -> Paths
+        ensures same { result.same ≡ is_end (after_prefix path.now new_path.now) }
+        ensures above { result.above ≡ is_proper_prefix new_path.now path.now }
+        ensures one_parent { result.one_parent ≡ is_end (after_prefix (parent_of path.now) (parent_of new_path.now)) }
+    {
+        Paths {
+            same: path.same(new_path),
+            above: new_path.is_proper_prefix_of(path),
+            one_parent: path.has_parent_of(new_path),
+        }
+    }
+}

@@ -1,0 +1,54 @@
+//! What a finish does, found before it is done.
+
+ghost use Rattle.std.specs.Prelude.{◌≡◌};
+ghost use Rattle.fs_finish.specs.Plans.{moved_by};
+
+use fs_calls::Errno;
+use fs_nodes::NodeNo;
+
+/// An entry that goes to another directory, or to another name.
+#[derive(Clone, Copy, Debug, PartialEq, Eq)]
+pub struct Moving {
+    /// Where its entry is.
+    pub source: NodeNo,
+    /// Where it goes.
+    pub dest: NodeNo,
+    /// What the entry names.
+    pub moved: NodeNo,
+    /// Whether the new name has an entry, which goes first.
+    pub replaces: bool,
+    /// The node that the new name had, as the call holds it: it is removed.
+    pub victim: Option<NodeNo>,
+}
+
+/// What the finish of a call does, by its row of the table of errors and at these nodes. It is good for the state in which it
+/// was found, until something changes there.
+#[derive(Clone, Copy, Debug, PartialEq, Eq)]
+pub enum Plan {
+    /// The call fails and changes nothing.
+    Fails(Errno),
+    /// It changes nothing: a rename of a path to itself.
+    Stays,
+    /// A call on a node reads or changes what is there.
+    Answers(NodeNo),
+    /// The reserved number gets an entry in this directory.
+    Adds(NodeNo),
+    /// An entry of this directory goes.
+    Removes(NodeNo),
+    /// An entry moves.
+    Moves(Moving),
+}
+
+impl Plan {
+    /// The node that the finish would really move.
+    pub fn moved(&self) -> Option<NodeNo>
+        ensures { result ≡ moved_by self.now }
+    {
+        match self {
+            Plan::Moves(moving) => Some(moving.moved),
+            Plan::Fails(_) | Plan::Stays | Plan::Answers(_) | Plan::Adds(_) | Plan::Removes(_) => {
+                None
+            }
+        }
+    }
+}

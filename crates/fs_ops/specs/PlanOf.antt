@@ -1,0 +1,64 @@
+-- The plan of a call's finish, by what its code keeps.
+use Rattle.std.specs.Prelude.{◌≡◌, ◌||◌, not, is_some, [], ◌∷◌, Option, Some, None}
+use Rattle.fs_names.specs.Keys.{Key, after_prefix, has_more, is_end, parent_of, last_of}
+use Rattle.fs_names.specs.Parts.{left}
+use Rattle.fs_names.specs.Shapes.{is_full}
+use Rattle.fs_nodes.specs.Graphs.{Graph, entry_shape}
+use Rattle.fs_nodes.specs.Seen.{Seen, IsReal}
+use Rattle.fs_calls.specs.Forms.{form, Form, AtNode, AtEntry, AtPair, by_text, new_shape}
+use Rattle.fs_calls.specs.declared.target.PairCall.TheVariants as pairs
+use Rattle.fs_calls.specs.Rows.{as_dir, entry_fault, rename_fault}
+use Rattle.fs_calls.specs.declared.errno.Errno.{Errno}
+use Rattle.fs_calls.specs.declared.errno.Errno.TheVariants.{Enoent}
+use Rattle.fs_finish.specs.Plans.{node_plan, entry_plan, rename_plan, moving, Changes}
+use Rattle.fs_finish.specs.declared.plan.Plan.{Plan}
+use Rattle.fs_finish.specs.declared.plan.Plan.TheVariants.{Fails}
+use Rattle.fs_machine.specs.Moves.{target, walk_errno, path_error, dir_error, there_by}
+use Rattle.fs_machine.specs.Records.{Holdings}
+use Rattle.fs_machine.specs.OpValues.{OpValue}
+
+-- a rename at its common directory, by the rows of its two heads; one that did not come there fails where it stands
+abbrev pub pair_plan : Graph → Key → Key → Holdings → Key → Plan
+pair_plan graph p q st (z ∷ l) = Fails (walk_errno (graph.shape st.node))
+pair_plan graph p q st [] =
+    rename_plan
+    (rename_fault
+    (dir_error (left st.source.walked (parent_of p)) (graph.shape st.source.node))
+    (dir_error (left st.dest.walked (parent_of q)) (graph.shape st.dest.node))
+    (entry_shape graph st.source.node (last_of p))
+    (is_end (after_prefix p q))
+    (there_by (has_more (after_prefix q p)) (entry_shape graph st.dest.node (last_of q)))
+    (is_end (after_prefix (parent_of p) (parent_of q)) || not (is_full (graph.shape st.dest.node))))
+    (is_end (after_prefix p q))
+    (moving st.source.node st.dest.node (is_some (graph.child st.dest.node (last_of q))) st.victim (graph.child st.source.node (last_of p)))
+
+-- each form of call where it stands
+abbrev pub plan_at : Graph → Form → Holdings → Plan
+plan_at graph (AtNode c p) st = node_plan (path_error p (graph.shape st.node)) st.node
+plan_at graph (AtEntry c p) st = entry_plan (entry_fault c (dir_error (parent_of p) (graph.shape st.node)) (is_full (graph.shape st.node)) (entry_shape graph st.node (last_of p))) (new_shape c) st.node
+plan_at graph (AtPair pairs.Rename p q) st = pair_plan graph p q st (target (AtPair pairs.Rename p q))
+
+-- a call that its paths decide, and else where it stands
+abbrev pub plan_by : Graph → Option Errno → Form → Option Holdings → Plan
+plan_by graph (Some e) remaining st = Fails e
+plan_by graph None remaining None = Fails Enoent
+plan_by graph None remaining (Some st) = plan_at graph remaining st
+
+-- the plan of a call under way
+abbrev pub plan_of : Graph → OpValue → Plan
+plan_of graph op = plan_by graph (by_text (form op.call)) op.remaining op.holdings
+
+-- the plan of a call in a store; where it changes a directory, the store is one as all stores are
+pub record IsPlan (store : Seen) (op : OpValue) (plan : Plan) : Type 0 where
+  pub is : plan ≡ plan_of store.graph op
+  pub real : Changes plan (IsReal store)
+
+-- a rename whose common directory is none has no head that left it
+abbrev pub SetsOut : Graph → Form → Holdings → Type 0
+SetsOut graph (AtNode c p) st = Unit {0}
+SetsOut graph (AtEntry c p) st = Unit {0}
+SetsOut graph (AtPair pairs.Rename p q) st = (e : Errno) → as_dir None (graph.shape st.node) ≡ Some e → dir_error (left st.source.walked (parent_of p)) (graph.shape st.source.node) ≡ Some e
+
+-- the same of all that a call may hold
+abbrev pub HasSetOut : Graph → OpValue → Type 0
+HasSetOut graph op = (st : Holdings) → op.holdings ≡ Some st → SetsOut graph op.remaining st
