@@ -29,8 +29,7 @@ use Rattle.fs_core.specs.code.Seats.{MovesOn, PlacedOn, PlansOn, Goes, placed}
 use Rattle.fs_finish.specs.Plans.{Changes}
 use Rattle.fs_finish.specs.declared.plan.Plan.{Plan}
 use Rattle.fs_nodes.specs.Seen.{IsReal}
-use Rattle.fs_ops.specs.PlanOf.{HasSetOut, IsPlan, plan_of}
-use Rattle.fs_ops.specs.code.NextByNodes.{IfFinish}
+use Rattle.fs_ops.specs.PlanOf.{HasSetOut, IsPlan, plan_of, IfFinish}
 use Rattle.fs_ops.specs.declared.next.Next.{Next}
 use Rattle.fs_core.proofs.SeatLemmas.{number_read}
 use Rattle.fs_core.proofs.States.{call_on, moves}

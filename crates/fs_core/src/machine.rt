@@ -13,7 +13,7 @@ ghost use Rattle.fs_machine.specs.States.{Begins, Step, NoneBelow, Run, empty};
 ghost use Rattle.fs_core.specs.CoreValues.{state_of, IsAtRest};
 ghost use Rattle.fs_core.specs.code.Seats.{MovesOn, PlacedOn, PlansOn};
 ghost use Rattle.fs_finish.specs.Plans.{moved_by};
-ghost use Rattle.fs_ops.specs.code.NextByNodes.{IfFinish, move_of};
+ghost use Rattle.fs_ops.specs.PlanOf.{IfFinish, move_of};
 
 use crate::beginning::make_ready;
 use crate::helping::{Way, no_way, to_help_before};

@@ -1,6 +1,6 @@
 -- What a finish does, by its row of the table of errors, and the effect of that.
 use Rattle.std.specs.Prelude.{ℕ, ◌≡◌, ◌≢◌, ◌<◌, Bool, true, false, IsTrue, IfSome, IsSome, is_some, length, Option, Some, None}
-use Rattle.fs_names.specs.Keys.{Key, last_of}
+use Rattle.fs_names.specs.Keys.{last_of}
 use Rattle.fs_names.specs.Names.{Name}
 use Rattle.fs_names.specs.Shapes.{Shape, is_dir, has_entries}
 use Rattle.fs_nodes.specs.Graphs.{Graph, linked_in, unlinked_in, moved_in, IsReached}
@@ -10,6 +10,7 @@ use Rattle.fs_calls.specs.declared.target.PairCall.TheVariants as pairs
 use Rattle.fs_calls.specs.Rows.{node_row}
 use Rattle.fs_calls.specs.declared.errno.Errno.{Errno}
 use Rattle.fs_calls.specs.declared.reply.Reply.TheVariants.{Done, Failed}
+use Rattle.fs_finish.specs.Paths.{first_path, second_path}
 use Rattle.fs_finish.specs.declared.plan.Moving.{Moving}
 use Rattle.fs_finish.specs.declared.plan.Plan.{Plan}
 use Rattle.fs_finish.specs.declared.plan.Plan.TheVariants.{Fails, Stays, Answers, Adds, Removes, Moves}
@@ -51,18 +52,6 @@ moved_by (Moves m) = Some m.moved
 
 -- ---- their effects
 
--- the path that is walked first
-abbrev pub first_path : Form → Key
-first_path (AtNode c p) = p
-first_path (AtEntry c p) = p
-first_path (AtPair pairs.Rename p q) = p
-
--- the path that is walked second
-abbrev pub second_path : Form → Key
-second_path (AtNode c p) = p
-second_path (AtEntry c p) = p
-second_path (AtPair pairs.Rename p q) = q
-
 -- a call on a node answers there; the others have no answer of their own
 abbrev pub answered_at : Graph → Form → ℕ → Option ℕ → Effect
 answered_at graph (AtNode c p) n reserved = node_effect graph n reserved (node_row c None (graph.shape n))
@@ -93,7 +82,7 @@ carried graph call reserved (Moves m) = moved graph m (last_of (first_path call)
 
 -- ---- what they need of the store
 
--- what a node was found by, among others that the store is one
+-- what holds of a plan that changes a directory
 abbrev pub Changes : Plan → Type 0 → Type 0
 Changes (Fails e) R = Unit {0}
 Changes Stays R = Unit {0}

@@ -3,7 +3,7 @@
 ghost use Rattle.std.specs.Prelude.{◌≡◌};
 ghost use Rattle.fs_names.specs.Keys.{after_prefix, is_proper_prefix, parent_of, is_end};
 ghost use Rattle.fs_calls.specs.code.Targets.{form_of};
-ghost use Rattle.fs_finish.specs.Plans.{first_path, second_path};
+ghost use Rattle.fs_finish.specs.Paths.{first_path, second_path};
 
 use fs_calls::Target;
 use fs_names::Path;

@@ -111,7 +111,7 @@ finish_by graph op None None = refl
 finish_by graph op None (Some st) = refl
 
 -- the record and the graph after a finish
-module _ (graph : Graph) (call : Call) (way : Way) (fork : Option ForkWay) (victim reserved removed : Option ℕ) (outcome : Outcome) (op : IsOp (form call) way fork outcome)
+module _ (graph : Graph) (call : Call) (way : Way) (fork : Option ForkWay) (victim reserved removed : Option ℕ) (error : Option Errno) (outcome : Outcome) (op : IsOp (form call) error way fork outcome)
     (plan : Plan) (is : plan ≡ plan_of graph (op_value call way fork victim reserved removed outcome)) (done : Finish) (new : Graph) (made : IsEffect (carried graph (form call) reserved plan) done new) where
   abbrev before : OpValue
   before = op_value call way fork victim reserved removed outcome
@@ -319,7 +319,7 @@ can_by store call way fork victim reserved None (Some n) text node names within 
         arrived_can store call way n fork victim reserved text node names (omega arith) forks can
 
 -- the plan of a call in a store
-pub can_carry_out : (store : Seen) (call : Call) (way : Way) (fork : Option ForkWay) (victim reserved removed : Option ℕ) (outcome : Outcome) (plan : Plan) → IsOp (form call) way fork outcome → IsPlan store (op_value call way fork victim reserved removed outcome) plan
+pub can_carry_out : (store : Seen) (call : Call) (way : Way) (fork : Option ForkWay) (victim reserved removed : Option ℕ) (error : Option Errno) (outcome : Outcome) (plan : Plan) → IsOp (form call) error way fork outcome → IsPlan store (op_value call way fork victim reserved removed outcome) plan
     → CanFinish store.graph reserved (dropped way.walked (form call)) (holdings_of (form call) way.node way.behind fork victim) → CanCarryOut store (form call) reserved plan
-can_carry_out store call way fork victim reserved removed outcome plan op planned can =
+can_carry_out store call way fork victim reserved removed error outcome plan op planned can =
     subst (CanBy store (form call) reserved) (sym planned.is) (can_by store (form call) way fork victim reserved (by_text (form call)) way.node refl refl op.names op.within op.forks can) planned.real

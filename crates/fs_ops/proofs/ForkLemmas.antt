@@ -20,7 +20,8 @@ use Rattle.fs_walk.specs.Wants.{at_dir, dir_want, then_want, head_want, fork_wan
 use Rattle.fs_machine.specs.Moves.{dir_error, rename_move, fork_move, first_of, head_move, dir_then, same_kind, there_by, moved_node, take_if}
 use Rattle.fs_machine.specs.declared.moves.Move.TheVariants.{Finish as Finishes}
 use Rattle.fs_machine.specs.declared.moves.Move.{Move}
-use Rattle.fs_ops.specs.code.NextByNodes.{move_of, to_take, take_or, between_next, heads_next}
+use Rattle.fs_ops.specs.code.NextByNodes.{to_take, take_or, between_next, heads_next}
+use Rattle.fs_ops.specs.PlanOf.{move_of}
 use Rattle.fs_ops.specs.code.TakeAndLetGo.{started}
 use Rattle.fs_ops.specs.OpValue.{Forks, IsForked, head_of, holdings_with}
 use Rattle.fs_ops.proofs.KeyLemmas.{parent_drop, drop_get, drop_prefix, drop_prefix_back, common_parents, last_drop}

@@ -1,5 +1,5 @@
 -- A finished call after a let go, told by counts of names.
-use Rattle.std.proofs.Common.{◌≡◌, ℕ, zero, suc, ◌+◌, ◌-◌, ◌≤◌, nat_lt, Bool, true, false, [], ◌∷◌, length, take, drop, Option, Some, None, refl, sym, subst, ap, arith, length-drop}
+use Rattle.std.proofs.Common.{◌≡◌, ℕ, zero, suc, ◌+◌, ◌-◌, ◌≤◌, nat_lt, Bool, true, false, cond, [], ◌∷◌, length, take, drop, Option, Some, None, refl, sym, subst, ap, arith, length-drop}
 use Rattle.std.specs.Option.{is_some}
 use Rattle.std.proofs.lemmas.Bool.Decides.{nat_tests}
 use Rattle.fs_names.specs.Keys.{Key, parent_of}
@@ -8,12 +8,13 @@ use Rattle.fs_calls.specs.Forms.{form, Form, AtNode, AtEntry, AtPair}
 use Rattle.fs_calls.specs.declared.target.PairCall.TheVariants as pairs
 use Rattle.fs_calls.specs.declared.call.Call.{Call}
 use Rattle.fs_calls.specs.declared.reply.Reply.{Reply}
-use Rattle.fs_walk.specs.Ways.{Way, ForkWay, has_set_out}
+use Rattle.fs_calls.specs.declared.errno.Errno.{Errno}
+use Rattle.fs_walk.specs.Ways.{Way, ForkWay, has_set_out, start_at, way_ended, fork_returned}
 use Rattle.fs_machine.specs.Leaving.{is_removed, cleared}
 use Rattle.fs_machine.specs.Moves.{left_last, left_holdings}
 use Rattle.fs_machine.specs.Records.{Finished}
 use Rattle.fs_ops.specs.code.TakeAndLetGo.{way_after, fork_after}
-use Rattle.fs_ops.specs.OpValue.{Forks, IsForked, op_value, holdings_of, holdings_with, reply_of}
+use Rattle.fs_ops.specs.OpValue.{IsOp, Forks, IsForked, op_value, holdings_of, holdings_with, reply_of}
 use Rattle.fs_machine.specs.OpValues.{OpValue, IsLetGo}
 use Rattle.fs_ops.specs.declared.outcome.Outcome.{Outcome}
 use Rattle.fs_ops.specs.declared.outcome.Outcome.TheVariants.{Open, Fixed}
@@ -105,3 +106,22 @@ last_left call way fork victim reserved removed (Fixed r) n h fixed seat place =
 
 pub left_as : (old old_seen new new_seen : OpValue) (n : ℕ) → old ≡ old_seen → new ≡ new_seen → IsLetGo old n new → IsLetGo old_seen n new_seen
 left_as old old_seen new new_seen n e f h seat place = rw (← e, ← f) (h seat place)
+
+-- what the fields of a finished call keep after a let go
+returned : (call : Form) (way : Way) (fork : ForkWay) → Forks call way (Some fork) → Forks call way (Some (fork_returned fork))
+returned (AtNode c p) way fork h = absurd h
+returned (AtEntry c p) way fork h = absurd h
+returned (AtPair pairs.Rename p q) way fork h = by (nat_lt 0 fork.dest.walked)
+  where
+    by : (b : Bool) → IsForked p q way (cond b (record fork { dest = start_at fork.node }) (record fork { source = start_at fork.node }))
+    by true = record { node = h.node; names = h.names; arrived = h.arrived; source = h.source; dest = omega (arith, h.dest) }
+    by false = record { node = h.node; names = h.names; arrived = h.arrived; source = omega (arith, h.source); dest = h.dest }
+
+pub left_keeps : (call : Form) (error : Option Errno) (way : Way) (fork : Option ForkWay) (victim : Option ℕ) (outcome : Outcome) → IsOp call error way fork outcome → IsOp call error (way_after victim fork way) (fork_after victim fork) outcome
+left_keeps call error way fork (Some v) outcome op = op
+left_keeps call error way None None outcome op = record { decided = op.decided; names = op.names; within = op.within; forks = tt; ready = op.ready }
+left_keeps call error way (Some fork) None outcome op = by (has_set_out fork)
+  where
+    by : (b : Bool) → IsOp call error (cond b way (way_ended way)) (cond b (Some (fork_returned fork)) None) outcome
+    by true = record { decided = op.decided; names = op.names; within = op.within; forks = returned call way fork op.forks; ready = op.ready }
+    by false = record { decided = op.decided; names = op.names; within = op.within; forks = tt; ready = op.ready }

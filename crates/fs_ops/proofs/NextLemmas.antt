@@ -17,9 +17,10 @@ use Rattle.fs_walk.specs.Wants.{want, way_want}
 use Rattle.fs_finish.specs.Plans.{entry_plan, moved_by}
 use Rattle.fs_machine.specs.Moves.{take_if, victim_of, target, target_move, first_of, head_move, last_held, next_on, next_by}
 use Rattle.fs_machine.specs.declared.moves.Move.TheVariants.{Finish as Finishes, LetGo as Leaves}
-use Rattle.fs_ops.specs.code.NextByNodes.{move_of, held_last, last_next, entry_next, want_next, target_next, way_next, way_next_at}
+use Rattle.fs_ops.specs.code.NextByNodes.{held_last, last_next, entry_next, want_next, target_next, way_next, way_next_at}
+use Rattle.fs_ops.specs.PlanOf.{move_of}
 use Rattle.fs_machine.specs.Records.{Holdings, Walking, Finished}
-use Rattle.fs_finish.specs.Plans.{first_path}
+use Rattle.fs_finish.specs.Paths.{first_path}
 use Rattle.fs_ops.specs.OpValue.{IsOp, Forks, dropped, holdings_with, holdings_of, op_value, reply_of}
 use Rattle.fs_machine.specs.OpValues.{OpValue, record_of, next_of}
 use Rattle.fs_ops.specs.declared.outcome.Outcome.{Outcome}
@@ -84,10 +85,10 @@ way_is graph call way fork victim n at names within forks =
     ∙ ap (λ (m : ℕ). first_of (head_move graph m way.behind (target rest)) (target_move graph rest st)) (sym (holdings_node call n way.behind fork victim))
     ∙ ap (λ (b : Option ℕ). first_of (head_move graph st.node b (target rest)) (target_move graph rest st)) (sym (holdings_behind call n way.behind fork victim))
 
-pub next_is : (graph : Graph) (call : Call) (way : Way) (fork : Option ForkWay) (victim reserved removed : Option ℕ) (outcome : Outcome) → IsOp (form call) way fork outcome → is_some (reply_of outcome) ≡ false → by_text (form call) ≡ None
+pub next_is : (graph : Graph) (call : Call) (way : Way) (fork : Option ForkWay) (victim reserved removed : Option ℕ) (error : Option Errno) (outcome : Outcome) → IsOp (form call) error way fork outcome → is_some (reply_of outcome) ≡ false → by_text (form call) ≡ None
     → move_of (way_next graph (form call) way fork victim) ≡ next_of graph (op_value call way fork victim reserved removed outcome)
-next_is graph call way fork victim reserved removed (Fixed r) op unfinished text = absurd (cc)
-next_is graph call way fork victim reserved removed (Open prepared) op unfinished text = by way.node refl
+next_is graph call way fork victim reserved removed error (Fixed r) op unfinished text = absurd (cc)
+next_is graph call way fork victim reserved removed error (Open prepared) op unfinished text = by way.node refl
   where
     value : OpValue
     value = op_value call way fork victim reserved removed (Open prepared)

@@ -16,14 +16,15 @@ use Rattle.fs_walk.specs.declared.want.Want.{Want}
 use Rattle.fs_walk.specs.declared.want.Want.TheVariants.{Take, LetGo, Arrived, Fails as Lost}
 use Rattle.fs_walk.specs.Ways.{Way, ForkWay, name_ahead, head_name}
 use Rattle.fs_walk.specs.Wants.{name_want, head_want, then_want, at_dir, dir_want, way_want, want, fork_want}
-use Rattle.fs_finish.specs.Plans.{node_plan, entry_plan, rename_plan, moving, first_path}
+use Rattle.fs_finish.specs.Paths.{first_path}
+use Rattle.fs_finish.specs.Plans.{node_plan, entry_plan, rename_plan, moving}
 use Rattle.fs_finish.specs.declared.plan.Plan.{Plan}
 use Rattle.fs_finish.specs.declared.plan.Plan.TheVariants.{Fails, Answers}
 use Rattle.fs_machine.specs.Moves.{target, path_error, dir_error, walk_errno, there_by}
 use Rattle.fs_machine.specs.Records.{Holdings}
 use Rattle.fs_ops.specs.OpValue.{Forks, IsForked, dropped, holdings_with, holdings_of}
-use Rattle.fs_ops.specs.PlanOf.{pair_plan, plan_at, plan_by, SetsOut}
-use Rattle.fs_ops.specs.code.NextByNodes.{IfFinish, take_or, want_next, heads_next, target_next, way_next_at}
+use Rattle.fs_ops.specs.PlanOf.{pair_plan, plan_at, plan_by, SetsOut, IfFinish}
+use Rattle.fs_ops.specs.code.NextByNodes.{take_or, want_next, heads_next, target_next, way_next_at}
 use Rattle.fs_ops.specs.code.TakeAndLetGo.{started}
 use Rattle.fs_ops.specs.declared.next.Next.{Next}
 use Rattle.fs_ops.specs.declared.next.Next.TheVariants.{Take as Takes, LetGo as Leaves, Finish as Finishes, Return as Ends}

@@ -12,7 +12,7 @@ use Rattle.fs_walk.specs.declared.head.Head as count
 use Rattle.fs_walk.specs.Ways as ways
 use Rattle.fs_walk.specs.Ways.{Way, ForkWay, head_name, way_took, may_take, fork_took, has_arrived}
 use Rattle.fs_machine.specs.Moves.{target, inner, behind_of, head_took, source_took, target_took}
-use Rattle.fs_finish.specs.Plans.{first_path}
+use Rattle.fs_finish.specs.Paths.{first_path}
 use Rattle.fs_ops.specs.OpValue.{dropped, head_of, holdings_with, op_value, Forks, IsForked}
 use Rattle.fs_ops.specs.code.TakeAndLetGo.{started, TakesTo}
 use Rattle.fs_machine.specs.OpValues.{OpValue, IsTook}

@@ -14,9 +14,10 @@ use Rattle.fs_walk.specs.Wants.{name_want, head_want, then_want, at_dir, dir_wan
 use Rattle.fs_machine.specs.Moves.{first_of, walk_move, head_move, dir_then, target}
 use Rattle.fs_machine.specs.declared.moves.Move.{Move}
 use Rattle.fs_machine.specs.declared.moves.Move.TheVariants.{Take as Takes, LetGo as Leaves, Finish as Finishes}
-use Rattle.fs_ops.specs.code.NextByNodes.{move_of, want_next}
+use Rattle.fs_ops.specs.code.NextByNodes.{want_next}
+use Rattle.fs_ops.specs.PlanOf.{move_of}
 use Rattle.fs_ops.specs.declared.next.Next.{Next}
-use Rattle.fs_finish.specs.Plans.{first_path}
+use Rattle.fs_finish.specs.Paths.{first_path}
 use Rattle.fs_ops.specs.OpValue.{dropped, head_of}
 use Rattle.fs_ops.proofs.KeyLemmas.{left_take, parent_drop, drop_get, target_drop, target_take}
 

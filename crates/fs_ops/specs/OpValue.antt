@@ -1,7 +1,8 @@
 -- What the code of a call keeps, seen as an OpValue: counts of walked names in the place of keys.
 use Rattle.std.specs.Prelude.{ℕ, ◌≡◌, ◌+◌, ◌≤◌, length, take, drop, Option, Some, None}
 use Rattle.fs_names.specs.Keys.{Key, parent_of}
-use Rattle.fs_calls.specs.Forms.{Form, AtNode, AtEntry, AtPair, form}
+use Rattle.fs_calls.specs.Forms.{Form, AtNode, AtEntry, AtPair, by_text, form}
+use Rattle.fs_calls.specs.declared.errno.Errno.{Errno}
 use Rattle.fs_calls.specs.declared.target.PairCall.TheVariants as pairs
 use Rattle.fs_calls.specs.declared.call.Call.{Call}
 use Rattle.fs_calls.specs.declared.reply.Reply.{Reply}
@@ -11,7 +12,7 @@ use Rattle.fs_ops.specs.declared.outcome.Outcome.{Outcome}
 use Rattle.fs_ops.specs.declared.outcome.Outcome.TheVariants.{Open, Fixed}
 use Rattle.fs_machine.specs.Moves.{target}
 use Rattle.fs_machine.specs.Records.{Head, Holdings, head_at}
-use Rattle.fs_finish.specs.Plans.{first_path, second_path}
+use Rattle.fs_finish.specs.Paths.{first_path, second_path}
 use Rattle.fs_finish.specs.Rooms.{Suffices}
 use Rattle.fs_machine.specs.OpValues.{OpValue}
 
@@ -74,8 +75,9 @@ abbrev pub IsReady : Form → Outcome → Type 0
 IsReady call (Open prepared) = Suffices call prepared
 IsReady call (Fixed reply) = Unit {0}
 
--- what the fields of a call keep: the walk goes to the target
-pub record IsOp (call : Form) (way : Way) (fork : Option ForkWay) (outcome : Outcome) : Type 0 where
+-- what the fields of a call keep: the error that its paths decide is kept from the begin, and the walk goes to the target
+pub record IsOp (call : Form) (path_error : Option Errno) (way : Way) (fork : Option ForkWay) (outcome : Outcome) : Type 0 where
+  pub decided : path_error ≡ by_text call
   pub names : way.names ≡ length (target call)
   pub within : way.walked ≤ way.names
   pub forks : Forks call way fork

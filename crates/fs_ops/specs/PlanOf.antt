@@ -1,4 +1,4 @@
--- The plan of a call's finish, by what its code keeps.
+-- What a call does next, of a finish with its plan, and the plan by what the code of a call keeps.
 use Rattle.std.specs.Prelude.{◌≡◌, ◌||◌, not, is_some, [], ◌∷◌, Option, Some, None}
 use Rattle.fs_names.specs.Keys.{Key, after_prefix, has_more, is_end, parent_of, last_of}
 use Rattle.fs_names.specs.Parts.{left}
@@ -10,12 +10,38 @@ use Rattle.fs_calls.specs.declared.target.PairCall.TheVariants as pairs
 use Rattle.fs_calls.specs.Rows.{as_dir, entry_fault, rename_fault}
 use Rattle.fs_calls.specs.declared.errno.Errno.{Errno}
 use Rattle.fs_calls.specs.declared.errno.Errno.TheVariants.{Enoent}
-use Rattle.fs_finish.specs.Plans.{node_plan, entry_plan, rename_plan, moving, Changes}
+use Rattle.fs_finish.specs.Plans.{node_plan, entry_plan, rename_plan, moving, moved_by, Changes}
 use Rattle.fs_finish.specs.declared.plan.Plan.{Plan}
 use Rattle.fs_finish.specs.declared.plan.Plan.TheVariants.{Fails}
 use Rattle.fs_machine.specs.Moves.{target, walk_errno, path_error, dir_error, there_by}
+use Rattle.fs_machine.specs.declared.moves.Move.{Move}
+use Rattle.fs_machine.specs.declared.moves.Move.TheVariants as moves
 use Rattle.fs_machine.specs.Records.{Holdings}
 use Rattle.fs_machine.specs.OpValues.{OpValue}
+use Rattle.fs_ops.specs.declared.next.Next.{Next}
+use Rattle.fs_ops.specs.declared.next.Next.TheVariants.{Take as Takes, LetGo as Leaves, Finish as Finishes, Return as Ends}
+
+-- ---- next moves
+
+-- the machine's move
+abbrev pub move_of : Next → Move
+move_of (Takes n) = moves.Take n
+move_of (Leaves n) = moves.LetGo n
+move_of (Finishes plan) = moves.Finish (moved_by plan)
+move_of Ends = moves.Return
+
+-- what holds of the plan of a finish
+abbrev pub IfFinish : Next → (Plan → Type 0) → Type 0
+IfFinish (Takes n) P = Unit {0}
+IfFinish (Leaves n) P = Unit {0}
+IfFinish (Finishes plan) P = P plan
+IfFinish Ends P = Unit {0}
+
+-- a finish that changes a directory was found in a store
+abbrev pub IsFound : Next → Seen → Type 0
+IsFound next store = IfFinish next (λ plan. Changes plan (IsReal store))
+
+-- ---- plans
 
 -- a rename at its common directory, by the rows of its two heads; one that did not come there fails where it stands
 abbrev pub pair_plan : Graph → Key → Key → Holdings → Key → Plan

@@ -14,11 +14,11 @@ ghost use Rattle.fs_machine.specs.OpValues.{BegunAs, new_value};
 use crate::end::give_back;
 use crate::op::Op;
 use crate::outcome::Outcome;
+use crate::stand::Stand;
 use fs_calls::{Call, EntryCall, PairCall, Target};
 use fs_finish::room::Room;
 use fs_names::{Kind, PATH_LIMIT, Path};
 use fs_nodes::{NoNode, NodeNo, Store};
-use fs_walk::Walk;
 use std::alloc::{AllocError, Global};
 
 /// The kind of node that a call on an entry may add.
@@ -87,9 +87,8 @@ impl Op {
         let copy = call.copy(alloc)?;
         Ok(Op {
             call: copy,
-            walk: Walk::new(target_len(call.target())),
-            fork: None,
-            victim: None,
+            path_error: call.error_by_paths(),
+            stand: Stand::new(target_len(call.target())),
             reserved: None,
             removed: None,
             outcome: Outcome::Open(prepared),

@@ -8,8 +8,9 @@ ghost use Rattle.fs_ops.specs.code.TakeAndLetGo.{way_freed, fork_freed, heads_fr
 ghost use Rattle.fs_machine.specs.OpValues.{IsSpare, IsLetGo};
 
 use crate::op::Op;
+use crate::stand::Stand;
 use fs_nodes::{NodeNo, Store};
-use fs_walk::{Fork, Walk};
+use fs_walk::Fork;
 
 /// The node that a call removed leaves the store when the call lets it go.
 fn release_removed(removed: &mut Option<NodeNo>, node: NodeNo, store: &mut Store)
@@ -33,32 +34,33 @@ fn free_heads(heads: &mut Fork)
 }
 
 /// The walk, or else the heads, let go of the node behind.
-fn free_behind(walk: &mut Walk, fork: &mut Option<Fork>)
-    ensures walk { walk.new ≡ way_freed walk.old }
-    ensures fork { fork.new ≡ heads_freed walk.old.behind fork.old }
+fn free_behind(stand: &mut Stand)
+    ensures walk { stand.new.walk ≡ way_freed stand.old.walk }
+    ensures fork { stand.new.fork ≡ heads_freed stand.old.walk.behind stand.old.fork }
+    ensures victim { stand.new.victim ≡ stand.old.victim }
 {
-    if let Some(behind) = walk.behind() {
-        walk.let_go(behind);
-    } else if let Some(heads) = fork {
+    if let Some(behind) = stand.walk.behind() {
+        stand.walk.let_go(behind);
+    } else if let Some(heads) = &mut stand.fork {
         free_heads(heads);
     }
 }
 
 /// What was taken last is let go of.
-fn free_last(walk: &mut Walk, fork: &mut Option<Fork>, victim: &mut Option<NodeNo>)
-    ensures victim { victim.new ≡ None }
-    ensures fork { fork.new ≡ fork_after victim.old fork.old }
-    ensures walk { walk.new ≡ way_after victim.old fork.old walk.old }
+fn free_last(stand: &mut Stand)
+    ensures victim { stand.new.victim ≡ None }
+    ensures fork { stand.new.fork ≡ fork_after stand.old.victim stand.old.fork }
+    ensures walk { stand.new.walk ≡ way_after stand.old.victim stand.old.fork stand.old.walk }
 {
-    if victim.is_some() {
-        *victim = None;
+    if stand.victim.is_some() {
+        stand.victim = None;
         return;
     }
-    match fork {
+    match &mut stand.fork {
         Some(heads) if heads.has_set_out() => heads.go_back(),
         _ => {
-            walk.end();
-            *fork = None;
+            stand.walk.end();
+            stand.fork = None;
         }
     }
 }
@@ -73,9 +75,9 @@ impl Op {
     {
         release_removed(&mut self.removed, node, store);
         if self.is_finished() {
-            free_last(&mut self.walk, &mut self.fork, &mut self.victim);
+            free_last(&mut self.stand);
         } else {
-            free_behind(&mut self.walk, &mut self.fork);
+            free_behind(&mut self.stand);
         }
     }
 }

@@ -19,6 +19,7 @@ mod let_go;
 pub mod next;
 pub mod op;
 mod outcome;
+mod stand;
 mod take;
 
 pub use next::Next;

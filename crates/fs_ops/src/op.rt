@@ -3,18 +3,18 @@
 ghost use Rattle.std.specs.Prelude.{◌≡◌, is_some, option_map};
 
 use crate::outcome::Outcome;
-use fs_calls::Call;
+use crate::stand::Stand;
+use fs_calls::{Call, Errno};
 use fs_nodes::NodeNo;
-use fs_walk::{Fork, Walk};
 use std::marker::Model;
 
 /// A call under way: a machine of moves over the nodes of a store, which allocates what it needs when it begins.
 #[derive(Drop)]
 pub struct Op {
     pub(crate) call: Call,
-    pub(crate) walk: Walk,
-    pub(crate) fork: Option<Fork>,
-    pub(crate) victim: Option<NodeNo>,
+    // The error that its paths alone decide: it is found once, when the call begins.
+    pub(crate) path_error: Option<Errno>,
+    pub(crate) stand: Stand,
     pub(crate) reserved: Option<NodeNo>,
     pub(crate) removed: Option<NodeNo>,
     pub(crate) outcome: Outcome,
@@ -27,9 +27,9 @@ impl Model for Op {
 
     ghost Value = { OpValue };
 
-    ghost view = { λ o. op_value o.call o.walk o.fork o.victim o.reserved o.removed o.outcome };
+    ghost view = { λ o. op_value o.call o.stand.walk o.stand.fork o.stand.victim o.reserved o.removed o.outcome };
 
-    ghost invariant = { λ o. IsOp (form o.call) o.walk o.fork o.outcome };
+    ghost invariant = { λ o. IsOp (form o.call) o.path_error o.stand.walk o.stand.fork o.outcome };
 }
 
 impl Op {
@@ -37,7 +37,7 @@ impl Op {
     pub fn position(&self) -> Option<NodeNo>
         ensures { result ≡ option_map (λ st. st.node) self.now.holdings }
     {
-        self.walk.node()
+        self.stand.walk.node()
     }
 
     /// The number that the call has reserved, until it is used.

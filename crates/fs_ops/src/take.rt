@@ -14,10 +14,11 @@ ghost use Rattle.fs_ops.specs.code.TakeAndLetGo.{TakesTo, started};
 ghost use Rattle.fs_machine.specs.OpValues.{IsTook};
 
 use crate::op::Op;
+use crate::stand::Stand;
 use fs_calls::{PairCall, Target};
 use fs_names::Path;
 use fs_nodes::NodeNo;
-use fs_walk::{Fork, Walk};
+use fs_walk::Fork;
 
 /// A head of a rename takes a node; where both have arrived, it is the victim.
 fn heads_took(
@@ -48,49 +49,36 @@ fn started(fork: Option<Fork>, node: NodeNo, names: usize) -> Fork
 }
 
 /// A rename at its common directory takes a node.
-fn rename_took(
-    source: &Path,
-    dest: &Path,
-    walk: &Walk,
-    fork: &mut Option<Fork>,
-    victim: &mut Option<NodeNo>,
-    node: NodeNo,
-)
-    requires names { walk.now.names ≡ length (common (parent_of source.now) (parent_of dest.now)) }
-    requires arrived { walk.now.walked ≡ walk.now.names }
-    requires forks { Forks (forms.AtPair pairs.Rename source.now dest.now) walk.now fork.old }
-    ensures forks { Forks (forms.AtPair pairs.Rename source.now dest.now) walk.now fork.new }
-    ensures stands { (at : ℕ) → walk.now.node ≡ Some at → TakesTo (forms.AtPair pairs.Rename source.now dest.now) walk.now at node fork.old victim.old fork.new victim.new }
+fn rename_took(source: &Path, dest: &Path, stand: &mut Stand, node: NodeNo)
+    requires names { stand.old.walk.names ≡ length (common (parent_of source.now) (parent_of dest.now)) }
+    requires arrived { stand.old.walk.walked ≡ stand.old.walk.names }
+    requires forks { Forks (forms.AtPair pairs.Rename source.now dest.now) stand.old.walk stand.old.fork }
+    ensures walk { stand.new.walk ≡ stand.old.walk }
+    ensures forks { Forks (forms.AtPair pairs.Rename source.now dest.now) stand.old.walk stand.new.fork }
+    ensures stands { (at : ℕ) → stand.old.walk.node ≡ Some at → TakesTo (forms.AtPair pairs.Rename source.now dest.now) stand.old.walk at node stand.old.fork stand.old.victim stand.new.fork stand.new.victim }
 {
-    if let Some(at) = walk.node() {
-        let mut heads = started(fork.take(), at, walk.names());
-        heads_took(source, dest, &mut heads, victim, node);
-        *fork = Some(heads);
+    if let Some(at) = stand.walk.node() {
+        let mut heads = started(stand.fork.take(), at, stand.walk.names());
+        heads_took(source, dest, &mut heads, &mut stand.victim, node);
+        stand.fork = Some(heads);
     }
 }
 
 /// A call at its target takes a node: a rename with one of its heads, or else the victim.
-fn took_at_target(
-    aim: Target<'_>,
-    walk: &Walk,
-    fork: &mut Option<Fork>,
-    victim: &mut Option<NodeNo>,
-    node: NodeNo,
-)
-    requires names { walk.now.names ≡ length (target (form_of aim)) }
-    requires arrived { walk.now.walked ≡ walk.now.names }
-    requires forks { Forks (form_of aim) walk.now fork.old }
-    ensures forks { Forks (form_of aim.entry) walk.now fork.new }
-    ensures stands { (at : ℕ) → walk.now.node ≡ Some at → TakesTo (form_of aim.entry) walk.now at node fork.old victim.old fork.new victim.new }
+fn took_at_target(aim: Target<'_>, stand: &mut Stand, node: NodeNo)
+    requires names { stand.old.walk.names ≡ length (target (form_of aim)) }
+    requires arrived { stand.old.walk.walked ≡ stand.old.walk.names }
+    requires forks { Forks (form_of aim) stand.old.walk stand.old.fork }
+    ensures walk { stand.new.walk ≡ stand.old.walk }
+    ensures forks { Forks (form_of aim.entry) stand.old.walk stand.new.fork }
+    ensures stands { (at : ℕ) → stand.old.walk.node ≡ Some at → TakesTo (form_of aim.entry) stand.old.walk at node stand.old.fork stand.old.victim stand.new.fork stand.new.victim }
 {
     match aim {
         Target::Node(_, _) => {}
         Target::Entry(_, _) => {
-            *victim = Some(node);
+            stand.victim = Some(node);
         }
-        Target::Pair(PairCall::Rename, source, dest) => rename_took(
-            source, dest, walk, fork, victim, node,
-        ),
+        Target::Pair(PairCall::Rename, source, dest) => rename_took(source, dest, stand, node),
     }
 }
 
@@ -99,18 +87,12 @@ impl Op {
     pub fn took(&mut self, node: NodeNo)
         ensures { IsTook self.old node self.new }
     {
-        if self.walk.may_take() {
-            self.walk.took(node);
-            self.fork = None;
-            self.victim = None;
+        if self.stand.walk.may_take() {
+            self.stand.walk.took(node);
+            self.stand.fork = None;
+            self.stand.victim = None;
         } else {
-            took_at_target(
-                self.call.target(),
-                &self.walk,
-                &mut self.fork,
-                &mut self.victim,
-                node,
-            );
+            took_at_target(self.call.target(), &mut self.stand, node);
         }
     }
 }

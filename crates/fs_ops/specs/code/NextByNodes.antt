@@ -8,38 +8,18 @@ use Rattle.fs_calls.specs.declared.target.EntryCall.{EntryCall}
 use Rattle.fs_calls.specs.declared.target.PairCall.TheVariants as pairs
 use Rattle.fs_calls.specs.Rows.{as_dir, entry_fault, rename_fault}
 use Rattle.fs_nodes.specs.Graphs.{Graph, entry_shape}
-use Rattle.fs_nodes.specs.Seen.{Seen, IsReal}
 use Rattle.fs_walk.specs.Ways.{Way, ForkWay, fork_last}
 use Rattle.fs_walk.specs.Wants.{want, fork_want}
 use Rattle.fs_walk.specs.declared.want.Want.{Want}
 use Rattle.fs_walk.specs.declared.want.Want.TheVariants as wants
-use Rattle.fs_finish.specs.Plans.{entry_plan, rename_plan, moving, moved_by, first_path, Changes}
+use Rattle.fs_finish.specs.Paths.{first_path}
+use Rattle.fs_finish.specs.Plans.{entry_plan, rename_plan, moving}
 use Rattle.fs_finish.specs.declared.plan.Plan.{Plan}
 use Rattle.fs_finish.specs.declared.plan.Plan.TheVariants.{Fails, Answers}
 use Rattle.fs_machine.specs.Moves.{same_kind, there_by, victim_of}
-use Rattle.fs_machine.specs.declared.moves.Move.{Move}
-use Rattle.fs_machine.specs.declared.moves.Move.TheVariants as moves
 use Rattle.fs_ops.specs.declared.next.Next.{Next}
 use Rattle.fs_ops.specs.declared.next.Next.TheVariants.{Take as Takes, LetGo as Leaves, Finish as Finishes, Return as Ends}
 use Rattle.fs_ops.specs.code.TakeAndLetGo.{started}
-
--- the move that it is
-abbrev pub move_of : Next → Move
-move_of (Takes n) = moves.Take n
-move_of (Leaves n) = moves.LetGo n
-move_of (Finishes plan) = moves.Finish (moved_by plan)
-move_of Ends = moves.Return
-
--- what holds of the plan of a finish
-abbrev pub IfFinish : Next → (Plan → Type 0) → Type 0
-IfFinish (Takes n) P = Unit {0}
-IfFinish (Leaves n) P = Unit {0}
-IfFinish (Finishes plan) P = P plan
-IfFinish Ends P = Unit {0}
-
--- a finish that changes a directory was found in a store
-abbrev pub IsFound : Next → Seen → Type 0
-IsFound next store = IfFinish next (λ plan. Changes plan (IsReal store))
 
 -- the node that was taken last: the victim, or that of the head that walked last, or that of the walk
 abbrev pub held_last : ℕ → Option ForkWay → Option ℕ → ℕ
