@@ -1,12 +1,10 @@
 -- On renames whose heads have come to both parents.
-use Rattle.std.proofs.Common.{◌≡◌, ℕ, zero, suc, ◌+◌, ◌-◌, ◌≤◌, ◌<◌, Bool, true, false, cond, [], ◌∷◌, ◌++◌, length, take, drop, Option, Some, None, refl, sym, ap, ap₂, ◌∙◌, arith, length-drop, append-nil}
-use Rattle.fs_names.specs.Names.{Name, same_name}
-use Rattle.fs_names.specs.Keys.{Key, after_prefix, common_len, has_more, last_of, parent_of, is_end}
+use Rattle.std.proofs.Common.{◌≡◌, ℕ, zero, suc, ◌+◌, ◌-◌, ◌≤◌, ◌<◌, true, [], ◌∷◌, ◌++◌, length, take, drop, Option, Some, None, refl, sym, ap, ap₂, ◌∙◌, arith, length-drop, append-nil}
+use Rattle.fs_names.specs.Keys.{Key, after_prefix, has_more, last_of, parent_of, is_end}
 use Rattle.fs_names.specs.Parts.{common, left}
 use Rattle.fs_names.specs.Shapes.{Shape, Dir, File, is_dir}
-use Rattle.fs_names.proofs.Lemmas.{same_name_exact, same_name_refl, after_prefix-append}
-use Rattle.fs_names.proofs.ParentLemmas.{parent_length, common_length}
-use Rattle.fs_names.proofs.PrefixLemmas.{common_is_length}
+use Rattle.fs_names.proofs.Lemmas.{after_prefix-append}
+use Rattle.fs_names.proofs.ParentLemmas.{parent_length}
 use Rattle.fs_nodes.specs.Graphs.{Graph, IsReached}
 use Rattle.fs_calls.specs.Forms.{AtPair, by_text}
 use Rattle.fs_calls.specs.declared.target.PairCall.TheVariants as pairs
@@ -17,18 +15,12 @@ use Rattle.fs_walk.specs.Ways.{ForkWay}
 use Rattle.fs_machine.specs.Moves.{dir_error}
 use Rattle.fs_machine.specs.OpValues.{MovesApart}
 use Rattle.fs_ops.specs.OpValue.{holdings_with}
-use Rattle.fs_ops.proofs.KeyLemmas.{parent_drop}
+use Rattle.fs_ops.proofs.KeyLemmas.{parent_drop, last_drop, drop_prefix, drop_prefix_back, common_parents}
 use Rattle.fs_ops.proofs.WantLemmas.{take_parent_front, left_head}
 
 -- ---- keys
 
--- what is left where names are left, and where none are
-pub some_left : (j : ℕ) (l : Key) → j < length l → (x : Name) × (r : Key) × (drop j l ≡ x ∷ r)
-some_left zero [] h = absurd (omega arith)
-some_left zero (x ∷ l) h = (x, l, refl)
-some_left (suc j) [] h = absurd (omega arith)
-some_left (suc j) (x ∷ l) h = some_left j l (omega arith)
-
+-- nothing is left behind all names
 pub none_left : (j : ℕ) (l : Key) → length l ≤ j → drop j l ≡ []
 none_left zero [] h = refl
 none_left zero (x ∷ l) h = absurd (omega arith)
@@ -44,12 +36,6 @@ drop_end (suc j) (x ∷ l) e = ap (λ (z : Key). x ∷ z) (drop_end j l e)
 parent_left : (k : ℕ) (p : Key) → length (parent_of (drop k p)) ≡ length (parent_of p) - k
 parent_left k p = ap length (parent_drop k p) ∙ length-drop k (parent_of p)
 
-pub last_drop : (k : ℕ) (p : Key) → k < length p → last_of (drop k p) ≡ last_of p
-last_drop zero p h = refl
-last_drop (suc k) [] h = absurd (omega arith)
-last_drop (suc k) (x ∷ []) h = absurd (omega arith)
-last_drop (suc k) (x ∷ y ∷ p) h = last_drop k (y ∷ p) (omega arith)
-
 parent_last : (p : Key) → 0 < length p → parent_of p ++ last_of p ∷ [] ≡ p
 parent_last [] h = absurd (omega arith)
 parent_last (x ∷ []) h = refl
@@ -64,43 +50,18 @@ whole p q e = ap (λ (z : Key). is_end (after_prefix p z)) (sym e ∙ sym (appen
 
 -- ---- what follows a prefix, behind common names
 
-same_sym : (x y : Name) → same_name x y ≡ same_name y x
-same_sym x y = go (same_name x y) (same_name y x) refl refl
-  where
-    go : (a b : Bool) → same_name x y ≡ a → same_name y x ≡ b → a ≡ b
-    go true true e f = refl
-    go true false e f = let k : same_name y x ≡ true = ap (λ (z : Name). same_name y z) (same_name_exact x y e) ∙ same_name_refl y in sym k ∙ f
-    go false true e f = let k : same_name x y ≡ true = ap (λ (z : Name). same_name x z) (same_name_exact y x f) ∙ same_name_refl x in sym e ∙ k
-    go false false e f = refl
-
-common_sym : (p q : Key) → common_len p q ≡ common_len q p
-common_sym [] [] = refl
-common_sym [] (y ∷ q) = refl
-common_sym (x ∷ p) [] = refl
-common_sym (x ∷ p) (y ∷ q) = ap₂ (λ (b : Bool) (n : ℕ). cond b (n + 1) 0) (same_sym x y) (common_sym p q)
-
-pub after_drop : (k : ℕ) (p q : Key) → k ≤ common_len p q → after_prefix (drop k p) (drop k q) ≡ after_prefix p q
-after_drop zero p q h = refl
-after_drop (suc k) [] q h = absurd (omega arith)
-after_drop (suc k) (x ∷ p) [] h = absurd (omega arith)
-after_drop (suc k) (x ∷ p) (y ∷ q) h = go (same_name x y) h (after_drop k p q)
-  where
-    go : (b : Bool) → suc k ≤ cond b (common_len p q + 1) 0 → (k ≤ common_len p q → after_prefix (drop k p) (drop k q) ≡ after_prefix p q) → after_prefix (drop k p) (drop k q) ≡ cond b (after_prefix p q) None
-    go true h rest = rest (omega arith)
-    go false h rest = absurd (omega arith)
-
 module _ (p q : Key) (k : ℕ) (h : k ≤ length (common (parent_of p) (parent_of q))) where
-  shared : k ≤ common_len p q
-  shared = omega (arith, common_length p q)
+  shared : k ≤ length (common p q)
+  shared = omega (arith, common_parents p q)
 
   pub same_left : is_end (after_prefix (drop k p) (drop k q)) ≡ is_end (after_prefix p q)
-  same_left = ap is_end (after_drop k p q shared)
+  same_left = ap is_end (drop_prefix k p q shared)
 
   pub above_left : has_more (after_prefix (drop k q) (drop k p)) ≡ has_more (after_prefix q p)
-  above_left = ap has_more (after_drop k q p (omega (arith, shared, common_sym p q)))
+  above_left = ap has_more (drop_prefix_back k p q shared)
 
   pub one_parent_left : is_end (after_prefix (parent_of (drop k p)) (parent_of (drop k q))) ≡ is_end (after_prefix (parent_of p) (parent_of q))
-  one_parent_left = ap₂ (λ (a b : Key). is_end (after_prefix a b)) (parent_drop k p) (parent_drop k q) ∙ ap is_end (after_drop k (parent_of p) (parent_of q) (omega (arith, common_is_length (parent_of p) (parent_of q))))
+  one_parent_left = ap₂ (λ (a b : Key). is_end (after_prefix a b)) (parent_drop k p) (parent_drop k q) ∙ ap is_end (drop_prefix k (parent_of p) (parent_of q) h)
 
 -- ---- faults of heads
 

@@ -8,4 +8,3 @@ pub mod ForkLemmas
 pub mod HeadLemmas
 pub mod PlanLemmas
 pub mod FinishLemmas
-pub mod RootLemmas
