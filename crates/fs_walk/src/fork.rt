@@ -125,9 +125,13 @@ impl Fork {
     pub fn next(&self, source: &Path, dest: &Path, store: &Store) -> Want
         ensures { result ≡ fork_want (graph_of store.now) source.now dest.now self.now }
     {
-        let source = head_next(&self.source, source, self.names, store);
-        let dest = head_next(&self.dest, dest, self.names, store);
-        at_dir(store, self.node).then(source.then(dest))
+        // The destination head looks its name up only where the source head has arrived.
+        let source_want = head_next(&self.source, source, self.names, store);
+        let first = at_dir(store, self.node).then(source_want);
+        match first {
+            Want::Arrived => head_next(&self.dest, dest, self.names, store),
+            Want::Take(_) | Want::LetGo(_) | Want::Fails(_) => first,
+        }
     }
 
     /// Whether both heads have walked all names to their parents.
