@@ -19,6 +19,7 @@ use fs_calls::{Call, EntryCall, PairCall, Target};
 use fs_finish::room::Room;
 use fs_names::{Kind, PATH_LIMIT, Path};
 use fs_nodes::{NoNode, NodeNo, Store};
+use fs_walk::Walk;
 use std::alloc::{AllocError, Global};
 
 /// The kind of node that a call on an entry may add.
@@ -79,29 +80,24 @@ fn reserve_for(call: &Call, store: &mut Store) -> Result<Option<NodeNo>, NoNode>
 }
 
 impl Op {
-    /// A call that holds nothing yet, with all memory that it needs to its end.
-    fn new(alloc: Global, call: &Call) -> Result<Op, AllocError>
-        ensures { IfOk result (λ op. op ≡ new_value call.now None) }
+    /// A call that holds nothing yet, with its reserved number and all memory that it needs to its end.
+    fn new(alloc: Global, call: &Call, reserved: &Option<NodeNo>) -> Result<Op, AllocError>
+        ensures { IfOk result (λ op. op ≡ new_value call.now reserved.now) }
     {
         let prepared = Room::new(alloc, call)?;
         let copy = call.copy(alloc)?;
         Ok(Op {
             call: copy,
             path_error: call.error_by_paths(),
-            stand: Stand::new(target_len(call.target())),
-            reserved: None,
+            stand: Stand {
+                walk: Walk::new(target_len(call.target())),
+                fork: None,
+                victim: None,
+            },
+            reserved: *reserved,
             removed: None,
             outcome: Outcome::Open(prepared),
         })
-    }
-
-    /// The same call with a reserved number.
-    fn with_number(self, reserved: Option<NodeNo>) -> Op
-        ensures { result ≡ record self { reserved = reserved } }
-    {
-        let mut op = self;
-        op.reserved = reserved;
-        op
     }
 
     /// Begins a call. It allocates all that the call needs. A call that may add a node reserves a number for it: `Full` comes
@@ -114,8 +110,8 @@ impl Op {
         ensures room { (seen store.old).room ≤ (seen store.new).room }
     {
         let reserved = reserve_for(call, store)?;
-        match Op::new(alloc, call) {
-            Ok(op) => Ok(op.with_number(reserved)),
+        match Op::new(alloc, call, &reserved) {
+            Ok(op) => Ok(op),
             Err(_) => {
                 give_back(store, reserved);
                 Err(NoNode::OutOfMemory)

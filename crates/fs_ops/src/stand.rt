@@ -1,8 +1,6 @@
 //! Where a call stands.
 
-ghost use Rattle.std.specs.Prelude.{◌≡◌, ◌≤◌, None};
-ghost use Rattle.fs_names.specs.declared.limits.TheConstants.{PATH_LIMIT};
-ghost use Rattle.fs_walk.specs.Ways.{new_way};
+ghost use Rattle.std.specs.Prelude.{◌≡◌};
 ghost use Rattle.fs_ops.specs.code.NextByNodes.{held_last};
 
 use fs_nodes::NodeNo;
@@ -20,18 +18,6 @@ pub struct Stand {
 }
 
 impl Stand {
-    /// It holds nothing, and so many names lead to its target.
-    pub fn new(names: usize) -> Stand
-        requires { names ≤ PATH_LIMIT }
-        ensures { result ≡ record { walk = new_way names; fork = None; victim = None } }
-    {
-        Stand {
-            walk: Walk::new(names),
-            fork: None,
-            victim: None,
-        }
-    }
-
     /// The node that was taken last, of a call whose walk is at this one.
     pub fn held_last(&self, node: NodeNo) -> NodeNo
         ensures { result ≡ held_last node self.now.fork self.now.victim }
