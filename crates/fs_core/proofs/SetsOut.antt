@@ -1,4 +1,4 @@
--- On the heads of a rename whose common directory is none.
+-- On the heads of a rename whose common directory is a file or is not there: they have not left it.
 use Rattle.std.proofs.Common.{◌≡◌, ℕ, [], ◌∷◌, Option, Some, None, refl, sym, ap, ◌∙◌}
 use Rattle.fs_names.specs.Keys.{Key, parent_of}
 use Rattle.fs_names.specs.Parts.{left}
@@ -26,7 +26,7 @@ error_there (x ∷ l) None e h = h
 error_there (x ∷ l) (Some (File bytes)) e h = h
 error_there (x ∷ l) (Some (Dir names)) e h = absurd (cc)
 
--- a head does not leave what has no entries
+-- a head does not leave what is no directory
 stays : (graph : Graph) → IsGraph graph → (n m : ℕ) (walked : Key) (e : Errno) → as_dir None (graph.shape n) ≡ Some e → at graph.child n walked ≡ Some m → (walked ≡ []) × (m ≡ n)
 stays graph is n m [] e h way = (refl, cc)
 stays graph is n m (x ∷ walked) e h way = absurd (by (graph.child n x) refl way)
@@ -35,6 +35,7 @@ stays graph is n m (x ∷ walked) e h way = absurd (by (graph.child n x) refl wa
     by None k f = cc
     by (Some q) k f = let d = is.of_dir n q x k in no_dir (graph.shape n) e d.0 h d.1
 
+-- so it is in every state of a run
 pub sets_out : (s : State) (c : ℕ) (op : Record) (st : Holdings) → Run s → s.ops c ≡ Some op → op.holdings ≡ Some st → SetsOut s.graph op.remaining st
 sets_out s c op st run is on = go op.remaining
   where

@@ -79,7 +79,7 @@ pub record IsPlan (store : Seen) (op : OpValue) (plan : Plan) : Type 0 where
   pub is : plan ≡ plan_of store.graph op
   pub real : Changes plan (IsReal store)
 
--- a rename whose common directory is none has no head that left it
+-- the source head of a rename has not left a common directory that is a file or is not there
 abbrev pub SetsOut : Graph → Form → Holdings → Type 0
 SetsOut graph (AtNode c p) st = Unit {0}
 SetsOut graph (AtEntry c p) st = Unit {0}
