@@ -11,9 +11,10 @@ use Rattle.fs_calls.specs.Rows.{node_row}
 use Rattle.fs_calls.specs.declared.errno.Errno.{Errno}
 use Rattle.fs_calls.specs.declared.reply.Reply.TheVariants.{Done, Failed}
 use Rattle.fs_finish.specs.Paths.{first_path, second_path}
+use Rattle.fs_finish.specs.declared.plan.Route.{Route}
 use Rattle.fs_finish.specs.declared.plan.Moving.{Moving}
 use Rattle.fs_finish.specs.declared.plan.Plan.{Plan}
-use Rattle.fs_finish.specs.declared.plan.Plan.TheVariants.{Fails, Stays, Answers, Adds, Removes, Moves}
+use Rattle.fs_finish.specs.declared.plan.Plan.TheVariants.{Fails, Stays, Answers, Adds, Removes, Moves, Replaces}
 use Rattle.fs_machine.specs.Finishes.{Effect, no_effect, node_effect}
 use Rattle.fs_machine.specs.OpValues.{SpareIf}
 
@@ -36,10 +37,15 @@ rename_plan (Some e) same_path plan = Fails e
 rename_plan None true plan = Stays
 rename_plan None false plan = plan
 
--- a node that is there goes from one directory to the other
-abbrev pub moving : ℕ → ℕ → Bool → Option ℕ → Option ℕ → Plan
-moving source dest replaces victim None = Stays
-moving source dest replaces victim (Some n) = Moves (record { source = source; dest = dest; moved = n; replaces = replaces; victim = victim })
+-- a node goes to a name that is free, or in the place of another one
+abbrev pub moves : Bool → ℕ → Plan
+moves true n = Replaces n
+moves false n = Moves n
+
+-- the same of a node that is there
+abbrev pub moving : Bool → Option ℕ → Plan
+moving replaces None = Stays
+moving replaces (Some n) = moves replaces n
 
 -- the node that a finish would really move
 abbrev pub moved_by : Plan → Option ℕ
@@ -48,7 +54,8 @@ moved_by Stays = None
 moved_by (Answers n) = None
 moved_by (Adds dir) = None
 moved_by (Removes dir) = None
-moved_by (Moves m) = Some m.moved
+moved_by (Moves n) = Some n
+moved_by (Replaces n) = Some n
 
 -- ---- their effects
 
@@ -67,18 +74,23 @@ added graph dir x (Some n) = record { reply = Done; graph = linked_in dir x n gr
 abbrev pub removed : Graph → ℕ → Name → Option ℕ → Effect
 removed graph dir x reserved = record { reply = Done; graph = unlinked_in dir x graph; reserved = reserved; removed = graph.child dir x }
 
+-- a node's entry goes along the route of a rename
+abbrev pub along : Route → ℕ → Bool → Moving
+along route n replaces = record { source = route.source; dest = route.dest; moved = n; replaces = replaces; victim = route.victim }
+
 -- an entry goes to another directory, or to another name
 abbrev pub moved : Graph → Moving → Name → Name → Option ℕ → Effect
 moved graph m x y reserved = record { reply = Done; graph = moved_in m.source x m.dest y m.moved graph; reserved = reserved; removed = m.victim }
 
 -- a plan that is carried out
-abbrev pub carried : Graph → Form → Option ℕ → Plan → Effect
-carried graph call reserved (Fails e) = no_effect (Failed e) graph reserved
-carried graph call reserved Stays = no_effect Done graph reserved
-carried graph call reserved (Answers n) = answered_at graph call n reserved
-carried graph call reserved (Adds dir) = added graph dir (last_of (first_path call)) reserved
-carried graph call reserved (Removes dir) = removed graph dir (last_of (first_path call)) reserved
-carried graph call reserved (Moves m) = moved graph m (last_of (first_path call)) (last_of (second_path call)) reserved
+abbrev pub carried : Graph → Form → Route → Option ℕ → Plan → Effect
+carried graph call route reserved (Fails e) = no_effect (Failed e) graph reserved
+carried graph call route reserved Stays = no_effect Done graph reserved
+carried graph call route reserved (Answers n) = answered_at graph call n reserved
+carried graph call route reserved (Adds dir) = added graph dir (last_of (first_path call)) reserved
+carried graph call route reserved (Removes dir) = removed graph dir (last_of (first_path call)) reserved
+carried graph call route reserved (Moves n) = moved graph (along route n false) (last_of (first_path call)) (last_of (second_path call)) reserved
+carried graph call route reserved (Replaces n) = moved graph (along route n true) (last_of (first_path call)) (last_of (second_path call)) reserved
 
 -- ---- what they need of the store
 
@@ -89,7 +101,8 @@ Changes Stays R = Unit {0}
 Changes (Answers n) R = Unit {0}
 Changes (Adds dir) R = R
 Changes (Removes dir) R = R
-Changes (Moves m) R = R
+Changes (Moves n) R = R
+Changes (Replaces n) R = R
 
 -- a directory where the name is free, and a number that is not its own
 pub record CanAdd (store : Seen) (n : ℕ) (x : Name) (reserved : Option ℕ) : Type 0 where
@@ -115,10 +128,11 @@ pub record CanMove (store : Seen) (m : Moving) (x y : Name) : Type 0 where
   pub below : IsReached store.graph.child m.moved m.dest → ⊥
 
 -- a plan that can be carried out, of a call whose paths have names where it needs them
-abbrev pub CanCarryOut : Seen → Form → Option ℕ → Plan → Type 0
-CanCarryOut store call reserved (Fails e) = Unit {0}
-CanCarryOut store call reserved Stays = Unit {0}
-CanCarryOut store call reserved (Answers n) = Unit {0}
-CanCarryOut store call reserved (Adds dir) = (0 < length (first_path call)) × CanAdd store dir (last_of (first_path call)) reserved
-CanCarryOut store call reserved (Removes dir) = (0 < length (first_path call)) × CanRemove store dir (last_of (first_path call))
-CanCarryOut store call reserved (Moves m) = (0 < length (first_path call)) × (0 < length (second_path call)) × CanMove store m (last_of (first_path call)) (last_of (second_path call))
+abbrev pub CanCarryOut : Seen → Form → Route → Option ℕ → Plan → Type 0
+CanCarryOut store call route reserved (Fails e) = Unit {0}
+CanCarryOut store call route reserved Stays = Unit {0}
+CanCarryOut store call route reserved (Answers n) = Unit {0}
+CanCarryOut store call route reserved (Adds dir) = (0 < length (first_path call)) × CanAdd store dir (last_of (first_path call)) reserved
+CanCarryOut store call route reserved (Removes dir) = (0 < length (first_path call)) × CanRemove store dir (last_of (first_path call))
+CanCarryOut store call route reserved (Moves n) = (0 < length (first_path call)) × (0 < length (second_path call)) × CanMove store (along route n false) (last_of (first_path call)) (last_of (second_path call))
+CanCarryOut store call route reserved (Replaces n) = (0 < length (first_path call)) × (0 < length (second_path call)) × CanMove store (along route n true) (last_of (first_path call)) (last_of (second_path call))

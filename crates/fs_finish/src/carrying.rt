@@ -1,12 +1,14 @@
 //! A plan is carried out.
 
-ghost use Rattle.std.specs.Prelude.{◌≡◌, None};
+ghost use Rattle.std.specs.Prelude.{◌≡◌, ◌<◌, None, length};
+ghost use Rattle.fs_names.specs.Keys.{last_of};
 ghost use Rattle.fs_nodes.specs.Seen.{seen};
 ghost use Rattle.fs_nodes.specs.Stores.{shape, graph_of};
 ghost use Rattle.fs_calls.specs.Rows.{node_row};
 ghost use Rattle.fs_calls.specs.code.Targets.{form_of, node_call};
 ghost use Rattle.fs_finish.specs.Endings.{IsEffect};
-ghost use Rattle.fs_finish.specs.Plans.{carried, answered_at, CanCarryOut};
+ghost use Rattle.fs_finish.specs.Paths.{first_path, second_path};
+ghost use Rattle.fs_finish.specs.Plans.{carried, answered_at, moved, CanCarryOut, CanMove};
 ghost use Rattle.fs_finish.specs.Replies.{refilled};
 ghost use Rattle.fs_finish.specs.Rooms.{Suffices, SufficesFor};
 ghost use Rattle.fs_machine.specs.OpValues.{IsBounded};
@@ -14,7 +16,7 @@ ghost use Rattle.fs_machine.specs.OpValues.{IsBounded};
 use crate::entries::{add, remove};
 use crate::finish::Finish;
 use crate::paths::{first_path, second_path};
-use crate::plan::Plan;
+use crate::plan::{Moving, Plan, Route};
 use crate::queries::{read, readdir, stat};
 use crate::rename::rename;
 use crate::replies::Replies;
@@ -58,18 +60,37 @@ fn answer_at(
     }
 }
 
-/// Does what a plan says, of a call at this target that has this number reserved and this room prepared.
+/// An entry of a rename goes along its route.
+fn move_along(
+    aim: Target<'_>,
+    moving: Moving,
+    reserved: Option<NodeNo>,
+    store: &mut Store,
+) -> Finish
+    requires named { 0 < length (first_path (form_of aim)) }
+    requires new_named { 0 < length (second_path (form_of aim)) }
+    requires can { CanMove (seen store.old) moving (last_of (first_path (form_of aim))) (last_of (second_path (form_of aim))) }
+    ensures made { IsEffect (moved (graph_of store.old) moving (last_of (first_path (form_of aim.entry))) (last_of (second_path (form_of aim.entry))) reserved) result (graph_of store.new) }
+    ensures rest { seen store.new ≡ record (seen store.old) { graph = graph_of store.new } }
+{
+    let (from, to) = (first_path(aim), second_path(aim));
+    rename(store, moving, from.last_name(), to.last_name(), reserved)
+}
+
+/// Does what a plan says, of a call at this target and, if it is a rename, with this route, that has this number reserved and this
+/// room prepared.
 pub fn carry_out(
     aim: Target<'_>,
     plan: Plan,
+    route: Route,
     reserved: Option<NodeNo>,
     prepared: Room,
     store: &mut Store,
 ) -> Finish
     requires bounded { IsBounded (graph_of store.old) }
     requires room { Suffices (form_of aim) prepared }
-    requires can { CanCarryOut (seen store.old) (form_of aim) reserved plan }
-    ensures made { IsEffect (carried (graph_of store.old) (form_of aim.entry) reserved plan) result (graph_of store.new) }
+    requires can { CanCarryOut (seen store.old) (form_of aim) route reserved plan }
+    ensures made { IsEffect (carried (graph_of store.old) (form_of aim.entry) route reserved plan) result (graph_of store.new) }
     ensures rest { seen store.new ≡ record (seen store.old) { graph = graph_of store.new } }
 {
     match plan {
@@ -78,9 +99,7 @@ pub fn carry_out(
         Plan::Answers(node) => answer_at(aim, node, reserved, prepared, store),
         Plan::Adds(dir) => add(store, dir, first_path(aim).last_name(), reserved),
         Plan::Removes(dir) => remove(store, dir, first_path(aim).last_name(), reserved),
-        Plan::Moves(moving) => {
-            let (from, to) = (first_path(aim), second_path(aim));
-            rename(store, moving, from.last_name(), to.last_name(), reserved)
-        }
+        Plan::Moves(node) => move_along(aim, route.moving(node, false), reserved, store),
+        Plan::Replaces(node) => move_along(aim, route.moving(node, true), reserved, store),
     }
 }

@@ -25,6 +25,6 @@ pub mod write;
 pub use carrying::carry_out;
 pub use finish::Finish;
 pub use paths::Paths;
-pub use plan::{Moving, Plan};
+pub use plan::{Moving, Plan, Route};
 pub use replies::Replies;
 pub use room::Room;

@@ -1,10 +1,36 @@
 //! What a finish does, found before it is done.
 
 ghost use Rattle.std.specs.Prelude.{◌≡◌};
-ghost use Rattle.fs_finish.specs.Plans.{moved_by};
+ghost use Rattle.fs_finish.specs.Plans.{along, moved_by};
 
 use fs_calls::Errno;
 use fs_nodes::NodeNo;
+
+/// The route of a rename: where an entry is, where it goes, and the node that the call holds so as to remove it.
+#[derive(Clone, Copy, Debug, PartialEq, Eq)]
+pub struct Route {
+    /// The directory of the path.
+    pub source: NodeNo,
+    /// The directory of the new path.
+    pub dest: NodeNo,
+    /// The node that the new name had.
+    pub victim: Option<NodeNo>,
+}
+
+impl Route {
+    /// A node's entry goes along it, in the place of another one or not.
+    pub fn moving(self, moved: NodeNo, replaces: bool) -> Moving
+        ensures { result ≡ along self moved replaces }
+    {
+        Moving {
+            source: self.source,
+            dest: self.dest,
+            moved,
+            replaces,
+            victim: self.victim,
+        }
+    }
+}
 
 /// An entry that goes to another directory, or to another name.
 #[derive(Clone, Copy, Debug, PartialEq, Eq)]
@@ -35,8 +61,10 @@ pub enum Plan {
     Adds(NodeNo),
     /// An entry of this directory goes.
     Removes(NodeNo),
-    /// An entry moves.
-    Moves(Moving),
+    /// The entry of this node moves to a name that is free.
+    Moves(NodeNo),
+    /// The entry of this node moves, and the one that the new name had goes.
+    Replaces(NodeNo),
 }
 
 impl Plan {
@@ -45,7 +73,7 @@ impl Plan {
         ensures { result ≡ moved_by self.now }
     {
         match self {
-            Plan::Moves(moving) => Some(moving.moved),
+            Plan::Moves(node) | Plan::Replaces(node) => Some(*node),
             Plan::Fails(_) | Plan::Stays | Plan::Answers(_) | Plan::Adds(_) | Plan::Removes(_) => {
                 None
             }

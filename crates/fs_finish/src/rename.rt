@@ -55,21 +55,19 @@ fn place_fault(
     }
 }
 
-/// What a rename does from one directory to the other, by what stands for both names there and by the victim that it holds.
+/// What a rename does, by what stands for both names in the two directories.
 pub fn rename_plan(
     store: &Store,
-    source: NodeNo,
     moved: Option<NodeNo>,
     dest: NodeNo,
     there: Option<NodeNo>,
     paths: Paths,
-    victim: Option<NodeNo>,
 ) -> Plan
     requires moved { IfSome moved (λ node. IsTrue (is_there (shape store.now node))) }
     requires used { IfSome there (λ node. IsTrue (is_there (shape store.now node))) }
     ensures { result ≡ rename_plan
         (rename_fault None None (then_at moved (shape store.now)) paths.same (there_by paths.above (then_at there (shape store.now))) (paths.one_parent || not (is_full (shape store.now dest))))
-        paths.same (moving source dest (is_some there) victim moved) }
+        paths.same (moving (is_some there) moved) }
 {
     let Some(moved) = moved else {
         return Plan::Fails(Errno::Enoent);
@@ -79,13 +77,8 @@ pub fn rename_plan(
     }
     match place_fault(store, moved, dest, there, paths) {
         Some(errno) => Plan::Fails(errno),
-        None => Plan::Moves(Moving {
-            source,
-            dest,
-            moved,
-            replaces: there.is_some(),
-            victim,
-        }),
+        None if there.is_some() => Plan::Replaces(moved),
+        None => Plan::Moves(moved),
     }
 }
 

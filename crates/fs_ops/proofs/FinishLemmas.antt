@@ -19,10 +19,11 @@ use Rattle.fs_calls.specs.declared.errno.Errno.TheVariants.{Enoent}
 use Rattle.fs_calls.specs.declared.reply.Reply.TheVariants.{Failed, Done}
 use Rattle.fs_walk.specs.Ways.{Way, ForkWay}
 use Rattle.fs_finish.specs.declared.finish.Finish.{Finish}
+use Rattle.fs_finish.specs.declared.plan.Route.{Route}
 use Rattle.fs_finish.specs.declared.plan.Plan.{Plan}
-use Rattle.fs_finish.specs.declared.plan.Plan.TheVariants.{Fails, Stays, Answers, Adds, Removes, Moves}
+use Rattle.fs_finish.specs.declared.plan.Plan.TheVariants.{Fails, Stays, Answers, Adds, Removes, Moves, Replaces}
 use Rattle.fs_finish.specs.Endings.{IsEffect}
-use Rattle.fs_finish.specs.Plans.{node_plan, entry_plan, rename_plan, moving, carried, added, removed, moved, Changes, CanCarryOut}
+use Rattle.fs_finish.specs.Plans.{node_plan, entry_plan, rename_plan, moving, moves, along, carried, added, removed, moved, Changes, CanCarryOut, CanMove}
 use Rattle.fs_machine.specs.Finishes.{Effect, no_effect, entry_effect, move_effect, effect_at, effect_of, finish}
 use Rattle.fs_machine.specs.Moves.{target, path_error, dir_error, there_by}
 use Rattle.fs_machine.specs.Records.{Holdings, Record, Finished}
@@ -31,6 +32,7 @@ use Rattle.fs_ops.specs.declared.outcome.Outcome.{Outcome}
 use Rattle.fs_ops.specs.declared.outcome.Outcome.TheVariants.{Fixed}
 use Rattle.fs_ops.specs.OpValue.{dropped, holdings_of, holdings_with, op_value, IsForked, Forks, IsOp}
 use Rattle.fs_ops.specs.PlanOf.{pair_plan, plan_at, plan_by, plan_of, IsPlan}
+use Rattle.fs_ops.specs.code.NextByNodes.{route_by}
 use Rattle.fs_ops.specs.code.TakeAndLetGo.{started}
 use Rattle.fs_ops.proofs.KeyLemmas.{last_drop, target_drop}
 use Rattle.fs_ops.proofs.HeadLemmas.{head_error, text_named, is_parent, head_dir, heads_apart, heads_below}
@@ -40,59 +42,66 @@ use Rattle.fs_ops.proofs.TookLemmas.{common_short, holdings_node, started_forked
 -- ---- a plan does what the machine's finish does
 
 -- by what is left of the call
-entry_carried : (graph : Graph) (c : EntryCall) (p : Key) (n : ℕ) (reserved : Option ℕ) (fault : Option Errno) (new : Option Shape) → carried graph (AtEntry c p) reserved (entry_plan fault new n) ≡ entry_effect graph n (last_of p) reserved (answered fault Keep Done (edit_of new))
-entry_carried graph c p n None (Some e) new = refl
-entry_carried graph c p n (Some m) (Some e) new = refl
-entry_carried graph c p n None None (Some s) = refl
-entry_carried graph c p n (Some m) None (Some s) = refl
-entry_carried graph c p n None None None = refl
-entry_carried graph c p n (Some m) None None = refl
+entry_carried : (graph : Graph) (c : EntryCall) (p : Key) (n : ℕ) (route : Route) (reserved : Option ℕ) (fault : Option Errno) (new : Option Shape) → carried graph (AtEntry c p) route reserved (entry_plan fault new n) ≡ entry_effect graph n (last_of p) reserved (answered fault Keep Done (edit_of new))
+entry_carried graph c p n route None (Some e) new = refl
+entry_carried graph c p n route (Some m) (Some e) new = refl
+entry_carried graph c p n route None None (Some s) = refl
+entry_carried graph c p n route (Some m) None (Some s) = refl
+entry_carried graph c p n route None None None = refl
+entry_carried graph c p n route (Some m) None None = refl
+
+-- the route of a rename where it stands
+abbrev route_at : Holdings → Route
+route_at st = record { source = st.source.node; dest = st.dest.node; victim = st.victim }
 
 rename_carried : (graph : Graph) (p q : Key) (st : Holdings) (replaces : Bool) (reserved : Option ℕ) (fault : Option Errno) (same_path : Bool) (child : Option ℕ)
-    → carried graph (AtPair pairs.Rename p q) reserved (rename_plan fault same_path (moving st.source.node st.dest.node replaces st.victim child))
+    → carried graph (AtPair pairs.Rename p q) (route_at st) reserved (rename_plan fault same_path (moving replaces child))
     ≡ move_effect graph st (last_of p) (last_of q) reserved (answered fault false Done (not same_path)).0 (answered fault false Done (not same_path)).1 child
 rename_carried graph p q st replaces reserved (Some e) same_path child = refl
 rename_carried graph p q st replaces reserved None true child = refl
 rename_carried graph p q st replaces reserved None false None = refl
-rename_carried graph p q st replaces reserved None false (Some n) = refl
+rename_carried graph p q st true reserved None false (Some n) = refl
+rename_carried graph p q st false reserved None false (Some n) = refl
 
-carried_at : (graph : Graph) (rest : Form) (st : Holdings) (reserved : Option ℕ) → carried graph rest reserved (plan_at graph rest st) ≡ effect_at graph rest st reserved
+carried_at : (graph : Graph) (rest : Form) (st : Holdings) (reserved : Option ℕ) → carried graph rest (route_at st) reserved (plan_at graph rest st) ≡ effect_at graph rest st reserved
 carried_at graph (AtNode c []) st reserved = refl
 carried_at graph (AtNode c (x ∷ p)) st reserved = refl
-carried_at graph (AtEntry c p) st reserved = entry_carried graph c p st.node reserved (entry_fault c (dir_error (parent_of p) (graph.shape st.node)) (is_full (graph.shape st.node)) (entry_shape graph st.node (last_of p))) (new_shape c)
+carried_at graph (AtEntry c p) st reserved = entry_carried graph c p st.node (route_at st) reserved (entry_fault c (dir_error (parent_of p) (graph.shape st.node)) (is_full (graph.shape st.node)) (entry_shape graph st.node (last_of p))) (new_shape c)
 carried_at graph (AtPair pairs.Rename p q) st reserved = by (target (AtPair pairs.Rename p q))
   where
-    by : (l : Key) → carried graph (AtPair pairs.Rename p q) reserved (pair_plan graph p q st l) ≡ Rattle.fs_machine.specs.Finishes.rename_effect graph p q st reserved l
+    by : (l : Key) → carried graph (AtPair pairs.Rename p q) (route_at st) reserved (pair_plan graph p q st l) ≡ Rattle.fs_machine.specs.Finishes.rename_effect graph p q st reserved l
     by (z ∷ l) = refl
     by [] = rename_carried graph p q st (is_some (graph.child st.dest.node (last_of q))) reserved _ (is_end (after_prefix p q)) (graph.child st.source.node (last_of p))
 
 -- and by the whole call, whose last names are the same
-names_carried : (graph : Graph) (p q x y : Key) (reserved : Option ℕ) → last_of p ≡ last_of x → last_of q ≡ last_of y → (plan : Plan) → carried graph (AtPair pairs.Rename p q) reserved plan ≡ carried graph (AtPair pairs.Rename x y) reserved plan
-names_carried graph p q x y reserved e f (Fails errno) = refl
-names_carried graph p q x y reserved e f Stays = refl
-names_carried graph p q x y reserved e f (Answers n) = refl
-names_carried graph p q x y reserved e f (Adds dir) = ap (λ (z : Name). added graph dir z reserved) e
-names_carried graph p q x y reserved e f (Removes dir) = ap (λ (z : Name). removed graph dir z reserved) e
-names_carried graph p q x y reserved e f (Moves m) = ap₂ (λ (z w : Name). moved graph m z w reserved) e f
+names_carried : (graph : Graph) (p q x y : Key) (route : Route) (reserved : Option ℕ) → last_of p ≡ last_of x → last_of q ≡ last_of y → (plan : Plan) → carried graph (AtPair pairs.Rename p q) route reserved plan ≡ carried graph (AtPair pairs.Rename x y) route reserved plan
+names_carried graph p q x y route reserved e f (Fails errno) = refl
+names_carried graph p q x y route reserved e f Stays = refl
+names_carried graph p q x y route reserved e f (Answers n) = refl
+names_carried graph p q x y route reserved e f (Adds dir) = ap (λ (z : Name). added graph dir z reserved) e
+names_carried graph p q x y route reserved e f (Removes dir) = ap (λ (z : Name). removed graph dir z reserved) e
+names_carried graph p q x y route reserved e f (Moves n) = ap₂ (λ (z w : Name). moved graph (along route n false) z w reserved) e f
+names_carried graph p q x y route reserved e f (Replaces n) = ap₂ (λ (z w : Name). moved graph (along route n true) z w reserved) e f
 
-name_carried : (graph : Graph) (c : EntryCall) (p x : Key) (reserved : Option ℕ) → last_of p ≡ last_of x → (plan : Plan) → carried graph (AtEntry c p) reserved plan ≡ carried graph (AtEntry c x) reserved plan
-name_carried graph c p x reserved e (Fails errno) = refl
-name_carried graph c p x reserved e Stays = refl
-name_carried graph c p x reserved e (Answers n) = refl
-name_carried graph c p x reserved e (Adds dir) = ap (λ (z : Name). added graph dir z reserved) e
-name_carried graph c p x reserved e (Removes dir) = ap (λ (z : Name). removed graph dir z reserved) e
-name_carried graph c p x reserved e (Moves m) = ap₂ (λ (z w : Name). moved graph m z w reserved) e e
+name_carried : (graph : Graph) (c : EntryCall) (p x : Key) (route : Route) (reserved : Option ℕ) → last_of p ≡ last_of x → (plan : Plan) → carried graph (AtEntry c p) route reserved plan ≡ carried graph (AtEntry c x) route reserved plan
+name_carried graph c p x route reserved e (Fails errno) = refl
+name_carried graph c p x route reserved e Stays = refl
+name_carried graph c p x route reserved e (Answers n) = refl
+name_carried graph c p x route reserved e (Adds dir) = ap (λ (z : Name). added graph dir z reserved) e
+name_carried graph c p x route reserved e (Removes dir) = ap (λ (z : Name). removed graph dir z reserved) e
+name_carried graph c p x route reserved e (Moves n) = ap₂ (λ (z w : Name). moved graph (along route n false) z w reserved) e e
+name_carried graph c p x route reserved e (Replaces n) = ap₂ (λ (z w : Name). moved graph (along route n true) z w reserved) e e
 
-carried_whole : (graph : Graph) (call : Form) (k : ℕ) (st : Holdings) (reserved : Option ℕ) → k ≤ length (target call) → carried graph call reserved (plan_at graph (dropped k call) st) ≡ carried graph (dropped k call) reserved (plan_at graph (dropped k call) st)
-carried_whole graph (AtNode c p) k st reserved h = by (path_error (drop k p) (graph.shape st.node))
+carried_whole : (graph : Graph) (call : Form) (k : ℕ) (st : Holdings) (route : Route) (reserved : Option ℕ) → k ≤ length (target call) → carried graph call route reserved (plan_at graph (dropped k call) st) ≡ carried graph (dropped k call) route reserved (plan_at graph (dropped k call) st)
+carried_whole graph (AtNode c p) k st route reserved h = by (path_error (drop k p) (graph.shape st.node))
   where
-    by : (o : Option Errno) → carried graph (AtNode c p) reserved (node_plan o st.node) ≡ carried graph (AtNode c (drop k p)) reserved (node_plan o st.node)
+    by : (o : Option Errno) → carried graph (AtNode c p) route reserved (node_plan o st.node) ≡ carried graph (AtNode c (drop k p)) route reserved (node_plan o st.node)
     by None = refl
     by (Some e) = refl
-carried_whole graph (AtEntry c p) k st reserved h = name_carried graph c p (drop k p) reserved (sym (last_drop k p h)) (plan_at graph (AtEntry c (drop k p)) st)
-carried_whole graph (AtPair pairs.Rename p q) k st reserved h =
+carried_whole graph (AtEntry c p) k st route reserved h = name_carried graph c p (drop k p) route reserved (sym (last_drop k p h)) (plan_at graph (AtEntry c (drop k p)) st)
+carried_whole graph (AtPair pairs.Rename p q) k st route reserved h =
     let s = common_short (parent_of p) (parent_of q) in
-    names_carried graph p q (drop k p) (drop k q) reserved (sym (last_drop k p (omega arith))) (sym (last_drop k q (omega arith))) (plan_at graph (AtPair pairs.Rename (drop k p) (drop k q)) st)
+    names_carried graph p q (drop k p) (drop k q) route reserved (sym (last_drop k p (omega arith))) (sym (last_drop k q (omega arith))) (plan_at graph (AtPair pairs.Rename (drop k p) (drop k q)) st)
 
 -- a finish by the paths, by what is left of the call and where it stands
 abbrev finished_by : Graph → Option Errno → Form → Option Holdings → Option ℕ → Effect
@@ -100,27 +109,37 @@ finished_by graph (Some e) rest st reserved = no_effect (Failed e) graph reserve
 finished_by graph None rest None reserved = no_effect (Failed Enoent) graph reserved
 finished_by graph None rest (Some st) reserved = effect_at graph rest st reserved
 
-carried_by : (graph : Graph) (call : Form) (k : ℕ) (e : Option Errno) (st : Option Holdings) (reserved : Option ℕ) → k ≤ length (target call) → carried graph call reserved (plan_by graph e (dropped k call) st) ≡ finished_by graph e (dropped k call) st reserved
-carried_by graph call k (Some e) st reserved h = refl
-carried_by graph call k None None reserved h = refl
-carried_by graph call k None (Some st) reserved h = carried_whole graph call k st reserved h ∙ carried_at graph (dropped k call) st reserved
+carried_by : (graph : Graph) (call : Form) (k : ℕ) (e : Option Errno) (st : Option Holdings) (route : Route) (reserved : Option ℕ) → ((s : Holdings) → st ≡ Some s → route ≡ route_at s) → k ≤ length (target call) → carried graph call route reserved (plan_by graph e (dropped k call) st) ≡ finished_by graph e (dropped k call) st reserved
+carried_by graph call k (Some e) st route reserved at h = refl
+carried_by graph call k None None route reserved at h = refl
+carried_by graph call k None (Some st) route reserved at h =
+    ap (λ (z : Route). carried graph call z reserved (plan_at graph (dropped k call) st)) (at st refl) ∙ carried_whole graph call k st (route_at st) reserved h ∙ carried_at graph (dropped k call) st reserved
 
 finish_by : (graph : Graph) (op : Record) (e : Option Errno) (st : Option Holdings) → effect_of graph op e st ≡ finished_by graph e op.remaining st op.reserved
 finish_by graph op (Some e) st = refl
 finish_by graph op None None = refl
 finish_by graph op None (Some st) = refl
 
+-- the route by what the code of a call keeps
+route_with : (call : Form) (n : ℕ) (behind : Option ℕ) (fork : Option ForkWay) (victim : Option ℕ) → route_by (Some n) fork victim ≡ route_at (holdings_with call n behind fork victim)
+route_with call n behind None victim = refl
+route_with call n behind (Some heads) victim = refl
+
+route_there : (call : Form) (o behind : Option ℕ) (fork : Option ForkWay) (victim : Option ℕ) (st : Holdings) → holdings_of call o behind fork victim ≡ Some st → route_by o fork victim ≡ route_at st
+route_there call None behind fork victim st e = absurd (cc)
+route_there call (Some n) behind fork victim st e = let s : holdings_with call n behind fork victim ≡ st = cc in route_with call n behind fork victim ∙ ap route_at s
+
 -- the record and the graph after a finish
 module _ (graph : Graph) (call : Call) (way : Way) (fork : Option ForkWay) (victim reserved removed : Option ℕ) (error : Option Errno) (outcome : Outcome) (op : IsOp (form call) error way fork outcome)
-    (plan : Plan) (is : plan ≡ plan_of graph (op_value call way fork victim reserved removed outcome)) (done : Finish) (new : Graph) (made : IsEffect (carried graph (form call) reserved plan) done new) where
+    (plan : Plan) (is : plan ≡ plan_of graph (op_value call way fork victim reserved removed outcome)) (done : Finish) (new : Graph) (made : IsEffect (carried graph (form call) (route_by way.node fork victim) reserved plan) done new) where
   abbrev before : OpValue
   before = op_value call way fork victim reserved removed outcome
 
-  effect_is : (seat : ℕ) (place : Option ℕ) → carried graph (form call) reserved plan ≡ finish graph (record_of seat place before)
+  effect_is : (seat : ℕ) (place : Option ℕ) → carried graph (form call) (route_by way.node fork victim) reserved plan ≡ finish graph (record_of seat place before)
   effect_is seat place =
       let h : way.walked ≤ length (target (form call)) = omega (arith, op.within, op.names) in
-      ap (carried graph (form call) reserved) is
-      ∙ carried_by graph (form call) way.walked (by_text (form call)) before.holdings reserved h
+      ap (carried graph (form call) (route_by way.node fork victim) reserved) is
+      ∙ carried_by graph (form call) way.walked (by_text (form call)) before.holdings (route_by way.node fork victim) reserved (route_there (form call) way.node way.behind fork victim) h
       ∙ sym (finish_by graph (record_of seat place before) (by_text (form call)) before.holdings)
 
   pub finished_is : IsFinished graph before (op_value call way fork victim done.reserved done.removed (Fixed done.replies))
@@ -184,18 +203,18 @@ there_if None shapes e = absurd (cc)
 there_if (Some n) shapes e = refl
 
 -- a call on an entry
-module _ (store : Seen) (p : Key) (n : ℕ) (reserved : Option ℕ) (named : 0 < length p) (spare : SpareIf store.graph reserved) (other : reserved ≡ Some n → ⊥) where
+module _ (store : Seen) (p : Key) (n : ℕ) (route : Route) (reserved : Option ℕ) (named : 0 < length p) (spare : SpareIf store.graph reserved) (other : reserved ≡ Some n → ⊥) where
   abbrev there : Option Shape
   there = entry_shape store.graph n (last_of p)
 
-  can_add : (c : EntryCall) → IsReal store → as_dir None (store.graph.shape n) ≡ None → there ≡ None → CanCarryOut store (AtEntry c p) reserved (Adds n)
+  can_add : (c : EntryCall) → IsReal store → as_dir None (store.graph.shape n) ≡ None → there ≡ None → CanCarryOut store (AtEntry c p) route reserved (Adds n)
   can_add c real dir free = (named, record { real = real; dir = is_parent (store.graph.shape n) dir; absent = child_free store n (last_of p) real free; spare = spare; other = other })
 
-  can_remove : (c : EntryCall) → (is_there there ≡ true) × (has_entries there ≡ false) → CanCarryOut store (AtEntry c p) reserved (Removes n)
+  can_remove : (c : EntryCall) → (is_there there ≡ true) × (has_entries there ≡ false) → CanCarryOut store (AtEntry c p) route reserved (Removes n)
   can_remove c h = (named, record { there = there_if (store.graph.child n (last_of p)) store.graph.shape h.0; bare = bare_if (store.graph.child n (last_of p)) store.graph.shape h.1 })
 
   entry_can : (c : EntryCall) (fault : Option Errno) → entry_fault c (as_dir None (store.graph.shape n)) (is_full (store.graph.shape n)) there ≡ fault → Changes (entry_plan fault (new_shape c) n) (IsReal store)
-      → CanCarryOut store (AtEntry c p) reserved (entry_plan fault (new_shape c) n)
+      → CanCarryOut store (AtEntry c p) route reserved (entry_plan fault (new_shape c) n)
   entry_can c (Some e) h real = tt
   entry_can entries.Mkdir None h real = let b = both_none (as_dir None (store.graph.shape n)) _ h in can_add entries.Mkdir real b.0 (makes_free (is_full (store.graph.shape n)) there b.1)
   entry_can entries.Mknod None h real = let b = both_none (as_dir None (store.graph.shape n)) _ h in can_add entries.Mknod real b.0 (makes_free (is_full (store.graph.shape n)) there b.1)
@@ -241,8 +260,11 @@ module _ (store : Seen) (p q : Key) (heads : ForkWay) (m : ℕ) (behind victim r
   abbrev replaces : Bool
   replaces = is_some (store.graph.child heads.dest.node (last_of q))
 
+  abbrev route : Route
+  route = record { source = heads.source.node; dest = heads.dest.node; victim = victim }
+
   can_move : (n : ℕ) → is_end (after_prefix p q) ≡ false → rename_fault a b from false to room ≡ None → store.graph.child heads.source.node (last_of p) ≡ Some n → IsReal store
-      → CanCarryOut store (AtPair pairs.Rename p q) reserved (Moves (record { source = heads.source.node; dest = heads.dest.node; moved = n; replaces = replaces; victim = victim }))
+      → (0 < length p) × (0 < length q) × CanMove store (along route n replaces) (last_of p) (last_of q)
   can_move n other none child real =
       let named = text_named p q text in
       let one = both_none a _ none in
@@ -261,14 +283,22 @@ module _ (store : Seen) (p q : Key) (heads : ForkWay) (m : ℕ) (behind victim r
         },
       )
 
+  can_moves : (n : ℕ) (r : Bool) → (0 < length p) × (0 < length q) × CanMove store (along route n r) (last_of p) (last_of q) → CanCarryOut store (AtPair pairs.Rename p q) route reserved (moves r n)
+  can_moves n true h = h
+  can_moves n false h = h
+
+  real_of : (r : Bool) (n : ℕ) → Changes (moves r n) (IsReal store) → IsReal store
+  real_of true n h = h
+  real_of false n h = h
+
   pair_can_by : (same_path : Bool) → is_end (after_prefix p q) ≡ same_path → (fault : Option Errno) → rename_fault a b from same_path to room ≡ fault → (o : Option ℕ) → store.graph.child heads.source.node (last_of p) ≡ o
-      → Changes (rename_plan fault same_path (moving heads.source.node heads.dest.node replaces victim o)) (IsReal store) → CanCarryOut store (AtPair pairs.Rename p q) reserved (rename_plan fault same_path (moving heads.source.node heads.dest.node replaces victim o))
+      → Changes (rename_plan fault same_path (moving replaces o)) (IsReal store) → CanCarryOut store (AtPair pairs.Rename p q) route reserved (rename_plan fault same_path (moving replaces o))
   pair_can_by same_path e (Some f) h o k real = tt
   pair_can_by true e None h o k real = tt
   pair_can_by false e None h None k real = tt
-  pair_can_by false e None h (Some n) k real = can_move n e h k real
+  pair_can_by false e None h (Some n) k real = can_moves n replaces (can_move n e h k (real_of replaces n real))
 
-  pair_can : Changes (pair_by store.graph p q heads victim a b) (IsReal store) → CanCarryOut store (AtPair pairs.Rename p q) reserved (pair_by store.graph p q heads victim a b)
+  pair_can : Changes (pair_by store.graph p q heads a b) (IsReal store) → CanCarryOut store (AtPair pairs.Rename p q) route reserved (pair_by store.graph p q heads a b)
   pair_can real = pair_can_by (is_end (after_prefix p q)) refl (rename_fault a b from (is_end (after_prefix p q)) to room) refl (store.graph.child heads.source.node (last_of p)) refl real
 
 -- ---- each call
@@ -277,17 +307,21 @@ entry_named : (c : EntryCall) (p : Key) → by_text (AtEntry c p) ≡ None → 0
 entry_named c [] e = absurd (cc)
 entry_named c (x ∷ p) e = omega arith
 
-abbrev CanBy : Seen → Form → Option ℕ → Plan → Type 0
-CanBy store call reserved plan = Changes plan (IsReal store) → CanCarryOut store call reserved plan
+abbrev CanBy : Seen → Form → Route → Option ℕ → Plan → Type 0
+CanBy store call route reserved plan = Changes plan (IsReal store) → CanCarryOut store call route reserved plan
+
+route_started : (n names : ℕ) (fork : Option ForkWay) (victim : Option ℕ) → route_by (Some n) (Some (started fork n names)) victim ≡ route_by (Some n) fork victim
+route_started n names None victim = refl
+route_started n names (Some heads) victim = refl
 
 -- at its target
 arrived_can : (store : Seen) (call : Form) (way : Way) (n : ℕ) (fork : Option ForkWay) (victim reserved : Option ℕ) → by_text call ≡ None → way.node ≡ Some n → way.names ≡ length (target call) → way.walked ≡ way.names → Forks call way fork
-    → CanFinish store.graph reserved (dropped way.walked call) (Some (holdings_with call n way.behind fork victim)) → CanBy store call reserved (plan_at store.graph (dropped way.walked call) (holdings_with call n way.behind fork victim))
-arrived_can store (AtNode c p) way n fork victim reserved text node names arrived forks can = subst (CanBy store (AtNode c p) reserved) (sym (node_is store.graph way n fork victim arrived c p names)) (λ real. tt)
+    → CanFinish store.graph reserved (dropped way.walked call) (Some (holdings_with call n way.behind fork victim)) → CanBy store call (route_by (Some n) fork victim) reserved (plan_at store.graph (dropped way.walked call) (holdings_with call n way.behind fork victim))
+arrived_can store (AtNode c p) way n fork victim reserved text node names arrived forks can = subst (CanBy store (AtNode c p) (route_by (Some n) fork victim) reserved) (sym (node_is store.graph way n fork victim arrived c p names)) (λ real. tt)
 arrived_can store (AtEntry c p) way n fork victim reserved text node names arrived forks can =
     let at : (holdings_with (AtEntry c p) n way.behind fork victim).node ≡ n = holdings_node (AtEntry c p) n way.behind fork victim in
-    subst (CanBy store (AtEntry c p) reserved) (sym (entry_is store.graph way n fork victim arrived c p names))
-    (entry_can store p n reserved (entry_named c p text) can.spare (λ e. can.other _ refl (e ∙ ap (λ (m : ℕ). Some m) (sym at))) c (entry_fault c (as_dir None (store.graph.shape n)) (is_full (store.graph.shape n)) (entry_shape store.graph n (last_of p))) refl)
+    subst (CanBy store (AtEntry c p) (route_by (Some n) fork victim) reserved) (sym (entry_is store.graph way n fork victim arrived c p names))
+    (entry_can store p n (route_by (Some n) fork victim) reserved (entry_named c p text) can.spare (λ e. can.other _ refl (e ∙ ap (λ (m : ℕ). Some m) (sym at))) c (entry_fault c (as_dir None (store.graph.shape n)) (is_full (store.graph.shape n)) (entry_shape store.graph n (last_of p))) refl)
 arrived_can store (AtPair pairs.Rename p q) way n fork victim reserved text node names arrived forks can =
     let heads : ForkWay = started fork n way.names in
     let forked : IsForked p q way heads = started_forked p q way fork n node arrived names forks in
@@ -297,14 +331,15 @@ arrived_can store (AtPair pairs.Rename p q) way n fork victim reserved text node
     let moves : MovesApart store.graph (AtPair pairs.Rename (drop way.walked p) (drop way.walked q)) (holdings_with (AtPair pairs.Rename p q) n way.behind (Some heads) victim) = subst (λ (z : Holdings). MovesApart store.graph (AtPair pairs.Rename (drop way.walked p) (drop way.walked q)) z) same (can.apart _ refl) in
     let below : MovesApart store.graph (AtPair pairs.Rename (drop heads.names p) (drop heads.names q)) (holdings_with (AtPair pairs.Rename p q) n way.behind (Some heads) victim) =
     subst (λ (m : ℕ). MovesApart store.graph (AtPair pairs.Rename (drop m p) (drop m q)) (holdings_with (AtPair pairs.Rename p q) n way.behind (Some heads) victim)) (sym forked.names) moves in
-    subst (CanBy store (AtPair pairs.Rename p q) reserved) (sym (pair_is store.graph way n fork victim arrived p q node names forks))
-    (pair_can store p q heads n way.behind victim reserved text short forked.source forked.dest apart below)
+    subst (λ (z : Route). CanBy store (AtPair pairs.Rename p q) z reserved (plan_at store.graph (dropped way.walked (AtPair pairs.Rename p q)) (holdings_with (AtPair pairs.Rename p q) n way.behind fork victim))) (route_started n way.names fork victim)
+    (subst (CanBy store (AtPair pairs.Rename p q) (record { source = heads.source.node; dest = heads.dest.node; victim = victim }) reserved) (sym (pair_is store.graph way n fork victim arrived p q node names forks))
+    (pair_can store p q heads n way.behind victim reserved text short forked.source forked.dest apart below))
 
 left_none : (k : ℕ) (l : Key) → drop k l ≡ [] → length l ≤ k
 left_none k l e = let h : length (drop k l) ≡ length l - k = length-drop k l in let z : length (drop k l) ≡ 0 = ap length e in omega (arith, h, z)
 
 can_by : (store : Seen) (call : Form) (way : Way) (fork : Option ForkWay) (victim reserved : Option ℕ) (e : Option Errno) (o : Option ℕ) → by_text call ≡ e → way.node ≡ o → way.names ≡ length (target call) → way.walked ≤ way.names → Forks call way fork
-    → CanFinish store.graph reserved (dropped way.walked call) (holdings_of call o way.behind fork victim) → CanBy store call reserved (plan_by store.graph e (dropped way.walked call) (holdings_of call o way.behind fork victim))
+    → CanFinish store.graph reserved (dropped way.walked call) (holdings_of call o way.behind fork victim) → CanBy store call (route_by o fork victim) reserved (plan_by store.graph e (dropped way.walked call) (holdings_of call o way.behind fork victim))
 can_by store call way fork victim reserved (Some e) o text node names within forks can = λ real. tt
 can_by store call way fork victim reserved None None text node names within forks can = λ real. tt
 can_by store call way fork victim reserved None (Some n) text node names within forks can = by (target (dropped way.walked call)) refl
@@ -312,14 +347,14 @@ can_by store call way fork victim reserved None (Some n) text node names within 
     st : Holdings
     st = holdings_with call n way.behind fork victim
 
-    by : (l : Key) → target (dropped way.walked call) ≡ l → CanBy store call reserved (plan_at store.graph (dropped way.walked call) st)
-    by (z ∷ l) is = subst (CanBy store call reserved) (sym (lost_plan store.graph (dropped way.walked call) st z l is)) (λ real. tt)
+    by : (l : Key) → target (dropped way.walked call) ≡ l → CanBy store call (route_by (Some n) fork victim) reserved (plan_at store.graph (dropped way.walked call) st)
+    by (z ∷ l) is = subst (CanBy store call (route_by (Some n) fork victim) reserved) (sym (lost_plan store.graph (dropped way.walked call) st z l is)) (λ real. tt)
     by [] is =
         let past : length (target call) ≤ way.walked = left_none way.walked (target call) (sym (target_drop way.walked call (omega arith)) ∙ is) in
         arrived_can store call way n fork victim reserved text node names (omega arith) forks can
 
 -- the plan of a call in a store
 pub can_carry_out : (store : Seen) (call : Call) (way : Way) (fork : Option ForkWay) (victim reserved removed : Option ℕ) (error : Option Errno) (outcome : Outcome) (plan : Plan) → IsOp (form call) error way fork outcome → IsPlan store (op_value call way fork victim reserved removed outcome) plan
-    → CanFinish store.graph reserved (dropped way.walked (form call)) (holdings_of (form call) way.node way.behind fork victim) → CanCarryOut store (form call) reserved plan
+    → CanFinish store.graph reserved (dropped way.walked (form call)) (holdings_of (form call) way.node way.behind fork victim) → CanCarryOut store (form call) (route_by way.node fork victim) reserved plan
 can_carry_out store call way fork victim reserved removed error outcome plan op planned can =
-    subst (CanBy store (form call) reserved) (sym planned.is) (can_by store (form call) way fork victim reserved (by_text (form call)) way.node refl refl op.names op.within op.forks can) planned.real
+    subst (CanBy store (form call) (route_by way.node fork victim) reserved) (sym planned.is) (can_by store (form call) way fork victim reserved (by_text (form call)) way.node refl refl op.names op.within op.forks can) planned.real

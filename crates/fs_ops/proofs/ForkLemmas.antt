@@ -48,12 +48,13 @@ move_take true (Some n) (Some v) plan = refl
 move_take true None victim plan = refl
 move_take false there victim plan = refl
 
-moved_rename : (fault : Option Errno) (same_path : Bool) (source dest : ℕ) (replaces : Bool) (victim child : Option ℕ)
-    → moved_by (rename_plan fault same_path (moving source dest replaces victim child)) ≡ moved_node (answered fault false Done (not same_path)).1 child
-moved_rename (Some e) same_path source dest replaces victim child = refl
-moved_rename None true source dest replaces victim child = refl
-moved_rename None false source dest replaces victim None = refl
-moved_rename None false source dest replaces victim (Some n) = refl
+moved_rename : (fault : Option Errno) (same_path replaces : Bool) (child : Option ℕ)
+    → moved_by (rename_plan fault same_path (moving replaces child)) ≡ moved_node (answered fault false Done (not same_path)).1 child
+moved_rename (Some e) same_path replaces child = refl
+moved_rename None true replaces child = refl
+moved_rename None false replaces None = refl
+moved_rename None false true (Some n) = refl
+moved_rename None false false (Some n) = refl
 
 -- a rename from one directory to another
 abbrev between_move : Graph → ℕ → Name → ℕ → Name → Bool → Bool → Bool → Option ℕ → Move
@@ -67,7 +68,7 @@ move_between graph source x dest y same_path above one_parent victim =
     let wanted : Bool = same_kind (entry_shape graph source x) (entry_shape graph dest y) && not same_path && not above in
     let fault : Option Errno = rename_fault None None (entry_shape graph source x) same_path (there_by above (entry_shape graph dest y)) (one_parent || not (is_full (graph.shape dest))) in
     move_take wanted (graph.child dest y) victim _
-    ∙ ap (λ (m : Option ℕ). take_if wanted (graph.child dest y) victim (Finishes m)) (moved_rename fault same_path source dest (is_some (graph.child dest y)) victim (graph.child source x))
+    ∙ ap (λ (m : Option ℕ). take_if wanted (graph.child dest y) victim (Finishes m)) (moved_rename fault same_path (is_some (graph.child dest y)) (graph.child source x))
 
 -- with both parents held
 between_is : (graph : Graph) (p q : Key) (fork : ForkWay) (m : ℕ) (behind victim : Option ℕ) → fork.names + fork.source.walked ≤ length (parent_of p) → fork.names + fork.dest.walked ≤ length (parent_of q) → fork.names ≤ length (common (parent_of p) (parent_of q))

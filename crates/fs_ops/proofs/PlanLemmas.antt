@@ -44,16 +44,16 @@ lost_plan graph (AtEntry c p) st z l e = ap (λ (k : Key). entry_plan (entry_fau
 lost_plan graph (AtPair pairs.Rename p q) st z l e = ap (λ (k : Key). pair_plan graph p q st k) e
 
 -- a rename by its heads, and by what kept them from their parents
-abbrev pub pair_by : Graph → Key → Key → ForkWay → Option ℕ → Option Errno → Option Errno → Plan
-pair_by graph p q heads victim a b =
+abbrev pub pair_by : Graph → Key → Key → ForkWay → Option Errno → Option Errno → Plan
+pair_by graph p q heads a b =
     rename_plan
     (rename_fault a b (entry_shape graph heads.source.node (last_of p)) (is_end (after_prefix p q)) (there_by (has_more (after_prefix q p)) (entry_shape graph heads.dest.node (last_of q)))
     (is_end (after_prefix (parent_of p) (parent_of q)) || not (is_full (graph.shape heads.dest.node))))
     (is_end (after_prefix p q))
-    (moving heads.source.node heads.dest.node (is_some (graph.child heads.dest.node (last_of q))) victim (graph.child heads.source.node (last_of p)))
+    (moving (is_some (graph.child heads.dest.node (last_of q))) (graph.child heads.source.node (last_of p)))
 
-abbrev pub heads_plan : Graph → Key → Key → ForkWay → Option ℕ → Plan
-heads_plan graph p q heads victim = pair_by graph p q heads victim (head_error graph p heads.names heads.source) (head_error graph q heads.names heads.dest)
+abbrev pub heads_plan : Graph → Key → Key → ForkWay → Plan
+heads_plan graph p q heads = pair_by graph p q heads (head_error graph p heads.names heads.source) (head_error graph q heads.names heads.dest)
 
 module _ (graph : Graph) (way : Way) (n : ℕ) (fork : Option ForkWay) (victim : Option ℕ) (arrived : way.walked ≡ way.names) where
   -- at its target: a call on a node
@@ -74,7 +74,7 @@ module _ (graph : Graph) (way : Way) (n : ℕ) (fork : Option ForkWay) (victim :
 
   -- a rename
   pub pair_is : (p q : Key) → way.node ≡ Some n → way.names ≡ length (common (parent_of p) (parent_of q)) → Forks (AtPair pairs.Rename p q) way fork
-      → plan_at graph (dropped way.walked (AtPair pairs.Rename p q)) (holdings_with (AtPair pairs.Rename p q) n way.behind fork victim) ≡ heads_plan graph p q (started fork n way.names) victim
+      → plan_at graph (dropped way.walked (AtPair pairs.Rename p q)) (holdings_with (AtPair pairs.Rename p q) n way.behind fork victim) ≡ heads_plan graph p q (started fork n way.names)
   pair_is p q node names forks =
       let heads : ForkWay = started fork n way.names in
       let forked : IsForked p q way heads = started_forked p q way fork n node arrived names forks in
@@ -95,7 +95,7 @@ module _ (graph : Graph) (way : Way) (n : ℕ) (fork : Option ForkWay) (victim :
       ∙ (λ i. rename_plan
       (rename_fault a b (entry_shape graph heads.source.node (x i)) (s i) (there_by (u i) (entry_shape graph heads.dest.node (y i))) (o i || not (is_full (graph.shape heads.dest.node))))
       (s i)
-      (moving heads.source.node heads.dest.node (is_some (graph.child heads.dest.node (y i))) victim (graph.child heads.source.node (x i))))
+      (moving (is_some (graph.child heads.dest.node (y i))) (graph.child heads.source.node (x i))))
 
 -- ---- the plan that comes with a next move
 
@@ -157,11 +157,11 @@ module _ (graph : Graph) (p q : Key) (heads : ForkWay) (victim : Option ℕ) (so
   abbrev dest_error : Option Errno
   dest_error = head_error graph q heads.names heads.dest
 
-  fails_first : (e : Errno) → source_error ≡ Some e → Fails e ≡ heads_plan graph p q heads victim
-  fails_first e h = sym (ap (λ (o : Option Errno). pair_by graph p q heads victim o dest_error) h)
+  fails_first : (e : Errno) → source_error ≡ Some e → Fails e ≡ heads_plan graph p q heads
+  fails_first e h = sym (ap (λ (o : Option Errno). pair_by graph p q heads o dest_error) h)
 
-  fails_second : (e : Errno) → source_error ≡ None → dest_error ≡ Some e → Fails e ≡ heads_plan graph p q heads victim
-  fails_second e h g = sym (ap₂ (pair_by graph p q heads victim) h g)
+  fails_second : (e : Errno) → source_error ≡ None → dest_error ≡ Some e → Fails e ≡ heads_plan graph p q heads
+  fails_second e h g = sym (ap₂ (pair_by graph p q heads) h g)
 
   abbrev source_want : Want
   source_want = dir_want graph heads.source (head_name p heads.names heads.source)
@@ -170,26 +170,26 @@ module _ (graph : Graph) (p q : Key) (heads : ForkWay) (victim : Option ℕ) (so
   dest_want = dir_want graph heads.dest (head_name q heads.names heads.dest)
 
   -- one that fails
-  pair_lost : ((e : Errno) → as_dir None (graph.shape heads.node) ≡ Some e → source_error ≡ Some e) → (e : Errno) → fork_want graph p q heads ≡ Lost e → Fails e ≡ heads_plan graph p q heads victim
+  pair_lost : ((e : Errno) → as_dir None (graph.shape heads.node) ≡ Some e → source_error ≡ Some e) → (e : Errno) → fork_want graph p q heads ≡ Lost e → Fails e ≡ heads_plan graph p q heads
   pair_lost sets e lost = first (then_lost (at_dir (graph.shape heads.node)) (then_want source_want dest_want) e lost)
     where
-      second : (source_want ≡ Lost e) ⊎ ((source_want ≡ Arrived) × (dest_want ≡ Lost e)) → Fails e ≡ heads_plan graph p q heads victim
+      second : (source_want ≡ Lost e) ⊎ ((source_want ≡ Arrived) × (dest_want ≡ Lost e)) → Fails e ≡ heads_plan graph p q heads
       second (inl h) = fails_first e (head_lost graph p heads.names heads.source e source h)
       second (inr h) = fails_second e (parent_reached graph p heads.names heads.source source h.0) (head_lost graph q heads.names heads.dest e dest h.1)
 
-      first : (at_dir (graph.shape heads.node) ≡ Lost e) ⊎ ((at_dir (graph.shape heads.node) ≡ Arrived) × (then_want source_want dest_want ≡ Lost e)) → Fails e ≡ heads_plan graph p q heads victim
+      first : (at_dir (graph.shape heads.node) ≡ Lost e) ⊎ ((at_dir (graph.shape heads.node) ≡ Arrived) × (then_want source_want dest_want ≡ Lost e)) → Fails e ≡ heads_plan graph p q heads
       first (inl h) = fails_first e (sets e (dir_lost (graph.shape heads.node) e h))
       first (inr h) = second (then_lost source_want dest_want e h.1)
 
   -- and what comes with its next move
-  pub pair_found : IfFinish (heads_next graph p q heads victim) (λ plan. ((e : Errno) → as_dir None (graph.shape heads.node) ≡ Some e → source_error ≡ Some e) → plan ≡ heads_plan graph p q heads victim)
+  pub pair_found : IfFinish (heads_next graph p q heads victim) (λ plan. ((e : Errno) → as_dir None (graph.shape heads.node) ≡ Some e → source_error ≡ Some e) → plan ≡ heads_plan graph p q heads)
   pair_found =
-      if_want (fork_want graph p q heads) _ (λ plan. ((e : Errno) → as_dir None (graph.shape heads.node) ≡ Some e → source_error ≡ Some e) → plan ≡ heads_plan graph p q heads victim)
+      if_want (fork_want graph p q heads) _ (λ plan. ((e : Errno) → as_dir None (graph.shape heads.node) ≡ Some e → source_error ≡ Some e) → plan ≡ heads_plan graph p q heads)
       (λ there.
       let heads_there = (then_arrived (at_dir (graph.shape heads.node)) (then_want source_want dest_want) there).1 in
       let both = then_arrived source_want dest_want heads_there in
-      if_take _ (pair_by graph p q heads victim None None) (λ plan. ((e : Errno) → as_dir None (graph.shape heads.node) ≡ Some e → source_error ≡ Some e) → plan ≡ heads_plan graph p q heads victim)
-      (λ sets. sym (ap₂ (pair_by graph p q heads victim) (parent_reached graph p heads.names heads.source source both.0) (parent_reached graph q heads.names heads.dest dest both.1))))
+      if_take _ (pair_by graph p q heads None None) (λ plan. ((e : Errno) → as_dir None (graph.shape heads.node) ≡ Some e → source_error ≡ Some e) → plan ≡ heads_plan graph p q heads)
+      (λ sets. sym (ap₂ (pair_by graph p q heads) (parent_reached graph p heads.names heads.source source both.0) (parent_reached graph q heads.names heads.dest dest both.1))))
       (λ e lost sets. pair_lost sets e lost)
 
 -- ---- each call
@@ -205,7 +205,7 @@ target_found graph (AtPair pairs.Rename p q) way n fork victim node names arrive
     let forked : IsForked p q way heads = started_forked p q way fork n node arrived names forks in
     let st : Holdings = holdings_with (AtPair pairs.Rename p q) n way.behind (Some heads) victim in
     let same : n ≡ heads.node = (let i : way.node ≡ Some heads.node = forked.node in cc) in
-    if_finish (heads_next graph p q heads victim) (λ plan. ((e : Errno) → as_dir None (graph.shape heads.node) ≡ Some e → head_error graph p heads.names heads.source ≡ Some e) → plan ≡ heads_plan graph p q heads victim) _
+    if_finish (heads_next graph p q heads victim) (λ plan. ((e : Errno) → as_dir None (graph.shape heads.node) ≡ Some e → head_error graph p heads.names heads.source ≡ Some e) → plan ≡ heads_plan graph p q heads) _
     (λ plan f sets.
     let there : SetsOut graph (AtPair pairs.Rename (drop heads.names p) (drop heads.names q)) st = subst (λ (m : ℕ). SetsOut graph (AtPair pairs.Rename (drop m p) (drop m q)) st) (sym forked.names) (subst (λ (z : Holdings). SetsOut graph (AtPair pairs.Rename (drop way.walked p) (drop way.walked q)) z) (started_holdings (AtPair pairs.Rename p q) n way.names way.behind fork victim) sets) in
     f (λ e h. there e (ap (λ (m : ℕ). as_dir None (graph.shape m)) same ∙ h)) ∙ sym (pair_is graph way n fork victim arrived p q node names forks))

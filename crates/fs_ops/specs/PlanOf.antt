@@ -56,7 +56,7 @@ pair_plan graph p q st [] =
     (there_by (has_more (after_prefix q p)) (entry_shape graph st.dest.node (last_of q)))
     (is_end (after_prefix (parent_of p) (parent_of q)) || not (is_full (graph.shape st.dest.node))))
     (is_end (after_prefix p q))
-    (moving st.source.node st.dest.node (is_some (graph.child st.dest.node (last_of q))) st.victim (graph.child st.source.node (last_of p)))
+    (moving (is_some (graph.child st.dest.node (last_of q))) (graph.child st.source.node (last_of p)))
 
 -- each form of call where it stands
 abbrev pub plan_at : Graph → Form → Holdings → Plan

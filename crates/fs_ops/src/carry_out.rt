@@ -34,7 +34,15 @@ impl Op {
         ensures change { seen store.new ≡ record (seen store.old) { graph = graph_after (graph_of store.old) self.old } }
     {
         let prepared = take_room(&mut self.outcome);
-        let done = carry_out(self.call.target(), plan, self.reserved, prepared, store);
+        let route = self.stand.route();
+        let done = carry_out(
+            self.call.target(),
+            plan,
+            route,
+            self.reserved,
+            prepared,
+            store,
+        );
         self.reserved = done.reserved;
         self.removed = done.removed;
         self.outcome = Outcome::Fixed(done.replies);

@@ -1,8 +1,9 @@
 //! Where a call stands.
 
 ghost use Rattle.std.specs.Prelude.{◌≡◌};
-ghost use Rattle.fs_ops.specs.code.NextByNodes.{held_last};
+ghost use Rattle.fs_ops.specs.code.NextByNodes.{held_last, route_by};
 
+use fs_finish::plan::Route;
 use fs_nodes::NodeNo;
 use fs_walk::{Fork, Walk};
 
@@ -26,6 +27,22 @@ impl Stand {
             (Some(victim), _) => victim,
             (None, Some(heads)) => heads.last(),
             (None, None) => node,
+        }
+    }
+
+    /// The route of a rename, from where its heads are, or else its walk; of another call it means nothing.
+    pub fn route(&self) -> Route
+        ensures { result ≡ route_by self.now.walk.node self.now.fork self.now.victim }
+    {
+        let (source, dest) = match (&self.fork, self.walk.node()) {
+            (Some(heads), _) => (heads.source().node, heads.dest().node),
+            (None, Some(node)) => (node, node),
+            (None, None) => (NodeNo::new(0), NodeNo::new(0)),
+        };
+        Route {
+            source,
+            dest,
+            victim: self.victim,
         }
     }
 }

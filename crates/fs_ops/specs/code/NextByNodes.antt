@@ -14,6 +14,7 @@ use Rattle.fs_walk.specs.declared.want.Want.{Want}
 use Rattle.fs_walk.specs.declared.want.Want.TheVariants as wants
 use Rattle.fs_finish.specs.Paths.{first_path}
 use Rattle.fs_finish.specs.Plans.{entry_plan, rename_plan, moving}
+use Rattle.fs_finish.specs.declared.plan.Route.{Route}
 use Rattle.fs_finish.specs.declared.plan.Plan.{Plan}
 use Rattle.fs_finish.specs.declared.plan.Plan.TheVariants.{Fails, Answers}
 use Rattle.fs_machine.specs.Moves.{same_kind, there_by, victim_of}
@@ -26,6 +27,12 @@ abbrev pub held_last : ℕ → Option ForkWay → Option ℕ → ℕ
 held_last n fork (Some v) = v
 held_last n (Some fork) None = fork_last fork
 held_last n None None = n
+
+-- the route of a rename
+abbrev pub route_by : Option ℕ → Option ForkWay → Option ℕ → Route
+route_by node (Some fork) victim = record { source = fork.source.node; dest = fork.dest.node; victim = victim }
+route_by (Some n) None victim = record { source = n; dest = n; victim = victim }
+route_by None None victim = record { source = 0; dest = 0; victim = victim }
 
 -- a finished call lets it go; one that holds nothing returns
 abbrev pub last_next : Option ℕ → Option ForkWay → Option ℕ → Next
@@ -56,7 +63,7 @@ between_next graph source x dest y same_path above one_parent victim =
     (rename_plan
     (rename_fault None None (entry_shape graph source x) same_path (there_by above (entry_shape graph dest y)) (one_parent || not (is_full (graph.shape dest))))
     same_path
-    (moving source dest (is_some (graph.child dest y)) victim (graph.child source x)))
+    (moving (is_some (graph.child dest y)) (graph.child source x)))
 
 -- what a walk wants, and what comes when it has arrived; one that fails finishes
 abbrev pub want_next : Want → Next → Next

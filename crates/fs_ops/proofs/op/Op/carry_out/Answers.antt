@@ -1,10 +1,11 @@
-use Rattle.std.proofs.Common.{ap, sym, subst, ◌∙◌}
+use Rattle.std.proofs.Common.{ap, sym, subst, subst₂, ◌∙◌}
 use Rattle.fs_calls.specs.Forms.{Form}
 use Rattle.fs_nodes.specs.Graphs.{Graph}
 use Rattle.fs_nodes.specs.Seen.{seen}
 use Rattle.fs_nodes.specs.Stores.{graph_of}
 use Rattle.fs_finish.specs.Endings.{IsEffect}
 use Rattle.fs_finish.specs.Plans.{carried, CanCarryOut}
+use Rattle.fs_finish.specs.declared.plan.Route.{Route}
 use Rattle.fs_ops.specs.declared.outcome.Outcome.TheVariants.{Fixed}
 use Rattle.fs_ops.specs.OpValue.{op_value}
 use Rattle.fs_ops.specs.PlanOf.{IsPlan}
@@ -16,7 +17,7 @@ pub carry_out-done-requires-clause-can : goal.carry_out-done-requires-clause-can
 carry_out-done-requires-clause-can c =
     let o = c.self.inside in
     let store = seen c.args.store.now in
-    subst (λ (f : Form). CanCarryOut store f o.reserved c.args.plan) (sym c.target.ensures)
+    subst₂ (λ (f : Form) (z : Route). CanCarryOut store f z o.reserved c.args.plan) (sym c.target.ensures) (sym c.route-route.ensures)
     (can_carry_out store o.call o.stand.walk o.stand.fork o.stand.victim o.reserved o.removed o.path_error o.outcome c.args.plan c.self.invariant
     (subst (λ (w : OpValue). IsPlan store w c.args.plan) (sym c.self.view_is) c.requires.plan)
     (subst (λ (w : OpValue). CanFinish store.graph w.reserved w.remaining w.holdings) (sym c.self.view_is) c.requires.can))
@@ -29,7 +30,7 @@ returns-clause-op c =
     let is = (subst (λ (w : OpValue). IsPlan (seen c.args.store.now) w c.args.plan) (sym c.self.view_is) c.requires.plan).is in
     finished_as g _ c.args.self.now (op_value o.call o.stand.walk o.stand.fork o.stand.victim c.carry_out-done.result.reserved c.carry_out-done.result.removed (Fixed c.carry_out-done.result.replies)) c.self.view_is
     (finished_is g o.call o.stand.walk o.stand.fork o.stand.victim o.reserved o.removed o.path_error o.outcome c.self.invariant c.args.plan is c.carry_out-done.result new
-    (subst (λ (f : Form). IsEffect (carried g f o.reserved c.args.plan) c.carry_out-done.result new) c.target.ensures c.carry_out-done.ensures.made))
+    (subst₂ (λ (f : Form) (z : Route). IsEffect (carried g f z o.reserved c.args.plan) c.carry_out-done.result new) c.target.ensures c.route-route.ensures c.carry_out-done.ensures.made))
 
 pub returns-clause-change : goal.returns-clause-change
 returns-clause-change c =
@@ -40,5 +41,5 @@ returns-clause-change c =
     c.carry_out-done.ensures.rest
     ∙ ap (λ (h : Graph). record (seen c.args.store.now) { graph = h })
     (graph_is g o.call o.stand.walk o.stand.fork o.stand.victim o.reserved o.removed o.path_error o.outcome c.self.invariant c.args.plan is c.carry_out-done.result new
-    (subst (λ (f : Form). IsEffect (carried g f o.reserved c.args.plan) c.carry_out-done.result new) c.target.ensures c.carry_out-done.ensures.made)
+    (subst₂ (λ (f : Form) (z : Route). IsEffect (carried g f z o.reserved c.args.plan) c.carry_out-done.result new) c.target.ensures c.route-route.ensures c.carry_out-done.ensures.made)
     ∙ ap (graph_after g) c.self.view_is)
