@@ -118,27 +118,33 @@ fn run_command<'a>(alloc: Global) -> Result<Command<'a>, Error> {
     )
 }
 
-fn seeds_command<'a>(alloc: Global) -> Result<Command<'a>, Error> {
-    let seed = Arg::new(alloc, "seed")
+fn first_seed_argument<'a>(alloc: Global) -> Arg<'a> {
+    Arg::new(alloc, "seed")
         .long("seed")
         .value_name("N")
         .required(true)
         .value_parser(value_parser!(u64).range(0..=SEED_LIMIT as i64))
-        .help("The number that the first run is drawn from, 0 to 9223372036854775807");
-    let runs = Arg::new(alloc, "runs")
+        .help("The number that the first run is drawn from, 0 to 9223372036854775807")
+}
+
+fn runs_argument<'a>(alloc: Global) -> Arg<'a> {
+    Arg::new(alloc, "runs")
         .long("runs")
         .value_name("K")
         .required(true)
         .value_parser(value_parser!(u64).range(1..=RUN_LIMIT as i64))
-        .help("How many runs, drawn from N, N + 1, and so on, 1 to 10000");
+        .help("How many runs, drawn from N, N + 1, and so on, 1 to 10000")
+}
+
+fn seeds_command<'a>(alloc: Global) -> Result<Command<'a>, Error> {
     Ok(
         Command::new(alloc, "seeds")
             .about(
                 "Runs the script on standard input by drawn schedules, checks each run's journal and writes a line for each",
             )
             .after_help(SEEDS_STATUSES)
-            .arg(seed)?
-            .arg(runs)?,
+            .arg(first_seed_argument(alloc))?
+            .arg(runs_argument(alloc))?,
     )
 }
 
@@ -158,18 +164,28 @@ fn check_command<'a>(alloc: Global) -> Command<'a> {
         .after_help(CHECK_STATUSES)
 }
 
+fn program<'a>(alloc: Global) -> Command<'a> {
+    Command::new(alloc, "atomfs")
+        .version(VERSION)
+        .about("A concurrent file tree in memory")
+        .after_help(STATUSES)
+        .subcommand_required(true)
+}
+
+// A subcommand that may be refused is made before the program that gets it, so that nothing else is dropped with it.
+fn program_with_run<'a>(alloc: Global) -> Result<Command<'a>, Error> {
+    let run = run_command(alloc)?;
+    Ok(program(alloc).subcommand(run)?)
+}
+
+fn program_with_seeds<'a>(alloc: Global) -> Result<Command<'a>, Error> {
+    let seeds = seeds_command(alloc)?;
+    Ok(program_with_run(alloc)?.subcommand(seeds)?)
+}
+
 fn command<'a>(alloc: Global) -> Result<Command<'a>, Error> {
-    Ok(
-        Command::new(alloc, "atomfs")
-            .version(VERSION)
-            .about("A concurrent file tree in memory")
-            .after_help(STATUSES)
-            .subcommand_required(true)
-            .subcommand(run_command(alloc)?)?
-            .subcommand(seeds_command(alloc)?)?
-            .subcommand(threads_command(alloc))?
-            .subcommand(check_command(alloc))?,
-    )
+    let program = program_with_seeds(alloc)?.subcommand(threads_command(alloc))?;
+    Ok(program.subcommand(check_command(alloc))?)
 }
 
 /// The schedule of a run.
@@ -213,14 +229,21 @@ fn subcommand_of<'a>(matches: &ArgMatches<'a>) -> Option<Subcommand>
     }
 }
 
+/// What was matched, which is a subcommand.
+fn asked_for<'a>(alloc: Global, matches: &ArgMatches<'a>) -> Result<Subcommand, Error>
+    ensures within { IfOk result IsWithin }
+{
+    match subcommand_of(matches) {
+        Some(subcommand) => Ok(subcommand),
+        None => Err(command(alloc)?.error(ErrorKind::InvalidSubcommand, "no such subcommand")?),
+    }
+}
+
 /// What the command line asks for; its first argument is the name of the program. The error is what is to be printed
 /// instead: help, the version, or what is wrong with the arguments.
 pub fn parse<'a, S: AsStr>(alloc: Global, args: &'a [S]) -> Result<Subcommand, Error>
     ensures within { IfOk result IsWithin }
 {
     let matches = command(alloc)?.try_get_matches_from(args)?;
-    match subcommand_of(&matches) {
-        Some(subcommand) => Ok(subcommand),
-        None => Err(command(alloc)?.error(ErrorKind::InvalidSubcommand, "no such subcommand")?),
-    }
+    asked_for(alloc, &matches)
 }
