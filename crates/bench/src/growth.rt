@@ -41,15 +41,21 @@ fn events(alloc: Global, core: &mut Core, call: &Call) -> usize {
     0
 }
 
+fn mkdir(alloc: Global, core: &mut Core, path: Path) -> usize {
+    events(alloc, core, &Call::Mkdir(path))
+}
+
+fn mknod(alloc: Global, core: &mut Core, path: Path) -> usize {
+    events(alloc, core, &Call::Mknod(path))
+}
+
 /// Makes the directories of a file, where they are not there yet, and the file, and answers how many events that took.
 fn make(alloc: Global, core: &mut Core, file: usize) -> Result<usize> {
     let mut all = 0usize;
     for names in 1..WEIGHTS.len() {
-        let call = Call::Mkdir(path(alloc, file, names)?);
-        all = all.saturating_add(events(alloc, core, &call));
+        all = all.saturating_add(mkdir(alloc, core, path(alloc, file, names)?));
     }
-    let call = Call::Mknod(path(alloc, file, WEIGHTS.len())?);
-    Ok(all.saturating_add(events(alloc, core, &call)))
+    Ok(all.saturating_add(mknod(alloc, core, path(alloc, file, WEIGHTS.len())?)))
 }
 
 /// At how many entries is looked on the way to a file.
@@ -66,19 +72,36 @@ fn looks(store: &Store, path: &Path) -> usize {
     all
 }
 
+/// The events that so many files take.
+fn all_events(alloc: Global, core: &mut Core, files: usize) -> Result<usize> {
+    let mut all = 0usize;
+    for file in 0..files {
+        all = all.saturating_add(make(alloc, core, file)?);
+    }
+    Ok(all)
+}
+
+/// The looks on the ways to so many files.
+fn all_looks(alloc: Global, store: &Store, files: usize) -> Result<usize> {
+    let mut all = 0usize;
+    for file in 0..files {
+        let path = path(alloc, file, WEIGHTS.len())?;
+        all = all.saturating_add(looks(store, &path));
+    }
+    Ok(all)
+}
+
+/// The events and the looks of so many files on a core without a seat.
+fn count_on(alloc: Global, core: &mut Core, files: usize) -> Result<(usize, usize)> {
+    core.seat()?;
+    let events = all_events(alloc, core, files)?;
+    Ok((events, all_looks(alloc, core.store(), files)?))
+}
+
 /// The events and the looks of a tree with so many files.
 fn count(alloc: Global, files: usize) -> Result<(usize, usize)> {
     let mut core = Core::new(alloc)?;
-    core.seat()?;
-    let (mut all_events, mut all_looks) = (0usize, 0usize);
-    for file in 0..files {
-        all_events = all_events.saturating_add(make(alloc, &mut core, file)?);
-    }
-    for file in 0..files {
-        let path = path(alloc, file, WEIGHTS.len())?;
-        all_looks = all_looks.saturating_add(looks(core.store(), &path));
-    }
-    Ok((all_events, all_looks))
+    count_on(alloc, &mut core, files)
 }
 
 /// Counts for trees of growing size.

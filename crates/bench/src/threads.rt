@@ -1,6 +1,7 @@
 //! The calls of a script's threads, each by a session of its own on one shared tree.
 
 use anyhow::{Result, bail};
+use fs_calls::Call;
 use fs_script::read_script;
 use fs_share::{Open, run_lists};
 use std::alloc::Global;
@@ -15,20 +16,38 @@ struct Played {
     time: Duration,
 }
 
+/// Plays lists, and answers how many calls they had.
+fn play_lists<R: Threads + Wait + Clock + Sync>(
+    rt: &R,
+    alloc: Global,
+    lists: &[Vec<Call>],
+) -> Result<usize> {
+    match run_lists(rt, alloc, lists, &Open) {
+        Ok(closed) => Ok(closed.timeline.entries().len() / 3),
+        Err(_) => bail!("the lists were not played to their end"),
+    }
+}
+
+/// The same, timed.
+fn time_lists<R: Threads + Wait + Clock + Sync>(
+    rt: &R,
+    alloc: Global,
+    lists: &[Vec<Call>],
+) -> Result<Played> {
+    let start = Instant::now(rt)?;
+    let calls = play_lists(rt, alloc, lists)?;
+    Ok(Played {
+        calls,
+        time: start.elapsed(rt)?,
+    })
+}
+
 /// Plays the lists of a script.
 fn play<R: Threads + Wait + Clock + Sync>(rt: &R, alloc: Global, text: &[u8]) -> Result<Played> {
-    let Ok(script) = read_script(alloc, text) else {
-        bail!("the input is no script");
-    };
-    let start = Instant::now(rt)?;
-    let Ok(closed) = run_lists(rt, alloc, script.lists.as_slice(), &Open) else {
-        bail!("the lists were not played to their end");
-    };
-    let time = start.elapsed(rt)?;
-    Ok(Played {
-        calls: closed.timeline.entries().len() / 3,
-        time,
-    })
+    match read_script(alloc, text) {
+        Ok(script) => time_lists(rt, alloc, script.lists.as_slice()),
+        Err(_) => bail!("the input is no script"),
+    }
 }
 
 /// Plays the lists of a script, whose reading is not timed.

@@ -31,14 +31,24 @@ fn mknod(alloc: Global) -> Option<Call> {
     Some(Call::Mknod(file(alloc)?))
 }
 
+/// Makes a call that is told, if it has a stamp.
+fn tell_of<N: Named, R: Wait + Clock>(
+    rt: &R,
+    alloc: Global,
+    session: &mut Session<'_, N>,
+    call: &Call,
+) -> Option<()> {
+    let told = session.call_told(rt, alloc, call, &Open).ok()?;
+    if told.stamp.is_some() { Some(()) } else { None }
+}
+
 fn tell<N: Named, R: Wait + Clock>(
     rt: &R,
     alloc: Global,
     session: &mut Session<'_, N>,
     call: Option<Call>,
 ) -> Option<()> {
-    let told = session.call_told(rt, alloc, &call?, &Open).ok()?;
-    if told.stamp.is_some() { Some(()) } else { None }
+    tell_of(rt, alloc, session, &call?)
 }
 
 /// Makes the file.

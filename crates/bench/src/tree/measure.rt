@@ -10,16 +10,22 @@ use std::alloc::Global;
 use std::rt::Clock;
 use std::time::{Duration, Instant};
 
-/// Applies the calls to a new tree. It answers how long that took, and how many replies were another than the drawn one.
-pub fn apply_all(rt: &impl Clock, alloc: Global, drawn: &Drawn) -> Result<(Duration, usize)> {
-    let mut tree = SeqTree::new(alloc)?;
+/// Applies the calls to a tree. It answers how many replies were another than the drawn one.
+fn apply_on(alloc: Global, tree: &mut SeqTree, drawn: &Drawn) -> Result<usize> {
     let mut others = 0usize;
-    let start = Instant::now(rt)?;
     for (call, due) in drawn.calls.iter().zip(&drawn.replies) {
         if !tree.apply(alloc, call)?.same(due) {
             others = others.wrapping_add(1);
         }
     }
+    Ok(others)
+}
+
+/// Applies the calls to a new tree. It answers how long that took, and how many replies were another than the drawn one.
+pub fn apply_all(rt: &impl Clock, alloc: Global, drawn: &Drawn) -> Result<(Duration, usize)> {
+    let mut tree = SeqTree::new(alloc)?;
+    let start = Instant::now(rt)?;
+    let others = apply_on(alloc, &mut tree, drawn)?;
     Ok((start.elapsed(rt)?, others))
 }
 

@@ -189,6 +189,23 @@ impl Workload {
         }
         Ok(())
     }
+
+    /// Does a call on the tree, and keeps what it changes where it is done.
+    fn apply(&mut self, call: &Call, edit: Edit) -> Result<Reply> {
+        let reply = self.tree.apply(self.alloc, call)?;
+        if matches!(reply, Reply::Done) {
+            self.note(edit)?;
+        }
+        Ok(reply)
+    }
+
+    /// Draws one more call.
+    fn draw_one(&mut self, drawn: &mut Drawn) -> Result<()> {
+        let (call, edit) = self.next()?;
+        drawn.replies.push(self.apply(&call, edit)?)?;
+        drawn.calls.push(call)?;
+        Ok(())
+    }
 }
 
 /// The path at a place, or the root's.
@@ -218,24 +235,22 @@ fn depth(text: &[u8]) -> usize {
     text.iter().filter(|b| **b == b'/').count()
 }
 
+/// Draws so many calls, and answers how many nodes there are then.
+fn draw_into(alloc: Global, count: u32, drawn: &mut Drawn) -> Result<usize> {
+    let mut workload = Workload::new(alloc)?;
+    for _ in 0..count {
+        workload.draw_one(drawn)?;
+    }
+    Ok(workload.dirs.len().saturating_add(workload.files.len()))
+}
+
 /// Draws so many calls for a tree that starts as the root alone.
 pub fn draw(alloc: Global, count: u32) -> Result<Drawn> {
-    let mut workload = Workload::new(alloc)?;
-    let mut calls = Vec::new(alloc);
-    let mut replies = Vec::new(alloc);
-    for _ in 0..count {
-        let (call, edit) = workload.next()?;
-        let reply = workload.tree.apply(alloc, &call)?;
-        if matches!(reply, Reply::Done) {
-            workload.note(edit)?;
-        }
-        calls.push(call)?;
-        replies.push(reply)?;
-    }
-    let nodes = workload.dirs.len().saturating_add(workload.files.len());
-    Ok(Drawn {
-        calls,
-        replies,
-        nodes,
-    })
+    let mut drawn = Drawn {
+        calls: Vec::new(alloc),
+        replies: Vec::new(alloc),
+        nodes: 0,
+    };
+    drawn.nodes = draw_into(alloc, count, &mut drawn)?;
+    Ok(drawn)
 }
