@@ -30,11 +30,22 @@ fn names_of<'a>(
     Ok(names)
 }
 
+/// The line of an entry.
+fn line_of(alloc: Global, entry: &Entry) -> Result<Vec<u8>, AllocError> {
+    let mut line = Vec::new(alloc);
+    write_entry(alloc, entry, &mut line)?;
+    Ok(line)
+}
+
+/// The line of a call's begin.
+fn begin_line(alloc: Global, call: &Call) -> Result<Vec<u8>, AllocError> {
+    let entry = Entry::Begin(CallNo::new(1), SeatNo::new(0), call.copy(alloc)?);
+    line_of(alloc, &entry)
+}
+
 /// Adds a call as it stands in a script.
 fn add_call(alloc: Global, call: &Call, text: &mut Vec<u8>) -> Result<()> {
-    let mut line = Vec::new(alloc);
-    let entry = Entry::Begin(CallNo::new(1), SeatNo::new(0), call.copy(alloc)?);
-    write_entry(alloc, &entry, &mut line)?;
+    let line = begin_line(alloc, call)?;
     let Some(line) = line.strip_prefix(IN_FRONT) else {
         bail!("a call without its entry");
     };

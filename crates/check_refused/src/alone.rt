@@ -100,14 +100,26 @@ fn show_look(rt: &impl Print, again: &mut Again, tree: &SeqTree, call: &Call) ->
     Ok(show(rt, &reply)?)
 }
 
+fn stat(rt: &impl Print, again: &mut Again, tree: &SeqTree, path: &str) -> anyhow::Result<()> {
+    let call = Call::Stat(again.path(path)?);
+    show_look(rt, again, tree, &call)
+}
+
+fn readdir(rt: &impl Print, again: &mut Again, tree: &SeqTree, path: &str) -> anyhow::Result<()> {
+    let call = Call::Readdir(again.path(path)?);
+    show_look(rt, again, tree, &call)
+}
+
+fn read(rt: &impl Print, again: &mut Again, tree: &SeqTree, path: &str) -> anyhow::Result<()> {
+    let call = Call::Read(again.path(path)?, 3, 5);
+    show_look(rt, again, tree, &call)
+}
+
 /// Looks at a tree by a stat, a readdir and a read.
 fn look(rt: &impl Print, again: &mut Again, tree: &SeqTree) -> anyhow::Result<()> {
-    let stat = Call::Stat(again.path("/d")?);
-    show_look(rt, again, tree, &stat)?;
-    let readdir = Call::Readdir(again.path("/d")?);
-    show_look(rt, again, tree, &readdir)?;
-    let read = Call::Read(again.path("/d/e/a")?, 3, 5);
-    show_look(rt, again, tree, &read)
+    stat(rt, again, tree, "/d")?;
+    readdir(rt, again, tree, "/d")?;
+    read(rt, again, tree, "/d/e/a")
 }
 
 /// All calls on a tree, noted in a journal, and looks at it.

@@ -9,8 +9,12 @@ mod lists;
 mod shared;
 mod texts;
 
+use fs_calls::Call;
+use fs_nodes::Store;
 use fs_script::Script;
-use shared::on_tree;
+use fs_share::Closed;
+use fs_timeline::Entry;
+use shared::{Seen, on_tree};
 use std::alloc::Global;
 use std::sync::Wait;
 use std::thread::Threads;
@@ -37,29 +41,68 @@ mkdir /d
 schedule
 ";
 
-fn calls(script: &Script, thread: usize) -> Option<&[fs_calls::Call]> {
+fn calls(script: &Script, thread: usize) -> Option<&[Call]> {
     Some(script.lists.as_slice().get(thread)?.as_slice())
 }
 
-/// What is done, and written.
-fn run<R: Print + Threads + Wait + Clock + Sync>(rt: &R, alloc: Global) -> Option<()> {
-    let script = texts::script(alloc, CALLS)?;
-    let (seen, closed) = on_tree(rt, alloc, calls(&script, 0)?, calls(&script, 1)?)?;
+fn say_seen(rt: &impl Print, seen: &Seen) -> Option<()> {
     println!(rt; "answered {}", seen.answered).ok()?;
     println!(rt; "shown {}", seen.shown).ok()?;
     println!(rt;
         "jobs {} and {}, in all {}",
         seen.numbers.0, seen.numbers.1, seen.jobs
     )
-    .ok()?;
-    let journal = texts::journal(alloc, closed.timeline.entries())?;
+    .ok()
+}
+
+fn say_journal(rt: &impl Print, alloc: Global, entries: &[Entry]) -> Option<()> {
+    let journal = texts::journal(alloc, entries)?;
     let is_read_back = texts::is_read_back(alloc, &journal)?;
-    println!(rt; "the journal is read back: {is_read_back}").ok()?;
-    let returns = lists::returns(rt, alloc, script.lists.as_slice())?;
-    println!(rt; "the lists returned {returns}").ok()?;
-    let tree = texts::tree(alloc, &closed.store)?;
-    println!(rt; "the tree has {} bytes", tree.len()).ok()?;
-    Some(())
+    println!(rt; "the journal is read back: {is_read_back}").ok()
+}
+
+fn say_lists<R: Print + Threads + Wait + Clock + Sync>(
+    rt: &R,
+    alloc: Global,
+    lists: &[Vec<Call>],
+) -> Option<()> {
+    let returns = lists::returns(rt, alloc, lists)?;
+    println!(rt; "the lists returned {returns}").ok()
+}
+
+fn say_tree(rt: &impl Print, alloc: Global, store: &Store) -> Option<()> {
+    let tree = texts::tree(alloc, store)?;
+    println!(rt; "the tree has {} bytes", tree.len()).ok()
+}
+
+/// What is written of a script that was played on a tree, and of its lists.
+fn say_all<R: Print + Threads + Wait + Clock + Sync>(
+    rt: &R,
+    alloc: Global,
+    script: &Script,
+    seen: &Seen,
+    closed: &Closed,
+) -> Option<()> {
+    say_seen(rt, seen)?;
+    say_journal(rt, alloc, closed.timeline.entries())?;
+    say_lists(rt, alloc, script.lists.as_slice())?;
+    say_tree(rt, alloc, &closed.store)
+}
+
+/// What is done with a script, and written.
+fn play<R: Print + Threads + Wait + Clock + Sync>(
+    rt: &R,
+    alloc: Global,
+    script: &Script,
+) -> Option<()> {
+    let (seen, closed) = on_tree(rt, alloc, calls(script, 0)?, calls(script, 1)?)?;
+    say_all(rt, alloc, script, &seen, &closed)
+}
+
+/// The same with the script that is read.
+fn run<R: Print + Threads + Wait + Clock + Sync>(rt: &R, alloc: Global) -> Option<()> {
+    let script = texts::script(alloc, CALLS)?;
+    play(rt, alloc, &script)
 }
 
 fn main(rt: HostRuntime) -> anyhow::Result<()> {
