@@ -76,6 +76,19 @@ fn is_stat(store: &Store, node: NodeNo, reply: &Reply) -> bool {
     }
 }
 
+/// What the tree replies to a stat of a path, to a read of a whole file, and to a readdir.
+fn stat(alloc: Global, tree: &SeqTree, path: Path) -> Result<Reply, AllocError> {
+    tree.look(alloc, &Call::Stat(path))
+}
+
+fn read(alloc: Global, tree: &SeqTree, path: Path) -> Result<Reply, AllocError> {
+    tree.look(alloc, &Call::Read(path, 0, FILE_LIMIT as u64))
+}
+
+fn readdir(alloc: Global, tree: &SeqTree, path: Path) -> Result<Reply, AllocError> {
+    tree.look(alloc, &Call::Readdir(path))
+}
+
 /// Whether both have a node of the same kind and size.
 fn stat_agrees(
     alloc: Global,
@@ -84,8 +97,7 @@ fn stat_agrees(
     node: NodeNo,
     text: &[u8],
 ) -> Result<bool> {
-    let call = Call::Stat(path(alloc, text)?);
-    let reply = tree.look(alloc, &call)?;
+    let reply = stat(alloc, tree, path(alloc, text)?)?;
     Ok(is_stat(store, node, &reply))
 }
 
@@ -105,15 +117,8 @@ fn file_agrees(
     node: NodeNo,
     text: &[u8],
 ) -> Result<bool> {
-    let call = Call::Read(path(alloc, text)?, 0, FILE_LIMIT as u64);
-    let reply = tree.look(alloc, &call)?;
+    let reply = read(alloc, tree, path(alloc, text)?)?;
     Ok(is_content(store, node, &reply))
-}
-
-/// What the tree replies to a readdir.
-fn readdir(alloc: Global, tree: &SeqTree, text: &[u8]) -> Result<Reply> {
-    let call = Call::Readdir(path(alloc, text)?);
-    Ok(tree.look(alloc, &call)?)
 }
 
 /// Whether both have the same names in a directory, whose entries come on the stack.
@@ -125,7 +130,7 @@ fn dir_agrees(
     text: &[u8],
     stack: &mut Vec<Text>,
 ) -> Result<bool> {
-    match readdir(alloc, tree, text)? {
+    match readdir(alloc, tree, path(alloc, text)?)? {
         Reply::Names(names) => {
             add_entries(alloc, text, names.as_slice(), stack)?;
             Ok(are_names(store, node, names.as_slice()))
