@@ -30,7 +30,7 @@ held_last n None None = n
 
 -- the route of a rename
 abbrev pub route_by : Option ℕ → Option ForkWay → Option ℕ → Route
-route_by node (Some fork) victim = record { source = fork.source.node; dest = fork.dest.node; victim = victim }
+route_by _ (Some fork) victim = record { source = fork.source.node; dest = fork.dest.node; victim = victim }
 route_by (Some n) None victim = record { source = n; dest = n; victim = victim }
 route_by None None victim = record { source = 0; dest = 0; victim = victim }
 
