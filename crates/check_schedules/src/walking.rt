@@ -76,15 +76,17 @@ fn is_stat(store: &Store, node: NodeNo, reply: &Reply) -> bool {
     }
 }
 
-/// What the tree replies to a stat of a path, to a read of a whole file, and to a readdir.
+/// What the tree replies to a stat.
 fn stat(alloc: Global, tree: &SeqTree, path: Path) -> Result<Reply, AllocError> {
     tree.look(alloc, &Call::Stat(path))
 }
 
+/// What it replies to a read of a whole file.
 fn read(alloc: Global, tree: &SeqTree, path: Path) -> Result<Reply, AllocError> {
     tree.look(alloc, &Call::Read(path, 0, FILE_LIMIT as u64))
 }
 
+/// What it replies to a readdir.
 fn readdir(alloc: Global, tree: &SeqTree, path: Path) -> Result<Reply, AllocError> {
     tree.look(alloc, &Call::Readdir(path))
 }

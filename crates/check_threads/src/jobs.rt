@@ -62,16 +62,11 @@ fn hands_back<N: Named>(pool: &mut Pool<N>, more: Call, again: &Call) -> bool {
     }
 }
 
-/// The same with a copy of the call.
-fn hands_copy_back<N: Named>(alloc: Global, pool: &mut Pool<N>, again: &Call) -> Option<bool> {
-    let more = again.copy(alloc).ok()?;
-    Some(hands_back(pool, more, again))
-}
-
 /// The same of a call that stands in no job.
 fn is_full<N: Named>(alloc: Global, pool: &mut Pool<N>) -> Option<bool> {
     let again = Call::Mknod(path(alloc, b"/more")?);
-    hands_copy_back(alloc, pool, &again)
+    let more = again.copy(alloc).ok()?;
+    Some(hands_back(pool, more, &again))
 }
 
 /// What became of jobs, and of the tree.
