@@ -103,7 +103,7 @@ VictimAt graph (AtPair pairs.Rename p q) st = (v : ℕ) → st.victim ≡ Some v
 
 -- the places of its holdings at which a call may hold a node
 pub data Slot : Type 0 where
-  At_node At_behind At_source At_source_behind At_dest At_dest_behind At_victim : Slot
+  At_node At_behind At_source At_dest At_victim : Slot
 
 -- a node of a head that has set out
 abbrev pub if_walked : Key → Option ℕ → Option ℕ
@@ -115,18 +115,12 @@ abbrev pub in_slot : Holdings → Slot → Option ℕ
 in_slot st At_node = Some st.node
 in_slot st At_behind = st.behind
 in_slot st At_source = if_walked st.source.walked (Some st.source.node)
-in_slot st At_source_behind = if_walked st.source.walked st.source.behind
 in_slot st At_dest = if_walked st.dest.walked (Some st.dest.node)
-in_slot st At_dest_behind = if_walked st.dest.walked st.dest.behind
 in_slot st At_victim = st.victim
 
 -- no node is held at two places
 abbrev pub IsSingle : Holdings → Type 0
 IsSingle st = (a b : Slot) (n : ℕ) → in_slot st a ≡ Some n → in_slot st b ≡ Some n → a ≡ b
-
--- a head that has not set out holds no parent
-abbrev pub HeadsFit : Holdings → Type 0
-HeadsFit st = (st.source.walked ≡ [] → st.source.behind ≡ None) × (st.dest.walked ≡ [] → st.dest.behind ≡ None)
 
 -- a call that is not finished
 abbrev pub IsUnfinished : Record → Type 0
@@ -151,7 +145,6 @@ pub record Own (graph : Graph) (op : Record) : Type 0 where
   -- a call that holds nothing yet has walked nothing
   pub starts : IsUnfinished op → op.holdings ≡ None → op.walked ≡ []
   pub single : (st : Holdings) → op.holdings ≡ Some st → IsSingle st
-  pub heads : (st : Holdings) → op.holdings ≡ Some st → HeadsFit st
 
 -- a number that is in use for this call alone
 abbrev pub HasSpare : Record → ℕ → Type 0

@@ -33,9 +33,9 @@ to_go (AtNode c p) st = length p
 to_go (AtEntry c p) st = length (parent_of p)
 to_go (AtPair pairs.Rename p q) st = length (left st.source.walked (parent_of p)) + length (left st.dest.walked (parent_of q))
 
--- the moves that it has left at most: two for each name, one for each parent behind, and one for a victim
+-- the moves that it has left at most: two for each name, one for a node behind, and one for a victim
 abbrev pub moves_left : Form → Holdings → ℕ
-moves_left remaining st = ((((to_go remaining st + to_go remaining st) + one_if st.behind) + one_if st.source.behind) + one_if st.dest.behind) + one_unless st.victim
+moves_left remaining st = ((to_go remaining st + to_go remaining st) + one_if st.behind) + one_unless st.victim
 
 -- one for a head that has set out
 abbrev pub one_walked : Key → ℕ

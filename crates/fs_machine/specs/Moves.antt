@@ -37,11 +37,10 @@ walk_move (Some (File bytes)) child = Finishes None
 walk_move (Some (Dir names)) None = Finishes None
 walk_move (Some (Dir names)) (Some m) = Takes m
 
--- move 3 of one head: it lets go what is behind it, then walks on; None where it has arrived
-abbrev pub head_move : Graph → ℕ → Option ℕ → Key → Option Move
-head_move graph n (Some m) l = Some (Leaves m)
-head_move graph n None [] = None
-head_move graph n None (x ∷ l) = Some (walk_move (graph.shape n) (graph.child n x))
+-- move 3 from a node: a step; None where no name is left
+abbrev pub step_move : Graph → ℕ → Key → Option Move
+step_move graph n [] = None
+step_move graph n (x ∷ l) = Some (walk_move (graph.shape n) (graph.child n x))
 
 -- the victim of an unlink or rmdir, taken where its kind is the right one
 abbrev pub victim_of : EntryCall → Option Shape → Bool
@@ -119,9 +118,9 @@ dir_then None m = Finishes None
 abbrev pub fork_move : Graph → Key → Key → Holdings → Move
 fork_move graph p q st =
     dir_then (graph.shape st.node)
-    (first_of (head_move graph st.source.node st.source.behind (left st.source.walked (parent_of p)))
+    (first_of (step_move graph st.source.node (left st.source.walked (parent_of p)))
     (dir_then (graph.shape st.source.node)
-    (first_of (head_move graph st.dest.node st.dest.behind (left st.dest.walked (parent_of q)))
+    (first_of (step_move graph st.dest.node (left st.dest.walked (parent_of q)))
     (dir_then (graph.shape st.dest.node) (rename_move graph p q st)))))
 
 -- moves 4 to 6, at the target
@@ -130,9 +129,14 @@ target_move graph (AtNode c p) st = Finishes None
 target_move graph (AtEntry c p) st = entry_move graph c (last_of p) st
 target_move graph (AtPair pairs.Rename p q) st = fork_move graph p q st
 
+-- what a step left behind is let go before the next move
+abbrev pub behind_first : Option ℕ → Move → Move
+behind_first (Some n) m = Leaves n
+behind_first None m = m
+
 -- moves 3 to 6: a call that holds a node and is not finished
 abbrev pub next_on : Graph → Form → Holdings → Move
-next_on graph remaining st = first_of (head_move graph st.node st.behind (target remaining)) (target_move graph remaining st)
+next_on graph remaining st = behind_first st.behind (first_of (step_move graph st.node (target remaining)) (target_move graph remaining st))
 
 -- the first of two nodes, if its head has set out, and else the second
 abbrev pub first_walked : Key → ℕ → ℕ → ℕ
@@ -171,28 +175,36 @@ inner (AtNode c p) = AtNode c (tail_of p)
 inner (AtEntry c p) = AtEntry c (tail_of p)
 inner (AtPair pairs.Rename p q) = AtPair pairs.Rename (tail_of p) (tail_of q)
 
--- a parent stays behind a head that has set out; one that is the common directory is not let go
+-- a head leaves its node behind, but not the common directory, from which it sets out
 abbrev pub behind_of : Key → ℕ → Option ℕ
 behind_of [] n = None
 behind_of (x ∷ walked) n = Some n
 
 -- a head after a step to a node
 abbrev pub head_took : Head → Name → ℕ → Head
-head_took h x n = record { walked = h.walked ++ x ∷ []; node = n; behind = behind_of h.walked h.node }
+head_took h x n = record { walked = h.walked ++ x ∷ []; node = n }
 
 -- a victim is taken
 abbrev pub victim_took : Holdings → ℕ → Holdings
 victim_took st n = record st { victim = Some n }
 
+-- the destination head takes a step
+abbrev pub dest_stepped : Holdings → Name → ℕ → Holdings
+dest_stepped st x n = record st { behind = behind_of st.dest.walked st.dest.node; dest = head_took st.dest x n }
+
+-- the source head takes a step
+abbrev pub source_stepped : Holdings → Name → ℕ → Holdings
+source_stepped st x n = record st { behind = behind_of st.source.walked st.source.node; source = head_took st.source x n }
+
 -- with names left the destination head takes a step, and else a victim is taken
 abbrev pub dest_took : Holdings → Key → ℕ → Holdings
 dest_took st [] n = victim_took st n
-dest_took st (x ∷ l) n = record st { dest = head_took st.dest x n }
+dest_took st (x ∷ l) n = dest_stepped st x n
 
 -- with names left the source head takes a step, and else it is up to the destination head
 abbrev pub source_took : Holdings → Key → Key → ℕ → Holdings
 source_took st [] l n = dest_took st l n
-source_took st (x ∷ k) l n = record st { source = head_took st.source x n }
+source_took st (x ∷ k) l n = source_stepped st x n
 
 -- where a call stands after a take at its target: a victim, or a step of a head
 abbrev pub target_took : Form → Holdings → ℕ → Holdings
@@ -210,16 +222,6 @@ took_by op (Some st) (x ∷ l) n = record op { walked = op.walked ++ x ∷ []; r
 abbrev pub took : Record → ℕ → Record
 took op n = took_by op op.holdings (target op.remaining) n
 
--- a head that let go of its parent
-abbrev pub head_left : Head → Head
-head_left h = record h { behind = None }
-
--- what is behind the walk, else behind the source head, else behind the destination head
-abbrev pub left_behind : Holdings → Option ℕ → Option ℕ → Holdings
-left_behind st (Some m) s = record st { behind = None }
-left_behind st None (Some m) = record st { source = head_left st.source }
-left_behind st None None = record st { dest = head_left st.dest }
-
 -- the node of the destination head goes, else that of the source head, else the position, and nothing is held
 abbrev pub left_heads : Holdings → Key → Key → Option Holdings
 left_heads st (x ∷ dest) source = Some (record st { dest = head_at st.node })
@@ -234,8 +236,8 @@ left_last st None = left_heads st st.dest.walked st.source.walked
 -- of a finished call goes what was taken last, of another one what is behind
 abbrev pub left_by_phase : Phase → Holdings → Option Holdings
 left_by_phase (Finished r) st = left_last st st.victim
-left_by_phase Walking st = Some (left_behind st st.behind st.source.behind)
-left_by_phase (Placed i) st = Some (left_behind st st.behind st.source.behind)
+left_by_phase Walking st = Some (record st { behind = None })
+left_by_phase (Placed i) st = Some (record st { behind = None })
 
 -- where a call stands after a let go
 abbrev pub left_holdings : Phase → Option Holdings → Option Holdings

@@ -6,13 +6,13 @@ use Rattle.fs_calls.specs.declared.call.Call.{Call}
 use Rattle.fs_calls.specs.Forms.{Form}
 use Rattle.fs_calls.specs.declared.reply.Reply.{Reply}
 
--- a head of a rename: the names that it has walked from the common directory, its node, and a parent that it still holds
+-- a head of a rename: the names that it has walked from the common directory, and its node
 pub record Head : Type 0 where
   pub walked : Key
   pub node : ℕ
-  pub behind : Option ℕ
 
--- where a call stands: the position, a parent that it still holds, the two heads (of a rename; else they have walked nothing), a victim
+-- where a call stands: the position, a node that its last step left behind and that it still holds, the two heads (of a rename; else they have
+-- walked nothing), a victim
 pub record Holdings : Type 0 where
   pub node : ℕ
   pub behind : Option ℕ
@@ -42,17 +42,17 @@ pub record Record : Type 0 where
 abbrev pub Records : Type 0
 Records = ℕ → Option Record
 
--- a head holds a node, once it has set out: its own, or the parent behind it
+-- a head holds its node, once it has set out
 abbrev pub HeadHolds : Head → ℕ → Type 0
-HeadHolds h n = HasNames h.walked × ((h.node ≡ n) ⊎ (h.behind ≡ Some n))
+HeadHolds h n = HasNames h.walked × (h.node ≡ n)
 
--- a call that stands so holds a node: the position, a parent, a node of its heads, or the victim
+-- a call that stands so holds a node: the position, the one behind, a head's, or the victim
 abbrev pub Holds : Holdings → ℕ → Type 0
 Holds st n = (st.node ≡ n) ⊎ (st.behind ≡ Some n) ⊎ HeadHolds st.source n ⊎ HeadHolds st.dest n ⊎ (st.victim ≡ Some n)
 
 -- a head before it sets out
 abbrev pub head_at : ℕ → Head
-head_at n = record { walked = []; node = n; behind = None }
+head_at n = record { walked = []; node = n }
 
 -- the holdings at one node
 abbrev pub holdings_at : ℕ → Option ℕ → Holdings

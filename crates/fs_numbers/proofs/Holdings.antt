@@ -2,20 +2,19 @@
 use Rattle.std.proofs.Common.{◌≡◌, ℕ, ◌≤◌, [], ◌∷◌, Option, Some, None, refl, sym, ap, ◌∙◌, append-nil, subst, arith, Ok, Err}
 use Rattle.fs_names.specs.Keys.{Key, parent_of}
 use Rattle.fs_names.specs.Names.{Name}
-use Rattle.fs_names.specs.Parts.{left, left_by, HasNames}
+use Rattle.fs_names.specs.Parts.{left, left_by}
 use Rattle.fs_names.specs.Shapes.{Shape}
-use Rattle.fs_calls.specs.Forms.{form, reserves, Form, AtPair}
-use Rattle.fs_calls.specs.declared.target.PairCall.TheVariants as pairs
+use Rattle.fs_calls.specs.Forms.{form, reserves, Form}
 use Rattle.fs_calls.specs.declared.call.Call.{Call}
 use Rattle.fs_calls.specs.declared.reply.Reply.{Reply}
 use Rattle.fs_nodes.specs.Graphs.{Graph, set_at}
 use Rattle.fs_machine.specs.Finishes.{finish}
 use Rattle.fs_machine.specs.Leaving.{let_go, finished_op}
-use Rattle.fs_machine.specs.Moves.{next, target, head_took, left_behind, left_holdings, took, took_by}
+use Rattle.fs_machine.specs.Moves.{next, target, victim_took, dest_stepped, source_stepped, left_holdings, took, took_by}
 use Rattle.fs_machine.specs.declared.moves.Move.TheVariants.{Take as Takes}
 use Rattle.fs_machine.specs.Records.{Holdings, Phase, Walking, Placed, Finished, Record, Records, holdings_at}
 use Rattle.fs_timeline.specs.Timeline.{commit_count}
-use Rattle.fs_laws.specs.Invariants.{IsUnfinished, VictimAt, HeadsFit}
+use Rattle.fs_laws.specs.Invariants.{IsUnfinished, VictimAt}
 use Rattle.fs_machine.specs.States.{State, Run, Start, Beginning, Stepping, Begun, Begins, Reserves, new_op, Step}
 use Rattle.fs_machine.specs.declared.answers.Refusal.TheVariants.{SeatBusy, Full, OutOfMemory}
 use Rattle.fs_machine.specs.declared.answers.Stepped.{Stepped}
@@ -25,23 +24,18 @@ use Rattle.fs_laws.proofs.trees.Prefixes.{prefix_append}
 use Rattle.fs_laws.proofs.events.OneCallChanged.{Place, Here, Else, place}
 use Rattle.fs_laws.proofs.events.JustFinished.{Either, Changed, Old, either}
 use Rattle.fs_laws.proofs.events.Take.{TakesFrom, From_nowhere, From_holdings, takes_from}
-use Rattle.fs_laws.proofs.calls.Takes.{Take, Walk, Entry, Source, Dest, Replaced, takes_by}
-use Rattle.fs_laws.proofs.calls.HeadOrder.{HeadsInOrder, NeatIn, InTurn, IsClosed, in_turn}
+use Rattle.fs_laws.proofs.calls.Takes.{Take, Walk, Entry, Source, Dest, Replaced, takes_by, with_holdings, walked_on}
+use Rattle.fs_laws.proofs.calls.HeadOrder.{HeadsInOrder, in_turn}
 use Rattle.fs_laws.proofs.states.Headline.{run_keeps}
 use Rattle.fs_laws.proofs.states.Agreement.{run_accounts}
 use Rattle.fs_numbers.specs.Holdings.{nodes_held}
 
--- a parent is held behind only while nothing further is held
-record InOrder (st : Holdings) : Type 0 where
-  walk : (m : ℕ) → st.behind ≡ Some m → (st.source.walked ≡ []) × (st.dest.walked ≡ []) × (st.victim ≡ None)
-  source : (m : ℕ) → st.source.behind ≡ Some m → (st.dest.walked ≡ []) × (st.victim ≡ None)
-  dest : (m : ℕ) → st.dest.behind ≡ Some m → st.victim ≡ None
+-- nothing is behind once a victim is held
+abbrev InOrder : Holdings → Type 0
+InOrder st = (m : ℕ) → st.behind ≡ Some m → st.victim ≡ None
 
 no_number : {A : Type 0} (o : Option ℕ) (m : ℕ) → o ≡ None → o ≡ Some m → A
 no_number o m e f = absurd (let z : ◌≡◌ {A = Option ℕ} None (Some m) = sym e ∙ f in cc)
-
-none_behind : (st : Holdings) → st.behind ≡ None → st.source.behind ≡ None → st.dest.behind ≡ None → InOrder st
-none_behind st a b c = record { walk = λ m e. no_number st.behind m a e; source = λ m e. no_number st.source.behind m b e; dest = λ m e. no_number st.dest.behind m c e }
 
 -- ---- the count
 
@@ -53,57 +47,20 @@ walked_most : (k : Key) → one_walked k ≤ 1
 walked_most [] = omega arith
 walked_most (x ∷ k) = omega arith
 
-at_most : (st : Holdings) → HeadsFit st → InOrder st → nodes_held st ≤ 4
-at_most st fit o = behind st.behind refl
+at_most : (st : Holdings) → InOrder st → nodes_held st ≤ 4
+at_most st o = go st.behind refl
   where
-    by_dest : (b : Option ℕ) → st.dest.behind ≡ b → st.source.behind ≡ None → st.behind ≡ None → nodes_held st ≤ 4
-    by_dest None e j k =
-        let x : one_if st.behind ≡ 0 = ap one_if k in
-        let y : one_if st.source.behind ≡ 0 = ap one_if j in
-        let z : one_if st.dest.behind ≡ 0 = ap one_if e in
-        let p : one_walked st.source.walked ≤ 1 = walked_most st.source.walked in
-        let q : one_walked st.dest.walked ≤ 1 = walked_most st.dest.walked in
-        let r : one_if st.victim ≤ 1 = one_most st.victim in
-        omega (arith, x, y, z, p, q, r)
-    by_dest (Some m) e j k =
-        let x : one_if st.behind ≡ 0 = ap one_if k in
-        let y : one_if st.source.behind ≡ 0 = ap one_if j in
-        let z : one_if st.dest.behind ≤ 1 = one_most st.dest.behind in
-        let p : one_walked st.source.walked ≤ 1 = walked_most st.source.walked in
-        let q : one_walked st.dest.walked ≤ 1 = walked_most st.dest.walked in
-        let r : one_if st.victim ≡ 0 = ap one_if (o.dest m e) in
-        omega (arith, x, y, z, p, q, r)
+    p : one_walked st.source.walked ≤ 1
+    p = walked_most st.source.walked
 
-    by_source : (c : Option ℕ) → st.source.behind ≡ c → st.behind ≡ None → nodes_held st ≤ 4
-    by_source None j k = by_dest st.dest.behind refl j k
-    by_source (Some m) j k =
-        let x : one_if st.behind ≡ 0 = ap one_if k in
-        let y : one_if st.source.behind ≤ 1 = one_most st.source.behind in
-        let z : one_if st.dest.behind ≡ 0 = ap one_if (fit.1 (o.source m j).0) in
-        let p : one_walked st.source.walked ≤ 1 = walked_most st.source.walked in
-        let q : one_walked st.dest.walked ≡ 0 = ap one_walked (o.source m j).0 in
-        let r : one_if st.victim ≡ 0 = ap one_if (o.source m j).1 in
-        omega (arith, x, y, z, p, q, r)
+    q : one_walked st.dest.walked ≤ 1
+    q = walked_most st.dest.walked
 
-    behind : (a : Option ℕ) → st.behind ≡ a → nodes_held st ≤ 4
-    behind None k = by_source st.source.behind refl k
-    behind (Some m) k =
-        let x : one_if st.behind ≤ 1 = one_most st.behind in
-        let y : one_if st.source.behind ≡ 0 = ap one_if (fit.0 (o.walk m k).0) in
-        let z : one_if st.dest.behind ≡ 0 = ap one_if (fit.1 (o.walk m k).1) in
-        let p : one_walked st.source.walked ≡ 0 = ap one_walked (o.walk m k).0 in
-        let q : one_walked st.dest.walked ≡ 0 = ap one_walked (o.walk m k).1 in
-        let r : one_if st.victim ≡ 0 = ap one_if (o.walk m k).2 in
-        omega (arith, x, y, z, p, q, r)
+    go : (b : Option ℕ) → st.behind ≡ b → nodes_held st ≤ 4
+    go None e = let x : one_if st.behind ≡ 0 = ap one_if e in let r : one_if st.victim ≤ 1 = one_most st.victim in omega (arith, x, p, q, r)
+    go (Some m) e = let x : one_if st.behind ≤ 1 = one_most st.behind in let r : one_if st.victim ≡ 0 = ap one_if (o m e) in omega (arith, x, p, q, r)
 
 -- ---- takes
-
-fresh : (n : ℕ) (behind : Option ℕ) → InOrder (holdings_at n behind)
-fresh n behind = record { walk = λ m e. (refl, refl, refl); source = λ m e. no_number None m refl e; dest = λ m e. no_number None m refl e }
-
-not_walked : (k : Key) → (HasNames k → ⊥) → k ≡ []
-not_walked [] h = refl
-not_walked (x ∷ k) h = absurd (h tt)
 
 not_there : (o : Option ℕ) → ((v : ℕ) → o ≡ Some v → ⊥) → o ≡ None
 not_there None h = refl
@@ -115,55 +72,24 @@ still_left w whole l x e f = let z : left w whole ≡ [] = ap (left w) (e ∙ sy
 goes_on : (x : Name) (l : Key) (k : Key) → k ≡ x ∷ l → k ≡ [] → ⊥
 goes_on x l k e f = let y : ◌≡◌ {A = Key} (x ∷ l) [] = sym e ∙ f in cc
 
+holdings_one : (a b : Holdings) → ◌≡◌ {A = Option Holdings} (Some a) (Some b) → a ≡ b
+holdings_one a b e = cc
+
 -- what the stand after a take keeps
-took_order : (graph : Graph) (op : Record) (n : ℕ) (st new : Holdings) → HeadsFit st → HeadsInOrder graph op.remaining st → VictimAt graph op.remaining st → (took op n).holdings ≡ Some new → Take graph op n st → InOrder new
-took_order graph op n st new fit neat vic on (Walk x l a b child is) = subst InOrder (holdings_is (holdings_at n (Some st.node)) new (sym (ap (λ (o : Record). o.holdings) is) ∙ on)) (fresh n (Some st.node))
+took_order : (graph : Graph) (op : Record) (n : ℕ) (st new : Holdings) → HeadsInOrder graph op.remaining st → VictimAt graph op.remaining st → (took op n).holdings ≡ Some new → Take graph op n st → InOrder new
+took_order graph op n st new neat vic on t = go t
   where
-    holdings_is : (a b : Holdings) → ◌≡◌ {A = Option Holdings} (Some a) (Some b) → a ≡ b
-    holdings_is a b e = cc
-took_order graph op n st new fit neat vic on (Entry c p rem way b child off is) = subst InOrder (holdings_is (record st { victim = Some n }) new (sym (ap (λ (o : Record). o.holdings) is) ∙ on)) (none_behind (record st { victim = Some n }) b (fit.0 mine.source) (fit.1 mine.dest))
-  where
-    holdings_is : (a b : Holdings) → ◌≡◌ {A = Option Holdings} (Some a) (Some b) → a ≡ b
-    holdings_is a b e = cc
+    by : (v : Record) (made : Holdings) → took op n ≡ v → v.holdings ≡ Some made → InOrder made → InOrder new
+    by v made is h o = subst InOrder (holdings_one made new (sym (ap (λ (o : Record). o.holdings) is ∙ h) ∙ on)) o
 
-    mine : NeatIn p st
-    mine = subst (λ (f : Form). HeadsInOrder graph f st) rem neat
-took_order graph op n st new fit neat vic on (Replaced p q names rem way b arrived sb dir at_left db want child off is) = subst InOrder (holdings_is (record st { victim = Some n }) new (sym (ap (λ (o : Record). o.holdings) is) ∙ on)) (none_behind (record st { victim = Some n }) b sb db)
-  where
-    holdings_is : (a b : Holdings) → ◌≡◌ {A = Option Holdings} (Some a) (Some b) → a ≡ b
-    holdings_is a b e = cc
-took_order graph op n st new fit neat vic on (Source p q x l rem way b at_left sb child is) = subst InOrder (holdings_is (record st { source = head_took st.source x n }) new (sym (ap (λ (o : Record). o.holdings) is) ∙ on))
-    (record { walk = λ m e. no_number st.behind m b e; source = λ m e. (no_dest, no_victim); dest = λ m e. no_victim })
-  where
-    holdings_is : (a b : Holdings) → ◌≡◌ {A = Option Holdings} (Some a) (Some b) → a ≡ b
-    holdings_is a b e = cc
-
-    turn : InTurn graph p st
-    turn = in_turn graph p q st op.remaining rem way neat
-
-    no_dest : st.dest.walked ≡ []
-    no_dest = not_walked st.dest.walked (λ h. goes_on x l (left st.source.walked (parent_of p)) at_left (turn.dest h).arrived)
-
-    no_victim : st.victim ≡ None
-    no_victim = not_there st.victim (λ v e. goes_on x l (left st.source.walked (parent_of p)) at_left (turn.victim v e).arrived)
-took_order graph op n st new fit neat vic on (Dest p q x l names rem way b arrived sb dir at_left db child is) = subst InOrder (holdings_is (record st { dest = head_took st.dest x n }) new (sym (ap (λ (o : Record). o.holdings) is) ∙ on))
-    (record { walk = λ m e. no_number st.behind m b e; source = λ m e. no_number st.source.behind m sb e; dest = λ m e. no_victim })
-  where
-    holdings_is : (a b : Holdings) → ◌≡◌ {A = Option Holdings} (Some a) (Some b) → a ≡ b
-    holdings_is a b e = cc
-
-    mine : VictimAt graph (AtPair pairs.Rename p q) st
-    mine = subst (λ (f : Form). VictimAt graph f st) rem vic
-
-    no_victim : st.victim ≡ None
-    no_victim = not_there st.victim (λ v e. still_left st.dest.walked (parent_of q) l x (mine v e).1 at_left)
-
--- ---- let goes
-
-left_order : (st : Holdings) (b s : Option ℕ) → InOrder st → InOrder (left_behind st b s)
-left_order st (Some m) s o = record { walk = λ k e. no_number None k refl e; source = o.source; dest = o.dest }
-left_order st None (Some m) o = record { walk = o.walk; source = λ k e. no_number None k refl e; dest = o.dest }
-left_order st None None o = record { walk = o.walk; source = o.source; dest = λ k e. no_number None k refl e }
+    go : Take graph op n st → InOrder new
+    go (Walk x l a b child is) = by (walked_on op st x n) (holdings_at n (Some st.node)) is refl (λ m e. refl)
+    go (Entry c p rem way b child off is) = by (with_holdings op (victim_took st n)) (victim_took st n) is refl (λ m e. no_number st.behind m b e)
+    go (Replaced p q names rem way b arrived dir at_left want child off is) = by (with_holdings op (victim_took st n)) (victim_took st n) is refl (λ m e. no_number st.behind m b e)
+    go (Source p q x l rem way b at_left child is) = by (with_holdings op (source_stepped st x n)) (source_stepped st x n) is refl
+        (λ m e. not_there st.victim (λ v f. goes_on x l (left st.source.walked (parent_of p)) at_left ((in_turn graph p q st op.remaining rem way neat).victim v f).arrived))
+    go (Dest p q x l names rem way b arrived dir at_left child is) = by (with_holdings op (dest_stepped st x n)) (dest_stepped st x n) is refl
+        (λ m e. not_there st.victim (λ v f. still_left st.dest.walked (parent_of q) l x (subst (λ (g : Form). VictimAt graph g st) rem vic v f).1 at_left))
 
 -- ---- states
 
@@ -177,9 +103,6 @@ ordered_by s new c v ops mine k d q st e on u = go (either s.ops c v d q (sym (a
     go (Changed i j) = mine st (ap (λ (o : Record). o.holdings) j ∙ on) (subst IsUnfinished (sym j) u)
     go (Old h i) = k d q st i on u
 
-holdings_one : (a b : Holdings) → ◌≡◌ {A = Option Holdings} (Some a) (Some b) → a ≡ b
-holdings_one a b e = cc
-
 some_none : (st : Holdings) → ◌≡◌ {A = Option Holdings} None (Some st) → ⊥
 some_none st e = cc
 
@@ -187,20 +110,20 @@ taken : (s : State) → Run s → (c : ℕ) (op : Record) (n : ℕ) → s.ops c 
 taken s run c op n is m new on = go (takes_from s.graph op n m)
   where
     go : TakesFrom s.graph op n × IsUnfinished op → InOrder new
-    go (From_nowhere text off z, u) = subst InOrder (holdings_one (holdings_at n None) new (sym (ap (λ (o : Option Holdings). (took_by op o (target op.remaining) n).holdings) off) ∙ on)) (fresh n None)
-    go (From_holdings st at t, u) = took_order s.graph op n st new (((run_keeps s run).own c op is).heads st at) (((run_accounts s run).neat c op st is at).under_way u) (((run_keeps s run).own c op is).victim u st at) on (takes_by s.graph op n st at t)
+    go (From_nowhere text off z, u) = subst InOrder (holdings_one (holdings_at n None) new (sym (ap (λ (o : Option Holdings). (took_by op o (target op.remaining) n).holdings) off) ∙ on)) (λ m e. refl)
+    go (From_holdings st at t, u) = took_order s.graph op n st new (((run_accounts s run).neat c op st is at).under_way u) (((run_keeps s run).own c op is).victim u st at) on (takes_by s.graph op n st at t)
 
 let_gone : (s : State) (c : ℕ) (op : Record) (n : ℕ) → s.ops c ≡ Some op → Ordered s → (new : Holdings) → (let_go op n).holdings ≡ Some new → IsUnfinished op → InOrder new
 let_gone s c op n is k new on u = go op.phase op.holdings refl refl on
   where
-    by : (st : Holdings) → op.holdings ≡ Some st → ◌≡◌ {A = Option Holdings} (Some (left_behind st st.behind st.source.behind)) (Some new) → InOrder new
-    by st j e = subst InOrder (holdings_one (left_behind st st.behind st.source.behind) new e) (left_order st st.behind st.source.behind (k c op st is j u))
+    by : (st : Holdings) → ◌≡◌ {A = Option Holdings} (Some (record st { behind = None })) (Some new) → InOrder new
+    by st e = subst InOrder (holdings_one (record st { behind = None }) new e) (λ m f. no_number None m refl f)
 
     go : (p : Phase) (o : Option Holdings) → op.phase ≡ p → op.holdings ≡ o → left_holdings p o ≡ Some new → InOrder new
     go p None i j e = absurd (some_none new e)
     go (Finished r) (Some st) i j e = absurd (u r i)
-    go Walking (Some st) i j e = by st j e
-    go (Placed m) (Some st) i j e = by st j e
+    go Walking (Some st) i j e = by st e
+    go (Placed m) (Some st) i j e = by st e
 
 ordered_step : (s new : State) (seat : ℕ) (answer : Stepped) → Run s → Step s seat answer new → Ordered s → Ordered new
 ordered_step s new seat Idle run (off, same) k = subst Ordered (sym same) k
@@ -239,12 +162,12 @@ ordered s (Beginning {old} seat call answer new run begin) = ordered_begin old s
 ordered s (Stepping {old} seat answer new run step) = ordered_step old s seat answer run step (ordered old run)
 
 pub four_held : (s : State) → Run s → (c : ℕ) (op : Record) (st : Holdings) → s.ops c ≡ Some op → op.holdings ≡ Some st → nodes_held st ≤ 4
-four_held s run c op st is on = at_most st (((run_keeps s run).own c op is).heads st on) (go op.phase refl)
+four_held s run c op st is on = at_most st (go op.phase refl)
   where
     unfinished : (p : Phase) → op.phase ≡ p → ((r : Reply) → p ≡ Finished r → ⊥) → IsUnfinished op
     unfinished p i h r e = h r (sym i ∙ e)
 
     go : (p : Phase) → op.phase ≡ p → InOrder st
-    go (Finished r) i = let c : IsClosed st = ((run_accounts s run).neat c op st is on).closed r i in none_behind st c.behind c.source c.dest
+    go (Finished r) i = λ m e. no_number st.behind m (((run_accounts s run).neat c op st is on).closed r i) e
     go Walking i = ordered s run c op st is on (unfinished Walking i (λ r e. cc))
     go (Placed m) i = ordered s run c op st is on (unfinished (Placed m) i (λ r e. cc))

@@ -1,5 +1,5 @@
 -- A call's next move, and its record after a take and after a let go, under a renaming.
-use Rattle.std.proofs.Common.{◌≡◌, ℕ, Bool, true, false, not, ◌&&◌, ◌||◌, eqb, [], ◌∷◌, ◌++◌, Option, Some, None, refl, sym, ap, ap₂, ◌∙◌}
+use Rattle.std.proofs.Common.{◌≡◌, ℕ, Bool, true, false, not, ◌&&◌, ◌||◌, eqb, [], ◌∷◌, Option, Some, None, refl, sym, ap, ap₂, ◌∙◌}
 use Rattle.std.specs.Prelude.{option_map}
 use Rattle.fs_names.specs.Keys.{Key, after_prefix, has_more, parent_of, last_of, is_end}
 use Rattle.fs_names.specs.Names.{Name}
@@ -13,10 +13,10 @@ use Rattle.fs_calls.specs.declared.errno.Errno.{Errno}
 use Rattle.fs_calls.specs.declared.reply.Reply.{Reply}
 use Rattle.fs_nodes.specs.Graphs.{Graph, entry_shape}
 use Rattle.fs_machine.specs.Leaving.{is_removed, cleared, releasing, let_go, unreserved}
-use Rattle.fs_machine.specs.Moves.{first_of, target, walk_move, head_move, victim_of, take_if, entry_move, there_by, same_kind, dir_error, rename_at, moved_node, rename_move, dir_then, fork_move, target_move, first_walked, last_held, next_by, next, behind_of, head_took, dest_took, source_took, target_took, took_by, took, left_behind, left_heads, left_last, left_holdings}
+use Rattle.fs_machine.specs.Moves.{first_of, target, walk_move, victim_of, take_if, entry_move, there_by, same_kind, dir_error, rename_at, moved_node, rename_move, dir_then, fork_move, target_move, first_walked, last_held, next_by, next, behind_of, head_took, dest_took, source_took, target_took, took_by, took, left_heads, left_last, left_holdings, behind_first, step_move, next_on}
 use Rattle.fs_machine.specs.declared.moves.Move.{Move}
 use Rattle.fs_machine.specs.declared.moves.Move.TheVariants.{Take as Takes, LetGo as Leaves, Finish as Finishes}
-use Rattle.fs_machine.specs.Records.{Head, Holdings, Phase, Walking, Placed, Finished, Record}
+use Rattle.fs_machine.specs.Records.{Holdings, Phase, Walking, Placed, Finished, Record}
 use Rattle.fs_numbers.specs.Renamings.{Renaming, renamed_number, renamed_children, renamed_graph, renamed_head, renamed_holdings, renamed_record, renamed_move}
 use Rattle.fs_numbers.proofs.Edits.{eqb_old, old_at, child_at, entry_at, released_renamed}
 
@@ -28,17 +28,20 @@ walk_renamed r (Some (File bytes)) child = refl
 walk_renamed r (Some (Dir names)) None = refl
 walk_renamed r (Some (Dir names)) (Some m) = refl
 
-head_renamed : (r : Renaming) (graph : Graph) (n : ℕ) (behind : Option ℕ) (l : Key) → head_move (renamed_graph r graph) (r.to n) (renamed_number r behind) l ≡ option_map (renamed_move r) (head_move graph n behind l)
-head_renamed r graph n (Some m) l = refl
-head_renamed r graph n None [] = refl
-head_renamed r graph n None (x ∷ l) = ap (λ (m : Move). Some m) (ap₂ walk_move (old_at r graph.shape n) (child_at r graph.child n x) ∙ walk_renamed r (graph.shape n) (graph.child n x))
+step_renamed : (r : Renaming) (graph : Graph) (n : ℕ) (l : Key) → step_move (renamed_graph r graph) (r.to n) l ≡ option_map (renamed_move r) (step_move graph n l)
+step_renamed r graph n [] = refl
+step_renamed r graph n (x ∷ l) = ap (λ (m : Move). Some m) (ap₂ walk_move (old_at r graph.shape n) (child_at r graph.child n x) ∙ walk_renamed r (graph.shape n) (graph.child n x))
 
 first_renamed : (r : Renaming) (o : Option Move) (m : Move) → first_of (option_map (renamed_move r) o) (renamed_move r m) ≡ renamed_move r (first_of o m)
 first_renamed r None m = refl
 first_renamed r (Some k) m = refl
 
-head_then : (r : Renaming) (graph : Graph) (n : ℕ) (behind : Option ℕ) (l : Key) (m k : Move) → k ≡ renamed_move r m → first_of (head_move (renamed_graph r graph) (r.to n) (renamed_number r behind) l) k ≡ renamed_move r (first_of (head_move graph n behind l) m)
-head_then r graph n behind l m k e = ap₂ first_of (head_renamed r graph n behind l) e ∙ first_renamed r (head_move graph n behind l) m
+step_then : (r : Renaming) (graph : Graph) (n : ℕ) (l : Key) (m k : Move) → k ≡ renamed_move r m → first_of (step_move (renamed_graph r graph) (r.to n) l) k ≡ renamed_move r (first_of (step_move graph n l) m)
+step_then r graph n l m k e = ap₂ first_of (step_renamed r graph n l) e ∙ first_renamed r (step_move graph n l) m
+
+behind_then : (r : Renaming) (behind : Option ℕ) (m k : Move) → k ≡ renamed_move r m → behind_first (renamed_number r behind) k ≡ renamed_move r (behind_first behind m)
+behind_then r None m k e = e
+behind_then r (Some n) m k e = refl
 
 dir_renamed : (r : Renaming) (s : Option Shape) (m : Move) → dir_then s (renamed_move r m) ≡ renamed_move r (dir_then s m)
 dir_renamed r None m = refl
@@ -86,14 +89,17 @@ rename_renamed r graph p q st =
 
 fork_renamed : (r : Renaming) (graph : Graph) (p q : Key) (st : Holdings) → fork_move (renamed_graph r graph) p q (renamed_holdings r st) ≡ renamed_move r (fork_move graph p q st)
 fork_renamed r graph p q st =
-    dir_here r graph st.node _ _ (head_then r graph st.source.node st.source.behind (left st.source.walked (parent_of p)) _ _
-    (dir_here r graph st.source.node _ _ (head_then r graph st.dest.node st.dest.behind (left st.dest.walked (parent_of q)) _ _
+    dir_here r graph st.node _ _ (step_then r graph st.source.node (left st.source.walked (parent_of p)) _ _
+    (dir_here r graph st.source.node _ _ (step_then r graph st.dest.node (left st.dest.walked (parent_of q)) _ _
     (dir_here r graph st.dest.node (rename_move graph p q st) (rename_move (renamed_graph r graph) p q (renamed_holdings r st)) (rename_renamed r graph p q st)))))
 
 target_renamed : (r : Renaming) (graph : Graph) (remaining : Form) (st : Holdings) → target_move (renamed_graph r graph) remaining (renamed_holdings r st) ≡ renamed_move r (target_move graph remaining st)
 target_renamed r graph (AtNode c p) st = refl
 target_renamed r graph (AtEntry c p) st = in_renamed r graph c (last_of p) st
 target_renamed r graph (AtPair pairs.Rename p q) st = fork_renamed r graph p q st
+
+on_renamed : (r : Renaming) (graph : Graph) (remaining : Form) (st : Holdings) → next_on (renamed_graph r graph) remaining (renamed_holdings r st) ≡ renamed_move r (next_on graph remaining st)
+on_renamed r graph remaining st = behind_then r st.behind _ _ (step_then r graph st.node (target remaining) _ _ (target_renamed r graph remaining st))
 
 -- what is let go last
 first_walked_renamed : (r : Renaming) (walked : Key) (n m : ℕ) → first_walked walked (r.to n) (r.to m) ≡ r.to (first_walked walked n m)
@@ -113,8 +119,8 @@ by_renamed r graph op (Some e) Walking holdings = refl
 by_renamed r graph op (Some e) (Placed i) holdings = refl
 by_renamed r graph op None Walking None = ap Takes (sym r.root)
 by_renamed r graph op None (Placed i) None = ap Takes (sym r.root)
-by_renamed r graph op None Walking (Some st) = head_then r graph st.node st.behind (target op.remaining) _ _ (target_renamed r graph op.remaining st)
-by_renamed r graph op None (Placed i) (Some st) = head_then r graph st.node st.behind (target op.remaining) _ _ (target_renamed r graph op.remaining st)
+by_renamed r graph op None Walking (Some st) = on_renamed r graph op.remaining st
+by_renamed r graph op None (Placed i) (Some st) = on_renamed r graph op.remaining st
 
 pub next_renamed : (r : Renaming) (graph : Graph) (op : Record) → next (renamed_graph r graph) (renamed_record r op) ≡ renamed_move r (next graph op)
 next_renamed r graph op = by_renamed r graph op (by_text (form op.call)) op.phase op.holdings
@@ -125,16 +131,13 @@ behind_renamed : (r : Renaming) (walked : Key) (n : ℕ) → behind_of walked (r
 behind_renamed r [] n = refl
 behind_renamed r (x ∷ walked) n = refl
 
-head_took_renamed : (r : Renaming) (h : Head) (x : Name) (n : ℕ) → head_took (renamed_head r h) x (r.to n) ≡ renamed_head r (head_took h x n)
-head_took_renamed r h x n = ap (λ (b : Option ℕ). record { walked = h.walked ++ x ∷ []; node = r.to n; behind = b }) (behind_renamed r h.walked h.node)
-
 dest_took_renamed : (r : Renaming) (st : Holdings) (l : Key) (n : ℕ) → dest_took (renamed_holdings r st) l (r.to n) ≡ renamed_holdings r (dest_took st l n)
 dest_took_renamed r st [] n = refl
-dest_took_renamed r st (x ∷ l) n = ap (λ (h : Head). record (renamed_holdings r st) { dest = h }) (head_took_renamed r st.dest x n)
+dest_took_renamed r st (x ∷ l) n = ap (λ (b : Option ℕ). record (renamed_holdings r st) { behind = b; dest = renamed_head r (head_took st.dest x n) }) (behind_renamed r st.dest.walked st.dest.node)
 
 source_took_renamed : (r : Renaming) (st : Holdings) (k l : Key) (n : ℕ) → source_took (renamed_holdings r st) k l (r.to n) ≡ renamed_holdings r (source_took st k l n)
 source_took_renamed r st [] l n = dest_took_renamed r st l n
-source_took_renamed r st (x ∷ k) l n = ap (λ (h : Head). record (renamed_holdings r st) { source = h }) (head_took_renamed r st.source x n)
+source_took_renamed r st (x ∷ k) l n = ap (λ (b : Option ℕ). record (renamed_holdings r st) { behind = b; source = renamed_head r (head_took st.source x n) }) (behind_renamed r st.source.walked st.source.node)
 
 target_took_renamed : (r : Renaming) (remaining : Form) (st : Holdings) (n : ℕ) → target_took remaining (renamed_holdings r st) (r.to n) ≡ renamed_holdings r (target_took remaining st n)
 target_took_renamed r (AtNode c p) st n = refl
@@ -151,11 +154,6 @@ took_renamed r op n = took_by_renamed r op op.holdings (target op.remaining) n
 
 -- ---- after a let go, and a return
 
-left_behind_renamed : (r : Renaming) (st : Holdings) (b s : Option ℕ) → left_behind (renamed_holdings r st) (renamed_number r b) (renamed_number r s) ≡ renamed_holdings r (left_behind st b s)
-left_behind_renamed r st (Some m) s = refl
-left_behind_renamed r st None (Some m) = refl
-left_behind_renamed r st None None = refl
-
 left_heads_renamed : (r : Renaming) (st : Holdings) (dest source : Key) → left_heads (renamed_holdings r st) dest source ≡ option_map (renamed_holdings r) (left_heads st dest source)
 left_heads_renamed r st (x ∷ dest) source = refl
 left_heads_renamed r st [] (x ∷ source) = refl
@@ -168,8 +166,8 @@ left_last_renamed r st None = left_heads_renamed r st st.dest.walked st.source.w
 left_renamed : (r : Renaming) (phase : Phase) (holdings : Option Holdings) → left_holdings phase (option_map (renamed_holdings r) holdings) ≡ option_map (renamed_holdings r) (left_holdings phase holdings)
 left_renamed r phase None = refl
 left_renamed r (Finished reply) (Some st) = left_last_renamed r st st.victim
-left_renamed r Walking (Some st) = ap (λ (s : Holdings). Some s) (left_behind_renamed r st st.behind st.source.behind)
-left_renamed r (Placed i) (Some st) = ap (λ (s : Holdings). Some s) (left_behind_renamed r st st.behind st.source.behind)
+left_renamed r Walking (Some st) = refl
+left_renamed r (Placed i) (Some st) = refl
 
 eqb_new : (r : Renaming) (m n : ℕ) → eqb (r.to m) (r.to n) ≡ eqb m n
 eqb_new r m n = sym (eqb_old r (r.to m) n) ∙ ap (λ (k : ℕ). eqb k n) (r.there m)

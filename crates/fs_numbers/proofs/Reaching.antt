@@ -13,7 +13,7 @@ use Rattle.fs_calls.specs.declared.errno.Errno.{Errno}
 use Rattle.fs_calls.specs.declared.reply.Reply.{Reply}
 use Rattle.fs_nodes.specs.Graphs.{Graph, at, numbers, entry_shape, IsGraph, linked_in, unlinked_in, moved_in}
 use Rattle.fs_machine.specs.Finishes.{Effect, no_effect, node_effect, entry_effect, move_effect, rename_effect, effect_at}
-use Rattle.fs_machine.specs.Moves.{next_on, entry_move, first_of, head_move, fork_move, path_error, dir_error, rename_at}
+use Rattle.fs_machine.specs.Moves.{next_on, entry_move, first_of, step_move, fork_move, path_error, dir_error, rename_at}
 use Rattle.fs_machine.specs.declared.moves.Move.TheVariants.{Finish as Finishes}
 use Rattle.fs_machine.specs.Records.{Holdings}
 use Rattle.fs_laws.specs.Invariants.{ForkedAt, HeadsSound, VictimAt, NumberFor, HasNumber}
@@ -24,7 +24,8 @@ use Rattle.fs_laws.proofs.calls.Located.{key_is, from_more, to_more}
 use Rattle.fs_laws.proofs.graphs.Walks.{at_before, at_child, at_from, then_some}
 use Rattle.fs_laws.proofs.trees.Commuting.{move_to, move_else}
 use Rattle.fs_laws.proofs.graphs.TreesOfChanges.{CanLink, CanUnlink, CanMove, numbers_linked, numbers_unlinked, numbers_moved}
-use Rattle.fs_laws.proofs.finish.Replies.{Leaf, leaf_children, add_of, no_entry, head_stops}
+use Rattle.fs_laws.proofs.calls.Behind.{finish_on}
+use Rattle.fs_laws.proofs.finish.Replies.{Leaf, leaf_children, add_of, no_entry, step_stops}
 use Rattle.fs_laws.proofs.finish.Changes.{removed_leaf}
 use Rattle.fs_laws.proofs.finish.Readings.{arrived}
 use Rattle.fs_laws.proofs.finish.RealMoves.{Real, Replaces, real_of}
@@ -164,12 +165,12 @@ stays_moved graph is k st p q number r loc fits real = subst (λ (n : Option ℕ
     can = record { from_at = loc.source; to_at = loc.dest; there = real.moved.1; aside = aside }
 
 stays_rename : (graph : Graph) → IsGraph graph → (k : Key) (st : Holdings) (o : Option ℕ) (p q : Key) (number : Option ℕ) → Located (numbers graph) k st → Fits (AtPair pairs.Rename p q) → VictimAt graph (AtPair pairs.Rename p q) st
-    → (l : Key) → ForkedAt graph st.node p q st l → first_of (head_move graph st.node st.behind l) (fork_move graph p q st) ≡ Finishes o → Stays graph st number (rename_effect graph p q st number l)
+    → (l : Key) → ForkedAt graph st.node p q st l → first_of (step_move graph st.node l) (fork_move graph p q st) ≡ Finishes o → Stays graph st number (rename_effect graph p q st number l)
 stays_rename graph is k st o p q number loc fits vic (x ∷ l) w m = stays_same graph st number _
 stays_rename graph is k st o p q number loc fits vic [] w m = by (rename_at graph p q st).1 refl
   where
     fork : fork_move graph p q st ≡ Finishes o
-    fork = (head_stops graph st.node st.behind [] (fork_move graph p q st) o m).1 refl
+    fork = (step_stops graph st.node [] (fork_move graph p q st) o m).1 refl
 
     by : (b : Bool) → (rename_at graph p q st).1 ≡ b → Stays graph st number (move_effect graph st (last_of p) (last_of q) number (rename_at graph p q st).0 (rename_at graph p q st).1 (graph.child st.source.node (last_of p)))
     by false j = subst (λ (b : Bool). Stays graph st number (move_effect graph st (last_of p) (last_of q) number (rename_at graph p q st).0 b (graph.child st.source.node (last_of p)))) (sym j) (stays_same graph st number (rename_at graph p q st).0)
@@ -183,6 +184,6 @@ pub stays : (graph : Graph) → IsGraph graph → (k : Key) (st : Holdings) (o :
 stays graph is k st o number (AtNode c p) loc fits well vic has m = stays_on graph st number (node_row c (path_error p (graph.shape st.node)) (graph.shape st.node))
 stays graph is k st o number (AtEntry c p) loc fits well vic has m =
     stays_in graph is k st o c p number (dir_error (parent_of p) (graph.shape st.node)) (is_full (graph.shape st.node)) loc.here has vic
-    (λ h. (head_stops graph st.node st.behind (parent_of p) (entry_move graph c (last_of p) st) o m).1 (arrived (parent_of p) (graph.shape st.node) h))
+    (λ h. (step_stops graph st.node (parent_of p) (entry_move graph c (last_of p) st) o (finish_on graph (AtEntry c p) st o m)).1 (arrived (parent_of p) (graph.shape st.node) h))
     (entry_row c (dir_error (parent_of p) (graph.shape st.node)) (is_full (graph.shape st.node)) (entry_shape graph st.node (last_of p))) refl
-stays graph is k st o number (AtPair pairs.Rename p q) loc fits well vic has m = stays_rename graph is k st o p q number loc fits vic (common (parent_of p) (parent_of q)) well m
+stays graph is k st o number (AtPair pairs.Rename p q) loc fits well vic has m = stays_rename graph is k st o p q number loc fits vic (common (parent_of p) (parent_of q)) well (finish_on graph (AtPair pairs.Rename p q) st o m)

@@ -130,19 +130,19 @@ route_there call None behind fork victim st e = absurd (cc)
 route_there call (Some n) behind fork victim st e = let s : holdings_with call n behind fork victim ≡ st = cc in route_with call n behind fork victim ∙ ap route_at s
 
 -- the record and the graph after a finish
-module _ (graph : Graph) (call : Call) (way : Way) (fork : Option ForkWay) (victim reserved removed : Option ℕ) (error : Option Errno) (outcome : Outcome) (op : IsOp (form call) error way fork outcome)
-    (plan : Plan) (is : plan ≡ plan_of graph (op_value call way fork victim reserved removed outcome)) (done : Finish) (new : Graph) (made : IsEffect (carried graph (form call) (route_by way.node fork victim) reserved plan) done new) where
+module _ (graph : Graph) (call : Call) (way : Way) (behind : Option ℕ) (fork : Option ForkWay) (victim reserved removed : Option ℕ) (error : Option Errno) (outcome : Outcome) (op : IsOp (form call) error way fork outcome)
+    (plan : Plan) (is : plan ≡ plan_of graph (op_value call way behind fork victim reserved removed outcome)) (done : Finish) (new : Graph) (made : IsEffect (carried graph (form call) (route_by way.node fork victim) reserved plan) done new) where
   abbrev before : OpValue
-  before = op_value call way fork victim reserved removed outcome
+  before = op_value call way behind fork victim reserved removed outcome
 
   effect_is : (seat : ℕ) (place : Option ℕ) → carried graph (form call) (route_by way.node fork victim) reserved plan ≡ finish graph (record_of seat place before)
   effect_is seat place =
       let h : way.walked ≤ length (target (form call)) = omega (arith, op.within, op.names) in
       ap (carried graph (form call) (route_by way.node fork victim) reserved) is
-      ∙ carried_by graph (form call) way.walked (by_text (form call)) before.holdings (route_by way.node fork victim) reserved (route_there (form call) way.node way.behind fork victim) h
+      ∙ carried_by graph (form call) way.walked (by_text (form call)) before.holdings (route_by way.node fork victim) reserved (route_there (form call) way.node behind fork victim) h
       ∙ sym (finish_by graph (record_of seat place before) (by_text (form call)) before.holdings)
 
-  pub finished_is : IsFinished graph before (op_value call way fork victim done.reserved done.removed (Fixed done.replies))
+  pub finished_is : IsFinished graph before (op_value call way behind fork victim done.reserved done.removed (Fixed done.replies))
   finished_is seat place =
       let e = effect_is seat place in
       let r : done.replies ≡ (finish graph (record_of seat place before)).reply = made.reply ∙ ap (λ (m : Effect). m.reply) e in
@@ -315,46 +315,46 @@ route_started n names None victim = refl
 route_started n names (Some heads) victim = refl
 
 -- at its target
-arrived_can : (store : Seen) (call : Form) (way : Way) (n : ℕ) (fork : Option ForkWay) (victim reserved : Option ℕ) → by_text call ≡ None → way.node ≡ Some n → way.names ≡ length (target call) → way.walked ≡ way.names → Forks call way fork
-    → CanFinish store.graph reserved (dropped way.walked call) (Some (holdings_with call n way.behind fork victim)) → CanBy store call (route_by (Some n) fork victim) reserved (plan_at store.graph (dropped way.walked call) (holdings_with call n way.behind fork victim))
-arrived_can store (AtNode c p) way n fork victim reserved text node names arrived forks can = subst (CanBy store (AtNode c p) (route_by (Some n) fork victim) reserved) (sym (node_is store.graph way n fork victim arrived c p names)) (λ real. tt)
-arrived_can store (AtEntry c p) way n fork victim reserved text node names arrived forks can =
-    let at : (holdings_with (AtEntry c p) n way.behind fork victim).node ≡ n = holdings_node (AtEntry c p) n way.behind fork victim in
-    subst (CanBy store (AtEntry c p) (route_by (Some n) fork victim) reserved) (sym (entry_is store.graph way n fork victim arrived c p names))
+arrived_can : (store : Seen) (call : Form) (way : Way) (n : ℕ) (behind : Option ℕ) (fork : Option ForkWay) (victim reserved : Option ℕ) → by_text call ≡ None → way.node ≡ Some n → way.names ≡ length (target call) → way.walked ≡ way.names → Forks call way fork
+    → CanFinish store.graph reserved (dropped way.walked call) (Some (holdings_with call n behind fork victim)) → CanBy store call (route_by (Some n) fork victim) reserved (plan_at store.graph (dropped way.walked call) (holdings_with call n behind fork victim))
+arrived_can store (AtNode c p) way n behind fork victim reserved text node names arrived forks can = subst (CanBy store (AtNode c p) (route_by (Some n) fork victim) reserved) (sym (node_is store.graph way n behind fork victim arrived c p names)) (λ real. tt)
+arrived_can store (AtEntry c p) way n behind fork victim reserved text node names arrived forks can =
+    let at : (holdings_with (AtEntry c p) n behind fork victim).node ≡ n = holdings_node (AtEntry c p) n behind fork victim in
+    subst (CanBy store (AtEntry c p) (route_by (Some n) fork victim) reserved) (sym (entry_is store.graph way n behind fork victim arrived c p names))
     (entry_can store p n (route_by (Some n) fork victim) reserved (entry_named c p text) can.spare (λ e. can.other _ refl (e ∙ ap (λ (m : ℕ). Some m) (sym at))) c (entry_fault c (as_dir None (store.graph.shape n)) (is_full (store.graph.shape n)) (entry_shape store.graph n (last_of p))) refl)
-arrived_can store (AtPair pairs.Rename p q) way n fork victim reserved text node names arrived forks can =
+arrived_can store (AtPair pairs.Rename p q) way n behind fork victim reserved text node names arrived forks can =
     let heads : ForkWay = started fork n way.names in
     let forked : IsForked p q way heads = started_forked p q way fork n node arrived names forks in
     let short : heads.names ≤ length (common (parent_of p) (parent_of q)) = omega (arith, forked.names) in
-    let same = started_holdings (AtPair pairs.Rename p q) n way.names way.behind fork victim in
-    let apart : HeadsApart (AtPair pairs.Rename (drop way.walked p) (drop way.walked q)) (holdings_with (AtPair pairs.Rename p q) n way.behind (Some heads) victim) = subst (λ (z : Holdings). HeadsApart (AtPair pairs.Rename (drop way.walked p) (drop way.walked q)) z) same (can.heads _ refl) in
-    let moves : MovesApart store.graph (AtPair pairs.Rename (drop way.walked p) (drop way.walked q)) (holdings_with (AtPair pairs.Rename p q) n way.behind (Some heads) victim) = subst (λ (z : Holdings). MovesApart store.graph (AtPair pairs.Rename (drop way.walked p) (drop way.walked q)) z) same (can.apart _ refl) in
-    let below : MovesApart store.graph (AtPair pairs.Rename (drop heads.names p) (drop heads.names q)) (holdings_with (AtPair pairs.Rename p q) n way.behind (Some heads) victim) =
-    subst (λ (m : ℕ). MovesApart store.graph (AtPair pairs.Rename (drop m p) (drop m q)) (holdings_with (AtPair pairs.Rename p q) n way.behind (Some heads) victim)) (sym forked.names) moves in
-    subst (λ (z : Route). CanBy store (AtPair pairs.Rename p q) z reserved (plan_at store.graph (dropped way.walked (AtPair pairs.Rename p q)) (holdings_with (AtPair pairs.Rename p q) n way.behind fork victim))) (route_started n way.names fork victim)
-    (subst (CanBy store (AtPair pairs.Rename p q) (record { source = heads.source.node; dest = heads.dest.node; victim = victim }) reserved) (sym (pair_is store.graph way n fork victim arrived p q node names forks))
-    (pair_can store p q heads n way.behind victim reserved text short forked.source forked.dest apart below))
+    let same = started_holdings (AtPair pairs.Rename p q) n way.names behind fork victim in
+    let apart : HeadsApart (AtPair pairs.Rename (drop way.walked p) (drop way.walked q)) (holdings_with (AtPair pairs.Rename p q) n behind (Some heads) victim) = subst (λ (z : Holdings). HeadsApart (AtPair pairs.Rename (drop way.walked p) (drop way.walked q)) z) same (can.heads _ refl) in
+    let moves : MovesApart store.graph (AtPair pairs.Rename (drop way.walked p) (drop way.walked q)) (holdings_with (AtPair pairs.Rename p q) n behind (Some heads) victim) = subst (λ (z : Holdings). MovesApart store.graph (AtPair pairs.Rename (drop way.walked p) (drop way.walked q)) z) same (can.apart _ refl) in
+    let below : MovesApart store.graph (AtPair pairs.Rename (drop heads.names p) (drop heads.names q)) (holdings_with (AtPair pairs.Rename p q) n behind (Some heads) victim) =
+    subst (λ (m : ℕ). MovesApart store.graph (AtPair pairs.Rename (drop m p) (drop m q)) (holdings_with (AtPair pairs.Rename p q) n behind (Some heads) victim)) (sym forked.names) moves in
+    subst (λ (z : Route). CanBy store (AtPair pairs.Rename p q) z reserved (plan_at store.graph (dropped way.walked (AtPair pairs.Rename p q)) (holdings_with (AtPair pairs.Rename p q) n behind fork victim))) (route_started n way.names fork victim)
+    (subst (CanBy store (AtPair pairs.Rename p q) (record { source = heads.source.node; dest = heads.dest.node; victim = victim }) reserved) (sym (pair_is store.graph way n behind fork victim arrived p q node names forks))
+    (pair_can store p q heads n behind victim reserved text short forked.source forked.dest apart below))
 
 left_none : (k : ℕ) (l : Key) → drop k l ≡ [] → length l ≤ k
 left_none k l e = let h : length (drop k l) ≡ length l - k = length-drop k l in let z : length (drop k l) ≡ 0 = ap length e in omega (arith, h, z)
 
-can_by : (store : Seen) (call : Form) (way : Way) (fork : Option ForkWay) (victim reserved : Option ℕ) (e : Option Errno) (o : Option ℕ) → by_text call ≡ e → way.node ≡ o → way.names ≡ length (target call) → way.walked ≤ way.names → Forks call way fork
-    → CanFinish store.graph reserved (dropped way.walked call) (holdings_of call o way.behind fork victim) → CanBy store call (route_by o fork victim) reserved (plan_by store.graph e (dropped way.walked call) (holdings_of call o way.behind fork victim))
-can_by store call way fork victim reserved (Some e) o text node names within forks can = λ real. tt
-can_by store call way fork victim reserved None None text node names within forks can = λ real. tt
-can_by store call way fork victim reserved None (Some n) text node names within forks can = by (target (dropped way.walked call)) refl
+can_by : (store : Seen) (call : Form) (way : Way) (behind : Option ℕ) (fork : Option ForkWay) (victim reserved : Option ℕ) (e : Option Errno) (o : Option ℕ) → by_text call ≡ e → way.node ≡ o → way.names ≡ length (target call) → way.walked ≤ way.names → Forks call way fork
+    → CanFinish store.graph reserved (dropped way.walked call) (holdings_of call o behind fork victim) → CanBy store call (route_by o fork victim) reserved (plan_by store.graph e (dropped way.walked call) (holdings_of call o behind fork victim))
+can_by store call way behind fork victim reserved (Some e) o text node names within forks can = λ real. tt
+can_by store call way behind fork victim reserved None None text node names within forks can = λ real. tt
+can_by store call way behind fork victim reserved None (Some n) text node names within forks can = by (target (dropped way.walked call)) refl
   where
     st : Holdings
-    st = holdings_with call n way.behind fork victim
+    st = holdings_with call n behind fork victim
 
     by : (l : Key) → target (dropped way.walked call) ≡ l → CanBy store call (route_by (Some n) fork victim) reserved (plan_at store.graph (dropped way.walked call) st)
     by (z ∷ l) is = subst (CanBy store call (route_by (Some n) fork victim) reserved) (sym (lost_plan store.graph (dropped way.walked call) st z l is)) (λ real. tt)
     by [] is =
         let past : length (target call) ≤ way.walked = left_none way.walked (target call) (sym (target_drop way.walked call (omega arith)) ∙ is) in
-        arrived_can store call way n fork victim reserved text node names (omega arith) forks can
+        arrived_can store call way n behind fork victim reserved text node names (omega arith) forks can
 
 -- the plan of a call in a store
-pub can_carry_out : (store : Seen) (call : Call) (way : Way) (fork : Option ForkWay) (victim reserved removed : Option ℕ) (error : Option Errno) (outcome : Outcome) (plan : Plan) → IsOp (form call) error way fork outcome → IsPlan store (op_value call way fork victim reserved removed outcome) plan
-    → CanFinish store.graph reserved (dropped way.walked (form call)) (holdings_of (form call) way.node way.behind fork victim) → CanCarryOut store (form call) (route_by way.node fork victim) reserved plan
-can_carry_out store call way fork victim reserved removed error outcome plan op planned can =
-    subst (CanBy store (form call) (route_by way.node fork victim) reserved) (sym planned.is) (can_by store (form call) way fork victim reserved (by_text (form call)) way.node refl refl op.names op.within op.forks can) planned.real
+pub can_carry_out : (store : Seen) (call : Call) (way : Way) (behind : Option ℕ) (fork : Option ForkWay) (victim reserved removed : Option ℕ) (error : Option Errno) (outcome : Outcome) (plan : Plan) → IsOp (form call) error way fork outcome → IsPlan store (op_value call way behind fork victim reserved removed outcome) plan
+    → CanFinish store.graph reserved (dropped way.walked (form call)) (holdings_of (form call) way.node behind fork victim) → CanCarryOut store (form call) (route_by way.node fork victim) reserved plan
+can_carry_out store call way behind fork victim reserved removed error outcome plan op planned can =
+    subst (CanBy store (form call) (route_by way.node fork victim) reserved) (sym planned.is) (can_by store (form call) way behind fork victim reserved (by_text (form call)) way.node refl refl op.names op.within op.forks can) planned.real

@@ -16,17 +16,18 @@ use Rattle.fs_finish.specs.declared.plan.Plan.{Plan}
 use Rattle.fs_walk.specs.declared.head.Head as count
 use Rattle.fs_walk.specs.declared.want.Want.TheVariants.{Arrived}
 use Rattle.fs_walk.specs.Ways.{Way, ForkWay, head_name}
-use Rattle.fs_walk.specs.Wants.{at_dir, dir_want, then_want, head_want, fork_want}
-use Rattle.fs_machine.specs.Moves.{dir_error, rename_move, fork_move, first_of, head_move, dir_then, same_kind, there_by, moved_node, take_if}
+use Rattle.fs_walk.specs.Wants.{at_dir, dir_want, then_want, step_want, heads_want, fork_want}
+use Rattle.fs_machine.specs.Moves.{dir_error, rename_move, fork_move, first_of, step_move, behind_first, dir_then, same_kind, there_by, moved_node, take_if}
 use Rattle.fs_machine.specs.declared.moves.Move.TheVariants.{Finish as Finishes}
 use Rattle.fs_machine.specs.declared.moves.Move.{Move}
+use Rattle.fs_machine.specs.Records.{Holdings}
 use Rattle.fs_ops.specs.code.NextByNodes.{to_take, take_or, between_next, heads_next}
 use Rattle.fs_ops.specs.PlanOf.{move_of}
 use Rattle.fs_ops.specs.code.TakeAndLetGo.{started}
 use Rattle.fs_ops.specs.OpValue.{Forks, IsForked, head_of, holdings_with}
 use Rattle.fs_ops.proofs.KeyLemmas.{parent_drop, drop_get, drop_prefix, drop_prefix_back, common_parents, last_drop}
 use Rattle.fs_ops.proofs.TookLemmas.{ahead_none, started_forked, started_holdings}
-use Rattle.fs_ops.proofs.WantLemmas.{want_then, move_want, left_head, head_dir_tie, dir_tie, then_tie, then_arrived, dir_arrived, head_arrived, want_then_same}
+use Rattle.fs_ops.proofs.WantLemmas.{want_then, move_want, behind_arrived, behind_tie, left_head, head_dir_tie, dir_tie, then_tie, then_arrived, dir_arrived, step_arrived, want_then_same}
 
 -- a head that has arrived at a directory met no error
 no_error : (l : Key) (s : Option Shape) (names : List Name) → l ≡ [] → s ≡ Some (Dir names) → dir_error l s ≡ None
@@ -35,9 +36,9 @@ no_error l s names e f = rw (e, f) refl
 pub parent_reached : (graph : Graph) (p : Key) (k : ℕ) (head : count.Head) → k + head.walked ≤ length (parent_of p) → dir_want graph head (head_name p k head) ≡ Arrived
     → dir_error (left (head_of p k head).walked (parent_of (drop k p))) (graph.shape head.node) ≡ None
 parent_reached graph p k head h e =
-    let both = then_arrived (head_want graph head.node head.behind (head_name p k head)) (at_dir (graph.shape head.node)) e in
+    let both = then_arrived (step_want graph head.node (head_name p k head)) (at_dir (graph.shape head.node)) e in
     let dir = dir_arrived (graph.shape head.node) both.1 in
-    let name : slice_get (parent_of (drop k p)) head.walked ≡ None = ap (λ (l : Key). slice_get l head.walked) (parent_drop k p) ∙ (drop_get k head.walked (parent_of p) ∙ head_arrived graph head.node head.behind (head_name p k head) both.0) in
+    let name : slice_get (parent_of (drop k p)) head.walked ≡ None = ap (λ (l : Key). slice_get l head.walked) (parent_drop k p) ∙ (drop_get k head.walked (parent_of p) ∙ step_arrived graph head.node (head_name p k head) both.0) in
     no_error (left (head_of p k head).walked (parent_of (drop k p))) (graph.shape head.node) dir.0 (left_head k head.walked p h ∙ ahead_none (parent_of (drop k p)) head.walked name) dir.1
 
 -- ---- moves of plans
@@ -77,7 +78,7 @@ between_is : (graph : Graph) (p q : Key) (fork : ForkWay) (m : ℕ) (behind vict
     ≡ rename_move graph (drop fork.names p) (drop fork.names q) (holdings_with (AtPair pairs.Rename p q) m behind (Some fork) victim)
 between_is graph p q fork m behind victim hs hd hc e =
     let k = fork.names in
-    let heads = (then_arrived (at_dir (graph.shape fork.node)) (then_want (dir_want graph fork.source (head_name p k fork.source)) (dir_want graph fork.dest (head_name q k fork.dest))) e).1 in
+    let heads = (then_arrived (at_dir (graph.shape fork.node)) (then_want (dir_want graph fork.source (head_name p k fork.source)) (dir_want graph fork.dest (head_name q k fork.dest))) (behind_arrived fork.behind (heads_want graph p q fork) e)).1 in
     let both = then_arrived (dir_want graph fork.source (head_name p k fork.source)) (dir_want graph fork.dest (head_name q k fork.dest)) heads in
     let from = parent_reached graph p k fork.source hs both.0 in
     let to = parent_reached graph q k fork.dest hd both.1 in
@@ -86,39 +87,40 @@ between_is graph p q fork m behind victim hs hd hc e =
     rw (from, to, last_drop k p (omega arith), last_drop k q (omega arith), drop_prefix k p q (omega arith), drop_prefix_back k p q (omega arith), parents) refl
 
 -- from a common directory
-fork_tie : (graph : Graph) (p q : Key) (fork : ForkWay) (behind victim : Option ℕ) (m : Move) → fork.names + fork.source.walked ≤ length (parent_of p) → fork.names + fork.dest.walked ≤ length (parent_of q)
-    → dir_then (graph.shape fork.node)
-    (first_of (head_move graph fork.source.node fork.source.behind (left (head_of p fork.names fork.source).walked (parent_of (drop fork.names p))))
+fork_tie : (graph : Graph) (p q : Key) (fork : ForkWay) (m : Move) → fork.names + fork.source.walked ≤ length (parent_of p) → fork.names + fork.dest.walked ≤ length (parent_of q)
+    → behind_first fork.behind (dir_then (graph.shape fork.node)
+    (first_of (step_move graph fork.source.node (left (head_of p fork.names fork.source).walked (parent_of (drop fork.names p))))
     (dir_then (graph.shape fork.source.node)
-    (first_of (head_move graph fork.dest.node fork.dest.behind (left (head_of q fork.names fork.dest).walked (parent_of (drop fork.names q))))
-    (dir_then (graph.shape fork.dest.node) m))))
+    (first_of (step_move graph fork.dest.node (left (head_of q fork.names fork.dest).walked (parent_of (drop fork.names q))))
+    (dir_then (graph.shape fork.dest.node) m)))))
     ≡ want_then (fork_want graph p q fork) m
-fork_tie graph p q fork behind victim m hs hd =
-    ap (λ (k : Move). dir_then (graph.shape fork.node) (first_of (head_move graph fork.source.node fork.source.behind (left (head_of p fork.names fork.source).walked (parent_of (drop fork.names p)))) (dir_then (graph.shape fork.source.node) k))) (head_dir_tie graph q fork.names fork.dest m hd)
-    ∙ ap (dir_then (graph.shape fork.node)) (head_dir_tie graph p fork.names fork.source (want_then (dir_want graph fork.dest (head_name q fork.names fork.dest)) m) hs)
-    ∙ dir_tie (graph.shape fork.node) (want_then (dir_want graph fork.source (head_name p fork.names fork.source)) (want_then (dir_want graph fork.dest (head_name q fork.names fork.dest)) m))
+fork_tie graph p q fork m hs hd =
+    ap (λ (k : Move). behind_first fork.behind (dir_then (graph.shape fork.node) (first_of (step_move graph fork.source.node (left (head_of p fork.names fork.source).walked (parent_of (drop fork.names p)))) (dir_then (graph.shape fork.source.node) k)))) (head_dir_tie graph q fork.names fork.dest m hd)
+    ∙ ap (λ (k : Move). behind_first fork.behind (dir_then (graph.shape fork.node) k)) (head_dir_tie graph p fork.names fork.source (want_then (dir_want graph fork.dest (head_name q fork.names fork.dest)) m) hs)
+    ∙ ap (behind_first fork.behind) (dir_tie (graph.shape fork.node) (want_then (dir_want graph fork.source (head_name p fork.names fork.source)) (want_then (dir_want graph fork.dest (head_name q fork.names fork.dest)) m))
     ∙ ap (want_then (at_dir (graph.shape fork.node))) (sym (then_tie (dir_want graph fork.source (head_name p fork.names fork.source)) (dir_want graph fork.dest (head_name q fork.names fork.dest)) m))
-    ∙ sym (then_tie (at_dir (graph.shape fork.node)) (then_want (dir_want graph fork.source (head_name p fork.names fork.source)) (dir_want graph fork.dest (head_name q fork.names fork.dest))) m)
+    ∙ sym (then_tie (at_dir (graph.shape fork.node)) (then_want (dir_want graph fork.source (head_name p fork.names fork.source)) (dir_want graph fork.dest (head_name q fork.names fork.dest))) m))
+    ∙ behind_tie fork.behind (heads_want graph p q fork) m
 
 -- a rename at its common directory does what its heads want, and then what it does between both parents
-rename_from : (graph : Graph) (p q : Key) (way : Way) (f : ForkWay) (victim : Option ℕ) (n : ℕ) → IsForked p q way f → way.node ≡ Some n → way.names ≡ length (common (parent_of p) (parent_of q))
-    → move_of (heads_next graph p q f victim) ≡ fork_move graph (drop way.walked p) (drop way.walked q) (holdings_with (AtPair pairs.Rename p q) n way.behind (Some f) victim)
-rename_from graph p q way f victim n h at names =
+rename_from : (graph : Graph) (p q : Key) (way : Way) (behind : Option ℕ) (f : ForkWay) (victim : Option ℕ) (n : ℕ) → IsForked p q way f → way.node ≡ Some n → way.names ≡ length (common (parent_of p) (parent_of q))
+    → move_of (heads_next graph p q f victim) ≡ behind_first f.behind (fork_move graph (drop way.walked p) (drop way.walked q) (holdings_with (AtPair pairs.Rename p q) n behind (Some f) victim))
+rename_from graph p q way behind f victim n h at names =
     let short : f.names ≤ length (common (parent_of p) (parent_of q)) = (let a = h.names in let b = h.arrived in omega arith) in
     let same : f.node ≡ n = (let i : way.node ≡ Some f.node = h.node in cc) in
     move_want (fork_want graph p q f) (between_next graph f.source.node (last_of p) f.dest.node (last_of q) (is_end (after_prefix p q)) (has_more (after_prefix q p)) (is_end (after_prefix (parent_of p) (parent_of q))) victim)
     ∙ ap (want_then (fork_want graph p q f)) (move_between graph f.source.node (last_of p) f.dest.node (last_of q) (is_end (after_prefix p q)) (has_more (after_prefix q p)) (is_end (after_prefix (parent_of p) (parent_of q))) victim)
-    ∙ want_then_same (fork_want graph p q f) _ (rename_move graph (drop f.names p) (drop f.names q) (holdings_with (AtPair pairs.Rename p q) n way.behind (Some f) victim)) (between_is graph p q f n way.behind victim h.source h.dest short)
-    ∙ sym (fork_tie graph p q f way.behind victim (rename_move graph (drop f.names p) (drop f.names q) (holdings_with (AtPair pairs.Rename p q) n way.behind (Some f) victim)) h.source h.dest)
-    ∙ ap (λ (m : ℕ). dir_then (graph.shape m)
-    (first_of (head_move graph f.source.node f.source.behind (left (head_of p f.names f.source).walked (parent_of (drop f.names p))))
+    ∙ want_then_same (fork_want graph p q f) _ (rename_move graph (drop f.names p) (drop f.names q) (holdings_with (AtPair pairs.Rename p q) n behind (Some f) victim)) (between_is graph p q f n behind victim h.source h.dest short)
+    ∙ sym (fork_tie graph p q f (rename_move graph (drop f.names p) (drop f.names q) (holdings_with (AtPair pairs.Rename p q) n behind (Some f) victim)) h.source h.dest)
+    ∙ ap (λ (m : ℕ). behind_first f.behind (dir_then (graph.shape m)
+    (first_of (step_move graph f.source.node (left (head_of p f.names f.source).walked (parent_of (drop f.names p))))
     (dir_then (graph.shape f.source.node)
-    (first_of (head_move graph f.dest.node f.dest.behind (left (head_of q f.names f.dest).walked (parent_of (drop f.names q))))
-    (dir_then (graph.shape f.dest.node) (rename_move graph (drop f.names p) (drop f.names q) (holdings_with (AtPair pairs.Rename p q) n way.behind (Some f) victim))))))) same
-    ∙ ap (λ (k : ℕ). fork_move graph (drop k p) (drop k q) (holdings_with (AtPair pairs.Rename p q) n way.behind (Some f) victim)) h.names
+    (first_of (step_move graph f.dest.node (left (head_of q f.names f.dest).walked (parent_of (drop f.names q))))
+    (dir_then (graph.shape f.dest.node) (rename_move graph (drop f.names p) (drop f.names q) (holdings_with (AtPair pairs.Rename p q) n behind (Some f) victim)))))))) same
+    ∙ ap (λ (k : ℕ). behind_first f.behind (fork_move graph (drop k p) (drop k q) (holdings_with (AtPair pairs.Rename p q) n behind (Some f) victim))) h.names
 
-pub rename_is : (graph : Graph) (p q : Key) (way : Way) (fork : Option ForkWay) (victim : Option ℕ) (n : ℕ) → way.node ≡ Some n → way.walked ≡ way.names → way.names ≡ length (common (parent_of p) (parent_of q)) → Forks (AtPair pairs.Rename p q) way fork
-    → move_of (heads_next graph p q (started fork n way.names) victim) ≡ fork_move graph (drop way.walked p) (drop way.walked q) (holdings_with (AtPair pairs.Rename p q) n way.behind fork victim)
-rename_is graph p q way fork victim n at all names forks =
-    rename_from graph p q way (started fork n way.names) victim n (started_forked p q way fork n at all names forks) at names
-    ∙ ap (fork_move graph (drop way.walked p) (drop way.walked q)) (sym (started_holdings (AtPair pairs.Rename p q) n way.names way.behind fork victim))
+pub rename_is : (graph : Graph) (p q : Key) (way : Way) (behind : Option ℕ) (fork : Option ForkWay) (victim : Option ℕ) (n : ℕ) → way.node ≡ Some n → way.walked ≡ way.names → way.names ≡ length (common (parent_of p) (parent_of q)) → Forks (AtPair pairs.Rename p q) way fork
+    → move_of (heads_next graph p q (started fork n way.names) victim) ≡ behind_first (started fork n way.names).behind (fork_move graph (drop way.walked p) (drop way.walked q) (holdings_with (AtPair pairs.Rename p q) n behind fork victim))
+rename_is graph p q way behind fork victim n at all names forks =
+    rename_from graph p q way behind (started fork n way.names) victim n (started_forked p q way fork n at all names forks) at names
+    ∙ ap (λ (st : Holdings). behind_first (started fork n way.names).behind (fork_move graph (drop way.walked p) (drop way.walked q) st)) (sym (started_holdings (AtPair pairs.Rename p q) n way.names behind fork victim))

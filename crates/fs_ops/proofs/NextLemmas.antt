@@ -2,6 +2,7 @@
 use Rattle.std.proofs.Common.{◌≡◌, ℕ, zero, suc, ◌≤◌, nat_lt, true, false, [], ◌∷◌, length, slice_get, Option, Some, None, refl, sym, ap, ◌∙◌, arith}
 use Rattle.std.specs.Option.{is_some}
 use Rattle.std.proofs.lemmas.Bool.Decides.{nat_tests}
+use Rattle.std.proofs.lemmas.Option.{slice_get_past}
 use Rattle.fs_names.specs.Keys.{Key, parent_of, last_of}
 use Rattle.fs_names.specs.Shapes.{Shape, is_full}
 use Rattle.fs_nodes.specs.Graphs.{Graph, entry_shape}
@@ -13,29 +14,26 @@ use Rattle.fs_calls.specs.Rows.{as_dir, entry_fault}
 use Rattle.fs_calls.specs.declared.errno.Errno.{Errno}
 use Rattle.fs_walk.specs.declared.want.Want.TheVariants.{Arrived}
 use Rattle.fs_walk.specs.Ways.{Way, ForkWay, name_ahead, fork_last}
-use Rattle.fs_walk.specs.Wants.{want, way_want}
+use Rattle.fs_walk.specs.Wants.{step_want, want, way_want}
 use Rattle.fs_finish.specs.Plans.{entry_plan, moved_by}
-use Rattle.fs_machine.specs.Moves.{take_if, victim_of, target, target_move, first_of, head_move, last_held, next_on, next_by}
+use Rattle.fs_machine.specs.Moves.{take_if, victim_of, target, target_move, first_of, step_move, behind_first, last_held, next_on, next_by}
+use Rattle.fs_machine.specs.declared.moves.Move.{Move}
 use Rattle.fs_machine.specs.declared.moves.Move.TheVariants.{Finish as Finishes, LetGo as Leaves}
-use Rattle.fs_ops.specs.code.NextByNodes.{held_last, last_next, entry_next, want_next, target_next, way_next, way_next_at}
+use Rattle.fs_ops.specs.code.NextByNodes.{held_last, last_next, entry_next, target_next, way_next, way_next_at}
 use Rattle.fs_ops.specs.PlanOf.{move_of}
-use Rattle.fs_machine.specs.Records.{Holdings, Walking, Finished}
+use Rattle.fs_machine.specs.Records.{Walking, Finished}
 use Rattle.fs_finish.specs.Paths.{first_path}
-use Rattle.fs_ops.specs.OpValue.{IsOp, Forks, dropped, holdings_with, holdings_of, op_value, reply_of}
+use Rattle.fs_ops.specs.OpValue.{IsOp, Forks, behind_in, dropped, holdings_with, holdings_of, op_value, reply_of}
 use Rattle.fs_machine.specs.OpValues.{OpValue, record_of, next_of}
 use Rattle.fs_ops.specs.declared.outcome.Outcome.{Outcome}
 use Rattle.fs_ops.specs.declared.outcome.Outcome.TheVariants.{Open, Fixed}
-use Rattle.fs_ops.proofs.KeyLemmas.{last_drop, target_take}
+use Rattle.fs_ops.proofs.KeyLemmas.{last_drop, target_drop, target_take}
 use Rattle.fs_ops.proofs.LeftLemmas.{head_taken}
-use Rattle.fs_ops.proofs.TookLemmas.{holdings_node}
+use Rattle.fs_ops.proofs.TookLemmas.{ahead_none, holdings_node}
 use Rattle.fs_ops.proofs.ForkLemmas.{move_take, rename_is}
-use Rattle.fs_ops.proofs.WantLemmas.{walk_tie, head_arrived, move_want, want_then_same}
+use Rattle.fs_ops.proofs.WantLemmas.{behind_arrived, walk_tie, step_arrived, move_want, want_then_same}
 
 -- holdings by what the fork is
-holdings_behind : (call : Form) (n : ℕ) (behind : Option ℕ) (fork : Option ForkWay) (victim : Option ℕ) → (holdings_with call n behind fork victim).behind ≡ behind
-holdings_behind call n behind None victim = refl
-holdings_behind call n behind (Some f) victim = refl
-
 holdings_victim : (call : Form) (n : ℕ) (behind : Option ℕ) (fork : Option ForkWay) (victim : Option ℕ) → (holdings_with call n behind fork victim).victim ≡ victim
 holdings_victim call n behind None victim = refl
 holdings_victim call n behind (Some f) victim = refl
@@ -46,92 +44,103 @@ moved_entry (Some e) new n = refl
 moved_entry None None n = refl
 moved_entry None (Some s) n = refl
 
-entry_is : (graph : Graph) (c : EntryCall) (p : Key) (way : Way) (fork : Option ForkWay) (victim : Option ℕ) (n : ℕ) → way.names ≡ length (parent_of p) → way.walked ≡ way.names
-    → move_of (entry_next graph n c (last_of p) victim) ≡ target_move graph (dropped way.walked (AtEntry c p)) (holdings_with (AtEntry c p) n way.behind fork victim)
-entry_is graph c p way fork victim n names all =
+entry_is : (graph : Graph) (c : EntryCall) (p : Key) (way : Way) (behind : Option ℕ) (fork : Option ForkWay) (victim : Option ℕ) (n : ℕ) → way.names ≡ length (parent_of p) → way.walked ≡ way.names
+    → move_of (entry_next graph n c (last_of p) victim) ≡ target_move graph (dropped way.walked (AtEntry c p)) (holdings_with (AtEntry c p) n behind fork victim)
+entry_is graph c p way behind fork victim n names all =
     move_take (victim_of c (entry_shape graph n (last_of p))) (graph.child n (last_of p)) victim _
     ∙ ap (λ (m : Option ℕ). take_if (victim_of c (entry_shape graph n (last_of p))) (graph.child n (last_of p)) victim (Finishes m)) (moved_entry (entry_fault c (as_dir None (graph.shape n)) (is_full (graph.shape n)) (entry_shape graph n (last_of p))) (new_shape c) n)
-    ∙ rw (last_drop way.walked p (omega arith), holdings_node (AtEntry c p) n way.behind fork victim, holdings_victim (AtEntry c p) n way.behind fork victim) refl
+    ∙ rw (last_drop way.walked p (omega arith), holdings_node (AtEntry c p) n behind fork victim, holdings_victim (AtEntry c p) n behind fork victim) refl
 
-target_is : (graph : Graph) (call : Form) (way : Way) (fork : Option ForkWay) (victim : Option ℕ) (n : ℕ) → way.node ≡ Some n → way.names ≡ length (target call) → way.walked ≡ way.names → Forks call way fork
-    → move_of (target_next graph call n way.names fork victim) ≡ target_move graph (dropped way.walked call) (holdings_with call n way.behind fork victim)
-target_is graph (AtNode c p) way fork victim n at names all forks = refl
-target_is graph (AtEntry c p) way fork victim n at names all forks = entry_is graph c p way fork victim n names all
-target_is graph (AtPair pairs.Rename p q) way fork victim n at names all forks = rename_is graph p q way fork victim n at all names forks
+target_is : (graph : Graph) (call : Form) (way : Way) (behind : Option ℕ) (fork : Option ForkWay) (victim : Option ℕ) (n : ℕ) → way.node ≡ Some n → way.names ≡ length (target call) → way.walked ≡ way.names → Forks call way fork
+    → move_of (target_next graph call n way.names fork victim) ≡ behind_first (behind_in None fork) (target_move graph (dropped way.walked call) (holdings_with call n behind fork victim))
+target_is graph (AtNode c p) way behind None victim n at names all forks = refl
+target_is graph (AtNode c p) way behind (Some f) victim n at names all forks = absurd forks
+target_is graph (AtEntry c p) way behind None victim n at names all forks = entry_is graph c p way behind None victim n names all
+target_is graph (AtEntry c p) way behind (Some f) victim n at names all forks = absurd forks
+target_is graph (AtPair pairs.Rename p q) way behind None victim n at names all forks = rename_is graph p q way behind None victim n at all names forks
+target_is graph (AtPair pairs.Rename p q) way behind (Some f) victim n at names all forks = rename_is graph p q way behind (Some f) victim n at all names forks
 
 none_past : (l : Key) (k : ℕ) → slice_get l k ≡ None → length l ≤ k
 none_past [] k e = omega arith
 none_past (x ∷ l) zero e = absurd (cc)
 none_past (x ∷ l) (suc k) e = let h : length l ≤ k = none_past l k e in omega arith
 
+-- heads set out from where the walk has arrived
+pub arrived_by : (call : Form) (way : Way) (f : ForkWay) → Forks call way (Some f) → way.walked ≡ way.names
+arrived_by (AtNode c p) way f forks = absurd forks
+arrived_by (AtEntry c p) way f forks = absurd forks
+arrived_by (AtPair pairs.Rename p q) way f forks = forks.arrived
+
 -- where it has arrived, it has walked all its names
 pub has_walked : (graph : Graph) (call : Form) (way : Way) (n : ℕ) → way.node ≡ Some n → way.names ≡ length (target call) → way.walked ≤ way.names → want graph (first_path call) way ≡ Arrived → way.walked ≡ way.names
 has_walked graph call way n at names within arrived =
     let here : way_want graph (Some n) way.behind (name_ahead (first_path call) way) ≡ Arrived = rw at at arrived in
-    let name : name_ahead (first_path call) way ≡ None = head_arrived graph n way.behind (name_ahead (first_path call) way) here in
+    let name : name_ahead (first_path call) way ≡ None = step_arrived graph n (name_ahead (first_path call) way) (behind_arrived way.behind (step_want graph n (name_ahead (first_path call) way)) here) in
     let ahead : slice_get (target call) way.walked ≡ None = sym (rw names (ap (λ (l : Key). slice_get l way.walked) (target_take call))) ∙ name in
     let past : length (target call) ≤ way.walked = none_past (target call) way.walked ahead in
     omega arith
 
--- a call on its way does what its walk wants
+-- a call on its way does what its walk wants, and once its heads have set out what they want
 way_is : (graph : Graph) (call : Form) (way : Way) (fork : Option ForkWay) (victim : Option ℕ) (n : ℕ) → way.node ≡ Some n → way.names ≡ length (target call) → way.walked ≤ way.names → Forks call way fork
-    → move_of (want_next (want graph (first_path call) way) (target_next graph call n way.names fork victim)) ≡ next_on graph (dropped way.walked call) (holdings_with call n way.behind fork victim)
-way_is graph call way fork victim n at names within forks =
-    let rest : Form = dropped way.walked call in
-    let st : Holdings = holdings_with call n way.behind fork victim in
-    move_want (want graph (first_path call) way) (target_next graph call n way.names fork victim)
-    ∙ want_then_same (want graph (first_path call) way) _ (target_move graph rest st) (λ e. target_is graph call way fork victim n at names (has_walked graph call way n at names within e) forks)
-    ∙ sym (walk_tie graph call way n (target_move graph rest st) at names within)
-    ∙ ap (λ (m : ℕ). first_of (head_move graph m way.behind (target rest)) (target_move graph rest st)) (sym (holdings_node call n way.behind fork victim))
-    ∙ ap (λ (b : Option ℕ). first_of (head_move graph st.node b (target rest)) (target_move graph rest st)) (sym (holdings_behind call n way.behind fork victim))
+    → move_of (way_next_at graph call way (Some n) fork victim) ≡ next_on graph (dropped way.walked call) (holdings_with call n (behind_in way.behind fork) fork victim)
+way_is graph call way None victim n at names within forks =
+    let move : Move = target_move graph (dropped way.walked call) (holdings_with call n way.behind None victim) in
+    move_want (want graph (first_path call) way) (target_next graph call n way.names None victim)
+    ∙ want_then_same (want graph (first_path call) way) _ move (λ e. target_is graph call way way.behind None victim n at names (has_walked graph call way n at names within e) forks)
+    ∙ sym (walk_tie graph call way n move at names within)
+way_is graph call way (Some f) victim n at names within forks =
+    let all : way.walked ≡ way.names = arrived_by call way f forks in
+    let rest : target (dropped way.walked call) ≡ [] = target_drop way.walked call (omega (arith, within, names)) ∙ ahead_none (target call) way.walked (slice_get_past (target call) way.walked (omega (arith, all, names))) in
+    target_is graph call way f.behind (Some f) victim n at names all forks
+    ∙ ap (λ (l : Key). behind_first f.behind (first_of (step_move graph n l) (target_move graph (dropped way.walked call) (holdings_with call n f.behind (Some f) victim)))) (sym rest)
 
 pub next_is : (graph : Graph) (call : Call) (way : Way) (fork : Option ForkWay) (victim reserved removed : Option ℕ) (error : Option Errno) (outcome : Outcome) → IsOp (form call) error way fork outcome → is_some (reply_of outcome) ≡ false → by_text (form call) ≡ None
-    → move_of (way_next graph (form call) way fork victim) ≡ next_of graph (op_value call way fork victim reserved removed outcome)
+    → move_of (way_next graph (form call) way fork victim) ≡ next_of graph (op_value call way (behind_in way.behind fork) fork victim reserved removed outcome)
 next_is graph call way fork victim reserved removed error (Fixed r) op unfinished text = absurd (cc)
 next_is graph call way fork victim reserved removed error (Open prepared) op unfinished text = by way.node refl
   where
     value : OpValue
-    value = op_value call way fork victim reserved removed (Open prepared)
+    value = op_value call way (behind_in way.behind fork) fork victim reserved removed (Open prepared)
 
-    by : (o : Option ℕ) → way.node ≡ o → move_of (way_next_at graph (form call) way o fork victim) ≡ next_by graph (record_of 0 None value) (by_text (form call)) Walking (holdings_of (form call) o way.behind fork victim)
+    by : (o : Option ℕ) → way.node ≡ o → move_of (way_next_at graph (form call) way o fork victim) ≡ next_by graph (record_of 0 None value) (by_text (form call)) Walking (holdings_of (form call) o (behind_in way.behind fork) fork victim)
     by None e = ap (λ (x : Option Errno). next_by graph (record_of 0 None value) x Walking None) (sym text)
     by (Some n) e =
         way_is graph (form call) way fork victim n e op.names op.within op.forks
-        ∙ ap (λ (x : Option Errno). next_by graph (record_of 0 None value) x Walking (Some (holdings_with (form call) n way.behind fork victim))) (sym text)
+        ∙ ap (λ (x : Option Errno). next_by graph (record_of 0 None value) x Walking (Some (holdings_with (form call) n (behind_in way.behind fork) fork victim))) (sym text)
 
 -- a finished call
-held_is : (call : Form) (way : Way) (fork : Option ForkWay) (victim : Option ℕ) (n : ℕ) → Forks call way fork → way.node ≡ Some n → last_held (holdings_with call n way.behind fork victim) victim ≡ held_last n fork victim
-held_is call way None (Some v) n h at = refl
-held_is call way (Some f) (Some v) n h at = refl
-held_is call way None None n h at = refl
-held_is (AtNode c p) way (Some f) None n h at = absurd h
-held_is (AtEntry c p) way (Some f) None n h at = absurd h
-held_is (AtPair pairs.Rename p q) way (Some f) None n h at = by_dest f.dest.walked refl
+held_is : (call : Form) (way : Way) (behind : Option ℕ) (fork : Option ForkWay) (victim : Option ℕ) (n : ℕ) → Forks call way fork → way.node ≡ Some n → last_held (holdings_with call n behind fork victim) victim ≡ held_last n fork victim
+held_is call way behind None (Some v) n h at = refl
+held_is call way behind (Some f) (Some v) n h at = refl
+held_is call way behind None None n h at = refl
+held_is (AtNode c p) way behind (Some f) None n h at = absurd h
+held_is (AtEntry c p) way behind (Some f) None n h at = absurd h
+held_is (AtPair pairs.Rename p q) way behind (Some f) None n h at = by_dest f.dest.walked refl
   where
     same : n ≡ f.node
     same = let i : way.node ≡ Some f.node = h.node in cc
 
-    by_source : (k : ℕ) → f.dest.walked ≡ 0 → f.source.walked ≡ k → last_held (holdings_with (AtPair pairs.Rename p q) n way.behind (Some f) None) None ≡ fork_last f
+    by_source : (k : ℕ) → f.dest.walked ≡ 0 → f.source.walked ≡ k → last_held (holdings_with (AtPair pairs.Rename p q) n behind (Some f) None) None ≡ fork_last f
     by_source zero d e = rw (d, e) same
     by_source (suc k) d e =
         let r = head_taken f.names k p (omega (arith, h.source)) in
         let t : nat_lt 0 (suc k) ≡ true = grind (arith, nat_tests) in
         rw (d, e, t, r.1.1) refl
 
-    by_dest : (k : ℕ) → f.dest.walked ≡ k → last_held (holdings_with (AtPair pairs.Rename p q) n way.behind (Some f) None) None ≡ fork_last f
+    by_dest : (k : ℕ) → f.dest.walked ≡ k → last_held (holdings_with (AtPair pairs.Rename p q) n behind (Some f) None) None ≡ fork_last f
     by_dest zero d = by_source f.source.walked d refl
     by_dest (suc k) d =
         let r = head_taken f.names k q (omega (arith, h.dest)) in
         let t : nat_lt 0 (suc k) ≡ true = grind (arith, nat_tests) in
         rw (d, t, r.1.1) refl
 
-pub finished_is : (graph : Graph) (call : Call) (way : Way) (fork : Option ForkWay) (victim reserved removed : Option ℕ) (outcome : Outcome) → Forks (form call) way fork → is_some (reply_of outcome) ≡ true
-    → move_of (last_next way.node fork victim) ≡ next_of graph (op_value call way fork victim reserved removed outcome)
-finished_is graph call way fork victim reserved removed (Open prepared) h fixed = absurd (cc)
-finished_is graph call way fork victim reserved removed (Fixed r) h fixed = by way.node refl
+pub finished_is : (graph : Graph) (call : Call) (way : Way) (behind : Option ℕ) (fork : Option ForkWay) (victim reserved removed : Option ℕ) (outcome : Outcome) → Forks (form call) way fork → is_some (reply_of outcome) ≡ true
+    → move_of (last_next way.node fork victim) ≡ next_of graph (op_value call way behind fork victim reserved removed outcome)
+finished_is graph call way behind fork victim reserved removed (Open prepared) h fixed = absurd (cc)
+finished_is graph call way behind fork victim reserved removed (Fixed r) h fixed = by way.node refl
   where
-    by : (o : Option ℕ) → way.node ≡ o → move_of (last_next way.node fork victim) ≡ next_of graph (op_value call way fork victim reserved removed (Fixed r))
+    by : (o : Option ℕ) → way.node ≡ o → move_of (last_next way.node fork victim) ≡ next_of graph (op_value call way behind fork victim reserved removed (Fixed r))
     by None e = rw e refl
     by (Some n) e =
-        ap (λ (o : Option ℕ). move_of (last_next o fork victim)) e ∙ ap Leaves (sym (held_is (form call) way fork victim n h e) ∙ ap (last_held (holdings_with (form call) n way.behind fork victim)) (sym (holdings_victim (form call) n way.behind fork victim)))
-        ∙ ap (λ (o : Option ℕ). next_by graph (record_of 0 None (op_value call way fork victim reserved removed (Fixed r))) (by_text (form call)) (Finished r) (holdings_of (form call) o way.behind fork victim)) (sym e)
+        ap (λ (o : Option ℕ). move_of (last_next o fork victim)) e ∙ ap Leaves (sym (held_is (form call) way behind fork victim n h e) ∙ ap (last_held (holdings_with (form call) n behind fork victim)) (sym (holdings_victim (form call) n behind fork victim)))
+        ∙ ap (λ (o : Option ℕ). next_by graph (record_of 0 None (op_value call way behind fork victim reserved removed (Fixed r))) (by_text (form call)) (Finished r) (holdings_of (form call) o behind fork victim)) (sym e)

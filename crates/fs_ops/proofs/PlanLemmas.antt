@@ -15,14 +15,14 @@ use Rattle.fs_walk.specs.declared.head.Head as count
 use Rattle.fs_walk.specs.declared.want.Want.{Want}
 use Rattle.fs_walk.specs.declared.want.Want.TheVariants.{Take, LetGo, Arrived, Fails as Lost}
 use Rattle.fs_walk.specs.Ways.{Way, ForkWay, name_ahead, head_name}
-use Rattle.fs_walk.specs.Wants.{name_want, head_want, then_want, at_dir, dir_want, way_want, want, fork_want}
+use Rattle.fs_walk.specs.Wants.{name_want, step_want, then_want, at_dir, dir_want, way_want, want, fork_want, behind_or, heads_want}
 use Rattle.fs_finish.specs.Paths.{first_path}
 use Rattle.fs_finish.specs.Plans.{node_plan, entry_plan, rename_plan, moving}
 use Rattle.fs_finish.specs.declared.plan.Plan.{Plan}
 use Rattle.fs_finish.specs.declared.plan.Plan.TheVariants.{Fails, Answers}
 use Rattle.fs_machine.specs.Moves.{target, path_error, dir_error, walk_errno, there_by}
 use Rattle.fs_machine.specs.Records.{Holdings}
-use Rattle.fs_ops.specs.OpValue.{Forks, IsForked, dropped, holdings_with, holdings_of}
+use Rattle.fs_ops.specs.OpValue.{behind_in, Forks, IsForked, dropped, holdings_with, holdings_of}
 use Rattle.fs_ops.specs.PlanOf.{pair_plan, plan_at, plan_by, SetsOut, IfFinish}
 use Rattle.fs_ops.specs.code.NextByNodes.{take_or, want_next, heads_next, target_next, way_next_at}
 use Rattle.fs_ops.specs.code.TakeAndLetGo.{started}
@@ -31,9 +31,9 @@ use Rattle.fs_ops.specs.declared.next.Next.TheVariants.{Take as Takes, LetGo as 
 use Rattle.fs_ops.proofs.KeyLemmas.{parent_drop, drop_get, last_drop, target_drop, target_take}
 use Rattle.fs_ops.proofs.HeadLemmas.{head_error, none_left, same_left, above_left, one_parent_left}
 use Rattle.fs_ops.proofs.TookLemmas.{holdings_node, started_forked, started_holdings, ahead_some, ahead_none}
-use Rattle.fs_ops.proofs.WantLemmas.{left_head, then_arrived}
+use Rattle.fs_ops.proofs.WantLemmas.{behind_arrived, left_head, then_arrived}
 use Rattle.fs_ops.proofs.ForkLemmas.{parent_reached}
-use Rattle.fs_ops.proofs.NextLemmas.{has_walked}
+use Rattle.fs_ops.proofs.NextLemmas.{arrived_by, has_walked}
 
 -- ---- the plan of a call that stands somewhere
 
@@ -55,30 +55,30 @@ pair_by graph p q heads a b =
 abbrev pub heads_plan : Graph → Key → Key → ForkWay → Plan
 heads_plan graph p q heads = pair_by graph p q heads (head_error graph p heads.names heads.source) (head_error graph q heads.names heads.dest)
 
-module _ (graph : Graph) (way : Way) (n : ℕ) (fork : Option ForkWay) (victim : Option ℕ) (arrived : way.walked ≡ way.names) where
+module _ (graph : Graph) (way : Way) (n : ℕ) (behind : Option ℕ) (fork : Option ForkWay) (victim : Option ℕ) (arrived : way.walked ≡ way.names) where
   -- at its target: a call on a node
-  pub node_is : (c : NodeCall) (p : Key) → way.names ≡ length p → plan_at graph (dropped way.walked (AtNode c p)) (holdings_with (AtNode c p) n way.behind fork victim) ≡ Answers n
+  pub node_is : (c : NodeCall) (p : Key) → way.names ≡ length p → plan_at graph (dropped way.walked (AtNode c p)) (holdings_with (AtNode c p) n behind fork victim) ≡ Answers n
   node_is c p names =
-      let at : (holdings_with (AtNode c p) n way.behind fork victim).node ≡ n = holdings_node (AtNode c p) n way.behind fork victim in
+      let at : (holdings_with (AtNode c p) n behind fork victim).node ≡ n = holdings_node (AtNode c p) n behind fork victim in
       let none : drop way.walked p ≡ [] = none_left way.walked p (omega arith) in
       (λ i. node_plan (path_error (none i) (graph.shape (at i))) (at i))
 
   -- a call on an entry
   pub entry_is : (c : EntryCall) (p : Key) → way.names ≡ length (parent_of p)
-      → plan_at graph (dropped way.walked (AtEntry c p)) (holdings_with (AtEntry c p) n way.behind fork victim) ≡ entry_plan (entry_fault c (as_dir None (graph.shape n)) (is_full (graph.shape n)) (entry_shape graph n (last_of p))) (new_shape c) n
+      → plan_at graph (dropped way.walked (AtEntry c p)) (holdings_with (AtEntry c p) n behind fork victim) ≡ entry_plan (entry_fault c (as_dir None (graph.shape n)) (is_full (graph.shape n)) (entry_shape graph n (last_of p))) (new_shape c) n
   entry_is c p names =
-      let at : (holdings_with (AtEntry c p) n way.behind fork victim).node ≡ n = holdings_node (AtEntry c p) n way.behind fork victim in
+      let at : (holdings_with (AtEntry c p) n behind fork victim).node ≡ n = holdings_node (AtEntry c p) n behind fork victim in
       let none : parent_of (drop way.walked p) ≡ [] = parent_drop way.walked p ∙ none_left way.walked (parent_of p) (omega arith) in
       let last : last_of (drop way.walked p) ≡ last_of p = last_drop way.walked p (omega arith) in
       (λ i. entry_plan (entry_fault c (dir_error (none i) (graph.shape (at i))) (is_full (graph.shape (at i))) (entry_shape graph (at i) (last i))) (new_shape c) (at i))
 
   -- a rename
   pub pair_is : (p q : Key) → way.node ≡ Some n → way.names ≡ length (common (parent_of p) (parent_of q)) → Forks (AtPair pairs.Rename p q) way fork
-      → plan_at graph (dropped way.walked (AtPair pairs.Rename p q)) (holdings_with (AtPair pairs.Rename p q) n way.behind fork victim) ≡ heads_plan graph p q (started fork n way.names)
+      → plan_at graph (dropped way.walked (AtPair pairs.Rename p q)) (holdings_with (AtPair pairs.Rename p q) n behind fork victim) ≡ heads_plan graph p q (started fork n way.names)
   pair_is p q node names forks =
       let heads : ForkWay = started fork n way.names in
       let forked : IsForked p q way heads = started_forked p q way fork n node arrived names forks in
-      let st : Holdings = holdings_with (AtPair pairs.Rename p q) n way.behind (Some heads) victim in
+      let st : Holdings = holdings_with (AtPair pairs.Rename p q) n behind (Some heads) victim in
       let k : ℕ = heads.names in
       let none : target (dropped way.walked (AtPair pairs.Rename p q)) ≡ [] = target_drop way.walked (AtPair pairs.Rename p q) (omega arith) ∙ none_left way.walked (target (AtPair pairs.Rename p q)) (omega arith) in
       let short : k ≤ length (common (parent_of p) (parent_of q)) = omega (arith, forked.names) in
@@ -89,8 +89,8 @@ module _ (graph : Graph) (way : Way) (n : ℕ) (fork : Option ForkWay) (victim :
       let o : is_end (after_prefix (parent_of (drop k p)) (parent_of (drop k q))) ≡ is_end (after_prefix (parent_of p) (parent_of q)) = one_parent_left p q k short in
       let a : Option Errno = head_error graph p k heads.source in
       let b : Option Errno = head_error graph q k heads.dest in
-      ap (λ (l : Key). pair_plan graph (drop way.walked p) (drop way.walked q) (holdings_with (AtPair pairs.Rename p q) n way.behind fork victim) l) none
-      ∙ ap (λ (z : Holdings). pair_plan graph (drop way.walked p) (drop way.walked q) z []) (started_holdings (AtPair pairs.Rename p q) n way.names way.behind fork victim)
+      ap (λ (l : Key). pair_plan graph (drop way.walked p) (drop way.walked q) (holdings_with (AtPair pairs.Rename p q) n behind fork victim) l) none
+      ∙ ap (λ (z : Holdings). pair_plan graph (drop way.walked p) (drop way.walked q) z []) (started_holdings (AtPair pairs.Rename p q) n way.names behind fork victim)
       ∙ ap (λ (m : ℕ). pair_plan graph (drop m p) (drop m q) st []) (sym forked.names)
       ∙ (λ i. rename_plan
       (rename_fault a b (entry_shape graph heads.source.node (x i)) (s i) (there_by (u i) (entry_shape graph heads.dest.node (y i))) (o i || not (is_full (graph.shape heads.dest.node))))
@@ -130,15 +130,14 @@ dir_lost (Some (Dir names)) e h = absurd (cc)
 
 -- a head that fails
 head_lost : (graph : Graph) (p : Key) (k : ℕ) (head : count.Head) (e : Errno) → k + head.walked ≤ length (parent_of p) → dir_want graph head (head_name p k head) ≡ Lost e → head_error graph p k head ≡ Some e
-head_lost graph p k head e h lost = by head.behind (head_name p k head) (ap (λ (l : Key). slice_get l head.walked) (parent_drop k p) ∙ drop_get k head.walked (parent_of p)) lost
+head_lost graph p k head e h lost = by (head_name p k head) (ap (λ (l : Key). slice_get l head.walked) (parent_drop k p) ∙ drop_get k head.walked (parent_of p)) lost
   where
     rest : left (take head.walked (drop k p)) (parent_of (drop k p)) ≡ drop head.walked (parent_of (drop k p))
     rest = left_head k head.walked p h
 
-    by : (behind : Option ℕ) (name : Option Name) → slice_get (parent_of (drop k p)) head.walked ≡ name → then_want (head_want graph head.node behind name) (at_dir (graph.shape head.node)) ≡ Lost e → head_error graph p k head ≡ Some e
-    by (Some m) name is l = absurd (cc)
-    by None None is l = ap (λ (z : Key). dir_error z (graph.shape head.node)) (rest ∙ ahead_none (parent_of (drop k p)) head.walked is) ∙ dir_lost (graph.shape head.node) e l
-    by None (Some x) is l =
+    by : (name : Option Name) → slice_get (parent_of (drop k p)) head.walked ≡ name → then_want (step_want graph head.node name) (at_dir (graph.shape head.node)) ≡ Lost e → head_error graph p k head ≡ Some e
+    by None is l = ap (λ (z : Key). dir_error z (graph.shape head.node)) (rest ∙ ahead_none (parent_of (drop k p)) head.walked is) ∙ dir_lost (graph.shape head.node) e l
+    by (Some x) is l =
         ap (λ (z : Key). dir_error z (graph.shape head.node)) (rest ∙ ahead_some (parent_of (drop k p)) head.walked x is) ∙ ap (λ (f : Errno). Some f) (name_lost (graph.shape head.node) (graph.child head.node x) (at_dir (graph.shape head.node)) e l)
 
 -- the first of two wants fails, or it has arrived and the second one fails
@@ -147,6 +146,10 @@ then_lost (Take n) b e h = absurd (cc)
 then_lost (LetGo n) b e h = absurd (cc)
 then_lost Arrived b e h = inr (refl, h)
 then_lost (Lost f) b e h = inl h
+
+behind_lost : (behind : Option ℕ) (w : Want) (e : Errno) → behind_or behind w ≡ Lost e → w ≡ Lost e
+behind_lost None w e h = h
+behind_lost (Some n) w e h = absurd (cc)
 
 -- ---- at the common directory of a rename
 
@@ -170,7 +173,7 @@ module _ (graph : Graph) (p q : Key) (heads : ForkWay) (victim : Option ℕ) (so
   dest_want = dir_want graph heads.dest (head_name q heads.names heads.dest)
 
   -- one that fails
-  pair_lost : ((e : Errno) → as_dir None (graph.shape heads.node) ≡ Some e → source_error ≡ Some e) → (e : Errno) → fork_want graph p q heads ≡ Lost e → Fails e ≡ heads_plan graph p q heads
+  pair_lost : ((e : Errno) → as_dir None (graph.shape heads.node) ≡ Some e → source_error ≡ Some e) → (e : Errno) → heads_want graph p q heads ≡ Lost e → Fails e ≡ heads_plan graph p q heads
   pair_lost sets e lost = first (then_lost (at_dir (graph.shape heads.node)) (then_want source_want dest_want) e lost)
     where
       second : (source_want ≡ Lost e) ⊎ ((source_want ≡ Arrived) × (dest_want ≡ Lost e)) → Fails e ≡ heads_plan graph p q heads
@@ -186,29 +189,29 @@ module _ (graph : Graph) (p q : Key) (heads : ForkWay) (victim : Option ℕ) (so
   pair_found =
       if_want (fork_want graph p q heads) _ (λ plan. ((e : Errno) → as_dir None (graph.shape heads.node) ≡ Some e → source_error ≡ Some e) → plan ≡ heads_plan graph p q heads)
       (λ there.
-      let heads_there = (then_arrived (at_dir (graph.shape heads.node)) (then_want source_want dest_want) there).1 in
+      let heads_there = (then_arrived (at_dir (graph.shape heads.node)) (then_want source_want dest_want) (behind_arrived heads.behind (heads_want graph p q heads) there)).1 in
       let both = then_arrived source_want dest_want heads_there in
       if_take _ (pair_by graph p q heads None None) (λ plan. ((e : Errno) → as_dir None (graph.shape heads.node) ≡ Some e → source_error ≡ Some e) → plan ≡ heads_plan graph p q heads)
       (λ sets. sym (ap₂ (pair_by graph p q heads) (parent_reached graph p heads.names heads.source source both.0) (parent_reached graph q heads.names heads.dest dest both.1))))
-      (λ e lost sets. pair_lost sets e lost)
+      (λ e lost sets. pair_lost sets e (behind_lost heads.behind (heads_want graph p q heads) e lost))
 
 -- ---- each call
 
 -- at its target
-target_found : (graph : Graph) (call : Form) (way : Way) (n : ℕ) (fork : Option ForkWay) (victim : Option ℕ) → way.node ≡ Some n → way.names ≡ length (target call) → way.walked ≡ way.names → Forks call way fork
-    → IfFinish (target_next graph call n way.names fork victim) (λ plan. SetsOut graph (dropped way.walked call) (holdings_with call n way.behind fork victim) → plan ≡ plan_at graph (dropped way.walked call) (holdings_with call n way.behind fork victim))
-target_found graph (AtNode c p) way n fork victim node names arrived forks = λ sets. sym (node_is graph way n fork victim arrived c p names)
-target_found graph (AtEntry c p) way n fork victim node names arrived forks =
-    if_take _ _ (λ plan. Unit {0} → plan ≡ plan_at graph (dropped way.walked (AtEntry c p)) (holdings_with (AtEntry c p) n way.behind fork victim)) (λ sets. sym (entry_is graph way n fork victim arrived c p names))
-target_found graph (AtPair pairs.Rename p q) way n fork victim node names arrived forks =
+target_found : (graph : Graph) (call : Form) (way : Way) (n : ℕ) (behind : Option ℕ) (fork : Option ForkWay) (victim : Option ℕ) → way.node ≡ Some n → way.names ≡ length (target call) → way.walked ≡ way.names → Forks call way fork
+    → IfFinish (target_next graph call n way.names fork victim) (λ plan. SetsOut graph (dropped way.walked call) (holdings_with call n behind fork victim) → plan ≡ plan_at graph (dropped way.walked call) (holdings_with call n behind fork victim))
+target_found graph (AtNode c p) way n behind fork victim node names arrived forks = λ sets. sym (node_is graph way n behind fork victim arrived c p names)
+target_found graph (AtEntry c p) way n behind fork victim node names arrived forks =
+    if_take _ _ (λ plan. Unit {0} → plan ≡ plan_at graph (dropped way.walked (AtEntry c p)) (holdings_with (AtEntry c p) n behind fork victim)) (λ sets. sym (entry_is graph way n behind fork victim arrived c p names))
+target_found graph (AtPair pairs.Rename p q) way n behind fork victim node names arrived forks =
     let heads : ForkWay = started fork n way.names in
     let forked : IsForked p q way heads = started_forked p q way fork n node arrived names forks in
-    let st : Holdings = holdings_with (AtPair pairs.Rename p q) n way.behind (Some heads) victim in
+    let st : Holdings = holdings_with (AtPair pairs.Rename p q) n behind (Some heads) victim in
     let same : n ≡ heads.node = (let i : way.node ≡ Some heads.node = forked.node in cc) in
     if_finish (heads_next graph p q heads victim) (λ plan. ((e : Errno) → as_dir None (graph.shape heads.node) ≡ Some e → head_error graph p heads.names heads.source ≡ Some e) → plan ≡ heads_plan graph p q heads) _
     (λ plan f sets.
-    let there : SetsOut graph (AtPair pairs.Rename (drop heads.names p) (drop heads.names q)) st = subst (λ (m : ℕ). SetsOut graph (AtPair pairs.Rename (drop m p) (drop m q)) st) (sym forked.names) (subst (λ (z : Holdings). SetsOut graph (AtPair pairs.Rename (drop way.walked p) (drop way.walked q)) z) (started_holdings (AtPair pairs.Rename p q) n way.names way.behind fork victim) sets) in
-    f (λ e h. there e (ap (λ (m : ℕ). as_dir None (graph.shape m)) same ∙ h)) ∙ sym (pair_is graph way n fork victim arrived p q node names forks))
+    let there : SetsOut graph (AtPair pairs.Rename (drop heads.names p) (drop heads.names q)) st = subst (λ (m : ℕ). SetsOut graph (AtPair pairs.Rename (drop m p) (drop m q)) st) (sym forked.names) (subst (λ (z : Holdings). SetsOut graph (AtPair pairs.Rename (drop way.walked p) (drop way.walked q)) z) (started_holdings (AtPair pairs.Rename p q) n way.names behind fork victim) sets) in
+    f (λ e h. there e (ap (λ (m : ℕ). as_dir None (graph.shape m)) same ∙ h)) ∙ sym (pair_is graph way n behind fork victim arrived p q node names forks))
     (pair_found graph p q heads victim forked.source forked.dest)
 
 plain : (w : Want) → then_want w Arrived ≡ w
@@ -221,34 +224,39 @@ ahead_one : (l : Key) (k : ℕ) (x : Name) → slice_get l k ≡ Some x → drop
 ahead_one l k x is = let more : suc k ≡ k + 1 = omega arith in ahead_some l k x is ∙ ap (λ (m : ℕ). x ∷ drop m l) more
 
 -- on its way
-walk_lost : (graph : Graph) (call : Form) (way : Way) (n : ℕ) (fork : Option ForkWay) (victim : Option ℕ) (e : Errno) → way.node ≡ Some n → way.names ≡ length (target call) → way.walked ≤ way.names → want graph (first_path call) way ≡ Lost e
-    → Fails e ≡ plan_at graph (dropped way.walked call) (holdings_with call n way.behind fork victim)
-walk_lost graph call way n fork victim e node names within lost = by way.behind (name_ahead (first_path call) way) refl (sym (ap (λ (o : Option ℕ). way_want graph o way.behind (name_ahead (first_path call) way)) node) ∙ lost)
+walk_lost : (graph : Graph) (call : Form) (way : Way) (n : ℕ) (behind : Option ℕ) (fork : Option ForkWay) (victim : Option ℕ) (e : Errno) → way.node ≡ Some n → way.names ≡ length (target call) → way.walked ≤ way.names → want graph (first_path call) way ≡ Lost e
+    → Fails e ≡ plan_at graph (dropped way.walked call) (holdings_with call n behind fork victim)
+walk_lost graph call way n behind fork victim e node names within lost = by (name_ahead (first_path call) way) refl (behind_lost way.behind (step_want graph n (name_ahead (first_path call) way)) e (sym (ap (λ (o : Option ℕ). way_want graph o way.behind (name_ahead (first_path call) way)) node) ∙ lost))
   where
     st : Holdings
-    st = holdings_with call n way.behind fork victim
+    st = holdings_with call n behind fork victim
 
     ahead : name_ahead (first_path call) way ≡ slice_get (target call) way.walked
     ahead = ap (λ (m : ℕ). slice_get (take m (first_path call)) way.walked) names ∙ ap (λ (l : Key). slice_get l way.walked) (target_take call)
 
-    by : (behind : Option ℕ) (name : Option Name) → name_ahead (first_path call) way ≡ name → head_want graph n behind name ≡ Lost e → Fails e ≡ plan_at graph (dropped way.walked call) st
-    by (Some m) name is l = absurd (cc)
-    by None None is l = absurd (cc)
-    by None (Some x) is l =
+    by : (name : Option Name) → name_ahead (first_path call) way ≡ name → step_want graph n name ≡ Lost e → Fails e ≡ plan_at graph (dropped way.walked call) st
+    by None is l = absurd (cc)
+    by (Some x) is l =
         let rest : target (dropped way.walked call) ≡ x ∷ drop (way.walked + 1) (target call) = target_drop way.walked call (omega arith) ∙ ahead_one (target call) way.walked x (sym ahead ∙ is) in
         sym (lost_plan graph (dropped way.walked call) st x (drop (way.walked + 1) (target call)) rest
-        ∙ ap (λ (f : Errno). Fails f) (ap (λ (m : ℕ). walk_errno (graph.shape m)) (holdings_node call n way.behind fork victim) ∙ name_lost (graph.shape n) (graph.child n x) Arrived e (plain (name_want (graph.shape n) (graph.child n x)) ∙ l)))
+        ∙ ap (λ (f : Errno). Fails f) (ap (λ (m : ℕ). walk_errno (graph.shape m)) (holdings_node call n behind fork victim) ∙ name_lost (graph.shape n) (graph.child n x) Arrived e (plain (name_want (graph.shape n) (graph.child n x)) ∙ l)))
 
 -- the plan that comes with the next move of a call that its paths do not decide
 pub way_found : (graph : Graph) (call : Form) (way : Way) (fork : Option ForkWay) (victim : Option ℕ) (o : Option ℕ) → way.node ≡ o → by_text call ≡ None → way.names ≡ length (target call) → way.walked ≤ way.names → Forks call way fork
     → IfFinish (way_next_at graph call way o fork victim)
-    (λ plan. ((st : Holdings) → holdings_of call o way.behind fork victim ≡ Some st → SetsOut graph (dropped way.walked call) st) → plan ≡ plan_by graph (by_text call) (dropped way.walked call) (holdings_of call o way.behind fork victim))
+    (λ plan. ((st : Holdings) → holdings_of call o (behind_in way.behind fork) fork victim ≡ Some st → SetsOut graph (dropped way.walked call) st) → plan ≡ plan_by graph (by_text call) (dropped way.walked call) (holdings_of call o (behind_in way.behind fork) fork victim))
 way_found graph call way fork victim None node text names within forks = tt
-way_found graph call way fork victim (Some n) node text names within forks =
-    let st : Holdings = holdings_with call n way.behind fork victim in
+way_found graph call way None victim (Some n) node text names within forks =
+    let st : Holdings = holdings_with call n way.behind None victim in
     let rest : Form = dropped way.walked call in
     let by : plan_at graph rest st ≡ plan_by graph (by_text call) rest (Some st) = ap (λ (x : Option Errno). plan_by graph x rest (Some st)) (sym text) in
-    if_want (want graph (first_path call) way) (target_next graph call n way.names fork victim) _
-    (λ there. if_finish (target_next graph call n way.names fork victim) (λ plan. SetsOut graph rest st → plan ≡ plan_at graph rest st) _ (λ plan f sets. f (sets st refl) ∙ by)
-    (target_found graph call way n fork victim node names (has_walked graph call way n node names within there) forks))
-    (λ e lost sets. walk_lost graph call way n fork victim e node names within lost ∙ by)
+    if_want (want graph (first_path call) way) (target_next graph call n way.names None victim) _
+    (λ there. if_finish (target_next graph call n way.names None victim) (λ plan. SetsOut graph rest st → plan ≡ plan_at graph rest st) _ (λ plan f sets. f (sets st refl) ∙ by)
+    (target_found graph call way n way.behind None victim node names (has_walked graph call way n node names within there) forks))
+    (λ e lost sets. walk_lost graph call way n way.behind None victim e node names within lost ∙ by)
+way_found graph call way (Some heads) victim (Some n) node text names within forks =
+    let st : Holdings = holdings_with call n heads.behind (Some heads) victim in
+    let rest : Form = dropped way.walked call in
+    let by : plan_at graph rest st ≡ plan_by graph (by_text call) rest (Some st) = ap (λ (x : Option Errno). plan_by graph x rest (Some st)) (sym text) in
+    if_finish (target_next graph call n way.names (Some heads) victim) (λ plan. SetsOut graph rest st → plan ≡ plan_at graph rest st) _ (λ plan f sets. f (sets st refl) ∙ by)
+    (target_found graph call way n heads.behind (Some heads) victim node names (arrived_by call way heads forks) forks)

@@ -1,5 +1,5 @@
 -- A call after a take, told by counts of names.
-use Rattle.std.proofs.Common.{◌≡◌, ℕ, zero, suc, ◌+◌, ◌≤◌, ◌<◌, nat_lt, Bool, true, false, cond, [], ◌∷◌, ◌++◌, length, take, drop, slice_get, Option, Some, None, refl, sym, ap, ◌∙◌, arith, add-one}
+use Rattle.std.proofs.Common.{◌≡◌, ℕ, zero, suc, ◌+◌, ◌≤◌, ◌<◌, nat_lt, Bool, true, false, cond, [], ◌∷◌, ◌++◌, length, take, drop, slice_get, Option, Some, None, refl, sym, ap, ◌∙◌, subst₂, arith, add-one}
 use Rattle.std.proofs.lemmas.Option.{slice_get_past, slice_get_within}
 use Rattle.std.proofs.lemmas.Bool.Decides.{nat_tests}
 use Rattle.fs_names.specs.Keys.{Key, parent_of}
@@ -10,11 +10,11 @@ use Rattle.fs_calls.specs.declared.target.PairCall.TheVariants as pairs
 use Rattle.fs_calls.specs.declared.call.Call.{Call}
 use Rattle.fs_walk.specs.declared.head.Head as count
 use Rattle.fs_walk.specs.Ways as ways
-use Rattle.fs_walk.specs.Ways.{Way, ForkWay, head_name, way_took, may_take, fork_took, has_arrived}
+use Rattle.fs_walk.specs.Ways.{Way, ForkWay, new_fork, start_at, head_name, way_took, may_take, fork_took, has_arrived, has_set_out}
 use Rattle.fs_machine.specs.Moves.{target, inner, behind_of, head_took, source_took, target_took}
 use Rattle.fs_finish.specs.Paths.{first_path}
-use Rattle.fs_ops.specs.OpValue.{dropped, head_of, holdings_with, op_value, Forks, IsForked}
-use Rattle.fs_ops.specs.code.TakeAndLetGo.{started, TakesTo}
+use Rattle.fs_ops.specs.OpValue.{behind_in, dropped, head_of, holdings_with, op_value, Forks, IsForked}
+use Rattle.fs_ops.specs.code.TakeAndLetGo.{started, heads_after, TakesTo}
 use Rattle.fs_machine.specs.OpValues.{OpValue, IsTook}
 use Rattle.fs_ops.specs.declared.outcome.Outcome.{Outcome}
 use Rattle.fs_ops.proofs.KeyLemmas.{parent_drop, drop_get, tail_drop, target_drop, target_take, take_get}
@@ -57,9 +57,9 @@ inner_dropped k (AtEntry c p) = ap (AtEntry c) (tail_drop k p)
 inner_dropped k (AtPair pairs.Rename p q) = rw (tail_drop k p, tail_drop k q) refl
 
 -- the root is taken
-pub root_took : (call : Call) (way : Way) (fork : Option ForkWay) (victim reserved removed : Option ℕ) (outcome : Outcome) (n : ℕ) → way.node ≡ None
-    → IsTook (op_value call way fork victim reserved removed outcome) n (op_value call (way_took way n) None None reserved removed outcome)
-root_took call way fork victim reserved removed outcome n e seat place = rw e refl
+pub root_took : (call : Call) (way : Way) (behind : Option ℕ) (fork : Option ForkWay) (victim reserved removed : Option ℕ) (outcome : Outcome) (n : ℕ) → way.node ≡ None
+    → IsTook (op_value call way behind fork victim reserved removed outcome) n (op_value call (way_took way n) (way_took way n).behind None None reserved removed outcome)
+root_took call way behind fork victim reserved removed outcome n e seat place = rw e refl
 
 -- the position of holdings
 pub holdings_node : (call : Form) (n : ℕ) (behind : Option ℕ) (fork : Option ForkWay) (victim : Option ℕ) → (holdings_with call n behind fork victim).node ≡ n
@@ -67,42 +67,49 @@ holdings_node call n behind None victim = refl
 holdings_node call n behind (Some f) victim = refl
 
 -- a name further
-step_by : (call : Call) (way : Way) (fork : Option ForkWay) (victim reserved removed : Option ℕ) (outcome : Outcome) (n m : ℕ) (x : Name) (l : Key) → way.node ≡ Some m
+step_by : (call : Call) (way : Way) (behind : Option ℕ) (fork : Option ForkWay) (victim reserved removed : Option ℕ) (outcome : Outcome) (n m : ℕ) (x : Name) (l : Key) → way.node ≡ Some m
     → target (dropped way.walked (form call)) ≡ x ∷ l → take (way.walked + 1) (first_path (form call)) ≡ take way.walked (first_path (form call)) ++ x ∷ []
-    → IsTook (op_value call way fork victim reserved removed outcome) n (op_value call (way_took way n) None None reserved removed outcome)
-step_by call way fork victim reserved removed outcome n m x l at rest more seat place = rw (at, rest, more, inner_dropped way.walked (form call), holdings_node (form call) m way.behind fork victim) refl
+    → IsTook (op_value call way behind fork victim reserved removed outcome) n (op_value call (way_took way n) (way_took way n).behind None None reserved removed outcome)
+step_by call way behind fork victim reserved removed outcome n m x l at rest more seat place = rw (at, rest, more, inner_dropped way.walked (form call), holdings_node (form call) m behind fork victim) refl
 
-pub step_took : (call : Call) (way : Way) (fork : Option ForkWay) (victim reserved removed : Option ℕ) (outcome : Outcome) (n m : ℕ) → way.node ≡ Some m → way.names ≡ length (target (form call)) → way.walked < way.names
-    → IsTook (op_value call way fork victim reserved removed outcome) n (op_value call (way_took way n) None None reserved removed outcome)
-step_took call way fork victim reserved removed outcome n m at names less =
+pub step_took : (call : Call) (way : Way) (behind : Option ℕ) (fork : Option ForkWay) (victim reserved removed : Option ℕ) (outcome : Outcome) (n m : ℕ) → way.node ≡ Some m → way.names ≡ length (target (form call)) → way.walked < way.names
+    → IsTook (op_value call way behind fork victim reserved removed outcome) n (op_value call (way_took way n) (way_took way n).behind None None reserved removed outcome)
+step_took call way behind fork victim reserved removed outcome n m at names less =
     let k = way.walked in
     let name : (x : Name) × (slice_get (target (form call)) k ≡ Some x) = within_some (target (form call)) k (omega arith) in
     let rest : target (dropped k (form call)) ≡ name.0 ∷ drop (suc k) (target (form call)) = target_drop k (form call) (omega arith) ∙ ahead_some (target (form call)) k name.0 name.1 in
     let whole : slice_get (first_path (form call)) k ≡ Some name.0 = sym (take_get (length (target (form call))) k (first_path (form call)) (omega arith)) ∙ (ap (λ (l : Key). slice_get l k) (target_take (form call)) ∙ name.1) in
-    step_by call way fork victim reserved removed outcome n m name.0 (drop (suc k) (target (form call))) at rest (take_more (first_path (form call)) k name.0 whole)
+    step_by call way behind fork victim reserved removed outcome n m name.0 (drop (suc k) (target (form call))) at rest (take_more (first_path (form call)) k name.0 whole)
 
 -- at the target
-pub arrived_took : (call : Call) (way new : Way) (fork fork_new : Option ForkWay) (victim victim_new reserved removed : Option ℕ) (outcome : Outcome) (n m : ℕ) → way.node ≡ Some m → way.names ≡ length (target (form call)) → way.walked ≡ way.names → new ≡ way
-    → target_took (dropped way.walked (form call)) (holdings_with (form call) m way.behind fork victim) n ≡ holdings_with (form call) m way.behind fork_new victim_new
-    → IsTook (op_value call way fork victim reserved removed outcome) n (op_value call new fork_new victim_new reserved removed outcome)
-arrived_took call way new fork fork_new victim victim_new reserved removed outcome n m at names all same stands seat place =
+pub arrived_took : (call : Call) (way new : Way) (behind behind_new : Option ℕ) (fork fork_new : Option ForkWay) (victim victim_new reserved removed : Option ℕ) (outcome : Outcome) (n m : ℕ) → way.node ≡ Some m → way.names ≡ length (target (form call)) → way.walked ≡ way.names → new ≡ way
+    → target_took (dropped way.walked (form call)) (holdings_with (form call) m behind fork victim) n ≡ holdings_with (form call) m behind_new fork_new victim_new
+    → IsTook (op_value call way behind fork victim reserved removed outcome) n (op_value call new behind_new fork_new victim_new reserved removed outcome)
+arrived_took call way new behind behind_new fork fork_new victim victim_new reserved removed outcome n m at names all same stands seat place =
     let rest : target (dropped way.walked (form call)) ≡ [] = target_drop way.walked (form call) (omega arith) ∙ ahead_none (target (form call)) way.walked (slice_get_past (target (form call)) way.walked (omega arith)) in
     rw (same, at, rest, stands) refl
 
--- a head that steps
+-- what a head that steps leaves behind, and where it is then
 behind_is : (l : Key) (k n : ℕ) (x : Name) → slice_get l k ≡ Some x → behind_of (take k l) n ≡ cond (nat_lt 0 k) (Some n) None
 behind_is [] k n x e = absurd (cc)
 behind_is (y ∷ l) zero n x e = refl
 behind_is (y ∷ l) (suc k) n x e = let t : nat_lt 0 (suc k) ≡ true = grind (arith, nat_tests) in rw t refl
 
+head_leaves : (p : Key) (names : ℕ) (head : count.Head) (x : Name) → slice_get (parent_of p) (names + head.walked) ≡ Some x → behind_of (head_of p names head).walked head.node ≡ ways.head_leaves head
+head_leaves p names head x e = behind_is (drop names p) head.walked head.node x (drop_get names head.walked p ∙ parent_some p (names + head.walked) x e)
+
 head_stepped : (p : Key) (names : ℕ) (head : count.Head) (n : ℕ) (x : Name) → slice_get (parent_of p) (names + head.walked) ≡ Some x → head_took (head_of p names head) x n ≡ head_of p names (ways.head_took head n)
 head_stepped p names head n x e =
     let at : slice_get (drop names p) head.walked ≡ Some x = drop_get names head.walked p ∙ parent_some p (names + head.walked) x e in
-    rw (take_more (drop names p) head.walked x at, behind_is (drop names p) head.walked head.node x at) refl
+    rw (take_more (drop names p) head.walked x at) refl
+
+-- what is behind the heads of a rename after a take: a victim leaves it as it is
+abbrev left_behind : Key → Key → ForkWay → Option ℕ → ℕ → Option ℕ
+left_behind p q fork behind n = cond (has_arrived p q fork) behind (fork_took p q fork n).behind
 
 -- the heads of a rename after a take
-pub heads_took : (p q : Key) (n m : ℕ) (behind : Option ℕ) (fork : ForkWay) (victim : Option ℕ) → fork.names + fork.source.walked ≤ length (parent_of p) → fork.names + fork.dest.walked ≤ length (parent_of q)
-    → target_took (dropped fork.names (AtPair pairs.Rename p q)) (holdings_with (AtPair pairs.Rename p q) m behind (Some fork) victim) n ≡ holdings_with (AtPair pairs.Rename p q) m behind (Some (fork_took p q fork n)) (cond (has_arrived p q fork) (Some n) victim)
+heads_took : (p q : Key) (n m : ℕ) (behind : Option ℕ) (fork : ForkWay) (victim : Option ℕ) → fork.names + fork.source.walked ≤ length (parent_of p) → fork.names + fork.dest.walked ≤ length (parent_of q)
+    → target_took (dropped fork.names (AtPair pairs.Rename p q)) (holdings_with (AtPair pairs.Rename p q) m behind (Some fork) victim) n ≡ holdings_with (AtPair pairs.Rename p q) m (left_behind p q fork behind n) (Some (fork_took p q fork n)) (cond (has_arrived p q fork) (Some n) victim)
 heads_took p q n m behind fork victim hs hd =
     rw (left_head fork.names fork.source.walked p hs, left_head fork.names fork.dest.walked q hd) (by_source (head_name p fork.names fork.source) refl)
   where
@@ -111,16 +118,32 @@ heads_took p q n m behind fork victim hs hd =
 
     by_dest : (o : Option Name) → head_name q fork.names fork.dest ≡ o → head_name p fork.names fork.source ≡ None
         → source_took (holdings_with (AtPair pairs.Rename p q) m behind (Some fork) victim) (drop fork.source.walked (parent_of (drop fork.names p))) (drop fork.dest.walked (parent_of (drop fork.names q))) n
-        ≡ holdings_with (AtPair pairs.Rename p q) m behind (Some (fork_took p q fork n)) (cond (has_arrived p q fork) (Some n) victim)
+        ≡ holdings_with (AtPair pairs.Rename p q) m (left_behind p q fork behind n) (Some (fork_took p q fork n)) (cond (has_arrived p q fork) (Some n) victim)
     by_dest None e f = rw (ahead_none (parent_of (drop fork.names p)) fork.source.walked (names p fork.source ∙ f), ahead_none (parent_of (drop fork.names q)) fork.dest.walked (names q fork.dest ∙ e), e, f) refl
     by_dest (Some x) e f =
-        rw (ahead_none (parent_of (drop fork.names p)) fork.source.walked (names p fork.source ∙ f), ahead_some (parent_of (drop fork.names q)) fork.dest.walked x (names q fork.dest ∙ e), head_stepped q fork.names fork.dest n x e, e, f) refl
+        rw (ahead_none (parent_of (drop fork.names p)) fork.source.walked (names p fork.source ∙ f), ahead_some (parent_of (drop fork.names q)) fork.dest.walked x (names q fork.dest ∙ e), head_stepped q fork.names fork.dest n x e, head_leaves q fork.names fork.dest x e, e, f) refl
 
     by_source : (o : Option Name) → head_name p fork.names fork.source ≡ o
         → source_took (holdings_with (AtPair pairs.Rename p q) m behind (Some fork) victim) (drop fork.source.walked (parent_of (drop fork.names p))) (drop fork.dest.walked (parent_of (drop fork.names q))) n
-        ≡ holdings_with (AtPair pairs.Rename p q) m behind (Some (fork_took p q fork n)) (cond (has_arrived p q fork) (Some n) victim)
+        ≡ holdings_with (AtPair pairs.Rename p q) m (left_behind p q fork behind n) (Some (fork_took p q fork n)) (cond (has_arrived p q fork) (Some n) victim)
     by_source None e = by_dest (head_name q fork.names fork.dest) refl e
-    by_source (Some x) e = rw (ahead_some (parent_of (drop fork.names p)) fork.source.walked x (names p fork.source ∙ e), head_stepped p fork.names fork.source n x e, e) refl
+    by_source (Some x) e = rw (ahead_some (parent_of (drop fork.names p)) fork.source.walked x (names p fork.source ∙ e), head_stepped p fork.names fork.source n x e, head_leaves p fork.names fork.source x e, e) refl
+
+-- heads that have arrived stay as they are
+arrived_stay : (p q : Key) (fork : ForkWay) (n : ℕ) → has_arrived p q fork ≡ true → fork_took p q fork n ≡ fork
+arrived_stay p q fork n t = go (head_name p fork.names fork.source) (head_name q fork.names fork.dest) refl refl
+  where
+    go : (a b : Option Name) → head_name p fork.names fork.source ≡ a → head_name q fork.names fork.dest ≡ b → fork_took p q fork n ≡ fork
+    go None None i j = rw (i, j) refl
+    go (Some x) b i j = let z : false ≡ true = rw i at t in absurd (cc)
+    go None (Some x) i j = let z : false ≡ true = rw (i, j) at t in absurd (cc)
+
+behind_now : (p q : Key) (fork : ForkWay) (n : ℕ) → left_behind p q fork fork.behind n ≡ (fork_took p q fork n).behind
+behind_now p q fork n = go (has_arrived p q fork) refl
+  where
+    go : (b : Bool) → has_arrived p q fork ≡ b → left_behind p q fork fork.behind n ≡ (fork_took p q fork n).behind
+    go true t = rw (t, arrived_stay p q fork n t) refl
+    go false t = rw t refl
 
 -- the heads of a rename set out from its common directory
 pub started_holdings : (call : Form) (n names : ℕ) (behind : Option ℕ) (fork : Option ForkWay) (victim : Option ℕ) → holdings_with call n behind fork victim ≡ holdings_with call n behind (Some (started fork n names)) victim
@@ -142,12 +165,46 @@ started_forked p q way None m at all names forks =
     let short : (length (common (parent_of p) (parent_of q)) ≤ length (parent_of p)) × (length (common (parent_of p) (parent_of q)) ≤ length (parent_of q)) = common_short (parent_of p) (parent_of q) in
     record { node = at; names = sym all; arrived = all; source = omega arith; dest = omega arith }
 
-pub rename_stands : (p q : Key) (way : Way) (fork : Option ForkWay) (victim : Option ℕ) (n m : ℕ) → way.node ≡ Some m → way.walked ≡ way.names → way.names ≡ length (common (parent_of p) (parent_of q)) → Forks (AtPair pairs.Rename p q) way fork
-    → target_took (dropped way.walked (AtPair pairs.Rename p q)) (holdings_with (AtPair pairs.Rename p q) m way.behind fork victim) n
-    ≡ holdings_with (AtPair pairs.Rename p q) m way.behind (Some (fork_took p q (started fork m way.names) n)) (cond (has_arrived p q (started fork m way.names)) (Some n) victim)
-rename_stands p q way fork victim n m at all names forks =
-    let heads = started_forked p q way fork m at all names forks in
-    rw (started_holdings (AtPair pairs.Rename p q) m way.names way.behind fork victim, ← heads.names) (heads_took p q n m way.behind (started fork m way.names) victim heads.source heads.dest)
+-- the first to set out has walked a name
+first_sets_out : (p q : Key) (m names n : ℕ) → has_arrived p q (new_fork m names) ≡ false → has_set_out (fork_took p q (new_fork m names) n) ≡ true
+first_sets_out p q m names n t = go (head_name p names (start_at m)) (head_name q names (start_at m)) refl refl
+  where
+    go : (a b : Option Name) → head_name p names (start_at m) ≡ a → head_name q names (start_at m) ≡ b → has_set_out (fork_took p q (new_fork m names) n) ≡ true
+    go (Some x) b i j = rw i refl
+    go None (Some x) i j = rw (i, j) refl
+    go None None i j = let z : true ≡ false = rw (i, j) at t in absurd (cc)
+
+rename_stands : (p q : Key) (way : Way) (fork : Option ForkWay) (victim : Option ℕ) (n m : ℕ) → way.node ≡ Some m → way.walked ≡ way.names → way.names ≡ length (common (parent_of p) (parent_of q)) → Forks (AtPair pairs.Rename p q) way fork
+    → TakesTo (AtPair pairs.Rename p q) way m n fork victim (heads_after p q fork m way.names n) (cond (has_arrived p q (started fork m way.names)) (Some n) victim)
+rename_stands p q way fork victim n m at all names forks = go fork forks
+  where
+    took : (f : Option ForkWay) → Forks (AtPair pairs.Rename p q) way f → (behind : Option ℕ)
+        → target_took (dropped way.walked (AtPair pairs.Rename p q)) (holdings_with (AtPair pairs.Rename p q) m behind f victim) n
+        ≡ holdings_with (AtPair pairs.Rename p q) m (left_behind p q (started f m way.names) behind n) (Some (fork_took p q (started f m way.names) n)) (cond (has_arrived p q (started f m way.names)) (Some n) victim)
+    took f h behind =
+        let heads = started_forked p q way f m at all names h in
+        rw (started_holdings (AtPair pairs.Rename p q) m way.names behind f victim, ← heads.names) (heads_took p q n m behind (started f m way.names) victim heads.source heads.dest)
+
+    go : (f : Option ForkWay) → Forks (AtPair pairs.Rename p q) way f → TakesTo (AtPair pairs.Rename p q) way m n f victim (heads_after p q f m way.names n) (cond (has_arrived p q (started f m way.names)) (Some n) victim)
+    go (Some f) h = took (Some f) h f.behind ∙ ap (λ (b : Option ℕ). holdings_with (AtPair pairs.Rename p q) m b (Some (fork_took p q f n)) (cond (has_arrived p q f) (Some n) victim)) (behind_now p q f n)
+    go None h = by (has_arrived p q (new_fork m way.names)) refl
+      where
+        by : (b : Bool) → has_arrived p q (new_fork m way.names) ≡ b → TakesTo (AtPair pairs.Rename p q) way m n None victim (heads_after p q None m way.names n) (cond (has_arrived p q (new_fork m way.names)) (Some n) victim)
+        by true t = took None h way.behind ∙ rw (t, arrived_stay p q (new_fork m way.names) n t) refl
+        by false t = took None h way.behind ∙ rw (t, first_sets_out p q m way.names n t) refl
+
+pub rename_takes : (p q : Key) (way : Way) (fork fork_new : Option ForkWay) (victim victim_new : Option ℕ) (n m : ℕ) → way.node ≡ Some m → way.walked ≡ way.names → way.names ≡ length (common (parent_of p) (parent_of q)) → Forks (AtPair pairs.Rename p q) way fork
+    → heads_after p q fork m way.names n ≡ fork_new → cond (has_arrived p q (started fork m way.names)) (Some n) victim ≡ victim_new → TakesTo (AtPair pairs.Rename p q) way m n fork victim fork_new victim_new
+rename_takes p q way fork fork_new victim victim_new n m at all names forks heads taken =
+    subst₂ (λ (f : Option ForkWay) (v : Option ℕ). TakesTo (AtPair pairs.Rename p q) way m n fork victim f v) heads taken (rename_stands p q way fork victim n m at all names forks)
+
+-- what the heads and the victim are after the first take from the common directory
+pub set_out : (p q : Key) (fork : Option ForkWay) (n m names : ℕ) (first heads : ForkWay) (is_out : Bool) → fork ≡ None → first ≡ new_fork m names → heads ≡ fork_took p q first n → is_out ≡ has_set_out heads
+    → heads_after p q fork m names n ≡ cond is_out (Some heads) None
+set_out p q fork n m names first heads is_out none start took out = rw (none, out, took, start) refl
+
+pub first_victim : (p q : Key) (fork : Option ForkWay) (n m names : ℕ) (first : ForkWay) (victim new : Option ℕ) → fork ≡ None → first ≡ new_fork m names → new ≡ cond (has_arrived p q first) (Some n) victim → cond (has_arrived p q (started fork m names)) (Some n) victim ≡ new
+first_victim p q fork n m names first victim new none start is = rw (none, is, start) refl
 
 -- and stay within their paths
 parent_within : (p : Key) (i : ℕ) (x : Name) → slice_get (parent_of p) i ≡ Some x → i + 1 ≤ length (parent_of p)
@@ -166,19 +223,27 @@ took_forked p q way fork n h = by_source (head_name p fork.names fork.source) re
     by_source None e None f = rw (e, f) h
 
 pub rename_forks : (p q : Key) (way : Way) (fork : Option ForkWay) (n m : ℕ) → way.node ≡ Some m → way.walked ≡ way.names → way.names ≡ length (common (parent_of p) (parent_of q)) → Forks (AtPair pairs.Rename p q) way fork
-    → IsForked p q way (fork_took p q (started fork m way.names) n)
-rename_forks p q way fork n m at all names forks = took_forked p q way (started fork m way.names) n (started_forked p q way fork m at all names forks)
+    → Forks (AtPair pairs.Rename p q) way (heads_after p q fork m way.names n)
+rename_forks p q way fork n m at all names forks = go fork (took_forked p q way (started fork m way.names) n (started_forked p q way fork m at all names forks))
+  where
+    go : (f : Option ForkWay) → IsForked p q way (fork_took p q (started f m way.names) n) → Forks (AtPair pairs.Rename p q) way (heads_after p q f m way.names n)
+    go (Some f) h = h
+    go None h = by (has_set_out (fork_took p q (new_fork m way.names) n))
+      where
+        by : (b : Bool) → Forks (AtPair pairs.Rename p q) way (cond b (Some (fork_took p q (new_fork m way.names) n)) None)
+        by true = h
+        by false = tt
 
 -- a walk that may take a node takes it
-pub walk_took : (call : Call) (way : Way) (fork : Option ForkWay) (victim reserved removed : Option ℕ) (outcome : Outcome) (n : ℕ) → way.names ≡ length (target (form call)) → may_take way ≡ true
-    → IsTook (op_value call way fork victim reserved removed outcome) n (op_value call (way_took way n) None None reserved removed outcome)
-walk_took call way fork victim reserved removed outcome n names may = by_node way.node refl
+pub walk_took : (call : Call) (way : Way) (behind : Option ℕ) (fork : Option ForkWay) (victim reserved removed : Option ℕ) (outcome : Outcome) (n : ℕ) → way.names ≡ length (target (form call)) → may_take way ≡ true
+    → IsTook (op_value call way behind fork victim reserved removed outcome) n (op_value call (way_took way n) (way_took way n).behind None None reserved removed outcome)
+walk_took call way behind fork victim reserved removed outcome n names may = by_node way.node refl
   where
-    by_node : (o : Option ℕ) → way.node ≡ o → IsTook (op_value call way fork victim reserved removed outcome) n (op_value call (way_took way n) None None reserved removed outcome)
-    by_node None e = root_took call way fork victim reserved removed outcome n e
+    by_node : (o : Option ℕ) → way.node ≡ o → IsTook (op_value call way behind fork victim reserved removed outcome) n (op_value call (way_took way n) (way_took way n).behind None None reserved removed outcome)
+    by_node None e = root_took call way behind fork victim reserved removed outcome n e
     by_node (Some m) e =
         let test : nat_lt way.walked way.names ≡ true = rw e at may in
-        step_took call way fork victim reserved removed outcome n m e names (grind (arith, nat_tests))
+        step_took call way behind fork victim reserved removed outcome n m e names (grind (arith, nat_tests))
 
 -- and one that may not has arrived
 pub walk_arrived : (way : Way) → may_take way ≡ false → way.walked ≤ way.names → (way.walked ≡ way.names) × ((m : ℕ) × (way.node ≡ Some m))
@@ -192,10 +257,10 @@ walk_arrived way may within = by_node way.node refl
 
 pub target_took_is : (call : Call) (way : Way) (fork fork_new : Option ForkWay) (victim victim_new reserved removed : Option ℕ) (outcome : Outcome) (n : ℕ) → way.names ≡ length (target (form call)) → may_take way ≡ false → way.walked ≤ way.names
     → ((at : ℕ) → way.node ≡ Some at → TakesTo (form call) way at n fork victim fork_new victim_new)
-    → IsTook (op_value call way fork victim reserved removed outcome) n (op_value call way fork_new victim_new reserved removed outcome)
+    → IsTook (op_value call way (behind_in way.behind fork) fork victim reserved removed outcome) n (op_value call way (behind_in way.behind fork_new) fork_new victim_new reserved removed outcome)
 target_took_is call way fork fork_new victim victim_new reserved removed outcome n names may within stands =
     let arrived : (way.walked ≡ way.names) × ((m : ℕ) × (way.node ≡ Some m)) = walk_arrived way may within in
-    arrived_took call way way fork fork_new victim victim_new reserved removed outcome n arrived.1.0 arrived.1.1 names arrived.0 refl (stands arrived.1.0 arrived.1.1)
+    arrived_took call way way (behind_in way.behind fork) (behind_in way.behind fork_new) fork fork_new victim victim_new reserved removed outcome n arrived.1.0 arrived.1.1 names arrived.0 refl (stands arrived.1.0 arrived.1.1)
 
 -- the same from the value that the fields are
 pub took_as : (old old_seen new new_seen : OpValue) (n : ℕ) → old ≡ old_seen → new ≡ new_seen → IsTook old n new → IsTook old_seen n new_seen

@@ -10,8 +10,8 @@ use Rattle.fs_walk.specs.declared.head.Head.{Head}
 use Rattle.fs_walk.specs.declared.want.Want.{Want}
 use Rattle.fs_walk.specs.declared.want.Want.TheVariants.{Take, LetGo, Arrived, Fails}
 use Rattle.fs_walk.specs.Ways.{Way, head_name, name_ahead}
-use Rattle.fs_walk.specs.Wants.{name_want, head_want, then_want, at_dir, dir_want, want}
-use Rattle.fs_machine.specs.Moves.{first_of, walk_move, head_move, dir_then, target}
+use Rattle.fs_walk.specs.Wants.{name_want, step_want, behind_or, then_want, at_dir, dir_want, want}
+use Rattle.fs_machine.specs.Moves.{first_of, walk_move, step_move, behind_first, dir_then, target}
 use Rattle.fs_machine.specs.declared.moves.Move.{Move}
 use Rattle.fs_machine.specs.declared.moves.Move.TheVariants.{Take as Takes, LetGo as Leaves, Finish as Finishes}
 use Rattle.fs_ops.specs.code.NextByNodes.{want_next}
@@ -40,13 +40,12 @@ name_tie (Some (File bytes)) child m = refl
 name_tie (Some (Dir names)) None m = refl
 name_tie (Some (Dir names)) (Some n) m = refl
 
--- one head with these names ahead
-pub head_tie : (graph : Graph) (n : ℕ) (behind : Option ℕ) (l : Key) (k : ℕ) (m : Move) → first_of (head_move graph n behind (drop k l)) m ≡ want_then (head_want graph n behind (slice_get l k)) m
-head_tie graph n (Some b) l k m = refl
-head_tie graph n None [] zero m = refl
-head_tie graph n None [] (suc k) m = refl
-head_tie graph n None (x ∷ l) zero m = name_tie (graph.shape n) (graph.child n x) m
-head_tie graph n None (x ∷ l) (suc k) m = head_tie graph n None l k m
+-- a step from a node with these names ahead
+pub step_tie : (graph : Graph) (n : ℕ) (l : Key) (k : ℕ) (m : Move) → first_of (step_move graph n (drop k l)) m ≡ want_then (step_want graph n (slice_get l k)) m
+step_tie graph n [] zero m = refl
+step_tie graph n [] (suc k) m = refl
+step_tie graph n (x ∷ l) zero m = name_tie (graph.shape n) (graph.child n x) m
+step_tie graph n (x ∷ l) (suc k) m = step_tie graph n l k m
 
 -- at a node that has to be a directory
 pub dir_tie : (s : Option Shape) (m : Move) → dir_then s m ≡ want_then (at_dir s) m
@@ -61,13 +60,22 @@ then_tie (LetGo n) b m = refl
 then_tie Arrived b m = refl
 then_tie (Fails e) b m = refl
 
+-- what is behind goes first
+pub behind_tie : (behind : Option ℕ) (w : Want) (m : Move) → behind_first behind (want_then w m) ≡ want_then (behind_or behind w) m
+behind_tie None w m = refl
+behind_tie (Some n) w m = refl
+
+pub behind_arrived : (behind : Option ℕ) (w : Want) → behind_or behind w ≡ Arrived → w ≡ Arrived
+behind_arrived None w e = e
+behind_arrived (Some n) w e = absurd (cc)
+
 -- the walk of a call
 pub walk_tie : (graph : Graph) (call : Form) (way : Way) (n : ℕ) (m : Move) → way.node ≡ Some n → way.names ≡ length (target call) → way.walked ≤ way.names
-    → first_of (head_move graph n way.behind (target (dropped way.walked call))) m ≡ want_then (want graph (first_path call) way) m
+    → behind_first way.behind (first_of (step_move graph n (target (dropped way.walked call))) m) ≡ want_then (want graph (first_path call) way) m
 walk_tie graph call way n m at names within =
     let ahead : name_ahead (first_path call) way ≡ slice_get (target call) way.walked = rw names (ap (λ (l : Key). slice_get l way.walked) (target_take call)) in
     let rest : target (dropped way.walked call) ≡ drop way.walked (target call) = target_drop way.walked call (omega arith) in
-    rw (rest, at, ahead) (head_tie graph n way.behind (target call) way.walked m)
+    rw (rest, at, ahead) (ap (behind_first way.behind) (step_tie graph n (target call) way.walked m) ∙ behind_tie way.behind (step_want graph n (slice_get (target call) way.walked)) m)
 
 -- a head behind a common directory has walked names of its parent's path
 pub take_parent_front : (j : ℕ) (p : Key) → j ≤ length (parent_of p) → take j p ≡ take j (parent_of p)
@@ -84,10 +92,10 @@ left_head k j p h =
 
 -- one head of a rename on its way to its parent
 pub head_dir_tie : (graph : Graph) (p : Key) (k : ℕ) (head : Head) (m : Move) → k + head.walked ≤ length (parent_of p)
-    → first_of (head_move graph head.node head.behind (left (head_of p k head).walked (parent_of (drop k p)))) (dir_then (graph.shape head.node) m) ≡ want_then (dir_want graph head (head_name p k head)) m
+    → first_of (step_move graph head.node (left (head_of p k head).walked (parent_of (drop k p)))) (dir_then (graph.shape head.node) m) ≡ want_then (dir_want graph head (head_name p k head)) m
 head_dir_tie graph p k head m h =
     let name : slice_get (parent_of (drop k p)) head.walked ≡ head_name p k head = ap (λ (l : Key). slice_get l head.walked) (parent_drop k p) ∙ drop_get k head.walked (parent_of p) in
-    rw (left_head k head.walked p h, dir_tie (graph.shape head.node) m, then_tie, ← name) (head_tie graph head.node head.behind (parent_of (drop k p)) head.walked (want_then (at_dir (graph.shape head.node)) m))
+    rw (left_head k head.walked p h, dir_tie (graph.shape head.node) m, then_tie, ← name) (step_tie graph head.node (parent_of (drop k p)) head.walked (want_then (at_dir (graph.shape head.node)) m))
 
 -- both have arrived
 pub then_arrived : (a b : Want) → then_want a b ≡ Arrived → (a ≡ Arrived) × (b ≡ Arrived)
@@ -107,10 +115,9 @@ never_arrived (Some (File bytes)) child e = cc
 never_arrived (Some (Dir names)) None e = cc
 never_arrived (Some (Dir names)) (Some n) e = cc
 
-pub head_arrived : (graph : Graph) (n : ℕ) (behind : Option ℕ) (name : Option Name) → head_want graph n behind name ≡ Arrived → name ≡ None
-head_arrived graph n (Some m) name e = absurd (cc)
-head_arrived graph n None None e = refl
-head_arrived graph n None (Some x) e = absurd (never_arrived (graph.shape n) (graph.child n x) e)
+pub step_arrived : (graph : Graph) (n : ℕ) (name : Option Name) → step_want graph n name ≡ Arrived → name ≡ None
+step_arrived graph n None e = refl
+step_arrived graph n (Some x) e = absurd (never_arrived (graph.shape n) (graph.child n x) e)
 
 -- what comes after an arrival matters only where there is one
 pub want_then_same : (w : Want) (m k : Move) → (w ≡ Arrived → m ≡ k) → want_then w m ≡ want_then w k

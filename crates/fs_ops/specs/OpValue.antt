@@ -24,7 +24,12 @@ dropped n (AtPair pairs.Rename p q) = AtPair pairs.Rename (drop n p) (drop n q)
 
 -- a head that has walked so many names of a path behind those to the common directory
 abbrev pub head_of : Key → ℕ → count.Head → Head
-head_of path names head = record { walked = take head.walked (drop names path); node = head.node; behind = head.behind }
+head_of path names head = record { walked = take head.walked (drop names path); node = head.node }
+
+-- what is behind: the walk, or the heads once one of them has set out
+abbrev pub behind_in : Option ℕ → Option ForkWay → Option ℕ
+behind_in behind None = behind
+behind_in behind (Some fork) = fork.behind
 
 -- where a call stands: at first both heads are where the walk is
 abbrev pub holdings_with : Form → ℕ → Option ℕ → Option ForkWay → Option ℕ → Holdings
@@ -43,13 +48,13 @@ reply_of (Open prepared) = None
 reply_of (Fixed reply) = Some reply
 
 -- the whole value
-abbrev pub op_value : Call → Way → Option ForkWay → Option ℕ → Option ℕ → Option ℕ → Outcome → OpValue
-op_value call way fork victim reserved removed outcome =
+abbrev pub op_value : Call → Way → Option ℕ → Option ForkWay → Option ℕ → Option ℕ → Option ℕ → Outcome → OpValue
+op_value call way behind fork victim reserved removed outcome =
     record {
       call = call;
       walked = take way.walked (first_path (form call));
       remaining = dropped way.walked (form call);
-      holdings = holdings_of (form call) way.node way.behind fork victim;
+      holdings = holdings_of (form call) way.node behind fork victim;
       reply = reply_of outcome;
       reserved = reserved;
       removed = removed;

@@ -4,13 +4,13 @@ ghost use Rattle.std.specs.Prelude.{◌≡◌, None, true};
 ghost use Rattle.fs_nodes.specs.Seen.{seen};
 ghost use Rattle.fs_nodes.specs.Stores.{graph_of};
 ghost use Rattle.fs_machine.specs.Leaving.{is_removed, releasing, cleared};
-ghost use Rattle.fs_ops.specs.code.TakeAndLetGo.{way_freed, fork_freed, heads_freed, fork_after, way_after};
+ghost use Rattle.fs_ops.specs.code.TakeAndLetGo.{way_freed, way_let_go, fork_let_go, fork_after, way_after};
 ghost use Rattle.fs_machine.specs.OpValues.{IsSpare, IsLetGo};
 
 use crate::op::Op;
 use crate::stand::Stand;
 use fs_nodes::{NodeNo, Store};
-use fs_walk::Fork;
+use fs_walk::{Fork, Walk};
 
 /// The node that a call removed leaves the store when the call lets it go.
 fn release_removed(removed: &mut Option<NodeNo>, node: NodeNo, store: &mut Store)
@@ -24,25 +24,33 @@ fn release_removed(removed: &mut Option<NodeNo>, node: NodeNo, store: &mut Store
     }
 }
 
-/// The heads let go of the node behind one of them.
+/// A walk lets go of the node behind it.
+fn free_walk(walk: &mut Walk)
+    ensures { walk.new ≡ way_freed walk.old }
+{
+    if let Some(behind) = walk.behind() {
+        walk.let_go(behind);
+    }
+}
+
+/// The heads let go of the node behind them.
 fn free_heads(heads: &mut Fork)
-    ensures { heads.new ≡ fork_freed heads.old }
+    ensures { heads.new ≡ record heads.old { behind = None } }
 {
     if let Some(behind) = heads.behind() {
         heads.let_go(behind);
     }
 }
 
-/// The walk, or else the heads, let go of the node behind.
+/// What is behind is let go of.
 fn free_behind(stand: &mut Stand)
-    ensures walk { stand.new.walk ≡ way_freed stand.old.walk }
-    ensures fork { stand.new.fork ≡ heads_freed stand.old.walk.behind stand.old.fork }
+    ensures walk { stand.new.walk ≡ way_let_go stand.old.fork stand.old.walk }
+    ensures fork { stand.new.fork ≡ fork_let_go stand.old.fork }
     ensures victim { stand.new.victim ≡ stand.old.victim }
 {
-    if let Some(behind) = stand.walk.behind() {
-        stand.walk.let_go(behind);
-    } else if let Some(heads) = &mut stand.fork {
-        free_heads(heads);
+    match &mut stand.fork {
+        Some(heads) => free_heads(heads),
+        None => free_walk(&mut stand.walk),
     }
 }
 
@@ -66,7 +74,7 @@ fn free_last(stand: &mut Stand)
 }
 
 impl Op {
-    /// It has let go of a node: of the one behind its walk or a head, or, once its reply is fixed, of the one taken last. A node that
+    /// It has let go of a node: of the one behind its walk or its heads, or, once its reply is fixed, of the one taken last. A node that
     /// it removed leaves the store.
     pub fn let_go(&mut self, node: NodeNo, store: &mut Store)
         requires spare { is_removed self.old.removed node ≡ true → IsSpare (graph_of store.old) node }

@@ -23,11 +23,11 @@ pub struct Op {
 impl Model for Op {
     ghost use Rattle.fs_calls.specs.Forms.{form};
     ghost use Rattle.fs_machine.specs.OpValues.{OpValue};
-    ghost use Rattle.fs_ops.specs.OpValue.{op_value, IsOp};
+    ghost use Rattle.fs_ops.specs.OpValue.{behind_in, op_value, IsOp};
 
     ghost Value = { OpValue };
 
-    ghost view = { λ o. op_value o.call o.stand.walk o.stand.fork o.stand.victim o.reserved o.removed o.outcome };
+    ghost view = { λ o. op_value o.call o.stand.walk (behind_in o.stand.walk.behind o.stand.fork) o.stand.fork o.stand.victim o.reserved o.removed o.outcome };
 
     ghost invariant = { λ o. IsOp (form o.call) o.path_error o.stand.walk o.stand.fork o.outcome };
 }

@@ -10,7 +10,7 @@ ghost use Rattle.fs_calls.specs.declared.target.PairCall.TheVariants as pairs;
 ghost use Rattle.fs_walk.specs.Ways.{fork_took, has_arrived};
 ghost use Rattle.fs_machine.specs.Moves.{target};
 ghost use Rattle.fs_ops.specs.OpValue.{Forks};
-ghost use Rattle.fs_ops.specs.code.TakeAndLetGo.{TakesTo, started};
+ghost use Rattle.fs_ops.specs.code.TakeAndLetGo.{TakesTo};
 ghost use Rattle.fs_machine.specs.OpValues.{IsTook};
 
 use crate::op::Op;
@@ -37,17 +37,6 @@ fn heads_took(
     heads.took(source, dest, node);
 }
 
-/// The heads of a rename, which set out from its common directory if they did not.
-fn started(fork: Option<Fork>, node: NodeNo, names: usize) -> Fork
-    requires { names ≤ PATH_LIMIT }
-    ensures { result ≡ started fork node names }
-{
-    match fork {
-        Some(heads) => heads,
-        None => Fork::new(node, names),
-    }
-}
-
 /// A rename at its common directory takes a node.
 fn rename_took(source: &Path, dest: &Path, stand: &mut Stand, node: NodeNo)
     requires names { stand.old.walk.names ≡ length (common (parent_of source.now) (parent_of dest.now)) }
@@ -58,9 +47,16 @@ fn rename_took(source: &Path, dest: &Path, stand: &mut Stand, node: NodeNo)
     ensures stands { (at : ℕ) → stand.old.walk.node ≡ Some at → TakesTo (forms.AtPair pairs.Rename source.now dest.now) stand.old.walk at node stand.old.fork stand.old.victim stand.new.fork stand.new.victim }
 {
     if let Some(at) = stand.walk.node() {
-        let mut heads = started(stand.fork.take(), at, stand.walk.names());
-        heads_took(source, dest, &mut heads, &mut stand.victim, node);
-        stand.fork = Some(heads);
+        match &mut stand.fork {
+            Some(heads) => heads_took(source, dest, heads, &mut stand.victim, node),
+            None => {
+                let mut heads = Fork::new(at, stand.walk.names());
+                heads_took(source, dest, &mut heads, &mut stand.victim, node);
+                if heads.has_set_out() {
+                    stand.fork = Some(heads);
+                }
+            }
+        }
     }
 }
 

@@ -17,16 +17,20 @@ name_want (Some (File bytes)) child = Fails Enotdir
 name_want (Some (Dir names)) None = Fails Enoent
 name_want (Some (Dir names)) (Some m) = Take m
 
--- a head: it lets go what is behind it, then walks to the name ahead
-abbrev pub head_want : Graph → ℕ → Option ℕ → Option Name → Want
-head_want graph n (Some m) name = LetGo m
-head_want graph n None None = Arrived
-head_want graph n None (Some x) = name_want (graph.shape n) (graph.child n x)
+-- a step: to the name ahead, or none where there is none
+abbrev pub step_want : Graph → ℕ → Option Name → Want
+step_want graph n None = Arrived
+step_want graph n (Some x) = name_want (graph.shape n) (graph.child n x)
 
--- a walk: first the root, then its head
+-- what is behind is let go before all else
+abbrev pub behind_or : Option ℕ → Want → Want
+behind_or (Some m) want = LetGo m
+behind_or None want = want
+
+-- a walk: first the root, then a step
 abbrev pub way_want : Graph → Option ℕ → Option ℕ → Option Name → Want
 way_want graph None behind name = Take 0
-way_want graph (Some n) behind name = head_want graph n behind name
+way_want graph (Some n) behind name = behind_or behind (step_want graph n name)
 
 -- what a walk along a path wants next
 abbrev pub want : Graph → Key → Way → Want
@@ -47,11 +51,15 @@ at_dir (Some (Dir names)) = Arrived
 
 -- a head on its way to a directory
 abbrev pub dir_want : Graph → Head → Option Name → Want
-dir_want graph head name = then_want (head_want graph head.node head.behind name) (at_dir (graph.shape head.node))
+dir_want graph head name = then_want (step_want graph head.node name) (at_dir (graph.shape head.node))
 
--- a fork: from a common directory first the source head, then the destination head
-abbrev pub fork_want : Graph → Key → Key → ForkWay → Want
-fork_want graph source dest fork =
+-- both heads: from a common directory first the source head, then the destination head
+abbrev pub heads_want : Graph → Key → Key → ForkWay → Want
+heads_want graph source dest fork =
     then_want (at_dir (graph.shape fork.node))
     (then_want (dir_want graph fork.source (head_name source fork.names fork.source))
     (dir_want graph fork.dest (head_name dest fork.names fork.dest)))
+
+-- a fork: what is behind, then its heads
+abbrev pub fork_want : Graph → Key → Key → ForkWay → Want
+fork_want graph source dest fork = behind_or fork.behind (heads_want graph source dest fork)

@@ -12,12 +12,13 @@ pub record Way : Type 0 where
   pub node : Option ℕ
   pub behind : Option ℕ
 
--- two heads: the common directory, how many names lead there, and both heads
+-- two heads: the common directory, how many names lead there, both heads, and a node behind one of them that is still held
 pub record ForkWay : Type 0 where
   pub node : ℕ
   pub names : ℕ
   pub source : Head
   pub dest : Head
+  pub behind : Option ℕ
 
 -- no more names than a path has
 pub record IsWay (names walked : ℕ) : Type 0 where
@@ -36,20 +37,11 @@ new_way names = record { names = names; walked = 0; node = None; behind = None }
 
 -- a head at the common directory
 abbrev pub start_at : ℕ → Head
-start_at n = record { walked = 0; node = n; behind = None }
+start_at n = record { walked = 0; node = n }
 
 -- both heads at the common directory
 abbrev pub new_fork : ℕ → ℕ → ForkWay
-new_fork n names = record { node = n; names = names; source = start_at n; dest = start_at n }
-
--- the first of two nodes, if there is one, and else the second
-abbrev pub first_behind : Option ℕ → Option ℕ → Option ℕ
-first_behind (Some n) dest = Some n
-first_behind None dest = dest
-
--- the node behind the source head, or else behind the other
-abbrev pub fork_behind : ForkWay → Option ℕ
-fork_behind fork = first_behind fork.source.behind fork.dest.behind
+new_fork n names = record { node = n; names = names; source = start_at n; dest = start_at n; behind = None }
 
 -- whether a head has walked a name
 abbrev pub has_set_out : ForkWay → Bool
@@ -90,9 +82,13 @@ way_left way n = record way { behind = behind_left way.behind n }
 abbrev pub way_ended : Way → Way
 way_ended way = record way { node = None; behind = None }
 
--- a head after a step: a parent that is the common directory is not behind it
+-- a head after a step
 abbrev pub head_took : Head → ℕ → Head
-head_took head n = record { walked = head.walked + 1; node = n; behind = cond (nat_lt 0 head.walked) (Some head.node) None }
+head_took head n = record { walked = head.walked + 1; node = n }
+
+-- what the step leaves behind: where the head stood, if that is not the common directory
+abbrev pub head_leaves : Head → Option ℕ
+head_leaves head = cond (nat_lt 0 head.walked) (Some head.node) None
 
 -- the name ahead of a walk
 abbrev pub name_ahead : Key → Way → Option Name
@@ -104,8 +100,8 @@ head_name path names head = slice_get (parent_of path) (names + head.walked)
 
 -- both heads after a take: a step of the source head, where a name is ahead of it, or else of the destination head
 abbrev pub fork_took_by : Option Name → Option Name → ForkWay → ℕ → ForkWay
-fork_took_by (Some x) dest fork n = record fork { source = head_took fork.source n }
-fork_took_by None (Some x) fork n = record fork { dest = head_took fork.dest n }
+fork_took_by (Some x) dest fork n = record fork { source = head_took fork.source n; behind = head_leaves fork.source }
+fork_took_by None (Some x) fork n = record fork { dest = head_took fork.dest n; behind = head_leaves fork.dest }
 fork_took_by None None fork n = fork
 
 -- both heads after a take, by the paths of a rename
@@ -116,18 +112,9 @@ fork_took source dest fork n = fork_took_by (head_name source fork.names fork.so
 abbrev pub has_arrived : Key → Key → ForkWay → Bool
 has_arrived source dest fork = not (is_some (head_name source fork.names fork.source) || is_some (head_name dest fork.names fork.dest))
 
--- a head after it let go of a node behind it
-abbrev pub head_left : Head → ℕ → Head
-head_left head n = record head { behind = behind_left head.behind n }
-
--- a node behind the source head goes, and else one behind the other
-abbrev pub fork_left_by : Option ℕ → ForkWay → ℕ → ForkWay
-fork_left_by (Some m) fork n = record fork { source = head_left fork.source n }
-fork_left_by None fork n = record fork { dest = head_left fork.dest n }
-
--- both heads after a let go
+-- both heads after they let go of a node behind
 abbrev pub fork_left : ForkWay → ℕ → ForkWay
-fork_left fork n = fork_left_by fork.source.behind fork n
+fork_left fork n = record fork { behind = behind_left fork.behind n }
 
 -- both heads after the one that walked last has gone back to the common directory
 abbrev pub fork_returned : ForkWay → ForkWay

@@ -1,26 +1,27 @@
 //! A walk with two heads.
 
 ghost use Rattle.std.specs.Prelude.{◌≡◌, ◌≤◌};
-ghost use Rattle.fs_walk.specs.Ways.{new_fork, fork_behind, fork_last, has_set_out, fork_took, has_arrived, head_name, fork_left, fork_returned};
+ghost use Rattle.fs_walk.specs.Ways.{new_fork, fork_last, has_set_out, fork_took, has_arrived, head_name, fork_left, fork_returned};
 ghost use Rattle.fs_walk.specs.Wants.{fork_want, dir_want};
 ghost use Rattle.fs_nodes.specs.Stores.{graph_of};
 
 use crate::head::Head;
 use crate::names::parent_name;
-use crate::want::{Want, at_dir, head_want};
+use crate::want::{Want, at_dir, step_want};
 use fs_names::{PATH_LIMIT, Path};
 use fs_nodes::{NodeNo, Store};
 use std::marker::Model;
 
 /// Two heads from a common directory on: one to the parent of a source path, and then one to the parent of a destination path.
-/// Each holds the node where it stands and, after a step, the one behind it. The common directory is held all the time, and by
-/// neither head.
+/// Each holds the node where it stands; after a step of either the one behind it is held too. The common directory is held all
+/// the time, and by neither head.
 #[derive(Debug, Drop)]
 pub struct Fork {
     node: NodeNo,
     names: usize,
     source: Head,
     dest: Head,
+    behind: Option<NodeNo>,
 }
 
 impl Model for Fork {
@@ -28,7 +29,7 @@ impl Model for Fork {
 
     ghost Value = { ForkWay };
 
-    ghost view = { λ f. record { node = f.node; names = f.names; source = f.source; dest = f.dest } };
+    ghost view = { λ f. record { node = f.node; names = f.names; source = f.source; dest = f.dest; behind = f.behind } };
 
     ghost invariant = { λ f. IsForkWay f.names f.source f.dest };
 }
@@ -40,7 +41,7 @@ fn head_next(head: &Head, path: &Path, names: usize, store: &Store) -> Want
     ensures { result ≡ dir_want (graph_of store.now) head.now (head_name path.now names head.now) }
 {
     let name = parent_name(path, names + head.walked);
-    head_want(store, head.node, head.behind, name).then(at_dir(store, head.node))
+    step_want(store, head.node, name).then(at_dir(store, head.node))
 }
 
 impl Fork {
@@ -54,6 +55,7 @@ impl Fork {
             names,
             source: Head::new(node),
             dest: Head::new(node),
+            behind: None,
         }
     }
 
@@ -88,14 +90,11 @@ impl Fork {
         self.dest
     }
 
-    /// The node behind a head that it still holds, that of the source head first.
+    /// The node that the last step of a head left behind, while it is held.
     pub fn behind(&self) -> Option<NodeNo>
-        ensures { result ≡ fork_behind self.now }
+        ensures { result ≡ self.now.behind }
     {
-        match self.source.behind {
-            Some(node) => Some(node),
-            None => self.dest.behind,
-        }
+        self.behind
     }
 
     /// Whether a head has walked a name.
@@ -118,13 +117,16 @@ impl Fork {
         }
     }
 
-    /// What it wants next, along the paths that it is lent, the same ones each time. From a common directory first the source
-    /// head walks to the parent of the source path, then the destination head to that of the destination path; each lets go what
-    /// is behind it before it goes on. It fails with ENOTDIR where a file has a name ahead or stands in the place of a parent,
+    /// What it wants next, along the paths that it is lent, the same ones each time. What is behind is let go first. From a common
+    /// directory first the source head walks to the parent of the source path, then the destination head to that of the
+    /// destination path. It fails with ENOTDIR where a file has a name ahead or stands in the place of a parent,
     /// and with ENOENT where a name is missing (POSIX.1-2017, XBD 4.13, Pathname Resolution).
     pub fn next(&self, source: &Path, dest: &Path, store: &Store) -> Want
         ensures { result ≡ fork_want (graph_of store.now) source.now dest.now self.now }
     {
+        if let Some(behind) = self.behind {
+            return Want::LetGo(behind);
+        }
         // The destination head looks its name up only where the source head has arrived.
         let source_want = head_next(&self.source, source, self.names, store);
         let first = at_dir(store, self.node).then(source_want);
@@ -143,25 +145,23 @@ impl Fork {
     }
 
     /// A head has taken a node: the source head, where a name is ahead of it, and else the destination head. Where it stood
-    /// stays behind it, if that is not the common directory. Where both have arrived nothing changes.
+    /// is behind then, if that is not the common directory. Where both have arrived nothing changes.
     pub fn took(&mut self, source: &Path, dest: &Path, node: NodeNo)
         ensures { self.new ≡ fork_took source.now dest.now self.old node }
     {
         if parent_name(source, self.names + self.source.walked).is_some() {
-            self.source.took(node);
+            self.behind = self.source.took(node);
         } else if parent_name(dest, self.names + self.dest.walked).is_some() {
-            self.dest.took(node);
+            self.behind = self.dest.took(node);
         }
     }
 
-    /// It lets a node go that is behind the source head, or else one behind the destination head; another one changes nothing.
+    /// It lets the node go that is behind; another one changes nothing.
     pub fn let_go(&mut self, node: NodeNo)
         ensures { self.new ≡ fork_left self.old node }
     {
-        if self.source.behind.is_some() {
-            self.source.let_go(node);
-        } else {
-            self.dest.let_go(node);
+        if self.behind == Some(node) {
+            self.behind = None;
         }
     }
 

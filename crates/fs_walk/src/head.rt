@@ -1,18 +1,16 @@
 //! One head of a fork.
 
 ghost use Rattle.std.specs.Prelude.{◌≡◌, ◌<◌};
-ghost use Rattle.fs_walk.specs.Ways.{start_at, head_took, head_left};
+ghost use Rattle.fs_walk.specs.Ways.{start_at, head_took, head_leaves};
 
 use fs_names::PATH_LIMIT;
 use fs_nodes::NodeNo;
 
-/// Where a head stands: how many names it has walked from the common directory on, its node, and a node behind it that it
-/// still holds.
+/// Where a head stands: how many names it has walked from the common directory on, and its node.
 #[derive(Clone, Copy, Debug, PartialEq, Eq)]
 pub struct Head {
     pub walked: usize,
     pub node: NodeNo,
-    pub behind: Option<NodeNo>,
 }
 
 impl Head {
@@ -20,33 +18,22 @@ impl Head {
     pub fn new(node: NodeNo) -> Head
         ensures { result ≡ start_at node }
     {
-        Head {
-            walked: 0,
-            node,
-            behind: None,
-        }
+        Head { walked: 0, node }
     }
 
-    /// It steps to a node. Where it stood stays behind it, if that is not the common directory.
-    pub fn took(&mut self, node: NodeNo)
+    /// It steps to a node, and gives the one that it leaves behind: where it stood, if that is not the common directory.
+    pub fn took(&mut self, node: NodeNo) -> Option<NodeNo>
         requires { self.old.walked < PATH_LIMIT }
-        ensures { self.new ≡ head_took self.old node }
+        ensures head { self.new ≡ head_took self.old node }
+        ensures behind { result ≡ head_leaves self.old }
     {
-        self.behind = if self.walked > 0 {
+        let behind = if self.walked > 0 {
             Some(self.node)
         } else {
             None
         };
         self.node = node;
         self.walked += 1;
-    }
-
-    /// It lets a node go that is behind it; another one changes nothing.
-    pub fn let_go(&mut self, node: NodeNo)
-        ensures { self.new ≡ head_left self.old node }
-    {
-        if self.behind == Some(node) {
-            self.behind = None;
-        }
+        behind
     }
 }

@@ -6,7 +6,7 @@ ghost use Rattle.fs_walk.specs.Wants.{want};
 ghost use Rattle.fs_nodes.specs.Stores.{graph_of};
 
 use crate::names::name_among;
-use crate::want::{Want, head_want};
+use crate::want::{Want, step_want};
 use fs_names::{PATH_LIMIT, Path};
 use fs_nodes::{NodeNo, Store};
 use std::marker::Model;
@@ -85,8 +85,10 @@ impl Walk {
         let Some(node) = self.node else {
             return Want::Take(NodeNo::new(0));
         };
-        let name = name_among(path, self.names, self.walked);
-        head_want(store, node, self.behind, name)
+        if let Some(behind) = self.behind {
+            return Want::LetGo(behind);
+        }
+        step_want(store, node, name_among(path, self.names, self.walked))
     }
 
     /// Whether it may take a node: it holds nothing, or a name is ahead.

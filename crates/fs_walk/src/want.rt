@@ -3,7 +3,7 @@
 ghost use Rattle.std.specs.Prelude.{◌≡◌, option_map};
 ghost use Rattle.std.specs.Option.{option_copied};
 ghost use Rattle.fs_nodes.specs.Stores.{graph_of, shape, child};
-ghost use Rattle.fs_walk.specs.Wants.{name_want, head_want, then_want, at_dir};
+ghost use Rattle.fs_walk.specs.Wants.{name_want, step_want, then_want, at_dir};
 
 use fs_calls::Errno;
 use fs_names::Name;
@@ -35,14 +35,13 @@ fn name_want(store: &Store, node: NodeNo, name: &Name) -> Want
     }
 }
 
-/// At a node with one behind it, or with a name ahead.
-pub fn head_want(store: &Store, node: NodeNo, behind: Option<NodeNo>, name: Option<&Name>) -> Want
-    ensures { result ≡ head_want (graph_of store.now) node behind (option_copied name.entry) }
+/// At a node with a name ahead, or without one.
+pub fn step_want(store: &Store, node: NodeNo, name: Option<&Name>) -> Want
+    ensures { result ≡ step_want (graph_of store.now) node (option_copied name.entry) }
 {
-    match (behind, name) {
-        (Some(behind), _) => Want::LetGo(behind),
-        (None, Some(name)) => name_want(store, node, name),
-        (None, None) => Want::Arrived,
+    match name {
+        Some(name) => name_want(store, node, name),
+        None => Want::Arrived,
     }
 }
 

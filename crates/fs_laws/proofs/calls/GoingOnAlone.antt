@@ -8,20 +8,20 @@ use Rattle.fs_calls.specs.Forms.{form, Form, AtNode, AtEntry, AtPair, by_text, u
 use Rattle.fs_calls.specs.declared.target.PairCall.TheVariants as pairs
 use Rattle.fs_calls.specs.declared.errno.Errno.{Errno}
 use Rattle.fs_nodes.specs.Graphs.{Graph, numbers, IsGraph}
-use Rattle.fs_machine.specs.Moves.{next, next_by, next_on, target, took, inner, tail_of, head_took, head_left, left_holdings, left_behind, behind_of}
+use Rattle.fs_machine.specs.Moves.{next, next_by, next_on, target, took, victim_took, dest_stepped, source_stepped, inner, tail_of, left_holdings, behind_of}
 use Rattle.fs_machine.specs.declared.moves.Move.{Move}
 use Rattle.fs_machine.specs.declared.moves.Move.TheVariants.{Take as Takes, LetGo as Leaves, Finish as Finishes, Return as Ends}
 use Rattle.fs_machine.specs.Records.{Phase, Walking, Placed, Finished, Holds, Record, Holdings, holdings_at}
-use Rattle.fs_laws.specs.Invariants.{IsUnfinished, Forked, HeadsSound, VictimAt, IsSingle, HeadsFit}
+use Rattle.fs_laws.specs.Invariants.{IsUnfinished, Forked, HeadsSound, VictimAt, IsSingle}
 use Rattle.fs_laws.specs.Settled.{names_left, alone_by}
 use Rattle.fs_laws.specs.CallFacts.{Located}
 use Rattle.fs_laws.specs.StepsLeft.{one_if, one_unless, to_go, moves_left}
 use Rattle.fs_laws.proofs.trees.Prefixes.{prefix_append, prefix_some}
 use Rattle.fs_laws.proofs.graphs.Walks.{at_child, at_from}
 use Rattle.fs_laws.proofs.calls.NodesHeld.{single_at, single_victim, single_source, single_dest}
-use Rattle.fs_laws.proofs.events.LetGo.{Lets, Behind, Walk as Walk_behind, Source as Source_behind, Dest as Dest_behind, behind_of_move, lets_behind, lets_source_behind, lets_dest_behind, single_of, well_left, victim_left}
+use Rattle.fs_laws.proofs.events.LetGo.{Lets, behind_of_move, lets_behind, single_of, well_left, victim_left}
 use Rattle.fs_laws.proofs.events.Take.{Inner, inner_on, number_inner, fresh_well, fresh_victim}
-use Rattle.fs_laws.proofs.calls.TakesAtTarget.{forked_of, well_of, left_on, no_end}
+use Rattle.fs_laws.proofs.calls.TakesAtTarget.{forked_of, well_of, left_on}
 use Rattle.fs_laws.proofs.states.ComputedSteps.{on_ends}
 use Rattle.fs_laws.proofs.calls.Takes.{Take, Walk, Entry, Source, Dest, Replaced, takes_by, with_holdings}
 use Rattle.fs_laws.proofs.calls.HeadOrder.{HeadsInOrder, TookWell, took_well, plain_of, neat_heads, neat_fresh}
@@ -63,10 +63,8 @@ pub enough : (remaining : Form) (st : Holdings) → moves_left remaining st ≤ 
 enough remaining st =
     let a : to_go remaining st ≤ names_left remaining = to_go_less remaining st in
     let b : one_if st.behind ≤ 1 = if_one st.behind in
-    let c : one_if st.source.behind ≤ 1 = if_one st.source.behind in
-    let d : one_if st.dest.behind ≤ 1 = if_one st.dest.behind in
     let e : one_unless st.victim ≤ 1 = unless_one st.victim in
-    omega (arith, a, b, c, d, e)
+    omega (arith, a, b, e)
 
 -- the call after a move: the same, at its key or below it, with fewer moves left
 pub record Advanced (graph : Graph) (k : Key) (op : Record) (st : Holdings) (v : Record) : Type 0 where
@@ -125,8 +123,8 @@ solo_took graph is k op n st s t = go t
     w = took_well graph op n st s.unfinished s.on s.neat t
 
     -- at the same key, with another stand
-    here : (new : Holdings) → took op n ≡ with_holdings op new → Located (numbers graph) k new → HeadsSound graph new.node op.remaining new → VictimAt graph op.remaining new → IsSingle new → HeadsFit new → moves_left op.remaining new + 1 ≤ moves_left op.remaining st → Advanced graph k op st (took op n)
-    here new e loc well victim single heads less = subst (Advanced graph k op st) (sym e) (record {
+    here : (new : Holdings) → took op n ≡ with_holdings op new → Located (numbers graph) k new → HeadsSound graph new.node op.remaining new → VictimAt graph op.remaining new → IsSingle new → moves_left op.remaining new + 1 ≤ moves_left op.remaining st → Advanced graph k op st (took op n)
+    here new e loc well victim single less = subst (Advanced graph k op st) (sym e) (record {
       new = new;
       r = [];
       solo = stay_here graph k (with_holdings op new) new (record {
@@ -139,7 +137,6 @@ solo_took graph is k op n st s t = go t
         number = s.number;
         victim = victim;
         single = single;
-        heads = heads;
         neat = neat;
       });
       same = under_here k op.remaining;
@@ -154,10 +151,10 @@ solo_took graph is k op n st s t = go t
         neat : HeadsInOrder graph op.remaining new
         neat = subst (λ (x : Holdings). HeadsInOrder graph op.remaining x) new_is (subst (λ (o : Record). HeadsInOrder graph o.remaining w.new) e (w.neat.under_way (λ r f. s.unfinished r (ap (λ (o : Record). o.phase) (sym e) ∙ f))))
 
-    victim_less : st.victim ≡ None → moves_left op.remaining (record st { victim = Some n }) + 1 ≤ moves_left op.remaining st
+    victim_less : st.victim ≡ None → moves_left op.remaining (victim_took st n) + 1 ≤ moves_left op.remaining st
     victim_less off = let z : one_unless st.victim ≡ 1 = ap one_unless off in same_go op.remaining z
       where
-        same_go : (f : Form) → one_unless st.victim ≡ 1 → moves_left f (record st { victim = Some n }) + 1 ≤ moves_left f st
+        same_go : (f : Form) → one_unless st.victim ≡ 1 → moves_left f (victim_took st n) + 1 ≤ moves_left f st
         same_go (AtNode c p) z = omega (arith, z)
         same_go (AtEntry c p) z = omega (arith, z)
         same_go (AtPair pairs.Rename p q) z = omega (arith, z)
@@ -176,7 +173,6 @@ solo_took graph is k op n st s t = go t
         number = number_inner graph op.remaining op.reserved s.number;
         victim = fresh_victim graph n (Some st.node) (inner op.remaining);
         single = single_at n (Some st.node) (λ f. free (inl (let z : st.node ≡ n = cc in z)));
-        heads = ((λ f. refl), (λ f. refl));
         neat = neat_fresh graph (inner op.remaining) n (Some st.node);
       };
       same = step.same;
@@ -197,21 +193,21 @@ solo_took graph is k op n st s t = go t
         at_n : numbers graph (k ++ x ∷ []) ≡ Some n
         at_n = at_child graph.child 0 st.node k x s.loc.here ∙ child
     go (Entry e p rem way b child off t_is) =
-        here (record st { victim = Some n }) t_is (record { here = s.loc.here; source = s.loc.source; dest = s.loc.dest })
-        (subst (λ (f : Form). HeadsSound graph st.node f (record st { victim = Some n })) (sym rem) tt)
-        (subst (λ (f : Form). VictimAt graph f (record st { victim = Some n })) (sym rem) (λ v i. child ∙ i))
-        (single_victim st n free s.single) s.heads (victim_less off)
-    go (Source p q x l rem way b at_left sb child t_is) =
-        here (record st { source = head_took st.source x n }) t_is loc
-        (well_of graph st.node p q (record st { source = head_took st.source x n }) op.remaining rem way (record {
+        here (victim_took st n) t_is (record { here = s.loc.here; source = s.loc.source; dest = s.loc.dest })
+        (subst (λ (f : Form). HeadsSound graph st.node f (victim_took st n)) (sym rem) tt)
+        (subst (λ (f : Form). VictimAt graph f (victim_took st n)) (sym rem) (λ v i. child ∙ i))
+        (single_victim st n free s.single) (victim_less off)
+    go (Source p q x l rem way b at_left child t_is) =
+        here (source_stepped st x n) t_is loc
+        (well_of graph st.node p q (source_stepped st x n) op.remaining rem way (record {
           source_at = sym (at_from graph.child 0 st.node k (st.source.walked ++ x ∷ []) s.loc.here) ∙ loc.source;
           dest_at = f.dest_at;
           source_is = left_on st.source.walked l (parent_of p) x whole;
           dest_is = f.dest_is;
         }))
-        (subst (λ (g : Form). VictimAt graph g (record st { source = head_took st.source x n })) (sym rem) (subst (λ (g : Form). VictimAt graph g st) rem s.victim))
-        (single_source st x n free s.single) ((λ i. absurd (no_end st.source.walked x i)), s.heads.1)
-        (subst (λ (g : Form). moves_left g (record st { source = head_took st.source x n }) + 1 ≤ moves_left g st) (sym rem)
+        (subst (λ (g : Form). VictimAt graph g (source_stepped st x n)) (sym rem) (subst (λ (g : Form). VictimAt graph g st) rem s.victim))
+        (single_source st x n free s.single)
+        (subst (λ (g : Form). moves_left g (source_stepped st x n) + 1 ≤ moves_left g st) (sym rem)
         (let a : length (left st.source.walked (parent_of p)) ≡ length l + 1 = ap length at_left ∙ (let z : length (x ∷ l) ≡ length l + 1 = omega arith in z) in
         let c : length (left (st.source.walked ++ x ∷ []) (parent_of p)) ≡ length l = ap length (left_next st.source.walked l (parent_of p) x whole) in
         let d : one_if (behind_of st.source.walked st.source.node) ≤ 1 = behind_one st.source.walked st.source.node in
@@ -223,19 +219,19 @@ solo_took graph is k op n st s t = go t
         whole : parent_of p ≡ st.source.walked ++ x ∷ l
         whole = f.source_is ∙ ap (λ (y : Key). st.source.walked ++ y) at_left
 
-        loc : Located (numbers graph) k (record st { source = head_took st.source x n })
+        loc : Located (numbers graph) k (source_stepped st x n)
         loc = record { here = s.loc.here; source = ap (numbers graph) (sym (append_assoc k st.source.walked (x ∷ []))) ∙ at_child graph.child 0 st.source.node (k ++ st.source.walked) x s.loc.source ∙ child; dest = s.loc.dest }
-    go (Dest p q x l names rem way b arrived sb dir at_left db child t_is) =
-        here (record st { dest = head_took st.dest x n }) t_is loc
-        (well_of graph st.node p q (record st { dest = head_took st.dest x n }) op.remaining rem way (record {
+    go (Dest p q x l names rem way b arrived dir at_left child t_is) =
+        here (dest_stepped st x n) t_is loc
+        (well_of graph st.node p q (dest_stepped st x n) op.remaining rem way (record {
           source_at = f.source_at;
           dest_at = sym (at_from graph.child 0 st.node k (st.dest.walked ++ x ∷ []) s.loc.here) ∙ loc.dest;
           source_is = f.source_is;
           dest_is = left_on st.dest.walked l (parent_of q) x whole;
         }))
-        (subst (λ (g : Form). VictimAt graph g (record st { dest = head_took st.dest x n })) (sym rem) (λ v e. absurd (none_yet v e)))
-        (single_dest st x n free s.single) (s.heads.0, (λ i. absurd (no_end st.dest.walked x i)))
-        (subst (λ (g : Form). moves_left g (record st { dest = head_took st.dest x n }) + 1 ≤ moves_left g st) (sym rem)
+        (subst (λ (g : Form). VictimAt graph g (dest_stepped st x n)) (sym rem) (λ v e. absurd (none_yet v e)))
+        (single_dest st x n free s.single)
+        (subst (λ (g : Form). moves_left g (dest_stepped st x n) + 1 ≤ moves_left g st) (sym rem)
         (let a : length (left st.dest.walked (parent_of q)) ≡ length l + 1 = ap length at_left ∙ (let z : length (x ∷ l) ≡ length l + 1 = omega arith in z) in
         let c : length (left (st.dest.walked ++ x ∷ []) (parent_of q)) ≡ length l = ap length (left_next st.dest.walked l (parent_of q) x whole) in
         let d : one_if (behind_of st.dest.walked st.dest.node) ≤ 1 = behind_one st.dest.walked st.dest.node in
@@ -247,7 +243,7 @@ solo_took graph is k op n st s t = go t
         whole : parent_of q ≡ st.dest.walked ++ x ∷ l
         whole = f.dest_is ∙ ap (λ (y : Key). st.dest.walked ++ y) at_left
 
-        loc : Located (numbers graph) k (record st { dest = head_took st.dest x n })
+        loc : Located (numbers graph) k (dest_stepped st x n)
         loc = record { here = s.loc.here; dest = ap (numbers graph) (sym (append_assoc k st.dest.walked (x ∷ []))) ∙ at_child graph.child 0 st.dest.node (k ++ st.dest.walked) x s.loc.dest ∙ child; source = s.loc.source }
 
         none_yet : (v : ℕ) → st.victim ≡ Some v → ⊥
@@ -255,11 +251,11 @@ solo_took graph is k op n st s t = go t
             let g : (graph.child st.dest.node (last_of q) ≡ Some v) × (parent_of q ≡ st.dest.walked) = subst (λ (h : Form). VictimAt graph h st) rem s.victim v e in
             let z : [] ≡ x ∷ l = front_same st.dest.walked [] (x ∷ l) (append-nil st.dest.walked ∙ sym g.1 ∙ f.dest_is ∙ ap (λ (y : Key). st.dest.walked ++ y) at_left) in
             (let y : ◌≡◌ {A = Key} [] (x ∷ l) = z in cc)
-    go (Replaced p q names rem way b arrived sb dir at_left db want child off t_is) =
-        here (record st { victim = Some n }) t_is (record { here = s.loc.here; source = s.loc.source; dest = s.loc.dest })
-        (well_of graph st.node p q (record st { victim = Some n }) op.remaining rem way (record { source_at = f.source_at; dest_at = f.dest_at; source_is = f.source_is; dest_is = f.dest_is }))
-        (subst (λ (g : Form). VictimAt graph g (record st { victim = Some n })) (sym rem) (λ v i. (child ∙ i, f.dest_is ∙ ap (λ (y : Key). st.dest.walked ++ y) at_left ∙ append-nil st.dest.walked)))
-        (single_victim st n free s.single) s.heads (victim_less off)
+    go (Replaced p q names rem way b arrived dir at_left want child off t_is) =
+        here (victim_took st n) t_is (record { here = s.loc.here; source = s.loc.source; dest = s.loc.dest })
+        (well_of graph st.node p q (victim_took st n) op.remaining rem way (record { source_at = f.source_at; dest_at = f.dest_at; source_is = f.source_is; dest_is = f.dest_is }))
+        (subst (λ (g : Form). VictimAt graph g (victim_took st n)) (sym rem) (λ v i. (child ∙ i, f.dest_is ∙ ap (λ (y : Key). st.dest.walked ++ y) at_left ∙ append-nil st.dest.walked)))
+        (single_victim st n free s.single) (victim_less off)
       where
         f : Forked graph st.node p q st
         f = forked_of graph st.node p q st op.remaining rem way s.well
@@ -268,69 +264,44 @@ solo_took graph is k op n st s t = go t
 abbrev pub left_alone : Record → Record
 left_alone op = record op { holdings = left_holdings op.phase op.holdings }
 
-unfinished_left : (op : Record) (st : Holdings) → IsUnfinished op → op.holdings ≡ Some st → left_holdings op.phase op.holdings ≡ Some (left_behind st st.behind st.source.behind)
+unfinished_left : (op : Record) (st : Holdings) → IsUnfinished op → op.holdings ≡ Some st → left_holdings op.phase op.holdings ≡ Some (record st { behind = None })
 unfinished_left op st u on = go op.phase refl
   where
-    go : (p : Phase) → op.phase ≡ p → left_holdings op.phase op.holdings ≡ Some (left_behind st st.behind st.source.behind)
+    go : (p : Phase) → op.phase ≡ p → left_holdings op.phase op.holdings ≡ Some (record st { behind = None })
     go Walking e = ap₂ left_holdings e on
     go (Placed i) e = ap₂ left_holdings e on
     go (Finished r) e = absurd (u r e)
 
--- a let go of a parent
-pub solo_left : (graph : Graph) (k : Key) (op : Record) (n : ℕ) (st : Holdings) → OneUnfinished graph k op st → Behind st n → Advanced graph k op st (left_alone op)
-solo_left graph k op n st s b = go b
+-- a let go of what is behind
+pub solo_left : (graph : Graph) (k : Key) (op : Record) (n : ℕ) (st : Holdings) → OneUnfinished graph k op st → st.behind ≡ Some n → Advanced graph k op st (left_alone op)
+solo_left graph k op n st s e = record {
+  new = record st { behind = None };
+  r = [];
+  solo = stay_here graph k (left_alone op) (record st { behind = None }) (record {
+    on = unfinished_left op st s.unfinished s.on;
+    unfinished = s.unfinished;
+    text = s.text;
+    loc = record { here = s.loc.here; source = s.loc.source; dest = s.loc.dest };
+    fits = s.fits;
+    well = well_left graph st (record st { behind = None }) n op.remaining lets s.well;
+    number = s.number;
+    victim = victim_left graph st (record st { behind = None }) op.remaining refl (refl, refl, refl) s.victim;
+    single = single_of st (record st { behind = None }) n lets s.single;
+    neat = neat_heads graph op.remaining st (record st { behind = None }) (record { source = refl; node = refl; dest = refl; victim = refl }) s.neat;
+  });
+  same = under_here k op.remaining;
+  reserved = refl;
+  phase = refl;
+  less = less op.remaining (ap one_if e);
+}
   where
-    here : (new : Holdings) → left_behind st st.behind st.source.behind ≡ new → Lets st new n → Located (numbers graph) k new → HeadsInOrder graph op.remaining new → (new.victim ≡ st.victim) × (new.dest.node ≡ st.dest.node) × (new.dest.walked ≡ st.dest.walked) → moves_left op.remaining new + 1 ≤ moves_left op.remaining st → Advanced graph k op st (left_alone op)
-    here new e l loc neat same less = record {
-      new = new;
-      r = [];
-      solo = stay_here graph k (left_alone op) new (record {
-        on = unfinished_left op st s.unfinished s.on ∙ ap (λ (x : Holdings). Some x) e;
-        unfinished = s.unfinished;
-        text = s.text;
-        loc = loc;
-        fits = s.fits;
-        well = well_left graph st new n op.remaining l s.well;
-        number = s.number;
-        victim = victim_left graph st new op.remaining l.node same s.victim;
-        single = single_of st new n l s.single;
-        heads = l.heads s.heads;
-        neat = neat;
-      });
-      same = under_here k op.remaining;
-      reserved = refl;
-      phase = refl;
-      less = less;
-    }
+    lets : Lets st (record st { behind = None }) n
+    lets = lets_behind st n e
 
-    go : Behind st n → Advanced graph k op st (left_alone op)
-    go (Walk_behind e) =
-        here (record st { behind = None }) (ap (λ (x : Option ℕ). left_behind st x st.source.behind) e) (lets_behind st n e) (record { here = s.loc.here; source = s.loc.source; dest = s.loc.dest })
-        (neat_heads graph op.remaining st (record st { behind = None }) (record { source = refl; node = refl; dest = refl; victim = refl }) s.neat) (refl, refl, refl)
-        (less op.remaining (ap one_if e))
-      where
-        less : (f : Form) → one_if st.behind ≡ 1 → moves_left f (record st { behind = None }) + 1 ≤ moves_left f st
-        less (AtNode c p) z = omega (arith, z)
-        less (AtEntry c p) z = omega (arith, z)
-        less (AtPair pairs.Rename p q) z = omega (arith, z)
-    go (Source_behind a e) =
-        here (record st { source = head_left st.source }) (ap₂ (λ (x y : Option ℕ). left_behind st x y) a e) (lets_source_behind st n s.heads e) (record { here = s.loc.here; source = s.loc.source; dest = s.loc.dest })
-        (neat_heads graph op.remaining st (record st { source = head_left st.source }) (record { source = refl; node = refl; dest = refl; victim = refl }) s.neat) (refl, refl, refl)
-        (less op.remaining (ap one_if e))
-      where
-        less : (f : Form) → one_if st.source.behind ≡ 1 → moves_left f (record st { source = head_left st.source }) + 1 ≤ moves_left f st
-        less (AtNode c p) z = omega (arith, z)
-        less (AtEntry c p) z = omega (arith, z)
-        less (AtPair pairs.Rename p q) z = omega (arith, z)
-    go (Dest_behind a c e) =
-        here (record st { dest = head_left st.dest }) (ap₂ (λ (x y : Option ℕ). left_behind st x y) a c) (lets_dest_behind st n s.heads e) (record { here = s.loc.here; source = s.loc.source; dest = s.loc.dest })
-        (neat_heads graph op.remaining st (record st { dest = head_left st.dest }) (record { source = refl; node = refl; dest = refl; victim = refl }) s.neat) (refl, refl, refl)
-        (less op.remaining (ap one_if e))
-      where
-        less : (f : Form) → one_if st.dest.behind ≡ 1 → moves_left f (record st { dest = head_left st.dest }) + 1 ≤ moves_left f st
-        less (AtNode c p) z = omega (arith, z)
-        less (AtEntry c p) z = omega (arith, z)
-        less (AtPair pairs.Rename p q) z = omega (arith, z)
+    less : (f : Form) → one_if st.behind ≡ 1 → moves_left f (record st { behind = None }) + 1 ≤ moves_left f st
+    less (AtNode c p) z = omega (arith, z)
+    less (AtEntry c p) z = omega (arith, z)
+    less (AtPair pairs.Rename p q) z = omega (arith, z)
 
 -- the call where it finishes
 pub record Finishing (graph : Graph) (k : Key) (op : Record) (steps : ℕ) : Type 0 where

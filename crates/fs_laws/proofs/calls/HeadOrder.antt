@@ -8,8 +8,8 @@ use Rattle.fs_calls.specs.Forms.{Form, AtNode, AtEntry, AtPair}
 use Rattle.fs_calls.specs.declared.target.PairCall.TheVariants as pairs
 use Rattle.fs_calls.specs.declared.reply.Reply.{Reply}
 use Rattle.fs_nodes.specs.Graphs.{Graph}
-use Rattle.fs_machine.specs.Moves.{target, took, head_took, behind_of, left_behind, took_by, inner}
-use Rattle.fs_machine.specs.Records.{Finished, Holds, Head, HeadHolds, Record, Holdings, holdings_at}
+use Rattle.fs_machine.specs.Moves.{target, took, behind_of, victim_took, dest_stepped, source_stepped, took_by, inner}
+use Rattle.fs_machine.specs.Records.{Finished, Holds, Record, Holdings, holdings_at}
 use Rattle.fs_laws.specs.Invariants.{IsUnfinished}
 use Rattle.fs_laws.proofs.calls.Takes.{Take, Walk, Entry, Source, Dest, Replaced, with_holdings, walked_on}
 
@@ -45,11 +45,9 @@ HeadsInOrder graph (AtNode c p) st = IsPlain st
 HeadsInOrder graph (AtEntry c p) st = NeatIn p st
 HeadsInOrder graph (AtPair pairs.Rename p q) st = NeatAt graph p st (target (AtPair pairs.Rename p q))
 
--- no parent is held behind
-pub record IsClosed (st : Holdings) : Type 0 where
-  pub behind : st.behind ≡ None
-  pub source : st.source.behind ≡ None
-  pub dest : st.dest.behind ≡ None
+-- nothing is held behind
+abbrev pub IsClosed : Holdings → Type 0
+IsClosed st = st.behind ≡ None
 
 pub record HeadsOfCallInOrder (graph : Graph) (op : Record) (st : Holdings) : Type 0 where
   pub under_way : IsUnfinished op → HeadsInOrder graph op.remaining st
@@ -103,11 +101,6 @@ neat_heads graph (AtPair pairs.Rename p q) old new s w = go (common (parent_of p
     go [] w = record { dest = λ h. there (w.dest (subst HasNames s.dest h)); victim = λ v e. there (w.victim v (sym s.victim ∙ e)) }
     go (x ∷ l) w = record { source = s.source ∙ w.source; dest = s.dest ∙ w.dest; victim = s.victim ∙ w.victim }
 
-pub left_same : (st : Holdings) (b s : Option ℕ) → SameHeads st (left_behind st b s)
-left_same st (Some m) s = record { source = refl; node = refl; dest = refl; victim = refl }
-left_same st None (Some m) = record { source = refl; node = refl; dest = refl; victim = refl }
-left_same st None None = record { source = refl; node = refl; dest = refl; victim = refl }
-
 -- a call with a name to walk has neither heads nor a victim
 pub plain_of : (graph : Graph) (remaining : Form) (st : Holdings) (x : Name) (l : Key) → target remaining ≡ x ∷ l → HeadsInOrder graph remaining st → (st.source.walked ≡ []) × (st.dest.walked ≡ []) × (st.victim ≡ None)
 plain_of graph (AtNode c p) st x l e w = (w.source, w.dest, w.victim)
@@ -136,14 +129,10 @@ has_pushed : (w : Key) (x : Name) → HasNames (w ++ x ∷ [])
 has_pushed [] x = tt
 has_pushed (y ∷ w) x = tt
 
--- what a head held it still holds
-head_stays : (h : Head) (x : Name) (n m : ℕ) → h.behind ≡ None → HeadHolds h m → HeadHolds (head_took h x n) m
-head_stays h x n m b (w, inl e) = (has_pushed h.walked x, inr (behind h.walked w))
-  where
-    behind : (l : Key) → HasNames l → behind_of l h.node ≡ Some m
-    behind [] i = absurd i
-    behind (y ∷ l) i = ap (λ (k : ℕ). Some k) e
-head_stays h x n m b (w, inr e) = let z : ◌≡◌ {A = Option ℕ} None (Some m) = sym b ∙ e in cc
+-- the node of a head that walks on is behind
+behind_stays : (w : Key) (n m : ℕ) → HasNames w → n ≡ m → behind_of w n ≡ Some m
+behind_stays [] n m w e = absurd w
+behind_stays (y ∷ l) n m w e = ap (λ (k : ℕ). Some k) e
 
 -- a record with the same phase
 open_only : (graph : Graph) (op v : Record) (st : Holdings) → IsUnfinished op → v.phase ≡ op.phase → HeadsInOrder graph v.remaining st → HeadsOfCallInOrder graph v st
@@ -182,9 +171,9 @@ took_well graph op n st u on w (Walk x l way b child is) =
     stays m (inr (inr (inr (inl h)))) = absurd (subst HasNames plain.1 h.0)
     stays m (inr (inr (inr (inr e)))) = let z : ◌≡◌ {A = Option ℕ} None (Some m) = sym plain.2 ∙ e in cc
 took_well graph op n st u on w (Entry e p rem way b child off is) =
-    took_as graph op (with_holdings op (record st { victim = Some n })) n (record st { victim = Some n }) is refl refl (inr (inr (inr (inr refl)))) (λ s m i h. stays m (subst (λ (y : Holdings). Holds y m) (holdings_is s i) h))
-    (open_only graph op (with_holdings op (record st { victim = Some n })) (record st { victim = Some n }) u refl
-    (subst (λ (f : Form). HeadsInOrder graph f (record st { victim = Some n })) (sym rem) (record { source = mine.source; dest = mine.dest; victim = λ h. absurd (subst HasNames way h) })))
+    took_as graph op (with_holdings op (victim_took st n)) n (victim_took st n) is refl refl (inr (inr (inr (inr refl)))) (λ s m i h. stays m (subst (λ (y : Holdings). Holds y m) (holdings_is s i) h))
+    (open_only graph op (with_holdings op (victim_took st n)) (victim_took st n) u refl
+    (subst (λ (f : Form). HeadsInOrder graph f (victim_took st n)) (sym rem) (record { source = mine.source; dest = mine.dest; victim = λ h. absurd (subst HasNames way h) })))
   where
     mine : NeatIn p st
     mine = subst (λ (f : Form). HeadsInOrder graph f st) rem w
@@ -192,16 +181,16 @@ took_well graph op n st u on w (Entry e p rem way b child off is) =
     holdings_is : (s : Holdings) → op.holdings ≡ Some s → s ≡ st
     holdings_is s i = let z : ◌≡◌ {A = Option Holdings} (Some s) (Some st) = sym i ∙ on in cc
 
-    stays : (m : ℕ) → Holds st m → Holds (record st { victim = Some n }) m
+    stays : (m : ℕ) → Holds st m → Holds (victim_took st n) m
     stays m (inl i) = inl i
     stays m (inr (inl i)) = inr (inl i)
     stays m (inr (inr (inl h))) = inr (inr (inl h))
     stays m (inr (inr (inr (inl h)))) = inr (inr (inr (inl h)))
     stays m (inr (inr (inr (inr i)))) = let z : ◌≡◌ {A = Option ℕ} None (Some m) = sym off ∙ i in cc
-took_well graph op n st u on w (Source p q x l rem way b at_left sb child is) =
-    took_as graph op (with_holdings op (record st { source = head_took st.source x n })) n (record st { source = head_took st.source x n }) is refl refl (inr (inr (inl (has_pushed st.source.walked x, inl refl)))) (λ s m i h. stays m (subst (λ (y : Holdings). Holds y m) (holdings_is s i) h))
-    (open_only graph op (with_holdings op (record st { source = head_took st.source x n })) (record st { source = head_took st.source x n }) u refl
-    (of_turn graph p q (record st { source = head_took st.source x n }) op.remaining rem way (record { dest = λ h. absurd (not_there graph p st x l at_left (turn.dest h)); victim = λ v i. absurd (not_there graph p st x l at_left (turn.victim v i)) })))
+took_well graph op n st u on w (Source p q x l rem way b at_left child is) =
+    took_as graph op (with_holdings op (source_stepped st x n)) n (source_stepped st x n) is refl refl (inr (inr (inl (has_pushed st.source.walked x, refl)))) (λ s m i h. stays m (subst (λ (y : Holdings). Holds y m) (holdings_is s i) h))
+    (open_only graph op (with_holdings op (source_stepped st x n)) (source_stepped st x n) u refl
+    (of_turn graph p q (source_stepped st x n) op.remaining rem way (record { dest = λ h. absurd (not_there graph p st x l at_left (turn.dest h)); victim = λ v i. absurd (not_there graph p st x l at_left (turn.victim v i)) })))
   where
     turn : InTurn graph p st
     turn = in_turn graph p q st op.remaining rem way w
@@ -209,35 +198,35 @@ took_well graph op n st u on w (Source p q x l rem way b at_left sb child is) =
     holdings_is : (s : Holdings) → op.holdings ≡ Some s → s ≡ st
     holdings_is s i = let z : ◌≡◌ {A = Option Holdings} (Some s) (Some st) = sym i ∙ on in cc
 
-    stays : (m : ℕ) → Holds st m → Holds (record st { source = head_took st.source x n }) m
+    stays : (m : ℕ) → Holds st m → Holds (source_stepped st x n) m
     stays m (inl i) = inl i
-    stays m (inr (inl i)) = inr (inl i)
-    stays m (inr (inr (inl h))) = inr (inr (inl (head_stays st.source x n m sb h)))
+    stays m (inr (inl i)) = let z : ◌≡◌ {A = Option ℕ} None (Some m) = sym b ∙ i in cc
+    stays m (inr (inr (inl h))) = inr (inl (behind_stays st.source.walked st.source.node m h.0 h.1))
     stays m (inr (inr (inr (inl h)))) = inr (inr (inr (inl h)))
     stays m (inr (inr (inr (inr i)))) = inr (inr (inr (inr i)))
-took_well graph op n st u on w (Dest p q x l names rem way b arrived sb dir at_left db child is) =
-    took_as graph op (with_holdings op (record st { dest = head_took st.dest x n })) n (record st { dest = head_took st.dest x n }) is refl refl (inr (inr (inr (inl (has_pushed st.dest.walked x, inl refl))))) (λ s m i h. stays m (subst (λ (y : Holdings). Holds y m) (holdings_is s i) h))
-    (open_only graph op (with_holdings op (record st { dest = head_took st.dest x n })) (record st { dest = head_took st.dest x n }) u refl
-    (of_turn graph p q (record st { dest = head_took st.dest x n }) op.remaining rem way (record { dest = λ h. record { arrived = arrived; names = names; dir = dir }; victim = λ v i. record { arrived = arrived; names = names; dir = dir } })))
+took_well graph op n st u on w (Dest p q x l names rem way b arrived dir at_left child is) =
+    took_as graph op (with_holdings op (dest_stepped st x n)) n (dest_stepped st x n) is refl refl (inr (inr (inr (inl (has_pushed st.dest.walked x, refl))))) (λ s m i h. stays m (subst (λ (y : Holdings). Holds y m) (holdings_is s i) h))
+    (open_only graph op (with_holdings op (dest_stepped st x n)) (dest_stepped st x n) u refl
+    (of_turn graph p q (dest_stepped st x n) op.remaining rem way (record { dest = λ h. record { arrived = arrived; names = names; dir = dir }; victim = λ v i. record { arrived = arrived; names = names; dir = dir } })))
   where
     holdings_is : (s : Holdings) → op.holdings ≡ Some s → s ≡ st
     holdings_is s i = let z : ◌≡◌ {A = Option Holdings} (Some s) (Some st) = sym i ∙ on in cc
 
-    stays : (m : ℕ) → Holds st m → Holds (record st { dest = head_took st.dest x n }) m
+    stays : (m : ℕ) → Holds st m → Holds (dest_stepped st x n) m
     stays m (inl i) = inl i
-    stays m (inr (inl i)) = inr (inl i)
+    stays m (inr (inl i)) = let z : ◌≡◌ {A = Option ℕ} None (Some m) = sym b ∙ i in cc
     stays m (inr (inr (inl h))) = inr (inr (inl h))
-    stays m (inr (inr (inr (inl h)))) = inr (inr (inr (inl (head_stays st.dest x n m db h))))
+    stays m (inr (inr (inr (inl h)))) = inr (inl (behind_stays st.dest.walked st.dest.node m h.0 h.1))
     stays m (inr (inr (inr (inr i)))) = inr (inr (inr (inr i)))
-took_well graph op n st u on w (Replaced p q names rem way b arrived sb dir at_left db want child off is) =
-    took_as graph op (with_holdings op (record st { victim = Some n })) n (record st { victim = Some n }) is refl refl (inr (inr (inr (inr refl)))) (λ s m i h. stays m (subst (λ (y : Holdings). Holds y m) (holdings_is s i) h))
-    (open_only graph op (with_holdings op (record st { victim = Some n })) (record st { victim = Some n }) u refl
-    (of_turn graph p q (record st { victim = Some n }) op.remaining rem way (record { dest = λ h. record { arrived = arrived; names = names; dir = dir }; victim = λ v i. record { arrived = arrived; names = names; dir = dir } })))
+took_well graph op n st u on w (Replaced p q names rem way b arrived dir at_left want child off is) =
+    took_as graph op (with_holdings op (victim_took st n)) n (victim_took st n) is refl refl (inr (inr (inr (inr refl)))) (λ s m i h. stays m (subst (λ (y : Holdings). Holds y m) (holdings_is s i) h))
+    (open_only graph op (with_holdings op (victim_took st n)) (victim_took st n) u refl
+    (of_turn graph p q (victim_took st n) op.remaining rem way (record { dest = λ h. record { arrived = arrived; names = names; dir = dir }; victim = λ v i. record { arrived = arrived; names = names; dir = dir } })))
   where
     holdings_is : (s : Holdings) → op.holdings ≡ Some s → s ≡ st
     holdings_is s i = let z : ◌≡◌ {A = Option Holdings} (Some s) (Some st) = sym i ∙ on in cc
 
-    stays : (m : ℕ) → Holds st m → Holds (record st { victim = Some n }) m
+    stays : (m : ℕ) → Holds st m → Holds (victim_took st n) m
     stays m (inl i) = inl i
     stays m (inr (inl i)) = inr (inl i)
     stays m (inr (inr (inl h))) = inr (inr (inl h))

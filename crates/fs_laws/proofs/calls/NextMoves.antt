@@ -31,9 +31,9 @@ takes_used s c op n run is m = go (takes_from s.graph op n m).0
     by : (st : Holdings) → Take s.graph op n st → (shape : Shape) × (s.graph.shape n ≡ Some shape)
     by st (Walk x l way b child is) = graph.to_used st.node n x child
     by st (Entry e p rem way b child off is) = graph.to_used st.node n (last_of p) child
-    by st (Source p q x l rem way b at_left sb child is) = graph.to_used st.source.node n x child
-    by st (Dest p q x l names rem way b arrived sb dir at_left db child is) = graph.to_used st.dest.node n x child
-    by st (Replaced p q names rem way b arrived sb dir at_left db want child off is) = graph.to_used st.dest.node n (last_of q) child
+    by st (Source p q x l rem way b at_left child is) = graph.to_used st.source.node n x child
+    by st (Dest p q x l names rem way b arrived dir at_left child is) = graph.to_used st.dest.node n x child
+    by st (Replaced p q names rem way b arrived dir at_left want child off is) = graph.to_used st.dest.node n (last_of q) child
 
     go : TakesFrom s.graph op n → (shape : Shape) × (s.graph.shape n ≡ Some shape)
     go (From_nowhere text off z) = (Dir graph.root.0, sym (ap s.graph.shape z) ∙ graph.root.1)
@@ -65,6 +65,6 @@ leaves_held s c op n run is m = go (lets_go s.graph op n m)
     inv = run_keeps s run
 
     go : LetsGo op n → s.holder n ≡ Some c
-    go (On_way st new u on left_is lets same) = (run_keeps s run).held c op st n is on (slot_holds st (lets (((run_keeps s run).own c op is).heads st on)).gone n (lets (((run_keeps s run).own c op is).heads st on)).was)
+    go (On_way st new u on left_is l same) = (run_keeps s run).held c op st n is on (slot_holds st l.gone n l.was)
     go (At_end st new r ph on left_is l only) = (run_keeps s run).held c op st n is on (slot_holds st l.gone n l.was)
     go (Last st r ph on left_is node only) = (run_keeps s run).held c op st n is on (inl node)

@@ -8,7 +8,7 @@ use Rattle.fs_calls.specs.declared.target.PairCall.TheVariants as pairs
 use Rattle.fs_nodes.specs.Graphs.{Graph, numbers, IsGraph, entry_shape}
 use Rattle.fs_machine.specs.Moves.{same_kind}
 use Rattle.fs_machine.specs.Records.{Holds, Record, Holdings}
-use Rattle.fs_laws.specs.Invariants.{IsUnfinished, Forked, HeadsSound, NumberFor, VictimAt, IsSingle, HeadsFit, Invariant}
+use Rattle.fs_laws.specs.Invariants.{IsUnfinished, Forked, HeadsSound, NumberFor, VictimAt, IsSingle, Invariant}
 use Rattle.fs_laws.specs.CallFacts.{Located}
 use Rattle.fs_machine.specs.States.{State}
 use Rattle.fs_laws.proofs.trees.Prefixes.{prefix_append, same_refl}
@@ -29,7 +29,6 @@ pub record OneUnfinished (graph : Graph) (k : Key) (op : Record) (st : Holdings)
   pub number : NumberFor graph op.remaining op.reserved
   pub victim : VictimAt graph op.remaining st
   pub single : IsSingle st
-  pub heads : HeadsFit st
   pub neat : HeadsInOrder graph op.remaining st
 
 -- each unfinished call of a run that stands somewhere
@@ -44,7 +43,6 @@ solo_of s inv acc c op st is u on = record {
   number = (inv.own c op is).number u (text_open s inv c op st is on);
   victim = (inv.own c op is).victim u st on;
   single = (inv.own c op is).single st on;
-  heads = (inv.own c op is).heads st on;
   neat = (acc.neat c op st is on).under_way u;
 }
 
@@ -124,32 +122,29 @@ solo_wants graph is_graph k op n st solo t h = go t h
     go (Entry e p rem way b child off t_is) (inr (inr (inl i))) = let w : NeatIn p st = subst (λ (f : Form). HeadsInOrder graph f st) rem neat in subst HasNames w.source i.0
     go (Entry e p rem way b child off t_is) (inr (inr (inr (inl i)))) = let w : NeatIn p st = subst (λ (f : Form). HeadsInOrder graph f st) rem neat in subst HasNames w.dest i.0
     go (Entry e p rem way b child off t_is) (inr (inr (inr (inr i)))) = none_is st.victim off i
-    go (Source p q x l rem way b at_left sb child t_is) (inl i) = not_node st.source.walked st.source.node x loc.source child i
-    go (Source p q x l rem way b at_left sb child t_is) (inr (inl i)) = none_is st.behind b i
-    go (Source p q x l rem way b at_left sb child t_is) (inr (inr (inl (_, inl i)))) = not_itself st.source.walked st.source.node x loc.source child i
-    go (Source p q x l rem way b at_left sb child t_is) (inr (inr (inl (_, inr i)))) = none_is st.source.behind sb i
-    go (Source p q x l rem way b at_left sb child t_is) (inr (inr (inr (inl i)))) = let t : SourceThere graph p st = (in_turn graph p q st op.remaining rem way neat).dest i.0 in let z : ◌≡◌ {A = Key} [] (x ∷ l) = sym t.arrived ∙ at_left in cc
-    go (Source p q x l rem way b at_left sb child t_is) (inr (inr (inr (inr i)))) = let t : SourceThere graph p st = (in_turn graph p q st op.remaining rem way neat).victim n i in let z : ◌≡◌ {A = Key} [] (x ∷ l) = sym t.arrived ∙ at_left in cc
-    go (Dest p q x l names rem way b arrived sb dir at_left db child t_is) (inl i) = not_node st.dest.walked st.dest.node x loc.dest child i
-    go (Dest p q x l names rem way b arrived sb dir at_left db child t_is) (inr (inl i)) = none_is st.behind b i
-    go (Dest p q x l names rem way b arrived sb dir at_left db child t_is) (inr (inr (inl (more, inl i)))) =
+    go (Source p q x l rem way b at_left child t_is) (inl i) = not_node st.source.walked st.source.node x loc.source child i
+    go (Source p q x l rem way b at_left child t_is) (inr (inl i)) = none_is st.behind b i
+    go (Source p q x l rem way b at_left child t_is) (inr (inr (inl (_, i)))) = not_itself st.source.walked st.source.node x loc.source child i
+    go (Source p q x l rem way b at_left child t_is) (inr (inr (inr (inl i)))) = let t : SourceThere graph p st = (in_turn graph p q st op.remaining rem way neat).dest i.0 in let z : ◌≡◌ {A = Key} [] (x ∷ l) = sym t.arrived ∙ at_left in cc
+    go (Source p q x l rem way b at_left child t_is) (inr (inr (inr (inr i)))) = let t : SourceThere graph p st = (in_turn graph p q st op.remaining rem way neat).victim n i in let z : ◌≡◌ {A = Key} [] (x ∷ l) = sym t.arrived ∙ at_left in cc
+    go (Dest p q x l names rem way b arrived dir at_left child t_is) (inl i) = not_node st.dest.walked st.dest.node x loc.dest child i
+    go (Dest p q x l names rem way b arrived dir at_left child t_is) (inr (inl i)) = none_is st.behind b i
+    go (Dest p q x l names rem way b arrived dir at_left child t_is) (inr (inr (inl (more, i)))) =
         let f : Forked graph st.node p q st = forked p q rem way in
         let same : k ++ st.source.walked ≡ (k ++ st.dest.walked) ++ x ∷ [] = is_graph.one_key (k ++ st.source.walked) ((k ++ st.dest.walked) ++ x ∷ []) n (loc.source ∙ ap (λ (y : ℕ). Some y) i) (here st.dest.walked st.dest.node x loc.dest child) in
         let w : st.source.walked ≡ st.dest.walked ++ x ∷ [] = front_same (k) st.source.walked (st.dest.walked ++ x ∷ []) (same ∙ append_assoc (k) st.dest.walked (x ∷ [])) in
         let a : parent_of p ≡ st.source.walked = arrived_is (parent_of p) st.source.walked f.source_is arrived in
         let d : parent_of q ≡ st.source.walked ++ l = f.dest_is ∙ ap (λ (y : Key). st.dest.walked ++ y) at_left ∙ sym (append_assoc st.dest.walked (x ∷ []) l) ∙ ap (λ (y : Key). y ++ l) (sym w) in
         common_some st.source.walked l more (sym (ap₂ common a d) ∙ way)
-    go (Dest p q x l names rem way b arrived sb dir at_left db child t_is) (inr (inr (inl (more, inr i)))) = none_is st.source.behind sb i
-    go (Dest p q x l names rem way b arrived sb dir at_left db child t_is) (inr (inr (inr (inl (_, inl i))))) = not_itself st.dest.walked st.dest.node x loc.dest child i
-    go (Dest p q x l names rem way b arrived sb dir at_left db child t_is) (inr (inr (inr (inl (_, inr i))))) = none_is st.dest.behind db i
-    go (Dest p q x l names rem way b arrived sb dir at_left db child t_is) (inr (inr (inr (inr i)))) =
+    go (Dest p q x l names rem way b arrived dir at_left child t_is) (inr (inr (inr (inl (_, i))))) = not_itself st.dest.walked st.dest.node x loc.dest child i
+    go (Dest p q x l names rem way b arrived dir at_left child t_is) (inr (inr (inr (inr i)))) =
         let v : (graph.child st.dest.node (last_of q) ≡ Some n) × (parent_of q ≡ st.dest.walked) = subst (λ (g : Form). VictimAt graph g st) rem solo.victim n i in
         let f : Forked graph st.node p q st = forked p q rem way in
         let e : [] ≡ x ∷ l = front_same st.dest.walked [] (x ∷ l) (append-nil st.dest.walked ∙ sym v.1 ∙ f.dest_is ∙ ap (λ (y : Key). st.dest.walked ++ y) at_left) in
         (let z : ◌≡◌ {A = Key} [] (x ∷ l) = e in cc)
-    go (Replaced p q names rem way b arrived sb dir at_left db want child off t_is) (inl i) = not_node st.dest.walked st.dest.node (last_of q) loc.dest child i
-    go (Replaced p q names rem way b arrived sb dir at_left db want child off t_is) (inr (inl i)) = none_is st.behind b i
-    go (Replaced p q names rem way b arrived sb dir at_left db want child off t_is) (inr (inr (inl (more, inl i)))) =
+    go (Replaced p q names rem way b arrived dir at_left want child off t_is) (inl i) = not_node st.dest.walked st.dest.node (last_of q) loc.dest child i
+    go (Replaced p q names rem way b arrived dir at_left want child off t_is) (inr (inl i)) = none_is st.behind b i
+    go (Replaced p q names rem way b arrived dir at_left want child off t_is) (inr (inr (inl (more, i)))) =
         let f : Forked graph st.node p q st = forked p q rem way in
         let fits : Fits (AtPair pairs.Rename p q) = subst Fits rem solo.fits in
         let same : k ++ st.source.walked ≡ (k ++ st.dest.walked) ++ last_of q ∷ [] = is_graph.one_key (k ++ st.source.walked) ((k ++ st.dest.walked) ++ last_of q ∷ []) n (loc.source ∙ ap (λ (y : ℕ). Some y) i) (here st.dest.walked st.dest.node (last_of q) loc.dest child) in
@@ -161,7 +156,5 @@ solo_wants graph is_graph k op n st solo t h = go t h
         let above : has_more (after_prefix q p) ≡ true = ap has_more (ap (after_prefix q) p_is ∙ prefix_append q (last_of p ∷ [])) in
         let below : has_more (after_prefix q p) ≡ false = not_true (has_more (after_prefix q p)) (all_true (same_kind (entry_shape graph st.source.node (last_of p)) (entry_shape graph st.dest.node (last_of q))) (not (is_end (after_prefix p q))) (not (has_more (after_prefix q p))) want) in
         (let z : true ≡ false = sym above ∙ below in cc)
-    go (Replaced p q names rem way b arrived sb dir at_left db want child off t_is) (inr (inr (inl (more, inr i)))) = none_is st.source.behind sb i
-    go (Replaced p q names rem way b arrived sb dir at_left db want child off t_is) (inr (inr (inr (inl (_, inl i))))) = not_itself st.dest.walked st.dest.node (last_of q) loc.dest child i
-    go (Replaced p q names rem way b arrived sb dir at_left db want child off t_is) (inr (inr (inr (inl (_, inr i))))) = none_is st.dest.behind db i
-    go (Replaced p q names rem way b arrived sb dir at_left db want child off t_is) (inr (inr (inr (inr i)))) = none_is st.victim off i
+    go (Replaced p q names rem way b arrived dir at_left want child off t_is) (inr (inr (inr (inl (_, i))))) = not_itself st.dest.walked st.dest.node (last_of q) loc.dest child i
+    go (Replaced p q names rem way b arrived dir at_left want child off t_is) (inr (inr (inr (inr i)))) = none_is st.victim off i

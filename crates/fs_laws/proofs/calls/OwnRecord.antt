@@ -82,7 +82,6 @@ own_other old new linked st k q a o stands apart = record {
   victim = λ u other e. victim_by old new linked st k other q.remaining a (stands other e).0 (stands other e).1 (o.victim u other e);
   starts = o.starts;
   single = o.single;
-  heads = o.heads;
 }
 
 -- the call that finishes, where it stands
@@ -108,5 +107,4 @@ own_finished old made linked st k op is a o on loc links reserved removed = reco
   victim = λ u. absurd (u made.reply refl);
   starts = λ u. absurd (u made.reply refl);
   single = o.single;
-  heads = o.heads;
 }

@@ -8,11 +8,12 @@ use Rattle.fs_calls.specs.Forms.{Form, AtNode, AtEntry, AtPair}
 use Rattle.fs_calls.specs.declared.target.PairCall.TheVariants as pairs
 use Rattle.fs_calls.specs.declared.target.EntryCall.{EntryCall}
 use Rattle.fs_nodes.specs.Graphs.{Graph, entry_shape}
-use Rattle.fs_machine.specs.Moves.{next_on, first_of, head_move, take_if, target, target_move, fork_move, rename_move, dir_then, victim_of, same_kind, rename_at, moved_node, took, head_took, source_took, target_took, took_by, inner}
+use Rattle.fs_machine.specs.Moves.{next_on, first_of, step_move, take_if, target, target_move, fork_move, rename_move, dir_then, victim_of, same_kind, rename_at, moved_node, took, victim_took, dest_stepped, source_stepped, source_took, target_took, took_by, inner}
 use Rattle.fs_machine.specs.declared.moves.Move.{Move}
 use Rattle.fs_machine.specs.declared.moves.Move.TheVariants.{Take as Takes, Finish as Finishes}
 use Rattle.fs_machine.specs.Records.{Record, Holdings, holdings_at}
-use Rattle.fs_laws.proofs.events.Take.{head_takes, head_passes}
+use Rattle.fs_laws.proofs.calls.Behind.{take_past}
+use Rattle.fs_laws.proofs.events.Take.{step_takes}
 
 -- whether a rename wants the victim
 abbrev pub wants : Graph → Key → Key → Holdings → Bool
@@ -28,13 +29,13 @@ walked_on op st x n = record op { walked = op.walked ++ x ∷ []; remaining = in
 
 pub data Take (graph : Graph) (op : Record) (n : ℕ) (st : Holdings) : Type 0 where
   Walk : (x : Name) (l : Key) → target op.remaining ≡ x ∷ l → st.behind ≡ None → graph.child st.node x ≡ Some n → took op n ≡ walked_on op st x n → Take graph op n st
-  Entry : (e : EntryCall) (p : Key) → op.remaining ≡ AtEntry e p → parent_of p ≡ [] → st.behind ≡ None → graph.child st.node (last_of p) ≡ Some n → st.victim ≡ None → took op n ≡ with_holdings op (record st { victim = Some n }) → Take graph op n st
-  Source : (p q : Key) (x : Name) (l : Key) → op.remaining ≡ AtPair pairs.Rename p q → common (parent_of p) (parent_of q) ≡ [] → st.behind ≡ None → left st.source.walked (parent_of p) ≡ x ∷ l → st.source.behind ≡ None → graph.child st.source.node x ≡ Some n
-      → took op n ≡ with_holdings op (record st { source = head_took st.source x n }) → Take graph op n st
-  Dest : (p q : Key) (x : Name) (l : Key) (names : List Name) → op.remaining ≡ AtPair pairs.Rename p q → common (parent_of p) (parent_of q) ≡ [] → st.behind ≡ None → left st.source.walked (parent_of p) ≡ [] → st.source.behind ≡ None → graph.shape st.source.node ≡ Some (Dir names)
-      → left st.dest.walked (parent_of q) ≡ x ∷ l → st.dest.behind ≡ None → graph.child st.dest.node x ≡ Some n → took op n ≡ with_holdings op (record st { dest = head_took st.dest x n }) → Take graph op n st
-  Replaced : (p q : Key) (names : List Name) → op.remaining ≡ AtPair pairs.Rename p q → common (parent_of p) (parent_of q) ≡ [] → st.behind ≡ None → left st.source.walked (parent_of p) ≡ [] → st.source.behind ≡ None → graph.shape st.source.node ≡ Some (Dir names)
-      → left st.dest.walked (parent_of q) ≡ [] → st.dest.behind ≡ None → wants graph p q st ≡ true → graph.child st.dest.node (last_of q) ≡ Some n → st.victim ≡ None → took op n ≡ with_holdings op (record st { victim = Some n }) → Take graph op n st
+  Entry : (e : EntryCall) (p : Key) → op.remaining ≡ AtEntry e p → parent_of p ≡ [] → st.behind ≡ None → graph.child st.node (last_of p) ≡ Some n → st.victim ≡ None → took op n ≡ with_holdings op (victim_took st n) → Take graph op n st
+  Source : (p q : Key) (x : Name) (l : Key) → op.remaining ≡ AtPair pairs.Rename p q → common (parent_of p) (parent_of q) ≡ [] → st.behind ≡ None → left st.source.walked (parent_of p) ≡ x ∷ l → graph.child st.source.node x ≡ Some n
+      → took op n ≡ with_holdings op (source_stepped st x n) → Take graph op n st
+  Dest : (p q : Key) (x : Name) (l : Key) (names : List Name) → op.remaining ≡ AtPair pairs.Rename p q → common (parent_of p) (parent_of q) ≡ [] → st.behind ≡ None → left st.source.walked (parent_of p) ≡ [] → graph.shape st.source.node ≡ Some (Dir names)
+      → left st.dest.walked (parent_of q) ≡ x ∷ l → graph.child st.dest.node x ≡ Some n → took op n ≡ with_holdings op (dest_stepped st x n) → Take graph op n st
+  Replaced : (p q : Key) (names : List Name) → op.remaining ≡ AtPair pairs.Rename p q → common (parent_of p) (parent_of q) ≡ [] → st.behind ≡ None → left st.source.walked (parent_of p) ≡ [] → graph.shape st.source.node ≡ Some (Dir names)
+      → left st.dest.walked (parent_of q) ≡ [] → wants graph p q st ≡ true → graph.child st.dest.node (last_of q) ≡ Some n → st.victim ≡ None → took op n ≡ with_holdings op (victim_took st n) → Take graph op n st
 
 -- a victim is taken where one is wanted, there, and not held
 victim_taken : (b : Bool) (child held m : Option ℕ) (n : ℕ) → take_if b child held (Finishes m) ≡ Takes n → (b ≡ true) × (child ≡ Some n) × (held ≡ None)
@@ -50,58 +51,51 @@ dir_takes (Some (File bytes)) m n e = cc
 
 -- at the common directory
 fork_takes : (graph : Graph) (op : Record) (n : ℕ) (st : Holdings) (p q : Key) → op.holdings ≡ Some st → op.remaining ≡ AtPair pairs.Rename p q → common (parent_of p) (parent_of q) ≡ [] → st.behind ≡ None → fork_move graph p q st ≡ Takes n → Take graph op n st
-fork_takes graph op n st p q on rem way behind m = source (left st.source.walked (parent_of p)) refl (dir_takes (graph.shape st.node) (first_of (head_move graph st.source.node st.source.behind (left st.source.walked (parent_of p))) rest) n m).1
+fork_takes graph op n st p q on rem way behind m = source (left st.source.walked (parent_of p)) refl (dir_takes (graph.shape st.node) (first_of (step_move graph st.source.node (left st.source.walked (parent_of p))) rest) n m).1
   where
     at_dest : Move
     at_dest = dir_then (graph.shape st.dest.node) (rename_move graph p q st)
 
     rest : Move
-    rest = dir_then (graph.shape st.source.node) (first_of (head_move graph st.dest.node st.dest.behind (left st.dest.walked (parent_of q))) at_dest)
+    rest = dir_then (graph.shape st.source.node) (first_of (step_move graph st.dest.node (left st.dest.walked (parent_of q))) at_dest)
 
     took_there : took op n ≡ with_holdings op (source_took st (left st.source.walked (parent_of p)) (left st.dest.walked (parent_of q)) n)
     took_there = ap₂ (λ (s : Option Holdings) (k : Key). took_by op s k n) on (ap target rem ∙ way) ∙ ap (λ (g : Form). record op { holdings = Some (target_took g st n) }) rem
 
-    dest : (l : Key) → left st.source.walked (parent_of p) ≡ [] → st.source.behind ≡ None → (names : List Name) × (graph.shape st.source.node ≡ Some (Dir names)) → left st.dest.walked (parent_of q) ≡ l
-        → first_of (head_move graph st.dest.node st.dest.behind l) (dir_then (graph.shape st.dest.node) (rename_move graph p q st)) ≡ Takes n → Take graph op n st
-    dest (x ∷ l) i sb d j e =
-        let h : (st.dest.behind ≡ None) × (graph.child st.dest.node x ≡ Some n) = head_takes graph st.dest.node st.dest.behind x l at_dest n e in
-        Dest p q x l d.0 rem way behind i sb d.1 j h.0 h.1 (took_there ∙ ap₂ (λ (k r : Key). with_holdings op (source_took st k r n)) i j)
-    dest [] i sb d j e =
-        let h : (st.dest.behind ≡ None) × (at_dest ≡ Takes n) = head_passes graph st.dest.node st.dest.behind at_dest n e in
+    dest : (l : Key) → left st.source.walked (parent_of p) ≡ [] → (names : List Name) × (graph.shape st.source.node ≡ Some (Dir names)) → left st.dest.walked (parent_of q) ≡ l
+        → first_of (step_move graph st.dest.node l) (dir_then (graph.shape st.dest.node) (rename_move graph p q st)) ≡ Takes n → Take graph op n st
+    dest (x ∷ l) i d j e = Dest p q x l d.0 rem way behind i d.1 j (step_takes graph st.dest.node x l at_dest n e) (took_there ∙ ap₂ (λ (k r : Key). with_holdings op (source_took st k r n)) i j)
+    dest [] i d j e =
         let v : (wants graph p q st ≡ true) × (graph.child st.dest.node (last_of q) ≡ Some n) × (st.victim ≡ None) =
-        victim_taken (wants graph p q st) (graph.child st.dest.node (last_of q)) st.victim (moved_node (rename_at graph p q st).1 (graph.child st.source.node (last_of p))) n (dir_takes (graph.shape st.dest.node) (rename_move graph p q st) n h.1).1 in
-        Replaced p q d.0 rem way behind i sb d.1 j h.0 v.0 v.1 v.2 (took_there ∙ ap₂ (λ (k r : Key). with_holdings op (source_took st k r n)) i j)
+        victim_taken (wants graph p q st) (graph.child st.dest.node (last_of q)) st.victim (moved_node (rename_at graph p q st).1 (graph.child st.source.node (last_of p))) n (dir_takes (graph.shape st.dest.node) (rename_move graph p q st) n e).1 in
+        Replaced p q d.0 rem way behind i d.1 j v.0 v.1 v.2 (took_there ∙ ap₂ (λ (k r : Key). with_holdings op (source_took st k r n)) i j)
 
     source : (l : Key) → left st.source.walked (parent_of p) ≡ l
-        → first_of (head_move graph st.source.node st.source.behind l) (dir_then (graph.shape st.source.node) (first_of (head_move graph st.dest.node st.dest.behind (left st.dest.walked (parent_of q))) (dir_then (graph.shape st.dest.node) (rename_move graph p q st)))) ≡ Takes n → Take graph op n st
-    source (x ∷ l) i e =
-        let h : (st.source.behind ≡ None) × (graph.child st.source.node x ≡ Some n) = head_takes graph st.source.node st.source.behind x l rest n e in
-        Source p q x l rem way behind i h.0 h.1 (took_there ∙ ap (λ (k : Key). with_holdings op (source_took st k (left st.dest.walked (parent_of q)) n)) i)
+        → first_of (step_move graph st.source.node l) (dir_then (graph.shape st.source.node) (first_of (step_move graph st.dest.node (left st.dest.walked (parent_of q))) (dir_then (graph.shape st.dest.node) (rename_move graph p q st)))) ≡ Takes n → Take graph op n st
+    source (x ∷ l) i e = Source p q x l rem way behind i (step_takes graph st.source.node x l rest n e) (took_there ∙ ap (λ (k : Key). with_holdings op (source_took st k (left st.dest.walked (parent_of q)) n)) i)
     source [] i e =
-        let h : (st.source.behind ≡ None) × (rest ≡ Takes n) = head_passes graph st.source.node st.source.behind rest n e in
-        let d : ((names : List Name) × (graph.shape st.source.node ≡ Some (Dir names))) × (first_of (head_move graph st.dest.node st.dest.behind (left st.dest.walked (parent_of q))) at_dest ≡ Takes n) =
-        dir_takes (graph.shape st.source.node) (first_of (head_move graph st.dest.node st.dest.behind (left st.dest.walked (parent_of q))) at_dest) n h.1 in
-        dest (left st.dest.walked (parent_of q)) i h.0 d.0 refl d.1
+        let d : ((names : List Name) × (graph.shape st.source.node ≡ Some (Dir names))) × (first_of (step_move graph st.dest.node (left st.dest.walked (parent_of q))) at_dest ≡ Takes n) =
+        dir_takes (graph.shape st.source.node) (first_of (step_move graph st.dest.node (left st.dest.walked (parent_of q))) at_dest) n e in
+        dest (left st.dest.walked (parent_of q)) i d.0 refl d.1
 
 -- each take of a call that holds a node is one of these
 pub takes_by : (graph : Graph) (op : Record) (n : ℕ) (st : Holdings) → op.holdings ≡ Some st → next_on graph op.remaining st ≡ Takes n → Take graph op n st
-takes_by graph op n st on m = way (target op.remaining) refl m
+takes_by graph op n st on m = way (target op.remaining) refl past.1
   where
+    past : (st.behind ≡ None) × (first_of (step_move graph st.node (target op.remaining)) (target_move graph op.remaining st) ≡ Takes n)
+    past = take_past st.behind (first_of (step_move graph st.node (target op.remaining)) (target_move graph op.remaining st)) n m
+
     no_take : Finishes None ≡ Takes n → ⊥
     no_take e = cc
 
-    there : (rem : Form) → op.remaining ≡ rem → target rem ≡ [] → st.behind ≡ None → target_move graph rem st ≡ Takes n → Take graph op n st
-    there (AtNode e p) i w b f = absurd (no_take f)
-    there (AtEntry e p) i w b f =
+    there : (rem : Form) → op.remaining ≡ rem → target rem ≡ [] → target_move graph rem st ≡ Takes n → Take graph op n st
+    there (AtNode e p) i w f = absurd (no_take f)
+    there (AtEntry e p) i w f =
         let v : (victim_of e (entry_shape graph st.node (last_of p)) ≡ true) × (graph.child st.node (last_of p) ≡ Some n) × (st.victim ≡ None) =
         victim_taken (victim_of e (entry_shape graph st.node (last_of p))) (graph.child st.node (last_of p)) st.victim None n f in
-        Entry e p i w b v.1 v.2 (ap₂ (λ (s : Option Holdings) (k : Key). took_by op s k n) on (ap target i ∙ w) ∙ ap (λ (g : Form). record op { holdings = Some (target_took g st n) }) i)
-    there (AtPair pairs.Rename p q) i w b f = fork_takes graph op n st p q on i w b f
+        Entry e p i w past.0 v.1 v.2 (ap₂ (λ (s : Option Holdings) (k : Key). took_by op s k n) on (ap target i ∙ w) ∙ ap (λ (g : Form). record op { holdings = Some (target_took g st n) }) i)
+    there (AtPair pairs.Rename p q) i w f = fork_takes graph op n st p q on i w past.0 f
 
-    way : (l : Key) → target op.remaining ≡ l → first_of (head_move graph st.node st.behind l) (target_move graph op.remaining st) ≡ Takes n → Take graph op n st
-    way (x ∷ l) i e =
-        let h : (st.behind ≡ None) × (graph.child st.node x ≡ Some n) = head_takes graph st.node st.behind x l (target_move graph op.remaining st) n e in
-        Walk x l i h.0 h.1 (ap₂ (λ (s : Option Holdings) (k : Key). took_by op s k n) on i)
-    way [] i e =
-        let h : (st.behind ≡ None) × (target_move graph op.remaining st ≡ Takes n) = head_passes graph st.node st.behind (target_move graph op.remaining st) n e in
-        there op.remaining refl i h.0 h.1
+    way : (l : Key) → target op.remaining ≡ l → first_of (step_move graph st.node l) (target_move graph op.remaining st) ≡ Takes n → Take graph op n st
+    way (x ∷ l) i e = Walk x l i past.0 (step_takes graph st.node x l (target_move graph op.remaining st) n e) (ap₂ (λ (s : Option Holdings) (k : Key). took_by op s k n) on i)
+    way [] i e = there op.remaining refl i e

@@ -134,7 +134,6 @@ begin_keeps old inv seat call c reserved graph free number g = record {
       victim = λ u st e. cc;
       starts = λ u e. refl;
       single = λ st e. cc;
-      heads = λ st e. cc;
     }
 
     spare_used : (d m : ℕ) (q : Record) → old.ops d ≡ Some q → HasSpare q m → (s : Shape) × (old.graph.shape m ≡ Some s)

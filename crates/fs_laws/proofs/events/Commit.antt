@@ -321,7 +321,6 @@ commit_text old inv c op e is w text = subst (λ (m : Effect). Invariant (ended 
         victim = λ u. absurd (u (Failed e) refl);
         starts = λ u. absurd (u (Failed e) refl);
         single = own.single;
-        heads = own.heads;
       };
       own_other = λ d q m e. inv.own d q e;
       spares = spares;

@@ -131,7 +131,6 @@ own_placed graph q st n w on o = record {
   victim = λ u. o.victim (λ r e. (let z : ◌≡◌ {A = Phase} Walking (Finished r) = sym w ∙ e in cc));
   starts = λ u. o.starts (λ r e. (let z : ◌≡◌ {A = Phase} Walking (Finished r) = sym w ∙ e in cc));
   single = o.single;
-  heads = o.heads;
   intact = λ u. o.intact (λ r e. (let z : ◌≡◌ {A = Phase} Walking (Finished r) = sym w ∙ e in cc));
   one_spare = o.one_spare;
   placed = λ i e. (st, on);

@@ -12,14 +12,15 @@ use Rattle.fs_calls.specs.declared.errno.Errno.{Errno}
 use Rattle.fs_calls.specs.declared.reply.Reply.{Reply}
 use Rattle.fs_nodes.specs.Graphs.{Graph, at, numbers, graph_shapes, entry_shape, set_at, IsGraph, released_in}
 use Rattle.fs_machine.specs.Leaving.{is_removed, releasing, cleared}
-use Rattle.fs_machine.specs.Moves.{next, next_by, next_on, first_of, head_move, walk_move, take_if, target, target_move, victim_of, same_kind, rename_move, rename_at, moved_node, dir_then, last_held, first_walked, head_left, left_behind, left_heads, left_last, left_holdings}
+use Rattle.fs_machine.specs.Moves.{next, next_by, next_on, first_of, step_move, walk_move, take_if, target, target_move, victim_of, same_kind, rename_move, rename_at, moved_node, dir_then, last_held, first_walked, left_heads, left_last, left_holdings}
 use Rattle.fs_machine.specs.declared.moves.Move.{Move}
 use Rattle.fs_machine.specs.declared.moves.Move.TheVariants.{LetGo as Leaves, Finish as Finishes}
 use Rattle.fs_machine.specs.Records.{Phase, Walking, Placed, Finished, Holds, Record, Holdings, head_at}
-use Rattle.fs_laws.specs.Invariants.{ForkedAt, HeadsSound, VictimAt, HasSpare, HeadsFit, IsSingle, IsUnfinished, Own, Invariant, StepKeeps, Slot, At_node, At_behind, At_source, At_source_behind, At_dest, At_dest_behind, At_victim, if_walked, in_slot}
+use Rattle.fs_laws.specs.Invariants.{ForkedAt, HeadsSound, VictimAt, HasSpare, IsSingle, IsUnfinished, Own, Invariant, StepKeeps, Slot, At_node, At_behind, At_source, At_dest, At_victim, if_walked, in_slot}
 use Rattle.fs_laws.specs.CallFacts.{CallFacts, Shrinks}
 use Rattle.fs_machine.specs.States.{State, letting_go}
 use Rattle.fs_machine.specs.declared.answers.Stepped.TheVariants.{LetGo}
+use Rattle.fs_laws.proofs.calls.Behind.{leave_past}
 use Rattle.fs_laws.proofs.graphs.Walks.{eqb_refl}
 use Rattle.fs_laws.proofs.events.OneCallChanged.{kept_shrink}
 use Rattle.fs_laws.proofs.events.OtherChanges.{kept_none}
@@ -37,7 +38,6 @@ pub record Lets (st new : Holdings) (n : ℕ) : Type 0 where
   pub node : new.node ≡ st.node
   pub source : ((new.source.walked ≡ st.source.walked) × (new.source.node ≡ st.source.node)) ⊎ ((new.source.walked ≡ []) × (new.source.node ≡ st.node))
   pub dest : ((new.dest.walked ≡ st.dest.walked) × (new.dest.node ≡ st.dest.node)) ⊎ ((new.dest.walked ≡ []) × (new.dest.node ≡ st.node))
-  pub heads : HeadsFit st → HeadsFit new
 
 shrinks_of : (st new : Holdings) (n : ℕ) → Lets st new n → Shrinks st new
 shrinks_of st new n l = record {
@@ -57,92 +57,51 @@ other_of st new n q l s h e =
     let w : (in_slot st a.0 ≡ Some q) × (a.0 ≡ l.gone → ⊥) = l.stays a.0 q a.1 in
     w.1 (s a.0 l.gone n (w.0 ∙ ap (λ (x : ℕ). Some x) e) l.was)
 
--- a parent behind the walk
+-- what is behind
 pub lets_behind : (st : Holdings) (n : ℕ) → st.behind ≡ Some n → Lets st (record st { behind = None }) n
-lets_behind st n e = record { gone = At_behind; was = e; stays = stays; node = refl; source = inl (refl, refl); dest = inl (refl, refl); heads = λ h. h }
+lets_behind st n e = record { gone = At_behind; was = e; stays = stays; node = refl; source = inl (refl, refl); dest = inl (refl, refl) }
   where
     stays : (a : Slot) (q : ℕ) → in_slot (record st { behind = None }) a ≡ Some q → (in_slot st a ≡ Some q) × (a ≡ At_behind → ⊥)
     stays At_node q f = (f, λ i. cc)
     stays At_behind q f = cc
     stays At_source q f = (f, λ i. cc)
-    stays At_source_behind q f = (f, λ i. cc)
     stays At_dest q f = (f, λ i. cc)
-    stays At_dest_behind q f = (f, λ i. cc)
-    stays At_victim q f = (f, λ i. cc)
-
-none_walked : (w : Key) (q : ℕ) → if_walked w None ≡ Some q → ⊥
-none_walked [] q e = cc
-none_walked (x ∷ w) q e = cc
-
-has_walked : (w : Key) (behind : Option ℕ) (n : ℕ) → (w ≡ [] → behind ≡ None) → behind ≡ Some n → if_walked w behind ≡ Some n
-has_walked [] behind n h e = let z : ◌≡◌ {A = Option ℕ} None (Some n) = sym (h refl) ∙ e in cc
-has_walked (x ∷ w) behind n h e = e
-
--- a parent behind a head
-pub lets_source_behind : (st : Holdings) (n : ℕ) → HeadsFit st → st.source.behind ≡ Some n → Lets st (record st { source = head_left st.source }) n
-lets_source_behind st n fit e = record { gone = At_source_behind; was = has_walked st.source.walked st.source.behind n fit.0 e; stays = stays; node = refl; source = inl (refl, refl); dest = inl (refl, refl); heads = λ h. ((λ i. refl), h.1) }
-  where
-    stays : (a : Slot) (q : ℕ) → in_slot (record st { source = head_left st.source }) a ≡ Some q → (in_slot st a ≡ Some q) × (a ≡ At_source_behind → ⊥)
-    stays At_node q f = (f, λ i. cc)
-    stays At_behind q f = (f, λ i. cc)
-    stays At_source q f = (f, λ i. cc)
-    stays At_source_behind q f = absurd (none_walked st.source.walked q f)
-    stays At_dest q f = (f, λ i. cc)
-    stays At_dest_behind q f = (f, λ i. cc)
-    stays At_victim q f = (f, λ i. cc)
-
-pub lets_dest_behind : (st : Holdings) (n : ℕ) → HeadsFit st → st.dest.behind ≡ Some n → Lets st (record st { dest = head_left st.dest }) n
-lets_dest_behind st n fit e = record { gone = At_dest_behind; was = has_walked st.dest.walked st.dest.behind n fit.1 e; stays = stays; node = refl; source = inl (refl, refl); dest = inl (refl, refl); heads = λ h. (h.0, (λ i. refl)) }
-  where
-    stays : (a : Slot) (q : ℕ) → in_slot (record st { dest = head_left st.dest }) a ≡ Some q → (in_slot st a ≡ Some q) × (a ≡ At_dest_behind → ⊥)
-    stays At_node q f = (f, λ i. cc)
-    stays At_behind q f = (f, λ i. cc)
-    stays At_source q f = (f, λ i. cc)
-    stays At_source_behind q f = (f, λ i. cc)
-    stays At_dest q f = (f, λ i. cc)
-    stays At_dest_behind q f = absurd (none_walked st.dest.walked q f)
     stays At_victim q f = (f, λ i. cc)
 
 -- the last taken of a finished call
 lets_victim : (st : Holdings) (n : ℕ) → st.victim ≡ Some n → Lets st (record st { victim = None }) n
-lets_victim st n e = record { gone = At_victim; was = e; stays = stays; node = refl; source = inl (refl, refl); dest = inl (refl, refl); heads = λ h. h }
+lets_victim st n e = record { gone = At_victim; was = e; stays = stays; node = refl; source = inl (refl, refl); dest = inl (refl, refl) }
   where
     stays : (a : Slot) (q : ℕ) → in_slot (record st { victim = None }) a ≡ Some q → (in_slot st a ≡ Some q) × (a ≡ At_victim → ⊥)
     stays At_node q f = (f, λ i. cc)
     stays At_behind q f = (f, λ i. cc)
     stays At_source q f = (f, λ i. cc)
-    stays At_source_behind q f = (f, λ i. cc)
     stays At_dest q f = (f, λ i. cc)
-    stays At_dest_behind q f = (f, λ i. cc)
     stays At_victim q f = cc
 
 lets_dest : (st : Holdings) (n : ℕ) (x : Name) (w : Key) → st.dest.walked ≡ x ∷ w → st.dest.node ≡ n → Lets st (record st { dest = head_at st.node }) n
-lets_dest st n x w walked e = record { gone = At_dest; was = ap (λ (l : Key). if_walked l (Some st.dest.node)) walked ∙ ap (λ (m : ℕ). Some m) e; stays = stays; node = refl; source = inl (refl, refl); dest = inr (refl, refl); heads = λ h. (h.0, (λ i. refl)) }
+lets_dest st n x w walked e = record { gone = At_dest; was = ap (λ (l : Key). if_walked l (Some st.dest.node)) walked ∙ ap (λ (m : ℕ). Some m) e; stays = stays; node = refl; source = inl (refl, refl); dest = inr (refl, refl) }
   where
     stays : (a : Slot) (q : ℕ) → in_slot (record st { dest = head_at st.node }) a ≡ Some q → (in_slot st a ≡ Some q) × (a ≡ At_dest → ⊥)
     stays At_node q f = (f, λ i. cc)
     stays At_behind q f = (f, λ i. cc)
     stays At_source q f = (f, λ i. cc)
-    stays At_source_behind q f = (f, λ i. cc)
     stays At_dest q f = cc
-    stays At_dest_behind q f = cc
     stays At_victim q f = (f, λ i. cc)
 
 lets_source : (st : Holdings) (n : ℕ) (x : Name) (w : Key) → st.source.walked ≡ x ∷ w → st.source.node ≡ n → Lets st (record st { source = head_at st.node }) n
-lets_source st n x w walked e = record { gone = At_source; was = ap (λ (l : Key). if_walked l (Some st.source.node)) walked ∙ ap (λ (m : ℕ). Some m) e; stays = stays; node = refl; source = inr (refl, refl); dest = inl (refl, refl); heads = λ h. ((λ i. refl), h.1) }
+lets_source st n x w walked e = record { gone = At_source; was = ap (λ (l : Key). if_walked l (Some st.source.node)) walked ∙ ap (λ (m : ℕ). Some m) e; stays = stays; node = refl; source = inr (refl, refl); dest = inl (refl, refl) }
   where
     stays : (a : Slot) (q : ℕ) → in_slot (record st { source = head_at st.node }) a ≡ Some q → (in_slot st a ≡ Some q) × (a ≡ At_source → ⊥)
     stays At_node q f = (f, λ i. cc)
     stays At_behind q f = (f, λ i. cc)
     stays At_source q f = cc
-    stays At_source_behind q f = cc
     stays At_dest q f = (f, λ i. cc)
-    stays At_dest_behind q f = (f, λ i. cc)
     stays At_victim q f = (f, λ i. cc)
 
 -- how a call lets go
 pub data LetsGo (op : Record) (n : ℕ) : Type 0 where
-  On_way : (st new : Holdings) → IsUnfinished op → op.holdings ≡ Some st → left_holdings op.phase op.holdings ≡ Some new → (HeadsFit st → Lets st new n) → (new.victim ≡ st.victim) × (new.dest.node ≡ st.dest.node) × (new.dest.walked ≡ st.dest.walked) → LetsGo op n
+  On_way : (st new : Holdings) → IsUnfinished op → op.holdings ≡ Some st → left_holdings op.phase op.holdings ≡ Some new → Lets st new n → (new.victim ≡ st.victim) × (new.dest.node ≡ st.dest.node) × (new.dest.walked ≡ st.dest.walked) → LetsGo op n
   At_end : (st new : Holdings) (r : Reply) → op.phase ≡ Finished r → op.holdings ≡ Some st → left_holdings op.phase op.holdings ≡ Some new → Lets st new n → ((v : ℕ) → st.victim ≡ Some v → v ≡ n) → LetsGo op n
   Last : (st : Holdings) (r : Reply) → op.phase ≡ Finished r → op.holdings ≡ Some st → left_holdings op.phase op.holdings ≡ None → st.node ≡ n → ((v : ℕ) → st.victim ≡ Some v → v ≡ n) → LetsGo op n
 
@@ -163,47 +122,36 @@ dir_leaves None m n e = cc
 dir_leaves (Some (Dir names)) m n e = e
 dir_leaves (Some (File bytes)) m n e = cc
 
--- a head lets go, or the next move is the rest's
-head_leaves : (graph : Graph) (h : ℕ) (behind : Option ℕ) (l : Key) (m : Move) (n : ℕ) → first_of (head_move graph h behind l) m ≡ Leaves n → (behind ≡ Some n) ⊎ ((behind ≡ None) × (m ≡ Leaves n))
-head_leaves graph h (Some b) l m n e = inl (let z : b ≡ n = cc in ap (λ (x : ℕ). Some x) z)
-head_leaves graph h None [] m n e = inr (refl, e)
-head_leaves graph h None (x ∷ l) m n e = absurd (never_walk (graph.shape h) (graph.child h x) n e)
+step_leaves : (graph : Graph) (h : ℕ) (l : Key) (m : Move) (n : ℕ) → first_of (step_move graph h l) m ≡ Leaves n → m ≡ Leaves n
+step_leaves graph h [] m n e = e
+step_leaves graph h (x ∷ l) m n e = absurd (never_walk (graph.shape h) (graph.child h x) n e)
 
--- which of the three parents a call on its way lets go
-pub data Behind (st : Holdings) (n : ℕ) : Type 0 where
-  Walk : st.behind ≡ Some n → Behind st n
-  Source : st.behind ≡ None → st.source.behind ≡ Some n → Behind st n
-  Dest : st.behind ≡ None → st.source.behind ≡ None → st.dest.behind ≡ Some n → Behind st n
-
-pub behind_of_move : (graph : Graph) (rem : Form) (st : Holdings) (n : ℕ) → next_on graph rem st ≡ Leaves n → Behind st n
-behind_of_move graph rem st n m = walk (head_leaves graph st.node st.behind (target rem) (target_move graph rem st) n m)
+-- a call on its way lets nothing else go than what is behind
+pub behind_of_move : (graph : Graph) (rem : Form) (st : Holdings) (n : ℕ) → next_on graph rem st ≡ Leaves n → st.behind ≡ Some n
+behind_of_move graph rem st n m = go (leave_past st.behind (first_of (step_move graph st.node (target rem)) (target_move graph rem st)) n m)
   where
-    dest : (p q : Key) → st.behind ≡ None → st.source.behind ≡ None → (st.dest.behind ≡ Some n) ⊎ ((st.dest.behind ≡ None) × (dir_then (graph.shape st.dest.node) (rename_move graph p q st) ≡ Leaves n)) → Behind st n
-    dest p q i j (inl e) = Dest i j e
-    dest p q i j (inr e) = absurd (never_take (same_kind (entry_shape graph st.source.node (last_of p)) (entry_shape graph st.dest.node (last_of q)) && not (is_end (after_prefix p q)) && not (has_more (after_prefix q p))) (graph.child st.dest.node (last_of q)) st.victim (moved_node (rename_at graph p q st).1 (graph.child st.source.node (last_of p))) n (dir_leaves (graph.shape st.dest.node) (rename_move graph p q st) n e.1))
-
-    source : (p q : Key) → st.behind ≡ None → (st.source.behind ≡ Some n) ⊎ ((st.source.behind ≡ None) × (dir_then (graph.shape st.source.node) (first_of (head_move graph st.dest.node st.dest.behind (left st.dest.walked (parent_of q))) (dir_then (graph.shape st.dest.node) (rename_move graph p q st))) ≡ Leaves n)) → Behind st n
-    source p q i (inl e) = Source i e
-    source p q i (inr e) = dest p q i e.0 (head_leaves graph st.dest.node st.dest.behind (left st.dest.walked (parent_of q)) (dir_then (graph.shape st.dest.node) (rename_move graph p q st)) n (dir_leaves (graph.shape st.source.node) (first_of (head_move graph st.dest.node st.dest.behind (left st.dest.walked (parent_of q))) (dir_then (graph.shape st.dest.node) (rename_move graph p q st))) n e.1))
-
-    there : (rem : Form) → st.behind ≡ None → target_move graph rem st ≡ Leaves n → Behind st n
-    there (AtNode c p) i e = absurd (none e)
+    there : (rem : Form) → target_move graph rem st ≡ Leaves n → ⊥
+    there (AtNode c p) e = none e
       where
         none : Finishes None ≡ Leaves n → ⊥
         none e = cc
-    there (AtEntry c p) i e = absurd (never_take (victim_of c (entry_shape graph st.node (last_of p))) (graph.child st.node (last_of p)) st.victim None n e)
-    there (AtPair pairs.Rename p q) i e =
-        let rest : Move = dir_then (graph.shape st.source.node) (first_of (head_move graph st.dest.node st.dest.behind (left st.dest.walked (parent_of q))) (dir_then (graph.shape st.dest.node) (rename_move graph p q st))) in
-        source p q i (head_leaves graph st.source.node st.source.behind (left st.source.walked (parent_of p)) rest n (dir_leaves (graph.shape st.node) (first_of (head_move graph st.source.node st.source.behind (left st.source.walked (parent_of p))) rest) n e))
+    there (AtEntry c p) e = never_take (victim_of c (entry_shape graph st.node (last_of p))) (graph.child st.node (last_of p)) st.victim None n e
+    there (AtPair pairs.Rename p q) e =
+        let at_dest : Move = dir_then (graph.shape st.dest.node) (rename_move graph p q st) in
+        let second : Move = first_of (step_move graph st.dest.node (left st.dest.walked (parent_of q))) at_dest in
+        let rest : Move = dir_then (graph.shape st.source.node) second in
+        let first : Move = first_of (step_move graph st.source.node (left st.source.walked (parent_of p))) rest in
+        let a : rest ≡ Leaves n = step_leaves graph st.source.node (left st.source.walked (parent_of p)) rest n (dir_leaves (graph.shape st.node) first n e) in
+        let b : at_dest ≡ Leaves n = step_leaves graph st.dest.node (left st.dest.walked (parent_of q)) at_dest n (dir_leaves (graph.shape st.source.node) second n a) in
+        never_take (same_kind (entry_shape graph st.source.node (last_of p)) (entry_shape graph st.dest.node (last_of q)) && not (is_end (after_prefix p q)) && not (has_more (after_prefix q p))) (graph.child st.dest.node (last_of q)) st.victim (moved_node (rename_at graph p q st).1 (graph.child st.source.node (last_of p))) n
+        (dir_leaves (graph.shape st.dest.node) (rename_move graph p q st) n b)
 
-    walk : (st.behind ≡ Some n) ⊎ ((st.behind ≡ None) × (target_move graph rem st ≡ Leaves n)) → Behind st n
-    walk (inl e) = Walk e
-    walk (inr e) = there rem e.0 e.1
+    go : (st.behind ≡ Some n) ⊎ (first_of (step_move graph st.node (target rem)) (target_move graph rem st) ≡ Leaves n) → st.behind ≡ Some n
+    go (inl e) = e
+    go (inr e) = absurd (there rem (step_leaves graph st.node (target rem) (target_move graph rem st) n e))
 
-on_way : (op : Record) (n : ℕ) (st : Holdings) → IsUnfinished op → op.holdings ≡ Some st → left_holdings op.phase op.holdings ≡ Some (left_behind st st.behind st.source.behind) → Behind st n → LetsGo op n
-on_way op n st u on is (Walk e) = On_way st (record st { behind = None }) u on (is ∙ ap (λ (b : Option ℕ). Some (left_behind st b st.source.behind)) e) (λ h. lets_behind st n e) (refl, refl, refl)
-on_way op n st u on is (Source i e) = On_way st (record st { source = head_left st.source }) u on (is ∙ ap₂ (λ (b s : Option ℕ). Some (left_behind st b s)) i e) (λ h. lets_source_behind st n h e) (refl, refl, refl)
-on_way op n st u on is (Dest i j e) = On_way st (record st { dest = head_left st.dest }) u on (is ∙ ap₂ (λ (b s : Option ℕ). Some (left_behind st b s)) i j) (λ h. lets_dest_behind st n h e) (refl, refl, refl)
+on_way : (op : Record) (n : ℕ) (st : Holdings) → IsUnfinished op → op.holdings ≡ Some st → left_holdings op.phase op.holdings ≡ Some (record st { behind = None }) → st.behind ≡ Some n → LetsGo op n
+on_way op n st u on is e = On_way st (record st { behind = None }) u on is (lets_behind st n e) (refl, refl, refl)
 
 no_victim : (o : Option ℕ) (n : ℕ) → o ≡ None → (v : ℕ) → o ≡ Some v → v ≡ n
 no_victim o n e v f = let z : ◌≡◌ {A = Option ℕ} None (Some v) = sym e ∙ f in cc
@@ -262,9 +210,9 @@ own_left : (graph : Graph) (op : Record) (s : Option Holdings) → Own graph op
     → ((i : ℕ) → op.phase ≡ Placed i → (st : Holdings) × (s ≡ Some st))
     → (IsUnfinished op → (st : Holdings) → s ≡ Some st → VictimAt graph op.remaining st)
     → (IsUnfinished op → s ≡ None → op.walked ≡ [])
-    → ((st : Holdings) → s ≡ Some st → IsSingle st × HeadsFit st)
+    → ((st : Holdings) → s ≡ Some st → IsSingle st)
     → Own graph (after_left op s)
-own_left graph op s o well placed victim starts fit = record {
+own_left graph op s o well placed victim starts single = record {
   parts = o.parts;
   well = well;
   spare = o.spare;
@@ -275,8 +223,7 @@ own_left graph op s o well placed victim starts fit = record {
   one_spare = λ m e f. cc;
   victim = victim;
   starts = starts;
-  single = λ st e. (fit st e).0;
-  heads = λ st e. (fit st e).1;
+  single = single;
 }
 
 -- the state keeps all, where the graph has the same entries
@@ -393,7 +340,7 @@ keeps_let_go n old new seat inv (c, op, moves, same) = subst Invariant (sym same
         placed
         (λ u s e. subst (VictimAt old.graph op.remaining) (some_is left s e) (victim u))
         (λ u e. cc)
-        (λ s e. subst (λ (x : Holdings). IsSingle x × HeadsFit x) (some_is left s e) (single_of st left n l (own.single st on), l.heads (own.heads st on))) in
+        (λ s e. subst IsSingle (some_is left s e) (single_of st left n l (own.single st on))) in
         let_either old inv c op n (Some left) moves.1 left_is only kept own_new held_n
         (λ s q e h. (let w : Holds left q = subst (λ (x : Holdings). Holds x q) (sym (some_is left s e)) h in (inv.held c op st q moves.1 on ((shrinks_of st left n l).holds q w), other_of st left n q l (own.single st on) w)))
 
@@ -405,8 +352,7 @@ keeps_let_go n old new seat inv (c, op, moves, same) = subst Invariant (sym same
         f m (ap (λ (s : Holdings). s.victim) (sym (some_is g.0 st z)) ∙ g.2)
 
     go : LetsGo op n → Invariant (letting_go old c op n)
-    go (On_way st left u on left_is lets same) =
-        let l : Lets st left n = lets (own.heads st on) in
+    go (On_way st left u on left_is l same) =
         in_place st left on left_is l (λ m e. (let z : ◌≡◌ {A = Option ℕ} None (Some m) = sym (own.intact u) ∙ e in cc)) (λ i e. (left, refl)) (λ v. victim_left old.graph st left op.remaining l.node same (own.victim u st on))
     go (At_end st left r ph on left_is l only) =
         in_place st left on left_is l (removed_is st on only) (λ i e. (let z : ◌≡◌ {A = Phase} (Finished r) (Placed i) = sym ph ∙ e in cc)) (λ u. absurd (u r ph))

@@ -6,7 +6,8 @@ use Rattle.fs_names.specs.Parts.{HasNames}
 use Rattle.fs_laws.specs.Maps.{Map, move}
 use Rattle.fs_nodes.specs.Graphs.{set_at}
 use Rattle.fs_machine.specs.Finishes.{Effect}
-use Rattle.fs_machine.specs.Records.{Finished, Head, HeadHolds, Holds, Record, Records, Phase, Placed, Holdings, Walking}
+use Rattle.fs_machine.specs.Moves.{behind_of, victim_took, dest_stepped, source_stepped}
+use Rattle.fs_machine.specs.Records.{Finished, Holds, Record, Records, Phase, Placed, Holdings, Walking}
 use Rattle.fs_laws.specs.Placed.{rekey_by}
 use Rattle.fs_laws.specs.CallFacts.{IsAfter, IsClear, IsFree, Keeps, CallFacts, Pair, Shrinks}
 use Rattle.fs_machine.specs.Leaving.{finished_op}
@@ -173,12 +174,15 @@ takes_walk tree k st new x n here at_n node behind source dest victim = record {
     grows q (inr (inr (inr (inl h)))) = absurd (subst HasNames dest h.0)
     grows q (inr (inr (inr (inr h)))) = let e : ◌≡◌ {A = Option ℕ} None (Some q) = sym victim ∙ h in cc
 
--- the take of the next node of the source head; of the destination head in the same way
-pub takes_source : (tree : Map ℕ) (k : Key) (st new : Holdings) (x : Name) (n : ℕ) → tree (k ++ st.source.walked) ≡ Some st.source.node → Holds st st.source.node → tree ((k ++ st.source.walked) ++ x ∷ []) ≡ Some n
-    → new.node ≡ st.node → new.behind ≡ st.behind → new.dest ≡ st.dest → new.victim ≡ st.victim
-    → new.source.node ≡ n → new.source.walked ≡ st.source.walked ++ x ∷ [] → ((m : ℕ) → new.source.behind ≡ Some m → Holds st m)
-    → Takes tree k st k new n
-takes_source tree k st new x n here held at_n node behind dest victim source walked left = record {
+-- what a head's step leaves behind was held
+behind_held : (st : Holdings) (w : Key) (node m : ℕ) → Holds st node → behind_of w node ≡ Some m → Holds st m
+behind_held st [] node m h e = cc
+behind_held st (x ∷ w) node m h e = let z : node ≡ m = cc in subst (Holds st) z h
+
+-- the take of the next node of the source head
+pub takes_source : (tree : Map ℕ) (k : Key) (st : Holdings) (x : Name) (n : ℕ) → tree (k ++ st.source.walked) ≡ Some st.source.node → Holds st st.source.node → tree ((k ++ st.source.walked) ++ x ∷ []) ≡ Some n
+    → Takes tree k st k (source_stepped st x n) n
+takes_source tree k st x n here held at_n = record {
   parent_key = k ++ st.source.walked;
   parent = st.source.node;
   name = x;
@@ -187,27 +191,20 @@ takes_source tree k st new x n here held at_n node behind dest victim source wal
   node_at = at_n;
   grows = grows;
   position = inl refl;
-  source = λ other apart clear. rw walked (clear_walk tree k st.source.walked x st.source.node st other here held apart clear);
-  dest = λ other apart clear. rw dest clear;
+  source = λ other apart clear. clear_walk tree k st.source.walked x st.source.node st other here held apart clear;
+  dest = λ other apart clear. clear;
 }
   where
-    grows : (q : ℕ) → Holds new q → Holds st q ⊎ (q ≡ n)
-    grows q (inl h) = inl (inl (sym node ∙ h))
-    grows q (inr (inl h)) = inl (inr (inl (sym behind ∙ h)))
-    grows q (inr (inr (inl h))) = by h.1
-      where
-        by : (new.source.node ≡ q) ⊎ (new.source.behind ≡ Some q) → Holds st q ⊎ (q ≡ n)
-        by (inl i) = inr (sym i ∙ source)
-        by (inr i) = inl (left q i)
-    grows q (inr (inr (inr (inl h)))) = inl (inr (inr (inr (inl (subst (λ (d : Head). HeadHolds d q) dest h)))))
-    grows q (inr (inr (inr (inr h)))) = inl (inr (inr (inr (inr (sym victim ∙ h)))))
+    grows : (q : ℕ) → Holds (source_stepped st x n) q → Holds st q ⊎ (q ≡ n)
+    grows q (inl h) = inl (inl h)
+    grows q (inr (inl h)) = inl (behind_held st st.source.walked st.source.node q held h)
+    grows q (inr (inr (inl h))) = inr (sym h.1)
+    grows q (inr (inr (inr h))) = inl (inr (inr (inr h)))
 
 -- the take of the next node of the destination head
-pub takes_dest : (tree : Map ℕ) (k : Key) (st new : Holdings) (x : Name) (n : ℕ) → tree (k ++ st.dest.walked) ≡ Some st.dest.node → Holds st st.dest.node → tree ((k ++ st.dest.walked) ++ x ∷ []) ≡ Some n
-    → new.node ≡ st.node → new.behind ≡ st.behind → new.source ≡ st.source → new.victim ≡ st.victim
-    → new.dest.node ≡ n → new.dest.walked ≡ st.dest.walked ++ x ∷ [] → ((m : ℕ) → new.dest.behind ≡ Some m → Holds st m)
-    → Takes tree k st k new n
-takes_dest tree k st new x n here held at_n node behind dest victim source walked left = record {
+pub takes_dest : (tree : Map ℕ) (k : Key) (st : Holdings) (x : Name) (n : ℕ) → tree (k ++ st.dest.walked) ≡ Some st.dest.node → Holds st st.dest.node → tree ((k ++ st.dest.walked) ++ x ∷ []) ≡ Some n
+    → Takes tree k st k (dest_stepped st x n) n
+takes_dest tree k st x n here held at_n = record {
   parent_key = k ++ st.dest.walked;
   parent = st.dest.node;
   name = x;
@@ -216,24 +213,20 @@ takes_dest tree k st new x n here held at_n node behind dest victim source walke
   node_at = at_n;
   grows = grows;
   position = inl refl;
-  dest = λ other apart clear. rw walked (clear_walk tree k st.dest.walked x st.dest.node st other here held apart clear);
-  source = λ other apart clear. rw dest clear;
+  source = λ other apart clear. clear;
+  dest = λ other apart clear. clear_walk tree k st.dest.walked x st.dest.node st other here held apart clear;
 }
   where
-    grows : (q : ℕ) → Holds new q → Holds st q ⊎ (q ≡ n)
-    grows q (inl h) = inl (inl (sym node ∙ h))
-    grows q (inr (inl h)) = inl (inr (inl (sym behind ∙ h)))
-    grows q (inr (inr (inr (inl h)))) = by h.1
-      where
-        by : (new.dest.node ≡ q) ⊎ (new.dest.behind ≡ Some q) → Holds st q ⊎ (q ≡ n)
-        by (inl i) = inr (sym i ∙ source)
-        by (inr i) = inl (left q i)
-    grows q (inr (inr (inl h))) = inl (inr (inr (inl (subst (λ (d : Head). HeadHolds d q) dest h))))
-    grows q (inr (inr (inr (inr h)))) = inl (inr (inr (inr (inr (sym victim ∙ h)))))
+    grows : (q : ℕ) → Holds (dest_stepped st x n) q → Holds st q ⊎ (q ≡ n)
+    grows q (inl h) = inl (inl h)
+    grows q (inr (inl h)) = inl (behind_held st st.dest.walked st.dest.node q held h)
+    grows q (inr (inr (inl h))) = inl (inr (inr (inl h)))
+    grows q (inr (inr (inr (inl h)))) = inr (sym h.1)
+    grows q (inr (inr (inr (inr h)))) = inl (inr (inr (inr (inr h))))
 
 -- the take of a victim
 pub takes_victim : (tree : Map ℕ) (k : Key) (st : Holdings) (parent_key : Key) (parent : ℕ) (x : Name) (n : ℕ) → tree parent_key ≡ Some parent → Holds st parent → tree (parent_key ++ x ∷ []) ≡ Some n
-    → Takes tree k st k (record st { victim = Some n }) n
+    → Takes tree k st k (victim_took st n) n
 takes_victim tree k st parent_key parent x n here held at_n = record {
   parent_key = parent_key;
   parent = parent;
@@ -247,7 +240,7 @@ takes_victim tree k st parent_key parent x n here held at_n = record {
   dest = λ other apart clear. clear;
 }
   where
-    grows : (q : ℕ) → Holds (record st { victim = Some n }) q → Holds st q ⊎ (q ≡ n)
+    grows : (q : ℕ) → Holds (victim_took st n) q → Holds st q ⊎ (q ≡ n)
     grows q (inl h) = inl (inl h)
     grows q (inr (inl h)) = inl (inr (inl h))
     grows q (inr (inr (inl h))) = inl (inr (inr (inl h)))

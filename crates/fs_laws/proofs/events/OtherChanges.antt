@@ -167,7 +167,7 @@ victim_off tree ops key c op st t v kept is on vic at_t own d q other e f = by (
       where
         more : (w : Key) → h.walked ≡ w → ⊥
         more [] z = apart n (inl (at_node (key d) other.node k.located.here (sym (append-nil (key d)) ∙ ap (λ (l : Key). key d ++ l) (sym z) ∙ j)))
-        more (x ∷ w) z = apart n (into (subst HasNames (sym z) tt, inl (at_node (key d ++ h.walked) h.node i j)))
+        more (x ∷ w) z = apart n (into (subst HasNames (sym z) tt, at_node (key d ++ h.walked) h.node i j))
 
     by : (b : Bool) → eqb d c ≡ b → (key d ≡ t → ⊥) × ((key d ++ other.source.walked ≡ t → ⊥) × (key d ++ other.dest.walked ≡ t → ⊥))
     by true e2 = let i : d ≡ c = eqb_true d c e2 in rw (i, mine i) own

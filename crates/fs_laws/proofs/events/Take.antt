@@ -12,11 +12,11 @@ use Rattle.fs_calls.specs.declared.call.Call.{Call}
 use Rattle.fs_calls.specs.declared.errno.Errno.{Errno}
 use Rattle.fs_calls.specs.declared.reply.Reply.{Reply}
 use Rattle.fs_nodes.specs.Graphs.{Graph, numbers, set_at}
-use Rattle.fs_machine.specs.Moves.{next, next_by, next_on, first_of, head_move, walk_move, target, inner, took, took_by}
+use Rattle.fs_machine.specs.Moves.{next, next_by, next_on, first_of, step_move, walk_move, target, inner, took, took_by}
 use Rattle.fs_machine.specs.declared.moves.Move.{Move}
 use Rattle.fs_machine.specs.declared.moves.Move.TheVariants.{Take as Takes}
 use Rattle.fs_machine.specs.Records.{Phase, Walking, Placed, Finished, Holds, Record, Holdings, holdings_at}
-use Rattle.fs_laws.specs.Invariants.{ForkedAt, HeadsSound, NumberFor, VictimAt, HasSpare, HeadsFit, IsSingle, IsUnfinished, Own, Invariant}
+use Rattle.fs_laws.specs.Invariants.{ForkedAt, HeadsSound, NumberFor, VictimAt, HasSpare, IsSingle, IsUnfinished, Own, Invariant}
 use Rattle.fs_laws.specs.CallFacts.{IsFree, Keeps, CallFacts}
 use Rattle.fs_machine.specs.States.{State, taking}
 use Rattle.fs_laws.proofs.trees.Prefixes.{same_true}
@@ -136,7 +136,6 @@ own_fresh graph op v n behind o unf phase reserved removed call on parts number 
   victim = λ u st e. subst (λ (s : Holdings). VictimAt graph v.remaining s) (holdings_is st e) (fresh_victim graph n behind v.remaining);
   starts = λ u e. (let z : ◌≡◌ {A = Option Holdings} None (Some (holdings_at n behind)) = sym e ∙ on in cc);
   single = λ st e. subst IsSingle (holdings_is st e) (single_at n behind differs);
-  heads = λ st e. subst HeadsFit (holdings_is st e) ((λ i. refl), (λ i. refl));
 }
   where
     none_some : (m : ℕ) → ◌≡◌ {A = Option ℕ} None (Some m) → ⊥
@@ -242,13 +241,8 @@ walk_takes (Some (File bytes)) child n e = cc
 walk_takes (Some (Dir names)) None n e = cc
 walk_takes (Some (Dir names)) (Some m) n e = cc
 
-pub head_takes : (graph : Graph) (h : ℕ) (behind : Option ℕ) (x : Name) (l : Key) (m : Move) (n : ℕ) → first_of (head_move graph h behind (x ∷ l)) m ≡ Takes n → (behind ≡ None) × (graph.child h x ≡ Some n)
-head_takes graph h (Some b) x l m n e = cc
-head_takes graph h None x l m n e = (refl, walk_takes (graph.shape h) (graph.child h x) n e)
-
-pub head_passes : (graph : Graph) (h : ℕ) (behind : Option ℕ) (m : Move) (n : ℕ) → first_of (head_move graph h behind []) m ≡ Takes n → (behind ≡ None) × (m ≡ Takes n)
-head_passes graph h (Some b) m n e = cc
-head_passes graph h None m n e = (refl, e)
+pub step_takes : (graph : Graph) (h : ℕ) (x : Name) (l : Key) (m : Move) (n : ℕ) → first_of (step_move graph h (x ∷ l)) m ≡ Takes n → graph.child h x ≡ Some n
+step_takes graph h x l m n e = walk_takes (graph.shape h) (graph.child h x) n e
 
 -- the next node on the way to the target
 pub take_walk : (old : State) (inv : Invariant old) (c : ℕ) (op : Record) (n : ℕ) (st : Holdings) (x : Name) (l : Key) → Taker old inv c op n → op.holdings ≡ Some st → target op.remaining ≡ x ∷ l → old.graph.child st.node x ≡ Some n → Invariant (taking old c op n)

@@ -8,7 +8,7 @@ use Rattle.fs_calls.specs.Forms.{AtPair, Fits}
 use Rattle.fs_calls.specs.declared.target.PairCall.TheVariants as pairs
 use Rattle.fs_calls.specs.Rows.{to_row}
 use Rattle.fs_nodes.specs.Graphs.{Graph, at, then_at, entry_shape, IsGraph}
-use Rattle.fs_machine.specs.Moves.{first_of, head_move, take_if, same_kind, fork_move, rename_move, dir_then, dir_error, rename_at, there_by, moved_node}
+use Rattle.fs_machine.specs.Moves.{first_of, step_move, take_if, same_kind, fork_move, rename_move, dir_then, dir_error, rename_at, there_by, moved_node}
 use Rattle.fs_machine.specs.declared.moves.Move.{Move}
 use Rattle.fs_machine.specs.declared.moves.Move.TheVariants.{Finish as Finishes}
 use Rattle.fs_machine.specs.Records.{Holdings}
@@ -16,7 +16,7 @@ use Rattle.fs_laws.specs.Invariants.{Forked, VictimAt}
 use Rattle.fs_laws.specs.Placed.{Aside}
 use Rattle.fs_laws.proofs.graphs.Walks.{then_some}
 use Rattle.fs_laws.proofs.finish.Readings.{arrived}
-use Rattle.fs_laws.proofs.finish.Replies.{head_stops, Leaf, some_entry}
+use Rattle.fs_laws.proofs.finish.Replies.{step_stops, Leaf, some_entry}
 use Rattle.fs_laws.proofs.finish.TreeAfter.{Really, really, full_row, paths_aside}
 use Rattle.fs_laws.proofs.helping.ReadsNothingBelow.{take_done}
 
@@ -72,11 +72,11 @@ at_entries graph is p q st o f es ed e =
     let dd : (names : List Name) × (graph.shape st.dest.node ≡ Some (Dir names)) = dir_of_none (left st.dest.walked (parent_of q)) (graph.shape st.dest.node) ed in
     let nd : (names : List Name) × (graph.shape st.node ≡ Some (Dir names)) = walked_dir graph is st.node st.source.node st.source.walked sd.0 f.source_at sd.1 in
     let rest2 : Move = dir_then (graph.shape st.dest.node) (rename_move graph p q st) in
-    let rest1 : Move = dir_then (graph.shape st.source.node) (first_of (head_move graph st.dest.node st.dest.behind (left st.dest.walked (parent_of q))) rest2) in
-    let a : first_of (head_move graph st.source.node st.source.behind (left st.source.walked (parent_of p))) rest1 ≡ Finishes o = dir_then_is (graph.shape st.node) nd.0 (first_of (head_move graph st.source.node st.source.behind (left st.source.walked (parent_of p))) rest1) o nd.1 e in
-    let b : rest1 ≡ Finishes o = (head_stops graph st.source.node st.source.behind (left st.source.walked (parent_of p)) rest1 o a).1 (arrived (left st.source.walked (parent_of p)) (graph.shape st.source.node) es) in
-    let c : first_of (head_move graph st.dest.node st.dest.behind (left st.dest.walked (parent_of q))) rest2 ≡ Finishes o = dir_then_is (graph.shape st.source.node) sd.0 (first_of (head_move graph st.dest.node st.dest.behind (left st.dest.walked (parent_of q))) rest2) o sd.1 b in
-    let d : rest2 ≡ Finishes o = (head_stops graph st.dest.node st.dest.behind (left st.dest.walked (parent_of q)) rest2 o c).1 (arrived (left st.dest.walked (parent_of q)) (graph.shape st.dest.node) ed) in
+    let rest1 : Move = dir_then (graph.shape st.source.node) (first_of (step_move graph st.dest.node (left st.dest.walked (parent_of q))) rest2) in
+    let a : first_of (step_move graph st.source.node (left st.source.walked (parent_of p))) rest1 ≡ Finishes o = dir_then_is (graph.shape st.node) nd.0 (first_of (step_move graph st.source.node (left st.source.walked (parent_of p))) rest1) o nd.1 e in
+    let b : rest1 ≡ Finishes o = (step_stops graph st.source.node (left st.source.walked (parent_of p)) rest1 o a).1 (arrived (left st.source.walked (parent_of p)) (graph.shape st.source.node) es) in
+    let c : first_of (step_move graph st.dest.node (left st.dest.walked (parent_of q))) rest2 ≡ Finishes o = dir_then_is (graph.shape st.source.node) sd.0 (first_of (step_move graph st.dest.node (left st.dest.walked (parent_of q))) rest2) o sd.1 b in
+    let d : rest2 ≡ Finishes o = (step_stops graph st.dest.node (left st.dest.walked (parent_of q)) rest2 o c).1 (arrived (left st.dest.walked (parent_of q)) (graph.shape st.dest.node) ed) in
     dir_then_is (graph.shape st.dest.node) dd.0 (rename_move graph p q st) o dd.1 d
 
 -- a victim that the kinds ask for is held

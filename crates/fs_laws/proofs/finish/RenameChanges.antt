@@ -15,7 +15,7 @@ use Rattle.fs_calls.specs.declared.reply.Reply.{Reply}
 use Rattle.fs_calls.specs.declared.reply.Reply.TheVariants.{Failed}
 use Rattle.fs_nodes.specs.Graphs.{Graph, at, numbers, graph_shapes, entry_shape, moved_in}
 use Rattle.fs_machine.specs.Finishes.{move_effect, rename_effect, effect_at}
-use Rattle.fs_machine.specs.Moves.{first_of, head_move, take_if, same_kind, next_on, entry_move, fork_move, rename_move, moved_node, path_error, dir_error, walk_errno, rename_at}
+use Rattle.fs_machine.specs.Moves.{first_of, step_move, take_if, same_kind, next_on, entry_move, fork_move, rename_move, moved_node, path_error, dir_error, walk_errno, rename_at}
 use Rattle.fs_machine.specs.declared.moves.Move.TheVariants.{Finish as Finishes}
 use Rattle.fs_machine.specs.Records.{Walking, Record, Records, Holdings}
 use Rattle.fs_laws.specs.Invariants.{ForkedAt, HeadsSound, VictimAt}
@@ -27,7 +27,8 @@ use Rattle.fs_laws.proofs.graphs.Walks.{at_before, at_child, at_from, then_some}
 use Rattle.fs_laws.proofs.trees.Commuting.{put_other}
 use Rattle.fs_laws.proofs.graphs.TreesOfChanges.{CanMove, numbers_moved, move_one}
 use Rattle.fs_laws.proofs.finish.Readings.{Stops, ForkAt, below_is, dir_read, rename_finish, arrived}
-use Rattle.fs_laws.proofs.finish.Replies.{head_stops, fork_stops, common_is, leaf_children}
+use Rattle.fs_laws.proofs.calls.Behind.{finish_on}
+use Rattle.fs_laws.proofs.finish.Replies.{step_stops, fork_stops, common_is, leaf_children}
 use Rattle.fs_laws.proofs.events.OneCallChanged.{kept_move}
 use Rattle.fs_laws.proofs.events.OtherChanges.{kept_cut, victim_off}
 use Rattle.fs_laws.proofs.helping.MovesSpareOthers.{Moves, spares_of}
@@ -177,7 +178,7 @@ does_move graph ops key c op st o p q ws r f rem fits real moved_is = subst (λ 
 
 does_rename : (graph : Graph) (ops : Records) (key : ℕ → Key) (c : ℕ) (op : Record) (st : Holdings) (o : Option ℕ) (p q : Key) (s : Shape) → Finisher graph ops key c op st o → op.remaining ≡ AtPair pairs.Rename p q → Fits (AtPair pairs.Rename p q) → graph.shape st.node ≡ Some s
     → Does graph ops key st op.reserved (change_under (key c) (looked (below (key c) (graph_shapes graph)) (AtPair pairs.Rename p q)).1) (effect_at graph (AtPair pairs.Rename p q) st op.reserved)
-does_rename graph ops key c op st o p q s f rem fits u = go (common (parent_of p) (parent_of q)) refl (subst (λ (x : Form). HeadsSound graph st.node x st) rem f.well) (ap (λ (x : Form). next_on graph x st) (sym rem) ∙ f.next)
+does_rename graph ops key c op st o p q s f rem fits u = go (common (parent_of p) (parent_of q)) refl (subst (λ (x : Form). HeadsSound graph st.node x st) rem f.well) (finish_on graph (AtPair pairs.Rename p q) st o (ap (λ (x : Form). next_on graph x st) (sym rem) ∙ f.next))
   where
     loc : Located (numbers graph) (key c) st
     loc = (f.kept.each c op st f.is f.on).located
@@ -188,10 +189,10 @@ does_rename graph ops key c op st o p q s f rem fits u = go (common (parent_of p
     row : Reply × Bool
     row = rename_row (resolve_dir (below (key c) (graph_shapes graph)) (parent_of p)) (resolve_dir (below (key c) (graph_shapes graph)) (parent_of q)) (graph_shapes graph (key c ++ p)) (is_end (after_prefix p q)) (graph_shapes graph (key c ++ q)) (is_end (after_prefix (parent_of p) (parent_of q)) || not (is_full (graph_shapes graph (key c ++ parent_of q))))
 
-    go : (l : Key) → common (parent_of p) (parent_of q) ≡ l → ForkedAt graph st.node p q st l → first_of (head_move graph st.node st.behind l) (fork_move graph p q st) ≡ Finishes o
+    go : (l : Key) → common (parent_of p) (parent_of q) ≡ l → ForkedAt graph st.node p q st l → first_of (step_move graph st.node l) (fork_move graph p q st) ≡ Finishes o
         → Does graph ops key st op.reserved (ch row.1) (rename_effect graph p q st op.reserved l)
     go (x ∷ l) i w e =
-        let stop : Stops graph st.node (x ∷ l) = (head_stops graph st.node st.behind (x ∷ l) (fork_move graph p q st) o e).0 in
+        let stop : Stops graph st.node (x ∷ l) = (step_stops graph st.node (x ∷ l) (fork_move graph p q st) o e).0 in
         let r : (r : Key) × (parent_of p ≡ common (parent_of p) (parent_of q) ++ r) = common_is (parent_of p) (parent_of q) in
         let d : parent_of p ≡ x ∷ (l ++ r.0) = r.1 ∙ ap (λ (z : Key). z ++ r.0) i in
         let res : resolve_dir (below (key c) (graph_shapes graph)) (parent_of p) ≡ Some (walk_errno (graph.shape st.node)) =
@@ -201,7 +202,7 @@ does_rename graph ops key c op st o p q s f rem fits u = go (common (parent_of p
     go [] i w e = by (rename_at graph p q st).1 refl
       where
         fork : fork_move graph p q st ≡ Finishes o
-        fork = (head_stops graph st.node st.behind [] (fork_move graph p q st) o e).1 refl
+        fork = (step_stops graph st.node [] (fork_move graph p q st) o e).1 refl
 
         stops : ForkAt graph st.node p q st
         stops = fork_stops graph f.is_graph st.node p q st o refl w fork
@@ -248,7 +249,7 @@ does graph ops key c op st o s f fits u = go op.remaining refl
         does_in graph ops key c op st o e p (parent_of p) (names_of (graph_shapes graph (key c ++ parent_of p))) (last_of p) p (entry_row e (resolve_dir (below (key c) (graph_shapes graph)) (parent_of p)) (is_full (graph_shapes graph (key c ++ parent_of p))) (graph_shapes graph (key c ++ p))).1
         (dir_error (parent_of p) (graph.shape st.node)) (is_full (graph.shape st.node)) f i
         (λ h. dir_of_none (parent_of p) (graph.shape st.node) h)
-        (λ h. (head_stops graph st.node st.behind (parent_of p) (entry_move graph e (last_of p) st) o n).1 (arrived (parent_of p) (graph.shape st.node) h))
+        (λ h. (step_stops graph st.node (parent_of p) (entry_move graph e (last_of p) st) o (finish_on graph (AtEntry e p) st o n)).1 (arrived (parent_of p) (graph.shape st.node) h))
         (entry_row e (dir_error (parent_of p) (graph.shape st.node)) (is_full (graph.shape st.node)) (entry_shape graph st.node (last_of p))) refl
     by (AtPair pairs.Rename p q) i fit n = does_rename graph ops key c op st o p q s f i fit u
 

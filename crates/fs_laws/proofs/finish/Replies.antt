@@ -17,11 +17,12 @@ use Rattle.fs_calls.specs.declared.reply.Reply.{Reply}
 use Rattle.fs_calls.specs.declared.reply.Reply.TheVariants.{Done, Failed}
 use Rattle.fs_nodes.specs.Graphs.{Graph, then_at, at, numbers, graph_shapes, entry_shape, IsGraph, unlinked_in}
 use Rattle.fs_machine.specs.Finishes.{node_effect, entry_effect, move_effect, rename_effect, effect_at}
-use Rattle.fs_machine.specs.Moves.{first_of, head_move, dir_then, fork_move, rename_move, target_move, next_on, walk_move, walk_errno, path_error, dir_error, rename_at}
+use Rattle.fs_machine.specs.Moves.{first_of, step_move, dir_then, fork_move, rename_move, target_move, next_on, walk_move, walk_errno, path_error, dir_error, rename_at}
 use Rattle.fs_machine.specs.declared.moves.Move.{Move}
 use Rattle.fs_machine.specs.declared.moves.Move.TheVariants.{Finish as Finishes}
 use Rattle.fs_machine.specs.Records.{Holdings}
 use Rattle.fs_laws.specs.Invariants.{Forked, ForkedAt, HeadsSound, HasNumber}
+use Rattle.fs_laws.proofs.calls.Behind.{finish_on}
 use Rattle.fs_laws.proofs.calls.Located.{outcome_located, change_under, in_more, from_more, to_more}
 use Rattle.fs_laws.proofs.graphs.Walks.{then_some}
 use Rattle.fs_laws.proofs.graphs.TreesOfChanges.{resolve_at, shapes_linked, shapes_unlinked}
@@ -34,10 +35,9 @@ walk_none (Some (File bytes)) k o e = refl
 walk_none (Some (Dir names)) None o e = refl
 walk_none (Some (Dir names)) (Some m) o e = cc
 
-pub head_stops : (graph : Graph) (n : ℕ) (behind : Option ℕ) (l : Key) (m : Move) (s : Option ℕ) → first_of (head_move graph n behind l) m ≡ Finishes s → Stops graph n l × (l ≡ [] → m ≡ Finishes s)
-head_stops graph n (Some b) l m s e = cc
-head_stops graph n None [] m s e = (tt, λ i. e)
-head_stops graph n None (x ∷ l) m s e = (walk_none (graph.shape n) (graph.child n x) s e, λ i. cc)
+pub step_stops : (graph : Graph) (n : ℕ) (l : Key) (m : Move) (s : Option ℕ) → first_of (step_move graph n l) m ≡ Finishes s → Stops graph n l × (l ≡ [] → m ≡ Finishes s)
+step_stops graph n [] m s e = (tt, λ i. e)
+step_stops graph n (x ∷ l) m s e = (walk_none (graph.shape n) (graph.child n x) s e, λ i. cc)
 
 -- from a node that is no directory nobody walks on
 no_walk : (graph : Graph) → IsGraph graph → (n h : ℕ) (w : Key) → ((names : List Name) → graph.shape n ≡ Some (Dir names) → ⊥) → at graph.child n w ≡ Some h → n ≡ h
@@ -77,24 +77,24 @@ fork_stops graph is n p q st s here f e = record { source_at = f.source_at; dest
         let none2 : (names : List Name) → graph.shape st.source.node ≡ Some (Dir names) → ⊥ = λ names i. none names (ap graph.shape z ∙ i) in
         (stops_else graph st.source.node (left st.source.walked (parent_of p)) (graph.shape st.source.node) refl none2, λ i. absurd (dir_fails (left st.source.walked (parent_of p)) (graph.shape st.source.node) none2 i))
 
-    dest : (t : Option Shape) (m : Move) → graph.shape st.source.node ≡ t → dir_then t (first_of (head_move graph st.dest.node st.dest.behind (left st.dest.walked (parent_of q))) m) ≡ Finishes s
+    dest : (t : Option Shape) (m : Move) → graph.shape st.source.node ≡ t → dir_then t (first_of (step_move graph st.dest.node (left st.dest.walked (parent_of q))) m) ≡ Finishes s
         → dir_error (left st.source.walked (parent_of p)) (graph.shape st.source.node) ≡ None → Stops graph st.dest.node (left st.dest.walked (parent_of q))
     dest None m i g j = absurd (dir_fails (left st.source.walked (parent_of p)) (graph.shape st.source.node) (no_dir (graph.shape st.source.node) i) j)
     dest (Some (File bytes)) m i g j = absurd (dir_fails (left st.source.walked (parent_of p)) (graph.shape st.source.node) (file_dir (graph.shape st.source.node) bytes i) j)
-    dest (Some (Dir names)) m i g j = (head_stops graph st.dest.node st.dest.behind (left st.dest.walked (parent_of q)) m s g).0
+    dest (Some (Dir names)) m i g j = (step_stops graph st.dest.node (left st.dest.walked (parent_of q)) m s g).0
 
-    source : (m : Move) → first_of (head_move graph st.source.node st.source.behind (left st.source.walked (parent_of p))) (dir_then (graph.shape st.source.node) (first_of (head_move graph st.dest.node st.dest.behind (left st.dest.walked (parent_of q))) m)) ≡ Finishes s
+    source : (m : Move) → first_of (step_move graph st.source.node (left st.source.walked (parent_of p))) (dir_then (graph.shape st.source.node) (first_of (step_move graph st.dest.node (left st.dest.walked (parent_of q))) m)) ≡ Finishes s
         → Stops graph st.source.node (left st.source.walked (parent_of p)) × (dir_error (left st.source.walked (parent_of p)) (graph.shape st.source.node) ≡ None → Stops graph st.dest.node (left st.dest.walked (parent_of q)))
     source m g =
-        let h : Stops graph st.source.node (left st.source.walked (parent_of p)) × (left st.source.walked (parent_of p) ≡ [] → dir_then (graph.shape st.source.node) (first_of (head_move graph st.dest.node st.dest.behind (left st.dest.walked (parent_of q))) m) ≡ Finishes s) =
-        head_stops graph st.source.node st.source.behind (left st.source.walked (parent_of p)) (dir_then (graph.shape st.source.node) (first_of (head_move graph st.dest.node st.dest.behind (left st.dest.walked (parent_of q))) m)) s g in
+        let h : Stops graph st.source.node (left st.source.walked (parent_of p)) × (left st.source.walked (parent_of p) ≡ [] → dir_then (graph.shape st.source.node) (first_of (step_move graph st.dest.node (left st.dest.walked (parent_of q))) m) ≡ Finishes s) =
+        step_stops graph st.source.node (left st.source.walked (parent_of p)) (dir_then (graph.shape st.source.node) (first_of (step_move graph st.dest.node (left st.dest.walked (parent_of q))) m)) s g in
         (h.0, λ i. dest (graph.shape st.source.node) m refl (h.1 (came (left st.source.walked (parent_of p)) (graph.shape st.source.node) i)) i)
       where
         came : (l : Key) (t : Option Shape) → dir_error l t ≡ None → l ≡ []
         came [] t e = refl
         came (x ∷ l) t e = cc
 
-    at_node : (t : Option Shape) (m : Move) → graph.shape n ≡ t → dir_then t (first_of (head_move graph st.source.node st.source.behind (left st.source.walked (parent_of p))) (dir_then (graph.shape st.source.node) (first_of (head_move graph st.dest.node st.dest.behind (left st.dest.walked (parent_of q))) m))) ≡ Finishes s
+    at_node : (t : Option Shape) (m : Move) → graph.shape n ≡ t → dir_then t (first_of (step_move graph st.source.node (left st.source.walked (parent_of p))) (dir_then (graph.shape st.source.node) (first_of (step_move graph st.dest.node (left st.dest.walked (parent_of q))) m))) ≡ Finishes s
         → Stops graph st.source.node (left st.source.walked (parent_of p)) × (dir_error (left st.source.walked (parent_of p)) (graph.shape st.source.node) ≡ None → Stops graph st.dest.node (left st.dest.walked (parent_of q)))
     at_node None m i g = no_way (no_dir (graph.shape n) i)
     at_node (Some (File bytes)) m i g = no_way (file_dir (graph.shape n) bytes i)
@@ -102,7 +102,7 @@ fork_stops graph is n p q st s here f e = record { source_at = f.source_at; dest
 
     both : Stops graph st.source.node (left st.source.walked (parent_of p)) × (dir_error (left st.source.walked (parent_of p)) (graph.shape st.source.node) ≡ None → Stops graph st.dest.node (left st.dest.walked (parent_of q)))
     both = at_node (graph.shape n) (dir_then (graph.shape st.dest.node) (rename_move graph p q st)) refl
-        (ap (λ (m : ℕ). dir_then (graph.shape m) (first_of (head_move graph st.source.node st.source.behind (left st.source.walked (parent_of p))) (dir_then (graph.shape st.source.node) (first_of (head_move graph st.dest.node st.dest.behind (left st.dest.walked (parent_of q))) (dir_then (graph.shape st.dest.node) (rename_move graph p q st)))))) (sym here) ∙ e)
+        (ap (λ (m : ℕ). dir_then (graph.shape m) (first_of (step_move graph st.source.node (left st.source.walked (parent_of p))) (dir_then (graph.shape st.source.node) (first_of (step_move graph st.dest.node (left st.dest.walked (parent_of q))) (dir_then (graph.shape st.dest.node) (rename_move graph p q st)))))) (sym here) ∙ e)
 
 common_step : (x : Name) (a c : Key) → (r : Key) × (a ≡ c ++ r) → (b : Bool) → (r : Key) × (x ∷ a ≡ cond b (x ∷ c) [] ++ r)
 common_step x a c i true = (i.0, ap (λ (l : Key). x ∷ l) i.1)
@@ -135,21 +135,21 @@ looked_reply : (graph : Graph) → IsGraph graph → (n : ℕ) (s : Shape) (rema
 looked_reply graph is n s (AtNode c p) st reserved o here u fits well e =
     on_reply graph st.node reserved (node_row c (path_error p (graph.shape st.node)) (graph.shape st.node))
     ∙ ap (λ (m : ℕ). (node_row c (path_error p (graph.shape m)) (graph.shape m)).0) here
-    ∙ ap (λ (r : Reply × Option (List ℕ)). r.0) (on_finish graph is n s c p u (subst (λ (m : ℕ). Stops graph m p) here (head_stops graph st.node st.behind p (Finishes None) o e).0))
+    ∙ ap (λ (r : Reply × Option (List ℕ)). r.0) (on_finish graph is n s c p u (subst (λ (m : ℕ). Stops graph m p) here (step_stops graph st.node p (Finishes None) o (finish_on graph (AtNode c p) st o e)).0))
 looked_reply graph is n s (AtEntry c p) st reserved o here u fits well e =
     in_reply graph st.node (last_of p) reserved (entry_row c (dir_error (parent_of p) (graph.shape st.node)) (is_full (graph.shape st.node)) (entry_shape graph st.node (last_of p)))
     ∙ ap (λ (m : ℕ). (entry_row c (dir_error (parent_of p) (graph.shape m)) (is_full (graph.shape m)) (entry_shape graph m (last_of p))).0) here
-    ∙ ap (λ (r : Reply × Edit). r.0) (in_finish graph is n s c p (in_more c p fits) u (subst (λ (m : ℕ). Stops graph m (parent_of p)) here (head_stops graph st.node st.behind (parent_of p) (target_move graph (AtEntry c p) st) o e).0))
-looked_reply graph is n s (AtPair pairs.Rename p q) st reserved o here u fits well e = go (common (parent_of p) (parent_of q)) refl well e
+    ∙ ap (λ (r : Reply × Edit). r.0) (in_finish graph is n s c p (in_more c p fits) u (subst (λ (m : ℕ). Stops graph m (parent_of p)) here (step_stops graph st.node (parent_of p) (target_move graph (AtEntry c p) st) o (finish_on graph (AtEntry c p) st o e)).0))
+looked_reply graph is n s (AtPair pairs.Rename p q) st reserved o here u fits well e = go (common (parent_of p) (parent_of q)) refl well (finish_on graph (AtPair pairs.Rename p q) st o e)
   where
-    go : (l : Key) → common (parent_of p) (parent_of q) ≡ l → ForkedAt graph n p q st l → first_of (head_move graph st.node st.behind l) (fork_move graph p q st) ≡ Finishes o
+    go : (l : Key) → common (parent_of p) (parent_of q) ≡ l → ForkedAt graph n p q st l → first_of (step_move graph st.node l) (fork_move graph p q st) ≡ Finishes o
         → (rename_effect graph p q st reserved l).reply ≡ (looked (shapes_from graph n) (AtPair pairs.Rename p q)).0
     go [] i w f =
-        let moves : fork_move graph p q st ≡ Finishes o = (head_stops graph st.node st.behind [] (fork_move graph p q st) o f).1 refl in
+        let moves : fork_move graph p q st ≡ Finishes o = (step_stops graph st.node [] (fork_move graph p q st) o f).1 refl in
         moved_reply graph st (last_of p) (last_of q) reserved (rename_at graph p q st).0 (rename_at graph p q st).1 (graph.child st.source.node (last_of p))
         ∙ ap (λ (r : Reply × Bool). r.0) (rename_finish graph is n s p q st (from_more p q fits) (to_more p q fits) u (fork_stops graph is n p q st o here w moves))
     go (x ∷ l) i w f =
-        let st_stops : Stops graph st.node (x ∷ l) = (head_stops graph st.node st.behind (x ∷ l) (fork_move graph p q st) o f).0 in
+        let st_stops : Stops graph st.node (x ∷ l) = (step_stops graph st.node (x ∷ l) (fork_move graph p q st) o f).0 in
         let n_stops : Stops graph n (x ∷ l) = subst (λ (m : ℕ). Stops graph m (x ∷ l)) here st_stops in
         let r : (r : Key) × (parent_of p ≡ common (parent_of p) (parent_of q) ++ r) = common_is (parent_of p) (parent_of q) in
         let d : parent_of p ≡ x ∷ (l ++ r.0) = r.1 ∙ ap (λ (k : Key). k ++ r.0) i in

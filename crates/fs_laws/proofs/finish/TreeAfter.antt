@@ -14,7 +14,7 @@ use Rattle.fs_calls.specs.declared.errno.Errno.{Errno}
 use Rattle.fs_calls.specs.declared.reply.Reply.{Reply}
 use Rattle.fs_nodes.specs.Graphs.{Graph, then_at, at, numbers, graph_shapes, entry_shape, IsGraph}
 use Rattle.fs_machine.specs.Finishes.{node_effect, move_effect, rename_effect, effect_at}
-use Rattle.fs_machine.specs.Moves.{first_of, head_move, fork_move, target_move, next_on, walk_errno, dir_error, there_by, rename_at}
+use Rattle.fs_machine.specs.Moves.{first_of, step_move, fork_move, target_move, next_on, walk_errno, dir_error, there_by, rename_at}
 use Rattle.fs_machine.specs.declared.moves.Move.TheVariants.{Finish as Finishes}
 use Rattle.fs_machine.specs.Records.{Holdings}
 use Rattle.fs_laws.specs.Invariants.{ForkedAt, HeadsSound, NumberFor}
@@ -24,7 +24,8 @@ use Rattle.fs_laws.proofs.calls.Located.{outcome_located, change_under, writes_a
 use Rattle.fs_laws.proofs.graphs.Walks.{at_from, eqb_refl, eqb_true}
 use Rattle.fs_laws.proofs.graphs.TreesOfChanges.{resolve_at, shapes_content, shapes_moved}
 use Rattle.fs_laws.proofs.finish.Readings.{shapes_from, below_is, Stops, in_finish, rename_finish, ForkAt, dir_read, path_read, arrived}
-use Rattle.fs_laws.proofs.finish.Replies.{head_stops, fork_stops, common_is, edit_tree, some_entry}
+use Rattle.fs_laws.proofs.calls.Behind.{finish_on}
+use Rattle.fs_laws.proofs.finish.Replies.{step_stops, fork_stops, common_is, edit_tree, some_entry}
 
 -- a row by which a rename really moves
 pub record Really (a b : Option Errno) (m : Option Shape) (same_path : Bool) (there : Option Shape) (room : Bool) : Type 0 where
@@ -153,7 +154,7 @@ looked_tree : (graph : Graph) → IsGraph graph → (k : Key) (s : Shape) (remai
 looked_tree graph is k s (AtNode c []) st reserved o at_k u fits well has e = on_tree graph is k st.node reserved (node_row c None (graph.shape st.node)) at_k
 looked_tree graph is k s (AtNode c (x ∷ p)) st reserved o at_k u fits well has e =
     on_none graph k c (x ∷ p) (resolve (shapes_from graph st.node) (x ∷ p)) (walk_errno (graph.shape st.node)) (shapes_from graph st.node (x ∷ p))
-    (path_read graph is st.node s (x ∷ p) u (head_stops graph st.node st.behind (x ∷ p) (Finishes None) o e).0)
+    (path_read graph is st.node s (x ∷ p) u (step_stops graph st.node (x ∷ p) (Finishes None) o (finish_on graph (AtNode c (x ∷ p)) st o e)).0)
 looked_tree graph is k s (AtEntry c []) st reserved o at_k u fits well has e = absurd (in_more c [] fits)
 looked_tree graph is k s (AtEntry c (x ∷ [])) st reserved o at_k u fits well has e =
     edit_tree graph is k st.node (names_of (graph.shape st.node)) c x reserved (row).0 (row).1 at_k has refl
@@ -163,8 +164,8 @@ looked_tree graph is k s (AtEntry c (x ∷ [])) st reserved o at_k u fits well h
     row = entry_row c (as_dir None (graph.shape st.node)) (is_full (graph.shape st.node)) (entry_shape graph st.node x)
 looked_tree graph is k s (AtEntry c (x ∷ y ∷ p)) st reserved o at_k u fits well has e =
     ap (λ (r : Reply × Edit). changed (change_under k (edit_change (x ∷ parent_of (y ∷ p)) (names_of (shapes_from graph st.node (x ∷ parent_of (y ∷ p)))) (last_of (y ∷ p)) (x ∷ y ∷ p) r.1)) (graph_shapes graph))
-    (in_finish graph is st.node s c (x ∷ y ∷ p) tt u (head_stops graph st.node st.behind (x ∷ parent_of (y ∷ p)) (target_move graph (AtEntry c (x ∷ y ∷ p)) st) o e).0)
-looked_tree graph is k s (AtPair pairs.Rename p q) st reserved o at_k u fits well has e = go (common (parent_of p) (parent_of q)) refl well e
+    (in_finish graph is st.node s c (x ∷ y ∷ p) tt u (step_stops graph st.node (x ∷ parent_of (y ∷ p)) (target_move graph (AtEntry c (x ∷ y ∷ p)) st) o (finish_on graph (AtEntry c (x ∷ y ∷ p)) st o e)).0)
+looked_tree graph is k s (AtPair pairs.Rename p q) st reserved o at_k u fits well has e = go (common (parent_of p) (parent_of q)) refl well (finish_on graph (AtPair pairs.Rename p q) st o e)
   where
     after_row : Reply × Bool → Map Shape
     after_row r = changed (change_under k (move_change r.1 (rename_writes (is_end (after_prefix (parent_of p) (parent_of q))) (parent_of p) (names_of (shapes_from graph st.node (parent_of p))) (last_of p) (parent_of q) (names_of (shapes_from graph st.node (parent_of q))) (last_of q)) p q)) (graph_shapes graph)
@@ -173,16 +174,16 @@ looked_tree graph is k s (AtPair pairs.Rename p q) st reserved o at_k u fits wel
     by f false i = refl
     by f true i = move_tree graph is k st.node p q st reserved (rename_at graph p q st).0 at_k fits f (really (dir_error (left st.source.walked (parent_of p)) (graph.shape st.source.node)) (dir_error (left st.dest.walked (parent_of q)) (graph.shape st.dest.node)) (entry_shape graph st.source.node (last_of p)) (is_end (after_prefix p q)) (there_by (has_more (after_prefix q p)) (entry_shape graph st.dest.node (last_of q))) (is_end (after_prefix (parent_of p) (parent_of q)) || not (is_full (graph.shape st.dest.node))) i)
 
-    go : (l : Key) → common (parent_of p) (parent_of q) ≡ l → ForkedAt graph st.node p q st l → first_of (head_move graph st.node st.behind l) (fork_move graph p q st) ≡ Finishes o
+    go : (l : Key) → common (parent_of p) (parent_of q) ≡ l → ForkedAt graph st.node p q st l → first_of (step_move graph st.node l) (fork_move graph p q st) ≡ Finishes o
         → graph_shapes (rename_effect graph p q st reserved l).graph ≡ changed (change_under k (looked (shapes_from graph st.node) (AtPair pairs.Rename p q)).1) (graph_shapes graph)
     go [] i w f =
-        let moves : fork_move graph p q st ≡ Finishes o = (head_stops graph st.node st.behind [] (fork_move graph p q st) o f).1 refl in
+        let moves : fork_move graph p q st ≡ Finishes o = (step_stops graph st.node [] (fork_move graph p q st) o f).1 refl in
         let fork : ForkAt graph st.node p q st = fork_stops graph is st.node p q st o refl w moves in
         by fork (rename_at graph p q st).1 refl
         ∙ ap (λ (r : Reply × Bool). changed (change_under k (move_change r.1 (rename_writes (is_end (after_prefix (parent_of p) (parent_of q))) (parent_of p) (names_of (shapes_from graph st.node (parent_of p))) (last_of p) (parent_of q) (names_of (shapes_from graph st.node (parent_of q))) (last_of q)) p q)) (graph_shapes graph))
         (rename_finish graph is st.node s p q st (from_more p q fits) (to_more p q fits) u fork)
     go (x ∷ l) i w f =
-        let n_stops : Stops graph st.node (x ∷ l) = (head_stops graph st.node st.behind (x ∷ l) (fork_move graph p q st) o f).0 in
+        let n_stops : Stops graph st.node (x ∷ l) = (step_stops graph st.node (x ∷ l) (fork_move graph p q st) o f).0 in
         let r : (r : Key) × (parent_of p ≡ common (parent_of p) (parent_of q) ++ r) = common_is (parent_of p) (parent_of q) in
         let d : parent_of p ≡ x ∷ (l ++ r.0) = r.1 ∙ ap (λ (k : Key). k ++ r.0) i in
         let res : resolve_dir (shapes_from graph st.node) (parent_of p) ≡ Some (walk_errno (graph.shape st.node)) = ap (resolve_dir (shapes_from graph st.node)) d ∙ sym (dir_read graph is st.node st.node s [] (x ∷ (l ++ r.0)) u refl n_stops) in

@@ -54,7 +54,6 @@ own_children old new same q h o = record {
   victim = λ u st e. victim_children old new same q.remaining st (o.victim u st e);
   starts = o.starts;
   single = o.single;
-  heads = o.heads;
 }
 
 -- the tree that is spelled reads shapes of reached numbers alone

@@ -9,12 +9,12 @@ use Rattle.fs_calls.specs.declared.reply.Reply.{Reply}
 use Rattle.fs_nodes.specs.Graphs.{Graph, Children, at, numbers, set_at, reserved_in, then_at}
 use Rattle.fs_machine.specs.Finishes.{finish}
 use Rattle.fs_machine.specs.Leaving.{is_removed, releasing, let_go, finished_op, unreserved}
-use Rattle.fs_machine.specs.Moves.{next, took, target, head_took, took_by}
+use Rattle.fs_machine.specs.Moves.{next, took, target, victim_took, dest_stepped, source_stepped, took_by}
 use Rattle.fs_machine.specs.declared.moves.Move.TheVariants.{Take as Takes, LetGo as Leaves, Finish as Finishes}
 use Rattle.fs_machine.specs.Records.{Phase, Walking, Placed, Finished, Holds, Record, Holdings, holdings_at}
 use Rattle.fs_laws.specs.Below.{IsHolding, IsAboutToMove, Meanwhile, Now, Begins_another, Steps_another, Helps_one, EachBelow, HelpsAreFew}
 use Rattle.fs_timeline.specs.Timeline.{commit_count}
-use Rattle.fs_laws.specs.Invariants.{IsIn, Own, Invariant, HeadsFit}
+use Rattle.fs_laws.specs.Invariants.{IsIn, Own, Invariant}
 use Rattle.fs_laws.specs.CallFacts.{IsAfter, Located}
 use Rattle.fs_machine.specs.States.{State, Begun, Begins, Reserves, new_op, began, Step, Run, Beginning, Stepping, taking, letting_go, helping, carrying, returning, IsWalkingBelow, NoneBelow}
 use Rattle.fs_machine.specs.declared.answers.Refusal.TheVariants.{SeatBusy, Full, OutOfMemory}
@@ -125,10 +125,10 @@ took_outside s c moved m f n op is move d (q, q_is, walks, (st, key, on, e)) = g
         let new : Holdings = holdings_at n (Some before.node) in
         let at_n : at s.graph.child moved key ≡ Some n = e ∙ ap (λ (z : Holdings). Some z.node) (sym (at_new (walked_on op before x n) (holdings_at n (Some before.node)) t refl j)) in
         from before (walked_on op before x n) t refl on_b (walk_below s c moved m f n op before x key not_mover (record { is = is; on = on_b }) child at_n) i j
-    by before on_b (Entry c2 p rem way b child off t) i j = here before (record before { victim = Some n }) (with_holdings op (record before { victim = Some n })) t refl refl refl on_b i j
-    by before on_b (Source p q2 x l rem way b at_left sb child t) i j = here before (record before { source = head_took before.source x n }) (with_holdings op (record before { source = head_took before.source x n })) t refl refl refl on_b i j
-    by before on_b (Dest p q2 x l names rem way b arrived sb dir at_left db child t) i j = here before (record before { dest = head_took before.dest x n }) (with_holdings op (record before { dest = head_took before.dest x n })) t refl refl refl on_b i j
-    by before on_b (Replaced p q2 names rem way b arrived sb dir at_left db want child off t) i j = here before (record before { victim = Some n }) (with_holdings op (record before { victim = Some n })) t refl refl refl on_b i j
+    by before on_b (Entry c2 p rem way b child off t) i j = here before (victim_took before n) (with_holdings op (victim_took before n)) t refl refl refl on_b i j
+    by before on_b (Source p q2 x l rem way b at_left child t) i j = here before (source_stepped before x n) (with_holdings op (source_stepped before x n)) t refl refl refl on_b i j
+    by before on_b (Dest p q2 x l names rem way b arrived dir at_left child t) i j = here before (dest_stepped before x n) (with_holdings op (dest_stepped before x n)) t refl refl refl on_b i j
+    by before on_b (Replaced p q2 names rem way b arrived dir at_left want child off t) i j = here before (victim_took before n) (with_holdings op (victim_took before n)) t refl refl refl on_b i j
 
     taken : TakesFrom s.graph op n → d ≡ f → took op n ≡ q → IsWalkingBelow s moved d
     taken (From_nowhere text off z) i j =
@@ -149,11 +149,8 @@ child_unreserved : (o : Option ℕ) (graph : Graph) → (unreserved o graph).chi
 child_unreserved None graph = refl
 child_unreserved (Some n) graph = refl
 
-abbrev HeadsFitOf : Record → Type 0
-HeadsFitOf op = (st : Holdings) → op.holdings ≡ Some st → HeadsFit st
-
-let_go_outside : (s : State) (moved f n : ℕ) (op : Record) → s.ops f ≡ Some op → next s.graph op ≡ Leaves n → HeadsFitOf op → (d : ℕ) → IsWalkingBelow (letting_go s f op n) moved d → IsWalkingBelow s moved d
-let_go_outside s moved f n op is move fit d (q, q_is, walks, (st, key, on, e)) = go (either s.ops f (let_go op n) d q q_is)
+let_go_outside : (s : State) (moved f n : ℕ) (op : Record) → s.ops f ≡ Some op → next s.graph op ≡ Leaves n → (d : ℕ) → IsWalkingBelow (letting_go s f op n) moved d → IsWalkingBelow s moved d
+let_go_outside s moved f n op is move d (q, q_is, walks, (st, key, on, e)) = go (either s.ops f (let_go op n) d q q_is)
   where
     at_old : at s.graph.child moved key ≡ Some st.node
     at_old = sym (ap (λ (k : Children). at k moved key) (child_released (is_removed op.removed n) n s.graph)) ∙ e
@@ -161,7 +158,7 @@ let_go_outside s moved f n op is move fit d (q, q_is, walks, (st, key, on, e)) =
     left : LetsGo op n → d ≡ f → let_go op n ≡ q → IsWalkingBelow s moved d
     left (On_way before new u on_b left_is lets same) i j =
         let l : new ≡ st = holdings_is new st (sym left_is ∙ ap (λ (o : Record). o.holdings) j ∙ on) in
-        (op, ap s.ops i ∙ is, ap (λ (o : Record). o.phase) j ∙ walks, (before, key, on_b, at_old ∙ ap (λ (x : ℕ). Some x) (sym (ap (λ (x : Holdings). x.node) l) ∙ (lets (fit before on_b)).node)))
+        (op, ap s.ops i ∙ is, ap (λ (o : Record). o.phase) j ∙ walks, (before, key, on_b, at_old ∙ ap (λ (x : ℕ). Some x) (sym (ap (λ (x : Holdings). x.node) l) ∙ lets.node)))
     left (At_end before new r ph on_b left_is l only) i j = let z : ◌≡◌ {A = Phase} (Finished r) Walking = sym ph ∙ ap (λ (o : Record). o.phase) j ∙ walks in cc
     left (Last before r ph on_b left_is node only) i j = let z : ◌≡◌ {A = Phase} (Finished r) Walking = sym ph ∙ ap (λ (o : Record). o.phase) j ∙ walks in cc
 
@@ -238,7 +235,7 @@ step_outside : (old new : State) (c moved seat : ℕ) (answer : Stepped) → Mov
 step_outside old new c moved seat Idle m st d w = subst (λ (s : State). IsWalkingBelow s moved d) st.1 w
 step_outside old new c moved seat (Took n) m (f, op, moves, free, same) d w = took_outside old c moved m f n op moves.1 moves.2 d (subst (λ (s : State). IsWalkingBelow s moved d) same w)
 step_outside old new c moved seat (Busy n h) m (f, op, moves, held, same) d w = subst (λ (s : State). IsWalkingBelow s moved d) same w
-step_outside old new c moved seat (LetGo n) m (f, op, moves, same) d w = let_go_outside old moved f n op moves.1 moves.2 (m.inv.own f op moves.1).heads d (subst (λ (s : State). IsWalkingBelow s moved d) same w)
+step_outside old new c moved seat (LetGo n) m (f, op, moves, same) d w = let_go_outside old moved f n op moves.1 moves.2 d (subst (λ (s : State). IsWalkingBelow s moved d) same w)
 step_outside old new c moved seat (Helped h) m (f, op, t, moves, walks, chosen, q, is, same) d w = (helped_outside old moved h q is d (subst (λ (s : State). IsWalkingBelow s moved d) same w)).0
 step_outside old new c moved seat Committed m (f, op, o, moves, walks, none, same) d w =
     finishing_outside old m.inv moved f op o moves.1 moves.2

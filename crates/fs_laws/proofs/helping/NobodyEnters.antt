@@ -11,7 +11,7 @@ use Rattle.fs_calls.specs.declared.errno.Errno.{Errno}
 use Rattle.fs_calls.specs.declared.reply.Reply.{Reply}
 use Rattle.fs_nodes.specs.Graphs.{Graph, Children, at, set_child, entry_shape, IsGraph}
 use Rattle.fs_machine.specs.Finishes.{node_effect, entry_effect, move_effect, rename_effect, effect_at, effect_of, finish}
-use Rattle.fs_machine.specs.Moves.{next, next_by, next_on, first_of, head_move, walk_move, take_if, target, target_move, fork_move, rename_move, rename_at, moved_node, dir_then, dir_error, path_error, there_by, victim_of}
+use Rattle.fs_machine.specs.Moves.{next, next_by, next_on, first_of, step_move, walk_move, take_if, target, target_move, fork_move, rename_move, rename_at, moved_node, dir_then, dir_error, path_error, there_by, victim_of}
 use Rattle.fs_machine.specs.declared.moves.Move.{Move}
 use Rattle.fs_machine.specs.declared.moves.Move.TheVariants.{Finish as Finishes}
 use Rattle.fs_machine.specs.Records.{Phase, Walking, Placed, Finished, Record, Holdings}
@@ -19,7 +19,8 @@ use Rattle.fs_laws.specs.Invariants.{Forked, ForkedAt, HeadsSound}
 use Rattle.fs_laws.proofs.graphs.Walks.{at_child}
 use Rattle.fs_laws.proofs.finish.RealMoves.{at_entries}
 use Rattle.fs_laws.proofs.finish.TreeAfter.{Really, really}
-use Rattle.fs_laws.proofs.finish.Replies.{head_stops}
+use Rattle.fs_laws.proofs.calls.Behind.{finish_on}
+use Rattle.fs_laws.proofs.finish.Replies.{step_stops}
 use Rattle.fs_laws.proofs.calls.Takes.{wants}
 
 -- a rename that is to move a node, at both parents
@@ -49,10 +50,9 @@ take_over true (Some n) None o m e = cc
 take_over true (Some n) (Some v) o m e = e
 take_over false k v o m e = e
 
-first_some : (graph : Graph) (n : ℕ) (b : Option ℕ) (l : Key) (rest : Move) (m : ℕ) → first_of (head_move graph n b l) rest ≡ Finishes (Some m) → (l ≡ []) × (rest ≡ Finishes (Some m))
-first_some graph n (Some k) l rest m e = cc
-first_some graph n None [] rest m e = (refl, e)
-first_some graph n None (x ∷ l) rest m e = absurd (walk_some (graph.shape n) (graph.child n x) m e)
+first_some : (graph : Graph) (n : ℕ) (l : Key) (rest : Move) (m : ℕ) → first_of (step_move graph n l) rest ≡ Finishes (Some m) → (l ≡ []) × (rest ≡ Finishes (Some m))
+first_some graph n [] rest m e = (refl, e)
+first_some graph n (x ∷ l) rest m e = absurd (walk_some (graph.shape n) (graph.child n x) m e)
 
 dir_some : (s : Option Shape) (rest : Move) (m : ℕ) → dir_then s rest ≡ Finishes (Some m) → rest ≡ Finishes (Some m)
 dir_some None rest m e = cc
@@ -65,9 +65,9 @@ to_move graph op moved e = go op.phase (by_text (form op.call)) op.holdings refl
     at_fork : (st : Holdings) (p q : Key) → op.holdings ≡ Some st → op.remaining ≡ AtPair pairs.Rename p q → common (parent_of p) (parent_of q) ≡ [] → fork_move graph p q st ≡ Finishes (Some moved) → ToMove graph op moved
     at_fork st p q on rem way f =
         let at_dest : Move = dir_then (graph.shape st.dest.node) (rename_move graph p q st) in
-        let rest : Move = dir_then (graph.shape st.source.node) (first_of (head_move graph st.dest.node st.dest.behind (left st.dest.walked (parent_of q))) at_dest) in
-        let a : (left st.source.walked (parent_of p) ≡ []) × (rest ≡ Finishes (Some moved)) = first_some graph st.source.node st.source.behind (left st.source.walked (parent_of p)) rest moved (dir_some (graph.shape st.node) (first_of (head_move graph st.source.node st.source.behind (left st.source.walked (parent_of p))) rest) moved f) in
-        let b : (left st.dest.walked (parent_of q) ≡ []) × (at_dest ≡ Finishes (Some moved)) = first_some graph st.dest.node st.dest.behind (left st.dest.walked (parent_of q)) at_dest moved (dir_some (graph.shape st.source.node) (first_of (head_move graph st.dest.node st.dest.behind (left st.dest.walked (parent_of q))) at_dest) moved a.1) in
+        let rest : Move = dir_then (graph.shape st.source.node) (first_of (step_move graph st.dest.node (left st.dest.walked (parent_of q))) at_dest) in
+        let a : (left st.source.walked (parent_of p) ≡ []) × (rest ≡ Finishes (Some moved)) = first_some graph st.source.node (left st.source.walked (parent_of p)) rest moved (dir_some (graph.shape st.node) (first_of (step_move graph st.source.node (left st.source.walked (parent_of p))) rest) moved f) in
+        let b : (left st.dest.walked (parent_of q) ≡ []) × (at_dest ≡ Finishes (Some moved)) = first_some graph st.dest.node (left st.dest.walked (parent_of q)) at_dest moved (dir_some (graph.shape st.source.node) (first_of (step_move graph st.dest.node (left st.dest.walked (parent_of q))) at_dest) moved a.1) in
         let m : Finishes (moved_node (rename_at graph p q st).1 (graph.child st.source.node (last_of p))) ≡ Finishes (Some moved) = take_over (wants graph p q st) (graph.child st.dest.node (last_of q)) st.victim (moved_node (rename_at graph p q st).1 (graph.child st.source.node (last_of p))) (Some moved) (dir_some (graph.shape st.dest.node) (rename_move graph p q st) moved b.1) in
         record { st = st; p = p; q = q; on = on; remaining = rem; way = way; child = (moved_some (rename_at graph p q st).1 (graph.child st.source.node (last_of p)) moved m).1 }
 
@@ -81,7 +81,7 @@ to_move graph op moved e = go op.phase (by_text (form op.call)) op.holdings refl
 
     stands : (st : Holdings) → op.holdings ≡ Some st → next_on graph op.remaining st ≡ Finishes (Some moved) → ToMove graph op moved
     stands st on f =
-        let a : (target op.remaining ≡ []) × (target_move graph op.remaining st ≡ Finishes (Some moved)) = first_some graph st.node st.behind (target op.remaining) (target_move graph op.remaining st) moved f in
+        let a : (target op.remaining ≡ []) × (target_move graph op.remaining st ≡ Finishes (Some moved)) = first_some graph st.node (target op.remaining) (target_move graph op.remaining st) moved (finish_on graph op.remaining st (Some moved) f) in
         there st op.remaining on refl a.0 a.1
 
     go : (p : Phase) (t : Option Errno) (s : Option Holdings) → op.holdings ≡ s → next_by graph op t p s ≡ Finishes (Some moved) → ToMove graph op moved
@@ -166,10 +166,10 @@ finish_entries graph is op o well m a b x e = go op.phase (by_text (form op.call
     there : (st : Holdings) (rem : Form) → op.holdings ≡ Some st → HeadsSound graph st.node rem st → next_on graph rem st ≡ Finishes o → (effect_at graph rem st op.reserved).graph.child a x ≡ Some b → NewEntry graph op o a b x
     there st (AtNode c p) on w n f = Same_entry (sym (ap (λ (k : Children). k a x) (on_entries graph st.node op.reserved (node_row c (path_error p (graph.shape st.node)) (graph.shape st.node)))) ∙ f)
     there st (AtEntry c p) on w n f = in_entries graph op o st.node (last_of p) (entry_row c (dir_error (parent_of p) (graph.shape st.node)) (is_full (graph.shape st.node)) (entry_shape graph st.node (last_of p))) op.reserved refl a b x f
-    there st (AtPair pairs.Rename p q) on w n f = by (target (AtPair pairs.Rename p q)) refl w n f
+    there st (AtPair pairs.Rename p q) on w n f = by (target (AtPair pairs.Rename p q)) refl w (finish_on graph (AtPair pairs.Rename p q) st o n) f
       where
-        by : (l : Key) → target (AtPair pairs.Rename p q) ≡ l → ForkedAt graph st.node p q st l → first_of (head_move graph st.node st.behind l) (fork_move graph p q st) ≡ Finishes o → (rename_effect graph p q st op.reserved l).graph.child a x ≡ Some b → NewEntry graph op o a b x
-        by [] i w n f = rename_entries graph is op o p q st on w ((head_stops graph st.node st.behind [] (fork_move graph p q st) o n).1 refl) (rename_at graph p q st).1 refl (graph.child st.source.node (last_of p)) refl (rename_at graph p q st).0 a b x f
+        by : (l : Key) → target (AtPair pairs.Rename p q) ≡ l → ForkedAt graph st.node p q st l → first_of (step_move graph st.node l) (fork_move graph p q st) ≡ Finishes o → (rename_effect graph p q st op.reserved l).graph.child a x ≡ Some b → NewEntry graph op o a b x
+        by [] i w n f = rename_entries graph is op o p q st on w ((step_stops graph st.node [] (fork_move graph p q st) o n).1 refl) (rename_at graph p q st).1 refl (graph.child st.source.node (last_of p)) refl (rename_at graph p q st).0 a b x f
         by (y ∷ l) i w n f = Same_entry f
 
     go : (p : Phase) (t : Option Errno) (s : Option Holdings) → op.holdings ≡ s → next_by graph op t p s ≡ Finishes o → (effect_of graph op t s).graph.child a x ≡ Some b → NewEntry graph op o a b x

@@ -22,7 +22,8 @@ use Rattle.fs_laws.proofs.helping.FinishPassesPlaced.{child_cases}
 use Rattle.fs_laws.proofs.calls.Located.{key_is, dir_under, in_more, change_under}
 use Rattle.fs_laws.proofs.graphs.Walks.{at_child, at_from, then_some}
 use Rattle.fs_laws.proofs.finish.Readings.{Stops}
-use Rattle.fs_laws.proofs.finish.Replies.{head_stops}
+use Rattle.fs_laws.proofs.calls.Behind.{finish_on}
+use Rattle.fs_laws.proofs.finish.Replies.{step_stops}
 use Rattle.fs_laws.proofs.events.TwoCalls.{Parted, parted}
 
 -- where a walk has stopped, no node is there below by the names that are left
@@ -105,14 +106,14 @@ in_blind graph is k c (x ∷ []) st o kd other at_k fits victim e f = (ap (after
     go v (inl h) = h
     go v (inr h) =
         let child : graph.child st.node x ≡ Some other.node = sym (at_child graph.child 0 st.node k x at_k) ∙ ap (numbers graph) (sym h) ∙ f.there in
-        let m : entry_move graph c x st ≡ Finishes o = (head_stops graph st.node st.behind [] (entry_move graph c x st) o e).1 refl in
+        let m : entry_move graph c x st ≡ Finishes o = (step_stops graph st.node [] (entry_move graph c x st) o (finish_on graph (AtEntry c (x ∷ [])) st o e)).1 refl in
         let t : take_if (victim_of c (entry_shape graph st.node x)) (Some other.node) st.victim (Finishes None) ≡ Finishes o = ap (λ (n : Option ℕ). take_if (victim_of c (entry_shape graph st.node x)) n st.victim (Finishes None)) (sym child) ∙ m in
         let w : (w : ℕ) × (st.victim ≡ Some w) = take_done (victim_of c (entry_shape graph st.node x)) other.node st.victim o None (ap (victim_of c) (sym read) ∙ v) t in
         let z : ◌≡◌ {A = Option ℕ} (Some w.0) (Some other.node) = sym (victim w.0 w.1) ∙ child in
         let y : w.0 ≡ other.node = cc in
         absurd (f.apart other.node (inl refl) (inr (inr (inr (inr (w.1 ∙ ap Some y))))))
 in_blind graph is k c (x ∷ y ∷ p) st o kd other at_k fits victim e f =
-    let stop : Stops graph st.node (x ∷ parent_of (y ∷ p)) = (head_stops graph st.node st.behind (x ∷ parent_of (y ∷ p)) (target_move graph (AtEntry c (x ∷ y ∷ p)) st) o e).0 in
+    let stop : Stops graph st.node (x ∷ parent_of (y ∷ p)) = (step_stops graph st.node (x ∷ parent_of (y ∷ p)) (target_move graph (AtEntry c (x ∷ y ∷ p)) st) o (finish_on graph (AtEntry c (x ∷ y ∷ p)) st o e)).0 in
     (stopped_off graph is k kd (x ∷ parent_of (y ∷ p)) st.node other.node at_k stop f.there f.off, λ v. stopped_off graph is k kd (x ∷ y ∷ p) st.node other.node at_k stop f.there f.off)
 
 -- what a call reads and changes
@@ -153,5 +154,5 @@ in_off graph is k c p st o kd other s at_k fits victim e f in_use = record { bli
 
 pub on_off : (graph : Graph) → IsGraph graph → (k : Key) (c : NodeCall) (p : Key) (st : Holdings) (o : Option ℕ) (kd : Key) (other : Holdings) → numbers graph k ≡ Some st.node → next_on graph (AtNode c p) st ≡ Finishes o → Front graph k st kd other → Off graph k (AtNode c p) kd
 on_off graph is k c p st o kd other at_k e f =
-    let off : after_prefix kd (k ++ p) ≡ None = stopped_off graph is k kd p st.node other.node at_k (head_stops graph st.node st.behind p (Finishes None) o e).0 f.there f.off in
+    let off : after_prefix kd (k ++ p) ≡ None = stopped_off graph is k kd p st.node other.node at_k (step_stops graph st.node p (Finishes None) o (finish_on graph (AtNode c p) st o e)).0 f.there f.off in
     record { blind = off; clear = on_clear k kd p (node_row c (resolve (λ r. graph_shapes graph (k ++ r)) p) (graph_shapes graph (k ++ p))).1 off }

@@ -12,7 +12,7 @@ use Rattle.fs_calls.specs.Rows.{as_dir, rename_row}
 use Rattle.fs_calls.specs.declared.errno.Errno.{Errno}
 use Rattle.fs_calls.specs.declared.reply.Reply.{Reply}
 use Rattle.fs_nodes.specs.Graphs.{Graph, at, then_at, numbers, graph_shapes, entry_shape, IsGraph}
-use Rattle.fs_machine.specs.Moves.{first_of, head_move, next_on, same_kind, fork_move, dir_error, walk_errno, rename_at}
+use Rattle.fs_machine.specs.Moves.{first_of, step_move, next_on, same_kind, fork_move, dir_error, walk_errno, rename_at}
 use Rattle.fs_machine.specs.declared.moves.Move.TheVariants.{Finish as Finishes}
 use Rattle.fs_machine.specs.Records.{Holds, Holdings}
 use Rattle.fs_laws.specs.Invariants.{ForkedAt, HeadsSound, VictimAt}
@@ -24,7 +24,8 @@ use Rattle.fs_laws.proofs.calls.Located.{key_is, dir_under, resolve_under, from_
 use Rattle.fs_laws.proofs.graphs.Walks.{at_before, at_child, at_from, then_some}
 use Rattle.fs_laws.proofs.graphs.TreesOfChanges.{resolve_at}
 use Rattle.fs_laws.proofs.finish.Readings.{Stops, ForkAt, below_is, dir_read, arrived, rename_finish}
-use Rattle.fs_laws.proofs.finish.Replies.{head_stops, fork_stops, common_is, Leaf, leaf_children}
+use Rattle.fs_laws.proofs.calls.Behind.{finish_on}
+use Rattle.fs_laws.proofs.finish.Replies.{step_stops, fork_stops, common_is, Leaf, leaf_children}
 use Rattle.fs_laws.proofs.events.TwoCalls.{held_off}
 use Rattle.fs_laws.proofs.helping.ReadsNothingBelow.{Front, Off, stopped_off, on_off, in_off}
 use Rattle.fs_laws.proofs.finish.RealMoves.{Real, Replaces, real_of, at_entries, victim_held}
@@ -35,10 +36,10 @@ head_held tree k st [] node here at_w f = let z : ◌≡◌ {A = Option ℕ} (So
 head_held tree k st (x ∷ w) node here at_w f = f tt
 
 pub source_held : (tree : Map ℕ) (k : Key) (st : Holdings) → Located tree k st → Holds st st.source.node
-source_held tree k st l = head_held tree k st st.source.walked st.source.node l.here l.source (λ m. inr (inr (inl (m, inl refl))))
+source_held tree k st l = head_held tree k st st.source.walked st.source.node l.here l.source (λ m. inr (inr (inl (m, refl))))
 
 pub dest_held : (tree : Map ℕ) (k : Key) (st : Holdings) → Located tree k st → Holds st st.dest.node
-dest_held tree k st l = head_held tree k st st.dest.walked st.dest.node l.here l.dest (λ m. inr (inr (inr (inl (m, inl refl)))))
+dest_held tree k st l = head_held tree k st st.dest.walked st.dest.node l.here l.dest (λ m. inr (inr (inr (inl (m, refl)))))
 
 -- where a head's walk has stopped
 head_off : (graph : Graph) → IsGraph graph → (k : Key) (st : Holdings) (kd : Key) (other : Holdings) (walked l whole : Key) (node : ℕ) → Front graph k st kd other → numbers graph (k ++ walked) ≡ Some node → Holds st node → IsClear (numbers graph) k walked other → Stops graph node l → whole ≡ walked ++ l
@@ -79,7 +80,7 @@ both_sides false v w e = e
 pub rename_off : (graph : Graph) → IsGraph graph → (k : Key) (p q : Key) (st : Holdings) (o : Option ℕ) (kd : Key) (other : Holdings) (s : Shape) → Located (numbers graph) k st → graph.shape st.node ≡ Some s → Fits (AtPair pairs.Rename p q) → HeadsSound graph st.node (AtPair pairs.Rename p q) st → VictimAt graph (AtPair pairs.Rename p q) st
     → next_on graph (AtPair pairs.Rename p q) st ≡ Finishes o → Front graph k st kd other
     → Off graph k (AtPair pairs.Rename p q) kd
-rename_off graph is k p q st o kd other s loc u fits well victim e f = go (common (parent_of p) (parent_of q)) refl well e
+rename_off graph is k p q st o kd other s loc u fits well victim e f = go (common (parent_of p) (parent_of q)) refl well (finish_on graph (AtPair pairs.Rename p q) st o e)
   where
     mp : HasNames p
     mp = from_more p q fits
@@ -113,9 +114,9 @@ rename_off graph is k p q st o kd other s loc u fits well victim e f = go (commo
     stuck : (d : Errno) → resolve_dir (below k (graph_shapes graph)) (parent_of p) ≡ Some d → ChangesNothingBelow (ch row.1) kd
     stuck d r = subst (λ (z : Option Errno). ChangesNothingBelow (ch (rename_row z (resolve_dir (below k (graph_shapes graph)) (parent_of q)) (graph_shapes graph (k ++ p)) (is_end (after_prefix p q)) (graph_shapes graph (k ++ q)) (is_end (after_prefix (parent_of p) (parent_of q)) || not (is_full (graph_shapes graph (k ++ parent_of q))))).1) kd) (sym r) (tt, tt)
 
-    go : (l : Key) → common (parent_of p) (parent_of q) ≡ l → ForkedAt graph st.node p q st l → first_of (head_move graph st.node st.behind l) (fork_move graph p q st) ≡ Finishes o → Off graph k (AtPair pairs.Rename p q) kd
+    go : (l : Key) → common (parent_of p) (parent_of q) ≡ l → ForkedAt graph st.node p q st l → first_of (step_move graph st.node l) (fork_move graph p q st) ≡ Finishes o → Off graph k (AtPair pairs.Rename p q) kd
     go (x ∷ l) i w g =
-        let stop : Stops graph st.node (x ∷ l) = (head_stops graph st.node st.behind (x ∷ l) (fork_move graph p q st) o g).0 in
+        let stop : Stops graph st.node (x ∷ l) = (step_stops graph st.node (x ∷ l) (fork_move graph p q st) o g).0 in
         let r : (r : Key) × (parent_of p ≡ common (parent_of p) (parent_of q) ++ r) = common_is (parent_of p) (parent_of q) in
         let d : parent_of p ≡ x ∷ (l ++ r.0) = r.1 ∙ ap (λ (z : Key). z ++ r.0) i in
         let off0 : after_prefix kd (k ++ parent_of p) ≡ None = ap (λ (z : Key). after_prefix kd (k ++ z)) d ∙ stopped_off graph is k kd (x ∷ (l ++ r.0)) st.node other.node loc.here stop f.there f.off in
@@ -125,7 +126,7 @@ rename_off graph is k p q st o kd other s loc u fits well victim e f = go (commo
     go [] i w g = made off0 rest (clear row.1 refl)
       where
         fork : fork_move graph p q st ≡ Finishes o
-        fork = (head_stops graph st.node st.behind [] (fork_move graph p q st) o g).1 refl
+        fork = (step_stops graph st.node [] (fork_move graph p q st) o g).1 refl
 
         stops : ForkAt graph st.node p q st
         stops = fork_stops graph is st.node p q st o refl w fork

@@ -213,7 +213,6 @@ solo_stays graph made k op g kd q st off apart s = record {
   number = number q.remaining s.number;
   victim = victim q.remaining s.victim;
   single = s.single;
-  heads = s.heads;
   neat = neat_by graph made.graph q.remaining st (λ names e. (names, (g.untouched (kd ++ st.source.walked) st.source.node s.loc.source off.source).shape ∙ e)) s.neat;
 }
   where

@@ -309,7 +309,7 @@ finish_changes old inv acc c op o is u n = record {
         go (By_holdings s text on_s m) =
             let z : ◌≡◌ {A = Option Holdings} (Some s) (Some st) = sym on_s ∙ on in
             let y : s ≡ st = cc in
-            finish_closed old.graph inv.is_graph op.remaining st o (own.well st on) (own.heads st on) ((acc.neat c op st is on).under_way u) (subst (λ (x : Holdings). next_on old.graph op.remaining x ≡ Finishes o) y m)
+            finish_closed old.graph op.remaining st o (subst (λ (x : Holdings). next_on old.graph op.remaining x ≡ Finishes o) y m)
 
 account_committed : (old new : State) (seat : ℕ) → Invariant old → StateFacts old → Step old seat Committed new → StateFacts new
 account_committed old new seat inv acc (c, op, s, moves, walks, none, same) = subst StateFacts (sym same)

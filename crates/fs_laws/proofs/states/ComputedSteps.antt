@@ -8,7 +8,7 @@ use Rattle.fs_calls.specs.declared.target.PairCall.TheVariants as pairs
 use Rattle.fs_calls.specs.declared.errno.Errno.{Errno}
 use Rattle.fs_calls.specs.declared.reply.Reply.{Reply}
 use Rattle.fs_nodes.specs.Graphs.{Graph}
-use Rattle.fs_machine.specs.Moves.{first_of, head_move, walk_move, take_if, dir_then, rename_move, target_move, target, next_on, next_by}
+use Rattle.fs_machine.specs.Moves.{behind_first, first_of, step_move, walk_move, take_if, dir_then, rename_move, target_move, target, next_on, next_by}
 use Rattle.fs_machine.specs.declared.moves.Move.{Move}
 use Rattle.fs_machine.specs.declared.moves.Move.TheVariants.{Finish as Finishes, Return as Ends}
 use Rattle.fs_machine.specs.Records.{Holdings, Phase, Walking, Placed, Finished, Record}
@@ -19,10 +19,13 @@ walk_ends (Some (File bytes)) k e = cc
 walk_ends (Some (Dir names)) None e = cc
 walk_ends (Some (Dir names)) (Some m) e = cc
 
-first_ends : (graph : Graph) (n : ℕ) (b : Option ℕ) (l : Key) (m : Move) → (m ≡ Ends → ⊥) → first_of (head_move graph n b l) m ≡ Ends → ⊥
-first_ends graph n (Some x) l m h e = cc
-first_ends graph n None [] m h e = h e
-first_ends graph n None (x ∷ l) m h e = walk_ends (graph.shape n) (graph.child n x) e
+first_ends : (graph : Graph) (n : ℕ) (l : Key) (m : Move) → (m ≡ Ends → ⊥) → first_of (step_move graph n l) m ≡ Ends → ⊥
+first_ends graph n [] m h e = h e
+first_ends graph n (x ∷ l) m h e = walk_ends (graph.shape n) (graph.child n x) e
+
+behind_ends : (behind : Option ℕ) (m : Move) → (m ≡ Ends → ⊥) → behind_first behind m ≡ Ends → ⊥
+behind_ends None m h e = h e
+behind_ends (Some n) m h e = cc
 
 dir_ends : (s : Option Shape) (m : Move) → (m ≡ Ends → ⊥) → dir_then s m ≡ Ends → ⊥
 dir_ends None m h e = cc
@@ -46,13 +49,13 @@ target_ends graph (AtNode c p) st e = cc
 target_ends graph (AtEntry c p) st e = some_ends _ _ _ _ Ends e refl
 target_ends graph (AtPair pairs.Rename p q) st e =
     dir_ends (graph.shape st.node) _
-    (first_ends graph st.source.node st.source.behind (left st.source.walked (parent_of p)) _
+    (first_ends graph st.source.node (left st.source.walked (parent_of p)) _
     (dir_ends (graph.shape st.source.node) _
-    (first_ends graph st.dest.node st.dest.behind (left st.dest.walked (parent_of q)) _
+    (first_ends graph st.dest.node (left st.dest.walked (parent_of q)) _
     (dir_ends (graph.shape st.dest.node) (rename_move graph p q st) (rename_ends graph p q st (rename_move graph p q st) refl))))) e
 
 pub on_ends : (graph : Graph) (remaining : Form) (st : Holdings) → next_on graph remaining st ≡ Ends → ⊥
-on_ends graph remaining st e = first_ends graph st.node st.behind (target remaining) (target_move graph remaining st) (target_ends graph remaining st) e
+on_ends graph remaining st e = behind_ends st.behind (first_of (step_move graph st.node (target remaining)) (target_move graph remaining st)) (first_ends graph st.node (target remaining) (target_move graph remaining st) (target_ends graph remaining st)) e
 
 -- only a finished call returns
 pub by_ends : (graph : Graph) (op : Record) (e : Option Errno) (phase : Phase) (st : Option Holdings) → next_by graph op e phase st ≡ Ends → (r : Reply) × (phase ≡ Finished r)

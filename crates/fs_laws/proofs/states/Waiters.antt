@@ -58,27 +58,22 @@ holds_waiting s inv acc c op m n st is u on t h = go t h
     go (Entry e p rem way b child off t_is) (inr (inr (inl i))) = let w : NeatIn p st = subst (λ (f : Form). HeadsInOrder s.graph f st) rem neat in absurd (subst HasNames w.source i.0)
     go (Entry e p rem way b child off t_is) (inr (inr (inr (inl i)))) = let w : NeatIn p st = subst (λ (f : Form). HeadsInOrder s.graph f st) rem neat in absurd (subst HasNames w.dest i.0)
     go (Entry e p rem way b child off t_is) (inr (inr (inr (inr i)))) = none_is st.victim off i
-    go (Source p q x l rem way b at_left sb child t_is) (inr (inl i)) = none_is st.behind b i
-    go (Source p q x l rem way b at_left sb child t_is) (inr (inr (inl (w, inl i)))) = inr (inl (w, i))
-    go (Source p q x l rem way b at_left sb child t_is) (inr (inr (inl (_, inr i)))) = none_is st.source.behind sb i
-    go (Source p q x l rem way b at_left sb child t_is) (inr (inr (inr (inl i)))) = absurd (not_there p x l at_left ((in_turn s.graph p q st op.remaining rem way neat).dest i.0))
-    go (Source p q x l rem way b at_left sb child t_is) (inr (inr (inr (inr i)))) = absurd (not_there p x l at_left ((in_turn s.graph p q st op.remaining rem way neat).victim n i))
-    go (Dest p q x l names rem way b arrived sb dir at_left db child t_is) (inr (inl i)) = none_is st.behind b i
-    go (Dest p q x l names rem way b arrived sb dir at_left db child t_is) (inr (inr (inl (w, inl i)))) = inr (inl (w, i))
-    go (Dest p q x l names rem way b arrived sb dir at_left db child t_is) (inr (inr (inl (_, inr i)))) = none_is st.source.behind sb i
-    go (Dest p q x l names rem way b arrived sb dir at_left db child t_is) (inr (inr (inr (inl (w, inl i))))) = inr (inr (w, i))
-    go (Dest p q x l names rem way b arrived sb dir at_left db child t_is) (inr (inr (inr (inl (_, inr i))))) = none_is st.dest.behind db i
-    go (Dest p q x l names rem way b arrived sb dir at_left db child t_is) (inr (inr (inr (inr i)))) =
+    go (Source p q x l rem way b at_left child t_is) (inr (inl i)) = none_is st.behind b i
+    go (Source p q x l rem way b at_left child t_is) (inr (inr (inl (w, i)))) = inr (inl (w, i))
+    go (Source p q x l rem way b at_left child t_is) (inr (inr (inr (inl i)))) = absurd (not_there p x l at_left ((in_turn s.graph p q st op.remaining rem way neat).dest i.0))
+    go (Source p q x l rem way b at_left child t_is) (inr (inr (inr (inr i)))) = absurd (not_there p x l at_left ((in_turn s.graph p q st op.remaining rem way neat).victim n i))
+    go (Dest p q x l names rem way b arrived dir at_left child t_is) (inr (inl i)) = none_is st.behind b i
+    go (Dest p q x l names rem way b arrived dir at_left child t_is) (inr (inr (inl (w, i)))) = inr (inl (w, i))
+    go (Dest p q x l names rem way b arrived dir at_left child t_is) (inr (inr (inr (inl (w, i))))) = inr (inr (w, i))
+    go (Dest p q x l names rem way b arrived dir at_left child t_is) (inr (inr (inr (inr i)))) =
         let v : (s.graph.child st.dest.node (last_of q) ≡ Some n) × (parent_of q ≡ st.dest.walked) = subst (λ (g : Form). VictimAt s.graph g st) rem ((inv.own c op is).victim u st on) n i in
         let f : Forked s.graph st.node p q st = forked_of s.graph st.node p q st op.remaining rem way ((inv.own c op is).well st on) in
         let e : [] ≡ x ∷ l = front_same st.dest.walked [] (x ∷ l) (append-nil st.dest.walked ∙ sym v.1 ∙ f.dest_is ∙ ap (λ (y : Key). st.dest.walked ++ y) at_left) in
         (let z : ◌≡◌ {A = Key} [] (x ∷ l) = e in cc)
-    go (Replaced p q names rem way b arrived sb dir at_left db want child off t_is) (inr (inl i)) = none_is st.behind b i
-    go (Replaced p q names rem way b arrived sb dir at_left db want child off t_is) (inr (inr (inl (w, inl i)))) = inr (inl (w, i))
-    go (Replaced p q names rem way b arrived sb dir at_left db want child off t_is) (inr (inr (inl (_, inr i)))) = none_is st.source.behind sb i
-    go (Replaced p q names rem way b arrived sb dir at_left db want child off t_is) (inr (inr (inr (inl (w, inl i))))) = inr (inr (w, i))
-    go (Replaced p q names rem way b arrived sb dir at_left db want child off t_is) (inr (inr (inr (inl (_, inr i))))) = none_is st.dest.behind db i
-    go (Replaced p q names rem way b arrived sb dir at_left db want child off t_is) (inr (inr (inr (inr i)))) = none_is st.victim off i
+    go (Replaced p q names rem way b arrived dir at_left want child off t_is) (inr (inl i)) = none_is st.behind b i
+    go (Replaced p q names rem way b arrived dir at_left want child off t_is) (inr (inr (inl (w, i)))) = inr (inl (w, i))
+    go (Replaced p q names rem way b arrived dir at_left want child off t_is) (inr (inr (inr (inl (w, i))))) = inr (inr (w, i))
+    go (Replaced p q names rem way b arrived dir at_left want child off t_is) (inr (inr (inr (inr i)))) = none_is st.victim off i
 
 -- where the wanted node is: one name below a node that the call holds at its position or below
 record Below (s : State) (k : Key) (st : Holdings) (n : ℕ) : Type 0 where
@@ -104,9 +99,9 @@ wants_below s inv c op n st is on t = go t
     go : Take s.graph op n st → Below s (inv.key c) st n
     go (Walk x l way b child t_is) = of [] st.node x here (inl refl) child
     go (Entry e p rem way b child off t_is) = of [] st.node (last_of p) here (inl refl) child
-    go (Source p q x l rem way b at_left sb child t_is) = of st.source.walked st.source.node x loc.source (source_held (numbers s.graph) (inv.key c) st loc) child
-    go (Dest p q x l names rem way b arrived sb dir at_left db child t_is) = of st.dest.walked st.dest.node x loc.dest (dest_held (numbers s.graph) (inv.key c) st loc) child
-    go (Replaced p q names rem way b arrived sb dir at_left db want child off t_is) = of st.dest.walked st.dest.node (last_of q) loc.dest (dest_held (numbers s.graph) (inv.key c) st loc) child
+    go (Source p q x l rem way b at_left child t_is) = of st.source.walked st.source.node x loc.source (source_held (numbers s.graph) (inv.key c) st loc) child
+    go (Dest p q x l names rem way b arrived dir at_left child t_is) = of st.dest.walked st.dest.node x loc.dest (dest_held (numbers s.graph) (inv.key c) st loc) child
+    go (Replaced p q names rem way b arrived dir at_left want child off t_is) = of st.dest.walked st.dest.node (last_of q) loc.dest (dest_held (numbers s.graph) (inv.key c) st loc) child
 
 -- of two calls that wait, the first for the second, by their keys
 waits_key : (s : State) (run : Run s) (c d e : ℕ) (op q : Record) (st other : Holdings) → WaitsFor s c d op → op.holdings ≡ Some st → WaitsFor s d e q → q.holdings ≡ Some other → (r : Key) × HasNames r × ((run_keeps s run).key d ≡ (run_keeps s run).key c ++ r)

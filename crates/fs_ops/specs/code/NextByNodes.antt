@@ -84,10 +84,11 @@ target_next graph (AtNode c p) n names fork victim = Finishes (Answers n)
 target_next graph (AtEntry c p) n names fork victim = entry_next graph n c (last_of p) victim
 target_next graph (AtPair pairs.Rename p q) n names fork victim = heads_next graph p q (started fork n names) victim
 
--- a call that is not finished, and that its paths do not decide: it takes the root first
+-- a call that is not finished, and that its paths do not decide: it takes the root first; where heads have set out the walk is over
 abbrev pub way_next_at : Graph → Form → Way → Option ℕ → Option ForkWay → Option ℕ → Next
 way_next_at graph call way None fork victim = Takes 0
-way_next_at graph call way (Some n) fork victim = want_next (want graph (first_path call) way) (target_next graph call n way.names fork victim)
+way_next_at graph call way (Some n) None victim = want_next (want graph (first_path call) way) (target_next graph call n way.names None victim)
+way_next_at graph call way (Some n) (Some fork) victim = target_next graph call n way.names (Some fork) victim
 
 -- the same by where its walk is
 abbrev pub way_next : Graph → Form → Way → Option ForkWay → Option ℕ → Next

@@ -1,9 +1,10 @@
 -- What a take and a let go make of a walk, of a fork and of a victim.
-use Rattle.std.specs.Prelude.{ℕ, ◌≡◌, cond, option_map, Option, Some, None}
+use Rattle.std.specs.Prelude.{ℕ, ◌≡◌, cond, Option, Some, None}
 use Rattle.fs_calls.specs.Forms.{Form}
-use Rattle.fs_walk.specs.Ways.{Way, ForkWay, new_fork, way_ended, has_set_out, fork_returned}
+use Rattle.fs_names.specs.Keys.{Key}
+use Rattle.fs_walk.specs.Ways.{Way, ForkWay, new_fork, way_ended, has_set_out, fork_took, fork_returned}
 use Rattle.fs_machine.specs.Moves.{target_took}
-use Rattle.fs_ops.specs.OpValue.{dropped, holdings_with}
+use Rattle.fs_ops.specs.OpValue.{behind_in, dropped, holdings_with}
 
 -- the heads, at a node with so many names before it until they set out
 abbrev pub started : Option ForkWay → ℕ → ℕ → ForkWay
@@ -12,25 +13,27 @@ started (Some fork) n names = fork
 
 -- a take at the target leads from these heads and this victim to those
 abbrev pub TakesTo : Form → Way → ℕ → ℕ → Option ForkWay → Option ℕ → Option ForkWay → Option ℕ → Type 0
-TakesTo call way at n fork victim fork_new victim_new = target_took (dropped way.walked call) (holdings_with call at way.behind fork victim) n ≡ holdings_with call at way.behind fork_new victim_new
+TakesTo call way at n fork victim fork_new victim_new =
+    target_took (dropped way.walked call) (holdings_with call at (behind_in way.behind fork) fork victim) n ≡ holdings_with call at (behind_in way.behind fork_new) fork_new victim_new
+
+-- the heads of a rename after a take, once one of them has set out
+abbrev pub heads_after : Key → Key → Option ForkWay → ℕ → ℕ → ℕ → Option ForkWay
+heads_after p q (Some fork) at names n = Some (fork_took p q fork n)
+heads_after p q None at names n = cond (has_set_out (fork_took p q (new_fork at names) n)) (Some (fork_took p q (new_fork at names) n)) None
 
 -- a walk with nothing behind it
 abbrev pub way_freed : Way → Way
 way_freed way = record way { behind = None }
 
--- a fork with nothing behind its source head; where that is so, with nothing behind the other
-abbrev pub fork_freed_by : Option ℕ → ForkWay → ForkWay
-fork_freed_by (Some n) fork = record fork { source = record fork.source { behind = None } }
-fork_freed_by None fork = record fork { dest = record fork.dest { behind = None } }
+-- where heads have set out, what is behind is theirs
+abbrev pub way_let_go : Option ForkWay → Way → Way
+way_let_go None way = way_freed way
+way_let_go (Some fork) way = way
 
--- a fork after it let go of the one node behind its heads
-abbrev pub fork_freed : ForkWay → ForkWay
-fork_freed fork = fork_freed_by fork.source.behind fork
-
--- what is behind the walk goes first
-abbrev pub heads_freed : Option ℕ → Option ForkWay → Option ForkWay
-heads_freed (Some n) fork = fork
-heads_freed None fork = option_map fork_freed fork
+-- the heads with nothing behind them
+abbrev pub fork_let_go : Option ForkWay → Option ForkWay
+fork_let_go None = None
+fork_let_go (Some fork) = Some (record fork { behind = None })
 
 -- of a finished call the victim goes first, then a head goes back, then all is let go of
 abbrev pub fork_after : Option ℕ → Option ForkWay → Option ForkWay
