@@ -105,12 +105,6 @@ left_kept m b k p seat call n kept x st hs old new graph limit is_hs is_room rea
     let_go_step m b k p seat x.running n kept x.on x.next st hs g.0 new (graph x.running (read_on m seat call (Leaves n) old x read)) limit is_hs is_room g.1 g.2
 
 -- a finish
-pub finish_open : (m : CoreValue) (seat call : ℕ) (s : Option ℕ) → (x : MovesOn m seat call (Finishes s)) → (old : Option Running) → old ≡ get_or m.seats seat old → (r : Running) → old ≡ Some r → r.op.reply ≡ None
-finish_open m seat call s x old read r e =
-    let z : ◌≡◌ {A = Option Running} (Some r) (Some x.running) = sym e ∙ read_on m seat call (Finishes s) old x read in
-    let y : r ≡ x.running = cc in
-    ap (λ (q : Running). q.op.reply) y ∙ unfinished_at (graph_of m.store) x.running.op s x.next
-
 pub finish_can : (m : CoreValue) (b k p seat call : ℕ) (s : Option ℕ) → IsKept m b k p → (x : MovesOn m seat call (Finishes s)) → (old : Option Running) → old ≡ get_or m.seats seat old → (r : Running) → old ≡ Some r → CanFinish (graph_of m.store) r.op.reserved r.op.remaining r.op.holdings
 finish_can m b k p seat call s kept x old read r e =
     let z : ◌≡◌ {A = Option Running} (Some r) (Some x.running) = sym e ∙ read_on m seat call (Finishes s) old x read in

@@ -34,7 +34,7 @@ finish_is graph seat place work = go (by_text (form work.call)) work.holdings
     go None None = refl
     go None (Some st) = refl
 
--- a call that takes or finishes has no reply yet, and one that returns has one
+-- a call that finishes has no reply yet, and one that returns has one
 pub unfinished_at : (graph : Graph) (work : OpValue) (s : Option ℕ) → next_of graph work ≡ Finishes s → work.reply ≡ None
 unfinished_at graph work s m = go work.reply work.holdings refl refl m
   where

@@ -36,6 +36,7 @@ pub fn number(slot: &Option<Running>) -> Option<CallNo>
 
 /// The call on a seat notes that it took a node.
 pub fn take(slot: &mut Option<Running>, node: NodeNo)
+    requires { (r : Running) → slot.old ≡ Some r → r.op.reply ≡ None }
     ensures { Goes (λ old new. IsTook old node new) slot.old slot.new }
 {
     if let Some(running) = slot {

@@ -1,7 +1,7 @@
 //! The nodes that a call holds.
 
-ghost use Rattle.std.specs.Prelude.{◌≡◌, ◌==◌, position, ◌<◌, ◌≤◌, ◌↔◌, IsTrue, MatchOption, length, [], ◌∷◌, ◌++◌, Contains};
-ghost use Rattle.fs_locks.specs.Held.{last_of, without};
+ghost use Rattle.std.specs.Prelude.{◌≡◌, ◌<◌, ◌≤◌, MatchOption, length, [], ◌∷◌, ◌++◌};
+ghost use Rattle.fs_locks.specs.Held.{first_of, last_of};
 
 use arrayvec::ArrayVec;
 use fs_nodes::NodeNo;
@@ -24,13 +24,6 @@ impl Model for Held {
     ghost view = { λ h. h.nodes.items };
 }
 
-/// Where the node stands among others.
-fn index_of(nodes: &[NodeNo], node: NodeNo) -> Option<usize>
-    ensures { result ≡ position (λ held. held == node) nodes.now }
-{
-    nodes.iter().position(|held| *held == node)
-}
-
 impl Held {
     /// No node.
     pub fn new() -> Held
@@ -49,13 +42,6 @@ impl Held {
         self.nodes.len()
     }
 
-    /// Whether the call holds nothing.
-    pub fn is_empty(&self) -> bool
-        ensures { IsTrue result ↔ (self.now ≡ []) }
-    {
-        self.nodes.is_empty()
-    }
-
     /// The nodes in the order taken.
     pub fn as_slice(&self) -> &[NodeNo]
         ensures { result.now ≡ self.now }
@@ -63,11 +49,11 @@ impl Held {
         self.nodes.as_slice()
     }
 
-    /// Whether the node is among them.
-    pub fn contains(&self, node: NodeNo) -> bool
-        ensures { IsTrue result ↔ Contains self.now node }
+    /// The node that was taken first.
+    pub fn first(&self) -> Option<NodeNo>
+        ensures { result ≡ first_of self.now }
     {
-        self.nodes.contains(&node)
+        self.nodes.first().copied()
     }
 
     /// The node that was taken last.
@@ -90,15 +76,6 @@ impl Held {
         ensures { MatchOption result ((self.old ≡ []) × (self.new ≡ [])) (λ node. self.old ≡ self.new ++ node ∷ []) }
     {
         self.nodes.pop()
-    }
-
-    /// Takes out one given node; the others stay in their order.
-    pub fn remove(&mut self, node: NodeNo)
-        ensures { self.new ≡ without node self.old }
-    {
-        if let Some(index) = index_of(self.nodes.as_slice(), node) {
-            self.nodes.remove(index);
-        }
     }
 }
 

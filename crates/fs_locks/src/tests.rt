@@ -60,16 +60,16 @@ fn all_calls_but_the_last_can_hold(rt: HostRuntime) -> Result<(), AllocError> {
 fn nodes_in_the_order_taken(rt: HostRuntime) {
     let (a, b, c) = (NodeNo::new(5), NodeNo::new(0), NodeNo::new(9));
     let mut held = Held::new();
-    assert!(rt; held.is_empty());
+    assert_eq!(rt; held.first(), None);
     held.push(a);
     held.push(b);
     held.push(c);
     assert_eq!(rt; held.len(), 3);
+    assert_eq!(rt; held.first(), Some(a));
     assert_eq!(rt; held.last(), Some(c));
-    assert!(rt; held.contains(b) && !held.contains(NodeNo::new(1)));
-    held.remove(b);
-    assert_eq!(rt; held.as_slice(), [a, c].as_slice());
+    assert_eq!(rt; held.as_slice(), [a, b, c].as_slice());
     assert_eq!(rt; held.pop(), Some(c));
+    assert_eq!(rt; held.pop(), Some(b));
     assert_eq!(rt; held.pop(), Some(a));
     assert_eq!(rt; held.pop(), None);
 }

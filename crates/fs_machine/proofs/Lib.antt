@@ -1,4 +1,5 @@
 pub mod StepsAreDetermined
 pub mod StepsAddEntries
+pub mod LastTakenGoesFirst
 pub mod LowestIsHelped
 pub mod FinishKeepsNumbers

@@ -3,7 +3,12 @@ use Rattle.std.specs.Prelude.{ℕ, ◌≡◌, IsTrue, List, [], ◌∷◌, ◌++
 use Rattle.fs_names.specs.Shapes.{is_there}
 use Rattle.fs_timeline.specs.declared.entry.Entry.{Entry}
 use Rattle.fs_timeline.specs.declared.entry.Entry.TheVariants.{Commit, Return}
-use Rattle.fs_machine.specs.Records.{Holdings, Record}
+use Rattle.fs_nodes.specs.Graphs.{Graph}
+use Rattle.fs_calls.specs.declared.reply.Reply.{Reply}
+use Rattle.fs_machine.specs.declared.moves.Move.TheVariants.{LetGo as Leaves}
+use Rattle.fs_machine.specs.Leaving.{let_go}
+use Rattle.fs_machine.specs.Moves.{next}
+use Rattle.fs_machine.specs.Records.{Finished, Holdings, Record, taken, taken_if}
 use Rattle.fs_machine.specs.States.{State, Step, IsWalkingBelow}
 use Rattle.fs_machine.specs.declared.answers.Stepped.{Stepped}
 use Rattle.fs_machine.specs.declared.answers.Stepped.TheVariants.{Idle, Took, Busy, LetGo, Helped, Committed, CarriedOut, Returned}
@@ -61,3 +66,7 @@ TheLowestIsHelped = (s : State) → HelpsTheLowest s
 -- in each state a number leaves by a let go or a return alone
 abbrev pub LeavingFreesAlone : Type 0
 LeavingFreesAlone = (s : State) → FreesByLeavingAlone s
+
+-- a call whose reply is fixed lets go of the node that it took last, and of no other
+abbrev pub TheLastTakenGoesFirst : Type 0
+TheLastTakenGoesFirst = (graph : Graph) (op : Record) (r : Reply) (st : Holdings) → op.phase ≡ Finished r → op.holdings ≡ Some st → (n : ℕ) × (next graph op ≡ Leaves n) × (taken st ≡ taken_if (let_go op n).holdings ++ n ∷ [])

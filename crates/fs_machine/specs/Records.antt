@@ -1,5 +1,5 @@
 -- Where calls stand, and the record of a call under way.
-use Rattle.std.specs.Prelude.{ℕ, ◌≡◌, [], Option, Some, None, ◌⊎◌}
+use Rattle.std.specs.Prelude.{ℕ, ◌≡◌, List, [], ◌∷◌, ◌++◌, option_to_list, Option, Some, None, ◌⊎◌}
 use Rattle.fs_names.specs.Keys.{Key}
 use Rattle.fs_names.specs.Parts.{HasNames}
 use Rattle.fs_calls.specs.declared.call.Call.{Call}
@@ -49,6 +49,20 @@ HeadHolds h n = HasNames h.walked × (h.node ≡ n)
 -- a call that stands so holds a node: the position, the one behind, a head's, or the victim
 abbrev pub Holds : Holdings → ℕ → Type 0
 Holds st n = (st.node ≡ n) ⊎ (st.behind ≡ Some n) ⊎ HeadHolds st.source n ⊎ HeadHolds st.dest n ⊎ (st.victim ≡ Some n)
+
+-- the node that a head holds which has walked these names: none before it sets out
+abbrev pub held_on : Key → ℕ → Option ℕ
+held_on [] n = None
+held_on (x ∷ walked) n = Some n
+
+-- what a call holds that has nothing behind it, in the order taken: four nodes at most
+abbrev pub taken : Holdings → List ℕ
+taken st = st.node ∷ option_to_list (held_on st.source.walked st.source.node) ++ option_to_list (held_on st.dest.walked st.dest.node) ++ option_to_list st.victim
+
+-- the same, or none where it holds no node
+abbrev pub taken_if : Option Holdings → List ℕ
+taken_if None = []
+taken_if (Some st) = taken st
 
 -- a head before it sets out
 abbrev pub head_at : ℕ → Head

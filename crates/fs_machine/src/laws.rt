@@ -5,6 +5,7 @@ ghost use Rattle.fs_machine.specs.Laws.{
   StepsAddTheirEntries,
   TheLowestIsHelped,
   LeavingFreesAlone,
+  TheLastTakenGoesFirst,
 };
 
 /// What a seat's step answers, and the state after it, are determined by the state.
@@ -27,4 +28,9 @@ pub fn the_lowest_is_helped()
 /// removes keeps its number until then.
 pub fn leaving_frees_alone()
     ensures { LeavingFreesAlone }
+{}
+
+/// A call whose reply is fixed lets go of the nodes that it holds in the order in which it took them, the last one first.
+pub fn the_last_taken_goes_first()
+    ensures { TheLastTakenGoesFirst }
 {}

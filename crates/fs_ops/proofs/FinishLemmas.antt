@@ -1,5 +1,5 @@
 -- On finishes: a plan does what the machine's finish does, and it can be carried out.
-use Rattle.std.proofs.Common.{◌≡◌, ℕ, ◌+◌, ◌≤◌, ◌<◌, Bool, true, false, [], ◌∷◌, length, take, drop, ◌-◌, Option, Some, None, refl, sym, ap, ap₂, subst, ◌∙◌, ◌||◌, arith, length-drop}
+use Rattle.std.proofs.Common.{◌≡◌, ℕ, ◌+◌, ◌≤◌, ◌<◌, Bool, true, false, List, [], ◌∷◌, length, take, drop, ◌-◌, Option, Some, None, refl, sym, ap, ap₂, subst, ◌∙◌, ◌||◌, arith, length-drop}
 use Rattle.std.specs.Prelude.{not, is_some, IfSome, IsSome}
 use Rattle.fs_names.specs.Failures.{or_else, first_failure}
 use Rattle.fs_names.specs.Names.{Name}
@@ -26,11 +26,12 @@ use Rattle.fs_finish.specs.Endings.{IsEffect}
 use Rattle.fs_finish.specs.Plans.{node_plan, entry_plan, rename_plan, moving, moves, along, carried, added, removed, moved, Changes, CanCarryOut, CanMove}
 use Rattle.fs_machine.specs.Finishes.{Effect, no_effect, entry_effect, move_effect, effect_at, effect_of, finish}
 use Rattle.fs_machine.specs.Moves.{target, path_error, dir_error, there_by}
-use Rattle.fs_machine.specs.Records.{Holdings, Record, Finished}
+use Rattle.fs_machine.specs.Records.{Holdings, Record, Finished, taken_if}
 use Rattle.fs_machine.specs.OpValues.{OpValue, CanFinish, HeadsApart, MovesApart, SpareIf, IsFinished, graph_after, record_of}
 use Rattle.fs_ops.specs.declared.outcome.Outcome.{Outcome}
 use Rattle.fs_ops.specs.declared.outcome.Outcome.TheVariants.{Fixed}
-use Rattle.fs_ops.specs.OpValue.{dropped, holdings_of, holdings_with, op_value, IsForked, Forks, IsOp}
+use Rattle.fs_ops.specs.OpValue.{dropped, holdings_of, holdings_with, op_value, with_held, IsForked, Forks, IsOp}
+use Rattle.fs_ops.proofs.HeldLemmas.{none_went}
 use Rattle.fs_ops.specs.PlanOf.{pair_plan, plan_at, plan_by, plan_of, IsPlan}
 use Rattle.fs_ops.specs.code.NextByNodes.{route_by}
 use Rattle.fs_ops.specs.code.TakeAndLetGo.{started}
@@ -130,7 +131,7 @@ route_there call None behind fork victim st e = absurd (cc)
 route_there call (Some n) behind fork victim st e = let s : holdings_with call n behind fork victim ≡ st = cc in route_with call n behind fork victim ∙ ap route_at s
 
 -- the record and the graph after a finish
-module _ (graph : Graph) (call : Call) (way : Way) (behind : Option ℕ) (fork : Option ForkWay) (victim reserved removed : Option ℕ) (error : Option Errno) (outcome : Outcome) (op : IsOp (form call) error way fork outcome)
+module _ (graph : Graph) (call : Call) (way : Way) (behind : Option ℕ) (fork : Option ForkWay) (victim reserved removed : Option ℕ) (error : Option Errno) (outcome : Outcome) (st : Option Holdings) (op : IsOp (form call) error way fork st outcome)
     (plan : Plan) (is : plan ≡ plan_of graph (op_value call way behind fork victim reserved removed outcome)) (done : Finish) (new : Graph) (made : IsEffect (carried graph (form call) (route_by way.node fork victim) reserved plan) done new) where
   abbrev before : OpValue
   before = op_value call way behind fork victim reserved removed outcome
@@ -142,8 +143,8 @@ module _ (graph : Graph) (call : Call) (way : Way) (behind : Option ℕ) (fork :
       ∙ carried_by graph (form call) way.walked (by_text (form call)) before.holdings (route_by way.node fork victim) reserved (route_there (form call) way.node behind fork victim) h
       ∙ sym (finish_by graph (record_of seat place before) (by_text (form call)) before.holdings)
 
-  pub finished_is : IsFinished graph before (op_value call way behind fork victim done.reserved done.removed (Fixed done.replies))
-  finished_is seat place =
+  pub finished_is : (held : List ℕ) → held ≡ taken_if before.holdings → IsFinished graph before (with_held (Fixed done.replies held) (op_value call way behind fork victim done.reserved done.removed (Fixed done.replies held)))
+  finished_is held all seat place =
       let e = effect_is seat place in
       let r : done.replies ≡ (finish graph (record_of seat place before)).reply = made.reply ∙ ap (λ (m : Effect). m.reply) e in
       let s : done.reserved ≡ (finish graph (record_of seat place before)).reserved = made.reserved ∙ ap (λ (m : Effect). m.reserved) e in
@@ -153,7 +154,7 @@ module _ (graph : Graph) (call : Call) (way : Way) (behind : Option ℕ) (fork :
         call = call;
         walked = before.walked;
         remaining = before.remaining;
-        holdings = before.holdings;
+        holdings = none_went done.replies held before.holdings all i;
         phase = Finished (r i);
         reserved = s i;
         removed = t i;
@@ -354,7 +355,7 @@ can_by store call way behind fork victim reserved None (Some n) text node names 
         arrived_can store call way n behind fork victim reserved text node names (omega arith) forks can
 
 -- the plan of a call in a store
-pub can_carry_out : (store : Seen) (call : Call) (way : Way) (behind : Option ℕ) (fork : Option ForkWay) (victim reserved removed : Option ℕ) (error : Option Errno) (outcome : Outcome) (plan : Plan) → IsOp (form call) error way fork outcome → IsPlan store (op_value call way behind fork victim reserved removed outcome) plan
+pub can_carry_out : (store : Seen) (call : Call) (way : Way) (behind : Option ℕ) (fork : Option ForkWay) (victim reserved removed : Option ℕ) (error : Option Errno) (outcome : Outcome) (st : Option Holdings) (plan : Plan) → IsOp (form call) error way fork st outcome → IsPlan store (op_value call way behind fork victim reserved removed outcome) plan
     → CanFinish store.graph reserved (dropped way.walked (form call)) (holdings_of (form call) way.node behind fork victim) → CanCarryOut store (form call) (route_by way.node fork victim) reserved plan
-can_carry_out store call way behind fork victim reserved removed error outcome plan op planned can =
+can_carry_out store call way behind fork victim reserved removed error outcome st plan op planned can =
     subst (CanBy store (form call) (route_by way.node fork victim) reserved) (sym planned.is) (can_by store (form call) way behind fork victim reserved (by_text (form call)) way.node refl refl op.names op.within op.forks can) planned.real

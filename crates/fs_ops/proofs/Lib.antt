@@ -1,8 +1,8 @@
 pub mod KeyLemmas
 pub mod WantLemmas
 pub mod TookLemmas
-pub mod LeftLemmas
 pub mod BeginLemmas
+pub mod HeldLemmas
 pub mod NextLemmas
 pub mod ForkLemmas
 pub mod HeadLemmas

@@ -1,7 +1,6 @@
 -- Next moves by the nodes where a call stands, and those of the machine.
-use Rattle.std.proofs.Common.{◌≡◌, ℕ, zero, suc, ◌≤◌, nat_lt, true, false, [], ◌∷◌, length, slice_get, Option, Some, None, refl, sym, ap, ◌∙◌, arith}
+use Rattle.std.proofs.Common.{◌≡◌, ℕ, zero, suc, ◌≤◌, false, [], ◌∷◌, length, slice_get, Option, Some, None, refl, sym, ap, ◌∙◌, arith}
 use Rattle.std.specs.Option.{is_some}
-use Rattle.std.proofs.lemmas.Bool.Decides.{nat_tests}
 use Rattle.std.proofs.lemmas.Option.{slice_get_past}
 use Rattle.fs_names.specs.Keys.{Key, parent_of, last_of}
 use Rattle.fs_names.specs.Shapes.{Shape, is_full}
@@ -13,22 +12,21 @@ use Rattle.fs_calls.specs.declared.call.Call.{Call}
 use Rattle.fs_calls.specs.Rows.{as_dir, entry_fault}
 use Rattle.fs_calls.specs.declared.errno.Errno.{Errno}
 use Rattle.fs_walk.specs.declared.want.Want.TheVariants.{Arrived}
-use Rattle.fs_walk.specs.Ways.{Way, ForkWay, name_ahead, fork_last}
+use Rattle.fs_walk.specs.Ways.{Way, ForkWay, name_ahead}
 use Rattle.fs_walk.specs.Wants.{step_want, want, way_want}
 use Rattle.fs_finish.specs.Plans.{entry_plan, moved_by}
-use Rattle.fs_machine.specs.Moves.{take_if, victim_of, target, target_move, first_of, step_move, behind_first, last_held, next_on, next_by}
+use Rattle.fs_machine.specs.Moves.{take_if, victim_of, target, target_move, first_of, step_move, behind_first, next_on, next_by}
 use Rattle.fs_machine.specs.declared.moves.Move.{Move}
-use Rattle.fs_machine.specs.declared.moves.Move.TheVariants.{Finish as Finishes, LetGo as Leaves}
-use Rattle.fs_ops.specs.code.NextByNodes.{held_last, last_next, entry_next, target_next, way_next, way_next_at}
+use Rattle.fs_machine.specs.declared.moves.Move.TheVariants.{Finish as Finishes}
+use Rattle.fs_ops.specs.code.NextByNodes.{entry_next, target_next, way_next, way_next_at}
 use Rattle.fs_ops.specs.PlanOf.{move_of}
-use Rattle.fs_machine.specs.Records.{Walking, Finished}
+use Rattle.fs_machine.specs.Records.{Holdings, Walking}
 use Rattle.fs_finish.specs.Paths.{first_path}
 use Rattle.fs_ops.specs.OpValue.{IsOp, Forks, behind_in, dropped, holdings_with, holdings_of, op_value, reply_of}
 use Rattle.fs_machine.specs.OpValues.{OpValue, record_of, next_of}
 use Rattle.fs_ops.specs.declared.outcome.Outcome.{Outcome}
 use Rattle.fs_ops.specs.declared.outcome.Outcome.TheVariants.{Open, Fixed}
 use Rattle.fs_ops.proofs.KeyLemmas.{last_drop, target_drop, target_take}
-use Rattle.fs_ops.proofs.LeftLemmas.{head_taken}
 use Rattle.fs_ops.proofs.TookLemmas.{ahead_none, holdings_node}
 use Rattle.fs_ops.proofs.ForkLemmas.{move_take, rename_is}
 use Rattle.fs_ops.proofs.WantLemmas.{behind_arrived, walk_tie, step_arrived, move_want, want_then_same}
@@ -94,10 +92,10 @@ way_is graph call way (Some f) victim n at names within forks =
     target_is graph call way f.behind (Some f) victim n at names all forks
     ∙ ap (λ (l : Key). behind_first f.behind (first_of (step_move graph n l) (target_move graph (dropped way.walked call) (holdings_with call n f.behind (Some f) victim)))) (sym rest)
 
-pub next_is : (graph : Graph) (call : Call) (way : Way) (fork : Option ForkWay) (victim reserved removed : Option ℕ) (error : Option Errno) (outcome : Outcome) → IsOp (form call) error way fork outcome → is_some (reply_of outcome) ≡ false → by_text (form call) ≡ None
+pub next_is : (graph : Graph) (call : Call) (way : Way) (fork : Option ForkWay) (victim reserved removed : Option ℕ) (error : Option Errno) (outcome : Outcome) (st : Option Holdings) → IsOp (form call) error way fork st outcome → is_some (reply_of outcome) ≡ false → by_text (form call) ≡ None
     → move_of (way_next graph (form call) way fork victim) ≡ next_of graph (op_value call way (behind_in way.behind fork) fork victim reserved removed outcome)
-next_is graph call way fork victim reserved removed error (Fixed r) op unfinished text = absurd (cc)
-next_is graph call way fork victim reserved removed error (Open prepared) op unfinished text = by way.node refl
+next_is graph call way fork victim reserved removed error (Fixed r held) st op unfinished text = absurd (cc)
+next_is graph call way fork victim reserved removed error (Open prepared) st op unfinished text = by way.node refl
   where
     value : OpValue
     value = op_value call way (behind_in way.behind fork) fork victim reserved removed (Open prepared)
@@ -107,40 +105,3 @@ next_is graph call way fork victim reserved removed error (Open prepared) op unf
     by (Some n) e =
         way_is graph (form call) way fork victim n e op.names op.within op.forks
         ∙ ap (λ (x : Option Errno). next_by graph (record_of 0 None value) x Walking (Some (holdings_with (form call) n (behind_in way.behind fork) fork victim))) (sym text)
-
--- a finished call
-held_is : (call : Form) (way : Way) (behind : Option ℕ) (fork : Option ForkWay) (victim : Option ℕ) (n : ℕ) → Forks call way fork → way.node ≡ Some n → last_held (holdings_with call n behind fork victim) victim ≡ held_last n fork victim
-held_is call way behind None (Some v) n h at = refl
-held_is call way behind (Some f) (Some v) n h at = refl
-held_is call way behind None None n h at = refl
-held_is (AtNode c p) way behind (Some f) None n h at = absurd h
-held_is (AtEntry c p) way behind (Some f) None n h at = absurd h
-held_is (AtPair pairs.Rename p q) way behind (Some f) None n h at = by_dest f.dest.walked refl
-  where
-    same : n ≡ f.node
-    same = let i : way.node ≡ Some f.node = h.node in cc
-
-    by_source : (k : ℕ) → f.dest.walked ≡ 0 → f.source.walked ≡ k → last_held (holdings_with (AtPair pairs.Rename p q) n behind (Some f) None) None ≡ fork_last f
-    by_source zero d e = rw (d, e) same
-    by_source (suc k) d e =
-        let r = head_taken f.names k p (omega (arith, h.source)) in
-        let t : nat_lt 0 (suc k) ≡ true = grind (arith, nat_tests) in
-        rw (d, e, t, r.1.1) refl
-
-    by_dest : (k : ℕ) → f.dest.walked ≡ k → last_held (holdings_with (AtPair pairs.Rename p q) n behind (Some f) None) None ≡ fork_last f
-    by_dest zero d = by_source f.source.walked d refl
-    by_dest (suc k) d =
-        let r = head_taken f.names k q (omega (arith, h.dest)) in
-        let t : nat_lt 0 (suc k) ≡ true = grind (arith, nat_tests) in
-        rw (d, t, r.1.1) refl
-
-pub finished_is : (graph : Graph) (call : Call) (way : Way) (behind : Option ℕ) (fork : Option ForkWay) (victim reserved removed : Option ℕ) (outcome : Outcome) → Forks (form call) way fork → is_some (reply_of outcome) ≡ true
-    → move_of (last_next way.node fork victim) ≡ next_of graph (op_value call way behind fork victim reserved removed outcome)
-finished_is graph call way behind fork victim reserved removed (Open prepared) h fixed = absurd (cc)
-finished_is graph call way behind fork victim reserved removed (Fixed r) h fixed = by way.node refl
-  where
-    by : (o : Option ℕ) → way.node ≡ o → move_of (last_next way.node fork victim) ≡ next_of graph (op_value call way behind fork victim reserved removed (Fixed r))
-    by None e = rw e refl
-    by (Some n) e =
-        ap (λ (o : Option ℕ). move_of (last_next o fork victim)) e ∙ ap Leaves (sym (held_is (form call) way behind fork victim n h e) ∙ ap (last_held (holdings_with (form call) n behind fork victim)) (sym (holdings_victim (form call) n behind fork victim)))
-        ∙ ap (λ (o : Option ℕ). next_by graph (record_of 0 None (op_value call way behind fork victim reserved removed (Fixed r))) (by_text (form call)) (Finished r) (holdings_of (form call) o behind fork victim)) (sym e)

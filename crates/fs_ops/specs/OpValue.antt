@@ -1,5 +1,5 @@
 -- What the code of a call keeps, seen as an OpValue: counts of walked names in the place of keys.
-use Rattle.std.specs.Prelude.{ℕ, ◌≡◌, ◌+◌, ◌≤◌, length, take, drop, Option, Some, None}
+use Rattle.std.specs.Prelude.{ℕ, zero, suc, ◌≡◌, ◌+◌, ◌-◌, ◌≤◌, List, ◌++◌, length, take, drop, Option, Some, None}
 use Rattle.fs_names.specs.Keys.{Key, parent_of}
 use Rattle.fs_calls.specs.Forms.{Form, AtNode, AtEntry, AtPair, by_text, form}
 use Rattle.fs_calls.specs.declared.errno.Errno.{Errno}
@@ -10,8 +10,8 @@ use Rattle.fs_walk.specs.Ways.{Way, ForkWay}
 use Rattle.fs_walk.specs.declared.head.Head as count
 use Rattle.fs_ops.specs.declared.outcome.Outcome.{Outcome}
 use Rattle.fs_ops.specs.declared.outcome.Outcome.TheVariants.{Open, Fixed}
-use Rattle.fs_machine.specs.Moves.{target}
-use Rattle.fs_machine.specs.Records.{Head, Holdings, head_at}
+use Rattle.fs_machine.specs.Moves.{target, left_holdings}
+use Rattle.fs_machine.specs.Records.{Finished, Head, Holdings, head_at, taken_if}
 use Rattle.fs_finish.specs.Paths.{first_path, second_path}
 use Rattle.fs_finish.specs.Rooms.{Suffices}
 use Rattle.fs_machine.specs.OpValues.{OpValue}
@@ -45,9 +45,19 @@ holdings_of call (Some n) behind fork victim = Some (holdings_with call n behind
 -- the reply once it is fixed
 abbrev pub reply_of : Outcome → Option Reply
 reply_of (Open prepared) = None
-reply_of (Fixed reply) = Some reply
+reply_of (Fixed reply held) = Some reply
 
--- the whole value
+-- after so many let gos of a call with this reply
+abbrev pub left_times : Reply → ℕ → Option Holdings → Option Holdings
+left_times reply zero st = st
+left_times reply (suc k) st = left_holdings (Finished reply) (left_times reply k st)
+
+-- what a call holds by its outcome: once its reply is fixed, all that it had taken but the nodes that it has let go since
+abbrev pub held_by : Outcome → Option Holdings → Option Holdings
+held_by (Open prepared) st = st
+held_by (Fixed reply held) st = left_times reply (length (taken_if st) - length held) st
+
+-- the value of a call that has let go of none since its finish
 abbrev pub op_value : Call → Way → Option ℕ → Option ForkWay → Option ℕ → Option ℕ → Option ℕ → Outcome → OpValue
 op_value call way behind fork victim reserved removed outcome =
     record {
@@ -59,6 +69,10 @@ op_value call way behind fork victim reserved removed outcome =
       reserved = reserved;
       removed = removed;
     }
+
+-- the whole value
+abbrev pub with_held : Outcome → OpValue → OpValue
+with_held outcome op = record op { holdings = held_by outcome op.holdings }
 
 -- a fork of a rename whose walk has come to the common directory; each head is on its way to a parent
 pub record IsForked (p q : Key) (way : Way) (fork : ForkWay) : Type 0 where
@@ -75,15 +89,15 @@ Forks (AtPair pairs.Rename p q) way (Some fork) = IsForked p q way fork
 Forks (AtNode c p) way (Some fork) = ⊥
 Forks (AtEntry c p) way (Some fork) = ⊥
 
--- before the finish there is room for it
-abbrev pub IsReady : Form → Outcome → Type 0
-IsReady call (Open prepared) = Suffices call prepared
-IsReady call (Fixed reply) = Unit {0}
+-- before the finish there is room for it; after it what is held is a beginning of what had been taken
+abbrev pub IsReady : Form → Option Holdings → Outcome → Type 0
+IsReady call st (Open prepared) = Suffices call prepared
+IsReady call st (Fixed reply held) = (gone : List ℕ) × (held ++ gone ≡ taken_if st)
 
 -- what the fields of a call keep: the error that its paths decide is kept from the begin, and the walk goes to the target
-pub record IsOp (call : Form) (path_error : Option Errno) (way : Way) (fork : Option ForkWay) (outcome : Outcome) : Type 0 where
+pub record IsOp (call : Form) (path_error : Option Errno) (way : Way) (fork : Option ForkWay) (st : Option Holdings) (outcome : Outcome) : Type 0 where
   pub decided : path_error ≡ by_text call
   pub names : way.names ≡ length (target call)
   pub within : way.walked ≤ way.names
   pub forks : Forks call way fork
-  pub ready : IsReady call outcome
+  pub ready : IsReady call st outcome

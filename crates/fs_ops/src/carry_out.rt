@@ -19,7 +19,7 @@ fn take_room(outcome: &mut Outcome) -> Room
 {
     match outcome {
         Outcome::Open(prepared) => std::mem::replace(prepared, Room::Nothing),
-        Outcome::Fixed(_) => Room::Nothing,
+        Outcome::Fixed(_, _) => Room::Nothing,
     }
 }
 
@@ -45,6 +45,6 @@ impl Op {
         );
         self.reserved = done.reserved;
         self.removed = done.removed;
-        self.outcome = Outcome::Fixed(done.replies);
+        self.outcome = Outcome::Fixed(done.replies, self.stand.held());
     }
 }

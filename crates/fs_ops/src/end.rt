@@ -46,7 +46,7 @@ impl Op {
         } = self;
         give_back(store, reserved);
         match outcome {
-            Outcome::Fixed(replies) => replies.into_pair(),
+            Outcome::Fixed(replies, _) => replies.into_pair(),
             Outcome::Open(_) => unreachable!(),
         }
     }

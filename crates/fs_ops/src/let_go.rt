@@ -4,10 +4,11 @@ ghost use Rattle.std.specs.Prelude.{◌≡◌, None, true};
 ghost use Rattle.fs_nodes.specs.Seen.{seen};
 ghost use Rattle.fs_nodes.specs.Stores.{graph_of};
 ghost use Rattle.fs_machine.specs.Leaving.{is_removed, releasing, cleared};
-ghost use Rattle.fs_ops.specs.code.TakeAndLetGo.{way_freed, way_let_go, fork_let_go, fork_after, way_after};
+ghost use Rattle.fs_ops.specs.code.TakeAndLetGo.{way_freed, way_let_go, fork_let_go};
 ghost use Rattle.fs_machine.specs.OpValues.{IsSpare, IsLetGo};
 
 use crate::op::Op;
+use crate::outcome::Outcome;
 use crate::stand::Stand;
 use fs_nodes::{NodeNo, Store};
 use fs_walk::{Fork, Walk};
@@ -54,25 +55,6 @@ fn free_behind(stand: &mut Stand)
     }
 }
 
-/// What was taken last is let go of.
-fn free_last(stand: &mut Stand)
-    ensures victim { stand.new.victim ≡ None }
-    ensures fork { stand.new.fork ≡ fork_after stand.old.victim stand.old.fork }
-    ensures walk { stand.new.walk ≡ way_after stand.old.victim stand.old.fork stand.old.walk }
-{
-    if stand.victim.is_some() {
-        stand.victim = None;
-        return;
-    }
-    match &mut stand.fork {
-        Some(heads) if heads.has_set_out() => heads.go_back(),
-        _ => {
-            stand.walk.end();
-            stand.fork = None;
-        }
-    }
-}
-
 impl Op {
     /// It has let go of a node: of the one behind its walk or its heads, or, once its reply is fixed, of the one taken last. A node that
     /// it removed leaves the store.
@@ -82,10 +64,11 @@ impl Op {
         ensures change { seen store.new ≡ record (seen store.old) { graph = releasing (is_removed self.old.removed node) node (graph_of store.old) } }
     {
         release_removed(&mut self.removed, node, store);
-        if self.is_finished() {
-            free_last(&mut self.stand);
-        } else {
-            free_behind(&mut self.stand);
+        match &mut self.outcome {
+            Outcome::Fixed(_, held) => {
+                held.pop();
+            }
+            Outcome::Open(_) => free_behind(&mut self.stand),
         }
     }
 }

@@ -23,13 +23,13 @@ pub struct Op {
 impl Model for Op {
     ghost use Rattle.fs_calls.specs.Forms.{form};
     ghost use Rattle.fs_machine.specs.OpValues.{OpValue};
-    ghost use Rattle.fs_ops.specs.OpValue.{behind_in, op_value, IsOp};
+    ghost use Rattle.fs_ops.specs.OpValue.{behind_in, holdings_of, op_value, with_held, IsOp};
 
     ghost Value = { OpValue };
 
-    ghost view = { λ o. op_value o.call o.stand.walk (behind_in o.stand.walk.behind o.stand.fork) o.stand.fork o.stand.victim o.reserved o.removed o.outcome };
+    ghost view = { λ o. with_held o.outcome (op_value o.call o.stand.walk (behind_in o.stand.walk.behind o.stand.fork) o.stand.fork o.stand.victim o.reserved o.removed o.outcome) };
 
-    ghost invariant = { λ o. IsOp (form o.call) o.path_error o.stand.walk o.stand.fork o.outcome };
+    ghost invariant = { λ o. IsOp (form o.call) o.path_error o.stand.walk o.stand.fork (holdings_of (form o.call) o.stand.walk.node (behind_in o.stand.walk.behind o.stand.fork) o.stand.fork o.stand.victim) o.outcome };
 }
 
 impl Op {
@@ -37,7 +37,10 @@ impl Op {
     pub fn position(&self) -> Option<NodeNo>
         ensures { result ≡ option_map (λ st. st.node) self.now.holdings }
     {
-        self.stand.walk.node()
+        match &self.outcome {
+            Outcome::Open(_) => self.stand.walk.node(),
+            Outcome::Fixed(_, held) => held.first(),
+        }
     }
 
     /// The number that the call has reserved, until it is used.
@@ -51,6 +54,6 @@ impl Op {
     pub fn is_finished(&self) -> bool
         ensures { result ≡ is_some self.now.reply }
     {
-        matches!(self.outcome, Outcome::Fixed(_))
+        matches!(self.outcome, Outcome::Fixed(_, _))
     }
 }

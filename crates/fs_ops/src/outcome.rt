@@ -2,12 +2,13 @@
 
 use fs_finish::replies::Replies;
 use fs_finish::room::Room;
+use fs_locks::Held;
 
-/// The room for a finish, or what came of it.
+/// The room for a finish, or what came of it and the nodes that the call has not let go since.
 #[derive(Drop)]
 pub enum Outcome {
     /// The call is not finished.
     Open(Room),
-    /// Its replies are fixed.
-    Fixed(Replies),
+    /// Its replies are fixed, and it lets go of these nodes, the last one first.
+    Fixed(Replies, Held),
 }

@@ -1,11 +1,14 @@
 //! Where a call stands.
 
-ghost use Rattle.std.specs.Prelude.{◌≡◌};
-ghost use Rattle.fs_ops.specs.code.NextByNodes.{held_last, route_by};
+ghost use Rattle.std.specs.Prelude.{◌≡◌, ◌<◌, ◌++◌, length, option_to_list};
+ghost use Rattle.fs_locks.specs.declared.held.TheConstants.{HELD_LIMIT};
+ghost use Rattle.fs_ops.specs.code.NextByNodes.{route_by};
+ghost use Rattle.fs_ops.specs.code.TakeAndLetGo.{all_held, head_held};
 
 use fs_finish::plan::Route;
+use fs_locks::Held;
 use fs_nodes::NodeNo;
-use fs_walk::{Fork, Walk};
+use fs_walk::{Fork, Head, Walk};
 
 /// Where a call stands: its walk, the heads of a rename behind that, and a victim.
 #[derive(Drop)]
@@ -18,16 +21,33 @@ pub struct Stand {
     pub victim: Option<NodeNo>,
 }
 
+/// A head that has set out holds its node.
+fn push_head(held: &mut Held, head: Head)
+    requires { length held.old < HELD_LIMIT }
+    ensures { held.new ≡ held.old ++ option_to_list (head_held head) }
+{
+    if head.walked > 0 {
+        held.push(head.node);
+    }
+}
+
 impl Stand {
-    /// The node that was taken last, of a call whose walk is at this one.
-    pub fn held_last(&self, node: NodeNo) -> NodeNo
-        ensures { result ≡ held_last node self.now.fork self.now.victim }
+    /// What a call that finishes holds: the node of its walk, those of the heads that have set out, and a victim.
+    pub fn held(&self) -> Held
+        ensures { result ≡ all_held self.now.walk.node self.now.fork self.now.victim }
     {
-        match (self.victim, &self.fork) {
-            (Some(victim), _) => victim,
-            (None, Some(heads)) => heads.last(),
-            (None, None) => node,
+        let mut held = Held::new();
+        if let Some(node) = self.walk.node() {
+            held.push(node);
+            if let Some(heads) = &self.fork {
+                push_head(&mut held, heads.source());
+                push_head(&mut held, heads.dest());
+            }
+            if let Some(victim) = self.victim {
+                held.push(victim);
+            }
         }
+        held
     }
 
     /// The route of a rename, from where its heads are, or else its walk; of another call it means nothing.

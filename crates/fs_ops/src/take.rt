@@ -1,6 +1,6 @@
 //! A call takes a node.
 
-ghost use Rattle.std.specs.Prelude.{◌≡◌, ◌≤◌, ℕ, Some, cond, length};
+ghost use Rattle.std.specs.Prelude.{◌≡◌, ◌≤◌, ℕ, Some, None, cond, length};
 ghost use Rattle.fs_names.specs.declared.limits.TheConstants.{PATH_LIMIT};
 ghost use Rattle.fs_names.specs.Keys.{parent_of};
 ghost use Rattle.fs_names.specs.Parts.{common};
@@ -79,8 +79,9 @@ fn took_at_target(aim: Target<'_>, stand: &mut Stand, node: NodeNo)
 }
 
 impl Op {
-    /// It has taken a node: a step of its walk, of a head, or the victim.
+    /// It has taken a node: a step of its walk, of a head, or the victim. A call whose reply is fixed takes none.
     pub fn took(&mut self, node: NodeNo)
+        requires { self.old.reply ≡ None }
         ensures { IsTook self.old node self.new }
     {
         if self.stand.walk.may_take() {

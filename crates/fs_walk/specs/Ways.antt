@@ -47,10 +47,6 @@ new_fork n names = record { node = n; names = names; source = start_at n; dest =
 abbrev pub has_set_out : ForkWay → Bool
 has_set_out fork = nat_lt 0 fork.source.walked || nat_lt 0 fork.dest.walked
 
--- where the head stands that walked last; the common directory, where none has walked a name
-abbrev pub fork_last : ForkWay → ℕ
-fork_last fork = cond (nat_lt 0 fork.dest.walked) fork.dest.node (cond (nat_lt 0 fork.source.walked) fork.source.node fork.node)
-
 -- one head after a take: at the root, or a step further
 abbrev pub way_took_by : Option ℕ → Way → ℕ → Way
 way_took_by None way n = record way { node = Some n; behind = None }
@@ -77,10 +73,6 @@ behind_left (Some m) n = cond (eqb m n) None (Some m)
 -- one head after it let go of a node behind it
 abbrev pub way_left : Way → ℕ → Way
 way_left way n = record way { behind = behind_left way.behind n }
-
--- one head after it let go of everything
-abbrev pub way_ended : Way → Way
-way_ended way = record way { node = None; behind = None }
 
 -- a head after a step
 abbrev pub head_took : Head → ℕ → Head
@@ -115,7 +107,3 @@ has_arrived source dest fork = not (is_some (head_name source fork.names fork.so
 -- both heads after they let go of a node behind
 abbrev pub fork_left : ForkWay → ℕ → ForkWay
 fork_left fork n = record fork { behind = behind_left fork.behind n }
-
--- both heads after the one that walked last has gone back to the common directory
-abbrev pub fork_returned : ForkWay → ForkWay
-fork_returned fork = cond (nat_lt 0 fork.dest.walked) (record fork { dest = start_at fork.node }) (record fork { source = start_at fork.node })

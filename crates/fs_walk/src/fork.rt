@@ -1,7 +1,7 @@
 //! A walk with two heads.
 
 ghost use Rattle.std.specs.Prelude.{◌≡◌, ◌≤◌};
-ghost use Rattle.fs_walk.specs.Ways.{new_fork, fork_last, has_set_out, fork_took, has_arrived, head_name, fork_left, fork_returned};
+ghost use Rattle.fs_walk.specs.Ways.{new_fork, has_set_out, fork_took, has_arrived, head_name, fork_left};
 ghost use Rattle.fs_walk.specs.Wants.{fork_want, dir_want};
 ghost use Rattle.fs_nodes.specs.Stores.{graph_of};
 
@@ -104,19 +104,6 @@ impl Fork {
         self.source.walked > 0 || self.dest.walked > 0
     }
 
-    /// Where the head stands that walked last; the common directory, where none has walked a name.
-    pub fn last(&self) -> NodeNo
-        ensures { result ≡ fork_last self.now }
-    {
-        if self.dest.walked > 0 {
-            self.dest.node
-        } else if self.source.walked > 0 {
-            self.source.node
-        } else {
-            self.node
-        }
-    }
-
     /// What it wants next, along the paths that it is lent, the same ones each time. What is behind is let go first. From a common
     /// directory first the source head walks to the parent of the source path, then the destination head to that of the
     /// destination path. It fails with ENOTDIR where a file has a name ahead or stands in the place of a parent,
@@ -162,18 +149,6 @@ impl Fork {
     {
         if self.behind == Some(node) {
             self.behind = None;
-        }
-    }
-
-    /// The head that walked last lets go of everything and is at the common directory again.
-    pub fn go_back(&mut self)
-        ensures { self.new ≡ fork_returned self.old }
-    {
-        let head = Head::new(self.node);
-        if self.dest.walked > 0 {
-            self.dest = head;
-        } else {
-            self.source = head;
         }
     }
 }

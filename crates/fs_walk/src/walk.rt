@@ -1,7 +1,7 @@
 //! A walk with one head.
 
 ghost use Rattle.std.specs.Prelude.{◌≡◌, ◌≤◌, IsTrue};
-ghost use Rattle.fs_walk.specs.Ways.{new_way, way_took, may_take, way_left, way_ended};
+ghost use Rattle.fs_walk.specs.Ways.{new_way, way_took, may_take, way_left};
 ghost use Rattle.fs_walk.specs.Wants.{want};
 ghost use Rattle.fs_nodes.specs.Stores.{graph_of};
 
@@ -121,13 +121,5 @@ impl Walk {
         if self.behind == Some(node) {
             self.behind = None;
         }
-    }
-
-    /// It lets go of everything.
-    pub fn end(&mut self)
-        ensures { self.new ≡ way_ended self.old }
-    {
-        self.node = None;
-        self.behind = None;
     }
 }

@@ -8,7 +8,7 @@ use Rattle.fs_calls.specs.declared.target.EntryCall.{EntryCall}
 use Rattle.fs_calls.specs.declared.target.PairCall.TheVariants as pairs
 use Rattle.fs_calls.specs.Rows.{as_dir, entry_fault, rename_fault}
 use Rattle.fs_nodes.specs.Graphs.{Graph, entry_shape}
-use Rattle.fs_walk.specs.Ways.{Way, ForkWay, fork_last}
+use Rattle.fs_walk.specs.Ways.{Way, ForkWay}
 use Rattle.fs_walk.specs.Wants.{want, fork_want}
 use Rattle.fs_walk.specs.declared.want.Want.{Want}
 use Rattle.fs_walk.specs.declared.want.Want.TheVariants as wants
@@ -22,22 +22,16 @@ use Rattle.fs_ops.specs.declared.next.Next.{Next}
 use Rattle.fs_ops.specs.declared.next.Next.TheVariants.{Take as Takes, LetGo as Leaves, Finish as Finishes, Return as Ends}
 use Rattle.fs_ops.specs.code.TakeAndLetGo.{started}
 
--- the node that was taken last: the victim, or that of the head that walked last, or that of the walk
-abbrev pub held_last : ℕ → Option ForkWay → Option ℕ → ℕ
-held_last n fork (Some v) = v
-held_last n (Some fork) None = fork_last fork
-held_last n None None = n
-
 -- the route of a rename
 abbrev pub route_by : Option ℕ → Option ForkWay → Option ℕ → Route
 route_by _ (Some fork) victim = record { source = fork.source.node; dest = fork.dest.node; victim = victim }
 route_by (Some n) None victim = record { source = n; dest = n; victim = victim }
 route_by None None victim = record { source = 0; dest = 0; victim = victim }
 
--- a finished call lets it go; one that holds nothing returns
-abbrev pub last_next : Option ℕ → Option ForkWay → Option ℕ → Next
-last_next None fork victim = Ends
-last_next (Some n) fork victim = Leaves (held_last n fork victim)
+-- a finished call lets go of what it took last; one that holds nothing returns
+abbrev pub last_next : Option ℕ → Next
+last_next None = Ends
+last_next (Some n) = Leaves n
 
 -- a victim that is wanted, there and not yet held
 abbrev pub to_take : Bool → Option ℕ → Option ℕ → Option ℕ

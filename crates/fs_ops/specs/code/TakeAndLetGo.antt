@@ -1,8 +1,9 @@
 -- What a take and a let go make of a walk, of a fork and of a victim.
-use Rattle.std.specs.Prelude.{ℕ, ◌≡◌, cond, Option, Some, None}
+use Rattle.std.specs.Prelude.{ℕ, ◌≡◌, cond, nat_lt, option_to_list, List, [], ◌∷◌, ◌++◌, Option, Some, None}
 use Rattle.fs_calls.specs.Forms.{Form}
 use Rattle.fs_names.specs.Keys.{Key}
-use Rattle.fs_walk.specs.Ways.{Way, ForkWay, new_fork, way_ended, has_set_out, fork_took, fork_returned}
+use Rattle.fs_walk.specs.Ways.{Way, ForkWay, new_fork, has_set_out, fork_took}
+use Rattle.fs_walk.specs.declared.head.Head.{Head}
 use Rattle.fs_machine.specs.Moves.{target_took}
 use Rattle.fs_ops.specs.OpValue.{behind_in, dropped, holdings_with}
 
@@ -35,14 +36,16 @@ abbrev pub fork_let_go : Option ForkWay → Option ForkWay
 fork_let_go None = None
 fork_let_go (Some fork) = Some (record fork { behind = None })
 
--- of a finished call the victim goes first, then a head goes back, then all is let go of
-abbrev pub fork_after : Option ℕ → Option ForkWay → Option ForkWay
-fork_after (Some v) fork = fork
-fork_after None None = None
-fork_after None (Some fork) = cond (has_set_out fork) (Some (fork_returned fork)) None
+-- the node that a head holds
+abbrev pub head_held : Head → Option ℕ
+head_held head = cond (nat_lt 0 head.walked) (Some head.node) None
 
--- the walk after a let go of a finished call
-abbrev pub way_after : Option ℕ → Option ForkWay → Way → Way
-way_after (Some v) fork way = way
-way_after None None way = way_ended way
-way_after None (Some fork) way = cond (has_set_out fork) way (way_ended way)
+-- the nodes that the heads hold
+abbrev pub heads_held : Option ForkWay → List ℕ
+heads_held None = []
+heads_held (Some fork) = option_to_list (head_held fork.source) ++ option_to_list (head_held fork.dest)
+
+-- what a call that finishes holds, in the order taken
+abbrev pub all_held : Option ℕ → Option ForkWay → Option ℕ → List ℕ
+all_held None fork victim = []
+all_held (Some n) fork victim = n ∷ heads_held fork ++ option_to_list victim

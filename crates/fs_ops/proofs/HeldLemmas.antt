@@ -1,0 +1,185 @@
+-- What a finished call still holds, and the machine's let gos.
+use Rattle.std.proofs.Common.{◌≡◌, ℕ, zero, suc, ◌+◌, ◌-◌, ◌≤◌, nat_lt, true, false, List, [], ◌∷◌, ◌++◌, length, take, drop, Option, Some, None, refl, sym, ap, ap₂, ◌∙◌, subst, MatchOption, arith, length-append, append_assoc, append-nil, length-drop}
+use Rattle.std.proofs.Math.Seq.{take-append_seam}
+use Rattle.std.specs.Prelude.{option_map, option_to_list}
+use Rattle.std.specs.Option.{is_some}
+use Rattle.std.proofs.lemmas.Bool.Decides.{nat_tests}
+use Rattle.fs_names.specs.Keys.{Key, parent_of}
+use Rattle.fs_names.specs.Names.{Name}
+use Rattle.fs_names.proofs.ParentLemmas.{parent_length}
+use Rattle.fs_calls.specs.Forms.{form, Form, AtNode, AtEntry, AtPair, by_text}
+use Rattle.fs_calls.specs.declared.target.PairCall.TheVariants as pairs
+use Rattle.fs_calls.specs.declared.call.Call.{Call}
+use Rattle.fs_calls.specs.declared.reply.Reply.{Reply}
+use Rattle.fs_nodes.specs.Graphs.{Graph}
+use Rattle.fs_locks.specs.Held.{first_of, last_of}
+use Rattle.fs_walk.specs.Ways.{Way, ForkWay}
+use Rattle.fs_walk.specs.declared.head.Head as count
+use Rattle.fs_machine.specs.Leaving.{is_removed, cleared}
+use Rattle.fs_machine.specs.Moves.{next_by, last_held, left_last, left_holdings}
+use Rattle.fs_machine.specs.Records.{Finished, Holdings, held_on, taken, taken_if}
+use Rattle.fs_machine.specs.OpValues.{OpValue, IsLetGo, next_of, phase_of, record_of}
+use Rattle.fs_machine.proofs.LastTakenGoesFirst.{popped}
+use Rattle.fs_ops.specs.OpValue.{Forks, IsReady, head_of, held_by, holdings_of, holdings_with, left_times, op_value, reply_of, with_held}
+use Rattle.fs_ops.specs.PlanOf.{move_of}
+use Rattle.fs_ops.specs.code.NextByNodes.{last_next}
+use Rattle.fs_ops.specs.code.TakeAndLetGo.{all_held, head_held, heads_held}
+use Rattle.fs_ops.specs.declared.outcome.Outcome.{Outcome}
+use Rattle.fs_ops.specs.declared.outcome.Outcome.TheVariants.{Open, Fixed}
+
+-- ---- of what was taken, as many are left as did not go
+
+left_after : (reply : Reply) (st : Option Holdings) (k : ℕ) → k ≤ length (taken_if st) → (gone : List ℕ) × ((length gone ≡ k) × (taken_if (left_times reply k st) ++ gone ≡ taken_if st))
+left_after reply st zero h = ([], (refl, append-nil (taken_if st)))
+left_after reply st (suc k) h =
+    let r : (gone : List ℕ) × ((length gone ≡ k) × (taken_if (left_times reply k st) ++ gone ≡ taken_if st)) = left_after reply st k (omega (arith, h)) in
+    let all : length (taken_if (left_times reply k st) ++ r.0) ≡ length (taken_if st) = ap length r.1.1 in
+    let more : (n : ℕ) × (taken_if (left_holdings (Finished reply) (left_times reply k st)) ++ n ∷ r.0 ≡ taken_if (left_times reply k st) ++ r.0) = one_more (left_times reply k st) r.0 (omega (arith, all, h, r.1.0)) in
+    (more.0 ∷ r.0, (ap suc r.1.0, more.1 ∙ r.1.1))
+  where
+    one_more : (o : Option Holdings) (gone : List ℕ) → suc (length gone) ≤ length (taken_if o ++ gone) → (n : ℕ) × (taken_if (left_holdings (Finished reply) o) ++ n ∷ gone ≡ taken_if o ++ gone)
+    one_more None gone less = absurd (omega (arith, less))
+    one_more (Some s) gone less = (last_held s s.victim, sym (append_assoc (taken_if (left_last s s.victim)) (last_held s s.victim ∷ []) gone) ∙ ap (λ (l : List ℕ). l ++ gone) (sym (popped s)))
+
+-- two beginnings of one list, to which as much is missing, are one
+same_front : (a b c d : List ℕ) → a ++ c ≡ b ++ d → length c ≡ length d → a ≡ b
+same_front a b c d e same =
+    let all : length (a ++ c) ≡ length (b ++ d) = ap length e in
+    let n : length a ≡ length b = (let x : length (a ++ c) ≡ length a + length c = length-append a c in let y : length (b ++ d) ≡ length b + length d = length-append b d in omega (arith, all, x, y, same)) in
+    sym (take-append_seam a c) ∙ ap (λ (l : List ℕ). take (length a) l) e ∙ ap (λ (k : ℕ). take k (b ++ d)) n ∙ take-append_seam b d
+
+-- so what is held is what the machine's call holds
+held_taken : (reply : Reply) (held : List ℕ) (st : Option Holdings) → (gone : List ℕ) × (held ++ gone ≡ taken_if st) → taken_if (held_by (Fixed reply held) st) ≡ held
+held_taken reply held st (gone, e) =
+    let all : length (held ++ gone) ≡ length (taken_if st) = ap length e in
+    let n : length (held ++ gone) ≡ length held + length gone = length-append held gone in
+    let r = left_after reply st (length (taken_if st) - length held) (omega arith) in
+    let k : length r.0 ≡ length (taken_if st) - length held = r.1.0 in
+    same_front (taken_if (held_by (Fixed reply held) st)) held r.0 gone (r.1.1 ∙ sym e) (omega (arith, all, n, k))
+
+-- ---- the next move
+
+last_pushed : (l : List ℕ) (n : ℕ) → last_of (l ++ n ∷ []) ≡ Some n
+last_pushed [] n = refl
+last_pushed (m ∷ []) n = refl
+last_pushed (m ∷ k ∷ l) n = last_pushed (k ∷ l) n
+
+-- a finished call lets go of what it took last, and one that holds nothing returns
+last_next_is : (graph : Graph) (op : OpValue) (reply : Reply) → op.reply ≡ Some reply → move_of (last_next (last_of (taken_if op.holdings))) ≡ next_of graph op
+last_next_is graph op reply fixed = by op.holdings refl
+  where
+    by : (o : Option Holdings) → op.holdings ≡ o → move_of (last_next (last_of (taken_if o))) ≡ next_of graph op
+    by None e = sym (ap₂ (next_by graph (record_of 0 None op) (by_text (form op.call))) (ap (phase_of None) fixed) e)
+    by (Some st) e =
+        ap (λ (o : Option ℕ). move_of (last_next o)) (ap last_of (popped st) ∙ last_pushed (taken_if (left_last st st.victim)) (last_held st st.victim))
+        ∙ sym (ap₂ (next_by graph (record_of 0 None op) (by_text (form op.call))) (ap (phase_of None) fixed) e)
+
+pub finished_next : (graph : Graph) (call : Form) (op now : OpValue) (outcome : Outcome) (reply : Reply) (held : List ℕ) → outcome ≡ Fixed reply held → op.reply ≡ reply_of outcome → IsReady call op.holdings outcome → with_held outcome op ≡ now
+    → move_of (last_next (last_of held)) ≡ next_of graph now
+finished_next graph call op now outcome reply held is fixed ready view =
+    ap (λ (l : List ℕ). move_of (last_next (last_of l))) (sym (held_taken reply held op.holdings (subst (IsReady call op.holdings) is ready)))
+    ∙ last_next_is graph (with_held (Fixed reply held) op) reply (fixed ∙ ap reply_of is)
+    ∙ ap (next_of graph) (ap (λ (o : Outcome). with_held o op) (sym is) ∙ view)
+
+-- and where it stands is what it took first
+first_taken : (o : Option Holdings) → first_of (taken_if o) ≡ option_map (λ (st : Holdings). st.node) o
+first_taken None = refl
+first_taken (Some st) = refl
+
+pub finished_position : (call : Form) (op now : OpValue) (outcome : Outcome) (reply : Reply) (held : List ℕ) → outcome ≡ Fixed reply held → IsReady call op.holdings outcome → with_held outcome op ≡ now → first_of held ≡ option_map (λ (st : Holdings). st.node) now.holdings
+finished_position call op now outcome reply held is ready view =
+    ap first_of (sym (held_taken reply held op.holdings (subst (IsReady call op.holdings) is ready)))
+    ∙ first_taken (held_by (Fixed reply held) op.holdings)
+    ∙ ap (λ (w : OpValue). option_map (λ (st : Holdings). st.node) w.holdings) (ap (λ (o : Outcome). with_held o op) (sym is) ∙ view)
+
+-- ---- a let go
+
+one_gone : (reply : Reply) (st : Option Holdings) (held rest : List ℕ) (n : ℕ) → held ≡ rest ++ n ∷ [] → length held ≤ length (taken_if st) → held_by (Fixed reply rest) st ≡ left_holdings (Finished reply) (held_by (Fixed reply held) st)
+one_gone reply st held rest n e within =
+    let l : length held ≡ length (rest ++ n ∷ []) = ap length e in
+    let m : length (rest ++ n ∷ []) ≡ length rest + 1 = length-append rest (n ∷ []) in
+    let k : length (taken_if st) - length rest ≡ suc (length (taken_if st) - length held) = omega (arith, l, m, within) in
+    ap (λ (k : ℕ). left_times reply k st) k
+
+-- one that holds nothing stays so
+none_gone : (reply : Reply) (o : Option Holdings) → taken_if o ≡ [] → o ≡ left_holdings (Finished reply) o
+none_gone reply None e = refl
+none_gone reply (Some st) e = absurd (cc)
+
+-- what is held after a let go
+held_less : (reply : Reply) (st : Option Holdings) (old new : List ℕ) (last : Option ℕ) → (gone : List ℕ) × (old ++ gone ≡ taken_if st) → MatchOption last ((old ≡ []) × (new ≡ [])) (λ node. old ≡ new ++ node ∷ [])
+    → held_by (Fixed reply new) st ≡ left_holdings (Finished reply) (held_by (Fixed reply old) st)
+held_less reply st old new None h (e, f) = ap (λ (l : List ℕ). held_by (Fixed reply l) st) (f ∙ sym e) ∙ none_gone reply (held_by (Fixed reply old) st) (held_taken reply old st h ∙ e)
+held_less reply st old new (Some n) (gone, e) f =
+    let all : length (old ++ gone) ≡ length (taken_if st) = ap length e in
+    let m : length (old ++ gone) ≡ length old + length gone = length-append old gone in
+    one_gone reply st old new n f (omega (arith, all, m))
+
+pub last_left : (call : Call) (way : Way) (behind : Option ℕ) (fork : Option ForkWay) (victim reserved removed removed_new : Option ℕ) (outcome : Outcome) (reply : Reply) (old new : List ℕ) (last : Option ℕ) (n : ℕ) (now : OpValue)
+    → outcome ≡ Fixed reply old → IsReady (form call) (holdings_of (form call) way.node behind fork victim) outcome → MatchOption last ((old ≡ []) × (new ≡ [])) (λ node. old ≡ new ++ node ∷ []) → removed_new ≡ cleared (is_removed removed n) removed
+    → with_held outcome (op_value call way behind fork victim reserved removed outcome) ≡ now → IsLetGo now n (with_held (Fixed reply new) (op_value call way behind fork victim reserved removed_new (Fixed reply new)))
+last_left call way behind fork victim reserved removed removed_new outcome reply old new last n now is ready pops cleared_is view seat place =
+    let st : Option Holdings = holdings_of (form call) way.node behind fork victim in
+    rw (← view, is, cleared_is, held_less reply st old new last (subst (IsReady (form call) st) is ready) pops) refl
+
+-- and it is a beginning still
+pub held_begins : (old new all : List ℕ) (last : Option ℕ) → (gone : List ℕ) × (old ++ gone ≡ all) → MatchOption last ((old ≡ []) × (new ≡ [])) (λ node. old ≡ new ++ node ∷ []) → (gone : List ℕ) × (new ++ gone ≡ all)
+held_begins old new all None (gone, e) (f, g) = (gone, ap (λ (l : List ℕ). l ++ gone) (g ∙ sym f) ∙ e)
+held_begins old new all (Some n) (gone, e) f = (n ∷ gone, sym (append_assoc new (n ∷ []) gone) ∙ ap (λ (l : List ℕ). l ++ gone) (sym f) ∙ e)
+
+-- ---- at the finish
+
+-- names that a head has walked
+some_name : (k : ℕ) (l : Key) → suc k ≤ length l → (x : Name) × ((r : Key) × (l ≡ x ∷ r))
+some_name k [] h = absurd (omega arith)
+some_name k (x ∷ r) h = (x, (r, refl))
+
+head_walked : (names j : ℕ) (p : Key) → names + suc j ≤ length (parent_of p) → (x : Name) × ((r : Key) × (take (suc j) (drop names p) ≡ x ∷ r))
+head_walked names j p h =
+    let e : length (parent_of p) ≡ length p - 1 = parent_length p in
+    let l : length (drop names p) ≡ length p - names = length-drop names p in
+    let s : (x : Name) × ((r : Key) × (drop names p ≡ x ∷ r)) = some_name j (drop names p) (omega (arith, h, e, l)) in
+    (s.0, (take j s.1.0, ap (take (suc j)) s.1.1))
+
+head_held_is : (p : Key) (names : ℕ) (head : count.Head) → names + head.walked ≤ length (parent_of p) → head_held head ≡ held_on (head_of p names head).walked head.node
+head_held_is p names head within = by head.walked refl within
+  where
+    by : (k : ℕ) → head.walked ≡ k → names + k ≤ length (parent_of p) → head_held head ≡ held_on (take k (drop names p)) head.node
+    by zero e h = rw e refl
+    by (suc j) e h = let r = head_walked names j p h in let t : nat_lt 0 (suc j) ≡ true = grind (arith, nat_tests) in rw (e, t, r.1.1) refl
+
+-- a finish leaves all that had been taken
+pub all_held_is : (call : Form) (way : Way) (behind : Option ℕ) (fork : Option ForkWay) (victim : Option ℕ) → Forks call way fork → all_held way.node fork victim ≡ taken_if (holdings_of call way.node behind fork victim)
+all_held_is call way behind fork victim h = by way.node
+  where
+    heads : (call : Form) (fork : Option ForkWay) → Forks call way fork → (n : ℕ) → n ∷ heads_held fork ++ option_to_list victim ≡ taken (holdings_with call n behind fork victim)
+    heads call None h n = refl
+    heads (AtNode c p) (Some f) h n = absurd h
+    heads (AtEntry c p) (Some f) h n = absurd h
+    heads (AtPair pairs.Rename p q) (Some f) h n =
+        let s : head_held f.source ≡ held_on (head_of p f.names f.source).walked f.source.node = head_held_is p f.names f.source h.source in
+        let d : head_held f.dest ≡ held_on (head_of q f.names f.dest).walked f.dest.node = head_held_is q f.names f.dest h.dest in
+        ap₂ (λ (a b : Option ℕ). n ∷ option_to_list a ++ option_to_list b ++ option_to_list victim) s d
+
+    by : (o : Option ℕ) → all_held o fork victim ≡ taken_if (holdings_of call o behind fork victim)
+    by None = refl
+    by (Some n) = heads call fork h n
+
+-- and so none has gone
+pub none_went : (reply : Reply) (held : List ℕ) (st : Option Holdings) → held ≡ taken_if st → held_by (Fixed reply held) st ≡ st
+none_went reply held st e =
+    let n : length held ≡ length (taken_if st) = ap length e in
+    let k : length (taken_if st) - length held ≡ 0 = omega (arith, n) in
+    ap (λ (k : ℕ). left_times reply k st) k
+
+-- ---- a call that is not finished
+
+-- its value is that of its fields
+pub still_open : (outcome : Outcome) (op now : OpValue) → with_held outcome op ≡ now → is_some (reply_of outcome) ≡ false → op ≡ now
+still_open (Open prepared) op now e unfinished = e
+still_open (Fixed reply held) op now e unfinished = absurd (cc)
+
+-- and the room for its finish is there wherever it stands
+pub still_ready : (call : Form) (st now : Option Holdings) (outcome : Outcome) → is_some (reply_of outcome) ≡ false → IsReady call st outcome → IsReady call now outcome
+still_ready call st now (Open prepared) unfinished ready = ready
+still_ready call st now (Fixed reply held) unfinished ready = absurd (cc)
