@@ -4,7 +4,7 @@ use Rattle.fs_names.specs.Keys.{Key, after_prefix}
 use Rattle.fs_names.specs.Parts.{HasNames}
 use Rattle.fs_calls.specs.Forms.{Fits}
 use Rattle.fs_laws.specs.Maps.{Map}
-use Rattle.fs_machine.specs.Records.{Holdings, Phase, Walking, Placed, Record, Records, Holds}
+use Rattle.fs_machine.specs.Records.{Holdings, Side, head_on, head_at, Phase, Walking, Placed, Record, Records, Holds}
 
 -- the call stands at this key, by the numbers at the keys
 pub record Located (tree : Map ℕ) (key : Key) (st : Holdings) : Type 0 where
@@ -55,5 +55,4 @@ IsFree ops n = (d : ℕ) (q : Record) (other : Holdings) → ops d ≡ Some q �
 pub record Shrinks (st new : Holdings) : Type 0 where
   pub node : new.node ≡ st.node
   pub holds : (n : ℕ) → Holds new n → Holds st n
-  pub source : ((new.source.walked ≡ st.source.walked) × (new.source.node ≡ st.source.node)) ⊎ ((new.source.walked ≡ []) × (new.source.node ≡ st.node))
-  pub dest : ((new.dest.walked ≡ st.dest.walked) × (new.dest.node ≡ st.dest.node)) ⊎ ((new.dest.walked ≡ []) × (new.dest.node ≡ st.node))
+  pub head : (side : Side) → (head_on side new ≡ head_on side st) ⊎ (head_on side new ≡ head_at st.node)

@@ -11,7 +11,7 @@ use Rattle.fs_calls.specs.declared.reply.Reply.{Reply}
 use Rattle.fs_calls.specs.declared.call.Call.{Call}
 use Rattle.fs_nodes.specs.Graphs.{Graph, at, numbers, graph_shapes, IsGraph}
 use Rattle.fs_machine.specs.Moves.{target}
-use Rattle.fs_machine.specs.Records.{Holdings, Walking, Placed, Finished, Record, Records, Holds}
+use Rattle.fs_machine.specs.Records.{Holdings, Side, head_on, Walking, Placed, Finished, Record, Records, Holds}
 use Rattle.fs_laws.specs.JournalViews.{JournalView, start, view_after, IsLawful}
 use Rattle.fs_timeline.specs.Timeline.{begins, commit_count}
 use Rattle.fs_laws.specs.Settled.{settle, settle_replies}
@@ -103,7 +103,8 @@ VictimAt graph (AtPair pairs.Rename p q) st = (v : ℕ) → st.victim ≡ Some v
 
 -- the places of its holdings at which a call may hold a node
 pub data Slot : Type 0 where
-  At_node At_behind At_source At_dest At_victim : Slot
+  At_node At_behind At_victim : Slot
+  At_head : Side → Slot
 
 -- a node of a head that has set out
 abbrev pub if_walked : Key → Option ℕ → Option ℕ
@@ -114,8 +115,7 @@ if_walked (x ∷ walked) n = n
 abbrev pub in_slot : Holdings → Slot → Option ℕ
 in_slot st At_node = Some st.node
 in_slot st At_behind = st.behind
-in_slot st At_source = if_walked st.source.walked (Some st.source.node)
-in_slot st At_dest = if_walked st.dest.walked (Some st.dest.node)
+in_slot st (At_head side) = if_walked (head_on side st).walked (Some (head_on side st).node)
 in_slot st At_victim = st.victim
 
 -- no node is held at two places

@@ -10,7 +10,7 @@ use Rattle.fs_calls.specs.declared.reply.Reply.{Reply}
 use Rattle.fs_nodes.specs.Graphs.{Graph, set_at}
 use Rattle.fs_machine.specs.Finishes.{finish}
 use Rattle.fs_machine.specs.Leaving.{let_go, finished_op}
-use Rattle.fs_machine.specs.Moves.{next, target, victim_took, dest_stepped, source_stepped, left_holdings, took, took_by}
+use Rattle.fs_machine.specs.Moves.{next, target, victim_took, stepped, left_holdings, took, took_by}
 use Rattle.fs_machine.specs.declared.moves.Move.TheVariants.{Take as Takes}
 use Rattle.fs_machine.specs.Records.{Holdings, Phase, Walking, Placed, Finished, Record, Records, holdings_at}
 use Rattle.fs_timeline.specs.Timeline.{commit_count}
@@ -24,8 +24,8 @@ use Rattle.fs_laws.proofs.trees.Prefixes.{prefix_append}
 use Rattle.fs_laws.proofs.events.OneCallChanged.{Place, Here, Else, place}
 use Rattle.fs_laws.proofs.events.JustFinished.{Either, Changed, Old, either}
 use Rattle.fs_laws.proofs.events.Take.{TakesFrom, From_nowhere, From_holdings, takes_from}
-use Rattle.fs_laws.proofs.calls.Takes.{Take, Walk, Entry, Source, Dest, Replaced, takes_by, with_holdings, walked_on}
-use Rattle.fs_laws.proofs.calls.HeadOrder.{HeadsInOrder, in_turn}
+use Rattle.fs_laws.proofs.calls.Takes.{Entry, Of_head, Replaced, Take, Walk, There, takes_by, with_holdings, walked_on}
+use Rattle.fs_laws.proofs.calls.HeadOrder.{HeadsInOrder, no_victim}
 use Rattle.fs_laws.proofs.states.Headline.{run_keeps}
 use Rattle.fs_laws.proofs.states.Agreement.{run_accounts}
 use Rattle.fs_numbers.specs.Holdings.{nodes_held}
@@ -62,16 +62,6 @@ at_most st o = go st.behind refl
 
 -- ---- takes
 
-not_there : (o : Option ℕ) → ((v : ℕ) → o ≡ Some v → ⊥) → o ≡ None
-not_there None h = refl
-not_there (Some v) h = absurd (h v refl)
-
-still_left : (w whole l : Key) (x : Name) → whole ≡ w → left w whole ≡ x ∷ l → ⊥
-still_left w whole l x e f = let z : left w whole ≡ [] = ap (left w) (e ∙ sym (append-nil w)) ∙ ap left_by (prefix_append w []) in let y : ◌≡◌ {A = Key} (x ∷ l) [] = sym f ∙ z in cc
-
-goes_on : (x : Name) (l : Key) (k : Key) → k ≡ x ∷ l → k ≡ [] → ⊥
-goes_on x l k e f = let y : ◌≡◌ {A = Key} (x ∷ l) [] = sym e ∙ f in cc
-
 holdings_one : (a b : Holdings) → ◌≡◌ {A = Option Holdings} (Some a) (Some b) → a ≡ b
 holdings_one a b e = cc
 
@@ -84,12 +74,9 @@ took_order graph op n st new neat vic on t = go t
 
     go : Take graph op n st → InOrder new
     go (Walk x l a b child is) = by (walked_on op st x n) (holdings_at n (Some st.node)) is refl (λ m e. refl)
-    go (Entry c p rem way b child off is) = by (with_holdings op (victim_took st n)) (victim_took st n) is refl (λ m e. no_number st.behind m b e)
-    go (Replaced p q names rem way b arrived dir at_left want child off is) = by (with_holdings op (victim_took st n)) (victim_took st n) is refl (λ m e. no_number st.behind m b e)
-    go (Source p q x l rem way b at_left child is) = by (with_holdings op (source_stepped st x n)) (source_stepped st x n) is refl
-        (λ m e. not_there st.victim (λ v f. goes_on x l (left st.source.walked (parent_of p)) at_left ((in_turn graph p q st op.remaining rem way neat).victim v f).arrived))
-    go (Dest p q x l names rem way b arrived dir at_left child is) = by (with_holdings op (dest_stepped st x n)) (dest_stepped st x n) is refl
-        (λ m e. not_there st.victim (λ v f. still_left st.dest.walked (parent_of q) l x (subst (λ (g : Form). VictimAt graph g st) rem vic v f).1 at_left))
+    go (There (Entry c p rem way child off) b is) = by (with_holdings op (victim_took st n)) (victim_took st n) is refl (λ m e. no_number st.behind m b e)
+    go (There (Replaced p q rem way there at_left want child off) b is) = by (with_holdings op (victim_took st n)) (victim_took st n) is refl (λ m e. no_number st.behind m b e)
+    go (There (Of_head side p q x l rem way turn at_left child) b is) = by (with_holdings op (stepped side st x n)) (stepped side st x n) is refl (λ m e. no_victim graph op n st neat vic t)
 
 -- ---- states
 

@@ -17,7 +17,7 @@ use Rattle.fs_nodes.specs.Graphs.{Graph, at, numbers, graph_shapes, entry_shape,
 use Rattle.fs_machine.specs.Finishes.{move_effect, rename_effect, effect_at}
 use Rattle.fs_machine.specs.Moves.{first_of, step_move, take_if, same_kind, next_on, entry_move, fork_move, rename_move, moved_node, path_error, dir_error, walk_errno, rename_at}
 use Rattle.fs_machine.specs.declared.moves.Move.TheVariants.{Finish as Finishes}
-use Rattle.fs_machine.specs.Records.{Walking, Record, Records, Holdings}
+use Rattle.fs_machine.specs.Records.{Walking, Record, Records, Holdings, Source, Dest}
 use Rattle.fs_laws.specs.Invariants.{ForkedAt, HeadsSound, VictimAt}
 use Rattle.fs_laws.specs.Placed.{Aside, rekey_by}
 use Rattle.fs_laws.specs.CallFacts.{Located, CallFacts}
@@ -35,7 +35,7 @@ use Rattle.fs_laws.proofs.helping.MovesSpareOthers.{Moves, spares_of}
 use Rattle.fs_laws.proofs.graphs.Move.{Replaced}
 use Rattle.fs_laws.proofs.graphs.Alterations.{altered_moved, moved_gone}
 use Rattle.fs_laws.proofs.finish.RealMoves.{Real, Replaces, real_of, at_entries, dir_of_none}
-use Rattle.fs_laws.proofs.helping.RenamesReadNothingBelow.{source_held, dest_held}
+use Rattle.fs_laws.proofs.calls.NodesHeld.{node_held}
 use Rattle.fs_laws.proofs.finish.Changes.{Finisher, Does, does_nothing, does_on, does_in, content_of, own_off}
 
 -- a move does not see what it overwrites
@@ -136,8 +136,8 @@ does_move graph ops key c op st o p q ws r f rem fits real moved_is = subst (λ 
       is = f.is;
       on = f.on;
       unfinished = f.unfinished;
-      source_held = source_held (numbers graph) (key c) st loc;
-      dest_held = dest_held (numbers graph) (key c) st loc;
+      source_held = node_held Source (numbers graph) (key c) st loc;
+      dest_held = node_held Dest (numbers graph) (key c) st loc;
       free = free;
       aside = aside;
       none_below = λ w d x other n e g i. below_none w d x other e g i (after_prefix ((key c ++ st.source.walked) ++ last_of p ∷ []) (key d)) refl;
@@ -169,7 +169,7 @@ does_move graph ops key c op st o p q ws r f rem fits real moved_is = subst (λ 
     made : Does graph ops key st op.reserved (change_under (key c) (move_change true ws p q)) (record { reply = r; graph = moved_in st.source.node (last_of p) st.dest.node (last_of q) real.moved.0 graph; reserved = op.reserved; removed = st.victim })
     made = record {
       linked = None;
-      altered = altered_moved graph st f.is_graph (key c ++ st.source.walked) (last_of p) (key c ++ st.dest.walked) (last_of q) real.moved.0 real.source_dir.0 real.dest_dir.0 can real.source_dir.1 real.dest_dir.1 (replaced real.replaces) (source_held (numbers graph) (key c) st loc) (dest_held (numbers graph) (key c) st loc);
+      altered = altered_moved graph st f.is_graph (key c ++ st.source.walked) (last_of p) (key c ++ st.dest.walked) (last_of q) real.moved.0 real.source_dir.0 real.dest_dir.0 can real.source_dir.1 real.dest_dir.1 (replaced real.replaces) (node_held Source (numbers graph) (key c) st loc) (node_held Dest (numbers graph) (key c) st loc);
       kept = new_kept;
       links = λ n j. cc;
       reserved = λ n j. j;

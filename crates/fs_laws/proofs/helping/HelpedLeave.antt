@@ -9,9 +9,9 @@ use Rattle.fs_calls.specs.declared.reply.Reply.{Reply}
 use Rattle.fs_nodes.specs.Graphs.{Graph, Children, at, numbers, set_at, reserved_in, then_at}
 use Rattle.fs_machine.specs.Finishes.{finish}
 use Rattle.fs_machine.specs.Leaving.{is_removed, releasing, let_go, finished_op, unreserved}
-use Rattle.fs_machine.specs.Moves.{next, took, target, victim_took, dest_stepped, source_stepped, took_by}
+use Rattle.fs_machine.specs.Moves.{next, took, target, took_by}
 use Rattle.fs_machine.specs.declared.moves.Move.TheVariants.{Take as Takes, LetGo as Leaves, Finish as Finishes}
-use Rattle.fs_machine.specs.Records.{Phase, Walking, Placed, Finished, Holds, Record, Holdings, holdings_at}
+use Rattle.fs_machine.specs.Records.{Phase, Walking, Placed, Finished, Holds, Record, Holdings, holdings_at, Source}
 use Rattle.fs_laws.specs.Below.{IsHolding, IsAboutToMove, Meanwhile, Now, Begins_another, Steps_another, Helps_one, EachBelow, HelpsAreFew}
 use Rattle.fs_timeline.specs.Timeline.{commit_count}
 use Rattle.fs_laws.specs.Invariants.{IsIn, Own, Invariant}
@@ -23,11 +23,11 @@ use Rattle.fs_machine.specs.declared.answers.Stepped.TheVariants.{Idle, Took, Bu
 use Rattle.fs_laws.proofs.graphs.Walks.{at_child, at_from, then_some}
 use Rattle.fs_laws.proofs.events.OneCallChanged.{Place, Here, Else, place}
 use Rattle.fs_laws.proofs.events.TwoCalls.{Ends as Snoc, ends, ends_same}
-use Rattle.fs_laws.proofs.helping.RenamesReadNothingBelow.{source_held}
+use Rattle.fs_laws.proofs.calls.NodesHeld.{node_held}
 use Rattle.fs_laws.proofs.events.JustFinished.{Either, Changed, Old, either}
 use Rattle.fs_laws.proofs.events.LetGo.{LetsGo, On_way, At_end, Last, lets_go}
 use Rattle.fs_laws.proofs.events.Take.{TakesFrom, From_nowhere, From_holdings, takes_from}
-use Rattle.fs_laws.proofs.calls.Takes.{Take, Walk, Entry, Source, Dest, Replaced, takes_by, with_holdings, walked_on}
+use Rattle.fs_laws.proofs.calls.Takes.{Take, Walk, There, stands, same_node, takes_by, with_holdings, walked_on}
 use Rattle.fs_laws.proofs.states.Headline.{run_keeps}
 use Rattle.fs_laws.proofs.helping.WhoStandsBelow.{not_below}
 use Rattle.fs_laws.proofs.helping.NobodyEnters.{ToMove, to_move, NewEntry, Same_entry, Linked, Moved, finish_entries}
@@ -85,7 +85,7 @@ walk_below s c moved m f n op st x key differs a child e = go key e
     shared i =
         let z : ◌≡◌ {A = Option ℕ} (Some m.to.st.source.node) (Some st.node) = sym (moved_located s c moved m).source ∙ ap (numbers s.graph) i ∙ there.here in
         let y : m.to.st.source.node ≡ st.node = cc in
-        (m.inv.kept.pairs c f m.op op m.to.st st (λ j. differs (sym j)) m.is a.is m.to.on a.on).apart st.node (subst (Holds m.to.st) y (source_held (numbers s.graph) (m.inv.key c) m.to.st (moved_located s c moved m))) (inl refl)
+        (m.inv.kept.pairs c f m.op op m.to.st st (λ j. differs (sym j)) m.is a.is m.to.on a.on).apart st.node (subst (Holds m.to.st) y (node_held Source (numbers s.graph) (m.inv.key c) m.to.st (moved_located s c moved m))) (inl refl)
 
     go : (key : Key) → at s.graph.child moved key ≡ Some n → (r : Key) × (at s.graph.child moved r ≡ Some st.node)
     go [] e = absurd (shared (ends_same (m.inv.key c ++ m.to.st.source.walked) (m.inv.key f) (last_of m.to.p) x (sym (append-nil (parent_key s c moved m ++ last_of m.to.p ∷ [])) ∙ same [] e)).0)
@@ -125,10 +125,7 @@ took_outside s c moved m f n op is move d (q, q_is, walks, (st, key, on, e)) = g
         let new : Holdings = holdings_at n (Some before.node) in
         let at_n : at s.graph.child moved key ≡ Some n = e ∙ ap (λ (z : Holdings). Some z.node) (sym (at_new (walked_on op before x n) (holdings_at n (Some before.node)) t refl j)) in
         from before (walked_on op before x n) t refl on_b (walk_below s c moved m f n op before x key not_mover (record { is = is; on = on_b }) child at_n) i j
-    by before on_b (Entry c2 p rem way b child off t) i j = here before (victim_took before n) (with_holdings op (victim_took before n)) t refl refl refl on_b i j
-    by before on_b (Source p q2 x l rem way b at_left child t) i j = here before (source_stepped before x n) (with_holdings op (source_stepped before x n)) t refl refl refl on_b i j
-    by before on_b (Dest p q2 x l names rem way b arrived dir at_left child t) i j = here before (dest_stepped before x n) (with_holdings op (dest_stepped before x n)) t refl refl refl on_b i j
-    by before on_b (Replaced p q2 names rem way b arrived dir at_left want child off t) i j = here before (victim_took before n) (with_holdings op (victim_took before n)) t refl refl refl on_b i j
+    by before on_b (There at_target b t) i j = here before (stands at_target) (with_holdings op (stands at_target)) t refl refl (same_node at_target) on_b i j
 
     taken : TakesFrom s.graph op n → d ≡ f → took op n ≡ q → IsWalkingBelow s moved d
     taken (From_nowhere text off z) i j =

@@ -14,7 +14,7 @@ use Rattle.fs_calls.specs.declared.reply.Reply.{Reply}
 use Rattle.fs_nodes.specs.Graphs.{Graph, at, then_at, numbers, graph_shapes, entry_shape, IsGraph}
 use Rattle.fs_machine.specs.Moves.{first_of, step_move, next_on, same_kind, fork_move, dir_error, walk_errno, rename_at}
 use Rattle.fs_machine.specs.declared.moves.Move.TheVariants.{Finish as Finishes}
-use Rattle.fs_machine.specs.Records.{Holds, Holdings}
+use Rattle.fs_machine.specs.Records.{Holds, Holdings, Source, Dest}
 use Rattle.fs_laws.specs.Invariants.{ForkedAt, HeadsSound, VictimAt}
 use Rattle.fs_laws.specs.Placed.{AllOff, ChangesNothingBelow, Aside, looks_into}
 use Rattle.fs_laws.specs.CallFacts.{Located, IsClear}
@@ -29,17 +29,7 @@ use Rattle.fs_laws.proofs.finish.Replies.{step_stops, fork_stops, common_is, Lea
 use Rattle.fs_laws.proofs.events.TwoCalls.{held_off}
 use Rattle.fs_laws.proofs.helping.ReadsNothingBelow.{Front, Off, stopped_off, on_off, in_off}
 use Rattle.fs_laws.proofs.finish.RealMoves.{Real, Replaces, real_of, at_entries, victim_held}
-
--- the node of a head is held, by the head or as the position
-pub head_held : (tree : Map ℕ) (k : Key) (st : Holdings) (walked : Key) (node : ℕ) → tree k ≡ Some st.node → tree (k ++ walked) ≡ Some node → (HasNames walked → Holds st node) → Holds st node
-head_held tree k st [] node here at_w f = let z : ◌≡◌ {A = Option ℕ} (Some st.node) (Some node) = sym here ∙ sym (ap tree (append-nil k)) ∙ at_w in inl (let y : st.node ≡ node = cc in y)
-head_held tree k st (x ∷ w) node here at_w f = f tt
-
-pub source_held : (tree : Map ℕ) (k : Key) (st : Holdings) → Located tree k st → Holds st st.source.node
-source_held tree k st l = head_held tree k st st.source.walked st.source.node l.here l.source (λ m. inr (inr (inl (m, refl))))
-
-pub dest_held : (tree : Map ℕ) (k : Key) (st : Holdings) → Located tree k st → Holds st st.dest.node
-dest_held tree k st l = head_held tree k st st.dest.walked st.dest.node l.here l.dest (λ m. inr (inr (inr (inl (m, refl)))))
+use Rattle.fs_laws.proofs.calls.NodesHeld.{node_held}
 
 -- where a head's walk has stopped
 head_off : (graph : Graph) → IsGraph graph → (k : Key) (st : Holdings) (kd : Key) (other : Holdings) (walked l whole : Key) (node : ℕ) → Front graph k st kd other → numbers graph (k ++ walked) ≡ Some node → Holds st node → IsClear (numbers graph) k walked other → Stops graph node l → whole ≡ walked ++ l
@@ -132,13 +122,13 @@ rename_off graph is k p q st o kd other s loc u fits well victim e f = go (commo
         stops = fork_stops graph is st.node p q st o refl w fork
 
         off0 : after_prefix kd (k ++ parent_of p) ≡ None
-        off0 = head_off graph is k st kd other st.source.walked (left st.source.walked (parent_of p)) (parent_of p) st.source.node f loc.source (source_held (numbers graph) k st loc) f.source stops.source_stops w.source_is
+        off0 = head_off graph is k st kd other st.source.walked (left st.source.walked (parent_of p)) (parent_of p) st.source.node f loc.source (node_held Source (numbers graph) k st loc) f.source stops.source_stops w.source_is
 
         source_read : resolve_dir (below k (graph_shapes graph)) (parent_of p) ≡ dir_error (left st.source.walked (parent_of p)) (graph.shape st.source.node)
         source_read = ap₂ resolve_dir (below_is graph k st.node loc.here) w.source_is ∙ sym (dir_read graph is st.node st.source.node s st.source.walked (left st.source.walked (parent_of p)) u w.source_at stops.source_stops)
 
         off1 : dir_error (left st.source.walked (parent_of p)) (graph.shape st.source.node) ≡ None → after_prefix kd (k ++ parent_of q) ≡ None
-        off1 z = head_off graph is k st kd other st.dest.walked (left st.dest.walked (parent_of q)) (parent_of q) st.dest.node f loc.dest (dest_held (numbers graph) k st loc) f.dest (stops.dest_stops z) w.dest_is
+        off1 z = head_off graph is k st kd other st.dest.walked (left st.dest.walked (parent_of q)) (parent_of q) st.dest.node f loc.dest (node_held Dest (numbers graph) k st loc) f.dest (stops.dest_stops z) w.dest_is
 
         q_is : k ++ q ≡ (k ++ parent_of q) ++ last_of q ∷ []
         q_is = ap (λ (l : Key). k ++ l) (key_is q mq) ∙ sym (append_assoc k (parent_of q) (last_of q ∷ []))
@@ -161,7 +151,7 @@ rename_off graph is k p q st o kd other s loc u fits well victim e f = go (commo
 
             by : (l : Key) → left st.dest.walked (parent_of q) ≡ l → after_prefix kd (k ++ q) ≡ None
             by (z ∷ l) j =
-                head_off graph is k st kd other st.dest.walked ((z ∷ l) ++ last_of q ∷ []) q st.dest.node f loc.dest (dest_held (numbers graph) k st loc) f.dest (subst (Stops graph st.dest.node) j (stops.dest_stops es))
+                head_off graph is k st kd other st.dest.walked ((z ∷ l) ++ last_of q ∷ []) q st.dest.node f loc.dest (node_held Dest (numbers graph) k st loc) f.dest (subst (Stops graph st.dest.node) j (stops.dest_stops es))
                 (key_is q mq ∙ ap (λ (y : Key). y ++ last_of q ∷ []) (w.dest_is ∙ ap (λ (y : Key). st.dest.walked ++ y) j) ∙ append_assoc st.dest.walked (z ∷ l) (last_of q ∷ []))
             by [] j = ends (child_cases kd (k ++ parent_of q) (last_of q) (off1 es))
               where

@@ -13,7 +13,7 @@ use Rattle.fs_nodes.specs.Graphs.{Graph, Children, at, numbers, graph_shapes, se
 use Rattle.fs_machine.specs.Finishes.{Effect, node_effect, entry_effect, move_effect, rename_effect, effect_at, effect_of, finish}
 use Rattle.fs_machine.specs.Moves.{next, next_on, target, dir_error, path_error, rename_at}
 use Rattle.fs_machine.specs.declared.moves.Move.TheVariants.{Finish as Finishes}
-use Rattle.fs_machine.specs.Records.{Phase, Walking, Placed, Finished, Record, Records, Holdings}
+use Rattle.fs_machine.specs.Records.{Phase, Walking, Placed, Finished, Record, Records, Holdings, Source, Dest}
 use Rattle.fs_laws.specs.Invariants.{remaining_of, spots, IsPlaced, AllLater, InOrder, IsIn, NumberFor, VictimAt, Invariant, HeadsSound}
 use Rattle.fs_laws.specs.Settled.{names_left, alone, settled_by, settled_graph, settled_reply, settled_replies, settle, settle_replies}
 use Rattle.fs_laws.specs.CallFacts.{CallFacts, Keeps, Pair, Located, IsAfter}
@@ -22,7 +22,7 @@ use Rattle.fs_laws.proofs.trees.Prefixes.{prefix_append, prefix_longer}
 use Rattle.fs_laws.proofs.graphs.Walks.{at_same, at_before, at_child, at_from, set_else, then_some}
 use Rattle.fs_laws.proofs.events.OneCallChanged.{Place, Here, Else, place}
 use Rattle.fs_laws.proofs.events.TwoCalls.{Ends as Snoc, ends, held_off}
-use Rattle.fs_laws.proofs.helping.RenamesReadNothingBelow.{source_held, dest_held}
+use Rattle.fs_laws.proofs.calls.NodesHeld.{node_held}
 use Rattle.fs_laws.proofs.finish.Replies.{finish_reply}
 use Rattle.fs_laws.proofs.finish.TreeAfter.{finish_tree}
 use Rattle.fs_laws.proofs.events.Help.{upd_here, upd_else}
@@ -333,8 +333,8 @@ run_stack s inv acc (c ∷ cs) o = (first, ahead, run_stack s inv acc cs o.2)
         off : OffKeys (inv.key c) (inv.key d) st
         off = record {
           here = none;
-          source = held_off (numbers s.graph) (inv.key c) o.0.holdings st (inv.key d) st.source.walked st.source.node mine.here pair.apart its.source (source_held (numbers s.graph) (inv.key d) st its) back.source none;
-          dest = held_off (numbers s.graph) (inv.key c) o.0.holdings st (inv.key d) st.dest.walked st.dest.node mine.here pair.apart its.dest (dest_held (numbers s.graph) (inv.key d) st its) back.dest none;
+          source = held_off (numbers s.graph) (inv.key c) o.0.holdings st (inv.key d) st.source.walked st.source.node mine.here pair.apart its.source (node_held Source (numbers s.graph) (inv.key d) st its) back.source none;
+          dest = held_off (numbers s.graph) (inv.key c) o.0.holdings st (inv.key d) st.dest.walked st.dest.node mine.here pair.apart its.dest (node_held Dest (numbers s.graph) (inv.key d) st its) back.dest none;
         }
 
 pub run_settles_alone : (s : State) (run : Run s)
