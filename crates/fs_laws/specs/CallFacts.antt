@@ -9,8 +9,7 @@ use Rattle.fs_machine.specs.Records.{Holdings, Side, head_on, head_at, Phase, Wa
 -- the call stands at this key, by the numbers at the keys
 pub record Located (tree : Map ℕ) (key : Key) (st : Holdings) : Type 0 where
   pub here : tree key ≡ Some st.node
-  pub source : tree (key ++ st.source.walked) ≡ Some st.source.node
-  pub dest : tree (key ++ st.dest.walked) ≡ Some st.dest.node
+  pub head : (side : Side) → tree (key ++ (head_on side st).walked) ≡ Some (head_on side st).node
 
 -- the second is to go on after the first: it is walking, or placed later
 abbrev pub IsAfter : Phase → Phase → Type 0
@@ -26,14 +25,7 @@ IsClear tree key walked other = (u v : Key) (n : ℕ) → HasNames u → HasName
 pub record Pair (tree : Map ℕ) (key : Key) (st : Holdings) (phase : Phase) (other_key : Key) (other : Holdings) (other_phase : Phase) : Type 0 where
   pub apart : (n : ℕ) → Holds st n → Holds other n → ⊥
   pub after : IsAfter phase other_phase → after_prefix key other_key ≡ None
-  pub source : IsClear tree key st.source.walked other
-  pub dest : IsClear tree key st.dest.walked other
-
--- what lets a call go past the move of another from s to t: it is below s and goes along, or no key that it has walked lies there
-pub record GoesAlong (s t : Key) (key : Key) (st : Holdings) (under : Type 0) : Type 0 where
-  pub lies : under ⊎ (after_prefix s key ≡ None)
-  pub source : (u v : Key) → after_prefix s key ≡ None → st.source.walked ≡ u ++ v → after_prefix s (key ++ u) ≡ None
-  pub dest : (u v : Key) → after_prefix s key ≡ None → st.dest.walked ≡ u ++ v → after_prefix s (key ++ u) ≡ None
+  pub clear : (side : Side) → IsClear tree key (head_on side st).walked other
 
 -- what one call keeps
 pub record Keeps (tree : Map ℕ) (key : Key) (op : Record) (st : Holdings) : Type 0 where

@@ -11,7 +11,7 @@ use Rattle.fs_calls.specs.declared.reply.Reply.{Reply}
 use Rattle.fs_calls.specs.declared.call.Call.{Call}
 use Rattle.fs_nodes.specs.Graphs.{Graph, at, numbers, graph_shapes, IsGraph}
 use Rattle.fs_machine.specs.Moves.{target}
-use Rattle.fs_machine.specs.Records.{Holdings, Side, head_on, Walking, Placed, Finished, Record, Records, Holds}
+use Rattle.fs_machine.specs.Records.{Holdings, Side, of_side, head_on, Walking, Placed, Finished, Record, Records, Holds}
 use Rattle.fs_laws.specs.JournalViews.{JournalView, start, view_after, IsLawful}
 use Rattle.fs_timeline.specs.Timeline.{begins, commit_count}
 use Rattle.fs_laws.specs.Settled.{settle, settle_replies}
@@ -21,10 +21,8 @@ use Rattle.fs_machine.specs.declared.answers.Stepped.{Stepped}
 
 -- what a rename keeps at its common directory
 pub record Forked (graph : Graph) (n : ℕ) (p q : Key) (st : Holdings) : Type 0 where
-  pub source_at : at graph.child n st.source.walked ≡ Some st.source.node
-  pub dest_at : at graph.child n st.dest.walked ≡ Some st.dest.node
-  pub source_is : parent_of p ≡ st.source.walked ++ left st.source.walked (parent_of p)
-  pub dest_is : parent_of q ≡ st.dest.walked ++ left st.dest.walked (parent_of q)
+  pub stands : (side : Side) → at graph.child n (head_on side st).walked ≡ Some (head_on side st).node
+  pub path : (side : Side) → parent_of (of_side side p q) ≡ (head_on side st).walked ++ left (head_on side st).walked (parent_of (of_side side p q))
 
 -- what a call keeps where it stands; a rename's heads set out at its common directory
 abbrev pub ForkedAt : Graph → ℕ → Key → Key → Holdings → Key → Type 0

@@ -15,7 +15,7 @@ use Rattle.fs_nodes.specs.Graphs.{Graph, at, numbers, entry_shape, IsGraph, link
 use Rattle.fs_machine.specs.Finishes.{Effect, no_effect, node_effect, entry_effect, move_effect, rename_effect, effect_at}
 use Rattle.fs_machine.specs.Moves.{next_on, entry_move, first_of, step_move, fork_move, path_error, dir_error, rename_at}
 use Rattle.fs_machine.specs.declared.moves.Move.TheVariants.{Finish as Finishes}
-use Rattle.fs_machine.specs.Records.{Holdings}
+use Rattle.fs_machine.specs.Records.{Holdings, Source, Dest}
 use Rattle.fs_laws.specs.Invariants.{ForkedAt, HeadsSound, VictimAt, NumberFor, HasNumber}
 use Rattle.fs_laws.specs.Placed.{Aside}
 use Rattle.fs_laws.specs.CallFacts.{Located}
@@ -162,7 +162,7 @@ stays_moved graph is k st p q number r loc fits real = subst (λ (n : Option ℕ
     aside = (ap₂ after_prefix s_is t_is ∙ prefix_both k p q ∙ real.aside.0, ap₂ after_prefix t_is s_is ∙ prefix_both k q p ∙ real.aside.1)
 
     can : CanMove graph (k ++ st.source.walked) st.source.node (last_of p) (k ++ st.dest.walked) st.dest.node (last_of q) real.moved.0
-    can = record { from_at = loc.source; to_at = loc.dest; there = real.moved.1; aside = aside }
+    can = record { from_at = loc.head Source; to_at = loc.head Dest; there = real.moved.1; aside = aside }
 
 stays_rename : (graph : Graph) → IsGraph graph → (k : Key) (st : Holdings) (o : Option ℕ) (p q : Key) (number : Option ℕ) → Located (numbers graph) k st → Fits (AtPair pairs.Rename p q) → VictimAt graph (AtPair pairs.Rename p q) st
     → (l : Key) → ForkedAt graph st.node p q st l → first_of (step_move graph st.node l) (fork_move graph p q st) ≡ Finishes o → Stays graph st number (rename_effect graph p q st number l)

@@ -18,10 +18,10 @@ use Rattle.fs_laws.specs.CallFacts.{Located}
 use Rattle.fs_laws.specs.StepsLeft.{one_if, one_unless, to_go, moves_left}
 use Rattle.fs_laws.proofs.trees.Prefixes.{prefix_append, prefix_some}
 use Rattle.fs_laws.proofs.graphs.Walks.{at_child, at_from}
-use Rattle.fs_laws.proofs.calls.NodesHeld.{single_at, single_grow}
+use Rattle.fs_laws.proofs.calls.NodesHeld.{located_at, single_at, single_grow}
 use Rattle.fs_laws.proofs.events.LetGo.{Lets, behind_of_move, lets_behind, single_of, well_left, victim_left}
 use Rattle.fs_laws.proofs.events.Take.{Inner, inner_on, number_inner, fresh_well, fresh_victim}
-use Rattle.fs_laws.proofs.calls.TakesAtTarget.{forked_of, path_is, KeptThere, kept_there}
+use Rattle.fs_laws.proofs.calls.TakesAtTarget.{forked_of, KeptThere, kept_there}
 use Rattle.fs_laws.proofs.states.ComputedSteps.{on_ends}
 use Rattle.fs_laws.proofs.calls.Takes.{AtTarget, Entry, Of_head, Replaced, Take, Walk, There, stands, grown, takes_by, with_holdings}
 use Rattle.fs_laws.proofs.calls.HeadOrder.{HeadsInOrder, TookWell, took_well, plain_of, neat_heads, neat_fresh}
@@ -143,7 +143,7 @@ solo_took graph is k op n st s t = go t
     less (Replaced p q rem way there at_left want child off) = victim_less off op.remaining
     less (Of_head side p q x l rem way turn at_left child) =
         let walked : Key = (head_on side st).walked in
-        let whole : parent_of (of_side side p q) ≡ walked ++ x ∷ l = path_is side (forked_of graph st.node p q st op.remaining rem way s.well) ∙ ap (λ (y : Key). walked ++ y) at_left in
+        let whole : parent_of (of_side side p q) ≡ walked ++ x ∷ l = (forked_of graph st.node p q st op.remaining rem way s.well).path side ∙ ap (λ (y : Key). walked ++ y) at_left in
         let a : length (left (walked ++ x ∷ []) (parent_of (of_side side p q))) ≡ length l = ap length (left_next walked l (parent_of (of_side side p q)) x whole) in
         let c : length (left walked (parent_of (of_side side p q))) ≡ length (x ∷ l) = ap length at_left in
         subst (λ (g : Form). moves_left g (stepped side st x n) + 1 ≤ moves_left g st) (sym rem) (head_less side p q x (omega (arith, a, c)) (if_one (behind_of walked (head_on side st).node)))
@@ -156,7 +156,7 @@ solo_took graph is k op n st s t = go t
         on = refl;
         unfinished = s.unfinished;
         text = s.text;
-        loc = record { here = at_n; source = ap (numbers graph) (append-nil (k ++ x ∷ [])) ∙ at_n; dest = ap (numbers graph) (append-nil (k ++ x ∷ [])) ∙ at_n };
+        loc = located_at (numbers graph) (k ++ x ∷ []) n (Some st.node) at_n;
         fits = step.fits s.fits;
         well = fresh_well graph n (Some st.node) (inner op.remaining);
         number = number_inner graph op.remaining op.reserved s.number;
@@ -226,7 +226,7 @@ solo_left graph k op n st s e = record {
     on = unfinished_left op st s.unfinished s.on;
     unfinished = s.unfinished;
     text = s.text;
-    loc = record { here = s.loc.here; source = s.loc.source; dest = s.loc.dest };
+    loc = record { here = s.loc.here; head = s.loc.head };
     fits = s.fits;
     well = well_left graph st (record st { behind = None }) n op.remaining lets s.well;
     number = s.number;

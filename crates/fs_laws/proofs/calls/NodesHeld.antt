@@ -4,7 +4,7 @@ use Rattle.fs_names.specs.Keys.{Key}
 use Rattle.fs_names.specs.Names.{Name}
 use Rattle.fs_names.specs.Parts.{HasNames}
 use Rattle.fs_machine.specs.Moves.{behind_of, head_took, victim_took, stepped}
-use Rattle.fs_machine.specs.Records.{HeadHolds, Holds, Holdings, Side, Source, Dest, head_on, with_head, holdings_at}
+use Rattle.fs_machine.specs.Records.{Head, HeadHolds, Holds, Holdings, Side, Source, Dest, head_on, with_head, head_at, holdings_at}
 use Rattle.fs_laws.specs.Maps.{Map}
 use Rattle.fs_laws.specs.CallFacts.{Located}
 use Rattle.fs_laws.specs.Invariants.{Slot, At_node, At_behind, At_head, At_victim, if_walked, in_slot, IsSingle}
@@ -42,14 +42,36 @@ holds_slot st q (inr (inr (inl h))) = head_slot Source st q h
 holds_slot st q (inr (inr (inr (inl h)))) = head_slot Dest st q h
 holds_slot st q (inr (inr (inr (inr e)))) = (At_victim, e)
 
--- where the head on a side is
-pub head_located : (side : Side) {tree : Map ℕ} {k : Key} {st : Holdings} → Located tree k st → tree (k ++ (head_on side st).walked) ≡ Some (head_on side st).node
-head_located Source loc = loc.source
-head_located Dest loc = loc.dest
+pub new_head : (side : Side) (h : Head) (st : Holdings) → head_on side (with_head side h st) ≡ h
+new_head Source h st = refl
+new_head Dest h st = refl
+
+-- what is so of a new head on a side, and of each old one, is so of the heads with it
+pub heads_with : (P : Side → Head → Type 0) (side : Side) (h : Head) (st : Holdings) → P side h → ((at : Side) → P at (head_on at st)) → (at : Side) → P at (head_on at (with_head side h st))
+heads_with P Source h st new old Source = new
+heads_with P Source h st new old Dest = old Dest
+heads_with P Dest h st new old Source = old Source
+heads_with P Dest h st new old Dest = new
+
+-- the same of both heads before they set out
+pub heads_at : (P : Side → Head → Type 0) (n : ℕ) (behind : Option ℕ) → ((side : Side) → P side (head_at n)) → (side : Side) → P side (head_on side (holdings_at n behind))
+heads_at P n behind p Source = p Source
+heads_at P n behind p Dest = p Dest
+
+-- a call that has taken the root alone
+pub only_at : (n q : ℕ) → Holds (holdings_at n None) q → q ≡ n
+only_at n q (inl e) = sym e
+only_at n q (inr (inl e)) = cc
+only_at n q (inr (inr (inl h))) = absurd h.0
+only_at n q (inr (inr (inr (inl h)))) = absurd h.0
+only_at n q (inr (inr (inr (inr e)))) = cc
+
+pub located_at : (tree : Map ℕ) (key : Key) (n : ℕ) (behind : Option ℕ) → tree key ≡ Some n → Located tree key (holdings_at n behind)
+located_at tree key n behind e = record { here = e; head = heads_at (λ (side : Side) (h : Head). tree (key ++ h.walked) ≡ Some h.node) n behind (λ side. ap tree (append-nil key) ∙ e) }
 
 -- the node of a head is held, by the head or as the position
 pub node_held : (side : Side) (tree : Map ℕ) (k : Key) (st : Holdings) → Located tree k st → Holds st (head_on side st).node
-node_held side tree k st loc = by (head_on side st).walked refl (head_located side loc)
+node_held side tree k st loc = by (head_on side st).walked refl (loc.head side)
   where
     by : (walked : Key) → (head_on side st).walked ≡ walked → tree (k ++ walked) ≡ Some (head_on side st).node → Holds st (head_on side st).node
     by [] i e = inl (node_is st.node (head_on side st).node (sym loc.here ∙ sym (ap tree (append-nil k)) ∙ e))
@@ -136,7 +158,7 @@ push_walked (y ∷ w) x o = refl
 
 -- the head on a side walks on: where it stood is behind
 pub grown_head : (side : Side) (st : Holdings) (x : Name) (n : ℕ) → st.behind ≡ None → Grown st (stepped side st x n) n
-grown_head side st x n closed = record { at = At_head side; here = here side; swap = swap side; twice = twice side; from = from side; free = free side }
+grown_head side st x n closed = record { at = At_head side; here = ap (λ (h : Head). if_walked h.walked (Some h.node)) (new_head side (head_took (head_on side st) x n) st) ∙ push_walked (head_on side st).walked x (Some n); swap = swap side; twice = twice side; from = from side; free = free side }
   where
     swap : Side → Slot → Slot
     swap side At_node = At_node
@@ -156,10 +178,6 @@ grown_head side st x n closed = record { at = At_head side; here = here side; sw
     twice Source (At_head Dest) = refl
     twice Dest (At_head Source) = refl
     twice Dest (At_head Dest) = refl
-
-    here : (side : Side) → in_slot (stepped side st x n) (At_head side) ≡ Some n
-    here Source = push_walked st.source.walked x (Some n)
-    here Dest = push_walked st.dest.walked x (Some n)
 
     free : (side : Side) → in_slot st (swap side (At_head side)) ≡ None
     free Source = closed

@@ -14,7 +14,6 @@ use Rattle.fs_machine.specs.States.{State}
 use Rattle.fs_laws.proofs.trees.Prefixes.{prefix_append, same_refl}
 use Rattle.fs_laws.proofs.graphs.Walks.{at_child}
 use Rattle.fs_laws.proofs.calls.Located.{key_is, from_more, to_more}
-use Rattle.fs_laws.proofs.calls.NodesHeld.{head_located}
 use Rattle.fs_laws.proofs.calls.Takes.{Entry, Of_head, Replaced, Take, Walk, There, take_closed}
 use Rattle.fs_laws.proofs.calls.HeadOrder.{NeatIn, HeadsInOrder, plain_of, in_turn, not_there, no_victim}
 use Rattle.fs_laws.proofs.states.Agreement.{StateFacts, text_open}
@@ -115,7 +114,7 @@ solo_wants graph is_graph k op n st solo t h = go t h
     -- the source head, where it stands at a child of the destination head's node
     child_of_dest : (y : Name) → graph.child st.dest.node y ≡ Some n → st.source.node ≡ n → st.source.walked ≡ st.dest.walked ++ y ∷ []
     child_of_dest y child i =
-        let same : k ++ st.source.walked ≡ (k ++ st.dest.walked) ++ y ∷ [] = is_graph.one_key (k ++ st.source.walked) ((k ++ st.dest.walked) ++ y ∷ []) n (loc.source ∙ ap (λ (m : ℕ). Some m) i) (here st.dest.walked st.dest.node y loc.dest child) in
+        let same : k ++ st.source.walked ≡ (k ++ st.dest.walked) ++ y ∷ [] = is_graph.one_key (k ++ st.source.walked) ((k ++ st.dest.walked) ++ y ∷ []) n ((loc.head Source) ∙ ap (λ (m : ℕ). Some m) i) (here st.dest.walked st.dest.node y (loc.head Dest) child) in
         front_same k st.source.walked (st.dest.walked ++ y ∷ []) (same ∙ append_assoc k st.dest.walked (y ∷ []))
 
     go : Take graph op n st → Holds st n → ⊥
@@ -127,24 +126,24 @@ solo_wants graph is_graph k op n st solo t h = go t h
     go (There (Entry e p rem way child off) b t_is) (inl i) = not_node [] st.node (last_of p) at_node child i
     go (There (Entry e p rem way child off) b t_is) (inr (inr (inl i))) = let w : NeatIn p st = subst (λ (f : Form). HeadsInOrder graph f st) rem neat in subst HasNames w.source i.0
     go (There (Entry e p rem way child off) b t_is) (inr (inr (inr (inl i)))) = let w : NeatIn p st = subst (λ (f : Form). HeadsInOrder graph f st) rem neat in subst HasNames w.dest i.0
-    go (There (Of_head side p q x l rem way turn at_left child) b t_is) (inl i) = not_node (head_on side st).walked (head_on side st).node x (head_located side loc) child i
-    go (There (Of_head Source p q x l rem way turn at_left child) b t_is) (inr (inr (inl (_, i)))) = not_itself st.source.walked st.source.node x loc.source child i
+    go (There (Of_head side p q x l rem way turn at_left child) b t_is) (inl i) = not_node (head_on side st).walked (head_on side st).node x (loc.head side) child i
+    go (There (Of_head Source p q x l rem way turn at_left child) b t_is) (inr (inr (inl (_, i)))) = not_itself st.source.walked st.source.node x (loc.head Source) child i
     go (There (Of_head Source p q x l rem way turn at_left child) b t_is) (inr (inr (inr (inl i)))) = not_there graph p st x l at_left ((in_turn graph p q st op.remaining rem way neat).dest i.0)
-    go (There (Of_head Dest p q x l rem way turn at_left child) b t_is) (inr (inr (inr (inl (_, i))))) = not_itself st.dest.walked st.dest.node x loc.dest child i
+    go (There (Of_head Dest p q x l rem way turn at_left child) b t_is) (inr (inr (inr (inl (_, i))))) = not_itself st.dest.walked st.dest.node x (loc.head Dest) child i
     go (There (Of_head Dest p q x l rem way turn at_left child) b t_is) (inr (inr (inl (more, i)))) =
         let f : Forked graph st.node p q st = forked p q rem way in
         let w : st.source.walked ≡ st.dest.walked ++ x ∷ [] = child_of_dest x child i in
-        let a : parent_of p ≡ st.source.walked = arrived_is (parent_of p) st.source.walked f.source_is turn.arrived in
-        let d : parent_of q ≡ st.source.walked ++ l = f.dest_is ∙ ap (λ (y : Key). st.dest.walked ++ y) at_left ∙ sym (append_assoc st.dest.walked (x ∷ []) l) ∙ ap (λ (y : Key). y ++ l) (sym w) in
+        let a : parent_of p ≡ st.source.walked = arrived_is (parent_of p) st.source.walked (f.path Source) turn.arrived in
+        let d : parent_of q ≡ st.source.walked ++ l = f.path Dest ∙ ap (λ (y : Key). st.dest.walked ++ y) at_left ∙ sym (append_assoc st.dest.walked (x ∷ []) l) ∙ ap (λ (y : Key). y ++ l) (sym w) in
         common_some st.source.walked l more (sym (ap₂ common a d) ∙ way)
-    go (There (Replaced p q rem way there at_left want child off) b t_is) (inl i) = not_node st.dest.walked st.dest.node (last_of q) loc.dest child i
-    go (There (Replaced p q rem way there at_left want child off) b t_is) (inr (inr (inr (inl (_, i))))) = not_itself st.dest.walked st.dest.node (last_of q) loc.dest child i
+    go (There (Replaced p q rem way there at_left want child off) b t_is) (inl i) = not_node st.dest.walked st.dest.node (last_of q) (loc.head Dest) child i
+    go (There (Replaced p q rem way there at_left want child off) b t_is) (inr (inr (inr (inl (_, i))))) = not_itself st.dest.walked st.dest.node (last_of q) (loc.head Dest) child i
     go (There (Replaced p q rem way there at_left want child off) b t_is) (inr (inr (inl (more, i)))) =
         let f : Forked graph st.node p q st = forked p q rem way in
         let fits : Fits (AtPair pairs.Rename p q) = subst Fits rem solo.fits in
         let w : st.source.walked ≡ st.dest.walked ++ last_of q ∷ [] = child_of_dest (last_of q) child i in
-        let a : parent_of p ≡ st.source.walked = arrived_is (parent_of p) st.source.walked f.source_is there.arrived in
-        let d : parent_of q ≡ st.dest.walked = arrived_is (parent_of q) st.dest.walked f.dest_is at_left in
+        let a : parent_of p ≡ st.source.walked = arrived_is (parent_of p) st.source.walked (f.path Source) there.arrived in
+        let d : parent_of q ≡ st.dest.walked = arrived_is (parent_of q) st.dest.walked (f.path Dest) at_left in
         let q_is : q ≡ st.source.walked = key_is q (to_more p q fits) ∙ ap (λ (y : Key). y ++ last_of q ∷ []) d ∙ sym w in
         let p_is : p ≡ q ++ last_of p ∷ [] = key_is p (from_more p q fits) ∙ ap (λ (y : Key). y ++ last_of p ∷ []) (a ∙ sym q_is) in
         let above : has_more (after_prefix q p) ≡ true = ap has_more (ap (after_prefix q) p_is ∙ prefix_append q (last_of p ∷ [])) in

@@ -7,7 +7,7 @@ use Rattle.fs_calls.specs.Forms.{Form, AtNode, AtEntry, AtPair}
 use Rattle.fs_calls.specs.declared.target.PairCall.TheVariants as pairs
 use Rattle.fs_nodes.specs.Graphs.{Graph, at, numbers, IsGraph}
 use Rattle.fs_machine.specs.Finishes.{Effect}
-use Rattle.fs_machine.specs.Records.{Holds, Record, Holdings, Dest}
+use Rattle.fs_machine.specs.Records.{Holds, Record, Holdings, Dest, Source, head_on}
 use Rattle.fs_laws.specs.Invariants.{ForkedAt, HeadsSound, NumberFor, VictimAt, HasSpare, Own}
 use Rattle.fs_laws.specs.CallFacts.{Located}
 use Rattle.fs_machine.specs.Leaving.{finished_op}
@@ -35,10 +35,8 @@ well_by old new k st (AtPair pairs.Rename p q) loc w = go (common (parent_of p) 
     go : (l : Key) → ForkedAt old st.node p q st l → ForkedAt new st.node p q st l
     go (x ∷ l) w = w
     go [] w = record {
-      source_at = sym (at_from new.child 0 st.node k st.source.walked loc.here) ∙ loc.source;
-      dest_at = sym (at_from new.child 0 st.node k st.dest.walked loc.here) ∙ loc.dest;
-      source_is = w.source_is;
-      dest_is = w.dest_is;
+      stands = λ side. sym (at_from new.child 0 st.node k (head_on side st).walked loc.here) ∙ loc.head side;
+      path = w.path;
     }
 
 -- what stays unreached

@@ -6,8 +6,8 @@ use Rattle.fs_names.specs.Parts.{common, left, left_by}
 use Rattle.fs_calls.specs.Forms.{Form, AtPair}
 use Rattle.fs_calls.specs.declared.target.PairCall.TheVariants as pairs
 use Rattle.fs_nodes.specs.Graphs.{Graph, at, numbers, set_at}
-use Rattle.fs_machine.specs.Moves.{took, victim_took, stepped}
-use Rattle.fs_machine.specs.Records.{Holds, Record, Holdings, Side, Source, Dest, of_side, head_on}
+use Rattle.fs_machine.specs.Moves.{head_took, took, victim_took, stepped}
+use Rattle.fs_machine.specs.Records.{Holds, Record, Holdings, Side, Source, Dest, of_side, head_on, Head}
 use Rattle.fs_laws.specs.Invariants.{Forked, ForkedAt, HeadsSound, VictimAt, IsSingle, IsUnfinished, Own, Invariant, StepKeeps}
 use Rattle.fs_laws.specs.CallFacts.{IsFree, Keeps, Located}
 use Rattle.fs_machine.specs.States.{State, taking}
@@ -15,7 +15,7 @@ use Rattle.fs_machine.specs.declared.answers.Stepped.TheVariants.{Took}
 use Rattle.fs_laws.proofs.trees.Prefixes.{prefix_append}
 use Rattle.fs_laws.proofs.graphs.Walks.{at_child, at_from}
 use Rattle.fs_laws.proofs.events.OneCallChanged.{kept_take, takes_head, takes_victim, Takes as Taken}
-use Rattle.fs_laws.proofs.calls.NodesHeld.{head_located, node_held, single_grow}
+use Rattle.fs_laws.proofs.calls.NodesHeld.{heads_with, node_held, single_grow}
 use Rattle.fs_laws.proofs.calls.Takes.{AtTarget, Entry, Of_head, Replaced, Take, Walk, There, stands, grown, none_left, with_holdings, takes_by}
 use Rattle.fs_laws.proofs.events.RecordChanged.{renewed}
 use Rattle.fs_laws.proofs.events.Take.{TakesFrom, From_nowhere, From_holdings, takes_from, Taker, is_free, take_keeps, take_root, take_walk}
@@ -55,11 +55,6 @@ forked_of graph n p q st remaining rem way well = subst (ForkedAt graph n p q st
 well_of : (graph : Graph) (n : ℕ) (p q : Key) (st : Holdings) (remaining : Form) → remaining ≡ AtPair pairs.Rename p q → common (parent_of p) (parent_of q) ≡ [] → Forked graph n p q st → HeadsSound graph n remaining st
 well_of graph n p q st remaining rem way f = subst (λ (g : Form). HeadsSound graph n g st) (sym rem) (subst (ForkedAt graph n p q st) (sym way) f)
 
--- the path of a head is what it has walked and what is left
-pub path_is : (side : Side) {graph : Graph} {n : ℕ} {p q : Key} {st : Holdings} → Forked graph n p q st → parent_of (of_side side p q) ≡ (head_on side st).walked ++ left (head_on side st).walked (parent_of (of_side side p q))
-path_is Source f = f.source_is
-path_is Dest f = f.dest_is
-
 -- what a call keeps where it stands after a take at its target
 pub record KeptThere (graph : Graph) (k : Key) (op : Record) (n : ℕ) (st new : Holdings) : Type 0 where
   pub taken : Taken (numbers graph) k st k new n
@@ -72,9 +67,12 @@ head_there : (side : Side) (graph : Graph) (k : Key) (op : Record) (n : ℕ) (st
     → op.remaining ≡ AtPair pairs.Rename p q → common (parent_of p) (parent_of q) ≡ [] → left (head_on side st).walked (parent_of (of_side side p q)) ≡ x ∷ l → graph.child (head_on side st).node x ≡ Some n
     → KeptThere graph k op n st (stepped side st x n)
 head_there side graph k op n st p q x l loc well victim b rem way at_left child = record {
-  taken = takes_head side (numbers graph) k st x n b (head_located side loc) (node_held side (numbers graph) k st loc) at_n;
-  located = located side at_longer;
-  well = well_of graph st.node p q (stepped side st x n) op.remaining rem way (forked side (sym (at_from graph.child 0 st.node k (walked ++ x ∷ []) loc.here) ∙ at_longer) (left_on walked l (parent_of (of_side side p q)) x (path_is side f ∙ ap (λ (y : Key). walked ++ y) at_left)));
+  taken = takes_head side (numbers graph) k st x n b (loc.head side) (node_held side (numbers graph) k st loc) at_n;
+  located = record { here = loc.here; head = heads_with (λ (at : Side) (h : Head). numbers graph (k ++ h.walked) ≡ Some h.node) side (head_took (head_on side st) x n) st at_longer loc.head };
+  well = well_of graph st.node p q (stepped side st x n) op.remaining rem way (record {
+    stands = heads_with (λ (side : Side) (h : Head). at graph.child st.node h.walked ≡ Some h.node) side (head_took (head_on side st) x n) st (sym (at_from graph.child 0 st.node k (walked ++ x ∷ []) loc.here) ∙ at_longer) f.stands;
+    path = heads_with (λ (side : Side) (h : Head). parent_of (of_side side p q) ≡ h.walked ++ left h.walked (parent_of (of_side side p q))) side (head_took (head_on side st) x n) st (left_on walked l (parent_of (of_side side p q)) x (f.path side ∙ ap (λ (y : Key). walked ++ y) at_left)) f.path;
+  });
   victim = subst (λ (g : Form). VictimAt graph g (stepped side st x n)) (sym rem) (kept side at_left);
 }
   where
@@ -85,18 +83,10 @@ head_there side graph k op n st p q x l loc well victim b rem way at_left child 
     f = forked_of graph st.node p q st op.remaining rem way well
 
     at_n : numbers graph ((k ++ walked) ++ x ∷ []) ≡ Some n
-    at_n = at_child graph.child 0 (head_on side st).node (k ++ walked) x (head_located side loc) ∙ child
+    at_n = at_child graph.child 0 (head_on side st).node (k ++ walked) x (loc.head side) ∙ child
 
     at_longer : numbers graph (k ++ (walked ++ x ∷ [])) ≡ Some n
     at_longer = ap (numbers graph) (sym (append_assoc k walked (x ∷ []))) ∙ at_n
-
-    located : (side : Side) → numbers graph (k ++ ((head_on side st).walked ++ x ∷ [])) ≡ Some n → Located (numbers graph) k (stepped side st x n)
-    located Source e = record { here = loc.here; source = e; dest = loc.dest }
-    located Dest e = record { here = loc.here; source = loc.source; dest = e }
-
-    forked : (side : Side) → at graph.child st.node ((head_on side st).walked ++ x ∷ []) ≡ Some n → parent_of (of_side side p q) ≡ ((head_on side st).walked ++ x ∷ []) ++ left ((head_on side st).walked ++ x ∷ []) (parent_of (of_side side p q)) → Forked graph st.node p q (stepped side st x n)
-    forked Source e i = record { source_at = e; dest_at = f.dest_at; source_is = i; dest_is = f.dest_is }
-    forked Dest e i = record { source_at = f.source_at; dest_at = e; source_is = f.source_is; dest_is = i }
 
     vic : VictimAt graph (AtPair pairs.Rename p q) st
     vic = subst (λ (g : Form). VictimAt graph g st) rem victim
@@ -113,15 +103,15 @@ pub kept_there : (graph : Graph) (k : Key) (op : Record) (n : ℕ) (st : Holding
 kept_there graph k op n st loc well victim b (Of_head side p q x l rem way turn at_left child) = head_there side graph k op n st p q x l loc well victim b rem way at_left child
 kept_there graph k op n st loc well victim b (Entry e p rem way child off) = record {
   taken = takes_victim (numbers graph) k st k st.node (last_of p) n off loc.here (inl refl) (at_child graph.child 0 st.node k (last_of p) loc.here ∙ child);
-  located = record { here = loc.here; source = loc.source; dest = loc.dest };
+  located = record { here = loc.here; head = loc.head };
   well = subst (λ (f : Form). HeadsSound graph st.node f (victim_took st n)) (sym rem) tt;
   victim = subst (λ (f : Form). VictimAt graph f (victim_took st n)) (sym rem) (λ v i. child ∙ i);
 }
 kept_there graph k op n st loc well victim b (Replaced p q rem way there at_left want child off) = record {
-  taken = takes_victim (numbers graph) k st (k ++ st.dest.walked) st.dest.node (last_of q) n off loc.dest (node_held Dest (numbers graph) k st loc) (at_child graph.child 0 st.dest.node (k ++ st.dest.walked) (last_of q) loc.dest ∙ child);
-  located = record { here = loc.here; source = loc.source; dest = loc.dest };
-  well = well_of graph st.node p q (victim_took st n) op.remaining rem way (record { source_at = f.source_at; dest_at = f.dest_at; source_is = f.source_is; dest_is = f.dest_is });
-  victim = subst (λ (g : Form). VictimAt graph g (victim_took st n)) (sym rem) (λ v i. (child ∙ i, f.dest_is ∙ ap (λ (y : Key). st.dest.walked ++ y) at_left ∙ append-nil st.dest.walked));
+  taken = takes_victim (numbers graph) k st (k ++ st.dest.walked) st.dest.node (last_of q) n off (loc.head Dest) (node_held Dest (numbers graph) k st loc) (at_child graph.child 0 st.dest.node (k ++ st.dest.walked) (last_of q) (loc.head Dest) ∙ child);
+  located = record { here = loc.here; head = loc.head };
+  well = well_of graph st.node p q (victim_took st n) op.remaining rem way (record { stands = f.stands; path = f.path });
+  victim = subst (λ (g : Form). VictimAt graph g (victim_took st n)) (sym rem) (λ v i. (child ∙ i, f.path Dest ∙ ap (λ (y : Key). st.dest.walked ++ y) at_left ∙ append-nil st.dest.walked));
 }
   where
     f : Forked graph st.node p q st

@@ -15,7 +15,7 @@ use Rattle.fs_machine.specs.Leaving.{is_removed, releasing, cleared}
 use Rattle.fs_machine.specs.Moves.{next, next_by, next_on, first_of, step_move, walk_move, take_if, target, target_move, victim_of, same_kind, rename_move, rename_at, moved_node, dir_then, last_held, first_walked, left_heads, left_last, left_holdings}
 use Rattle.fs_machine.specs.declared.moves.Move.{Move}
 use Rattle.fs_machine.specs.declared.moves.Move.TheVariants.{LetGo as Leaves, Finish as Finishes}
-use Rattle.fs_machine.specs.Records.{Head, Phase, Walking, Placed, Finished, Holds, Record, Holdings, Side, Source, Dest, head_on, with_head, head_at}
+use Rattle.fs_machine.specs.Records.{Head, Phase, Walking, Placed, Finished, Holds, Record, Holdings, Side, Source, Dest, of_side, head_on, with_head, head_at}
 use Rattle.fs_laws.specs.Invariants.{ForkedAt, HeadsSound, VictimAt, HasSpare, IsSingle, IsUnfinished, Own, Invariant, StepKeeps, Slot, At_node, At_behind, At_head, At_victim, if_walked, in_slot}
 use Rattle.fs_laws.specs.CallFacts.{CallFacts, Shrinks}
 use Rattle.fs_machine.specs.States.{State, letting_go}
@@ -27,7 +27,7 @@ use Rattle.fs_laws.proofs.events.OtherChanges.{kept_none}
 use Rattle.fs_laws.proofs.events.Help.{upd_else}
 use Rattle.fs_laws.proofs.events.JustFinished.{Either, Changed, Old}
 use Rattle.fs_laws.proofs.events.RecordChanged.{renewed, renews_keep}
-use Rattle.fs_laws.proofs.calls.NodesHeld.{slot_holds, holds_slot}
+use Rattle.fs_laws.proofs.calls.NodesHeld.{heads_with, new_head, slot_holds, holds_slot}
 use Rattle.fs_laws.proofs.graphs.Release.{own_children, numbers_children, release_else, shapes_released, graph_released}
 
 -- holdings that let the node n go from a slot: all others stay
@@ -102,30 +102,20 @@ lets_head : (side : Side) (st : Holdings) (n : ℕ) (x : Name) (w : Key) → (he
 lets_head side st n x w walked e = record {
   gone = At_head side;
   was = ap (λ (l : Key). if_walked l (Some (head_on side st).node)) walked ∙ ap (λ (m : ℕ). Some m) e;
-  empty = empty side;
-  same = same side;
+  empty = ap (λ (h : Head). if_walked h.walked (Some h.node)) (new_head side (head_at st.node) st);
+  same = same;
   node = refl;
-  head = head side;
+  head = head (λ (at : Side) (h : Head). (h ≡ head_on at st) ⊎ (h ≡ head_at st.node)) (inr refl) (λ at. inl refl);
 }
   where
-    empty : (side : Side) → in_slot (with_head side (head_at st.node) st) (At_head side) ≡ None
-    empty Source = refl
-    empty Dest = refl
+    head : (P : Side → Head → Type 0) → P side (head_at st.node) → ((at : Side) → P at (head_on at st)) → (at : Side) → P at (head_on at (with_head side (head_at st.node) st))
+    head P = heads_with P side (head_at st.node) st
 
-    same : (side : Side) (a : Slot) → (a ≡ At_head side) ⊎ (in_slot (with_head side (head_at st.node) st) a ≡ in_slot st a)
-    same side At_node = inr refl
-    same side At_behind = inr refl
-    same side At_victim = inr refl
-    same Source (At_head Source) = inl refl
-    same Source (At_head Dest) = inr refl
-    same Dest (At_head Source) = inr refl
-    same Dest (At_head Dest) = inl refl
-
-    head : (side at : Side) → (head_on at (with_head side (head_at st.node) st) ≡ head_on at st) ⊎ (head_on at (with_head side (head_at st.node) st) ≡ head_at st.node)
-    head Source Source = inr refl
-    head Source Dest = inl refl
-    head Dest Source = inl refl
-    head Dest Dest = inr refl
+    same : (a : Slot) → (a ≡ At_head side) ⊎ (in_slot (with_head side (head_at st.node) st) a ≡ in_slot st a)
+    same At_node = inr refl
+    same At_behind = inr refl
+    same At_victim = inr refl
+    same (At_head at) = head (λ (b : Side) (h : Head). (At_head b ≡ At_head side) ⊎ (if_walked h.walked (Some h.node) ≡ in_slot st (At_head b))) (inl refl) (λ b. inr refl) at
 
 no_victim : (o : Option ℕ) (n : ℕ) → o ≡ None → (v : ℕ) → o ≡ Some v → v ≡ n
 no_victim o n e v f = let z : ◌≡◌ {A = Option ℕ} None (Some v) = sym e ∙ f in cc
@@ -348,9 +338,9 @@ well_left graph st new n (AtPair pairs.Rename p q) l w = subst (λ (m : ℕ). He
     go : (k : Key) → ForkedAt graph st.node p q st k → ForkedAt graph st.node p q new k
     go (x ∷ k) w = w
     go [] w =
-        let s : (at graph.child st.node new.source.walked ≡ Some new.source.node) × (parent_of p ≡ new.source.walked ++ left new.source.walked (parent_of p)) = head_well graph st.node st.source new.source (parent_of p) (l.head Source) w.source_at w.source_is in
-        let d : (at graph.child st.node new.dest.walked ≡ Some new.dest.node) × (parent_of q ≡ new.dest.walked ++ left new.dest.walked (parent_of q)) = head_well graph st.node st.dest new.dest (parent_of q) (l.head Dest) w.dest_at w.dest_is in
-        record { source_at = s.0; dest_at = d.0; source_is = s.1; dest_is = d.1 }
+        let kept : (side : Side) → (at graph.child st.node (head_on side new).walked ≡ Some (head_on side new).node) × (parent_of (of_side side p q) ≡ (head_on side new).walked ++ left (head_on side new).walked (parent_of (of_side side p q))) =
+        λ (side : Side). head_well graph st.node (head_on side st) (head_on side new) (parent_of (of_side side p q)) (l.head side) (w.stands side) (w.path side) in
+        record { stands = λ side. (kept side).0; path = λ side. (kept side).1 }
 
 pub victim_left : (graph : Graph) (st new : Holdings) (remaining : Form) → new.node ≡ st.node → (new.victim ≡ st.victim) × (new.dest.node ≡ st.dest.node) × (new.dest.walked ≡ st.dest.walked) → VictimAt graph remaining st → VictimAt graph remaining new
 victim_left graph st new (AtNode c p) node same w = w

@@ -6,13 +6,13 @@ use Rattle.fs_names.specs.Parts.{HasNames}
 use Rattle.fs_laws.specs.Maps.{Map, move}
 use Rattle.fs_nodes.specs.Graphs.{set_at}
 use Rattle.fs_machine.specs.Finishes.{Effect}
-use Rattle.fs_machine.specs.Moves.{victim_took, stepped}
-use Rattle.fs_machine.specs.Records.{Head, head_at, Finished, Holds, Record, Records, Phase, Placed, Holdings, Side, Source, Dest, head_on, Walking}
+use Rattle.fs_machine.specs.Moves.{head_took, victim_took, stepped}
+use Rattle.fs_machine.specs.Records.{Head, head_at, holdings_at, Finished, Holds, Record, Records, Phase, Placed, Holdings, Side, Source, Dest, head_on, Walking}
 use Rattle.fs_laws.specs.Placed.{rekey_by}
 use Rattle.fs_laws.specs.CallFacts.{IsAfter, IsClear, IsFree, Keeps, CallFacts, Pair, Shrinks}
 use Rattle.fs_machine.specs.Leaving.{finished_op}
 use Rattle.fs_laws.proofs.graphs.Walks.{eqb_refl, eqb_true}
-use Rattle.fs_laws.proofs.calls.NodesHeld.{grown_holds, grown_head, grown_victim}
+use Rattle.fs_laws.proofs.calls.NodesHeld.{heads_with, heads_at, grown_holds, grown_head, grown_victim}
 use Rattle.fs_laws.proofs.events.TwoCalls.{clear_take, clear_walk, after_take, after_walk, pair_moved, located_moved, pair_helped_first, pair_helped_second}
 
 -- a place that is changed, and each other
@@ -64,7 +64,7 @@ kept_update tree ops key c op k kept own both = record { one_key = kept.one_key;
 pub apart_of : {tree : Map ℕ} {ops : Records} {key : ℕ → Key} → CallFacts tree ops key → (c d : ℕ) (p q : Record) (st other : Holdings) → (c ≡ d → ⊥) → ops c ≡ Some p → ops d ≡ Some q → p.holdings ≡ Some st → q.holdings ≡ Some other → (n : ℕ) → Holds st n → Holds other n → ⊥
 apart_of kept c d p q st other n e f g h = (kept.pairs c d p q st other n e f g h).apart
 
-clear_nil : (tree : Map ℕ) (key : Key) (other : Holdings) → IsClear tree key [] other
+pub clear_nil : (tree : Map ℕ) (key : Key) (other : Holdings) → IsClear tree key [] other
 clear_nil tree key other [] v n mu mv is at has = absurd mu
 clear_nil tree key other (x ∷ u) v n mu mv is at has = cc
 
@@ -109,7 +109,7 @@ kept_take tree ops key c op st n k new op_new kept is on on_new same_phase free 
     same_holdings a b e = cc
 
     both : (d : ℕ) (q : Record) (other : Holdings) → (c ≡ d → ⊥) → ops d ≡ Some q → q.holdings ≡ Some other → Pair tree k new op_new.phase (key d) other q.phase × Pair tree (key d) other q.phase k new op_new.phase
-    both d q other differs e g = (record { apart = apart; after = after_first; source = t.head Source other first.apart first.source; dest = t.head Dest other first.apart first.dest }, record { apart = λ m h i. apart m i h; after = after_second; source = clear second.source; dest = clear second.dest })
+    both d q other differs e g = (record { apart = apart; after = after_first; clear = λ side. t.head side other first.apart (first.clear side) }, record { apart = λ m h i. apart m i h; after = after_second; clear = λ side. clear (second.clear side) })
       where
         first : Pair tree (key c) st op.phase (key d) other q.phase
         first = kept.pairs c d op q st other differs is e on g
@@ -151,10 +151,8 @@ kept_take tree ops key c op st n k new op_new kept is on on_new same_phase free 
         clear {walked} old = clear_take tree kept.one_key (key d) walked other st t.parent_key t.parent n t.name new there.located.here (λ m h i. first.apart m i h) t.parent_at t.parent_held t.node_at t.grows old
 
 -- the take of the next node on the way to the target (no head has set out)
-pub takes_walk : (tree : Map ℕ) (k : Key) (st new : Holdings) (x : Name) (n : ℕ) → tree k ≡ Some st.node → tree (k ++ x ∷ []) ≡ Some n
-    → new.node ≡ n → new.behind ≡ Some st.node → new.source.walked ≡ [] → new.dest.walked ≡ [] → new.victim ≡ None
-    → Takes tree k st (k ++ x ∷ []) new n
-takes_walk tree k st new x n here at_n node behind source dest victim = record {
+pub takes_walk : (tree : Map ℕ) (k : Key) (st : Holdings) (x : Name) (n : ℕ) → tree k ≡ Some st.node → tree (k ++ x ∷ []) ≡ Some n → Takes tree k st (k ++ x ∷ []) (holdings_at n (Some st.node)) n
+takes_walk tree k st x n here at_n = record {
   parent_key = k;
   parent = st.node;
   name = x;
@@ -163,19 +161,15 @@ takes_walk tree k st new x n here at_n node behind source dest victim = record {
   node_at = at_n;
   grows = grows;
   position = inr (refl, refl);
-  head = λ side other apart clear. subst (λ (w : Key). IsClear tree (k ++ x ∷ []) w other) (sym (none side)) (clear_nil tree (k ++ x ∷ []) other);
+  head = λ side other apart clear. heads_at (λ (side : Side) (h : Head). IsClear tree (k ++ x ∷ []) h.walked other) n (Some st.node) (λ side. clear_nil tree (k ++ x ∷ []) other) side;
 }
   where
-    none : (side : Side) → (head_on side new).walked ≡ []
-    none Source = source
-    none Dest = dest
-
-    grows : (q : ℕ) → Holds new q → Holds st q ⊎ (q ≡ n)
-    grows q (inl h) = inr (sym h ∙ node)
-    grows q (inr (inl h)) = inl (inl (let e : ◌≡◌ {A = Option ℕ} (Some st.node) (Some q) = sym behind ∙ h in let z : st.node ≡ q = cc in z))
-    grows q (inr (inr (inl h))) = absurd (subst HasNames source h.0)
-    grows q (inr (inr (inr (inl h)))) = absurd (subst HasNames dest h.0)
-    grows q (inr (inr (inr (inr h)))) = let e : ◌≡◌ {A = Option ℕ} None (Some q) = sym victim ∙ h in cc
+    grows : (q : ℕ) → Holds (holdings_at n (Some st.node)) q → Holds st q ⊎ (q ≡ n)
+    grows q (inl h) = inr (sym h)
+    grows q (inr (inl h)) = inl (inl (let z : st.node ≡ q = cc in z))
+    grows q (inr (inr (inl h))) = absurd h.0
+    grows q (inr (inr (inr (inl h)))) = absurd h.0
+    grows q (inr (inr (inr (inr h)))) = cc
 
 -- the take of the next node of a head
 pub takes_head : (side : Side) (tree : Map ℕ) (k : Key) (st : Holdings) (x : Name) (n : ℕ) → st.behind ≡ None → tree (k ++ (head_on side st).walked) ≡ Some (head_on side st).node → Holds st (head_on side st).node → tree ((k ++ (head_on side st).walked) ++ x ∷ []) ≡ Some n
@@ -189,14 +183,8 @@ takes_head side tree k st x n closed here held at_n = record {
   node_at = at_n;
   grows = grown_holds (grown_head side st x n closed);
   position = inl refl;
-  head = head side here held;
+  head = λ at other apart. heads_with (λ (at : Side) (h : Head). IsClear tree k (head_on at st).walked other → IsClear tree k h.walked other) side (head_took (head_on side st) x n) st (clear_walk tree k (head_on side st).walked x (head_on side st).node st other here held apart) (λ at clear. clear) at;
 }
-  where
-    head : (side : Side) → tree (k ++ (head_on side st).walked) ≡ Some (head_on side st).node → Holds st (head_on side st).node → (at : Side) (other : Holdings) → ((q : ℕ) → Holds st q → Holds other q → ⊥) → IsClear tree k (head_on at st).walked other → IsClear tree k (head_on at (stepped side st x n)).walked other
-    head Source here held Source other apart clear = clear_walk tree k st.source.walked x st.source.node st other here held apart clear
-    head Source here held Dest other apart clear = clear
-    head Dest here held Source other apart clear = clear
-    head Dest here held Dest other apart clear = clear_walk tree k st.dest.walked x st.dest.node st other here held apart clear
 
 -- the take of a victim
 pub takes_victim : (tree : Map ℕ) (k : Key) (st : Holdings) (parent_key : Key) (parent : ℕ) (x : Name) (n : ℕ) → st.victim ≡ None → tree parent_key ≡ Some parent → Holds st parent → tree (parent_key ++ x ∷ []) ≡ Some n
@@ -237,8 +225,7 @@ kept_shrink tree ops key c op op_new st new kept is on on_new same_phase same_wa
     own = record {
       located = record {
         here = rw less.node old.located.here;
-        source = head st.source new.source (less.head Source) old.located.source;
-        dest = head st.dest new.dest (less.head Dest) old.located.dest;
+        head = λ side. head (head_on side st) (head_on side new) (less.head side) (old.located.head side);
       };
       walking = λ w. old.walking (sym same_phase ∙ w) ∙ sym same_walked;
       fits = rw same_rel old.fits;
@@ -253,14 +240,12 @@ kept_shrink tree ops key c op op_new st new kept is on on_new same_phase same_wa
       record {
         apart = λ m h i. first.apart m (less.holds m h) i;
         after = λ h. first.after (subst (λ (p : Phase). IsAfter p q.phase) same_phase h);
-        source = fewer st.source new.source other (less.head Source) first.source;
-        dest = fewer st.dest new.dest other (less.head Dest) first.dest;
+        clear = λ side. fewer (head_on side st) (head_on side new) other (less.head side) (first.clear side);
       },
       record {
         apart = λ m h i. second.apart m h (less.holds m i);
         after = λ h. second.after (subst (λ (p : Phase). IsAfter q.phase p) same_phase h);
-        source = λ u v m mu mv i j h. second.source u v m mu mv i j (less.holds m h);
-        dest = λ u v m mu mv i j h. second.dest u v m mu mv i j (less.holds m h);
+        clear = λ side u v m mu mv i j h. second.clear side u v m mu mv i j (less.holds m h);
       },
     )
       where
@@ -279,8 +264,8 @@ kept_finish tree ops key c op made kept is =
     (λ d q st other n e f g.
     let first : Pair tree (key c) st op.phase (key d) other q.phase = kept.pairs c d op q st other n is e f g in
     let second : Pair tree (key d) other q.phase (key c) st op.phase = kept.pairs d c q op other st (λ s. n (sym s)) e is g f in (
-      record { apart = first.apart; after = λ h. absurd h; source = first.source; dest = first.dest },
-      record { apart = second.apart; after = λ h. absurd (no_after q.phase h); source = second.source; dest = second.dest },
+      record { apart = first.apart; after = λ h. absurd h; clear = first.clear },
+      record { apart = second.apart; after = λ h. absurd (no_after q.phase h); clear = second.clear },
     ))
   where
     no_after : (p : Phase) → IsAfter p (Finished made.reply) → ⊥
@@ -292,8 +277,7 @@ kept_finish tree ops key c op made kept is =
 pub record Spares (tree : Map ℕ) (ops : Records) (key : ℕ → Key) (s t kt : Key) (y : Name) : Type 0 where
   pub none : (r : Key) → tree (t ++ r) ≡ None
   pub ends_in : t ≡ kt ++ y ∷ []
-  pub source : (d : ℕ) (q : Record) (st : Holdings) → ops d ≡ Some q → q.holdings ≡ Some st → (u v : Key) → after_prefix s (key d) ≡ None → st.source.walked ≡ u ++ v → after_prefix s (key d ++ u) ≡ None
-  pub dest : (d : ℕ) (q : Record) (st : Holdings) → ops d ≡ Some q → q.holdings ≡ Some st → (u v : Key) → after_prefix s (key d) ≡ None → st.dest.walked ≡ u ++ v → after_prefix s (key d ++ u) ≡ None
+  pub head : (side : Side) (d : ℕ) (q : Record) (st : Holdings) → ops d ≡ Some q → q.holdings ≡ Some st → (u v : Key) → after_prefix s (key d) ≡ None → (head_on side st).walked ≡ u ++ v → after_prefix s (key d ++ u) ≡ None
   pub walking : (d : ℕ) (q : Record) (st : Holdings) → ops d ≡ Some q → q.holdings ≡ Some st → q.phase ≡ Walking → after_prefix s (key d) ≡ None
   pub off : (d e : ℕ) (p q : Record) (st other : Holdings) → ops d ≡ Some p → ops e ≡ Some q → p.holdings ≡ Some st → q.holdings ≡ Some other → IsAfter p.phase q.phase → (after_prefix (key d) kt ≡ None) ⊎ ((after_prefix s (key d) ≡ None) × (after_prefix s (key e) ≡ None))
 
@@ -306,14 +290,14 @@ kept_move tree ops key s t kt y kept one sp = record {
   each = λ d q st e f.
       let k : Keeps tree (key d) q st = kept.each d q st e f in
       record {
-        located = located_moved tree s t (key d) st sp.none k.located (sp.source d q st e f) (sp.dest d q st e f);
+        located = located_moved tree s t (key d) st sp.none k.located (λ side. sp.head side d q st e f);
         walking = λ w. rw (sp.walking d q st e f w) (k.walking w);
         fits = k.fits;
       };
   pairs = λ c d p q st other n e f g h.
       pair_moved tree s t kt y (key c) st p.phase (key d) other q.phase sp.none sp.ends_in
       (kept.each c p st e g).located (kept.each d q other f h).located
-      (sp.source c p st e g) (sp.dest c p st e g)
+      (λ side. sp.head side c p st e g)
       (λ i. sp.off c d p q st other e f g h i)
       (kept.pairs c d p q st other n e f g h);
 }

@@ -20,12 +20,11 @@ use Rattle.fs_machine.specs.Records.{Walking, Placed, Record, Records, Holdings,
 use Rattle.fs_laws.specs.Invariants.{HeadsSound, VictimAt, NumberFor, HasNumber, IsSingle, At_node, At_head, At_victim, if_walked}
 use Rattle.fs_laws.specs.Placed.{rekey, rekey_move}
 use Rattle.fs_laws.specs.CallFacts.{Located, CallFacts}
-use Rattle.fs_laws.proofs.calls.NodesHeld.{head_located}
 use Rattle.fs_laws.proofs.calls.Located.{change_under}
 use Rattle.fs_laws.proofs.graphs.Walks.{at_before, at_child}
 use Rattle.fs_laws.proofs.graphs.TreesOfChanges.{CanLink, CanUnlink, numbers_linked, numbers_unlinked, put_one}
 use Rattle.fs_laws.proofs.finish.Replies.{Leaf, leaf_children, add_of, remove_of, no_entry}
-use Rattle.fs_laws.proofs.events.OtherChanges.{kept_put, kept_cut, victim_off}
+use Rattle.fs_laws.proofs.events.OtherChanges.{OffPlaces, kept_put, kept_cut, victim_off}
 use Rattle.fs_laws.proofs.graphs.Alterations.{Altered, Reached, altered_same, altered_content, altered_linked, altered_unlinked, unlinked_gone}
 use Rattle.fs_laws.proofs.helping.ReadsNothingBelow.{take_done}
 
@@ -121,8 +120,8 @@ remove_victim Rmdir None full (Some (Dir (x ∷ names))) i = cc
 
 -- a victim that the call holds is none of its own places
 pub own_off : (tree : Map ℕ) (k : Key) (st : Holdings) (t : Key) (v : ℕ) → Located tree k st → IsSingle st → st.victim ≡ Some v → tree t ≡ Some v
-    → (k ≡ t → ⊥) × ((k ++ st.source.walked ≡ t → ⊥) × (k ++ st.dest.walked ≡ t → ⊥))
-own_off tree k st t v loc single vic at_t = (here, (head Source st.source.walked refl, head Dest st.dest.walked refl))
+    → OffPlaces t k st
+own_off tree k st t v loc single vic at_t = (here, λ side. head side (head_on side st).walked refl)
   where
     node_is : (l : Key) (n : ℕ) → tree l ≡ Some n → l ≡ t → n ≡ v
     node_is l n e f = let z : ◌≡◌ {A = Option ℕ} (Some n) (Some v) = sym e ∙ ap tree f ∙ at_t in cc
@@ -132,7 +131,7 @@ own_off tree k st t v loc single vic at_t = (here, (head Source st.source.walked
 
     head : (side : Side) (w : Key) → (head_on side st).walked ≡ w → k ++ (head_on side st).walked ≡ t → ⊥
     head side [] i e = here (sym (append-nil k) ∙ ap (λ (l : Key). k ++ l) (sym i) ∙ e)
-    head side (x ∷ w) i e = let z : At_head side ≡ At_victim = single (At_head side) At_victim v (ap (λ (l : Key). if_walked l (Some (head_on side st).node)) i ∙ ap Some (node_is (k ++ (head_on side st).walked) (head_on side st).node (head_located side loc) e)) vic in cc
+    head side (x ∷ w) i e = let z : At_head side ≡ At_victim = single (At_head side) At_victim v (ap (λ (l : Key). if_walked l (Some (head_on side st).node)) i ∙ ap Some (node_is (k ++ (head_on side st).walked) (head_on side st).node (loc.head side) e)) vic in cc
 
 none_moves : (k d : Key) (names : List Name) (x : Name) (p : Key) (e : Edit) → (change_under k (edit_change d names x p e)).moves ≡ None
 none_moves k d names x p Keep = refl

@@ -11,7 +11,7 @@ use Rattle.fs_nodes.specs.Graphs.{Graph, at, then_at, entry_shape, IsGraph}
 use Rattle.fs_machine.specs.Moves.{first_of, step_move, take_if, same_kind, fork_move, rename_move, dir_then, dir_error, rename_at, there_by, moved_node}
 use Rattle.fs_machine.specs.declared.moves.Move.{Move}
 use Rattle.fs_machine.specs.declared.moves.Move.TheVariants.{Finish as Finishes}
-use Rattle.fs_machine.specs.Records.{Holdings}
+use Rattle.fs_machine.specs.Records.{Holdings, Source, Dest}
 use Rattle.fs_laws.specs.Invariants.{Forked, VictimAt}
 use Rattle.fs_laws.specs.Placed.{Aside}
 use Rattle.fs_laws.proofs.graphs.Walks.{then_some}
@@ -70,7 +70,7 @@ pub at_entries : (graph : Graph) → IsGraph graph → (p q : Key) (st : Holding
 at_entries graph is p q st o f es ed e =
     let sd : (names : List Name) × (graph.shape st.source.node ≡ Some (Dir names)) = dir_of_none (left st.source.walked (parent_of p)) (graph.shape st.source.node) es in
     let dd : (names : List Name) × (graph.shape st.dest.node ≡ Some (Dir names)) = dir_of_none (left st.dest.walked (parent_of q)) (graph.shape st.dest.node) ed in
-    let nd : (names : List Name) × (graph.shape st.node ≡ Some (Dir names)) = walked_dir graph is st.node st.source.node st.source.walked sd.0 f.source_at sd.1 in
+    let nd : (names : List Name) × (graph.shape st.node ≡ Some (Dir names)) = walked_dir graph is st.node st.source.node st.source.walked sd.0 (f.stands Source) sd.1 in
     let rest2 : Move = dir_then (graph.shape st.dest.node) (rename_move graph p q st) in
     let rest1 : Move = dir_then (graph.shape st.source.node) (first_of (step_move graph st.dest.node (left st.dest.walked (parent_of q))) rest2) in
     let a : first_of (step_move graph st.source.node (left st.source.walked (parent_of p))) rest1 ≡ Finishes o = dir_then_is (graph.shape st.node) nd.0 (first_of (step_move graph st.source.node (left st.source.walked (parent_of p))) rest1) o nd.1 e in
@@ -93,8 +93,8 @@ victim_held graph p q st o v victim e child want =
 pub real_of : (graph : Graph) → IsGraph graph → (p q : Key) (st : Holdings) (o : Option ℕ) → Fits (AtPair pairs.Rename p q) → Forked graph st.node p q st → VictimAt graph (AtPair pairs.Rename p q) st → fork_move graph p q st ≡ Finishes o → (rename_at graph p q st).1 ≡ true
     → Real graph p q st
 real_of graph is p q st o fits f victim e moves = record {
-  source_is = f.source_is ∙ ap (λ (l : Key). st.source.walked ++ l) (arrived (left st.source.walked (parent_of p)) (graph.shape st.source.node) w.source) ∙ append-nil st.source.walked;
-  dest_is = f.dest_is ∙ ap (λ (l : Key). st.dest.walked ++ l) (arrived (left st.dest.walked (parent_of q)) (graph.shape st.dest.node) w.dest) ∙ append-nil st.dest.walked;
+  source_is = f.path Source ∙ ap (λ (l : Key). st.source.walked ++ l) (arrived (left st.source.walked (parent_of p)) (graph.shape st.source.node) w.source) ∙ append-nil st.source.walked;
+  dest_is = f.path Dest ∙ ap (λ (l : Key). st.dest.walked ++ l) (arrived (left st.dest.walked (parent_of q)) (graph.shape st.dest.node) w.dest) ∙ append-nil st.dest.walked;
   source_dir = dir_of_none (left st.source.walked (parent_of p)) (graph.shape st.source.node) w.source;
   dest_dir = dir_of_none (left st.dest.walked (parent_of q)) (graph.shape st.dest.node) w.dest;
   moved = let g : (m : ℕ) × (graph.child st.source.node (last_of p) ≡ Some m) × (graph.shape m ≡ Some w.moved) = some_entry graph st.source.node (last_of p) w.moved w.is in (g.0, g.1);

@@ -17,7 +17,7 @@ use Rattle.fs_nodes.specs.Graphs.{Graph, at, numbers, graph_shapes, entry_shape,
 use Rattle.fs_machine.specs.Finishes.{move_effect, rename_effect, effect_at}
 use Rattle.fs_machine.specs.Moves.{first_of, step_move, take_if, same_kind, next_on, entry_move, fork_move, rename_move, moved_node, path_error, dir_error, walk_errno, rename_at}
 use Rattle.fs_machine.specs.declared.moves.Move.TheVariants.{Finish as Finishes}
-use Rattle.fs_machine.specs.Records.{Walking, Record, Records, Holdings, Source, Dest}
+use Rattle.fs_machine.specs.Records.{Walking, Record, Records, Holdings, Source, Dest, head_on}
 use Rattle.fs_laws.specs.Invariants.{ForkedAt, HeadsSound, VictimAt}
 use Rattle.fs_laws.specs.Placed.{Aside, rekey_by}
 use Rattle.fs_laws.specs.CallFacts.{Located, CallFacts}
@@ -30,7 +30,7 @@ use Rattle.fs_laws.proofs.finish.Readings.{Stops, ForkAt, below_is, dir_read, re
 use Rattle.fs_laws.proofs.calls.Behind.{finish_on}
 use Rattle.fs_laws.proofs.finish.Replies.{step_stops, fork_stops, common_is, leaf_children}
 use Rattle.fs_laws.proofs.events.OneCallChanged.{kept_move}
-use Rattle.fs_laws.proofs.events.OtherChanges.{kept_cut, victim_off}
+use Rattle.fs_laws.proofs.events.OtherChanges.{OffPlaces, kept_cut, victim_off}
 use Rattle.fs_laws.proofs.helping.MovesSpareOthers.{Moves, spares_of}
 use Rattle.fs_laws.proofs.graphs.Move.{Replaced}
 use Rattle.fs_laws.proofs.graphs.Alterations.{altered_moved, moved_gone}
@@ -90,24 +90,24 @@ does_move graph ops key c op st o p q ws r f rem fits real moved_is = subst (λ 
     aside = (ap₂ after_prefix s_is t_is ∙ prefix_both (key c) p q ∙ real.aside.0, ap₂ after_prefix t_is s_is ∙ prefix_both (key c) q p ∙ real.aside.1)
 
     can : CanMove graph (key c ++ st.source.walked) st.source.node (last_of p) (key c ++ st.dest.walked) st.dest.node (last_of q) real.moved.0
-    can = record { from_at = loc.source; to_at = loc.dest; there = real.moved.1; aside = aside }
+    can = record { from_at = loc.head Source; to_at = loc.head Dest; there = real.moved.1; aside = aside }
 
     entry : numbers graph ((key c ++ st.dest.walked) ++ last_of q ∷ []) ≡ graph.child st.dest.node (last_of q)
-    entry = at_child graph.child 0 st.dest.node (key c ++ st.dest.walked) (last_of q) loc.dest
+    entry = at_child graph.child 0 st.dest.node (key c ++ st.dest.walked) (last_of q) (loc.head Dest)
 
     s_at : numbers graph ((key c ++ st.source.walked) ++ last_of p ∷ []) ≡ Some real.moved.0
-    s_at = at_child graph.child 0 st.source.node (key c ++ st.source.walked) (last_of p) loc.source ∙ real.moved.1
+    s_at = at_child graph.child 0 st.source.node (key c ++ st.source.walked) (last_of p) (loc.head Source) ∙ real.moved.1
 
     replaced : Replaces graph st (last_of q) → Replaced graph st.dest.node (last_of q)
     replaced (inl n) = inl n
     replaced (inr (v, n, h, leaf)) = inr (v, n, leaf_children graph f.is_graph v (graph.shape v) refl leaf)
 
     -- nobody stands at what is overwritten
-    off : Replaces graph st (last_of q) → (d : ℕ) (x : Record) (other : Holdings) → ops d ≡ Some x → x.holdings ≡ Some other → (key d ≡ (key c ++ st.dest.walked) ++ last_of q ∷ [] → ⊥) × ((key d ++ other.source.walked ≡ (key c ++ st.dest.walked) ++ last_of q ∷ [] → ⊥) × (key d ++ other.dest.walked ≡ (key c ++ st.dest.walked) ++ last_of q ∷ [] → ⊥))
+    off : Replaces graph st (last_of q) → (d : ℕ) (x : Record) (other : Holdings) → ops d ≡ Some x → x.holdings ≡ Some other → OffPlaces ((key c ++ st.dest.walked) ++ last_of q ∷ []) (key d) other
     off (inl n) d x other e g =
         let l : Located (numbers graph) (key d) other = (f.kept.each d x other e g).located in
         let none : (a : Key) (i : ℕ) → numbers graph a ≡ Some i → a ≡ (key c ++ st.dest.walked) ++ last_of q ∷ [] → ⊥ = λ a i h j. (let z : ◌≡◌ {A = Option ℕ} (Some i) None = sym h ∙ ap (numbers graph) j ∙ entry ∙ n in cc) in
-        (none (key d) other.node l.here, (none (key d ++ other.source.walked) other.source.node l.source, none (key d ++ other.dest.walked) other.dest.node l.dest))
+        (none (key d) other.node l.here, λ side. none (key d ++ (head_on side other).walked) (head_on side other).node (l.head side))
     off (inr (v, n, h, leaf)) d x other e g =
         victim_off (numbers graph) ops key c op st ((key c ++ st.dest.walked) ++ last_of q ∷ []) v f.kept f.is f.on h (entry ∙ n) (own_off (numbers graph) (key c) st ((key c ++ st.dest.walked) ++ last_of q ∷ []) v loc f.single h (entry ∙ n)) d x other e g
 
@@ -136,8 +136,7 @@ does_move graph ops key c op st o p q ws r f rem fits real moved_is = subst (λ 
       is = f.is;
       on = f.on;
       unfinished = f.unfinished;
-      source_held = node_held Source (numbers graph) (key c) st loc;
-      dest_held = node_held Dest (numbers graph) (key c) st loc;
+      held = λ side. node_held side (numbers graph) (key c) st loc;
       free = free;
       aside = aside;
       none_below = λ w d x other n e g i. below_none w d x other e g i (after_prefix ((key c ++ st.source.walked) ++ last_of p ∷ []) (key d)) refl;

@@ -16,7 +16,7 @@ use Rattle.fs_nodes.specs.Graphs.{Graph, then_at, at, numbers, graph_shapes, ent
 use Rattle.fs_machine.specs.Finishes.{node_effect, move_effect, rename_effect, effect_at}
 use Rattle.fs_machine.specs.Moves.{first_of, step_move, fork_move, target_move, next_on, walk_errno, dir_error, there_by, rename_at}
 use Rattle.fs_machine.specs.declared.moves.Move.TheVariants.{Finish as Finishes}
-use Rattle.fs_machine.specs.Records.{Holdings}
+use Rattle.fs_machine.specs.Records.{Holdings, Source, Dest}
 use Rattle.fs_laws.specs.Invariants.{ForkedAt, HeadsSound, NumberFor}
 use Rattle.fs_laws.specs.Placed.{Aside}
 use Rattle.fs_laws.proofs.trees.Prefixes.{prefix_append, prefix_some, prefix_both}
@@ -112,16 +112,16 @@ move_tree graph is k n p q st reserved r at_k fits f w =
     m = some_entry graph st.source.node (last_of p) w.moved w.is
 
     from_at : numbers graph (k ++ st.source.walked) ≡ Some st.source.node
-    from_at = at_from graph.child 0 n k st.source.walked at_k ∙ f.source_at
+    from_at = at_from graph.child 0 n k st.source.walked at_k ∙ f.fork.stands Source
 
     to_at : numbers graph (k ++ st.dest.walked) ≡ Some st.dest.node
-    to_at = at_from graph.child 0 n k st.dest.walked at_k ∙ f.dest_at
+    to_at = at_from graph.child 0 n k st.dest.walked at_k ∙ f.fork.stands Dest
 
     d_is : parent_of p ≡ st.source.walked
-    d_is = f.source_is ∙ ap (λ (l : Key). st.source.walked ++ l) (arrived (left st.source.walked (parent_of p)) (graph.shape st.source.node) w.source) ∙ append-nil st.source.walked
+    d_is = f.fork.path Source ∙ ap (λ (l : Key). st.source.walked ++ l) (arrived (left st.source.walked (parent_of p)) (graph.shape st.source.node) w.source) ∙ append-nil st.source.walked
 
     e_is : parent_of q ≡ st.dest.walked
-    e_is = f.dest_is ∙ ap (λ (l : Key). st.dest.walked ++ l) (arrived (left st.dest.walked (parent_of q)) (graph.shape st.dest.node) w.dest) ∙ append-nil st.dest.walked
+    e_is = f.fork.path Dest ∙ ap (λ (l : Key). st.dest.walked ++ l) (arrived (left st.dest.walked (parent_of q)) (graph.shape st.dest.node) w.dest) ∙ append-nil st.dest.walked
 
     p_key : (k ++ st.source.walked) ++ last_of p ∷ [] ≡ k ++ p
     p_key = append_assoc k st.source.walked (last_of p ∷ []) ∙ ap (λ (l : Key). k ++ l) (ap (λ (l : Key). l ++ last_of p ∷ []) (sym d_is) ∙ sym (key_is p (from_more p q fits)))
@@ -146,7 +146,7 @@ move_tree graph is k n p q st reserved r at_k fits f w =
     writes =
         ap (λ (b : Bool). rename_writes b (k ++ st.source.walked) (names_of (graph.shape st.source.node)) (last_of p) (k ++ st.dest.walked) (names_of (graph.shape st.dest.node)) (last_of q)) same_name
         ∙ ap₂ (λ (a b : Key). rename_writes (is_end (after_prefix (parent_of p) (parent_of q))) (k ++ a) (names_of (graph.shape st.source.node)) (last_of p) (k ++ b) (names_of (graph.shape st.dest.node)) (last_of q)) (sym d_is) (sym e_is)
-        ∙ ap₂ (λ (a b : List Name). rename_writes (is_end (after_prefix (parent_of p) (parent_of q))) (k ++ parent_of p) a (last_of p) (k ++ parent_of q) b (last_of q)) (names_at st.source.node st.source.walked (parent_of p) d_is f.source_at) (names_at st.dest.node st.dest.walked (parent_of q) e_is f.dest_at)
+        ∙ ap₂ (λ (a b : List Name). rename_writes (is_end (after_prefix (parent_of p) (parent_of q))) (k ++ parent_of p) a (last_of p) (k ++ parent_of q) b (last_of q)) (names_at st.source.node st.source.walked (parent_of p) d_is (f.fork.stands Source)) (names_at st.dest.node st.dest.walked (parent_of q) e_is (f.fork.stands Dest))
         ∙ writes_at k (is_end (after_prefix (parent_of p) (parent_of q))) (parent_of p) (names_of (shapes_from graph n (parent_of p))) (last_of p) (parent_of q) (names_of (shapes_from graph n (parent_of q))) (last_of q)
 
 looked_tree : (graph : Graph) → IsGraph graph → (k : Key) (s : Shape) (remaining : Form) (st : Holdings) (reserved o : Option ℕ) → numbers graph k ≡ Some st.node → graph.shape st.node ≡ Some s → Fits remaining → HeadsSound graph st.node remaining st → NumberFor graph remaining reserved → next_on graph remaining st ≡ Finishes o

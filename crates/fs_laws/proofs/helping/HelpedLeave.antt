@@ -58,7 +58,7 @@ moved_located : (s : State) (c moved : ℕ) (m : Mover s c moved) → Located (n
 moved_located s c moved m = (m.inv.kept.each c m.op m.to.st m.is m.to.on).located
 
 at_moved : (s : State) (c moved : ℕ) (m : Mover s c moved) → numbers s.graph (parent_key s c moved m ++ last_of m.to.p ∷ []) ≡ Some moved
-at_moved s c moved m = at_child s.graph.child 0 m.to.st.source.node (parent_key s c moved m) (last_of m.to.p) (moved_located s c moved m).source ∙ m.to.child
+at_moved s c moved m = at_child s.graph.child 0 m.to.st.source.node (parent_key s c moved m) (last_of m.to.p) ((moved_located s c moved m).head Source) ∙ m.to.child
 
 at_below : (s : State) (c moved : ℕ) (m : Mover s c moved) (key : Key) (n : ℕ) → at s.graph.child moved key ≡ Some n → numbers s.graph ((parent_key s c moved m ++ last_of m.to.p ∷ []) ++ key) ≡ Some n
 at_below s c moved m key n e = at_from s.graph.child 0 moved (parent_key s c moved m ++ last_of m.to.p ∷ []) key (at_moved s c moved m) ∙ e
@@ -83,7 +83,7 @@ walk_below s c moved m f n op st x key differs a child e = go key e
     -- a call that stands at the parent would share it
     shared : m.inv.key c ++ m.to.st.source.walked ≡ m.inv.key f → ⊥
     shared i =
-        let z : ◌≡◌ {A = Option ℕ} (Some m.to.st.source.node) (Some st.node) = sym (moved_located s c moved m).source ∙ ap (numbers s.graph) i ∙ there.here in
+        let z : ◌≡◌ {A = Option ℕ} (Some m.to.st.source.node) (Some st.node) = sym ((moved_located s c moved m).head Source) ∙ ap (numbers s.graph) i ∙ there.here in
         let y : m.to.st.source.node ≡ st.node = cc in
         (m.inv.kept.pairs c f m.op op m.to.st st (λ j. differs (sym j)) m.is a.is m.to.on a.on).apart st.node (subst (Holds m.to.st) y (node_held Source (numbers s.graph) (m.inv.key c) m.to.st (moved_located s c moved m))) (inl refl)
 

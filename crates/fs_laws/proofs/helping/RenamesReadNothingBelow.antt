@@ -122,23 +122,23 @@ rename_off graph is k p q st o kd other s loc u fits well victim e f = go (commo
         stops = fork_stops graph is st.node p q st o refl w fork
 
         off0 : after_prefix kd (k ++ parent_of p) ≡ None
-        off0 = head_off graph is k st kd other st.source.walked (left st.source.walked (parent_of p)) (parent_of p) st.source.node f loc.source (node_held Source (numbers graph) k st loc) f.source stops.source_stops w.source_is
+        off0 = head_off graph is k st kd other st.source.walked (left st.source.walked (parent_of p)) (parent_of p) st.source.node f (loc.head Source) (node_held Source (numbers graph) k st loc) (f.clear Source) stops.source_stops (w.path Source)
 
         source_read : resolve_dir (below k (graph_shapes graph)) (parent_of p) ≡ dir_error (left st.source.walked (parent_of p)) (graph.shape st.source.node)
-        source_read = ap₂ resolve_dir (below_is graph k st.node loc.here) w.source_is ∙ sym (dir_read graph is st.node st.source.node s st.source.walked (left st.source.walked (parent_of p)) u w.source_at stops.source_stops)
+        source_read = ap₂ resolve_dir (below_is graph k st.node loc.here) (w.path Source) ∙ sym (dir_read graph is st.node st.source.node s st.source.walked (left st.source.walked (parent_of p)) u (w.stands Source) stops.source_stops)
 
         off1 : dir_error (left st.source.walked (parent_of p)) (graph.shape st.source.node) ≡ None → after_prefix kd (k ++ parent_of q) ≡ None
-        off1 z = head_off graph is k st kd other st.dest.walked (left st.dest.walked (parent_of q)) (parent_of q) st.dest.node f loc.dest (node_held Dest (numbers graph) k st loc) f.dest (stops.dest_stops z) w.dest_is
+        off1 z = head_off graph is k st kd other st.dest.walked (left st.dest.walked (parent_of q)) (parent_of q) st.dest.node f (loc.head Dest) (node_held Dest (numbers graph) k st loc) (f.clear Dest) (stops.dest_stops z) (w.path Dest)
 
         q_is : k ++ q ≡ (k ++ parent_of q) ++ last_of q ∷ []
         q_is = ap (λ (l : Key). k ++ l) (key_is q mq) ∙ sym (append_assoc k (parent_of q) (last_of q ∷ []))
 
         -- the entry of the destination
         entry : parent_of q ≡ st.dest.walked → numbers graph (k ++ q) ≡ graph.child st.dest.node (last_of q)
-        entry d = ap (numbers graph) (q_is ∙ ap (λ (l : Key). (k ++ l) ++ last_of q ∷ []) d) ∙ at_child graph.child 0 st.dest.node (k ++ st.dest.walked) (last_of q) loc.dest
+        entry d = ap (numbers graph) (q_is ∙ ap (λ (l : Key). (k ++ l) ++ last_of q ∷ []) d) ∙ at_child graph.child 0 st.dest.node (k ++ st.dest.walked) (last_of q) (loc.head Dest)
 
         entry_p : parent_of p ≡ st.source.walked → numbers graph (k ++ p) ≡ graph.child st.source.node (last_of p)
-        entry_p d = ap (numbers graph) (ap (λ (l : Key). k ++ l) (key_is p mp) ∙ sym (append_assoc k (parent_of p) (last_of p ∷ [])) ∙ ap (λ (l : Key). (k ++ l) ++ last_of p ∷ []) d) ∙ at_child graph.child 0 st.source.node (k ++ st.source.walked) (last_of p) loc.source
+        entry_p d = ap (numbers graph) (ap (λ (l : Key). k ++ l) (key_is p mp) ∙ sym (append_assoc k (parent_of p) (last_of p ∷ [])) ∙ ap (λ (l : Key). (k ++ l) ++ last_of p ∷ []) d) ∙ at_child graph.child 0 st.source.node (k ++ st.source.walked) (last_of p) (loc.head Source)
 
         arrived_at : (walked whole l : Key) (t : Option Shape) → whole ≡ walked ++ l → dir_error l t ≡ None → whole ≡ walked
         arrived_at walked whole l t i z = i ∙ ap (λ (y : Key). walked ++ y) (arrived l t z) ∙ append-nil walked
@@ -151,12 +151,12 @@ rename_off graph is k p q st o kd other s loc u fits well victim e f = go (commo
 
             by : (l : Key) → left st.dest.walked (parent_of q) ≡ l → after_prefix kd (k ++ q) ≡ None
             by (z ∷ l) j =
-                head_off graph is k st kd other st.dest.walked ((z ∷ l) ++ last_of q ∷ []) q st.dest.node f loc.dest (node_held Dest (numbers graph) k st loc) f.dest (subst (Stops graph st.dest.node) j (stops.dest_stops es))
-                (key_is q mq ∙ ap (λ (y : Key). y ++ last_of q ∷ []) (w.dest_is ∙ ap (λ (y : Key). st.dest.walked ++ y) j) ∙ append_assoc st.dest.walked (z ∷ l) (last_of q ∷ []))
+                head_off graph is k st kd other st.dest.walked ((z ∷ l) ++ last_of q ∷ []) q st.dest.node f (loc.head Dest) (node_held Dest (numbers graph) k st loc) (f.clear Dest) (subst (Stops graph st.dest.node) j (stops.dest_stops es))
+                (key_is q mq ∙ ap (λ (y : Key). y ++ last_of q ∷ []) ((w.path Dest) ∙ ap (λ (y : Key). st.dest.walked ++ y) j) ∙ append_assoc st.dest.walked (z ∷ l) (last_of q ∷ []))
             by [] j = ends (child_cases kd (k ++ parent_of q) (last_of q) (off1 es))
               where
                 d_is : parent_of q ≡ st.dest.walked
-                d_is = w.dest_is ∙ ap (λ (y : Key). st.dest.walked ++ y) j ∙ append-nil st.dest.walked
+                d_is = w.path Dest ∙ ap (λ (y : Key). st.dest.walked ++ y) j ∙ append-nil st.dest.walked
 
                 ends : (after_prefix kd ((k ++ parent_of q) ++ last_of q ∷ []) ≡ None) ⊎ (kd ≡ (k ++ parent_of q) ++ last_of q ∷ []) → after_prefix kd (k ++ q) ≡ None
                 ends (inl h) = ap (after_prefix kd) q_is ∙ h
@@ -165,7 +165,7 @@ rename_off graph is k p q st o kd other s loc u fits well victim e f = go (commo
                     let dd : (names : List Name) × (graph.shape st.dest.node ≡ Some (Dir names)) × (has_name (last_of q) names ≡ true) = is.of_dir st.dest.node other.node (last_of q) child in
                     let ed : dir_error (left st.dest.walked (parent_of q)) (graph.shape st.dest.node) ≡ None = ap₂ dir_error j dd.1 in
                     let kinds : same_kind (entry_shape graph st.source.node (last_of p)) (entry_shape graph st.dest.node (last_of q)) ≡ same_kind (graph_shapes graph (k ++ p)) (graph_shapes graph (k ++ q)) =
-                    ap₂ (λ (a b : Option ℕ). same_kind (then_at a graph.shape) (then_at b graph.shape)) (sym (entry_p (arrived_at st.source.walked (parent_of p) (left st.source.walked (parent_of p)) (graph.shape st.source.node) w.source_is es))) (sym (entry d_is)) in
+                    ap₂ (λ (a b : Option ℕ). same_kind (then_at a graph.shape) (then_at b graph.shape)) (sym (entry_p (arrived_at st.source.walked (parent_of p) (left st.source.walked (parent_of p)) (graph.shape st.source.node) (w.path Source) es))) (sym (entry d_is)) in
                     let v : st.victim ≡ Some other.node = victim_held graph p q st o other.node victim (at_entries graph is p q st o w es ed fork) child
                     (ap (λ (b : Bool). b && not (is_end (after_prefix p q)) && not (has_more (after_prefix q p))) kinds ∙ want) in
                     absurd (f.apart other.node (inl refl) (inr (inr (inr (inr v)))))

@@ -85,8 +85,8 @@ nobody_between s run c d n op q st other u v differs a b walked e held = go walk
     way (x ∷ u) (y ∷ v) walked node i f g h clear = clear (x ∷ u) (y ∷ v) n tt tt i f held
 
     go : (st.source.walked ≡ u ++ v) ⊎ (st.dest.walked ≡ u ++ v) → ⊥
-    go (inl i) = way u v st.source.walked st.source.node i at_n loc.source (node_held Source (numbers s.graph) (inv.key c) st loc) pair.source
-    go (inr i) = way u v st.dest.walked st.dest.node i at_n loc.dest (node_held Dest (numbers s.graph) (inv.key c) st loc) pair.dest
+    go (inl i) = way u v st.source.walked st.source.node i at_n (loc.head Source) (node_held Source (numbers s.graph) (inv.key c) st loc) (pair.clear Source)
+    go (inr i) = way u v st.dest.walked st.dest.node i at_n (loc.head Dest) (node_held Dest (numbers s.graph) (inv.key c) st loc) (pair.clear Dest)
 
 -- the replies of the placed calls
 are_due : (es : List Entry) (view : JournalView) → ((c : ℕ) (r : Reply) → view.due c ≡ Some r → journal.due c es ≡ Some r) → (cs : List ℕ) (rs : List Reply) → Dues view cs rs → AreDue es cs rs

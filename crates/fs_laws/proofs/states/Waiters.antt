@@ -10,7 +10,7 @@ use Rattle.fs_nodes.specs.Graphs.{numbers}
 use Rattle.fs_machine.specs.Moves.{next, next_on}
 use Rattle.fs_machine.specs.declared.moves.Move.{Move}
 use Rattle.fs_machine.specs.declared.moves.Move.TheVariants.{Take as Takes, LetGo as Leaves, Finish as Finishes, Return as Ends}
-use Rattle.fs_machine.specs.Records.{Walking, Placed, Finished, Holds, Record, Holdings, Dest, head_on}
+use Rattle.fs_machine.specs.Records.{Walking, Placed, Finished, Holds, Record, Holdings, Dest, head_on, Source}
 use Rattle.fs_timeline.specs.Timeline.{begins}
 use Rattle.fs_laws.specs.Invariants.{IsUnfinished, Forked, VictimAt, Invariant}
 use Rattle.fs_laws.specs.Progress.{WaitsFor, WaitsBelow, GoesOn, SomebodyGoesOn, IsNeverStuck, HasStep}
@@ -20,7 +20,7 @@ use Rattle.fs_machine.specs.declared.answers.Stepped.{Stepped}
 use Rattle.fs_machine.specs.declared.answers.Stepped.TheVariants.{Idle, Took, Busy, LetGo, Helped, Committed, CarriedOut, Returned}
 use Rattle.fs_laws.proofs.graphs.Walks.{at_child, at_from}
 use Rattle.fs_laws.proofs.states.WaitsForOneBelow.{Keeps_waiting, waits_below}
-use Rattle.fs_laws.proofs.calls.NodesHeld.{head_located, node_held}
+use Rattle.fs_laws.proofs.calls.NodesHeld.{node_held}
 use Rattle.fs_laws.proofs.states.ComputedSteps.{by_ends}
 use Rattle.fs_laws.proofs.events.Take.{TakesFrom, From_nowhere, From_holdings, takes_from}
 use Rattle.fs_laws.proofs.calls.TakesAtTarget.{forked_of}
@@ -73,8 +73,8 @@ wants_below s inv c op n st is on t = go t
     go : Take s.graph op n st → Below s (inv.key c) st n
     go (Walk x l way b child t_is) = of [] st.node x here (inl refl) child
     go (There (Entry e p rem way child off) b t_is) = of [] st.node (last_of p) here (inl refl) child
-    go (There (Of_head side p q x l rem way turn at_left child) b t_is) = of (head_on side st).walked (head_on side st).node x (head_located side loc) (node_held side (numbers s.graph) (inv.key c) st loc) child
-    go (There (Replaced p q rem way there at_left want child off) b t_is) = of st.dest.walked st.dest.node (last_of q) loc.dest (node_held Dest (numbers s.graph) (inv.key c) st loc) child
+    go (There (Of_head side p q x l rem way turn at_left child) b t_is) = of (head_on side st).walked (head_on side st).node x (loc.head side) (node_held side (numbers s.graph) (inv.key c) st loc) child
+    go (There (Replaced p q rem way there at_left want child off) b t_is) = of st.dest.walked st.dest.node (last_of q) (loc.head Dest) (node_held Dest (numbers s.graph) (inv.key c) st loc) child
 
 -- of two calls that wait, the first for the second, by their keys
 waits_key : (s : State) (run : Run s) (c d e : ℕ) (op q : Record) (st other : Holdings) → WaitsFor s c d op → op.holdings ≡ Some st → WaitsFor s d e q → q.holdings ≡ Some other → (r : Key) × HasNames r × ((run_keeps s run).key d ≡ (run_keeps s run).key c ++ r)
@@ -110,7 +110,7 @@ waits_key s run c d e op q st other a on b on_q = go (takes_from s.graph op a.no
         let r : (r : Key) × (HasNames r × ((run_keeps s run).key d ≡ (run_keeps s run).key c ++ r)) =
         waits_below (numbers s.graph) (run_keeps s run).is_graph.one_key ((run_keeps s run).key c) w.w st ((run_keeps s run).key d) other w.m a.node w.x
         ((run_keeps s run).kept.each c op st a.is on).located ((run_keeps s run).kept.each d q other b.is on_q).located
-        w.at_m w.held w.at_n (λ k f g. pair.apart k g f) back.source back.dest keeps in
+        w.at_m w.held w.at_n (λ k f g. pair.apart k g f) (back.clear Source) (back.clear Dest) keeps in
         (r.0, r.1.0, r.1.1)
 
 -- a call that holds a node stands somewhere
@@ -149,7 +149,7 @@ none_or_chosen s run c op (Some n) is m = go (chosen_or_none s run (inv.key c ++
     t = to_move s.graph op n m
 
     at_n : numbers s.graph ((run_keeps s run).key c ++ (to_move s.graph op n m).st.source.walked ++ last_of (to_move s.graph op n m).p ∷ []) ≡ Some n
-    at_n = at_child s.graph.child 0 (to_move s.graph op n m).st.source.node ((run_keeps s run).key c ++ (to_move s.graph op n m).st.source.walked) (last_of (to_move s.graph op n m).p) ((run_keeps s run).kept.each c op (to_move s.graph op n m).st is (to_move s.graph op n m).on).located.source ∙ (to_move s.graph op n m).child
+    at_n = at_child s.graph.child 0 (to_move s.graph op n m).st.source.node ((run_keeps s run).key c ++ (to_move s.graph op n m).st.source.walked) (last_of (to_move s.graph op n m).p) (((run_keeps s run).kept.each c op (to_move s.graph op n m).st is (to_move s.graph op n m).on).located.head Source) ∙ (to_move s.graph op n m).child
 
     go : NoneBelow s (Some n) ⊎ ((d : ℕ) × IsChosen s n d) → NoneBelow s (Some n) ⊎ ((k d : ℕ) × (Some n ≡ Some k) × IsChosen s k d)
     go (inl h) = inl h
