@@ -28,7 +28,7 @@ use Rattle.fs_laws.proofs.calls.Behind.{finish_on}
 use Rattle.fs_laws.proofs.finish.Replies.{Leaf, leaf_children, add_of, no_entry, step_stops}
 use Rattle.fs_laws.proofs.finish.Changes.{removed_leaf}
 use Rattle.fs_laws.proofs.finish.Readings.{arrived}
-use Rattle.fs_laws.proofs.finish.RealMoves.{Real, Replaces, real_of}
+use Rattle.fs_laws.proofs.finish.RealMoves.{can_move, Real, Replaces, real_of}
 use Rattle.fs_numbers.specs.Numbers.{IsReached}
 
 -- number is the one that the call has reserved
@@ -150,19 +150,7 @@ moved_reached graph is kf from x kt st y m can replaces n (l, e) = go (after_pre
 stays_moved : (graph : Graph) → IsGraph graph → (k : Key) (st : Holdings) (p q : Key) (number : Option ℕ) (r : Reply) → Located (numbers graph) k st → Fits (AtPair pairs.Rename p q) → Real graph p q st
     → Stays graph st number (move_effect graph st (last_of p) (last_of q) number r true (graph.child st.source.node (last_of p)))
 stays_moved graph is k st p q number r loc fits real = subst (λ (n : Option ℕ). Stays graph st number (move_effect graph st (last_of p) (last_of q) number r true n)) (sym real.moved.1)
-    (record { reached = λ n reached. moved_reached graph is (k ++ st.source.walked) st.source.node (last_of p) (k ++ st.dest.walked) st (last_of q) real.moved.0 can real.replaces n reached; reserved = λ n f. inl f; victim = λ n f. f })
-  where
-    s_is : (k ++ st.source.walked) ++ last_of p ∷ [] ≡ k ++ p
-    s_is = append_assoc k st.source.walked (last_of p ∷ []) ∙ ap (λ (l : Key). k ++ l) (ap (λ (l : Key). l ++ last_of p ∷ []) (sym real.source_is) ∙ sym (key_is p (from_more p q fits)))
-
-    t_is : (k ++ st.dest.walked) ++ last_of q ∷ [] ≡ k ++ q
-    t_is = append_assoc k st.dest.walked (last_of q ∷ []) ∙ ap (λ (l : Key). k ++ l) (ap (λ (l : Key). l ++ last_of q ∷ []) (sym real.dest_is) ∙ sym (key_is q (to_more p q fits)))
-
-    aside : Aside ((k ++ st.source.walked) ++ last_of p ∷ []) ((k ++ st.dest.walked) ++ last_of q ∷ [])
-    aside = (ap₂ after_prefix s_is t_is ∙ prefix_both k p q ∙ real.aside.0, ap₂ after_prefix t_is s_is ∙ prefix_both k q p ∙ real.aside.1)
-
-    can : CanMove graph (k ++ st.source.walked) st.source.node (last_of p) (k ++ st.dest.walked) st.dest.node (last_of q) real.moved.0
-    can = record { from_at = loc.head Source; to_at = loc.head Dest; there = real.moved.1; aside = aside }
+    (record { reached = λ n reached. moved_reached graph is (k ++ st.source.walked) st.source.node (last_of p) (k ++ st.dest.walked) st (last_of q) real.moved.0 (can_move graph k p q st loc fits real) real.replaces n reached; reserved = λ n f. inl f; victim = λ n f. f })
 
 stays_rename : (graph : Graph) → IsGraph graph → (k : Key) (st : Holdings) (o : Option ℕ) (p q : Key) (number : Option ℕ) → Located (numbers graph) k st → Fits (AtPair pairs.Rename p q) → VictimAt graph (AtPair pairs.Rename p q) st
     → (l : Key) → ForkedAt graph st.node p q st l → first_of (step_move graph st.node l) (fork_move graph p q st) ≡ Finishes o → Stays graph st number (rename_effect graph p q st number l)

@@ -13,6 +13,7 @@ use Rattle.fs_machine.specs.Records.{Phase, Walking, Placed, Finished, Holds, Re
 use Rattle.fs_laws.proofs.calls.Behind.{finish_past}
 use Rattle.fs_laws.proofs.events.LetGo.{behind_of_move, still_holds, lets_behind, LetsLast, One, All, lets_last}
 use Rattle.fs_laws.proofs.calls.HeadOrder.{IsClosed, HeadsOfCallInOrder, neat_heads}
+use Rattle.fs_laws.proofs.calls.NodesHeld.{one_holdings, none_some}
 
 -- a call that finishes where it stands
 pub finish_closed : (graph : Graph) (remaining : Form) (st : Holdings) (o : Option ℕ) → next_on graph remaining st ≡ Finishes o → IsClosed st
@@ -26,19 +27,16 @@ StillHolds s m = (new : Holdings) × (s ≡ Some new) × Holds new m
 end_holds : (st : Holdings) (n m : ℕ) → IsClosed st → last_held st st.victim ≡ n → (m ≡ n → ⊥) → Holds st m → StillHolds (left_last st st.victim) m
 end_holds st n m cl e d h = go (lets_last st n e)
   where
-    none_is : (b : Option ℕ) → b ≡ None → b ≡ Some m → ⊥
-    none_is b i j = let z : ◌≡◌ {A = Option ℕ} None (Some m) = sym i ∙ j in cc
-
     go : LetsLast st n (left_last st st.victim) → StillHolds (left_last st st.victim) m
     go (One new is l behind only) = (new, is, still_holds st new n m l d h)
     go (All is node source dest victim) = absurd (nowhere h)
       where
         nowhere : Holds st m → ⊥
         nowhere (inl g) = d (sym g ∙ node)
-        nowhere (inr (inl g)) = none_is st.behind cl g
+        nowhere (inr (inl g)) = none_some st.behind m cl g
         nowhere (inr (inr (inl g))) = subst HasNames source g.0
         nowhere (inr (inr (inr (inl g)))) = subst HasNames dest g.0
-        nowhere (inr (inr (inr (inr g)))) = none_is st.victim victim g
+        nowhere (inr (inr (inr (inr g)))) = none_some st.victim m victim g
 
 -- what a let go leaves
 pub record LeftWell (graph : Graph) (op : Record) (n : ℕ) : Type 0 where
@@ -47,7 +45,7 @@ pub record LeftWell (graph : Graph) (op : Record) (n : ℕ) : Type 0 where
 
 way_left : (graph : Graph) (op : Record) (n : ℕ) (st : Holdings) (p : Phase) → op.phase ≡ p → ((r : Reply) → p ≡ Finished r → ⊥) → op.holdings ≡ Some st → HeadsOfCallInOrder graph op st → left_holdings p (Some st) ≡ Some (record st { behind = None }) → st.behind ≡ Some n → LeftWell graph op n
 way_left graph op n st p ph unfinished on w is b = record {
-  stays = λ s m e h d. (record st { behind = None }, left_is, still_holds st (record st { behind = None }) n m (lets_behind st n b) d (subst (λ (y : Holdings). Holds y m) (holdings_is s e) h));
+  stays = λ s m e h d. (record st { behind = None }, left_is, still_holds st (record st { behind = None }) n m (lets_behind st n b) d (subst (λ (y : Holdings). Holds y m) (one_holdings e on) h));
   neat = λ new e. (let z : ◌≡◌ {A = Option Holdings} (Some (record st { behind = None })) (Some new) = sym left_is ∙ e in subst (HeadsOfCallInOrder graph (let_go op n)) (let y : record st { behind = None } ≡ new = cc in y)
       (record { under_way = λ u. neat_heads graph op.remaining st (record st { behind = None }) (record { source = refl; node = refl; dest = refl; victim = refl }) (w.under_way u); closed = λ r i. absurd (unfinished r (sym ph ∙ i)) }));
 }
@@ -55,27 +53,21 @@ way_left graph op n st p ph unfinished on w is b = record {
     left_is : left_holdings op.phase op.holdings ≡ Some (record st { behind = None })
     left_is = ap₂ left_holdings ph on ∙ is
 
-    holdings_is : (s : Holdings) → op.holdings ≡ Some s → s ≡ st
-    holdings_is s e = let z : ◌≡◌ {A = Option Holdings} (Some s) (Some st) = sym e ∙ on in cc
-
 last_closed : (st new : Holdings) (n : ℕ) → IsClosed st → last_held st st.victim ≡ n → left_last st st.victim ≡ Some new → IsClosed new
 last_closed st new n c e is = go (lets_last st n e)
   where
     go : LetsLast st n (left_last st st.victim) → IsClosed new
-    go (One made i l behind only) = let z : ◌≡◌ {A = Option Holdings} (Some made) (Some new) = sym i ∙ is in subst IsClosed (let y : made ≡ new = cc in y) (behind ∙ c)
-    go (All i node source dest victim) = let z : ◌≡◌ {A = Option Holdings} None (Some new) = sym i ∙ is in cc
+    go (One made i l behind only) = subst IsClosed (one_holdings i is) (behind ∙ c)
+    go (All i node source dest victim) = none_some (left_last st st.victim) new i is
 
 end_left : (graph : Graph) (op : Record) (n : ℕ) (st : Holdings) (r : Reply) → op.phase ≡ Finished r → op.holdings ≡ Some st → HeadsOfCallInOrder graph op st → last_held st st.victim ≡ n → LeftWell graph op n
 end_left graph op n st r ph on w e = record {
-  stays = λ s m i h d. (let g : StillHolds (left_last st st.victim) m = end_holds st n m (w.closed r ph) e d (subst (λ (y : Holdings). Holds y m) (holdings_is s i) h) in (g.0, left_is ∙ g.1, g.2));
+  stays = λ s m i h d. (let g : StillHolds (left_last st st.victim) m = end_holds st n m (w.closed r ph) e d (subst (λ (y : Holdings). Holds y m) (one_holdings i on) h) in (g.0, left_is ∙ g.1, g.2));
   neat = λ new i. record { under_way = λ u. absurd (u r ph); closed = λ q j. last_closed st new n (w.closed r ph) e (sym left_is ∙ i) };
 }
   where
     left_is : left_holdings op.phase op.holdings ≡ left_last st st.victim
     left_is = ap₂ left_holdings ph on
-
-    holdings_is : (s : Holdings) → op.holdings ≡ Some s → s ≡ st
-    holdings_is s i = let z : ◌≡◌ {A = Option Holdings} (Some s) (Some st) = sym i ∙ on in cc
 
 pub left_well : (graph : Graph) (op : Record) (n : ℕ) → ((st : Holdings) → op.holdings ≡ Some st → HeadsOfCallInOrder graph op st) → next graph op ≡ Leaves n → LeftWell graph op n
 left_well graph op n w m = go op.phase (by_text (form op.call)) op.holdings refl refl m

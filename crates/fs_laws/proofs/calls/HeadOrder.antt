@@ -11,7 +11,7 @@ use Rattle.fs_nodes.specs.Graphs.{Graph}
 use Rattle.fs_machine.specs.Moves.{target, took, victim_took, stepped, took_by, inner}
 use Rattle.fs_machine.specs.Records.{Finished, Holds, Record, Holdings, Side, Source, Dest, of_side, head_on, holdings_at}
 use Rattle.fs_laws.specs.Invariants.{IsUnfinished, VictimAt}
-use Rattle.fs_laws.proofs.calls.NodesHeld.{slot_holds, grown_keeps}
+use Rattle.fs_laws.proofs.calls.NodesHeld.{slot_holds, grown_keeps, one_holdings, none_some}
 use Rattle.fs_laws.proofs.calls.Takes.{SourceThere, AtTarget, Entry, Of_head, Replaced, Take, Walk, There, stands, grown, none_left, with_holdings, walked_on}
 
 -- neither head has set out, and there is no victim
@@ -159,28 +159,22 @@ took_root graph op n u off = took_as graph op (record op { holdings = Some (hold
 
 pub took_well : (graph : Graph) (op : Record) (n : ℕ) (st : Holdings) → IsUnfinished op → op.holdings ≡ Some st → HeadsInOrder graph op.remaining st → Take graph op n st → TookWell graph op n
 took_well graph op n st u on w (Walk x l way b child is) =
-    took_as graph op (walked_on op st x n) n (holdings_at n (Some st.node)) is refl refl (inl refl) (λ s m e h. stays m (subst (λ (y : Holdings). Holds y m) (holdings_is s e) h))
+    took_as graph op (walked_on op st x n) n (holdings_at n (Some st.node)) is refl refl (inl refl) (λ s m e h. stays m (subst (λ (y : Holdings). Holds y m) (one_holdings e on) h))
     (open_only graph op (walked_on op st x n) (holdings_at n (Some st.node)) u refl (neat_fresh graph (inner op.remaining) n (Some st.node)))
   where
     plain : (st.source.walked ≡ []) × (st.dest.walked ≡ []) × (st.victim ≡ None)
     plain = plain_of graph op.remaining st x l way w
 
-    holdings_is : (s : Holdings) → op.holdings ≡ Some s → s ≡ st
-    holdings_is s e = let z : ◌≡◌ {A = Option Holdings} (Some s) (Some st) = sym e ∙ on in cc
-
     stays : (m : ℕ) → Holds st m → Holds (holdings_at n (Some st.node)) m
     stays m (inl e) = inr (inl (ap (λ (k : ℕ). Some k) e))
-    stays m (inr (inl e)) = let z : ◌≡◌ {A = Option ℕ} None (Some m) = sym b ∙ e in cc
+    stays m (inr (inl e)) = none_some st.behind m b e
     stays m (inr (inr (inl h))) = absurd (subst HasNames plain.0 h.0)
     stays m (inr (inr (inr (inl h)))) = absurd (subst HasNames plain.1 h.0)
-    stays m (inr (inr (inr (inr e)))) = let z : ◌≡◌ {A = Option ℕ} None (Some m) = sym plain.2 ∙ e in cc
+    stays m (inr (inr (inr (inr e)))) = none_some st.victim m plain.2 e
 took_well graph op n st u on w (There t b is) =
-    took_as graph op (with_holdings op (stands t)) n (stands t) is refl refl (slot_holds (stands t) (grown t b).at n (grown t b).here) (λ s m i h. grown_keeps (grown t b) m (subst (λ (y : Holdings). Holds y m) (holdings_is s i) h))
+    took_as graph op (with_holdings op (stands t)) n (stands t) is refl refl (slot_holds (stands t) (grown t b).at n (grown t b).here) (λ s m i h. grown_keeps (grown t b) m (subst (λ (y : Holdings). Holds y m) (one_holdings i on) h))
     (open_only graph op (with_holdings op (stands t)) (stands t) u refl (neat t))
   where
-    holdings_is : (s : Holdings) → op.holdings ≡ Some s → s ≡ st
-    holdings_is s i = let z : ◌≡◌ {A = Option Holdings} (Some s) (Some st) = sym i ∙ on in cc
-
     neat : (t : AtTarget graph op n st) → HeadsInOrder graph op.remaining (stands t)
     neat (Entry e p rem way child off) =
         let mine : NeatIn p st = subst (λ (f : Form). HeadsInOrder graph f st) rem w in

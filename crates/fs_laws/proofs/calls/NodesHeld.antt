@@ -17,6 +17,12 @@ if_walked_some (x ∷ w) o q e = (tt, e)
 node_is : (a b : ℕ) → Some a ≡ Some b → a ≡ b
 node_is a b e = cc
 
+pub one_holdings : {o : Option Holdings} {a b : Holdings} → o ≡ Some a → o ≡ Some b → a ≡ b
+one_holdings {o} {a} {b} e f = let z : ◌≡◌ {A = Option Holdings} (Some a) (Some b) = sym e ∙ f in cc
+
+pub none_some : {P : Type 0} {A : Type 0} (o : Option A) (v : A) → o ≡ None → o ≡ Some v → P
+none_some {P} {A} o v e f = absurd (let z : ◌≡◌ {A = Option A} None (Some v) = sym e ∙ f in cc)
+
 -- what a head holds the call holds
 pub head_holds : (side : Side) (st : Holdings) (n : ℕ) → HeadHolds (head_on side st) n → Holds st n
 head_holds Source st n h = inr (inr (inl h))

@@ -18,6 +18,7 @@ use Rattle.fs_laws.proofs.calls.Takes.{Entry, Of_head, Replaced, Take, Walk, The
 use Rattle.fs_laws.proofs.calls.HeadOrder.{NeatIn, HeadsInOrder, plain_of, in_turn, not_there, no_victim}
 use Rattle.fs_laws.proofs.states.Agreement.{StateFacts, text_open}
 use Rattle.fs_laws.proofs.calls.TakesAtTarget.{forked_of}
+use Rattle.fs_laws.proofs.calls.NodesHeld.{none_some}
 
 pub record OneUnfinished (graph : Graph) (k : Key) (op : Record) (st : Holdings) : Type 0 where
   pub on : op.holdings ≡ Some st
@@ -86,9 +87,6 @@ solo_wants graph is_graph k op n st solo t h = go t h
     neat : HeadsInOrder graph op.remaining st
     neat = solo.neat
 
-    none_is : (b : Option ℕ) → b ≡ None → b ≡ Some n → ⊥
-    none_is b i j = let z : ◌≡◌ {A = Option ℕ} None (Some n) = sym i ∙ j in cc
-
     -- the node at a key is none at a longer one
     not_longer : (key w : Key) (x : Name) (m : ℕ) → numbers graph key ≡ Some m → m ≡ n → numbers graph ((key ++ w) ++ x ∷ []) ≡ Some n → ⊥
     not_longer key w x m e i f = longer key w x (is_graph.one_key key ((key ++ w) ++ x ∷ []) n (e ∙ ap (λ (y : ℕ). Some y) i) f)
@@ -118,8 +116,8 @@ solo_wants graph is_graph k op n st solo t h = go t h
         front_same k st.source.walked (st.dest.walked ++ y ∷ []) (same ∙ append_assoc k st.dest.walked (y ∷ []))
 
     go : Take graph op n st → Holds st n → ⊥
-    go t (inr (inl i)) = none_is st.behind (take_closed t) i
-    go t (inr (inr (inr (inr i)))) = none_is st.victim (no_victim graph op n st neat solo.victim t) i
+    go t (inr (inl i)) = none_some st.behind n (take_closed t) i
+    go t (inr (inr (inr (inr i)))) = none_some st.victim n (no_victim graph op n st neat solo.victim t) i
     go (Walk x l way b child t_is) (inl i) = not_node [] st.node x at_node child i
     go (Walk x l way b child t_is) (inr (inr (inl i))) = subst HasNames (plain_of graph op.remaining st x l way neat).0 i.0
     go (Walk x l way b child t_is) (inr (inr (inr (inl i)))) = subst HasNames (plain_of graph op.remaining st x l way neat).1 i.0

@@ -15,7 +15,7 @@ use Rattle.fs_machine.specs.declared.answers.Stepped.TheVariants.{Took}
 use Rattle.fs_laws.proofs.trees.Prefixes.{prefix_append}
 use Rattle.fs_laws.proofs.graphs.Walks.{at_child, at_from}
 use Rattle.fs_laws.proofs.events.OneCallChanged.{kept_take, takes_head, takes_victim, Takes as Taken}
-use Rattle.fs_laws.proofs.calls.NodesHeld.{heads_with, node_held, single_grow}
+use Rattle.fs_laws.proofs.calls.NodesHeld.{heads_with, node_held, single_grow, one_holdings, none_some}
 use Rattle.fs_laws.proofs.calls.Takes.{AtTarget, Entry, Of_head, Replaced, Take, Walk, There, stands, grown, none_left, with_holdings, takes_by}
 use Rattle.fs_laws.proofs.events.RecordChanged.{renewed}
 use Rattle.fs_laws.proofs.events.Take.{TakesFrom, From_nowhere, From_holdings, takes_from, Taker, is_free, take_keeps, take_root, take_walk}
@@ -24,23 +24,17 @@ use Rattle.fs_laws.proofs.events.Take.{TakesFrom, From_nowhere, From_holdings, t
 own_holdings : (graph : Graph) (op : Record) (new : Holdings) → Own graph op → IsUnfinished op → HeadsSound graph new.node op.remaining new → VictimAt graph op.remaining new → IsSingle new → Own graph (record op { holdings = Some new })
 own_holdings graph op new o unf well victim single = record {
   parts = o.parts;
-  well = λ st e. subst (λ (s : Holdings). HeadsSound graph s.node op.remaining s) (holdings_is st e) well;
+  well = λ st e. subst (λ (s : Holdings). HeadsSound graph s.node op.remaining s) (one_holdings refl e) well;
   spare = o.spare;
   number = o.number;
   placed = λ i e. (new, refl);
-  gone = λ m e. (let z : ◌≡◌ {A = Option ℕ} None (Some m) = sym (o.intact unf) ∙ e in absurd (none_some m z));
+  gone = λ m e. none_some op.removed m (o.intact unf) e;
   intact = o.intact;
   one_spare = o.one_spare;
-  victim = λ u st e. subst (λ (s : Holdings). VictimAt graph op.remaining s) (holdings_is st e) victim;
+  victim = λ u st e. subst (λ (s : Holdings). VictimAt graph op.remaining s) (one_holdings refl e) victim;
   starts = λ u e. cc;
-  single = λ st e. subst IsSingle (holdings_is st e) single;
+  single = λ st e. subst IsSingle (one_holdings refl e) single;
 }
-  where
-    none_some : (m : ℕ) → ◌≡◌ {A = Option ℕ} None (Some m) → ⊥
-    none_some m e = cc
-
-    holdings_is : (st : Holdings) → ◌≡◌ {A = Option Holdings} (Some new) (Some st) → new ≡ st
-    holdings_is st e = cc
 
 -- what is left behind one more name
 pub left_on : (w l whole : Key) (x : Name) → whole ≡ w ++ x ∷ l → whole ≡ (w ++ x ∷ []) ++ left (w ++ x ∷ []) whole
@@ -124,7 +118,7 @@ take_there old inv c op n st t on at_target b took_is = subst (λ (v : Record). 
     (kept_take (numbers old.graph) old.ops inv.key c op st n (inv.key c) new (with_holdings op new) inv.kept t.is on refl refl free there.taken (record { located = there.located; walking = keeps.walking; fits = keeps.fits }))
     (λ i e. refl)
     (own_holdings old.graph op new own t.unfinished there.well there.victim (single_grow (grown at_target b) (free c op st t.is on) (own.single st on)))
-    (λ s q e h. holds s q (holdings_is s e) h))
+    (λ s q e h. holds s q (one_holdings refl e) h))
   where
     new : Holdings
     new = stands at_target
@@ -140,9 +134,6 @@ take_there old inv c op n st t on at_target b took_is = subst (λ (v : Record). 
 
     there : KeptThere old.graph (inv.key c) op n st new
     there = kept_there old.graph (inv.key c) op n st keeps.located (own.well st on) (own.victim t.unfinished st on) b at_target
-
-    holdings_is : (s : Holdings) → ◌≡◌ {A = Option Holdings} (Some new) (Some s) → new ≡ s
-    holdings_is s e = cc
 
     holds : (s : Holdings) (q : ℕ) → new ≡ s → Holds s q → (q ≡ n) ⊎ (old.holder q ≡ Some c)
     holds s q e h = by (there.taken.grows q (subst (λ (y : Holdings). Holds y q) (sym e) h))

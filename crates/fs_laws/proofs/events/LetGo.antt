@@ -27,7 +27,7 @@ use Rattle.fs_laws.proofs.events.OtherChanges.{kept_none}
 use Rattle.fs_laws.proofs.events.Help.{upd_else}
 use Rattle.fs_laws.proofs.events.JustFinished.{Either, Changed, Old}
 use Rattle.fs_laws.proofs.events.RecordChanged.{renewed, renews_keep}
-use Rattle.fs_laws.proofs.calls.NodesHeld.{heads_with, new_head, slot_holds, holds_slot}
+use Rattle.fs_laws.proofs.calls.NodesHeld.{heads_with, new_head, slot_holds, holds_slot, one_holdings, none_some}
 use Rattle.fs_laws.proofs.graphs.Release.{own_children, numbers_children, release_else, shapes_released, graph_released}
 
 -- holdings that let the node n go from a slot: all others stay
@@ -117,9 +117,6 @@ lets_head side st n x w walked e = record {
     same At_victim = inr refl
     same (At_head at) = head (λ (b : Side) (h : Head). (At_head b ≡ At_head side) ⊎ (if_walked h.walked (Some h.node) ≡ in_slot st (At_head b))) (inl refl) (λ b. inr refl) at
 
-no_victim : (o : Option ℕ) (n : ℕ) → o ≡ None → (v : ℕ) → o ≡ Some v → v ≡ n
-no_victim o n e v f = let z : ◌≡◌ {A = Option ℕ} None (Some v) = sym e ∙ f in cc
-
 -- a finished call lets the last taken go, and what is behind stays; or it held its position alone
 pub data LetsLast (st : Holdings) (n : ℕ) (left : Option Holdings) : Type 0 where
   One : (new : Holdings) → left ≡ Some new → Lets st new n → new.behind ≡ st.behind → ((v : ℕ) → st.victim ≡ Some v → v ≡ n) → LetsLast st n left
@@ -129,7 +126,7 @@ pub lets_last : (st : Holdings) (n : ℕ) → last_held st st.victim ≡ n → L
 lets_last st n e = victim st.victim refl e
   where
     head : (side : Side) (x : Name) (w : Key) → st.victim ≡ None → (head_on side st).walked ≡ x ∷ w → (head_on side st).node ≡ n → left_last st st.victim ≡ Some (with_head side (head_at st.node) st) → LetsLast st n (left_last st st.victim)
-    head side x w i k f is = One (with_head side (head_at st.node) st) is (lets_head side st n x w k f) refl (no_victim st.victim n i)
+    head side x w i k f is = One (with_head side (head_at st.node) st) is (lets_head side st n x w k f) refl (λ v. none_some st.victim v i)
 
     source : (w : Key) → st.victim ≡ None → st.dest.walked ≡ [] → st.source.walked ≡ w → first_walked w st.source.node st.node ≡ n → LetsLast st n (left_last st st.victim)
     source (x ∷ w) i j k f = head Source x w i k f (ap (left_last st) i ∙ ap₂ (left_heads st) j k)
@@ -203,7 +200,7 @@ at_end op n st r ph on e = go (lets_last st n e)
   where
     go : LetsLast st n (left_last st st.victim) → LetsGo op n
     go (One new is l behind only) = At_end st new r ph on (ap₂ left_holdings ph on ∙ is) l only
-    go (All is node source dest victim) = Last st r ph on (ap₂ left_holdings ph on ∙ is) node (no_victim st.victim n victim)
+    go (All is node source dest victim) = Last st r ph on (ap₂ left_holdings ph on ∙ is) node (λ v. none_some st.victim v victim)
 
 pub lets_go : (graph : Graph) (op : Record) (n : ℕ) → next graph op ≡ Leaves n → LetsGo op n
 lets_go graph op n m = go op.phase (by_text (form op.call)) op.holdings refl refl m
@@ -356,9 +353,6 @@ keeps_let_go n old new seat inv (c, op, moves, same) = subst Invariant (sym same
     own : Own old.graph op
     own = inv.own c op moves.1
 
-    some_is : (a b : Holdings) → ◌≡◌ {A = Option Holdings} (Some a) (Some b) → a ≡ b
-    some_is a b e = cc
-
     -- where the call still stands somewhere
     in_place : (st left : Holdings) → op.holdings ≡ Some st → left_holdings op.phase op.holdings ≡ Some left → Lets st left n
         → ((m : ℕ) → op.removed ≡ Some m → m ≡ n) → ((i : ℕ) → op.phase ≡ Placed i → (s : Holdings) × (◌≡◌ {A = Option Holdings} (Some left) (Some s))) → (IsUnfinished op → VictimAt old.graph op.remaining left) → Invariant (letting_go old c op n)
@@ -367,20 +361,19 @@ keeps_let_go n old new seat inv (c, op, moves, same) = subst Invariant (sym same
         let kept : CallFacts (numbers old.graph) (set_at c (Some (after_left op (Some left))) old.ops) (set_at c (inv.key c) inv.key) =
         kept_shrink (numbers old.graph) old.ops inv.key c op (after_left op (Some left)) st left inv.kept moves.1 on refl refl refl refl (shrinks_of st left n l) in
         let own_new : Own old.graph (after_left op (Some left)) = own_left old.graph op (Some left) own
-        (λ s e. subst (λ (x : Holdings). HeadsSound old.graph x.node op.remaining x) (some_is left s e) (well_left old.graph st left n op.remaining l (own.well st on)))
+        (λ s e. subst (λ (x : Holdings). HeadsSound old.graph x.node op.remaining x) (one_holdings refl e) (well_left old.graph st left n op.remaining l (own.well st on)))
         placed
-        (λ u s e. subst (VictimAt old.graph op.remaining) (some_is left s e) (victim u))
+        (λ u s e. subst (VictimAt old.graph op.remaining) (one_holdings refl e) (victim u))
         (λ u e. cc)
-        (λ s e. subst IsSingle (some_is left s e) (single_of st left n l (own.single st on))) in
+        (λ s e. subst IsSingle (one_holdings refl e) (single_of st left n l (own.single st on))) in
         let_either old inv c op n (Some left) moves.1 left_is only kept own_new held_n
-        (λ s q e h. (let w : Holds left q = subst (λ (x : Holdings). Holds x q) (sym (some_is left s e)) h in (inv.held c op st q moves.1 on ((shrinks_of st left n l).holds q w), other_of st left n q l (own.single st on) w)))
+        (λ s q e h. (let w : Holds left q = subst (λ (x : Holdings). Holds x q) (sym (one_holdings refl e)) h in (inv.held c op st q moves.1 on ((shrinks_of st left n l).holds q w), other_of st left n q l (own.single st on) w)))
 
     -- what is removed is the victim
     removed_is : (st : Holdings) → op.holdings ≡ Some st → ((v : ℕ) → st.victim ≡ Some v → v ≡ n) → (m : ℕ) → op.removed ≡ Some m → m ≡ n
     removed_is st on f m e =
         let g : (s : Holdings) × (op.holdings ≡ Some s) × (s.victim ≡ Some m) = (own.gone m e).0 in
-        let z : ◌≡◌ {A = Option Holdings} (Some g.0) (Some st) = sym g.1 ∙ on in
-        f m (ap (λ (s : Holdings). s.victim) (sym (some_is g.0 st z)) ∙ g.2)
+        f m (ap (λ (s : Holdings). s.victim) (one_holdings on g.1) ∙ g.2)
 
     go : LetsGo op n → Invariant (letting_go old c op n)
     go (On_way st left u on left_is l same) =

@@ -12,7 +12,7 @@ use Rattle.fs_laws.specs.Placed.{rekey_by}
 use Rattle.fs_laws.specs.CallFacts.{IsAfter, IsClear, IsFree, Keeps, CallFacts, Pair, Shrinks}
 use Rattle.fs_machine.specs.Leaving.{finished_op}
 use Rattle.fs_laws.proofs.graphs.Walks.{eqb_refl, eqb_true}
-use Rattle.fs_laws.proofs.calls.NodesHeld.{heads_with, heads_at, grown_holds, grown_head, grown_victim}
+use Rattle.fs_laws.proofs.calls.NodesHeld.{heads_with, heads_at, grown_holds, grown_head, grown_victim, one_holdings}
 use Rattle.fs_laws.proofs.events.TwoCalls.{clear_take, clear_walk, after_take, after_walk, pair_moved, located_moved, pair_helped_first, pair_helped_second}
 
 -- a place that is changed, and each other
@@ -102,12 +102,9 @@ pub kept_take : (tree : Map ℕ) (ops : Records) (key : ℕ → Key) (c : ℕ) (
     → CallFacts tree (set_at c (Some op_new) ops) (set_at c k key)
 kept_take tree ops key c op st n k new op_new kept is on on_new same_phase free t own =
     kept_update tree ops key c op_new k kept
-    (λ s e. subst (Keeps tree k op_new) (let z : new ≡ s = same_holdings new s (sym on_new ∙ e) in z) own)
-    (λ d q s other differs e f g. subst (λ (x : Holdings). Pair tree k x op_new.phase (key d) other q.phase × Pair tree (key d) other q.phase k x op_new.phase) (same_holdings new s (sym on_new ∙ f)) (both d q other differs e g))
+    (λ s e. subst (Keeps tree k op_new) (one_holdings on_new e) own)
+    (λ d q s other differs e f g. subst (λ (x : Holdings). Pair tree k x op_new.phase (key d) other q.phase × Pair tree (key d) other q.phase k x op_new.phase) (one_holdings on_new f) (both d q other differs e g))
   where
-    same_holdings : (a b : Holdings) → ◌≡◌ {A = Option Holdings} (Some a) (Some b) → a ≡ b
-    same_holdings a b e = cc
-
     both : (d : ℕ) (q : Record) (other : Holdings) → (c ≡ d → ⊥) → ops d ≡ Some q → q.holdings ≡ Some other → Pair tree k new op_new.phase (key d) other q.phase × Pair tree (key d) other q.phase k new op_new.phase
     both d q other differs e g = (record { apart = apart; after = after_first; clear = λ side. t.head side other first.apart (first.clear side) }, record { apart = λ m h i. apart m i h; after = after_second; clear = λ side. clear (second.clear side) })
       where
@@ -208,12 +205,9 @@ pub kept_shrink : (tree : Map ℕ) (ops : Records) (key : ℕ → Key) (c : ℕ)
     → CallFacts tree (set_at c (Some op_new) ops) (set_at c (key c) key)
 kept_shrink tree ops key c op op_new st new kept is on on_new same_phase same_walked same_rel less =
     kept_update tree ops key c op_new (key c) kept
-    (λ s e. subst (Keeps tree (key c) op_new) (same_holdings new s (sym on_new ∙ e)) own)
-    (λ d q s other differs e f g. subst (λ (x : Holdings). Pair tree (key c) x op_new.phase (key d) other q.phase × Pair tree (key d) other q.phase (key c) x op_new.phase) (same_holdings new s (sym on_new ∙ f)) (both d q other differs e g))
+    (λ s e. subst (Keeps tree (key c) op_new) (one_holdings on_new e) own)
+    (λ d q s other differs e f g. subst (λ (x : Holdings). Pair tree (key c) x op_new.phase (key d) other q.phase × Pair tree (key d) other q.phase (key c) x op_new.phase) (one_holdings on_new f) (both d q other differs e g))
   where
-    same_holdings : (a b : Holdings) → ◌≡◌ {A = Option Holdings} (Some a) (Some b) → a ≡ b
-    same_holdings a b e = cc
-
     old : Keeps tree (key c) op st
     old = kept.each c op st is on
 

@@ -11,7 +11,7 @@ use Rattle.fs_laws.proofs.graphs.Walks.{eqb_refl, eqb_true}
 use Rattle.fs_laws.proofs.trees.Commuting.{put_other}
 use Rattle.fs_laws.proofs.events.TwoCalls.{after_take_root}
 use Rattle.fs_laws.proofs.events.OneCallChanged.{kept_update, clear_nil}
-use Rattle.fs_laws.proofs.calls.NodesHeld.{heads_at, only_at, located_at, node_held}
+use Rattle.fs_laws.proofs.calls.NodesHeld.{heads_at, only_at, located_at, node_held, one_holdings}
 
 -- where one entry is added, each key that was there is there as before
 added : (tree : Map ℕ) (t : Key) (n : ℕ) → tree t ≡ None → (key : Key) (m : ℕ) → tree key ≡ Some m → put t (Some n) tree key ≡ tree key
@@ -54,14 +54,11 @@ pub kept_root : (tree : Map ℕ) (ops : Records) (key : ℕ → Key) (c : ℕ) (
     → CallFacts tree (set_at c (Some op_new) ops) (set_at c [] key)
 kept_root tree ops key c op op_new n kept is walks walks_new walked fits on at_root free =
     kept_update tree ops key c op_new [] kept
-    (λ s e. subst (Keeps tree [] op_new) (same_holdings new s (sym on ∙ e)) own)
-    (λ d q s other differs e f g. subst (λ (x : Holdings). Pair tree [] x op_new.phase (key d) other q.phase × Pair tree (key d) other q.phase [] x op_new.phase) (same_holdings new s (sym on ∙ f)) (both d q other differs e g))
+    (λ s e. subst (Keeps tree [] op_new) (one_holdings on e) own)
+    (λ d q s other differs e f g. subst (λ (x : Holdings). Pair tree [] x op_new.phase (key d) other q.phase × Pair tree (key d) other q.phase [] x op_new.phase) (one_holdings on f) (both d q other differs e g))
   where
     new : Holdings
     new = holdings_at n None
-
-    same_holdings : (a b : Holdings) → ◌≡◌ {A = Option Holdings} (Some a) (Some b) → a ≡ b
-    same_holdings a b e = cc
 
     own : Keeps tree [] op_new new
     own = record { located = located_at tree [] n None at_root; walking = λ w. sym walked; fits = fits }

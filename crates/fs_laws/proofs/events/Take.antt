@@ -25,7 +25,7 @@ use Rattle.fs_laws.proofs.events.OneCallChanged.{Place, Here, Else, place, kept_
 use Rattle.fs_laws.proofs.events.OtherChanges.{kept_root}
 use Rattle.fs_laws.proofs.events.JustFinished.{Either, Changed, Old}
 use Rattle.fs_laws.proofs.events.RecordChanged.{renewed, renews_keep}
-use Rattle.fs_laws.proofs.calls.NodesHeld.{heads_at, only_at, located_at, single_at}
+use Rattle.fs_laws.proofs.calls.NodesHeld.{heads_at, only_at, located_at, single_at, one_holdings, none_some}
 
 -- a call that takes: the root first, or from where it stands
 pub data TakesFrom (graph : Graph) (op : Record) (n : ℕ) : Type 0 where
@@ -129,23 +129,17 @@ own_fresh : (graph : Graph) (op v : Record) (n : ℕ) (behind : Option ℕ) → 
     → under v.walked v.remaining ≡ form op.call → (NumberFor graph op.remaining op.reserved → NumberFor graph v.remaining op.reserved) → (behind ≡ Some n → ⊥) → Own graph v
 own_fresh graph op v n behind o unf phase reserved removed call on parts number differs = record {
   parts = parts ∙ ap form (sym call);
-  well = λ st e. subst (λ (s : Holdings). HeadsSound graph s.node v.remaining s) (holdings_is st e) (fresh_well graph n behind v.remaining);
+  well = λ st e. subst (λ (s : Holdings). HeadsSound graph s.node v.remaining s) (one_holdings on e) (fresh_well graph n behind v.remaining);
   spare = λ m e. o.spare m (sym reserved ∙ e);
   number = λ u f. subst (NumberFor graph v.remaining) (sym reserved) (number (o.number unf (ap (λ (x : Call). by_text (form x)) (sym call) ∙ f)));
   placed = λ i e. (holdings_at n behind, on);
-  gone = λ m e. (let z : ◌≡◌ {A = Option ℕ} None (Some m) = sym (o.intact unf) ∙ sym removed ∙ e in absurd (none_some m z));
+  gone = λ m e. none_some op.removed m (o.intact unf) (sym removed ∙ e);
   intact = λ u. removed ∙ o.intact unf;
   one_spare = λ m e f. o.one_spare m (sym reserved ∙ e) (sym removed ∙ f);
-  victim = λ u st e. subst (λ (s : Holdings). VictimAt graph v.remaining s) (holdings_is st e) (fresh_victim graph n behind v.remaining);
+  victim = λ u st e. subst (λ (s : Holdings). VictimAt graph v.remaining s) (one_holdings on e) (fresh_victim graph n behind v.remaining);
   starts = λ u e. (let z : ◌≡◌ {A = Option Holdings} None (Some (holdings_at n behind)) = sym e ∙ on in cc);
-  single = λ st e. subst IsSingle (holdings_is st e) (single_at n behind differs);
+  single = λ st e. subst IsSingle (one_holdings on e) (single_at n behind differs);
 }
-  where
-    none_some : (m : ℕ) → ◌≡◌ {A = Option ℕ} None (Some m) → ⊥
-    none_some m e = cc
-
-    holdings_is : (st : Holdings) → v.holdings ≡ Some st → holdings_at n behind ≡ st
-    holdings_is st e = let z : ◌≡◌ {A = Option Holdings} (Some (holdings_at n behind)) (Some st) = sym on ∙ e in cc
 
 pub under_nil : (call : Form) → under [] call ≡ call
 under_nil (AtNode c p) = refl

@@ -34,7 +34,8 @@ use Rattle.fs_laws.proofs.events.OtherChanges.{OffPlaces, kept_cut, victim_off}
 use Rattle.fs_laws.proofs.helping.MovesSpareOthers.{Moves, spares_of}
 use Rattle.fs_laws.proofs.graphs.Move.{Replaced}
 use Rattle.fs_laws.proofs.graphs.Alterations.{altered_moved, moved_gone}
-use Rattle.fs_laws.proofs.finish.RealMoves.{Real, Replaces, real_of, at_entries, dir_of_none}
+use Rattle.fs_laws.proofs.finish.TreeAfter.{entry_key}
+use Rattle.fs_laws.proofs.finish.RealMoves.{can_move, Real, Replaces, real_of, at_entries, dir_of_none}
 use Rattle.fs_laws.proofs.calls.NodesHeld.{node_held}
 use Rattle.fs_laws.proofs.finish.Changes.{Finisher, Does, does_nothing, does_on, does_in, content_of, own_off}
 
@@ -81,16 +82,13 @@ does_move graph ops key c op st o p q ws r f rem fits real moved_is = subst (λ 
     kt = key c ++ st.dest.walked
 
     s_is : (key c ++ st.source.walked) ++ last_of p ∷ [] ≡ key c ++ p
-    s_is = append_assoc (key c) st.source.walked (last_of p ∷ []) ∙ ap (λ (l : Key). key c ++ l) (ap (λ (l : Key). l ++ last_of p ∷ []) (sym real.source_is) ∙ sym (key_is p (from_more p q fits)))
+    s_is = entry_key Source (key c) p q st fits (real.path Source)
 
     t_is : (key c ++ st.dest.walked) ++ last_of q ∷ [] ≡ key c ++ q
-    t_is = append_assoc (key c) st.dest.walked (last_of q ∷ []) ∙ ap (λ (l : Key). key c ++ l) (ap (λ (l : Key). l ++ last_of q ∷ []) (sym real.dest_is) ∙ sym (key_is q (to_more p q fits)))
-
-    aside : Aside ((key c ++ st.source.walked) ++ last_of p ∷ []) ((key c ++ st.dest.walked) ++ last_of q ∷ [])
-    aside = (ap₂ after_prefix s_is t_is ∙ prefix_both (key c) p q ∙ real.aside.0, ap₂ after_prefix t_is s_is ∙ prefix_both (key c) q p ∙ real.aside.1)
+    t_is = entry_key Dest (key c) p q st fits (real.path Dest)
 
     can : CanMove graph (key c ++ st.source.walked) st.source.node (last_of p) (key c ++ st.dest.walked) st.dest.node (last_of q) real.moved.0
-    can = record { from_at = loc.head Source; to_at = loc.head Dest; there = real.moved.1; aside = aside }
+    can = can_move graph (key c) p q st loc fits real
 
     entry : numbers graph ((key c ++ st.dest.walked) ++ last_of q ∷ []) ≡ graph.child st.dest.node (last_of q)
     entry = at_child graph.child 0 st.dest.node (key c ++ st.dest.walked) (last_of q) (loc.head Dest)
@@ -138,7 +136,7 @@ does_move graph ops key c op st o p q ws r f rem fits real moved_is = subst (λ 
       unfinished = f.unfinished;
       held = λ side. node_held side (numbers graph) (key c) st loc;
       free = free;
-      aside = aside;
+      aside = can.aside;
       none_below = λ w d x other n e g i. below_none w d x other e g i (after_prefix ((key c ++ st.source.walked) ++ last_of p ∷ []) (key d)) refl;
       places = f.places;
     }
@@ -151,7 +149,7 @@ does_move graph ops key c op st o p q ws r f rem fits real moved_is = subst (λ 
 
     moved : CallFacts (move ((key c ++ st.source.walked) ++ last_of p ∷ []) ((key c ++ st.dest.walked) ++ last_of q ∷ []) (numbers graph)) ops (λ d. rekey_by ((key c ++ st.dest.walked) ++ last_of q ∷ []) (key d) (after_prefix ((key c ++ st.source.walked) ++ last_of p ∷ []) (key d)))
     moved =
-        subst (λ (t : Map ℕ). CallFacts t ops (λ d. rekey_by ((key c ++ st.dest.walked) ++ last_of q ∷ []) (key d) (after_prefix ((key c ++ st.source.walked) ++ last_of p ∷ []) (key d)))) (move_cut ((key c ++ st.source.walked) ++ last_of p ∷ []) ((key c ++ st.dest.walked) ++ last_of q ∷ []) (numbers graph) aside)
+        subst (λ (t : Map ℕ). CallFacts t ops (λ d. rekey_by ((key c ++ st.dest.walked) ++ last_of q ∷ []) (key d) (after_prefix ((key c ++ st.source.walked) ++ last_of p ∷ []) (key d)))) (move_cut ((key c ++ st.source.walked) ++ last_of p ∷ []) ((key c ++ st.dest.walked) ++ last_of q ∷ []) (numbers graph) can.aside)
         (kept_move (put ((key c ++ st.dest.walked) ++ last_of q ∷ []) None (numbers graph)) ops key ((key c ++ st.source.walked) ++ last_of p ∷ []) ((key c ++ st.dest.walked) ++ last_of q ∷ []) (key c ++ st.dest.walked) (last_of q) cut
         (move_one (put ((key c ++ st.dest.walked) ++ last_of q ∷ []) None (numbers graph)) ((key c ++ st.source.walked) ++ last_of p ∷ []) ((key c ++ st.dest.walked) ++ last_of q ∷ []) cut.one_key)
         (spares_of (put ((key c ++ st.dest.walked) ++ last_of q ∷ []) None (numbers graph)) ops key c op st (last_of p) (last_of q) cut moves))
@@ -220,7 +218,7 @@ does_rename graph ops key c op st o p q s f rem fits u = go (common (parent_of p
             (does_nothing graph ops key st op.reserved (ch row.1) (rename_at graph p q st).0 f.is_graph f.kept (ap (λ (b : Bool). (ch b).moves) (sym (ap (λ (r : Reply × Bool). r.1) rows) ∙ j)))
         by true j =
             let real : Real graph p q st = real_of graph f.is_graph p q st o fits w vic fork j in
-            let w2 : rename_move graph p q st ≡ Finishes o = at_entries graph f.is_graph p q st o w (error_none st.source.walked (parent_of p) (graph.shape st.source.node) real.source_is real.source_dir) (error_none st.dest.walked (parent_of q) (graph.shape st.dest.node) real.dest_is real.dest_dir) fork in
+            let w2 : rename_move graph p q st ≡ Finishes o = at_entries graph f.is_graph p q st o w (error_none st.source.walked (parent_of p) (graph.shape st.source.node) (real.path Source) real.source_dir) (error_none st.dest.walked (parent_of q) (graph.shape st.dest.node) (real.path Dest) real.dest_dir) fork in
             let same : moved_node (rename_at graph p q st).1 (graph.child st.source.node (last_of p)) ≡ o = finishes_same w2 in
             let d : Does graph ops key st op.reserved (ch true) (move_effect graph st (last_of p) (last_of q) op.reserved (rename_at graph p q st).0 true (graph.child st.source.node (last_of p))) =
             does_move graph ops key c op st o p q (rename_writes (is_end (after_prefix (parent_of p) (parent_of q))) (parent_of p) (names_of (graph_shapes graph (key c ++ parent_of p))) (last_of p) (parent_of q) (names_of (graph_shapes graph (key c ++ parent_of q))) (last_of q)) (rename_at graph p q st).0 f rem fits real

@@ -23,7 +23,7 @@ use Rattle.fs_machine.specs.declared.answers.Stepped.TheVariants.{Idle, Took, Bu
 use Rattle.fs_laws.proofs.graphs.Walks.{at_child, at_from, then_some}
 use Rattle.fs_laws.proofs.events.OneCallChanged.{Place, Here, Else, place}
 use Rattle.fs_laws.proofs.events.TwoCalls.{Ends as Snoc, ends, ends_same}
-use Rattle.fs_laws.proofs.calls.NodesHeld.{node_held}
+use Rattle.fs_laws.proofs.calls.NodesHeld.{node_held, none_some, one_holdings}
 use Rattle.fs_laws.proofs.events.JustFinished.{Either, Changed, Old, either}
 use Rattle.fs_laws.proofs.events.LetGo.{LetsGo, On_way, At_end, Last, lets_go}
 use Rattle.fs_laws.proofs.events.Take.{TakesFrom, From_nowhere, From_holdings, takes_from}
@@ -31,12 +31,6 @@ use Rattle.fs_laws.proofs.calls.Takes.{Take, Walk, There, stands, same_node, tak
 use Rattle.fs_laws.proofs.states.Headline.{run_keeps}
 use Rattle.fs_laws.proofs.helping.WhoStandsBelow.{not_below}
 use Rattle.fs_laws.proofs.helping.NobodyEnters.{ToMove, to_move, NewEntry, Same_entry, Linked, Moved, finish_entries}
-
-holdings_is : (a b : Holdings) → ◌≡◌ {A = Option Holdings} (Some a) (Some b) → a ≡ b
-holdings_is a b e = cc
-
-none_some : {A : Type 0} (o : Option A) (v : A) → o ≡ None → o ≡ Some v → ⊥
-none_some o v e f = let z : ◌≡◌ {A = Option _} None (Some v) = sym e ∙ f in cc
 
 -- what is known of the rename before an event
 record Mover (s : State) (c moved : ℕ) : Type 0 where
@@ -115,7 +109,7 @@ took_outside s c moved m f n op is move d (q, q_is, walks, (st, key, on, e)) = g
     from before v v_is ph on_before r i j = (op, ap s.ops i ∙ is, sym ph ∙ ap (λ (o : Record). o.phase) (sym v_is ∙ j) ∙ walks, (before, r.0, on_before, r.1))
 
     at_new : (v : Record) (new : Holdings) → took op n ≡ v → v.holdings ≡ Some new → took op n ≡ q → new ≡ st
-    at_new v new v_is on_v j = holdings_is new st (sym on_v ∙ ap (λ (o : Record). o.holdings) (sym v_is ∙ j) ∙ on)
+    at_new v new v_is on_v j = one_holdings on_v (ap (λ (o : Record). o.holdings) (sym v_is ∙ j) ∙ on)
 
     here : (before new : Holdings) (v : Record) → took op n ≡ v → v.phase ≡ op.phase → v.holdings ≡ Some new → new.node ≡ before.node → op.holdings ≡ Some before → d ≡ f → took op n ≡ q → IsWalkingBelow s moved d
     here before new v v_is ph on_v same on_before i j = from before v v_is ph on_before (key, e ∙ ap (λ (x : Holdings). Some x.node) (sym (at_new v new v_is on_v j)) ∙ ap (λ (x : ℕ). Some x) same) i j
@@ -154,7 +148,7 @@ let_go_outside s moved f n op is move d (q, q_is, walks, (st, key, on, e)) = go 
 
     left : LetsGo op n → d ≡ f → let_go op n ≡ q → IsWalkingBelow s moved d
     left (On_way before new u on_b left_is lets same) i j =
-        let l : new ≡ st = holdings_is new st (sym left_is ∙ ap (λ (o : Record). o.holdings) j ∙ on) in
+        let l : new ≡ st = one_holdings left_is (ap (λ (o : Record). o.holdings) j ∙ on) in
         (op, ap s.ops i ∙ is, ap (λ (o : Record). o.phase) j ∙ walks, (before, key, on_b, at_old ∙ ap (λ (x : ℕ). Some x) (sym (ap (λ (x : Holdings). x.node) l) ∙ lets.node)))
     left (At_end before new r ph on_b left_is l only) i j = let z : ◌≡◌ {A = Phase} (Finished r) Walking = sym ph ∙ ap (λ (o : Record). o.phase) j ∙ walks in cc
     left (Last before r ph on_b left_is node only) i j = let z : ◌≡◌ {A = Phase} (Finished r) Walking = sym ph ∙ ap (λ (o : Record). o.phase) j ∙ walks in cc

@@ -186,7 +186,7 @@ rename_off graph is k p q st o kd other s loc u fits well victim e f = go (commo
             real = real_of graph is p q st o fits w victim fork (ap (λ (r : Reply × Bool). r.1) rows ∙ j)
 
             es : dir_error (left st.source.walked (parent_of p)) (graph.shape st.source.node) ≡ None
-            es = ap (λ (l : Key). dir_error l (graph.shape st.source.node)) (left_none st.source.walked (parent_of p) real.source_is) ∙ ap (λ (t : Option Shape). dir_error [] t) real.source_dir.1
+            es = ap (λ (l : Key). dir_error l (graph.shape st.source.node)) (left_none st.source.walked (parent_of p) (real.path Source)) ∙ ap (λ (t : Option Shape). dir_error [] t) real.source_dir.1
               where
                 left_none : (a b : Key) → b ≡ a → left a b ≡ []
                 left_none a b z = ap (left a) (z ∙ sym (append-nil a)) ∙ ap left_by (prefix_append a [])
@@ -202,8 +202,8 @@ rename_off graph is k p q st o kd other s loc u fits well victim e f = go (commo
             t_off = by real.replaces
               where
                 by : Replaces graph st (last_of q) → after_prefix (k ++ q) kd ≡ None
-                by (inl n) = none_off graph (k ++ q) kd other.node (entry real.dest_is ∙ n) f.there
-                by (inr (v, n, h, leaf)) = leaf_off graph is (k ++ q) kd v other.node (entry real.dest_is ∙ n) leaf f.there (λ z. f.apart other.node (inl refl) (inr (inr (inr (inr (h ∙ ap Some z))))))
+                by (inl n) = none_off graph (k ++ q) kd other.node (entry (real.path Dest) ∙ n) f.there
+                by (inr (v, n, h, leaf)) = leaf_off graph is (k ++ q) kd v other.node (entry (real.path Dest) ∙ n) leaf f.there (λ z. f.apart other.node (inl refl) (inr (inr (inr (inr (h ∙ ap Some z))))))
 
             ends : (x : Name) (d whole : Key) → k ++ whole ≡ (k ++ d) ++ x ∷ [] → after_prefix kd (k ++ d) ≡ None → (after_prefix kd (k ++ whole) ≡ None) ⊎ (kd ≡ k ++ whole)
             ends x d whole i off = cases (child_cases kd (k ++ d) x off)

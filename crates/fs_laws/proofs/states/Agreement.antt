@@ -35,6 +35,7 @@ use Rattle.fs_laws.proofs.finish.Limits.{Within, AllWithin, SameKind, Resizes, f
 use Rattle.fs_laws.proofs.calls.Takes.{takes_by}
 use Rattle.fs_laws.proofs.calls.HeadOrder.{HeadsOfCallInOrder, HeadsInOrder, neat_op_by, DirStays, TookWell, took_root, took_well, IsClosed}
 use Rattle.fs_laws.proofs.calls.FinishedHoldings.{LeftWell, left_well, finish_closed}
+use Rattle.fs_laws.proofs.calls.NodesHeld.{none_some}
 
 -- a call under way that holds a node
 abbrev pub Holder : State → ℕ → ℕ → Type 0
@@ -46,9 +47,6 @@ pub record StateFacts (s : State) : Type 0 where
   pub neat : (c : ℕ) (op : Record) (st : Holdings) → s.ops c ≡ Some op → op.holdings ≡ Some st → HeadsOfCallInOrder s.graph op st
   pub within : AllWithin s.graph.shape
   pub below : (n : ℕ) (shape : Shape) → s.graph.shape n ≡ Some shape → n < s.limit
-
-none_some : {A : Type 0} (o : Option A) (v : A) → o ≡ None → o ≡ Some v → ⊥
-none_some o v e f = let z : ◌≡◌ {A = Option _} None (Some v) = sym e ∙ f in cc
 
 -- a call that stands somewhere is not decided by its paths
 pub text_open : (s : State) (inv : Invariant s) (c : ℕ) (op : Record) (st : Holdings) → s.ops c ≡ Some op → op.holdings ≡ Some st → by_text (form op.call) ≡ None

@@ -20,7 +20,7 @@ use Rattle.fs_machine.specs.declared.answers.Stepped.{Stepped}
 use Rattle.fs_machine.specs.declared.answers.Stepped.TheVariants.{Idle, Took, Busy, LetGo, Helped, Committed, CarriedOut, Returned}
 use Rattle.fs_laws.proofs.graphs.Walks.{at_child, at_from}
 use Rattle.fs_laws.proofs.states.WaitsForOneBelow.{Keeps_waiting, waits_below}
-use Rattle.fs_laws.proofs.calls.NodesHeld.{node_held}
+use Rattle.fs_laws.proofs.calls.NodesHeld.{node_held, none_some, one_holdings}
 use Rattle.fs_laws.proofs.states.ComputedSteps.{by_ends}
 use Rattle.fs_laws.proofs.events.Take.{TakesFrom, From_nowhere, From_holdings, takes_from}
 use Rattle.fs_laws.proofs.calls.TakesAtTarget.{forked_of}
@@ -39,15 +39,12 @@ use Rattle.fs_laws.specs.StepsLeft.{total}
 holds_waiting : (s : State) (inv : Invariant s) (acc : StateFacts s) (c : ℕ) (op : Record) (m n : ℕ) (st : Holdings) → s.ops c ≡ Some op → IsUnfinished op → op.holdings ≡ Some st → Take s.graph op m st → Holds st n → Keeps_waiting st n
 holds_waiting s inv acc c op m n st is u on t h = go h
   where
-    none_is : {P : Type 0} (b : Option ℕ) → b ≡ None → b ≡ Some n → P
-    none_is b i j = let z : ◌≡◌ {A = Option ℕ} None (Some n) = sym i ∙ j in cc
-
     go : Holds st n → Keeps_waiting st n
     go (inl i) = inl i
-    go (inr (inl i)) = none_is st.behind (take_closed t) i
+    go (inr (inl i)) = none_some st.behind n (take_closed t) i
     go (inr (inr (inl i))) = inr (inl i)
     go (inr (inr (inr (inl i)))) = inr (inr i)
-    go (inr (inr (inr (inr i)))) = none_is st.victim (no_victim s.graph op m st ((acc.neat c op st is on).under_way u) ((inv.own c op is).victim u st on) t) i
+    go (inr (inr (inr (inr i)))) = none_some st.victim n (no_victim s.graph op m st ((acc.neat c op st is on).under_way u) ((inv.own c op is).victim u st on) t) i
 
 -- where the wanted node is: one name below a node that the call holds at its position or below
 record Below (s : State) (k : Key) (st : Holdings) (n : ℕ) : Type 0 where
@@ -92,21 +89,18 @@ waits_key s run c d e op q st other a on b on_q = go (takes_from s.graph op a.no
     back : Pair (numbers s.graph) ((run_keeps s run).key d) other q.phase ((run_keeps s run).key c) st op.phase
     back = (run_keeps s run).kept.pairs d c q op other st (λ i. differs (sym i)) b.is a.is on_q on
 
-    same : (f g : Holdings) (o : Option Holdings) → o ≡ Some f → o ≡ Some g → f ≡ g
-    same f g o i j = let z : ◌≡◌ {A = Option Holdings} (Some f) (Some g) = sym i ∙ j in cc
-
     holds : Holder s a.node d → Holds other a.node
     holds (r, t, is, on_t, h) =
         let z : ◌≡◌ {A = Option Record} (Some r) (Some q) = sym is ∙ b.is in
         let y : r ≡ q = cc in
-        subst (λ (x : Holdings). Holds x a.node) (same t other q.holdings (ap (λ (o : Record). o.holdings) (sym y) ∙ on_t) on_q) h
+        subst (λ (x : Holdings). Holds x a.node) (one_holdings (ap (λ (o : Record). o.holdings) (sym y) ∙ on_t) on_q) h
 
     go : TakesFrom s.graph op a.node × IsUnfinished op → TakesFrom s.graph q b.node × IsUnfinished q → Holder s a.node d → (r : Key) × HasNames r × ((run_keeps s run).key d ≡ (run_keeps s run).key c ++ r)
     go (From_nowhere text off z, u) t h = let y : ◌≡◌ {A = Option Holdings} None (Some st) = sym off ∙ on in cc
     go (From_holdings x on_x m, u) (From_nowhere text off z, v) h = let y : ◌≡◌ {A = Option Holdings} None (Some other) = sym off ∙ on_q in cc
     go (From_holdings x on_x m, u) (From_holdings y on_y n, v) h =
-        let w : Below s ((run_keeps s run).key c) st a.node = wants_below s (run_keeps s run) c op a.node st a.is on (takes_by s.graph op a.node st on (subst (λ (z : Holdings). next_on s.graph op.remaining z ≡ Takes a.node) (same x st op.holdings on_x on) m)) in
-        let keeps : Keeps_waiting other a.node = holds_waiting s (run_keeps s run) (run_accounts s run) d q b.node a.node other b.is v on_q (takes_by s.graph q b.node other on_q (subst (λ (z : Holdings). next_on s.graph q.remaining z ≡ Takes b.node) (same y other q.holdings on_y on_q) n)) (holds h) in
+        let w : Below s ((run_keeps s run).key c) st a.node = wants_below s (run_keeps s run) c op a.node st a.is on (takes_by s.graph op a.node st on (subst (λ (z : Holdings). next_on s.graph op.remaining z ≡ Takes a.node) (one_holdings on_x on) m)) in
+        let keeps : Keeps_waiting other a.node = holds_waiting s (run_keeps s run) (run_accounts s run) d q b.node a.node other b.is v on_q (takes_by s.graph q b.node other on_q (subst (λ (z : Holdings). next_on s.graph q.remaining z ≡ Takes b.node) (one_holdings on_y on_q) n)) (holds h) in
         let r : (r : Key) × (HasNames r × ((run_keeps s run).key d ≡ (run_keeps s run).key c ++ r)) =
         waits_below (numbers s.graph) (run_keeps s run).is_graph.one_key ((run_keeps s run).key c) w.w st ((run_keeps s run).key d) other w.m a.node w.x
         ((run_keeps s run).kept.each c op st a.is on).located ((run_keeps s run).kept.each d q other b.is on_q).located
