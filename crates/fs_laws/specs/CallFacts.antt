@@ -1,5 +1,5 @@
 -- What every two calls under way keep. Key has the key of each position; it is no part of the state: the theorem over runs gives one.
-use Rattle.std.specs.Prelude.{ℕ, ◌≡◌, ◌<◌, [], ◌++◌, Some, None, ◌⊎◌}
+use Rattle.std.specs.Prelude.{ℕ, ◌≡◌, ◌<◌, ◌++◌, Some, None, ◌⊎◌}
 use Rattle.fs_names.specs.Keys.{Key, after_prefix}
 use Rattle.fs_names.specs.Parts.{HasNames}
 use Rattle.fs_calls.specs.Forms.{Fits}

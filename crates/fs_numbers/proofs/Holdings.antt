@@ -1,10 +1,8 @@
 -- A call holds at most four nodes.
-use Rattle.std.proofs.Common.{◌≡◌, ℕ, ◌≤◌, [], ◌∷◌, Option, Some, None, refl, sym, ap, ◌∙◌, append-nil, subst, arith, Ok, Err}
-use Rattle.fs_names.specs.Keys.{Key, parent_of}
-use Rattle.fs_names.specs.Names.{Name}
-use Rattle.fs_names.specs.Parts.{left, left_by}
+use Rattle.std.proofs.Common.{◌≡◌, ℕ, ◌≤◌, [], ◌∷◌, Option, Some, None, refl, sym, ap, ◌∙◌, subst, arith, Ok, Err}
+use Rattle.fs_names.specs.Keys.{Key}
 use Rattle.fs_names.specs.Shapes.{Shape}
-use Rattle.fs_calls.specs.Forms.{form, reserves, Form}
+use Rattle.fs_calls.specs.Forms.{form, reserves}
 use Rattle.fs_calls.specs.declared.call.Call.{Call}
 use Rattle.fs_calls.specs.declared.reply.Reply.{Reply}
 use Rattle.fs_nodes.specs.Graphs.{Graph, set_at}
@@ -20,7 +18,6 @@ use Rattle.fs_machine.specs.declared.answers.Refusal.TheVariants.{SeatBusy, Full
 use Rattle.fs_machine.specs.declared.answers.Stepped.{Stepped}
 use Rattle.fs_machine.specs.declared.answers.Stepped.TheVariants.{Idle, Took, Busy, LetGo, Helped, Committed, CarriedOut, Returned}
 use Rattle.fs_laws.specs.StepsLeft.{one_if, one_walked}
-use Rattle.fs_laws.proofs.trees.Prefixes.{prefix_append}
 use Rattle.fs_laws.proofs.events.OneCallChanged.{Place, Here, Else, place}
 use Rattle.fs_laws.proofs.events.JustFinished.{Either, Changed, Old, either}
 use Rattle.fs_laws.proofs.events.Take.{TakesFrom, From_nowhere, From_holdings, takes_from}

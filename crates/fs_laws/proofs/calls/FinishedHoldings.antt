@@ -1,6 +1,5 @@
 -- A call that finishes holds nothing behind; and what a call still holds after a let go.
-use Rattle.std.proofs.Common.{◌≡◌, ℕ, [], ◌∷◌, Option, Some, None, refl, sym, ap₂, ◌∙◌, subst, inl, inr}
-use Rattle.fs_names.specs.Keys.{Key}
+use Rattle.std.proofs.Common.{◌≡◌, ℕ, Option, Some, None, refl, sym, ap₂, ◌∙◌, subst, inl, inr}
 use Rattle.fs_names.specs.Parts.{HasNames}
 use Rattle.fs_calls.specs.Forms.{form, Form, by_text}
 use Rattle.fs_calls.specs.declared.errno.Errno.{Errno}

@@ -1,7 +1,7 @@
 -- An unfinished call that goes on alone: each of its moves leaves fewer, and at last it finishes as what it was.
 use Rattle.std.proofs.Common.{◌≡◌, ℕ, zero, suc, ◌+◌, ◌≤◌, [], ◌∷◌, ◌++◌, length, Option, Some, None, refl, sym, ap, ap₂, ◌∙◌, append_assoc, append-nil, subst, inl, arith}
 use Rattle.std.proofs.lemmas.List.{length-append}
-use Rattle.fs_names.specs.Keys.{Key, after_prefix, parent_of, last_of}
+use Rattle.fs_names.specs.Keys.{Key, after_prefix, parent_of}
 use Rattle.fs_names.specs.Names.{Name}
 use Rattle.fs_names.specs.Parts.{common, left, left_by}
 use Rattle.fs_calls.specs.Forms.{form, Form, AtNode, AtEntry, AtPair, by_text, under}
@@ -12,12 +12,11 @@ use Rattle.fs_machine.specs.Moves.{next, next_by, next_on, target, took, victim_
 use Rattle.fs_machine.specs.declared.moves.Move.{Move}
 use Rattle.fs_machine.specs.declared.moves.Move.TheVariants.{Take as Takes, LetGo as Leaves, Finish as Finishes, Return as Ends}
 use Rattle.fs_machine.specs.Records.{Phase, Walking, Placed, Finished, Holds, Record, Holdings, Side, Source, Dest, of_side, head_on, holdings_at}
-use Rattle.fs_laws.specs.Invariants.{IsUnfinished, Forked, HeadsSound, VictimAt, IsSingle}
+use Rattle.fs_laws.specs.Invariants.{IsUnfinished}
 use Rattle.fs_laws.specs.Settled.{names_left, alone_by}
-use Rattle.fs_laws.specs.CallFacts.{Located}
 use Rattle.fs_laws.specs.StepsLeft.{one_if, one_unless, to_go, moves_left}
 use Rattle.fs_laws.proofs.trees.Prefixes.{prefix_append, prefix_some}
-use Rattle.fs_laws.proofs.graphs.Walks.{at_child, at_from}
+use Rattle.fs_laws.proofs.graphs.Walks.{at_child}
 use Rattle.fs_laws.proofs.calls.NodesHeld.{located_at, single_at, single_grow}
 use Rattle.fs_laws.proofs.events.LetGo.{Lets, behind_of_move, lets_behind, single_of, well_left, victim_left}
 use Rattle.fs_laws.proofs.events.Take.{Inner, inner_on, number_inner, fresh_well, fresh_victim}
@@ -25,7 +24,7 @@ use Rattle.fs_laws.proofs.calls.TakesAtTarget.{forked_of, KeptThere, kept_there}
 use Rattle.fs_laws.proofs.states.ComputedSteps.{on_ends}
 use Rattle.fs_laws.proofs.calls.Takes.{AtTarget, Entry, Of_head, Replaced, Take, Walk, There, stands, grown, takes_by, with_holdings}
 use Rattle.fs_laws.proofs.calls.HeadOrder.{HeadsInOrder, TookWell, took_well, plain_of, neat_heads, neat_fresh}
-use Rattle.fs_laws.proofs.calls.OneUnfinishedCall.{OneUnfinished, solo_wants, front_same}
+use Rattle.fs_laws.proofs.calls.OneUnfinishedCall.{OneUnfinished, solo_wants}
 use Rattle.fs_machine.specs.Finishes.{finish}
 
 parent_less : (p : Key) → length (parent_of p) ≤ length p
@@ -119,7 +118,7 @@ solo_took graph is k op n st s t = go t
     w : TookWell graph op n
     w = took_well graph op n st s.unfinished s.on s.neat t
 
-    -- the record with a new stand is what its heads are in order of
+    -- its heads are in order where it then stands
     neat : (new : Holdings) → took op n ≡ with_holdings op new → HeadsInOrder graph op.remaining new
     neat new e =
         let z : ◌≡◌ {A = Option Holdings} (Some w.new) (Some new) = sym w.on ∙ ap (λ (o : Record). o.holdings) e in

@@ -48,6 +48,7 @@ holds_slot st q (inr (inr (inl h))) = head_slot Source st q h
 holds_slot st q (inr (inr (inr (inl h)))) = head_slot Dest st q h
 holds_slot st q (inr (inr (inr (inr e)))) = (At_victim, e)
 
+-- the head on a side after it is put there
 pub new_head : (side : Side) (h : Head) (st : Holdings) → head_on side (with_head side h st) ≡ h
 new_head Source h st = refl
 new_head Dest h st = refl
@@ -90,7 +91,7 @@ pub record Grown (st new : Holdings) (n : ℕ) : Type 0 where
   pub swap : Slot → Slot
   pub twice : (a : Slot) → swap (swap a) ≡ a
   pub from : (a : Slot) → (a ≡ at) ⊎ (in_slot new a ≡ in_slot st (swap a))
-  -- where it comes nothing was, nor where what was there goes
+  -- what was where it comes goes where nothing was
   pub free : in_slot st (swap at) ≡ None
 
 slot_node : (st : Holdings) (a b : Slot) (n q : ℕ) → in_slot st a ≡ Some n → a ≡ b → in_slot st b ≡ Some q → q ≡ n

@@ -7,7 +7,7 @@ use Rattle.fs_calls.specs.Forms.{Form, AtNode, AtEntry, AtPair}
 use Rattle.fs_calls.specs.declared.target.PairCall.TheVariants as pairs
 use Rattle.fs_nodes.specs.Graphs.{Graph, at, numbers, IsGraph}
 use Rattle.fs_machine.specs.Finishes.{Effect}
-use Rattle.fs_machine.specs.Records.{Holds, Record, Holdings, Dest, Source, head_on}
+use Rattle.fs_machine.specs.Records.{Holds, Record, Holdings, Dest, head_on}
 use Rattle.fs_laws.specs.Invariants.{ForkedAt, HeadsSound, NumberFor, VictimAt, HasSpare, Own}
 use Rattle.fs_laws.specs.CallFacts.{Located}
 use Rattle.fs_machine.specs.Leaving.{finished_op}

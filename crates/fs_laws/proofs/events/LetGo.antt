@@ -39,7 +39,7 @@ pub record Lets (st new : Holdings) (n : ℕ) : Type 0 where
   pub node : new.node ≡ st.node
   pub head : (side : Side) → (head_on side new ≡ head_on side st) ⊎ (head_on side new ≡ head_at st.node)
 
--- what a slot still has it had, and it is another one
+-- what a slot still has it had before, and it is not the one let go
 still : (st new : Holdings) (n : ℕ) (l : Lets st new n) (a : Slot) (q : ℕ) → in_slot new a ≡ Some q → (in_slot st a ≡ Some q) × (a ≡ l.gone → ⊥)
 still st new n l a q e = (by (l.same a), other)
   where

@@ -2,12 +2,11 @@
 use Rattle.std.proofs.Common.{◌≡◌, ℕ, ◌<◌, Bool, true, false, cond, eqb, [], ◌∷◌, ◌++◌, Option, Some, None, refl, sym, ap, ◌∙◌, append-nil, subst, ◌⊎◌, inl, inr}
 use Rattle.fs_names.specs.Keys.{Key, after_prefix}
 use Rattle.fs_names.specs.Names.{Name}
-use Rattle.fs_names.specs.Parts.{HasNames}
 use Rattle.fs_laws.specs.Maps.{Map, move}
 use Rattle.fs_nodes.specs.Graphs.{set_at}
 use Rattle.fs_machine.specs.Finishes.{Effect}
 use Rattle.fs_machine.specs.Moves.{head_took, victim_took, stepped}
-use Rattle.fs_machine.specs.Records.{Head, head_at, holdings_at, Finished, Holds, Record, Records, Phase, Placed, Holdings, Side, Source, Dest, head_on, Walking}
+use Rattle.fs_machine.specs.Records.{Head, head_at, holdings_at, Finished, Holds, Record, Records, Phase, Placed, Holdings, Side, head_on, Walking}
 use Rattle.fs_laws.specs.Placed.{rekey_by}
 use Rattle.fs_laws.specs.CallFacts.{IsAfter, IsClear, IsFree, Keeps, CallFacts, Pair, Shrinks}
 use Rattle.fs_machine.specs.Leaving.{finished_op}

@@ -1,11 +1,11 @@
 -- The other changes: a new entry, the root's take, a call that begins, a call that ends.
-use Rattle.std.proofs.Common.{◌≡◌, ℕ, Bool, true, false, eqb, [], ◌∷◌, ◌++◌, Option, Some, None, refl, sym, ap, ◌∙◌, append_assoc, append-nil, subst, inl, inr}
+use Rattle.std.proofs.Common.{◌≡◌, ℕ, Bool, true, false, eqb, [], ◌∷◌, ◌++◌, Option, Some, None, refl, sym, ap, ◌∙◌, append_assoc, subst, inl, inr}
 use Rattle.fs_names.specs.Keys.{Key, after_prefix}
 use Rattle.fs_names.specs.Parts.{HasNames}
 use Rattle.fs_calls.specs.Forms.{Fits}
 use Rattle.fs_laws.specs.Maps.{Map, put, put_at}
 use Rattle.fs_nodes.specs.Graphs.{set_at}
-use Rattle.fs_machine.specs.Records.{Finished, Head, Holds, Record, Records, Phase, Placed, Holdings, Walking, Source, Dest, Side, head_on, head_at, holdings_at}
+use Rattle.fs_machine.specs.Records.{Finished, Head, Holds, Record, Records, Phase, Placed, Holdings, Walking, Side, head_on, holdings_at}
 use Rattle.fs_laws.specs.CallFacts.{IsAfter, IsClear, IsFree, Keeps, CallFacts, Pair}
 use Rattle.fs_laws.proofs.graphs.Walks.{eqb_refl, eqb_true}
 use Rattle.fs_laws.proofs.trees.Commuting.{put_other}

@@ -5,7 +5,7 @@ use Rattle.fs_names.specs.Keys.{Key, after_prefix}
 use Rattle.fs_names.specs.Names.{Name, same_name}
 use Rattle.fs_names.specs.Parts.{HasNames}
 use Rattle.fs_laws.specs.Maps.{Map, move}
-use Rattle.fs_machine.specs.Records.{Finished, Holds, Phase, Placed, Holdings, Walking, Source, Dest, Side, head_on}
+use Rattle.fs_machine.specs.Records.{Finished, Holds, Phase, Placed, Holdings, Walking, Source, Side, head_on}
 use Rattle.fs_laws.specs.Placed.{rekey_by}
 use Rattle.fs_laws.specs.CallFacts.{IsAfter, IsClear, Located, Pair}
 use Rattle.fs_laws.proofs.trees.Prefixes.{same_refl, prefix_some, prefix_both, prefix_deeper, prefix_none}

@@ -16,7 +16,7 @@ use Rattle.fs_nodes.specs.Graphs.{Graph, at, then_at, numbers, entry_shape, IsGr
 use Rattle.fs_machine.specs.Finishes.{Effect, no_effect, node_effect, entry_effect}
 use Rattle.fs_machine.specs.Moves.{take_if, next_on, victim_of, entry_move}
 use Rattle.fs_machine.specs.declared.moves.Move.TheVariants.{Finish as Finishes}
-use Rattle.fs_machine.specs.Records.{Walking, Placed, Record, Records, Holdings, Side, Source, Dest, head_on}
+use Rattle.fs_machine.specs.Records.{Walking, Placed, Record, Records, Holdings, Side, head_on}
 use Rattle.fs_laws.specs.Invariants.{HeadsSound, VictimAt, NumberFor, HasNumber, IsSingle, At_node, At_head, At_victim, if_walked}
 use Rattle.fs_laws.specs.Placed.{rekey, rekey_move}
 use Rattle.fs_laws.specs.CallFacts.{Located, CallFacts}

@@ -1,10 +1,10 @@
 -- Who waits for a call that waits stands above it, and so somebody goes on.
 use Rattle.std.proofs.Common.{◌≡◌, ℕ, zero, suc, ◌+◌, ◌≤◌, [], ◌∷◌, ◌++◌, length, Option, Some, None, refl, sym, ap, ◌∙◌, append-nil, subst, ◌⊎◌, inl, inr, arith}
 use Rattle.std.proofs.lemmas.List.{length-append}
-use Rattle.fs_names.specs.Keys.{Key, parent_of, last_of}
+use Rattle.fs_names.specs.Keys.{Key, last_of}
 use Rattle.fs_names.specs.Names.{Name}
-use Rattle.fs_names.specs.Parts.{HasNames, left}
-use Rattle.fs_calls.specs.Forms.{form, Form, by_text}
+use Rattle.fs_names.specs.Parts.{HasNames}
+use Rattle.fs_calls.specs.Forms.{form, by_text}
 use Rattle.fs_calls.specs.declared.reply.Reply.{Reply}
 use Rattle.fs_nodes.specs.Graphs.{numbers}
 use Rattle.fs_machine.specs.Moves.{next, next_on}
@@ -12,7 +12,7 @@ use Rattle.fs_machine.specs.declared.moves.Move.{Move}
 use Rattle.fs_machine.specs.declared.moves.Move.TheVariants.{Take as Takes, LetGo as Leaves, Finish as Finishes, Return as Ends}
 use Rattle.fs_machine.specs.Records.{Walking, Placed, Finished, Holds, Record, Holdings, Dest, head_on, Source}
 use Rattle.fs_timeline.specs.Timeline.{begins}
-use Rattle.fs_laws.specs.Invariants.{IsUnfinished, Forked, VictimAt, Invariant}
+use Rattle.fs_laws.specs.Invariants.{IsUnfinished, Invariant}
 use Rattle.fs_laws.specs.Progress.{WaitsFor, WaitsBelow, GoesOn, SomebodyGoesOn, IsNeverStuck, HasStep}
 use Rattle.fs_laws.specs.CallFacts.{Located, Pair}
 use Rattle.fs_machine.specs.States.{State, Run, NoneBelow, IsChosen, Step, taking, letting_go, helping, carrying, committing, returning}
@@ -23,13 +23,11 @@ use Rattle.fs_laws.proofs.states.WaitsForOneBelow.{Keeps_waiting, waits_below}
 use Rattle.fs_laws.proofs.calls.NodesHeld.{node_held, none_some, one_holdings}
 use Rattle.fs_laws.proofs.states.ComputedSteps.{by_ends}
 use Rattle.fs_laws.proofs.events.Take.{TakesFrom, From_nowhere, From_holdings, takes_from}
-use Rattle.fs_laws.proofs.calls.TakesAtTarget.{forked_of}
 use Rattle.fs_laws.proofs.states.Headline.{run_keeps}
 use Rattle.fs_laws.proofs.calls.Takes.{Entry, Of_head, Replaced, Take, Walk, There, take_closed, takes_by}
 use Rattle.fs_laws.proofs.calls.HeadOrder.{no_victim}
 use Rattle.fs_laws.proofs.states.Agreement.{StateFacts, Holder, run_accounts}
 use Rattle.fs_laws.proofs.calls.NextMoves.{takes_another}
-use Rattle.fs_laws.proofs.calls.OneUnfinishedCall.{front_same}
 use Rattle.fs_laws.proofs.states.GraphOfARun.{begun_before, call_seat, finishes_open}
 use Rattle.fs_laws.proofs.helping.NobodyEnters.{ToMove, to_move}
 use Rattle.fs_laws.proofs.helping.WhomToHelp.{within_total, chosen_or_none}
