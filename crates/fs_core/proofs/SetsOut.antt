@@ -9,7 +9,7 @@ use Rattle.fs_calls.specs.declared.errno.Errno.{Errno}
 use Rattle.fs_calls.specs.Rows.{as_dir}
 use Rattle.fs_nodes.specs.Graphs.{Graph, at, numbers, then_at, IsGraph}
 use Rattle.fs_machine.specs.Moves.{dir_error}
-use Rattle.fs_machine.specs.Records.{Holdings, Record}
+use Rattle.fs_machine.specs.Records.{Holdings, Record, Source}
 use Rattle.fs_machine.specs.States.{State, Run}
 use Rattle.fs_laws.specs.CallFacts.{Located}
 use Rattle.fs_laws.specs.Invariants.{Invariant}
@@ -46,7 +46,7 @@ sets_out s c op st run is on = go op.remaining
     loc = (inv.kept.each c op st is on).located
 
     way : at s.graph.child st.node st.source.walked ≡ Some st.source.node
-    way = sym (at_from s.graph.child 0 st.node (inv.key c) st.source.walked loc.here) ∙ loc.source
+    way = sym (at_from s.graph.child 0 st.node (inv.key c) st.source.walked loc.here) ∙ loc.head Source
 
     go : (f : Form) → SetsOut s.graph f st
     go (AtNode a p) = tt

@@ -1,16 +1,15 @@
 -- What every two calls under way keep. Key has the key of each position; it is no part of the state: the theorem over runs gives one.
-use Rattle.std.specs.Prelude.{ℕ, ◌≡◌, ◌<◌, [], ◌++◌, Some, None, ◌⊎◌}
+use Rattle.std.specs.Prelude.{ℕ, ◌≡◌, ◌<◌, ◌++◌, Some, None, ◌⊎◌}
 use Rattle.fs_names.specs.Keys.{Key, after_prefix}
 use Rattle.fs_names.specs.Parts.{HasNames}
 use Rattle.fs_calls.specs.Forms.{Fits}
 use Rattle.fs_laws.specs.Maps.{Map}
-use Rattle.fs_machine.specs.Records.{Holdings, Phase, Walking, Placed, Record, Records, Holds}
+use Rattle.fs_machine.specs.Records.{Holdings, Side, head_on, head_at, Phase, Walking, Placed, Record, Records, Holds}
 
 -- the call stands at this key, by the numbers at the keys
 pub record Located (tree : Map ℕ) (key : Key) (st : Holdings) : Type 0 where
   pub here : tree key ≡ Some st.node
-  pub source : tree (key ++ st.source.walked) ≡ Some st.source.node
-  pub dest : tree (key ++ st.dest.walked) ≡ Some st.dest.node
+  pub head : (side : Side) → tree (key ++ (head_on side st).walked) ≡ Some (head_on side st).node
 
 -- the second is to go on after the first: it is walking, or placed later
 abbrev pub IsAfter : Phase → Phase → Type 0
@@ -26,14 +25,7 @@ IsClear tree key walked other = (u v : Key) (n : ℕ) → HasNames u → HasName
 pub record Pair (tree : Map ℕ) (key : Key) (st : Holdings) (phase : Phase) (other_key : Key) (other : Holdings) (other_phase : Phase) : Type 0 where
   pub apart : (n : ℕ) → Holds st n → Holds other n → ⊥
   pub after : IsAfter phase other_phase → after_prefix key other_key ≡ None
-  pub source : IsClear tree key st.source.walked other
-  pub dest : IsClear tree key st.dest.walked other
-
--- what lets a call go past the move of another from s to t: it is below s and goes along, or no key that it has walked lies there
-pub record GoesAlong (s t : Key) (key : Key) (st : Holdings) (under : Type 0) : Type 0 where
-  pub lies : under ⊎ (after_prefix s key ≡ None)
-  pub source : (u v : Key) → after_prefix s key ≡ None → st.source.walked ≡ u ++ v → after_prefix s (key ++ u) ≡ None
-  pub dest : (u v : Key) → after_prefix s key ≡ None → st.dest.walked ≡ u ++ v → after_prefix s (key ++ u) ≡ None
+  pub clear : (side : Side) → IsClear tree key (head_on side st).walked other
 
 -- what one call keeps
 pub record Keeps (tree : Map ℕ) (key : Key) (op : Record) (st : Holdings) : Type 0 where
@@ -55,5 +47,4 @@ IsFree ops n = (d : ℕ) (q : Record) (other : Holdings) → ops d ≡ Some q �
 pub record Shrinks (st new : Holdings) : Type 0 where
   pub node : new.node ≡ st.node
   pub holds : (n : ℕ) → Holds new n → Holds st n
-  pub source : ((new.source.walked ≡ st.source.walked) × (new.source.node ≡ st.source.node)) ⊎ ((new.source.walked ≡ []) × (new.source.node ≡ st.node))
-  pub dest : ((new.dest.walked ≡ st.dest.walked) × (new.dest.node ≡ st.dest.node)) ⊎ ((new.dest.walked ≡ []) × (new.dest.node ≡ st.node))
+  pub head : (side : Side) → (head_on side new ≡ head_on side st) ⊎ (head_on side new ≡ head_at st.node)

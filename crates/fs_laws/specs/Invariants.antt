@@ -11,7 +11,7 @@ use Rattle.fs_calls.specs.declared.reply.Reply.{Reply}
 use Rattle.fs_calls.specs.declared.call.Call.{Call}
 use Rattle.fs_nodes.specs.Graphs.{Graph, at, numbers, graph_shapes, IsGraph}
 use Rattle.fs_machine.specs.Moves.{target}
-use Rattle.fs_machine.specs.Records.{Holdings, Walking, Placed, Finished, Record, Records, Holds}
+use Rattle.fs_machine.specs.Records.{Holdings, Side, of_side, head_on, Walking, Placed, Finished, Record, Records, Holds}
 use Rattle.fs_laws.specs.JournalViews.{JournalView, start, view_after, IsLawful}
 use Rattle.fs_timeline.specs.Timeline.{begins, commit_count}
 use Rattle.fs_laws.specs.Settled.{settle, settle_replies}
@@ -21,10 +21,8 @@ use Rattle.fs_machine.specs.declared.answers.Stepped.{Stepped}
 
 -- what a rename keeps at its common directory
 pub record Forked (graph : Graph) (n : ℕ) (p q : Key) (st : Holdings) : Type 0 where
-  pub source_at : at graph.child n st.source.walked ≡ Some st.source.node
-  pub dest_at : at graph.child n st.dest.walked ≡ Some st.dest.node
-  pub source_is : parent_of p ≡ st.source.walked ++ left st.source.walked (parent_of p)
-  pub dest_is : parent_of q ≡ st.dest.walked ++ left st.dest.walked (parent_of q)
+  pub stands : (side : Side) → at graph.child n (head_on side st).walked ≡ Some (head_on side st).node
+  pub path : (side : Side) → parent_of (of_side side p q) ≡ (head_on side st).walked ++ left (head_on side st).walked (parent_of (of_side side p q))
 
 -- what a call keeps where it stands; a rename's heads set out at its common directory
 abbrev pub ForkedAt : Graph → ℕ → Key → Key → Holdings → Key → Type 0
@@ -103,7 +101,8 @@ VictimAt graph (AtPair pairs.Rename p q) st = (v : ℕ) → st.victim ≡ Some v
 
 -- the places of its holdings at which a call may hold a node
 pub data Slot : Type 0 where
-  At_node At_behind At_source At_dest At_victim : Slot
+  At_node At_behind At_victim : Slot
+  At_head : Side → Slot
 
 -- a node of a head that has set out
 abbrev pub if_walked : Key → Option ℕ → Option ℕ
@@ -114,8 +113,7 @@ if_walked (x ∷ walked) n = n
 abbrev pub in_slot : Holdings → Slot → Option ℕ
 in_slot st At_node = Some st.node
 in_slot st At_behind = st.behind
-in_slot st At_source = if_walked st.source.walked (Some st.source.node)
-in_slot st At_dest = if_walked st.dest.walked (Some st.dest.node)
+in_slot st (At_head side) = if_walked (head_on side st).walked (Some (head_on side st).node)
 in_slot st At_victim = st.victim
 
 -- no node is held at two places

@@ -17,7 +17,7 @@ use Rattle.fs_calls.specs.declared.reply.Reply.{Reply}
 use Rattle.fs_nodes.specs.Graphs.{Graph, entry_shape}
 use Rattle.fs_machine.specs.declared.moves.Move.{Move}
 use Rattle.fs_machine.specs.declared.moves.Move.TheVariants.{Take as Takes, LetGo as Leaves, Finish as Finishes, Return as Ends}
-use Rattle.fs_machine.specs.Records.{Head, Holdings, Phase, Walking, Placed, Finished, Record, head_at, holdings_at}
+use Rattle.fs_machine.specs.Records.{Head, Holdings, Side, Source, Dest, head_on, with_head, Phase, Walking, Placed, Finished, Record, head_at, holdings_at}
 
 -- the first of two moves
 abbrev pub first_of : Option Move → Move → Move
@@ -145,7 +145,7 @@ first_walked (x ∷ walked) n m = n
 
 -- the node that was taken last, by both heads: the destination head sets out second
 abbrev pub last_of_heads : ℕ → Head → Head → ℕ
-last_of_heads n source dest = first_walked dest.walked dest.node (first_walked source.walked source.node n)
+last_of_heads n first second = first_walked second.walked second.node (first_walked first.walked first.node n)
 
 -- the node that was taken last, which a finished call lets go first (move 9)
 abbrev pub last_held : Holdings → Option ℕ → ℕ
@@ -188,29 +188,21 @@ head_took h x n = record { walked = h.walked ++ x ∷ []; node = n }
 abbrev pub victim_took : Holdings → ℕ → Holdings
 victim_took st n = record st { victim = Some n }
 
--- the destination head takes a step
-abbrev pub dest_stepped : Holdings → Name → ℕ → Holdings
-dest_stepped st x n = record st { behind = behind_of st.dest.walked st.dest.node; dest = head_took st.dest x n }
+-- the head on a side takes a step
+abbrev pub stepped : Side → Holdings → Name → ℕ → Holdings
+stepped side st x n = record (with_head side (head_took (head_on side st) x n) st) { behind = behind_of (head_on side st).walked (head_on side st).node }
 
--- the source head takes a step
-abbrev pub source_stepped : Holdings → Name → ℕ → Holdings
-source_stepped st x n = record st { behind = behind_of st.source.walked st.source.node; source = head_took st.source x n }
+-- with names left to it the head on a side takes a step, and else the call stands as told
+abbrev pub step_or : Side → Key → Holdings → ℕ → Holdings → Holdings
+step_or side [] st n other = other
+step_or side (x ∷ l) st n other = stepped side st x n
 
--- with names left the destination head takes a step, and else a victim is taken
-abbrev pub dest_took : Holdings → Key → ℕ → Holdings
-dest_took st [] n = victim_took st n
-dest_took st (x ∷ l) n = dest_stepped st x n
-
--- with names left the source head takes a step, and else it is up to the destination head
-abbrev pub source_took : Holdings → Key → Key → ℕ → Holdings
-source_took st [] l n = dest_took st l n
-source_took st (x ∷ k) l n = source_stepped st x n
-
--- where a call stands after a take at its target: a victim, or a step of a head
+-- where a call stands after a take at its target: a victim, or a step of a head, the source's first
 abbrev pub target_took : Form → Holdings → ℕ → Holdings
 target_took (AtNode c p) st n = st
 target_took (AtEntry c p) st n = victim_took st n
-target_took (AtPair pairs.Rename p q) st n = source_took st (left st.source.walked (parent_of p)) (left st.dest.walked (parent_of q)) n
+target_took (AtPair pairs.Rename p q) st n =
+    step_or Source (left st.source.walked (parent_of p)) st n (step_or Dest (left st.dest.walked (parent_of q)) st n (victim_took st n))
 
 -- the record after a take: of the root, at the target, of the next node of the walk
 abbrev pub took_by : Record → Option Holdings → Key → ℕ → Record
@@ -224,8 +216,8 @@ took op n = took_by op op.holdings (target op.remaining) n
 
 -- the node of the destination head goes, else that of the source head, else the position, and nothing is held
 abbrev pub left_heads : Holdings → Key → Key → Option Holdings
-left_heads st (x ∷ dest) source = Some (record st { dest = head_at st.node })
-left_heads st [] (x ∷ source) = Some (record st { source = head_at st.node })
+left_heads st (x ∷ second) first = Some (record st { dest = head_at st.node })
+left_heads st [] (x ∷ first) = Some (record st { source = head_at st.node })
 left_heads st [] [] = None
 
 -- of a finished call the victim goes first, then what its heads hold

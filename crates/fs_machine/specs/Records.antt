@@ -20,6 +20,23 @@ pub record Holdings : Type 0 where
   pub dest : Head
   pub victim : Option ℕ
 
+-- the two sides of a rename, each with a head
+pub data Side : Type 0 where
+  Source Dest : Side
+
+-- of two things the one of a side: the first is the source's
+abbrev pub of_side : {A : Type 0} → Side → A → A → A
+of_side Source a b = a
+of_side Dest a b = b
+
+-- the head on a side
+abbrev pub head_on : Side → Holdings → Head
+head_on side st = of_side side st.source st.dest
+
+-- the holdings with another head on a side
+abbrev pub with_head : Side → Head → Holdings → Holdings
+with_head side h st = record st { source = of_side side h st.source; dest = of_side side st.dest h }
+
 -- how far a call is
 pub data Phase : Type 0 where
   Walking : Phase

@@ -1,16 +1,14 @@
 -- A call holds at most four nodes.
-use Rattle.std.proofs.Common.{◌≡◌, ℕ, ◌≤◌, [], ◌∷◌, Option, Some, None, refl, sym, ap, ◌∙◌, append-nil, subst, arith, Ok, Err}
-use Rattle.fs_names.specs.Keys.{Key, parent_of}
-use Rattle.fs_names.specs.Names.{Name}
-use Rattle.fs_names.specs.Parts.{left, left_by}
+use Rattle.std.proofs.Common.{◌≡◌, ℕ, ◌≤◌, [], ◌∷◌, Option, Some, None, refl, sym, ap, ◌∙◌, subst, arith, Ok, Err}
+use Rattle.fs_names.specs.Keys.{Key}
 use Rattle.fs_names.specs.Shapes.{Shape}
-use Rattle.fs_calls.specs.Forms.{form, reserves, Form}
+use Rattle.fs_calls.specs.Forms.{form, reserves}
 use Rattle.fs_calls.specs.declared.call.Call.{Call}
 use Rattle.fs_calls.specs.declared.reply.Reply.{Reply}
 use Rattle.fs_nodes.specs.Graphs.{Graph, set_at}
 use Rattle.fs_machine.specs.Finishes.{finish}
 use Rattle.fs_machine.specs.Leaving.{let_go, finished_op}
-use Rattle.fs_machine.specs.Moves.{next, target, victim_took, dest_stepped, source_stepped, left_holdings, took, took_by}
+use Rattle.fs_machine.specs.Moves.{next, target, victim_took, stepped, left_holdings, took, took_by}
 use Rattle.fs_machine.specs.declared.moves.Move.TheVariants.{Take as Takes}
 use Rattle.fs_machine.specs.Records.{Holdings, Phase, Walking, Placed, Finished, Record, Records, holdings_at}
 use Rattle.fs_timeline.specs.Timeline.{commit_count}
@@ -20,22 +18,19 @@ use Rattle.fs_machine.specs.declared.answers.Refusal.TheVariants.{SeatBusy, Full
 use Rattle.fs_machine.specs.declared.answers.Stepped.{Stepped}
 use Rattle.fs_machine.specs.declared.answers.Stepped.TheVariants.{Idle, Took, Busy, LetGo, Helped, Committed, CarriedOut, Returned}
 use Rattle.fs_laws.specs.StepsLeft.{one_if, one_walked}
-use Rattle.fs_laws.proofs.trees.Prefixes.{prefix_append}
 use Rattle.fs_laws.proofs.events.OneCallChanged.{Place, Here, Else, place}
 use Rattle.fs_laws.proofs.events.JustFinished.{Either, Changed, Old, either}
 use Rattle.fs_laws.proofs.events.Take.{TakesFrom, From_nowhere, From_holdings, takes_from}
-use Rattle.fs_laws.proofs.calls.Takes.{Take, Walk, Entry, Source, Dest, Replaced, takes_by, with_holdings, walked_on}
-use Rattle.fs_laws.proofs.calls.HeadOrder.{HeadsInOrder, in_turn}
+use Rattle.fs_laws.proofs.calls.Takes.{Entry, Of_head, Replaced, Take, Walk, There, takes_by, with_holdings, walked_on}
+use Rattle.fs_laws.proofs.calls.HeadOrder.{HeadsInOrder, no_victim}
 use Rattle.fs_laws.proofs.states.Headline.{run_keeps}
 use Rattle.fs_laws.proofs.states.Agreement.{run_accounts}
 use Rattle.fs_numbers.specs.Holdings.{nodes_held}
+use Rattle.fs_laws.proofs.calls.NodesHeld.{one_holdings, none_some}
 
 -- nothing is behind once a victim is held
 abbrev InOrder : Holdings → Type 0
 InOrder st = (m : ℕ) → st.behind ≡ Some m → st.victim ≡ None
-
-no_number : {A : Type 0} (o : Option ℕ) (m : ℕ) → o ≡ None → o ≡ Some m → A
-no_number o m e f = absurd (let z : ◌≡◌ {A = Option ℕ} None (Some m) = sym e ∙ f in cc)
 
 -- ---- the count
 
@@ -62,34 +57,18 @@ at_most st o = go st.behind refl
 
 -- ---- takes
 
-not_there : (o : Option ℕ) → ((v : ℕ) → o ≡ Some v → ⊥) → o ≡ None
-not_there None h = refl
-not_there (Some v) h = absurd (h v refl)
-
-still_left : (w whole l : Key) (x : Name) → whole ≡ w → left w whole ≡ x ∷ l → ⊥
-still_left w whole l x e f = let z : left w whole ≡ [] = ap (left w) (e ∙ sym (append-nil w)) ∙ ap left_by (prefix_append w []) in let y : ◌≡◌ {A = Key} (x ∷ l) [] = sym f ∙ z in cc
-
-goes_on : (x : Name) (l : Key) (k : Key) → k ≡ x ∷ l → k ≡ [] → ⊥
-goes_on x l k e f = let y : ◌≡◌ {A = Key} (x ∷ l) [] = sym e ∙ f in cc
-
-holdings_one : (a b : Holdings) → ◌≡◌ {A = Option Holdings} (Some a) (Some b) → a ≡ b
-holdings_one a b e = cc
-
 -- what the stand after a take keeps
 took_order : (graph : Graph) (op : Record) (n : ℕ) (st new : Holdings) → HeadsInOrder graph op.remaining st → VictimAt graph op.remaining st → (took op n).holdings ≡ Some new → Take graph op n st → InOrder new
 took_order graph op n st new neat vic on t = go t
   where
     by : (v : Record) (made : Holdings) → took op n ≡ v → v.holdings ≡ Some made → InOrder made → InOrder new
-    by v made is h o = subst InOrder (holdings_one made new (sym (ap (λ (o : Record). o.holdings) is ∙ h) ∙ on)) o
+    by v made is h o = subst InOrder (one_holdings (ap (λ (o : Record). o.holdings) is ∙ h) on) o
 
     go : Take graph op n st → InOrder new
     go (Walk x l a b child is) = by (walked_on op st x n) (holdings_at n (Some st.node)) is refl (λ m e. refl)
-    go (Entry c p rem way b child off is) = by (with_holdings op (victim_took st n)) (victim_took st n) is refl (λ m e. no_number st.behind m b e)
-    go (Replaced p q names rem way b arrived dir at_left want child off is) = by (with_holdings op (victim_took st n)) (victim_took st n) is refl (λ m e. no_number st.behind m b e)
-    go (Source p q x l rem way b at_left child is) = by (with_holdings op (source_stepped st x n)) (source_stepped st x n) is refl
-        (λ m e. not_there st.victim (λ v f. goes_on x l (left st.source.walked (parent_of p)) at_left ((in_turn graph p q st op.remaining rem way neat).victim v f).arrived))
-    go (Dest p q x l names rem way b arrived dir at_left child is) = by (with_holdings op (dest_stepped st x n)) (dest_stepped st x n) is refl
-        (λ m e. not_there st.victim (λ v f. still_left st.dest.walked (parent_of q) l x (subst (λ (g : Form). VictimAt graph g st) rem vic v f).1 at_left))
+    go (There (Entry c p rem way child off) b is) = by (with_holdings op (victim_took st n)) (victim_took st n) is refl (λ m e. none_some st.behind m b e)
+    go (There (Replaced p q rem way there at_left want child off) b is) = by (with_holdings op (victim_took st n)) (victim_took st n) is refl (λ m e. none_some st.behind m b e)
+    go (There (Of_head side p q x l rem way turn at_left child) b is) = by (with_holdings op (stepped side st x n)) (stepped side st x n) is refl (λ m e. no_victim graph op n st neat vic t)
 
 -- ---- states
 
@@ -103,24 +82,21 @@ ordered_by s new c v ops mine k d q st e on u = go (either s.ops c v d q (sym (a
     go (Changed i j) = mine st (ap (λ (o : Record). o.holdings) j ∙ on) (subst IsUnfinished (sym j) u)
     go (Old h i) = k d q st i on u
 
-some_none : (st : Holdings) → ◌≡◌ {A = Option Holdings} None (Some st) → ⊥
-some_none st e = cc
-
 taken : (s : State) → Run s → (c : ℕ) (op : Record) (n : ℕ) → s.ops c ≡ Some op → next s.graph op ≡ Takes n → (new : Holdings) → (took op n).holdings ≡ Some new → InOrder new
 taken s run c op n is m new on = go (takes_from s.graph op n m)
   where
     go : TakesFrom s.graph op n × IsUnfinished op → InOrder new
-    go (From_nowhere text off z, u) = subst InOrder (holdings_one (holdings_at n None) new (sym (ap (λ (o : Option Holdings). (took_by op o (target op.remaining) n).holdings) off) ∙ on)) (λ m e. refl)
+    go (From_nowhere text off z, u) = subst InOrder (one_holdings (ap (λ (o : Option Holdings). (took_by op o (target op.remaining) n).holdings) off) on) (λ m e. refl)
     go (From_holdings st at t, u) = took_order s.graph op n st new (((run_accounts s run).neat c op st is at).under_way u) (((run_keeps s run).own c op is).victim u st at) on (takes_by s.graph op n st at t)
 
 let_gone : (s : State) (c : ℕ) (op : Record) (n : ℕ) → s.ops c ≡ Some op → Ordered s → (new : Holdings) → (let_go op n).holdings ≡ Some new → IsUnfinished op → InOrder new
 let_gone s c op n is k new on u = go op.phase op.holdings refl refl on
   where
     by : (st : Holdings) → ◌≡◌ {A = Option Holdings} (Some (record st { behind = None })) (Some new) → InOrder new
-    by st e = subst InOrder (holdings_one (record st { behind = None }) new e) (λ m f. no_number None m refl f)
+    by st e = subst InOrder (one_holdings refl e) (λ m f. none_some None m refl f)
 
     go : (p : Phase) (o : Option Holdings) → op.phase ≡ p → op.holdings ≡ o → left_holdings p o ≡ Some new → InOrder new
-    go p None i j e = absurd (some_none new e)
+    go p None i j e = none_some None new refl e
     go (Finished r) (Some st) i j e = absurd (u r i)
     go Walking (Some st) i j e = by st e
     go (Placed m) (Some st) i j e = by st e
@@ -153,8 +129,8 @@ ordered_begin s new seat call (Err OutOfMemory) (off, room, same) k = subst Orde
 ordered_begin s new seat call (Ok c) (off, number, r) k = go (reserves (form call)) r
   where
     go : (o : Option Shape) → Reserves s seat call c o new → Ordered new
-    go None same = ordered_by s new c (new_op seat call None) (ap (λ (x : State). x.ops) same) (λ st on u. absurd (some_none st on)) k
-    go (Some shape) (n, less, free, same) = ordered_by s new c (new_op seat call (Some n)) (ap (λ (x : State). x.ops) same) (λ st on u. absurd (some_none st on)) k
+    go None same = ordered_by s new c (new_op seat call None) (ap (λ (x : State). x.ops) same) (λ st on u. none_some None st refl on) k
+    go (Some shape) (n, less, free, same) = ordered_by s new c (new_op seat call (Some n)) (ap (λ (x : State). x.ops) same) (λ st on u. none_some None st refl on) k
 
 ordered : (s : State) → Run s → Ordered s
 ordered s (Start limit least) = λ c op st e on u. cc
@@ -168,6 +144,6 @@ four_held s run c op st is on = at_most st (go op.phase refl)
     unfinished p i h r e = h r (sym i ∙ e)
 
     go : (p : Phase) → op.phase ≡ p → InOrder st
-    go (Finished r) i = λ m e. no_number st.behind m (((run_accounts s run).neat c op st is on).closed r i) e
+    go (Finished r) i = λ m e. none_some st.behind m (((run_accounts s run).neat c op st is on).closed r i) e
     go Walking i = ordered s run c op st is on (unfinished Walking i (λ r e. cc))
     go (Placed m) i = ordered s run c op st is on (unfinished (Placed m) i (λ r e. cc))

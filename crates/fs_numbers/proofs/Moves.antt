@@ -13,10 +13,10 @@ use Rattle.fs_calls.specs.declared.errno.Errno.{Errno}
 use Rattle.fs_calls.specs.declared.reply.Reply.{Reply}
 use Rattle.fs_nodes.specs.Graphs.{Graph, entry_shape}
 use Rattle.fs_machine.specs.Leaving.{is_removed, cleared, releasing, let_go, unreserved}
-use Rattle.fs_machine.specs.Moves.{first_of, target, walk_move, victim_of, take_if, entry_move, there_by, same_kind, dir_error, rename_at, moved_node, rename_move, dir_then, fork_move, target_move, first_walked, last_held, next_by, next, behind_of, head_took, dest_took, source_took, target_took, took_by, took, left_heads, left_last, left_holdings, behind_first, step_move, next_on}
+use Rattle.fs_machine.specs.Moves.{first_of, target, walk_move, victim_of, take_if, entry_move, there_by, same_kind, dir_error, rename_at, moved_node, rename_move, dir_then, fork_move, target_move, first_walked, last_held, next_by, next, behind_of, head_took, victim_took, step_or, target_took, took_by, took, left_heads, left_last, left_holdings, behind_first, step_move, next_on}
 use Rattle.fs_machine.specs.declared.moves.Move.{Move}
 use Rattle.fs_machine.specs.declared.moves.Move.TheVariants.{Take as Takes, LetGo as Leaves, Finish as Finishes}
-use Rattle.fs_machine.specs.Records.{Holdings, Phase, Walking, Placed, Finished, Record}
+use Rattle.fs_machine.specs.Records.{Holdings, Phase, Walking, Placed, Finished, Record, Side, Source, Dest}
 use Rattle.fs_numbers.specs.Renamings.{Renaming, renamed_number, renamed_children, renamed_graph, renamed_head, renamed_holdings, renamed_record, renamed_move}
 use Rattle.fs_numbers.proofs.Edits.{eqb_old, old_at, child_at, entry_at, released_renamed}
 
@@ -131,18 +131,16 @@ behind_renamed : (r : Renaming) (walked : Key) (n : ℕ) → behind_of walked (r
 behind_renamed r [] n = refl
 behind_renamed r (x ∷ walked) n = refl
 
-dest_took_renamed : (r : Renaming) (st : Holdings) (l : Key) (n : ℕ) → dest_took (renamed_holdings r st) l (r.to n) ≡ renamed_holdings r (dest_took st l n)
-dest_took_renamed r st [] n = refl
-dest_took_renamed r st (x ∷ l) n = ap (λ (b : Option ℕ). record (renamed_holdings r st) { behind = b; dest = renamed_head r (head_took st.dest x n) }) (behind_renamed r st.dest.walked st.dest.node)
-
-source_took_renamed : (r : Renaming) (st : Holdings) (k l : Key) (n : ℕ) → source_took (renamed_holdings r st) k l (r.to n) ≡ renamed_holdings r (source_took st k l n)
-source_took_renamed r st [] l n = dest_took_renamed r st l n
-source_took_renamed r st (x ∷ k) l n = ap (λ (b : Option ℕ). record (renamed_holdings r st) { behind = b; source = renamed_head r (head_took st.source x n) }) (behind_renamed r st.source.walked st.source.node)
+step_or_renamed : (side : Side) (r : Renaming) (l : Key) (st : Holdings) (n : ℕ) (other new : Holdings) → new ≡ renamed_holdings r other → step_or side l (renamed_holdings r st) (r.to n) new ≡ renamed_holdings r (step_or side l st n other)
+step_or_renamed side r [] st n other new e = e
+step_or_renamed Source r (x ∷ l) st n other new e = ap (λ (b : Option ℕ). record (renamed_holdings r st) { behind = b; source = renamed_head r (head_took st.source x n) }) (behind_renamed r st.source.walked st.source.node)
+step_or_renamed Dest r (x ∷ l) st n other new e = ap (λ (b : Option ℕ). record (renamed_holdings r st) { behind = b; dest = renamed_head r (head_took st.dest x n) }) (behind_renamed r st.dest.walked st.dest.node)
 
 target_took_renamed : (r : Renaming) (remaining : Form) (st : Holdings) (n : ℕ) → target_took remaining (renamed_holdings r st) (r.to n) ≡ renamed_holdings r (target_took remaining st n)
 target_took_renamed r (AtNode c p) st n = refl
 target_took_renamed r (AtEntry c p) st n = refl
-target_took_renamed r (AtPair pairs.Rename p q) st n = source_took_renamed r st (left st.source.walked (parent_of p)) (left st.dest.walked (parent_of q)) n
+target_took_renamed r (AtPair pairs.Rename p q) st n =
+    step_or_renamed Source r (left st.source.walked (parent_of p)) st n _ _ (step_or_renamed Dest r (left st.dest.walked (parent_of q)) st n (victim_took st n) _ refl)
 
 took_by_renamed : (r : Renaming) (op : Record) (holdings : Option Holdings) (l : Key) (n : ℕ) → took_by (renamed_record r op) (option_map (renamed_holdings r) holdings) l (r.to n) ≡ renamed_record r (took_by op holdings l n)
 took_by_renamed r op None l n = refl

@@ -1,5 +1,5 @@
 -- A finish leaves each reached number reached, or removes it; and a reserved number stays reserved, or is reached.
-use Rattle.std.proofs.Common.{◌≡◌, ℕ, Bool, true, false, List, [], ◌∷◌, ◌++◌, Option, Some, None, refl, sym, ap, ap₂, ◌∙◌, append_assoc, append-nil, subst, ◌⊎◌, inl, inr}
+use Rattle.std.proofs.Common.{◌≡◌, ℕ, Bool, true, false, List, [], ◌∷◌, ◌++◌, Option, Some, None, refl, sym, ap, ◌∙◌, append-nil, subst, ◌⊎◌, inl, inr}
 use Rattle.fs_names.specs.Keys.{Key, after_prefix, parent_of, last_of}
 use Rattle.fs_names.specs.Names.{Name}
 use Rattle.fs_names.specs.Parts.{common}
@@ -17,10 +17,8 @@ use Rattle.fs_machine.specs.Moves.{next_on, entry_move, first_of, step_move, for
 use Rattle.fs_machine.specs.declared.moves.Move.TheVariants.{Finish as Finishes}
 use Rattle.fs_machine.specs.Records.{Holdings}
 use Rattle.fs_laws.specs.Invariants.{ForkedAt, HeadsSound, VictimAt, NumberFor, HasNumber}
-use Rattle.fs_laws.specs.Placed.{Aside}
 use Rattle.fs_laws.specs.CallFacts.{Located}
-use Rattle.fs_laws.proofs.trees.Prefixes.{prefix_append, prefix_some, prefix_both}
-use Rattle.fs_laws.proofs.calls.Located.{key_is, from_more, to_more}
+use Rattle.fs_laws.proofs.trees.Prefixes.{prefix_append, prefix_some}
 use Rattle.fs_laws.proofs.graphs.Walks.{at_before, at_child, at_from, then_some}
 use Rattle.fs_laws.proofs.trees.Commuting.{move_to, move_else}
 use Rattle.fs_laws.proofs.graphs.TreesOfChanges.{CanLink, CanUnlink, CanMove, numbers_linked, numbers_unlinked, numbers_moved}
@@ -28,7 +26,7 @@ use Rattle.fs_laws.proofs.calls.Behind.{finish_on}
 use Rattle.fs_laws.proofs.finish.Replies.{Leaf, leaf_children, add_of, no_entry, step_stops}
 use Rattle.fs_laws.proofs.finish.Changes.{removed_leaf}
 use Rattle.fs_laws.proofs.finish.Readings.{arrived}
-use Rattle.fs_laws.proofs.finish.RealMoves.{Real, Replaces, real_of}
+use Rattle.fs_laws.proofs.finish.RealMoves.{can_move, Real, Replaces, real_of}
 use Rattle.fs_numbers.specs.Numbers.{IsReached}
 
 -- number is the one that the call has reserved
@@ -150,19 +148,7 @@ moved_reached graph is kf from x kt st y m can replaces n (l, e) = go (after_pre
 stays_moved : (graph : Graph) → IsGraph graph → (k : Key) (st : Holdings) (p q : Key) (number : Option ℕ) (r : Reply) → Located (numbers graph) k st → Fits (AtPair pairs.Rename p q) → Real graph p q st
     → Stays graph st number (move_effect graph st (last_of p) (last_of q) number r true (graph.child st.source.node (last_of p)))
 stays_moved graph is k st p q number r loc fits real = subst (λ (n : Option ℕ). Stays graph st number (move_effect graph st (last_of p) (last_of q) number r true n)) (sym real.moved.1)
-    (record { reached = λ n reached. moved_reached graph is (k ++ st.source.walked) st.source.node (last_of p) (k ++ st.dest.walked) st (last_of q) real.moved.0 can real.replaces n reached; reserved = λ n f. inl f; victim = λ n f. f })
-  where
-    s_is : (k ++ st.source.walked) ++ last_of p ∷ [] ≡ k ++ p
-    s_is = append_assoc k st.source.walked (last_of p ∷ []) ∙ ap (λ (l : Key). k ++ l) (ap (λ (l : Key). l ++ last_of p ∷ []) (sym real.source_is) ∙ sym (key_is p (from_more p q fits)))
-
-    t_is : (k ++ st.dest.walked) ++ last_of q ∷ [] ≡ k ++ q
-    t_is = append_assoc k st.dest.walked (last_of q ∷ []) ∙ ap (λ (l : Key). k ++ l) (ap (λ (l : Key). l ++ last_of q ∷ []) (sym real.dest_is) ∙ sym (key_is q (to_more p q fits)))
-
-    aside : Aside ((k ++ st.source.walked) ++ last_of p ∷ []) ((k ++ st.dest.walked) ++ last_of q ∷ [])
-    aside = (ap₂ after_prefix s_is t_is ∙ prefix_both k p q ∙ real.aside.0, ap₂ after_prefix t_is s_is ∙ prefix_both k q p ∙ real.aside.1)
-
-    can : CanMove graph (k ++ st.source.walked) st.source.node (last_of p) (k ++ st.dest.walked) st.dest.node (last_of q) real.moved.0
-    can = record { from_at = loc.source; to_at = loc.dest; there = real.moved.1; aside = aside }
+    (record { reached = λ n reached. moved_reached graph is (k ++ st.source.walked) st.source.node (last_of p) (k ++ st.dest.walked) st (last_of q) real.moved.0 (can_move graph k p q st loc fits real) real.replaces n reached; reserved = λ n f. inl f; victim = λ n f. f })
 
 stays_rename : (graph : Graph) → IsGraph graph → (k : Key) (st : Holdings) (o : Option ℕ) (p q : Key) (number : Option ℕ) → Located (numbers graph) k st → Fits (AtPair pairs.Rename p q) → VictimAt graph (AtPair pairs.Rename p q) st
     → (l : Key) → ForkedAt graph st.node p q st l → first_of (step_move graph st.node l) (fork_move graph p q st) ≡ Finishes o → Stays graph st number (rename_effect graph p q st number l)

@@ -11,7 +11,8 @@ use Rattle.fs_calls.specs.declared.call.Call.{Call}
 use Rattle.fs_walk.specs.declared.head.Head as count
 use Rattle.fs_walk.specs.Ways as ways
 use Rattle.fs_walk.specs.Ways.{Way, ForkWay, new_fork, start_at, head_name, way_took, may_take, fork_took, has_arrived, has_set_out}
-use Rattle.fs_machine.specs.Moves.{target, inner, behind_of, head_took, source_took, target_took}
+use Rattle.fs_machine.specs.Moves.{target, inner, behind_of, head_took, victim_took, step_or, target_took}
+use Rattle.fs_machine.specs.Records.{Source, Dest}
 use Rattle.fs_finish.specs.Paths.{first_path}
 use Rattle.fs_ops.specs.OpValue.{behind_in, dropped, head_of, holdings_with, op_value, Forks, IsForked}
 use Rattle.fs_ops.specs.code.TakeAndLetGo.{started, heads_after, TakesTo}
@@ -117,14 +118,14 @@ heads_took p q n m behind fork victim hs hd =
     names r head = ap (λ (l : Key). slice_get l head.walked) (parent_drop fork.names r) ∙ drop_get fork.names head.walked (parent_of r)
 
     by_dest : (o : Option Name) → head_name q fork.names fork.dest ≡ o → head_name p fork.names fork.source ≡ None
-        → source_took (holdings_with (AtPair pairs.Rename p q) m behind (Some fork) victim) (drop fork.source.walked (parent_of (drop fork.names p))) (drop fork.dest.walked (parent_of (drop fork.names q))) n
+        → step_or Source (drop fork.source.walked (parent_of (drop fork.names p))) (holdings_with (AtPair pairs.Rename p q) m behind (Some fork) victim) n (step_or Dest (drop fork.dest.walked (parent_of (drop fork.names q))) (holdings_with (AtPair pairs.Rename p q) m behind (Some fork) victim) n (victim_took (holdings_with (AtPair pairs.Rename p q) m behind (Some fork) victim) n))
         ≡ holdings_with (AtPair pairs.Rename p q) m (left_behind p q fork behind n) (Some (fork_took p q fork n)) (cond (has_arrived p q fork) (Some n) victim)
     by_dest None e f = rw (ahead_none (parent_of (drop fork.names p)) fork.source.walked (names p fork.source ∙ f), ahead_none (parent_of (drop fork.names q)) fork.dest.walked (names q fork.dest ∙ e), e, f) refl
     by_dest (Some x) e f =
         rw (ahead_none (parent_of (drop fork.names p)) fork.source.walked (names p fork.source ∙ f), ahead_some (parent_of (drop fork.names q)) fork.dest.walked x (names q fork.dest ∙ e), head_stepped q fork.names fork.dest n x e, head_leaves q fork.names fork.dest x e, e, f) refl
 
     by_source : (o : Option Name) → head_name p fork.names fork.source ≡ o
-        → source_took (holdings_with (AtPair pairs.Rename p q) m behind (Some fork) victim) (drop fork.source.walked (parent_of (drop fork.names p))) (drop fork.dest.walked (parent_of (drop fork.names q))) n
+        → step_or Source (drop fork.source.walked (parent_of (drop fork.names p))) (holdings_with (AtPair pairs.Rename p q) m behind (Some fork) victim) n (step_or Dest (drop fork.dest.walked (parent_of (drop fork.names q))) (holdings_with (AtPair pairs.Rename p q) m behind (Some fork) victim) n (victim_took (holdings_with (AtPair pairs.Rename p q) m behind (Some fork) victim) n))
         ≡ holdings_with (AtPair pairs.Rename p q) m (left_behind p q fork behind n) (Some (fork_took p q fork n)) (cond (has_arrived p q fork) (Some n) victim)
     by_source None e = by_dest (head_name q fork.names fork.dest) refl e
     by_source (Some x) e = rw (ahead_some (parent_of (drop fork.names p)) fork.source.walked x (names p fork.source ∙ e), head_stepped p fork.names fork.source n x e, head_leaves p fork.names fork.source x e, e) refl

@@ -1,18 +1,18 @@
 -- A call that finishes holds nothing behind; and what a call still holds after a let go.
-use Rattle.std.proofs.Common.{◌≡◌, ℕ, [], ◌∷◌, Option, Some, None, refl, sym, ap₂, ◌∙◌, subst, inl, inr}
-use Rattle.fs_names.specs.Keys.{Key}
+use Rattle.std.proofs.Common.{◌≡◌, ℕ, Option, Some, None, refl, sym, ap₂, ◌∙◌, subst, inl, inr}
 use Rattle.fs_names.specs.Parts.{HasNames}
 use Rattle.fs_calls.specs.Forms.{form, Form, by_text}
 use Rattle.fs_calls.specs.declared.errno.Errno.{Errno}
 use Rattle.fs_calls.specs.declared.reply.Reply.{Reply}
 use Rattle.fs_nodes.specs.Graphs.{Graph}
 use Rattle.fs_machine.specs.Leaving.{let_go}
-use Rattle.fs_machine.specs.Moves.{next, next_by, next_on, first_of, step_move, target, target_move, left_holdings, left_last, left_heads, last_held, first_walked}
+use Rattle.fs_machine.specs.Moves.{next, next_by, next_on, first_of, step_move, target, target_move, left_holdings, left_last, last_held}
 use Rattle.fs_machine.specs.declared.moves.Move.TheVariants.{LetGo as Leaves, Finish as Finishes}
-use Rattle.fs_machine.specs.Records.{Phase, Walking, Placed, Finished, Holds, Record, Holdings, head_at}
+use Rattle.fs_machine.specs.Records.{Phase, Walking, Placed, Finished, Holds, Record, Holdings}
 use Rattle.fs_laws.proofs.calls.Behind.{finish_past}
-use Rattle.fs_laws.proofs.events.LetGo.{behind_of_move}
+use Rattle.fs_laws.proofs.events.LetGo.{behind_of_move, still_holds, lets_behind, LetsLast, One, All, lets_last}
 use Rattle.fs_laws.proofs.calls.HeadOrder.{IsClosed, HeadsOfCallInOrder, neat_heads}
+use Rattle.fs_laws.proofs.calls.NodesHeld.{one_holdings, none_some}
 
 -- a call that finishes where it stands
 pub finish_closed : (graph : Graph) (remaining : Form) (st : Holdings) (o : Option ℕ) → next_on graph remaining st ≡ Finishes o → IsClosed st
@@ -22,58 +22,20 @@ finish_closed graph remaining st o e = (finish_past st.behind (first_of (step_mo
 abbrev pub StillHolds : Option Holdings → ℕ → Type 0
 StillHolds s m = (new : Holdings) × (s ≡ Some new) × Holds new m
 
--- but for the node behind
-way_holds : (st : Holdings) (n m : ℕ) → st.behind ≡ Some n → (m ≡ n → ⊥) → Holds st m → Holds (record st { behind = None }) m
-way_holds st n m e d (inl i) = inl i
-way_holds st n m e d (inr (inl i)) = let z : ◌≡◌ {A = Option ℕ} (Some n) (Some m) = sym e ∙ i in absurd (d (let y : n ≡ m = cc in sym y))
-way_holds st n m e d (inr (inr i)) = inr (inr i)
-
 -- a finished call that has let go the last taken
 end_holds : (st : Holdings) (n m : ℕ) → IsClosed st → last_held st st.victim ≡ n → (m ≡ n → ⊥) → Holds st m → StillHolds (left_last st st.victim) m
-end_holds st n m cl e d h = victim st.victim refl e
+end_holds st n m cl e d h = go (lets_last st n e)
   where
-    none_is : (b : Option ℕ) → b ≡ None → b ≡ Some m → ⊥
-    none_is b i j = let z : ◌≡◌ {A = Option ℕ} None (Some m) = sym i ∙ j in cc
-
-    source : (w : Key) → st.victim ≡ None → st.dest.walked ≡ [] → st.source.walked ≡ w → first_walked w st.source.node st.node ≡ n → StillHolds (left_heads st [] w) m
-    source (x ∷ w) i j k f = (record st { source = head_at st.node }, refl, go h)
+    go : LetsLast st n (left_last st st.victim) → StillHolds (left_last st st.victim) m
+    go (One new is l behind only) = (new, is, still_holds st new n m l d h)
+    go (All is node source dest victim) = absurd (nowhere h)
       where
-        go : Holds st m → Holds (record st { source = head_at st.node }) m
-        go (inl g) = inl g
-        go (inr (inl g)) = inr (inl g)
-        go (inr (inr (inl (_, g)))) = absurd (d (sym g ∙ f))
-        go (inr (inr (inr (inl g)))) = absurd (subst HasNames j g.0)
-        go (inr (inr (inr (inr g)))) = absurd (none_is st.victim i g)
-    source [] i j k f = absurd (go h)
-      where
-        go : Holds st m → ⊥
-        go (inl g) = d (sym g ∙ f)
-        go (inr (inl g)) = none_is st.behind cl g
-        go (inr (inr (inl g))) = subst HasNames k g.0
-        go (inr (inr (inr (inl g)))) = subst HasNames j g.0
-        go (inr (inr (inr (inr g)))) = none_is st.victim i g
-
-    dest : (w : Key) → st.victim ≡ None → st.dest.walked ≡ w → first_walked w st.dest.node (first_walked st.source.walked st.source.node st.node) ≡ n → StillHolds (left_heads st w st.source.walked) m
-    dest (x ∷ w) i j f = (record st { dest = head_at st.node }, refl, go h)
-      where
-        go : Holds st m → Holds (record st { dest = head_at st.node }) m
-        go (inl g) = inl g
-        go (inr (inl g)) = inr (inl g)
-        go (inr (inr (inl g))) = inr (inr (inl g))
-        go (inr (inr (inr (inl (_, g))))) = absurd (d (sym g ∙ f))
-        go (inr (inr (inr (inr g)))) = absurd (none_is st.victim i g)
-    dest [] i j f = source st.source.walked i j refl f
-
-    victim : (o : Option ℕ) → st.victim ≡ o → last_held st o ≡ n → StillHolds (left_last st o) m
-    victim (Some v) i f = (record st { victim = None }, refl, go h)
-      where
-        go : Holds st m → Holds (record st { victim = None }) m
-        go (inl g) = inl g
-        go (inr (inl g)) = inr (inl g)
-        go (inr (inr (inl g))) = inr (inr (inl g))
-        go (inr (inr (inr (inl g)))) = inr (inr (inr (inl g)))
-        go (inr (inr (inr (inr g)))) = let z : ◌≡◌ {A = Option ℕ} (Some v) (Some m) = sym i ∙ g in absurd (d ((let y : v ≡ m = cc in sym y) ∙ f))
-    victim None i f = dest st.dest.walked i refl f
+        nowhere : Holds st m → ⊥
+        nowhere (inl g) = d (sym g ∙ node)
+        nowhere (inr (inl g)) = none_some st.behind m cl g
+        nowhere (inr (inr (inl g))) = subst HasNames source g.0
+        nowhere (inr (inr (inr (inl g)))) = subst HasNames dest g.0
+        nowhere (inr (inr (inr (inr g)))) = none_some st.victim m victim g
 
 -- what a let go leaves
 pub record LeftWell (graph : Graph) (op : Record) (n : ℕ) : Type 0 where
@@ -82,7 +44,7 @@ pub record LeftWell (graph : Graph) (op : Record) (n : ℕ) : Type 0 where
 
 way_left : (graph : Graph) (op : Record) (n : ℕ) (st : Holdings) (p : Phase) → op.phase ≡ p → ((r : Reply) → p ≡ Finished r → ⊥) → op.holdings ≡ Some st → HeadsOfCallInOrder graph op st → left_holdings p (Some st) ≡ Some (record st { behind = None }) → st.behind ≡ Some n → LeftWell graph op n
 way_left graph op n st p ph unfinished on w is b = record {
-  stays = λ s m e h d. (record st { behind = None }, left_is, way_holds st n m b d (subst (λ (y : Holdings). Holds y m) (holdings_is s e) h));
+  stays = λ s m e h d. (record st { behind = None }, left_is, still_holds st (record st { behind = None }) n m (lets_behind st n b) d (subst (λ (y : Holdings). Holds y m) (one_holdings e on) h));
   neat = λ new e. (let z : ◌≡◌ {A = Option Holdings} (Some (record st { behind = None })) (Some new) = sym left_is ∙ e in subst (HeadsOfCallInOrder graph (let_go op n)) (let y : record st { behind = None } ≡ new = cc in y)
       (record { under_way = λ u. neat_heads graph op.remaining st (record st { behind = None }) (record { source = refl; node = refl; dest = refl; victim = refl }) (w.under_way u); closed = λ r i. absurd (unfinished r (sym ph ∙ i)) }));
 }
@@ -90,35 +52,21 @@ way_left graph op n st p ph unfinished on w is b = record {
     left_is : left_holdings op.phase op.holdings ≡ Some (record st { behind = None })
     left_is = ap₂ left_holdings ph on ∙ is
 
-    holdings_is : (s : Holdings) → op.holdings ≡ Some s → s ≡ st
-    holdings_is s e = let z : ◌≡◌ {A = Option Holdings} (Some s) (Some st) = sym e ∙ on in cc
-
-last_closed : (st new : Holdings) → IsClosed st → left_last st st.victim ≡ Some new → IsClosed new
-last_closed st new c e = victim st.victim e
+last_closed : (st new : Holdings) (n : ℕ) → IsClosed st → last_held st st.victim ≡ n → left_last st st.victim ≡ Some new → IsClosed new
+last_closed st new n c e is = go (lets_last st n e)
   where
-    source : (w : Key) → left_heads st [] w ≡ Some new → IsClosed new
-    source (x ∷ w) i = let y : record st { source = head_at st.node } ≡ new = cc in subst IsClosed y c
-    source [] i = cc
-
-    dest : (w : Key) → left_heads st w st.source.walked ≡ Some new → IsClosed new
-    dest (x ∷ w) i = let y : record st { dest = head_at st.node } ≡ new = cc in subst IsClosed y c
-    dest [] i = source st.source.walked i
-
-    victim : (o : Option ℕ) → left_last st o ≡ Some new → IsClosed new
-    victim (Some v) i = let y : record st { victim = None } ≡ new = cc in subst IsClosed y c
-    victim None i = dest st.dest.walked i
+    go : LetsLast st n (left_last st st.victim) → IsClosed new
+    go (One made i l behind only) = subst IsClosed (one_holdings i is) (behind ∙ c)
+    go (All i node source dest victim) = none_some (left_last st st.victim) new i is
 
 end_left : (graph : Graph) (op : Record) (n : ℕ) (st : Holdings) (r : Reply) → op.phase ≡ Finished r → op.holdings ≡ Some st → HeadsOfCallInOrder graph op st → last_held st st.victim ≡ n → LeftWell graph op n
 end_left graph op n st r ph on w e = record {
-  stays = λ s m i h d. (let g : StillHolds (left_last st st.victim) m = end_holds st n m (w.closed r ph) e d (subst (λ (y : Holdings). Holds y m) (holdings_is s i) h) in (g.0, left_is ∙ g.1, g.2));
-  neat = λ new i. record { under_way = λ u. absurd (u r ph); closed = λ q j. last_closed st new (w.closed r ph) (sym left_is ∙ i) };
+  stays = λ s m i h d. (let g : StillHolds (left_last st st.victim) m = end_holds st n m (w.closed r ph) e d (subst (λ (y : Holdings). Holds y m) (one_holdings i on) h) in (g.0, left_is ∙ g.1, g.2));
+  neat = λ new i. record { under_way = λ u. absurd (u r ph); closed = λ q j. last_closed st new n (w.closed r ph) e (sym left_is ∙ i) };
 }
   where
     left_is : left_holdings op.phase op.holdings ≡ left_last st st.victim
     left_is = ap₂ left_holdings ph on
-
-    holdings_is : (s : Holdings) → op.holdings ≡ Some s → s ≡ st
-    holdings_is s i = let z : ◌≡◌ {A = Option Holdings} (Some s) (Some st) = sym i ∙ on in cc
 
 pub left_well : (graph : Graph) (op : Record) (n : ℕ) → ((st : Holdings) → op.holdings ≡ Some st → HeadsOfCallInOrder graph op st) → next graph op ≡ Leaves n → LeftWell graph op n
 left_well graph op n w m = go op.phase (by_text (form op.call)) op.holdings refl refl m

@@ -1,31 +1,30 @@
 -- An unfinished call that goes on alone: each of its moves leaves fewer, and at last it finishes as what it was.
 use Rattle.std.proofs.Common.{◌≡◌, ℕ, zero, suc, ◌+◌, ◌≤◌, [], ◌∷◌, ◌++◌, length, Option, Some, None, refl, sym, ap, ap₂, ◌∙◌, append_assoc, append-nil, subst, inl, arith}
 use Rattle.std.proofs.lemmas.List.{length-append}
-use Rattle.fs_names.specs.Keys.{Key, after_prefix, parent_of, last_of}
+use Rattle.fs_names.specs.Keys.{Key, after_prefix, parent_of}
 use Rattle.fs_names.specs.Names.{Name}
 use Rattle.fs_names.specs.Parts.{common, left, left_by}
 use Rattle.fs_calls.specs.Forms.{form, Form, AtNode, AtEntry, AtPair, by_text, under}
 use Rattle.fs_calls.specs.declared.target.PairCall.TheVariants as pairs
 use Rattle.fs_calls.specs.declared.errno.Errno.{Errno}
 use Rattle.fs_nodes.specs.Graphs.{Graph, numbers, IsGraph}
-use Rattle.fs_machine.specs.Moves.{next, next_by, next_on, target, took, victim_took, dest_stepped, source_stepped, inner, tail_of, left_holdings, behind_of}
+use Rattle.fs_machine.specs.Moves.{next, next_by, next_on, target, took, victim_took, stepped, inner, tail_of, left_holdings, behind_of}
 use Rattle.fs_machine.specs.declared.moves.Move.{Move}
 use Rattle.fs_machine.specs.declared.moves.Move.TheVariants.{Take as Takes, LetGo as Leaves, Finish as Finishes, Return as Ends}
-use Rattle.fs_machine.specs.Records.{Phase, Walking, Placed, Finished, Holds, Record, Holdings, holdings_at}
-use Rattle.fs_laws.specs.Invariants.{IsUnfinished, Forked, HeadsSound, VictimAt, IsSingle}
+use Rattle.fs_machine.specs.Records.{Phase, Walking, Placed, Finished, Holds, Record, Holdings, Side, Source, Dest, of_side, head_on, holdings_at}
+use Rattle.fs_laws.specs.Invariants.{IsUnfinished}
 use Rattle.fs_laws.specs.Settled.{names_left, alone_by}
-use Rattle.fs_laws.specs.CallFacts.{Located}
 use Rattle.fs_laws.specs.StepsLeft.{one_if, one_unless, to_go, moves_left}
 use Rattle.fs_laws.proofs.trees.Prefixes.{prefix_append, prefix_some}
-use Rattle.fs_laws.proofs.graphs.Walks.{at_child, at_from}
-use Rattle.fs_laws.proofs.calls.NodesHeld.{single_at, single_victim, single_source, single_dest}
+use Rattle.fs_laws.proofs.graphs.Walks.{at_child}
+use Rattle.fs_laws.proofs.calls.NodesHeld.{located_at, single_at, single_grow}
 use Rattle.fs_laws.proofs.events.LetGo.{Lets, behind_of_move, lets_behind, single_of, well_left, victim_left}
 use Rattle.fs_laws.proofs.events.Take.{Inner, inner_on, number_inner, fresh_well, fresh_victim}
-use Rattle.fs_laws.proofs.calls.TakesAtTarget.{forked_of, well_of, left_on}
+use Rattle.fs_laws.proofs.calls.TakesAtTarget.{forked_of, KeptThere, kept_there}
 use Rattle.fs_laws.proofs.states.ComputedSteps.{on_ends}
-use Rattle.fs_laws.proofs.calls.Takes.{Take, Walk, Entry, Source, Dest, Replaced, takes_by, with_holdings}
+use Rattle.fs_laws.proofs.calls.Takes.{AtTarget, Entry, Of_head, Replaced, Take, Walk, There, stands, grown, takes_by, with_holdings}
 use Rattle.fs_laws.proofs.calls.HeadOrder.{HeadsInOrder, TookWell, took_well, plain_of, neat_heads, neat_fresh}
-use Rattle.fs_laws.proofs.calls.OneUnfinishedCall.{OneUnfinished, solo_wants, front_same}
+use Rattle.fs_laws.proofs.calls.OneUnfinishedCall.{OneUnfinished, solo_wants}
 use Rattle.fs_machine.specs.Finishes.{finish}
 
 parent_less : (p : Key) → length (parent_of p) ≤ length p
@@ -99,9 +98,6 @@ walk_less (AtPair pairs.Rename p q) x l st n e i j =
     let d : length (left st.dest.walked (parent_of q)) ≡ length (parent_of q) = ap (λ (w : Key). length (left w (parent_of q))) j in
     omega (arith, a, b, c, d)
 
-behind_one : (w : Key) (n : ℕ) → one_if (behind_of w n) ≤ 1
-behind_one w n = if_one (behind_of w n)
-
 -- what a head has left, one name on
 left_next : (w l whole : Key) (x : Name) → whole ≡ w ++ x ∷ l → left (w ++ x ∷ []) whole ≡ l
 left_next w l whole x e = ap left_by (ap (after_prefix (w ++ x ∷ [])) (e ∙ sym (append_assoc w (x ∷ []) l)) ∙ prefix_append (w ++ x ∷ []) l)
@@ -122,42 +118,34 @@ solo_took graph is k op n st s t = go t
     w : TookWell graph op n
     w = took_well graph op n st s.unfinished s.on s.neat t
 
-    -- at the same key, with another stand
-    here : (new : Holdings) → took op n ≡ with_holdings op new → Located (numbers graph) k new → HeadsSound graph new.node op.remaining new → VictimAt graph op.remaining new → IsSingle new → moves_left op.remaining new + 1 ≤ moves_left op.remaining st → Advanced graph k op st (took op n)
-    here new e loc well victim single less = subst (Advanced graph k op st) (sym e) (record {
-      new = new;
-      r = [];
-      solo = stay_here graph k (with_holdings op new) new (record {
-        on = refl;
-        unfinished = s.unfinished;
-        text = s.text;
-        loc = loc;
-        fits = s.fits;
-        well = well;
-        number = s.number;
-        victim = victim;
-        single = single;
-        neat = neat;
-      });
-      same = under_here k op.remaining;
-      reserved = refl;
-      phase = refl;
-      less = less;
-    })
-      where
-        new_is : w.new ≡ new
-        new_is = let z : ◌≡◌ {A = Option Holdings} (Some w.new) (Some new) = sym w.on ∙ ap (λ (o : Record). o.holdings) e in cc
+    -- its heads are in order where it then stands
+    neat : (new : Holdings) → took op n ≡ with_holdings op new → HeadsInOrder graph op.remaining new
+    neat new e =
+        let z : ◌≡◌ {A = Option Holdings} (Some w.new) (Some new) = sym w.on ∙ ap (λ (o : Record). o.holdings) e in
+        subst (λ (x : Holdings). HeadsInOrder graph op.remaining x) (let y : w.new ≡ new = cc in y) (subst (λ (o : Record). HeadsInOrder graph o.remaining w.new) e (w.neat.under_way (λ r f. s.unfinished r (ap (λ (o : Record). o.phase) (sym e) ∙ f))))
 
-        neat : HeadsInOrder graph op.remaining new
-        neat = subst (λ (x : Holdings). HeadsInOrder graph op.remaining x) new_is (subst (λ (o : Record). HeadsInOrder graph o.remaining w.new) e (w.neat.under_way (λ r f. s.unfinished r (ap (λ (o : Record). o.phase) (sym e) ∙ f))))
-
-    victim_less : st.victim ≡ None → moves_left op.remaining (victim_took st n) + 1 ≤ moves_left op.remaining st
-    victim_less off = let z : one_unless st.victim ≡ 1 = ap one_unless off in same_go op.remaining z
+    victim_less : st.victim ≡ None → (f : Form) → moves_left f (victim_took st n) + 1 ≤ moves_left f st
+    victim_less off f = let z : one_unless st.victim ≡ 1 = ap one_unless off in same_go f z
       where
         same_go : (f : Form) → one_unless st.victim ≡ 1 → moves_left f (victim_took st n) + 1 ≤ moves_left f st
         same_go (AtNode c p) z = omega (arith, z)
         same_go (AtEntry c p) z = omega (arith, z)
         same_go (AtPair pairs.Rename p q) z = omega (arith, z)
+
+    head_less : (side : Side) (p q : Key) (x : Name) → length (left ((head_on side st).walked ++ x ∷ []) (parent_of (of_side side p q))) + 1 ≡ length (left (head_on side st).walked (parent_of (of_side side p q)))
+        → one_if (behind_of (head_on side st).walked (head_on side st).node) ≤ 1 → moves_left (AtPair pairs.Rename p q) (stepped side st x n) + 1 ≤ moves_left (AtPair pairs.Rename p q) st
+    head_less Source p q x a b = omega (arith, a, b)
+    head_less Dest p q x a b = omega (arith, a, b)
+
+    less : (t : AtTarget graph op n st) → moves_left op.remaining (stands t) + 1 ≤ moves_left op.remaining st
+    less (Entry e p rem way child off) = victim_less off op.remaining
+    less (Replaced p q rem way there at_left want child off) = victim_less off op.remaining
+    less (Of_head side p q x l rem way turn at_left child) =
+        let walked : Key = (head_on side st).walked in
+        let whole : parent_of (of_side side p q) ≡ walked ++ x ∷ l = (forked_of graph st.node p q st op.remaining rem way s.well).path side ∙ ap (λ (y : Key). walked ++ y) at_left in
+        let a : length (left (walked ++ x ∷ []) (parent_of (of_side side p q))) ≡ length l = ap length (left_next walked l (parent_of (of_side side p q)) x whole) in
+        let c : length (left walked (parent_of (of_side side p q))) ≡ length (x ∷ l) = ap length at_left in
+        subst (λ (g : Form). moves_left g (stepped side st x n) + 1 ≤ moves_left g st) (sym rem) (head_less side p q x (omega (arith, a, c)) (if_one (behind_of walked (head_on side st).node)))
 
     go : Take graph op n st → Advanced graph k op st (took op n)
     go (Walk x l way b child e) = subst (Advanced graph k op st) (sym e) (record {
@@ -167,7 +155,7 @@ solo_took graph is k op n st s t = go t
         on = refl;
         unfinished = s.unfinished;
         text = s.text;
-        loc = record { here = at_n; source = ap (numbers graph) (append-nil (k ++ x ∷ [])) ∙ at_n; dest = ap (numbers graph) (append-nil (k ++ x ∷ [])) ∙ at_n };
+        loc = located_at (numbers graph) (k ++ x ∷ []) n (Some st.node) at_n;
         fits = step.fits s.fits;
         well = fresh_well graph n (Some st.node) (inner op.remaining);
         number = number_inner graph op.remaining op.reserved s.number;
@@ -192,73 +180,29 @@ solo_took graph is k op n st s t = go t
 
         at_n : numbers graph (k ++ x ∷ []) ≡ Some n
         at_n = at_child graph.child 0 st.node k x s.loc.here ∙ child
-    go (Entry e p rem way b child off t_is) =
-        here (victim_took st n) t_is (record { here = s.loc.here; source = s.loc.source; dest = s.loc.dest })
-        (subst (λ (f : Form). HeadsSound graph st.node f (victim_took st n)) (sym rem) tt)
-        (subst (λ (f : Form). VictimAt graph f (victim_took st n)) (sym rem) (λ v i. child ∙ i))
-        (single_victim st n free s.single) (victim_less off)
-    go (Source p q x l rem way b at_left child t_is) =
-        here (source_stepped st x n) t_is loc
-        (well_of graph st.node p q (source_stepped st x n) op.remaining rem way (record {
-          source_at = sym (at_from graph.child 0 st.node k (st.source.walked ++ x ∷ []) s.loc.here) ∙ loc.source;
-          dest_at = f.dest_at;
-          source_is = left_on st.source.walked l (parent_of p) x whole;
-          dest_is = f.dest_is;
-        }))
-        (subst (λ (g : Form). VictimAt graph g (source_stepped st x n)) (sym rem) (subst (λ (g : Form). VictimAt graph g st) rem s.victim))
-        (single_source st x n free s.single)
-        (subst (λ (g : Form). moves_left g (source_stepped st x n) + 1 ≤ moves_left g st) (sym rem)
-        (let a : length (left st.source.walked (parent_of p)) ≡ length l + 1 = ap length at_left ∙ (let z : length (x ∷ l) ≡ length l + 1 = omega arith in z) in
-        let c : length (left (st.source.walked ++ x ∷ []) (parent_of p)) ≡ length l = ap length (left_next st.source.walked l (parent_of p) x whole) in
-        let d : one_if (behind_of st.source.walked st.source.node) ≤ 1 = behind_one st.source.walked st.source.node in
-        omega (arith, a, c, d)))
+    go (There t b e) = subst (Advanced graph k op st) (sym e) (record {
+      new = stands t;
+      r = [];
+      solo = stay_here graph k (with_holdings op (stands t)) (stands t) (record {
+        on = refl;
+        unfinished = s.unfinished;
+        text = s.text;
+        loc = there.located;
+        fits = s.fits;
+        well = there.well;
+        number = s.number;
+        victim = there.victim;
+        single = single_grow (grown t b) free s.single;
+        neat = neat (stands t) e;
+      });
+      same = under_here k op.remaining;
+      reserved = refl;
+      phase = refl;
+      less = less t;
+    })
       where
-        f : Forked graph st.node p q st
-        f = forked_of graph st.node p q st op.remaining rem way s.well
-
-        whole : parent_of p ≡ st.source.walked ++ x ∷ l
-        whole = f.source_is ∙ ap (λ (y : Key). st.source.walked ++ y) at_left
-
-        loc : Located (numbers graph) k (source_stepped st x n)
-        loc = record { here = s.loc.here; source = ap (numbers graph) (sym (append_assoc k st.source.walked (x ∷ []))) ∙ at_child graph.child 0 st.source.node (k ++ st.source.walked) x s.loc.source ∙ child; dest = s.loc.dest }
-    go (Dest p q x l names rem way b arrived dir at_left child t_is) =
-        here (dest_stepped st x n) t_is loc
-        (well_of graph st.node p q (dest_stepped st x n) op.remaining rem way (record {
-          source_at = f.source_at;
-          dest_at = sym (at_from graph.child 0 st.node k (st.dest.walked ++ x ∷ []) s.loc.here) ∙ loc.dest;
-          source_is = f.source_is;
-          dest_is = left_on st.dest.walked l (parent_of q) x whole;
-        }))
-        (subst (λ (g : Form). VictimAt graph g (dest_stepped st x n)) (sym rem) (λ v e. absurd (none_yet v e)))
-        (single_dest st x n free s.single)
-        (subst (λ (g : Form). moves_left g (dest_stepped st x n) + 1 ≤ moves_left g st) (sym rem)
-        (let a : length (left st.dest.walked (parent_of q)) ≡ length l + 1 = ap length at_left ∙ (let z : length (x ∷ l) ≡ length l + 1 = omega arith in z) in
-        let c : length (left (st.dest.walked ++ x ∷ []) (parent_of q)) ≡ length l = ap length (left_next st.dest.walked l (parent_of q) x whole) in
-        let d : one_if (behind_of st.dest.walked st.dest.node) ≤ 1 = behind_one st.dest.walked st.dest.node in
-        omega (arith, a, c, d)))
-      where
-        f : Forked graph st.node p q st
-        f = forked_of graph st.node p q st op.remaining rem way s.well
-
-        whole : parent_of q ≡ st.dest.walked ++ x ∷ l
-        whole = f.dest_is ∙ ap (λ (y : Key). st.dest.walked ++ y) at_left
-
-        loc : Located (numbers graph) k (dest_stepped st x n)
-        loc = record { here = s.loc.here; dest = ap (numbers graph) (sym (append_assoc k st.dest.walked (x ∷ []))) ∙ at_child graph.child 0 st.dest.node (k ++ st.dest.walked) x s.loc.dest ∙ child; source = s.loc.source }
-
-        none_yet : (v : ℕ) → st.victim ≡ Some v → ⊥
-        none_yet v e =
-            let g : (graph.child st.dest.node (last_of q) ≡ Some v) × (parent_of q ≡ st.dest.walked) = subst (λ (h : Form). VictimAt graph h st) rem s.victim v e in
-            let z : [] ≡ x ∷ l = front_same st.dest.walked [] (x ∷ l) (append-nil st.dest.walked ∙ sym g.1 ∙ f.dest_is ∙ ap (λ (y : Key). st.dest.walked ++ y) at_left) in
-            (let y : ◌≡◌ {A = Key} [] (x ∷ l) = z in cc)
-    go (Replaced p q names rem way b arrived dir at_left want child off t_is) =
-        here (victim_took st n) t_is (record { here = s.loc.here; source = s.loc.source; dest = s.loc.dest })
-        (well_of graph st.node p q (victim_took st n) op.remaining rem way (record { source_at = f.source_at; dest_at = f.dest_at; source_is = f.source_is; dest_is = f.dest_is }))
-        (subst (λ (g : Form). VictimAt graph g (victim_took st n)) (sym rem) (λ v i. (child ∙ i, f.dest_is ∙ ap (λ (y : Key). st.dest.walked ++ y) at_left ∙ append-nil st.dest.walked)))
-        (single_victim st n free s.single) (victim_less off)
-      where
-        f : Forked graph st.node p q st
-        f = forked_of graph st.node p q st op.remaining rem way s.well
+        there : KeptThere graph k op n st (stands t)
+        there = kept_there graph k op n st s.loc s.well s.victim b t
 
 -- the record after a let go, as a call alone makes it
 abbrev pub left_alone : Record → Record
@@ -281,7 +225,7 @@ solo_left graph k op n st s e = record {
     on = unfinished_left op st s.unfinished s.on;
     unfinished = s.unfinished;
     text = s.text;
-    loc = record { here = s.loc.here; source = s.loc.source; dest = s.loc.dest };
+    loc = record { here = s.loc.here; head = s.loc.head };
     fits = s.fits;
     well = well_left graph st (record st { behind = None }) n op.remaining lets s.well;
     number = s.number;

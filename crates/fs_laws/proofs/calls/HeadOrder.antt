@@ -1,5 +1,5 @@
 -- How a call holds its nodes: a head sets out only when the one before has arrived, and a finished call holds no parent behind.
-use Rattle.std.proofs.Common.{◌≡◌, ℕ, List, [], ◌∷◌, ◌++◌, Option, Some, None, refl, sym, ap, ◌∙◌, subst, inl, inr}
+use Rattle.std.proofs.Common.{◌≡◌, ℕ, List, [], ◌∷◌, Option, Some, None, refl, sym, ap, ◌∙◌, subst, inl, inr}
 use Rattle.fs_names.specs.Keys.{Key, parent_of}
 use Rattle.fs_names.specs.Names.{Name}
 use Rattle.fs_names.specs.Parts.{HasNames, common, left}
@@ -8,16 +8,11 @@ use Rattle.fs_calls.specs.Forms.{Form, AtNode, AtEntry, AtPair}
 use Rattle.fs_calls.specs.declared.target.PairCall.TheVariants as pairs
 use Rattle.fs_calls.specs.declared.reply.Reply.{Reply}
 use Rattle.fs_nodes.specs.Graphs.{Graph}
-use Rattle.fs_machine.specs.Moves.{target, took, behind_of, victim_took, dest_stepped, source_stepped, took_by, inner}
-use Rattle.fs_machine.specs.Records.{Finished, Holds, Record, Holdings, holdings_at}
-use Rattle.fs_laws.specs.Invariants.{IsUnfinished}
-use Rattle.fs_laws.proofs.calls.Takes.{Take, Walk, Entry, Source, Dest, Replaced, with_holdings, walked_on}
-
--- the source head has arrived, at a directory
-pub record SourceThere (graph : Graph) (p : Key) (st : Holdings) : Type 0 where
-  pub arrived : left st.source.walked (parent_of p) ≡ []
-  pub names : List Name
-  pub dir : graph.shape st.source.node ≡ Some (Dir names)
+use Rattle.fs_machine.specs.Moves.{target, took, victim_took, stepped, took_by, inner}
+use Rattle.fs_machine.specs.Records.{Finished, Holds, Record, Holdings, Side, Source, Dest, of_side, head_on, holdings_at}
+use Rattle.fs_laws.specs.Invariants.{IsUnfinished, VictimAt}
+use Rattle.fs_laws.proofs.calls.NodesHeld.{slot_holds, grown_keeps, one_holdings, none_some}
+use Rattle.fs_laws.proofs.calls.Takes.{SourceThere, AtTarget, Entry, Of_head, Replaced, Take, Walk, There, stands, grown, none_left, with_holdings, walked_on}
 
 -- neither head has set out, and there is no victim
 pub record IsPlain (st : Holdings) : Type 0 where
@@ -82,6 +77,9 @@ neat_by old new (AtPair pairs.Rename p q) st f w = go (common (parent_of p) (par
 pub neat_op_by : (old new : Graph) (op : Record) (st : Holdings) → DirStays old new st.source.node → HeadsOfCallInOrder old op st → HeadsOfCallInOrder new op st
 neat_op_by old new op st f w = record { under_way = λ u. neat_by old new op.remaining st f (w.under_way u); closed = w.closed }
 
+there_at : (graph : Graph) (p : Key) (old new : Holdings) → new.source.walked ≡ old.source.walked → new.source.node ≡ old.source.node → SourceThere graph p old → SourceThere graph p new
+there_at graph p old new walked node t = record { arrived = ap (λ (k : Key). left k (parent_of p)) walked ∙ t.arrived; names = t.names; dir = ap graph.shape node ∙ t.dir }
+
 -- holdings with the same heads and victim
 pub record SameHeads (old new : Holdings) : Type 0 where
   pub source : new.source.walked ≡ old.source.walked
@@ -95,7 +93,7 @@ neat_heads graph (AtEntry c p) old new s w = record { source = s.source ∙ w.so
 neat_heads graph (AtPair pairs.Rename p q) old new s w = go (common (parent_of p) (parent_of q)) w
   where
     there : SourceThere graph p old → SourceThere graph p new
-    there t = record { arrived = ap (λ (k : Key). left k (parent_of p)) s.source ∙ t.arrived; names = t.names; dir = ap graph.shape s.node ∙ t.dir }
+    there = there_at graph p old new s.source s.node
 
     go : (l : Key) → NeatAt graph p old l → NeatAt graph p new l
     go [] w = record { dest = λ h. there (w.dest (subst HasNames s.dest h)); victim = λ v e. there (w.victim v (sym s.victim ∙ e)) }
@@ -114,8 +112,23 @@ of_turn : (graph : Graph) (p q : Key) (st : Holdings) (remaining : Form) → rem
 of_turn graph p q st remaining rem way w = subst (λ (f : Form). HeadsInOrder graph f st) (sym rem) (subst (NeatAt graph p st) (sym way) w)
 
 -- a head that is on its way has not arrived
-not_there : (graph : Graph) (p : Key) (st : Holdings) (x : Name) (l : Key) → left st.source.walked (parent_of p) ≡ x ∷ l → SourceThere graph p st → ⊥
+pub not_there : (graph : Graph) (p : Key) (st : Holdings) (x : Name) (l : Key) → left st.source.walked (parent_of p) ≡ x ∷ l → SourceThere graph p st → ⊥
 not_there graph p st x l e t = let z : ◌≡◌ {A = Key} [] (x ∷ l) = sym t.arrived ∙ e in cc
+
+-- a call that takes holds no victim yet
+pub no_victim : (graph : Graph) (op : Record) (n : ℕ) (st : Holdings) → HeadsInOrder graph op.remaining st → VictimAt graph op.remaining st → Take graph op n st → st.victim ≡ None
+no_victim graph op n st neat vic (Walk x l way b child is) = (plain_of graph op.remaining st x l way neat).2
+no_victim graph op n st neat vic (There (Entry e p rem way child off) b is) = off
+no_victim graph op n st neat vic (There (Replaced p q rem way there at_left want child off) b is) = off
+no_victim graph op n st neat vic (There (Of_head side p q x l rem way turn at_left child) b is) = go st.victim (λ v e. none side at_left v e)
+  where
+    none : (side : Side) → left (head_on side st).walked (parent_of (of_side side p q)) ≡ x ∷ l → (v : ℕ) → st.victim ≡ Some v → ⊥
+    none Source i v e = not_there graph p st x l i ((in_turn graph p q st op.remaining rem way neat).victim v e)
+    none Dest i v e = let z : ◌≡◌ {A = Key} [] (x ∷ l) = sym (none_left st.dest.walked (parent_of q) (subst (λ (g : Form). VictimAt graph g st) rem vic v e).1) ∙ i in cc
+
+    go : (o : Option ℕ) → ((v : ℕ) → o ≡ Some v → ⊥) → o ≡ None
+    go None h = refl
+    go (Some v) h = absurd (h v refl)
 
 pub record TookWell (graph : Graph) (op : Record) (n : ℕ) : Type 0 where
   pub new : Holdings
@@ -124,15 +137,6 @@ pub record TookWell (graph : Graph) (op : Record) (n : ℕ) : Type 0 where
   pub here : Holds new n
   pub stays : (st : Holdings) (m : ℕ) → op.holdings ≡ Some st → Holds st m → Holds new m
   pub neat : HeadsOfCallInOrder graph (took op n) new
-
-has_pushed : (w : Key) (x : Name) → HasNames (w ++ x ∷ [])
-has_pushed [] x = tt
-has_pushed (y ∷ w) x = tt
-
--- the node of a head that walks on is behind
-behind_stays : (w : Key) (n m : ℕ) → HasNames w → n ≡ m → behind_of w n ≡ Some m
-behind_stays [] n m w e = absurd w
-behind_stays (y ∷ l) n m w e = ap (λ (k : ℕ). Some k) e
 
 -- a record with the same phase
 open_only : (graph : Graph) (op v : Record) (st : Holdings) → IsUnfinished op → v.phase ≡ op.phase → HeadsInOrder graph v.remaining st → HeadsOfCallInOrder graph v st
@@ -155,80 +159,30 @@ took_root graph op n u off = took_as graph op (record op { holdings = Some (hold
 
 pub took_well : (graph : Graph) (op : Record) (n : ℕ) (st : Holdings) → IsUnfinished op → op.holdings ≡ Some st → HeadsInOrder graph op.remaining st → Take graph op n st → TookWell graph op n
 took_well graph op n st u on w (Walk x l way b child is) =
-    took_as graph op (walked_on op st x n) n (holdings_at n (Some st.node)) is refl refl (inl refl) (λ s m e h. stays m (subst (λ (y : Holdings). Holds y m) (holdings_is s e) h))
+    took_as graph op (walked_on op st x n) n (holdings_at n (Some st.node)) is refl refl (inl refl) (λ s m e h. stays m (subst (λ (y : Holdings). Holds y m) (one_holdings e on) h))
     (open_only graph op (walked_on op st x n) (holdings_at n (Some st.node)) u refl (neat_fresh graph (inner op.remaining) n (Some st.node)))
   where
     plain : (st.source.walked ≡ []) × (st.dest.walked ≡ []) × (st.victim ≡ None)
     plain = plain_of graph op.remaining st x l way w
 
-    holdings_is : (s : Holdings) → op.holdings ≡ Some s → s ≡ st
-    holdings_is s e = let z : ◌≡◌ {A = Option Holdings} (Some s) (Some st) = sym e ∙ on in cc
-
     stays : (m : ℕ) → Holds st m → Holds (holdings_at n (Some st.node)) m
     stays m (inl e) = inr (inl (ap (λ (k : ℕ). Some k) e))
-    stays m (inr (inl e)) = let z : ◌≡◌ {A = Option ℕ} None (Some m) = sym b ∙ e in cc
+    stays m (inr (inl e)) = none_some st.behind m b e
     stays m (inr (inr (inl h))) = absurd (subst HasNames plain.0 h.0)
     stays m (inr (inr (inr (inl h)))) = absurd (subst HasNames plain.1 h.0)
-    stays m (inr (inr (inr (inr e)))) = let z : ◌≡◌ {A = Option ℕ} None (Some m) = sym plain.2 ∙ e in cc
-took_well graph op n st u on w (Entry e p rem way b child off is) =
-    took_as graph op (with_holdings op (victim_took st n)) n (victim_took st n) is refl refl (inr (inr (inr (inr refl)))) (λ s m i h. stays m (subst (λ (y : Holdings). Holds y m) (holdings_is s i) h))
-    (open_only graph op (with_holdings op (victim_took st n)) (victim_took st n) u refl
-    (subst (λ (f : Form). HeadsInOrder graph f (victim_took st n)) (sym rem) (record { source = mine.source; dest = mine.dest; victim = λ h. absurd (subst HasNames way h) })))
+    stays m (inr (inr (inr (inr e)))) = none_some st.victim m plain.2 e
+took_well graph op n st u on w (There t b is) =
+    took_as graph op (with_holdings op (stands t)) n (stands t) is refl refl (slot_holds (stands t) (grown t b).at n (grown t b).here) (λ s m i h. grown_keeps (grown t b) m (subst (λ (y : Holdings). Holds y m) (one_holdings i on) h))
+    (open_only graph op (with_holdings op (stands t)) (stands t) u refl (neat t))
   where
-    mine : NeatIn p st
-    mine = subst (λ (f : Form). HeadsInOrder graph f st) rem w
-
-    holdings_is : (s : Holdings) → op.holdings ≡ Some s → s ≡ st
-    holdings_is s i = let z : ◌≡◌ {A = Option Holdings} (Some s) (Some st) = sym i ∙ on in cc
-
-    stays : (m : ℕ) → Holds st m → Holds (victim_took st n) m
-    stays m (inl i) = inl i
-    stays m (inr (inl i)) = inr (inl i)
-    stays m (inr (inr (inl h))) = inr (inr (inl h))
-    stays m (inr (inr (inr (inl h)))) = inr (inr (inr (inl h)))
-    stays m (inr (inr (inr (inr i)))) = let z : ◌≡◌ {A = Option ℕ} None (Some m) = sym off ∙ i in cc
-took_well graph op n st u on w (Source p q x l rem way b at_left child is) =
-    took_as graph op (with_holdings op (source_stepped st x n)) n (source_stepped st x n) is refl refl (inr (inr (inl (has_pushed st.source.walked x, refl)))) (λ s m i h. stays m (subst (λ (y : Holdings). Holds y m) (holdings_is s i) h))
-    (open_only graph op (with_holdings op (source_stepped st x n)) (source_stepped st x n) u refl
-    (of_turn graph p q (source_stepped st x n) op.remaining rem way (record { dest = λ h. absurd (not_there graph p st x l at_left (turn.dest h)); victim = λ v i. absurd (not_there graph p st x l at_left (turn.victim v i)) })))
-  where
-    turn : InTurn graph p st
-    turn = in_turn graph p q st op.remaining rem way w
-
-    holdings_is : (s : Holdings) → op.holdings ≡ Some s → s ≡ st
-    holdings_is s i = let z : ◌≡◌ {A = Option Holdings} (Some s) (Some st) = sym i ∙ on in cc
-
-    stays : (m : ℕ) → Holds st m → Holds (source_stepped st x n) m
-    stays m (inl i) = inl i
-    stays m (inr (inl i)) = let z : ◌≡◌ {A = Option ℕ} None (Some m) = sym b ∙ i in cc
-    stays m (inr (inr (inl h))) = inr (inl (behind_stays st.source.walked st.source.node m h.0 h.1))
-    stays m (inr (inr (inr (inl h)))) = inr (inr (inr (inl h)))
-    stays m (inr (inr (inr (inr i)))) = inr (inr (inr (inr i)))
-took_well graph op n st u on w (Dest p q x l names rem way b arrived dir at_left child is) =
-    took_as graph op (with_holdings op (dest_stepped st x n)) n (dest_stepped st x n) is refl refl (inr (inr (inr (inl (has_pushed st.dest.walked x, refl))))) (λ s m i h. stays m (subst (λ (y : Holdings). Holds y m) (holdings_is s i) h))
-    (open_only graph op (with_holdings op (dest_stepped st x n)) (dest_stepped st x n) u refl
-    (of_turn graph p q (dest_stepped st x n) op.remaining rem way (record { dest = λ h. record { arrived = arrived; names = names; dir = dir }; victim = λ v i. record { arrived = arrived; names = names; dir = dir } })))
-  where
-    holdings_is : (s : Holdings) → op.holdings ≡ Some s → s ≡ st
-    holdings_is s i = let z : ◌≡◌ {A = Option Holdings} (Some s) (Some st) = sym i ∙ on in cc
-
-    stays : (m : ℕ) → Holds st m → Holds (dest_stepped st x n) m
-    stays m (inl i) = inl i
-    stays m (inr (inl i)) = let z : ◌≡◌ {A = Option ℕ} None (Some m) = sym b ∙ i in cc
-    stays m (inr (inr (inl h))) = inr (inr (inl h))
-    stays m (inr (inr (inr (inl h)))) = inr (inl (behind_stays st.dest.walked st.dest.node m h.0 h.1))
-    stays m (inr (inr (inr (inr i)))) = inr (inr (inr (inr i)))
-took_well graph op n st u on w (Replaced p q names rem way b arrived dir at_left want child off is) =
-    took_as graph op (with_holdings op (victim_took st n)) n (victim_took st n) is refl refl (inr (inr (inr (inr refl)))) (λ s m i h. stays m (subst (λ (y : Holdings). Holds y m) (holdings_is s i) h))
-    (open_only graph op (with_holdings op (victim_took st n)) (victim_took st n) u refl
-    (of_turn graph p q (victim_took st n) op.remaining rem way (record { dest = λ h. record { arrived = arrived; names = names; dir = dir }; victim = λ v i. record { arrived = arrived; names = names; dir = dir } })))
-  where
-    holdings_is : (s : Holdings) → op.holdings ≡ Some s → s ≡ st
-    holdings_is s i = let z : ◌≡◌ {A = Option Holdings} (Some s) (Some st) = sym i ∙ on in cc
-
-    stays : (m : ℕ) → Holds st m → Holds (victim_took st n) m
-    stays m (inl i) = inl i
-    stays m (inr (inl i)) = inr (inl i)
-    stays m (inr (inr (inl h))) = inr (inr (inl h))
-    stays m (inr (inr (inr (inl h)))) = inr (inr (inr (inl h)))
-    stays m (inr (inr (inr (inr i)))) = let z : ◌≡◌ {A = Option ℕ} None (Some m) = sym off ∙ i in cc
+    neat : (t : AtTarget graph op n st) → HeadsInOrder graph op.remaining (stands t)
+    neat (Entry e p rem way child off) =
+        let mine : NeatIn p st = subst (λ (f : Form). HeadsInOrder graph f st) rem w in
+        subst (λ (f : Form). HeadsInOrder graph f (victim_took st n)) (sym rem) (record { source = mine.source; dest = mine.dest; victim = λ h. absurd (subst HasNames way h) })
+    neat (Of_head Source p q x l rem way turn at_left child) =
+        let old : InTurn graph p st = in_turn graph p q st op.remaining rem way w in
+        of_turn graph p q (stepped Source st x n) op.remaining rem way (record { dest = λ h. absurd (not_there graph p st x l at_left (old.dest h)); victim = λ v i. absurd (not_there graph p st x l at_left (old.victim v i)) })
+    neat (Of_head Dest p q x l rem way turn at_left child) =
+        of_turn graph p q (stepped Dest st x n) op.remaining rem way (record { dest = λ h. there_at graph p st (stepped Dest st x n) refl refl turn; victim = λ v i. there_at graph p st (stepped Dest st x n) refl refl turn })
+    neat (Replaced p q rem way there at_left want child off) =
+        of_turn graph p q (victim_took st n) op.remaining rem way (record { dest = λ h. there_at graph p st (victim_took st n) refl refl there; victim = λ v i. there_at graph p st (victim_took st n) refl refl there })

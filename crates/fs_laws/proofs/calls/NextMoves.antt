@@ -5,14 +5,14 @@ use Rattle.fs_names.specs.Shapes.{Shape, Dir}
 use Rattle.fs_nodes.specs.Graphs.{numbers, IsGraph}
 use Rattle.fs_machine.specs.Moves.{next}
 use Rattle.fs_machine.specs.declared.moves.Move.TheVariants.{Take as Takes, LetGo as Leaves}
-use Rattle.fs_machine.specs.Records.{Holds, Record, Holdings}
+use Rattle.fs_machine.specs.Records.{Holds, Record, Holdings, head_on}
 use Rattle.fs_laws.specs.Invariants.{Invariant}
 use Rattle.fs_machine.specs.States.{State, Run}
-use Rattle.fs_laws.proofs.calls.NodesHeld.{slot_holds}
+use Rattle.fs_laws.proofs.calls.NodesHeld.{slot_holds, one_holdings}
 use Rattle.fs_laws.proofs.events.LetGo.{LetsGo, On_way, At_end, Last, lets_go}
 use Rattle.fs_laws.proofs.events.Take.{TakesFrom, From_nowhere, From_holdings, takes_from}
 use Rattle.fs_laws.proofs.states.Headline.{run_keeps}
-use Rattle.fs_laws.proofs.calls.Takes.{Take, Walk, Entry, Source, Dest, Replaced, takes_by}
+use Rattle.fs_laws.proofs.calls.Takes.{Entry, Of_head, Replaced, Take, Walk, There, takes_by}
 use Rattle.fs_laws.proofs.calls.OneUnfinishedCall.{solo_of, solo_wants}
 use Rattle.fs_laws.proofs.states.Agreement.{Holder, run_accounts}
 
@@ -30,10 +30,9 @@ takes_used s c op n run is m = go (takes_from s.graph op n m).0
 
     by : (st : Holdings) → Take s.graph op n st → (shape : Shape) × (s.graph.shape n ≡ Some shape)
     by st (Walk x l way b child is) = graph.to_used st.node n x child
-    by st (Entry e p rem way b child off is) = graph.to_used st.node n (last_of p) child
-    by st (Source p q x l rem way b at_left child is) = graph.to_used st.source.node n x child
-    by st (Dest p q x l names rem way b arrived dir at_left child is) = graph.to_used st.dest.node n x child
-    by st (Replaced p q names rem way b arrived dir at_left want child off is) = graph.to_used st.dest.node n (last_of q) child
+    by st (There (Entry e p rem way child off) b is) = graph.to_used st.node n (last_of p) child
+    by st (There (Of_head side p q x l rem way turn at_left child) b is) = graph.to_used (head_on side st).node n x child
+    by st (There (Replaced p q rem way there at_left want child off) b is) = graph.to_used st.dest.node n (last_of q) child
 
     go : TakesFrom s.graph op n → (shape : Shape) × (s.graph.shape n ≡ Some shape)
     go (From_nowhere text off z) = (Dir graph.root.0, sym (ap s.graph.shape z) ∙ graph.root.1)
@@ -43,9 +42,6 @@ takes_used s c op n run is m = go (takes_from s.graph op n m).0
 pub takes_another : (s : State) (c : ℕ) (op : Record) (n : ℕ) → Run s → s.ops c ≡ Some op → next s.graph op ≡ Takes n → s.holder n ≡ Some c → ⊥
 takes_another s c op n run is m held = go (takes_from s.graph op n m).0 ((run_accounts s run).holds n c held)
   where
-    same : (st t : Holdings) → op.holdings ≡ Some st → op.holdings ≡ Some t → t ≡ st
-    same st t e f = let z : ◌≡◌ {A = Option Holdings} (Some st) (Some t) = sym e ∙ f in cc
-
     go : TakesFrom s.graph op n → Holder s n c → ⊥
     go (From_nowhere text off z) (q, st, q_is, on, h) =
         let y : ◌≡◌ {A = Option Record} (Some q) (Some op) = sym q_is ∙ is in
@@ -54,7 +50,7 @@ takes_another s c op n run is m held = go (takes_from s.graph op n m).0 ((run_ac
     go (From_holdings st on t) (q, other, q_is, on_q, h) =
         let y : ◌≡◌ {A = Option Record} (Some q) (Some op) = sym q_is ∙ is in
         let x : op ≡ q = cc in
-        let e : other ≡ st = same st other on (ap (λ (o : Record). o.holdings) x ∙ on_q) in
+        let e : other ≡ st = one_holdings (ap (λ (o : Record). o.holdings) x ∙ on_q) on in
         solo_wants s.graph (run_keeps s run).is_graph ((run_keeps s run).key c) op n st (solo_of s (run_keeps s run) (run_accounts s run) c op st is (takes_from s.graph op n m).1 on) (takes_by s.graph op n st on t) (subst (λ (z : Holdings). Holds z n) e h)
 
 -- what a call lets go it holds

@@ -1,11 +1,13 @@
 -- The nodes that a call holds, each at one place.
-use Rattle.std.proofs.Common.{◌≡◌, ℕ, [], ◌∷◌, ◌++◌, Option, Some, refl, sym, ap, ◌∙◌, subst, ◌⊎◌, inl, inr}
+use Rattle.std.proofs.Common.{◌≡◌, ℕ, [], ◌∷◌, ◌++◌, Option, Some, None, refl, sym, ap, ◌∙◌, append-nil, subst, ◌⊎◌, inl, inr}
 use Rattle.fs_names.specs.Keys.{Key}
 use Rattle.fs_names.specs.Names.{Name}
 use Rattle.fs_names.specs.Parts.{HasNames}
-use Rattle.fs_machine.specs.Moves.{behind_of, victim_took, dest_stepped, source_stepped}
-use Rattle.fs_machine.specs.Records.{Holds, Holdings, holdings_at}
-use Rattle.fs_laws.specs.Invariants.{Slot, At_node, At_behind, At_source, At_dest, At_victim, if_walked, in_slot, IsSingle}
+use Rattle.fs_machine.specs.Moves.{behind_of, head_took, victim_took, stepped}
+use Rattle.fs_machine.specs.Records.{Head, HeadHolds, Holds, Holdings, Side, Source, Dest, head_on, with_head, head_at, holdings_at}
+use Rattle.fs_laws.specs.Maps.{Map}
+use Rattle.fs_laws.specs.CallFacts.{Located}
+use Rattle.fs_laws.specs.Invariants.{Slot, At_node, At_behind, At_head, At_victim, if_walked, in_slot, IsSingle}
 
 -- a head that has set out holds what it has
 if_walked_some : (w : Key) (o : Option ℕ) (q : ℕ) → if_walked w o ≡ Some q → HasNames w × (o ≡ Some q)
@@ -15,34 +17,120 @@ if_walked_some (x ∷ w) o q e = (tt, e)
 node_is : (a b : ℕ) → Some a ≡ Some b → a ≡ b
 node_is a b e = cc
 
+pub one_holdings : {o : Option Holdings} {a b : Holdings} → o ≡ Some a → o ≡ Some b → a ≡ b
+one_holdings {o} {a} {b} e f = let z : ◌≡◌ {A = Option Holdings} (Some a) (Some b) = sym e ∙ f in cc
+
+pub none_some : {P : Type 0} {A : Type 0} (o : Option A) (v : A) → o ≡ None → o ≡ Some v → P
+none_some {P} {A} o v e f = absurd (let z : ◌≡◌ {A = Option A} None (Some v) = sym e ∙ f in cc)
+
+-- what a head holds the call holds
+pub head_holds : (side : Side) (st : Holdings) (n : ℕ) → HeadHolds (head_on side st) n → Holds st n
+head_holds Source st n h = inr (inr (inl h))
+head_holds Dest st n h = inr (inr (inr (inl h)))
+
 pub slot_holds : (st : Holdings) (a : Slot) (q : ℕ) → in_slot st a ≡ Some q → Holds st q
 slot_holds st At_node q e = inl cc
 slot_holds st At_behind q e = inr (inl e)
-slot_holds st At_source q e = let h : HasNames st.source.walked × (Some st.source.node ≡ Some q) = if_walked_some st.source.walked (Some st.source.node) q e in inr (inr (inl (h.0, node_is st.source.node q h.1)))
-slot_holds st At_dest q e = let h : HasNames st.dest.walked × (Some st.dest.node ≡ Some q) = if_walked_some st.dest.walked (Some st.dest.node) q e in inr (inr (inr (inl (h.0, node_is st.dest.node q h.1))))
+slot_holds st (At_head side) q e = let h : HasNames (head_on side st).walked × (Some (head_on side st).node ≡ Some q) = if_walked_some (head_on side st).walked (Some (head_on side st).node) q e in head_holds side st q (h.0, node_is (head_on side st).node q h.1)
 slot_holds st At_victim q e = inr (inr (inr (inr e)))
 
 if_walked_is : (w : Key) (o : Option ℕ) (q : ℕ) → HasNames w → o ≡ Some q → if_walked w o ≡ Some q
 if_walked_is [] o q m e = absurd m
 if_walked_is (x ∷ w) o q m e = e
 
+head_slot : (side : Side) (st : Holdings) (q : ℕ) → HeadHolds (head_on side st) q → (a : Slot) × (in_slot st a ≡ Some q)
+head_slot side st q h = (At_head side, if_walked_is (head_on side st).walked (Some (head_on side st).node) q h.0 (ap (λ (n : ℕ). Some n) h.1))
+
 pub holds_slot : (st : Holdings) (q : ℕ) → Holds st q → (a : Slot) × (in_slot st a ≡ Some q)
 holds_slot st q (inl e) = (At_node, ap (λ (n : ℕ). Some n) e)
 holds_slot st q (inr (inl e)) = (At_behind, e)
-holds_slot st q (inr (inr (inl (m, e)))) = (At_source, if_walked_is st.source.walked (Some st.source.node) q m (ap (λ (n : ℕ). Some n) e))
-holds_slot st q (inr (inr (inr (inl (m, e))))) = (At_dest, if_walked_is st.dest.walked (Some st.dest.node) q m (ap (λ (n : ℕ). Some n) e))
+holds_slot st q (inr (inr (inl h))) = head_slot Source st q h
+holds_slot st q (inr (inr (inr (inl h)))) = head_slot Dest st q h
 holds_slot st q (inr (inr (inr (inr e)))) = (At_victim, e)
 
--- a node that was held nowhere comes to one place, and all others stay or change places with it
-pub single_grow : (st new : Holdings) (n : ℕ) (at : Slot) (swap : Slot → Slot) → ((a : Slot) → swap (swap a) ≡ a)
-    → ((a : Slot) (q : ℕ) → in_slot new a ≡ Some q → ((a ≡ at) × (q ≡ n)) ⊎ (in_slot st (swap a) ≡ Some q)) → (Holds st n → ⊥) → IsSingle st → IsSingle new
-single_grow st new n at swap twice from free single a b q e f = go (from a q e) (from b q f)
+-- the head on a side after it is put there
+pub new_head : (side : Side) (h : Head) (st : Holdings) → head_on side (with_head side h st) ≡ h
+new_head Source h st = refl
+new_head Dest h st = refl
+
+-- what is so of a new head on a side, and of each old one, is so of the heads with it
+pub heads_with : (P : Side → Head → Type 0) (side : Side) (h : Head) (st : Holdings) → P side h → ((at : Side) → P at (head_on at st)) → (at : Side) → P at (head_on at (with_head side h st))
+heads_with P Source h st new old Source = new
+heads_with P Source h st new old Dest = old Dest
+heads_with P Dest h st new old Source = old Source
+heads_with P Dest h st new old Dest = new
+
+-- the same of both heads before they set out
+pub heads_at : (P : Side → Head → Type 0) (n : ℕ) (behind : Option ℕ) → ((side : Side) → P side (head_at n)) → (side : Side) → P side (head_on side (holdings_at n behind))
+heads_at P n behind p Source = p Source
+heads_at P n behind p Dest = p Dest
+
+-- a call that has taken the root alone
+pub only_at : (n q : ℕ) → Holds (holdings_at n None) q → q ≡ n
+only_at n q (inl e) = sym e
+only_at n q (inr (inl e)) = cc
+only_at n q (inr (inr (inl h))) = absurd h.0
+only_at n q (inr (inr (inr (inl h)))) = absurd h.0
+only_at n q (inr (inr (inr (inr e)))) = cc
+
+pub located_at : (tree : Map ℕ) (key : Key) (n : ℕ) (behind : Option ℕ) → tree key ≡ Some n → Located tree key (holdings_at n behind)
+located_at tree key n behind e = record { here = e; head = heads_at (λ (side : Side) (h : Head). tree (key ++ h.walked) ≡ Some h.node) n behind (λ side. ap tree (append-nil key) ∙ e) }
+
+-- the node of a head is held, by the head or as the position
+pub node_held : (side : Side) (tree : Map ℕ) (k : Key) (st : Holdings) → Located tree k st → Holds st (head_on side st).node
+node_held side tree k st loc = by (head_on side st).walked refl (loc.head side)
   where
-    go : ((a ≡ at) × (q ≡ n)) ⊎ (in_slot st (swap a) ≡ Some q) → ((b ≡ at) × (q ≡ n)) ⊎ (in_slot st (swap b) ≡ Some q) → a ≡ b
-    go (inl i) (inl j) = i.0 ∙ sym j.0
-    go (inl i) (inr j) = absurd (free (subst (Holds st) i.1 (slot_holds st (swap b) q j)))
-    go (inr i) (inl j) = absurd (free (subst (Holds st) j.1 (slot_holds st (swap a) q i)))
-    go (inr i) (inr j) = sym (twice a) ∙ ap swap (single (swap a) (swap b) q i j) ∙ twice b
+    by : (walked : Key) → (head_on side st).walked ≡ walked → tree (k ++ walked) ≡ Some (head_on side st).node → Holds st (head_on side st).node
+    by [] i e = inl (node_is st.node (head_on side st).node (sym loc.here ∙ sym (ap tree (append-nil k)) ∙ e))
+    by (x ∷ w) i e = head_holds side st (head_on side st).node (subst HasNames (sym i) tt, refl)
+
+-- a node comes to one place, and all others stay or change places with it
+pub record Grown (st new : Holdings) (n : ℕ) : Type 0 where
+  pub at : Slot
+  pub here : in_slot new at ≡ Some n
+  pub swap : Slot → Slot
+  pub twice : (a : Slot) → swap (swap a) ≡ a
+  pub from : (a : Slot) → (a ≡ at) ⊎ (in_slot new a ≡ in_slot st (swap a))
+  -- what was where it comes goes where nothing was
+  pub free : in_slot st (swap at) ≡ None
+
+slot_node : (st : Holdings) (a b : Slot) (n q : ℕ) → in_slot st a ≡ Some n → a ≡ b → in_slot st b ≡ Some q → q ≡ n
+slot_node st a b n q e i f = let z : ◌≡◌ {A = Option ℕ} (Some q) (Some n) = sym f ∙ ap (in_slot st) (sym i) ∙ e in cc
+
+-- what it held before, and the node
+pub grown_holds : {st new : Holdings} {n : ℕ} → Grown st new n → (q : ℕ) → Holds new q → Holds st q ⊎ (q ≡ n)
+grown_holds {st} {new} {n} g q h = go (holds_slot new q h)
+  where
+    go : (a : Slot) × (in_slot new a ≡ Some q) → Holds st q ⊎ (q ≡ n)
+    go (a, e) = by (g.from a)
+      where
+        by : (a ≡ g.at) ⊎ (in_slot new a ≡ in_slot st (g.swap a)) → Holds st q ⊎ (q ≡ n)
+        by (inl i) = inr (slot_node new g.at a n q g.here (sym i) e)
+        by (inr i) = inl (slot_holds st (g.swap a) q (sym i ∙ e))
+
+-- all that it held it still holds
+pub grown_keeps : {st new : Holdings} {n : ℕ} → Grown st new n → (q : ℕ) → Holds st q → Holds new q
+grown_keeps {st} {new} g q h = go (holds_slot st q h)
+  where
+    go : (a : Slot) × (in_slot st a ≡ Some q) → Holds new q
+    go (a, e) = by (g.from (g.swap a))
+      where
+        by : (g.swap a ≡ g.at) ⊎ (in_slot new (g.swap a) ≡ in_slot st (g.swap (g.swap a))) → Holds new q
+        by (inl i) = let z : ◌≡◌ {A = Option ℕ} None (Some q) = sym g.free ∙ ap (λ (b : Slot). in_slot st (g.swap b)) (sym i) ∙ ap (in_slot st) (g.twice a) ∙ e in cc
+        by (inr i) = slot_holds new (g.swap a) q (i ∙ ap (in_slot st) (g.twice a) ∙ e)
+
+-- a node that was held nowhere
+pub single_grow : {st new : Holdings} {n : ℕ} → Grown st new n → (Holds st n → ⊥) → IsSingle st → IsSingle new
+single_grow {st} {new} {n} g free single a b q e f = go (g.from a) (g.from b)
+  where
+    not_other : (c d : Slot) → c ≡ g.at → in_slot new c ≡ Some q → in_slot new d ≡ Some q → in_slot new d ≡ in_slot st (g.swap d) → ⊥
+    not_other c d i at_c at_d j = free (subst (Holds st) (slot_node new g.at c n q g.here (sym i) at_c) (slot_holds st (g.swap d) q (sym j ∙ at_d)))
+
+    go : (a ≡ g.at) ⊎ (in_slot new a ≡ in_slot st (g.swap a)) → (b ≡ g.at) ⊎ (in_slot new b ≡ in_slot st (g.swap b)) → a ≡ b
+    go (inl i) (inl j) = i ∙ sym j
+    go (inl i) (inr j) = absurd (not_other a b i e f j)
+    go (inr i) (inl j) = absurd (not_other b a j f e i)
+    go (inr i) (inr j) = sym (g.twice a) ∙ ap g.swap (single (g.swap a) (g.swap b) q (sym i ∙ e) (sym j ∙ f)) ∙ g.twice b
 
 -- holdings at one node, with its parent or without
 pub single_at : (n : ℕ) (behind : Option ℕ) → (behind ≡ Some n → ⊥) → IsSingle (holdings_at n behind)
@@ -50,23 +138,22 @@ single_at n behind differs At_node At_node q e f = refl
 single_at n behind differs At_behind At_behind q e f = refl
 single_at n behind differs At_node At_behind q e f = absurd (differs (f ∙ sym e))
 single_at n behind differs At_behind At_node q e f = absurd (differs (e ∙ sym f))
-single_at n behind differs At_source b q e f = cc
-single_at n behind differs At_dest b q e f = cc
+single_at n behind differs (At_head Source) b q e f = cc
+single_at n behind differs (At_head Dest) b q e f = cc
 single_at n behind differs At_victim b q e f = cc
-single_at n behind differs a At_source q e f = cc
-single_at n behind differs a At_dest q e f = cc
+single_at n behind differs a (At_head Source) q e f = cc
+single_at n behind differs a (At_head Dest) q e f = cc
 single_at n behind differs a At_victim q e f = cc
 
 -- a victim is taken
-pub single_victim : (st : Holdings) (n : ℕ) → (Holds st n → ⊥) → IsSingle st → IsSingle (victim_took st n)
-single_victim st n free single = single_grow st (victim_took st n) n At_victim (λ a. a) (λ a. refl) from free single
+pub grown_victim : (st : Holdings) (n : ℕ) → st.victim ≡ None → Grown st (victim_took st n) n
+grown_victim st n off = record { at = At_victim; here = refl; swap = λ a. a; twice = λ a. refl; from = from; free = off }
   where
-    from : (a : Slot) (q : ℕ) → in_slot (victim_took st n) a ≡ Some q → ((a ≡ At_victim) × (q ≡ n)) ⊎ (in_slot st a ≡ Some q)
-    from At_node q e = inr e
-    from At_behind q e = inr e
-    from At_source q e = inr e
-    from At_dest q e = inr e
-    from At_victim q e = inl (refl, (let z : n ≡ q = cc in sym z))
+    from : (a : Slot) → (a ≡ At_victim) ⊎ (in_slot (victim_took st n) a ≡ in_slot st a)
+    from At_node = inr refl
+    from At_behind = inr refl
+    from (At_head side) = inr refl
+    from At_victim = inl refl
 
 behind_is : (w : Key) (n : ℕ) → behind_of w n ≡ if_walked w (Some n)
 behind_is [] n = refl
@@ -76,52 +163,38 @@ push_walked : (w : Key) (x : Name) (o : Option ℕ) → if_walked (w ++ x ∷ []
 push_walked [] x o = refl
 push_walked (y ∷ w) x o = refl
 
--- the source head walks on: where it stood is behind
-pub single_source : (st : Holdings) (x : Name) (n : ℕ) → (Holds st n → ⊥) → IsSingle st → IsSingle (source_stepped st x n)
-single_source st x n free single = single_grow st (source_stepped st x n) n At_source swap twice from free single
+-- the head on a side walks on: where it stood is behind
+pub grown_head : (side : Side) (st : Holdings) (x : Name) (n : ℕ) → st.behind ≡ None → Grown st (stepped side st x n) n
+grown_head side st x n closed = record { at = At_head side; here = ap (λ (h : Head). if_walked h.walked (Some h.node)) (new_head side (head_took (head_on side st) x n) st) ∙ push_walked (head_on side st).walked x (Some n); swap = swap side; twice = twice side; from = from side; free = free side }
   where
-    swap : Slot → Slot
-    swap At_node = At_node
-    swap At_behind = At_source
-    swap At_source = At_behind
-    swap At_dest = At_dest
-    swap At_victim = At_victim
+    swap : Side → Slot → Slot
+    swap side At_node = At_node
+    swap side At_behind = At_head side
+    swap side At_victim = At_victim
+    swap Source (At_head Source) = At_behind
+    swap Source (At_head Dest) = At_head Dest
+    swap Dest (At_head Source) = At_head Source
+    swap Dest (At_head Dest) = At_behind
 
-    twice : (a : Slot) → swap (swap a) ≡ a
-    twice At_node = refl
-    twice At_behind = refl
-    twice At_source = refl
-    twice At_dest = refl
-    twice At_victim = refl
+    twice : (side : Side) (a : Slot) → swap side (swap side a) ≡ a
+    twice side At_node = refl
+    twice side At_victim = refl
+    twice Source At_behind = refl
+    twice Dest At_behind = refl
+    twice Source (At_head Source) = refl
+    twice Source (At_head Dest) = refl
+    twice Dest (At_head Source) = refl
+    twice Dest (At_head Dest) = refl
 
-    from : (a : Slot) (q : ℕ) → in_slot (source_stepped st x n) a ≡ Some q → ((a ≡ At_source) × (q ≡ n)) ⊎ (in_slot st (swap a) ≡ Some q)
-    from At_node q e = inr e
-    from At_behind q e = inr (sym (behind_is st.source.walked st.source.node) ∙ e)
-    from At_source q e = let z : ◌≡◌ {A = Option ℕ} (Some n) (Some q) = sym (push_walked st.source.walked x (Some n)) ∙ e in inl (refl, sym (node_is n q z))
-    from At_dest q e = inr e
-    from At_victim q e = inr e
+    free : (side : Side) → in_slot st (swap side (At_head side)) ≡ None
+    free Source = closed
+    free Dest = closed
 
--- the destination head walks on
-pub single_dest : (st : Holdings) (x : Name) (n : ℕ) → (Holds st n → ⊥) → IsSingle st → IsSingle (dest_stepped st x n)
-single_dest st x n free single = single_grow st (dest_stepped st x n) n At_dest swap twice from free single
-  where
-    swap : Slot → Slot
-    swap At_node = At_node
-    swap At_behind = At_dest
-    swap At_source = At_source
-    swap At_dest = At_behind
-    swap At_victim = At_victim
-
-    twice : (a : Slot) → swap (swap a) ≡ a
-    twice At_node = refl
-    twice At_behind = refl
-    twice At_source = refl
-    twice At_dest = refl
-    twice At_victim = refl
-
-    from : (a : Slot) (q : ℕ) → in_slot (dest_stepped st x n) a ≡ Some q → ((a ≡ At_dest) × (q ≡ n)) ⊎ (in_slot st (swap a) ≡ Some q)
-    from At_node q e = inr e
-    from At_behind q e = inr (sym (behind_is st.dest.walked st.dest.node) ∙ e)
-    from At_source q e = inr e
-    from At_dest q e = let z : ◌≡◌ {A = Option ℕ} (Some n) (Some q) = sym (push_walked st.dest.walked x (Some n)) ∙ e in inl (refl, sym (node_is n q z))
-    from At_victim q e = inr e
+    from : (side : Side) (a : Slot) → (a ≡ At_head side) ⊎ (in_slot (stepped side st x n) a ≡ in_slot st (swap side a))
+    from side At_node = inr refl
+    from side At_behind = inr (behind_is (head_on side st).walked (head_on side st).node)
+    from side At_victim = inr refl
+    from Source (At_head Source) = inl refl
+    from Source (At_head Dest) = inr refl
+    from Dest (At_head Source) = inr refl
+    from Dest (At_head Dest) = inl refl

@@ -1,5 +1,5 @@
 -- An unfinished call by itself: what it keeps where it stands, whatever the others do; and that it never wants what it holds.
-use Rattle.std.proofs.Common.{◌≡◌, ℕ, Bool, true, false, not, ◌&&◌, [], ◌∷◌, ◌++◌, Option, Some, None, refl, sym, ap, ap₂, ◌∙◌, append_assoc, append-nil, subst, inl, inr}
+use Rattle.std.proofs.Common.{◌≡◌, ℕ, Bool, true, false, not, ◌&&◌, [], ◌∷◌, ◌++◌, Some, None, refl, sym, ap, ap₂, ◌∙◌, append_assoc, append-nil, subst, inl, inr}
 use Rattle.fs_names.specs.Keys.{Key, after_prefix, parent_of, last_of, has_more, is_end}
 use Rattle.fs_names.specs.Names.{Name}
 use Rattle.fs_names.specs.Parts.{HasNames, common, left}
@@ -7,17 +7,18 @@ use Rattle.fs_calls.specs.Forms.{form, Form, AtPair, by_text, Fits}
 use Rattle.fs_calls.specs.declared.target.PairCall.TheVariants as pairs
 use Rattle.fs_nodes.specs.Graphs.{Graph, numbers, IsGraph, entry_shape}
 use Rattle.fs_machine.specs.Moves.{same_kind}
-use Rattle.fs_machine.specs.Records.{Holds, Record, Holdings}
+use Rattle.fs_machine.specs.Records.{Holds, Record, Holdings, Source, Dest, head_on}
 use Rattle.fs_laws.specs.Invariants.{IsUnfinished, Forked, HeadsSound, NumberFor, VictimAt, IsSingle, Invariant}
 use Rattle.fs_laws.specs.CallFacts.{Located}
 use Rattle.fs_machine.specs.States.{State}
 use Rattle.fs_laws.proofs.trees.Prefixes.{prefix_append, same_refl}
 use Rattle.fs_laws.proofs.graphs.Walks.{at_child}
 use Rattle.fs_laws.proofs.calls.Located.{key_is, from_more, to_more}
-use Rattle.fs_laws.proofs.calls.Takes.{Take, Walk, Entry, Source, Dest, Replaced}
-use Rattle.fs_laws.proofs.calls.HeadOrder.{SourceThere, NeatIn, HeadsInOrder, plain_of, in_turn}
+use Rattle.fs_laws.proofs.calls.Takes.{Entry, Of_head, Replaced, Take, Walk, There, take_closed}
+use Rattle.fs_laws.proofs.calls.HeadOrder.{NeatIn, HeadsInOrder, plain_of, in_turn, not_there, no_victim}
 use Rattle.fs_laws.proofs.states.Agreement.{StateFacts, text_open}
 use Rattle.fs_laws.proofs.calls.TakesAtTarget.{forked_of}
+use Rattle.fs_laws.proofs.calls.NodesHeld.{none_some}
 
 pub record OneUnfinished (graph : Graph) (k : Key) (op : Record) (st : Holdings) : Type 0 where
   pub on : op.holdings ≡ Some st
@@ -86,9 +87,6 @@ solo_wants graph is_graph k op n st solo t h = go t h
     neat : HeadsInOrder graph op.remaining st
     neat = solo.neat
 
-    none_is : (b : Option ℕ) → b ≡ None → b ≡ Some n → ⊥
-    none_is b i j = let z : ◌≡◌ {A = Option ℕ} None (Some n) = sym i ∙ j in cc
-
     -- the node at a key is none at a longer one
     not_longer : (key w : Key) (x : Name) (m : ℕ) → numbers graph key ≡ Some m → m ≡ n → numbers graph ((key ++ w) ++ x ∷ []) ≡ Some n → ⊥
     not_longer key w x m e i f = longer key w x (is_graph.one_key key ((key ++ w) ++ x ∷ []) n (e ∙ ap (λ (y : ℕ). Some y) i) f)
@@ -111,50 +109,41 @@ solo_wants graph is_graph k op n st solo t h = go t h
     arrived_is : (whole w : Key) → whole ≡ w ++ left w whole → left w whole ≡ [] → whole ≡ w
     arrived_is whole w e i = e ∙ ap (λ (l : Key). w ++ l) i ∙ append-nil w
 
+    -- the source head, where it stands at a child of the destination head's node
+    child_of_dest : (y : Name) → graph.child st.dest.node y ≡ Some n → st.source.node ≡ n → st.source.walked ≡ st.dest.walked ++ y ∷ []
+    child_of_dest y child i =
+        let same : k ++ st.source.walked ≡ (k ++ st.dest.walked) ++ y ∷ [] = is_graph.one_key (k ++ st.source.walked) ((k ++ st.dest.walked) ++ y ∷ []) n ((loc.head Source) ∙ ap (λ (m : ℕ). Some m) i) (here st.dest.walked st.dest.node y (loc.head Dest) child) in
+        front_same k st.source.walked (st.dest.walked ++ y ∷ []) (same ∙ append_assoc k st.dest.walked (y ∷ []))
+
     go : Take graph op n st → Holds st n → ⊥
+    go t (inr (inl i)) = none_some st.behind n (take_closed t) i
+    go t (inr (inr (inr (inr i)))) = none_some st.victim n (no_victim graph op n st neat solo.victim t) i
     go (Walk x l way b child t_is) (inl i) = not_node [] st.node x at_node child i
-    go (Walk x l way b child t_is) (inr (inl i)) = none_is st.behind b i
     go (Walk x l way b child t_is) (inr (inr (inl i))) = subst HasNames (plain_of graph op.remaining st x l way neat).0 i.0
     go (Walk x l way b child t_is) (inr (inr (inr (inl i)))) = subst HasNames (plain_of graph op.remaining st x l way neat).1 i.0
-    go (Walk x l way b child t_is) (inr (inr (inr (inr i)))) = none_is st.victim (plain_of graph op.remaining st x l way neat).2 i
-    go (Entry e p rem way b child off t_is) (inl i) = not_node [] st.node (last_of p) at_node child i
-    go (Entry e p rem way b child off t_is) (inr (inl i)) = none_is st.behind b i
-    go (Entry e p rem way b child off t_is) (inr (inr (inl i))) = let w : NeatIn p st = subst (λ (f : Form). HeadsInOrder graph f st) rem neat in subst HasNames w.source i.0
-    go (Entry e p rem way b child off t_is) (inr (inr (inr (inl i)))) = let w : NeatIn p st = subst (λ (f : Form). HeadsInOrder graph f st) rem neat in subst HasNames w.dest i.0
-    go (Entry e p rem way b child off t_is) (inr (inr (inr (inr i)))) = none_is st.victim off i
-    go (Source p q x l rem way b at_left child t_is) (inl i) = not_node st.source.walked st.source.node x loc.source child i
-    go (Source p q x l rem way b at_left child t_is) (inr (inl i)) = none_is st.behind b i
-    go (Source p q x l rem way b at_left child t_is) (inr (inr (inl (_, i)))) = not_itself st.source.walked st.source.node x loc.source child i
-    go (Source p q x l rem way b at_left child t_is) (inr (inr (inr (inl i)))) = let t : SourceThere graph p st = (in_turn graph p q st op.remaining rem way neat).dest i.0 in let z : ◌≡◌ {A = Key} [] (x ∷ l) = sym t.arrived ∙ at_left in cc
-    go (Source p q x l rem way b at_left child t_is) (inr (inr (inr (inr i)))) = let t : SourceThere graph p st = (in_turn graph p q st op.remaining rem way neat).victim n i in let z : ◌≡◌ {A = Key} [] (x ∷ l) = sym t.arrived ∙ at_left in cc
-    go (Dest p q x l names rem way b arrived dir at_left child t_is) (inl i) = not_node st.dest.walked st.dest.node x loc.dest child i
-    go (Dest p q x l names rem way b arrived dir at_left child t_is) (inr (inl i)) = none_is st.behind b i
-    go (Dest p q x l names rem way b arrived dir at_left child t_is) (inr (inr (inl (more, i)))) =
+    go (There (Entry e p rem way child off) b t_is) (inl i) = not_node [] st.node (last_of p) at_node child i
+    go (There (Entry e p rem way child off) b t_is) (inr (inr (inl i))) = let w : NeatIn p st = subst (λ (f : Form). HeadsInOrder graph f st) rem neat in subst HasNames w.source i.0
+    go (There (Entry e p rem way child off) b t_is) (inr (inr (inr (inl i)))) = let w : NeatIn p st = subst (λ (f : Form). HeadsInOrder graph f st) rem neat in subst HasNames w.dest i.0
+    go (There (Of_head side p q x l rem way turn at_left child) b t_is) (inl i) = not_node (head_on side st).walked (head_on side st).node x (loc.head side) child i
+    go (There (Of_head Source p q x l rem way turn at_left child) b t_is) (inr (inr (inl (_, i)))) = not_itself st.source.walked st.source.node x (loc.head Source) child i
+    go (There (Of_head Source p q x l rem way turn at_left child) b t_is) (inr (inr (inr (inl i)))) = not_there graph p st x l at_left ((in_turn graph p q st op.remaining rem way neat).dest i.0)
+    go (There (Of_head Dest p q x l rem way turn at_left child) b t_is) (inr (inr (inr (inl (_, i))))) = not_itself st.dest.walked st.dest.node x (loc.head Dest) child i
+    go (There (Of_head Dest p q x l rem way turn at_left child) b t_is) (inr (inr (inl (more, i)))) =
         let f : Forked graph st.node p q st = forked p q rem way in
-        let same : k ++ st.source.walked ≡ (k ++ st.dest.walked) ++ x ∷ [] = is_graph.one_key (k ++ st.source.walked) ((k ++ st.dest.walked) ++ x ∷ []) n (loc.source ∙ ap (λ (y : ℕ). Some y) i) (here st.dest.walked st.dest.node x loc.dest child) in
-        let w : st.source.walked ≡ st.dest.walked ++ x ∷ [] = front_same (k) st.source.walked (st.dest.walked ++ x ∷ []) (same ∙ append_assoc (k) st.dest.walked (x ∷ [])) in
-        let a : parent_of p ≡ st.source.walked = arrived_is (parent_of p) st.source.walked f.source_is arrived in
-        let d : parent_of q ≡ st.source.walked ++ l = f.dest_is ∙ ap (λ (y : Key). st.dest.walked ++ y) at_left ∙ sym (append_assoc st.dest.walked (x ∷ []) l) ∙ ap (λ (y : Key). y ++ l) (sym w) in
+        let w : st.source.walked ≡ st.dest.walked ++ x ∷ [] = child_of_dest x child i in
+        let a : parent_of p ≡ st.source.walked = arrived_is (parent_of p) st.source.walked (f.path Source) turn.arrived in
+        let d : parent_of q ≡ st.source.walked ++ l = f.path Dest ∙ ap (λ (y : Key). st.dest.walked ++ y) at_left ∙ sym (append_assoc st.dest.walked (x ∷ []) l) ∙ ap (λ (y : Key). y ++ l) (sym w) in
         common_some st.source.walked l more (sym (ap₂ common a d) ∙ way)
-    go (Dest p q x l names rem way b arrived dir at_left child t_is) (inr (inr (inr (inl (_, i))))) = not_itself st.dest.walked st.dest.node x loc.dest child i
-    go (Dest p q x l names rem way b arrived dir at_left child t_is) (inr (inr (inr (inr i)))) =
-        let v : (graph.child st.dest.node (last_of q) ≡ Some n) × (parent_of q ≡ st.dest.walked) = subst (λ (g : Form). VictimAt graph g st) rem solo.victim n i in
-        let f : Forked graph st.node p q st = forked p q rem way in
-        let e : [] ≡ x ∷ l = front_same st.dest.walked [] (x ∷ l) (append-nil st.dest.walked ∙ sym v.1 ∙ f.dest_is ∙ ap (λ (y : Key). st.dest.walked ++ y) at_left) in
-        (let z : ◌≡◌ {A = Key} [] (x ∷ l) = e in cc)
-    go (Replaced p q names rem way b arrived dir at_left want child off t_is) (inl i) = not_node st.dest.walked st.dest.node (last_of q) loc.dest child i
-    go (Replaced p q names rem way b arrived dir at_left want child off t_is) (inr (inl i)) = none_is st.behind b i
-    go (Replaced p q names rem way b arrived dir at_left want child off t_is) (inr (inr (inl (more, i)))) =
+    go (There (Replaced p q rem way there at_left want child off) b t_is) (inl i) = not_node st.dest.walked st.dest.node (last_of q) (loc.head Dest) child i
+    go (There (Replaced p q rem way there at_left want child off) b t_is) (inr (inr (inr (inl (_, i))))) = not_itself st.dest.walked st.dest.node (last_of q) (loc.head Dest) child i
+    go (There (Replaced p q rem way there at_left want child off) b t_is) (inr (inr (inl (more, i)))) =
         let f : Forked graph st.node p q st = forked p q rem way in
         let fits : Fits (AtPair pairs.Rename p q) = subst Fits rem solo.fits in
-        let same : k ++ st.source.walked ≡ (k ++ st.dest.walked) ++ last_of q ∷ [] = is_graph.one_key (k ++ st.source.walked) ((k ++ st.dest.walked) ++ last_of q ∷ []) n (loc.source ∙ ap (λ (y : ℕ). Some y) i) (here st.dest.walked st.dest.node (last_of q) loc.dest child) in
-        let w : st.source.walked ≡ st.dest.walked ++ last_of q ∷ [] = front_same (k) st.source.walked (st.dest.walked ++ last_of q ∷ []) (same ∙ append_assoc (k) st.dest.walked (last_of q ∷ [])) in
-        let a : parent_of p ≡ st.source.walked = arrived_is (parent_of p) st.source.walked f.source_is arrived in
-        let d : parent_of q ≡ st.dest.walked = arrived_is (parent_of q) st.dest.walked f.dest_is at_left in
+        let w : st.source.walked ≡ st.dest.walked ++ last_of q ∷ [] = child_of_dest (last_of q) child i in
+        let a : parent_of p ≡ st.source.walked = arrived_is (parent_of p) st.source.walked (f.path Source) there.arrived in
+        let d : parent_of q ≡ st.dest.walked = arrived_is (parent_of q) st.dest.walked (f.path Dest) at_left in
         let q_is : q ≡ st.source.walked = key_is q (to_more p q fits) ∙ ap (λ (y : Key). y ++ last_of q ∷ []) d ∙ sym w in
         let p_is : p ≡ q ++ last_of p ∷ [] = key_is p (from_more p q fits) ∙ ap (λ (y : Key). y ++ last_of p ∷ []) (a ∙ sym q_is) in
         let above : has_more (after_prefix q p) ≡ true = ap has_more (ap (after_prefix q) p_is ∙ prefix_append q (last_of p ∷ [])) in
         let below : has_more (after_prefix q p) ≡ false = not_true (has_more (after_prefix q p)) (all_true (same_kind (entry_shape graph st.source.node (last_of p)) (entry_shape graph st.dest.node (last_of q))) (not (is_end (after_prefix p q))) (not (has_more (after_prefix q p))) want) in
         (let z : true ≡ false = sym above ∙ below in cc)
-    go (Replaced p q names rem way b arrived dir at_left want child off t_is) (inr (inr (inr (inl (_, i))))) = not_itself st.dest.walked st.dest.node (last_of q) loc.dest child i
-    go (Replaced p q names rem way b arrived dir at_left want child off t_is) (inr (inr (inr (inr i)))) = none_is st.victim off i

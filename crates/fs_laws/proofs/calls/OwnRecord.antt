@@ -7,13 +7,13 @@ use Rattle.fs_calls.specs.Forms.{Form, AtNode, AtEntry, AtPair}
 use Rattle.fs_calls.specs.declared.target.PairCall.TheVariants as pairs
 use Rattle.fs_nodes.specs.Graphs.{Graph, at, numbers, IsGraph}
 use Rattle.fs_machine.specs.Finishes.{Effect}
-use Rattle.fs_machine.specs.Records.{Holds, Record, Holdings}
+use Rattle.fs_machine.specs.Records.{Holds, Record, Holdings, Dest, head_on}
 use Rattle.fs_laws.specs.Invariants.{ForkedAt, HeadsSound, NumberFor, VictimAt, HasSpare, Own}
 use Rattle.fs_laws.specs.CallFacts.{Located}
 use Rattle.fs_machine.specs.Leaving.{finished_op}
 use Rattle.fs_laws.proofs.graphs.Walks.{at_from, then_some}
 use Rattle.fs_laws.proofs.graphs.Alterations.{Altered, Reached}
-use Rattle.fs_laws.proofs.helping.RenamesReadNothingBelow.{dest_held}
+use Rattle.fs_laws.proofs.calls.NodesHeld.{node_held}
 
 -- a reached number is in use
 pub reached_used : (graph : Graph) → IsGraph graph → (k : Key) (n : ℕ) → numbers graph k ≡ Some n → (s : Shape) × (graph.shape n ≡ Some s)
@@ -35,10 +35,8 @@ well_by old new k st (AtPair pairs.Rename p q) loc w = go (common (parent_of p) 
     go : (l : Key) → ForkedAt old st.node p q st l → ForkedAt new st.node p q st l
     go (x ∷ l) w = w
     go [] w = record {
-      source_at = sym (at_from new.child 0 st.node k st.source.walked loc.here) ∙ loc.source;
-      dest_at = sym (at_from new.child 0 st.node k st.dest.walked loc.here) ∙ loc.dest;
-      source_is = w.source_is;
-      dest_is = w.dest_is;
+      stands = λ side. sym (at_from new.child 0 st.node k (head_on side st).walked loc.here) ∙ loc.head side;
+      path = w.path;
     }
 
 -- what stays unreached
@@ -59,7 +57,7 @@ number_by old new linked st (AtEntry c p) reserved a differs w = λ shape e.
 victim_by : (old new : Graph) (linked : Option ℕ) (st : Holdings) (k : Key) (mine : Holdings) (remaining : Form) → Altered old new linked st → Located (numbers new) k mine → ((n : ℕ) → Holds mine n → Holds st n → ⊥) → VictimAt old remaining mine → VictimAt new remaining mine
 victim_by old new linked st k mine (AtNode c p) a loc apart w = w
 victim_by old new linked st k mine (AtEntry c p) a loc apart w = λ v e. a.child_same mine.node (last_of p) (λ h. apart mine.node (inl refl) h) ∙ w v e
-victim_by old new linked st k mine (AtPair pairs.Rename p q) a loc apart w = λ v e. (a.child_same mine.dest.node (last_of q) (λ h. apart mine.dest.node (dest_held (numbers new) k mine loc) h) ∙ (w v e).0, (w v e).1)
+victim_by old new linked st k mine (AtPair pairs.Rename p q) a loc apart w = λ v e. (a.child_same mine.dest.node (last_of q) (λ h. apart mine.dest.node (node_held Dest (numbers new) k mine loc) h) ∙ (w v e).0, (w v e).1)
 
 -- another call
 pub own_other : (old new : Graph) (linked : Option ℕ) (st : Holdings) (k : Key) (q : Record) → Altered old new linked st → Own old q

@@ -1,18 +1,20 @@
 -- The takes of a call from where it stands, each with what it asked.
-use Rattle.std.proofs.Common.{◌≡◌, ℕ, Bool, true, false, not, ◌&&◌, List, [], ◌∷◌, ◌++◌, Option, Some, None, refl, ap, ap₂, ◌∙◌}
+use Rattle.std.proofs.Common.{◌≡◌, ℕ, Bool, true, false, not, ◌&&◌, List, [], ◌∷◌, ◌++◌, Option, Some, None, refl, sym, ap, ap₂, ◌∙◌, append-nil}
 use Rattle.fs_names.specs.Keys.{Key, after_prefix, parent_of, last_of, has_more, is_end}
 use Rattle.fs_names.specs.Names.{Name}
-use Rattle.fs_names.specs.Parts.{common, left}
+use Rattle.fs_names.specs.Parts.{common, left, left_by}
 use Rattle.fs_names.specs.Shapes.{Shape, Dir, File}
 use Rattle.fs_calls.specs.Forms.{Form, AtNode, AtEntry, AtPair}
 use Rattle.fs_calls.specs.declared.target.PairCall.TheVariants as pairs
 use Rattle.fs_calls.specs.declared.target.EntryCall.{EntryCall}
 use Rattle.fs_nodes.specs.Graphs.{Graph, entry_shape}
-use Rattle.fs_machine.specs.Moves.{next_on, first_of, step_move, take_if, target, target_move, fork_move, rename_move, dir_then, victim_of, same_kind, rename_at, moved_node, took, victim_took, dest_stepped, source_stepped, source_took, target_took, took_by, inner}
+use Rattle.fs_machine.specs.Moves.{next_on, first_of, step_move, take_if, target, target_move, fork_move, rename_move, dir_then, victim_of, same_kind, rename_at, moved_node, took, victim_took, stepped, step_or, target_took, took_by, inner}
 use Rattle.fs_machine.specs.declared.moves.Move.{Move}
 use Rattle.fs_machine.specs.declared.moves.Move.TheVariants.{Take as Takes, Finish as Finishes}
-use Rattle.fs_machine.specs.Records.{Record, Holdings, holdings_at}
+use Rattle.fs_machine.specs.Records.{Record, Holdings, Side, Source, Dest, of_side, head_on, holdings_at}
+use Rattle.fs_laws.proofs.trees.Prefixes.{prefix_append}
 use Rattle.fs_laws.proofs.calls.Behind.{take_past}
+use Rattle.fs_laws.proofs.calls.NodesHeld.{Grown, grown_head, grown_victim}
 use Rattle.fs_laws.proofs.events.Take.{step_takes}
 
 -- whether a rename wants the victim
@@ -27,15 +29,54 @@ with_holdings op st = record op { holdings = Some st }
 abbrev pub walked_on : Record → Holdings → Name → ℕ → Record
 walked_on op st x n = record op { walked = op.walked ++ x ∷ []; remaining = inner op.remaining; holdings = Some (holdings_at n (Some st.node)) }
 
+-- the source head has arrived, at a directory
+pub record SourceThere (graph : Graph) (p : Key) (st : Holdings) : Type 0 where
+  pub arrived : left st.source.walked (parent_of p) ≡ []
+  pub names : List Name
+  pub dir : graph.shape st.source.node ≡ Some (Dir names)
+
+-- a head that has walked its whole path has no name left
+pub none_left : (w whole : Key) → whole ≡ w → left w whole ≡ []
+none_left w whole e = ap (left w) (e ∙ sym (append-nil w)) ∙ ap left_by (prefix_append w [])
+
+-- the destination head walks only once the source head is there
+abbrev pub HasTurn : Side → Graph → Key → Holdings → Type 0
+HasTurn Source graph p st = Unit {0}
+HasTurn Dest graph p st = SourceThere graph p st
+
+-- at the target: of the victim of an entry, of the next node of a head, of the victim of a rename
+pub data AtTarget (graph : Graph) (op : Record) (n : ℕ) (st : Holdings) : Type 0 where
+  Entry : (e : EntryCall) (p : Key) → op.remaining ≡ AtEntry e p → parent_of p ≡ [] → graph.child st.node (last_of p) ≡ Some n → st.victim ≡ None → AtTarget graph op n st
+  Of_head : (side : Side) (p q : Key) (x : Name) (l : Key) → op.remaining ≡ AtPair pairs.Rename p q → common (parent_of p) (parent_of q) ≡ [] → HasTurn side graph p st
+      → left (head_on side st).walked (parent_of (of_side side p q)) ≡ x ∷ l → graph.child (head_on side st).node x ≡ Some n → AtTarget graph op n st
+  Replaced : (p q : Key) → op.remaining ≡ AtPair pairs.Rename p q → common (parent_of p) (parent_of q) ≡ [] → SourceThere graph p st
+      → left st.dest.walked (parent_of q) ≡ [] → wants graph p q st ≡ true → graph.child st.dest.node (last_of q) ≡ Some n → st.victim ≡ None → AtTarget graph op n st
+
+-- where the call then stands
+abbrev pub stands : {graph : Graph} {op : Record} {n : ℕ} {st : Holdings} → AtTarget graph op n st → Holdings
+stands {graph} {op} {n} {st} (Entry e p rem way child off) = victim_took st n
+stands {graph} {op} {n} {st} (Of_head side p q x l rem way turn at_left child) = stepped side st x n
+stands {graph} {op} {n} {st} (Replaced p q rem way there at_left want child off) = victim_took st n
+
 pub data Take (graph : Graph) (op : Record) (n : ℕ) (st : Holdings) : Type 0 where
   Walk : (x : Name) (l : Key) → target op.remaining ≡ x ∷ l → st.behind ≡ None → graph.child st.node x ≡ Some n → took op n ≡ walked_on op st x n → Take graph op n st
-  Entry : (e : EntryCall) (p : Key) → op.remaining ≡ AtEntry e p → parent_of p ≡ [] → st.behind ≡ None → graph.child st.node (last_of p) ≡ Some n → st.victim ≡ None → took op n ≡ with_holdings op (victim_took st n) → Take graph op n st
-  Source : (p q : Key) (x : Name) (l : Key) → op.remaining ≡ AtPair pairs.Rename p q → common (parent_of p) (parent_of q) ≡ [] → st.behind ≡ None → left st.source.walked (parent_of p) ≡ x ∷ l → graph.child st.source.node x ≡ Some n
-      → took op n ≡ with_holdings op (source_stepped st x n) → Take graph op n st
-  Dest : (p q : Key) (x : Name) (l : Key) (names : List Name) → op.remaining ≡ AtPair pairs.Rename p q → common (parent_of p) (parent_of q) ≡ [] → st.behind ≡ None → left st.source.walked (parent_of p) ≡ [] → graph.shape st.source.node ≡ Some (Dir names)
-      → left st.dest.walked (parent_of q) ≡ x ∷ l → graph.child st.dest.node x ≡ Some n → took op n ≡ with_holdings op (dest_stepped st x n) → Take graph op n st
-  Replaced : (p q : Key) (names : List Name) → op.remaining ≡ AtPair pairs.Rename p q → common (parent_of p) (parent_of q) ≡ [] → st.behind ≡ None → left st.source.walked (parent_of p) ≡ [] → graph.shape st.source.node ≡ Some (Dir names)
-      → left st.dest.walked (parent_of q) ≡ [] → wants graph p q st ≡ true → graph.child st.dest.node (last_of q) ≡ Some n → st.victim ≡ None → took op n ≡ with_holdings op (victim_took st n) → Take graph op n st
+  There : (t : AtTarget graph op n st) → st.behind ≡ None → took op n ≡ with_holdings op (stands t) → Take graph op n st
+
+pub take_closed : {graph : Graph} {op : Record} {n : ℕ} {st : Holdings} → Take graph op n st → st.behind ≡ None
+take_closed (Walk x l way b child is) = b
+take_closed (There t b is) = b
+
+-- a take at the target leaves the position
+pub same_node : {graph : Graph} {op : Record} {n : ℕ} {st : Holdings} (t : AtTarget graph op n st) → (stands t).node ≡ st.node
+same_node (Entry e p rem way child off) = refl
+same_node (Of_head side p q x l rem way turn at_left child) = refl
+same_node (Replaced p q rem way there at_left want child off) = refl
+
+-- and adds its node to what is held
+pub grown : {graph : Graph} {op : Record} {n : ℕ} {st : Holdings} (t : AtTarget graph op n st) → st.behind ≡ None → Grown st (stands t) n
+grown {graph} {op} {n} {st} (Entry e p rem way child off) b = grown_victim st n off
+grown {graph} {op} {n} {st} (Of_head side p q x l rem way turn at_left child) b = grown_head side st x n b
+grown {graph} {op} {n} {st} (Replaced p q rem way there at_left want child off) b = grown_victim st n off
 
 -- a victim is taken where one is wanted, there, and not held
 victim_taken : (b : Bool) (child held m : Option ℕ) (n : ℕ) → take_if b child held (Finishes m) ≡ Takes n → (b ≡ true) × (child ≡ Some n) × (held ≡ None)
@@ -59,24 +100,28 @@ fork_takes graph op n st p q on rem way behind m = source (left st.source.walked
     rest : Move
     rest = dir_then (graph.shape st.source.node) (first_of (step_move graph st.dest.node (left st.dest.walked (parent_of q))) at_dest)
 
-    took_there : took op n ≡ with_holdings op (source_took st (left st.source.walked (parent_of p)) (left st.dest.walked (parent_of q)) n)
-    took_there = ap₂ (λ (s : Option Holdings) (k : Key). took_by op s k n) on (ap target rem ∙ way) ∙ ap (λ (g : Form). record op { holdings = Some (target_took g st n) }) rem
+    by_names : Key → Key → Holdings
+    by_names k r = step_or Source k st n (step_or Dest r st n (victim_took st n))
 
-    dest : (l : Key) → left st.source.walked (parent_of p) ≡ [] → (names : List Name) × (graph.shape st.source.node ≡ Some (Dir names)) → left st.dest.walked (parent_of q) ≡ l
-        → first_of (step_move graph st.dest.node l) (dir_then (graph.shape st.dest.node) (rename_move graph p q st)) ≡ Takes n → Take graph op n st
-    dest (x ∷ l) i d j e = Dest p q x l d.0 rem way behind i d.1 j (step_takes graph st.dest.node x l at_dest n e) (took_there ∙ ap₂ (λ (k r : Key). with_holdings op (source_took st k r n)) i j)
-    dest [] i d j e =
+    took_there : (k r : Key) → left st.source.walked (parent_of p) ≡ k → left st.dest.walked (parent_of q) ≡ r → took op n ≡ with_holdings op (by_names k r)
+    took_there k r i j =
+        ap₂ (λ (s : Option Holdings) (l : Key). took_by op s l n) on (ap target rem ∙ way)
+        ∙ ap (λ (g : Form). with_holdings op (target_took g st n)) rem
+        ∙ ap₂ (λ (a b : Key). with_holdings op (by_names a b)) i j
+
+    dest : (l : Key) → SourceThere graph p st → left st.dest.walked (parent_of q) ≡ l → first_of (step_move graph st.dest.node l) at_dest ≡ Takes n → Take graph op n st
+    dest (x ∷ l) t j e = There (Of_head Dest p q x l rem way t j (step_takes graph st.dest.node x l at_dest n e)) behind (took_there [] (x ∷ l) t.arrived j)
+    dest [] t j e =
         let v : (wants graph p q st ≡ true) × (graph.child st.dest.node (last_of q) ≡ Some n) × (st.victim ≡ None) =
         victim_taken (wants graph p q st) (graph.child st.dest.node (last_of q)) st.victim (moved_node (rename_at graph p q st).1 (graph.child st.source.node (last_of p))) n (dir_takes (graph.shape st.dest.node) (rename_move graph p q st) n e).1 in
-        Replaced p q d.0 rem way behind i d.1 j v.0 v.1 v.2 (took_there ∙ ap₂ (λ (k r : Key). with_holdings op (source_took st k r n)) i j)
+        There (Replaced p q rem way t j v.0 v.1 v.2) behind (took_there [] [] t.arrived j)
 
-    source : (l : Key) → left st.source.walked (parent_of p) ≡ l
-        → first_of (step_move graph st.source.node l) (dir_then (graph.shape st.source.node) (first_of (step_move graph st.dest.node (left st.dest.walked (parent_of q))) (dir_then (graph.shape st.dest.node) (rename_move graph p q st)))) ≡ Takes n → Take graph op n st
-    source (x ∷ l) i e = Source p q x l rem way behind i (step_takes graph st.source.node x l rest n e) (took_there ∙ ap (λ (k : Key). with_holdings op (source_took st k (left st.dest.walked (parent_of q)) n)) i)
+    source : (l : Key) → left st.source.walked (parent_of p) ≡ l → first_of (step_move graph st.source.node l) rest ≡ Takes n → Take graph op n st
+    source (x ∷ l) i e = There (Of_head Source p q x l rem way tt i (step_takes graph st.source.node x l rest n e)) behind (took_there (x ∷ l) (left st.dest.walked (parent_of q)) i refl)
     source [] i e =
         let d : ((names : List Name) × (graph.shape st.source.node ≡ Some (Dir names))) × (first_of (step_move graph st.dest.node (left st.dest.walked (parent_of q))) at_dest ≡ Takes n) =
         dir_takes (graph.shape st.source.node) (first_of (step_move graph st.dest.node (left st.dest.walked (parent_of q))) at_dest) n e in
-        dest (left st.dest.walked (parent_of q)) i d.0 refl d.1
+        dest (left st.dest.walked (parent_of q)) (record { arrived = i; names = d.0.0; dir = d.0.1 }) refl d.1
 
 -- each take of a call that holds a node is one of these
 pub takes_by : (graph : Graph) (op : Record) (n : ℕ) (st : Holdings) → op.holdings ≡ Some st → next_on graph op.remaining st ≡ Takes n → Take graph op n st
@@ -93,7 +138,7 @@ takes_by graph op n st on m = way (target op.remaining) refl past.1
     there (AtEntry e p) i w f =
         let v : (victim_of e (entry_shape graph st.node (last_of p)) ≡ true) × (graph.child st.node (last_of p) ≡ Some n) × (st.victim ≡ None) =
         victim_taken (victim_of e (entry_shape graph st.node (last_of p))) (graph.child st.node (last_of p)) st.victim None n f in
-        Entry e p i w past.0 v.1 v.2 (ap₂ (λ (s : Option Holdings) (k : Key). took_by op s k n) on (ap target i ∙ w) ∙ ap (λ (g : Form). record op { holdings = Some (target_took g st n) }) i)
+        There (Entry e p i w v.1 v.2) past.0 (ap₂ (λ (s : Option Holdings) (k : Key). took_by op s k n) on (ap target i ∙ w) ∙ ap (λ (g : Form). record op { holdings = Some (target_took g st n) }) i)
     there (AtPair pairs.Rename p q) i w f = fork_takes graph op n st p q on i w past.0 f
 
     way : (l : Key) → target op.remaining ≡ l → first_of (step_move graph st.node l) (target_move graph op.remaining st) ≡ Takes n → Take graph op n st

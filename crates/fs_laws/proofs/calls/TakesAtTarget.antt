@@ -1,102 +1,40 @@
 -- A take at the target: of a victim, or of the next node of a head.
-use Rattle.std.proofs.Common.{◌≡◌, ℕ, Bool, true, false, not, ◌&&◌, [], ◌∷◌, ◌++◌, Option, Some, None, refl, sym, ap, ap₂, ◌∙◌, append_assoc, append-nil, subst, ◌⊎◌, inl, inr}
-use Rattle.fs_names.specs.Keys.{Key, after_prefix, parent_of, last_of, has_more, is_end}
+use Rattle.std.proofs.Common.{◌≡◌, ℕ, [], ◌∷◌, ◌++◌, Some, None, refl, sym, ap, ◌∙◌, append_assoc, append-nil, subst, ◌⊎◌, inl, inr}
+use Rattle.fs_names.specs.Keys.{Key, after_prefix, parent_of, last_of}
 use Rattle.fs_names.specs.Names.{Name}
 use Rattle.fs_names.specs.Parts.{common, left, left_by}
-use Rattle.fs_names.specs.Shapes.{Shape, Dir, File}
-use Rattle.fs_calls.specs.Forms.{Form, AtNode, AtEntry, AtPair}
+use Rattle.fs_calls.specs.Forms.{Form, AtPair}
 use Rattle.fs_calls.specs.declared.target.PairCall.TheVariants as pairs
-use Rattle.fs_calls.specs.declared.target.EntryCall.{EntryCall}
-use Rattle.fs_nodes.specs.Graphs.{Graph, numbers, entry_shape, set_at}
-use Rattle.fs_machine.specs.Moves.{next_on, first_of, step_move, take_if, target, target_move, entry_move, fork_move, rename_move, dir_then, victim_of, same_kind, rename_at, moved_node, took, victim_took, dest_stepped, source_stepped, source_took, target_took, took_by}
-use Rattle.fs_machine.specs.declared.moves.Move.{Move}
-use Rattle.fs_machine.specs.declared.moves.Move.TheVariants.{Take as Takes, Finish as Finishes}
-use Rattle.fs_machine.specs.Records.{Holds, Record, Holdings}
+use Rattle.fs_nodes.specs.Graphs.{Graph, at, numbers, set_at}
+use Rattle.fs_machine.specs.Moves.{head_took, took, victim_took, stepped}
+use Rattle.fs_machine.specs.Records.{Holds, Record, Holdings, Side, Source, Dest, of_side, head_on, Head}
 use Rattle.fs_laws.specs.Invariants.{Forked, ForkedAt, HeadsSound, VictimAt, IsSingle, IsUnfinished, Own, Invariant, StepKeeps}
-use Rattle.fs_laws.specs.CallFacts.{Keeps, Located}
+use Rattle.fs_laws.specs.CallFacts.{IsFree, Keeps, Located}
 use Rattle.fs_machine.specs.States.{State, taking}
 use Rattle.fs_machine.specs.declared.answers.Stepped.TheVariants.{Took}
-use Rattle.fs_laws.proofs.calls.Behind.{take_past}
 use Rattle.fs_laws.proofs.trees.Prefixes.{prefix_append}
 use Rattle.fs_laws.proofs.graphs.Walks.{at_child, at_from}
-use Rattle.fs_laws.proofs.events.OneCallChanged.{kept_take, takes_source, takes_dest, takes_victim, Takes as Taken}
-use Rattle.fs_laws.proofs.helping.RenamesReadNothingBelow.{source_held, dest_held}
+use Rattle.fs_laws.proofs.events.OneCallChanged.{kept_take, takes_head, takes_victim, Takes as Taken}
+use Rattle.fs_laws.proofs.calls.NodesHeld.{heads_with, node_held, single_grow, one_holdings, none_some}
+use Rattle.fs_laws.proofs.calls.Takes.{AtTarget, Entry, Of_head, Replaced, Take, Walk, There, stands, grown, none_left, with_holdings, takes_by}
 use Rattle.fs_laws.proofs.events.RecordChanged.{renewed}
-use Rattle.fs_laws.proofs.calls.NodesHeld.{single_victim, single_source, single_dest}
-use Rattle.fs_laws.proofs.events.Take.{TakesFrom, From_nowhere, From_holdings, takes_from, Taker, is_free, take_keeps, take_root, take_walk, step_takes}
+use Rattle.fs_laws.proofs.events.Take.{TakesFrom, From_nowhere, From_holdings, takes_from, Taker, is_free, take_keeps, take_root, take_walk}
 
 -- the same call at a new stand
 own_holdings : (graph : Graph) (op : Record) (new : Holdings) → Own graph op → IsUnfinished op → HeadsSound graph new.node op.remaining new → VictimAt graph op.remaining new → IsSingle new → Own graph (record op { holdings = Some new })
 own_holdings graph op new o unf well victim single = record {
   parts = o.parts;
-  well = λ st e. subst (λ (s : Holdings). HeadsSound graph s.node op.remaining s) (holdings_is st e) well;
+  well = λ st e. subst (λ (s : Holdings). HeadsSound graph s.node op.remaining s) (one_holdings refl e) well;
   spare = o.spare;
   number = o.number;
   placed = λ i e. (new, refl);
-  gone = λ m e. (let z : ◌≡◌ {A = Option ℕ} None (Some m) = sym (o.intact unf) ∙ e in absurd (none_some m z));
+  gone = λ m e. none_some op.removed m (o.intact unf) e;
   intact = o.intact;
   one_spare = o.one_spare;
-  victim = λ u st e. subst (λ (s : Holdings). VictimAt graph op.remaining s) (holdings_is st e) victim;
+  victim = λ u st e. subst (λ (s : Holdings). VictimAt graph op.remaining s) (one_holdings refl e) victim;
   starts = λ u e. cc;
-  single = λ st e. subst IsSingle (holdings_is st e) single;
+  single = λ st e. subst IsSingle (one_holdings refl e) single;
 }
-  where
-    none_some : (m : ℕ) → ◌≡◌ {A = Option ℕ} None (Some m) → ⊥
-    none_some m e = cc
-
-    holdings_is : (st : Holdings) → ◌≡◌ {A = Option Holdings} (Some new) (Some st) → new ≡ st
-    holdings_is st e = cc
-
--- a take that leaves the position
-take_there : (old : State) (inv : Invariant old) (c : ℕ) (op : Record) (n : ℕ) (st new : Holdings) → Taker old inv c op n → op.holdings ≡ Some st → took op n ≡ record op { holdings = Some new } → new.node ≡ st.node
-    → Taken (numbers old.graph) (inv.key c) st (inv.key c) new n → Located (numbers old.graph) (inv.key c) new → HeadsSound old.graph new.node op.remaining new → VictimAt old.graph op.remaining new → IsSingle new
-    → Invariant (taking old c op n)
-take_there old inv c op n st new t on took_is node taken loc well victim single = subst (λ (v : Record). Invariant (renewed old c v old.graph (set_at n (Some c) old.holder))) (sym took_is)
-    (take_keeps old inv c op (record op { holdings = Some new }) n (inv.key c) t refl refl refl refl refl
-    (kept_take (numbers old.graph) old.ops inv.key c op st n (inv.key c) new (record op { holdings = Some new }) inv.kept t.is on refl refl (is_free old inv n t.free) taken
-    (let k : Keeps (numbers old.graph) (inv.key c) op st = inv.kept.each c op st t.is on in record { located = loc; walking = k.walking; fits = k.fits }))
-    (λ i e. refl)
-    (own_holdings old.graph op new (inv.own c op t.is) t.unfinished well victim single)
-    (λ s q e h. holds s q (holdings_is s e) h))
-  where
-    holdings_is : (s : Holdings) → ◌≡◌ {A = Option Holdings} (Some new) (Some s) → new ≡ s
-    holdings_is s e = cc
-
-    holds : (s : Holdings) (q : ℕ) → new ≡ s → Holds s q → (q ≡ n) ⊎ (old.holder q ≡ Some c)
-    holds s q e h = by (taken.grows q (subst (λ (y : Holdings). Holds y q) (sym e) h))
-      where
-        by : Holds st q ⊎ (q ≡ n) → (q ≡ n) ⊎ (old.holder q ≡ Some c)
-        by (inl i) = inr (inv.held c op st q t.is on i)
-        by (inr i) = inl i
-
--- a victim is taken where one is wanted, there, and not held
-victim_taken : (b : Bool) (child held m : Option ℕ) (n : ℕ) → take_if b child held (Finishes m) ≡ Takes n → (child ≡ Some n) × (held ≡ None)
-victim_taken false child held m n e = cc
-victim_taken true None held m n e = cc
-victim_taken true (Some k) (Some v) m n e = cc
-victim_taken true (Some k) None m n e = let z : k ≡ n = cc in (ap (λ (x : ℕ). Some x) z, refl)
-
-not_held : (old : State) (inv : Invariant old) (c : ℕ) (op : Record) (n : ℕ) (st : Holdings) → Taker old inv c op n → op.holdings ≡ Some st → Holds st n → ⊥
-not_held old inv c op n st t on h = is_free old inv n t.free c op st t.is on h
-
--- the victim of a call on an entry
-take_entry : (old : State) (inv : Invariant old) (c : ℕ) (op : Record) (n : ℕ) (st : Holdings) (e : EntryCall) (p : Key) → Taker old inv c op n → op.holdings ≡ Some st → op.remaining ≡ AtEntry e p → parent_of p ≡ [] → entry_move old.graph e (last_of p) st ≡ Takes n → Invariant (taking old c op n)
-take_entry old inv c op n st e p t on rem way m =
-    take_there old inv c op n st (victim_took st n) t on took_is refl
-    (takes_victim (numbers old.graph) (inv.key c) st (inv.key c) st.node (last_of p) n loc.here (inl refl) (at_child old.graph.child 0 st.node (inv.key c) (last_of p) loc.here ∙ taken.0))
-    (record { here = loc.here; source = loc.source; dest = loc.dest })
-    (subst (λ (f : Form). HeadsSound old.graph st.node f (victim_took st n)) (sym rem) tt)
-    (subst (λ (f : Form). VictimAt old.graph f (victim_took st n)) (sym rem) (λ v i. taken.0 ∙ i))
-    (single_victim st n (not_held old inv c op n st t on) ((inv.own c op t.is).single st on))
-  where
-    loc : Located (numbers old.graph) (inv.key c) st
-    loc = (inv.kept.each c op st t.is on).located
-
-    taken : (old.graph.child st.node (last_of p) ≡ Some n) × (st.victim ≡ None)
-    taken = victim_taken (victim_of e (entry_shape old.graph st.node (last_of p))) (old.graph.child st.node (last_of p)) st.victim None n m
-
-    took_is : took op n ≡ record op { holdings = Some (victim_took st n) }
-    took_is = ap₂ (λ (s : Option Holdings) (k : Key). took_by op s k n) on (ap target rem ∙ way) ∙ ap (λ (f : Form). record op { holdings = Some (target_took f st n) }) rem
 
 -- what is left behind one more name
 pub left_on : (w l whole : Key) (x : Name) → whole ≡ w ++ x ∷ l → whole ≡ (w ++ x ∷ []) ++ left (w ++ x ∷ []) whole
@@ -108,160 +46,101 @@ left_on w l whole x e =
 pub forked_of : (graph : Graph) (n : ℕ) (p q : Key) (st : Holdings) (remaining : Form) → remaining ≡ AtPair pairs.Rename p q → common (parent_of p) (parent_of q) ≡ [] → HeadsSound graph n remaining st → Forked graph n p q st
 forked_of graph n p q st remaining rem way well = subst (ForkedAt graph n p q st) way (subst (λ (f : Form). HeadsSound graph n f st) rem well)
 
-pub well_of : (graph : Graph) (n : ℕ) (p q : Key) (st : Holdings) (remaining : Form) → remaining ≡ AtPair pairs.Rename p q → common (parent_of p) (parent_of q) ≡ [] → Forked graph n p q st → HeadsSound graph n remaining st
+well_of : (graph : Graph) (n : ℕ) (p q : Key) (st : Holdings) (remaining : Form) → remaining ≡ AtPair pairs.Rename p q → common (parent_of p) (parent_of q) ≡ [] → Forked graph n p q st → HeadsSound graph n remaining st
 well_of graph n p q st remaining rem way f = subst (λ (g : Form). HeadsSound graph n g st) (sym rem) (subst (ForkedAt graph n p q st) (sym way) f)
 
--- the next node of the source head
-take_source : (old : State) (inv : Invariant old) (c : ℕ) (op : Record) (n : ℕ) (st : Holdings) (p q : Key) (x : Name) (l : Key) → Taker old inv c op n → op.holdings ≡ Some st → op.remaining ≡ AtPair pairs.Rename p q → common (parent_of p) (parent_of q) ≡ []
-    → left st.source.walked (parent_of p) ≡ x ∷ l → old.graph.child st.source.node x ≡ Some n → Invariant (taking old c op n)
-take_source old inv c op n st p q x l t on rem way left_is child =
-    take_there old inv c op n st (source_stepped st x n) t on took_is refl
-    (takes_source (numbers old.graph) (inv.key c) st x n loc.source held at_n)
-    new_loc
-    (well_of old.graph st.node p q (source_stepped st x n) op.remaining rem way (record {
-      source_at = sym (at_from old.graph.child 0 st.node (inv.key c) (st.source.walked ++ x ∷ []) loc.here) ∙ new_loc.source;
-      dest_at = f.dest_at;
-      source_is = left_on st.source.walked l (parent_of p) x (f.source_is ∙ ap (λ (k : Key). st.source.walked ++ k) left_is);
-      dest_is = f.dest_is;
-    }))
-    (subst (λ (g : Form). VictimAt old.graph g (source_stepped st x n)) (sym rem) (subst (λ (g : Form). VictimAt old.graph g st) rem (own.victim t.unfinished st on)))
-    (single_source st x n (not_held old inv c op n st t on) (own.single st on))
+-- what a call keeps where it stands after a take at its target
+pub record KeptThere (graph : Graph) (k : Key) (op : Record) (n : ℕ) (st new : Holdings) : Type 0 where
+  pub taken : Taken (numbers graph) k st k new n
+  pub located : Located (numbers graph) k new
+  pub well : HeadsSound graph new.node op.remaining new
+  pub victim : VictimAt graph op.remaining new
+
+-- the next node of a head
+head_there : (side : Side) (graph : Graph) (k : Key) (op : Record) (n : ℕ) (st : Holdings) (p q : Key) (x : Name) (l : Key) → Located (numbers graph) k st → HeadsSound graph st.node op.remaining st → VictimAt graph op.remaining st → st.behind ≡ None
+    → op.remaining ≡ AtPair pairs.Rename p q → common (parent_of p) (parent_of q) ≡ [] → left (head_on side st).walked (parent_of (of_side side p q)) ≡ x ∷ l → graph.child (head_on side st).node x ≡ Some n
+    → KeptThere graph k op n st (stepped side st x n)
+head_there side graph k op n st p q x l loc well victim b rem way at_left child = record {
+  taken = takes_head side (numbers graph) k st x n b (loc.head side) (node_held side (numbers graph) k st loc) at_n;
+  located = record { here = loc.here; head = heads_with (λ (at : Side) (h : Head). numbers graph (k ++ h.walked) ≡ Some h.node) side (head_took (head_on side st) x n) st at_longer loc.head };
+  well = well_of graph st.node p q (stepped side st x n) op.remaining rem way (record {
+    stands = heads_with (λ (side : Side) (h : Head). at graph.child st.node h.walked ≡ Some h.node) side (head_took (head_on side st) x n) st (sym (at_from graph.child 0 st.node k (walked ++ x ∷ []) loc.here) ∙ at_longer) f.stands;
+    path = heads_with (λ (side : Side) (h : Head). parent_of (of_side side p q) ≡ h.walked ++ left h.walked (parent_of (of_side side p q))) side (head_took (head_on side st) x n) st (left_on walked l (parent_of (of_side side p q)) x (f.path side ∙ ap (λ (y : Key). walked ++ y) at_left)) f.path;
+  });
+  victim = subst (λ (g : Form). VictimAt graph g (stepped side st x n)) (sym rem) (kept side at_left);
+}
   where
-    own : Own old.graph op
-    own = inv.own c op t.is
+    walked : Key
+    walked = (head_on side st).walked
 
-    loc : Located (numbers old.graph) (inv.key c) st
-    loc = (inv.kept.each c op st t.is on).located
+    f : Forked graph st.node p q st
+    f = forked_of graph st.node p q st op.remaining rem way well
 
-    f : Forked old.graph st.node p q st
-    f = forked_of old.graph st.node p q st op.remaining rem way (own.well st on)
+    at_n : numbers graph ((k ++ walked) ++ x ∷ []) ≡ Some n
+    at_n = at_child graph.child 0 (head_on side st).node (k ++ walked) x (loc.head side) ∙ child
 
-    held : Holds st st.source.node
-    held = source_held (numbers old.graph) (inv.key c) st loc
+    at_longer : numbers graph (k ++ (walked ++ x ∷ [])) ≡ Some n
+    at_longer = ap (numbers graph) (sym (append_assoc k walked (x ∷ []))) ∙ at_n
 
-    at_n : numbers old.graph ((inv.key c ++ st.source.walked) ++ x ∷ []) ≡ Some n
-    at_n = at_child old.graph.child 0 st.source.node (inv.key c ++ st.source.walked) x loc.source ∙ child
-
-    new_loc : Located (numbers old.graph) (inv.key c) (source_stepped st x n)
-    new_loc = record { here = loc.here; source = ap (numbers old.graph) (sym (append_assoc (inv.key c) st.source.walked (x ∷ []))) ∙ at_n; dest = loc.dest }
-
-    took_is : took op n ≡ record op { holdings = Some (source_stepped st x n) }
-    took_is =
-        ap₂ (λ (s : Option Holdings) (k : Key). took_by op s k n) on (ap target rem ∙ way)
-        ∙ ap (λ (g : Form). record op { holdings = Some (target_took g st n) }) rem
-        ∙ ap (λ (k : Key). record op { holdings = Some (source_took st k (left st.dest.walked (parent_of q)) n) }) left_is
-
--- the next node of the destination head
-take_dest : (old : State) (inv : Invariant old) (c : ℕ) (op : Record) (n : ℕ) (st : Holdings) (p q : Key) (x : Name) (l : Key) → Taker old inv c op n → op.holdings ≡ Some st → op.remaining ≡ AtPair pairs.Rename p q → common (parent_of p) (parent_of q) ≡ []
-    → left st.source.walked (parent_of p) ≡ [] → left st.dest.walked (parent_of q) ≡ x ∷ l → old.graph.child st.dest.node x ≡ Some n → Invariant (taking old c op n)
-take_dest old inv c op n st p q x l t on rem way source_none left_is child =
-    take_there old inv c op n st (dest_stepped st x n) t on took_is refl
-    (takes_dest (numbers old.graph) (inv.key c) st x n loc.dest held at_n)
-    new_loc
-    (well_of old.graph st.node p q (dest_stepped st x n) op.remaining rem way (record {
-      source_at = f.source_at;
-      dest_at = sym (at_from old.graph.child 0 st.node (inv.key c) (st.dest.walked ++ x ∷ []) loc.here) ∙ new_loc.dest;
-      source_is = f.source_is;
-      dest_is = left_on st.dest.walked l (parent_of q) x (f.dest_is ∙ ap (λ (k : Key). st.dest.walked ++ k) left_is);
-    }))
-    (subst (λ (g : Form). VictimAt old.graph g (dest_stepped st x n)) (sym rem) (λ v e. absurd (none_yet v e)))
-    (single_dest st x n (not_held old inv c op n st t on) (own.single st on))
-  where
-    own : Own old.graph op
-    own = inv.own c op t.is
-
-    loc : Located (numbers old.graph) (inv.key c) st
-    loc = (inv.kept.each c op st t.is on).located
-
-    f : Forked old.graph st.node p q st
-    f = forked_of old.graph st.node p q st op.remaining rem way (own.well st on)
-
-    held : Holds st st.dest.node
-    held = dest_held (numbers old.graph) (inv.key c) st loc
-
-    vic : VictimAt old.graph (AtPair pairs.Rename p q) st
-    vic = subst (λ (g : Form). VictimAt old.graph g st) rem (own.victim t.unfinished st on)
+    vic : VictimAt graph (AtPair pairs.Rename p q) st
+    vic = subst (λ (g : Form). VictimAt graph g st) rem victim
 
     -- a victim is held only once the destination head has arrived
-    none_yet : (v : ℕ) → st.victim ≡ Some v → ⊥
-    none_yet v e =
-        let i : left st.dest.walked (parent_of q) ≡ [] = ap (left st.dest.walked) ((vic v e).1 ∙ sym (append-nil st.dest.walked)) ∙ ap left_by (prefix_append st.dest.walked []) in
-        let z : ◌≡◌ {A = Key} [] (x ∷ l) = sym i ∙ left_is in cc
+    none_yet : (v : ℕ) → st.victim ≡ Some v → left st.dest.walked (parent_of q) ≡ x ∷ l → ⊥
+    none_yet v e left_is = let z : ◌≡◌ {A = Key} [] (x ∷ l) = sym (none_left st.dest.walked (parent_of q) (vic v e).1) ∙ left_is in cc
 
-    at_n : numbers old.graph ((inv.key c ++ st.dest.walked) ++ x ∷ []) ≡ Some n
-    at_n = at_child old.graph.child 0 st.dest.node (inv.key c ++ st.dest.walked) x loc.dest ∙ child
+    kept : (side : Side) → left (head_on side st).walked (parent_of (of_side side p q)) ≡ x ∷ l → VictimAt graph (AtPair pairs.Rename p q) (stepped side st x n)
+    kept Source e = vic
+    kept Dest e = λ v i. absurd (none_yet v i e)
 
-    new_loc : Located (numbers old.graph) (inv.key c) (dest_stepped st x n)
-    new_loc = record { here = loc.here; dest = ap (numbers old.graph) (sym (append_assoc (inv.key c) st.dest.walked (x ∷ []))) ∙ at_n; source = loc.source }
-
-    took_is : took op n ≡ record op { holdings = Some (dest_stepped st x n) }
-    took_is =
-        ap₂ (λ (s : Option Holdings) (k : Key). took_by op s k n) on (ap target rem ∙ way)
-        ∙ ap (λ (g : Form). record op { holdings = Some (target_took g st n) }) rem
-        ∙ ap₂ (λ (k j : Key). record op { holdings = Some (source_took st k j n) }) source_none left_is
-
--- the victim of a rename
-take_replaced : (old : State) (inv : Invariant old) (c : ℕ) (op : Record) (n : ℕ) (st : Holdings) (p q : Key) → Taker old inv c op n → op.holdings ≡ Some st → op.remaining ≡ AtPair pairs.Rename p q → common (parent_of p) (parent_of q) ≡ []
-    → left st.source.walked (parent_of p) ≡ [] → left st.dest.walked (parent_of q) ≡ [] → rename_move old.graph p q st ≡ Takes n → Invariant (taking old c op n)
-take_replaced old inv c op n st p q t on rem way source_none dest_none m =
-    take_there old inv c op n st (victim_took st n) t on took_is refl
-    (takes_victim (numbers old.graph) (inv.key c) st (inv.key c ++ st.dest.walked) st.dest.node (last_of q) n loc.dest (dest_held (numbers old.graph) (inv.key c) st loc) (at_child old.graph.child 0 st.dest.node (inv.key c ++ st.dest.walked) (last_of q) loc.dest ∙ taken.0))
-    (record { here = loc.here; source = loc.source; dest = loc.dest })
-    (well_of old.graph st.node p q (victim_took st n) op.remaining rem way (record { source_at = f.source_at; dest_at = f.dest_at; source_is = f.source_is; dest_is = f.dest_is }))
-    (subst (λ (g : Form). VictimAt old.graph g (victim_took st n)) (sym rem) (λ v i. (taken.0 ∙ i, f.dest_is ∙ ap (λ (k : Key). st.dest.walked ++ k) dest_none ∙ append-nil st.dest.walked)))
-    (single_victim st n (not_held old inv c op n st t on) (own.single st on))
+pub kept_there : (graph : Graph) (k : Key) (op : Record) (n : ℕ) (st : Holdings) → Located (numbers graph) k st → HeadsSound graph st.node op.remaining st → VictimAt graph op.remaining st → st.behind ≡ None → (t : AtTarget graph op n st) → KeptThere graph k op n st (stands t)
+kept_there graph k op n st loc well victim b (Of_head side p q x l rem way turn at_left child) = head_there side graph k op n st p q x l loc well victim b rem way at_left child
+kept_there graph k op n st loc well victim b (Entry e p rem way child off) = record {
+  taken = takes_victim (numbers graph) k st k st.node (last_of p) n off loc.here (inl refl) (at_child graph.child 0 st.node k (last_of p) loc.here ∙ child);
+  located = record { here = loc.here; head = loc.head };
+  well = subst (λ (f : Form). HeadsSound graph st.node f (victim_took st n)) (sym rem) tt;
+  victim = subst (λ (f : Form). VictimAt graph f (victim_took st n)) (sym rem) (λ v i. child ∙ i);
+}
+kept_there graph k op n st loc well victim b (Replaced p q rem way there at_left want child off) = record {
+  taken = takes_victim (numbers graph) k st (k ++ st.dest.walked) st.dest.node (last_of q) n off (loc.head Dest) (node_held Dest (numbers graph) k st loc) (at_child graph.child 0 st.dest.node (k ++ st.dest.walked) (last_of q) (loc.head Dest) ∙ child);
+  located = record { here = loc.here; head = loc.head };
+  well = well_of graph st.node p q (victim_took st n) op.remaining rem way (record { stands = f.stands; path = f.path });
+  victim = subst (λ (g : Form). VictimAt graph g (victim_took st n)) (sym rem) (λ v i. (child ∙ i, f.path Dest ∙ ap (λ (y : Key). st.dest.walked ++ y) at_left ∙ append-nil st.dest.walked));
+}
   where
+    f : Forked graph st.node p q st
+    f = forked_of graph st.node p q st op.remaining rem way well
+
+-- a take that leaves the position
+take_there : (old : State) (inv : Invariant old) (c : ℕ) (op : Record) (n : ℕ) (st : Holdings) → Taker old inv c op n → op.holdings ≡ Some st → (t : AtTarget old.graph op n st) → st.behind ≡ None → took op n ≡ with_holdings op (stands t) → Invariant (taking old c op n)
+take_there old inv c op n st t on at_target b took_is = subst (λ (v : Record). Invariant (renewed old c v old.graph (set_at n (Some c) old.holder))) (sym took_is)
+    (take_keeps old inv c op (with_holdings op new) n (inv.key c) t refl refl refl refl refl
+    (kept_take (numbers old.graph) old.ops inv.key c op st n (inv.key c) new (with_holdings op new) inv.kept t.is on refl refl free there.taken (record { located = there.located; walking = keeps.walking; fits = keeps.fits }))
+    (λ i e. refl)
+    (own_holdings old.graph op new own t.unfinished there.well there.victim (single_grow (grown at_target b) (free c op st t.is on) (own.single st on)))
+    (λ s q e h. holds s q (one_holdings refl e) h))
+  where
+    new : Holdings
+    new = stands at_target
+
     own : Own old.graph op
     own = inv.own c op t.is
 
-    loc : Located (numbers old.graph) (inv.key c) st
-    loc = (inv.kept.each c op st t.is on).located
+    keeps : Keeps (numbers old.graph) (inv.key c) op st
+    keeps = inv.kept.each c op st t.is on
 
-    f : Forked old.graph st.node p q st
-    f = forked_of old.graph st.node p q st op.remaining rem way (own.well st on)
+    free : IsFree old.ops n
+    free = is_free old inv n t.free
 
-    taken : (old.graph.child st.dest.node (last_of q) ≡ Some n) × (st.victim ≡ None)
-    taken = victim_taken (same_kind (entry_shape old.graph st.source.node (last_of p)) (entry_shape old.graph st.dest.node (last_of q)) && not (is_end (after_prefix p q)) && not (has_more (after_prefix q p))) (old.graph.child st.dest.node (last_of q)) st.victim (moved_node (rename_at old.graph p q st).1 (old.graph.child st.source.node (last_of p))) n m
+    there : KeptThere old.graph (inv.key c) op n st new
+    there = kept_there old.graph (inv.key c) op n st keeps.located (own.well st on) (own.victim t.unfinished st on) b at_target
 
-    took_is : took op n ≡ record op { holdings = Some (victim_took st n) }
-    took_is =
-        ap₂ (λ (s : Option Holdings) (k : Key). took_by op s k n) on (ap target rem ∙ way)
-        ∙ ap (λ (g : Form). record op { holdings = Some (target_took g st n) }) rem
-        ∙ ap₂ (λ (k j : Key). record op { holdings = Some (source_took st k j n) }) source_none dest_none
-
-dir_takes : (t : Option Shape) (m : Move) (n : ℕ) → dir_then t m ≡ Takes n → m ≡ Takes n
-dir_takes None m n e = cc
-dir_takes (Some (Dir names)) m n e = e
-dir_takes (Some (File bytes)) m n e = cc
-
--- at the common directory
-take_fork : (old : State) (inv : Invariant old) (c : ℕ) (op : Record) (n : ℕ) (st : Holdings) (p q : Key) → Taker old inv c op n → op.holdings ≡ Some st → op.remaining ≡ AtPair pairs.Rename p q → common (parent_of p) (parent_of q) ≡ [] → fork_move old.graph p q st ≡ Takes n → Invariant (taking old c op n)
-take_fork old inv c op n st p q t on rem way m = source (left st.source.walked (parent_of p)) refl (dir_takes (old.graph.shape st.node) (first_of (step_move old.graph st.source.node (left st.source.walked (parent_of p))) (dir_then (old.graph.shape st.source.node) (first_of (step_move old.graph st.dest.node (left st.dest.walked (parent_of q))) (dir_then (old.graph.shape st.dest.node) (rename_move old.graph p q st))))) n m)
-  where
-    dest : (l : Key) → left st.source.walked (parent_of p) ≡ [] → left st.dest.walked (parent_of q) ≡ l → first_of (step_move old.graph st.dest.node l) (dir_then (old.graph.shape st.dest.node) (rename_move old.graph p q st)) ≡ Takes n → Invariant (taking old c op n)
-    dest (x ∷ l) i j e = take_dest old inv c op n st p q x l t on rem way i j (step_takes old.graph st.dest.node x l (dir_then (old.graph.shape st.dest.node) (rename_move old.graph p q st)) n e)
-    dest [] i j e = take_replaced old inv c op n st p q t on rem way i j (dir_takes (old.graph.shape st.dest.node) (rename_move old.graph p q st) n e)
-
-    source : (l : Key) → left st.source.walked (parent_of p) ≡ l → first_of (step_move old.graph st.source.node l) (dir_then (old.graph.shape st.source.node) (first_of (step_move old.graph st.dest.node (left st.dest.walked (parent_of q))) (dir_then (old.graph.shape st.dest.node) (rename_move old.graph p q st)))) ≡ Takes n → Invariant (taking old c op n)
-    source (x ∷ l) i e = take_source old inv c op n st p q x l t on rem way i (step_takes old.graph st.source.node x l (dir_then (old.graph.shape st.source.node) (first_of (step_move old.graph st.dest.node (left st.dest.walked (parent_of q))) (dir_then (old.graph.shape st.dest.node) (rename_move old.graph p q st)))) n e)
-    source [] i e =
-        dest (left st.dest.walked (parent_of q)) i refl (dir_takes (old.graph.shape st.source.node) (first_of (step_move old.graph st.dest.node (left st.dest.walked (parent_of q))) (dir_then (old.graph.shape st.dest.node) (rename_move old.graph p q st))) n e)
-
--- from where the call stands
-take_from : (old : State) (inv : Invariant old) (c : ℕ) (op : Record) (n : ℕ) (st : Holdings) → Taker old inv c op n → op.holdings ≡ Some st → next_on old.graph op.remaining st ≡ Takes n → Invariant (taking old c op n)
-take_from old inv c op n st t on m = way (target op.remaining) refl (take_past st.behind (first_of (step_move old.graph st.node (target op.remaining)) (target_move old.graph op.remaining st)) n m).1
-  where
-    there : (rem : Form) → op.remaining ≡ rem → target rem ≡ [] → target_move old.graph rem st ≡ Takes n → Invariant (taking old c op n)
-    there (AtNode e p) i w f = absurd (no_take f)
+    holds : (s : Holdings) (q : ℕ) → new ≡ s → Holds s q → (q ≡ n) ⊎ (old.holder q ≡ Some c)
+    holds s q e h = by (there.taken.grows q (subst (λ (y : Holdings). Holds y q) (sym e) h))
       where
-        no_take : Finishes None ≡ Takes n → ⊥
-        no_take e = cc
-    there (AtEntry e p) i w f = take_entry old inv c op n st e p t on i w f
-    there (AtPair pairs.Rename p q) i w f = take_fork old inv c op n st p q t on i w f
-
-    way : (l : Key) → target op.remaining ≡ l → first_of (step_move old.graph st.node l) (target_move old.graph op.remaining st) ≡ Takes n → Invariant (taking old c op n)
-    way (x ∷ l) i e = take_walk old inv c op n st x l t on i (step_takes old.graph st.node x l (target_move old.graph op.remaining st) n e)
-    way [] i e = there op.remaining refl i e
+        by : Holds st q ⊎ (q ≡ n) → (q ≡ n) ⊎ (old.holder q ≡ Some c)
+        by (inl i) = inr (inv.held c op st q t.is on i)
+        by (inr i) = inl i
 
 pub keeps_took : (n : ℕ) → StepKeeps (Took n)
 keeps_took n old new seat inv (c, op, moves, free, same) = subst Invariant (sym same) (go w.0)
@@ -272,6 +151,10 @@ keeps_took n old new seat inv (c, op, moves, free, same) = subst Invariant (sym 
     t : Taker old inv c op n
     t = record { is = moves.1; unfinished = (takes_from old.graph op n moves.2).1; free = free }
 
+    from : (st : Holdings) → op.holdings ≡ Some st → Take old.graph op n st → Invariant (taking old c op n)
+    from st on (Walk x l way b child is) = take_walk old inv c op n st x l t on way child
+    from st on (There at_target b is) = take_there old inv c op n st t on at_target b is
+
     go : TakesFrom old.graph op n → Invariant (taking old c op n)
     go (From_nowhere text off z) = take_root old inv c op n t text off z
-    go (From_holdings st on m) = take_from old inv c op n st t on m
+    go (From_holdings st on m) = from st on (takes_by old.graph op n st on m)

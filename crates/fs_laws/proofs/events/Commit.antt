@@ -106,7 +106,7 @@ facts graph ops key c op st o f = record {
         let u : (s : Shape) × (graph.shape p.holdings.node ≡ Some s) = reached_used graph f.is_graph (key d) p.holdings.node l.located.here in
         let mine : Pair (numbers graph) (key c) st op.phase (key d) p.holdings p.op.phase = f.kept.pairs c d op p.op st p.holdings differs f.is p.is f.on p.on in
         let its : Pair (numbers graph) (key d) p.holdings p.op.phase (key c) st op.phase = f.kept.pairs d c p.op op p.holdings st (λ e. differs (sym e)) p.is f.is p.on f.on in
-        let front : Front graph (key c) st (key d) p.holdings = record { there = l.located.here; off = its.after (subst (λ (z : Phase). IsAfter z op.phase) (sym p.phase) later); apart = its.apart; source = mine.source; dest = mine.dest } in
+        let front : Front graph (key c) st (key d) p.holdings = record { there = l.located.here; off = its.after (subst (λ (z : Phase). IsAfter z op.phase) (sym p.phase) later); apart = its.apart; clear = mine.clear } in
         let off : Off graph (key c) op.remaining (key d) = off_of graph f.is_graph (key c) op.remaining st o (key d) p.holdings in_use.0 u.0 k.located in_use.1 u.1 k.fits f.well f.victim f.next front in
         (off.blind, off.clear)
 

@@ -15,8 +15,8 @@ use Rattle.fs_machine.specs.Leaving.{is_removed, releasing, cleared}
 use Rattle.fs_machine.specs.Moves.{next, next_by, next_on, first_of, step_move, walk_move, take_if, target, target_move, victim_of, same_kind, rename_move, rename_at, moved_node, dir_then, last_held, first_walked, left_heads, left_last, left_holdings}
 use Rattle.fs_machine.specs.declared.moves.Move.{Move}
 use Rattle.fs_machine.specs.declared.moves.Move.TheVariants.{LetGo as Leaves, Finish as Finishes}
-use Rattle.fs_machine.specs.Records.{Phase, Walking, Placed, Finished, Holds, Record, Holdings, head_at}
-use Rattle.fs_laws.specs.Invariants.{ForkedAt, HeadsSound, VictimAt, HasSpare, IsSingle, IsUnfinished, Own, Invariant, StepKeeps, Slot, At_node, At_behind, At_source, At_dest, At_victim, if_walked, in_slot}
+use Rattle.fs_machine.specs.Records.{Head, Phase, Walking, Placed, Finished, Holds, Record, Holdings, Side, Source, Dest, of_side, head_on, with_head, head_at}
+use Rattle.fs_laws.specs.Invariants.{ForkedAt, HeadsSound, VictimAt, HasSpare, IsSingle, IsUnfinished, Own, Invariant, StepKeeps, Slot, At_node, At_behind, At_head, At_victim, if_walked, in_slot}
 use Rattle.fs_laws.specs.CallFacts.{CallFacts, Shrinks}
 use Rattle.fs_machine.specs.States.{State, letting_go}
 use Rattle.fs_machine.specs.declared.answers.Stepped.TheVariants.{LetGo}
@@ -27,77 +27,118 @@ use Rattle.fs_laws.proofs.events.OtherChanges.{kept_none}
 use Rattle.fs_laws.proofs.events.Help.{upd_else}
 use Rattle.fs_laws.proofs.events.JustFinished.{Either, Changed, Old}
 use Rattle.fs_laws.proofs.events.RecordChanged.{renewed, renews_keep}
-use Rattle.fs_laws.proofs.calls.NodesHeld.{slot_holds, holds_slot}
+use Rattle.fs_laws.proofs.calls.NodesHeld.{heads_with, new_head, slot_holds, holds_slot, one_holdings, none_some}
 use Rattle.fs_laws.proofs.graphs.Release.{own_children, numbers_children, release_else, shapes_released, graph_released}
 
--- holdings that let the node n go from a slot
+-- holdings that let the node n go from a slot: all others stay
 pub record Lets (st new : Holdings) (n : ℕ) : Type 0 where
   pub gone : Slot
   pub was : in_slot st gone ≡ Some n
-  pub stays : (a : Slot) (q : ℕ) → in_slot new a ≡ Some q → (in_slot st a ≡ Some q) × (a ≡ gone → ⊥)
+  pub empty : in_slot new gone ≡ None
+  pub same : (a : Slot) → (a ≡ gone) ⊎ (in_slot new a ≡ in_slot st a)
   pub node : new.node ≡ st.node
-  pub source : ((new.source.walked ≡ st.source.walked) × (new.source.node ≡ st.source.node)) ⊎ ((new.source.walked ≡ []) × (new.source.node ≡ st.node))
-  pub dest : ((new.dest.walked ≡ st.dest.walked) × (new.dest.node ≡ st.dest.node)) ⊎ ((new.dest.walked ≡ []) × (new.dest.node ≡ st.node))
+  pub head : (side : Side) → (head_on side new ≡ head_on side st) ⊎ (head_on side new ≡ head_at st.node)
+
+-- what a slot still has it had before, and it is not the one let go
+still : (st new : Holdings) (n : ℕ) (l : Lets st new n) (a : Slot) (q : ℕ) → in_slot new a ≡ Some q → (in_slot st a ≡ Some q) × (a ≡ l.gone → ⊥)
+still st new n l a q e = (by (l.same a), other)
+  where
+    other : a ≡ l.gone → ⊥
+    other i = let z : ◌≡◌ {A = Option ℕ} None (Some q) = sym l.empty ∙ ap (in_slot new) (sym i) ∙ e in cc
+
+    by : (a ≡ l.gone) ⊎ (in_slot new a ≡ in_slot st a) → in_slot st a ≡ Some q
+    by (inl i) = absurd (other i)
+    by (inr i) = sym i ∙ e
 
 shrinks_of : (st new : Holdings) (n : ℕ) → Lets st new n → Shrinks st new
 shrinks_of st new n l = record {
   node = l.node;
-  holds = λ q h. (let a : (a : Slot) × (in_slot new a ≡ Some q) = holds_slot new q h in slot_holds st a.0 q (l.stays a.0 q a.1).0);
-  source = l.source;
-  dest = l.dest;
+  holds = λ q h. (let a : (a : Slot) × (in_slot new a ≡ Some q) = holds_slot new q h in slot_holds st a.0 q (still st new n l a.0 q a.1).0);
+  head = l.head;
 }
 
 pub single_of : (st new : Holdings) (n : ℕ) → Lets st new n → IsSingle st → IsSingle new
-single_of st new n l s a b q e f = s a b q (l.stays a q e).0 (l.stays b q f).0
+single_of st new n l s a b q e f = s a b q (still st new n l a q e).0 (still st new n l b q f).0
 
 -- what it still holds is another node
 other_of : (st new : Holdings) (n q : ℕ) → Lets st new n → IsSingle st → Holds new q → q ≡ n → ⊥
 other_of st new n q l s h e =
     let a : (a : Slot) × (in_slot new a ≡ Some q) = holds_slot new q h in
-    let w : (in_slot st a.0 ≡ Some q) × (a.0 ≡ l.gone → ⊥) = l.stays a.0 q a.1 in
+    let w : (in_slot st a.0 ≡ Some q) × (a.0 ≡ l.gone → ⊥) = still st new n l a.0 q a.1 in
     w.1 (s a.0 l.gone n (w.0 ∙ ap (λ (x : ℕ). Some x) e) l.was)
+
+-- each other node that it held
+pub still_holds : (st new : Holdings) (n m : ℕ) → Lets st new n → (m ≡ n → ⊥) → Holds st m → Holds new m
+still_holds st new n m l d h = go (holds_slot st m h)
+  where
+    go : (a : Slot) × (in_slot st a ≡ Some m) → Holds new m
+    go (a, e) = by (l.same a)
+      where
+        by : (a ≡ l.gone) ⊎ (in_slot new a ≡ in_slot st a) → Holds new m
+        by (inl i) = let z : ◌≡◌ {A = Option ℕ} (Some m) (Some n) = sym e ∙ ap (in_slot st) i ∙ l.was in absurd (d cc)
+        by (inr i) = slot_holds new a m (i ∙ e)
 
 -- what is behind
 pub lets_behind : (st : Holdings) (n : ℕ) → st.behind ≡ Some n → Lets st (record st { behind = None }) n
-lets_behind st n e = record { gone = At_behind; was = e; stays = stays; node = refl; source = inl (refl, refl); dest = inl (refl, refl) }
+lets_behind st n e = record { gone = At_behind; was = e; empty = refl; same = same; node = refl; head = λ side. inl refl }
   where
-    stays : (a : Slot) (q : ℕ) → in_slot (record st { behind = None }) a ≡ Some q → (in_slot st a ≡ Some q) × (a ≡ At_behind → ⊥)
-    stays At_node q f = (f, λ i. cc)
-    stays At_behind q f = cc
-    stays At_source q f = (f, λ i. cc)
-    stays At_dest q f = (f, λ i. cc)
-    stays At_victim q f = (f, λ i. cc)
+    same : (a : Slot) → (a ≡ At_behind) ⊎ (in_slot (record st { behind = None }) a ≡ in_slot st a)
+    same At_behind = inl refl
+    same At_node = inr refl
+    same (At_head side) = inr refl
+    same At_victim = inr refl
 
 -- the last taken of a finished call
 lets_victim : (st : Holdings) (n : ℕ) → st.victim ≡ Some n → Lets st (record st { victim = None }) n
-lets_victim st n e = record { gone = At_victim; was = e; stays = stays; node = refl; source = inl (refl, refl); dest = inl (refl, refl) }
+lets_victim st n e = record { gone = At_victim; was = e; empty = refl; same = same; node = refl; head = λ side. inl refl }
   where
-    stays : (a : Slot) (q : ℕ) → in_slot (record st { victim = None }) a ≡ Some q → (in_slot st a ≡ Some q) × (a ≡ At_victim → ⊥)
-    stays At_node q f = (f, λ i. cc)
-    stays At_behind q f = (f, λ i. cc)
-    stays At_source q f = (f, λ i. cc)
-    stays At_dest q f = (f, λ i. cc)
-    stays At_victim q f = cc
+    same : (a : Slot) → (a ≡ At_victim) ⊎ (in_slot (record st { victim = None }) a ≡ in_slot st a)
+    same At_victim = inl refl
+    same At_node = inr refl
+    same At_behind = inr refl
+    same (At_head side) = inr refl
 
-lets_dest : (st : Holdings) (n : ℕ) (x : Name) (w : Key) → st.dest.walked ≡ x ∷ w → st.dest.node ≡ n → Lets st (record st { dest = head_at st.node }) n
-lets_dest st n x w walked e = record { gone = At_dest; was = ap (λ (l : Key). if_walked l (Some st.dest.node)) walked ∙ ap (λ (m : ℕ). Some m) e; stays = stays; node = refl; source = inl (refl, refl); dest = inr (refl, refl) }
+lets_head : (side : Side) (st : Holdings) (n : ℕ) (x : Name) (w : Key) → (head_on side st).walked ≡ x ∷ w → (head_on side st).node ≡ n → Lets st (with_head side (head_at st.node) st) n
+lets_head side st n x w walked e = record {
+  gone = At_head side;
+  was = ap (λ (l : Key). if_walked l (Some (head_on side st).node)) walked ∙ ap (λ (m : ℕ). Some m) e;
+  empty = ap (λ (h : Head). if_walked h.walked (Some h.node)) (new_head side (head_at st.node) st);
+  same = same;
+  node = refl;
+  head = head (λ (at : Side) (h : Head). (h ≡ head_on at st) ⊎ (h ≡ head_at st.node)) (inr refl) (λ at. inl refl);
+}
   where
-    stays : (a : Slot) (q : ℕ) → in_slot (record st { dest = head_at st.node }) a ≡ Some q → (in_slot st a ≡ Some q) × (a ≡ At_dest → ⊥)
-    stays At_node q f = (f, λ i. cc)
-    stays At_behind q f = (f, λ i. cc)
-    stays At_source q f = (f, λ i. cc)
-    stays At_dest q f = cc
-    stays At_victim q f = (f, λ i. cc)
+    head : (P : Side → Head → Type 0) → P side (head_at st.node) → ((at : Side) → P at (head_on at st)) → (at : Side) → P at (head_on at (with_head side (head_at st.node) st))
+    head P = heads_with P side (head_at st.node) st
 
-lets_source : (st : Holdings) (n : ℕ) (x : Name) (w : Key) → st.source.walked ≡ x ∷ w → st.source.node ≡ n → Lets st (record st { source = head_at st.node }) n
-lets_source st n x w walked e = record { gone = At_source; was = ap (λ (l : Key). if_walked l (Some st.source.node)) walked ∙ ap (λ (m : ℕ). Some m) e; stays = stays; node = refl; source = inr (refl, refl); dest = inl (refl, refl) }
+    same : (a : Slot) → (a ≡ At_head side) ⊎ (in_slot (with_head side (head_at st.node) st) a ≡ in_slot st a)
+    same At_node = inr refl
+    same At_behind = inr refl
+    same At_victim = inr refl
+    same (At_head at) = head (λ (b : Side) (h : Head). (At_head b ≡ At_head side) ⊎ (if_walked h.walked (Some h.node) ≡ in_slot st (At_head b))) (inl refl) (λ b. inr refl) at
+
+-- a finished call lets the last taken go, and what is behind stays; or it held its position alone
+pub data LetsLast (st : Holdings) (n : ℕ) (left : Option Holdings) : Type 0 where
+  One : (new : Holdings) → left ≡ Some new → Lets st new n → new.behind ≡ st.behind → ((v : ℕ) → st.victim ≡ Some v → v ≡ n) → LetsLast st n left
+  All : left ≡ None → st.node ≡ n → st.source.walked ≡ [] → st.dest.walked ≡ [] → st.victim ≡ None → LetsLast st n left
+
+pub lets_last : (st : Holdings) (n : ℕ) → last_held st st.victim ≡ n → LetsLast st n (left_last st st.victim)
+lets_last st n e = victim st.victim refl e
   where
-    stays : (a : Slot) (q : ℕ) → in_slot (record st { source = head_at st.node }) a ≡ Some q → (in_slot st a ≡ Some q) × (a ≡ At_source → ⊥)
-    stays At_node q f = (f, λ i. cc)
-    stays At_behind q f = (f, λ i. cc)
-    stays At_source q f = cc
-    stays At_dest q f = (f, λ i. cc)
-    stays At_victim q f = (f, λ i. cc)
+    head : (side : Side) (x : Name) (w : Key) → st.victim ≡ None → (head_on side st).walked ≡ x ∷ w → (head_on side st).node ≡ n → left_last st st.victim ≡ Some (with_head side (head_at st.node) st) → LetsLast st n (left_last st st.victim)
+    head side x w i k f is = One (with_head side (head_at st.node) st) is (lets_head side st n x w k f) refl (λ v. none_some st.victim v i)
+
+    source : (w : Key) → st.victim ≡ None → st.dest.walked ≡ [] → st.source.walked ≡ w → first_walked w st.source.node st.node ≡ n → LetsLast st n (left_last st st.victim)
+    source (x ∷ w) i j k f = head Source x w i k f (ap (left_last st) i ∙ ap₂ (left_heads st) j k)
+    source [] i j k f = All (ap (left_last st) i ∙ ap₂ (left_heads st) j k) f k j i
+
+    dest : (w : Key) → st.victim ≡ None → st.dest.walked ≡ w → first_walked w st.dest.node (first_walked st.source.walked st.source.node st.node) ≡ n → LetsLast st n (left_last st st.victim)
+    dest (x ∷ w) i j f = head Dest x w i j f (ap (left_last st) i ∙ ap (λ (l : Key). left_heads st l st.source.walked) j)
+    dest [] i j f = source st.source.walked i j refl f
+
+    victim : (o : Option ℕ) → st.victim ≡ o → last_held st o ≡ n → LetsLast st n (left_last st st.victim)
+    victim (Some v) i f = One (record st { victim = None }) (ap (left_last st) i) (lets_victim st n (i ∙ ap (λ (m : ℕ). Some m) f)) refl (λ w h. (let z : ◌≡◌ {A = Option ℕ} (Some v) (Some w) = sym i ∙ h in (let y : v ≡ w = cc in sym y ∙ f)))
+    victim None i f = dest st.dest.walked i refl f
 
 -- how a call lets go
 pub data LetsGo (op : Record) (n : ℕ) : Type 0 where
@@ -153,27 +194,13 @@ behind_of_move graph rem st n m = go (leave_past st.behind (first_of (step_move 
 on_way : (op : Record) (n : ℕ) (st : Holdings) → IsUnfinished op → op.holdings ≡ Some st → left_holdings op.phase op.holdings ≡ Some (record st { behind = None }) → st.behind ≡ Some n → LetsGo op n
 on_way op n st u on is e = On_way st (record st { behind = None }) u on is (lets_behind st n e) (refl, refl, refl)
 
-no_victim : (o : Option ℕ) (n : ℕ) → o ≡ None → (v : ℕ) → o ≡ Some v → v ≡ n
-no_victim o n e v f = let z : ◌≡◌ {A = Option ℕ} None (Some v) = sym e ∙ f in cc
-
 -- a finished call
 at_end : (op : Record) (n : ℕ) (st : Holdings) (r : Reply) → op.phase ≡ Finished r → op.holdings ≡ Some st → last_held st st.victim ≡ n → LetsGo op n
-at_end op n st r ph on e = victim st.victim refl e
+at_end op n st r ph on e = go (lets_last st n e)
   where
-    left_is : left_holdings op.phase op.holdings ≡ left_last st st.victim
-    left_is = ap₂ left_holdings ph on
-
-    source : (w : Key) → st.victim ≡ None → st.dest.walked ≡ [] → st.source.walked ≡ w → first_walked w st.source.node st.node ≡ n → LetsGo op n
-    source (x ∷ w) i j k f = At_end st (record st { source = head_at st.node }) r ph on (left_is ∙ ap (left_last st) i ∙ ap₂ (left_heads st) j k) (lets_source st n x w k f) (no_victim st.victim n i)
-    source [] i j k f = Last st r ph on (left_is ∙ ap (left_last st) i ∙ ap₂ (left_heads st) j k) f (no_victim st.victim n i)
-
-    dest : (w : Key) → st.victim ≡ None → st.dest.walked ≡ w → first_walked w st.dest.node (first_walked st.source.walked st.source.node st.node) ≡ n → LetsGo op n
-    dest (x ∷ w) i j f = At_end st (record st { dest = head_at st.node }) r ph on (left_is ∙ ap (left_last st) i ∙ ap (λ (l : Key). left_heads st l st.source.walked) j) (lets_dest st n x w j f) (no_victim st.victim n i)
-    dest [] i j f = source st.source.walked i j refl f
-
-    victim : (o : Option ℕ) → st.victim ≡ o → last_held st o ≡ n → LetsGo op n
-    victim (Some v) i f = At_end st (record st { victim = None }) r ph on (left_is ∙ ap (left_last st) i) (lets_victim st n (i ∙ ap (λ (m : ℕ). Some m) f)) (λ w h. (let z : ◌≡◌ {A = Option ℕ} (Some v) (Some w) = sym i ∙ h in (let y : v ≡ w = cc in sym y ∙ f)))
-    victim None i f = dest st.dest.walked i refl f
+    go : LetsLast st n (left_last st st.victim) → LetsGo op n
+    go (One new is l behind only) = At_end st new r ph on (ap₂ left_holdings ph on ∙ is) l only
+    go (All is node source dest victim) = Last st r ph on (ap₂ left_holdings ph on ∙ is) node (λ v. none_some st.victim v victim)
 
 pub lets_go : (graph : Graph) (op : Record) (n : ℕ) → next graph op ≡ Leaves n → LetsGo op n
 lets_go graph op n m = go op.phase (by_text (form op.call)) op.holdings refl refl m
@@ -295,9 +322,10 @@ let_either old inv c op n s is left only kept own held_n holds = go op.removed r
         kept own held_n holds))
 
 -- a head that stays, or is back where it set out
-head_well : (graph : Graph) (n : ℕ) (w w2 : Key) (h h2 : ℕ) (whole : Key) → ((w2 ≡ w) × (h2 ≡ h)) ⊎ ((w2 ≡ []) × (h2 ≡ n)) → at graph.child n w ≡ Some h → whole ≡ w ++ left w whole → (at graph.child n w2 ≡ Some h2) × (whole ≡ w2 ++ left w2 whole)
-head_well graph n w w2 h h2 whole (inl (i, j)) e f = (ap (at graph.child n) i ∙ e ∙ ap (λ (x : ℕ). Some x) (sym j), f ∙ ap (λ (k : Key). k ++ left k whole) (sym i))
-head_well graph n w w2 h h2 whole (inr (i, j)) e f = (ap (at graph.child n) i ∙ ap (λ (x : ℕ). Some x) (sym j), ap (λ (k : Key). k ++ left k whole) (sym i))
+head_well : (graph : Graph) (n : ℕ) (before after : Head) (whole : Key) → (after ≡ before) ⊎ (after ≡ head_at n) → at graph.child n before.walked ≡ Some before.node → whole ≡ before.walked ++ left before.walked whole
+    → (at graph.child n after.walked ≡ Some after.node) × (whole ≡ after.walked ++ left after.walked whole)
+head_well graph n before after whole (inl i) e f = subst (λ (h : Head). (at graph.child n h.walked ≡ Some h.node) × (whole ≡ h.walked ++ left h.walked whole)) (sym i) (e, f)
+head_well graph n before after whole (inr i) e f = subst (λ (h : Head). (at graph.child n h.walked ≡ Some h.node) × (whole ≡ h.walked ++ left h.walked whole)) (sym i) (refl, refl)
 
 pub well_left : (graph : Graph) (st new : Holdings) (n : ℕ) (remaining : Form) → Lets st new n → HeadsSound graph st.node remaining st → HeadsSound graph new.node remaining new
 well_left graph st new n (AtNode c p) l w = w
@@ -307,9 +335,9 @@ well_left graph st new n (AtPair pairs.Rename p q) l w = subst (λ (m : ℕ). He
     go : (k : Key) → ForkedAt graph st.node p q st k → ForkedAt graph st.node p q new k
     go (x ∷ k) w = w
     go [] w =
-        let s : (at graph.child st.node new.source.walked ≡ Some new.source.node) × (parent_of p ≡ new.source.walked ++ left new.source.walked (parent_of p)) = head_well graph st.node st.source.walked new.source.walked st.source.node new.source.node (parent_of p) l.source w.source_at w.source_is in
-        let d : (at graph.child st.node new.dest.walked ≡ Some new.dest.node) × (parent_of q ≡ new.dest.walked ++ left new.dest.walked (parent_of q)) = head_well graph st.node st.dest.walked new.dest.walked st.dest.node new.dest.node (parent_of q) l.dest w.dest_at w.dest_is in
-        record { source_at = s.0; dest_at = d.0; source_is = s.1; dest_is = d.1 }
+        let kept : (side : Side) → (at graph.child st.node (head_on side new).walked ≡ Some (head_on side new).node) × (parent_of (of_side side p q) ≡ (head_on side new).walked ++ left (head_on side new).walked (parent_of (of_side side p q))) =
+        λ (side : Side). head_well graph st.node (head_on side st) (head_on side new) (parent_of (of_side side p q)) (l.head side) (w.stands side) (w.path side) in
+        record { stands = λ side. (kept side).0; path = λ side. (kept side).1 }
 
 pub victim_left : (graph : Graph) (st new : Holdings) (remaining : Form) → new.node ≡ st.node → (new.victim ≡ st.victim) × (new.dest.node ≡ st.dest.node) × (new.dest.walked ≡ st.dest.walked) → VictimAt graph remaining st → VictimAt graph remaining new
 victim_left graph st new (AtNode c p) node same w = w
@@ -325,9 +353,6 @@ keeps_let_go n old new seat inv (c, op, moves, same) = subst Invariant (sym same
     own : Own old.graph op
     own = inv.own c op moves.1
 
-    some_is : (a b : Holdings) → ◌≡◌ {A = Option Holdings} (Some a) (Some b) → a ≡ b
-    some_is a b e = cc
-
     -- where the call still stands somewhere
     in_place : (st left : Holdings) → op.holdings ≡ Some st → left_holdings op.phase op.holdings ≡ Some left → Lets st left n
         → ((m : ℕ) → op.removed ≡ Some m → m ≡ n) → ((i : ℕ) → op.phase ≡ Placed i → (s : Holdings) × (◌≡◌ {A = Option Holdings} (Some left) (Some s))) → (IsUnfinished op → VictimAt old.graph op.remaining left) → Invariant (letting_go old c op n)
@@ -336,20 +361,19 @@ keeps_let_go n old new seat inv (c, op, moves, same) = subst Invariant (sym same
         let kept : CallFacts (numbers old.graph) (set_at c (Some (after_left op (Some left))) old.ops) (set_at c (inv.key c) inv.key) =
         kept_shrink (numbers old.graph) old.ops inv.key c op (after_left op (Some left)) st left inv.kept moves.1 on refl refl refl refl (shrinks_of st left n l) in
         let own_new : Own old.graph (after_left op (Some left)) = own_left old.graph op (Some left) own
-        (λ s e. subst (λ (x : Holdings). HeadsSound old.graph x.node op.remaining x) (some_is left s e) (well_left old.graph st left n op.remaining l (own.well st on)))
+        (λ s e. subst (λ (x : Holdings). HeadsSound old.graph x.node op.remaining x) (one_holdings refl e) (well_left old.graph st left n op.remaining l (own.well st on)))
         placed
-        (λ u s e. subst (VictimAt old.graph op.remaining) (some_is left s e) (victim u))
+        (λ u s e. subst (VictimAt old.graph op.remaining) (one_holdings refl e) (victim u))
         (λ u e. cc)
-        (λ s e. subst IsSingle (some_is left s e) (single_of st left n l (own.single st on))) in
+        (λ s e. subst IsSingle (one_holdings refl e) (single_of st left n l (own.single st on))) in
         let_either old inv c op n (Some left) moves.1 left_is only kept own_new held_n
-        (λ s q e h. (let w : Holds left q = subst (λ (x : Holdings). Holds x q) (sym (some_is left s e)) h in (inv.held c op st q moves.1 on ((shrinks_of st left n l).holds q w), other_of st left n q l (own.single st on) w)))
+        (λ s q e h. (let w : Holds left q = subst (λ (x : Holdings). Holds x q) (sym (one_holdings refl e)) h in (inv.held c op st q moves.1 on ((shrinks_of st left n l).holds q w), other_of st left n q l (own.single st on) w)))
 
     -- what is removed is the victim
     removed_is : (st : Holdings) → op.holdings ≡ Some st → ((v : ℕ) → st.victim ≡ Some v → v ≡ n) → (m : ℕ) → op.removed ≡ Some m → m ≡ n
     removed_is st on f m e =
         let g : (s : Holdings) × (op.holdings ≡ Some s) × (s.victim ≡ Some m) = (own.gone m e).0 in
-        let z : ◌≡◌ {A = Option Holdings} (Some g.0) (Some st) = sym g.1 ∙ on in
-        f m (ap (λ (s : Holdings). s.victim) (sym (some_is g.0 st z)) ∙ g.2)
+        f m (ap (λ (s : Holdings). s.victim) (one_holdings on g.1) ∙ g.2)
 
     go : LetsGo op n → Invariant (letting_go old c op n)
     go (On_way st left u on left_is l same) =

@@ -2,16 +2,16 @@
 use Rattle.std.proofs.Common.{◌≡◌, ℕ, ◌<◌, Bool, true, false, cond, eqb, [], ◌∷◌, ◌++◌, Option, Some, None, refl, sym, ap, ◌∙◌, append-nil, subst, ◌⊎◌, inl, inr}
 use Rattle.fs_names.specs.Keys.{Key, after_prefix}
 use Rattle.fs_names.specs.Names.{Name}
-use Rattle.fs_names.specs.Parts.{HasNames}
 use Rattle.fs_laws.specs.Maps.{Map, move}
 use Rattle.fs_nodes.specs.Graphs.{set_at}
 use Rattle.fs_machine.specs.Finishes.{Effect}
-use Rattle.fs_machine.specs.Moves.{behind_of, victim_took, dest_stepped, source_stepped}
-use Rattle.fs_machine.specs.Records.{Finished, Holds, Record, Records, Phase, Placed, Holdings, Walking}
+use Rattle.fs_machine.specs.Moves.{head_took, victim_took, stepped}
+use Rattle.fs_machine.specs.Records.{Head, head_at, holdings_at, Finished, Holds, Record, Records, Phase, Placed, Holdings, Side, head_on, Walking}
 use Rattle.fs_laws.specs.Placed.{rekey_by}
 use Rattle.fs_laws.specs.CallFacts.{IsAfter, IsClear, IsFree, Keeps, CallFacts, Pair, Shrinks}
 use Rattle.fs_machine.specs.Leaving.{finished_op}
 use Rattle.fs_laws.proofs.graphs.Walks.{eqb_refl, eqb_true}
+use Rattle.fs_laws.proofs.calls.NodesHeld.{heads_with, heads_at, grown_holds, grown_head, grown_victim, one_holdings}
 use Rattle.fs_laws.proofs.events.TwoCalls.{clear_take, clear_walk, after_take, after_walk, pair_moved, located_moved, pair_helped_first, pair_helped_second}
 
 -- a place that is changed, and each other
@@ -63,7 +63,7 @@ kept_update tree ops key c op k kept own both = record { one_key = kept.one_key;
 pub apart_of : {tree : Map ℕ} {ops : Records} {key : ℕ → Key} → CallFacts tree ops key → (c d : ℕ) (p q : Record) (st other : Holdings) → (c ≡ d → ⊥) → ops c ≡ Some p → ops d ≡ Some q → p.holdings ≡ Some st → q.holdings ≡ Some other → (n : ℕ) → Holds st n → Holds other n → ⊥
 apart_of kept c d p q st other n e f g h = (kept.pairs c d p q st other n e f g h).apart
 
-clear_nil : (tree : Map ℕ) (key : Key) (other : Holdings) → IsClear tree key [] other
+pub clear_nil : (tree : Map ℕ) (key : Key) (other : Holdings) → IsClear tree key [] other
 clear_nil tree key other [] v n mu mv is at has = absurd mu
 clear_nil tree key other (x ∷ u) v n mu mv is at has = cc
 
@@ -93,8 +93,7 @@ pub record Takes (tree : Map ℕ) (k : Key) (st : Holdings) (new_k : Key) (new :
   -- the position stays, or it is the node that is taken
   pub position : (new_k ≡ k) ⊎ ((parent_key ≡ k) × (new_k ≡ k ++ name ∷ []))
   -- each head stays, or its last node was held
-  pub source : (other : Holdings) → ((q : ℕ) → Holds st q → Holds other q → ⊥) → IsClear tree k st.source.walked other → IsClear tree new_k new.source.walked other
-  pub dest : (other : Holdings) → ((q : ℕ) → Holds st q → Holds other q → ⊥) → IsClear tree k st.dest.walked other → IsClear tree new_k new.dest.walked other
+  pub head : (side : Side) (other : Holdings) → ((q : ℕ) → Holds st q → Holds other q → ⊥) → IsClear tree k (head_on side st).walked other → IsClear tree new_k (head_on side new).walked other
 
 pub kept_take : (tree : Map ℕ) (ops : Records) (key : ℕ → Key) (c : ℕ) (op : Record) (st : Holdings) (n : ℕ) (k : Key) (new : Holdings) (op_new : Record) → CallFacts tree ops key
     → ops c ≡ Some op → op.holdings ≡ Some st → op_new.holdings ≡ Some new → op_new.phase ≡ op.phase
@@ -102,14 +101,11 @@ pub kept_take : (tree : Map ℕ) (ops : Records) (key : ℕ → Key) (c : ℕ) (
     → CallFacts tree (set_at c (Some op_new) ops) (set_at c k key)
 kept_take tree ops key c op st n k new op_new kept is on on_new same_phase free t own =
     kept_update tree ops key c op_new k kept
-    (λ s e. subst (Keeps tree k op_new) (let z : new ≡ s = same_holdings new s (sym on_new ∙ e) in z) own)
-    (λ d q s other differs e f g. subst (λ (x : Holdings). Pair tree k x op_new.phase (key d) other q.phase × Pair tree (key d) other q.phase k x op_new.phase) (same_holdings new s (sym on_new ∙ f)) (both d q other differs e g))
+    (λ s e. subst (Keeps tree k op_new) (one_holdings on_new e) own)
+    (λ d q s other differs e f g. subst (λ (x : Holdings). Pair tree k x op_new.phase (key d) other q.phase × Pair tree (key d) other q.phase k x op_new.phase) (one_holdings on_new f) (both d q other differs e g))
   where
-    same_holdings : (a b : Holdings) → ◌≡◌ {A = Option Holdings} (Some a) (Some b) → a ≡ b
-    same_holdings a b e = cc
-
     both : (d : ℕ) (q : Record) (other : Holdings) → (c ≡ d → ⊥) → ops d ≡ Some q → q.holdings ≡ Some other → Pair tree k new op_new.phase (key d) other q.phase × Pair tree (key d) other q.phase k new op_new.phase
-    both d q other differs e g = (record { apart = apart; after = after_first; source = t.source other first.apart first.source; dest = t.dest other first.apart first.dest }, record { apart = λ m h i. apart m i h; after = after_second; source = clear second.source; dest = clear second.dest })
+    both d q other differs e g = (record { apart = apart; after = after_first; clear = λ side. t.head side other first.apart (first.clear side) }, record { apart = λ m h i. apart m i h; after = after_second; clear = λ side. clear (second.clear side) })
       where
         first : Pair tree (key c) st op.phase (key d) other q.phase
         first = kept.pairs c d op q st other differs is e on g
@@ -151,10 +147,8 @@ kept_take tree ops key c op st n k new op_new kept is on on_new same_phase free 
         clear {walked} old = clear_take tree kept.one_key (key d) walked other st t.parent_key t.parent n t.name new there.located.here (λ m h i. first.apart m i h) t.parent_at t.parent_held t.node_at t.grows old
 
 -- the take of the next node on the way to the target (no head has set out)
-pub takes_walk : (tree : Map ℕ) (k : Key) (st new : Holdings) (x : Name) (n : ℕ) → tree k ≡ Some st.node → tree (k ++ x ∷ []) ≡ Some n
-    → new.node ≡ n → new.behind ≡ Some st.node → new.source.walked ≡ [] → new.dest.walked ≡ [] → new.victim ≡ None
-    → Takes tree k st (k ++ x ∷ []) new n
-takes_walk tree k st new x n here at_n node behind source dest victim = record {
+pub takes_walk : (tree : Map ℕ) (k : Key) (st : Holdings) (x : Name) (n : ℕ) → tree k ≡ Some st.node → tree (k ++ x ∷ []) ≡ Some n → Takes tree k st (k ++ x ∷ []) (holdings_at n (Some st.node)) n
+takes_walk tree k st x n here at_n = record {
   parent_key = k;
   parent = st.node;
   name = x;
@@ -163,89 +157,45 @@ takes_walk tree k st new x n here at_n node behind source dest victim = record {
   node_at = at_n;
   grows = grows;
   position = inr (refl, refl);
-  source = λ other apart clear. rw source (clear_nil tree (k ++ x ∷ []) other);
-  dest = λ other apart clear. rw dest (clear_nil tree (k ++ x ∷ []) other);
+  head = λ side other apart clear. heads_at (λ (side : Side) (h : Head). IsClear tree (k ++ x ∷ []) h.walked other) n (Some st.node) (λ side. clear_nil tree (k ++ x ∷ []) other) side;
 }
   where
-    grows : (q : ℕ) → Holds new q → Holds st q ⊎ (q ≡ n)
-    grows q (inl h) = inr (sym h ∙ node)
-    grows q (inr (inl h)) = inl (inl (let e : ◌≡◌ {A = Option ℕ} (Some st.node) (Some q) = sym behind ∙ h in let z : st.node ≡ q = cc in z))
-    grows q (inr (inr (inl h))) = absurd (subst HasNames source h.0)
-    grows q (inr (inr (inr (inl h)))) = absurd (subst HasNames dest h.0)
-    grows q (inr (inr (inr (inr h)))) = let e : ◌≡◌ {A = Option ℕ} None (Some q) = sym victim ∙ h in cc
+    grows : (q : ℕ) → Holds (holdings_at n (Some st.node)) q → Holds st q ⊎ (q ≡ n)
+    grows q (inl h) = inr (sym h)
+    grows q (inr (inl h)) = inl (inl (let z : st.node ≡ q = cc in z))
+    grows q (inr (inr (inl h))) = absurd h.0
+    grows q (inr (inr (inr (inl h)))) = absurd h.0
+    grows q (inr (inr (inr (inr h)))) = cc
 
--- what a head's step leaves behind was held
-behind_held : (st : Holdings) (w : Key) (node m : ℕ) → Holds st node → behind_of w node ≡ Some m → Holds st m
-behind_held st [] node m h e = cc
-behind_held st (x ∷ w) node m h e = let z : node ≡ m = cc in subst (Holds st) z h
-
--- the take of the next node of the source head
-pub takes_source : (tree : Map ℕ) (k : Key) (st : Holdings) (x : Name) (n : ℕ) → tree (k ++ st.source.walked) ≡ Some st.source.node → Holds st st.source.node → tree ((k ++ st.source.walked) ++ x ∷ []) ≡ Some n
-    → Takes tree k st k (source_stepped st x n) n
-takes_source tree k st x n here held at_n = record {
-  parent_key = k ++ st.source.walked;
-  parent = st.source.node;
+-- the take of the next node of a head
+pub takes_head : (side : Side) (tree : Map ℕ) (k : Key) (st : Holdings) (x : Name) (n : ℕ) → st.behind ≡ None → tree (k ++ (head_on side st).walked) ≡ Some (head_on side st).node → Holds st (head_on side st).node → tree ((k ++ (head_on side st).walked) ++ x ∷ []) ≡ Some n
+    → Takes tree k st k (stepped side st x n) n
+takes_head side tree k st x n closed here held at_n = record {
+  parent_key = k ++ (head_on side st).walked;
+  parent = (head_on side st).node;
   name = x;
   parent_at = here;
   parent_held = held;
   node_at = at_n;
-  grows = grows;
+  grows = grown_holds (grown_head side st x n closed);
   position = inl refl;
-  source = λ other apart clear. clear_walk tree k st.source.walked x st.source.node st other here held apart clear;
-  dest = λ other apart clear. clear;
+  head = λ at other apart. heads_with (λ (at : Side) (h : Head). IsClear tree k (head_on at st).walked other → IsClear tree k h.walked other) side (head_took (head_on side st) x n) st (clear_walk tree k (head_on side st).walked x (head_on side st).node st other here held apart) (λ at clear. clear) at;
 }
-  where
-    grows : (q : ℕ) → Holds (source_stepped st x n) q → Holds st q ⊎ (q ≡ n)
-    grows q (inl h) = inl (inl h)
-    grows q (inr (inl h)) = inl (behind_held st st.source.walked st.source.node q held h)
-    grows q (inr (inr (inl h))) = inr (sym h.1)
-    grows q (inr (inr (inr h))) = inl (inr (inr (inr h)))
-
--- the take of the next node of the destination head
-pub takes_dest : (tree : Map ℕ) (k : Key) (st : Holdings) (x : Name) (n : ℕ) → tree (k ++ st.dest.walked) ≡ Some st.dest.node → Holds st st.dest.node → tree ((k ++ st.dest.walked) ++ x ∷ []) ≡ Some n
-    → Takes tree k st k (dest_stepped st x n) n
-takes_dest tree k st x n here held at_n = record {
-  parent_key = k ++ st.dest.walked;
-  parent = st.dest.node;
-  name = x;
-  parent_at = here;
-  parent_held = held;
-  node_at = at_n;
-  grows = grows;
-  position = inl refl;
-  source = λ other apart clear. clear;
-  dest = λ other apart clear. clear_walk tree k st.dest.walked x st.dest.node st other here held apart clear;
-}
-  where
-    grows : (q : ℕ) → Holds (dest_stepped st x n) q → Holds st q ⊎ (q ≡ n)
-    grows q (inl h) = inl (inl h)
-    grows q (inr (inl h)) = inl (behind_held st st.dest.walked st.dest.node q held h)
-    grows q (inr (inr (inl h))) = inl (inr (inr (inl h)))
-    grows q (inr (inr (inr (inl h)))) = inr (sym h.1)
-    grows q (inr (inr (inr (inr h)))) = inl (inr (inr (inr (inr h))))
 
 -- the take of a victim
-pub takes_victim : (tree : Map ℕ) (k : Key) (st : Holdings) (parent_key : Key) (parent : ℕ) (x : Name) (n : ℕ) → tree parent_key ≡ Some parent → Holds st parent → tree (parent_key ++ x ∷ []) ≡ Some n
+pub takes_victim : (tree : Map ℕ) (k : Key) (st : Holdings) (parent_key : Key) (parent : ℕ) (x : Name) (n : ℕ) → st.victim ≡ None → tree parent_key ≡ Some parent → Holds st parent → tree (parent_key ++ x ∷ []) ≡ Some n
     → Takes tree k st k (victim_took st n) n
-takes_victim tree k st parent_key parent x n here held at_n = record {
+takes_victim tree k st parent_key parent x n off here held at_n = record {
   parent_key = parent_key;
   parent = parent;
   name = x;
   parent_at = here;
   parent_held = held;
   node_at = at_n;
-  grows = grows;
+  grows = grown_holds (grown_victim st n off);
   position = inl refl;
-  source = λ other apart clear. clear;
-  dest = λ other apart clear. clear;
+  head = λ side other apart clear. clear;
 }
-  where
-    grows : (q : ℕ) → Holds (victim_took st n) q → Holds st q ⊎ (q ≡ n)
-    grows q (inl h) = inl (inl h)
-    grows q (inr (inl h)) = inl (inr (inl h))
-    grows q (inr (inr (inl h))) = inl (inr (inr (inl h)))
-    grows q (inr (inr (inr (inl h)))) = inl (inr (inr (inr (inl h))))
-    grows q (inr (inr (inr (inr h)))) = inr cc
 
 -- a call lets a node go: it stands where it stood, and holds less
 pub kept_shrink : (tree : Map ℕ) (ops : Records) (key : ℕ → Key) (c : ℕ) (op op_new : Record) (st new : Holdings) → CallFacts tree ops key
@@ -254,47 +204,41 @@ pub kept_shrink : (tree : Map ℕ) (ops : Records) (key : ℕ → Key) (c : ℕ)
     → CallFacts tree (set_at c (Some op_new) ops) (set_at c (key c) key)
 kept_shrink tree ops key c op op_new st new kept is on on_new same_phase same_walked same_rel less =
     kept_update tree ops key c op_new (key c) kept
-    (λ s e. subst (Keeps tree (key c) op_new) (same_holdings new s (sym on_new ∙ e)) own)
-    (λ d q s other differs e f g. subst (λ (x : Holdings). Pair tree (key c) x op_new.phase (key d) other q.phase × Pair tree (key d) other q.phase (key c) x op_new.phase) (same_holdings new s (sym on_new ∙ f)) (both d q other differs e g))
+    (λ s e. subst (Keeps tree (key c) op_new) (one_holdings on_new e) own)
+    (λ d q s other differs e f g. subst (λ (x : Holdings). Pair tree (key c) x op_new.phase (key d) other q.phase × Pair tree (key d) other q.phase (key c) x op_new.phase) (one_holdings on_new f) (both d q other differs e g))
   where
-    same_holdings : (a b : Holdings) → ◌≡◌ {A = Option Holdings} (Some a) (Some b) → a ≡ b
-    same_holdings a b e = cc
-
     old : Keeps tree (key c) op st
     old = kept.each c op st is on
 
-    head : (walked walked_new : Key) (node node_new : ℕ) → ((walked_new ≡ walked) × (node_new ≡ node)) ⊎ ((walked_new ≡ []) × (node_new ≡ st.node)) → tree (key c ++ walked) ≡ Some node → tree (key c ++ walked_new) ≡ Some node_new
-    head walked walked_new node node_new (inl h) e = rw (h.0, h.1) e
-    head walked walked_new node node_new (inr h) e = rw (h.0, h.1, append-nil) old.located.here
+    head : (before after : Head) → (after ≡ before) ⊎ (after ≡ head_at st.node) → tree (key c ++ before.walked) ≡ Some before.node → tree (key c ++ after.walked) ≡ Some after.node
+    head before after (inl h) e = subst (λ (x : Head). tree (key c ++ x.walked) ≡ Some x.node) (sym h) e
+    head before after (inr h) e = subst (λ (x : Head). tree (key c ++ x.walked) ≡ Some x.node) (sym h) (ap tree (append-nil (key c)) ∙ old.located.here)
 
     own : Keeps tree (key c) op_new new
     own = record {
       located = record {
         here = rw less.node old.located.here;
-        source = head st.source.walked new.source.walked st.source.node new.source.node less.source old.located.source;
-        dest = head st.dest.walked new.dest.walked st.dest.node new.dest.node less.dest old.located.dest;
+        head = λ side. head (head_on side st) (head_on side new) (less.head side) (old.located.head side);
       };
       walking = λ w. old.walking (sym same_phase ∙ w) ∙ sym same_walked;
       fits = rw same_rel old.fits;
     }
 
-    fewer : (walked walked_new : Key) (node node_new : ℕ) (other : Holdings) → ((walked_new ≡ walked) × (node_new ≡ node)) ⊎ ((walked_new ≡ []) × (node_new ≡ st.node)) → IsClear tree (key c) walked other → IsClear tree (key c) walked_new other
-    fewer walked walked_new node node_new other (inl h) e = rw h.0 e
-    fewer walked walked_new node node_new other (inr h) e = rw h.0 (clear_nil tree (key c) other)
+    fewer : (before after : Head) (other : Holdings) → (after ≡ before) ⊎ (after ≡ head_at st.node) → IsClear tree (key c) before.walked other → IsClear tree (key c) after.walked other
+    fewer before after other (inl h) e = subst (λ (x : Head). IsClear tree (key c) x.walked other) (sym h) e
+    fewer before after other (inr h) e = subst (λ (x : Head). IsClear tree (key c) x.walked other) (sym h) (clear_nil tree (key c) other)
 
     both : (d : ℕ) (q : Record) (other : Holdings) → (c ≡ d → ⊥) → ops d ≡ Some q → q.holdings ≡ Some other → Pair tree (key c) new op_new.phase (key d) other q.phase × Pair tree (key d) other q.phase (key c) new op_new.phase
     both d q other differs e g = (
       record {
         apart = λ m h i. first.apart m (less.holds m h) i;
         after = λ h. first.after (subst (λ (p : Phase). IsAfter p q.phase) same_phase h);
-        source = fewer st.source.walked new.source.walked st.source.node new.source.node other less.source first.source;
-        dest = fewer st.dest.walked new.dest.walked st.dest.node new.dest.node other less.dest first.dest;
+        clear = λ side. fewer (head_on side st) (head_on side new) other (less.head side) (first.clear side);
       },
       record {
         apart = λ m h i. second.apart m h (less.holds m i);
         after = λ h. second.after (subst (λ (p : Phase). IsAfter q.phase p) same_phase h);
-        source = λ u v m mu mv i j h. second.source u v m mu mv i j (less.holds m h);
-        dest = λ u v m mu mv i j h. second.dest u v m mu mv i j (less.holds m h);
+        clear = λ side u v m mu mv i j h. second.clear side u v m mu mv i j (less.holds m h);
       },
     )
       where
@@ -313,8 +257,8 @@ kept_finish tree ops key c op made kept is =
     (λ d q st other n e f g.
     let first : Pair tree (key c) st op.phase (key d) other q.phase = kept.pairs c d op q st other n is e f g in
     let second : Pair tree (key d) other q.phase (key c) st op.phase = kept.pairs d c q op other st (λ s. n (sym s)) e is g f in (
-      record { apart = first.apart; after = λ h. absurd h; source = first.source; dest = first.dest },
-      record { apart = second.apart; after = λ h. absurd (no_after q.phase h); source = second.source; dest = second.dest },
+      record { apart = first.apart; after = λ h. absurd h; clear = first.clear },
+      record { apart = second.apart; after = λ h. absurd (no_after q.phase h); clear = second.clear },
     ))
   where
     no_after : (p : Phase) → IsAfter p (Finished made.reply) → ⊥
@@ -326,8 +270,7 @@ kept_finish tree ops key c op made kept is =
 pub record Spares (tree : Map ℕ) (ops : Records) (key : ℕ → Key) (s t kt : Key) (y : Name) : Type 0 where
   pub none : (r : Key) → tree (t ++ r) ≡ None
   pub ends_in : t ≡ kt ++ y ∷ []
-  pub source : (d : ℕ) (q : Record) (st : Holdings) → ops d ≡ Some q → q.holdings ≡ Some st → (u v : Key) → after_prefix s (key d) ≡ None → st.source.walked ≡ u ++ v → after_prefix s (key d ++ u) ≡ None
-  pub dest : (d : ℕ) (q : Record) (st : Holdings) → ops d ≡ Some q → q.holdings ≡ Some st → (u v : Key) → after_prefix s (key d) ≡ None → st.dest.walked ≡ u ++ v → after_prefix s (key d ++ u) ≡ None
+  pub head : (side : Side) (d : ℕ) (q : Record) (st : Holdings) → ops d ≡ Some q → q.holdings ≡ Some st → (u v : Key) → after_prefix s (key d) ≡ None → (head_on side st).walked ≡ u ++ v → after_prefix s (key d ++ u) ≡ None
   pub walking : (d : ℕ) (q : Record) (st : Holdings) → ops d ≡ Some q → q.holdings ≡ Some st → q.phase ≡ Walking → after_prefix s (key d) ≡ None
   pub off : (d e : ℕ) (p q : Record) (st other : Holdings) → ops d ≡ Some p → ops e ≡ Some q → p.holdings ≡ Some st → q.holdings ≡ Some other → IsAfter p.phase q.phase → (after_prefix (key d) kt ≡ None) ⊎ ((after_prefix s (key d) ≡ None) × (after_prefix s (key e) ≡ None))
 
@@ -340,14 +283,14 @@ kept_move tree ops key s t kt y kept one sp = record {
   each = λ d q st e f.
       let k : Keeps tree (key d) q st = kept.each d q st e f in
       record {
-        located = located_moved tree s t (key d) st sp.none k.located (sp.source d q st e f) (sp.dest d q st e f);
+        located = located_moved tree s t (key d) st sp.none k.located (λ side. sp.head side d q st e f);
         walking = λ w. rw (sp.walking d q st e f w) (k.walking w);
         fits = k.fits;
       };
   pairs = λ c d p q st other n e f g h.
       pair_moved tree s t kt y (key c) st p.phase (key d) other q.phase sp.none sp.ends_in
       (kept.each c p st e g).located (kept.each d q other f h).located
-      (sp.source c p st e g) (sp.dest c p st e g)
+      (λ side. sp.head side c p st e g)
       (λ i. sp.off c d p q st other e f g h i)
       (kept.pairs c d p q st other n e f g h);
 }

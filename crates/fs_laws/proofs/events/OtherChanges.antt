@@ -1,16 +1,17 @@
 -- The other changes: a new entry, the root's take, a call that begins, a call that ends.
-use Rattle.std.proofs.Common.{◌≡◌, ℕ, Bool, true, false, eqb, [], ◌∷◌, ◌++◌, Option, Some, None, refl, sym, ap, ◌∙◌, append_assoc, append-nil, subst, inl, inr}
+use Rattle.std.proofs.Common.{◌≡◌, ℕ, Bool, true, false, eqb, [], ◌∷◌, ◌++◌, Option, Some, None, refl, sym, ap, ◌∙◌, append_assoc, subst, inl, inr}
 use Rattle.fs_names.specs.Keys.{Key, after_prefix}
 use Rattle.fs_names.specs.Parts.{HasNames}
 use Rattle.fs_calls.specs.Forms.{Fits}
 use Rattle.fs_laws.specs.Maps.{Map, put, put_at}
 use Rattle.fs_nodes.specs.Graphs.{set_at}
-use Rattle.fs_machine.specs.Records.{Finished, Head, HeadHolds, Holds, Record, Records, Phase, Placed, Holdings, Walking}
+use Rattle.fs_machine.specs.Records.{Finished, Head, Holds, Record, Records, Phase, Placed, Holdings, Walking, Side, head_on, holdings_at}
 use Rattle.fs_laws.specs.CallFacts.{IsAfter, IsClear, IsFree, Keeps, CallFacts, Pair}
 use Rattle.fs_laws.proofs.graphs.Walks.{eqb_refl, eqb_true}
 use Rattle.fs_laws.proofs.trees.Commuting.{put_other}
 use Rattle.fs_laws.proofs.events.TwoCalls.{after_take_root}
-use Rattle.fs_laws.proofs.events.OneCallChanged.{kept_update}
+use Rattle.fs_laws.proofs.events.OneCallChanged.{kept_update, clear_nil}
+use Rattle.fs_laws.proofs.calls.NodesHeld.{heads_at, only_at, located_at, node_held, one_holdings}
 
 -- where one entry is added, each key that was there is there as before
 added : (tree : Map ℕ) (t : Key) (n : ℕ) → tree t ≡ None → (key : Key) (m : ℕ) → tree key ≡ Some m → put t (Some n) tree key ≡ tree key
@@ -29,8 +30,7 @@ kept_put tree ops key t n kept free closed one = record { one_key = one; each = 
         record {
           located = record {
             here = added tree t n free (key d) st.node k.located.here ∙ k.located.here;
-            source = added tree t n free (key d ++ st.source.walked) st.source.node k.located.source ∙ k.located.source;
-            dest = added tree t n free (key d ++ st.dest.walked) st.dest.node k.located.dest ∙ k.located.dest;
+            head = λ side. added tree t n free (key d ++ (head_on side st).walked) (head_on side st).node (k.located.head side) ∙ k.located.head side;
           };
           walking = k.walking;
           fits = k.fits;
@@ -45,29 +45,23 @@ kept_put tree ops key t n kept free closed one = record { one_key = one; each = 
     pairs c d p q st other differs e f g h =
         let old : Pair tree (key c) st p.phase (key d) other q.phase = kept.pairs c d p q st other differs e f g h in
         let k : Keeps tree (key c) p st = kept.each c p st e g in
-        record { apart = old.apart; after = old.after; source = clear (key c) st.source.walked st.source.node other k.located.source old.source; dest = clear (key c) st.dest.walked st.dest.node other k.located.dest old.dest }
+        record { apart = old.apart; after = old.after; clear = λ side. clear (key c) (head_on side st).walked (head_on side st).node other (k.located.head side) (old.clear side) }
 
 -- a walking call that holds nothing takes the root
-pub kept_root : (tree : Map ℕ) (ops : Records) (key : ℕ → Key) (c : ℕ) (op op_new : Record) (new : Holdings) → CallFacts tree ops key
+pub kept_root : (tree : Map ℕ) (ops : Records) (key : ℕ → Key) (c : ℕ) (op op_new : Record) (n : ℕ) → CallFacts tree ops key
     → ops c ≡ Some op → op.phase ≡ Walking → op_new.phase ≡ Walking → op_new.walked ≡ [] → Fits op_new.remaining
-    → op_new.holdings ≡ Some new → tree [] ≡ Some new.node → ((q : ℕ) → Holds new q → q ≡ new.node)
-    → new.source.walked ≡ [] → new.source.node ≡ new.node → new.dest.walked ≡ [] → new.dest.node ≡ new.node
-    → IsFree ops new.node
+    → op_new.holdings ≡ Some (holdings_at n None) → tree [] ≡ Some n → IsFree ops n
     → CallFacts tree (set_at c (Some op_new) ops) (set_at c [] key)
-kept_root tree ops key c op op_new new kept is walks walks_new walked fits on at_root holds sw sn dw dn free =
+kept_root tree ops key c op op_new n kept is walks walks_new walked fits on at_root free =
     kept_update tree ops key c op_new [] kept
-    (λ s e. subst (Keeps tree [] op_new) (same_holdings new s (sym on ∙ e)) own)
-    (λ d q s other differs e f g. subst (λ (x : Holdings). Pair tree [] x op_new.phase (key d) other q.phase × Pair tree (key d) other q.phase [] x op_new.phase) (same_holdings new s (sym on ∙ f)) (both d q other differs e g))
+    (λ s e. subst (Keeps tree [] op_new) (one_holdings on e) own)
+    (λ d q s other differs e f g. subst (λ (x : Holdings). Pair tree [] x op_new.phase (key d) other q.phase × Pair tree (key d) other q.phase [] x op_new.phase) (one_holdings on f) (both d q other differs e g))
   where
-    same_holdings : (a b : Holdings) → ◌≡◌ {A = Option Holdings} (Some a) (Some b) → a ≡ b
-    same_holdings a b e = cc
+    new : Holdings
+    new = holdings_at n None
 
     own : Keeps tree [] op_new new
-    own = record { located = record { here = at_root; source = rw (sw, sn) at_root; dest = rw (dw, dn) at_root }; walking = λ w. sym walked; fits = fits }
-
-    no_clear : (k walked : Key) (other : Holdings) → walked ≡ [] → IsClear tree k walked other
-    no_clear k walked other e [] v m mu mv i j h = absurd mu
-    no_clear k walked other e (x ∷ u) v m mu mv i j h = let z : ◌≡◌ {A = Key} [] (x ∷ (u ++ v)) = sym e ∙ i in cc
+    own = record { located = located_at tree [] n None at_root; walking = λ w. sym walked; fits = fits }
 
     walk_after : (p : Phase) → IsAfter Walking p → ⊥
     walk_after Walking h = h
@@ -77,21 +71,19 @@ kept_root tree ops key c op op_new new kept is walks walks_new walked fits on at
     both : (d : ℕ) (q : Record) (other : Holdings) → (c ≡ d → ⊥) → ops d ≡ Some q → q.holdings ≡ Some other → Pair tree [] new op_new.phase (key d) other q.phase × Pair tree (key d) other q.phase [] new op_new.phase
     both d q other differs e g = (
       record {
-        apart = λ m h i. free d q other e g (subst (Holds other) (holds m h) i);
+        apart = λ m h i. free d q other e g (subst (Holds other) (only_at n m h) i);
         after = λ h. absurd (walk_after q.phase (subst (λ (z : Phase). IsAfter z q.phase) walks_new h));
-        source = no_clear [] new.source.walked other sw;
-        dest = no_clear [] new.dest.walked other dw;
+        clear = λ side. heads_at (λ (side : Side) (h : Head). IsClear tree [] h.walked other) n None (λ side. clear_nil tree [] other) side;
       },
       record {
-        apart = λ m h i. free d q other e g (subst (Holds other) (holds m i) h);
-        after = λ h. after_take_root tree (key d) other new.node (kept.each d q other e g).located.here at_root (λ h. free d q other e g h);
-        source = root_clear (key d) other.source.walked;
-        dest = root_clear (key d) other.dest.walked;
+        apart = λ m h i. free d q other e g (subst (Holds other) (only_at n m i) h);
+        after = λ h. after_take_root tree (key d) other n (kept.each d q other e g).located.here at_root (λ h. free d q other e g h);
+        clear = λ side. root_clear (key d) (head_on side other).walked;
       },
     )
       where
         root_clear : (k walked : Key) → IsClear tree k walked new
-        root_clear k walked u v m mu mv i j h = no_more k u mu (kept.one_key (k ++ u) [] m j (at_root ∙ ap Some (sym (holds m h))))
+        root_clear k walked u v m mu mv i j h = no_more k u mu (kept.one_key (k ++ u) [] m j (at_root ∙ ap Some (sym (only_at n m h))))
           where
             no_more : (k u : Key) → HasNames u → k ++ u ≡ [] → ⊥
             no_more [] [] mu e = mu
@@ -114,26 +106,29 @@ cut_some t tree key m e = go (after_prefix t key) e
     go (Some []) e = cc
     go (Some (x ∷ r)) e = e
 
+-- none of a call's own places is at t
+abbrev pub OffPlaces : Key → Key → Holdings → Type 0
+OffPlaces t key st = (key ≡ t → ⊥) × ((side : Side) → key ++ (head_on side st).walked ≡ t → ⊥)
+
 pub kept_cut : (tree : Map ℕ) (ops : Records) (key : ℕ → Key) (t : Key) → CallFacts tree ops key
-    → ((d : ℕ) (q : Record) (st : Holdings) → ops d ≡ Some q → q.holdings ≡ Some st → (key d ≡ t → ⊥) × ((key d ++ st.source.walked ≡ t → ⊥) × (key d ++ st.dest.walked ≡ t → ⊥)))
+    → ((d : ℕ) (q : Record) (st : Holdings) → ops d ≡ Some q → q.holdings ≡ Some st → OffPlaces t (key d) st)
     → CallFacts (put t None tree) ops key
 kept_cut tree ops key t kept off = record {
   one_key = λ a b n e f. kept.one_key a b n (cut_some t tree a n e) (cut_some t tree b n f);
   each = λ d q st e f.
       let k : Keeps tree (key d) q st = kept.each d q st e f in
-      let o : (key d ≡ t → ⊥) × ((key d ++ st.source.walked ≡ t → ⊥) × (key d ++ st.dest.walked ≡ t → ⊥)) = off d q st e f in
+      let o : OffPlaces t (key d) st = off d q st e f in
       record {
         located = record {
           here = put_other t None tree (key d) o.0 ∙ k.located.here;
-          source = put_other t None tree (key d ++ st.source.walked) o.1.0 ∙ k.located.source;
-          dest = put_other t None tree (key d ++ st.dest.walked) o.1.1 ∙ k.located.dest;
+          head = λ side. put_other t None tree (key d ++ (head_on side st).walked) (o.1 side) ∙ k.located.head side;
         };
         walking = k.walking;
         fits = k.fits;
       };
   pairs = λ c d p q st other differs e f g h.
       let old : Pair tree (key c) st p.phase (key d) other q.phase = kept.pairs c d p q st other differs e f g h in
-      record { apart = old.apart; after = old.after; source = clear (key c) st.source.walked other old.source; dest = clear (key c) st.dest.walked other old.dest };
+      record { apart = old.apart; after = old.after; clear = λ side. clear (key c) (head_on side st).walked other (old.clear side) };
 }
   where
     clear : (k walked : Key) (other : Holdings) → IsClear tree k walked other → IsClear (put t None tree) k walked other
@@ -142,8 +137,8 @@ kept_cut tree ops key t kept off = record {
 -- where one call holds the node at t, which none of its own places is, no call's place is there
 pub victim_off : (tree : Map ℕ) (ops : Records) (key : ℕ → Key) (c : ℕ) (op : Record) (st : Holdings) (t : Key) (v : ℕ) → CallFacts tree ops key
     → ops c ≡ Some op → op.holdings ≡ Some st → st.victim ≡ Some v → tree t ≡ Some v
-    → (key c ≡ t → ⊥) × ((key c ++ st.source.walked ≡ t → ⊥) × (key c ++ st.dest.walked ≡ t → ⊥))
-    → (d : ℕ) (q : Record) (other : Holdings) → ops d ≡ Some q → q.holdings ≡ Some other → (key d ≡ t → ⊥) × ((key d ++ other.source.walked ≡ t → ⊥) × (key d ++ other.dest.walked ≡ t → ⊥))
+    → OffPlaces t (key c) st
+    → (d : ℕ) (q : Record) (other : Holdings) → ops d ≡ Some q → q.holdings ≡ Some other → OffPlaces t (key d) other
 victim_off tree ops key c op st t v kept is on vic at_t own d q other e f = by (eqb d c) refl
   where
     mine : d ≡ c → other ≡ st
@@ -162,20 +157,13 @@ victim_off tree ops key c op st t v kept is on vic at_t own d q other e f = by (
     at_node : (l : Key) (n : ℕ) → tree l ≡ Some n → l ≡ t → n ≡ v
     at_node l n i j = let z : ◌≡◌ {A = Option ℕ} (Some n) (Some v) = sym i ∙ ap tree j ∙ at_t in cc
 
-    head : (h : Head) → tree (key d ++ h.walked) ≡ Some h.node → (HeadHolds h v → Holds other v) → (d ≡ c → ⊥) → key d ++ h.walked ≡ t → ⊥
-    head h i into n j = more h.walked refl
-      where
-        more : (w : Key) → h.walked ≡ w → ⊥
-        more [] z = apart n (inl (at_node (key d) other.node k.located.here (sym (append-nil (key d)) ∙ ap (λ (l : Key). key d ++ l) (sym z) ∙ j)))
-        more (x ∷ w) z = apart n (into (subst HasNames (sym z) tt, at_node (key d ++ h.walked) h.node i j))
+    head : (side : Side) → (d ≡ c → ⊥) → key d ++ (head_on side other).walked ≡ t → ⊥
+    head side n j = apart n (subst (Holds other) (at_node (key d ++ (head_on side other).walked) (head_on side other).node (k.located.head side) j) (node_held side tree (key d) other k.located))
 
-    by : (b : Bool) → eqb d c ≡ b → (key d ≡ t → ⊥) × ((key d ++ other.source.walked ≡ t → ⊥) × (key d ++ other.dest.walked ≡ t → ⊥))
+    by : (b : Bool) → eqb d c ≡ b → OffPlaces t (key d) other
     by true e2 = let i : d ≡ c = eqb_true d c e2 in rw (i, mine i) own
     by false e2 =
         let n : d ≡ c → ⊥ = λ i. (let z : eqb d c ≡ true = ap (λ (m : ℕ). eqb m c) i ∙ eqb_refl c in cc) in (
           λ j. apart n (inl (at_node (key d) other.node k.located.here j)),
-          (
-            head other.source k.located.source (λ h. inr (inr (inl h))) n,
-            head other.dest k.located.dest (λ h. inr (inr (inr (inl h)))) n,
-          ),
+          λ side. head side n,
         )

@@ -1,8 +1,8 @@
 -- A take keeps what every state keeps.
-use Rattle.std.proofs.Common.{◌≡◌, ℕ, Bool, true, false, cond, [], ◌∷◌, ◌++◌, Option, Some, None, refl, sym, ap, ap₂, ◌∙◌, append_assoc, append-nil, subst, ◌⊎◌, inl, inr}
+use Rattle.std.proofs.Common.{◌≡◌, ℕ, Bool, true, false, cond, [], ◌∷◌, ◌++◌, Option, Some, None, refl, sym, ap, ap₂, ◌∙◌, append_assoc, subst, ◌⊎◌, inl, inr}
 use Rattle.fs_names.specs.Keys.{Key, after_prefix, parent_of}
 use Rattle.fs_names.specs.Names.{Name, same_name}
-use Rattle.fs_names.specs.Parts.{common}
+use Rattle.fs_names.specs.Parts.{common, left}
 use Rattle.fs_names.specs.Shapes.{Shape, Dir, File}
 use Rattle.fs_calls.specs.Forms.{form, NodeCall, Form, AtNode, AtEntry, AtPair, by_text, under, Fits}
 use Rattle.fs_calls.specs.declared.target.PairCall.TheVariants as pairs
@@ -11,11 +11,11 @@ use Rattle.fs_calls.proofs.RowNames.{if_below}
 use Rattle.fs_calls.specs.declared.call.Call.{Call}
 use Rattle.fs_calls.specs.declared.errno.Errno.{Errno}
 use Rattle.fs_calls.specs.declared.reply.Reply.{Reply}
-use Rattle.fs_nodes.specs.Graphs.{Graph, numbers, set_at}
+use Rattle.fs_nodes.specs.Graphs.{Graph, at, numbers, set_at}
 use Rattle.fs_machine.specs.Moves.{next, next_by, next_on, first_of, step_move, walk_move, target, inner, took, took_by}
 use Rattle.fs_machine.specs.declared.moves.Move.{Move}
 use Rattle.fs_machine.specs.declared.moves.Move.TheVariants.{Take as Takes}
-use Rattle.fs_machine.specs.Records.{Phase, Walking, Placed, Finished, Holds, Record, Holdings, holdings_at}
+use Rattle.fs_machine.specs.Records.{Phase, Walking, Placed, Finished, Holds, Record, Holdings, holdings_at, Head, Side, of_side}
 use Rattle.fs_laws.specs.Invariants.{ForkedAt, HeadsSound, NumberFor, VictimAt, HasSpare, IsSingle, IsUnfinished, Own, Invariant}
 use Rattle.fs_laws.specs.CallFacts.{IsFree, Keeps, CallFacts}
 use Rattle.fs_machine.specs.States.{State, taking}
@@ -25,7 +25,7 @@ use Rattle.fs_laws.proofs.events.OneCallChanged.{Place, Here, Else, place, kept_
 use Rattle.fs_laws.proofs.events.OtherChanges.{kept_root}
 use Rattle.fs_laws.proofs.events.JustFinished.{Either, Changed, Old}
 use Rattle.fs_laws.proofs.events.RecordChanged.{renewed, renews_keep}
-use Rattle.fs_laws.proofs.calls.NodesHeld.{single_at}
+use Rattle.fs_laws.proofs.calls.NodesHeld.{heads_at, only_at, located_at, single_at, one_holdings, none_some}
 
 -- a call that takes: the root first, or from where it stands
 pub data TakesFrom (graph : Graph) (op : Record) (n : ℕ) : Type 0 where
@@ -55,7 +55,10 @@ fresh_well graph n behind (AtEntry c p) = tt
 fresh_well graph n behind (AtPair pairs.Rename p q) = go (common (parent_of p) (parent_of q))
   where
     go : (l : Key) → ForkedAt graph n p q (holdings_at n behind) l
-    go [] = record { source_at = refl; dest_at = refl; source_is = refl; dest_is = refl }
+    go [] = record {
+      stands = heads_at (λ (side : Side) (h : Head). at graph.child n h.walked ≡ Some h.node) n behind (λ side. refl);
+      path = heads_at (λ (side : Side) (h : Head). parent_of (of_side side p q) ≡ h.walked ++ left h.walked (parent_of (of_side side p q))) n behind (λ side. refl);
+    }
     go (x ∷ l) = tt
 
 pub fresh_victim : (graph : Graph) (n : ℕ) (behind : Option ℕ) (remaining : Form) → VictimAt graph remaining (holdings_at n behind)
@@ -126,23 +129,17 @@ own_fresh : (graph : Graph) (op v : Record) (n : ℕ) (behind : Option ℕ) → 
     → under v.walked v.remaining ≡ form op.call → (NumberFor graph op.remaining op.reserved → NumberFor graph v.remaining op.reserved) → (behind ≡ Some n → ⊥) → Own graph v
 own_fresh graph op v n behind o unf phase reserved removed call on parts number differs = record {
   parts = parts ∙ ap form (sym call);
-  well = λ st e. subst (λ (s : Holdings). HeadsSound graph s.node v.remaining s) (holdings_is st e) (fresh_well graph n behind v.remaining);
+  well = λ st e. subst (λ (s : Holdings). HeadsSound graph s.node v.remaining s) (one_holdings on e) (fresh_well graph n behind v.remaining);
   spare = λ m e. o.spare m (sym reserved ∙ e);
   number = λ u f. subst (NumberFor graph v.remaining) (sym reserved) (number (o.number unf (ap (λ (x : Call). by_text (form x)) (sym call) ∙ f)));
   placed = λ i e. (holdings_at n behind, on);
-  gone = λ m e. (let z : ◌≡◌ {A = Option ℕ} None (Some m) = sym (o.intact unf) ∙ sym removed ∙ e in absurd (none_some m z));
+  gone = λ m e. none_some op.removed m (o.intact unf) (sym removed ∙ e);
   intact = λ u. removed ∙ o.intact unf;
   one_spare = λ m e f. o.one_spare m (sym reserved ∙ e) (sym removed ∙ f);
-  victim = λ u st e. subst (λ (s : Holdings). VictimAt graph v.remaining s) (holdings_is st e) (fresh_victim graph n behind v.remaining);
+  victim = λ u st e. subst (λ (s : Holdings). VictimAt graph v.remaining s) (one_holdings on e) (fresh_victim graph n behind v.remaining);
   starts = λ u e. (let z : ◌≡◌ {A = Option Holdings} None (Some (holdings_at n behind)) = sym e ∙ on in cc);
-  single = λ st e. subst IsSingle (holdings_is st e) (single_at n behind differs);
+  single = λ st e. subst IsSingle (one_holdings on e) (single_at n behind differs);
 }
-  where
-    none_some : (m : ℕ) → ◌≡◌ {A = Option ℕ} None (Some m) → ⊥
-    none_some m e = cc
-
-    holdings_is : (st : Holdings) → v.holdings ≡ Some st → holdings_at n behind ≡ st
-    holdings_is st e = let z : ◌≡◌ {A = Option Holdings} (Some (holdings_at n behind)) (Some st) = sym on ∙ e in cc
 
 pub under_nil : (call : Form) → under [] call ≡ call
 under_nil (AtNode c p) = refl
@@ -177,21 +174,14 @@ take_root old inv c op n t text off at_root = subst (λ (v : Record). Invariant 
     fits : Fits op.remaining
     fits = ap by_text (sym (under_nil op.remaining) ∙ ap (λ (k : Key). under k op.remaining) (sym walked) ∙ o.parts) ∙ text
 
-    only : (q : ℕ) → Holds (holdings_at n None) q → q ≡ n
-    only q (inl e) = sym e
-    only q (inr (inl e)) = cc
-    only q (inr (inr (inl h))) = absurd h.0
-    only q (inr (inr (inr (inl h)))) = absurd h.0
-    only q (inr (inr (inr (inr e)))) = cc
-
     kept : CallFacts (numbers old.graph) (set_at c (Some (record op { holdings = Some (holdings_at n None) })) old.ops) (set_at c [] inv.key)
-    kept = kept_root (numbers old.graph) old.ops inv.key c op (record op { holdings = Some (holdings_at n None) }) (holdings_at n None) inv.kept t.is walks walks walked fits refl (ap (λ (m : ℕ). Some m) at_root) only refl refl refl refl (is_free old inv n t.free)
+    kept = kept_root (numbers old.graph) old.ops inv.key c op (record op { holdings = Some (holdings_at n None) }) n inv.kept t.is walks walks walked fits refl (ap (λ (m : ℕ). Some m) at_root) (is_free old inv n t.free)
 
     own : Own old.graph (record op { holdings = Some (holdings_at n None) })
     own = own_fresh old.graph op (record op { holdings = Some (holdings_at n None) }) n None o t.unfinished refl refl refl refl refl o.parts (λ x. x) (λ e. cc)
 
     holds : (st : Holdings) (q : ℕ) → ◌≡◌ {A = Option Holdings} (Some (holdings_at n None)) (Some st) → Holds st q → (q ≡ n) ⊎ (old.holder q ≡ Some c)
-    holds st q e h = let z : holdings_at n None ≡ st = cc in inl (only q (subst (λ (s : Holdings). Holds s q) (sym z) h))
+    holds st q e h = let z : holdings_at n None ≡ st = cc in inl (only_at n q (subst (λ (s : Holdings). Holds s q) (sym z) h))
 
 -- one name on, the call is the same
 pub record Inner (k x : Key) (rem : Form) : Type 0 where
@@ -269,9 +259,9 @@ take_walk old inv c op n st x l t on way child = subst (λ (v : Record). Invaria
 
     kept : CallFacts (numbers old.graph) (set_at c (Some (record op { walked = op.walked ++ x ∷ []; remaining = inner op.remaining; holdings = Some (holdings_at n (Some st.node)) })) old.ops) (set_at c (inv.key c ++ x ∷ []) inv.key)
     kept = kept_take (numbers old.graph) old.ops inv.key c op st n (inv.key c ++ x ∷ []) (holdings_at n (Some st.node)) (record op { walked = op.walked ++ x ∷ []; remaining = inner op.remaining; holdings = Some (holdings_at n (Some st.node)) }) inv.kept t.is on refl refl (is_free old inv n t.free)
-        (takes_walk (numbers old.graph) (inv.key c) st (holdings_at n (Some st.node)) x n k.located.here at_n refl refl refl refl refl)
+        (takes_walk (numbers old.graph) (inv.key c) st x n k.located.here at_n)
         (record {
-          located = record { here = at_n; source = ap (numbers old.graph) (append-nil (inv.key c ++ x ∷ [])) ∙ at_n; dest = ap (numbers old.graph) (append-nil (inv.key c ++ x ∷ [])) ∙ at_n };
+          located = located_at (numbers old.graph) (inv.key c ++ x ∷ []) n (Some st.node) at_n;
           walking = λ w. ap (λ (y : Key). y ++ x ∷ []) (k.walking w);
           fits = step.fits k.fits;
         })

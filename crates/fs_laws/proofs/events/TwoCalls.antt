@@ -5,7 +5,7 @@ use Rattle.fs_names.specs.Keys.{Key, after_prefix}
 use Rattle.fs_names.specs.Names.{Name, same_name}
 use Rattle.fs_names.specs.Parts.{HasNames}
 use Rattle.fs_laws.specs.Maps.{Map, move}
-use Rattle.fs_machine.specs.Records.{Finished, Holds, Phase, Placed, Holdings, Walking}
+use Rattle.fs_machine.specs.Records.{Finished, Holds, Phase, Placed, Holdings, Walking, Source, Side, head_on}
 use Rattle.fs_laws.specs.Placed.{rekey_by}
 use Rattle.fs_laws.specs.CallFacts.{IsAfter, IsClear, Located, Pair}
 use Rattle.fs_laws.proofs.trees.Prefixes.{same_refl, prefix_some, prefix_both, prefix_deeper, prefix_none}
@@ -202,16 +202,14 @@ after_moved tree s t kc kd kt y c d none ends_in at_c at_d off e = go (after_pre
 pub pair_moved : (tree : Map ℕ) (s t kt : Key) (y : Name) (kc : Key) (c : Holdings) (pc : Phase) (kd : Key) (d : Holdings) (pd : Phase)
     → ((r : Key) → tree (t ++ r) ≡ None) → t ≡ kt ++ y ∷ []
     → Located tree kc c → Located tree kd d
-    → ((u v : Key) → after_prefix s kc ≡ None → c.source.walked ≡ u ++ v → after_prefix s (kc ++ u) ≡ None)
-    → ((u v : Key) → after_prefix s kc ≡ None → c.dest.walked ≡ u ++ v → after_prefix s (kc ++ u) ≡ None)
+    → ((side : Side) (u v : Key) → after_prefix s kc ≡ None → (head_on side c).walked ≡ u ++ v → after_prefix s (kc ++ u) ≡ None)
     → (IsAfter pc pd → (after_prefix kc kt ≡ None) ⊎ ((after_prefix s kc ≡ None) × (after_prefix s kd ≡ None)))
     → Pair tree kc c pc kd d pd
     → Pair (move s t tree) (rekey_by t kc (after_prefix s kc)) c pc (rekey_by t kd (after_prefix s kd)) d pd
-pair_moved tree s t kt y kc c pc kd d pd none ends_in lc ld spared_source spared_dest off pair = record {
+pair_moved tree s t kt y kc c pc kd d pd none ends_in lc ld spared off pair = record {
   apart = pair.apart;
   after = λ h. by (off h) (pair.after h);
-  source = λ u v n mu mv is at_n has. pair.source u v n mu mv is (sym (chain_kept tree s t kc c.source.walked u v c.source.node none lc.source (λ i. spared_source u v i is) is) ∙ at_n) has;
-  dest = λ u v n mu mv is at_n has. pair.dest u v n mu mv is (sym (chain_kept tree s t kc c.dest.walked u v c.dest.node none lc.dest (λ i. spared_dest u v i is) is) ∙ at_n) has;
+  clear = λ side u v n mu mv is at_n has. pair.clear side u v n mu mv is (sym (chain_kept tree s t kc (head_on side c).walked u v (head_on side c).node none (lc.head side) (λ i. spared side u v i is) is) ∙ at_n) has;
 }
   where
     by : (after_prefix kc kt ≡ None) ⊎ ((after_prefix s kc ≡ None) × (after_prefix s kd ≡ None)) → after_prefix kc kd ≡ None → after_prefix (rekey_by t kc (after_prefix s kc)) (rekey_by t kd (after_prefix s kd)) ≡ None
@@ -220,16 +218,14 @@ pair_moved tree s t kt y kc c pc kd d pd none ends_in lc ld spared_source spared
 
 -- and so does where it stands
 pub located_moved : (tree : Map ℕ) (s t kc : Key) (c : Holdings) → ((r : Key) → tree (t ++ r) ≡ None) → Located tree kc c
-    → ((u v : Key) → after_prefix s kc ≡ None → c.source.walked ≡ u ++ v → after_prefix s (kc ++ u) ≡ None)
-    → ((u v : Key) → after_prefix s kc ≡ None → c.dest.walked ≡ u ++ v → after_prefix s (kc ++ u) ≡ None)
+    → ((side : Side) (u v : Key) → after_prefix s kc ≡ None → (head_on side c).walked ≡ u ++ v → after_prefix s (kc ++ u) ≡ None)
     → Located (move s t tree) (rekey_by t kc (after_prefix s kc)) c
-located_moved tree s t kc c none l spared_source spared_dest = record {
+located_moved tree s t kc c none l spared = record {
   here =
       ap (move s t tree) (sym (append-nil (rekey_by t kc (after_prefix s kc))))
-      ∙ chain_kept tree s t kc c.source.walked [] c.source.walked c.source.node none l.source (λ i. spared_source [] c.source.walked i refl) refl
+      ∙ chain_kept tree s t kc c.source.walked [] c.source.walked c.source.node none (l.head Source) (λ i. spared Source [] c.source.walked i refl) refl
       ∙ ap tree (append-nil kc) ∙ l.here;
-  source = chain_kept tree s t kc c.source.walked c.source.walked [] c.source.node none l.source (λ i. spared_source c.source.walked [] i (sym (append-nil c.source.walked))) (sym (append-nil c.source.walked)) ∙ l.source;
-  dest = chain_kept tree s t kc c.dest.walked c.dest.walked [] c.dest.node none l.dest (λ i. spared_dest c.dest.walked [] i (sym (append-nil c.dest.walked))) (sym (append-nil c.dest.walked)) ∙ l.dest;
+  head = λ side. chain_kept tree s t kc (head_on side c).walked (head_on side c).walked [] (head_on side c).node none (l.head side) (λ i. spared side (head_on side c).walked [] i (sym (append-nil (head_on side c).walked))) (sym (append-nil (head_on side c).walked)) ∙ l.head side;
 }
 
 -- a helped call: the walking ones are not below it, and it comes last
@@ -237,8 +233,7 @@ pub pair_helped_first : (tree : Map ℕ) (kc : Key) (c : Holdings) (i : ℕ) (kd
 pair_helped_first tree kc c i kd d pd pair none_below last = record {
   apart = pair.apart;
   after = after_of pd none_below last;
-  source = pair.source;
-  dest = pair.dest;
+  clear = pair.clear;
 }
   where
     after_of : (pd : Phase) → (pd ≡ Walking → after_prefix kc kd ≡ None) → ((j : ℕ) → pd ≡ Placed j → j < i) → IsAfter (Placed i) pd → after_prefix kc kd ≡ None
@@ -250,8 +245,7 @@ pub pair_helped_second : (tree : Map ℕ) (kc : Key) (c : Holdings) (pc : Phase)
 pair_helped_second tree kc c pc kd d i pair = record {
   apart = pair.apart;
   after = after_of pc pair.after;
-  source = pair.source;
-  dest = pair.dest;
+  clear = pair.clear;
 }
   where
     after_of : (pc : Phase) → (IsAfter pc Walking → after_prefix kc kd ≡ None) → IsAfter pc (Placed i) → after_prefix kc kd ≡ None

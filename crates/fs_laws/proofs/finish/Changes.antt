@@ -16,15 +16,15 @@ use Rattle.fs_nodes.specs.Graphs.{Graph, at, then_at, numbers, entry_shape, IsGr
 use Rattle.fs_machine.specs.Finishes.{Effect, no_effect, node_effect, entry_effect}
 use Rattle.fs_machine.specs.Moves.{take_if, next_on, victim_of, entry_move}
 use Rattle.fs_machine.specs.declared.moves.Move.TheVariants.{Finish as Finishes}
-use Rattle.fs_machine.specs.Records.{Walking, Placed, Record, Records, Holdings}
-use Rattle.fs_laws.specs.Invariants.{HeadsSound, VictimAt, NumberFor, HasNumber, IsSingle, At_node, At_source, At_dest, At_victim, if_walked}
+use Rattle.fs_machine.specs.Records.{Walking, Placed, Record, Records, Holdings, Side, head_on}
+use Rattle.fs_laws.specs.Invariants.{HeadsSound, VictimAt, NumberFor, HasNumber, IsSingle, At_node, At_head, At_victim, if_walked}
 use Rattle.fs_laws.specs.Placed.{rekey, rekey_move}
 use Rattle.fs_laws.specs.CallFacts.{Located, CallFacts}
 use Rattle.fs_laws.proofs.calls.Located.{change_under}
 use Rattle.fs_laws.proofs.graphs.Walks.{at_before, at_child}
 use Rattle.fs_laws.proofs.graphs.TreesOfChanges.{CanLink, CanUnlink, numbers_linked, numbers_unlinked, put_one}
 use Rattle.fs_laws.proofs.finish.Replies.{Leaf, leaf_children, add_of, remove_of, no_entry}
-use Rattle.fs_laws.proofs.events.OtherChanges.{kept_put, kept_cut, victim_off}
+use Rattle.fs_laws.proofs.events.OtherChanges.{OffPlaces, kept_put, kept_cut, victim_off}
 use Rattle.fs_laws.proofs.graphs.Alterations.{Altered, Reached, altered_same, altered_content, altered_linked, altered_unlinked, unlinked_gone}
 use Rattle.fs_laws.proofs.helping.ReadsNothingBelow.{take_done}
 
@@ -120,8 +120,8 @@ remove_victim Rmdir None full (Some (Dir (x ∷ names))) i = cc
 
 -- a victim that the call holds is none of its own places
 pub own_off : (tree : Map ℕ) (k : Key) (st : Holdings) (t : Key) (v : ℕ) → Located tree k st → IsSingle st → st.victim ≡ Some v → tree t ≡ Some v
-    → (k ≡ t → ⊥) × ((k ++ st.source.walked ≡ t → ⊥) × (k ++ st.dest.walked ≡ t → ⊥))
-own_off tree k st t v loc single vic at_t = (here, (λ e. source st.source.walked refl e, λ e. dest st.dest.walked refl e))
+    → OffPlaces t k st
+own_off tree k st t v loc single vic at_t = (here, λ side. head side (head_on side st).walked refl)
   where
     node_is : (l : Key) (n : ℕ) → tree l ≡ Some n → l ≡ t → n ≡ v
     node_is l n e f = let z : ◌≡◌ {A = Option ℕ} (Some n) (Some v) = sym e ∙ ap tree f ∙ at_t in cc
@@ -129,13 +129,9 @@ own_off tree k st t v loc single vic at_t = (here, (λ e. source st.source.walke
     here : k ≡ t → ⊥
     here e = let z : At_node ≡ At_victim = single At_node At_victim v (ap Some (node_is k st.node loc.here e)) vic in cc
 
-    source : (w : Key) → st.source.walked ≡ w → k ++ st.source.walked ≡ t → ⊥
-    source [] i e = here (sym (append-nil k) ∙ ap (λ (l : Key). k ++ l) (sym i) ∙ e)
-    source (x ∷ w) i e = let z : At_source ≡ At_victim = single At_source At_victim v (ap (λ (l : Key). if_walked l (Some st.source.node)) i ∙ ap Some (node_is (k ++ st.source.walked) st.source.node loc.source e)) vic in cc
-
-    dest : (w : Key) → st.dest.walked ≡ w → k ++ st.dest.walked ≡ t → ⊥
-    dest [] i e = here (sym (append-nil k) ∙ ap (λ (l : Key). k ++ l) (sym i) ∙ e)
-    dest (x ∷ w) i e = let z : At_dest ≡ At_victim = single At_dest At_victim v (ap (λ (l : Key). if_walked l (Some st.dest.node)) i ∙ ap Some (node_is (k ++ st.dest.walked) st.dest.node loc.dest e)) vic in cc
+    head : (side : Side) (w : Key) → (head_on side st).walked ≡ w → k ++ (head_on side st).walked ≡ t → ⊥
+    head side [] i e = here (sym (append-nil k) ∙ ap (λ (l : Key). k ++ l) (sym i) ∙ e)
+    head side (x ∷ w) i e = let z : At_head side ≡ At_victim = single (At_head side) At_victim v (ap (λ (l : Key). if_walked l (Some (head_on side st).node)) i ∙ ap Some (node_is (k ++ (head_on side st).walked) (head_on side st).node (loc.head side) e)) vic in cc
 
 none_moves : (k d : Key) (names : List Name) (x : Name) (p : Key) (e : Edit) → (change_under k (edit_change d names x p e)).moves ≡ None
 none_moves k d names x p Keep = refl

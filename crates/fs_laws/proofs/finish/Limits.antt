@@ -21,7 +21,7 @@ use Rattle.fs_calls.specs.declared.reply.Reply.TheVariants.{Done, Wrote}
 use Rattle.fs_nodes.specs.Graphs.{Graph, set_at, entry_shape, IsGraph, at}
 use Rattle.fs_machine.specs.Finishes.{node_effect, entry_effect, move_effect, rename_effect, effect_at, effect_of, finish}
 use Rattle.fs_machine.specs.Moves.{dir_error, path_error, there_by, rename_at, target}
-use Rattle.fs_machine.specs.Records.{Record, Holdings}
+use Rattle.fs_machine.specs.Records.{Record, Holdings, Source, Dest}
 use Rattle.fs_laws.specs.Invariants.{Forked, ForkedAt, HeadsSound}
 use Rattle.fs_laws.proofs.trees.Prefixes.{prefix_some, same_refl}
 use Rattle.fs_laws.proofs.events.OneCallChanged.{Place, Here, Else, place}
@@ -181,10 +181,10 @@ one_parent : (graph : Graph) (p q : Key) (st : Holdings) → Forked graph st.nod
 one_parent graph p q st f way same =
     let e : parent_of p ≡ parent_of q = end_is (parent_of p) (parent_of q) same in
     let a : parent_of p ≡ [] = sym (common_self (parent_of p)) ∙ ap (common (parent_of p)) e ∙ way in
-    let b : st.source.walked ≡ [] = nil_front st.source.walked (left st.source.walked (parent_of p)) (sym a ∙ f.source_is) in
-    let c : st.dest.walked ≡ [] = nil_front st.dest.walked (left st.dest.walked (parent_of q)) (sym (sym e ∙ a) ∙ f.dest_is) in
-    let s : ◌≡◌ {A = Option ℕ} (Some st.node) (Some st.source.node) = sym (ap (λ (k : Key). at graph.child st.node k) b) ∙ f.source_at in
-    let d : ◌≡◌ {A = Option ℕ} (Some st.node) (Some st.dest.node) = sym (ap (λ (k : Key). at graph.child st.node k) c) ∙ f.dest_at in
+    let b : st.source.walked ≡ [] = nil_front st.source.walked (left st.source.walked (parent_of p)) (sym a ∙ (f.path Source)) in
+    let c : st.dest.walked ≡ [] = nil_front st.dest.walked (left st.dest.walked (parent_of q)) (sym (sym e ∙ a) ∙ (f.path Dest)) in
+    let s : ◌≡◌ {A = Option ℕ} (Some st.node) (Some st.source.node) = sym (ap (λ (k : Key). at graph.child st.node k) b) ∙ f.stands Source in
+    let d : ◌≡◌ {A = Option ℕ} (Some st.node) (Some st.dest.node) = sym (ap (λ (k : Key). at graph.child st.node k) c) ∙ f.stands Dest in
     let t : st.node ≡ st.source.node = cc in
     let u : st.node ≡ st.dest.node = cc in
     sym t ∙ u

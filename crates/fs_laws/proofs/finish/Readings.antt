@@ -14,11 +14,12 @@ use Rattle.fs_calls.specs.declared.errno.Errno.{Errno}
 use Rattle.fs_nodes.specs.Graphs.{Graph, then_at, at, numbers, graph_shapes, entry_shape, IsGraph}
 use Rattle.fs_machine.specs.Moves.{walk_move, walk_errno, path_error, dir_error, there_by, rename_at}
 use Rattle.fs_machine.specs.declared.moves.Move.TheVariants.{Finish as Finishes}
-use Rattle.fs_machine.specs.Records.{Holdings}
+use Rattle.fs_machine.specs.Records.{Holdings, Source, Dest}
 use Rattle.fs_laws.proofs.trees.Prefixes.{prefix_some}
 use Rattle.fs_laws.proofs.calls.Located.{resolve_under, key_is}
 use Rattle.fs_laws.proofs.graphs.Walks.{at_from, at_before, at_child, then_some}
 use Rattle.fs_laws.proofs.graphs.TreesOfChanges.{resolve_found}
+use Rattle.fs_laws.specs.Invariants.{Forked}
 
 -- the tree that a node spells
 abbrev pub shapes_from : Graph → ℕ → Map Shape
@@ -94,10 +95,7 @@ in_finish graph is n s c p m u f =
 
 -- rename at its common directory
 pub record ForkAt (graph : Graph) (n : ℕ) (p q : Key) (st : Holdings) : Type 0 where
-  pub source_at : at graph.child n st.source.walked ≡ Some st.source.node
-  pub dest_at : at graph.child n st.dest.walked ≡ Some st.dest.node
-  pub source_is : parent_of p ≡ st.source.walked ++ left st.source.walked (parent_of p)
-  pub dest_is : parent_of q ≡ st.dest.walked ++ left st.dest.walked (parent_of q)
+  pub fork : Forked graph n p q st
   pub source_stops : Stops graph st.source.node (left st.source.walked (parent_of p))
   -- the destination head sets out when the source parent is a directory
   pub dest_stops : dir_error (left st.source.walked (parent_of p)) (graph.shape st.source.node) ≡ None → Stops graph st.dest.node (left st.dest.walked (parent_of q))
@@ -157,24 +155,24 @@ rename_finish graph is n s p q st mp mq u at_c =
     ∙ ap (λ (e : Option Errno). rename_row e (resolve_dir (shapes_from graph n) (parent_of q)) (shapes_from graph n p) (is_end (after_prefix p q)) (shapes_from graph n q) (is_end (after_prefix (parent_of p) (parent_of q)) || not (is_full (shapes_from graph n (parent_of q))))) source_read
   where
     source_read : dir_error (left st.source.walked (parent_of p)) (graph.shape st.source.node) ≡ resolve_dir (shapes_from graph n) (parent_of p)
-    source_read = dir_read graph is n st.source.node s st.source.walked (left st.source.walked (parent_of p)) u at_c.source_at at_c.source_stops ∙ ap (resolve_dir (shapes_from graph n)) (sym at_c.source_is)
+    source_read = dir_read graph is n st.source.node s st.source.walked (left st.source.walked (parent_of p)) u (at_c.fork.stands Source) at_c.source_stops ∙ ap (resolve_dir (shapes_from graph n)) (sym (at_c.fork.path Source))
 
     dest_read : dir_error (left st.source.walked (parent_of p)) (graph.shape st.source.node) ≡ None → dir_error (left st.dest.walked (parent_of q)) (graph.shape st.dest.node) ≡ resolve_dir (shapes_from graph n) (parent_of q)
-    dest_read i = dir_read graph is n st.dest.node s st.dest.walked (left st.dest.walked (parent_of q)) u at_c.dest_at (at_c.dest_stops i) ∙ ap (resolve_dir (shapes_from graph n)) (sym at_c.dest_is)
+    dest_read i = dir_read graph is n st.dest.node s st.dest.walked (left st.dest.walked (parent_of q)) u (at_c.fork.stands Dest) (at_c.dest_stops i) ∙ ap (resolve_dir (shapes_from graph n)) (sym (at_c.fork.path Dest))
 
     p_read : dir_error (left st.source.walked (parent_of p)) (graph.shape st.source.node) ≡ None → entry_shape graph st.source.node (last_of p) ≡ shapes_from graph n p
     p_read i =
-        entry_read graph n st.source.node st.source.walked (last_of p) at_c.source_at
-        ∙ ap (shapes_from graph n) (ap (λ (l : Key). l ++ last_of p ∷ []) (sym (at_c.source_is ∙ ap (λ (l : Key). st.source.walked ++ l) (arrived (left st.source.walked (parent_of p)) (graph.shape st.source.node) i) ∙ append-nil st.source.walked)) ∙ sym (key_is p mp))
+        entry_read graph n st.source.node st.source.walked (last_of p) (at_c.fork.stands Source)
+        ∙ ap (shapes_from graph n) (ap (λ (l : Key). l ++ last_of p ∷ []) (sym (at_c.fork.path Source ∙ ap (λ (l : Key). st.source.walked ++ l) (arrived (left st.source.walked (parent_of p)) (graph.shape st.source.node) i) ∙ append-nil st.source.walked)) ∙ sym (key_is p mp))
 
     e_is : dir_error (left st.dest.walked (parent_of q)) (graph.shape st.dest.node) ≡ None → parent_of q ≡ st.dest.walked
-    e_is j = at_c.dest_is ∙ ap (λ (l : Key). st.dest.walked ++ l) (arrived (left st.dest.walked (parent_of q)) (graph.shape st.dest.node) j) ∙ append-nil st.dest.walked
+    e_is j = at_c.fork.path Dest ∙ ap (λ (l : Key). st.dest.walked ++ l) (arrived (left st.dest.walked (parent_of q)) (graph.shape st.dest.node) j) ∙ append-nil st.dest.walked
 
     q_read : dir_error (left st.dest.walked (parent_of q)) (graph.shape st.dest.node) ≡ None → entry_shape graph st.dest.node (last_of q) ≡ shapes_from graph n q
-    q_read j = entry_read graph n st.dest.node st.dest.walked (last_of q) at_c.dest_at ∙ ap (shapes_from graph n) (ap (λ (l : Key). l ++ last_of q ∷ []) (sym (e_is j)) ∙ sym (key_is q mq))
+    q_read j = entry_read graph n st.dest.node st.dest.walked (last_of q) (at_c.fork.stands Dest) ∙ ap (shapes_from graph n) (ap (λ (l : Key). l ++ last_of q ∷ []) (sym (e_is j)) ∙ sym (key_is q mq))
 
     e_read : dir_error (left st.dest.walked (parent_of q)) (graph.shape st.dest.node) ≡ None → graph.shape st.dest.node ≡ shapes_from graph n (parent_of q)
-    e_read j = sym (ap (shapes_from graph n) (e_is j) ∙ there graph n st.dest.node st.dest.walked at_c.dest_at)
+    e_read j = sym (ap (shapes_from graph n) (e_is j) ∙ there graph n st.dest.node st.dest.walked (at_c.fork.stands Dest))
 
     rest : dir_error (left st.source.walked (parent_of p)) (graph.shape st.source.node) ≡ None → dir_error (left st.dest.walked (parent_of q)) (graph.shape st.dest.node) ≡ None
         → rename_row_in_dirs (entry_shape graph st.source.node (last_of p)) (is_end (after_prefix p q)) (there_by (has_more (after_prefix q p)) (entry_shape graph st.dest.node (last_of q))) (is_end (after_prefix (parent_of p) (parent_of q)) || not (is_full (graph.shape st.dest.node)))

@@ -1,5 +1,5 @@
 -- A rename that really moves: what is known where it finishes.
-use Rattle.std.proofs.Common.{◌≡◌, ℕ, Bool, true, false, not, ◌&&◌, ◌||◌, List, [], ◌∷◌, ◌++◌, Option, Some, None, refl, sym, ap, ap₂, ◌∙◌, append-nil, subst, ◌⊎◌, inl, inr}
+use Rattle.std.proofs.Common.{◌≡◌, ℕ, Bool, true, false, not, ◌&&◌, ◌||◌, List, [], ◌∷◌, ◌++◌, Option, Some, None, refl, sym, ap, ap₂, ◌∙◌, subst, ◌⊎◌, inl, inr}
 use Rattle.fs_names.specs.Keys.{Key, after_prefix, parent_of, last_of, has_more, is_end}
 use Rattle.fs_names.specs.Names.{Name, has_name}
 use Rattle.fs_names.specs.Parts.{left}
@@ -7,17 +7,20 @@ use Rattle.fs_names.specs.Shapes.{Shape, Dir, File, is_full}
 use Rattle.fs_calls.specs.Forms.{AtPair, Fits}
 use Rattle.fs_calls.specs.declared.target.PairCall.TheVariants as pairs
 use Rattle.fs_calls.specs.Rows.{to_row}
-use Rattle.fs_nodes.specs.Graphs.{Graph, at, then_at, entry_shape, IsGraph}
+use Rattle.fs_nodes.specs.Graphs.{Graph, at, numbers, then_at, entry_shape, IsGraph}
 use Rattle.fs_machine.specs.Moves.{first_of, step_move, take_if, same_kind, fork_move, rename_move, dir_then, dir_error, rename_at, there_by, moved_node}
 use Rattle.fs_machine.specs.declared.moves.Move.{Move}
 use Rattle.fs_machine.specs.declared.moves.Move.TheVariants.{Finish as Finishes}
-use Rattle.fs_machine.specs.Records.{Holdings}
+use Rattle.fs_machine.specs.Records.{Holdings, Source, Dest, Side, of_side, head_on}
 use Rattle.fs_laws.specs.Invariants.{Forked, VictimAt}
 use Rattle.fs_laws.specs.Placed.{Aside}
 use Rattle.fs_laws.proofs.graphs.Walks.{then_some}
 use Rattle.fs_laws.proofs.finish.Readings.{arrived}
+use Rattle.fs_laws.proofs.graphs.TreesOfChanges.{CanMove}
+use Rattle.fs_laws.proofs.trees.Prefixes.{prefix_both}
+use Rattle.fs_laws.specs.CallFacts.{Located}
 use Rattle.fs_laws.proofs.finish.Replies.{step_stops, Leaf, some_entry}
-use Rattle.fs_laws.proofs.finish.TreeAfter.{Really, really, full_row, paths_aside}
+use Rattle.fs_laws.proofs.finish.TreeAfter.{Really, really, path_walked, entry_key, full_row, paths_aside}
 use Rattle.fs_laws.proofs.helping.ReadsNothingBelow.{take_done}
 
 -- what the entry leads to: nothing, or the victim that the rename holds
@@ -25,8 +28,7 @@ abbrev pub Replaces : Graph → Holdings → Name → Type 0
 Replaces graph st y = (graph.child st.dest.node y ≡ None) ⊎ ((v : ℕ) × (graph.child st.dest.node y ≡ Some v) × (st.victim ≡ Some v) × Leaf (graph.shape v))
 
 pub record Real (graph : Graph) (p q : Key) (st : Holdings) : Type 0 where
-  pub source_is : parent_of p ≡ st.source.walked
-  pub dest_is : parent_of q ≡ st.dest.walked
+  pub path : (side : Side) → parent_of (of_side side p q) ≡ (head_on side st).walked
   pub source_dir : (names : List Name) × (graph.shape st.source.node ≡ Some (Dir names))
   pub dest_dir : (names : List Name) × (graph.shape st.dest.node ≡ Some (Dir names))
   pub moved : (m : ℕ) × (graph.child st.source.node (last_of p) ≡ Some m)
@@ -70,7 +72,7 @@ pub at_entries : (graph : Graph) → IsGraph graph → (p q : Key) (st : Holding
 at_entries graph is p q st o f es ed e =
     let sd : (names : List Name) × (graph.shape st.source.node ≡ Some (Dir names)) = dir_of_none (left st.source.walked (parent_of p)) (graph.shape st.source.node) es in
     let dd : (names : List Name) × (graph.shape st.dest.node ≡ Some (Dir names)) = dir_of_none (left st.dest.walked (parent_of q)) (graph.shape st.dest.node) ed in
-    let nd : (names : List Name) × (graph.shape st.node ≡ Some (Dir names)) = walked_dir graph is st.node st.source.node st.source.walked sd.0 f.source_at sd.1 in
+    let nd : (names : List Name) × (graph.shape st.node ≡ Some (Dir names)) = walked_dir graph is st.node st.source.node st.source.walked sd.0 (f.stands Source) sd.1 in
     let rest2 : Move = dir_then (graph.shape st.dest.node) (rename_move graph p q st) in
     let rest1 : Move = dir_then (graph.shape st.source.node) (first_of (step_move graph st.dest.node (left st.dest.walked (parent_of q))) rest2) in
     let a : first_of (step_move graph st.source.node (left st.source.walked (parent_of p))) rest1 ≡ Finishes o = dir_then_is (graph.shape st.node) nd.0 (first_of (step_move graph st.source.node (left st.source.walked (parent_of p))) rest1) o nd.1 e in
@@ -93,8 +95,7 @@ victim_held graph p q st o v victim e child want =
 pub real_of : (graph : Graph) → IsGraph graph → (p q : Key) (st : Holdings) (o : Option ℕ) → Fits (AtPair pairs.Rename p q) → Forked graph st.node p q st → VictimAt graph (AtPair pairs.Rename p q) st → fork_move graph p q st ≡ Finishes o → (rename_at graph p q st).1 ≡ true
     → Real graph p q st
 real_of graph is p q st o fits f victim e moves = record {
-  source_is = f.source_is ∙ ap (λ (l : Key). st.source.walked ++ l) (arrived (left st.source.walked (parent_of p)) (graph.shape st.source.node) w.source) ∙ append-nil st.source.walked;
-  dest_is = f.dest_is ∙ ap (λ (l : Key). st.dest.walked ++ l) (arrived (left st.dest.walked (parent_of q)) (graph.shape st.dest.node) w.dest) ∙ append-nil st.dest.walked;
+  path = path;
   source_dir = dir_of_none (left st.source.walked (parent_of p)) (graph.shape st.source.node) w.source;
   dest_dir = dir_of_none (left st.dest.walked (parent_of q)) (graph.shape st.dest.node) w.dest;
   moved = let g : (m : ℕ) × (graph.child st.source.node (last_of p) ≡ Some m) × (graph.shape m ≡ Some w.moved) = some_entry graph st.source.node (last_of p) w.moved w.is in (g.0, g.1);
@@ -110,6 +111,10 @@ real_of graph is p q st o fits f victim e moves = record {
 
     above : has_more (after_prefix q p) ≡ true → ⊥
     above b = full_row w.moved (entry_shape graph st.dest.node (last_of q)) (is_end (after_prefix (parent_of p) (parent_of q)) || not (is_full (graph.shape st.dest.node))) (has_more (after_prefix q p)) b w.to
+
+    path : (side : Side) → parent_of (of_side side p q) ≡ (head_on side st).walked
+    path Source = path_walked Source graph st.node p q st f w.source
+    path Dest = path_walked Dest graph st.node p q st f w.dest
 
     not_above : (b : Bool) → has_more (after_prefix q p) ≡ b → b ≡ false
     not_above true i = absurd (above i)
@@ -129,3 +134,13 @@ real_of graph is p q st o fits f victim e moves = record {
         let want : (same_kind (entry_shape graph st.source.node (last_of p)) (entry_shape graph st.dest.node (last_of q)) && not (is_end (after_prefix p q)) && not (has_more (after_prefix q p))) ≡ true =
         all_true (same_kind (entry_shape graph st.source.node (last_of p)) (entry_shape graph st.dest.node (last_of q))) (is_end (after_prefix p q)) (has_more (after_prefix q p)) (ap₂ same_kind w.is entry ∙ l.0) w.other no_prefix in
         inr (v, i, victim_held graph p q st o v victim (at_entries graph is p q st o f w.source w.dest e) i want, subst Leaf (sym u.1) l.1)
+
+-- from where a call stands, by the keys of both entries
+pub can_move : (graph : Graph) (k p q : Key) (st : Holdings) → Located (numbers graph) k st → Fits (AtPair pairs.Rename p q) → (real : Real graph p q st) → CanMove graph (k ++ st.source.walked) st.source.node (last_of p) (k ++ st.dest.walked) st.dest.node (last_of q) real.moved.0
+can_move graph k p q st loc fits real = record { from_at = loc.head Source; to_at = loc.head Dest; there = real.moved.1; aside = (ap₂ after_prefix s_is t_is ∙ prefix_both k p q ∙ real.aside.0, ap₂ after_prefix t_is s_is ∙ prefix_both k q p ∙ real.aside.1) }
+  where
+    s_is : (k ++ st.source.walked) ++ last_of p ∷ [] ≡ k ++ p
+    s_is = entry_key Source k p q st fits (real.path Source)
+
+    t_is : (k ++ st.dest.walked) ++ last_of q ∷ [] ≡ k ++ q
+    t_is = entry_key Dest k p q st fits (real.path Dest)

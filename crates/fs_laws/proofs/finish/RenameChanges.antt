@@ -1,5 +1,5 @@
 -- What the finish of a rename, and of each form of call, does.
-use Rattle.std.proofs.Common.{◌≡◌, ℕ, Bool, true, false, not, ◌&&◌, ◌||◌, List, [], ◌∷◌, ◌++◌, Option, Some, None, refl, sym, ap, ap₂, ◌∙◌, append_assoc, append-nil, subst, inl, inr}
+use Rattle.std.proofs.Common.{◌≡◌, ℕ, Bool, true, false, not, ◌&&◌, ◌||◌, List, [], ◌∷◌, ◌++◌, Option, Some, None, refl, sym, ap, ap₂, ◌∙◌, append-nil, subst, inl, inr}
 use mathlib.Core.Path.{fun_ext}
 use Rattle.fs_names.specs.Keys.{Key, after_prefix, parent_of, last_of, has_more, is_end}
 use Rattle.fs_names.specs.Names.{Name}
@@ -17,12 +17,12 @@ use Rattle.fs_nodes.specs.Graphs.{Graph, at, numbers, graph_shapes, entry_shape,
 use Rattle.fs_machine.specs.Finishes.{move_effect, rename_effect, effect_at}
 use Rattle.fs_machine.specs.Moves.{first_of, step_move, take_if, same_kind, next_on, entry_move, fork_move, rename_move, moved_node, path_error, dir_error, walk_errno, rename_at}
 use Rattle.fs_machine.specs.declared.moves.Move.TheVariants.{Finish as Finishes}
-use Rattle.fs_machine.specs.Records.{Walking, Record, Records, Holdings}
+use Rattle.fs_machine.specs.Records.{Walking, Record, Records, Holdings, Source, Dest, head_on}
 use Rattle.fs_laws.specs.Invariants.{ForkedAt, HeadsSound, VictimAt}
 use Rattle.fs_laws.specs.Placed.{Aside, rekey_by}
 use Rattle.fs_laws.specs.CallFacts.{Located, CallFacts}
-use Rattle.fs_laws.proofs.trees.Prefixes.{prefix_append, prefix_some, prefix_both}
-use Rattle.fs_laws.proofs.calls.Located.{key_is, from_more, to_more, change_under}
+use Rattle.fs_laws.proofs.trees.Prefixes.{prefix_append, prefix_some}
+use Rattle.fs_laws.proofs.calls.Located.{from_more, to_more, change_under}
 use Rattle.fs_laws.proofs.graphs.Walks.{at_before, at_child, at_from, then_some}
 use Rattle.fs_laws.proofs.trees.Commuting.{put_other}
 use Rattle.fs_laws.proofs.graphs.TreesOfChanges.{CanMove, numbers_moved, move_one}
@@ -30,12 +30,13 @@ use Rattle.fs_laws.proofs.finish.Readings.{Stops, ForkAt, below_is, dir_read, re
 use Rattle.fs_laws.proofs.calls.Behind.{finish_on}
 use Rattle.fs_laws.proofs.finish.Replies.{step_stops, fork_stops, common_is, leaf_children}
 use Rattle.fs_laws.proofs.events.OneCallChanged.{kept_move}
-use Rattle.fs_laws.proofs.events.OtherChanges.{kept_cut, victim_off}
+use Rattle.fs_laws.proofs.events.OtherChanges.{OffPlaces, kept_cut, victim_off}
 use Rattle.fs_laws.proofs.helping.MovesSpareOthers.{Moves, spares_of}
 use Rattle.fs_laws.proofs.graphs.Move.{Replaced}
 use Rattle.fs_laws.proofs.graphs.Alterations.{altered_moved, moved_gone}
-use Rattle.fs_laws.proofs.finish.RealMoves.{Real, Replaces, real_of, at_entries, dir_of_none}
-use Rattle.fs_laws.proofs.helping.RenamesReadNothingBelow.{source_held, dest_held}
+use Rattle.fs_laws.proofs.finish.TreeAfter.{entry_key}
+use Rattle.fs_laws.proofs.finish.RealMoves.{can_move, Real, Replaces, real_of, at_entries, dir_of_none}
+use Rattle.fs_laws.proofs.calls.NodesHeld.{node_held}
 use Rattle.fs_laws.proofs.finish.Changes.{Finisher, Does, does_nothing, does_on, does_in, content_of, own_off}
 
 -- a move does not see what it overwrites
@@ -81,33 +82,30 @@ does_move graph ops key c op st o p q ws r f rem fits real moved_is = subst (λ 
     kt = key c ++ st.dest.walked
 
     s_is : (key c ++ st.source.walked) ++ last_of p ∷ [] ≡ key c ++ p
-    s_is = append_assoc (key c) st.source.walked (last_of p ∷ []) ∙ ap (λ (l : Key). key c ++ l) (ap (λ (l : Key). l ++ last_of p ∷ []) (sym real.source_is) ∙ sym (key_is p (from_more p q fits)))
+    s_is = entry_key Source (key c) p q st fits (real.path Source)
 
     t_is : (key c ++ st.dest.walked) ++ last_of q ∷ [] ≡ key c ++ q
-    t_is = append_assoc (key c) st.dest.walked (last_of q ∷ []) ∙ ap (λ (l : Key). key c ++ l) (ap (λ (l : Key). l ++ last_of q ∷ []) (sym real.dest_is) ∙ sym (key_is q (to_more p q fits)))
-
-    aside : Aside ((key c ++ st.source.walked) ++ last_of p ∷ []) ((key c ++ st.dest.walked) ++ last_of q ∷ [])
-    aside = (ap₂ after_prefix s_is t_is ∙ prefix_both (key c) p q ∙ real.aside.0, ap₂ after_prefix t_is s_is ∙ prefix_both (key c) q p ∙ real.aside.1)
+    t_is = entry_key Dest (key c) p q st fits (real.path Dest)
 
     can : CanMove graph (key c ++ st.source.walked) st.source.node (last_of p) (key c ++ st.dest.walked) st.dest.node (last_of q) real.moved.0
-    can = record { from_at = loc.source; to_at = loc.dest; there = real.moved.1; aside = aside }
+    can = can_move graph (key c) p q st loc fits real
 
     entry : numbers graph ((key c ++ st.dest.walked) ++ last_of q ∷ []) ≡ graph.child st.dest.node (last_of q)
-    entry = at_child graph.child 0 st.dest.node (key c ++ st.dest.walked) (last_of q) loc.dest
+    entry = at_child graph.child 0 st.dest.node (key c ++ st.dest.walked) (last_of q) (loc.head Dest)
 
     s_at : numbers graph ((key c ++ st.source.walked) ++ last_of p ∷ []) ≡ Some real.moved.0
-    s_at = at_child graph.child 0 st.source.node (key c ++ st.source.walked) (last_of p) loc.source ∙ real.moved.1
+    s_at = at_child graph.child 0 st.source.node (key c ++ st.source.walked) (last_of p) (loc.head Source) ∙ real.moved.1
 
     replaced : Replaces graph st (last_of q) → Replaced graph st.dest.node (last_of q)
     replaced (inl n) = inl n
     replaced (inr (v, n, h, leaf)) = inr (v, n, leaf_children graph f.is_graph v (graph.shape v) refl leaf)
 
     -- nobody stands at what is overwritten
-    off : Replaces graph st (last_of q) → (d : ℕ) (x : Record) (other : Holdings) → ops d ≡ Some x → x.holdings ≡ Some other → (key d ≡ (key c ++ st.dest.walked) ++ last_of q ∷ [] → ⊥) × ((key d ++ other.source.walked ≡ (key c ++ st.dest.walked) ++ last_of q ∷ [] → ⊥) × (key d ++ other.dest.walked ≡ (key c ++ st.dest.walked) ++ last_of q ∷ [] → ⊥))
+    off : Replaces graph st (last_of q) → (d : ℕ) (x : Record) (other : Holdings) → ops d ≡ Some x → x.holdings ≡ Some other → OffPlaces ((key c ++ st.dest.walked) ++ last_of q ∷ []) (key d) other
     off (inl n) d x other e g =
         let l : Located (numbers graph) (key d) other = (f.kept.each d x other e g).located in
         let none : (a : Key) (i : ℕ) → numbers graph a ≡ Some i → a ≡ (key c ++ st.dest.walked) ++ last_of q ∷ [] → ⊥ = λ a i h j. (let z : ◌≡◌ {A = Option ℕ} (Some i) None = sym h ∙ ap (numbers graph) j ∙ entry ∙ n in cc) in
-        (none (key d) other.node l.here, (none (key d ++ other.source.walked) other.source.node l.source, none (key d ++ other.dest.walked) other.dest.node l.dest))
+        (none (key d) other.node l.here, λ side. none (key d ++ (head_on side other).walked) (head_on side other).node (l.head side))
     off (inr (v, n, h, leaf)) d x other e g =
         victim_off (numbers graph) ops key c op st ((key c ++ st.dest.walked) ++ last_of q ∷ []) v f.kept f.is f.on h (entry ∙ n) (own_off (numbers graph) (key c) st ((key c ++ st.dest.walked) ++ last_of q ∷ []) v loc f.single h (entry ∙ n)) d x other e g
 
@@ -136,10 +134,9 @@ does_move graph ops key c op st o p q ws r f rem fits real moved_is = subst (λ 
       is = f.is;
       on = f.on;
       unfinished = f.unfinished;
-      source_held = source_held (numbers graph) (key c) st loc;
-      dest_held = dest_held (numbers graph) (key c) st loc;
+      held = λ side. node_held side (numbers graph) (key c) st loc;
       free = free;
-      aside = aside;
+      aside = can.aside;
       none_below = λ w d x other n e g i. below_none w d x other e g i (after_prefix ((key c ++ st.source.walked) ++ last_of p ∷ []) (key d)) refl;
       places = f.places;
     }
@@ -152,7 +149,7 @@ does_move graph ops key c op st o p q ws r f rem fits real moved_is = subst (λ 
 
     moved : CallFacts (move ((key c ++ st.source.walked) ++ last_of p ∷ []) ((key c ++ st.dest.walked) ++ last_of q ∷ []) (numbers graph)) ops (λ d. rekey_by ((key c ++ st.dest.walked) ++ last_of q ∷ []) (key d) (after_prefix ((key c ++ st.source.walked) ++ last_of p ∷ []) (key d)))
     moved =
-        subst (λ (t : Map ℕ). CallFacts t ops (λ d. rekey_by ((key c ++ st.dest.walked) ++ last_of q ∷ []) (key d) (after_prefix ((key c ++ st.source.walked) ++ last_of p ∷ []) (key d)))) (move_cut ((key c ++ st.source.walked) ++ last_of p ∷ []) ((key c ++ st.dest.walked) ++ last_of q ∷ []) (numbers graph) aside)
+        subst (λ (t : Map ℕ). CallFacts t ops (λ d. rekey_by ((key c ++ st.dest.walked) ++ last_of q ∷ []) (key d) (after_prefix ((key c ++ st.source.walked) ++ last_of p ∷ []) (key d)))) (move_cut ((key c ++ st.source.walked) ++ last_of p ∷ []) ((key c ++ st.dest.walked) ++ last_of q ∷ []) (numbers graph) can.aside)
         (kept_move (put ((key c ++ st.dest.walked) ++ last_of q ∷ []) None (numbers graph)) ops key ((key c ++ st.source.walked) ++ last_of p ∷ []) ((key c ++ st.dest.walked) ++ last_of q ∷ []) (key c ++ st.dest.walked) (last_of q) cut
         (move_one (put ((key c ++ st.dest.walked) ++ last_of q ∷ []) None (numbers graph)) ((key c ++ st.source.walked) ++ last_of p ∷ []) ((key c ++ st.dest.walked) ++ last_of q ∷ []) cut.one_key)
         (spares_of (put ((key c ++ st.dest.walked) ++ last_of q ∷ []) None (numbers graph)) ops key c op st (last_of p) (last_of q) cut moves))
@@ -169,7 +166,7 @@ does_move graph ops key c op st o p q ws r f rem fits real moved_is = subst (λ 
     made : Does graph ops key st op.reserved (change_under (key c) (move_change true ws p q)) (record { reply = r; graph = moved_in st.source.node (last_of p) st.dest.node (last_of q) real.moved.0 graph; reserved = op.reserved; removed = st.victim })
     made = record {
       linked = None;
-      altered = altered_moved graph st f.is_graph (key c ++ st.source.walked) (last_of p) (key c ++ st.dest.walked) (last_of q) real.moved.0 real.source_dir.0 real.dest_dir.0 can real.source_dir.1 real.dest_dir.1 (replaced real.replaces) (source_held (numbers graph) (key c) st loc) (dest_held (numbers graph) (key c) st loc);
+      altered = altered_moved graph st f.is_graph (key c ++ st.source.walked) (last_of p) (key c ++ st.dest.walked) (last_of q) real.moved.0 real.source_dir.0 real.dest_dir.0 can real.source_dir.1 real.dest_dir.1 (replaced real.replaces) (node_held Source (numbers graph) (key c) st loc) (node_held Dest (numbers graph) (key c) st loc);
       kept = new_kept;
       links = λ n j. cc;
       reserved = λ n j. j;
@@ -221,7 +218,7 @@ does_rename graph ops key c op st o p q s f rem fits u = go (common (parent_of p
             (does_nothing graph ops key st op.reserved (ch row.1) (rename_at graph p q st).0 f.is_graph f.kept (ap (λ (b : Bool). (ch b).moves) (sym (ap (λ (r : Reply × Bool). r.1) rows) ∙ j)))
         by true j =
             let real : Real graph p q st = real_of graph f.is_graph p q st o fits w vic fork j in
-            let w2 : rename_move graph p q st ≡ Finishes o = at_entries graph f.is_graph p q st o w (error_none st.source.walked (parent_of p) (graph.shape st.source.node) real.source_is real.source_dir) (error_none st.dest.walked (parent_of q) (graph.shape st.dest.node) real.dest_is real.dest_dir) fork in
+            let w2 : rename_move graph p q st ≡ Finishes o = at_entries graph f.is_graph p q st o w (error_none st.source.walked (parent_of p) (graph.shape st.source.node) (real.path Source) real.source_dir) (error_none st.dest.walked (parent_of q) (graph.shape st.dest.node) (real.path Dest) real.dest_dir) fork in
             let same : moved_node (rename_at graph p q st).1 (graph.child st.source.node (last_of p)) ≡ o = finishes_same w2 in
             let d : Does graph ops key st op.reserved (ch true) (move_effect graph st (last_of p) (last_of q) op.reserved (rename_at graph p q st).0 true (graph.child st.source.node (last_of p))) =
             does_move graph ops key c op st o p q (rename_writes (is_end (after_prefix (parent_of p) (parent_of q))) (parent_of p) (names_of (graph_shapes graph (key c ++ parent_of p))) (last_of p) (parent_of q) (names_of (graph_shapes graph (key c ++ parent_of q))) (last_of q)) (rename_at graph p q st).0 f rem fits real

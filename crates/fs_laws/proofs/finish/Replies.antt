@@ -20,7 +20,7 @@ use Rattle.fs_machine.specs.Finishes.{node_effect, entry_effect, move_effect, re
 use Rattle.fs_machine.specs.Moves.{first_of, step_move, dir_then, fork_move, rename_move, target_move, next_on, walk_move, walk_errno, path_error, dir_error, rename_at}
 use Rattle.fs_machine.specs.declared.moves.Move.{Move}
 use Rattle.fs_machine.specs.declared.moves.Move.TheVariants.{Finish as Finishes}
-use Rattle.fs_machine.specs.Records.{Holdings}
+use Rattle.fs_machine.specs.Records.{Holdings, Source}
 use Rattle.fs_laws.specs.Invariants.{Forked, ForkedAt, HeadsSound, HasNumber}
 use Rattle.fs_laws.proofs.calls.Behind.{finish_on}
 use Rattle.fs_laws.proofs.calls.Located.{outcome_located, change_under, in_more, from_more, to_more}
@@ -66,14 +66,14 @@ file_dir : (s : Option Shape) (bytes : List ℕ) → (s ≡ Some (File bytes)) �
 file_dir s bytes e names f = let z : ◌≡◌ {A = Option Shape} (Some (File bytes)) (Some (Dir names)) = sym e ∙ f in cc
 
 pub fork_stops : (graph : Graph) → IsGraph graph → (n : ℕ) (p q : Key) (st : Holdings) (s : Option ℕ) → st.node ≡ n → Forked graph n p q st → fork_move graph p q st ≡ Finishes s → ForkAt graph n p q st
-fork_stops graph is n p q st s here f e = record { source_at = f.source_at; dest_at = f.dest_at; source_is = f.source_is; dest_is = f.dest_is; source_stops = both.0; dest_stops = both.1 }
+fork_stops graph is n p q st s here f e = record { fork = f; source_stops = both.0; dest_stops = both.1 }
   where
     Both : Type 0
     Both = Stops graph st.source.node (left st.source.walked (parent_of p)) × (dir_error (left st.source.walked (parent_of p)) (graph.shape st.source.node) ≡ None → Stops graph st.dest.node (left st.dest.walked (parent_of q)))
 
     no_way : ((names : List Name) → graph.shape n ≡ Some (Dir names) → ⊥) → Stops graph st.source.node (left st.source.walked (parent_of p)) × (dir_error (left st.source.walked (parent_of p)) (graph.shape st.source.node) ≡ None → Stops graph st.dest.node (left st.dest.walked (parent_of q)))
     no_way none =
-        let z : n ≡ st.source.node = no_walk graph is n st.source.node st.source.walked none f.source_at in
+        let z : n ≡ st.source.node = no_walk graph is n st.source.node st.source.walked none (f.stands Source) in
         let none2 : (names : List Name) → graph.shape st.source.node ≡ Some (Dir names) → ⊥ = λ names i. none names (ap graph.shape z ∙ i) in
         (stops_else graph st.source.node (left st.source.walked (parent_of p)) (graph.shape st.source.node) refl none2, λ i. absurd (dir_fails (left st.source.walked (parent_of p)) (graph.shape st.source.node) none2 i))
 

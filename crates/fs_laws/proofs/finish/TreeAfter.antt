@@ -2,7 +2,7 @@
 use Rattle.std.proofs.Common.{◌≡◌, ℕ, Bool, true, false, eqb, not, ◌||◌, List, [], ◌∷◌, ◌++◌, Option, Some, None, refl, sym, ap, ap₂, ◌∙◌, append_assoc, append-nil}
 use Rattle.fs_names.specs.Keys.{Key, after_prefix, has_more, parent_of, last_of, is_end}
 use Rattle.fs_names.specs.Names.{Name}
-use Rattle.fs_names.specs.Parts.{common, left}
+use Rattle.fs_names.specs.Parts.{common, left, HasNames}
 use Rattle.fs_names.specs.Shapes.{Shape, Dir, File, is_full, names_of}
 use Rattle.fs_laws.specs.Changes.{Change, changed, resolve, resolve_dir, looked, content_change, edit_change, move_change, rename_writes, outcome, after, if_sound}
 use Rattle.fs_calls.specs.Forms.{NodeCall, Form, AtNode, AtEntry, AtPair, by_text, under, Fits}
@@ -16,8 +16,8 @@ use Rattle.fs_nodes.specs.Graphs.{Graph, then_at, at, numbers, graph_shapes, ent
 use Rattle.fs_machine.specs.Finishes.{node_effect, move_effect, rename_effect, effect_at}
 use Rattle.fs_machine.specs.Moves.{first_of, step_move, fork_move, target_move, next_on, walk_errno, dir_error, there_by, rename_at}
 use Rattle.fs_machine.specs.declared.moves.Move.TheVariants.{Finish as Finishes}
-use Rattle.fs_machine.specs.Records.{Holdings}
-use Rattle.fs_laws.specs.Invariants.{ForkedAt, HeadsSound, NumberFor}
+use Rattle.fs_machine.specs.Records.{Holdings, Source, Dest, Side, of_side, head_on}
+use Rattle.fs_laws.specs.Invariants.{ForkedAt, HeadsSound, NumberFor, Forked}
 use Rattle.fs_laws.specs.Placed.{Aside}
 use Rattle.fs_laws.proofs.trees.Prefixes.{prefix_append, prefix_some, prefix_both}
 use Rattle.fs_laws.proofs.calls.Located.{outcome_located, change_under, writes_at, key_is, in_more, from_more, to_more, below_text}
@@ -97,6 +97,18 @@ on_tree graph is k n reserved (r, Some bytes) e = shapes_content graph is k n by
 on_none : (graph : Graph) (k : Key) (c : NodeCall) (p : Key) (e : Option Errno) (f : Errno) (s : Option Shape) → Some f ≡ e → graph_shapes graph ≡ changed (change_under k (content_change p (node_row c e s).1)) (graph_shapes graph)
 on_none graph k c p e f s i = ap (λ (o : Option Errno). changed (change_under k (content_change p (node_row c o s).1)) (graph_shapes graph)) i
 
+-- a head that has arrived has walked its path's parent
+pub path_walked : (side : Side) (graph : Graph) (n : ℕ) (p q : Key) (st : Holdings) → Forked graph n p q st → dir_error (left (head_on side st).walked (parent_of (of_side side p q))) (graph.shape (head_on side st).node) ≡ None → parent_of (of_side side p q) ≡ (head_on side st).walked
+path_walked side graph n p q st f none = f.path side ∙ ap (λ (l : Key). (head_on side st).walked ++ l) (arrived (left (head_on side st).walked (parent_of (of_side side p q))) (graph.shape (head_on side st).node) none) ∙ append-nil (head_on side st).walked
+
+-- and its entry is at its path
+pub entry_key : (side : Side) (k p q : Key) (st : Holdings) → Fits (AtPair pairs.Rename p q) → parent_of (of_side side p q) ≡ (head_on side st).walked → (k ++ (head_on side st).walked) ++ last_of (of_side side p q) ∷ [] ≡ k ++ of_side side p q
+entry_key side k p q st fits i = append_assoc k (head_on side st).walked (last_of (of_side side p q) ∷ []) ∙ ap (λ (l : Key). k ++ l) (ap (λ (l : Key). l ++ last_of (of_side side p q) ∷ []) (sym i) ∙ sym (key_is (of_side side p q) (more side)))
+  where
+    more : (side : Side) → HasNames (of_side side p q)
+    more Source = from_more p q fits
+    more Dest = to_more p q fits
+
 -- a rename that really moves
 move_tree : (graph : Graph) → IsGraph graph → (k : Key) (n : ℕ) (p q : Key) (st : Holdings) (reserved : Option ℕ) (r : Reply) → numbers graph k ≡ Some n → Fits (AtPair pairs.Rename p q) → ForkAt graph n p q st
     → Really (dir_error (left st.source.walked (parent_of p)) (graph.shape st.source.node)) (dir_error (left st.dest.walked (parent_of q)) (graph.shape st.dest.node)) (entry_shape graph st.source.node (last_of p)) (is_end (after_prefix p q)) (there_by (has_more (after_prefix q p)) (entry_shape graph st.dest.node (last_of q))) (is_end (after_prefix (parent_of p) (parent_of q)) || not (is_full (graph.shape st.dest.node)))
@@ -112,22 +124,22 @@ move_tree graph is k n p q st reserved r at_k fits f w =
     m = some_entry graph st.source.node (last_of p) w.moved w.is
 
     from_at : numbers graph (k ++ st.source.walked) ≡ Some st.source.node
-    from_at = at_from graph.child 0 n k st.source.walked at_k ∙ f.source_at
+    from_at = at_from graph.child 0 n k st.source.walked at_k ∙ f.fork.stands Source
 
     to_at : numbers graph (k ++ st.dest.walked) ≡ Some st.dest.node
-    to_at = at_from graph.child 0 n k st.dest.walked at_k ∙ f.dest_at
+    to_at = at_from graph.child 0 n k st.dest.walked at_k ∙ f.fork.stands Dest
 
     d_is : parent_of p ≡ st.source.walked
-    d_is = f.source_is ∙ ap (λ (l : Key). st.source.walked ++ l) (arrived (left st.source.walked (parent_of p)) (graph.shape st.source.node) w.source) ∙ append-nil st.source.walked
+    d_is = path_walked Source graph n p q st f.fork w.source
 
     e_is : parent_of q ≡ st.dest.walked
-    e_is = f.dest_is ∙ ap (λ (l : Key). st.dest.walked ++ l) (arrived (left st.dest.walked (parent_of q)) (graph.shape st.dest.node) w.dest) ∙ append-nil st.dest.walked
+    e_is = path_walked Dest graph n p q st f.fork w.dest
 
     p_key : (k ++ st.source.walked) ++ last_of p ∷ [] ≡ k ++ p
-    p_key = append_assoc k st.source.walked (last_of p ∷ []) ∙ ap (λ (l : Key). k ++ l) (ap (λ (l : Key). l ++ last_of p ∷ []) (sym d_is) ∙ sym (key_is p (from_more p q fits)))
+    p_key = entry_key Source k p q st fits d_is
 
     q_key : (k ++ st.dest.walked) ++ last_of q ∷ [] ≡ k ++ q
-    q_key = append_assoc k st.dest.walked (last_of q ∷ []) ∙ ap (λ (l : Key). k ++ l) (ap (λ (l : Key). l ++ last_of q ∷ []) (sym e_is) ∙ sym (key_is q (to_more p q fits)))
+    q_key = entry_key Dest k p q st fits e_is
 
     apart : Aside p q
     apart = paths_aside p q fits w.other (λ b. full_row w.moved (entry_shape graph st.dest.node (last_of q)) (is_end (after_prefix (parent_of p) (parent_of q)) || not (is_full (graph.shape st.dest.node))) (has_more (after_prefix q p)) b w.to)
@@ -146,7 +158,7 @@ move_tree graph is k n p q st reserved r at_k fits f w =
     writes =
         ap (λ (b : Bool). rename_writes b (k ++ st.source.walked) (names_of (graph.shape st.source.node)) (last_of p) (k ++ st.dest.walked) (names_of (graph.shape st.dest.node)) (last_of q)) same_name
         ∙ ap₂ (λ (a b : Key). rename_writes (is_end (after_prefix (parent_of p) (parent_of q))) (k ++ a) (names_of (graph.shape st.source.node)) (last_of p) (k ++ b) (names_of (graph.shape st.dest.node)) (last_of q)) (sym d_is) (sym e_is)
-        ∙ ap₂ (λ (a b : List Name). rename_writes (is_end (after_prefix (parent_of p) (parent_of q))) (k ++ parent_of p) a (last_of p) (k ++ parent_of q) b (last_of q)) (names_at st.source.node st.source.walked (parent_of p) d_is f.source_at) (names_at st.dest.node st.dest.walked (parent_of q) e_is f.dest_at)
+        ∙ ap₂ (λ (a b : List Name). rename_writes (is_end (after_prefix (parent_of p) (parent_of q))) (k ++ parent_of p) a (last_of p) (k ++ parent_of q) b (last_of q)) (names_at st.source.node st.source.walked (parent_of p) d_is (f.fork.stands Source)) (names_at st.dest.node st.dest.walked (parent_of q) e_is (f.fork.stands Dest))
         ∙ writes_at k (is_end (after_prefix (parent_of p) (parent_of q))) (parent_of p) (names_of (shapes_from graph n (parent_of p))) (last_of p) (parent_of q) (names_of (shapes_from graph n (parent_of q))) (last_of q)
 
 looked_tree : (graph : Graph) → IsGraph graph → (k : Key) (s : Shape) (remaining : Form) (st : Holdings) (reserved o : Option ℕ) → numbers graph k ≡ Some st.node → graph.shape st.node ≡ Some s → Fits remaining → HeadsSound graph st.node remaining st → NumberFor graph remaining reserved → next_on graph remaining st ≡ Finishes o

@@ -8,7 +8,7 @@ use Rattle.fs_names.specs.Shapes.{Shape, Dir}
 use Rattle.fs_calls.specs.Forms.{Form, AtNode, AtEntry, AtPair}
 use Rattle.fs_calls.specs.declared.target.PairCall.TheVariants as pairs
 use Rattle.fs_nodes.specs.Graphs.{Graph, at, then_at, numbers, graph_shapes, IsGraph, released_in, reserved_in}
-use Rattle.fs_machine.specs.Records.{Record, Holdings}
+use Rattle.fs_machine.specs.Records.{Record, Holdings, head_on}
 use Rattle.fs_laws.specs.Invariants.{ForkedAt, HeadsSound, NumberFor, VictimAt, HasSpare, Own}
 use Rattle.fs_laws.proofs.graphs.Walks.{at_child}
 use Rattle.fs_laws.proofs.events.OneCallChanged.{Place, Here, Else, place}
@@ -22,7 +22,7 @@ well_children old new same n (AtEntry c p) st w = w
 well_children old new same n (AtPair pairs.Rename p q) st w = go (common (parent_of p) (parent_of q)) w
   where
     go : (l : Key) → ForkedAt old n p q st l → ForkedAt new n p q st l
-    go [] w = record { source_at = subst (λ (k : ℕ → Name → Option ℕ). at k n st.source.walked ≡ Some st.source.node) (sym same) w.source_at; dest_at = subst (λ (k : ℕ → Name → Option ℕ). at k n st.dest.walked ≡ Some st.dest.node) (sym same) w.dest_at; source_is = w.source_is; dest_is = w.dest_is }
+    go [] w = record { stands = λ side. subst (λ (k : ℕ → Name → Option ℕ). at k n (head_on side st).walked ≡ Some (head_on side st).node) (sym same) (w.stands side); path = w.path }
     go (x ∷ l) w = w
 
 victim_children : (old new : Graph) → new.child ≡ old.child → (remaining : Form) (st : Holdings) → VictimAt old remaining st → VictimAt new remaining st

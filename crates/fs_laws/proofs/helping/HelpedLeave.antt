@@ -9,9 +9,9 @@ use Rattle.fs_calls.specs.declared.reply.Reply.{Reply}
 use Rattle.fs_nodes.specs.Graphs.{Graph, Children, at, numbers, set_at, reserved_in, then_at}
 use Rattle.fs_machine.specs.Finishes.{finish}
 use Rattle.fs_machine.specs.Leaving.{is_removed, releasing, let_go, finished_op, unreserved}
-use Rattle.fs_machine.specs.Moves.{next, took, target, victim_took, dest_stepped, source_stepped, took_by}
+use Rattle.fs_machine.specs.Moves.{next, took, target, took_by}
 use Rattle.fs_machine.specs.declared.moves.Move.TheVariants.{Take as Takes, LetGo as Leaves, Finish as Finishes}
-use Rattle.fs_machine.specs.Records.{Phase, Walking, Placed, Finished, Holds, Record, Holdings, holdings_at}
+use Rattle.fs_machine.specs.Records.{Phase, Walking, Placed, Finished, Holds, Record, Holdings, holdings_at, Source}
 use Rattle.fs_laws.specs.Below.{IsHolding, IsAboutToMove, Meanwhile, Now, Begins_another, Steps_another, Helps_one, EachBelow, HelpsAreFew}
 use Rattle.fs_timeline.specs.Timeline.{commit_count}
 use Rattle.fs_laws.specs.Invariants.{IsIn, Own, Invariant}
@@ -23,20 +23,14 @@ use Rattle.fs_machine.specs.declared.answers.Stepped.TheVariants.{Idle, Took, Bu
 use Rattle.fs_laws.proofs.graphs.Walks.{at_child, at_from, then_some}
 use Rattle.fs_laws.proofs.events.OneCallChanged.{Place, Here, Else, place}
 use Rattle.fs_laws.proofs.events.TwoCalls.{Ends as Snoc, ends, ends_same}
-use Rattle.fs_laws.proofs.helping.RenamesReadNothingBelow.{source_held}
+use Rattle.fs_laws.proofs.calls.NodesHeld.{node_held, none_some, one_holdings}
 use Rattle.fs_laws.proofs.events.JustFinished.{Either, Changed, Old, either}
 use Rattle.fs_laws.proofs.events.LetGo.{LetsGo, On_way, At_end, Last, lets_go}
 use Rattle.fs_laws.proofs.events.Take.{TakesFrom, From_nowhere, From_holdings, takes_from}
-use Rattle.fs_laws.proofs.calls.Takes.{Take, Walk, Entry, Source, Dest, Replaced, takes_by, with_holdings, walked_on}
+use Rattle.fs_laws.proofs.calls.Takes.{Take, Walk, There, stands, same_node, takes_by, with_holdings, walked_on}
 use Rattle.fs_laws.proofs.states.Headline.{run_keeps}
 use Rattle.fs_laws.proofs.helping.WhoStandsBelow.{not_below}
 use Rattle.fs_laws.proofs.helping.NobodyEnters.{ToMove, to_move, NewEntry, Same_entry, Linked, Moved, finish_entries}
-
-holdings_is : (a b : Holdings) → ◌≡◌ {A = Option Holdings} (Some a) (Some b) → a ≡ b
-holdings_is a b e = cc
-
-none_some : {A : Type 0} (o : Option A) (v : A) → o ≡ None → o ≡ Some v → ⊥
-none_some o v e f = let z : ◌≡◌ {A = Option _} None (Some v) = sym e ∙ f in cc
 
 -- what is known of the rename before an event
 record Mover (s : State) (c moved : ℕ) : Type 0 where
@@ -58,7 +52,7 @@ moved_located : (s : State) (c moved : ℕ) (m : Mover s c moved) → Located (n
 moved_located s c moved m = (m.inv.kept.each c m.op m.to.st m.is m.to.on).located
 
 at_moved : (s : State) (c moved : ℕ) (m : Mover s c moved) → numbers s.graph (parent_key s c moved m ++ last_of m.to.p ∷ []) ≡ Some moved
-at_moved s c moved m = at_child s.graph.child 0 m.to.st.source.node (parent_key s c moved m) (last_of m.to.p) (moved_located s c moved m).source ∙ m.to.child
+at_moved s c moved m = at_child s.graph.child 0 m.to.st.source.node (parent_key s c moved m) (last_of m.to.p) ((moved_located s c moved m).head Source) ∙ m.to.child
 
 at_below : (s : State) (c moved : ℕ) (m : Mover s c moved) (key : Key) (n : ℕ) → at s.graph.child moved key ≡ Some n → numbers s.graph ((parent_key s c moved m ++ last_of m.to.p ∷ []) ++ key) ≡ Some n
 at_below s c moved m key n e = at_from s.graph.child 0 moved (parent_key s c moved m ++ last_of m.to.p ∷ []) key (at_moved s c moved m) ∙ e
@@ -83,9 +77,9 @@ walk_below s c moved m f n op st x key differs a child e = go key e
     -- a call that stands at the parent would share it
     shared : m.inv.key c ++ m.to.st.source.walked ≡ m.inv.key f → ⊥
     shared i =
-        let z : ◌≡◌ {A = Option ℕ} (Some m.to.st.source.node) (Some st.node) = sym (moved_located s c moved m).source ∙ ap (numbers s.graph) i ∙ there.here in
+        let z : ◌≡◌ {A = Option ℕ} (Some m.to.st.source.node) (Some st.node) = sym ((moved_located s c moved m).head Source) ∙ ap (numbers s.graph) i ∙ there.here in
         let y : m.to.st.source.node ≡ st.node = cc in
-        (m.inv.kept.pairs c f m.op op m.to.st st (λ j. differs (sym j)) m.is a.is m.to.on a.on).apart st.node (subst (Holds m.to.st) y (source_held (numbers s.graph) (m.inv.key c) m.to.st (moved_located s c moved m))) (inl refl)
+        (m.inv.kept.pairs c f m.op op m.to.st st (λ j. differs (sym j)) m.is a.is m.to.on a.on).apart st.node (subst (Holds m.to.st) y (node_held Source (numbers s.graph) (m.inv.key c) m.to.st (moved_located s c moved m))) (inl refl)
 
     go : (key : Key) → at s.graph.child moved key ≡ Some n → (r : Key) × (at s.graph.child moved r ≡ Some st.node)
     go [] e = absurd (shared (ends_same (m.inv.key c ++ m.to.st.source.walked) (m.inv.key f) (last_of m.to.p) x (sym (append-nil (parent_key s c moved m ++ last_of m.to.p ∷ [])) ∙ same [] e)).0)
@@ -115,7 +109,7 @@ took_outside s c moved m f n op is move d (q, q_is, walks, (st, key, on, e)) = g
     from before v v_is ph on_before r i j = (op, ap s.ops i ∙ is, sym ph ∙ ap (λ (o : Record). o.phase) (sym v_is ∙ j) ∙ walks, (before, r.0, on_before, r.1))
 
     at_new : (v : Record) (new : Holdings) → took op n ≡ v → v.holdings ≡ Some new → took op n ≡ q → new ≡ st
-    at_new v new v_is on_v j = holdings_is new st (sym on_v ∙ ap (λ (o : Record). o.holdings) (sym v_is ∙ j) ∙ on)
+    at_new v new v_is on_v j = one_holdings on_v (ap (λ (o : Record). o.holdings) (sym v_is ∙ j) ∙ on)
 
     here : (before new : Holdings) (v : Record) → took op n ≡ v → v.phase ≡ op.phase → v.holdings ≡ Some new → new.node ≡ before.node → op.holdings ≡ Some before → d ≡ f → took op n ≡ q → IsWalkingBelow s moved d
     here before new v v_is ph on_v same on_before i j = from before v v_is ph on_before (key, e ∙ ap (λ (x : Holdings). Some x.node) (sym (at_new v new v_is on_v j)) ∙ ap (λ (x : ℕ). Some x) same) i j
@@ -125,10 +119,7 @@ took_outside s c moved m f n op is move d (q, q_is, walks, (st, key, on, e)) = g
         let new : Holdings = holdings_at n (Some before.node) in
         let at_n : at s.graph.child moved key ≡ Some n = e ∙ ap (λ (z : Holdings). Some z.node) (sym (at_new (walked_on op before x n) (holdings_at n (Some before.node)) t refl j)) in
         from before (walked_on op before x n) t refl on_b (walk_below s c moved m f n op before x key not_mover (record { is = is; on = on_b }) child at_n) i j
-    by before on_b (Entry c2 p rem way b child off t) i j = here before (victim_took before n) (with_holdings op (victim_took before n)) t refl refl refl on_b i j
-    by before on_b (Source p q2 x l rem way b at_left child t) i j = here before (source_stepped before x n) (with_holdings op (source_stepped before x n)) t refl refl refl on_b i j
-    by before on_b (Dest p q2 x l names rem way b arrived dir at_left child t) i j = here before (dest_stepped before x n) (with_holdings op (dest_stepped before x n)) t refl refl refl on_b i j
-    by before on_b (Replaced p q2 names rem way b arrived dir at_left want child off t) i j = here before (victim_took before n) (with_holdings op (victim_took before n)) t refl refl refl on_b i j
+    by before on_b (There at_target b t) i j = here before (stands at_target) (with_holdings op (stands at_target)) t refl refl (same_node at_target) on_b i j
 
     taken : TakesFrom s.graph op n → d ≡ f → took op n ≡ q → IsWalkingBelow s moved d
     taken (From_nowhere text off z) i j =
@@ -157,7 +148,7 @@ let_go_outside s moved f n op is move d (q, q_is, walks, (st, key, on, e)) = go 
 
     left : LetsGo op n → d ≡ f → let_go op n ≡ q → IsWalkingBelow s moved d
     left (On_way before new u on_b left_is lets same) i j =
-        let l : new ≡ st = holdings_is new st (sym left_is ∙ ap (λ (o : Record). o.holdings) j ∙ on) in
+        let l : new ≡ st = one_holdings left_is (ap (λ (o : Record). o.holdings) j ∙ on) in
         (op, ap s.ops i ∙ is, ap (λ (o : Record). o.phase) j ∙ walks, (before, key, on_b, at_old ∙ ap (λ (x : ℕ). Some x) (sym (ap (λ (x : Holdings). x.node) l) ∙ lets.node)))
     left (At_end before new r ph on_b left_is l only) i j = let z : ◌≡◌ {A = Phase} (Finished r) Walking = sym ph ∙ ap (λ (o : Record). o.phase) j ∙ walks in cc
     left (Last before r ph on_b left_is node only) i j = let z : ◌≡◌ {A = Phase} (Finished r) Walking = sym ph ∙ ap (λ (o : Record). o.phase) j ∙ walks in cc

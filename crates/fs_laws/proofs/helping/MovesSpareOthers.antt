@@ -4,7 +4,7 @@ use Rattle.std.proofs.lemmas.Bool.{cases_lt}
 use Rattle.fs_names.specs.Keys.{Key, after_prefix}
 use Rattle.fs_names.specs.Names.{Name}
 use Rattle.fs_laws.specs.Maps.{Map}
-use Rattle.fs_machine.specs.Records.{Finished, Holds, Record, Records, Phase, Placed, Holdings, Walking}
+use Rattle.fs_machine.specs.Records.{Finished, Holds, Record, Records, Phase, Placed, Holdings, Walking, Source, Dest, Side, head_on}
 use Rattle.fs_laws.specs.Placed.{Aside}
 use Rattle.fs_laws.specs.CallFacts.{IsAfter, Keeps, CallFacts}
 use Rattle.fs_laws.proofs.trees.Prefixes.{prefix_deeper}
@@ -18,8 +18,7 @@ pub record Moves (tree : Map ℕ) (ops : Records) (key : ℕ → Key) (c : ℕ) 
   pub is : ops c ≡ Some op
   pub on : op.holdings ≡ Some st
   pub unfinished : (op.phase ≡ Walking) ⊎ ((j : ℕ) × (op.phase ≡ Placed j))
-  pub source_held : Holds st st.source.node
-  pub dest_held : Holds st st.dest.node
+  pub held : (side : Side) → Holds st (head_on side st).node
   pub free : (r : Key) → tree (((key c ++ st.dest.walked) ++ y ∷ []) ++ r) ≡ None
   pub aside : Aside ((key c ++ st.source.walked) ++ x ∷ []) ((key c ++ st.dest.walked) ++ y ∷ [])
   -- the rule of helping: while it walks, no walking call is below what it moves
@@ -34,7 +33,7 @@ after_itself (Finished r) h = h
 
 pub spares_of : (tree : Map ℕ) (ops : Records) (key : ℕ → Key) (c : ℕ) (op : Record) (st : Holdings) (x y : Name) → CallFacts tree ops key → Moves tree ops key c op st x y
     → Spares tree ops key ((key c ++ st.source.walked) ++ x ∷ []) ((key c ++ st.dest.walked) ++ y ∷ []) (key c ++ st.dest.walked) y
-spares_of tree ops key c op st x y kept m = record { none = m.free; ends_in = refl; source = source; dest = dest; walking = walking; off = off }
+spares_of tree ops key c op st x y kept m = record { none = m.free; ends_in = refl; head = head; walking = walking; off = off }
   where
     s : Key
     s = (key c ++ st.source.walked) ++ x ∷ []
@@ -57,14 +56,12 @@ spares_of tree ops key c op st x y kept m = record { none = m.free; ends_in = re
         (b, (let i : st ≡ other = cc in i))
 
     -- the moved node is deeper than all that the call itself has walked
-    off_source : after_prefix ((key c ++ st.source.walked) ++ x ∷ []) (key c ++ st.source.walked) ≡ None
-    off_source = prefix_shorter (key c ++ st.source.walked) x
-
-    off_dest : after_prefix ((key c ++ st.source.walked) ++ x ∷ []) (key c ++ st.dest.walked) ≡ None
-    off_dest = prefix_before ((key c ++ st.source.walked) ++ x ∷ []) (key c ++ st.dest.walked) (y ∷ []) m.aside.0
+    off_head : (side : Side) → after_prefix ((key c ++ st.source.walked) ++ x ∷ []) (key c ++ (head_on side st).walked) ≡ None
+    off_head Source = prefix_shorter (key c ++ st.source.walked) x
+    off_head Dest = prefix_before ((key c ++ st.source.walked) ++ x ∷ []) (key c ++ st.dest.walked) (y ∷ []) m.aside.0
 
     off_here : after_prefix ((key c ++ st.source.walked) ++ x ∷ []) (key c) ≡ None
-    off_here = prefix_before ((key c ++ st.source.walked) ++ x ∷ []) (key c) st.source.walked off_source
+    off_here = prefix_before ((key c ++ st.source.walked) ++ x ∷ []) (key c) st.source.walked (off_head Source)
 
     part : (walked u v : Key) → after_prefix ((key c ++ st.source.walked) ++ x ∷ []) (key c ++ walked) ≡ None → walked ≡ u ++ v → after_prefix ((key c ++ st.source.walked) ++ x ∷ []) (key c ++ u) ≡ None
     part walked u v e i = prefix_before ((key c ++ st.source.walked) ++ x ∷ []) (key c ++ u) v (ap (after_prefix ((key c ++ st.source.walked) ++ x ∷ [])) (append_assoc (key c) u v ∙ ap (λ (l : Key). key c ++ l) (sym i)) ∙ e)
@@ -76,19 +73,12 @@ spares_of tree ops key c op st x y kept m = record { none = m.free; ends_in = re
     apart : (d : ℕ) (q : Record) (other : Holdings) → (c ≡ d → ⊥) → ops d ≡ Some q → q.holdings ≡ Some other → (n : ℕ) → Holds other n → Holds st n → ⊥
     apart d q other n f g r h i = (kept.pairs c d op q st other n m.is f m.on g).apart r i h
 
-    source : (d : ℕ) (q : Record) (other : Holdings) → ops d ≡ Some q → q.holdings ≡ Some other → (u v : Key) → after_prefix ((key c ++ st.source.walked) ++ x ∷ []) (key d) ≡ None → other.source.walked ≡ u ++ v → after_prefix ((key c ++ st.source.walked) ++ x ∷ []) (key d ++ u) ≡ None
-    source d q other f g u v e i = go (decide d)
+    head : (side : Side) (d : ℕ) (q : Record) (other : Holdings) → ops d ≡ Some q → q.holdings ≡ Some other → (u v : Key) → after_prefix ((key c ++ st.source.walked) ++ x ∷ []) (key d) ≡ None → (head_on side other).walked ≡ u ++ v → after_prefix ((key c ++ st.source.walked) ++ x ∷ []) (key d ++ u) ≡ None
+    head side d q other f g u v e i = go (decide d)
       where
         go : (c ≡ d) ⊎ (c ≡ d → ⊥) → after_prefix ((key c ++ st.source.walked) ++ x ∷ []) (key d ++ u) ≡ None
-        go (inl j) = subst (λ (n : ℕ). after_prefix ((key c ++ st.source.walked) ++ x ∷ []) (key n ++ u) ≡ None) j (part st.source.walked u v off_source (ap (λ (o : Holdings). o.source.walked) (mine d q other j f g).1 ∙ i))
-        go (inr n) = walked_off tree (key d) other.source.walked other st (key c ++ st.source.walked) x st.source.node (kept.each d q other f g).located.here (apart d q other n f g) here.located.source m.source_held (kept.pairs d c q op other st (λ h. n (sym h)) f m.is g m.on).source u v e i
-
-    dest : (d : ℕ) (q : Record) (other : Holdings) → ops d ≡ Some q → q.holdings ≡ Some other → (u v : Key) → after_prefix ((key c ++ st.source.walked) ++ x ∷ []) (key d) ≡ None → other.dest.walked ≡ u ++ v → after_prefix ((key c ++ st.source.walked) ++ x ∷ []) (key d ++ u) ≡ None
-    dest d q other f g u v e i = go (decide d)
-      where
-        go : (c ≡ d) ⊎ (c ≡ d → ⊥) → after_prefix ((key c ++ st.source.walked) ++ x ∷ []) (key d ++ u) ≡ None
-        go (inl j) = subst (λ (n : ℕ). after_prefix ((key c ++ st.source.walked) ++ x ∷ []) (key n ++ u) ≡ None) j (part st.dest.walked u v off_dest (ap (λ (o : Holdings). o.dest.walked) (mine d q other j f g).1 ∙ i))
-        go (inr n) = walked_off tree (key d) other.dest.walked other st (key c ++ st.source.walked) x st.source.node (kept.each d q other f g).located.here (apart d q other n f g) here.located.source m.source_held (kept.pairs d c q op other st (λ h. n (sym h)) f m.is g m.on).dest u v e i
+        go (inl j) = subst (λ (n : ℕ). after_prefix ((key c ++ st.source.walked) ++ x ∷ []) (key n ++ u) ≡ None) j (part (head_on side st).walked u v (off_head side) (ap (λ (o : Holdings). (head_on side o).walked) (mine d q other j f g).1 ∙ i))
+        go (inr n) = walked_off tree (key d) (head_on side other).walked other st (key c ++ st.source.walked) x st.source.node (kept.each d q other f g).located.here (apart d q other n f g) (here.located.head Source) (m.held Source) ((kept.pairs d c q op other st (λ h. n (sym h)) f m.is g m.on).clear side) u v e i
 
     walking : (d : ℕ) (q : Record) (other : Holdings) → ops d ≡ Some q → q.holdings ≡ Some other → q.phase ≡ Walking → after_prefix ((key c ++ st.source.walked) ++ x ∷ []) (key d) ≡ None
     walking d q other f g w = go (decide d) m.unfinished
@@ -102,7 +92,7 @@ spares_of tree ops key c op st x y kept m = record { none = m.free; ends_in = re
     off d e p q sd se f g h i after = go (decide d) (decide e)
       where
         late : (n : c ≡ d → ⊥) → IsAfter p.phase op.phase → after_prefix (key d) (key c ++ st.dest.walked) ≡ None
-        late n a = held_off tree (key d) sd st (key c) st.dest.walked st.dest.node (kept.each d p sd f h).located.here (apart d p sd n f h) here.located.dest m.dest_held (kept.pairs c d op p st sd n m.is f m.on h).dest ((kept.pairs d c p op sd st (λ z. n (sym z)) f m.is h m.on).after a)
+        late n a = held_off tree (key d) sd st (key c) st.dest.walked st.dest.node (kept.each d p sd f h).located.here (apart d p sd n f h) (here.located.head Dest) (m.held Dest) ((kept.pairs c d op p st sd n m.is f m.on h).clear Dest) ((kept.pairs d c p op sd st (λ z. n (sym z)) f m.is h m.on).after a)
 
         early : (a : ℕ) (r : Record) (sr : Holdings) (n : c ≡ a → ⊥) → ops a ≡ Some r → r.holdings ≡ Some sr → IsAfter op.phase r.phase → after_prefix ((key c ++ st.source.walked) ++ x ∷ []) (key a) ≡ None
         early a r sr n u v w = deeper (key a) ((kept.pairs c a op r st sr n m.is u m.on v).after w)

@@ -14,7 +14,7 @@ use Rattle.fs_machine.specs.Finishes.{node_effect, entry_effect, move_effect, re
 use Rattle.fs_machine.specs.Moves.{next, next_by, next_on, first_of, step_move, walk_move, take_if, target, target_move, fork_move, rename_move, rename_at, moved_node, dir_then, dir_error, path_error, there_by, victim_of}
 use Rattle.fs_machine.specs.declared.moves.Move.{Move}
 use Rattle.fs_machine.specs.declared.moves.Move.TheVariants.{Finish as Finishes}
-use Rattle.fs_machine.specs.Records.{Phase, Walking, Placed, Finished, Record, Holdings}
+use Rattle.fs_machine.specs.Records.{Phase, Walking, Placed, Finished, Record, Holdings, Source}
 use Rattle.fs_laws.specs.Invariants.{Forked, ForkedAt, HeadsSound}
 use Rattle.fs_laws.proofs.graphs.Walks.{at_child}
 use Rattle.fs_laws.proofs.finish.RealMoves.{at_entries}
@@ -157,7 +157,7 @@ rename_entries graph is op o p q st on f fork true i (Some m) j r a b x e = go (
 
     go : (Some m ≡ Some b) ⊎ (set_child st.source.node (last_of p) None graph.child a x ≡ Some b) → NewEntry graph op o a b x
     go (inl g) = let y : m ≡ b = some_is m b g in
-        Moved st (st.source.walked ++ last_of p ∷ []) on (at_child graph.child st.node st.source.node st.source.walked (last_of p) f.source_at ∙ j ∙ g) (o_is ∙ g)
+        Moved st (st.source.walked ++ last_of p ∷ []) on (at_child graph.child st.node st.source.node st.source.walked (last_of p) (f.stands Source) ∙ j ∙ g) (o_is ∙ g)
     go (inr g) = rest (set_or st.source.node (last_of p) None graph.child a x b g)
 
 pub finish_entries : (graph : Graph) → IsGraph graph → (op : Record) (o : Option ℕ) → ((st : Holdings) → op.holdings ≡ Some st → HeadsSound graph st.node op.remaining st) → next graph op ≡ Finishes o → (a b : ℕ) (x : Name) → (finish graph op).graph.child a x ≡ Some b → NewEntry graph op o a b x

@@ -13,7 +13,7 @@ use Rattle.fs_calls.specs.declared.errno.Errno.{Errno}
 use Rattle.fs_nodes.specs.Graphs.{Graph, at, then_at, numbers, graph_shapes, entry_shape, IsGraph}
 use Rattle.fs_machine.specs.Moves.{take_if, target_move, next_on, walk_move, victim_of, entry_move}
 use Rattle.fs_machine.specs.declared.moves.Move.TheVariants.{Finish as Finishes}
-use Rattle.fs_machine.specs.Records.{Holds, Holdings}
+use Rattle.fs_machine.specs.Records.{Holds, Holdings, Side, head_on}
 use Rattle.fs_laws.specs.Invariants.{VictimAt}
 use Rattle.fs_laws.specs.Placed.{ReadsNothingBelow, ChangesNothingBelow}
 use Rattle.fs_laws.specs.CallFacts.{IsClear}
@@ -85,8 +85,7 @@ pub record Front (graph : Graph) (k : Key) (st : Holdings) (kd : Key) (other : H
   pub there : numbers graph kd ≡ Some other.node
   pub off : after_prefix kd k ≡ None
   pub apart : (n : ℕ) → Holds other n → Holds st n → ⊥
-  pub source : IsClear (numbers graph) k st.source.walked other
-  pub dest : IsClear (numbers graph) k st.dest.walked other
+  pub clear : (side : Side) → IsClear (numbers graph) k (head_on side st).walked other
 
 -- an entry's parent has its own names before the entry's
 parent_cases : (p : Key) → HasNames p → (l : Key) → parent_of p ≡ l → ((y : Name) × (p ≡ y ∷ [])) ⊎ ((y : Name) × (z : Key) × (r : Key) × (p ≡ y ∷ r) × (parent_of p ≡ y ∷ z))

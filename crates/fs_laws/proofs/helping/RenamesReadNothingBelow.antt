@@ -14,7 +14,7 @@ use Rattle.fs_calls.specs.declared.reply.Reply.{Reply}
 use Rattle.fs_nodes.specs.Graphs.{Graph, at, then_at, numbers, graph_shapes, entry_shape, IsGraph}
 use Rattle.fs_machine.specs.Moves.{first_of, step_move, next_on, same_kind, fork_move, dir_error, walk_errno, rename_at}
 use Rattle.fs_machine.specs.declared.moves.Move.TheVariants.{Finish as Finishes}
-use Rattle.fs_machine.specs.Records.{Holds, Holdings}
+use Rattle.fs_machine.specs.Records.{Holds, Holdings, Source, Dest}
 use Rattle.fs_laws.specs.Invariants.{ForkedAt, HeadsSound, VictimAt}
 use Rattle.fs_laws.specs.Placed.{AllOff, ChangesNothingBelow, Aside, looks_into}
 use Rattle.fs_laws.specs.CallFacts.{Located, IsClear}
@@ -29,17 +29,7 @@ use Rattle.fs_laws.proofs.finish.Replies.{step_stops, fork_stops, common_is, Lea
 use Rattle.fs_laws.proofs.events.TwoCalls.{held_off}
 use Rattle.fs_laws.proofs.helping.ReadsNothingBelow.{Front, Off, stopped_off, on_off, in_off}
 use Rattle.fs_laws.proofs.finish.RealMoves.{Real, Replaces, real_of, at_entries, victim_held}
-
--- the node of a head is held, by the head or as the position
-pub head_held : (tree : Map ℕ) (k : Key) (st : Holdings) (walked : Key) (node : ℕ) → tree k ≡ Some st.node → tree (k ++ walked) ≡ Some node → (HasNames walked → Holds st node) → Holds st node
-head_held tree k st [] node here at_w f = let z : ◌≡◌ {A = Option ℕ} (Some st.node) (Some node) = sym here ∙ sym (ap tree (append-nil k)) ∙ at_w in inl (let y : st.node ≡ node = cc in y)
-head_held tree k st (x ∷ w) node here at_w f = f tt
-
-pub source_held : (tree : Map ℕ) (k : Key) (st : Holdings) → Located tree k st → Holds st st.source.node
-source_held tree k st l = head_held tree k st st.source.walked st.source.node l.here l.source (λ m. inr (inr (inl (m, refl))))
-
-pub dest_held : (tree : Map ℕ) (k : Key) (st : Holdings) → Located tree k st → Holds st st.dest.node
-dest_held tree k st l = head_held tree k st st.dest.walked st.dest.node l.here l.dest (λ m. inr (inr (inr (inl (m, refl)))))
+use Rattle.fs_laws.proofs.calls.NodesHeld.{node_held}
 
 -- where a head's walk has stopped
 head_off : (graph : Graph) → IsGraph graph → (k : Key) (st : Holdings) (kd : Key) (other : Holdings) (walked l whole : Key) (node : ℕ) → Front graph k st kd other → numbers graph (k ++ walked) ≡ Some node → Holds st node → IsClear (numbers graph) k walked other → Stops graph node l → whole ≡ walked ++ l
@@ -132,23 +122,23 @@ rename_off graph is k p q st o kd other s loc u fits well victim e f = go (commo
         stops = fork_stops graph is st.node p q st o refl w fork
 
         off0 : after_prefix kd (k ++ parent_of p) ≡ None
-        off0 = head_off graph is k st kd other st.source.walked (left st.source.walked (parent_of p)) (parent_of p) st.source.node f loc.source (source_held (numbers graph) k st loc) f.source stops.source_stops w.source_is
+        off0 = head_off graph is k st kd other st.source.walked (left st.source.walked (parent_of p)) (parent_of p) st.source.node f (loc.head Source) (node_held Source (numbers graph) k st loc) (f.clear Source) stops.source_stops (w.path Source)
 
         source_read : resolve_dir (below k (graph_shapes graph)) (parent_of p) ≡ dir_error (left st.source.walked (parent_of p)) (graph.shape st.source.node)
-        source_read = ap₂ resolve_dir (below_is graph k st.node loc.here) w.source_is ∙ sym (dir_read graph is st.node st.source.node s st.source.walked (left st.source.walked (parent_of p)) u w.source_at stops.source_stops)
+        source_read = ap₂ resolve_dir (below_is graph k st.node loc.here) (w.path Source) ∙ sym (dir_read graph is st.node st.source.node s st.source.walked (left st.source.walked (parent_of p)) u (w.stands Source) stops.source_stops)
 
         off1 : dir_error (left st.source.walked (parent_of p)) (graph.shape st.source.node) ≡ None → after_prefix kd (k ++ parent_of q) ≡ None
-        off1 z = head_off graph is k st kd other st.dest.walked (left st.dest.walked (parent_of q)) (parent_of q) st.dest.node f loc.dest (dest_held (numbers graph) k st loc) f.dest (stops.dest_stops z) w.dest_is
+        off1 z = head_off graph is k st kd other st.dest.walked (left st.dest.walked (parent_of q)) (parent_of q) st.dest.node f (loc.head Dest) (node_held Dest (numbers graph) k st loc) (f.clear Dest) (stops.dest_stops z) (w.path Dest)
 
         q_is : k ++ q ≡ (k ++ parent_of q) ++ last_of q ∷ []
         q_is = ap (λ (l : Key). k ++ l) (key_is q mq) ∙ sym (append_assoc k (parent_of q) (last_of q ∷ []))
 
         -- the entry of the destination
         entry : parent_of q ≡ st.dest.walked → numbers graph (k ++ q) ≡ graph.child st.dest.node (last_of q)
-        entry d = ap (numbers graph) (q_is ∙ ap (λ (l : Key). (k ++ l) ++ last_of q ∷ []) d) ∙ at_child graph.child 0 st.dest.node (k ++ st.dest.walked) (last_of q) loc.dest
+        entry d = ap (numbers graph) (q_is ∙ ap (λ (l : Key). (k ++ l) ++ last_of q ∷ []) d) ∙ at_child graph.child 0 st.dest.node (k ++ st.dest.walked) (last_of q) (loc.head Dest)
 
         entry_p : parent_of p ≡ st.source.walked → numbers graph (k ++ p) ≡ graph.child st.source.node (last_of p)
-        entry_p d = ap (numbers graph) (ap (λ (l : Key). k ++ l) (key_is p mp) ∙ sym (append_assoc k (parent_of p) (last_of p ∷ [])) ∙ ap (λ (l : Key). (k ++ l) ++ last_of p ∷ []) d) ∙ at_child graph.child 0 st.source.node (k ++ st.source.walked) (last_of p) loc.source
+        entry_p d = ap (numbers graph) (ap (λ (l : Key). k ++ l) (key_is p mp) ∙ sym (append_assoc k (parent_of p) (last_of p ∷ [])) ∙ ap (λ (l : Key). (k ++ l) ++ last_of p ∷ []) d) ∙ at_child graph.child 0 st.source.node (k ++ st.source.walked) (last_of p) (loc.head Source)
 
         arrived_at : (walked whole l : Key) (t : Option Shape) → whole ≡ walked ++ l → dir_error l t ≡ None → whole ≡ walked
         arrived_at walked whole l t i z = i ∙ ap (λ (y : Key). walked ++ y) (arrived l t z) ∙ append-nil walked
@@ -161,12 +151,12 @@ rename_off graph is k p q st o kd other s loc u fits well victim e f = go (commo
 
             by : (l : Key) → left st.dest.walked (parent_of q) ≡ l → after_prefix kd (k ++ q) ≡ None
             by (z ∷ l) j =
-                head_off graph is k st kd other st.dest.walked ((z ∷ l) ++ last_of q ∷ []) q st.dest.node f loc.dest (dest_held (numbers graph) k st loc) f.dest (subst (Stops graph st.dest.node) j (stops.dest_stops es))
-                (key_is q mq ∙ ap (λ (y : Key). y ++ last_of q ∷ []) (w.dest_is ∙ ap (λ (y : Key). st.dest.walked ++ y) j) ∙ append_assoc st.dest.walked (z ∷ l) (last_of q ∷ []))
+                head_off graph is k st kd other st.dest.walked ((z ∷ l) ++ last_of q ∷ []) q st.dest.node f (loc.head Dest) (node_held Dest (numbers graph) k st loc) (f.clear Dest) (subst (Stops graph st.dest.node) j (stops.dest_stops es))
+                (key_is q mq ∙ ap (λ (y : Key). y ++ last_of q ∷ []) ((w.path Dest) ∙ ap (λ (y : Key). st.dest.walked ++ y) j) ∙ append_assoc st.dest.walked (z ∷ l) (last_of q ∷ []))
             by [] j = ends (child_cases kd (k ++ parent_of q) (last_of q) (off1 es))
               where
                 d_is : parent_of q ≡ st.dest.walked
-                d_is = w.dest_is ∙ ap (λ (y : Key). st.dest.walked ++ y) j ∙ append-nil st.dest.walked
+                d_is = w.path Dest ∙ ap (λ (y : Key). st.dest.walked ++ y) j ∙ append-nil st.dest.walked
 
                 ends : (after_prefix kd ((k ++ parent_of q) ++ last_of q ∷ []) ≡ None) ⊎ (kd ≡ (k ++ parent_of q) ++ last_of q ∷ []) → after_prefix kd (k ++ q) ≡ None
                 ends (inl h) = ap (after_prefix kd) q_is ∙ h
@@ -175,7 +165,7 @@ rename_off graph is k p q st o kd other s loc u fits well victim e f = go (commo
                     let dd : (names : List Name) × (graph.shape st.dest.node ≡ Some (Dir names)) × (has_name (last_of q) names ≡ true) = is.of_dir st.dest.node other.node (last_of q) child in
                     let ed : dir_error (left st.dest.walked (parent_of q)) (graph.shape st.dest.node) ≡ None = ap₂ dir_error j dd.1 in
                     let kinds : same_kind (entry_shape graph st.source.node (last_of p)) (entry_shape graph st.dest.node (last_of q)) ≡ same_kind (graph_shapes graph (k ++ p)) (graph_shapes graph (k ++ q)) =
-                    ap₂ (λ (a b : Option ℕ). same_kind (then_at a graph.shape) (then_at b graph.shape)) (sym (entry_p (arrived_at st.source.walked (parent_of p) (left st.source.walked (parent_of p)) (graph.shape st.source.node) w.source_is es))) (sym (entry d_is)) in
+                    ap₂ (λ (a b : Option ℕ). same_kind (then_at a graph.shape) (then_at b graph.shape)) (sym (entry_p (arrived_at st.source.walked (parent_of p) (left st.source.walked (parent_of p)) (graph.shape st.source.node) (w.path Source) es))) (sym (entry d_is)) in
                     let v : st.victim ≡ Some other.node = victim_held graph p q st o other.node victim (at_entries graph is p q st o w es ed fork) child
                     (ap (λ (b : Bool). b && not (is_end (after_prefix p q)) && not (has_more (after_prefix q p))) kinds ∙ want) in
                     absurd (f.apart other.node (inl refl) (inr (inr (inr (inr v)))))
@@ -196,7 +186,7 @@ rename_off graph is k p q st o kd other s loc u fits well victim e f = go (commo
             real = real_of graph is p q st o fits w victim fork (ap (λ (r : Reply × Bool). r.1) rows ∙ j)
 
             es : dir_error (left st.source.walked (parent_of p)) (graph.shape st.source.node) ≡ None
-            es = ap (λ (l : Key). dir_error l (graph.shape st.source.node)) (left_none st.source.walked (parent_of p) real.source_is) ∙ ap (λ (t : Option Shape). dir_error [] t) real.source_dir.1
+            es = ap (λ (l : Key). dir_error l (graph.shape st.source.node)) (left_none st.source.walked (parent_of p) (real.path Source)) ∙ ap (λ (t : Option Shape). dir_error [] t) real.source_dir.1
               where
                 left_none : (a b : Key) → b ≡ a → left a b ≡ []
                 left_none a b z = ap (left a) (z ∙ sym (append-nil a)) ∙ ap left_by (prefix_append a [])
@@ -212,8 +202,8 @@ rename_off graph is k p q st o kd other s loc u fits well victim e f = go (commo
             t_off = by real.replaces
               where
                 by : Replaces graph st (last_of q) → after_prefix (k ++ q) kd ≡ None
-                by (inl n) = none_off graph (k ++ q) kd other.node (entry real.dest_is ∙ n) f.there
-                by (inr (v, n, h, leaf)) = leaf_off graph is (k ++ q) kd v other.node (entry real.dest_is ∙ n) leaf f.there (λ z. f.apart other.node (inl refl) (inr (inr (inr (inr (h ∙ ap Some z))))))
+                by (inl n) = none_off graph (k ++ q) kd other.node (entry (real.path Dest) ∙ n) f.there
+                by (inr (v, n, h, leaf)) = leaf_off graph is (k ++ q) kd v other.node (entry (real.path Dest) ∙ n) leaf f.there (λ z. f.apart other.node (inl refl) (inr (inr (inr (inr (h ∙ ap Some z))))))
 
             ends : (x : Name) (d whole : Key) → k ++ whole ≡ (k ++ d) ++ x ∷ [] → after_prefix kd (k ++ d) ≡ None → (after_prefix kd (k ++ whole) ≡ None) ⊎ (kd ≡ k ++ whole)
             ends x d whole i off = cases (child_cases kd (k ++ d) x off)

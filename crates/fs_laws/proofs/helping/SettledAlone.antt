@@ -13,7 +13,7 @@ use Rattle.fs_nodes.specs.Graphs.{Graph, Children, at, numbers, graph_shapes, se
 use Rattle.fs_machine.specs.Finishes.{Effect, node_effect, entry_effect, move_effect, rename_effect, effect_at, effect_of, finish}
 use Rattle.fs_machine.specs.Moves.{next, next_on, target, dir_error, path_error, rename_at}
 use Rattle.fs_machine.specs.declared.moves.Move.TheVariants.{Finish as Finishes}
-use Rattle.fs_machine.specs.Records.{Phase, Walking, Placed, Finished, Record, Records, Holdings}
+use Rattle.fs_machine.specs.Records.{Phase, Walking, Placed, Finished, Record, Records, Holdings, Source, Dest, Side, head_on}
 use Rattle.fs_laws.specs.Invariants.{remaining_of, spots, IsPlaced, AllLater, InOrder, IsIn, NumberFor, VictimAt, Invariant, HeadsSound}
 use Rattle.fs_laws.specs.Settled.{names_left, alone, settled_by, settled_graph, settled_reply, settled_replies, settle, settle_replies}
 use Rattle.fs_laws.specs.CallFacts.{CallFacts, Keeps, Pair, Located, IsAfter}
@@ -22,7 +22,7 @@ use Rattle.fs_laws.proofs.trees.Prefixes.{prefix_append, prefix_longer}
 use Rattle.fs_laws.proofs.graphs.Walks.{at_same, at_before, at_child, at_from, set_else, then_some}
 use Rattle.fs_laws.proofs.events.OneCallChanged.{Place, Here, Else, place}
 use Rattle.fs_laws.proofs.events.TwoCalls.{Ends as Snoc, ends, held_off}
-use Rattle.fs_laws.proofs.helping.RenamesReadNothingBelow.{source_held, dest_held}
+use Rattle.fs_laws.proofs.calls.NodesHeld.{node_held}
 use Rattle.fs_laws.proofs.finish.Replies.{finish_reply}
 use Rattle.fs_laws.proofs.finish.TreeAfter.{finish_tree}
 use Rattle.fs_laws.proofs.events.Help.{upd_here, upd_else}
@@ -132,7 +132,7 @@ gone_made graph is k r op last st i o ph s m n same reserved = record {
   is_graph = new_graph;
   tree = finish_tree graph is (k ++ r) used.0 last.remaining st last.reserved o s.loc.here used.1 s.fits s.well s.number m ∙ ap (after (graph_shapes graph)) same;
   replied = finish_reply graph is (k ++ r) used.0 last.remaining st last.reserved o s.loc.here used.1 s.fits s.well m ∙ ap (reply (graph_shapes graph)) same;
-  untouched = λ u a e off. made_untouched graph last.remaining st last.reserved a (outside u a e off r st.node s.loc.here) (outside u a e off (r ++ st.source.walked) st.source.node (below st.source.walked st.source.node s.loc.source)) (outside u a e off (r ++ st.dest.walked) st.dest.node (below st.dest.walked st.dest.node s.loc.dest));
+  untouched = λ u a e off. made_untouched graph last.remaining st last.reserved a (outside u a e off r st.node s.loc.here) (outside u a e off (r ++ st.source.walked) st.source.node (below st.source.walked st.source.node (s.loc.head Source))) (outside u a e off (r ++ st.dest.walked) st.dest.node (below st.dest.walked st.dest.node (s.loc.head Dest)));
   loose = λ v free mine. (stays v free mine, shape v free);
 }
   where
@@ -155,7 +155,7 @@ gone_made graph is k r op last st i o ph s m n same reserved = record {
     made_is = ap₂ (effect_of graph last) s.text s.on
 
     shape : (v : ℕ) → ((u : Key) → numbers graph u ≡ Some v → ⊥) → (effect_at graph last.remaining st last.reserved).graph.shape v ≡ graph.shape v
-    shape v free = (made_untouched graph last.remaining st last.reserved v (λ j. free (k ++ r) (s.loc.here ∙ ap (λ (x : ℕ). Some x) (sym j))) (λ j. free ((k ++ r) ++ st.source.walked) (s.loc.source ∙ ap (λ (x : ℕ). Some x) (sym j))) (λ j. free ((k ++ r) ++ st.dest.walked) (s.loc.dest ∙ ap (λ (x : ℕ). Some x) (sym j)))).shape
+    shape v free = (made_untouched graph last.remaining st last.reserved v (λ j. free (k ++ r) (s.loc.here ∙ ap (λ (x : ℕ). Some x) (sym j))) (λ j. free ((k ++ r) ++ st.source.walked) ((s.loc.head Source) ∙ ap (λ (x : ℕ). Some x) (sym j))) (λ j. free ((k ++ r) ++ st.dest.walked) ((s.loc.head Dest) ∙ ap (λ (x : ℕ). Some x) (sym j)))).shape
 
     -- no entry leads to it
     entry : (v a : ℕ) (x : Name) → ((u : Key) → numbers graph u ≡ Some v → ⊥) → (op.reserved ≡ Some v → ⊥) → NewEntry graph last o a v x → ⊥
@@ -188,8 +188,7 @@ gone graph is k op st i ph s =
 -- another call whose keys do not begin with k
 pub record OffKeys (k kd : Key) (st : Holdings) : Type 0 where
   pub here : after_prefix k kd ≡ None
-  pub source : after_prefix k (kd ++ st.source.walked) ≡ None
-  pub dest : after_prefix k (kd ++ st.dest.walked) ≡ None
+  pub head : (side : Side) → after_prefix k (kd ++ (head_on side st).walked) ≡ None
 
 -- stays where it is
 numbers_stay : (graph : Graph) (made : Effect) (k : Key) (op : Record) → Gone graph k op made → (u : Key) → after_prefix k u ≡ None → numbers made.graph u ≡ numbers graph u
@@ -213,14 +212,13 @@ solo_stays graph made k op g kd q st off apart s = record {
   number = number q.remaining s.number;
   victim = victim q.remaining s.victim;
   single = s.single;
-  neat = neat_by graph made.graph q.remaining st (λ names e. (names, (g.untouched (kd ++ st.source.walked) st.source.node s.loc.source off.source).shape ∙ e)) s.neat;
+  neat = neat_by graph made.graph q.remaining st (λ names e. (names, (g.untouched (kd ++ st.source.walked) st.source.node (s.loc.head Source) (off.head Source)).shape ∙ e)) s.neat;
 }
   where
     loc : Located (numbers made.graph) kd st
     loc = record {
       here = numbers_stay graph made k op g kd off.here ∙ s.loc.here;
-      source = numbers_stay graph made k op g (kd ++ st.source.walked) off.source ∙ s.loc.source;
-      dest = numbers_stay graph made k op g (kd ++ st.dest.walked) off.dest ∙ s.loc.dest;
+      head = λ side. numbers_stay graph made k op g (kd ++ (head_on side st).walked) (off.head side) ∙ s.loc.head side;
     }
 
     number : (f : Form) → NumberFor graph f q.reserved → NumberFor made.graph f q.reserved
@@ -234,7 +232,7 @@ solo_stays graph made k op g kd q st off apart s = record {
     victim : (f : Form) → VictimAt graph f st → VictimAt made.graph f st
     victim (AtNode c p) w = w
     victim (AtEntry c p) w = λ v e. (g.untouched kd st.node s.loc.here off.here).child (last_of p) ∙ w v e
-    victim (AtPair pairs.Rename a b) w = λ v e. ((g.untouched (kd ++ st.dest.walked) st.dest.node s.loc.dest off.dest).child (last_of b) ∙ (w v e).0, (w v e).1)
+    victim (AtPair pairs.Rename a b) w = λ v e. ((g.untouched (kd ++ st.dest.walked) st.dest.node (s.loc.head Dest) (off.head Dest)).child (last_of b) ∙ (w v e).0, (w v e).1)
 
 -- placed calls in their order, each where it stands, and the later ones off its keys
 pub record PlacedSolo (graph : Graph) (ops : Records) (key : ℕ → Key) (c : ℕ) : Type 0 where
@@ -333,8 +331,7 @@ run_stack s inv acc (c ∷ cs) o = (first, ahead, run_stack s inv acc cs o.2)
         off : OffKeys (inv.key c) (inv.key d) st
         off = record {
           here = none;
-          source = held_off (numbers s.graph) (inv.key c) o.0.holdings st (inv.key d) st.source.walked st.source.node mine.here pair.apart its.source (source_held (numbers s.graph) (inv.key d) st its) back.source none;
-          dest = held_off (numbers s.graph) (inv.key c) o.0.holdings st (inv.key d) st.dest.walked st.dest.node mine.here pair.apart its.dest (dest_held (numbers s.graph) (inv.key d) st its) back.dest none;
+          head = λ side. held_off (numbers s.graph) (inv.key c) o.0.holdings st (inv.key d) (head_on side st).walked (head_on side st).node mine.here pair.apart (its.head side) (node_held side (numbers s.graph) (inv.key d) st its) (back.clear side) none;
         }
 
 pub run_settles_alone : (s : State) (run : Run s)

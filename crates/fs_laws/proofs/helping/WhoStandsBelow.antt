@@ -8,7 +8,7 @@ use Rattle.fs_timeline.specs.declared.entry.Entry.{Entry}
 use Rattle.fs_machine.specs.Moves.{next}
 use Rattle.fs_machine.specs.declared.moves.Move.{Move}
 use Rattle.fs_machine.specs.declared.moves.Move.TheVariants.{Take as Takes, LetGo as Leaves, Finish as Finishes, Return as Ends}
-use Rattle.fs_machine.specs.Records.{Holdings, Phase, Walking, Placed, Record, Holds}
+use Rattle.fs_machine.specs.Records.{Holdings, Phase, Walking, Placed, Record, Holds, Source, Dest}
 use Rattle.fs_laws.specs.Below.{IsHolding, NoWalkingBelow, NoLaterBelow, NobodyBetween, AreDue, Settles, HelpsOrCommits, Helps, Commits, NeverWaitsToFinish}
 use Rattle.fs_laws.specs.JournalViews.{JournalView, start, view_after}
 use Rattle.fs_laws.specs.Invariants.{Invariant, Dues}
@@ -18,7 +18,7 @@ use Rattle.fs_machine.specs.declared.answers.Stepped.{Stepped}
 use Rattle.fs_machine.specs.declared.answers.Stepped.TheVariants.{Idle, Took, Busy, LetGo, Helped, Committed, CarriedOut, Returned}
 use Rattle.fs_laws.proofs.trees.Prefixes.{prefix_append}
 use Rattle.fs_laws.proofs.graphs.Walks.{at_from}
-use Rattle.fs_laws.proofs.helping.RenamesReadNothingBelow.{source_held, dest_held}
+use Rattle.fs_laws.proofs.calls.NodesHeld.{node_held}
 use Rattle.fs_laws.proofs.states.Headline.{run_keeps}
 use Rattle.fs_laws.proofs.journal.ViewOfTimeline.{Ties, run_ties}
 use Rattle.fs_laws.proofs.helping.SettledAlone.{run_settles_alone}
@@ -85,8 +85,8 @@ nobody_between s run c d n op q st other u v differs a b walked e held = go walk
     way (x ∷ u) (y ∷ v) walked node i f g h clear = clear (x ∷ u) (y ∷ v) n tt tt i f held
 
     go : (st.source.walked ≡ u ++ v) ⊎ (st.dest.walked ≡ u ++ v) → ⊥
-    go (inl i) = way u v st.source.walked st.source.node i at_n loc.source (source_held (numbers s.graph) (inv.key c) st loc) pair.source
-    go (inr i) = way u v st.dest.walked st.dest.node i at_n loc.dest (dest_held (numbers s.graph) (inv.key c) st loc) pair.dest
+    go (inl i) = way u v st.source.walked st.source.node i at_n (loc.head Source) (node_held Source (numbers s.graph) (inv.key c) st loc) (pair.clear Source)
+    go (inr i) = way u v st.dest.walked st.dest.node i at_n (loc.head Dest) (node_held Dest (numbers s.graph) (inv.key c) st loc) (pair.clear Dest)
 
 -- the replies of the placed calls
 are_due : (es : List Entry) (view : JournalView) → ((c : ℕ) (r : Reply) → view.due c ≡ Some r → journal.due c es ≡ Some r) → (cs : List ℕ) (rs : List Reply) → Dues view cs rs → AreDue es cs rs

@@ -13,7 +13,7 @@ use Rattle.fs_machine.specs.Finishes.{finish}
 use Rattle.fs_machine.specs.Leaving.{is_removed, releasing, let_go, finished_op, unreserved}
 use Rattle.fs_machine.specs.Moves.{next, took, left_holdings, next_on}
 use Rattle.fs_machine.specs.declared.moves.Move.TheVariants.{Finish as Finishes}
-use Rattle.fs_machine.specs.Records.{Phase, Walking, Placed, Finished, Holds, Record, Records, Holdings}
+use Rattle.fs_machine.specs.Records.{Phase, Walking, Placed, Finished, Holds, Record, Records, Holdings, Source}
 use Rattle.fs_laws.specs.JournalViews.{start, view_after}
 use Rattle.fs_timeline.specs.Timeline.{begins, commit_count}
 use Rattle.fs_laws.specs.Invariants.{IsUnfinished, Own, Invariant}
@@ -35,6 +35,7 @@ use Rattle.fs_laws.proofs.finish.Limits.{Within, AllWithin, SameKind, Resizes, f
 use Rattle.fs_laws.proofs.calls.Takes.{takes_by}
 use Rattle.fs_laws.proofs.calls.HeadOrder.{HeadsOfCallInOrder, HeadsInOrder, neat_op_by, DirStays, TookWell, took_root, took_well, IsClosed}
 use Rattle.fs_laws.proofs.calls.FinishedHoldings.{LeftWell, left_well, finish_closed}
+use Rattle.fs_laws.proofs.calls.NodesHeld.{none_some}
 
 -- a call under way that holds a node
 abbrev pub Holder : State → ℕ → ℕ → Type 0
@@ -47,16 +48,13 @@ pub record StateFacts (s : State) : Type 0 where
   pub within : AllWithin s.graph.shape
   pub below : (n : ℕ) (shape : Shape) → s.graph.shape n ≡ Some shape → n < s.limit
 
-none_some : {A : Type 0} (o : Option A) (v : A) → o ≡ None → o ≡ Some v → ⊥
-none_some o v e f = let z : ◌≡◌ {A = Option _} None (Some v) = sym e ∙ f in cc
-
 -- a call that stands somewhere is not decided by its paths
 pub text_open : (s : State) (inv : Invariant s) (c : ℕ) (op : Record) (st : Holdings) → s.ops c ≡ Some op → op.holdings ≡ Some st → by_text (form op.call) ≡ None
 text_open s inv c op st is on = ap by_text (sym (inv.own c op is).parts) ∙ fits_under op.walked op.remaining (inv.kept.each c op st is on).fits
 
 -- the source head's node is reached
 source_reached : (s : State) (inv : Invariant s) (c : ℕ) (op : Record) (st : Holdings) → s.ops c ≡ Some op → op.holdings ≡ Some st → (key : Key) × (numbers s.graph key ≡ Some st.source.node)
-source_reached s inv c op st is on = let k : Keeps (numbers s.graph) (inv.key c) op st = inv.kept.each c op st is on in (_, k.located.source)
+source_reached s inv c op st is on = let k : Keeps (numbers s.graph) (inv.key c) op st = inv.kept.each c op st is on in (_, (k.located.head Source))
 
 -- a number to which nothing leads leaves the graph
 released_stays : (graph : Graph) (n m : ℕ) → ((key : Key) → numbers graph key ≡ Some n → ⊥) → (key : Key) × (numbers graph key ≡ Some m) → DirStays graph (released_in n graph) m

@@ -12,7 +12,7 @@ use Rattle.fs_nodes.specs.Graphs.{Graph, numbers, reserved_in}
 use Rattle.fs_machine.specs.Moves.{next, next_by}
 use Rattle.fs_machine.specs.declared.moves.Move.{Move}
 use Rattle.fs_machine.specs.declared.moves.Move.TheVariants.{Take as Takes, LetGo as Leaves, Finish as Finishes, Return as Ends}
-use Rattle.fs_machine.specs.Records.{Holdings, Phase, Walking, Placed, Finished, Record}
+use Rattle.fs_machine.specs.Records.{Holdings, Phase, Walking, Placed, Finished, Record, Source}
 use Rattle.fs_timeline.specs.Timeline.{begins}
 use Rattle.fs_laws.specs.Events.{Event, Begins, Steps, events_of, Ran}
 use Rattle.fs_laws.specs.Invariants.{Invariant}
@@ -82,7 +82,7 @@ stepped old seat = seat_by old (old.on_seat seat)
 
 -- a rename moves the node at that key
 at_moved : (s : State) → Run s → (c : ℕ) (op : Record) (n : ℕ) → s.ops c ≡ Some op → op.phase ≡ Walking → next s.graph op ≡ Finishes (Some n) → numbers s.graph (moved_key op) ≡ Some n
-at_moved s run c op n is walks m = ap (numbers s.graph) same ∙ at_child s.graph.child 0 t.st.source.node (inv.key c ++ t.st.source.walked) (last_of t.p) (inv.kept.each c op t.st is t.on).located.source ∙ t.child
+at_moved s run c op n is walks m = ap (numbers s.graph) same ∙ at_child s.graph.child 0 t.st.source.node (inv.key c ++ t.st.source.walked) (last_of t.p) ((inv.kept.each c op t.st is t.on).located.head Source) ∙ t.child
   where
     inv : Invariant s
     inv = run_keeps s run

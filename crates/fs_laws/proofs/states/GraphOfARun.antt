@@ -15,7 +15,7 @@ use Rattle.fs_nodes.specs.Graphs.{Graph, at, numbers, IsGraph}
 use Rattle.fs_machine.specs.Leaving.{is_removed}
 use Rattle.fs_machine.specs.Moves.{next, next_by}
 use Rattle.fs_machine.specs.declared.moves.Move.TheVariants.{Finish as Finishes, Return as Ends}
-use Rattle.fs_machine.specs.Records.{Phase, Walking, Placed, Finished, Record, Holdings}
+use Rattle.fs_machine.specs.Records.{Phase, Walking, Placed, Finished, Record, Holdings, Source, Dest}
 use Rattle.fs_machine.specs.OpValues.{IsSpare, SpareIf, IsBounded, HeadsApart, MovesApart, CanFinish}
 use Rattle.fs_timeline.specs.Timeline.{begins}
 use Rattle.fs_laws.specs.Invariants.{Invariant}
@@ -85,7 +85,7 @@ heads_apart s c op st run is on = go op.remaining
     go : (f : Form) → HeadsApart f st
     go (AtNode e p) = tt
     go (AtEntry e p) = tt
-    go (AtPair pairs.Rename p q) = λ same. front_same (inv.key c) st.source.walked st.dest.walked (inv.is_graph.one_key (inv.key c ++ st.source.walked) (inv.key c ++ st.dest.walked) st.source.node loc.source (loc.dest ∙ ap (λ (n : ℕ). Some n) (sym same)))
+    go (AtPair pairs.Rename p q) = λ same. front_same (inv.key c) st.source.walked st.dest.walked (inv.is_graph.one_key (inv.key c ++ st.source.walked) (inv.key c ++ st.dest.walked) st.source.node (loc.head Source) ((loc.head Dest) ∙ ap (λ (n : ℕ). Some n) (sym same)))
 
 -- a key that goes on from another one is not beside it
 goes_on : (p way : Key) (x : Name) → if_below (after_prefix p (p ++ (way ++ x ∷ []))) ≡ None → ⊥
@@ -110,9 +110,9 @@ moves_apart s c op st run is on = go op.remaining (inv.kept.each c op st is on).
 
     reaches : (p q way : Key) (n : ℕ) → st.source.walked ≡ parent_of p → st.dest.walked ≡ parent_of q → HasNames p → s.graph.child st.source.node (last_of p) ≡ Some n → at s.graph.child n way ≡ Some st.dest.node → p ++ way ≡ parent_of q
     reaches p q way n source dest some child reach =
-        let from : numbers s.graph ((inv.key c ++ st.source.walked) ++ last_of p ∷ []) ≡ Some n = at_child s.graph.child 0 st.source.node (inv.key c ++ st.source.walked) (last_of p) loc.source ∙ child in
+        let from : numbers s.graph ((inv.key c ++ st.source.walked) ++ last_of p ∷ []) ≡ Some n = at_child s.graph.child 0 st.source.node (inv.key c ++ st.source.walked) (last_of p) (loc.head Source) ∙ child in
         let to : numbers s.graph (((inv.key c ++ st.source.walked) ++ last_of p ∷ []) ++ way) ≡ Some st.dest.node = at_from s.graph.child 0 n ((inv.key c ++ st.source.walked) ++ last_of p ∷ []) way from ∙ reach in
-        let same : ((inv.key c ++ st.source.walked) ++ last_of p ∷ []) ++ way ≡ inv.key c ++ st.dest.walked = inv.is_graph.one_key (((inv.key c ++ st.source.walked) ++ last_of p ∷ []) ++ way) (inv.key c ++ st.dest.walked) st.dest.node to loc.dest in
+        let same : ((inv.key c ++ st.source.walked) ++ last_of p ∷ []) ++ way ≡ inv.key c ++ st.dest.walked = inv.is_graph.one_key (((inv.key c ++ st.source.walked) ++ last_of p ∷ []) ++ way) (inv.key c ++ st.dest.walked) st.dest.node to (loc.head Dest) in
         let split : ((inv.key c ++ st.source.walked) ++ last_of p ∷ []) ++ way ≡ inv.key c ++ ((st.source.walked ++ last_of p ∷ []) ++ way) = ap (λ (k : Key). k ++ way) (append_assoc (inv.key c) st.source.walked (last_of p ∷ [])) ∙ append_assoc (inv.key c) (st.source.walked ++ last_of p ∷ []) way in
         ap (λ (k : Key). k ++ way) (key_is p some ∙ ap (λ (k : Key). k ++ last_of p ∷ []) (sym source))
         ∙ front_same (inv.key c) ((st.source.walked ++ last_of p ∷ []) ++ way) st.dest.walked (sym split ∙ same)

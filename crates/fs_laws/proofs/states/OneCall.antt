@@ -28,6 +28,7 @@ use Rattle.fs_laws.proofs.events.Help.{upd_here, upd_else}
 use Rattle.fs_laws.proofs.states.Headline.{run_keeps}
 use Rattle.fs_laws.proofs.journal.ViewOfTimeline.{run_ties, linearizes}
 use Rattle.fs_laws.proofs.trees.TreesAsMaps.{trees_as_maps}
+use Rattle.fs_laws.proofs.calls.NodesHeld.{none_some}
 
 -- the view with the call begun, and then committed
 abbrev with_begin : JournalView → ℕ → ℕ → Call → JournalView
@@ -52,9 +53,6 @@ record During (b : JournalView) (c seat : ℕ) (call : Call) (u : State) : Type 
 
 seat_same : (b : JournalView) (c seat : ℕ) (call : Call) (u : State) (f : ℕ) → During b c seat call u → u.on_seat seat ≡ Some f → f ≡ c
 seat_same b c seat call u f w e = let z : ◌≡◌ {A = Option ℕ} (Some f) (Some c) = sym e ∙ w.mine in cc
-
-none_some : {A : Type 0} (o : Option A) (v : A) → o ≡ None → o ≡ Some v → ⊥
-none_some o v e f = let z : ◌≡◌ {A = Option _} None (Some v) = sym e ∙ f in cc
 
 -- who is under way is the call
 is_mine : (b : JournalView) (c seat : ℕ) (call : Call) (u : State) → During b c seat call u → (d : ℕ) (q : Record) → u.ops d ≡ Some q → d ≡ c

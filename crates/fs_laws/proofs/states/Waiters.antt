@@ -1,18 +1,18 @@
 -- Who waits for a call that waits stands above it, and so somebody goes on.
 use Rattle.std.proofs.Common.{◌≡◌, ℕ, zero, suc, ◌+◌, ◌≤◌, [], ◌∷◌, ◌++◌, length, Option, Some, None, refl, sym, ap, ◌∙◌, append-nil, subst, ◌⊎◌, inl, inr, arith}
 use Rattle.std.proofs.lemmas.List.{length-append}
-use Rattle.fs_names.specs.Keys.{Key, parent_of, last_of}
+use Rattle.fs_names.specs.Keys.{Key, last_of}
 use Rattle.fs_names.specs.Names.{Name}
-use Rattle.fs_names.specs.Parts.{HasNames, left}
-use Rattle.fs_calls.specs.Forms.{form, Form, by_text}
+use Rattle.fs_names.specs.Parts.{HasNames}
+use Rattle.fs_calls.specs.Forms.{form, by_text}
 use Rattle.fs_calls.specs.declared.reply.Reply.{Reply}
 use Rattle.fs_nodes.specs.Graphs.{numbers}
 use Rattle.fs_machine.specs.Moves.{next, next_on}
 use Rattle.fs_machine.specs.declared.moves.Move.{Move}
 use Rattle.fs_machine.specs.declared.moves.Move.TheVariants.{Take as Takes, LetGo as Leaves, Finish as Finishes, Return as Ends}
-use Rattle.fs_machine.specs.Records.{Walking, Placed, Finished, Holds, Record, Holdings}
+use Rattle.fs_machine.specs.Records.{Walking, Placed, Finished, Holds, Record, Holdings, Dest, head_on, Source}
 use Rattle.fs_timeline.specs.Timeline.{begins}
-use Rattle.fs_laws.specs.Invariants.{IsUnfinished, Forked, VictimAt, Invariant}
+use Rattle.fs_laws.specs.Invariants.{IsUnfinished, Invariant}
 use Rattle.fs_laws.specs.Progress.{WaitsFor, WaitsBelow, GoesOn, SomebodyGoesOn, IsNeverStuck, HasStep}
 use Rattle.fs_laws.specs.CallFacts.{Located, Pair}
 use Rattle.fs_machine.specs.States.{State, Run, NoneBelow, IsChosen, Step, taking, letting_go, helping, carrying, committing, returning}
@@ -20,16 +20,14 @@ use Rattle.fs_machine.specs.declared.answers.Stepped.{Stepped}
 use Rattle.fs_machine.specs.declared.answers.Stepped.TheVariants.{Idle, Took, Busy, LetGo, Helped, Committed, CarriedOut, Returned}
 use Rattle.fs_laws.proofs.graphs.Walks.{at_child, at_from}
 use Rattle.fs_laws.proofs.states.WaitsForOneBelow.{Keeps_waiting, waits_below}
-use Rattle.fs_laws.proofs.helping.RenamesReadNothingBelow.{source_held, dest_held}
+use Rattle.fs_laws.proofs.calls.NodesHeld.{node_held, none_some, one_holdings}
 use Rattle.fs_laws.proofs.states.ComputedSteps.{by_ends}
 use Rattle.fs_laws.proofs.events.Take.{TakesFrom, From_nowhere, From_holdings, takes_from}
-use Rattle.fs_laws.proofs.calls.TakesAtTarget.{forked_of}
 use Rattle.fs_laws.proofs.states.Headline.{run_keeps}
-use Rattle.fs_laws.proofs.calls.Takes.{Take, Walk, Entry, Source, Dest, Replaced, takes_by}
-use Rattle.fs_laws.proofs.calls.HeadOrder.{SourceThere, NeatIn, HeadsInOrder, plain_of, in_turn}
+use Rattle.fs_laws.proofs.calls.Takes.{Entry, Of_head, Replaced, Take, Walk, There, take_closed, takes_by}
+use Rattle.fs_laws.proofs.calls.HeadOrder.{no_victim}
 use Rattle.fs_laws.proofs.states.Agreement.{StateFacts, Holder, run_accounts}
 use Rattle.fs_laws.proofs.calls.NextMoves.{takes_another}
-use Rattle.fs_laws.proofs.calls.OneUnfinishedCall.{front_same}
 use Rattle.fs_laws.proofs.states.GraphOfARun.{begun_before, call_seat, finishes_open}
 use Rattle.fs_laws.proofs.helping.NobodyEnters.{ToMove, to_move}
 use Rattle.fs_laws.proofs.helping.WhomToHelp.{within_total, chosen_or_none}
@@ -37,43 +35,14 @@ use Rattle.fs_laws.specs.StepsLeft.{total}
 
 -- a call that wants a node holds others as its position or as its heads' nodes
 holds_waiting : (s : State) (inv : Invariant s) (acc : StateFacts s) (c : ℕ) (op : Record) (m n : ℕ) (st : Holdings) → s.ops c ≡ Some op → IsUnfinished op → op.holdings ≡ Some st → Take s.graph op m st → Holds st n → Keeps_waiting st n
-holds_waiting s inv acc c op m n st is u on t h = go t h
+holds_waiting s inv acc c op m n st is u on t h = go h
   where
-    neat : HeadsInOrder s.graph op.remaining st
-    neat = (acc.neat c op st is on).under_way u
-
-    none_is : {P : Type 0} (b : Option ℕ) → b ≡ None → b ≡ Some n → P
-    none_is b i j = let z : ◌≡◌ {A = Option ℕ} None (Some n) = sym i ∙ j in cc
-
-    not_there : (p : Key) (x : Name) (l : Key) → left st.source.walked (parent_of p) ≡ x ∷ l → SourceThere s.graph p st → ⊥
-    not_there p x l e t = let z : ◌≡◌ {A = Key} [] (x ∷ l) = sym t.arrived ∙ e in cc
-
-    go : Take s.graph op m st → Holds st n → Keeps_waiting st n
-    go t (inl i) = inl i
-    go (Walk x l way b child t_is) (inr (inl i)) = none_is st.behind b i
-    go (Walk x l way b child t_is) (inr (inr (inl i))) = absurd (subst HasNames (plain_of s.graph op.remaining st x l way neat).0 i.0)
-    go (Walk x l way b child t_is) (inr (inr (inr (inl i)))) = absurd (subst HasNames (plain_of s.graph op.remaining st x l way neat).1 i.0)
-    go (Walk x l way b child t_is) (inr (inr (inr (inr i)))) = none_is st.victim (plain_of s.graph op.remaining st x l way neat).2 i
-    go (Entry e p rem way b child off t_is) (inr (inl i)) = none_is st.behind b i
-    go (Entry e p rem way b child off t_is) (inr (inr (inl i))) = let w : NeatIn p st = subst (λ (f : Form). HeadsInOrder s.graph f st) rem neat in absurd (subst HasNames w.source i.0)
-    go (Entry e p rem way b child off t_is) (inr (inr (inr (inl i)))) = let w : NeatIn p st = subst (λ (f : Form). HeadsInOrder s.graph f st) rem neat in absurd (subst HasNames w.dest i.0)
-    go (Entry e p rem way b child off t_is) (inr (inr (inr (inr i)))) = none_is st.victim off i
-    go (Source p q x l rem way b at_left child t_is) (inr (inl i)) = none_is st.behind b i
-    go (Source p q x l rem way b at_left child t_is) (inr (inr (inl (w, i)))) = inr (inl (w, i))
-    go (Source p q x l rem way b at_left child t_is) (inr (inr (inr (inl i)))) = absurd (not_there p x l at_left ((in_turn s.graph p q st op.remaining rem way neat).dest i.0))
-    go (Source p q x l rem way b at_left child t_is) (inr (inr (inr (inr i)))) = absurd (not_there p x l at_left ((in_turn s.graph p q st op.remaining rem way neat).victim n i))
-    go (Dest p q x l names rem way b arrived dir at_left child t_is) (inr (inl i)) = none_is st.behind b i
-    go (Dest p q x l names rem way b arrived dir at_left child t_is) (inr (inr (inl (w, i)))) = inr (inl (w, i))
-    go (Dest p q x l names rem way b arrived dir at_left child t_is) (inr (inr (inr (inl (w, i))))) = inr (inr (w, i))
-    go (Dest p q x l names rem way b arrived dir at_left child t_is) (inr (inr (inr (inr i)))) =
-        let v : (s.graph.child st.dest.node (last_of q) ≡ Some n) × (parent_of q ≡ st.dest.walked) = subst (λ (g : Form). VictimAt s.graph g st) rem ((inv.own c op is).victim u st on) n i in
-        let f : Forked s.graph st.node p q st = forked_of s.graph st.node p q st op.remaining rem way ((inv.own c op is).well st on) in
-        let e : [] ≡ x ∷ l = front_same st.dest.walked [] (x ∷ l) (append-nil st.dest.walked ∙ sym v.1 ∙ f.dest_is ∙ ap (λ (y : Key). st.dest.walked ++ y) at_left) in
-        (let z : ◌≡◌ {A = Key} [] (x ∷ l) = e in cc)
-    go (Replaced p q names rem way b arrived dir at_left want child off t_is) (inr (inl i)) = none_is st.behind b i
-    go (Replaced p q names rem way b arrived dir at_left want child off t_is) (inr (inr (inl (w, i)))) = inr (inl (w, i))
-    go (Replaced p q names rem way b arrived dir at_left want child off t_is) (inr (inr (inr (inl (w, i))))) = inr (inr (w, i))
-    go (Replaced p q names rem way b arrived dir at_left want child off t_is) (inr (inr (inr (inr i)))) = none_is st.victim off i
+    go : Holds st n → Keeps_waiting st n
+    go (inl i) = inl i
+    go (inr (inl i)) = none_some st.behind n (take_closed t) i
+    go (inr (inr (inl i))) = inr (inl i)
+    go (inr (inr (inr (inl i)))) = inr (inr i)
+    go (inr (inr (inr (inr i)))) = none_some st.victim n (no_victim s.graph op m st ((acc.neat c op st is on).under_way u) ((inv.own c op is).victim u st on) t) i
 
 -- where the wanted node is: one name below a node that the call holds at its position or below
 record Below (s : State) (k : Key) (st : Holdings) (n : ℕ) : Type 0 where
@@ -98,10 +67,9 @@ wants_below s inv c op n st is on t = go t
 
     go : Take s.graph op n st → Below s (inv.key c) st n
     go (Walk x l way b child t_is) = of [] st.node x here (inl refl) child
-    go (Entry e p rem way b child off t_is) = of [] st.node (last_of p) here (inl refl) child
-    go (Source p q x l rem way b at_left child t_is) = of st.source.walked st.source.node x loc.source (source_held (numbers s.graph) (inv.key c) st loc) child
-    go (Dest p q x l names rem way b arrived dir at_left child t_is) = of st.dest.walked st.dest.node x loc.dest (dest_held (numbers s.graph) (inv.key c) st loc) child
-    go (Replaced p q names rem way b arrived dir at_left want child off t_is) = of st.dest.walked st.dest.node (last_of q) loc.dest (dest_held (numbers s.graph) (inv.key c) st loc) child
+    go (There (Entry e p rem way child off) b t_is) = of [] st.node (last_of p) here (inl refl) child
+    go (There (Of_head side p q x l rem way turn at_left child) b t_is) = of (head_on side st).walked (head_on side st).node x (loc.head side) (node_held side (numbers s.graph) (inv.key c) st loc) child
+    go (There (Replaced p q rem way there at_left want child off) b t_is) = of st.dest.walked st.dest.node (last_of q) (loc.head Dest) (node_held Dest (numbers s.graph) (inv.key c) st loc) child
 
 -- of two calls that wait, the first for the second, by their keys
 waits_key : (s : State) (run : Run s) (c d e : ℕ) (op q : Record) (st other : Holdings) → WaitsFor s c d op → op.holdings ≡ Some st → WaitsFor s d e q → q.holdings ≡ Some other → (r : Key) × HasNames r × ((run_keeps s run).key d ≡ (run_keeps s run).key c ++ r)
@@ -119,25 +87,22 @@ waits_key s run c d e op q st other a on b on_q = go (takes_from s.graph op a.no
     back : Pair (numbers s.graph) ((run_keeps s run).key d) other q.phase ((run_keeps s run).key c) st op.phase
     back = (run_keeps s run).kept.pairs d c q op other st (λ i. differs (sym i)) b.is a.is on_q on
 
-    same : (f g : Holdings) (o : Option Holdings) → o ≡ Some f → o ≡ Some g → f ≡ g
-    same f g o i j = let z : ◌≡◌ {A = Option Holdings} (Some f) (Some g) = sym i ∙ j in cc
-
     holds : Holder s a.node d → Holds other a.node
     holds (r, t, is, on_t, h) =
         let z : ◌≡◌ {A = Option Record} (Some r) (Some q) = sym is ∙ b.is in
         let y : r ≡ q = cc in
-        subst (λ (x : Holdings). Holds x a.node) (same t other q.holdings (ap (λ (o : Record). o.holdings) (sym y) ∙ on_t) on_q) h
+        subst (λ (x : Holdings). Holds x a.node) (one_holdings (ap (λ (o : Record). o.holdings) (sym y) ∙ on_t) on_q) h
 
     go : TakesFrom s.graph op a.node × IsUnfinished op → TakesFrom s.graph q b.node × IsUnfinished q → Holder s a.node d → (r : Key) × HasNames r × ((run_keeps s run).key d ≡ (run_keeps s run).key c ++ r)
     go (From_nowhere text off z, u) t h = let y : ◌≡◌ {A = Option Holdings} None (Some st) = sym off ∙ on in cc
     go (From_holdings x on_x m, u) (From_nowhere text off z, v) h = let y : ◌≡◌ {A = Option Holdings} None (Some other) = sym off ∙ on_q in cc
     go (From_holdings x on_x m, u) (From_holdings y on_y n, v) h =
-        let w : Below s ((run_keeps s run).key c) st a.node = wants_below s (run_keeps s run) c op a.node st a.is on (takes_by s.graph op a.node st on (subst (λ (z : Holdings). next_on s.graph op.remaining z ≡ Takes a.node) (same x st op.holdings on_x on) m)) in
-        let keeps : Keeps_waiting other a.node = holds_waiting s (run_keeps s run) (run_accounts s run) d q b.node a.node other b.is v on_q (takes_by s.graph q b.node other on_q (subst (λ (z : Holdings). next_on s.graph q.remaining z ≡ Takes b.node) (same y other q.holdings on_y on_q) n)) (holds h) in
+        let w : Below s ((run_keeps s run).key c) st a.node = wants_below s (run_keeps s run) c op a.node st a.is on (takes_by s.graph op a.node st on (subst (λ (z : Holdings). next_on s.graph op.remaining z ≡ Takes a.node) (one_holdings on_x on) m)) in
+        let keeps : Keeps_waiting other a.node = holds_waiting s (run_keeps s run) (run_accounts s run) d q b.node a.node other b.is v on_q (takes_by s.graph q b.node other on_q (subst (λ (z : Holdings). next_on s.graph q.remaining z ≡ Takes b.node) (one_holdings on_y on_q) n)) (holds h) in
         let r : (r : Key) × (HasNames r × ((run_keeps s run).key d ≡ (run_keeps s run).key c ++ r)) =
         waits_below (numbers s.graph) (run_keeps s run).is_graph.one_key ((run_keeps s run).key c) w.w st ((run_keeps s run).key d) other w.m a.node w.x
         ((run_keeps s run).kept.each c op st a.is on).located ((run_keeps s run).kept.each d q other b.is on_q).located
-        w.at_m w.held w.at_n (λ k f g. pair.apart k g f) back.source back.dest keeps in
+        w.at_m w.held w.at_n (λ k f g. pair.apart k g f) (back.clear Source) (back.clear Dest) keeps in
         (r.0, r.1.0, r.1.1)
 
 -- a call that holds a node stands somewhere
@@ -176,7 +141,7 @@ none_or_chosen s run c op (Some n) is m = go (chosen_or_none s run (inv.key c ++
     t = to_move s.graph op n m
 
     at_n : numbers s.graph ((run_keeps s run).key c ++ (to_move s.graph op n m).st.source.walked ++ last_of (to_move s.graph op n m).p ∷ []) ≡ Some n
-    at_n = at_child s.graph.child 0 (to_move s.graph op n m).st.source.node ((run_keeps s run).key c ++ (to_move s.graph op n m).st.source.walked) (last_of (to_move s.graph op n m).p) ((run_keeps s run).kept.each c op (to_move s.graph op n m).st is (to_move s.graph op n m).on).located.source ∙ (to_move s.graph op n m).child
+    at_n = at_child s.graph.child 0 (to_move s.graph op n m).st.source.node ((run_keeps s run).key c ++ (to_move s.graph op n m).st.source.walked) (last_of (to_move s.graph op n m).p) (((run_keeps s run).kept.each c op (to_move s.graph op n m).st is (to_move s.graph op n m).on).located.head Source) ∙ (to_move s.graph op n m).child
 
     go : NoneBelow s (Some n) ⊎ ((d : ℕ) × IsChosen s n d) → NoneBelow s (Some n) ⊎ ((k d : ℕ) × (Some n ≡ Some k) × IsChosen s k d)
     go (inl h) = inl h

@@ -4,7 +4,7 @@ use Rattle.fs_names.specs.Keys.{Key, after_prefix}
 use Rattle.fs_names.specs.Names.{Name}
 use Rattle.fs_names.specs.Parts.{HasNames}
 use Rattle.fs_laws.specs.Maps.{Map}
-use Rattle.fs_machine.specs.Records.{Holds, Holdings}
+use Rattle.fs_machine.specs.Records.{Holds, Holdings, Source, Dest}
 use Rattle.fs_laws.specs.CallFacts.{IsClear, Located}
 use Rattle.fs_laws.proofs.helping.FinishPassesPlaced.{child_cases}
 use Rattle.fs_laws.proofs.events.TwoCalls.{OneKey, Ends, ends, ends_same}
@@ -44,8 +44,8 @@ waits_below tree one kc w c kd d m n x lc ld at_m held at_n apart source dest (i
             on (y ∷ f) i g = clear e.front (e.last ∷ []) m (subst HasNames (sym i) tt) tt e.is (ap tree g ∙ at_m) held
 
     by : (HasNames d.source.walked × (d.source.node ≡ n)) ⊎ (HasNames d.dest.walked × (d.dest.node ≡ n)) → ⊥
-    by (inl a) = head d.source.walked d.source.node a.0 ld.source a.1 source
-    by (inr a) = head d.dest.walked d.dest.node a.0 ld.dest a.1 dest
+    by (inl a) = head d.source.walked d.source.node a.0 (ld.head Source) a.1 source
+    by (inr a) = head d.dest.walked d.dest.node a.0 (ld.head Dest) a.1 dest
 
 -- while a call holds the parent of s, no other call's position gets below s by a take
 pub none_enters : (tree : Map ℕ) (kf kd : Key) (x y : Name) (sp m : ℕ) (mover other : Holdings) → tree kf ≡ Some sp → Holds mover sp → tree kd ≡ Some m → Holds other m → ((q : ℕ) → Holds mover q → Holds other q → ⊥)
