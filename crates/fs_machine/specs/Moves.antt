@@ -17,7 +17,7 @@ use Rattle.fs_calls.specs.declared.reply.Reply.{Reply}
 use Rattle.fs_nodes.specs.Graphs.{Graph, entry_shape}
 use Rattle.fs_machine.specs.declared.moves.Move.{Move}
 use Rattle.fs_machine.specs.declared.moves.Move.TheVariants.{Take as Takes, LetGo as Leaves, Finish as Finishes, Return as Ends}
-use Rattle.fs_machine.specs.Records.{Head, Holdings, Side, Source, Dest, head_on, with_head, Phase, Walking, Placed, Finished, Record, head_at, holdings_at}
+use Rattle.fs_machine.specs.Records.{Head, Holdings, Side, Source, Dest, head_on, with_head, Phase, Walking, Placed, Finished, Record, head_at, holdings_at, held_on}
 
 -- the first of two moves
 abbrev pub first_of : Option Move → Move → Move
@@ -175,11 +175,6 @@ inner (AtNode c p) = AtNode c (tail_of p)
 inner (AtEntry c p) = AtEntry c (tail_of p)
 inner (AtPair pairs.Rename p q) = AtPair pairs.Rename (tail_of p) (tail_of q)
 
--- a head leaves its node behind, but not the common directory, from which it sets out
-abbrev pub behind_of : Key → ℕ → Option ℕ
-behind_of [] n = None
-behind_of (x ∷ walked) n = Some n
-
 -- a head after a step to a node
 abbrev pub head_took : Head → Name → ℕ → Head
 head_took h x n = record { walked = h.walked ++ x ∷ []; node = n }
@@ -188,9 +183,9 @@ head_took h x n = record { walked = h.walked ++ x ∷ []; node = n }
 abbrev pub victim_took : Holdings → ℕ → Holdings
 victim_took st n = record st { victim = Some n }
 
--- the head on a side takes a step
+-- the head on a side takes a step; the node that it held is behind then
 abbrev pub stepped : Side → Holdings → Name → ℕ → Holdings
-stepped side st x n = record (with_head side (head_took (head_on side st) x n) st) { behind = behind_of (head_on side st).walked (head_on side st).node }
+stepped side st x n = record (with_head side (head_took (head_on side st) x n) st) { behind = held_on (head_on side st).walked (head_on side st).node }
 
 -- with names left to it the head on a side takes a step, and else the call stands as told
 abbrev pub step_or : Side → Key → Holdings → ℕ → Holdings → Holdings

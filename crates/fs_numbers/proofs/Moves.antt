@@ -13,10 +13,10 @@ use Rattle.fs_calls.specs.declared.errno.Errno.{Errno}
 use Rattle.fs_calls.specs.declared.reply.Reply.{Reply}
 use Rattle.fs_nodes.specs.Graphs.{Graph, entry_shape}
 use Rattle.fs_machine.specs.Leaving.{is_removed, cleared, releasing, let_go, unreserved}
-use Rattle.fs_machine.specs.Moves.{first_of, target, walk_move, victim_of, take_if, entry_move, there_by, same_kind, dir_error, rename_at, moved_node, rename_move, dir_then, fork_move, target_move, first_walked, last_held, next_by, next, behind_of, head_took, victim_took, step_or, target_took, took_by, took, left_heads, left_last, left_holdings, behind_first, step_move, next_on}
+use Rattle.fs_machine.specs.Moves.{first_of, target, walk_move, victim_of, take_if, entry_move, there_by, same_kind, dir_error, rename_at, moved_node, rename_move, dir_then, fork_move, target_move, first_walked, last_held, next_by, next, head_took, victim_took, step_or, target_took, took_by, took, left_heads, left_last, left_holdings, behind_first, step_move, next_on}
 use Rattle.fs_machine.specs.declared.moves.Move.{Move}
 use Rattle.fs_machine.specs.declared.moves.Move.TheVariants.{Take as Takes, LetGo as Leaves, Finish as Finishes}
-use Rattle.fs_machine.specs.Records.{Holdings, Phase, Walking, Placed, Finished, Record, Side, Source, Dest}
+use Rattle.fs_machine.specs.Records.{Holdings, Phase, Walking, Placed, Finished, Record, Side, Source, Dest, held_on}
 use Rattle.fs_numbers.specs.Renamings.{Renaming, renamed_number, renamed_children, renamed_graph, renamed_head, renamed_holdings, renamed_record, renamed_move}
 use Rattle.fs_numbers.proofs.Edits.{eqb_old, old_at, child_at, entry_at, released_renamed}
 
@@ -127,7 +127,7 @@ next_renamed r graph op = by_renamed r graph op (by_text (form op.call)) op.phas
 
 -- ---- after a take
 
-behind_renamed : (r : Renaming) (walked : Key) (n : ℕ) → behind_of walked (r.to n) ≡ renamed_number r (behind_of walked n)
+behind_renamed : (r : Renaming) (walked : Key) (n : ℕ) → held_on walked (r.to n) ≡ renamed_number r (held_on walked n)
 behind_renamed r [] n = refl
 behind_renamed r (x ∷ walked) n = refl
 

@@ -11,8 +11,8 @@ use Rattle.fs_calls.specs.declared.call.Call.{Call}
 use Rattle.fs_walk.specs.declared.head.Head as count
 use Rattle.fs_walk.specs.Ways as ways
 use Rattle.fs_walk.specs.Ways.{Way, ForkWay, new_fork, start_at, head_name, way_took, may_take, fork_took, has_arrived, has_set_out}
-use Rattle.fs_machine.specs.Moves.{target, inner, behind_of, head_took, victim_took, step_or, target_took}
-use Rattle.fs_machine.specs.Records.{Source, Dest}
+use Rattle.fs_machine.specs.Moves.{target, inner, head_took, victim_took, step_or, target_took}
+use Rattle.fs_machine.specs.Records.{Source, Dest, held_on}
 use Rattle.fs_finish.specs.Paths.{first_path}
 use Rattle.fs_ops.specs.OpValue.{behind_in, dropped, head_of, holdings_with, op_value, Forks, IsForked}
 use Rattle.fs_ops.specs.code.TakeAndLetGo.{started, heads_after, TakesTo}
@@ -91,12 +91,12 @@ arrived_took call way new behind behind_new fork fork_new victim victim_new rese
     rw (same, at, rest, stands) refl
 
 -- what a head that steps leaves behind, and where it is then
-behind_is : (l : Key) (k n : ℕ) (x : Name) → slice_get l k ≡ Some x → behind_of (take k l) n ≡ cond (nat_lt 0 k) (Some n) None
+behind_is : (l : Key) (k n : ℕ) (x : Name) → slice_get l k ≡ Some x → held_on (take k l) n ≡ cond (nat_lt 0 k) (Some n) None
 behind_is [] k n x e = absurd (cc)
 behind_is (y ∷ l) zero n x e = refl
 behind_is (y ∷ l) (suc k) n x e = let t : nat_lt 0 (suc k) ≡ true = grind (arith, nat_tests) in rw t refl
 
-head_leaves : (p : Key) (names : ℕ) (head : count.Head) (x : Name) → slice_get (parent_of p) (names + head.walked) ≡ Some x → behind_of (head_of p names head).walked head.node ≡ ways.head_leaves head
+head_leaves : (p : Key) (names : ℕ) (head : count.Head) (x : Name) → slice_get (parent_of p) (names + head.walked) ≡ Some x → held_on (head_of p names head).walked head.node ≡ ways.head_leaves head
 head_leaves p names head x e = behind_is (drop names p) head.walked head.node x (drop_get names head.walked p ∙ parent_some p (names + head.walked) x e)
 
 head_stepped : (p : Key) (names : ℕ) (head : count.Head) (n : ℕ) (x : Name) → slice_get (parent_of p) (names + head.walked) ≡ Some x → head_took (head_of p names head) x n ≡ head_of p names (ways.head_took head n)

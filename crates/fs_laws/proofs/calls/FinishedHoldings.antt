@@ -10,7 +10,7 @@ use Rattle.fs_machine.specs.Moves.{next, next_by, next_on, first_of, step_move, 
 use Rattle.fs_machine.specs.declared.moves.Move.TheVariants.{LetGo as Leaves, Finish as Finishes}
 use Rattle.fs_machine.specs.Records.{Phase, Walking, Placed, Finished, Holds, Record, Holdings}
 use Rattle.fs_laws.proofs.calls.Behind.{finish_past}
-use Rattle.fs_laws.proofs.events.LetGo.{behind_of_move, still_holds, lets_behind, LetsLast, One, All, lets_last}
+use Rattle.fs_laws.proofs.events.LetGo.{held_on_move, still_holds, lets_behind, LetsLast, One, All, lets_last}
 use Rattle.fs_laws.proofs.calls.HeadOrder.{IsClosed, HeadsOfCallInOrder, neat_heads}
 use Rattle.fs_laws.proofs.calls.NodesHeld.{one_holdings, none_some}
 
@@ -81,5 +81,5 @@ left_well graph op n w m = go op.phase (by_text (form op.call)) op.holdings refl
     go (Placed k) (Some e) s i j f = cc
     go Walking None None i j f = cc
     go (Placed k) None None i j f = cc
-    go Walking None (Some st) i j f = way_left graph op n st Walking i (λ r e. cc) j (w st j) refl (behind_of_move graph op.remaining st n f)
-    go (Placed k) None (Some st) i j f = way_left graph op n st (Placed k) i (λ r e. cc) j (w st j) refl (behind_of_move graph op.remaining st n f)
+    go Walking None (Some st) i j f = way_left graph op n st Walking i (λ r e. cc) j (w st j) refl (held_on_move graph op.remaining st n f)
+    go (Placed k) None (Some st) i j f = way_left graph op n st (Placed k) i (λ r e. cc) j (w st j) refl (held_on_move graph op.remaining st n f)

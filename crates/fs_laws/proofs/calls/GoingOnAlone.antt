@@ -8,17 +8,17 @@ use Rattle.fs_calls.specs.Forms.{form, Form, AtNode, AtEntry, AtPair, by_text, u
 use Rattle.fs_calls.specs.declared.target.PairCall.TheVariants as pairs
 use Rattle.fs_calls.specs.declared.errno.Errno.{Errno}
 use Rattle.fs_nodes.specs.Graphs.{Graph, numbers, IsGraph}
-use Rattle.fs_machine.specs.Moves.{next, next_by, next_on, target, took, victim_took, stepped, inner, tail_of, left_holdings, behind_of}
+use Rattle.fs_machine.specs.Moves.{next, next_by, next_on, target, took, victim_took, stepped, inner, tail_of, left_holdings}
 use Rattle.fs_machine.specs.declared.moves.Move.{Move}
 use Rattle.fs_machine.specs.declared.moves.Move.TheVariants.{Take as Takes, LetGo as Leaves, Finish as Finishes, Return as Ends}
-use Rattle.fs_machine.specs.Records.{Phase, Walking, Placed, Finished, Holds, Record, Holdings, Side, Source, Dest, of_side, head_on, holdings_at}
+use Rattle.fs_machine.specs.Records.{Phase, Walking, Placed, Finished, Holds, Record, Holdings, Side, Source, Dest, of_side, head_on, holdings_at, held_on}
 use Rattle.fs_laws.specs.Invariants.{IsUnfinished}
 use Rattle.fs_laws.specs.Settled.{names_left, alone_by}
 use Rattle.fs_laws.specs.StepsLeft.{one_if, one_unless, to_go, moves_left}
 use Rattle.fs_laws.proofs.trees.Prefixes.{prefix_append, prefix_some}
 use Rattle.fs_laws.proofs.graphs.Walks.{at_child}
 use Rattle.fs_laws.proofs.calls.NodesHeld.{located_at, single_at, single_grow}
-use Rattle.fs_laws.proofs.events.LetGo.{Lets, behind_of_move, lets_behind, single_of, well_left, victim_left}
+use Rattle.fs_laws.proofs.events.LetGo.{Lets, held_on_move, lets_behind, single_of, well_left, victim_left}
 use Rattle.fs_laws.proofs.events.Take.{Inner, inner_on, number_inner, fresh_well, fresh_victim}
 use Rattle.fs_laws.proofs.calls.TakesAtTarget.{forked_of, KeptThere, kept_there}
 use Rattle.fs_laws.proofs.states.ComputedSteps.{on_ends}
@@ -133,7 +133,7 @@ solo_took graph is k op n st s t = go t
         same_go (AtPair pairs.Rename p q) z = omega (arith, z)
 
     head_less : (side : Side) (p q : Key) (x : Name) → length (left ((head_on side st).walked ++ x ∷ []) (parent_of (of_side side p q))) + 1 ≡ length (left (head_on side st).walked (parent_of (of_side side p q)))
-        → one_if (behind_of (head_on side st).walked (head_on side st).node) ≤ 1 → moves_left (AtPair pairs.Rename p q) (stepped side st x n) + 1 ≤ moves_left (AtPair pairs.Rename p q) st
+        → one_if (held_on (head_on side st).walked (head_on side st).node) ≤ 1 → moves_left (AtPair pairs.Rename p q) (stepped side st x n) + 1 ≤ moves_left (AtPair pairs.Rename p q) st
     head_less Source p q x a b = omega (arith, a, b)
     head_less Dest p q x a b = omega (arith, a, b)
 
@@ -145,7 +145,7 @@ solo_took graph is k op n st s t = go t
         let whole : parent_of (of_side side p q) ≡ walked ++ x ∷ l = (forked_of graph st.node p q st op.remaining rem way s.well).path side ∙ ap (λ (y : Key). walked ++ y) at_left in
         let a : length (left (walked ++ x ∷ []) (parent_of (of_side side p q))) ≡ length l = ap length (left_next walked l (parent_of (of_side side p q)) x whole) in
         let c : length (left walked (parent_of (of_side side p q))) ≡ length (x ∷ l) = ap length at_left in
-        subst (λ (g : Form). moves_left g (stepped side st x n) + 1 ≤ moves_left g st) (sym rem) (head_less side p q x (omega (arith, a, c)) (if_one (behind_of walked (head_on side st).node)))
+        subst (λ (g : Form). moves_left g (stepped side st x n) + 1 ≤ moves_left g st) (sym rem) (head_less side p q x (omega (arith, a, c)) (if_one (held_on walked (head_on side st).node)))
 
     go : Take graph op n st → Advanced graph k op st (took op n)
     go (Walk x l way b child e) = subst (Advanced graph k op st) (sym e) (record {
@@ -313,7 +313,7 @@ finishes_alone zero graph is k op st s few = go (next_on graph op.remaining st) 
   where
     go : (m : Move) → next_on graph op.remaining st ≡ m → Finishing graph k op zero
     go (Takes n) e = let a : Advanced graph k op st (took op n) = solo_took graph is k op n st s (takes_by graph op n st s.on e) in absurd (none_less (moves_left (took op n).remaining a.new) (moves_left op.remaining st) a.less few)
-    go (Leaves n) e = let a : Advanced graph k op st (left_alone op) = solo_left graph k op n st s (behind_of_move graph op.remaining st n e) in absurd (none_less (moves_left (left_alone op).remaining a.new) (moves_left op.remaining st) a.less few)
+    go (Leaves n) e = let a : Advanced graph k op st (left_alone op) = solo_left graph k op n st s (held_on_move graph op.remaining st n e) in absurd (none_less (moves_left (left_alone op).remaining a.new) (moves_left op.remaining st) a.less few)
     go (Finishes o) e = ended_here graph k op st zero o s e refl
     go Ends e = absurd (on_ends graph op.remaining st e)
 finishes_alone (suc steps) graph is k op st s few = go (λ j v new t f. finishes_alone steps graph is j v new t f) (next_on graph op.remaining st) refl
@@ -326,7 +326,7 @@ finishes_alone (suc steps) graph is k op st s few = go (λ j v new t f. finishes
         let a : Advanced graph k op st (took op n) = solo_took graph is k op n st s (takes_by graph op n st s.on e) in
         further graph k op (took op n) st steps (suc steps) a (rest (k ++ a.r) (took op n) a.new a.solo (one_less (moves_left (took op n).remaining a.new) (moves_left op.remaining st) steps a.less few)) (by (Takes n) e)
     go rest (Leaves n) e =
-        let a : Advanced graph k op st (left_alone op) = solo_left graph k op n st s (behind_of_move graph op.remaining st n e) in
+        let a : Advanced graph k op st (left_alone op) = solo_left graph k op n st s (held_on_move graph op.remaining st n e) in
         further graph k op (left_alone op) st steps (suc steps) a (rest (k ++ a.r) (left_alone op) a.new a.solo (one_less (moves_left (left_alone op).remaining a.new) (moves_left op.remaining st) steps a.less few)) (by (Leaves n) e)
     go rest (Finishes o) e = ended_here graph k op st (suc steps) o s e (by (Finishes o) e)
     go rest Ends e = absurd (on_ends graph op.remaining st e)

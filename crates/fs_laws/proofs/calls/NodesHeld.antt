@@ -3,8 +3,8 @@ use Rattle.std.proofs.Common.{◌≡◌, ℕ, [], ◌∷◌, ◌++◌, Option, S
 use Rattle.fs_names.specs.Keys.{Key}
 use Rattle.fs_names.specs.Names.{Name}
 use Rattle.fs_names.specs.Parts.{HasNames}
-use Rattle.fs_machine.specs.Moves.{behind_of, head_took, victim_took, stepped}
-use Rattle.fs_machine.specs.Records.{Head, HeadHolds, Holds, Holdings, Side, Source, Dest, head_on, with_head, head_at, holdings_at}
+use Rattle.fs_machine.specs.Moves.{head_took, victim_took, stepped}
+use Rattle.fs_machine.specs.Records.{Head, HeadHolds, Holds, Holdings, Side, Source, Dest, head_on, with_head, head_at, holdings_at, held_on}
 use Rattle.fs_laws.specs.Maps.{Map}
 use Rattle.fs_laws.specs.CallFacts.{Located}
 use Rattle.fs_laws.specs.Invariants.{Slot, At_node, At_behind, At_head, At_victim, if_walked, in_slot, IsSingle}
@@ -155,7 +155,7 @@ grown_victim st n off = record { at = At_victim; here = refl; swap = λ a. a; tw
     from (At_head side) = inr refl
     from At_victim = inl refl
 
-behind_is : (w : Key) (n : ℕ) → behind_of w n ≡ if_walked w (Some n)
+behind_is : (w : Key) (n : ℕ) → held_on w n ≡ if_walked w (Some n)
 behind_is [] n = refl
 behind_is (x ∷ w) n = refl
 

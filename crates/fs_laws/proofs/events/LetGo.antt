@@ -168,8 +168,8 @@ step_leaves graph h [] m n e = e
 step_leaves graph h (x ∷ l) m n e = absurd (never_walk (graph.shape h) (graph.child h x) n e)
 
 -- a call on its way lets nothing else go than what is behind
-pub behind_of_move : (graph : Graph) (rem : Form) (st : Holdings) (n : ℕ) → next_on graph rem st ≡ Leaves n → st.behind ≡ Some n
-behind_of_move graph rem st n m = go (leave_past st.behind (first_of (step_move graph st.node (target rem)) (target_move graph rem st)) n m)
+pub held_on_move : (graph : Graph) (rem : Form) (st : Holdings) (n : ℕ) → next_on graph rem st ≡ Leaves n → st.behind ≡ Some n
+held_on_move graph rem st n m = go (leave_past st.behind (first_of (step_move graph st.node (target rem)) (target_move graph rem st)) n m)
   where
     there : (rem : Form) → target_move graph rem st ≡ Leaves n → ⊥
     there (AtNode c p) e = none e
@@ -218,8 +218,8 @@ lets_go graph op n m = go op.phase (by_text (form op.call)) op.holdings refl ref
     go (Placed k) (Some e) s i j f = cc
     go Walking None None i j f = cc
     go (Placed k) None None i j f = cc
-    go Walking None (Some st) i j f = on_way op n st (no_end Walking i (λ r e. cc)) j (ap₂ left_holdings i j) (behind_of_move graph op.remaining st n f)
-    go (Placed k) None (Some st) i j f = on_way op n st (no_end (Placed k) i (λ r e. cc)) j (ap₂ left_holdings i j) (behind_of_move graph op.remaining st n f)
+    go Walking None (Some st) i j f = on_way op n st (no_end Walking i (λ r e. cc)) j (ap₂ left_holdings i j) (held_on_move graph op.remaining st n f)
+    go (Placed k) None (Some st) i j f = on_way op n st (no_end (Placed k) i (λ r e. cc)) j (ap₂ left_holdings i j) (held_on_move graph op.remaining st n f)
 
 -- the record after it, and the state, by what is left and what was removed
 abbrev after_left : Record → Option Holdings → Record

@@ -20,7 +20,7 @@ use Rattle.fs_machine.specs.declared.answers.Stepped.TheVariants.{Idle, Took, Bu
 use Rattle.fs_laws.specs.StepsLeft.{total, one_if, moves_left, one_walked, first_steps, steps_left_by, steps_left_of, steps_left, TakesWork, AddsWork}
 use Rattle.fs_laws.proofs.events.Help.{upd_here, upd_else, begins_push}
 use Rattle.fs_laws.proofs.journal.OneMoreEntry.{returns_begins, begins_begins}
-use Rattle.fs_laws.proofs.events.LetGo.{behind_of_move}
+use Rattle.fs_laws.proofs.events.LetGo.{held_on_move}
 use Rattle.fs_laws.proofs.events.Take.{TakesFrom, From_nowhere, From_holdings, takes_from}
 use Rattle.fs_laws.proofs.calls.Takes.{takes_by}
 use Rattle.fs_laws.proofs.events.Return.{ends_nowhere}
@@ -116,7 +116,7 @@ left_less s run c op n is m = go op.phase (by_text (form op.call)) op.holdings r
   where
     on_way : (st : Holdings) → IsUnfinished op → op.holdings ≡ Some st → next_on s.graph op.remaining st ≡ Leaves n → steps_left_of (Some (let_go op n)) + 1 ≤ steps_left_of (Some op)
     on_way st u on f =
-        let a : Advanced s.graph ((run_keeps s run).key c) op st (left_alone op) = solo_left s.graph ((run_keeps s run).key c) op n st (solo_of s (run_keeps s run) (run_accounts s run) c op st is u on) (behind_of_move s.graph op.remaining st n f) in
+        let a : Advanced s.graph ((run_keeps s run).key c) op st (left_alone op) = solo_left s.graph ((run_keeps s run).key c) op n st (solo_of s (run_keeps s run) (run_accounts s run) c op st is u on) (held_on_move s.graph op.remaining st n f) in
         subst (λ (o : Option Holdings). steps_left_by op.remaining op.phase (left_holdings op.phase op.holdings) + 1 ≤ steps_left_by op.remaining op.phase o) (sym on)
         (subst (λ (o : Option Holdings). steps_left_by op.remaining op.phase o + 1 ≤ steps_left_by op.remaining op.phase (Some st)) (sym a.solo.on) (fewer op.remaining op.remaining op.phase st a.new u a.less))
 
