@@ -1,6 +1,6 @@
-//! The lines of `walks`. `walk NAMES` sets out on a walk along so many names, and `took NODE`, `left NODE` and `end` are what
+//! The lines of `walks`. `walk NAMES` sets out on a walk along so many names, and `took NODE` and `left NODE` are what
 //! happens to it; each is answered by how far it is then. The same of a fork from a directory, at so many names, to the
-//! parents of `/a/b/c/x` and `/a/y`: `fork NODE NAMES`, `fork_took NODE`, `fork_left NODE`, `fork_back`. `cancel LIMIT CALL`
+//! parents of `/a/b/c/x` and `/a/y`: `fork NODE NAMES`, `fork_took NODE`, `fork_left NODE`. `cancel LIMIT CALL`
 //! begins a call on a new tree of so many nodes at the most, and cancels it.
 
 ghost use Rattle.std.specs.Prelude.{◌≡◌, ◌≤◌, IfOk, IfSome, None};
@@ -74,9 +74,9 @@ fn fork_text(alloc: Global, fork: &Fork) -> Result<String> {
     let behind = node_text(alloc, fork.behind())?;
     let has_arrived = has_arrived(alloc, fork)?;
     let (heads, behind, has_set_out) = (heads.as_str(), behind.as_str(), fork.has_set_out());
-    let (node, names, last) = (fork.node().get(), fork.names(), fork.last().get());
+    let (node, names) = (fork.node().get(), fork.names());
     Ok(format!(in alloc;
-        "{names} to {node}, {heads}, last {last}, behind {behind}, out: {has_set_out}, there: {has_arrived}"
+        "{names} to {node}, {heads}, behind {behind}, out: {has_set_out}, there: {has_arrived}"
     )?)
 }
 
@@ -153,7 +153,6 @@ impl Walks {
                 self.walk.took(node_of(rest)?);
             }
             "left" => self.walk.let_go(node_of(rest)?),
-            "end" => self.walk.end(),
             _ => bail!("{word}: no line of a transcript"),
         }
         Ok(())
@@ -168,7 +167,6 @@ impl Walks {
             }
             "fork_took" => fork_took(alloc, &mut self.fork, node_of(rest)?)?,
             "fork_left" => self.fork.let_go(node_of(rest)?),
-            "fork_back" => self.fork.go_back(),
             _ => bail!("{word}: no line of a transcript"),
         }
         Ok(())
