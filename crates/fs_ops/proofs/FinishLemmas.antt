@@ -30,7 +30,8 @@ use Rattle.fs_machine.specs.Records.{Holdings, Record, Finished, taken_if}
 use Rattle.fs_machine.specs.OpValues.{OpValue, CanFinish, HeadsApart, MovesApart, SpareIf, IsFinished, graph_after, record_of}
 use Rattle.fs_ops.specs.declared.outcome.Outcome.{Outcome}
 use Rattle.fs_ops.specs.declared.outcome.Outcome.TheVariants.{Fixed}
-use Rattle.fs_ops.specs.OpValue.{dropped, holdings_of, holdings_with, op_value, with_held, IsForked, Forks, IsOp}
+use Rattle.fs_ops.specs.OpValue.{behind_in, dropped, holdings_of, holdings_with, op_value, stands, with_held, IsForked, Forks, IsOp}
+use Rattle.fs_ops.specs.declared.stand.Stand.{Stand}
 use Rattle.fs_ops.proofs.HeldLemmas.{none_went}
 use Rattle.fs_ops.specs.PlanOf.{pair_plan, plan_at, plan_by, plan_of, IsPlan}
 use Rattle.fs_ops.specs.code.NextByNodes.{route_by}
@@ -131,19 +132,19 @@ route_there call None behind fork victim st e = absurd (cc)
 route_there call (Some n) behind fork victim st e = let s : holdings_with call n behind fork victim ≡ st = cc in route_with call n behind fork victim ∙ ap route_at s
 
 -- the record and the graph after a finish
-module _ (graph : Graph) (call : Call) (way : Way) (behind : Option ℕ) (fork : Option ForkWay) (victim reserved removed : Option ℕ) (error : Option Errno) (outcome : Outcome) (st : Option Holdings) (op : IsOp (form call) error way fork st outcome)
-    (plan : Plan) (is : plan ≡ plan_of graph (op_value call way behind fork victim reserved removed outcome)) (done : Finish) (new : Graph) (made : IsEffect (carried graph (form call) (route_by way.node fork victim) reserved plan) done new) where
+module _ (graph : Graph) (call : Call) (stand : Stand) (reserved removed : Option ℕ) (error : Option Errno) (outcome : Outcome) (op : IsOp (form call) error stand outcome)
+    (plan : Plan) (is : plan ≡ plan_of graph (op_value call stand reserved removed outcome)) (done : Finish) (new : Graph) (made : IsEffect (carried graph (form call) (route_by stand.walk.node stand.fork stand.victim) reserved plan) done new) where
   abbrev before : OpValue
-  before = op_value call way behind fork victim reserved removed outcome
+  before = op_value call stand reserved removed outcome
 
-  effect_is : (seat : ℕ) (place : Option ℕ) → carried graph (form call) (route_by way.node fork victim) reserved plan ≡ finish graph (record_of seat place before)
+  effect_is : (seat : ℕ) (place : Option ℕ) → carried graph (form call) (route_by stand.walk.node stand.fork stand.victim) reserved plan ≡ finish graph (record_of seat place before)
   effect_is seat place =
-      let h : way.walked ≤ length (target (form call)) = omega (arith, op.within, op.names) in
-      ap (carried graph (form call) (route_by way.node fork victim) reserved) is
-      ∙ carried_by graph (form call) way.walked (by_text (form call)) before.holdings (route_by way.node fork victim) reserved (route_there (form call) way.node behind fork victim) h
+      let h : stand.walk.walked ≤ length (target (form call)) = omega (arith, op.within, op.names) in
+      ap (carried graph (form call) (route_by stand.walk.node stand.fork stand.victim) reserved) is
+      ∙ carried_by graph (form call) stand.walk.walked (by_text (form call)) before.holdings (route_by stand.walk.node stand.fork stand.victim) reserved (route_there (form call) stand.walk.node (behind_in stand.walk.behind stand.fork) stand.fork stand.victim) h
       ∙ sym (finish_by graph (record_of seat place before) (by_text (form call)) before.holdings)
 
-  pub finished_is : (held : List ℕ) → held ≡ taken_if before.holdings → IsFinished graph before (with_held (Fixed done.replies held) (op_value call way behind fork victim done.reserved done.removed (Fixed done.replies held)))
+  pub finished_is : (held : List ℕ) → held ≡ taken_if before.holdings → IsFinished graph before (with_held (Fixed done.replies held) (op_value call stand done.reserved done.removed (Fixed done.replies held)))
   finished_is held all seat place =
       let e = effect_is seat place in
       let r : done.replies ≡ (finish graph (record_of seat place before)).reply = made.reply ∙ ap (λ (m : Effect). m.reply) e in
@@ -355,7 +356,8 @@ can_by store call way behind fork victim reserved None (Some n) text node names 
         arrived_can store call way n behind fork victim reserved text node names (omega arith) forks can
 
 -- the plan of a call in a store
-pub can_carry_out : (store : Seen) (call : Call) (way : Way) (behind : Option ℕ) (fork : Option ForkWay) (victim reserved removed : Option ℕ) (error : Option Errno) (outcome : Outcome) (st : Option Holdings) (plan : Plan) → IsOp (form call) error way fork st outcome → IsPlan store (op_value call way behind fork victim reserved removed outcome) plan
-    → CanFinish store.graph reserved (dropped way.walked (form call)) (holdings_of (form call) way.node behind fork victim) → CanCarryOut store (form call) (route_by way.node fork victim) reserved plan
-can_carry_out store call way behind fork victim reserved removed error outcome st plan op planned can =
-    subst (CanBy store (form call) (route_by way.node fork victim) reserved) (sym planned.is) (can_by store (form call) way behind fork victim reserved (by_text (form call)) way.node refl refl op.names op.within op.forks can) planned.real
+pub can_carry_out : (store : Seen) (call : Call) (stand : Stand) (reserved removed : Option ℕ) (error : Option Errno) (outcome : Outcome) (plan : Plan) → IsOp (form call) error stand outcome → IsPlan store (op_value call stand reserved removed outcome) plan
+    → CanFinish store.graph reserved (dropped stand.walk.walked (form call)) (stands (form call) stand) → CanCarryOut store (form call) (route_by stand.walk.node stand.fork stand.victim) reserved plan
+can_carry_out store call stand reserved removed error outcome plan op planned can =
+    subst (CanBy store (form call) (route_by stand.walk.node stand.fork stand.victim) reserved) (sym planned.is)
+    (can_by store (form call) stand.walk (behind_in stand.walk.behind stand.fork) stand.fork stand.victim reserved (by_text (form call)) stand.walk.node refl refl op.names op.within op.forks can) planned.real

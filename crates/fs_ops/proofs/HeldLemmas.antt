@@ -18,9 +18,10 @@ use Rattle.fs_walk.specs.declared.head.Head as count
 use Rattle.fs_machine.specs.Leaving.{is_removed, cleared}
 use Rattle.fs_machine.specs.Moves.{next_by, last_held, left_last, left_holdings}
 use Rattle.fs_machine.specs.Records.{Finished, Holdings, held_on, taken, taken_if}
-use Rattle.fs_machine.specs.OpValues.{OpValue, IsLetGo, next_of, phase_of, record_of}
+use Rattle.fs_machine.specs.OpValues.{OpValue, IsLetGo, IsTook, next_of, phase_of, record_of}
 use Rattle.fs_machine.proofs.LastTakenGoesFirst.{popped}
-use Rattle.fs_ops.specs.OpValue.{Forks, IsReady, head_of, held_by, holdings_of, holdings_with, left_times, op_value, reply_of, with_held}
+use Rattle.fs_ops.specs.OpValue.{Forks, IsReady, behind_in, head_of, held_by, holdings_of, holdings_with, left_times, op_value, reply_of, stands, with_held}
+use Rattle.fs_ops.specs.declared.stand.Stand.{Stand}
 use Rattle.fs_ops.specs.PlanOf.{move_of}
 use Rattle.fs_ops.specs.code.NextByNodes.{last_next}
 use Rattle.fs_ops.specs.code.TakeAndLetGo.{all_held, head_held, heads_held}
@@ -115,11 +116,11 @@ held_less reply st old new (Some n) (gone, e) f =
     let m : length (old ++ gone) ≡ length old + length gone = length-append old gone in
     one_gone reply st old new n f (omega (arith, all, m))
 
-pub last_left : (call : Call) (way : Way) (behind : Option ℕ) (fork : Option ForkWay) (victim reserved removed removed_new : Option ℕ) (outcome : Outcome) (reply : Reply) (old new : List ℕ) (last : Option ℕ) (n : ℕ) (now : OpValue)
-    → outcome ≡ Fixed reply old → IsReady (form call) (holdings_of (form call) way.node behind fork victim) outcome → MatchOption last ((old ≡ []) × (new ≡ [])) (λ node. old ≡ new ++ node ∷ []) → removed_new ≡ cleared (is_removed removed n) removed
-    → with_held outcome (op_value call way behind fork victim reserved removed outcome) ≡ now → IsLetGo now n (with_held (Fixed reply new) (op_value call way behind fork victim reserved removed_new (Fixed reply new)))
-last_left call way behind fork victim reserved removed removed_new outcome reply old new last n now is ready pops cleared_is view seat place =
-    let st : Option Holdings = holdings_of (form call) way.node behind fork victim in
+pub last_left : (call : Call) (stand : Stand) (reserved removed removed_new : Option ℕ) (outcome : Outcome) (reply : Reply) (old new : List ℕ) (last : Option ℕ) (n : ℕ) (now : OpValue)
+    → outcome ≡ Fixed reply old → IsReady (form call) (stands (form call) stand) outcome → MatchOption last ((old ≡ []) × (new ≡ [])) (λ node. old ≡ new ++ node ∷ []) → removed_new ≡ cleared (is_removed removed n) removed
+    → with_held outcome (op_value call stand reserved removed outcome) ≡ now → IsLetGo now n (with_held (Fixed reply new) (op_value call stand reserved removed_new (Fixed reply new)))
+last_left call stand reserved removed removed_new outcome reply old new last n now is ready pops cleared_is view seat place =
+    let st : Option Holdings = stands (form call) stand in
     rw (← view, is, cleared_is, held_less reply st old new last (subst (IsReady (form call) st) is ready) pops) refl
 
 -- and it is a beginning still
@@ -149,21 +150,21 @@ head_held_is p names head within = by head.walked refl within
     by (suc j) e h = let r = head_walked names j p h in let t : nat_lt 0 (suc j) ≡ true = grind (arith, nat_tests) in rw (e, t, r.1.1) refl
 
 -- a finish leaves all that had been taken
-pub all_held_is : (call : Form) (way : Way) (behind : Option ℕ) (fork : Option ForkWay) (victim : Option ℕ) → Forks call way fork → all_held way.node fork victim ≡ taken_if (holdings_of call way.node behind fork victim)
-all_held_is call way behind fork victim h = by way.node
+pub all_held_is : (call : Form) (stand : Stand) → Forks call stand.walk stand.fork → all_held stand.walk.node stand.fork stand.victim ≡ taken_if (stands call stand)
+all_held_is call stand h = by stand.walk.node
   where
-    heads : (call : Form) (fork : Option ForkWay) → Forks call way fork → (n : ℕ) → n ∷ heads_held fork ++ option_to_list victim ≡ taken (holdings_with call n behind fork victim)
+    heads : (call : Form) (fork : Option ForkWay) → Forks call stand.walk fork → (n : ℕ) → n ∷ heads_held fork ++ option_to_list stand.victim ≡ taken (holdings_with call n (behind_in stand.walk.behind fork) fork stand.victim)
     heads call None h n = refl
     heads (AtNode c p) (Some f) h n = absurd h
     heads (AtEntry c p) (Some f) h n = absurd h
     heads (AtPair pairs.Rename p q) (Some f) h n =
         let s : head_held f.source ≡ held_on (head_of p f.names f.source).walked f.source.node = head_held_is p f.names f.source h.source in
         let d : head_held f.dest ≡ held_on (head_of q f.names f.dest).walked f.dest.node = head_held_is q f.names f.dest h.dest in
-        ap₂ (λ (a b : Option ℕ). n ∷ option_to_list a ++ option_to_list b ++ option_to_list victim) s d
+        ap₂ (λ (a b : Option ℕ). n ∷ option_to_list a ++ option_to_list b ++ option_to_list stand.victim) s d
 
-    by : (o : Option ℕ) → all_held o fork victim ≡ taken_if (holdings_of call o behind fork victim)
+    by : (o : Option ℕ) → all_held o stand.fork stand.victim ≡ taken_if (holdings_of call o (behind_in stand.walk.behind stand.fork) stand.fork stand.victim)
     by None = refl
-    by (Some n) = heads call fork h n
+    by (Some n) = heads call stand.fork h n
 
 -- and so none has gone
 pub none_went : (reply : Reply) (held : List ℕ) (st : Option Holdings) → held ≡ taken_if st → held_by (Fixed reply held) st ≡ st
@@ -179,7 +180,7 @@ pub still_open : (outcome : Outcome) (op now : OpValue) → with_held outcome op
 still_open (Open prepared) op now e unfinished = e
 still_open (Fixed reply held) op now e unfinished = absurd (cc)
 
--- and the room for its finish is there wherever it stands
-pub still_ready : (call : Form) (st now : Option Holdings) (outcome : Outcome) → is_some (reply_of outcome) ≡ false → IsReady call st outcome → IsReady call now outcome
-still_ready call st now (Open prepared) unfinished ready = ready
-still_ready call st now (Fixed reply held) unfinished ready = absurd (cc)
+-- so that is what a take changes
+pub open_took : (outcome : Outcome) (old new now : OpValue) (n : ℕ) → with_held outcome old ≡ now → is_some (reply_of outcome) ≡ false → IsTook old n new → IsTook now n (with_held outcome new)
+open_took (Open prepared) old new now n e unfinished h = subst (λ (op : OpValue). IsTook op n new) e h
+open_took (Fixed reply held) old new now n e unfinished h = absurd (cc)

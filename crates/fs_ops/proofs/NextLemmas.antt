@@ -24,6 +24,7 @@ use Rattle.fs_machine.specs.Records.{Holdings, Walking}
 use Rattle.fs_finish.specs.Paths.{first_path}
 use Rattle.fs_ops.specs.OpValue.{IsOp, Forks, behind_in, dropped, holdings_with, holdings_of, op_value, reply_of}
 use Rattle.fs_machine.specs.OpValues.{OpValue, record_of, next_of}
+use Rattle.fs_ops.specs.declared.stand.Stand.{Stand}
 use Rattle.fs_ops.specs.declared.outcome.Outcome.{Outcome}
 use Rattle.fs_ops.specs.declared.outcome.Outcome.TheVariants.{Open, Fixed}
 use Rattle.fs_ops.proofs.KeyLemmas.{last_drop, target_drop, target_take}
@@ -92,16 +93,16 @@ way_is graph call way (Some f) victim n at names within forks =
     target_is graph call way f.behind (Some f) victim n at names all forks
     ∙ ap (λ (l : Key). behind_first f.behind (first_of (step_move graph n l) (target_move graph (dropped way.walked call) (holdings_with call n f.behind (Some f) victim)))) (sym rest)
 
-pub next_is : (graph : Graph) (call : Call) (way : Way) (fork : Option ForkWay) (victim reserved removed : Option ℕ) (error : Option Errno) (outcome : Outcome) (st : Option Holdings) → IsOp (form call) error way fork st outcome → is_some (reply_of outcome) ≡ false → by_text (form call) ≡ None
-    → move_of (way_next graph (form call) way fork victim) ≡ next_of graph (op_value call way (behind_in way.behind fork) fork victim reserved removed outcome)
-next_is graph call way fork victim reserved removed error (Fixed r held) st op unfinished text = absurd (cc)
-next_is graph call way fork victim reserved removed error (Open prepared) st op unfinished text = by way.node refl
+pub next_is : (graph : Graph) (call : Call) (stand : Stand) (reserved removed : Option ℕ) (error : Option Errno) (outcome : Outcome) → IsOp (form call) error stand outcome → is_some (reply_of outcome) ≡ false → by_text (form call) ≡ None
+    → move_of (way_next graph (form call) stand.walk stand.fork stand.victim) ≡ next_of graph (op_value call stand reserved removed outcome)
+next_is graph call stand reserved removed error (Fixed r held) op unfinished text = absurd (cc)
+next_is graph call stand reserved removed error (Open prepared) op unfinished text = by stand.walk.node refl
   where
     value : OpValue
-    value = op_value call way (behind_in way.behind fork) fork victim reserved removed (Open prepared)
+    value = op_value call stand reserved removed (Open prepared)
 
-    by : (o : Option ℕ) → way.node ≡ o → move_of (way_next_at graph (form call) way o fork victim) ≡ next_by graph (record_of 0 None value) (by_text (form call)) Walking (holdings_of (form call) o (behind_in way.behind fork) fork victim)
+    by : (o : Option ℕ) → stand.walk.node ≡ o → move_of (way_next_at graph (form call) stand.walk o stand.fork stand.victim) ≡ next_by graph (record_of 0 None value) (by_text (form call)) Walking (holdings_of (form call) o (behind_in stand.walk.behind stand.fork) stand.fork stand.victim)
     by None e = ap (λ (x : Option Errno). next_by graph (record_of 0 None value) x Walking None) (sym text)
     by (Some n) e =
-        way_is graph (form call) way fork victim n e op.names op.within op.forks
-        ∙ ap (λ (x : Option Errno). next_by graph (record_of 0 None value) x Walking (Some (holdings_with (form call) n (behind_in way.behind fork) fork victim))) (sym text)
+        way_is graph (form call) stand.walk stand.fork stand.victim n e op.names op.within op.forks
+        ∙ ap (λ (x : Option Errno). next_by graph (record_of 0 None value) x Walking (Some (holdings_with (form call) n (behind_in stand.walk.behind stand.fork) stand.fork stand.victim))) (sym text)

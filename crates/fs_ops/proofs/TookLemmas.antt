@@ -15,7 +15,8 @@ use Rattle.fs_machine.specs.Moves.{target, inner, head_took, victim_took, step_o
 use Rattle.fs_machine.specs.Records.{Source, Dest, held_on}
 use Rattle.fs_finish.specs.Paths.{first_path}
 use Rattle.fs_ops.specs.OpValue.{behind_in, dropped, head_of, holdings_with, op_value, Forks, IsForked}
-use Rattle.fs_ops.specs.code.TakeAndLetGo.{started, heads_after, TakesTo}
+use Rattle.fs_ops.specs.declared.stand.Stand.{Stand}
+use Rattle.fs_ops.specs.code.TakeAndLetGo.{started, heads_after, walk_on, TakesTo}
 use Rattle.fs_machine.specs.OpValues.{OpValue, IsTook}
 use Rattle.fs_ops.specs.declared.outcome.Outcome.{Outcome}
 use Rattle.fs_ops.proofs.KeyLemmas.{parent_drop, drop_get, tail_drop, target_drop, target_take, take_get}
@@ -58,9 +59,8 @@ inner_dropped k (AtEntry c p) = ap (AtEntry c) (tail_drop k p)
 inner_dropped k (AtPair pairs.Rename p q) = rw (tail_drop k p, tail_drop k q) refl
 
 -- the root is taken
-pub root_took : (call : Call) (way : Way) (behind : Option ℕ) (fork : Option ForkWay) (victim reserved removed : Option ℕ) (outcome : Outcome) (n : ℕ) → way.node ≡ None
-    → IsTook (op_value call way behind fork victim reserved removed outcome) n (op_value call (way_took way n) (way_took way n).behind None None reserved removed outcome)
-root_took call way behind fork victim reserved removed outcome n e seat place = rw e refl
+root_took : (call : Call) (stand : Stand) (reserved removed : Option ℕ) (outcome : Outcome) (n : ℕ) → stand.walk.node ≡ None → IsTook (op_value call stand reserved removed outcome) n (op_value call (walk_on stand n) reserved removed outcome)
+root_took call stand reserved removed outcome n e seat place = rw e refl
 
 -- the position of holdings
 pub holdings_node : (call : Form) (n : ℕ) (behind : Option ℕ) (fork : Option ForkWay) (victim : Option ℕ) → (holdings_with call n behind fork victim).node ≡ n
@@ -68,27 +68,26 @@ holdings_node call n behind None victim = refl
 holdings_node call n behind (Some f) victim = refl
 
 -- a name further
-step_by : (call : Call) (way : Way) (behind : Option ℕ) (fork : Option ForkWay) (victim reserved removed : Option ℕ) (outcome : Outcome) (n m : ℕ) (x : Name) (l : Key) → way.node ≡ Some m
-    → target (dropped way.walked (form call)) ≡ x ∷ l → take (way.walked + 1) (first_path (form call)) ≡ take way.walked (first_path (form call)) ++ x ∷ []
-    → IsTook (op_value call way behind fork victim reserved removed outcome) n (op_value call (way_took way n) (way_took way n).behind None None reserved removed outcome)
-step_by call way behind fork victim reserved removed outcome n m x l at rest more seat place = rw (at, rest, more, inner_dropped way.walked (form call), holdings_node (form call) m behind fork victim) refl
+step_by : (call : Call) (stand : Stand) (reserved removed : Option ℕ) (outcome : Outcome) (n m : ℕ) (x : Name) (l : Key) → stand.walk.node ≡ Some m
+    → target (dropped stand.walk.walked (form call)) ≡ x ∷ l → take (stand.walk.walked + 1) (first_path (form call)) ≡ take stand.walk.walked (first_path (form call)) ++ x ∷ []
+    → IsTook (op_value call stand reserved removed outcome) n (op_value call (walk_on stand n) reserved removed outcome)
+step_by call stand reserved removed outcome n m x l at rest more seat place = rw (at, rest, more, inner_dropped stand.walk.walked (form call), holdings_node (form call) m (behind_in stand.walk.behind stand.fork) stand.fork stand.victim) refl
 
-pub step_took : (call : Call) (way : Way) (behind : Option ℕ) (fork : Option ForkWay) (victim reserved removed : Option ℕ) (outcome : Outcome) (n m : ℕ) → way.node ≡ Some m → way.names ≡ length (target (form call)) → way.walked < way.names
-    → IsTook (op_value call way behind fork victim reserved removed outcome) n (op_value call (way_took way n) (way_took way n).behind None None reserved removed outcome)
-step_took call way behind fork victim reserved removed outcome n m at names less =
-    let k = way.walked in
+step_took : (call : Call) (stand : Stand) (reserved removed : Option ℕ) (outcome : Outcome) (n m : ℕ) → stand.walk.node ≡ Some m → stand.walk.names ≡ length (target (form call)) → stand.walk.walked < stand.walk.names
+    → IsTook (op_value call stand reserved removed outcome) n (op_value call (walk_on stand n) reserved removed outcome)
+step_took call stand reserved removed outcome n m at names less =
+    let k = stand.walk.walked in
     let name : (x : Name) × (slice_get (target (form call)) k ≡ Some x) = within_some (target (form call)) k (omega arith) in
     let rest : target (dropped k (form call)) ≡ name.0 ∷ drop (suc k) (target (form call)) = target_drop k (form call) (omega arith) ∙ ahead_some (target (form call)) k name.0 name.1 in
     let whole : slice_get (first_path (form call)) k ≡ Some name.0 = sym (take_get (length (target (form call))) k (first_path (form call)) (omega arith)) ∙ (ap (λ (l : Key). slice_get l k) (target_take (form call)) ∙ name.1) in
-    step_by call way behind fork victim reserved removed outcome n m name.0 (drop (suc k) (target (form call))) at rest (take_more (first_path (form call)) k name.0 whole)
+    step_by call stand reserved removed outcome n m name.0 (drop (suc k) (target (form call))) at rest (take_more (first_path (form call)) k name.0 whole)
 
 -- at the target
-pub arrived_took : (call : Call) (way new : Way) (behind behind_new : Option ℕ) (fork fork_new : Option ForkWay) (victim victim_new reserved removed : Option ℕ) (outcome : Outcome) (n m : ℕ) → way.node ≡ Some m → way.names ≡ length (target (form call)) → way.walked ≡ way.names → new ≡ way
-    → target_took (dropped way.walked (form call)) (holdings_with (form call) m behind fork victim) n ≡ holdings_with (form call) m behind_new fork_new victim_new
-    → IsTook (op_value call way behind fork victim reserved removed outcome) n (op_value call new behind_new fork_new victim_new reserved removed outcome)
-arrived_took call way new behind behind_new fork fork_new victim victim_new reserved removed outcome n m at names all same stands seat place =
-    let rest : target (dropped way.walked (form call)) ≡ [] = target_drop way.walked (form call) (omega arith) ∙ ahead_none (target (form call)) way.walked (slice_get_past (target (form call)) way.walked (omega arith)) in
-    rw (same, at, rest, stands) refl
+arrived_took : (call : Call) (stand new : Stand) (reserved removed : Option ℕ) (outcome : Outcome) (n m : ℕ) → stand.walk.node ≡ Some m → stand.walk.names ≡ length (target (form call)) → stand.walk.walked ≡ stand.walk.names → new.walk ≡ stand.walk
+    → TakesTo (form call) stand.walk m n stand.fork stand.victim new.fork new.victim → IsTook (op_value call stand reserved removed outcome) n (op_value call new reserved removed outcome)
+arrived_took call stand new reserved removed outcome n m at names all same to seat place =
+    let rest : target (dropped stand.walk.walked (form call)) ≡ [] = target_drop stand.walk.walked (form call) (omega arith) ∙ ahead_none (target (form call)) stand.walk.walked (slice_get_past (target (form call)) stand.walk.walked (omega arith)) in
+    rw (same, at, rest, to) refl
 
 -- what a head that steps leaves behind, and where it is then
 behind_is : (l : Key) (k n : ℕ) (x : Name) → slice_get l k ≡ Some x → held_on (take k l) n ≡ cond (nat_lt 0 k) (Some n) None
@@ -236,15 +235,14 @@ rename_forks p q way fork n m at all names forks = go fork (took_forked p q way 
         by false = tt
 
 -- a walk that may take a node takes it
-pub walk_took : (call : Call) (way : Way) (behind : Option ℕ) (fork : Option ForkWay) (victim reserved removed : Option ℕ) (outcome : Outcome) (n : ℕ) → way.names ≡ length (target (form call)) → may_take way ≡ true
-    → IsTook (op_value call way behind fork victim reserved removed outcome) n (op_value call (way_took way n) (way_took way n).behind None None reserved removed outcome)
-walk_took call way behind fork victim reserved removed outcome n names may = by_node way.node refl
+pub walk_took : (call : Call) (stand : Stand) (reserved removed : Option ℕ) (outcome : Outcome) (n : ℕ) → stand.walk.names ≡ length (target (form call)) → may_take stand.walk ≡ true → IsTook (op_value call stand reserved removed outcome) n (op_value call (walk_on stand n) reserved removed outcome)
+walk_took call stand reserved removed outcome n names may = by_node stand.walk.node refl
   where
-    by_node : (o : Option ℕ) → way.node ≡ o → IsTook (op_value call way behind fork victim reserved removed outcome) n (op_value call (way_took way n) (way_took way n).behind None None reserved removed outcome)
-    by_node None e = root_took call way behind fork victim reserved removed outcome n e
+    by_node : (o : Option ℕ) → stand.walk.node ≡ o → IsTook (op_value call stand reserved removed outcome) n (op_value call (walk_on stand n) reserved removed outcome)
+    by_node None e = root_took call stand reserved removed outcome n e
     by_node (Some m) e =
-        let test : nat_lt way.walked way.names ≡ true = rw e at may in
-        step_took call way behind fork victim reserved removed outcome n m e names (grind (arith, nat_tests))
+        let test : nat_lt stand.walk.walked stand.walk.names ≡ true = rw e at may in
+        step_took call stand reserved removed outcome n m e names (grind (arith, nat_tests))
 
 -- and one that may not has arrived
 pub walk_arrived : (way : Way) → may_take way ≡ false → way.walked ≤ way.names → (way.walked ≡ way.names) × ((m : ℕ) × (way.node ≡ Some m))
@@ -256,13 +254,9 @@ walk_arrived way may within = by_node way.node refl
         let test : nat_lt way.walked way.names ≡ false = rw e at may in
         (grind (arith, nat_tests), (m, e))
 
-pub target_took_is : (call : Call) (way : Way) (fork fork_new : Option ForkWay) (victim victim_new reserved removed : Option ℕ) (outcome : Outcome) (n : ℕ) → way.names ≡ length (target (form call)) → may_take way ≡ false → way.walked ≤ way.names
-    → ((at : ℕ) → way.node ≡ Some at → TakesTo (form call) way at n fork victim fork_new victim_new)
-    → IsTook (op_value call way (behind_in way.behind fork) fork victim reserved removed outcome) n (op_value call way (behind_in way.behind fork_new) fork_new victim_new reserved removed outcome)
-target_took_is call way fork fork_new victim victim_new reserved removed outcome n names may within stands =
-    let arrived : (way.walked ≡ way.names) × ((m : ℕ) × (way.node ≡ Some m)) = walk_arrived way may within in
-    arrived_took call way way (behind_in way.behind fork) (behind_in way.behind fork_new) fork fork_new victim victim_new reserved removed outcome n arrived.1.0 arrived.1.1 names arrived.0 refl (stands arrived.1.0 arrived.1.1)
-
--- the same from the value that the fields are
-pub took_as : (old old_seen new new_seen : OpValue) (n : ℕ) → old ≡ old_seen → new ≡ new_seen → IsTook old n new → IsTook old_seen n new_seen
-took_as old old_seen new new_seen n e f h seat place = rw (← e, ← f) (h seat place)
+pub target_took_is : (call : Call) (stand new : Stand) (reserved removed : Option ℕ) (outcome : Outcome) (n : ℕ) → stand.walk.names ≡ length (target (form call)) → may_take stand.walk ≡ false → stand.walk.walked ≤ stand.walk.names → new.walk ≡ stand.walk
+    → ((at : ℕ) → stand.walk.node ≡ Some at → TakesTo (form call) stand.walk at n stand.fork stand.victim new.fork new.victim)
+    → IsTook (op_value call stand reserved removed outcome) n (op_value call new reserved removed outcome)
+target_took_is call stand new reserved removed outcome n names may within same to =
+    let arrived : (stand.walk.walked ≡ stand.walk.names) × ((m : ℕ) × (stand.walk.node ≡ Some m)) = walk_arrived stand.walk may within in
+    arrived_took call stand new reserved removed outcome n arrived.1.0 arrived.1.1 names arrived.0 same (to arrived.1.0 arrived.1.1)

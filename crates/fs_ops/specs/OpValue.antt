@@ -10,6 +10,7 @@ use Rattle.fs_walk.specs.Ways.{Way, ForkWay}
 use Rattle.fs_walk.specs.declared.head.Head as count
 use Rattle.fs_ops.specs.declared.outcome.Outcome.{Outcome}
 use Rattle.fs_ops.specs.declared.outcome.Outcome.TheVariants.{Open, Fixed}
+use Rattle.fs_ops.specs.declared.stand.Stand.{Stand}
 use Rattle.fs_machine.specs.Moves.{target, left_holdings}
 use Rattle.fs_machine.specs.Records.{Finished, Head, Holdings, head_at, taken_if}
 use Rattle.fs_finish.specs.Paths.{first_path, second_path}
@@ -57,14 +58,18 @@ abbrev pub held_by : Outcome → Option Holdings → Option Holdings
 held_by (Open prepared) st = st
 held_by (Fixed reply held) st = left_times reply (length (taken_if st) - length held) st
 
--- the value of a call that has let go of none since its finish
-abbrev pub op_value : Call → Way → Option ℕ → Option ForkWay → Option ℕ → Option ℕ → Option ℕ → Outcome → OpValue
-op_value call way behind fork victim reserved removed outcome =
+-- where a call stands that has let go of none since its finish
+abbrev pub stands : Form → Stand → Option Holdings
+stands call stand = holdings_of call stand.walk.node (behind_in stand.walk.behind stand.fork) stand.fork stand.victim
+
+-- its value
+abbrev pub op_value : Call → Stand → Option ℕ → Option ℕ → Outcome → OpValue
+op_value call stand reserved removed outcome =
     record {
       call = call;
-      walked = take way.walked (first_path (form call));
-      remaining = dropped way.walked (form call);
-      holdings = holdings_of (form call) way.node behind fork victim;
+      walked = take stand.walk.walked (first_path (form call));
+      remaining = dropped stand.walk.walked (form call);
+      holdings = stands (form call) stand;
       reply = reply_of outcome;
       reserved = reserved;
       removed = removed;
@@ -95,9 +100,9 @@ IsReady call st (Open prepared) = Suffices call prepared
 IsReady call st (Fixed reply held) = (gone : List ℕ) × (held ++ gone ≡ taken_if st)
 
 -- what the fields of a call keep: the error that its paths decide is kept from the begin, and the walk goes to the target
-pub record IsOp (call : Form) (path_error : Option Errno) (way : Way) (fork : Option ForkWay) (st : Option Holdings) (outcome : Outcome) : Type 0 where
+pub record IsOp (call : Form) (path_error : Option Errno) (stand : Stand) (outcome : Outcome) : Type 0 where
   pub decided : path_error ≡ by_text call
-  pub names : way.names ≡ length (target call)
-  pub within : way.walked ≤ way.names
-  pub forks : Forks call way fork
-  pub ready : IsReady call st outcome
+  pub names : stand.walk.names ≡ length (target call)
+  pub within : stand.walk.walked ≤ stand.walk.names
+  pub forks : Forks call stand.walk stand.fork
+  pub ready : IsReady call (stands call stand) outcome

@@ -23,13 +23,13 @@ pub struct Op {
 impl Model for Op {
     ghost use Rattle.fs_calls.specs.Forms.{form};
     ghost use Rattle.fs_machine.specs.OpValues.{OpValue};
-    ghost use Rattle.fs_ops.specs.OpValue.{behind_in, holdings_of, op_value, with_held, IsOp};
+    ghost use Rattle.fs_ops.specs.OpValue.{op_value, with_held, IsOp};
 
     ghost Value = { OpValue };
 
-    ghost view = { λ o. with_held o.outcome (op_value o.call o.stand.walk (behind_in o.stand.walk.behind o.stand.fork) o.stand.fork o.stand.victim o.reserved o.removed o.outcome) };
+    ghost view = { λ o. with_held o.outcome (op_value o.call o.stand o.reserved o.removed o.outcome) };
 
-    ghost invariant = { λ o. IsOp (form o.call) o.path_error o.stand.walk o.stand.fork (holdings_of (form o.call) o.stand.walk.node (behind_in o.stand.walk.behind o.stand.fork) o.stand.fork o.stand.victim) o.outcome };
+    ghost invariant = { λ o. IsOp (form o.call) o.path_error o.stand o.outcome };
 }
 
 impl Op {

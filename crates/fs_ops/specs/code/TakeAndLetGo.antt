@@ -2,15 +2,20 @@
 use Rattle.std.specs.Prelude.{ℕ, ◌≡◌, cond, nat_lt, option_to_list, List, [], ◌∷◌, ◌++◌, Option, Some, None}
 use Rattle.fs_calls.specs.Forms.{Form}
 use Rattle.fs_names.specs.Keys.{Key}
-use Rattle.fs_walk.specs.Ways.{Way, ForkWay, new_fork, has_set_out, fork_took}
+use Rattle.fs_walk.specs.Ways.{Way, ForkWay, new_fork, has_set_out, way_took, fork_took}
 use Rattle.fs_walk.specs.declared.head.Head.{Head}
 use Rattle.fs_machine.specs.Moves.{target_took}
+use Rattle.fs_ops.specs.declared.stand.Stand.{Stand}
 use Rattle.fs_ops.specs.OpValue.{behind_in, dropped, holdings_with}
 
 -- the heads, at a node with so many names before it until they set out
 abbrev pub started : Option ForkWay → ℕ → ℕ → ForkWay
 started None n names = new_fork n names
 started (Some fork) n names = fork
+
+-- where a call stands after a take of its walk
+abbrev pub walk_on : Stand → ℕ → Stand
+walk_on stand n = record { walk = way_took stand.walk n; fork = None; victim = None }
 
 -- a take at the target leads from these heads and this victim to those
 abbrev pub TakesTo : Form → Way → ℕ → ℕ → Option ForkWay → Option ℕ → Option ForkWay → Option ℕ → Type 0

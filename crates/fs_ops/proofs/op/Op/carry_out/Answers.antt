@@ -9,7 +9,7 @@ use Rattle.fs_finish.specs.Endings.{IsEffect}
 use Rattle.fs_finish.specs.Plans.{carried, CanCarryOut}
 use Rattle.fs_finish.specs.declared.plan.Route.{Route}
 use Rattle.fs_ops.specs.declared.outcome.Outcome.TheVariants.{Fixed}
-use Rattle.fs_ops.specs.OpValue.{behind_in, holdings_of, op_value, with_held}
+use Rattle.fs_ops.specs.OpValue.{op_value, stands, with_held}
 use Rattle.fs_ops.specs.PlanOf.{IsPlan}
 use Rattle.fs_machine.specs.OpValues.{OpValue, CanFinish, graph_after}
 use Rattle.fs_ops.proofs.HeldLemmas.{all_held_is, still_open}
@@ -21,7 +21,7 @@ carry_out-done-requires-clause-can c =
     let o = c.self.inside in
     let store = seen c.args.store.now in
     subst₂ (λ (f : Form) (z : Route). CanCarryOut store f z o.reserved c.args.plan) (sym c.target.ensures) (sym c.route-route.ensures)
-    (can_carry_out store o.call o.stand.walk (behind_in o.stand.walk.behind o.stand.fork) o.stand.fork o.stand.victim o.reserved o.removed o.path_error o.outcome (holdings_of (form o.call) o.stand.walk.node (behind_in o.stand.walk.behind o.stand.fork) o.stand.fork o.stand.victim) c.args.plan c.self.invariant
+    (can_carry_out store o.call o.stand o.reserved o.removed o.path_error o.outcome c.args.plan c.self.invariant
     (subst (λ (w : OpValue). IsPlan store w c.args.plan) (sym (still_open o.outcome _ _ c.self.view_is (ap (λ (w : OpValue). is_some w.reply) c.self.view_is ∙ ap (λ (r : Option Reply). is_some r) c.requires.unfinished))) c.requires.plan)
     (subst (λ (w : OpValue). CanFinish store.graph w.reserved w.remaining w.holdings) (sym (still_open o.outcome _ _ c.self.view_is (ap (λ (w : OpValue). is_some w.reply) c.self.view_is ∙ ap (λ (r : Option Reply). is_some r) c.requires.unfinished))) c.requires.can))
 
@@ -31,10 +31,10 @@ returns-clause-op c =
     let g = graph_of c.args.store.now in
     let new = graph_of c.carry_out-done.new.store in
     let is = (subst (λ (w : OpValue). IsPlan (seen c.args.store.now) w c.args.plan) (sym (still_open o.outcome _ _ c.self.view_is (ap (λ (w : OpValue). is_some w.reply) c.self.view_is ∙ ap (λ (r : Option Reply). is_some r) c.requires.unfinished))) c.requires.plan).is in
-    finished_as g _ c.args.self.now (with_held (Fixed c.carry_out-done.result.replies c.held.result) (op_value o.call o.stand.walk (behind_in o.stand.walk.behind o.stand.fork) o.stand.fork o.stand.victim c.carry_out-done.result.reserved c.carry_out-done.result.removed (Fixed c.carry_out-done.result.replies c.held.result))) (still_open o.outcome _ _ c.self.view_is (ap (λ (w : OpValue). is_some w.reply) c.self.view_is ∙ ap (λ (r : Option Reply). is_some r) c.requires.unfinished))
-    (finished_is g o.call o.stand.walk (behind_in o.stand.walk.behind o.stand.fork) o.stand.fork o.stand.victim o.reserved o.removed o.path_error o.outcome (holdings_of (form o.call) o.stand.walk.node (behind_in o.stand.walk.behind o.stand.fork) o.stand.fork o.stand.victim) c.self.invariant c.args.plan is c.carry_out-done.result new
+    finished_as g _ c.args.self.now (with_held (Fixed c.carry_out-done.result.replies c.held.result) (op_value o.call o.stand c.carry_out-done.result.reserved c.carry_out-done.result.removed (Fixed c.carry_out-done.result.replies c.held.result))) (still_open o.outcome _ _ c.self.view_is (ap (λ (w : OpValue). is_some w.reply) c.self.view_is ∙ ap (λ (r : Option Reply). is_some r) c.requires.unfinished))
+    (finished_is g o.call o.stand o.reserved o.removed o.path_error o.outcome c.self.invariant c.args.plan is c.carry_out-done.result new
     (subst₂ (λ (f : Form) (z : Route). IsEffect (carried g f z o.reserved c.args.plan) c.carry_out-done.result new) c.target.ensures c.route-route.ensures c.carry_out-done.ensures.made)
-    c.held.result (c.held.ensures ∙ all_held_is (form o.call) o.stand.walk (behind_in o.stand.walk.behind o.stand.fork) o.stand.fork o.stand.victim c.self.invariant.forks))
+    c.held.result (c.held.ensures ∙ all_held_is (form o.call) o.stand c.self.invariant.forks))
 
 pub returns-clause-change : goal.returns-clause-change
 returns-clause-change c =
@@ -44,7 +44,7 @@ returns-clause-change c =
     let is = (subst (λ (w : OpValue). IsPlan (seen c.args.store.now) w c.args.plan) (sym (still_open o.outcome _ _ c.self.view_is (ap (λ (w : OpValue). is_some w.reply) c.self.view_is ∙ ap (λ (r : Option Reply). is_some r) c.requires.unfinished))) c.requires.plan).is in
     c.carry_out-done.ensures.rest
     ∙ ap (λ (h : Graph). record (seen c.args.store.now) { graph = h })
-    (graph_is g o.call o.stand.walk (behind_in o.stand.walk.behind o.stand.fork) o.stand.fork o.stand.victim o.reserved o.removed o.path_error o.outcome (holdings_of (form o.call) o.stand.walk.node (behind_in o.stand.walk.behind o.stand.fork) o.stand.fork o.stand.victim) c.self.invariant c.args.plan is c.carry_out-done.result new
+    (graph_is g o.call o.stand o.reserved o.removed o.path_error o.outcome c.self.invariant c.args.plan is c.carry_out-done.result new
     (subst₂ (λ (f : Form) (z : Route). IsEffect (carried g f z o.reserved c.args.plan) c.carry_out-done.result new) c.target.ensures c.route-route.ensures c.carry_out-done.ensures.made)
     ∙ ap (graph_after g) (still_open o.outcome _ _ c.self.view_is (ap (λ (w : OpValue). is_some w.reply) c.self.view_is ∙ ap (λ (r : Option Reply). is_some r) c.requires.unfinished)))
 
@@ -56,5 +56,5 @@ invariant_of-self c =
       names = c.self.invariant.names;
       within = c.self.invariant.within;
       forks = c.self.invariant.forks;
-      ready = ([], append-nil c.held.result ∙ (c.held.ensures ∙ all_held_is (form o.call) o.stand.walk (behind_in o.stand.walk.behind o.stand.fork) o.stand.fork o.stand.victim c.self.invariant.forks));
+      ready = ([], append-nil c.held.result ∙ (c.held.ensures ∙ all_held_is (form o.call) o.stand c.self.invariant.forks));
     }

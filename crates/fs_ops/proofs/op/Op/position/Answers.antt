@@ -1,10 +1,10 @@
 use Rattle.std.proofs.Common.{◌∙◌}
 use Rattle.fs_calls.specs.Forms.{form}
-use Rattle.fs_ops.specs.OpValue.{behind_in, op_value}
+use Rattle.fs_ops.specs.OpValue.{op_value, stands}
 use Rattle.fs_ops.proofs.HeldLemmas.{finished_position}
 use Rattle.fs_ops.proofs.op.Op.position.Goals as goal
 
 pub returns-in-Fixed : goal.returns-in-Fixed
 returns-in-Fixed c =
     let o = c.self.inside in
-    c.first.ensures ∙ finished_position (form o.call) (op_value o.call o.stand.walk (behind_in o.stand.walk.behind o.stand.fork) o.stand.fork o.stand.victim o.reserved o.removed o.outcome) c.args.self.now o.outcome c.in-Fixed.field-0 c.in-Fixed.held c.in-Fixed.is c.self.invariant.ready c.self.view_is
+    c.first.ensures ∙ finished_position (form o.call) (op_value o.call o.stand o.reserved o.removed o.outcome) c.args.self.now o.outcome c.in-Fixed.field-0 c.in-Fixed.held c.in-Fixed.is c.self.invariant.ready c.self.view_is
