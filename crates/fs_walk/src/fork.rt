@@ -140,8 +140,8 @@ impl Fork {
         }
     }
 
-    /// The head that walks next has taken a node, if one does. Where it stood is behind then, if that is not the common directory.
-    /// Where both have arrived nothing changes, and it answers false.
+    /// The head that walks next has taken a node. Where it stood is behind then, if that is not the common directory. Where both
+    /// have arrived neither takes it: nothing changes, and it answers false.
     pub fn took(&mut self, source: &Path, dest: &Path, node: NodeNo) -> bool
         ensures fork { self.new ≡ fork_took source.now dest.now self.old node }
         ensures took { result ≡ is_some (walking source.now dest.now self.old) }

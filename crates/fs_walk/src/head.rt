@@ -1,4 +1,4 @@
-//! One head of a fork.
+//! One head of a fork, and the sides of both.
 
 ghost use Rattle.std.specs.Prelude.{◌≡◌, ◌<◌};
 ghost use Rattle.fs_walk.specs.Ways.{start_at, head_took, head_leaves};
