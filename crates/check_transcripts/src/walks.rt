@@ -48,7 +48,7 @@ fn walk_text(alloc: Global, walk: &Walk) -> Result<String> {
 fn has_arrived(alloc: Global, fork: &Fork) -> Result<bool> {
     let source = Path::parse(alloc, SOURCE)?;
     let dest = Path::parse(alloc, DEST)?;
-    Ok(fork.has_arrived(&source, &dest))
+    Ok(fork.walking(&source, &dest).is_none())
 }
 
 fn fork_took(alloc: Global, fork: &mut Fork, node: NodeNo) -> Result<()> {

@@ -13,7 +13,7 @@ use Rattle.fs_calls.specs.declared.call.Call.{Call}
 use Rattle.fs_calls.specs.declared.reply.Reply.{Reply}
 use Rattle.fs_nodes.specs.Graphs.{Graph}
 use Rattle.fs_locks.specs.Held.{first_of, last_of}
-use Rattle.fs_walk.specs.Ways.{Way, ForkWay}
+use Rattle.fs_walk.specs.Ways.{ForkWay}
 use Rattle.fs_walk.specs.declared.head.Head as count
 use Rattle.fs_machine.specs.Leaving.{is_removed, cleared}
 use Rattle.fs_machine.specs.Moves.{next_by, last_held, left_last, left_holdings}

@@ -20,7 +20,7 @@ use Rattle.fs_machine.specs.declared.moves.Move.{Move}
 use Rattle.fs_machine.specs.declared.moves.Move.TheVariants.{Finish as Finishes}
 use Rattle.fs_ops.specs.code.NextByNodes.{entry_next, target_next, way_next, way_next_at}
 use Rattle.fs_ops.specs.PlanOf.{move_of}
-use Rattle.fs_machine.specs.Records.{Holdings, Walking}
+use Rattle.fs_machine.specs.Records.{Walking}
 use Rattle.fs_finish.specs.Paths.{first_path}
 use Rattle.fs_ops.specs.OpValue.{IsOp, Forks, behind_in, dropped, holdings_with, holdings_of, op_value, reply_of}
 use Rattle.fs_machine.specs.OpValues.{OpValue, record_of, next_of}

@@ -9,15 +9,17 @@ use Rattle.fs_calls.specs.Forms.{form, Form, AtNode, AtEntry, AtPair}
 use Rattle.fs_calls.specs.declared.target.PairCall.TheVariants as pairs
 use Rattle.fs_calls.specs.declared.call.Call.{Call}
 use Rattle.fs_walk.specs.declared.head.Head as count
+use Rattle.fs_walk.specs.declared.head.Side.{Side}
+use Rattle.fs_walk.specs.declared.head.Side.TheVariants as sides
 use Rattle.fs_walk.specs.Ways as ways
-use Rattle.fs_walk.specs.Ways.{Way, ForkWay, new_fork, start_at, head_name, way_took, may_take, fork_took, has_arrived, has_set_out}
+use Rattle.fs_walk.specs.Ways.{Way, ForkWay, new_fork, head_name, way_took, may_take, walking, fork_took, has_arrived, has_set_out}
 use Rattle.fs_machine.specs.Moves.{target, inner, head_took, victim_took, step_or, target_took}
 use Rattle.fs_machine.specs.Records.{Source, Dest, held_on}
 use Rattle.fs_finish.specs.Paths.{first_path}
 use Rattle.fs_ops.specs.OpValue.{behind_in, dropped, head_of, holdings_with, op_value, Forks, IsForked}
 use Rattle.fs_ops.specs.declared.stand.Stand.{Stand}
 use Rattle.fs_ops.specs.code.TakeAndLetGo.{started, heads_after, walk_on, TakesTo}
-use Rattle.fs_machine.specs.OpValues.{OpValue, IsTook}
+use Rattle.fs_machine.specs.OpValues.{IsTook}
 use Rattle.fs_ops.specs.declared.outcome.Outcome.{Outcome}
 use Rattle.fs_ops.proofs.KeyLemmas.{parent_drop, drop_get, tail_drop, target_drop, target_take, take_get}
 use Rattle.fs_ops.proofs.WantLemmas.{left_head}
@@ -131,12 +133,11 @@ heads_took p q n m behind fork victim hs hd =
 
 -- heads that have arrived stay as they are
 arrived_stay : (p q : Key) (fork : ForkWay) (n : ℕ) → has_arrived p q fork ≡ true → fork_took p q fork n ≡ fork
-arrived_stay p q fork n t = go (head_name p fork.names fork.source) (head_name q fork.names fork.dest) refl refl
+arrived_stay p q fork n t = go (walking p q fork) refl
   where
-    go : (a b : Option Name) → head_name p fork.names fork.source ≡ a → head_name q fork.names fork.dest ≡ b → fork_took p q fork n ≡ fork
-    go None None i j = rw (i, j) refl
-    go (Some x) b i j = let z : false ≡ true = rw i at t in absurd (cc)
-    go None (Some x) i j = let z : false ≡ true = rw (i, j) at t in absurd (cc)
+    go : (side : Option Side) → walking p q fork ≡ side → fork_took p q fork n ≡ fork
+    go None e = rw e refl
+    go (Some side) e = let z : false ≡ true = rw e at t in absurd (cc)
 
 behind_now : (p q : Key) (fork : ForkWay) (n : ℕ) → left_behind p q fork fork.behind n ≡ (fork_took p q fork n).behind
 behind_now p q fork n = go (has_arrived p q fork) refl
@@ -167,12 +168,12 @@ started_forked p q way None m at all names forks =
 
 -- the first to set out has walked a name
 first_sets_out : (p q : Key) (m names n : ℕ) → has_arrived p q (new_fork m names) ≡ false → has_set_out (fork_took p q (new_fork m names) n) ≡ true
-first_sets_out p q m names n t = go (head_name p names (start_at m)) (head_name q names (start_at m)) refl refl
+first_sets_out p q m names n t = go (walking p q (new_fork m names)) refl
   where
-    go : (a b : Option Name) → head_name p names (start_at m) ≡ a → head_name q names (start_at m) ≡ b → has_set_out (fork_took p q (new_fork m names) n) ≡ true
-    go (Some x) b i j = rw i refl
-    go None (Some x) i j = rw (i, j) refl
-    go None None i j = let z : true ≡ false = rw (i, j) at t in absurd (cc)
+    go : (side : Option Side) → walking p q (new_fork m names) ≡ side → has_set_out (fork_took p q (new_fork m names) n) ≡ true
+    go (Some sides.Source) e = rw e refl
+    go (Some sides.Dest) e = rw e refl
+    go None e = let z : true ≡ false = rw e at t in absurd (cc)
 
 rename_stands : (p q : Key) (way : Way) (fork : Option ForkWay) (victim : Option ℕ) (n m : ℕ) → way.node ≡ Some m → way.walked ≡ way.names → way.names ≡ length (common (parent_of p) (parent_of q)) → Forks (AtPair pairs.Rename p q) way fork
     → TakesTo (AtPair pairs.Rename p q) way m n fork victim (heads_after p q fork m way.names n) (cond (has_arrived p q (started fork m way.names)) (Some n) victim)

@@ -31,10 +31,9 @@ fn heads_took(
     ensures heads { heads.new ≡ fork_took source.now dest.now heads.old node }
     ensures victim { victim.new ≡ cond (has_arrived source.now dest.now heads.old) (Some node) victim.old }
 {
-    if heads.has_arrived(source, dest) {
+    if !heads.took(source, dest, node) {
         *victim = Some(node);
     }
-    heads.took(source, dest, node);
 }
 
 /// A rename at its common directory takes a node.

@@ -4,6 +4,8 @@ use Rattle.fs_names.specs.Names.{Name}
 use Rattle.fs_names.specs.Keys.{Key, parent_of}
 use Rattle.fs_names.specs.declared.limits.TheConstants.{PATH_LIMIT}
 use Rattle.fs_walk.specs.declared.head.Head.{Head}
+use Rattle.fs_walk.specs.declared.head.Side.{Side}
+use Rattle.fs_walk.specs.declared.head.Side.TheVariants.{Source, Dest}
 
 -- one head: along how many names it goes, how many it has walked, its node (None: it holds nothing), and a node behind it that it still holds
 pub record Way : Type 0 where
@@ -90,19 +92,29 @@ name_ahead path way = slice_get (take way.names path) way.walked
 abbrev pub head_name : Key → ℕ → Head → Option Name
 head_name path names head = slice_get (parent_of path) (names + head.walked)
 
--- both heads after a take: a step of the source head, where a name is ahead of it, or else of the destination head
-abbrev pub fork_took_by : Option Name → Option Name → ForkWay → ℕ → ForkWay
-fork_took_by (Some x) dest fork n = record fork { source = head_took fork.source n; behind = head_leaves fork.source }
-fork_took_by None (Some x) fork n = record fork { dest = head_took fork.dest n; behind = head_leaves fork.dest }
-fork_took_by None None fork n = fork
+-- the side of the head that walks next: the source, where a name is ahead of its head, or else the destination
+abbrev pub walking_by : Option Name → Option Name → Option Side
+walking_by (Some x) dest = Some Source
+walking_by None (Some x) = Some Dest
+walking_by None None = None
 
--- both heads after a take, by the paths of a rename
-abbrev pub fork_took : Key → Key → ForkWay → ℕ → ForkWay
-fork_took source dest fork n = fork_took_by (head_name source fork.names fork.source) (head_name dest fork.names fork.dest) fork n
+-- the same, by the paths of a rename
+abbrev pub walking : Key → Key → ForkWay → Option Side
+walking source dest fork = walking_by (head_name source fork.names fork.source) (head_name dest fork.names fork.dest)
 
 -- whether both heads have arrived
 abbrev pub has_arrived : Key → Key → ForkWay → Bool
-has_arrived source dest fork = not (is_some (head_name source fork.names fork.source) || is_some (head_name dest fork.names fork.dest))
+has_arrived source dest fork = not (is_some (walking source dest fork))
+
+-- both heads after a step of the one on a side
+abbrev pub fork_stepped : Option Side → ForkWay → ℕ → ForkWay
+fork_stepped (Some Source) fork n = record fork { source = head_took fork.source n; behind = head_leaves fork.source }
+fork_stepped (Some Dest) fork n = record fork { dest = head_took fork.dest n; behind = head_leaves fork.dest }
+fork_stepped None fork n = fork
+
+-- both heads after a take, by the paths of a rename
+abbrev pub fork_took : Key → Key → ForkWay → ℕ → ForkWay
+fork_took source dest fork n = fork_stepped (walking source dest fork) fork n
 
 -- both heads after they let go of a node behind
 abbrev pub fork_left : ForkWay → ℕ → ForkWay

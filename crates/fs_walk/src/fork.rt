@@ -1,11 +1,12 @@
 //! A walk with two heads.
 
-ghost use Rattle.std.specs.Prelude.{◌≡◌, ◌≤◌};
-ghost use Rattle.fs_walk.specs.Ways.{new_fork, has_set_out, fork_took, has_arrived, head_name, fork_left};
+ghost use Rattle.std.specs.Prelude.{◌≡◌, ◌≤◌, ◌<◌, Some, is_some};
+ghost use Rattle.fs_walk.specs.Ways.{new_fork, has_set_out, walking, fork_took, head_name, fork_left};
+ghost use Rattle.fs_walk.specs.declared.head.Side.TheVariants as sides;
 ghost use Rattle.fs_walk.specs.Wants.{fork_want, dir_want};
 ghost use Rattle.fs_nodes.specs.Stores.{graph_of};
 
-use crate::head::Head;
+use crate::head::{Head, Side};
 use crate::names::parent_name;
 use crate::want::{Want, at_dir, step_want};
 use fs_names::{PATH_LIMIT, Path};
@@ -123,24 +124,34 @@ impl Fork {
         }
     }
 
-    /// Whether both heads have walked all names to their parents.
-    pub fn has_arrived(&self, source: &Path, dest: &Path) -> bool
-        ensures { result ≡ has_arrived source.now dest.now self.now }
-    {
-        !(parent_name(source, self.names + self.source.walked).is_some()
-            || parent_name(dest, self.names + self.dest.walked).is_some())
-    }
-
-    /// A head has taken a node: the source head, where a name is ahead of it, and else the destination head. Where it stood
-    /// is behind then, if that is not the common directory. Where both have arrived nothing changes.
-    pub fn took(&mut self, source: &Path, dest: &Path, node: NodeNo)
-        ensures { self.new ≡ fork_took source.now dest.now self.old node }
+    /// The side of the head that walks next: the source, where a name is ahead of its head, and else the destination. None: both
+    /// have walked all names to their parents.
+    pub fn walking(&self, source: &Path, dest: &Path) -> Option<Side>
+        ensures side { result ≡ walking source.now dest.now self.now }
+        ensures source { result ≡ Some sides.Source → self.now.source.walked < PATH_LIMIT }
+        ensures dest { result ≡ Some sides.Dest → self.now.dest.walked < PATH_LIMIT }
     {
         if parent_name(source, self.names + self.source.walked).is_some() {
-            self.behind = self.source.took(node);
+            Some(Side::Source)
         } else if parent_name(dest, self.names + self.dest.walked).is_some() {
-            self.behind = self.dest.took(node);
+            Some(Side::Dest)
+        } else {
+            None
         }
+    }
+
+    /// The head that walks next has taken a node. Where it stood is behind then, if that is not the common directory. Where both
+    /// have arrived neither takes it: nothing changes, and it answers false.
+    pub fn took(&mut self, source: &Path, dest: &Path, node: NodeNo) -> bool
+        ensures fork { self.new ≡ fork_took source.now dest.now self.old node }
+        ensures took { result ≡ is_some (walking source.now dest.now self.old) }
+    {
+        match self.walking(source, dest) {
+            Some(Side::Source) => self.behind = self.source.took(node),
+            Some(Side::Dest) => self.behind = self.dest.took(node),
+            None => return false,
+        }
+        true
     }
 
     /// It lets the node go that is behind; another one changes nothing.

@@ -1,10 +1,19 @@
-//! One head of a fork.
+//! One head of a fork, and the sides of both.
 
 ghost use Rattle.std.specs.Prelude.{◌≡◌, ◌<◌};
 ghost use Rattle.fs_walk.specs.Ways.{start_at, head_took, head_leaves};
 
 use fs_names::PATH_LIMIT;
 use fs_nodes::NodeNo;
+
+/// Which of the two heads of a fork.
+#[derive(Clone, Copy, Debug, PartialEq, Eq)]
+pub enum Side {
+    /// The head on its way to the parent of the source path.
+    Source,
+    /// The one on its way to that of the destination path.
+    Dest,
+}
 
 /// Where a head stands: how many names it has walked from the common directory on, and its node.
 #[derive(Clone, Copy, Debug, PartialEq, Eq)]

@@ -19,6 +19,6 @@ pub mod want;
 
 pub use find::find_path;
 pub use fork::Fork;
-pub use head::Head;
+pub use head::{Head, Side};
 pub use walk::Walk;
 pub use want::Want;

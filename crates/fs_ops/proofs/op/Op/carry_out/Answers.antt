@@ -9,7 +9,7 @@ use Rattle.fs_finish.specs.Endings.{IsEffect}
 use Rattle.fs_finish.specs.Plans.{carried, CanCarryOut}
 use Rattle.fs_finish.specs.declared.plan.Route.{Route}
 use Rattle.fs_ops.specs.declared.outcome.Outcome.TheVariants.{Fixed}
-use Rattle.fs_ops.specs.OpValue.{op_value, stands, with_held}
+use Rattle.fs_ops.specs.OpValue.{op_value, with_held}
 use Rattle.fs_ops.specs.PlanOf.{IsPlan}
 use Rattle.fs_machine.specs.OpValues.{OpValue, CanFinish, graph_after}
 use Rattle.fs_ops.proofs.HeldLemmas.{all_held_is, still_open}

@@ -3,7 +3,7 @@ use Rattle.std.specs.Option.{is_some}
 use Rattle.fs_calls.specs.Forms.{Form, form}
 use Rattle.fs_nodes.specs.Stores.{graph_of}
 use Rattle.fs_machine.specs.OpValues.{OpValue, next_of}
-use Rattle.fs_ops.specs.OpValue.{op_value, reply_of, stands}
+use Rattle.fs_ops.specs.OpValue.{op_value, reply_of}
 use Rattle.fs_ops.specs.declared.outcome.Outcome.{Outcome}
 use Rattle.fs_ops.specs.PlanOf.{HasSetOut, plan_of, IfFinish, move_of}
 use Rattle.fs_ops.specs.code.NextByNodes.{way_next}

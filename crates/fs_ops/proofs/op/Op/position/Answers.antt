@@ -1,6 +1,6 @@
 use Rattle.std.proofs.Common.{◌∙◌}
 use Rattle.fs_calls.specs.Forms.{form}
-use Rattle.fs_ops.specs.OpValue.{op_value, stands}
+use Rattle.fs_ops.specs.OpValue.{op_value}
 use Rattle.fs_ops.proofs.HeldLemmas.{finished_position}
 use Rattle.fs_ops.proofs.op.Op.position.Goals as goal
 

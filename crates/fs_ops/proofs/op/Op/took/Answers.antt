@@ -1,4 +1,4 @@
-use Rattle.std.proofs.Common.{◌≡◌, ℕ, ◌∙◌, Option, Some, None, refl, sym, ap, subst}
+use Rattle.std.proofs.Common.{◌≡◌, ℕ, ◌∙◌, Option, Some, None, sym, ap, subst}
 use Rattle.std.specs.Option.{is_some}
 use Rattle.fs_calls.specs.Forms.{Form}
 use Rattle.fs_ops.specs.code.TakeAndLetGo.{TakesTo}
