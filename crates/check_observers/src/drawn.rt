@@ -184,27 +184,26 @@ fn watches<N: Named, R: Wait + Clock>(
     Some(notes)
 }
 
-/// Whether the tree replies so.
-fn replies(alloc: Global, tree: &SeqTree, call: &Call, noted: &Reply) -> Option<bool>
-    requires { IsTrue (is_look call.now) }
+/// What the tree replies to a look at it.
+fn look(alloc: Global, tree: &SeqTree, call: Call) -> Option<Reply>
+    requires { IsTrue (is_look call) }
 {
-    let reply = tree.look(alloc, call).ok()?;
-    Some(reply.same(noted))
+    tree.look(alloc, &call).ok()
 }
 
 fn same_stat(alloc: Global, tree: &SeqTree, note: &Note) -> Option<bool> {
-    let call = Call::Stat(note.path.copy(alloc).ok()?);
-    replies(alloc, tree, &call, &note.stat)
+    let path = note.path.copy(alloc).ok()?;
+    Some(look(alloc, tree, Call::Stat(path))?.same(&note.stat))
 }
 
 fn same_names(alloc: Global, tree: &SeqTree, note: &Note) -> Option<bool> {
-    let call = Call::Readdir(note.path.copy(alloc).ok()?);
-    replies(alloc, tree, &call, &note.names)
+    let path = note.path.copy(alloc).ok()?;
+    Some(look(alloc, tree, Call::Readdir(path))?.same(&note.names))
 }
 
 fn same_bytes(alloc: Global, tree: &SeqTree, note: &Note) -> Option<bool> {
-    let call = Call::Read(note.path.copy(alloc).ok()?, 0, 9);
-    replies(alloc, tree, &call, &note.bytes)
+    let path = note.path.copy(alloc).ok()?;
+    Some(look(alloc, tree, Call::Read(path, 0, 9))?.same(&note.bytes))
 }
 
 /// Whether the tree answers what was noted.

@@ -1,5 +1,8 @@
 //! Whether the nodes at rest are those of the tree that the commits play, by a walk over both.
 
+ghost use Rattle.std.specs.Prelude.{IsTrue};
+ghost use Rattle.fs_seq.specs.Looks.{is_look};
+
 use crate::playing::play;
 use anyhow::Result;
 use fs_calls::{Call, Reply};
@@ -76,19 +79,11 @@ fn is_stat(store: &Store, node: NodeNo, reply: &Reply) -> bool {
     }
 }
 
-/// What the tree replies to a stat.
-fn stat(alloc: Global, tree: &SeqTree, path: Path) -> Result<Reply, AllocError> {
-    tree.look(alloc, &Call::Stat(path))
-}
-
-/// What it replies to a read of a whole file.
-fn read(alloc: Global, tree: &SeqTree, path: Path) -> Result<Reply, AllocError> {
-    tree.look(alloc, &Call::Read(path, 0, FILE_LIMIT as u64))
-}
-
-/// What it replies to a readdir.
-fn readdir(alloc: Global, tree: &SeqTree, path: Path) -> Result<Reply, AllocError> {
-    tree.look(alloc, &Call::Readdir(path))
+/// What the tree replies to a look at it.
+fn look(alloc: Global, tree: &SeqTree, call: Call) -> Result<Reply, AllocError>
+    requires { IsTrue (is_look call) }
+{
+    tree.look(alloc, &call)
 }
 
 /// Whether both have a node of the same kind and size.
@@ -99,7 +94,7 @@ fn stat_agrees(
     node: NodeNo,
     text: &[u8],
 ) -> Result<bool> {
-    let reply = stat(alloc, tree, path(alloc, text)?)?;
+    let reply = look(alloc, tree, Call::Stat(path(alloc, text)?))?;
     Ok(is_stat(store, node, &reply))
 }
 
@@ -119,7 +114,11 @@ fn file_agrees(
     node: NodeNo,
     text: &[u8],
 ) -> Result<bool> {
-    let reply = read(alloc, tree, path(alloc, text)?)?;
+    let reply = look(
+        alloc,
+        tree,
+        Call::Read(path(alloc, text)?, 0, FILE_LIMIT as u64),
+    )?;
     Ok(is_content(store, node, &reply))
 }
 
@@ -132,7 +131,7 @@ fn dir_agrees(
     text: &[u8],
     stack: &mut Vec<Text>,
 ) -> Result<bool> {
-    match readdir(alloc, tree, path(alloc, text)?)? {
+    match look(alloc, tree, Call::Readdir(path(alloc, text)?))? {
         Reply::Names(names) => {
             add_entries(alloc, text, names.as_slice(), stack)?;
             Ok(are_names(store, node, names.as_slice()))
