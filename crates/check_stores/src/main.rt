@@ -1,11 +1,13 @@
-//! Uses a store as its examples do, then draws calls of a store and gives each to the store with sibling links and to the
-//! one without an index. It prints how many calls of each kind were drawn and how many could do what they are for, and how
-//! many answers differed: none.
+//! Uses a store, holders and held nodes as their examples do, then draws calls of a store and gives each to the store with
+//! sibling links and to the one without an index. It prints which examples of holders and held nodes were answered as they
+//! should be, how many calls of each kind were drawn and how many could do what they are for, and how many answers differed:
+//! none.
 #![tactic(auto)]
 
 mod calls;
 mod drawing;
 mod examples;
+mod locks;
 mod tally;
 mod twins;
 
@@ -135,6 +137,10 @@ fn use_store(alloc: Global) -> Result<()> {
 
 fn main(rt: HostRuntime) -> Result<()> {
     use_store(rt.alloc())?;
+    locks::use_locks(rt.alloc())?;
+    println!(&rt;
+        "locks: one holder at a time, all calls but the last can hold, nodes in the order taken"
+    )?;
     let mut twins = Twins::new(rt.alloc())?;
     let mut tally = Tally::default();
     draw_all(rt.alloc(), &mut twins, &mut tally)?;

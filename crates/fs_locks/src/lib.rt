@@ -10,8 +10,6 @@
 
 pub mod held;
 pub mod holders;
-#[cfg(test)]
-mod tests;
 mod word;
 
 pub use held::{HELD_LIMIT, Held};
