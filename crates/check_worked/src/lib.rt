@@ -1,5 +1,5 @@
-//! Goes through the worked examples in `data/` by the public runners, over readers and writers in memory, and compares
-//! what they write, tell and end with: `runs/` has scripts that run, `journals/` journals with a verdict, `faults/`
+//! Goes through the worked examples in the folder `worked/` by the public runners, over readers and writers in memory, and
+//! compares what they write, tell and end with: `runs/` has scripts that run, `journals/` journals with a verdict, `faults/`
 //! texts that are neither.
 //!
 //! A script `NAME.script` has its text in `NAME.text`, the status 1 of a run with calls left in `NAME.status`, and the same
@@ -21,9 +21,12 @@ use examples::{LINES, journal, script};
 use fs_sched::Schedule;
 use outcome::Command;
 use std::rt::Files;
+use std::sync::Wait;
+use std::thread::Threads;
+use std::time::Clock;
 
 /// The folders of the worked examples.
-const FOLDERS: [&str; 3] = ["runs", "faults", "journals"];
+const FOLDERS: [&str; 3] = ["worked/runs", "worked/faults", "worked/journals"];
 
 /// The endings that files have behind the name of an example.
 const ENDINGS: [&str; 12] = [
@@ -68,8 +71,8 @@ fn go_through_folder<R: Files + AllocGlobal + Clone + Drop + Print>(
 
 /// Each runner over devices that fail.
 fn fail<R: Files + AllocGlobal + Print>(rt: &R) -> Result<()> {
-    let input = folder::bytes(rt, "runs/first_mkdir", "script")?;
-    let text = folder::bytes(rt, "runs/first_mkdir", "text")?;
+    let input = folder::bytes(rt, "worked/runs/first_mkdir", "script")?;
+    let text = folder::bytes(rt, "worked/runs/first_mkdir", "text")?;
     let rows = [
         (
             Command::Run(Schedule::Given),
@@ -91,16 +94,19 @@ fn fail<R: Files + AllocGlobal + Print>(rt: &R) -> Result<()> {
     Ok(())
 }
 
-fn main(rt: HostRuntime) -> Result<()> {
+/// Goes through all examples, and says of each that it is as it should be.
+pub fn run<R: Files + AllocGlobal + Clone + Drop + Print + Threads + Wait + Clock + Sync>(
+    rt: &R,
+) -> Result<()> {
     for folder in FOLDERS {
-        go_through_folder(&rt, folder)?;
+        go_through_folder(rt, folder)?;
     }
-    fail(&rt)?;
-    threads::compare(&rt, rt.alloc())?;
+    fail(rt)?;
+    threads::compare(rt, rt.alloc())?;
     println!(rt; "threads over devices that fail: as they should")?;
     parts::compare_beginnings(
         rt.alloc(),
-        &folder::bytes(&rt, "runs/lowest_first", "script")?,
+        &folder::bytes(rt, "worked/runs/lowest_first", "script")?,
     )?;
     parts::compare_lengths(rt.alloc())?;
     parts::compare_parts(rt.alloc())?;

@@ -46,12 +46,13 @@ fn compare_way(alloc: Global, random: &mut Pcg32, way: Way, count: u32) -> Resul
     Ok(tally)
 }
 
-fn main(rt: HostRuntime) -> Result<()> {
+/// Draws all texts, and writes what was counted.
+pub fn run(rt: &impl Print, alloc: Global) -> Result<()> {
     let mut random = Pcg32::seed_from_u64(1);
     for (name, way, count) in WAYS {
-        let tally = compare_way(rt.alloc(), &mut random, way, count)?;
-        println!(&rt; "{count} {name}")?;
-        tally.write(&rt)?;
+        let tally = compare_way(alloc, &mut random, way, count)?;
+        println!(rt; "{count} {name}")?;
+        tally.write(rt)?;
     }
     Ok(())
 }

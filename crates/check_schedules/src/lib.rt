@@ -54,7 +54,7 @@ fn judge(alloc: Global, core: &Core, tally: &mut Tally) -> anyhow::Result<()> {
 }
 
 /// A run of the script on a machine without nodes.
-fn run(
+fn run_once(
     alloc: Global,
     random: &mut Pcg32,
     number: u32,
@@ -76,7 +76,7 @@ fn run(
 fn runs(alloc: Global, random: &mut Pcg32, number: u32, tally: &mut Tally) -> anyhow::Result<()> {
     let mut threads = script(alloc, random)?;
     for way in [Way::Rounds, Way::Drawn, Way::Words] {
-        run(alloc, random, number, way, &mut threads, tally)?;
+        run_once(alloc, random, number, way, &mut threads, tally)?;
     }
     Ok(())
 }
@@ -89,7 +89,7 @@ fn narrow_run(
     tally: &mut Tally,
 ) -> anyhow::Result<()> {
     let mut threads = narrow_script(alloc, random)?;
-    run(alloc, random, number, Way::Drawn, &mut threads, tally)
+    run_once(alloc, random, number, Way::Drawn, &mut threads, tally)
 }
 
 fn show(rt: &impl Print, tally: &Tally) -> io::Result<()> {
@@ -119,10 +119,11 @@ fn wide_runs(alloc: Global) -> anyhow::Result<Tally> {
     Ok(tally)
 }
 
-fn main(rt: HostRuntime) -> anyhow::Result<()> {
-    println!(&rt; "mkdir and stat")?;
-    show(&rt, &narrow_runs(rt.alloc())?)?;
-    println!(&rt; "all calls")?;
-    show(&rt, &wide_runs(rt.alloc())?)?;
+/// Runs all scripts, and writes what was counted.
+pub fn run(rt: &impl Print, alloc: Global) -> anyhow::Result<()> {
+    println!(rt; "mkdir and stat")?;
+    show(rt, &narrow_runs(alloc)?)?;
+    println!(rt; "all calls")?;
+    show(rt, &wide_runs(alloc)?)?;
     Ok(())
 }

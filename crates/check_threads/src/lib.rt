@@ -53,34 +53,34 @@ fn say_parked<R: Print + Threads + Wait + Clock + Sync>(
     Ok(())
 }
 
-fn main(rt: HostRuntime) -> anyhow::Result<()> {
-    let alloc = rt.alloc();
-    let sessions = answers::are_right(&rt, alloc);
+/// Runs all of this, and writes how it came out.
+pub fn run<R: Print + Threads + Wait + Clock + Sync>(rt: &R, alloc: Global) -> anyhow::Result<()> {
+    let sessions = answers::are_right(rt, alloc);
     say(
-        &rt,
+        rt,
         "each answer of four sessions is that of the timeline",
         sessions,
     )?;
-    let overlap = held::others_return(&rt, alloc);
-    say(&rt, "a held call lets another one return", overlap)?;
-    let helped = held::rename_helps(&rt, alloc);
-    say(&rt, "a rename helps a held call", helped)?;
-    say_parked(&rt, alloc, Beside::Move)?;
-    say_parked(&rt, alloc, Beside::Removal)?;
-    let lists = shared::lists_meet(&rt, alloc);
-    say(&rt, "two lists run side by side", lists)?;
-    let pools = shared::jobs_meet(&rt, alloc);
-    say(&rt, "two jobs run side by side", pools)?;
-    let returns = shared::all_return(&rt, alloc);
-    say(&rt, "each call of four lists returns", returns)?;
-    let example = example::is_lawful(&rt, alloc);
-    say(&rt, "two lists make directories", example)?;
-    let scripts = scripts::are_written(&rt, alloc);
-    say(&rt, "scripts run on threads", scripts)?;
-    faults::write_words(&rt)?;
-    let jobs = jobs::are_done(&rt, alloc);
-    say(&rt, "a thousand jobs are done, once", jobs)?;
-    let drawn = long::is_lawful(&rt, alloc);
-    say(&rt, "twenty thousand drawn calls are lawful", drawn)?;
+    let overlap = held::others_return(rt, alloc);
+    say(rt, "a held call lets another one return", overlap)?;
+    let helped = held::rename_helps(rt, alloc);
+    say(rt, "a rename helps a held call", helped)?;
+    say_parked(rt, alloc, Beside::Move)?;
+    say_parked(rt, alloc, Beside::Removal)?;
+    let lists = shared::lists_meet(rt, alloc);
+    say(rt, "two lists run side by side", lists)?;
+    let pools = shared::jobs_meet(rt, alloc);
+    say(rt, "two jobs run side by side", pools)?;
+    let returns = shared::all_return(rt, alloc);
+    say(rt, "each call of four lists returns", returns)?;
+    let example = example::is_lawful(rt, alloc);
+    say(rt, "two lists make directories", example)?;
+    let scripts = scripts::are_written(rt, alloc);
+    say(rt, "scripts run on threads", scripts)?;
+    faults::write_words(rt)?;
+    let jobs = jobs::are_done(rt, alloc);
+    say(rt, "a thousand jobs are done, once", jobs)?;
+    let drawn = long::is_lawful(rt, alloc);
+    say(rt, "twenty thousand drawn calls are lawful", drawn)?;
     Ok(())
 }

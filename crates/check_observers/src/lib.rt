@@ -70,7 +70,8 @@ const MANY: [(Row, &str); 3] = [
     ),
 ];
 
-fn say_all<R: Print + Threads + Wait + Clock + Sync>(rt: &R, alloc: Global) -> std::io::Result<()> {
+/// Runs each row, and writes how it came out.
+pub fn run<R: Print + Threads + Wait + Clock + Sync>(rt: &R, alloc: Global) -> anyhow::Result<()> {
     for (row, what) in TOLD {
         say(rt, alloc, row, what)?;
     }
@@ -83,10 +84,5 @@ fn say_all<R: Print + Threads + Wait + Clock + Sync>(rt: &R, alloc: Global) -> s
     for (row, what) in MANY {
         say(rt, alloc, row, what)?;
     }
-    Ok(())
-}
-
-fn main(rt: HostRuntime) -> anyhow::Result<()> {
-    say_all(&rt, rt.alloc())?;
     Ok(())
 }

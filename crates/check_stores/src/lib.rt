@@ -135,15 +135,16 @@ fn use_store(alloc: Global) -> Result<()> {
     examples::bytes_of_a_file(alloc)
 }
 
-fn main(rt: HostRuntime) -> Result<()> {
-    use_store(rt.alloc())?;
-    locks::use_locks(rt.alloc())?;
-    println!(&rt;
+/// Does all of this, and writes what was counted.
+pub fn run(rt: &impl Print, alloc: Global) -> Result<()> {
+    use_store(alloc)?;
+    locks::use_locks(alloc)?;
+    println!(rt;
         "locks: one holder at a time, all calls but the last can hold, nodes in the order taken"
     )?;
-    let mut twins = Twins::new(rt.alloc())?;
+    let mut twins = Twins::new(alloc)?;
     let mut tally = Tally::default();
-    draw_all(rt.alloc(), &mut twins, &mut tally)?;
-    tally.write(&rt, twins.others)?;
+    draw_all(alloc, &mut twins, &mut tally)?;
+    tally.write(rt, twins.others)?;
     Ok(())
 }

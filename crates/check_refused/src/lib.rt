@@ -100,15 +100,15 @@ fn play<R: Print + Threads + Wait + Clock + Sync>(
 }
 
 /// The same with the script that is read.
-fn run<R: Print + Threads + Wait + Clock + Sync>(rt: &R, alloc: Global) -> Option<()> {
+fn read_and_play<R: Print + Threads + Wait + Clock + Sync>(rt: &R, alloc: Global) -> Option<()> {
     let script = texts::script(alloc, CALLS)?;
     play(rt, alloc, &script)
 }
 
-fn main(rt: HostRuntime) -> anyhow::Result<()> {
-    let alloc = rt.alloc();
-    if run(&rt, alloc).is_none() {
-        println!(&rt; "stopped")?;
+/// Does everything, and writes what came of it.
+pub fn run<R: Print + Threads + Wait + Clock + Sync>(rt: &R, alloc: Global) -> anyhow::Result<()> {
+    if read_and_play(rt, alloc).is_none() {
+        println!(rt; "stopped")?;
     }
-    alone::run(&rt, alloc)
+    alone::run(rt, alloc)
 }

@@ -1,0 +1,67 @@
+//! Times parts of AtomFS: the sequential tree and the journal checker on drawn calls, the calls of a script's threads on one
+//! shared tree, and observers beside a told writer. In the gate it does each with a few calls, counts what calls cost as a tree
+//! grows, and writes no times.
+//!
+//! Enter at `run`, or for one part, timed, at `time_tree`, `time_threads` and `time_observers`. Only programs that are no part of the product stand on it, and it promises
+//! nothing.
+#![tactic(auto)]
+
+mod growth;
+mod observers;
+mod threads;
+mod tree;
+
+use anyhow::Result;
+use std::alloc::Global;
+use std::sync::Wait;
+use std::thread::Threads;
+use std::time::Clock;
+
+/// How many calls are drawn, and how many reads each observer does, in the gate.
+const FEW: u32 = 500;
+
+/// The calls of two threads, in the gate.
+const CALLS: &[u8] = b"\
+atomfs 1
+thread first
+mkdir /a
+mknod /a/f
+write /a/f 0 6869
+read /a/f 0 8
+thread second
+mkdir /b
+rename /b /c
+readdir /c
+schedule
+";
+
+/// Draws so many calls, and times the sequential tree and the checker.
+pub fn time_tree<R: Print + Clock>(rt: &R, alloc: Global, calls: u32) -> Result<()> {
+    tree::run(rt, alloc, calls, true)
+}
+
+/// Times the calls of a script's threads.
+pub fn time_threads<R: Print + Threads + Wait + Clock + Sync>(
+    rt: &R,
+    alloc: Global,
+    script: &[u8],
+) -> Result<()> {
+    threads::run(rt, alloc, script, true)
+}
+
+/// Times observers, of which each reads so often.
+pub fn time_observers<R: Print + Threads + Wait + Clock + Sync>(
+    rt: &R,
+    alloc: Global,
+    reads: u32,
+) -> Result<()> {
+    observers::run(rt, alloc, reads.into(), true)
+}
+
+/// Each part with a few calls, and what calls cost as a tree grows.
+pub fn run<R: Print + Threads + Wait + Clock + Sync>(rt: &R, alloc: Global) -> Result<()> {
+    tree::run(rt, alloc, FEW, false)?;
+    threads::run(rt, alloc, CALLS, false)?;
+    observers::run(rt, alloc, FEW.into(), false)?;
+    growth::run(rt, alloc)
+}

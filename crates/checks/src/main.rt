@@ -1,0 +1,113 @@
+//! Checks what is not proved: `checks` runs each library of checks in turn, and `checks NAME` one of them. The gate runs the
+//! first, and compares what it writes with `stdout` beside `src/`, whose worked tables are there to be read. The libraries say
+//! what they check; `data/` has a folder for each that reads files. `checks time tree CALLS`, `checks time observers READS` and,
+//! with a script on standard input, `checks time threads` time parts of AtomFS (`bench`).
+#![tactic(auto)]
+
+use anyhow::{Result, bail};
+use std::alloc::Global;
+use std::env;
+use std::io::{self, Read};
+use std::rt::Files;
+use std::sync::Wait;
+use std::thread::Threads;
+use std::time::Clock;
+
+/// The libraries, by the words that name them, in the order in which all are run.
+const NAMES: [&str; 10] = [
+    "transcripts",
+    "texts",
+    "worked",
+    "generated",
+    "stores",
+    "schedules",
+    "threads",
+    "observers",
+    "refused",
+    "bench",
+];
+
+/// Runs a library.
+fn run<R: Files + AllocGlobal + Clone + Drop + Print + Threads + Wait + Clock + Sync>(
+    rt: &R,
+    name: &str,
+) -> Result<()> {
+    let alloc = rt.alloc();
+    match name {
+        "transcripts" => check_transcripts::run(rt),
+        "texts" => check_texts::run(rt),
+        "worked" => check_worked::run(rt),
+        "generated" => check_generated::run(rt, alloc),
+        "stores" => check_stores::run(rt, alloc),
+        "schedules" => check_schedules::run(rt, alloc),
+        "threads" => check_threads::run(rt, alloc),
+        "observers" => check_observers::run(rt, alloc),
+        "refused" => check_refused::run(rt, alloc),
+        "bench" => bench::run(rt, alloc),
+        _ => bail!("{name}: no library of checks"),
+    }
+}
+
+/// Runs each library, with a line above what it writes.
+fn run_all<R: Files + AllocGlobal + Clone + Drop + Print + Threads + Wait + Clock + Sync>(
+    rt: &R,
+) -> Result<()> {
+    for name in NAMES {
+        println!(rt; "==== {name}")?;
+        run(rt, name)?;
+    }
+    Ok(())
+}
+
+/// Times the part that a word names, with so many calls or reads.
+fn time<R: Print + Threads + Wait + Clock + Sync>(
+    rt: &R,
+    alloc: Global,
+    part: &str,
+    number: u32,
+) -> Result<()> {
+    match part {
+        "tree" => bench::time_tree(rt, alloc, number),
+        "observers" => bench::time_observers(rt, alloc, number),
+        _ => bail!("{part}: no part that is timed"),
+    }
+}
+
+/// The words behind the name of the program.
+fn words_once(rt: &HostRuntime) -> io::Result<Vec<String>> {
+    let mut words = Vec::new(rt.alloc());
+    for word in env::args(rt)?.skip(1) {
+        words.push(word)?;
+    }
+    Ok(words)
+}
+
+/// The same, once more where memory was refused.
+fn words(rt: &HostRuntime) -> io::Result<Vec<String>> {
+    match words_once(rt) {
+        Ok(words) => Ok(words),
+        Err(_) => words_once(rt),
+    }
+}
+
+/// The bytes of standard input.
+fn input(rt: &HostRuntime) -> io::Result<Vec<u8>> {
+    let mut text = Vec::new(rt.alloc());
+    rt.stdin().read_to_end(&mut text)?;
+    Ok(text)
+}
+
+fn main(rt: HostRuntime) -> Result<()> {
+    let words = words(&rt)?;
+    match words.as_slice() {
+        [] => run_all(&rt),
+        [name] => run(&rt, name.as_str()),
+        [word, part] if word.as_str() == "time" && part.as_str() == "threads" => {
+            bench::time_threads(&rt, rt.alloc(), &input(&rt)?)
+        }
+        [word, part, number] if word.as_str() == "time" => {
+            time(&rt, rt.alloc(), part.as_str(), number.as_str().parse()?)
+        }
+        _ => bail!("no word, a library of checks, or `time` and a part"),
+    }
+}
