@@ -33,7 +33,7 @@ fn call(again: &mut Again, row: &Row) -> anyhow::Result<Call> {
     })
 }
 
-fn show(rt: &impl Print, reply: &Reply) -> io::Result<()> {
+fn show_reply(rt: &impl Print, reply: &Reply) -> io::Result<()> {
     match reply {
         Reply::Done => println!(rt; "done"),
         Reply::Stat(Kind::Dir, entries) => println!(rt; "a directory of {entries}"),
@@ -43,6 +43,11 @@ fn show(rt: &impl Print, reply: &Reply) -> io::Result<()> {
         Reply::Wrote(count) => println!(rt; "wrote {count}"),
         Reply::Failed(errno) => println!(rt; "error {}", errno.number()),
     }
+}
+
+/// Shows a reply.
+fn show(rt: &impl Print, reply: &Reply) -> anyhow::Result<()> {
+    Ok(show_reply(rt, reply)?)
 }
 
 /// Notes a call and its reply in the journal.
@@ -60,10 +65,15 @@ fn note(
     Ok(())
 }
 
+/// A copy of a call.
+fn copied(again: &mut Again, call: &Call) -> anyhow::Result<Call> {
+    Ok(again.copy(call)?)
+}
+
 /// A copy of the call of a row.
 fn copy(again: &mut Again, row: &Row) -> anyhow::Result<Call> {
     let call = call(again, row)?;
-    Ok(again.copy(&call)?)
+    copied(again, &call)
 }
 
 /// Applies a call and shows its reply.
@@ -97,7 +107,7 @@ fn show_look(rt: &impl Print, again: &mut Again, tree: &SeqTree, call: &Call) ->
     requires { IsTrue (is_look call.now) }
 {
     let reply = again.look(tree, call)?;
-    Ok(show(rt, &reply)?)
+    show(rt, &reply)
 }
 
 fn stat(rt: &impl Print, again: &mut Again, tree: &SeqTree, path: &str) -> anyhow::Result<()> {

@@ -97,28 +97,75 @@ fn shown<N: Named, R: Wait + Clock>(
     }
 }
 
-/// The numbers of two jobs, how many are done or left, and the tallies of their workers. A worker that finds no memory for
-/// an answer stops, and leaves its job to the second run.
+/// A pool of two jobs, asked for once more where it was refused.
+fn pool<N: Named, R: Wait>(rt: &R, alloc: Global) -> Option<Pool<N>> {
+    match Pool::<N>::new(rt, alloc, 2) {
+        Ok(pool) => Some(pool),
+        Err(_) => Pool::<N>::new(rt, alloc, 2).ok(),
+    }
+}
+
+/// The number of a job that asks for the kind of a node.
+fn submit_stat<N: Named>(alloc: Global, pool: &mut Pool<N>, text: &[u8]) -> Option<u64> {
+    let call = Call::Stat(path(alloc, text)?);
+    let number = submit(pool, call)?;
+    Some(number.get())
+}
+
+/// The numbers of two jobs, which one worker does. Where it finds no memory for an answer it stops, and leaves its job to the
+/// second run.
+fn work<N: Named + Send + Sync, R: Threads + Wait + Clock + Sync>(
+    rt: &R,
+    alloc: Global,
+    fs: &AtomFs<N>,
+    pool: &mut Pool<N>,
+) -> Option<(u64, u64)> {
+    let first = submit_stat(alloc, pool, b"/a")?;
+    let second = submit_stat(alloc, pool, b"/c")?;
+    let _first = pool.run(rt, alloc, fs, 1, &Open);
+    let _second = pool.run(rt, alloc, fs, 1, &Open);
+    Some((first, second))
+}
+
+/// How many jobs of a pool are done or left, and the tallies of its workers.
+fn collect<N: Named>(pool: Pool<N>) -> (usize, Vec<Tally<N>>) {
+    let collected = pool.collect();
+    let count = collected.done.len().wrapping_add(collected.left.len());
+    (count, collected.tallies)
+}
+
+/// The numbers of two jobs, how many are done or left, and the tallies of their workers.
 fn jobs<N: Named + Send + Sync, R: Threads + Wait + Clock + Sync>(
     rt: &R,
     alloc: Global,
     fs: &AtomFs<N>,
-) -> Option<((u64, u64), usize, Vec<Tally<N>>)> {
-    let calls = (
-        Call::Stat(path(alloc, b"/a")?),
-        Call::Stat(path(alloc, b"/c")?),
-    );
-    let mut pool = match Pool::<N>::new(rt, alloc, 2) {
-        Ok(pool) => pool,
-        Err(_) => Pool::<N>::new(rt, alloc, 2).ok()?,
-    };
-    let first = submit(&mut pool, calls.0)?;
-    let second = submit(&mut pool, calls.1)?;
-    let _first = pool.run(rt, alloc, fs, 1, &Open);
-    let _second = pool.run(rt, alloc, fs, 1, &Open);
-    let collected = pool.collect();
-    let count = collected.done.len().wrapping_add(collected.left.len());
-    Some(((first.get(), second.get()), count, collected.tallies))
+) -> Option<((u64, u64), (usize, Vec<Tally<N>>))> {
+    let mut pool = pool(rt, alloc)?;
+    let numbers = work(rt, alloc, fs, &mut pool)?;
+    Some((numbers, collect(pool)))
+}
+
+/// How many calls a session has answered, and how many names an observer shows who was told of further ones.
+fn see<N: Named, R: Wait + Clock>(
+    rt: &R,
+    alloc: Global,
+    fs: &AtomFs<N>,
+    session: &mut Session<'_, N>,
+    calls: &[Call],
+    told: &[Call],
+) -> Option<(usize, usize)> {
+    let answered = answers(rt, alloc, session, calls)?;
+    let stamp = newest(rt, alloc, session, told)?;
+    let shown = shown(rt, alloc, fs, &stamp)?;
+    Some((answered, shown))
+}
+
+/// A tally is put behind others.
+fn add<N: Named>(tallies: &mut Vec<Tally<N>>, tally: Tally<N>) -> Option<()> {
+    if tallies.reserve(1).is_err() {
+        tallies.reserve(1).ok()?;
+    }
+    tallies.push(tally).ok()
 }
 
 /// What is seen on a tree, by one session after the other.
@@ -130,14 +177,10 @@ fn on<N: Named + Send + Sync, R: Threads + Wait + Clock + Sync>(
     told: &[Call],
 ) -> Option<(Seen, Vec<Tally<N>>)> {
     let mut session = session(rt, fs)?;
-    let answered = answers(rt, alloc, &mut session, calls)?;
-    let stamp = newest(rt, alloc, &mut session, told)?;
-    let shown = shown(rt, alloc, fs, &stamp)?;
-    let (numbers, jobs, mut tallies) = jobs(rt, alloc, fs)?;
-    if tallies.reserve(1).is_err() {
-        tallies.reserve(1).ok()?;
-    }
-    tallies.push(session.end()).ok()?;
+    let (answered, shown) = see(rt, alloc, fs, &mut session, calls, told)?;
+    let tally = session.end();
+    let (numbers, (jobs, mut tallies)) = jobs(rt, alloc, fs)?;
+    add(&mut tallies, tally)?;
     let seen = Seen {
         answered,
         shown,

@@ -53,6 +53,24 @@ fn judge(alloc: Global, core: &Core, tally: &mut Tally) -> anyhow::Result<()> {
     Ok(())
 }
 
+/// A run of the script on a core.
+fn run_on(
+    alloc: Global,
+    random: &mut Pcg32,
+    core: &mut Core,
+    way: Way,
+    threads: &mut [Thread],
+    tally: &mut Tally,
+) -> anyhow::Result<()> {
+    take_seats(core, threads)?;
+    tally.runs = tally.runs.wrapping_add(1);
+    if !run_out(alloc, random, way, core, threads, tally)? {
+        tally.stuck = tally.stuck.wrapping_add(1);
+        return Ok(());
+    }
+    judge(alloc, core, tally)
+}
+
 /// A run of the script on a machine without nodes.
 fn run_once(
     alloc: Global,
@@ -63,13 +81,7 @@ fn run_once(
     tally: &mut Tally,
 ) -> anyhow::Result<()> {
     let mut core = Core::with_limit(alloc, limit(number))?;
-    take_seats(&mut core, threads)?;
-    tally.runs = tally.runs.wrapping_add(1);
-    if !run_out(alloc, random, way, &mut core, threads, tally)? {
-        tally.stuck = tally.stuck.wrapping_add(1);
-        return Ok(());
-    }
-    judge(alloc, &core, tally)
+    run_on(alloc, random, &mut core, way, threads, tally)
 }
 
 /// Draws a script and runs it in each way.

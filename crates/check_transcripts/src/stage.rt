@@ -40,12 +40,22 @@ fn numbered_call(alloc: Global, text: &str, number: u64) -> Result<Call> {
     call_of(alloc, &numbered(alloc, text, number)?)
 }
 
+/// Two replies are the same.
+fn are_same(one: &Reply, other: &Reply) -> Result<()> {
+    ensure!(one.same(other), "the tree replies otherwise");
+    Ok(())
+}
+
+/// A tree gives a call this reply.
+fn replies(alloc: Global, tree: &mut SeqTree, call: &Call, reply: &Reply) -> Result<()> {
+    let own = tree.apply(alloc, call)?;
+    are_same(&own, reply)
+}
+
 /// A tree gives a copy of a call this reply.
 fn agree(alloc: Global, tree: &mut SeqTree, call: &Call, reply: &Reply) -> Result<()> {
     let copy = call.copy(alloc)?;
-    let is_same = tree.apply(alloc, &copy)?.same(reply);
-    ensure!(is_same, "the tree replies otherwise");
-    Ok(())
+    replies(alloc, tree, &copy, reply)
 }
 
 /// The call that a text spells begins on a seat.
@@ -113,11 +123,16 @@ impl Stage {
         Ok(reply)
     }
 
-    /// Whether a call of a round, which is alone, is done.
+    /// Whether a call that is alone is done.
+    fn is_done(&mut self, alloc: Global, call: &Call) -> Result<bool> {
+        let reply = self.reply(alloc, call)?;
+        Ok(matches!(&reply, Reply::Done))
+    }
+
+    /// The same of a call of a round.
     fn does(&mut self, alloc: Global, text: &str, round: u64) -> Result<bool> {
         let call = numbered_call(alloc, text, round)?;
-        let reply = self.reply(alloc, &call)?;
-        Ok(matches!(&reply, Reply::Done))
+        self.is_done(alloc, &call)
     }
 
     /// How many calls of a round, from left to right, are done.

@@ -105,17 +105,24 @@ fn seed_argument<'a>(alloc: Global) -> Result<Arg<'a>, Error> {
     )
 }
 
+/// A subcommand with two arguments, one behind the other in its help.
+fn with_arguments<'a>(
+    subcommand: Command<'a>,
+    first: Arg<'a>,
+    second: Arg<'a>,
+) -> Result<Command<'a>, Error> {
+    Ok(subcommand.arg(first)?.arg(second)?)
+}
+
+fn run_alone<'a>(alloc: Global) -> Command<'a> {
+    Command::new(alloc, "run")
+        .about("Runs the script on standard input and writes its journal, its tree and its counts")
+        .after_help(RUN_STATUSES)
+}
+
 fn run_command<'a>(alloc: Global) -> Result<Command<'a>, Error> {
     let seed = seed_argument(alloc)?;
-    Ok(
-        Command::new(alloc, "run")
-            .about(
-                "Runs the script on standard input and writes its journal, its tree and its counts",
-            )
-            .after_help(RUN_STATUSES)
-            .arg(robin_argument(alloc))?
-            .arg(seed)?,
-    )
+    with_arguments(run_alone(alloc), robin_argument(alloc), seed)
 }
 
 fn first_seed_argument<'a>(alloc: Global) -> Arg<'a> {
@@ -136,15 +143,19 @@ fn runs_argument<'a>(alloc: Global) -> Arg<'a> {
         .help("How many runs, drawn from N, N + 1, and so on, 1 to 10000")
 }
 
+fn seeds_alone<'a>(alloc: Global) -> Command<'a> {
+    Command::new(alloc, "seeds")
+        .about(
+            "Runs the script on standard input by drawn schedules, checks each run's journal and writes a line for each",
+        )
+        .after_help(SEEDS_STATUSES)
+}
+
 fn seeds_command<'a>(alloc: Global) -> Result<Command<'a>, Error> {
-    Ok(
-        Command::new(alloc, "seeds")
-            .about(
-                "Runs the script on standard input by drawn schedules, checks each run's journal and writes a line for each",
-            )
-            .after_help(SEEDS_STATUSES)
-            .arg(first_seed_argument(alloc))?
-            .arg(runs_argument(alloc))?,
+    with_arguments(
+        seeds_alone(alloc),
+        first_seed_argument(alloc),
+        runs_argument(alloc),
     )
 }
 
@@ -172,20 +183,28 @@ fn program<'a>(alloc: Global) -> Command<'a> {
         .subcommand_required(true)
 }
 
+/// The program with a further subcommand.
+fn with<'a>(program: Command<'a>, subcommand: Command<'a>) -> Result<Command<'a>, Error> {
+    Ok(program.subcommand(subcommand)?)
+}
+
 // A subcommand that may be refused is made before the program that gets it, so that nothing else is dropped with it.
 fn program_with_run<'a>(alloc: Global) -> Result<Command<'a>, Error> {
     let run = run_command(alloc)?;
-    Ok(program(alloc).subcommand(run)?)
+    with(program(alloc), run)
 }
 
 fn program_with_seeds<'a>(alloc: Global) -> Result<Command<'a>, Error> {
     let seeds = seeds_command(alloc)?;
-    Ok(program_with_run(alloc)?.subcommand(seeds)?)
+    with(program_with_run(alloc)?, seeds)
+}
+
+fn program_with_threads<'a>(alloc: Global) -> Result<Command<'a>, Error> {
+    with(program_with_seeds(alloc)?, threads_command(alloc))
 }
 
 fn command<'a>(alloc: Global) -> Result<Command<'a>, Error> {
-    let program = program_with_seeds(alloc)?.subcommand(threads_command(alloc))?;
-    Ok(program.subcommand(check_command(alloc))?)
+    with(program_with_threads(alloc)?, check_command(alloc))
 }
 
 /// The schedule of a run.

@@ -96,15 +96,25 @@ fn reads_once<N: Named>(
 }
 
 /// So many stats and reads by an observer.
-fn reads_all<N: Named, R: Wait>(rt: &R, alloc: Global, fs: &AtomFs<N>, reads: u64) -> Option<()> {
-    let mut observer = fs.observer(rt).ok()?;
-    let path = file(alloc)?;
+fn reads_by<N: Named>(
+    alloc: Global,
+    observer: &mut Observer<N>,
+    path: &Path,
+    reads: u64,
+) -> Option<()> {
     for number in 0..reads {
-        if !reads_once(alloc, &mut observer, &path, number)? {
+        if !reads_once(alloc, observer, path, number)? {
             return None;
         }
     }
     Some(())
+}
+
+/// The same by an observer of a tree.
+fn reads_all<N: Named, R: Wait>(rt: &R, alloc: Global, fs: &AtomFs<N>, reads: u64) -> Option<()> {
+    let path = file(alloc)?;
+    let mut observer = fs.observer(rt).ok()?;
+    reads_by(alloc, &mut observer, &path, reads)
 }
 
 /// The writer's part, which has number 0, or an observer's.

@@ -17,6 +17,14 @@ pub struct Drawn {
     pub nodes: usize,
 }
 
+impl Drawn {
+    /// One more call, with its reply.
+    fn push(&mut self, call: Call, reply: Reply) -> Result<()> {
+        self.calls.push(call)?;
+        Ok(self.replies.push(reply)?)
+    }
+}
+
 /// The text of a path.
 type Text = Vec<u8>;
 
@@ -202,9 +210,8 @@ impl Workload {
     /// Draws one more call.
     fn draw_one(&mut self, drawn: &mut Drawn) -> Result<()> {
         let (call, edit) = self.next()?;
-        drawn.replies.push(self.apply(&call, edit)?)?;
-        drawn.calls.push(call)?;
-        Ok(())
+        let reply = self.apply(&call, edit)?;
+        drawn.push(call, reply)
     }
 }
 

@@ -4,7 +4,7 @@ ghost use Rattle.std.specs.Prelude.{◌≡◌, ◌<◌, length};
 
 use super::again::Again;
 use super::calls::{CALLS, Row};
-use super::{copy, show};
+use super::{copy, show_reply};
 use fs_calls::Call;
 use fs_core::{Core, Stepped};
 use fs_names::SeatNo;
@@ -22,7 +22,7 @@ fn show_event(rt: &impl Print, stepped: &Stepped) -> io::Result<()> {
         Stepped::Took(node) => println!(rt; "took {}", node.get()),
         Stepped::LetGo(node) => println!(rt; "let go {}", node.get()),
         Stepped::Committed => println!(rt; "committed"),
-        Stepped::Returned(reply) => show(rt, reply),
+        Stepped::Returned(reply) => show_reply(rt, reply),
         _ => println!(rt; "an event that no call has which is alone"),
     }
 }
@@ -49,14 +49,14 @@ fn run_call(
     core: &mut Core,
     seat: SeatNo,
     call: &Call,
-) -> io::Result<()>
+) -> anyhow::Result<()>
     requires { seat < length core.old.seats }
     ensures { length core.new.seats ≡ length core.old.seats }
 {
     if again.begin(core, seat, call).is_err() {
         println!(rt; "refused")?;
     }
-    finish(rt, core, seat)
+    Ok(finish(rt, core, seat)?)
 }
 
 /// The same of the call of a row.
@@ -71,7 +71,7 @@ fn run_row(
     ensures { length core.new.seats ≡ length core.old.seats }
 {
     let call = copy(again, row)?;
-    Ok(run_call(rt, again, core, seat, &call)?)
+    run_call(rt, again, core, seat, &call)
 }
 
 /// All calls on one seat of a core.
