@@ -1,6 +1,6 @@
 //! An observer that answers while a writer publishes in a loop.
 
-use crate::calls::{is_dir, is_missing, mkdir, rmdir, tell_by};
+use crate::calls::{Deed, Sight, shows, tell};
 use fs_share::{AtomFs, Named, Observer, Session};
 use std::alloc::Global;
 use std::sync::Wait;
@@ -22,9 +22,9 @@ fn round<N: Named, R: Wait + Clock>(
     session: &mut Session<'_, N>,
     place: usize,
 ) -> bool {
-    let made = tell_by(rt, alloc, session, mkdir(alloc, b"/a"), place).is_some();
+    let made = tell(rt, alloc, session, Deed::Mkdir(b"/a"), place).is_some();
     let place = place.wrapping_add(1);
-    made && tell_by(rt, alloc, session, rmdir(alloc, b"/a"), place).is_some()
+    made && tell(rt, alloc, session, Deed::Rmdir(b"/a"), place).is_some()
 }
 
 /// What either thread tells the other.
@@ -35,15 +35,14 @@ struct Flags {
 }
 
 /// Publishes until the observer has asked. Whether it has.
-fn publishes<N: Named, R: Wait + Clock>(
+fn rounds<N: Named, R: Wait + Clock>(
     rt: &R,
     alloc: Global,
-    fs: &AtomFs<N>,
+    session: &mut Session<'_, N>,
     flags: &Flags,
 ) -> Option<bool> {
-    let mut session = fs.session(rt).ok()?;
     for number in 0..ROUNDS {
-        if !round(rt, alloc, &mut session, 2 * number) {
+        if !round(rt, alloc, session, 2 * number) {
             return None;
         }
         if flags.asked.load(Ordering::SeqCst) == 1 {
@@ -53,15 +52,28 @@ fn publishes<N: Named, R: Wait + Clock>(
     Some(false)
 }
 
+/// The same by a session of its own.
+fn publishes<N: Named, R: Wait + Clock>(
+    rt: &R,
+    alloc: Global,
+    fs: &AtomFs<N>,
+    flags: &Flags,
+) -> Option<bool> {
+    match fs.session(rt) {
+        Ok(mut session) => rounds(rt, alloc, &mut session, flags),
+        Err(_) => None,
+    }
+}
+
 /// Whether an observer answers by its list, in which the directory is made and removed in turn.
 fn answers<N: Named>(alloc: Global, observer: &mut Observer<N>) -> Option<bool> {
     let count = observer.count();
-    let is_right = if count % 2 == 0 {
-        is_missing(alloc, observer, b"/a")?
+    let sight = if count % 2 == 0 {
+        Sight::Nothing
     } else {
-        is_dir(alloc, observer, b"/a")?
+        Sight::EmptyDir
     };
-    Some(is_right || observer.count() != count)
+    Some(shows(alloc, observer, b"/a", sight)? || observer.count() != count)
 }
 
 /// Asks until many calls are shown, or the writer is over. Whether each answer was that of its list.
@@ -85,8 +97,10 @@ fn observes<N: Named, R: Wait>(
     fs: &AtomFs<N>,
     flags: &Flags,
 ) -> Option<bool> {
-    let mut observer = fs.observer(rt).ok()?;
-    asks(alloc, &mut observer, flags)
+    match fs.observer(rt) {
+        Ok(mut observer) => asks(alloc, &mut observer, flags),
+        Err(_) => None,
+    }
 }
 
 /// A writer that publishes in a loop, and an observer, which ends first.

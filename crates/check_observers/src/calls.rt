@@ -1,91 +1,80 @@
-//! Calls that are told, and what observers are asked.
+//! Calls by the texts of their paths, and what observers show.
 
-use fs_calls::{Call, Errno, Reply};
+use fs_calls::{Bytes, Call, Errno, NameList, Reply};
 use fs_names::{Kind, Path};
-use fs_share::{AtomFs, Gate, Named, Observer, Open, Session, Stamp, Told};
-use std::alloc::Global;
+use fs_share::{Gate, Named, Observer, Open, Session, Told};
+use std::alloc::{AllocError, Global};
 use std::sync::Wait;
 use std::time::Clock;
+
+/// What a call does, and at which paths.
+#[derive(Clone, Copy)]
+pub enum Deed {
+    Mkdir(&'static [u8]),
+    Rmdir(&'static [u8]),
+    Mknod(&'static [u8]),
+    /// Writes bytes at the beginning of a file.
+    Write(&'static [u8], &'static [u8]),
+    Rename(&'static [u8], &'static [u8]),
+}
 
 pub fn path(alloc: Global, text: &[u8]) -> Option<Path> {
     Path::parse(alloc, text).ok()
 }
 
-pub fn mkdir(alloc: Global, text: &[u8]) -> Option<Call> {
-    Some(Call::Mkdir(path(alloc, text)?))
+fn write(alloc: Global, text: &[u8], bytes: &[u8]) -> Option<Call> {
+    let bytes = Bytes::new(Vec::from_slice(alloc, bytes).ok()?);
+    Some(Call::Write(path(alloc, text)?, 0, bytes))
 }
 
-pub fn rmdir(alloc: Global, text: &[u8]) -> Option<Call> {
-    Some(Call::Rmdir(path(alloc, text)?))
+fn rename(alloc: Global, from: &[u8], to: &[u8]) -> Option<Call> {
+    let from = path(alloc, from)?;
+    Some(Call::Rename(from, path(alloc, to)?))
 }
 
-/// The stamp of a told call, which must succeed and have this place.
-fn stamp_of<N: Named>(told: Told<N>, place: usize) -> Option<Stamp<N>> {
-    let Told {
-        answer,
-        place: at,
-        stamp,
-    } = told;
-    let is_right = at == place && !matches!(answer.reply, Reply::Failed(_));
-    if is_right { stamp } else { None }
+/// The call that does this.
+pub fn call_of(alloc: Global, deed: Deed) -> Option<Call> {
+    match deed {
+        Deed::Mkdir(text) => path(alloc, text).map(Call::Mkdir),
+        Deed::Rmdir(text) => path(alloc, text).map(Call::Rmdir),
+        Deed::Mknod(text) => path(alloc, text).map(Call::Mknod),
+        Deed::Write(text, bytes) => write(alloc, text, bytes),
+        Deed::Rename(from, to) => rename(alloc, from, to),
+    }
 }
 
+/// Whether a call succeeded, with this place and a stamp.
+fn is_right<N: Named>(told: &Told<N>, place: usize) -> bool {
+    let has_failed = matches!(told.answer.reply, Reply::Failed(_));
+    told.place == place && told.stamp.is_some() && !has_failed
+}
+
+/// Makes a call that is told, which must succeed, with this place and a stamp.
 fn told_by<N: Named, R: Wait + Clock>(
     rt: &R,
     alloc: Global,
     session: &mut Session<'_, N>,
     call: &Call,
     place: usize,
-) -> Option<Stamp<N>> {
+) -> Option<Told<N>> {
     match session.call_told(rt, alloc, call, &Open) {
-        Ok(told) => stamp_of(told, place),
-        Err(_) => None,
+        Ok(told) if is_right(&told, place) => Some(told),
+        _ => None,
     }
 }
 
-/// Makes a call that is told, which must succeed, have this place, and a stamp.
-pub fn tell_by<N: Named, R: Wait + Clock>(
-    rt: &R,
-    alloc: Global,
-    session: &mut Session<'_, N>,
-    call: Option<Call>,
-    place: usize,
-) -> Option<Stamp<N>> {
-    let call = call?;
-    told_by(rt, alloc, session, &call, place)
-}
-
-/// The same by a session of its own.
+/// The same by what the call does.
 pub fn tell<N: Named, R: Wait + Clock>(
     rt: &R,
     alloc: Global,
-    fs: &AtomFs<N>,
-    call: Option<Call>,
+    session: &mut Session<'_, N>,
+    deed: Deed,
     place: usize,
-) -> Option<Stamp<N>> {
-    match fs.session(rt) {
-        Ok(mut session) => tell_by(rt, alloc, &mut session, call, place),
-        Err(_) => None,
+) -> Option<Told<N>> {
+    match call_of(alloc, deed) {
+        Some(call) => told_by(rt, alloc, session, &call, place),
+        None => None,
     }
-}
-
-/// An observer that has learned a stamp.
-fn learned<N: Named, R: Wait>(rt: &R, fs: &AtomFs<N>, stamp: &Stamp<N>) -> Option<Observer<N>> {
-    let mut observer = fs.observer(rt).ok()?;
-    observer.learn(stamp);
-    Some(observer)
-}
-
-/// An observer that has learned of a call that is told.
-pub fn told_of<N: Named, R: Wait + Clock>(
-    rt: &R,
-    alloc: Global,
-    fs: &AtomFs<N>,
-    call: Option<Call>,
-    place: usize,
-) -> Option<Observer<N>> {
-    let stamp = tell(rt, alloc, fs, call, place)?;
-    learned(rt, fs, &stamp)
 }
 
 /// Whether a call that is not told is replied that it is done.
@@ -96,77 +85,92 @@ fn is_done<N: Named, R: Wait + Clock, G: Gate>(
     call: &Call,
     gate: &G,
 ) -> Option<bool> {
-    let answer = session.call(rt, alloc, call, gate).ok()?;
-    Some(matches!(answer.reply, Reply::Done))
+    match session.call(rt, alloc, call, gate) {
+        Ok(answer) => Some(matches!(answer.reply, Reply::Done)),
+        Err(_) => None,
+    }
 }
 
-/// Makes a directory by a call that is not told. Whether it is made.
+/// The same by what the call does.
 pub fn makes<N: Named, R: Wait + Clock, G: Gate>(
     rt: &R,
     alloc: Global,
-    fs: &AtomFs<N>,
-    text: &[u8],
+    session: &mut Session<'_, N>,
+    deed: Deed,
     gate: &G,
 ) -> Option<bool> {
-    let mut session = fs.session(rt).ok()?;
-    let call = mkdir(alloc, text)?;
-    is_done(rt, alloc, &mut session, &call, gate)
+    match call_of(alloc, deed) {
+        Some(call) => is_done(rt, alloc, session, &call, gate),
+        None => None,
+    }
 }
 
-/// What an observer shows at a path.
-pub fn stat<N: Named>(alloc: Global, observer: &mut Observer<N>, path: &Path) -> Option<Reply> {
-    observer.stat(alloc, path).ok()
+/// What an observer is to show at a path.
+#[derive(Clone, Copy)]
+pub enum Sight {
+    Nothing,
+    EmptyDir,
+    /// A directory with one name, of this one byte.
+    Name(u8),
+    /// The bytes of a file, nine at the most.
+    Bytes(&'static [u8]),
 }
 
-/// The names that an observer shows in a directory.
-pub fn names<N: Named>(alloc: Global, observer: &mut Observer<N>, path: &Path) -> Option<Reply> {
-    observer.readdir(alloc, path).ok()
-}
-
-/// The first nine bytes that an observer shows in a file.
-pub fn bytes<N: Named>(alloc: Global, observer: &mut Observer<N>, path: &Path) -> Option<Reply> {
-    observer.read(alloc, path, 0, 9).ok()
-}
-
-fn stat_at<N: Named>(alloc: Global, observer: &mut Observer<N>, text: &[u8]) -> Option<Reply> {
-    let path = path(alloc, text)?;
-    stat(alloc, observer, &path)
-}
-
-/// Whether an observer shows an empty directory.
-pub fn is_dir<N: Named>(alloc: Global, observer: &mut Observer<N>, text: &[u8]) -> Option<bool> {
-    let reply = stat_at(alloc, observer, text)?;
-    Some(matches!(reply, Reply::Stat(Kind::Dir, 0)))
-}
-
-/// Whether an observer shows that nothing is there.
-pub fn is_missing<N: Named>(
+/// What an observer replies of a sight.
+fn look<N: Named>(
     alloc: Global,
     observer: &mut Observer<N>,
-    text: &[u8],
-) -> Option<bool> {
-    let reply = stat_at(alloc, observer, text)?;
-    Some(matches!(reply, Reply::Failed(Errno::Enoent)))
+    path: &Path,
+    sight: Sight,
+) -> Result<Reply, AllocError> {
+    match sight {
+        Sight::Nothing | Sight::EmptyDir => observer.stat(alloc, path),
+        Sight::Name(_) => observer.readdir(alloc, path),
+        Sight::Bytes(_) => observer.read(alloc, path, 0, 9),
+    }
 }
 
-/// Whether the reply is this one name, of one byte.
-fn is_one_name(reply: &Reply, byte: u8) -> bool {
-    match reply {
-        Reply::Names(names) => match names.as_slice() {
-            [name] => name.bytes() == [byte].as_slice(),
-            _ => false,
-        },
+/// Whether there is this one name, of one byte.
+fn is_one_name(names: &NameList, byte: u8) -> bool {
+    match names.as_slice() {
+        [name] => name.bytes() == [byte].as_slice(),
         _ => false,
     }
 }
 
-/// Whether an observer shows a directory with this one name.
-pub fn has_name<N: Named>(
+/// Whether a reply is that of a sight.
+fn fits(reply: &Reply, sight: Sight) -> bool {
+    match (reply, sight) {
+        (Reply::Failed(Errno::Enoent), Sight::Nothing) => true,
+        (Reply::Stat(Kind::Dir, 0), Sight::EmptyDir) => true,
+        (Reply::Names(names), Sight::Name(byte)) => is_one_name(names, byte),
+        (Reply::Bytes(bytes), Sight::Bytes(want)) => bytes.as_slice() == want,
+        _ => false,
+    }
+}
+
+/// Whether an observer shows a sight at a path.
+fn shows_at<N: Named>(
+    alloc: Global,
+    observer: &mut Observer<N>,
+    path: &Path,
+    sight: Sight,
+) -> Option<bool> {
+    match look(alloc, observer, path, sight) {
+        Ok(reply) => Some(fits(&reply, sight)),
+        Err(_) => None,
+    }
+}
+
+/// The same at the text of a path.
+pub fn shows<N: Named>(
     alloc: Global,
     observer: &mut Observer<N>,
     text: &[u8],
-    byte: u8,
+    sight: Sight,
 ) -> Option<bool> {
-    let reply = names(alloc, observer, &path(alloc, text)?)?;
-    Some(is_one_name(&reply, byte))
+    match Path::parse(alloc, text) {
+        Ok(path) => shows_at(alloc, observer, &path, sight),
+        Err(_) => None,
+    }
 }

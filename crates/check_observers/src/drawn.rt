@@ -1,9 +1,6 @@
 //! Four observers during drawn calls: each answer is compared with the sequential tree after as many calls as were shown.
 
-ghost use Rattle.std.specs.Prelude.{IsTrue};
-ghost use Rattle.fs_seq.specs.Looks.{is_look};
-
-use crate::calls::{bytes, names, path, stat};
+use crate::calls::path;
 use crate::waiting::reaches;
 use fs_calls::{Bytes, Call, Reply};
 use fs_names::Path;
@@ -70,6 +67,20 @@ struct Run {
     over: AtomicU64,
 }
 
+/// Whether a call that is told has this place and a stamp.
+fn is_told<N: Named, R: Wait + Clock>(
+    rt: &R,
+    alloc: Global,
+    session: &mut Session<'_, N>,
+    call: &Call,
+    place: usize,
+) -> Option<bool> {
+    match session.call_told(rt, alloc, call, &Open) {
+        Ok(told) => Some(told.place == place && told.stamp.is_some()),
+        Err(_) => None,
+    }
+}
+
 /// The call at a place. One in ten is told, which must have that place and a stamp. After one in a thousand the writer waits
 /// until as many answers are noted as there are observers.
 fn write<N: Named, R: Wait + Clock>(
@@ -81,99 +92,133 @@ fn write<N: Named, R: Wait + Clock>(
 ) -> Option<bool> {
     let call = run.calls.get(place)?;
     if place % 10 != 9 {
-        session.call(rt, alloc, call, &Open).ok()?;
-        return Some(true);
+        return Some(session.call(rt, alloc, call, &Open).is_ok());
     }
     let notes = run.notes.load(Ordering::SeqCst);
-    let is_told = match session.call_told(rt, alloc, call, &Open) {
-        Ok(told) => told.place == place && told.stamp.is_some(),
-        Err(_) => return None,
-    };
     let noted = notes.wrapping_add(OBSERVERS as u64);
+    let is_told = is_told(rt, alloc, session, call, place)?;
     Some(is_told && (place % 1000 != 999 || reaches(rt, &run.notes, noted)))
 }
 
-/// One session makes all calls.
-fn writes<N: Named, R: Wait + Clock>(
+/// Makes all calls.
+fn write_all<N: Named, R: Wait + Clock>(
     rt: &R,
     alloc: Global,
-    fs: &AtomFs<N>,
+    session: &mut Session<'_, N>,
     run: &Run,
 ) -> Option<bool> {
-    let mut session = fs.session(rt).ok()?;
     for place in 0..CALLS {
-        if !write(rt, alloc, &mut session, run, place)? {
+        if !write(rt, alloc, session, run, place)? {
             return Some(false);
         }
     }
     Some(true)
 }
 
-/// What an observer answered of a path by the list of the first `count` calls.
-#[derive(Drop)]
-struct Note {
-    count: u64,
-    path: Path,
-    stat: Reply,
-    names: Reply,
-    bytes: Reply,
-}
-
-/// Puts what an observer answers of its path into a note.
-fn fill<N: Named>(alloc: Global, observer: &mut Observer<N>, note: &mut Note) -> Option<()> {
-    note.stat = stat(alloc, observer, &note.path)?;
-    note.names = names(alloc, observer, &note.path)?;
-    note.bytes = bytes(alloc, observer, &note.path)?;
-    Some(())
-}
-
-/// What an observer answers of a path, by the list that it has before.
-fn note_of<N: Named>(alloc: Global, observer: &mut Observer<N>, path: Path) -> Option<Note> {
-    let mut note = Note {
-        count: observer.count(),
-        path,
-        stat: Reply::Done,
-        names: Reply::Done,
-        bytes: Reply::Done,
-    };
-    fill(alloc, observer, &mut note)?;
-    Some(note)
-}
-
-/// Answers by one list, unless it is that of the last note, or another one was published meanwhile.
-fn take_note<N: Named>(
-    alloc: Global,
-    observer: &mut Observer<N>,
-    random: &mut Pcg32,
-    last: Option<u64>,
-) -> Option<Option<Note>> {
-    if last == Some(observer.count()) {
-        return Some(None);
-    }
-    let note = note_of(alloc, observer, drawn_path(alloc, random)?)?;
-    Some(if observer.count() == note.count {
-        Some(note)
-    } else {
-        None
-    })
-}
-
-/// Notes answers, one by each list that it meets, until the writer is over.
-fn watches<N: Named, R: Wait + Clock>(
+/// The same by a session of its own.
+fn writes<N: Named, R: Wait + Clock>(
     rt: &R,
     alloc: Global,
     fs: &AtomFs<N>,
     run: &Run,
+) -> Option<bool> {
+    match fs.session(rt) {
+        Ok(mut session) => write_all(rt, alloc, &mut session, run),
+        Err(_) => None,
+    }
+}
+
+/// A look, and what an observer replied by the list of the first `count` calls.
+#[derive(Drop)]
+struct Note {
+    count: u64,
+    look: Call,
+    reply: Reply,
+}
+
+/// What an observer replies to a look.
+fn reply<N: Named>(alloc: Global, observer: &mut Observer<N>, look: &Call) -> Option<Reply> {
+    match look {
+        Call::Stat(path) => observer.stat(alloc, path).ok(),
+        Call::Readdir(path) => observer.readdir(alloc, path).ok(),
+        Call::Read(path, off, count) => observer.read(alloc, path, *off, *count).ok(),
+        _ => None,
+    }
+}
+
+/// One of the three looks at a path.
+fn look(path: Path, number: usize) -> Call {
+    match number {
+        0 => Call::Stat(path),
+        1 => Call::Readdir(path),
+        _ => Call::Read(path, 0, 9),
+    }
+}
+
+fn note_of<N: Named>(
+    alloc: Global,
+    observer: &mut Observer<N>,
+    count: u64,
+    look: Call,
+) -> Option<Note> {
+    match reply(alloc, observer, &look) {
+        Some(reply) => Some(Note { count, look, reply }),
+        None => None,
+    }
+}
+
+/// Notes the reply to each look at a path.
+fn ask<N: Named>(
+    alloc: Global,
+    observer: &mut Observer<N>,
+    path: &Path,
+    notes: &mut Vec<Note>,
+) -> Option<()> {
+    let count = observer.count();
+    for number in 0..3 {
+        let look = look(path.copy(alloc).ok()?, number);
+        notes.push(note_of(alloc, observer, count, look)?).ok()?;
+    }
+    Some(())
+}
+
+/// The length of the last list that was noted.
+fn last_count(notes: &[Note]) -> Option<u64> {
+    Some(notes.last()?.count)
+}
+
+/// Notes replies by one list, unless it is that of the last notes, or another one was published meanwhile. Whether it does.
+fn takes_notes<N: Named>(
+    alloc: Global,
+    observer: &mut Observer<N>,
+    random: &mut Pcg32,
+    notes: &mut Vec<Note>,
+) -> Option<bool> {
+    if last_count(notes) == Some(observer.count()) {
+        return Some(false);
+    }
+    let kept = notes.len();
+    ask(alloc, observer, &drawn_path(alloc, random)?, notes)?;
+    let is_one_list = last_count(notes) == Some(observer.count());
+    if !is_one_list {
+        notes.truncate(kept);
+    }
+    Some(is_one_list)
+}
+
+/// Notes replies by each list that it meets, until the writer is over.
+fn watches<N: Named, R: Wait + Clock>(
+    rt: &R,
+    alloc: Global,
+    observer: &mut Observer<N>,
+    run: &Run,
     seed: u64,
-) -> Option<Vec<Note>> {
-    let mut observer = fs.observer(rt).ok()?;
+    notes: &mut Vec<Note>,
+) -> Option<()> {
     let mut random = Pcg32::seed_from_u64(seed);
-    let mut notes: Vec<Note> = Vec::new(alloc);
     for _ in 0..u64::MAX {
         let is_over = run.over.load(Ordering::SeqCst) == 1;
-        let last = notes.last().map(|note| note.count);
-        if let Some(note) = take_note(alloc, &mut observer, &mut random, last)? {
-            notes.push(note).ok()?;
+        if takes_notes(alloc, observer, &mut random, notes)? {
             run.notes.fetch_add(1, Ordering::SeqCst);
         }
         if is_over {
@@ -181,38 +226,30 @@ fn watches<N: Named, R: Wait + Clock>(
         }
         thread::sleep(rt, Duration::from_micros(20));
     }
-    Some(notes)
+    Some(())
 }
 
-/// What the tree replies to a look at it.
-fn look(alloc: Global, tree: &SeqTree, call: Call) -> Option<Reply>
-    requires { IsTrue (is_look call) }
-{
-    tree.look(alloc, &call).ok()
+/// The same by an observer of its own.
+fn observes<N: Named, R: Wait + Clock>(
+    rt: &R,
+    alloc: Global,
+    fs: &AtomFs<N>,
+    run: &Run,
+    seed: u64,
+    notes: &mut Vec<Note>,
+) -> Option<()> {
+    match fs.observer(rt) {
+        Ok(mut observer) => watches(rt, alloc, &mut observer, run, seed, notes),
+        Err(_) => None,
+    }
 }
 
-fn same_stat(alloc: Global, tree: &SeqTree, note: &Note) -> Option<bool> {
-    let path = note.path.copy(alloc).ok()?;
-    Some(look(alloc, tree, Call::Stat(path))?.same(&note.stat))
-}
-
-fn same_names(alloc: Global, tree: &SeqTree, note: &Note) -> Option<bool> {
-    let path = note.path.copy(alloc).ok()?;
-    Some(look(alloc, tree, Call::Readdir(path))?.same(&note.names))
-}
-
-fn same_bytes(alloc: Global, tree: &SeqTree, note: &Note) -> Option<bool> {
-    let path = note.path.copy(alloc).ok()?;
-    Some(look(alloc, tree, Call::Read(path, 0, 9))?.same(&note.bytes))
-}
-
-/// Whether the tree answers what was noted.
-fn agrees(alloc: Global, tree: &SeqTree, note: &Note) -> Option<bool> {
-    Some(
-        same_stat(alloc, tree, note)?
-            && same_names(alloc, tree, note)?
-            && same_bytes(alloc, tree, note)?,
-    )
+/// Whether the tree replies what was noted.
+fn agrees(alloc: Global, tree: &mut SeqTree, note: &Note) -> Option<bool> {
+    match tree.apply(alloc, &note.look) {
+        Ok(reply) => Some(reply.same(&note.reply)),
+        Err(_) => None,
+    }
 }
 
 fn play(alloc: Global, tree: &mut SeqTree, calls: &[Call]) -> Option<()> {
@@ -222,19 +259,26 @@ fn play(alloc: Global, tree: &mut SeqTree, calls: &[Call]) -> Option<()> {
     Some(())
 }
 
-/// Whether each answer is that of its list, no list is shorter than the one before, and the last has all calls.
-fn fit(alloc: Global, calls: &[Call], notes: &[Note]) -> Option<bool> {
-    let mut tree = SeqTree::new(alloc).ok()?;
+/// Whether each reply is that of its list, no list is shorter than the one before, and the last has all calls.
+fn fit(alloc: Global, tree: &mut SeqTree, calls: &[Call], notes: &[Note]) -> Option<bool> {
     let mut played = 0;
     for note in notes {
         let count = note.count as usize;
-        play(alloc, &mut tree, calls.get(played..count)?)?;
+        play(alloc, tree, calls.get(played..count)?)?;
         played = count;
-        if !agrees(alloc, &tree, note)? {
+        if !agrees(alloc, tree, note)? {
             return Some(false);
         }
     }
     Some(played == CALLS)
+}
+
+/// The same on a tree of the root alone.
+fn are_those_of(alloc: Global, calls: &[Call], notes: &[Note]) -> Option<bool> {
+    match SeqTree::new(alloc) {
+        Ok(mut tree) => fit(alloc, &mut tree, calls, notes),
+        Err(_) => None,
+    }
 }
 
 /// The writer's part, which has number 0, or an observer's.
@@ -250,8 +294,9 @@ fn part<N: Named, R: Wait + Clock>(
         run.over.store(1, Ordering::SeqCst);
         return written;
     }
-    let notes = watches(rt, alloc, fs, run, number as u64)?;
-    fit(alloc, &run.calls, &notes)
+    let mut notes = Vec::new(alloc);
+    observes(rt, alloc, fs, run, number as u64, &mut notes)?;
+    are_those_of(alloc, &run.calls, &notes)
 }
 
 /// A writer and four observers, each on a thread of its own.

@@ -1,10 +1,10 @@
 //! Observers and a told rename, while a call is held by its gate.
 
-use crate::calls::{has_name, is_dir, makes, mkdir, path, tell, told_of};
+use crate::calls::{Deed, Sight, makes};
+use crate::told::{Step, comes_out};
 use crate::waiting::reaches;
-use fs_calls::Call;
 use fs_core::Stepped;
-use fs_share::{AtomFs, Gate, Named, Observer};
+use fs_share::{AtomFs, Gate, Named};
 use std::alloc::Global;
 use std::sync::Wait;
 use std::sync::atomic::{AtomicU64, Ordering};
@@ -46,27 +46,38 @@ impl Gate for Holds {
     }
 }
 
-/// Whether an observer answers by what was told.
-fn shows<N: Named>(alloc: Global, observer: &mut Observer<N>) -> Option<bool> {
-    let is_named = has_name(alloc, observer, b"/a", b'd')?;
-    Some(is_named && is_dir(alloc, observer, b"/a/d")? && observer.count() == 2)
-}
+/// The tree with `/a/d`.
+const MADE: &[Step] = &[
+    Step::Tells(Deed::Mkdir(b"/a"), 0),
+    Step::Tells(Deed::Mkdir(b"/a/d"), 1),
+];
 
-/// The same of an observer of its own.
-fn answers<N: Named, R: Wait>(rt: &R, alloc: Global, fs: &AtomFs<N>) -> Option<bool> {
-    let mut observer = fs.observer(rt).ok()?;
-    shows(alloc, &mut observer)
-}
+/// An observer answers by what was told.
+const ANSWERS: &[Step] = &[
+    Step::Shows(b"/a", Sight::Name(b'd')),
+    Step::Shows(b"/a/d", Sight::EmptyDir),
+    Step::Counts(2),
+];
 
-fn rename(alloc: Global) -> Option<Call> {
-    let from = path(alloc, b"/a")?;
-    Some(Call::Rename(from, path(alloc, b"/b")?))
-}
+/// The directory above is renamed behind the call that is held. An observer that is told shows what that call made.
+const MOVES: &[Step] = &[
+    Step::Tells(Deed::Rename(b"/a", b"/b"), 3),
+    Step::Learns(0),
+    Step::Shows(b"/b/d", Sight::Name(b'x')),
+    Step::Counts(4),
+];
 
-/// Renames the directory above, behind the call that is held. Whether an observer that is told shows what that call made.
-fn moves<N: Named, R: Wait + Clock>(rt: &R, alloc: Global, fs: &AtomFs<N>) -> Option<bool> {
-    let mut observer = told_of(rt, alloc, fs, rename(alloc), 3)?;
-    Some(has_name(alloc, &mut observer, b"/b/d", b'x')? && observer.count() == 4)
+/// Makes `/a/d/x` by a call that is not told. Whether it is made.
+fn is_made<N: Named, R: Wait + Clock>(
+    rt: &R,
+    alloc: Global,
+    fs: &AtomFs<N>,
+    gate: &Holds,
+) -> Option<bool> {
+    match fs.session(rt) {
+        Ok(mut session) => makes(rt, alloc, &mut session, Deed::Mkdir(b"/a/d/x"), gate),
+        Err(_) => None,
+    }
 }
 
 /// What is done once the caller stands, after which it is let go.
@@ -75,34 +86,43 @@ fn meanwhile<N: Named, R: Wait + Clock>(
     alloc: Global,
     fs: &AtomFs<N>,
     gate: &Holds,
-    is_moved: bool,
+    steps: &[Step],
 ) -> Option<bool> {
     let stands = reaches(rt, &gate.stands, 1);
-    let seen = if is_moved {
-        moves(rt, alloc, fs)
-    } else {
-        answers(rt, alloc, fs)
-    };
+    let seen = comes_out(rt, alloc, fs, steps);
     gate.freed.store(1, Ordering::SeqCst);
     Some(stands && seen?)
 }
 
-/// On a tree with `/a/d`, a call that makes `/a/d/x` is held after so many events. Meanwhile an observer answers, or the
-/// directory is renamed by a told call.
-pub fn beside<N: Named + Send + Sync, R: Threads + Wait + Clock + Sync>(
+/// Holds a call that makes `/a/d/x` after so many events, and does the steps meanwhile.
+fn beside<N: Named + Send + Sync, R: Threads + Wait + Clock + Sync>(
+    rt: &R,
+    alloc: Global,
+    fs: &AtomFs<N>,
+    gate: &Holds,
+    steps: &[Step],
+) -> Option<bool> {
+    let (made, seen) = thread::join(
+        rt,
+        || is_made(rt, alloc, fs, gate),
+        || meanwhile(rt, alloc, fs, gate, steps),
+    );
+    Some(made? && seen? && gate.found.load(Ordering::SeqCst) == 1)
+}
+
+/// The same on a tree with `/a/d`: an observer answers, or the directory is renamed by a told call.
+pub fn comes_out_beside<N: Named + Send + Sync, R: Threads + Wait + Clock + Sync>(
     rt: &R,
     alloc: Global,
     fs: &AtomFs<N>,
     at: u64,
     is_moved: bool,
 ) -> Option<bool> {
-    tell(rt, alloc, fs, mkdir(alloc, b"/a"), 0)?;
-    tell(rt, alloc, fs, mkdir(alloc, b"/a/d"), 1)?;
-    let gate = Holds::new(at);
-    let (made, seen) = thread::join(
-        rt,
-        || makes(rt, alloc, fs, b"/a/d/x", &gate),
-        || meanwhile(rt, alloc, fs, &gate, is_moved),
-    );
-    Some(made? && seen? && gate.found.load(Ordering::SeqCst) == 1)
+    match comes_out(rt, alloc, fs, MADE) {
+        Some(true) => {
+            let steps = if is_moved { MOVES } else { ANSWERS };
+            beside(rt, alloc, fs, &Holds::new(at), steps)
+        }
+        other => other,
+    }
 }

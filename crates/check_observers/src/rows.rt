@@ -2,7 +2,8 @@
 
 ghost use Rattle.std.specs.Prelude.{◌≡◌, ◌^◌};
 
-use crate::{busy, drawn, example, held, places, told};
+use crate::told::{BOTH_STAMPS, FIRST, UNTOLD, WRITTEN, comes_out};
+use crate::{busy, drawn, example, held, places};
 use fs_share::{AtomFs, Named, Opened};
 use std::alloc::Global;
 use std::marker::Brand;
@@ -34,12 +35,12 @@ fn holds<N: Named + Send + Sync, R: Threads + Wait + Clock + Sync>(
 ) -> Option<bool> {
     match row {
         Row::HandedOn => example::is_handed_on(rt, alloc, fs),
-        Row::First => told::first(rt, alloc, fs),
-        Row::BothStamps => told::both_stamps(rt, alloc, fs),
-        Row::Written => told::written(rt, alloc, fs),
-        Row::Untold => told::untold(rt, alloc, fs),
-        Row::Parked(at) => held::beside(rt, alloc, fs, at, false),
-        Row::Moved(at) => held::beside(rt, alloc, fs, at, true),
+        Row::First => comes_out(rt, alloc, fs, FIRST),
+        Row::BothStamps => comes_out(rt, alloc, fs, BOTH_STAMPS),
+        Row::Written => comes_out(rt, alloc, fs, WRITTEN),
+        Row::Untold => comes_out(rt, alloc, fs, UNTOLD),
+        Row::Parked(at) => held::comes_out_beside(rt, alloc, fs, at, false),
+        Row::Moved(at) => held::comes_out_beside(rt, alloc, fs, at, true),
         Row::Places => places::sixty_four(rt, alloc, fs),
         Row::Busy => busy::meet(rt, alloc, fs),
         Row::Drawn => drawn::are_right(rt, alloc, fs),

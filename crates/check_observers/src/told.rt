@@ -1,118 +1,141 @@
-//! Calls that are told, and observers that learn their stamps.
+//! Calls that are told, and observers that learn their stamps: rows of steps, by one session and one observer.
 
-use crate::calls::{bytes, is_dir, is_missing, makes, mkdir, path, rmdir, tell, told_of};
-use fs_calls::{Bytes, Call, Reply};
-use fs_share::{AtomFs, Named, Observer, Open, Stamp};
+use crate::calls::{Deed, Sight, makes, shows, tell};
+use fs_share::{AtomFs, Named, Observer, Open, Session, Told};
 use std::alloc::Global;
 use std::sync::Wait;
 use std::time::Clock;
 
-/// Whether an observer shows no directory, by a list of so many calls.
-fn is_bare<N: Named>(alloc: Global, observer: &mut Observer<N>, count: u64) -> Option<bool> {
-    Some(is_missing(alloc, observer, b"/a")? && observer.count() == count)
-}
-
-/// Whether an observer shows the directory, by a list of so many calls.
-fn is_made<N: Named>(alloc: Global, observer: &mut Observer<N>, count: u64) -> Option<bool> {
-    Some(is_dir(alloc, observer, b"/a")? && observer.count() == count)
+/// What is done, and what must come of it.
+#[derive(Clone, Copy)]
+pub enum Step {
+    /// A told call succeeds, with this place and a stamp.
+    Tells(Deed, usize),
+    /// A call that is not told is done.
+    Makes(Deed),
+    /// The observer learns the stamp of a told call of the row, counted from 0.
+    Learns(usize),
+    /// The observer shows this at a path.
+    Shows(&'static [u8], Sight),
+    /// The observer's list has so many calls.
+    Counts(u64),
 }
 
 /// A first told call has place 0. An observer that was told nothing shows what was published, the empty tree before.
-fn shows_first<N: Named, R: Wait + Clock>(
+pub const FIRST: &[Step] = &[
+    Step::Shows(b"/a", Sight::Nothing),
+    Step::Counts(0),
+    Step::Tells(Deed::Mkdir(b"/a"), 0),
+    Step::Shows(b"/a", Sight::EmptyDir),
+    Step::Counts(1),
+];
+
+/// An observer that learns the second stamp, then the first, shows both calls.
+pub const BOTH_STAMPS: &[Step] = &[
+    Step::Tells(Deed::Mkdir(b"/a"), 0),
+    Step::Tells(Deed::Rmdir(b"/a"), 1),
+    Step::Learns(1),
+    Step::Learns(0),
+    Step::Shows(b"/a", Sight::Nothing),
+    Step::Counts(2),
+];
+
+/// An observer reads what a told call wrote.
+pub const WRITTEN: &[Step] = &[
+    Step::Tells(Deed::Mknod(b"/f"), 0),
+    Step::Tells(Deed::Write(b"/f", b"hi"), 1),
+    Step::Learns(1),
+    Step::Shows(b"/f", Sight::Bytes(b"hi")),
+];
+
+/// A call that is not told is shown once a later one is told, and not before.
+pub const UNTOLD: &[Step] = &[
+    Step::Makes(Deed::Mkdir(b"/a")),
+    Step::Shows(b"/a", Sight::Nothing),
+    Step::Counts(0),
+    Step::Tells(Deed::Mkdir(b"/b"), 1),
+    Step::Learns(0),
+    Step::Shows(b"/a", Sight::EmptyDir),
+    Step::Counts(2),
+];
+
+/// Has an observer learn the stamp of a told call.
+fn learns<N: Named>(observer: &mut Observer<N>, told: &Told<N>) -> Option<bool> {
+    observer.learn(told.stamp.as_ref()?);
+    Some(true)
+}
+
+/// Makes a told call, and keeps what it is told.
+fn tells<N: Named, R: Wait + Clock>(
     rt: &R,
     alloc: Global,
-    fs: &AtomFs<N>,
+    session: &mut Session<'_, N>,
+    deed: Deed,
+    place: usize,
+    tolds: &mut Vec<Told<N>>,
+) -> Option<bool> {
+    tolds.push(tell(rt, alloc, session, deed, place)?).ok()?;
+    Some(true)
+}
+
+/// Does a step. Whether it comes out as it must.
+fn take<N: Named, R: Wait + Clock>(
+    rt: &R,
+    alloc: Global,
+    session: &mut Session<'_, N>,
     observer: &mut Observer<N>,
+    tolds: &mut Vec<Told<N>>,
+    step: Step,
 ) -> Option<bool> {
-    let nothing = is_bare(alloc, observer, 0)?;
-    tell(rt, alloc, fs, mkdir(alloc, b"/a"), 0)?;
-    Some(nothing && is_made(alloc, observer, 1)?)
-}
-
-/// The same by an observer of its own.
-pub fn first<N: Named, R: Wait + Clock>(rt: &R, alloc: Global, fs: &AtomFs<N>) -> Option<bool> {
-    let mut observer = fs.observer(rt).ok()?;
-    shows_first(rt, alloc, fs, &mut observer)
-}
-
-/// An observer that learns the second stamp, then the first, which is given, shows both calls.
-fn shows_both<N: Named, R: Wait + Clock>(
-    rt: &R,
-    alloc: Global,
-    fs: &AtomFs<N>,
-    made: &Stamp<N>,
-) -> Option<bool> {
-    let mut observer = told_of(rt, alloc, fs, rmdir(alloc, b"/a"), 1)?;
-    observer.learn(made);
-    is_bare(alloc, &mut observer, 2)
-}
-
-/// The same of the stamps of a directory that is made and removed.
-pub fn both_stamps<N: Named, R: Wait + Clock>(
-    rt: &R,
-    alloc: Global,
-    fs: &AtomFs<N>,
-) -> Option<bool> {
-    let made = tell(rt, alloc, fs, mkdir(alloc, b"/a"), 0)?;
-    shows_both(rt, alloc, fs, &made)
-}
-
-fn mknod(alloc: Global) -> Option<Call> {
-    Some(Call::Mknod(path(alloc, b"/f")?))
-}
-
-fn write(alloc: Global) -> Option<Call> {
-    let text = Vec::from_slice(alloc, b"hi").ok()?;
-    Some(Call::Write(path(alloc, b"/f")?, 0, Bytes::new(text)))
-}
-
-/// Whether the reply is these bytes.
-fn is_text(reply: &Reply, want: &[u8]) -> bool {
-    match reply {
-        Reply::Bytes(bytes) => bytes.as_slice() == want,
-        _ => false,
+    match step {
+        Step::Tells(deed, place) => tells(rt, alloc, session, deed, place, tolds),
+        Step::Makes(deed) => makes(rt, alloc, session, deed, &Open),
+        Step::Learns(number) => learns(observer, tolds.get(number)?),
+        Step::Shows(text, sight) => shows(alloc, observer, text, sight),
+        Step::Counts(count) => Some(observer.count() == count),
     }
 }
 
-/// Whether an observer reads these bytes.
-fn reads<N: Named>(alloc: Global, observer: &mut Observer<N>, want: &[u8]) -> Option<bool> {
-    let reply = bytes(alloc, observer, &path(alloc, b"/f")?)?;
-    Some(is_text(&reply, want))
-}
-
-/// An observer reads what a told call wrote.
-pub fn written<N: Named, R: Wait + Clock>(rt: &R, alloc: Global, fs: &AtomFs<N>) -> Option<bool> {
-    tell(rt, alloc, fs, mknod(alloc), 0)?;
-    let mut observer = told_of(rt, alloc, fs, write(alloc), 1)?;
-    reads(alloc, &mut observer, b"hi")
-}
-
-/// Whether an observer shows a directory and one more call once it has learned a stamp.
-fn shows_more<N: Named>(
+/// Does the steps of a row, as far as they come out right. Whether all do.
+fn takes<N: Named, R: Wait + Clock>(
+    rt: &R,
     alloc: Global,
+    session: &mut Session<'_, N>,
     observer: &mut Observer<N>,
-    stamp: &Stamp<N>,
+    steps: &[Step],
 ) -> Option<bool> {
-    observer.learn(stamp);
-    is_made(alloc, observer, 2)
+    let mut tolds = Vec::new(alloc);
+    for step in steps {
+        if !take(rt, alloc, session, observer, &mut tolds, *step)? {
+            return Some(false);
+        }
+    }
+    Some(true)
 }
 
-/// A call that is not told is shown once a later one is told, and not before.
-fn shows_untold<N: Named, R: Wait + Clock>(
+/// The same by a new observer.
+fn observes<N: Named, R: Wait + Clock>(
     rt: &R,
     alloc: Global,
     fs: &AtomFs<N>,
-    observer: &mut Observer<N>,
+    session: &mut Session<'_, N>,
+    steps: &[Step],
 ) -> Option<bool> {
-    let is_done = makes(rt, alloc, fs, b"/a", &Open)?;
-    let is_hidden = is_bare(alloc, observer, 0)?;
-    let stamp = tell(rt, alloc, fs, mkdir(alloc, b"/b"), 1)?;
-    let is_shown = shows_more(alloc, observer, &stamp)?;
-    Some(is_done && is_hidden && is_shown)
+    match fs.observer(rt) {
+        Ok(mut observer) => takes(rt, alloc, session, &mut observer, steps),
+        Err(_) => None,
+    }
 }
 
-/// The same by an observer of its own.
-pub fn untold<N: Named, R: Wait + Clock>(rt: &R, alloc: Global, fs: &AtomFs<N>) -> Option<bool> {
-    let mut observer = fs.observer(rt).ok()?;
-    shows_untold(rt, alloc, fs, &mut observer)
+/// The same by a new session too.
+pub fn comes_out<N: Named, R: Wait + Clock>(
+    rt: &R,
+    alloc: Global,
+    fs: &AtomFs<N>,
+    steps: &[Step],
+) -> Option<bool> {
+    match fs.session(rt) {
+        Ok(mut session) => observes(rt, alloc, fs, &mut session, steps),
+        Err(_) => None,
+    }
 }
