@@ -3,8 +3,8 @@
 use fs_calls::Call;
 use fs_journal::check;
 use fs_names::{CallNo, Path};
-use fs_script::Script;
-use fs_share::Answer;
+use fs_script::{CallLists, read_script};
+use fs_share::{Answer, Closed};
 use fs_timeline::{Entry, Verdict};
 use std::alloc::Global;
 
@@ -12,9 +12,19 @@ pub fn path(alloc: Global, text: &[u8]) -> Option<Path> {
     Path::parse(alloc, text).ok()
 }
 
-/// The calls of a script's thread.
-pub fn calls_of(script: &Script, thread: usize) -> Option<&[Call]> {
-    Some(script.lists.as_slice().get(thread)?.as_slice())
+/// The calls of the threads of a script.
+pub fn lists_of(alloc: Global, text: &[u8]) -> Option<CallLists> {
+    Some(read_script(alloc, text).ok()?.lists)
+}
+
+/// The calls of a thread.
+pub fn calls_of(lists: &CallLists, thread: usize) -> Option<&[Call]> {
+    Some(lists.as_slice().get(thread)?.as_slice())
+}
+
+/// Whether a tree had so many sessions, and its timeline has so many entries.
+pub fn has_counts(closed: &Closed, sessions: usize, entries: usize) -> bool {
+    closed.sessions == sessions && closed.timeline.entries().len() == entries
 }
 
 /// Whether a timeline is lawful.

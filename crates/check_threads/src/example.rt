@@ -3,19 +3,28 @@
 use fs_calls::Call;
 use fs_journal::check;
 use fs_names::Path;
-use fs_share::{Open, run_lists};
+use fs_share::{Closed, Open, run_lists};
 use fs_timeline::Verdict;
 use std::alloc::Global;
 use std::sync::Wait;
 use std::thread::Threads;
 use std::time::Clock;
 
-/// Two lists on two threads. Whether the timeline has their six entries and is lawful.
-pub fn is_lawful<R: Threads + Wait + Clock + Sync>(rt: &R, alloc: Global) -> Option<bool> {
-    let first = vec![in alloc; Call::Mkdir(Path::parse(alloc, b"/a").ok()?)].ok()?;
-    let second = vec![in alloc; Call::Mkdir(Path::parse(alloc, b"/a/b").ok()?)].ok()?;
-    let closed = run_lists(rt, alloc, &[first, second], &Open).ok()?;
+/// A list of one call.
+fn mkdir(alloc: Global, text: &[u8]) -> Option<Vec<Call>> {
+    vec![in alloc; Call::Mkdir(Path::parse(alloc, text).ok()?)].ok()
+}
+
+/// Whether the timeline has the six entries of two calls and is lawful.
+fn is_right(alloc: Global, closed: &Closed) -> Option<bool> {
     let entries = closed.timeline.entries();
     let verdict = check(alloc, entries).ok()?;
     Some(closed.sessions == 2 && entries.len() == 6 && matches!(verdict, Verdict::Lawful))
+}
+
+/// Two lists on two threads.
+pub fn is_lawful<R: Threads + Wait + Clock + Sync>(rt: &R, alloc: Global) -> Option<bool> {
+    let lists = [mkdir(alloc, b"/a")?, mkdir(alloc, b"/a/b")?];
+    let closed = run_lists(rt, alloc, &lists, &Open).ok()?;
+    is_right(alloc, &closed)
 }

@@ -2,14 +2,15 @@
 
 ghost use Rattle.std.specs.Prelude.{◌≡◌, ◌^◌};
 
-use crate::calls::{calls_of, commit_place, is_before, path, return_place};
+use crate::calls::{calls_of, commit_place, has_counts, is_before, lists_of, path, return_place};
+use crate::playing::{Ended, Played, Sessions, end, play};
 use crate::waiting::{TURNS, is_set, is_set_within};
 use fs_calls::{Call, Reply};
 use fs_core::Stepped;
 use fs_names::{Kind, Path};
 use fs_nodes::{NodeNo, Store};
-use fs_script::{Script, read_script};
-use fs_share::{Answer, AtomFs, Closed, Gate, Named, Open, Opened, Tally};
+use fs_script::CallLists;
+use fs_share::{Answer, AtomFs, Gate, Named, Open, Opened};
 use std::alloc::Global;
 use std::marker::Brand;
 use std::sync::Wait;
@@ -60,108 +61,64 @@ impl Gate for Holds {
     }
 }
 
-/// An answer, and the tally of its session.
-type Called<N> = (Answer, Tally<N>);
-
-/// One call by a session of its own.
-fn one<N: Named, R: Wait + Clock, G: Gate>(
-    rt: &R,
-    alloc: Global,
-    fs: &AtomFs<N>,
-    call: &Call,
-    gate: &G,
-) -> Option<Called<N>> {
-    let mut session = fs.session(rt).ok()?;
-    let answer = session.call(rt, alloc, call, gate).ok()?;
-    Some((answer, session.end()))
+/// The calls that make a tree, those that are held, and the other ones.
+#[derive(Clone, Copy)]
+pub struct Parts<'a> {
+    pub made: &'a [Call],
+    pub held: &'a [Call],
+    pub other: &'a [Call],
 }
 
-/// The call that is held. Where it has fewer events than it is held after, the other one begins behind it.
+/// The calls that are held. Where they have fewer events than they are held after, the other ones begin behind them.
 fn held<N: Named, R: Wait + Clock>(
     rt: &R,
     alloc: Global,
     fs: &AtomFs<N>,
-    call: &Call,
+    calls: &[Call],
     gate: &Holds,
-) -> Option<Called<N>> {
-    let answer = one(rt, alloc, fs, call, gate);
+) -> Option<Played<N>> {
+    let played = play(rt, alloc, fs, calls, gate);
     gate.stands.store(1, Ordering::SeqCst);
-    answer
+    played
 }
 
-/// One call once the held caller stands, after which the caller is let go.
+/// The other calls once the held caller stands, after which the caller is let go.
 fn other<N: Named, R: Wait + Clock>(
     rt: &R,
     alloc: Global,
     fs: &AtomFs<N>,
-    call: &Call,
+    calls: &[Call],
     gate: &Holds,
-) -> Option<Called<N>> {
+) -> Option<Played<N>> {
     if !is_set(rt, &gate.stands) {
         return None;
     }
-    let answer = one(rt, alloc, fs, call, &Open)?;
+    let played = play(rt, alloc, fs, calls, &Open);
     gate.flag.store(1, Ordering::SeqCst);
-    Some(answer)
+    played
 }
 
-/// What came of a held call and another one: whether it was held, and whether the other one returned meanwhile.
-#[derive(Drop)]
-pub struct Both {
-    pub held: Answer,
-    pub other: Answer,
-    pub was_held: bool,
-    pub found: bool,
-    pub closed: Closed,
-}
-
-/// Makes what the tree has, by a session of its own.
-fn make<N: Named, R: Wait + Clock>(
-    rt: &R,
-    alloc: Global,
-    fs: &AtomFs<N>,
-    calls: &[Call],
-) -> Option<Tally<N>> {
-    let mut session = fs.session(rt).ok()?;
-    for call in calls {
-        session.call(rt, alloc, call, &Open).ok()?;
-    }
-    Some(session.end())
-}
-
-/// Runs a call that is held and another one meanwhile.
-fn both_call<N: Named + Send + Sync, R: Threads + Wait + Clock + Sync>(
-    rt: &R,
-    alloc: Global,
-    fs: &AtomFs<N>,
-    calls: (&Call, &Call),
-    gate: &Holds,
-) -> Option<(Called<N>, Called<N>)> {
-    let (first, second) = calls;
-    let (held, other) = thread::join(
-        rt,
-        || held(rt, alloc, fs, first, gate),
-        || other(rt, alloc, fs, second, gate),
-    );
-    Some((held?, other?))
-}
-
-/// The answers of both calls, and the tallies of all sessions.
-type Met<N> = (Answer, Answer, Vec<Tally<N>>);
-
-/// Makes what the tree has, then runs both calls.
+/// Makes what the tree has, then runs the calls that are held and the other ones meanwhile.
 fn meet_on<N: Named + Send + Sync, R: Threads + Wait + Clock + Sync>(
     rt: &R,
     alloc: Global,
     fs: &AtomFs<N>,
-    made: &[Call],
-    calls: (&Call, &Call),
+    parts: Parts<'_>,
     gate: &Holds,
-) -> Option<Met<N>> {
-    let made = make(rt, alloc, fs, made)?;
-    let (held, other) = both_call(rt, alloc, fs, calls, gate)?;
-    let tallies = vec![in alloc; made, held.1, other.1].ok()?;
-    Some((held.0, other.0, tallies))
+) -> Option<Sessions<N>> {
+    let made = play(rt, alloc, fs, parts.made, &Open);
+    let mut sessions = thread::map_indices(
+        rt,
+        alloc,
+        2,
+        &|i| match i {
+            0 => held(rt, alloc, fs, parts.held, gate),
+            _ => other(rt, alloc, fs, parts.other, gate),
+        },
+    )
+    .ok()?;
+    sessions.push(made).ok()?;
+    Some(sessions)
 }
 
 /// The same on a tree of its own.
@@ -170,40 +127,50 @@ fn meet_named<N: Named + Send + Sync, R: Threads + Wait + Clock + Sync>(
     alloc: Global,
     opened: Opened,
     blank: Blank,
-    made: &[Call],
-    calls: (&Call, &Call),
-    hold: Hold,
-) -> Option<Both>
+    parts: Parts<'_>,
+    gate: &Holds,
+) -> Option<Ended>
     requires book { opened ≡ N.book }
     requires name { blank.name ≡ N.name }
     requires parts { blank.parts ≡ N.parts }
     requires all { blank.parts ≡ 2 ^ 63 }
 {
     let fs = AtomFs::<N>::open(rt, alloc, opened, blank).ok()?;
-    let gate = Holds::new(hold);
-    let Some((held, other, tallies)) = meet_on(rt, alloc, &fs, made, calls, &gate) else {
-        let _closed = fs.close(rt, Vec::new(alloc));
-        return None;
-    };
-    Some(Both {
-        held,
-        other,
-        was_held: gate.events.load(Ordering::SeqCst) >= hold.after,
-        found: gate.found.load(Ordering::SeqCst) == 1,
-        closed: fs.close(rt, tallies),
-    })
+    let sessions = meet_on(rt, alloc, &fs, parts, gate);
+    end(rt, alloc, fs, sessions)
+}
+
+/// What came of a held call and another one: whether it was held, and whether the other one returned meanwhile.
+#[derive(Drop)]
+pub struct Both {
+    pub was_held: bool,
+    pub found: bool,
+    pub ended: Ended,
+}
+
+impl Both {
+    /// The answers of the held call and of the other one.
+    pub fn answers(&self) -> Option<(&Answer, &Answer)> {
+        let answers = self.ended.answers.as_slice();
+        Some((answers.first()?.first()?, answers.get(1)?.first()?))
+    }
 }
 
 /// On a tree that some calls made, a call is held by its gate, and another one begins meanwhile.
 pub fn meet<R: Threads + Wait + Clock + Sync>(
     rt: &R,
     alloc: Global,
-    made: &[Call],
-    calls: (&Call, &Call),
+    parts: Parts<'_>,
     hold: Hold,
 ) -> Option<Both> {
+    let gate = Holds::new(hold);
     let (opened, blank) = (Opened::new(), Blank::new(1 << 63));
-    meet_named::<Brand, R>(rt, alloc, opened, blank, made, calls, hold)
+    let ended = meet_named::<Brand, R>(rt, alloc, opened, blank, parts, &gate)?;
+    Some(Both {
+        was_held: gate.events.load(Ordering::SeqCst) >= hold.after,
+        found: gate.found.load(Ordering::SeqCst) == 1,
+        ended,
+    })
 }
 
 /// The calls that make the tree, the one that is held, and the other one.
@@ -213,17 +180,13 @@ const OVERLAP: &[u8] =
 const HELP: &[u8] =
     b"atomfs 1\nthread made\nmkdir /a\nmkdir /a/d\nthread held\nmkdir /a/d/x\nthread other\nrename /a /b\nschedule\n";
 
-fn meet_by<R: Threads + Wait + Clock + Sync>(
-    rt: &R,
-    alloc: Global,
-    script: &Script,
-    after: u64,
-) -> Option<Both> {
-    let made = calls_of(script, 0)?;
-    let held = calls_of(script, 1)?.first()?;
-    let other = calls_of(script, 2)?.first()?;
-    let turns = TURNS;
-    meet(rt, alloc, made, (held, other), Hold { after, turns })
+/// The parts that a script has, a thread each.
+fn parts_of(lists: &CallLists) -> Option<Parts<'_>> {
+    Some(Parts {
+        made: calls_of(lists, 0)?,
+        held: calls_of(lists, 1)?,
+        other: calls_of(lists, 2)?,
+    })
 }
 
 /// A call of a script is held after so many events, and another one begins meanwhile.
@@ -233,24 +196,30 @@ fn meet_script<R: Threads + Wait + Clock + Sync>(
     text: &[u8],
     after: u64,
 ) -> Option<Both> {
-    let script = read_script(alloc, text).ok()?;
-    meet_by(rt, alloc, &script, after)
+    let lists = lists_of(alloc, text)?;
+    let turns = TURNS;
+    meet(rt, alloc, parts_of(&lists)?, Hold { after, turns })
+}
+
+/// Whether the other one returned before the held call committed.
+fn has_returned(both: &Both) -> Option<bool> {
+    let entries = both.ended.closed.timeline.entries();
+    let (held, other) = both.answers()?;
+    Some(
+        both.found
+            && matches!(held.reply, Reply::Done)
+            && matches!(other.reply, Reply::Stat(Kind::Dir, 0))
+            && has_counts(&both.ended.closed, 3, 12)
+            && is_before(
+                return_place(entries, other.call),
+                commit_place(entries, held.call),
+            ),
+    )
 }
 
 /// Whether a call that is held lets another one return before it commits.
 pub fn others_return<R: Threads + Wait + Clock + Sync>(rt: &R, alloc: Global) -> Option<bool> {
-    let both = meet_script(rt, alloc, OVERLAP, 3)?;
-    let replied = matches!(both.held.reply, Reply::Done)
-        && matches!(both.other.reply, Reply::Stat(Kind::Dir, 0));
-    let entries = both.closed.timeline.entries();
-    let returned = return_place(entries, both.other.call);
-    Some(
-        both.found
-            && replied
-            && both.closed.sessions == 3
-            && entries.len() == 12
-            && is_before(returned, commit_place(entries, both.held.call)),
-    )
+    has_returned(&meet_script(rt, alloc, OVERLAP, 3)?)
 }
 
 /// Whether a path leads from the root to a directory.
@@ -268,18 +237,28 @@ fn is_dir(store: &Store, path: &Path) -> bool {
     store.is_used(node) && store.is_dir(node)
 }
 
-/// Whether a rename commits a held call below it ahead of itself and returns, and the call finishes in the moved tree.
-pub fn rename_helps<R: Threads + Wait + Clock + Sync>(rt: &R, alloc: Global) -> Option<bool> {
-    let moved = path(alloc, b"/b/d/x")?;
-    let both = meet_script(rt, alloc, HELP, 5)?;
-    let replied = matches!(both.held.reply, Reply::Done) && matches!(both.other.reply, Reply::Done);
-    let entries = both.closed.timeline.entries();
-    let (held, other) = (both.held.call, both.other.call);
+/// Whether the other one committed the held call ahead of itself and returned before it, and the directory is at its new place.
+fn has_helped(both: &Both, moved: &Path) -> Option<bool> {
+    let entries = both.ended.closed.timeline.entries();
+    let (held, other) = both.answers()?;
     Some(
         both.found
-            && replied
-            && is_before(commit_place(entries, held), commit_place(entries, other))
-            && is_before(return_place(entries, other), return_place(entries, held))
-            && is_dir(&both.closed.store, &moved),
+            && matches!(held.reply, Reply::Done)
+            && matches!(other.reply, Reply::Done)
+            && is_before(
+                commit_place(entries, held.call),
+                commit_place(entries, other.call),
+            )
+            && is_before(
+                return_place(entries, other.call),
+                return_place(entries, held.call),
+            )
+            && is_dir(&both.ended.closed.store, moved),
     )
+}
+
+/// Whether a rename commits a held call below it ahead of itself and returns, and the call finishes in the moved tree.
+pub fn rename_helps<R: Threads + Wait + Clock + Sync>(rt: &R, alloc: Global) -> Option<bool> {
+    let both = meet_script(rt, alloc, HELP, 5)?;
+    has_helped(&both, &path(alloc, b"/b/d/x")?)
 }

@@ -2,7 +2,7 @@
 
 ghost use Rattle.std.specs.Prelude.{◌≡◌, ◌^◌};
 
-use crate::calls::{fits, is_lawful, is_new, path};
+use crate::calls::{fits, has_counts, is_lawful, is_new, path};
 use fs_calls::{Call, Errno, Reply};
 use fs_pool::{Collected, Done, NotTaken, Pool};
 use fs_share::{Answer, AtomFs, Closed, Gate, Named, Open, Opened};
@@ -55,18 +55,11 @@ fn submit_all<N: Named>(alloc: Global, pool: &mut Pool<N>, calls: &[Call]) -> Op
 }
 
 /// Whether a pool that is full hands the call of one more job back.
-fn hands_back<N: Named>(pool: &mut Pool<N>, more: Call, again: &Call) -> bool {
-    match pool.submit(more) {
-        Err(NotTaken::QueueFull(back)) => back.same(again),
-        _ => false,
-    }
-}
-
-/// The same of a call that stands in no job.
 fn is_full<N: Named>(alloc: Global, pool: &mut Pool<N>) -> Option<bool> {
-    let again = Call::Mknod(path(alloc, b"/more")?);
-    let more = again.copy(alloc).ok()?;
-    Some(hands_back(pool, more, &again))
+    let more = vec![in alloc; Call::Mknod(path(alloc, b"/more")?)].ok()?;
+    let call = more.first()?;
+    let taken = vec![in alloc; pool.submit(call.copy(alloc).ok()?)].ok()?;
+    Some(matches!(taken.first(), Some(Err(NotTaken::QueueFull(back))) if back.same(call)))
 }
 
 /// What became of jobs, and of the tree.
@@ -87,11 +80,10 @@ fn work_on<N: Named + Send + Sync, R: Threads + Wait + Clock + Sync, G: Gate + S
     workers: usize,
     gate: &G,
 ) -> Option<(bool, Collected<N>)> {
-    let capacity = calls.len();
-    if capacity == 0 {
+    if calls.is_empty() {
         return None;
     }
-    let mut pool = Pool::<N>::new(rt, alloc, capacity).ok()?;
+    let mut pool = Pool::<N>::new(rt, alloc, calls.len()).ok()?;
     let full = submit_all(alloc, &mut pool, calls)? && is_full(alloc, &mut pool)?;
     pool.run(rt, alloc, fs, workers, gate).ok()?;
     Some((full, pool.collect()))
@@ -177,8 +169,7 @@ fn is_worked(alloc: Global, calls: &[Call], worked: &Worked) -> Option<bool> {
         worked.full
             && worked.left == 0
             && counts(&worked.done) == (256, 744)
-            && entries.len() == 3000
-            && worked.closed.sessions == WORKERS
+            && has_counts(&worked.closed, WORKERS, 3000)
             && are_right(entries, calls, &worked.done)
             && is_lawful(alloc, entries)?,
     )

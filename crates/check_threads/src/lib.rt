@@ -11,6 +11,7 @@ mod held;
 mod jobs;
 mod long;
 mod parked;
+mod playing;
 mod scripts;
 mod shared;
 mod waiting;
@@ -18,11 +19,12 @@ mod walking;
 
 use parked::{Beside, WORDS, events_beside};
 use std::alloc::Global;
+use std::io;
 use std::sync::Wait;
 use std::thread::Threads;
 use std::time::Clock;
 
-fn say(rt: &impl Print, what: &str, holds: Option<bool>) -> std::io::Result<()> {
+fn say(rt: &impl Print, what: &str, holds: Option<bool>) -> io::Result<()> {
     let word = match holds {
         Some(true) => "yes",
         Some(false) => "no",
@@ -31,30 +33,33 @@ fn say(rt: &impl Print, what: &str, holds: Option<bool>) -> std::io::Result<()> 
     println!(rt; "{what}: {word}")
 }
 
+/// Says how many events a call has that is held after each of them.
+fn say_events(rt: &impl Print, word: &str, what: &str, events: Option<u64>) -> io::Result<()> {
+    match events {
+        Some(events) => println!(rt; "{word}, held after each of {events} events, {what}: yes"),
+        None => println!(rt; "{word}, {what}: no"),
+    }
+}
+
 /// Calls of each kind, held after each of their events.
 fn say_parked<R: Print + Threads + Wait + Clock + Sync>(
     rt: &R,
     alloc: Global,
     beside: Beside,
-) -> std::io::Result<()> {
+) -> io::Result<()> {
     let what = match beside {
         Beside::Move => "beside the move of the directory above",
         Beside::Removal => "beside a removal of what it is at",
     };
     for kind in 0..WORDS.len() {
-        let word = WORDS[kind];
-        match events_beside(rt, alloc, kind, beside) {
-            Some(events) => println!(rt;
-                "{word}, held after each of {events} events, {what}: yes"
-            )?,
-            None => println!(rt; "{word}, {what}: no")?,
-        }
+        let events = events_beside(rt, alloc, kind, beside);
+        say_events(rt, WORDS[kind], what, events)?;
     }
     Ok(())
 }
 
 /// Runs all of this, and writes how it came out.
-pub fn run<R: Print + Threads + Wait + Clock + Sync>(rt: &R, alloc: Global) -> anyhow::Result<()> {
+fn say_all<R: Print + Threads + Wait + Clock + Sync>(rt: &R, alloc: Global) -> io::Result<()> {
     let sessions = answers::are_right(rt, alloc);
     say(
         rt,
@@ -81,6 +86,10 @@ pub fn run<R: Print + Threads + Wait + Clock + Sync>(rt: &R, alloc: Global) -> a
     let jobs = jobs::are_done(rt, alloc);
     say(rt, "a thousand jobs are done, once", jobs)?;
     let drawn = long::is_lawful(rt, alloc);
-    say(rt, "twenty thousand drawn calls are lawful", drawn)?;
-    Ok(())
+    say(rt, "twenty thousand drawn calls are lawful", drawn)
+}
+
+/// The same, for a program.
+pub fn run<R: Print + Threads + Wait + Clock + Sync>(rt: &R, alloc: Global) -> anyhow::Result<()> {
+    Ok(say_all(rt, alloc)?)
 }

@@ -1,5 +1,6 @@
 //! A long run of drawn calls by many threads.
 
+use crate::calls::has_counts;
 use crate::drawing::call;
 use crate::walking::is_played;
 use fs_calls::Call;
@@ -54,9 +55,5 @@ fn run<R: Threads + Wait + Clock + Sync>(rt: &R, alloc: Global) -> Option<Closed
 /// Whether the timeline of the run has each call and is lawful, and its commits make the nodes that it leaves.
 pub fn is_lawful<R: Threads + Wait + Clock + Sync>(rt: &R, alloc: Global) -> Option<bool> {
     let closed = run(rt, alloc)?;
-    Some(
-        closed.sessions == THREADS
-            && closed.timeline.entries().len() == 3 * THREADS * CALLS
-            && is_played(alloc, &closed)?,
-    )
+    Some(has_counts(&closed, THREADS, 3 * THREADS * CALLS) && is_played(alloc, &closed)?)
 }

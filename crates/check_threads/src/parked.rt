@@ -1,13 +1,14 @@
 //! Calls of every kind, each held after each of its events, beside a call that moves the directory above it and beside one
 //! that removes what it is at.
 
-use crate::calls::{calls_of, commit_place, is_before};
-use crate::held::{Both, Hold, meet};
+use crate::calls::{calls_of, commit_place, has_counts, is_before, lists_of};
+use crate::held::{Both, Hold, Parts, meet};
 use crate::waiting::TURNS;
 use crate::walking::is_played;
 use fs_calls::{Call, Reply};
-use fs_script::{Script, read_script};
+use fs_script::CallLists;
 use std::alloc::Global;
+use std::slice;
 use std::sync::Wait;
 use std::thread::Threads;
 use std::time::Clock;
@@ -71,24 +72,23 @@ pub enum Beside {
 }
 
 /// Whether the move of the directory above returned while the call was held below, and helped it or found it committed.
-fn is_passed_by(both: &Both) -> bool {
-    let entries = both.closed.timeline.entries();
+fn is_passed_by(both: &Both) -> Option<bool> {
+    let entries = both.ended.closed.timeline.entries();
+    let (held, other) = both.answers()?;
     let is_ahead = is_before(
-        commit_place(entries, both.held.call),
-        commit_place(entries, both.other.call),
+        commit_place(entries, held.call),
+        commit_place(entries, other.call),
     );
-    let is_done = !matches!(both.held.reply, Reply::Failed(_))
-        && matches!(both.other.reply, Reply::Done);
-    both.found && is_ahead && is_done
+    let is_done = !matches!(held.reply, Reply::Failed(_)) && matches!(other.reply, Reply::Done);
+    Some(both.found && is_ahead && is_done)
 }
 
 /// Whether the call was held, where the timeline and the nodes are as they must be, and it was passed by if it can be.
 fn was_held(alloc: Global, both: &Both, before: usize, is_passed: bool) -> Option<bool> {
     let count = before.checked_add(2)?.checked_mul(3)?;
-    let is_right = both.closed.sessions == 3
-        && both.closed.timeline.entries().len() == count
-        && (!both.was_held || !is_passed || is_passed_by(both))
-        && is_played(alloc, &both.closed)?;
+    let is_right = has_counts(&both.ended.closed, 3, count)
+        && (!both.was_held || !is_passed || is_passed_by(both)?)
+        && is_played(alloc, &both.ended.closed)?;
     is_right.then_some(both.was_held)
 }
 
@@ -96,46 +96,51 @@ fn was_held(alloc: Global, both: &Both, before: usize, is_passed: bool) -> Optio
 fn is_held<R: Threads + Wait + Clock + Sync>(
     rt: &R,
     alloc: Global,
-    made: &[Call],
-    calls: (&Call, &Call),
+    parts: Parts<'_>,
     beside: Beside,
     after: u64,
 ) -> Option<bool> {
     let is_passed = beside == Beside::Move && after >= BELOW;
     let turns = if is_passed { TURNS } else { SHORT };
-    let both = meet(rt, alloc, made, calls, Hold { after, turns })?;
-    was_held(alloc, &both, made.len(), is_passed)
+    let both = meet(rt, alloc, parts, Hold { after, turns })?;
+    was_held(alloc, &both, parts.made.len(), is_passed)
 }
 
-/// How many events a call of some kind has, where all is as it must be, whichever of them it is held after.
+/// How many events a call has, where all is as it must be, whichever of them it is held after.
 fn events<R: Threads + Wait + Clock + Sync>(
     rt: &R,
     alloc: Global,
-    script: &Script,
-    kind: usize,
+    parts: Parts<'_>,
     beside: Beside,
 ) -> Option<u64> {
-    let made = calls_of(script, 0)?;
-    let held = calls_of(script, 1)?.get(kind)?;
-    let other = match beside {
-        Beside::Move => calls_of(script, 3)?.first()?,
-        Beside::Removal => calls_of(script, 2)?.get(kind)?,
-    };
     for after in 1..MOST_EVENTS {
-        if !is_held(rt, alloc, made, (held, other), beside, after)? {
+        if !is_held(rt, alloc, parts, beside, after)? {
             return Some(after - 1);
         }
     }
     None
 }
 
-/// The same of the call of some kind, by the script of this module.
+/// The parts that the script has for a call of some kind.
+fn parts_of(lists: &CallLists, kind: usize, beside: Beside) -> Option<Parts<'_>> {
+    let (thread, place) = match beside {
+        Beside::Move => (3, 0),
+        Beside::Removal => (2, kind),
+    };
+    Some(Parts {
+        made: calls_of(lists, 0)?,
+        held: slice::from_ref(calls_of(lists, 1)?.get(kind)?),
+        other: slice::from_ref(calls_of(lists, thread)?.get(place)?),
+    })
+}
+
+/// How many events the call of some kind has, by the script of this module.
 pub fn events_beside<R: Threads + Wait + Clock + Sync>(
     rt: &R,
     alloc: Global,
     kind: usize,
     beside: Beside,
 ) -> Option<u64> {
-    let script = read_script(alloc, CALLS).ok()?;
-    events(rt, alloc, &script, kind, beside)
+    let lists = lists_of(alloc, CALLS)?;
+    events(rt, alloc, parts_of(&lists, kind, beside)?, beside)
 }

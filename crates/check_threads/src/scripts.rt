@@ -29,28 +29,28 @@ const ROWS: [(&[u8], &[u8]); 7] = [
     ),
 ];
 
-/// What is written of a script, or the words of its fault; none where the timeline is not lawful, or where something is
-/// written although there is a fault.
-fn written<R: Threads + Wait + Clock + Sync>(
+/// Whether this is written of a script, or the words of its fault are this; not so where the timeline is not lawful, or where
+/// something is written although there is a fault.
+fn is_written<R: Threads + Wait + Clock + Sync>(
     rt: &R,
     alloc: Global,
-    text: &[u8],
-) -> Option<Vec<u8>> {
-    let mut reader = Device::new(text);
+    script: &[u8],
+    want: &[u8],
+) -> Option<bool> {
     let mut writer = Device::new(Vec::new(alloc));
-    match run_threads(rt, alloc, &mut reader, &mut writer) {
-        Ok(true) => Some(writer.inner),
-        Err(fault) if writer.inner.is_empty() => Some(
-            format!(in alloc; "{fault}").ok()?.into_bytes(),
-        ),
-        _ => None,
+    match run_threads(rt, alloc, &mut Device::new(script), &mut writer) {
+        Ok(lawful) => Some(lawful && writer.inner.as_slice() == want),
+        Err(fault) => {
+            let words = format!(in alloc; "{fault}").ok()?;
+            Some(writer.inner.is_empty() && words.as_bytes() == want)
+        }
     }
 }
 
 /// Whether each row is written so.
 pub fn are_written<R: Threads + Wait + Clock + Sync>(rt: &R, alloc: Global) -> Option<bool> {
     for (script, want) in ROWS {
-        if written(rt, alloc, script)?.as_slice() != want {
+        if !is_written(rt, alloc, script, want)? {
             return Some(false);
         }
     }

@@ -75,8 +75,7 @@ fn call(alloc: Global, at: &Place, reads: bool) -> Option<Call> {
 
 /// What the tree replies at a place.
 fn reply(alloc: Global, tree: &mut SeqTree, at: &Place, reads: bool) -> Option<Reply> {
-    let call = call(alloc, at, reads)?;
-    tree.apply(alloc, &call).ok()
+    tree.apply(alloc, &call(alloc, at, reads)?).ok()
 }
 
 /// Whether a reply has these bytes.
