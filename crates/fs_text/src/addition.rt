@@ -93,6 +93,15 @@ impl Addition {
         self.push(buffer.format(number).as_bytes())
     }
 
+    /// Appends bytes as they are, and a number behind them. The only error is out of memory.
+    pub(crate) fn push_with_number(&mut self, bytes: &[u8], number: u64) -> Result<(), AllocError>
+        ensures ok { OnOk result (self.new.added ≡ self.old.added ++ bytes.now ++ decimal number) }
+        ensures before { self.new.before ≡ self.old.before }
+    {
+        self.push(bytes)?;
+        self.push_number(number)
+    }
+
     /// Bytes of a file in hexadecimal digits.
     pub fn push_hex(&mut self, alloc: Global, bytes: &[u8]) -> Result<(), AllocError>
         ensures ok { OnOk result (self.new.added ≡ self.old.added ++ hex_word bytes.now) }

@@ -1,31 +1,108 @@
 //! Calls that are read from words.
 
-ghost use Rattle.std.specs.Prelude.{◌≡◌, map, option_map};
-ghost use Rattle.fs_text.specs.Calls.{one_path_of, two_paths_at, two_paths_of, a_number_at, a_number_of, two_numbers_at, two_numbers_of, number_and_bytes_at, number_and_bytes_of, call_of, form_of, longer_form_of, formed_call, argument_count, has_call_form};
+ghost use Rattle.std.specs.Prelude.{◌≡◌, ◌∷◌, [], map, option_map};
+ghost use Rattle.fs_calls.specs.declared.call.Call.TheVariants.{Rename, Read, Write, Truncate};
+ghost use Rattle.fs_text.specs.Calls.{one_path, two_paths, a_number, two_numbers, number_and_bytes, a_number_at, arguments_at, call_of, form_of, argument_count, has_call_form};
 ghost use Rattle.fs_text.specs.code.Answers.{Gives};
+ghost use Rattle.fs_text.specs.code.Forms.{call_on, form_meant};
 
 use crate::fault::FaultKind;
-use crate::words::{hex_at, number_at, path_at};
-use fs_calls::{Bytes, Call};
+use crate::words::{hex_at, is_word, number_at, path_at};
+use fs_calls::Call;
 use fs_names::Path;
 use std::alloc::Global;
 
-fn one_path(alloc: Global, words: &[&[u8]]) -> Result<Path, FaultKind>
-    ensures { Gives (λ p. p) result (one_path_of (map (λ w. w.now) words.now)) }
+/// The calls on one path.
+#[derive(Clone, Copy)]
+enum OnPath {
+    Mkdir,
+    Mknod,
+    Unlink,
+    Rmdir,
+    Stat,
+    Readdir,
+}
+
+/// What the first word of a call says: which call it is, and so what stands behind the word.
+#[derive(Clone, Copy)]
+enum Form {
+    OnPath(OnPath),
+    Rename,
+    Truncate,
+    Read,
+    Write,
+}
+
+fn form_of(word: &[u8]) -> Option<Form>
+    ensures { form_of word.now ≡ option_map form_meant result }
 {
-    match words {
-        [path] => path_at(alloc, path),
-        _ => Err(FaultKind::BadLine),
+    if is_word(word, b"mkdir") {
+        return Some(Form::OnPath(OnPath::Mkdir));
+    }
+    if is_word(word, b"mknod") {
+        return Some(Form::OnPath(OnPath::Mknod));
+    }
+    if is_word(word, b"unlink") {
+        return Some(Form::OnPath(OnPath::Unlink));
+    }
+    if is_word(word, b"rmdir") {
+        return Some(Form::OnPath(OnPath::Rmdir));
+    }
+    if is_word(word, b"stat") {
+        return Some(Form::OnPath(OnPath::Stat));
+    }
+    if is_word(word, b"readdir") {
+        return Some(Form::OnPath(OnPath::Readdir));
+    }
+    if is_word(word, b"rename") {
+        return Some(Form::Rename);
+    }
+    if is_word(word, b"read") {
+        return Some(Form::Read);
+    }
+    if is_word(word, b"write") {
+        return Some(Form::Write);
+    }
+    if is_word(word, b"truncate") {
+        return Some(Form::Truncate);
+    }
+    None
+}
+
+fn call_on(call: OnPath, path: Path) -> Call
+    ensures { result ≡ call_on call path }
+{
+    match call {
+        OnPath::Mkdir => Call::Mkdir(path),
+        OnPath::Mknod => Call::Mknod(path),
+        OnPath::Unlink => Call::Unlink(path),
+        OnPath::Rmdir => Call::Rmdir(path),
+        OnPath::Stat => Call::Stat(path),
+        OnPath::Readdir => Call::Readdir(path),
+    }
+}
+
+fn call_on_at(alloc: Global, call: OnPath, path: &[u8]) -> Result<Call, FaultKind>
+    ensures { Gives (λ call. call) result (arguments_at (one_path (call_on call)) (path.now ∷ [])) }
+{
+    match path_at(alloc, path) {
+        Ok(path) => Ok(call_on(call, path)),
+        Err(kind) => Err(kind),
     }
 }
 
 #[tactic(auto, using(crate::proofs::ReadLemmas::fails_bind))]
-fn two_paths_at(alloc: Global, from: &[u8], to: &[u8]) -> Result<(Path, Path), FaultKind>
-    ensures { Gives (λ p. (p.0, p.1)) result (two_paths_at from.now to.now) }
+fn rename_at(alloc: Global, from: &[u8], to: &[u8]) -> Result<Call, FaultKind>
+    ensures { Gives (λ call. call) result (arguments_at (two_paths Rename) (from.now ∷ to.now ∷ [])) }
 {
-    let from = path_at(alloc, from)?;
-    let to = path_at(alloc, to)?;
-    Ok((from, to))
+    let from = match path_at(alloc, from) {
+        Ok(from) => from,
+        Err(kind) => return Err(kind),
+    };
+    match path_at(alloc, to) {
+        Ok(to) => Ok(Call::Rename(from, to)),
+        Err(kind) => Err(kind),
+    }
 }
 
 fn a_number_at(alloc: Global, path: &[u8], size: &[u8]) -> Result<(Path, u64), FaultKind>
@@ -35,102 +112,58 @@ fn a_number_at(alloc: Global, path: &[u8], size: &[u8]) -> Result<(Path, u64), F
         Ok(path) => path,
         Err(kind) => return Err(kind),
     };
-    let size = match number_at(size) {
-        Ok(size) => size,
-        Err(kind) => return Err(kind),
-    };
-    Ok((path, size))
+    match number_at(size) {
+        Ok(size) => Ok((path, size)),
+        Err(kind) => Err(kind),
+    }
 }
 
-fn two_numbers_at(
-    alloc: Global,
-    path: &[u8],
-    off: &[u8],
-    count: &[u8],
-) -> Result<(Path, u64, u64), FaultKind>
-    ensures { Gives (λ p. (p.0, p.1, p.2)) result (two_numbers_at path.now off.now count.now) }
+fn truncate_at(alloc: Global, path: &[u8], size: &[u8]) -> Result<Call, FaultKind>
+    ensures { Gives (λ call. call) result (arguments_at (a_number Truncate) (path.now ∷ size.now ∷ [])) }
+{
+    match a_number_at(alloc, path, size) {
+        Ok((path, size)) => Ok(Call::Truncate(path, size)),
+        Err(kind) => Err(kind),
+    }
+}
+
+fn read_at(alloc: Global, path: &[u8], off: &[u8], count: &[u8]) -> Result<Call, FaultKind>
+    ensures { Gives (λ call. call) result (arguments_at (two_numbers Read) (path.now ∷ off.now ∷ count.now ∷ [])) }
 {
     let (path, off) = match a_number_at(alloc, path, off) {
         Ok(both) => both,
         Err(kind) => return Err(kind),
     };
-    let count = match number_at(count) {
-        Ok(count) => count,
+    match number_at(count) {
+        Ok(count) => Ok(Call::Read(path, off, count)),
+        Err(kind) => Err(kind),
+    }
+}
+
+fn write_at(alloc: Global, path: &[u8], off: &[u8], bytes: &[u8]) -> Result<Call, FaultKind>
+    ensures { Gives (λ call. call) result (arguments_at (number_and_bytes Write) (path.now ∷ off.now ∷ bytes.now ∷ [])) }
+{
+    let (path, off) = match a_number_at(alloc, path, off) {
+        Ok(both) => both,
         Err(kind) => return Err(kind),
     };
-    Ok((path, off, count))
+    match hex_at(alloc, bytes) {
+        Ok(bytes) => Ok(Call::Write(path, off, bytes)),
+        Err(kind) => Err(kind),
+    }
 }
 
-fn number_and_bytes_at(
-    alloc: Global,
-    path: &[u8],
-    off: &[u8],
-    bytes: &[u8],
-) -> Result<(Path, u64, Bytes), FaultKind>
-    ensures { Gives (λ p. (p.0, p.1, p.2)) result (number_and_bytes_at path.now off.now bytes.now) }
+fn arguments_at(alloc: Global, form: Form, words: &[&[u8]]) -> Result<Call, FaultKind>
+    ensures { Gives (λ call. call) result (arguments_at (form_meant form) (map (λ w. w.now) words.now)) }
 {
-    let path = path_at(alloc, path)?;
-    let off = number_at(off)?;
-    let bytes = hex_at(alloc, bytes)?;
-    Ok((path, off, bytes))
-}
-
-fn two_paths(alloc: Global, words: &[&[u8]]) -> Result<(Path, Path), FaultKind>
-    ensures { Gives (λ p. (p.0, p.1)) result (two_paths_of (map (λ w. w.now) words.now)) }
-{
-    match words {
-        [from, to] => two_paths_at(alloc, from, to),
+    match (form, words) {
+        (Form::OnPath(call), [path]) => call_on_at(alloc, call, path),
+        (Form::Rename, [from, to]) => rename_at(alloc, from, to),
+        (Form::Truncate, [path, size]) => truncate_at(alloc, path, size),
+        (Form::Read, [path, off, count]) => read_at(alloc, path, off, count),
+        (Form::Write, [path, off, bytes]) => write_at(alloc, path, off, bytes),
         _ => Err(FaultKind::BadLine),
     }
-}
-
-fn a_number(alloc: Global, words: &[&[u8]]) -> Result<(Path, u64), FaultKind>
-    ensures { Gives (λ p. (p.0, p.1)) result (a_number_of (map (λ w. w.now) words.now)) }
-{
-    match words {
-        [path, size] => a_number_at(alloc, path, size),
-        _ => Err(FaultKind::BadLine),
-    }
-}
-
-fn two_numbers(alloc: Global, words: &[&[u8]]) -> Result<(Path, u64, u64), FaultKind>
-    ensures { Gives (λ p. (p.0, p.1, p.2)) result (two_numbers_of (map (λ w. w.now) words.now)) }
-{
-    match words {
-        [path, off, count] => two_numbers_at(alloc, path, off, count),
-        _ => Err(FaultKind::BadLine),
-    }
-}
-
-fn number_and_bytes(alloc: Global, words: &[&[u8]]) -> Result<(Path, u64, Bytes), FaultKind>
-    ensures { Gives (λ p. (p.0, p.1, p.2)) result (number_and_bytes_of (map (λ w. w.now) words.now)) }
-{
-    match words {
-        [path, off, bytes] => number_and_bytes_at(alloc, path, off, bytes),
-        _ => Err(FaultKind::BadLine),
-    }
-}
-
-fn longer_call_at(alloc: Global, first: &[u8], more: &[&[u8]]) -> Result<Call, FaultKind>
-    ensures { Gives (λ call. call) result (formed_call (longer_form_of first.now) (map (λ w. w.now) more.now)) }
-{
-    if first == b"rename".as_slice() {
-        let (from, to) = two_paths(alloc, more)?;
-        return Ok(Call::Rename(from, to));
-    }
-    if first == b"read".as_slice() {
-        let (path, off, count) = two_numbers(alloc, more)?;
-        return Ok(Call::Read(path, off, count));
-    }
-    if first == b"write".as_slice() {
-        let (path, off, bytes) = number_and_bytes(alloc, more)?;
-        return Ok(Call::Write(path, off, bytes));
-    }
-    if first == b"truncate".as_slice() {
-        let (path, size) = a_number(alloc, more)?;
-        return Ok(Call::Truncate(path, size));
-    }
-    Err(FaultKind::BadLine)
 }
 
 /// The call that words spell.
@@ -141,50 +174,21 @@ pub fn call_at(alloc: Global, words: &[&[u8]]) -> Result<Call, FaultKind>
     let [first, more @ ..] = words else {
         return Err(FaultKind::BadLine);
     };
-    if *first == b"mkdir".as_slice() {
-        return Ok(Call::Mkdir(one_path(alloc, more)?));
+    match form_of(first) {
+        Some(form) => arguments_at(alloc, form, more),
+        None => Err(FaultKind::BadLine),
     }
-    if *first == b"mknod".as_slice() {
-        return Ok(Call::Mknod(one_path(alloc, more)?));
-    }
-    if *first == b"unlink".as_slice() {
-        return Ok(Call::Unlink(one_path(alloc, more)?));
-    }
-    if *first == b"rmdir".as_slice() {
-        return Ok(Call::Rmdir(one_path(alloc, more)?));
-    }
-    if *first == b"stat".as_slice() {
-        return Ok(Call::Stat(one_path(alloc, more)?));
-    }
-    if *first == b"readdir".as_slice() {
-        return Ok(Call::Readdir(one_path(alloc, more)?));
-    }
-    longer_call_at(alloc, first, more)
 }
 
 /// How many words stand behind the first word of a call.
-fn argument_count(first: &[u8]) -> Option<usize>
-    ensures { result ≡ option_map argument_count (form_of first.now) }
+fn argument_count(form: Form) -> usize
+    ensures { result ≡ argument_count (form_meant form) }
 {
-    if first == b"mkdir".as_slice()
-        || first == b"mknod".as_slice()
-        || first == b"unlink".as_slice()
-        || first == b"rmdir".as_slice()
-        || first == b"stat".as_slice()
-        || first == b"readdir".as_slice()
-    {
-        return Some(1);
+    match form {
+        Form::OnPath(_) => 1,
+        Form::Rename | Form::Truncate => 2,
+        Form::Read | Form::Write => 3,
     }
-    if first == b"rename".as_slice() {
-        return Some(2);
-    }
-    if first == b"read".as_slice() || first == b"write".as_slice() {
-        return Some(3);
-    }
-    if first == b"truncate".as_slice() {
-        return Some(2);
-    }
-    None
 }
 
 /// Whether the first word is a call's, with the right number of words behind it.
@@ -193,8 +197,8 @@ pub(crate) fn has_call_form(words: &[&[u8]]) -> bool
 {
     match words {
         [] => false,
-        [first, more @ ..] => match argument_count(first) {
-            Some(count) => more.len() == count,
+        [first, more @ ..] => match form_of(first) {
+            Some(form) => more.len() == argument_count(form),
             None => false,
         },
     }

@@ -1,17 +1,16 @@
 //! Journals that are read from their text.
 
-ghost use Rattle.std.specs.Prelude.{◌≡◌, ◌++◌, ◌∷◌, [], ◌≤◌, length, map, MatchResult};
+ghost use Rattle.std.specs.Prelude.{◌≡◌, ◌≤◌, length, map};
 ghost use Rattle.fs_text.specs.Lines.{lines_of};
-ghost use Rattle.fs_text.specs.Journal.{begin_at, begin_of, commit_of, return_of, entry_of, entry_in_line, entries_from, entries_of, is_tree_line};
+ghost use Rattle.fs_text.specs.Journal.{begin_at, begin_of, commit_of, return_of, entry_of, entry_in_line, entries_from, entries_of};
 ghost use Rattle.fs_text.specs.code.Answers.{Gives, GivesText};
-ghost use Rattle.fs_text.specs.declared.fault.FaultKind.TheVariants as kind;
 
 use crate::calls::{call_at, has_call_form};
 use crate::fault::{FaultKind, ScriptFault};
 use crate::limits::TEXT_LIMIT;
-use crate::lines::{cut_line, cut_words, is_passed_over};
+use crate::lines::{cut_line, cut_words, is_passed_over, push_item};
 use crate::replies::reply_at;
-use crate::words::number_at;
+use crate::words::{is_word, number_at};
 use fs_names::{CallNo, SeatNo};
 use fs_timeline::Entry;
 use std::alloc::Global;
@@ -62,11 +61,11 @@ fn entry_at(alloc: Global, words: &[&[u8]]) -> Result<Entry, FaultKind>
     match words {
         [] => Err(FaultKind::BadLine),
         [first, more @ ..] => {
-            if *first == b"begin".as_slice() {
+            if is_word(first, b"begin") {
                 begin_of(alloc, more)
-            } else if *first == b"commit".as_slice() {
+            } else if is_word(first, b"commit") {
                 commit_of(more)
-            } else if *first == b"return".as_slice() {
+            } else if is_word(first, b"return") {
                 return_of(alloc, more)
             } else {
                 Err(FaultKind::BadLine)
@@ -89,21 +88,6 @@ fn entry_in<'a>(
     entry_at(alloc, words.as_slice())
 }
 
-fn push_entry(entries: &mut Vec<Entry>, entry: Entry) -> Result<(), FaultKind>
-    ensures { MatchResult result (λ _. entries.new.items ≡ entries.old.items ++ entry ∷ []) (λ e. e ≡ kind.OutOfMemory) }
-{
-    match entries.push(entry) {
-        Ok(()) => Ok(()),
-        Err(_) => Err(FaultKind::OutOfMemory),
-    }
-}
-
-fn is_tree_line(line: &[u8]) -> bool
-    ensures { result ≡ is_tree_line line.now }
-{
-    line == b"tree".as_slice()
-}
-
 /// The entries that lines spell, of which the first has the number 2.
 fn entries_in(alloc: Global, text: &[u8]) -> Result<Vec<Entry>, ScriptFault>
     requires { length text.now ≤ TEXT_LIMIT }
@@ -119,14 +103,14 @@ fn entries_in(alloc: Global, text: &[u8]) -> Result<Vec<Entry>, ScriptFault>
             number += 1;
             continue;
         }
-        if is_tree_line(line) {
+        if is_word(line, b"tree") {
             return Ok(entries);
         }
         let entry = match entry_in(alloc, line, &mut words) {
             Ok(entry) => entry,
             Err(kind) => return Err(ScriptFault { line: number, kind }),
         };
-        if let Err(kind) = push_entry(&mut entries, entry) {
+        if let Err(kind) = push_item(&mut entries, entry) {
             return Err(ScriptFault { line: number, kind });
         }
         rest = more;

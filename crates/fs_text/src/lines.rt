@@ -1,6 +1,6 @@
 //! Lines of a text, and words of a line.
 
-ghost use Rattle.std.specs.Prelude.{◌≡◌, ◌<◌, ◌++◌, ◌∷◌, [], length, map, position, MatchOption};
+ghost use Rattle.std.specs.Prelude.{◌≡◌, ◌<◌, ◌++◌, ◌∷◌, [], length, map, position, MatchOption, MatchResult};
 ghost use Rattle.fs_text.specs.Lines.{lines_of, is_line_feed, is_space, is_passed_over};
 ghost use Rattle.fs_text.specs.Journal.{words_of};
 ghost use Rattle.fs_text.specs.code.Answers.{Becomes, pushed_word};
@@ -46,6 +46,16 @@ fn word_end(line: &[u8]) -> Option<usize>
     memchr(b' ', line)
 }
 
+/// Adds an item. The only error is out of memory.
+pub(crate) fn push_item<T: Drop>(items: &mut Vec<T>, item: T) -> Result<(), FaultKind>
+    ensures { MatchResult result (λ _. items.new.items ≡ items.old.items ++ item ∷ []) (λ e. e ≡ kind.OutOfMemory) }
+{
+    match items.push(item) {
+        Ok(()) => Ok(()),
+        Err(_) => Err(FaultKind::OutOfMemory),
+    }
+}
+
 /// Adds a word, unless it is empty: then a space stands where none may.
 fn push_word<'a>(words: &mut Vec<&'a [u8]>, word: &'a [u8]) -> Result<(), FaultKind>
     ensures { Becomes result (map (λ w. w.now) words.new.items) (pushed_word (map (λ w. w.now) words.old.items) word.now) }
@@ -53,10 +63,7 @@ fn push_word<'a>(words: &mut Vec<&'a [u8]>, word: &'a [u8]) -> Result<(), FaultK
     if word.is_empty() {
         return Err(FaultKind::BadLine);
     }
-    match words.push(word) {
-        Ok(()) => Ok(()),
-        Err(_) => Err(FaultKind::OutOfMemory),
-    }
+    push_item(words, word)
 }
 
 /// Puts the words of a line in the place of those of the line before it, whose memory is used again.

@@ -1,12 +1,12 @@
 //! Replies that are read from words.
 
-ghost use Rattle.std.specs.Prelude.{◌≡◌, ◌++◌, ◌∷◌, [], map, MatchResult};
+ghost use Rattle.std.specs.Prelude.{◌≡◌, map};
 ghost use Rattle.fs_text.specs.Journal.{kind_named, errno_of, stated_at, stated_of, names_at, names_of, bytes_of, wrote_of, failed_of, done_of, reply_of};
 ghost use Rattle.fs_text.specs.code.Answers.{Gives};
-ghost use Rattle.fs_text.specs.declared.fault.FaultKind.TheVariants as kind;
 
 use crate::fault::FaultKind;
-use crate::words::{hex_at, name_at, number_at};
+use crate::lines::push_item;
+use crate::words::{hex_at, is_word, name_at, number_at};
 use fs_calls::{Errno, NameList, Reply};
 use fs_names::{Kind, Name};
 use std::alloc::Global;
@@ -14,10 +14,10 @@ use std::alloc::Global;
 fn kind_named(word: &[u8]) -> Option<Kind>
     ensures { result ≡ kind_named word.now }
 {
-    if word == b"dir".as_slice() {
+    if is_word(word, b"dir") {
         return Some(Kind::Dir);
     }
-    if word == b"file".as_slice() {
+    if is_word(word, b"file") {
         return Some(Kind::File);
     }
     None
@@ -26,34 +26,34 @@ fn kind_named(word: &[u8]) -> Option<Kind>
 fn errno_of(word: &[u8]) -> Option<Errno>
     ensures { result ≡ errno_of word.now }
 {
-    if word == b"ENOENT".as_slice() {
+    if is_word(word, b"ENOENT") {
         return Some(Errno::Enoent);
     }
-    if word == b"ENOTDIR".as_slice() {
+    if is_word(word, b"ENOTDIR") {
         return Some(Errno::Enotdir);
     }
-    if word == b"EEXIST".as_slice() {
+    if is_word(word, b"EEXIST") {
         return Some(Errno::Eexist);
     }
-    if word == b"ENOTEMPTY".as_slice() {
+    if is_word(word, b"ENOTEMPTY") {
         return Some(Errno::Enotempty);
     }
-    if word == b"EISDIR".as_slice() {
+    if is_word(word, b"EISDIR") {
         return Some(Errno::Eisdir);
     }
-    if word == b"EINVAL".as_slice() {
+    if is_word(word, b"EINVAL") {
         return Some(Errno::Einval);
     }
-    if word == b"EBUSY".as_slice() {
+    if is_word(word, b"EBUSY") {
         return Some(Errno::Ebusy);
     }
-    if word == b"EPERM".as_slice() {
+    if is_word(word, b"EPERM") {
         return Some(Errno::Eperm);
     }
-    if word == b"ENOSPC".as_slice() {
+    if is_word(word, b"ENOSPC") {
         return Some(Errno::Enospc);
     }
-    if word == b"EFBIG".as_slice() {
+    if is_word(word, b"EFBIG") {
         return Some(Errno::Efbig);
     }
     None
@@ -84,15 +84,6 @@ fn stated_of(words: &[&[u8]]) -> Result<Reply, FaultKind>
     }
 }
 
-fn push_name(names: &mut Vec<Name>, name: Name) -> Result<(), FaultKind>
-    ensures { MatchResult result (λ _. names.new.items ≡ names.old.items ++ name ∷ []) (λ e. e ≡ kind.OutOfMemory) }
-{
-    match names.push(name) {
-        Ok(()) => Ok(()),
-        Err(_) => Err(FaultKind::OutOfMemory),
-    }
-}
-
 fn names_at(alloc: Global, words: &[&[u8]]) -> Result<Vec<Name>, FaultKind>
     ensures { Gives (λ names. names.items) result (names_at (map (λ w. w.now) words.now)) }
 {
@@ -105,7 +96,7 @@ fn names_at(alloc: Global, words: &[&[u8]]) -> Result<Vec<Name>, FaultKind>
             Ok(name) => name,
             Err(kind) => return Err(kind),
         };
-        if let Err(kind) = push_name(&mut names, name) {
+        if let Err(kind) = push_item(&mut names, name) {
             return Err(kind);
         }
         at += 1;
@@ -157,22 +148,22 @@ pub(crate) fn reply_at(alloc: Global, words: &[&[u8]]) -> Result<Reply, FaultKin
     let [first, more @ ..] = words else {
         return Err(FaultKind::BadReply);
     };
-    if *first == b"ok".as_slice() {
+    if is_word(first, b"ok") {
         return done_of(more);
     }
-    if *first == b"stat".as_slice() {
+    if is_word(first, b"stat") {
         return stated_of(more);
     }
-    if *first == b"names".as_slice() {
+    if is_word(first, b"names") {
         return names_of(alloc, more);
     }
-    if *first == b"bytes".as_slice() {
+    if is_word(first, b"bytes") {
         return bytes_of(alloc, more);
     }
-    if *first == b"wrote".as_slice() {
+    if is_word(first, b"wrote") {
         return wrote_of(more);
     }
-    if *first == b"failed".as_slice() {
+    if is_word(first, b"failed") {
         return failed_of(more);
     }
     Err(FaultKind::BadReply)

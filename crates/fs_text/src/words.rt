@@ -2,6 +2,7 @@
 
 ghost use Rattle.std.specs.Prelude.{◌≡◌, ◌<◌, ◌+◌, ◌%◌, length, take, drop, Some, None, Ok, true, IsTrue, MatchResult};
 ghost use Rattle.std.specs.List.{list_all};
+ghost use Rattle.std.specs.Str.{bytes_eq};
 ghost use Rattle.std.specs.Char.{is_ascii_digit};
 ghost use Rattle.fs_text.specs.Words.{is_number_text, number_of};
 ghost use Rattle.hex.specs.Hex.{is_hex_digit, decode_of};
@@ -28,6 +29,13 @@ pub fn parts(bytes: &[u8], at: usize) -> (&[u8], &[u8])
     ensures back { result.1.now ≡ drop (at + 1) bytes.now }
 {
     (&bytes[..at], &bytes[at + 1..])
+}
+
+/// Whether a word has this text.
+pub(crate) fn is_word(word: &[u8], text: &[u8]) -> bool
+    ensures { result ≡ bytes_eq word.now text.now }
+{
+    word == text
 }
 
 fn all_digits(word: &[u8]) -> bool
@@ -93,7 +101,7 @@ fn bytes_at(alloc: Global, word: &[u8]) -> Result<Bytes, FaultKind>
 pub(crate) fn hex_at(alloc: Global, word: &[u8]) -> Result<Bytes, FaultKind>
     ensures { Gives (λ bytes. bytes) result (hex_at word.now) }
 {
-    if word == b"-".as_slice() {
+    if is_word(word, b"-") {
         return Ok(Bytes::new(Vec::new(alloc)));
     }
     if word.is_empty() {

@@ -68,10 +68,8 @@ fn push_call(alloc: Global, call: &Call, line: &mut Addition) -> Result<(), Allo
         Call::Read(path, off, count) => push_read(alloc, path, *off, *count, line),
         Call::Write(path, off, bytes) => push_write(alloc, path, *off, bytes.as_slice(), line),
         Call::Truncate(path, size) => {
-            line.push(b"truncate ")?;
-            push_path(alloc, path, line)?;
-            line.push(b" ")?;
-            line.push_number(*size)
+            push_with_path(alloc, b"truncate ", path, line)?;
+            line.push_with_number(b" ", *size)
         }
     }
 }
@@ -80,10 +78,8 @@ fn push_rename(alloc: Global, from: &Path, to: &Path, line: &mut Addition) -> Re
     ensures ok { OnOk result (line.new.added ≡ line.old.added ++ join_with_byte 32 (call_words (Rename from.now to.now))) }
     ensures before { line.new.before ≡ line.old.before }
 {
-    line.push(b"rename ")?;
-    push_path(alloc, from, line)?;
-    line.push(b" ")?;
-    push_path(alloc, to, line)
+    push_with_path(alloc, b"rename ", from, line)?;
+    push_with_path(alloc, b" ", to, line)
 }
 
 fn push_read(
@@ -96,12 +92,9 @@ fn push_read(
     ensures ok { OnOk result (line.new.added ≡ line.old.added ++ join_with_byte 32 (call_words (Read path.now off count))) }
     ensures before { line.new.before ≡ line.old.before }
 {
-    line.push(b"read ")?;
-    push_path(alloc, path, line)?;
-    line.push(b" ")?;
-    line.push_number(off)?;
-    line.push(b" ")?;
-    line.push_number(count)
+    push_with_path(alloc, b"read ", path, line)?;
+    line.push_with_number(b" ", off)?;
+    line.push_with_number(b" ", count)
 }
 
 fn push_write(
@@ -114,10 +107,8 @@ fn push_write(
     ensures ok { OnOk result (line.new.added ≡ line.old.added ++ join_with_byte 32 (call_words (Write path.now off bytes.now))) }
     ensures before { line.new.before ≡ line.old.before }
 {
-    line.push(b"write ")?;
-    push_path(alloc, path, line)?;
-    line.push(b" ")?;
-    line.push_number(off)?;
+    push_with_path(alloc, b"write ", path, line)?;
+    line.push_with_number(b" ", off)?;
     line.push(b" ")?;
     line.push_hex(alloc, bytes)
 }
@@ -169,8 +160,7 @@ fn push_reply(alloc: Global, reply: &Reply, line: &mut Addition) -> Result<(), A
         Reply::Stat(kind, size) => {
             line.push(b"stat ")?;
             line.push(kind_text(*kind))?;
-            line.push(b" ")?;
-            line.push_number(*size)
+            line.push_with_number(b" ", *size)
         }
         Reply::Names(names) => {
             line.push(b"names")?;
@@ -180,10 +170,7 @@ fn push_reply(alloc: Global, reply: &Reply, line: &mut Addition) -> Result<(), A
             line.push(b"bytes ")?;
             line.push_hex(alloc, bytes.as_slice())
         }
-        Reply::Wrote(size) => {
-            line.push(b"wrote ")?;
-            line.push_number(*size)
-        }
+        Reply::Wrote(size) => line.push_with_number(b"wrote ", *size),
         Reply::Failed(errno) => {
             line.push(b"failed ")?;
             line.push(errno_text(*errno))
@@ -197,20 +184,16 @@ fn push_entry(alloc: Global, entry: &Entry, line: &mut Addition) -> Result<(), A
 {
     match entry {
         Entry::Begin(call_no, seat, call) => {
-            line.push(b"begin ")?;
-            line.push_number(call_no.get())?;
-            line.push(b" ")?;
-            line.push_number(seat.get())?;
+            line.push_with_number(b"begin ", call_no.get())?;
+            line.push_with_number(b" ", seat.get())?;
             line.push(b" ")?;
             push_call(alloc, call, line)?;
         }
         Entry::Commit(call_no) => {
-            line.push(b"commit ")?;
-            line.push_number(call_no.get())?;
+            line.push_with_number(b"commit ", call_no.get())?;
         }
         Entry::Return(call_no, reply) => {
-            line.push(b"return ")?;
-            line.push_number(call_no.get())?;
+            line.push_with_number(b"return ", call_no.get())?;
             line.push(b" ")?;
             push_reply(alloc, reply, line)?;
         }

@@ -13,28 +13,28 @@ lines-preserved-then-is_passed_over c =
       numbered = omega (arith, cut.1);
     }
 
-pub returns-then-is_tree_line : goal.returns-then-is_tree_line
-returns-then-is_tree_line c =
+pub returns-then-is_word : goal.returns-then-is_word
+returns-then-is_word c =
     let cut = c.in-Some.ensures in
     let passed : is_passed_over c.in-Some.line.now ≡ false = sym c.is_passed_over.ensures ∙ c.if-is_passed_over.false in
-    let tree : is_tree_line c.in-Some.line.now ≡ true = sym c.is_tree_line.ensures ∙ c.if-is_tree_line.true in
+    let tree : is_tree_line c.in-Some.line.now ≡ true = sym c.is_word.ensures ∙ c.if-is_word.true in
     after_tree _ c.lines.entries.items c.lines.number (lines_of c.lines.rest.now) c.in-Some.line.now (lines_of c.in-Some.more.now) c.lines.invariant.so_far cut.0 passed tree
 
 pub returns-in-Err : goal.returns-in-Err
 returns-in-Err c =
     let cut = c.in-Some.ensures in
     let passed : is_passed_over c.in-Some.line.now ≡ false = sym c.is_passed_over.ensures ∙ c.if-is_passed_over.false in
-    let tree : is_tree_line c.in-Some.line.now ≡ false = sym c.is_tree_line.ensures ∙ c.if-is_tree_line.false in
+    let tree : is_tree_line c.in-Some.line.now ≡ false = sym c.is_word.ensures ∙ c.if-is_word.false in
     after_fault _ c.lines.entries.items c.lines.number (lines_of c.lines.rest.now) c.in-Some.line.now (lines_of c.in-Some.more.now) c.in-Err.kind c.lines.invariant.so_far cut.0 passed tree c.in-Err.ensures
 
 pub lines-preserved : goal.lines-preserved
 lines-preserved c =
     let cut = c.in-Some.ensures in
     let passed : is_passed_over c.in-Some.line.now ≡ false = sym c.is_passed_over.ensures ∙ c.if-is_passed_over.false in
-    let tree : is_tree_line c.in-Some.line.now ≡ false = sym c.is_tree_line.ensures ∙ c.if-is_tree_line.false in
+    let tree : is_tree_line c.in-Some.line.now ≡ false = sym c.is_word.ensures ∙ c.if-is_word.false in
     let grown = after_entry _ c.lines.entries.items c.lines.number (lines_of c.lines.rest.now) c.in-Some.line.now (lines_of c.in-Some.more.now) c.in-Ok.entry c.lines.invariant.so_far cut.0 passed tree c.in-Ok.ensures in
     record {
-      so_far = rw (c.in_default-push_entry.ensures) grown;
+      so_far = rw (c.in_default-push_item.ensures) grown;
       numbered = omega (arith, cut.1);
     }
 
