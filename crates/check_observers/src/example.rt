@@ -2,25 +2,14 @@
 
 use fs_calls::{Call, Reply};
 use fs_names::{Kind, Path};
-use fs_share::{AtomFs, Named, Observer, Open, Session, Stamp};
+use fs_share::{AtomFs, Named, Open, Session, Stamp};
 use std::alloc::Global;
 use std::sync::Wait;
 use std::thread;
 use std::thread::Threads;
 use std::time::Clock;
 
-/// Whether an observer that learns a stamp shows an empty directory.
-fn shows<N: Named>(
-    alloc: Global,
-    observer: &mut Observer<N>,
-    stamp: &Stamp<N>,
-    path: &Path,
-) -> bool {
-    observer.learn(stamp);
-    matches!(observer.stat(alloc, path), Ok(Reply::Stat(Kind::Dir, 0)))
-}
-
-/// Whether any thread that is handed the stamp is shown the directory.
+/// Whether an observer that is handed a stamp is shown an empty directory.
 fn is_shown<N: Named, R: Wait>(
     rt: &R,
     alloc: Global,
@@ -28,32 +17,27 @@ fn is_shown<N: Named, R: Wait>(
     stamp: &Stamp<N>,
 ) -> Option<bool> {
     let path = Path::parse(alloc, b"/a").ok()?;
-    match fs.observer(rt) {
-        Ok(mut observer) => Some(shows(alloc, &mut observer, stamp, &path)),
-        Err(_) => None,
-    }
+    let mut observer = fs.observer(rt).ok()?;
+    observer.learn(stamp);
+    Some(matches!(observer.stat(alloc, &path), Ok(Reply::Stat(Kind::Dir, 0))))
 }
 
-/// Makes a directory by a call that is told.
-fn make<N: Named, R: Wait + Clock>(
+/// The stamp of a call that is told.
+fn tell<N: Named, R: Wait + Clock>(
     rt: &R,
     alloc: Global,
     session: &mut Session<'_, N>,
-    path: Path,
+    call: &Call,
 ) -> Option<Stamp<N>> {
-    match session.call_told(rt, alloc, &Call::Mkdir(path), &Open) {
-        Ok(told) => told.stamp,
-        Err(_) => None,
-    }
+    let told = session.call_told(rt, alloc, call, &Open).ok()?;
+    told.stamp
 }
 
-/// The stamp of the directory that is made.
-fn made<N: Named, R: Wait + Clock>(rt: &R, alloc: Global, fs: &AtomFs<N>) -> Option<Stamp<N>> {
-    let path = Path::parse(alloc, b"/a").ok()?;
-    match fs.session(rt) {
-        Ok(mut session) => make(rt, alloc, &mut session, path),
-        Err(_) => None,
-    }
+/// Makes a directory by such a call.
+fn make<N: Named, R: Wait + Clock>(rt: &R, alloc: Global, fs: &AtomFs<N>) -> Option<Stamp<N>> {
+    let call = Call::Mkdir(Path::parse(alloc, b"/a").ok()?);
+    let mut session = fs.session(rt).ok()?;
+    tell(rt, alloc, &mut session, &call)
 }
 
 /// Whether two threads that are handed the stamp are both shown what was made.
@@ -62,7 +46,7 @@ pub fn is_handed_on<N: Named + Send + Sync, R: Threads + Wait + Clock + Sync>(
     alloc: Global,
     fs: &AtomFs<N>,
 ) -> Option<bool> {
-    let stamp = made(rt, alloc, fs)?;
+    let stamp = make(rt, alloc, fs)?;
     let (one, other) = thread::join(
         rt,
         || is_shown(rt, alloc, fs, &stamp),
