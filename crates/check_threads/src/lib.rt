@@ -58,7 +58,7 @@ fn say_parked<R: Print + Threads + Wait + Clock + Sync>(
     Ok(())
 }
 
-/// Runs all of this, and writes how it came out.
+/// Writes of each part how it came out, in this order.
 fn say_all<R: Print + Threads + Wait + Clock + Sync>(rt: &R, alloc: Global) -> io::Result<()> {
     let sessions = answers::are_right(rt, alloc);
     say(
@@ -89,7 +89,7 @@ fn say_all<R: Print + Threads + Wait + Clock + Sync>(rt: &R, alloc: Global) -> i
     say(rt, "twenty thousand drawn calls are lawful", drawn)
 }
 
-/// The same, for a program.
+/// Runs all of this, and writes how it came out.
 pub fn run<R: Print + Threads + Wait + Clock + Sync>(rt: &R, alloc: Global) -> anyhow::Result<()> {
     Ok(say_all(rt, alloc)?)
 }

@@ -1,49 +1,48 @@
 //! Why a text is no script, or no journal.
 
 use fs_names::PathFault;
-use std::fmt::{self, Display, Formatter, Write};
 use thiserror::Error;
 
 /// What is wrong with a line of a text.
-#[derive(Clone, Copy, Debug, PartialEq, Eq)]
+#[derive(Clone, Copy, Debug, PartialEq, Eq, Error)]
 pub enum FaultKind {
     /// The first line is another than it has to be.
+    #[error("BadHeader")]
     BadHeader,
     /// The line has a form that no line has at its place.
+    #[error("BadLine")]
     BadLine,
     /// The name of a thread is none.
+    #[error("BadThread")]
     BadThread,
     /// The thread has a block already.
+    #[error("ThreadTwice")]
     ThreadTwice,
     /// A word is no path: the first check that it fails.
+    #[error("BadPath {0}")]
     BadPath(PathFault),
     /// A word is no number below 2^64 without a leading zero.
+    #[error("BadNumber")]
     BadNumber,
     /// A word is neither `-` nor pairs of hexadecimal digits.
+    #[error("BadHex")]
     BadHex,
     /// The script ends without a line `schedule`.
+    #[error("NoSchedule")]
     NoSchedule,
     /// A word of the schedule is none.
+    #[error("BadWord")]
     BadWord,
     /// A limit is passed.
+    #[error("TooLarge")]
     TooLarge,
     /// An allocation failed. It says nothing of the text.
+    #[error("OutOfMemory")]
     OutOfMemory,
     /// What a call returned has another form than a reply, or holds a name that is none.
+    #[error("BadReply")]
     BadReply,
 }
-
-/// The name of the fault, and of a path the check that it fails.
-impl Display for FaultKind {
-    fn fmt<W: Write>(&self, f: &mut Formatter<W>) -> fmt::Result {
-        match self {
-            FaultKind::BadPath(fault) => write!(f, "BadPath {fault}"),
-            other => write!(f, "{other:?}"),
-        }
-    }
-}
-
-impl std::error::Error for FaultKind {}
 
 /// The first fault of a text, with its line, counted from 1. Out of memory has the line that was read when the allocation failed.
 #[derive(Clone, Copy, Debug, PartialEq, Eq, Error)]
