@@ -27,24 +27,41 @@ const NAMES: [&str; 10] = [
     "bench",
 ];
 
-/// Runs a library.
-fn run<R: Files + AllocGlobal + Clone + Drop + Print + Threads + Wait + Clock + Sync>(
-    rt: &R,
-    name: &str,
-) -> Result<()> {
-    let alloc = rt.alloc();
+/// Runs a library that needs nothing but an output.
+fn run_alone(rt: &impl Print, alloc: Global, name: &str) -> Result<()> {
     match name {
-        "transcripts" => check_transcripts::run(rt),
-        "texts" => check_texts::run(rt),
-        "worked" => check_worked::run(rt),
         "generated" => check_generated::run(rt, alloc),
         "stores" => check_stores::run(rt, alloc),
         "schedules" => check_schedules::run(rt, alloc),
+        _ => bail!("{name}: no library of checks"),
+    }
+}
+
+/// The same, or one that starts threads.
+fn run_on_threads<R: Print + Threads + Wait + Clock + Sync>(
+    rt: &R,
+    alloc: Global,
+    name: &str,
+) -> Result<()> {
+    match name {
         "threads" => check_threads::run(rt, alloc),
         "observers" => check_observers::run(rt, alloc),
         "refused" => check_refused::run(rt, alloc),
         "bench" => bench::run(rt, alloc),
-        _ => bail!("{name}: no library of checks"),
+        _ => run_alone(rt, alloc, name),
+    }
+}
+
+/// The same, or one that reads files.
+fn run<R: Files + AllocGlobal + Clone + Drop + Print + Threads + Wait + Clock + Sync>(
+    rt: &R,
+    name: &str,
+) -> Result<()> {
+    match name {
+        "transcripts" => check_transcripts::run(rt),
+        "texts" => check_texts::run(rt),
+        "worked" => check_worked::run(rt),
+        _ => run_on_threads(rt, rt.alloc(), name),
     }
 }
 
