@@ -8,7 +8,7 @@ use transcripts::{SlowReader, SlowWriter};
 
 /// A command, its input, and the text that it writes.
 #[derive(Clone, Copy)]
-pub struct OpValue<'a> {
+pub struct Case<'a> {
     pub command: Command,
     pub input: &'a [u8],
     pub text: &'a [u8],
@@ -23,7 +23,7 @@ struct Done {
     written: Vec<u8>,
 }
 
-impl<'a> OpValue<'a> {
+impl<'a> Case<'a> {
     /// Does the command with so many good reads and writes.
     fn done(&self, alloc: Global, reads: usize, writes: usize, fails: bool) -> Done {
         let mut reader = Device::new(SlowReader::new(self.input, reads));

@@ -16,7 +16,7 @@ mod parts;
 mod threads;
 
 use anyhow::{Result, bail};
-use devices::OpValue;
+use devices::Case;
 use examples::{LINES, journal, script};
 use fs_sched::Schedule;
 use outcome::Command;
@@ -83,7 +83,7 @@ fn fail<R: Files + AllocGlobal + Print>(rt: &R) -> Result<()> {
         (Command::Check, text.as_slice(), b"lawful\n".as_slice()),
     ];
     for (command, input, text) in rows {
-        OpValue {
+        Case {
             command,
             input,
             text,
