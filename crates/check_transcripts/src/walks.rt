@@ -14,7 +14,7 @@ use fs_calls::Call;
 use fs_names::{NODE_LIMIT, PATH_LIMIT, Path};
 use fs_nodes::{NodeNo, Store};
 use fs_ops::Op;
-use fs_walk::{Fork, Walk};
+use fs_walk::{Fork, Head, Walk};
 use std::alloc::Global;
 use transcripts::{Answers, first_word, number, number_text, plain};
 
@@ -58,14 +58,19 @@ fn fork_took(alloc: Global, fork: &mut Fork, node: NodeNo) -> Result<()> {
     Ok(())
 }
 
+/// Where a head is, and what it holds.
+fn head_text(alloc: Global, head: Head) -> Result<String> {
+    let held = node_text(alloc, head.held())?;
+    let (walked, node, held) = (head.walked, head.node.get(), held.as_str());
+    Ok(format!(in alloc; "{walked} at {node} holds {held}")?)
+}
+
 /// Where the heads of a fork are.
 fn heads_text(alloc: Global, fork: &Fork) -> Result<String> {
-    let (source, dest) = (fork.source(), fork.dest());
-    let (first, second) = (source.node.get(), dest.node.get());
-    Ok(format!(in alloc;
-        "heads {} at {first}, {} at {second}",
-        source.walked, dest.walked
-    )?)
+    let source = head_text(alloc, fork.source())?;
+    let dest = head_text(alloc, fork.dest())?;
+    let (source, dest) = (source.as_str(), dest.as_str());
+    Ok(format!(in alloc; "heads {source}, {dest}")?)
 }
 
 /// How far a fork is.

@@ -1,13 +1,13 @@
 -- The names of a directory: those that rise in it.
-use Rattle.std.proofs.Common.{◌≡◌, ℕ, Bool, true, false, cond, ◌&&◌, List, [], ◌∷◌, ◌++◌, length, map, Some, None, Option, is_some, refl, sym, ap, subst, ◌∙◌, T, Ordering, Less, Equal, Greater}
-use Rattle.std.specs.Ordering.{is_eq, is_lt, ordering_then}
+use Rattle.std.proofs.Common.{◌≡◌, ℕ, Bool, true, false, cond, ◌&&◌, List, [], ◌∷◌, ◌++◌, map, Some, None, Option, is_some, refl, sym, ap, subst, ◌∙◌, T, Less, Equal, Greater}
+use Rattle.std.specs.Ordering.{is_lt, ordering_then}
 use Rattle.std.specs.FinMap.{find, is_sorted}
 use Rattle.std.specs.FinMap.Entries.{same_entries, below_all}
 use Rattle.std.proofs.lemmas.Cmp.{tied_itself}
 use Rattle.fs_names.specs.Names.{Name, name_cmp, same_name}
-use Rattle.fs_names.specs.Keys.{Key, key_cmp, same_key, after_prefix}
+use Rattle.fs_names.specs.Keys.{Key, key_cmp, same_key}
 use Rattle.fs_names.proofs.Lemmas.{name_total, name_exact, after_prefix-exact, after_prefix-append}
-use Rattle.fs_calls.specs.Tree.{Node, Tree, look, names_in, name_in, only_name, with_name}
+use Rattle.fs_calls.specs.Tree.{Tree, look, names_in, name_in, only_name, with_name}
 use Rattle.fs_calls.proofs.LookLemmas.{same_key_exact, look-find}
 use Rattle.fs_calls.proofs.ListLemmas.{same_key-snoc}
 

@@ -1,5 +1,5 @@
 -- What a call without an error finds in a tree.
-use Rattle.std.proofs.Common.{◌≡◌, ◌≢◌, ℕ, ◌+◌, length, Bool, true, false, cond, not, ◌&&◌, ◌||◌, List, [], ◌∷◌, ◌++◌, Some, None, Option, is_some, refl, sym, ap, subst, ◌∙◌}
+use Rattle.std.proofs.Common.{◌≡◌, ◌≢◌, ℕ, ◌+◌, length, Bool, true, false, cond, ◌&&◌, ◌||◌, List, [], ◌∷◌, ◌++◌, Some, None, Option, is_some, refl, subst}
 use Rattle.std.specs.Prelude.{nat_lt}
 use Rattle.fs_names.specs.Failures.{check, first_failure}
 use Rattle.fs_names.specs.Names.{Name}

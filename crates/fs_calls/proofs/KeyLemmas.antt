@@ -1,8 +1,7 @@
 -- Lemmas on keys: parents, last names and prefixes.
-use Rattle.std.proofs.Common.{◌≡◌, ◌≢◌, ◌↔◌, Bool, true, false, cond, List, [], ◌∷◌, ◌++◌, Some, None, Option, refl, sym, ap, ◌∙◌, append_assoc, append-nil, Less, Equal, Greater}
-use Rattle.std.specs.Ordering.{is_eq, ordering_then}
+use Rattle.std.proofs.Common.{◌≡◌, ◌≢◌, ◌↔◌, Bool, true, false, cond, [], ◌∷◌, ◌++◌, Some, None, Option, refl, sym, ap, ◌∙◌, append_assoc, append-nil}
 use Rattle.std.proofs.lemmas.Cmp.{tied_itself}
-use Rattle.fs_names.specs.Names.{Name, name_cmp, same_name}
+use Rattle.fs_names.specs.Names.{Name, same_name}
 use Rattle.fs_names.specs.Keys.{Key, same_key, after_prefix, is_root, is_proper_prefix, has_more, parent_of, last_of, is_end}
 use Rattle.fs_calls.specs.Sights.{is_same}
 use Rattle.fs_names.proofs.Lemmas.{name_total, same_name_refl, after_prefix-exact, after_prefix-append}

@@ -1,11 +1,10 @@
 -- Lemmas on lists, and on keys with one name more.
-use Rattle.std.proofs.Common.{◌≡◌, ◌≢◌, ℕ, zero, suc, ◌+◌, ◌<◌, ◌≤◌, Bool, true, false, cond, not, List, [], ◌∷◌, ◌++◌, length, map, take, drop, slice_get, Some, None, Option, is_some, option_and_then, refl, sym, ap, subst, ◌∙◌, arith, Ordering, Less, Equal, Greater, append_assoc, append-nil, length-append, set, T}
-use Rattle.std.specs.Ordering.{eq_by_cmp, is_eq, ordering_then}
+use Rattle.std.proofs.Common.{◌≡◌, ℕ, zero, suc, ◌+◌, ◌<◌, Bool, true, false, cond, List, [], ◌∷◌, ◌++◌, length, take, slice_get, Some, None, Option, refl, sym, ap, subst, ◌∙◌, arith, Less, Equal, Greater, append_assoc, append-nil, length-append, set, T}
+use Rattle.std.specs.Ordering.{is_eq, ordering_then}
 use Rattle.std.proofs.lemmas.Cmp.{tied_itself}
 use Rattle.fs_names.specs.Names.{Name, name_cmp, same_name}
 use Rattle.fs_names.specs.Keys.{Key, key_cmp, same_key, after_prefix}
-use Rattle.fs_names.proofs.Lemmas.{name_total, key_total, same_name_refl, after_prefix-append, after_prefix-exact}
-use Rattle.fs_calls.proofs.LookLemmas.{same_key_exact, same_key_refl}
+use Rattle.fs_names.proofs.Lemmas.{name_total}
 
 -- what is read where it was written
 pub slice_get-set_same : {A : Type 0} (xs : List A) (i : ℕ) (v : A) → i < length xs → slice_get (set xs i v) i ≡ Some v

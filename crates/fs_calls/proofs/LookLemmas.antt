@@ -1,13 +1,11 @@
 -- What stands at a key after each change of a tree.
-use Rattle.std.proofs.Common.{◌≡◌, ◌≢◌, ℕ, zero, suc, ◌+◌, ◌<◌, ◌≤◌, Bool, true, false, cond, not, ◌&&◌, List, [], ◌∷◌, ◌++◌, length, map, Some, None, Option, is_some, refl, sym, ap, subst, ◌∙◌, arith, T, Ordering, Less, Equal, Greater, append_assoc}
-use Rattle.std.specs.Ordering.{eq_by_cmp, is_eq, is_lt}
-use Rattle.std.specs.FinMap.{find, put, is_sorted}
-use Rattle.std.specs.FinMap.Entries.{find-put, is_sorted-put, find-where_key, is_sorted-where_key, same_entries, where_key, below_all}
+use Rattle.std.proofs.Common.{◌≡◌, Bool, true, false, cond, not, List, [], ◌∷◌, Some, None, refl, sym, ap, ◌∙◌, T, Equal}
+use Rattle.std.specs.FinMap.{find, is_sorted}
+use Rattle.std.specs.FinMap.Entries.{find-put, is_sorted-put, find-where_key, is_sorted-where_key, same_entries}
 use Rattle.std.specs.Cmp.{IsEquivalence, eq_by_cmp_equiv}
-use Rattle.fs_names.specs.Names.{Name, name_cmp, same_name}
-use Rattle.fs_names.specs.Keys.{Key, key_cmp, same_key, after_prefix}
-use Rattle.fs_names.proofs.Lemmas.{name_total, key_total, name_exact, key_exact, equal_from_is_eq, same_name_exact, same_name_refl, after_prefix-exact, after_prefix-append}
-use Rattle.fs_calls.specs.Tree.{Node, Dir, File, Tree, look, from_list, inserted, removed}
+use Rattle.fs_names.specs.Keys.{Key, key_cmp, same_key}
+use Rattle.fs_names.proofs.Lemmas.{key_total, key_exact, equal_from_is_eq}
+use Rattle.fs_calls.specs.Tree.{Node, Tree, look, from_list, inserted, removed}
 
 -- keys are the same as an equivalence
 pub same_key_equiv : IsEquivalence same_key

@@ -2,7 +2,7 @@
 use Rattle.std.proofs.Common.{◌≡◌, ◌≢◌, Bool, true, false, cond, ◌||◌, List, [], ◌∷◌, ◌++◌, Some, None, Option, is_some, refl, sym, ap, ◌∙◌, append_assoc}
 use Rattle.std.specs.List.{list_any}
 use Rattle.std.specs.FinMap.{find}
-use Rattle.fs_names.specs.Failures.{check, or_else, first_failure}
+use Rattle.fs_names.specs.Failures.{check, first_failure}
 use Rattle.fs_names.specs.Names.{Name, same_name}
 use Rattle.fs_names.specs.Keys.{Key, key_cmp, same_key, after_prefix, parent_of}
 use Rattle.fs_names.proofs.FailureLemmas.{or_else-none, check-none}
@@ -12,7 +12,6 @@ use Rattle.fs_calls.specs.Tree.{Tree, Node, look, names_in, name_in, only_name, 
 use Rattle.fs_calls.specs.Sights.{tree_shapes, shape_of, is_missing, is_file, has_any}
 use Rattle.fs_calls.specs.Outcomes.{resolution, parents_resolution}
 use Rattle.fs_calls.specs.Laws.{HasDirectoriesAbove}
-use Rattle.fs_calls.specs.declared.errno.Errno.{Errno}
 use Rattle.fs_calls.specs.declared.errno.Errno.TheVariants.{Enoent, Enotdir}
 use Rattle.fs_calls.proofs.LookLemmas.{same_key_exact, look-find}
 use Rattle.fs_calls.proofs.KeyLemmas.{no_true}

@@ -12,7 +12,7 @@ use Rattle.fs_calls.specs.Laws.{StaysATree, PlayedTreesAreTrees, SameTrees, IsMo
 use Rattle.fs_calls.specs.declared.call.Call.{Call}
 use Rattle.fs_calls.specs.declared.call.Call.TheVariants.{Mkdir, Mknod, Unlink, Rmdir, Rename, Stat, Readdir, Read, Write, Truncate}
 use Rattle.fs_calls.specs.declared.errno.Errno.{Errno}
-use Rattle.fs_calls.proofs.LookLemmas.{same_key_exact, same_key_refl, look-inserted, look-removed, sorted-inserted, sorted-removed, same_tree}
+use Rattle.fs_calls.proofs.LookLemmas.{same_key_exact, look-inserted, look-removed, sorted-inserted, sorted-removed, same_tree}
 use Rattle.fs_calls.specs.Sights.{is_same}
 use Rattle.fs_calls.proofs.KeyLemmas.{never_same, only_same, is_same_refl, differ, differ_not, parent_of_child, not_root, after_prefix-front, after_prefix-child, longer_front}
 use Rattle.fs_calls.proofs.ListLemmas.{no_snoc}

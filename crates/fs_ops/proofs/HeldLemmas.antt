@@ -13,7 +13,7 @@ use Rattle.fs_calls.specs.declared.call.Call.{Call}
 use Rattle.fs_calls.specs.declared.reply.Reply.{Reply}
 use Rattle.fs_nodes.specs.Graphs.{Graph}
 use Rattle.fs_locks.specs.Held.{first_of, last_of}
-use Rattle.fs_walk.specs.Ways.{ForkWay}
+use Rattle.fs_walk.specs.Ways.{ForkWay, head_held}
 use Rattle.fs_walk.specs.declared.head.Head as count
 use Rattle.fs_machine.specs.Leaving.{is_removed, cleared}
 use Rattle.fs_machine.specs.Moves.{next_by, last_held, left_last, left_holdings}
@@ -24,7 +24,7 @@ use Rattle.fs_ops.specs.OpValue.{Forks, IsReady, behind_in, head_of, held_by, ho
 use Rattle.fs_ops.specs.declared.stand.Stand.{Stand}
 use Rattle.fs_ops.specs.PlanOf.{move_of}
 use Rattle.fs_ops.specs.code.NextByNodes.{last_next}
-use Rattle.fs_ops.specs.code.TakeAndLetGo.{all_held, head_held, heads_held}
+use Rattle.fs_ops.specs.code.TakeAndLetGo.{all_held, heads_held}
 use Rattle.fs_ops.specs.declared.outcome.Outcome.{Outcome}
 use Rattle.fs_ops.specs.declared.outcome.Outcome.TheVariants.{Open, Fixed}
 

@@ -97,7 +97,7 @@ behind_is [] k n x e = absurd (cc)
 behind_is (y ∷ l) zero n x e = refl
 behind_is (y ∷ l) (suc k) n x e = let t : nat_lt 0 (suc k) ≡ true = grind (arith, nat_tests) in rw t refl
 
-head_leaves : (p : Key) (names : ℕ) (head : count.Head) (x : Name) → slice_get (parent_of p) (names + head.walked) ≡ Some x → held_on (head_of p names head).walked head.node ≡ ways.head_leaves head
+head_leaves : (p : Key) (names : ℕ) (head : count.Head) (x : Name) → slice_get (parent_of p) (names + head.walked) ≡ Some x → held_on (head_of p names head).walked head.node ≡ ways.head_held head
 head_leaves p names head x e = behind_is (drop names p) head.walked head.node x (drop_get names head.walked p ∙ parent_some p (names + head.walked) x e)
 
 head_stepped : (p : Key) (names : ℕ) (head : count.Head) (n : ℕ) (x : Name) → slice_get (parent_of p) (names + head.walked) ≡ Some x → head_took (head_of p names head) x n ≡ head_of p names (ways.head_took head n)

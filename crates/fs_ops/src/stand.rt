@@ -3,12 +3,12 @@
 ghost use Rattle.std.specs.Prelude.{◌≡◌, ◌<◌, ◌++◌, length, option_to_list};
 ghost use Rattle.fs_locks.specs.declared.held.TheConstants.{HELD_LIMIT};
 ghost use Rattle.fs_ops.specs.code.NextByNodes.{route_by};
-ghost use Rattle.fs_ops.specs.code.TakeAndLetGo.{all_held, head_held};
+ghost use Rattle.fs_ops.specs.code.TakeAndLetGo.{all_held};
 
 use fs_finish::plan::Route;
 use fs_locks::Held;
 use fs_nodes::NodeNo;
-use fs_walk::{Fork, Head, Walk};
+use fs_walk::{Fork, Walk};
 
 /// Where a call stands: its walk, the heads of a rename behind that, and a victim.
 #[derive(Drop)]
@@ -21,13 +21,13 @@ pub struct Stand {
     pub victim: Option<NodeNo>,
 }
 
-/// A head that has set out holds its node.
-fn push_head(held: &mut Held, head: Head)
+/// A node is held too, if there is one.
+fn push_some(held: &mut Held, node: Option<NodeNo>)
     requires { length held.old < HELD_LIMIT }
-    ensures { held.new ≡ held.old ++ option_to_list (head_held head) }
+    ensures { held.new ≡ held.old ++ option_to_list node }
 {
-    if head.walked > 0 {
-        held.push(head.node);
+    if let Some(node) = node {
+        held.push(node);
     }
 }
 
@@ -40,12 +40,10 @@ impl Stand {
         if let Some(node) = self.walk.node() {
             held.push(node);
             if let Some(heads) = &self.fork {
-                push_head(&mut held, heads.source());
-                push_head(&mut held, heads.dest());
+                push_some(&mut held, heads.source().held());
+                push_some(&mut held, heads.dest().held());
             }
-            if let Some(victim) = self.victim {
-                held.push(victim);
-            }
+            push_some(&mut held, self.victim);
         }
         held
     }

@@ -1,7 +1,7 @@
 -- A link among rising links written anew, or in another place.
-use Rattle.std.proofs.Common.{◌≡◌, ◌≢◌, ℕ, zero, suc, Bool, true, false, cond, not, ◌&&◌, List, [], ◌∷◌, slice_get, Some, None, Option, IsTrue, refl, sym, ap, subst, ◌∙◌, T, Less, Equal, Greater, Ordering}
+use Rattle.std.proofs.Common.{◌≡◌, ◌≢◌, ℕ, zero, suc, cond, not, List, [], ◌∷◌, slice_get, Some, None, Option, IsTrue, refl, sym, ap, subst, ◌∙◌, T, Less, Equal, Greater, Ordering}
 use Rattle.std.specs.Prelude.{slice_set, insert, remove}
-use Rattle.std.specs.Ordering.{is_lt, is_eq, ordering_reverse}
+use Rattle.std.specs.Ordering.{is_eq, ordering_reverse}
 use Rattle.std.specs.FinMap.{find, put, is_sorted}
 use Rattle.std.specs.FinMap.Entries.{by_order, below_all, is_sorted-put}
 use Rattle.std.proofs.lemmas.Cmp.{tied_itself}

@@ -80,9 +80,9 @@ way_left way n = record way { behind = behind_left way.behind n }
 abbrev pub head_took : Head → ℕ → Head
 head_took head n = record { walked = head.walked + 1; node = n }
 
--- what the step leaves behind: where the head stood, if that is not the common directory
-abbrev pub head_leaves : Head → Option ℕ
-head_leaves head = cond (nat_lt 0 head.walked) (Some head.node) None
+-- the node that it holds, and that a step leaves behind: where it stands, if that is not the common directory
+abbrev pub head_held : Head → Option ℕ
+head_held head = cond (nat_lt 0 head.walked) (Some head.node) None
 
 -- the name ahead of a walk
 abbrev pub name_ahead : Key → Way → Option Name
@@ -108,8 +108,8 @@ has_arrived source dest fork = not (is_some (walking source dest fork))
 
 -- both heads after a step of the one on a side
 abbrev pub fork_stepped : Option Side → ForkWay → ℕ → ForkWay
-fork_stepped (Some Source) fork n = record fork { source = head_took fork.source n; behind = head_leaves fork.source }
-fork_stepped (Some Dest) fork n = record fork { dest = head_took fork.dest n; behind = head_leaves fork.dest }
+fork_stepped (Some Source) fork n = record fork { source = head_took fork.source n; behind = head_held fork.source }
+fork_stepped (Some Dest) fork n = record fork { dest = head_took fork.dest n; behind = head_held fork.dest }
 fork_stepped None fork n = fork
 
 -- both heads after a take, by the paths of a rename

@@ -1,7 +1,7 @@
 //! One head of a fork, and the sides of both.
 
 ghost use Rattle.std.specs.Prelude.{◌≡◌, ◌<◌};
-ghost use Rattle.fs_walk.specs.Ways.{start_at, head_took, head_leaves};
+ghost use Rattle.fs_walk.specs.Ways.{start_at, head_held, head_took};
 
 use fs_names::PATH_LIMIT;
 use fs_nodes::NodeNo;
@@ -30,17 +30,24 @@ impl Head {
         Head { walked: 0, node }
     }
 
-    /// It steps to a node, and gives the one that it leaves behind: where it stood, if that is not the common directory.
-    pub fn took(&mut self, node: NodeNo) -> Option<NodeNo>
-        requires { self.old.walked < PATH_LIMIT }
-        ensures head { self.new ≡ head_took self.old node }
-        ensures behind { result ≡ head_leaves self.old }
+    /// The node that it holds: where it stands, if that is not the common directory.
+    pub fn held(self) -> Option<NodeNo>
+        ensures { result ≡ head_held self }
     {
-        let behind = if self.walked > 0 {
+        if self.walked > 0 {
             Some(self.node)
         } else {
             None
-        };
+        }
+    }
+
+    /// It steps to a node, and gives the one that it held, which it leaves behind.
+    pub fn took(&mut self, node: NodeNo) -> Option<NodeNo>
+        requires { self.old.walked < PATH_LIMIT }
+        ensures head { self.new ≡ head_took self.old node }
+        ensures behind { result ≡ head_held self.old }
+    {
+        let behind = self.held();
         self.node = node;
         self.walked += 1;
         behind

@@ -1,9 +1,8 @@
 -- What a take and a let go make of a walk, of a fork and of a victim.
-use Rattle.std.specs.Prelude.{ℕ, ◌≡◌, cond, nat_lt, option_to_list, List, [], ◌∷◌, ◌++◌, Option, Some, None}
+use Rattle.std.specs.Prelude.{ℕ, ◌≡◌, cond, option_to_list, List, [], ◌∷◌, ◌++◌, Option, Some, None}
 use Rattle.fs_calls.specs.Forms.{Form}
 use Rattle.fs_names.specs.Keys.{Key}
-use Rattle.fs_walk.specs.Ways.{Way, ForkWay, new_fork, has_set_out, way_took, fork_took}
-use Rattle.fs_walk.specs.declared.head.Head.{Head}
+use Rattle.fs_walk.specs.Ways.{Way, ForkWay, new_fork, has_set_out, head_held, way_took, fork_took}
 use Rattle.fs_machine.specs.Moves.{target_took}
 use Rattle.fs_ops.specs.declared.stand.Stand.{Stand}
 use Rattle.fs_ops.specs.OpValue.{behind_in, dropped, holdings_with}
@@ -40,10 +39,6 @@ way_let_go (Some fork) way = way
 abbrev pub fork_let_go : Option ForkWay → Option ForkWay
 fork_let_go None = None
 fork_let_go (Some fork) = Some (record fork { behind = None })
-
--- the node that a head holds
-abbrev pub head_held : Head → Option ℕ
-head_held head = cond (nat_lt 0 head.walked) (Some head.node) None
 
 -- the nodes that the heads hold
 abbrev pub heads_held : Option ForkWay → List ℕ
