@@ -5,10 +5,10 @@ import time
 
 sys.path.insert(0, str(pathlib.Path(__file__).parent.parent / "examples" / "embed"))
 sys.dont_write_bytecode = True
-import main as example
+import atomfs
 
 calls = int(sys.argv[2])
-with example.Tree(sys.argv[1], 1000) as tree:
+with atomfs.Tree(atomfs.Library(sys.argv[1]), 1000) as tree:
     seat = tree.seat()
     start = time.monotonic()
     for i in range(calls):

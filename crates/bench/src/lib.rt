@@ -1,9 +1,9 @@
 //! Times parts of AtomFS: the sequential tree and the journal checker on drawn calls, the calls of a script's threads on one
-//! shared tree, and observers beside a told writer. In the gate it does each with a few calls, counts what calls cost as a tree
-//! grows, and writes no times.
+//! shared tree, and observers beside a told writer. In the gate it does each with a few calls, counts the entries that calls look
+//! at as a tree grows, which neither the program nor the library for C tells, and writes no times.
 //!
-//! Enter at `run`, or for one part, timed, at `time_tree`, `time_threads` and `time_observers`. Only programs that are no part of the product stand on it, and it promises
-//! nothing.
+//! Enter at `run`, or for one part, timed, at `time_tree`, `time_threads` and `time_observers`. Only programs that are no part
+//! of the product stand on it, and it promises nothing.
 #![tactic(auto)]
 
 mod growth;

@@ -1,11 +1,10 @@
 //! Runs told callers and observers on shared trees, also beside calls that a gate holds and writers that publish, and says of
-//! each run whether it came out as it must.
+//! each run whether it came out as it must. Neither the program nor the library for C has observers.
 #![tactic(auto)]
 
 mod busy;
 mod calls;
 mod drawn;
-mod example;
 mod held;
 mod places;
 mod rows;
@@ -49,8 +48,7 @@ fn say_held<R: Print + Threads + Wait + Clock + Sync>(
 }
 
 /// The rows in which observers learn of calls.
-const TOLD: [(Row, &str); 5] = [
-    (Row::HandedOn, "two threads are shown a told call"),
+const TOLD: [(Row, &str); 4] = [
     (Row::First, "the first told call has place 0"),
     (Row::BothStamps, "an older stamp takes nothing back"),
     (Row::Written, "what a told caller wrote is read"),

@@ -3,7 +3,7 @@
 ghost use Rattle.std.specs.Prelude.{◌≡◌, ◌^◌};
 
 use crate::told::{BOTH_STAMPS, FIRST, UNTOLD, WRITTEN, comes_out};
-use crate::{busy, drawn, example, held, places};
+use crate::{busy, drawn, held, places};
 use fs_share::{AtomFs, Named, Opened};
 use std::alloc::Global;
 use std::marker::Brand;
@@ -15,7 +15,6 @@ use std::time::Clock;
 /// What is done on a tree. A number is that of the event after which a call is held.
 #[derive(Clone, Copy)]
 pub enum Row {
-    HandedOn,
     First,
     BothStamps,
     Written,
@@ -34,7 +33,6 @@ fn holds<N: Named + Send + Sync, R: Threads + Wait + Clock + Sync>(
     row: Row,
 ) -> Option<bool> {
     match row {
-        Row::HandedOn => example::is_handed_on(rt, alloc, fs),
         Row::First => comes_out(rt, alloc, fs, FIRST),
         Row::BothStamps => comes_out(rt, alloc, fs, BOTH_STAMPS),
         Row::Written => comes_out(rt, alloc, fs, WRITTEN),

@@ -1,26 +1,26 @@
 //! Does each thing that takes memory, and once more where memory was refused: on shared trees sessions, told calls,
-//! observers, jobs and lists of calls; scripts, journals and trees as texts; by one thread alone paths, the sequential tree,
-//! the core and the checker. But for the last line, what it writes is the same whichever growth is refused:
-//! `bench/refused` refuses each in turn.
+//! observers, jobs and lists of calls, and by one thread alone the sequential tree. Neither the program nor the library for C has
+//! sessions, observers and pools, and both have a sequential tree only inside a check, which ends where memory is refused. But
+//! for the last line, what is written is the same whichever growth is refused.
 #![tactic(auto)]
 
 mod alone;
 mod lists;
 mod shared;
-mod texts;
 
 use fs_calls::Call;
-use fs_nodes::Store;
-use fs_script::Script;
+use fs_nodes::NodeNo;
+use fs_script::{FaultKind, Script, ScriptFault, read_script};
 use fs_share::Closed;
-use fs_timeline::Entry;
 use shared::{Seen, on_tree};
 use std::alloc::Global;
+use std::io;
 use std::sync::Wait;
 use std::thread::Threads;
 use std::time::Clock;
 
-/// The calls of a session, and those of which others are told.
+/// The calls of a session, those of which others are told, and those of the sequential tree, which grow all that it holds:
+/// nodes, entries, bytes and replies; at last looks at that tree.
 const CALLS: &[u8] = b"\
 atomfs 1
 thread session
@@ -38,77 +38,95 @@ rmdir /b
 thread told
 mkdir /c
 mkdir /d
+thread alone
+mkdir /d
+mkdir /d
+mkdir /d/e
+mkdir /d/e/f
+mkdir /d/e/f/g
+stat /d/e/f/g
+mknod /d/a
+mknod /d/b
+mknod /d/c
+mknod /d/h
+readdir /d
+readdir /d/e/f
+write /d/a 3 68656c6c6f
+write /d/a 3 68656c6c6f
+truncate /d/a 200
+read /d/a 2 4
+rename /d/a /a
+rename /a /d/e/a
+rename /d/b /d/e/f/a
+rename /d/c /d/e/f/a
+unlink /d/h
+rmdir /d/e/f/g
+mknod /d/i
+stat /d/e/a
+stat /d
+rmdir /d
+thread looks
+stat /d
+readdir /d
+read /d/e/a 3 5
 schedule
 ";
 
-fn calls(script: &Script, thread: usize) -> Option<&[Call]> {
-    Some(script.lists.as_slice().get(thread)?.as_slice())
+/// The script of these calls, read once more where memory was refused.
+fn script(alloc: Global) -> Result<Script, ScriptFault> {
+    match read_script(alloc, CALLS) {
+        Err(fault) if fault.kind == FaultKind::OutOfMemory => read_script(alloc, CALLS),
+        read => read,
+    }
 }
 
-fn say_seen(rt: &impl Print, seen: &Seen) -> Option<()> {
-    println!(rt; "answered {}", seen.answered).ok()?;
-    println!(rt; "shown {}", seen.shown).ok()?;
+/// The calls of a thread.
+fn calls(script: &Script, thread: usize) -> &[Call] {
+    match script.lists.as_slice().get(thread) {
+        Some(calls) => calls.as_slice(),
+        None => &[],
+    }
+}
+
+/// Says what was seen on a shared tree.
+fn say_seen(rt: &impl Print, seen: &Seen) -> io::Result<()> {
+    println!(rt; "answered {}", seen.answered)?;
+    println!(rt; "shown {}", seen.shown)?;
     println!(rt;
         "jobs {} and {}, in all {}",
         seen.numbers.0, seen.numbers.1, seen.jobs
     )
-    .ok()
 }
 
-fn say_journal(rt: &impl Print, alloc: Global, entries: &[Entry]) -> Option<()> {
-    let journal = texts::journal(alloc, entries)?;
-    let is_read_back = texts::is_read_back(alloc, &journal)?;
-    println!(rt; "the journal is read back: {is_read_back}").ok()
-}
-
-fn say_lists<R: Print + Threads + Wait + Clock + Sync>(
-    rt: &R,
-    alloc: Global,
-    lists: &[Vec<Call>],
-) -> Option<()> {
-    let returns = lists::returns(rt, alloc, lists)?;
-    println!(rt; "the lists returned {returns}").ok()
-}
-
-fn say_tree(rt: &impl Print, alloc: Global, store: &Store) -> Option<()> {
-    let tree = texts::tree(alloc, store)?;
-    println!(rt; "the tree has {} bytes", tree.len()).ok()
-}
-
-/// What is written of a script that was played on a tree, and of its lists.
-fn say_all<R: Print + Threads + Wait + Clock + Sync>(
+/// Says what a shared tree has at its root, and how many calls return of lists that are played on another one.
+fn say_rest<R: Print + Threads + Wait + Clock + Sync>(
     rt: &R,
     alloc: Global,
     script: &Script,
-    seen: &Seen,
     closed: &Closed,
 ) -> Option<()> {
-    say_seen(rt, seen)?;
-    say_journal(rt, alloc, closed.timeline.entries())?;
-    say_lists(rt, alloc, script.lists.as_slice())?;
-    say_tree(rt, alloc, &closed.store)
+    let entries = closed.store.entries(NodeNo::new(0));
+    println!(rt; "the root has {entries} entries").ok()?;
+    let returned = lists::returns(rt, alloc, script.lists.as_slice().get(..2)?)?;
+    println!(rt; "the lists returned {returned}").ok()
 }
 
-/// What is done with a script, and written.
+/// Plays the calls of the first threads on shared trees.
 fn play<R: Print + Threads + Wait + Clock + Sync>(
     rt: &R,
     alloc: Global,
     script: &Script,
 ) -> Option<()> {
-    let (seen, closed) = on_tree(rt, alloc, calls(script, 0)?, calls(script, 1)?)?;
-    say_all(rt, alloc, script, &seen, &closed)
-}
-
-/// The same with the script that is read.
-fn read_and_play<R: Print + Threads + Wait + Clock + Sync>(rt: &R, alloc: Global) -> Option<()> {
-    let script = texts::script(alloc, CALLS)?;
-    play(rt, alloc, &script)
+    let (seen, closed) = on_tree(rt, alloc, calls(script, 0), calls(script, 1))?;
+    say_seen(rt, &seen).ok()?;
+    say_rest(rt, alloc, script, &closed)
 }
 
 /// Does everything, and writes what came of it.
 pub fn run<R: Print + Threads + Wait + Clock + Sync>(rt: &R, alloc: Global) -> anyhow::Result<()> {
-    if read_and_play(rt, alloc).is_none() {
+    let script = script(alloc)?;
+    if play(rt, alloc, &script).is_none() {
         println!(rt; "stopped")?;
     }
-    alone::run(rt, alloc)
+    alone::run(rt, alloc, calls(&script, 2), calls(&script, 3))
 }

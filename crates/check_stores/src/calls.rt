@@ -1,9 +1,17 @@
 //! The calls of a store that have conditions, each after a look at them. The two stores have the same
 //! calls, so what follows is written twice, word for word.
 
+ghost use Rattle.std.specs.Prelude.{IsTrue};
+ghost use Rattle.fs_nodes.specs.Graphs.{IsReached};
+ghost use Rattle.fs_nodes.specs.Seen.{seen, IsReal};
+ghost use Rattle.fs_nodes.specs.Stores.{child};
+
 use fs_names::{Kind, Name};
 use fs_nodes::{NodeNo, Store, plain};
 use std::alloc::{AllocError, Global};
+
+/// How many nodes there may be: so few that calls are refused.
+pub const LIMIT: usize = 30;
 
 /// The store with sibling links.
 #[derive(Drop)]
@@ -26,17 +34,29 @@ impl Linked {
         Some(self.store.kind(node))
     }
 
-    /// An empty node becomes an entry. It answers whether it could.
+    /// Whether the way up from a directory ends without a node, so that the directory is not below it.
+    fn is_apart(&self, node: NodeNo, dir: NodeNo) -> bool
+        requires { IsReal (seen self.now.store) }
+        ensures { IsTrue result → IsReached (child self.now.store) node dir → ⊥ }
+    {
+        let mut at = dir;
+        for _ in 0..LIMIT {
+            if at == node {
+                return false;
+            }
+            match self.store.parent(at) {
+                Some(parent) => at = parent,
+                None => return true,
+            }
+        }
+        false
+    }
+
+    /// A node becomes an entry, with what is below it. It answers whether it could.
     pub fn link(&mut self, dir: NodeNo, name: &Name, node: NodeNo) -> bool {
-        if node == dir {
-            return false;
-        }
-        if self.store.entries(node) > 0 {
-            return false;
-        }
         let is_free = self.store.find(dir, name).is_none() && self.store.parent(node).is_none();
         let is_other = node.get() != 0 && self.store.is_used(node);
-        if !(is_free && is_other && self.store.is_dir(dir)) {
+        if !(is_free && is_other && self.store.is_dir(dir) && self.is_apart(node, dir)) {
             return false;
         }
         self.store.link(dir, name, node);
@@ -52,21 +72,13 @@ impl Linked {
         Some(self.store.unlink(dir, name))
     }
 
-    /// An entry gets another name, or goes with an empty node to another directory. It answers whether it could.
+    /// An entry gets another name or another directory, with what is below it. It answers whether it could.
     pub fn move_entry(&mut self, from: NodeNo, name: &Name, to: NodeNo, new_name: &Name) -> bool {
         let Some(node) = self.store.find(from, name) else {
             return false;
         };
-        if from != to {
-            if node == to {
-                return false;
-            }
-            if self.store.entries(node) > 0 {
-                return false;
-            }
-        }
         let is_free = self.store.find(to, new_name).is_none();
-        if !(is_free && self.store.is_dir(to)) {
+        if !(is_free && self.store.is_dir(to) && self.is_apart(node, to)) {
             return false;
         }
         self.store.move_entry(from, name, to, new_name);
@@ -108,17 +120,29 @@ impl Plain {
         Some(self.store.kind(node))
     }
 
-    /// An empty node becomes an entry. It answers whether it could.
+    /// Whether the way up from a directory ends without a node, so that the directory is not below it.
+    fn is_apart(&self, node: NodeNo, dir: NodeNo) -> bool
+        requires { IsReal (seen self.now.store) }
+        ensures { IsTrue result → IsReached (child self.now.store) node dir → ⊥ }
+    {
+        let mut at = dir;
+        for _ in 0..LIMIT {
+            if at == node {
+                return false;
+            }
+            match self.store.parent(at) {
+                Some(parent) => at = parent,
+                None => return true,
+            }
+        }
+        false
+    }
+
+    /// A node becomes an entry, with what is below it. It answers whether it could.
     pub fn link(&mut self, dir: NodeNo, name: &Name, node: NodeNo) -> bool {
-        if node == dir {
-            return false;
-        }
-        if self.store.entries(node) > 0 {
-            return false;
-        }
         let is_free = self.store.find(dir, name).is_none() && self.store.parent(node).is_none();
         let is_other = node.get() != 0 && self.store.is_used(node);
-        if !(is_free && is_other && self.store.is_dir(dir)) {
+        if !(is_free && is_other && self.store.is_dir(dir) && self.is_apart(node, dir)) {
             return false;
         }
         self.store.link(dir, name, node);
@@ -134,21 +158,13 @@ impl Plain {
         Some(self.store.unlink(dir, name))
     }
 
-    /// An entry gets another name, or goes with an empty node to another directory. It answers whether it could.
+    /// An entry gets another name or another directory, with what is below it. It answers whether it could.
     pub fn move_entry(&mut self, from: NodeNo, name: &Name, to: NodeNo, new_name: &Name) -> bool {
         let Some(node) = self.store.find(from, name) else {
             return false;
         };
-        if from != to {
-            if node == to {
-                return false;
-            }
-            if self.store.entries(node) > 0 {
-                return false;
-            }
-        }
         let is_free = self.store.find(to, new_name).is_none();
-        if !(is_free && self.store.is_dir(to)) {
+        if !(is_free && self.store.is_dir(to) && self.is_apart(node, to)) {
             return false;
         }
         self.store.move_entry(from, name, to, new_name);

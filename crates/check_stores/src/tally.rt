@@ -2,19 +2,19 @@
 
 use std::io;
 
-/// How many calls of each kind were drawn, and how many of them did what they are for.
+/// How many calls of one kind were made, and how many of them are of a narrower kind.
 #[derive(Clone, Copy, Default)]
 pub struct Row {
-    pub drawn: u32,
-    pub done: u32,
+    made: u32,
+    narrower: u32,
 }
 
 impl Row {
-    /// Counts a call.
-    pub fn count(&mut self, done: bool) {
-        self.drawn = self.drawn.wrapping_add(1);
-        if done {
-            self.done = self.done.wrapping_add(1);
+    /// Counts a call, if it was made, and whether it is of the narrower kind.
+    pub fn count(&mut self, made: Option<bool>) {
+        if let Some(is_narrower) = made {
+            self.made = self.made.wrapping_add(1);
+            self.narrower = self.narrower.wrapping_add(is_narrower as u32);
         }
     }
 }
@@ -34,26 +34,48 @@ pub struct Tally {
 }
 
 impl Tally {
-    /// Each row, with the name of its call.
-    fn rows(&self) -> [(&'static str, Row); 9] {
+    /// Each row, with the name of its call and the narrower kind.
+    fn rows(&self) -> [(&'static str, &'static str, Row); 9] {
         [
-            ("reserve", self.reserve),
-            ("link", self.link),
-            ("unlink", self.unlink),
-            ("move_entry", self.move_entry),
-            ("release", self.release),
-            ("swap_content", self.swap_content),
-            ("find_steps", self.find),
-            ("is_used, kind, parent, entries, content", self.look),
-            ("next_name, next_entry_after", self.read),
+            ("reserve", "with a number left", self.reserve),
+            ("link", "of a directory with entries", self.link),
+            ("unlink", "of a directory", self.unlink),
+            (
+                "move_entry",
+                "of a directory with entries, to another directory",
+                self.move_entry,
+            ),
+            ("release", "of a directory", self.release),
+            ("swap_content", "over other bytes", self.swap_content),
+            ("find_steps", "of an entry", self.find),
+            (
+                "is_used, kind, parent, entries, content",
+                "of an entry",
+                self.look,
+            ),
+            (
+                "next_name, next_entry_after",
+                "of a directory with entries",
+                self.read,
+            ),
         ]
     }
 
-    /// Writes the rows, and how many answers differed.
-    pub fn write(&self, rt: &impl Print, others: u32) -> io::Result<()> {
-        for (what, row) in self.rows() {
-            println!(rt; "{what}: {} of {}", row.done, row.drawn)?;
+    /// How many calls were made.
+    pub fn made(&self) -> u32 {
+        let mut made: u32 = 0;
+        for (_, _, row) in self.rows() {
+            made = made.wrapping_add(row.made);
         }
+        made
+    }
+
+    /// Writes the rows, how many calls were made, and how many answers differed.
+    pub fn write(&self, rt: &impl Print, others: u32) -> io::Result<()> {
+        for (what, narrower, row) in self.rows() {
+            println!(rt; "{what}: {}, {narrower}: {}", row.made, row.narrower)?;
+        }
+        println!(rt; "calls made: {}", self.made())?;
         println!(rt; "answers that differ: {others}")
     }
 }

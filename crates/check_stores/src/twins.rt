@@ -1,12 +1,9 @@
 //! The two stores, which get the same calls.
 
-use crate::calls::{Linked, Plain};
+use crate::calls::{LIMIT, Linked, Plain};
 use fs_names::{Kind, Name};
 use fs_nodes::{NoNode, NodeNo, Store, plain};
 use std::alloc::{AllocError, Global};
-
-/// How many nodes there may be: so few that calls are refused.
-const LIMIT: usize = 30;
 
 /// A node's number in each of the two stores.
 #[derive(Clone, Copy, PartialEq, Eq)]
@@ -111,61 +108,84 @@ impl Twins {
         }
     }
 
-    /// A node becomes an entry. It answers whether it did.
-    pub fn link(&mut self, dir: &Twin, name: &Name, node: &Twin) -> bool {
+    /// Whether a node is a directory with entries.
+    fn has_entries(&self, node: NodeNo) -> bool {
+        self.linked.store.entries(node) > 0
+    }
+
+    /// A node becomes an entry, if it can. It answers whether it has entries.
+    pub fn link(&mut self, dir: &Twin, name: &Name, node: &Twin) -> Option<bool> {
+        let has_entries = self.has_entries(node.linked);
         let done = self.linked.link(dir.linked, name, node.linked);
         let same = done == self.plain.link(dir.plain, name, node.plain);
         self.expect(same);
-        done
+        if done { Some(has_entries) } else { None }
     }
 
-    /// An entry goes. It answers whether there was one.
-    pub fn unlink(&mut self, dir: &Twin, name: &Name) -> bool {
+    /// An entry goes, if it can. It answers whether it was a directory's.
+    pub fn unlink(&mut self, dir: &Twin, name: &Name) -> Option<bool> {
         let node = self.linked.unlink(dir.linked, name);
         let other = self.plain.unlink(dir.plain, name);
         let same = self.are_one(node, other);
         self.expect(same);
-        node.is_some()
+        Some(self.linked.store.is_dir(node?))
     }
 
-    /// An entry moves. It answers whether it did.
-    pub fn move_entry(&mut self, from: &Twin, name: &Name, to: &Twin, new_name: &Name) -> bool {
+    /// An entry moves, if it can. It answers whether a directory with entries went to another directory.
+    pub fn move_entry(
+        &mut self,
+        from: &Twin,
+        name: &Name,
+        to: &Twin,
+        new_name: &Name,
+    ) -> Option<bool> {
+        let node = self.linked.store.find(from.linked, name)?;
+        let has_entries = self.has_entries(node);
         let done = self
             .linked
             .move_entry(from.linked, name, to.linked, new_name);
         let same = done == self.plain.move_entry(from.plain, name, to.plain, new_name);
         self.expect(same);
-        done
+        if done {
+            Some(has_entries && from != to)
+        } else {
+            None
+        }
     }
 
-    /// The node at a position gives its number back. It answers whether it did.
-    pub fn release(&mut self, position: usize) -> bool {
+    /// The node at a position gives its number back, if it can. It answers whether it was a directory.
+    pub fn release(&mut self, position: usize) -> Option<bool> {
         let node = self.node(position);
+        let is_dir = self.linked.store.is_dir(node.linked);
         let done = self.linked.release(node.linked);
         let same = done == self.plain.release(node.plain);
         self.expect(same);
-        if done && position < self.nodes.len() {
-            let _ = self.nodes.swap_remove(position);
+        if !done || position >= self.nodes.len() {
+            return None;
         }
-        done
+        let _ = self.nodes.swap_remove(position);
+        Some(is_dir)
     }
 
-    /// A file gets these bytes. It answers whether there was one.
+    /// A file gets these bytes, if it is one. It answers whether it had others.
     pub fn swap_content(
         &mut self,
         alloc: Global,
         file: &Twin,
         bytes: &[u8],
-    ) -> Result<bool, AllocError> {
+    ) -> Result<Option<bool>, AllocError> {
         let old = self.linked.swap_content(alloc, file.linked, bytes)?;
         let other = self.plain.swap_content(alloc, file.plain, bytes)?;
-        let same = match (&old, &other) {
-            (Some(a), Some(b)) => a.as_slice() == b.as_slice(),
-            (None, None) => true,
-            _ => false,
+        let (same, made) = match (&old, &other) {
+            (Some(a), Some(b)) => (
+                a.as_slice() == b.as_slice(),
+                Some(!a.is_empty() && a.as_slice() != bytes),
+            ),
+            (None, None) => (true, None),
+            _ => (false, None),
         };
         self.expect(same);
-        Ok(old.is_some())
+        Ok(made)
     }
 
     /// Looks an entry up. It answers whether there is one.

@@ -1,28 +1,46 @@
 //! Runs real threads on shared trees, by sessions, lists and pools, also under gates that hold a call at a place of its walk,
-//! and says of each run whether it came out as it must.
+//! and says of each run whether it came out as it must. The program plays the lists of a script on threads and no more: it has
+//! no sessions, no gates and no pools, and tells no order of what its threads did.
 #![tactic(auto)]
 
 mod answers;
 mod calls;
 mod drawing;
-mod example;
-mod faults;
 mod held;
 mod jobs;
 mod long;
 mod parked;
 mod playing;
-mod scripts;
 mod shared;
 mod waiting;
 mod walking;
 
+use fs_core::Refusal;
+use fs_sched::RunFault;
+use fs_share::ListsFault;
+use fs_threads::ThreadsFault;
 use parked::{Beside, WORDS, events_beside};
 use std::alloc::Global;
 use std::io;
 use std::sync::Wait;
 use std::thread::Threads;
 use std::time::Clock;
+
+/// The faults with which no script on threads ends.
+const FAULTS: [ThreadsFault; 4] = [
+    ThreadsFault::Run(RunFault::Full),
+    ThreadsFault::Lists(ListsFault::NoWorker),
+    ThreadsFault::Lists(ListsFault::Refused(Refusal::SeatBusy)),
+    ThreadsFault::Lists(ListsFault::Refused(Refusal::Full)),
+];
+
+/// Says the words of each of them.
+fn say_faults(rt: &impl Print) -> io::Result<()> {
+    for fault in FAULTS {
+        println!(rt; "fault: {fault}")?;
+    }
+    Ok(())
+}
 
 fn say(rt: &impl Print, what: &str, holds: Option<bool>) -> io::Result<()> {
     let word = match holds {
@@ -78,11 +96,7 @@ fn say_all<R: Print + Threads + Wait + Clock + Sync>(rt: &R, alloc: Global) -> i
     say(rt, "two jobs run side by side", pools)?;
     let returns = shared::all_return(rt, alloc);
     say(rt, "each call of four lists returns", returns)?;
-    let example = example::is_lawful(rt, alloc);
-    say(rt, "two lists make directories", example)?;
-    let scripts = scripts::are_written(rt, alloc);
-    say(rt, "scripts run on threads", scripts)?;
-    faults::write_words(rt)?;
+    say_faults(rt)?;
     let jobs = jobs::are_done(rt, alloc);
     say(rt, "a thousand jobs are done, once", jobs)?;
     let drawn = long::is_lawful(rt, alloc);

@@ -1,7 +1,8 @@
-//! Checks what is not proved: `checks` runs each library of checks in turn, and `checks NAME` one of them. The gate runs the
-//! first, and compares what it writes with `stdout` beside `src/`, whose worked tables are there to be read. The libraries say
-//! what they check; `data/` has a folder for each that reads files. `checks time tree CALLS`, `checks time observers READS` and,
-//! with a script on standard input, `checks time threads` time parts of AtomFS (`bench`).
+//! Checks what is not proved and what neither the program nor the library for C shows: `checks` runs each library of checks in
+//! turn, and `checks NAME` one of them. The gate runs the first, and compares what it writes with `stdout` beside `src/`, whose
+//! worked tables are there to be read. The libraries say what they check; `data/` has a folder for the one that reads files.
+//! `checks time tree CALLS`, `checks time observers READS` and, with a script on standard input, `checks time threads` time
+//! parts of AtomFS (`bench`).
 #![tactic(auto)]
 
 use anyhow::{Result, bail};
@@ -14,61 +15,33 @@ use std::thread::Threads;
 use std::time::Clock;
 
 /// The libraries, by the words that name them, in the order in which all are run.
-const NAMES: [&str; 10] = [
-    "transcripts",
-    "texts",
-    "worked",
-    "generated",
+const NAMES: [&str; 6] = [
+    "calls",
     "stores",
-    "schedules",
     "threads",
     "observers",
     "refused",
     "bench",
 ];
 
-/// Runs a library that needs nothing but an output.
-fn run_alone(rt: &impl Print, alloc: Global, name: &str) -> Result<()> {
+/// Runs a library, by its name.
+fn run<R: Files + AllocGlobal + Print + Threads + Wait + Clock + Sync>(
+    rt: &R,
+    name: &str,
+) -> Result<()> {
     match name {
-        "generated" => check_generated::run(rt, alloc),
-        "stores" => check_stores::run(rt, alloc),
-        "schedules" => check_schedules::run(rt, alloc),
+        "calls" => check_calls::run(rt),
+        "stores" => check_stores::run(rt, rt.alloc()),
+        "threads" => check_threads::run(rt, rt.alloc()),
+        "observers" => check_observers::run(rt, rt.alloc()),
+        "refused" => check_refused::run(rt, rt.alloc()),
+        "bench" => bench::run(rt, rt.alloc()),
         _ => bail!("{name}: no library of checks"),
     }
 }
 
-/// The same, or one that starts threads.
-fn run_on_threads<R: Print + Threads + Wait + Clock + Sync>(
-    rt: &R,
-    alloc: Global,
-    name: &str,
-) -> Result<()> {
-    match name {
-        "threads" => check_threads::run(rt, alloc),
-        "observers" => check_observers::run(rt, alloc),
-        "refused" => check_refused::run(rt, alloc),
-        "bench" => bench::run(rt, alloc),
-        _ => run_alone(rt, alloc, name),
-    }
-}
-
-/// The same, or one that reads files.
-fn run<R: Files + AllocGlobal + Clone + Drop + Print + Threads + Wait + Clock + Sync>(
-    rt: &R,
-    name: &str,
-) -> Result<()> {
-    match name {
-        "transcripts" => check_transcripts::run(rt),
-        "texts" => check_texts::run(rt),
-        "worked" => check_worked::run(rt),
-        _ => run_on_threads(rt, rt.alloc(), name),
-    }
-}
-
 /// Runs each library, with a line above what it writes.
-fn run_all<R: Files + AllocGlobal + Clone + Drop + Print + Threads + Wait + Clock + Sync>(
-    rt: &R,
-) -> Result<()> {
+fn run_all<R: Files + AllocGlobal + Print + Threads + Wait + Clock + Sync>(rt: &R) -> Result<()> {
     for name in NAMES {
         println!(rt; "==== {name}")?;
         run(rt, name)?;

@@ -85,7 +85,14 @@ Exit status:
   5  a read or a write failed
 
 Example:
-  atomfs run < examples/moved_ancestor.script";
+  printf 'atomfs 1\\nthread t\\nmkdir /a\\nschedule\\nfinish\\n' | atomfs run";
+
+/// What is said where there is no subcommand.
+const FIRST: &str = "\
+no command is given
+
+Try first a script of one call:
+  printf 'atomfs 1\\nthread t\\nmkdir /a\\nschedule\\nfinish\\n' | atomfs run";
 
 fn robin_argument<'a>(alloc: Global) -> Arg<'a> {
     Arg::new(alloc, "robin")
@@ -263,6 +270,9 @@ fn asked_for<'a>(alloc: Global, matches: &ArgMatches<'a>) -> Result<Subcommand, 
 pub fn parse<'a, S: AsStr>(alloc: Global, args: &'a [S]) -> Result<Subcommand, Error>
     ensures within { IfOk result IsWithin }
 {
+    if args.len() < 2 {
+        return Err(command(alloc)?.error(ErrorKind::MissingSubcommand, FIRST)?);
+    }
     let matches = command(alloc)?.try_get_matches_from(args)?;
     asked_for(alloc, &matches)
 }

@@ -164,13 +164,6 @@ impl CallLists {
     {
         self.lists.as_slice()
     }
-
-    /// Gives the vectors. It takes no memory.
-    pub fn into_vec(self) -> Vec<Vec<Call>>
-        ensures { map (λ calls. calls.items) result.items ≡ self }
-    {
-        self.lists
-    }
 }
 
 /// Words of a schedule, seen as their list.

@@ -53,14 +53,6 @@ impl Walk {
         self.names
     }
 
-    /// How many names it has walked: no more than it goes along.
-    pub fn walked(&self) -> usize
-        ensures walked { result ≡ self.now.walked }
-        ensures most { result ≤ self.now.names }
-    {
-        self.walked
-    }
-
     /// Where it stands. None: it holds nothing.
     pub fn node(&self) -> Option<NodeNo>
         ensures { result ≡ self.now.node }

@@ -1,7 +1,8 @@
 //! What allocates, done once more where memory was refused.
 
 use fs_calls::{Call, Reply};
-use fs_names::Path;
+use fs_core::Refusal;
+use fs_names::{Path, PathFault};
 use fs_pool::{JobNo, NotTaken, Pool};
 use fs_share::{Answer, Named, Observer, Open, Session, Told};
 use std::alloc::{AllocError, Global};
@@ -9,9 +10,10 @@ use std::sync::Wait;
 use std::time::Clock;
 
 pub fn path(alloc: Global, text: &[u8]) -> Option<Path> {
-    Path::parse(alloc, text)
-        .or_else(|_| Path::parse(alloc, text))
-        .ok()
+    match Path::parse(alloc, text) {
+        Err(PathFault::OutOfMemory) => Path::parse(alloc, text).ok(),
+        read => read.ok(),
+    }
 }
 
 /// A session's call.
@@ -22,8 +24,8 @@ pub fn call<N: Named, R: Wait + Clock>(
     call: &Call,
 ) -> Option<Answer> {
     match session.call(rt, alloc, call, &Open) {
-        Ok(answer) => Some(answer),
-        Err(_) => session.call(rt, alloc, call, &Open).ok(),
+        Err(Refusal::OutOfMemory) => session.call(rt, alloc, call, &Open).ok(),
+        answered => answered.ok(),
     }
 }
 
@@ -35,8 +37,8 @@ pub fn told<N: Named, R: Wait + Clock>(
     call: &Call,
 ) -> Option<Told<N>> {
     match session.call_told(rt, alloc, call, &Open) {
-        Ok(told) => Some(told),
-        Err(_) => session.call_told(rt, alloc, call, &Open).ok(),
+        Err(Refusal::OutOfMemory) => session.call_told(rt, alloc, call, &Open).ok(),
+        told => told.ok(),
     }
 }
 

@@ -1,0 +1,108 @@
+//! Calls and replies, told apart, and what texts are made of.
+
+use crate::transcript::shown;
+use anyhow::{Result, bail, ensure};
+use fs_calls::{Bytes, Call, NameList, Reply};
+use fs_names::Name;
+use fs_text::calls::call_at;
+use fs_text::lines::cut_words;
+use fs_text::words::parts;
+use fs_text::{Addition, read_entries};
+use fs_timeline::Entry;
+use std::alloc::{AllocError, Global};
+
+/// What stands before and behind ` = `.
+fn sides(text: &str) -> Result<(&str, &str)> {
+    match text.split_once(" = ") {
+        Some(sides) => Ok(sides),
+        None => bail!("{text}: no two sides"),
+    }
+}
+
+/// The call that a text spells.
+fn call_of(alloc: Global, text: &str) -> Result<Call> {
+    let mut words = Vec::new(alloc);
+    cut_words(text.as_bytes(), &mut words)?;
+    Ok(call_at(alloc, &words)?)
+}
+
+/// Whether two calls are the same.
+pub fn calls(alloc: Global, text: &str) -> Result<String> {
+    let (first, second) = sides(text)?;
+    let (first, second) = (call_of(alloc, first)?, call_of(alloc, second)?);
+    Ok(format!(in alloc; "{}", second.same(&first))?)
+}
+
+/// The entry of a return with the reply that a text spells.
+fn return_of(alloc: Global, text: &str) -> Result<Vec<Entry>> {
+    let line = format!(in alloc; "atomfs-journal 1\nreturn 1 {text}\n")?;
+    Ok(read_entries(alloc, line.as_bytes())?)
+}
+
+/// The reply of a return.
+fn reply_in(entries: &[Entry]) -> Result<&Reply> {
+    match entries.last() {
+        Some(Entry::Return(_, reply)) => Ok(reply),
+        _ => bail!("no reply"),
+    }
+}
+
+/// Whether two replies are the same.
+pub fn same(alloc: Global, text: &str) -> Result<String> {
+    let (first, second) = sides(text)?;
+    let (first, second) = (return_of(alloc, first)?, return_of(alloc, second)?);
+    let is_same = reply_in(&second)?.same(reply_in(&first)?);
+    Ok(format!(in alloc; "{is_same}")?)
+}
+
+/// The number of an error.
+pub fn errno(alloc: Global, name: &str) -> Result<String> {
+    let text = format!(in alloc; "failed {name}")?;
+    let entries = return_of(alloc, text.as_str())?;
+    match reply_in(&entries)? {
+        Reply::Failed(errno) => Ok(format!(in alloc; "{}", errno.number())?),
+        _ => bail!("{name}: no error"),
+    }
+}
+
+/// What stands before a place, and behind the byte there.
+pub fn two_parts(alloc: Global, at: usize, bytes: &[u8]) -> Result<String> {
+    ensure!(at < bytes.len(), "a place beyond the end");
+    let (front, back) = parts(bytes, at);
+    shown(alloc, &[front, back])
+}
+
+/// Bytes, and their name, put into lists, copied and taken out again.
+pub fn held(alloc: Global, bytes: &[u8]) -> Result<String> {
+    let list = Bytes::new(Vec::from_slice(alloc, bytes)?);
+    let copy = list.copy()?;
+    let mut names = Vec::new(alloc);
+    if let Some(name) = Name::read(bytes) {
+        names.push(name)?;
+    }
+    let names = NameList::new(names);
+    let are_same = copy.same(&list) && names.same(&names) && copy.as_slice() == bytes;
+    let (length, count) = (list.into_vec().len(), names.as_slice().len());
+    let taken = names.into_vec().len();
+    Ok(format!(in alloc; "{length} bytes, {count} name, {taken} taken, same: {are_same}")?)
+}
+
+/// Bytes behind `|`: as they are, their count, as hex digits, and with escapes.
+fn addition(alloc: Global, bytes: &[u8]) -> Result<Addition, AllocError> {
+    let mut line = Addition::new(Vec::from_slice(alloc, b"|")?);
+    line.push(bytes)?;
+    line.push_number(bytes.len() as u64)?;
+    line.push_hex(alloc, bytes)?;
+    line.push_escaped(alloc, bytes)?;
+    Ok(line)
+}
+
+/// What was added, and what stood there before.
+pub fn added(alloc: Global, bytes: &[u8]) -> Result<String> {
+    shown(alloc, &[&addition(alloc, bytes)?.kept()])
+}
+
+/// What is left once the addition is taken back.
+pub fn back(alloc: Global, bytes: &[u8]) -> Result<String> {
+    shown(alloc, &[&addition(alloc, bytes)?.taken_back()])
+}

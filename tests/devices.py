@@ -1,0 +1,113 @@
+"""Standard input and standard output that are slow and that fail, each at every byte that they move: status 5, and what is told and written.
+
+tests/devices.c is loaded before the C library (it is compiled by `cc`), so that each read and write moves one byte. Then devices as a system has
+them: output that is full, that is closed and that nobody reads, and input that is a folder and that is closed.
+"""
+import os
+import tempfile
+import unittest
+
+from harness import DATA, ROOT, Case, Outcome, compiled, spawned, takes_a_process
+
+ONE_CALL = DATA / "worked" / "runs" / "first_mkdir"
+SCRIPT, TEXT = (ONE_CALL.with_suffix(ending).read_bytes() for ending in (".script", ".text"))
+# Words, an input, and what is written.
+READING = (
+    (("run",), SCRIPT, TEXT),
+    (("seeds", "--seed", "7", "--runs", "3"), SCRIPT, b"seed 7 lawful\nseed 8 lawful\nseed 9 lawful\n"),
+    (("threads",), SCRIPT.replace(b"t*5", b"t*2"), b"lawful calls 1\n"),
+    (("check",), TEXT, b"lawful\n"),
+)
+WRITING = (*READING, (("--version",), b"", b"atomfs 0.1.0\n"))
+PRINTING = (*WRITING, (("--help",), b"", (DATA / "help" / "atomfs").read_bytes()))
+READ_FAILED, WRITE_FAILED = b"atomfs: read failed\n", b"atomfs: write failed\n"
+
+
+def setUpModule():
+    takes_a_process()
+
+
+class ByteByByte(Case):
+    """Each read and each write moves one byte."""
+
+    @classmethod
+    def setUpClass(cls):
+        folder = tempfile.TemporaryDirectory()
+        cls.addClassCleanup(folder.cleanup)
+        cls.devices = compiled(folder.name, "devices.c")
+
+    def ends(self, words, given, wanted, **devices):
+        """The outcome over devices of which so many `READS` and `WRITES` go well."""
+        named = {name: str(value) for name, value in devices.items()}
+        came = spawned(words, given, env=os.environ | {"LD_PRELOAD": self.devices} | named)
+        self.same(f"atomfs {' '.join(words)} with {named}\n{given.decode()}", came, wanted)
+
+    def well(self, words, given, written):
+        """One read for each byte and one for the end, and one write for each byte, are enough."""
+        self.ends(words, given, Outcome(0, written), READS=len(given) + 1, WRITES=len(written))
+
+    def read_fails(self, words, given, good):
+        self.ends(words, given, Outcome(5, b"", READ_FAILED), READS=good)
+
+    def write_fails(self, words, given, written, good):
+        self.ends(words, given, Outcome(5, written[:good], WRITE_FAILED), WRITES=good)
+
+    def write_takes_nothing(self, words, given, written, good):
+        self.ends(words, given, Outcome(5, written[:good], WRITE_FAILED), WRITES=good, TAKES_NOTHING="")
+
+    def of_each_write(self, look):
+        self.each(((f"{words[0]} {good}", words, given, written, good) for words, given, written in WRITING for good in range(len(written))), look)
+
+    def test_that_all_is_well(self):
+        self.each(((words[0], words, given, written) for words, given, written in PRINTING), self.well)
+
+    def test_each_read_that_fails(self):
+        """The one at the end of the input too."""
+        self.each(((f"{words[0]} {good}", words, given, good) for words, given, _ in READING for good in range(len(given) + 1)), self.read_fails)
+
+    def test_each_write_that_fails(self):
+        self.of_each_write(self.write_fails)
+
+    def test_each_write_that_takes_nothing(self):
+        self.of_each_write(self.write_takes_nothing)
+
+
+class OfTheSystem(Case):
+    """Devices as a system has them."""
+
+    def write_fails(self, words, given, **other):
+        self.same(f"atomfs {' '.join(words)}\n{given.decode()}", spawned(words, given, **other), Outcome(5, b"", WRITE_FAILED))
+
+    def read_fails(self, words, **other):
+        self.same(f"atomfs {' '.join(words)}", spawned(words, None, **other), Outcome(5, b"", READ_FAILED))
+
+    def each_printing(self, **other):
+        self.each(((words[0], words, given) for words, given, _ in PRINTING), lambda words, given: self.write_fails(words, given, **other))
+
+    def each_reading(self, **other):
+        self.each(((words[0], words) for words, *_ in READING), lambda words: self.read_fails(words, **other))
+
+    def test_output_that_is_full(self):
+        with open("/dev/full", "wb") as full:
+            self.each_printing(stdout=full)
+
+    def test_output_that_is_closed(self):
+        self.each_printing(stdout=None, preexec_fn=lambda: os.close(1))
+
+    def test_output_that_nobody_reads(self):
+        reader, writer = os.pipe()
+        os.close(reader)
+        self.addCleanup(os.close, writer)
+        self.each_printing(stdout=writer)
+
+    def test_input_that_is_a_folder(self):
+        folder = os.open(ROOT, os.O_RDONLY)
+        self.addCleanup(os.close, folder)
+        self.each_reading(stdin=folder)
+
+    def test_input_that_is_closed(self):
+        self.each_reading(stdin=None, preexec_fn=lambda: os.close(0))
+
+
+if __name__ == "__main__":
+    unittest.main()

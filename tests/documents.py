@@ -1,0 +1,580 @@
+"""What README and the pages of docs/ and examples/ show: each example, command, path and number that can be compared with what it speaks of.
+
+A row is what a page says. It is compared with what the program answers, a stored run, a source of the repository, or a count by the page's own rule.
+"""
+import collections
+import functools
+import os
+import re
+import shutil
+import subprocess
+import unittest
+
+import harness
+import model
+from harness import DATA, ROOT, Case, Outcome, run
+
+README, EXAMPLES, DOCS = ROOT / "README.md", ROOT / "examples" / "README.md", ROOT / "docs"
+FORMATS, SPECIFICATION, BELIEVE, CHANGING, EMBEDDING, SPEED = (
+    DOCS / f"{name}.md" for name in ("FORMATS", "SPECIFICATION", "BELIEVE", "CHANGING", "EMBEDDING", "SPEED")
+)
+PAGES = README, EXAMPLES, *sorted(DOCS.glob("*.md"))
+CRATES = ROOT / "crates"
+HELPED = DATA / "worked" / "runs" / "helped_mkdir"
+# README is read in a quarter of an hour.
+MOST_WORDS = 1_700
+
+
+def by_path(pages):
+    """Rows of pages by their paths."""
+    return ((str(page.relative_to(ROOT)), page) for page in pages)
+
+
+def blocks(page, language=""):
+    """The fenced blocks of a page in a language."""
+    return re.findall(rf"^```{language}\n(.*?)^```$", page.read_text(), re.M | re.S)
+
+
+def prose(page):
+    """A page without its fenced blocks."""
+    return re.sub(r"^```.*?^```$", "", page.read_text(), flags=re.M | re.S)
+
+
+def spans(text):
+    """What stands in backquotes."""
+    return re.findall(r"`([^`\n]+)`", text)
+
+
+def tables(page, *head):
+    """The tables of a page with these columns, each as the cells of its rows."""
+    found = re.findall(r"(?:^\|.*\|\n)+", page.read_text(), re.M)
+    rows = [[[cell.strip() for cell in line[1:-1].split("|")] for line in table.splitlines()] for table in found]
+    return [table[2:] for table in rows if table[0] == list(head)]
+
+
+def table(page, *head):
+    (only,) = tables(page, *head)
+    return only
+
+
+def source(name):
+    return (CRATES / name).read_text()
+
+
+def constants(name):
+    """The numbers that a source names."""
+    return {name: int(value.replace("_", "")) for name, value in re.findall(r"const (\w+): \w+ = ([\d_]+);", source(name))}
+
+
+def body_of(name, enum):
+    """What stands between the braces of an enum."""
+    return re.search(rf"enum {enum} \{{(.*?)^\}}", source(name), re.M | re.S)[1]
+
+
+def variants(name, enum):
+    """The variants of an enum behind their numbers."""
+    return [(int(value), variant) for variant, value in re.findall(r"^    (\w+) = (\d+),", body_of(name, enum), re.M)]
+
+
+def number(text):
+    """The first number of a text."""
+    return int(re.search(r"[\d,]+", text)[0].replace(",", ""))
+
+
+# What stands for a word in a line or a command of a page, and the words that are put there.
+FILLED = {
+    **{"PATH": ("/a", "/b"), "NUMBER": ("1", "2"), "HEX": ("6869",), "ERRNO": ("ENOENT",)},
+    **{"p": ("/a",), "q": ("/b",), "offset": ("1",), "count": ("2",), "bytes": ("6869",), "size": ("1",)},
+    **{"N": ("7",), "K": ("3",)},
+}
+
+
+def filled(pattern):
+    """A line or a command of a page, with words in the place of what stands for them."""
+    left = {name: iter(words) for name, words in FILLED.items()}
+    first, *rest = pattern.split(" ")
+    return " ".join([first, *(next(left[word]) if word in left else word for word in rest)])
+
+
+def text_of(*lines):
+    return "".join(f"{line}\n" for line in lines).encode()
+
+
+class Sentences(Case):
+    def says(self, page, sentence):
+        """A page has a sentence with these numbers. Where it has it with others, those are what came."""
+        pattern = re.sub(r"\d+(,\d+)*", r"\\d+(,\\d+)*", re.escape(sentence))
+        found = re.search(pattern, page.read_text())
+        self.same(page.relative_to(ROOT), found[0] if found else "no such sentence, with whatever numbers", sentence)
+
+
+class Pages(Case):
+    """What every page names is there."""
+
+    # What a page names and no repository has: what is built, what stands for a name, and the files that a reader makes.
+    ELSEWHERE = re.compile(r"(dist|lib|include|bin)/.*|.*/out/.*|.*\.\..*|proofs/MODULE/FUNCTION|call\.(c|rs|py)")
+    A_PATH = re.compile(r"\w[\w.-]*(/[\w.-]+)+|\w+\.(md|rt|antt|py|c|h|rs|script|journal|text|edit)")
+
+    @staticmethod
+    @functools.cache
+    def ends():
+        """The ends of all paths of the repository, each from any folder on."""
+        ends = set()
+        for folder, folders, files in os.walk(ROOT):
+            folders[:] = [name for name in folders if name not in (".git", "out", "dist", "__pycache__")]
+            for name in (*folders, *files):
+                parts = os.path.relpath(os.path.join(folder, name), ROOT).split("/")
+                ends.update("/".join(parts[at:]) for at in range(len(parts)))
+        return ends
+
+    def test_links(self):
+        self.each(by_path(PAGES), self.look_at_links)
+
+    def look_at_links(self, page):
+        links = [link.split("#")[0] for link in re.findall(r"\]\(([^)]+)\)", prose(page))]
+        self.same(page.name, [link for link in links if not (page.parent / link).exists()], [])
+
+    def test_paths(self):
+        self.each(by_path(PAGES), self.look_at_paths)
+
+    def look_at_paths(self, page):
+        words = [word.removeprefix("../").rstrip("/") for span in spans(prose(page)) for word in span.split(" ")]
+        paths = [word for word in words if self.A_PATH.fullmatch(word) and not self.ELSEWHERE.fullmatch(word)]
+        self.same(page.name, [path for path in paths if not self.ends() & {path, f"{path}.antt"}], [])
+
+    def test_length_of_readme(self):
+        words = len(README.read_text().split())
+        self.same("README.md, in words", words if words > MOST_WORDS else MOST_WORDS, MOST_WORDS)
+
+
+class Shown(Case):
+    """The examples of pages are files that are run elsewhere, or parts of them."""
+
+    def test_worked_example(self):
+        """Its script, and its run text without the arrows."""
+        self.each(by_path((README, FORMATS)), self.look_at_worked_example)
+
+    def look_at_worked_example(self, page):
+        script, text, *_ = blocks(page)
+        self.same(page.name, script, HELPED.with_suffix(".script").read_text())
+        self.same(page.name, re.sub(r" +<- .*", "", text), HELPED.with_suffix(".text").read_text())
+
+    def test_example_of_readme(self):
+        """It is the crate `example_call` without its title, on the crates that README names, and prints what README says."""
+        (shown,) = blocks(README, "rust")
+        self.same("the block of README", shown, source("example_call/src/main.rt").partition("\n")[2])
+        *named, listed, first, second = spans(re.search(r"^A crate that stands on .*", README.read_text(), re.M)[0])
+        self.same("what README says that it prints", [first, second], source("example_call/stdout").splitlines())
+        crates = re.search(r"^example_call: (.*)$", (ROOT / listed).read_text(), re.M)
+        self.same("the crates that README names for it", sorted(named), sorted(crates[1].split()))
+
+    def test_excerpts(self):
+        """Each block in Rust stands in the source to which the page leads before it."""
+        self.each(by_path((DOCS / "THREADS.md", DOCS / "OBSERVERS.md")), self.look_at_excerpt)
+
+    def look_at_excerpt(self, page):
+        link, shown = re.search(r"\]\((\S+\.rt)\).*?^```rust\n(.*?)^```$", page.read_text(), re.M | re.S).groups()
+        lines = [line.strip() for line in (page.parent / link).read_text().splitlines()]
+        self.same(page.name, [line for line in shown.splitlines() if line.strip() not in lines], [])
+
+
+class Faults(Case):
+    """What docs/FORMATS.md says to write instead: the refused line has the fault, and with the other one the text is accepted."""
+
+    HEAD = "Fault", "Line", "Refused", "Write instead", "Because"
+    # The program writes another message in its place.
+    OF_NO_TEXT = "OutOfMemory"
+
+    def rows(self):
+        """Of each table the command that reads its text."""
+        texts = zip(("run", "check"), blocks(FORMATS)[2:], tables(FORMATS, *self.HEAD), strict=True)
+        for command, text, rows in texts:
+            for fault, line, refused, instead, _ in rows:
+                yield f"{command} {line} {refused}", command, text.splitlines(), int(line), spans(fault)[0], spans(refused), spans(instead)
+
+    @staticmethod
+    def with_line(lines, number, line):
+        """The text with another line of this number; it ends before it where there is none."""
+        return text_of(*lines[: number - 1], *line, *(lines[number:] if line else ()))
+
+    def look(self, command, lines, number, fault, refused, instead):
+        given = self.with_line(lines, number, refused)
+        self.same(given, run(given, command), Outcome(3, b"", f"atomfs: line {number}: {fault}\n".encode()))
+        given = self.with_line(lines, number, instead)
+        status, output, message = run(given, command)
+        self.same(given, (status, message), (0, b""))
+        if command == "check":
+            self.same(given, output, b"lawful\n")
+        else:
+            self.same(given, model.replayed(output.decode()), None)
+
+    def test_each_row(self):
+        self.each(self.rows(), self.look)
+
+    def test_each_fault_has_a_row(self):
+        """The faults that the sources name, with those of paths, are those of the page; and each has a row."""
+        kinds, paths = (re.findall(r'#\[error\("([A-Z]\w+)', source(name)) for name in ("fs_text/src/fault.rt", "fs_names/src/fault.rt"))
+        paths.remove(self.OF_NO_TEXT)
+        means = {spans(fault)[0]: spans(meaning) for fault, meaning, _ in table(FORMATS, "Fault", "Means", "Line")}
+        self.same("the table of faults", sorted(means), sorted(kinds))
+        self.same("the faults of paths", sorted(means["BadPath"]), sorted(paths))
+        checks = [spans(fault)[0] for _, fault in table(SPECIFICATION, "Check", "Fault")]
+        self.same("the checks of paths", sorted(checks), sorted(paths))
+        kinds = {*kinds, *(f"BadPath {path}" for path in paths)} - {"BadPath", self.OF_NO_TEXT}
+        self.same("the faults with a row", sorted({fault for _, _, _, _, fault, *_ in self.rows()}), sorted(kinds))
+
+
+class Grammar(Case):
+    """Each line of a call, and each reply, that a page shows."""
+
+    def test_calls(self):
+        shown = [span for row in table(FORMATS, "Line", "The words behind the first") for span in spans(row[0])]
+        also = [call for row in table(SPECIFICATION, "Call", "Errors, in order", "Else") for call in row[0].split(", ")]
+        self.each(((line, filled(line)) for line in (*shown, *also)), self.look_at_call)
+        names = re.findall(r"^    (\w+)\(", body_of("fs_calls/src/call.rt", "Call"), re.M)
+        for calls in (shown, also):
+            self.same(calls, sorted(call.split(" ")[0] for call in calls), sorted(map(str.lower, names)))
+
+    def look_at_call(self, call):
+        given = text_of("atomfs 1", "thread t", call, "schedule", "finish")
+        self.same(given, model.begun(run(given, "run").output.decode()), {0: [call]})
+
+    def test_replies(self):
+        """A reply that can be read is that of a call which never began."""
+        replies = [span for row in table(FORMATS, "Text", "Reply") for span in spans(row[0])]
+        self.each(((reply, text_of("atomfs-journal 1", f"return 1 {filled(reply)}")) for reply in replies), self.look_at_reply)
+
+    def look_at_reply(self, given):
+        self.same(given, run(given, "check"), Outcome(1, b"fault 1 ReturnUncommitted\n"))
+
+
+class Commands(Case):
+    """Each command that a page shows and that takes less than a minute, as it stands."""
+
+    def due(self):
+        """What comes of a command on the worked example."""
+        text, robin, drawn = (HELPED.with_suffix(ending).read_bytes() for ending in (".text", ".robin.text", ".drawn.text"))
+        helps = {name: (DATA / "help" / name).read_bytes() for name in ("atomfs", "run")}
+        version = re.search(r'VERSION: &str = "(.*)"', source("fs_command/src/cli.rt"))[1]
+        return {
+            "run": text,
+            "run --robin": robin,
+            "run --seed 7": drawn,
+            "seeds --seed 7 --runs 3": b"seed 7 lawful\nseed 8 lawful\nseed 9 lawful\n",
+            "threads": b"lawful calls 4\n",
+            "check": b"lawful\n",
+            "--version": f"atomfs {version}\n".encode(),
+            "--help": helps["atomfs"],
+            "help run": helps["run"],
+            "run --help": helps["run"],
+        }
+
+    @staticmethod
+    def shown(cell):
+        """The commands of a cell, of which the later ones may be options of the first."""
+        first, *more = spans(cell)
+        return [first, *(f"{first.split(' --')[0]} {span}" if span.startswith("--") else span for span in more)]
+
+    def test_of_the_program(self):
+        rows = {README: table(README, "Command", "Does"), FORMATS: table(FORMATS, "Command", "Does", "Standard output")}
+        shown = {page: [filled(command).removeprefix("atomfs ") for row in rows[page] for command in self.shown(row[0])] for page in rows}
+        self.each(((f"{page.stem} {words}", words) for page in shown for words in shown[page]), self.look)
+        self.same("the commands of FORMATS", sorted(shown[FORMATS]), sorted(self.due()))
+
+    def look(self, words):
+        given = HELPED.with_suffix(".text" if words == "check" else ".script").read_bytes()
+        self.same(f"atomfs {words}", run(given, *words.split(" ")), Outcome(0, self.due().get(words, b"no such command")))
+
+    def test_of_examples(self):
+        """What examples/README.md says that each command prints."""
+        kinds = ("atomfs check < (.*)", self.look_at_journal), ("examples/run (.*)", self.look_at_script), ("cd (.*) && rt run", self.look_at_crate)
+        rows = ((spans(runs)[0], prints) for _, _, runs, prints in table(EXAMPLES, "File", "Shows", "Run", "Prints"))
+        found = [(command, look, named[1], prints) for command, prints in rows for kind, look in kinds if (named := re.fullmatch(kind, command))]
+        self.each(found, lambda look, named, prints: look(named, prints))
+
+    def look_at_journal(self, journal, prints):
+        status = re.search(r"status (\d)", prints)
+        self.same(journal, run((ROOT / journal).read_bytes(), "check"), Outcome(int(status[1]) if status else 0, text_of(spans(prints)[0])))
+
+    def look_at_script(self, script, _):
+        status, output, _ = run((ROOT / script).read_bytes(), "run")
+        self.same(script, (status, model.replayed(output.decode())), (0, None))
+
+    def look_at_crate(self, crate, prints):
+        """What it is to print is stored beside it. A line of it ends with what is told, and all do where that is one for all."""
+        lines, ends = (ROOT / crate / "stdout").read_text().splitlines(), spans(prints)
+        ends = ends if len(ends) > 1 else ends * len(lines)
+        self.same(crate, [line[-len(end) :] for line, end in zip(lines, ends, strict=True)], ends)
+
+    @staticmethod
+    def of_a_shell(pattern):
+        """Rows of the commands of all pages that are of a pattern."""
+        commands = sorted({span for page in PAGES for span in spans(prose(page)) if re.fullmatch(pattern, span)})
+        return [(command, command) for command in commands]
+
+    def output(self, command):
+        """What a command writes, which ends with status 0 and tells nothing else."""
+        done = subprocess.run(["bash", "-c", command], cwd=ROOT, capture_output=True, timeout=harness.MOST_SECONDS)
+        self.same(command, (done.returncode, done.stderr if done.returncode else b""), (0, b""))
+        return done.stdout
+
+    def test_of_the_model(self):
+        self.each(self.of_a_shell(r"python3 tests/model\.py \S+"), self.output)
+
+    def test_of_a_row(self):
+        """The command that looks at one row."""
+        harness.takes_a_process()
+        self.each(self.of_a_shell(r"ROW=.* python3 tests/\w+\.py .*"), self.output)
+
+    def test_examples_run(self):
+        """The program that is built here runs the worked example, or the script that is named."""
+        harness.takes_a_process()
+        if "ATOMFS" in os.environ:
+            self.skipTest("examples/run runs the program that is built here, and another one is looked at")
+        harness.program()
+        self.each(self.of_a_shell(r"examples/run( examples/\S+)?"), self.look_at_run)
+
+    def look_at_run(self, command):
+        text = self.output(command).decode()
+        self.same(command, model.replayed(text), None)
+        if command == "examples/run":
+            self.same(command, text, HELPED.with_suffix(".text").read_text())
+
+    def test_version_of_the_kit(self):
+        if not shutil.which("rt"):
+            self.skipTest("the command rt is not on the path")
+        version = subprocess.run(["rt", "version"], capture_output=True, text=True, timeout=harness.MOST_SECONDS).stdout
+        self.same("rt version", [span for span in spans(README.read_text()) if span.startswith("rattle-kit")], version.splitlines()[:1])
+
+
+class Definitions:
+    """The definitions of `specs/` that clauses use, directly or by another one."""
+
+    WORD = re.compile(r"[^\s(){}\[\];,.:λ→∷+=|&×]+")
+
+    def __init__(self, roots):
+        self.found, seen, left = collections.defaultdict(set), set(), list(roots)
+        while left:
+            module, name = place = left.pop()
+            definitions, imports = self.file(module)
+            if place not in seen and name in definitions:
+                seen.add(place)
+                self.found[module].add(definitions[name])
+                left += [(module, word) if word in definitions else imports.get(word, place) for word in self.words(definitions[name])]
+
+    @staticmethod
+    def imports(text):
+        """The module of each name that a text imports, and the name."""
+        lists = re.findall(r"use Rattle\.([\w.]+)\.\{(.*)\}", text)
+        return {name.strip(): (module, name.strip()) for module, names in lists for name in names.split(",")}
+
+    @classmethod
+    @functools.cache
+    def file(cls, module):
+        """The lines of each definition of a file by its name, with the comment above, and what the file imports."""
+        crate, _, rest = module.partition(".")
+        path = CRATES / crate / f"{rest.replace('.', '/')}.antt"
+        text, definitions = path.read_text() if path.exists() else "", {}
+        for paragraph in re.split(r"\n\s*\n", text):
+            lines = tuple(line for line in paragraph.splitlines() if is_counted(line))
+            head = next((line for line in lines if not line.startswith("--")), "")
+            if named := re.match(r"(?:(?:pub|abbrev|unfoldable|record|data) )*(\S+)", head):
+                constructors = re.findall(r"^  (\w+) :", paragraph, re.M) if "data " in head else []
+                definitions |= dict.fromkeys((named[1], *constructors), lines)
+        return definitions, cls.imports(text)
+
+    @classmethod
+    def words(cls, lines):
+        """The words of a definition but those of comments and the names of fields."""
+        code = "\n".join(line for line in lines if not line.strip().startswith("--"))
+        return set(cls.WORD.findall(re.sub(r"([{;]\s*)\w+ = ", r"\1", re.sub(r"\.\w+", "", code))))
+
+    def counts(self):
+        """How many definitions, files and lines there are, and how many of these lines are comments."""
+        each = [lines for found in self.found.values() for lines in found]
+        comments = [line for lines in each for line in lines if line.strip().startswith("--")]
+        return len(each), len(self.found), sum(map(len, each)), len(comments)
+
+
+def is_counted(line):
+    """Whether a line of a file of definitions is neither blank nor an import."""
+    return bool(line.strip()) and not re.match("(pub )?use ", line)
+
+
+def of_headline(clauses, models):
+    """What some clauses of `Core::run` use, and the models of the values that they speak of."""
+    text = source("fs_core/src/events.rt")
+    imports = Definitions.imports(text)
+    used = [re.search(rf"ensures {clause} \{{ (.*) \}}", text[text.index("pub fn run(") :])[1] for clause in clauses]
+    return Definitions([*models, *(imports[word] for word in Definitions.words(used) if word in imports)])
+
+
+class Believed(Sentences):
+    """What docs/BELIEVE.md counts: the definitions behind the headline, over their own references."""
+
+    # What the models of a timeline, a core and a store name.
+    MODELS = ("fs_timeline.specs.Timeline", "TimelineValue"), ("fs_core.specs.CoreValues", "CoreValue"), ("fs_nodes.specs.Stores", "plains")
+
+    def setUp(self):
+        self.headline = of_headline(("lawful", "spelled"), self.MODELS)
+
+    def test_files(self):
+        """So many lines of each file are used, of those that it has."""
+        shown = [(spans(file)[0], lines) for _, file, _, lines in table(BELIEVE, "", "File", "Says", "Lines")]
+        used = {f"{module.replace('.', '/')}.antt": sum(map(len, found)) for module, found in self.headline.found.items()}
+        self.same("the files of the headline", sorted(file for file, _ in shown), sorted(used))
+        self.each(((file, file, lines, used[file]) for file, lines in shown), self.look)
+
+    def look(self, file, shown, used):
+        self.same(file, shown, f"{used} of {sum(map(is_counted, source(file).splitlines()))}")
+
+    def test_sums(self):
+        definitions, files, lines, comments = self.headline.counts()
+        self.says(BELIEVE, f"They use {definitions} definitions of {files} files, {lines} lines, {comments} of them comments")
+        self.says(README, f"To check us, read {files} files of definitions, {lines - comments} lines")
+        definitions, files, lines, comments = of_headline(("lawful",), self.MODELS[:1]).counts()
+        self.says(BELIEVE, f"the first clause alone uses {definitions} of {files} files, {lines} lines, {comments} of them comments")
+
+    def test_glue(self):
+        """Nothing outside the folders `specs/code` uses what is inside, and the page names their crates."""
+        files = set(CRATES.glob("*fs*/specs/**/*.antt"))
+        inside = {path for path in files if "code" in path.parts}
+        self.same("what uses glue", [str(path) for path in files - inside if ".specs.code." in path.read_text()], [])
+        listed = re.search(r"Glue is what stands in .* lines, in (.*?)\. No", BELIEVE.read_text())[1]
+        self.same("the crates with glue", sorted(spans(listed)), sorted({path.relative_to(CRATES).parts[0] for path in inside}))
+
+
+class Changed(Sentences):
+    """What docs/CHANGING.md counts: the files that name a call as a constructor, outside comments and imports, tests and examples."""
+
+    NO_CODE = {".rt": r"//.*|^\s*(pub )?(ghost )?use [^;]*;", ".antt": r"--.*|^(pub )?use .*"}
+
+    @classmethod
+    def files(cls, call):
+        """The files by their part of a crate."""
+        found = collections.defaultdict(list)
+        for path in (path for crate in CRATES.glob("*fs*") for part in ("src", "specs", "proofs") for path in (crate / part).rglob("*.*t")):
+            crate, part, *rest = path.relative_to(CRATES).parts
+            is_example = re.match(r"(tests|examples|Examples)\b", rest[0])
+            if not is_example and re.search(rf"\b{call}\b", re.sub(cls.NO_CODE[path.suffix], "", path.read_text(), flags=re.M)):
+                found[part].append(crate)
+        return found
+
+    def test_counts(self):
+        rows = table(CHANGING, "The eleventh call looks at", "Like", "Source", "Definitions", "Proofs", "Together")
+        self.each(((looks_at, spans(like)[0].title(), list(map(int, counts))) for looks_at, like, *counts in rows), self.look)
+
+    def look(self, call, shown):
+        found = self.files(call)
+        counts = [len(found[part]) for part in ("src", "specs", "proofs")]
+        self.same(call, shown, [*counts, sum(counts)])
+
+    def test_proofs_of_a_pair(self):
+        proofs = self.files("Rename")["proofs"]
+        of_laws, of_ops = proofs.count("fs_laws"), proofs.count("fs_ops")
+        self.says(CHANGING, f"{of_laws} of the {len(proofs)} proof files are in `fs_laws`, {of_ops} in `fs_ops`")
+
+
+class Listed(Case):
+    """What tables of pages list is what the sources have."""
+
+    def test_wrong_bodies(self):
+        """Each edit has a place in the table of docs/GUARANTEES.md, behind the name of its crate."""
+        shown, crate = [], None
+        for _, refused in table(DOCS / "GUARANTEES.md", "A body that", "Refused in"):
+            for name in spans(refused):
+                crate = name if (CRATES / name).is_dir() else crate
+                shown += [] if name == crate else [f"{crate} {name}"]
+        edits = [f"{path.parts[-3]} {path.stem}" for path in CRATES.glob("*/must-fail/*.edit")]
+        self.same("the table of wrong bodies", sorted(shown), sorted(edits))
+        most = max(collections.Counter(edit.split(" ")[0] for edit in edits).values())
+        budget = int(re.search(r"at most (\d+) in a crate", (DOCS / "DECISIONS.md").read_text())[1])
+        self.same("the most edits of a crate", max(most, budget), budget)
+
+    def test_architecture(self):
+        """The crates of the product, and which each stands on, but those that follow from the rest."""
+        lines = (line.split(":") for line in (ROOT / "crates.txt").read_text().splitlines() if not line.startswith("#"))
+        named = {crate.split()[0]: below.split() for crate, below in lines}
+        named = {crate: [one for one in below if one in named] for crate, below in named.items() if re.match("fs_|atomfs", crate)}
+        rows = table(DOCS / "ARCHITECTURE.md", "Crate", "What it owns", "What the layer above may know of it", "Stands on")
+        self.same("its crates, in order", [spans(row[0])[0] for row in rows], list(named))
+        reached = {}
+        for crate, below in named.items():
+            reached[crate] = set(below).union(*(reached[one] for one in below))
+        self.each(((crate, crate, set(spans(row[-1])), reached) for crate, row in zip(named, rows, strict=True)), self.look_at_crate)
+
+    def look_at_crate(self, crate, shown, reached):
+        follows = set().union(*(reached[one] for one in reached[crate]))
+        self.same(crate, shown, reached[crate] - follows)
+
+    def test_numbers_of_errors(self):
+        """The numbers of errors, and of the kinds of a verdict."""
+        cells = [cell for row in table(SPECIFICATION, "Number", "Error", "Number", "Error") for cell in row]
+        errors = sorted((int(value), error) for value, error in zip(cells[::2], cells[1::2]))
+        self.same("errors", errors, [(value, error.upper()) for value, error in variants("fs_calls/src/errno.rt", "Errno")])
+        kinds = [(int(value), spans(kind)[0]) for value, kind, _ in table(SPECIFICATION, "Number", "Kind", "What is wrong")]
+        self.same("kinds", kinds, variants("fs_timeline/src/verdict.rt", "FaultKind"))
+
+    def test_exit_statuses(self):
+        shown = [row[0] for row in table(FORMATS, "Exit status", "Means", "Standard error")]
+        self.same("the exit statuses", shown, re.findall(r"^  (\d)  ", (DATA / "help" / "atomfs").read_text(), re.M))
+
+    def test_library(self):
+        """The functions of embed/atomfs.h, and its statuses after which something has changed."""
+        header = (ROOT / "embed" / "atomfs.h").read_text()
+        calls = [name for _, cell in table(EMBEDDING, "To", "Call") for name in spans(cell)]
+        self.same("the functions", sorted(calls), sorted(re.findall(r"^uint8_t (\w+)\(", header, re.M)))
+        shown = [spans(status)[0] for status, *_ in table(EMBEDDING, "Status", "Means", "What to do")]
+        before = header[: header.index("From here on nothing has changed")]
+        self.same("the statuses", shown, re.findall(r"^    (ATOMFS_\w+) = \d+,", before, re.M))
+
+
+class Numbers(Sentences):
+    """Numbers in sentences and tables of pages, and where else they stand."""
+
+    def test_limits_of_trees(self):
+        limits = constants("fs_names/src/limits.rt")
+        rows = [(spans(name)[0], number(limit)) for _, limit, name in table(SPECIFICATION, "What", "Limit", "Constant (`fs_names::limits`)")]
+        self.same("the limits", dict(rows), limits)
+        header = (ROOT / "embed" / "atomfs.h").read_text()
+        self.same("embed/atomfs.h", number(re.search("#define ATOMFS_NODE_LIMIT (.*)", header)[1]), limits["NODE_LIMIT"])
+
+    def test_limits_of_texts(self):
+        texts, scripts = constants("fs_text/src/limits.rt"), constants("fs_script/src/limits.rt")
+        draws, seeds = constants("fs_sched/src/schedule.rt"), constants("fs_sched/src/seeding.rt")
+        events = scripts["EVENT_LIMIT"]
+        sentences = (
+            f"A text of more than {texts['TEXT_LIMIT']:,} bytes is `TooLarge`",
+            f"The {scripts['THREAD_LIMIT'] + 1:,}th thread, the {scripts['CALL_LIMIT'] + 1:,}th call and the {events + 1:,}st given event",
+            f"`THREAD*NUMBER` (1 to {events:,} events)",
+            f"with a number outside 1 to {events:,}",
+            f"at most {events:,} events are given",
+            f"then at most {scripts['THREAD_NAME_LIMIT'] - 1} of `a` to `z`",
+            f"or {draws['DRAW_LIMIT']:,} are drawn",
+            f"N from 0 to {seeds['SEED_LIMIT']:,}, K from 1 to {seeds['RUN_LIMIT']:,}",
+            f"at most {2**64 - 1:,} | `BadNumber`",
+        )
+        self.each(((sentence, FORMATS, sentence) for sentence in sentences), self.says)
+
+    def test_counts(self):
+        """How many there are of what pages count."""
+        inputs = [path for path in (DATA / "worked").rglob("*") if path.suffix in (".script", ".journal")]
+        edits = len(list(CRATES.glob("*/must-fail/*.edit")))
+        rows = (
+            (EXAMPLES, f"`tests/data/worked` has {len(inputs)} more scripts, journals and broken texts"),
+            (DOCS / "GUARANTEES.md", f"The gate gives the prover {edits} wrong bodies"),
+            (DOCS / "DECISIONS.md", f"{edits} stand in `must-fail/`"),
+            (DOCS / "OBSERVERS.md", f"There are places for {constants('fs_observe/src/publisher.rt')['READER_PLACES']} observers"),
+        )
+        self.each(((page.stem, page, sentence) for page, sentence in rows), self.says)
+
+    def test_ratios(self):
+        """README's ratios are the middle of those of docs/SPEED.md."""
+        rows = {(spans(job)[0], measure): ratios for job, measure, *ratios in table(SPEED, "Job", "Measure", "Few names", "A tree that grows")}
+        ran, checked = (sum(map(float, rows[f"atomfs {command}", "instructions"])) / 2 for command in ("run", "check"))
+        self.says(README, f"`atomfs run` takes {ran:.1f} times its instructions, and `atomfs check` {checked:.1f} times")
+        self.says(README, f"Two threads make {dict(table(SPEED, 'Threads', 'Throughput'))['2']} times as many")
+
+
+if __name__ == "__main__":
+    unittest.main()

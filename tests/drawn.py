@@ -1,0 +1,109 @@
+"""Drawn calls, the threads that make them, and scripts of these. Each drawing takes its numbers from a `random.Random` that is handed over."""
+
+# Of these a name is drawn for calls that are to meet: the last one is the rarest.
+LETTERS = "a" * 10 + "b" * 9 + "c"
+# Of these the number of names of a path is drawn: of a call, mostly three or four, and of a rename, mostly one or two.
+LOW = [0] * 1 + [1] * 2 + [2] * 3 + [3] * 10 + [4] * 24
+HIGH = [1] * 14 + [2] * 4 + [3] * 2
+# How many of a hundred calls each is.
+MOVING = {"rename": 40, "mkdir": 16, "mknod": 10, "stat": 6, "write": 6, "unlink": 5, "rmdir": 5, "readdir": 4, "read": 4, "truncate": 4}
+CROWDED = {"mkdir": 22, "rename": 22, "mknod": 10, "write": 9, "stat": 8, "readdir": 7, "rmdir": 6, "read": 6, "unlink": 5, "truncate": 5}
+# The directories of a tree for moving calls, those above before those below. The last ones, /b and those below it, are mostly left out.
+DIRECTORIES = "/a /a/a /a/b /a/a/a /a/a/b /a/b/a /a/b/b /b /b/a /b/b /b/a/a /b/a/b /b/b/a /b/b/b".split()
+OUTSIDE_B = 7
+
+
+def kind(draw, shares):
+    return draw.choices(list(shares), list(shares.values()))[0]
+
+
+def names(draw, count):
+    return [draw.choice(LETTERS) for _ in range(count)]
+
+
+def path(names):
+    return "/" + "/".join(names)
+
+
+def beside(names):
+    """The names of a path that differs in the last one alone."""
+    last = "c" if len(names) > 1 else "b" if names == ["a"] else "a"
+    return [*names[:-1], last]
+
+
+def rename(draw):
+    """A rename of what stands high, mostly to a name beside it."""
+    old = names(draw, draw.choice(HIGH))
+    new = beside(old) if draw.randrange(3) else names(draw, draw.choice(HIGH))
+    return f"rename {path(old)} {path(new)}"
+
+
+def moving_call(draw):
+    """A rename of what stands high, or a call on what stands low."""
+    chosen = kind(draw, MOVING)
+    if chosen == "rename":
+        return rename(draw)
+    first = f"{chosen} {path(names(draw, draw.choice(LOW)))}"
+    match chosen:
+        case "read":
+            return f"{first} 1 4"
+        case "write":
+            return f"{first} {draw.randrange(8)} {''.join(names(draw, draw.randrange(6))).encode().hex() or '-'}"
+        case "truncate":
+            return f"{first} 3"
+        case _:
+            return first
+
+
+def making(draw):
+    """The calls that make a tree for the others."""
+    count = OUTSIDE_B if draw.randrange(4) else len(DIRECTORIES)
+    directories = [f"mkdir {directory}" for directory in DIRECTORIES[:count] if draw.randrange(16)]
+    return directories + [f"mknod {path(names(draw, 4))}" for _ in range(4)]
+
+
+def moving(draw):
+    """A thread that makes a tree, and two to six threads of three to eight calls that use it."""
+    return [making(draw), *([moving_call(draw) for _ in range(draw.randint(3, 8))] for _ in range(draw.randint(2, 6)))]
+
+
+def narrow_call(draw):
+    return f"{draw.choice(('mkdir', 'stat'))} {path(names(draw, draw.randint(1, 3)))}"
+
+
+def narrow(draw):
+    """Three threads of six calls that make directories and look at them."""
+    return [[narrow_call(draw) for _ in range(6)] for _ in range(3)]
+
+
+def crowded_path(draw):
+    return path(draw.choice("abc") for _ in range(draw.choice((1, 1, 2, 2, 2, 3, 3, 4))))
+
+
+def crowded_call(draw):
+    """Any call, over three names, at most four deep."""
+    chosen = kind(draw, CROWDED)
+    first = f"{chosen} {crowded_path(draw)}"
+    match chosen:
+        case "rename":
+            return f"{first} {crowded_path(draw)}"
+        case "read":
+            return f"{first} {draw.randrange(40)} {draw.randrange(40)}"
+        case "write":
+            return f"{first} {draw.choice((0, 3, 30, 65_530))} {draw.randbytes(draw.randrange(12)).hex() or '-'}"
+        case "truncate":
+            return f"{first} {draw.choice((0, 5, 50, 65_537))}"
+        case _:
+            return first
+
+
+def crowded(draw):
+    """Two to sixteen threads of few or of many calls."""
+    most = draw.choice((3, 10, 60))
+    return [[crowded_call(draw) for _ in range(draw.randrange(1, most))] for _ in range(draw.randint(2, 16))]
+
+
+def script(threads, schedule="finish"):
+    """The script of some threads: t0, t1, t2 and so on."""
+    blocks = "".join(f"thread t{number}\n" + "".join(f"{line}\n" for line in calls) for number, calls in enumerate(threads))
+    return f"atomfs 1\n{blocks}schedule\n{schedule}\n"

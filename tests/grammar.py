@@ -1,0 +1,224 @@
+"""The grammar of docs/FORMATS.md, written anew in Python: what a script or a journal says, or its first fault.
+
+Calls and replies come in their canonical form, as the program writes them.
+"""
+import re
+
+LENGTH, THREADS, CALLS, EVENTS = 16_777_216, 256, 65_536, 1_000_000
+NAME_BYTES, PATH_NAMES, GREATEST = 32, 64, 2**64 - 1
+ERRORS = ("ENOENT", "ENOTDIR", "EEXIST", "ENOTEMPTY", "EISDIR", "EINVAL", "EBUSY", "EPERM", "ENOSPC", "EFBIG")
+
+
+class Fault(Exception):
+    """The first fault of a text, and the line that has it."""
+
+    def __init__(self, kind, line=None):
+        super().__init__(kind)
+        self.kind, self.line = kind, line
+
+    def __str__(self):
+        return f"line {self.line}: {self.kind}"
+
+
+def decoded(word):
+    """The bytes that a word spells: any other % stands for itself."""
+    return re.sub(rb"%([0-9A-Fa-f]{2})", lambda escape: bytes([int(escape[1], 16)]), word)
+
+
+def escaped(name):
+    return "".join(chr(byte) if 0x20 < byte < 0x7F and byte != 0x25 else f"%{byte:02X}" for byte in name)
+
+
+def number(word):
+    if not re.fullmatch(rb"0|[1-9][0-9]{0,19}", word) or int(word) > GREATEST:
+        raise Fault("BadNumber")
+    return word.decode()
+
+
+def hexadecimal(word):
+    if not re.fullmatch(rb"-|([0-9A-Fa-f]{2})+", word):
+        raise Fault("BadHex")
+    return word.decode().lower()
+
+
+def path(word):
+    given = decoded(word)
+    if not given.startswith(b"/"):
+        raise Fault("BadPath NotAbsolute")
+    if b"\0" in given:
+        raise Fault("BadPath Nul")
+    names = [name for name in given.split(b"/") if name]
+    for place, name in enumerate(names):
+        if place == PATH_NAMES:
+            raise Fault("BadPath TooManyNames")
+        if len(name) > NAME_BYTES:
+            raise Fault("BadPath NameTooLong")
+        if name in (b".", b".."):
+            raise Fault("BadPath Dot")
+    if names and given.endswith(b"/"):
+        raise Fault("BadPath TrailingSlash")
+    return "/" + "/".join(map(escaped, names))
+
+
+def name(word):
+    """A name of a reply."""
+    given = decoded(word)
+    if not 0 < len(given) <= NAME_BYTES or given in (b".", b"..") or re.search(rb"[/\0]", given):
+        raise Fault("BadReply")
+    return escaped(given)
+
+
+def error(word):
+    if word.decode("latin-1") not in ERRORS:
+        raise Fault("BadReply")
+    return word.decode()
+
+
+READERS = {"PATH": path, "NUMBER": number, "HEX": hexadecimal, "ERRNO": error}
+
+
+def forms(*lines):
+    """The readers of each form's last words, by its first ones, which stand for themselves."""
+    words = [line.split() for line in lines]
+    return {tuple(word.encode() for word in form if word not in READERS): [READERS[word] for word in form if word in READERS] for form in words}
+
+
+CALL_FORMS = forms(
+    *("mkdir PATH", "mknod PATH", "unlink PATH", "rmdir PATH", "rename PATH PATH", "stat PATH", "readdir PATH"),
+    *("read PATH NUMBER NUMBER", "write PATH NUMBER HEX", "truncate PATH NUMBER"),
+)
+REPLY_FORMS = forms("ok", "stat dir NUMBER", "stat file NUMBER", "bytes HEX", "wrote NUMBER", "failed ERRNO")
+
+
+def readers_of(words, among, fault):
+    """The readers of all words of the form that the words have."""
+    for fixed in (1, 2):
+        readers = among.get(tuple(words[:fixed]))
+        if readers is not None and len(words) == fixed + len(readers):
+            return [bytes.decode] * fixed + readers
+    raise Fault(fault)
+
+
+def spelled(words, readers):
+    """The words in canonical form: the first from the left that cannot be read is the fault."""
+    return " ".join(read(word) for read, word in zip(readers, words, strict=True))
+
+
+def room(left, more):
+    """What is left of a limit."""
+    if more > left:
+        raise Fault("TooLarge")
+    return left - more
+
+
+def call(words):
+    return spelled(words, readers_of(words, CALL_FORMS, "BadLine"))
+
+
+def reply(words):
+    if words[0] == b"names":
+        return " ".join(["names", *map(name, words[1:])])
+    return spelled(words, readers_of(words, REPLY_FORMS, "BadReply"))
+
+
+def entry(words):
+    """An entry of a journal."""
+    match words:
+        case [b"begin", _, _, _, *_]:
+            return spelled(words, [bytes.decode, number, number, *readers_of(words[3:], CALL_FORMS, "BadLine")])
+        case [b"commit", _]:
+            return spelled(words, [bytes.decode, number])
+        case [b"return", which, _, *_]:
+            return f"return {number(which)} {reply(words[2:])}"
+    raise Fault("BadLine")
+
+
+def cut(line):
+    """The words of a line."""
+    words = line.split(b" ")
+    if b"" in words:
+        raise Fault("BadLine")
+    return words
+
+
+def read(text, header, take, end=None):
+    """Hands the words of each line that is not passed over to `take`, up to a line that is the end. Answers how many lines there are."""
+    if len(text) > LENGTH:
+        raise Fault("TooLarge", 1)
+    first, *lines = text.removesuffix(b"\n").split(b"\n")
+    if first != header:
+        raise Fault("BadHeader", 1)
+    for place, line in enumerate(lines, 2):
+        if line == end:
+            break
+        if not line or line.startswith(b"#"):
+            continue
+        try:
+            take(cut(line))
+        except Fault as fault:
+            raise Fault(fault.kind, place) from None
+    return 1 + len(lines)
+
+
+def journal(text):
+    """The entries of a journal."""
+    entries = []
+    read(text, b"atomfs-journal 1", lambda words: entries.append(entry(words)), end=b"tree")
+    return entries
+
+
+class Script:
+    """The calls of each thread, by the order of the blocks; the events of the schedule, as threads with numbers; and whether rounds follow."""
+
+    def __init__(self, text):
+        self.calls, self.events, self.finishes = {}, None, False
+        self.calls_left, self.events_left = CALLS, EVENTS
+        lines = read(text, b"atomfs 1", self.take)
+        if self.events is None:
+            raise Fault("NoSchedule", lines + 1)
+
+    def take(self, words):
+        if self.events is not None:
+            for word in words:
+                self.take_word(word)
+        elif words[0] == b"thread" and len(words) == 2:
+            self.take_thread(words[1].decode("latin-1"))
+        elif words == [b"schedule"]:
+            self.events = []
+        elif self.calls:
+            self.take_call(call(words))
+        else:
+            raise Fault("BadLine")
+
+    def take_thread(self, thread):
+        if not re.fullmatch("[a-z][a-z0-9_]{0,15}", thread) or thread == "finish":
+            raise Fault("BadThread")
+        if thread in self.calls:
+            raise Fault("ThreadTwice")
+        if len(self.calls) == THREADS:
+            raise Fault("TooLarge")
+        self.calls[thread] = []
+
+    def take_call(self, line):
+        """A call of the last thread."""
+        self.calls_left = room(self.calls_left, 1)
+        self.calls[next(reversed(self.calls))].append(line)
+
+    def take_word(self, word):
+        """A word of the schedule."""
+        thread, star, times = word.decode("latin-1").partition("*")
+        if self.finishes:
+            raise Fault("BadWord")
+        if word == b"finish":
+            self.finishes = True
+            return
+        if thread not in self.calls or star and not re.fullmatch("[1-9][0-9]{0,6}", times) or int(times or 1) > EVENTS:
+            raise Fault("BadWord")
+        self.events_left = room(self.events_left, int(times or 1))
+        self.events.append((thread, int(times or 1)))
+
+    def text(self):
+        """A script that says the same: each call in canonical form, and each event as a word, unless they are very many."""
+        blocks = [line for thread, calls in self.calls.items() for line in (f"thread {thread}", *calls)]
+        words = [word for thread, times in self.events for word in ([thread] * times if times <= 1_000 else [f"{thread}*{times}"])]
+        return "".join(f"{line}\n" for line in ("atomfs 1", *blocks, "schedule", *words, *["finish"] * self.finishes)).encode()

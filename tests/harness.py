@@ -1,0 +1,161 @@
+"""What the tests share: the program and the library that are looked at, and the rows of a test.
+
+ATOMFS names another program than crates/atomfs/out/atomfs, LIBATOMFS another library than dist/lib/libatomfs.so. One that is older than a
+source of it is refused. ROW names the one row that is looked at.
+"""
+import contextlib
+import functools
+import os
+import pathlib
+import shlex
+import subprocess
+import sys
+import typing
+import unittest
+
+ROOT = pathlib.Path(__file__).resolve().parent.parent
+DATA = ROOT / "tests" / "data"
+# No run of the program takes as long as this many seconds.
+MOST_SECONDS = 120
+
+sys.dont_write_bytecode = True
+sys.path.insert(0, str(ROOT / "examples" / "embed"))
+import atomfs
+
+
+class Outcome(typing.NamedTuple):
+    """What a program ended with, wrote to standard output, and told on standard error."""
+
+    status: int
+    output: bytes = b""
+    message: bytes = b""
+
+
+def sources():
+    """The files of which the program and the library are built."""
+    for crate in (ROOT / "crates").glob("*fs*"):
+        for part in ("src", "specs"):
+            yield from (path for path in (crate / part).rglob("*") if path.is_file())
+
+
+def newer_source(built):
+    """A source that is newer than what was built, if one is."""
+    when = built.stat().st_mtime
+    return next((path for path in sources() if path.stat().st_mtime > when), None)
+
+
+@functools.cache
+def found(variable, default, how):
+    """The file that a variable names, or the one that was built, which is to be no older than its sources."""
+    if variable in os.environ:
+        return os.environ[variable]
+    built = ROOT / default
+    if not built.exists():
+        sys.exit(f"{default} is not there: {how}")
+    if newer := newer_source(built):
+        sys.exit(f"{default} is older than {newer.relative_to(ROOT)}: {how}")
+    return str(built)
+
+
+def program():
+    return found("ATOMFS", "crates/atomfs/out/atomfs", "examples/run --proved builds it")
+
+
+@contextlib.contextmanager
+def program_at(path):
+    """Another program is looked at meanwhile."""
+    before = os.environ.get("ATOMFS")
+    os.environ["ATOMFS"] = str(path)
+    found.cache_clear()
+    yield
+    if before is None:
+        del os.environ["ATOMFS"]
+    else:
+        os.environ["ATOMFS"] = before
+    found.cache_clear()
+
+
+@functools.cache
+def library():
+    if answer is not spawned:
+        raise unittest.SkipTest("the library for C is looked at where it is proved and built")
+    return atomfs.Library(found("LIBATOMFS", "dist/lib/libatomfs.so", "embed/build builds it"))
+
+
+def told(ask, given):
+    """What a function of the library tells of what it is given: a text, or its status and what that is about."""
+    try:
+        return ask(given)
+    except atomfs.Error as error:
+        return error.status, error.about
+
+
+def spawned(words, given, **other):
+    """The outcome of a process of its own, in which some of what `subprocess.run` takes may be other."""
+    pipes = {"stdout": subprocess.PIPE, "stderr": subprocess.PIPE}
+    # Help and usage errors name the program as it was called.
+    done = subprocess.run(["atomfs", *words], executable=program(), input=given, timeout=MOST_SECONDS, **pipes | other)
+    return Outcome(done.returncode, done.stdout or b"", done.stderr or b"")
+
+
+# Where this is another function, it answers in the place of the program; and where nothing is compared, rows only ask.
+answer = spawned
+compares = True
+
+
+def run(given, *words):
+    """The outcome of the program on an input."""
+    return answer(words, given)
+
+
+def takes_a_process():
+    """Skips what looks at a process of the program's own where the program is asked in another way."""
+    if answer is not spawned:
+        raise unittest.SkipTest("devices, memory and time of a process are looked at in the program that is proved and built")
+
+
+def compiled(folder, source, *more):
+    """The shared object that `cc` makes of a source in C of tests/."""
+    made = f"{folder}/{source}.so"
+    subprocess.run(["cc", "-O2", "-Wall", "-Wextra", "-Werror", "-shared", "-fPIC", "-o", made, ROOT / "tests" / source, *more], check=True)
+    return made
+
+
+def shown(value):
+    """A value as it is told of a row that fails."""
+    if isinstance(value, Outcome):
+        return f"status {value.status}\n{shown(value.output)}{shown(value.message)}"
+    if isinstance(value, bytes):
+        value = value.decode("utf-8", "backslashreplace")
+    text = value if isinstance(value, str) else repr(value)
+    text = text if len(text) <= 4_000 else f"{text[:2_000]}\n.. {len(text) - 4_000} more ..\n{text[-2_000:]}"
+    return text if text.endswith("\n") else text + "\n"
+
+
+class Case(unittest.TestCase):
+    """A test whose rows are looked at one by one."""
+
+    row = None
+
+    def each(self, rows, look):
+        """Looks at rows by themselves: of each its name comes first, and `look` gets the rest."""
+        only, looked_at = os.environ.get("ROW"), 0
+        for name, *rest in rows:
+            if only in (None, name):
+                self.row, looked_at = name, looked_at + 1
+                with self.subTest(name):
+                    look(*rest)
+        self.row = None
+        if only and not looked_at:
+            self.skipTest(f"no row of it is called {only}")
+
+    def alone(self):
+        """The command that looks at this row, or at this test, by itself."""
+        module = sys.modules[type(self).__module__].__file__
+        row = f"ROW={shlex.quote(self.row)} " if self.row else ""
+        return f"{row}python3 {os.path.relpath(module, ROOT)} {type(self).__name__}.{self._testMethodName}"
+
+    def same(self, given, came, wanted):
+        """What came of what was given is what was wanted."""
+        if compares and came != wanted:
+            self.fail(f"\n== given\n{shown(given)}== came\n{shown(came)}== wanted\n{shown(wanted)}== alone: {self.alone()}")

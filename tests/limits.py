@@ -1,0 +1,245 @@
+"""Inputs at each limit of docs/FORMATS.md and docs/SPECIFICATION.md and one past it, and scripts that make the program hold much, or too much.
+
+`python3 tests/limits.py --measure` also tells the seconds of each run, and the most memory that the program held: no less than Python holds when it
+starts the program. docs/GUARANTEES.md has the bounds. No script has calls enough for all 1,048,576 numbers of nodes.
+"""
+import os
+import pathlib
+import resource
+import subprocess
+import sys
+import tempfile
+import threading
+import time
+import unittest
+
+from harness import MOST_SECONDS, Case, Outcome, program, spawned, takes_a_process
+
+TEXT, THREADS, CALLS, EVENTS = 16_777_216, 256, 65_536, 1_000_000
+FILE, ENTRIES, NAME, PATH = 65_536, 256, 32, 64
+ROOM = 268_435_456
+RUN, CHECK, SEEDS = ("run",), ("check",), ("seeds", "--seed", "1", "--runs", "3")
+LAWFUL = Outcome(0, b"lawful\n")
+LAWFUL_SEEDS = Outcome(0, b"seed 1 lawful\nseed 2 lawful\nseed 3 lawful\n")
+OUT_OF_MEMORY = Outcome(4, b"", b"atomfs: out of memory\n")
+
+
+def setUpModule():
+    takes_a_process()
+
+
+def alone(number, call, reply):
+    """The entries of a call that no other comes between."""
+    return f"begin {number} 0 {call}\ncommit {number}\nreturn {number} {reply}\n"
+
+
+def counts(calls):
+    return f"begun {calls} committed {calls} returned {calls}\n"
+
+
+def finished(calls, *tree):
+    """The end of a run text: its tree below the root, and its counts."""
+    return "".join(f"{line}\n" for line in ("tree", "dir /", *tree)) + counts(calls)
+
+
+def well(*text):
+    return Outcome(0, "".join(text).encode())
+
+
+def refused(line, fault):
+    return Outcome(3, b"", f"atomfs: line {line}: {fault}\n".encode())
+
+
+EMPTY, EMPTY_RUN = b"atomfs 1\nschedule\n", well("atomfs-journal 1\n", finished(0))
+
+
+def script(calls, words="finish"):
+    """The lines of a script of one thread."""
+    yield from ("atomfs 1", "thread t")
+    yield from calls
+    yield from ("schedule", words)
+
+
+def commented(length):
+    """The lines of a script of so many bytes, the last of them in comments."""
+    yield from ("atomfs 1", "schedule")
+    length -= len(EMPTY)
+    while length > 2_000:
+        yield "#" * 999
+        length -= 1_000
+    yield "#" * (length - 1)
+
+
+def threads(count):
+    yield "atomfs 1"
+    for number in range(count):
+        yield from (f"thread t{number}", f"mkdir /{number}")
+    yield from ("schedule", "finish")
+
+
+def stats(count):
+    return script("stat /" for _ in range(count))
+
+
+def nodes(count):
+    """So many calls that each make a node: 256 directories of at most 256 entries."""
+    return script(f"mkdir /{number}" if number < ENTRIES else f"mknod /{number % ENTRIES}/{number}" for number in range(count))
+
+
+def entries(count):
+    return script(f"mknod /{number}" for number in range(count))
+
+
+def deep(levels):
+    """The calls that put a file below so many directories, of which each is made above the others."""
+    yield from ("mkdir /p", "mknod /p/f", "write /p/f 0 ff")
+    for _ in range(levels):
+        yield from ("mkdir /x", "rename /p /x/p", "rename /x /p")
+
+
+def taken_apart(levels):
+    """The calls that take these directories apart again, from above."""
+    for _ in range(levels):
+        yield from ("rename /p/p /x", "rmdir /p", "rename /x /p")
+    yield from ("read /p/f 0 2", "unlink /p/f", "rmdir /p")
+
+
+def reads(count):
+    """The calls that read a full file so often."""
+    yield from ("mknod /f", f"truncate /f {FILE}")
+    yield from (f"read /f 0 {FILE}" for _ in range(count))
+
+
+def files(count):
+    """The calls that make so many full files."""
+    for number in range(count):
+        folder, path = f"/{number // ENTRIES}", f"/{number // ENTRIES}/{number}"
+        yield from ([f"mkdir {folder}"] if number % ENTRIES == 0 else [])
+        yield from (f"mknod {path}", f"truncate {path} {FILE}")
+
+
+def much():
+    """Rows of runs that hold many replies, files and long paths."""
+    for what, make, few in (("full reads", reads, 1_000), ("full files", files, 1_000), ("levels", deep, 5_000)):
+        for count in (few, 2 * few):
+            yield f"{count} {what}", script(make(count)), RUN, well(counts(sum(1 for _ in make(count))))
+            if make is not deep:
+                yield f"{count} {what}, drawn", script(make(count)), SEEDS, LAWFUL_SEEDS
+
+
+class Limits(Case):
+    """The program reads from a file and writes to one; of what it writes the end is compared, and the whole of it where something is refused."""
+
+    measures = False
+
+    def setUp(self):
+        folder = tempfile.TemporaryDirectory()
+        self.addCleanup(folder.cleanup)
+        self.given, self.made = pathlib.Path(folder.name, "given"), pathlib.Path(folder.name, "made")
+
+    def measured(self, words, room):
+        """The status of a process that may have so much room, what it tells, its seconds, and the most kilobytes that it held."""
+        confine = room and (lambda: resource.setrlimit(resource.RLIMIT_AS, (room, room)))
+        with open(self.given, "rb") as source, open(self.made, "wb") as sink, tempfile.TemporaryFile() as told:
+            began = time.monotonic()
+            child = subprocess.Popen([program(), *words], stdin=source, stdout=sink, stderr=told, preexec_fn=confine)
+            end = threading.Timer(MOST_SECONDS, child.kill)
+            end.start()
+            _, status, usage = os.wait4(child.pid, 0)
+            end.cancel()
+            child.returncode = os.waitstatus_to_exitcode(status)
+            told.seek(0)
+            return child.returncode, told.read(), time.monotonic() - began, usage.ru_maxrss
+
+    def end(self, length):
+        """The last bytes that were written."""
+        with open(self.made, "rb") as made:
+            made.seek(max(0, self.made.stat().st_size - length))
+            return made.read()
+
+    def compare(self, words, wanted, room=None):
+        status, told, seconds, kilobytes = self.measured(words, room)
+        came = Outcome(status, self.end(len(wanted.output) or 4_096), told)
+        self.same(f"atomfs {' '.join(words)}, {self.row}", came, wanted)
+        if self.measures:
+            print(f"{self.row}, {words[0]}: status {status}, {seconds:.2f} seconds, {kilobytes} kilobytes", flush=True)
+
+    def ends(self, lines, words, wanted, room=None):
+        """The outcome on these lines. A run text that is no longer than a text may be is checked."""
+        with open(self.given, "w") as given:
+            given.writelines(f"{line}\n" for line in lines)
+        self.compare(words, wanted, room)
+        if words == RUN and wanted.status == 0 and self.made.stat().st_size <= TEXT:
+            self.made.replace(self.given)
+            self.compare(CHECK, LAWFUL)
+
+    def whole(self, words, given, wanted):
+        self.same(f"atomfs {' '.join(words)}, {len(given)} bytes", spawned(words, given), wanted)
+
+    def test_lengths(self):
+        """The last line is a comment that has no end."""
+        for words, header, wanted in ((RUN, EMPTY, EMPTY_RUN), (SEEDS, EMPTY, LAWFUL_SEEDS), (CHECK, b"atomfs-journal 1\n", LAWFUL)):
+            self.each((
+                (f"{words[0]}, {TEXT} bytes", words, header.ljust(TEXT, b"#"), wanted),
+                (f"{words[0]}, {TEXT + 1} bytes", words, header.ljust(TEXT + 1, b"#"), refused(1, "TooLarge")),
+            ), self.whole)
+
+    def test_scripts(self):
+        folders = [f"dir /{number}" for number in sorted(map(str, range(THREADS)))]
+        first, last = (alone(number, "stat /", "stat dir 0") for number in (1, CALLS))
+        self.each((
+            (f"{TEXT} bytes", commented(TEXT), RUN, EMPTY_RUN),
+            (f"{TEXT + 1} bytes", commented(TEXT + 1), RUN, refused(1, "TooLarge")),
+            (f"{THREADS} threads", threads(THREADS), RUN, well(finished(THREADS, *folders))),
+            (f"{THREADS} threads, real", threads(THREADS), ("threads",), well(f"lawful calls {THREADS}\n")),
+            (f"{THREADS} threads, drawn", threads(THREADS), SEEDS, LAWFUL_SEEDS),
+            (f"{THREADS + 1} threads", threads(THREADS + 1), RUN, refused(2 * THREADS + 2, "TooLarge")),
+            (f"{CALLS} calls", stats(CALLS), RUN, well(last, finished(CALLS))),
+            (f"{CALLS} calls, on a real thread", stats(CALLS), ("threads",), well(f"lawful calls {CALLS}\n")),
+            (f"{CALLS + 1} calls", stats(CALLS + 1), RUN, refused(CALLS + 3, "TooLarge")),
+            (f"{EVENTS} events", script(["stat /"], f"t*{EVENTS}"), RUN, well(first, finished(1))),
+            (f"{EVENTS + 1} events", script(["stat /"], f"t*{EVENTS} t"), RUN, refused(5, "TooLarge")),
+        ), self.ends)
+
+    def test_files_and_folders(self):
+        write, past, stat = f"write /f {FILE - 1} ff", f"write /f {FILE} 00", alone(3, "stat /f", f"stat file {FILE}")
+        full = [f"file /{number} -" for number in sorted(map(str, range(ENTRIES)))]
+        self.each((
+            (f"{CALLS} nodes and the root", nodes(CALLS), RUN, well(counts(CALLS))),
+            (f"a file of {FILE} bytes", script(["mknod /f", write, "stat /f"]), RUN, well(stat, finished(3, "file /f " + "00" * (FILE - 1) + "ff"))),
+            (f"a file of {FILE + 1} bytes", script(["mknod /f", past]), RUN, well(alone(2, past, "failed EFBIG"), finished(2, "file /f -"))),
+            (f"{ENTRIES} entries", entries(ENTRIES), RUN, well(finished(ENTRIES, *full))),
+            (f"{ENTRIES + 1} entries", entries(ENTRIES + 1), RUN, well(alone(257, "mknod /256", "failed ENOSPC"), finished(257, *full))),
+        ), self.ends)
+
+    def test_paths(self):
+        name, path = NAME * "n", PATH * "/n"
+        self.each((
+            (f"a name of {NAME} bytes", script([f"mkdir /{name}"]), RUN, well(alone(1, f"mkdir /{name}", "ok"), finished(1, f"dir /{name}"))),
+            (f"a name of {NAME + 1} bytes", script([f"mkdir /{name}n"]), RUN, refused(3, "BadPath NameTooLong")),
+            (f"a path of {PATH} names", script([f"stat {path}"]), RUN, well(alone(1, f"stat {path}", "failed ENOENT"), finished(1))),
+            (f"a path of {PATH + 1} names", script([f"stat {path}/n"]), RUN, refused(3, "BadPath TooManyNames")),
+        ), self.ends)
+
+    def test_levels(self):
+        """More than a path can name: a tree that is made from its leaf up, and taken apart from its root down."""
+        calls = (*deep(10_000), *taken_apart(10_000))
+        last = (alone(len(calls) - 2, "read /p/f 0 2", "bytes ff"), alone(len(calls) - 1, "unlink /p/f", "ok"), alone(len(calls), "rmdir /p", "ok"))
+        self.each([("10000 levels, taken apart", script(calls), RUN, well(*last, finished(len(calls))))], self.ends)
+
+    def test_much_to_hold(self):
+        self.each(much(), self.ends)
+
+    def test_more_than_there_is(self):
+        self.each((
+            (f"30000 full reads in {ROOM} bytes", script(reads(30_000)), RUN, OUT_OF_MEMORY, ROOM),
+            (f"20000 full files in {ROOM} bytes", script(files(20_000)), RUN, OUT_OF_MEMORY, ROOM),
+            (f"20000 levels in {ROOM} bytes", script(deep(20_000)), RUN, OUT_OF_MEMORY, ROOM),
+        ), self.ends)
+
+
+if __name__ == "__main__":
+    if "--measure" in sys.argv:
+        sys.argv.remove("--measure")
+        Limits.measures = True
+    unittest.main()

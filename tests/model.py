@@ -1,0 +1,238 @@
+"""The sequential tree as docs/SPECIFICATION.md has it, written anew in Python, and the replay of a run text against it.
+
+Calls and replies are the words of docs/FORMATS.md. `python3 tests/model.py FILE ..` replays run texts, as `atomfs run` writes them.
+"""
+import pathlib
+import sys
+from urllib.parse import unquote_to_bytes
+
+ENTRIES = 256
+BYTES = 65_536
+
+
+class Failed(Exception):
+    """A call's error, by its name."""
+
+
+def path_of(word):
+    """The names of a path."""
+    return tuple(name for name in unquote_to_bytes(word).split(b"/") if name)
+
+
+def escaped(name):
+    return "".join(chr(byte) if 0x20 < byte < 0x7F and byte != 0x25 else f"%{byte:02X}" for byte in name)
+
+
+class Tree:
+    """Nodes by their paths: a directory's are its entries' names, a file's its bytes."""
+
+    def __init__(self):
+        self.nodes = {(): set()}
+
+    def resolve(self, path):
+        """The node at a path, or the error of its longest prefix that is there."""
+        for depth in range(len(path)):
+            node = self.nodes[path[:depth]]
+            if isinstance(node, bytes):
+                raise Failed("ENOTDIR")
+            if path[depth] not in node:
+                raise Failed("ENOENT")
+        return self.nodes[path]
+
+    def directory(self, path):
+        node = self.resolve(path)
+        if isinstance(node, bytes):
+            raise Failed("ENOTDIR")
+        return node
+
+    def file(self, path):
+        node = self.resolve(path)
+        if not isinstance(node, bytes):
+            raise Failed("EISDIR")
+        return node
+
+    def add(self, path, node):
+        if not path:
+            raise Failed("EEXIST")
+        entries = self.directory(path[:-1])
+        if path[-1] in entries:
+            raise Failed("EEXIST")
+        if len(entries) == ENTRIES:
+            raise Failed("ENOSPC")
+        entries.add(path[-1])
+        self.nodes[path] = node
+        return "ok"
+
+    def remove(self, path):
+        self.nodes[path[:-1]].discard(path[-1])
+        del self.nodes[path]
+
+    def mkdir(self, path):
+        return self.add(path, set())
+
+    def mknod(self, path):
+        return self.add(path, b"")
+
+    def entry(self, path):
+        """The node of an entry that is looked for in its directory."""
+        if path[-1] not in self.directory(path[:-1]):
+            raise Failed("ENOENT")
+        return self.nodes[path]
+
+    def unlink(self, path):
+        if not path or not isinstance(self.entry(path), bytes):
+            raise Failed("EPERM")
+        self.remove(path)
+        return "ok"
+
+    def rmdir(self, path):
+        if not path:
+            raise Failed("EBUSY")
+        node = self.entry(path)
+        if isinstance(node, bytes):
+            raise Failed("ENOTDIR")
+        if node:
+            raise Failed("ENOTEMPTY")
+        self.remove(path)
+        return "ok"
+
+    def rename(self, old, new):
+        if not old or not new:
+            raise Failed("EBUSY")
+        if len(old) < len(new) and new[: len(old)] == old:
+            raise Failed("EINVAL")
+        source, dest = self.directory(old[:-1]), self.directory(new[:-1])
+        if old[-1] not in source:
+            raise Failed("ENOENT")
+        if old == new:
+            return "ok"
+        moved, victim = self.nodes[old], self.nodes.get(new)
+        if victim is not None:
+            if isinstance(victim, bytes) and not isinstance(moved, bytes):
+                raise Failed("ENOTDIR")
+            if isinstance(moved, bytes) and not isinstance(victim, bytes):
+                raise Failed("EISDIR")
+            if not isinstance(victim, bytes) and victim:
+                raise Failed("ENOTEMPTY")
+            self.remove(new)
+        elif old[:-1] != new[:-1] and len(dest) == ENTRIES:
+            raise Failed("ENOSPC")
+        source.discard(old[-1])
+        dest.add(new[-1])
+        for path in [path for path in self.nodes if path[: len(old)] == old]:
+            self.nodes[new + path[len(old) :]] = self.nodes.pop(path)
+        return "ok"
+
+    def stat(self, path):
+        node = self.resolve(path)
+        return f"stat {'file' if isinstance(node, bytes) else 'dir'} {len(node)}"
+
+    def readdir(self, path):
+        return " ".join(["names", *(escaped(name) for name in sorted(self.directory(path)))])
+
+    def read(self, path, offset, count):
+        return f"bytes {self.file(path)[offset:offset + count].hex() or '-'}"
+
+    def write(self, path, offset, more):
+        old = self.file(path)
+        if more and offset + len(more) > BYTES:
+            raise Failed("EFBIG")
+        if more:
+            self.nodes[path] = old[:offset].ljust(offset, b"\0") + more + old[offset + len(more) :]
+        return f"wrote {len(more)}"
+
+    def truncate(self, path, size):
+        old = self.file(path)
+        if size > BYTES:
+            raise Failed("EFBIG")
+        self.nodes[path] = old[:size].ljust(size, b"\0")
+        return "ok"
+
+    def apply(self, words):
+        """The reply to a call, and what it leaves."""
+        kind, first, more = words[0], path_of(words[1]), words[2:]
+        try:
+            match kind:
+                case "rename":
+                    return self.rename(first, path_of(more[0]))
+                case "read":
+                    return self.read(first, int(more[0]), int(more[1]))
+                case "write":
+                    return self.write(first, int(more[0]), bytes.fromhex(more[1].replace("-", "")))
+                case "truncate":
+                    return self.truncate(first, int(more[0]))
+                case "mkdir" | "mknod" | "unlink" | "rmdir" | "stat" | "readdir":
+                    return getattr(self, kind)(first)
+        except Failed as failed:
+            return f"failed {failed}"
+        raise ValueError(kind)
+
+    def text(self):
+        """The lines of a tree text."""
+        lines = ["tree"]
+        for path in sorted(self.nodes):
+            node, shown = self.nodes[path], "/" + "/".join(escaped(name) for name in path)
+            lines.append(f"file {shown} {node.hex() or '-'}" if isinstance(node, bytes) else f"dir {shown}")
+        return lines
+
+
+def replayed(text):
+    """What is wrong with a run text by the model, if anything is."""
+    lines = text.splitlines()
+    if lines[:1] != ["atomfs-journal 1"] or "tree" not in lines:
+        return "this is no run text"
+    at = lines.index("tree")
+    tree, calls, seats, due, returned, busy = Tree(), {}, {}, {}, set(), set()
+    for place, line in enumerate(lines[1:at], 1):
+        match line.split(" "):
+            case "begin", number, seat, *call if number not in calls and seat not in busy:
+                calls[number], seats[number] = call, seat
+                busy.add(seat)
+            case "commit", number if number in calls and number not in due:
+                due[number] = tree.apply(calls[number])
+            case "return", number, *reply if number not in returned and " ".join(reply) == due.get(number):
+                returned.add(number)
+                busy.remove(seats[number])
+            case _, number, *_:
+                return f"entry {place}, {line}, where the call is {calls.get(number)} and {due.get(number)} is due"
+            case _:
+                return f"entry {place}, {line}, is none"
+    if lines[at:-1] != tree.text():
+        return "\n".join(["the tree is another than", *tree.text()])
+    if lines[-1] != (counts := f"begun {len(calls)} committed {len(due)} returned {len(returned)}"):
+        return f"the counts are others than {counts}"
+    return None
+
+
+def begun(text):
+    """The calls that a run text begins on each seat, in order."""
+    calls = {}
+    for line in text.splitlines():
+        match line.split(" ", 3):
+            case "begin", _, seat, call:
+                calls.setdefault(int(seat), []).append(call)
+    return calls
+
+
+def fault(text, calls):
+    """What is wrong with the run text of all calls of some seats, by their numbers, if anything is."""
+    if wrong := replayed(text):
+        return wrong
+    if begun(text) != {seat: given for seat, given in calls.items() if given}:
+        return "other calls have begun than were given"
+    count = sum(map(len, calls.values()))
+    if not text.endswith(f"\nbegun {count} committed {count} returned {count}\n"):
+        return "not all calls have returned"
+    return None
+
+
+def main(names):
+    """Says of each run text whether its replies and its tree are the model's; the status is 1 where one's are not."""
+    wrong = {name: replayed(pathlib.Path(name).read_text()) for name in names}
+    for name, what in wrong.items():
+        print(f"{name}: {what or 'every reply and the tree are as the calls committed before say'}")
+    return int(any(wrong.values()))
+
+
+if __name__ == "__main__":
+    sys.exit(main(sys.argv[1:]))

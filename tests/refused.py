@@ -1,0 +1,512 @@
+"""Growths of memory and threads that are refused, each in turn: that is told and changes nothing, and what is asked again comes out the same.
+
+The program and the checks `refused` run with refuse.c loaded before the C library, on scripts of tests/data/worked/runs. The library for C is linked
+with heap.c in the place of its heap, and plays the calls below; tests/model.py says what comes of them.
+
+CHECKS names another program than crates/checks/out/checks, ARCHIVE another archive than crates/atomfs_c/out/libatomfs_c.a.
+"""
+import concurrent.futures
+import ctypes
+import itertools
+import os
+import tempfile
+import unittest
+
+import harness
+import atomfs
+import model
+from atomfs import Did, Status
+from harness import Case, Outcome
+
+RUNS = harness.DATA / "worked" / "runs"
+STDOUT = harness.ROOT / "crates" / "checks" / "stdout"
+
+NO_MEMORY = Outcome(4, b"", b"atomfs: out of memory\n")
+NO_WORKER = Outcome(4, b"", b"atomfs: no worker\n")
+
+
+def setUpModule():
+    harness.takes_a_process()
+
+
+def stored(name):
+    return (RUNS / name).read_bytes()
+
+
+class Preloaded(Case):
+    """A program of which one growth, or one thread, is refused."""
+
+    @classmethod
+    def setUpClass(cls):
+        cls.folder = cls.enterClassContext(tempfile.TemporaryDirectory())
+        cls.refuse = harness.compiled(cls.folder, "refuse.c")
+
+    def outcome(self, words, given, **variables):
+        return harness.spawned(words, given, env=os.environ | {"LD_PRELOAD": self.refuse} | variables)
+
+    def whole(self, words, given):
+        """The outcome where nothing is refused, and how many growths and threads were asked for."""
+        count = f"{self.folder}/count"
+        came = self.outcome(words, given, REFUSE_COUNT=count)
+        with open(count) as file:
+            growths, threads = map(int, file.read().split())
+        return came, growths, threads
+
+    def without(self, variable, count, words, given):
+        """The outcomes where one is refused, each in turn, as many side by side as there are processors."""
+        with concurrent.futures.ThreadPoolExecutor(os.cpu_count()) as processes:
+            return list(processes.map(lambda number: self.outcome(words, given, **{variable: str(number)}), range(1, count + 1)))
+
+    def tell(self, name, outcomes, told, *others):
+        """Each outcome tells what was refused, or is one of the others; and all that can be told came."""
+        for number, came in enumerate(outcomes, 1):
+            if came not in (*told, *others):
+                self.same(f"{name}, of which number {number} is refused", came, told[0])
+        self.same(f"{name}: what is never told", [one for one in told if one not in outcomes], [])
+
+
+class Program(Preloaded):
+    """What the program tells of a growth or a thread that it lacks. It writes nothing then."""
+
+    def growths(self, command, name, output):
+        words, given = command.split(), stored(name)
+        whole, growths, threads = self.whole(words, given)
+        self.same(f"atomfs {command} < {name}", whole, Outcome(0, output))
+        # A thread that has no memory to start is no worker. Some growths can be done without, as that for a smaller block.
+        told = [NO_MEMORY, NO_WORKER] if threads else [NO_MEMORY]
+        self.tell(f"growths of atomfs {command} < {name}", self.without("REFUSE", growths, words, given), told, whole)
+
+    def test_growths(self):
+        rows = (
+            ("errors", "run", "errors_of_each_call.script", stored("errors_of_each_call.text")),
+            ("robin", "run --robin", "lowest_first.script", stored("lowest_first.robin.text")),
+            ("bytes", "run", "bytes_of_files.script", stored("bytes_of_files.text")),
+            ("seeds", "seeds --seed 7 --runs 3", "helped_rename.script", b"seed 7 lawful\nseed 8 lawful\nseed 9 lawful\n"),
+            ("check", "check", "errors_of_each_call.text", b"lawful\n"),
+            ("threads", "threads", "errors_of_each_call.script", b"lawful calls 57\n"),
+        )
+        self.each(rows, self.growths)
+
+    def threads(self, name, count, calls):
+        given = stored(name)
+        whole, _, threads = self.whole(["threads"], given)
+        self.same(f"atomfs threads < {name}", (whole, threads), (Outcome(0, b"lawful calls %d\n" % calls), count))
+        self.tell(f"threads of atomfs threads < {name}", self.without("REFUSE_THREAD", count, ["threads"], given), [NO_WORKER])
+
+    def test_threads(self):
+        self.each((("one", "errors_of_each_call.script", 1, 57), ("three", "three_threads.script", 3, 8)), self.threads)
+
+
+def section(name):
+    """What the checks of a name write, as it is stored."""
+    return STDOUT.read_bytes().split(b"==== %b\n" % name)[1].split(b"==== ")[0]
+
+
+def but_last_line(outcome):
+    return outcome._replace(output=b"".join(outcome.output.splitlines(keepends=True)[:-1]))
+
+
+class Checks(Preloaded):
+    """The checks `refused` do once more what was refused, and write the same text but for its last line, which counts that."""
+
+    def test_refused(self):
+        with harness.program_at(harness.found("CHECKS", "crates/checks/out/checks", "rt run in crates/checks builds it")):
+            whole, growths, _ = self.whole(["refused"], b"")
+            outcomes = self.without("REFUSE", growths, ["refused"], b"")
+        self.same("checks refused", whole, Outcome(0, section(b"refused")))
+        for number, came in enumerate(outcomes, 1):
+            self.same(f"checks refused, of which growth {number} is refused", but_last_line(came), but_last_line(whole))
+        self.assertTrue(any(came != whole for came in outcomes), "no refused growth was counted")
+
+
+# Every growth from some on.
+EVERY = 2**31 - 1
+# More nodes than the calls make, and more steps than they have together.
+LIMIT = 64
+MOST_STEPS = 1_000
+
+ONE_SEAT = """\
+mkdir /d
+mkdir /d
+mkdir /d/e
+mkdir /d/e/f
+mkdir /d/e/f/g
+stat /d/e/f/g
+mknod /d/a
+mknod /d/b
+mknod /d/c
+mknod /d/h
+readdir /d
+readdir /d/e/f
+write /d/a 3 68656c6c6f
+write /d/a 3 68656c6c6f
+truncate /d/a 200
+read /d/a 2 4
+rename /d/a /a
+rename /a /d/e/a
+rename /d/b /d/e/f/a
+rename /d/c /d/e/f/a
+unlink /d/h
+rmdir /d/e/f/g
+mknod /d/i
+stat /d/e/a
+stat /d
+rmdir /d
+stat /d
+readdir /d
+read /d/e/a 3 5
+"""
+FIRST_SEAT = """\
+mkdir /a
+mknod /a/f%20g
+write /a/f%20g 0 68656c6c6f
+read /a/f%20g 1 3
+truncate /a/f%20g 4000
+rename /a/f%20g /g
+readdir /a
+stat /a
+unlink /g
+mkdir /b
+rmdir /b
+"""
+SECOND_SEAT = """\
+mkdir /c
+mkdir /d
+"""
+# A call of each kind, each on a seat of its own, and what stands when they begin.
+UNDER_WAY = """\
+mkdir /a/d/x
+mknod /a/d/y
+readdir /a/d
+write /a/d/f 3 ffff
+read /a/d/f 1 6
+truncate /a/d/f 4
+stat /a/d/f
+rename /a /b
+unlink /a/f
+rmdir /e
+"""
+BEFORE = """\
+mkdir /a
+mkdir /a/d
+mkdir /e
+mknod /a/f
+mknod /a/d/f
+write /a/d/f 0 0102030405
+"""
+
+
+def on_seat(seat, text):
+    return [(seat, line) for line in text.splitlines()]
+
+
+# Calls one after the other, with their seats.
+LISTS = {"one seat": on_seat(0, ONE_SEAT), "two seats": on_seat(0, FIRST_SEAT) + on_seat(1, SECOND_SEAT)}
+
+
+def seats_of(calls):
+    return range(1 + max(seat for seat, _ in calls))
+
+
+def text_of(lines):
+    return "".join(f"{line}\n" for line in lines).encode()
+
+
+def script_of(calls):
+    """A script whose threads have their turns one after the other."""
+    blocks = [line for seat in seats_of(calls) for line in (f"thread t{seat}", *(line for at, line in calls if at == seat))]
+    return text_of(["atomfs 1", *blocks, "schedule", " ".join(f"t{seat}*{MOST_STEPS}" for seat in seats_of(calls))])
+
+
+def counts_of(calls):
+    return b"begun %d committed %d returned %d\n" % (calls, calls, calls)
+
+
+class Wanted:
+    """What the specification says of calls one after the other: their replies, their journal, and their tree."""
+
+    def __init__(self, calls=()):
+        self.model, self.entries, self.count = model.Tree(), [], 0
+        for seat, line in calls:
+            self.call(seat, line)
+
+    def call(self, seat, line):
+        """The number and the reply of a call."""
+        self.count += 1
+        reply = self.model.apply(line.split(" "))
+        self.entries += [f"begin {self.count} {seat} {line}", f"commit {self.count}", f"return {self.count} {reply}"]
+        return self.count, reply.encode()
+
+    def journal(self):
+        return text_of(["atomfs-journal 1", *self.entries])
+
+    def tree(self):
+        return text_of(self.model.text())
+
+    def run(self):
+        return self.journal() + self.tree() + counts_of(self.count)
+
+
+def status_of(ask, *given):
+    """The status of a function, and what it answers, or what the status is about."""
+    try:
+        return Status.OK, ask(*given)
+    except atomfs.Error as error:
+        return error.status, error.about
+
+
+class Played(atomfs.Tree):
+    """A tree beside what the specification says of it. It is opened apart, since that takes memory too.
+
+    A function that lacks memory has changed nothing, and is asked again. `refused` has the functions of which a growth was refused, and their status.
+    """
+
+    def __init__(self, case, library):
+        self.library, self.handle, self.case = library, atomfs.Handle(), case
+        self.wanted, self.steps, self.refused = None, [], set()
+
+    def open(self, limit=LIMIT):
+        self.done(self.library.atomfs_open(self.handle, limit))
+
+    def opened(self, seats):
+        """Opens the tree, with seats of these numbers."""
+        self.asked("open", self.open)
+        self.wanted = Wanted()
+        for seat in seats:
+            self.case.same("the number of a seat", self.asked("seat", self.seat), seat)
+
+    def asked(self, name, ask, *given):
+        """What a function answers; and again, where it lacks memory. It may do so only where a growth was refused."""
+        refusals = self.library.lib.refusals()
+        status, answer = status_of(ask, *given)
+        if self.library.lib.refusals() > refusals:
+            self.refused.add((name, status.name))
+            if status == Status.UNTOLD:
+                return answer, None
+            if status == Status.NO_MEMORY:
+                self.is_unchanged(name)
+                status, answer = status_of(ask, *given)
+        self.case.same((name, *given), status, Status.OK)
+        return answer
+
+    def is_unchanged(self, name):
+        """All is as it was before a function that lacked memory."""
+        if self.wanted is None:
+            self.case.same(f"close behind {name}, which lacked memory", self.library.atomfs_close(self.handle), Status.CLOSED)
+        else:
+            self.case.same(f"the journal behind {name}, which lacked memory", self.journal(), self.wanted.journal())
+            self.case.same(f"the tree behind {name}, which lacked memory", self.tree(), self.wanted.tree())
+
+    def stands(self):
+        """The journal and the tree are those that are wanted."""
+        self.case.same("the journal", self.asked("journal", self.journal), self.wanted.journal())
+        self.case.same("the tree", self.asked("tree", self.tree), self.wanted.tree())
+
+    def has_returned(self, seat, line, number):
+        """A call that has returned has the number and the reply that are wanted. Answers the reply."""
+        wanted, reply = self.wanted.call(seat, line)
+        self.case.same(f"the number of {line}", number, wanted)
+        self.case.same(f"the reply of {line}", self.asked("reply", self.reply, number), reply)
+        return reply
+
+    def make(self, seat, line):
+        """The number and the reply of a call that is made at once. The wrapper's own hides that a reply was untold."""
+        out, count, number = ctypes.create_string_buffer(256), ctypes.c_size_t(), ctypes.c_uint64()
+        status = self.library.atomfs_call(self.handle, seat, line, len(line), out, len(out), count, number)
+        self.done(status, number.value)
+        return number.value, out.raw[: count.value]
+
+    def by_call(self, seat, line):
+        """A call that is made at once."""
+        number, told = self.asked("call", self.make, seat, line.encode())
+        reply = self.has_returned(seat, line, number)
+        if told is not None:
+            self.case.same(f"the reply that {line} tells", told, reply)
+
+    def returns(self, seat):
+        """Steps the call of a seat to its return."""
+        for _ in range(MOST_STEPS):
+            self.steps.append(self.step(seat))
+            if self.steps[-1][0] == Did.RETURN:
+                return
+        self.case.fail("a call that is alone does not return")
+
+    def by_steps(self, seat, line):
+        """A call that begins and is stepped to its return."""
+        number = self.asked("begin", self.begin, seat, line.encode())
+        self.asked("step", self.returns, seat)
+        self.has_returned(seat, line, number)
+
+
+class Library(Case):
+    """What the functions of the library answer where a growth is refused, and then."""
+
+    @classmethod
+    def setUpClass(cls):
+        archive = harness.found("ARCHIVE", "crates/atomfs_c/out/libatomfs_c.a", "embed/build builds it")
+        folder = cls.enterClassContext(tempfile.TemporaryDirectory())
+        cls.library = atomfs.Library(harness.compiled(folder, "heap.c", "-Wl,--whole-archive", archive, "-Wl,--no-whole-archive"))
+        cls.heap = cls.library.lib
+
+    def setUp(self):
+        self.heap.refuse(0, 0)
+
+    def nothing_is_held(self):
+        self.same("how many blocks are in use where no tree is open", self.heap.blocks(), 0)
+
+    def all_came(self, came, wanted):
+        """All rows together came to all that is wanted."""
+        if "ROW" not in os.environ:
+            self.same("the functions of which a growth was refused, and their status", sorted(came), sorted(wanted))
+
+    def played(self, calls, by, number=0):
+        """Calls on a tree of their own, where the growth of a number is refused: from then on it is looked at after each call."""
+        self.heap.refuse(number, number)
+        with Played(self, self.library) as tree:
+            tree.opened(seats_of(calls))
+            for seat, line in calls:
+                by(tree, seat, line)
+                if tree.refused:
+                    tree.stands()
+            tree.stands()
+        self.nothing_is_held()
+        return tree
+
+    def growths_of(self, ask, *given):
+        """What a function answers where nothing is refused, and the numbers of the growths that it asks for."""
+        self.heap.refuse(0, 0)
+        return ask(*given), range(1, 1 + self.heap.growths())
+
+    def in_turn(self, by, wanted):
+        """Plays each list of calls once for each growth, which is refused."""
+        rows, came = [], set()
+        for name, calls in LISTS.items():
+            whole, growths = self.growths_of(self.played, calls, by)
+            rows += [(f"{name}, growth {number}", calls, number, whole.steps) for number in growths]
+
+        def look(calls, number, steps):
+            tree = self.played(calls, by, number)
+            self.same("how many growths were refused", self.heap.refusals(), 1)
+            self.same("what the steps did", tree.steps, steps)
+            came.update(tree.refused)
+
+        self.each(rows, look)
+        self.all_came(came, wanted | {(function, "NO_MEMORY") for function in ("open", "seat", "reply", "journal", "tree")})
+
+    def test_calls(self):
+        """Calls that are made at once. A step of theirs can do without a smaller block."""
+        self.in_turn(Played.by_call, {("call", "NO_MEMORY"), ("call", "UNTOLD"), ("call", "OK")})
+
+    def test_steps(self):
+        """Calls step by step: a begin may lack memory, and no step."""
+        self.in_turn(Played.by_steps, {("begin", "NO_MEMORY"), ("step", "OK")})
+
+    def begun(self, seat, line, number):
+        """How often a growth was refused to a begin on a tree of one node, whose seat 0 is busy; its status, and that of the same begin again."""
+        self.heap.refuse(0, 0)
+        with Played(self, self.library) as tree:
+            tree.open(limit=1)
+            for _ in range(2):
+                tree.seat()
+            tree.begin(0, b"stat /")
+            self.heap.refuse(number, number)
+            status, refusals = status_of(tree.begin, seat, line)[0], self.heap.refusals()
+            self.heap.refuse(0, 0)
+            self.same(f"the journal behind {line}", tree.entries(), (b"begin 1 0 stat /\n", 1))
+            return refusals, status, status_of(tree.begin, seat, line)[0]
+
+    def no_begin(self, seat, line, why):
+        for number in itertools.count(1):
+            refusals, status, again = self.begun(seat, line, number)
+            self.same(f"{line}, growth {number} refused", (status, again), (Status.NO_MEMORY if refusals else why, why))
+            if not refusals:
+                break
+        self.assertGreater(number, 1, f"{line} asks for no growth")
+
+    def test_no_begin(self):
+        """A begin that is refused for another reason too, where a growth is refused: first for want of memory, and then for the reason."""
+        rows = (
+            ("line", 1, b"stat", Status.BAD_LINE),
+            ("path", 1, b"rename /a b", Status.BAD_PATH),
+            ("number", 1, b"read /a 0 x", Status.BAD_NUMBER),
+            ("hex", 1, b"write /a 0 0", Status.BAD_HEX),
+            ("busy", 0, b"mkdir /a", Status.SEAT_BUSY),
+            ("full", 1, b"mkdir /a", Status.FULL),
+        )
+        self.each(rows, self.no_begin)
+
+    def texts(self, ask, texts, wanted):
+        """A function of texts, and what is wanted of each: it is asked once for each growth, which is refused, and again."""
+        rows, came = [], set()
+        for name, (given, answer) in texts.items():
+            whole, growths = self.growths_of(status_of, ask, given)
+            self.same(given, whole, answer)
+            rows += [(f"{name}, growth {number}", given, number, answer) for number in growths]
+
+        def look(given, number, answer):
+            self.heap.refuse(number, number)
+            first = status_of(ask, given)
+            came.add((ask.__name__, first[0].name))
+            if first[0] != Status.NO_MEMORY:
+                self.same(given, first, answer)
+            self.nothing_is_held()
+            self.same(given, status_of(ask, given), answer)
+
+        self.each(rows, look)
+        self.all_came(came, wanted)
+
+    def test_run(self):
+        """Scripts. A step of theirs can do without a smaller block; a path that is none is none only where its memory was not refused."""
+        scripts = {name: (script_of(calls), (Status.OK, Wanted(calls).run())) for name, calls in LISTS.items()}
+        scripts["no path"] = b"atomfs 1\nthread t\nmkdir /a\nmkdir /a/./b\nschedule\nfinish\n", (Status.BAD_PATH, 4)
+        self.texts(self.library.run, scripts, {("run", "NO_MEMORY"), ("run", "OK")})
+
+    def test_check(self):
+        """Journals, of which a path that is none is none only where its memory was not refused."""
+        journals = {name: (Wanted(calls).journal(), (Status.OK, b"lawful\n")) for name, calls in LISTS.items()}
+        journals["no path"] = b"atomfs-journal 1\nbegin 1 0 mkdir /a\nbegin 2 1 mkdir /a/./b\n", (Status.BAD_PATH, 3)
+        self.texts(self.library.check, journals, {("check", "NO_MEMORY")})
+
+    def refuse_every(self, tree):
+        """From now on every growth is refused."""
+        self.heap.refuse(1, EVERY)
+        self.same("the tree, where every growth is refused", status_of(tree.tree)[0], Status.NO_MEMORY)
+
+    def promised(self, calls, place):
+        seat, line = calls[place]
+        self.heap.refuse(0, 0)
+        with Played(self, self.library) as tree:
+            tree.opened(seats_of(calls))
+            for before in calls[:place]:
+                tree.by_call(*before)
+            number = tree.begin(seat, line.encode())
+            self.refuse_every(tree)
+            tree.returns(seat)
+            self.heap.refuse(0, 0)
+            tree.has_returned(seat, line, number)
+            tree.stands()
+
+    def test_promised_room(self):
+        """A call that has begun returns its reply where every further growth is refused."""
+        rows = [(f"{name}, call {place + 1}: {calls[place][1]}", calls, place) for name, calls in LISTS.items() for place in range(len(calls))]
+        self.each(rows, self.promised)
+
+    def test_promised_room_of_many(self):
+        """The same of a call of each kind, all of them under way: some wait, and a rename helps others."""
+        calls = UNDER_WAY.splitlines()
+        with Played(self, self.library) as tree:
+            tree.opened(range(len(calls)))
+            for line in BEFORE.splitlines():
+                tree.by_call(0, line)
+            for seat, line in enumerate(calls):
+                tree.begin(seat, line.encode())
+            self.refuse_every(tree)
+            did = {tree.step(seat)[0] for _ in range(MOST_STEPS // len(calls)) for seat in range(len(calls))}
+            self.heap.refuse(0, 0)
+            run = tree.journal() + tree.tree() + counts_of(tree.wanted.count + len(calls))
+        self.same(run, model.replayed(run.decode()), None)
+        self.assertLessEqual({Did.WAIT, Did.HELP, Did.CARRY_OUT}, did)
+
+
+if __name__ == "__main__":
+    unittest.main()

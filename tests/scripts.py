@@ -1,0 +1,83 @@
+"""Drawn scripts through the program: by drawn words and rounds, by round robin, by a drawn schedule, and on real threads.
+
+All calls return. Of each run text tests/model.py comes to the replies and to the tree, and each thread has begun its own calls, in order.
+What is drawn stands in tests/drawn.py.
+"""
+import collections
+import os
+import random
+import unittest
+
+import harness
+import drawn
+import model
+
+SCRIPTS = 200
+# What has to come in the runs of all scripts: each call, each reply but those that such calls cannot get, and a commit before one of an earlier call.
+REPLIES = "ok stat names bytes wrote ENOENT ENOTDIR EEXIST ENOTEMPTY EISDIR EINVAL EPERM EFBIG".split()
+KINDS = {*(f"begin {call}" for call in drawn.CROWDED), *(f"return {reply}" for reply in REPLIES), "overtaken"}
+
+
+def scripted(number):
+    """The threads that are drawn from a number, and their script: drawn words, and rounds to the end."""
+    draw = random.Random(number)
+    threads = drawn.crowded(draw)
+    words = [f"t{draw.randrange(len(threads))}*{draw.randint(1, 12)}" for _ in range(draw.randrange(1, 150))]
+    return threads, drawn.script(threads, " ".join([*words, "finish"]))
+
+
+def kinds(text):
+    """What a run text has, entry by entry."""
+    latest = 0
+    for line in text.splitlines():
+        match line.split(" "):
+            case "begin", _, _, call, *_:
+                yield f"begin {call}"
+            case "return", _, "failed", reply:
+                yield f"return {reply}"
+            case "return", _, reply, *_:
+                yield f"return {reply}"
+            case "commit", number:
+                if int(number) < latest:
+                    yield "overtaken"
+                latest = max(latest, int(number))
+
+
+class Scripts(harness.Case):
+    def runs(self, words):
+        """Runs all scripts by some words of the program, behind which a number may stand."""
+        came = collections.Counter()
+
+        def look(number):
+            threads, script = scripted(number)
+            outcome = harness.run(script.encode(), *words(number))
+            text = outcome.output.decode()
+            self.same(script, outcome._replace(output=b""), harness.Outcome(0))
+            wrong = model.fault(text, dict(enumerate(threads)))
+            self.same(script, wrong and f"{wrong}\n{text}", None)
+            came.update(kinds(text))
+
+        self.each(((f"script_{number}", number) for number in range(SCRIPTS)), look)
+        if "ROW" not in os.environ:
+            self.same("what has not come in all rows", sorted(KINDS - set(came)), [])
+
+    def test_words(self):
+        self.runs(lambda number: ("run",))
+
+    def test_robin(self):
+        self.runs(lambda number: ("run", "--robin"))
+
+    def test_seed(self):
+        self.runs(lambda number: ("run", "--seed", str(number)))
+
+    def test_threads(self):
+        def look(number):
+            threads, script = scripted(number)
+            count = sum(map(len, threads))
+            self.same(script, harness.run(script.encode(), "threads"), harness.Outcome(0, f"lawful calls {count}\n".encode()))
+
+        self.each(((f"script_{number}", number) for number in range(SCRIPTS)), look)
+
+
+if __name__ == "__main__":
+    unittest.main()

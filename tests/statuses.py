@@ -1,0 +1,234 @@
+"""The command line of the program, the statuses that it ends with and what it tells: each word, range and status of docs/FORMATS.md.
+
+tests/data/help has the help of the program and of its commands. A device that fails, status 5, is looked at in tests/devices.py; `atomfs: full` is
+never told, since no script can have nodes enough.
+"""
+import resource
+import shlex
+import unittest
+
+from harness import DATA, ROOT, Case, Outcome, run, spawned, takes_a_process
+
+HELP = DATA / "help"
+MEBIBYTE = 2**20
+HELPED, ONE_CALL, CUT = (DATA / "worked" / "runs" / name for name in ("helped_mkdir", "first_mkdir", "first_mkdir_cut"))
+# What the program says to try first, as it can be pasted into a shell.
+ONE_CALL_PASTED = r"printf 'atomfs 1\nthread t\nmkdir /a\nschedule\nfinish\n' | atomfs run"
+EMPTY = b"atomfs 1\nschedule\n"
+# The third call is not begun, and the second is under way.
+THREE_CALLS = b"atomfs 1\nthread t\nmkdir /a\nmkdir /b\nmkdir /c\nschedule\nt*9\n"
+NINE_EVENTS = b"""atomfs-journal 1
+begin 1 0 mkdir /a
+commit 1
+return 1 ok
+begin 2 0 mkdir /b
+commit 2
+tree
+dir /
+dir /a
+dir /b
+begun 2 committed 2 returned 1
+"""
+NO_CALL_BEGUN = b"atomfs-journal 1\ntree\ndir /\nbegun 0 committed 0 returned 0\n"
+WRONG = b"atomfs-journal 1\nbegin 1 0 mkdir /a\ncommit 1\nreturn 1 failed EEXIST\n"
+SLASH = b"atomfs 1\nthread t\nmkdir /a/\nschedule\n"
+COMMANDS = (("run",), ("run", "--robin"), ("run", "--seed", "1"), ("seeds", "--seed", "1", "--runs", "2"), ("threads",), ("check",))
+NOT_UTF_8 = Outcome(2, b"", b"atomfs: an argument is not UTF-8\n")
+
+
+def of(example, ending="script"):
+    return example.with_suffix(f".{ending}").read_bytes()
+
+
+def well(example, ending="text"):
+    return Outcome(0, of(example, ending))
+
+
+def lawful(first, runs):
+    return Outcome(0, b"".join(b"seed %d lawful\n" % seed for seed in range(first, first + runs)))
+
+
+def malformed(fault):
+    return Outcome(3, b"", f"atomfs: {fault}\n".encode())
+
+
+def misused(what, usage=None):
+    """The end of a command line that asks for nothing which the program does."""
+    lines = [f"error: {what}", *([f"Usage: atomfs {usage}"] if usage else []), "For more information, try '--help'.\n"]
+    return Outcome(2, b"", "\n\n".join(lines).encode())
+
+
+def unread(value, option, why):
+    return misused(f"invalid value '{value}' for '{option}': {why}")
+
+
+class Words(Case):
+    """The words of the command line."""
+
+    def ends(self, words, given, wanted):
+        self.same(f"atomfs {shlex.join(words)}\n{given.decode()}", run(given, *words), wanted)
+
+    def all_end(self, rows):
+        """Looks at rows of a name, words as a shell has them, an input, and the outcome."""
+        self.each(((name, tuple(shlex.split(words)), *rest) for name, words, *rest in rows), self.ends)
+
+    def test_commands(self):
+        self.all_end((words, words, given, wanted) for words, given, wanted in (
+            ("run", of(HELPED), well(HELPED)),
+            ("run --robin", of(HELPED), well(HELPED, "robin.text")),
+            ("run --seed 7", of(HELPED), well(HELPED, "drawn.text")),
+            ("run --seed=7", of(HELPED), well(HELPED, "drawn.text")),
+            ("run --seed 0", of(ONE_CALL), well(ONE_CALL)),
+            ("run --seed 18446744073709551615", of(ONE_CALL), well(ONE_CALL)),
+            ("seeds --seed 7 --runs 3", of(HELPED), lawful(7, 3)),
+            ("seeds --seed=7 --runs=3", of(HELPED), lawful(7, 3)),
+            ("seeds --runs 1 --seed 0", of(HELPED), lawful(0, 1)),
+            ("seeds --seed 9223372036854775807 --runs 2", of(HELPED), lawful(9_223_372_036_854_775_807, 2)),
+            ("seeds --seed 1 --runs 10000", EMPTY, lawful(1, 10_000)),
+            ("threads", of(HELPED), Outcome(0, b"lawful calls 4\n")),
+            ("check", of(HELPED, "text"), Outcome(0, b"lawful\n")),
+            ("--version", b"", Outcome(0, b"atomfs 0.1.0\n")),
+            ("-V", b"", Outcome(0, b"atomfs 0.1.0\n")),
+        ))
+
+    def test_calls_left(self):
+        """Only a run by the script's own schedule ends with any."""
+        self.all_end((
+            ("one under way", "run", of(CUT), Outcome(1, of(CUT, "text"))),
+            ("one under way, and one not begun", "run", THREE_CALLS, Outcome(1, NINE_EVENTS)),
+            ("all not begun", "run", THREE_CALLS.removesuffix(b"t*9\n"), Outcome(1, NO_CALL_BEGUN)),
+            ("there are none", "run", EMPTY, Outcome(0, NO_CALL_BEGUN)),
+            ("none by round robin", "run --robin", of(CUT), well(CUT, "robin.text")),
+            ("none of a drawn run", "run --seed 7", of(CUT), well(CUT, "drawn.text")),
+            ("none of drawn runs", "seeds --seed 7 --runs 3", of(CUT), lawful(7, 3)),
+            ("none on threads", "threads", of(CUT), Outcome(0, b"lawful calls 1\n")),
+            ("there are none on threads", "threads", EMPTY, Outcome(0, b"lawful calls 0\n")),
+        ))
+
+    def test_faults_of_the_input(self):
+        self.all_end((
+            ("a journal that is not lawful", "check", WRONG, Outcome(1, b"fault 3 WrongReply\n")),
+            ("a script is checked", "check", of(HELPED), malformed("line 1: BadHeader")),
+            ("nothing is checked", "check", b"", malformed("line 1: BadHeader")),
+            ("a journal is run", "run", of(HELPED, "text"), malformed("line 1: BadHeader")),
+            ("nothing is run", "run --robin", b"", malformed("line 1: BadHeader")),
+            ("a journal on threads", "threads", of(HELPED, "text"), malformed("line 1: BadHeader")),
+            ("a slash too many", "run", SLASH, malformed("line 3: BadPath TrailingSlash")),
+            ("a slash too many by round robin", "run --robin", SLASH, malformed("line 3: BadPath TrailingSlash")),
+            ("a slash too many in a drawn run", "run --seed 1", SLASH, malformed("line 3: BadPath TrailingSlash")),
+            ("a slash too many on threads", "threads", SLASH, malformed("line 3: BadPath TrailingSlash")),
+            ("no schedule in drawn runs", "seeds --seed 0 --runs 1", b"atomfs 1\nthread t\nstat /\n", malformed("line 4: NoSchedule")),
+        ))
+
+    def test_usage(self):
+        """The words are `clap`'s. Nothing is run, though the input is a script."""
+        program, command, of_run, of_seeds = "<COMMAND>", "check", "run [OPTIONS]", "seeds --seed <N> --runs <K>"
+        missing = "the following required arguments were not provided:"
+        self.all_end((words, words, of(ONE_CALL), wanted) for words, wanted in (
+            ("", misused(f"no command is given\n\nTry first a script of one call:\n  {ONE_CALL_PASTED}", program)),
+            ("walk", misused("unrecognized subcommand 'walk'", program)),
+            ("RUN", misused("unrecognized subcommand 'RUN'", program)),
+            ("''", misused("unrecognized subcommand ''", program)),
+            ("läuft", misused("unrecognized subcommand 'läuft'", program)),
+            ("help walk", misused("unrecognized subcommand 'walk'", program)),
+            ("--robin", misused("unexpected argument '--robin' found", program)),
+            ("run --fast", misused("unexpected argument '--fast' found", of_run)),
+            ("run --version", misused("unexpected argument '--version' found", of_run)),
+            ("run run", misused("unexpected argument 'run' found", of_run)),
+            ("run --robin --robin", misused("the argument '--robin' cannot be used multiple times", of_run)),
+            ("run --robin=1", misused("unexpected value '1' for '--robin' found; no more were expected", "run --robin")),
+            ("run --robin --seed 1", misused("the argument '--robin' cannot be used with '--seed <N>'", "run --robin")),
+            ("run --seed 1 --seed 2", misused("the argument '--seed <N>' cannot be used multiple times", of_run)),
+            ("run --seed", misused("a value is required for '--seed <N>' but none was supplied")),
+            ("run --seed=", unread("", "--seed <N>", "cannot parse integer from empty string")),
+            ("run --seed x", unread("x", "--seed <N>", "invalid digit found in string")),
+            ("run --seed=-1", unread("-1", "--seed <N>", "invalid digit found in string")),
+            ("run --seed 18446744073709551616", unread(2**64, "--seed <N>", "number too large to fit in target type")),
+            ("seeds", misused(f"{missing}\n  --seed <N>\n  --runs <K>", of_seeds)),
+            ("seeds --runs 1", misused(f"{missing}\n  --seed <N>", of_seeds)),
+            ("seeds --seed 1", misused(f"{missing}\n  --runs <K>", of_seeds)),
+            ("seeds --seed 9223372036854775808 --runs 1", unread(2**63, "--seed <N>", f"{2**63} is not in 0..={2**63 - 1}")),
+            ("seeds --seed 7 --runs 0", unread(0, "--runs <K>", "0 is not in 1..=10000")),
+            ("seeds --seed 7 --runs 10001", unread(10_001, "--runs <K>", "10001 is not in 1..=10000")),
+            ("threads --seed 1", misused("unexpected argument '--seed' found", "threads")),
+            ("check now", misused("unexpected argument 'now' found", command)),
+        ))
+
+    def test_help(self):
+        rows = [(words, "atomfs") for words in ("help", "--help", "-h")]
+        rows += [(words, name) for name in ("run", "seeds", "threads", "check") for words in (f"help {name}", f"{name} --help", f"{name} -h")]
+        self.all_end((words, words, b"", Outcome(0, (HELP / name).read_bytes())) for words, name in rows)
+
+    def pasted(self, line):
+        """The words and the input of an example: `WORDS < FILE`, up to a pipe, or `printf TEXT | WORDS`."""
+        first, *behind = line.strip().split(" | ")
+        if first.startswith("printf "):
+            return behind[0], shlex.split(first)[1].replace("\\n", "\n").encode()
+        words, given = first.split(" < ")
+        return words, (ROOT / given).read_bytes()
+
+    def do_the_example(self, name):
+        """The last line of a help is done."""
+        line = (HELP / name).read_text().splitlines()[-1]
+        words, given = self.pasted(line)
+        came = run(given, *shlex.split(words)[1:])
+        self.same(line, (came.status, came.message), (0, b""))
+
+    def test_examples_of_the_help(self):
+        self.each(((path.name, path.name) for path in sorted(HELP.iterdir())), self.do_the_example)
+
+
+class Process(Case):
+    """What takes a process of its own: arguments that are no text, too little memory, and messages that nobody takes."""
+
+    def setUp(self):
+        takes_a_process()
+
+    def ends(self, words, given, wanted, **other):
+        self.same(f"atomfs {words}", spawned(words, given, **other), wanted)
+
+    def test_arguments_that_are_not_utf_8(self):
+        self.each((
+            ("the command", (b"\xff",), of(ONE_CALL), NOT_UTF_8),
+            ("an option", ("run", b"--\xff"), of(ONE_CALL), NOT_UTF_8),
+            ("a number", ("run", "--seed", b"7\xff"), of(ONE_CALL), NOT_UTF_8),
+        ), self.ends)
+
+    def starve(self, words):
+        """A text as long as may be, in no more memory than it has bytes."""
+        header = b"atomfs-journal 1\n" if words == ("check",) else EMPTY
+        confine = lambda: resource.setrlimit(resource.RLIMIT_AS, (16 * MEBIBYTE, 16 * MEBIBYTE))
+        self.ends(words, header.ljust(16 * MEBIBYTE, b"#"), Outcome(4, b"", b"atomfs: out of memory\n"), preexec_fn=confine)
+
+    def test_out_of_memory(self):
+        self.each(((" ".join(words), words) for words in COMMANDS), self.starve)
+
+    def test_no_worker(self):
+        """A thread's stack takes more memory than there is."""
+
+        def confine():
+            resource.setrlimit(resource.RLIMIT_STACK, (64 * MEBIBYTE, resource.getrlimit(resource.RLIMIT_STACK)[1]))
+            resource.setrlimit(resource.RLIMIT_AS, (48 * MEBIBYTE, 48 * MEBIBYTE))
+
+        self.ends(("threads",), of(ONE_CALL), Outcome(4, b"", b"atomfs: no worker\n"), preexec_fn=confine)
+        self.ends(("run",), of(ONE_CALL), well(ONE_CALL), preexec_fn=confine)
+
+    def unheard(self, words, given, status):
+        with open("/dev/full", "wb") as full:
+            self.ends(words, given, Outcome(status), stdout=full, stderr=full)
+
+    def test_messages_that_nobody_takes(self):
+        """The status says it all the same, and a write that failed before all else."""
+        self.each((
+            ("usage", ("walk",), b"", 2),
+            ("not UTF-8", (b"\xff",), b"", 2),
+            ("a script with a fault", ("run",), SLASH, 3),
+            ("a script as a journal", ("check",), of(HELPED), 3),
+            ("a run", ("run",), of(ONE_CALL), 5),
+            ("a run with calls left", ("run",), of(CUT), 5),
+            ("a journal that is not lawful", ("check",), WRONG, 5),
+        ), self.unheard)
+
+
+if __name__ == "__main__":
+    unittest.main()

@@ -1,0 +1,466 @@
+"""What the program and the library read of a text: the rows of tests/data/texts, and 20,000 drawn texts.
+
+A row is a text, what is asked of it, and the answer. `|LINE` adds a line to the text, `*COUNT LINE` so many, with the number of each for #, and
+`+COUNT BYTES` so many copies of bytes without a line feed. Asked are
+    script              the fault, or the calls with their seats and the words of the schedule
+    counts              how many threads, calls and words there are
+    seat NAME           the seat of a thread
+    journal             the fault, or the lines that are its entries
+    verdict             the line of the verdict
+and in `paths`, where the text is made from a word,
+    path WORD           the fault of the word in a call, or the path as it is written
+    long COUNT WORD     the same behind so many times /n
+    name WORD           the fault of the word in a reply, or the name as it is written
+The program has to give each of these answers, and so has tests/grammar.py. The library is compared with the grammar, at rows and at drawn texts.
+"""
+import os
+import random
+import re
+import unittest
+
+import grammar
+import model
+import harness
+from harness import DATA, Case, Outcome, atomfs, library, run
+
+READERS = {"script": grammar.Script, "journal": grammar.journal}
+COMMANDS = {
+    "script": (("run",), ("run", "--robin"), ("run", "--seed", "7"), ("seeds", "--seed", "7", "--runs", "1"), ("threads",)),
+    "journal": (("check",),),
+}
+# What can come of a text.
+PATH_FAULTS = [f"BadPath {fault}" for fault in ("NotAbsolute", "Nul", "TooManyNames", "NameTooLong", "Dot", "TrailingSlash")]
+KINDS = {
+    "script": ["BadHeader", "BadLine", "BadThread", "ThreadTwice", *PATH_FAULTS, "BadNumber", "BadHex", "NoSchedule", "BadWord", "TooLarge"],
+    "journal": ["BadHeader", "BadLine", *PATH_FAULTS, "BadNumber", "BadHex", "BadReply"],
+    "verdict": ["lawful", "BeginTwice", "SeatBusy", "CommitUnbegun", "CommitTwice", "ReturnUncommitted", "ReturnTwice", "WrongReply"],
+}
+
+
+def text_of(*lines):
+    return "".join(f"{line}\n" for line in lines).encode()
+
+
+def repeated(line):
+    """So many copies of what stands in a line of a row."""
+    count, _, copied = line[1:].partition(" ")
+    if line.startswith("+"):
+        return copied.encode() * int(count)
+    return text_of(*(copied.replace("#", str(place)) for place in range(int(count))))
+
+
+def of_word(word, answer):
+    """The row of a word in a call."""
+    answer = [f"line 3: {answer[0]}"] if answer[0].startswith("Bad") else [f"0 stat {answer[0]}", "finish"]
+    return text_of("atomfs 1", "thread t", f"stat {word}", "schedule", "finish"), "script", answer
+
+
+def of_long_word(count, word, answer):
+    """The row of so many times /n and a word, in a call."""
+    word = "/n" * int(count) + word
+    return of_word(word, [word] if answer == ["as it stands"] else answer)
+
+
+def of_name(word, answer):
+    """The row of a word in a reply: in that of a directory with an entry of this name."""
+    if answer[0].startswith("Bad"):
+        return text_of("atomfs-journal 1", f"return 1 names {word}"), "journal", [f"line 2: {answer[0]}"]
+    made = f"begin 1 0 mknod /{answer[0]}", "commit 1", "return 1 ok"
+    return text_of("atomfs-journal 1", *made, "begin 2 0 readdir /", "commit 2", f"return 2 names {word}"), "verdict", ["lawful"]
+
+
+def row(text, ask, answer):
+    """A row, with its text where that is made from a word."""
+    kind, _, word = ask.partition(" ")
+    match kind:
+        case "path":
+            return of_word(word, answer)
+        case "long":
+            count, _, word = word.partition(" ")
+            return of_long_word(count, word, answer)
+        case "name":
+            return of_name(word, answer)
+    return text, ask, answer
+
+
+def asked(file):
+    """What is asked in a file: of each its name, the text so far, the question, and the lines of the answer."""
+    questions, text = [], b""
+    for line in (DATA / "texts" / file).read_text().split("\n"):
+        match line[:1]:
+            case "":
+                text = b""
+            case "#":
+                title, before = line[2:].rstrip("."), len(questions)
+            case "|":
+                text += text_of(line[1:])
+            case "*" | "+":
+                text += repeated(line)
+            case " ":
+                questions[-1][-1].append(line.strip())
+            case _:
+                ask, _, answer = line.partition(" -> ")
+                questions.append((f"{title} {len(questions) - before + 1}", text, ask, [answer] if answer else []))
+    return questions
+
+
+def rows(file):
+    return [(name, *row(*question)) for name, *question in asked(file)]
+
+
+def attempted(kind, text):
+    """What a text says as a script or a journal by the grammar, or the fault."""
+    try:
+        return READERS[kind](text)
+    except grammar.Fault as fault:
+        return fault
+
+
+def told(kind, text):
+    """What the library answers to a script or a journal: a text, or a status and a line."""
+    return harness.told({"script": library().run, "journal": library().check}[kind], text)
+
+
+def status_of(fault):
+    """The status and the line by which the library tells a fault."""
+    name = re.sub("(?<=[a-z])(?=[A-Z])", "_", fault.kind.split(" ")[0])
+    return atomfs.Status[name.upper()], fault.line
+
+
+def outcome_of(fault):
+    """The outcome by which the program tells a fault."""
+    return Outcome(3, b"", f"atomfs: {fault}\n".encode())
+
+
+def written(entries):
+    """A journal of these entries."""
+    return text_of("atomfs-journal 1", *entries)
+
+
+class History:
+    """The entries of a journal so far, by the table of verdicts of docs/SPECIFICATION.md: an entry answers the kind of its fault, or None."""
+
+    def __init__(self):
+        self.tree, self.calls, self.due, self.returned, self.last = model.Tree(), {}, {}, set(), {}
+
+    def begin(self, number, seat, *call):
+        if number in self.calls:
+            return "BeginTwice"
+        if seat in self.last and self.last[seat] not in self.returned:
+            return "SeatBusy"
+        self.calls[number], self.last[seat] = call, number
+
+    def commit(self, number):
+        if number not in self.calls:
+            return "CommitUnbegun"
+        if number in self.due:
+            return "CommitTwice"
+        self.due[number] = self.tree.apply(self.calls[number])
+
+    def returns(self, number, *reply):
+        if number not in self.due:
+            return "ReturnUncommitted"
+        if number in self.returned:
+            return "ReturnTwice"
+        if self.due[number] != " ".join(reply):
+            return "WrongReply"
+        self.returned.add(number)
+
+
+def verdict(entries):
+    """The line of the verdict on entries, by the model."""
+    history = History()
+    take = {"begin": history.begin, "commit": history.commit, "return": history.returns}
+    for place, entry in enumerate(entries, 1):
+        kind, *words = entry.split(" ")
+        if fault := take[kind](*words):
+            return f"fault {place} {fault}"
+    return "lawful"
+
+
+class Rows:
+    """The rows, whose answers are looked at in one way."""
+
+    def test_scripts(self):
+        self.each(rows("scripts"), self.look)
+
+    def test_journals(self):
+        self.each(rows("journals"), self.look)
+
+    def test_lines(self):
+        self.each(rows("lines"), self.look)
+
+    def test_paths(self):
+        self.each(rows("paths"), self.look)
+
+    def look(self, text, ask, answer):
+        kind, *more = ask.split(" ")
+        if answer[0].startswith("line "):
+            self.look_at_fault(text, kind, answer[0])
+        else:
+            getattr(self, f"look_at_{kind}")(text, answer, *more)
+
+
+class OfTheGrammar(Rows, Case):
+    """What tests/grammar.py says of each row."""
+
+    def look_at_fault(self, text, kind, fault):
+        self.same(text, str(attempted(kind, text)), fault)
+
+    def look_at_script(self, text, answer):
+        script = grammar.Script(text)
+        seats = {thread: seat for seat, thread in enumerate(script.calls)}
+        calls = [f"{seats[thread]} {call}" for thread, calls in script.calls.items() for call in calls]
+        words = [f"{seats[thread]}*{times}" for thread, times in script.events] + ["finish"] * script.finishes
+        self.same(text, calls + words or ["no call, no word"], answer)
+
+    def look_at_counts(self, text, answer):
+        script = grammar.Script(text)
+        calls = sum(map(len, script.calls.values()))
+        self.same(text, f"{len(script.calls)} threads, {calls} calls, {len(script.events)} words", answer[0])
+
+    def look_at_seat(self, text, answer, thread):
+        threads = list(grammar.Script(text).calls)
+        self.same(text, str(threads.index(thread)) if thread in threads else "none", answer[0])
+
+    def look_at_journal(self, text, answer):
+        count = re.fullmatch(r"as its first (\d+) lines", answer[0])
+        wanted = b"".join(text.splitlines(keepends=True)[: int(count[1]) if count else None])
+        self.same(text, written(grammar.journal(text)), wanted)
+
+    def look_at_verdict(self, text, answer):
+        self.same(text, verdict(grammar.journal(text)), answer[0])
+
+
+class OfTheProgram(Rows, Case):
+    """What the program says of each row."""
+
+    def look_at_fault(self, text, kind, fault):
+        for words in COMMANDS[kind]:
+            self.same(text, run(text, *words), outcome_of(fault))
+
+    def look_at_script(self, text, answer):
+        """Rounds to the end begin its calls, and it runs as the script that is written from its calls and its events."""
+        calls = [line for line in answer if re.match(r"\d+ ", line)]
+        begun = model.begun(run(text, "run", "--robin").output.decode())
+        self.same(text, [f"{seat} {call}" for seat in sorted(begun) for call in begun[seat]], calls)
+        self.look_at_counts(text, [f"{len(calls)} calls"])
+
+    def look_at_counts(self, text, answer):
+        """Rounds to the end make so many calls, and it runs as the script that is written from its calls and its events."""
+        calls = re.search(r"(\d+) calls", answer[0])[1]
+        last = run(text, "run", "--robin").output.decode().splitlines()[-1:]
+        self.same(text, last, [f"begun {calls} committed {calls} returned {calls}"])
+        self.same(text, run(text, "run"), run(grammar.Script(text).text(), "run"))
+
+    def look_at_seat(self, text, answer, thread):
+        """The thread gets a call, and an event that begins it."""
+        given = text.replace(text_of(f"thread {thread}"), text_of(f"thread {thread}", "stat /")) + text_of(thread)
+        came = run(given, "run")
+        if answer == ["none"]:
+            self.same(given, came, outcome_of(f"line {len(given.splitlines())}: BadWord"))
+        else:
+            self.same(given, model.begun(came.output.decode()), {int(answer[0]): ["stat /"]})
+
+    def look_at_journal(self, text, _):
+        """Its verdict is that of the journal that is written from its entries."""
+        self.same(text, run(text, "check"), run(written(grammar.journal(text)), "check"))
+
+    def look_at_verdict(self, text, answer):
+        self.same(text, run(text, "check"), Outcome(int(answer != ["lawful"]), text_of(answer[0])))
+
+
+# What texts are drawn from. A letter P, N, H, E or T that is a word, or the thread of a word, stands for one of these.
+WORDS_OF = {
+    "P": ("/", "/a", "/b", "/a/b", "/a/a", "/b/a", "//a", "/%61/b", "/%C3%A9", "/a%20b", "/a%2Fb", "/c~"),
+    "N": ("0", "1", "1", "2", "2", "3", "4", "10", "65535", "65536", "65537", "18446744073709551615"),
+    "H": ("-", "00", "6869", "fFeE01"),
+    "E": ("ENOENT", "ENOTDIR", "EEXIST", "ENOTEMPTY", "EISDIR", "EINVAL", "EBUSY", "EPERM", "ENOSPC", "EFBIG"),
+    "T": ("t", "u_2", "thread"),
+}
+CALLS = (
+    *("mkdir P", "mknod P", "mkdir P", "unlink P", "rmdir P", "rename P P", "stat P", "readdir P"),
+    *("read P N N", "write P N H", "truncate P N"),
+)
+REPLIES = "ok", "stat dir N", "stat file N", "names", "names a", "names a b%20c %C3%A9", "bytes H", "wrote N", "failed E"
+EVENTS = "T", "T*1", "T*2", "T*5", "T*9", "T*40"
+BEGINNINGS = (
+    *("", "atomfs 1\n", "atomfs 1\nthread t\n", "atomfs 1\nthread t\nmkdir /a\nschedule\n"),
+    *("atomfs-journal 1\n", "atomfs-journal 1\nbegin 1 0 mkdir /a\n"),
+)
+# Words of all lines, right and wrong ones.
+WORDS = (
+    *("", "#", "t", "T", "t*2", "t*0", "t*1000000", "t*1000001", "u", "finish", "thread", "schedule", "tree", "atomfs"),
+    *("mkdir", "mknod", "unlink", "rmdir", "rename", "stat", "readdir", "read", "write", "truncate", "begin", "commit", "return"),
+    *("ok", "dir", "file", "names", "bytes", "wrote", "failed", "ENOENT", "ENOMEM"),
+    *("0", "1", "2", "01", "65537", "18446744073709551616", "-", "ff", "abc"),
+    *("/", "/a", "/a/b", "/a/", "/./a", "/a/..", "a", "/%00", "/a%2fb", "/%", "/a-name-of-more-bytes-than-thirty-two", "/n" * 65),
+    *("\r", "\t", "%"),
+)
+BYTES = b" \n/%#*-0159af.tr\r\t\0\xFF"
+
+
+def filled(draw, pattern):
+    return re.sub(r"\b[PNHET]\b", lambda letter: draw.choice(WORDS_OF[letter[0]]), pattern)
+
+
+def some(draw, patterns, most):
+    """Lines, each from one of the patterns."""
+    return [filled(draw, draw.choice(patterns)) for _ in range(draw.randrange(most))]
+
+
+def blocks(draw):
+    return [line for thread in WORDS_OF["T"] for line in (f"thread {thread}", *some(draw, CALLS, 6))]
+
+
+def drawn_script(draw):
+    return text_of("atomfs 1", *blocks(draw), "schedule", *some(draw, EVENTS, 8), *["finish"] * draw.choice((0, 1, 1)))
+
+
+def drawn_journal(draw):
+    entries = "commit N", *(f"begin N N {call}" for call in CALLS), *(f"return N {reply}" for reply in REPLIES)
+    weights = 99, *[9] * len(CALLS), *[11] * len(REPLIES)
+    return text_of("atomfs-journal 1", *(filled(draw, entry) for entry in draw.choices(entries, weights, k=draw.randrange(10))))
+
+
+def drawn_run(draw):
+    """The text of a run of a drawn script."""
+    return library().run(text_of("atomfs 1", *blocks(draw), "schedule", "finish"))
+
+
+def drawn_lines(draw):
+    """Lines of words behind a beginning."""
+    lines = (" ".join(draw.choices(WORDS, k=draw.randrange(1, 5))) for _ in range(draw.randrange(4)))
+    return draw.choice(BEGINNINGS).encode() + text_of(*lines)
+
+
+def drawn_byte(draw):
+    """One of the bytes that texts are made of, or any."""
+    return bytes([draw.choice((draw.choice(BYTES), draw.randrange(256)))])
+
+
+def drawn_bytes(draw):
+    return draw.choice(BEGINNINGS).encode() + b"".join(drawn_byte(draw) for _ in range(draw.randrange(40)))
+
+
+def byte_changed(draw, text):
+    """The text with another byte, without a byte, or with a byte twice."""
+    at = draw.randrange(len(text))
+    front, byte, back = text[:at], text[at : at + 1], text[at + 1 :]
+    return front + draw.choice((drawn_byte(draw), b"", byte + byte)) + back
+
+
+def lines_exchanged(draw, text):
+    """The text with two of its lines behind the first exchanged."""
+    lines = text.split(b"\n")
+    one, other = (draw.randrange(min(1, len(lines) - 1), len(lines)) for _ in range(2))
+    lines[one], lines[other] = lines[other], lines[one]
+    return b"\n".join(lines)
+
+
+def line_doubled(draw, text):
+    lines = text.split(b"\n")
+    lines.insert(draw.randrange(len(lines)), draw.choice(lines))
+    return b"\n".join(lines)
+
+
+def word_changed(draw, text):
+    pieces = re.split(rb"([ \n])", text)
+    pieces[draw.randrange(0, len(pieces), 2)] = draw.choice(WORDS).encode()
+    return b"".join(pieces)
+
+
+CHANGES = *[byte_changed] * 3, *[word_changed] * 2, lines_exchanged, line_doubled
+
+
+def changed(drawn):
+    """The same texts with one or two changes."""
+
+    def text(draw):
+        given = drawn(draw)
+        for _ in range(draw.choice((1, 2))):
+            given = draw.choice(CHANGES)(draw, given)
+        return given
+
+    return text
+
+
+# In each way: how a text is drawn, how many are, and what each of them has to be.
+WAYS = {
+    "script": (drawn_script, 1_000, "script"),
+    "changed script": (changed(drawn_script), 6_000, None),
+    "journal": (drawn_journal, 1_000, "journal"),
+    "changed journal": (changed(drawn_journal), 4_000, None),
+    "changed text of a run": (changed(drawn_run), 4_000, None),
+    "lines of words": (drawn_lines, 3_000, None),
+    "bytes": (drawn_bytes, 1_000, None),
+}
+
+
+def drawn_texts():
+    """All texts by their names, each drawn from its name alone, and what it has to be."""
+    for way, (drawn, count, kind) in WAYS.items():
+        for number in range(1, count + 1):
+            yield f"{way} {number}", drawn(random.Random(f"{way} {number}")), kind
+
+
+class OfTheLibrary(Case):
+    """What the library says of the texts of all rows, and of drawn ones: valid ones, changed ones, lines of the grammar's words, and bytes."""
+
+    def setUp(self):
+        library()
+        self.came = set()
+
+    def test_rows(self):
+        rows_of = {file: rows(file) for file in ("scripts", "journals", "lines", "paths")}
+        self.each(((f"{file}: {name}", text) for file, rows in rows_of.items() for name, text, _, _ in rows), self.look)
+
+    def test_drawn_texts(self):
+        """The program tells of each kind of fault too, of the first text that has it. Each kind comes."""
+        self.each(drawn_texts(), self.look_at_drawn)
+        if "ROW" not in os.environ:
+            wanted = {(kind, came) for kind, kinds in KINDS.items() for came in kinds}
+            self.same("all drawn texts: the kinds that did not come", sorted(wanted - self.came), [])
+
+    def look_at_drawn(self, text, kind):
+        for reader in self.look(text):
+            self.assertNotEqual(reader, kind, "a valid text is refused")
+
+    def look(self, text):
+        """Looks at a text as a script and as a journal. Answers which of them it is not."""
+        said = {kind: attempted(kind, text) for kind in READERS}
+        faults = {kind: fault for kind, fault in said.items() if isinstance(fault, grammar.Fault)}
+        for kind, fault in faults.items():
+            self.look_at_fault(text, kind, fault)
+        if "script" not in faults:
+            self.look_at_script(text, said["script"])
+        if "journal" not in faults:
+            self.look_at_journal(text, said["journal"])
+        return faults
+
+    def look_at_fault(self, text, kind, fault):
+        self.same(text, told(kind, text), status_of(fault))
+        if (kind, fault.kind) not in self.came:
+            self.came.add((kind, fault.kind))
+            self.same(text, run(text, *COMMANDS[kind][0]), outcome_of(fault))
+
+    def look_at_script(self, text, script):
+        """It begins calls of the script, and all where rounds follow. It runs as the script that is written from its calls and its events."""
+        came = told("script", text)
+        self.same(text, came, told("script", script.text()))
+        begun = model.begun(came.decode())
+        calls = {seat: calls if script.finishes else calls[: len(begun.get(seat, []))] for seat, calls in enumerate(script.calls.values())}
+        self.same(text, begun, {seat: given for seat, given in calls.items() if given})
+        self.same(text, told("journal", came), b"lawful\n")
+        self.same(text, verdict(grammar.journal(came)), "lawful")
+
+    def look_at_journal(self, text, entries):
+        """Its verdict is that of the model, and that of the journal that is written from its entries."""
+        wanted = verdict(entries)
+        self.came.add(("verdict", wanted.split(" ")[-1]))
+        self.same(text, told("journal", text), text_of(wanted))
+        self.same(text, told("journal", written(entries)), text_of(wanted))
+
+
+if __name__ == "__main__":
+    unittest.main()
