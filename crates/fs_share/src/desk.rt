@@ -1,11 +1,13 @@
 //! What the lock keeps: the board, and the account of the calls that returned.
 
-ghost use Rattle.std.specs.Prelude.{◌≡◌, ◌+◌, ◌<◌, ◌^◌, length, sum_by, vec_len, IfOk, IfSome};
+ghost use Rattle.std.specs.Prelude.{◌≡◌, ◌+◌, ◌<◌, ◌^◌, ◌++◌, ◌∷◌, [], None, length, sum_by, vec_len, IfOk, IfSome, OnOk};
 ghost use Rattle.fs_nodes.specs.Graphs.{graph_shapes};
 ghost use Rattle.fs_nodes.specs.Stores.{graph_of};
 ghost use Rattle.fs_calls.specs.Outcomes.{play};
 ghost use Rattle.fs_calls.specs.Sights.{tree_shapes};
 ghost use Rattle.fs_timeline.specs.Timeline.{IsLawful, commits};
+ghost use Rattle.fs_machine.specs.States.{Begins, Step};
+ghost use Rattle.fs_core.specs.CoreValues.{state_of};
 ghost use Rattle.fs_share.specs.Boards.{IsListed};
 ghost use Rattle.fs_share.specs.Returns.{answered, returns, AllReturned};
 
@@ -48,6 +50,7 @@ pub(crate) fn count_of(stepped: &Stepped) -> u64
 
 /// One step of a seat's call; where the seat is not there, no call is under way on it.
 fn step_on<N: Named>(board: &mut Board<N>, seat: SeatNo) -> Stepped
+    ensures step { seat < length board.old.core.seats → Step (state_of board.old.core) seat result (state_of board.new.core) }
     ensures returns { returns board.new.core.timeline ≡ returns board.old.core.timeline + answered result }
     ensures seats { length board.new.core.seats ≡ length board.old.core.seats }
 {
@@ -69,7 +72,9 @@ fn entry_count<N: Named>(board: &Board<N>) -> usize
 impl<N: Named> Desk<N> {
     /// One more seat, with a part of the ledger.
     pub fn seat(&mut self) -> Result<(SeatNo, Share<N>), AllocError>
-        ensures { IfOk result (λ made. (made.1.parts ≡ 1) × (made.1.amount ≡ 0)) }
+        ensures share { IfOk result (λ made. (made.1.parts ≡ 1) × (made.1.amount ≡ 0)) }
+        ensures seats { OnOk result (self.new.board.core.seats ≡ self.old.board.core.seats ++ None ∷ []) }
+        ensures waiting { self.new.waiting ≡ self.old.waiting }
     {
         let Desk { board, rest, .. } = self;
         if board.core().seats() >= MOST_SEATS {
@@ -80,7 +85,10 @@ impl<N: Named> Desk<N> {
     }
 
     /// A call begins on a seat.
-    pub fn begin(&mut self, alloc: Global, seat: SeatNo, call: &Call) -> Result<CallNo, Refusal> {
+    pub fn begin(&mut self, alloc: Global, seat: SeatNo, call: &Call) -> Result<CallNo, Refusal>
+        ensures begins { seat < length self.old.board.core.seats → Begins (state_of self.old.board.core) seat call.now result (state_of self.new.board.core) }
+        ensures waiting { self.new.waiting ≡ self.old.waiting }
+    {
         if seat.get() >= self.board.core().seats() as u64 {
             return Err(Refusal::SeatBusy);
         }
@@ -90,6 +98,8 @@ impl<N: Named> Desk<N> {
     /// One step of a seat's call. A call that returns counts for the share.
     pub fn step(&mut self, seat: SeatNo, mine: &mut Share<N>) -> Stepped
         requires { 0 < mine.old.parts }
+        ensures step { seat < length self.old.board.core.seats → Step (state_of self.old.board.core) seat result (state_of self.new.board.core) }
+        ensures waiting { self.new.waiting ≡ self.old.waiting }
         ensures parts { mine.new.parts ≡ mine.old.parts }
         ensures amount { mine.new.amount ≡ mine.old.amount + answered result }
         ensures room { mine.new.amount < 2 ^ 64 }
