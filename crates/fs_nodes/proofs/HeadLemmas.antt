@@ -1,9 +1,13 @@
 -- Names stand to each other as the numbers of their first bytes do, where these differ.
-use Rattle.std.proofs.Common.{◌≡◌, ℕ, zero, suc, ◌+◌, ◌*◌, ◌<◌, ◌≤◌, List, [], ◌∷◌, length, get_or, refl, sym, ap, subst, ◌∙◌, arith, Ordering, Less, Equal, Greater}
+use Rattle.std.proofs.Common.{◌≡◌, ℕ, zero, suc, ◌+◌, ◌*◌, ◌<◌, ◌≤◌, true, ◌&&◌, not, nat_le, IsTrue, List, [], ◌∷◌, length, get_or, refl, sym, ap, subst, ◌∙◌, arith, Ordering, Less, Equal, Greater}
 use Rattle.std.specs.Ordering.{ordering_then, ordering_reverse}
 use Rattle.std.specs.Cmp.{nat_cmp_is}
-use Rattle.fs_names.specs.Names.{Name, name_cmp}
+use Rattle.std.specs.List.{list_all}
+use Rattle.std.proofs.lemmas.Cmp.{tied_itself}
+use Rattle.fs_names.specs.Names.{Name, name_cmp, may_stand, is_dots, can_name}
+use Rattle.fs_names.specs.declared.limits.TheConstants.{NAME_LIMIT}
 use Rattle.fs_names.proofs.Lemmas.{name_total}
+use Rattle.fs_nodes.proofs.PlaceLemmas.{both_true}
 use Rattle.fs_nodes.specs.code.Heads.{first, rest, byte_at, number_with, AreBytes, IsHead}
 
 -- how two numbers stand to each other
@@ -68,3 +72,44 @@ byte_past zero [] h = refl
 byte_past zero (x ∷ bytes) h = absurd (omega arith)
 byte_past (suc i) [] h = byte_past i [] (omega arith)
 byte_past (suc i) (x ∷ bytes) h = byte_past i bytes (omega arith)
+
+-- a byte that may stand in a name is not zero
+not_zero : (b : ℕ) (bs : List ℕ) → list_all may_stand (b ∷ bs) ≡ true → (0 < b) × (list_all may_stand bs ≡ true)
+not_zero b bs e = let two : (may_stand b ≡ true) × (list_all may_stand bs ≡ true) = both_true (may_stand b) (list_all may_stand bs) e in (go b two.0, two.1)
+  where
+    go : (b : ℕ) → may_stand b ≡ true → 0 < b
+    go zero e = absurd (cc)
+    go (suc b) e = omega arith
+
+-- short names with the same number are the same
+alike : (k a : ℕ) (xs ys : Name) → AreBytes k xs → AreBytes k ys → list_all may_stand xs ≡ true → list_all may_stand ys ≡ true → length xs ≤ k → length ys ≤ k → number_with a k xs ≡ number_with a k ys → xs ≡ ys
+alike k a [] [] r s e f h i n = refl
+alike zero a [] (y ∷ ys) r s e f h i n = absurd (omega arith)
+alike zero a (x ∷ xs) ys r s e f h i n = absurd (omega arith)
+alike (suc k) a [] (y ∷ ys) r s e f h i n =
+    let p : 0 < y = (not_zero y ys f).0 in
+    let l : number_with (a * 256 + 0) k [] < number_with (a * 256 + y) k ys = stays_less k (a * 256 + 0) (a * 256 + y) [] ys r.1 (omega arith) in
+    absurd (omega arith)
+alike (suc k) a (x ∷ xs) [] r s e f h i n =
+    let p : 0 < x = (not_zero x xs e).0 in
+    let l : number_with (a * 256 + 0) k [] < number_with (a * 256 + x) k xs = stays_less k (a * 256 + 0) (a * 256 + x) [] xs s.1 (omega arith) in
+    absurd (omega arith)
+alike (suc k) a (x ∷ xs) (y ∷ ys) r s e f h i n = go (holdings x y) (λ m. alike k (a * 256 + y) xs ys r.1 s.1 (not_zero x xs e).1 (not_zero y ys f).1 (omega arith) (omega arith) m)
+  where
+    go : Holdings x y → (number_with (a * 256 + y) k xs ≡ number_with (a * 256 + y) k ys → xs ≡ ys) → ◌≡◌ {A = List ℕ} (x ∷ xs) (y ∷ ys)
+    go (Lesser g) more = absurd (let l : number_with (a * 256 + x) k xs < number_with (a * 256 + y) k ys = stays_less k (a * 256 + x) (a * 256 + y) xs ys r.1 (omega arith) in omega arith)
+    go (Alike g) more = ap (λ (z : ℕ). z ∷ xs) g ∙ ap (λ (l : List ℕ). y ∷ l) (more (subst (λ (z : ℕ). number_with (a * 256 + z) k xs ≡ number_with (a * 256 + y) k ys) g n))
+    go (Larger g) more = absurd (let l : number_with (a * 256 + y) k ys < number_with (a * 256 + x) k xs = stays_less k (a * 256 + y) (a * 256 + x) ys xs s.1 (omega arith) in omega arith)
+
+-- what may stand in a name
+named : (x : Name) → IsTrue (can_name x) → list_all may_stand x ≡ true
+named x h =
+    let one : ((nat_le 1 (length x) && nat_le (length x) NAME_LIMIT && list_all may_stand x) ≡ true) × (not (is_dots x) ≡ true) = both_true (nat_le 1 (length x) && nat_le (length x) NAME_LIMIT && list_all may_stand x) (not (is_dots x)) h in
+    (both_true (nat_le 1 (length x) && nat_le (length x) NAME_LIMIT) (list_all may_stand x) one.0).1
+
+-- so they stand to each other as equal names
+pub head_same : (a b : ℕ) (x y : Name) → IsHead a x → IsHead b y → IsTrue (can_name x) → IsTrue (can_name y) → length x ≤ 8 → length y ≤ 8 → b ≤ a → a ≤ b → Equal ≡ name_cmp x y
+head_same a b x y i j e f h k least most =
+    let same : a ≡ b = omega arith in
+    let s : x ≡ y = alike 8 0 x y i.bytes j.bytes (named x e) (named y f) h k (sym i.is ∙ same ∙ j.is) in
+    sym (ap (λ (w : Name). name_cmp x w) (sym s) ∙ tied_itself name_total x)

@@ -19,3 +19,4 @@ pub mod EntryLemmas
 pub mod MoveLemmas
 pub mod SwapLemmas
 pub mod RealLemmas
+pub mod AheadLemmas

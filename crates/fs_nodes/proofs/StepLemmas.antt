@@ -18,7 +18,7 @@ use Rattle.fs_nodes.specs.declared.place.Place.{Place}
 use Rattle.fs_nodes.specs.Graphs.{Graph, then_at}
 use Rattle.fs_nodes.specs.Stores.{link_of, link_at, child_in, names_in, shape_in, is_above, names_above, next_entry, with_child, IsNextName}
 use Rattle.fs_nodes.specs.Stores.{link_with, plain_with, plain, plains}
-use Rattle.fs_nodes.specs.code.Linked.{graph_of_places, next_child, IsBefore, IsLow, IsGap, IsBeside, IsPlaces}
+use Rattle.fs_nodes.specs.code.Linked.{graph_of_places, next_child, IsBefore, IsGap, IsBeside, IsPlaces, IsPassed, names_past, rank}
 use Rattle.fs_nodes.proofs.NameLemmas.{Compared, Below, Same, Above, compare}
 use Rattle.fs_nodes.proofs.PlaceLemmas.{child_link, names_child}
 use Rattle.fs_nodes.proofs.EditLemmas.{names_shape, child_within, past_shape}
@@ -199,23 +199,6 @@ dir_length ps d places =
     let h : length (names_in (plains ps) d) ≤ length (plains ps) = names_length (plains ps) d in
     let w : length (plains ps) ≤ NODE_LIMIT = places.store.within in
     omega arith
-
--- the names above that of a place
-abbrev pub names_past : List Name → Option Place → ℕ
-names_past names None = 0
-names_past names (Some p) = length (names_above (Some p.name) names)
-
--- how many entries are still to come
-abbrev pub rank : List Place → ℕ → Option ℕ → ℕ
-rank ps dir None = 0
-rank ps dir (Some n) = suc (names_past (names_of ((graph_of_places ps).shape dir)) (slice_get ps n))
-
--- where a search stands that remembers the sibling before
-pub record IsPassed (ps : List Place) (dir : ℕ) (x : Name) (prev next : Option ℕ) : Type 0 where
-  pub low : Option Name
-  pub is_low : IsLow (graph_of_places ps) dir low prev
-  pub below : is_above low x ≡ true
-  pub next_is : next ≡ next_child (graph_of_places ps) dir low
 
 -- the start
 pub passed_first : (ps : List Place) (dir : ℕ) (x : Name) (prev next : Option ℕ) → prev ≡ None → next ≡ next_child (graph_of_places ps) dir None → IsPassed ps dir x prev next

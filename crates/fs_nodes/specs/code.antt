@@ -5,3 +5,4 @@ pub mod Spots
 pub mod Linked
 pub mod Frees
 pub mod Heads
+pub mod Strides

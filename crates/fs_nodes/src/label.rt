@@ -1,14 +1,18 @@
 //! The name of an entry, with its first bytes as one number.
 
-ghost use Rattle.std.specs.Prelude.{◌≡◌, ◌<◌};
+ghost use Rattle.std.specs.Prelude.{◌≡◌, ◌<◌, Some};
 ghost use Rattle.fs_names.specs.Names.{name_cmp};
+ghost use Rattle.fs_nodes.specs.Stores.{is_above};
 ghost use Rattle.fs_nodes.specs.code.Heads.{byte_at, IsHead};
 
 use fs_names::Name;
 use std::cmp::Ordering;
 use std::marker::Model;
 
-/// A name that is compared by one number, unless another one has the same first eight bytes.
+/// How many bytes of a name stand in its number.
+const WIDTH: usize = 8;
+
+/// A name that is compared by one number, unless a longer one has the same first eight bytes.
 #[derive(Drop)]
 pub struct Label {
     head: u64,
@@ -88,6 +92,19 @@ impl Label {
         if first < self.head {
             return Ordering::Greater;
         }
+        let bytes = self.name.bytes();
+        let others = name.bytes();
+        // A name holds no zero byte, so where all bytes stand in the numbers, names with the same number are the same.
+        if bytes.len() <= WIDTH && others.len() <= WIDTH {
+            return Ordering::Equal;
+        }
         self.name.cmp(name)
+    }
+
+    /// Whether it comes after another one.
+    pub fn is_after(&self, other: &Label) -> bool
+        ensures { result ≡ is_above (Some other.now) self.now }
+    {
+        other.cmp(self.head, &self.name) == Ordering::Less
     }
 }

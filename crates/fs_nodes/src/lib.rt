@@ -21,6 +21,7 @@ mod scan;
 mod siblings;
 mod spot;
 pub mod store;
+mod stride;
 
 pub use number::NodeNo;
 pub use store::{NoNode, Store};

@@ -24,6 +24,9 @@ pub struct Place {
     pub next: Spot,
     pub prev: Spot,
     pub entries: u32,
+    /// A sibling some entries further on, as a walk once found it, or none. Nothing is known of it: whoever takes the way
+    /// asks first whether it still leads there.
+    pub ahead: Spot,
 }
 
 impl Place {
@@ -42,6 +45,7 @@ impl Place {
             next: Spot::none(),
             prev: Spot::none(),
             entries: 0,
+            ahead: Spot::none(),
         }
     }
 }

@@ -1,15 +1,17 @@
 //! Looking along the entries of one directory.
 
-ghost use Rattle.std.specs.Prelude.{◌≡◌, ◌≤◌, ◌<◌, ◌+◌, ◌-◌, length, None, IfSome, slice_get, option_map};
+ghost use Rattle.std.specs.Prelude.{◌≡◌, ◌≤◌, ◌<◌, ◌+◌, ◌-◌, length, Some, None, IfSome, slice_get, option_map};
 ghost use Rattle.std.specs.Option.{option_copied};
 ghost use Rattle.fs_names.specs.Shapes.{names_of};
-ghost use Rattle.fs_nodes.specs.Stores.{next_entry, looked, IsNextName, IsUnlinked, IsEntryAfter, IsNameAfter};
-ghost use Rattle.fs_nodes.specs.code.Linked.{graph_of_places, next_child, IsPlaces, IsGap, IsNextSibling, edited, with_entries, entered, led, followed, put_between, taken_out};
+ghost use Rattle.fs_nodes.specs.Stores.{link_of, is_in, plain, next_entry, looked, IsNextName, IsUnlinked, IsEntryAfter, IsNameAfter};
+ghost use Rattle.fs_nodes.specs.code.Heads.{IsHead};
+ghost use Rattle.fs_nodes.specs.code.Linked.{graph_of_places, next_child, IsPlaces, IsGap, IsNextSibling, IsLesser, may_leap, IsPassed, rank, edited, with_entries, entered, led, followed, pointed, put_between, taken_out};
 
 use crate::label::{Label, head};
 use crate::place::{Place, dir_of};
 use crate::scan::is_higher;
 use crate::spot::Spot;
+use crate::stride::Stride;
 use fs_names::{NODE_LIMIT, Name};
 use std::cmp::Ordering;
 
@@ -48,8 +50,71 @@ pub fn find_steps(places: &[Place], dir: usize, name: &Name) -> (Option<usize>, 
     (None, steps)
 }
 
-/// The siblings between which an entry of this name belongs, where there is none yet.
-pub fn gap(places: &[Place], dir: usize, name: &Name) -> (Spot, Spot)
+/// Whether a place is that of an entry of the directory.
+fn is_in_dir(place: &Place, dir: usize) -> bool
+    ensures { result ≡ is_in (link_of (plain place.now)) dir }
+{
+    match place.content {
+        Some(_) => match place.parent.get() {
+            Some(parent) => dir == parent,
+            None => false,
+        },
+        None => false,
+    }
+}
+
+/// Whether a search for a name may go on at this place: it is an entry of the directory, not after the name but after the given one.
+fn may_leap(place: &Place, dir: usize, from: &Label, first: u64, name: &Name) -> bool
+    requires { IsHead first name.now }
+    ensures { result ≡ may_leap place.now dir from.now name.now }
+{
+    is_in_dir(place, dir)
+        && place.name.cmp(first, name) != Ordering::Greater
+        && place.name.is_after(from)
+}
+
+/// Between which siblings a search for a name stands after an entry with a lesser one whose way ahead leads to a place:
+/// before that place, where the search may go on there, and else behind the entry.
+fn leap(places: &[Place], dir: usize, at: usize, to: usize, first: u64, name: &Name) -> (Spot, Spot)
+    requires places { IsPlaces places.now }
+    requires first { IsHead first name.now }
+    requires at { IsLesser (graph_of_places places.now) dir name.now at }
+    requires to { to < length places.now }
+    ensures stands { IsPassed places.now dir name.now result.0 result.1 }
+    ensures nearer { rank places.now dir result.1 < rank places.now dir (Some at) }
+{
+    let place = &places[at];
+    let far = &places[to];
+    if may_leap(far, dir, &place.name, first, name) {
+        (far.prev, Spot::at(to))
+    } else {
+        (Spot::at(at), place.next)
+    }
+}
+
+/// The node of an entry.
+pub fn find(places: &[Place], dir: usize, name: &Name) -> Option<usize>
+    requires { IsPlaces places.now }
+    ensures { result ≡ (graph_of_places places.now).child dir name.now }
+{
+    let start = head(name.bytes());
+    let mut next = first_of(places, dir);
+    while let Some(n) = next {
+        let place = &places[n];
+        match place.name.cmp(start, name) {
+            Ordering::Less => match place.ahead.below(places.len()) {
+                Some(to) => next = leap(places, dir, n, to, start, name).1.get(),
+                None => next = place.next.get(),
+            },
+            Ordering::Equal => return Some(n),
+            Ordering::Greater => return None,
+        }
+    }
+    None
+}
+
+/// The siblings between which an entry of this name belongs, where there is none yet, and how the walk went.
+pub fn gap(places: &[Place], dir: usize, name: &Name) -> (Spot, Spot, Stride)
     requires places { IsPlaces places.now }
     requires dir { dir < length places.now }
     requires absent { (graph_of_places places.now).child dir name.now ≡ None }
@@ -59,16 +124,33 @@ pub fn gap(places: &[Place], dir: usize, name: &Name) -> (Spot, Spot)
     let mut prev = Spot::none();
     let first = &places[dir];
     let mut next = first.first;
+    let mut stride = Stride::begin(next);
     while let Some(n) = next.get() {
         let place = &places[n];
         match place.name.cmp(start, name) {
             Ordering::Less => {}
-            _ => return (prev, next),
+            _ => return (prev, next, stride),
         }
-        prev = next;
-        next = place.next;
+        let (before, after) = match place.ahead.below(places.len()) {
+            Some(to) => leap(places, dir, n, to, start, name),
+            None => (next, place.next),
+        };
+        stride.step(before == next, after);
+        prev = before;
+        next = after;
     }
-    (prev, next)
+    (prev, next, stride)
+}
+
+/// The way ahead from a place, if one is given, leads to this one from now on.
+pub fn set_ahead(places: &mut [Place], from: Spot, to: Spot)
+    requires { length places.old ≤ NODE_LIMIT }
+    ensures { places.new ≡ pointed from to places.old }
+{
+    if let Some(k) = from.below(places.len()) {
+        let place = &mut places[k];
+        place.ahead = to;
+    }
 }
 
 /// The way to an entry leads elsewhere: from the sibling before it, or from its directory.

@@ -1,6 +1,7 @@
 //! The number of a place, or none, in four bytes.
 
 ghost use Rattle.std.specs.Prelude.{◌≡◌, ◌<◌, Some, None};
+ghost use Rattle.fs_nodes.specs.code.Spots.{number_below};
 
 use fs_names::NODE_LIMIT;
 use std::marker::Model;
@@ -51,5 +52,14 @@ impl Spot {
         } else {
             Some(self.raw as usize - 1)
         }
+    }
+
+    /// The number, where there is one below this bound.
+    pub fn below(self, bound: usize) -> Option<usize>
+        ensures { result ≡ number_below bound self }
+    {
+        // None wraps around to a number below no bound, so one comparison asks both.
+        let number = (self.raw as usize).wrapping_sub(1);
+        if number < bound { Some(number) } else { None }
     }
 }

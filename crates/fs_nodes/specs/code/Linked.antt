@@ -1,7 +1,8 @@
 -- What the places of a store with sibling links say, and what they keep.
-use Rattle.std.specs.Prelude.{ℕ, true, zero, suc, ◌≡◌, ◌+◌, ◌-◌, List, [], ◌∷◌, Option, Some, None, length, slice_get}
+use Rattle.std.specs.Prelude.{ℕ, Bool, true, zero, suc, ◌≡◌, ◌+◌, ◌-◌, ◌&&◌, not, List, [], ◌∷◌, Option, Some, None, length, slice_get}
 use Rattle.std.specs.List.{find}
-use Rattle.fs_names.specs.Names.{Name}
+use Rattle.std.specs.Ordering.{is_gt}
+use Rattle.fs_names.specs.Names.{Name, name_cmp}
 use Rattle.fs_names.specs.Shapes.{names_of}
 use Rattle.fs_names.specs.declared.limits.TheConstants.{NODE_LIMIT}
 use Rattle.fs_nodes.specs.declared.node.Content.{Content}
@@ -10,7 +11,7 @@ use Rattle.fs_nodes.specs.declared.place.Place.{Place}
 use Rattle.fs_nodes.specs.code.Edits.{refilled, given_back}
 use Rattle.fs_nodes.specs.Graphs.{Graph, then_at}
 use Rattle.fs_nodes.specs.Stores.{plain, plains}
-use Rattle.fs_nodes.specs.Stores.{link_of, graph_in, is_above, IsStore}
+use Rattle.fs_nodes.specs.Stores.{link_of, is_in, graph_in, is_above, names_above, IsStore}
 
 -- the graph that places are
 abbrev pub graph_of_places : List Place → Graph
@@ -131,3 +132,37 @@ content_old bytes (Some content) = given_back content bytes
 -- the file of a place has these bytes from now on
 abbrev pub with_content : List ℕ → Place → Place
 with_content bytes p = record p { content = content_with bytes p.content }
+
+-- the way ahead is another one
+abbrev pub with_ahead : Option ℕ → Place → Place
+with_ahead to p = record p { ahead = to }
+
+-- the way ahead from a place, if one is given
+abbrev pub pointed : Option ℕ → Option ℕ → List Place → List Place
+pointed None to ps = ps
+pointed (Some n) to ps = edited n (with_ahead to) ps
+
+-- an entry whose name is lesser than a given one
+abbrev pub IsLesser : Graph → ℕ → Name → ℕ → Type 0
+IsLesser graph dir x n = (y : Name) × (graph.child dir y ≡ Some n) × (is_above (Some y) x ≡ true)
+
+-- whether a search for x may go on at a place: it is an entry of the directory, not above x but above y
+abbrev pub may_leap : Place → ℕ → Name → Name → Bool
+may_leap p dir y x = is_in (link_of (plain p)) dir && not (is_gt (name_cmp p.name x)) && is_above (Some y) p.name
+
+-- where a search for x stands: between two siblings, the first of which is lesser, if there is one
+pub record IsPassed (ps : List Place) (dir : ℕ) (x : Name) (prev next : Option ℕ) : Type 0 where
+  pub low : Option Name
+  pub is_low : IsLow (graph_of_places ps) dir low prev
+  pub below : is_above low x ≡ true
+  pub next_is : next ≡ next_child (graph_of_places ps) dir low
+
+-- how many names are above that of a place
+abbrev pub names_past : List Name → Option Place → ℕ
+names_past names None = 0
+names_past names (Some p) = length (names_above (Some p.name) names)
+
+-- how many entries are still to come
+abbrev pub rank : List Place → ℕ → Option ℕ → ℕ
+rank ps dir None = 0
+rank ps dir (Some n) = suc (names_past (names_of ((graph_of_places ps).shape dir)) (slice_get ps n))
