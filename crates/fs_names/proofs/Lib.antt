@@ -5,3 +5,4 @@ pub mod TextLemmas
 pub mod ParentLemmas
 pub mod PrefixLemmas
 pub mod SearchLemmas
+pub mod CutLemmas

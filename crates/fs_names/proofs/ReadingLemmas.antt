@@ -1,14 +1,14 @@
 -- The names of a text, one after the other.
-use Rattle.std.proofs.Common.{◌≡◌, ℕ, zero, suc, ◌+◌, ◌<◌, ◌≤◌, Bool, true, false, cond, not, ◌&&◌, ◌||◌, List, [], ◌∷◌, ◌++◌, length, take, Some, None, Option, refl, sym, ap, subst, ◌∙◌, arith, add-one, get_or}
-use Rattle.std.specs.Prelude.{nat_le, All}
+use Rattle.std.proofs.Common.{◌≡◌, ℕ, zero, suc, ◌+◌, ◌<◌, ◌≤◌, Bool, true, false, cond, not, ◌&&◌, ◌||◌, List, [], ◌∷◌, ◌++◌, length, take, Some, None, Option, refl, sym, ap, subst, ◌∙◌, arith, add-one, get_or, ◌≢◌, min, length-append, IsTrue}
+use Rattle.std.specs.Prelude.{nat_le, nat_lt, All}
 use Rattle.std.specs.List.{slice_split, onto_first, list_any, list_all}
-use Rattle.std.proofs.Math.Seq.{take-suc}
+use Rattle.std.proofs.Math.Seq.{take-suc, take-append_seam, get_or-append_seam}
 use Rattle.std.proofs.lemmas.Bool.Decides.{nat_tests}
 use Rattle.std.proofs.lemmas.List.Elements.{All-nil, All-cons, All-filter, All-get_or}
-use Rattle.fs_names.specs.Names.{Name, may_stand}
+use Rattle.fs_names.specs.Names.{Name, may_stand, can_name, is_dots}
 use Rattle.fs_names.specs.Keys.{Key}
 use Rattle.fs_names.specs.declared.fault.PathFault.{PathFault}
-use Rattle.fs_names.specs.declared.fault.PathFault.TheVariants.{TooManyNames}
+use Rattle.fs_names.specs.declared.fault.PathFault.TheVariants.{TooManyNames, NameTooLong, Dot}
 use Rattle.fs_names.specs.Reading.{names, is_slash, is_zero, has_bytes, first_fault, name_fault}
 use Rattle.fs_names.specs.Failures.{check, or_else}
 use Rattle.fs_names.proofs.FailureLemmas.{check-none, or_else-none}
@@ -101,3 +101,29 @@ not_too_many n (x ∷ key) h e =
     let room = within n x both.0 in
     let rest : (n + 1) + length key ≤ 64 = not_too_many (n + 1) key (omega arith) both.1 in
     omega arith
+
+-- the names that are read stand at the front of all
+pub front_of : (all read more : Key) → read ++ more ≡ all → read ≡ take (length read) all
+front_of all read more e = sym (take-append_seam read more) ∙ ap (take (length read)) e
+
+-- the first name that is not read stands behind those that are
+pub place_of : (all read more : Key) (x : Name) → read ++ x ∷ more ≡ all → (length read < length all) × (x ≡ get_or all (length read) x)
+place_of all read more x e =
+    let long = length-append read (x ∷ more) in
+    (omega (arith, ap length e, long), sym (get_or-append_seam read x more x) ∙ ap (λ z. get_or z (length read) x) e)
+
+-- bytes that may stand, of which none is wrong as a name, are a name
+pub right_name : (n : ℕ) (x : Name) → 0 < length x → list_all may_stand x ≡ true → name_fault n x ≡ None → IsTrue (can_name x)
+right_name n x some stands e =
+    let behind = (or_else-none (check (nat_le 64 n) TooManyNames) _ e).1 in
+    let both = or_else-none (check (nat_lt 32 (length x)) NameTooLong) _ behind in
+    let short : nat_lt 32 (length x) ≡ false = check-none _ NameTooLong both.0 in
+    let dots : is_dots x ≡ false = check-none _ Dot (or_else-none (check (is_dots x) Dot) None both.1).0 in
+    let low : nat_le 1 (length x) ≡ true = grind (arith, nat_tests) in
+    let high : nat_le (length x) 32 ≡ true = grind (arith, nat_tests) in
+    rw (low, high, stands, dots) refl
+
+-- room for a name where there was room for those that are read, and what there is then for the others
+pub room_for : (len before after left all : ℕ) → 7 ≤ before → (7 < len → min all 64 ≤ before) → all ≡ len + left → 0 < left → len < 64
+    → (len ≢ 7 → after ≡ before) → (len ≡ 7 → 7 + min left 57 ≤ after) → (len + 1 ≤ after) × (7 ≤ after) × (7 < len + 1 → min all 64 ≤ after)
+room_for len before after left all shared room whole some few same more = (grind arith, grind arith, λ h. grind arith)

@@ -1,8 +1,14 @@
 -- How a path is written, name by name.
-use Rattle.std.proofs.Common.{◌≡◌, ℕ, zero, suc, ◌+◌, ◌≤◌, IsTrue, List, [], ◌∷◌, ◌++◌, length, drop, Some, refl, sym, ap, ◌∙◌, arith, append_assoc, add-one, length-append, slice_get, cond, is_ok, Result, Ok, Err, IsOk, rules}
+use Rattle.std.proofs.Common.{◌≡◌, ℕ, zero, suc, ◌+◌, ◌<◌, ◌≤◌, get_or, IsTrue, List, [], ◌∷◌, ◌++◌, length, drop, Some, refl, sym, ap, ◌∙◌, arith, append_assoc, add-one, length-append, slice_get, cond, is_ok, Result, Ok, Err, IsOk, rules}
 use Rattle.std.proofs.lemmas.Bool.Decides.{nat_tests}
 use Rattle.fs_names.specs.Names.{Name, can_name}
 use Rattle.fs_names.specs.Keys.{Key, names_text}
+
+-- the name at an index
+pub name_at : (p : Key) (i : ℕ) (x : Name) → i < length p → x ≡ get_or p i x → slice_get p i ≡ Some x
+name_at [] i x lt e = absurd (omega arith)
+name_at (y ∷ p) zero x lt e = ap Some (sym e)
+name_at (y ∷ p) (suc i) x lt e = name_at p i x (omega arith) e
 
 -- a name and those behind it
 drop_at : (p : Key) (i : ℕ) (x : Name) → slice_get p i ≡ Some x → drop i p ≡ x ∷ drop (suc i) p

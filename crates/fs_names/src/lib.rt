@@ -19,6 +19,7 @@ pub mod name;
 pub mod numbers;
 pub mod path;
 pub mod relations;
+mod scan;
 
 pub use bytes::Bytes;
 pub use fault::PathFault;

@@ -28,13 +28,16 @@ impl Model for Name {
     ghost inverse = { λ xs. record { bytes = record { items = xs } } };
 }
 
+/// Whether no byte is zero or a slash.
 fn all_may_stand(bytes: &[u8]) -> bool
     ensures { result ≡ list_all may_stand bytes.now }
 {
     bytes.iter().all(|b| *b != 0 && *b != b'/')
 }
 
-fn only_dots(bytes: &[u8]) -> bool
+/// Whether the bytes are one dot or two.
+#[inline]
+pub(crate) fn only_dots(bytes: &[u8]) -> bool
     ensures { result ≡ is_dots bytes.now }
 {
     match bytes {
@@ -57,17 +60,25 @@ impl Name {
     }
 
     /// The same of bytes that may stand in a name.
-    pub(crate) fn read_in_place(bytes: &[u8]) -> Option<Name>
+    fn read_in_place(bytes: &[u8]) -> Option<Name>
         requires { list_all may_stand bytes.now ≡ true }
         ensures { MatchOption result (can_name bytes.now ≡ false) (λ n. IsTrue (can_name bytes.now) × (n ≡ bytes.now)) }
     {
         if bytes.is_empty() || bytes.len() > NAME_LIMIT || only_dots(bytes) {
             return None;
         }
-        match ArrayVec::try_from(bytes) {
-            Ok(bytes) => Some(Name { bytes }),
-            Err(_) => unreachable!(),
-        }
+        Some(Name::of(bytes))
+    }
+
+    /// The name of bytes that are one.
+    #[inline]
+    pub(crate) fn of(bytes: &[u8]) -> Name
+        requires { IsTrue (can_name bytes.now) }
+        ensures { result ≡ bytes.now }
+    {
+        let mut copy = ArrayVec::new();
+        let _they_fit = copy.try_extend_from_slice(bytes);
+        Name { bytes: copy }
     }
 
     /// The bytes of the name, 1 to 32 of them.
@@ -82,10 +93,7 @@ impl Name {
     pub fn copy(&self) -> Name
         ensures { result ≡ self.now }
     {
-        match ArrayVec::try_from(self.bytes()) {
-            Ok(bytes) => Name { bytes },
-            Err(_) => unreachable!(),
-        }
+        Name::of(self.bytes())
     }
 
     /// Whether the two names are equal, byte for byte. It answers what `==` does, in the words of their order, by which

@@ -1,6 +1,6 @@
 //! Paths: lists of names from the root.
 
-ghost use Rattle.std.specs.Prelude.{◌≡◌, ◌≢◌, ◌↔◌, ◌≤◌, ◌<◌, ◌+◌, ◌++◌, [], true, false, IsTrue, None, Some, Ok, Err, IsOk, IfOk, IfErr, OnOk, OnErr, length, slice_get, is_some, vec_len, vec_capacity};
+ghost use Rattle.std.specs.Prelude.{◌≡◌, ◌≢◌, ◌↔◌, ◌≤◌, ◌<◌, ◌+◌, ◌-◌, ◌++◌, min, [], true, false, IsTrue, None, Some, Ok, Err, IsOk, IfOk, IfErr, OnOk, OnErr, length, slice_get, is_some, vec_len, vec_capacity};
 ghost use Rattle.std.specs.List.{list_any, list_all};
 ghost use Rattle.fs_names.specs.Names.{may_stand};
 ghost use Rattle.fs_names.specs.Keys.{IsPath, common_len, after_prefix, path_text};
@@ -8,7 +8,8 @@ ghost use Rattle.fs_names.specs.Reading.{reading, names, first_fault, name_fault
 
 use crate::fault::PathFault;
 use crate::limits::{NAME_LIMIT, PATH_LIMIT};
-use crate::name::Name;
+use crate::name::{Name, only_dots};
+use crate::scan::{after_slashes, cut_name};
 use memchr::memchr;
 use smallvec::SmallVec;
 use std::alloc::{AllocError, Global};
@@ -44,50 +45,97 @@ impl Model for Path {
     ghost invariant = { λ p. IsPath (shared_names (option_map arc_value p.names)) };
 }
 
-/// Bytes as a name, of which so many stand before it, or what is wrong with them.
-fn name_after(before: usize, bytes: &[u8]) -> Result<Name, PathFault>
-    requires some { has_bytes bytes.now ≡ true }
-    requires may_stand { list_all may_stand bytes.now ≡ true }
-    ensures name { IfOk result (λ name. (name ≡ bytes.now) × (name_fault before bytes.now ≡ None)) }
-    ensures fault { IfErr result (λ fault. name_fault before bytes.now ≡ Some fault) }
+/// What is wrong with the bytes of a name, of which so many stand before it.
+#[inline]
+fn name_fault(before: usize, bytes: &[u8]) -> Option<PathFault>
+    ensures { result ≡ name_fault before bytes.now }
 {
     if before >= PATH_LIMIT {
-        return Err(PathFault::TooManyNames);
+        return Some(PathFault::TooManyNames);
     }
     if bytes.len() > NAME_LIMIT {
-        return Err(PathFault::NameTooLong);
+        return Some(PathFault::NameTooLong);
     }
-    match Name::read_in_place(bytes) {
-        Some(name) => Ok(name),
-        None => Err(PathFault::Dot),
+    if only_dots(bytes) {
+        return Some(PathFault::Dot);
     }
+    None
 }
 
 /// How many names stand between the slashes.
+#[cold]
 fn count_names(bytes: &[u8]) -> usize
     ensures { result ≡ length (names bytes.now) }
 {
-    bytes
-        .split(|b| *b == b'/')
-        .filter(|piece| !piece.is_empty())
-        .count()
+    let mut count = 0;
+    let mut left = after_slashes(bytes);
+    while !left.is_empty() {
+        count += 1;
+        left = cut_name(left).1;
+    }
+    count
 }
 
-/// The names between the slashes of bytes without zeros. Room for them is made once, and before they are read.
-fn names_of(alloc: Global, bytes: &[u8]) -> Result<SmallVec<Name, SHARED_NAMES>, PathFault>
-    requires { list_any is_zero bytes.now ≡ false }
-    ensures names { IfOk result (λ read. (read.items ≡ names bytes.now) × (first_fault 0 (names bytes.now) ≡ None)) }
+/// Makes room for the names that are left, where those that were read fill the places that are shared. It is made once.
+#[inline]
+fn make_room(left: &[u8], read: &mut SmallVec<Name, SHARED_NAMES>) -> Result<(), AllocError>
+    ensures items { read.new.items ≡ read.old.items }
+    ensures others { length read.old.items ≢ SHARED_NAMES → read.new ≡ read.old }
+    ensures room { OnOk result (length read.old.items ≡ SHARED_NAMES
+        → SHARED_NAMES + min (length (names left.now)) (PATH_LIMIT - SHARED_NAMES) ≤ read.new.capacity) }
+    ensures memory { OnErr result ((length read.old.items ≡ SHARED_NAMES) × (0 < length (names left.now))) }
+{
+    if read.len() != SHARED_NAMES {
+        return Ok(());
+    }
+    read.reserve_exact(count_names(left).min(PATH_LIMIT - SHARED_NAMES))
+}
+
+/// The fault of a name, unless there is no memory for the names, which goes first. Where those that were read fill the
+/// places that are shared, room was made before.
+#[cold]
+fn fault_after_room(alloc: Global, bytes: &[u8], read: usize, fault: PathFault) -> PathFault
+    ensures fault { result ≢ PathFault.OutOfMemory → result ≡ fault }
+    ensures memory { result ≡ PathFault.OutOfMemory → fault ≢ PathFault.OutOfMemory → SHARED_NAMES
+        < length (names bytes.now) }
+{
+    if read >= SHARED_NAMES {
+        return fault;
+    }
+    let room = count_names(bytes).min(PATH_LIMIT);
+    match SmallVec::<Name, SHARED_NAMES>::with_capacity(alloc, room) {
+        Ok(_) => fault,
+        Err(_) => PathFault::OutOfMemory,
+    }
+}
+
+/// Reads the names between the slashes of bytes without zeros, in one pass. It allocates only where there are more names
+/// than are shared, once, and then this goes before what is wrong with any of them.
+fn read_names(
+    alloc: Global,
+    bytes: &[u8],
+    read: &mut SmallVec<Name, SHARED_NAMES>,
+) -> Result<(), PathFault>
+    requires zeros { list_any is_zero bytes.now ≡ false }
+    requires empty { read.old.items ≡ [] }
+    requires shared { SHARED_NAMES ≤ read.old.capacity }
+    ensures names { OnOk result ((read.new.items ≡ names bytes.now) × (first_fault 0 (names bytes.now) ≡ None)) }
     ensures fault { IfErr result (λ fault. fault ≢ PathFault.OutOfMemory → first_fault 0 (names bytes.now) ≡ Some fault) }
     ensures memory { result ≡ Err PathFault.OutOfMemory → SHARED_NAMES < length (names bytes.now) }
 {
-    let room = count_names(bytes).min(PATH_LIMIT);
-    let Ok(mut read) = SmallVec::with_capacity(alloc, room) else {
-        return Err(PathFault::OutOfMemory);
-    };
-    for piece in bytes.split(|b| *b == b'/').filter(|name| !name.is_empty()) {
-        read.push_reserved(name_after(read.len(), piece)?);
+    let mut left = after_slashes(bytes);
+    while !left.is_empty() {
+        let Ok(()) = make_room(left, read) else {
+            return Err(PathFault::OutOfMemory);
+        };
+        let (name, rest) = cut_name(left);
+        if let Some(fault) = name_fault(read.len(), name) {
+            return Err(fault_after_room(alloc, bytes, read.len(), fault));
+        }
+        read.push_reserved(Name::of(name));
+        left = rest;
     }
-    Ok(read)
+    Ok(())
 }
 
 /// The path of these names.
@@ -146,10 +194,10 @@ impl Path {
         if has_zero(bytes) {
             return Err(PathFault::Nul);
         }
-        let names = match names_of(alloc, bytes) {
-            Ok(names) => names,
-            Err(fault) => return Err(fault),
-        };
+        let mut names = SmallVec::new(alloc);
+        if let Err(fault) = read_names(alloc, bytes, &mut names) {
+            return Err(fault);
+        }
         if !names.is_empty() && ends_in_slash(bytes) {
             return Err(PathFault::TrailingSlash);
         }
@@ -226,12 +274,13 @@ impl Path {
     fn text_len(&self) -> usize
         ensures { result ≡ length (path_text self.now) }
     {
-        if self.is_empty() {
+        let names = self.names();
+        if names.is_empty() {
             return 1;
         }
         let mut len = 0;
-        for i in 0..self.len() {
-            len += 1 + self.name(i).bytes().len();
+        for name in names {
+            len += 1 + name.bytes().len();
         }
         len
     }
@@ -244,13 +293,13 @@ impl Path {
         ensures has_room { vec_len text.old + length (path_text self.now) ≤ vec_capacity text.old → IsOk result }
     {
         text.reserve(self.text_len())?;
-        if self.is_empty() {
+        let names = self.names();
+        if names.is_empty() {
             text.push_reserved(b'/');
         }
-        for i in 0..self.len() {
-            let name = self.name(i).bytes();
+        for name in names {
             text.push_reserved(b'/');
-            let _room_was_reserved = text.extend_from_slice(name);
+            let _room_was_reserved = text.extend_from_slice(name.bytes());
         }
         Ok(())
     }

@@ -1,12 +1,11 @@
-use Rattle.std.proofs.Common.{rules, tests}
-use Rattle.std.proofs.lemmas.Iterator.Consumers.{count_from_yields_List, YieldsList-from_filter, YieldsList-at}
-use Rattle.std.proofs.lemmas.Iterator.Splits.{YieldsList-from_slice_split}
-use Rattle.fs_names.specs.Reading.{is_slash, has_bytes}
+use Rattle.std.proofs.Common.{arith, length, ap}
 use Rattle.fs_names.proofs.path.count_names.Goals as goal
 
-pub returns : goal.returns
-returns c =
-    count_from_yields_List c.filter.result c.count.result c.count.ensures.ran
-    (YieldsList-from_filter _ has_bytes
-    (YieldsList-at c.filter.ensures.source (YieldsList-from_slice_split _ is_slash c.args.bytes.now c.split.ensures.rest c.split.ensures.done c.split.ensures.closure (λ x r q k. search (rules, tests))))
-    c.filter.ensures.closure (λ x r q k. search (rules, tests)))
+pub loop-left-preserved : goal.loop-left-preserved
+loop-left-preserved c =
+    let one = ap length c.cut_name.ensures.names in
+    record {
+      count = omega (arith, one, c.loop-left.invariant.count);
+      name = c.cut_name.ensures.name;
+      few = omega (arith, c.cut_name.ensures.less, c.loop-left.invariant.few);
+    }

@@ -3,8 +3,8 @@ use Rattle.fs_names.specs.Keys.{path_text, names_text}
 use Rattle.fs_names.proofs.path.Path.text_len.Given as goal
 
 -- the bytes so far, and those of the names that are left, are all; a name is written in no more than 33
-abbrev pub invariant-loop-i : goal.invariant-loop-i
-invariant-loop-i l = record {
-  rest : l.len + length (names_text (drop l.i l.self)) ≡ length (path_text l.self);
-  few : l.len ≤ 33 * l.i;
+abbrev pub invariant-loop-name : goal.invariant-loop-name
+invariant-loop-name l = record {
+  rest : l.len + length (names_text (drop l.name-index l.names)) ≡ length (path_text l.self);
+  few : l.len ≤ 33 * l.name-index;
 }

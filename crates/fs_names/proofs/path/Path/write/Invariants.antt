@@ -3,8 +3,8 @@ use Rattle.fs_names.specs.Keys.{path_text, names_text}
 use Rattle.fs_names.proofs.path.Path.write.Given as goal
 
 -- the text so far, and the names that are left, are the path, and there is room for them
-abbrev pub invariant-loop-i : goal.invariant-loop-i
-invariant-loop-i l = record {
-  written : l.text.items ++ names_text (drop l.i l.self) ≡ l.fn.text.items ++ path_text l.self;
-  room : vec_len l.text + length (names_text (drop l.i l.self)) ≤ vec_capacity l.text;
+abbrev pub invariant-loop-name : goal.invariant-loop-name
+invariant-loop-name l = record {
+  written : l.text.items ++ names_text (drop l.name-index l.names) ≡ l.fn.text.items ++ path_text l.self;
+  room : vec_len l.text + length (names_text (drop l.name-index l.names)) ≤ vec_capacity l.text;
 }
