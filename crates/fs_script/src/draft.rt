@@ -12,8 +12,9 @@ use crate::limits::{CALL_LIMIT, EVENT_LIMIT, THREAD_LIMIT, THREAD_NAME_LIMIT};
 use crate::script::{CallLists, Script, ThreadNames, Word, WordList};
 use fs_calls::Call;
 use fs_text::FaultKind;
-use fs_text::calls::call_at;
+use fs_text::calls::call_with;
 use fs_text::lines::cut_words;
+use fs_text::recent::Recent;
 use fs_text::words::{number_of, parts};
 use std::alloc::Global;
 
@@ -129,20 +130,30 @@ impl Draft {
         Ok(())
     }
 
-    fn take_call_line(&mut self, alloc: Global, words: &[&[u8]]) -> Result<(), FaultKind>
+    fn take_call_line<'a>(
+        &mut self,
+        alloc: Global,
+        recent: &mut Recent<'a>,
+        words: &[&'a [u8]],
+    ) -> Result<(), FaultKind>
         ensures { Becomes result self.new.script (call_line self.old.script (map (λ w. w.now) words.now)) }
     {
         if self.script.lists.is_empty() {
             return Err(FaultKind::BadLine);
         }
-        match call_at(alloc, words) {
+        match call_with(alloc, recent, words) {
             Ok(call) => self.push_call(call),
             Err(kind) => Err(kind),
         }
     }
 
     #[tactic(auto, unfolding(crate::specs::Script::block_line))]
-    fn take_block_line(&mut self, alloc: Global, words: &[&[u8]]) -> Result<(), FaultKind>
+    fn take_block_line<'a>(
+        &mut self,
+        alloc: Global,
+        recent: &mut Recent<'a>,
+        words: &[&'a [u8]],
+    ) -> Result<(), FaultKind>
         ensures { Becomes result self.new.script (block_line self.old.script (map (λ w. w.now) words.now)) }
     {
         let [first, more @ ..] = words else {
@@ -151,7 +162,7 @@ impl Draft {
         if *first == b"thread".as_slice() {
             return self.take_thread_line(alloc, more);
         }
-        self.take_call_line(alloc, words)
+        self.take_call_line(alloc, recent, words)
     }
 
     #[tactic(auto, using(crate::proofs::LimitLemmas::events_more, crate::proofs::LimitLemmas::unfinished_more))]
@@ -233,24 +244,26 @@ impl Draft {
         Ok(())
     }
 
-    fn take_words(
+    fn take_words<'a>(
         &mut self,
         alloc: Global,
+        recent: &mut Recent<'a>,
         in_schedule: bool,
-        words: &[&[u8]],
+        words: &[&'a [u8]],
     ) -> Result<(), FaultKind>
         ensures { Becomes result self.new.script (line_in in_schedule self.old.script (map (λ w. w.now) words.now)) }
     {
         if in_schedule {
             return self.take_schedule_line(words);
         }
-        self.take_block_line(alloc, words)
+        self.take_block_line(alloc, recent, words)
     }
 
     /// Takes a line that is not passed over, behind the line `schedule` or before it. `words` lends its memory.
     pub(crate) fn take_line<'a>(
         &mut self,
         alloc: Global,
+        recent: &mut Recent<'a>,
         in_schedule: bool,
         line: &'a [u8],
         words: &mut Vec<&'a [u8]>,
@@ -260,6 +273,6 @@ impl Draft {
         if let Err(kind) = cut_words(line, words) {
             return Err(kind);
         }
-        self.take_words(alloc, in_schedule, words.as_slice())
+        self.take_words(alloc, recent, in_schedule, words.as_slice())
     }
 }

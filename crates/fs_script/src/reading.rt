@@ -10,6 +10,7 @@ use crate::draft::Draft;
 use crate::script::Script;
 use fs_text::limits::TEXT_LIMIT;
 use fs_text::lines::{cut_line, is_passed_over};
+use fs_text::recent::Recent;
 use fs_text::{FaultKind, ScriptFault};
 use std::alloc::Global;
 
@@ -29,6 +30,12 @@ fn script_in(alloc: Global, text: &[u8]) -> Result<Script, ScriptFault>
     let mut words = Vec::new(alloc);
     let mut rest = text;
     let mut number: u64 = 2;
+    let Ok(mut recent) = Recent::of_text(alloc, text.len()) else {
+        return Err(ScriptFault {
+            line: number,
+            kind: FaultKind::OutOfMemory,
+        });
+    };
     let mut in_schedule = false;
     'lines: while let Some((line, more)) = cut_line(rest) {
         if is_passed_over(line) {
@@ -42,7 +49,7 @@ fn script_in(alloc: Global, text: &[u8]) -> Result<Script, ScriptFault>
             number += 1;
             continue;
         }
-        if let Err(kind) = draft.take_line(alloc, in_schedule, line, &mut words) {
+        if let Err(kind) = draft.take_line(alloc, &mut recent, in_schedule, line, &mut words) {
             return Err(ScriptFault { line: number, kind });
         }
         rest = more;

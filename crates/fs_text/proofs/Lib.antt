@@ -5,6 +5,8 @@ pub mod WriteLemmas
 pub mod ReadLemmas
 pub mod PathLemmas
 pub mod EntryLemmas
+pub mod DecimalLemmas
 pub mod DigitLemmas
+pub mod SpellLemmas
 pub mod PlainLemmas
 pub mod FitLemmas

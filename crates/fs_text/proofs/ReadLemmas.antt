@@ -1,15 +1,11 @@
 -- What the code's reading of one word and of one line rests on.
-use Rattle.std.proofs.Common.{◌≡◌, ℕ, ◌+◌, ◌<◌, ◌≤◌, ◌^◌, Bool, true, false, ltb, eqb, cond, ◌&&◌, ◌⊎◌, inl, inr, ⊎_elim, List, [], ◌∷◌, ◌++◌, length, get_or, take, drop, map, sym, refl, ap, ◌∙◌, subst, append_assoc, append-nil, arith, ◌||◌, codes, Some, None, Ok, Err, Result, position, IsUtf8}
+use Rattle.std.proofs.Common.{◌≡◌, ℕ, ◌+◌, ◌<◌, ◌≤◌, Bool, true, false, ltb, eqb, cond, ◌⊎◌, inl, inr, List, [], ◌∷◌, ◌++◌, length, get_or, take, drop, map, sym, refl, ap, ◌∙◌, subst, append_assoc, append-nil, arith, ◌||◌, codes, Some, None, Ok, Err, Result, position}
 use Rattle.std.specs.List.{slice_split, position_or_len, All, list_any, onto_first}
-use Rattle.std.specs.Str.{all_ascii_digits, bytes_eq}
-use Rattle.std.specs.Str.Parse.{digits_value, ParsesUnsigned}
-use Rattle.std.proofs.lemmas.Str.Parse.{IsNumeralModel, numerals_by_value, tells_all_ascii_digits, parse_digits}
-use Rattle.std.proofs.lemmas.Fmt.{IsAscii-from_digits}
-use Rattle.std.proofs.lemmas.Bool.{cond-true, cond-false, and_from, and_parts, lt-ltb, ltb-true, cases_Bool, eq-eqb}
+use Rattle.std.specs.Str.{bytes_eq}
+use Rattle.std.proofs.lemmas.Bool.{cond-true, cond-false, ltb-true, cases_Bool, eq-eqb}
 use Rattle.std.proofs.lemmas.Bool.Decides.{nat_tests}
 use Rattle.std.proofs.lemmas.List.Splits.{slice_split_first, slice_split_none, slice_split-cons_yes, slice_split-cons_no}
 use Rattle.std.proofs.lemmas.List.Elements.{All-from_get_or}
-use Rattle.std.proofs.lemmas.Str.{IsUtf8-from_ascii}
 use Rattle.std.proofs.lemmas.List.{drop_more, drop_all}
 use Rattle.std.proofs.lemmas.List.Sums.{fails_before_first}
 use Rattle.hex.specs.Hex.{decode_of}
@@ -34,36 +30,7 @@ use Rattle.fs_names.specs.declared.fault.PathFault.TheVariants as path
 use Rattle.fs_text.specs.Lines.{is_line_feed, is_space, is_passed_over, without_last_empty, lines_of, pieces_of, has_empty, is_empty}
 use Rattle.std.specs.Borrow.{Bor}
 use Rattle.fs_timeline.specs.declared.entry.Entry.{Entry}
-use Rattle.fs_text.specs.Words.{is_number_text, number_of, found_bytes, hex_of}
-
-own : IsNumeralModel (λ ds. all_ascii_digits ds ≡ true) (digits_value 10)
-own = numerals_by_value _ tells_all_ascii_digits
-
-pub digits_of_text : (w : List ℕ) → is_number_text w ≡ true → (all_ascii_digits w ≡ true) × (0 < length w)
-digits_of_text [] h = cc
-digits_of_text (c ∷ []) h = (h, omega arith)
-digits_of_text (c ∷ d ∷ more) h = ((and_parts _ _ h).0, omega arith)
-
-pub number_no_text : (w : List ℕ) → is_number_text w ≡ false → number_of w ≡ None
-unfolding number_of
-number_no_text w h = ap (λ b. cond (b && ltb (digits_value 10 w) (2 ^ 64)) (Some (digits_value 10 w)) None) h
-
-pub number_parsed : (E : Type 0) (w : List ℕ) (n : ℕ) → is_number_text w ≡ true → ParsesUnsigned {E = E} 64 10 w (Ok n) → number_of w ≡ Some n
-unfolding number_of
-number_parsed E w n h p =
-    let facts = digits_of_text w h in
-    let iff = parse_digits own {E = E} 64 w (Ok n) p facts.0 in
-    cond-true _ _ _ (and_from _ _ h (lt-ltb _ _ iff.0.1)) ∙ ap Some (sym iff.1)
-
-pub number_refused : {E : Type 0} (w : List ℕ) (e : E) → is_number_text w ≡ true → ParsesUnsigned 64 10 w (Err e) → number_of w ≡ None
-unfolding number_of
-number_refused w e h p =
-    let facts = digits_of_text w h in
-    let iff = parse_digits own 64 w (Err e) p facts.0 in
-    ⊎_elim
-    (λ small. absurd (iff (facts.1, ltb-true _ _ small)))
-    (λ large. ap (λ b. cond (is_number_text w && b) (Some (digits_value 10 w)) None) large ∙ ap (λ b. cond (b && false) (Some (digits_value 10 w)) None) h)
-    (cases_Bool (ltb (digits_value 10 w) (2 ^ 64)))
+use Rattle.fs_text.specs.Words.{found_bytes, hex_of}
 
 -- ---- file bytes
 
@@ -154,9 +121,6 @@ lines_whole xs h some =
     let long = position_none is_line_feed xs h in
     let none : All (λ b. is_line_feed b ≡ false) xs = All-from_get_or (λ b. is_line_feed b ≡ false) xs 0 (λ i lt. fails_before_first is_line_feed xs i 0 (omega arith)) in
     ap without_last_empty (slice_split_none is_line_feed xs none) ∙ cond-false _ _ _ (not_empty_test (length xs) some)
-
-pub utf8_digits : (w : List ℕ) → is_number_text w ≡ true → IsUtf8 w
-utf8_digits w h = IsUtf8-from_ascii w (IsAscii-from_digits w (own.to w (digits_of_text w h).0))
 
 hex_fails_as : {Y : Type 0} (e : FromHexError) (r : Result Y FaultKind) → r ≡ Err kind.BadHex → FailsAs (hex_fault_of e) r
 hex_fails_as e r h = elim e as (λ d. FailsAs (hex_fault_of d) r) [ hex.OutOfMemory ↦ tt | _ ↦ h ]

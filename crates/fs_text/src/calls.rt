@@ -7,7 +7,8 @@ ghost use Rattle.fs_text.specs.code.Answers.{Gives};
 ghost use Rattle.fs_text.specs.code.Forms.{call_on, form_meant};
 
 use crate::fault::FaultKind;
-use crate::words::{hex_at, is_word, number_at, path_at};
+use crate::recent::Recent;
+use crate::words::{hex_at, number_at, path_with};
 use fs_calls::Call;
 use fs_names::Path;
 use std::alloc::Global;
@@ -36,37 +37,19 @@ enum Form {
 fn form_of(word: &[u8]) -> Option<Form>
     ensures { form_of word.now ≡ option_map form_meant result }
 {
-    if is_word(word, b"mkdir") {
-        return Some(Form::OnPath(OnPath::Mkdir));
+    match word {
+        b"mkdir" => Some(Form::OnPath(OnPath::Mkdir)),
+        b"mknod" => Some(Form::OnPath(OnPath::Mknod)),
+        b"unlink" => Some(Form::OnPath(OnPath::Unlink)),
+        b"rmdir" => Some(Form::OnPath(OnPath::Rmdir)),
+        b"stat" => Some(Form::OnPath(OnPath::Stat)),
+        b"readdir" => Some(Form::OnPath(OnPath::Readdir)),
+        b"rename" => Some(Form::Rename),
+        b"read" => Some(Form::Read),
+        b"write" => Some(Form::Write),
+        b"truncate" => Some(Form::Truncate),
+        _ => None,
     }
-    if is_word(word, b"mknod") {
-        return Some(Form::OnPath(OnPath::Mknod));
-    }
-    if is_word(word, b"unlink") {
-        return Some(Form::OnPath(OnPath::Unlink));
-    }
-    if is_word(word, b"rmdir") {
-        return Some(Form::OnPath(OnPath::Rmdir));
-    }
-    if is_word(word, b"stat") {
-        return Some(Form::OnPath(OnPath::Stat));
-    }
-    if is_word(word, b"readdir") {
-        return Some(Form::OnPath(OnPath::Readdir));
-    }
-    if is_word(word, b"rename") {
-        return Some(Form::Rename);
-    }
-    if is_word(word, b"read") {
-        return Some(Form::Read);
-    }
-    if is_word(word, b"write") {
-        return Some(Form::Write);
-    }
-    if is_word(word, b"truncate") {
-        return Some(Form::Truncate);
-    }
-    None
 }
 
 fn call_on(call: OnPath, path: Path) -> Call
@@ -82,33 +65,48 @@ fn call_on(call: OnPath, path: Path) -> Call
     }
 }
 
-fn call_on_at(alloc: Global, call: OnPath, path: &[u8]) -> Result<Call, FaultKind>
+fn call_on_at<'a>(
+    alloc: Global,
+    recent: &mut Recent<'a>,
+    call: OnPath,
+    path: &'a [u8],
+) -> Result<Call, FaultKind>
     ensures { Gives (λ call. call) result (arguments_at (one_path (call_on call)) (path.now ∷ [])) }
 {
-    match path_at(alloc, path) {
+    match path_with(alloc, recent, path) {
         Ok(path) => Ok(call_on(call, path)),
         Err(kind) => Err(kind),
     }
 }
 
 #[tactic(auto, using(crate::proofs::ReadLemmas::fails_bind))]
-fn rename_at(alloc: Global, from: &[u8], to: &[u8]) -> Result<Call, FaultKind>
+fn rename_at<'a>(
+    alloc: Global,
+    recent: &mut Recent<'a>,
+    from: &'a [u8],
+    to: &'a [u8],
+) -> Result<Call, FaultKind>
     ensures { Gives (λ call. call) result (arguments_at (two_paths Rename) (from.now ∷ to.now ∷ [])) }
 {
-    let from = match path_at(alloc, from) {
+    let from = match path_with(alloc, recent, from) {
         Ok(from) => from,
         Err(kind) => return Err(kind),
     };
-    match path_at(alloc, to) {
+    match path_with(alloc, recent, to) {
         Ok(to) => Ok(Call::Rename(from, to)),
         Err(kind) => Err(kind),
     }
 }
 
-fn a_number_at(alloc: Global, path: &[u8], size: &[u8]) -> Result<(Path, u64), FaultKind>
+fn a_number_at<'a>(
+    alloc: Global,
+    recent: &mut Recent<'a>,
+    path: &'a [u8],
+    size: &[u8],
+) -> Result<(Path, u64), FaultKind>
     ensures { Gives (λ p. (p.0, p.1)) result (a_number_at path.now size.now) }
 {
-    let path = match path_at(alloc, path) {
+    let path = match path_with(alloc, recent, path) {
         Ok(path) => path,
         Err(kind) => return Err(kind),
     };
@@ -118,19 +116,30 @@ fn a_number_at(alloc: Global, path: &[u8], size: &[u8]) -> Result<(Path, u64), F
     }
 }
 
-fn truncate_at(alloc: Global, path: &[u8], size: &[u8]) -> Result<Call, FaultKind>
+fn truncate_at<'a>(
+    alloc: Global,
+    recent: &mut Recent<'a>,
+    path: &'a [u8],
+    size: &[u8],
+) -> Result<Call, FaultKind>
     ensures { Gives (λ call. call) result (arguments_at (a_number Truncate) (path.now ∷ size.now ∷ [])) }
 {
-    match a_number_at(alloc, path, size) {
+    match a_number_at(alloc, recent, path, size) {
         Ok((path, size)) => Ok(Call::Truncate(path, size)),
         Err(kind) => Err(kind),
     }
 }
 
-fn read_at(alloc: Global, path: &[u8], off: &[u8], count: &[u8]) -> Result<Call, FaultKind>
+fn read_at<'a>(
+    alloc: Global,
+    recent: &mut Recent<'a>,
+    path: &'a [u8],
+    off: &[u8],
+    count: &[u8],
+) -> Result<Call, FaultKind>
     ensures { Gives (λ call. call) result (arguments_at (two_numbers Read) (path.now ∷ off.now ∷ count.now ∷ [])) }
 {
-    let (path, off) = match a_number_at(alloc, path, off) {
+    let (path, off) = match a_number_at(alloc, recent, path, off) {
         Ok(both) => both,
         Err(kind) => return Err(kind),
     };
@@ -140,10 +149,16 @@ fn read_at(alloc: Global, path: &[u8], off: &[u8], count: &[u8]) -> Result<Call,
     }
 }
 
-fn write_at(alloc: Global, path: &[u8], off: &[u8], bytes: &[u8]) -> Result<Call, FaultKind>
+fn write_at<'a>(
+    alloc: Global,
+    recent: &mut Recent<'a>,
+    path: &'a [u8],
+    off: &[u8],
+    bytes: &[u8],
+) -> Result<Call, FaultKind>
     ensures { Gives (λ call. call) result (arguments_at (number_and_bytes Write) (path.now ∷ off.now ∷ bytes.now ∷ [])) }
 {
-    let (path, off) = match a_number_at(alloc, path, off) {
+    let (path, off) = match a_number_at(alloc, recent, path, off) {
         Ok(both) => both,
         Err(kind) => return Err(kind),
     };
@@ -153,29 +168,45 @@ fn write_at(alloc: Global, path: &[u8], off: &[u8], bytes: &[u8]) -> Result<Call
     }
 }
 
-fn arguments_at(alloc: Global, form: Form, words: &[&[u8]]) -> Result<Call, FaultKind>
+fn arguments_at<'a>(
+    alloc: Global,
+    recent: &mut Recent<'a>,
+    form: Form,
+    words: &[&'a [u8]],
+) -> Result<Call, FaultKind>
     ensures { Gives (λ call. call) result (arguments_at (form_meant form) (map (λ w. w.now) words.now)) }
 {
     match (form, words) {
-        (Form::OnPath(call), [path]) => call_on_at(alloc, call, path),
-        (Form::Rename, [from, to]) => rename_at(alloc, from, to),
-        (Form::Truncate, [path, size]) => truncate_at(alloc, path, size),
-        (Form::Read, [path, off, count]) => read_at(alloc, path, off, count),
-        (Form::Write, [path, off, bytes]) => write_at(alloc, path, off, bytes),
+        (Form::OnPath(call), [path]) => call_on_at(alloc, recent, call, path),
+        (Form::Rename, [from, to]) => rename_at(alloc, recent, from, to),
+        (Form::Truncate, [path, size]) => truncate_at(alloc, recent, path, size),
+        (Form::Read, [path, off, count]) => read_at(alloc, recent, path, off, count),
+        (Form::Write, [path, off, bytes]) => write_at(alloc, recent, path, off, bytes),
         _ => Err(FaultKind::BadLine),
     }
 }
 
 /// The call that words spell.
-#[tactic(auto, unfolding(crate::specs::Calls::call_of))]
 pub fn call_at(alloc: Global, words: &[&[u8]]) -> Result<Call, FaultKind>
+    ensures { Gives (λ call. call) result (call_of (map (λ w. w.now) words.now)) }
+{
+    call_with(alloc, &mut Recent::none(alloc), words)
+}
+
+/// The same, where paths that were read before are at hand.
+#[tactic(auto, unfolding(crate::specs::Calls::call_of))]
+pub fn call_with<'a>(
+    alloc: Global,
+    recent: &mut Recent<'a>,
+    words: &[&'a [u8]],
+) -> Result<Call, FaultKind>
     ensures { Gives (λ call. call) result (call_of (map (λ w. w.now) words.now)) }
 {
     let [first, more @ ..] = words else {
         return Err(FaultKind::BadLine);
     };
     match form_of(first) {
-        Some(form) => arguments_at(alloc, form, more),
+        Some(form) => arguments_at(alloc, recent, form, more),
         None => Err(FaultKind::BadLine),
     }
 }

@@ -5,30 +5,43 @@ ghost use Rattle.fs_text.specs.Lines.{lines_of};
 ghost use Rattle.fs_text.specs.Journal.{begin_at, begin_of, commit_of, return_of, entry_of, entry_in_line, entries_from, entries_of};
 ghost use Rattle.fs_text.specs.code.Answers.{Gives, GivesText};
 
-use crate::calls::{call_at, has_call_form};
+use crate::calls::{call_with, has_call_form};
 use crate::fault::{FaultKind, ScriptFault};
 use crate::limits::TEXT_LIMIT;
 use crate::lines::{cut_line, cut_words, is_passed_over, push_item};
+use crate::recent::Recent;
 use crate::replies::reply_at;
 use crate::words::{is_word, number_at};
 use fs_names::{CallNo, SeatNo};
 use fs_timeline::Entry;
 use std::alloc::Global;
 
-fn begin_at(alloc: Global, call_no: &[u8], seat: &[u8], call: &[&[u8]]) -> Result<Entry, FaultKind>
+fn begin_at<'a>(
+    alloc: Global,
+    recent: &mut Recent<'a>,
+    call_no: &[u8],
+    seat: &[u8],
+    call: &[&'a [u8]],
+) -> Result<Entry, FaultKind>
     ensures { Gives (λ entry. entry) result (begin_at call_no.now seat.now (map (λ w. w.now) call.now)) }
 {
     let call_no = number_at(call_no)?;
     let seat = number_at(seat)?;
-    let call = call_at(alloc, call)?;
+    let call = call_with(alloc, recent, call)?;
     Ok(Entry::Begin(CallNo::new(call_no), SeatNo::new(seat), call))
 }
 
-fn begin_of(alloc: Global, words: &[&[u8]]) -> Result<Entry, FaultKind>
+fn begin_of<'a>(
+    alloc: Global,
+    recent: &mut Recent<'a>,
+    words: &[&'a [u8]],
+) -> Result<Entry, FaultKind>
     ensures { Gives (λ entry. entry) result (begin_of (map (λ w. w.now) words.now)) }
 {
     match words {
-        [call_no, seat, call @ ..] if has_call_form(call) => begin_at(alloc, call_no, seat, call),
+        [call_no, seat, call @ ..] if has_call_form(call) => begin_at(
+            alloc, recent, call_no, seat, call,
+        ),
         _ => Err(FaultKind::BadLine),
     }
 }
@@ -55,14 +68,18 @@ fn return_of(alloc: Global, words: &[&[u8]]) -> Result<Entry, FaultKind>
 }
 
 #[tactic(auto, unfolding(crate::specs::Journal::entry_of))]
-fn entry_at(alloc: Global, words: &[&[u8]]) -> Result<Entry, FaultKind>
+fn entry_at<'a>(
+    alloc: Global,
+    recent: &mut Recent<'a>,
+    words: &[&'a [u8]],
+) -> Result<Entry, FaultKind>
     ensures { Gives (λ entry. entry) result (entry_of (map (λ w. w.now) words.now)) }
 {
     match words {
         [] => Err(FaultKind::BadLine),
         [first, more @ ..] => {
             if is_word(first, b"begin") {
-                begin_of(alloc, more)
+                begin_of(alloc, recent, more)
             } else if is_word(first, b"commit") {
                 commit_of(more)
             } else if is_word(first, b"return") {
@@ -77,6 +94,7 @@ fn entry_at(alloc: Global, words: &[&[u8]]) -> Result<Entry, FaultKind>
 /// The entry that a line spells. `words` lends its memory.
 fn entry_in<'a>(
     alloc: Global,
+    recent: &mut Recent<'a>,
     line: &'a [u8],
     words: &mut Vec<&'a [u8]>,
 ) -> Result<Entry, FaultKind>
@@ -85,7 +103,7 @@ fn entry_in<'a>(
     if let Err(kind) = cut_words(line, words) {
         return Err(kind);
     }
-    entry_at(alloc, words.as_slice())
+    entry_at(alloc, recent, words.as_slice())
 }
 
 /// The entries that lines spell, of which the first has the number 2.
@@ -97,6 +115,12 @@ fn entries_in(alloc: Global, text: &[u8]) -> Result<Vec<Entry>, ScriptFault>
     let mut words = Vec::new(alloc);
     let mut rest = text;
     let mut number: u64 = 2;
+    let Ok(mut recent) = Recent::of_text(alloc, text.len()) else {
+        return Err(ScriptFault {
+            line: number,
+            kind: FaultKind::OutOfMemory,
+        });
+    };
     'lines: while let Some((line, more)) = cut_line(rest) {
         if is_passed_over(line) {
             rest = more;
@@ -106,7 +130,7 @@ fn entries_in(alloc: Global, text: &[u8]) -> Result<Vec<Entry>, ScriptFault>
         if is_word(line, b"tree") {
             return Ok(entries);
         }
-        let entry = match entry_in(alloc, line, &mut words) {
+        let entry = match entry_in(alloc, &mut recent, line, &mut words) {
             Ok(entry) => entry,
             Err(kind) => return Err(ScriptFault { line: number, kind }),
         };

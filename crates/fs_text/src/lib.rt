@@ -20,6 +20,7 @@ mod journal;
 pub mod laws;
 pub mod limits;
 pub mod lines;
+pub mod recent;
 mod replies;
 mod telling;
 pub mod words;

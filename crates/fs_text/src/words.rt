@@ -1,10 +1,11 @@
 //! Words of a line that are read: numbers, bytes of files, paths and names.
 
-ghost use Rattle.std.specs.Prelude.{◌≡◌, ◌<◌, ◌+◌, ◌%◌, length, take, drop, Some, None, Ok, true, IsTrue, MatchResult};
+ghost use Rattle.std.specs.Prelude.{◌≡◌, ◌<◌, ◌≤◌, ◌+◌, ◌-◌, ◌*◌, ◌^◌, ◌%◌, length, take, drop, Some, None, Ok, true, IsTrue, MatchOption, MatchResult};
 ghost use Rattle.std.specs.List.{list_all};
-ghost use Rattle.std.specs.Str.{bytes_eq};
+ghost use Rattle.std.specs.Str.{all_ascii_digits, bytes_eq};
+ghost use Rattle.std.specs.Str.Parse.{digits_value};
 ghost use Rattle.std.specs.Char.{is_ascii_digit};
-ghost use Rattle.fs_text.specs.Words.{is_number_text, number_of};
+ghost use Rattle.fs_text.specs.Words.{number_of};
 ghost use Rattle.hex.specs.Hex.{is_hex_digit, decode_of};
 ghost use Rattle.percent_encoding.specs.Percent.{percent_decode};
 ghost use Rattle.fs_names.specs.Reading.{reading};
@@ -15,6 +16,7 @@ ghost use Rattle.fs_text.specs.code.Answers.{Gives, hex_fault_of, path_fault_of}
 
 use crate::digits::{are_digits, write_bytes};
 use crate::fault::FaultKind;
+use crate::recent::Recent;
 use fs_calls::Bytes;
 use fs_names::{Name, Path, PathFault};
 use hex::FromHexError;
@@ -35,39 +37,49 @@ pub fn parts(bytes: &[u8], at: usize) -> (&[u8], &[u8])
 pub(crate) fn is_word(word: &[u8], text: &[u8]) -> bool
     ensures { result ≡ bytes_eq word.now text.now }
 {
-    word == text
+    word.len() == text.len() && word == text
 }
 
-fn all_digits(word: &[u8]) -> bool
-    ensures { result ≡ list_all is_ascii_digit word.now }
+/// A number with one digit more behind it, where the byte is a digit and the number is below 2 ^ 64.
+fn with_digit(number: u64, byte: u8) -> Option<u64>
+    ensures { MatchOption result (is_ascii_digit byte ≡ true → 2 ^ 64 ≤ number * 10 + (byte - 48))
+        (λ n. (is_ascii_digit byte ≡ true) × (n ≡ number * 10 + (byte - 48)) × (n < 2 ^ 64)) }
 {
-    word.iter().all(|b| b.is_ascii_digit())
-}
-
-fn is_number_text(word: &[u8]) -> bool
-    ensures { result ≡ is_number_text word.now }
-{
-    match word {
-        [] => false,
-        [_only] => all_digits(word),
-        [first, ..] => all_digits(word) && *first > b'0',
+    if !byte.is_ascii_digit() {
+        return None;
     }
+    match number.checked_mul(10) {
+        Some(tens) => tens.checked_add(u64::from(byte - b'0')),
+        None => None,
+    }
+}
+
+/// The number that digits spell, where all bytes are digits and the number is below 2 ^ 64.
+fn value_of(word: &[u8]) -> Option<u64>
+    ensures { MatchOption result (all_ascii_digits word.now ≡ true → 2 ^ 64 ≤ digits_value 10 word.now)
+        (λ n. (all_ascii_digits word.now ≡ true) × (n ≡ digits_value 10 word.now) × (n < 2 ^ 64)) }
+{
+    let mut number: u64 = 0;
+    for i in 0..word.len() {
+        match with_digit(number, word[i]) {
+            Some(more) => number = more,
+            None => return None,
+        }
+    }
+    Some(number)
 }
 
 /// The number that a word is: digits without a leading zero, at most the greatest `u64`.
 pub fn number_of(word: &[u8]) -> Option<u64>
     ensures { result ≡ number_of word.now }
 {
-    if !is_number_text(word) {
+    if word.is_empty() {
         return None;
     }
-    let Ok(text) = std::str::from_utf8(word) else {
+    if word.len() > 1 && word[0] == b'0' {
         return None;
-    };
-    match text.parse() {
-        Ok(n) => Some(n),
-        Err(_) => None,
     }
+    value_of(word)
 }
 
 pub(crate) fn number_at(word: &[u8]) -> Result<u64, FaultKind>
@@ -152,6 +164,26 @@ pub fn path_at(alloc: Global, word: &[u8]) -> Result<Path, FaultKind>
         return Err(FaultKind::OutOfMemory);
     };
     read_path(alloc, &bytes)
+}
+
+/// The same, where paths that were read before are at hand.
+pub(crate) fn path_with<'a>(
+    alloc: Global,
+    recent: &mut Recent<'a>,
+    word: &'a [u8],
+) -> Result<Path, FaultKind>
+    ensures { Gives (λ path. path) result (path_at word.now) }
+{
+    let slot = recent.slot_of(word);
+    if let Some(path) = recent.path_in(alloc, slot, word) {
+        return Ok(path);
+    }
+    let path = match path_at(alloc, word) {
+        Ok(path) => path,
+        Err(kind) => return Err(kind),
+    };
+    recent.keep(alloc, slot, word, &path);
+    Ok(path)
 }
 
 fn read_name(bytes: &[u8]) -> Result<Name, FaultKind>

@@ -1,22 +1,23 @@
-use Rattle.std.proofs.Common.{◌≡◌, true, sym, ap, ◌∙◌, rules, ℕ}
-use Rattle.fs_text.specs.Words.{is_number_text, number_of}
-use Rattle.fs_text.proofs.ReadLemmas.{number_no_text, number_parsed, number_refused, utf8_digits}
+use Rattle.std.proofs.Common.{◌≡◌, ◌≢◌, ◌<◌, length, get_or, sym, arith}
+use Rattle.std.proofs.lemmas.Bool.Decides.{nat_tests}
+use Rattle.fs_text.proofs.DecimalLemmas.{no_number_empty, no_number_zero, number_read}
 use Rattle.fs_text.proofs.words.number_of.Goals as goal
+use Rattle.fs_text.proofs.words.number_of.Goals.{else-word-gt1-via-then-word-gt1+else-word-eq48, else-word-gt1-via-else-word-gt1}
 
-pub returns-then-not-is_number_text : goal.returns-then-not-is_number_text
-returns-then-not-is_number_text c = sym (number_no_text c.args.word.now (search rules))
+pub returns-then-is_empty : goal.returns-then-is_empty
+returns-then-is_empty c =
+    let none : length c.args.word.now ≡ 0 = grind (arith, nat_tests) in
+    sym (no_number_empty c.args.word.now none)
 
-pub returns-in_default : goal.returns-in_default
-returns-in_default c = absurd (c.in_default.ensures.cases.0 (utf8_digits c.args.word.now (sym c.is_number_text.ensures ∙ c.if-not-is_number_text.false)))
+pub returns-then-word-eq48 : goal.returns-then-word-eq48
+returns-then-word-eq48 c = sym (no_number_zero c.args.word.now c.if-word-gt1.true c.if-word-eq48.true)
 
-pub returns-in-Ok-parse : goal.returns-in-Ok-parse
-returns-in-Ok-parse c =
-    let same = c.in-Ok.ensures.cases.0 in
-    let shape : is_number_text c.in-Ok.text.now ≡ true = ap is_number_text same ∙ sym c.is_number_text.ensures ∙ c.if-not-is_number_text.false in
-    sym (number_parsed ℕ c.in-Ok.text.now c.in-Ok-parse.n shape c.in-Ok-parse.ensures.value.0) ∙ ap number_of same
-
-pub returns-in-Err : goal.returns-in-Err
-returns-in-Err c =
-    let same = c.in-Ok.ensures.cases.0 in
-    let shape : is_number_text c.in-Ok.text.now ≡ true = ap is_number_text same ∙ sym c.is_number_text.ensures ∙ c.if-not-is_number_text.false in
-    sym (number_refused {E = ℕ} c.in-Ok.text.now 0 shape c.in-Err.ensures.value.0) ∙ ap number_of same
+pub returns : goal.returns
+returns c =
+    let w = c.args.word.now in
+    let some : 0 < length w = grind (arith, nat_tests) in
+    let first : 1 < length w → get_or w 0 0 ≢ 48 = λ long. elim c.else-word-gt1.branch [
+      | else-word-gt1-via-then-word-gt1+else-word-eq48 branch ↦ branch.if-word-eq48.false
+      | else-word-gt1-via-else-word-gt1 branch ↦ absurd (omega (arith, branch.if-word-gt1.false))
+    ] in
+    number_read w c.value_of.result some first c.value_of.ensures
