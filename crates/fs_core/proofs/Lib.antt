@@ -12,3 +12,4 @@ pub mod Readiness
 pub mod Happening
 pub mod Indexing
 pub mod Resting
+pub mod Starting

@@ -3,3 +3,4 @@ pub mod Rooms
 pub mod Seats
 pub mod Helping
 pub mod Searches
+pub mod Starting

@@ -18,16 +18,16 @@ use fs_index::IndexedTimeline;
 use fs_locks::Holders;
 use fs_machine::Refusal;
 use fs_nodes::{NoNode, NodeNo, Store};
-use fs_ops::Op;
+use fs_ops::Prepared;
 use std::alloc::{AllocError, Global};
 
 /// How many entries a call appends: it begins, commits and returns.
 const ENTRIES_OF_A_CALL: usize = 3;
 
-/// A call that is ready to begin: how far it is, its number, and its copy for the timeline.
+/// A call that is ready to begin, its number, and its copy for the timeline.
 #[derive(Drop)]
 pub struct Ready {
-    pub op: Op,
+    pub op: Prepared,
     pub number: u64,
     pub copy: Call,
 }
@@ -102,7 +102,7 @@ pub fn make_ready(
     ensures holders { holder holders.new ≡ holder holders.old }
     ensures more { room holders.old ≤ room holders.new }
 {
-    let op = match Op::begin(alloc, call, store) {
+    let op = match Prepared::new(alloc, call, store) {
         Ok(op) => op,
         Err(NoNode::Full) => return Err(Refusal::Full),
         Err(NoNode::OutOfMemory) => return Err(Refusal::OutOfMemory),

@@ -42,18 +42,22 @@ pub struct Core {
     timeline: IndexedTimeline,
     // A place for each seat, for the search of whom to help: of the core's value it is no part.
     ways: Vec<Way>,
+    // For each seat: the call on it that holds nothing yet, and so goes for the root, whatever the nodes are. Most calls wait
+    // there, and their steps look at no more than this. Of the core's value it is no part.
+    starting: Vec<Option<CallNo>>,
 }
 
 impl Model for Core {
     ghost use Rattle.std.specs.Prelude.{◌≡◌, length};
     ghost use Rattle.fs_core.specs.CoreValues.{CoreValue};
     ghost use Rattle.fs_core.specs.code.Rooms.{IsKept};
+    ghost use Rattle.fs_core.specs.code.Starting.{AreStarting};
 
     ghost Value = { CoreValue };
 
     ghost view = { λ a. record { store = a.store; holding = a.holders; seats = a.seats.items; timeline = a.timeline.entries } };
 
-    ghost invariant = { λ a. IsKept (record { store = a.store; holding = a.holders; seats = a.seats.items; timeline = a.timeline.entries }) a.begun a.commits a.timeline.reserved × (length a.ways.items ≡ length a.seats.items) };
+    ghost invariant = { λ a. IsKept (record { store = a.store; holding = a.holders; seats = a.seats.items; timeline = a.timeline.entries }) a.begun a.commits a.timeline.reserved × (length a.ways.items ≡ length a.seats.items) × AreStarting a.starting.items a.seats.items };
 }
 
 /// A match on a call's next move, whose arms are written from a table: the moves that are made in every phase of a call, and
@@ -91,6 +95,7 @@ impl Core {
         match self.holders.take(node, call) {
             Err(held) => Stepped::Busy(node, holder_by(held)),
             Ok(()) => {
+                seat::set_out(&mut self.starting[seat]);
                 seat::take(&mut self.seats[seat], node);
                 Stepped::Took(node)
             }
@@ -111,6 +116,7 @@ impl Core {
 
     /// The walking call on a seat takes its place in the timeline, makes its change and fixes its reply. The entry is the
     /// call's number: the call itself stands in its Begin entry.
+    #[inline(never)]
     fn commit(&mut self, seat: usize, call: CallNo, plan: Plan) -> Stepped
         requires seat { seat < length self.old.seats }
         requires moves { MovesOn self.old seat call (Finishes (moved_by plan)) }
@@ -127,6 +133,7 @@ impl Core {
     }
 
     /// The placed call on a seat makes its change and fixes its reply.
+    #[inline(never)]
     fn carry_out(&mut self, seat: usize, call: CallNo, plan: Plan, place: u64) -> Stepped
         requires seat { seat < length self.old.seats }
         requires moves { MovesOn self.old seat call (Finishes (moved_by plan)) }
@@ -140,6 +147,7 @@ impl Core {
     }
 
     /// The walking call on a seat helps a walking call below the node that it would move; where there is none, it commits.
+    #[inline(never)]
     fn help_or_commit(&mut self, seat: usize, call: CallNo, plan: Plan) -> Stepped
         requires seat { seat < length self.old.seats }
         requires moves { MovesOn self.old seat call (Finishes (moved_by plan)) }
@@ -166,6 +174,7 @@ impl Core {
     }
 
     /// The call on a seat returns, and is under way no more.
+    #[inline(never)]
     fn end(&mut self, seat: usize, call: CallNo) -> Stepped
         requires seat { seat < length self.old.seats }
         requires moves { MovesOn self.old seat call Ends }
@@ -202,19 +211,34 @@ impl Core {
         }
     }
 
-    /// The call on a seat does its next move.
-    pub fn step(&mut self, seat: SeatNo) -> Stepped
-        requires seat { seat < length self.old.seats }
-        ensures step { Step (state_of self.old) seat result (state_of self.new) }
+    /// The call on a seat does its next move, as the nodes are.
+    // Apart from `step`, which is a few instructions where a call waits for the root.
+    #[inline(never)]
+    fn go_on(&mut self, at: usize) -> Stepped
+        requires seat { at < length self.old.seats }
+        ensures step { Step (state_of self.old) at result (state_of self.new) }
         ensures seats { length self.new.seats ≡ length self.old.seats }
     {
-        let at = seat.get() as usize;
         let Some(running) = &self.seats[at] else {
             return Stepped::Idle;
         };
         let (call, place) = (running.call, running.place);
         let next = running.op.next(&self.store);
         self.make_move(at, call, place, next)
+    }
+
+    /// The call on a seat does its next move.
+    #[inline(always)]
+    pub fn step(&mut self, seat: SeatNo) -> Stepped
+        requires seat { seat < length self.old.seats }
+        ensures step { Step (state_of self.old) seat result (state_of self.new) }
+        ensures seats { length self.new.seats ≡ length self.old.seats }
+    {
+        let at = seat.get() as usize;
+        match self.starting[at] {
+            Some(call) => self.take(at, call, NodeNo::new(0)),
+            None => self.go_on(at),
+        }
     }
 
     /// No nodes but the root, no seats and no entries, for at most `limit` nodes, the root included. The only error is
@@ -238,6 +262,7 @@ impl Core {
             commits: 0,
             timeline: IndexedTimeline::new(alloc),
             ways: Vec::new(alloc),
+            starting: Vec::new(alloc),
         })
     }
 
@@ -257,11 +282,11 @@ impl Core {
         ensures err { OnErr result (self.new.seats ≡ self.old.seats) }
     {
         let seat = self.seats.len() as u64;
-        self.ways.push(no_way())?;
-        if let Err(refused) = self.seats.push(None) {
-            self.ways.pop();
-            return Err(refused.into());
-        }
+        self.ways.reserve(1)?;
+        self.starting.reserve(1)?;
+        self.seats.push(None)?;
+        self.ways.push_reserved(no_way());
+        self.starting.push_reserved(None);
         Ok(SeatNo::new(seat))
     }
 
@@ -298,8 +323,9 @@ impl Core {
                 let running = Running {
                     call,
                     place: None,
-                    op: ready.op,
+                    op: ready.op.open(),
                 };
+                seat::start(&mut self.starting[at], call, &running.op);
                 seat::put(&mut self.seats[at], running);
                 self.begun = ready.number;
                 self.timeline.push(Entry::Begin(call, seat, ready.copy));

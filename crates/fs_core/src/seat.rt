@@ -1,6 +1,7 @@
 //! A call under way on a seat, and its changes.
 
-ghost use Rattle.std.specs.Prelude.{◌≡◌, true, None, Some, IsSome};
+ghost use Rattle.std.specs.Prelude.{◌≡◌, ℕ, true, None, Some, IsSome};
+ghost use Rattle.fs_calls.specs.Forms.{form, by_text};
 ghost use Rattle.fs_nodes.specs.Seen.{seen};
 ghost use Rattle.fs_nodes.specs.Stores.{graph_of};
 ghost use Rattle.fs_machine.specs.Leaving.{is_removed, releasing};
@@ -86,6 +87,20 @@ pub fn put(slot: &mut Option<Running>, running: Running)
     ensures { slot.new ≡ Some running }
 {
     *slot = Some(running);
+}
+
+/// A call that begins is noted as one that goes for the root, unless its paths decide it.
+pub fn start(starting: &mut Option<CallNo>, call: CallNo, op: &Op)
+    ensures { (c : ℕ) → starting.new ≡ Some c → (c ≡ call) × (by_text (form op.now.call) ≡ None) }
+{
+    *starting = if op.is_decided() { None } else { Some(call) };
+}
+
+/// The call that went for the root has taken it, or no call did.
+pub fn set_out(starting: &mut Option<CallNo>)
+    ensures { starting.new ≡ None }
+{
+    *starting = None;
 }
 
 /// The call on a seat leaves it.

@@ -13,13 +13,11 @@ ghost use Rattle.fs_machine.specs.OpValues.{BegunAs, new_value};
 
 use crate::end::give_back;
 use crate::op::Op;
-use crate::outcome::Outcome;
-use crate::stand::Stand;
+use crate::prepared::Prepared;
 use fs_calls::{Call, EntryCall, PairCall, Target};
 use fs_finish::room::Room;
 use fs_names::{Kind, PATH_LIMIT, Path};
 use fs_nodes::{NoNode, NodeNo, Store};
-use fs_walk::Walk;
 use std::alloc::{AllocError, Global};
 
 /// The kind of node that a call on an entry may add.
@@ -54,7 +52,7 @@ fn common_len(path: &Path, other: &Path) -> usize
 }
 
 /// How many names lead to the target of a call.
-fn target_len(aim: Target<'_>) -> usize
+pub(crate) fn target_len(aim: Target<'_>) -> usize
     ensures len { result ≡ length (target (form_of aim.entry)) }
     ensures most { result ≤ PATH_LIMIT }
 {
@@ -79,27 +77,41 @@ fn reserve_for(call: &Call, store: &mut Store) -> Result<Option<NodeNo>, NoNode>
     }
 }
 
-impl Op {
-    /// A call that holds nothing yet, with its reserved number and all memory that it needs to its end.
-    fn new(alloc: Global, call: &Call, reserved: &Option<NodeNo>) -> Result<Op, AllocError>
-        ensures { IfOk result (λ op. op ≡ new_value call.now reserved.now) }
-    {
-        let prepared = Room::new(alloc, call)?;
-        let copy = call.copy(alloc)?;
-        Ok(Op {
-            call: copy,
-            path_error: call.error_by_paths(),
-            stand: Stand {
-                walk: Walk::new(target_len(call.target())),
-                fork: None,
-                victim: None,
-            },
-            reserved: *reserved,
-            removed: None,
-            outcome: Outcome::Open(prepared),
-        })
-    }
+/// A call with its reserved number and all memory that it needs to its end.
+fn prepare(alloc: Global, call: &Call, reserved: &Option<NodeNo>) -> Result<Prepared, AllocError>
+    ensures { IfOk result (λ prepared. prepared ≡ new_value call.now reserved.now) }
+{
+    let room = Room::new(alloc, call)?;
+    let copy = call.copy(alloc)?;
+    Ok(Prepared {
+        call: copy,
+        reserved: *reserved,
+        room,
+    })
+}
 
+impl Prepared {
+    /// Prepares a call. It allocates all that the call needs. A call that may add a node reserves a number for it: `Full` comes
+    /// exactly where it cannot, and is looked at before memory. After an error the graph is as before.
+    pub fn new(alloc: Global, call: &Call, store: &mut Store) -> Result<Prepared, NoNode>
+        ensures ok { IfOk result (λ prepared. BegunAs (graph_of store.old) (seen store.old).limit call.now (reserves (form call.now)) prepared (graph_of store.new)) }
+        ensures full { (result ≡ Err NoNode.Full) ↔ (IsSome (reserves (form call.now)) × (in_use store.old ≡ (seen store.old).limit)) }
+        ensures err { OnErr result (graph_of store.new ≡ graph_of store.old) }
+        ensures rest { seen store.new ≡ record (seen store.old) { graph = graph_of store.new; room = (seen store.new).room } }
+        ensures room { (seen store.old).room ≤ (seen store.new).room }
+    {
+        let reserved = reserve_for(call, store)?;
+        match prepare(alloc, call, &reserved) {
+            Ok(prepared) => Ok(prepared),
+            Err(_) => {
+                give_back(store, reserved);
+                Err(NoNode::OutOfMemory)
+            }
+        }
+    }
+}
+
+impl Op {
     /// Begins a call. It allocates all that the call needs. A call that may add a node reserves a number for it: `Full` comes
     /// exactly where it cannot, and is looked at before memory. After an error the graph is as before.
     pub fn begin(alloc: Global, call: &Call, store: &mut Store) -> Result<Op, NoNode>
@@ -109,13 +121,9 @@ impl Op {
         ensures rest { seen store.new ≡ record (seen store.old) { graph = graph_of store.new; room = (seen store.new).room } }
         ensures room { (seen store.old).room ≤ (seen store.new).room }
     {
-        let reserved = reserve_for(call, store)?;
-        match Op::new(alloc, call, &reserved) {
-            Ok(op) => Ok(op),
-            Err(_) => {
-                give_back(store, reserved);
-                Err(NoNode::OutOfMemory)
-            }
+        match Prepared::new(alloc, call, store) {
+            Ok(prepared) => Ok(prepared.open()),
+            Err(refusal) => Err(refusal),
         }
     }
 }

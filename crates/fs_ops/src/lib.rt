@@ -20,8 +20,10 @@ mod let_go;
 pub mod next;
 pub mod op;
 mod outcome;
+pub mod prepared;
 mod stand;
 mod take;
 
 pub use next::Next;
 pub use op::Op;
+pub use prepared::Prepared;

@@ -1,6 +1,7 @@
 //! A call under way.
 
 ghost use Rattle.std.specs.Prelude.{◌≡◌, is_some, option_map};
+ghost use Rattle.fs_calls.specs.Forms.{form, by_text};
 
 use crate::outcome::Outcome;
 use crate::stand::Stand;
@@ -48,6 +49,13 @@ impl Op {
         ensures { result ≡ self.now.reserved }
     {
         self.reserved
+    }
+
+    /// Whether its paths alone decide its error, so that it takes no node.
+    pub fn is_decided(&self) -> bool
+        ensures { result ≡ is_some (by_text (form self.now.call)) }
+    {
+        self.path_error.is_some()
     }
 
     /// Whether its reply is fixed.

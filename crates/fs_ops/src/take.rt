@@ -60,6 +60,7 @@ fn rename_took(source: &Path, dest: &Path, stand: &mut Stand, node: NodeNo)
 }
 
 /// A call at its target takes a node: a rename with one of its heads, or else the victim.
+#[inline(never)]
 fn took_at_target(aim: Target<'_>, stand: &mut Stand, node: NodeNo)
     requires names { stand.old.walk.names ≡ length (target (form_of aim)) }
     requires arrived { stand.old.walk.walked ≡ stand.old.walk.names }

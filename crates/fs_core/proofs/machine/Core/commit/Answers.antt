@@ -3,6 +3,7 @@ use Rattle.fs_nodes.specs.Seen.{Seen}
 use Rattle.fs_core.proofs.Doing.{finish_can, finish_plan, committed_kept, moving_place, finish_fits, fits_below}
 use Rattle.fs_core.proofs.Indexing.{commit_next}
 use Rattle.fs_core.proofs.SeatLemmas.{length_after}
+use Rattle.fs_core.proofs.Starting.{starting_moved, finishes_otherwise}
 use Rattle.fs_finish.specs.Plans.{moved_by}
 use Rattle.fs_core.proofs.machine.Core.commit.Goals as goal
 
@@ -31,6 +32,7 @@ invariant_of-self c = rw c.push.ensures (
   (committed_kept _ _ _ _ c.args.seat c.args.call (moved_by c.args.plan) c.self.invariant.0 (rw (← c.self.view_is) at c.requires.moves) (rw (← c.self.view_is) at c.requires.walking) (rw (← c.self.view_is) at c.requires.alone)
       c.carry_out.new.store c.index_mut.result.now c.carry_out.new.slot c.carry_out.ensures.graph (ap (λ (s : Seen). s.limit) c.carry_out.ensures.rest) c.index_mut.ensures.value c.carry_out.ensures.slot).1,
   length_after _ _ _ _ c.self.invariant.1,
+  starting_moved _ _ c.args.seat c.args.call _ c.carry_out.new.slot c.self.invariant.2 (rw (← c.self.view_is) at c.requires.moves) (finishes_otherwise (moved_by c.args.plan)),
 )
 
 pub returns-clause-step : goal.returns-clause-step

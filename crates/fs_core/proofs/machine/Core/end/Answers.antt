@@ -2,6 +2,7 @@ use Rattle.std.proofs.Common.{ap}
 use Rattle.fs_nodes.specs.Seen.{Seen}
 use Rattle.fs_core.proofs.Doing.{end_some, end_fixed, end_spare, moving_place, returned_kept}
 use Rattle.fs_core.proofs.SeatLemmas.{length_after}
+use Rattle.fs_core.proofs.Starting.{starting_moved, ends_otherwise}
 use Rattle.fs_core.proofs.machine.Core.end.Goals as goal
 
 pub take_out-running-requires : goal.take_out-running-requires
@@ -21,6 +22,7 @@ invariant_of-self c = rw c.push.ensures (
   (returned_kept _ _ _ _ c.args.seat c.args.call c.self.invariant.0 (rw (← c.self.view_is) at c.requires.moves) c.end-reply.new.store c.index_mut.result.now c.take_out-running.new.slot c.take_out-running.result c.end-reply.result.0 c.end-reply.result.1
       c.index_mut.ensures.value c.take_out-running.ensures.running c.take_out-running.ensures.slot (ap (λ (s : Seen). s.graph) c.end-reply.ensures.change) (ap (λ (s : Seen). s.limit) c.end-reply.ensures.change) c.end-reply.ensures.one c.end-reply.ensures.two).1,
   length_after _ _ _ _ c.self.invariant.1,
+  starting_moved _ _ c.args.seat c.args.call _ c.take_out-running.new.slot c.self.invariant.2 (rw (← c.self.view_is) at c.requires.moves) (ends_otherwise),
 )
 
 pub returns-clause-step : goal.returns-clause-step

@@ -4,6 +4,7 @@ use Rattle.fs_core.proofs.Doing.{help_any_fits, help_any_place, help_any_some, h
 use Rattle.fs_core.proofs.Choosing.{search_by, chosen_if}
 use Rattle.fs_core.proofs.Indexing.{commit_next}
 use Rattle.fs_core.proofs.SeatLemmas.{length_after}
+use Rattle.fs_core.proofs.Starting.{starting_helped}
 use Rattle.fs_finish.specs.Plans.{moved_by}
 use Rattle.fs_core.proofs.machine.Core.help_or_commit.Goals as goal
 
@@ -36,6 +37,9 @@ invariant_of-self c = rw c.push.ensures (
   (helped_any _ _ _ _ c.args.seat c.args.call (moved_by c.args.plan) c.self.invariant.0 (rw (← c.self.view_is) at c.requires.moves) (rw (← c.self.view_is) at c.requires.walking) c.in-Some.other (chosen_if _ _ _ _ c.deref.result.now c.self.invariant.0 c.deref.ensures.value (moved_by c.args.plan) (Some c.in-Some.other) (rw c.moved.ensures at c.in-Some.ensures.chosen))
       c.give_place-helped.result c.index_mut.result.now c.give_place-helped.new.slot c.index_mut.ensures.value c.give_place-helped.ensures.call c.give_place-helped.ensures.slot).1,
   length_after _ _ _ _ (sym (length_refill c.self.inside.ways.len c.self.inside.ways.items c.to_help_before.new.ways c.self.inside.ways.ok.0) ∙ c.self.inside.ways.ok.0 ∙ c.self.invariant.1),
+  starting_helped _ (moved_by c.args.plan) _ c.in-Some.other c.self.inside.commits c.index_mut.result.now c.give_place-helped.new.slot
+      (chosen_if _ _ _ _ c.deref.result.now c.self.invariant.0 c.deref.ensures.value (moved_by c.args.plan) (Some c.in-Some.other) (rw c.moved.ensures at c.in-Some.ensures.chosen))
+      c.self.invariant.2 c.index_mut.ensures.value c.give_place-helped.ensures.slot,
 )
 
 pub returns-in-Some-clause-step : goal.returns-in-Some-clause-step

@@ -1,6 +1,7 @@
 use Rattle.std.proofs.Common.{ℕ, Some, refl, sym, ap, ◌∙◌}
 use Rattle.fs_core.proofs.Doing.{take_within, take_another, take_few, took_kept, busy_step}
 use Rattle.fs_core.proofs.SeatLemmas.{length_after}
+use Rattle.fs_core.proofs.Starting.{starting_left}
 use Rattle.fs_core.proofs.machine.Core.take.Goals as goal
 
 pub take-requires-clause-within : goal.take-requires-clause-within
@@ -15,8 +16,9 @@ take-requires-clause-call c = take_few _ _ _ _ c.args.seat c.args.call _ c.self.
 pub invariant_of-self-in-Ok : goal.invariant_of-self-in-Ok
 invariant_of-self-in-Ok c = (
   (took_kept _ _ _ _ c.args.seat c.args.call c.args.node c.self.invariant.0 (rw (← c.self.view_is) at c.requires.moves) (c.in-Ok.ensures.free.0 refl)
-      c.take.new.self c.index_mut.result.now c.take-in-Ok.new.slot c.in-Ok.ensures.ok c.in-Ok.ensures.room c.index_mut.ensures.value c.take-in-Ok.ensures).1,
+      c.take.new.self c.index_mut-in-Ok.result.now c.take-in-Ok.new.slot c.in-Ok.ensures.ok c.in-Ok.ensures.room c.index_mut-in-Ok.ensures.value c.take-in-Ok.ensures).1,
   length_after _ _ _ _ c.self.invariant.1,
+  starting_left _ _ c.args.seat c.set_out.new.starting c.take-in-Ok.new.slot c.self.invariant.2 (rw (← c.self.view_is) at c.requires.seat) c.set_out.ensures,
 )
 
 pub returns-in-Err-clause-step : goal.returns-in-Err-clause-step
@@ -25,4 +27,4 @@ returns-in-Err-clause-step c = rw (c.in-Err.ensures.err, ← c.self.view_is) (bu
 pub returns-in-Ok-clause-step : goal.returns-in-Ok-clause-step
 returns-in-Ok-clause-step c = rw (← c.self.view_is)
     (took_kept _ _ _ _ c.args.seat c.args.call c.args.node c.self.invariant.0 (rw (← c.self.view_is) at c.requires.moves) (c.in-Ok.ensures.free.0 refl)
-    c.take.new.self c.index_mut.result.now c.take-in-Ok.new.slot c.in-Ok.ensures.ok c.in-Ok.ensures.room c.index_mut.ensures.value c.take-in-Ok.ensures).0
+    c.take.new.self c.index_mut-in-Ok.result.now c.take-in-Ok.new.slot c.in-Ok.ensures.ok c.in-Ok.ensures.room c.index_mut-in-Ok.ensures.value c.take-in-Ok.ensures).0
