@@ -14,3 +14,6 @@ pub mod OneText
 pub mod Filling
 pub mod Existing
 pub mod OverLemmas
+pub mod Asking
+pub mod Alone
+pub mod Marks

@@ -57,7 +57,7 @@ get_set_other (x ∷ xs) (suc i) zero v ne = refl
 get_set_other (x ∷ xs) (suc i) (suc k) v ne = get_set_other xs i k v (λ e. ne (ap suc e))
 
 -- nothing is left of a thread without calls
-none_left : (lists : List (List Call)) (s : Stage) (k : ℕ) → s.state.on_seat k ≡ None → next_call lists s k ≡ None → has_more lists s k ≡ false
+pub none_left : (lists : List (List Call)) (s : Stage) (k : ℕ) → s.state.on_seat k ≡ None → next_call lists s k ≡ None → has_more lists s k ≡ false
 none_left lists s k off none = ap₂ (λ (a : Option ℕ) (b : Option Call). is_some a || is_some b) off none
 
 pub event_over : (lists : List (List Call)) (old new : Stage) (seat k : ℕ) → Event lists old seat new → has_more lists old k ≡ false → has_more lists new k ≡ false

@@ -1,27 +1,30 @@
 //! A script's run, event by event.
 
-ghost use Rattle.std.specs.Prelude.{◌≡◌, ◌<◌, ◌≤◌, ◌+◌, ◌-◌, ◌^◌, ℕ, [], IfOk, OnOk, OnErr, IfErr, IsErrOf, Ok, Err, true, length, get_or, replicate, slice_set};
+ghost use Rattle.std.specs.Prelude.{◌≡◌, ◌<◌, ◌≤◌, ◌+◌, ◌-◌, ◌^◌, ℕ, [], IfOk, OnOk, OnErr, IfErr, IsErrOf, Ok, Err, true, false, List, length, get_or, replicate, slice_set};
 ghost use Rattle.std.specs.List.{range_with_len};
 ghost use Rattle.fs_names.specs.declared.limits.TheConstants.{NODE_LIMIT};
+ghost use Rattle.fs_calls.specs.declared.call.Call.{Call};
 ghost use Rattle.fs_core.specs.CoreValues.{state_of};
 ghost use Rattle.fs_machine.specs.States.{empty, Begins};
 ghost use Rattle.fs_sched.specs.Runs.{start, has_more, Event, Events, Round, ToEnd, RunsFrom, IsRefused, Stops, StopsInRounds, StopsFrom};
 ghost use Rattle.fs_sched.specs.Schedules.{word_seats, given_seats, drawn_seats, seats_before};
-ghost use Rattle.fs_sched.specs.code.Stages.{stage_of, IsSeated, AreOver, IsRefusal};
+ghost use Rattle.fs_sched.specs.code.Stages.{stage_of, IsSeated, IsMarked, AreOver, IsRefusal};
 
 use crate::fault::RunFault;
 use crate::schedule::{DRAW_LIMIT, Draws, Schedule};
 use fs_calls::Call;
-use fs_core::{Core, Refusal};
+use fs_core::{Core, Refusal, Stepped};
 use fs_names::SeatNo;
 use fs_script::{CallLists, Script, Word};
 use std::alloc::{AllocError, Global};
 
-/// The core, with a seat for each thread, and how many calls of each thread have begun.
+/// The core, with a seat for each thread, how many calls of each thread have begun, and which threads were found to be
+/// over: these stay so, and are not looked at again.
 #[derive(Drop)]
 pub(crate) struct Play {
     pub(crate) core: Core,
     begun: Vec<usize>,
+    over: Vec<bool>,
 }
 
 /// The fault of a run of which a call was refused.
@@ -70,15 +73,27 @@ fn zeros(alloc: Global, count: usize) -> Result<Vec<usize>, AllocError>
     Ok(numbers)
 }
 
+/// No thread is marked.
+fn unmarked(alloc: Global, count: usize) -> Result<Vec<bool>, AllocError>
+    ensures { IfOk result (λ marks. marks.items ≡ replicate count false) }
+{
+    let mut marks = Vec::new(alloc);
+    for _ in 0..count {
+        marks.push(false)?;
+    }
+    Ok(marks)
+}
+
 impl Play {
     /// Before the first event of so many threads.
     pub(crate) fn new(alloc: Global, threads: usize) -> Result<Play, AllocError>
         ensures start { IfOk result (λ play. stage_of play ≡ start threads) }
-        ensures seats { IfOk result (λ play. IsSeated play threads) }
+        ensures seats { (lists : List (List Call)) → length lists ≡ threads → IfOk result (λ play. IsMarked lists play) }
     {
         let core = seated(alloc, threads)?;
         let begun = zeros(alloc, threads)?;
-        Ok(Play { core, begun })
+        let over = unmarked(alloc, threads)?;
+        Ok(Play { core, begun, over })
     }
 
     /// Whether a thread has a call under way, or one left.
@@ -107,7 +122,22 @@ impl Play {
         self.begun.len()
     }
 
+    /// The same after an event of a thread: by the event of another one, the first that had something to do has so still.
+    #[inline]
+    fn first_after(&self, lists: &CallLists, first: usize, seat: usize) -> usize
+        requires seats { IsSeated self.now (length lists.now) }
+        requires over { AreOver lists.now (stage_of self.now) first }
+        ensures over { AreOver lists.now (stage_of self.now) result }
+    {
+        if seat == first {
+            self.first_left(lists, first)
+        } else {
+            first
+        }
+    }
+
     /// A thread's call begins, of which so many have begun.
+    #[inline(never)]
     fn begin(
         &mut self,
         alloc: Global,
@@ -122,6 +152,7 @@ impl Play {
         ensures counted { OnOk result (self.new.begun.items ≡ slice_set self.old.begun.items seat (begun + 1)) }
         ensures seats { length self.new.core.seats ≡ length self.old.core.seats }
         ensures same { OnErr result (self.new.begun.items ≡ self.old.begun.items) }
+        ensures marks { self.new.over.items ≡ self.old.over.items }
         ensures fault { IfErr result IsRefusal }
         ensures full { IsErrOf result RunFault.Full → Begins (state_of self.old.core) seat call.now (Err Refusal.Full) (state_of self.old.core) }
     {
@@ -134,49 +165,53 @@ impl Play {
         }
     }
 
-    /// The next call of a thread begins, where one is left.
-    fn start(&mut self, alloc: Global, lists: &CallLists, seat: usize) -> Result<(), RunFault>
-        requires seats { IsSeated self.old (length lists.now) }
+    /// The next call of a thread begins, where one is left; else the thread is over, and marked. The answer is whether one
+    /// was left.
+    #[inline]
+    fn start(&mut self, alloc: Global, lists: &CallLists, seat: usize) -> Result<bool, RunFault>
+        requires seats { IsMarked lists.now self.old }
         requires seat { seat < length lists.now }
         requires free { (state_of self.old.core).on_seat seat ≡ None }
         ensures event { OnOk result (Event lists.now (stage_of self.old) seat (stage_of self.new)) }
-        ensures seats { IsSeated self.new (length lists.now) }
+        ensures more { IfOk result (λ more. more ≡ has_more lists.now (stage_of self.old) seat) }
+        ensures seats { OnOk result (IsMarked lists.now self.new) }
         ensures fault { IfErr result IsRefusal }
         ensures full { IsErrOf result RunFault.Full → IsRefused lists.now (stage_of self.old) seat }
     {
         let calls = calls_of(lists, seat);
         let at = self.begun[seat];
         if at >= calls.len() {
-            return Ok(());
+            self.over[seat] = true;
+            return Ok(false);
         }
         match self.begin(alloc, seat, at, &calls[at]) {
-            Ok(()) => Ok(()),
+            Ok(()) => Ok(true),
             Err(fault) => Err(fault),
         }
     }
 
-    /// An event of a thread; one of a thread that is not there is nothing.
-    fn event(&mut self, alloc: Global, lists: &CallLists, seat: usize) -> Result<(), RunFault>
-        requires { IsSeated self.old (length lists.now) }
+    /// An event of a thread, and whether the thread had anything to do. Of one that is not marked the core is asked for a
+    /// step at once: that it is idle says that no call is under way.
+    #[inline(always)]
+    fn event(&mut self, alloc: Global, lists: &CallLists, seat: usize) -> Result<bool, RunFault>
+        requires seats { IsMarked lists.now self.old }
+        requires seat { seat < length lists.now }
         ensures event { OnOk result (Event lists.now (stage_of self.old) seat (stage_of self.new)) }
-        ensures seats { IsSeated self.new (length lists.now) }
+        ensures more { IfOk result (λ more. more ≡ has_more lists.now (stage_of self.old) seat) }
+        ensures seats { OnOk result (IsMarked lists.now self.new) }
         ensures fault { IfErr result IsRefusal }
         ensures full { IsErrOf result RunFault.Full → IsRefused lists.now (stage_of self.old) seat }
     {
-        if seat >= self.begun.len() {
-            return Ok(());
+        if self.over[seat] {
+            return Ok(false);
         }
-        let on = SeatNo::new(seat as u64);
-        match self.core.under_way(on) {
-            Some(_) => {
-                let _ = self.core.step(on);
-                Ok(())
-            }
-            None => self.start(alloc, lists, seat),
+        match self.core.step(SeatNo::new(seat as u64)) {
+            Stepped::Idle => self.start(alloc, lists, seat),
+            _ => Ok(true),
         }
     }
 
-    /// So many events of a thread.
+    /// So many events of a thread; those of a thread that is not there are nothing.
     fn events(
         &mut self,
         alloc: Global,
@@ -184,12 +219,15 @@ impl Play {
         seat: usize,
         times: u64,
     ) -> Result<(), RunFault>
-        requires { IsSeated self.old (length lists.now) }
+        requires { IsMarked lists.now self.old }
         ensures events { OnOk result (Events lists.now (stage_of self.old) (replicate times seat) (stage_of self.new)) }
-        ensures seats { IsSeated self.new (length lists.now) }
+        ensures seats { OnOk result (IsMarked lists.now self.new) }
         ensures fault { IfErr result IsRefusal }
         ensures full { IsErrOf result RunFault.Full → Stops lists.now (stage_of self.old) (replicate times seat) }
     {
+        if seat >= self.begun.len() {
+            return Ok(());
+        }
         for _ in 0..times {
             self.event(alloc, lists, seat)?;
         }
@@ -198,9 +236,9 @@ impl Play {
 
     /// The events that a word gives.
     fn word(&mut self, alloc: Global, lists: &CallLists, word: Word) -> Result<(), RunFault>
-        requires { IsSeated self.old (length lists.now) }
+        requires { IsMarked lists.now self.old }
         ensures events { OnOk result (Events lists.now (stage_of self.old) (word_seats word) (stage_of self.new)) }
-        ensures seats { IsSeated self.new (length lists.now) }
+        ensures seats { OnOk result (IsMarked lists.now self.new) }
         ensures fault { IfErr result IsRefusal }
         ensures full { IsErrOf result RunFault.Full → Stops lists.now (stage_of self.old) (word_seats word) }
     {
@@ -212,9 +250,9 @@ impl Play {
 
     /// The events that words give, from left to right.
     fn words(&mut self, alloc: Global, lists: &CallLists, words: &[Word]) -> Result<(), RunFault>
-        requires { IsSeated self.old (length lists.now) }
+        requires { IsMarked lists.now self.old }
         ensures events { OnOk result (Events lists.now (stage_of self.old) (given_seats words.now) (stage_of self.new)) }
-        ensures seats { IsSeated self.new (length lists.now) }
+        ensures seats { OnOk result (IsMarked lists.now self.new) }
         ensures fault { IfErr result IsRefusal }
         ensures full { IsErrOf result RunFault.Full → Stops lists.now (stage_of self.old) (given_seats words.now) }
     {
@@ -226,32 +264,33 @@ impl Play {
 
     /// Events of threads that are drawn from a number, until none has anything to do or the limit is reached.
     fn drawn(&mut self, alloc: Global, lists: &CallLists, seed: u64) -> Result<(), RunFault>
-        requires { IsSeated self.old (length lists.now) }
+        requires { IsMarked lists.now self.old }
         ensures events { OnOk result (Events lists.now (stage_of self.old) (drawn_seats seed (length lists.now) DRAW_LIMIT) (stage_of self.new)) }
-        ensures seats { IsSeated self.new (length lists.now) }
+        ensures seats { OnOk result (IsMarked lists.now self.new) }
         ensures fault { IfErr result IsRefusal }
         ensures full { IsErrOf result RunFault.Full → Stops lists.now (stage_of self.old) (drawn_seats seed (length lists.now) DRAW_LIMIT) }
     {
+        let threads = self.begun.len();
         let mut draws = Draws::new(seed);
-        let mut first = 0;
+        let mut first = self.first_left(lists, 0);
         for _ in 0..DRAW_LIMIT {
-            first = self.first_left(lists, first);
-            if first >= self.begun.len() {
+            if first >= threads {
                 return Ok(());
             }
-            let seat = draws.seat(self.begun.len());
+            let seat = draws.seat(threads);
             self.event(alloc, lists, seat)?;
+            first = self.first_after(lists, first, seat);
         }
         Ok(())
     }
 
     /// One event of each thread, of which those before `first` are over.
     fn round(&mut self, alloc: Global, lists: &CallLists, first: usize) -> Result<(), RunFault>
-        requires seats { IsSeated self.old (length lists.now) }
+        requires seats { IsMarked lists.now self.old }
         requires over { AreOver lists.now (stage_of self.old) first }
         requires within { first ≤ length lists.now }
         ensures round { OnOk result (Round lists.now (stage_of self.old) (stage_of self.new)) }
-        ensures seats { IsSeated self.new (length lists.now) }
+        ensures seats { OnOk result (IsMarked lists.now self.new) }
         ensures fault { IfErr result IsRefusal }
         ensures full { IsErrOf result RunFault.Full → Stops lists.now (stage_of self.old) (range_with_len 0 (length lists.now)) }
     {
@@ -261,9 +300,26 @@ impl Play {
         Ok(())
     }
 
+    /// Events of the last thread, until it has nothing to do. Those before it are over, so each is a round.
+    fn last_alone(&mut self, alloc: Global, lists: &CallLists, last: usize) -> Result<(), RunFault>
+        requires seats { IsMarked lists.now self.old }
+        requires over { AreOver lists.now (stage_of self.old) last }
+        requires last { length lists.now ≡ last + 1 }
+        ensures ended { OnOk result (ToEnd lists.now (stage_of self.old) (stage_of self.new)) }
+        ensures fault { IfErr result IsRefusal }
+        ensures full { IsErrOf result RunFault.Full → StopsInRounds lists.now (stage_of self.old) }
+    {
+        'rounds: loop {
+            self.core.told();
+            if !self.event(alloc, lists, last)? {
+                return Ok(());
+            }
+        }
+    }
+
     /// Rounds until no thread has anything to do.
     fn finish(&mut self, alloc: Global, lists: &CallLists) -> Result<(), RunFault>
-        requires { IsSeated self.old (length lists.now) }
+        requires { IsMarked lists.now self.old }
         ensures ended { OnOk result (ToEnd lists.now (stage_of self.old) (stage_of self.new)) }
         ensures fault { IfErr result IsRefusal }
         ensures full { IsErrOf result RunFault.Full → StopsInRounds lists.now (stage_of self.old) }
@@ -274,6 +330,9 @@ impl Play {
             if first >= self.begun.len() {
                 return Ok(());
             }
+            if first + 1 == self.begun.len() {
+                return self.last_alone(alloc, lists, first);
+            }
             self.core.told();
             self.round(alloc, lists, first)?;
         }
@@ -281,9 +340,9 @@ impl Play {
 
     /// The events before rounds to the end.
     fn before(&mut self, alloc: Global, script: &Script, schedule: Schedule) -> Result<(), RunFault>
-        requires { IsSeated self.old (length script.now.lists) }
+        requires { IsMarked script.now.lists self.old }
         ensures events { OnOk result (Events script.now.lists (stage_of self.old) (seats_before schedule script.now.words (length script.now.lists)) (stage_of self.new)) }
-        ensures seats { IsSeated self.new (length script.now.lists) }
+        ensures seats { OnOk result (IsMarked script.now.lists self.new) }
         ensures fault { IfErr result IsRefusal }
         ensures full { IsErrOf result RunFault.Full → Stops script.now.lists (stage_of self.old) (seats_before schedule script.now.words (length script.now.lists)) }
     {
@@ -301,7 +360,7 @@ impl Play {
         script: &Script,
         schedule: Schedule,
     ) -> Result<(), RunFault>
-        requires { IsSeated self.old (length script.now.lists) }
+        requires { IsMarked script.now.lists self.old }
         ensures run { OnOk result (RunsFrom schedule script.now (stage_of self.old) (stage_of self.new)) }
         ensures fault { IfErr result IsRefusal }
         ensures full { IsErrOf result RunFault.Full → StopsFrom schedule script.now (stage_of self.old) }

@@ -3,8 +3,8 @@
 ghost use Rattle.std.specs.Prelude.{◌≡◌, ◌++◌, OnOk, IfOk, decimal};
 ghost use Rattle.fs_nodes.specs.Stores.{graph_of};
 ghost use Rattle.fs_text.specs.Journal.{journal_text};
-ghost use Rattle.fs_sched.specs.declared.run_texts.EntryKind.TheVariants as kind;
-ghost use Rattle.fs_sched.specs.RunTexts.{is_of, number_of, counts_line, end_line, IsRunText};
+ghost use Rattle.fs_sched.specs.RunTexts.{is_of, number_of, counts_line, IsRunText};
+ghost use Rattle.fs_sched.specs.code.Counts.{AreCounts};
 
 use fs_nodes::Store;
 use fs_script::{write_entry, write_tree};
@@ -54,38 +54,38 @@ pub(crate) struct Counts {
     pub(crate) returned: usize,
 }
 
-/// The same of these entries, in one pass.
-pub(crate) fn counts_of(entries: &[Entry]) -> Counts
-    ensures begun { result.begun ≡ number_of kind.Begin entries.now }
-    ensures committed { result.committed ≡ number_of kind.Commit entries.now }
-    ensures returned { result.returned ≡ number_of kind.Return entries.now }
+/// A text that tells entries, and how many of each kind they are.
+#[derive(Drop)]
+pub(crate) struct CountedText {
+    pub(crate) text: Vec<u8>,
+    pub(crate) counts: Counts,
+}
+
+/// A journal's header line, and a line for each entry. The entries are counted on the way.
+fn journal_text(alloc: Global, entries: &[Entry]) -> Result<CountedText, AllocError>
+    ensures text { IfOk result (λ made. made.text.items ≡ journal_text entries.now) }
+    ensures counts { IfOk result (λ made. AreCounts made.counts entries.now) }
 {
+    let mut text = Vec::from_slice(alloc, b"atomfs-journal 1\n")?;
     let mut begun = 0;
     let mut committed = 0;
     let mut returned = 0;
     for entry in entries {
+        write_entry(alloc, entry, &mut text)?;
         match entry {
             Entry::Begin(_, _, _) => begun += 1,
             Entry::Commit(_) => committed += 1,
             Entry::Return(_, _) => returned += 1,
         }
     }
-    Counts {
-        begun,
-        committed,
-        returned,
-    }
-}
-
-/// A journal's header line, and a line for each entry.
-fn journal_text(alloc: Global, entries: &[Entry]) -> Result<Vec<u8>, AllocError>
-    ensures { IfOk result (λ text. text.items ≡ journal_text entries.now) }
-{
-    let mut text = Vec::from_slice(alloc, b"atomfs-journal 1\n")?;
-    for entry in entries {
-        write_entry(alloc, entry, &mut text)?;
-    }
-    Ok(text)
+    Ok(CountedText {
+        text,
+        counts: Counts {
+            begun,
+            committed,
+            returned,
+        },
+    })
 }
 
 /// A word and a number.
@@ -107,13 +107,29 @@ fn push_counts(counts: Counts, line: &mut Addition) -> Result<(), AllocError>
     line.push(b"\n")
 }
 
-/// The last line of a run.
-fn end_line(alloc: Global, entries: &[Entry]) -> Result<Vec<u8>, AllocError>
-    ensures { IfOk result (λ text. text.items ≡ end_line entries.now) }
+/// The last line of a run with so many entries of each kind.
+fn end_line(alloc: Global, counts: Counts) -> Result<Vec<u8>, AllocError>
+    ensures { IfOk result (λ text. text.items ≡ counts_line counts.begun counts.committed counts.returned) }
 {
     let mut line = Addition::new(Vec::new(alloc));
-    push_counts(counts_of(entries), &mut line)?;
+    push_counts(counts, &mut line)?;
     Ok(line.kept())
+}
+
+/// The text of a run that ended with these entries and nodes, and how many entries of each kind there are.
+pub(crate) fn counted_text(
+    alloc: Global,
+    entries: &[Entry],
+    store: &Store,
+) -> Result<CountedText, AllocError>
+    ensures text { IfOk result (λ made. IsRunText entries.now (graph_of store.now) made.text.items) }
+    ensures counts { IfOk result (λ made. AreCounts made.counts entries.now) }
+{
+    let mut made = journal_text(alloc, entries)?;
+    write_tree(alloc, store, &mut made.text)?;
+    let line = end_line(alloc, made.counts)?;
+    made.text.extend_from_slice(&line)?;
+    Ok(made)
 }
 
 /// The text of a run that ended with these entries and nodes: its journal, the tree that the nodes spell, and a last
@@ -121,9 +137,6 @@ fn end_line(alloc: Global, entries: &[Entry]) -> Result<Vec<u8>, AllocError>
 pub fn run_text(alloc: Global, entries: &[Entry], store: &Store) -> Result<Vec<u8>, AllocError>
     ensures { IfOk result (λ text. IsRunText entries.now (graph_of store.now) text.items) }
 {
-    let mut text = journal_text(alloc, entries)?;
-    write_tree(alloc, store, &mut text)?;
-    let line = end_line(alloc, entries)?;
-    text.extend_from_slice(&line)?;
-    Ok(text)
+    let made = counted_text(alloc, entries, store)?;
+    Ok(made.text)
 }

@@ -2,24 +2,25 @@
 
 ghost use Rattle.std.specs.Prelude.{◌≡◌, ◌≢◌, ◌+◌, ◌-◌, ◌<◌, ◌^◌, ℕ, List, min, map, Ok, Err, IfOk, OnOk, OnErr, IfErr, IfSome, IsErrOf};
 ghost use Rattle.std.specs.Io.KnownBytes.{Appends, IsAtEnd};
+ghost use Rattle.fs_timeline.specs.declared.entry.Entry.{Entry};
 ghost use Rattle.fs_text.specs.declared.fault.ScriptFault.{ScriptFault};
 ghost use Rattle.fs_script.specs.Script.{script_of};
 ghost use Rattle.fs_sched.specs.Devices.{IsFaultOrRefusal, WritesBeginning};
 ghost use Rattle.fs_sched.specs.Runs.{Runs, calls_in, end_of, IsOutput, IsRunOf, IsWhole, HasFinish, FillsUp, ReachesFull};
 ghost use Rattle.fs_sched.specs.EachRun.{AreOfTheRun, RunsAreReadAgain, EachIsReadAgain};
+ghost use Rattle.fs_sched.specs.code.Counts.{AreCounts};
 ghost use Rattle.fs_sched.specs.code.Stages.{stage_of, IsRefusal};
 
 use crate::device::{Sink, Source};
 use crate::fault::{RunFault, run_fault};
 use crate::play::Play;
-use crate::run_texts::{counts_of, run_text};
+use crate::run_texts::{Counts, counted_text};
 use crate::schedule::Schedule;
 use crate::sink::write_text;
 use crate::source::read_text;
 use fs_calls::Call;
 use fs_script::{Script, read_script};
 use fs_text::told_of_entries;
-use fs_timeline::Entry;
 use std::alloc::Global;
 
 /// How a run ended: how many calls began, took their place and returned, of how many calls of the script.
@@ -49,11 +50,10 @@ fn count_calls(lists: &[Vec<Call>]) -> usize
     count
 }
 
-/// How a run of a script with so many calls ended.
-fn end_of(calls: usize, entries: &[Entry]) -> RunEnd
-    ensures { (script : Script) → calls ≡ min (2 ^ 64 - 1) (calls_in script.lists) → result ≡ end_of script entries.now }
+/// How a run of a script with so many calls ended, of whose entries there are so many.
+fn end_of(calls: usize, counts: Counts) -> RunEnd
+    ensures { (script : Script) (entries : List Entry) → calls ≡ min (2 ^ 64 - 1) (calls_in script.lists) → AreCounts counts entries → result ≡ end_of script entries }
 {
-    let counts = counts_of(entries);
     RunEnd {
         begun: counts.begun,
         committed: counts.committed,
@@ -94,10 +94,10 @@ fn make_text(alloc: Global, script: Script, schedule: Schedule) -> Result<MadeTe
 
     // By their types the entries are such as a journal is read again with.
     told_of_entries(entries);
-    match run_text(alloc, entries, play.core.store()) {
-        Ok(text) => Ok(MadeText {
-            text,
-            end: end_of(calls, entries),
+    match counted_text(alloc, entries, play.core.store()) {
+        Ok(made) => Ok(MadeText {
+            text: made.text,
+            end: end_of(calls, made.counts),
         }),
         Err(_) => Err(RunFault::OutOfMemory),
     }

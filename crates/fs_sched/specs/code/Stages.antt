@@ -1,5 +1,5 @@
 -- Where a run stands that the code does.
-use Rattle.std.specs.Prelude.{ℕ, ◌≡◌, ◌<◌, false, List, length}
+use Rattle.std.specs.Prelude.{ℕ, ◌≡◌, ◌<◌, true, false, List, length, get_or}
 use Rattle.fs_calls.specs.declared.call.Call.{Call}
 use Rattle.fs_core.specs.CoreValues.{state_of}
 use Rattle.fs_sched.specs.Runs.{Stage, has_more}
@@ -15,6 +15,12 @@ stage_of play = record { state = state_of play.core; begun = play.begun.items }
 pub record IsSeated (play : Play) (threads : ℕ) : Type 0 where
   pub seats : length play.core.seats ≡ threads
   pub begun : length play.begun.items ≡ threads
+
+-- each thread has a mark too, and those that are marked have nothing left to do
+pub record IsMarked (lists : List (List Call)) (play : Play) : Type 0 where
+  pub seated : IsSeated play (length lists)
+  pub marks : length play.over.items ≡ length lists
+  pub over : (seat : ℕ) → get_or play.over.items seat false ≡ true → has_more lists (stage_of play) seat ≡ false
 
 -- the threads before this one have nothing left to do
 abbrev pub AreOver : List (List Call) → Stage → ℕ → Type 0

@@ -1,7 +1,7 @@
 use Rattle.std.proofs.Common.{◌-◌, length}
 use Rattle.fs_sched.specs.Schedules.{drawn_seats, seats_from}
 use Rattle.fs_sched.specs.declared.schedule.TheConstants.{DRAW_LIMIT}
-use Rattle.fs_sched.specs.code.Stages.{stage_of, IsSeated, AreOver}
+use Rattle.fs_sched.specs.code.Stages.{stage_of, IsMarked, AreOver}
 use Rattle.fs_sched.proofs.Staging.{Leads}
 use Rattle.fs_sched.proofs.Stopping.{LeadsToStop}
 use Rattle.fs_sched.proofs.play.Play.drawn.Given as goal
@@ -10,7 +10,7 @@ use Rattle.fs_sched.proofs.play.Play.drawn.Given as goal
 abbrev pub invariant-loop : goal.invariant-loop
 invariant-loop l = record {
   over : AreOver l.lists (stage_of l.self) l.first;
-  seats : IsSeated l.self (length l.lists);
+  seats : IsMarked l.lists l.self;
   stop : LeadsToStop l.lists (stage_of l.fn.self) (drawn_seats l.seed (length l.lists) DRAW_LIMIT) (stage_of l.self) (seats_from (length l.lists) (DRAW_LIMIT - l.counter) l.draws);
   lead : Leads l.lists (stage_of l.fn.self) (drawn_seats l.seed (length l.lists) DRAW_LIMIT) (stage_of l.self) (seats_from (length l.lists) (DRAW_LIMIT - l.counter) l.draws);
 }

@@ -1,9 +1,15 @@
-use Rattle.std.proofs.Common.{◌≡◌, ◌<◌, Err, ap, rules, arith}
+use Rattle.std.proofs.Common.{◌≡◌, ◌<◌, ◌≤◌, Err, length, ap, rules, arith}
 use Rattle.fs_sched.specs.declared.fault.RunFault.TheVariants.{Full}
 use Rattle.fs_sched.specs.code.Stages.{stage_of}
-use Rattle.fs_sched.proofs.Staging.{lead_more, times_more}
+use Rattle.fs_sched.proofs.Asking.{spent_times}
+use Rattle.fs_sched.proofs.Staging.{lead_more, spent_past, times_more}
 use Rattle.fs_sched.proofs.Stopping.{stop_more, stop_here}
 use Rattle.fs_sched.proofs.play.Play.events.Goals as goal
+
+pub returns-then-seat-len-clause-events : goal.returns-then-seat-len-clause-events
+returns-then-seat-len-clause-events c =
+    let h : length c.args.lists.now ≤ c.args.seat = omega arith in
+    spent_times c.args.lists.now (stage_of c.args.self.now) c.args.seat c.args.times (spent_past c.args.lists.now c.args.self.now c.args.seat c.requires.seated h)
 
 pub loop-preserved : goal.loop-preserved
 loop-preserved c =

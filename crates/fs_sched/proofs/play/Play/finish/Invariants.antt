@@ -1,5 +1,4 @@
-use Rattle.std.proofs.Common.{length}
-use Rattle.fs_sched.specs.code.Stages.{stage_of, IsSeated, AreOver}
+use Rattle.fs_sched.specs.code.Stages.{stage_of, IsMarked, AreOver}
 use Rattle.fs_sched.proofs.Rounds.{left_over}
 use Rattle.fs_sched.proofs.Staging.{LeadsToEnd}
 use Rattle.fs_sched.proofs.Stopping.{LeadsToStopInRounds}
@@ -9,7 +8,7 @@ use Rattle.fs_sched.proofs.play.Play.finish.Given as goal
 abbrev pub invariant-rounds : goal.invariant-rounds
 invariant-rounds l = record {
   over : AreOver l.lists (stage_of l.self) l.first;
-  seats : IsSeated l.self (length l.lists);
+  seats : IsMarked l.lists l.self;
   stop : LeadsToStopInRounds l.lists (stage_of l.fn.self) (stage_of l.self);
   lead : LeadsToEnd l.lists (stage_of l.fn.self) (stage_of l.self);
 }

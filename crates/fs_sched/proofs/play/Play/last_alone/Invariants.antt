@@ -1,0 +1,18 @@
+use Rattle.fs_sched.specs.code.Stages.{stage_of, IsMarked, AreOver}
+use Rattle.fs_sched.proofs.Rounds.{left_over}
+use Rattle.fs_sched.proofs.Staging.{LeadsToEnd}
+use Rattle.fs_sched.proofs.Stopping.{LeadsToStopInRounds}
+use Rattle.fs_sched.proofs.play.Play.last_alone.Given as goal
+
+-- what leads to the end from here leads there from the start
+abbrev pub invariant-rounds : goal.invariant-rounds
+invariant-rounds l = record {
+  over : AreOver l.lists (stage_of l.self) l.last;
+  seats : IsMarked l.lists l.self;
+  stop : LeadsToStopInRounds l.lists (stage_of l.fn.self) (stage_of l.self);
+  lead : LeadsToEnd l.lists (stage_of l.fn.self) (stage_of l.self);
+}
+
+-- what is left to do
+abbrev pub decreases-rounds : goal.decreases-rounds
+decreases-rounds l = left_over l.lists (stage_of l.self)

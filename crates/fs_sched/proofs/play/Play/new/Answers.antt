@@ -1,0 +1,7 @@
+use Rattle.std.proofs.Common.{length, ap, ◌∙◌}
+use Rattle.std.proofs.lemmas.List.{length-replicate}
+use Rattle.fs_sched.proofs.Marks.{unmarked}
+use Rattle.fs_sched.proofs.play.Play.new.Goals as goal
+
+pub returns-clause-seats : goal.returns-clause-seats
+returns-clause-seats c lists same = unmarked lists _ c.args.threads (record { seats = c.in_ok-core.ensures.seats; begun = ap length c.in_ok-begun.ensures ∙ length-replicate c.args.threads 0 }) c.in_ok-over.ensures same
