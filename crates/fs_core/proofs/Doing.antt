@@ -17,13 +17,15 @@ use Rattle.fs_machine.specs.Moves.{next}
 use Rattle.fs_machine.specs.declared.moves.Move.{Move}
 use Rattle.fs_machine.specs.declared.moves.Move.TheVariants.{Take as Takes, LetGo as Leaves, Finish as Finishes, Return as Ends}
 use Rattle.fs_machine.specs.OpValues.{OpValue, record_of, next_of, IsTook, IsLetGo, IsFinished, IsSpare, SpareIf, CanFinish, graph_after}
-use Rattle.fs_machine.specs.States.{Step, NoneBelow}
+use Rattle.fs_machine.specs.States.{State, Step, NoneBelow}
 use Rattle.fs_machine.specs.declared.answers.Stepped.TheVariants.{Idle, Took, Busy, LetGo, Helped, Committed, CarriedOut, Returned}
 use Rattle.fs_laws.proofs.calls.NextMoves.{takes_used, takes_another, leaves_held}
 use Rattle.fs_laws.proofs.states.GraphOfARun.{spare_reserved, spare_removed, can_finish, begun_before}
 use Rattle.fs_core.specs.declared.seat.Running.{Running}
 use Rattle.fs_core.specs.CoreValues.{CoreValue, state_of, number_of, records}
 use Rattle.fs_core.specs.code.Rooms.{walking, walking_at, owed_at, owed, IsKept}
+use Rattle.fs_core.specs.declared.done.Done.TheVariants as done
+use Rattle.fs_core.specs.code.Doing.{Does}
 use Rattle.fs_core.specs.code.Helping.{Helps, HelpsIf}
 use Rattle.fs_core.specs.code.Seats.{MovesOn, PlacedOn, PlansOn, Goes, placed}
 use Rattle.fs_finish.specs.Plans.{Changes}
@@ -81,6 +83,21 @@ took_kept m b k p seat call n kept x free hs old new is_hs is_room read goes =
 
 pub busy_step : (m : CoreValue) (b k p seat call n d : ℕ) → IsKept m b k p → MovesOn m seat call (Takes n) → holder m.holding n ≡ Some d → Step (state_of m) seat (Busy n d) (state_of m)
 busy_step m b k p seat call n d kept x held = (x.running.call, record_of seat x.running.place x.running.op, moves m seat x.running (Takes n) kept.run x.on x.next, held, refl)
+
+-- the node is held still, and by the call that is told
+busy_held : (old new : State) (seat n d : ℕ) → Step old seat (Busy n d) new → new.holder n ≡ Some d
+busy_held old new seat n d x = ap (λ (s : State). s.holder n) x.4 ∙ x.3
+
+pub busy_by_some : (old new : CoreValue) (seat n : ℕ) → Does old seat (done.Busy n) new → holder new.holding n ≡ None → ⊥
+busy_by_some old new seat n x e =
+    let z : ◌≡◌ {A = Option ℕ} None (Some x.0) = sym e ∙ busy_held (state_of old) (state_of new) seat n x.0 x.1 in
+    cc
+
+pub busy_told : (old new : CoreValue) (seat n d : ℕ) → Does old seat (done.Busy n) new → holder new.holding n ≡ Some d → Step (state_of old) seat (Busy n d) (state_of new)
+busy_told old new seat n d x e =
+    let z : ◌≡◌ {A = Option ℕ} (Some x.0) (Some d) = sym (busy_held (state_of old) (state_of new) seat n x.0 x.1) ∙ e in
+    let y : x.0 ≡ d = cc in
+    subst (λ (b : ℕ). Step (state_of old) seat (Busy n b) (state_of new)) y x.1
 
 -- a let go
 pub let_go_held : (m : CoreValue) (b k p seat call n : ℕ) → IsKept m b k p → MovesOn m seat call (Leaves n) → IsSome (holder m.holding n)

@@ -4,3 +4,4 @@ pub mod Seats
 pub mod Helping
 pub mod Searches
 pub mod Starting
+pub mod Doing

@@ -13,6 +13,7 @@
 
 mod beginning;
 mod commits;
+mod done;
 mod events;
 mod helping;
 pub mod machine;

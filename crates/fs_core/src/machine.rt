@@ -11,17 +11,19 @@ ghost use Rattle.fs_calls.specs.Sights.{tree_shapes};
 ghost use Rattle.fs_timeline.specs.Timeline.{IsLawful, commits};
 ghost use Rattle.fs_machine.specs.States.{Begins, Step, NoneBelow, Run, empty};
 ghost use Rattle.fs_core.specs.CoreValues.{state_of, IsAtRest};
+ghost use Rattle.fs_core.specs.code.Doing.{Does};
 ghost use Rattle.fs_core.specs.code.Seats.{MovesOn, PlacedOn, PlansOn};
 ghost use Rattle.fs_finish.specs.Plans.{moved_by};
 ghost use Rattle.fs_ops.specs.PlanOf.{IfFinish, move_of};
 
 use crate::beginning::make_ready;
+use crate::done::Done;
 use crate::helping::{Way, no_way, to_help_before};
 use crate::seat::{self, Running};
 use fs_calls::Call;
 use fs_finish::Plan;
 use fs_index::IndexedTimeline;
-use fs_locks::{HeldBy, Holders};
+use fs_locks::Holders;
 use fs_machine::{Refusal, Stepped};
 use fs_names::{CallNo, NODE_LIMIT, Path, SeatNo};
 use fs_nodes::{NodeNo, Store};
@@ -77,83 +79,76 @@ macro_rules! by_move {
     };
 }
 
-/// The call that holds a node.
-fn holder_by(held: HeldBy) -> CallNo
-    ensures { result ≡ held.0 }
-{
-    held.0
-}
-
 impl Core {
     /// The call on a seat takes a node, unless another call holds it.
-    fn take(&mut self, seat: usize, call: CallNo, node: NodeNo) -> Stepped
+    fn take(&mut self, seat: usize, call: CallNo, node: NodeNo) -> Done
         requires seat { seat < length self.old.seats }
         requires moves { MovesOn self.old seat call (Takes node) }
-        ensures step { Step (state_of self.old) seat result (state_of self.new) }
+        ensures step { Does self.old seat result self.new }
         ensures seats { length self.new.seats ≡ length self.old.seats }
     {
         match self.holders.take(node, call) {
-            Err(held) => Stepped::Busy(node, holder_by(held)),
+            Err(_) => Done::Busy(node),
             Ok(()) => {
                 seat::set_out(&mut self.starting[seat]);
                 seat::take(&mut self.seats[seat], node);
-                Stepped::Took(node)
+                Done::Took(node)
             }
         }
     }
 
     /// The call on a seat lets a node go.
-    fn let_go(&mut self, seat: usize, call: CallNo, node: NodeNo) -> Stepped
+    fn let_go(&mut self, seat: usize, call: CallNo, node: NodeNo) -> Done
         requires seat { seat < length self.old.seats }
         requires moves { MovesOn self.old seat call (Leaves node) }
-        ensures step { Step (state_of self.old) seat result (state_of self.new) }
+        ensures step { Does self.old seat result self.new }
         ensures seats { length self.new.seats ≡ length self.old.seats }
     {
         self.holders.let_go(node);
         seat::let_go(&mut self.seats[seat], node, &mut self.store);
-        Stepped::LetGo(node)
+        Done::LetGo(node)
     }
 
     /// The walking call on a seat takes its place in the timeline, makes its change and fixes its reply. The entry is the
     /// call's number: the call itself stands in its Begin entry.
     #[inline(never)]
-    fn commit(&mut self, seat: usize, call: CallNo, plan: Plan) -> Stepped
+    fn commit(&mut self, seat: usize, call: CallNo, plan: Plan) -> Done
         requires seat { seat < length self.old.seats }
         requires moves { MovesOn self.old seat call (Finishes (moved_by plan)) }
         requires plan { PlansOn self.old seat plan }
         requires walking { PlacedOn self.old seat None }
         requires alone { NoneBelow (state_of self.old) (moved_by plan) }
-        ensures step { Step (state_of self.old) seat result (state_of self.new) }
+        ensures step { Does self.old seat result self.new }
         ensures seats { length self.new.seats ≡ length self.old.seats }
     {
         seat::carry_out(&mut self.seats[seat], plan, &mut self.store);
         self.commits += 1;
         self.timeline.push(Entry::Commit(call));
-        Stepped::Committed
+        Done::Committed
     }
 
     /// The placed call on a seat makes its change and fixes its reply.
     #[inline(never)]
-    fn carry_out(&mut self, seat: usize, call: CallNo, plan: Plan, place: u64) -> Stepped
+    fn carry_out(&mut self, seat: usize, call: CallNo, plan: Plan, place: u64) -> Done
         requires seat { seat < length self.old.seats }
         requires moves { MovesOn self.old seat call (Finishes (moved_by plan)) }
         requires plan { PlansOn self.old seat plan }
         requires placed { PlacedOn self.old seat (Some place) }
-        ensures step { Step (state_of self.old) seat result (state_of self.new) }
+        ensures step { Does self.old seat result self.new }
         ensures seats { length self.new.seats ≡ length self.old.seats }
     {
         seat::carry_out(&mut self.seats[seat], plan, &mut self.store);
-        Stepped::CarriedOut
+        Done::CarriedOut
     }
 
     /// The walking call on a seat helps a walking call below the node that it would move; where there is none, it commits.
     #[inline(never)]
-    fn help_or_commit(&mut self, seat: usize, call: CallNo, plan: Plan) -> Stepped
+    fn help_or_commit(&mut self, seat: usize, call: CallNo, plan: Plan) -> Done
         requires seat { seat < length self.old.seats }
         requires moves { MovesOn self.old seat call (Finishes (moved_by plan)) }
         requires plan { PlansOn self.old seat plan }
         requires walking { PlacedOn self.old seat None }
-        ensures step { Step (state_of self.old) seat result (state_of self.new) }
+        ensures step { Does self.old seat result self.new }
         ensures seats { length self.new.seats ≡ length self.old.seats }
     {
         match to_help_before(
@@ -167,7 +162,7 @@ impl Core {
                 let helped = seat::give_place(&mut self.seats[other], self.commits);
                 self.commits += 1;
                 self.timeline.push(Entry::Commit(helped));
-                Stepped::Helped(helped)
+                Done::Helped(helped)
             }
             None => self.commit(seat, call, plan),
         }
@@ -187,20 +182,20 @@ impl Core {
         Stepped::Returned(again)
     }
 
-    /// The call on a seat does the move that is its next.
-    fn make_move(&mut self, at: usize, call: CallNo, place: Option<u64>, next: Next) -> Stepped
+    /// The call on a seat does the move that is its next, unless that is its return.
+    fn make_move(&mut self, at: usize, call: CallNo, place: Option<u64>, next: Next) -> Done
         requires seat { at < length self.old.seats }
         requires moves { MovesOn self.old at call (move_of next) }
         requires plan { IfFinish next (PlansOn self.old at) }
         requires placed { PlacedOn self.old at place }
-        ensures step { Step (state_of self.old) at result (state_of self.new) }
+        ensures step { Does self.old at result self.new }
         ensures seats { length self.new.seats ≡ length self.old.seats }
     {
         by_move! { next, place;
             always {
                 Next::Take(node) => self.take(at, call, node),
                 Next::LetGo(node) => self.let_go(at, call, node),
-                Next::Return => self.end(at, call),
+                Next::Return => Done::Ends(call),
             }
             by_phase {
                 Next::Finish(plan) => {
@@ -211,23 +206,37 @@ impl Core {
         }
     }
 
-    /// The call on a seat does its next move, as the nodes are.
+    /// The call on a seat does its next move, as the nodes are, unless that is its return.
     // Apart from `step`, which is a few instructions where a call waits for the root.
     #[inline(never)]
-    fn go_on(&mut self, at: usize) -> Stepped
+    fn go_on(&mut self, at: usize) -> Done
         requires seat { at < length self.old.seats }
-        ensures step { Step (state_of self.old) at result (state_of self.new) }
+        ensures step { Does self.old at result self.new }
         ensures seats { length self.new.seats ≡ length self.old.seats }
     {
         let Some(running) = &self.seats[at] else {
-            return Stepped::Idle;
+            return Done::Idle;
         };
         let (call, place) = (running.call, running.place);
         let next = running.op.next(&self.store);
         self.make_move(at, call, place, next)
     }
 
+    /// The call on a seat does its next move, unless that is its return. One that goes for the root asks for nothing else.
+    #[inline(always)]
+    fn act(&mut self, at: usize) -> Done
+        requires seat { at < length self.old.seats }
+        ensures step { Does self.old at result self.new }
+        ensures seats { length self.new.seats ≡ length self.old.seats }
+    {
+        match self.starting[at] {
+            Some(call) => self.take(at, call, NodeNo::new(0)),
+            None => self.go_on(at),
+        }
+    }
+
     /// The call on a seat does its next move.
+    // A caller has this in its own code, so that an answer at which it does not look is not made.
     #[inline(always)]
     pub fn step(&mut self, seat: SeatNo) -> Stepped
         requires seat { seat < length self.old.seats }
@@ -235,9 +244,18 @@ impl Core {
         ensures seats { length self.new.seats ≡ length self.old.seats }
     {
         let at = seat.get() as usize;
-        match self.starting[at] {
-            Some(call) => self.take(at, call, NodeNo::new(0)),
-            None => self.go_on(at),
+        match self.act(at) {
+            Done::Idle => Stepped::Idle,
+            Done::Took(node) => Stepped::Took(node),
+            Done::Busy(node) => match self.holders.holder(node) {
+                Some(call) => Stepped::Busy(node, call),
+                None => unreachable!(),
+            },
+            Done::LetGo(node) => Stepped::LetGo(node),
+            Done::Helped(call) => Stepped::Helped(call),
+            Done::Committed => Stepped::Committed,
+            Done::CarriedOut => Stepped::CarriedOut,
+            Done::Ends(call) => self.end(at, call),
         }
     }
 

@@ -1,4 +1,4 @@
-use Rattle.std.proofs.Common.{ℕ, Some, refl, sym, ap, ◌∙◌}
+use Rattle.std.proofs.Common.{refl}
 use Rattle.fs_core.proofs.Doing.{take_within, take_another, take_few, took_kept, busy_step}
 use Rattle.fs_core.proofs.SeatLemmas.{length_after}
 use Rattle.fs_core.proofs.Starting.{starting_left}
@@ -22,7 +22,7 @@ invariant_of-self-in-Ok c = (
 )
 
 pub returns-in-Err-clause-step : goal.returns-in-Err-clause-step
-returns-in-Err-clause-step c = rw (c.in-Err.ensures.err, ← c.self.view_is) (busy_step _ _ _ _ c.args.seat c.args.call c.args.node _ c.self.invariant.0 (rw (← c.self.view_is) at c.requires.moves) (c.in-Err.ensures.held ∙ ap (λ (n : ℕ). Some n) (sym c.holder_by.ensures)))
+returns-in-Err-clause-step c = rw (c.in-Err.ensures.err, ← c.self.view_is) (_, busy_step _ _ _ _ c.args.seat c.args.call c.args.node _ c.self.invariant.0 (rw (← c.self.view_is) at c.requires.moves) c.in-Err.ensures.held)
 
 pub returns-in-Ok-clause-step : goal.returns-in-Ok-clause-step
 returns-in-Ok-clause-step c = rw (← c.self.view_is)
