@@ -77,13 +77,11 @@ impl<'a> Recent<'a> {
         Ok(Recent { slots })
     }
 
-    /// The slot that a word chooses, where there are any.
+    /// The slot that a word chooses, where there are any: as far along the slots as its number is along those of 32 bits, which
+    /// takes no division.
     pub(crate) fn slot_of(&self, word: &[u8]) -> usize {
         let count = self.slots.len() as u64;
-        if count == 0 {
-            return 0;
-        }
-        (hash_of(word) % count) as usize
+        ((hash_of(word) >> 32).wrapping_mul(count) >> 32) as usize
     }
 
     /// The path of a word, where the slot has it.
