@@ -1,6 +1,6 @@
 //! How the calls that change the bytes of a file finish at their node.
 
-ghost use Rattle.std.specs.Prelude.{◌≡◌, ◌≤◌, ◌+◌, ◌++◌, ◌-◌, ℕ, List, [], None, length, take, drop, replicate, nat_le, IsTrue, vec_capacity};
+ghost use Rattle.std.specs.Prelude.{◌≡◌, ◌≤◌, ◌+◌, ℕ, List, [], None, length, IsTrue, vec_capacity};
 ghost use Rattle.fs_names.specs.Shapes.{bytes_of, is_file};
 ghost use Rattle.fs_nodes.specs.Graphs.{content_in};
 ghost use Rattle.fs_nodes.specs.Seen.{seen};
@@ -17,33 +17,50 @@ use fs_calls::{Errno, Reply};
 use fs_names::FILE_LIMIT;
 use fs_nodes::{NodeNo, Store};
 
-/// The bytes again, with zeros up to a length.
-fn lengthened(bytes: &[u8], len: usize, buffer: ByteRoom) -> Vec<u8>
-    requires longer { length bytes.now ≤ len }
-    requires room { len ≤ buffer }
-    ensures { result.items ≡ bytes.now ++ replicate (len - length bytes.now) 0 }
+/// The bytes of a vector, in one that has room for so many: their own, or else the buffer.
+fn with_room(bytes: Vec<u8>, len: usize, buffer: Vec<u8>) -> Vec<u8>
+    requires empty { buffer.items ≡ [] }
+    requires room { len ≤ vec_capacity buffer }
+    ensures bytes { result.items ≡ bytes.items }
+    ensures room { len ≤ vec_capacity result }
 {
-    let mut new = buffer.into_vec();
-    let _room_was_made = new.extend_from_slice(bytes);
-    let _room_was_made = new.resize(len, 0);
+    if len <= bytes.capacity() {
+        return bytes;
+    }
+    let mut new = buffer;
+    let _room_was_made = new.extend_from_slice(&bytes);
     new
 }
 
-/// The bytes of a file, taken out or copied, with zeros up to a length where they are fewer.
+/// The bytes of a file, taken out into a vector that has room for so many.
 fn taken_out(store: &mut Store, file: NodeNo, len: usize, buffer: ByteRoom) -> Vec<u8>
     requires file { IsTrue (is_file (shape store.old file)) }
     requires room { len ≤ buffer }
-    ensures bytes { result.items ≡ bytes_of (shape store.old file) ++ replicate (len - length (bytes_of (shape store.old file))) 0 }
+    ensures bytes { result.items ≡ bytes_of (shape store.old file) }
+    ensures room { len ≤ vec_capacity result }
     ensures file { IsTrue (is_file (shape store.new file)) }
     ensures graph { (bytes : List ℕ) → content_in file bytes (graph_of store.new) ≡ content_in file bytes (graph_of store.old) }
     ensures rest { seen store.new ≡ record (seen store.old) { graph = graph_of store.new } }
 {
-    // A store lends its bytes for reading alone. So those of a long enough file are taken out, against the empty buffer, changed
-    // where they are, and swapped back by the caller: they are not copied, and the buffer is not needed for them.
-    if len <= store.content(file).len() {
-        return store.swap_content(file, buffer.into_vec());
+    // A store lends its bytes for reading alone. So those of a file are taken out against none, changed in the vector that they
+    // are in if it has the room, and swapped back by the caller: they are copied only where the file outgrows its vector.
+    let buffer = buffer.into_vec();
+    let none = Vec::new(*buffer.allocator());
+    with_room(store.swap_content(file, none), len, buffer)
+}
+
+/// Puts bytes over those of a vector from an offset on, and behind them what is more; a gap is filled with zeros.
+fn put_over(content: &mut Vec<u8>, off: usize, bytes: &[u8])
+    requires fits { off + length bytes.now ≤ FILE_LIMIT }
+    requires room { off + length bytes.now ≤ vec_capacity content.old }
+    ensures { content.new.items ≡ written content.old.items off bytes.now }
+{
+    if off + bytes.len() <= content.len() {
+        put(content, off, bytes);
+        return;
     }
-    lengthened(store.content(file), len, buffer)
+    let _room_was_made = content.resize(off, 0);
+    let _room_was_made = content.extend_from_slice(bytes);
 }
 
 /// Puts bytes over those of a file from an offset on; a gap is filled with zeros.
@@ -53,9 +70,9 @@ fn put_into(store: &mut Store, file: NodeNo, off: usize, bytes: &[u8], buffer: B
     requires room { off + length bytes.now ≤ buffer }
     ensures { seen store.new ≡ record (seen store.old) { graph = content_in file (written (bytes_of (shape store.old file)) off bytes.now) (graph_of store.old) } }
 {
-    let mut new = taken_out(store, file, off + bytes.len(), buffer);
-    put(&mut new, off, bytes);
-    store.swap_content(file, new);
+    let mut content = taken_out(store, file, off + bytes.len(), buffer);
+    put_over(&mut content, off, bytes);
+    store.swap_content(file, content);
 }
 
 /// Cuts the bytes of a file to a size, or adds zeros up to it.
@@ -64,9 +81,9 @@ fn resize(store: &mut Store, file: NodeNo, size: usize, buffer: ByteRoom)
     requires room { size ≤ buffer }
     ensures { seen store.new ≡ record (seen store.old) { graph = content_in file (resized (bytes_of (shape store.old file)) size) (graph_of store.old) } }
 {
-    let mut new = taken_out(store, file, size, buffer);
-    new.truncate(size);
-    store.swap_content(file, new);
+    let mut content = taken_out(store, file, size, buffer);
+    let _room_was_made = content.resize(size, 0);
+    store.swap_content(file, content);
 }
 
 /// Writes bytes into the file.
