@@ -105,14 +105,17 @@ pub enum Room {
     Lists(NameRoom, NameRoom),
 }
 
-/// Room for the new bytes of a file, unless they are too many.
+/// Room for the new bytes of a file, unless they are too many. A write behind the start of a file makes room for as many bytes
+/// again as stand before it, up to the limit: a file that grows piece by piece is copied a few times.
 fn content(alloc: Global, off: u64, count: u64) -> Result<Room, AllocError>
     ensures { IfOk result (FitsContent (off + count)) }
 {
     if off > FILE_LIMIT as u64 || count > FILE_LIMIT as u64 - off {
         return Ok(Room::Content(ByteRoom::new(alloc, 0)?));
     }
-    Ok(Room::Content(ByteRoom::new(alloc, (off + count) as usize)?))
+    let len = off + count;
+    let spare = off.min(FILE_LIMIT as u64 - len);
+    Ok(Room::Content(ByteRoom::new(alloc, (len + spare) as usize)?))
 }
 
 /// Room for two times as many bytes as a read may answer.
