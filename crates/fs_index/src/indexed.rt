@@ -76,6 +76,7 @@ impl IndexedTimeline {
     }
 
     /// Appends an entry in a reserved place, which takes no memory.
+    #[inline(always)]
     pub fn push(&mut self, entry: Entry)
         requires place { 0 < self.old.reserved }
         requires fits { Fits self.old.entries entry }
