@@ -1,5 +1,5 @@
 -- Names stand to each other as the numbers of their first bytes do, where these differ.
-use Rattle.std.proofs.Common.{◌≡◌, ℕ, zero, suc, ◌+◌, ◌*◌, ◌<◌, ◌≤◌, true, ◌&&◌, not, nat_le, IsTrue, List, [], ◌∷◌, length, get_or, refl, sym, ap, subst, ◌∙◌, arith, Ordering, Less, Equal, Greater}
+use Rattle.std.proofs.Common.{◌≡◌, ℕ, zero, suc, ◌+◌, ◌*◌, ◌<◌, ◌≤◌, true, ◌&&◌, not, nat_le, IsTrue, List, [], ◌∷◌, length, refl, sym, ap, subst, ◌∙◌, arith, Ordering, Less, Equal, Greater}
 use Rattle.std.specs.Ordering.{ordering_then, ordering_reverse}
 use Rattle.std.specs.Cmp.{nat_cmp_is}
 use Rattle.std.specs.List.{list_all}
@@ -8,7 +8,7 @@ use Rattle.fs_names.specs.Names.{Name, name_cmp, may_stand, is_dots, can_name}
 use Rattle.fs_names.specs.declared.limits.TheConstants.{NAME_LIMIT}
 use Rattle.fs_names.proofs.Lemmas.{name_total}
 use Rattle.fs_nodes.proofs.PlaceLemmas.{both_true}
-use Rattle.fs_nodes.specs.code.Heads.{first, rest, byte_at, number_with, AreBytes, IsHead}
+use Rattle.fs_nodes.specs.code.Heads.{first, rest, number_with, AreBytes, IsHead}
 
 -- how two numbers stand to each other
 data Holdings (x y : ℕ) : Type 0 where
@@ -59,19 +59,6 @@ head_less a b x y i j h = lesser 8 0 x y j.bytes (subst (λ (z : ℕ). z < numbe
 -- and the other way round
 pub head_greater : (a b : ℕ) (x y : Name) → IsHead a x → IsHead b y → b < a → name_cmp x y ≡ Greater
 head_greater a b x y i j h = name_total.antisymm x y ∙ ap ordering_reverse (head_less b a y x j i h)
-
--- a byte that the code reads
-pub byte_there : (i : ℕ) (bytes : List ℕ) (d : ℕ) → i < length bytes → get_or bytes i d ≡ byte_at i bytes
-byte_there i [] d h = absurd (omega arith)
-byte_there zero (x ∷ bytes) d h = refl
-byte_there (suc i) (x ∷ bytes) d h = byte_there i bytes d (omega arith)
-
--- and one behind the last
-pub byte_past : (i : ℕ) (bytes : List ℕ) → length bytes ≤ i → 0 ≡ byte_at i bytes
-byte_past zero [] h = refl
-byte_past zero (x ∷ bytes) h = absurd (omega arith)
-byte_past (suc i) [] h = byte_past i [] (omega arith)
-byte_past (suc i) (x ∷ bytes) h = byte_past i bytes (omega arith)
 
 -- a byte that may stand in a name is not zero
 not_zero : (b : ℕ) (bs : List ℕ) → list_all may_stand (b ∷ bs) ≡ true → (0 < b) × (list_all may_stand bs ≡ true)

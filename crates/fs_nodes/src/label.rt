@@ -1,9 +1,9 @@
 //! The name of an entry, with its first bytes as one number.
 
-ghost use Rattle.std.specs.Prelude.{◌≡◌, ◌<◌, Some};
+ghost use Rattle.std.specs.Prelude.{◌≡◌, Some};
 ghost use Rattle.fs_names.specs.Names.{name_cmp};
 ghost use Rattle.fs_nodes.specs.Stores.{is_above};
-ghost use Rattle.fs_nodes.specs.code.Heads.{byte_at, IsHead};
+ghost use Rattle.fs_nodes.specs.code.Heads.{IsHead};
 
 use fs_names::Name;
 use std::cmp::Ordering;
@@ -30,30 +30,21 @@ impl Model for Label {
     ghost invariant = { λ l. IsHead l.head l.name };
 }
 
-/// The byte at an index, zero behind the last one.
-fn byte(bytes: &[u8], index: usize) -> u64
-    ensures byte { result ≡ byte_at index bytes.now }
-    ensures most { result < 256 }
-{
-    if index < bytes.len() {
-        bytes[index] as u64
-    } else {
-        0
-    }
-}
-
-/// The first eight bytes as one number, the first one above all others.
+/// The first eight bytes as one number, the first one above all others, with zeros behind the last one.
 pub fn head(bytes: &[u8]) -> u64
     ensures { IsHead result bytes.now }
 {
-    let word = byte(bytes, 0);
-    let word = word * 256 + byte(bytes, 1);
-    let word = word * 256 + byte(bytes, 2);
-    let word = word * 256 + byte(bytes, 3);
-    let word = word * 256 + byte(bytes, 4);
-    let word = word * 256 + byte(bytes, 5);
-    let word = word * 256 + byte(bytes, 6);
-    word * 256 + byte(bytes, 7)
+    match bytes {
+        [] => 0,
+        [a] => u64::from_be_bytes([*a, 0, 0, 0, 0, 0, 0, 0]),
+        [a, b] => u64::from_be_bytes([*a, *b, 0, 0, 0, 0, 0, 0]),
+        [a, b, c] => u64::from_be_bytes([*a, *b, *c, 0, 0, 0, 0, 0]),
+        [a, b, c, d] => u64::from_be_bytes([*a, *b, *c, *d, 0, 0, 0, 0]),
+        [a, b, c, d, e] => u64::from_be_bytes([*a, *b, *c, *d, *e, 0, 0, 0]),
+        [a, b, c, d, e, f] => u64::from_be_bytes([*a, *b, *c, *d, *e, *f, 0, 0]),
+        [a, b, c, d, e, f, g] => u64::from_be_bytes([*a, *b, *c, *d, *e, *f, *g, 0]),
+        [a, b, c, d, e, f, g, h, ..] => u64::from_be_bytes([*a, *b, *c, *d, *e, *f, *g, *h]),
+    }
 }
 
 impl Label {
