@@ -1,21 +1,29 @@
 -- Drawn seats, one word after the other.
-use Rattle.std.proofs.Common.{◌≡◌, ℕ, suc, ◌<◌, ◌%◌, ◌∷◌, List, get_or, refl, sym, ap, ◌∙◌, subst}
-use Rattle.std.proofs.Math.Nat.{mod-lt}
+use Rattle.std.proofs.Common.{◌≡◌, ℕ, zero, suc, ◌+◌, ◌-◌, ◌<◌, ◌%◌, [], ◌∷◌, refl, sym, ap, ap₂, ◌∙◌}
 use Rattle.rand_core.specs.Steps.{first_words}
 use Rattle.rand_pcg.specs.Lcg.{Lcg}
 use Rattle.rand_pcg.specs.Pcg.{pcg32}
 use Rattle.fs_sched.specs.Schedules.{seats_from}
+use Rattle.fs_sched.specs.declared.schedule.TheConstants.{DRAW_LIMIT}
+use Rattle.fs_sched.specs.declared.seats.SeatsAhead.{SeatsAhead}
+use Rattle.fs_sched.specs.code.Ahead.{upcoming}
+use Rattle.fs_sched.proofs.Staging.{one_less}
 
 pub seats_next : (t w : ℕ) (g h : Lcg) → ◌≡◌ {A = ℕ × Lcg} (w, h) (pcg32 g) → (k : ℕ) → seats_from t (suc k) g ≡ (w % t) ∷ seats_from t k h
 unfolding seats_from first_words
 seats_next t w g h e k = ap (λ (p : ℕ × Lcg). (p.0 % t) ∷ seats_from t k p.1) (sym e)
 
-first_of : (t : ℕ) (g : Lcg) → get_or (seats_from t 1 g) 0 0 ≡ (pcg32 g).0 % t
+no_draws : (n : ℕ) (g : Lcg) → seats_from n 0 g ≡ []
 unfolding seats_from first_words
-first_of t g = refl
+no_draws n g = refl
 
--- a drawn seat is that of a thread
-pub drawn_there : (threads seat : ℕ) (g h : Lcg) → 0 < threads → ((k : ℕ) → seats_from threads (suc k) g ≡ seat ∷ seats_from threads k h) → seat < threads
-drawn_there threads seat g h some next =
-    let e : (pcg32 g).0 % threads ≡ seat = sym (first_of threads g) ∙ ap (λ (seats : List ℕ). get_or seats 0 0) (next 0) in
-    subst (λ (s : ℕ). s < threads) e (mod-lt (pcg32 g).0 some)
+-- the seat ahead is the first of the seats from the generator that it was drawn from
+pub upcoming_after : (g : Lcg) (seats : SeatsAhead) → ((k : ℕ) → seats_from seats.threads.number (suc k) g ≡ seats.ahead ∷ seats_from seats.threads.number k seats.draws) → (k : ℕ) → upcoming k seats ≡ seats_from seats.threads.number k g
+upcoming_after g seats next zero = sym (no_draws seats.threads.number g)
+upcoming_after g seats next (suc k) = sym (next k)
+
+pub upcoming_from : (threads : ℕ) (g : Lcg) (seats : SeatsAhead) → seats.threads.number ≡ threads → (first : Lcg) → first ≡ g → ((k : ℕ) → seats_from seats.threads.number (suc k) first ≡ seats.ahead ∷ seats_from seats.threads.number k seats.draws) → (k : ℕ) → upcoming k seats ≡ seats_from threads k g
+upcoming_from threads g seats e first is next k = upcoming_after first seats next k ∙ ap₂ (λ (t : ℕ) (h : Lcg). seats_from t k h) e is
+
+pub upcoming_more : (i seat : ℕ) (old new : SeatsAhead) → i < DRAW_LIMIT → ((k : ℕ) → upcoming (suc k) old ≡ seat ∷ upcoming k new) → upcoming (DRAW_LIMIT - i) old ≡ seat ∷ upcoming (DRAW_LIMIT - (i + 1)) new
+upcoming_more i seat old new less next = ap (λ (k : ℕ). upcoming k old) (one_less DRAW_LIMIT i less) ∙ next (DRAW_LIMIT - (i + 1))

@@ -1,6 +1,7 @@
 pub mod KnownLemmas
 pub mod CheckLemmas
 pub mod DrawLemmas
+pub mod DivisionLemmas
 pub mod RunTextLemmas
 pub mod Rounds
 pub mod Staging

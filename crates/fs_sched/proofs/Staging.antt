@@ -10,10 +10,7 @@ use Rattle.fs_core.specs.declared.seat.Running.{Running}
 use Rattle.fs_core.specs.CoreValues.{number_of, number_on}
 use Rattle.fs_script.specs.declared.script.Word.{Word}
 use Rattle.fs_sched.specs.Runs.{Stage, next_call, Event, Spent, Events, IsOver, IsUnfinished, ToEnd, More, Round}
-use Rattle.rand_core.specs.Steps.{first_words}
-use Rattle.rand_pcg.specs.Lcg.{Lcg}
-use Rattle.fs_sched.specs.Schedules.{word_seats, given_seats, seats_from}
-use Rattle.fs_sched.specs.declared.schedule.TheConstants.{DRAW_LIMIT}
+use Rattle.fs_sched.specs.Schedules.{word_seats, given_seats}
 use Rattle.fs_sched.specs.code.Stages.{stage_of, IsSeated}
 use Rattle.fs_sched.specs.declared.play.Play.{Play}
 use Rattle.fs_sched.proofs.Rounds.{AreSeats}
@@ -52,18 +49,6 @@ range_end n i h = let e : n - i ≡ 0 = omega (arith, h) in ap (range_with_len i
 
 pub lead_word : (lists : List (List Call)) (old now new : Stage) (words : List Word) (i : ℕ) (d : Word) → Events lists now (word_seats (get_or words i d)) new → i < length words → Leads lists old (given_seats words) now (given_seats (drop i words)) → Leads lists old (given_seats words) new (given_seats (drop (i + 1) words))
 lead_word lists old now new words i d events less lead = lead_many lists old now new (given_seats words) (given_seats (drop i words)) (given_seats (drop (i + 1) words)) (word_seats (get_or words i d)) (at_drop_more given_seats words i d less) lead events
-
-pub draws_more : (threads n i seat : ℕ) (g h : Lcg) → threads ≡ n → i < DRAW_LIMIT → ((k : ℕ) → seats_from threads (suc k) g ≡ seat ∷ seats_from threads k h) → seats_from n (DRAW_LIMIT - i) g ≡ seat ∷ seats_from n (DRAW_LIMIT - (i + 1)) h
-draws_more threads n i seat g h e less f =
-    ap (λ (j : ℕ). seats_from n j g) (one_less DRAW_LIMIT i less)
-    ∙ subst (λ (t : ℕ). seats_from t (suc (DRAW_LIMIT - (i + 1))) g ≡ seat ∷ seats_from t (DRAW_LIMIT - (i + 1)) h) e (f (DRAW_LIMIT - (i + 1)))
-
-no_draws : (n : ℕ) (g : Lcg) → seats_from n 0 g ≡ []
-unfolding seats_from first_words
-no_draws n g = refl
-
-pub draws_end : (n i : ℕ) (g : Lcg) → DRAW_LIMIT ≤ i → seats_from n (DRAW_LIMIT - i) g ≡ []
-draws_end n i g more = let e : DRAW_LIMIT - i ≡ 0 = omega (arith, more) in ap (λ (j : ℕ). seats_from n j g) e ∙ no_draws n g
 
 -- ---- threads with nothing to do
 

@@ -19,6 +19,7 @@ mod play;
 mod run_texts;
 mod running;
 mod schedule;
+mod seats;
 mod seeding;
 mod sink;
 mod source;

@@ -11,7 +11,8 @@ ghost use Rattle.fs_sched.specs.Schedules.{word_seats, given_seats, drawn_seats,
 ghost use Rattle.fs_sched.specs.code.Stages.{stage_of, IsSeated, IsMarked, AreOver, IsRefusal};
 
 use crate::fault::RunFault;
-use crate::schedule::{DRAW_LIMIT, Draws, Schedule};
+use crate::schedule::{DRAW_LIMIT, Schedule};
+use crate::seats::SeatsAhead;
 use fs_calls::Call;
 use fs_core::{Core, Refusal, Stepped};
 use fs_names::SeatNo;
@@ -271,15 +272,18 @@ impl Play {
         ensures full { IsErrOf result RunFault.Full → Stops lists.now (stage_of self.old) (drawn_seats seed (length lists.now) DRAW_LIMIT) }
     {
         let threads = self.begun.len();
-        let mut draws = Draws::new(seed);
         let mut first = self.first_left(lists, 0);
+        if first >= threads {
+            return Ok(());
+        }
+        let mut seats = SeatsAhead::new(seed, threads);
         for _ in 0..DRAW_LIMIT {
+            let seat = seats.next_seat();
+            self.event(alloc, lists, seat)?;
+            first = self.first_after(lists, first, seat);
             if first >= threads {
                 return Ok(());
             }
-            let seat = draws.seat(threads);
-            self.event(alloc, lists, seat)?;
-            first = self.first_after(lists, first, seat);
         }
         Ok(())
     }

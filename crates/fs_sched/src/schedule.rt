@@ -4,6 +4,7 @@ ghost use Rattle.std.specs.Prelude.{◌≡◌, ◌<◌, ◌∷◌, ℕ, suc};
 ghost use Rattle.std.specs.List.{list_any};
 ghost use Rattle.fs_sched.specs.Schedules.{generator_of, seats_from, is_finish, goes_on};
 
+use crate::seats::Divisor;
 use fs_script::Word;
 use rand_core::SeedableRng;
 use rand_core::utils::NextWord;
@@ -82,5 +83,14 @@ impl Draws {
     {
         let word = self.generator.next_word() as usize;
         word % threads
+    }
+
+    /// The same, of as many threads as the divisor says.
+    #[inline]
+    pub(crate) fn seat_by(&mut self, threads: &Divisor) -> usize
+        ensures seats { (k : ℕ) → seats_from threads.now.number (suc k) self.old ≡ result ∷ seats_from threads.now.number k self.new }
+        ensures there { result < threads.now.number }
+    {
+        threads.rest(self.generator.next_word())
     }
 }

@@ -1,48 +1,38 @@
-use Rattle.std.proofs.Common.{◌≡◌, ◌<◌, Err, length, ap, rules, arith}
+use Rattle.std.proofs.Common.{◌≡◌, Err, ap, ◌∙◌, rules, arith}
 use Rattle.fs_sched.specs.code.Stages.{stage_of}
-use Rattle.fs_sched.proofs.Staging.{lead_more, lead_end, draws_more, draws_end, over_stays}
-use Rattle.fs_sched.proofs.DrawLemmas.{drawn_there}
-use Rattle.fs_sched.proofs.OverLemmas.{event_over}
-use Rattle.fs_sched.proofs.Stopping.{stop_more, stop_here}
 use Rattle.fs_sched.specs.declared.fault.RunFault.TheVariants.{Full}
+use Rattle.fs_sched.proofs.DrawLemmas.{upcoming_more}
+use Rattle.fs_sched.proofs.OverLemmas.{event_over}
+use Rattle.fs_sched.proofs.Staging.{lead_more, over_stays}
+use Rattle.fs_sched.proofs.Stopping.{stop_more, stop_here}
 use Rattle.fs_sched.proofs.play.Play.drawn.Goals as goal
 
 pub returns-then-first-threads-clause-events : goal.returns-then-first-threads-clause-events
-returns-then-first-threads-clause-events c = c.loop.invariant.lead (stage_of c.loop.self) (over_stays c.args.lists.now c.loop.self c.loop.invariant.seats.seated (λ seat less. c.loop.invariant.over seat (omega arith)) _)
-
-pub event-requires-clause-seat : goal.event-requires-clause-seat
-event-requires-clause-seat c =
-    let h : length c.args.self.now.begun.items ≡ length c.args.lists.now = c.requires.seated.begun in
-    let e : c.len-threads.result ≡ length c.args.lists.now = omega (arith, h) in
-    let some : 0 < c.len-threads.result = omega arith in
-    let less : c.seat-seat.result < c.len-threads.result = drawn_there c.len-threads.result c.seat-seat.result c.loop.draws c.seat-seat.new.self some c.seat-seat.ensures in
-    omega (arith, e, less)
+returns-then-first-threads-clause-events c = over_stays c.args.lists.now c.args.self.now c.requires.seated (λ seat less. c.first_left-first.ensures.over seat (omega (arith, c.requires.seated.begun))) _
 
 pub first_after-first-requires-clause-over : goal.first_after-first-requires-clause-over
-first_after-first-requires-clause-over c k less = event_over c.args.lists.now (stage_of c.loop.self) (stage_of c.event.new.self) c.seat-seat.result k c.in_ok-event.ensures.event (c.loop.invariant.over k less)
+first_after-first-requires-clause-over c k less = event_over c.args.lists.now (stage_of c.loop.self) (stage_of c.event.new.self) c.next_seat-seat.result k c.in_ok-event.ensures.event (c.loop.invariant.over k less)
 
-pub loop-preserved : goal.loop-preserved
-loop-preserved c =
-    let h : length c.args.self.now.begun.items ≡ length c.args.lists.now = c.requires.seated.begun in
-    let e : c.len-threads.result ≡ length c.args.lists.now = omega (arith, h) in
-    record {
-      over = c.first_after-first.ensures.over;
-      seats = c.in_ok-event.ensures.seats;
-      stop = stop_more c.args.lists.now (stage_of c.args.self.now) (stage_of c.loop.self) (stage_of c.event.new.self) _ _ _ c.seat-seat.result
-          (draws_more c.len-threads.result (length c.args.lists.now) c.loop.counter c.seat-seat.result c.loop.draws c.seat-seat.new.self e c.loop-test.true c.seat-seat.ensures)
-          c.loop.invariant.stop c.in_ok-event.ensures.event;
-      lead = lead_more c.args.lists.now (stage_of c.args.self.now) (stage_of c.loop.self) (stage_of c.event.new.self) _ _ _ c.seat-seat.result
-          (draws_more c.len-threads.result (length c.args.lists.now) c.loop.counter c.seat-seat.result c.loop.draws c.seat-seat.new.self e c.loop-test.true c.seat-seat.ensures)
-          c.loop.invariant.lead c.in_ok-event.ensures.event;
-    }
-
-pub returns-clause-events : goal.returns-clause-events
-returns-clause-events c = lead_end c.args.lists.now (stage_of c.args.self.now) (stage_of c.loop.self) _ _ (draws_end (length c.args.lists.now) c.loop.counter c.loop.draws c.loop-test.false) c.loop.invariant.lead
+pub returns-then-first-threads-2-clause-events : goal.returns-then-first-threads-2-clause-events
+returns-then-first-threads-2-clause-events c =
+    lead_more c.args.lists.now (stage_of c.args.self.now) (stage_of c.loop.self) (stage_of c.event.new.self) _ _ _ c.next_seat-seat.result
+    (upcoming_more c.loop.counter c.next_seat-seat.result c.loop.seats c.next_seat-seat.new.self c.loop-test.true c.next_seat-seat.ensures.seats)
+    c.loop.invariant.lead c.in_ok-event.ensures.event (stage_of c.event.new.self)
+    (over_stays c.args.lists.now c.event.new.self c.in_ok-event.ensures.seats.seated (λ seat less. c.first_after-first.ensures.over seat (omega (arith, c.requires.seated.begun))) _)
 
 pub returns-in_err-event-clause-full : goal.returns-in_err-event-clause-full
 returns-in_err-event-clause-full c f =
-    let h : length c.args.self.now.begun.items ≡ length c.args.lists.now = c.requires.seated.begun in
-    let e : c.len-threads.result ≡ length c.args.lists.now = omega (arith, h) in
-    stop_here c.args.lists.now (stage_of c.args.self.now) (stage_of c.loop.self) _ _ _ c.seat-seat.result
-    (draws_more c.len-threads.result (length c.args.lists.now) c.loop.counter c.seat-seat.result c.loop.draws c.seat-seat.new.self e c.loop-test.true c.seat-seat.ensures)
+    stop_here c.args.lists.now (stage_of c.args.self.now) (stage_of c.loop.self) _ _ _ c.next_seat-seat.result
+    (upcoming_more c.loop.counter c.next_seat-seat.result c.loop.seats c.next_seat-seat.new.self c.loop-test.true c.next_seat-seat.ensures.seats)
     c.loop.invariant.stop (c.in_err-event.ensures.full (let k : c.in_err-event.field-0.0 ≡ Full = search rules in ap Err k))
+
+pub loop-preserved : goal.loop-preserved
+loop-preserved c =
+    let next = upcoming_more c.loop.counter c.next_seat-seat.result c.loop.seats c.next_seat-seat.new.self c.loop-test.true c.next_seat-seat.ensures.seats in
+    record {
+      threads = c.next_seat-seat.ensures.threads ∙ c.loop.invariant.threads;
+      over = c.first_after-first.ensures.over;
+      marked = c.in_ok-event.ensures.seats;
+      stop = stop_more c.args.lists.now (stage_of c.args.self.now) (stage_of c.loop.self) (stage_of c.event.new.self) _ _ _ c.next_seat-seat.result next c.loop.invariant.stop c.in_ok-event.ensures.event;
+      lead = lead_more c.args.lists.now (stage_of c.args.self.now) (stage_of c.loop.self) (stage_of c.event.new.self) _ _ _ c.next_seat-seat.result next c.loop.invariant.lead c.in_ok-event.ensures.event;
+    }

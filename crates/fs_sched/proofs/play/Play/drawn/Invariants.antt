@@ -1,6 +1,7 @@
-use Rattle.std.proofs.Common.{◌-◌, length}
-use Rattle.fs_sched.specs.Schedules.{drawn_seats, seats_from}
+use Rattle.std.proofs.Common.{◌≡◌, ◌-◌, length}
+use Rattle.fs_sched.specs.Schedules.{drawn_seats}
 use Rattle.fs_sched.specs.declared.schedule.TheConstants.{DRAW_LIMIT}
+use Rattle.fs_sched.specs.code.Ahead.{upcoming}
 use Rattle.fs_sched.specs.code.Stages.{stage_of, IsMarked, AreOver}
 use Rattle.fs_sched.proofs.Staging.{Leads}
 use Rattle.fs_sched.proofs.Stopping.{LeadsToStop}
@@ -9,8 +10,9 @@ use Rattle.fs_sched.proofs.play.Play.drawn.Given as goal
 -- what is done and what is left is all
 abbrev pub invariant-loop : goal.invariant-loop
 invariant-loop l = record {
+  threads : l.seats.threads.number ≡ length l.lists;
   over : AreOver l.lists (stage_of l.self) l.first;
-  seats : IsMarked l.lists l.self;
-  stop : LeadsToStop l.lists (stage_of l.fn.self) (drawn_seats l.seed (length l.lists) DRAW_LIMIT) (stage_of l.self) (seats_from (length l.lists) (DRAW_LIMIT - l.counter) l.draws);
-  lead : Leads l.lists (stage_of l.fn.self) (drawn_seats l.seed (length l.lists) DRAW_LIMIT) (stage_of l.self) (seats_from (length l.lists) (DRAW_LIMIT - l.counter) l.draws);
+  marked : IsMarked l.lists l.self;
+  stop : LeadsToStop l.lists (stage_of l.fn.self) (drawn_seats l.seed (length l.lists) DRAW_LIMIT) (stage_of l.self) (upcoming (DRAW_LIMIT - l.counter) l.seats);
+  lead : Leads l.lists (stage_of l.fn.self) (drawn_seats l.seed (length l.lists) DRAW_LIMIT) (stage_of l.self) (upcoming (DRAW_LIMIT - l.counter) l.seats);
 }
