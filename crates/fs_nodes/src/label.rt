@@ -1,6 +1,6 @@
 //! The name of an entry, with its first bytes as one number.
 
-ghost use Rattle.std.specs.Prelude.{◌≡◌, Some};
+ghost use Rattle.std.specs.Prelude.{◌≡◌, ◌≤◌, Some, length, take};
 ghost use Rattle.fs_names.specs.Names.{name_cmp};
 ghost use Rattle.fs_nodes.specs.Stores.{is_above};
 ghost use Rattle.fs_nodes.specs.code.Heads.{IsHead};
@@ -30,10 +30,23 @@ impl Model for Label {
     ghost invariant = { λ l. IsHead l.head l.name };
 }
 
+/// The first eight of at least so many bytes as one number, the first one above all others.
+fn word(bytes: &[u8]) -> u64
+    requires { WIDTH ≤ length bytes.now }
+    ensures { IsHead result bytes.now }
+{
+    u64::from_be_bytes([
+        bytes[0], bytes[1], bytes[2], bytes[3], bytes[4], bytes[5], bytes[6], bytes[7],
+    ])
+}
+
 /// The first eight bytes as one number, the first one above all others, with zeros behind the last one.
 pub fn head(bytes: &[u8]) -> u64
     ensures { IsHead result bytes.now }
 {
+    if bytes.len() >= WIDTH {
+        return word(bytes);
+    }
     match bytes {
         [] => 0,
         [a] => u64::from_be_bytes([*a, 0, 0, 0, 0, 0, 0, 0]),
@@ -42,9 +55,34 @@ pub fn head(bytes: &[u8]) -> u64
         [a, b, c, d] => u64::from_be_bytes([*a, *b, *c, *d, 0, 0, 0, 0]),
         [a, b, c, d, e] => u64::from_be_bytes([*a, *b, *c, *d, *e, 0, 0, 0]),
         [a, b, c, d, e, f] => u64::from_be_bytes([*a, *b, *c, *d, *e, *f, 0, 0]),
-        [a, b, c, d, e, f, g] => u64::from_be_bytes([*a, *b, *c, *d, *e, *f, *g, 0]),
-        [a, b, c, d, e, f, g, h, ..] => u64::from_be_bytes([*a, *b, *c, *d, *e, *f, *g, *h]),
+        [a, b, c, d, e, f, g, ..] => u64::from_be_bytes([*a, *b, *c, *d, *e, *f, *g, 0]),
     }
+}
+
+/// How two names stand to each other that have the same first eight bytes. The others are compared eight at a time, and at
+/// the end of the shorter name some that are the same once more.
+#[inline(never)]
+fn cmp_behind(name: &Name, other: &Name) -> Ordering
+    requires { take WIDTH name.now ≡ take WIDTH other.now }
+    ensures { result ≡ name_cmp name.now other.now }
+{
+    let bytes = name.bytes();
+    let others = other.bytes();
+    let len = bytes.len().min(others.len());
+    let mut same = WIDTH;
+    while same < len {
+        let start = same.min(len - WIDTH);
+        let own_word = word(&bytes[start..]);
+        let others_word = word(&others[start..]);
+        if own_word < others_word {
+            return Ordering::Less;
+        }
+        if others_word < own_word {
+            return Ordering::Greater;
+        }
+        same = start + WIDTH;
+    }
+    bytes.len().cmp(&others.len())
 }
 
 impl Label {
@@ -89,7 +127,7 @@ impl Label {
         if bytes.len() <= WIDTH && others.len() <= WIDTH {
             return Ordering::Equal;
         }
-        self.name.cmp(name)
+        cmp_behind(&self.name, name)
     }
 
     /// Whether it comes after another one.
