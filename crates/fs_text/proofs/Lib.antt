@@ -9,4 +9,5 @@ pub mod DecimalLemmas
 pub mod DigitLemmas
 pub mod SpellLemmas
 pub mod PlainLemmas
+pub mod ScanLemmas
 pub mod FitLemmas

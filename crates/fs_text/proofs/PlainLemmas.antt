@@ -7,7 +7,7 @@ use Rattle.fs_text.specs.Words.{is_escaped, escaped}
 use Rattle.fs_text.proofs.EscapeLemmas.{escaped_plain}
 
 -- what stands behind a place, up to the end
-to_end : (from : ℕ) (text : List ℕ) → take (length text - from) (drop from text) ≡ drop from text
+pub to_end : (from : ℕ) (text : List ℕ) → take (length text - from) (drop from text) ≡ drop from text
 to_end from text = ap (λ n. take n (drop from text)) (sym (length-drop from text)) ∙ take-length (drop from text)
 
 -- what stands behind a text

@@ -2,3 +2,4 @@
 pub mod Answers
 pub mod Additions
 pub mod Forms
+pub mod Marks

@@ -22,6 +22,7 @@ pub mod limits;
 pub mod lines;
 pub mod recent;
 mod replies;
+mod scan;
 mod telling;
 pub mod words;
 mod writing;

@@ -1,12 +1,14 @@
 //! Lines of a text, and words of a line.
 
-ghost use Rattle.std.specs.Prelude.{◌≡◌, ◌<◌, ◌++◌, ◌∷◌, [], length, map, position, MatchOption, MatchResult};
+ghost use Rattle.std.specs.Prelude.{◌≡◌, ◌<◌, ◌≤◌, ◌++◌, ◌∷◌, [], length, map, position, MatchOption, MatchResult};
+ghost use Rattle.memchr.specs.Find.{IsFirst, Passes};
 ghost use Rattle.fs_text.specs.Lines.{lines_of, is_line_feed, is_space, is_passed_over};
 ghost use Rattle.fs_text.specs.Journal.{words_of};
 ghost use Rattle.fs_text.specs.code.Answers.{Becomes, pushed_word};
 ghost use Rattle.fs_text.specs.declared.fault.FaultKind.TheVariants as kind;
 
 use crate::fault::FaultKind;
+use crate::scan::place_from;
 use crate::words::parts;
 use memchr::memchr;
 
@@ -40,10 +42,13 @@ pub fn is_passed_over(line: &[u8]) -> bool
     }
 }
 
-fn word_end(line: &[u8]) -> Option<usize>
-    ensures { result ≡ position is_space line.now }
+/// Where the word ends that begins at a place; none where it is the last.
+#[inline(always)]
+fn word_end(line: &[u8], start: usize) -> Option<usize>
+    requires { start ≤ length line.now }
+    ensures { IsFirst (Passes is_space line.now) start (length line.now) result }
 {
-    memchr(b' ', line)
+    place_from(b' ', line, start)
 }
 
 /// Adds an item. The only error is out of memory.
@@ -71,13 +76,12 @@ pub fn cut_words<'a>(line: &'a [u8], words: &mut Vec<&'a [u8]>) -> Result<(), Fa
     ensures { Becomes result (map (λ w. w.now) words.new.items) (words_of line.now) }
 {
     words.clear();
-    let mut rest = line;
-    'words: while let Some(at) = word_end(rest) {
-        let (word, more) = parts(rest, at);
-        if let Err(kind) = push_word(words, word) {
+    let mut start = 0;
+    'words: while let Some(end) = word_end(line, start) {
+        if let Err(kind) = push_word(words, &line[start..end]) {
             return Err(kind);
         }
-        rest = more;
+        start = end + 1;
     }
-    push_word(words, rest)
+    push_word(words, &line[start..])
 }

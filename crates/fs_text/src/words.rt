@@ -17,10 +17,10 @@ ghost use Rattle.fs_text.specs.code.Answers.{Gives, hex_fault_of, path_fault_of}
 use crate::digits::{are_digits, write_bytes};
 use crate::fault::FaultKind;
 use crate::recent::Recent;
+use crate::scan::place_from;
 use fs_calls::Bytes;
 use fs_names::{Name, Path, PathFault};
 use hex::FromHexError;
-use memchr::memchr;
 use percent_encoding::percent_decode;
 use std::alloc::Global;
 
@@ -141,7 +141,7 @@ fn path_fault(fault: PathFault) -> FaultKind
 fn is_unescaped(word: &[u8]) -> bool
     ensures { IsTrue result → percent_decode word.now ≡ word.now }
 {
-    memchr(b'%', word).is_none()
+    place_from(b'%', word, 0).is_none()
 }
 
 fn read_path(alloc: Global, bytes: &[u8]) -> Result<Path, FaultKind>

@@ -1,0 +1,62 @@
+//! Where a byte stands in a short text, a block of bytes at a time.
+
+ghost use Rattle.std.specs.Prelude.{◌≤◌, length, take};
+ghost use Rattle.memchr.specs.Find.{IsFirst, Passes, is_byte};
+ghost use Rattle.fs_text.specs.code.Marks.{MarksByte};
+
+use std::simd::prelude::*;
+
+/// How many bytes are looked at at once.
+const BLOCK: usize = 16;
+
+/// Where the byte stands in the first block, a bit for each place.
+#[inline(always)]
+fn marks_of(byte: u8, text: &[u8]) -> u64
+    requires { BLOCK ≤ length text.now }
+    ensures { MarksByte byte (take BLOCK text.now) result }
+{
+    u8x16::from_slice(text)
+        .simd_eq(u8x16::splat(byte))
+        .to_bitmask()
+}
+
+/// Where the byte stands first from a place on, in a text of a block or more. The last block ends with the text, so some of
+/// its bytes may stand before that place.
+#[inline(always)]
+fn place_by_blocks(byte: u8, text: &[u8], start: usize) -> Option<usize>
+    requires long { BLOCK ≤ length text.now }
+    requires within { start ≤ length text.now }
+    ensures { IsFirst (Passes (is_byte byte) text.now) start (length text.now) result }
+{
+    let last = text.len() - BLOCK;
+    let mut from = start;
+    while from < last {
+        let marks = marks_of(byte, &text[from..]);
+        if marks != 0 {
+            return Some(from + marks.trailing_zeros() as usize);
+        }
+        from += BLOCK;
+    }
+    let rest = marks_of(byte, &text[last..]) >> (from - last);
+    if rest == 0 {
+        return None;
+    }
+    Some(from + rest.trailing_zeros() as usize)
+}
+
+/// Where the byte stands first from a place on.
+#[inline(always)]
+pub(crate) fn place_from(byte: u8, text: &[u8], start: usize) -> Option<usize>
+    requires { start ≤ length text.now }
+    ensures { IsFirst (Passes (is_byte byte) text.now) start (length text.now) result }
+{
+    if text.len() >= BLOCK {
+        return place_by_blocks(byte, text, start);
+    }
+    for at in start..text.len() {
+        if text[at] == byte {
+            return Some(at);
+        }
+    }
+    None
+}
