@@ -8,7 +8,7 @@ ghost use Rattle.fs_sched.specs.EachRun.{AreOfTheRun};
 ghost use Rattle.fs_sched.specs.declared.running.RunEnd.{RunEnd};
 ghost use Rattle.fs_embed.specs.Runs.{IsNoText, no_text};
 
-use fs_sched::{Device, RunFault, Schedule, check_journal, run_script};
+use fs_sched::{RunFault, Schedule, check_bytes, run_bytes};
 use fs_text::ScriptFault;
 use std::alloc::Global;
 
@@ -21,7 +21,7 @@ pub enum NoText {
     OutOfMemory,
 }
 
-/// The same of a runner's fault. A writer of bytes in memory fails where an allocation does, and a reader of bytes never.
+/// The same of a runner's fault. Bytes in memory are there to be read and written, so else an allocation failed.
 fn no_text(fault: RunFault) -> NoText
     ensures { result ≡ no_text fault }
 {
@@ -36,10 +36,8 @@ pub fn run_text(alloc: Global, script: &[u8], schedule: Schedule) -> Result<Vec<
     ensures ran { IfOk result (λ text. (end : RunEnd) × AreOfTheRun schedule script.now end text.items) }
     ensures fault { IfErr result (IsNoText (script_of script.now)) }
 {
-    let mut reader = Device::new(script);
-    let mut writer = Device::new(Vec::new(alloc));
-    match run_script(alloc, &mut reader, &mut writer, schedule) {
-        Ok(_) => Ok(writer.inner),
+    match run_bytes(alloc, script, schedule) {
+        Ok(text) => Ok(text),
         Err(fault) => Err(no_text(fault)),
     }
 }
@@ -49,10 +47,8 @@ pub fn check_text(alloc: Global, journal: &[u8]) -> Result<Vec<u8>, NoText>
     ensures judged { IfOk result (λ line. (v : Verdict) × (verdict_of journal.now ≡ Ok v) × (line.items ≡ verdict_line v)) }
     ensures fault { IfErr result (IsNoText (verdict_of journal.now)) }
 {
-    let mut reader = Device::new(journal);
-    let mut writer = Device::new(Vec::new(alloc));
-    match check_journal(alloc, &mut reader, &mut writer) {
-        Ok(_) => Ok(writer.inner),
+    match check_bytes(alloc, journal) {
+        Ok(line) => Ok(line),
         Err(fault) => Err(no_text(fault)),
     }
 }

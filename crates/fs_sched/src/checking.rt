@@ -2,6 +2,8 @@
 
 ghost use Rattle.std.specs.Prelude.{◌≡◌, ◌≢◌, ◌+◌, ◌-◌, ◌<◌, ◌^◌, ℕ, List, Ok, Err, IfOk, OnOk, OnErr, IfErr, IfSome, IsErrOf};
 ghost use Rattle.std.specs.Io.KnownBytes.{Appends, IsAtEnd};
+ghost use Rattle.fs_timeline.specs.Verdicts.{verdict};
+ghost use Rattle.fs_text.specs.Journal.{entries_of};
 ghost use Rattle.fs_text.specs.declared.fault.ScriptFault.{ScriptFault};
 ghost use Rattle.fs_sched.specs.Checks.{is_lawful, verdict_line, verdict_of};
 ghost use Rattle.fs_sched.specs.Devices.{IsFaultOf, WritesBeginningOf};
@@ -13,21 +15,50 @@ use crate::source::read_text;
 use crate::verdict_line::{is_lawful, verdict_line};
 use fs_journal::check;
 use fs_text::read_entries;
-use fs_timeline::Verdict;
+use fs_timeline::{Entry, Verdict};
 use std::alloc::Global;
+
+/// The entries of a journal text.
+fn entries_of(alloc: Global, text: &[u8]) -> Result<Vec<Entry>, RunFault>
+    ensures ok { IfOk result (λ entries. entries_of text.now ≡ Ok entries.items) }
+    ensures err { IfErr result (IsFaultOf (entries_of text.now)) }
+{
+    match read_entries(alloc, text) {
+        Ok(entries) => Ok(entries),
+        Err(fault) => Err(run_fault(fault)),
+    }
+}
+
+/// The verdict on entries.
+fn verdict_on(alloc: Global, entries: &[Entry]) -> Result<Verdict, RunFault>
+    ensures ok { IfOk result (λ v. v ≡ verdict entries.now) }
+    ensures err { IfErr result (λ fault. fault ≡ RunFault.OutOfMemory) }
+{
+    match check(alloc, entries) {
+        Ok(verdict) => Ok(verdict),
+        Err(_) => Err(RunFault::OutOfMemory),
+    }
+}
 
 /// The verdict on a journal text, which is let go once it is read.
 fn check_text(alloc: Global, text: Vec<u8>) -> Result<Verdict, RunFault>
     ensures ok { IfOk result (λ v. verdict_of text.items ≡ Ok v) }
     ensures err { IfErr result (IsFaultOf (verdict_of text.items)) }
 {
-    let entries = match read_entries(alloc, text.as_slice()) {
-        Ok(entries) => entries,
-        Err(fault) => return Err(run_fault(fault)),
-    };
+    let entries = entries_of(alloc, text.as_slice())?;
     drop(text);
-    match check(alloc, &entries) {
-        Ok(verdict) => Ok(verdict),
+    verdict_on(alloc, &entries)
+}
+
+/// The line of the verdict on a journal in memory, as `check_journal` writes it. The journal is read where it stands.
+pub fn check_bytes(alloc: Global, journal: &[u8]) -> Result<Vec<u8>, RunFault>
+    ensures line { IfOk result (λ line. (v : Verdict) × (verdict_of journal.now ≡ Ok v) × (line.items ≡ verdict_line v)) }
+    ensures fault { IfErr result (IsFaultOf (verdict_of journal.now)) }
+{
+    let entries = entries_of(alloc, journal)?;
+    let verdict = verdict_on(alloc, &entries)?;
+    match verdict_line(alloc, &verdict) {
+        Ok(line) => Ok(line),
         Err(_) => Err(RunFault::OutOfMemory),
     }
 }

@@ -25,11 +25,11 @@ mod sink;
 mod source;
 mod verdict_line;
 
-pub use checking::check_journal;
+pub use checking::{check_bytes, check_journal};
 pub use device::{Device, Failed, Sink, Source};
 pub use fault::{RunFault, run_fault};
 pub use run_texts::{EntryKind, number_of, run_text};
-pub use running::{RunEnd, run_script};
+pub use running::{RunEnd, run_bytes, run_script};
 pub use schedule::{DRAW_LIMIT, Draws, Schedule};
 pub use seeding::{RUN_LIMIT, SEED_LIMIT, run_seeds};
 pub use sink::write_text;

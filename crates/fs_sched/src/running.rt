@@ -5,7 +5,7 @@ ghost use Rattle.std.specs.Io.KnownBytes.{Appends, IsAtEnd};
 ghost use Rattle.fs_timeline.specs.declared.entry.Entry.{Entry};
 ghost use Rattle.fs_text.specs.declared.fault.ScriptFault.{ScriptFault};
 ghost use Rattle.fs_script.specs.Script.{script_of};
-ghost use Rattle.fs_sched.specs.Devices.{IsFaultOrRefusal, WritesBeginning};
+ghost use Rattle.fs_sched.specs.Devices.{IsFaultOf, IsFaultOrRefusal, WritesBeginning};
 ghost use Rattle.fs_sched.specs.Runs.{Runs, calls_in, end_of, IsOutput, IsRunOf, IsWhole, HasFinish, FillsUp, ReachesFull};
 ghost use Rattle.fs_sched.specs.EachRun.{AreOfTheRun, RunsAreReadAgain, EachIsReadAgain};
 ghost use Rattle.fs_sched.specs.code.Counts.{AreCounts};
@@ -116,6 +116,22 @@ fn text_of_script(alloc: Global, text: Vec<u8>, schedule: Schedule) -> Result<Ma
     };
     drop(text);
     make_text(alloc, script, schedule)
+}
+
+/// The text of a run of a script in memory, as `run_script` writes it. The script is read where it stands, and the text is
+/// handed out as it was made.
+pub fn run_bytes(alloc: Global, script: &[u8], schedule: Schedule) -> Result<Vec<u8>, RunFault>
+    ensures ran { IfOk result (λ text. (end : RunEnd) × AreOfTheRun schedule script.now end text.items) }
+    ensures fault { IfErr result (IsFaultOf (script_of script.now)) }
+{
+    let read = match read_script(alloc, script) {
+        Ok(read) => read,
+        Err(fault) => return Err(run_fault(fault)),
+    };
+    match make_text(alloc, read, schedule) {
+        Ok(made) => Ok(made.text),
+        Err(fault) => Err(fault),
+    }
 }
 
 /// Reads a script to its end, runs it by a schedule, and writes the text of the run, which is made before its first
