@@ -1,6 +1,6 @@
 //! Looking along the entries of one directory.
 
-ghost use Rattle.std.specs.Prelude.{◌≡◌, ◌≤◌, ◌<◌, ◌+◌, ◌-◌, length, Some, None, IfSome, slice_get, option_map};
+ghost use Rattle.std.specs.Prelude.{◌≡◌, ◌≤◌, ◌<◌, ◌+◌, ◌-◌, ◌*◌, length, Some, None, IfSome, slice_get, option_map};
 ghost use Rattle.std.specs.Option.{option_copied};
 ghost use Rattle.fs_names.specs.Shapes.{names_of};
 ghost use Rattle.fs_nodes.specs.Stores.{link_of, is_in, plain, next_entry, looked, IsNextName, IsUnlinked, IsEntryAfter, IsNameAfter};
@@ -92,25 +92,43 @@ fn leap(places: &[Place], dir: usize, at: usize, to: usize, first: u64, name: &N
     }
 }
 
-/// The node of an entry.
+/// The node of an entry, found by the ways ahead, and at how many places was looked: at those on the way, and at those where
+/// a way led.
+#[inline(always)]
+pub fn find_looks(places: &[Place], dir: usize, name: &Name) -> (Option<usize>, usize)
+    requires { IsPlaces places.now }
+    ensures child { result.0 ≡ (graph_of_places places.now).child dir name.now }
+    ensures looks { result.1 ≤ 2 * looked name.now (names_of ((graph_of_places places.now).shape dir)) }
+{
+    let start = head(name.bytes());
+    let mut looks = 0;
+    let mut next = first_of(places, dir);
+    while let Some(n) = next {
+        let place = &places[n];
+        looks += 1;
+        match place.name.cmp(start, name) {
+            Ordering::Less => match place.ahead.below(places.len()) {
+                Some(to) => {
+                    looks += 1;
+                    next = leap(places, dir, n, to, start, name).1.get();
+                }
+                None => next = place.next.get(),
+            },
+            Ordering::Equal => return (Some(n), looks),
+            Ordering::Greater => return (None, looks),
+        }
+    }
+    (None, looks)
+}
+
+/// The same, where the number is not asked for.
+// With its own copy of the walk, in which the compiler leaves the counting out.
+#[inline(never)]
 pub fn find(places: &[Place], dir: usize, name: &Name) -> Option<usize>
     requires { IsPlaces places.now }
     ensures { result ≡ (graph_of_places places.now).child dir name.now }
 {
-    let start = head(name.bytes());
-    let mut next = first_of(places, dir);
-    while let Some(n) = next {
-        let place = &places[n];
-        match place.name.cmp(start, name) {
-            Ordering::Less => match place.ahead.below(places.len()) {
-                Some(to) => next = leap(places, dir, n, to, start, name).1.get(),
-                None => next = place.next.get(),
-            },
-            Ordering::Equal => return Some(n),
-            Ordering::Greater => return None,
-        }
-    }
-    None
+    find_looks(places, dir, name).0
 }
 
 /// The siblings between which an entry of this name belongs, where there is none yet, and how the walk went.
