@@ -118,6 +118,14 @@ def files(count):
         yield from (f"mknod {path}", f"truncate {path} {FILE}")
 
 
+def cut(count):
+    """The calls that make so many full files, each of which is cut before the next one comes, and gets a byte again."""
+    for number in range(count):
+        folder, path = f"/{number // ENTRIES}", f"/{number // ENTRIES}/{number}"
+        yield from ([f"mkdir {folder}"] if number % ENTRIES == 0 else [])
+        yield from (f"mknod {path}", f"truncate {path} {FILE}", f"truncate {path} 0", f"write {path} 0 ff")
+
+
 def much():
     """Rows of runs that hold many replies, files and long paths."""
     for what, make, few in (("full reads", reads, 1_000), ("full files", files, 1_000), ("levels", deep, 5_000)):
@@ -229,6 +237,10 @@ class Limits(Case):
 
     def test_much_to_hold(self):
         self.each(much(), self.ends)
+
+    def test_room_of_cut_files(self):
+        """A file that was full does not hold on to that room once it is written again."""
+        self.each([("5000 files, cut and written", script(cut(5_000)), RUN, well(counts(sum(1 for _ in cut(5_000)))), ROOM)], self.ends)
 
     def test_more_than_there_is(self):
         self.each((

@@ -17,14 +17,16 @@ use fs_calls::{Errno, Reply};
 use fs_names::FILE_LIMIT;
 use fs_nodes::{NodeNo, Store};
 
-/// The bytes of a vector, in one that has room for so many: their own, or else the buffer.
+/// The bytes of a vector, in one that has room for so many: their own, or else the buffer. Where they become more, their own
+/// is kept only if half of its room is used then: a file that was longer once does not hold on to that room as it grows again.
 fn with_room(bytes: Vec<u8>, len: usize, buffer: Vec<u8>) -> Vec<u8>
     requires empty { buffer.items ≡ [] }
     requires room { len ≤ vec_capacity buffer }
     ensures bytes { result.items ≡ bytes.items }
     ensures room { len ≤ vec_capacity result }
 {
-    if len <= bytes.capacity() {
+    let own_room = bytes.capacity();
+    if len <= bytes.len() || (len <= own_room && own_room / 2 <= len) {
         return bytes;
     }
     let mut new = buffer;
