@@ -113,14 +113,9 @@ fn entries_in(alloc: Global, text: &[u8]) -> Result<Vec<Entry>, ScriptFault>
 {
     let mut entries = Vec::new(alloc);
     let mut words = Vec::new(alloc);
+    let mut recent = Recent::new(alloc);
     let mut rest = text;
     let mut number: u64 = 2;
-    let Ok(mut recent) = Recent::of_text(alloc, text.len()) else {
-        return Err(ScriptFault {
-            line: number,
-            kind: FaultKind::OutOfMemory,
-        });
-    };
     'lines: while let Some((line, more)) = cut_line(rest) {
         if is_passed_over(line) {
             rest = more;

@@ -6,10 +6,13 @@ ghost use Rattle.fs_text.specs.Calls.{path_at};
 use fs_names::Path;
 use std::alloc::{AllocError, Global};
 
-/// How many bytes of a text there are for each slot.
-const BYTES_A_SLOT: usize = 32;
+/// How many slots there are at first.
+const FIRST_SLOTS: usize = 256;
 
-/// How many slots there are at the most.
+/// How many times as many there are each time that half as many paths were kept as there are slots.
+const GROWTH: usize = 4;
+
+/// How many there are at the most.
 const MOST_SLOTS: usize = 8192;
 
 /// A word of a text, and the path that it is.
@@ -20,10 +23,14 @@ struct Known<'a> {
     ghost read: { path_at word.now ≡ Ok path },
 }
 
-/// Paths that were read, each in a slot that its word chooses. Of the words that choose the same slot the last one has it.
+/// Paths that were read, each in a slot that its word chooses. Of the words that choose the same slot the last one has it. There
+/// are no slots before a path is kept, so that a text that is refused early costs none.
 #[derive(Drop)]
 pub struct Recent<'a> {
     slots: Vec<Option<Known<'a>>>,
+    most: usize,
+    // How many more paths are kept before there are more slots.
+    left: usize,
 }
 
 /// A number with another one mixed in.
@@ -68,13 +75,23 @@ impl<'a> Recent<'a> {
     pub fn none(alloc: Global) -> Recent<'a> {
         Recent {
             slots: Vec::new(alloc),
+            most: 0,
+            left: 0,
         }
     }
 
-    /// Nothing was read yet of a text of so many bytes.
-    pub fn of_text(alloc: Global, len: usize) -> Result<Recent<'a>, AllocError> {
-        let slots = free_slots(alloc, MOST_SLOTS.min(len / BYTES_A_SLOT))?;
-        Ok(Recent { slots })
+    /// Nothing was read yet.
+    pub fn new(alloc: Global) -> Recent<'a> {
+        Recent {
+            slots: Vec::new(alloc),
+            most: MOST_SLOTS,
+            left: 0,
+        }
+    }
+
+    /// Whether paths are kept.
+    pub(crate) fn keeps(&self) -> bool {
+        self.most > 0
     }
 
     /// The slot that a word chooses, where there are any: as far along the slots as its number is along those of 32 bits, which
@@ -97,15 +114,50 @@ impl<'a> Recent<'a> {
         }
     }
 
-    /// Keeps the path of a word in a slot, where there is one.
-    pub(crate) fn keep(&mut self, alloc: Global, slot: usize, word: &'a [u8], path: &Path)
+    /// Puts a path into the slot that its word chooses.
+    fn put(&mut self, known: Known<'a>) {
+        let slot = self.slot_of(known.word);
+        if slot < self.slots.len() {
+            self.slots[slot] = Some(known);
+        }
+    }
+
+    /// More slots. What stands in those that there are moves to them.
+    #[cold]
+    fn grow(&mut self, alloc: Global) -> Result<(), AllocError> {
+        let count = self.slots.len().saturating_mul(GROWTH);
+        let count = count.max(FIRST_SLOTS).min(MOST_SLOTS);
+        let more = free_slots(alloc, count)?;
+        let old = std::mem::replace(&mut self.slots, more);
+        self.left = count.saturating_sub(old.len()) / 2;
+        for slot in old {
+            if let Some(known) = slot {
+                self.put(known);
+            }
+        }
+        Ok(())
+    }
+
+    /// Keeps the path of a word, which chose this slot. The only error is out of memory.
+    pub(crate) fn keep(
+        &mut self,
+        alloc: Global,
+        slot: usize,
+        word: &'a [u8],
+        path: &Path,
+    ) -> Result<(), AllocError>
         requires { path_at word.now ≡ Ok path.now }
     {
-        let Ok(path) = path.copy(alloc) else {
-            return;
-        };
+        let mut slot = slot;
+        if self.left == 0 && self.slots.len() < self.most {
+            self.grow(alloc)?;
+            slot = self.slot_of(word);
+        }
+        self.left = self.left.saturating_sub(1);
         if slot < self.slots.len() {
+            let path = path.copy(alloc)?;
             self.slots[slot] = Some(Known { word, path });
         }
+        Ok(())
     }
 }

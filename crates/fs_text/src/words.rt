@@ -174,6 +174,9 @@ pub(crate) fn path_with<'a>(
 ) -> Result<Path, FaultKind>
     ensures { Gives (λ path. path) result (path_at word.now) }
 {
+    if !recent.keeps() {
+        return path_at(alloc, word);
+    }
     let slot = recent.slot_of(word);
     if let Some(path) = recent.path_in(alloc, slot, word) {
         return Ok(path);
@@ -182,8 +185,10 @@ pub(crate) fn path_with<'a>(
         Ok(path) => path,
         Err(kind) => return Err(kind),
     };
-    recent.keep(alloc, slot, word, &path);
-    Ok(path)
+    match recent.keep(alloc, slot, word, &path) {
+        Ok(()) => Ok(path),
+        Err(_) => Err(FaultKind::OutOfMemory),
+    }
 }
 
 fn read_name(bytes: &[u8]) -> Result<Name, FaultKind>

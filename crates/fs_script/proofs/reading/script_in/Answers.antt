@@ -32,7 +32,7 @@ lines-preserved c =
     }
 
 pub returns-then-not-in_schedule : goal.returns-then-not-in_schedule
-returns-then-not-in_schedule c = lines_end _ c.lines.in_schedule c.lines.number c.lines.draft.script (lines_of c.lines.rest.now) c.lines.invariant.so_far c.in_default-cut_line.ensures c.if-not-in_schedule.true
+returns-then-not-in_schedule c = lines_end _ c.lines.in_schedule c.lines.number c.lines.draft.script (lines_of c.lines.rest.now) c.lines.invariant.so_far c.in_default.ensures c.if-not-in_schedule.true
 
 pub returns : goal.returns
-returns c = lines_done _ c.lines.in_schedule c.lines.number c.lines.draft.script (lines_of c.lines.rest.now) c.lines.invariant.so_far c.in_default-cut_line.ensures c.if-not-in_schedule.false
+returns c = lines_done _ c.lines.in_schedule c.lines.number c.lines.draft.script (lines_of c.lines.rest.now) c.lines.invariant.so_far c.in_default.ensures c.if-not-in_schedule.false

@@ -32,11 +32,11 @@ lines-preserved c =
     let cut = c.in-Some.ensures in
     let passed : is_passed_over c.in-Some.line.now ≡ false = sym c.is_passed_over.ensures ∙ c.if-is_passed_over.false in
     let tree : is_tree_line c.in-Some.line.now ≡ false = sym c.is_word.ensures ∙ c.if-is_word.false in
-    let grown = after_entry _ c.lines.entries.items c.lines.number (lines_of c.lines.rest.now) c.in-Some.line.now (lines_of c.in-Some.more.now) c.in-Ok-entry_in.entry c.lines.invariant.so_far cut.0 passed tree c.in-Ok-entry_in.ensures in
+    let grown = after_entry _ c.lines.entries.items c.lines.number (lines_of c.lines.rest.now) c.in-Some.line.now (lines_of c.in-Some.more.now) c.in-Ok.entry c.lines.invariant.so_far cut.0 passed tree c.in-Ok.ensures in
     record {
       so_far = rw (c.in_default-push_item.ensures) grown;
       numbered = omega (arith, cut.1);
     }
 
 pub returns : goal.returns
-returns c = after_all _ c.lines.entries.items c.lines.number (lines_of c.lines.rest.now) c.lines.invariant.so_far c.in_default-cut_line.ensures
+returns c = after_all _ c.lines.entries.items c.lines.number (lines_of c.lines.rest.now) c.lines.invariant.so_far c.in_default.ensures
