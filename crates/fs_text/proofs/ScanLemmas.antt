@@ -108,3 +108,45 @@ found_behind test start text (Some at) first =
       },
       ap test (get_or-drop start text (at - start) 0 ∙ ap (λ (n : ℕ). get_or text n 0) is) ∙ first.1,
     )
+
+-- what is found in what stands behind a place is found from the place on
+pub found_from : (test : ℕ → Bool) (from : ℕ) (text : List ℕ) (r : Option ℕ) → from ≤ length text → IsFirstByte test (drop from text) r → IsFirst (Passes test text) from (length text) (option_map (λ at. from + at) r)
+found_from test from text r within first = go r first
+  where
+    nowhere : (end : ℕ) → Nowhere (Passes test (drop from text)) 0 end → Nowhere (Passes test text) from (from + end)
+    nowhere end none k after less passes =
+        let is : from + (k - from) ≡ k = omega (arith, after) in
+        none (k - from) (omega arith) (omega (arith, less, after)) (ap test (get_or-drop from text (k - from) 0 ∙ ap (λ (n : ℕ). get_or text n 0) is) ∙ passes)
+
+    go : (r : Option ℕ) → IsFirstByte test (drop from text) r → IsFirst (Passes test text) from (length text) (option_map (λ at. from + at) r)
+    go None none = λ k after less passes. nowhere (length (drop from text)) none k after (omega (arith, length-drop from text, less, within)) passes
+    go (Some at) found = (
+      record {
+        low = omega arith;
+        high = omega (arith, length-drop from text, found.0.high);
+        before = nowhere at found.0.before;
+      },
+      ap test (sym (get_or-drop from text at 0)) ∙ found.1,
+    )
+
+-- and from an earlier place on, if it stands nowhere in between
+pub found_later : (P : ℕ → Type 0) (start from end : ℕ) (r : Option ℕ) → start ≤ from → Nowhere P start from → IsFirst P from end r → IsFirst P start end r
+found_later P start from end r low before first = go r first
+  where
+    nowhere : (high : ℕ) → Nowhere P from high → Nowhere P start high
+    nowhere high none k after less holds = at (ltb k from) refl
+      where
+        at : (b : Bool) → ltb k from ≡ b → ⊥
+        at true t = before k after (ltb-true _ _ t) holds
+        at false f = none k (ltb-false _ _ f) less holds
+
+    go : (r : Option ℕ) → IsFirst P from end r → IsFirst P start end r
+    go None none = nowhere end none
+    go (Some k) found = (
+      record {
+        low = omega (arith, low, found.0.low);
+        high = found.0.high;
+        before = nowhere k found.0.before;
+      },
+      found.1,
+    )

@@ -4,10 +4,14 @@ ghost use Rattle.std.specs.Prelude.{◌≤◌, length, take};
 ghost use Rattle.memchr.specs.Find.{IsFirst, Passes, is_byte};
 ghost use Rattle.fs_text.specs.code.Marks.{MarksByte};
 
+use memchr::memchr;
 use std::simd::prelude::*;
 
 /// How many bytes are looked at at once.
 const BLOCK: usize = 16;
+
+/// After how many bytes the rest is left to `memchr`, which takes longer to begin and is faster then.
+const LONG: usize = 256;
 
 /// Where the byte stands in the first block, a bit for each place.
 #[inline(always)]
@@ -18,6 +22,18 @@ fn marks_of(byte: u8, text: &[u8]) -> u64
     u8x16::from_slice(text)
         .simd_eq(u8x16::splat(byte))
         .to_bitmask()
+}
+
+/// Where the byte stands first from a place on, where that is likely to be far.
+#[inline(never)]
+fn place_afar(byte: u8, text: &[u8], from: usize) -> Option<usize>
+    requires { from ≤ length text.now }
+    ensures { IsFirst (Passes (is_byte byte) text.now) from (length text.now) result }
+{
+    match memchr(byte, &text[from..]) {
+        Some(at) => Some(from + at),
+        None => None,
+    }
 }
 
 /// Where the byte stands first from a place on, in a text of a block or more. The last block ends with the text, so some of
@@ -36,6 +52,9 @@ fn place_by_blocks(byte: u8, text: &[u8], start: usize) -> Option<usize>
             return Some(from + marks.trailing_zeros() as usize);
         }
         from += BLOCK;
+        if from - start >= LONG {
+            return place_afar(byte, text, from);
+        }
     }
     let rest = marks_of(byte, &text[last..]) >> (from - last);
     if rest == 0 {

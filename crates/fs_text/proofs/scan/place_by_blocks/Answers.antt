@@ -4,7 +4,7 @@ use Rattle.std.proofs.lemmas.Nat.Bits.{bit_at-trailing_zeros}
 use Rattle.memchr.specs.Find.{Nowhere, Passes, is_byte}
 use Rattle.fs_text.specs.code.Marks.{MarksByte}
 use Rattle.fs_text.proofs.PlainLemmas.{to_end}
-use Rattle.fs_text.proofs.ScanLemmas.{block_tells, shifted_tells, none_marked, first_marked}
+use Rattle.fs_text.proofs.ScanLemmas.{block_tells, shifted_tells, none_marked, first_marked, found_later}
 use Rattle.fs_text.proofs.scan.place_by_blocks.Goals as goal
 
 pub returns-then-marks-ne0 : goal.returns-then-marks-ne0
@@ -16,6 +16,16 @@ returns-then-marks-ne0 c =
     let says = subst (λ (rest : List ℕ). MarksByte c.args.byte (take 16 rest) marks) (to_end from text) c.marks_of-marks.ensures in
     let low = bit_at-trailing_zeros w64 marks (omega (arith, c.if-marks-ne0.true)) c.marks_of-marks.type_inv in
     first_marked c.args.byte c.args.start from 16 _ marks text c.loop-from.invariant.low (block_tells c.args.byte from marks text room says) low.1 low.2 c.loop-from.invariant.none
+
+pub returns-then-from-start-ge-LONG : goal.returns-then-from-start-ge-LONG
+returns-then-from-start-ge-LONG c =
+    let text = c.args.text.now in
+    let from = c.loop-from.from in
+    let marks = c.marks_of-marks.result in
+    let room : from + 16 ≤ length text = omega (arith, c.loop-from-test.true, c.requires.long) in
+    let says = subst (λ (rest : List ℕ). MarksByte c.args.byte (take 16 rest) marks) (to_end from text) c.marks_of-marks.ensures in
+    let none = none_marked c.args.byte c.args.start from 16 marks text (block_tells c.args.byte from marks text room says) c.if-marks-ne0.false c.loop-from.invariant.none in
+    found_later (Passes (is_byte c.args.byte) text) c.args.start (from + 16) (length text) c.place_afar.result (omega (arith, c.loop-from.invariant.low)) none c.place_afar.ensures
 
 pub loop-from-preserved : goal.loop-from-preserved
 loop-from-preserved c =
