@@ -119,7 +119,7 @@ fn text_of_script(alloc: Global, text: Vec<u8>, schedule: Schedule) -> Result<Ma
 }
 
 /// The text of a run of a script in memory, as `run_script` writes it. The script is read where it stands, and the text is
-/// handed out as it was made.
+/// handed out as it was made, without its spare room.
 pub fn run_bytes(alloc: Global, script: &[u8], schedule: Schedule) -> Result<Vec<u8>, RunFault>
     ensures ran { IfOk result (λ text. (end : RunEnd) × AreOfTheRun schedule script.now end text.items) }
     ensures fault { IfErr result (IsFaultOf (script_of script.now)) }
@@ -129,7 +129,11 @@ pub fn run_bytes(alloc: Global, script: &[u8], schedule: Schedule) -> Result<Vec
         Err(fault) => return Err(run_fault(fault)),
     };
     match make_text(alloc, read, schedule) {
-        Ok(made) => Ok(made.text),
+        Ok(mut made) => {
+            // Who keeps the text keeps no more than its bytes.
+            made.text.shrink_to_fit();
+            Ok(made.text)
+        }
         Err(fault) => Err(fault),
     }
 }

@@ -9,8 +9,8 @@ use crate::fault::RunFault;
 use fs_text::limits::TEXT_LIMIT;
 use std::alloc::Global;
 
-/// The most bytes that one read asks for: few enough that the piece stays in a processor's first cache.
-const PIECE: usize = 16_384;
+/// The most bytes that one read asks for.
+const PIECE: usize = 65_536;
 
 /// One byte more than a text has at most, which tells that a text is too long.
 const MOST: usize = TEXT_LIMIT + 1;
