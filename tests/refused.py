@@ -87,6 +87,28 @@ class Program(Preloaded):
         )
         self.each(rows, self.growths)
 
+    def asked_for(self, path):
+        """How many growths a script asks for whose one path has a dot, and how many of them are told where they are refused."""
+        words, given = ["run"], text_of(["atomfs 1", "thread t", f"stat {path}", "schedule", "finish"])
+        whole, growths, _ = self.whole(words, given)
+        self.same(given, whole, Outcome(3, b"", b"atomfs: line 3: BadPath Dot\n"))
+        outcomes = self.without("REFUSE", growths, words, given)
+        self.tell(f"growths of a path {path}", outcomes, [NO_MEMORY], whole)
+        return growths, outcomes.count(NO_MEMORY)
+
+    def room_goes_first(self, path):
+        growths, told = self.asked_for("/./a/b")
+        self.same(f"growths of {path}, and how many are told: one more than of three names", self.asked_for(path), (growths + 1, told + 1))
+
+    def test_room_goes_first(self):
+        """Room for more names than one block has is asked for, and told where it is refused, before what is wrong with any of them."""
+        rows = (
+            ("first of eight", "/./a/b/c/d/e/f/g"),
+            ("last of eight", "/a/b/c/d/e/f/g/."),
+            ("first of many", "/." + "/a" * 64),
+        )
+        self.each(rows, self.room_goes_first)
+
     def threads(self, name, count, calls):
         given = stored(name)
         whole, _, threads = self.whole(["threads"], given)
