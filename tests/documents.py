@@ -100,15 +100,23 @@ def text_of(*lines):
     return "".join(f"{line}\n" for line in lines).encode()
 
 
-class Sentences(Case):
+class Page(Case):
+    """A test of what pages say. Of a row that fails it tells which side is the page, and which the repository or this machine."""
+
+    def agrees(self, subject, page, found):
+        """What a page says of a subject is what is found in the repository, or on this machine."""
+        self.alike(subject, ("the page says", page), ("it is", found))
+
+
+class Sentences(Page):
     def says(self, page, sentence):
-        """A page has a sentence with these numbers. Where it has it with others, those are what came."""
+        """A page has a sentence with these numbers, or with others in their place."""
         pattern = re.sub(r"\d+(,\d+)*", r"\\d+(,\\d+)*", re.escape(sentence))
         found = re.search(pattern, page.read_text())
-        self.same(page.relative_to(ROOT), found[0] if found else "no such sentence, with whatever numbers", sentence)
+        self.agrees(page.relative_to(ROOT), found[0] if found else "no such sentence, with whatever numbers", sentence)
 
 
-class Pages(Case):
+class Pages(Page):
     """What every page names is there."""
 
     # What a page names and no repository has: what is built, what stands for a name, and the files that a reader makes.
@@ -147,7 +155,7 @@ class Pages(Case):
         self.same("README.md, in words", words if words > MOST_WORDS else MOST_WORDS, MOST_WORDS)
 
 
-class Shown(Case):
+class Shown(Page):
     """The examples of pages are files that are run elsewhere, or parts of them."""
 
     def test_worked_example(self):
@@ -156,17 +164,17 @@ class Shown(Case):
 
     def look_at_worked_example(self, page):
         script, text, *_ = blocks(page)
-        self.same(page.name, script, HELPED.with_suffix(".script").read_text())
-        self.same(page.name, re.sub(r" +<- .*", "", text), HELPED.with_suffix(".text").read_text())
+        self.agrees(page.name, script, HELPED.with_suffix(".script").read_text())
+        self.agrees(page.name, re.sub(r" +<- .*", "", text), HELPED.with_suffix(".text").read_text())
 
     def test_example_of_readme(self):
         """It is the crate `example_call` without its title, on the crates that README names, and prints what README says."""
         (shown,) = blocks(README, "rust")
-        self.same("the block of README", shown, source("example_call/src/main.rt").partition("\n")[2])
+        self.agrees("the block of README", shown, source("example_call/src/main.rt").partition("\n")[2])
         *named, listed, first, second = spans(re.search(r"^A crate that stands on .*", README.read_text(), re.M)[0])
-        self.same("what README says that it prints", [first, second], source("example_call/stdout").splitlines())
+        self.agrees("what README says that it prints", [first, second], source("example_call/stdout").splitlines())
         crates = re.search(r"^example_call: (.*)$", (ROOT / listed).read_text(), re.M)
-        self.same("the crates that README names for it", sorted(named), sorted(crates[1].split()))
+        self.agrees("the crates that README names for it", sorted(named), sorted(crates[1].split()))
 
     def test_excerpts(self):
         """Each block in Rust stands in the source to which the page leads before it."""
@@ -178,7 +186,7 @@ class Shown(Case):
         self.same(page.name, [line for line in shown.splitlines() if line.strip() not in lines], [])
 
 
-class Faults(Case):
+class Faults(Page):
     """What docs/FORMATS.md says to write instead: the refused line has the fault, and with the other one the text is accepted."""
 
     HEAD = "Fault", "Line", "Refused", "Write instead", "Because"
@@ -216,15 +224,15 @@ class Faults(Case):
         kinds, paths = (re.findall(r'#\[error\("([A-Z]\w+)', source(name)) for name in ("fs_text/src/fault.rt", "fs_names/src/fault.rt"))
         paths.remove(self.OF_NO_TEXT)
         means = {spans(fault)[0]: spans(meaning) for fault, meaning, _ in table(FORMATS, "Fault", "Means", "Line")}
-        self.same("the table of faults", sorted(means), sorted(kinds))
-        self.same("the faults of paths", sorted(means["BadPath"]), sorted(paths))
+        self.agrees("the table of faults", sorted(means), sorted(kinds))
+        self.agrees("the faults of paths", sorted(means["BadPath"]), sorted(paths))
         checks = [spans(fault)[0] for _, fault in table(SPECIFICATION, "Check", "Fault")]
-        self.same("the checks of paths", sorted(checks), sorted(paths))
+        self.agrees("the checks of paths", sorted(checks), sorted(paths))
         kinds = {*kinds, *(f"BadPath {path}" for path in paths)} - {"BadPath", self.OF_NO_TEXT}
-        self.same("the faults with a row", sorted({fault for _, _, _, _, fault, *_ in self.rows()}), sorted(kinds))
+        self.agrees("the faults with a row", sorted({fault for _, _, _, _, fault, *_ in self.rows()}), sorted(kinds))
 
 
-class Grammar(Case):
+class Grammar(Page):
     """Each line of a call, and each reply, that a page shows."""
 
     def test_calls(self):
@@ -233,7 +241,7 @@ class Grammar(Case):
         self.each(((line, filled(line)) for line in (*shown, *also)), self.look_at_call)
         names = re.findall(r"^    (\w+)\(", body_of("fs_calls/src/call.rt", "Call"), re.M)
         for calls in (shown, also):
-            self.same(calls, sorted(call.split(" ")[0] for call in calls), sorted(map(str.lower, names)))
+            self.agrees(calls, sorted(call.split(" ")[0] for call in calls), sorted(map(str.lower, names)))
 
     def look_at_call(self, call):
         given = text_of("atomfs 1", "thread t", call, "schedule", "finish")
@@ -248,7 +256,7 @@ class Grammar(Case):
         self.same(given, run(given, "check"), Outcome(1, b"fault 1 ReturnUncommitted\n"))
 
 
-class Commands(Case):
+class Commands(Page):
     """Each command that a page shows and that takes less than a minute, as it stands."""
 
     def due(self):
@@ -279,7 +287,7 @@ class Commands(Case):
         rows = {README: table(README, "Command", "Does"), FORMATS: table(FORMATS, "Command", "Does", "Standard output")}
         shown = {page: [filled(command).removeprefix("atomfs ") for row in rows[page] for command in self.shown(row[0])] for page in rows}
         self.each(((f"{page.stem} {words}", words) for page in shown for words in shown[page]), self.look)
-        self.same("the commands of FORMATS", sorted(shown[FORMATS]), sorted(self.due()))
+        self.agrees("the commands of FORMATS", sorted(shown[FORMATS]), sorted(self.due()))
 
     def look(self, words):
         given = HELPED.with_suffix(".text" if words == "check" else ".script").read_bytes()
@@ -304,7 +312,7 @@ class Commands(Case):
         """What it is to print is stored beside it. A line of it ends with what is told, and all do where that is one for all."""
         lines, ends = (ROOT / crate / "stdout").read_text().splitlines(), spans(prints)
         ends = ends if len(ends) > 1 else ends * len(lines)
-        self.same(crate, [line[-len(end) :] for line, end in zip(lines, ends, strict=True)], ends)
+        self.agrees(crate, ends, [line[-len(end) :] for line, end in zip(lines, ends, strict=True)])
 
     @staticmethod
     def of_a_shell(pattern):
@@ -340,11 +348,13 @@ class Commands(Case):
         if command == "examples/run":
             self.same(command, text, HELPED.with_suffix(".text").read_text())
 
-    def test_version_of_the_kit(self):
+    def test_logic_of_the_kit(self):
+        """README names the logic by which all is proved. The letter of the kit before it may be another."""
         if not shutil.which("rt"):
             self.skipTest("the command rt is not on the path")
         version = subprocess.run(["rt", "version"], capture_output=True, text=True, timeout=harness.MOST_SECONDS).stdout
-        self.same("rt version", [span for span in spans(README.read_text()) if span.startswith("rattle-kit")], version.splitlines()[:1])
+        logic = re.compile(r"logic [0-9a-f]{16}")
+        self.agrees("the kit's logic", [span for span in spans(README.read_text()) if logic.fullmatch(span)], logic.findall(version)[:1])
 
 
 class Definitions:
@@ -422,11 +432,11 @@ class Believed(Sentences):
         """So many lines of each file are used, of those that it has."""
         shown = [(spans(file)[0], lines) for _, file, _, lines in table(BELIEVE, "", "File", "Says", "Lines")]
         used = {f"{module.replace('.', '/')}.antt": sum(map(len, found)) for module, found in self.headline.found.items()}
-        self.same("the files of the headline", sorted(file for file, _ in shown), sorted(used))
+        self.agrees("the files of the headline", sorted(file for file, _ in shown), sorted(used))
         self.each(((file, file, lines, used[file]) for file, lines in shown), self.look)
 
     def look(self, file, shown, used):
-        self.same(file, shown, f"{used} of {sum(map(is_counted, source(file).splitlines()))}")
+        self.agrees(file, shown, f"{used} of {sum(map(is_counted, source(file).splitlines()))}")
 
     def test_sums(self):
         definitions, files, lines, comments = self.headline.counts()
@@ -441,7 +451,7 @@ class Believed(Sentences):
         inside = {path for path in files if "code" in path.parts}
         self.same("what uses glue", [str(path) for path in files - inside if ".specs.code." in path.read_text()], [])
         listed = re.search(r"Glue is what stands in .* lines, in (.*?)\. No", BELIEVE.read_text())[1]
-        self.same("the crates with glue", sorted(spans(listed)), sorted({path.relative_to(CRATES).parts[0] for path in inside}))
+        self.agrees("the crates with glue", sorted(spans(listed)), sorted({path.relative_to(CRATES).parts[0] for path in inside}))
 
 
 class Changed(Sentences):
@@ -467,7 +477,7 @@ class Changed(Sentences):
     def look(self, call, shown):
         found = self.files(call)
         counts = [len(found[part]) for part in ("src", "specs", "proofs")]
-        self.same(call, shown, [*counts, sum(counts)])
+        self.agrees(call, shown, [*counts, sum(counts)])
 
     def test_proofs_of_a_pair(self):
         proofs = self.files("Rename")["proofs"]
@@ -475,7 +485,7 @@ class Changed(Sentences):
         self.says(CHANGING, f"{of_laws} of the {len(proofs)} proof files are in `fs_laws`, {of_ops} in `fs_ops`")
 
 
-class Listed(Case):
+class Listed(Page):
     """What tables of pages list is what the sources have."""
 
     def test_wrong_bodies(self):
@@ -486,7 +496,7 @@ class Listed(Case):
                 crate = name if (CRATES / name).is_dir() else crate
                 shown += [] if name == crate else [f"{crate} {name}"]
         edits = [f"{path.parts[-3]} {path.stem}" for path in CRATES.glob("*/must-fail/*.edit")]
-        self.same("the table of wrong bodies", sorted(shown), sorted(edits))
+        self.agrees("the table of wrong bodies", sorted(shown), sorted(edits))
         most = max(collections.Counter(edit.split(" ")[0] for edit in edits).values())
         budget = int(re.search(r"at most (\d+) in a crate", (DOCS / "DECISIONS.md").read_text())[1])
         self.same("the most edits of a crate", max(most, budget), budget)
@@ -497,7 +507,7 @@ class Listed(Case):
         named = {crate.split()[0]: below.split() for crate, below in lines}
         named = {crate: [one for one in below if one in named] for crate, below in named.items() if re.match("fs_|atomfs", crate)}
         rows = table(DOCS / "ARCHITECTURE.md", "Crate", "What it owns", "What the layer above may know of it", "Stands on")
-        self.same("its crates, in order", [spans(row[0])[0] for row in rows], list(named))
+        self.agrees("its crates, in order", [spans(row[0])[0] for row in rows], list(named))
         reached = {}
         for crate, below in named.items():
             reached[crate] = set(below).union(*(reached[one] for one in below))
@@ -505,28 +515,28 @@ class Listed(Case):
 
     def look_at_crate(self, crate, shown, reached):
         follows = set().union(*(reached[one] for one in reached[crate]))
-        self.same(crate, shown, reached[crate] - follows)
+        self.agrees(crate, shown, reached[crate] - follows)
 
     def test_numbers_of_errors(self):
         """The numbers of errors, and of the kinds of a verdict."""
         cells = [cell for row in table(SPECIFICATION, "Number", "Error", "Number", "Error") for cell in row]
         errors = sorted((int(value), error) for value, error in zip(cells[::2], cells[1::2]))
-        self.same("errors", errors, [(value, error.upper()) for value, error in variants("fs_calls/src/errno.rt", "Errno")])
+        self.agrees("errors", errors, [(value, error.upper()) for value, error in variants("fs_calls/src/errno.rt", "Errno")])
         kinds = [(int(value), spans(kind)[0]) for value, kind, _ in table(SPECIFICATION, "Number", "Kind", "What is wrong")]
-        self.same("kinds", kinds, variants("fs_timeline/src/verdict.rt", "FaultKind"))
+        self.agrees("kinds", kinds, variants("fs_timeline/src/verdict.rt", "FaultKind"))
 
     def test_exit_statuses(self):
         shown = [row[0] for row in table(FORMATS, "Exit status", "Means", "Standard error")]
-        self.same("the exit statuses", shown, re.findall(r"^  (\d)  ", (DATA / "help" / "atomfs").read_text(), re.M))
+        self.agrees("the exit statuses", shown, re.findall(r"^  (\d)  ", (DATA / "help" / "atomfs").read_text(), re.M))
 
     def test_library(self):
         """The functions of embed/atomfs.h, and its statuses after which something has changed."""
         header = (ROOT / "embed" / "atomfs.h").read_text()
         calls = [name for _, cell in table(EMBEDDING, "To", "Call") for name in spans(cell)]
-        self.same("the functions", sorted(calls), sorted(re.findall(r"^uint8_t (\w+)\(", header, re.M)))
+        self.agrees("the functions", sorted(calls), sorted(re.findall(r"^uint8_t (\w+)\(", header, re.M)))
         shown = [spans(status)[0] for status, *_ in table(EMBEDDING, "Status", "Means", "What to do")]
         before = header[: header.index("From here on nothing has changed")]
-        self.same("the statuses", shown, re.findall(r"^    (ATOMFS_\w+) = \d+,", before, re.M))
+        self.agrees("the statuses", shown, re.findall(r"^    (ATOMFS_\w+) = \d+,", before, re.M))
 
 
 class Numbers(Sentences):
@@ -535,9 +545,9 @@ class Numbers(Sentences):
     def test_limits_of_trees(self):
         limits = constants("fs_names/src/limits.rt")
         rows = [(spans(name)[0], number(limit)) for _, limit, name in table(SPECIFICATION, "What", "Limit", "Constant (`fs_names::limits`)")]
-        self.same("the limits", dict(rows), limits)
+        self.agrees("the limits", dict(rows), limits)
         header = (ROOT / "embed" / "atomfs.h").read_text()
-        self.same("embed/atomfs.h", number(re.search("#define ATOMFS_NODE_LIMIT (.*)", header)[1]), limits["NODE_LIMIT"])
+        self.agrees("embed/atomfs.h", number(re.search("#define ATOMFS_NODE_LIMIT (.*)", header)[1]), limits["NODE_LIMIT"])
 
     def test_limits_of_texts(self):
         texts, scripts = constants("fs_text/src/limits.rt"), constants("fs_script/src/limits.rt")

@@ -157,5 +157,10 @@ class Case(unittest.TestCase):
 
     def same(self, given, came, wanted):
         """What came of what was given is what was wanted."""
-        if compares and came != wanted:
-            self.fail(f"\n== given\n{shown(given)}== came\n{shown(came)}== wanted\n{shown(wanted)}== alone: {self.alone()}")
+        self.alike(given, ("came", came), ("wanted", wanted))
+
+    def alike(self, given, one, other):
+        """Two sides, each a name and a value, have the same value."""
+        if compares and one[1] != other[1]:
+            told = "".join(f"== {side}\n{shown(value)}" for side, value in (("given", given), one, other))
+            self.fail(f"\n{told}== alone: {self.alone()}")
