@@ -21,13 +21,13 @@ abbrev pub ToldIfClosed : ℕ → Option CoreValue → Option CoreValue → Type
 ToldIfClosed status None new = (status ≡ CLOSED) × (new ≡ None)
 ToldIfClosed status (Some core) new = (status ≡ CLOSED → ⊥) × IsSome new
 
--- the timeline of the core, where there is one, is lawful
+-- the timeline of the core, where there is one, is lawful from its start tree
 abbrev pub IsLawful : Option CoreValue → Type 0
-IsLawful new = IfSome new (λ core. timeline.IsLawful core.timeline)
+IsLawful new = IfSome new (λ core. timeline.IsLawful core.start core.timeline)
 
--- where no call of it is under way, its nodes spell the tree that the commits of its timeline play
+-- where no call of it is under way, its nodes spell the tree that the commits of its timeline play on its start tree
 abbrev pub IsSpelled : Option CoreValue → Type 0
-IsSpelled new = IfSome new (λ core. IsAtRest core → graph_shapes (graph_of core.store) ≡ tree_shapes (play (timeline.commits core.timeline)))
+IsSpelled new = IfSome new (λ core. IsAtRest core → graph_shapes (graph_of core.store) ≡ tree_shapes (play core.start (timeline.commits core.timeline)))
 
 -- the caller's bytes begin with the whole of a text, and its length is told
 abbrev pub IsFilled : List ℕ → ℕ → List ℕ → List ℕ → Type 0

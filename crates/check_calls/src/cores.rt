@@ -162,7 +162,7 @@ fn look_back(core: &Core, call: &Call) -> Result<()> {
 
 /// Takes a core apart: three calls have returned, which made two directories and a file.
 fn take_apart(core: Core) -> Result<()> {
-    let (timeline, store) = core.into_parts();
+    let (_start, timeline, store) = core.into_parts();
     ensure!(timeline.entries().len() == 9, "the entries");
     ensure!(
         store.entries(NodeNo::new(0)) == 2 && store.entries(NodeNo::new(1)) == 1,

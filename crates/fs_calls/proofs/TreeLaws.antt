@@ -6,7 +6,7 @@ use Rattle.fs_names.specs.Keys.{Key, same_key, is_root, after_prefix}
 use Rattle.fs_names.proofs.Lemmas.{after_prefix-exact, after_prefix-append}
 use Rattle.fs_calls.specs.Tree.{Tree, Node, Dir, File, look, root_tree, inserted, removed, renamed, IsTree}
 use Rattle.fs_calls.specs.Sights.{tree_shapes, has_any, bytes_of}
-use Rattle.fs_calls.specs.Outcomes.{fault, after, change, if_sound, filled, play, play_from}
+use Rattle.fs_calls.specs.Outcomes.{fault, after, change, if_sound, filled, play}
 use Rattle.fs_calls.specs.Rows.{written, resized}
 use Rattle.fs_calls.specs.Laws.{StaysATree, PlayedTreesAreTrees, SameTrees, IsMoved, RenamesMove}
 use Rattle.fs_calls.specs.declared.call.Call.{Call}
@@ -205,13 +205,13 @@ tree_root = record {
     only_root (x ∷ k) h = refl
 
 -- after several calls, a tree is a tree
-played_from : (t : Tree) (calls : List Call) → IsTree t → IsTree (play_from t calls)
+played_from : (t : Tree) (calls : List Call) → IsTree t → IsTree (play t calls)
 played_from t [] is = is
 played_from t (call ∷ calls) is = played_from (after t call) calls (stays_a_tree t call is)
 
 -- what was played is a tree, with directories above all that stands in it
 pub played_trees_are_trees : PlayedTreesAreTrees
-played_trees_are_trees calls = let is = played_from root_tree calls tree_root in (is, directories_above (play calls) is)
+played_trees_are_trees = (tree_root, λ start calls tree. let is = played_from start calls tree in (is, directories_above (play start calls) is))
 
 -- ---- renames
 

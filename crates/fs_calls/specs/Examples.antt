@@ -10,15 +10,15 @@ use Rattle.fs_calls.specs.declared.reply.Reply.{Reply}
 use Rattle.fs_calls.specs.declared.reply.Reply.TheVariants as answer
 use Rattle.fs_calls.specs.declared.reply.Reply.TheVariants.{Done, Names, Bytes, Wrote, Failed}
 use Rattle.fs_calls.specs.declared.errno.Errno.TheVariants.{Enoent, Enotdir, Eexist, Enotempty, Eisdir, Einval, Ebusy, Eperm, Enospc, Efbig}
-use Rattle.fs_calls.specs.Tree.{Tree, Dir, File}
+use Rattle.fs_calls.specs.Tree.{Tree, Dir, File, root_tree}
 use Rattle.fs_calls.specs.Outcomes.{play, replies}
 
 -- calls with their replies, in order
 abbrev pub Answered : List (Call × Reply) → Type 0
-Answered steps = replies (map (λ s. s.0) steps) ≡ map (λ s. s.1) steps
+Answered steps = replies root_tree (map (λ s. s.0) steps) ≡ map (λ s. s.1) steps
 
 abbrev pub tree_after : List (Call × Reply) → Tree
-tree_after steps = play (map (λ s. s.0) steps)
+tree_after steps = play root_tree (map (λ s. s.0) steps)
 
 abbrev pub at : String → Key
 at text = names (codes text)

@@ -2,7 +2,7 @@
 use Rattle.std.specs.Prelude.{◌≡◌, ◌≢◌, List, ◌∷◌, ◌++◌, Some, None}
 use Rattle.fs_names.specs.Names.{Name}
 use Rattle.fs_names.specs.Keys.{Key, after_prefix}
-use Rattle.fs_calls.specs.Tree.{Tree, Node, Dir, look, IsTree}
+use Rattle.fs_calls.specs.Tree.{Tree, Node, Dir, look, IsTree, root_tree}
 use Rattle.fs_calls.specs.Outcomes.{fault, reply, after, play}
 use Rattle.fs_calls.specs.declared.call.Call.{Call}
 use Rattle.fs_calls.specs.declared.call.Call.TheVariants.{Rename}
@@ -21,9 +21,9 @@ StaysATree = (t : Tree) (call : Call) → IsTree t → IsTree (after t call)
 abbrev pub HasDirectoriesAbove : Tree → Type 0
 HasDirectoriesAbove t = (d : Key) (x : Name) (rest : Key) (n : Node) → look t (d ++ x ∷ rest) ≡ Some n → look t d ≡ Some Dir
 
--- in a tree that was played the root is a directory, and so is each proper prefix of a key
+-- in what is played from a tree the root is a directory, and so is each proper prefix of a key; the root alone is a tree
 abbrev pub PlayedTreesAreTrees : Type 0
-PlayedTreesAreTrees = (calls : List Call) → IsTree (play calls) × HasDirectoriesAbove (play calls)
+PlayedTreesAreTrees = IsTree root_tree × ((start : Tree) (calls : List Call) → IsTree start → IsTree (play start calls) × HasDirectoriesAbove (play start calls))
 
 -- trees in which the same stands at each key are one
 abbrev pub SameTrees : Type 0

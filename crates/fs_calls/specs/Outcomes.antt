@@ -3,7 +3,7 @@ use Rattle.std.specs.Prelude.{ℕ, List, [], ◌∷◌, if◌then◌else◌, Opt
 use Rattle.fs_names.specs.Failures.{or_else}
 use Rattle.fs_names.specs.Keys.{Key, parent_of}
 use Rattle.fs_calls.specs.Tree as tree
-use Rattle.fs_calls.specs.Tree.{Tree, Node, root_tree, inserted, removed, renamed}
+use Rattle.fs_calls.specs.Tree.{Tree, Node, inserted, removed, renamed}
 use Rattle.fs_calls.specs.Sights.{Shape, Dir, File, tree_shapes}
 use Rattle.fs_calls.specs.Sights.{resolve, resolve_dir, is_same, row_in}
 use Rattle.fs_calls.specs.Forms.{form, by_text, new_shape, Form, AtNode, AtEntry, AtPair}
@@ -84,20 +84,12 @@ reply t call = replied (fault t call) (success t call)
 unfoldable pub after : Tree → Call → Tree
 after t call = if_sound (fault t call) t (change t call)
 
--- the tree after a list of calls
-abbrev pub play_from : Tree → List Call → Tree
-play_from t [] = t
-play_from t (call ∷ calls) = play_from (after t call) calls
+-- the tree after a list of calls, from a start tree
+abbrev pub play : Tree → List Call → Tree
+play start [] = start
+play start (call ∷ calls) = play (after start call) calls
 
--- the tree after a list of calls, from the root alone
-abbrev pub play : List Call → Tree
-play calls = play_from root_tree calls
-
--- the replies to a list of calls
-abbrev pub replies_from : Tree → List Call → List Reply
-replies_from t [] = []
-replies_from t (call ∷ calls) = reply t call ∷ replies_from (after t call) calls
-
--- the replies to a list of calls, from the root alone
-abbrev pub replies : List Call → List Reply
-replies calls = replies_from root_tree calls
+-- the replies to a list of calls, from a start tree
+abbrev pub replies : Tree → List Call → List Reply
+replies start [] = []
+replies start (call ∷ calls) = reply start call ∷ replies (after start call) calls

@@ -13,8 +13,8 @@ pub fn stays_a_tree()
     ensures { StaysATree }
 {}
 
-/// After each list of calls, from the root alone, the tree is a tree, and each proper prefix of one of its keys is a
-/// directory.
+/// After each list of calls, from any tree, as the root alone is one, the tree is a tree, and each proper prefix of one of
+/// its keys is a directory.
 pub fn played_trees_are_trees()
     ensures { PlayedTreesAreTrees }
 {}

@@ -13,3 +13,4 @@ pub mod Happening
 pub mod Indexing
 pub mod Resting
 pub mod Starting
+pub mod Again

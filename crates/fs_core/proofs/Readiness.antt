@@ -5,6 +5,8 @@ use mathlib.Core.Path.{fun_ext}
 use Rattle.std.proofs.lemmas.Option.{slice_get_within, slice_get_read}
 use Rattle.fs_names.specs.declared.limits.TheConstants.{NODE_LIMIT}
 use Rattle.fs_names.specs.Shapes.{Shape, Dir, File, is_there, has_entries}
+use Rattle.fs_calls.specs.Tree.{root_tree}
+use Rattle.fs_laws.proofs.states.StartsEmpty.{starts_empty}
 use Rattle.fs_calls.specs.Forms.{form, Form, AtNode, AtEntry, AtPair, new_shape, reserves}
 use Rattle.fs_calls.specs.declared.target.PairCall.TheVariants as pairs
 use Rattle.fs_calls.specs.declared.target.EntryCall.{EntryCall}
@@ -133,7 +135,7 @@ refused_same m b k p kept st hs graph limit is_hs more = (
 )
   where
     same : state_of (record m { store = st; holding = hs }) ≡ state_of m
-    same = same_state _ _ _ _ _ _ _ _ _ _ _ limit graph is_hs refl refl
+    same = same_state _ _ _ _ _ _ _ _ _ _ _ _ limit graph is_hs refl refl
 
 pub seat_busy_step : (m : CoreValue) (seat : ℕ) (call : Call) (slot : Option Running) → seat < length m.seats → slot ≡ get_or m.seats seat slot → IsSome slot → Begins (state_of m) seat call (Err SeatBusy) (state_of m)
 seat_busy_step m seat call slot within read some = go slot refl some
@@ -194,7 +196,7 @@ begun_kept m b k p seat call kept free st hs w number copy slot begun limit is_h
     same : (reserved : Option ℕ) (graph : Graph) → w ≡ new_value call reserved → graph_of st ≡ graph → state_of M ≡ began (state_of m) seat call number reserved graph
     same reserved graph is_w is_graph =
         ap (λ (c : Call). state_of (record M { timeline = m.timeline ++ Begin number seat c ∷ [] })) is_copy
-        ∙ same_state _ _ _ _ _ _ _ _ _ _ _ limit is_graph is_hs
+        ∙ same_state _ _ _ _ _ _ _ _ _ _ _ _ limit is_graph is_hs
         (records_begun m.seats seat (record { call = number; place = None; op = w }) slot free is none ∙ ap (λ (x : OpValue). Rattle.fs_nodes.specs.Graphs.set_at number (Some (record_of seat None x)) (records m.seats)) is_w)
         (numbers_set m.seats seat slot (Some (record { call = number; place = None; op = w })) (slice_get_within m.seats seat None free) is)
 
@@ -222,7 +224,7 @@ seat_kept m b k p kept seats is = (
 )
   where
     same : state_of (record m { seats = seats }) ≡ state_of m
-    same = same_state _ _ _ _ _ _ _ _ _ _ _ refl refl refl (ap records is ∙ records_more m.seats) (ap number_on is ∙ numbers_more m.seats)
+    same = same_state _ _ _ _ _ _ _ _ _ _ _ _ refl refl refl (ap records is ∙ records_more m.seats) (ap number_on is ∙ numbers_more m.seats)
 
 -- a new core
 empty_below : (n : ℕ) (s : Shape) (bound : ℕ) → 1 ≤ bound → empty_graph.shape n ≡ Some s → n < bound
@@ -233,11 +235,11 @@ empty_below n s bound one e = go (eqb n 0) refl e
     go false f g = cc
 
 pub new_kept : (st : Places) (hs : Holding) (limit : ℕ) → 1 ≤ limit → limit ≤ NODE_LIMIT → graph_of st ≡ empty_graph → (seen st).limit ≡ limit → holder hs ≡ (λ n. None) → 1 ≤ room hs
-    → (state_of (record { store = st; holding = hs; seats = []; timeline = [] }) ≡ empty limit) × IsKept (record { store = st; holding = hs; seats = []; timeline = [] }) 0 0 0
+    → (state_of (record { start = root_tree; store = st; holding = hs; seats = []; timeline = [] }) ≡ empty limit) × IsKept (record { start = root_tree; store = st; holding = hs; seats = []; timeline = [] }) 0 0 0
 new_kept st hs limit one most graph is_limit is_hs has = (
   same,
   record {
-    run = subst Run (sym same) (Start limit one);
+    run = subst Run (sym same) (Start limit root_tree empty_graph (starts_empty limit one));
     limited = omega (arith, is_limit, most);
     roomy = λ n s e. empty_below n s (room hs) has (ap (λ (g : Graph). g.shape n) (sym graph) ∙ e);
     begun_is = refl;
@@ -248,8 +250,8 @@ new_kept st hs limit one most graph is_limit is_hs has = (
   },
 )
   where
-    same : state_of (record { store = st; holding = hs; seats = []; timeline = [] }) ≡ empty limit
-    same = same_state _ _ _ _ _ _ _ _ _ _ _ is_limit graph is_hs refl (fun_ext (λ n. refl))
+    same : state_of (record { start = root_tree; store = st; holding = hs; seats = []; timeline = [] }) ≡ empty limit
+    same = same_state _ _ _ _ _ _ _ _ _ _ _ _ is_limit graph is_hs refl (fun_ext (λ n. refl))
 
 -- the same by the seat's number, and by the counter
 pub begun_by : (m : CoreValue) (b k p at seat : ℕ) (call : Call) → IsKept m b k p → at ≡ seat → (old : Option Running) → seat < length m.seats → old ≡ get_or m.seats at old → old ≡ None

@@ -22,10 +22,10 @@ none_from i (Some running ∷ seats) rest c = absurd (none_some running.call (re
     none_some : (n : ℕ) → ◌≡◌ {A = Option ℕ} (Some n) None → ⊥
     none_some n e = cc
 
-idle_at_rest : (m : CoreValue) → IsAtRest m → IsIdle (state_of m)
+pub idle_at_rest : (m : CoreValue) → IsAtRest m → IsIdle (state_of m)
 idle_at_rest m rest c = none_from 0 m.seats rest c
 
-pub spelled_at_rest : (m : CoreValue) → Run (state_of m) → IsAtRest m → graph_shapes (graph_of m.store) ≡ tree_shapes (play (commits m.timeline))
+pub spelled_at_rest : (m : CoreValue) → Run (state_of m) → IsAtRest m → graph_shapes (graph_of m.store) ≡ tree_shapes (play m.start (commits m.timeline))
 spelled_at_rest m run rest = (linearizes (state_of m) run).spelled (idle_at_rest m rest)
 
 -- a seat's call has a record

@@ -69,7 +69,7 @@ took_step m b k p seat r n kept on move free hs w v is_hs room took_it is = (
       record_of seat r.place r.op,
       moves m seat r (Takes n) kept.run on move,
       free,
-      same_state _ _ _ _ _ _ _ _ _ _ _ refl refl is_hs
+      same_state _ _ _ _ _ _ _ _ _ _ _ _ refl refl is_hs
           (records_changed m.seats seat r (record r { op = w }) v on is refl (apart_of m kept.run) ∙ ap (λ (o : Record). set_at r.call (Some o) (records m.seats)) (took_it seat r.place))
           (numbers_changed m.seats seat r (record r { op = w }) v on (within_seats m seat r on) is refl),
     )
@@ -117,7 +117,7 @@ let_go_step m b k p seat r n kept on move st hs w v graph limit is_hs room left_
       r.call,
       record_of seat r.place r.op,
       moves m seat r (Leaves n) kept.run on move,
-      same_state _ _ _ _ _ _ _ _ _ _ _ limit graph is_hs
+      same_state _ _ _ _ _ _ _ _ _ _ _ _ limit graph is_hs
           (records_changed m.seats seat r (record r { op = w }) v on is refl (apart_of m kept.run) ∙ ap (λ (o : Record). set_at r.call (Some o) (records m.seats)) (left_it seat r.place))
           (numbers_changed m.seats seat r (record r { op = w }) v on (within_seats m seat r on) is refl),
     )
@@ -190,7 +190,7 @@ helped_step m b k p seat r s kept on move unplaced other q on_other q_unplaced q
       chosen,
       op,
       call_on m other q kept.run on_other,
-      same_state _ _ _ _ _ _ _ _ _ _ _ refl refl refl
+      same_state _ _ _ _ _ _ _ _ _ _ _ _ refl refl refl
           (records_changed m.seats other q (record q { place = Some k }) v on_other is refl (apart_of m kept.run) ∙ ap (λ (o : Record). set_at q.call (Some o) (records m.seats)) is_op)
           (numbers_changed m.seats other q (record q { place = Some k }) v on_other (within_seats m other q on_other) is refl),
     )
@@ -237,7 +237,7 @@ committed_step m b k p seat r s kept on move unplaced none st w v graph limit do
       moves m seat r (Finishes s) kept.run on move,
       walks_phase r unplaced (unfinished_at (graph_of m.store) r.op s move),
       none,
-      same_state _ _ _ _ _ _ _ _ _ _ _ limit (graph_made m seat r st graph) refl
+      same_state _ _ _ _ _ _ _ _ _ _ _ _ limit (graph_made m seat r st graph) refl
           (records_changed m.seats seat r (record r { op = w }) v on is refl (apart_of m kept.run) ∙ ap (λ (o : Record). set_at r.call (Some o) (records m.seats)) (done seat r.place))
           (numbers_changed m.seats seat r (record r { op = w }) v on (within_seats m seat r on) is refl),
     )
@@ -274,7 +274,7 @@ carried_step m b k p seat r s i kept on move is_placed st w v graph limit done i
       i,
       moves m seat r (Finishes s) kept.run on move,
       ap (λ (o : Option ℕ). phase_of o r.op.reply) is_placed ∙ placed_phase i r.op.reply (unfinished_at (graph_of m.store) r.op s move),
-      same_state _ _ _ _ _ _ _ _ _ _ _ limit (graph_made m seat r st graph) refl
+      same_state _ _ _ _ _ _ _ _ _ _ _ _ limit (graph_made m seat r st graph) refl
           (records_changed m.seats seat r (record r { op = w }) v on is refl (apart_of m kept.run) ∙ ap (λ (o : Record). set_at r.call (Some o) (records m.seats)) (done seat r.place))
           (numbers_changed m.seats seat r (record r { op = w }) v on (within_seats m seat r on) is refl),
     )
@@ -309,7 +309,7 @@ returned_step m b k p seat r reply kept on move replied st v graph limit is = (
       record_of seat r.place r.op,
       moves m seat r Ends kept.run on move,
       ap (λ (o : Option Reply). phase_of r.place o) replied,
-      same_state _ _ _ _ _ _ _ _ _ _ _ limit graph refl
+      same_state _ _ _ _ _ _ _ _ _ _ _ _ limit graph refl
           (records_ended m.seats seat r v on is (apart_of m kept.run))
           (numbers_set m.seats seat v None (within_seats m seat r on) is),
     )

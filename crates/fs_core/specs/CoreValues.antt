@@ -1,6 +1,7 @@
 -- What a core is to its callers, and the state of the machine that it is.
 use Rattle.std.specs.Prelude.{ℕ, ◌≡◌, ◌+◌, eqb, if◌then◌else◌, List, [], ◌∷◌, Option, Some, None, slice_get}
 use Rattle.std.specs.Option.{option_flatten}
+use Rattle.fs_calls.specs.Tree.{Tree}
 use Rattle.fs_nodes.specs.Stores.{Places}
 use Rattle.fs_nodes.specs.Seen.{seen}
 use Rattle.fs_nodes.specs.Stores.{graph_of}
@@ -11,8 +12,9 @@ use Rattle.fs_machine.specs.OpValues.{record_of}
 use Rattle.fs_machine.specs.States.{State}
 use Rattle.fs_core.specs.declared.seat.Running.{Running}
 
--- the nodes, who holds them, the call under way on each seat, the entries so far
+-- the tree at which the timeline begins, the nodes, who holds them, the call under way on each seat, the entries so far
 pub record CoreValue : Type 0 where
+  pub start : Tree
   pub store : Places
   pub holding : List (Option ℕ)
   pub seats : List (Option Running)
@@ -49,6 +51,7 @@ records seats c = record_from 0 seats c
 abbrev pub state_of : CoreValue → State
 state_of machine = record {
   limit = (seen machine.store).limit;
+  start = machine.start;
   graph = graph_of machine.store;
   holder = holder machine.holding;
   ops = records machine.seats;

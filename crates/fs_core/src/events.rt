@@ -40,8 +40,8 @@ impl Core {
         ensures run { IsRun (state_of self.old) events.now result.done result.refusal (state_of self.new) }
 
         // The linearization theorem: well formed with lawful replies, and spelled at rest.
-        ensures lawful { IsLawful self.new.timeline }
-        ensures spelled { IsAtRest self.new → graph_shapes (graph_of self.new.store) ≡ tree_shapes (play (commits self.new.timeline)) }
+        ensures lawful { IsLawful self.new.start self.new.timeline }
+        ensures spelled { IsAtRest self.new → graph_shapes (graph_of self.new.store) ≡ tree_shapes (play self.new.start (commits self.new.timeline)) }
         ensures seats { length self.new.seats ≡ length self.old.seats }
     {
         for i in 0..events.len() {

@@ -9,7 +9,7 @@ ghost use Rattle.fs_nodes.specs.Stores.{graph_of};
 ghost use Rattle.fs_calls.specs.Outcomes.{play};
 ghost use Rattle.fs_calls.specs.Sights.{tree_shapes};
 ghost use Rattle.fs_timeline.specs.Timeline.{IsLawful, commits};
-ghost use Rattle.fs_machine.specs.States.{Begins, Step, NoneBelow, Run, empty};
+ghost use Rattle.fs_machine.specs.States.{Begins, Step, NoneBelow, Run, empty, begun_again};
 ghost use Rattle.fs_core.specs.CoreValues.{state_of, IsAtRest};
 ghost use Rattle.fs_core.specs.code.Doing.{Does};
 ghost use Rattle.fs_core.specs.code.Seats.{MovesOn, PlacedOn, PlansOn};
@@ -28,10 +28,12 @@ use fs_machine::{Refusal, Stepped};
 use fs_names::{CallNo, NODE_LIMIT, Path, SeatNo};
 use fs_nodes::{NodeNo, Store};
 use fs_ops::Next;
+use fs_seq::SeqTree;
 use fs_timeline::{Entry, Timeline};
 use fs_walk::find_path;
 use std::alloc::{AllocError, Global};
 use std::marker::Model;
+use std::mem;
 
 /// The nodes, who holds them, the calls under way and the timeline.
 #[derive(Drop)]
@@ -47,6 +49,7 @@ pub struct Core {
     // For each seat: the call on it that holds nothing yet, and so goes for the root, whatever the nodes are. Most calls wait
     // there, and their steps look at no more than this. Of the core's value it is no part.
     starting: Vec<Option<CallNo>>,
+    start: SeqTree,
 }
 
 impl Model for Core {
@@ -57,9 +60,9 @@ impl Model for Core {
 
     ghost Value = { CoreValue };
 
-    ghost view = { λ a. record { store = a.store; holding = a.holders; seats = a.seats.items; timeline = a.timeline.entries } };
+    ghost view = { λ a. record { start = a.start; store = a.store; holding = a.holders; seats = a.seats.items; timeline = a.timeline.entries } };
 
-    ghost invariant = { λ a. IsKept (record { store = a.store; holding = a.holders; seats = a.seats.items; timeline = a.timeline.entries }) a.begun a.commits a.timeline.reserved × (length a.ways.items ≡ length a.seats.items) × AreStarting a.starting.items a.seats.items };
+    ghost invariant = { λ a. IsKept (record { start = a.start; store = a.store; holding = a.holders; seats = a.seats.items; timeline = a.timeline.entries }) a.begun a.commits a.timeline.reserved × (length a.ways.items ≡ length a.seats.items) × AreStarting a.starting.items a.seats.items };
 }
 
 /// A match on a call's next move, whose arms are written from a table: the moves that are made in every phase of a call, and
@@ -272,6 +275,7 @@ impl Core {
 
         // The root has number 0 and is there from the first. Room for another node is made by the begin that reserves it.
         holders.make_room(1)?;
+        let start = SeqTree::new(alloc)?;
         Ok(Core {
             store,
             holders,
@@ -281,6 +285,7 @@ impl Core {
             timeline: IndexedTimeline::new(alloc),
             ways: Vec::new(alloc),
             starting: Vec::new(alloc),
+            start,
         })
     }
 
@@ -395,25 +400,49 @@ impl Core {
         find_path(&self.store, path)
     }
 
-    /// The entries so far and the nodes, handed out. It takes no memory.
-    pub fn into_parts(self) -> (Timeline, Store)
-        ensures timeline { result.0.entries ≡ self.timeline }
-        ensures store { result.1 ≡ self.store }
+    /// The tree at which the timeline begins.
+    pub fn start(&self) -> &SeqTree
+        ensures { result.now ≡ self.now.start }
+    {
+        &self.start
+    }
+
+    /// The timeline begins again at the tree that its commits play, and is handed out. It takes no memory. Nodes and seats stay.
+    pub fn begin_again(&mut self, alloc: Global, start: SeqTree) -> Timeline
+        requires rest { IsAtRest self.old }
+        requires tree { start ≡ play self.old.start (commits self.old.timeline) }
+        ensures state { state_of self.new ≡ begun_again (state_of self.old) }
+        ensures entries { result.entries ≡ self.old.timeline }
+        ensures seats { self.new.seats ≡ self.old.seats }
+    {
+        self.begun = 0;
+        self.commits = 0;
+        self.start = start;
+        let told = mem::replace(&mut self.timeline, IndexedTimeline::new(alloc));
+        told.into_timeline()
+    }
+
+    /// The tree at which the timeline begins, the entries so far and the nodes, handed out. It takes no memory.
+    pub fn into_parts(self) -> (SeqTree, Timeline, Store)
+        ensures start { result.0 ≡ self.start }
+        ensures timeline { result.1.entries ≡ self.timeline }
+        ensures store { result.2 ≡ self.store }
     {
         let Core {
+            start,
             timeline,
             store,
             ..
         } = self;
-        (timeline.into_timeline(), store)
+        (start, timeline.into_timeline(), store)
     }
 
     /// What every state keeps, told to a caller: a run leads to it, its timeline is lawful, and where no call is under
     /// way the nodes spell the tree that the timeline's commits play.
     pub fn told(&self)
         ensures run { Run (state_of self.now) }
-        ensures lawful { IsLawful self.now.timeline }
-        ensures spelled { IsAtRest self.now → graph_shapes (graph_of self.now.store) ≡ tree_shapes (play (commits self.now.timeline)) }
+        ensures lawful { IsLawful self.now.start self.now.timeline }
+        ensures spelled { IsAtRest self.now → graph_shapes (graph_of self.now.store) ≡ tree_shapes (play self.now.start (commits self.now.timeline)) }
     {
         let _ = &self.timeline;
     }

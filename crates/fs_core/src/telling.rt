@@ -1,6 +1,6 @@
 //! What every core keeps, told to a caller by calls that do nothing.
 
-ghost use Rattle.std.specs.Prelude.{ℕ, ◌+◌, ◌≤◌};
+ghost use Rattle.std.specs.Prelude.{ℕ, ◌+◌, ◌≤◌, length};
 ghost use Rattle.fs_nodes.specs.Graphs.{IsGraph};
 ghost use Rattle.fs_nodes.specs.Stores.{graph_of, used_below};
 ghost use Rattle.fs_timeline.specs.Timeline.{begins};
@@ -62,7 +62,7 @@ impl Core {
     /// it, a seat's call is the one under way there, and a call holds at most four nodes.
     pub fn told_of_numbers(&self)
         ensures no_leak { NumbersAreKept (state_of self.now) }
-        ensures counted { used_below (graph_of self.now.store).shape (state_of self.now).limit ≤ begins self.now.timeline + 1 }
+        ensures counted { used_below (graph_of self.now.store).shape (state_of self.now).limit ≤ begins self.now.timeline + length self.now.start }
         ensures graph { IsGraph (graph_of self.now.store) }
         ensures agree { PartsAgree (state_of self.now) }
         ensures four { HoldsFour (state_of self.now) }

@@ -1,6 +1,7 @@
 //! The checker of journals.
 
 ghost use Rattle.std.specs.Prelude.{◌≡◌, ◌↔◌, true, [], Some, None, IsSome, IfOk, OnOk};
+ghost use Rattle.fs_calls.specs.Tree.{root_tree};
 ghost use Rattle.fs_timeline.specs.Timeline.{IsLawful};
 ghost use Rattle.fs_timeline.specs.Verdicts.{verdict};
 ghost use Rattle.fs_timeline.specs.Laws.{NamesFirstFault};
@@ -27,16 +28,15 @@ struct Checker<'a> {
 }
 
 impl<'a> Checker<'a> {
-    /// Before the first entry.
-    fn new(alloc: Global) -> Result<Self, AllocError>
-        ensures { IfOk result (λ k. IsTrueOf (known k) []) }
+    /// Before the first entry, from a start tree.
+    fn new(alloc: Global, start: SeqTree) -> Self
+        ensures { IsTrueOf start (known result) [] }
     {
-        let tree = SeqTree::new(alloc)?;
-        Ok(Checker {
+        Checker {
             calls: Calls::new(alloc),
             last: BTreeMap::new(alloc),
-            tree,
-        })
+            tree: start,
+        }
     }
 
     /// What is wrong with an entry that comes next.
@@ -142,14 +142,13 @@ impl<'a> Checker<'a> {
     }
 }
 
-/// The verdict on a journal. It goes over the entries once, up to the first fault, and plays each call on a sequential
-/// tree where it commits.
-pub fn check(alloc: Global, entries: &[Entry]) -> Result<Verdict, AllocError>
-    ensures verdict { IfOk result (λ v. v ≡ verdict entries.now) }
-    ensures lawful { IfOk result (λ v. (v ≡ Verdict.Lawful) ↔ IsLawful entries.now) }
-    ensures first_fault { IfOk result (NamesFirstFault entries.now) }
+/// The verdict on a journal that begins at a tree, which is played on: over the entries once, up to the first fault.
+pub fn check_on(alloc: Global, start: SeqTree, entries: &[Entry]) -> Result<Verdict, AllocError>
+    ensures verdict { IfOk result (λ v. v ≡ verdict start entries.now) }
+    ensures lawful { IfOk result (λ v. (v ≡ Verdict.Lawful) ↔ IsLawful start entries.now) }
+    ensures first_fault { IfOk result (NamesFirstFault start entries.now) }
 {
-    let mut checker = Checker::new(alloc)?;
+    let mut checker = Checker::new(alloc, start);
     for (index, entry) in entries.iter().enumerate() {
         if let Some(kind) = checker.fault(entry) {
             return Ok(Verdict::Fault(index + 1, kind));
@@ -157,4 +156,14 @@ pub fn check(alloc: Global, entries: &[Entry]) -> Result<Verdict, AllocError>
         checker.take_in(alloc, entry)?;
     }
     Ok(Verdict::Lawful)
+}
+
+/// The verdict on a journal that begins at the root alone. It goes over the entries once, up to the first fault, and
+/// plays each call on a sequential tree where it commits.
+pub fn check(alloc: Global, entries: &[Entry]) -> Result<Verdict, AllocError>
+    ensures verdict { IfOk result (λ v. v ≡ verdict root_tree entries.now) }
+    ensures lawful { IfOk result (λ v. (v ≡ Verdict.Lawful) ↔ IsLawful root_tree entries.now) }
+    ensures first_fault { IfOk result (NamesFirstFault root_tree entries.now) }
+{
+    check_on(alloc, SeqTree::new(alloc)?, entries)
 }

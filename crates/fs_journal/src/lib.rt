@@ -12,5 +12,5 @@
 mod calls;
 pub mod checker;
 
-pub use checker::check;
+pub use checker::{check, check_on};
 pub use fs_timeline::{Entry, FaultKind, Timeline, Verdict};

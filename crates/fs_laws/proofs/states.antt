@@ -2,6 +2,7 @@
 pub mod WaitsForOneBelow
 pub mod ComputedSteps
 pub mod Headline
+pub mod StartsEmpty
 pub mod Agreement
 pub mod GraphOfARun
 pub mod Waiters

@@ -2,6 +2,7 @@
 use Rattle.std.specs.Prelude.{ℕ, ◌≡◌, ◌<◌, ◌≤◌, List, [], ◌∷◌, true, ◌++◌, Option, Some, ◌⊎◌, length}
 use Rattle.fs_names.specs.Keys.{Key}
 use Rattle.fs_calls.specs.Outcomes as tree
+use Rattle.fs_calls.specs.Tree.{Tree}
 use Rattle.fs_calls.specs.Sights.{tree_shapes}
 use Rattle.fs_calls.specs.declared.call.Call.{Call}
 use Rattle.fs_calls.specs.declared.reply.Reply.{Reply}
@@ -37,10 +38,10 @@ NobodyBetween s = (c d n : ℕ) (op q : Record) (st other : Holdings) (u v : Key
     → (st.source.walked ≡ u ++ v) ⊎ (st.dest.walked ≡ u ++ v) → at s.graph.child st.node u ≡ Some n → Holds other n → ⊥
 
 -- each of these calls is due this reply
-abbrev pub AreDue : List Entry → List ℕ → List Reply → Type 0
-AreDue es [] rs = Unit {0}
-AreDue es (c ∷ cs) [] = ⊥
-AreDue es (c ∷ cs) (r ∷ rs) = (journal.due c es ≡ Some r) × AreDue es cs rs
+abbrev pub AreDue : Tree → List Entry → List ℕ → List Reply → Type 0
+AreDue start es [] rs = Unit {0}
+AreDue start es (c ∷ cs) [] = ⊥
+AreDue start es (c ∷ cs) (r ∷ rs) = (journal.due start c es ≡ Some r) × AreDue start es cs rs
 
 -- what the placed calls leave, once each has gone on alone by its own moves, in the order of their commits
 pub record Settles (s : State) : Type 0 where
@@ -49,9 +50,9 @@ pub record Settles (s : State) : Type 0 where
   pub in_order : InOrder s.ops order
   pub all : (c : ℕ) (op : Record) (i : ℕ) → s.ops c ≡ Some op → op.phase ≡ Placed i → IsIn c order
   -- the nodes then spell the tree that the commits play
-  pub spelled : graph_shapes (settled_graph s.graph s.ops order) ≡ tree_shapes (tree.play (journal.commits s.timeline))
+  pub spelled : graph_shapes (settled_graph s.graph s.ops order) ≡ tree_shapes (tree.play s.start (journal.commits s.timeline))
   -- and each replies what is due to its place among the commits
-  pub replies : AreDue s.timeline order (settled_replies s.graph s.ops order)
+  pub replies : AreDue s.start s.timeline order (settled_replies s.graph s.ops order)
 
 -- what a step answers whose call walks and is to finish: whom it helped, or that it committed
 pub data HelpsOrCommits (s : State) : Option ℕ → Stepped → Type 0 where

@@ -95,15 +95,6 @@ abbrev pub after : Map Shape → Form → Map Shape
 after tree call = changed (outcome tree call).1 tree
 
 -- the tree after a list of calls
-abbrev pub play_from : Map Shape → List Call → Map Shape
-play_from tree [] = tree
-play_from tree (call ∷ calls) = play_from (after tree (form call)) calls
-
--- the tree that holds only the root
-abbrev pub root_tree : Map Shape
-root_tree [] = Some (Dir [])
-root_tree (x ∷ key) = None
-
--- the tree after a list of calls, from the root alone
-abbrev pub play : List Call → Map Shape
-play calls = play_from root_tree calls
+abbrev pub play : Map Shape → List Call → Map Shape
+play tree [] = tree
+play tree (call ∷ calls) = play (after tree (form call)) calls

@@ -1,5 +1,6 @@
 -- The events of a run, each with its answer.
 use Rattle.std.specs.Prelude.{ℕ, ◌≡◌, List, [], ◌∷◌, ◌++◌}
+use Rattle.fs_calls.specs.Tree.{root_tree}
 use Rattle.fs_calls.specs.declared.call.Call.{Call}
 use Rattle.fs_machine.specs.States.{State, Begun, Run, Start, Beginning, Stepping}
 use Rattle.fs_machine.specs.declared.answers.Stepped.{Stepped}
@@ -11,13 +12,14 @@ pub data Event : Type 0 where
 
 -- all events of a run, in order
 abbrev pub events_of : (s : State) → Run s → List Event
-events_of s (Start limit more) = []
+events_of s (Start limit tree graph h) = []
 events_of s (Beginning {old} seat call answer new run b) = events_of old run ++ Begins seat call answer ∷ []
 events_of s (Stepping {old} seat answer new run st) = events_of old run ++ Steps seat answer ∷ []
 
--- a run with these events and answers, from the empty state at the greatest limit
+-- a run with these events and answers, from the root alone at the greatest limit
 pub record Ran (es : List Event) : Type 0 where
   pub state : State
   pub run : Run state
   pub events : events_of state run ≡ es
   pub limit : state.limit ≡ 1048576
+  pub start : state.start ≡ root_tree

@@ -1,5 +1,6 @@
 -- What every state of a run keeps.
 use Rattle.std.specs.Prelude.{ℕ, ◌≡◌, ◌<◌, false, List, [], ◌∷◌, ◌++◌, Option, Some, None, ◌⊎◌}
+use Rattle.fs_calls.specs.Sights.{tree_shapes}
 use Rattle.fs_names.specs.Keys.{Key, parent_of, last_of}
 use Rattle.fs_names.specs.Parts.{left}
 use Rattle.fs_names.specs.Shapes.{Shape}
@@ -156,8 +157,8 @@ pub record Invariant (s : State) : Type 0 where
   pub kept : CallFacts (numbers s.graph) s.ops key
   pub in_order : InOrder s.ops order
   pub all_placed : (c : ℕ) (op : Record) (i : ℕ) → s.ops c ≡ Some op → op.phase ≡ Placed i → (i < commit_count s.timeline) × IsIn c order
-  pub lawful : IsLawful start s.timeline
-  pub tied : Tied (graph_shapes s.graph) s.ops key order (view_after start s.timeline)
+  pub lawful : IsLawful (start (tree_shapes s.start)) s.timeline
+  pub tied : Tied (graph_shapes s.graph) s.ops key order (view_after (start (tree_shapes s.start)) s.timeline)
   pub own : (c : ℕ) (op : Record) → s.ops c ≡ Some op → Own s.graph op
   -- holders: who stands at a node holds it, and nobody else does
   pub held : (c : ℕ) (op : Record) (st : Holdings) (n : ℕ) → s.ops c ≡ Some op → op.holdings ≡ Some st → Holds st n → s.holder n ≡ Some c
@@ -165,9 +166,9 @@ pub record Invariant (s : State) : Type 0 where
   pub apart : (c d n : ℕ) (p q : Record) → (c ≡ d → ⊥) → s.ops c ≡ Some p → s.ops d ≡ Some q → HasSpare p n → HasSpare q n → ⊥
   -- seats and numbers
   pub seated : (seat c : ℕ) → s.on_seat seat ≡ Some c → (op : Record) × (s.ops c ≡ Some op) × (op.seat ≡ seat)
-  pub busy : (seat : ℕ) → (view_after start s.timeline).busy seat ≡ s.on_seat seat
-  pub seat_of : (c : ℕ) (op : Record) → s.ops c ≡ Some op → ((view_after start s.timeline).seat_of c ≡ Some op.seat) × ((view_after start s.timeline).back c ≡ false)
-  pub fresh : (c : ℕ) → begins s.timeline < c → (view_after start s.timeline).call c ≡ None
+  pub busy : (seat : ℕ) → (view_after (start (tree_shapes s.start)) s.timeline).busy seat ≡ s.on_seat seat
+  pub seat_of : (c : ℕ) (op : Record) → s.ops c ≡ Some op → ((view_after (start (tree_shapes s.start)) s.timeline).seat_of c ≡ Some op.seat) × ((view_after (start (tree_shapes s.start)) s.timeline).back c ≡ false)
+  pub fresh : (c : ℕ) → begins s.timeline < c → (view_after (start (tree_shapes s.start)) s.timeline).call c ≡ None
 
 -- one event keeps it: the invariant
 abbrev pub StepKeeps : Stepped → Type 0

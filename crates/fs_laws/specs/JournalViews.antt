@@ -1,7 +1,7 @@
 -- What is known after some entries of a timeline, and which entry may come next.
 use Rattle.std.specs.Prelude.{ℕ, ◌≡◌, Bool, true, false, List, [], ◌∷◌, Option, Some, None}
 use Rattle.fs_names.specs.Shapes.{Shape}
-use Rattle.fs_laws.specs.Changes.{reply, after, root_tree}
+use Rattle.fs_laws.specs.Changes.{reply, after}
 use Rattle.fs_calls.specs.Forms.{form}
 use Rattle.fs_calls.specs.declared.call.Call.{Call}
 use Rattle.fs_timeline.specs.declared.entry.Entry.{Entry}
@@ -32,8 +32,8 @@ pub record JournalView : Type 0 where
   pub busy : ℕ → Option ℕ
 
 -- before the first entry
-abbrev pub start : JournalView
-start = record { tree = root_tree; call = λ n. None; seat_of = λ n. None; due = λ n. None; back = λ n. false; busy = λ n. None }
+abbrev pub start : Map Shape → JournalView
+start tree = record { tree = tree; call = λ n. None; seat_of = λ n. None; due = λ n. None; back = λ n. false; busy = λ n. None }
 
 -- after the Commit of a call: the tree after it, and the reply that is due to it
 abbrev pub commit_of : JournalView → ℕ → Option Call → JournalView

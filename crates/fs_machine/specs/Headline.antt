@@ -10,7 +10,7 @@ use Rattle.fs_machine.specs.States.{State}
 abbrev pub IsIdle : State → Type 0
 IsIdle state = (c : ℕ) → state.ops c ≡ None
 
--- the timeline is lawful: well formed, and each returned reply is the sequential tree's; and where no call is under way the nodes spell the tree that its commits play
+-- the timeline is lawful: well formed, and each returned reply is the sequential tree's; and where no call is under way the nodes spell the tree that its commits play, from its start tree
 pub record Linearizes (state : State) : Type 0 where
-  pub lawful : journal.IsLawful state.timeline
-  pub spelled : IsIdle state → graph_shapes state.graph ≡ tree_shapes (tree.play (journal.commits state.timeline))
+  pub lawful : journal.IsLawful state.start state.timeline
+  pub spelled : IsIdle state → graph_shapes state.graph ≡ tree_shapes (tree.play state.start (journal.commits state.timeline))

@@ -1,17 +1,23 @@
 -- States of the core, what a begin and a step may do, and runs.
-use Rattle.std.specs.Prelude.{ℕ, ◌≡◌, ◌+◌, ◌<◌, ◌≤◌, List, [], ◌∷◌, ◌++◌, Option, Some, None, Result, Ok, Err}
+use Rattle.std.specs.Prelude.{ℕ, ◌≡◌, true, ◌+◌, ◌<◌, ◌≤◌, List, [], ◌∷◌, ◌++◌, Option, Some, None, Result, Ok, Err}
+use Rattle.std.specs.declared.cmp.Ordering.TheVariants.{Less}
 use Rattle.fs_names.specs.Keys.{Key}
-use Rattle.fs_names.specs.Shapes.{Shape}
+use Rattle.fs_names.specs.Names.{Name, name_cmp, has_name}
+use Rattle.fs_names.specs.Shapes.{Shape, Dir}
+use Rattle.fs_calls.specs.Tree.{Tree, IsTree, root_tree}
+use Rattle.fs_calls.specs.Outcomes.{play}
+use Rattle.fs_calls.specs.Sights.{tree_shapes}
 use Rattle.fs_calls.specs.Forms.{form, reserves}
 use Rattle.fs_calls.specs.declared.call.Call.{Call}
 use Rattle.fs_calls.specs.declared.reply.Reply.{Reply}
-use Rattle.fs_nodes.specs.Graphs.{Graph, at, empty_graph, reserved_in, set_at}
+use Rattle.fs_nodes.specs.Graphs.{Graph, at, empty_graph, graph_shapes, IsGraph, IsReached, reserved_in, set_at}
 use Rattle.fs_nodes.specs.Stores.{used_below}
 use Rattle.fs_timeline.specs.declared.entry.Entry.{Entry}
 use Rattle.fs_timeline.specs.declared.entry.Entry.TheVariants.{Begin, Commit, Return}
 use Rattle.fs_machine.specs.Finishes.{finish}
 use Rattle.fs_machine.specs.Leaving.{is_removed, releasing, let_go, finished_op, unreserved}
 use Rattle.fs_machine.specs.Moves.{next, took}
+use Rattle.fs_machine.specs.OpValues.{IsBounded}
 use Rattle.fs_machine.specs.declared.moves.Move.{Move}
 use Rattle.fs_machine.specs.declared.moves.Move.TheVariants.{Take as Takes, LetGo as Leaves, Finish as Finishes, Return as Ends}
 use Rattle.fs_machine.specs.declared.answers.Refusal.{Refusal}
@@ -19,11 +25,12 @@ use Rattle.fs_machine.specs.declared.answers.Refusal.TheVariants.{SeatBusy, Full
 use Rattle.fs_machine.specs.declared.answers.Stepped.{Stepped}
 use Rattle.fs_machine.specs.declared.answers.Stepped.TheVariants.{Idle, Took, Busy, LetGo, Helped, Committed, CarriedOut, Returned}
 use Rattle.fs_machine.specs.Records.{Holdings, Walking, Placed, Finished, Record, Records}
-use Rattle.fs_timeline.specs.Timeline.{begins, commit_count}
+use Rattle.fs_timeline.specs.Timeline.{begins, commit_count, commits}
 
--- limit, graph, who holds each node, the calls under way by their numbers, the call on each seat, timeline
+-- limit, the tree at which the timeline begins, graph, who holds each node, the calls under way by their numbers, the call on each seat, timeline
 pub record State : Type 0 where
   pub limit : ℕ
+  pub start : Tree
   pub graph : Graph
   pub holder : ℕ → Option ℕ
   pub ops : Records
@@ -31,8 +38,35 @@ pub record State : Type 0 where
   pub timeline : List Entry
 
 -- before anything began
+abbrev pub fresh : ℕ → Tree → Graph → State
+fresh limit start graph = record { limit = limit; start = start; graph = graph; holder = λ n. None; ops = λ c. None; on_seat = λ s. None; timeline = [] }
+
+-- the same of the root alone
 abbrev pub empty : ℕ → State
-empty limit = record { limit = limit; graph = empty_graph; holder = λ n. None; ops = λ c. None; on_seat = λ s. None; timeline = [] }
+empty limit = fresh limit root_tree empty_graph
+
+-- names in byte order, each once
+abbrev pub IsBefore : Name → List Name → Type 0
+IsBefore x names = (y : Name) → has_name y names ≡ true → name_cmp x y ≡ Less
+
+abbrev pub AreRising : List Name → Type 0
+AreRising [] = Unit {0}
+AreRising (x ∷ names) = IsBefore x names × AreRising names
+
+-- the timeline begins again, at the tree that it plays
+abbrev pub begun_again : State → State
+begun_again s = fresh s.limit (play s.start (commits s.timeline)) s.graph
+
+-- where a timeline can begin: a graph that spells the tree, keeps the limits, and has no number in use that is not reached
+pub record IsStart (limit : ℕ) (start : Tree) (graph : Graph) : Type 0 where
+  pub least : 1 ≤ limit
+  pub tree : IsTree start
+  pub spelled : graph_shapes graph ≡ tree_shapes start
+  pub is_graph : IsGraph graph
+  pub bounded : IsBounded graph
+  pub rising : (n : ℕ) (names : List Name) → graph.shape n ≡ Some (Dir names) → AreRising names
+  pub below : (n : ℕ) (s : Shape) → graph.shape n ≡ Some s → n < limit
+  pub reached : (n : ℕ) (s : Shape) → graph.shape n ≡ Some s → IsReached graph.child 0 n
 
 -- what a begin answers: the call's number, or why it could not begin
 abbrev pub Begun : Type 0
@@ -146,6 +180,6 @@ Step old seat (Returned r) new = (c : ℕ) × (op : Record) × Moves old seat c 
 
 -- the states of all runs
 pub data Run : State → Type 0 where
-  Start : (limit : ℕ) → 1 ≤ limit → Run (empty limit)
+  Start : (limit : ℕ) (start : Tree) (graph : Graph) → IsStart limit start graph → Run (fresh limit start graph)
   Beginning : {old : State} (seat : ℕ) (call : Call) (answer : Begun) (new : State) → Run old → Begins old seat call answer new → Run new
   Stepping : {old : State} (seat : ℕ) (answer : Stepped) (new : State) → Run old → Step old seat answer new → Run new

@@ -133,7 +133,7 @@ ordered_begin s new seat call (Ok c) (off, number, r) k = go (reserves (form cal
     go (Some shape) (n, less, free, same) = ordered_by s new c (new_op seat call (Some n)) (ap (λ (x : State). x.ops) same) (λ st on u. none_some None st refl on) k
 
 ordered : (s : State) → Run s → Ordered s
-ordered s (Start limit least) = λ c op st e on u. cc
+ordered s (Start limit tree graph h) = λ c op st e on u. cc
 ordered s (Beginning {old} seat call answer new run begin) = ordered_begin old s seat call answer begin (ordered old run)
 ordered s (Stepping {old} seat answer new run step) = ordered_step old s seat answer run step (ordered old run)
 

@@ -6,13 +6,13 @@ use Rattle.left_right.specs.Register.{Admits, TurnsAt, Turns, Forks, Merges}
 use Rattle.atomic_table.proofs.Lists.{at_set, at_snoc}
 use Rattle.logbook.specs.Pages.{Book}
 use Rattle.logbook.specs.declared.tokens.Seen.{Seen}
-use Rattle.fs_calls.specs.declared.call.Call.{Call}
 use Rattle.fs_observe.specs.declared.history.Law.{Law}
+use Rattle.fs_observe.specs.declared.history.Noted.{Noted}
 use Rattle.fs_observe.specs.declared.shown.Shown.{Shown}
 use Rattle.fs_observe.specs.Playing.{AllOf, Keeps, Looks, IsPlayed}
 
 abbrev Known : Type 0
-Known = List (Seen Call ℕ Law)
+Known = List (Seen Noted ℕ Law)
 
 abbrev Rules : Shown → List Known → Type 0
 Rules = Keeps
@@ -33,7 +33,7 @@ admits x views h = (h.0, more_known x.token.book views [] tt h.1)
 pub looks : (seat : ℕ) (v : Known) → Turns Rules seat v (λ x. x) Looks
 looks seat v x views h at = (v, (h.0, set_known x.token.book views seat v (h.1 seat v at) h.1), (refl, h.0, h.1 seat v at))
 
-pub publishes : (seat : ℕ) (v : Known) (x y : Shown) (w : Seen Call ℕ Law) → w.book ≡ y.token.book → IsPlayed y → y.token.book ≡ x.token.book → TurnsAt Rules seat v x y (λ v x y u. u ≡ w ∷ [])
+pub publishes : (seat : ℕ) (v : Known) (x y : Shown) (w : Seen Noted ℕ Law) → w.book ≡ y.token.book → IsPlayed y → y.token.book ≡ x.token.book → TurnsAt Rules seat v x y (λ v x y u. u ≡ w ∷ [])
 publishes seat v x y w own count same views h at = (
   w ∷ [],
   (count, set_known y.token.book views seat (w ∷ []) (own, tt) (λ j u e. subst (λ (b : Book). AllOf b u) (sym same) (h.1 j u e))),

@@ -1,4 +1,5 @@
 pub mod Adding
 pub mod Fronts
 pub mod Keeping
+pub mod Pasts
 pub mod Taking

@@ -8,6 +8,7 @@ use Rattle.fs_calls.specs.Outcomes as tree
 use Rattle.fs_calls.specs.Outcomes.{play}
 use Rattle.fs_observe.specs.declared.shown.Shown.{Shown}
 use Rattle.fs_observe.specs.declared.shown.Op.{Op}
+use Rattle.fs_observe.specs.Pasts.{start_of, calls_of, IsNoted}
 
 -- what is shown after one more call
 abbrev pub after : Shown → Op → Shown
@@ -17,9 +18,9 @@ after s op = record s { tree = tree.after s.tree op.call; count = s.count + 1; t
 abbrev pub total : Shown → List Op → Shown
 total shown ops = fold after shown ops
 
--- the tree is what the calls play, and they are counted
+-- the tree is what the calls play on the start tree, and they are counted
 abbrev pub IsPlayed : Shown → Type 0
-IsPlayed x = (x.count ≡ length x.token.log) × (x.tree ≡ play x.token.log)
+IsPlayed x = IsNoted x.token.log × (x.count ≡ length (calls_of x.token.log)) × (x.tree ≡ play (start_of x.token.log) (calls_of x.token.log))
 
 module _ {E A P : Type 0} where
   -- each token is of this book

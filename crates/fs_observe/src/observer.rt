@@ -1,11 +1,11 @@
 //! Readers that wait for nobody.
 
 ghost use Rattle.std.specs.Prelude.{◌≡◌, ◌∷◌, [], length, IfOk, OnErr, IsTrue};
-ghost use mathlib.Core.List.{IsPrefix};
 ghost use Rattle.fs_calls.specs.Outcomes.{play, reply};
 ghost use Rattle.fs_seq.specs.Looks.{is_look};
 ghost use Rattle.left_right.specs.Sides.{view};
 ghost use Rattle.fs_observe.specs.Observed.{Knows};
+ghost use Rattle.fs_observe.specs.Pasts.{start_of, calls_of, past_of, GoesOn};
 ghost use Rattle.fs_observe.specs.Playing.{IsPlayed};
 
 use crate::history::{Front, Named};
@@ -23,30 +23,37 @@ pub(crate) type Seat = Reader<Shown, Known, Rule>;
 #[derive(Clone, Copy, Debug, PartialEq, Eq)]
 pub struct NoPlace;
 
-/// Tells a list that was published. Contracts see that list.
+/// Tells a list that was published. Contracts see that list, and the tree at which it starts.
 #[derive(Drop)]
 pub struct Stamp<N: Named> {
     front: Front<N>,
 }
 
 impl<N: Named> Model for Stamp<N> {
-    ghost use Rattle.std.specs.Prelude.{List};
-    ghost use Rattle.fs_calls.specs.declared.call.Call.{Call};
+    ghost use Rattle.fs_observe.specs.Pasts.{Past, past_of};
 
-    ghost Value = { List Call };
+    ghost Value = { Past };
 
-    ghost view = { λ s. s.front };
+    ghost view = { λ s. past_of s.front };
 }
 
 impl<N: Named> Stamp<N> {
     pub(crate) fn new(front: Front<N>) -> Stamp<N>
-        ensures { result ≡ front }
+        ensures { result ≡ past_of front }
     {
         Stamp { front }
     }
+
+    /// The stamp's list starts at the same tree as another beginning of the history.
+    pub(crate) fn agrees(&self, front: &Front<N>)
+        ensures { self.now.start ≡ start_of front.now }
+    {
+        let _both = self.front.longer(front);
+    }
 }
 
-/// A reader of a tree that waits for nobody. It keeps the list that it last showed or was told of, which contracts see.
+/// A reader of a tree that waits for nobody. It keeps the list that it last showed or was told of, which contracts
+/// see, with the tree at which it starts.
 #[derive(Drop)]
 pub struct Observer<N: Named> {
     reader: Seat,
@@ -54,14 +61,13 @@ pub struct Observer<N: Named> {
 }
 
 impl<N: Named> Model for Observer<N> {
-    ghost use Rattle.std.specs.Prelude.{List};
-    ghost use Rattle.fs_calls.specs.declared.call.Call.{Call};
     ghost use Rattle.left_right.specs.Sides.{view as known_by};
     ghost use Rattle.fs_observe.specs.Observed.{Knows};
+    ghost use Rattle.fs_observe.specs.Pasts.{Past, past_of};
 
-    ghost Value = { List Call };
+    ghost Value = { Past };
 
-    ghost view = { λ o. o.kept };
+    ghost view = { λ o. past_of o.kept };
 
     ghost invariant = { λ o. Knows N.book (known_by o.reader.place) };
 }
@@ -70,7 +76,7 @@ impl<N: Named> Model for Observer<N> {
 fn front_in<N: Named>(shown: &Shown, kept: &Front<N>) -> Result<Front<N>, AllocError>
     requires book { shown.now.token.book ≡ N.book }
     requires played { IsPlayed shown.now }
-    ensures { IfOk result (λ front. IsPrefix kept.now front × (front ≡ shown.now.token.log)) }
+    ensures { IfOk result (λ front. GoesOn (past_of kept.now) (past_of front) × (front ≡ shown.now.token.log)) }
 {
     let front = Front::<N>::of(&shown.token, shown.count);
     if front.len() < kept.len() {
@@ -89,7 +95,7 @@ fn answer_by<N: Named>(
     requires look { IsTrue (is_look call.now) }
     requires book { shown.now.token.book ≡ N.book }
     requires played { IsPlayed shown.now }
-    ensures { IfOk result (λ r. IsPrefix kept.now r.1 × (r.0 ≡ reply (play r.1) call.now)) }
+    ensures { IfOk result (λ r. GoesOn (past_of kept.now) (past_of r.1) × (r.0 ≡ reply (play (start_of r.1) (calls_of r.1)) call.now)) }
 {
     let front = front_in(shown, kept)?;
     let reply = shown.tree.look(alloc, call)?;
@@ -105,7 +111,7 @@ fn look_in<N: Named>(
     requires look { IsTrue (is_look asked.1.now) }
     requires knows { Knows N.book (view reader.place) }
     ensures knows { view result.0.place ≡ view reader.place }
-    ensures answer { IfOk result.1 (λ r. IsPrefix asked.entry.2.now r.1 × (r.0 ≡ reply (play r.1) asked.entry.1.now)) }
+    ensures answer { IfOk result.1 (λ r. GoesOn (past_of asked.entry.2.now) (past_of r.1) × (r.0 ≡ reply (play (start_of r.1) (calls_of r.1)) asked.entry.1.now)) }
 {
     let (alloc, call, kept) = asked;
     match reader.enter_as::<Sees>() {
@@ -121,7 +127,7 @@ fn look_in<N: Named>(
 fn count_in<N: Named>(reader: Seat, kept: &Front<N>) -> (Seat, Result<Front<N>, AllocError>)
     requires knows { Knows N.book (view reader.place) }
     ensures knows { view result.0.place ≡ view reader.place }
-    ensures front { IfOk result.1 (λ front. IsPrefix kept.now front) }
+    ensures front { IfOk result.1 (λ front. GoesOn (past_of kept.now) (past_of front)) }
 {
     match reader.enter_as::<Sees>() {
         Ok(reading) => {
@@ -135,7 +141,7 @@ fn count_in<N: Named>(reader: Seat, kept: &Front<N>) -> (Seat, Result<Front<N>, 
 impl<N: Named> Observer<N> {
     pub(crate) fn new(reader: Seat, kept: Front<N>) -> Observer<N>
         requires { Knows N.book (view reader.place) }
-        ensures { result ≡ kept }
+        ensures { result ≡ past_of kept }
     {
         Observer { reader, kept }
     }
@@ -144,8 +150,8 @@ impl<N: Named> Observer<N> {
     /// on. Out of memory the kept list stays.
     fn look(&mut self, alloc: Global, call: &Call) -> Result<Reply, AllocError>
         requires { IsTrue (is_look call.now) }
-        ensures kept { IfOk result (λ r. IsPrefix self.old self.new) }
-        ensures reply { IfOk result (λ r. r ≡ reply (play self.new) call.now) }
+        ensures kept { IfOk result (λ r. GoesOn self.old self.new) }
+        ensures reply { IfOk result (λ r. r ≡ reply (play self.new.start self.new.list) call.now) }
         ensures err { OnErr result (self.new ≡ self.old) }
     {
         let Observer { reader, kept } = self;
@@ -158,8 +164,8 @@ impl<N: Named> Observer<N> {
     /// list that begins with the kept one, and is kept from then on (POSIX.1-2017, XSH 3, stat()). Out of memory the kept
     /// list stays.
     pub fn stat(&mut self, alloc: Global, path: &Path) -> Result<Reply, AllocError>
-        ensures kept { IfOk result (λ r. IsPrefix self.old self.new) }
-        ensures reply { IfOk result (λ r. r ≡ reply (play self.new) (Call.Stat path.now)) }
+        ensures kept { IfOk result (λ r. GoesOn self.old self.new) }
+        ensures reply { IfOk result (λ r. r ≡ reply (play self.new.start self.new.list) (Call.Stat path.now)) }
         ensures err { OnErr result (self.new ≡ self.old) }
     {
         let call = Call::Stat(path.copy(alloc)?);
@@ -168,8 +174,8 @@ impl<N: Named> Observer<N> {
 
     /// All names of a directory in byte order, by a published list in the same way.
     pub fn readdir(&mut self, alloc: Global, path: &Path) -> Result<Reply, AllocError>
-        ensures kept { IfOk result (λ r. IsPrefix self.old self.new) }
-        ensures reply { IfOk result (λ r. r ≡ reply (play self.new) (Call.Readdir path.now)) }
+        ensures kept { IfOk result (λ r. GoesOn self.old self.new) }
+        ensures reply { IfOk result (λ r. r ≡ reply (play self.new.start self.new.list) (Call.Readdir path.now)) }
         ensures err { OnErr result (self.new ≡ self.old) }
     {
         let call = Call::Readdir(path.copy(alloc)?);
@@ -184,8 +190,8 @@ impl<N: Named> Observer<N> {
         off: u64,
         count: u64,
     ) -> Result<Reply, AllocError>
-        ensures kept { IfOk result (λ r. IsPrefix self.old self.new) }
-        ensures reply { IfOk result (λ r. r ≡ reply (play self.new) (Call.Read path.now off count)) }
+        ensures kept { IfOk result (λ r. GoesOn self.old self.new) }
+        ensures reply { IfOk result (λ r. r ≡ reply (play self.new.start self.new.list) (Call.Read path.now off count)) }
         ensures err { OnErr result (self.new ≡ self.old) }
     {
         let call = Call::Read(path.copy(alloc)?, off, count);
@@ -195,8 +201,8 @@ impl<N: Named> Observer<N> {
     /// How many calls the list has that is shown, which begins with the kept one, and is kept from then on. It takes no
     /// memory.
     pub fn count(&mut self) -> u64
-        ensures kept { IsPrefix self.old self.new }
-        ensures count { result ≡ length self.new }
+        ensures kept { GoesOn self.old self.new }
+        ensures count { result ≡ length self.new.list }
     {
         let Observer { reader, kept } = self;
         if let Ok(front) = replace_with(reader, &*kept, count_in) {
@@ -207,8 +213,8 @@ impl<N: Named> Observer<N> {
 
     /// From now on each list begins with the stamp's list too. It takes no memory.
     pub fn learn(&mut self, stamp: &Stamp<N>)
-        ensures kept { IsPrefix self.old self.new }
-        ensures told { IsPrefix stamp.now self.new }
+        ensures kept { GoesOn self.old self.new }
+        ensures told { GoesOn stamp.now self.new }
     {
         self.kept = self.kept.longer(&stamp.front);
     }

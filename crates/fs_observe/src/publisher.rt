@@ -2,9 +2,9 @@
 
 ghost use Rattle.std.specs.Prelude.{◌≡◌, ◌+◌, ◌<◌, ◌≤◌, ◌^◌, ◌++◌, ◌∷◌, [], drop, fold, length, Some, None, IfOk, IfSome, OnOk, OnErr, MatchResult};
 ghost use mathlib.Core.List.{IsPrefix};
-ghost use Rattle.fs_calls.specs.Tree.{root_tree};
 ghost use Rattle.left_right.specs.Sides.{view};
 ghost use Rattle.fs_observe.specs.Observed.{Knows};
+ghost use Rattle.fs_observe.specs.Pasts.{start_of, calls_of};
 ghost use Rattle.fs_observe.specs.Playing.{total, IsPlayed};
 ghost use Rattle.fs_observe.specs.Tied.{Tied, IsNext, entered};
 
@@ -38,29 +38,31 @@ pub struct Publisher<N: Named> {
 }
 
 impl<N: Named> Model for Publisher<N> {
-    ghost use Rattle.std.specs.Prelude.{◌≡◌, [], drop};
+    ghost use Rattle.std.specs.Prelude.{◌≡◌, ◌∷◌, [], drop};
     ghost use Rattle.left_right.specs.Sides.{view as known_by};
     ghost use Rattle.fs_observe.specs.Lists.{Lists};
     ghost use Rattle.fs_observe.specs.Observed.{Knows};
+    ghost use Rattle.fs_observe.specs.Pasts.{start_of, calls_of};
     ghost use Rattle.fs_observe.specs.Tied.{Tied, entered};
+    ghost use Rattle.fs_observe.specs.declared.history.Noted.TheVariants.{Start};
 
     ghost Value = { Lists };
 
-    ghost view = { λ p. record { published = p.writer.desk.shown.value.token.log; taken = p.front; entered = entered p.front p.held } };
+    ghost view = { λ p. record { start = start_of p.start; published = calls_of p.writer.desk.shown.value.token.log; taken = calls_of p.front; entered = calls_of (entered p.front p.held) } };
 
-    ghost invariant = { λ p. Tied N.book p.writer.desk.shown.value (drop p.writer.behind p.writer.log.items) p.front p.held × Knows N.book (known_by p.writer.desk.place) × (p.start ≡ []) };
+    ghost invariant = { λ p. Tied N.book p.writer.desk.shown.value (drop p.writer.behind p.writer.log.items) p.front p.held × Knows N.book (known_by p.writer.desk.place) × (p.start ≡ Start (start_of p.start) ∷ []) × (start_of p.front ≡ start_of p.start) };
 }
 
 /// A copy that has played nothing.
-fn first_copy(alloc: Global, token: &Token) -> Result<Shown, AllocError>
-    ensures { IfOk result (λ shown. shown ≡ record { tree = root_tree; count = 0; token = token.now; alloc = alloc }) }
+fn first_copy(alloc: Global, tree: SeqTree, token: &Token) -> Shown
+    ensures { result ≡ record { tree = tree; count = 0; token = token.now; alloc = alloc } }
 {
-    Ok(Shown {
-        tree: SeqTree::new(alloc)?,
+    Shown {
+        tree,
         count: 0,
         token: token.again(),
         alloc,
-    })
+    }
 }
 
 /// Shows readers a copy that has played each call.
@@ -101,7 +103,7 @@ fn next_op<N: Named>(
     held: Option<Op>,
     call: &Call,
 ) -> Result<Op, AllocError>
-    requires room { length front.now < 2 ^ 62 }
+    requires room { length (calls_of front.now) < 2 ^ 62 }
     requires held { IfSome held (λ op. IsNext N.book front.now op × (op.call ≡ call.now)) }
     ensures next { IfOk result (λ op. IsNext N.book front.now op) }
     ensures call { IfOk result (λ op. op.call ≡ call.now) }
@@ -111,10 +113,9 @@ fn next_op<N: Named>(
         return Ok(op);
     }
     let call = call.copy(alloc)?;
-    let mut next = front.again();
-    if !next.add(history, &call) {
+    let Some(next) = front.add(history, &call) else {
         return Err(AllocError);
-    }
+    };
     Ok(Op {
         call,
         token: next.token(),
@@ -129,6 +130,7 @@ fn hold(held: &mut Option<Op>, op: Op)
 }
 
 /// Has an operation wait to be shown, and counts its call as taken in. Out of memory it is held.
+#[tactic(auto, using(crate::proofs::Pasts::calls_push, crate::proofs::Pasts::start_push, crate::proofs::Taking::tied_noted))]
 fn append_op<N: Named>(
     writer: &mut Copies,
     front: &mut Front<N>,
@@ -138,12 +140,13 @@ fn append_op<N: Named>(
     requires tied { Tied N.book writer.old.desk.shown.value (drop writer.old.behind writer.old.log.items) front.old held.old }
     requires none { held.old ≡ None }
     requires next { IsNext N.book front.old op }
-    requires room { length front.old < 2 ^ 62 }
+    requires room { length (calls_of front.old) < 2 ^ 62 }
     ensures tied { Tied N.book writer.new.desk.shown.value (drop writer.new.behind writer.new.log.items) front.new held.new }
     ensures desk { writer.new.desk ≡ writer.old.desk }
-    ensures ok { OnOk result ((front.new ≡ front.old ++ op.call ∷ []) × (held.new ≡ None)) }
+    ensures ok { OnOk result ((calls_of front.new ≡ calls_of front.old ++ op.call ∷ []) × (held.new ≡ None)) }
     ensures err { OnErr result (front.new ≡ front.old) }
-    ensures entered { entered front.new held.new ≡ front.old ++ op.call ∷ [] }
+    ensures start { start_of front.new ≡ start_of front.old }
+    ensures entered { calls_of (entered front.new held.new) ≡ calls_of front.old ++ op.call ∷ [] }
 {
     let next = Front::of(&op.token, front.len() + 1);
     match writer.append(op) {
@@ -159,15 +162,26 @@ fn append_op<N: Named>(
 }
 
 impl<N: Named> Publisher<N> {
-    /// A publisher that has published the list of no calls. The only error is out of memory.
-    pub fn open<R: Wait>(rt: &R, alloc: Global, opened: Opened) -> Result<Publisher<N>, AllocError>
-        requires { opened ≡ N.book }
-        ensures { IfOk result (λ p. p ≡ record { published = []; taken = []; entered = [] }) }
+    /// A publisher that has published the list of no calls, from a start tree that comes twice. The only error is out of
+    /// memory.
+    pub fn open<R: Wait>(
+        rt: &R,
+        alloc: Global,
+        opened: Opened,
+        first: SeqTree,
+        second: SeqTree,
+    ) -> Result<Publisher<N>, AllocError>
+        requires book { opened ≡ N.book }
+        requires alike { first ≡ second }
+        ensures { IfOk result (λ p. p ≡ record { start = first; published = []; taken = []; entered = [] }) }
     {
-        let (history, front) = opened.named::<N>();
+        let (history, token) = opened.named::<N>();
+        let Some(front) = history.begin(token, &first) else {
+            return Err(AllocError);
+        };
         let token = front.token();
-        let first = first_copy(alloc, &token)?;
-        let second = first_copy(alloc, &token)?;
+        let first = first_copy(alloc, first, &token);
+        let second = first_copy(alloc, second, &token);
         let writer = copies(rt, alloc, first, second)?;
         Ok(Publisher {
             writer,
@@ -181,6 +195,7 @@ impl<N: Named> Publisher<N> {
     /// An observer that was told nothing yet. The error is that none of the reader places is free, or no memory.
     pub fn observer(&mut self) -> Result<Observer<N>, NoPlace>
         ensures same { self.new ≡ self.old }
+        ensures first { IfOk result (λ o. o ≡ record { start = self.old.start; list = [] }) }
     {
         let Publisher { writer, start, .. } = self;
         let Ok(mut reader) = writer.factory().reader() else {
@@ -188,6 +203,20 @@ impl<N: Named> Publisher<N> {
         };
         reader.learn::<Tells>(writer.tell::<Tells>());
         Ok(Observer::new(reader, start.again()))
+    }
+
+    /// A stamp of the list of no calls: it tells the start tree.
+    pub fn first(&self) -> Stamp<N>
+        ensures { result ≡ record { start = self.now.start; list = [] } }
+    {
+        Stamp::new(self.start.again())
+    }
+
+    /// Each stamp of this tree starts at its start tree.
+    pub fn agrees(&self, stamp: &Stamp<N>)
+        ensures { stamp.now.start ≡ self.now.start }
+    {
+        stamp.agrees(&self.start);
     }
 
     /// How many calls it has taken in.
@@ -200,6 +229,7 @@ impl<N: Named> Publisher<N> {
     /// Takes in a call after the others. Out of memory the call may stand in the history; it is then the one that comes next.
     pub fn take_in(&mut self, alloc: Global, call: &Call) -> Result<(), AllocError>
         requires { IsPrefix self.old.entered (self.old.taken ++ call.now ∷ []) }
+        ensures start { self.new.start ≡ self.old.start }
         ensures published { self.new.published ≡ self.old.published }
         ensures ok { OnOk result ((self.new.taken ≡ self.old.taken ++ call.now ∷ []) × (self.new.entered ≡ self.new.taken)) }
         ensures err { OnErr result (self.new.taken ≡ self.old.taken) }
@@ -222,8 +252,9 @@ impl<N: Named> Publisher<N> {
     /// Shows observers the tree after all calls that were taken in, and tells that list. It waits for observers that still
     /// read the tree that was shown before the last. Out of memory they see what they saw.
     pub fn publish<R: Wait>(&mut self, rt: &R) -> Result<Stamp<N>, AllocError>
+        ensures start { self.new.start ≡ self.old.start }
         ensures taken { (self.new.taken ≡ self.old.taken) × (self.new.entered ≡ self.old.entered) }
-        ensures ok { IfOk result (λ stamp. (stamp ≡ self.old.taken) × (self.new.published ≡ self.old.taken)) }
+        ensures ok { IfOk result (λ stamp. (stamp ≡ record { start = self.old.start; list = self.old.taken }) × (self.new.published ≡ self.old.taken)) }
         ensures err { OnErr result (self.new.published ≡ self.old.published) }
     {
         let Publisher { writer, front, .. } = self;

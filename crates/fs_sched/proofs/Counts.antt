@@ -166,7 +166,7 @@ tallied_begin s new seat call (Ok c) (off, number, r) t = go (reserves (form cal
     go (Some shape) (n, less, unused, same) = subst Tallied (sym same) (tallied_began s seat call c (Some n) (reserved_in n shape s.graph) number t)
 
 tallied : (s : State) → Run s → Tallied s
-tallied s (Start limit least) = record { returned = refl; committed = refl }
+tallied s (Start limit tree graph is) = record { returned = refl; committed = refl }
 tallied s (Beginning {old} seat call answer new run begin) = tallied_begin old s seat call answer begin (tallied old run)
 tallied s (Stepping {old} seat answer new run step) = tallied_step old s seat answer run step (tallied old run)
 

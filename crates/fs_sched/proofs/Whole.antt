@@ -6,8 +6,9 @@ use Rattle.std.proofs.lemmas.Bool.{ltb-true, ltb-false}
 use Rattle.fs_names.specs.Shapes.{Shape}
 use Rattle.fs_names.specs.declared.limits.TheConstants.{NODE_LIMIT}
 use Rattle.fs_calls.specs.Forms.{form, reserves}
+use Rattle.fs_calls.specs.Tree.{root_tree}
 use Rattle.fs_calls.specs.declared.call.Call.{Call}
-use Rattle.fs_nodes.specs.Graphs.{set_at}
+use Rattle.fs_nodes.specs.Graphs.{set_at, empty_graph}
 use Rattle.fs_timeline.specs.declared.entry.Entry.{Entry}
 use Rattle.fs_timeline.specs.declared.entry.Entry.TheVariants.{Begin, Commit, Return}
 use Rattle.fs_machine.specs.Records.{Record}
@@ -17,6 +18,7 @@ use Rattle.fs_machine.specs.declared.answers.Stepped.{Stepped}
 use Rattle.fs_machine.specs.declared.answers.Stepped.TheVariants.{Idle, Took, Busy, LetGo, Helped, Committed, CarriedOut, Returned}
 use Rattle.fs_laws.proofs.events.OneCallChanged.{Place, Here, Else, place}
 use Rattle.fs_laws.proofs.states.GraphOfARun.{call_seat}
+use Rattle.fs_laws.proofs.states.StartsEmpty.{starts_empty}
 use Rattle.fs_text.specs.declared.fault.ScriptFault.{ScriptFault}
 use Rattle.fs_script.specs.declared.script.Script.{Script}
 use Rattle.fs_script.specs.declared.script.Word.{Word}
@@ -155,7 +157,7 @@ owed_all (calls ∷ lists) =
 
 pub kept_start : (lists : List (List Call)) → ListFacts lists (start (length lists))
 kept_start lists = record {
-  run = Start NODE_LIMIT (omega arith);
+  run = Start NODE_LIMIT root_tree empty_graph (starts_empty NODE_LIMIT (omega arith));
   same = length_zeros (length lists);
   seats = λ x d on. absurd (none_some None d refl on);
   all = (let h : owed one lists (replicate (length lists) 0) ≡ calls_in lists = owed_all lists in omega (arith, h));

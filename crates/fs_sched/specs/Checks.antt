@@ -1,5 +1,6 @@
 -- The verdict on a journal text, and its line.
 use Rattle.std.specs.Prelude.{ℕ, Bool, true, false, List, ◌++◌, Result, Ok, Err, codes, decimal}
+use Rattle.fs_calls.specs.Tree.{root_tree}
 use Rattle.fs_timeline.specs.Verdicts.{verdict}
 use Rattle.fs_timeline.specs.declared.entry.Entry.{Entry}
 use Rattle.fs_timeline.specs.declared.verdict.Verdict.{Verdict}
@@ -29,9 +30,9 @@ abbrev pub verdict_line : Verdict → List ℕ
 verdict_line Lawful = codes "lawful\n"
 verdict_line (Fault place k) = codes "fault " ++ (decimal place ++ (codes " " ++ (kind_word k ++ codes "\n")))
 
--- the verdict on the entries that were read, or the fault of the text
+-- the verdict on the entries that were read, from the root alone, or the fault of the text
 abbrev pub judged : Result (List Entry) ScriptFault → Result Verdict ScriptFault
-judged (Ok es) = Ok (verdict es)
+judged (Ok es) = Ok (verdict root_tree es)
 judged (Err f) = Err f
 
 -- the verdict on the entries of a journal text, or the text's first fault

@@ -2,6 +2,7 @@
 
 ghost use Rattle.std.specs.Prelude.{◌≡◌, ◌≢◌, ◌+◌, ◌-◌, ◌<◌, ◌^◌, ℕ, List, Ok, Err, IfOk, OnOk, OnErr, IfErr, IfSome, IsErrOf};
 ghost use Rattle.std.specs.Io.KnownBytes.{Appends, IsAtEnd};
+ghost use Rattle.fs_calls.specs.Tree.{root_tree};
 ghost use Rattle.fs_timeline.specs.Verdicts.{verdict};
 ghost use Rattle.fs_text.specs.Journal.{entries_of};
 ghost use Rattle.fs_text.specs.declared.fault.ScriptFault.{ScriptFault};
@@ -29,9 +30,9 @@ fn entries_of(alloc: Global, text: &[u8]) -> Result<Vec<Entry>, RunFault>
     }
 }
 
-/// The verdict on entries.
+/// The verdict on entries, from the root alone.
 fn verdict_on(alloc: Global, entries: &[Entry]) -> Result<Verdict, RunFault>
-    ensures ok { IfOk result (λ v. v ≡ verdict entries.now) }
+    ensures ok { IfOk result (λ v. v ≡ verdict root_tree entries.now) }
     ensures err { IfErr result (λ fault. fault ≡ RunFault.OutOfMemory) }
 {
     match check(alloc, entries) {

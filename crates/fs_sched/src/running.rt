@@ -2,6 +2,7 @@
 
 ghost use Rattle.std.specs.Prelude.{◌≡◌, ◌≢◌, ◌+◌, ◌-◌, ◌<◌, ◌^◌, ℕ, List, min, map, Ok, Err, IfOk, OnOk, OnErr, IfErr, IfSome, IsErrOf};
 ghost use Rattle.std.specs.Io.KnownBytes.{Appends, IsAtEnd};
+ghost use Rattle.fs_calls.specs.Tree.{root_tree};
 ghost use Rattle.fs_timeline.specs.declared.entry.Entry.{Entry};
 ghost use Rattle.fs_text.specs.declared.fault.ScriptFault.{ScriptFault};
 ghost use Rattle.fs_script.specs.Script.{script_of};
@@ -65,6 +66,7 @@ fn end_of(calls: usize, counts: Counts) -> RunEnd
 /// A run of a script, from its first event to its last.
 pub(crate) fn play(alloc: Global, script: &Script, schedule: Schedule) -> Result<Play, RunFault>
     ensures runs { IfOk result (λ play. Runs schedule script.now (stage_of play)) }
+    ensures root { IfOk result (λ play. play.core.start ≡ root_tree) }
     ensures fault { IfErr result IsRefusal }
     ensures full { IsErrOf result RunFault.Full → FillsUp schedule script.now }
 {

@@ -5,6 +5,7 @@ use Rattle.fs_names.specs.Reading.{names}
 use Rattle.fs_names.specs.Keys.{Key}
 use Rattle.fs_names.specs.declared.fault.PathFault.TheVariants.{Nul, TrailingSlash}
 use Rattle.fs_calls.specs.declared.call.Call.TheVariants.{Mkdir, Mknod, Unlink, Rmdir, Rename, Stat, Readdir, Read, Write, Truncate}
+use Rattle.fs_calls.specs.Tree.{root_tree}
 use Rattle.fs_calls.specs.Outcomes.{play}
 use Rattle.fs_text.specs.Journal.{fault_at}
 use Rattle.fs_text.specs.declared.fault.ScriptFault.{ScriptFault}
@@ -74,10 +75,10 @@ pub record ScriptsRead : Type 0 where
       })
 
 pub record TreeTexts : Type 0 where
-  pub root : tree_text (play []) ≡ codes "tree\ndir /\n"
-  pub helped_mkdir : tree_text (play (Mkdir (at "/a") ∷ Mkdir (at "/a/d") ∷ Mkdir (at "/a/d/x") ∷ Rename (at "/a") (at "/b") ∷ []))
+  pub root : tree_text (play root_tree []) ≡ codes "tree\ndir /\n"
+  pub helped_mkdir : tree_text (play root_tree (Mkdir (at "/a") ∷ Mkdir (at "/a/d") ∷ Mkdir (at "/a/d/x") ∷ Rename (at "/a") (at "/b") ∷ []))
       ≡ codes "tree\ndir /\ndir /b\ndir /b/d\ndir /b/d/x\n"
-  pub helped_rename : tree_text (play (Mkdir (at "/a") ∷ Mkdir (at "/a/p") ∷ Mkdir (at "/a/q") ∷ Mknod (at "/a/p/s") ∷ Rename (at "/a/p/s") (at "/a/q/t") ∷ Rename (at "/a") (at "/b") ∷ []))
+  pub helped_rename : tree_text (play root_tree (Mkdir (at "/a") ∷ Mkdir (at "/a/p") ∷ Mkdir (at "/a/q") ∷ Mknod (at "/a/p/s") ∷ Rename (at "/a/p/s") (at "/a/q/t") ∷ Rename (at "/a") (at "/b") ∷ []))
       ≡ codes "tree\ndir /\ndir /b\ndir /b/p\ndir /b/q\nfile /b/q/t -\n"
-  pub renames_in_sequence : tree_text (play (Mkdir (at "/e") ∷ Mknod (at "/e/b") ∷ Mkdir (at "/e/d") ∷ Mknod (at "/f") ∷ Write (at "/e/b") 0 (codes "hi") ∷ []))
+  pub renames_in_sequence : tree_text (play root_tree (Mkdir (at "/e") ∷ Mknod (at "/e/b") ∷ Mkdir (at "/e/d") ∷ Mknod (at "/f") ∷ Write (at "/e/b") 0 (codes "hi") ∷ []))
       ≡ codes "tree\ndir /\ndir /e\nfile /e/b 6869\ndir /e/d\nfile /f -\n"

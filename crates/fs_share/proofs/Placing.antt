@@ -3,6 +3,7 @@ use Rattle.std.proofs.Common.{◌≡◌, ℕ, zero, suc, ◌<◌, true, false, c
 use Rattle.std.proofs.lemmas.Bool.{eqb-true, or_left}
 use Rattle.std.proofs.Math.Seq.{take-append_seam}
 use mathlib.Core.List.{IsPrefix}
+use Rattle.fs_calls.specs.Tree.{Tree}
 use Rattle.fs_calls.specs.Outcomes.{play, reply}
 use Rattle.fs_calls.specs.declared.call.Call.{Call}
 use Rattle.fs_calls.specs.declared.reply.Reply.{Reply}
@@ -42,13 +43,13 @@ call_of_grows c xs (y ∷ ys) h =
     ap (call_of c) (sym (append_assoc xs (y ∷ []) ys)) ∙ call_of_grows c (xs ++ y ∷ []) ys more ∙ call_of-kept c xs y h
 
 -- the reply that is due to a call that has committed stays
-due_grows : (c : ℕ) (xs ys : List Entry) → IsWellFormed (xs ++ ys) → has_committed c xs ≡ true → due c (xs ++ ys) ≡ due c xs
-due_grows c xs [] w h = ap (due c) (append_nil xs)
-due_grows c xs (y ∷ ys) w h =
+due_grows : (start : Tree) (c : ℕ) (xs ys : List Entry) → IsWellFormed (xs ++ ys) → has_committed c xs ≡ true → due start c (xs ++ ys) ≡ due start c xs
+due_grows start c xs [] w h = ap (due start c) (append_nil xs)
+due_grows start c xs (y ∷ ys) w h =
     let all : (xs ++ y ∷ []) ++ ys ≡ xs ++ y ∷ ys = append_assoc xs (y ∷ []) ys in
     let more : has_committed c (xs ++ y ∷ []) ≡ true = list_any-push _ xs y ∙ or_left _ _ h in
-    ap (due c) (sym all) ∙ due_grows c (xs ++ y ∷ []) ys (subst (λ (l : List Entry). IsWellFormed l) (sym all) w) more
-    ∙ due-kept c xs y (begun_first xs (each_beginning IsNext [] xs (y ∷ ys) w)) h
+    ap (due start c) (sym all) ∙ due_grows start c (xs ++ y ∷ []) ys (subst (λ (l : List Entry). IsWellFormed l) (sym all) w) more
+    ∙ due-kept start c xs y (begun_first xs (each_beginning IsNext [] xs (y ∷ ys) w)) h
 
 -- a committed call's Commit follows what stands before it
 commit_there : (c : ℕ) (es : List Entry) → has_committed c es ≡ true → (rest : List Entry) × (es ≡ before_commit c es ++ Commit c ∷ rest)
@@ -100,13 +101,13 @@ around (x ∷ es) zero e h = ([], es, cc h)
 around (x ∷ es) (suc i) e h = let r = around es i e h in (x ∷ r.0, r.1, ap (λ (l : List Entry). x ∷ l) r.2)
 
 -- a lawful timeline's Return has the reply that is due
-pub returned_due : (es : List Entry) (i c : ℕ) (r : Reply) → IsLawful es → slice_get es i ≡ Some (Return c r) → due c es ≡ Some r
-returned_due es i c r law h =
+pub returned_due : (start : Tree) (es : List Entry) (i c : ℕ) (r : Reply) → IsLawful start es → slice_get es i ≡ Some (Return c r) → due start c es ≡ Some r
+returned_due start es i c r law h =
     let at = around es i (Return c r) h in
     let wf : IsWellFormed (at.0 ++ Return c r ∷ at.1) = subst (λ (l : List Entry). IsWellFormed l) at.2 law.well_formed in
     let committed : has_committed c at.0 ≡ true = (each_next IsNext [] at.0 (Return c r) at.1 wf).0 in
-    let answered : due c at.0 ≡ Some r = each_next IsAnswered [] at.0 (Return c r) at.1 (subst (λ (l : List Entry). Each IsAnswered [] l) at.2 law.replies) in
-    ap (due c) at.2 ∙ due_grows c at.0 (Return c r ∷ at.1) wf committed ∙ answered
+    let answered : due start c at.0 ≡ Some r = each_next (IsAnswered start) [] at.0 (Return c r) at.1 (subst (λ (l : List Entry). Each (IsAnswered start) [] l) at.2 law.replies) in
+    ap (due start c) at.2 ∙ due_grows start c at.0 (Return c r ∷ at.1) wf committed ∙ answered
 
 placed : (es : List Entry) (c p : ℕ) → place_of c es ≡ Some p → (has_committed c es ≡ true) × (p ≡ length (commits (before_commit c es)))
 placed es c p h =
@@ -115,20 +116,20 @@ placed es c p h =
       | false ↦ λ k. absurd (cc)
     ] h
 
-told_call : (calls : List Call) (o : Option Call) (r : Reply) → reply_after calls o ≡ Some r → (call : Call) × (o ≡ Some call) × (r ≡ reply (play calls) call)
-told_call calls None r h = absurd (cc)
-told_call calls (Some call) r h = (call, refl, sym (cc h))
+told_call : (start : Tree) (calls : List Call) (o : Option Call) (r : Reply) → reply_after start calls o ≡ Some r → (call : Call) × (o ≡ Some call) × (r ≡ reply (play start calls) call)
+told_call start calls None r h = absurd (cc)
+told_call start calls (Some call) r h = (call, refl, sym (cc h))
 
 -- what a call is told of: its place, itself and its reply
-pub is_told_by : (es : List Entry) (i c p : ℕ) (call : Call) (r : Reply) → IsLawful es → place_of c es ≡ Some p → p < length (commits es) → slice_get (commits es) p ≡ Some call → slice_get es i ≡ Some (Return c r) → IsListed (commits es) p call r
-is_told_by es i c p call r law at inside is returned =
+pub is_told_by : (start : Tree) (es : List Entry) (i c p : ℕ) (call : Call) (r : Reply) → IsLawful start es → place_of c es ≡ Some p → p < length (commits es) → slice_get (commits es) p ≡ Some call → slice_get es i ≡ Some (Return c r) → IsListed start (commits es) p call r
+is_told_by start es i c p call r law at inside is returned =
     let where_ = placed es c p at in
-    let due_is = told_call (commits (before_commit c es)) (call_of c es) r (returned_due es i c r law returned) in
+    let due_is = told_call start (commits (before_commit c es)) (call_of c es) r (returned_due start es i c r law returned) in
     let found : slice_get (commits es) p ≡ Some due_is.0 = ap (λ (n : ℕ). slice_get (commits es) n) where_.1 ∙ commit_call c es due_is.0 law.well_formed where_.0 due_is.1 in
     let same : due_is.0 ≡ call = cc (sym found ∙ is) in
     let first : take p (commits es) ≡ commits (before_commit c es) = ap (λ (n : ℕ). take n (commits es)) where_.1 ∙ commits_before c es law.well_formed where_.0 in
     record {
       inside = inside;
       stands = is;
-      replied = due_is.2 ∙ ap (λ (x : Call). reply (play (commits (before_commit c es))) x) same ∙ ap (λ (l : List Call). reply (play l) call) (sym first);
+      replied = due_is.2 ∙ ap (λ (x : Call). reply (play start (commits (before_commit c es))) x) same ∙ ap (λ (l : List Call). reply (play start l) call) (sym first);
     }

@@ -2,6 +2,7 @@
 use Rattle.std.proofs.Common.{◌≡◌, ℕ, List, [], ◌∷◌, ◌++◌, length, Option, Some, None, Result, Ok, Err, OnOk, OnErr, slice_get, sym, ap, subst, arith, length-append}
 use mathlib.Core.List.{IsPrefix}
 use Rattle.fs_names.specs.Shapes.{Shape}
+use Rattle.fs_calls.specs.Tree.{Tree}
 use Rattle.fs_calls.specs.Forms.{form, reserves}
 use Rattle.fs_calls.specs.declared.call.Call.{Call}
 use Rattle.fs_timeline.specs.Timeline.{commits, commits_of, IsLawful}
@@ -21,27 +22,27 @@ use Rattle.fs_share.specs.Boards.{AreBeginnings}
 kept : (es new : List Entry) → new ≡ es → IsPrefix (commits es) (commits new)
 kept es new h = subst (λ (l : List Entry). IsPrefix (commits es) (commits l)) (sym h) (prefix_self (commits es))
 
-more : (es new : List Entry) (e : Entry) → IsLawful es → new ≡ es ++ e ∷ [] → IsPrefix (commits es) (commits new)
-more es new e law h = subst (λ (l : List Entry). IsPrefix (commits es) (commits l)) (sym h) (commits_of (es ++ e ∷ []) (e ∷ []), sym (commits-push es e (begun_first es law.well_formed)))
+more : (start : Tree) (es new : List Entry) (e : Entry) → IsLawful start es → new ≡ es ++ e ∷ [] → IsPrefix (commits es) (commits new)
+more start es new e law h = subst (λ (l : List Entry). IsPrefix (commits es) (commits l)) (sym h) (commits_of (es ++ e ∷ []) (e ∷ []), sym (commits-push es e (begun_first es law.well_formed)))
 
 abbrev line : State → List Entry
 line s = s.timeline
 
-pub step_grows : (s t : State) (seat : ℕ) (a : Stepped) → IsLawful s.timeline → Step s seat a t → IsPrefix (commits s.timeline) (commits t.timeline)
+pub step_grows : (s t : State) (seat : ℕ) (a : Stepped) → IsLawful s.start s.timeline → Step s seat a t → IsPrefix (commits s.timeline) (commits t.timeline)
 step_grows s t seat Idle law h = kept _ _ (ap line h.1)
 step_grows s t seat (Took n) law (c, op, moves, free, same) = kept _ _ (ap line same)
 step_grows s t seat (Busy n d) law (c, op, moves, held, same) = kept _ _ (ap line same)
 step_grows s t seat (LetGo n) law (c, op, moves, same) = kept _ _ (ap line same)
-step_grows s t seat (Helped d) law (c, op, m, moves, walking, chosen, q, is, same) = more _ _ (Commit d) law (ap line same)
-step_grows s t seat Committed law (c, op, m, moves, walking, none, same) = more _ _ (Commit c) law (ap line same)
+step_grows s t seat (Helped d) law (c, op, m, moves, walking, chosen, q, is, same) = more _ _ _ (Commit d) law (ap line same)
+step_grows s t seat Committed law (c, op, m, moves, walking, none, same) = more _ _ _ (Commit c) law (ap line same)
 step_grows s t seat CarriedOut law (c, op, m, i, moves, placed, same) = kept _ _ (ap line same)
-step_grows s t seat (Returned r) law (c, op, moves, finished, same) = more _ _ (Return c r) law (ap line same)
+step_grows s t seat (Returned r) law (c, op, moves, finished, same) = more _ _ _ (Return c r) law (ap line same)
 
-reserve_grows : (s t : State) (seat : ℕ) (call : Call) (c : ℕ) (shape : Option Shape) → IsLawful s.timeline → Reserves s seat call c shape t → IsPrefix (commits s.timeline) (commits t.timeline)
-reserve_grows s t seat call c None law same = more _ _ (Begin c seat call) law (ap line same)
-reserve_grows s t seat call c (Some shape) law (n, less, free, same) = more _ _ (Begin c seat call) law (ap line same)
+reserve_grows : (s t : State) (seat : ℕ) (call : Call) (c : ℕ) (shape : Option Shape) → IsLawful s.start s.timeline → Reserves s seat call c shape t → IsPrefix (commits s.timeline) (commits t.timeline)
+reserve_grows s t seat call c None law same = more _ _ _ (Begin c seat call) law (ap line same)
+reserve_grows s t seat call c (Some shape) law (n, less, free, same) = more _ _ _ (Begin c seat call) law (ap line same)
 
-pub begin_grows : (s t : State) (seat : ℕ) (call : Call) (r : Result ℕ Refusal) → IsLawful s.timeline → Begins s seat call r t → IsPrefix (commits s.timeline) (commits t.timeline)
+pub begin_grows : (s t : State) (seat : ℕ) (call : Call) (r : Result ℕ Refusal) → IsLawful s.start s.timeline → Begins s seat call r t → IsPrefix (commits s.timeline) (commits t.timeline)
 begin_grows s t seat call (Ok c) law (free, number, made) = reserve_grows s t seat call c (reserves (form call)) law made
 begin_grows s t seat call (Err OutOfMemory) law (free, full, same) = kept _ _ (ap line same)
 begin_grows s t seat call (Err Full) law (free, full, same) = kept _ _ (ap line same)
@@ -95,5 +96,5 @@ published_all commits old new h published taken entered = record {
   one_more = omega (arith, ap length taken, ap length entered, h.one_more);
 }
 
-pub none_taken : (lists : Lists) → lists ≡ record { published = []; taken = []; entered = [] } → AreBeginnings [] lists
-none_taken lists h = subst (λ (l : Lists). AreBeginnings [] l) (sym h) (record { published = prefix_self []; taken = prefix_self []; entered = prefix_self []; one_more = omega arith })
+pub none_taken : (start : Tree) (lists : Lists) → lists ≡ record { start = start; published = []; taken = []; entered = [] } → AreBeginnings [] lists
+none_taken start lists h = subst (λ (l : Lists). AreBeginnings [] l) (sym h) (record { published = prefix_self []; taken = prefix_self []; entered = prefix_self []; one_more = omega arith })

@@ -12,6 +12,7 @@ use fs_calls::{Call, Reply};
 use fs_core::{Core, Refusal, Stepped};
 use fs_names::{CallNo, SeatNo};
 use fs_observe::{Named, NoPlace, Observer, Opened, Publisher, Stamp};
+use fs_seq::SeqTree;
 use std::alloc::{AllocError, Global};
 use std::marker::Model;
 use std::sync::Wait;
@@ -24,6 +25,7 @@ pub struct Board<N: Named> {
 }
 
 impl<N: Named> Model for Board<N> {
+    ghost use Rattle.std.specs.Prelude.{◌≡◌};
     ghost use Rattle.fs_timeline.specs.Timeline.{commits};
     ghost use Rattle.fs_share.specs.Boards.{Boarded, AreBeginnings};
 
@@ -31,7 +33,7 @@ impl<N: Named> Model for Board<N> {
 
     ghost view = { λ board. record { core = board.core; published = board.publisher.published } };
 
-    ghost invariant = { λ board. AreBeginnings (commits board.core.timeline) board.publisher };
+    ghost invariant = { λ board. AreBeginnings (commits board.core.timeline) board.publisher × (board.publisher.start ≡ board.core.start) };
 }
 
 /// What a worker does while it is lent the core: one step of its seat's call.
@@ -54,6 +56,7 @@ fn take_in<N: Named>(
     requires next { place ≡ length publisher.old.taken }
     requires committed { place < length (commits core.now.timeline) }
     ensures beginnings { AreBeginnings (commits core.now.timeline) publisher.new }
+    ensures start { publisher.new.start ≡ publisher.old.start }
     ensures published { publisher.new.published ≡ publisher.old.published }
     ensures next { OnOk result (length publisher.new.taken ≡ place + 1) }
 {
@@ -68,6 +71,7 @@ fn catch_up<N: Named>(
 ) -> Result<(), AllocError>
     requires { AreBeginnings (commits core.now.timeline) publisher.old }
     ensures beginnings { AreBeginnings (commits core.now.timeline) publisher.new }
+    ensures start { publisher.new.start ≡ publisher.old.start }
     ensures published { publisher.new.published ≡ publisher.old.published }
     ensures all { OnOk result (publisher.new.taken ≡ commits core.now.timeline) }
 {
@@ -89,7 +93,9 @@ impl<N: Named> Board<N> {
         ensures timeline { IfOk result (λ board. board.core.timeline ≡ []) }
     {
         let core = Core::new(alloc)?;
-        let publisher = Publisher::open(rt, alloc, opened)?;
+        let first = SeqTree::new(alloc)?;
+        let second = SeqTree::new(alloc)?;
+        let publisher = Publisher::open(rt, alloc, opened, first, second)?;
         Ok(Board { core, publisher })
     }
 
@@ -154,7 +160,7 @@ impl<N: Named> Board<N> {
     pub fn publish<R: Wait>(&mut self, rt: &R, alloc: Global) -> Option<Stamp<N>>
         ensures core { self.new.core ≡ self.old.core }
         ensures begins { IsPrefix self.new.published (commits self.new.core.timeline) }
-        ensures some { IfSome result (λ stamp. (stamp ≡ commits self.new.core.timeline) × (self.new.published ≡ commits self.new.core.timeline)) }
+        ensures some { IfSome result (λ stamp. (stamp ≡ record { start = self.new.core.start; list = commits self.new.core.timeline }) × (self.new.published ≡ commits self.new.core.timeline)) }
         ensures none { IfNone result (self.new.published ≡ self.old.published) }
     {
         let Board { core, publisher } = self;
@@ -173,13 +179,20 @@ impl<N: Named> Board<N> {
         reply: &Reply,
     ) -> (usize, Option<Stamp<N>>)
         ensures core { self.new.core ≡ self.old.core }
-        ensures told { IfSome result.1 (λ stamp. IsListed stamp result.0 call.now reply.now) }
+        ensures told { IfSome result.1 (λ stamp. IsListed stamp.start stamp.list result.0 call.now reply.now) }
     {
         let stamp = self.publish(rt, alloc);
         match told_place(&self.core, number, call, reply) {
             Some(place) => (place, stamp),
             None => (self.core.place_of(number).unwrap_or(0), None),
         }
+    }
+
+    /// A stamp of the list of no calls: it tells the tree at which the timeline starts.
+    pub(crate) fn first(&self) -> Stamp<N>
+        ensures { result ≡ record { start = self.now.core.start; list = [] } }
+    {
+        self.publisher.first()
     }
 
     /// Ends the publisher, and gives the core back.

@@ -132,7 +132,7 @@ impl<N: Named> Desk<N> {
         call: &Call,
         reply: &Reply,
     ) -> (usize, Option<Stamp<N>>)
-        ensures { IfSome result.1 (λ stamp. IsListed stamp result.0 call.now reply.now) }
+        ensures { IfSome result.1 (λ stamp. IsListed stamp.start stamp.list result.0 call.now reply.now) }
     {
         let Desk { board, .. } = self;
         board.tell(rt, alloc, number, call, reply)
@@ -141,8 +141,8 @@ impl<N: Named> Desk<N> {
     /// The timeline, the nodes and the number of seats. The tallies are of this tree, by their type.
     pub fn close<R: Wait>(self, rt: &R, whole: Whole<N>, tallies: Vec<Tally<N>>) -> Closed
         ensures sessions { result.sessions ≡ length self.board.core.seats }
-        ensures lawful { IsLawful result.timeline.entries }
-        ensures spelled { AllReturned result.timeline.entries → graph_shapes (graph_of result.store) ≡ tree_shapes (play (commits result.timeline.entries)) }
+        ensures lawful { IsLawful result.start result.timeline.entries }
+        ensures spelled { AllReturned result.timeline.entries → graph_shapes (graph_of result.store) ≡ tree_shapes (play result.start (commits result.timeline.entries)) }
         ensures returns { vec_len tallies ≡ result.sessions → returns result.timeline.entries ≡ sum_by (λ tally. tally.count) tallies.items }
     {
         let Desk {
@@ -159,8 +159,9 @@ impl<N: Named> Desk<N> {
         let core = board.close(rt);
         core.told();
         let sessions = core.seats();
-        let (timeline, store) = core.into_parts();
+        let (start, timeline, store) = core.into_parts();
         Closed {
+            start,
             timeline,
             store,
             sessions,

@@ -171,8 +171,8 @@ fn run_named<N: Named + Send + Sync, R: Threads + Wait + Clock + Sync, G: Gate +
     requires name { blank.name ≡ N.name }
     requires parts { blank.parts ≡ N.parts }
     requires all { blank.parts ≡ 2 ^ 63 }
-    ensures lawful { IfOk result (λ closed. IsLawful closed.timeline.entries) }
-    ensures spelled { IfOk result (λ closed. AllReturned closed.timeline.entries → graph_shapes (graph_of closed.store) ≡ tree_shapes (play (commits closed.timeline.entries))) }
+    ensures lawful { IfOk result (λ closed. IsLawful closed.start closed.timeline.entries) }
+    ensures spelled { IfOk result (λ closed. AllReturned closed.timeline.entries → graph_shapes (graph_of closed.store) ≡ tree_shapes (play closed.start (commits closed.timeline.entries))) }
     ensures returns { IfOk result (λ closed. returns closed.timeline.entries ≡ sum_by vec_len lists.now) }
 {
     let fs = AtomFs::<N>::open(rt, alloc, opened, blank).map_err(|_| out_of_memory())?;
@@ -199,8 +199,8 @@ pub fn run_lists<R: Threads + Wait + Clock + Sync, G: Gate + Sync>(
     lists: &[Vec<Call>],
     gate: &G,
 ) -> Result<Closed, ListsFault>
-    ensures lawful { IfOk result (λ closed. IsLawful closed.timeline.entries) }
-    ensures spelled { IfOk result (λ closed. AllReturned closed.timeline.entries → graph_shapes (graph_of closed.store) ≡ tree_shapes (play (commits closed.timeline.entries))) }
+    ensures lawful { IfOk result (λ closed. IsLawful closed.start closed.timeline.entries) }
+    ensures spelled { IfOk result (λ closed. AllReturned closed.timeline.entries → graph_shapes (graph_of closed.store) ≡ tree_shapes (play closed.start (commits closed.timeline.entries))) }
     ensures returns { IfOk result (λ closed. returns closed.timeline.entries ≡ sum_by vec_len lists.now) }
 {
     run_named::<Brand, R, G>(rt, alloc, Opened::new(), Blank::new(1 << 63), lists, gate)

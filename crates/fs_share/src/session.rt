@@ -100,8 +100,9 @@ impl<'a, N: Named> Session<'a, N> {
         ensures ok { OnOk result (self.new.count ≡ self.old.count + 1) }
         ensures err { OnErr result (self.new.count ≡ self.old.count) }
 
-        // The call stands at the place in the stamp's list, and the reply is the sequential tree's after the calls before it.
-        ensures told { IfOk result (λ told. IfSome told.stamp (λ stamp. IsListed stamp told.place call.now told.answer.reply)) }
+        // The call stands at the place in the stamp's list, and the reply is that of the tree
+        // which the calls before it play on the stamp's start tree.
+        ensures told { IfOk result (λ told. IfSome told.stamp (λ stamp. IsListed stamp.start stamp.list told.place call.now told.answer.reply)) }
     {
         let answer = self.call(rt, alloc, call, gate)?;
         let (place, stamp) = self.fs.tell(rt, alloc, answer.call, call, &answer.reply);

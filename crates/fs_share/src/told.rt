@@ -44,7 +44,7 @@ fn return_place(entries: &[Entry], number: CallNo, reply: &Reply) -> Option<usiz
 /// Where a call stands among the commits, if the timeline's Commit, Begin and Return of this number are those of this call
 /// and reply.
 pub(crate) fn told_place(core: &Core, number: CallNo, call: &Call, reply: &Reply) -> Option<usize>
-    ensures { IfSome result (λ place. IsListed (commits core.now.timeline) place call.now reply.now) }
+    ensures { IfSome result (λ place. IsListed core.now.start (commits core.now.timeline) place call.now reply.now) }
 {
     core.told();
     let place = core.place_of(number)?;

@@ -1,6 +1,6 @@
 //! A tree that sessions share, and its end.
 
-ghost use Rattle.std.specs.Prelude.{◌≡◌, ◌+◌, ◌<◌, ◌^◌, length, vec_len, sum_by, IfOk, IfSome};
+ghost use Rattle.std.specs.Prelude.{[], ◌≡◌, ◌+◌, ◌<◌, ◌^◌, length, vec_len, sum_by, IfOk, IfSome};
 ghost use Rattle.fs_nodes.specs.Graphs.{graph_shapes};
 ghost use Rattle.fs_nodes.specs.Stores.{graph_of};
 ghost use Rattle.fs_calls.specs.Outcomes.{play};
@@ -17,6 +17,7 @@ use fs_core::{Refusal, Stepped};
 use fs_names::{CallNo, SeatNo};
 use fs_nodes::{NodeNo, Store};
 use fs_observe::{Named, NoPlace, Observer, Opened, Stamp};
+use fs_seq::SeqTree;
 use fs_timeline::Timeline;
 use std::alloc::{AllocError, Global};
 use std::marker::PhantomData;
@@ -37,9 +38,10 @@ pub struct AtomFs<N: Named> {
     whole: Whole<N>,
 }
 
-/// What is left of a tree: its timeline, its nodes, and how many sessions it had.
+/// What is left of a tree: the tree at which its timeline starts, its timeline, its nodes, and how many sessions it had.
 #[derive(Drop)]
 pub struct Closed {
+    pub start: SeqTree,
     pub timeline: Timeline,
     pub store: Store,
     pub sessions: usize,
@@ -164,7 +166,7 @@ impl<N: Named> AtomFs<N> {
         call: &Call,
         reply: &Reply,
     ) -> (usize, Option<Stamp<N>>)
-        ensures { IfSome result.1 (λ stamp. IsListed stamp result.0 call.now reply.now) }
+        ensures { IfSome result.1 (λ stamp. IsListed stamp.start stamp.list result.0 call.now reply.now) }
     {
         let mut desk = self.desk.lock(rt);
         let told = desk.tell(rt, alloc, number, call, reply);
@@ -172,10 +174,20 @@ impl<N: Named> AtomFs<N> {
         told
     }
 
+    /// A stamp of the list of no calls: it tells the tree at which the timeline starts.
+    pub fn first<R: Wait>(&self, rt: &R) -> Stamp<N>
+        ensures { result.list ≡ [] }
+    {
+        let desk = self.desk.lock(rt);
+        let stamp = desk.board.first();
+        MutexGuard::unlock(desk);
+        stamp
+    }
+
     /// Ends the tree, and with it what its observers read. It takes no memory.
     pub fn close<R: Wait>(self, rt: &R, tallies: Vec<Tally<N>>) -> Closed
-        ensures lawful { IsLawful result.timeline.entries }
-        ensures spelled { AllReturned result.timeline.entries → graph_shapes (graph_of result.store) ≡ tree_shapes (play (commits result.timeline.entries)) }
+        ensures lawful { IsLawful result.start result.timeline.entries }
+        ensures spelled { AllReturned result.timeline.entries → graph_shapes (graph_of result.store) ≡ tree_shapes (play result.start (commits result.timeline.entries)) }
 
         // Where each session handed in its tally, as many calls returned as these add up to.
         ensures returns { vec_len tallies ≡ result.sessions → returns result.timeline.entries ≡ sum_by (λ tally. tally.count) tallies.items }

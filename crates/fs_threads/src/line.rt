@@ -5,8 +5,9 @@ ghost use Rattle.fs_timeline.specs.Timeline.{IsLawful};
 ghost use Rattle.fs_sched.specs.RunTexts.{number_of};
 ghost use Rattle.fs_threads.specs.Lines.{lawful_line, line_of};
 
-use fs_journal::check;
+use fs_journal::check_on;
 use fs_sched::{EntryKind, is_lawful, number_of, push_verdict};
+use fs_seq::SeqTree;
 use fs_text::Addition;
 use fs_timeline::{Entry, Verdict};
 use std::alloc::{AllocError, Global};
@@ -32,13 +33,17 @@ fn push_line(returned: usize, verdict: &Verdict, line: &mut Addition) -> Result<
     }
 }
 
-/// The line of a lawful timeline. The only error is out of memory.
-pub(crate) fn make_line(alloc: Global, entries: &[Entry]) -> Result<MadeLine, AllocError>
-    requires { IsLawful entries.now }
+/// The line of a timeline that is lawful from a start tree. The only error is out of memory.
+pub(crate) fn make_line(
+    alloc: Global,
+    start: SeqTree,
+    entries: &[Entry],
+) -> Result<MadeLine, AllocError>
+    requires { IsLawful start entries.now }
     ensures text { IfOk result (λ made. made.text.items ≡ lawful_line (number_of EntryKind.Return entries.now)) }
     ensures lawful { IfOk result (λ made. made.lawful ≡ true) }
 {
-    let verdict = check(alloc, entries)?;
+    let verdict = check_on(alloc, start, entries)?;
     let mut line = Addition::new(Vec::new(alloc));
     push_line(number_of(EntryKind::Return, entries), &verdict, &mut line)?;
     Ok(MadeLine {

@@ -17,21 +17,26 @@ use crate::line::{MadeLine, make_line};
 use fs_calls::Call;
 use fs_sched::{EntryKind, RunFault, Sink, Source, read_text, run_fault, write_text};
 use fs_script::read_script;
-use fs_share::{Open, run_lists};
+use fs_seq::SeqTree;
+use fs_share::{Closed, Open, run_lists};
 use fs_timeline::Entry;
 use std::alloc::Global;
 use std::sync::Wait;
 use std::thread::Threads;
 use std::time::Clock;
 
-/// The line of a lawful timeline. The only error is out of memory.
-fn line_of_entries(alloc: Global, entries: &[Entry]) -> Result<MadeLine, ThreadsFault>
-    requires { IsLawful entries.now }
+/// The line of a timeline that is lawful from a start tree. The only error is out of memory.
+fn line_of_entries(
+    alloc: Global,
+    start: SeqTree,
+    entries: &[Entry],
+) -> Result<MadeLine, ThreadsFault>
+    requires { IsLawful start entries.now }
     ensures text { IfOk result (λ made. made.text.items ≡ lawful_line (number_of EntryKind.Return entries.now)) }
     ensures lawful { IfOk result (λ made. made.lawful ≡ true) }
     ensures fault { IfErr result IsOfThreads }
 {
-    match make_line(alloc, entries) {
+    match make_line(alloc, start, entries) {
         Ok(made) => Ok(made),
         Err(_) => Err(ThreadsFault::Run(RunFault::OutOfMemory)),
     }
@@ -48,7 +53,14 @@ fn line_of_lists<R: Threads + Wait + Clock + Sync>(
     ensures fault { IfErr result IsOfThreads }
 {
     match run_lists(rt, alloc, lists, &Open) {
-        Ok(closed) => line_of_entries(alloc, closed.timeline.entries()),
+        Ok(closed) => {
+            let Closed {
+                start,
+                timeline,
+                ..
+            } = closed;
+            line_of_entries(alloc, start, timeline.entries())
+        }
         Err(fault) => Err(threads_fault(fault)),
     }
 }

@@ -3,6 +3,7 @@ use Rattle.std.proofs.Common.{◌≡◌, ℕ, Bool, true, false, not, ◌||◌, 
 use Rattle.std.proofs.lemmas.List.{take_more, drop_all}
 use Rattle.std.proofs.lemmas.Bool.{eqb-true, eq-eqb, ne_eqb, or_left, or_right, cases_Bool, cases_eq}
 use Rattle.fs_names.specs.Failures.{check, first_failure, or_else}
+use Rattle.fs_calls.specs.Tree.{Tree}
 use Rattle.fs_calls.specs.Outcomes.{play, reply, after}
 use Rattle.fs_calls.specs.declared.call.Call.{Call}
 use Rattle.fs_calls.specs.declared.reply.Reply.{Reply}
@@ -19,31 +20,31 @@ use Rattle.fs_timeline.proofs.AppendLemmas.{BegunFirst, begun_first-push, or_fal
 use Rattle.fs_timeline.proofs.TimelineLemmas.{append_nil}
 use Rattle.fs_timeline.proofs.VerdictLemmas.{fits_from_none, lawful_is_lawful}
 
-is_some-told : (calls : List Call) (o : Option Call) → is_some (reply_after calls o) ≡ is_some o
-is_some-told calls None = refl
-is_some-told calls (Some call) = refl
+is_some-told : (start : Tree) (calls : List Call) (o : Option Call) → is_some (reply_after start calls o) ≡ is_some o
+is_some-told start calls None = refl
+is_some-told start calls (Some call) = refl
 
 no_call : (o : Option Call) → is_some o ≡ false → o ≡ None
 no_call None h = refl
 no_call (Some call) h = absurd (cc)
 
 -- a call has a reply that is due exactly where it has committed
-is_some-committed_reply : (c : ℕ) (es : List Entry) → BegunFirst es → is_some (committed_reply c es) ≡ has_committed c es
-is_some-committed_reply c es begun =
-    elim (has_committed c es) as (λ b. has_committed c es ≡ b → is_some (cond b (due c es) None) ≡ b) [
-      | true ↦ λ h. is_some-told (commits (before_commit c es)) (call_of c es) ∙ is_some-call_of c es ∙ begun c h
+is_some-committed_reply : (start : Tree) (c : ℕ) (es : List Entry) → BegunFirst es → is_some (committed_reply start c es) ≡ has_committed c es
+is_some-committed_reply start c es begun =
+    elim (has_committed c es) as (λ b. has_committed c es ≡ b → is_some (cond b (due start c es) None) ≡ b) [
+      | true ↦ λ h. is_some-told start (commits (before_commit c es)) (call_of c es) ∙ is_some-call_of c es ∙ begun c h
       | false ↦ λ h. refl
     ] refl
 
-knows_begun : (k : JournalState) (es : List Entry) → IsTrueOf k es → (c : ℕ) → is_some (k.calls c) ≡ has_begun c es
-knows_begun k es h c = ap is_some (h.calls_are c) ∙ is_some-call_of c es
+knows_begun : (start : Tree) (k : JournalState) (es : List Entry) → IsTrueOf start k es → (c : ℕ) → is_some (k.calls c) ≡ has_begun c es
+knows_begun start k es h c = ap is_some (h.calls_are c) ∙ is_some-call_of c es
 
-knows_committed : (k : JournalState) (es : List Entry) → IsTrueOf k es → (c : ℕ) → is_some (k.replies c) ≡ has_committed c es
-knows_committed k es h c = ap is_some (h.replies_are c) ∙ is_some-committed_reply c es h.begun_first
+knows_committed : (start : Tree) (k : JournalState) (es : List Entry) → IsTrueOf start k es → (c : ℕ) → is_some (k.replies c) ≡ has_committed c es
+knows_committed start k es h c = ap is_some (h.replies_are c) ∙ is_some-committed_reply start c es h.begun_first
 
-is_waiting-is_open : (k : JournalState) (es : List Entry) → IsTrueOf k es → (o : Option ℕ) → is_waiting k.returned o ≡ is_open o es
-is_waiting-is_open k es h None = refl
-is_waiting-is_open k es h (Some c) = ap not (h.returned_are c)
+is_waiting-is_open : (start : Tree) (k : JournalState) (es : List Entry) → IsTrueOf start k es → (o : Option ℕ) → is_waiting k.returned o ≡ is_open o es
+is_waiting-is_open start k es h None = refl
+is_waiting-is_open start k es h (Some c) = ap not (h.returned_are c)
 
 -- the last two checks of a Return, where the call has committed or not
 return_checks : (committed returned : Bool) (due : Option Reply) (r : Reply)
@@ -53,20 +54,20 @@ return_checks true returned due r = refl
 return_checks false returned due r = refl
 
 -- what is known tells what is wrong with the next entry
-pub known_fault-entry_fault : (k : JournalState) (es : List Entry) (e : Entry) → IsTrueOf k es → known_fault k e ≡ entry_fault es e
-known_fault-entry_fault k es (Begin c seat call) h =
-    let begun = knows_begun k es h c in
-    let busy = ap (is_waiting k.returned) (h.last_are seat) ∙ is_waiting-is_open k es h (last_on seat es) in
+pub known_fault-entry_fault : (start : Tree) (k : JournalState) (es : List Entry) (e : Entry) → IsTrueOf start k es → known_fault k e ≡ entry_fault start es e
+known_fault-entry_fault start k es (Begin c seat call) h =
+    let begun = knows_begun start k es h c in
+    let busy = ap (is_waiting k.returned) (h.last_are seat) ∙ is_waiting-is_open start k es h (last_on seat es) in
     rw (begun, busy) refl
-known_fault-entry_fault k es (Commit c) h =
-    let begun = knows_begun k es h c in
-    let committed = knows_committed k es h c in
+known_fault-entry_fault start k es (Commit c) h =
+    let begun = knows_begun start k es h c in
+    let committed = knows_committed start k es h c in
     rw (begun, committed) refl
-known_fault-entry_fault k es (Return c r) h =
-    let committed = knows_committed k es h c in
+known_fault-entry_fault start k es (Return c r) h =
+    let committed = knows_committed start k es h c in
     let returned = h.returned_are c in
     let replied = h.replies_are c in
-    rw (committed, returned, replied) (return_checks (has_committed c es) (has_returned c es) (due c es) r)
+    rw (committed, returned, replied) (return_checks (has_committed c es) (has_returned c es) (due start c es) r)
 
 changed_here : {A : Type 0} (f : ℕ → A) (n : ℕ) (a : A) (m : ℕ) → m ≡ n → changed f n a m ≡ a
 changed_here f n a m h = let same = eq-eqb n m (sym h) in rw same refl
@@ -74,38 +75,38 @@ changed_here f n a m h = let same = eq-eqb n m (sym h) in rw same refl
 changed_apart : {A : Type 0} (f : ℕ → A) (n : ℕ) (a : A) (m : ℕ) → (m ≡ n → ⊥) → changed f n a m ≡ f m
 changed_apart f n a m h = let apart = ne_eqb n m (λ e. h (sym e)) in rw apart refl
 
-committed_reply-yes : (c : ℕ) (es : List Entry) → has_committed c es ≡ true → committed_reply c es ≡ due c es
-committed_reply-yes c es h = ap (λ b. cond b (due c es) None) h
+committed_reply-yes : (start : Tree) (c : ℕ) (es : List Entry) → has_committed c es ≡ true → committed_reply start c es ≡ due start c es
+committed_reply-yes start c es h = ap (λ b. cond b (due start c es) None) h
 
-committed_reply-no : (c : ℕ) (es : List Entry) → has_committed c es ≡ false → committed_reply c es ≡ None
-committed_reply-no c es h = ap (λ b. cond b (due c es) None) h
+committed_reply-no : (start : Tree) (c : ℕ) (es : List Entry) → has_committed c es ≡ false → committed_reply start c es ≡ None
+committed_reply-no start c es h = ap (λ b. cond b (due start c es) None) h
 
 -- an entry that is no Commit of the call leaves the reply that is due to it
-committed_reply-kept : (c : ℕ) (es : List Entry) (e : Entry) → BegunFirst es → is_commit c e ≡ false → committed_reply c (es ++ e ∷ []) ≡ committed_reply c es
-committed_reply-kept c es e begun apart =
+committed_reply-kept : (start : Tree) (c : ℕ) (es : List Entry) (e : Entry) → BegunFirst es → is_commit c e ≡ false → committed_reply start c (es ++ e ∷ []) ≡ committed_reply start c es
+committed_reply-kept start c es e begun apart =
     let more = list_any-push (is_commit c) es e in
     ⊎_elim
     (λ h.
     let now : has_committed c (es ++ e ∷ []) ≡ true = more ∙ or_left _ _ h in
-    committed_reply-yes c (es ++ e ∷ []) now ∙ due-kept c es e begun h ∙ sym (committed_reply-yes c es h))
+    committed_reply-yes start c (es ++ e ∷ []) now ∙ due-kept start c es e begun h ∙ sym (committed_reply-yes start c es h))
     (λ h.
     let now : has_committed c (es ++ e ∷ []) ≡ false = more ∙ ap (λ b. b || is_commit c e) h ∙ apart in
-    committed_reply-no c (es ++ e ∷ []) now ∙ sym (committed_reply-no c es h))
+    committed_reply-no start c (es ++ e ∷ []) now ∙ sym (committed_reply-no start c es h))
     (cases_Bool (has_committed c es))
 
-committed_reply-first : (c : ℕ) (es : List Entry) (call : Call) → has_begun c es ≡ true → has_committed c es ≡ false → call_of c es ≡ Some call
-    → committed_reply c (es ++ Commit c ∷ []) ≡ Some (reply (play (commits es)) call)
-committed_reply-first c es call begun h is =
+committed_reply-first : (start : Tree) (c : ℕ) (es : List Entry) (call : Call) → has_begun c es ≡ true → has_committed c es ≡ false → call_of c es ≡ Some call
+    → committed_reply start c (es ++ Commit c ∷ []) ≡ Some (reply (play start (commits es)) call)
+committed_reply-first start c es call begun h is =
     let now : has_committed c (es ++ Commit c ∷ []) ≡ true = list_any-push (is_commit c) es (Commit c) ∙ or_right _ _ (eq-eqb c c refl) in
-    committed_reply-yes c (es ++ Commit c ∷ []) now ∙ due-first c es begun h ∙ ap (reply_after (commits es)) is
+    committed_reply-yes start c (es ++ Commit c ∷ []) now ∙ due-first start c es begun h ∙ ap (reply_after start (commits es)) is
 
 no_commits-push : (es : List Entry) (e : Entry) → BegunFirst es → ((whole : List Entry) → commits_of whole (e ∷ []) ≡ []) → commits (es ++ e ∷ []) ≡ commits es
 no_commits-push es e begun none = commits-push es e begun ∙ ap (λ xs. commits es ++ xs) (none (es ++ e ∷ [])) ∙ append_nil (commits es)
 
 -- the parts that each entry changes
-begin_call : (k : JournalState) (es : List Entry) (c seat : ℕ) (call : Call) → IsTrueOf k es → has_begun c es ≡ false
+begin_call : (start : Tree) (k : JournalState) (es : List Entry) (c seat : ℕ) (call : Call) → IsTrueOf start k es → has_begun c es ≡ false
     → (q : ℕ) → changed k.calls c (Some call) q ≡ call_of q (es ++ Begin c seat call ∷ [])
-begin_call k es c seat call h new q =
+begin_call start k es c seat call h new q =
     ⊎_elim
     (λ same.
     let begins : begun_as q (Begin c seat call) ≡ Some call = (let e = eq-eqb q c same in rw e refl) in
@@ -117,9 +118,9 @@ begin_call k es c seat call h new q =
     ∙ sym (call_of-push q es (Begin c seat call) ∙ ap (or_else (call_of q es)) other ∙ or_else-nothing (call_of q es)))
     (cases_eq q c)
 
-begin_last : (k : JournalState) (es : List Entry) (c seat : ℕ) (call : Call) → IsTrueOf k es
+begin_last : (start : Tree) (k : JournalState) (es : List Entry) (c seat : ℕ) (call : Call) → IsTrueOf start k es
     → (q : ℕ) → changed k.last seat (Some c) q ≡ last_on q (es ++ Begin c seat call ∷ [])
-begin_last k es c seat call h q =
+begin_last start k es c seat call h q =
     ⊎_elim
     (λ same.
     let begins : begun_on q (Begin c seat call) ≡ Some c = (let e = eq-eqb q seat same in rw e refl) in
@@ -130,25 +131,25 @@ begin_last k es c seat call h q =
     ∙ sym (last_on-push q es (Begin c seat call) ∙ ap (λ o. or_else o (last_on q es)) other))
     (cases_eq q seat)
 
-commit_reply : (k : JournalState) (es : List Entry) (c : ℕ) (call : Call) → IsTrueOf k es → has_begun c es ≡ true → has_committed c es ≡ false → call_of c es ≡ Some call
-    → (q : ℕ) → changed k.replies c (Some (reply k.tree call)) q ≡ committed_reply q (es ++ Commit c ∷ [])
-commit_reply k es c call h begun first_time is q =
+commit_reply : (start : Tree) (k : JournalState) (es : List Entry) (c : ℕ) (call : Call) → IsTrueOf start k es → has_begun c es ≡ true → has_committed c es ≡ false → call_of c es ≡ Some call
+    → (q : ℕ) → changed k.replies c (Some (reply k.tree call)) q ≡ committed_reply start q (es ++ Commit c ∷ [])
+commit_reply start k es c call h begun first_time is q =
     ⊎_elim
     (λ same.
     changed_here k.replies c (Some (reply k.tree call)) q same ∙ ap (λ t. Some (reply t call)) h.tree_is
-    ∙ sym (ap (λ n. committed_reply n (es ++ Commit c ∷ [])) same ∙ committed_reply-first c es call begun first_time is))
+    ∙ sym (ap (λ n. committed_reply start n (es ++ Commit c ∷ [])) same ∙ committed_reply-first start c es call begun first_time is))
     (λ apart.
     changed_apart k.replies c (Some (reply k.tree call)) q apart ∙ h.replies_are q
-    ∙ sym (committed_reply-kept q es (Commit c) h.begun_first (ne_eqb q c apart)))
+    ∙ sym (committed_reply-kept start q es (Commit c) h.begun_first (ne_eqb q c apart)))
     (cases_eq q c)
 
 one_commit-push : (es : List Entry) (c : ℕ) (call : Call) → BegunFirst es → has_begun c es ≡ true → call_of c es ≡ Some call → commits (es ++ Commit c ∷ []) ≡ commits es ++ call ∷ []
 one_commit-push es c call first_begun begun is =
     commits-push es (Commit c) first_begun ∙ ap (λ o. commits es ++ with_call o []) (call_of-kept c es (Commit c) begun ∙ is)
 
-return_returned : (k : JournalState) (es : List Entry) (c : ℕ) (r : Reply) → IsTrueOf k es
+return_returned : (start : Tree) (k : JournalState) (es : List Entry) (c : ℕ) (r : Reply) → IsTrueOf start k es
     → (q : ℕ) → changed k.returned c true q ≡ has_returned q (es ++ Return c r ∷ [])
-return_returned k es c r h q =
+return_returned start k es c r h q =
     ⊎_elim
     (λ same.
     changed_here k.returned c true q same
@@ -159,37 +160,37 @@ return_returned k es c r h q =
     (cases_eq q c)
 
 -- what is known stays true where a call begins
-true_of_begin : (k : JournalState) (es : List Entry) (c seat : ℕ) (call : Call) → IsTrueOf k es → has_begun c es ≡ false
-    → IsTrueOf (taken_in k (Begin c seat call)) (es ++ Begin c seat call ∷ [])
-true_of_begin k es c seat call h new = record {
-  calls_are = λ q. begin_call k es c seat call h new q;
-  replies_are = λ q. h.replies_are q ∙ sym (committed_reply-kept q es (Begin c seat call) h.begun_first refl);
+true_of_begin : (start : Tree) (k : JournalState) (es : List Entry) (c seat : ℕ) (call : Call) → IsTrueOf start k es → has_begun c es ≡ false
+    → IsTrueOf start (taken_in k (Begin c seat call)) (es ++ Begin c seat call ∷ [])
+true_of_begin start k es c seat call h new = record {
+  calls_are = λ q. begin_call start k es c seat call h new q;
+  replies_are = λ q. h.replies_are q ∙ sym (committed_reply-kept start q es (Begin c seat call) h.begun_first refl);
   returned_are = λ q. h.returned_are q ∙ sym (list_any-push (is_return q) es (Begin c seat call) ∙ or_false (has_returned q es));
-  last_are = λ q. begin_last k es c seat call h q;
-  tree_is = h.tree_is ∙ sym (ap play (no_commits-push es (Begin c seat call) h.begun_first (λ whole. refl)));
+  last_are = λ q. begin_last start k es c seat call h q;
+  tree_is = h.tree_is ∙ sym (ap (play start) (no_commits-push es (Begin c seat call) h.begun_first (λ whole. refl)));
   begun_first = begun_first-push es (Begin c seat call) h.begun_first (λ q no. absurd (cc));
 }
 
 -- what is known stays true where a call commits
-true_of_commit : (k : JournalState) (es : List Entry) (c : ℕ) (call : Call) → IsTrueOf k es → has_begun c es ≡ true → has_committed c es ≡ false → call_of c es ≡ Some call
-    → IsTrueOf (played k c (Some call)) (es ++ Commit c ∷ [])
-true_of_commit k es c call h begun first_time is = record {
+true_of_commit : (start : Tree) (k : JournalState) (es : List Entry) (c : ℕ) (call : Call) → IsTrueOf start k es → has_begun c es ≡ true → has_committed c es ≡ false → call_of c es ≡ Some call
+    → IsTrueOf start (played k c (Some call)) (es ++ Commit c ∷ [])
+true_of_commit start k es c call h begun first_time is = record {
   calls_are = λ q. h.calls_are q ∙ sym (call_of-push q es (Commit c) ∙ or_else-nothing (call_of q es));
-  replies_are = λ q. commit_reply k es c call h begun first_time is q;
+  replies_are = λ q. commit_reply start k es c call h begun first_time is q;
   returned_are = λ q. h.returned_are q ∙ sym (list_any-push (is_return q) es (Commit c) ∙ or_false (has_returned q es));
   last_are = λ q. h.last_are q ∙ sym (last_on-push q es (Commit c));
-  tree_is = ap (λ t. after t call) h.tree_is ∙ sym (ap play (one_commit-push es c call h.begun_first begun is) ∙ play-push (commits es) call);
+  tree_is = ap (λ t. after t call) h.tree_is ∙ sym (ap (play start) (one_commit-push es c call h.begun_first begun is) ∙ play-push start (commits es) call);
   begun_first = begun_first-push es (Commit c) h.begun_first (λ q same. subst (λ n. has_begun n es ≡ true) (sym (eqb-true q c same)) begun);
 }
 
 -- what is known stays true where a call returns
-true_of_return : (k : JournalState) (es : List Entry) (c : ℕ) (r : Reply) → IsTrueOf k es → IsTrueOf (taken_in k (Return c r)) (es ++ Return c r ∷ [])
-true_of_return k es c r h = record {
+true_of_return : (start : Tree) (k : JournalState) (es : List Entry) (c : ℕ) (r : Reply) → IsTrueOf start k es → IsTrueOf start (taken_in k (Return c r)) (es ++ Return c r ∷ [])
+true_of_return start k es c r h = record {
   calls_are = λ q. h.calls_are q ∙ sym (call_of-push q es (Return c r) ∙ or_else-nothing (call_of q es));
-  replies_are = λ q. h.replies_are q ∙ sym (committed_reply-kept q es (Return c r) h.begun_first refl);
-  returned_are = λ q. return_returned k es c r h q;
+  replies_are = λ q. h.replies_are q ∙ sym (committed_reply-kept start q es (Return c r) h.begun_first refl);
+  returned_are = λ q. return_returned start k es c r h q;
   last_are = λ q. h.last_are q ∙ sym (last_on-push q es (Return c r));
-  tree_is = h.tree_is ∙ sym (ap play (no_commits-push es (Return c r) h.begun_first (λ whole. refl)));
+  tree_is = h.tree_is ∙ sym (ap (play start) (no_commits-push es (Return c r) h.begun_first (λ whole. refl)));
   begun_first = begun_first-push es (Return c r) h.begun_first (λ q no. absurd (cc));
 }
 
@@ -198,13 +199,13 @@ known_call None h = absurd (cc)
 known_call (Some call) h = (call, refl)
 
 -- what is known stays true with an entry in which nothing is wrong
-pub true_of_taken_in : (k : JournalState) (es : List Entry) (e : Entry) → IsTrueOf k es → entry_fault es e ≡ None → IsTrueOf (taken_in k e) (es ++ e ∷ [])
-true_of_taken_in k es (Begin c seat call) h none = true_of_begin k es c seat call h (fits_from_none es (Begin c seat call) none).0.0
-true_of_taken_in k es (Commit c) h none =
-    let fits = (fits_from_none es (Commit c) none).0 in
+pub true_of_taken_in : (start : Tree) (k : JournalState) (es : List Entry) (e : Entry) → IsTrueOf start k es → entry_fault start es e ≡ None → IsTrueOf start (taken_in k e) (es ++ e ∷ [])
+true_of_taken_in start k es (Begin c seat call) h none = true_of_begin start k es c seat call h (fits_from_none start es (Begin c seat call) none).0.0
+true_of_taken_in start k es (Commit c) h none =
+    let fits = (fits_from_none start es (Commit c) none).0 in
     let found = known_call (call_of c es) (is_some-call_of c es ∙ fits.0) in
-    subst (λ o. IsTrueOf (played k c o) (es ++ Commit c ∷ [])) (sym (h.calls_are c ∙ found.1)) (true_of_commit k es c found.0 h fits.0 fits.1 found.1)
-true_of_taken_in k es (Return c r) h none = true_of_return k es c r h
+    subst (λ o. IsTrueOf start (played k c o) (es ++ Commit c ∷ [])) (sym (h.calls_are c ∙ found.1)) (true_of_commit start k es c found.0 h fits.0 fits.1 found.1)
+true_of_taken_in start k es (Return c r) h none = true_of_return start k es c r h
 
 -- the entries from one on, and up to it
 drop_at : (es : List Entry) (i : ℕ) (e : Entry) → i < length es → e ≡ get_or es i e → drop i es ≡ e ∷ drop (i + 1) es
@@ -214,32 +215,32 @@ take_at : (es : List Entry) (i : ℕ) (e : Entry) → i < length es → e ≡ ge
 take_at es i e h is = take_more es i e h ∙ ap (λ x. take i es ++ x ∷ []) (sym is)
 
 -- a verdict one entry further
-pub verdict_from-step : (es : List Entry) (i place : ℕ) (e : Entry) → i < length es → e ≡ get_or es i e
-    → verdict_from (take i es) place (drop i es) ≡ fault_or place (entry_fault (take i es) e) (verdict_from (take (i + 1) es) (place + 1) (drop (i + 1) es))
-verdict_from-step es i place e h is =
-    ap (verdict_from (take i es) place) (drop_at es i e h is)
-    ∙ ap (λ before. fault_or place (entry_fault (take i es) e) (verdict_from before (place + 1) (drop (i + 1) es))) (sym (take_at es i e h is))
+pub verdict_from-step : (start : Tree) (es : List Entry) (i place : ℕ) (e : Entry) → i < length es → e ≡ get_or es i e
+    → verdict_from start (take i es) place (drop i es) ≡ fault_or place (entry_fault start (take i es) e) (verdict_from start (take (i + 1) es) (place + 1) (drop (i + 1) es))
+verdict_from-step start es i place e h is =
+    ap (verdict_from start (take i es) place) (drop_at es i e h is)
+    ∙ ap (λ before. fault_or place (entry_fault start (take i es) e) (verdict_from start before (place + 1) (drop (i + 1) es))) (sym (take_at es i e h is))
 
 -- what a fault among the entries so far says of the verdict
-pub fault_is_verdict : (es : List Entry) (i : ℕ) (e : Entry) (kind : FaultKind) → i < length es → e ≡ get_or es i e
-    → verdict es ≡ verdict_from (take i es) (i + 1) (drop i es) → Some kind ≡ entry_fault (take i es) e → Fault (i + 1) kind ≡ verdict es
-fault_is_verdict es i e kind h is rest found =
-    sym (rest ∙ verdict_from-step es i (i + 1) e h is ∙ ap (λ o. fault_or (i + 1) o (verdict_from (take (i + 1) es) (i + 1 + 1) (drop (i + 1) es))) (sym found))
+pub fault_is_verdict : (start : Tree) (es : List Entry) (i : ℕ) (e : Entry) (kind : FaultKind) → i < length es → e ≡ get_or es i e
+    → verdict start es ≡ verdict_from start (take i es) (i + 1) (drop i es) → Some kind ≡ entry_fault start (take i es) e → Fault (i + 1) kind ≡ verdict start es
+fault_is_verdict start es i e kind h is rest found =
+    sym (rest ∙ verdict_from-step start es i (i + 1) e h is ∙ ap (λ o. fault_or (i + 1) o (verdict_from start (take (i + 1) es) (i + 1 + 1) (drop (i + 1) es))) (sym found))
 
 -- an entry in which nothing is wrong leaves the verdict to the rest
-pub verdict_goes_on : (es : List Entry) (i : ℕ) (e : Entry) → i < length es → e ≡ get_or es i e
-    → verdict es ≡ verdict_from (take i es) (i + 1) (drop i es) → None ≡ entry_fault (take i es) e → verdict es ≡ verdict_from (take (i + 1) es) (i + 1 + 1) (drop (i + 1) es)
-verdict_goes_on es i e h is rest none =
-    rest ∙ verdict_from-step es i (i + 1) e h is ∙ ap (λ o. fault_or (i + 1) o (verdict_from (take (i + 1) es) (i + 1 + 1) (drop (i + 1) es))) (sym none)
+pub verdict_goes_on : (start : Tree) (es : List Entry) (i : ℕ) (e : Entry) → i < length es → e ≡ get_or es i e
+    → verdict start es ≡ verdict_from start (take i es) (i + 1) (drop i es) → None ≡ entry_fault start (take i es) e → verdict start es ≡ verdict_from start (take (i + 1) es) (i + 1 + 1) (drop (i + 1) es)
+verdict_goes_on start es i e h is rest none =
+    rest ∙ verdict_from-step start es i (i + 1) e h is ∙ ap (λ o. fault_or (i + 1) o (verdict_from start (take (i + 1) es) (i + 1 + 1) (drop (i + 1) es))) (sym none)
 
 -- what is known stays true, one entry further
-pub true_of_more : (k : JournalState) (es : List Entry) (i : ℕ) (e : Entry) → i < length es → e ≡ get_or es i e
-    → IsTrueOf k (take i es) → None ≡ entry_fault (take i es) e → IsTrueOf (taken_in k e) (take (i + 1) es)
-true_of_more k es i e h is so_far none = rw (take_at es i e h is) (true_of_taken_in k (take i es) e so_far (sym none))
+pub true_of_more : (start : Tree) (k : JournalState) (es : List Entry) (i : ℕ) (e : Entry) → i < length es → e ≡ get_or es i e
+    → IsTrueOf start k (take i es) → None ≡ entry_fault start (take i es) e → IsTrueOf start (taken_in k e) (take (i + 1) es)
+true_of_more start k es i e h is so_far none = rw (take_at es i e h is) (true_of_taken_in start k (take i es) e so_far (sym none))
 
 -- where no entry is left, nothing is wrong
-pub end_is_lawful : (es : List Entry) (i : ℕ) → length es ≤ i → verdict es ≡ verdict_from (take i es) (i + 1) (drop i es) → Lawful ≡ verdict es
-end_is_lawful es i h rest = sym (rest ∙ ap (verdict_from (take i es) (i + 1)) (drop_all i es h))
+pub end_is_lawful : (start : Tree) (es : List Entry) (i : ℕ) → length es ≤ i → verdict start es ≡ verdict_from start (take i es) (i + 1) (drop i es) → Lawful ≡ verdict start es
+end_is_lawful start es i h rest = sym (rest ∙ ap (verdict_from start (take i es) (i + 1)) (drop_all i es h))
 
-pub lawful_by_verdict : (es : List Entry) (v : Verdict) → v ≡ verdict es → (v ≡ Lawful) ↔ IsLawful es
-lawful_by_verdict es v h = subst (λ w. (w ≡ Lawful) ↔ IsLawful es) (sym h) (lawful_is_lawful es)
+pub lawful_by_verdict : (start : Tree) (es : List Entry) (v : Verdict) → v ≡ verdict start es → (v ≡ Lawful) ↔ IsLawful start es
+lawful_by_verdict start es v h = subst (λ w. (w ≡ Lawful) ↔ IsLawful start es) (sym h) (lawful_is_lawful start es)

@@ -26,9 +26,9 @@ each_push P before (e ∷ es) last h here =
     (h.0, each_push P (before ++ e ∷ []) es last h.1 (subst (λ (b : List Entry). P b last) (sym (append_assoc before (e ∷ []) es)) here))
 
 pub lawful_without_the_last : LawfulWithoutTheLast
-lawful_without_the_last es last h = record {
+lawful_without_the_last start es last h = record {
   well_formed = each_without_last IsNext [] es last h.well_formed;
-  replies = each_without_last IsAnswered [] es last h.replies;
+  replies = each_without_last (IsAnswered start) [] es last h.replies;
 }
 
 pub well_formed_appended : WellFormedAppended
@@ -36,7 +36,7 @@ well_formed_appended es e =
     (λ h. (each_without_last IsNext [] es e h, each_last IsNext [] es e h), λ h. each_push IsNext [] es e h.0 h.1)
 
 pub lawful_appended : LawfulAppended
-lawful_appended es e = (
-  λ h. (lawful_without_the_last es e h, each_last IsNext [] es e h.well_formed, each_last IsAnswered [] es e h.replies),
-  λ h. record { well_formed = each_push IsNext [] es e h.0.well_formed h.1; replies = each_push IsAnswered [] es e h.0.replies h.2 },
+lawful_appended start es e = (
+  λ h. (lawful_without_the_last start es e h, each_last IsNext [] es e h.well_formed, each_last (IsAnswered start) [] es e h.replies),
+  λ h. record { well_formed = each_push IsNext [] es e h.0.well_formed h.1; replies = each_push (IsAnswered start) [] es e h.0.replies h.2 },
 )

@@ -61,14 +61,14 @@ taken_in k (Commit c) = played k c (k.calls c)
 taken_in k (Return c r) = record k { returned = changed k.returned c true }
 
 -- the reply that is due to a call that has committed
-abbrev pub committed_reply : ℕ → List Entry → Option Reply
-committed_reply c es = if has_committed c es then due c es else None
+abbrev pub committed_reply : Tree → ℕ → List Entry → Option Reply
+committed_reply start c es = if has_committed c es then due start c es else None
 
--- what is known is true of the entries
-pub record IsTrueOf (k : JournalState) (es : List Entry) : Type 0 where
+-- what is known is true of the entries, from a start tree
+pub record IsTrueOf (start : Tree) (k : JournalState) (es : List Entry) : Type 0 where
   pub calls_are : (c : ℕ) → k.calls c ≡ call_of c es
-  pub replies_are : (c : ℕ) → k.replies c ≡ committed_reply c es
+  pub replies_are : (c : ℕ) → k.replies c ≡ committed_reply start c es
   pub returned_are : (c : ℕ) → k.returned c ≡ has_returned c es
   pub last_are : (s : ℕ) → k.last s ≡ last_on s es
-  pub tree_is : k.tree ≡ play (commits es)
+  pub tree_is : k.tree ≡ play start (commits es)
   pub begun_first : (c : ℕ) → has_committed c es ≡ true → has_begun c es ≡ true

@@ -1,6 +1,6 @@
 //! Worked examples, which the check computes from the definitions.
 
-ghost use Rattle.fs_timeline.specs.Examples.{VerdictExamples, CheckedJournals};
+ghost use Rattle.fs_timeline.specs.Examples.{VerdictExamples, CheckedJournals, StartedJournals};
 
 /// Each kind of fault, and timelines that stop early.
 pub fn verdicts()
@@ -10,4 +10,9 @@ pub fn verdicts()
 /// The journal of a first mkdir, and the same journal with a wrong reply and with two entries exchanged.
 pub fn checked_journals()
     ensures { CheckedJournals }
+{}
+
+/// Two journals from a start tree that has the directory already.
+pub fn started_journals()
+    ensures { StartedJournals }
 {}

@@ -1,5 +1,6 @@
 -- A begin keeps what every state keeps.
 use Rattle.std.proofs.Common.{◌≡◌, ℕ, ◌<◌, ◌+◌, true, false, List, [], ◌∷◌, ◌++◌, Option, Some, None, refl, sym, ap, ◌∙◌, arith, subst, inl, inr, Ok}
+use Rattle.fs_calls.specs.Sights.{tree_shapes}
 use Rattle.fs_names.specs.Keys.{Key}
 use Rattle.fs_names.specs.Names.{Name, has_name}
 use Rattle.fs_names.specs.Shapes.{Shape, Dir, File}
@@ -53,13 +54,13 @@ begin_keeps old inv seat call c reserved graph free number g = record {
   kept = subst (λ (t : Map ℕ). CallFacts t (set_at c (Some op) old.ops) inv.key) (sym (numbers_by old.graph graph g.children)) (subst (λ (k : ℕ → Key). CallFacts (numbers old.graph) (set_at c (Some op) old.ops) k) (upd_same c inv.key) (kept_none (numbers old.graph) old.ops inv.key c op inv.kept refl));
   in_order = order_without old.ops c (Some op) inv.order others inv.in_order;
   all_placed = λ d q i e f. all_placed d q i (either old.ops c op d q e) f;
-  lawful = lawful_push start old.timeline (Begin c seat call) inv.lawful (unknown, inv.busy seat ∙ free);
-  tied = subst (λ (t : Map Shape). Tied t (set_at c (Some op) old.ops) inv.key inv.order (view_after start (old.timeline ++ Begin c seat call ∷ []))) (sym g.spelled) (subst (Tied (graph_shapes old.graph) (set_at c (Some op) old.ops) inv.key inv.order) (sym view_is) tied);
+  lawful = lawful_push (start (tree_shapes old.start)) old.timeline (Begin c seat call) inv.lawful (unknown, inv.busy seat ∙ free);
+  tied = subst (λ (t : Map Shape). Tied t (set_at c (Some op) old.ops) inv.key inv.order (view_after (start (tree_shapes old.start)) (old.timeline ++ Begin c seat call ∷ []))) (sym g.spelled) (subst (Tied (graph_shapes old.graph) (set_at c (Some op) old.ops) inv.key inv.order) (sym view_is) tied);
   own = λ d q e. own d q (either old.ops c op d q e);
   held = λ d q st n e. held d q st n (either old.ops c op d q e);
   apart = λ x y n p q differs e f. apart x y n p q differs (either old.ops c op x p e) (either old.ops c op y q f);
   seated = seated;
-  busy = λ s. ap (λ (k : JournalView). k.busy s) view_is ∙ busy s (place seat (Some c) (view_after start old.timeline).busy s) (place seat (Some c) old.on_seat s);
+  busy = λ s. ap (λ (k : JournalView). k.busy s) view_is ∙ busy s (place seat (Some c) (view_after (start (tree_shapes old.start)) old.timeline).busy s) (place seat (Some c) old.on_seat s);
   seat_of = λ d q e. seat_of d q (either old.ops c op d q e);
   fresh = fresh;
 }
@@ -67,14 +68,14 @@ begin_keeps old inv seat call c reserved graph free number g = record {
     op : Record
     op = new_op seat call reserved
 
-    view_is : view_after start (old.timeline ++ Begin c seat call ∷ []) ≡ noted (view_after start old.timeline) (Begin c seat call)
-    view_is = view_push start old.timeline (Begin c seat call)
+    view_is : view_after (start (tree_shapes old.start)) (old.timeline ++ Begin c seat call ∷ []) ≡ noted (view_after (start (tree_shapes old.start)) old.timeline) (Begin c seat call)
+    view_is = view_push (start (tree_shapes old.start)) old.timeline (Begin c seat call)
 
-    unknown : (view_after start old.timeline).call c ≡ None
+    unknown : (view_after (start (tree_shapes old.start)) old.timeline).call c ≡ None
     unknown = inv.fresh c (let z : c ≡ begins old.timeline + 1 = number in omega (arith, z))
 
-    nothing : ((view_after start old.timeline).due c ≡ None) × ((view_after start old.timeline).back c ≡ false)
-    nothing = unknown_of start old.timeline (λ d e. (refl, refl)) inv.lawful c unknown
+    nothing : ((view_after (start (tree_shapes old.start)) old.timeline).due c ≡ None) × ((view_after (start (tree_shapes old.start)) old.timeline).back c ≡ false)
+    nothing = unknown_of (start (tree_shapes old.start)) old.timeline (λ d e. (refl, refl)) inv.lawful c unknown
 
     none : old.ops c ≡ None
     none = go (old.ops c) refl
@@ -96,30 +97,30 @@ begin_keeps old inv seat call c reserved graph free number g = record {
     both : (settle (graph_shapes old.graph) (spots (set_at c (Some (new_op seat call reserved)) old.ops) inv.key inv.order) ≡ settle (graph_shapes old.graph) (spots old.ops inv.key inv.order)) × (settle_replies (graph_shapes old.graph) (spots (set_at c (Some (new_op seat call reserved)) old.ops) inv.key inv.order) ≡ settle_replies (graph_shapes old.graph) (spots old.ops inv.key inv.order))
     both = settle_same (graph_shapes old.graph) old.ops (set_at c (Some (new_op seat call reserved)) old.ops) inv.key inv.key inv.order (λ d i. ap (λ (o : Option Record). under (inv.key d) (remaining_of o)) (upd_else c (Some (new_op seat call reserved)) old.ops d (others d i)))
 
-    tied : Tied (graph_shapes old.graph) (set_at c (Some (new_op seat call reserved)) old.ops) inv.key inv.order (noted (view_after start old.timeline) (Begin c seat call))
+    tied : Tied (graph_shapes old.graph) (set_at c (Some (new_op seat call reserved)) old.ops) inv.key inv.order (noted (view_after (start (tree_shapes old.start)) old.timeline) (Begin c seat call))
     tied = record {
       played = both.0 ∙ inv.tied.played;
-      dues = dues_due (view_after start old.timeline) (noted (view_after start old.timeline) (Begin c seat call)) inv.order (settle_replies (graph_shapes old.graph) (spots (set_at c (Some (new_op seat call reserved)) old.ops) inv.key inv.order)) (λ d. refl) (subst (Dues (view_after start old.timeline) inv.order) (sym both.1) inv.tied.dues);
+      dues = dues_due (view_after (start (tree_shapes old.start)) old.timeline) (noted (view_after (start (tree_shapes old.start)) old.timeline) (Begin c seat call)) inv.order (settle_replies (graph_shapes old.graph) (spots (set_at c (Some (new_op seat call reserved)) old.ops) inv.key inv.order)) (λ d. refl) (subst (Dues (view_after (start (tree_shapes old.start)) old.timeline) inv.order) (sym both.1) inv.tied.dues);
       fixed = λ d q r e f. fixed d q r (either old.ops c (new_op seat call reserved) d q e) f;
       fresh = λ d q e f. not_due d q (either old.ops c (new_op seat call reserved) d q e) f;
       calls = λ d q e. calls d q (either old.ops c (new_op seat call reserved) d q e);
     }
       where
-        fixed : (d : ℕ) (q : Record) (r : Reply) → Either old.ops c (new_op seat call reserved) d q → q.phase ≡ Finished r → (view_after start old.timeline).due d ≡ Some r
+        fixed : (d : ℕ) (q : Record) (r : Reply) → Either old.ops c (new_op seat call reserved) d q → q.phase ≡ Finished r → (view_after (start (tree_shapes old.start)) old.timeline).due d ≡ Some r
         fixed d q r (Changed e f) h = let z : ◌≡◌ {A = Phase} Walking (Finished r) = ap (λ (o : Record). o.phase) f ∙ h in cc
         fixed d q r (Old m e) h = inv.tied.fixed d q r e h
 
-        not_due : (d : ℕ) (q : Record) → Either old.ops c (new_op seat call reserved) d q → q.phase ≡ Walking → (view_after start old.timeline).due d ≡ None
-        not_due d q (Changed e f) h = ap (view_after start old.timeline).due e ∙ nothing.0
+        not_due : (d : ℕ) (q : Record) → Either old.ops c (new_op seat call reserved) d q → q.phase ≡ Walking → (view_after (start (tree_shapes old.start)) old.timeline).due d ≡ None
+        not_due d q (Changed e f) h = ap (view_after (start (tree_shapes old.start)) old.timeline).due e ∙ nothing.0
         not_due d q (Old m e) h = inv.tied.fresh d q e h
 
-        calls : (d : ℕ) (q : Record) → Either old.ops c (new_op seat call reserved) d q → set_at c (Some call) (view_after start old.timeline).call d ≡ Some q.call
-        calls d q (Changed e f) = here (place c (Some call) (view_after start old.timeline).call d)
+        calls : (d : ℕ) (q : Record) → Either old.ops c (new_op seat call reserved) d q → set_at c (Some call) (view_after (start (tree_shapes old.start)) old.timeline).call d ≡ Some q.call
+        calls d q (Changed e f) = here (place c (Some call) (view_after (start (tree_shapes old.start)) old.timeline).call d)
           where
-            here : Place (Option Call) c (Some call) (view_after start old.timeline).call d → set_at c (Some call) (view_after start old.timeline).call d ≡ Some q.call
+            here : Place (Option Call) c (Some call) (view_after (start (tree_shapes old.start)) old.timeline).call d → set_at c (Some call) (view_after (start (tree_shapes old.start)) old.timeline).call d ≡ Some q.call
             here (Here i j) = j ∙ ap (λ (o : Record). Some o.call) f
             here (Else n j) = absurd (n e)
-        calls d q (Old m e) = upd_else c (Some call) (view_after start old.timeline).call d m ∙ inv.tied.calls d q e
+        calls d q (Old m e) = upd_else c (Some call) (view_after (start (tree_shapes old.start)) old.timeline).call d m ∙ inv.tied.calls d q e
 
     new_own : Own graph (new_op seat call reserved)
     new_own = record {
@@ -172,25 +173,25 @@ begin_keeps old inv seat call c reserved graph free number g = record {
             let w : (q : Record) × (old.ops d ≡ Some q) × (q.seat ≡ s) = inv.seated s d (sym j ∙ e) in
             (w.0, upd_else c (Some (new_op seat call reserved)) old.ops d (not_new d w.0 w.1) ∙ w.1, w.2)
 
-    busy : (s : ℕ) → Place (Option ℕ) seat (Some c) (view_after start old.timeline).busy s → Place (Option ℕ) seat (Some c) old.on_seat s → set_at seat (Some c) (view_after start old.timeline).busy s ≡ set_at seat (Some c) old.on_seat s
+    busy : (s : ℕ) → Place (Option ℕ) seat (Some c) (view_after (start (tree_shapes old.start)) old.timeline).busy s → Place (Option ℕ) seat (Some c) old.on_seat s → set_at seat (Some c) (view_after (start (tree_shapes old.start)) old.timeline).busy s ≡ set_at seat (Some c) old.on_seat s
     busy s (Here i j) (Here k l) = j ∙ sym l
     busy s (Here i j) (Else n l) = absurd (n i)
     busy s (Else n j) (Here k l) = absurd (n k)
     busy s (Else n j) (Else m l) = j ∙ inv.busy s ∙ sym l
 
-    seat_of : (d : ℕ) (q : Record) → Either old.ops c (new_op seat call reserved) d q → ((view_after start (old.timeline ++ Begin c seat call ∷ [])).seat_of d ≡ Some q.seat) × ((view_after start (old.timeline ++ Begin c seat call ∷ [])).back d ≡ false)
-    seat_of d q (Changed e f) = (ap (λ (k : JournalView). k.seat_of d) view_is ∙ here (place c (Some seat) (view_after start old.timeline).seat_of d), ap (λ (k : JournalView). k.back d) view_is ∙ ap (view_after start old.timeline).back e ∙ nothing.1)
+    seat_of : (d : ℕ) (q : Record) → Either old.ops c (new_op seat call reserved) d q → ((view_after (start (tree_shapes old.start)) (old.timeline ++ Begin c seat call ∷ [])).seat_of d ≡ Some q.seat) × ((view_after (start (tree_shapes old.start)) (old.timeline ++ Begin c seat call ∷ [])).back d ≡ false)
+    seat_of d q (Changed e f) = (ap (λ (k : JournalView). k.seat_of d) view_is ∙ here (place c (Some seat) (view_after (start (tree_shapes old.start)) old.timeline).seat_of d), ap (λ (k : JournalView). k.back d) view_is ∙ ap (view_after (start (tree_shapes old.start)) old.timeline).back e ∙ nothing.1)
       where
-        here : Place (Option ℕ) c (Some seat) (view_after start old.timeline).seat_of d → set_at c (Some seat) (view_after start old.timeline).seat_of d ≡ Some q.seat
+        here : Place (Option ℕ) c (Some seat) (view_after (start (tree_shapes old.start)) old.timeline).seat_of d → set_at c (Some seat) (view_after (start (tree_shapes old.start)) old.timeline).seat_of d ≡ Some q.seat
         here (Here i j) = j ∙ ap (λ (o : Record). Some o.seat) f
         here (Else n j) = absurd (n e)
-    seat_of d q (Old m e) = (ap (λ (k : JournalView). k.seat_of d) view_is ∙ upd_else c (Some seat) (view_after start old.timeline).seat_of d m ∙ (inv.seat_of d q e).0, ap (λ (k : JournalView). k.back d) view_is ∙ (inv.seat_of d q e).1)
+    seat_of d q (Old m e) = (ap (λ (k : JournalView). k.seat_of d) view_is ∙ upd_else c (Some seat) (view_after (start (tree_shapes old.start)) old.timeline).seat_of d m ∙ (inv.seat_of d q e).0, ap (λ (k : JournalView). k.back d) view_is ∙ (inv.seat_of d q e).1)
 
-    fresh : (d : ℕ) → begins (old.timeline ++ Begin c seat call ∷ []) < d → (view_after start (old.timeline ++ Begin c seat call ∷ [])).call d ≡ None
+    fresh : (d : ℕ) → begins (old.timeline ++ Begin c seat call ∷ []) < d → (view_after (start (tree_shapes old.start)) (old.timeline ++ Begin c seat call ∷ [])).call d ≡ None
     fresh d less =
         let a : begins (old.timeline ++ Begin c seat call ∷ []) ≡ begins old.timeline + 1 = begins_begins old.timeline c seat call in
         let z : c ≡ begins old.timeline + 1 = number in
-        ap (λ (k : JournalView). k.call d) view_is ∙ upd_else c (Some call) (view_after start old.timeline).call d (λ i. (let y : d ≡ c = i in omega (arith, a, z, less, y))) ∙ inv.fresh d (omega (arith, a, less))
+        ap (λ (k : JournalView). k.call d) view_is ∙ upd_else c (Some call) (view_after (start (tree_shapes old.start)) old.timeline).call d (λ i. (let y : d ≡ c = i in omega (arith, a, z, less, y))) ∙ inv.fresh d (omega (arith, a, less))
 
 -- a directory that is made has no names
 bare_new : (e : EntryCall) (s : Shape) → new_shape e ≡ Some s → (names : List Name) (x : Name) → s ≡ Dir names → has_name x names ≡ true → ⊥

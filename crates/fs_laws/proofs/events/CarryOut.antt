@@ -1,5 +1,6 @@
 -- Carrying out a placed call keeps what every state keeps.
 use Rattle.std.proofs.Common.{◌≡◌, ℕ, ◌<◌, List, [], ◌∷◌, ◌++◌, Option, Some, None, refl, sym, ap, ap₂, ◌∙◌, arith, subst, ◌⊎◌, inl, inr}
+use Rattle.fs_calls.specs.Sights.{tree_shapes}
 use Rattle.fs_names.specs.Keys.{Key, after_prefix}
 use Rattle.fs_names.specs.Shapes.{Shape}
 use Rattle.fs_laws.specs.Changes.{Change, reply}
@@ -235,9 +236,9 @@ carry_in_place old inv c op i st o front back order_is is pl text on n =
     new_spots : spots old.ops (λ d. rekey facts_of.ch (inv.key d)) (front ++ back) ≡ rekey_all facts_of.ch (spots old.ops inv.key front) ++ spots old.ops inv.key back
     new_spots = spots_append old.ops (λ d. rekey facts_of.ch (inv.key d)) front back ∙ ap₂ (λ (a b : List (Key × Form)). a ++ b) (spots_rekey old.ops inv.key facts_of.ch front) back_is
 
-    tied : Tied (graph_shapes (effect_at old.graph op.remaining st op.reserved).graph) (set_at c (Some (phased op (Finished (reply (graph_shapes old.graph) (under (inv.key c) op.remaining)), (effect_at old.graph op.remaining st op.reserved).reserved, (effect_at old.graph op.remaining st op.reserved).removed))) old.ops) (λ d. rekey facts_of.ch (inv.key d)) (front ++ back) (view_after start old.timeline)
-    tied = tied_carry (effect_at old.graph op.remaining st op.reserved).reserved (effect_at old.graph op.remaining st op.reserved).removed (graph_shapes old.graph) (graph_shapes (effect_at old.graph op.remaining st op.reserved).graph) old.ops inv.key (λ d. rekey facts_of.ch (inv.key d)) front back (view_after start old.timeline) c op i
-        (subst (λ (x : List ℕ). Tied (graph_shapes old.graph) old.ops inv.key x (view_after start old.timeline)) order_is inv.tied) is pl
+    tied : Tied (graph_shapes (effect_at old.graph op.remaining st op.reserved).graph) (set_at c (Some (phased op (Finished (reply (graph_shapes old.graph) (under (inv.key c) op.remaining)), (effect_at old.graph op.remaining st op.reserved).reserved, (effect_at old.graph op.remaining st op.reserved).removed))) old.ops) (λ d. rekey facts_of.ch (inv.key d)) (front ++ back) (view_after (start (tree_shapes old.start)) old.timeline)
+    tied = tied_carry (effect_at old.graph op.remaining st op.reserved).reserved (effect_at old.graph op.remaining st op.reserved).removed (graph_shapes old.graph) (graph_shapes (effect_at old.graph op.remaining st op.reserved).graph) old.ops inv.key (λ d. rekey facts_of.ch (inv.key d)) front back (view_after (start (tree_shapes old.start)) old.timeline) c op i
+        (subst (λ (x : List ℕ). Tied (graph_shapes old.graph) old.ops inv.key x (view_after (start (tree_shapes old.start)) old.timeline)) order_is inv.tied) is pl
         (ap₂ settle facts_of.tree_is new_spots ∙ all.tree_is ∙ sym (ap (settle (graph_shapes old.graph)) whole))
         all.same_reply
         (ap₂ settle_replies facts_of.tree_is (spots_rekey old.ops inv.key facts_of.ch front) ∙ all.front_replies)
@@ -263,7 +264,7 @@ carry_in_place old inv c op i st o front back order_is is pl text on n =
       in_order = order_without old.ops c (Some (finished_op op (effect_at old.graph op.remaining st op.reserved))) (front ++ back) others (order_drop old.ops c front back ordered);
       all_placed = λ d q j m e g. ((inv.all_placed d q j e g).0, joined d m (in_parts d c front back (subst (IsIn d) order_is (inv.all_placed d q j e g).1)));
       lawful = inv.lawful;
-      tied = subst (λ (r : Reply). Tied (graph_shapes (effect_at old.graph op.remaining st op.reserved).graph) (set_at c (Some (phased op (Finished r, (effect_at old.graph op.remaining st op.reserved).reserved, (effect_at old.graph op.remaining st op.reserved).removed))) old.ops) (λ d. rekey facts_of.ch (inv.key d)) (front ++ back) (view_after start old.timeline)) (sym facts_of.reply_is) tied;
+      tied = subst (λ (r : Reply). Tied (graph_shapes (effect_at old.graph op.remaining st op.reserved).graph) (set_at c (Some (phased op (Finished r, (effect_at old.graph op.remaining st op.reserved).reserved, (effect_at old.graph op.remaining st op.reserved).removed))) old.ops) (λ d. rekey facts_of.ch (inv.key d)) (front ++ back) (view_after (start (tree_shapes old.start)) old.timeline)) (sym facts_of.reply_is) tied;
       own = own_finished old.graph (effect_at old.graph op.remaining st op.reserved) facts_of.does.linked st (rekey facts_of.ch (inv.key c)) op inv.is_graph new_is own on (new_kept.each c op st is on).located (λ m j. (facts_of.does.links m j).1) facts_of.does.reserved facts_of.does.removed;
       own_other = λ d q m e.
           own_other old.graph (effect_at old.graph op.remaining st op.reserved).graph facts_of.does.linked st (rekey facts_of.ch (inv.key d)) q new_is (inv.own d q e)

@@ -1,5 +1,7 @@
 -- A commit keeps what every state keeps.
 use Rattle.std.proofs.Common.{◌≡◌, ℕ, ◌<◌, ◌+◌, List, [], ◌∷◌, ◌++◌, Option, Some, None, refl, sym, ap, ap₂, ◌∙◌, arith, subst, ◌⊎◌, inl, inr}
+use Rattle.fs_calls.specs.Tree.{Tree}
+use Rattle.fs_calls.specs.Sights.{tree_shapes}
 use Rattle.fs_names.specs.Keys.{Key}
 use Rattle.fs_names.specs.Shapes.{Shape}
 use Rattle.fs_laws.specs.Changes.{Change, no_change, changed, looked, outcome, reply, after, if_sound}
@@ -134,16 +136,16 @@ placed_in ops d [] o i = absurd i
 placed_in ops d (c ∷ cs) o (inl e) = subst (IsPlaced ops) (sym e) o.0
 placed_in ops d (c ∷ cs) o (inr i) = placed_in ops d cs o.2 i
 
-same_committed : (es : List Entry) (c : ℕ) (call : Call) → (view_after start es).call c ≡ Some call → SameCalls (view_after start es) (view_after start (es ++ Commit c ∷ []))
-same_committed es c call e = record {
+same_committed : (tree : Tree) (es : List Entry) (c : ℕ) (call : Call) → (view_after (start (tree_shapes tree)) es).call c ≡ Some call → SameCalls (view_after (start (tree_shapes tree)) es) (view_after (start (tree_shapes tree)) (es ++ Commit c ∷ []))
+same_committed tree es c call e = record {
   call = λ d. ap (λ (b : JournalView). b.call d) is;
   seat_of = λ d. ap (λ (b : JournalView). b.seat_of d) is;
   back = λ d. ap (λ (b : JournalView). b.back d) is;
   busy = λ seat. ap (λ (b : JournalView). b.busy seat) is;
 }
   where
-    is : view_after start (es ++ Commit c ∷ []) ≡ committed (view_after start es) c (form call)
-    is = view_push start es (Commit c) ∙ noted_commit (view_after start es) c call e
+    is : view_after (start (tree_shapes tree)) (es ++ Commit c ∷ []) ≡ committed (view_after (start (tree_shapes tree)) es) c (form call)
+    is = view_push (start (tree_shapes tree)) es (Commit c) ∙ noted_commit (view_after (start (tree_shapes tree)) es) c call e
 
 -- a walking call that stands finishes
 commit_in_place : (old : State) (inv : Invariant old) (c : ℕ) (op : Record) (st : Holdings) (o : Option ℕ) → old.ops c ≡ Some op → op.phase ≡ Walking → NoneBelow old o → by_text (form op.call) ≡ None → op.holdings ≡ Some st → next_on old.graph op.remaining st ≡ Finishes o
@@ -182,7 +184,7 @@ commit_in_place old inv c op st o is w below text on n =
     call_is : under (inv.key c) op.remaining ≡ form op.call
     call_is = ap (λ (k : Key). under k op.remaining) ((inv.kept.each c op st is on).walking w) ∙ own.parts
 
-    call_known : (view_after start old.timeline).call c ≡ Some op.call
+    call_known : (view_after (start (tree_shapes old.start)) old.timeline).call c ≡ Some op.call
     call_known = inv.tied.calls c op is
 
     others : (d : ℕ) (p : IsPlaced old.ops d) → d ≡ c → ⊥
@@ -212,14 +214,14 @@ commit_in_place old inv c op st o is w below text on n =
     same_replies : settle_replies (graph_shapes (effect_at old.graph op.remaining st op.reserved).graph) (spots old.ops (λ d. rekey facts_of.ch (inv.key d)) inv.order) ≡ settle_replies (graph_shapes old.graph) (spots old.ops inv.key inv.order)
     same_replies = ap₂ settle_replies (sym after_is) (spots_rekey old.ops inv.key facts_of.ch inv.order) ∙ all.same_replies
 
-    both : IsNext (view_after start old.timeline) (Commit c) × Tied (graph_shapes (effect_at old.graph op.remaining st op.reserved).graph) (set_at c (Some (phased op (Finished (reply (graph_shapes old.graph) (form op.call)), (effect_at old.graph op.remaining st op.reserved).reserved, (effect_at old.graph op.remaining st op.reserved).removed))) old.ops) (λ d. rekey facts_of.ch (inv.key d)) inv.order (committed (view_after start old.timeline) c (form op.call))
-    both = tied_commit (effect_at old.graph op.remaining st op.reserved).reserved (effect_at old.graph op.remaining st op.reserved).removed (graph_shapes old.graph) (graph_shapes (effect_at old.graph op.remaining st op.reserved).graph) old.ops inv.key (λ d. rekey facts_of.ch (inv.key d)) inv.order (view_after start old.timeline) c op inv.tied is w inv.in_order tree_is same_outcome same_replies
+    both : IsNext (view_after (start (tree_shapes old.start)) old.timeline) (Commit c) × Tied (graph_shapes (effect_at old.graph op.remaining st op.reserved).graph) (set_at c (Some (phased op (Finished (reply (graph_shapes old.graph) (form op.call)), (effect_at old.graph op.remaining st op.reserved).reserved, (effect_at old.graph op.remaining st op.reserved).removed))) old.ops) (λ d. rekey facts_of.ch (inv.key d)) inv.order (committed (view_after (start (tree_shapes old.start)) old.timeline) c (form op.call))
+    both = tied_commit (effect_at old.graph op.remaining st op.reserved).reserved (effect_at old.graph op.remaining st op.reserved).removed (graph_shapes old.graph) (graph_shapes (effect_at old.graph op.remaining st op.reserved).graph) old.ops inv.key (λ d. rekey facts_of.ch (inv.key d)) inv.order (view_after (start (tree_shapes old.start)) old.timeline) c op inv.tied is w inv.in_order tree_is same_outcome same_replies
 
     reply_is : reply (graph_shapes old.graph) (form op.call) ≡ (effect_at old.graph op.remaining st op.reserved).reply
     reply_is = ap (reply (graph_shapes old.graph)) (sym call_is) ∙ sym facts_of.reply_is
 
-    view_is : view_after start (old.timeline ++ Commit c ∷ []) ≡ committed (view_after start old.timeline) c (form op.call)
-    view_is = view_push start old.timeline (Commit c) ∙ noted_commit (view_after start old.timeline) c op.call call_known
+    view_is : view_after (start (tree_shapes old.start)) (old.timeline ++ Commit c ∷ []) ≡ committed (view_after (start (tree_shapes old.start)) old.timeline) c (form op.call)
+    view_is = view_push (start (tree_shapes old.start)) old.timeline (Commit c) ∙ noted_commit (view_after (start (tree_shapes old.start)) old.timeline) c op.call call_known
 
     new_kept : CallFacts (numbers (effect_at old.graph op.remaining st op.reserved).graph) old.ops (λ d. rekey facts_of.ch (inv.key d))
     new_kept = facts_of.does.kept
@@ -233,10 +235,10 @@ commit_in_place old inv c op st o is w below text on n =
       kept = new_kept;
       in_order = order_without old.ops c (Some (finished_op op (effect_at old.graph op.remaining st op.reserved))) inv.order (λ d i. others d (placed_in old.ops d inv.order inv.in_order i)) inv.in_order;
       all_placed = λ d q i m e g. one_more d q i e g;
-      lawful = lawful_push start old.timeline (Commit c) inv.lawful both.0;
+      lawful = lawful_push (start (tree_shapes old.start)) old.timeline (Commit c) inv.lawful both.0;
       tied =
           subst (λ (b : JournalView). Tied (graph_shapes (effect_at old.graph op.remaining st op.reserved).graph) (set_at c (Some (finished_op op (effect_at old.graph op.remaining st op.reserved))) old.ops) (λ d. rekey facts_of.ch (inv.key d)) inv.order b) (sym view_is)
-          (subst (λ (r : Reply). Tied (graph_shapes (effect_at old.graph op.remaining st op.reserved).graph) (set_at c (Some (phased op (Finished r, (effect_at old.graph op.remaining st op.reserved).reserved, (effect_at old.graph op.remaining st op.reserved).removed))) old.ops) (λ d. rekey facts_of.ch (inv.key d)) inv.order (committed (view_after start old.timeline) c (form op.call))) reply_is both.1);
+          (subst (λ (r : Reply). Tied (graph_shapes (effect_at old.graph op.remaining st op.reserved).graph) (set_at c (Some (phased op (Finished r, (effect_at old.graph op.remaining st op.reserved).reserved, (effect_at old.graph op.remaining st op.reserved).removed))) old.ops) (λ d. rekey facts_of.ch (inv.key d)) inv.order (committed (view_after (start (tree_shapes old.start)) old.timeline) c (form op.call))) reply_is both.1);
       own = own_finished old.graph (effect_at old.graph op.remaining st op.reserved) facts_of.does.linked st (rekey facts_of.ch (inv.key c)) op inv.is_graph new_is own on (new_kept.each c op st is on).located (λ m i. (facts_of.does.links m i).1) facts_of.does.reserved facts_of.does.removed;
       own_other = λ d q m e.
           own_other old.graph (effect_at old.graph op.remaining st op.reserved).graph facts_of.does.linked st (rekey facts_of.ch (inv.key d)) q new_is (inv.own d q e)
@@ -244,7 +246,7 @@ commit_in_place old inv c op st o is w below text on n =
           (λ k i h. inv.apart c d k op q (λ j. m (sym j)) is e (inl (facts_of.does.links k i).0) h);
       spares = spares;
       shapes = new_is.shapes;
-      calls = same_committed old.timeline c op.call call_known;
+      calls = same_committed old.start old.timeline c op.call call_known;
       begun = begins_push old.timeline c;
     }
       where
@@ -269,7 +271,7 @@ commit_text old inv c op e is w text = subst (λ (m : Effect). Invariant (ended 
     made_is : finish old.graph op ≡ no_effect (Failed e) old.graph op.reserved
     made_is = ap (λ (x : Option Errno). effect_of old.graph op x op.holdings) text
 
-    call_known : (view_after start old.timeline).call c ≡ Some op.call
+    call_known : (view_after (start (tree_shapes old.start)) old.timeline).call c ≡ Some op.call
     call_known = inv.tied.calls c op is
 
     others : (d : ℕ) (p : IsPlaced old.ops d) → d ≡ c → ⊥
@@ -284,11 +286,11 @@ commit_text old inv c op e is w text = subst (λ (m : Effect). Invariant (ended 
     tree_is : settle (graph_shapes old.graph) (spots old.ops inv.key inv.order) ≡ after (settle (graph_shapes old.graph) (spots old.ops inv.key inv.order)) (form op.call)
     tree_is = sym (ap (λ (o : Reply × Change). changed o.1 (settle (graph_shapes old.graph) (spots old.ops inv.key inv.order))) (out (settle (graph_shapes old.graph) (spots old.ops inv.key inv.order))))
 
-    both : IsNext (view_after start old.timeline) (Commit c) × Tied (graph_shapes old.graph) (set_at c (Some (phased op (Finished (reply (graph_shapes old.graph) (form op.call)), op.reserved, None))) old.ops) inv.key inv.order (committed (view_after start old.timeline) c (form op.call))
-    both = tied_commit op.reserved None (graph_shapes old.graph) (graph_shapes old.graph) old.ops inv.key inv.key inv.order (view_after start old.timeline) c op inv.tied is w inv.in_order tree_is (out (settle (graph_shapes old.graph) (spots old.ops inv.key inv.order)) ∙ sym (out (graph_shapes old.graph))) refl
+    both : IsNext (view_after (start (tree_shapes old.start)) old.timeline) (Commit c) × Tied (graph_shapes old.graph) (set_at c (Some (phased op (Finished (reply (graph_shapes old.graph) (form op.call)), op.reserved, None))) old.ops) inv.key inv.order (committed (view_after (start (tree_shapes old.start)) old.timeline) c (form op.call))
+    both = tied_commit op.reserved None (graph_shapes old.graph) (graph_shapes old.graph) old.ops inv.key inv.key inv.order (view_after (start (tree_shapes old.start)) old.timeline) c op inv.tied is w inv.in_order tree_is (out (settle (graph_shapes old.graph) (spots old.ops inv.key inv.order)) ∙ sym (out (graph_shapes old.graph))) refl
 
-    view_is : view_after start (old.timeline ++ Commit c ∷ []) ≡ committed (view_after start old.timeline) c (form op.call)
-    view_is = view_push start old.timeline (Commit c) ∙ noted_commit (view_after start old.timeline) c op.call call_known
+    view_is : view_after (start (tree_shapes old.start)) (old.timeline ++ Commit c ∷ []) ≡ committed (view_after (start (tree_shapes old.start)) old.timeline) c (form op.call)
+    view_is = view_push (start (tree_shapes old.start)) old.timeline (Commit c) ∙ noted_commit (view_after (start (tree_shapes old.start)) old.timeline) c op.call call_known
 
     -- a call that stands somewhere is not decided by its paths
     nowhere : (st : Holdings) → op.holdings ≡ Some st → ⊥
@@ -305,10 +307,10 @@ commit_text old inv c op e is w text = subst (λ (m : Effect). Invariant (ended 
       kept = inv.kept;
       in_order = order_without old.ops c (Some (finished_op op (no_effect (Failed e) old.graph op.reserved))) inv.order (λ d i. others d (placed_in old.ops d inv.order inv.in_order i)) inv.in_order;
       all_placed = λ d q i m e g. one_more d q i e g;
-      lawful = lawful_push start old.timeline (Commit c) inv.lawful both.0;
+      lawful = lawful_push (start (tree_shapes old.start)) old.timeline (Commit c) inv.lawful both.0;
       tied =
           subst (λ (b : JournalView). Tied (graph_shapes old.graph) (set_at c (Some (finished_op op (no_effect (Failed e) old.graph op.reserved))) old.ops) inv.key inv.order b) (sym view_is)
-          (subst (λ (r : Reply). Tied (graph_shapes old.graph) (set_at c (Some (phased op (Finished r, op.reserved, None))) old.ops) inv.key inv.order (committed (view_after start old.timeline) c (form op.call))) reply_is both.1);
+          (subst (λ (r : Reply). Tied (graph_shapes old.graph) (set_at c (Some (phased op (Finished r, op.reserved, None))) old.ops) inv.key inv.order (committed (view_after (start (tree_shapes old.start)) old.timeline) c (form op.call))) reply_is both.1);
       own = record {
         parts = own.parts;
         well = own.well;
@@ -325,7 +327,7 @@ commit_text old inv c op e is w text = subst (λ (m : Effect). Invariant (ended 
       own_other = λ d q m e. inv.own d q e;
       spares = spares;
       shapes = shapes_same old.graph.shape (Reached old.graph);
-      calls = same_committed old.timeline c op.call call_known;
+      calls = same_committed old.start old.timeline c op.call call_known;
       begun = begins_push old.timeline c;
     }
       where

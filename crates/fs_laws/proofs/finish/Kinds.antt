@@ -5,16 +5,13 @@ use Rattle.fs_names.specs.Names.{Name, name_cmp, same_name, inserted_name, remov
 use Rattle.fs_names.specs.declared.limits.TheConstants.{FILE_LIMIT}
 use Rattle.fs_names.proofs.Lemmas.{name_total}
 use Rattle.fs_calls.specs.Rows.{written, resized}
+use Rattle.fs_machine.specs.States.{IsBefore, AreRising}
 use Rattle.fs_nodes.proofs.NameLemmas.{Compared, Below, Same, Above, compare, inserted_below, inserted_same, inserted_above, has_inserted}
 use Rattle.fs_laws.proofs.trees.Prefixes.{same_refl, same_true}
 
 -- names in byte order, each once
-abbrev pub IsBefore : Name → List Name → Type 0
-IsBefore x names = (y : Name) → has_name y names ≡ true → name_cmp x y ≡ Less
-
 abbrev pub Ordered : List Name → Type 0
-Ordered [] = Unit {0}
-Ordered (x ∷ names) = IsBefore x names × Ordered names
+Ordered = AreRising
 
 -- a name of a list is its first or one of the others
 first_or : (y x : Name) (names : List Name) → has_name y (x ∷ names) ≡ true → (y ≡ x) ⊎ (has_name y names ≡ true)

@@ -1,5 +1,7 @@
 -- Who stands below whom, who holds what, and what the placed calls leave.
 use Rattle.std.proofs.Common.{◌≡◌, ℕ, List, [], ◌∷◌, ◌++◌, Option, Some, None, sym, ap, ◌∙◌, append-nil, subst, ◌⊎◌, inl, inr, arith}
+use Rattle.fs_calls.specs.Tree.{Tree}
+use Rattle.fs_calls.specs.Sights.{tree_shapes}
 use Rattle.fs_names.specs.Keys.{Key, after_prefix}
 use Rattle.fs_calls.specs.declared.reply.Reply.{Reply}
 use Rattle.fs_nodes.specs.Graphs.{at, numbers}
@@ -89,21 +91,21 @@ nobody_between s run c d n op q st other u v differs a b walked e held = go walk
     go (inr i) = way u v st.dest.walked st.dest.node i at_n (loc.head Dest) (node_held Dest (numbers s.graph) (inv.key c) st loc) (pair.clear Dest)
 
 -- the replies of the placed calls
-are_due : (es : List Entry) (view : JournalView) → ((c : ℕ) (r : Reply) → view.due c ≡ Some r → journal.due c es ≡ Some r) → (cs : List ℕ) (rs : List Reply) → Dues view cs rs → AreDue es cs rs
-are_due es view h [] rs d = tt
-are_due es view h (c ∷ cs) [] d = d
-are_due es view h (c ∷ cs) (r ∷ rs) d = (h c r d.0, are_due es view h cs rs d.1)
+are_due : (first : Tree) (es : List Entry) (view : JournalView) → ((c : ℕ) (r : Reply) → view.due c ≡ Some r → journal.due first c es ≡ Some r) → (cs : List ℕ) (rs : List Reply) → Dues view cs rs → AreDue first es cs rs
+are_due first es view h [] rs d = tt
+are_due first es view h (c ∷ cs) [] d = d
+are_due first es view h (c ∷ cs) (r ∷ rs) d = (h c r d.0, are_due first es view h cs rs d.1)
 
 pub settles : (s : State) → Run s → Settles s
 settles s run =
     let inv : Invariant s = run_keeps s run in
-    let ties : Ties (view_after start s.timeline) s.timeline = run_ties s run in
+    let ties : Ties s.start (view_after (start (tree_shapes s.start)) s.timeline) s.timeline = run_ties s run in
     record {
       order = (run_keeps s run).order;
       in_order = (run_keeps s run).in_order;
       all = λ c op i e f. ((run_keeps s run).all_placed c op i e f).1;
       spelled = (run_settles_alone s run).0 ∙ (run_keeps s run).tied.played ∙ ties.tree;
-      replies = are_due s.timeline (view_after start s.timeline) ties.due (run_keeps s run).order _ (subst (Dues (view_after start s.timeline) (run_keeps s run).order) (sym (run_settles_alone s run).1) (run_keeps s run).tied.dues);
+      replies = are_due s.start s.timeline (view_after (start (tree_shapes s.start)) s.timeline) ties.due (run_keeps s run).order _ (subst (Dues (view_after (start (tree_shapes s.start)) s.timeline) (run_keeps s run).order) (sym (run_settles_alone s run).1) (run_keeps s run).tied.dues);
     }
 
 -- a call walks and is to finish

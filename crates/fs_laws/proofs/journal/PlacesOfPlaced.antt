@@ -89,7 +89,7 @@ step_places old new seat (Returned r) run h (c, op, m, ph, same) = subst PlacesA
 step_places old new seat (Helped x) run h (c, op, t, m, w, pick, q, is, same) = subst PlacesAreCounted (sym same) (λ d i p e ph. go d i p ph (either old.ops x (record q { phase = Placed (commit_count old.timeline) }) d p e))
   where
     first : journal.has_committed x old.timeline ≡ false
-    first = ((lawful_appended old.timeline (Commit x)).0 (subst (λ (s : State). journal.IsLawful s.timeline) same (linearizes new run).lawful)).1.1
+    first = ((lawful_appended old.start old.timeline (Commit x)).0 (subst (λ (s : State). journal.IsLawful s.start s.timeline) same (linearizes new run).lawful)).1.1
 
     go : (d i : ℕ) (p : Record) → p.phase ≡ Placed i → Either old.ops x (record q { phase = Placed (commit_count old.timeline) }) d p → HasPlace (old.timeline ++ Commit x ∷ []) d i
     go d i p ph (Changed j f) =
@@ -111,6 +111,6 @@ begin_places old new seat call (Ok c) h (free, number, r) = go (reserves (form c
     go (Some shape) (n, less, unused, same) = subst PlacesAreCounted (sym same) (by (Some n) (reserved_in n shape old.graph))
 
 pub places_are_told : (s : State) → Run s → PlacesAreCounted s
-places_are_told s (Start limit more) = λ c i op e ph. cc
+places_are_told s (Start limit tree graph h) = λ c i op e ph. cc
 places_are_told s (Beginning {old} seat call answer new run b) = begin_places old new seat call answer (places_are_told old run) b
 places_are_told s (Stepping {old} seat answer new run st) = step_places old new seat answer (Stepping seat answer new run st) (places_are_told old run) st

@@ -1,11 +1,11 @@
 -- The view of a timeline, against the definitions of `fs_timeline`.
-use Rattle.std.proofs.Common.{◌≡◌, ℕ, Bool, true, false, cond, not, eqb, List, [], ◌∷◌, ◌++◌, Option, Some, None, is_some, refl, sym, ap, ap₂, ◌∙◌, append_assoc, append-nil, subst, ◌==◌}
+use Rattle.std.proofs.Common.{◌≡◌, ℕ, Bool, true, false, cond, not, eqb, List, [], ◌∷◌, ◌++◌, Option, Some, None, is_some, refl, sym, ap, ap₂, ◌∙◌, append_assoc, append-nil, subst, ◌==◌, Ok, Err}
 use mathlib.Core.Path.{fun_ext}
 use Rattle.fs_names.specs.Failures.{check, first_failure}
 use Rattle.fs_names.specs.Keys.{Key}
 use Rattle.fs_names.specs.Shapes.{Shape}
-use Rattle.fs_laws.specs.Changes.{reply, after, root_tree}
-use Rattle.fs_calls.specs.Forms.{form}
+use Rattle.fs_laws.specs.Changes.{reply, after}
+use Rattle.fs_calls.specs.Forms.{form, reserves}
 use Rattle.fs_laws.specs.Maps.{Map}
 use Rattle.fs_calls.specs.Outcomes as tree
 use Rattle.fs_calls.specs.Sights.{tree_shapes}
@@ -32,7 +32,10 @@ use Rattle.fs_laws.proofs.graphs.Walks.{eqb_refl, eqb_true}
 use Rattle.fs_laws.proofs.events.OneCallChanged.{Place, Here, Else, place}
 use Rattle.fs_laws.proofs.journal.OneMoreEntry.{Unknown, unknown_step}
 use Rattle.fs_laws.proofs.states.Headline.{Headline, run_keeps, headline_of, view_plays}
-use Rattle.fs_machine.specs.States.{State, Run}
+use Rattle.fs_machine.specs.States.{State, Begun, Begins, Reserves, Step, Run, Start, Beginning, Stepping}
+use Rattle.fs_machine.specs.declared.answers.Refusal.TheVariants as refusals
+use Rattle.fs_machine.specs.declared.answers.Stepped.{Stepped}
+use Rattle.fs_machine.specs.declared.answers.Stepped.TheVariants.{Idle, Took, Busy, LetGo, Helped, Committed, CarriedOut, Returned}
 
 -- two words for one changed value
 changed_is : {A : Type 0} (n : ℕ) (v : A) (f g : ℕ → A) (m : ℕ) → f m ≡ g m → set_at n v f m ≡ changed g n v m
@@ -233,60 +236,82 @@ agrees_step t view k (Return c r) a next = record {
             ∙ sym (at_d e (k.returned d) (sym (changed_is c true k.returned k.returned d refl) ∙ j))
 
 -- before the first entry
-abbrev empty_knowledge : JournalState
-empty_knowledge = record { calls = λ c. None; replies = λ c. None; returned = λ c. false; last = λ s. None; tree = trees.root_tree }
+abbrev empty_knowledge : Tree → JournalState
+empty_knowledge t = record { calls = λ c. None; replies = λ c. None; returned = λ c. false; last = λ s. None; tree = t }
 
-root_seen : (key : Key) → root_tree key ≡ tree_shapes trees.root_tree key
-unfolding look
-root_seen [] = refl
-root_seen (x ∷ key) = refl
-
-agrees_start : Agrees start empty_knowledge
-agrees_start = record {
+agrees_start : (t : Tree) → IsTree t → Agrees (start (tree_shapes t)) (empty_knowledge t)
+agrees_start t is = record {
   call = λ c. refl;
   due = λ c. refl;
   back = λ c. refl;
   busy = λ s. refl;
-  tree = fun_ext root_seen;
-  is_tree = (played_trees_are_trees []).0;
+  tree = refl;
+  is_tree = is;
   unknown = λ c e. (refl, refl);
   seat = λ s c e. cc;
   known = λ s c e. cc;
   lasts = λ s c e. cc;
 }
 
-true_start : IsTrueOf empty_knowledge []
-true_start = record { calls_are = λ c. refl; replies_are = λ c. refl; returned_are = λ c. refl; last_are = λ s. refl; tree_is = refl; begun_first = λ c e. cc }
+true_start : (t : Tree) → IsTrueOf t (empty_knowledge t) []
+true_start t = record { calls_are = λ c. refl; replies_are = λ c. refl; returned_are = λ c. refl; last_are = λ s. refl; tree_is = refl; begun_first = λ c e. cc }
 
 -- a lawful view is a lawful journal, with the tree that it plays
-pub record Ties (view : JournalView) (es : List Entry) : Type 0 where
-  pub lawful : journal.IsLawful es
-  pub tree : view.tree ≡ tree_shapes (tree.play (journal.commits es))
-  pub due : (c : ℕ) (r : Reply) → view.due c ≡ Some r → journal.due c es ≡ Some r
+pub record Ties (first : Tree) (view : JournalView) (es : List Entry) : Type 0 where
+  pub lawful : journal.IsLawful first es
+  pub tree : view.tree ≡ tree_shapes (tree.play first (journal.commits es))
+  pub due : (c : ℕ) (r : Reply) → view.due c ≡ Some r → journal.due first c es ≡ Some r
 
-ties_from : TreesAsMaps → (view : JournalView) (k : JournalState) (before es : List Entry) → Agrees view k → IsTrueOf k before → journal.IsLawful before → IsLawful view es → Ties (view_after view es) (before ++ es)
-ties_from t view k before [] a true_of lawful l = record {
-  lawful = subst journal.IsLawful (sym (append-nil before)) lawful;
-  tree = a.tree ∙ ap tree_shapes true_of.tree_is ∙ ap (λ (x : List Entry). tree_shapes (tree.play (journal.commits x))) (sym (append-nil before));
-  due = λ c r e. ap (journal.due c) (append-nil before) ∙ due_of (journal.has_committed c before) (journal.due c before) r (sym (true_of.replies_are c) ∙ sym (a.due c) ∙ e);
+ties_from : TreesAsMaps → (first : Tree) (view : JournalView) (k : JournalState) (before es : List Entry) → Agrees view k → IsTrueOf first k before → journal.IsLawful first before → IsLawful view es → Ties first (view_after view es) (before ++ es)
+ties_from t first view k before [] a true_of lawful l = record {
+  lawful = subst (journal.IsLawful first) (sym (append-nil before)) lawful;
+  tree = a.tree ∙ ap tree_shapes true_of.tree_is ∙ ap (λ (x : List Entry). tree_shapes (tree.play first (journal.commits x))) (sym (append-nil before));
+  due = λ c r e. ap (journal.due first c) (append-nil before) ∙ due_of (journal.has_committed c before) (journal.due first c before) r (sym (true_of.replies_are c) ∙ sym (a.due c) ∙ e);
 }
   where
     due_of : (b : Bool) (o : Option Reply) (r : Reply) → cond b o None ≡ Some r → o ≡ Some r
     due_of true o r e = e
     due_of false o r e = cc
-ties_from t view k before (e ∷ es) a true_of lawful l =
-    let none : entry_fault before e ≡ None = sym (known_fault-entry_fault k before e true_of) ∙ no_fault view k e a l.0 in
-    let fits : journal.IsNext before e × journal.IsAnswered before e = fits_from_none before e none in
-    subst (λ (x : List Entry). Ties (view_after (noted view e) es) x) (append_assoc before (e ∷ []) es)
-    (ties_from t (noted view e) (taken_in k e) (before ++ e ∷ []) es (agrees_step t view k e a l.0) (true_of_taken_in k before e true_of none) ((lawful_appended before e).1 (lawful, fits.0, fits.1)) l.1)
+ties_from t first view k before (e ∷ es) a true_of lawful l =
+    let none : entry_fault first before e ≡ None = sym (known_fault-entry_fault first k before e true_of) ∙ no_fault view k e a l.0 in
+    let fits : journal.IsNext before e × journal.IsAnswered first before e = fits_from_none first before e none in
+    subst (λ (x : List Entry). Ties first (view_after (noted view e) es) x) (append_assoc before (e ∷ []) es)
+    (ties_from t first (noted view e) (taken_in k e) (before ++ e ∷ []) es (agrees_step t view k e a l.0) (true_of_taken_in first k before e true_of none) ((lawful_appended first before e).1 (lawful, fits.0, fits.1)) l.1)
+
+-- no event changes the start tree
+pub begin_start : (old : State) (seat : ℕ) (call : Call) (answer : Begun) (new : State) → Begins old seat call answer new → new.start ≡ old.start
+begin_start old seat call (Err refusals.SeatBusy) new (c, on, same) = ap (λ (s : State). s.start) same
+begin_start old seat call (Err refusals.Full) new (on, full, same) = ap (λ (s : State). s.start) same
+begin_start old seat call (Err refusals.OutOfMemory) new (on, full, same) = ap (λ (s : State). s.start) same
+begin_start old seat call (Ok c) new (free, number, r) = go (reserves (form call)) r
+  where
+    go : (o : Option Shape) → Reserves old seat call c o new → new.start ≡ old.start
+    go None same = ap (λ (s : State). s.start) same
+    go (Some shape) (n, less, unused, same) = ap (λ (s : State). s.start) same
+
+pub step_start : (old : State) (seat : ℕ) (answer : Stepped) (new : State) → Step old seat answer new → new.start ≡ old.start
+step_start old seat Idle new (free, same) = ap (λ (s : State). s.start) same
+step_start old seat (Took n) new (c, op, m, free, same) = ap (λ (s : State). s.start) same
+step_start old seat (Busy n d) new (c, op, m, on, same) = ap (λ (s : State). s.start) same
+step_start old seat (LetGo n) new (c, op, m, same) = ap (λ (s : State). s.start) same
+step_start old seat (Helped d) new (c, op, t, m, walks, pick, q, is, same) = ap (λ (s : State). s.start) same
+step_start old seat Committed new (c, op, t, m, walks, none, same) = ap (λ (s : State). s.start) same
+step_start old seat CarriedOut new (c, op, t, i, m, at, same) = ap (λ (s : State). s.start) same
+step_start old seat (Returned r) new (c, op, m, ph, same) = ap (λ (s : State). s.start) same
+
+-- the start tree of a run is a tree
+pub run_starts : (s : State) → Run s → IsTree s.start
+run_starts s (Start limit tree graph h) = h.tree
+run_starts s (Beginning {old} seat call answer new run b) = subst IsTree (sym (begin_start old seat call answer new b)) (run_starts old run)
+run_starts s (Stepping {old} seat answer new run st) = subst IsTree (sym (step_start old seat answer new st)) (run_starts old run)
 
 -- the view of a run's timeline, in the words of `fs_timeline`
-pub run_ties : (s : State) → Run s → Ties (view_after start s.timeline) s.timeline
-run_ties s run = ties_from trees_as_maps start empty_knowledge [] s.timeline agrees_start true_start (record { well_formed = tt; replies = tt }) (run_keeps s run).lawful
+pub run_ties : (s : State) → Run s → Ties s.start (view_after (start (tree_shapes s.start)) s.timeline) s.timeline
+run_ties s run = ties_from trees_as_maps s.start (start (tree_shapes s.start)) (empty_knowledge s.start) [] s.timeline (agrees_start s.start (run_starts s run)) (true_start s.start) (record { well_formed = tt; replies = tt }) (run_keeps s run).lawful
 
 -- the theorem in the words of `fs_timeline`
 pub linearizes : Linearization
 linearizes s run =
     let head : Headline s = headline_of s (run_keeps s run) in
-    let tied : Ties (view_after start s.timeline) s.timeline = run_ties s run in
-    record { lawful = tied.lawful; spelled = λ idle. head.spelled idle ∙ sym (view_plays start s.timeline) ∙ tied.tree }
+    let tied : Ties s.start (view_after (start (tree_shapes s.start)) s.timeline) s.timeline = run_ties s run in
+    record { lawful = tied.lawful; spelled = λ idle. head.spelled idle ∙ sym (view_plays (start (tree_shapes s.start)) s.timeline) ∙ tied.tree }

@@ -1,5 +1,7 @@
 -- What every state of a run keeps besides: who is a node's holder stands at it, calls under way are on their seats, and numbers and sizes are within their limits.
 use Rattle.std.proofs.Common.{◌≡◌, ℕ, ◌+◌, ◌<◌, ◌≤◌, Bool, true, false, List, [], ◌∷◌, Option, Some, None, refl, sym, ap, ◌∙◌, subst, arith, Ok, Err}
+use Rattle.fs_calls.specs.Tree.{Tree}
+use Rattle.fs_calls.specs.Sights.{tree_shapes}
 use Rattle.fs_names.specs.Keys.{Key}
 use Rattle.fs_names.specs.Names.{Name}
 use Rattle.fs_names.specs.Shapes.{Shape, Dir, File}
@@ -8,7 +10,7 @@ use Rattle.fs_calls.specs.declared.target.PairCall.TheVariants as pairs
 use Rattle.fs_calls.specs.declared.target.EntryCall.TheVariants.{Mkdir, Mknod, Unlink, Rmdir}
 use Rattle.fs_calls.specs.declared.call.Call.{Call}
 use Rattle.fs_calls.specs.declared.reply.Reply.{Reply}
-use Rattle.fs_nodes.specs.Graphs.{Graph, empty_graph, numbers, set_at, released_in, reserved_in}
+use Rattle.fs_nodes.specs.Graphs.{Graph, numbers, set_at, released_in, reserved_in}
 use Rattle.fs_machine.specs.Finishes.{finish}
 use Rattle.fs_machine.specs.Leaving.{is_removed, releasing, let_go, finished_op, unreserved}
 use Rattle.fs_machine.specs.Moves.{next, took, left_holdings, next_on}
@@ -18,7 +20,7 @@ use Rattle.fs_laws.specs.JournalViews.{start, view_after}
 use Rattle.fs_timeline.specs.Timeline.{begins, commit_count}
 use Rattle.fs_laws.specs.Invariants.{IsUnfinished, Own, Invariant}
 use Rattle.fs_laws.specs.CallFacts.{Keeps}
-use Rattle.fs_machine.specs.States.{State, empty, Begun, began, new_op, Reserves, Begins, Step, taking, letting_go, helping, carrying, committing, returning, Run, Start, Beginning, Stepping}
+use Rattle.fs_machine.specs.States.{State, fresh, IsStart, Begun, began, new_op, Reserves, Begins, Step, taking, letting_go, helping, carrying, committing, returning, Run, Start, Beginning, Stepping}
 use Rattle.fs_machine.specs.declared.answers.Refusal.TheVariants.{SeatBusy, Full, OutOfMemory}
 use Rattle.fs_machine.specs.declared.answers.Stepped.{Stepped}
 use Rattle.fs_machine.specs.declared.answers.Stepped.TheVariants.{Idle, Took, Busy, LetGo, Helped, Committed, CarriedOut, Returned}
@@ -397,7 +399,7 @@ not_begun s inv c less = go (s.ops c) refl
   where
     go : (o : Option Record) → s.ops c ≡ o → o ≡ None
     go None e = refl
-    go (Some q) e = absurd (none_some ((view_after start s.timeline).call c) q.call (inv.fresh c less) (inv.tied.calls c q e))
+    go (Some q) e = absurd (none_some ((view_after (start (tree_shapes s.start)) s.timeline).call c) q.call (inv.fresh c less) (inv.tied.calls c q e))
 
 -- what is reserved is empty
 new_within : (call : Form) (shape : Shape) → reserves call ≡ Some shape → Within shape
@@ -434,23 +436,19 @@ account_begun c old new seat call inv acc (free, number, r) = go (reserves (form
     go None i same = subst StateFacts (sym same) (began_keeps old inv acc seat call c None old.graph free unused (record { stays = λ m names e. (names, e); within = acc.within; below = acc.below }))
     go (Some shape) i (n, less, empty_n, same) = subst StateFacts (sym same) (began_keeps old inv acc seat call c (Some n) (reserved_in n shape old.graph) free unused (reserved_is old acc n shape empty_n less (new_within (form call) shape i)))
 
--- the empty state
-account_start : (limit : ℕ) → 1 ≤ limit → StateFacts (empty limit)
-account_start limit more = record {
+-- where a timeline begins
+account_start : (limit : ℕ) (tree : Tree) (graph : Graph) → IsStart limit tree graph → StateFacts (fresh limit tree graph)
+account_start limit tree graph h = record {
   holds = λ n c e. cc;
   on_seat = λ c op e. cc;
   neat = λ c op st e f. cc;
-  within = λ n s e. within n s e (place 0 (Some (Dir [])) (λ m. None) n);
-  below = λ n s e. below n s e (place 0 (Some (Dir [])) (λ m. None) n);
+  within = λ n s e. within n s e;
+  below = h.below;
 }
   where
-    within : (n : ℕ) (s : Shape) → empty_graph.shape n ≡ Some s → Place (Option Shape) 0 (Some (Dir [])) (λ m. None) n → Within s
-    within n s e (Here i j) = let z : ◌≡◌ {A = Option Shape} (Some (Dir [])) (Some s) = sym j ∙ e in subst Within (let y : Dir [] ≡ s = cc in y) (tt, omega arith)
-    within n s e (Else h j) = let z : ◌≡◌ {A = Option Shape} None (Some s) = sym j ∙ e in cc
-
-    below : (n : ℕ) (s : Shape) → empty_graph.shape n ≡ Some s → Place (Option Shape) 0 (Some (Dir [])) (λ m. None) n → n < limit
-    below n s e (Here i j) = omega (arith, i, more)
-    below n s e (Else h j) = let z : ◌≡◌ {A = Option Shape} None (Some s) = sym j ∙ e in cc
+    within : (n : ℕ) (s : Shape) → graph.shape n ≡ Some s → Within s
+    within n (Dir names) e = (h.rising n names e, h.bounded.entries n names e)
+    within n (File bytes) e = h.bounded.bytes n bytes e
 
 step_accounts : (answer : Stepped) (old new : State) (seat : ℕ) → Invariant old → StateFacts old → Step old seat answer new → StateFacts new
 step_accounts Idle old new seat inv acc st = subst StateFacts (sym st.1) acc
@@ -470,6 +468,6 @@ begin_accounts (Err OutOfMemory) old new seat call inv acc (on, full, same) = su
 
 -- every state of a run keeps them
 pub run_accounts : (s : State) → Run s → StateFacts s
-run_accounts s (Start limit more) = account_start limit more
+run_accounts s (Start limit tree graph h) = account_start limit tree graph h
 run_accounts s (Beginning {old} seat call answer new run b) = begin_accounts answer old new seat call (run_keeps old run) (run_accounts old run) b
 run_accounts s (Stepping {old} seat answer new run st) = step_accounts answer old new seat (run_keeps old run) (run_accounts old run) st

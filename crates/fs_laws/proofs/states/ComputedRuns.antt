@@ -8,7 +8,7 @@ use Rattle.fs_calls.specs.Forms.{form, reserves, Form, AtNode, AtEntry, AtPair, 
 use Rattle.fs_calls.specs.declared.target.PairCall.TheVariants as pairs
 use Rattle.fs_calls.specs.declared.call.Call.{Call}
 use Rattle.fs_calls.specs.declared.reply.Reply.{Reply}
-use Rattle.fs_nodes.specs.Graphs.{Graph, numbers, reserved_in}
+use Rattle.fs_nodes.specs.Graphs.{Graph, empty_graph, numbers, reserved_in}
 use Rattle.fs_machine.specs.Moves.{next, next_by}
 use Rattle.fs_machine.specs.declared.moves.Move.{Move}
 use Rattle.fs_machine.specs.declared.moves.Move.TheVariants.{Take as Takes, LetGo as Leaves, Finish as Finishes, Return as Ends}
@@ -20,6 +20,8 @@ use Rattle.fs_machine.specs.States as machine
 use Rattle.fs_machine.specs.States.{State, empty, began, Reserves, Moves, Step, taking, letting_go, helping, carrying, committing, returning, Run, Start, Beginning, Stepping}
 use Rattle.fs_machine.specs.declared.answers.Stepped.{Stepped}
 use Rattle.fs_machine.specs.declared.answers.Stepped.TheVariants.{Idle, Took, Busy, LetGo, Helped, Committed, CarriedOut, Returned}
+use Rattle.fs_calls.specs.Tree.{root_tree}
+use Rattle.fs_laws.proofs.states.StartsEmpty.{starts_empty}
 use Rattle.fs_laws.proofs.states.ComputedSteps.{by_ends, by_finishes}
 use Rattle.fs_laws.proofs.helping.WhomToHelp.{whom, IsRight, whom_is}
 use Rattle.fs_laws.proofs.helping.NobodyEnters.{ToMove, to_move}
@@ -218,9 +220,9 @@ start = empty 1048576
 
 pub is_run : (es : List Event) → can_be start es ≡ true → told start es ≡ es → (run : Run (after start es)) × (events_of (after start es) run ≡ es)
 is_run es can is =
-    let r : (later : Run (after start es)) × (events_of (after start es) later ≡ told start es) = played start (Start 1048576 (omega arith)) es can in
+    let r : (later : Run (after start es)) × (events_of (after start es) later ≡ told start es) = played start (Start 1048576 root_tree empty_graph (starts_empty 1048576 (omega arith))) es can in
     (r.0, r.1 ∙ is)
 
 -- the run of some events, where they and their answers are the computed ones
-abbrev pub ran : (es : List Event) → can_be start es ≡ true → told start es ≡ es → (after start es).limit ≡ 1048576 → Ran es
-ran es can is limit = record { state = after start es; run = (is_run es can is).0; events = (is_run es can is).1; limit = limit }
+abbrev pub ran : (es : List Event) → can_be start es ≡ true → told start es ≡ es → (after start es).limit ≡ 1048576 → (after start es).start ≡ root_tree → Ran es
+ran es can is limit tree = record { state = after start es; run = (is_run es can is).0; events = (is_run es can is).1; limit = limit; start = tree }

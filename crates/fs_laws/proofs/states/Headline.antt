@@ -1,12 +1,11 @@
 -- What every state of a run keeps, and the headline from it.
 use Rattle.std.proofs.Common.{◌≡◌, ℕ, Bool, true, false, cond, eqb, List, [], ◌∷◌, Option, Some, None, refl, sym, ap, ◌∙◌, subst, Ok, Err}
 use mathlib.Core.Path.{fun_ext}
-use Rattle.fs_names.specs.Keys.{Key}
-use Rattle.fs_names.specs.Names.{Name, has_name, same_name}
-use Rattle.fs_names.specs.Shapes.{Dir}
-use Rattle.fs_laws.specs.Changes.{play_from, root_tree}
+use Rattle.fs_calls.specs.Sights.{tree_shapes}
+use Rattle.fs_calls.specs.Tree.{Tree}
+use Rattle.fs_laws.specs.Changes.{play}
 use Rattle.fs_calls.specs.declared.call.Call.{Call}
-use Rattle.fs_nodes.specs.Graphs.{numbers, graph_shapes, IsGraph, empty_graph}
+use Rattle.fs_nodes.specs.Graphs.{Graph, graph_shapes}
 use Rattle.fs_timeline.specs.declared.entry.Entry.{Entry}
 use Rattle.fs_timeline.specs.declared.entry.Entry.TheVariants.{Begin, Commit, Return}
 use Rattle.fs_machine.specs.Records.{Record, Records}
@@ -14,7 +13,7 @@ use Rattle.fs_laws.specs.JournalViews.{IsLawful, commits_of, with_call, JournalV
 use Rattle.fs_machine.specs.Headline.{IsIdle}
 use Rattle.fs_laws.specs.Invariants.{Invariant, StepKeeps, BeginKeeps, spots, IsPlaced, InOrder}
 use Rattle.fs_laws.specs.Settled.{settle}
-use Rattle.fs_machine.specs.States.{State, empty, Begun, Run, Start, Beginning, Stepping}
+use Rattle.fs_machine.specs.States.{State, fresh, IsStart, Begun, Run, Start, Beginning, Stepping}
 use Rattle.fs_machine.specs.declared.answers.Refusal.TheVariants.{SeatBusy, Full, OutOfMemory}
 use Rattle.fs_machine.specs.declared.answers.Stepped.{Stepped}
 use Rattle.fs_machine.specs.declared.answers.Stepped.TheVariants.{Idle, Took, Busy, LetGo, Helped, Committed, CarriedOut, Returned}
@@ -28,11 +27,11 @@ use Rattle.fs_laws.proofs.events.Begin.{keeps_begun}
 
 -- by the view: the timeline is well formed and each returned reply is the sequential tree's; where no call is under way, the nodes spell that tree
 pub record Headline (state : State) : Type 0 where
-  pub lawful : IsLawful start state.timeline
-  pub spelled : IsIdle state → graph_shapes state.graph ≡ play_from root_tree (commits_of start.call state.timeline)
+  pub lawful : IsLawful (start (tree_shapes state.start)) state.timeline
+  pub spelled : IsIdle state → graph_shapes state.graph ≡ play (tree_shapes state.start) (commits_of (start (tree_shapes state.start)).call state.timeline)
 
 -- the tree of the view is what the calls of the Commit entries make
-with_played : (o : Option Call) (view : JournalView) (n : ℕ) (calls : List Call) → play_from (commit_of view n o).tree calls ≡ play_from view.tree (with_call o calls)
+with_played : (o : Option Call) (view : JournalView) (n : ℕ) (calls : List Call) → play (commit_of view n o).tree calls ≡ play view.tree (with_call o calls)
 with_played None view n calls = refl
 with_played (Some call) view n calls = refl
 
@@ -40,12 +39,12 @@ same_call : (o : Option Call) (view : JournalView) (n : ℕ) → (commit_of view
 same_call None view n = refl
 same_call (Some call) view n = refl
 
-pub view_plays : (view : JournalView) (es : List Entry) → (view_after view es).tree ≡ play_from view.tree (commits_of view.call es)
+pub view_plays : (view : JournalView) (es : List Entry) → (view_after view es).tree ≡ play view.tree (commits_of view.call es)
 view_plays view [] = refl
 view_plays view (Begin n seat call ∷ es) = view_plays (noted view (Begin n seat call)) es
 view_plays view (Commit n ∷ es) =
     view_plays (commit_of view n (view.call n)) es
-    ∙ ap (λ (c : ℕ → Option Call). play_from (commit_of view n (view.call n)).tree (commits_of c es)) (same_call (view.call n) view n)
+    ∙ ap (λ (c : ℕ → Option Call). play (commit_of view n (view.call n)).tree (commits_of c es)) (same_call (view.call n) view n)
     ∙ with_played (view.call n) view n (commits_of view.call es)
 view_plays view (Return n r ∷ es) = view_plays (noted view (Return n r)) es
 
@@ -60,42 +59,20 @@ headline_of s inv = record {
   spelled = λ idle.
       ap (λ (cs : List ℕ). settle (graph_shapes s.graph) (spots s.ops inv.key cs)) (sym (idle_order s.ops inv.order inv.in_order idle))
       ∙ inv.tied.played
-      ∙ view_plays start s.timeline;
+      ∙ view_plays (start (tree_shapes s.start)) s.timeline;
 }
 
--- the empty state
-root_key : (key : Key) (n : ℕ) → numbers empty_graph key ≡ Some n → (key ≡ []) × (n ≡ 0)
-root_key [] n e = (refl, cc)
-root_key (x ∷ key) n e = cc
-
-graph_start : IsGraph empty_graph
-graph_start = record {
-  one_key = λ a b n e f. (root_key a n e).0 ∙ sym (root_key b n f).0;
-  of_dir = λ n m x e. cc;
-  to_used = λ n m x e. cc;
-  listed = λ n names x e h. listed n names x (eqb n 0) e h;
-  root = ([], refl);
-  loose = λ n m x e. cc;
-}
-  where
-    listed : (n : ℕ) (names : List Name) (x : Name) (b : Bool) → cond b (Some (Dir [])) None ≡ Some (Dir names) → has_name x names ≡ true → (m : ℕ) × (◌≡◌ {A = Option ℕ} None (Some m))
-    listed n names x true e h = let z : [] ≡ names = cc in let w : false ≡ true = ap (has_name x) z ∙ h in cc
-    listed n names x false e h = cc
-
-spelled_start : (key : Key) → graph_shapes empty_graph key ≡ root_tree key
-spelled_start [] = refl
-spelled_start (x ∷ key) = refl
-
-pub inv_start : (limit : ℕ) → Invariant (empty limit)
-inv_start limit = record {
+-- where a timeline begins
+pub inv_start : (limit : ℕ) (tree : Tree) (graph : Graph) → IsStart limit tree graph → Invariant (fresh limit tree graph)
+inv_start limit tree graph h = record {
   key = λ c. [];
   order = [];
-  is_graph = graph_start;
-  kept = record { one_key = graph_start.one_key; each = λ c op st e. cc; pairs = λ c d p q st other n e. cc };
+  is_graph = h.is_graph;
+  kept = record { one_key = h.is_graph.one_key; each = λ c op st e. cc; pairs = λ c d p q st other n e. cc };
   in_order = tt;
   all_placed = λ c op i e. cc;
   lawful = tt;
-  tied = record { played = fun_ext spelled_start; dues = tt; fixed = λ c op r e. cc; fresh = λ c op e. cc; calls = λ c op e. cc };
+  tied = record { played = h.spelled; dues = tt; fixed = λ c op r e. cc; fresh = λ c op e. cc; calls = λ c op e. cc };
   own = λ c op e. cc;
   held = λ c op st n e. cc;
   apart = λ c d n p q differs e. cc;
@@ -139,7 +116,7 @@ begin_keeps (Err OutOfMemory) = keeps_no_memory
 
 -- every state of a run keeps it
 pub run_keeps : (s : State) → Run s → Invariant s
-run_keeps s (Start limit more) = inv_start limit
+run_keeps s (Start limit tree graph h) = inv_start limit tree graph h
 run_keeps s (Beginning {old} seat call answer new run b) = begin_keeps answer old new seat call (run_keeps old run) b
 run_keeps s (Stepping {old} seat answer new run st) = step_keeps answer old new seat (run_keeps old run) st
 

@@ -26,7 +26,7 @@ use Rattle.fs_laws.proofs.graphs.Walks.{eqb_refl, eqb_true}
 use Rattle.fs_laws.proofs.journal.OneMoreEntry.{view_push, unknown_of}
 use Rattle.fs_laws.proofs.events.Help.{upd_here, upd_else}
 use Rattle.fs_laws.proofs.states.Headline.{run_keeps}
-use Rattle.fs_laws.proofs.journal.ViewOfTimeline.{run_ties, linearizes}
+use Rattle.fs_laws.proofs.journal.ViewOfTimeline.{run_ties, run_starts, linearizes}
 use Rattle.fs_laws.proofs.trees.TreesAsMaps.{trees_as_maps}
 use Rattle.fs_laws.proofs.calls.NodesHeld.{none_some}
 
@@ -49,7 +49,7 @@ record During (b : JournalView) (c seat : ℕ) (call : Call) (u : State) : Type 
   pub run : Run u
   pub others : (d : ℕ) → (d ≡ c → ⊥) → u.ops d ≡ None
   pub mine : u.on_seat seat ≡ Some c
-  pub view : (view_after start u.timeline ≡ with_begin b c seat call) ⊎ (view_after start u.timeline ≡ with_commit b c seat call)
+  pub view : (view_after (start (tree_shapes u.start)) u.timeline ≡ with_begin b c seat call) ⊎ (view_after (start (tree_shapes u.start)) u.timeline ≡ with_commit b c seat call)
 
 seat_same : (b : JournalView) (c seat : ℕ) (call : Call) (u : State) (f : ℕ) → During b c seat call u → u.on_seat seat ≡ Some f → f ≡ c
 seat_same b c seat call u f w e = let z : ◌≡◌ {A = Option ℕ} (Some f) (Some c) = sym e ∙ w.mine in cc
@@ -63,18 +63,18 @@ is_mine b c seat call u w d q e = go (eqb d c) refl
     go false i = absurd (none_some (u.ops d) q (w.others d (λ j. (let z : eqb d c ≡ true = ap (eqb d) (sym j) ∙ eqb_refl d in cc))) e)
 
 -- a walking call has not committed
-not_twice : (b : JournalView) (c seat : ℕ) (call : Call) (u : State) → During b c seat call u → (d : ℕ) (q : Record) → u.ops d ≡ Some q → q.phase ≡ Walking → view_after start (u.timeline ++ Commit d ∷ []) ≡ with_commit b c seat call
+not_twice : (b : JournalView) (c seat : ℕ) (call : Call) (u : State) → During b c seat call u → (d : ℕ) (q : Record) → u.ops d ≡ Some q → q.phase ≡ Walking → view_after (start (tree_shapes u.start)) (u.timeline ++ Commit d ∷ []) ≡ with_commit b c seat call
 not_twice b c seat call u w d q is walks = go w.view
   where
     here : d ≡ c
     here = is_mine b c seat call u w d q is
 
-    fresh : (view_after start u.timeline).due d ≡ None
+    fresh : (view_after (start (tree_shapes u.start)) u.timeline).due d ≡ None
     fresh = (run_keeps u w.run).tied.fresh d q is walks
 
-    go : (view_after start u.timeline ≡ with_begin b c seat call) ⊎ (view_after start u.timeline ≡ with_commit b c seat call) → view_after start (u.timeline ++ Commit d ∷ []) ≡ with_commit b c seat call
-    go (inl e) = view_push start u.timeline (Commit d) ∙ ap₂ (λ (x : JournalView) (n : ℕ). noted x (Commit n)) e here
-    go (inr e) = absurd (none_some ((view_after start u.timeline).due c) (reply b.tree (form call)) (ap (view_after start u.timeline).due (sym here) ∙ fresh) (ap (λ (x : JournalView). x.due c) e ∙ committed_due b c seat call))
+    go : (view_after (start (tree_shapes u.start)) u.timeline ≡ with_begin b c seat call) ⊎ (view_after (start (tree_shapes u.start)) u.timeline ≡ with_commit b c seat call) → view_after (start (tree_shapes u.start)) (u.timeline ++ Commit d ∷ []) ≡ with_commit b c seat call
+    go (inl e) = view_push (start (tree_shapes u.start)) u.timeline (Commit d) ∙ ap₂ (λ (x : JournalView) (n : ℕ). noted x (Commit n)) e here
+    go (inr e) = absurd (none_some ((view_after (start (tree_shapes u.start)) u.timeline).due c) (reply b.tree (form call)) (ap (view_after (start (tree_shapes u.start)) u.timeline).due (sym here) ∙ fresh) (ap (λ (x : JournalView). x.due c) e ∙ committed_due b c seat call))
 
 -- the same with one record changed, at the call
 changed_others : (b : JournalView) (c seat : ℕ) (call : Call) (u : State) → During b c seat call u → (f : ℕ) (v : Option Record) → f ≡ c → (d : ℕ) → (d ≡ c → ⊥) → set_at f v u.ops d ≡ None
@@ -123,7 +123,7 @@ record Ended (b : JournalView) (call : Call) (r : Reply) (new : State) : Type 0 
   pub run : Run new
   pub idle : IsIdle new
   pub replied : r ≡ reply b.tree (form call)
-  pub tree : (view_after start new.timeline).tree ≡ after b.tree (form call)
+  pub tree : (view_after (start (tree_shapes new.start)) new.timeline).tree ≡ after b.tree (form call)
 
 some_is : (a b : Reply) → ◌≡◌ {A = Option Reply} (Some a) (Some b) → a ≡ b
 some_is a b e = cc
@@ -134,8 +134,8 @@ returns_ended b c seat call u new r none w (f, op, m, ph, same) = go w.view
     here : f ≡ c
     here = seat_same b c seat call u f w m.0
 
-    due : (view_after start u.timeline).due c ≡ Some r
-    due = ap (view_after start u.timeline).due (sym here) ∙ (run_keeps u w.run).tied.fixed f op r m.1 ph
+    due : (view_after (start (tree_shapes u.start)) u.timeline).due c ≡ Some r
+    due = ap (view_after (start (tree_shapes u.start)) u.timeline).due (sym here) ∙ (run_keeps u w.run).tied.fixed f op r m.1 ph
 
     idle : IsIdle (returning u f op r)
     idle d = by (eqb d f) refl
@@ -146,13 +146,13 @@ returns_ended b c seat call u new r none w (f, op, m, ph, same) = go w.view
             let n : d ≡ f → ⊥ = λ j. (let z : eqb d f ≡ true = ap (eqb d) (sym j) ∙ eqb_refl d in cc) in
             upd_else f None u.ops d n ∙ w.others d (λ j. n (j ∙ sym here))
 
-    go : (view_after start u.timeline ≡ with_begin b c seat call) ⊎ (view_after start u.timeline ≡ with_commit b c seat call) → Ended b call r new
+    go : (view_after (start (tree_shapes u.start)) u.timeline ≡ with_begin b c seat call) ⊎ (view_after (start (tree_shapes u.start)) u.timeline ≡ with_commit b c seat call) → Ended b call r new
     go (inl e) = absurd (none_some (b.due c) r none (ap (λ (x : JournalView). x.due c) (sym e) ∙ due))
     go (inr e) = record {
       run = Stepping seat (Returned r) new w.run (f, op, m, ph, same);
       idle = subst IsIdle (sym same) idle;
       replied = some_is r (reply b.tree (form call)) (sym due ∙ ap (λ (x : JournalView). x.due c) e ∙ committed_due b c seat call);
-      tree = ap (λ (s : State). (view_after start s.timeline).tree) same ∙ ap (λ (x : JournalView). x.tree) (view_push start u.timeline (Return f r)) ∙ ap (λ (x : JournalView). x.tree) e ∙ committed_tree b c seat call;
+      tree = ap (λ (s : State). (view_after (start (tree_shapes s.start)) s.timeline).tree) same ∙ ap (λ (x : JournalView). x.tree) (view_push (start (tree_shapes u.start)) u.timeline (Return f r)) ∙ ap (λ (x : JournalView). x.tree) e ∙ committed_tree b c seat call;
     }
 
 steps_end : (b : JournalView) (c seat : ℕ) (call : Call) (new : State) (r : Reply) (u : State) → b.due c ≡ None → During b c seat call u → StepsTo seat r new u → Ended b call r new
@@ -160,14 +160,14 @@ steps_end b c seat call new r u none w (Returns st) = returns_ended b c seat cal
 steps_end b c seat call new r u none w (Goes_on answer next plain st rest) = steps_end b c seat call new r next none (goes_during b c seat call u next answer w plain st) rest
 
 -- the nodes of an idle state spell the view's tree
-idle_spells : (s : State) → Run s → IsIdle s → graph_shapes s.graph ≡ (view_after start s.timeline).tree
+idle_spells : (s : State) → Run s → IsIdle s → graph_shapes s.graph ≡ (view_after (start (tree_shapes s.start)) s.timeline).tree
 idle_spells s run idle = (linearizes s run).spelled idle ∙ sym (run_ties s run).tree
 
 pub meets_tree : (s first new : State) (seat c : ℕ) (call : Call) (r : Reply) → Run s → IsIdle s → Begins s seat call (Ok c) first → StepsTo seat r new first → MeetsTree s call r new
 meets_tree s first new seat c call r run idle begin steps = result
   where
     b : JournalView
-    b = view_after start s.timeline
+    b = view_after (start (tree_shapes s.start)) s.timeline
 
     inv : Invariant s
     inv = run_keeps s run
@@ -175,42 +175,42 @@ meets_tree s first new seat c call r run idle begin steps = result
     number : c ≡ begins s.timeline + 1
     number = begin.1
 
-    none : (view_after start s.timeline).due c ≡ None
-    none = (unknown_of start s.timeline (λ d e. (refl, refl)) (run_keeps s run).lawful c ((run_keeps s run).fresh c (let z : c ≡ begins s.timeline + 1 = begin.1 in omega (arith, z)))).0
+    none : (view_after (start (tree_shapes s.start)) s.timeline).due c ≡ None
+    none = (unknown_of (start (tree_shapes s.start)) s.timeline (λ d e. (refl, refl)) (run_keeps s run).lawful c ((run_keeps s run).fresh c (let z : c ≡ begins s.timeline + 1 = begin.1 in omega (arith, z)))).0
 
-    began_during : (reserved : Option ℕ) (graph : Graph) → first ≡ began s seat call c reserved graph → During (view_after start s.timeline) c seat call first
-    began_during reserved graph same = subst (During (view_after start s.timeline) c seat call) (sym same) (record {
+    began_during : (reserved : Option ℕ) (graph : Graph) → first ≡ began s seat call c reserved graph → During (view_after (start (tree_shapes s.start)) s.timeline) c seat call first
+    began_during reserved graph same = subst (During (view_after (start (tree_shapes s.start)) s.timeline) c seat call) (sym same) (record {
       run = subst Run same (Beginning seat call (Ok c) first run begin);
       others = λ d n. upd_else c (Some (new_op seat call reserved)) s.ops d n ∙ idle d;
       mine = upd_here seat (Some c) s.on_seat;
-      view = inl (view_push start s.timeline (Begin c seat call));
+      view = inl (view_push (start (tree_shapes s.start)) s.timeline (Begin c seat call));
     })
 
-    during : During (view_after start s.timeline) c seat call first
+    during : During (view_after (start (tree_shapes s.start)) s.timeline) c seat call first
     during = go (reserves (form call)) begin.2
       where
-        go : (o : Option Shape) → Reserves s seat call c o first → During (view_after start s.timeline) c seat call first
+        go : (o : Option Shape) → Reserves s seat call c o first → During (view_after (start (tree_shapes s.start)) s.timeline) c seat call first
         go None same = began_during None s.graph same
         go (Some shape) (n, less, unused, same) = began_during (Some n) (reserved_in n shape s.graph) same
 
-    ended : Ended (view_after start s.timeline) call r new
-    ended = steps_end (view_after start s.timeline) c seat call new r first none during steps
+    ended : Ended (view_after (start (tree_shapes s.start)) s.timeline) call r new
+    ended = steps_end (view_after (start (tree_shapes s.start)) s.timeline) c seat call new r first none during steps
 
     t : Tree
-    t = outcomes.play (journal.commits s.timeline)
+    t = outcomes.play s.start (journal.commits s.timeline)
 
-    seen_is : (view_after start s.timeline).tree ≡ tree_shapes (outcomes.play (journal.commits s.timeline))
+    seen_is : (view_after (start (tree_shapes s.start)) s.timeline).tree ≡ tree_shapes (outcomes.play s.start (journal.commits s.timeline))
     seen_is = (run_ties s run).tree
 
-    is_tree : IsTree (outcomes.play (journal.commits s.timeline))
-    is_tree = (played_trees_are_trees (journal.commits s.timeline)).0
+    is_tree : IsTree (outcomes.play s.start (journal.commits s.timeline))
+    is_tree = (played_trees_are_trees.1 s.start (journal.commits s.timeline) (run_starts s run)).0
 
-    maps : (outcomes.reply (outcomes.play (journal.commits s.timeline)) call ≡ reply (tree_shapes (outcomes.play (journal.commits s.timeline))) (form call)) × (tree_shapes (outcomes.after (outcomes.play (journal.commits s.timeline)) call) ≡ after (tree_shapes (outcomes.play (journal.commits s.timeline))) (form call))
-    maps = trees_as_maps (outcomes.play (journal.commits s.timeline)) call is_tree
+    maps : (outcomes.reply (outcomes.play s.start (journal.commits s.timeline)) call ≡ reply (tree_shapes (outcomes.play s.start (journal.commits s.timeline))) (form call)) × (tree_shapes (outcomes.after (outcomes.play s.start (journal.commits s.timeline)) call) ≡ after (tree_shapes (outcomes.play s.start (journal.commits s.timeline))) (form call))
+    maps = trees_as_maps (outcomes.play s.start (journal.commits s.timeline)) call is_tree
 
     result : MeetsTree s call r new
     result = record {
-      tree = outcomes.play (journal.commits s.timeline);
+      tree = outcomes.play s.start (journal.commits s.timeline);
       is_tree = is_tree;
       before = (linearizes s run).spelled idle;
       replied = ended.replied ∙ ap (λ (m : Map Shape). reply m (form call)) seen_is ∙ sym maps.0;

@@ -4,4 +4,4 @@ use Rattle.fs_laws.proofs.states.ComputedRuns.{ran}
 use Rattle.fs_laws.proofs.examples.lowest_first.Goals as goal
 
 pub returns : goal.returns
-returns c = record { ran = ran lowest_first refl refl refl; at_root = refl; at_b_d_e_x = refl; at_a = refl }
+returns c = record { ran = ran lowest_first refl refl refl refl; at_root = refl; at_b_d_e_x = refl; at_a = refl }

@@ -4,4 +4,4 @@ use Rattle.fs_laws.proofs.states.ComputedRuns.{ran}
 use Rattle.fs_laws.proofs.examples.waits_for_the_root.Goals as goal
 
 pub returns : goal.returns
-returns c = record { ran = ran waits_for_the_root refl refl refl; at_root = refl }
+returns c = record { ran = ran waits_for_the_root refl refl refl refl; at_root = refl }

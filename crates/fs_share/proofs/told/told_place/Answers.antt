@@ -11,4 +11,4 @@ returns c =
     let same : c.committed.result.now ≡ c.args.call.now = search rules in
     let stands : slice_get (commits es) c.in_ok-place.place ≡ Some c.args.call.now = c.committed.ensures ∙ ap Some same in
     let inside : c.in_ok-place.place < length (commits es) = omega (arith, c.commits.ensures, c.if-place-commits.false) in
-    is_told_by es c.in_ok-_at._at c.args.number c.in_ok-place.place c.args.call.now c.args.reply.now c.told.ensures.lawful (sym c.place_of.ensures ∙ c.in_ok-place.was) inside stands returned
+    is_told_by c.args.core.now.start es c.in_ok-_at._at c.args.number c.in_ok-place.place c.args.call.now c.args.reply.now c.told.ensures.lawful (sym c.place_of.ensures ∙ c.in_ok-place.was) inside stands returned

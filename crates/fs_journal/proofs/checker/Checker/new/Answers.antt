@@ -1,4 +1,4 @@
-use Rattle.std.proofs.Common.{ap}
+use Rattle.std.proofs.Common.{ap, refl}
 use Rattle.std.specs.BTreeMap.{is_at}
 use Rattle.std.specs.Map.{lookup}
 use Rattle.std.specs.Ordering.{nat_cmp}
@@ -7,12 +7,12 @@ use Rattle.fs_journal.proofs.checker.Checker.new.Goals as goal
 
 pub returns : goal.returns
 returns c =
-    let none = c.new-2.ensures in
+    let none = c.new.ensures in
     record {
       calls_are = λ q. ap (λ f. call_in (f q)) none;
       replies_are = λ q. ap (λ f. due_in (f q)) none;
       returned_are = λ q. ap (λ f. is_back (f q)) none;
-      last_are = λ s. ap (λ es. lookup (is_at (nat_cmp s)) es) c.new-3.ensures.empty;
-      tree_is = c.in_ok-tree.ensures;
+      last_are = λ s. ap (λ es. lookup (is_at (nat_cmp s)) es) c.new-2.ensures.empty;
+      tree_is = refl;
       begun_first = λ q h. absurd (cc);
     }

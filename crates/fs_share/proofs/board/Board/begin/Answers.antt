@@ -1,10 +1,16 @@
+use Rattle.std.proofs.Common.{◌∙◌, sym}
 use Rattle.fs_core.specs.CoreValues.{state_of}
 use Rattle.fs_timeline.specs.Timeline.{commits}
+use Rattle.fs_laws.proofs.journal.ViewOfTimeline.{begin_start}
 use Rattle.fs_share.proofs.Publishing.{begin_grows, beginnings_grow}
 use Rattle.fs_share.proofs.board.Board.begin.Goals as goal
 
 pub invariant_of-self : goal.invariant_of-self
 invariant_of-self g c =
     let s = c.self.inside in
-    beginnings_grow (commits s.core.timeline) (commits c.begin.new.self.timeline) s.publisher
-    (begin_grows (state_of s.core) (state_of c.begin.new.self) c.args.seat c.args.call.now c.begin.result c.told.ensures.lawful c.begin.ensures.begins) c.self.invariant
+    let old = state_of s.core in
+    let new = state_of c.begin.new.self in (
+      beginnings_grow (commits s.core.timeline) (commits c.begin.new.self.timeline) s.publisher
+          (begin_grows old new c.args.seat c.args.call.now c.begin.result c.told.ensures.lawful c.begin.ensures.begins) c.self.invariant.0,
+      c.self.invariant.1 ∙ sym (begin_start old c.args.seat c.args.call.now c.begin.result new c.begin.ensures.begins),
+    )

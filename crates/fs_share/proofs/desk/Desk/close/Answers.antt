@@ -5,5 +5,5 @@ use Rattle.fs_share.proofs.desk.Desk.close.Goals as goal
 
 pub returns-clause-spelled : goal.returns-clause-spelled
 returns-clause-spelled g c =
-    let parts = c.into_parts-timeline.ensures in
-    rw (parts.timeline, parts.store) (λ all. c.told.ensures.spelled (rest_when_idle c.close-core.result c.told.ensures.run (idle_when_returned (state_of c.close-core.result) c.told.ensures.run all)))
+    let parts = c.into_parts-start.ensures in
+    rw (parts.start, parts.timeline, parts.store) (λ all. c.told.ensures.spelled (rest_when_idle c.close-core.result c.told.ensures.run (idle_when_returned (state_of c.close-core.result) c.told.ensures.run all)))
