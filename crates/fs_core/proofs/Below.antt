@@ -86,15 +86,6 @@ key_within graph bound is below key n e =
     let m : length (path_from graph.child (Some 0) key) ≡ length key + 1 = length_path graph.child (Some 0) key n e in
     omega arith
 
--- the ascent from a node has come to another one: what reaches the one reaches the other, and there are places left
-pub record Climbs (graph : Graph) (bound s node above i : ℕ) : Type 0 where
-  pub up : IsReached graph.child s above → IsReached graph.child s node
-  pub down : IsReached graph.child s node → IsReached graph.child s above
-  pub deep : (key : Key) × (numbers graph key ≡ Some above) × (length key + i < bound)
-
-pub climbs_start : (graph : Graph) (bound s node : ℕ) (key : Key) → numbers graph key ≡ Some node → length key < bound → Climbs graph bound s node node 0
-climbs_start graph bound s node key e h = record { up = λ r. r; down = λ r. r; deep = (key, e, omega arith) }
-
 -- one directory has a node's entry
 one_parent : (graph : Graph) → IsGraph graph → (m p n : ℕ) (x y : Name) → graph.child m x ≡ Some n → graph.child p y ≡ Some n → m ≡ p
 one_parent graph is m p n x y e f =
@@ -114,21 +105,17 @@ reaches_parent graph is s p n y f other (x ∷ u, e) =
     let k : graph.child b.0 d.last ≡ Some n = sym (at_child graph.child s b.0 d.front d.last b.1) ∙ g in
     (d.front, b.1 ∙ ap (λ (m : ℕ). Some m) (one_parent graph is b.0 p n d.last y k f))
 
-pub climbs_up : (graph : Graph) → IsGraph graph → (bound s node above i p : ℕ) → Climbs graph bound s node above i → (above ≡ s → ⊥) → IsParent graph.child above p → Climbs graph bound s node p (i + 1)
-climbs_up graph is bound s node above i p c other (y, f) = record {
-  up = λ r. c.up (r.0 ++ y ∷ [], at_child graph.child s p r.0 y r.1 ∙ f);
-  down = λ r. reaches_parent graph is s p above y f other (c.down r);
-  deep =
-      let b : (key : Key) × (numbers graph key ≡ Some p) = is.loose p above y f in
-      let k : c.deep.0 ≡ b.0 ++ y ∷ [] = is.one_key c.deep.0 (b.0 ++ y ∷ []) above c.deep.1 (at_child graph.child 0 p b.0 y b.1 ∙ f) in
-      let l : length c.deep.0 ≡ length b.0 + 1 = ap length k ∙ length-append b.0 (y ∷ []) in
-      let h : length c.deep.0 + i < bound = c.deep.2 in
-      (b.0, b.1, omega arith);
-}
+-- an ascent has come to a node by so many steps, and there are places left
+pub deep_up : (graph : Graph) → IsGraph graph → (bound above i p : ℕ) (key : Key) → numbers graph key ≡ Some above → length key + i < bound → IsParent graph.child above p → (front : Key) × (numbers graph front ≡ Some p) × (length front + (i + 1) < bound)
+deep_up graph is bound above i p key at_key h (y, f) =
+    let b : (front : Key) × (numbers graph front ≡ Some p) = is.loose p above y f in
+    let k : key ≡ b.0 ++ y ∷ [] = is.one_key key (b.0 ++ y ∷ []) above at_key (at_child graph.child 0 p b.0 y b.1 ∙ f) in
+    let l : length key ≡ length b.0 + 1 = ap length k ∙ length-append b.0 (y ∷ []) in
+    (b.0, b.1, omega (arith, l, h))
 
 -- what no entry names is reached from itself alone
-pub climbs_top : (graph : Graph) (bound s node above i : ℕ) → Climbs graph bound s node above i → (above ≡ s → ⊥) → IsUnlinked graph.child above → IsReached graph.child s node → ⊥
-climbs_top graph bound s node above i c other loose r = go (c.down r)
+pub top_alone : (graph : Graph) (s above : ℕ) → (above ≡ s → ⊥) → IsUnlinked graph.child above → IsReached graph.child s above → ⊥
+top_alone graph s above other loose r = go r
   where
     go : IsReached graph.child s above → ⊥
     go ([], e) = let z : s ≡ above = cc in other (sym z)

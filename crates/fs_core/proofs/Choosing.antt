@@ -9,14 +9,15 @@ use Rattle.fs_locks.specs.Holding.{holder, room}
 use Rattle.fs_machine.specs.Records.{Holdings, Walking, Record}
 use Rattle.fs_machine.specs.OpValues.{phase_of, record_of}
 use Rattle.fs_laws.specs.Invariants.{Invariant}
-use Rattle.fs_machine.specs.States.{IsWalkingBelow, IsLowest, NoneBelow, Run}
+use Rattle.fs_machine.specs.States.{IsWalkingBelow, IsWalkingBelowMoved, IsLowest, NoneBelow, Run}
+use Rattle.fs_machine.specs.declared.moves.Moved.{Moved}
 use Rattle.fs_laws.proofs.states.Headline.{run_keeps}
 use Rattle.fs_laws.proofs.graphs.Walks.{at_from}
 use Rattle.fs_core.specs.declared.seat.Running.{Running}
-use Rattle.fs_core.specs.code.Helping.{Helps, HelpsIf}
+use Rattle.fs_core.specs.code.Helping.{Helps}
 use Rattle.fs_core.specs.CoreValues.{CoreValue, state_of, number_on, records}
 use Rattle.fs_core.specs.code.Rooms.{AreBelow, IsKept}
-use Rattle.fs_core.specs.code.Searches.{position_of, position_on, IsUnder, IsAlone, IsLowestOn, HasLeast, HasLeastIf, IsRooted, CanSearch}
+use Rattle.fs_core.specs.code.Searches.{position_of, position_on, IsUnder, IsUnderMoved, IsAlone, IsLowestOn, HasLeast, IsRooted, CanSearch}
 use Rattle.fs_core.proofs.Below.{key_within}
 use Rattle.fs_core.proofs.SeatLemmas.{number_read, Comes, record_comes}
 use Rattle.fs_core.proofs.Searching.{under_within}
@@ -63,6 +64,11 @@ under_walks m s seat run u =
       (w.holdings, u.reached.0, w.on, u.reached.1 ∙ ap (λ (n : ℕ). Some n) (sym w.here)),
     )
 
+-- the same below a node that would be moved
+pub moved_walks : (m : CoreValue) (moved : Moved) (seat : ℕ) → Run (state_of m) → (u : IsUnderMoved (child m.store) m.seats moved seat) → IsWalkingBelowMoved (state_of m) moved u.running.call
+moved_walks m moved seat run u =
+    (u.reached.0, u.reached.1, under_walks m u.reached.0 seat run (record { running = u.running; node = u.node; on = u.on; position = u.position; reached = (u.reached.2.0, u.reached.2.1) }))
+
 pub record Found (m : CoreValue) (s d : ℕ) : Type 0 where
   pub seat : ℕ
   pub under : IsUnder (child m.store) m.seats s seat
@@ -78,6 +84,16 @@ walks_under m s d (op, is, phase, (st, key, on, here)) =
       number = c.number;
     }
 
+pub record FoundMoved (m : CoreValue) (moved : Moved) (d : ℕ) : Type 0 where
+  pub seat : ℕ
+  pub under : IsUnderMoved (child m.store) m.seats moved seat
+  pub number : under.running.call ≡ d
+
+pub walks_moved : (m : CoreValue) (moved : Moved) (d : ℕ) → IsWalkingBelowMoved (state_of m) moved d → FoundMoved m moved d
+walks_moved m moved d (s, one, below) =
+    let f : Found m s d = walks_under m s d below in
+    record { seat = f.seat; under = record { running = f.under.running; node = f.under.node; on = f.under.on; position = f.under.position; reached = (s, one, f.under.reached) }; number = f.number }
+
 -- the records of one number, and the calls of one seat
 same_record : (m : CoreValue) (d : ℕ) (op q : Record) → records m.seats d ≡ Some op → records m.seats d ≡ Some q → op ≡ q
 same_record m d op q e f = let z : ◌≡◌ {A = Option Record} (Some op) (Some q) = sym e ∙ f in cc
@@ -89,10 +105,10 @@ same_running : (m : CoreValue) (seat : ℕ) (r q : Running) → slice_get m.seat
 same_running m seat r q e f = let z : ◌≡◌ {A = Option (Option Running)} (Some (Some r)) (Some (Some q)) = sym e ∙ f in cc
 
 -- a lowest call on its seat and by its number
-pub lowest_walks : (m : CoreValue) (s seat : ℕ) → Run (state_of m) → (l : IsLowestOn (child m.store) m.seats s seat) → IsLowest (state_of m) s l.under.running.call
-lowest_walks m s seat run l = (under_walks m s seat run l.under, other)
+pub lowest_walks : (m : CoreValue) (moved : Moved) (seat : ℕ) → Run (state_of m) → (l : IsLowestOn (child m.store) m.seats moved seat) → IsLowest (state_of m) moved l.under.running.call
+lowest_walks m moved seat run l = (moved_walks m moved seat run l.under, other)
   where
-    u : IsUnder (child m.store) m.seats s seat
+    u : IsUnderMoved (child m.store) m.seats moved seat
     u = l.under
 
     w : Walks u.running u.node
@@ -106,17 +122,17 @@ lowest_walks m s seat run l = (under_walks m s seat run l.under, other)
         l.alone f.seat (λ i. differs (ap (λ (r : Running). r.call) (same_running m f.seat u.running f.under.running (subst (λ (j : ℕ). slice_get m.seats j ≡ Some (Some u.running)) i u.on) f.under.on) ∙ f.number))
         (subst (λ (n : ℕ). IsUnder (child m.store) m.seats n f.seat) (ap (λ (t : Holdings). t.node) y ∙ w.here) f.under)
 
-pub record FoundLowest (m : CoreValue) (s d : ℕ) : Type 0 where
+pub record FoundLowest (m : CoreValue) (moved : Moved) (d : ℕ) : Type 0 where
   pub seat : ℕ
-  pub lowest : IsLowestOn (child m.store) m.seats s seat
+  pub lowest : IsLowestOn (child m.store) m.seats moved seat
   pub number : number_on m.seats seat ≡ Some d
 
-pub walks_lowest : (m : CoreValue) (s d : ℕ) → Run (state_of m) → IsLowest (state_of m) s d → FoundLowest m s d
-walks_lowest m s d run l =
+pub walks_lowest : (m : CoreValue) (moved : Moved) (d : ℕ) → Run (state_of m) → IsLowest (state_of m) moved d → FoundLowest m moved d
+walks_lowest m moved d run l =
     record { seat = f.seat; lowest = record { under = f.under; alone = alone }; number = number_read m.seats f.seat (Some f.under.running) f.under.on ∙ ap (λ (n : ℕ). Some n) f.number }
   where
-    f : Found m s d
-    f = walks_under m s d l.0
+    f : FoundMoved m moved d
+    f = walks_moved m moved d l.0
 
     w : Walks f.under.running f.under.node
     w = walks_at f.under.running f.under.node f.under.position
@@ -128,8 +144,8 @@ walks_lowest m s d run l =
         (subst (λ (n : ℕ). IsWalkingBelow (state_of m) n u.running.call) (sym w.here) (under_walks m f.under.node k run u))
 
 -- where no call is lowest, none is below: else one of them would be deepest
-pub none_below : (m : CoreValue) (s : ℕ) → Run (state_of m) → AreBelow (graph_of m.store) (room m.holding) → ((e : ℕ) → IsLowest (state_of m) s e → ⊥) → (d : ℕ) → IsWalkingBelow (state_of m) s d → ⊥
-none_below m s run roomy none d below = go (room m.holding) d below (omega arith)
+pub none_below : (m : CoreValue) (moved : Moved) → Run (state_of m) → AreBelow (graph_of m.store) (room m.holding) → ((e : ℕ) → IsLowest (state_of m) moved e → ⊥) → (d : ℕ) → IsWalkingBelowMoved (state_of m) moved d → ⊥
+none_below m moved run roomy none d below = go (room m.holding) d below (omega arith)
   where
     inv : Invariant (state_of m)
     inv = run_keeps (state_of m) run
@@ -150,17 +166,17 @@ none_below m s run roomy none d below = go (room m.holding) d below (omega arith
         let n : length (x ∷ key) ≡ length key + 1 = omega arith in
         omega (arith, l, n)
 
-    go : (fuel : ℕ) (d : ℕ) → IsWalkingBelow (state_of m) s d → room m.holding ≤ length (inv.key d) + fuel → ⊥
-    go zero d (op, is, phase, (st, key, on, at_key)) enough =
+    go : (fuel : ℕ) (d : ℕ) → IsWalkingBelowMoved (state_of m) moved d → room m.holding ≤ length (inv.key d) + fuel → ⊥
+    go zero d (s, one, (op, is, phase, (st, key, on, at_key))) enough =
         let l : length (inv.key d) < room m.holding = key_within graph (room m.holding) inv.is_graph roomy (inv.key d) st.node (here d op st is on) in absurd (omega (arith, l, enough))
-    go (suc fuel) d (op, is, phase, (st, key, on, at_key)) enough = none d (
-      (op, is, phase, (st, key, on, at_key)),
+    go (suc fuel) d (s, one, (op, is, phase, (st, key, on, at_key))) enough = none d (
+      (s, one, (op, is, phase, (st, key, on, at_key))),
       λ p other e is_p on_p differs (q, is_q, phase_q, (st_q, key_q, on_q, at_q)).
           let z : p ≡ op = same_record m d p op is_p is in
           let y : other ≡ st = same_holdings op other st (sym (ap (λ (o : Record). o.holdings) z) ∙ on_p) on in
           let reach : at graph.child st.node key_q ≡ Some st_q.node = ap (λ (t : Holdings). at graph.child t.node key_q) (sym y) ∙ at_q in
           let more : length (inv.key d) < length (inv.key e) = longer d e op q st st_q key_q is on is_q on_q differs reach in
-          go fuel e (q, is_q, phase_q, (st_q, key ++ key_q, on_q, at_from graph.child s st.node key key_q at_key ∙ reach)) (omega (arith, more, enough)),
+          go fuel e (s, one, (q, is_q, phase_q, (st_q, key ++ key_q, on_q, at_from graph.child s st.node key key_q at_key ∙ reach))) (omega (arith, more, enough)),
     )
 
 -- a walking call on its seat: it holds its position
@@ -196,9 +212,9 @@ can_search m b k p kept = record {
         apart_of m kept.run seat other x.0 y.0 x.1 y.1 (same_call n x.0.call y.0.call x.3 y.3)
 
 -- what it finds
-pub chosen_by : (m : CoreValue) (s seat : ℕ) → Run (state_of m) → HasLeast (child m.store) m.seats s (length m.seats) (Some seat) → Helps m s seat
-chosen_by m s seat run h =
-    let l : IsLowestOn (child m.store) m.seats s seat = h.1 in
+pub chosen_by : (m : CoreValue) (moved : Moved) (seat : ℕ) → Run (state_of m) → HasLeast (child m.store) m.seats moved (length m.seats) (Some seat) → Helps m moved seat
+chosen_by m moved seat run h =
+    let l : IsLowestOn (child m.store) m.seats moved seat = h.1 in
     let w : Walks l.under.running l.under.node = walks_at l.under.running l.under.node l.under.position in
     record {
       running = l.under.running;
@@ -206,30 +222,25 @@ chosen_by m s seat run h =
       unplaced = w.unplaced;
       unanswered = w.unanswered;
       chosen = (
-        lowest_walks m s seat run l,
+        lowest_walks m moved seat run l,
         λ e low.
-            let f : FoundLowest m s e = walks_lowest m s e run low in
-            h.2 f.seat l.under.running.call e (under_within (child m.store) m.seats s f.seat f.lowest.under) f.lowest (number_read m.seats seat (Some l.under.running) l.under.on) f.number,
+            let f : FoundLowest m moved e = walks_lowest m moved e run low in
+            h.2 f.seat l.under.running.call e (under_within (child m.store) m.seats moved f.seat f.lowest.under) f.lowest (number_read m.seats seat (Some l.under.running) l.under.on) f.number,
       );
     }
 
-pub none_by : (m : CoreValue) (s : ℕ) → Run (state_of m) → AreBelow (graph_of m.store) (room m.holding) → HasLeast (child m.store) m.seats s (length m.seats) None → NoneBelow (state_of m) (Some s)
-none_by m s run roomy h = none_below m s run roomy (λ e low.
-    let f : FoundLowest m s e = walks_lowest m s e run low in
-    h f.seat (under_within (child m.store) m.seats s f.seat f.lowest.under) f.lowest)
+pub none_by : (m : CoreValue) (moved : Moved) → Run (state_of m) → AreBelow (graph_of m.store) (room m.holding) → HasLeast (child m.store) m.seats moved (length m.seats) None → NoneBelow (state_of m) moved
+none_by m moved run roomy h = none_below m moved run roomy (λ e low.
+    let f : FoundLowest m moved e = walks_lowest m moved e run low in
+    h f.seat (under_within (child m.store) m.seats moved f.seat f.lowest.under) f.lowest)
 
-pub helps_by : (m : CoreValue) (b k p s : ℕ) → IsKept m b k p → (o : Option ℕ) → HasLeast (child m.store) m.seats s (length m.seats) o → MatchOption o (NoneBelow (state_of m) (Some s)) (λ other. Helps m s other)
-helps_by m b k p s kept None h = none_by m s kept.run kept.roomy h
-helps_by m b k p s kept (Some seat) h = chosen_by m s seat kept.run h
+pub helps_by : (m : CoreValue) (b k p : ℕ) (moved : Moved) → IsKept m b k p → (o : Option ℕ) → HasLeast (child m.store) m.seats moved (length m.seats) o → MatchOption o (NoneBelow (state_of m) moved) (λ other. Helps m moved other)
+helps_by m b k p moved kept None h = none_by m moved kept.run kept.roomy h
+helps_by m b k p moved kept (Some seat) h = chosen_by m moved seat kept.run h
 
 -- the same of a list that the seats are
 pub search_by : (m : CoreValue) (b k p : ℕ) (seats : List (Option Running)) → IsKept m b k p → seats ≡ m.seats → CanSearch m.store m.holding seats
 search_by m b k p seats kept e = subst (λ (xs : List (Option Running)). CanSearch m.store m.holding xs) (sym e) (can_search m b k p kept)
 
--- and before a finish that may move a node
-helps_if : (m : CoreValue) (b k p : ℕ) → IsKept m b k p → (moved o : Option ℕ) → HasLeastIf (child m.store) m.seats moved o → MatchOption o (NoneBelow (state_of m) moved) (λ other. HelpsIf m moved other)
-helps_if m b k p kept None o h = subst (λ (x : Option ℕ). MatchOption x (NoneBelow (state_of m) None) (λ other. HelpsIf m None other)) (sym h) tt
-helps_if m b k p kept (Some s) o h = helps_by m b k p s kept o h
-
-pub chosen_if : (m : CoreValue) (b k p : ℕ) (seats : List (Option Running)) → IsKept m b k p → seats ≡ m.seats → (moved o : Option ℕ) → HasLeastIf (child m.store) seats moved o → MatchOption o (NoneBelow (state_of m) moved) (λ other. HelpsIf m moved other)
-chosen_if m b k p seats kept e moved o h = helps_if m b k p kept moved o (subst (λ (xs : List (Option Running)). HasLeastIf (child m.store) xs moved o) e h)
+pub chosen_if : (m : CoreValue) (b k p : ℕ) (seats : List (Option Running)) → IsKept m b k p → seats ≡ m.seats → (moved : Moved) (o : Option ℕ) → HasLeast (child m.store) seats moved (length seats) o → MatchOption o (NoneBelow (state_of m) moved) (λ other. Helps m moved other)
+chosen_if m b k p seats kept e moved o h = helps_by m b k p moved kept o (subst (λ (xs : List (Option Running)). HasLeast (child m.store) xs moved (length xs) o) e h)

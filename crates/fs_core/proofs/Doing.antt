@@ -19,6 +19,7 @@ use Rattle.fs_machine.specs.declared.moves.Move.TheVariants.{Take as Takes, LetG
 use Rattle.fs_machine.specs.OpValues.{OpValue, record_of, next_of, IsTook, IsLetGo, IsFinished, IsSpare, SpareIf, CanFinish, graph_after}
 use Rattle.fs_machine.specs.States.{State, Step, NoneBelow}
 use Rattle.fs_machine.specs.declared.answers.Stepped.TheVariants.{Idle, Took, Busy, LetGo, Helped, Committed, CarriedOut, Returned}
+use Rattle.fs_machine.specs.declared.moves.Moved.{Moved}
 use Rattle.fs_laws.proofs.calls.NextMoves.{takes_used, takes_another, leaves_held}
 use Rattle.fs_laws.proofs.states.GraphOfARun.{spare_reserved, spare_removed, can_finish, begun_before}
 use Rattle.fs_core.specs.declared.seat.Running.{Running}
@@ -26,7 +27,7 @@ use Rattle.fs_core.specs.CoreValues.{CoreValue, state_of, number_of, records}
 use Rattle.fs_core.specs.code.Rooms.{walking, walking_at, owed_at, owed, IsKept}
 use Rattle.fs_core.specs.declared.done.Done.TheVariants as done
 use Rattle.fs_core.specs.code.Doing.{Does}
-use Rattle.fs_core.specs.code.Helping.{Helps, HelpsIf}
+use Rattle.fs_core.specs.code.Helping.{Helps}
 use Rattle.fs_core.specs.code.Seats.{MovesOn, PlacedOn, PlansOn, Goes, placed}
 use Rattle.fs_finish.specs.Plans.{Changes}
 use Rattle.fs_finish.specs.declared.plan.Plan.{Plan}
@@ -122,14 +123,14 @@ left_kept m b k p seat call n kept x st hs old new graph limit is_hs is_room rea
     let_go_step m b k p seat x.running n kept x.on x.next st hs g.0 new (graph x.running (read_on m seat call (Leaves n) old x read)) limit is_hs is_room g.1 g.2
 
 -- a finish
-pub finish_can : (m : CoreValue) (b k p seat call : ℕ) (s : Option ℕ) → IsKept m b k p → (x : MovesOn m seat call (Finishes s)) → (old : Option Running) → old ≡ get_or m.seats seat old → (r : Running) → old ≡ Some r → CanFinish (graph_of m.store) r.op.reserved r.op.remaining r.op.holdings
+pub finish_can : (m : CoreValue) (b k p seat call : ℕ) (s : Moved) → IsKept m b k p → (x : MovesOn m seat call (Finishes s)) → (old : Option Running) → old ≡ get_or m.seats seat old → (r : Running) → old ≡ Some r → CanFinish (graph_of m.store) r.op.reserved r.op.remaining r.op.holdings
 finish_can m b k p seat call s kept x old read r e =
     let z : ◌≡◌ {A = Option Running} (Some r) (Some x.running) = sym e ∙ read_on m seat call (Finishes s) old x read in
     let y : x.running ≡ r = cc in
     subst (λ (q : Running). CanFinish (graph_of m.store) q.op.reserved q.op.remaining q.op.holdings) y
     (can_finish (state_of m) call (record_of seat x.running.place x.running.op) s kept.run (on_state m b k p seat call (Finishes s) kept x) (next_on m seat call (Finishes s) x))
 
-pub finish_plan : (m : CoreValue) (seat call : ℕ) (s : Option ℕ) (plan : Plan) → (x : MovesOn m seat call (Finishes s)) → PlansOn m seat plan → (old : Option Running) → old ≡ get_or m.seats seat old → (r : Running) → old ≡ Some r → IsPlan (seen m.store) r.op plan
+pub finish_plan : (m : CoreValue) (seat call : ℕ) (s : Moved) (plan : Plan) → (x : MovesOn m seat call (Finishes s)) → PlansOn m seat plan → (old : Option Running) → old ≡ get_or m.seats seat old → (r : Running) → old ≡ Some r → IsPlan (seen m.store) r.op plan
 finish_plan m seat call s plan x plans old read r e =
     let z : ◌≡◌ {A = Option Running} (Some r) (Some x.running) = sym e ∙ read_on m seat call (Finishes s) old x read in
     let y : x.running ≡ r = cc in
@@ -157,7 +158,7 @@ commit_fits m b k p seat r kept on e f =
     let w : walking_at (Some r) ≡ 1 = (Rattle.fs_core.proofs.Steps.walks_owed r e f).1 in
     let l : k + walking m.seats ≤ b = kept.within in omega (arith, o, w, l)
 
-pub committed_kept : (m : CoreValue) (b k p seat call : ℕ) (s : Option ℕ) → IsKept m b k p → (x : MovesOn m seat call (Finishes s)) → PlacedOn m seat None → NoneBelow (state_of m) s
+pub committed_kept : (m : CoreValue) (b k p seat call : ℕ) (s : Moved) → IsKept m b k p → (x : MovesOn m seat call (Finishes s)) → PlacedOn m seat None → NoneBelow (state_of m) s
     → (st : Places) (old new : Option Running) → ((r : Running) → old ≡ Some r → graph_of st ≡ graph_after (graph_of m.store) r.op) → (seen st).limit ≡ (seen m.store).limit → old ≡ get_or m.seats seat old → Goes (λ a c. IsFinished (graph_of m.store) a c) old new
     → Step (state_of m) seat Committed (state_of (record m { store = st; seats = slice_set m.seats seat new; timeline = m.timeline ++ Commit call ∷ [] })) × IsKept (record m { store = st; seats = slice_set m.seats seat new; timeline = m.timeline ++ Commit call ∷ [] }) b (k + 1) (p - 1)
 committed_kept m b k p seat call s kept x unplaced none st old new graph limit read goes =
@@ -165,7 +166,7 @@ committed_kept m b k p seat call s kept x unplaced none st old new graph limit r
     subst (λ (c : ℕ). Step (state_of m) seat Committed (state_of (record m { store = st; seats = slice_set m.seats seat new; timeline = m.timeline ++ Commit c ∷ [] })) × IsKept (record m { store = st; seats = slice_set m.seats seat new; timeline = m.timeline ++ Commit c ∷ [] }) b (k + 1) (p - 1)) x.number
     (committed_step m b k p seat x.running s kept x.on x.next (unplaced x.running x.on) none st g.0 new (graph x.running (read_on m seat call (Finishes s) old x read)) limit g.1 g.2)
 
-pub carried_kept : (m : CoreValue) (b k p seat call : ℕ) (s : Option ℕ) (i : ℕ) → IsKept m b k p → (x : MovesOn m seat call (Finishes s)) → PlacedOn m seat (Some i)
+pub carried_kept : (m : CoreValue) (b k p seat call : ℕ) (s : Moved) (i : ℕ) → IsKept m b k p → (x : MovesOn m seat call (Finishes s)) → PlacedOn m seat (Some i)
     → (st : Places) (old new : Option Running) → ((r : Running) → old ≡ Some r → graph_of st ≡ graph_after (graph_of m.store) r.op) → (seen st).limit ≡ (seen m.store).limit → old ≡ get_or m.seats seat old → Goes (λ a c. IsFinished (graph_of m.store) a c) old new
     → Step (state_of m) seat CarriedOut (state_of (record m { store = st; seats = slice_set m.seats seat new })) × IsKept (record m { store = st; seats = slice_set m.seats seat new }) b k p
 carried_kept m b k p seat call s i kept x is_placed st old new graph limit read goes =
@@ -173,11 +174,11 @@ carried_kept m b k p seat call s i kept x is_placed st old new graph limit read 
     carried_step m b k p seat x.running s i kept x.on x.next (is_placed x.running x.on) st g.0 new (graph x.running (read_on m seat call (Finishes s) old x read)) limit g.1 g.2
 
 -- a commit's number fits, where the number of begins does
-pub finish_fits : (m : CoreValue) (b k p seat call : ℕ) (s : Option ℕ) → IsKept m b k p → (x : MovesOn m seat call (Finishes s)) → PlacedOn m seat None → k + 1 ≤ b
+pub finish_fits : (m : CoreValue) (b k p seat call : ℕ) (s : Moved) → IsKept m b k p → (x : MovesOn m seat call (Finishes s)) → PlacedOn m seat None → k + 1 ≤ b
 finish_fits m b k p seat call s kept x unplaced = commit_fits m b k p seat x.running kept x.on (unplaced x.running x.on) (unfinished_at (graph_of m.store) x.running.op s x.next)
 
 -- what a helped call's place holds
-pub helped_kept : (m : CoreValue) (b k p seat call s : ℕ) → IsKept m b k p → (x : MovesOn m seat call (Finishes (Some s))) → PlacedOn m seat None → (other : ℕ) → Helps m s other
+pub helped_kept : (m : CoreValue) (b k p seat call : ℕ) (s : Moved) → IsKept m b k p → (x : MovesOn m seat call (Finishes s)) → PlacedOn m seat None → (other : ℕ) → Helps m s other
     → (d : ℕ) (old new : Option Running) → old ≡ get_or m.seats other old → number_of old ≡ Some d → new ≡ placed old k
     → Step (state_of m) seat (Helped d) (state_of (record m { seats = slice_set m.seats other new; timeline = m.timeline ++ Commit d ∷ [] })) × IsKept (record m { seats = slice_set m.seats other new; timeline = m.timeline ++ Commit d ∷ [] }) b (k + 1) (p - 1)
 helped_kept m b k p seat call s kept x unplaced other h d old new read is_d is_new =
@@ -189,13 +190,13 @@ helped_kept m b k p seat call s kept x unplaced other h d old new read is_d is_n
     subst (λ (c : ℕ). Step (state_of m) seat (Helped c) (state_of (record m { seats = slice_set m.seats other new; timeline = m.timeline ++ Commit c ∷ [] })) × IsKept (record m { seats = slice_set m.seats other new; timeline = m.timeline ++ Commit c ∷ [] }) b (k + 1) (p - 1)) u
     (helped_step m b k p seat x.running s kept x.on x.next (unplaced x.running x.on) other h.running h.on h.unplaced h.unanswered h.chosen new (is_new ∙ ap (λ (o : Option Running). placed o k) y))
 
-pub help_fits : (m : CoreValue) (b k p s other : ℕ) → IsKept m b k p → Helps m s other → k + 1 ≤ b
+pub help_fits : (m : CoreValue) (b k p : ℕ) (s : Moved) (other : ℕ) → IsKept m b k p → Helps m s other → k + 1 ≤ b
 help_fits m b k p s other kept h = commit_fits m b k p other h.running kept h.on h.unplaced h.unanswered
 
-pub help_place : (m : CoreValue) (b k p s other : ℕ) → IsKept m b k p → Helps m s other → 0 < p
+pub help_place : (m : CoreValue) (b k p : ℕ) (s : Moved) (other : ℕ) → IsKept m b k p → Helps m s other → 0 < p
 help_place m b k p s other kept h = push_place m b k p other h.running kept h.on
 
-pub help_within : (m : CoreValue) (s other : ℕ) → Helps m s other → other < length m.seats
+pub help_within : (m : CoreValue) (s : Moved) (other : ℕ) → Helps m s other → other < length m.seats
 help_within m s other h = slice_get_within m.seats other (Some h.running) h.on
 
 -- a return
@@ -237,29 +238,9 @@ returned_kept m b k p seat call kept x st old new r one two read is is_new graph
     (subst (λ (q : Reply). Step (state_of m) seat (Returned two) (state_of (record m { store = st; seats = slice_set m.seats seat new; timeline = m.timeline ++ Return r.call q ∷ [] })) × IsKept (record m { store = st; seats = slice_set m.seats seat new; timeline = m.timeline ++ Return r.call q ∷ [] }) b k (p - 1)) y
     (returned_step m b k p seat r two kept on ends g st new graph limit is_new))
 
--- helping, by the node that the finish would move
-pub helped_any : (m : CoreValue) (b k p seat call : ℕ) (moved : Option ℕ) → IsKept m b k p → (x : MovesOn m seat call (Finishes moved)) → PlacedOn m seat None → (other : ℕ) → HelpsIf m moved other
-    → (d : ℕ) (old new : Option Running) → old ≡ get_or m.seats other old → number_of old ≡ Some d → new ≡ placed old k
-    → Step (state_of m) seat (Helped d) (state_of (record m { seats = slice_set m.seats other new; timeline = m.timeline ++ Commit d ∷ [] })) × IsKept (record m { seats = slice_set m.seats other new; timeline = m.timeline ++ Commit d ∷ [] }) b (k + 1) (p - 1)
-helped_any m b k p seat call None kept x unplaced other h d old new = absurd h
-helped_any m b k p seat call (Some s) kept x unplaced other h d old new = helped_kept m b k p seat call s kept x unplaced other h d old new
-
-pub help_any_fits : (m : CoreValue) (b k p : ℕ) (moved : Option ℕ) (other : ℕ) → IsKept m b k p → HelpsIf m moved other → k + 1 ≤ b
-help_any_fits m b k p None other kept h = absurd h
-help_any_fits m b k p (Some s) other kept h = help_fits m b k p s other kept h
-
-pub help_any_place : (m : CoreValue) (b k p : ℕ) (moved : Option ℕ) (other : ℕ) → IsKept m b k p → HelpsIf m moved other → 0 < p
-help_any_place m b k p None other kept h = absurd h
-help_any_place m b k p (Some s) other kept h = help_place m b k p s other kept h
-
-pub help_any_within : (m : CoreValue) (moved : Option ℕ) (other : ℕ) → HelpsIf m moved other → other < length m.seats
-help_any_within m None other h = absurd h
-help_any_within m (Some s) other h = help_within m s other h
-
-pub help_any_some : (m : CoreValue) (moved : Option ℕ) (other : ℕ) (old : Option Running) → HelpsIf m moved other → old ≡ get_or m.seats other old → IsSome old
-help_any_some m None other old h read = absurd h
-help_any_some m (Some s) other old h read =
-    let w : other < length m.seats = help_within m s other h in
+pub help_some : (m : CoreValue) (moved : Moved) (other : ℕ) (old : Option Running) → Helps m moved other → old ≡ get_or m.seats other old → IsSome old
+help_some m moved other old h read =
+    let w : other < length m.seats = help_within m moved other h in
     let z : ◌≡◌ {A = Option (Option Running)} (Some old) (Some (Some h.running)) = sym (slice_get_read m.seats _ other old refl w read) ∙ h.on in
     let y : old ≡ Some h.running = cc in
     by old h.running y

@@ -8,7 +8,6 @@ use Rattle.fs_names.specs.Shapes.{Shape, Dir, File, is_there, has_entries}
 use Rattle.fs_calls.specs.Tree.{root_tree}
 use Rattle.fs_laws.proofs.states.StartsEmpty.{starts_empty}
 use Rattle.fs_calls.specs.Forms.{form, Form, AtNode, AtEntry, AtPair, new_shape, reserves}
-use Rattle.fs_calls.specs.declared.target.PairCall.TheVariants as pairs
 use Rattle.fs_calls.specs.declared.target.EntryCall.{EntryCall}
 use Rattle.fs_calls.specs.declared.target.EntryCall.TheVariants.{Mkdir, Mknod, Unlink, Rmdir}
 use Rattle.fs_calls.specs.declared.call.Call.{Call}
@@ -68,7 +67,7 @@ reserves_empty : (f : Form) (shape : Shape) → reserves f ≡ Some shape → ha
 reserves_empty (AtNode c p) shape e = cc
 reserves_empty (AtEntry c []) shape e = cc
 reserves_empty (AtEntry c (x ∷ p)) shape e = new_empty c shape e
-reserves_empty (AtPair pairs.Rename p q) shape e = cc
+reserves_empty (AtPair c p q) shape e = cc
 
 set_here : {A : Type 0} (n : ℕ) (v : A) (f : ℕ → A) → set_at n v f n ≡ v
 set_here n v f = ap (λ (b : Bool). cond b v (f n)) (eqb_refl n)

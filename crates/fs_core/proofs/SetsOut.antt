@@ -4,7 +4,6 @@ use Rattle.fs_names.specs.Keys.{Key, parent_of}
 use Rattle.fs_names.specs.Parts.{left}
 use Rattle.fs_names.specs.Shapes.{Shape, Dir, File}
 use Rattle.fs_calls.specs.Forms.{Form, AtNode, AtEntry, AtPair}
-use Rattle.fs_calls.specs.declared.target.PairCall.TheVariants as pairs
 use Rattle.fs_calls.specs.declared.errno.Errno.{Errno}
 use Rattle.fs_calls.specs.Rows.{as_dir}
 use Rattle.fs_nodes.specs.Graphs.{Graph, at, numbers, then_at, IsGraph}
@@ -51,6 +50,6 @@ sets_out s c op st run is on = go op.remaining
     go : (f : Form) → SetsOut s.graph f st
     go (AtNode a p) = tt
     go (AtEntry a p) = tt
-    go (AtPair pairs.Rename p q) = λ e h.
+    go (AtPair a p q) = λ e h.
         (let there = stays s.graph inv.is_graph st.node st.source.node st.source.walked e h way in
         error_there (left st.source.walked (parent_of p)) (s.graph.shape st.source.node) e (ap (λ (n : ℕ). as_dir None (s.graph.shape n)) there.1 ∙ h))

@@ -15,11 +15,12 @@ use Rattle.fs_machine.specs.Records.{Holdings, Record}
 use Rattle.fs_machine.specs.declared.moves.Move.{Move}
 use Rattle.fs_machine.specs.declared.moves.Move.TheVariants.{Take as Takes, LetGo as Leaves, Finish as Finishes, Return as Ends}
 use Rattle.fs_machine.specs.OpValues.{OpValue, phase_of, record_of, next_of, BegunAs}
+use Rattle.fs_machine.specs.declared.moves.Moved.{Moved}
 use Rattle.fs_laws.proofs.graphs.Walks.{eqb_refl, eqb_true}
 use Rattle.fs_core.proofs.SeatLemmas.{length_more}
 use Rattle.fs_core.specs.declared.seat.Running.{Running}
 use Rattle.fs_core.specs.CoreValues.{CoreValue}
-use Rattle.fs_core.specs.code.Helping.{HelpsIf}
+use Rattle.fs_core.specs.code.Helping.{Helps}
 use Rattle.fs_core.specs.code.Seats.{MovesOn, placed}
 use Rattle.fs_core.specs.code.Starting.{IsStarting, AreStarting}
 
@@ -51,7 +52,7 @@ moves_otherwise m starting seat call move a x other c e =
 pub leaves_otherwise : (n : ℕ) → Leaves n ≡ Takes 0 → ⊥
 leaves_otherwise n e = cc
 
-pub finishes_otherwise : (moved : Option ℕ) → Finishes moved ≡ Takes 0 → ⊥
+pub finishes_otherwise : (moved : Moved) → Finishes moved ≡ Takes 0 → ⊥
 finishes_otherwise moved e = cc
 
 pub ends_otherwise : Ends ≡ Takes 0 → ⊥
@@ -95,9 +96,8 @@ starting_placed starting seats seat place old new a on within is = changed start
         (y.0, slice_get-set_same seats seat new within ∙ ap (λ (o : Option Running). Some o) y.1, y.2)
 
 -- the same of whom a call helps
-pub starting_helped : (m : CoreValue) (moved : Option ℕ) (starting : List (Option ℕ)) (seat place : ℕ) (old new : Option Running) → HelpsIf m moved seat → AreStarting starting m.seats → old ≡ get_or m.seats seat old → new ≡ placed old place → AreStarting starting (slice_set m.seats seat new)
-starting_helped m None starting seat place old new h a read is = absurd h
-starting_helped m (Some s) starting seat place old new h a read is =
+pub starting_helped : (m : CoreValue) (moved : Moved) (starting : List (Option ℕ)) (seat place : ℕ) (old new : Option Running) → Helps m moved seat → AreStarting starting m.seats → old ≡ get_or m.seats seat old → new ≡ placed old place → AreStarting starting (slice_set m.seats seat new)
+starting_helped m moved starting seat place old new h a read is =
     let within : seat < length m.seats = slice_get_within m.seats seat (Some h.running) h.on in
     starting_placed starting m.seats seat place old new a (slice_get_read m.seats _ seat old refl within read) within is
 

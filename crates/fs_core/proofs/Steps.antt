@@ -19,6 +19,7 @@ use Rattle.fs_machine.specs.OpValues.{OpValue, phase_of, record_of, next_of, IsT
 use Rattle.fs_timeline.specs.Timeline.{commit_count}
 use Rattle.fs_machine.specs.States.{Step, IsChosen, NoneBelow, Run, Stepping}
 use Rattle.fs_machine.specs.declared.answers.Stepped.TheVariants.{Took, LetGo, Helped, Committed, CarriedOut, Returned}
+use Rattle.fs_machine.specs.declared.moves.Moved.{Moved}
 use Rattle.fs_laws.specs.Invariants.{Invariant}
 use Rattle.fs_laws.proofs.states.Agreement.{run_accounts}
 use Rattle.fs_laws.proofs.states.Headline.{run_keeps}
@@ -150,7 +151,7 @@ placed_phase : (i : ℕ) (o : Option Reply) → o ≡ None → phase_of (Some i)
 placed_phase i o f = ap (λ (o : Option Reply). phase_of (Some i) o) f
 
 -- a call that is helped
-pub helped_step : (m : CoreValue) (b k p seat : ℕ) (r : Running) (s : ℕ) → IsKept m b k p → slice_get m.seats seat ≡ Some (Some r) → next_of (graph_of m.store) r.op ≡ Finishes (Some s) → r.place ≡ None
+pub helped_step : (m : CoreValue) (b k p seat : ℕ) (r : Running) (s : Moved) → IsKept m b k p → slice_get m.seats seat ≡ Some (Some r) → next_of (graph_of m.store) r.op ≡ Finishes s → r.place ≡ None
     → (other : ℕ) (q : Running) → slice_get m.seats other ≡ Some (Some q) → q.place ≡ None → q.op.reply ≡ None → IsChosen (state_of m) s q.call
     → (v : Option Running) → v ≡ Some (record q { place = Some k })
     → Step (state_of m) seat (Helped q.call) (state_of (record m { seats = slice_set m.seats other v; timeline = m.timeline ++ Commit q.call ∷ [] })) × IsKept (record m { seats = slice_set m.seats other v; timeline = m.timeline ++ Commit q.call ∷ [] }) b (k + 1) (p - 1)
@@ -185,8 +186,8 @@ helped_step m b k p seat r s kept on move unplaced other q on_other q_unplaced q
       r.call,
       record_of seat r.place r.op,
       s,
-      moves m seat r (Finishes (Some s)) kept.run on move,
-      walks_phase r unplaced (unfinished_at (graph_of m.store) r.op (Some s) move),
+      moves m seat r (Finishes s) kept.run on move,
+      walks_phase r unplaced (unfinished_at (graph_of m.store) r.op s move),
       chosen,
       op,
       call_on m other q kept.run on_other,
@@ -206,7 +207,7 @@ fewer_made m seat r run on st graph q t e =
     (ap (λ (g : Graph). g.shape q) (sym (graph_made m seat r st graph)) ∙ e)
 
 -- a walking call that finishes
-pub committed_step : (m : CoreValue) (b k p seat : ℕ) (r : Running) (s : Option ℕ) → IsKept m b k p → slice_get m.seats seat ≡ Some (Some r) → next_of (graph_of m.store) r.op ≡ Finishes s → r.place ≡ None → NoneBelow (state_of m) s
+pub committed_step : (m : CoreValue) (b k p seat : ℕ) (r : Running) (s : Moved) → IsKept m b k p → slice_get m.seats seat ≡ Some (Some r) → next_of (graph_of m.store) r.op ≡ Finishes s → r.place ≡ None → NoneBelow (state_of m) s
     → (st : Places) (w : OpValue) (v : Option Running) → graph_of st ≡ graph_after (graph_of m.store) r.op → (seen st).limit ≡ (seen m.store).limit → IsFinished (graph_of m.store) r.op w → v ≡ Some (record r { op = w })
     → Step (state_of m) seat Committed (state_of (record m { store = st; seats = slice_set m.seats seat v; timeline = m.timeline ++ Commit r.call ∷ [] })) × IsKept (record m { store = st; seats = slice_set m.seats seat v; timeline = m.timeline ++ Commit r.call ∷ [] }) b (k + 1) (p - 1)
 committed_step m b k p seat r s kept on move unplaced none st w v graph limit done is = (
@@ -243,7 +244,7 @@ committed_step m b k p seat r s kept on move unplaced none st w v graph limit do
     )
 
 -- a placed call that finishes
-pub carried_step : (m : CoreValue) (b k p seat : ℕ) (r : Running) (s : Option ℕ) (i : ℕ) → IsKept m b k p → slice_get m.seats seat ≡ Some (Some r) → next_of (graph_of m.store) r.op ≡ Finishes s → r.place ≡ Some i
+pub carried_step : (m : CoreValue) (b k p seat : ℕ) (r : Running) (s : Moved) (i : ℕ) → IsKept m b k p → slice_get m.seats seat ≡ Some (Some r) → next_of (graph_of m.store) r.op ≡ Finishes s → r.place ≡ Some i
     → (st : Places) (w : OpValue) (v : Option Running) → graph_of st ≡ graph_after (graph_of m.store) r.op → (seen st).limit ≡ (seen m.store).limit → IsFinished (graph_of m.store) r.op w → v ≡ Some (record r { op = w })
     → Step (state_of m) seat CarriedOut (state_of (record m { store = st; seats = slice_set m.seats seat v })) × IsKept (record m { store = st; seats = slice_set m.seats seat v }) b k p
 carried_step m b k p seat r s i kept on move is_placed st w v graph limit done is = (

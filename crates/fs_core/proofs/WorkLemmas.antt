@@ -10,6 +10,7 @@ use Rattle.fs_machine.specs.declared.moves.Move.TheVariants.{Finish as Finishes,
 use Rattle.fs_machine.specs.Records.{Holdings, Finished}
 use Rattle.fs_laws.proofs.states.ComputedSteps.{by_ends}
 use Rattle.fs_machine.specs.OpValues.{OpValue, phase_of, record_of, next_of}
+use Rattle.fs_machine.specs.declared.moves.Moved.{Moved}
 
 -- its next move
 pub next_is : (graph : Graph) (seat : ℕ) (place : Option ℕ) (work : OpValue) → next graph (record_of seat place work) ≡ next_of graph work
@@ -35,7 +36,7 @@ finish_is graph seat place work = go (by_text (form work.call)) work.holdings
     go None (Some st) = refl
 
 -- a call that finishes has no reply yet, and one that returns has one
-pub unfinished_at : (graph : Graph) (work : OpValue) (s : Option ℕ) → next_of graph work ≡ Finishes s → work.reply ≡ None
+pub unfinished_at : (graph : Graph) (work : OpValue) (s : Moved) → next_of graph work ≡ Finishes s → work.reply ≡ None
 unfinished_at graph work s m = go work.reply work.holdings refl refl m
   where
     go : (r : Option Reply) (st : Option Holdings) → work.reply ≡ r → work.holdings ≡ st → next_by graph (record_of 0 None work) (by_text (form work.call)) (phase_of None r) st ≡ Finishes s → work.reply ≡ None

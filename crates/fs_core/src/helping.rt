@@ -1,19 +1,20 @@
-//! Whom a rename helps: among the walking calls below the node that it would move.
+//! Whom a call helps that is to finish: among the walking calls below a node that it would move.
 
-ghost use Rattle.std.specs.Prelude.{option_and_then, ◌≡◌, ℕ, ◌<◌, ◌↔◌, IsTrue, IsSome, false, Some, None, length};
+ghost use Rattle.std.specs.Prelude.{option_and_then, ◌≡◌, ℕ, ◌<◌, ◌↔◌, ◌⊎◌, IsTrue, IsSome, false, Some, None, length};
 ghost use Rattle.std.specs.Option.{ForSome};
-ghost use Rattle.fs_nodes.specs.Graphs.{IsReached};
 ghost use Rattle.fs_nodes.specs.Stores.{child};
 ghost use Rattle.fs_locks.specs.Holding.{holder};
-ghost use Rattle.fs_core.specs.code.Searches.{position_of, position_on, StandsIf, MeetsIf, IsNearest, IsMet, IsUnmet, IsWay, AreWays, CanSearch, HasLeast, HasLeastIf, is_lesser};
+ghost use Rattle.fs_machine.specs.States.{IsMoved};
+ghost use Rattle.fs_core.specs.code.Searches.{position_of, position_on, StandsIf, MeetsIf, IsBelowMoved, IsNearest, IsMet, IsUnmet, IsWay, AreWays, CanSearch, HasLeast, is_lesser};
 ghost use Rattle.fs_core.specs.CoreValues.{number_on};
 
 use crate::seat::{Running, number};
 use fs_locks::Holders;
+use fs_machine::Moved;
 use fs_nodes::{NodeNo, Store};
 
-/// What the way up from the position of a walking call comes to: whether it passes the node that would be moved, and the seat
-/// of the nearest other walking call up to there.
+/// What the way up from the position of a walking call comes to: whether it passes a node that would be moved, and the seat of
+/// the nearest other walking call on it.
 #[derive(Clone, Copy)]
 pub struct Way {
     pub below: bool,
@@ -83,39 +84,39 @@ fn met_with(
     other_at(seats, node, seat)
 }
 
-/// The way up from the position of the walking call on a seat, to the node that would be moved or else to the root.
+/// Whether a way passes a node that would be moved, with one node more.
+fn passes(moved: &Moved, node: NodeNo, before: bool) -> bool
+    ensures { IsTrue result ↔ (IsTrue before ⊎ IsMoved moved.now node) }
+{
+    before || moved.is(node)
+}
+
+/// The way up from the position of the walking call on a seat, to the root.
 fn way_from(
     store: &Store,
     holders: &Holders,
     seats: &[Option<Running>],
-    node: NodeNo,
+    moved: &Moved,
     seat: usize,
     position: NodeNo,
 ) -> Way
     requires can { CanSearch store.now holders.now seats.now }
     requires position { position_on seats.now seat ≡ Some position }
-    ensures below { IsTrue result.below ↔ IsReached (child store.now) node position }
-    ensures above { IsNearest (child store.now) seats.now node seat position result.above }
+    ensures below { IsTrue result.below ↔ IsBelowMoved (child store.now) moved.now position }
+    ensures above { IsNearest (child store.now) seats.now seat position result.above }
 {
     // The nodes on the way up differ, and each has room for its holder, so the loop reaches the root within that room. The
     // bound only shows that the loop ends: a way is as long as the position is deep.
     let mut above = position;
     let mut met: Option<usize> = None;
+    let mut below = false;
     for _step in 0..holders.room() {
         met = met_with(holders, seats, above, seat, met);
-        if above == node {
-            return Way {
-                below: true,
-                above: met,
-            };
-        }
+        below = passes(moved, above, below);
         match store.parent(above) {
             Some(parent) => above = parent,
             None => {
-                return Way {
-                    below: false,
-                    above: met,
-                };
+                return Way { below, above: met };
             }
         }
     }
@@ -127,15 +128,15 @@ fn way_of(
     store: &Store,
     holders: &Holders,
     seats: &[Option<Running>],
-    node: NodeNo,
+    moved: &Moved,
     seat: usize,
 ) -> Way
     requires can { CanSearch store.now holders.now seats.now }
     requires seat { seat < length seats.now }
-    ensures { IsWay (child store.now) seats.now node seat result }
+    ensures { IsWay (child store.now) seats.now moved.now seat result }
 {
     match position(&seats[seat]) {
-        Some(at) => way_from(store, holders, seats, node, seat, at),
+        Some(at) => way_from(store, holders, seats, moved, seat, at),
         None => no_way(),
     }
 }
@@ -152,15 +153,15 @@ fn find_ways(
     holders: &Holders,
     seats: &[Option<Running>],
     ways: &mut [Way],
-    node: NodeNo,
+    moved: &Moved,
 )
     requires can { CanSearch store.now holders.now seats.now }
     requires ways { length ways.old ≡ length seats.now }
-    ensures ways { AreWays (child store.now) seats.now node (length seats.now) ways.new }
+    ensures ways { AreWays (child store.now) seats.now moved.now (length seats.now) ways.new }
     ensures length { length ways.new ≡ length ways.old }
 {
     for seat in 0..seats.len() {
-        put(&mut ways[seat], way_of(store, holders, seats, node, seat));
+        put(&mut ways[seat], way_of(store, holders, seats, moved, seat));
     }
 }
 
@@ -191,7 +192,7 @@ fn is_less(seats: &[Option<Running>], seat: usize, other: Option<usize>) -> bool
     }
 }
 
-/// Whether a seat's way passes the node that would be moved, and no way meets its call.
+/// Whether a seat's way passes a node that would be moved, and no way meets its call.
 fn is_lowest(ways: &[Way], seat: usize) -> bool
     requires { seat < length ways.now }
     ensures { IsTrue result ↔ IsUnmet ways.now seat }
@@ -199,24 +200,24 @@ fn is_lowest(ways: &[Way], seat: usize) -> bool
     ways[seat].below && !is_met(ways, seat)
 }
 
-/// Of the walking calls below a node of which each has no other one below its position, the one with the least number: its
+/// Of the walking calls below a node that would be moved of which each has no other one below its position, the one with the least number: its
 /// seat. Each seat has a place for its way, whatever stands there before.
 pub fn to_help(
     store: &Store,
     holders: &Holders,
     seats: &[Option<Running>],
     ways: &mut [Way],
-    node: NodeNo,
+    moved: &Moved,
 ) -> Option<usize>
     requires can { CanSearch store.now holders.now seats.now }
     requires ways { length ways.old ≡ length seats.now }
-    ensures chosen { HasLeast (child store.now) seats.now node (length seats.now) result }
+    ensures chosen { HasLeast (child store.now) seats.now moved.now (length seats.now) result }
     ensures ways { length ways.new ≡ length ways.old }
 {
     // Who is not lowest is the nearest one above some other, so one way up from each position is enough. A help looks, for each
-    // seat, at the nodes from its position up to the one that would be moved, at each seat where one of these is held, until a
-    // walking call is met, and at each seat's way. Nothing is allocated.
-    find_ways(store, holders, seats, ways, node);
+    // seat, at the nodes from its position up to the root, at each seat where one of these is held, until a walking call is met,
+    // and at each seat's way. Nothing is allocated.
+    find_ways(store, holders, seats, ways, moved);
     let mut chosen: Option<usize> = None;
     for seat in 0..seats.len() {
         if is_lowest(ways, seat) && is_less(seats, seat, chosen) {
@@ -226,21 +227,21 @@ pub fn to_help(
     chosen
 }
 
-/// The same before a finish that may move a node: no seat where it moves none.
+/// The same before a finish, which may move nothing: no seat then.
 pub fn to_help_before(
     store: &Store,
     holders: &Holders,
     seats: &[Option<Running>],
     ways: &mut [Way],
-    moved: &Option<NodeNo>,
+    moved: &Moved,
 ) -> Option<usize>
     requires can { CanSearch store.now holders.now seats.now }
     requires ways { length ways.old ≡ length seats.now }
-    ensures chosen { HasLeastIf (child store.now) seats.now moved.now result }
+    ensures chosen { HasLeast (child store.now) seats.now moved.now (length seats.now) result }
     ensures ways { length ways.new ≡ length ways.old }
 {
     match moved {
-        Some(node) => to_help(store, holders, seats, ways, *node),
-        None => None,
+        Moved::Nothing => None,
+        Moved::One(_) | Moved::Two(_, _) => to_help(store, holders, seats, ways, moved),
     }
 }

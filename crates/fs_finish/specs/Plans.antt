@@ -6,7 +6,6 @@ use Rattle.fs_names.specs.Shapes.{Shape, is_dir, has_entries}
 use Rattle.fs_nodes.specs.Graphs.{Graph, linked_in, unlinked_in, moved_in, IsReached}
 use Rattle.fs_nodes.specs.Seen.{Seen, IsReal}
 use Rattle.fs_calls.specs.Forms.{Form, AtNode, AtEntry, AtPair}
-use Rattle.fs_calls.specs.declared.target.PairCall.TheVariants as pairs
 use Rattle.fs_calls.specs.Rows.{node_row}
 use Rattle.fs_calls.specs.declared.errno.Errno.{Errno}
 use Rattle.fs_calls.specs.declared.reply.Reply.TheVariants.{Done, Failed}
@@ -17,6 +16,8 @@ use Rattle.fs_finish.specs.declared.plan.Plan.{Plan}
 use Rattle.fs_finish.specs.declared.plan.Plan.TheVariants.{Fails, Stays, Answers, Adds, Removes, Moves, Replaces}
 use Rattle.fs_machine.specs.Finishes.{Effect, no_effect, node_effect}
 use Rattle.fs_machine.specs.OpValues.{SpareIf}
+use Rattle.fs_machine.specs.declared.moves.Moved.{Moved}
+use Rattle.fs_machine.specs.declared.moves.Moved.TheVariants.{Nothing, One}
 
 -- ---- plans, by the first error of a row
 
@@ -47,15 +48,15 @@ abbrev pub moving : Bool → Option ℕ → Plan
 moving replaces None = Stays
 moving replaces (Some n) = moves replaces n
 
--- the node that a finish would really move
-abbrev pub moved_by : Plan → Option ℕ
-moved_by (Fails e) = None
-moved_by Stays = None
-moved_by (Answers n) = None
-moved_by (Adds dir) = None
-moved_by (Removes dir) = None
-moved_by (Moves n) = Some n
-moved_by (Replaces n) = Some n
+-- what a finish would really move
+abbrev pub moved_by : Plan → Moved
+moved_by (Fails e) = Nothing
+moved_by Stays = Nothing
+moved_by (Answers n) = Nothing
+moved_by (Adds dir) = Nothing
+moved_by (Removes dir) = Nothing
+moved_by (Moves n) = One n
+moved_by (Replaces n) = One n
 
 -- ---- their effects
 
@@ -63,7 +64,7 @@ moved_by (Replaces n) = Some n
 abbrev pub answered_at : Graph → Form → ℕ → Option ℕ → Effect
 answered_at graph (AtNode c p) n reserved = node_effect graph n reserved (node_row c None (graph.shape n))
 answered_at graph (AtEntry c p) n reserved = no_effect Done graph reserved
-answered_at graph (AtPair pairs.Rename p q) n reserved = no_effect Done graph reserved
+answered_at graph (AtPair c p q) n reserved = no_effect Done graph reserved
 
 -- the reserved number gets an entry
 abbrev pub added : Graph → ℕ → Name → Option ℕ → Effect

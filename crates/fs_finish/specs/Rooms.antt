@@ -2,7 +2,6 @@
 use Rattle.std.specs.Prelude.{ℕ, ◌≤◌, ◌+◌, length, min}
 use Rattle.fs_names.specs.declared.limits.TheConstants.{ENTRY_LIMIT, FILE_LIMIT}
 use Rattle.fs_calls.specs.Forms.{NodeCall, Stat, Readdir, Read, Write, Truncate, Form, AtNode, AtEntry, AtPair}
-use Rattle.fs_calls.specs.declared.target.PairCall.TheVariants as pairs
 use Rattle.fs_finish.specs.declared.room.Room.{Room}
 use Rattle.fs_finish.specs.declared.room.Room.TheVariants.{Nothing, Content, Copies, Lists}
 
@@ -39,4 +38,4 @@ SufficesFor (Truncate size) room = FitsContent size room
 abbrev pub Suffices : Form → Room → Type 0
 Suffices (AtNode c p) room = SufficesFor c room
 Suffices (AtEntry c p) room = Unit {0}
-Suffices (AtPair pairs.Rename p q) room = Unit {0}
+Suffices (AtPair c p q) room = Unit {0}

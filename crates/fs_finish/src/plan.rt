@@ -4,6 +4,7 @@ ghost use Rattle.std.specs.Prelude.{◌≡◌};
 ghost use Rattle.fs_finish.specs.Plans.{along, moved_by};
 
 use fs_calls::Errno;
+use fs_machine::Moved;
 use fs_nodes::NodeNo;
 
 /// The route of a rename: where an entry is, where it goes, and the node that the call holds so as to remove it.
@@ -68,14 +69,14 @@ pub enum Plan {
 }
 
 impl Plan {
-    /// The node that the finish would really move.
-    pub fn moved(&self) -> Option<NodeNo>
+    /// What the finish would really move.
+    pub fn moved(&self) -> Moved
         ensures { result ≡ moved_by self.now }
     {
         match self {
-            Plan::Moves(node) | Plan::Replaces(node) => Some(*node),
+            Plan::Moves(node) | Plan::Replaces(node) => Moved::One(*node),
             Plan::Fails(_) | Plan::Stays | Plan::Answers(_) | Plan::Adds(_) | Plan::Removes(_) => {
-                None
+                Moved::Nothing
             }
         }
     }

@@ -6,5 +6,6 @@ pub mod Local
 pub mod Link
 pub mod Unlink
 pub mod Move
+pub mod Swap
 pub mod Alterations
 pub mod Release

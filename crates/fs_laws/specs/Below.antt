@@ -1,5 +1,5 @@
 -- Who stands below whom, who holds what, and what the placed calls leave, in every state of a run.
-use Rattle.std.specs.Prelude.{ℕ, ◌≡◌, ◌<◌, ◌≤◌, List, [], ◌∷◌, true, ◌++◌, Option, Some, ◌⊎◌, length}
+use Rattle.std.specs.Prelude.{ℕ, ◌≡◌, ◌<◌, ◌≤◌, List, [], ◌∷◌, true, ◌++◌, Some, ◌⊎◌, length}
 use Rattle.fs_names.specs.Keys.{Key}
 use Rattle.fs_calls.specs.Outcomes as tree
 use Rattle.fs_calls.specs.Tree.{Tree}
@@ -11,11 +11,12 @@ use Rattle.fs_timeline.specs.Timeline as journal
 use Rattle.fs_timeline.specs.declared.entry.Entry.{Entry}
 use Rattle.fs_machine.specs.Moves.{next}
 use Rattle.fs_machine.specs.declared.moves.Move.TheVariants.{Finish as Finishes}
+use Rattle.fs_machine.specs.declared.moves.Moved.{Moved}
 use Rattle.fs_machine.specs.Records.{Holdings, Walking, Placed, Record, Holds}
 use Rattle.fs_timeline.specs.Timeline.{commit_count}
 use Rattle.fs_laws.specs.Invariants.{InOrder, IsIn}
 use Rattle.fs_laws.specs.Settled.{settled_graph, settled_replies}
-use Rattle.fs_machine.specs.States.{State, Begun, Begins, Moves, IsBelow, IsWalkingBelow, IsChosen, NoneBelow, Step}
+use Rattle.fs_machine.specs.States.{State, Begun, Begins, Moves, IsBelow, IsWalkingBelow, IsWalkingBelowMoved, IsChosen, NoneBelow, Step}
 use Rattle.fs_machine.specs.declared.answers.Stepped.{Stepped}
 use Rattle.fs_machine.specs.declared.answers.Stepped.TheVariants.{Helped, Committed}
 
@@ -55,41 +56,41 @@ pub record Settles (s : State) : Type 0 where
   pub replies : AreDue s.start s.timeline order (settled_replies s.graph s.ops order)
 
 -- what a step answers whose call walks and is to finish: whom it helped, or that it committed
-pub data HelpsOrCommits (s : State) : Option ℕ → Stepped → Type 0 where
-  Helps : (moved d : ℕ) → IsChosen s moved d → HelpsOrCommits s (Some moved) (Helped d)
-  Commits : (moved : Option ℕ) → NoneBelow s moved → HelpsOrCommits s moved Committed
+pub data HelpsOrCommits (s : State) : Moved → Stepped → Type 0 where
+  Helps : (moved : Moved) (d : ℕ) → IsChosen s moved d → HelpsOrCommits s moved (Helped d)
+  Commits : (moved : Moved) → NoneBelow s moved → HelpsOrCommits s moved Committed
 
 -- it never answers Busy, nor anything else
 abbrev pub NeverWaitsToFinish : State → Type 0
-NeverWaitsToFinish s = (new : State) (seat c : ℕ) (op : Record) (moved : Option ℕ) (answer : Stepped)
+NeverWaitsToFinish s = (new : State) (seat c : ℕ) (op : Record) (moved : Moved) (answer : Stepped)
     → Moves s seat c op (Finishes moved) → op.phase ≡ Walking → Step s seat answer new → HelpsOrCommits s moved answer
 
--- a rename walks, and its next move is to finish and to move this node
-abbrev pub IsAboutToMove : State → ℕ → ℕ → Type 0
-IsAboutToMove s c moved = (op : Record) × (s.ops c ≡ Some op) × (op.phase ≡ Walking) × (next s.graph op ≡ Finishes (Some moved))
+-- a call walks, and its next move is to finish and to move these nodes
+abbrev pub IsAboutToMove : State → ℕ → Moved → Type 0
+IsAboutToMove s c moved = (op : Record) × (s.ops c ≡ Some op) × (op.phase ≡ Walking) × (next s.graph op ≡ Finishes moved)
 
--- a piece of a run, from a state on, all through which the rename stays so; with the calls that it helped, the last first
-pub data Meanwhile (c moved : ℕ) (s : State) : List ℕ → State → Type 0 where
+-- a piece of a run, from a state on, all through which the call stays so; with the calls that it helped, the last first
+pub data Meanwhile (c : ℕ) (moved : Moved) (s : State) : List ℕ → State → Type 0 where
   Now : IsAboutToMove s c moved → Meanwhile c moved s [] s
   Begins_another : {helped : List ℕ} {old : State} (seat : ℕ) (call : Call) (answer : Begun) (new : State) → Meanwhile c moved s helped old → Begins old seat call answer new → IsAboutToMove new c moved → Meanwhile c moved s helped new
   Steps_another : {helped : List ℕ} {old : State} (seat : ℕ) (answer : Stepped) (new : State) → Meanwhile c moved s helped old → (old.on_seat seat ≡ Some c → ⊥) → Step old seat answer new → IsAboutToMove new c moved → Meanwhile c moved s helped new
   Helps_one : {helped : List ℕ} {old : State} (seat d : ℕ) (new : State) → Meanwhile c moved s helped old → old.on_seat seat ≡ Some c → Step old seat (Helped d) new → IsAboutToMove new c moved → Meanwhile c moved s (d ∷ helped) new
 
--- each of these calls walks below a node, and is there once
-abbrev pub EachBelow : State → ℕ → List ℕ → Type 0
+-- each of these calls walks below a node that moves, and is there once
+abbrev pub EachBelow : State → Moved → List ℕ → Type 0
 EachBelow s moved [] = Unit {0}
-EachBelow s moved (d ∷ ds) = IsWalkingBelow s moved d × (IsIn d ds → ⊥) × EachBelow s moved ds
+EachBelow s moved (d ∷ ds) = IsWalkingBelowMoved s moved d × (IsIn d ds → ⊥) × EachBelow s moved ds
 
--- each call that it helped meanwhile walked below the moved node from the first, and none twice; whoever walks below it at the end did so from the first, and was not helped
-pub record HelpsEachOnce (c moved : ℕ) (s : State) (helped : List ℕ) (new : State) : Type 0 where
+-- each call that it helped meanwhile walked below a moved node from the first, and none twice; whoever walks below one at the end did so from the first, and was not helped
+pub record HelpsEachOnce (c : ℕ) (moved : Moved) (s : State) (helped : List ℕ) (new : State) : Type 0 where
   pub helps : EachBelow s moved helped
-  pub still : (d : ℕ) → IsWalkingBelow new moved d → IsWalkingBelow s moved d × (IsIn d helped → ⊥)
-  -- so there are at most as many helps as calls walked below the node at first
-  pub most : (below : List ℕ) → ((d : ℕ) → IsWalkingBelow s moved d → IsIn d below) → length helped ≤ length below
+  pub still : (d : ℕ) → IsWalkingBelowMoved new moved d → IsWalkingBelowMoved s moved d × (IsIn d helped → ⊥)
+  -- so there are at most as many helps as calls walked below the moved nodes at first
+  pub most : (below : List ℕ) → ((d : ℕ) → IsWalkingBelowMoved s moved d → IsIn d below) → length helped ≤ length below
 
--- from this state on, whichever rename is about to move which node, for as long as it stays so
+-- from this state on, whichever call is about to move which nodes, for as long as it stays so
 abbrev pub HelpsAreFew : State → Type 0
-HelpsAreFew s = (c moved : ℕ) (new : State) (helped : List ℕ) → Meanwhile c moved s helped new → HelpsEachOnce c moved s helped new
+HelpsAreFew s = (c : ℕ) (moved : Moved) (new : State) (helped : List ℕ) → Meanwhile c moved s helped new → HelpsEachOnce c moved s helped new
 
 -- a call's place is the number of commits before its own
 pub record HasPlace (es : List Entry) (c i : ℕ) : Type 0 where

@@ -7,22 +7,29 @@ use Rattle.fs_calls.specs.Forms.{form, NodeCall, Form, AtNode, AtEntry, AtPair, 
 use Rattle.fs_calls.specs.declared.target.EntryCall.{EntryCall}
 use Rattle.fs_calls.specs.declared.target.PairCall.TheVariants as pairs
 use Rattle.fs_calls.specs.declared.call.Call.{Call}
-use Rattle.fs_laws.specs.Maps.{Map, move, write_all}
+use Rattle.fs_laws.specs.Maps.{Map, move, swap, write_all}
 pub use Rattle.fs_calls.specs.Sights.{resolve, resolve_next, resolve_dir}
 use Rattle.fs_calls.specs.Rows.{node_row, Edit, Keep, Add, Remove, entry_row, rename_row}
 use Rattle.fs_calls.specs.declared.errno.Errno.{Errno}
 use Rattle.fs_calls.specs.declared.reply.Reply.{Reply}
 use Rattle.fs_calls.specs.declared.reply.Reply.TheVariants.{Failed}
 
--- some writes, and then at most one move
+-- where keys go: each stays, or those below one key go below another one, or those below two keys change places
+pub data Rekeying : Type 0 where
+  Stay : Rekeying
+  MoveTo : Key → Key → Rekeying
+  Swap : Key → Key → Rekeying
+
+-- some writes, and then at most one move or one exchange
 pub record Change : Type 0 where
   pub writes : List (Key × Option Shape)
-  pub moves : Option (Key × Key)
+  pub moves : Rekeying
 
--- a tree after a move, if there is one
-abbrev pub moved_by : Option (Key × Key) → Map Shape → Map Shape
-moved_by None tree = tree
-moved_by (Some m) tree = move m.0 m.1 tree
+-- a tree after a move or an exchange, if there is one
+abbrev pub moved_by : Rekeying → Map Shape → Map Shape
+moved_by Stay tree = tree
+moved_by (MoveTo s t) tree = move s t tree
+moved_by (Swap s t) tree = swap s t tree
 
 -- what a change makes of a tree: first its writes, then its move
 abbrev pub changed : Change → Map Shape → Map Shape
@@ -30,11 +37,11 @@ changed ch tree = moved_by ch.moves (write_all ch.writes tree)
 
 -- nothing changes
 abbrev pub no_change : Change
-no_change = record { writes = []; moves = None }
+no_change = record { writes = []; moves = Stay }
 
 -- some keys are written, and nothing moves
 abbrev pub only : List (Key × Option Shape) → Change
-only ws = record { writes = ws; moves = None }
+only ws = record { writes = ws; moves = Stay }
 
 -- the changes that the rows ask for: of the bytes of a file
 abbrev pub content_change : Key → Option (List ℕ) → Change
@@ -55,7 +62,7 @@ rename_writes false d names x e others y = (d, Some (Dir (removed_name x names))
 -- a rename that moves
 abbrev pub move_change : Bool → List (Key × Option Shape) → Key → Key → Change
 move_change false ws p q = no_change
-move_change true ws p q = record { writes = ws; moves = Some (p, q) }
+move_change true ws p q = record { writes = ws; moves = MoveTo p q }
 
 -- the reply to a call on a node, and its change, by what it reads on the tree
 abbrev pub node_looked : Map Shape → NodeCall → Key → Reply × Change

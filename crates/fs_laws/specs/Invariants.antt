@@ -20,12 +20,12 @@ use Rattle.fs_laws.specs.CallFacts.{CallFacts}
 use Rattle.fs_machine.specs.States.{State, Begun, Begins, Step}
 use Rattle.fs_machine.specs.declared.answers.Stepped.{Stepped}
 
--- what a rename keeps at its common directory
+-- what a pair keeps at its common directory
 pub record Forked (graph : Graph) (n : ℕ) (p q : Key) (st : Holdings) : Type 0 where
   pub stands : (side : Side) → at graph.child n (head_on side st).walked ≡ Some (head_on side st).node
   pub path : (side : Side) → parent_of (of_side side p q) ≡ (head_on side st).walked ++ left (head_on side st).walked (parent_of (of_side side p q))
 
--- what a call keeps where it stands; a rename's heads set out at its common directory
+-- what a call keeps where it stands; a pair's heads set out at its common directory
 abbrev pub ForkedAt : Graph → ℕ → Key → Key → Holdings → Key → Type 0
 ForkedAt graph n p q st [] = Forked graph n p q st
 ForkedAt graph n p q st (x ∷ l) = Unit {0}
@@ -34,7 +34,7 @@ ForkedAt graph n p q st (x ∷ l) = Unit {0}
 abbrev pub HeadsSound : Graph → ℕ → Form → Holdings → Type 0
 HeadsSound graph n (AtNode c p) st = Unit {0}
 HeadsSound graph n (AtEntry c p) st = Unit {0}
-HeadsSound graph n (AtPair pairs.Rename p q) st = ForkedAt graph n p q st (target (AtPair pairs.Rename p q))
+HeadsSound graph n (AtPair c p q) st = ForkedAt graph n p q st (target (AtPair c p q))
 
 -- the number that a call reserved, where it has one to link
 abbrev pub HasNumber : Graph → EntryCall → Option ℕ → Type 0
@@ -44,7 +44,7 @@ HasNumber graph c reserved = (shape : Shape) → new_shape c ≡ Some shape → 
 abbrev pub NumberFor : Graph → Form → Option ℕ → Type 0
 NumberFor graph (AtNode c p) reserved = Unit {0}
 NumberFor graph (AtEntry c p) reserved = HasNumber graph c reserved
-NumberFor graph (AtPair pairs.Rename p q) reserved = Unit {0}
+NumberFor graph (AtPair c p q) reserved = Unit {0}
 
 -- what is left of a call, from where it stands
 abbrev pub remaining_of : Option Record → Form

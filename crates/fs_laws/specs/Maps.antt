@@ -43,6 +43,20 @@ moved_to s tree key (Some rest) = tree (s ++ rest)
 abbrev pub move : {V : Type 0} → Key → Key → Map V → Map V
 move s t tree key = moved_to s tree key (after_prefix t key)
 
+-- a key after an exchange of s and t, by what follows each of them in it
+abbrev pub swapped_by : Key → Key → Key → Option Key → Option Key → Key
+swapped_by s t key None None = key
+swapped_by s t key None (Some rest) = s ++ rest
+swapped_by s t key (Some rest) o = t ++ rest
+
+-- a key that begins with s begins with t instead, and one that begins with t begins with s
+abbrev pub swapped : Key → Key → Key → Key
+swapped s t key = swapped_by s t key (after_prefix s key) (after_prefix t key)
+
+-- what stood below s and what stood below t change places
+abbrev pub swap : {V : Type 0} → Key → Key → Map V → Map V
+swap s t tree key = tree (swapped s t key)
+
 -- several writes, the first one first
 abbrev pub write_all : {V : Type 0} → List (Key × Option V) → Map V → Map V
 write_all [] tree = tree

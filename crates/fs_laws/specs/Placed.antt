@@ -2,10 +2,10 @@
 use Rattle.std.specs.Prelude.{◌≡◌, Bool, true, false, not, ◌&&◌, List, [], ◌∷◌, ◌++◌, Option, Some, None, ◌⊎◌}
 use Rattle.fs_names.specs.Keys.{Key, after_prefix, has_more, parent_of, is_end}
 use Rattle.fs_names.specs.Shapes.{Shape, Dir, File}
-use Rattle.fs_laws.specs.Changes.{Change, resolve, resolve_dir, outcome, after}
+use Rattle.fs_laws.specs.Changes.{Rekeying, Stay, MoveTo, Swap, Change, resolve, resolve_dir, outcome, after}
 use Rattle.fs_calls.specs.Forms.{Form, AtNode, AtEntry, AtPair, Fits}
 use Rattle.fs_calls.specs.declared.target.PairCall.TheVariants as pairs
-use Rattle.fs_laws.specs.Maps.{Map}
+use Rattle.fs_laws.specs.Maps.{Map, swapped}
 use Rattle.fs_machine.specs.Moves.{victim_of, same_kind}
 use Rattle.fs_laws.specs.Settled.{settle, settle_replies}
 
@@ -40,9 +40,10 @@ AllOff k [] = Unit {0}
 AllOff k (w ∷ ws) = (after_prefix k w.0 ≡ None) × AllOff k ws
 
 -- a change that touches nothing below k, unless it moves k itself along
-abbrev pub MovesNothingBelow : Option (Key × Key) → Key → Type 0
-MovesNothingBelow None k = Unit {0}
-MovesNothingBelow (Some m) k = Aside m.0 m.1 × (((r : Key) × (k ≡ m.0 ++ r)) ⊎ (Aside m.0 k × Aside m.1 k))
+abbrev pub MovesNothingBelow : Rekeying → Key → Type 0
+MovesNothingBelow Stay k = Unit {0}
+MovesNothingBelow (MoveTo s t) k = Aside s t × (((r : Key) × (k ≡ s ++ r)) ⊎ (Aside s k × Aside t k))
+MovesNothingBelow (Swap s t) k = Aside s t × (((r : Key) × (k ≡ s ++ r)) ⊎ ((r : Key) × (k ≡ t ++ r)) ⊎ (Aside s k × Aside t k))
 
 -- the same of the writes and the move
 abbrev pub ChangesNothingBelow : Change → Key → Type 0
@@ -53,10 +54,11 @@ abbrev pub rekey_by : Key → Key → Option Key → Key
 rekey_by t k None = k
 rekey_by t k (Some r) = t ++ r
 
--- where k is after a move, if there is one
-abbrev pub rekey_move : Option (Key × Key) → Key → Key
-rekey_move None k = k
-rekey_move (Some m) k = rekey_by m.1 k (after_prefix m.0 k)
+-- where k is after a move or an exchange, if there is one
+abbrev pub rekey_move : Rekeying → Key → Key
+rekey_move Stay k = k
+rekey_move (MoveTo s t) k = rekey_by t k (after_prefix s k)
+rekey_move (Swap s t) k = swapped s t k
 
 -- where k is after a change
 abbrev pub rekey : Change → Key → Key

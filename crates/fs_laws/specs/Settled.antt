@@ -4,7 +4,6 @@ use Rattle.fs_names.specs.Keys.{Key}
 use Rattle.fs_names.specs.Shapes.{Shape}
 use Rattle.fs_laws.specs.Changes.{reply, after}
 use Rattle.fs_calls.specs.Forms.{Form, AtNode, AtEntry, AtPair, under}
-use Rattle.fs_calls.specs.declared.target.PairCall.TheVariants as pairs
 use Rattle.fs_laws.specs.Maps.{Map}
 use Rattle.fs_calls.specs.declared.reply.Reply.{Reply}
 use Rattle.fs_nodes.specs.Graphs.{Graph}
@@ -26,7 +25,7 @@ alone_by (suc steps) graph op Ends = finish graph op
 abbrev pub names_left : Form → ℕ
 names_left (AtNode c p) = length p
 names_left (AtEntry c p) = length p
-names_left (AtPair pairs.Rename p q) = length p + length q
+names_left (AtPair c p q) = length p + length q
 
 -- what a call makes of the graph alone
 abbrev pub alone : Graph → Record → Effect

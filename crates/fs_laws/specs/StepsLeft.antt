@@ -3,7 +3,6 @@ use Rattle.std.specs.Prelude.{ℕ, zero, suc, ◌≡◌, ◌+◌, ◌≤◌, [],
 use Rattle.fs_names.specs.Keys.{Key, parent_of}
 use Rattle.fs_names.specs.Parts.{left}
 use Rattle.fs_calls.specs.Forms.{form, Form, AtNode, AtEntry, AtPair}
-use Rattle.fs_calls.specs.declared.target.PairCall.TheVariants as pairs
 use Rattle.fs_calls.specs.declared.call.Call.{Call}
 use Rattle.fs_machine.specs.Records.{Holdings, Phase, Walking, Placed, Finished, Record}
 use Rattle.fs_timeline.specs.Timeline.{begins}
@@ -31,7 +30,7 @@ one_unless (Some n) = 0
 abbrev pub to_go : Form → Holdings → ℕ
 to_go (AtNode c p) st = length p
 to_go (AtEntry c p) st = length (parent_of p)
-to_go (AtPair pairs.Rename p q) st = length (left st.source.walked (parent_of p)) + length (left st.dest.walked (parent_of q))
+to_go (AtPair c p q) st = length (left st.source.walked (parent_of p)) + length (left st.dest.walked (parent_of q))
 
 -- the moves that it has left at most: two for each name, one for a node behind, and one for a victim
 abbrev pub moves_left : Form → Holdings → ℕ

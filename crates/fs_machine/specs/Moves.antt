@@ -7,6 +7,7 @@ use Rattle.fs_names.specs.Names.{Name}
 use Rattle.fs_names.specs.Parts.{common, left}
 use Rattle.fs_names.specs.Shapes.{Shape, Dir, File, is_full}
 use Rattle.fs_calls.specs.Forms.{form, Form, AtNode, AtEntry, AtPair, by_text}
+use Rattle.fs_calls.specs.declared.target.PairCall.{PairCall}
 use Rattle.fs_calls.specs.declared.target.PairCall.TheVariants as pairs
 use Rattle.fs_calls.specs.declared.target.EntryCall.{EntryCall}
 use Rattle.fs_calls.specs.declared.target.EntryCall.TheVariants.{Unlink, Rmdir}
@@ -16,6 +17,8 @@ use Rattle.fs_calls.specs.declared.errno.Errno.TheVariants.{Enoent, Enotdir}
 use Rattle.fs_calls.specs.declared.reply.Reply.{Reply}
 use Rattle.fs_nodes.specs.Graphs.{Graph, entry_shape}
 use Rattle.fs_machine.specs.declared.moves.Move.{Move}
+use Rattle.fs_machine.specs.declared.moves.Moved.{Moved}
+use Rattle.fs_machine.specs.declared.moves.Moved.TheVariants.{Nothing, One}
 use Rattle.fs_machine.specs.declared.moves.Move.TheVariants.{Take as Takes, LetGo as Leaves, Finish as Finishes, Return as Ends}
 use Rattle.fs_machine.specs.Records.{Head, Holdings, Side, Source, Dest, head_on, with_head, Phase, Walking, Placed, Finished, Record, head_at, holdings_at, held_on}
 
@@ -28,13 +31,13 @@ first_of (Some m) n = m
 abbrev pub target : Form → Key
 target (AtNode c p) = p
 target (AtEntry c p) = parent_of p
-target (AtPair pairs.Rename p q) = common (parent_of p) (parent_of q)
+target (AtPair c p q) = common (parent_of p) (parent_of q)
 
 -- move 3, at a node with a name left: a file or a missing name finishes, a name that is there is taken
 abbrev pub walk_move : Option Shape → Option ℕ → Move
-walk_move None child = Finishes None
-walk_move (Some (File bytes)) child = Finishes None
-walk_move (Some (Dir names)) None = Finishes None
+walk_move None child = Finishes Nothing
+walk_move (Some (File bytes)) child = Finishes Nothing
+walk_move (Some (Dir names)) None = Finishes Nothing
 walk_move (Some (Dir names)) (Some m) = Takes m
 
 -- move 3 from a node: a step; None where no name is left
@@ -55,7 +58,7 @@ take_if _ _ _ m = m
 
 -- move 4, at the parent of an entry
 abbrev pub entry_move : Graph → EntryCall → Name → Holdings → Move
-entry_move graph c x st = take_if (victim_of c (entry_shape graph st.node x)) (graph.child st.node x) st.victim (Finishes None)
+entry_move graph c x st = take_if (victim_of c (entry_shape graph st.node x)) (graph.child st.node x) st.victim (Finishes Nothing)
 
 -- of a q that is a proper prefix of p it is known by the paths that it is a directory with entries
 abbrev pub there_by : Bool → Option Shape → Option Shape
@@ -96,9 +99,10 @@ rename_at graph p q st =
     (is_end (after_prefix (parent_of p) (parent_of q)) || not (is_full (graph.shape st.dest.node)))
 
 -- the node that a rename would really move
-abbrev pub moved_node : Bool → Option ℕ → Option ℕ
-moved_node true s = s
-moved_node false s = None
+abbrev pub moved_node : Bool → Option ℕ → Moved
+moved_node true (Some s) = One s
+moved_node true None = Nothing
+moved_node false s = Nothing
 
 -- move 6: a victim is taken where q is there with p's kind, p is another path and q no proper prefix of p
 abbrev pub rename_move : Graph → Key → Key → Holdings → Move
@@ -108,26 +112,30 @@ rename_move graph p q st =
     (graph.child st.dest.node (last_of q)) st.victim
     (Finishes (moved_node (rename_at graph p q st).1 (graph.child st.source.node (last_of p))))
 
+-- a pair at both parents
+abbrev pub parents_move : Graph → PairCall → Key → Key → Holdings → Move
+parents_move graph pairs.Rename p q st = rename_move graph p q st
+
 -- a parent that is a file finishes before the next head sets out
 abbrev pub dir_then : Option Shape → Move → Move
 dir_then (Some (Dir names)) m = m
-dir_then (Some (File bytes)) m = Finishes None
-dir_then None m = Finishes None
+dir_then (Some (File bytes)) m = Finishes Nothing
+dir_then None m = Finishes Nothing
 
 -- move 5, at the common directory
-abbrev pub fork_move : Graph → Key → Key → Holdings → Move
-fork_move graph p q st =
+abbrev pub fork_move : Graph → PairCall → Key → Key → Holdings → Move
+fork_move graph c p q st =
     dir_then (graph.shape st.node)
     (first_of (step_move graph st.source.node (left st.source.walked (parent_of p)))
     (dir_then (graph.shape st.source.node)
     (first_of (step_move graph st.dest.node (left st.dest.walked (parent_of q)))
-    (dir_then (graph.shape st.dest.node) (rename_move graph p q st)))))
+    (dir_then (graph.shape st.dest.node) (parents_move graph c p q st)))))
 
 -- moves 4 to 6, at the target
 abbrev pub target_move : Graph → Form → Holdings → Move
-target_move graph (AtNode c p) st = Finishes None
+target_move graph (AtNode c p) st = Finishes Nothing
 target_move graph (AtEntry c p) st = entry_move graph c (last_of p) st
-target_move graph (AtPair pairs.Rename p q) st = fork_move graph p q st
+target_move graph (AtPair c p q) st = fork_move graph c p q st
 
 -- what a step left behind is let go before the next move
 abbrev pub behind_first : Option ℕ → Move → Move
@@ -156,7 +164,7 @@ last_held st None = last_of_heads st.node st.source st.dest
 abbrev pub next_by : Graph → Record → Option Errno → Phase → Option Holdings → Move
 next_by graph op e (Finished r) None = Ends
 next_by graph op e (Finished r) (Some st) = Leaves (last_held st st.victim)
-next_by graph op (Some e) phase st = Finishes None
+next_by graph op (Some e) phase st = Finishes Nothing
 next_by graph op None phase None = Takes 0
 next_by graph op None phase (Some st) = next_on graph op.remaining st
 
@@ -173,7 +181,7 @@ tail_of (x ∷ p) = p
 abbrev pub inner : Form → Form
 inner (AtNode c p) = AtNode c (tail_of p)
 inner (AtEntry c p) = AtEntry c (tail_of p)
-inner (AtPair pairs.Rename p q) = AtPair pairs.Rename (tail_of p) (tail_of q)
+inner (AtPair c p q) = AtPair c (tail_of p) (tail_of q)
 
 -- a head after a step to a node
 abbrev pub head_took : Head → Name → ℕ → Head
@@ -196,7 +204,7 @@ step_or side (x ∷ l) st n other = stepped side st x n
 abbrev pub target_took : Form → Holdings → ℕ → Holdings
 target_took (AtNode c p) st n = st
 target_took (AtEntry c p) st n = victim_took st n
-target_took (AtPair pairs.Rename p q) st n =
+target_took (AtPair c p q) st n =
     step_or Source (left st.source.walked (parent_of p)) st n (step_or Dest (left st.dest.walked (parent_of q)) st n (victim_took st n))
 
 -- the record after a take: of the root, at the target, of the next node of the walk

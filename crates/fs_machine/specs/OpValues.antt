@@ -82,11 +82,11 @@ pub record IsBounded (graph : Graph) : Type 0 where
   pub entries : (n : ℕ) (names : List Name) → graph.shape n ≡ Some (Dir names) → length names ≤ ENTRY_LIMIT
   pub bytes : (n : ℕ) (content : List ℕ) → graph.shape n ≡ Some (File content) → length content ≤ FILE_LIMIT
 
--- heads of a rename that stand at one node have walked the same names
+-- heads of a pair that stand at one node have walked the same names
 abbrev pub HeadsApart : Form → Holdings → Type 0
 HeadsApart (AtNode c p) st = Unit {0}
 HeadsApart (AtEntry c p) st = Unit {0}
-HeadsApart (AtPair pairs.Rename p q) st = st.source.node ≡ st.dest.node → st.source.walked ≡ st.dest.walked
+HeadsApart (AtPair c p q) st = st.source.node ≡ st.dest.node → st.source.walked ≡ st.dest.walked
 
 -- from the node that a rename would move its new directory is not reached, once its heads have come to both parents
 abbrev pub MovesApart : Graph → Form → Holdings → Type 0

@@ -1,5 +1,5 @@
 -- States of the core, what a begin and a step may do, and runs.
-use Rattle.std.specs.Prelude.{ℕ, ◌≡◌, true, ◌+◌, ◌<◌, ◌≤◌, List, [], ◌∷◌, ◌++◌, Option, Some, None, Result, Ok, Err}
+use Rattle.std.specs.Prelude.{ℕ, ◌≡◌, true, ◌+◌, ◌<◌, ◌≤◌, List, [], ◌∷◌, ◌++◌, ◌⊎◌, Option, Some, None, Result, Ok, Err}
 use Rattle.std.specs.declared.cmp.Ordering.TheVariants.{Less}
 use Rattle.fs_names.specs.Keys.{Key}
 use Rattle.fs_names.specs.Names.{Name, name_cmp, has_name}
@@ -19,6 +19,8 @@ use Rattle.fs_machine.specs.Leaving.{is_removed, releasing, let_go, finished_op,
 use Rattle.fs_machine.specs.Moves.{next, took}
 use Rattle.fs_machine.specs.OpValues.{IsBounded}
 use Rattle.fs_machine.specs.declared.moves.Move.{Move}
+use Rattle.fs_machine.specs.declared.moves.Moved.{Moved}
+use Rattle.fs_machine.specs.declared.moves.Moved.TheVariants.{Nothing, One, Two}
 use Rattle.fs_machine.specs.declared.moves.Move.TheVariants.{Take as Takes, LetGo as Leaves, Finish as Finishes, Return as Ends}
 use Rattle.fs_machine.specs.declared.answers.Refusal.{Refusal}
 use Rattle.fs_machine.specs.declared.answers.Refusal.TheVariants.{SeatBusy, Full, OutOfMemory}
@@ -115,18 +117,27 @@ IsBelow graph s op = (st : Holdings) × (key : Key) × (op.holdings ≡ Some st)
 abbrev pub IsWalkingBelow : State → ℕ → ℕ → Type 0
 IsWalkingBelow state s d = (op : Record) × (state.ops d ≡ Some op) × (op.phase ≡ Walking) × IsBelow state.graph s op
 
--- below s, and no other walking call is at a node that is reached from its position
-abbrev pub IsLowest : State → ℕ → ℕ → Type 0
-IsLowest state s d = IsWalkingBelow state s d × ((op : Record) (st : Holdings) (e : ℕ) → state.ops d ≡ Some op → op.holdings ≡ Some st → (d ≡ e → ⊥) → IsWalkingBelow state st.node e → ⊥)
+-- one of the nodes that move
+abbrev pub IsMoved : Moved → ℕ → Type 0
+IsMoved Nothing s = ⊥
+IsMoved (One n) s = s ≡ n
+IsMoved (Two n m) s = (s ≡ n) ⊎ (s ≡ m)
+
+-- a walking call below a node that moves
+abbrev pub IsWalkingBelowMoved : State → Moved → ℕ → Type 0
+IsWalkingBelowMoved state moved d = (s : ℕ) × IsMoved moved s × IsWalkingBelow state s d
+
+-- below a node that moves, and no other walking call is at a node that is reached from its position
+abbrev pub IsLowest : State → Moved → ℕ → Type 0
+IsLowest state moved d = IsWalkingBelowMoved state moved d × ((op : Record) (st : Holdings) (e : ℕ) → state.ops d ≡ Some op → op.holdings ≡ Some st → (d ≡ e → ⊥) → IsWalkingBelow state st.node e → ⊥)
 
 -- whom to help: of several, the least number
-abbrev pub IsChosen : State → ℕ → ℕ → Type 0
-IsChosen state s d = IsLowest state s d × ((e : ℕ) → IsLowest state s e → d ≤ e)
+abbrev pub IsChosen : State → Moved → ℕ → Type 0
+IsChosen state moved d = IsLowest state moved d × ((e : ℕ) → IsLowest state moved e → d ≤ e)
 
--- no walking call below the node that a call would move
-abbrev pub NoneBelow : State → Option ℕ → Type 0
-NoneBelow state None = Unit {0}
-NoneBelow state (Some s) = (d : ℕ) → IsWalkingBelow state s d → ⊥
+-- no walking call below a node that a call would move
+abbrev pub NoneBelow : State → Moved → Type 0
+NoneBelow state moved = (d : ℕ) → IsWalkingBelowMoved state moved d → ⊥
 
 -- after a take
 abbrev pub taking : State → ℕ → Record → ℕ → State
@@ -173,9 +184,9 @@ Step old seat Idle new = (old.on_seat seat ≡ None) × (new ≡ old)
 Step old seat (Took n) new = (c : ℕ) × (op : Record) × Moves old seat c op (Takes n) × (old.holder n ≡ None) × (new ≡ taking old c op n)
 Step old seat (Busy n d) new = (c : ℕ) × (op : Record) × Moves old seat c op (Takes n) × (old.holder n ≡ Some d) × (new ≡ old)
 Step old seat (LetGo n) new = (c : ℕ) × (op : Record) × Moves old seat c op (Leaves n) × (new ≡ letting_go old c op n)
-Step old seat (Helped d) new = (c : ℕ) × (op : Record) × (s : ℕ) × Moves old seat c op (Finishes (Some s)) × (op.phase ≡ Walking) × IsChosen old s d × (q : Record) × (old.ops d ≡ Some q) × (new ≡ helping old d q)
-Step old seat Committed new = (c : ℕ) × (op : Record) × (s : Option ℕ) × Moves old seat c op (Finishes s) × (op.phase ≡ Walking) × NoneBelow old s × (new ≡ committing old c op)
-Step old seat CarriedOut new = (c : ℕ) × (op : Record) × (s : Option ℕ) × (i : ℕ) × Moves old seat c op (Finishes s) × (op.phase ≡ Placed i) × (new ≡ carrying old c op)
+Step old seat (Helped d) new = (c : ℕ) × (op : Record) × (s : Moved) × Moves old seat c op (Finishes s) × (op.phase ≡ Walking) × IsChosen old s d × (q : Record) × (old.ops d ≡ Some q) × (new ≡ helping old d q)
+Step old seat Committed new = (c : ℕ) × (op : Record) × (s : Moved) × Moves old seat c op (Finishes s) × (op.phase ≡ Walking) × NoneBelow old s × (new ≡ committing old c op)
+Step old seat CarriedOut new = (c : ℕ) × (op : Record) × (s : Moved) × (i : ℕ) × Moves old seat c op (Finishes s) × (op.phase ≡ Placed i) × (new ≡ carrying old c op)
 Step old seat (Returned r) new = (c : ℕ) × (op : Record) × Moves old seat c op Ends × (op.phase ≡ Finished r) × (new ≡ returning old c op r)
 
 -- the states of all runs

@@ -16,4 +16,4 @@ pub mod laws;
 pub mod moves;
 
 pub use answers::{Refusal, Stepped};
-pub use moves::Move;
+pub use moves::{Move, Moved};

@@ -17,6 +17,7 @@ pub mod FreeLemmas
 pub mod ReserveLemmas
 pub mod EntryLemmas
 pub mod MoveLemmas
+pub mod ExchangeLemmas
 pub mod SwapLemmas
 pub mod RealLemmas
 pub mod AheadLemmas

@@ -1,10 +1,10 @@
 //! The same store without an index, each of whose calls looks at every place: what tests compare `Store` with.
 #![tactic(auto, unfolding(crate::specs::Stores::graph_of, crate::specs::Stores::limit_of, crate::specs::Stores::room))]
 
-ghost use Rattle.std.specs.Prelude.{◌≡◌, ◌≢◌, ◌≤◌, ◌<◌, ◌↔◌, IsTrue, false, IfOk, OnErr, IfSome, IsSome, MatchOption, length, option_map, None, Some, Ok, Err};
+ghost use Rattle.std.specs.Prelude.{ℕ, ◌≡◌, ◌≢◌, ◌≤◌, ◌<◌, ◌↔◌, IsTrue, false, IfOk, OnErr, IfSome, IsSome, MatchOption, length, option_map, None, Some, Ok, Err};
 ghost use Rattle.std.specs.Option.{option_copied};
 ghost use Rattle.fs_names.specs.Shapes.{is_there, is_dir, is_file, has_entries, names_of, bytes_of};
-ghost use Rattle.fs_nodes.specs.Graphs.{empty_graph, linked_in, unlinked_in, moved_in, reserved_in, released_in, content_in, IsReached};
+ghost use Rattle.fs_nodes.specs.Graphs.{empty_graph, linked_in, unlinked_in, moved_in, swapped_in, reserved_in, released_in, content_in, IsReached};
 
 use crate::node::{Content, Link, Node, add_place, put, relink, swap_bytes};
 use crate::number::NodeNo;
@@ -189,6 +189,15 @@ impl Store {
         ensures node { child self.old dir name.now ≡ Some result }
         ensures change { seen self.new ≡ record (seen self.old) { graph = unlinked_in dir name.now (graph_of self.old) } }
     {
+        self.detach(dir, name)
+    }
+
+    /// The same of any entry: what it named keeps all that is below.
+    fn detach(&mut self, dir: NodeNo, name: &Name) -> NodeNo
+        requires there { IsSome (child self.old dir name.now) }
+        ensures node { child self.old dir name.now ≡ Some result }
+        ensures change { seen self.new ≡ record (seen self.old) { graph = unlinked_in dir name.now (graph_of self.old) } }
+    {
         let node = find_in(&self.places, dir, name).unwrap();
         relink(&mut self.places[node], None);
         NodeNo::new(node)
@@ -208,6 +217,20 @@ impl Store {
             name: new_name.copy(),
         };
         relink(&mut self.places[node], Some(link));
+    }
+
+    /// Two entries change what they name, with all below. Neither node is reached from the other.
+    pub fn swap_entries(&mut self, dir: NodeNo, name: &Name, other: NodeNo, other_name: &Name)
+        requires there { IsSome (child self.old dir name.now) }
+        requires there_too { IsSome (child self.old other other_name.now) }
+        requires apart { (n m : ℕ) → child self.old dir name.now ≡ Some n → child self.old other other_name.now ≡ Some m → (IsReached (child self.old) n m → ⊥) × (IsReached (child self.old) m n → ⊥) }
+        ensures { (n m : ℕ) → child self.old dir name.now ≡ Some n → child self.old other other_name.now ≡ Some m → seen self.new ≡ record (seen self.old) { graph = swapped_in dir name.now n other other_name.now m (graph_of self.old) } }
+    {
+        let _ = &self.places;
+        let node = self.detach(dir, name);
+        let other_node = self.detach(other, other_name);
+        self.link(dir, name, other_node);
+        self.link(other, other_name, node);
     }
 
     /// A file gets these bytes, and its old ones are handed out.

@@ -68,7 +68,7 @@ took_order graph op n st new neat vic on t = go t
     go (Walk x l a b child is) = by (walked_on op st x n) (holdings_at n (Some st.node)) is refl (λ m e. refl)
     go (There (Entry c p rem way child off) b is) = by (with_holdings op (victim_took st n)) (victim_took st n) is refl (λ m e. none_some st.behind m b e)
     go (There (Replaced p q rem way there at_left want child off) b is) = by (with_holdings op (victim_took st n)) (victim_took st n) is refl (λ m e. none_some st.behind m b e)
-    go (There (Of_head side p q x l rem way turn at_left child) b is) = by (with_holdings op (stepped side st x n)) (stepped side st x n) is refl (λ m e. no_victim graph op n st neat vic t)
+    go (There (Of_head side c p q x l rem way turn at_left child) b is) = by (with_holdings op (stepped side st x n)) (stepped side st x n) is refl (λ m e. no_victim graph op n st neat vic t)
 
 -- ---- states
 
@@ -107,7 +107,7 @@ ordered_step s new seat (Busy n d) run (c, op, moves, held, same) k = subst Orde
 ordered_step s new seat (Took n) run (c, op, moves, free, same) k = ordered_by s new c (took op n) (ap (λ (x : State). x.ops) same) (λ st on u. taken s run c op n moves.1 moves.2 st on) k
 ordered_step s new seat (LetGo n) run (c, op, moves, same) k = ordered_by s new c (let_go op n) (ap (λ (x : State). x.ops) same) (λ st on u. let_gone s c op n moves.1 k st on u) k
 ordered_step s new seat (Helped d) run (c, op, t, moves, w, pick, q, is, same) k =
-    ordered_by s new d (record q { phase = Placed (commit_count s.timeline) }) (ap (λ (x : State). x.ops) same) (λ st on u. k d q st is on (walks q (ap (λ (o : Record). o.phase) (same_op q pick.0.0.0 (sym is ∙ pick.0.0.1)) ∙ pick.0.0.2))) k
+    ordered_by s new d (record q { phase = Placed (commit_count s.timeline) }) (ap (λ (x : State). x.ops) same) (λ st on u. k d q st is on (walks q (ap (λ (o : Record). o.phase) (same_op q pick.0.0.2.0 (sym is ∙ pick.0.0.2.1)) ∙ pick.0.0.2.2))) k
   where
     same_op : (a b : Record) → ◌≡◌ {A = Option Record} (Some a) (Some b) → a ≡ b
     same_op a b e = cc

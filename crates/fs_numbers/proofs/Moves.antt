@@ -7,17 +7,20 @@ use Rattle.fs_names.specs.Parts.{left}
 use Rattle.fs_names.specs.Shapes.{Shape, Dir, File, is_full}
 use Rattle.fs_calls.specs.Forms.{form, Form, AtNode, AtEntry, AtPair, by_text}
 use Rattle.fs_calls.specs.declared.target.EntryCall.{EntryCall}
+use Rattle.fs_calls.specs.declared.target.PairCall.{PairCall}
 use Rattle.fs_calls.specs.declared.target.PairCall.TheVariants as pairs
 use Rattle.fs_calls.specs.Rows.{rename_row}
 use Rattle.fs_calls.specs.declared.errno.Errno.{Errno}
 use Rattle.fs_calls.specs.declared.reply.Reply.{Reply}
 use Rattle.fs_nodes.specs.Graphs.{Graph, entry_shape}
 use Rattle.fs_machine.specs.Leaving.{is_removed, cleared, releasing, let_go, unreserved}
-use Rattle.fs_machine.specs.Moves.{first_of, target, walk_move, victim_of, take_if, entry_move, there_by, same_kind, dir_error, rename_at, moved_node, rename_move, dir_then, fork_move, target_move, first_walked, last_held, next_by, next, head_took, victim_took, step_or, target_took, took_by, took, left_heads, left_last, left_holdings, behind_first, step_move, next_on}
+use Rattle.fs_machine.specs.Moves.{first_of, target, walk_move, victim_of, take_if, entry_move, there_by, same_kind, dir_error, rename_at, moved_node, rename_move, parents_move, dir_then, fork_move, target_move, first_walked, last_held, next_by, next, head_took, victim_took, step_or, target_took, took_by, took, left_heads, left_last, left_holdings, behind_first, step_move, next_on}
 use Rattle.fs_machine.specs.declared.moves.Move.{Move}
 use Rattle.fs_machine.specs.declared.moves.Move.TheVariants.{Take as Takes, LetGo as Leaves, Finish as Finishes}
+use Rattle.fs_machine.specs.declared.moves.Moved.{Moved}
+use Rattle.fs_machine.specs.declared.moves.Moved.TheVariants.{Nothing}
 use Rattle.fs_machine.specs.Records.{Holdings, Phase, Walking, Placed, Finished, Record, Side, Source, Dest, held_on}
-use Rattle.fs_numbers.specs.Renamings.{Renaming, renamed_number, renamed_children, renamed_graph, renamed_head, renamed_holdings, renamed_record, renamed_move}
+use Rattle.fs_numbers.specs.Renamings.{Renaming, renamed_number, renamed_children, renamed_graph, renamed_head, renamed_holdings, renamed_record, renamed_moved, renamed_move}
 use Rattle.fs_numbers.proofs.Edits.{eqb_old, old_at, child_at, entry_at, released_renamed}
 
 -- ---- the next move
@@ -59,8 +62,8 @@ take_renamed r true (Some n) (Some v) m = refl
 
 in_renamed : (r : Renaming) (graph : Graph) (c : EntryCall) (x : Name) (st : Holdings) → entry_move (renamed_graph r graph) c x (renamed_holdings r st) ≡ renamed_move r (entry_move graph c x st)
 in_renamed r graph c x st =
-    ap₂ (λ (s : Option Shape) (k : Option ℕ). take_if (victim_of c s) k (renamed_number r st.victim) (Finishes None)) (entry_at r graph st.node x) (child_at r graph.child st.node x)
-    ∙ take_renamed r (victim_of c (entry_shape graph st.node x)) (graph.child st.node x) st.victim (Finishes None)
+    ap₂ (λ (s : Option Shape) (k : Option ℕ). take_if (victim_of c s) k (renamed_number r st.victim) (Finishes Nothing)) (entry_at r graph st.node x) (child_at r graph.child st.node x)
+    ∙ take_renamed r (victim_of c (entry_shape graph st.node x)) (graph.child st.node x) st.victim (Finishes Nothing)
 
 -- what a rename reads has no numbers
 row_by : Key → Key → Holdings → Option Shape → Option Shape → Option Shape → Option Shape → Reply × Bool
@@ -74,8 +77,9 @@ row_renamed r graph p q st =
     ap₂ (λ (a b : Option Shape). row_by p q st a b (entry_shape (renamed_graph r graph) (r.to st.source.node) (last_of p)) (entry_shape (renamed_graph r graph) (r.to st.dest.node) (last_of q))) (old_at r graph.shape st.source.node) (old_at r graph.shape st.dest.node)
     ∙ ap₂ (λ (a b : Option Shape). row_by p q st (graph.shape st.source.node) (graph.shape st.dest.node) a b) (entry_at r graph st.source.node (last_of p)) (entry_at r graph st.dest.node (last_of q))
 
-moved_node_renamed : (r : Renaming) (really : Bool) (s : Option ℕ) → moved_node really (renamed_number r s) ≡ renamed_number r (moved_node really s)
-moved_node_renamed r true s = refl
+moved_node_renamed : (r : Renaming) (really : Bool) (s : Option ℕ) → moved_node really (renamed_number r s) ≡ renamed_moved r (moved_node really s)
+moved_node_renamed r true None = refl
+moved_node_renamed r true (Some n) = refl
 moved_node_renamed r false s = refl
 
 rename_renamed : (r : Renaming) (graph : Graph) (p q : Key) (st : Holdings) → rename_move (renamed_graph r graph) p q (renamed_holdings r st) ≡ renamed_move r (rename_move graph p q st)
@@ -83,20 +87,23 @@ rename_renamed r graph p q st =
     ap₂ (λ (b : Bool) (k : Option ℕ). take_if b k (renamed_number r st.victim) (Finishes (moved_node (rename_at (renamed_graph r graph) p q (renamed_holdings r st)).1 (renamed_children r graph.child (r.to st.source.node) (last_of p)))))
     (ap₂ (λ (a b : Option Shape). same_kind a b && not (is_end (after_prefix p q)) && not (has_more (after_prefix q p))) (entry_at r graph st.source.node (last_of p)) (entry_at r graph st.dest.node (last_of q)))
     (child_at r graph.child st.dest.node (last_of q))
-    ∙ ap (λ (o : Option ℕ). take_if (same_kind (entry_shape graph st.source.node (last_of p)) (entry_shape graph st.dest.node (last_of q)) && not (is_end (after_prefix p q)) && not (has_more (after_prefix q p))) (renamed_number r (graph.child st.dest.node (last_of q))) (renamed_number r st.victim) (Finishes o))
+    ∙ ap (λ (o : Moved). take_if (same_kind (entry_shape graph st.source.node (last_of p)) (entry_shape graph st.dest.node (last_of q)) && not (is_end (after_prefix p q)) && not (has_more (after_prefix q p))) (renamed_number r (graph.child st.dest.node (last_of q))) (renamed_number r st.victim) (Finishes o))
     (ap₂ moved_node (ap (λ (row : Reply × Bool). row.1) (row_renamed r graph p q st)) (child_at r graph.child st.source.node (last_of p)) ∙ moved_node_renamed r (rename_at graph p q st).1 (graph.child st.source.node (last_of p)))
     ∙ take_renamed r (same_kind (entry_shape graph st.source.node (last_of p)) (entry_shape graph st.dest.node (last_of q)) && not (is_end (after_prefix p q)) && not (has_more (after_prefix q p))) (graph.child st.dest.node (last_of q)) st.victim (Finishes (moved_node (rename_at graph p q st).1 (graph.child st.source.node (last_of p))))
 
-fork_renamed : (r : Renaming) (graph : Graph) (p q : Key) (st : Holdings) → fork_move (renamed_graph r graph) p q (renamed_holdings r st) ≡ renamed_move r (fork_move graph p q st)
-fork_renamed r graph p q st =
+parents_renamed : (r : Renaming) (graph : Graph) (c : PairCall) (p q : Key) (st : Holdings) → parents_move (renamed_graph r graph) c p q (renamed_holdings r st) ≡ renamed_move r (parents_move graph c p q st)
+parents_renamed r graph pairs.Rename p q st = rename_renamed r graph p q st
+
+fork_renamed : (r : Renaming) (graph : Graph) (c : PairCall) (p q : Key) (st : Holdings) → fork_move (renamed_graph r graph) c p q (renamed_holdings r st) ≡ renamed_move r (fork_move graph c p q st)
+fork_renamed r graph c p q st =
     dir_here r graph st.node _ _ (step_then r graph st.source.node (left st.source.walked (parent_of p)) _ _
     (dir_here r graph st.source.node _ _ (step_then r graph st.dest.node (left st.dest.walked (parent_of q)) _ _
-    (dir_here r graph st.dest.node (rename_move graph p q st) (rename_move (renamed_graph r graph) p q (renamed_holdings r st)) (rename_renamed r graph p q st)))))
+    (dir_here r graph st.dest.node (parents_move graph c p q st) (parents_move (renamed_graph r graph) c p q (renamed_holdings r st)) (parents_renamed r graph c p q st)))))
 
 target_renamed : (r : Renaming) (graph : Graph) (remaining : Form) (st : Holdings) → target_move (renamed_graph r graph) remaining (renamed_holdings r st) ≡ renamed_move r (target_move graph remaining st)
 target_renamed r graph (AtNode c p) st = refl
 target_renamed r graph (AtEntry c p) st = in_renamed r graph c (last_of p) st
-target_renamed r graph (AtPair pairs.Rename p q) st = fork_renamed r graph p q st
+target_renamed r graph (AtPair c p q) st = fork_renamed r graph c p q st
 
 on_renamed : (r : Renaming) (graph : Graph) (remaining : Form) (st : Holdings) → next_on (renamed_graph r graph) remaining (renamed_holdings r st) ≡ renamed_move r (next_on graph remaining st)
 on_renamed r graph remaining st = behind_then r st.behind _ _ (step_then r graph st.node (target remaining) _ _ (target_renamed r graph remaining st))
@@ -139,7 +146,7 @@ step_or_renamed Dest r (x ∷ l) st n other new e = ap (λ (b : Option ℕ). rec
 target_took_renamed : (r : Renaming) (remaining : Form) (st : Holdings) (n : ℕ) → target_took remaining (renamed_holdings r st) (r.to n) ≡ renamed_holdings r (target_took remaining st n)
 target_took_renamed r (AtNode c p) st n = refl
 target_took_renamed r (AtEntry c p) st n = refl
-target_took_renamed r (AtPair pairs.Rename p q) st n =
+target_took_renamed r (AtPair c p q) st n =
     step_or_renamed Source r (left st.source.walked (parent_of p)) st n _ _ (step_or_renamed Dest r (left st.dest.walked (parent_of q)) st n (victim_took st n) _ refl)
 
 took_by_renamed : (r : Renaming) (op : Record) (holdings : Option Holdings) (l : Key) (n : ℕ) → took_by (renamed_record r op) (option_map (renamed_holdings r) holdings) l (r.to n) ≡ renamed_record r (took_by op holdings l n)

@@ -16,6 +16,7 @@ use Rattle.fs_machine.specs.Finishes.{Effect, no_effect, node_effect, entry_effe
 use Rattle.fs_machine.specs.Moves.{next_on, entry_move, first_of, step_move, fork_move, path_error, dir_error, rename_at}
 use Rattle.fs_machine.specs.declared.moves.Move.TheVariants.{Finish as Finishes}
 use Rattle.fs_machine.specs.Records.{Holdings}
+use Rattle.fs_machine.specs.declared.moves.Moved.{Moved}
 use Rattle.fs_laws.specs.Invariants.{ForkedAt, HeadsSound, VictimAt, NumberFor, HasNumber}
 use Rattle.fs_laws.specs.CallFacts.{Located}
 use Rattle.fs_laws.proofs.trees.Prefixes.{prefix_append, prefix_some}
@@ -78,7 +79,7 @@ unlinked_reached graph is k dir x v can n (l, e) = go (after_prefix (k ++ x ∷ 
         inr (sym (at_child graph.child 0 dir k x can.dir_at) ∙ ap (numbers graph) (sym j) ∙ e)
 
 -- a call on an entry
-stays_in : (graph : Graph) → IsGraph graph → (k : Key) (st : Holdings) (o : Option ℕ) (e : EntryCall) (p : Key) (number : Option ℕ) (ed : Option Errno) (full : Bool) → numbers graph k ≡ Some st.node → HasNumber graph e number → VictimAt graph (AtEntry e p) st
+stays_in : (graph : Graph) → IsGraph graph → (k : Key) (st : Holdings) (o : Moved) (e : EntryCall) (p : Key) (number : Option ℕ) (ed : Option Errno) (full : Bool) → numbers graph k ≡ Some st.node → HasNumber graph e number → VictimAt graph (AtEntry e p) st
     → (ed ≡ None → entry_move graph e (last_of p) st ≡ Finishes o)
     → (row : Reply × Edit) → entry_row e ed full (entry_shape graph st.node (last_of p)) ≡ row → Stays graph st number (entry_effect graph st.node (last_of p) number row)
 stays_in graph is k st o e p number ed full here has vic done (r, Keep) i = stays_same graph st number r
@@ -150,13 +151,13 @@ stays_moved : (graph : Graph) → IsGraph graph → (k : Key) (st : Holdings) (p
 stays_moved graph is k st p q number r loc fits real = subst (λ (n : Option ℕ). Stays graph st number (move_effect graph st (last_of p) (last_of q) number r true n)) (sym real.moved.1)
     (record { reached = λ n reached. moved_reached graph is (k ++ st.source.walked) st.source.node (last_of p) (k ++ st.dest.walked) st (last_of q) real.moved.0 (can_move graph k p q st loc fits real) real.replaces n reached; reserved = λ n f. inl f; victim = λ n f. f })
 
-stays_rename : (graph : Graph) → IsGraph graph → (k : Key) (st : Holdings) (o : Option ℕ) (p q : Key) (number : Option ℕ) → Located (numbers graph) k st → Fits (AtPair pairs.Rename p q) → VictimAt graph (AtPair pairs.Rename p q) st
-    → (l : Key) → ForkedAt graph st.node p q st l → first_of (step_move graph st.node l) (fork_move graph p q st) ≡ Finishes o → Stays graph st number (rename_effect graph p q st number l)
+stays_rename : (graph : Graph) → IsGraph graph → (k : Key) (st : Holdings) (o : Moved) (p q : Key) (number : Option ℕ) → Located (numbers graph) k st → Fits (AtPair pairs.Rename p q) → VictimAt graph (AtPair pairs.Rename p q) st
+    → (l : Key) → ForkedAt graph st.node p q st l → first_of (step_move graph st.node l) (fork_move graph pairs.Rename p q st) ≡ Finishes o → Stays graph st number (rename_effect graph p q st number l)
 stays_rename graph is k st o p q number loc fits vic (x ∷ l) w m = stays_same graph st number _
 stays_rename graph is k st o p q number loc fits vic [] w m = by (rename_at graph p q st).1 refl
   where
-    fork : fork_move graph p q st ≡ Finishes o
-    fork = (step_stops graph st.node [] (fork_move graph p q st) o m).1 refl
+    fork : fork_move graph pairs.Rename p q st ≡ Finishes o
+    fork = (step_stops graph st.node [] (fork_move graph pairs.Rename p q st) o m).1 refl
 
     by : (b : Bool) → (rename_at graph p q st).1 ≡ b → Stays graph st number (move_effect graph st (last_of p) (last_of q) number (rename_at graph p q st).0 (rename_at graph p q st).1 (graph.child st.source.node (last_of p)))
     by false j = subst (λ (b : Bool). Stays graph st number (move_effect graph st (last_of p) (last_of q) number (rename_at graph p q st).0 b (graph.child st.source.node (last_of p)))) (sym j) (stays_same graph st number (rename_at graph p q st).0)
@@ -165,7 +166,7 @@ stays_rename graph is k st o p q number loc fits vic [] w m = by (rename_at grap
         (stays_moved graph is k st p q number (rename_at graph p q st).0 loc fits (real_of graph is p q st o fits w vic fork j))
 
 -- each form of call
-pub stays : (graph : Graph) → IsGraph graph → (k : Key) (st : Holdings) (o : Option ℕ) (number : Option ℕ) (remaining : Form) → Located (numbers graph) k st → Fits remaining → HeadsSound graph st.node remaining st → VictimAt graph remaining st → NumberFor graph remaining number
+pub stays : (graph : Graph) → IsGraph graph → (k : Key) (st : Holdings) (o : Moved) (number : Option ℕ) (remaining : Form) → Located (numbers graph) k st → Fits remaining → HeadsSound graph st.node remaining st → VictimAt graph remaining st → NumberFor graph remaining number
     → next_on graph remaining st ≡ Finishes o → Stays graph st number (effect_at graph remaining st number)
 stays graph is k st o number (AtNode c p) loc fits well vic has m = stays_on graph st number (node_row c (path_error p (graph.shape st.node)) (graph.shape st.node))
 stays graph is k st o number (AtEntry c p) loc fits well vic has m =

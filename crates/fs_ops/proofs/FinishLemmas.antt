@@ -9,6 +9,7 @@ use Rattle.fs_names.specs.Shapes.{Shape, Dir, File, is_dir, is_there, has_entrie
 use Rattle.fs_nodes.specs.Graphs.{Graph, then_at, entry_shape}
 use Rattle.fs_nodes.specs.Seen.{Seen, IsReal}
 use Rattle.fs_calls.specs.Forms.{Form, AtNode, AtEntry, AtPair, by_text, form, new_shape}
+use Rattle.fs_calls.specs.declared.target.PairCall.{PairCall}
 use Rattle.fs_calls.specs.declared.target.PairCall.TheVariants as pairs
 use Rattle.fs_calls.specs.declared.target.EntryCall.{EntryCall}
 use Rattle.fs_calls.specs.declared.target.EntryCall.TheVariants as entries
@@ -76,14 +77,14 @@ carried_at graph (AtPair pairs.Rename p q) st reserved = by (target (AtPair pair
     by [] = rename_carried graph p q st (is_some (graph.child st.dest.node (last_of q))) reserved _ (is_end (after_prefix p q)) (graph.child st.source.node (last_of p))
 
 -- and by the whole call, whose last names are the same
-names_carried : (graph : Graph) (p q x y : Key) (route : Route) (reserved : Option ℕ) → last_of p ≡ last_of x → last_of q ≡ last_of y → (plan : Plan) → carried graph (AtPair pairs.Rename p q) route reserved plan ≡ carried graph (AtPair pairs.Rename x y) route reserved plan
-names_carried graph p q x y route reserved e f (Fails errno) = refl
-names_carried graph p q x y route reserved e f Stays = refl
-names_carried graph p q x y route reserved e f (Answers n) = refl
-names_carried graph p q x y route reserved e f (Adds dir) = ap (λ (z : Name). added graph dir z reserved) e
-names_carried graph p q x y route reserved e f (Removes dir) = ap (λ (z : Name). removed graph dir z reserved) e
-names_carried graph p q x y route reserved e f (Moves n) = ap₂ (λ (z w : Name). moved graph (along route n false) z w reserved) e f
-names_carried graph p q x y route reserved e f (Replaces n) = ap₂ (λ (z w : Name). moved graph (along route n true) z w reserved) e f
+names_carried : (graph : Graph) (c : PairCall) (p q x y : Key) (route : Route) (reserved : Option ℕ) → last_of p ≡ last_of x → last_of q ≡ last_of y → (plan : Plan) → carried graph (AtPair c p q) route reserved plan ≡ carried graph (AtPair c x y) route reserved plan
+names_carried graph c p q x y route reserved e f (Fails errno) = refl
+names_carried graph c p q x y route reserved e f Stays = refl
+names_carried graph c p q x y route reserved e f (Answers n) = refl
+names_carried graph c p q x y route reserved e f (Adds dir) = ap (λ (z : Name). added graph dir z reserved) e
+names_carried graph c p q x y route reserved e f (Removes dir) = ap (λ (z : Name). removed graph dir z reserved) e
+names_carried graph c p q x y route reserved e f (Moves n) = ap₂ (λ (z w : Name). moved graph (along route n false) z w reserved) e f
+names_carried graph c p q x y route reserved e f (Replaces n) = ap₂ (λ (z w : Name). moved graph (along route n true) z w reserved) e f
 
 name_carried : (graph : Graph) (c : EntryCall) (p x : Key) (route : Route) (reserved : Option ℕ) → last_of p ≡ last_of x → (plan : Plan) → carried graph (AtEntry c p) route reserved plan ≡ carried graph (AtEntry c x) route reserved plan
 name_carried graph c p x route reserved e (Fails errno) = refl
@@ -101,9 +102,9 @@ carried_whole graph (AtNode c p) k st route reserved h = by (path_error (drop k 
     by None = refl
     by (Some e) = refl
 carried_whole graph (AtEntry c p) k st route reserved h = name_carried graph c p (drop k p) route reserved (sym (last_drop k p h)) (plan_at graph (AtEntry c (drop k p)) st)
-carried_whole graph (AtPair pairs.Rename p q) k st route reserved h =
+carried_whole graph (AtPair c p q) k st route reserved h =
     let s = common_short (parent_of p) (parent_of q) in
-    names_carried graph p q (drop k p) (drop k q) route reserved (sym (last_drop k p (omega arith))) (sym (last_drop k q (omega arith))) (plan_at graph (AtPair pairs.Rename (drop k p) (drop k q)) st)
+    names_carried graph c p q (drop k p) (drop k q) route reserved (sym (last_drop k p (omega arith))) (sym (last_drop k q (omega arith))) (plan_at graph (AtPair c (drop k p) (drop k q)) st)
 
 -- a finish by the paths, by what is left of the call and where it stands
 abbrev finished_by : Graph → Option Errno → Form → Option Holdings → Option ℕ → Effect
@@ -326,7 +327,7 @@ arrived_can store (AtEntry c p) way n behind fork victim reserved text node name
     (entry_can store p n (route_by (Some n) fork victim) reserved (entry_named c p text) can.spare (λ e. can.other _ refl (e ∙ ap (λ (m : ℕ). Some m) (sym at))) c (entry_fault c (as_dir None (store.graph.shape n)) (is_full (store.graph.shape n)) (entry_shape store.graph n (last_of p))) refl)
 arrived_can store (AtPair pairs.Rename p q) way n behind fork victim reserved text node names arrived forks can =
     let heads : ForkWay = started fork n way.names in
-    let forked : IsForked p q way heads = started_forked p q way fork n node arrived names forks in
+    let forked : IsForked p q way heads = started_forked pairs.Rename p q way fork n node arrived names forks in
     let short : heads.names ≤ length (common (parent_of p) (parent_of q)) = omega (arith, forked.names) in
     let same = started_holdings (AtPair pairs.Rename p q) n way.names behind fork victim in
     let apart : HeadsApart (AtPair pairs.Rename (drop way.walked p) (drop way.walked q)) (holdings_with (AtPair pairs.Rename p q) n behind (Some heads) victim) = subst (λ (z : Holdings). HeadsApart (AtPair pairs.Rename (drop way.walked p) (drop way.walked q)) z) same (can.heads _ refl) in

@@ -20,6 +20,7 @@ use Rattle.fs_walk.specs.Wants.{at_dir, dir_want, then_want, step_want, heads_wa
 use Rattle.fs_machine.specs.Moves.{dir_error, rename_move, fork_move, first_of, step_move, behind_first, dir_then, same_kind, there_by, moved_node, take_if}
 use Rattle.fs_machine.specs.declared.moves.Move.TheVariants.{Finish as Finishes}
 use Rattle.fs_machine.specs.declared.moves.Move.{Move}
+use Rattle.fs_machine.specs.declared.moves.Moved.{Moved}
 use Rattle.fs_machine.specs.Records.{Holdings}
 use Rattle.fs_ops.specs.code.NextByNodes.{to_take, take_or, between_next, heads_next}
 use Rattle.fs_ops.specs.PlanOf.{move_of}
@@ -69,7 +70,7 @@ move_between graph source x dest y same_path above one_parent victim =
     let wanted : Bool = same_kind (entry_shape graph source x) (entry_shape graph dest y) && not same_path && not above in
     let fault : Option Errno = rename_fault None None (entry_shape graph source x) same_path (there_by above (entry_shape graph dest y)) (one_parent || not (is_full (graph.shape dest))) in
     move_take wanted (graph.child dest y) victim _
-    ∙ ap (λ (m : Option ℕ). take_if wanted (graph.child dest y) victim (Finishes m)) (moved_rename fault same_path (is_some (graph.child dest y)) (graph.child source x))
+    ∙ ap (λ (m : Moved). take_if wanted (graph.child dest y) victim (Finishes m)) (moved_rename fault same_path (is_some (graph.child dest y)) (graph.child source x))
 
 -- with both parents held
 between_is : (graph : Graph) (p q : Key) (fork : ForkWay) (m : ℕ) (behind victim : Option ℕ) → fork.names + fork.source.walked ≤ length (parent_of p) → fork.names + fork.dest.walked ≤ length (parent_of q) → fork.names ≤ length (common (parent_of p) (parent_of q))
@@ -104,7 +105,7 @@ fork_tie graph p q fork m hs hd =
 
 -- a rename at its common directory does what its heads want, and then what it does between both parents
 rename_from : (graph : Graph) (p q : Key) (way : Way) (behind : Option ℕ) (f : ForkWay) (victim : Option ℕ) (n : ℕ) → IsForked p q way f → way.node ≡ Some n → way.names ≡ length (common (parent_of p) (parent_of q))
-    → move_of (heads_next graph p q f victim) ≡ behind_first f.behind (fork_move graph (drop way.walked p) (drop way.walked q) (holdings_with (AtPair pairs.Rename p q) n behind (Some f) victim))
+    → move_of (heads_next graph p q f victim) ≡ behind_first f.behind (fork_move graph pairs.Rename (drop way.walked p) (drop way.walked q) (holdings_with (AtPair pairs.Rename p q) n behind (Some f) victim))
 rename_from graph p q way behind f victim n h at names =
     let short : f.names ≤ length (common (parent_of p) (parent_of q)) = (let a = h.names in let b = h.arrived in omega arith) in
     let same : f.node ≡ n = (let i : way.node ≡ Some f.node = h.node in cc) in
@@ -117,10 +118,10 @@ rename_from graph p q way behind f victim n h at names =
     (dir_then (graph.shape f.source.node)
     (first_of (step_move graph f.dest.node (left (head_of q f.names f.dest).walked (parent_of (drop f.names q))))
     (dir_then (graph.shape f.dest.node) (rename_move graph (drop f.names p) (drop f.names q) (holdings_with (AtPair pairs.Rename p q) n behind (Some f) victim)))))))) same
-    ∙ ap (λ (k : ℕ). behind_first f.behind (fork_move graph (drop k p) (drop k q) (holdings_with (AtPair pairs.Rename p q) n behind (Some f) victim))) h.names
+    ∙ ap (λ (k : ℕ). behind_first f.behind (fork_move graph pairs.Rename (drop k p) (drop k q) (holdings_with (AtPair pairs.Rename p q) n behind (Some f) victim))) h.names
 
 pub rename_is : (graph : Graph) (p q : Key) (way : Way) (behind : Option ℕ) (fork : Option ForkWay) (victim : Option ℕ) (n : ℕ) → way.node ≡ Some n → way.walked ≡ way.names → way.names ≡ length (common (parent_of p) (parent_of q)) → Forks (AtPair pairs.Rename p q) way fork
-    → move_of (heads_next graph p q (started fork n way.names) victim) ≡ behind_first (started fork n way.names).behind (fork_move graph (drop way.walked p) (drop way.walked q) (holdings_with (AtPair pairs.Rename p q) n behind fork victim))
+    → move_of (heads_next graph p q (started fork n way.names) victim) ≡ behind_first (started fork n way.names).behind (fork_move graph pairs.Rename (drop way.walked p) (drop way.walked q) (holdings_with (AtPair pairs.Rename p q) n behind fork victim))
 rename_is graph p q way behind fork victim n at all names forks =
-    rename_from graph p q way behind (started fork n way.names) victim n (started_forked p q way fork n at all names forks) at names
-    ∙ ap (λ (st : Holdings). behind_first (started fork n way.names).behind (fork_move graph (drop way.walked p) (drop way.walked q) st)) (sym (started_holdings (AtPair pairs.Rename p q) n way.names behind fork victim))
+    rename_from graph p q way behind (started fork n way.names) victim n (started_forked pairs.Rename p q way fork n at all names forks) at names
+    ∙ ap (λ (st : Holdings). behind_first (started fork n way.names).behind (fork_move graph pairs.Rename (drop way.walked p) (drop way.walked q) st)) (sym (started_holdings (AtPair pairs.Rename p q) n way.names behind fork victim))

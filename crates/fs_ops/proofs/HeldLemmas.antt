@@ -8,7 +8,6 @@ use Rattle.fs_names.specs.Keys.{Key, parent_of}
 use Rattle.fs_names.specs.Names.{Name}
 use Rattle.fs_names.proofs.ParentLemmas.{parent_length}
 use Rattle.fs_calls.specs.Forms.{form, Form, AtNode, AtEntry, AtPair, by_text}
-use Rattle.fs_calls.specs.declared.target.PairCall.TheVariants as pairs
 use Rattle.fs_calls.specs.declared.call.Call.{Call}
 use Rattle.fs_calls.specs.declared.reply.Reply.{Reply}
 use Rattle.fs_nodes.specs.Graphs.{Graph}
@@ -157,7 +156,7 @@ all_held_is call stand h = by stand.walk.node
     heads call None h n = refl
     heads (AtNode c p) (Some f) h n = absurd h
     heads (AtEntry c p) (Some f) h n = absurd h
-    heads (AtPair pairs.Rename p q) (Some f) h n =
+    heads (AtPair c p q) (Some f) h n =
         let s : head_held f.source ≡ held_on (head_of p f.names f.source).walked f.source.node = head_held_is p f.names f.source h.source in
         let d : head_held f.dest ≡ held_on (head_of q f.names f.dest).walked f.dest.node = head_held_is q f.names f.dest h.dest in
         ap₂ (λ (a b : Option ℕ). n ∷ option_to_list a ++ option_to_list b ++ option_to_list stand.victim) s d

@@ -5,7 +5,6 @@ use Rattle.fs_names.specs.Keys.{Key, after_prefix, parent_of, last_of}
 use Rattle.fs_names.specs.Parts.{common, left}
 use Rattle.fs_names.proofs.Lemmas.{same_name_refl, same_name_exact}
 use Rattle.fs_calls.specs.Forms.{Form, AtNode, AtEntry, AtPair}
-use Rattle.fs_calls.specs.declared.target.PairCall.TheVariants as pairs
 use Rattle.fs_machine.specs.Moves.{target, tail_of}
 use Rattle.fs_finish.specs.Paths.{first_path}
 use Rattle.fs_ops.specs.OpValue.{dropped}
@@ -51,7 +50,7 @@ common_drop (suc k) (x ∷ a) (y ∷ b) h = go (same_name x y) h (common_drop k 
 pub target_drop : (k : ℕ) (call : Form) → k ≤ length (target call) → target (dropped k call) ≡ drop k (target call)
 target_drop k (AtNode c p) h = refl
 target_drop k (AtEntry c p) h = parent_drop k p
-target_drop k (AtPair pairs.Rename p q) h = rw (parent_drop k p, parent_drop k q) (common_drop k (parent_of p) (parent_of q) h)
+target_drop k (AtPair c p q) h = rw (parent_drop k p, parent_drop k q) (common_drop k (parent_of p) (parent_of q) h)
 
 take_all : (p : Key) → take (length p) p ≡ p
 take_all [] = refl
@@ -77,7 +76,7 @@ take_common (x ∷ y ∷ p) (z ∷ b) = go (same_name x z) (take_common (y ∷ p
 pub target_take : (call : Form) → take (length (target call)) (first_path call) ≡ target call
 target_take (AtNode c p) = take_all p
 target_take (AtEntry c p) = take_parent p
-target_take (AtPair pairs.Rename p q) = take_common p (parent_of q)
+target_take (AtPair c p q) = take_common p (parent_of q)
 
 -- a name of the target is one of the first path
 pub take_get : (n k : ℕ) (l : Key) → k < n → slice_get (take n l) k ≡ slice_get l k

@@ -18,6 +18,8 @@ use Rattle.fs_finish.specs.Plans.{entry_plan, moved_by}
 use Rattle.fs_machine.specs.Moves.{take_if, victim_of, target, target_move, first_of, step_move, behind_first, next_on, next_by}
 use Rattle.fs_machine.specs.declared.moves.Move.{Move}
 use Rattle.fs_machine.specs.declared.moves.Move.TheVariants.{Finish as Finishes}
+use Rattle.fs_machine.specs.declared.moves.Moved.{Moved}
+use Rattle.fs_machine.specs.declared.moves.Moved.TheVariants.{Nothing}
 use Rattle.fs_ops.specs.code.NextByNodes.{entry_next, target_next, way_next, way_next_at}
 use Rattle.fs_ops.specs.PlanOf.{move_of}
 use Rattle.fs_machine.specs.Records.{Walking}
@@ -38,7 +40,7 @@ holdings_victim call n behind None victim = refl
 holdings_victim call n behind (Some f) victim = refl
 
 -- a call at its target
-moved_entry : (fault : Option Errno) (new : Option Shape) (n : ℕ) → moved_by (entry_plan fault new n) ≡ None
+moved_entry : (fault : Option Errno) (new : Option Shape) (n : ℕ) → moved_by (entry_plan fault new n) ≡ Nothing
 moved_entry (Some e) new n = refl
 moved_entry None None n = refl
 moved_entry None (Some s) n = refl
@@ -47,7 +49,7 @@ entry_is : (graph : Graph) (c : EntryCall) (p : Key) (way : Way) (behind : Optio
     → move_of (entry_next graph n c (last_of p) victim) ≡ target_move graph (dropped way.walked (AtEntry c p)) (holdings_with (AtEntry c p) n behind fork victim)
 entry_is graph c p way behind fork victim n names all =
     move_take (victim_of c (entry_shape graph n (last_of p))) (graph.child n (last_of p)) victim _
-    ∙ ap (λ (m : Option ℕ). take_if (victim_of c (entry_shape graph n (last_of p))) (graph.child n (last_of p)) victim (Finishes m)) (moved_entry (entry_fault c (as_dir None (graph.shape n)) (is_full (graph.shape n)) (entry_shape graph n (last_of p))) (new_shape c) n)
+    ∙ ap (λ (m : Moved). take_if (victim_of c (entry_shape graph n (last_of p))) (graph.child n (last_of p)) victim (Finishes m)) (moved_entry (entry_fault c (as_dir None (graph.shape n)) (is_full (graph.shape n)) (entry_shape graph n (last_of p))) (new_shape c) n)
     ∙ rw (last_drop way.walked p (omega arith), holdings_node (AtEntry c p) n behind fork victim, holdings_victim (AtEntry c p) n behind fork victim) refl
 
 target_is : (graph : Graph) (call : Form) (way : Way) (behind : Option ℕ) (fork : Option ForkWay) (victim : Option ℕ) (n : ℕ) → way.node ≡ Some n → way.names ≡ length (target call) → way.walked ≡ way.names → Forks call way fork
@@ -68,7 +70,7 @@ none_past (x ∷ l) (suc k) e = let h : length l ≤ k = none_past l k e in omeg
 pub arrived_by : (call : Form) (way : Way) (f : ForkWay) → Forks call way (Some f) → way.walked ≡ way.names
 arrived_by (AtNode c p) way f forks = absurd forks
 arrived_by (AtEntry c p) way f forks = absurd forks
-arrived_by (AtPair pairs.Rename p q) way f forks = forks.arrived
+arrived_by (AtPair c p q) way f forks = forks.arrived
 
 -- where it has arrived, it has walked all its names
 pub has_walked : (graph : Graph) (call : Form) (way : Way) (n : ℕ) → way.node ≡ Some n → way.names ≡ length (target call) → way.walked ≤ way.names → want graph (first_path call) way ≡ Arrived → way.walked ≡ way.names

@@ -77,7 +77,7 @@ module _ (graph : Graph) (way : Way) (n : ℕ) (behind : Option ℕ) (fork : Opt
       → plan_at graph (dropped way.walked (AtPair pairs.Rename p q)) (holdings_with (AtPair pairs.Rename p q) n behind fork victim) ≡ heads_plan graph p q (started fork n way.names)
   pair_is p q node names forks =
       let heads : ForkWay = started fork n way.names in
-      let forked : IsForked p q way heads = started_forked p q way fork n node arrived names forks in
+      let forked : IsForked p q way heads = started_forked pairs.Rename p q way fork n node arrived names forks in
       let st : Holdings = holdings_with (AtPair pairs.Rename p q) n behind (Some heads) victim in
       let k : ℕ = heads.names in
       let none : target (dropped way.walked (AtPair pairs.Rename p q)) ≡ [] = target_drop way.walked (AtPair pairs.Rename p q) (omega arith) ∙ none_left way.walked (target (AtPair pairs.Rename p q)) (omega arith) in
@@ -205,7 +205,7 @@ target_found graph (AtEntry c p) way n behind fork victim node names arrived for
     if_take _ _ (λ plan. Unit {0} → plan ≡ plan_at graph (dropped way.walked (AtEntry c p)) (holdings_with (AtEntry c p) n behind fork victim)) (λ sets. sym (entry_is graph way n behind fork victim arrived c p names))
 target_found graph (AtPair pairs.Rename p q) way n behind fork victim node names arrived forks =
     let heads : ForkWay = started fork n way.names in
-    let forked : IsForked p q way heads = started_forked p q way fork n node arrived names forks in
+    let forked : IsForked p q way heads = started_forked pairs.Rename p q way fork n node arrived names forks in
     let st : Holdings = holdings_with (AtPair pairs.Rename p q) n behind (Some heads) victim in
     let same : n ≡ heads.node = (let i : way.node ≡ Some heads.node = forked.node in cc) in
     if_finish (heads_next graph p q heads victim) (λ plan. ((e : Errno) → as_dir None (graph.shape heads.node) ≡ Some e → head_error graph p heads.names heads.source ≡ Some e) → plan ≡ heads_plan graph p q heads) _

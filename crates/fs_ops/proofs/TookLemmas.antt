@@ -6,7 +6,7 @@ use Rattle.fs_names.specs.Keys.{Key, parent_of}
 use Rattle.fs_names.specs.Names.{Name, same_name}
 use Rattle.fs_names.specs.Parts.{common}
 use Rattle.fs_calls.specs.Forms.{form, Form, AtNode, AtEntry, AtPair}
-use Rattle.fs_calls.specs.declared.target.PairCall.TheVariants as pairs
+use Rattle.fs_calls.specs.declared.target.PairCall.{PairCall}
 use Rattle.fs_calls.specs.declared.call.Call.{Call}
 use Rattle.fs_walk.specs.declared.head.Head as count
 use Rattle.fs_walk.specs.declared.head.Side.{Side}
@@ -58,7 +58,7 @@ parent_some (y ∷ z ∷ p) (suc i) x e = parent_some (z ∷ p) i x e
 inner_dropped : (k : ℕ) (call : Form) → inner (dropped k call) ≡ dropped (k + 1) call
 inner_dropped k (AtNode c p) = ap (AtNode c) (tail_drop k p)
 inner_dropped k (AtEntry c p) = ap (AtEntry c) (tail_drop k p)
-inner_dropped k (AtPair pairs.Rename p q) = rw (tail_drop k p, tail_drop k q) refl
+inner_dropped k (AtPair c p q) = rw (tail_drop k p, tail_drop k q) refl
 
 -- the root is taken
 root_took : (call : Call) (stand : Stand) (reserved removed : Option ℕ) (outcome : Outcome) (n : ℕ) → stand.walk.node ≡ None → IsTook (op_value call stand reserved removed outcome) n (op_value call (walk_on stand n) reserved removed outcome)
@@ -105,29 +105,29 @@ head_stepped p names head n x e =
     let at : slice_get (drop names p) head.walked ≡ Some x = drop_get names head.walked p ∙ parent_some p (names + head.walked) x e in
     rw (take_more (drop names p) head.walked x at) refl
 
--- what is behind the heads of a rename after a take: a victim leaves it as it is
+-- what is behind the heads of a pair after a take: a victim leaves it as it is
 abbrev left_behind : Key → Key → ForkWay → Option ℕ → ℕ → Option ℕ
 left_behind p q fork behind n = cond (has_arrived p q fork) behind (fork_took p q fork n).behind
 
--- the heads of a rename after a take
-heads_took : (p q : Key) (n m : ℕ) (behind : Option ℕ) (fork : ForkWay) (victim : Option ℕ) → fork.names + fork.source.walked ≤ length (parent_of p) → fork.names + fork.dest.walked ≤ length (parent_of q)
-    → target_took (dropped fork.names (AtPair pairs.Rename p q)) (holdings_with (AtPair pairs.Rename p q) m behind (Some fork) victim) n ≡ holdings_with (AtPair pairs.Rename p q) m (left_behind p q fork behind n) (Some (fork_took p q fork n)) (cond (has_arrived p q fork) (Some n) victim)
-heads_took p q n m behind fork victim hs hd =
+-- the heads of a pair after a take
+heads_took : (c : PairCall) (p q : Key) (n m : ℕ) (behind : Option ℕ) (fork : ForkWay) (victim : Option ℕ) → fork.names + fork.source.walked ≤ length (parent_of p) → fork.names + fork.dest.walked ≤ length (parent_of q)
+    → target_took (dropped fork.names (AtPair c p q)) (holdings_with (AtPair c p q) m behind (Some fork) victim) n ≡ holdings_with (AtPair c p q) m (left_behind p q fork behind n) (Some (fork_took p q fork n)) (cond (has_arrived p q fork) (Some n) victim)
+heads_took c p q n m behind fork victim hs hd =
     rw (left_head fork.names fork.source.walked p hs, left_head fork.names fork.dest.walked q hd) (by_source (head_name p fork.names fork.source) refl)
   where
     names : (r : Key) (head : count.Head) → slice_get (parent_of (drop fork.names r)) head.walked ≡ head_name r fork.names head
     names r head = ap (λ (l : Key). slice_get l head.walked) (parent_drop fork.names r) ∙ drop_get fork.names head.walked (parent_of r)
 
     by_dest : (o : Option Name) → head_name q fork.names fork.dest ≡ o → head_name p fork.names fork.source ≡ None
-        → step_or Source (drop fork.source.walked (parent_of (drop fork.names p))) (holdings_with (AtPair pairs.Rename p q) m behind (Some fork) victim) n (step_or Dest (drop fork.dest.walked (parent_of (drop fork.names q))) (holdings_with (AtPair pairs.Rename p q) m behind (Some fork) victim) n (victim_took (holdings_with (AtPair pairs.Rename p q) m behind (Some fork) victim) n))
-        ≡ holdings_with (AtPair pairs.Rename p q) m (left_behind p q fork behind n) (Some (fork_took p q fork n)) (cond (has_arrived p q fork) (Some n) victim)
+        → step_or Source (drop fork.source.walked (parent_of (drop fork.names p))) (holdings_with (AtPair c p q) m behind (Some fork) victim) n (step_or Dest (drop fork.dest.walked (parent_of (drop fork.names q))) (holdings_with (AtPair c p q) m behind (Some fork) victim) n (victim_took (holdings_with (AtPair c p q) m behind (Some fork) victim) n))
+        ≡ holdings_with (AtPair c p q) m (left_behind p q fork behind n) (Some (fork_took p q fork n)) (cond (has_arrived p q fork) (Some n) victim)
     by_dest None e f = rw (ahead_none (parent_of (drop fork.names p)) fork.source.walked (names p fork.source ∙ f), ahead_none (parent_of (drop fork.names q)) fork.dest.walked (names q fork.dest ∙ e), e, f) refl
     by_dest (Some x) e f =
         rw (ahead_none (parent_of (drop fork.names p)) fork.source.walked (names p fork.source ∙ f), ahead_some (parent_of (drop fork.names q)) fork.dest.walked x (names q fork.dest ∙ e), head_stepped q fork.names fork.dest n x e, head_leaves q fork.names fork.dest x e, e, f) refl
 
     by_source : (o : Option Name) → head_name p fork.names fork.source ≡ o
-        → step_or Source (drop fork.source.walked (parent_of (drop fork.names p))) (holdings_with (AtPair pairs.Rename p q) m behind (Some fork) victim) n (step_or Dest (drop fork.dest.walked (parent_of (drop fork.names q))) (holdings_with (AtPair pairs.Rename p q) m behind (Some fork) victim) n (victim_took (holdings_with (AtPair pairs.Rename p q) m behind (Some fork) victim) n))
-        ≡ holdings_with (AtPair pairs.Rename p q) m (left_behind p q fork behind n) (Some (fork_took p q fork n)) (cond (has_arrived p q fork) (Some n) victim)
+        → step_or Source (drop fork.source.walked (parent_of (drop fork.names p))) (holdings_with (AtPair c p q) m behind (Some fork) victim) n (step_or Dest (drop fork.dest.walked (parent_of (drop fork.names q))) (holdings_with (AtPair c p q) m behind (Some fork) victim) n (victim_took (holdings_with (AtPair c p q) m behind (Some fork) victim) n))
+        ≡ holdings_with (AtPair c p q) m (left_behind p q fork behind n) (Some (fork_took p q fork n)) (cond (has_arrived p q fork) (Some n) victim)
     by_source None e = by_dest (head_name q fork.names fork.dest) refl e
     by_source (Some x) e = rw (ahead_some (parent_of (drop fork.names p)) fork.source.walked x (names p fork.source ∙ e), head_stepped p fork.names fork.source n x e, head_leaves p fork.names fork.source x e, e) refl
 
@@ -146,7 +146,7 @@ behind_now p q fork n = go (has_arrived p q fork) refl
     go true t = rw (t, arrived_stay p q fork n t) refl
     go false t = rw t refl
 
--- the heads of a rename set out from its common directory
+-- the heads of a pair set out from its common directory
 pub started_holdings : (call : Form) (n names : ℕ) (behind : Option ℕ) (fork : Option ForkWay) (victim : Option ℕ) → holdings_with call n behind fork victim ≡ holdings_with call n behind (Some (started fork n names)) victim
 started_holdings call n names behind None victim = refl
 started_holdings call n names behind (Some fork) victim = refl
@@ -160,9 +160,9 @@ common_short (x ∷ a) (y ∷ b) = go (same_name x y) (common_short a b)
     go true h = (omega arith, omega arith)
     go false h = (omega arith, omega arith)
 
-pub started_forked : (p q : Key) (way : Way) (fork : Option ForkWay) (m : ℕ) → way.node ≡ Some m → way.walked ≡ way.names → way.names ≡ length (common (parent_of p) (parent_of q)) → Forks (AtPair pairs.Rename p q) way fork → IsForked p q way (started fork m way.names)
-started_forked p q way (Some fork) m at all names forks = forks
-started_forked p q way None m at all names forks =
+pub started_forked : (c : PairCall) (p q : Key) (way : Way) (fork : Option ForkWay) (m : ℕ) → way.node ≡ Some m → way.walked ≡ way.names → way.names ≡ length (common (parent_of p) (parent_of q)) → Forks (AtPair c p q) way fork → IsForked p q way (started fork m way.names)
+started_forked c p q way (Some fork) m at all names forks = forks
+started_forked c p q way None m at all names forks =
     let short : (length (common (parent_of p) (parent_of q)) ≤ length (parent_of p)) × (length (common (parent_of p) (parent_of q)) ≤ length (parent_of q)) = common_short (parent_of p) (parent_of q) in
     record { node = at; names = sym all; arrived = all; source = omega arith; dest = omega arith }
 
@@ -175,29 +175,29 @@ first_sets_out p q m names n t = go (walking p q (new_fork m names)) refl
     go (Some sides.Dest) e = rw e refl
     go None e = let z : true ≡ false = rw e at t in absurd (cc)
 
-rename_stands : (p q : Key) (way : Way) (fork : Option ForkWay) (victim : Option ℕ) (n m : ℕ) → way.node ≡ Some m → way.walked ≡ way.names → way.names ≡ length (common (parent_of p) (parent_of q)) → Forks (AtPair pairs.Rename p q) way fork
-    → TakesTo (AtPair pairs.Rename p q) way m n fork victim (heads_after p q fork m way.names n) (cond (has_arrived p q (started fork m way.names)) (Some n) victim)
-rename_stands p q way fork victim n m at all names forks = go fork forks
+pair_stands : (c : PairCall) (p q : Key) (way : Way) (fork : Option ForkWay) (victim : Option ℕ) (n m : ℕ) → way.node ≡ Some m → way.walked ≡ way.names → way.names ≡ length (common (parent_of p) (parent_of q)) → Forks (AtPair c p q) way fork
+    → TakesTo (AtPair c p q) way m n fork victim (heads_after p q fork m way.names n) (cond (has_arrived p q (started fork m way.names)) (Some n) victim)
+pair_stands c p q way fork victim n m at all names forks = go fork forks
   where
-    took : (f : Option ForkWay) → Forks (AtPair pairs.Rename p q) way f → (behind : Option ℕ)
-        → target_took (dropped way.walked (AtPair pairs.Rename p q)) (holdings_with (AtPair pairs.Rename p q) m behind f victim) n
-        ≡ holdings_with (AtPair pairs.Rename p q) m (left_behind p q (started f m way.names) behind n) (Some (fork_took p q (started f m way.names) n)) (cond (has_arrived p q (started f m way.names)) (Some n) victim)
+    took : (f : Option ForkWay) → Forks (AtPair c p q) way f → (behind : Option ℕ)
+        → target_took (dropped way.walked (AtPair c p q)) (holdings_with (AtPair c p q) m behind f victim) n
+        ≡ holdings_with (AtPair c p q) m (left_behind p q (started f m way.names) behind n) (Some (fork_took p q (started f m way.names) n)) (cond (has_arrived p q (started f m way.names)) (Some n) victim)
     took f h behind =
-        let heads = started_forked p q way f m at all names h in
-        rw (started_holdings (AtPair pairs.Rename p q) m way.names behind f victim, ← heads.names) (heads_took p q n m behind (started f m way.names) victim heads.source heads.dest)
+        let heads = started_forked c p q way f m at all names h in
+        rw (started_holdings (AtPair c p q) m way.names behind f victim, ← heads.names) (heads_took c p q n m behind (started f m way.names) victim heads.source heads.dest)
 
-    go : (f : Option ForkWay) → Forks (AtPair pairs.Rename p q) way f → TakesTo (AtPair pairs.Rename p q) way m n f victim (heads_after p q f m way.names n) (cond (has_arrived p q (started f m way.names)) (Some n) victim)
-    go (Some f) h = took (Some f) h f.behind ∙ ap (λ (b : Option ℕ). holdings_with (AtPair pairs.Rename p q) m b (Some (fork_took p q f n)) (cond (has_arrived p q f) (Some n) victim)) (behind_now p q f n)
+    go : (f : Option ForkWay) → Forks (AtPair c p q) way f → TakesTo (AtPair c p q) way m n f victim (heads_after p q f m way.names n) (cond (has_arrived p q (started f m way.names)) (Some n) victim)
+    go (Some f) h = took (Some f) h f.behind ∙ ap (λ (b : Option ℕ). holdings_with (AtPair c p q) m b (Some (fork_took p q f n)) (cond (has_arrived p q f) (Some n) victim)) (behind_now p q f n)
     go None h = by (has_arrived p q (new_fork m way.names)) refl
       where
-        by : (b : Bool) → has_arrived p q (new_fork m way.names) ≡ b → TakesTo (AtPair pairs.Rename p q) way m n None victim (heads_after p q None m way.names n) (cond (has_arrived p q (new_fork m way.names)) (Some n) victim)
+        by : (b : Bool) → has_arrived p q (new_fork m way.names) ≡ b → TakesTo (AtPair c p q) way m n None victim (heads_after p q None m way.names n) (cond (has_arrived p q (new_fork m way.names)) (Some n) victim)
         by true t = took None h way.behind ∙ rw (t, arrived_stay p q (new_fork m way.names) n t) refl
         by false t = took None h way.behind ∙ rw (t, first_sets_out p q m way.names n t) refl
 
-pub rename_takes : (p q : Key) (way : Way) (fork fork_new : Option ForkWay) (victim victim_new : Option ℕ) (n m : ℕ) → way.node ≡ Some m → way.walked ≡ way.names → way.names ≡ length (common (parent_of p) (parent_of q)) → Forks (AtPair pairs.Rename p q) way fork
-    → heads_after p q fork m way.names n ≡ fork_new → cond (has_arrived p q (started fork m way.names)) (Some n) victim ≡ victim_new → TakesTo (AtPair pairs.Rename p q) way m n fork victim fork_new victim_new
-rename_takes p q way fork fork_new victim victim_new n m at all names forks heads taken =
-    subst₂ (λ (f : Option ForkWay) (v : Option ℕ). TakesTo (AtPair pairs.Rename p q) way m n fork victim f v) heads taken (rename_stands p q way fork victim n m at all names forks)
+pub pair_takes : (c : PairCall) (p q : Key) (way : Way) (fork fork_new : Option ForkWay) (victim victim_new : Option ℕ) (n m : ℕ) → way.node ≡ Some m → way.walked ≡ way.names → way.names ≡ length (common (parent_of p) (parent_of q)) → Forks (AtPair c p q) way fork
+    → heads_after p q fork m way.names n ≡ fork_new → cond (has_arrived p q (started fork m way.names)) (Some n) victim ≡ victim_new → TakesTo (AtPair c p q) way m n fork victim fork_new victim_new
+pair_takes c p q way fork fork_new victim victim_new n m at all names forks heads taken =
+    subst₂ (λ (f : Option ForkWay) (v : Option ℕ). TakesTo (AtPair c p q) way m n fork victim f v) heads taken (pair_stands c p q way fork victim n m at all names forks)
 
 -- what the heads and the victim are after the first take from the common directory
 pub set_out : (p q : Key) (fork : Option ForkWay) (n m names : ℕ) (first heads : ForkWay) (is_out : Bool) → fork ≡ None → first ≡ new_fork m names → heads ≡ fork_took p q first n → is_out ≡ has_set_out heads
@@ -223,15 +223,15 @@ took_forked p q way fork n h = by_source (head_name p fork.names fork.source) re
         rw (e, f) (record { node = h.node; names = h.names; arrived = h.arrived; source = h.source; dest = omega arith })
     by_source None e None f = rw (e, f) h
 
-pub rename_forks : (p q : Key) (way : Way) (fork : Option ForkWay) (n m : ℕ) → way.node ≡ Some m → way.walked ≡ way.names → way.names ≡ length (common (parent_of p) (parent_of q)) → Forks (AtPair pairs.Rename p q) way fork
-    → Forks (AtPair pairs.Rename p q) way (heads_after p q fork m way.names n)
-rename_forks p q way fork n m at all names forks = go fork (took_forked p q way (started fork m way.names) n (started_forked p q way fork m at all names forks))
+pub pair_forks : (c : PairCall) (p q : Key) (way : Way) (fork : Option ForkWay) (n m : ℕ) → way.node ≡ Some m → way.walked ≡ way.names → way.names ≡ length (common (parent_of p) (parent_of q)) → Forks (AtPair c p q) way fork
+    → Forks (AtPair c p q) way (heads_after p q fork m way.names n)
+pair_forks c p q way fork n m at all names forks = go fork (took_forked p q way (started fork m way.names) n (started_forked c p q way fork m at all names forks))
   where
-    go : (f : Option ForkWay) → IsForked p q way (fork_took p q (started f m way.names) n) → Forks (AtPair pairs.Rename p q) way (heads_after p q f m way.names n)
+    go : (f : Option ForkWay) → IsForked p q way (fork_took p q (started f m way.names) n) → Forks (AtPair c p q) way (heads_after p q f m way.names n)
     go (Some f) h = h
     go None h = by (has_set_out (fork_took p q (new_fork m way.names) n))
       where
-        by : (b : Bool) → Forks (AtPair pairs.Rename p q) way (cond b (Some (fork_took p q (new_fork m way.names) n)) None)
+        by : (b : Bool) → Forks (AtPair c p q) way (cond b (Some (fork_took p q (new_fork m way.names) n)) None)
         by true = h
         by false = tt
 

@@ -14,6 +14,7 @@ use Rattle.fs_walk.specs.Wants.{name_want, step_want, behind_or, then_want, at_d
 use Rattle.fs_machine.specs.Moves.{first_of, walk_move, step_move, behind_first, dir_then, target}
 use Rattle.fs_machine.specs.declared.moves.Move.{Move}
 use Rattle.fs_machine.specs.declared.moves.Move.TheVariants.{Take as Takes, LetGo as Leaves, Finish as Finishes}
+use Rattle.fs_machine.specs.declared.moves.Moved.TheVariants.{Nothing}
 use Rattle.fs_ops.specs.code.NextByNodes.{want_next}
 use Rattle.fs_ops.specs.PlanOf.{move_of}
 use Rattle.fs_ops.specs.declared.next.Next.{Next}
@@ -26,7 +27,7 @@ abbrev pub want_then : Want → Move → Move
 want_then (Take n) next = Takes n
 want_then (LetGo n) next = Leaves n
 want_then Arrived next = next
-want_then (Fails e) next = Finishes None
+want_then (Fails e) next = Finishes Nothing
 
 pub move_want : (w : Want) (next : Next) → move_of (want_next w next) ≡ want_then w (move_of next)
 move_want (Take n) next = refl

@@ -3,7 +3,6 @@ use Rattle.std.specs.Prelude.{ℕ, zero, suc, ◌≡◌, ◌+◌, ◌-◌, ◌�
 use Rattle.fs_names.specs.Keys.{Key, parent_of}
 use Rattle.fs_calls.specs.Forms.{Form, AtNode, AtEntry, AtPair, by_text, form}
 use Rattle.fs_calls.specs.declared.errno.Errno.{Errno}
-use Rattle.fs_calls.specs.declared.target.PairCall.TheVariants as pairs
 use Rattle.fs_calls.specs.declared.call.Call.{Call}
 use Rattle.fs_calls.specs.declared.reply.Reply.{Reply}
 use Rattle.fs_walk.specs.Ways.{Way, ForkWay}
@@ -21,7 +20,7 @@ use Rattle.fs_machine.specs.OpValues.{OpValue}
 abbrev pub dropped : ℕ → Form → Form
 dropped n (AtNode c p) = AtNode c (drop n p)
 dropped n (AtEntry c p) = AtEntry c (drop n p)
-dropped n (AtPair pairs.Rename p q) = AtPair pairs.Rename (drop n p) (drop n q)
+dropped n (AtPair c p q) = AtPair c (drop n p) (drop n q)
 
 -- a head that has walked so many names of a path behind those to the common directory
 abbrev pub head_of : Key → ℕ → count.Head → Head
@@ -79,7 +78,7 @@ op_value call stand reserved removed outcome =
 abbrev pub with_held : Outcome → OpValue → OpValue
 with_held outcome op = record op { holdings = held_by outcome op.holdings }
 
--- a fork of a rename whose walk has come to the common directory; each head is on its way to a parent
+-- a fork of a pair whose walk has come to the common directory; each head is on its way to a parent
 pub record IsForked (p q : Key) (way : Way) (fork : ForkWay) : Type 0 where
   pub node : way.node ≡ Some fork.node
   pub names : fork.names ≡ way.walked
@@ -90,7 +89,7 @@ pub record IsForked (p q : Key) (way : Way) (fork : ForkWay) : Type 0 where
 -- other calls have none
 abbrev pub Forks : Form → Way → Option ForkWay → Type 0
 Forks call way None = Unit {0}
-Forks (AtPair pairs.Rename p q) way (Some fork) = IsForked p q way fork
+Forks (AtPair c p q) way (Some fork) = IsForked p q way fork
 Forks (AtNode c p) way (Some fork) = ⊥
 Forks (AtEntry c p) way (Some fork) = ⊥
 

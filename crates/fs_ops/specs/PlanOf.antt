@@ -79,11 +79,11 @@ pub record IsPlan (store : Seen) (op : OpValue) (plan : Plan) : Type 0 where
   pub is : plan ≡ plan_of store.graph op
   pub real : Changes plan (IsReal store)
 
--- the source head of a rename has not left a common directory that is a file or is not there
+-- the source head of a pair has not left a common directory that is a file or is not there
 abbrev pub SetsOut : Graph → Form → Holdings → Type 0
 SetsOut graph (AtNode c p) st = Unit {0}
 SetsOut graph (AtEntry c p) st = Unit {0}
-SetsOut graph (AtPair pairs.Rename p q) st = (e : Errno) → as_dir None (graph.shape st.node) ≡ Some e → dir_error (left st.source.walked (parent_of p)) (graph.shape st.source.node) ≡ Some e
+SetsOut graph (AtPair c p q) st = (e : Errno) → as_dir None (graph.shape st.node) ≡ Some e → dir_error (left st.source.walked (parent_of p)) (graph.shape st.source.node) ≡ Some e
 
 -- the same of all that a call may hold
 abbrev pub HasSetOut : Graph → OpValue → Type 0

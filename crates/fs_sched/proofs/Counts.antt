@@ -137,9 +137,9 @@ tallied_step s new seat (Busy n d) run (c, op, moves, held, same) t = subst Tall
 tallied_step s new seat (Took n) run (c, op, moves, free, same) t = subst Tallied (sym same) (tallied_quiet s (taking s c op n) c op (took op n) run moves.1 (ap while_walking (took_phase op op.holdings (target op.remaining) n)) refl refl t)
 tallied_step s new seat (LetGo n) run (c, op, moves, same) t = subst Tallied (sym same) (tallied_quiet s (letting_go s c op n) c op (let_go op n) run moves.1 refl refl refl t)
 tallied_step s new seat (Helped d) run (c, op, u, moves, w, pick, q, is, same) t =
-    let a : ◌≡◌ {A = Option Record} (Some pick.0.0.0) (Some q) = sym pick.0.0.1 ∙ is in
-    let b : pick.0.0.0 ≡ q = cc in
-    subst Tallied (sym same) (tallied_commit s (helping s d q) d q (record q { phase = Placed (commit_count s.timeline) }) run is (ap (λ (o : Record). o.phase) (sym b) ∙ pick.0.0.2) refl refl refl t)
+    let a : ◌≡◌ {A = Option Record} (Some pick.0.0.2.0) (Some q) = sym pick.0.0.2.1 ∙ is in
+    let b : pick.0.0.2.0 ≡ q = cc in
+    subst Tallied (sym same) (tallied_commit s (helping s d q) d q (record q { phase = Placed (commit_count s.timeline) }) run is (ap (λ (o : Record). o.phase) (sym b) ∙ pick.0.0.2.2) refl refl refl t)
 tallied_step s new seat Committed run (c, op, o, moves, w, below, same) t = subst Tallied (sym same) (tallied_commit s (committing s c op) c op (finished_op op (finish s.graph op)) run moves.1 w refl refl refl t)
 tallied_step s new seat CarriedOut run (c, op, o, i, moves, placed, same) t = subst Tallied (sym same) (tallied_quiet s (carrying s c op) c op (finished_op op (finish s.graph op)) run moves.1 (sym (ap while_walking placed)) refl refl t)
 tallied_step s new seat (Returned r) run (c, op, moves, ph, same) t = subst Tallied (sym same) (tallied_return s c op r run moves.1 ph t)

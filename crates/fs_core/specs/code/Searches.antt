@@ -1,10 +1,12 @@
--- Which walking calls are below a node, and which of them is to be helped.
-use Rattle.std.specs.Prelude.{ℕ, ◌≡◌, ◌<◌, ◌≤◌, ◌↔◌, nat_lt, Bool, true, false, IsTrue, IsSome, List, Option, Some, None, option_map, length, slice_get}
+-- Which walking calls are below a node, or below one that would be moved, and which of these is to be helped.
+use Rattle.std.specs.Prelude.{ℕ, ◌≡◌, ◌<◌, ◌≤◌, ◌↔◌, nat_lt, Bool, true, false, IsTrue, IsSome, List, Option, Some, None, option_map, slice_get}
 use Rattle.fs_names.specs.Keys.{Key}
 use Rattle.fs_nodes.specs.Graphs.{Graph, Children, numbers, IsGraph, IsReached}
 use Rattle.fs_nodes.specs.Stores.{Places}
 use Rattle.fs_nodes.specs.Stores.{graph_of}
 use Rattle.fs_locks.specs.Holding.{Holding, holder, room}
+use Rattle.fs_machine.specs.States.{IsMoved}
+use Rattle.fs_machine.specs.declared.moves.Moved.{Moved}
 use Rattle.fs_core.specs.CoreValues.{number_on, running_on}
 use Rattle.fs_core.specs.declared.helping.Way.{Way}
 use Rattle.fs_core.specs.declared.seat.Running.{Running}
@@ -32,13 +34,25 @@ pub record IsUnder (children : Children) (seats : List (Option Running)) (s seat
   pub position : position_of (Some running) ≡ Some node
   pub reached : IsReached children s node
 
+-- a node is reached from one that would be moved
+abbrev pub IsBelowMoved : Children → Moved → ℕ → Type 0
+IsBelowMoved children moved node = (s : ℕ) × IsMoved moved s × IsReached children s node
+
+-- the walking call on a seat is below a node that would be moved
+pub record IsUnderMoved (children : Children) (seats : List (Option Running)) (moved : Moved) (seat : ℕ) : Type 0 where
+  pub running : Running
+  pub node : ℕ
+  pub on : slice_get seats seat ≡ Some (Some running)
+  pub position : position_of (Some running) ≡ Some node
+  pub reached : IsBelowMoved children moved node
+
 -- no walking call of another seat is below a node
 abbrev pub IsAlone : Children → List (Option Running) → ℕ → ℕ → Type 0
 IsAlone children seats node seat = (other : ℕ) → (seat ≡ other → ⊥) → IsUnder children seats node other → ⊥
 
--- and no other one is below its position
-pub record IsLowestOn (children : Children) (seats : List (Option Running)) (s seat : ℕ) : Type 0 where
-  pub under : IsUnder children seats s seat
+-- one that is below a node that would be moved, and no other one is below its position
+pub record IsLowestOn (children : Children) (seats : List (Option Running)) (moved : Moved) (seat : ℕ) : Type 0 where
+  pub under : IsUnderMoved children seats moved seat
   pub alone : IsAlone children seats under.node seat
 
 -- a number is less than another one, or there is no other
@@ -48,14 +62,9 @@ is_lesser _ None = true
 is_lesser None (Some d) = true
 
 -- of the seats below one, those with a lowest call: none, or the one with the least number
-abbrev pub HasLeast : Children → List (Option Running) → ℕ → ℕ → Option ℕ → Type 0
-HasLeast children seats s i None = (j : ℕ) → j < i → IsLowestOn children seats s j → ⊥
-HasLeast children seats s i (Some seat) = (seat < i) × IsLowestOn children seats s seat × ((j c d : ℕ) → j < i → IsLowestOn children seats s j → number_on seats seat ≡ Some c → number_on seats j ≡ Some d → c ≤ d)
-
--- the same before a finish that may move a node
-abbrev pub HasLeastIf : Children → List (Option Running) → Option ℕ → Option ℕ → Type 0
-HasLeastIf children seats None chosen = chosen ≡ None
-HasLeastIf children seats (Some s) chosen = HasLeast children seats s (length seats) chosen
+abbrev pub HasLeast : Children → List (Option Running) → Moved → ℕ → Option ℕ → Type 0
+HasLeast children seats moved i None = (j : ℕ) → j < i → IsLowestOn children seats moved j → ⊥
+HasLeast children seats moved i (Some seat) = (seat < i) × IsLowestOn children seats moved seat × ((j c d : ℕ) → j < i → IsLowestOn children seats moved j → number_on seats seat ≡ Some c → number_on seats j ≡ Some d → c ≤ d)
 
 -- a node is reached from the root
 abbrev pub IsRooted : Graph → ℕ → Type 0
@@ -85,24 +94,24 @@ abbrev pub IsAbove : Children → List (Option Running) → ℕ → ℕ → ℕ 
 IsAbove children seats seat position k =
     (n : ℕ) × (seat ≡ k → ⊥) × (position_on seats k ≡ Some n) × IsReached children n position × ((j m : ℕ) → (seat ≡ j → ⊥) → position_on seats j ≡ Some m → IsReached children m position → IsReached children m n)
 
--- the nearest other walking call above the position of the one on a seat; none only where none is below a node and above it
-abbrev pub IsNearest : Children → List (Option Running) → ℕ → ℕ → ℕ → Option ℕ → Type 0
-IsNearest children seats s seat position None = (j m : ℕ) → (seat ≡ j → ⊥) → position_on seats j ≡ Some m → IsReached children s m → IsReached children m position → ⊥
-IsNearest children seats s seat position (Some k) = IsAbove children seats seat position k
+-- the nearest other walking call above the position of the one on a seat; none only where none is above it
+abbrev pub IsNearest : Children → List (Option Running) → ℕ → ℕ → Option ℕ → Type 0
+IsNearest children seats seat position None = (j m : ℕ) → (seat ≡ j → ⊥) → position_on seats j ≡ Some m → IsReached children m position → ⊥
+IsNearest children seats seat position (Some k) = IsAbove children seats seat position k
 
 -- the same of a seat, on which perhaps no call walks
-abbrev pub IsNearestIf : Children → List (Option Running) → ℕ → ℕ → Option ℕ → Option ℕ → Type 0
-IsNearestIf children seats s seat None above = above ≡ None
-IsNearestIf children seats s seat (Some position) above = IsNearest children seats s seat position above
+abbrev pub IsNearestIf : Children → List (Option Running) → ℕ → Option ℕ → Option ℕ → Type 0
+IsNearestIf children seats seat None above = above ≡ None
+IsNearestIf children seats seat (Some position) above = IsNearest children seats seat position above
 
 -- the way up from the position of the walking call on a seat
-pub record IsWay (children : Children) (seats : List (Option Running)) (s seat : ℕ) (way : Way) : Type 0 where
-  pub below : IsTrue way.below ↔ IsUnder children seats s seat
-  pub above : IsNearestIf children seats s seat (position_on seats seat) way.above
+pub record IsWay (children : Children) (seats : List (Option Running)) (moved : Moved) (seat : ℕ) (way : Way) : Type 0 where
+  pub below : IsTrue way.below ↔ IsUnderMoved children seats moved seat
+  pub above : IsNearestIf children seats seat (position_on seats seat) way.above
 
 -- the ways of the seats below one
-abbrev pub AreWays : Children → List (Option Running) → ℕ → ℕ → List Way → Type 0
-AreWays children seats s i ways = (j : ℕ) (way : Way) → j < i → slice_get ways j ≡ Some way → IsWay children seats s j way
+abbrev pub AreWays : Children → List (Option Running) → Moved → ℕ → List Way → Type 0
+AreWays children seats moved i ways = (j : ℕ) (way : Way) → j < i → slice_get ways j ≡ Some way → IsWay children seats moved j way
 
 -- the call on a seat is the nearest one above another
 pub record IsMet (ways : List Way) (seat : ℕ) : Type 0 where
@@ -111,7 +120,7 @@ pub record IsMet (ways : List Way) (seat : ℕ) : Type 0 where
   pub on : slice_get ways other ≡ Some way
   pub above : way.above ≡ Some seat
 
--- its way passes the node, and no way meets it
+-- its way passes a node that would be moved, and no way meets it
 pub record IsUnmet (ways : List Way) (seat : ℕ) : Type 0 where
   pub way : Way
   pub on : slice_get ways seat ≡ Some way

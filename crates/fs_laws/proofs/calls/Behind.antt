@@ -5,13 +5,14 @@ use Rattle.fs_nodes.specs.Graphs.{Graph}
 use Rattle.fs_machine.specs.Moves.{behind_first, first_of, next_on, step_move, target, target_move}
 use Rattle.fs_machine.specs.declared.moves.Move.{Move}
 use Rattle.fs_machine.specs.declared.moves.Move.TheVariants.{Take as Takes, LetGo as Leaves, Finish as Finishes}
+use Rattle.fs_machine.specs.declared.moves.Moved.{Moved}
 use Rattle.fs_machine.specs.Records.{Holdings}
 
 pub take_past : (behind : Option ℕ) (m : Move) (n : ℕ) → behind_first behind m ≡ Takes n → (behind ≡ None) × (m ≡ Takes n)
 take_past None m n e = (refl, e)
 take_past (Some k) m n e = cc
 
-pub finish_past : (behind : Option ℕ) (m : Move) (o : Option ℕ) → behind_first behind m ≡ Finishes o → (behind ≡ None) × (m ≡ Finishes o)
+pub finish_past : (behind : Option ℕ) (m : Move) (o : Moved) → behind_first behind m ≡ Finishes o → (behind ≡ None) × (m ≡ Finishes o)
 finish_past None m o e = (refl, e)
 finish_past (Some k) m o e = cc
 
@@ -20,5 +21,5 @@ leave_past None m n e = inr e
 leave_past (Some k) m n e = inl (let z : k ≡ n = cc in ap (λ (x : ℕ). Some x) z)
 
 -- a call that finishes where it stands does so by its steps and its target alone
-pub finish_on : (graph : Graph) (remaining : Form) (st : Holdings) (o : Option ℕ) → next_on graph remaining st ≡ Finishes o → first_of (step_move graph st.node (target remaining)) (target_move graph remaining st) ≡ Finishes o
+pub finish_on : (graph : Graph) (remaining : Form) (st : Holdings) (o : Moved) → next_on graph remaining st ≡ Finishes o → first_of (step_move graph st.node (target remaining)) (target_move graph remaining st) ≡ Finishes o
 finish_on graph remaining st o e = (finish_past st.behind (first_of (step_move graph st.node (target remaining)) (target_move graph remaining st)) o e).1

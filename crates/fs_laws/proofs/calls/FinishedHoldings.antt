@@ -8,6 +8,7 @@ use Rattle.fs_nodes.specs.Graphs.{Graph}
 use Rattle.fs_machine.specs.Leaving.{let_go}
 use Rattle.fs_machine.specs.Moves.{next, next_by, next_on, first_of, step_move, target, target_move, left_holdings, left_last, last_held}
 use Rattle.fs_machine.specs.declared.moves.Move.TheVariants.{LetGo as Leaves, Finish as Finishes}
+use Rattle.fs_machine.specs.declared.moves.Moved.{Moved}
 use Rattle.fs_machine.specs.Records.{Phase, Walking, Placed, Finished, Holds, Record, Holdings}
 use Rattle.fs_laws.proofs.calls.Behind.{finish_past}
 use Rattle.fs_laws.proofs.events.LetGo.{held_on_move, still_holds, lets_behind, LetsLast, One, All, lets_last}
@@ -15,7 +16,7 @@ use Rattle.fs_laws.proofs.calls.HeadOrder.{IsClosed, HeadsOfCallInOrder, neat_he
 use Rattle.fs_laws.proofs.calls.NodesHeld.{one_holdings, none_some}
 
 -- a call that finishes where it stands
-pub finish_closed : (graph : Graph) (remaining : Form) (st : Holdings) (o : Option ℕ) → next_on graph remaining st ≡ Finishes o → IsClosed st
+pub finish_closed : (graph : Graph) (remaining : Form) (st : Holdings) (o : Moved) → next_on graph remaining st ≡ Finishes o → IsClosed st
 finish_closed graph remaining st o e = (finish_past st.behind (first_of (step_move graph st.node (target remaining)) (target_move graph remaining st)) o e).0
 
 -- what a call holds but for one node

@@ -5,12 +5,13 @@ use Rattle.fs_names.specs.Keys.{Key, after_prefix, parent_of}
 use Rattle.fs_names.specs.Names.{Name}
 use Rattle.fs_names.specs.Parts.{common, left, left_by}
 use Rattle.fs_calls.specs.Forms.{form, Form, AtNode, AtEntry, AtPair, by_text, under}
-use Rattle.fs_calls.specs.declared.target.PairCall.TheVariants as pairs
+use Rattle.fs_calls.specs.declared.target.PairCall.{PairCall}
 use Rattle.fs_calls.specs.declared.errno.Errno.{Errno}
 use Rattle.fs_nodes.specs.Graphs.{Graph, numbers, IsGraph}
 use Rattle.fs_machine.specs.Moves.{next, next_by, next_on, target, took, victim_took, stepped, inner, tail_of, left_holdings}
 use Rattle.fs_machine.specs.declared.moves.Move.{Move}
 use Rattle.fs_machine.specs.declared.moves.Move.TheVariants.{Take as Takes, LetGo as Leaves, Finish as Finishes, Return as Ends}
+use Rattle.fs_machine.specs.declared.moves.Moved.{Moved}
 use Rattle.fs_machine.specs.Records.{Phase, Walking, Placed, Finished, Holds, Record, Holdings, Side, Source, Dest, of_side, head_on, holdings_at, held_on}
 use Rattle.fs_laws.specs.Invariants.{IsUnfinished}
 use Rattle.fs_laws.specs.Settled.{names_left, alone_by}
@@ -50,7 +51,7 @@ unless_one (Some n) = omega arith
 to_go_less : (remaining : Form) (st : Holdings) → to_go remaining st ≤ names_left remaining
 to_go_less (AtNode c p) st = omega arith
 to_go_less (AtEntry c p) st = parent_less p
-to_go_less (AtPair pairs.Rename p q) st =
+to_go_less (AtPair pair p q) st =
     let a : length (left st.source.walked (parent_of p)) ≤ length (parent_of p) = left_less st.source.walked (parent_of p) in
     let b : length (left st.dest.walked (parent_of q)) ≤ length (parent_of q) = left_less st.dest.walked (parent_of q) in
     let c : length (parent_of p) ≤ length p = parent_less p in
@@ -90,7 +91,7 @@ walk_less : (remaining : Form) (x : Name) (l : Key) (st : Holdings) (n : ℕ) �
 walk_less (AtNode c []) x l st n e i j = cc
 walk_less (AtNode c (y ∷ p)) x l st n e i j = omega arith
 walk_less (AtEntry c p) x l st n e i j = let k : length (parent_of (tail_of p)) + 1 ≡ length (parent_of p) = parent_tail p x l e in omega (arith, k)
-walk_less (AtPair pairs.Rename p q) x l st n e i j =
+walk_less (AtPair pair p q) x l st n e i j =
     let f : ((y : Name) × (r : Key) × (parent_of p ≡ y ∷ r)) × ((z : Name) × (t : Key) × (parent_of q ≡ z ∷ t)) = common_front (parent_of p) (parent_of q) x l e in
     let a : length (parent_of (tail_of p)) + 1 ≡ length (parent_of p) = parent_tail p f.0.0 f.0.1 f.0.2 in
     let b : length (parent_of (tail_of q)) + 1 ≡ length (parent_of q) = parent_tail q f.1.0 f.1.1 f.1.2 in
@@ -130,22 +131,22 @@ solo_took graph is k op n st s t = go t
         same_go : (f : Form) → one_unless st.victim ≡ 1 → moves_left f (victim_took st n) + 1 ≤ moves_left f st
         same_go (AtNode c p) z = omega (arith, z)
         same_go (AtEntry c p) z = omega (arith, z)
-        same_go (AtPair pairs.Rename p q) z = omega (arith, z)
+        same_go (AtPair c p q) z = omega (arith, z)
 
-    head_less : (side : Side) (p q : Key) (x : Name) → length (left ((head_on side st).walked ++ x ∷ []) (parent_of (of_side side p q))) + 1 ≡ length (left (head_on side st).walked (parent_of (of_side side p q)))
-        → one_if (held_on (head_on side st).walked (head_on side st).node) ≤ 1 → moves_left (AtPair pairs.Rename p q) (stepped side st x n) + 1 ≤ moves_left (AtPair pairs.Rename p q) st
-    head_less Source p q x a b = omega (arith, a, b)
-    head_less Dest p q x a b = omega (arith, a, b)
+    head_less : (side : Side) (pair : PairCall) (p q : Key) (x : Name) → length (left ((head_on side st).walked ++ x ∷ []) (parent_of (of_side side p q))) + 1 ≡ length (left (head_on side st).walked (parent_of (of_side side p q)))
+        → one_if (held_on (head_on side st).walked (head_on side st).node) ≤ 1 → moves_left (AtPair pair p q) (stepped side st x n) + 1 ≤ moves_left (AtPair pair p q) st
+    head_less Source pair p q x a b = omega (arith, a, b)
+    head_less Dest pair p q x a b = omega (arith, a, b)
 
     less : (t : AtTarget graph op n st) → moves_left op.remaining (stands t) + 1 ≤ moves_left op.remaining st
     less (Entry e p rem way child off) = victim_less off op.remaining
     less (Replaced p q rem way there at_left want child off) = victim_less off op.remaining
-    less (Of_head side p q x l rem way turn at_left child) =
+    less (Of_head side pair p q x l rem way turn at_left child) =
         let walked : Key = (head_on side st).walked in
-        let whole : parent_of (of_side side p q) ≡ walked ++ x ∷ l = (forked_of graph st.node p q st op.remaining rem way s.well).path side ∙ ap (λ (y : Key). walked ++ y) at_left in
+        let whole : parent_of (of_side side p q) ≡ walked ++ x ∷ l = (forked_of graph st.node pair p q st op.remaining rem way s.well).path side ∙ ap (λ (y : Key). walked ++ y) at_left in
         let a : length (left (walked ++ x ∷ []) (parent_of (of_side side p q))) ≡ length l = ap length (left_next walked l (parent_of (of_side side p q)) x whole) in
         let c : length (left walked (parent_of (of_side side p q))) ≡ length (x ∷ l) = ap length at_left in
-        subst (λ (g : Form). moves_left g (stepped side st x n) + 1 ≤ moves_left g st) (sym rem) (head_less side p q x (omega (arith, a, c)) (if_one (held_on walked (head_on side st).node)))
+        subst (λ (g : Form). moves_left g (stepped side st x n) + 1 ≤ moves_left g st) (sym rem) (head_less side pair p q x (omega (arith, a, c)) (if_one (held_on walked (head_on side st).node)))
 
     go : Take graph op n st → Advanced graph k op st (took op n)
     go (Walk x l way b child e) = subst (Advanced graph k op st) (sym e) (record {
@@ -245,14 +246,14 @@ solo_left graph k op n st s e = record {
     less : (f : Form) → one_if st.behind ≡ 1 → moves_left f (record st { behind = None }) + 1 ≤ moves_left f st
     less (AtNode c p) z = omega (arith, z)
     less (AtEntry c p) z = omega (arith, z)
-    less (AtPair pairs.Rename p q) z = omega (arith, z)
+    less (AtPair c p q) z = omega (arith, z)
 
 -- the call where it finishes
 pub record Finishing (graph : Graph) (k : Key) (op : Record) (steps : ℕ) : Type 0 where
   pub last : Record
   pub st : Holdings
   pub r : Key
-  pub o : Option ℕ
+  pub o : Moved
   pub solo : OneUnfinished graph (k ++ r) last st
   pub move : next_on graph last.remaining st ≡ Finishes o
   pub ends : next graph last ≡ Finishes o
@@ -286,7 +287,7 @@ further graph k op v st steps more a f e = record {
   made = e ∙ f.made;
 }
 
-ended_here : (graph : Graph) (k : Key) (op : Record) (st : Holdings) (steps : ℕ) (o : Option ℕ) → OneUnfinished graph k op st → next_on graph op.remaining st ≡ Finishes o → alone_by steps graph op (next graph op) ≡ finish graph op → Finishing graph k op steps
+ended_here : (graph : Graph) (k : Key) (op : Record) (st : Holdings) (steps : ℕ) (o : Moved) → OneUnfinished graph k op st → next_on graph op.remaining st ≡ Finishes o → alone_by steps graph op (next graph op) ≡ finish graph op → Finishing graph k op steps
 ended_here graph k op st steps o s m e = record {
   last = op;
   st = st;

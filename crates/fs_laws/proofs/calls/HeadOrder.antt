@@ -5,6 +5,7 @@ use Rattle.fs_names.specs.Names.{Name}
 use Rattle.fs_names.specs.Parts.{HasNames, common, left}
 use Rattle.fs_names.specs.Shapes.{Dir}
 use Rattle.fs_calls.specs.Forms.{Form, AtNode, AtEntry, AtPair}
+use Rattle.fs_calls.specs.declared.target.PairCall.{PairCall}
 use Rattle.fs_calls.specs.declared.target.PairCall.TheVariants as pairs
 use Rattle.fs_calls.specs.declared.reply.Reply.{Reply}
 use Rattle.fs_nodes.specs.Graphs.{Graph}
@@ -20,7 +21,7 @@ pub record IsPlain (st : Holdings) : Type 0 where
   pub dest : st.dest.walked ≡ []
   pub victim : st.victim ≡ None
 
--- at a rename's common directory the second head, and then the victim, come last
+-- at a pair's common directory the second head, and then the victim, come last
 pub record InTurn (graph : Graph) (p : Key) (st : Holdings) : Type 0 where
   pub dest : HasNames st.dest.walked → SourceThere graph p st
   pub victim : (v : ℕ) → st.victim ≡ Some v → SourceThere graph p st
@@ -38,7 +39,7 @@ pub record NeatIn (p : Key) (st : Holdings) : Type 0 where
 abbrev pub HeadsInOrder : Graph → Form → Holdings → Type 0
 HeadsInOrder graph (AtNode c p) st = IsPlain st
 HeadsInOrder graph (AtEntry c p) st = NeatIn p st
-HeadsInOrder graph (AtPair pairs.Rename p q) st = NeatAt graph p st (target (AtPair pairs.Rename p q))
+HeadsInOrder graph (AtPair c p q) st = NeatAt graph p st (target (AtPair c p q))
 
 -- nothing is held behind
 abbrev pub IsClosed : Holdings → Type 0
@@ -52,7 +53,7 @@ pub record HeadsOfCallInOrder (graph : Graph) (op : Record) (st : Holdings) : Ty
 pub neat_fresh : (graph : Graph) (remaining : Form) (n : ℕ) (behind : Option ℕ) → HeadsInOrder graph remaining (holdings_at n behind)
 neat_fresh graph (AtNode c p) n behind = record { source = refl; dest = refl; victim = refl }
 neat_fresh graph (AtEntry c p) n behind = record { source = refl; dest = refl; victim = λ h. refl }
-neat_fresh graph (AtPair pairs.Rename p q) n behind = go (common (parent_of p) (parent_of q))
+neat_fresh graph (AtPair c p q) n behind = go (common (parent_of p) (parent_of q))
   where
     go : (l : Key) → NeatAt graph p (holdings_at n behind) l
     go [] = record { dest = λ h. absurd h; victim = λ v e. cc }
@@ -68,7 +69,7 @@ there_by old new p st f s = let d : (ns : List Name) × (new.shape st.source.nod
 pub neat_by : (old new : Graph) (remaining : Form) (st : Holdings) → DirStays old new st.source.node → HeadsInOrder old remaining st → HeadsInOrder new remaining st
 neat_by old new (AtNode c p) st f w = w
 neat_by old new (AtEntry c p) st f w = w
-neat_by old new (AtPair pairs.Rename p q) st f w = go (common (parent_of p) (parent_of q)) w
+neat_by old new (AtPair c p q) st f w = go (common (parent_of p) (parent_of q)) w
   where
     go : (l : Key) → NeatAt old p st l → NeatAt new p st l
     go [] w = record { dest = λ h. there_by old new p st f (w.dest h); victim = λ v e. there_by old new p st f (w.victim v e) }
@@ -90,7 +91,7 @@ pub record SameHeads (old new : Holdings) : Type 0 where
 pub neat_heads : (graph : Graph) (remaining : Form) (old new : Holdings) → SameHeads old new → HeadsInOrder graph remaining old → HeadsInOrder graph remaining new
 neat_heads graph (AtNode c p) old new s w = record { source = s.source ∙ w.source; dest = s.dest ∙ w.dest; victim = s.victim ∙ w.victim }
 neat_heads graph (AtEntry c p) old new s w = record { source = s.source ∙ w.source; dest = s.dest ∙ w.dest; victim = λ h. s.victim ∙ w.victim h }
-neat_heads graph (AtPair pairs.Rename p q) old new s w = go (common (parent_of p) (parent_of q)) w
+neat_heads graph (AtPair c p q) old new s w = go (common (parent_of p) (parent_of q)) w
   where
     there : SourceThere graph p old → SourceThere graph p new
     there = there_at graph p old new s.source s.node
@@ -103,13 +104,13 @@ neat_heads graph (AtPair pairs.Rename p q) old new s w = go (common (parent_of p
 pub plain_of : (graph : Graph) (remaining : Form) (st : Holdings) (x : Name) (l : Key) → target remaining ≡ x ∷ l → HeadsInOrder graph remaining st → (st.source.walked ≡ []) × (st.dest.walked ≡ []) × (st.victim ≡ None)
 plain_of graph (AtNode c p) st x l e w = (w.source, w.dest, w.victim)
 plain_of graph (AtEntry c p) st x l e w = (w.source, w.dest, w.victim (subst HasNames (sym e) tt))
-plain_of graph (AtPair pairs.Rename p q) st x l e w = let i : IsPlain st = subst (NeatAt graph p st) e w in (i.source, i.dest, i.victim)
+plain_of graph (AtPair c p q) st x l e w = let i : IsPlain st = subst (NeatAt graph p st) e w in (i.source, i.dest, i.victim)
 
-pub in_turn : (graph : Graph) (p q : Key) (st : Holdings) (remaining : Form) → remaining ≡ AtPair pairs.Rename p q → common (parent_of p) (parent_of q) ≡ [] → HeadsInOrder graph remaining st → InTurn graph p st
-in_turn graph p q st remaining rem way w = subst (NeatAt graph p st) way (subst (λ (f : Form). HeadsInOrder graph f st) rem w)
+pub in_turn : (graph : Graph) (c : PairCall) (p q : Key) (st : Holdings) (remaining : Form) → remaining ≡ AtPair c p q → common (parent_of p) (parent_of q) ≡ [] → HeadsInOrder graph remaining st → InTurn graph p st
+in_turn graph c p q st remaining rem way w = subst (NeatAt graph p st) way (subst (λ (f : Form). HeadsInOrder graph f st) rem w)
 
-of_turn : (graph : Graph) (p q : Key) (st : Holdings) (remaining : Form) → remaining ≡ AtPair pairs.Rename p q → common (parent_of p) (parent_of q) ≡ [] → InTurn graph p st → HeadsInOrder graph remaining st
-of_turn graph p q st remaining rem way w = subst (λ (f : Form). HeadsInOrder graph f st) (sym rem) (subst (NeatAt graph p st) (sym way) w)
+of_turn : (graph : Graph) (c : PairCall) (p q : Key) (st : Holdings) (remaining : Form) → remaining ≡ AtPair c p q → common (parent_of p) (parent_of q) ≡ [] → InTurn graph p st → HeadsInOrder graph remaining st
+of_turn graph c p q st remaining rem way w = subst (λ (f : Form). HeadsInOrder graph f st) (sym rem) (subst (NeatAt graph p st) (sym way) w)
 
 -- a head that is on its way has not arrived
 pub not_there : (graph : Graph) (p : Key) (st : Holdings) (x : Name) (l : Key) → left st.source.walked (parent_of p) ≡ x ∷ l → SourceThere graph p st → ⊥
@@ -120,11 +121,15 @@ pub no_victim : (graph : Graph) (op : Record) (n : ℕ) (st : Holdings) → Head
 no_victim graph op n st neat vic (Walk x l way b child is) = (plain_of graph op.remaining st x l way neat).2
 no_victim graph op n st neat vic (There (Entry e p rem way child off) b is) = off
 no_victim graph op n st neat vic (There (Replaced p q rem way there at_left want child off) b is) = off
-no_victim graph op n st neat vic (There (Of_head side p q x l rem way turn at_left child) b is) = go st.victim (λ v e. none side at_left v e)
+no_victim graph op n st neat vic (There (Of_head side c p q x l rem way turn at_left child) b is) = go st.victim (λ v e. none side at_left v e)
   where
+    -- a rename holds a victim only once the destination head has arrived
+    none_yet : (c : PairCall) → op.remaining ≡ AtPair c p q → left st.dest.walked (parent_of q) ≡ x ∷ l → (v : ℕ) → st.victim ≡ Some v → ⊥
+    none_yet pairs.Rename rem i v e = let z : ◌≡◌ {A = Key} [] (x ∷ l) = sym (none_left st.dest.walked (parent_of q) (subst (λ (g : Form). VictimAt graph g st) rem vic v e).1) ∙ i in cc
+
     none : (side : Side) → left (head_on side st).walked (parent_of (of_side side p q)) ≡ x ∷ l → (v : ℕ) → st.victim ≡ Some v → ⊥
-    none Source i v e = not_there graph p st x l i ((in_turn graph p q st op.remaining rem way neat).victim v e)
-    none Dest i v e = let z : ◌≡◌ {A = Key} [] (x ∷ l) = sym (none_left st.dest.walked (parent_of q) (subst (λ (g : Form). VictimAt graph g st) rem vic v e).1) ∙ i in cc
+    none Source i v e = not_there graph p st x l i ((in_turn graph c p q st op.remaining rem way neat).victim v e)
+    none Dest i v e = none_yet c rem i v e
 
     go : (o : Option ℕ) → ((v : ℕ) → o ≡ Some v → ⊥) → o ≡ None
     go None h = refl
@@ -179,10 +184,10 @@ took_well graph op n st u on w (There t b is) =
     neat (Entry e p rem way child off) =
         let mine : NeatIn p st = subst (λ (f : Form). HeadsInOrder graph f st) rem w in
         subst (λ (f : Form). HeadsInOrder graph f (victim_took st n)) (sym rem) (record { source = mine.source; dest = mine.dest; victim = λ h. absurd (subst HasNames way h) })
-    neat (Of_head Source p q x l rem way turn at_left child) =
-        let old : InTurn graph p st = in_turn graph p q st op.remaining rem way w in
-        of_turn graph p q (stepped Source st x n) op.remaining rem way (record { dest = λ h. absurd (not_there graph p st x l at_left (old.dest h)); victim = λ v i. absurd (not_there graph p st x l at_left (old.victim v i)) })
-    neat (Of_head Dest p q x l rem way turn at_left child) =
-        of_turn graph p q (stepped Dest st x n) op.remaining rem way (record { dest = λ h. there_at graph p st (stepped Dest st x n) refl refl turn; victim = λ v i. there_at graph p st (stepped Dest st x n) refl refl turn })
+    neat (Of_head Source c p q x l rem way turn at_left child) =
+        let old : InTurn graph p st = in_turn graph c p q st op.remaining rem way w in
+        of_turn graph c p q (stepped Source st x n) op.remaining rem way (record { dest = λ h. absurd (not_there graph p st x l at_left (old.dest h)); victim = λ v i. absurd (not_there graph p st x l at_left (old.victim v i)) })
+    neat (Of_head Dest c p q x l rem way turn at_left child) =
+        of_turn graph c p q (stepped Dest st x n) op.remaining rem way (record { dest = λ h. there_at graph p st (stepped Dest st x n) refl refl turn; victim = λ v i. there_at graph p st (stepped Dest st x n) refl refl turn })
     neat (Replaced p q rem way there at_left want child off) =
-        of_turn graph p q (victim_took st n) op.remaining rem way (record { dest = λ h. there_at graph p st (victim_took st n) refl refl there; victim = λ v i. there_at graph p st (victim_took st n) refl refl there })
+        of_turn graph pairs.Rename p q (victim_took st n) op.remaining rem way (record { dest = λ h. there_at graph p st (victim_took st n) refl refl there; victim = λ v i. there_at graph p st (victim_took st n) refl refl there })

@@ -5,12 +5,12 @@ use Rattle.fs_names.specs.Keys.{Key, after_prefix, parent_of, last_of, is_end}
 use Rattle.fs_names.specs.Names.{Name}
 use Rattle.fs_names.specs.Parts.{HasNames}
 use Rattle.fs_names.specs.Shapes.{Shape, Dir, File, is_full, names_of}
-use Rattle.fs_laws.specs.Changes.{Change, moved_by, changed, resolve_next, resolve, resolve_dir, content_change, edit_change, rename_writes, move_change, entry_looked, rename_looked, looked, if_sound, outcome, after}
+use Rattle.fs_laws.specs.Changes.{Rekeying, Stay, MoveTo, Swap, Change, moved_by, changed, resolve_next, resolve, resolve_dir, content_change, edit_change, rename_writes, move_change, entry_looked, rename_looked, looked, if_sound, outcome, after}
 use Rattle.fs_calls.specs.Forms.{Form, AtNode, AtEntry, AtPair, by_text, under, Fits}
 use Rattle.fs_calls.specs.declared.target.PairCall.TheVariants as pairs
 use Rattle.fs_calls.specs.declared.target.EntryCall.{EntryCall}
 use Rattle.fs_calls.proofs.RowNames.{if_below}
-use Rattle.fs_laws.specs.Maps.{Map, below, act, act_at, move, moved_to, moved_from, write_all}
+use Rattle.fs_laws.specs.Maps.{Map, below, act, act_at, move, moved_to, moved_from, swapped_by, swap, write_all}
 use Rattle.fs_calls.specs.Rows.{as_dir, node_row, Edit, Keep, Add, Remove, entry_row, rename_row}
 use Rattle.fs_calls.specs.declared.errno.Errno.{Errno}
 use Rattle.fs_calls.specs.declared.reply.Reply.{Reply}
@@ -96,9 +96,10 @@ fits_under k (AtPair pairs.Rename p q) f =
     below_text (k ++ p) (k ++ q) (more_under k p m) (more_under k q n) ∙ ap if_below (prefix_both k p q) ∙ sym (below_text p q m n) ∙ f
 
 -- a change on the tree below k, as it reads from the root
-abbrev pub moves_under : Key → Option (Key × Key) → Option (Key × Key)
-moves_under k None = None
-moves_under k (Some m) = Some (k ++ m.0, k ++ m.1)
+abbrev pub moves_under : Key → Rekeying → Rekeying
+moves_under k Stay = Stay
+moves_under k (MoveTo s t) = MoveTo (k ++ s) (k ++ t)
+moves_under k (Swap s t) = Swap (k ++ s) (k ++ t)
 
 abbrev pub change_under : Key → Change → Change
 change_under k ch = record { writes = all_under k ch.writes; moves = moves_under k ch.moves }
@@ -173,9 +174,23 @@ move_at k s t tree = fun_ext (λ key. go key (after_prefix k key) refl)
     go key None e = ap (moved_to (k ++ s) tree key) (prefix_deeper k t key e) ∙ ap (moved_from tree key) (prefix_deeper k s key e)
     go key (Some r) e = rw (prefix_some k key r e, prefix_both k t r) (inside r (after_prefix t r))
 
-moved_at : (k : Key) (m : Option (Key × Key)) (tree : Map Shape) → moved_by (moves_under k m) tree ≡ act k (moved_by m) tree
-moved_at k None tree = act_none k tree
-moved_at k (Some m) tree = move_at k m.0 m.1 tree
+-- an exchange below k, read from the root
+swap_at : (k s t : Key) (tree : Map Shape) → swap (k ++ s) (k ++ t) tree ≡ act k (swap s t) tree
+swap_at k s t tree = fun_ext (λ key. go key (after_prefix k key) refl)
+  where
+    inside : (r : Key) (o p : Option Key) → swapped_by (k ++ s) (k ++ t) (k ++ r) o p ≡ k ++ swapped_by s t r o p
+    inside r None None = refl
+    inside r None (Some q) = append_assoc k s q
+    inside r (Some q) p = append_assoc k t q
+
+    go : (key : Key) (o : Option Key) → after_prefix k key ≡ o → swap (k ++ s) (k ++ t) tree key ≡ act_at (swap s t) tree k key o
+    go key None e = ap tree (ap₂ (swapped_by (k ++ s) (k ++ t) key) (prefix_deeper k s key e) (prefix_deeper k t key e))
+    go key (Some r) e = rw (prefix_some k key r e, prefix_both k s r, prefix_both k t r) (ap tree (inside r (after_prefix s r) (after_prefix t r)))
+
+moved_at : (k : Key) (m : Rekeying) (tree : Map Shape) → moved_by (moves_under k m) tree ≡ act k (moved_by m) tree
+moved_at k Stay tree = act_none k tree
+moved_at k (MoveTo s t) tree = move_at k s t tree
+moved_at k (Swap s t) tree = swap_at k s t tree
 
 -- an act is a change below, read from the root
 pub act_change : (k : Key) (ch : Change) (tree : Map Shape) → changed (change_under k ch) tree ≡ act k (changed ch) tree

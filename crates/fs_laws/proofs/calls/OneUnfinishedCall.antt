@@ -4,6 +4,7 @@ use Rattle.fs_names.specs.Keys.{Key, after_prefix, parent_of, last_of, has_more,
 use Rattle.fs_names.specs.Names.{Name}
 use Rattle.fs_names.specs.Parts.{HasNames, common, left}
 use Rattle.fs_calls.specs.Forms.{form, Form, AtPair, by_text, Fits}
+use Rattle.fs_calls.specs.declared.target.PairCall.{PairCall}
 use Rattle.fs_calls.specs.declared.target.PairCall.TheVariants as pairs
 use Rattle.fs_nodes.specs.Graphs.{Graph, numbers, IsGraph, entry_shape}
 use Rattle.fs_machine.specs.Moves.{same_kind}
@@ -103,8 +104,8 @@ solo_wants graph is_graph k op n st solo t h = go t h
     at_node : numbers graph (k ++ []) ≡ Some st.node
     at_node = ap (numbers graph) (append-nil (k)) ∙ loc.here
 
-    forked : (p q : Key) → op.remaining ≡ AtPair pairs.Rename p q → common (parent_of p) (parent_of q) ≡ [] → Forked graph st.node p q st
-    forked p q rem way = forked_of graph st.node p q st op.remaining rem way solo.well
+    forked : (c : PairCall) (p q : Key) → op.remaining ≡ AtPair c p q → common (parent_of p) (parent_of q) ≡ [] → Forked graph st.node p q st
+    forked c p q rem way = forked_of graph st.node c p q st op.remaining rem way solo.well
 
     arrived_is : (whole w : Key) → whole ≡ w ++ left w whole → left w whole ≡ [] → whole ≡ w
     arrived_is whole w e i = e ∙ ap (λ (l : Key). w ++ l) i ∙ append-nil w
@@ -124,12 +125,12 @@ solo_wants graph is_graph k op n st solo t h = go t h
     go (There (Entry e p rem way child off) b t_is) (inl i) = not_node [] st.node (last_of p) at_node child i
     go (There (Entry e p rem way child off) b t_is) (inr (inr (inl i))) = let w : NeatIn p st = subst (λ (f : Form). HeadsInOrder graph f st) rem neat in subst HasNames w.source i.0
     go (There (Entry e p rem way child off) b t_is) (inr (inr (inr (inl i)))) = let w : NeatIn p st = subst (λ (f : Form). HeadsInOrder graph f st) rem neat in subst HasNames w.dest i.0
-    go (There (Of_head side p q x l rem way turn at_left child) b t_is) (inl i) = not_node (head_on side st).walked (head_on side st).node x (loc.head side) child i
-    go (There (Of_head Source p q x l rem way turn at_left child) b t_is) (inr (inr (inl (_, i)))) = not_itself st.source.walked st.source.node x (loc.head Source) child i
-    go (There (Of_head Source p q x l rem way turn at_left child) b t_is) (inr (inr (inr (inl i)))) = not_there graph p st x l at_left ((in_turn graph p q st op.remaining rem way neat).dest i.0)
-    go (There (Of_head Dest p q x l rem way turn at_left child) b t_is) (inr (inr (inr (inl (_, i))))) = not_itself st.dest.walked st.dest.node x (loc.head Dest) child i
-    go (There (Of_head Dest p q x l rem way turn at_left child) b t_is) (inr (inr (inl (more, i)))) =
-        let f : Forked graph st.node p q st = forked p q rem way in
+    go (There (Of_head side c p q x l rem way turn at_left child) b t_is) (inl i) = not_node (head_on side st).walked (head_on side st).node x (loc.head side) child i
+    go (There (Of_head Source c p q x l rem way turn at_left child) b t_is) (inr (inr (inl (_, i)))) = not_itself st.source.walked st.source.node x (loc.head Source) child i
+    go (There (Of_head Source c p q x l rem way turn at_left child) b t_is) (inr (inr (inr (inl i)))) = not_there graph p st x l at_left ((in_turn graph c p q st op.remaining rem way neat).dest i.0)
+    go (There (Of_head Dest c p q x l rem way turn at_left child) b t_is) (inr (inr (inr (inl (_, i))))) = not_itself st.dest.walked st.dest.node x (loc.head Dest) child i
+    go (There (Of_head Dest c p q x l rem way turn at_left child) b t_is) (inr (inr (inl (more, i)))) =
+        let f : Forked graph st.node p q st = forked c p q rem way in
         let w : st.source.walked ≡ st.dest.walked ++ x ∷ [] = child_of_dest x child i in
         let a : parent_of p ≡ st.source.walked = arrived_is (parent_of p) st.source.walked (f.path Source) turn.arrived in
         let d : parent_of q ≡ st.source.walked ++ l = f.path Dest ∙ ap (λ (y : Key). st.dest.walked ++ y) at_left ∙ sym (append_assoc st.dest.walked (x ∷ []) l) ∙ ap (λ (y : Key). y ++ l) (sym w) in
@@ -137,7 +138,7 @@ solo_wants graph is_graph k op n st solo t h = go t h
     go (There (Replaced p q rem way there at_left want child off) b t_is) (inl i) = not_node st.dest.walked st.dest.node (last_of q) (loc.head Dest) child i
     go (There (Replaced p q rem way there at_left want child off) b t_is) (inr (inr (inr (inl (_, i))))) = not_itself st.dest.walked st.dest.node (last_of q) (loc.head Dest) child i
     go (There (Replaced p q rem way there at_left want child off) b t_is) (inr (inr (inl (more, i)))) =
-        let f : Forked graph st.node p q st = forked p q rem way in
+        let f : Forked graph st.node p q st = forked pairs.Rename p q rem way in
         let fits : Fits (AtPair pairs.Rename p q) = subst Fits rem solo.fits in
         let w : st.source.walked ≡ st.dest.walked ++ last_of q ∷ [] = child_of_dest (last_of q) child i in
         let a : parent_of p ≡ st.source.walked = arrived_is (parent_of p) st.source.walked (f.path Source) there.arrived in

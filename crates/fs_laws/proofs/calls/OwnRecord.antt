@@ -30,7 +30,7 @@ reached_used graph is k n e = go k 0 (Dir is.root.0) is.root.1 e
 pub well_by : (old new : Graph) (k : Key) (st : Holdings) (remaining : Form) → Located (numbers new) k st → HeadsSound old st.node remaining st → HeadsSound new st.node remaining st
 well_by old new k st (AtNode c p) loc w = w
 well_by old new k st (AtEntry c p) loc w = w
-well_by old new k st (AtPair pairs.Rename p q) loc w = go (common (parent_of p) (parent_of q)) w
+well_by old new k st (AtPair c p q) loc w = go (common (parent_of p) (parent_of q)) w
   where
     go : (l : Key) → ForkedAt old st.node p q st l → ForkedAt new st.node p q st l
     go (x ∷ l) w = w
@@ -49,7 +49,7 @@ unreached old new linked st a n differs loose l e = go (a.reach l n e)
 
 number_by : (old new : Graph) (linked : Option ℕ) (st : Holdings) (remaining : Form) (reserved : Option ℕ) → Altered old new linked st → ((n : ℕ) → reserved ≡ Some n → linked ≡ Some n → ⊥) → NumberFor old remaining reserved → NumberFor new remaining reserved
 number_by old new linked st (AtNode c p) reserved a differs w = w
-number_by old new linked st (AtPair pairs.Rename p q) reserved a differs w = w
+number_by old new linked st (AtPair c p q) reserved a differs w = w
 number_by old new linked st (AtEntry c p) reserved a differs w = λ shape e.
     (let h : (m : ℕ) × (reserved ≡ Some m) × (old.shape m ≡ Some shape) × ((key : Key) → numbers old key ≡ Some m → ⊥) = w shape e in
     (h.0, h.1, a.shapes.loose h.0 (λ r. h.3 r.0 r.1) ∙ h.2, unreached old new linked st a h.0 (differs h.0 h.1) h.3))

@@ -5,12 +5,15 @@ use Rattle.fs_names.specs.Names.{Name}
 use Rattle.fs_names.specs.Parts.{common, left, left_by}
 use Rattle.fs_names.specs.Shapes.{Shape, Dir, File}
 use Rattle.fs_calls.specs.Forms.{Form, AtNode, AtEntry, AtPair}
+use Rattle.fs_calls.specs.declared.target.PairCall.{PairCall}
 use Rattle.fs_calls.specs.declared.target.PairCall.TheVariants as pairs
 use Rattle.fs_calls.specs.declared.target.EntryCall.{EntryCall}
 use Rattle.fs_nodes.specs.Graphs.{Graph, entry_shape}
-use Rattle.fs_machine.specs.Moves.{next_on, first_of, step_move, take_if, target, target_move, fork_move, rename_move, dir_then, victim_of, same_kind, rename_at, moved_node, took, victim_took, stepped, step_or, target_took, took_by, inner}
+use Rattle.fs_machine.specs.Moves.{next_on, first_of, step_move, take_if, target, target_move, fork_move, parents_move, dir_then, victim_of, same_kind, rename_at, moved_node, took, victim_took, stepped, step_or, target_took, took_by, inner}
 use Rattle.fs_machine.specs.declared.moves.Move.{Move}
 use Rattle.fs_machine.specs.declared.moves.Move.TheVariants.{Take as Takes, Finish as Finishes}
+use Rattle.fs_machine.specs.declared.moves.Moved.{Moved}
+use Rattle.fs_machine.specs.declared.moves.Moved.TheVariants.{Nothing}
 use Rattle.fs_machine.specs.Records.{Record, Holdings, Side, Source, Dest, of_side, head_on, holdings_at}
 use Rattle.fs_laws.proofs.trees.Prefixes.{prefix_append}
 use Rattle.fs_laws.proofs.calls.Behind.{take_past}
@@ -47,7 +50,7 @@ HasTurn Dest graph p st = SourceThere graph p st
 -- at the target: of the victim of an entry, of the next node of a head, of the victim of a rename
 pub data AtTarget (graph : Graph) (op : Record) (n : ℕ) (st : Holdings) : Type 0 where
   Entry : (e : EntryCall) (p : Key) → op.remaining ≡ AtEntry e p → parent_of p ≡ [] → graph.child st.node (last_of p) ≡ Some n → st.victim ≡ None → AtTarget graph op n st
-  Of_head : (side : Side) (p q : Key) (x : Name) (l : Key) → op.remaining ≡ AtPair pairs.Rename p q → common (parent_of p) (parent_of q) ≡ [] → HasTurn side graph p st
+  Of_head : (side : Side) (c : PairCall) (p q : Key) (x : Name) (l : Key) → op.remaining ≡ AtPair c p q → common (parent_of p) (parent_of q) ≡ [] → HasTurn side graph p st
       → left (head_on side st).walked (parent_of (of_side side p q)) ≡ x ∷ l → graph.child (head_on side st).node x ≡ Some n → AtTarget graph op n st
   Replaced : (p q : Key) → op.remaining ≡ AtPair pairs.Rename p q → common (parent_of p) (parent_of q) ≡ [] → SourceThere graph p st
       → left st.dest.walked (parent_of q) ≡ [] → wants graph p q st ≡ true → graph.child st.dest.node (last_of q) ≡ Some n → st.victim ≡ None → AtTarget graph op n st
@@ -55,7 +58,7 @@ pub data AtTarget (graph : Graph) (op : Record) (n : ℕ) (st : Holdings) : Type
 -- where the call then stands
 abbrev pub stands : {graph : Graph} {op : Record} {n : ℕ} {st : Holdings} → AtTarget graph op n st → Holdings
 stands {graph} {op} {n} {st} (Entry e p rem way child off) = victim_took st n
-stands {graph} {op} {n} {st} (Of_head side p q x l rem way turn at_left child) = stepped side st x n
+stands {graph} {op} {n} {st} (Of_head side c p q x l rem way turn at_left child) = stepped side st x n
 stands {graph} {op} {n} {st} (Replaced p q rem way there at_left want child off) = victim_took st n
 
 pub data Take (graph : Graph) (op : Record) (n : ℕ) (st : Holdings) : Type 0 where
@@ -69,17 +72,17 @@ take_closed (There t b is) = b
 -- a take at the target leaves the position
 pub same_node : {graph : Graph} {op : Record} {n : ℕ} {st : Holdings} (t : AtTarget graph op n st) → (stands t).node ≡ st.node
 same_node (Entry e p rem way child off) = refl
-same_node (Of_head side p q x l rem way turn at_left child) = refl
+same_node (Of_head side c p q x l rem way turn at_left child) = refl
 same_node (Replaced p q rem way there at_left want child off) = refl
 
 -- and adds its node to what is held
 pub grown : {graph : Graph} {op : Record} {n : ℕ} {st : Holdings} (t : AtTarget graph op n st) → st.behind ≡ None → Grown st (stands t) n
 grown {graph} {op} {n} {st} (Entry e p rem way child off) b = grown_victim st n off
-grown {graph} {op} {n} {st} (Of_head side p q x l rem way turn at_left child) b = grown_head side st x n b
+grown {graph} {op} {n} {st} (Of_head side c p q x l rem way turn at_left child) b = grown_head side st x n b
 grown {graph} {op} {n} {st} (Replaced p q rem way there at_left want child off) b = grown_victim st n off
 
 -- a victim is taken where one is wanted, there, and not held
-victim_taken : (b : Bool) (child held m : Option ℕ) (n : ℕ) → take_if b child held (Finishes m) ≡ Takes n → (b ≡ true) × (child ≡ Some n) × (held ≡ None)
+victim_taken : (b : Bool) (child held : Option ℕ) (m : Moved) (n : ℕ) → take_if b child held (Finishes m) ≡ Takes n → (b ≡ true) × (child ≡ Some n) × (held ≡ None)
 victim_taken false child held m n e = cc
 victim_taken true None held m n e = cc
 victim_taken true (Some k) (Some v) m n e = cc
@@ -91,11 +94,11 @@ dir_takes (Some (Dir names)) m n e = ((names, refl), e)
 dir_takes (Some (File bytes)) m n e = cc
 
 -- at the common directory
-fork_takes : (graph : Graph) (op : Record) (n : ℕ) (st : Holdings) (p q : Key) → op.holdings ≡ Some st → op.remaining ≡ AtPair pairs.Rename p q → common (parent_of p) (parent_of q) ≡ [] → st.behind ≡ None → fork_move graph p q st ≡ Takes n → Take graph op n st
-fork_takes graph op n st p q on rem way behind m = source (left st.source.walked (parent_of p)) refl (dir_takes (graph.shape st.node) (first_of (step_move graph st.source.node (left st.source.walked (parent_of p))) rest) n m).1
+fork_takes : (graph : Graph) (op : Record) (n : ℕ) (st : Holdings) (c : PairCall) (p q : Key) → op.holdings ≡ Some st → op.remaining ≡ AtPair c p q → common (parent_of p) (parent_of q) ≡ [] → st.behind ≡ None → fork_move graph c p q st ≡ Takes n → Take graph op n st
+fork_takes graph op n st c p q on rem way behind m = source (left st.source.walked (parent_of p)) refl (dir_takes (graph.shape st.node) (first_of (step_move graph st.source.node (left st.source.walked (parent_of p))) rest) n m).1
   where
     at_dest : Move
-    at_dest = dir_then (graph.shape st.dest.node) (rename_move graph p q st)
+    at_dest = dir_then (graph.shape st.dest.node) (parents_move graph c p q st)
 
     rest : Move
     rest = dir_then (graph.shape st.source.node) (first_of (step_move graph st.dest.node (left st.dest.walked (parent_of q))) at_dest)
@@ -110,14 +113,18 @@ fork_takes graph op n st p q on rem way behind m = source (left st.source.walked
         ∙ ap₂ (λ (a b : Key). with_holdings op (by_names a b)) i j
 
     dest : (l : Key) → SourceThere graph p st → left st.dest.walked (parent_of q) ≡ l → first_of (step_move graph st.dest.node l) at_dest ≡ Takes n → Take graph op n st
-    dest (x ∷ l) t j e = There (Of_head Dest p q x l rem way t j (step_takes graph st.dest.node x l at_dest n e)) behind (took_there [] (x ∷ l) t.arrived j)
-    dest [] t j e =
-        let v : (wants graph p q st ≡ true) × (graph.child st.dest.node (last_of q) ≡ Some n) × (st.victim ≡ None) =
-        victim_taken (wants graph p q st) (graph.child st.dest.node (last_of q)) st.victim (moved_node (rename_at graph p q st).1 (graph.child st.source.node (last_of p))) n (dir_takes (graph.shape st.dest.node) (rename_move graph p q st) n e).1 in
-        There (Replaced p q rem way t j v.0 v.1 v.2) behind (took_there [] [] t.arrived j)
+    dest (x ∷ l) t j e = There (Of_head Dest c p q x l rem way t j (step_takes graph st.dest.node x l at_dest n e)) behind (took_there [] (x ∷ l) t.arrived j)
+    dest [] t j e = at_both c rem (dir_takes (graph.shape st.dest.node) (parents_move graph c p q st) n e).1
+      where
+        -- only a rename takes there
+        at_both : (c : PairCall) → op.remaining ≡ AtPair c p q → parents_move graph c p q st ≡ Takes n → Take graph op n st
+        at_both pairs.Rename rem e =
+            let v : (wants graph p q st ≡ true) × (graph.child st.dest.node (last_of q) ≡ Some n) × (st.victim ≡ None) =
+            victim_taken (wants graph p q st) (graph.child st.dest.node (last_of q)) st.victim (moved_node (rename_at graph p q st).1 (graph.child st.source.node (last_of p))) n e in
+            There (Replaced p q rem way t j v.0 v.1 v.2) behind (took_there [] [] t.arrived j)
 
     source : (l : Key) → left st.source.walked (parent_of p) ≡ l → first_of (step_move graph st.source.node l) rest ≡ Takes n → Take graph op n st
-    source (x ∷ l) i e = There (Of_head Source p q x l rem way tt i (step_takes graph st.source.node x l rest n e)) behind (took_there (x ∷ l) (left st.dest.walked (parent_of q)) i refl)
+    source (x ∷ l) i e = There (Of_head Source c p q x l rem way tt i (step_takes graph st.source.node x l rest n e)) behind (took_there (x ∷ l) (left st.dest.walked (parent_of q)) i refl)
     source [] i e =
         let d : ((names : List Name) × (graph.shape st.source.node ≡ Some (Dir names))) × (first_of (step_move graph st.dest.node (left st.dest.walked (parent_of q))) at_dest ≡ Takes n) =
         dir_takes (graph.shape st.source.node) (first_of (step_move graph st.dest.node (left st.dest.walked (parent_of q))) at_dest) n e in
@@ -130,16 +137,16 @@ takes_by graph op n st on m = way (target op.remaining) refl past.1
     past : (st.behind ≡ None) × (first_of (step_move graph st.node (target op.remaining)) (target_move graph op.remaining st) ≡ Takes n)
     past = take_past st.behind (first_of (step_move graph st.node (target op.remaining)) (target_move graph op.remaining st)) n m
 
-    no_take : Finishes None ≡ Takes n → ⊥
+    no_take : Finishes Nothing ≡ Takes n → ⊥
     no_take e = cc
 
     there : (rem : Form) → op.remaining ≡ rem → target rem ≡ [] → target_move graph rem st ≡ Takes n → Take graph op n st
     there (AtNode e p) i w f = absurd (no_take f)
     there (AtEntry e p) i w f =
         let v : (victim_of e (entry_shape graph st.node (last_of p)) ≡ true) × (graph.child st.node (last_of p) ≡ Some n) × (st.victim ≡ None) =
-        victim_taken (victim_of e (entry_shape graph st.node (last_of p))) (graph.child st.node (last_of p)) st.victim None n f in
+        victim_taken (victim_of e (entry_shape graph st.node (last_of p))) (graph.child st.node (last_of p)) st.victim Nothing n f in
         There (Entry e p i w v.1 v.2) past.0 (ap₂ (λ (s : Option Holdings) (k : Key). took_by op s k n) on (ap target i ∙ w) ∙ ap (λ (g : Form). record op { holdings = Some (target_took g st n) }) i)
-    there (AtPair pairs.Rename p q) i w f = fork_takes graph op n st p q on i w past.0 f
+    there (AtPair c p q) i w f = fork_takes graph op n st c p q on i w past.0 f
 
     way : (l : Key) → target op.remaining ≡ l → first_of (step_move graph st.node l) (target_move graph op.remaining st) ≡ Takes n → Take graph op n st
     way (x ∷ l) i e = Walk x l i past.0 (step_takes graph st.node x l (target_move graph op.remaining st) n e) (ap₂ (λ (s : Option Holdings) (k : Key). took_by op s k n) on i)

@@ -4,6 +4,7 @@ use Rattle.fs_names.specs.Keys.{Key, after_prefix, parent_of, last_of}
 use Rattle.fs_names.specs.Names.{Name}
 use Rattle.fs_names.specs.Parts.{common, left, left_by}
 use Rattle.fs_calls.specs.Forms.{Form, AtPair}
+use Rattle.fs_calls.specs.declared.target.PairCall.{PairCall}
 use Rattle.fs_calls.specs.declared.target.PairCall.TheVariants as pairs
 use Rattle.fs_nodes.specs.Graphs.{Graph, at, numbers, set_at}
 use Rattle.fs_machine.specs.Moves.{head_took, took, victim_took, stepped}
@@ -43,11 +44,11 @@ left_on w l whole x e =
     let j : left (w ++ x ∷ []) whole ≡ l = ap left_by (ap (after_prefix (w ++ x ∷ [])) i ∙ prefix_append (w ++ x ∷ []) l) in
     i ∙ ap (λ (k : Key). (w ++ x ∷ []) ++ k) (sym j)
 
-pub forked_of : (graph : Graph) (n : ℕ) (p q : Key) (st : Holdings) (remaining : Form) → remaining ≡ AtPair pairs.Rename p q → common (parent_of p) (parent_of q) ≡ [] → HeadsSound graph n remaining st → Forked graph n p q st
-forked_of graph n p q st remaining rem way well = subst (ForkedAt graph n p q st) way (subst (λ (f : Form). HeadsSound graph n f st) rem well)
+pub forked_of : (graph : Graph) (n : ℕ) (c : PairCall) (p q : Key) (st : Holdings) (remaining : Form) → remaining ≡ AtPair c p q → common (parent_of p) (parent_of q) ≡ [] → HeadsSound graph n remaining st → Forked graph n p q st
+forked_of graph n c p q st remaining rem way well = subst (ForkedAt graph n p q st) way (subst (λ (f : Form). HeadsSound graph n f st) rem well)
 
-well_of : (graph : Graph) (n : ℕ) (p q : Key) (st : Holdings) (remaining : Form) → remaining ≡ AtPair pairs.Rename p q → common (parent_of p) (parent_of q) ≡ [] → Forked graph n p q st → HeadsSound graph n remaining st
-well_of graph n p q st remaining rem way f = subst (λ (g : Form). HeadsSound graph n g st) (sym rem) (subst (ForkedAt graph n p q st) (sym way) f)
+well_of : (graph : Graph) (n : ℕ) (c : PairCall) (p q : Key) (st : Holdings) (remaining : Form) → remaining ≡ AtPair c p q → common (parent_of p) (parent_of q) ≡ [] → Forked graph n p q st → HeadsSound graph n remaining st
+well_of graph n c p q st remaining rem way f = subst (λ (g : Form). HeadsSound graph n g st) (sym rem) (subst (ForkedAt graph n p q st) (sym way) f)
 
 -- what a call keeps where it stands after a take at its target
 pub record KeptThere (graph : Graph) (k : Key) (op : Record) (n : ℕ) (st new : Holdings) : Type 0 where
@@ -57,24 +58,24 @@ pub record KeptThere (graph : Graph) (k : Key) (op : Record) (n : ℕ) (st new :
   pub victim : VictimAt graph op.remaining new
 
 -- the next node of a head
-head_there : (side : Side) (graph : Graph) (k : Key) (op : Record) (n : ℕ) (st : Holdings) (p q : Key) (x : Name) (l : Key) → Located (numbers graph) k st → HeadsSound graph st.node op.remaining st → VictimAt graph op.remaining st → st.behind ≡ None
-    → op.remaining ≡ AtPair pairs.Rename p q → common (parent_of p) (parent_of q) ≡ [] → left (head_on side st).walked (parent_of (of_side side p q)) ≡ x ∷ l → graph.child (head_on side st).node x ≡ Some n
+head_there : (side : Side) (graph : Graph) (k : Key) (op : Record) (n : ℕ) (st : Holdings) (c : PairCall) (p q : Key) (x : Name) (l : Key) → Located (numbers graph) k st → HeadsSound graph st.node op.remaining st → VictimAt graph op.remaining st → st.behind ≡ None
+    → op.remaining ≡ AtPair c p q → common (parent_of p) (parent_of q) ≡ [] → left (head_on side st).walked (parent_of (of_side side p q)) ≡ x ∷ l → graph.child (head_on side st).node x ≡ Some n
     → KeptThere graph k op n st (stepped side st x n)
-head_there side graph k op n st p q x l loc well victim b rem way at_left child = record {
+head_there side graph k op n st c p q x l loc well victim b rem way at_left child = record {
   taken = takes_head side (numbers graph) k st x n b (loc.head side) (node_held side (numbers graph) k st loc) at_n;
   located = record { here = loc.here; head = heads_with (λ (at : Side) (h : Head). numbers graph (k ++ h.walked) ≡ Some h.node) side (head_took (head_on side st) x n) st at_longer loc.head };
-  well = well_of graph st.node p q (stepped side st x n) op.remaining rem way (record {
+  well = well_of graph st.node c p q (stepped side st x n) op.remaining rem way (record {
     stands = heads_with (λ (side : Side) (h : Head). at graph.child st.node h.walked ≡ Some h.node) side (head_took (head_on side st) x n) st (sym (at_from graph.child 0 st.node k (walked ++ x ∷ []) loc.here) ∙ at_longer) f.stands;
     path = heads_with (λ (side : Side) (h : Head). parent_of (of_side side p q) ≡ h.walked ++ left h.walked (parent_of (of_side side p q))) side (head_took (head_on side st) x n) st (left_on walked l (parent_of (of_side side p q)) x (f.path side ∙ ap (λ (y : Key). walked ++ y) at_left)) f.path;
   });
-  victim = subst (λ (g : Form). VictimAt graph g (stepped side st x n)) (sym rem) (kept side at_left);
+  victim = subst (λ (g : Form). VictimAt graph g (stepped side st x n)) (sym rem) (kept c side rem at_left);
 }
   where
     walked : Key
     walked = (head_on side st).walked
 
     f : Forked graph st.node p q st
-    f = forked_of graph st.node p q st op.remaining rem way well
+    f = forked_of graph st.node c p q st op.remaining rem way well
 
     at_n : numbers graph ((k ++ walked) ++ x ∷ []) ≡ Some n
     at_n = at_child graph.child 0 (head_on side st).node (k ++ walked) x (loc.head side) ∙ child
@@ -82,19 +83,22 @@ head_there side graph k op n st p q x l loc well victim b rem way at_left child 
     at_longer : numbers graph (k ++ (walked ++ x ∷ [])) ≡ Some n
     at_longer = ap (numbers graph) (sym (append_assoc k walked (x ∷ []))) ∙ at_n
 
-    vic : VictimAt graph (AtPair pairs.Rename p q) st
-    vic = subst (λ (g : Form). VictimAt graph g st) rem victim
+    -- a rename holds a victim only once the destination head has arrived
+    kept : (c : PairCall) (side : Side) → op.remaining ≡ AtPair c p q → left (head_on side st).walked (parent_of (of_side side p q)) ≡ x ∷ l → VictimAt graph (AtPair c p q) (stepped side st x n)
+    kept pairs.Rename side rem = go side
+      where
+        vic : VictimAt graph (AtPair pairs.Rename p q) st
+        vic = subst (λ (g : Form). VictimAt graph g st) rem victim
 
-    -- a victim is held only once the destination head has arrived
-    none_yet : (v : ℕ) → st.victim ≡ Some v → left st.dest.walked (parent_of q) ≡ x ∷ l → ⊥
-    none_yet v e left_is = let z : ◌≡◌ {A = Key} [] (x ∷ l) = sym (none_left st.dest.walked (parent_of q) (vic v e).1) ∙ left_is in cc
+        none_yet : (v : ℕ) → st.victim ≡ Some v → left st.dest.walked (parent_of q) ≡ x ∷ l → ⊥
+        none_yet v e left_is = let z : ◌≡◌ {A = Key} [] (x ∷ l) = sym (none_left st.dest.walked (parent_of q) (vic v e).1) ∙ left_is in cc
 
-    kept : (side : Side) → left (head_on side st).walked (parent_of (of_side side p q)) ≡ x ∷ l → VictimAt graph (AtPair pairs.Rename p q) (stepped side st x n)
-    kept Source e = vic
-    kept Dest e = λ v i. absurd (none_yet v i e)
+        go : (side : Side) → left (head_on side st).walked (parent_of (of_side side p q)) ≡ x ∷ l → VictimAt graph (AtPair pairs.Rename p q) (stepped side st x n)
+        go Source e = vic
+        go Dest e = λ v i. absurd (none_yet v i e)
 
 pub kept_there : (graph : Graph) (k : Key) (op : Record) (n : ℕ) (st : Holdings) → Located (numbers graph) k st → HeadsSound graph st.node op.remaining st → VictimAt graph op.remaining st → st.behind ≡ None → (t : AtTarget graph op n st) → KeptThere graph k op n st (stands t)
-kept_there graph k op n st loc well victim b (Of_head side p q x l rem way turn at_left child) = head_there side graph k op n st p q x l loc well victim b rem way at_left child
+kept_there graph k op n st loc well victim b (Of_head side c p q x l rem way turn at_left child) = head_there side graph k op n st c p q x l loc well victim b rem way at_left child
 kept_there graph k op n st loc well victim b (Entry e p rem way child off) = record {
   taken = takes_victim (numbers graph) k st k st.node (last_of p) n off loc.here (inl refl) (at_child graph.child 0 st.node k (last_of p) loc.here ∙ child);
   located = record { here = loc.here; head = loc.head };
@@ -104,12 +108,12 @@ kept_there graph k op n st loc well victim b (Entry e p rem way child off) = rec
 kept_there graph k op n st loc well victim b (Replaced p q rem way there at_left want child off) = record {
   taken = takes_victim (numbers graph) k st (k ++ st.dest.walked) st.dest.node (last_of q) n off (loc.head Dest) (node_held Dest (numbers graph) k st loc) (at_child graph.child 0 st.dest.node (k ++ st.dest.walked) (last_of q) (loc.head Dest) ∙ child);
   located = record { here = loc.here; head = loc.head };
-  well = well_of graph st.node p q (victim_took st n) op.remaining rem way (record { stands = f.stands; path = f.path });
+  well = well_of graph st.node pairs.Rename p q (victim_took st n) op.remaining rem way (record { stands = f.stands; path = f.path });
   victim = subst (λ (g : Form). VictimAt graph g (victim_took st n)) (sym rem) (λ v i. (child ∙ i, f.path Dest ∙ ap (λ (y : Key). st.dest.walked ++ y) at_left ∙ append-nil st.dest.walked));
 }
   where
     f : Forked graph st.node p q st
-    f = forked_of graph st.node p q st op.remaining rem way well
+    f = forked_of graph st.node pairs.Rename p q st op.remaining rem way well
 
 -- a take that leaves the position
 take_there : (old : State) (inv : Invariant old) (c : ℕ) (op : Record) (n : ℕ) (st : Holdings) → Taker old inv c op n → op.holdings ≡ Some st → (t : AtTarget old.graph op n st) → st.behind ≡ None → took op n ≡ with_holdings op (stands t) → Invariant (taking old c op n)

@@ -5,7 +5,6 @@ use Rattle.fs_names.specs.Keys.{Key}
 use Rattle.fs_names.specs.Names.{Name, has_name}
 use Rattle.fs_names.specs.Shapes.{Shape, Dir, File}
 use Rattle.fs_calls.specs.Forms.{form, Form, AtNode, AtEntry, AtPair, new_shape, reserves, under, Fits}
-use Rattle.fs_calls.specs.declared.target.PairCall.TheVariants as pairs
 use Rattle.fs_calls.specs.declared.target.EntryCall.{EntryCall}
 use Rattle.fs_calls.specs.declared.target.EntryCall.TheVariants.{Mkdir, Mknod, Unlink, Rmdir}
 use Rattle.fs_laws.specs.Maps.{Map}
@@ -208,18 +207,18 @@ bare_of : (call : Form) (s : Shape) → reserves call ≡ Some s → (names : Li
 bare_of (AtNode c p) s i = cc
 bare_of (AtEntry e []) s i = cc
 bare_of (AtEntry e (y ∷ p)) s i = bare_new e s i
-bare_of (AtPair pairs.Rename p q) s i = cc
+bare_of (AtPair c p q) s i = cc
 
 -- what the new number is for
 number_given : (graph : Graph) (call : Form) (s : Shape) (n : ℕ) → reserves call ≡ Some s → graph.shape n ≡ Some s → ((key : Key) → numbers graph key ≡ Some n → ⊥) → Fits call → NumberFor graph call (Some n)
 number_given graph (AtNode c p) s n i e loose f = tt
-number_given graph (AtPair pairs.Rename p q) s n i e loose f = tt
+number_given graph (AtPair c p q) s n i e loose f = tt
 number_given graph (AtEntry c []) s n i e loose f = cc
 number_given graph (AtEntry c (y ∷ p)) s n i e loose f = λ shape j. (n, refl, (let z : ◌≡◌ {A = Option Shape} (Some s) (Some shape) = sym i ∙ j in e ∙ z), loose)
 
 number_none : (graph : Graph) (call : Form) → reserves call ≡ None → Fits call → NumberFor graph call None
 number_none graph (AtNode c p) i f = tt
-number_none graph (AtPair pairs.Rename p q) i f = tt
+number_none graph (AtPair c p q) i f = tt
 number_none graph (AtEntry c []) i f = cc
 number_none graph (AtEntry c (y ∷ p)) i f = λ shape j. (let z : ◌≡◌ {A = Option Shape} None (Some shape) = sym i ∙ j in absurd (no_shape shape z))
   where

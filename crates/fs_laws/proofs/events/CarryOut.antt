@@ -3,15 +3,16 @@ use Rattle.std.proofs.Common.{◌≡◌, ℕ, ◌<◌, List, [], ◌∷◌, ◌+
 use Rattle.fs_calls.specs.Sights.{tree_shapes}
 use Rattle.fs_names.specs.Keys.{Key, after_prefix}
 use Rattle.fs_names.specs.Shapes.{Shape}
-use Rattle.fs_laws.specs.Changes.{Change, reply}
+use Rattle.fs_laws.specs.Changes.{Rekeying, Stay, MoveTo, Swap, Change, reply}
 use Rattle.fs_calls.specs.Forms.{form, Form, under, Fits, by_text}
-use Rattle.fs_laws.specs.Maps.{Map}
+use Rattle.fs_laws.specs.Maps.{Map, swapped_by}
 use Rattle.fs_calls.specs.declared.errno.Errno.{Errno}
 use Rattle.fs_calls.specs.declared.reply.Reply.{Reply}
 use Rattle.fs_nodes.specs.Graphs.{Graph, numbers, graph_shapes, set_at}
 use Rattle.fs_machine.specs.Finishes.{Effect, effect_at, effect_of, finish}
 use Rattle.fs_machine.specs.Moves.{next_on}
 use Rattle.fs_machine.specs.declared.moves.Move.TheVariants.{Finish as Finishes}
+use Rattle.fs_machine.specs.declared.moves.Moved.{Moved}
 use Rattle.fs_machine.specs.Records.{Phase, Walking, Placed, Finished, Record, Records, Holdings}
 use Rattle.fs_laws.specs.JournalViews.{start, view_after}
 use Rattle.fs_laws.specs.Invariants.{remaining_of, spots, IsPlaced, AllLater, InOrder, HasSpare, IsIn, Own, Invariant, StepKeeps, Tied}
@@ -130,9 +131,10 @@ spots_append ops key (x ∷ xs) ys = ap (λ (ps : List (Key × Form)). (key x, r
 rekey_off : (k : Key) (x : Change) (kd : Key) → after_prefix k kd ≡ None → rekey (change_under k x) kd ≡ kd
 rekey_off k x kd off = go x.moves
   where
-    go : (m : Option (Key × Key)) → rekey_move (moves_under k m) kd ≡ kd
-    go None = refl
-    go (Some m) = ap (rekey_by (k ++ m.1) kd) (prefix_deeper k m.0 kd off)
+    go : (m : Rekeying) → rekey_move (moves_under k m) kd ≡ kd
+    go Stay = refl
+    go (MoveTo s t) = ap (rekey_by (k ++ t) kd) (prefix_deeper k s kd off)
+    go (Swap s t) = ap₂ (swapped_by (k ++ s) (k ++ t) kd) (prefix_deeper k s kd off) (prefix_deeper k t kd off)
 
 spots_off : (ops : Records) (key : ℕ → Key) (ch : Change) (cs : List ℕ) → ((d : ℕ) → IsIn d cs → rekey ch (key d) ≡ key d) → spots ops (λ d. rekey ch (key d)) cs ≡ spots ops key cs
 spots_off ops key ch [] h = refl
@@ -142,7 +144,7 @@ spots_off ops key ch (d ∷ cs) h = ap₂ (λ (k : Key) (ps : List (Key × Form)
 pub text_nowhere : (graph : Graph) (op : Record) (e : Errno) → Own graph op → Fits op.remaining → by_text (form op.call) ≡ Some e → ⊥
 text_nowhere graph op e own fits text = let z : ◌≡◌ {A = Option Errno} (Some e) None = sym text ∙ ap by_text (sym own.parts) ∙ fits_under op.walked op.remaining fits in cc
 
-carry_in_place : (old : State) (inv : Invariant old) (c : ℕ) (op : Record) (i : ℕ) (st : Holdings) (o : Option ℕ) (front back : List ℕ) → inv.order ≡ front ++ c ∷ back → old.ops c ≡ Some op → op.phase ≡ Placed i → by_text (form op.call) ≡ None → op.holdings ≡ Some st → next_on old.graph op.remaining st ≡ Finishes o
+carry_in_place : (old : State) (inv : Invariant old) (c : ℕ) (op : Record) (i : ℕ) (st : Holdings) (o : Moved) (front back : List ℕ) → inv.order ≡ front ++ c ∷ back → old.ops c ≡ Some op → op.phase ≡ Placed i → by_text (form op.call) ≡ None → op.holdings ≡ Some st → next_on old.graph op.remaining st ≡ Finishes o
     → Invariant (carrying old c op)
 carry_in_place old inv c op i st o front back order_is is pl text on n =
     subst (λ (m : Effect). Invariant (ended old c op m old.timeline)) (sym made_is) (ends_keep old inv c op (effect_at old.graph op.remaining st op.reserved) old.timeline made_ends)

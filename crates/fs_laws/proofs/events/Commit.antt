@@ -17,6 +17,7 @@ use Rattle.fs_timeline.specs.declared.entry.Entry.TheVariants.{Commit}
 use Rattle.fs_machine.specs.Finishes.{Effect, no_effect, effect_at, effect_of, finish}
 use Rattle.fs_machine.specs.Moves.{next, next_by, next_on}
 use Rattle.fs_machine.specs.declared.moves.Move.TheVariants.{Finish as Finishes}
+use Rattle.fs_machine.specs.declared.moves.Moved.{Moved}
 use Rattle.fs_machine.specs.Records.{Phase, Walking, Placed, Finished, Record, Records, Holdings}
 use Rattle.fs_laws.specs.JournalViews.{JournalView, start, view_after, IsNext}
 use Rattle.fs_timeline.specs.Timeline.{commit_count}
@@ -45,11 +46,11 @@ use Rattle.fs_laws.proofs.calls.OwnRecord.{reached_used, own_other, own_finished
 use Rattle.fs_laws.proofs.events.JustFinished.{Closing, ended, ends_keep, SameCalls}
 
 -- a call whose next move is to finish is decided by its paths, or stands somewhere
-pub data Ready (graph : Graph) (op : Record) (o : Option ℕ) : Type 0 where
+pub data Ready (graph : Graph) (op : Record) (o : Moved) : Type 0 where
   By_text : (e : Errno) → by_text (form op.call) ≡ Some e → Ready graph op o
   By_holdings : (st : Holdings) → by_text (form op.call) ≡ None → op.holdings ≡ Some st → next_on graph op.remaining st ≡ Finishes o → Ready graph op o
 
-pub ready : (graph : Graph) (op : Record) (o : Option ℕ) → next graph op ≡ Finishes o → Ready graph op o
+pub ready : (graph : Graph) (op : Record) (o : Moved) → next graph op ≡ Finishes o → Ready graph op o
 ready graph op o m = go op.phase (by_text (form op.call)) op.holdings refl refl m
   where
     go : (phase : Phase) (e : Option Errno) (s : Option Holdings) → by_text (form op.call) ≡ e → op.holdings ≡ s → next_by graph op e phase s ≡ Finishes o → Ready graph op o
@@ -77,7 +78,7 @@ pub record Facts (graph : Graph) (ops : Records) (key : ℕ → Key) (c : ℕ) (
   pub tree_is : graph_shapes (effect_at graph op.remaining st op.reserved).graph ≡ changed ch (graph_shapes graph)
   pub passes : (d : ℕ) (p : IsPlaced ops d) → (c ≡ d → ⊥) → IsAfter (Placed p.place) op.phase → ReadsNothingBelow (graph_shapes graph) (under (key c) op.remaining) (key d) × ChangesNothingBelow ch (key d)
 
-pub facts : (graph : Graph) (ops : Records) (key : ℕ → Key) (c : ℕ) (op : Record) (st : Holdings) (o : Option ℕ) → Finisher graph ops key c op st o → Facts graph ops key c op st
+pub facts : (graph : Graph) (ops : Records) (key : ℕ → Key) (c : ℕ) (op : Record) (st : Holdings) (o : Moved) → Finisher graph ops key c op st o → Facts graph ops key c op st
 facts graph ops key c op st o f = record {
   ch = change_under (key c) (looked (below (key c) (graph_shapes graph)) op.remaining).1;
   is_under = ((looked (below (key c) (graph_shapes graph)) op.remaining).1, refl);
@@ -148,7 +149,7 @@ same_committed tree es c call e = record {
     is = view_push (start (tree_shapes tree)) es (Commit c) ∙ noted_commit (view_after (start (tree_shapes tree)) es) c call e
 
 -- a walking call that stands finishes
-commit_in_place : (old : State) (inv : Invariant old) (c : ℕ) (op : Record) (st : Holdings) (o : Option ℕ) → old.ops c ≡ Some op → op.phase ≡ Walking → NoneBelow old o → by_text (form op.call) ≡ None → op.holdings ≡ Some st → next_on old.graph op.remaining st ≡ Finishes o
+commit_in_place : (old : State) (inv : Invariant old) (c : ℕ) (op : Record) (st : Holdings) (o : Moved) → old.ops c ≡ Some op → op.phase ≡ Walking → NoneBelow old o → by_text (form op.call) ≡ None → op.holdings ≡ Some st → next_on old.graph op.remaining st ≡ Finishes o
     → Invariant (committing old c op)
 commit_in_place old inv c op st o is w below text on n =
     subst (λ (m : Effect). Invariant (ended old c op m (old.timeline ++ Commit c ∷ []))) (sym made_is) (ends_keep old inv c op (effect_at old.graph op.remaining st op.reserved) (old.timeline ++ Commit c ∷ []) made_ends)
@@ -171,7 +172,7 @@ commit_in_place old inv c op st o is w below text on n =
       single = own.single st on;
       number = own.number unfinished text;
       next = n;
-      none_below = λ p s d q other r i is_q on_q walks there. subst (NoneBelow old) i below d (q, is_q, walks, (other, r, on_q, there));
+      none_below = λ p s d q other r i is_q on_q walks there. below d (s, i, (q, is_q, walks, (other, r, on_q, there)));
       places = λ d q i j differs e g h. (let z : ◌≡◌ {A = Phase} Walking (Placed j) = sym w ∙ h in cc);
     }
 

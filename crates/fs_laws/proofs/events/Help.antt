@@ -230,12 +230,12 @@ helped_inv old d q st inv h = record {
         go (Else n j) (op, f, g) = (op, j ∙ f, g)
 
 pub keeps_helped : (d : ℕ) → StepKeeps (Helped d)
-keeps_helped d old new seat inv (c, op, s, moves, walks, (((p, is_p, w, (st, r, on, b)), lowest), least), q, is_q, same_name) =
+keeps_helped d old new seat inv (c, op, s, moves, walks, (((n, m, (p, is_p, w, (st, r, on, b))), lowest), least), q, is_q, same_name) =
     let a : ◌≡◌ {A = Option Record} (Some p) (Some q) = sym is_p ∙ is_q in
     let e : p ≡ q = cc in
     subst Invariant (sym same_name) (helped_inv old d q st inv (record {
       is = is_q;
       walks = subst (λ (o : Record). o.phase ≡ Walking) e w;
       on = subst (λ (o : Record). o.holdings ≡ Some st) e on;
-      lowest = λ x n. lowest p st x is_p on n;
+      lowest = λ x differs. lowest p st x is_p on differs;
     }))

@@ -6,15 +6,18 @@ use Rattle.fs_names.specs.Parts.{common, left}
 use Rattle.fs_names.specs.Names.{Name}
 use Rattle.fs_names.specs.Shapes.{Shape, Dir, File}
 use Rattle.fs_calls.specs.Forms.{form, Form, AtNode, AtEntry, AtPair, by_text}
+use Rattle.fs_calls.specs.declared.target.PairCall.{PairCall}
 use Rattle.fs_calls.specs.declared.target.PairCall.TheVariants as pairs
 use Rattle.fs_laws.specs.Maps.{Map}
 use Rattle.fs_calls.specs.declared.errno.Errno.{Errno}
 use Rattle.fs_calls.specs.declared.reply.Reply.{Reply}
 use Rattle.fs_nodes.specs.Graphs.{Graph, at, numbers, graph_shapes, entry_shape, set_at, IsGraph, released_in}
 use Rattle.fs_machine.specs.Leaving.{is_removed, releasing, cleared}
-use Rattle.fs_machine.specs.Moves.{next, next_by, next_on, first_of, step_move, walk_move, take_if, target, target_move, victim_of, same_kind, rename_move, rename_at, moved_node, dir_then, last_held, first_walked, left_heads, left_last, left_holdings}
+use Rattle.fs_machine.specs.Moves.{next, next_by, next_on, first_of, step_move, walk_move, take_if, target, target_move, victim_of, same_kind, parents_move, rename_at, moved_node, dir_then, last_held, first_walked, left_heads, left_last, left_holdings}
 use Rattle.fs_machine.specs.declared.moves.Move.{Move}
 use Rattle.fs_machine.specs.declared.moves.Move.TheVariants.{LetGo as Leaves, Finish as Finishes}
+use Rattle.fs_machine.specs.declared.moves.Moved.{Moved}
+use Rattle.fs_machine.specs.declared.moves.Moved.TheVariants.{Nothing}
 use Rattle.fs_machine.specs.Records.{Head, Phase, Walking, Placed, Finished, Holds, Record, Holdings, Side, Source, Dest, of_side, head_on, with_head, head_at}
 use Rattle.fs_laws.specs.Invariants.{ForkedAt, HeadsSound, VictimAt, HasSpare, IsSingle, IsUnfinished, Own, Invariant, StepKeeps, Slot, At_node, At_behind, At_head, At_victim, if_walked, in_slot}
 use Rattle.fs_laws.specs.CallFacts.{CallFacts, Shrinks}
@@ -152,7 +155,7 @@ never_walk (Some (File bytes)) child n e = cc
 never_walk (Some (Dir names)) None n e = cc
 never_walk (Some (Dir names)) (Some m) n e = cc
 
-never_take : (b : Bool) (child held m : Option ℕ) (n : ℕ) → take_if b child held (Finishes m) ≡ Leaves n → ⊥
+never_take : (b : Bool) (child held : Option ℕ) (m : Moved) (n : ℕ) → take_if b child held (Finishes m) ≡ Leaves n → ⊥
 never_take false child held m n e = cc
 never_take true None held m n e = cc
 never_take true (Some k) (Some v) m n e = cc
@@ -174,18 +177,21 @@ held_on_move graph rem st n m = go (leave_past st.behind (first_of (step_move gr
     there : (rem : Form) → target_move graph rem st ≡ Leaves n → ⊥
     there (AtNode c p) e = none e
       where
-        none : Finishes None ≡ Leaves n → ⊥
+        none : Finishes Nothing ≡ Leaves n → ⊥
         none e = cc
-    there (AtEntry c p) e = never_take (victim_of c (entry_shape graph st.node (last_of p))) (graph.child st.node (last_of p)) st.victim None n e
-    there (AtPair pairs.Rename p q) e =
-        let at_dest : Move = dir_then (graph.shape st.dest.node) (rename_move graph p q st) in
+    there (AtEntry c p) e = never_take (victim_of c (entry_shape graph st.node (last_of p))) (graph.child st.node (last_of p)) st.victim Nothing n e
+    there (AtPair c p q) e =
+        let at_dest : Move = dir_then (graph.shape st.dest.node) (parents_move graph c p q st) in
         let second : Move = first_of (step_move graph st.dest.node (left st.dest.walked (parent_of q))) at_dest in
         let rest : Move = dir_then (graph.shape st.source.node) second in
         let first : Move = first_of (step_move graph st.source.node (left st.source.walked (parent_of p))) rest in
         let a : rest ≡ Leaves n = step_leaves graph st.source.node (left st.source.walked (parent_of p)) rest n (dir_leaves (graph.shape st.node) first n e) in
         let b : at_dest ≡ Leaves n = step_leaves graph st.dest.node (left st.dest.walked (parent_of q)) at_dest n (dir_leaves (graph.shape st.source.node) second n a) in
-        never_take (same_kind (entry_shape graph st.source.node (last_of p)) (entry_shape graph st.dest.node (last_of q)) && not (is_end (after_prefix p q)) && not (has_more (after_prefix q p))) (graph.child st.dest.node (last_of q)) st.victim (moved_node (rename_at graph p q st).1 (graph.child st.source.node (last_of p))) n
-        (dir_leaves (graph.shape st.dest.node) (rename_move graph p q st) n b)
+        at_both c (dir_leaves (graph.shape st.dest.node) (parents_move graph c p q st) n b)
+      where
+        at_both : (c : PairCall) → parents_move graph c p q st ≡ Leaves n → ⊥
+        at_both pairs.Rename e =
+            never_take (same_kind (entry_shape graph st.source.node (last_of p)) (entry_shape graph st.dest.node (last_of q)) && not (is_end (after_prefix p q)) && not (has_more (after_prefix q p))) (graph.child st.dest.node (last_of q)) st.victim (moved_node (rename_at graph p q st).1 (graph.child st.source.node (last_of p))) n e
 
     go : (st.behind ≡ Some n) ⊎ (first_of (step_move graph st.node (target rem)) (target_move graph rem st) ≡ Leaves n) → st.behind ≡ Some n
     go (inl e) = e
@@ -330,7 +336,7 @@ head_well graph n before after whole (inr i) e f = subst (λ (h : Head). (at gra
 pub well_left : (graph : Graph) (st new : Holdings) (n : ℕ) (remaining : Form) → Lets st new n → HeadsSound graph st.node remaining st → HeadsSound graph new.node remaining new
 well_left graph st new n (AtNode c p) l w = w
 well_left graph st new n (AtEntry c p) l w = w
-well_left graph st new n (AtPair pairs.Rename p q) l w = subst (λ (m : ℕ). HeadsSound graph m (AtPair pairs.Rename p q) new) (sym l.node) (go (common (parent_of p) (parent_of q)) w)
+well_left graph st new n (AtPair c p q) l w = subst (λ (m : ℕ). HeadsSound graph m (AtPair c p q) new) (sym l.node) (go (common (parent_of p) (parent_of q)) w)
   where
     go : (k : Key) → ForkedAt graph st.node p q st k → ForkedAt graph st.node p q new k
     go (x ∷ k) w = w

@@ -5,6 +5,7 @@ use Rattle.fs_names.specs.Names.{Name, same_name}
 use Rattle.fs_names.specs.Parts.{common, left}
 use Rattle.fs_names.specs.Shapes.{Shape, Dir, File}
 use Rattle.fs_calls.specs.Forms.{form, NodeCall, Form, AtNode, AtEntry, AtPair, by_text, under, Fits}
+use Rattle.fs_calls.specs.declared.target.PairCall.{PairCall}
 use Rattle.fs_calls.specs.declared.target.PairCall.TheVariants as pairs
 use Rattle.fs_calls.specs.declared.target.EntryCall.{EntryCall}
 use Rattle.fs_calls.proofs.RowNames.{if_below}
@@ -52,7 +53,7 @@ takes_from graph op n m = go op.phase (by_text (form op.call)) op.holdings refl 
 pub fresh_well : (graph : Graph) (n : ℕ) (behind : Option ℕ) (remaining : Form) → HeadsSound graph n remaining (holdings_at n behind)
 fresh_well graph n behind (AtNode c p) = tt
 fresh_well graph n behind (AtEntry c p) = tt
-fresh_well graph n behind (AtPair pairs.Rename p q) = go (common (parent_of p) (parent_of q))
+fresh_well graph n behind (AtPair c p q) = go (common (parent_of p) (parent_of q))
   where
     go : (l : Key) → ForkedAt graph n p q (holdings_at n behind) l
     go [] = record {
@@ -144,7 +145,7 @@ own_fresh graph op v n behind o unf phase reserved removed call on parts number 
 pub under_nil : (call : Form) → under [] call ≡ call
 under_nil (AtNode c p) = refl
 under_nil (AtEntry c p) = refl
-under_nil (AtPair pairs.Rename p q) = refl
+under_nil (AtPair c p q) = refl
 
 -- the root
 pub take_root : (old : State) (inv : Invariant old) (c : ℕ) (op : Record) (n : ℕ) → Taker old inv c op n → by_text (form op.call) ≡ None → op.holdings ≡ None → 0 ≡ n → Invariant (taking old c op n)
@@ -188,6 +189,10 @@ pub record Inner (k x : Key) (rem : Form) : Type 0 where
   pub fits : Fits rem → Fits (inner rem)
   pub same : under (k ++ x) (inner rem) ≡ under k rem
 
+-- paths with the same first name are in the same relation without it
+pair_inner : (c : PairCall) (y z : Name) (p : Key) (w u : Name) (q : Key) → same_name y w ≡ true → Fits (AtPair c (y ∷ z ∷ p) (w ∷ u ∷ q)) → Fits (AtPair c (z ∷ p) (u ∷ q))
+pair_inner pairs.Rename y z p w u q i g = sym (ap (λ (b : Bool). if_below (cond b (after_prefix (z ∷ p) (u ∷ q)) None)) i) ∙ g
+
 pub inner_on : (k : Key) (x : Name) (l : Key) (rem : Form) → target rem ≡ x ∷ l → Inner k (x ∷ []) rem
 inner_on k x l (AtNode c []) e = cc
 inner_on k x l (AtNode c (y ∷ p)) e = let z : y ≡ x = cc in record { fits = λ f. refl; same = append_step c k x y p z }
@@ -200,29 +205,29 @@ inner_on k x l (AtEntry c (y ∷ z ∷ p)) e = let i : y ≡ x = cc in record { 
   where
     append_step : (c : EntryCall) (k : Key) (x y : Name) (p : Key) → y ≡ x → AtEntry c ((k ++ x ∷ []) ++ p) ≡ AtEntry c (k ++ y ∷ p)
     append_step c k x y p z = ap (λ (l : Key). AtEntry c l) (append_assoc k (x ∷ []) p ∙ ap (λ (n : Name). k ++ n ∷ p) (sym z))
-inner_on k x l (AtPair pairs.Rename [] q) e = cc
-inner_on k x l (AtPair pairs.Rename (y ∷ []) q) e = cc
-inner_on k x l (AtPair pairs.Rename (y ∷ z ∷ p) []) e = cc
-inner_on k x l (AtPair pairs.Rename (y ∷ z ∷ p) (w ∷ [])) e = cc
-inner_on k x l (AtPair pairs.Rename (y ∷ z ∷ p) (w ∷ u ∷ q)) e = go (same_name y w) refl e
+inner_on k x l (AtPair c [] q) e = cc
+inner_on k x l (AtPair c (y ∷ []) q) e = cc
+inner_on k x l (AtPair c (y ∷ z ∷ p) []) e = cc
+inner_on k x l (AtPair c (y ∷ z ∷ p) (w ∷ [])) e = cc
+inner_on k x l (AtPair c (y ∷ z ∷ p) (w ∷ u ∷ q)) e = go (same_name y w) refl e
   where
     append_step : (k : Key) (x y : Name) (p : Key) → y ≡ x → (k ++ x ∷ []) ++ p ≡ k ++ y ∷ p
     append_step k x y p z = append_assoc k (x ∷ []) p ∙ ap (λ (n : Name). k ++ n ∷ p) (sym z)
 
-    go : (b : Bool) → same_name y w ≡ b → cond b (y ∷ common (parent_of (z ∷ p)) (parent_of (u ∷ q))) [] ≡ x ∷ l → Inner k (x ∷ []) (AtPair pairs.Rename (y ∷ z ∷ p) (w ∷ u ∷ q))
+    go : (b : Bool) → same_name y w ≡ b → cond b (y ∷ common (parent_of (z ∷ p)) (parent_of (u ∷ q))) [] ≡ x ∷ l → Inner k (x ∷ []) (AtPair c (y ∷ z ∷ p) (w ∷ u ∷ q))
     go false i f = cc
     go true i f =
         let s : y ≡ x = cc in
         let t : y ≡ w = same_true y w i in
         record {
-          fits = λ g. sym (ap (λ (b : Bool). if_below (cond b (after_prefix (z ∷ p) (u ∷ q)) None)) i) ∙ g;
-          same = ap₂ (AtPair pairs.Rename) (append_step k x y (z ∷ p) s) (append_step k x w (u ∷ q) (sym t ∙ s));
+          fits = λ g. pair_inner c y z p w u q i g;
+          same = ap₂ (AtPair c) (append_step k x y (z ∷ p) s) (append_step k x w (u ∷ q) (sym t ∙ s));
         }
 
 pub number_inner : (graph : Graph) (rem : Form) (reserved : Option ℕ) → NumberFor graph rem reserved → NumberFor graph (inner rem) reserved
 number_inner graph (AtNode c p) reserved n = n
 number_inner graph (AtEntry c p) reserved n = n
-number_inner graph (AtPair pairs.Rename p q) reserved n = n
+number_inner graph (AtPair c p q) reserved n = n
 
 -- a walk that takes
 pub walk_takes : (s : Option Shape) (child : Option ℕ) (n : ℕ) → walk_move s child ≡ Takes n → child ≡ Some n

@@ -3,7 +3,7 @@ use Rattle.std.proofs.Common.{◌≡◌, ℕ, Bool, true, false, List, [], ◌�
 use Rattle.fs_names.specs.Keys.{Key, last_of}
 use Rattle.fs_names.specs.Names.{Name}
 use Rattle.fs_names.specs.Shapes.{Shape, Dir, File}
-use Rattle.fs_laws.specs.Changes.{Change, content_change, edit_change}
+use Rattle.fs_laws.specs.Changes.{Rekeying, Stay, Change, content_change, edit_change}
 use Rattle.fs_calls.specs.Forms.{NodeCall, Form, AtEntry, new_shape}
 use Rattle.fs_calls.specs.declared.target.EntryCall.{EntryCall}
 use Rattle.fs_calls.specs.declared.target.EntryCall.TheVariants.{Mkdir, Mknod, Unlink, Rmdir}
@@ -16,7 +16,10 @@ use Rattle.fs_nodes.specs.Graphs.{Graph, at, then_at, numbers, entry_shape, IsGr
 use Rattle.fs_machine.specs.Finishes.{Effect, no_effect, node_effect, entry_effect}
 use Rattle.fs_machine.specs.Moves.{take_if, next_on, victim_of, entry_move}
 use Rattle.fs_machine.specs.declared.moves.Move.TheVariants.{Finish as Finishes}
+use Rattle.fs_machine.specs.declared.moves.Moved.{Moved}
+use Rattle.fs_machine.specs.declared.moves.Moved.TheVariants.{Nothing}
 use Rattle.fs_machine.specs.Records.{Walking, Placed, Record, Records, Holdings, Side, head_on}
+use Rattle.fs_machine.specs.States.{IsMoved}
 use Rattle.fs_laws.specs.Invariants.{HeadsSound, VictimAt, NumberFor, HasNumber, IsSingle, At_node, At_head, At_victim, if_walked}
 use Rattle.fs_laws.specs.Placed.{rekey, rekey_move}
 use Rattle.fs_laws.specs.CallFacts.{Located, CallFacts}
@@ -29,7 +32,7 @@ use Rattle.fs_laws.proofs.graphs.Alterations.{Altered, Reached, altered_same, al
 use Rattle.fs_laws.proofs.helping.ReadsNothingBelow.{take_done}
 
 -- a call that stands somewhere and whose next move is to finish
-pub record Finisher (graph : Graph) (ops : Records) (key : ℕ → Key) (c : ℕ) (op : Record) (st : Holdings) (o : Option ℕ) : Type 0 where
+pub record Finisher (graph : Graph) (ops : Records) (key : ℕ → Key) (c : ℕ) (op : Record) (st : Holdings) (o : Moved) : Type 0 where
   pub is_graph : IsGraph graph
   pub kept : CallFacts (numbers graph) ops key
   pub is : ops c ≡ Some op
@@ -41,7 +44,7 @@ pub record Finisher (graph : Graph) (ops : Records) (key : ℕ → Key) (c : ℕ
   pub number : NumberFor graph op.remaining op.reserved
   pub next : next_on graph op.remaining st ≡ Finishes o
   -- while it walks, no walking call is below what it would move
-  pub none_below : op.phase ≡ Walking → (s d : ℕ) (q : Record) (other : Holdings) (r : Key) → o ≡ Some s → ops d ≡ Some q → q.holdings ≡ Some other → q.phase ≡ Walking → at graph.child s r ≡ Some other.node → ⊥
+  pub none_below : op.phase ≡ Walking → (s d : ℕ) (q : Record) (other : Holdings) (r : Key) → IsMoved o s → ops d ≡ Some q → q.holdings ≡ Some other → q.phase ≡ Walking → at graph.child s r ≡ Some other.node → ⊥
   -- no two calls have one place
   pub places : (d : ℕ) (q : Record) (i j : ℕ) → (c ≡ d → ⊥) → ops d ≡ Some q → q.phase ≡ Placed i → op.phase ≡ Placed j → i ≡ j → ⊥
 
@@ -54,10 +57,10 @@ pub record Does (graph : Graph) (ops : Records) (key : ℕ → Key) (st : Holdin
   pub reserved : (n : ℕ) → made.reserved ≡ Some n → number ≡ Some n
   pub removed : (n : ℕ) → made.removed ≡ Some n → (st.victim ≡ Some n) × ((l : Key) → numbers made.graph l ≡ Some n → ⊥) × Reached graph n
 
-kept_still : (tree : Map ℕ) (ops : Records) (key : ℕ → Key) (ch : Change) → ch.moves ≡ None → CallFacts tree ops key → CallFacts tree ops (λ d. rekey ch (key d))
-kept_still tree ops key ch e k = subst (λ (m : Option (Key × Key)). CallFacts tree ops (λ d. rekey_move m (key d))) (sym e) k
+kept_still : (tree : Map ℕ) (ops : Records) (key : ℕ → Key) (ch : Change) → ch.moves ≡ Stay → CallFacts tree ops key → CallFacts tree ops (λ d. rekey ch (key d))
+kept_still tree ops key ch e k = subst (λ (m : Rekeying). CallFacts tree ops (λ d. rekey_move m (key d))) (sym e) k
 
-pub does_nothing : (graph : Graph) (ops : Records) (key : ℕ → Key) (st : Holdings) (reserved : Option ℕ) (ch : Change) (r : Reply) → IsGraph graph → CallFacts (numbers graph) ops key → ch.moves ≡ None → Does graph ops key st reserved ch (no_effect r graph reserved)
+pub does_nothing : (graph : Graph) (ops : Records) (key : ℕ → Key) (st : Holdings) (reserved : Option ℕ) (ch : Change) (r : Reply) → IsGraph graph → CallFacts (numbers graph) ops key → ch.moves ≡ Stay → Does graph ops key st reserved ch (no_effect r graph reserved)
 does_nothing graph ops key st reserved ch r is kept e = record {
   linked = None;
   altered = altered_same graph st is;
@@ -85,7 +88,7 @@ pub does_on : (graph : Graph) (ops : Records) (key : ℕ → Key) (st : Holdings
     → Does graph ops key st reserved (change_under k (content_change p b)) (node_effect graph st.node reserved row)
 does_on graph ops key st reserved k p b (r, None) is kept at_k file = does_nothing graph ops key st reserved (change_under k (content_change p b)) r is kept (none b)
   where
-    none : (b : Option (List ℕ)) → (change_under k (content_change p b)).moves ≡ None
+    none : (b : Option (List ℕ)) → (change_under k (content_change p b)).moves ≡ Stay
     none None = refl
     none (Some bytes) = refl
 does_on graph ops key st reserved k p b (r, Some bytes) is kept at_k file = record {
@@ -97,7 +100,7 @@ does_on graph ops key st reserved k p b (r, Some bytes) is kept at_k file = reco
   removed = λ n i. cc;
 }
   where
-    none : (b : Option (List ℕ)) → (change_under k (content_change p b)).moves ≡ None
+    none : (b : Option (List ℕ)) → (change_under k (content_change p b)).moves ≡ Stay
     none None = refl
     none (Some bytes) = refl
 
@@ -133,7 +136,7 @@ own_off tree k st t v loc single vic at_t = (here, λ side. head side (head_on s
     head side [] i e = here (sym (append-nil k) ∙ ap (λ (l : Key). k ++ l) (sym i) ∙ e)
     head side (x ∷ w) i e = let z : At_head side ≡ At_victim = single (At_head side) At_victim v (ap (λ (l : Key). if_walked l (Some (head_on side st).node)) i ∙ ap Some (node_is (k ++ (head_on side st).walked) (head_on side st).node (loc.head side) e)) vic in cc
 
-none_moves : (k d : Key) (names : List Name) (x : Name) (p : Key) (e : Edit) → (change_under k (edit_change d names x p e)).moves ≡ None
+none_moves : (k d : Key) (names : List Name) (x : Name) (p : Key) (e : Edit) → (change_under k (edit_change d names x p e)).moves ≡ Stay
 none_moves k d names x p Keep = refl
 none_moves k d names x p (Add s) = refl
 none_moves k d names x p Remove = refl
@@ -142,7 +145,7 @@ closed_of : (graph : Graph) (a b : Key) (m : ℕ) → numbers graph (a ++ b) ≡
 closed_of graph a b m e = let g : (q : ℕ) × (numbers graph a ≡ Some q) × (at graph.child q b ≡ Some m) = at_before graph.child 0 m a b e in (g.0, g.1)
 
 -- the leaf that a removal takes out is the victim that the call holds
-pub removed_leaf : (graph : Graph) (st : Holdings) (o : Option ℕ) (e : EntryCall) (p : Key) (ed : Option Errno) (full : Bool)
+pub removed_leaf : (graph : Graph) (st : Holdings) (o : Moved) (e : EntryCall) (p : Key) (ed : Option Errno) (full : Bool)
     → VictimAt graph (AtEntry e p) st → (done : ed ≡ None → entry_move graph e (last_of p) st ≡ Finishes o)
     → (r : Reply) → entry_row e ed full (entry_shape graph st.node (last_of p)) ≡ (r, Remove)
     → (v : ℕ) × (graph.child st.node (last_of p) ≡ Some v) × Leaf (graph.shape v) × (st.victim ≡ Some v)
@@ -160,11 +163,11 @@ removed_leaf graph st o e p ed full vic done r i = (v.0, v.1, v.2, held)
 
     held : st.victim ≡ Some v.0
     held =
-        let t : take_if (victim_of e (entry_shape graph st.node (last_of p))) (Some v.0) st.victim (Finishes None) ≡ Finishes o = ap (λ (n : Option ℕ). take_if (victim_of e (entry_shape graph st.node (last_of p))) n st.victim (Finishes None)) (sym v.1) ∙ done want.0 in
-        let w : (w : ℕ) × (st.victim ≡ Some w) = take_done (victim_of e (entry_shape graph st.node (last_of p))) v.0 st.victim o None want.1 t in
+        let t : take_if (victim_of e (entry_shape graph st.node (last_of p))) (Some v.0) st.victim (Finishes Nothing) ≡ Finishes o = ap (λ (n : Option ℕ). take_if (victim_of e (entry_shape graph st.node (last_of p))) n st.victim (Finishes Nothing)) (sym v.1) ∙ done want.0 in
+        let w : (w : ℕ) × (st.victim ≡ Some w) = take_done (victim_of e (entry_shape graph st.node (last_of p))) v.0 st.victim o Nothing want.1 t in
         w.1 ∙ sym (vic w.0 w.1) ∙ v.1
 
-pub does_in : (graph : Graph) (ops : Records) (key : ℕ → Key) (c : ℕ) (op : Record) (st : Holdings) (o : Option ℕ) (e : EntryCall) (p d : Key) (names : List Name) (z : Name) (pp : Key) (change : Edit) (ed : Option Errno) (full : Bool)
+pub does_in : (graph : Graph) (ops : Records) (key : ℕ → Key) (c : ℕ) (op : Record) (st : Holdings) (o : Moved) (e : EntryCall) (p d : Key) (names : List Name) (z : Name) (pp : Key) (change : Edit) (ed : Option Errno) (full : Bool)
     → Finisher graph ops key c op st o → op.remaining ≡ AtEntry e p
     → (dir : ed ≡ None → (ns : List Name) × (graph.shape st.node ≡ Some (Dir ns)))
     → (done : ed ≡ None → entry_move graph e (last_of p) st ≡ Finishes o)

@@ -14,6 +14,7 @@ use Rattle.fs_calls.specs.declared.errno.Errno.{Errno}
 use Rattle.fs_nodes.specs.Graphs.{Graph, then_at, at, numbers, graph_shapes, entry_shape, IsGraph}
 use Rattle.fs_machine.specs.Moves.{walk_move, walk_errno, path_error, dir_error, there_by, rename_at}
 use Rattle.fs_machine.specs.declared.moves.Move.TheVariants.{Finish as Finishes}
+use Rattle.fs_machine.specs.declared.moves.Moved.TheVariants.{Nothing}
 use Rattle.fs_machine.specs.Records.{Holdings, Source, Dest}
 use Rattle.fs_laws.proofs.trees.Prefixes.{prefix_some}
 use Rattle.fs_laws.proofs.calls.Located.{resolve_under, key_is}
@@ -29,13 +30,13 @@ pub below_is : (graph : Graph) (k : Key) (n : ℕ) → numbers graph k ≡ Some 
 below_is graph k n e = fun_ext (λ r. ap (λ (o : Option ℕ). then_at o graph.shape) (at_from graph.child 0 n k r e))
 
 -- a node with names left, at which the walk stops
-next_stopped : (here below : Option Shape) (child : Option ℕ) (rest : Option Errno) → (child ≡ None → below ≡ None) → walk_move here child ≡ Finishes None → resolve_next here below rest ≡ Some (walk_errno here)
+next_stopped : (here below : Option Shape) (child : Option ℕ) (rest : Option Errno) → (child ≡ None → below ≡ None) → walk_move here child ≡ Finishes Nothing → resolve_next here below rest ≡ Some (walk_errno here)
 next_stopped None below child rest h e = refl
 next_stopped (Some (File bytes)) below child rest h e = refl
 next_stopped (Some (Dir names)) below (Some m) rest h e = cc
 next_stopped (Some (Dir names)) below None rest h e = ap (λ (o : Option Shape). resolve_next (Some (Dir names)) o rest) (h refl)
 
-pub stopped : (graph : Graph) → IsGraph graph → (n h : ℕ) (s : Shape) (w l : Key) (x : Name) → graph.shape n ≡ Some s → at graph.child n w ≡ Some h → walk_move (graph.shape h) (graph.child h x) ≡ Finishes None → resolve (shapes_from graph n) (w ++ x ∷ l) ≡ Some (walk_errno (graph.shape h))
+pub stopped : (graph : Graph) → IsGraph graph → (n h : ℕ) (s : Shape) (w l : Key) (x : Name) → graph.shape n ≡ Some s → at graph.child n w ≡ Some h → walk_move (graph.shape h) (graph.child h x) ≡ Finishes Nothing → resolve (shapes_from graph n) (w ++ x ∷ l) ≡ Some (walk_errno (graph.shape h))
 stopped graph is n h s w l x u e f =
     resolve_under (shapes_from graph n) w (x ∷ l) (resolve_found graph is n h w s u e)
     ∙ ap (λ (t : Map Shape). resolve t (x ∷ l)) (fun_ext (λ r. ap (λ (o : Option ℕ). then_at o graph.shape) (at_from graph.child n h w r e)))
@@ -44,7 +45,7 @@ stopped graph is n h s w l x u e f =
 
 abbrev pub Stops : Graph → ℕ → Key → Type 0
 Stops graph h [] = Unit {0}
-Stops graph h (x ∷ l) = walk_move (graph.shape h) (graph.child h x) ≡ Finishes None
+Stops graph h (x ∷ l) = walk_move (graph.shape h) (graph.child h x) ≡ Finishes Nothing
 
 there : (graph : Graph) (n h : ℕ) (w : Key) → at graph.child n w ≡ Some h → shapes_from graph n w ≡ graph.shape h
 there graph n h w e = ap (λ (o : Option ℕ). then_at o graph.shape) e

@@ -5,12 +5,14 @@ use Rattle.fs_names.specs.Names.{Name, has_name}
 use Rattle.fs_names.specs.Parts.{left}
 use Rattle.fs_names.specs.Shapes.{Shape, Dir, File, is_full}
 use Rattle.fs_calls.specs.Forms.{AtPair, Fits}
+use Rattle.fs_calls.specs.declared.target.PairCall.{PairCall}
 use Rattle.fs_calls.specs.declared.target.PairCall.TheVariants as pairs
 use Rattle.fs_calls.specs.Rows.{to_row}
 use Rattle.fs_nodes.specs.Graphs.{Graph, at, numbers, then_at, entry_shape, IsGraph}
-use Rattle.fs_machine.specs.Moves.{first_of, step_move, take_if, same_kind, fork_move, rename_move, dir_then, dir_error, rename_at, there_by, moved_node}
+use Rattle.fs_machine.specs.Moves.{first_of, step_move, take_if, same_kind, fork_move, rename_move, dir_then, dir_error, rename_at, there_by, moved_node, parents_move}
 use Rattle.fs_machine.specs.declared.moves.Move.{Move}
 use Rattle.fs_machine.specs.declared.moves.Move.TheVariants.{Finish as Finishes}
+use Rattle.fs_machine.specs.declared.moves.Moved.{Moved}
 use Rattle.fs_machine.specs.Records.{Holdings, Source, Dest, Side, of_side, head_on}
 use Rattle.fs_laws.specs.Invariants.{Forked, VictimAt}
 use Rattle.fs_laws.specs.Placed.{Aside}
@@ -41,7 +43,7 @@ dir_of_none [] (Some (Dir names)) e = (names, refl)
 dir_of_none [] (Some (File bytes)) e = cc
 dir_of_none (x ∷ l) s e = cc
 
-dir_then_is : (t : Option Shape) (names : List Name) (m : Move) (o : Option ℕ) → t ≡ Some (Dir names) → dir_then t m ≡ Finishes o → m ≡ Finishes o
+dir_then_is : (t : Option Shape) (names : List Name) (m : Move) (o : Moved) → t ≡ Some (Dir names) → dir_then t m ≡ Finishes o → m ≡ Finishes o
 dir_then_is t names m o e f = ap (λ (s : Option Shape). dir_then s m) (sym e) ∙ f
 
 to_leaf : (m s : Shape) (room : Bool) → to_row m (Some s) room ≡ None → (same_kind (Some m) (Some s) ≡ true) × Leaf (Some s)
@@ -66,33 +68,33 @@ walked_dir graph is n h (x ∷ w) names e f =
     (d.0, d.1)
 
 -- at both parents, that are directories, the next move is decided by the entries
-pub at_entries : (graph : Graph) → IsGraph graph → (p q : Key) (st : Holdings) (o : Option ℕ) → Forked graph st.node p q st
+pub at_entries : (graph : Graph) → IsGraph graph → (pair : PairCall) (p q : Key) (st : Holdings) (o : Moved) → Forked graph st.node p q st
     → dir_error (left st.source.walked (parent_of p)) (graph.shape st.source.node) ≡ None → dir_error (left st.dest.walked (parent_of q)) (graph.shape st.dest.node) ≡ None
-    → fork_move graph p q st ≡ Finishes o → rename_move graph p q st ≡ Finishes o
-at_entries graph is p q st o f es ed e =
+    → fork_move graph pair p q st ≡ Finishes o → parents_move graph pair p q st ≡ Finishes o
+at_entries graph is pair p q st o f es ed e =
     let sd : (names : List Name) × (graph.shape st.source.node ≡ Some (Dir names)) = dir_of_none (left st.source.walked (parent_of p)) (graph.shape st.source.node) es in
     let dd : (names : List Name) × (graph.shape st.dest.node ≡ Some (Dir names)) = dir_of_none (left st.dest.walked (parent_of q)) (graph.shape st.dest.node) ed in
     let nd : (names : List Name) × (graph.shape st.node ≡ Some (Dir names)) = walked_dir graph is st.node st.source.node st.source.walked sd.0 (f.stands Source) sd.1 in
-    let rest2 : Move = dir_then (graph.shape st.dest.node) (rename_move graph p q st) in
+    let rest2 : Move = dir_then (graph.shape st.dest.node) (parents_move graph pair p q st) in
     let rest1 : Move = dir_then (graph.shape st.source.node) (first_of (step_move graph st.dest.node (left st.dest.walked (parent_of q))) rest2) in
     let a : first_of (step_move graph st.source.node (left st.source.walked (parent_of p))) rest1 ≡ Finishes o = dir_then_is (graph.shape st.node) nd.0 (first_of (step_move graph st.source.node (left st.source.walked (parent_of p))) rest1) o nd.1 e in
     let b : rest1 ≡ Finishes o = (step_stops graph st.source.node (left st.source.walked (parent_of p)) rest1 o a).1 (arrived (left st.source.walked (parent_of p)) (graph.shape st.source.node) es) in
     let c : first_of (step_move graph st.dest.node (left st.dest.walked (parent_of q))) rest2 ≡ Finishes o = dir_then_is (graph.shape st.source.node) sd.0 (first_of (step_move graph st.dest.node (left st.dest.walked (parent_of q))) rest2) o sd.1 b in
     let d : rest2 ≡ Finishes o = (step_stops graph st.dest.node (left st.dest.walked (parent_of q)) rest2 o c).1 (arrived (left st.dest.walked (parent_of q)) (graph.shape st.dest.node) ed) in
-    dir_then_is (graph.shape st.dest.node) dd.0 (rename_move graph p q st) o dd.1 d
+    dir_then_is (graph.shape st.dest.node) dd.0 (parents_move graph pair p q st) o dd.1 d
 
 -- a victim that the kinds ask for is held
-pub victim_held : (graph : Graph) (p q : Key) (st : Holdings) (o : Option ℕ) (v : ℕ) → VictimAt graph (AtPair pairs.Rename p q) st → rename_move graph p q st ≡ Finishes o → graph.child st.dest.node (last_of q) ≡ Some v
+pub victim_held : (graph : Graph) (p q : Key) (st : Holdings) (o : Moved) (v : ℕ) → VictimAt graph (AtPair pairs.Rename p q) st → rename_move graph p q st ≡ Finishes o → graph.child st.dest.node (last_of q) ≡ Some v
     → (same_kind (entry_shape graph st.source.node (last_of p)) (entry_shape graph st.dest.node (last_of q)) && not (is_end (after_prefix p q)) && not (has_more (after_prefix q p))) ≡ true → st.victim ≡ Some v
 victim_held graph p q st o v victim e child want =
     let b : Bool = same_kind (entry_shape graph st.source.node (last_of p)) (entry_shape graph st.dest.node (last_of q)) && not (is_end (after_prefix p q)) && not (has_more (after_prefix q p)) in
-    let m : Option ℕ = moved_node (rename_at graph p q st).1 (graph.child st.source.node (last_of p)) in
+    let m : Moved = moved_node (rename_at graph p q st).1 (graph.child st.source.node (last_of p)) in
     let t : take_if b (Some v) st.victim (Finishes m) ≡ Finishes o = ap (λ (n : Option ℕ). take_if b n st.victim (Finishes m)) (sym child) ∙ e in
     let w : (w : ℕ) × (st.victim ≡ Some w) = take_done b v st.victim o m want t in
     let z : ◌≡◌ {A = Option ℕ} (Some w.0) (Some v) = sym (victim w.0 w.1).0 ∙ child in
     w.1 ∙ z
 
-pub real_of : (graph : Graph) → IsGraph graph → (p q : Key) (st : Holdings) (o : Option ℕ) → Fits (AtPair pairs.Rename p q) → Forked graph st.node p q st → VictimAt graph (AtPair pairs.Rename p q) st → fork_move graph p q st ≡ Finishes o → (rename_at graph p q st).1 ≡ true
+pub real_of : (graph : Graph) → IsGraph graph → (p q : Key) (st : Holdings) (o : Moved) → Fits (AtPair pairs.Rename p q) → Forked graph st.node p q st → VictimAt graph (AtPair pairs.Rename p q) st → fork_move graph pairs.Rename p q st ≡ Finishes o → (rename_at graph p q st).1 ≡ true
     → Real graph p q st
 real_of graph is p q st o fits f victim e moves = record {
   path = path;
@@ -133,7 +135,7 @@ real_of graph is p q st o fits f victim e moves = record {
         let l : (same_kind (Some w.moved) (Some u.0) ≡ true) × Leaf (Some u.0) = to_leaf w.moved u.0 (is_end (after_prefix (parent_of p) (parent_of q)) || not (is_full (graph.shape st.dest.node))) row in
         let want : (same_kind (entry_shape graph st.source.node (last_of p)) (entry_shape graph st.dest.node (last_of q)) && not (is_end (after_prefix p q)) && not (has_more (after_prefix q p))) ≡ true =
         all_true (same_kind (entry_shape graph st.source.node (last_of p)) (entry_shape graph st.dest.node (last_of q))) (is_end (after_prefix p q)) (has_more (after_prefix q p)) (ap₂ same_kind w.is entry ∙ l.0) w.other no_prefix in
-        inr (v, i, victim_held graph p q st o v victim (at_entries graph is p q st o f w.source w.dest e) i want, subst Leaf (sym u.1) l.1)
+        inr (v, i, victim_held graph p q st o v victim (at_entries graph is pairs.Rename p q st o f w.source w.dest e) i want, subst Leaf (sym u.1) l.1)
 
 -- from where a call stands, by the keys of both entries
 pub can_move : (graph : Graph) (k p q : Key) (st : Holdings) → Located (numbers graph) k st → Fits (AtPair pairs.Rename p q) → (real : Real graph p q st) → CanMove graph (k ++ st.source.walked) st.source.node (last_of p) (k ++ st.dest.walked) st.dest.node (last_of q) real.moved.0

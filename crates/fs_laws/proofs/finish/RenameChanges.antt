@@ -17,7 +17,9 @@ use Rattle.fs_nodes.specs.Graphs.{Graph, at, numbers, graph_shapes, entry_shape,
 use Rattle.fs_machine.specs.Finishes.{move_effect, rename_effect, effect_at}
 use Rattle.fs_machine.specs.Moves.{first_of, step_move, take_if, same_kind, next_on, entry_move, fork_move, rename_move, moved_node, path_error, dir_error, walk_errno, rename_at}
 use Rattle.fs_machine.specs.declared.moves.Move.TheVariants.{Finish as Finishes}
+use Rattle.fs_machine.specs.declared.moves.Moved.{Moved}
 use Rattle.fs_machine.specs.Records.{Walking, Record, Records, Holdings, Source, Dest, head_on}
+use Rattle.fs_machine.specs.States.{IsMoved}
 use Rattle.fs_laws.specs.Invariants.{ForkedAt, HeadsSound, VictimAt}
 use Rattle.fs_laws.specs.Placed.{Aside, rekey_by}
 use Rattle.fs_laws.specs.CallFacts.{Located, CallFacts}
@@ -57,15 +59,15 @@ move_cut s t tree aside = fun_ext (λ key. go key (after_prefix t key) refl)
     go key (Some r) e = inside r
     go key None e = from key (after_prefix s key) e
 
-take_same : (b : Bool) (n held m o : Option ℕ) → take_if b n held (Finishes m) ≡ Finishes o → m ≡ o
+take_same : (b : Bool) (n held : Option ℕ) (m o : Moved) → take_if b n held (Finishes m) ≡ Finishes o → m ≡ o
 take_same true None held m o e = cc
 take_same true (Some n) None m o e = cc
 take_same true (Some n) (Some v) m o e = cc
 take_same false n held m o e = cc
 
 -- a rename that really moves
-does_move : (graph : Graph) (ops : Records) (key : ℕ → Key) (c : ℕ) (op : Record) (st : Holdings) (o : Option ℕ) (p q : Key) (ws : List (Key × Option Shape)) (r : Reply) → Finisher graph ops key c op st o → op.remaining ≡ AtPair pairs.Rename p q → Fits (AtPair pairs.Rename p q)
-    → Real graph p q st → ((m : ℕ) → graph.child st.source.node (last_of p) ≡ Some m → o ≡ Some m)
+does_move : (graph : Graph) (ops : Records) (key : ℕ → Key) (c : ℕ) (op : Record) (st : Holdings) (o : Moved) (p q : Key) (ws : List (Key × Option Shape)) (r : Reply) → Finisher graph ops key c op st o → op.remaining ≡ AtPair pairs.Rename p q → Fits (AtPair pairs.Rename p q)
+    → Real graph p q st → ((m : ℕ) → graph.child st.source.node (last_of p) ≡ Some m → IsMoved o m)
     → Does graph ops key st op.reserved (change_under (key c) (move_change true ws p q)) (move_effect graph st (last_of p) (last_of q) op.reserved r true (graph.child st.source.node (last_of p)))
 does_move graph ops key c op st o p q ws r f rem fits real moved_is = subst (λ (n : Option ℕ). Does graph ops key st op.reserved (change_under (key c) (move_change true ws p q)) (move_effect graph st (last_of p) (last_of q) op.reserved r true n)) (sym real.moved.1) made
   where
@@ -173,7 +175,7 @@ does_move graph ops key c op st o p q ws r f rem fits real moved_is = subst (λ 
       removed = λ n j. (j, moved_gone graph f.is_graph (key c ++ st.source.walked) st.source.node (last_of p) (key c ++ st.dest.walked) st.dest.node (last_of q) real.moved.0 n can (vic n j).0, ((key c ++ st.dest.walked) ++ last_of q ∷ [], entry ∙ (vic n j).0));
     }
 
-does_rename : (graph : Graph) (ops : Records) (key : ℕ → Key) (c : ℕ) (op : Record) (st : Holdings) (o : Option ℕ) (p q : Key) (s : Shape) → Finisher graph ops key c op st o → op.remaining ≡ AtPair pairs.Rename p q → Fits (AtPair pairs.Rename p q) → graph.shape st.node ≡ Some s
+does_rename : (graph : Graph) (ops : Records) (key : ℕ → Key) (c : ℕ) (op : Record) (st : Holdings) (o : Moved) (p q : Key) (s : Shape) → Finisher graph ops key c op st o → op.remaining ≡ AtPair pairs.Rename p q → Fits (AtPair pairs.Rename p q) → graph.shape st.node ≡ Some s
     → Does graph ops key st op.reserved (change_under (key c) (looked (below (key c) (graph_shapes graph)) (AtPair pairs.Rename p q)).1) (effect_at graph (AtPair pairs.Rename p q) st op.reserved)
 does_rename graph ops key c op st o p q s f rem fits u = go (common (parent_of p) (parent_of q)) refl (subst (λ (x : Form). HeadsSound graph st.node x st) rem f.well) (finish_on graph (AtPair pairs.Rename p q) st o (ap (λ (x : Form). next_on graph x st) (sym rem) ∙ f.next))
   where
@@ -186,10 +188,10 @@ does_rename graph ops key c op st o p q s f rem fits u = go (common (parent_of p
     row : Reply × Bool
     row = rename_row (resolve_dir (below (key c) (graph_shapes graph)) (parent_of p)) (resolve_dir (below (key c) (graph_shapes graph)) (parent_of q)) (graph_shapes graph (key c ++ p)) (is_end (after_prefix p q)) (graph_shapes graph (key c ++ q)) (is_end (after_prefix (parent_of p) (parent_of q)) || not (is_full (graph_shapes graph (key c ++ parent_of q))))
 
-    go : (l : Key) → common (parent_of p) (parent_of q) ≡ l → ForkedAt graph st.node p q st l → first_of (step_move graph st.node l) (fork_move graph p q st) ≡ Finishes o
+    go : (l : Key) → common (parent_of p) (parent_of q) ≡ l → ForkedAt graph st.node p q st l → first_of (step_move graph st.node l) (fork_move graph pairs.Rename p q st) ≡ Finishes o
         → Does graph ops key st op.reserved (ch row.1) (rename_effect graph p q st op.reserved l)
     go (x ∷ l) i w e =
-        let stop : Stops graph st.node (x ∷ l) = (step_stops graph st.node (x ∷ l) (fork_move graph p q st) o e).0 in
+        let stop : Stops graph st.node (x ∷ l) = (step_stops graph st.node (x ∷ l) (fork_move graph pairs.Rename p q st) o e).0 in
         let r : (r : Key) × (parent_of p ≡ common (parent_of p) (parent_of q) ++ r) = common_is (parent_of p) (parent_of q) in
         let d : parent_of p ≡ x ∷ (l ++ r.0) = r.1 ∙ ap (λ (z : Key). z ++ r.0) i in
         let res : resolve_dir (below (key c) (graph_shapes graph)) (parent_of p) ≡ Some (walk_errno (graph.shape st.node)) =
@@ -198,11 +200,11 @@ does_rename graph ops key c op st o p q s f rem fits u = go (common (parent_of p
         does_nothing graph ops key st op.reserved (ch row.1) (Failed (walk_errno (graph.shape st.node))) f.is_graph f.kept (ap (λ (b : Bool). (ch b).moves) no)
     go [] i w e = by (rename_at graph p q st).1 refl
       where
-        fork : fork_move graph p q st ≡ Finishes o
-        fork = (step_stops graph st.node [] (fork_move graph p q st) o e).1 refl
+        fork : fork_move graph pairs.Rename p q st ≡ Finishes o
+        fork = (step_stops graph st.node [] (fork_move graph pairs.Rename p q st) o e).1 refl
 
         stops : ForkAt graph st.node p q st
-        stops = fork_stops graph f.is_graph st.node p q st o refl w fork
+        stops = fork_stops graph f.is_graph st.node pairs.Rename p q st o refl w fork
 
         rows : rename_at graph p q st ≡ row
         rows =
@@ -218,11 +220,11 @@ does_rename graph ops key c op st o p q s f rem fits u = go (common (parent_of p
             (does_nothing graph ops key st op.reserved (ch row.1) (rename_at graph p q st).0 f.is_graph f.kept (ap (λ (b : Bool). (ch b).moves) (sym (ap (λ (r : Reply × Bool). r.1) rows) ∙ j)))
         by true j =
             let real : Real graph p q st = real_of graph f.is_graph p q st o fits w vic fork j in
-            let w2 : rename_move graph p q st ≡ Finishes o = at_entries graph f.is_graph p q st o w (error_none st.source.walked (parent_of p) (graph.shape st.source.node) (real.path Source) real.source_dir) (error_none st.dest.walked (parent_of q) (graph.shape st.dest.node) (real.path Dest) real.dest_dir) fork in
+            let w2 : rename_move graph p q st ≡ Finishes o = at_entries graph f.is_graph pairs.Rename p q st o w (error_none st.source.walked (parent_of p) (graph.shape st.source.node) (real.path Source) real.source_dir) (error_none st.dest.walked (parent_of q) (graph.shape st.dest.node) (real.path Dest) real.dest_dir) fork in
             let same : moved_node (rename_at graph p q st).1 (graph.child st.source.node (last_of p)) ≡ o = finishes_same w2 in
             let d : Does graph ops key st op.reserved (ch true) (move_effect graph st (last_of p) (last_of q) op.reserved (rename_at graph p q st).0 true (graph.child st.source.node (last_of p))) =
             does_move graph ops key c op st o p q (rename_writes (is_end (after_prefix (parent_of p) (parent_of q))) (parent_of p) (names_of (graph_shapes graph (key c ++ parent_of p))) (last_of p) (parent_of q) (names_of (graph_shapes graph (key c ++ parent_of q))) (last_of q)) (rename_at graph p q st).0 f rem fits real
-            (λ m h. sym same ∙ ap (λ (b : Bool). moved_node b (graph.child st.source.node (last_of p))) j ∙ h) in
+            (λ m h. subst (λ (t : Moved). IsMoved t m) (sym (ap₂ moved_node j h) ∙ same) refl) in
             subst (λ (b : Bool). Does graph ops key st op.reserved (ch b) (move_effect graph st (last_of p) (last_of q) op.reserved (rename_at graph p q st).0 (rename_at graph p q st).1 (graph.child st.source.node (last_of p)))) (sym j ∙ ap (λ (r : Reply × Bool). r.1) rows)
             (subst (λ (b : Bool). Does graph ops key st op.reserved (ch true) (move_effect graph st (last_of p) (last_of q) op.reserved (rename_at graph p q st).0 b (graph.child st.source.node (last_of p)))) (sym j) d)
           where
@@ -233,7 +235,7 @@ does_rename graph ops key c op st o p q s f rem fits u = go (common (parent_of p
             finishes_same h = take_same (same_kind (entry_shape graph st.source.node (last_of p)) (entry_shape graph st.dest.node (last_of q)) && not (is_end (after_prefix p q)) && not (has_more (after_prefix q p))) (graph.child st.dest.node (last_of q)) st.victim (moved_node (rename_at graph p q st).1 (graph.child st.source.node (last_of p))) o h
 
 -- each form of call
-pub does : (graph : Graph) (ops : Records) (key : ℕ → Key) (c : ℕ) (op : Record) (st : Holdings) (o : Option ℕ) (s : Shape) → Finisher graph ops key c op st o → Fits op.remaining → graph.shape st.node ≡ Some s
+pub does : (graph : Graph) (ops : Records) (key : ℕ → Key) (c : ℕ) (op : Record) (st : Holdings) (o : Moved) (s : Shape) → Finisher graph ops key c op st o → Fits op.remaining → graph.shape st.node ≡ Some s
     → Does graph ops key st op.reserved (change_under (key c) (looked (below (key c) (graph_shapes graph)) op.remaining).1) (effect_at graph op.remaining st op.reserved)
 does graph ops key c op st o s f fits u = go op.remaining refl
   where

@@ -6,6 +6,7 @@ use Rattle.fs_names.specs.Parts.{common, left}
 use Rattle.fs_names.specs.Shapes.{Shape, Dir, File, is_full, names_of}
 use Rattle.fs_laws.specs.Changes.{Change, changed, resolve_dir, looked, edit_change, reply, if_sound}
 use Rattle.fs_calls.specs.Forms.{Form, AtNode, AtEntry, AtPair, under, new_shape, Fits}
+use Rattle.fs_calls.specs.declared.target.PairCall.{PairCall}
 use Rattle.fs_calls.specs.declared.target.PairCall.TheVariants as pairs
 use Rattle.fs_calls.specs.declared.target.EntryCall.{EntryCall}
 use Rattle.fs_calls.specs.declared.target.EntryCall.TheVariants.{Mkdir, Mknod, Unlink, Rmdir}
@@ -17,9 +18,11 @@ use Rattle.fs_calls.specs.declared.reply.Reply.{Reply}
 use Rattle.fs_calls.specs.declared.reply.Reply.TheVariants.{Done, Failed}
 use Rattle.fs_nodes.specs.Graphs.{Graph, then_at, at, numbers, graph_shapes, entry_shape, IsGraph, unlinked_in}
 use Rattle.fs_machine.specs.Finishes.{node_effect, entry_effect, move_effect, rename_effect, effect_at}
-use Rattle.fs_machine.specs.Moves.{first_of, step_move, dir_then, fork_move, rename_move, target_move, next_on, walk_move, walk_errno, path_error, dir_error, rename_at}
+use Rattle.fs_machine.specs.Moves.{first_of, step_move, dir_then, fork_move, parents_move, target_move, next_on, walk_move, walk_errno, path_error, dir_error, rename_at}
 use Rattle.fs_machine.specs.declared.moves.Move.{Move}
 use Rattle.fs_machine.specs.declared.moves.Move.TheVariants.{Finish as Finishes}
+use Rattle.fs_machine.specs.declared.moves.Moved.{Moved}
+use Rattle.fs_machine.specs.declared.moves.Moved.TheVariants.{Nothing}
 use Rattle.fs_machine.specs.Records.{Holdings, Source}
 use Rattle.fs_laws.specs.Invariants.{Forked, ForkedAt, HeadsSound, HasNumber}
 use Rattle.fs_laws.proofs.calls.Behind.{finish_on}
@@ -29,13 +32,13 @@ use Rattle.fs_laws.proofs.graphs.TreesOfChanges.{resolve_at, shapes_linked, shap
 use Rattle.fs_laws.proofs.finish.Readings.{shapes_from, below_is, Stops, on_finish, in_finish, rename_finish, ForkAt, dir_read}
 
 -- where the next move is to finish, each walk that counts has stopped
-walk_none : (s : Option Shape) (k o : Option ℕ) → walk_move s k ≡ Finishes o → walk_move s k ≡ Finishes None
+walk_none : (s : Option Shape) (k : Option ℕ) (o : Moved) → walk_move s k ≡ Finishes o → walk_move s k ≡ Finishes Nothing
 walk_none None k o e = refl
 walk_none (Some (File bytes)) k o e = refl
 walk_none (Some (Dir names)) None o e = refl
 walk_none (Some (Dir names)) (Some m) o e = cc
 
-pub step_stops : (graph : Graph) (n : ℕ) (l : Key) (m : Move) (s : Option ℕ) → first_of (step_move graph n l) m ≡ Finishes s → Stops graph n l × (l ≡ [] → m ≡ Finishes s)
+pub step_stops : (graph : Graph) (n : ℕ) (l : Key) (m : Move) (s : Moved) → first_of (step_move graph n l) m ≡ Finishes s → Stops graph n l × (l ≡ [] → m ≡ Finishes s)
 step_stops graph n [] m s e = (tt, λ i. e)
 step_stops graph n (x ∷ l) m s e = (walk_none (graph.shape n) (graph.child n x) s e, λ i. cc)
 
@@ -65,8 +68,8 @@ no_dir s e names f = cc
 file_dir : (s : Option Shape) (bytes : List ℕ) → (s ≡ Some (File bytes)) → (names : List Name) → s ≡ Some (Dir names) → ⊥
 file_dir s bytes e names f = let z : ◌≡◌ {A = Option Shape} (Some (File bytes)) (Some (Dir names)) = sym e ∙ f in cc
 
-pub fork_stops : (graph : Graph) → IsGraph graph → (n : ℕ) (p q : Key) (st : Holdings) (s : Option ℕ) → st.node ≡ n → Forked graph n p q st → fork_move graph p q st ≡ Finishes s → ForkAt graph n p q st
-fork_stops graph is n p q st s here f e = record { fork = f; source_stops = both.0; dest_stops = both.1 }
+pub fork_stops : (graph : Graph) → IsGraph graph → (n : ℕ) (c : PairCall) (p q : Key) (st : Holdings) (s : Moved) → st.node ≡ n → Forked graph n p q st → fork_move graph c p q st ≡ Finishes s → ForkAt graph n p q st
+fork_stops graph is n c p q st s here f e = record { fork = f; source_stops = both.0; dest_stops = both.1 }
   where
     Both : Type 0
     Both = Stops graph st.source.node (left st.source.walked (parent_of p)) × (dir_error (left st.source.walked (parent_of p)) (graph.shape st.source.node) ≡ None → Stops graph st.dest.node (left st.dest.walked (parent_of q)))
@@ -101,8 +104,8 @@ fork_stops graph is n p q st s here f e = record { fork = f; source_stops = both
     at_node (Some (Dir names)) m i g = source m g
 
     both : Stops graph st.source.node (left st.source.walked (parent_of p)) × (dir_error (left st.source.walked (parent_of p)) (graph.shape st.source.node) ≡ None → Stops graph st.dest.node (left st.dest.walked (parent_of q)))
-    both = at_node (graph.shape n) (dir_then (graph.shape st.dest.node) (rename_move graph p q st)) refl
-        (ap (λ (m : ℕ). dir_then (graph.shape m) (first_of (step_move graph st.source.node (left st.source.walked (parent_of p))) (dir_then (graph.shape st.source.node) (first_of (step_move graph st.dest.node (left st.dest.walked (parent_of q))) (dir_then (graph.shape st.dest.node) (rename_move graph p q st)))))) (sym here) ∙ e)
+    both = at_node (graph.shape n) (dir_then (graph.shape st.dest.node) (parents_move graph c p q st)) refl
+        (ap (λ (m : ℕ). dir_then (graph.shape m) (first_of (step_move graph st.source.node (left st.source.walked (parent_of p))) (dir_then (graph.shape st.source.node) (first_of (step_move graph st.dest.node (left st.dest.walked (parent_of q))) (dir_then (graph.shape st.dest.node) (parents_move graph c p q st)))))) (sym here) ∙ e)
 
 common_step : (x : Name) (a c : Key) → (r : Key) × (a ≡ c ++ r) → (b : Bool) → (r : Key) × (x ∷ a ≡ cond b (x ∷ c) [] ++ r)
 common_step x a c i true = (i.0, ap (λ (l : Key). x ∷ l) i.1)
@@ -130,26 +133,26 @@ moved_reply graph st x y reserved r false s = refl
 moved_reply graph st x y reserved r true None = refl
 moved_reply graph st x y reserved r true (Some s) = refl
 
-looked_reply : (graph : Graph) → IsGraph graph → (n : ℕ) (s : Shape) (remaining : Form) (st : Holdings) (reserved o : Option ℕ) → st.node ≡ n → graph.shape n ≡ Some s → Fits remaining → HeadsSound graph n remaining st → next_on graph remaining st ≡ Finishes o
+looked_reply : (graph : Graph) → IsGraph graph → (n : ℕ) (s : Shape) (remaining : Form) (st : Holdings) (reserved : Option ℕ) (o : Moved) → st.node ≡ n → graph.shape n ≡ Some s → Fits remaining → HeadsSound graph n remaining st → next_on graph remaining st ≡ Finishes o
     → (effect_at graph remaining st reserved).reply ≡ (looked (shapes_from graph n) remaining).0
 looked_reply graph is n s (AtNode c p) st reserved o here u fits well e =
     on_reply graph st.node reserved (node_row c (path_error p (graph.shape st.node)) (graph.shape st.node))
     ∙ ap (λ (m : ℕ). (node_row c (path_error p (graph.shape m)) (graph.shape m)).0) here
-    ∙ ap (λ (r : Reply × Option (List ℕ)). r.0) (on_finish graph is n s c p u (subst (λ (m : ℕ). Stops graph m p) here (step_stops graph st.node p (Finishes None) o (finish_on graph (AtNode c p) st o e)).0))
+    ∙ ap (λ (r : Reply × Option (List ℕ)). r.0) (on_finish graph is n s c p u (subst (λ (m : ℕ). Stops graph m p) here (step_stops graph st.node p (Finishes Nothing) o (finish_on graph (AtNode c p) st o e)).0))
 looked_reply graph is n s (AtEntry c p) st reserved o here u fits well e =
     in_reply graph st.node (last_of p) reserved (entry_row c (dir_error (parent_of p) (graph.shape st.node)) (is_full (graph.shape st.node)) (entry_shape graph st.node (last_of p)))
     ∙ ap (λ (m : ℕ). (entry_row c (dir_error (parent_of p) (graph.shape m)) (is_full (graph.shape m)) (entry_shape graph m (last_of p))).0) here
     ∙ ap (λ (r : Reply × Edit). r.0) (in_finish graph is n s c p (in_more c p fits) u (subst (λ (m : ℕ). Stops graph m (parent_of p)) here (step_stops graph st.node (parent_of p) (target_move graph (AtEntry c p) st) o (finish_on graph (AtEntry c p) st o e)).0))
 looked_reply graph is n s (AtPair pairs.Rename p q) st reserved o here u fits well e = go (common (parent_of p) (parent_of q)) refl well (finish_on graph (AtPair pairs.Rename p q) st o e)
   where
-    go : (l : Key) → common (parent_of p) (parent_of q) ≡ l → ForkedAt graph n p q st l → first_of (step_move graph st.node l) (fork_move graph p q st) ≡ Finishes o
+    go : (l : Key) → common (parent_of p) (parent_of q) ≡ l → ForkedAt graph n p q st l → first_of (step_move graph st.node l) (fork_move graph pairs.Rename p q st) ≡ Finishes o
         → (rename_effect graph p q st reserved l).reply ≡ (looked (shapes_from graph n) (AtPair pairs.Rename p q)).0
     go [] i w f =
-        let moves : fork_move graph p q st ≡ Finishes o = (step_stops graph st.node [] (fork_move graph p q st) o f).1 refl in
+        let moves : fork_move graph pairs.Rename p q st ≡ Finishes o = (step_stops graph st.node [] (fork_move graph pairs.Rename p q st) o f).1 refl in
         moved_reply graph st (last_of p) (last_of q) reserved (rename_at graph p q st).0 (rename_at graph p q st).1 (graph.child st.source.node (last_of p))
-        ∙ ap (λ (r : Reply × Bool). r.0) (rename_finish graph is n s p q st (from_more p q fits) (to_more p q fits) u (fork_stops graph is n p q st o here w moves))
+        ∙ ap (λ (r : Reply × Bool). r.0) (rename_finish graph is n s p q st (from_more p q fits) (to_more p q fits) u (fork_stops graph is n pairs.Rename p q st o here w moves))
     go (x ∷ l) i w f =
-        let st_stops : Stops graph st.node (x ∷ l) = (step_stops graph st.node (x ∷ l) (fork_move graph p q st) o f).0 in
+        let st_stops : Stops graph st.node (x ∷ l) = (step_stops graph st.node (x ∷ l) (fork_move graph pairs.Rename p q st) o f).0 in
         let n_stops : Stops graph n (x ∷ l) = subst (λ (m : ℕ). Stops graph m (x ∷ l)) here st_stops in
         let r : (r : Key) × (parent_of p ≡ common (parent_of p) (parent_of q) ++ r) = common_is (parent_of p) (parent_of q) in
         let d : parent_of p ≡ x ∷ (l ++ r.0) = r.1 ∙ ap (λ (k : Key). k ++ r.0) i in
@@ -158,7 +161,7 @@ looked_reply graph is n s (AtPair pairs.Rename p q) st reserved o here u fits we
         ∙ ap (λ (z : Option Errno). (rename_row z (resolve_dir (shapes_from graph n) (parent_of q)) (shapes_from graph n p) (is_end (after_prefix p q)) (shapes_from graph n q) (is_end (after_prefix (parent_of p) (parent_of q)) || not (is_full (shapes_from graph n (parent_of q))))).0) (sym res)
 
 -- the reply of a finish is the sequential tree's to the present call
-pub finish_reply : (graph : Graph) → IsGraph graph → (k : Key) (s : Shape) (remaining : Form) (st : Holdings) (reserved o : Option ℕ) → numbers graph k ≡ Some st.node → graph.shape st.node ≡ Some s → Fits remaining → HeadsSound graph st.node remaining st → next_on graph remaining st ≡ Finishes o
+pub finish_reply : (graph : Graph) → IsGraph graph → (k : Key) (s : Shape) (remaining : Form) (st : Holdings) (reserved : Option ℕ) (o : Moved) → numbers graph k ≡ Some st.node → graph.shape st.node ≡ Some s → Fits remaining → HeadsSound graph st.node remaining st → next_on graph remaining st ≡ Finishes o
     → (effect_at graph remaining st reserved).reply ≡ reply (graph_shapes graph) (under k remaining)
 finish_reply graph is k s remaining st reserved o at_k u fits well e =
     looked_reply graph is st.node s remaining st reserved o refl u fits well e

@@ -16,6 +16,8 @@ use Rattle.fs_nodes.specs.Graphs.{Graph, then_at, at, numbers, graph_shapes, ent
 use Rattle.fs_machine.specs.Finishes.{node_effect, move_effect, rename_effect, effect_at}
 use Rattle.fs_machine.specs.Moves.{first_of, step_move, fork_move, target_move, next_on, walk_errno, dir_error, there_by, rename_at}
 use Rattle.fs_machine.specs.declared.moves.Move.TheVariants.{Finish as Finishes}
+use Rattle.fs_machine.specs.declared.moves.Moved.{Moved}
+use Rattle.fs_machine.specs.declared.moves.Moved.TheVariants.{Nothing}
 use Rattle.fs_machine.specs.Records.{Holdings, Source, Dest, Side, of_side, head_on}
 use Rattle.fs_laws.specs.Invariants.{ForkedAt, HeadsSound, NumberFor, Forked}
 use Rattle.fs_laws.specs.Placed.{Aside}
@@ -161,12 +163,12 @@ move_tree graph is k n p q st reserved r at_k fits f w =
         ∙ ap₂ (λ (a b : List Name). rename_writes (is_end (after_prefix (parent_of p) (parent_of q))) (k ++ parent_of p) a (last_of p) (k ++ parent_of q) b (last_of q)) (names_at st.source.node st.source.walked (parent_of p) d_is (f.fork.stands Source)) (names_at st.dest.node st.dest.walked (parent_of q) e_is (f.fork.stands Dest))
         ∙ writes_at k (is_end (after_prefix (parent_of p) (parent_of q))) (parent_of p) (names_of (shapes_from graph n (parent_of p))) (last_of p) (parent_of q) (names_of (shapes_from graph n (parent_of q))) (last_of q)
 
-looked_tree : (graph : Graph) → IsGraph graph → (k : Key) (s : Shape) (remaining : Form) (st : Holdings) (reserved o : Option ℕ) → numbers graph k ≡ Some st.node → graph.shape st.node ≡ Some s → Fits remaining → HeadsSound graph st.node remaining st → NumberFor graph remaining reserved → next_on graph remaining st ≡ Finishes o
+looked_tree : (graph : Graph) → IsGraph graph → (k : Key) (s : Shape) (remaining : Form) (st : Holdings) (reserved : Option ℕ) (o : Moved) → numbers graph k ≡ Some st.node → graph.shape st.node ≡ Some s → Fits remaining → HeadsSound graph st.node remaining st → NumberFor graph remaining reserved → next_on graph remaining st ≡ Finishes o
     → graph_shapes (effect_at graph remaining st reserved).graph ≡ changed (change_under k (looked (shapes_from graph st.node) remaining).1) (graph_shapes graph)
 looked_tree graph is k s (AtNode c []) st reserved o at_k u fits well has e = on_tree graph is k st.node reserved (node_row c None (graph.shape st.node)) at_k
 looked_tree graph is k s (AtNode c (x ∷ p)) st reserved o at_k u fits well has e =
     on_none graph k c (x ∷ p) (resolve (shapes_from graph st.node) (x ∷ p)) (walk_errno (graph.shape st.node)) (shapes_from graph st.node (x ∷ p))
-    (path_read graph is st.node s (x ∷ p) u (step_stops graph st.node (x ∷ p) (Finishes None) o (finish_on graph (AtNode c (x ∷ p)) st o e)).0)
+    (path_read graph is st.node s (x ∷ p) u (step_stops graph st.node (x ∷ p) (Finishes Nothing) o (finish_on graph (AtNode c (x ∷ p)) st o e)).0)
 looked_tree graph is k s (AtEntry c []) st reserved o at_k u fits well has e = absurd (in_more c [] fits)
 looked_tree graph is k s (AtEntry c (x ∷ [])) st reserved o at_k u fits well has e =
     edit_tree graph is k st.node (names_of (graph.shape st.node)) c x reserved (row).0 (row).1 at_k has refl
@@ -186,23 +188,23 @@ looked_tree graph is k s (AtPair pairs.Rename p q) st reserved o at_k u fits wel
     by f false i = refl
     by f true i = move_tree graph is k st.node p q st reserved (rename_at graph p q st).0 at_k fits f (really (dir_error (left st.source.walked (parent_of p)) (graph.shape st.source.node)) (dir_error (left st.dest.walked (parent_of q)) (graph.shape st.dest.node)) (entry_shape graph st.source.node (last_of p)) (is_end (after_prefix p q)) (there_by (has_more (after_prefix q p)) (entry_shape graph st.dest.node (last_of q))) (is_end (after_prefix (parent_of p) (parent_of q)) || not (is_full (graph.shape st.dest.node))) i)
 
-    go : (l : Key) → common (parent_of p) (parent_of q) ≡ l → ForkedAt graph st.node p q st l → first_of (step_move graph st.node l) (fork_move graph p q st) ≡ Finishes o
+    go : (l : Key) → common (parent_of p) (parent_of q) ≡ l → ForkedAt graph st.node p q st l → first_of (step_move graph st.node l) (fork_move graph pairs.Rename p q st) ≡ Finishes o
         → graph_shapes (rename_effect graph p q st reserved l).graph ≡ changed (change_under k (looked (shapes_from graph st.node) (AtPair pairs.Rename p q)).1) (graph_shapes graph)
     go [] i w f =
-        let moves : fork_move graph p q st ≡ Finishes o = (step_stops graph st.node [] (fork_move graph p q st) o f).1 refl in
-        let fork : ForkAt graph st.node p q st = fork_stops graph is st.node p q st o refl w moves in
+        let moves : fork_move graph pairs.Rename p q st ≡ Finishes o = (step_stops graph st.node [] (fork_move graph pairs.Rename p q st) o f).1 refl in
+        let fork : ForkAt graph st.node p q st = fork_stops graph is st.node pairs.Rename p q st o refl w moves in
         by fork (rename_at graph p q st).1 refl
         ∙ ap (λ (r : Reply × Bool). changed (change_under k (move_change r.1 (rename_writes (is_end (after_prefix (parent_of p) (parent_of q))) (parent_of p) (names_of (shapes_from graph st.node (parent_of p))) (last_of p) (parent_of q) (names_of (shapes_from graph st.node (parent_of q))) (last_of q)) p q)) (graph_shapes graph))
         (rename_finish graph is st.node s p q st (from_more p q fits) (to_more p q fits) u fork)
     go (x ∷ l) i w f =
-        let n_stops : Stops graph st.node (x ∷ l) = (step_stops graph st.node (x ∷ l) (fork_move graph p q st) o f).0 in
+        let n_stops : Stops graph st.node (x ∷ l) = (step_stops graph st.node (x ∷ l) (fork_move graph pairs.Rename p q st) o f).0 in
         let r : (r : Key) × (parent_of p ≡ common (parent_of p) (parent_of q) ++ r) = common_is (parent_of p) (parent_of q) in
         let d : parent_of p ≡ x ∷ (l ++ r.0) = r.1 ∙ ap (λ (k : Key). k ++ r.0) i in
         let res : resolve_dir (shapes_from graph st.node) (parent_of p) ≡ Some (walk_errno (graph.shape st.node)) = ap (resolve_dir (shapes_from graph st.node)) d ∙ sym (dir_read graph is st.node st.node s [] (x ∷ (l ++ r.0)) u refl n_stops) in
         ap (λ (z : Option Errno). changed (change_under k (move_change (rename_row z (resolve_dir (shapes_from graph st.node) (parent_of q)) (shapes_from graph st.node p) (is_end (after_prefix p q)) (shapes_from graph st.node q) (is_end (after_prefix (parent_of p) (parent_of q)) || not (is_full (shapes_from graph st.node (parent_of q))))).1 (rename_writes (is_end (after_prefix (parent_of p) (parent_of q))) (parent_of p) (names_of (shapes_from graph st.node (parent_of p))) (last_of p) (parent_of q) (names_of (shapes_from graph st.node (parent_of q))) (last_of q)) p q)) (graph_shapes graph)) (sym res)
 
 -- the tree that a finish leaves is the one that the present call leaves
-pub finish_tree : (graph : Graph) → IsGraph graph → (k : Key) (s : Shape) (remaining : Form) (st : Holdings) (reserved o : Option ℕ) → numbers graph k ≡ Some st.node → graph.shape st.node ≡ Some s → Fits remaining → HeadsSound graph st.node remaining st → NumberFor graph remaining reserved → next_on graph remaining st ≡ Finishes o
+pub finish_tree : (graph : Graph) → IsGraph graph → (k : Key) (s : Shape) (remaining : Form) (st : Holdings) (reserved : Option ℕ) (o : Moved) → numbers graph k ≡ Some st.node → graph.shape st.node ≡ Some s → Fits remaining → HeadsSound graph st.node remaining st → NumberFor graph remaining reserved → next_on graph remaining st ≡ Finishes o
     → graph_shapes (effect_at graph remaining st reserved).graph ≡ after (graph_shapes graph) (under k remaining)
 finish_tree graph is k s remaining st reserved o at_k u fits well has e =
     looked_tree graph is k s remaining st reserved o at_k u fits well has e

@@ -19,7 +19,7 @@ use Rattle.fs_laws.proofs.calls.OwnRecord.{reached_used}
 pub well_children : (old new : Graph) → new.child ≡ old.child → (n : ℕ) (remaining : Form) (st : Holdings) → HeadsSound old n remaining st → HeadsSound new n remaining st
 well_children old new same n (AtNode c p) st w = w
 well_children old new same n (AtEntry c p) st w = w
-well_children old new same n (AtPair pairs.Rename p q) st w = go (common (parent_of p) (parent_of q)) w
+well_children old new same n (AtPair c p q) st w = go (common (parent_of p) (parent_of q)) w
   where
     go : (l : Key) → ForkedAt old n p q st l → ForkedAt new n p q st l
     go [] w = record { stands = λ side. subst (λ (k : ℕ → Name → Option ℕ). at k n (head_on side st).walked ≡ Some (head_on side st).node) (sym same) (w.stands side); path = w.path }
@@ -35,7 +35,7 @@ numbers_children old new same key = ap (λ (k : ℕ → Name → Option ℕ). at
 
 number_children : (old new : Graph) → new.child ≡ old.child → (remaining : Form) (reserved : Option ℕ) → ((m : ℕ) → reserved ≡ Some m → new.shape m ≡ old.shape m) → NumberFor old remaining reserved → NumberFor new remaining reserved
 number_children old new same (AtNode c p) reserved h w = w
-number_children old new same (AtPair pairs.Rename p q) reserved h w = w
+number_children old new same (AtPair c p q) reserved h w = w
 number_children old new same (AtEntry c p) reserved h w = λ shape e.
     (let g : (m : ℕ) × (reserved ≡ Some m) × (old.shape m ≡ Some shape) × ((key : Key) → numbers old key ≡ Some m → ⊥) = w shape e in
     (g.0, g.1, h g.0 g.1 ∙ g.2, λ key i. g.3 key (sym (numbers_children old new same key) ∙ i)))

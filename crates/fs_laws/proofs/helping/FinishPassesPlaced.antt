@@ -5,12 +5,12 @@ use Rattle.fs_names.specs.Keys.{Key, after_prefix, has_more, parent_of, last_of,
 use Rattle.fs_names.specs.Names.{Name, same_name, inserted_name, removed_name}
 use Rattle.fs_names.specs.Parts.{HasNames}
 use Rattle.fs_names.specs.Shapes.{Shape, Dir, File, is_full, names_of}
-use Rattle.fs_laws.specs.Changes.{Change, moved_by, changed, resolve, resolve_dir, content_change, edit_change, rename_writes, move_change, entry_looked, rename_looked, looked, if_sound, outcome, reply, after}
+use Rattle.fs_laws.specs.Changes.{Rekeying, Stay, MoveTo, Swap, Change, moved_by, changed, resolve, resolve_dir, content_change, edit_change, rename_writes, move_change, entry_looked, rename_looked, looked, if_sound, outcome, reply, after}
 use Rattle.fs_calls.specs.Forms.{Form, AtNode, AtEntry, AtPair, by_text, under, Fits}
 use Rattle.fs_calls.specs.declared.target.PairCall.TheVariants as pairs
 use Rattle.fs_calls.specs.declared.target.EntryCall.{EntryCall}
 use Rattle.fs_calls.specs.declared.target.EntryCall.TheVariants.{Mkdir, Mknod, Unlink, Rmdir}
-use Rattle.fs_laws.specs.Maps.{Map, below, act, put, move, write_all}
+use Rattle.fs_laws.specs.Maps.{Map, below, act, put, move, swapped, swap, write_all}
 use Rattle.fs_calls.specs.Rows.{as_dir, node_row, Edit, Keep, Add, Remove, made, entry_row_in_dir, entry_row, to_row, moves_row, rename_row_in_dirs, rename_row}
 use Rattle.fs_calls.proofs.RowNames.{on_dir}
 use Rattle.fs_calls.specs.declared.errno.Errno.{Errno}
@@ -19,7 +19,7 @@ use Rattle.fs_machine.specs.Moves.{victim_of, same_kind}
 use Rattle.fs_laws.specs.Placed.{NoneUnder, kind, Agree, looks_into, ReadsNothingBelow, Aside, AllOff, MovesNothingBelow, ChangesNothingBelow, rekey, rekey_by, rekey_move, rekey_all, InPlace, Passes, PastAll}
 use Rattle.fs_laws.specs.Settled.{settle, settle_replies}
 use Rattle.fs_laws.proofs.trees.Prefixes.{same_true, prefix_append, prefix_some, prefix_none, prefix_longer}
-use Rattle.fs_laws.proofs.trees.Commuting.{act_in, act_out, inside_differs, put_other, move_act_under, move_act_apart, move_to, move_else}
+use Rattle.fs_laws.proofs.trees.Commuting.{act_in, act_out, inside_differs, put_other, move_act_under, move_act_apart, move_to, move_else, swapped_first, swapped_second, swapped_else, swap_first, swap_second, swap_else, swap_act_first, swap_act_second, swap_act_apart}
 use Rattle.fs_laws.proofs.trees.SeveralWrites.{writes_act}
 use Rattle.fs_laws.proofs.calls.Located.{outcome_located, after_located, key_is, in_more, from_more, to_more}
 
@@ -404,25 +404,37 @@ passes_agree k a b call ch [] g f h s = tt
 passes_agree k a b call ch (p ∷ ps) g f h s = (blind_agree k p.0 a b call g f h s.0, s.1, passes_agree k a b call ch ps g f h s.2)
 
 -- a move goes past what acts at k, which goes along with it
-move_act : (m : Option (Key × Key)) (k : Key) (f : Map Shape → Map Shape) (tree : Map Shape) → MovesNothingBelow m k → moved_by m (act k f tree) ≡ act (rekey_move m k) f (moved_by m tree)
-move_act None k f tree c = refl
-move_act (Some m) k f tree c = go c.1
+move_act : (m : Rekeying) (k : Key) (f : Map Shape → Map Shape) (tree : Map Shape) → MovesNothingBelow m k → moved_by m (act k f tree) ≡ act (rekey_move m k) f (moved_by m tree)
+move_act Stay k f tree c = refl
+move_act (MoveTo s t) k f tree c = go c.1
   where
-    go : ((r : Key) × (k ≡ m.0 ++ r)) ⊎ (Aside m.0 k × Aside m.1 k) → move m.0 m.1 (act k f tree) ≡ act (rekey_by m.1 k (after_prefix m.0 k)) f (move m.0 m.1 tree)
-    go (inl u) = rw (u.1, prefix_append m.0 u.0) (move_act_under m.0 m.1 u.0 f tree c.0.0 c.0.1)
-    go (inr u) = rw u.0.0 (move_act_apart m.0 m.1 k f tree u.0.0 u.0.1 u.1.0 u.1.1)
+    go : ((r : Key) × (k ≡ s ++ r)) ⊎ (Aside s k × Aside t k) → move s t (act k f tree) ≡ act (rekey_by t k (after_prefix s k)) f (move s t tree)
+    go (inl u) = rw (u.1, prefix_append s u.0) (move_act_under s t u.0 f tree c.0.0 c.0.1)
+    go (inr u) = rw u.0.0 (move_act_apart s t k f tree u.0.0 u.0.1 u.1.0 u.1.1)
+move_act (Swap s t) k f tree c = go c.1
+  where
+    go : ((r : Key) × (k ≡ s ++ r)) ⊎ ((r : Key) × (k ≡ t ++ r)) ⊎ (Aside s k × Aside t k) → swap s t (act k f tree) ≡ act (swapped s t k) f (swap s t tree)
+    go (inl (r, e)) = rw (e, swapped_first s t r) (swap_act_first s t r f tree c.0.0 c.0.1)
+    go (inr (inl (r, e))) = rw (e, swapped_second s t r c.0.0 c.0.1) (swap_act_second s t r f tree c.0.0 c.0.1)
+    go (inr (inr u)) = rw (swapped_else s t k u.0.0 u.1.0) (swap_act_apart s t k f tree u.0.0 u.0.1 u.1.0 u.1.1)
 
 pub change_act : (ch : Change) (k : Key) (f : Map Shape → Map Shape) (tree : Map Shape) → ChangesNothingBelow ch k → changed ch (act k f tree) ≡ act (rekey ch k) f (changed ch tree)
 change_act ch k f tree c = ap (moved_by ch.moves) (writes_act ch.writes k f tree c.0) ∙ move_act ch.moves k f (write_all ch.writes tree) c.1
 
 -- the tree below k goes along
-move_below : (m : Option (Key × Key)) (k : Key) (tree : Map Shape) → MovesNothingBelow m k → below (rekey_move m k) (moved_by m tree) ≡ below k tree
-move_below None k tree c = refl
-move_below (Some m) k tree c = go c.1
+move_below : (m : Rekeying) (k : Key) (tree : Map Shape) → MovesNothingBelow m k → below (rekey_move m k) (moved_by m tree) ≡ below k tree
+move_below Stay k tree c = refl
+move_below (MoveTo s t) k tree c = go c.1
   where
-    go : ((r : Key) × (k ≡ m.0 ++ r)) ⊎ (Aside m.0 k × Aside m.1 k) → below (rekey_by m.1 k (after_prefix m.0 k)) (move m.0 m.1 tree) ≡ below k tree
-    go (inl u) = rw (u.1, prefix_append m.0 u.0) (fun_ext (λ q. ap (move m.0 m.1 tree) (append_assoc m.1 u.0 q) ∙ move_to m.0 m.1 tree (u.0 ++ q) ∙ sym (ap tree (append_assoc m.0 u.0 q))))
-    go (inr u) = rw u.0.0 (fun_ext (λ q. move_else m.0 m.1 tree (k ++ q) (prefix_none m.1 k q u.1.0 u.1.1) (prefix_none m.0 k q u.0.0 u.0.1)))
+    go : ((r : Key) × (k ≡ s ++ r)) ⊎ (Aside s k × Aside t k) → below (rekey_by t k (after_prefix s k)) (move s t tree) ≡ below k tree
+    go (inl u) = rw (u.1, prefix_append s u.0) (fun_ext (λ q. ap (move s t tree) (append_assoc t u.0 q) ∙ move_to s t tree (u.0 ++ q) ∙ sym (ap tree (append_assoc s u.0 q))))
+    go (inr u) = rw u.0.0 (fun_ext (λ q. move_else s t tree (k ++ q) (prefix_none t k q u.1.0 u.1.1) (prefix_none s k q u.0.0 u.0.1)))
+move_below (Swap s t) k tree c = go c.1
+  where
+    go : ((r : Key) × (k ≡ s ++ r)) ⊎ ((r : Key) × (k ≡ t ++ r)) ⊎ (Aside s k × Aside t k) → below (swapped s t k) (swap s t tree) ≡ below k tree
+    go (inl (r, e)) = rw (e, swapped_first s t r) (fun_ext (λ q. ap (swap s t tree) (append_assoc t r q) ∙ swap_second s t tree (r ++ q) c.0.0 c.0.1 ∙ sym (ap tree (append_assoc s r q))))
+    go (inr (inl (r, e))) = rw (e, swapped_second s t r c.0.0 c.0.1) (fun_ext (λ q. ap (swap s t tree) (append_assoc s r q) ∙ swap_first s t tree (r ++ q) ∙ sym (ap tree (append_assoc t r q))))
+    go (inr (inr u)) = rw (swapped_else s t k u.0.0 u.1.0) (fun_ext (λ q. swap_else s t tree (k ++ q) (prefix_none s k q u.0.0 u.0.1) (prefix_none t k q u.1.0 u.1.1)))
 
 writes_below : (ws : List (Key × Option Shape)) (k : Key) (tree : Map Shape) → AllOff k ws → below k (write_all ws tree) ≡ below k tree
 writes_below [] k tree off = refl

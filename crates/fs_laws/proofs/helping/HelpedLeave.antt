@@ -11,12 +11,13 @@ use Rattle.fs_machine.specs.Finishes.{finish}
 use Rattle.fs_machine.specs.Leaving.{is_removed, releasing, let_go, finished_op, unreserved}
 use Rattle.fs_machine.specs.Moves.{next, took, target, took_by}
 use Rattle.fs_machine.specs.declared.moves.Move.TheVariants.{Take as Takes, LetGo as Leaves, Finish as Finishes}
+use Rattle.fs_machine.specs.declared.moves.Moved.{Moved}
 use Rattle.fs_machine.specs.Records.{Phase, Walking, Placed, Finished, Holds, Record, Holdings, holdings_at, Source}
 use Rattle.fs_laws.specs.Below.{IsHolding, IsAboutToMove, Meanwhile, Now, Begins_another, Steps_another, Helps_one, EachBelow, HelpsAreFew}
 use Rattle.fs_timeline.specs.Timeline.{commit_count}
 use Rattle.fs_laws.specs.Invariants.{IsIn, Own, Invariant}
 use Rattle.fs_laws.specs.CallFacts.{IsAfter, Located}
-use Rattle.fs_machine.specs.States.{State, Begun, Begins, Reserves, new_op, began, Step, Run, Beginning, Stepping, taking, letting_go, helping, carrying, returning, IsWalkingBelow, NoneBelow}
+use Rattle.fs_machine.specs.States.{State, Begun, Begins, Reserves, new_op, began, Step, Run, Beginning, Stepping, taking, letting_go, helping, carrying, returning, IsMoved, IsWalkingBelow, IsWalkingBelowMoved}
 use Rattle.fs_machine.specs.declared.answers.Refusal.TheVariants.{SeatBusy, Full, OutOfMemory}
 use Rattle.fs_machine.specs.declared.answers.Stepped.{Stepped}
 use Rattle.fs_machine.specs.declared.answers.Stepped.TheVariants.{Idle, Took, Busy, LetGo, Helped, Committed, CarriedOut, Returned}
@@ -30,19 +31,20 @@ use Rattle.fs_laws.proofs.events.Take.{TakesFrom, From_nowhere, From_holdings, t
 use Rattle.fs_laws.proofs.calls.Takes.{Take, Walk, There, stands, same_node, takes_by, with_holdings, walked_on}
 use Rattle.fs_laws.proofs.states.Headline.{run_keeps}
 use Rattle.fs_laws.proofs.helping.WhoStandsBelow.{not_below}
-use Rattle.fs_laws.proofs.helping.NobodyEnters.{ToMove, to_move, NewEntry, Same_entry, Linked, Moved, finish_entries}
+use Rattle.fs_laws.proofs.helping.NobodyEnters.{ToMove, to_move, NewEntry, Same_entry, Linked, Moved_entry, finish_entries}
 
--- what is known of the rename before an event
+-- what is known of the mover of a node before an event
 record Mover (s : State) (c moved : ℕ) : Type 0 where
   pub inv : Invariant s
   pub op : Record
   pub is : s.ops c ≡ Some op
   pub walks : op.phase ≡ Walking
   pub to : ToMove s.graph op moved
-  pub move : next s.graph op ≡ Finishes (Some moved)
+  pub all : Moved
+  pub move : next s.graph op ≡ Finishes all
 
-mover : (s : State) (c moved : ℕ) → Run s → IsAboutToMove s c moved → Mover s c moved
-mover s c moved run (op, is, walks, m) = record { inv = run_keeps s run; op = op; is = is; walks = walks; to = to_move s.graph op moved m; move = m }
+mover : (s : State) (c : ℕ) (all : Moved) (moved : ℕ) → Run s → IsAboutToMove s c all → IsMoved all moved → Mover s c moved
+mover s c all moved run (op, is, walks, m) one = record { inv = run_keeps s run; op = op; is = is; walks = walks; to = to_move s.graph op all moved m one; all = all; move = m }
 
 -- the key of the parent, and of the moved node
 abbrev parent_key : (s : State) (c moved : ℕ) → Mover s c moved → Key
@@ -102,7 +104,7 @@ took_outside s c moved m f n op is move d (q, q_is, walks, (st, key, on, e)) = g
     not_mover i =
         let a : ◌≡◌ {A = Option Record} (Some op) (Some m.op) = sym is ∙ ap s.ops i ∙ m.is in
         let b : op ≡ m.op = cc in
-        let z : Takes n ≡ Finishes (Some moved) = sym move ∙ ap (next s.graph) b ∙ m.move in cc
+        let z : Takes n ≡ Finishes m.all = sym move ∙ ap (next s.graph) b ∙ m.move in cc
 
     -- where it stood
     from : (before : Holdings) (v : Record) → took op n ≡ v → v.phase ≡ op.phase → op.holdings ≡ Some before → (r : Key) × (at s.graph.child moved r ≡ Some before.node) → d ≡ f → took op n ≡ q → IsWalkingBelow s moved d
@@ -158,8 +160,8 @@ let_go_outside s moved f n op is move d (q, q_is, walks, (st, key, on, e)) = go 
     go (Old k i) = (q, i, walks, (st, key, on, at_old))
 
 -- a finish of another call
-finish_outside : (s : State) (inv : Invariant s) (moved f : ℕ) (op : Record) (o : Option ℕ) → s.ops f ≡ Some op → next s.graph op ≡ Finishes o
-    → ((d b : ℕ) (q : Record) (st before : Holdings) (r w : Key) → (d ≡ f → ⊥) → IsHolding s d q st → q.phase ≡ Walking → op.holdings ≡ Some before → at s.graph.child before.node w ≡ Some b → o ≡ Some b → at s.graph.child b r ≡ Some st.node → ⊥)
+finish_outside : (s : State) (inv : Invariant s) (moved f : ℕ) (op : Record) (o : Moved) → s.ops f ≡ Some op → next s.graph op ≡ Finishes o
+    → ((d b : ℕ) (q : Record) (st before : Holdings) (r w : Key) → (d ≡ f → ⊥) → IsHolding s d q st → q.phase ≡ Walking → op.holdings ≡ Some before → at s.graph.child before.node w ≡ Some b → IsMoved o b → at s.graph.child b r ≡ Some st.node → ⊥)
     → (d : ℕ) (q : Record) (st : Holdings) (key : Key) → (d ≡ f → ⊥) → s.ops d ≡ Some q → q.phase ≡ Walking → q.holdings ≡ Some st → at (finish s.graph op).graph.child moved key ≡ Some st.node → at s.graph.child moved key ≡ Some st.node
 finish_outside s inv moved f op o is move alone d q st key differs q_is walks on e = same key moved e
   where
@@ -180,7 +182,7 @@ finish_outside s inv moved f op o is move alone d q st key differs q_is walks on
     step : (a b : ℕ) (x : Name) (w : Key) → NewEntry s.graph op o a b x → at s.graph.child b w ≡ Some st.node → at s.graph.child a (x ∷ w) ≡ Some st.node
     step a b x w (Same_entry g) h = ap (λ (v : Option ℕ). then_at v (λ k. at s.graph.child k w)) g ∙ h
     step a b x w (Linked g) h = absurd (loose b w g h)
-    step a b x w (Moved before v on_b g i) h = absurd (alone d b q st before w v differs (record { is = q_is; on = on }) walks on_b g i h)
+    step a b x w (Moved_entry before v on_b g i) h = absurd (alone d b q st before w v differs (record { is = q_is; on = on }) walks on_b g i h)
 
     same : (w : Key) (a : ℕ) → at (finish s.graph op).graph.child a w ≡ Some st.node → at s.graph.child a w ≡ Some st.node
     same [] a g = g
@@ -188,8 +190,8 @@ finish_outside s inv moved f op o is move alone d q st key differs q_is walks on
         let k : (b : ℕ) × ((finish s.graph op).graph.child a x ≡ Some b) × (at (finish s.graph op).graph.child b w ≡ Some st.node) = then_some ((finish s.graph op).graph.child a x) (λ b. at (finish s.graph op).graph.child b w) st.node g in
         step a k.0 x w (finish_entries s.graph inv.is_graph op o own.well move a k.0 x k.1) (same w k.0 k.2)
 
-finishing_outside : (s : State) (inv : Invariant s) (moved f : ℕ) (op : Record) (o : Option ℕ) → s.ops f ≡ Some op → next s.graph op ≡ Finishes o
-    → ((d b : ℕ) (q : Record) (st before : Holdings) (r w : Key) → (d ≡ f → ⊥) → IsHolding s d q st → q.phase ≡ Walking → op.holdings ≡ Some before → at s.graph.child before.node w ≡ Some b → o ≡ Some b → at s.graph.child b r ≡ Some st.node → ⊥)
+finishing_outside : (s : State) (inv : Invariant s) (moved f : ℕ) (op : Record) (o : Moved) → s.ops f ≡ Some op → next s.graph op ≡ Finishes o
+    → ((d b : ℕ) (q : Record) (st before : Holdings) (r w : Key) → (d ≡ f → ⊥) → IsHolding s d q st → q.phase ≡ Walking → op.holdings ≡ Some before → at s.graph.child before.node w ≡ Some b → IsMoved o b → at s.graph.child b r ≡ Some st.node → ⊥)
     → (d : ℕ) → IsWalkingBelow (carrying s f op) moved d → IsWalkingBelow s moved d
 finishing_outside s inv moved f op o is move alone d (q, q_is, walks, (st, key, on, e)) = go (either s.ops f (finished_op op (finish s.graph op)) d q q_is)
   where
@@ -221,7 +223,7 @@ began_outside s moved seat call c reserved graph children d (q, q_is, walks, (st
     go (Changed i j) = let z : ◌≡◌ {A = Option Holdings} None (Some st) = ap (λ (x : Record). x.holdings) j ∙ on in cc
     go (Old k i) = (q, i, walks, (st, key, on, sym (ap (λ (g : Children). at g moved key) children) ∙ e))
 
--- any step while the rename is about to move the node
+-- any step while a call is about to move the node
 step_outside : (old new : State) (c moved seat : ℕ) (answer : Stepped) → Mover old c moved → Step old seat answer new → (d : ℕ) → IsWalkingBelow new moved d → IsWalkingBelow old moved d
 step_outside old new c moved seat Idle m st d w = subst (λ (s : State). IsWalkingBelow s moved d) st.1 w
 step_outside old new c moved seat (Took n) m (f, op, moves, free, same) d w = took_outside old c moved m f n op moves.1 moves.2 d (subst (λ (s : State). IsWalkingBelow s moved d) same w)
@@ -230,7 +232,7 @@ step_outside old new c moved seat (LetGo n) m (f, op, moves, same) d w = let_go_
 step_outside old new c moved seat (Helped h) m (f, op, t, moves, walks, chosen, q, is, same) d w = (helped_outside old moved h q is d (subst (λ (s : State). IsWalkingBelow s moved d) same w)).0
 step_outside old new c moved seat Committed m (f, op, o, moves, walks, none, same) d w =
     finishing_outside old m.inv moved f op o moves.1 moves.2
-    (λ e b q st before r v differs a q_walks on at_b is at_st. (subst (NoneBelow old) is none) e (q, a.is, q_walks, (st, r, a.on, at_st)))
+    (λ e b q st before r v differs a q_walks on at_b is at_st. none e (b, is, (q, a.is, q_walks, (st, r, a.on, at_st))))
     d (subst (λ (s : State). IsWalkingBelow s moved d) same w)
 step_outside old new c moved seat CarriedOut m (f, op, o, i, moves, placed, same) d w =
     finishing_outside old m.inv moved f op o moves.1 moves.2
@@ -249,53 +251,59 @@ begin_outside old new moved seat call (Ok c) (free, number, r) d w = go (reserve
     go None same = began_outside old moved seat call c None old.graph refl d (subst (λ (s : State). IsWalkingBelow s moved d) same w)
     go (Some shape) (n, less, unused, same) = began_outside old moved seat call c (Some n) (reserved_in n shape old.graph) refl d (subst (λ (s : State). IsWalkingBelow s moved d) same w)
 
--- the rename is about to move the node at the last state of the piece, and that is a state of the run
-at_last : (c moved : ℕ) (s new : State) (helped : List ℕ) → Meanwhile c moved s helped new → IsAboutToMove new c moved
+-- the same of all nodes that it is about to move
+step_outside_all : (old new : State) (c seat : ℕ) (all : Moved) (answer : Stepped) → Run old → IsAboutToMove old c all → Step old seat answer new → (d : ℕ) → IsWalkingBelowMoved new all d → IsWalkingBelowMoved old all d
+step_outside_all old new c seat all answer run a st d (moved, one, w) = (moved, one, step_outside old new c moved seat answer (mover old c all moved run a one) st d w)
+
+begin_outside_all : (old new : State) (all : Moved) (seat : ℕ) (call : Call) (answer : Begun) → Begins old seat call answer new → (d : ℕ) → IsWalkingBelowMoved new all d → IsWalkingBelowMoved old all d
+begin_outside_all old new all seat call answer b d (moved, one, w) = (moved, one, begin_outside old new moved seat call answer b d w)
+
+helped_outside_all : (s : State) (all : Moved) (h : ℕ) (op : Record) → s.ops h ≡ Some op → (d : ℕ) → IsWalkingBelowMoved (helping s h op) all d → IsWalkingBelowMoved s all d × (d ≡ h → ⊥)
+helped_outside_all s all h op is d (moved, one, w) = let o : IsWalkingBelow s moved d × (d ≡ h → ⊥) = helped_outside s moved h op is d w in ((moved, one, o.0), o.1)
+
+-- the call is about to move the nodes at the last state of the piece, and that is a state of the run
+at_last : (c : ℕ) (moved : Moved) (s new : State) (helped : List ℕ) → Meanwhile c moved s helped new → IsAboutToMove new c moved
 at_last c moved s new helped (Now a) = a
 at_last c moved s new helped (Begins_another seat call answer _ w b a) = a
 at_last c moved s new helped (Steps_another seat answer _ w n st a) = a
 at_last c moved s new helped (Helps_one seat d _ w on st a) = a
 
-run_on : (c moved : ℕ) (s new : State) (helped : List ℕ) → Run s → Meanwhile c moved s helped new → Run new
+run_on : (c : ℕ) (moved : Moved) (s new : State) (helped : List ℕ) → Run s → Meanwhile c moved s helped new → Run new
 run_on c moved s new helped run (Now a) = run
 run_on c moved s new helped run (Begins_another {helped = _} {old} seat call answer _ w b a) = Beginning seat call answer new (run_on c moved s old helped run w) b
 run_on c moved s new helped run (Steps_another {helped = _} {old} seat answer _ w n st a) = Stepping seat answer new (run_on c moved s old helped run w) st
 run_on c moved s new (_ ∷ helped) run (Helps_one {helped = _} {old} seat d _ w on st a) = Stepping seat (Helped d) new (run_on c moved s old helped run w) st
 
 -- what is known of the calls that it helped, without their count
-record EachOnce (c moved : ℕ) (s : State) (helped : List ℕ) (new : State) : Type 0 where
+record EachOnce (c : ℕ) (moved : Moved) (s : State) (helped : List ℕ) (new : State) : Type 0 where
   pub helps : EachBelow s moved helped
-  pub still : (d : ℕ) → IsWalkingBelow new moved d → IsWalkingBelow s moved d × (IsIn d helped → ⊥)
+  pub still : (d : ℕ) → IsWalkingBelowMoved new moved d → IsWalkingBelowMoved s moved d × (IsIn d helped → ⊥)
 
-helps_each_once : (c moved : ℕ) (s new : State) (helped : List ℕ) → Run s → Meanwhile c moved s helped new → EachOnce c moved s helped new
+helps_each_once : (c : ℕ) (moved : Moved) (s new : State) (helped : List ℕ) → Run s → Meanwhile c moved s helped new → EachOnce c moved s helped new
 helps_each_once c moved s new helped run (Now a) = record { helps = tt; still = λ d w. (w, λ i. i) }
 helps_each_once c moved s new helped run (Begins_another {helped = _} {old} seat call answer _ w b a) =
     let r : EachOnce c moved s helped old = helps_each_once c moved s old helped run w in
-    record { helps = r.helps; still = λ d x. r.still d (begin_outside old new moved seat call answer b d x) }
+    record { helps = r.helps; still = λ d x. r.still d (begin_outside_all old new moved seat call answer b d x) }
 helps_each_once c moved s new helped run (Steps_another {helped = _} {old} seat answer _ w n st a) =
     let r : EachOnce c moved s helped old = helps_each_once c moved s old helped run w in
-    let m : Mover old c moved = mover old c moved (run_on c moved s old helped run w) (at_last c moved s old helped w) in
-    record { helps = r.helps; still = λ d x. r.still d (step_outside old new c moved seat answer m st d x) }
-helps_each_once c moved s new (_ ∷ helped) run (Helps_one {helped = _} {old} seat h _ w on st a) = go st (helps_each_once c moved s old helped run w)
+    record { helps = r.helps; still = λ d x. r.still d (step_outside_all old new c seat moved answer (run_on c moved s old helped run w) (at_last c moved s old helped w) st d x) }
+helps_each_once c moved s new (_ ∷ helped) run (Helps_one {helped = _} {old} seat h _ w on st a) = go (at_last c moved s old helped w) st (helps_each_once c moved s old helped run w)
   where
-    m : Mover old c moved
-    m = mover old c moved (run_on c moved s old helped run w) (at_last c moved s old helped w)
-
-    go : Step old seat (Helped h) new → EachOnce c moved s helped old → EachOnce c moved s (h ∷ helped) new
-    go (f, op, t, moves, walks, chosen, q, is, same) r =
+    go : IsAboutToMove old c moved → Step old seat (Helped h) new → EachOnce c moved s helped old → EachOnce c moved s (h ∷ helped) new
+    go (mine, mine_is, mine_walks, mine_move) (f, op, t, moves, walks, chosen, q, is, same) r =
         let i : ◌≡◌ {A = Option ℕ} (Some c) (Some f) = sym on ∙ moves.0 in
         let j : c ≡ f = cc in
-        let k : ◌≡◌ {A = Option Record} (Some m.op) (Some op) = sym m.is ∙ ap old.ops j ∙ moves.1 in
-        let l : m.op ≡ op = cc in
-        let z : Finishes (Some moved) ≡ Finishes (Some t) = sym m.move ∙ ap (next old.graph) l ∙ moves.2 in
+        let k : ◌≡◌ {A = Option Record} (Some mine) (Some op) = sym mine_is ∙ ap old.ops j ∙ moves.1 in
+        let l : mine ≡ op = cc in
+        let z : Finishes moved ≡ Finishes t = sym mine_move ∙ ap (next old.graph) l ∙ moves.2 in
         let y : t ≡ moved = cc in
-        let was : IsWalkingBelow old moved h = subst (λ (x : ℕ). IsWalkingBelow old x h) y chosen.0.0 in
-        let first : IsWalkingBelow s moved h × (IsIn h helped → ⊥) = r.still h was in
+        let was : IsWalkingBelowMoved old moved h = subst (λ (x : Moved). IsWalkingBelowMoved old x h) y chosen.0.0 in
+        let first : IsWalkingBelowMoved s moved h × (IsIn h helped → ⊥) = r.still h was in
         record {
           helps = (first.0, first.1, r.helps);
           still = λ d x.
-              (let b : IsWalkingBelow old moved d × (d ≡ h → ⊥) = helped_outside old moved h q is d (subst (λ (v : State). IsWalkingBelow v moved d) same x) in
-              let g : IsWalkingBelow s moved d × (IsIn d helped → ⊥) = r.still d b.0 in
+              (let b : IsWalkingBelowMoved old moved d × (d ≡ h → ⊥) = helped_outside_all old moved h q is d (subst (λ (v : State). IsWalkingBelowMoved v moved d) same x) in
+              let g : IsWalkingBelowMoved s moved d × (IsIn d helped → ⊥) = r.still d b.0 in
               (g.0, λ v. out (d ≡ h) (IsIn d helped) b.1 g.1 v));
         }
       where
@@ -303,10 +311,10 @@ helps_each_once c moved s new (_ ∷ helped) run (Helps_one {helped = _} {old} s
         out A B a b (inl x) = a x
         out A B a b (inr x) = b x
 
--- each of them walked below the node
-each_walks : (s : State) (moved d : ℕ) (helped : List ℕ) → EachBelow s moved helped → IsIn d helped → IsWalkingBelow s moved d
+-- each of them walked below a moved node
+each_walks : (s : State) (moved : Moved) (d : ℕ) (helped : List ℕ) → EachBelow s moved helped → IsIn d helped → IsWalkingBelowMoved s moved d
 each_walks s moved d [] each i = absurd i
-each_walks s moved d (h ∷ helped) (below, apart, rest) (inl same) = subst (IsWalkingBelow s moved) (sym same) below
+each_walks s moved d (h ∷ helped) (below, apart, rest) (inl same) = subst (IsWalkingBelowMoved s moved) (sym same) below
 each_walks s moved d (h ∷ helped) (below, apart, rest) (inr i) = each_walks s moved d helped rest i
 
 -- a list without one of its numbers
@@ -332,7 +340,7 @@ without d (e ∷ es) (inl same) = record { rest = es; shorter = refl; others = o
     others x differs (inr i) = i
 
 -- calls that are each there once are no more than those of a list that has them all
-no_more : (s : State) (moved : ℕ) (helped below : List ℕ) → EachBelow s moved helped → ((d : ℕ) → IsIn d helped → IsIn d below) → length helped ≤ length below
+no_more : (s : State) (moved : Moved) (helped below : List ℕ) → EachBelow s moved helped → ((d : ℕ) → IsIn d helped → IsIn d below) → length helped ≤ length below
 no_more s moved [] below each all = omega arith
 no_more s moved (h ∷ helped) below (first, apart, rest) all =
     let w : Without h below = without h below (all h (inl refl)) in

@@ -1,5 +1,5 @@
 -- While a rename is about to move a node, no event brings a walking call below it.
-use Rattle.std.proofs.Common.{◌≡◌, ℕ, Bool, true, false, cond, eqb, not, ◌&&◌, ◌||◌, List, [], ◌∷◌, ◌++◌, Option, Some, None, refl, sym, ap, ap₂, ◌∙◌, ◌⊎◌, inl, inr}
+use Rattle.std.proofs.Common.{◌≡◌, ℕ, Bool, true, false, cond, eqb, not, ◌&&◌, ◌||◌, List, [], ◌∷◌, ◌++◌, Option, Some, None, refl, sym, ap, ap₂, ◌∙◌, subst, ◌⊎◌, inl, inr}
 use Rattle.fs_names.specs.Keys.{Key, after_prefix, parent_of, last_of, has_more, is_end}
 use Rattle.fs_names.specs.Names.{Name, same_name}
 use Rattle.fs_names.specs.Parts.{common, left}
@@ -14,7 +14,10 @@ use Rattle.fs_machine.specs.Finishes.{node_effect, entry_effect, move_effect, re
 use Rattle.fs_machine.specs.Moves.{next, next_by, next_on, first_of, step_move, walk_move, take_if, target, target_move, fork_move, rename_move, rename_at, moved_node, dir_then, dir_error, path_error, there_by, victim_of}
 use Rattle.fs_machine.specs.declared.moves.Move.{Move}
 use Rattle.fs_machine.specs.declared.moves.Move.TheVariants.{Finish as Finishes}
+use Rattle.fs_machine.specs.declared.moves.Moved.{Moved}
+use Rattle.fs_machine.specs.declared.moves.Moved.TheVariants.{Nothing, One, Two}
 use Rattle.fs_machine.specs.Records.{Phase, Walking, Placed, Finished, Record, Holdings, Source}
+use Rattle.fs_machine.specs.States.{IsMoved}
 use Rattle.fs_laws.specs.Invariants.{Forked, ForkedAt, HeadsSound}
 use Rattle.fs_laws.proofs.graphs.Walks.{at_child}
 use Rattle.fs_laws.proofs.finish.RealMoves.{at_entries}
@@ -33,62 +36,68 @@ pub record ToMove (graph : Graph) (op : Record) (moved : ℕ) : Type 0 where
   pub way : common (parent_of p) (parent_of q) ≡ []
   pub child : graph.child st.source.node (last_of p) ≡ Some moved
 
-moved_some : (b : Bool) (s : Option ℕ) (m : ℕ) → Finishes (moved_node b s) ≡ Finishes (Some m) → (b ≡ true) × (s ≡ Some m)
-moved_some true (Some n) m e = let z : n ≡ m = cc in (refl, ap (λ (x : ℕ). Some x) z)
-moved_some true None m e = cc
-moved_some false s m e = cc
+-- a finish that moves nothing moves no node
+nothing_moves : (t : Moved) (m : ℕ) → Finishes Nothing ≡ Finishes t → IsMoved t m → ⊥
+nothing_moves Nothing m e i = i
+nothing_moves (One n) m e i = cc
+nothing_moves (Two n k) m e i = cc
 
-walk_some : (s : Option Shape) (k : Option ℕ) (m : ℕ) → walk_move s k ≡ Finishes (Some m) → ⊥
-walk_some None k m e = cc
-walk_some (Some (File bytes)) k m e = cc
-walk_some (Some (Dir names)) None m e = cc
-walk_some (Some (Dir names)) (Some n) m e = cc
+moved_some : (b : Bool) (s : Option ℕ) (t : Moved) (m : ℕ) → Finishes (moved_node b s) ≡ Finishes t → IsMoved t m → (b ≡ true) × (s ≡ Some m)
+moved_some true (Some n) t m e i = let z : t ≡ One n = cc in let y : m ≡ n = subst (λ (u : Moved). IsMoved u m) z i in (refl, ap (λ (x : ℕ). Some x) (sym y))
+moved_some true None t m e i = absurd (nothing_moves t m e i)
+moved_some false s t m e i = absurd (nothing_moves t m e i)
 
-take_over : (b : Bool) (k v o : Option ℕ) (m : Option ℕ) → take_if b k v (Finishes o) ≡ Finishes m → Finishes o ≡ Finishes m
+walk_some : (s : Option Shape) (k : Option ℕ) (t : Moved) (m : ℕ) → walk_move s k ≡ Finishes t → IsMoved t m → ⊥
+walk_some None k t m e i = nothing_moves t m e i
+walk_some (Some (File bytes)) k t m e i = nothing_moves t m e i
+walk_some (Some (Dir names)) None t m e i = nothing_moves t m e i
+walk_some (Some (Dir names)) (Some n) t m e i = cc
+
+take_over : (b : Bool) (k v : Option ℕ) (o m : Moved) → take_if b k v (Finishes o) ≡ Finishes m → Finishes o ≡ Finishes m
 take_over true None v o m e = e
 take_over true (Some n) None o m e = cc
 take_over true (Some n) (Some v) o m e = e
 take_over false k v o m e = e
 
-first_some : (graph : Graph) (n : ℕ) (l : Key) (rest : Move) (m : ℕ) → first_of (step_move graph n l) rest ≡ Finishes (Some m) → (l ≡ []) × (rest ≡ Finishes (Some m))
-first_some graph n [] rest m e = (refl, e)
-first_some graph n (x ∷ l) rest m e = absurd (walk_some (graph.shape n) (graph.child n x) m e)
+first_some : (graph : Graph) (n : ℕ) (l : Key) (rest : Move) (t : Moved) (m : ℕ) → first_of (step_move graph n l) rest ≡ Finishes t → IsMoved t m → (l ≡ []) × (rest ≡ Finishes t)
+first_some graph n [] rest t m e i = (refl, e)
+first_some graph n (x ∷ l) rest t m e i = absurd (walk_some (graph.shape n) (graph.child n x) t m e i)
 
-dir_some : (s : Option Shape) (rest : Move) (m : ℕ) → dir_then s rest ≡ Finishes (Some m) → rest ≡ Finishes (Some m)
-dir_some None rest m e = cc
-dir_some (Some (File bytes)) rest m e = cc
-dir_some (Some (Dir names)) rest m e = e
+dir_some : (s : Option Shape) (rest : Move) (t : Moved) (m : ℕ) → dir_then s rest ≡ Finishes t → IsMoved t m → rest ≡ Finishes t
+dir_some None rest t m e i = absurd (nothing_moves t m e i)
+dir_some (Some (File bytes)) rest t m e i = absurd (nothing_moves t m e i)
+dir_some (Some (Dir names)) rest t m e i = e
 
-pub to_move : (graph : Graph) (op : Record) (moved : ℕ) → next graph op ≡ Finishes (Some moved) → ToMove graph op moved
-to_move graph op moved e = go op.phase (by_text (form op.call)) op.holdings refl e
+pub to_move : (graph : Graph) (op : Record) (all : Moved) (moved : ℕ) → next graph op ≡ Finishes all → IsMoved all moved → ToMove graph op moved
+to_move graph op all moved e one = go op.phase (by_text (form op.call)) op.holdings refl e
   where
-    at_fork : (st : Holdings) (p q : Key) → op.holdings ≡ Some st → op.remaining ≡ AtPair pairs.Rename p q → common (parent_of p) (parent_of q) ≡ [] → fork_move graph p q st ≡ Finishes (Some moved) → ToMove graph op moved
+    at_fork : (st : Holdings) (p q : Key) → op.holdings ≡ Some st → op.remaining ≡ AtPair pairs.Rename p q → common (parent_of p) (parent_of q) ≡ [] → fork_move graph pairs.Rename p q st ≡ Finishes all → ToMove graph op moved
     at_fork st p q on rem way f =
         let at_dest : Move = dir_then (graph.shape st.dest.node) (rename_move graph p q st) in
         let rest : Move = dir_then (graph.shape st.source.node) (first_of (step_move graph st.dest.node (left st.dest.walked (parent_of q))) at_dest) in
-        let a : (left st.source.walked (parent_of p) ≡ []) × (rest ≡ Finishes (Some moved)) = first_some graph st.source.node (left st.source.walked (parent_of p)) rest moved (dir_some (graph.shape st.node) (first_of (step_move graph st.source.node (left st.source.walked (parent_of p))) rest) moved f) in
-        let b : (left st.dest.walked (parent_of q) ≡ []) × (at_dest ≡ Finishes (Some moved)) = first_some graph st.dest.node (left st.dest.walked (parent_of q)) at_dest moved (dir_some (graph.shape st.source.node) (first_of (step_move graph st.dest.node (left st.dest.walked (parent_of q))) at_dest) moved a.1) in
-        let m : Finishes (moved_node (rename_at graph p q st).1 (graph.child st.source.node (last_of p))) ≡ Finishes (Some moved) = take_over (wants graph p q st) (graph.child st.dest.node (last_of q)) st.victim (moved_node (rename_at graph p q st).1 (graph.child st.source.node (last_of p))) (Some moved) (dir_some (graph.shape st.dest.node) (rename_move graph p q st) moved b.1) in
-        record { st = st; p = p; q = q; on = on; remaining = rem; way = way; child = (moved_some (rename_at graph p q st).1 (graph.child st.source.node (last_of p)) moved m).1 }
+        let a : (left st.source.walked (parent_of p) ≡ []) × (rest ≡ Finishes all) = first_some graph st.source.node (left st.source.walked (parent_of p)) rest all moved (dir_some (graph.shape st.node) (first_of (step_move graph st.source.node (left st.source.walked (parent_of p))) rest) all moved f one) one in
+        let b : (left st.dest.walked (parent_of q) ≡ []) × (at_dest ≡ Finishes all) = first_some graph st.dest.node (left st.dest.walked (parent_of q)) at_dest all moved (dir_some (graph.shape st.source.node) (first_of (step_move graph st.dest.node (left st.dest.walked (parent_of q))) at_dest) all moved a.1 one) one in
+        let m : Finishes (moved_node (rename_at graph p q st).1 (graph.child st.source.node (last_of p))) ≡ Finishes all = take_over (wants graph p q st) (graph.child st.dest.node (last_of q)) st.victim (moved_node (rename_at graph p q st).1 (graph.child st.source.node (last_of p))) all (dir_some (graph.shape st.dest.node) (rename_move graph p q st) all moved b.1 one) in
+        record { st = st; p = p; q = q; on = on; remaining = rem; way = way; child = (moved_some (rename_at graph p q st).1 (graph.child st.source.node (last_of p)) all moved m one).1 }
 
-    none_is : Finishes None ≡ Finishes (Some moved) → ⊥
-    none_is f = cc
+    none_is : Finishes Nothing ≡ Finishes all → ⊥
+    none_is f = nothing_moves all moved f one
 
-    there : (st : Holdings) (rem : Form) → op.holdings ≡ Some st → op.remaining ≡ rem → target rem ≡ [] → target_move graph rem st ≡ Finishes (Some moved) → ToMove graph op moved
+    there : (st : Holdings) (rem : Form) → op.holdings ≡ Some st → op.remaining ≡ rem → target rem ≡ [] → target_move graph rem st ≡ Finishes all → ToMove graph op moved
     there st (AtNode c p) on i w f = absurd (none_is f)
-    there st (AtEntry c p) on i w f = absurd (none_is (take_over (victim_of c (entry_shape graph st.node (last_of p))) (graph.child st.node (last_of p)) st.victim None (Some moved) f))
+    there st (AtEntry c p) on i w f = absurd (none_is (take_over (victim_of c (entry_shape graph st.node (last_of p))) (graph.child st.node (last_of p)) st.victim Nothing all f))
     there st (AtPair pairs.Rename p q) on i w f = at_fork st p q on i w f
 
-    stands : (st : Holdings) → op.holdings ≡ Some st → next_on graph op.remaining st ≡ Finishes (Some moved) → ToMove graph op moved
+    stands : (st : Holdings) → op.holdings ≡ Some st → next_on graph op.remaining st ≡ Finishes all → ToMove graph op moved
     stands st on f =
-        let a : (target op.remaining ≡ []) × (target_move graph op.remaining st ≡ Finishes (Some moved)) = first_some graph st.node (target op.remaining) (target_move graph op.remaining st) moved (finish_on graph op.remaining st (Some moved) f) in
+        let a : (target op.remaining ≡ []) × (target_move graph op.remaining st ≡ Finishes all) = first_some graph st.node (target op.remaining) (target_move graph op.remaining st) all moved (finish_on graph op.remaining st all f) one in
         there st op.remaining on refl a.0 a.1
 
-    go : (p : Phase) (t : Option Errno) (s : Option Holdings) → op.holdings ≡ s → next_by graph op t p s ≡ Finishes (Some moved) → ToMove graph op moved
+    go : (p : Phase) (t : Option Errno) (s : Option Holdings) → op.holdings ≡ s → next_by graph op t p s ≡ Finishes all → ToMove graph op moved
     go (Finished r) t None i f = cc
     go (Finished r) t (Some st) i f = cc
-    go Walking (Some x) s i f = cc
-    go (Placed k) (Some x) s i f = cc
+    go Walking (Some x) s i f = absurd (none_is f)
+    go (Placed k) (Some x) s i f = absurd (none_is f)
     go Walking None None i f = cc
     go (Placed k) None None i f = cc
     go Walking None (Some st) i f = stands st i f
@@ -102,11 +111,11 @@ set_or dir x v child a y b e = go (eqb a dir && same_name y x) e
     go true f = inl f
     go false f = inr f
 
--- an entry after a finish: an old one, or that of the reserved number, or of the moved node
-pub data NewEntry (graph : Graph) (op : Record) (o : Option ℕ) (a b : ℕ) (x : Name) : Type 0 where
+-- an entry after a finish: an old one, or that of the reserved number, or of a moved node
+pub data NewEntry (graph : Graph) (op : Record) (o : Moved) (a b : ℕ) (x : Name) : Type 0 where
   Same_entry : graph.child a x ≡ Some b → NewEntry graph op o a b x
   Linked : op.reserved ≡ Some b → NewEntry graph op o a b x
-  Moved : (st : Holdings) (w : Key) → op.holdings ≡ Some st → at graph.child st.node w ≡ Some b → o ≡ Some b → NewEntry graph op o a b x
+  Moved_entry : (st : Holdings) (w : Key) → op.holdings ≡ Some st → at graph.child st.node w ≡ Some b → IsMoved o b → NewEntry graph op o a b x
 
 some_is : (m b : ℕ) → ◌≡◌ {A = Option ℕ} (Some m) (Some b) → m ≡ b
 some_is m b e = cc
@@ -115,7 +124,7 @@ on_entries : (graph : Graph) (n : ℕ) (r : Option ℕ) (row : Reply × Option (
 on_entries graph n r (t, None) = refl
 on_entries graph n r (t, Some bytes) = refl
 
-in_entries : (graph : Graph) (op : Record) (o : Option ℕ) (n : ℕ) (y : Name) (row : Reply × Edit) (r : Option ℕ) → op.reserved ≡ r → (a b : ℕ) (x : Name) → (entry_effect graph n y r row).graph.child a x ≡ Some b → NewEntry graph op o a b x
+in_entries : (graph : Graph) (op : Record) (o : Moved) (n : ℕ) (y : Name) (row : Reply × Edit) (r : Option ℕ) → op.reserved ≡ r → (a b : ℕ) (x : Name) → (entry_effect graph n y r row).graph.child a x ≡ Some b → NewEntry graph op o a b x
 in_entries graph op o n y (t, Keep) r i a b x e = Same_entry e
 in_entries graph op o n y (t, Add shape) None i a b x e = Same_entry e
 in_entries graph op o n y (t, Add shape) (Some m) i a b x e = go (set_or n y (Some m) graph.child a x b e)
@@ -135,7 +144,7 @@ in_entries graph op o n y (t, Remove) (Some m) i a b x e = go (set_or n y None g
     go (inr f) = Same_entry f
 
 -- a rename at both parents
-rename_entries : (graph : Graph) → IsGraph graph → (op : Record) (o : Option ℕ) (p q : Key) (st : Holdings) → op.holdings ≡ Some st → Forked graph st.node p q st → fork_move graph p q st ≡ Finishes o → (t : Bool) → (rename_at graph p q st).1 ≡ t → (s : Option ℕ) → graph.child st.source.node (last_of p) ≡ s
+rename_entries : (graph : Graph) → IsGraph graph → (op : Record) (o : Moved) (p q : Key) (st : Holdings) → op.holdings ≡ Some st → Forked graph st.node p q st → fork_move graph pairs.Rename p q st ≡ Finishes o → (t : Bool) → (rename_at graph p q st).1 ≡ t → (s : Option ℕ) → graph.child st.source.node (last_of p) ≡ s
     → (r : Reply) (a b : ℕ) (x : Name) → (move_effect graph st (last_of p) (last_of q) op.reserved r t s).graph.child a x ≡ Some b → NewEntry graph op o a b x
 rename_entries graph is op o p q st on f fork false i s j r a b x e = Same_entry e
 rename_entries graph is op o p q st on f fork true i None j r a b x e = Same_entry e
@@ -144,12 +153,12 @@ rename_entries graph is op o p q st on f fork true i (Some m) j r a b x e = go (
     real : Really (dir_error (left st.source.walked (parent_of p)) (graph.shape st.source.node)) (dir_error (left st.dest.walked (parent_of q)) (graph.shape st.dest.node)) (entry_shape graph st.source.node (last_of p)) (is_end (after_prefix p q)) (there_by (has_more (after_prefix q p)) (entry_shape graph st.dest.node (last_of q))) (is_end (after_prefix (parent_of p) (parent_of q)) || not (is_full (graph.shape st.dest.node)))
     real = really (dir_error (left st.source.walked (parent_of p)) (graph.shape st.source.node)) (dir_error (left st.dest.walked (parent_of q)) (graph.shape st.dest.node)) (entry_shape graph st.source.node (last_of p)) (is_end (after_prefix p q)) (there_by (has_more (after_prefix q p)) (entry_shape graph st.dest.node (last_of q))) (is_end (after_prefix (parent_of p) (parent_of q)) || not (is_full (graph.shape st.dest.node))) i
 
-    o_is : o ≡ Some m
+    o_is : One m ≡ o
     o_is =
-        let mv : rename_move graph p q st ≡ Finishes o = at_entries graph is p q st o f real.source real.dest fork in
+        let mv : rename_move graph p q st ≡ Finishes o = at_entries graph is pairs.Rename p q st o f real.source real.dest fork in
         let z : Finishes (moved_node (rename_at graph p q st).1 (graph.child st.source.node (last_of p))) ≡ Finishes o = take_over (wants graph p q st) (graph.child st.dest.node (last_of q)) st.victim (moved_node (rename_at graph p q st).1 (graph.child st.source.node (last_of p))) o mv in
-        let y : Finishes (Some m) ≡ Finishes o = sym (ap₂ (λ (c : Bool) (k : Option ℕ). Finishes (moved_node c k)) i j) ∙ z in
-        sym (let w : Some m ≡ o = cc in w)
+        let y : Finishes (One m) ≡ Finishes o = sym (ap₂ (λ (c : Bool) (k : Option ℕ). Finishes (moved_node c k)) i j) ∙ z in
+        let w : One m ≡ o = cc in w
 
     rest : (None ≡ Some b) ⊎ (graph.child a x ≡ Some b) → NewEntry graph op o a b x
     rest (inl g) = cc
@@ -157,10 +166,10 @@ rename_entries graph is op o p q st on f fork true i (Some m) j r a b x e = go (
 
     go : (Some m ≡ Some b) ⊎ (set_child st.source.node (last_of p) None graph.child a x ≡ Some b) → NewEntry graph op o a b x
     go (inl g) = let y : m ≡ b = some_is m b g in
-        Moved st (st.source.walked ++ last_of p ∷ []) on (at_child graph.child st.node st.source.node st.source.walked (last_of p) (f.stands Source) ∙ j ∙ g) (o_is ∙ g)
+        Moved_entry st (st.source.walked ++ last_of p ∷ []) on (at_child graph.child st.node st.source.node st.source.walked (last_of p) (f.stands Source) ∙ j ∙ g) (subst (λ (t : Moved). IsMoved t b) o_is (sym y))
     go (inr g) = rest (set_or st.source.node (last_of p) None graph.child a x b g)
 
-pub finish_entries : (graph : Graph) → IsGraph graph → (op : Record) (o : Option ℕ) → ((st : Holdings) → op.holdings ≡ Some st → HeadsSound graph st.node op.remaining st) → next graph op ≡ Finishes o → (a b : ℕ) (x : Name) → (finish graph op).graph.child a x ≡ Some b → NewEntry graph op o a b x
+pub finish_entries : (graph : Graph) → IsGraph graph → (op : Record) (o : Moved) → ((st : Holdings) → op.holdings ≡ Some st → HeadsSound graph st.node op.remaining st) → next graph op ≡ Finishes o → (a b : ℕ) (x : Name) → (finish graph op).graph.child a x ≡ Some b → NewEntry graph op o a b x
 finish_entries graph is op o well m a b x e = go op.phase (by_text (form op.call)) op.holdings refl m e
   where
     there : (st : Holdings) (rem : Form) → op.holdings ≡ Some st → HeadsSound graph st.node rem st → next_on graph rem st ≡ Finishes o → (effect_at graph rem st op.reserved).graph.child a x ≡ Some b → NewEntry graph op o a b x
@@ -168,8 +177,8 @@ finish_entries graph is op o well m a b x e = go op.phase (by_text (form op.call
     there st (AtEntry c p) on w n f = in_entries graph op o st.node (last_of p) (entry_row c (dir_error (parent_of p) (graph.shape st.node)) (is_full (graph.shape st.node)) (entry_shape graph st.node (last_of p))) op.reserved refl a b x f
     there st (AtPair pairs.Rename p q) on w n f = by (target (AtPair pairs.Rename p q)) refl w (finish_on graph (AtPair pairs.Rename p q) st o n) f
       where
-        by : (l : Key) → target (AtPair pairs.Rename p q) ≡ l → ForkedAt graph st.node p q st l → first_of (step_move graph st.node l) (fork_move graph p q st) ≡ Finishes o → (rename_effect graph p q st op.reserved l).graph.child a x ≡ Some b → NewEntry graph op o a b x
-        by [] i w n f = rename_entries graph is op o p q st on w ((step_stops graph st.node [] (fork_move graph p q st) o n).1 refl) (rename_at graph p q st).1 refl (graph.child st.source.node (last_of p)) refl (rename_at graph p q st).0 a b x f
+        by : (l : Key) → target (AtPair pairs.Rename p q) ≡ l → ForkedAt graph st.node p q st l → first_of (step_move graph st.node l) (fork_move graph pairs.Rename p q st) ≡ Finishes o → (rename_effect graph p q st op.reserved l).graph.child a x ≡ Some b → NewEntry graph op o a b x
+        by [] i w n f = rename_entries graph is op o p q st on w ((step_stops graph st.node [] (fork_move graph pairs.Rename p q st) o n).1 refl) (rename_at graph p q st).1 refl (graph.child st.source.node (last_of p)) refl (rename_at graph p q st).0 a b x f
         by (y ∷ l) i w n f = Same_entry f
 
     go : (p : Phase) (t : Option Errno) (s : Option Holdings) → op.holdings ≡ s → next_by graph op t p s ≡ Finishes o → (effect_of graph op t s).graph.child a x ≡ Some b → NewEntry graph op o a b x

@@ -13,6 +13,8 @@ use Rattle.fs_calls.specs.declared.errno.Errno.{Errno}
 use Rattle.fs_nodes.specs.Graphs.{Graph, at, then_at, numbers, graph_shapes, entry_shape, IsGraph}
 use Rattle.fs_machine.specs.Moves.{take_if, target_move, next_on, walk_move, victim_of, entry_move}
 use Rattle.fs_machine.specs.declared.moves.Move.TheVariants.{Finish as Finishes}
+use Rattle.fs_machine.specs.declared.moves.Moved.{Moved}
+use Rattle.fs_machine.specs.declared.moves.Moved.TheVariants.{Nothing}
 use Rattle.fs_machine.specs.Records.{Holds, Holdings, Side, head_on}
 use Rattle.fs_laws.specs.Invariants.{VictimAt}
 use Rattle.fs_laws.specs.Placed.{ReadsNothingBelow, ChangesNothingBelow}
@@ -27,11 +29,11 @@ use Rattle.fs_laws.proofs.finish.Replies.{step_stops}
 use Rattle.fs_laws.proofs.events.TwoCalls.{Parted, parted}
 
 -- where a walk has stopped, no node is there below by the names that are left
-pub stops_here : (graph : Graph) → IsGraph graph → (h m : ℕ) (x : Name) (l : Key) → walk_move (graph.shape h) (graph.child h x) ≡ Finishes None → at graph.child h (x ∷ l) ≡ Some m → ⊥
+pub stops_here : (graph : Graph) → IsGraph graph → (h m : ℕ) (x : Name) (l : Key) → walk_move (graph.shape h) (graph.child h x) ≡ Finishes Nothing → at graph.child h (x ∷ l) ≡ Some m → ⊥
 stops_here graph is h m x l stop there =
     let g : (q : ℕ) × (graph.child h x ≡ Some q) × (at graph.child q l ≡ Some m) = then_some (graph.child h x) (λ q. at graph.child q l) m there in
     let d : (names : List Name) × (graph.shape h ≡ Some (Dir names)) × (has_name x names ≡ true) = is.of_dir h g.0 x g.1 in
-    let z : walk_move (Some (Dir d.0)) (Some g.0) ≡ Finishes None = ap₂ walk_move (sym d.1) (sym g.1) ∙ stop in
+    let z : walk_move (Some (Dir d.0)) (Some g.0) ≡ Finishes Nothing = ap₂ walk_move (sym d.1) (sym g.1) ∙ stop in
     cc
 
 -- a call that stands, and does not have our walk below it, lies off all that a stopped walk would come to
@@ -75,7 +77,7 @@ kept_clear : (k kd d : Key) (names : List Name) (x : Name) (p : Key) (e : Edit) 
 kept_clear k kd d names x p e i = subst (λ (z : Edit). ChangesNothingBelow (change_under k (edit_change d names x p z)) kd) (sym i) (tt, tt)
 
 -- a victim that is wanted and there is held where the next move is to finish
-pub take_done : (b : Bool) (n : ℕ) (held o : Option ℕ) (m : Option ℕ) → b ≡ true → take_if b (Some n) held (Finishes m) ≡ Finishes o → (v : ℕ) × (held ≡ Some v)
+pub take_done : (b : Bool) (n : ℕ) (held : Option ℕ) (o m : Moved) → b ≡ true → take_if b (Some n) held (Finishes m) ≡ Finishes o → (v : ℕ) × (held ≡ Some v)
 take_done true n None o m e f = cc
 take_done true n (Some v) o m e f = (v, refl)
 take_done false n held o m e f = cc
@@ -93,7 +95,7 @@ parent_cases [] m l e = absurd m
 parent_cases (x ∷ []) m l e = inl (x, refl)
 parent_cases (x ∷ y ∷ p) m l e = inr (x, parent_of (y ∷ p), y ∷ p, refl, refl)
 
-pub in_blind : (graph : Graph) → IsGraph graph → (k : Key) (c : EntryCall) (p : Key) (st : Holdings) (o : Option ℕ) (kd : Key) (other : Holdings) → numbers graph k ≡ Some st.node → Fits (AtEntry c p) → VictimAt graph (AtEntry c p) st → next_on graph (AtEntry c p) st ≡ Finishes o → Front graph k st kd other
+pub in_blind : (graph : Graph) → IsGraph graph → (k : Key) (c : EntryCall) (p : Key) (st : Holdings) (o : Moved) (kd : Key) (other : Holdings) → numbers graph k ≡ Some st.node → Fits (AtEntry c p) → VictimAt graph (AtEntry c p) st → next_on graph (AtEntry c p) st ≡ Finishes o → Front graph k st kd other
     → (after_prefix kd (k ++ parent_of p) ≡ None) × (victim_of c (graph_shapes graph (k ++ p)) ≡ true → after_prefix kd (k ++ p) ≡ None)
 in_blind graph is k c [] st o kd other at_k fits victim e f = absurd (in_more c [] fits)
 in_blind graph is k c (x ∷ []) st o kd other at_k fits victim e f = (ap (after_prefix kd) (append-nil k) ∙ f.off, λ v. go v (child_cases kd k x f.off))
@@ -106,8 +108,8 @@ in_blind graph is k c (x ∷ []) st o kd other at_k fits victim e f = (ap (after
     go v (inr h) =
         let child : graph.child st.node x ≡ Some other.node = sym (at_child graph.child 0 st.node k x at_k) ∙ ap (numbers graph) (sym h) ∙ f.there in
         let m : entry_move graph c x st ≡ Finishes o = (step_stops graph st.node [] (entry_move graph c x st) o (finish_on graph (AtEntry c (x ∷ [])) st o e)).1 refl in
-        let t : take_if (victim_of c (entry_shape graph st.node x)) (Some other.node) st.victim (Finishes None) ≡ Finishes o = ap (λ (n : Option ℕ). take_if (victim_of c (entry_shape graph st.node x)) n st.victim (Finishes None)) (sym child) ∙ m in
-        let w : (w : ℕ) × (st.victim ≡ Some w) = take_done (victim_of c (entry_shape graph st.node x)) other.node st.victim o None (ap (victim_of c) (sym read) ∙ v) t in
+        let t : take_if (victim_of c (entry_shape graph st.node x)) (Some other.node) st.victim (Finishes Nothing) ≡ Finishes o = ap (λ (n : Option ℕ). take_if (victim_of c (entry_shape graph st.node x)) n st.victim (Finishes Nothing)) (sym child) ∙ m in
+        let w : (w : ℕ) × (st.victim ≡ Some w) = take_done (victim_of c (entry_shape graph st.node x)) other.node st.victim o Nothing (ap (victim_of c) (sym read) ∙ v) t in
         let z : ◌≡◌ {A = Option ℕ} (Some w.0) (Some other.node) = sym (victim w.0 w.1) ∙ child in
         let y : w.0 ≡ other.node = cc in
         absurd (f.apart other.node (inl refl) (inr (inr (inr (inr (w.1 ∙ ap Some y))))))
@@ -120,7 +122,7 @@ pub record Off (graph : Graph) (k : Key) (remaining : Form) (kd : Key) : Type 0 
   pub blind : ReadsNothingBelow (graph_shapes graph) (under k remaining) kd
   pub clear : ChangesNothingBelow (change_under k (looked (λ r. graph_shapes graph (k ++ r)) remaining).1) kd
 
-pub in_off : (graph : Graph) → IsGraph graph → (k : Key) (c : EntryCall) (p : Key) (st : Holdings) (o : Option ℕ) (kd : Key) (other : Holdings) (s : Shape) → numbers graph k ≡ Some st.node → Fits (AtEntry c p) → VictimAt graph (AtEntry c p) st → next_on graph (AtEntry c p) st ≡ Finishes o → Front graph k st kd other → graph.shape other.node ≡ Some s
+pub in_off : (graph : Graph) → IsGraph graph → (k : Key) (c : EntryCall) (p : Key) (st : Holdings) (o : Moved) (kd : Key) (other : Holdings) (s : Shape) → numbers graph k ≡ Some st.node → Fits (AtEntry c p) → VictimAt graph (AtEntry c p) st → next_on graph (AtEntry c p) st ≡ Finishes o → Front graph k st kd other → graph.shape other.node ≡ Some s
     → Off graph k (AtEntry c p) kd
 in_off graph is k c p st o kd other s at_k fits victim e f in_use = record { blind = (ap (after_prefix kd) (dir_under k p more) ∙ both.0, both.1); clear = go (child_cases kd (k ++ parent_of p) (last_of p) both.0) }
   where
@@ -151,7 +153,7 @@ in_off graph is k c p st o kd other s at_k fits victim e f in_use = record { bli
     go (inl h) = edit_clear k kd (parent_of p) (names_of (graph_shapes graph (k ++ parent_of p))) (last_of p) p row both.0 (ap (after_prefix kd) (sym key) ∙ h)
     go (inr h) = by (victim_of c (graph_shapes graph (k ++ p))) (h ∙ key) refl
 
-pub on_off : (graph : Graph) → IsGraph graph → (k : Key) (c : NodeCall) (p : Key) (st : Holdings) (o : Option ℕ) (kd : Key) (other : Holdings) → numbers graph k ≡ Some st.node → next_on graph (AtNode c p) st ≡ Finishes o → Front graph k st kd other → Off graph k (AtNode c p) kd
+pub on_off : (graph : Graph) → IsGraph graph → (k : Key) (c : NodeCall) (p : Key) (st : Holdings) (o : Moved) (kd : Key) (other : Holdings) → numbers graph k ≡ Some st.node → next_on graph (AtNode c p) st ≡ Finishes o → Front graph k st kd other → Off graph k (AtNode c p) kd
 on_off graph is k c p st o kd other at_k e f =
-    let off : after_prefix kd (k ++ p) ≡ None = stopped_off graph is k kd p st.node other.node at_k (step_stops graph st.node p (Finishes None) o (finish_on graph (AtNode c p) st o e)).0 f.there f.off in
+    let off : after_prefix kd (k ++ p) ≡ None = stopped_off graph is k kd p st.node other.node at_k (step_stops graph st.node p (Finishes Nothing) o (finish_on graph (AtNode c p) st o e)).0 f.there f.off in
     record { blind = off; clear = on_clear k kd p (node_row c (resolve (λ r. graph_shapes graph (k ++ r)) p) (graph_shapes graph (k ++ p))).1 off }

@@ -14,6 +14,7 @@ use Rattle.fs_calls.specs.declared.reply.Reply.{Reply}
 use Rattle.fs_nodes.specs.Graphs.{Graph, at, then_at, numbers, graph_shapes, entry_shape, IsGraph}
 use Rattle.fs_machine.specs.Moves.{first_of, step_move, next_on, same_kind, fork_move, dir_error, walk_errno, rename_at}
 use Rattle.fs_machine.specs.declared.moves.Move.TheVariants.{Finish as Finishes}
+use Rattle.fs_machine.specs.declared.moves.Moved.{Moved}
 use Rattle.fs_machine.specs.Records.{Holds, Holdings, Source, Dest}
 use Rattle.fs_laws.specs.Invariants.{ForkedAt, HeadsSound, VictimAt}
 use Rattle.fs_laws.specs.Placed.{AllOff, ChangesNothingBelow, Aside, looks_into}
@@ -67,7 +68,7 @@ both_sides : (u v w : Bool) → (u && v && w) ≡ true → u ≡ true
 both_sides true v w e = refl
 both_sides false v w e = e
 
-pub rename_off : (graph : Graph) → IsGraph graph → (k : Key) (p q : Key) (st : Holdings) (o : Option ℕ) (kd : Key) (other : Holdings) (s : Shape) → Located (numbers graph) k st → graph.shape st.node ≡ Some s → Fits (AtPair pairs.Rename p q) → HeadsSound graph st.node (AtPair pairs.Rename p q) st → VictimAt graph (AtPair pairs.Rename p q) st
+pub rename_off : (graph : Graph) → IsGraph graph → (k : Key) (p q : Key) (st : Holdings) (o : Moved) (kd : Key) (other : Holdings) (s : Shape) → Located (numbers graph) k st → graph.shape st.node ≡ Some s → Fits (AtPair pairs.Rename p q) → HeadsSound graph st.node (AtPair pairs.Rename p q) st → VictimAt graph (AtPair pairs.Rename p q) st
     → next_on graph (AtPair pairs.Rename p q) st ≡ Finishes o → Front graph k st kd other
     → Off graph k (AtPair pairs.Rename p q) kd
 rename_off graph is k p q st o kd other s loc u fits well victim e f = go (common (parent_of p) (parent_of q)) refl well (finish_on graph (AtPair pairs.Rename p q) st o e)
@@ -104,9 +105,9 @@ rename_off graph is k p q st o kd other s loc u fits well victim e f = go (commo
     stuck : (d : Errno) → resolve_dir (below k (graph_shapes graph)) (parent_of p) ≡ Some d → ChangesNothingBelow (ch row.1) kd
     stuck d r = subst (λ (z : Option Errno). ChangesNothingBelow (ch (rename_row z (resolve_dir (below k (graph_shapes graph)) (parent_of q)) (graph_shapes graph (k ++ p)) (is_end (after_prefix p q)) (graph_shapes graph (k ++ q)) (is_end (after_prefix (parent_of p) (parent_of q)) || not (is_full (graph_shapes graph (k ++ parent_of q))))).1) kd) (sym r) (tt, tt)
 
-    go : (l : Key) → common (parent_of p) (parent_of q) ≡ l → ForkedAt graph st.node p q st l → first_of (step_move graph st.node l) (fork_move graph p q st) ≡ Finishes o → Off graph k (AtPair pairs.Rename p q) kd
+    go : (l : Key) → common (parent_of p) (parent_of q) ≡ l → ForkedAt graph st.node p q st l → first_of (step_move graph st.node l) (fork_move graph pairs.Rename p q st) ≡ Finishes o → Off graph k (AtPair pairs.Rename p q) kd
     go (x ∷ l) i w g =
-        let stop : Stops graph st.node (x ∷ l) = (step_stops graph st.node (x ∷ l) (fork_move graph p q st) o g).0 in
+        let stop : Stops graph st.node (x ∷ l) = (step_stops graph st.node (x ∷ l) (fork_move graph pairs.Rename p q st) o g).0 in
         let r : (r : Key) × (parent_of p ≡ common (parent_of p) (parent_of q) ++ r) = common_is (parent_of p) (parent_of q) in
         let d : parent_of p ≡ x ∷ (l ++ r.0) = r.1 ∙ ap (λ (z : Key). z ++ r.0) i in
         let off0 : after_prefix kd (k ++ parent_of p) ≡ None = ap (λ (z : Key). after_prefix kd (k ++ z)) d ∙ stopped_off graph is k kd (x ∷ (l ++ r.0)) st.node other.node loc.here stop f.there f.off in
@@ -115,11 +116,11 @@ rename_off graph is k p q st o kd other s loc u fits well victim e f = go (commo
         made off0 (λ z. absurd (let y : ◌≡◌ {A = Option Errno} (Some (walk_errno (graph.shape st.node))) None = sym res ∙ z in (cc))) (stuck (walk_errno (graph.shape st.node)) res)
     go [] i w g = made off0 rest (clear row.1 refl)
       where
-        fork : fork_move graph p q st ≡ Finishes o
-        fork = (step_stops graph st.node [] (fork_move graph p q st) o g).1 refl
+        fork : fork_move graph pairs.Rename p q st ≡ Finishes o
+        fork = (step_stops graph st.node [] (fork_move graph pairs.Rename p q st) o g).1 refl
 
         stops : ForkAt graph st.node p q st
-        stops = fork_stops graph is st.node p q st o refl w fork
+        stops = fork_stops graph is st.node pairs.Rename p q st o refl w fork
 
         off0 : after_prefix kd (k ++ parent_of p) ≡ None
         off0 = head_off graph is k st kd other st.source.walked (left st.source.walked (parent_of p)) (parent_of p) st.source.node f (loc.head Source) (node_held Source (numbers graph) k st loc) (f.clear Source) stops.source_stops (w.path Source)
@@ -166,7 +167,7 @@ rename_off graph is k p q st o kd other s loc u fits well victim e f = go (commo
                     let ed : dir_error (left st.dest.walked (parent_of q)) (graph.shape st.dest.node) ≡ None = ap₂ dir_error j dd.1 in
                     let kinds : same_kind (entry_shape graph st.source.node (last_of p)) (entry_shape graph st.dest.node (last_of q)) ≡ same_kind (graph_shapes graph (k ++ p)) (graph_shapes graph (k ++ q)) =
                     ap₂ (λ (a b : Option ℕ). same_kind (then_at a graph.shape) (then_at b graph.shape)) (sym (entry_p (arrived_at st.source.walked (parent_of p) (left st.source.walked (parent_of p)) (graph.shape st.source.node) (w.path Source) es))) (sym (entry d_is)) in
-                    let v : st.victim ≡ Some other.node = victim_held graph p q st o other.node victim (at_entries graph is p q st o w es ed fork) child
+                    let v : st.victim ≡ Some other.node = victim_held graph p q st o other.node victim (at_entries graph is pairs.Rename p q st o w es ed fork) child
                     (ap (λ (b : Bool). b && not (is_end (after_prefix p q)) && not (has_more (after_prefix q p))) kinds ∙ want) in
                     absurd (f.apart other.node (inl refl) (inr (inr (inr (inr v)))))
 
@@ -231,7 +232,7 @@ rename_off graph is k p q st o kd other s loc u fits well victim e f = go (commo
                 by (inr h) = let y : ◌≡◌ {A = Option Key} (Some []) None = sym (itself (k ++ p)) ∙ ap (after_prefix (k ++ p)) (sym h) ∙ z in cc
 
 -- all forms of calls
-pub off_of : (graph : Graph) → IsGraph graph → (k : Key) (remaining : Form) (st : Holdings) (o : Option ℕ) (kd : Key) (other : Holdings) (s t : Shape) → Located (numbers graph) k st → graph.shape st.node ≡ Some s → graph.shape other.node ≡ Some t → Fits remaining → HeadsSound graph st.node remaining st → VictimAt graph remaining st
+pub off_of : (graph : Graph) → IsGraph graph → (k : Key) (remaining : Form) (st : Holdings) (o : Moved) (kd : Key) (other : Holdings) (s t : Shape) → Located (numbers graph) k st → graph.shape st.node ≡ Some s → graph.shape other.node ≡ Some t → Fits remaining → HeadsSound graph st.node remaining st → VictimAt graph remaining st
     → next_on graph remaining st ≡ Finishes o → Front graph k st kd other
     → Off graph k remaining kd
 off_of graph is k (AtNode c p) st o kd other s t loc u v fits well victim e f = on_off graph is k c p st o kd other loc.here e f

@@ -13,6 +13,7 @@ use Rattle.fs_nodes.specs.Graphs.{Graph, Children, at, numbers, graph_shapes, se
 use Rattle.fs_machine.specs.Finishes.{Effect, node_effect, entry_effect, move_effect, rename_effect, effect_at, effect_of, finish}
 use Rattle.fs_machine.specs.Moves.{next, next_on, target, dir_error, path_error, rename_at}
 use Rattle.fs_machine.specs.declared.moves.Move.TheVariants.{Finish as Finishes}
+use Rattle.fs_machine.specs.declared.moves.Moved.{Moved}
 use Rattle.fs_machine.specs.Records.{Phase, Walking, Placed, Finished, Record, Records, Holdings, Source, Dest, Side, head_on}
 use Rattle.fs_laws.specs.Invariants.{remaining_of, spots, IsPlaced, AllLater, InOrder, IsIn, NumberFor, VictimAt, Invariant, HeadsSound}
 use Rattle.fs_laws.specs.Settled.{names_left, alone, settled_by, settled_graph, settled_reply, settled_replies, settle, settle_replies}
@@ -33,7 +34,7 @@ use Rattle.fs_laws.proofs.calls.OwnRecord.{reached_used, well_by}
 use Rattle.fs_laws.proofs.calls.HeadOrder.{neat_by}
 use Rattle.fs_laws.proofs.states.Headline.{run_keeps}
 use Rattle.fs_laws.proofs.states.Agreement.{StateFacts, run_accounts}
-use Rattle.fs_laws.proofs.helping.NobodyEnters.{NewEntry, Same_entry, Linked, Moved, finish_entries}
+use Rattle.fs_laws.proofs.helping.NobodyEnters.{NewEntry, Same_entry, Linked, Moved_entry, finish_entries}
 use Rattle.fs_laws.proofs.calls.OneUnfinishedCall.{OneUnfinished, solo_of}
 use Rattle.fs_laws.proofs.calls.GoingOnAlone.{Finishing, finishes_alone, enough}
 
@@ -109,7 +110,7 @@ lone_kept graph is k op st i ph s = record { one_key = is.one_key; each = each; 
     pairs : (c d : ℕ) (p q : Record) (a b : Holdings) → (c ≡ d → ⊥) → set_at 0 (Some op) (λ d. None) c ≡ Some p → set_at 0 (Some op) (λ d. None) d ≡ Some q → p.holdings ≡ Some a → q.holdings ≡ Some b → Pair (numbers graph) k a p.phase k b q.phase
     pairs c d p q a b differs e f g h = absurd (differs ((only op c p e).0 ∙ sym (only op d q f).0))
 
-lone_finisher : (graph : Graph) → IsGraph graph → (k : Key) (op : Record) (st : Holdings) (i : ℕ) (o : Option ℕ) → op.phase ≡ Placed i → OneUnfinished graph k op st → next_on graph op.remaining st ≡ Finishes o → Finisher graph (set_at 0 (Some op) (λ d. None)) (λ d. k) 0 op st o
+lone_finisher : (graph : Graph) → IsGraph graph → (k : Key) (op : Record) (st : Holdings) (i : ℕ) (o : Moved) → op.phase ≡ Placed i → OneUnfinished graph k op st → next_on graph op.remaining st ≡ Finishes o → Finisher graph (set_at 0 (Some op) (λ d. None)) (λ d. k) 0 op st o
 lone_finisher graph is k op st i o ph s m = record {
   is_graph = is;
   kept = lone_kept graph is k op st i ph s;
@@ -126,7 +127,7 @@ lone_finisher graph is k op st i o ph s m = record {
 }
 
 -- a finish of a call that stands alone
-gone_made : (graph : Graph) → IsGraph graph → (k r : Key) (op last : Record) (st : Holdings) (i : ℕ) (o : Option ℕ) → last.phase ≡ Placed i → OneUnfinished graph (k ++ r) last st → next_on graph last.remaining st ≡ Finishes o → next graph last ≡ Finishes o
+gone_made : (graph : Graph) → IsGraph graph → (k r : Key) (op last : Record) (st : Holdings) (i : ℕ) (o : Moved) → last.phase ≡ Placed i → OneUnfinished graph (k ++ r) last st → next_on graph last.remaining st ≡ Finishes o → next graph last ≡ Finishes o
     → under (k ++ r) last.remaining ≡ under k op.remaining → last.reserved ≡ op.reserved → Gone graph k op (effect_at graph last.remaining st last.reserved)
 gone_made graph is k r op last st i o ph s m n same reserved = record {
   is_graph = new_graph;
@@ -161,7 +162,7 @@ gone_made graph is k r op last st i o ph s m n same reserved = record {
     entry : (v a : ℕ) (x : Name) → ((u : Key) → numbers graph u ≡ Some v → ⊥) → (op.reserved ≡ Some v → ⊥) → NewEntry graph last o a v x → ⊥
     entry v a x free mine (Same_entry e) = let l : (key : Key) × (numbers graph key ≡ Some a) = is.loose a v x e in free (l.0 ++ x ∷ []) (at_child graph.child 0 a l.0 x l.1 ∙ e)
     entry v a x free mine (Linked e) = mine (sym reserved ∙ e)
-    entry v a x free mine (Moved holdings w on e g) =
+    entry v a x free mine (Moved_entry holdings w on e g) =
         let z : ◌≡◌ {A = Option Holdings} (Some holdings) (Some st) = sym on ∙ s.on in
         let y : holdings ≡ st = cc in
         free ((k ++ r) ++ w) (at_from graph.child 0 st.node (k ++ r) w s.loc.here ∙ ap (λ (b : Holdings). at graph.child b.node w) (sym y) ∙ e)
@@ -227,7 +228,7 @@ solo_stays graph made k op g kd q st off apart s = record {
         (let h : (m : ℕ) × (q.reserved ≡ Some m) × (graph.shape m ≡ Some shape) × ((key : Key) → numbers graph key ≡ Some m → ⊥) = w shape e in
         let l : ((u : Key) → numbers made.graph u ≡ Some h.0 → ⊥) × (made.graph.shape h.0 ≡ graph.shape h.0) = g.loose h.0 h.3 (λ i. apart h.0 i h.1) in
         (h.0, h.1, l.1 ∙ h.2, l.0))
-    number (AtPair pairs.Rename a b) w = w
+    number (AtPair pair a b) w = w
 
     victim : (f : Form) → VictimAt graph f st → VictimAt made.graph f st
     victim (AtNode c p) w = w

@@ -10,6 +10,7 @@ use Rattle.fs_timeline.specs.declared.entry.Entry.{Entry}
 use Rattle.fs_machine.specs.Moves.{next}
 use Rattle.fs_machine.specs.declared.moves.Move.{Move}
 use Rattle.fs_machine.specs.declared.moves.Move.TheVariants.{Take as Takes, LetGo as Leaves, Finish as Finishes, Return as Ends}
+use Rattle.fs_machine.specs.declared.moves.Moved.{Moved}
 use Rattle.fs_machine.specs.Records.{Holdings, Phase, Walking, Placed, Record, Holds, Source, Dest}
 use Rattle.fs_laws.specs.Below.{IsHolding, NoWalkingBelow, NoLaterBelow, NobodyBetween, AreDue, Settles, HelpsOrCommits, Helps, Commits, NeverWaitsToFinish}
 use Rattle.fs_laws.specs.JournalViews.{JournalView, start, view_after}
@@ -123,10 +124,10 @@ never_waits_to_finish s new seat c op moved answer (on, is, move) walks st = go 
     none : {P : Type 0} (d : ℕ) (q : Record) (m : Move) → Moves s seat d q m → (m ≡ Finishes moved → ⊥) → P
     none d q m a h = absurd (h (same d q m a).1)
 
-    chosen : (d n : ℕ) (t : Option ℕ) → t ≡ Some n → IsChosen s n d → HelpsOrCommits s t (Helped d)
-    chosen d n t e h = subst (λ (x : Option ℕ). HelpsOrCommits s x (Helped d)) (sym e) (Helps n d h)
+    chosen : (d : ℕ) (n t : Moved) → t ≡ n → IsChosen s n d → HelpsOrCommits s t (Helped d)
+    chosen d n t e h = subst (λ (x : Moved). HelpsOrCommits s x (Helped d)) (sym e) (Helps n d h)
 
-    moved_is : (a : Option ℕ) → Finishes a ≡ Finishes moved → moved ≡ a
+    moved_is : (a : Moved) → Finishes a ≡ Finishes moved → moved ≡ a
     moved_is a e = cc
 
     go : (answer : Stepped) → Step s seat answer new → HelpsOrCommits s moved answer
@@ -134,7 +135,7 @@ never_waits_to_finish s new seat c op moved answer (on, is, move) walks st = go 
     go (Took n) (d, q, m, free, e) = none d q (Takes n) m (λ i. cc)
     go (Busy n h) (d, q, m, held, e) = none d q (Takes n) m (λ i. cc)
     go (LetGo n) (d, q, m, e) = none d q (Leaves n) m (λ i. cc)
-    go (Helped h) (d, q, n, m, w, pick, p, is_p, e) = chosen h n moved (moved_is (Some n) (same d q (Finishes (Some n)) m).1) pick
+    go (Helped h) (d, q, n, m, w, pick, p, is_p, e) = chosen h n moved (moved_is n (same d q (Finishes n) m).1) pick
     go Committed (d, q, n, m, w, below, e) = Commits moved (subst (NoneBelow s) (sym (moved_is n (same d q (Finishes n) m).1)) below)
     go CarriedOut (d, q, n, i, m, placed, e) = let z : ◌≡◌ {A = Phase} Walking (Placed i) = sym walks ∙ ap (λ (o : Record). o.phase) (same d q (Finishes n) m).0 ∙ placed in cc
     go (Returned r) (d, q, m, ph, e) = none d q Ends m (λ i. cc)

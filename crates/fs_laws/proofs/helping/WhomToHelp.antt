@@ -1,5 +1,5 @@
 -- Searches among finitely many numbers, and the choice of whom to help.
-use Rattle.std.proofs.Common.{◌≡◌, ℕ, zero, suc, ◌+◌, ◌<◌, ◌≤◌, Bool, true, false, cond, eqb, not, ◌&&◌, [], ◌∷◌, ◌++◌, length, Option, Some, None, is_some, refl, sym, ap, ap₂, ◌∙◌, ◌⊎◌, inl, inr, arith}
+use Rattle.std.proofs.Common.{◌≡◌, ℕ, zero, suc, ◌+◌, ◌<◌, ◌≤◌, Bool, true, false, cond, eqb, not, ◌&&◌, ◌||◌, List, [], ◌∷◌, ◌++◌, length, Option, Some, None, is_some, refl, sym, ap, ap₂, ◌∙◌, ◌⊎◌, inl, inr, arith}
 use Rattle.std.specs.Prelude.{nat_le}
 use Rattle.std.proofs.lemmas.Bool.Decides.{nat_tests}
 use Rattle.std.proofs.lemmas.List.{length-append}
@@ -9,7 +9,8 @@ use Rattle.fs_machine.specs.Records.{Phase, Walking, Placed, Finished, Record, R
 use Rattle.fs_timeline.specs.Timeline.{begins}
 use Rattle.fs_laws.specs.Invariants.{Invariant}
 use Rattle.fs_laws.specs.StepsLeft.{total}
-use Rattle.fs_machine.specs.States.{State, Run, IsWalkingBelow, IsLowest, IsChosen, NoneBelow}
+use Rattle.fs_machine.specs.States.{State, Run, IsMoved, IsWalkingBelow, IsWalkingBelowMoved, IsLowest, IsChosen, NoneBelow}
+use Rattle.fs_machine.specs.declared.moves.Moved.{Moved}
 use Rattle.fs_laws.proofs.trees.Prefixes.{prefix_append, prefix_some}
 use Rattle.fs_laws.proofs.graphs.Walks.{at_from, eqb_refl, eqb_true}
 use Rattle.fs_laws.proofs.states.Headline.{run_keeps}
@@ -170,6 +171,12 @@ at_walked s inv d op st is walks on = ap (numbers s.graph) (ap walked_of is ∙ 
 walks_here : (s : State) (n d : ℕ) (op : Record) → IsWalkingBelow s n d → s.ops d ≡ Some op → op.phase ≡ Walking
 walks_here s n d op w is = let a : ◌≡◌ {A = Option Record} (Some w.0) (Some op) = sym w.1 ∙ is in let b : w.0 ≡ op = cc in ap (λ (o : Record). o.phase) (sym b) ∙ w.2
 
+walks_here_moved : (s : State) (moved : Moved) (d : ℕ) (op : Record) → IsWalkingBelowMoved s moved d → s.ops d ≡ Some op → op.phase ≡ Walking
+walks_here_moved s moved d op (n, one, w) is = walks_here s n d op w is
+
+walks_below : (s : State) (moved : Moved) (d : ℕ) → IsWalkingBelowMoved s moved d → Walks s d
+walks_below s moved d (n, one, (op, is, walks, (st, r, on, e))) = record { op = op; st = st; is = is; walks = walks; on = on }
+
 -- walking below a node, by the keys
 to_under : (s : State) (inv : Invariant s) (k : Key) (n d : ℕ) → numbers s.graph k ≡ Some n → IsWalkingBelow s n d → is_under s.ops k d ≡ true
 to_under s inv k n d at_k (op, is, walks, (st, r, on, e)) =
@@ -188,6 +195,58 @@ from_under s inv k n d at_k e = go (after_prefix k (walked_of (s.ops d))) refl (
     go (Some r) i f =
         let there : numbers s.graph (walked_of (s.ops d)) ≡ Some w.st.node = at_walked s inv d w.op w.st w.is w.walks w.on in
         (w.op, w.is, w.walks, (w.st, r, w.on, sym (at_from s.graph.child 0 n k r at_k) ∙ ap (numbers s.graph) (sym (prefix_some k (walked_of (s.ops d)) r i)) ∙ there))
+
+-- a key is in a list
+abbrev pub IsOneOf : Key → List Key → Type 0
+IsOneOf k [] = ⊥
+IsOneOf k (l ∷ ks) = (k ≡ l) ⊎ IsOneOf k ks
+
+-- it walks below one of some keys
+abbrev is_under_any : Records → List Key → ℕ → Bool
+is_under_any ops [] d = false
+is_under_any ops (k ∷ ks) d = is_under ops k d || is_under_any ops ks d
+
+or_true : (a b : Bool) → b ≡ true → (a || b) ≡ true
+or_true true b e = refl
+or_true false b e = e
+
+or_parts : (a b : Bool) → (a || b) ≡ true → (a ≡ true) ⊎ (b ≡ true)
+or_parts true b e = inl refl
+or_parts false b e = inr e
+
+any_of : (ops : Records) (ks : List Key) (k : Key) (d : ℕ) → IsOneOf k ks → is_under ops k d ≡ true → is_under_any ops ks d ≡ true
+any_of ops [] k d i e = absurd i
+any_of ops (l ∷ ks) k d (inl i) e = ap (λ (b : Bool). b || is_under_any ops ks d) (ap (λ (m : Key). is_under ops m d) (sym i) ∙ e)
+any_of ops (l ∷ ks) k d (inr i) e = or_true (is_under ops l d) (is_under_any ops ks d) (any_of ops ks k d i e)
+
+one_of_any : (ops : Records) (ks : List Key) (d : ℕ) → is_under_any ops ks d ≡ true → (k : Key) × IsOneOf k ks × (is_under ops k d ≡ true)
+one_of_any ops [] d e = cc
+one_of_any ops (l ∷ ks) d e = go (or_parts (is_under ops l d) (is_under_any ops ks d) e) (λ f. one_of_any ops ks d f)
+  where
+    go : (is_under ops l d ≡ true) ⊎ (is_under_any ops ks d ≡ true) → (is_under_any ops ks d ≡ true → (k : Key) × IsOneOf k ks × (is_under ops k d ≡ true)) → (k : Key) × IsOneOf k (l ∷ ks) × (is_under ops k d ≡ true)
+    go (inl f) rest = (l, inl refl, f)
+    go (inr f) rest = let r : (k : Key) × IsOneOf k ks × (is_under ops k d ≡ true) = rest f in (r.0, inr r.1, r.2)
+
+-- the keys of the nodes that move
+pub record AreKeys (s : State) (ks : List Key) (moved : Moved) : Type 0 where
+  pub each : (k : Key) → IsOneOf k ks → (n : ℕ) × IsMoved moved n × (numbers s.graph k ≡ Some n)
+  pub all : (n : ℕ) → IsMoved moved n → (k : Key) × IsOneOf k ks × (numbers s.graph k ≡ Some n)
+
+-- walking below a node that moves, by its key
+to_any : (s : State) (inv : Invariant s) (ks : List Key) (moved : Moved) (d : ℕ) → AreKeys s ks moved → IsWalkingBelowMoved s moved d → is_under_any s.ops ks d ≡ true
+to_any s inv ks moved d keys (n, one, w) =
+    let k : (k : Key) × IsOneOf k ks × (numbers s.graph k ≡ Some n) = keys.all n one in
+    any_of s.ops ks k.0 d k.1 (to_under s inv k.0 n d k.2 w)
+
+from_any : (s : State) (inv : Invariant s) (ks : List Key) (moved : Moved) (d : ℕ) → AreKeys s ks moved → is_under_any s.ops ks d ≡ true → IsWalkingBelowMoved s moved d
+from_any s inv ks moved d keys e =
+    let k : (k : Key) × IsOneOf k ks × (is_under s.ops k d ≡ true) = one_of_any s.ops ks d e in
+    let n : (n : ℕ) × IsMoved moved n × (numbers s.graph k.0 ≡ Some n) = keys.each k.0 k.1 in
+    (n.0, n.1, from_under s inv k.0 n.0 d n.2 k.2)
+
+-- the record of a call that walks below a node that moves
+below_moved : (s : State) (moved : Moved) (d : ℕ) → IsWalkingBelowMoved s moved d → (op : Record) × (s.ops d ≡ Some op)
+below_moved s moved d (n, one, (op, is, walks, below)) = (op, is)
 
 -- another one below a call's position
 abbrev is_deeper : Records → ℕ → ℕ → Bool
@@ -214,8 +273,8 @@ none_to f (suc n) e c h = go (up_to c n h) (none_to f n (parts (not (f (suc n)))
     go (inr i) g = g i
 
 -- a lowest call, by the keys
-abbrev is_lowest : Records → Key → ℕ → ℕ → Bool
-is_lowest ops k n d = is_under ops k d && none_of (is_deeper ops d) n
+abbrev is_lowest : Records → List Key → ℕ → ℕ → Bool
+is_lowest ops ks n d = is_under_any ops ks d && none_of (is_deeper ops d) n
 
 eqb_false : (d e : ℕ) → (d ≡ e → ⊥) → eqb d e ≡ false
 eqb_false d e h = go (eqb d e) refl
@@ -227,57 +286,60 @@ eqb_false d e h = go (eqb d e) refl
 not_false : (d e : ℕ) → not (eqb d e) ≡ true → d ≡ e → ⊥
 not_false d e h i = let z : eqb d e ≡ true = ap (eqb d) (sym i) ∙ eqb_refl d in let y : not true ≡ true = sym (ap not z) ∙ h in cc
 
-to_lowest : (s : State) → Run s → (inv : Invariant s) (k : Key) (n d : ℕ) → numbers s.graph k ≡ Some n → is_lowest s.ops k (begins s.timeline) d ≡ true → IsLowest s n d
-to_lowest s run inv k n d at_k e = (below, deepest)
+to_lowest : (s : State) → Run s → (inv : Invariant s) (ks : List Key) (moved : Moved) (d : ℕ) → AreKeys s ks moved → is_lowest s.ops ks (begins s.timeline) d ≡ true → IsLowest s moved d
+to_lowest s run inv ks moved d keys e = (below, deepest)
   where
-    p : (is_under s.ops k d ≡ true) × (none_of (is_deeper s.ops d) (begins s.timeline) ≡ true)
-    p = parts (is_under s.ops k d) (none_of (is_deeper s.ops d) (begins s.timeline)) e
+    p : (is_under_any s.ops ks d ≡ true) × (none_of (is_deeper s.ops d) (begins s.timeline) ≡ true)
+    p = parts (is_under_any s.ops ks d) (none_of (is_deeper s.ops d) (begins s.timeline)) e
 
-    below : IsWalkingBelow s n d
-    below = from_under s inv k n d at_k p.0
+    below : IsWalkingBelowMoved s moved d
+    below = from_any s inv ks moved d keys p.0
 
     deepest : (op : Record) (st : Holdings) (c : ℕ) → s.ops d ≡ Some op → op.holdings ≡ Some st → (d ≡ c → ⊥) → IsWalkingBelow s st.node c → ⊥
     deepest op st c is on differs w =
-        let there : numbers s.graph (walked_of (s.ops d)) ≡ Some st.node = at_walked s inv d op st is (walks_here s n d op below is) on in
+        let there : numbers s.graph (walked_of (s.ops d)) ≡ Some st.node = at_walked s inv d op st is (walks_here_moved s moved d op below is) on in
         let under : is_under s.ops (walked_of (s.ops d)) c ≡ true = to_under s inv (walked_of (s.ops d)) st.node c there w in
         let yes : is_deeper s.ops d c ≡ true = both (not (eqb d c)) (is_under s.ops (walked_of (s.ops d)) c) (ap not (eqb_false d c differs)) under in
         no_both (is_deeper s.ops d c) yes (none_to (is_deeper s.ops d) (begins s.timeline) p.1 c (begun_before s c w.0 run w.1))
 
-from_lowest : (s : State) (inv : Invariant s) (k : Key) (n d : ℕ) → numbers s.graph k ≡ Some n → IsLowest s n d → is_lowest s.ops k (begins s.timeline) d ≡ true
-from_lowest s inv k n d at_k (w, deepest) = both (is_under s.ops k d) (none_of (is_deeper s.ops d) (begins s.timeline)) (to_under s inv k n d at_k w) (none_from (is_deeper s.ops d) (begins s.timeline) (λ c h. none c (is_deeper s.ops d c) refl))
+from_lowest : (s : State) (inv : Invariant s) (ks : List Key) (moved : Moved) (d : ℕ) → AreKeys s ks moved → IsLowest s moved d → is_lowest s.ops ks (begins s.timeline) d ≡ true
+from_lowest s inv ks moved d keys (w, deepest) = both (is_under_any s.ops ks d) (none_of (is_deeper s.ops d) (begins s.timeline)) (to_any s inv ks moved d keys w) (none_from (is_deeper s.ops d) (begins s.timeline) (λ c h. none c (is_deeper s.ops d c) refl))
   where
     none : (c : ℕ) (b : Bool) → is_deeper s.ops d c ≡ b → b ≡ false
     none c false e = refl
     none c true e =
         let q : (not (eqb d c) ≡ true) × (is_under s.ops (walked_of (s.ops d)) c ≡ true) = parts (not (eqb d c)) (is_under s.ops (walked_of (s.ops d)) c) e in
-        let v : Walks s d = walks_of s d (parts (walks_on (s.ops d)) (is_some (after_prefix k (walked_of (s.ops d)))) (to_under s inv k n d at_k w)).0 in
+        let v : Walks s d = walks_below s moved d w in
         let there : numbers s.graph (walked_of (s.ops d)) ≡ Some v.st.node = at_walked s inv d v.op v.st v.is v.walks v.on in
         absurd (deepest v.op v.st c v.is v.on (not_false d c q.0) (from_under s inv (walked_of (s.ops d)) v.st.node c there q.1))
 
 -- who has the longest key is a lowest one
-longest_lowest : (s : State) → Run s → (inv : Invariant s) (k : Key) (n d : ℕ) → numbers s.graph k ≡ Some n → is_under s.ops k d ≡ true → ((c : ℕ) → c ≤ begins s.timeline → is_under s.ops k c ≡ true → length (walked_of (s.ops c)) ≤ length (walked_of (s.ops d))) → IsLowest s n d
-longest_lowest s run inv k n d at_k under longest = (from_under s inv k n d at_k under, deepest)
+longest_lowest : (s : State) → Run s → (inv : Invariant s) (ks : List Key) (moved : Moved) (d : ℕ) → AreKeys s ks moved → is_under_any s.ops ks d ≡ true → ((c : ℕ) → c ≤ begins s.timeline → is_under_any s.ops ks c ≡ true → length (walked_of (s.ops c)) ≤ length (walked_of (s.ops d))) → IsLowest s moved d
+longest_lowest s run inv ks moved d keys under longest = (from_any s inv ks moved d keys under, deepest)
   where
     deepest : (op : Record) (st : Holdings) (c : ℕ) → s.ops d ≡ Some op → op.holdings ≡ Some st → (d ≡ c → ⊥) → IsWalkingBelow s st.node c → ⊥
     deepest op st c is on differs (q, q_is, walks, (other, r, on_q, e)) = go r e same
       where
-        was : IsWalkingBelow s n d
-        was = from_under s inv k n d at_k under
+        was : IsWalkingBelowMoved s moved d
+        was = from_any s inv ks moved d keys under
 
         there : numbers s.graph (walked_of (s.ops d)) ≡ Some st.node
-        there = at_walked s inv d op st is (walks_here s n d op was is) on
+        there = at_walked s inv d op st is (walks_here_moved s moved d op was is) on
 
         same : walked_of (s.ops c) ≡ walked_of (s.ops d) ++ r
         same = inv.is_graph.one_key (walked_of (s.ops c)) (walked_of (s.ops d) ++ r) other.node (at_walked s inv c q other q_is walks on_q) (at_from s.graph.child 0 st.node (walked_of (s.ops d)) r there ∙ e)
 
         -- it is below the node too
-        deeper : IsWalkingBelow s n c
-        deeper =
-            let a : ◌≡◌ {A = Option Record} (Some was.0) (Some op) = sym was.1 ∙ is in
-            let b : was.0 ≡ op = cc in
-            let f : ◌≡◌ {A = Option Holdings} (Some was.3.0) (Some st) = sym was.3.2 ∙ ap (λ (o : Record). o.holdings) b ∙ on in
-            let g : was.3.0 ≡ st = cc in
-            (q, q_is, walks, (other, was.3.1 ++ r, on_q, at_from s.graph.child n st.node was.3.1 r (was.3.3 ∙ ap (λ (x : Holdings). Some x.node) g) ∙ e))
+        deeper : IsWalkingBelowMoved s moved c
+        deeper = further was
+          where
+            further : IsWalkingBelowMoved s moved d → IsWalkingBelowMoved s moved c
+            further (n, one, (p, p_is, p_walks, (stood, u, on_p, h))) =
+                let a : ◌≡◌ {A = Option Record} (Some p) (Some op) = sym p_is ∙ is in
+                let b : p ≡ op = cc in
+                let f : ◌≡◌ {A = Option Holdings} (Some stood) (Some st) = sym on_p ∙ ap (λ (o : Record). o.holdings) b ∙ on in
+                let g : stood ≡ st = cc in
+                (n, one, (q, q_is, walks, (other, u ++ r, on_q, at_from s.graph.child n st.node u r (h ∙ ap (λ (x : Holdings). Some x.node) g) ∙ e)))
 
         go : (r : Key) → at s.graph.child st.node r ≡ Some other.node → walked_of (s.ops c) ≡ walked_of (s.ops d) ++ r → ⊥
         go [] f i =
@@ -285,40 +347,43 @@ longest_lowest s run inv k n d at_k under longest = (from_under s inv k n d at_k
             let y : st.node ≡ other.node = cc in
             (inv.kept.pairs d c op q st other differs is q_is on on_q).apart other.node (inl y) (inl refl)
         go (x ∷ r) f i =
-            let a : length (walked_of (s.ops c)) ≤ length (walked_of (s.ops d)) = longest c (begun_before s c q run q_is) (to_under s inv k n c at_k deeper) in
+            let a : length (walked_of (s.ops c)) ≤ length (walked_of (s.ops d)) = longest c (begun_before s c q run q_is) (to_any s inv ks moved c keys deeper) in
             let b : length (walked_of (s.ops c)) ≡ length (walked_of (s.ops d)) + length (x ∷ r) = ap length i ∙ length-append (walked_of (s.ops d)) (x ∷ r) in
             omega (arith, a, b)
 
--- whom to help, by the keys: of the lowest calls below k the first
-abbrev pub whom : Records → Key → ℕ → Option ℕ
-whom ops k n = least_of (is_lowest ops k n) n
+-- whom to help, by the keys: of the lowest calls below one of them the first
+abbrev pub whom : Records → List Key → ℕ → Option ℕ
+whom ops ks n = least_of (is_lowest ops ks n) n
 
--- the choice is right: None where nobody walks below a node
-abbrev pub IsRight : State → ℕ → Option ℕ → Type 0
-IsRight s n None = NoneBelow s (Some n)
-IsRight s n (Some d) = IsChosen s n d
+-- the choice is right: None where nobody walks below a node that moves
+abbrev pub IsRight : State → Moved → Option ℕ → Type 0
+IsRight s moved None = NoneBelow s moved
+IsRight s moved (Some d) = IsChosen s moved d
 
-pub whom_is : (s : State) → Run s → (k : Key) (n : ℕ) → numbers s.graph k ≡ Some n → IsRight s n (whom s.ops k (begins s.timeline))
-whom_is s run k n at_k = go (whom s.ops k (begins s.timeline)) (least (is_lowest s.ops k (begins s.timeline)) (begins s.timeline))
+pub whom_is : (s : State) → Run s → (ks : List Key) (moved : Moved) → AreKeys s ks moved → IsRight s moved (whom s.ops ks (begins s.timeline))
+whom_is s run ks moved keys = go (whom s.ops ks (begins s.timeline)) (least (is_lowest s.ops ks (begins s.timeline)) (begins s.timeline))
   where
     inv : Invariant s
     inv = run_keeps s run
 
-    lowest : (d : ℕ) → IsLowest s n d → is_lowest s.ops k (begins s.timeline) d ≡ true
-    lowest d l = from_lowest s inv k n d at_k l
+    lowest : (d : ℕ) → IsLowest s moved d → is_lowest s.ops ks (begins s.timeline) d ≡ true
+    lowest d l = from_lowest s inv ks moved d keys l
 
-    none : ((c : ℕ) → c ≤ begins s.timeline → is_lowest s.ops k (begins s.timeline) c ≡ false) → Most (is_under s.ops k) (λ c. length (walked_of (s.ops c))) (begins s.timeline) → NoneBelow s (Some n)
-    none h (No_one m) d w = no_both (is_under s.ops k d) (to_under s inv k n d at_k w) (m d (begun_before s d w.0 run w.1))
-    none h (One e i m) d w = let l : IsLowest s n e = longest_lowest s run inv k n e at_k i m in no_both (is_lowest s.ops k (begins s.timeline) e) (lowest e l) (h e (begun_before s e l.0.0 run l.0.1))
+    begun : (d : ℕ) → IsWalkingBelowMoved s moved d → d ≤ begins s.timeline
+    begun d w = let o : (op : Record) × (s.ops d ≡ Some op) = below_moved s moved d w in begun_before s d o.0 run o.1
 
-    go : (o : Option ℕ) → Least (is_lowest s.ops k (begins s.timeline)) (begins s.timeline) o → IsRight s n o
-    go o (Nobody h) = none h (most (is_under s.ops k) (λ c. length (walked_of (s.ops c))) (begins s.timeline))
-    go o (First d i h) = (to_lowest s run inv k n d at_k i, λ c m. h c (lowest c m))
+    none : ((c : ℕ) → c ≤ begins s.timeline → is_lowest s.ops ks (begins s.timeline) c ≡ false) → Most (is_under_any s.ops ks) (λ c. length (walked_of (s.ops c))) (begins s.timeline) → NoneBelow s moved
+    none h (No_one m) d w = no_both (is_under_any s.ops ks d) (to_any s inv ks moved d keys w) (m d (begun d w))
+    none h (One e i m) d w = let l : IsLowest s moved e = longest_lowest s run inv ks moved e keys i m in no_both (is_lowest s.ops ks (begins s.timeline) e) (lowest e l) (h e (begun e l.0))
 
--- nobody walks below a node, or somebody is chosen
-pub chosen_or_none : (s : State) → Run s → (k : Key) (n : ℕ) → numbers s.graph k ≡ Some n → NoneBelow s (Some n) ⊎ ((d : ℕ) × IsChosen s n d)
-chosen_or_none s run k n at_k = go (whom s.ops k (begins s.timeline)) (whom_is s run k n at_k)
+    go : (o : Option ℕ) → Least (is_lowest s.ops ks (begins s.timeline)) (begins s.timeline) o → IsRight s moved o
+    go o (Nobody h) = none h (most (is_under_any s.ops ks) (λ c. length (walked_of (s.ops c))) (begins s.timeline))
+    go o (First d i h) = (to_lowest s run inv ks moved d keys i, λ c m. h c (lowest c m))
+
+-- nobody walks below a node that moves, or somebody is chosen
+pub chosen_or_none : (s : State) → Run s → (ks : List Key) (moved : Moved) → AreKeys s ks moved → NoneBelow s moved ⊎ ((d : ℕ) × IsChosen s moved d)
+chosen_or_none s run ks moved keys = go (whom s.ops ks (begins s.timeline)) (whom_is s run ks moved keys)
   where
-    go : (o : Option ℕ) → IsRight s n o → NoneBelow s (Some n) ⊎ ((d : ℕ) × IsChosen s n d)
+    go : (o : Option ℕ) → IsRight s moved o → NoneBelow s moved ⊎ ((d : ℕ) × IsChosen s moved d)
     go None h = inl h
     go (Some d) h = inr (d, h)

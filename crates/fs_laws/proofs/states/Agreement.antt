@@ -6,7 +6,6 @@ use Rattle.fs_names.specs.Keys.{Key}
 use Rattle.fs_names.specs.Names.{Name}
 use Rattle.fs_names.specs.Shapes.{Shape, Dir, File}
 use Rattle.fs_calls.specs.Forms.{form, by_text, reserves, Form, AtNode, AtEntry, AtPair}
-use Rattle.fs_calls.specs.declared.target.PairCall.TheVariants as pairs
 use Rattle.fs_calls.specs.declared.target.EntryCall.TheVariants.{Mkdir, Mknod, Unlink, Rmdir}
 use Rattle.fs_calls.specs.declared.call.Call.{Call}
 use Rattle.fs_calls.specs.declared.reply.Reply.{Reply}
@@ -15,6 +14,7 @@ use Rattle.fs_machine.specs.Finishes.{finish}
 use Rattle.fs_machine.specs.Leaving.{is_removed, releasing, let_go, finished_op, unreserved}
 use Rattle.fs_machine.specs.Moves.{next, took, left_holdings, next_on}
 use Rattle.fs_machine.specs.declared.moves.Move.TheVariants.{Finish as Finishes}
+use Rattle.fs_machine.specs.declared.moves.Moved.{Moved}
 use Rattle.fs_machine.specs.Records.{Phase, Walking, Placed, Finished, Holds, Record, Records, Holdings, Source}
 use Rattle.fs_laws.specs.JournalViews.{start, view_after}
 use Rattle.fs_timeline.specs.Timeline.{begins, commit_count}
@@ -272,12 +272,12 @@ account_helped h old new seat inv acc (c, op, s, moves, walks, chosen, q, is, sa
     }) refl refl refl refl refl)
   where
     walking : q.phase ≡ Walking
-    walking = let w : (o : Record) × (old.ops h ≡ Some o) × (o.phase ≡ Walking) × _ = chosen.0.0 in
+    walking = let w : (o : Record) × (old.ops h ≡ Some o) × (o.phase ≡ Walking) × _ = chosen.0.0.2 in
         let z : ◌≡◌ {A = Option Record} (Some w.0) (Some q) = sym w.1 ∙ is in
         let y : q ≡ w.0 = cc in ap (λ (o : Record). o.phase) y ∙ w.2
 
 -- a finish
-finish_changes : (old : State) (inv : Invariant old) (acc : StateFacts old) (c : ℕ) (op : Record) (o : Option ℕ) → old.ops c ≡ Some op → IsUnfinished op → next old.graph op ≡ Finishes o → Changes old c op (finished_op op (finish old.graph op)) (finish old.graph op).graph
+finish_changes : (old : State) (inv : Invariant old) (acc : StateFacts old) (c : ℕ) (op : Record) (o : Moved) → old.ops c ≡ Some op → IsUnfinished op → next old.graph op ≡ Finishes o → Changes old c op (finished_op op (finish old.graph op)) (finish old.graph op).graph
 finish_changes old inv acc c op o is u n = record {
   is = is;
   holdings = refl;
@@ -409,7 +409,7 @@ new_within (AtEntry Mkdir (x ∷ p)) shape e = let y : Dir [] ≡ shape = cc in 
 new_within (AtEntry Mknod (x ∷ p)) shape e = let y : File [] ≡ shape = cc in subst Within y (omega arith)
 new_within (AtEntry Unlink (x ∷ p)) shape e = cc
 new_within (AtEntry Rmdir (x ∷ p)) shape e = cc
-new_within (AtPair pairs.Rename p q) shape e = cc
+new_within (AtPair c p q) shape e = cc
 
 reserved_is : (old : State) (acc : StateFacts old) (n : ℕ) (shape : Shape) → old.graph.shape n ≡ None → n < old.limit → Within shape → Reserved old (reserved_in n shape old.graph)
 reserved_is old acc n shape free less fits = record {

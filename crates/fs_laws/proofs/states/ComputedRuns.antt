@@ -1,38 +1,39 @@
 -- The machine computed: in each state of a run the step that is computed is the step, and so runs are computed.
-use Rattle.std.proofs.Common.{◌≡◌, ℕ, zero, suc, ◌+◌, ◌<◌, Bool, true, false, cond, not, ◌&&◌, List, [], ◌∷◌, ◌++◌, Option, Some, None, is_some, refl, sym, ap, ap₂, ◌∙◌, append_assoc, append-nil, arith, Ok}
+use Rattle.std.proofs.Common.{◌≡◌, ℕ, zero, suc, ◌+◌, ◌<◌, Bool, true, false, cond, not, ◌&&◌, List, [], ◌∷◌, ◌++◌, Option, Some, None, is_some, refl, sym, ap, ap₂, ◌∙◌, append_assoc, append-nil, arith, inl, inr, Ok}
 use Rattle.std.specs.Prelude.{nat_lt}
 use Rattle.std.proofs.lemmas.Bool.Decides.{nat_tests}
 use Rattle.fs_names.specs.Keys.{Key, last_of}
 use Rattle.fs_names.specs.Shapes.{Shape}
 use Rattle.fs_calls.specs.Forms.{form, reserves, Form, AtNode, AtEntry, AtPair, by_text}
-use Rattle.fs_calls.specs.declared.target.PairCall.TheVariants as pairs
 use Rattle.fs_calls.specs.declared.call.Call.{Call}
 use Rattle.fs_calls.specs.declared.reply.Reply.{Reply}
 use Rattle.fs_nodes.specs.Graphs.{Graph, empty_graph, numbers, reserved_in}
 use Rattle.fs_machine.specs.Moves.{next, next_by}
 use Rattle.fs_machine.specs.declared.moves.Move.{Move}
 use Rattle.fs_machine.specs.declared.moves.Move.TheVariants.{Take as Takes, LetGo as Leaves, Finish as Finishes, Return as Ends}
+use Rattle.fs_machine.specs.declared.moves.Moved.{Moved}
+use Rattle.fs_machine.specs.declared.moves.Moved.TheVariants.{Nothing, One, Two}
 use Rattle.fs_machine.specs.Records.{Holdings, Phase, Walking, Placed, Finished, Record, Source}
 use Rattle.fs_timeline.specs.Timeline.{begins}
 use Rattle.fs_laws.specs.Events.{Event, Begins, Steps, events_of, Ran}
 use Rattle.fs_laws.specs.Invariants.{Invariant}
 use Rattle.fs_machine.specs.States as machine
-use Rattle.fs_machine.specs.States.{State, empty, began, Reserves, Moves, Step, taking, letting_go, helping, carrying, committing, returning, Run, Start, Beginning, Stepping}
+use Rattle.fs_machine.specs.States.{State, IsMoved, empty, began, Reserves, Moves, Step, taking, letting_go, helping, carrying, committing, returning, Run, Start, Beginning, Stepping}
 use Rattle.fs_machine.specs.declared.answers.Stepped.{Stepped}
 use Rattle.fs_machine.specs.declared.answers.Stepped.TheVariants.{Idle, Took, Busy, LetGo, Helped, Committed, CarriedOut, Returned}
 use Rattle.fs_calls.specs.Tree.{root_tree}
 use Rattle.fs_laws.proofs.states.StartsEmpty.{starts_empty}
 use Rattle.fs_laws.proofs.states.ComputedSteps.{by_ends, by_finishes}
-use Rattle.fs_laws.proofs.helping.WhomToHelp.{whom, IsRight, whom_is}
+use Rattle.fs_laws.proofs.helping.WhomToHelp.{IsOneOf, AreKeys, whom, IsRight, whom_is}
 use Rattle.fs_laws.proofs.helping.NobodyEnters.{ToMove, to_move}
 use Rattle.fs_laws.proofs.states.Headline.{run_keeps}
 use Rattle.fs_laws.proofs.graphs.Walks.{at_child}
 
--- the key of the node that a rename would move
+-- the key of the node that a call would move
 abbrev source_of : Form → Key
 source_of (AtNode c p) = p
 source_of (AtEntry c p) = p
-source_of (AtPair pairs.Rename p q) = p
+source_of (AtPair c p q) = p
 
 abbrev source_walked : Option Holdings → Key
 source_walked None = []
@@ -41,9 +42,14 @@ source_walked (Some st) = st.source.walked
 abbrev moved_key : Record → Key
 moved_key op = op.walked ++ source_walked op.holdings ++ last_of (source_of op.remaining) ∷ []
 
-abbrev to_help : State → Record → Option ℕ → Option ℕ
-to_help old op None = None
-to_help old op (Some n) = whom old.ops (moved_key op) (begins old.timeline)
+-- the keys of the nodes that a finish would move
+abbrev moved_keys : Record → Moved → List Key
+moved_keys op Nothing = []
+moved_keys op (One n) = moved_key op ∷ []
+moved_keys op (Two n m) = moved_key op ∷ []
+
+abbrev to_help : State → Record → Moved → Option ℕ
+to_help old op moved = whom old.ops (moved_keys op moved) (begins old.timeline)
 
 -- the step
 abbrev take_by : State → ℕ → Record → ℕ → Option ℕ → Stepped × State
@@ -83,36 +89,48 @@ abbrev stepped : State → ℕ → Stepped × State
 stepped old seat = seat_by old (old.on_seat seat)
 
 -- a rename moves the node at that key
-at_moved : (s : State) → Run s → (c : ℕ) (op : Record) (n : ℕ) → s.ops c ≡ Some op → op.phase ≡ Walking → next s.graph op ≡ Finishes (Some n) → numbers s.graph (moved_key op) ≡ Some n
-at_moved s run c op n is walks m = ap (numbers s.graph) same ∙ at_child s.graph.child 0 t.st.source.node (inv.key c ++ t.st.source.walked) (last_of t.p) ((inv.kept.each c op t.st is t.on).located.head Source) ∙ t.child
+at_moved : (s : State) → Run s → (c : ℕ) (op : Record) (o : Moved) (n : ℕ) → s.ops c ≡ Some op → op.phase ≡ Walking → next s.graph op ≡ Finishes o → IsMoved o n → numbers s.graph (moved_key op) ≡ Some n
+at_moved s run c op o n is walks m one = ap (numbers s.graph) same ∙ at_child s.graph.child 0 t.st.source.node (inv.key c ++ t.st.source.walked) (last_of t.p) ((inv.kept.each c op t.st is t.on).located.head Source) ∙ t.child
   where
     inv : Invariant s
     inv = run_keeps s run
 
     t : ToMove s.graph op n
-    t = to_move s.graph op n m
+    t = to_move s.graph op o n m one
 
     same : moved_key op ≡ inv.key c ++ t.st.source.walked ++ last_of t.p ∷ []
     same =
         ap (λ (k : Key). k ++ source_walked op.holdings ++ last_of (source_of op.remaining) ∷ []) (sym ((inv.kept.each c op t.st is t.on).walking walks))
         ∙ ap₂ (λ (o : Option Holdings) (f : Form). inv.key c ++ source_walked o ++ last_of (source_of f) ∷ []) t.on t.remaining
 
+are_keys : (s : State) (op : Record) (o : Moved) → ((n : ℕ) → IsMoved o n → numbers s.graph (moved_key op) ≡ Some n) → AreKeys s (moved_keys op o) o
+are_keys s op Nothing at_key = record { each = λ k i. absurd i; all = λ n i. absurd i }
+are_keys s op (One n) at_key = record { each = each; all = λ q i. (moved_key op, inl refl, at_key q i) }
+  where
+    each : (k : Key) → IsOneOf k (moved_key op ∷ []) → (q : ℕ) × IsMoved (One n) q × (numbers s.graph k ≡ Some q)
+    each k (inl i) = (n, refl, ap (numbers s.graph) i ∙ at_key n refl)
+    each k (inr i) = absurd i
+are_keys s op (Two n p) at_key = record { each = each; all = λ q i. (moved_key op, inl refl, at_key q i) }
+  where
+    each : (k : Key) → IsOneOf k (moved_key op ∷ []) → (q : ℕ) × IsMoved (Two n p) q × (numbers s.graph k ≡ Some q)
+    each k (inl i) = (n, inl refl, ap (numbers s.graph) i ∙ at_key n (inl refl))
+    each k (inr i) = absurd i
+
 pub stepped_is : (old : State) → Run old → (seat : ℕ) → Step old seat (stepped old seat).0 (stepped old seat).1
 stepped_is old run seat = on_it (old.on_seat seat) refl
   where
-    helps : (c : ℕ) (op : Record) (n d : ℕ) → Moves old seat c op (Finishes (Some n)) → op.phase ≡ Walking → IsRight old n (Some d) → (o : Option Record) → old.ops d ≡ o → Step old seat (help_by old d o).0 (help_by old d o).1
-    helps c op n d m w r None i = let z : ◌≡◌ {A = Option Record} None (Some r.0.0.0) = sym i ∙ r.0.0.1 in cc
+    helps : (c : ℕ) (op : Record) (n : Moved) (d : ℕ) → Moves old seat c op (Finishes n) → op.phase ≡ Walking → IsRight old n (Some d) → (o : Option Record) → old.ops d ≡ o → Step old seat (help_by old d o).0 (help_by old d o).1
+    helps c op n d m w (((p, one, (q, is_q, q_walks, below)), lowest), least) None i = let z : ◌≡◌ {A = Option Record} None (Some q) = sym i ∙ is_q in cc
     helps c op n d m w r (Some q) i = (c, op, n, m, w, r, q, i, refl)
 
-    moves : (c : ℕ) (op : Record) (n : ℕ) (o : Option ℕ) → Moves old seat c op (Finishes (Some n)) → op.phase ≡ Walking → IsRight old n o → Step old seat (finish_by old c op Walking o).0 (finish_by old c op Walking o).1
-    moves c op n None m w r = (c, op, Some n, m, w, r, refl)
+    moves : (c : ℕ) (op : Record) (n : Moved) (o : Option ℕ) → Moves old seat c op (Finishes n) → op.phase ≡ Walking → IsRight old n o → Step old seat (finish_by old c op Walking o).0 (finish_by old c op Walking o).1
+    moves c op n None m w r = (c, op, n, m, w, r, refl)
     moves c op n (Some d) m w r = helps c op n d m w r (old.ops d) refl
 
-    walking : (c : ℕ) (op : Record) (o : Option ℕ) → Moves old seat c op (Finishes o) → op.phase ≡ Walking → Step old seat (finish_by old c op Walking (to_help old op o)).0 (finish_by old c op Walking (to_help old op o)).1
-    walking c op None m w = (c, op, None, m, w, tt, refl)
-    walking c op (Some n) m w = moves c op n (whom old.ops (moved_key op) (begins old.timeline)) m w (whom_is old run (moved_key op) n (at_moved old run c op n m.1 w m.2))
+    walking : (c : ℕ) (op : Record) (o : Moved) → Moves old seat c op (Finishes o) → op.phase ≡ Walking → Step old seat (finish_by old c op Walking (to_help old op o)).0 (finish_by old c op Walking (to_help old op o)).1
+    walking c op o m w = moves c op o (to_help old op o) m w (whom_is old run (moved_keys op o) o (are_keys old op o (λ n one. at_moved old run c op o n m.1 w m.2 one)))
 
-    finishing : (c : ℕ) (op : Record) (o : Option ℕ) (phase : Phase) → op.phase ≡ phase → Moves old seat c op (Finishes o) → Step old seat (finish_by old c op phase (to_help old op o)).0 (finish_by old c op phase (to_help old op o)).1
+    finishing : (c : ℕ) (op : Record) (o : Moved) (phase : Phase) → op.phase ≡ phase → Moves old seat c op (Finishes o) → Step old seat (finish_by old c op phase (to_help old op o)).0 (finish_by old c op phase (to_help old op o)).1
     finishing c op o Walking w m = walking c op o m w
     finishing c op o (Placed i) w m = (c, op, o, i, m, w, refl)
     finishing c op o (Finished r) w m = absurd (by_finishes old.graph op (by_text (form op.call)) r op.holdings o (ap (λ (p : Phase). next_by old.graph op (by_text (form op.call)) p op.holdings) (sym w) ∙ m.2))

@@ -4,13 +4,15 @@ use Rattle.fs_names.specs.Keys.{Key, parent_of}
 use Rattle.fs_names.specs.Parts.{left}
 use Rattle.fs_names.specs.Shapes.{Shape, Dir, File}
 use Rattle.fs_calls.specs.Forms.{Form, AtNode, AtEntry, AtPair}
+use Rattle.fs_calls.specs.declared.target.PairCall.{PairCall}
 use Rattle.fs_calls.specs.declared.target.PairCall.TheVariants as pairs
 use Rattle.fs_calls.specs.declared.errno.Errno.{Errno}
 use Rattle.fs_calls.specs.declared.reply.Reply.{Reply}
 use Rattle.fs_nodes.specs.Graphs.{Graph}
-use Rattle.fs_machine.specs.Moves.{behind_first, first_of, step_move, walk_move, take_if, dir_then, rename_move, target_move, target, next_on, next_by}
+use Rattle.fs_machine.specs.Moves.{behind_first, first_of, step_move, walk_move, take_if, dir_then, parents_move, target_move, target, next_on, next_by}
 use Rattle.fs_machine.specs.declared.moves.Move.{Move}
 use Rattle.fs_machine.specs.declared.moves.Move.TheVariants.{Finish as Finishes, Return as Ends}
+use Rattle.fs_machine.specs.declared.moves.Moved.{Moved}
 use Rattle.fs_machine.specs.Records.{Holdings, Phase, Walking, Placed, Finished, Record}
 
 walk_ends : (s : Option Shape) (k : Option ℕ) → walk_move s k ≡ Ends → ⊥
@@ -32,27 +34,27 @@ dir_ends None m h e = cc
 dir_ends (Some (File bytes)) m h e = cc
 dir_ends (Some (Dir names)) m h e = h e
 
-take_ends : (b : Bool) (k v s : Option ℕ) → take_if b k v (Finishes s) ≡ Ends → ⊥
+take_ends : (b : Bool) (k v : Option ℕ) (s : Moved) → take_if b k v (Finishes s) ≡ Ends → ⊥
 take_ends true (Some n) None s e = cc
 take_ends true (Some n) (Some v) s e = cc
 take_ends true None v s e = cc
 take_ends false k v s e = cc
 
-some_ends : (b : Bool) (k v s : Option ℕ) (m : Move) → take_if b k v (Finishes s) ≡ m → m ≡ Ends → ⊥
+some_ends : (b : Bool) (k v : Option ℕ) (s : Moved) (m : Move) → take_if b k v (Finishes s) ≡ m → m ≡ Ends → ⊥
 some_ends b k v s m i e = take_ends b k v s (i ∙ e)
 
-rename_ends : (graph : Graph) (p q : Key) (st : Holdings) (m : Move) → rename_move graph p q st ≡ m → m ≡ Ends → ⊥
-rename_ends graph p q st m i e = some_ends _ _ _ _ m i e
+parents_ends : (graph : Graph) (c : PairCall) (p q : Key) (st : Holdings) (m : Move) → parents_move graph c p q st ≡ m → m ≡ Ends → ⊥
+parents_ends graph pairs.Rename p q st m i e = some_ends _ _ _ _ m i e
 
 target_ends : (graph : Graph) (remaining : Form) (st : Holdings) → target_move graph remaining st ≡ Ends → ⊥
 target_ends graph (AtNode c p) st e = cc
 target_ends graph (AtEntry c p) st e = some_ends _ _ _ _ Ends e refl
-target_ends graph (AtPair pairs.Rename p q) st e =
+target_ends graph (AtPair c p q) st e =
     dir_ends (graph.shape st.node) _
     (first_ends graph st.source.node (left st.source.walked (parent_of p)) _
     (dir_ends (graph.shape st.source.node) _
     (first_ends graph st.dest.node (left st.dest.walked (parent_of q)) _
-    (dir_ends (graph.shape st.dest.node) (rename_move graph p q st) (rename_ends graph p q st (rename_move graph p q st) refl))))) e
+    (dir_ends (graph.shape st.dest.node) (parents_move graph c p q st) (parents_ends graph c p q st (parents_move graph c p q st) refl))))) e
 
 pub on_ends : (graph : Graph) (remaining : Form) (st : Holdings) → next_on graph remaining st ≡ Ends → ⊥
 on_ends graph remaining st e = behind_ends st.behind (first_of (step_move graph st.node (target remaining)) (target_move graph remaining st)) (first_ends graph st.node (target remaining) (target_move graph remaining st) (target_ends graph remaining st)) e
@@ -68,6 +70,6 @@ by_ends graph op None Walking (Some st) i = absurd (on_ends graph op.remaining s
 by_ends graph op None (Placed j) (Some st) i = absurd (on_ends graph op.remaining st i)
 
 -- only one that is not finished finishes
-pub by_finishes : (graph : Graph) (op : Record) (e : Option Errno) (r : Reply) (st : Option Holdings) (s : Option ℕ) → next_by graph op e (Finished r) st ≡ Finishes s → ⊥
+pub by_finishes : (graph : Graph) (op : Record) (e : Option Errno) (r : Reply) (st : Option Holdings) (s : Moved) → next_by graph op e (Finished r) st ≡ Finishes s → ⊥
 by_finishes graph op e r None s i = cc
 by_finishes graph op e r (Some st) s i = cc

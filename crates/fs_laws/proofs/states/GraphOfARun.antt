@@ -15,6 +15,7 @@ use Rattle.fs_nodes.specs.Graphs.{Graph, at, numbers, IsGraph}
 use Rattle.fs_machine.specs.Leaving.{is_removed}
 use Rattle.fs_machine.specs.Moves.{next, next_by}
 use Rattle.fs_machine.specs.declared.moves.Move.TheVariants.{Finish as Finishes, Return as Ends}
+use Rattle.fs_machine.specs.declared.moves.Moved.{Moved}
 use Rattle.fs_machine.specs.Records.{Phase, Walking, Placed, Finished, Record, Holdings, Source, Dest}
 use Rattle.fs_machine.specs.OpValues.{IsSpare, SpareIf, IsBounded, HeadsApart, MovesApart, CanFinish}
 use Rattle.fs_timeline.specs.Timeline.{begins}
@@ -85,7 +86,7 @@ heads_apart s c op st run is on = go op.remaining
     go : (f : Form) → HeadsApart f st
     go (AtNode e p) = tt
     go (AtEntry e p) = tt
-    go (AtPair pairs.Rename p q) = λ same. front_same (inv.key c) st.source.walked st.dest.walked (inv.is_graph.one_key (inv.key c ++ st.source.walked) (inv.key c ++ st.dest.walked) st.source.node (loc.head Source) ((loc.head Dest) ∙ ap (λ (n : ℕ). Some n) (sym same)))
+    go (AtPair pair p q) = λ same. front_same (inv.key c) st.source.walked st.dest.walked (inv.is_graph.one_key (inv.key c ++ st.source.walked) (inv.key c ++ st.dest.walked) st.source.node (loc.head Source) ((loc.head Dest) ∙ ap (λ (n : ℕ). Some n) (sym same)))
 
 -- a key that goes on from another one is not beside it
 goes_on : (p way : Key) (x : Name) → if_below (after_prefix p (p ++ (way ++ x ∷ []))) ≡ None → ⊥
@@ -126,7 +127,7 @@ moves_apart s c op st run is on = go op.remaining (inv.kept.each c op st is on).
         goes_on p way (last_of q) (ap (λ (k : Key). if_below (after_prefix p k)) (sym whole) ∙ sym (below_text p q (from_more p q fits) (to_more p q fits)) ∙ fits)
 
 -- what a finish needs
-pub can_finish : (s : State) (c : ℕ) (op : Record) (t : Option ℕ) → Run s → s.ops c ≡ Some op → next s.graph op ≡ Finishes t → CanFinish s.graph op.reserved op.remaining op.holdings
+pub can_finish : (s : State) (c : ℕ) (op : Record) (t : Moved) → Run s → s.ops c ≡ Some op → next s.graph op ≡ Finishes t → CanFinish s.graph op.reserved op.remaining op.holdings
 can_finish s c op t run is m = record { spare = spare_reserved s c op run is; heads = λ st on. heads_apart s c op st run is on; other = λ st on. reserved_other s c op st run is on; apart = λ st on. moves_apart s c op st run is on; bounded = run_bounded s run }
 
 -- who ends is finished and stands nowhere
@@ -134,7 +135,7 @@ pub ends_finished : (s : State) (c : ℕ) (op : Record) → next s.graph op ≡ 
 ends_finished s c op m = let r : (r : Reply) × (op.phase ≡ Finished r) = by_ends s.graph op (by_text (form op.call)) op.phase op.holdings m in (r.0, r.1, ends_nowhere s.graph op r.0 r.1 m)
 
 -- who finishes walks, or is placed
-pub finishes_open : (s : State) (op : Record) (t : Option ℕ) → next s.graph op ≡ Finishes t → (op.phase ≡ Walking) ⊎ ((i : ℕ) × (op.phase ≡ Placed i))
+pub finishes_open : (s : State) (op : Record) (t : Moved) → next s.graph op ≡ Finishes t → (op.phase ≡ Walking) ⊎ ((i : ℕ) × (op.phase ≡ Placed i))
 finishes_open s op t m = go op.phase (by_text (form op.call)) op.holdings refl m
   where
     go : (p : Phase) (e : Option Errno) (st : Option Holdings) → op.phase ≡ p → next_by s.graph op e p st ≡ Finishes t → (op.phase ≡ Walking) ⊎ ((i : ℕ) × (op.phase ≡ Placed i))

@@ -96,13 +96,13 @@ goes_during b c seat call u next (LetGo n) w plain (f, op, m, same) = subst (Dur
   view = w.view;
 })
 goes_during b c seat call u next (Helped d) w plain (f, op, t, m, walks, pick, q, is, same) =
-    let a : ◌≡◌ {A = Option Record} (Some pick.0.0.0) (Some q) = sym pick.0.0.1 ∙ is in
-    let e : pick.0.0.0 ≡ q = cc in
+    let a : ◌≡◌ {A = Option Record} (Some pick.0.0.2.0) (Some q) = sym pick.0.0.2.1 ∙ is in
+    let e : pick.0.0.2.0 ≡ q = cc in
     subst (During b c seat call) (sym same) (record {
       run = subst Run same (Stepping seat (Helped d) next w.run (f, op, t, m, walks, pick, q, is, same));
       others = changed_others b c seat call u w d _ (is_mine b c seat call u w d q is);
       mine = w.mine;
-      view = inr (not_twice b c seat call u w d q is (ap (λ (o : Record). o.phase) (sym e) ∙ pick.0.0.2));
+      view = inr (not_twice b c seat call u w d q is (ap (λ (o : Record). o.phase) (sym e) ∙ pick.0.0.2.2));
     })
 goes_during b c seat call u next Committed w plain (f, op, o, m, walks, below, same) = subst (During b c seat call) (sym same) (record {
   run = subst Run same (Stepping seat Committed next w.run (f, op, o, m, walks, below, same));

@@ -151,11 +151,11 @@ takes_work s run seat (Busy n d) new st g = absurd g
 takes_work s run seat (Took n) new (c, op, moves, free, same) g = subst (λ (x : State). steps_left x + 1 ≤ steps_left s) (sym same) (less_work s run c op (Some (took op n)) (taking s c op n) moves.1 refl refl (took_less s run c op n moves.1 moves.2))
 takes_work s run seat (LetGo n) new (c, op, moves, same) g = subst (λ (x : State). steps_left x + 1 ≤ steps_left s) (sym same) (less_work s run c op (Some (let_go op n)) (letting_go s c op n) moves.1 refl refl (left_less s run c op n moves.1 moves.2))
 takes_work s run seat (Helped d) new (c, op, t, moves, w, pick, q, is, same) g =
-    let a : ◌≡◌ {A = Option Record} (Some pick.0.0.0) (Some q) = sym pick.0.0.1 ∙ is in
-    let b : pick.0.0.0 ≡ q = cc in
+    let a : ◌≡◌ {A = Option Record} (Some pick.0.0.2.0) (Some q) = sym pick.0.0.2.1 ∙ is in
+    let b : pick.0.0.2.0 ≡ q = cc in
     subst (λ (x : State). steps_left x + 1 ≤ steps_left s) (sym same)
     (less_work s run d q (Some (record q { phase = Placed (commit_count s.timeline) })) (helping s d q) is refl (begins_push s.timeline d)
-    (helped_less q pick.0.0.3.0 (commit_count s.timeline) (ap (λ (o : Record). o.phase) (sym b) ∙ pick.0.0.2) (ap (λ (o : Record). o.holdings) (sym b) ∙ pick.0.0.3.2)))
+    (helped_less q pick.0.0.2.3.0 (commit_count s.timeline) (ap (λ (o : Record). o.phase) (sym b) ∙ pick.0.0.2.2) (ap (λ (o : Record). o.holdings) (sym b) ∙ pick.0.0.2.3.2)))
 takes_work s run seat Committed new (c, op, o, moves, w, below, same) g = subst (λ (x : State). steps_left x + 1 ≤ steps_left s) (sym same) (less_work s run c op (Some (finished_op op (finish s.graph op))) (committing s c op) moves.1 refl (begins_push s.timeline c) (finish_less op (finish s.graph op) (walking_open op w)))
 takes_work s run seat CarriedOut new (c, op, o, i, moves, placed, same) g = subst (λ (x : State). steps_left x + 1 ≤ steps_left s) (sym same) (less_work s run c op (Some (finished_op op (finish s.graph op))) (carrying s c op) moves.1 refl refl (finish_less op (finish s.graph op) (λ r e. (let z : ◌≡◌ {A = Phase} (Placed i) (Finished r) = sym placed ∙ e in cc))))
 takes_work s run seat (Returned r) new (c, op, moves, ph, same) g =

@@ -1,5 +1,5 @@
 -- Who waits for a call that waits stands above it, and so somebody goes on.
-use Rattle.std.proofs.Common.{◌≡◌, ℕ, zero, suc, ◌+◌, ◌≤◌, [], ◌∷◌, ◌++◌, length, Option, Some, None, refl, sym, ap, ◌∙◌, append-nil, subst, ◌⊎◌, inl, inr, arith}
+use Rattle.std.proofs.Common.{◌≡◌, ℕ, zero, suc, ◌+◌, ◌≤◌, List, [], ◌∷◌, ◌++◌, length, Option, Some, None, refl, sym, ap, ◌∙◌, append-nil, subst, ◌⊎◌, inl, inr, arith}
 use Rattle.std.proofs.lemmas.List.{length-append}
 use Rattle.fs_names.specs.Keys.{Key, last_of}
 use Rattle.fs_names.specs.Names.{Name}
@@ -10,12 +10,14 @@ use Rattle.fs_nodes.specs.Graphs.{numbers}
 use Rattle.fs_machine.specs.Moves.{next, next_on}
 use Rattle.fs_machine.specs.declared.moves.Move.{Move}
 use Rattle.fs_machine.specs.declared.moves.Move.TheVariants.{Take as Takes, LetGo as Leaves, Finish as Finishes, Return as Ends}
+use Rattle.fs_machine.specs.declared.moves.Moved.{Moved}
+use Rattle.fs_machine.specs.declared.moves.Moved.TheVariants.{Nothing, One, Two}
 use Rattle.fs_machine.specs.Records.{Walking, Placed, Finished, Holds, Record, Holdings, Dest, head_on, Source}
 use Rattle.fs_timeline.specs.Timeline.{begins}
 use Rattle.fs_laws.specs.Invariants.{IsUnfinished, Invariant}
 use Rattle.fs_laws.specs.Progress.{WaitsFor, WaitsBelow, GoesOn, SomebodyGoesOn, IsNeverStuck, HasStep}
 use Rattle.fs_laws.specs.CallFacts.{Located, Pair}
-use Rattle.fs_machine.specs.States.{State, Run, NoneBelow, IsChosen, Step, taking, letting_go, helping, carrying, committing, returning}
+use Rattle.fs_machine.specs.States.{State, Run, IsMoved, NoneBelow, IsChosen, Step, taking, letting_go, helping, carrying, committing, returning}
 use Rattle.fs_machine.specs.declared.answers.Stepped.{Stepped}
 use Rattle.fs_machine.specs.declared.answers.Stepped.TheVariants.{Idle, Took, Busy, LetGo, Helped, Committed, CarriedOut, Returned}
 use Rattle.fs_laws.proofs.graphs.Walks.{at_child, at_from}
@@ -30,7 +32,7 @@ use Rattle.fs_laws.proofs.states.Agreement.{StateFacts, Holder, run_accounts}
 use Rattle.fs_laws.proofs.calls.NextMoves.{takes_another}
 use Rattle.fs_laws.proofs.states.GraphOfARun.{begun_before, call_seat, finishes_open}
 use Rattle.fs_laws.proofs.helping.NobodyEnters.{ToMove, to_move}
-use Rattle.fs_laws.proofs.helping.WhomToHelp.{within_total, chosen_or_none}
+use Rattle.fs_laws.proofs.helping.WhomToHelp.{within_total, IsOneOf, AreKeys, chosen_or_none}
 use Rattle.fs_laws.specs.StepsLeft.{total}
 
 -- a call that wants a node holds others as its position or as its heads' nodes
@@ -68,7 +70,7 @@ wants_below s inv c op n st is on t = go t
     go : Take s.graph op n st → Below s (inv.key c) st n
     go (Walk x l way b child t_is) = of [] st.node x here (inl refl) child
     go (There (Entry e p rem way child off) b t_is) = of [] st.node (last_of p) here (inl refl) child
-    go (There (Of_head side p q x l rem way turn at_left child) b t_is) = of (head_on side st).walked (head_on side st).node x (loc.head side) (node_held side (numbers s.graph) (inv.key c) st loc) child
+    go (There (Of_head side pair p q x l rem way turn at_left child) b t_is) = of (head_on side st).walked (head_on side st).node x (loc.head side) (node_held side (numbers s.graph) (inv.key c) st loc) child
     go (There (Replaced p q rem way there at_left want child off) b t_is) = of st.dest.walked st.dest.node (last_of q) (loc.head Dest) (node_held Dest (numbers s.graph) (inv.key c) st loc) child
 
 -- of two calls that wait, the first for the second, by their keys
@@ -130,22 +132,43 @@ pub data Does (s : State) (c : ℕ) (op : Record) : Type 0 where
   Waiting : (n d : ℕ) → next s.graph op ≡ Takes n → s.holder n ≡ Some d → Does s c op
 
 -- whom to help, where a call is to finish
-none_or_chosen : (s : State) → Run s → (c : ℕ) (op : Record) (o : Option ℕ) → s.ops c ≡ Some op → next s.graph op ≡ Finishes o → NoneBelow s o ⊎ ((n d : ℕ) × (o ≡ Some n) × IsChosen s n d)
-none_or_chosen s run c op None is m = inl tt
-none_or_chosen s run c op (Some n) is m = go (chosen_or_none s run (inv.key c ++ t.st.source.walked ++ last_of t.p ∷ []) n at_n)
+none_or_chosen : (s : State) → Run s → (c : ℕ) (op : Record) (o : Moved) → s.ops c ≡ Some op → next s.graph op ≡ Finishes o → NoneBelow s o ⊎ ((d : ℕ) × IsChosen s o d)
+none_or_chosen s run c op o is m = let k : (ks : List Key) × AreKeys s ks o = keys o moved_key in chosen_or_none s run k.0 o k.1
   where
     inv : Invariant s
     inv = run_keeps s run
 
-    t : ToMove s.graph op n
-    t = to_move s.graph op n m
+    moved_key : (n : ℕ) → IsMoved o n → (k : Key) × (numbers s.graph k ≡ Some n)
+    moved_key n one =
+        let t : ToMove s.graph op n = to_move s.graph op o n m one in
+        (inv.key c ++ t.st.source.walked ++ last_of t.p ∷ [], at_child s.graph.child 0 t.st.source.node (inv.key c ++ t.st.source.walked) (last_of t.p) ((inv.kept.each c op t.st is t.on).located.head Source) ∙ t.child)
 
-    at_n : numbers s.graph ((run_keeps s run).key c ++ (to_move s.graph op n m).st.source.walked ++ last_of (to_move s.graph op n m).p ∷ []) ≡ Some n
-    at_n = at_child s.graph.child 0 (to_move s.graph op n m).st.source.node ((run_keeps s run).key c ++ (to_move s.graph op n m).st.source.walked) (last_of (to_move s.graph op n m).p) (((run_keeps s run).kept.each c op (to_move s.graph op n m).st is (to_move s.graph op n m).on).located.head Source) ∙ (to_move s.graph op n m).child
+    keys : (o : Moved) → ((n : ℕ) → IsMoved o n → (k : Key) × (numbers s.graph k ≡ Some n)) → (ks : List Key) × AreKeys s ks o
+    keys Nothing at_key = ([], record { each = λ k i. absurd i; all = λ n i. absurd i })
+    keys (One n) at_key = (first.0 ∷ [], record { each = each; all = λ p i. (first.0, inl refl, first.1 ∙ ap (λ (x : ℕ). Some x) (sym i)) })
+      where
+        first : (k : Key) × (numbers s.graph k ≡ Some n)
+        first = at_key n refl
 
-    go : NoneBelow s (Some n) ⊎ ((d : ℕ) × IsChosen s n d) → NoneBelow s (Some n) ⊎ ((k d : ℕ) × (Some n ≡ Some k) × IsChosen s k d)
-    go (inl h) = inl h
-    go (inr (d, h)) = inr (n, d, refl, h)
+        each : (k : Key) → IsOneOf k (first.0 ∷ []) → (p : ℕ) × IsMoved (One n) p × (numbers s.graph k ≡ Some p)
+        each k (inl i) = (n, refl, ap (numbers s.graph) i ∙ first.1)
+        each k (inr i) = absurd i
+    keys (Two n p) at_key = (first.0 ∷ second.0 ∷ [], record { each = each; all = all })
+      where
+        first : (k : Key) × (numbers s.graph k ≡ Some n)
+        first = at_key n (inl refl)
+
+        second : (k : Key) × (numbers s.graph k ≡ Some p)
+        second = at_key p (inr refl)
+
+        each : (k : Key) → IsOneOf k (first.0 ∷ second.0 ∷ []) → (q : ℕ) × IsMoved (Two n p) q × (numbers s.graph k ≡ Some q)
+        each k (inl i) = (n, inl refl, ap (numbers s.graph) i ∙ first.1)
+        each k (inr (inl i)) = (p, inr refl, ap (numbers s.graph) i ∙ second.1)
+        each k (inr (inr i)) = absurd i
+
+        all : (q : ℕ) → IsMoved (Two n p) q → (k : Key) × IsOneOf k (first.0 ∷ second.0 ∷ []) × (numbers s.graph k ≡ Some q)
+        all q (inl i) = (first.0, inl refl, first.1 ∙ ap (λ (x : ℕ). Some x) (sym i))
+        all q (inr i) = (second.0, inr (inl refl), second.1 ∙ ap (λ (x : ℕ). Some x) (sym i))
 
 pub does_step : (s : State) → Run s → (c : ℕ) (op : Record) → s.ops c ≡ Some op → Does s c op
 does_step s run c op is = go (next s.graph op) refl
@@ -157,10 +180,11 @@ does_step s run c op is = go (next s.graph op) refl
     takes n m None e = AtNode (Took n) (taking s c op n) (c, op, (on, is, m), e, refl) tt
     takes n m (Some d) e = Waiting n d m e
 
-    finishes : (o : Option ℕ) → next s.graph op ≡ Finishes o → NoneBelow s o ⊎ ((n d : ℕ) × (o ≡ Some n) × IsChosen s n d) → (op.phase ≡ Walking) ⊎ ((i : ℕ) × (op.phase ≡ Placed i)) → Does s c op
+    finishes : (o : Moved) → next s.graph op ≡ Finishes o → NoneBelow s o ⊎ ((d : ℕ) × IsChosen s o d) → (op.phase ≡ Walking) ⊎ ((i : ℕ) × (op.phase ≡ Placed i)) → Does s c op
     finishes o m below (inr (i, placed)) = AtNode CarriedOut (carrying s c op) (c, op, o, i, (on, is, m), placed, refl) tt
     finishes o m (inl none) (inl walks) = AtNode Committed (committing s c op) (c, op, o, (on, is, m), walks, none, refl) tt
-    finishes o m (inr (n, d, o_is, pick)) (inl walks) = AtNode (Helped d) (helping s d pick.0.0.0) (c, op, n, (on, is, m ∙ ap Finishes o_is), walks, pick, pick.0.0.0, pick.0.0.1, refl) tt
+    finishes o m (inr (d, (((n, one, (q, is_q, q_walks, below)), lowest), least))) (inl walks) =
+        AtNode (Helped d) (helping s d q) (c, op, o, (on, is, m), walks, (((n, one, (q, is_q, q_walks, below)), lowest), least), q, is_q, refl) tt
 
     go : (move : Move) → next s.graph op ≡ move → Does s c op
     go (Takes n) m = takes n m (s.holder n) refl

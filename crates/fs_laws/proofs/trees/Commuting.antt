@@ -1,8 +1,8 @@
 -- What acts below a key commutes with the changes that lie apart from it, and goes along with a move from above.
-use Rattle.std.proofs.Common.{◌≡◌, [], ◌∷◌, ◌++◌, Option, Some, None, refl, sym, ap, ◌∙◌, append_assoc, append-nil}
+use Rattle.std.proofs.Common.{◌≡◌, [], ◌∷◌, ◌++◌, Option, Some, None, refl, sym, ap, ap₂, ◌∙◌, append_assoc, append-nil}
 use mathlib.Core.Path.{fun_ext}
 use Rattle.fs_names.specs.Keys.{Key, after_prefix}
-use Rattle.fs_laws.specs.Maps.{Map, below, act, act_at, put, put_at, move, moved_to, moved_from}
+use Rattle.fs_laws.specs.Maps.{Map, below, act, act_at, put, put_at, move, moved_to, moved_from, swapped_by, swapped, swap}
 use Rattle.fs_laws.proofs.trees.Prefixes.{prefix_append, prefix_some, prefix_both, prefix_deeper, prefix_none}
 
 -- what stands at a key, by whether it begins with k
@@ -111,3 +111,84 @@ move_act_apart s t k f tree sk ks tk kt = fun_ext (λ key. go key (after_prefix 
         (move_else s t (act k f tree) (k ++ r) (prefix_none t k r tk kt) (prefix_none s k r sk ks)
         ∙ act_in k f tree r
         ∙ ap (λ (u : Map _). f u r) (fun_ext (λ q. sym (move_else s t tree (k ++ q) (prefix_none t k q tk kt) (prefix_none s k q sk ks)))))
+
+-- a key after an exchange
+pub swapped_first : (s t r : Key) → swapped s t (s ++ r) ≡ t ++ r
+swapped_first s t r = ap (λ (o : Option Key). swapped_by s t (s ++ r) o (after_prefix t (s ++ r))) (prefix_append s r)
+
+pub swapped_second : (s t r : Key) → after_prefix s t ≡ None → after_prefix t s ≡ None → swapped s t (t ++ r) ≡ s ++ r
+swapped_second s t r st ts = ap₂ (swapped_by s t (t ++ r)) (prefix_none s t r st ts) (prefix_append t r)
+
+pub swapped_else : (s t key : Key) → after_prefix s key ≡ None → after_prefix t key ≡ None → swapped s t key ≡ key
+swapped_else s t key e g = ap₂ (swapped_by s t key) e g
+
+-- what an exchange leaves at each key
+pub swap_first : {V : Type 0} (s t : Key) (tree : Map V) (r : Key) → swap s t tree (s ++ r) ≡ tree (t ++ r)
+swap_first s t tree r = ap tree (swapped_first s t r)
+
+pub swap_second : {V : Type 0} (s t : Key) (tree : Map V) (r : Key) → after_prefix s t ≡ None → after_prefix t s ≡ None → swap s t tree (t ++ r) ≡ tree (s ++ r)
+swap_second s t tree r st ts = ap tree (swapped_second s t r st ts)
+
+pub swap_else : {V : Type 0} (s t : Key) (tree : Map V) (key : Key) → after_prefix s key ≡ None → after_prefix t key ≡ None → swap s t tree key ≡ tree key
+swap_else s t tree key e g = ap tree (swapped_else s t key e g)
+
+-- which of two keys that lie aside comes first does not matter
+pub swap_same : {V : Type 0} (s t : Key) (tree : Map V) → after_prefix s t ≡ None → after_prefix t s ≡ None → swap s t tree ≡ swap t s tree
+swap_same s t tree st ts = fun_ext (λ key. go key (after_prefix s key) (after_prefix t key) refl refl)
+  where
+    go : (key : Key) (o p : Option Key) → after_prefix s key ≡ o → after_prefix t key ≡ p → swap s t tree key ≡ swap t s tree key
+    go key (Some r) p e g = rw (prefix_some s key r e) (swap_first s t tree r ∙ sym (swap_second t s tree r ts st))
+    go key None (Some r) e g = rw (prefix_some t key r g) (swap_second s t tree r st ts ∙ sym (swap_first t s tree r))
+    go key None None e g = swap_else s t tree key e g ∙ sym (swap_else t s tree key g e)
+
+-- below the first key: what acts there goes along
+pub swap_act_first : {V : Type 0} (s t k : Key) (f : Map V → Map V) (tree : Map V) → after_prefix s t ≡ None → after_prefix t s ≡ None → swap s t (act (s ++ k) f tree) ≡ act (t ++ k) f (swap s t tree)
+swap_act_first s t k f tree st ts = fun_ext (λ key. go key (after_prefix s key) (after_prefix t key) refl refl)
+  where
+    inner : (r : Key) (o : Option Key) → after_prefix k r ≡ o → act (s ++ k) f tree (s ++ r) ≡ act (t ++ k) f (swap s t tree) (t ++ r)
+    inner r None e =
+        act_out (s ++ k) f tree (s ++ r) (prefix_both s k r ∙ e)
+        ∙ sym (act_out (t ++ k) f (swap s t tree) (t ++ r) (prefix_both t k r ∙ e) ∙ swap_second s t tree r st ts)
+    inner r (Some q) e =
+        ap (act_at f tree (s ++ k) (s ++ r)) (prefix_both s k r ∙ e)
+        ∙ ap (λ (u : Map _). f u q) (fun_ext (λ x. ap tree (append_assoc s k x) ∙ sym (ap (swap s t tree) (append_assoc t k x) ∙ swap_second s t tree (k ++ x) st ts)))
+        ∙ sym (ap (act_at f (swap s t tree) (t ++ k) (t ++ r)) (prefix_both t k r ∙ e))
+
+    go : (key : Key) (o p : Option Key) → after_prefix s key ≡ o → after_prefix t key ≡ p → swap s t (act (s ++ k) f tree) key ≡ act (t ++ k) f (swap s t tree) key
+    go key (Some r) p e g =
+        rw (prefix_some s key r e)
+        (swap_first s t (act (s ++ k) f tree) r
+        ∙ act_out (s ++ k) f tree (t ++ r) (prefix_deeper s k (t ++ r) (prefix_none s t r st ts))
+        ∙ sym (act_out (t ++ k) f (swap s t tree) (s ++ r) (prefix_deeper t k (s ++ r) (prefix_none t s r ts st)) ∙ swap_first s t tree r))
+    go key None (Some r) e g = rw (prefix_some t key r g) (swap_second s t (act (s ++ k) f tree) r st ts ∙ inner r (after_prefix k r) refl)
+    go key None None e g =
+        swap_else s t (act (s ++ k) f tree) key e g
+        ∙ act_out (s ++ k) f tree key (prefix_deeper s k key e)
+        ∙ sym (act_out (t ++ k) f (swap s t tree) key (prefix_deeper t k key g) ∙ swap_else s t tree key e g)
+
+-- and below the second
+pub swap_act_second : {V : Type 0} (s t k : Key) (f : Map V → Map V) (tree : Map V) → after_prefix s t ≡ None → after_prefix t s ≡ None → swap s t (act (t ++ k) f tree) ≡ act (s ++ k) f (swap s t tree)
+swap_act_second s t k f tree st ts = swap_same s t (act (t ++ k) f tree) st ts ∙ swap_act_first t s k f tree ts st ∙ ap (act (s ++ k) f) (sym (swap_same s t tree st ts))
+
+-- apart from both keys: the exchange and what acts there do not meet
+pub swap_act_apart : {V : Type 0} (s t k : Key) (f : Map V → Map V) (tree : Map V) → after_prefix s k ≡ None → after_prefix k s ≡ None → after_prefix t k ≡ None → after_prefix k t ≡ None → swap s t (act k f tree) ≡ act k f (swap s t tree)
+swap_act_apart s t k f tree sk ks tk kt = fun_ext (λ key. go key (after_prefix k key) refl)
+  where
+    outer : (key : Key) (o p : Option Key) → after_prefix s key ≡ o → after_prefix t key ≡ p → after_prefix k key ≡ None → swap s t (act k f tree) key ≡ swap s t tree key
+    outer key (Some r) p e g h =
+        ap (λ (o : Option Key). act k f tree (swapped_by s t key o (after_prefix t key))) e
+        ∙ act_out k f tree (t ++ r) (prefix_none k t r kt tk)
+        ∙ sym (ap (λ (o : Option Key). tree (swapped_by s t key o (after_prefix t key))) e)
+    outer key None (Some r) e g h =
+        ap₂ (λ (o p : Option Key). act k f tree (swapped_by s t key o p)) e g
+        ∙ act_out k f tree (s ++ r) (prefix_none k s r ks sk)
+        ∙ sym (ap₂ (λ (o p : Option Key). tree (swapped_by s t key o p)) e g)
+    outer key None None e g h = swap_else s t (act k f tree) key e g ∙ act_out k f tree key h ∙ sym (swap_else s t tree key e g)
+
+    go : (key : Key) (o : Option Key) → after_prefix k key ≡ o → swap s t (act k f tree) key ≡ act_at f (swap s t tree) k key o
+    go key None e = outer key (after_prefix s key) (after_prefix t key) refl refl e
+    go key (Some r) e =
+        rw (prefix_some k key r e)
+        (swap_else s t (act k f tree) (k ++ r) (prefix_none s k r sk ks) (prefix_none t k r tk kt)
+        ∙ act_in k f tree r
+        ∙ ap (λ (u : Map _). f u r) (fun_ext (λ q. sym (swap_else s t tree (k ++ q) (prefix_none s k q sk ks) (prefix_none t k q tk kt)))))

@@ -6,6 +6,6 @@ use Rattle.fs_core.proofs.helping.find_ways.Given as goal
 -- the ways so far
 abbrev pub invariant-loop-seat : goal.invariant-loop-seat
 invariant-loop-seat l = record {
-  ways : AreWays (child l.store) l.seats l.node l.seat l.ways;
+  ways : AreWays (child l.store) l.seats l.moved l.seat l.ways;
   same : length l.ways ≡ length l.fn.ways;
 }

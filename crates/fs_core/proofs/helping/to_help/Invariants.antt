@@ -4,4 +4,4 @@ use Rattle.fs_core.proofs.helping.to_help.Given as goal
 
 -- of the seats so far
 abbrev pub invariant-loop-seat : goal.invariant-loop-seat
-invariant-loop-seat l = HasLeast (child l.store) l.seats l.fn.node l.seat l.chosen
+invariant-loop-seat l = HasLeast (child l.store) l.seats l.fn.moved l.seat l.chosen

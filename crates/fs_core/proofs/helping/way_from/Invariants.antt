@@ -5,4 +5,4 @@ use Rattle.fs_core.proofs.helping.way_from.Given as goal
 
 -- how far the way has come
 abbrev pub invariant-loop-step : goal.invariant-loop-step
-invariant-loop-step l = WayUp (graph_of l.store) l.seats (room l.holders) l.node l.seat l.fn.position l.above l._step l.met
+invariant-loop-step l = WayUp (graph_of l.store) l.seats (room l.holders) l.moved l.seat l.fn.position l.above l._step l.met l.below

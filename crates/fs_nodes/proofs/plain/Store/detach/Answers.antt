@@ -4,7 +4,7 @@ use Rattle.fs_nodes.specs.Stores.{graph_in, graph_of, limit_of, room}
 use Rattle.fs_nodes.proofs.EditLemmas.{Makes, unlink_edit, child_within}
 use Rattle.std.proofs.lemmas.List.{length-set}
 use Rattle.fs_nodes.proofs.RealLemmas.{seen_by}
-use Rattle.fs_nodes.proofs.plain.Store.unlink.Goals as goal
+use Rattle.fs_nodes.proofs.plain.Store.detach.Goals as goal
 
 pub index_mut-requires : goal.index_mut-requires
 unfolding graph_of limit_of room
