@@ -3,6 +3,7 @@ use Rattle.std.specs.Prelude.{◌≡◌, ◌≢◌, List, ◌∷◌, ◌++◌, S
 use Rattle.fs_names.specs.Names.{Name}
 use Rattle.fs_names.specs.Keys.{Key, after_prefix}
 use Rattle.fs_calls.specs.Tree.{Tree, Node, Dir, look, IsTree, root_tree}
+use Rattle.fs_calls.specs.Starts.{Start, start_tree}
 use Rattle.fs_calls.specs.Outcomes.{fault, reply, after, play}
 use Rattle.fs_calls.specs.declared.call.Call.{Call}
 use Rattle.fs_calls.specs.declared.call.Call.TheVariants.{Rename}
@@ -23,7 +24,7 @@ HasDirectoriesAbove t = (d : Key) (x : Name) (rest : Key) (n : Node) → look t 
 
 -- in what is played from a tree the root is a directory, and so is each proper prefix of a key; the root alone is a tree
 abbrev pub PlayedTreesAreTrees : Type 0
-PlayedTreesAreTrees = IsTree root_tree × ((start : Tree) (calls : List Call) → IsTree start → IsTree (play start calls) × HasDirectoriesAbove (play start calls))
+PlayedTreesAreTrees = IsTree root_tree × ((start : Start) (calls : List Call) → IsTree (start_tree start) → IsTree (play start calls) × HasDirectoriesAbove (play start calls))
 
 -- trees in which the same stands at each key are one
 abbrev pub SameTrees : Type 0

@@ -2,6 +2,7 @@ pub mod Tree
 pub mod Forms
 pub mod Rows
 pub mod Sights
+pub mod Starts
 pub mod Outcomes
 pub mod Replies
 pub mod Laws

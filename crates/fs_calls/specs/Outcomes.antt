@@ -4,6 +4,7 @@ use Rattle.fs_names.specs.Failures.{or_else}
 use Rattle.fs_names.specs.Keys.{Key, parent_of}
 use Rattle.fs_calls.specs.Tree as tree
 use Rattle.fs_calls.specs.Tree.{Tree, Node, inserted, removed, renamed}
+use Rattle.fs_calls.specs.Starts.{Start, start_tree}
 use Rattle.fs_calls.specs.Sights.{Shape, Dir, File, tree_shapes}
 use Rattle.fs_calls.specs.Sights.{resolve, resolve_dir, is_same, row_in}
 use Rattle.fs_calls.specs.Forms.{form, by_text, new_shape, Form, AtNode, AtEntry, AtPair}
@@ -85,11 +86,11 @@ unfoldable pub after : Tree → Call → Tree
 after t call = if_sound (fault t call) t (change t call)
 
 -- the tree after a list of calls, from a start tree
-abbrev pub play : Tree → List Call → Tree
-play start [] = start
-play start (call ∷ calls) = play (after start call) calls
+abbrev pub play : Start → List Call → Tree
+play start [] = start_tree start
+play start (call ∷ calls) = play (after (start_tree start) call) calls
 
 -- the replies to a list of calls, from a start tree
-abbrev pub replies : Tree → List Call → List Reply
+abbrev pub replies : Start → List Call → List Reply
 replies start [] = []
-replies start (call ∷ calls) = reply start call ∷ replies (after start call) calls
+replies start (call ∷ calls) = reply (start_tree start) call ∷ replies (after (start_tree start) call) calls

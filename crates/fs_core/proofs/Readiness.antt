@@ -22,7 +22,7 @@ use Rattle.fs_timeline.specs.declared.entry.Entry.TheVariants.{Begin, Commit, Re
 use Rattle.fs_machine.specs.Leaving.{unreserved}
 use Rattle.fs_machine.specs.OpValues.{OpValue, new_value, record_of, BegunAs, IsSpare, SpareIf}
 use Rattle.fs_timeline.specs.Timeline.{begins, TimelineValue}
-use Rattle.fs_machine.specs.States.{empty, began, Reserves, Begins, Run, Start, Beginning}
+use Rattle.fs_machine.specs.States.{empty, began, Reserves, Begins, Run, Starting, Beginning}
 use Rattle.fs_machine.specs.declared.answers.Refusal.TheVariants.{SeatBusy}
 use Rattle.fs_laws.proofs.states.Agreement.{not_begun}
 use Rattle.fs_laws.proofs.states.Headline.{run_keeps}
@@ -238,7 +238,7 @@ pub new_kept : (st : Places) (hs : Holding) (limit : ℕ) → 1 ≤ limit → li
 new_kept st hs limit one most graph is_limit is_hs has = (
   same,
   record {
-    run = subst Run (sym same) (Start limit root_tree empty_graph (starts_empty limit one));
+    run = subst Run (sym same) (Starting limit root_tree empty_graph (starts_empty limit one));
     limited = omega (arith, is_limit, most);
     roomy = λ n s e. empty_below n s (room hs) has (ap (λ (g : Graph). g.shape n) (sym graph) ∙ e);
     begun_is = refl;

@@ -1,7 +1,7 @@
 -- States of a core: when two are the same, and what a call on a seat is in them.
 use Rattle.std.proofs.Common.{◌≡◌, ℕ, ◌+◌, List, [], ◌∷◌, ◌++◌, Option, Some, None, refl, sym, ap, ◌∙◌}
 use Rattle.std.specs.Prelude.{slice_get}
-use Rattle.fs_calls.specs.Tree.{Tree}
+use Rattle.fs_calls.specs.Starts.{Start}
 use Rattle.fs_calls.specs.declared.reply.Reply.{Reply}
 use Rattle.fs_nodes.specs.Graphs.{Graph}
 use Rattle.fs_nodes.specs.Stores.{graph_of}
@@ -23,10 +23,10 @@ use Rattle.fs_core.proofs.SeatLemmas.{AreApart, number_read, records_at}
 use Rattle.fs_core.proofs.WorkLemmas.{next_is}
 
 -- states with the same parts
-abbrev pub made_of : Tree → ℕ → Graph → (ℕ → Option ℕ) → Records → (ℕ → Option ℕ) → List Entry → State
+abbrev pub made_of : Start → ℕ → Graph → (ℕ → Option ℕ) → Records → (ℕ → Option ℕ) → List Entry → State
 made_of start limit graph holder ops on_seat timeline = record { limit = limit; start = start; graph = graph; holder = holder; ops = ops; on_seat = on_seat; timeline = timeline }
 
-pub same_state : (first : Tree) (l m : ℕ) (a b : Graph) (h k : ℕ → Option ℕ) (o p : Records) (s t : ℕ → Option ℕ) (e : List Entry) → l ≡ m → a ≡ b → h ≡ k → o ≡ p → s ≡ t → made_of first l a h o s e ≡ made_of first m b k p t e
+pub same_state : (first : Start) (l m : ℕ) (a b : Graph) (h k : ℕ → Option ℕ) (o p : Records) (s t : ℕ → Option ℕ) (e : List Entry) → l ≡ m → a ≡ b → h ≡ k → o ≡ p → s ≡ t → made_of first l a h o s e ≡ made_of first m b k p t e
 same_state first l m a b h k o p s t e f1 f2 f3 f4 f5 =
     ap (λ (x : ℕ). made_of first x a h o s e) f1 ∙ ap (λ (x : Graph). made_of first m x h o s e) f2 ∙ ap (λ (x : ℕ → Option ℕ). made_of first m b x o s e) f3
     ∙ ap (λ (x : Records). made_of first m b k x s e) f4 ∙ ap (λ (x : ℕ → Option ℕ). made_of first m b k p x e) f5

@@ -1,7 +1,7 @@
 -- What a core is to its callers, and the state of the machine that it is.
 use Rattle.std.specs.Prelude.{ℕ, ◌≡◌, ◌+◌, eqb, if◌then◌else◌, List, [], ◌∷◌, Option, Some, None, slice_get}
 use Rattle.std.specs.Option.{option_flatten}
-use Rattle.fs_calls.specs.Tree.{Tree}
+use Rattle.fs_calls.specs.Starts.{Start}
 use Rattle.fs_nodes.specs.Stores.{Places}
 use Rattle.fs_nodes.specs.Seen.{seen}
 use Rattle.fs_nodes.specs.Stores.{graph_of}
@@ -14,7 +14,7 @@ use Rattle.fs_core.specs.declared.seat.Running.{Running}
 
 -- the tree at which the timeline begins, the nodes, who holds them, the call under way on each seat, the entries so far
 pub record CoreValue : Type 0 where
-  pub start : Tree
+  pub start : Start
   pub store : Places
   pub holding : List (Option ℕ)
   pub seats : List (Option Running)

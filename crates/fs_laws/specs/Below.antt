@@ -2,7 +2,7 @@
 use Rattle.std.specs.Prelude.{ℕ, ◌≡◌, ◌<◌, ◌≤◌, List, [], ◌∷◌, true, ◌++◌, Some, ◌⊎◌, length}
 use Rattle.fs_names.specs.Keys.{Key}
 use Rattle.fs_calls.specs.Outcomes as tree
-use Rattle.fs_calls.specs.Tree.{Tree}
+use Rattle.fs_calls.specs.Starts.{Start}
 use Rattle.fs_calls.specs.Sights.{tree_shapes}
 use Rattle.fs_calls.specs.declared.call.Call.{Call}
 use Rattle.fs_calls.specs.declared.reply.Reply.{Reply}
@@ -39,7 +39,7 @@ NobodyBetween s = (c d n : ℕ) (op q : Record) (st other : Holdings) (u v : Key
     → (st.source.walked ≡ u ++ v) ⊎ (st.dest.walked ≡ u ++ v) → at s.graph.child st.node u ≡ Some n → Holds other n → ⊥
 
 -- each of these calls is due this reply
-abbrev pub AreDue : Tree → List Entry → List ℕ → List Reply → Type 0
+abbrev pub AreDue : Start → List Entry → List ℕ → List Reply → Type 0
 AreDue start es [] rs = Unit {0}
 AreDue start es (c ∷ cs) [] = ⊥
 AreDue start es (c ∷ cs) (r ∷ rs) = (journal.due start c es ≡ Some r) × AreDue start es cs rs

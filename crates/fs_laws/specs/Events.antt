@@ -2,7 +2,7 @@
 use Rattle.std.specs.Prelude.{ℕ, ◌≡◌, List, [], ◌∷◌, ◌++◌}
 use Rattle.fs_calls.specs.Tree.{root_tree}
 use Rattle.fs_calls.specs.declared.call.Call.{Call}
-use Rattle.fs_machine.specs.States.{State, Begun, Run, Start, Beginning, Stepping}
+use Rattle.fs_machine.specs.States.{State, Begun, Run, Starting, Beginning, Stepping}
 use Rattle.fs_machine.specs.declared.answers.Stepped.{Stepped}
 
 -- a call is to begin on a seat, or a seat is stepped; with the answer
@@ -12,7 +12,7 @@ pub data Event : Type 0 where
 
 -- all events of a run, in order
 abbrev pub events_of : (s : State) → Run s → List Event
-events_of s (Start limit tree graph h) = []
+events_of s (Starting limit tree graph h) = []
 events_of s (Beginning {old} seat call answer new run b) = events_of old run ++ Begins seat call answer ∷ []
 events_of s (Stepping {old} seat answer new run st) = events_of old run ++ Steps seat answer ∷ []
 

@@ -4,7 +4,8 @@ use Rattle.std.specs.declared.cmp.Ordering.TheVariants.{Less}
 use Rattle.fs_names.specs.Keys.{Key}
 use Rattle.fs_names.specs.Names.{Name, name_cmp, has_name}
 use Rattle.fs_names.specs.Shapes.{Shape, Dir}
-use Rattle.fs_calls.specs.Tree.{Tree, IsTree, root_tree}
+use Rattle.fs_calls.specs.Tree.{IsTree, root_tree}
+use Rattle.fs_calls.specs.Starts.{Start, start_tree}
 use Rattle.fs_calls.specs.Outcomes.{play}
 use Rattle.fs_calls.specs.Sights.{tree_shapes}
 use Rattle.fs_calls.specs.Forms.{form, reserves}
@@ -32,7 +33,7 @@ use Rattle.fs_timeline.specs.Timeline.{begins, commit_count, commits}
 -- limit, the tree at which the timeline begins, graph, who holds each node, the calls under way by their numbers, the call on each seat, timeline
 pub record State : Type 0 where
   pub limit : ℕ
-  pub start : Tree
+  pub start : Start
   pub graph : Graph
   pub holder : ℕ → Option ℕ
   pub ops : Records
@@ -40,7 +41,7 @@ pub record State : Type 0 where
   pub timeline : List Entry
 
 -- before anything began
-abbrev pub fresh : ℕ → Tree → Graph → State
+abbrev pub fresh : ℕ → Start → Graph → State
 fresh limit start graph = record { limit = limit; start = start; graph = graph; holder = λ n. None; ops = λ c. None; on_seat = λ s. None; timeline = [] }
 
 -- the same of the root alone
@@ -60,10 +61,10 @@ abbrev pub begun_again : State → State
 begun_again s = fresh s.limit (play s.start (commits s.timeline)) s.graph
 
 -- where a timeline can begin: a graph that spells the tree, keeps the limits, and has no number in use that is not reached
-pub record IsStart (limit : ℕ) (start : Tree) (graph : Graph) : Type 0 where
+pub record IsStart (limit : ℕ) (start : Start) (graph : Graph) : Type 0 where
   pub least : 1 ≤ limit
-  pub tree : IsTree start
-  pub spelled : graph_shapes graph ≡ tree_shapes start
+  pub tree : IsTree (start_tree start)
+  pub spelled : graph_shapes graph ≡ tree_shapes (start_tree start)
   pub is_graph : IsGraph graph
   pub bounded : IsBounded graph
   pub rising : (n : ℕ) (names : List Name) → graph.shape n ≡ Some (Dir names) → AreRising names
@@ -191,6 +192,6 @@ Step old seat (Returned r) new = (c : ℕ) × (op : Record) × Moves old seat c 
 
 -- the states of all runs
 pub data Run : State → Type 0 where
-  Start : (limit : ℕ) (start : Tree) (graph : Graph) → IsStart limit start graph → Run (fresh limit start graph)
+  Starting : (limit : ℕ) (start : Start) (graph : Graph) → IsStart limit start graph → Run (fresh limit start graph)
   Beginning : {old : State} (seat : ℕ) (call : Call) (answer : Begun) (new : State) → Run old → Begins old seat call answer new → Run new
   Stepping : {old : State} (seat : ℕ) (answer : Stepped) (new : State) → Run old → Step old seat answer new → Run new

@@ -7,7 +7,7 @@ use Rattle.fs_nodes.specs.Graphs as graphs
 use Rattle.fs_timeline.specs.Timeline.{commits}
 use Rattle.fs_machine.specs.Records.{Record}
 use Rattle.fs_machine.specs.Headline.{IsIdle}
-use Rattle.fs_machine.specs.States.{State, Run, Start, IsStart, begun_again}
+use Rattle.fs_machine.specs.States.{State, Run, Starting, IsStart, begun_again}
 use Rattle.fs_laws.proofs.states.Headline.{run_keeps}
 use Rattle.fs_laws.proofs.states.Agreement.{run_accounts}
 use Rattle.fs_laws.proofs.journal.ViewOfTimeline.{linearizes, run_starts}
@@ -35,4 +35,4 @@ begins_again s run idle = record {
 }
 
 pub timelines_begin_again : TimelinesBeginAgain
-timelines_begin_again s run idle = Start s.limit (play s.start (commits s.timeline)) s.graph (begins_again s run idle)
+timelines_begin_again s run idle = Starting s.limit (play s.start (commits s.timeline)) s.graph (begins_again s run idle)

@@ -13,7 +13,7 @@ use Rattle.fs_machine.specs.declared.moves.Move.TheVariants.{Take as Takes}
 use Rattle.fs_machine.specs.Records.{Holdings, Phase, Walking, Placed, Finished, Record, Records, holdings_at}
 use Rattle.fs_timeline.specs.Timeline.{commit_count}
 use Rattle.fs_laws.specs.Invariants.{IsUnfinished, VictimAt}
-use Rattle.fs_machine.specs.States.{State, Run, Start, Beginning, Stepping, Begun, Begins, Reserves, new_op, Step}
+use Rattle.fs_machine.specs.States.{State, Run, Starting, Beginning, Stepping, Begun, Begins, Reserves, new_op, Step}
 use Rattle.fs_machine.specs.declared.answers.Refusal.TheVariants.{SeatBusy, Full, OutOfMemory}
 use Rattle.fs_machine.specs.declared.answers.Stepped.{Stepped}
 use Rattle.fs_machine.specs.declared.answers.Stepped.TheVariants.{Idle, Took, Busy, LetGo, Helped, Committed, CarriedOut, Returned}
@@ -133,7 +133,7 @@ ordered_begin s new seat call (Ok c) (off, number, r) k = go (reserves (form cal
     go (Some shape) (n, less, free, same) = ordered_by s new c (new_op seat call (Some n)) (ap (λ (x : State). x.ops) same) (λ st on u. none_some None st refl on) k
 
 ordered : (s : State) → Run s → Ordered s
-ordered s (Start limit tree graph h) = λ c op st e on u. cc
+ordered s (Starting limit tree graph h) = λ c op st e on u. cc
 ordered s (Beginning {old} seat call answer new run begin) = ordered_begin old s seat call answer begin (ordered old run)
 ordered s (Stepping {old} seat answer new run step) = ordered_step old s seat answer run step (ordered old run)
 

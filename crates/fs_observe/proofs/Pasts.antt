@@ -3,37 +3,37 @@ use Rattle.std.proofs.Common.{◌≡◌, ◌+◌, List, [], ◌∷◌, ◌++◌,
 use mathlib.Core.List.{IsPrefix}
 use Rattle.fs_calls.specs.declared.call.Call.{Call}
 use Rattle.fs_observe.specs.declared.history.Noted.{Noted}
-use Rattle.fs_observe.specs.declared.history.Noted.TheVariants.{Start, Played}
+use Rattle.fs_observe.specs.declared.history.Noted.TheVariants.{Began, Played}
 use Rattle.fs_observe.specs.Pasts.{start_of, calls_of, past_of, AllPlayed, IsNoted, GoesOn}
 
 pub calls_append : (xs ys : List Noted) → calls_of (xs ++ ys) ≡ calls_of xs ++ calls_of ys
 calls_append [] ys = refl
-calls_append (Start tree ∷ xs) ys = calls_append xs ys
+calls_append (Began tree ∷ xs) ys = calls_append xs ys
 calls_append (Played call ∷ xs) ys = ap (λ (l : List Call). call ∷ l) (calls_append xs ys)
 
 pub start_append : (xs ys : List Noted) → IsNoted xs → start_of (xs ++ ys) ≡ start_of xs
 start_append [] ys h = absurd h
-start_append (Start tree ∷ xs) ys h = refl
+start_append (Began tree ∷ xs) ys h = refl
 start_append (Played call ∷ xs) ys h = absurd h
 
 played_push : (xs : List Noted) (call : Call) → AllPlayed xs → AllPlayed (xs ++ Played call ∷ [])
 played_push [] call h = tt
-played_push (Start tree ∷ xs) call h = absurd h
+played_push (Began tree ∷ xs) call h = absurd h
 played_push (Played first ∷ xs) call h = played_push xs call h
 
 pub noted_push : (xs : List Noted) (call : Call) → IsNoted xs → IsNoted (xs ++ Played call ∷ [])
 noted_push [] call h = absurd h
-noted_push (Start tree ∷ xs) call h = played_push xs call h
+noted_push (Began tree ∷ xs) call h = played_push xs call h
 noted_push (Played first ∷ xs) call h = absurd h
 
 played_length : (xs : List Noted) → AllPlayed xs → length xs ≡ length (calls_of xs)
 played_length [] h = refl
-played_length (Start tree ∷ xs) h = absurd h
+played_length (Began tree ∷ xs) h = absurd h
 played_length (Played call ∷ xs) h = omega (arith, played_length xs h)
 
 pub noted_length : (xs : List Noted) → IsNoted xs → length xs ≡ length (calls_of xs) + 1
 noted_length [] h = absurd h
-noted_length (Start tree ∷ xs) h = omega (arith, played_length xs h)
+noted_length (Began tree ∷ xs) h = omega (arith, played_length xs h)
 noted_length (Played call ∷ xs) h = absurd h
 
 -- with one more call

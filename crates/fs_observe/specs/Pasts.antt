@@ -2,23 +2,24 @@
 use Rattle.std.specs.Prelude.{◌≡◌, List, [], ◌∷◌}
 use mathlib.Core.List.{IsPrefix}
 use Rattle.fs_calls.specs.Tree.{Tree, root_tree}
+use Rattle.fs_calls.specs.Starts.{Start}
 use Rattle.fs_calls.specs.declared.call.Call.{Call}
 use Rattle.fs_observe.specs.declared.history.Noted.{Noted}
-use Rattle.fs_observe.specs.declared.history.Noted.TheVariants.{Start, Played}
+use Rattle.fs_observe.specs.declared.history.Noted.TheVariants.{Began, Played}
 
 -- a start tree, and a list of calls
 pub record Past : Type 0 where
-  pub start : Tree
+  pub start : Start
   pub list : List Call
 
 abbrev pub start_of : List Noted → Tree
 start_of [] = root_tree
-start_of (Start tree ∷ log) = tree
+start_of (Began tree ∷ log) = tree
 start_of (Played call ∷ log) = root_tree
 
 abbrev pub calls_of : List Noted → List Call
 calls_of [] = []
-calls_of (Start tree ∷ log) = calls_of log
+calls_of (Began tree ∷ log) = calls_of log
 calls_of (Played call ∷ log) = call ∷ calls_of log
 
 abbrev pub past_of : List Noted → Past
@@ -26,13 +27,13 @@ past_of log = record { start = start_of log; list = calls_of log }
 
 abbrev pub AllPlayed : List Noted → Type 0
 AllPlayed [] = Unit {0}
-AllPlayed (Start tree ∷ log) = ⊥
+AllPlayed (Began tree ∷ log) = ⊥
 AllPlayed (Played call ∷ log) = AllPlayed log
 
 -- the start tree comes first, and then calls alone
 abbrev pub IsNoted : List Noted → Type 0
 IsNoted [] = ⊥
-IsNoted (Start tree ∷ log) = AllPlayed log
+IsNoted (Began tree ∷ log) = AllPlayed log
 IsNoted (Played call ∷ log) = ⊥
 
 -- q goes on from p: it has the same start tree, and its list begins with p's

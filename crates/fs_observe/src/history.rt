@@ -13,7 +13,7 @@ use std::sync::ledger::Ledger;
 /// An entry of a history: the tree at which it starts, which is the first, or a call. No value of it is made.
 #[derive(Drop)]
 pub enum Noted {
-    Start(SeqTree),
+    Began(SeqTree),
     Played(Call),
 }
 
@@ -74,9 +74,9 @@ struct AddStart;
 
 impl Plain<SeqTree, Noted, u64> for AddStart {
     ghost use Rattle.std.specs.Prelude.{None};
-    ghost use Rattle.fs_observe.specs.declared.history.Noted.TheVariants.{Start};
+    ghost use Rattle.fs_observe.specs.declared.history.Noted.TheVariants.{Began};
 
-    ghost ask = { λ tree. Start tree };
+    ghost ask = { λ tree. Began tree };
 
     ghost state = { λ tree. None };
 }
@@ -246,7 +246,7 @@ impl<N: Named> History<N> {
     pub fn begin(&self, token: Token, tree: &SeqTree) -> Option<Front<N>>
         requires book { token.book ≡ N.book }
         requires empty { token.log ≡ [] }
-        ensures { IfSome result (λ front. front ≡ Noted.Start tree.now ∷ []) }
+        ensures { IfSome result (λ front. front ≡ Noted.Began tree.now ∷ []) }
     {
         let mut seen = token;
         let mut offer: Offer<Noted, u64, Law, Nothing> = seen.plain::<Nothing, SeqTree, AddStart>(

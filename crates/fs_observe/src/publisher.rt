@@ -44,13 +44,13 @@ impl<N: Named> Model for Publisher<N> {
     ghost use Rattle.fs_observe.specs.Observed.{Knows};
     ghost use Rattle.fs_observe.specs.Pasts.{start_of, calls_of};
     ghost use Rattle.fs_observe.specs.Tied.{Tied, entered};
-    ghost use Rattle.fs_observe.specs.declared.history.Noted.TheVariants.{Start};
+    ghost use Rattle.fs_observe.specs.declared.history.Noted.TheVariants.{Began};
 
     ghost Value = { Lists };
 
     ghost view = { λ p. record { start = start_of p.start; published = calls_of p.writer.desk.shown.value.token.log; taken = calls_of p.front; entered = calls_of (entered p.front p.held) } };
 
-    ghost invariant = { λ p. Tied N.book p.writer.desk.shown.value (drop p.writer.behind p.writer.log.items) p.front p.held × Knows N.book (known_by p.writer.desk.place) × (p.start ≡ Start (start_of p.start) ∷ []) × (start_of p.front ≡ start_of p.start) };
+    ghost invariant = { λ p. Tied N.book p.writer.desk.shown.value (drop p.writer.behind p.writer.log.items) p.front p.held × Knows N.book (known_by p.writer.desk.place) × (p.start ≡ Began (start_of p.start) ∷ []) × (start_of p.front ≡ start_of p.start) };
 }
 
 /// A copy that has played nothing.

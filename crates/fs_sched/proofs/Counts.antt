@@ -15,7 +15,7 @@ use Rattle.fs_machine.specs.Moves.{target, took, took_by}
 use Rattle.fs_machine.specs.Records.{Holdings, Phase, Walking, Placed, Finished, Record, Records}
 use Rattle.fs_timeline.specs.Timeline.{begins, commit_count}
 use Rattle.fs_machine.specs.Headline.{IsIdle}
-use Rattle.fs_machine.specs.States.{State, Run, Start, Beginning, Stepping, Begun, Begins, Reserves, began, new_op, Step, taking, letting_go, helping, carrying, committing, returning}
+use Rattle.fs_machine.specs.States.{State, Run, Starting, Beginning, Stepping, Begun, Begins, Reserves, began, new_op, Step, taking, letting_go, helping, carrying, committing, returning}
 use Rattle.fs_machine.specs.declared.answers.Refusal.TheVariants.{SeatBusy, Full, OutOfMemory}
 use Rattle.fs_machine.specs.declared.answers.Stepped.{Stepped}
 use Rattle.fs_machine.specs.declared.answers.Stepped.TheVariants.{Idle, Took, Busy, LetGo, Helped, Committed, CarriedOut, Returned}
@@ -166,7 +166,7 @@ tallied_begin s new seat call (Ok c) (off, number, r) t = go (reserves (form cal
     go (Some shape) (n, less, unused, same) = subst Tallied (sym same) (tallied_began s seat call c (Some n) (reserved_in n shape s.graph) number t)
 
 tallied : (s : State) → Run s → Tallied s
-tallied s (Start limit tree graph is) = record { returned = refl; committed = refl }
+tallied s (Starting limit tree graph is) = record { returned = refl; committed = refl }
 tallied s (Beginning {old} seat call answer new run begin) = tallied_begin old s seat call answer begin (tallied old run)
 tallied s (Stepping {old} seat answer new run step) = tallied_step old s seat answer run step (tallied old run)
 

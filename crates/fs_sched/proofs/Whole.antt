@@ -13,7 +13,7 @@ use Rattle.fs_timeline.specs.declared.entry.Entry.{Entry}
 use Rattle.fs_timeline.specs.declared.entry.Entry.TheVariants.{Begin, Commit, Return}
 use Rattle.fs_machine.specs.Records.{Record}
 use Rattle.fs_machine.specs.Headline.{IsIdle}
-use Rattle.fs_machine.specs.States.{State, Run, Start, Begins, Reserves, Step}
+use Rattle.fs_machine.specs.States.{State, Run, Starting, Begins, Reserves, Step}
 use Rattle.fs_machine.specs.declared.answers.Stepped.{Stepped}
 use Rattle.fs_machine.specs.declared.answers.Stepped.TheVariants.{Idle, Took, Busy, LetGo, Helped, Committed, CarriedOut, Returned}
 use Rattle.fs_laws.proofs.events.OneCallChanged.{Place, Here, Else, place}
@@ -157,7 +157,7 @@ owed_all (calls ∷ lists) =
 
 pub kept_start : (lists : List (List Call)) → ListFacts lists (start (length lists))
 kept_start lists = record {
-  run = Start NODE_LIMIT root_tree empty_graph (starts_empty NODE_LIMIT (omega arith));
+  run = Starting NODE_LIMIT root_tree empty_graph (starts_empty NODE_LIMIT (omega arith));
   same = length_zeros (length lists);
   seats = λ x d on. absurd (none_some None d refl on);
   all = (let h : owed one lists (replicate (length lists) 0) ≡ calls_in lists = owed_all lists in omega (arith, h));

@@ -3,7 +3,7 @@ use Rattle.std.proofs.Common.{◌≡◌, ℕ, zero, suc, ◌<◌, true, false, c
 use Rattle.std.proofs.lemmas.Bool.{eqb-true, or_left}
 use Rattle.std.proofs.Math.Seq.{take-append_seam}
 use mathlib.Core.List.{IsPrefix}
-use Rattle.fs_calls.specs.Tree.{Tree}
+use Rattle.fs_calls.specs.Starts.{Start}
 use Rattle.fs_calls.specs.Outcomes.{play, reply}
 use Rattle.fs_calls.specs.declared.call.Call.{Call}
 use Rattle.fs_calls.specs.declared.reply.Reply.{Reply}
@@ -43,7 +43,7 @@ call_of_grows c xs (y ∷ ys) h =
     ap (call_of c) (sym (append_assoc xs (y ∷ []) ys)) ∙ call_of_grows c (xs ++ y ∷ []) ys more ∙ call_of-kept c xs y h
 
 -- the reply that is due to a call that has committed stays
-due_grows : (start : Tree) (c : ℕ) (xs ys : List Entry) → IsWellFormed (xs ++ ys) → has_committed c xs ≡ true → due start c (xs ++ ys) ≡ due start c xs
+due_grows : (start : Start) (c : ℕ) (xs ys : List Entry) → IsWellFormed (xs ++ ys) → has_committed c xs ≡ true → due start c (xs ++ ys) ≡ due start c xs
 due_grows start c xs [] w h = ap (due start c) (append_nil xs)
 due_grows start c xs (y ∷ ys) w h =
     let all : (xs ++ y ∷ []) ++ ys ≡ xs ++ y ∷ ys = append_assoc xs (y ∷ []) ys in
@@ -101,7 +101,7 @@ around (x ∷ es) zero e h = ([], es, cc h)
 around (x ∷ es) (suc i) e h = let r = around es i e h in (x ∷ r.0, r.1, ap (λ (l : List Entry). x ∷ l) r.2)
 
 -- a lawful timeline's Return has the reply that is due
-pub returned_due : (start : Tree) (es : List Entry) (i c : ℕ) (r : Reply) → IsLawful start es → slice_get es i ≡ Some (Return c r) → due start c es ≡ Some r
+pub returned_due : (start : Start) (es : List Entry) (i c : ℕ) (r : Reply) → IsLawful start es → slice_get es i ≡ Some (Return c r) → due start c es ≡ Some r
 returned_due start es i c r law h =
     let at = around es i (Return c r) h in
     let wf : IsWellFormed (at.0 ++ Return c r ∷ at.1) = subst (λ (l : List Entry). IsWellFormed l) at.2 law.well_formed in
@@ -116,12 +116,12 @@ placed es c p h =
       | false ↦ λ k. absurd (cc)
     ] h
 
-told_call : (start : Tree) (calls : List Call) (o : Option Call) (r : Reply) → reply_after start calls o ≡ Some r → (call : Call) × (o ≡ Some call) × (r ≡ reply (play start calls) call)
+told_call : (start : Start) (calls : List Call) (o : Option Call) (r : Reply) → reply_after start calls o ≡ Some r → (call : Call) × (o ≡ Some call) × (r ≡ reply (play start calls) call)
 told_call start calls None r h = absurd (cc)
 told_call start calls (Some call) r h = (call, refl, sym (cc h))
 
 -- what a call is told of: its place, itself and its reply
-pub is_told_by : (start : Tree) (es : List Entry) (i c p : ℕ) (call : Call) (r : Reply) → IsLawful start es → place_of c es ≡ Some p → p < length (commits es) → slice_get (commits es) p ≡ Some call → slice_get es i ≡ Some (Return c r) → IsListed start (commits es) p call r
+pub is_told_by : (start : Start) (es : List Entry) (i c p : ℕ) (call : Call) (r : Reply) → IsLawful start es → place_of c es ≡ Some p → p < length (commits es) → slice_get (commits es) p ≡ Some call → slice_get es i ≡ Some (Return c r) → IsListed start (commits es) p call r
 is_told_by start es i c p call r law at inside is returned =
     let where_ = placed es c p at in
     let due_is = told_call start (commits (before_commit c es)) (call_of c es) r (returned_due start es i c r law returned) in

@@ -2,7 +2,7 @@
 use Rattle.std.proofs.Common.{◌≡◌, ℕ, List, [], ◌∷◌, ◌++◌, length, Option, Some, None, Result, Ok, Err, OnOk, OnErr, slice_get, sym, ap, subst, arith, length-append}
 use mathlib.Core.List.{IsPrefix}
 use Rattle.fs_names.specs.Shapes.{Shape}
-use Rattle.fs_calls.specs.Tree.{Tree}
+use Rattle.fs_calls.specs.Starts.{Start}
 use Rattle.fs_calls.specs.Forms.{form, reserves}
 use Rattle.fs_calls.specs.declared.call.Call.{Call}
 use Rattle.fs_timeline.specs.Timeline.{commits, commits_of, IsLawful}
@@ -22,7 +22,7 @@ use Rattle.fs_share.specs.Boards.{AreBeginnings}
 kept : (es new : List Entry) → new ≡ es → IsPrefix (commits es) (commits new)
 kept es new h = subst (λ (l : List Entry). IsPrefix (commits es) (commits l)) (sym h) (prefix_self (commits es))
 
-more : (start : Tree) (es new : List Entry) (e : Entry) → IsLawful start es → new ≡ es ++ e ∷ [] → IsPrefix (commits es) (commits new)
+more : (start : Start) (es new : List Entry) (e : Entry) → IsLawful start es → new ≡ es ++ e ∷ [] → IsPrefix (commits es) (commits new)
 more start es new e law h = subst (λ (l : List Entry). IsPrefix (commits es) (commits l)) (sym h) (commits_of (es ++ e ∷ []) (e ∷ []), sym (commits-push es e (begun_first es law.well_formed)))
 
 abbrev line : State → List Entry
@@ -96,5 +96,5 @@ published_all commits old new h published taken entered = record {
   one_more = omega (arith, ap length taken, ap length entered, h.one_more);
 }
 
-pub none_taken : (start : Tree) (lists : Lists) → lists ≡ record { start = start; published = []; taken = []; entered = [] } → AreBeginnings [] lists
+pub none_taken : (start : Start) (lists : Lists) → lists ≡ record { start = start; published = []; taken = []; entered = [] } → AreBeginnings [] lists
 none_taken start lists h = subst (λ (l : Lists). AreBeginnings [] l) (sym h) (record { published = prefix_self []; taken = prefix_self []; entered = prefix_self []; one_more = omega arith })

@@ -1,7 +1,7 @@
 -- What the core's lock keeps, as its callers see it, and what it keeps of the publisher's lists.
 use Rattle.std.specs.Prelude.{◌≡◌, ℕ, ◌+◌, ◌<◌, ◌≤◌, List, length, take, slice_get, Some}
 use mathlib.Core.List.{IsPrefix}
-use Rattle.fs_calls.specs.Tree.{Tree}
+use Rattle.fs_calls.specs.Starts.{Start}
 use Rattle.fs_calls.specs.Outcomes.{play, reply}
 use Rattle.fs_calls.specs.declared.call.Call.{Call}
 use Rattle.fs_calls.specs.declared.reply.Reply.{Reply}
@@ -21,7 +21,7 @@ pub record AreBeginnings (commits : List Call) (lists : Lists) : Type 0 where
   pub one_more : length lists.entered ≤ length lists.taken + 1
 
 -- the call stands at the place in the list, and the reply is that of the tree which the calls before it play on the start tree
-pub record IsListed (start : Tree) (list : List Call) (place : ℕ) (call : Call) (answer : Reply) : Type 0 where
+pub record IsListed (start : Start) (list : List Call) (place : ℕ) (call : Call) (answer : Reply) : Type 0 where
   pub inside : place < length list
   pub stands : slice_get list place ≡ Some call
   pub replied : answer ≡ reply (play start (take place list)) call

@@ -5,7 +5,7 @@ use Rattle.std.proofs.lemmas.Bool.{eqb-true, eq-eqb, or_cases, or_left, or_right
 use Rattle.std.proofs.lemmas.List.Folds.{list_any-append}
 use Rattle.fs_names.specs.Failures.{or_else}
 use Rattle.fs_names.proofs.FailureLemmas.{or_else-assoc}
-use Rattle.fs_calls.specs.Tree.{Tree}
+use Rattle.fs_calls.specs.Starts.{Start}
 use Rattle.fs_calls.specs.Outcomes.{play, after}
 use Rattle.fs_calls.specs.declared.call.Call.{Call}
 use Rattle.fs_timeline.specs.Timeline.{is_begin, is_commit, is_return, has_begun, has_committed, begun_on, last_on, begun_as, call_of, with_call, commits_of, commits, before_commit, reply_after, due, IsNext, Each, IsWellFormed}
@@ -120,19 +120,19 @@ before_commit-first c (f ∷ es) h =
     ] h
 
 -- the reply that is due to a call that has committed stays
-pub due-kept : (start : Tree) (c : ℕ) (es : List Entry) (e : Entry) → BegunFirst es → has_committed c es ≡ true → due start c (es ++ e ∷ []) ≡ due start c es
+pub due-kept : (start : Start) (c : ℕ) (es : List Entry) (e : Entry) → BegunFirst es → has_committed c es ≡ true → due start c (es ++ e ∷ []) ≡ due start c es
 due-kept start c es e begun h =
     ap (λ b. reply_after start (commits b) (call_of c (es ++ e ∷ []))) (before_commit-kept c es e h)
     ∙ ap (reply_after start (commits (before_commit c es))) (call_of-kept c es e (begun c h))
 
 -- the reply that is due to a call that commits now
-pub due-first : (start : Tree) (c : ℕ) (es : List Entry) → has_begun c es ≡ true → has_committed c es ≡ false → due start c (es ++ Commit c ∷ []) ≡ reply_after start (commits es) (call_of c es)
+pub due-first : (start : Start) (c : ℕ) (es : List Entry) → has_begun c es ≡ true → has_committed c es ≡ false → due start c (es ++ Commit c ∷ []) ≡ reply_after start (commits es) (call_of c es)
 due-first start c es begun h =
     ap (λ b. reply_after start (commits b) (call_of c (es ++ Commit c ∷ []))) (before_commit-first c es h)
     ∙ ap (reply_after start (commits es)) (call_of-kept c es (Commit c) begun)
 
 -- the tree after one more call
-pub play-push : (start : Tree) (calls : List Call) (call : Call) → play start (calls ++ call ∷ []) ≡ after (play start calls) call
+pub play-push : (start : Start) (calls : List Call) (call : Call) → play start (calls ++ call ∷ []) ≡ after (play start calls) call
 play-push start [] call = refl
 play-push start (first ∷ calls) call = play-push (after start first) calls call
 

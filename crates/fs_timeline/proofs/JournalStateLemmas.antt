@@ -3,7 +3,7 @@ use Rattle.std.proofs.Common.{◌≡◌, ℕ, Bool, true, false, not, ◌||◌, 
 use Rattle.std.proofs.lemmas.List.{take_more, drop_all}
 use Rattle.std.proofs.lemmas.Bool.{eqb-true, eq-eqb, ne_eqb, or_left, or_right, cases_Bool, cases_eq}
 use Rattle.fs_names.specs.Failures.{check, first_failure, or_else}
-use Rattle.fs_calls.specs.Tree.{Tree}
+use Rattle.fs_calls.specs.Starts.{Start}
 use Rattle.fs_calls.specs.Outcomes.{play, reply, after}
 use Rattle.fs_calls.specs.declared.call.Call.{Call}
 use Rattle.fs_calls.specs.declared.reply.Reply.{Reply}
@@ -20,7 +20,7 @@ use Rattle.fs_timeline.proofs.AppendLemmas.{BegunFirst, begun_first-push, or_fal
 use Rattle.fs_timeline.proofs.TimelineLemmas.{append_nil}
 use Rattle.fs_timeline.proofs.VerdictLemmas.{fits_from_none, lawful_is_lawful}
 
-is_some-told : (start : Tree) (calls : List Call) (o : Option Call) → is_some (reply_after start calls o) ≡ is_some o
+is_some-told : (start : Start) (calls : List Call) (o : Option Call) → is_some (reply_after start calls o) ≡ is_some o
 is_some-told start calls None = refl
 is_some-told start calls (Some call) = refl
 
@@ -29,20 +29,20 @@ no_call None h = refl
 no_call (Some call) h = absurd (cc)
 
 -- a call has a reply that is due exactly where it has committed
-is_some-committed_reply : (start : Tree) (c : ℕ) (es : List Entry) → BegunFirst es → is_some (committed_reply start c es) ≡ has_committed c es
+is_some-committed_reply : (start : Start) (c : ℕ) (es : List Entry) → BegunFirst es → is_some (committed_reply start c es) ≡ has_committed c es
 is_some-committed_reply start c es begun =
     elim (has_committed c es) as (λ b. has_committed c es ≡ b → is_some (cond b (due start c es) None) ≡ b) [
       | true ↦ λ h. is_some-told start (commits (before_commit c es)) (call_of c es) ∙ is_some-call_of c es ∙ begun c h
       | false ↦ λ h. refl
     ] refl
 
-knows_begun : (start : Tree) (k : JournalState) (es : List Entry) → IsTrueOf start k es → (c : ℕ) → is_some (k.calls c) ≡ has_begun c es
+knows_begun : (start : Start) (k : JournalState) (es : List Entry) → IsTrueOf start k es → (c : ℕ) → is_some (k.calls c) ≡ has_begun c es
 knows_begun start k es h c = ap is_some (h.calls_are c) ∙ is_some-call_of c es
 
-knows_committed : (start : Tree) (k : JournalState) (es : List Entry) → IsTrueOf start k es → (c : ℕ) → is_some (k.replies c) ≡ has_committed c es
+knows_committed : (start : Start) (k : JournalState) (es : List Entry) → IsTrueOf start k es → (c : ℕ) → is_some (k.replies c) ≡ has_committed c es
 knows_committed start k es h c = ap is_some (h.replies_are c) ∙ is_some-committed_reply start c es h.begun_first
 
-is_waiting-is_open : (start : Tree) (k : JournalState) (es : List Entry) → IsTrueOf start k es → (o : Option ℕ) → is_waiting k.returned o ≡ is_open o es
+is_waiting-is_open : (start : Start) (k : JournalState) (es : List Entry) → IsTrueOf start k es → (o : Option ℕ) → is_waiting k.returned o ≡ is_open o es
 is_waiting-is_open start k es h None = refl
 is_waiting-is_open start k es h (Some c) = ap not (h.returned_are c)
 
@@ -54,7 +54,7 @@ return_checks true returned due r = refl
 return_checks false returned due r = refl
 
 -- what is known tells what is wrong with the next entry
-pub known_fault-entry_fault : (start : Tree) (k : JournalState) (es : List Entry) (e : Entry) → IsTrueOf start k es → known_fault k e ≡ entry_fault start es e
+pub known_fault-entry_fault : (start : Start) (k : JournalState) (es : List Entry) (e : Entry) → IsTrueOf start k es → known_fault k e ≡ entry_fault start es e
 known_fault-entry_fault start k es (Begin c seat call) h =
     let begun = knows_begun start k es h c in
     let busy = ap (is_waiting k.returned) (h.last_are seat) ∙ is_waiting-is_open start k es h (last_on seat es) in
@@ -75,14 +75,14 @@ changed_here f n a m h = let same = eq-eqb n m (sym h) in rw same refl
 changed_apart : {A : Type 0} (f : ℕ → A) (n : ℕ) (a : A) (m : ℕ) → (m ≡ n → ⊥) → changed f n a m ≡ f m
 changed_apart f n a m h = let apart = ne_eqb n m (λ e. h (sym e)) in rw apart refl
 
-committed_reply-yes : (start : Tree) (c : ℕ) (es : List Entry) → has_committed c es ≡ true → committed_reply start c es ≡ due start c es
+committed_reply-yes : (start : Start) (c : ℕ) (es : List Entry) → has_committed c es ≡ true → committed_reply start c es ≡ due start c es
 committed_reply-yes start c es h = ap (λ b. cond b (due start c es) None) h
 
-committed_reply-no : (start : Tree) (c : ℕ) (es : List Entry) → has_committed c es ≡ false → committed_reply start c es ≡ None
+committed_reply-no : (start : Start) (c : ℕ) (es : List Entry) → has_committed c es ≡ false → committed_reply start c es ≡ None
 committed_reply-no start c es h = ap (λ b. cond b (due start c es) None) h
 
 -- an entry that is no Commit of the call leaves the reply that is due to it
-committed_reply-kept : (start : Tree) (c : ℕ) (es : List Entry) (e : Entry) → BegunFirst es → is_commit c e ≡ false → committed_reply start c (es ++ e ∷ []) ≡ committed_reply start c es
+committed_reply-kept : (start : Start) (c : ℕ) (es : List Entry) (e : Entry) → BegunFirst es → is_commit c e ≡ false → committed_reply start c (es ++ e ∷ []) ≡ committed_reply start c es
 committed_reply-kept start c es e begun apart =
     let more = list_any-push (is_commit c) es e in
     ⊎_elim
@@ -94,7 +94,7 @@ committed_reply-kept start c es e begun apart =
     committed_reply-no start c (es ++ e ∷ []) now ∙ sym (committed_reply-no start c es h))
     (cases_Bool (has_committed c es))
 
-committed_reply-first : (start : Tree) (c : ℕ) (es : List Entry) (call : Call) → has_begun c es ≡ true → has_committed c es ≡ false → call_of c es ≡ Some call
+committed_reply-first : (start : Start) (c : ℕ) (es : List Entry) (call : Call) → has_begun c es ≡ true → has_committed c es ≡ false → call_of c es ≡ Some call
     → committed_reply start c (es ++ Commit c ∷ []) ≡ Some (reply (play start (commits es)) call)
 committed_reply-first start c es call begun h is =
     let now : has_committed c (es ++ Commit c ∷ []) ≡ true = list_any-push (is_commit c) es (Commit c) ∙ or_right _ _ (eq-eqb c c refl) in
@@ -104,7 +104,7 @@ no_commits-push : (es : List Entry) (e : Entry) → BegunFirst es → ((whole : 
 no_commits-push es e begun none = commits-push es e begun ∙ ap (λ xs. commits es ++ xs) (none (es ++ e ∷ [])) ∙ append_nil (commits es)
 
 -- the parts that each entry changes
-begin_call : (start : Tree) (k : JournalState) (es : List Entry) (c seat : ℕ) (call : Call) → IsTrueOf start k es → has_begun c es ≡ false
+begin_call : (start : Start) (k : JournalState) (es : List Entry) (c seat : ℕ) (call : Call) → IsTrueOf start k es → has_begun c es ≡ false
     → (q : ℕ) → changed k.calls c (Some call) q ≡ call_of q (es ++ Begin c seat call ∷ [])
 begin_call start k es c seat call h new q =
     ⊎_elim
@@ -118,7 +118,7 @@ begin_call start k es c seat call h new q =
     ∙ sym (call_of-push q es (Begin c seat call) ∙ ap (or_else (call_of q es)) other ∙ or_else-nothing (call_of q es)))
     (cases_eq q c)
 
-begin_last : (start : Tree) (k : JournalState) (es : List Entry) (c seat : ℕ) (call : Call) → IsTrueOf start k es
+begin_last : (start : Start) (k : JournalState) (es : List Entry) (c seat : ℕ) (call : Call) → IsTrueOf start k es
     → (q : ℕ) → changed k.last seat (Some c) q ≡ last_on q (es ++ Begin c seat call ∷ [])
 begin_last start k es c seat call h q =
     ⊎_elim
@@ -131,7 +131,7 @@ begin_last start k es c seat call h q =
     ∙ sym (last_on-push q es (Begin c seat call) ∙ ap (λ o. or_else o (last_on q es)) other))
     (cases_eq q seat)
 
-commit_reply : (start : Tree) (k : JournalState) (es : List Entry) (c : ℕ) (call : Call) → IsTrueOf start k es → has_begun c es ≡ true → has_committed c es ≡ false → call_of c es ≡ Some call
+commit_reply : (start : Start) (k : JournalState) (es : List Entry) (c : ℕ) (call : Call) → IsTrueOf start k es → has_begun c es ≡ true → has_committed c es ≡ false → call_of c es ≡ Some call
     → (q : ℕ) → changed k.replies c (Some (reply k.tree call)) q ≡ committed_reply start q (es ++ Commit c ∷ [])
 commit_reply start k es c call h begun first_time is q =
     ⊎_elim
@@ -147,7 +147,7 @@ one_commit-push : (es : List Entry) (c : ℕ) (call : Call) → BegunFirst es �
 one_commit-push es c call first_begun begun is =
     commits-push es (Commit c) first_begun ∙ ap (λ o. commits es ++ with_call o []) (call_of-kept c es (Commit c) begun ∙ is)
 
-return_returned : (start : Tree) (k : JournalState) (es : List Entry) (c : ℕ) (r : Reply) → IsTrueOf start k es
+return_returned : (start : Start) (k : JournalState) (es : List Entry) (c : ℕ) (r : Reply) → IsTrueOf start k es
     → (q : ℕ) → changed k.returned c true q ≡ has_returned q (es ++ Return c r ∷ [])
 return_returned start k es c r h q =
     ⊎_elim
@@ -160,7 +160,7 @@ return_returned start k es c r h q =
     (cases_eq q c)
 
 -- what is known stays true where a call begins
-true_of_begin : (start : Tree) (k : JournalState) (es : List Entry) (c seat : ℕ) (call : Call) → IsTrueOf start k es → has_begun c es ≡ false
+true_of_begin : (start : Start) (k : JournalState) (es : List Entry) (c seat : ℕ) (call : Call) → IsTrueOf start k es → has_begun c es ≡ false
     → IsTrueOf start (taken_in k (Begin c seat call)) (es ++ Begin c seat call ∷ [])
 true_of_begin start k es c seat call h new = record {
   calls_are = λ q. begin_call start k es c seat call h new q;
@@ -172,7 +172,7 @@ true_of_begin start k es c seat call h new = record {
 }
 
 -- what is known stays true where a call commits
-true_of_commit : (start : Tree) (k : JournalState) (es : List Entry) (c : ℕ) (call : Call) → IsTrueOf start k es → has_begun c es ≡ true → has_committed c es ≡ false → call_of c es ≡ Some call
+true_of_commit : (start : Start) (k : JournalState) (es : List Entry) (c : ℕ) (call : Call) → IsTrueOf start k es → has_begun c es ≡ true → has_committed c es ≡ false → call_of c es ≡ Some call
     → IsTrueOf start (played k c (Some call)) (es ++ Commit c ∷ [])
 true_of_commit start k es c call h begun first_time is = record {
   calls_are = λ q. h.calls_are q ∙ sym (call_of-push q es (Commit c) ∙ or_else-nothing (call_of q es));
@@ -184,7 +184,7 @@ true_of_commit start k es c call h begun first_time is = record {
 }
 
 -- what is known stays true where a call returns
-true_of_return : (start : Tree) (k : JournalState) (es : List Entry) (c : ℕ) (r : Reply) → IsTrueOf start k es → IsTrueOf start (taken_in k (Return c r)) (es ++ Return c r ∷ [])
+true_of_return : (start : Start) (k : JournalState) (es : List Entry) (c : ℕ) (r : Reply) → IsTrueOf start k es → IsTrueOf start (taken_in k (Return c r)) (es ++ Return c r ∷ [])
 true_of_return start k es c r h = record {
   calls_are = λ q. h.calls_are q ∙ sym (call_of-push q es (Return c r) ∙ or_else-nothing (call_of q es));
   replies_are = λ q. h.replies_are q ∙ sym (committed_reply-kept start q es (Return c r) h.begun_first refl);
@@ -199,7 +199,7 @@ known_call None h = absurd (cc)
 known_call (Some call) h = (call, refl)
 
 -- what is known stays true with an entry in which nothing is wrong
-pub true_of_taken_in : (start : Tree) (k : JournalState) (es : List Entry) (e : Entry) → IsTrueOf start k es → entry_fault start es e ≡ None → IsTrueOf start (taken_in k e) (es ++ e ∷ [])
+pub true_of_taken_in : (start : Start) (k : JournalState) (es : List Entry) (e : Entry) → IsTrueOf start k es → entry_fault start es e ≡ None → IsTrueOf start (taken_in k e) (es ++ e ∷ [])
 true_of_taken_in start k es (Begin c seat call) h none = true_of_begin start k es c seat call h (fits_from_none start es (Begin c seat call) none).0.0
 true_of_taken_in start k es (Commit c) h none =
     let fits = (fits_from_none start es (Commit c) none).0 in
@@ -215,32 +215,32 @@ take_at : (es : List Entry) (i : ℕ) (e : Entry) → i < length es → e ≡ ge
 take_at es i e h is = take_more es i e h ∙ ap (λ x. take i es ++ x ∷ []) (sym is)
 
 -- a verdict one entry further
-pub verdict_from-step : (start : Tree) (es : List Entry) (i place : ℕ) (e : Entry) → i < length es → e ≡ get_or es i e
+pub verdict_from-step : (start : Start) (es : List Entry) (i place : ℕ) (e : Entry) → i < length es → e ≡ get_or es i e
     → verdict_from start (take i es) place (drop i es) ≡ fault_or place (entry_fault start (take i es) e) (verdict_from start (take (i + 1) es) (place + 1) (drop (i + 1) es))
 verdict_from-step start es i place e h is =
     ap (verdict_from start (take i es) place) (drop_at es i e h is)
     ∙ ap (λ before. fault_or place (entry_fault start (take i es) e) (verdict_from start before (place + 1) (drop (i + 1) es))) (sym (take_at es i e h is))
 
 -- what a fault among the entries so far says of the verdict
-pub fault_is_verdict : (start : Tree) (es : List Entry) (i : ℕ) (e : Entry) (kind : FaultKind) → i < length es → e ≡ get_or es i e
+pub fault_is_verdict : (start : Start) (es : List Entry) (i : ℕ) (e : Entry) (kind : FaultKind) → i < length es → e ≡ get_or es i e
     → verdict start es ≡ verdict_from start (take i es) (i + 1) (drop i es) → Some kind ≡ entry_fault start (take i es) e → Fault (i + 1) kind ≡ verdict start es
 fault_is_verdict start es i e kind h is rest found =
     sym (rest ∙ verdict_from-step start es i (i + 1) e h is ∙ ap (λ o. fault_or (i + 1) o (verdict_from start (take (i + 1) es) (i + 1 + 1) (drop (i + 1) es))) (sym found))
 
 -- an entry in which nothing is wrong leaves the verdict to the rest
-pub verdict_goes_on : (start : Tree) (es : List Entry) (i : ℕ) (e : Entry) → i < length es → e ≡ get_or es i e
+pub verdict_goes_on : (start : Start) (es : List Entry) (i : ℕ) (e : Entry) → i < length es → e ≡ get_or es i e
     → verdict start es ≡ verdict_from start (take i es) (i + 1) (drop i es) → None ≡ entry_fault start (take i es) e → verdict start es ≡ verdict_from start (take (i + 1) es) (i + 1 + 1) (drop (i + 1) es)
 verdict_goes_on start es i e h is rest none =
     rest ∙ verdict_from-step start es i (i + 1) e h is ∙ ap (λ o. fault_or (i + 1) o (verdict_from start (take (i + 1) es) (i + 1 + 1) (drop (i + 1) es))) (sym none)
 
 -- what is known stays true, one entry further
-pub true_of_more : (start : Tree) (k : JournalState) (es : List Entry) (i : ℕ) (e : Entry) → i < length es → e ≡ get_or es i e
+pub true_of_more : (start : Start) (k : JournalState) (es : List Entry) (i : ℕ) (e : Entry) → i < length es → e ≡ get_or es i e
     → IsTrueOf start k (take i es) → None ≡ entry_fault start (take i es) e → IsTrueOf start (taken_in k e) (take (i + 1) es)
 true_of_more start k es i e h is so_far none = rw (take_at es i e h is) (true_of_taken_in start k (take i es) e so_far (sym none))
 
 -- where no entry is left, nothing is wrong
-pub end_is_lawful : (start : Tree) (es : List Entry) (i : ℕ) → length es ≤ i → verdict start es ≡ verdict_from start (take i es) (i + 1) (drop i es) → Lawful ≡ verdict start es
+pub end_is_lawful : (start : Start) (es : List Entry) (i : ℕ) → length es ≤ i → verdict start es ≡ verdict_from start (take i es) (i + 1) (drop i es) → Lawful ≡ verdict start es
 end_is_lawful start es i h rest = sym (rest ∙ ap (verdict_from start (take i es) (i + 1)) (drop_all i es h))
 
-pub lawful_by_verdict : (start : Tree) (es : List Entry) (v : Verdict) → v ≡ verdict start es → (v ≡ Lawful) ↔ IsLawful start es
+pub lawful_by_verdict : (start : Start) (es : List Entry) (v : Verdict) → v ≡ verdict start es → (v ≡ Lawful) ↔ IsLawful start es
 lawful_by_verdict start es v h = subst (λ w. (w ≡ Lawful) ↔ IsLawful start es) (sym h) (lawful_is_lawful start es)

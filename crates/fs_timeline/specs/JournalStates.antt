@@ -2,6 +2,7 @@
 use Rattle.std.specs.Prelude.{◌≡◌, ℕ, Bool, true, false, List, [], ◌∷◌, not, Option, Some, None, is_some, if◌then◌else◌, ◌==◌}
 use Rattle.fs_names.specs.Failures.{check, first_failure}
 use Rattle.fs_calls.specs.Tree.{Tree}
+use Rattle.fs_calls.specs.Starts.{Start}
 use Rattle.fs_calls.specs.Outcomes.{play, reply, after}
 use Rattle.fs_calls.specs.declared.call.Call.{Call}
 use Rattle.fs_calls.specs.declared.reply.Reply.{Reply}
@@ -61,11 +62,11 @@ taken_in k (Commit c) = played k c (k.calls c)
 taken_in k (Return c r) = record k { returned = changed k.returned c true }
 
 -- the reply that is due to a call that has committed
-abbrev pub committed_reply : Tree → ℕ → List Entry → Option Reply
+abbrev pub committed_reply : Start → ℕ → List Entry → Option Reply
 committed_reply start c es = if has_committed c es then due start c es else None
 
 -- what is known is true of the entries, from a start tree
-pub record IsTrueOf (start : Tree) (k : JournalState) (es : List Entry) : Type 0 where
+pub record IsTrueOf (start : Start) (k : JournalState) (es : List Entry) : Type 0 where
   pub calls_are : (c : ℕ) → k.calls c ≡ call_of c es
   pub replies_are : (c : ℕ) → k.replies c ≡ committed_reply start c es
   pub returned_are : (c : ℕ) → k.returned c ≡ has_returned c es

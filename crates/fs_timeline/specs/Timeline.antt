@@ -2,7 +2,7 @@
 use Rattle.std.specs.Prelude.{◌≡◌, ℕ, ◌+◌, Bool, true, false, List, [], ◌∷◌, ◌++◌, not, map, ◌==◌, if◌then◌else◌, Option, Some, None}
 use Rattle.std.specs.List.{list_any}
 use Rattle.fs_names.specs.Failures.{or_else, first_failure}
-use Rattle.fs_calls.specs.Tree.{Tree}
+use Rattle.fs_calls.specs.Starts.{Start}
 use Rattle.fs_calls.specs.Outcomes.{play, reply}
 use Rattle.fs_calls.specs.declared.call.Call.{Call}
 use Rattle.fs_calls.specs.declared.reply.Reply.{Reply}
@@ -96,12 +96,12 @@ before_commit c [] = []
 before_commit c (e ∷ es) = if is_commit c e then [] else e ∷ before_commit c es
 
 -- the reply that the sequential tree gives a call after these calls, from a start tree
-abbrev pub reply_after : Tree → List Call → Option Call → Option Reply
+abbrev pub reply_after : Start → List Call → Option Call → Option Reply
 reply_after start calls None = None
 reply_after start calls (Some call) = Some (reply (play start calls) call)
 
 -- the reply that is due to the call of a number
-abbrev pub due : Tree → ℕ → List Entry → Option Reply
+abbrev pub due : Start → ℕ → List Entry → Option Reply
 due start c es = reply_after start (commits (before_commit c es)) (call_of c es)
 
 -- the entry may come next: a call begins once, on a seat whose last call has returned; commits once, after its Begin; returns once, after its Commit
@@ -111,7 +111,7 @@ IsNext before (Commit c) = (has_begun c before ≡ true) × (has_committed c bef
 IsNext before (Return c r) = (has_committed c before ≡ true) × (has_returned c before ≡ false)
 
 -- a returned reply is the one that is due
-abbrev pub IsAnswered : Tree → List Entry → Entry → Type 0
+abbrev pub IsAnswered : Start → List Entry → Entry → Type 0
 IsAnswered start before (Begin c seat call) = Unit {0}
 IsAnswered start before (Commit c) = Unit {0}
 IsAnswered start before (Return c r) = due start c before ≡ Some r
@@ -126,7 +126,7 @@ abbrev pub IsWellFormed : List Entry → Type 0
 IsWellFormed es = Each IsNext [] es
 
 -- well formed, and each reply is the one that is due, where the commits are played from a start tree
-pub record IsLawful (start : Tree) (es : List Entry) : Type 0 where
+pub record IsLawful (start : Start) (es : List Entry) : Type 0 where
   pub well_formed : IsWellFormed es
   pub replies : Each (IsAnswered start) [] es
 

@@ -1,7 +1,7 @@
 -- What the checker says of a timeline: the place and the kind of the first entry that does not fit.
 use Rattle.std.specs.Prelude.{ℕ, ◌+◌, Bool, false, List, [], ◌∷◌, ◌++◌, not, Option, Some, None}
 use Rattle.fs_names.specs.Failures.{check, first_failure}
-use Rattle.fs_calls.specs.Tree.{Tree}
+use Rattle.fs_calls.specs.Starts.{Start}
 use Rattle.fs_calls.specs.Replies.{same_reply}
 use Rattle.fs_calls.specs.declared.reply.Reply.{Reply}
 use Rattle.fs_timeline.specs.Timeline.{has_begun, has_committed, has_returned, is_busy, due}
@@ -18,7 +18,7 @@ is_due None r = false
 is_due (Some due) r = same_reply due r
 
 -- what is wrong with an entry after those before it, the first kind that holds
-abbrev pub entry_fault : Tree → List Entry → Entry → Option FaultKind
+abbrev pub entry_fault : Start → List Entry → Entry → Option FaultKind
 entry_fault start before (Begin c seat call) = first_failure
     (check (has_begun c before) BeginTwice
     ∷ check (is_busy seat before) SeatBusy
@@ -39,10 +39,10 @@ fault_or place None later = later
 fault_or place (Some kind) later = Fault place kind
 
 -- the verdict on entries of which the first has this place, after those before it
-abbrev pub verdict_from : Tree → List Entry → ℕ → List Entry → Verdict
+abbrev pub verdict_from : Start → List Entry → ℕ → List Entry → Verdict
 verdict_from start before place [] = Lawful
 verdict_from start before place (e ∷ es) = fault_or place (entry_fault start before e) (verdict_from start (before ++ e ∷ []) (place + 1) es)
 
 -- the verdict on a timeline, from a start tree
-abbrev pub verdict : Tree → List Entry → Verdict
+abbrev pub verdict : Start → List Entry → Verdict
 verdict start es = verdict_from start [] 1 es

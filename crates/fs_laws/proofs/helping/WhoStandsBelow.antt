@@ -1,6 +1,6 @@
 -- Who stands below whom, who holds what, and what the placed calls leave.
 use Rattle.std.proofs.Common.{◌≡◌, ℕ, List, [], ◌∷◌, ◌++◌, Option, Some, None, sym, ap, ◌∙◌, append-nil, subst, ◌⊎◌, inl, inr, arith}
-use Rattle.fs_calls.specs.Tree.{Tree}
+use Rattle.fs_calls.specs.Starts.{Start}
 use Rattle.fs_calls.specs.Sights.{tree_shapes}
 use Rattle.fs_names.specs.Keys.{Key, after_prefix}
 use Rattle.fs_calls.specs.declared.reply.Reply.{Reply}
@@ -92,7 +92,7 @@ nobody_between s run c d n op q st other u v differs a b walked e held = go walk
     go (inr i) = way u v st.dest.walked st.dest.node i at_n (loc.head Dest) (node_held Dest (numbers s.graph) (inv.key c) st loc) (pair.clear Dest)
 
 -- the replies of the placed calls
-are_due : (first : Tree) (es : List Entry) (view : JournalView) → ((c : ℕ) (r : Reply) → view.due c ≡ Some r → journal.due first c es ≡ Some r) → (cs : List ℕ) (rs : List Reply) → Dues view cs rs → AreDue first es cs rs
+are_due : (first : Start) (es : List Entry) (view : JournalView) → ((c : ℕ) (r : Reply) → view.due c ≡ Some r → journal.due first c es ≡ Some r) → (cs : List ℕ) (rs : List Reply) → Dues view cs rs → AreDue first es cs rs
 are_due first es view h [] rs d = tt
 are_due first es view h (c ∷ cs) [] d = d
 are_due first es view h (c ∷ cs) (r ∷ rs) d = (h c r d.0, are_due first es view h cs rs d.1)

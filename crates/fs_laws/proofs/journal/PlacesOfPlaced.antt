@@ -16,7 +16,7 @@ use Rattle.fs_machine.specs.Moves.{target, took, took_by}
 use Rattle.fs_machine.specs.Records.{Phase, Placed, Record, Holdings}
 use Rattle.fs_laws.specs.Below.{HasPlace, PlacesAreCounted}
 use Rattle.fs_timeline.specs.Timeline.{commit_count}
-use Rattle.fs_machine.specs.States.{State, Begun, Begins, Reserves, new_op, began, Run, Start, Beginning, Stepping, Step}
+use Rattle.fs_machine.specs.States.{State, Begun, Begins, Reserves, new_op, began, Run, Starting, Beginning, Stepping, Step}
 use Rattle.fs_machine.specs.declared.answers.Refusal.TheVariants.{SeatBusy, Full, OutOfMemory}
 use Rattle.fs_machine.specs.declared.answers.Stepped.{Stepped}
 use Rattle.fs_machine.specs.declared.answers.Stepped.TheVariants.{Idle, Took, Busy, LetGo, Helped, Committed, CarriedOut, Returned}
@@ -111,6 +111,6 @@ begin_places old new seat call (Ok c) h (free, number, r) = go (reserves (form c
     go (Some shape) (n, less, unused, same) = subst PlacesAreCounted (sym same) (by (Some n) (reserved_in n shape old.graph))
 
 pub places_are_told : (s : State) → Run s → PlacesAreCounted s
-places_are_told s (Start limit tree graph h) = λ c i op e ph. cc
+places_are_told s (Starting limit tree graph h) = λ c i op e ph. cc
 places_are_told s (Beginning {old} seat call answer new run b) = begin_places old new seat call answer (places_are_told old run) b
 places_are_told s (Stepping {old} seat answer new run st) = step_places old new seat answer (Stepping seat answer new run st) (places_are_told old run) st

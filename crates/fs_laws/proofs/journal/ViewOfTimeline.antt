@@ -11,6 +11,7 @@ use Rattle.fs_calls.specs.Outcomes as tree
 use Rattle.fs_calls.specs.Sights.{tree_shapes}
 use Rattle.fs_calls.specs.Tree as trees
 use Rattle.fs_calls.specs.Tree.{Tree, Node, look, names_in, IsTree}
+use Rattle.fs_calls.specs.Starts.{Start}
 use Rattle.fs_calls.specs.declared.call.Call.{Call}
 use Rattle.fs_calls.specs.declared.reply.Reply.{Reply}
 use Rattle.fs_calls.proofs.TreeLaws.{stays_a_tree, played_trees_are_trees}
@@ -32,7 +33,7 @@ use Rattle.fs_laws.proofs.graphs.Walks.{eqb_refl, eqb_true}
 use Rattle.fs_laws.proofs.events.OneCallChanged.{Place, Here, Else, place}
 use Rattle.fs_laws.proofs.journal.OneMoreEntry.{Unknown, unknown_step}
 use Rattle.fs_laws.proofs.states.Headline.{Headline, run_keeps, headline_of, view_plays}
-use Rattle.fs_machine.specs.States.{State, Begun, Begins, Reserves, Step, Run, Start, Beginning, Stepping}
+use Rattle.fs_machine.specs.States.{State, Begun, Begins, Reserves, Step, Run, Starting, Beginning, Stepping}
 use Rattle.fs_machine.specs.declared.answers.Refusal.TheVariants as refusals
 use Rattle.fs_machine.specs.declared.answers.Stepped.{Stepped}
 use Rattle.fs_machine.specs.declared.answers.Stepped.TheVariants.{Idle, Took, Busy, LetGo, Helped, Committed, CarriedOut, Returned}
@@ -257,12 +258,12 @@ true_start : (t : Tree) → IsTrueOf t (empty_knowledge t) []
 true_start t = record { calls_are = λ c. refl; replies_are = λ c. refl; returned_are = λ c. refl; last_are = λ s. refl; tree_is = refl; begun_first = λ c e. cc }
 
 -- a lawful view is a lawful journal, with the tree that it plays
-pub record Ties (first : Tree) (view : JournalView) (es : List Entry) : Type 0 where
+pub record Ties (first : Start) (view : JournalView) (es : List Entry) : Type 0 where
   pub lawful : journal.IsLawful first es
   pub tree : view.tree ≡ tree_shapes (tree.play first (journal.commits es))
   pub due : (c : ℕ) (r : Reply) → view.due c ≡ Some r → journal.due first c es ≡ Some r
 
-ties_from : TreesAsMaps → (first : Tree) (view : JournalView) (k : JournalState) (before es : List Entry) → Agrees view k → IsTrueOf first k before → journal.IsLawful first before → IsLawful view es → Ties first (view_after view es) (before ++ es)
+ties_from : TreesAsMaps → (first : Start) (view : JournalView) (k : JournalState) (before es : List Entry) → Agrees view k → IsTrueOf first k before → journal.IsLawful first before → IsLawful view es → Ties first (view_after view es) (before ++ es)
 ties_from t first view k before [] a true_of lawful l = record {
   lawful = subst (journal.IsLawful first) (sym (append-nil before)) lawful;
   tree = a.tree ∙ ap tree_shapes true_of.tree_is ∙ ap (λ (x : List Entry). tree_shapes (tree.play first (journal.commits x))) (sym (append-nil before));
@@ -301,7 +302,7 @@ step_start old seat (Returned r) new (c, op, m, ph, same) = ap (λ (s : State). 
 
 -- the start tree of a run is a tree
 pub run_starts : (s : State) → Run s → IsTree s.start
-run_starts s (Start limit tree graph h) = h.tree
+run_starts s (Starting limit tree graph h) = h.tree
 run_starts s (Beginning {old} seat call answer new run b) = subst IsTree (sym (begin_start old seat call answer new b)) (run_starts old run)
 run_starts s (Stepping {old} seat answer new run st) = subst IsTree (sym (step_start old seat answer new st)) (run_starts old run)
 

@@ -1,6 +1,6 @@
 -- What every state of a run keeps besides: who is a node's holder stands at it, calls under way are on their seats, and numbers and sizes are within their limits.
 use Rattle.std.proofs.Common.{◌≡◌, ℕ, ◌+◌, ◌<◌, ◌≤◌, Bool, true, false, List, [], ◌∷◌, Option, Some, None, refl, sym, ap, ◌∙◌, subst, arith, Ok, Err}
-use Rattle.fs_calls.specs.Tree.{Tree}
+use Rattle.fs_calls.specs.Starts.{Start}
 use Rattle.fs_calls.specs.Sights.{tree_shapes}
 use Rattle.fs_names.specs.Keys.{Key}
 use Rattle.fs_names.specs.Names.{Name}
@@ -20,7 +20,7 @@ use Rattle.fs_laws.specs.JournalViews.{start, view_after}
 use Rattle.fs_timeline.specs.Timeline.{begins, commit_count}
 use Rattle.fs_laws.specs.Invariants.{IsUnfinished, Own, Invariant}
 use Rattle.fs_laws.specs.CallFacts.{Keeps}
-use Rattle.fs_machine.specs.States.{State, fresh, IsStart, Begun, began, new_op, Reserves, Begins, Step, taking, letting_go, helping, carrying, committing, returning, Run, Start, Beginning, Stepping}
+use Rattle.fs_machine.specs.States.{State, fresh, IsStart, Begun, began, new_op, Reserves, Begins, Step, taking, letting_go, helping, carrying, committing, returning, Run, Starting, Beginning, Stepping}
 use Rattle.fs_machine.specs.declared.answers.Refusal.TheVariants.{SeatBusy, Full, OutOfMemory}
 use Rattle.fs_machine.specs.declared.answers.Stepped.{Stepped}
 use Rattle.fs_machine.specs.declared.answers.Stepped.TheVariants.{Idle, Took, Busy, LetGo, Helped, Committed, CarriedOut, Returned}
@@ -437,7 +437,7 @@ account_begun c old new seat call inv acc (free, number, r) = go (reserves (form
     go (Some shape) i (n, less, empty_n, same) = subst StateFacts (sym same) (began_keeps old inv acc seat call c (Some n) (reserved_in n shape old.graph) free unused (reserved_is old acc n shape empty_n less (new_within (form call) shape i)))
 
 -- where a timeline begins
-account_start : (limit : ℕ) (tree : Tree) (graph : Graph) → IsStart limit tree graph → StateFacts (fresh limit tree graph)
+account_start : (limit : ℕ) (tree : Start) (graph : Graph) → IsStart limit tree graph → StateFacts (fresh limit tree graph)
 account_start limit tree graph h = record {
   holds = λ n c e. cc;
   on_seat = λ c op e. cc;
@@ -468,6 +468,6 @@ begin_accounts (Err OutOfMemory) old new seat call inv acc (on, full, same) = su
 
 -- every state of a run keeps them
 pub run_accounts : (s : State) → Run s → StateFacts s
-run_accounts s (Start limit tree graph h) = account_start limit tree graph h
+run_accounts s (Starting limit tree graph h) = account_start limit tree graph h
 run_accounts s (Beginning {old} seat call answer new run b) = begin_accounts answer old new seat call (run_keeps old run) (run_accounts old run) b
 run_accounts s (Stepping {old} seat answer new run st) = step_accounts answer old new seat (run_keeps old run) (run_accounts old run) st

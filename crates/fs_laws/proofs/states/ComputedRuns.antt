@@ -18,7 +18,7 @@ use Rattle.fs_timeline.specs.Timeline.{begins}
 use Rattle.fs_laws.specs.Events.{Event, Begins, Steps, events_of, Ran}
 use Rattle.fs_laws.specs.Invariants.{Invariant}
 use Rattle.fs_machine.specs.States as machine
-use Rattle.fs_machine.specs.States.{State, IsMoved, empty, began, Reserves, Moves, Step, taking, letting_go, helping, carrying, committing, returning, Run, Start, Beginning, Stepping}
+use Rattle.fs_machine.specs.States.{State, IsMoved, empty, began, Reserves, Moves, Step, taking, letting_go, helping, carrying, committing, returning, Run, Starting, Beginning, Stepping}
 use Rattle.fs_machine.specs.declared.answers.Stepped.{Stepped}
 use Rattle.fs_machine.specs.declared.answers.Stepped.TheVariants.{Idle, Took, Busy, LetGo, Helped, Committed, CarriedOut, Returned}
 use Rattle.fs_calls.specs.Tree.{root_tree}
@@ -238,7 +238,7 @@ start = empty 1048576
 
 pub is_run : (es : List Event) → can_be start es ≡ true → told start es ≡ es → (run : Run (after start es)) × (events_of (after start es) run ≡ es)
 is_run es can is =
-    let r : (later : Run (after start es)) × (events_of (after start es) later ≡ told start es) = played start (Start 1048576 root_tree empty_graph (starts_empty 1048576 (omega arith))) es can in
+    let r : (later : Run (after start es)) × (events_of (after start es) later ≡ told start es) = played start (Starting 1048576 root_tree empty_graph (starts_empty 1048576 (omega arith))) es can in
     (r.0, r.1 ∙ is)
 
 -- the run of some events, where they and their answers are the computed ones

@@ -2,7 +2,7 @@
 use Rattle.std.proofs.Common.{◌≡◌, ℕ, Bool, true, false, cond, eqb, List, [], ◌∷◌, Option, Some, None, refl, sym, ap, ◌∙◌, subst, Ok, Err}
 use mathlib.Core.Path.{fun_ext}
 use Rattle.fs_calls.specs.Sights.{tree_shapes}
-use Rattle.fs_calls.specs.Tree.{Tree}
+use Rattle.fs_calls.specs.Starts.{Start}
 use Rattle.fs_laws.specs.Changes.{play}
 use Rattle.fs_calls.specs.declared.call.Call.{Call}
 use Rattle.fs_nodes.specs.Graphs.{Graph, graph_shapes}
@@ -13,7 +13,7 @@ use Rattle.fs_laws.specs.JournalViews.{IsLawful, commits_of, with_call, JournalV
 use Rattle.fs_machine.specs.Headline.{IsIdle}
 use Rattle.fs_laws.specs.Invariants.{Invariant, StepKeeps, BeginKeeps, spots, IsPlaced, InOrder}
 use Rattle.fs_laws.specs.Settled.{settle}
-use Rattle.fs_machine.specs.States.{State, fresh, IsStart, Begun, Run, Start, Beginning, Stepping}
+use Rattle.fs_machine.specs.States.{State, fresh, IsStart, Begun, Run, Starting, Beginning, Stepping}
 use Rattle.fs_machine.specs.declared.answers.Refusal.TheVariants.{SeatBusy, Full, OutOfMemory}
 use Rattle.fs_machine.specs.declared.answers.Stepped.{Stepped}
 use Rattle.fs_machine.specs.declared.answers.Stepped.TheVariants.{Idle, Took, Busy, LetGo, Helped, Committed, CarriedOut, Returned}
@@ -63,7 +63,7 @@ headline_of s inv = record {
 }
 
 -- where a timeline begins
-pub inv_start : (limit : ℕ) (tree : Tree) (graph : Graph) → IsStart limit tree graph → Invariant (fresh limit tree graph)
+pub inv_start : (limit : ℕ) (tree : Start) (graph : Graph) → IsStart limit tree graph → Invariant (fresh limit tree graph)
 inv_start limit tree graph h = record {
   key = λ c. [];
   order = [];
@@ -116,7 +116,7 @@ begin_keeps (Err OutOfMemory) = keeps_no_memory
 
 -- every state of a run keeps it
 pub run_keeps : (s : State) → Run s → Invariant s
-run_keeps s (Start limit tree graph h) = inv_start limit tree graph h
+run_keeps s (Starting limit tree graph h) = inv_start limit tree graph h
 run_keeps s (Beginning {old} seat call answer new run b) = begin_keeps answer old new seat call (run_keeps old run) b
 run_keeps s (Stepping {old} seat answer new run st) = step_keeps answer old new seat (run_keeps old run) st
 

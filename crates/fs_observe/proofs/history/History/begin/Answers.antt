@@ -1,5 +1,5 @@
 use Rattle.std.proofs.Common.{sym, ◌∙◌, ap, length}
-use Rattle.fs_observe.specs.declared.history.Noted.TheVariants.{Start}
+use Rattle.fs_observe.specs.declared.history.Noted.TheVariants.{Began}
 use Rattle.fs_observe.proofs.Adding.{adds_moves}
 use Rattle.fs_observe.proofs.history.History.begin.Goals as goal
 
@@ -13,5 +13,5 @@ compare_exchange-found-requires g c =
       book,
       pen.0 ∙ book,
       offer.0,
-      rw (ap (λ w. w.key) h, pen.1, offer.1, offer.3) (adds_moves c.args.token.log (Start c.args.tree.now) 0 (ap length c.requires.empty)),
+      rw (ap (λ w. w.key) h, pen.1, offer.1, offer.3) (adds_moves c.args.token.log (Began c.args.tree.now) 0 (ap length c.requires.empty)),
     )
