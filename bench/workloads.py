@@ -68,6 +68,70 @@ def broad(calls):
     return text(lines)
 
 
+def wide(calls):
+    """Looks into a directory of 250 files, one in ten at a name that is not there."""
+    draw = random.Random(4)
+    lines = ["mkdir /dir", *(f"mknod /dir/entry{number}" for number in range(250))]
+    while len(lines) < calls:
+        number = draw.randrange(250) + (1_000 if draw.random() < 0.1 else 0)
+        lines.append(f"stat /dir/entry{number}")
+    return text(lines)
+
+
+def deep(calls):
+    """A chain of 60 directories, each with a file, of which those at its lower third are looked at, read and written."""
+    draw = random.Random(5)
+    lines, path, files = [], "", []
+    for number in range(60):
+        path += f"/dir{number}"
+        files.append(f"{path}/file")
+        lines += [f"mkdir {path}", f"mknod {files[-1]}"]
+    while len(lines) < calls:
+        kind, file = draw.random(), draw.choice(files[40:])
+        if kind < 0.6:
+            lines.append(f"stat {file}")
+        elif kind < 0.8:
+            lines.append(f"read {file} 0 16")
+        else:
+            lines.append(f"write {file} 0 {draw.randbytes(8).hex()}")
+    return text(lines)
+
+
+def pieces(calls):
+    """Large files, one after the other: each is written to its end in pieces of 4,000 bytes, read so, and removed."""
+    draw = random.Random(6)
+    contents, lines = [draw.randbytes(4_000).hex() for _ in range(16)], []
+    while len(lines) < calls:
+        file = f"/file{len(lines)}"
+        lines.append(f"mknod {file}")
+        lines += [f"write {file} {4_000 * piece} {draw.choice(contents)}" for piece in range(16)]
+        lines += [f"read {file} {4_000 * draw.randrange(16)} 4000" for _ in range(8)]
+        lines.append(f"unlink {file}")
+    return text(lines[:calls])
+
+
+def moves(calls):
+    """Directories that move about between two of 180 and more entries, a quarter of them onto another one; some are made and removed beside."""
+    draw = random.Random(7)
+    entries = {above: [f"{above}/sub{number}" for number in range(180)] for above in ("/a", "/b")}
+    lines = [f"mkdir {path}" for above, below in entries.items() for path in (above, *below)]
+    while len(lines) < calls:
+        kind, new = draw.random(), f"sub{len(lines)}"
+        here, there = entries[draw.choice("/a /b".split())], draw.choice("/a /b".split())
+        if kind < 0.6:
+            old = here.pop(draw.randrange(len(here)))
+            onto = draw.random() < 0.25
+            lines.append(f"rename {old} {draw.choice(entries[there]) if onto else f'{there}/{new}'}")
+            if not onto:
+                entries[there].append(f"{there}/{new}")
+        elif len(entries[there]) < 200:
+            lines.append(f"mkdir {there}/{new}")
+            entries[there].append(f"{there}/{new}")
+        else:
+            lines.append(f"rmdir {here.pop(draw.randrange(len(here)))}")
+    return text(lines)
+
+
 def threads(count, calls):
     """So many threads, each with so many calls over few names, for drawn schedules."""
     draw, lines = random.Random(3), ["atomfs 1"]

@@ -1,0 +1,143 @@
+"""Counts the instructions of the program by valgrind, which are the same under any load, and keeps those of some small jobs in bench/kept.txt.
+
+A block of that file is of one machine: the line of `rt version`, the C library, and the processor as valgrind shows it. Another kit compiles otherwise,
+and other libraries have other counts.
+"""
+import concurrent.futures
+import os
+import pathlib
+import platform
+import re
+import shutil
+import subprocess
+import sys
+import tempfile
+import typing
+
+import workloads
+
+HERE = pathlib.Path(__file__).resolve().parent
+KEPT = HERE / "kept.txt"
+HEAD = "# The instructions of the jobs of bench/kept, a block for each kit, C library and processor. `bench/kept --write` counts anew.\n"
+# How many drawn runs of a script are counted, and how many calls a script of one thread has.
+RUNS = {"campaign": 40, "crowd": 6}
+CALLS = 2_000
+# By these valgrind chooses the processor that it shows, and the C library its functions.
+FEATURES = ("pni", "ssse3", "cx16", "sse4_2", "movbe", "abm", "rdtscp", "avx", "bmi1", "bmi2", "avx2")
+# A count above the first share of the one that is kept is a loss. Below the second, the kept one is to follow.
+LOSS, GAIN = 1.03, 0.97
+
+
+def counted(program, words, text):
+    """The instructions of a program on an input, and what it writes.
+
+    Where blocks of the heap stand, and so what copies cost, depends on how long the program's name is. So it is always called the same. And it reads a
+    file, since of a pipe it may get more pieces or fewer.
+    """
+    with tempfile.TemporaryDirectory() as folder:
+        os.symlink(os.path.abspath(program), f"{folder}/atomfs")
+        given = pathlib.Path(folder, "given")
+        given.write_bytes(text)
+        tool = [shutil.which("valgrind") or "valgrind", "--tool=callgrind", f"--callgrind-out-file={os.devnull}", "./atomfs", *words]
+        with given.open("rb") as source:
+            done = subprocess.run(tool, stdin=source, capture_output=True, cwd=folder, env={"PATH": os.defpath})
+    found = re.search(rb"Collected : (\d+)", done.stderr)
+    if done.returncode or not found:
+        sys.exit(f"valgrind {program} {' '.join(words)}: status {done.returncode}\n{done.stderr.decode(errors='replace')}")
+    return int(found[1]), done.stdout
+
+
+def seeds(program, name):
+    """Drawn runs of a stored script."""
+    count, said = counted(program, ("seeds", "--seed", "1", "--runs", str(RUNS[name])), (HERE / f"{name}.script").read_bytes())
+    if said.count(b" lawful\n") != RUNS[name]:
+        sys.exit(f"seeds {name}: a run is not lawful")
+    return {f"seeds {name}": count}
+
+
+def texts(program, make):
+    """The run of a drawn script of one thread, and the check of its journal."""
+    ran, journal = counted(program, ("run",), make(CALLS))
+    checked, verdict = counted(program, ("check",), journal)
+    if verdict != b"lawful\n":
+        sys.exit(f"check {make.__name__}: {verdict.decode()}")
+    return {f"run {make.__name__}": ran, f"check {make.__name__}": checked}
+
+
+def counts(program):
+    """The instructions of each job, by its name."""
+    makers = (workloads.few, workloads.broad, workloads.wide, workloads.deep, workloads.pieces, workloads.moves)
+    with concurrent.futures.ThreadPoolExecutor(os.cpu_count()) as pool:
+        parts = [*(pool.submit(seeds, program, name) for name in RUNS), *(pool.submit(texts, program, make) for make in makers)]
+        return {job: count for part in parts for job, count in part.result().items()}
+
+
+def told(*words):
+    """What a command tells in one line."""
+    return subprocess.run(words, cwd=HERE, capture_output=True, text=True, check=True).stdout.strip()
+
+
+def machine():
+    """What counts depend on besides the program's sources, a line each."""
+    flags = re.search(r"^flags\s*: (.*)", pathlib.Path("/proc/cpuinfo").read_text(), re.M)
+    shown = [name for name in FEATURES if flags and name in flags[1].split()]
+    return (
+        f"kit {told('rt', 'version')}",
+        f"library {' '.join(platform.libc_ver())}",
+        f"processor {platform.machine()} {' '.join(shown)}, {told('valgrind', '--version')}",
+    )
+
+
+def commit():
+    """The commit of the sources, and whether they have changed since."""
+    try:
+        return told("git", "rev-parse", "--short=9", "HEAD") + (" with changes" if told("git", "status", "--porcelain", HERE.parent / "crates") else "")
+    except (OSError, subprocess.CalledProcessError):
+        return "unknown"
+
+
+class Block(typing.NamedTuple):
+    """The counts of one machine."""
+
+    machine: tuple[str, ...]
+    commit: str
+    counts: dict[str, int]
+
+    def __str__(self):
+        return "\n".join([*self.machine, f"commit {self.commit}", *(f"{count:>12,} {job}" for job, count in self.counts.items()), ""])
+
+
+def read(text):
+    """The blocks of a text."""
+    paragraphs = re.split(r"\n{2,}", re.sub(r"^#.*\n", "", text, flags=re.M).strip())
+    return [block(paragraph.splitlines()) for paragraph in paragraphs if paragraph]
+
+
+def block(lines):
+    counts = dict(reversed(line.split(maxsplit=1)) for line in lines[4:])
+    return Block(tuple(lines[:3]), lines[3].removeprefix("commit "), {job: int(count.replace(",", "")) for job, count in counts.items()})
+
+
+def written(blocks):
+    """The text of some blocks."""
+    return "\n".join([HEAD, *map(str, blocks)])
+
+
+def kept():
+    """The blocks that are kept."""
+    return read(KEPT.read_text()) if KEPT.exists() else []
+
+
+def fitting(blocks, here):
+    """The block of this machine, if there is one."""
+    return next((block for block in blocks if block.machine == here), None)
+
+
+def renewed(blocks, new):
+    """The blocks with a new one in the place of that of the same machine, or behind the others."""
+    places = [place for place, block in enumerate(blocks) if block.machine == new.machine] or [len(blocks)]
+    return [*blocks[: places[0]], new, *blocks[places[0] + 1 :]]
+
+
+def keep(new):
+    KEPT.write_text(written(renewed(kept(), new)))

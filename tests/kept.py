@@ -1,0 +1,86 @@
+"""What was gained in speed is kept: the instructions of small jobs, beside those that bench/kept.txt keeps for this kit, C library and processor.
+
+`bench/counting.py` has the jobs. Where the file has no counts of this machine, they are printed, and nothing is judged.
+"""
+import shutil
+import sys
+import unittest
+
+import harness
+from harness import ROOT, Case
+
+sys.path.insert(0, str(ROOT / "bench"))
+import counting
+
+NEEDED = (
+    ("valgrind", "valgrind, by which instructions are counted, is not installed"),
+    ("rt", "the command rt is not on the path, and counts are kept for each kit"),
+)
+NO_BLOCK = "bench/kept.txt has no counts of this kit, C library and processor: tests/kept.py has printed them"
+
+
+def change(job, count, block):
+    """What is told of a count that differs from the one that is kept: nothing, a gain or a loss."""
+    kept = block.counts[job]
+    share = count / kept
+    told = f"{job} takes {count:,} instructions, {share:.3f} of the {kept:,} that bench/kept.txt keeps since commit {block.commit}"
+    if share > counting.LOSS:
+        return "loss", f"{told}: mend it, or write the count anew (bench/kept --write) in a commit that says why"
+    if share < counting.GAIN:
+        return "gain", f"{told}: the count that is kept should follow (bench/kept --write)"
+    return None, ""
+
+
+class Counts(Case):
+    def test_instructions(self):
+        """No job takes notably more than is kept."""
+        harness.takes_a_process()
+        for command, reason in NEEDED:
+            if not shutil.which(command):
+                self.skipTest(reason)
+        here = counting.machine()
+        counts, block = counting.counts(harness.program()), counting.fitting(counting.kept(), here)
+        if not block:
+            print(f"tests/kept.py: for bench/kept.txt:\n\n{counting.Block(here, counting.commit(), counts)}", file=sys.stderr)
+            self.skipTest(NO_BLOCK)
+        self.same("the jobs of bench/kept.txt", list(block.counts), list(counts))
+        self.each(((job, job, count, block) for job, count in counts.items()), self.look)
+
+    def look(self, job, count, block):
+        kind, told = change(job, count, block)
+        if kind == "gain":
+            print(f"tests/kept.py: {told}", file=sys.stderr)
+        if kind == "loss":
+            self.fail(told)
+
+
+class Kept(Case):
+    """How counts are judged, and how they are kept."""
+
+    OLD, OTHER, NEW = (
+        counting.Block((f"kit {kit}", "library glibc 2", "processor x86_64 avx, valgrind-3"), commit, {"run few": few, "seeds crowd": 1})
+        for kit, commit, few in (("a", "0123", 100_000), ("b", "4567 with changes", 7), ("a", "89ab", 90_000))
+    )
+
+    def test_changes(self):
+        rows = (103_000, None), (103_001, "loss"), (97_000, None), (96_999, "gain")
+        self.each(((str(count), count, kind) for count, kind in rows), self.look_at_change)
+
+    def look_at_change(self, count, kind):
+        self.same(count, change("run few", count, self.OLD)[0], kind)
+
+    def test_blocks(self):
+        """What is written is read again, and a block takes the place of one of the same machine alone."""
+        rows = ("none", []), ("one", [self.OLD]), ("two", [self.OLD, self.OTHER])
+        self.each(((name, blocks, blocks) for name, blocks in rows), self.look_at_blocks)
+        self.same("a block of the same machine", counting.renewed([self.OTHER, self.OLD], self.NEW), [self.OTHER, self.NEW])
+        self.same("a block of another machine", counting.renewed([self.OLD], self.OTHER), [self.OLD, self.OTHER])
+
+    def look_at_blocks(self, blocks, wanted):
+        text = counting.written(blocks)
+        self.same(text, counting.read(text), wanted)
+        self.same(text, [counting.fitting(blocks, block.machine) for block in blocks], wanted)
+
+
+if __name__ == "__main__":
+    unittest.main()
