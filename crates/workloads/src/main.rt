@@ -6,6 +6,7 @@
 
 mod digest;
 mod drawing;
+mod runs;
 mod sandbox;
 mod shapes;
 mod texts;
@@ -26,11 +27,12 @@ use texts::Names;
 use threads::Dirs;
 
 /// The jobs, and how many rounds each has.
-const JOBS: [(&str, usize); 4] = [
+const JOBS: [(&str, usize); 5] = [
     ("sandbox", 150),
     ("shapes", 40),
     ("texts", 10),
     ("threads", 10),
+    ("runs", 6),
 ];
 
 /// How much a round does: what it does in full is divided by this number.
@@ -80,6 +82,14 @@ fn do_threads<R: Threads + Wait + Clock + Sync>(
     Ok(digest.value())
 }
 
+/// Drawn runs of a script of few threads, and of one of many.
+fn do_runs(alloc: Global, drawing: &mut Drawing, size: Size) -> Result<u64> {
+    let mut digest = Digest::new();
+    digest.add(runs::campaign(alloc, drawing, size.of(200))?);
+    digest.add(runs::crowd(alloc, drawing, size.of(50))?);
+    Ok(digest.value())
+}
+
 /// One round of a job.
 fn round<R: Threads + Wait + Clock + Sync>(
     rt: &R,
@@ -93,6 +103,7 @@ fn round<R: Threads + Wait + Clock + Sync>(
         "shapes" => do_shapes(alloc, drawing, size),
         "texts" => do_texts(alloc, drawing, size),
         "threads" => do_threads(rt, alloc, drawing, size),
+        "runs" => do_runs(alloc, drawing, size),
         _ => bail!("{job}: no job"),
     }
 }
