@@ -76,7 +76,7 @@ impl Draft {
         Ok(Call::Stat(self.path(&text)?))
     }
 
-    /// A call, by shares of a hundred: stat 30, read 22, write 16, mknod 16, unlink 8, rename 4, truncate 4.
+    /// A call. Of a hundred on average: stat 32, read 22, write 18, mknod 11, unlink 9, rename 4, truncate 4.
     fn call(&mut self, drawing: &mut Drawing) -> Result<Call> {
         let roll = drawing.below(100);
         if self.files.len() < 8 || (roll < 16 && self.files.len() < 40) {
