@@ -322,7 +322,8 @@ class Commands(Page):
 
     def output(self, command):
         """What a command writes, which ends with status 0 and tells nothing else."""
-        done = subprocess.run(["bash", "-c", command], cwd=ROOT, capture_output=True, timeout=harness.MOST_SECONDS)
+        end = {"cwd": ROOT, "stdin": subprocess.DEVNULL, "capture_output": True, "timeout": harness.MOST_SECONDS}
+        done = subprocess.run(["bash", "-c", command], **end)
         self.same(command, (done.returncode, done.stderr if done.returncode else b""), (0, b""))
         return done.stdout
 
