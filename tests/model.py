@@ -2,6 +2,7 @@
 
 Calls and replies are the words of docs/FORMATS.md. `python3 tests/model.py FILE ..` replays run texts, as `atomfs run` writes them.
 """
+import argparse
 import pathlib
 import sys
 from urllib.parse import unquote_to_bytes
@@ -226,13 +227,27 @@ def fault(text, calls):
     return None
 
 
-def main(names):
+def read(name):
+    """A file as `argparse` takes it: its name, and its text."""
+    try:
+        return name, pathlib.Path(name).read_text(errors="replace")
+    except OSError as error:
+        raise argparse.ArgumentTypeError(f"{name} cannot be read: {error.strerror}") from error
+
+
+def main():
     """Says of each run text whether its replies and its tree are the model's; the status is 1 where one's are not."""
-    wrong = {name: replayed(pathlib.Path(name).read_text()) for name in names}
+    words = argparse.ArgumentParser(
+        prog="python3 tests/model.py",
+        description="Replays run texts on a tree in Python, and says of each whether its replies and its tree are those of the calls committed before.",
+        epilog="The exit status is 0 where all of them are, else 1; 2 where a file cannot be read.",
+    )
+    words.add_argument("FILE", nargs="+", type=read, help="a run text, as `atomfs run` and examples/run write it")
+    wrong = {name: replayed(text) for name, text in words.parse_args().FILE}
     for name, what in wrong.items():
         print(f"{name}: {what or 'every reply and the tree are as the calls committed before say'}")
     return int(any(wrong.values()))
 
 
 if __name__ == "__main__":
-    sys.exit(main(sys.argv[1:]))
+    sys.exit(main())

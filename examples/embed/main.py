@@ -1,6 +1,8 @@
 """Calls on a tree from Python, by the shared object that the first argument names.
 
-Replies go to standard error, and the journal to standard output, for `atomfs check`."""
+Replies go to standard error, and the journal to standard output, for `atomfs check`.
+"""
+import argparse
 import sys
 
 import atomfs
@@ -8,8 +10,17 @@ import atomfs
 LINES = [b"mkdir /a", b"mknod /a/f", b"write /a/f 0 " + b"61" * 2000, b"read /a/f 0 4000", b"stat /a/f", b"stat a"]
 
 
+def named_library():
+    words = argparse.ArgumentParser(prog="python3 examples/embed/main.py", description=__doc__.splitlines()[0])
+    words.add_argument("LIBRARY", help="the shared object: dist/lib/libatomfs.so, which embed/build makes")
+    try:
+        return atomfs.Library(words.parse_args().LIBRARY)
+    except OSError as error:
+        words.error(error)
+
+
 def main():
-    library = atomfs.Library(sys.argv[1])
+    library = named_library()
     with atomfs.Tree(library, 1000) as tree:
         seat = tree.seat()
         for line in LINES:
