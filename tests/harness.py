@@ -150,10 +150,11 @@ class Case(unittest.TestCase):
             self.skipTest(f"no row of it is called {only}")
 
     def alone(self):
-        """The command that looks at this row, or at this test, by itself."""
-        module = sys.modules[type(self).__module__].__file__
+        """The command that looks at this row, or at this test, by itself, and at the same program."""
+        module = pathlib.Path(sys.modules[type(self).__module__].__file__)
         row = f"ROW={shlex.quote(self.row)} " if self.row else ""
-        return f"{row}python3 {os.path.relpath(module, ROOT)} {type(self).__name__}.{self._testMethodName}"
+        test = f"{type(self).__name__}.{self._testMethodName}"
+        return f"{row}python3 tests/{module.name} {test}" if answer is spawned else f"{row}tests/run --quick {module.stem}.{test}"
 
     def same(self, given, came, wanted):
         """What came of what was given is what was wanted."""
