@@ -85,7 +85,7 @@ def number(text):
 FILLED = {
     **{"PATH": ("/a", "/b"), "NUMBER": ("1", "2"), "HEX": ("6869",), "ERRNO": ("ENOENT",)},
     **{"p": ("/a",), "q": ("/b",), "offset": ("1",), "count": ("2",), "bytes": ("6869",), "size": ("1",)},
-    **{"N": ("7",), "K": ("3",)},
+    **{"N": ("7",), "K": ("3",), "KIND": ("TrailingSlash",)},
 }
 
 
@@ -149,6 +149,15 @@ class Pages(Page):
         words = [word.removeprefix("../").rstrip("/") for span in spans(prose(page)) for word in span.split(" ")]
         paths = [word for word in words if self.A_PATH.fullmatch(word) and not self.ELSEWHERE.fullmatch(word)]
         self.same(page.name, [path for path in paths if not self.ends() & {path, f"{path}.antt"}], [])
+
+    def test_parts(self):
+        """A page that lists its parts lists all of them, each with a link."""
+        self.each(by_path((DOCS / "GUARANTEES.md", DOCS / "DECISIONS.md")), self.look_at_parts)
+
+    def look_at_parts(self, page):
+        head, *parts = re.split(r"^## (.*)\n", page.read_text(), flags=re.M)
+        anchors = [(title, re.sub(r"[^\w -]", "", title.lower()).replace(" ", "-")) for title in parts[::2]]
+        self.agrees(page.name, re.findall(r"\[([^]]+)\]\(#([^)]+)\)", head), anchors)
 
     def test_length_of_readme(self):
         words = len(README.read_text().split())
@@ -224,12 +233,43 @@ class Faults(Page):
         kinds, paths = (re.findall(r'#\[error\("([A-Z]\w+)', source(name)) for name in ("fs_text/src/fault.rt", "fs_names/src/fault.rt"))
         paths.remove(self.OF_NO_TEXT)
         means = {spans(fault)[0]: spans(meaning) for fault, meaning, _ in table(FORMATS, "Fault", "Means", "Line")}
-        self.agrees("the table of faults", sorted(means), sorted(kinds))
+        self.agrees("the table of faults", sorted(means), sorted([*kinds, *(f"BadPath {path}" for path in paths)]))
         self.agrees("the faults of paths", sorted(means["BadPath"]), sorted(paths))
         checks = [spans(fault)[0] for _, fault in table(SPECIFICATION, "Check", "Fault")]
         self.agrees("the checks of paths", sorted(checks), sorted(paths))
         kinds = {*kinds, *(f"BadPath {path}" for path in paths)} - {"BadPath", self.OF_NO_TEXT}
         self.agrees("the faults with a row", sorted({fault for _, _, _, _, fault, *_ in self.rows()}), sorted(kinds))
+
+
+def explanations():
+    """What `atomfs explain` is to print of each word: what the fault means, and the rows of what to write instead."""
+    means = {spans(fault)[0]: meaning for fault, meaning, _ in table(FORMATS, "Fault", "Means", "Line")}
+    means |= {spans(kind)[0]: wrong for _, kind, wrong in table(SPECIFICATION, "Number", "Kind", "What is wrong")}
+    texts = {fault: f"{fault.split(' ')[-1]}: {meaning}\n" for fault, meaning in means.items()}
+    for kind, rows in zip(("script", "journal"), tables(FORMATS, *Faults.HEAD), strict=True):
+        for fault, _, refused, instead, because in rows:
+            refused, instead = ("".join(spans(cell)) or cell for cell in (refused, instead))
+            lines = (f"In a {kind}, for", refused), ("write", instead), ("because", because)
+            texts[spans(fault)[0]] += "\n" + "".join(f"{label:20}{said}\n" for label, said in lines)
+    return {fault.split(" ")[-1]: text.encode() for fault, text in texts.items()}
+
+
+class Explained(Page):
+    """What `atomfs explain` prints of each fault is what the tables of docs/FORMATS.md and docs/SPECIFICATION.md say."""
+
+    def test_each_kind(self):
+        self.each(((word, word) for word in explanations()), self.look)
+        listed = re.search(r"\[possible values: (.*)\]", (DATA / "help" / "explain").read_text())[1]
+        self.agrees("the words that have a text", sorted(explanations()), sorted(listed.split(", ")))
+
+    def look(self, word):
+        self.same(f"atomfs explain {word}", run(b"", "explain", word), Outcome(0, explanations()[word]))
+
+    def test_two_words(self):
+        """As a message has them."""
+        for path in spans(re.search(r"^\| `BadPath` and .*", FORMATS.read_text(), re.M)[0])[1:]:
+            texts = explanations()
+            self.same(f"atomfs explain BadPath {path}", run(b"", "explain", "BadPath", path), Outcome(0, texts["BadPath"] + b"\n" + texts[path]))
 
 
 class Grammar(Page):
@@ -271,6 +311,7 @@ class Commands(Page):
             "seeds --seed 7 --runs 3": b"seed 7 lawful\nseed 8 lawful\nseed 9 lawful\n",
             "threads": b"lawful calls 4\n",
             "check": b"lawful\n",
+            "explain TrailingSlash": explanations()["TrailingSlash"],
             "--version": f"atomfs {version}\n".encode(),
             "--help": helps["atomfs"],
             "help run": helps["run"],
@@ -502,11 +543,24 @@ class Listed(Page):
         budget = int(re.search(r"at most (\d+) in a crate", (DOCS / "DECISIONS.md").read_text())[1])
         self.same("the most edits of a crate", max(most, budget), budget)
 
-    def test_architecture(self):
-        """The crates of the product, and which each stands on, but those that follow from the rest."""
+    @staticmethod
+    def product():
+        """The crates of the product, and which of them each names."""
         lines = (line.split(":") for line in (ROOT / "crates.txt").read_text().splitlines() if not line.startswith("#"))
         named = {crate.split()[0]: below.split() for crate, below in lines}
-        named = {crate: [one for one in below if one in named] for crate, below in named.items() if re.match("fs_|atomfs", crate)}
+        return {crate: [one for one in below if one in named] for crate, below in named.items() if re.match("fs_|atomfs", crate)}
+
+    def test_picture_of_readme(self):
+        """Each crate of the product is in the picture, on a line above all those on which it stands."""
+        picture = re.search(r"^## How it is built\n+```\n(.*?)^```$", README.read_text(), re.M | re.S)[1]
+        lines = {crate: line for line, shown in enumerate(picture.splitlines()) for crate in re.findall(r"\b(?:fs_|atomfs)\w*", shown)}
+        self.agrees("the crates of the picture", sorted(lines), sorted(self.product()))
+        below = [f"{crate} on {one}" for crate, named in self.product().items() for one in named if lines[one] <= lines[crate]]
+        self.agrees("what stands on a crate that is not below it", [], below)
+
+    def test_architecture(self):
+        """The crates of the product, and which each stands on, but those that follow from the rest."""
+        named = self.product()
         rows = table(DOCS / "ARCHITECTURE.md", "Crate", "What it owns", "What the layer above may know of it", "Stands on")
         self.agrees("its crates, in order", [spans(row[0])[0] for row in rows], list(named))
         reached = {}
@@ -547,6 +601,8 @@ class Numbers(Sentences):
         limits = constants("fs_names/src/limits.rt")
         rows = [(spans(name)[0], number(limit)) for _, limit, name in table(SPECIFICATION, "What", "Limit", "Constant (`fs_names::limits`)")]
         self.agrees("the limits", dict(rows), limits)
+        name, file, entries, names = (limits[f"{what}_LIMIT"] for what in ("NAME", "FILE", "ENTRY", "PATH"))
+        self.says(README, f"A name has at most {name} bytes, a file {file:,} bytes, a directory {entries} entries, a path {names} names")
         header = (ROOT / "embed" / "atomfs.h").read_text()
         self.agrees("embed/atomfs.h", number(re.search("#define ATOMFS_NODE_LIMIT (.*)", header)[1]), limits["NODE_LIMIT"])
 
@@ -584,7 +640,9 @@ class Numbers(Sentences):
         rows = {(spans(job)[0], measure): ratios for job, measure, *ratios in table(SPEED, "Job", "Measure", "Few names", "A tree that grows")}
         ran, checked = (sum(map(float, rows[f"atomfs {command}", "instructions"])) / 2 for command in ("run", "check"))
         self.says(README, f"`atomfs run` takes {ran:.1f} times its instructions, and `atomfs check` {checked:.1f} times")
-        self.says(README, f"Two threads make {dict(table(SPEED, 'Threads', 'Throughput'))['2']} times as many")
+        throughput = dict(table(SPEED, "Threads", "Throughput"))
+        self.says(README, f"one thread makes {throughput['1']} times as many")
+        self.says(README, f"Two threads make {throughput['2']} times as many")
 
 
 if __name__ == "__main__":

@@ -3,6 +3,7 @@
 tests/data/help has the help of the program and of its commands. A device that fails, status 5, is looked at in tests/devices.py; `atomfs: full` is
 never told, since no script can have nodes enough.
 """
+import re
 import resource
 import shlex
 import unittest
@@ -33,6 +34,8 @@ NO_CALL_BEGUN = b"atomfs-journal 1\ntree\ndir /\nbegun 0 committed 0 returned 0\
 WRONG = b"atomfs-journal 1\nbegin 1 0 mkdir /a\ncommit 1\nreturn 1 failed EEXIST\n"
 SLASH = b"atomfs 1\nthread t\nmkdir /a/\nschedule\n"
 COMMANDS = (("run",), ("run", "--robin"), ("run", "--seed", "1"), ("seeds", "--seed", "1", "--runs", "2"), ("threads",), ("check",))
+# What `atomfs explain` knows. tests/documents.py looks at each.
+KINDS = re.search(r"possible values: (.*)\]", (HELP / "explain").read_text())[1].split(", ")
 NOT_UTF_8 = Outcome(2, b"", b"atomfs: an argument is not UTF-8\n")
 
 
@@ -60,6 +63,10 @@ def misused(what, usage=None):
 
 def unread(value, option, why):
     return misused(f"invalid value '{value}' for '{option}': {why}")
+
+
+def no_kind(word, argument, tip=""):
+    return misused(f"invalid value '{word}' for '{argument}'\n  [possible values: {', '.join(KINDS)}]{tip}")
 
 
 class Words(Case):
@@ -122,7 +129,7 @@ class Words(Case):
 
     def test_usage(self):
         """The words are `clap`'s. Nothing is run, though the input is a script."""
-        program, command, of_run, of_seeds = "<COMMAND>", "check", "run [OPTIONS]", "seeds --seed <N> --runs <K>"
+        program, of_run, of_seeds, of_explain = "<COMMAND>", "run [OPTIONS] < FILE", "seeds --seed <N> --runs <K> < FILE", "explain <KIND> [KIND]"
         missing = "the following required arguments were not provided:"
         self.all_end((words, words, of(ONE_CALL), wanted) for words, wanted in (
             ("", misused(f"no command is given\n\nTry first a script of one call:\n  {ONE_CALL_PASTED}", program)),
@@ -136,8 +143,8 @@ class Words(Case):
             ("run --version", misused("unexpected argument '--version' found", of_run)),
             ("run run", misused("unexpected argument 'run' found", of_run)),
             ("run --robin --robin", misused("the argument '--robin' cannot be used multiple times", of_run)),
-            ("run --robin=1", misused("unexpected value '1' for '--robin' found; no more were expected", "run --robin")),
-            ("run --robin --seed 1", misused("the argument '--robin' cannot be used with '--seed <N>'", "run --robin")),
+            ("run --robin=1", misused("unexpected value '1' for '--robin' found; no more were expected", of_run)),
+            ("run --robin --seed 1", misused("the argument '--robin' cannot be used with '--seed <N>'", of_run)),
             ("run --seed 1 --seed 2", misused("the argument '--seed <N>' cannot be used multiple times", of_run)),
             ("run --seed", misused("a value is required for '--seed <N>' but none was supplied")),
             ("run --seed=", unread("", "--seed <N>", "cannot parse integer from empty string")),
@@ -150,22 +157,27 @@ class Words(Case):
             ("seeds --seed 9223372036854775808 --runs 1", unread(2**63, "--seed <N>", f"{2**63} is not in 0..={2**63 - 1}")),
             ("seeds --seed 7 --runs 0", unread(0, "--runs <K>", "0 is not in 1..=10000")),
             ("seeds --seed 7 --runs 10001", unread(10_001, "--runs <K>", "10001 is not in 1..=10000")),
-            ("threads --seed 1", misused("unexpected argument '--seed' found", "threads")),
-            ("check now", misused("unexpected argument 'now' found", command)),
+            ("threads --seed 1", misused("unexpected argument '--seed' found", "threads < FILE")),
+            ("check now", misused("unexpected argument 'now' found", "check < FILE")),
+            ("explain", misused(f"{missing}\n  <KIND>", of_explain)),
+            ("explain Slash", no_kind("Slash", "<KIND>")),
+            ("explain badpath", no_kind("badpath", "<KIND>", "\n\n  tip: a similar value exists: 'BadPath'")),
+            ("explain BadPath Slash", no_kind("Slash", "[KIND]")),
+            ("explain BadPath Dot Nul", misused("unexpected argument 'Nul' found", of_explain)),
         ))
 
     def test_help(self):
         rows = [(words, "atomfs") for words in ("help", "--help", "-h")]
-        rows += [(words, name) for name in ("run", "seeds", "threads", "check") for words in (f"help {name}", f"{name} --help", f"{name} -h")]
+        rows += [(words, name) for name in ("run", "seeds", "threads", "check", "explain") for words in (f"help {name}", f"{name} --help", f"{name} -h")]
         self.all_end((words, words, b"", Outcome(0, (HELP / name).read_bytes())) for words, name in rows)
 
     def pasted(self, line):
-        """The words and the input of an example: `WORDS < FILE`, up to a pipe, or `printf TEXT | WORDS`."""
+        """The words and the input of an example: `WORDS < FILE`, up to a pipe, `printf TEXT | WORDS`, or words without an input."""
         first, *behind = line.strip().split(" | ")
         if first.startswith("printf "):
             return behind[0], shlex.split(first)[1].replace("\\n", "\n").encode()
-        words, given = first.split(" < ")
-        return words, (ROOT / given).read_bytes()
+        words, _, given = first.partition(" < ")
+        return words, (ROOT / given).read_bytes() if given else b""
 
     def do_the_example(self, name):
         """The last line of a help is done."""

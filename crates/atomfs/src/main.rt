@@ -1,5 +1,6 @@
 //! The program `atomfs`. `atomfs run` runs the script on standard input, `atomfs seeds` runs it by drawn schedules,
 //! `atomfs threads` runs its threads on real ones, and `atomfs check` reads a journal there; each writes what came of it.
+//! `atomfs explain` writes what the words of a message mean.
 //!
 //! `fs_command` reads the command line and has the exit statuses. Each part is proved to mean what its clauses say. The
 //! program from its arguments to its status, and the words of the messages, are tested.
@@ -12,10 +13,12 @@ ghost use Rattle.fs_command.specs.Commands.{IsWithin};
 mod tests;
 
 use fs_command::{
-    Subcommand, parse, report, status_of_run, status_of_unreadable_args, status_of_usage,
-    status_of_verdict,
+    Subcommand, Topic, explanation, parse, report, status_of_run, status_of_unreadable_args,
+    status_of_usage, status_of_verdict,
 };
-use fs_sched::{Device, RunFault, Schedule, Sink, Source, check_journal, run_script, run_seeds};
+use fs_sched::{
+    Device, RunFault, Schedule, Sink, Source, check_journal, run_script, run_seeds, write_text,
+};
 use fs_threads::{ThreadsFault, run_threads};
 use std::alloc::Global;
 use std::convert::AsStr;
@@ -86,6 +89,22 @@ fn check<R: Source, W: Sink>(alloc: Global, reader: &mut R, writer: &mut W) -> R
     }
 }
 
+/// Writes what one topic means, or two, and answers the status.
+fn explain<W: Sink>(
+    alloc: Global,
+    writer: &mut W,
+    first: Topic,
+    second: Option<Topic>,
+) -> Result<u8, RunFault>
+    requires writes { W.failures writer.old < 2 ^ 64 - 1 }
+{
+    let Ok(text) = explanation(alloc, first, second) else {
+        return Err(RunFault::OutOfMemory);
+    };
+    write_text(writer, text.as_slice())?;
+    Ok(0)
+}
+
 /// Does what a subcommand asks for, from a reader to a writer, and answers the exit status. The message of a fault goes
 /// to `errors`.
 fn perform<T: Threads + Wait + Clock + Sync, R: Source, W: Sink, E: Write>(
@@ -104,6 +123,7 @@ fn perform<T: Threads + Wait + Clock + Sync, R: Source, W: Sink, E: Write>(
         Subcommand::Run(schedule) => run(alloc, reader, writer, *schedule),
         Subcommand::Seeds(first, runs) => seeds(alloc, reader, writer, *first, *runs),
         Subcommand::Check => check(alloc, reader, writer),
+        Subcommand::Explain(first, second) => explain(alloc, writer, *first, *second),
         Subcommand::Threads => return report(errors, threads(rt, alloc, reader, writer)),
     };
     report(errors, outcome.map_err(ThreadsFault::Run))

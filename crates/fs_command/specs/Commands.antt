@@ -2,7 +2,7 @@
 use Rattle.std.specs.Prelude.{ℕ, ◌≤◌, List, codes}
 use Rattle.fs_sched.specs.declared.seeding.TheConstants.{SEED_LIMIT, RUN_LIMIT}
 use Rattle.fs_command.specs.declared.cli.Subcommand.{Subcommand}
-use Rattle.fs_command.specs.declared.cli.Subcommand.TheVariants.{Run, Seeds, Threads, Check}
+use Rattle.fs_command.specs.declared.cli.Subcommand.TheVariants.{Run, Seeds, Threads, Check, Explain}
 
 -- the word by which a subcommand is asked for
 abbrev pub name_of : Subcommand → List ℕ
@@ -10,6 +10,7 @@ name_of (Run schedule) = codes "run"
 name_of (Seeds seed runs) = codes "seeds"
 name_of Threads = codes "threads"
 name_of Check = codes "check"
+name_of (Explain first second) = codes "explain"
 
 -- the numbers of drawn runs are within their ranges
 abbrev pub IsWithin : Subcommand → Type 0
@@ -17,3 +18,4 @@ IsWithin (Run schedule) = Unit {0}
 IsWithin (Seeds seed runs) = (seed ≤ SEED_LIMIT) × (1 ≤ runs) × (runs ≤ RUN_LIMIT)
 IsWithin Threads = Unit {0}
 IsWithin Check = Unit {0}
+IsWithin (Explain first second) = Unit {0}

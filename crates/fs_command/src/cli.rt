@@ -2,9 +2,11 @@
 
 ghost use Rattle.std.specs.Prelude.{◌≡◌, Some, None, IfOk, IfSome, codes};
 ghost use Rattle.std.specs.Option.{ForSome};
-ghost use Rattle.clap.specs.Matches.{found_of, one_text, subcommand_name_of};
+ghost use Rattle.clap.specs.Matches.{first_value, found_of, one_text, subcommand_name_of};
 ghost use Rattle.fs_command.specs.Commands.{IsWithin, name_of};
+ghost use Rattle.fs_command.specs.Topics.{word_of};
 
+use crate::topic::{Topic, WORDS, topic_of};
 use clap::error::ErrorKind;
 use clap::{Arg, ArgAction, ArgMatches, Command, Error, value_parser};
 use fs_sched::{RUN_LIMIT, SEED_LIMIT, Schedule};
@@ -25,6 +27,8 @@ pub enum Subcommand {
     Threads,
     /// The verdict on a journal.
     Check,
+    /// What one word of a message means, or two.
+    Explain(Topic, Option<Topic>),
 }
 
 const RUN_STATUSES: &str = "\
@@ -32,7 +36,7 @@ Exit status:
   0  every call of the script returned
   1  the script ended with calls left: begun and not returned, or not begun
   2  usage error
-  3  the input is no script
+  3  the input is no script: `atomfs explain` says what to write instead
   4  out of memory, or no node number left
   5  a read or a write failed
 
@@ -44,7 +48,7 @@ Exit status:
   0  every run is lawful
   1  a run has a fault
   2  usage error
-  3  the input is no script
+  3  the input is no script: `atomfs explain` says what to write instead
   4  out of memory, or no node number left
   5  a read or a write failed
 
@@ -56,7 +60,7 @@ Exit status:
   0  the timeline of the calls is lawful
   1  it has a fault
   2  usage error
-  3  the input is no script
+  3  the input is no script: `atomfs explain` says what to write instead
   4  out of memory, no node number left, or no worker
   5  a read or a write failed
 
@@ -68,19 +72,29 @@ Exit status:
   0  the journal is lawful
   1  the journal has a fault
   2  usage error
-  3  the input is no journal
+  3  the input is no journal: `atomfs explain` says what to write instead
   4  out of memory
   5  a read or a write failed
 
 Example:
   atomfs run < examples/moved_ancestor.script | atomfs check";
 
+const EXPLAIN_STATUSES: &str = "\
+Exit status:
+  0  success
+  2  usage error
+  4  out of memory
+  5  a write failed
+
+Example:
+  atomfs explain BadPath TrailingSlash";
+
 const STATUSES: &str = "\
 Exit status:
   0  success
   1  a journal is not lawful, or a script ended with calls left
   2  usage error
-  3  malformed input
+  3  malformed input: `atomfs explain` says what to write instead
   4  out of memory, no node number left, or no worker
   5  a read or a write failed
 
@@ -124,6 +138,7 @@ fn with_arguments<'a>(
 fn run_alone<'a>(alloc: Global) -> Command<'a> {
     Command::new(alloc, "run")
         .about("Runs the script on standard input and writes its journal, its tree and its counts")
+        .override_usage("atomfs run [OPTIONS] < FILE")
         .after_help(RUN_STATUSES)
 }
 
@@ -155,6 +170,7 @@ fn seeds_alone<'a>(alloc: Global) -> Command<'a> {
         .about(
             "Runs the script on standard input by drawn schedules, checks each run's journal and writes a line for each",
         )
+        .override_usage("atomfs seeds --seed <N> --runs <K> < FILE")
         .after_help(SEEDS_STATUSES)
 }
 
@@ -171,6 +187,7 @@ fn threads_command<'a>(alloc: Global) -> Command<'a> {
         .about(
             "Runs each thread of the script on standard input on a real thread, its schedule unused, and writes `lawful calls` and their number, or a fault",
         )
+        .override_usage("atomfs threads < FILE")
         .after_help(THREADS_STATUSES)
 }
 
@@ -179,7 +196,40 @@ fn check_command<'a>(alloc: Global) -> Command<'a> {
         .about(
             "Reads the journal on standard input and writes `lawful`, or the place and the kind of its first fault",
         )
+        .override_usage("atomfs check < FILE")
         .after_help(CHECK_STATUSES)
+}
+
+fn kind_argument<'a>(alloc: Global, id: &'a str) -> Arg<'a> {
+    Arg::new(alloc, id)
+        .value_name("KIND")
+        .value_parser(WORDS.as_slice())
+}
+
+fn first_kind_argument<'a>(alloc: Global) -> Arg<'a> {
+    kind_argument(alloc, "kind")
+        .required(true)
+        .help("A word of a message or a verdict")
+}
+
+fn second_kind_argument<'a>(alloc: Global) -> Arg<'a> {
+    kind_argument(alloc, "second")
+        .hide_possible_values(true)
+        .help("Another one, as the second word of `BadPath TrailingSlash`")
+}
+
+fn explain_alone<'a>(alloc: Global) -> Command<'a> {
+    Command::new(alloc, "explain")
+        .about("Writes what the words of a message mean, and what to write instead")
+        .after_help(EXPLAIN_STATUSES)
+}
+
+fn explain_command<'a>(alloc: Global) -> Result<Command<'a>, Error> {
+    with_arguments(
+        explain_alone(alloc),
+        first_kind_argument(alloc),
+        second_kind_argument(alloc),
+    )
 }
 
 fn program<'a>(alloc: Global) -> Command<'a> {
@@ -210,8 +260,13 @@ fn program_with_threads<'a>(alloc: Global) -> Result<Command<'a>, Error> {
     with(program_with_seeds(alloc)?, threads_command(alloc))
 }
 
-fn command<'a>(alloc: Global) -> Result<Command<'a>, Error> {
+fn program_with_check<'a>(alloc: Global) -> Result<Command<'a>, Error> {
     with(program_with_threads(alloc)?, check_command(alloc))
+}
+
+fn command<'a>(alloc: Global) -> Result<Command<'a>, Error> {
+    let explain = explain_command(alloc)?;
+    with(program_with_check(alloc)?, explain)
 }
 
 /// The schedule of a run.
@@ -241,6 +296,22 @@ fn seeds_of<'a>(matches: &ArgMatches<'a>) -> Option<Subcommand>
     Some(Subcommand::Seeds(seed, runs))
 }
 
+/// The topic that the argument with an identifier names, if it is given.
+fn topic_given<'a>(matches: &ArgMatches<'a>, id: &str) -> Option<Topic>
+    ensures { IfSome result (λ topic. first_value (found_of matches.now) id.now ≡ Some (word_of topic)) }
+{
+    topic_of(matches.get_str(id)?)
+}
+
+/// What is to be explained.
+fn topics_of<'a>(matches: &ArgMatches<'a>) -> Option<Subcommand>
+    ensures within { ForSome result IsWithin }
+    ensures name { IfSome result (λ command. name_of command ≡ codes "explain") }
+{
+    let first = topic_given(matches, "kind")?;
+    Some(Subcommand::Explain(first, topic_given(matches, "second")))
+}
+
 fn subcommand_of<'a>(matches: &ArgMatches<'a>) -> Option<Subcommand>
     ensures within { ForSome result IsWithin }
     ensures name { IfSome result (λ command. subcommand_name_of matches.now ≡ Some (name_of command)) }
@@ -251,6 +322,7 @@ fn subcommand_of<'a>(matches: &ArgMatches<'a>) -> Option<Subcommand>
         "seeds" => seeds_of(given),
         "threads" => Some(Subcommand::Threads),
         "check" => Some(Subcommand::Check),
+        "explain" => topics_of(given),
         _ => None,
     }
 }

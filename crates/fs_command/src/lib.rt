@@ -1,16 +1,22 @@
 //! The command line of the program `atomfs`, and what it answers to whoever started it.
 //!
 //! `parse` reads the arguments by `clap`: the subcommand, a run's schedule, and the numbers of drawn runs, which are within
-//! their ranges (`within`). `status_of_run`, `status_of_verdict` and `report` tell the exit status of what the subcommand
+//! their ranges (`within`). `explanation` is the text of `atomfs explain`, which begins with the word that was asked for.
+//! `status_of_run`, `status_of_verdict` and `report` tell the exit status of what the subcommand
 //! came to; the message of a fault goes to standard error. Nothing here reads input or runs a script.
 //!
-//! The definitions are in `specs/`: `Commands` (what is asked for) and `Statuses` (the exit statuses).
+//! The definitions are in `specs/`: `Commands` (what is asked for), `Topics` (the words of faults) and `Statuses` (the exit
+//! statuses).
 #![tactic(auto)]
 
 pub mod cli;
+mod explanations;
 pub mod status;
+pub mod topic;
 
 pub use cli::{Subcommand, parse};
+pub use explanations::explanation;
 pub use status::{
     report, status_of_run, status_of_unreadable_args, status_of_usage, status_of_verdict,
 };
+pub use topic::Topic;
