@@ -294,8 +294,7 @@ fn of_topic(topic: Topic) -> &'static str
     }
 }
 
-/// What one topic means, or two with an empty line between. The text begins with the word of the first. The only error is
-/// out of memory.
+/// What one topic means, or two with an empty line between. The only error is out of memory.
 pub fn explanation(
     alloc: Global,
     first: Topic,
