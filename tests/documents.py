@@ -616,6 +616,7 @@ class Numbers(Sentences):
             f"`THREAD*NUMBER` (1 to {events:,} events)",
             f"with a number outside 1 to {events:,}",
             f"at most {events:,} events are given",
+            f"a limit is exceeded: {texts['TEXT_LIMIT']:,} bytes of a text, {scripts['THREAD_LIMIT']} threads, {scripts['CALL_LIMIT']:,} calls or {events:,} given",
             f"then at most {scripts['THREAD_NAME_LIMIT'] - 1} of `a` to `z`",
             f"or {draws['DRAW_LIMIT']:,} are drawn",
             f"N from 0 to {seeds['SEED_LIMIT']:,}, K from 1 to {seeds['RUN_LIMIT']:,}",

@@ -186,7 +186,7 @@ because             `finish` is the last word
 ";
 
 const TOO_LARGE: &str = "\
-TooLarge: a limit is exceeded
+TooLarge: a limit is exceeded: 16,777,216 bytes of a text, 256 threads, 65,536 calls or 1,000,000 given events
 
 In a script, for    t*1000000 t*9
 write               t*1000000
