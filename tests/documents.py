@@ -390,6 +390,20 @@ class Commands(Page):
         if command == "examples/run":
             self.same(command, text, HELPED.with_suffix(".text").read_text())
 
+    def test_examples_run_refuses(self):
+        """What can be told without the program is told at once."""
+        self.each((
+            ("a script that is not there", ("examples/none",), b"", 2, "examples/run: cannot read examples/none: No such file or directory"),
+            ("a folder", ("examples",), b"", 2, "examples/run: cannot read examples: Is a directory"),
+            ("an option that is none", ("--fast",), b"", 2, "usage: examples/run [--proved] [SCRIPT ..]"),
+            ("no header", ("examples/one_name.script", "README.md"), b"", 3, "atomfs: line 1: BadHeader"),
+            ("no header on standard input", (), b"mkdir /a\n", 3, "atomfs: line 1: BadHeader"),
+        ), self.look_at_refusal)
+
+    def look_at_refusal(self, words, given, status, message):
+        done = subprocess.run((ROOT / "examples" / "run", *words), cwd=ROOT, input=given, capture_output=True, timeout=harness.MOST_SECONDS)
+        self.same(f"examples/run {' '.join(words)}", (done.returncode, done.stderr.decode().splitlines()[0]), (status, message))
+
     def test_logic_of_the_kit(self):
         """README names the logic by which all is proved. The letter of the kit before it may be another."""
         if not shutil.which("rt"):
