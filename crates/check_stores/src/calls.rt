@@ -85,6 +85,27 @@ impl Linked {
         true
     }
 
+    /// Two entries change what they name, with what is below. It answers whether they could.
+    pub fn swap_entries(
+        &mut self,
+        dir: NodeNo,
+        name: &Name,
+        other: NodeNo,
+        other_name: &Name,
+    ) -> bool {
+        let Some(node) = self.store.find(dir, name) else {
+            return false;
+        };
+        let Some(other_node) = self.store.find(other, other_name) else {
+            return false;
+        };
+        if !(self.is_apart(node, other_node) && self.is_apart(other_node, node)) {
+            return false;
+        }
+        self.store.swap_entries(dir, name, other, other_name);
+        true
+    }
+
     /// The number of an empty node without an entry goes. It answers whether it could.
     pub fn release(&mut self, node: NodeNo) -> bool {
         let is_loose = self.store.is_used(node) && self.store.parent(node).is_none();
@@ -168,6 +189,27 @@ impl Plain {
             return false;
         }
         self.store.move_entry(from, name, to, new_name);
+        true
+    }
+
+    /// Two entries change what they name, with what is below. It answers whether they could.
+    pub fn swap_entries(
+        &mut self,
+        dir: NodeNo,
+        name: &Name,
+        other: NodeNo,
+        other_name: &Name,
+    ) -> bool {
+        let Some(node) = self.store.find(dir, name) else {
+            return false;
+        };
+        let Some(other_node) = self.store.find(other, other_name) else {
+            return false;
+        };
+        if !(self.is_apart(node, other_node) && self.is_apart(other_node, node)) {
+            return false;
+        }
+        self.store.swap_entries(dir, name, other, other_name);
         true
     }
 

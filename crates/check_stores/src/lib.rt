@@ -3,13 +3,15 @@
 //! looked at, or who holds what.
 //!
 //! A drawn call is made where its conditions hold, also of directories with entries; others are drawn in the place of those
-//! that cannot be made. It writes how many calls of each kind were made, and how many answers differed: none.
+//! that cannot be made. It writes how many calls of each kind were made, and how many answers differed: none. Then entries
+//! change what they name, those of a small tree and drawn ones, beside calls of a stream of their own.
 #![tactic(auto)]
 
 mod calls;
 mod drawing;
 mod examples;
 mod locks;
+mod swaps;
 mod tally;
 mod twins;
 
@@ -154,5 +156,5 @@ pub fn run(rt: &impl Print, alloc: Global) -> Result<()> {
     let mut tally = Tally::default();
     draw_all(alloc, &mut twins, &mut tally)?;
     tally.write(rt, twins.others)?;
-    Ok(())
+    swaps::run(rt, alloc)
 }

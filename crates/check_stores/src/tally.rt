@@ -10,6 +10,11 @@ pub struct Row {
 }
 
 impl Row {
+    /// How many calls were made.
+    pub fn made(&self) -> u32 {
+        self.made
+    }
+
     /// Counts a call, if it was made, and whether it is of the narrower kind.
     pub fn count(&mut self, made: Option<bool>) {
         if let Some(is_narrower) = made {
@@ -31,6 +36,8 @@ pub struct Tally {
     pub find: Row,
     pub look: Row,
     pub read: Row,
+    /// Of the swaps, which are counted for themselves.
+    pub swap_entries: Row,
 }
 
 impl Tally {
@@ -68,6 +75,13 @@ impl Tally {
             made = made.wrapping_add(row.made);
         }
         made
+    }
+
+    /// Writes how many swaps were made, and how many answers differed.
+    pub fn write_swaps(&self, rt: &impl Print, others: u32) -> io::Result<()> {
+        let Row { made, narrower } = self.swap_entries;
+        println!(rt; "swap_entries: {made}, of two directories: {narrower}")?;
+        println!(rt; "answers that differ: {others}")
     }
 
     /// Writes the rows, how many calls were made, and how many answers differed.

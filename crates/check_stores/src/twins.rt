@@ -153,6 +153,31 @@ impl Twins {
         }
     }
 
+    /// Two entries change what they name, if they can. It answers whether they are of two directories.
+    pub fn swap_entries(
+        &mut self,
+        dir: &Twin,
+        name: &Name,
+        other: &Twin,
+        other_name: &Name,
+    ) -> Option<bool> {
+        let done = self
+            .linked
+            .swap_entries(dir.linked, name, other.linked, other_name);
+        let same = done
+            == self
+                .plain
+                .swap_entries(dir.plain, name, other.plain, other_name);
+        self.expect(same);
+        if done { Some(dir != other) } else { None }
+    }
+
+    /// Whether the entry of this name is a node's, in both stores.
+    pub fn names(&self, dir: &Twin, name: &Name, node: &Twin) -> bool {
+        self.linked.store.find(dir.linked, name) == Some(node.linked)
+            && self.plain.store.find(dir.plain, name) == Some(node.plain)
+    }
+
     /// The node at a position gives its number back, if it can. It answers whether it was a directory.
     pub fn release(&mut self, position: usize) -> Option<bool> {
         let node = self.node(position);
