@@ -1,6 +1,7 @@
 """What was gained in speed is kept: the instructions of small jobs, beside those that bench/kept.txt keeps for this kit, C library and processor.
 
-`bench/counting.py` has the jobs. Where the file has no counts of this machine, they are printed, and nothing is judged.
+`bench/counting.py` has the jobs, and `bench/contended.py` makes two of their scripts. Where the file has no counts of this machine, they are printed,
+and nothing is judged.
 """
 import shutil
 import sys
@@ -10,6 +11,7 @@ import harness
 from harness import ROOT, Case
 
 sys.path.insert(0, str(ROOT / "bench"))
+import contended
 import counting
 
 NEEDED = (
@@ -52,6 +54,15 @@ class Counts(Case):
             print(f"tests/kept.py: {told}", file=sys.stderr)
         if kind == "loss":
             self.fail(told)
+
+
+class Scripts(Case):
+    def test_contended(self):
+        """What makes the scripts of the drawn runs makes them as they are stored."""
+        self.each(((name, name) for name in counting.RUNS), self.look)
+
+    def look(self, name):
+        self.same(f"python3 bench/contended.py {name}", getattr(contended, name)(), (ROOT / "bench" / f"{name}.script").read_bytes())
 
 
 class Kept(Case):
