@@ -110,20 +110,18 @@ def reads(count):
     yield from (f"read /f 0 {FILE}" for _ in range(count))
 
 
+def each_file(count, *calls):
+    """The calls that make so many files, and these calls on each before the next one comes."""
+    for number in range(count):
+        folder, path = f"/{number // ENTRIES}", f"/{number // ENTRIES}/{number}"
+        yield from ([f"mkdir {folder}"] if number % ENTRIES == 0 else [])
+        yield f"mknod {path}"
+        yield from (call.format(path) for call in calls)
+
+
 def files(count):
     """The calls that make so many full files."""
-    for number in range(count):
-        folder, path = f"/{number // ENTRIES}", f"/{number // ENTRIES}/{number}"
-        yield from ([f"mkdir {folder}"] if number % ENTRIES == 0 else [])
-        yield from (f"mknod {path}", f"truncate {path} {FILE}")
-
-
-def cut(count):
-    """The calls that make so many full files, each of which is cut before the next one comes, and gets a byte again."""
-    for number in range(count):
-        folder, path = f"/{number // ENTRIES}", f"/{number // ENTRIES}/{number}"
-        yield from ([f"mkdir {folder}"] if number % ENTRIES == 0 else [])
-        yield from (f"mknod {path}", f"truncate {path} {FILE}", f"truncate {path} 0", f"write {path} 0 ff")
+    return each_file(count, f"truncate {{}} {FILE}")
 
 
 def much():
@@ -238,9 +236,25 @@ class Limits(Case):
     def test_much_to_hold(self):
         self.each(much(), self.ends)
 
+    def room(self, calls, fits):
+        """So many calls on each of 5,000 files, for whose bytes alone there is room."""
+        calls = list(each_file(5_000, *calls))
+        wanted = well(counts(len(calls))) if fits else OUT_OF_MEMORY
+        self.ends(script(calls), RUN, wanted, ROOM)
+
     def test_room_of_cut_files(self):
-        """A file that was full does not hold on to that room once it is written again."""
-        self.each([("5000 files, cut and written", script(cut(5_000)), RUN, well(counts(sum(1 for _ in cut(5_000)))), ROOM)], self.ends)
+        """A file that was full does not hold on to that room once it grows again, unless it fills half of it."""
+        cut, below, half = (f"truncate {{}} {size}" for size in (0, FILE // 2 - 1, FILE // 2))
+        full = f"truncate {{}} {FILE}"
+        self.each((
+            ("cut and written", (full, cut, "write {} 0 ff"), True),
+            ("cut, one below half, cut", (full, cut, below, cut), True),
+            ("cut, half, cut", (full, cut, half, cut), False),
+        ), self.room)
+
+    def test_room_of_far_bytes(self):
+        """A byte far behind the start of a file makes little room beside what stands before it."""
+        self.each([("a byte at half, cut", (f"write {{}} {FILE // 2} ff", "truncate {} 0"), True)], self.room)
 
     def test_more_than_there_is(self):
         self.each((

@@ -105,8 +105,12 @@ pub enum Room {
     Lists(NameRoom, NameRoom),
 }
 
+/// For how many times as many bytes as it writes a write makes room beside them, at the most.
+const SPARE: u64 = 64;
+
 /// Room for the new bytes of a file, unless they are too many. A write behind the start of a file makes room for as many bytes
-/// again as stand before it, up to the limit: a file that grows piece by piece is copied a few times.
+/// again as stand before it, up to the limit, and no more than it may by what it writes: so a file that grows piece by piece
+/// is copied a few times, and one that gets a few bytes far behind its start has little room beside its bytes.
 fn content(alloc: Global, off: u64, count: u64) -> Result<Room, AllocError>
     ensures { IfOk result (FitsContent (off + count)) }
 {
@@ -114,7 +118,7 @@ fn content(alloc: Global, off: u64, count: u64) -> Result<Room, AllocError>
         return Ok(Room::Content(ByteRoom::new(alloc, 0)?));
     }
     let len = off + count;
-    let spare = off.min(FILE_LIMIT as u64 - len);
+    let spare = off.min(SPARE * count).min(FILE_LIMIT as u64 - len);
     Ok(Room::Content(ByteRoom::new(alloc, (len + spare) as usize)?))
 }
 
