@@ -72,7 +72,7 @@ class Program(Preloaded):
         words, given = command.split(), stored(name)
         whole, growths, threads = self.whole(words, given)
         self.same(f"atomfs {command} < {name}", whole, Outcome(0, output))
-        # A thread that has no memory to start is no worker. Some growths can be done without, as that for a smaller block.
+        # A thread that has no memory to start is no worker. Some growths can be done without: those for a smaller block, and for the paths that are kept.
         told = [NO_MEMORY, NO_WORKER] if threads else [NO_MEMORY]
         self.tell(f"growths of atomfs {command} < {name}", self.without("REFUSE", growths, words, given), told, whole)
 
@@ -478,16 +478,17 @@ class Library(Case):
         self.all_came(came, wanted)
 
     def test_run(self):
-        """Scripts. A step of theirs can do without a smaller block; a path that is none is none only where its memory was not refused."""
+        """Scripts. A step of theirs can do without a smaller block, and their reading without the paths that are kept; a path that is none is none only where
+        its memory was not refused."""
         scripts = {name: (script_of(calls), (Status.OK, Wanted(calls).run())) for name, calls in LISTS.items()}
         scripts["no path"] = b"atomfs 1\nthread t\nmkdir /a\nmkdir /a/./b\nschedule\nfinish\n", (Status.BAD_PATH, 4)
-        self.texts(self.library.run, scripts, {("run", "NO_MEMORY"), ("run", "OK")})
+        self.texts(self.library.run, scripts, {("run", "NO_MEMORY"), ("run", "OK"), ("run", "BAD_PATH")})
 
     def test_check(self):
-        """Journals, of which a path that is none is none only where its memory was not refused."""
+        """Journals. Their reading can do without the paths that are kept; a path that is none is none only where its memory was not refused."""
         journals = {name: (Wanted(calls).journal(), (Status.OK, b"lawful\n")) for name, calls in LISTS.items()}
         journals["no path"] = b"atomfs-journal 1\nbegin 1 0 mkdir /a\nbegin 2 1 mkdir /a/./b\n", (Status.BAD_PATH, 3)
-        self.texts(self.library.check, journals, {("check", "NO_MEMORY")})
+        self.texts(self.library.check, journals, {("check", "NO_MEMORY"), ("check", "OK"), ("check", "BAD_PATH")})
 
     def refuse_every(self, tree):
         """From now on every growth is refused."""

@@ -185,10 +185,8 @@ pub(crate) fn path_with<'a>(
         Ok(path) => path,
         Err(kind) => return Err(kind),
     };
-    match recent.keep(alloc, slot, word, &path) {
-        Ok(()) => Ok(path),
-        Err(_) => Err(FaultKind::OutOfMemory),
-    }
+    recent.keep(alloc, slot, word, &path);
+    Ok(path)
 }
 
 fn read_name(bytes: &[u8]) -> Result<Name, FaultKind>
