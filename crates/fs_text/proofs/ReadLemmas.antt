@@ -1,5 +1,5 @@
 -- What the code's reading of one word and of one line rests on.
-use Rattle.std.proofs.Common.{◌≡◌, ℕ, ◌+◌, ◌<◌, ◌≤◌, Bool, true, false, ltb, eqb, cond, ◌⊎◌, inl, inr, List, [], ◌∷◌, ◌++◌, length, get_or, take, drop, map, sym, refl, ap, ◌∙◌, subst, append_assoc, append-nil, arith, ◌||◌, codes, Some, None, Ok, Err, Result, position}
+use Rattle.std.proofs.Common.{◌≡◌, ℕ, ◌+◌, ◌<◌, ◌≤◌, Bool, true, false, ltb, eqb, cond, inl, inr, List, [], ◌∷◌, ◌++◌, length, get_or, take, drop, map, sym, refl, ap, ◌∙◌, append_assoc, append-nil, arith, ◌||◌, codes, Some, None, Ok, Err, Result, position}
 use Rattle.std.specs.List.{slice_split, position_or_len, All, list_any, onto_first}
 use Rattle.std.specs.Str.{bytes_eq}
 use Rattle.std.proofs.lemmas.Bool.{cond-true, cond-false, ltb-true, cases_Bool, eq-eqb}
@@ -10,11 +10,10 @@ use Rattle.std.proofs.lemmas.List.{drop_more, drop_all}
 use Rattle.std.proofs.lemmas.List.Sums.{fails_before_first}
 use Rattle.hex.specs.Hex.{decode_of}
 use Rattle.hex.specs.declared.error.FromHexError.{FromHexError}
-use Rattle.hex.specs.declared.error.FromHexError.TheVariants as hex
 use Rattle.fs_text.specs.declared.fault.FaultKind.{FaultKind}
 use Rattle.fs_text.specs.declared.fault.FaultKind.TheVariants as kind
 use Rattle.fs_text.specs.Calls.{hex_at, or_fault, ◌>>=◌, or_bad_path}
-use Rattle.fs_text.specs.code.Answers.{Gives, FailsAs, FailsThere, hex_fault_of, path_fault_of, pushed_word}
+use Rattle.fs_text.specs.code.Answers.{Gives, FailsAs, FailsThere, path_fault_of, pushed_word}
 use Rattle.fs_text.specs.Journal.{words_of, name_at, names_at, at_line, entry_in_line, entries_from, is_tree_line}
 use Rattle.fs_text.specs.declared.fault.ScriptFault.{ScriptFault}
 use Rattle.std.specs.Prelude.{suc, MatchResult, IsTrue, is_some, not, Option}
@@ -48,6 +47,10 @@ not_empty_test n h = grind (arith, nat_tests)
 pub hex_decoded : (w : List ℕ) (r : Result (List ℕ) FromHexError) → bytes_eq w (codes "-") ≡ false → 0 < length w → decode_of w ≡ r → hex_of w ≡ found_bytes r
 unfolding hex_of
 hex_decoded w r h some e = cond-false _ _ _ h ∙ cond-false _ _ _ (not_empty_test (length w) some) ∙ ap found_bytes e
+
+-- what is no pairs of digits is no word of bytes
+pub hex_none : (w : List ℕ) → bytes_eq w (codes "-") ≡ false → 0 < length w → found_bytes (decode_of w) ≡ None → hex_at w ≡ Err kind.BadHex
+hex_none w h some none = ap (or_fault kind.BadHex) (hex_decoded w (decode_of w) h some refl ∙ none)
 
 -- what digits are read as, where there is memory
 pub hex_given : (w : List ℕ) (r : Result Bytes FaultKind) → bytes_eq w (codes "-") ≡ false → 0 < length w
@@ -121,13 +124,6 @@ lines_whole xs h some =
     let long = position_none is_line_feed xs h in
     let none : All (λ b. is_line_feed b ≡ false) xs = All-from_get_or (λ b. is_line_feed b ≡ false) xs 0 (λ i lt. fails_before_first is_line_feed xs i 0 (omega arith)) in
     ap without_last_empty (slice_split_none is_line_feed xs none) ∙ cond-false _ _ _ (not_empty_test (length xs) some)
-
-hex_fails_as : {Y : Type 0} (e : FromHexError) (r : Result Y FaultKind) → r ≡ Err kind.BadHex → FailsAs (hex_fault_of e) r
-hex_fails_as e r h = elim e as (λ d. FailsAs (hex_fault_of d) r) [ hex.OutOfMemory ↦ tt | _ ↦ h ]
-
-pub hex_failed : (w : List ℕ) (e : FromHexError) → bytes_eq w (codes "-") ≡ false → 0 < length w → (e ≡ hex.OutOfMemory) ⊎ (decode_of w ≡ Err e) → FailsAs (hex_fault_of e) (hex_at w)
-hex_failed w e h some (inl memory) = let P : FromHexError → Type 0 = λ d. FailsAs (hex_fault_of d) (hex_at w) in subst P (sym memory) tt
-hex_failed w e h some (inr decoded) = hex_fails_as e (hex_at w) (ap (or_fault kind.BadHex) (hex_decoded w (Err e) h some decoded))
 
 -- ---- entries, one line after the other
 

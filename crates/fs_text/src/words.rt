@@ -12,7 +12,7 @@ ghost use Rattle.fs_names.specs.Reading.{reading};
 ghost use Rattle.fs_text.specs.declared.fault.FaultKind.TheVariants as kind;
 ghost use Rattle.fs_text.specs.Calls.{number_at, hex_at, path_at, or_bad_path};
 ghost use Rattle.fs_text.specs.Journal.{name_at, read_name};
-ghost use Rattle.fs_text.specs.code.Answers.{Gives, hex_fault_of, path_fault_of};
+ghost use Rattle.fs_text.specs.code.Answers.{Gives, path_fault_of};
 
 use crate::digits::{are_digits, write_bytes};
 use crate::fault::FaultKind;
@@ -20,7 +20,6 @@ use crate::recent::Recent;
 use crate::scan::place_from;
 use fs_calls::Bytes;
 use fs_names::{Name, Path, PathFault};
-use hex::FromHexError;
 use percent_encoding::percent_decode;
 use std::alloc::Global;
 
@@ -37,7 +36,7 @@ pub fn parts(bytes: &[u8], at: usize) -> (&[u8], &[u8])
 pub(crate) fn is_word(word: &[u8], text: &[u8]) -> bool
     ensures { result ≡ bytes_eq word.now text.now }
 {
-    word.len() == text.len() && word == text
+    word == text
 }
 
 /// A number with one digit more behind it, where the byte is a digit and the number is below 2 ^ 64.
@@ -88,15 +87,6 @@ pub(crate) fn number_at(word: &[u8]) -> Result<u64, FaultKind>
     number_of(word).ok_or(FaultKind::BadNumber)
 }
 
-fn hex_fault(error: FromHexError) -> FaultKind
-    ensures { result ≡ hex_fault_of error }
-{
-    match error {
-        FromHexError::OutOfMemory => FaultKind::OutOfMemory,
-        _ => FaultKind::BadHex,
-    }
-}
-
 /// The bytes that pairs of digits spell.
 fn bytes_at(alloc: Global, word: &[u8]) -> Result<Bytes, FaultKind>
     requires even { length word.now % 2 ≡ 0 }
@@ -122,10 +112,7 @@ pub(crate) fn hex_at(alloc: Global, word: &[u8]) -> Result<Bytes, FaultKind>
     if word.len() % 2 == 0 && are_digits(word) {
         return bytes_at(alloc, word);
     }
-    match hex::decode(alloc, word) {
-        Ok(bytes) => Ok(Bytes::new(bytes)),
-        Err(error) => Err(hex_fault(error)),
-    }
+    Err(FaultKind::BadHex)
 }
 
 fn path_fault(fault: PathFault) -> FaultKind

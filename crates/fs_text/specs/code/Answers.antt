@@ -1,7 +1,5 @@
 -- What a function that reads may return, beside what the definitions give.
 use Rattle.std.specs.Prelude.{◌≡◌, ℕ, List, [], ◌∷◌, ◌++◌, Result, Ok, Err, if◌then◌else◌}
-use Rattle.hex.specs.declared.error.FromHexError.{FromHexError}
-use Rattle.hex.specs.declared.error.FromHexError.TheVariants as hex
 use Rattle.fs_names.specs.declared.fault.PathFault.{PathFault}
 use Rattle.fs_names.specs.declared.fault.PathFault.TheVariants as path
 use Rattle.fs_text.specs.declared.fault.ScriptFault.{ScriptFault}
@@ -34,11 +32,6 @@ GivesText view (Err f) given = FailsThere f.line f.kind given
 abbrev pub Becomes : {X : Type 0} → Result (Unit {0}) FaultKind → X → Result X FaultKind → Type 0
 Becomes (Ok u) new given = given ≡ Ok new
 Becomes (Err k) new given = FailsAs k given
-
--- the fault of a word of hexadecimal digits
-abbrev pub hex_fault_of : FromHexError → FaultKind
-hex_fault_of hex.OutOfMemory = kind.OutOfMemory
-hex_fault_of e = kind.BadHex
 
 -- the fault of a word that is no path
 abbrev pub path_fault_of : PathFault → FaultKind
