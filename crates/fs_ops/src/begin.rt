@@ -12,7 +12,6 @@ ghost use Rattle.fs_ops.specs.code.Reservations.{HasReserved};
 ghost use Rattle.fs_machine.specs.OpValues.{BegunAs, new_value};
 
 use crate::end::give_back;
-use crate::op::Op;
 use crate::prepared::Prepared;
 use fs_calls::{Call, EntryCall, PairCall, Target};
 use fs_finish::room::Room;
@@ -107,23 +106,6 @@ impl Prepared {
                 give_back(store, reserved);
                 Err(NoNode::OutOfMemory)
             }
-        }
-    }
-}
-
-impl Op {
-    /// Begins a call. It allocates all that the call needs. A call that may add a node reserves a number for it: `Full` comes
-    /// exactly where it cannot, and is looked at before memory. After an error the graph is as before.
-    pub fn begin(alloc: Global, call: &Call, store: &mut Store) -> Result<Op, NoNode>
-        ensures ok { IfOk result (λ op. BegunAs (graph_of store.old) (seen store.old).limit call.now (reserves (form call.now)) op (graph_of store.new)) }
-        ensures full { (result ≡ Err NoNode.Full) ↔ (IsSome (reserves (form call.now)) × (in_use store.old ≡ (seen store.old).limit)) }
-        ensures err { OnErr result (graph_of store.new ≡ graph_of store.old) }
-        ensures rest { seen store.new ≡ record (seen store.old) { graph = graph_of store.new; room = (seen store.new).room } }
-        ensures room { (seen store.old).room ≤ (seen store.new).room }
-    {
-        match Prepared::new(alloc, call, store) {
-            Ok(prepared) => Ok(prepared.open()),
-            Err(refusal) => Err(refusal),
         }
     }
 }

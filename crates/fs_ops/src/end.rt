@@ -1,6 +1,6 @@
 //! How calls end.
 
-ghost use Rattle.std.specs.Prelude.{◌≡◌, None, Some, IsSome};
+ghost use Rattle.std.specs.Prelude.{◌≡◌, Some, IsSome};
 ghost use Rattle.fs_nodes.specs.Seen.{seen};
 ghost use Rattle.fs_nodes.specs.Stores.{graph_of};
 ghost use Rattle.fs_machine.specs.Leaving.{unreserved};
@@ -22,15 +22,6 @@ pub fn give_back(store: &mut Store, reserved: Option<NodeNo>)
 }
 
 impl Op {
-    /// Undoes a begin: a call that has taken nothing gives its reserved number back.
-    pub fn cancel(self, store: &mut Store)
-        requires spare { SpareIf (graph_of store.old) self.reserved }
-        requires start { self.holdings ≡ None }
-        ensures { seen store.new ≡ record (seen store.old) { graph = unreserved self.reserved (graph_of store.old) } }
-    {
-        give_back(store, self.reserved());
-    }
-
     /// The two equal replies of a finished call. A reserved number that it did not use leaves the store.
     pub fn end(self, store: &mut Store) -> (Reply, Reply)
         requires fixed { IsSome self.reply }
