@@ -3,43 +3,41 @@
 use anyhow::{Result, bail};
 use fs_calls::Call;
 use fs_script::read_script;
-use fs_share::{Open, run_lists};
+use fs_share::{Closed, Open, run_lists};
 use std::alloc::Global;
 use std::sync::Wait;
 use std::thread::Threads;
 use std::time::{Clock, Duration, Instant};
 
-/// How many calls returned, and how long all of them took.
+/// What is left of the tree, and how long all calls took.
 #[derive(Drop)]
 struct Played {
-    calls: usize,
+    closed: Closed,
     time: Duration,
 }
 
-/// Plays lists, and answers how many calls they had.
+/// Plays lists on a tree of their own.
 fn play_lists<R: Threads + Wait + Clock + Sync>(
     rt: &R,
     alloc: Global,
     lists: &[Vec<Call>],
-) -> Result<usize> {
+) -> Result<Closed> {
     match run_lists(rt, alloc, lists, &Open) {
-        Ok(closed) => Ok(closed.timeline.entries().len() / 3),
+        Ok(closed) => Ok(closed),
         Err(_) => bail!("the lists were not played to their end"),
     }
 }
 
-/// The same, timed.
+/// The same, timed. What is left is dropped later.
 fn time_lists<R: Threads + Wait + Clock + Sync>(
     rt: &R,
     alloc: Global,
     lists: &[Vec<Call>],
 ) -> Result<Played> {
     let start = Instant::now(rt)?;
-    let calls = play_lists(rt, alloc, lists)?;
-    Ok(Played {
-        calls,
-        time: start.elapsed(rt)?,
-    })
+    let closed = play_lists(rt, alloc, lists)?;
+    let time = start.elapsed(rt)?;
+    Ok(Played { closed, time })
 }
 
 /// Plays the lists of a script.
@@ -58,7 +56,7 @@ pub fn run<R: Print + Threads + Wait + Clock + Sync>(
     timed: bool,
 ) -> Result<()> {
     let played = play(rt, alloc, text)?;
-    println!(rt; "calls: {}", played.calls)?;
+    println!(rt; "calls: {}", played.closed.timeline.entries().len() / 3)?;
     if timed {
         println!(rt; "microseconds: {}", played.time.as_micros())?;
     }

@@ -5,6 +5,7 @@
 
 mod answers;
 mod calls;
+mod crowds;
 mod drawing;
 mod held;
 mod jobs;
@@ -99,6 +100,12 @@ fn say_all<R: Print + Threads + Wait + Clock + Sync>(rt: &R, alloc: Global) -> i
     say_faults(rt)?;
     let jobs = jobs::are_done(rt, alloc);
     say(rt, "a thousand jobs are done, once", jobs)?;
+    let crowds = crowds::all_end(rt, alloc);
+    say(
+        rt,
+        "a thousand crowds on a path, a chain and renames above come to their ends",
+        crowds,
+    )?;
     let drawn = long::is_lawful(rt, alloc);
     say(rt, "twenty thousand drawn calls are lawful", drawn)
 }

@@ -37,6 +37,7 @@ impl<N: Named> Model for Board<N> {
 }
 
 /// What a worker does while it is lent the core: one step of its seat's call.
+#[inline(always)]
 pub fn advance(core: &mut Core, seat: SeatNo) -> Stepped
     requires seat { seat < length core.old.seats }
     ensures step { Step (state_of core.old) seat result (state_of core.new) }
@@ -100,6 +101,7 @@ impl<N: Named> Board<N> {
     }
 
     /// The core.
+    #[inline(always)]
     pub(crate) fn core(&self) -> &Core
         ensures { result.now ≡ self.now.core }
     {
@@ -135,6 +137,7 @@ impl<N: Named> Board<N> {
     }
 
     /// One step of a seat's call, by `advance`.
+    #[inline(always)]
     pub(crate) fn step(&mut self, seat: SeatNo) -> Stepped
         requires seat { seat < length self.old.core.seats }
         ensures published { self.new.published ≡ self.old.published }

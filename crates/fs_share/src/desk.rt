@@ -1,6 +1,6 @@
 //! What the lock keeps: the board, and the account of the calls that returned.
 
-ghost use Rattle.std.specs.Prelude.{◌≡◌, ◌+◌, ◌<◌, ◌^◌, ◌++◌, ◌∷◌, [], None, length, sum_by, vec_len, IfOk, IfSome, OnOk};
+ghost use Rattle.std.specs.Prelude.{◌≡◌, ◌+◌, ◌<◌, ◌^◌, ◌++◌, ◌∷◌, ◌||◌, [], None, false, is_some, length, sum_by, vec_len, IfOk, IfSome, OnOk};
 ghost use Rattle.fs_nodes.specs.Graphs.{graph_shapes};
 ghost use Rattle.fs_nodes.specs.Stores.{graph_of};
 ghost use Rattle.fs_calls.specs.Outcomes.{play};
@@ -27,18 +27,19 @@ use std::sync::ledger::{Book, Share};
 const MOST_SEATS: usize = usize::MAX / 4;
 
 /// The board, the book of the calls that returned, with a part of its ledger left for each seat that is still to be made,
-/// and how many sessions wait for a node. It is not `Drop`: end it by `close`.
+/// and whether a session went to sleep for a node since the last wake-up. It is not `Drop`: end it by `close`.
 pub(crate) struct Desk<N: Named> {
     pub board: Board<N>,
     pub book: Book<N>,
     pub rest: Share<N>,
-    pub waiting: u64,
+    pub sleepers: bool,
     ghost counted: { returns board.core.timeline ≡ book.total },
     ghost parts: { rest.parts + length board.core.seats ≡ 2 ^ 63 },
     ghost nothing: { rest.amount ≡ 0 },
 }
 
 /// 1 where the call returned.
+#[inline(always)]
 pub(crate) fn count_of(stepped: &Stepped) -> u64
     ensures { result ≡ answered stepped.now }
 {
@@ -49,6 +50,7 @@ pub(crate) fn count_of(stepped: &Stepped) -> u64
 }
 
 /// One step of a seat's call; where the seat is not there, no call is under way on it.
+#[inline(always)]
 fn step_on<N: Named>(board: &mut Board<N>, seat: SeatNo) -> Stepped
     ensures step { seat < length board.old.core.seats → Step (state_of board.old.core) seat result (state_of board.new.core) }
     ensures returns { returns board.new.core.timeline ≡ returns board.old.core.timeline + answered result }
@@ -62,6 +64,7 @@ fn step_on<N: Named>(board: &mut Board<N>, seat: SeatNo) -> Stepped
 }
 
 /// How many entries there are.
+#[inline(always)]
 fn entry_count<N: Named>(board: &Board<N>) -> usize
     ensures count { result ≡ length board.now.core.timeline }
     ensures bound { result < 2 ^ 64 }
@@ -74,7 +77,7 @@ impl<N: Named> Desk<N> {
     pub fn seat(&mut self) -> Result<(SeatNo, Share<N>), AllocError>
         ensures share { IfOk result (λ made. (made.1.parts ≡ 1) × (made.1.amount ≡ 0)) }
         ensures seats { OnOk result (self.new.board.core.seats ≡ self.old.board.core.seats ++ None ∷ []) }
-        ensures waiting { self.new.waiting ≡ self.old.waiting }
+        ensures sleepers { self.new.sleepers ≡ self.old.sleepers }
     {
         let Desk { board, rest, .. } = self;
         if board.core().seats() >= MOST_SEATS {
@@ -87,7 +90,7 @@ impl<N: Named> Desk<N> {
     /// A call begins on a seat.
     pub fn begin(&mut self, alloc: Global, seat: SeatNo, call: &Call) -> Result<CallNo, Refusal>
         ensures begins { seat < length self.old.board.core.seats → Begins (state_of self.old.board.core) seat call.now result (state_of self.new.board.core) }
-        ensures waiting { self.new.waiting ≡ self.old.waiting }
+        ensures sleepers { self.new.sleepers ≡ self.old.sleepers }
     {
         if seat.get() >= self.board.core().seats() as u64 {
             return Err(Refusal::SeatBusy);
@@ -96,10 +99,11 @@ impl<N: Named> Desk<N> {
     }
 
     /// One step of a seat's call. A call that returns counts for the share.
+    #[inline(always)]
     pub fn step(&mut self, seat: SeatNo, mine: &mut Share<N>) -> Stepped
         requires { 0 < mine.old.parts }
         ensures step { seat < length self.old.board.core.seats → Step (state_of self.old.board.core) seat result (state_of self.new.board.core) }
-        ensures waiting { self.new.waiting ≡ self.old.waiting }
+        ensures sleepers { self.new.sleepers ≡ self.old.sleepers }
         ensures parts { mine.new.parts ≡ mine.old.parts }
         ensures amount { mine.new.amount ≡ mine.old.amount + answered result }
         ensures room { mine.new.amount < 2 ^ 64 }
@@ -113,8 +117,32 @@ impl<N: Named> Desk<N> {
     }
 
     /// Whether a call holds a node.
-    pub fn is_held(&self, node: NodeNo) -> bool {
+    pub fn is_held(&self, node: NodeNo) -> bool
+        ensures { result ≡ is_some ((state_of self.now.board.core).holder node) }
+    {
         self.board.core().holder(node).is_some()
+    }
+
+    /// Whether a call holds a node: whoever asks then goes to sleep, which is kept until the next wake-up.
+    pub fn sleeps_for(&mut self, node: NodeNo) -> bool
+        ensures held { result ≡ is_some ((state_of self.old.board.core).holder node) }
+        ensures core { self.new.board.core ≡ self.old.board.core }
+        ensures sleepers { self.new.sleepers ≡ (self.old.sleepers || result) }
+    {
+        let held = self.is_held(node);
+        self.sleepers = self.sleepers || held;
+        held
+    }
+
+    /// Whether a session went to sleep since the last wake-up. Whoever is told so wakes all of them.
+    pub fn take_sleepers(&mut self) -> bool
+        ensures sleepers { result ≡ self.old.sleepers }
+        ensures none { self.new.sleepers ≡ false }
+        ensures core { self.new.board.core ≡ self.old.board.core }
+    {
+        let sleepers = self.sleepers;
+        self.sleepers = false;
+        sleepers
     }
 
     /// An observer that was told nothing yet.
@@ -149,7 +177,7 @@ impl<N: Named> Desk<N> {
             board,
             mut book,
             mut rest,
-            waiting: _,
+            sleepers: _,
         } = self;
         for tally in tallies {
             rest.merge(tally.share);

@@ -114,6 +114,7 @@ impl<'a, N: Named> Session<'a, N> {
     }
 
     /// One step under the lock, once the node that is wanted is free.
+    #[inline(always)]
     fn event<R: Wait>(&mut self, rt: &R, wanted: Option<NodeNo>) -> Stepped
         ensures { self.new.count ≡ self.old.count + answered result }
     {

@@ -67,7 +67,7 @@ impl<N: Named> AtomFs<N> {
                 board,
                 book,
                 rest,
-                waiting: 0,
+                sleepers: false,
             }),
             freed: Condvar::new(),
             whole: Whole { of: PhantomData },
@@ -121,20 +121,19 @@ impl<N: Named> AtomFs<N> {
         begun
     }
 
-    /// The lock, once no call holds the node that is wanted. Who waits is counted, and a node that is let go wakes the
-    /// sessions that wait. Both happen under the lock, so that no wake-up falls between.
-    fn lock<R: Wait>(&self, rt: &R, wanted: Option<NodeNo>) -> MutexGuard<'_, Desk<N>> {
-        let mut desk = self.desk.lock(rt);
-        let Some(node) = wanted else {
-            return desk;
-        };
-        desk.waiting = desk.waiting.wrapping_add(1);
-        let mut desk = self.freed.wait_while(rt, desk, |desk| desk.is_held(node));
-        desk.waiting = desk.waiting.wrapping_sub(1);
-        desk
+    /// The lock, once no call holds a node.
+    ///
+    /// No wake-up is lost: under one hold of the lock a session finds the node held, says that it sleeps, and sleeps. Each
+    /// `LetGo` comes under the lock, and the first one behind it takes that word and wakes all who sleep. Whoever finds
+    /// a node held after that says so anew.
+    #[inline(never)]
+    fn lock_free<R: Wait>(&self, rt: &R, node: NodeNo) -> MutexGuard<'_, Desk<N>> {
+        let desk = self.desk.lock(rt);
+        self.freed.wait_while(rt, desk, |desk| desk.sleeps_for(node))
     }
 
     /// One step of a seat's call under the lock, once no call holds the node that is wanted.
+    #[inline(always)]
     pub(crate) fn step<R: Wait>(
         &self,
         rt: &R,
@@ -147,9 +146,12 @@ impl<N: Named> AtomFs<N> {
         ensures amount { mine.new.amount ≡ mine.old.amount + answered result }
         ensures room { mine.new.amount < 2 ^ 64 }
     {
-        let mut desk = self.lock(rt, wanted);
+        let mut desk = match wanted {
+            None => self.desk.lock(rt),
+            Some(node) => self.lock_free(rt, node),
+        };
         let stepped = desk.step(seat, mine);
-        let wakes = desk.waiting > 0 && matches!(stepped, Stepped::LetGo(_));
+        let wakes = matches!(stepped, Stepped::LetGo(_)) && desk.take_sleepers();
         MutexGuard::unlock(desk);
         if wakes {
             self.freed.notify_all();
