@@ -19,11 +19,14 @@ const THREADS: usize = 8;
 const CALLS: usize = 3;
 
 /// Scripts of two threads, each of which is played by four.
-const ONE_PATH: &[u8] = b"atomfs 1\nthread a\nmknod /f\nwrite /f 0 61\nread /f 0 1\nthread b\nstat /f\nread /f 0 1\nunlink /f\nschedule\n";
+const ONE_PATH: &[u8] =
+    b"atomfs 1\nthread a\nmknod /f\nwrite /f 0 61\nread /f 0 1\nthread b\nstat /f\nread /f 0 1\nunlink /f\nschedule\n";
 
-const CHAIN: &[u8] = b"atomfs 1\nthread a\nmkdir /a\nmkdir /a/b\nmkdir /a/b/c\nthread b\nstat /a/b/c\nrmdir /a/b/c\nreaddir /a/b\nschedule\n";
+const CHAIN: &[u8] =
+    b"atomfs 1\nthread a\nmkdir /a\nmkdir /a/b\nmkdir /a/b/c\nthread b\nstat /a/b/c\nrmdir /a/b/c\nreaddir /a/b\nschedule\n";
 
-const RENAMES: &[u8] = b"atomfs 1\nthread a\nmkdir /a\nmkdir /a/b\nmknod /a/b/c\nthread b\nrename /a /d\nstat /d/b/c\nrename /d /a\nschedule\n";
+const RENAMES: &[u8] =
+    b"atomfs 1\nthread a\nmkdir /a\nmkdir /a/b\nmknod /a/b/c\nthread b\nrename /a /d\nstat /d/b/c\nrename /d /a\nschedule\n";
 
 fn copied(alloc: Global, calls: &[Call]) -> Option<Vec<Call>> {
     let mut list = Vec::new(alloc);
@@ -38,7 +41,9 @@ fn crowd(alloc: Global, text: &[u8]) -> Option<Vec<Vec<Call>>> {
     let given = lists_of(alloc, text)?;
     let mut lists = Vec::new(alloc);
     for place in 0..THREADS {
-        lists.push(copied(alloc, calls_of(&given, place % 2)?)?).ok()?;
+        lists
+            .push(copied(alloc, calls_of(&given, place % 2)?)?)
+            .ok()?;
     }
     Some(lists)
 }

@@ -129,7 +129,8 @@ impl<N: Named> AtomFs<N> {
     #[inline(never)]
     fn lock_free<R: Wait>(&self, rt: &R, node: NodeNo) -> MutexGuard<'_, Desk<N>> {
         let desk = self.desk.lock(rt);
-        self.freed.wait_while(rt, desk, |desk| desk.sleeps_for(node))
+        self.freed
+            .wait_while(rt, desk, |desk| desk.sleeps_for(node))
     }
 
     /// One step of a seat's call under the lock, once no call holds the node that is wanted.
