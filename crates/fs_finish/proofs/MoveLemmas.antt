@@ -10,9 +10,9 @@ use Rattle.fs_nodes.specs.Graphs.{Graph, set_at, unlinked_in, moved_in}
 use Rattle.fs_nodes.specs.Seen.{Seen, seen, Ascends, IsReal}
 use Rattle.fs_nodes.specs.Stores.{Places, is_above, child, graph_of}
 use Rattle.fs_finish.specs.declared.plan.Moving.{Moving}
-use Rattle.fs_nodes.proofs.GraphLemmas.{graph_by}
-use Rattle.fs_nodes.proofs.NameLemmas.{Compared, Below, Same, Above, compare, above_more, removed_absent, inserted_below, inserted_above}
-use Rattle.fs_nodes.proofs.PlaceLemmas.{eqb_true, eqb_refl}
+use Rattle.fs_graph.proofs.EqualLemmas.{graph_by, eqb_true, eqb_refl}
+use Rattle.fs_graph.proofs.NameLemmas.{Compared, Below, Same, Above, compare, removed_absent, inserted_below, inserted_above}
+use Rattle.fs_plain.proofs.AscentLemmas.{above_more}
 
 -- ---- names
 

@@ -1,8 +1,8 @@
 //! What a begin and a step answer.
 
 use fs_calls::Reply;
+use fs_graph::NodeNo;
 use fs_names::CallNo;
-use fs_nodes::NodeNo;
 
 /// Why a call could not begin. Nothing has changed by it.
 #[derive(Clone, Copy, Debug, PartialEq, Eq)]

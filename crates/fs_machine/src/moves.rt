@@ -3,7 +3,7 @@
 ghost use Rattle.std.specs.Prelude.{◌↔◌, IsTrue};
 ghost use Rattle.fs_machine.specs.States.{IsMoved};
 
-use fs_nodes::NodeNo;
+use fs_graph::NodeNo;
 
 /// What a finish would really move.
 #[derive(Clone, Copy, Debug, PartialEq, Eq)]

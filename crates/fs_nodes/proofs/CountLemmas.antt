@@ -9,10 +9,10 @@ use Rattle.fs_names.specs.Names.{Name, same_name, name_cmp, has_name}
 use Rattle.fs_names.specs.Shapes.{names_of}
 use Rattle.fs_names.proofs.Lemmas.{same_name_refl}
 use Rattle.fs_nodes.specs.declared.place.Place.{Place}
-use Rattle.fs_nodes.specs.Stores.{is_above, names_above, names_below, looked}
+use Rattle.fs_plain.specs.Stores.{is_above, names_above, names_below, looked}
 use Rattle.fs_nodes.specs.code.Linked.{graph_of_places, next_child, IsPlaces, IsPassed, names_past, rank}
-use Rattle.fs_nodes.proofs.NameLemmas.{Compared, Below, Same, Above, compare}
-use Rattle.fs_nodes.proofs.AscentLemmas.{above_above, next_names, no_names_above}
+use Rattle.fs_graph.proofs.NameLemmas.{Compared, Below, Same, Above, compare}
+use Rattle.fs_plain.proofs.AscentLemmas.{above_above, next_names, no_names_above}
 use Rattle.fs_nodes.proofs.OrderLemmas.{all_names, found_upto, not_above_more}
 use Rattle.fs_nodes.proofs.StepLemmas.{IsSought, IsMet, here, here_steps, met, dir_ascends, entry_none, next_within, get_some}
 

@@ -8,7 +8,7 @@ use Rattle.std.proofs.Math.Seq.{take-add}
 use Rattle.fs_names.specs.Names.{Name, name_cmp, may_stand, is_dots, can_name}
 use Rattle.fs_names.specs.declared.limits.TheConstants.{NAME_LIMIT}
 use Rattle.fs_names.proofs.Lemmas.{name_total}
-use Rattle.fs_nodes.proofs.PlaceLemmas.{both_true}
+use Rattle.fs_graph.proofs.EqualLemmas.{both_true}
 use Rattle.fs_nodes.specs.code.Heads.{first, rest, number_with, AreBytes, IsHead}
 
 -- how two numbers stand to each other

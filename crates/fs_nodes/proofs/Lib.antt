@@ -1,13 +1,5 @@
-pub mod NameLemmas
-pub mod PlaceLemmas
-pub mod AscentLemmas
-pub mod PickLemmas
-pub mod CycleLemmas
-pub mod GraphLemmas
-pub mod StoreLemmas
-pub mod EditLemmas
-pub mod HeadLemmas
 pub mod OrderLemmas
+pub mod HeadLemmas
 pub mod StepLemmas
 pub mod CountLemmas
 pub mod GapLemmas
@@ -17,7 +9,6 @@ pub mod FreeLemmas
 pub mod ReserveLemmas
 pub mod EntryLemmas
 pub mod MoveLemmas
-pub mod ExchangeLemmas
 pub mod SwapLemmas
-pub mod RealLemmas
+pub mod SeenLemmas
 pub mod AheadLemmas

@@ -6,17 +6,18 @@ use Rattle.std.proofs.lemmas.Option.{slice_get-map}
 use Rattle.fs_names.specs.Names.{Name, same_name, inserted_name}
 use Rattle.fs_names.specs.Shapes.{Dir, names_of, is_there, is_dir}
 use Rattle.fs_names.specs.declared.limits.TheConstants.{NODE_LIMIT}
-use Rattle.fs_nodes.specs.declared.node.Content.{Content}
-use Rattle.fs_nodes.specs.declared.node.Link.{Link}
-use Rattle.fs_nodes.specs.declared.node.Node.{Node}
+use Rattle.fs_plain.specs.declared.node.Content.{Content}
+use Rattle.fs_plain.specs.declared.node.Link.{Link}
+use Rattle.fs_plain.specs.declared.node.Node.{Node}
 use Rattle.fs_nodes.specs.declared.place.Place.{Place}
-use Rattle.fs_nodes.specs.Graphs.{Graph, then_at, linked_in, IsReached}
-use Rattle.fs_nodes.specs.Stores.{content_of, link_of, link_at, child_in, names_in, shape_with, graph_in, is_above, IsUnlinked, IsStore}
-use Rattle.fs_nodes.specs.code.Edits.{relinked}
-use Rattle.fs_nodes.proofs.EditLemmas.{Makes, link_makes}
-use Rattle.fs_nodes.specs.Stores.{link_with, plain_with, plain, plains}
+use Rattle.fs_graph.specs.Graphs.{Graph, then_at, linked_in, IsReached, IsUnlinked}
+use Rattle.fs_plain.specs.Stores.{content_of, link_of, link_at, child_in, names_in, shape_with, graph_in, is_above, IsStore}
+use Rattle.fs_plain.specs.code.Edits.{relinked}
+use Rattle.fs_plain.proofs.EditLemmas.{Makes, link_makes}
+use Rattle.fs_nodes.specs.Plains.{link_with, plain_with, plain, plains}
 use Rattle.fs_nodes.specs.code.Linked.{graph_of_places, next_child, IsPrev, IsLow, IsAt, IsGap, IsBeside, IsIndexed, IsPlaces, edited, with_first, with_next, with_prev, with_entries, entered, led, followed, put_between}
-use Rattle.fs_nodes.proofs.PlaceLemmas.{eqb_true, eqb_refl, child_link}
+use Rattle.fs_graph.proofs.EqualLemmas.{eqb_true, eqb_refl}
+use Rattle.fs_plain.proofs.PlaceLemmas.{child_link}
 use Rattle.fs_nodes.proofs.StepLemmas.{dir_ascends, dir_has, link_of_place, next_child_name}
 use Rattle.fs_nodes.proofs.GapLemmas.{IsFree, IsMember, count_linked, child_new, child_there, next_other, next_at, next_by, next_self, at_one, low_member}
 

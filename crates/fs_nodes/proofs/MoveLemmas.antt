@@ -5,23 +5,15 @@ use Rattle.fs_names.specs.Names.{Name, same_name, removed_name}
 use Rattle.fs_names.specs.Shapes.{Shape, Dir, names_of, is_there, is_dir}
 use Rattle.fs_names.proofs.Lemmas.{same_name_refl}
 use Rattle.fs_nodes.specs.declared.place.Place.{Place}
-use Rattle.fs_nodes.specs.Graphs.{Graph, linked_in, unlinked_in, moved_in, IsReached}
-use Rattle.fs_nodes.specs.Seen.{Seen}
-use Rattle.fs_nodes.specs.Stores.{IsUnlinked}
+use Rattle.fs_graph.specs.Graphs.{linked_in, unlinked_in, moved_in, IsReached}
+use Rattle.fs_plain.specs.Seen.{Seen}
 use Rattle.fs_nodes.specs.code.Linked.{graph_of_places, IsPlaces}
-use Rattle.fs_nodes.proofs.CycleLemmas.{reached_less}
-use Rattle.fs_nodes.proofs.PlaceLemmas.{eqb_refl}
+use Rattle.fs_graph.proofs.CycleLemmas.{reached_less}
+use Rattle.fs_graph.proofs.EqualLemmas.{eqb_refl}
+use Rattle.fs_plain.proofs.ExchangeLemmas.{IsBetween}
 use Rattle.fs_nodes.proofs.EntryLemmas.{one_name, root_unlinked, child_used}
 
--- what holds of the graph in between
-pub record IsBetween (graph : Graph) (to n : ℕ) (y : Name) : Type 0 where
-  pub dir : IsTrue (is_dir (graph.shape to))
-  pub absent : graph.child to y ≡ None
-  pub used : IsTrue (is_there (graph.shape n))
-  pub unlinked : IsUnlinked graph.child n
-  pub not_root : n ≡ 0 → ⊥
-  pub apart : IsReached graph.child n to → ⊥
-
+-- so it is among the places of a store
 pub between : (ps : List Place) (from to n : ℕ) (x y : Name) → IsPlaces ps → (graph_of_places ps).child from x ≡ Some n → IsTrue (is_dir ((graph_of_places ps).shape to)) → (graph_of_places ps).child to y ≡ None → (IsReached (graph_of_places ps).child n to → ⊥) → IsBetween (unlinked_in from x (graph_of_places ps)) to n y
 between ps from to n x y places there dir free apart = record {
   dir = go (eqb to from);

@@ -1,6 +1,4 @@
 -- What ties the code to the definitions: of it nothing has to be believed.
-pub mod Edits
-pub mod Picks
 pub mod Spots
 pub mod Linked
 pub mod Frees

@@ -2,7 +2,7 @@
 
 ghost use Rattle.std.specs.Prelude.{◌≡◌, ◌≤◌, Some, length, take};
 ghost use Rattle.fs_names.specs.Names.{name_cmp};
-ghost use Rattle.fs_nodes.specs.Stores.{is_above};
+ghost use Rattle.fs_plain.specs.Stores.{is_above};
 ghost use Rattle.fs_nodes.specs.code.Heads.{IsHead};
 
 use fs_names::Name;

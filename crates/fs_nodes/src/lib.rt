@@ -6,18 +6,16 @@
 //! in use as the limit. Only `Store::new` and `Store::reserve` allocate. `plain::Store` has the same contract without an
 //! index, for tests alone.
 //!
-//! Enter at `Store`. The definitions are in `specs/`: `Graphs` (graphs, their changes, and the tree that a graph
-//! spells), `Seen` (what is seen of a store, and what every store keeps) and `Stores` (the graph that a store is, by its
-//! `Places`, whose fields no crate above names). `specs/code/` serves the code, and changes no meaning: `Linked` says
-//! what the places of a store keep, `Frees` what its free places do.
+//! Enter at `Store`. Its clauses speak of graphs (`fs_graph`) and of what is seen of a store (`fs_plain`); `specs/` hands
+//! these on in `Graphs`, `Stores` and `Seen`, and has in `Plains` the plain store that a store is, by its places, which no
+//! crate above names. `specs/code/` serves the code, and changes no meaning: `Linked` says what the places of a store
+//! keep, `Frees` what its free places do.
 #![tactic(auto)]
 
 mod label;
-mod node;
 pub mod number;
 mod place;
 pub mod plain;
-mod scan;
 mod siblings;
 mod spot;
 pub mod store;

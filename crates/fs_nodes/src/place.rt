@@ -1,16 +1,16 @@
 //! The place of a number.
 
 ghost use Rattle.std.specs.Prelude.{◌≡◌, ◌≤◌, ◌<◌, ◌++◌, ◌∷◌, [], length, Some, None, IfSome, OnOk, OnErr, slice_get, option_map};
-ghost use Rattle.fs_nodes.specs.code.Edits.{new_content};
+ghost use Rattle.fs_plain.specs.code.Edits.{new_content};
 ghost use Rattle.std.specs.Option.{option_copied};
-ghost use Rattle.fs_nodes.specs.Stores.{content_at, link_at};
-ghost use Rattle.fs_nodes.specs.Stores.{plains};
+ghost use Rattle.fs_plain.specs.Stores.{content_at, link_at};
+ghost use Rattle.fs_nodes.specs.Plains.{plains};
 ghost use Rattle.fs_nodes.specs.code.Linked.{edited, filled, vacated, content_with, content_old, with_content};
 
 use crate::label::Label;
-use crate::node::Content;
 use crate::spot::Spot;
 use fs_names::{Kind, NODE_LIMIT, Name};
+use fs_plain::node::Content;
 use std::alloc::{AllocError, Global};
 
 /// What is kept for a number: what its node is, the entry that names it, and the way to the entries beside and below.

@@ -3,16 +3,18 @@
 ghost use Rattle.std.specs.Prelude.{◌≡◌, ◌≤◌, ◌<◌, ◌+◌, ◌-◌, ◌*◌, length, Some, None, IfSome, slice_get, option_map};
 ghost use Rattle.std.specs.Option.{option_copied};
 ghost use Rattle.fs_names.specs.Shapes.{names_of};
-ghost use Rattle.fs_nodes.specs.Stores.{link_of, is_in, plain, next_entry, looked, IsNextName, IsUnlinked, IsEntryAfter, IsNameAfter};
+ghost use Rattle.fs_plain.specs.Stores.{link_of, is_in, next_entry, looked, IsNextName, IsEntryAfter, IsNameAfter};
+ghost use Rattle.fs_nodes.specs.Plains.{plain};
+ghost use Rattle.fs_graph.specs.Graphs.{IsUnlinked};
 ghost use Rattle.fs_nodes.specs.code.Heads.{IsHead};
 ghost use Rattle.fs_nodes.specs.code.Linked.{graph_of_places, next_child, IsPlaces, IsGap, IsNextSibling, IsLesser, may_leap, IsPassed, rank, edited, with_entries, entered, led, followed, pointed, put_between, taken_out};
 
 use crate::label::{Label, head};
 use crate::place::{Place, dir_of};
-use crate::scan::is_higher;
 use crate::spot::Spot;
 use crate::stride::Stride;
 use fs_names::{NODE_LIMIT, Name};
+use fs_plain::is_higher;
 use std::cmp::Ordering;
 
 /// The place of a directory's first entry.

@@ -3,7 +3,7 @@ use Rattle.std.proofs.Common.{◌≡◌, ℕ, ◌<◌, ◌≤◌, List, Option, 
 use Rattle.fs_names.specs.Shapes.{Shape, Dir, File}
 use Rattle.fs_calls.specs.Outcomes.{play}
 use Rattle.fs_calls.proofs.TreeLaws.{played_trees_are_trees}
-use Rattle.fs_nodes.specs.Graphs as graphs
+use Rattle.fs_graph.specs.Graphs as graphs
 use Rattle.fs_timeline.specs.Timeline.{commits}
 use Rattle.fs_machine.specs.Records.{Record}
 use Rattle.fs_machine.specs.Headline.{IsIdle}

@@ -10,7 +10,7 @@ use Rattle.fs_calls.specs.Rows.{node_row, Edit, Keep, Add, Remove, entry_row}
 use Rattle.fs_calls.specs.declared.errno.Errno.{Errno}
 use Rattle.fs_calls.specs.declared.reply.Reply.{Reply}
 use Rattle.fs_calls.specs.declared.reply.Reply.TheVariants.{Failed}
-use Rattle.fs_nodes.specs.Graphs.{Graph, entry_shape}
+use Rattle.fs_graph.specs.Graphs.{Graph, entry_shape}
 use Rattle.fs_machine.specs.Finishes.{Effect, no_effect, node_effect, entry_effect, move_effect, rename_effect, effect_at, effect_of, finish}
 use Rattle.fs_machine.specs.Leaving.{finished_op}
 use Rattle.fs_machine.specs.Moves.{target, walk_errno, path_error, dir_error, rename_at}

@@ -5,7 +5,7 @@ use Rattle.fs_names.specs.Shapes.{Shape}
 use Rattle.fs_calls.specs.Forms.{form, reserves}
 use Rattle.fs_calls.specs.declared.call.Call.{Call}
 use Rattle.fs_calls.specs.declared.reply.Reply.{Reply}
-use Rattle.fs_nodes.specs.Graphs.{Graph, set_at}
+use Rattle.fs_graph.specs.Graphs.{Graph, set_at}
 use Rattle.fs_machine.specs.Finishes.{finish}
 use Rattle.fs_machine.specs.Leaving.{let_go, finished_op}
 use Rattle.fs_machine.specs.Moves.{next, target, victim_took, stepped, left_holdings, took, took_by}

@@ -12,7 +12,7 @@ use Rattle.fs_calls.specs.declared.target.PairCall.TheVariants as pairs
 use Rattle.fs_calls.specs.Rows.{rename_row}
 use Rattle.fs_calls.specs.declared.errno.Errno.{Errno}
 use Rattle.fs_calls.specs.declared.reply.Reply.{Reply}
-use Rattle.fs_nodes.specs.Graphs.{Graph, entry_shape}
+use Rattle.fs_graph.specs.Graphs.{Graph, entry_shape}
 use Rattle.fs_machine.specs.Leaving.{is_removed, cleared, releasing, let_go, unreserved}
 use Rattle.fs_machine.specs.Moves.{first_of, target, walk_move, victim_of, take_if, entry_move, there_by, same_kind, dir_error, rename_at, moved_node, rename_move, parents_move, dir_then, fork_move, target_move, first_walked, last_held, next_by, next, head_took, victim_took, step_or, target_took, took_by, took, left_heads, left_last, left_holdings, behind_first, step_move, next_on}
 use Rattle.fs_machine.specs.declared.moves.Move.{Move}

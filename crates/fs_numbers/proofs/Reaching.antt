@@ -11,7 +11,7 @@ use Rattle.fs_laws.specs.Maps.{Map, put_at, move}
 use Rattle.fs_calls.specs.Rows.{node_row, Edit, Keep, Add, Remove, entry_row}
 use Rattle.fs_calls.specs.declared.errno.Errno.{Errno}
 use Rattle.fs_calls.specs.declared.reply.Reply.{Reply}
-use Rattle.fs_nodes.specs.Graphs.{Graph, at, numbers, entry_shape, IsGraph, linked_in, unlinked_in, moved_in}
+use Rattle.fs_graph.specs.Graphs.{Graph, at, numbers, entry_shape, IsGraph, linked_in, unlinked_in, moved_in}
 use Rattle.fs_machine.specs.Finishes.{Effect, no_effect, node_effect, entry_effect, move_effect, rename_effect, effect_at}
 use Rattle.fs_machine.specs.Moves.{next_on, entry_move, first_of, step_move, fork_move, path_error, dir_error, rename_at}
 use Rattle.fs_machine.specs.declared.moves.Move.TheVariants.{Finish as Finishes}

@@ -17,7 +17,7 @@ use Rattle.fs_seq.proofs.ForestTrees.{forest_tree}
 use Rattle.fs_seq.proofs.Resolving.{seen_at, seen_none}
 use Rattle.fs_nodes.specs.Graphs.{Graph, Children, then_at, at, graph_shapes}
 use Rattle.fs_nodes.specs.Seen.{Seen, Ascends, IsReal}
-use Rattle.fs_nodes.proofs.NameLemmas.{above_more}
+use Rattle.fs_plain.proofs.AscentLemmas.{above_more}
 use Rattle.fs_script.specs.TreeText.{IsSpelled}
 use Rattle.fs_script.specs.code.Walks.{number_or, links, place_of, places_from, forest_of}
 

@@ -1,7 +1,7 @@
 -- What a call holds behind goes before all else, so any other move comes where nothing is behind.
 use Rattle.std.proofs.Common.{◌≡◌, ℕ, Option, Some, None, refl, ap, ◌⊎◌, inl, inr}
 use Rattle.fs_calls.specs.Forms.{Form}
-use Rattle.fs_nodes.specs.Graphs.{Graph}
+use Rattle.fs_graph.specs.Graphs.{Graph}
 use Rattle.fs_machine.specs.Moves.{behind_first, first_of, next_on, step_move, target, target_move}
 use Rattle.fs_machine.specs.declared.moves.Move.{Move}
 use Rattle.fs_machine.specs.declared.moves.Move.TheVariants.{Take as Takes, LetGo as Leaves, Finish as Finishes}

@@ -8,7 +8,7 @@ use Rattle.fs_calls.specs.Forms.{Form, AtNode, AtEntry, AtPair}
 use Rattle.fs_calls.specs.declared.target.PairCall.{PairCall}
 use Rattle.fs_calls.specs.declared.target.PairCall.TheVariants as pairs
 use Rattle.fs_calls.specs.declared.reply.Reply.{Reply}
-use Rattle.fs_nodes.specs.Graphs.{Graph}
+use Rattle.fs_graph.specs.Graphs.{Graph}
 use Rattle.fs_machine.specs.Moves.{target, took, victim_took, stepped, took_by, inner}
 use Rattle.fs_machine.specs.Records.{Finished, Holds, Record, Holdings, Side, Source, Dest, of_side, head_on, holdings_at}
 use Rattle.fs_laws.specs.Invariants.{IsUnfinished, VictimAt}

@@ -6,7 +6,7 @@ use Rattle.fs_names.specs.Parts.{common, left, left_by}
 use Rattle.fs_calls.specs.Forms.{Form, AtPair}
 use Rattle.fs_calls.specs.declared.target.PairCall.{PairCall}
 use Rattle.fs_calls.specs.declared.target.PairCall.TheVariants as pairs
-use Rattle.fs_nodes.specs.Graphs.{Graph, at, numbers, set_at}
+use Rattle.fs_graph.specs.Graphs.{Graph, at, numbers, set_at}
 use Rattle.fs_machine.specs.Moves.{head_took, took, victim_took, stepped}
 use Rattle.fs_machine.specs.Records.{Holds, Record, Holdings, Side, Source, Dest, of_side, head_on, Head}
 use Rattle.fs_laws.specs.Invariants.{Forked, ForkedAt, HeadsSound, VictimAt, IsSingle, IsUnfinished, Own, Invariant, StepKeeps}

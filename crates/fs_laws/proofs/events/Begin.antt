@@ -10,7 +10,7 @@ use Rattle.fs_calls.specs.declared.target.EntryCall.TheVariants.{Mkdir, Mknod, U
 use Rattle.fs_laws.specs.Maps.{Map}
 use Rattle.fs_calls.specs.declared.call.Call.{Call}
 use Rattle.fs_calls.specs.declared.reply.Reply.{Reply}
-use Rattle.fs_nodes.specs.Graphs.{Graph, numbers, graph_shapes, set_at, IsGraph, reserved_in}
+use Rattle.fs_graph.specs.Graphs.{Graph, numbers, graph_shapes, set_at, IsGraph, reserved_in}
 use Rattle.fs_timeline.specs.declared.entry.Entry.TheVariants.{Begin}
 use Rattle.fs_machine.specs.Records.{Phase, Walking, Placed, Finished, Holds, Record, Holdings}
 use Rattle.fs_laws.specs.JournalViews.{JournalView, start, view_after, noted}

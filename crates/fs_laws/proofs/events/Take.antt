@@ -12,7 +12,7 @@ use Rattle.fs_calls.proofs.RowNames.{if_below}
 use Rattle.fs_calls.specs.declared.call.Call.{Call}
 use Rattle.fs_calls.specs.declared.errno.Errno.{Errno}
 use Rattle.fs_calls.specs.declared.reply.Reply.{Reply}
-use Rattle.fs_nodes.specs.Graphs.{Graph, at, numbers, set_at}
+use Rattle.fs_graph.specs.Graphs.{Graph, at, numbers, set_at}
 use Rattle.fs_machine.specs.Moves.{next, next_by, next_on, first_of, step_move, walk_move, target, inner, took, took_by}
 use Rattle.fs_machine.specs.declared.moves.Move.{Move}
 use Rattle.fs_machine.specs.declared.moves.Move.TheVariants.{Take as Takes}

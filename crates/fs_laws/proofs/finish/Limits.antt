@@ -18,7 +18,7 @@ use Rattle.fs_calls.specs.declared.errno.Errno.{Errno}
 use Rattle.fs_calls.specs.declared.errno.Errno.TheVariants.{Efbig}
 use Rattle.fs_calls.specs.declared.reply.Reply.{Reply}
 use Rattle.fs_calls.specs.declared.reply.Reply.TheVariants.{Done, Wrote}
-use Rattle.fs_nodes.specs.Graphs.{Graph, set_at, entry_shape, IsGraph, at}
+use Rattle.fs_graph.specs.Graphs.{Graph, set_at, entry_shape, IsGraph, at}
 use Rattle.fs_machine.specs.Finishes.{node_effect, entry_effect, move_effect, rename_effect, effect_at, effect_of, finish}
 use Rattle.fs_machine.specs.Moves.{dir_error, path_error, there_by, rename_at, target}
 use Rattle.fs_machine.specs.Records.{Record, Holdings, Source, Dest}

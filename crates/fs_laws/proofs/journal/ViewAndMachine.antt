@@ -7,7 +7,7 @@ use Rattle.fs_calls.specs.Forms.{form, Form, under}
 use Rattle.fs_laws.specs.Maps.{Map}
 use Rattle.fs_calls.specs.declared.reply.Reply.{Reply}
 use Rattle.fs_calls.specs.declared.call.Call.{Call}
-use Rattle.fs_nodes.specs.Graphs.{set_at}
+use Rattle.fs_graph.specs.Graphs.{set_at}
 use Rattle.fs_timeline.specs.declared.entry.Entry.TheVariants.{Commit}
 use Rattle.fs_machine.specs.Records.{Finished, Record, Records, Phase, Placed, Walking}
 use Rattle.fs_laws.specs.JournalViews.{JournalView, IsNext, commit_of, noted}

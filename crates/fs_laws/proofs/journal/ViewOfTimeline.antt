@@ -15,7 +15,7 @@ use Rattle.fs_calls.specs.Starts.{Start}
 use Rattle.fs_calls.specs.declared.call.Call.{Call}
 use Rattle.fs_calls.specs.declared.reply.Reply.{Reply}
 use Rattle.fs_calls.proofs.TreeLaws.{stays_a_tree, played_trees_are_trees}
-use Rattle.fs_nodes.specs.Graphs.{set_at}
+use Rattle.fs_graph.specs.Graphs.{set_at}
 use Rattle.fs_timeline.specs.Timeline as journal
 use Rattle.fs_timeline.specs.Verdicts.{entry_fault, is_due}
 use Rattle.fs_timeline.specs.JournalStates.{JournalState, IsTrueOf, changed, is_waiting, known_fault, played, taken_in}

@@ -11,7 +11,7 @@ use Rattle.fs_calls.specs.declared.target.PairCall.TheVariants as pairs
 use Rattle.fs_calls.specs.declared.errno.Errno.{Errno}
 use Rattle.fs_calls.specs.declared.errno.Errno.TheVariants.{Einval}
 use Rattle.fs_calls.specs.declared.reply.Reply.{Reply}
-use Rattle.fs_nodes.specs.Graphs.{Graph, at, numbers, IsGraph}
+use Rattle.fs_graph.specs.Graphs.{Graph, at, numbers, IsGraph}
 use Rattle.fs_machine.specs.Leaving.{is_removed}
 use Rattle.fs_machine.specs.Moves.{next, next_by}
 use Rattle.fs_machine.specs.declared.moves.Move.TheVariants.{Finish as Finishes, Return as Ends}

@@ -10,7 +10,7 @@ use Rattle.fs_calls.specs.Tree.{Tree, IsTree}
 use Rattle.fs_calls.specs.declared.call.Call.{Call}
 use Rattle.fs_calls.specs.declared.reply.Reply.{Reply}
 use Rattle.fs_calls.proofs.TreeLaws.{played_trees_are_trees}
-use Rattle.fs_nodes.specs.Graphs.{Graph, graph_shapes, set_at, reserved_in}
+use Rattle.fs_graph.specs.Graphs.{Graph, graph_shapes, set_at, reserved_in}
 use Rattle.fs_timeline.specs.Timeline as journal
 use Rattle.fs_timeline.specs.declared.entry.Entry.TheVariants.{Begin, Commit, Return}
 use Rattle.fs_machine.specs.Records.{Walking, Record}

@@ -8,7 +8,7 @@ use Rattle.fs_names.specs.declared.limits.TheConstants.{ENTRY_LIMIT, FILE_LIMIT}
 use Rattle.fs_calls.specs.Tree.{root_tree, look}
 use Rattle.fs_calls.specs.Sights.{tree_shapes}
 use Rattle.fs_calls.proofs.TreeLaws.{played_trees_are_trees}
-use Rattle.fs_nodes.specs.Graphs.{numbers, graph_shapes, IsGraph, IsReached, empty_graph}
+use Rattle.fs_graph.specs.Graphs.{numbers, graph_shapes, IsGraph, IsReached, empty_graph}
 use Rattle.fs_machine.specs.States.{IsStart, AreRising}
 use Rattle.fs_laws.proofs.events.OneCallChanged.{Place, Here, Else, place}
 

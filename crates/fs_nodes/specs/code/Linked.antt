@@ -5,13 +5,13 @@ use Rattle.std.specs.Ordering.{is_gt}
 use Rattle.fs_names.specs.Names.{Name, name_cmp}
 use Rattle.fs_names.specs.Shapes.{names_of}
 use Rattle.fs_names.specs.declared.limits.TheConstants.{NODE_LIMIT}
-use Rattle.fs_nodes.specs.declared.node.Content.{Content}
-use Rattle.fs_nodes.specs.declared.node.Link.{Link}
+use Rattle.fs_plain.specs.declared.node.Content.{Content}
+use Rattle.fs_plain.specs.declared.node.Link.{Link}
 use Rattle.fs_nodes.specs.declared.place.Place.{Place}
-use Rattle.fs_nodes.specs.code.Edits.{refilled, given_back}
-use Rattle.fs_nodes.specs.Graphs.{Graph, then_at}
-use Rattle.fs_nodes.specs.Stores.{plain, plains}
-use Rattle.fs_nodes.specs.Stores.{link_of, is_in, graph_in, is_above, names_above, IsStore}
+use Rattle.fs_plain.specs.code.Edits.{refilled, given_back}
+use Rattle.fs_graph.specs.Graphs.{Graph, then_at}
+use Rattle.fs_nodes.specs.Plains.{plain, plains}
+use Rattle.fs_plain.specs.Stores.{link_of, is_in, graph_in, is_above, names_above, IsStore}
 
 -- the graph that places are
 abbrev pub graph_of_places : List Place → Graph

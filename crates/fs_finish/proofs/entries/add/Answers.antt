@@ -1,6 +1,6 @@
 use Rattle.std.proofs.Common.{ℕ, Some, ap, ◌∙◌}
 use Rattle.fs_nodes.specs.Seen.{seen}
-use Rattle.fs_nodes.proofs.CycleLemmas.{bare_reaches}
+use Rattle.fs_plain.proofs.RealLemmas.{bare_reaches}
 use Rattle.fs_finish.proofs.entries.add.Goals as goal
 
 pub link-requires-clause-apart : goal.link-requires-clause-apart

@@ -1,6 +1,6 @@
 use Rattle.std.proofs.Common.{ap, subst, ◌∙◌}
 use Rattle.fs_nodes.specs.Graphs.{Graph, moved_in, IsReached}
-use Rattle.fs_nodes.proofs.CycleLemmas.{reached_less}
+use Rattle.fs_graph.proofs.CycleLemmas.{reached_less}
 use Rattle.fs_nodes.specs.Seen.{Seen, seen}
 use Rattle.fs_nodes.specs.Stores.{graph_of, child}
 use Rattle.fs_finish.proofs.MoveLemmas.{entry_gone, entry_stays, moves_again}

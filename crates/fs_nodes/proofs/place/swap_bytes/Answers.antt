@@ -1,6 +1,6 @@
 use Rattle.std.proofs.Common.{◌≡◌, ◌∙◌, sym, ap, get_or, Some, IfSome, Option, subst}
 use Rattle.std.specs.Prelude.{slice_get}
-use Rattle.fs_nodes.specs.declared.node.Content.{Content}
+use Rattle.fs_plain.specs.declared.node.Content.{Content}
 use Rattle.fs_nodes.specs.declared.place.Place.{Place}
 use Rattle.fs_nodes.specs.code.Linked.{with_content, content_old}
 use Rattle.fs_nodes.proofs.LinkLemmas.{set_edited}

@@ -1,5 +1,5 @@
-use Rattle.fs_nodes.specs.Stores.{graph_of, limit_of, room}
-use Rattle.fs_nodes.proofs.RealLemmas.{linked_real}
+use Rattle.fs_plain.specs.Stores.{graph_of, limit_of, room}
+use Rattle.fs_nodes.proofs.SeenLemmas.{linked_real}
 use Rattle.fs_nodes.proofs.store.Store.find.Goals as goal
 
 pub returns-clause-real : goal.returns-clause-real

@@ -1,6 +1,6 @@
-use Rattle.fs_nodes.specs.Stores.{graph_of, limit_of, room}
+use Rattle.fs_plain.specs.Stores.{graph_of, limit_of, room}
 use Rattle.fs_nodes.proofs.EntryLemmas.{none_some}
-use Rattle.fs_nodes.proofs.RealLemmas.{linked_real}
+use Rattle.fs_nodes.proofs.SeenLemmas.{linked_real}
 use Rattle.fs_nodes.proofs.store.Store.next_entry_after.Goals as goal
 
 pub returns-in-Some-clause-unlinked : goal.returns-in-Some-clause-unlinked

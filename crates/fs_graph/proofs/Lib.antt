@@ -1,0 +1,3 @@
+pub mod NameLemmas
+pub mod EqualLemmas
+pub mod CycleLemmas

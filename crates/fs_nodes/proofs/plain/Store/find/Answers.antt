@@ -1,7 +1,0 @@
-use Rattle.fs_nodes.specs.Stores.{graph_of, limit_of, room}
-use Rattle.fs_nodes.proofs.RealLemmas.{real_of}
-use Rattle.fs_nodes.proofs.plain.Store.find.Goals as goal
-
-pub returns-clause-real : goal.returns-clause-real
-unfolding graph_of limit_of room
-returns-clause-real c = rw (← c.self.view_is) (real_of c.self.inside.limit c.self.inside.limit c.self.inside.places.items c.self.invariant c.self.invariant.within)
