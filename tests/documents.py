@@ -423,6 +423,9 @@ class Definitions:
         while left:
             module, name = place = left.pop()
             definitions, imports = self.file(module)
+            if name not in definitions and name in imports:
+                # A page that hands it on.
+                left.append(imports[name])
             if place not in seen and name in definitions:
                 seen.add(place)
                 self.found[module].add(definitions[name])
@@ -479,7 +482,7 @@ class Believed(Sentences):
     """What docs/BELIEVE.md counts: the definitions behind the headline, over their own references."""
 
     # What the models of a timeline, a core and a store name.
-    MODELS = ("fs_timeline.specs.Timeline", "TimelineValue"), ("fs_core.specs.CoreValues", "CoreValue"), ("fs_nodes.specs.Stores", "plains")
+    MODELS = ("fs_timeline.specs.Timeline", "TimelineValue"), ("fs_core.specs.CoreValues", "CoreValue"), ("fs_nodes.specs.Plains", "plains")
 
     def setUp(self):
         self.headline = of_headline(("lawful", "spelled"), self.MODELS)
