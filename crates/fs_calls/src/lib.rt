@@ -15,6 +15,8 @@ pub mod name_list;
 pub mod path_errors;
 pub mod ranges;
 pub mod reply;
+pub mod rows;
+pub mod table;
 pub mod target;
 
 pub use call::Call;
@@ -23,4 +25,5 @@ pub use fs_names::Bytes;
 pub use name_list::NameList;
 pub use path_errors::rename_error;
 pub use reply::Reply;
+pub use rows::Sight;
 pub use target::{EntryCall, NodeCall, PairCall, Target};

@@ -7,33 +7,67 @@ ghost use Rattle.fs_calls.specs.Forms as forms;
 ghost use Rattle.fs_calls.specs.declared.target.PairCall.TheVariants as pairs;
 
 use crate::call::Call;
+use crate::calls;
 use crate::errno::Errno;
 use crate::target::{EntryCall, PairCall, Target};
 use fs_names::Path;
+
+/// A check of the paths of a call on two entries.
+macro_rules! path_check {
+    (is_root, $path:expr, $new_path:expr) => { $path.is_empty() || $new_path.is_empty() };
+    (is_below, $path:expr, $new_path:expr) => { $path.is_proper_prefix_of($new_path) };
+}
+
+/// The errors of the calls on two entries that their paths alone decide.
+macro_rules! path_errors {
+    (($pair:expr, $path:expr, $new_path:expr)
+        entries $entries:tt
+        pairs { $($call:ident { [$($check:ident => $errno:ident),*] $($row:tt)* })* }
+        $($others:tt)*
+    ) => {
+        match $pair {
+            $(PairCall::$call => {
+                $(if path_check!($check, $path, $new_path) {
+                    return Some(Errno::$errno);
+                })*
+                None
+            })*
+        }
+    };
+}
+
+/// The error of a call on two entries that its paths alone decide, if any.
+fn pair_error(pair: PairCall, path: &Path, new_path: &Path) -> Option<Errno>
+    ensures { result ≡ by_text (forms.AtPair pair path.now new_path.now) }
+{
+    calls!(path_errors(pair, path, new_path))
+}
 
 /// The error of a rename that its paths alone decide, if any: `EBUSY` where either is the root, `EINVAL` where the
 /// new path is below the old one (POSIX.1-2017, XSH 3, rename()).
 pub fn rename_error(path: &Path, new_path: &Path) -> Option<Errno>
     ensures { result ≡ by_text (forms.AtPair pairs.Rename path.now new_path.now) }
 {
-    if path.is_empty() || new_path.is_empty() {
-        return Some(Errno::Ebusy);
-    }
-    if path.is_proper_prefix_of(new_path) {
-        return Some(Errno::Einval);
-    }
-    None
+    pair_error(PairCall::Rename, path, new_path)
+}
+
+/// The errors of the calls on the root's entry.
+macro_rules! root_errors {
+    (($entry:expr)
+        entries { $($call:ident { [$errno:ident] $does:tt $errors:tt })* }
+        $($others:tt)*
+    ) => {
+        match $entry {
+            $(EntryCall::$call => Errno::$errno,)*
+        }
+    };
 }
 
 /// The error of a call on the root's entry.
 fn root_error(entry: EntryCall) -> Errno
     ensures { result ≡ root_error entry }
 {
-    match entry {
-        EntryCall::Mkdir | EntryCall::Mknod => Errno::Eexist,
-        EntryCall::Unlink => Errno::Eperm,
-        EntryCall::Rmdir => Errno::Ebusy,
-    }
+    calls!(root_errors(entry))
 }
 
 /// The error that the paths of a target alone decide.
@@ -43,7 +77,7 @@ fn target_error(aim: Target<'_>) -> Option<Errno>
     match aim {
         Target::Entry(entry, path) if path.is_empty() => Some(root_error(entry)),
         Target::Node(_, _) | Target::Entry(_, _) => None,
-        Target::Pair(PairCall::Rename, path, new_path) => rename_error(path, new_path),
+        Target::Pair(pair, path, new_path) => pair_error(pair, path, new_path),
     }
 }
 

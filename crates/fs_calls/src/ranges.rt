@@ -1,8 +1,9 @@
-//! Ranges of a file's bytes: what a read answers of them, and what a write puts over.
+//! Ranges of a file's bytes: what a read answers of them, and what a write puts over. And the limits of files and
+//! directories, which are compared here and nowhere else.
 
 ghost use Rattle.std.specs.Prelude.{◌≡◌, ◌≤◌, ◌+◌, ◌++◌, take, drop, length, nat_le};
 
-use fs_names::FILE_LIMIT;
+use fs_names::{ENTRY_LIMIT, FILE_LIMIT};
 
 /// The bytes from an offset on, and no more than a count.
 pub fn part(bytes: &[u8], off: u64, count: u64) -> &[u8]
@@ -23,6 +24,20 @@ pub fn fits(off: u64, count: usize) -> bool
     ensures { result ≡ nat_le (off + count) FILE_LIMIT }
 {
     off <= FILE_LIMIT as u64 && count <= FILE_LIMIT - off as usize
+}
+
+/// Whether a file can have this size.
+pub fn fits_size(size: u64) -> bool
+    ensures { result ≡ nat_le size FILE_LIMIT }
+{
+    size <= FILE_LIMIT as u64
+}
+
+/// Whether a directory with so many entries can have no more.
+pub fn is_full(entries: usize) -> bool
+    ensures { result ≡ nat_le ENTRY_LIMIT entries }
+{
+    entries >= ENTRY_LIMIT
 }
 
 /// Puts bytes over those from an offset on.

@@ -20,7 +20,7 @@ use crate::beginning::make_ready;
 use crate::done::Done;
 use crate::helping::{Way, no_way, to_help_before};
 use crate::seat::{self, Running};
-use fs_calls::Call;
+use fs_calls::{Call, phases};
 use fs_finish::Plan;
 use fs_index::IndexedTimeline;
 use fs_locks::Holders;
@@ -65,19 +65,26 @@ impl Model for Core {
     ghost invariant = { λ a. IsKept (record { start = a.start; store = a.store; holding = a.holders; seats = a.seats.items; timeline = a.timeline.entries }) a.begun a.commits a.timeline.reserved × (length a.ways.items ≡ length a.seats.items) × AreStarting a.starting.items a.seats.items };
 }
 
-/// A match on a call's next move, whose arms are written from a table: the moves that are made in every phase of a call, and
-/// those that are made in one way while it walks and in another once it has its place.
+/// How a move is made.
+macro_rules! made {
+    (ends(), $core:expr, $at:expr, $call:expr) => { Done::Ends($call) };
+    ($make:ident($($arg:ident),*), $core:expr, $at:expr, $call:expr) => { $core.$make($at, $call, $($arg),*) };
+}
+
+/// A match on a call's next move, whose arms are written from the table of phases (`fs_calls/src/table.rt`): the moves that are
+/// made in every phase of a call, and those that are made in one way while it walks and in another once it has its place.
 macro_rules! by_move {
-    ($next:expr, $place:expr;
-        always { $($move:pat => $row:expr,)+ }
-        by_phase { $($phased:pat => { walking => $walking:expr, placed $at:ident => $placed:expr, })+ }
+    (($core:expr, $at:expr, $call:expr, $next:expr, $place:expr)
+        walking $wants:tt
+        always { $($move:ident $(($arg:ident))? { [$($make:tt)*] })* }
+        by_phase { $($phased:ident($what:ident) { [$($walking:tt)*] ($its:ident) [$($placed:tt)*] })* }
     ) => {
         match $next {
-            $($move => $row,)+
-            $($phased => match $place {
-                None => $walking,
-                Some($at) => $placed,
-            },)+
+            $(Next::$move $(($arg))? => made!($($make)*, $core, $at, $call),)*
+            $(Next::$phased($what) => match $place {
+                None => made!($($walking)*, $core, $at, $call),
+                Some($its) => made!($($placed)*, $core, $at, $call),
+            },)*
         }
     };
 }
@@ -194,19 +201,7 @@ impl Core {
         ensures step { Does self.old at result self.new }
         ensures seats { length self.new.seats ≡ length self.old.seats }
     {
-        by_move! { next, place;
-            always {
-                Next::Take(node) => self.take(at, call, node),
-                Next::LetGo(node) => self.let_go(at, call, node),
-                Next::Return => Done::Ends(call),
-            }
-            by_phase {
-                Next::Finish(plan) => {
-                    walking => self.help_or_commit(at, call, plan),
-                    placed place => self.carry_out(at, call, plan, place),
-                }
-            }
-        }
+        phases!(by_move(self, at, call, next, place))
     }
 
     /// The call on a seat does its next move, as the nodes are, unless that is its return.

@@ -22,8 +22,27 @@ use crate::rename::rename;
 use crate::replies::Replies;
 use crate::room::Room;
 use crate::write::{truncate, write};
-use fs_calls::{NodeCall, Target};
+use fs_calls::{NodeCall, Target, calls};
 use fs_nodes::{NodeNo, Store};
+
+/// How a call on a node is carried out there.
+macro_rules! carried {
+    (stat(), $store:expr, $node:expr, $prepared:expr) => { stat($store, $node) };
+    ($does:ident($($arg:ident),*), $store:expr, $node:expr, $prepared:expr) => { $does($store, $node, $($arg,)* $prepared) };
+}
+
+/// How the calls on a node are carried out, by what the table says that each does.
+macro_rules! node_effects {
+    (($call:expr, $store:expr, $node:expr, $prepared:expr)
+        entries $entries:tt
+        pairs $pairs:tt
+        nodes { $($name:ident $(($($arg:ident),*))? { [$($does:tt)*] $errors:tt })* }
+    ) => {
+        match $call {
+            $(NodeCall::$name $(($($arg),*))? => carried!($($does)*, $store, $node, $prepared),)*
+        }
+    };
+}
 
 /// A call on a node replies there, and changes its bytes.
 fn answer(call: NodeCall<'_>, node: NodeNo, prepared: Room, store: &mut Store) -> Replies
@@ -32,13 +51,7 @@ fn answer(call: NodeCall<'_>, node: NodeNo, prepared: Room, store: &mut Store) -
     ensures reply { result ≡ (node_row (node_call call.entry) None (shape store.old node)).0 }
     ensures change { seen store.new ≡ record (seen store.old) { graph = refilled node (node_row (node_call call.entry) None (shape store.old node)).1 (graph_of store.old) } }
 {
-    match call {
-        NodeCall::Stat => stat(store, node),
-        NodeCall::Readdir => readdir(store, node, prepared),
-        NodeCall::Read(off, count) => read(store, node, off, count, prepared),
-        NodeCall::Write(off, bytes) => write(store, node, off, bytes.as_slice(), prepared),
-        NodeCall::Truncate(size) => truncate(store, node, size, prepared),
-    }
+    calls!(node_effects(call, store, node, prepared))
 }
 
 /// A call answers at a node.

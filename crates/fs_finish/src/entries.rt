@@ -1,14 +1,12 @@
 //! How the calls on an entry finish at its directory.
 
 ghost use Rattle.std.specs.Prelude.{◌≡◌, ◌≢◌, false, None, IfSome, IsSome, IsTrue};
-ghost use Rattle.fs_names.specs.Failures.{first_failure};
 ghost use Rattle.fs_names.specs.Shapes.{is_dir, is_there, has_entries, is_full};
 ghost use Rattle.fs_nodes.specs.Graphs.{then_at};
 ghost use Rattle.fs_nodes.specs.Seen.{seen, IsReal};
 ghost use Rattle.fs_nodes.specs.Stores.{child, shape, graph_of};
 ghost use Rattle.fs_calls.specs.Forms.{new_shape};
-ghost use Rattle.fs_calls.specs.declared.target.EntryCall.TheVariants as entries;
-ghost use Rattle.fs_calls.specs.Rows.{as_dir, entry_fault, entry_errors};
+ghost use Rattle.fs_calls.specs.Rows.{as_dir, entry_fault};
 ghost use Rattle.fs_finish.specs.Endings.{IsEffect};
 ghost use Rattle.fs_finish.specs.Plans.{entry_plan, added, removed};
 ghost use Rattle.fs_machine.specs.OpValues.{SpareIf};
@@ -17,54 +15,11 @@ use crate::finish::Finish;
 use crate::plan::Plan;
 use crate::queries::dir_fault;
 use crate::replies::Replies;
-use fs_calls::{EntryCall, Errno};
-use fs_names::{ENTRY_LIMIT, Name};
+use crate::sights::sight_at;
+use fs_calls::ranges::is_full;
+use fs_calls::{EntryCall, Errno, calls};
+use fs_names::Name;
 use fs_nodes::{NodeNo, Store};
-
-/// Why a directory gets no new entry, by what the name stands for.
-fn make_fault(store: &Store, dir: NodeNo, there: Option<NodeNo>) -> Option<Errno>
-    requires used { IfSome there (λ node. IsTrue (is_there (shape store.now node))) }
-    ensures { result ≡ first_failure (entry_errors entries.Mkdir (is_full (shape store.now dir)) (then_at there (shape store.now))) }
-{
-    if there.is_some() {
-        return Some(Errno::Eexist);
-    }
-    if store.entries(dir) >= ENTRY_LIMIT {
-        return Some(Errno::Enospc);
-    }
-    None
-}
-
-/// Why the entry of a file does not go.
-fn unlink_fault(store: &Store, there: Option<NodeNo>) -> Option<Errno>
-    requires used { IfSome there (λ node. IsTrue (is_there (shape store.now node))) }
-    ensures { result ≡ first_failure (entry_errors entries.Unlink false (then_at there (shape store.now))) }
-{
-    let Some(node) = there else {
-        return Some(Errno::Enoent);
-    };
-    if store.is_dir(node) {
-        return Some(Errno::Eperm);
-    }
-    None
-}
-
-/// Why the entry of an empty directory does not go.
-fn rmdir_fault(store: &Store, there: Option<NodeNo>) -> Option<Errno>
-    requires used { IfSome there (λ node. IsTrue (is_there (shape store.now node))) }
-    ensures { result ≡ first_failure (entry_errors entries.Rmdir false (then_at there (shape store.now))) }
-{
-    let Some(node) = there else {
-        return Some(Errno::Enoent);
-    };
-    if store.is_file(node) {
-        return Some(Errno::Enotdir);
-    }
-    if store.entries(node) > 0 {
-        return Some(Errno::Enotempty);
-    }
-    None
-}
 
 /// Why a call on an entry fails at a node that should be its directory, by what the name stands for there.
 fn fault(store: &Store, dir: NodeNo, entry: EntryCall, there: Option<NodeNo>) -> Option<Errno>
@@ -74,11 +29,29 @@ fn fault(store: &Store, dir: NodeNo, entry: EntryCall, there: Option<NodeNo>) ->
     if let Some(errno) = dir_fault(store, dir) {
         return Some(errno);
     }
-    match entry {
-        EntryCall::Mkdir | EntryCall::Mknod => make_fault(store, dir, there),
-        EntryCall::Unlink => unlink_fault(store, there),
-        EntryCall::Rmdir => rmdir_fault(store, there),
-    }
+    entry.error(sight_at(store, there), is_full(store.entries(dir)))
+}
+
+/// The plan of what a call on an entry does.
+macro_rules! plan {
+    (adds, $dir:expr) => {
+        Plan::Adds($dir)
+    };
+    (removes, $dir:expr) => {
+        Plan::Removes($dir)
+    };
+}
+
+/// The plans of the calls on an entry.
+macro_rules! entry_plans {
+    (($entry:expr, $dir:expr)
+        entries { $($call:ident { $root:tt [$does:ident $kind:ident] $errors:tt })* }
+        $($others:tt)*
+    ) => {
+        match $entry {
+            $(EntryCall::$call => plan!($does, $dir),)*
+        }
+    };
 }
 
 /// What a call on an entry does at a node that should be its directory, by what the name stands for there.
@@ -89,10 +62,7 @@ pub fn entry_plan(store: &Store, dir: NodeNo, entry: EntryCall, there: Option<No
     if let Some(errno) = fault(store, dir, entry, there) {
         return Plan::Fails(errno);
     }
-    match entry {
-        EntryCall::Mkdir | EntryCall::Mknod => Plan::Adds(dir),
-        EntryCall::Unlink | EntryCall::Rmdir => Plan::Removes(dir),
-    }
+    calls!(entry_plans(entry, dir))
 }
 
 /// The reserved number, which is not the directory, gets an entry there.

@@ -20,6 +20,7 @@ pub mod queries;
 pub mod rename;
 pub mod replies;
 pub mod room;
+pub mod sights;
 pub mod write;
 
 pub use carrying::carry_out;

@@ -11,8 +11,10 @@ ghost use Rattle.fs_finish.specs.Rooms.{SufficesFor};
 
 use crate::replies::Replies;
 use crate::room::{NameRoom, Room};
+use crate::sights::sight_of;
 use fs_calls::ranges::part;
-use fs_calls::{Errno, NameList, Reply};
+use fs_calls::rows::step_error;
+use fs_calls::{Errno, NameList, NodeCall, Reply};
 use fs_names::{Kind, Name};
 use fs_nodes::{NodeNo, Store};
 
@@ -20,10 +22,7 @@ use fs_nodes::{NodeNo, Store};
 pub fn walk_error(store: &Store, node: NodeNo) -> Errno
     ensures { result ≡ walk_errno (shape store.now node) }
 {
-    if store.is_file(node) {
-        return Errno::Enotdir;
-    }
-    Errno::Enoent
+    step_error(store.is_file(node))
 }
 
 /// Why a node cannot have entries.
@@ -48,13 +47,11 @@ fn told(kind: Kind, size: usize) -> Replies
 pub fn stat(store: &Store, node: NodeNo) -> Replies
     ensures { result ≡ (node_row calls.Stat None (shape store.now node)).0 }
 {
-    if store.is_dir(node) {
-        return told(Kind::Dir, store.entries(node));
+    match NodeCall::Stat.error(sight_of(store, node)) {
+        Some(errno) => Replies::failed(errno),
+        None if store.is_dir(node) => told(Kind::Dir, store.entries(node)),
+        None => told(Kind::File, store.content(node).len()),
     }
-    if store.is_file(node) {
-        return told(Kind::File, store.content(node).len());
-    }
-    Replies::failed(Errno::Enoent)
 }
 
 /// Puts the names of a directory into a vector that has room for them.
@@ -90,14 +87,11 @@ pub fn readdir(store: &Store, node: NodeNo, prepared: Room) -> Replies
     let Room::Lists(one, other) = prepared else {
         unreachable!();
     };
-    if store.is_dir(node) {
-        let names_told = Reply::Names(names(store, node, one));
-        return Replies::new(names_told, Reply::Names(names(store, node, other)));
+    if let Some(errno) = NodeCall::Readdir.error(sight_of(store, node)) {
+        return Replies::failed(errno);
     }
-    if store.is_file(node) {
-        return Replies::failed(Errno::Enotdir);
-    }
-    Replies::failed(Errno::Enoent)
+    let names_told = Reply::Names(names(store, node, one));
+    Replies::new(names_told, Reply::Names(names(store, node, other)))
 }
 
 /// The bytes of the file from an offset on, and no more than a count.
@@ -109,15 +103,12 @@ pub fn read(store: &Store, node: NodeNo, off: u64, count: u64, prepared: Room) -
     let Room::Copies(one, other) = prepared else {
         unreachable!();
     };
-    if store.is_dir(node) {
-        return Replies::failed(Errno::Eisdir);
+    if let Some(errno) = NodeCall::Read(off, count).error(sight_of(store, node)) {
+        return Replies::failed(errno);
     }
-    if store.is_file(node) {
-        let asked = part(store.content(node), off, count);
-        return Replies::new(
-            Reply::Bytes(one.copy_of(asked)),
-            Reply::Bytes(other.copy_of(asked)),
-        );
-    }
-    Replies::failed(Errno::Enoent)
+    let asked = part(store.content(node), off, count);
+    Replies::new(
+        Reply::Bytes(one.copy_of(asked)),
+        Reply::Bytes(other.copy_of(asked)),
+    )
 }

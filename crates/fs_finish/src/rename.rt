@@ -1,11 +1,12 @@
 //! How a rename finishes at its two directories.
 
-ghost use Rattle.std.specs.Prelude.{◌≡◌, ◌||◌, Bool, ℕ, List, not, false, None, Some, IfSome, IsTrue, is_some};
-ghost use Rattle.fs_names.specs.Shapes.{Shape, is_dir, is_there, has_entries, is_full};
+ghost use Rattle.std.specs.Prelude.{◌≡◌, ◌||◌, ℕ, List, not, false, None, Some, IfSome, IsTrue, is_some};
+ghost use Rattle.fs_names.specs.Shapes.{is_dir, is_there, has_entries, is_full};
 ghost use Rattle.fs_nodes.specs.Graphs.{moved_in, then_at, IsReached};
 ghost use Rattle.fs_nodes.specs.Seen.{seen, IsReal};
 ghost use Rattle.fs_nodes.specs.Stores.{child, shape, graph_of};
-ghost use Rattle.fs_calls.specs.Rows.{to_row, rename_fault};
+ghost use Rattle.fs_calls.specs.Rows.{rename_fault};
+ghost use Rattle.fs_calls.specs.code.Seen.{sight};
 ghost use Rattle.fs_finish.specs.Endings.{IsEffect};
 ghost use Rattle.fs_finish.specs.Plans.{moved, moving, rename_plan};
 ghost use Rattle.fs_machine.specs.Moves.{there_by};
@@ -14,44 +15,35 @@ use crate::finish::Finish;
 use crate::paths::Paths;
 use crate::plan::{Moving, Plan};
 use crate::replies::Replies;
-use fs_calls::Errno;
-use fs_names::{ENTRY_LIMIT, Name};
+use crate::sights::sight_at;
+use fs_calls::ranges::is_full;
+use fs_calls::rows::PairSight;
+use fs_calls::{PairCall, Sight};
+use fs_names::Name;
 use fs_nodes::{NodeNo, Store};
 
-/// Why a node does not take the place of another one, by their kinds.
-fn kinds_fault(store: &Store, moved: NodeNo, there: NodeNo) -> Option<Errno>
-    ensures { (s t : Shape) (room : Bool) → shape store.now moved ≡ Some s → shape store.now there ≡ Some t → result ≡ to_row s (Some t) room }
-{
-    match (store.is_dir(moved), store.is_dir(there)) {
-        (true, false) => Some(Errno::Enotdir),
-        (false, true) => Some(Errno::Eisdir),
-        (true, true) if store.entries(there) > 0 => Some(Errno::Enotempty),
-        _ => None,
-    }
-}
-
-/// Why a node is not moved to the new path, by what stands there.
-fn place_fault(
+/// What the row of a rename asks, by what stands for both names in the two directories.
+fn sights(
     store: &Store,
-    moved: NodeNo,
+    moved: Option<NodeNo>,
     dest: NodeNo,
     there: Option<NodeNo>,
     paths: Paths,
-) -> Option<Errno>
-    requires used { IfSome there (λ node. IsTrue (is_there (shape store.now node))) }
-    ensures { (s : Shape) → shape store.now moved ≡ Some s
-        → result ≡ to_row s (there_by paths.above (then_at there (shape store.now))) (paths.one_parent || not (is_full (shape store.now dest))) }
+) -> PairSight
+    ensures first { result.first ≡ sight (then_at moved (shape store.now)) }
+    ensures second { result.second ≡ sight (there_by paths.above (then_at there (shape store.now))) }
+    ensures same { result.same_path ≡ paths.same }
+    ensures room { result.has_room ≡ (paths.one_parent || not (is_full (shape store.now dest))) }
 {
-    if paths.above {
-        return Some(match store.is_dir(moved) {
-            true => Errno::Enotempty,
-            false => Errno::Eisdir,
-        });
-    }
-    match there {
-        Some(there) => kinds_fault(store, moved, there),
-        None if paths.one_parent || store.entries(dest) < ENTRY_LIMIT => None,
-        None => Some(Errno::Enospc),
+    let second = match paths.above {
+        true => Sight::Dir,
+        false => sight_at(store, there),
+    };
+    PairSight {
+        first: sight_at(store, moved),
+        second,
+        same_path: paths.same,
+        has_room: paths.one_parent || !is_full(store.entries(dest)),
     }
 }
 
@@ -69,16 +61,13 @@ pub fn rename_plan(
         (rename_fault None None (then_at moved (shape store.now)) paths.same (there_by paths.above (then_at there (shape store.now))) (paths.one_parent || not (is_full (shape store.now dest))))
         paths.same (moving (is_some there) moved) }
 {
-    let Some(moved) = moved else {
-        return Plan::Fails(Errno::Enoent);
-    };
-    if paths.same {
-        return Plan::Stays;
+    if let Some(errno) = PairCall::Rename.error(sights(store, moved, dest, there, paths)) {
+        return Plan::Fails(errno);
     }
-    match place_fault(store, moved, dest, there, paths) {
-        Some(errno) => Plan::Fails(errno),
-        None if there.is_some() => Plan::Replaces(moved),
-        None => Plan::Moves(moved),
+    match &moved {
+        Some(node) if !paths.same && there.is_some() => Plan::Replaces(*node),
+        Some(node) if !paths.same => Plan::Moves(*node),
+        _ => Plan::Stays,
     }
 }
 

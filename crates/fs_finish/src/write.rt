@@ -1,6 +1,7 @@
 //! How the calls that change the bytes of a file finish at their node.
 
 ghost use Rattle.std.specs.Prelude.{◌≡◌, ◌≤◌, ◌+◌, ℕ, List, [], None, length, IsTrue, vec_capacity};
+ghost use Rattle.fs_names.specs.declared.limits.TheConstants.{FILE_LIMIT};
 ghost use Rattle.fs_names.specs.Shapes.{bytes_of, is_file};
 ghost use Rattle.fs_nodes.specs.Graphs.{content_in};
 ghost use Rattle.fs_nodes.specs.Seen.{seen};
@@ -12,9 +13,9 @@ ghost use Rattle.fs_finish.specs.Rooms.{SufficesFor};
 
 use crate::replies::Replies;
 use crate::room::{ByteRoom, Room};
-use fs_calls::ranges::{fits, put};
-use fs_calls::{Errno, Reply};
-use fs_names::FILE_LIMIT;
+use crate::sights::sight_of;
+use fs_calls::ranges::put;
+use fs_calls::{Bytes, NodeCall, Reply};
 use fs_nodes::{NodeNo, Store};
 
 /// The bytes of a vector, in one that has room for so many: their own, or else the buffer. Where they become more, their own
@@ -89,7 +90,7 @@ fn resize(store: &mut Store, file: NodeNo, size: usize, buffer: ByteRoom)
 }
 
 /// Writes bytes into the file.
-pub fn write(store: &mut Store, node: NodeNo, off: u64, bytes: &[u8], prepared: Room) -> Replies
+pub fn write(store: &mut Store, node: NodeNo, off: u64, bytes: &Bytes, prepared: Room) -> Replies
     requires room { SufficesFor (calls.Write off bytes.now) prepared }
     ensures reply { result ≡ (node_row (calls.Write off bytes.now) None (shape store.old node)).0 }
     ensures change { seen store.new ≡ record (seen store.old) { graph = refilled node (node_row (calls.Write off bytes.now) None (shape store.old node)).1 (graph_of store.old) } }
@@ -97,21 +98,14 @@ pub fn write(store: &mut Store, node: NodeNo, off: u64, bytes: &[u8], prepared: 
     let Room::Content(buffer) = prepared else {
         unreachable!();
     };
-    if store.is_dir(node) {
-        return Replies::failed(Errno::Eisdir);
+    if let Some(errno) = NodeCall::Write(off, bytes).error(sight_of(store, node)) {
+        return Replies::failed(errno);
     }
-    if !store.is_file(node) {
-        return Replies::failed(Errno::Enoent);
+    let count = bytes.as_slice().len() as u64;
+    if count > 0 {
+        put_into(store, node, off as usize, bytes.as_slice(), buffer);
     }
-    let count = bytes.len();
-    if count == 0 {
-        return Replies::new(Reply::Wrote(0), Reply::Wrote(0));
-    }
-    if !fits(off, count) {
-        return Replies::failed(Errno::Efbig);
-    }
-    put_into(store, node, off as usize, bytes, buffer);
-    Replies::new(Reply::Wrote(count as u64), Reply::Wrote(count as u64))
+    Replies::new(Reply::Wrote(count), Reply::Wrote(count))
 }
 
 /// Cuts the file to a size, or adds zeros up to it.
@@ -123,14 +117,8 @@ pub fn truncate(store: &mut Store, node: NodeNo, size: u64, prepared: Room) -> R
     let Room::Content(buffer) = prepared else {
         unreachable!();
     };
-    if store.is_dir(node) {
-        return Replies::failed(Errno::Eisdir);
-    }
-    if !store.is_file(node) {
-        return Replies::failed(Errno::Enoent);
-    }
-    if size > FILE_LIMIT as u64 {
-        return Replies::failed(Errno::Efbig);
+    if let Some(errno) = NodeCall::Truncate(size).error(sight_of(store, node)) {
+        return Replies::failed(errno);
     }
     resize(store, node, size as usize, buffer);
     Replies::done()

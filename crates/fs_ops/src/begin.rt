@@ -13,21 +13,35 @@ ghost use Rattle.fs_machine.specs.OpValues.{BegunAs, new_value};
 
 use crate::end::give_back;
 use crate::prepared::Prepared;
-use fs_calls::{Call, EntryCall, PairCall, Target};
+use fs_calls::{Call, EntryCall, PairCall, Target, calls};
 use fs_finish::room::Room;
 use fs_names::{Kind, PATH_LIMIT, Path};
 use fs_nodes::{NoNode, NodeNo, Store};
 use std::alloc::{AllocError, Global};
 
+/// The kind of node that a call on an entry, by what it does, may add.
+macro_rules! added {
+    (adds $kind:ident) => { Some(Kind::$kind) };
+    (removes $kind:ident) => { None };
+}
+
+/// The kinds of the nodes that the calls on an entry may add.
+macro_rules! kinds {
+    (($entry:expr)
+        entries { $($call:ident { $root:tt [$does:ident $kind:ident] $errors:tt })* }
+        $($others:tt)*
+    ) => {
+        match $entry {
+            $(EntryCall::$call => added!($does $kind),)*
+        }
+    };
+}
+
 /// The kind of node that a call on an entry may add.
 fn kind_of(entry: EntryCall) -> Option<Kind>
     ensures { option_map new_shape result ≡ entry_shape entry }
 {
-    match entry {
-        EntryCall::Mkdir => Some(Kind::Dir),
-        EntryCall::Mknod => Some(Kind::File),
-        EntryCall::Unlink | EntryCall::Rmdir => None,
-    }
+    calls!(kinds(entry))
 }
 
 /// The kind of node that a call reserves a number for.
