@@ -104,7 +104,11 @@ class Page(Case):
     """A test of what pages say. Of a row that fails it tells which side is the page, and which the repository or this machine."""
 
     def agrees(self, subject, page, found):
-        """What a page says of a subject is what is found in the repository, or on this machine."""
+        """What a page says of a subject is what is found in the repository, or on this machine. Of two lists it tells what one alone has."""
+        if isinstance(page, list) and isinstance(found, list):
+            alone = [one for one in page if one not in found], [one for one in found if one not in page]
+            if any(alone):
+                self.alike(subject, ("the page alone says", alone[0]), ("it does not say", alone[1]))
         self.alike(subject, ("the page says", page), ("it is", found))
 
 
