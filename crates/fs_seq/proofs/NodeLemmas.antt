@@ -7,6 +7,7 @@ use Rattle.fs_names.specs.Keys.{Key, parent_of, last_of}
 use Rattle.fs_calls.specs.declared.errno.Errno.TheVariants.{Enoent, Enotdir}
 use Rattle.fs_seq.specs.declared.nodes.Link.{Link}
 use Rattle.fs_seq.specs.declared.nodes.Node.{Node}
+use Rattle.fs_seq.specs.declared.nodes.Node.TheVariants as nodes
 use Rattle.fs_seq.specs.code.Nodes.{verdict}
 use Rattle.fs_seq.specs.code.Slots.{Place, Dir, File, Slots, place_at, links_of, node_of, links_at, child, node_at}
 use Rattle.fs_seq.specs.code.Nodes.{pairs, place, slot_place, graph, number_of, IsNameAt, BelongsAt}
@@ -35,6 +36,16 @@ some_slot (Some node) e = refl
 -- a number with a place is a key of the slab
 pub has_key : (s : Slab Node) (n : ℕ) → is_some (place_at (graph s) n) ≡ true → IsSome (get s n)
 has_key s n e = some_slot (get s n) (ap is_some (sym (place_of_slot s.slots n)) ∙ e)
+
+-- a slot with a node has a place
+slot_used : (o : Option Node) → IsSome o → is_some (slot_place o) ≡ true
+slot_used None h = absurd (cc)
+slot_used (Some (nodes.Dir links)) h = refl
+slot_used (Some (nodes.File bytes)) h = refl
+
+-- a key of the slab is a number with a place
+pub key_there : (s : Slab Node) (n : ℕ) → IsSome (get s n) → is_some (place_at (graph s) n) ≡ true
+key_there s n h = ap is_some (place_of_slot s.slots n) ∙ slot_used (get s n) h
 
 -- the links of a directory, and those of a file
 pub links_got : (g : Slots) (n : ℕ) (o : Option Place) → place_at g n ≡ o → links_at g n ≡ links_of o

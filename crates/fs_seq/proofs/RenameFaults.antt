@@ -1,17 +1,17 @@
 -- The errors of a rename, by what was looked up.
-use Rattle.std.proofs.Common.{◌≡◌, ◌≢◌, ℕ, suc, ◌<◌, ◌≤◌, Bool, true, false, not, ◌||◌, List, [], ◌∷◌, length, map, Some, None, Option, is_some, Ok, refl, sym, ap, ◌∙◌, arith, nat_eq}
+use Rattle.std.proofs.Common.{◌≡◌, ◌≢◌, ℕ, suc, Bool, true, false, not, ◌||◌, ◌&&◌, List, [], ◌∷◌, length, map, Some, None, Option, is_some, Ok, refl, sym, ap, ◌∙◌, arith, nat_eq}
 use Rattle.std.specs.Prelude.{nat_le}
 use Rattle.std.proofs.lemmas.Bool.Decides.{nat_tests}
-use Rattle.fs_names.specs.Failures.{check, or_else}
+use Rattle.fs_names.specs.Failures.{check, or_else, first_failure}
 use Rattle.fs_names.specs.Names.{Name}
 use Rattle.fs_names.specs.Keys.{Key, is_root, is_proper_prefix, parent_of, last_of}
 use Rattle.fs_names.specs.declared.limits.TheConstants.{ENTRY_LIMIT}
 use Rattle.fs_names.proofs.FailureLemmas.{check-none}
 use Rattle.fs_calls.specs.Tree.{Tree}
-use Rattle.fs_calls.specs.Sights.{Shape, tree_shapes, is_missing}
+use Rattle.fs_calls.specs.Sights.{Shape, tree_shapes, is_missing, is_file, is_dir, has_entries}
 use Rattle.fs_calls.specs.Forms.{form, by_text}
 use Rattle.fs_calls.specs.Sights.{is_same}
-use Rattle.fs_calls.specs.Rows.{has_room, place_fault, rename_fault}
+use Rattle.fs_calls.specs.Rows.{has_room, place_fault, rename_errors, rename_fault}
 use Rattle.fs_calls.specs.Outcomes.{parents_resolution, row, fault}
 use Rattle.fs_seq.specs.code.Slots.{Place, Dir, File, Slots, place_at, shape_of, links_at, walk, shape_at, tree_of, IsForest}
 use Rattle.fs_seq.specs.code.Nodes.{IsTaken, IsFree, LooksUp}
@@ -20,7 +20,7 @@ use Rattle.fs_seq.specs.declared.nodes.Spot.TheVariants.{Taken, Free}
 use Rattle.fs_seq.specs.code.Renaming.{Moves}
 use Rattle.fs_calls.specs.declared.call.Call.TheVariants.{Rename}
 use Rattle.fs_calls.specs.declared.errno.Errno.{Errno}
-use Rattle.fs_calls.specs.declared.errno.Errno.TheVariants.{Enoent, Enotempty, Einval, Ebusy, Enospc}
+use Rattle.fs_calls.specs.declared.errno.Errno.TheVariants.{Enoent, Enotdir, Eisdir, Enotempty, Einval, Ebusy, Enospc}
 use Rattle.fs_calls.proofs.KeyLemmas.{no_true, never_same, is_same_refl, is_same_exact, parent_and_last}
 use Rattle.fs_seq.proofs.Resolving.{walk_on, walk_off, seen_at, seen_none, child-find}
 use Rattle.fs_seq.proofs.Parents.{parents_found}
@@ -28,19 +28,19 @@ use Rattle.fs_calls.proofs.FaultLemmas.{all_none, or_first, or_second}
 
 -- ---- kinds
 
--- what replaces what, by the places
-pub kinds : (g : Slots) (n v : ℕ) (a b : Option Place) (o : Option Errno) (room : Bool) → place_at g n ≡ a → place_at g v ≡ b → o ≡ place_fault (shape_of a) (shape_of b) room → o ≡ place_fault (shape_at g n) (shape_at g v) room
-kinds g n v a b o room e f h = h ∙ (λ i. place_fault (shape_of (sym e i)) (shape_of (sym f i)) room)
+-- where something stands, nobody asks for room
+any_room : (moved there : Option Shape) (room : Bool) → is_missing there ≡ false → place_fault moved there true ≡ place_fault moved there room
+any_room moved there room h = without true ∙ sym (without room)
+  where
+    kinds : Option Errno → Option Errno
+    kinds last = first_failure (check (is_file there && is_dir moved) Enotdir ∷ check (is_dir there && is_file moved) Eisdir ∷ check (has_entries there) Enotempty ∷ last ∷ [])
 
--- a directory onto one without entries
-pub onto_empty : (links more : List (Name × ℕ)) (room : Bool) → length more ≡ 0 → None ≡ place_fault (shape_of (Some (Dir links))) (shape_of (Some (Dir more))) room
-onto_empty links [] room e = refl
-onto_empty links (l ∷ more) room e = absurd (omega arith)
+    without : (b : Bool) → place_fault moved there b ≡ kinds None
+    without b = ap (λ z. kinds (check (z && not b) Enospc)) h
 
--- a directory onto one with entries
-pub onto_used : (links more : List (Name × ℕ)) (room : Bool) → (length more ≡ 0 → ⊥) → Some Enotempty ≡ place_fault (shape_of (Some (Dir links))) (shape_of (Some (Dir more))) room
-onto_used links [] room h = absurd (h refl)
-onto_used links (l ∷ more) room h = refl
+-- what is seen of a place is what stands there, so its row is that of a node that moves
+pub place_row : (moved there : Option Shape) (room : Bool) → is_missing moved ≡ false → first_failure (rename_errors moved false there room) ≡ place_fault moved there room
+place_row moved there room h = ap (λ b. or_else (check b Enoent) (place_fault moved there room)) h
 
 -- ---- the rows
 
@@ -93,26 +93,13 @@ nat_self a = grind (arith, nat_tests)
 nat_itself : (a : ℕ) → nat_eq a a ≡ false → ⊥
 nat_itself a h = let e = nat_self a in absurd (cc)
 
--- where there is room the check finds nothing
-never : (b : Bool) → check (not (b || true)) Enospc ≡ None
-never true = refl
-never false = refl
-
 -- there are as many names as links
 length_names : (links : List (Name × ℕ)) → length (map (λ l. l.0) links) ≡ length links
 length_names [] = refl
 length_names (l ∷ links) = ap suc (length_names links)
 
--- the limit is reached
-at_limit : (n : ℕ) → ENTRY_LIMIT ≤ n → nat_le ENTRY_LIMIT n ≡ true
-at_limit n h = grind (arith, nat_tests)
-
--- the limit is not reached
-below_limit : (n : ℕ) → n < ENTRY_LIMIT → nat_le ENTRY_LIMIT n ≡ false
-below_limit n h = grind (arith, nat_tests)
-
 -- what has a place is not missing
-there_not_missing : (o : Option Place) → is_some o ≡ true → is_missing (shape_of o) ≡ false
+pub there_not_missing : (o : Option Place) → is_some o ≡ true → is_missing (shape_of o) ≡ false
 there_not_missing None e = absurd (cc)
 there_not_missing (Some (Dir links)) e = refl
 there_not_missing (Some (File bytes)) e = refl
@@ -190,15 +177,15 @@ module _ (g : Slots) (forest : IsForest g) (p q : Key) (text : by_text (form (Re
         let both : Some n2 ≡ Some n = sym (taken_walk q dir2 i2 n2 new_named to) ∙ ap (walk g) (sym e) ∙ from in
         other (let same : n2 ≡ n = cc in same)
 
-    pub onto : (dir2 i2 n2 : ℕ) (o : Option Errno) → IsTaken g q dir2 i2 n2 → n2 ≢ n → ((room : Bool) → o ≡ place_fault (shape_at g n) (shape_at g n2) room) → fault (tree_of g) (Rename p q) ≡ o
+    pub onto : (dir2 i2 n2 : ℕ) (o : Option Errno) → IsTaken g q dir2 i2 n2 → n2 ≢ n → o ≡ place_fault (shape_at g n) (shape_at g n2) true → fault (tree_of g) (Rename p q) ≡ o
     onto dir2 i2 n2 o to other is =
         let w : walk g q ≡ Some n2 = taken_walk q dir2 i2 n2 new_named to in
         let one = is_same (parent_of p) (parent_of q) in
         let dest = tree_shapes (tree_of g) (parent_of q) in
         fault_there (shape_at g n2) false one dest o (looked_up q (Taken dir2 i2 n2) to) (never_same p q (other_path dir2 i2 n2 to other)) (seen_at g q n2 forest w) refl refl
-        (replaced (shape_at g n) (shape_at g n2) (has_room one dest) there ∙ sym (is (has_room one dest)))
+        (replaced (shape_at g n) (shape_at g n2) (has_room one dest) there ∙ sym (is ∙ any_room (shape_at g n) (shape_at g n2) (has_room one dest) (there_not_missing (place_at g n2) (forest.inside q n2 w))))
 
-    pub moves_onto : (dir2 i2 n2 : ℕ) → IsTaken g q dir2 i2 n2 → n2 ≢ n → ((room : Bool) → None ≡ place_fault (shape_at g n) (shape_at g n2) room) → Moves g p q
+    pub moves_onto : (dir2 i2 n2 : ℕ) → IsTaken g q dir2 i2 n2 → n2 ≢ n → None ≡ place_fault (shape_at g n) (shape_at g n2) true → Moves g p q
     moves_onto dir2 i2 n2 to other is = record { allowed = onto dir2 i2 n2 None to other is; differ = other_path dir2 i2 n2 to other }
 
     -- nothing stands at the new path
@@ -226,8 +213,9 @@ module _ (g : Slots) (forest : IsForest g) (p q : Key) (text : by_text (form (Re
         fault_there None false (nat_eq dir dir2) _ _ (looked_up q (Free dir2 i2 entries) to) (never_same p q (other_free dir2 i2 entries to)) (seen_none g q forest (free_walk q dir2 i2 entries new_named to)) (one_parent dir2 i2 entries to) dest
         (replaced (shape_at g n) None room there ∙ to_free (shape_at g n) room ∙ ap (λ m. check (not (nat_eq dir dir2 || not (nat_le ENTRY_LIMIT m))) Enospc) many)
 
-    pub full : (dir2 i2 entries : ℕ) → IsFree g q dir2 i2 entries → dir2 ≢ dir → ENTRY_LIMIT ≤ entries → fault (tree_of g) (Rename p q) ≡ Some Enospc
-    full dir2 i2 entries to other many = fault_free dir2 i2 entries to ∙ (λ i. check (not (nat_apart dir dir2 (λ e. other (sym e)) i || not (at_limit entries many i))) Enospc)
+    pub free : (dir2 i2 entries : ℕ) (o : Option Errno) → IsFree g q dir2 i2 entries → dir2 ≢ dir → o ≡ place_fault (shape_at g n) None (not (nat_le ENTRY_LIMIT entries)) → fault (tree_of g) (Rename p q) ≡ o
+    free dir2 i2 entries o to other is =
+        fault_free dir2 i2 entries to ∙ ap (λ b. check (not (b || not (nat_le ENTRY_LIMIT entries))) Enospc) (nat_apart dir dir2 (λ e. other (sym e))) ∙ sym (is ∙ to_free (shape_at g n) (not (nat_le ENTRY_LIMIT entries)))
 
     pub moves_beside : (dir2 i2 entries : ℕ) → IsFree g q dir2 i2 entries → dir2 ≡ dir → Moves g p q
     moves_beside dir2 i2 entries to same = record {
@@ -235,8 +223,5 @@ module _ (g : Slots) (forest : IsForest g) (p q : Key) (text : by_text (form (Re
       differ = other_free dir2 i2 entries to;
     }
 
-    pub moves_to : (dir2 i2 entries : ℕ) → IsFree g q dir2 i2 entries → entries < ENTRY_LIMIT → Moves g p q
-    moves_to dir2 i2 entries to room = record {
-      allowed = fault_free dir2 i2 entries to ∙ ap (λ b. check (not (nat_eq dir dir2 || not b)) Enospc) (below_limit entries room) ∙ never (nat_eq dir dir2);
-      differ = other_free dir2 i2 entries to;
-    }
+    pub moves_to : (dir2 i2 entries : ℕ) → IsFree g q dir2 i2 entries → dir2 ≢ dir → None ≡ place_fault (shape_at g n) None (not (nat_le ENTRY_LIMIT entries)) → Moves g p q
+    moves_to dir2 i2 entries to other is = record { allowed = free dir2 i2 entries None to other is; differ = other_free dir2 i2 entries to }

@@ -1,8 +1,7 @@
 -- What a call sees of a path whose last name was looked up, and the errors that follow.
-use Rattle.std.proofs.Common.{◌≡◌, ℕ, ◌<◌, ◌≤◌, Bool, true, false, [], ◌∷◌, length, map, Some, None, Option, is_some, refl, sym, ap, ◌∙◌, arith}
+use Rattle.std.proofs.Common.{◌≡◌, ℕ, ◌<◌, Bool, true, false, [], ◌∷◌, length, map, Some, None, Option, is_some, refl, sym, ap, ◌∙◌, arith}
 use Rattle.std.specs.Prelude.{nat_le}
 use Rattle.std.proofs.lemmas.List.{length-map}
-use Rattle.std.proofs.lemmas.Bool.Decides.{nat_tests}
 use Rattle.fs_names.specs.Names.{Name}
 use Rattle.fs_names.specs.Keys.{Key, is_root, parent_of, last_of}
 use Rattle.fs_names.specs.Failures.{check, or_else}
@@ -107,13 +106,13 @@ making_free g p dir i entries forest named spot b e =
     alone (Some e) = refl
 
 -- the error of a full directory
-pub making_full : (g : Slots) (p : Key) (dir i entries : ℕ) → IsForest g → 0 < length p → IsFree g p dir i entries → 256 ≤ entries → making_fault (tree_of g) p ≡ Some Enospc
-making_full g p dir i entries forest named spot h = making_free g p dir i entries forest named spot true (grind (arith, nat_tests))
+pub making_full : (g : Slots) (p : Key) (dir i entries : ℕ) → IsForest g → 0 < length p → IsFree g p dir i entries → nat_le 256 entries ≡ true → making_fault (tree_of g) p ≡ Some Enospc
+making_full g p dir i entries forest named spot h = making_free g p dir i entries forest named spot true h
 
 -- a name that can be made
-pub is_gap : (g : Slots) (p : Key) (dir i entries : ℕ) → IsForest g → 0 < length p → IsFree g p dir i entries → entries < 256 → IsGap g p dir i
+pub is_gap : (g : Slots) (p : Key) (dir i entries : ℕ) → IsForest g → 0 < length p → IsFree g p dir i entries → nat_le 256 entries ≡ false → IsGap g p dir i
 is_gap g p dir i entries forest named spot h = record {
-  sound = making_free g p dir i entries forest named spot false (grind (arith, nat_tests));
+  sound = making_free g p dir i entries forest named spot false h;
   named = named;
   parent = spot.parent;
   directory = spot.directory;

@@ -8,8 +8,9 @@ ghost use Rattle.fs_seq.specs.code.Slots.{IsForest, place_at, links_at, links_of
 ghost use Rattle.fs_seq.specs.code.Effects.{Answers, Attaches, FindsGap, Gives, making_fault, tree_node};
 
 use crate::nodes::{Link, Node, Spot, add_link, look_up};
+use fs_calls::ranges::is_full;
 use fs_calls::{Call, Errno, Reply};
-use fs_names::{ENTRY_LIMIT, Name, Path};
+use fs_names::{Name, Path};
 use slab::Slab;
 use std::alloc::{AllocError, Global};
 
@@ -49,10 +50,10 @@ fn gap(nodes: &Slab<Node>, path: &Path) -> Result<(usize, usize), Errno>
         Err(errno) => Err(errno),
         Ok(Spot::Taken(..)) => Err(Errno::Eexist),
         Ok(Spot::Free(dir, i, entries)) => {
-            if entries < ENTRY_LIMIT {
-                Ok((dir, i))
-            } else {
+            if is_full(entries) {
                 Err(Errno::Enospc)
+            } else {
+                Ok((dir, i))
             }
         }
     }

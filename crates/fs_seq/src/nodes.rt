@@ -4,10 +4,11 @@ ghost use Rattle.std.specs.Prelude.{◌≡◌, ◌<◌, ◌≤◌, Some, IsTrue,
 ghost use Rattle.std.specs.FinMap.{is_sorted};
 ghost use Rattle.slab.specs.Slab.{ContainsKey, HasRoomFor};
 ghost use Rattle.fs_names.specs.Names.{name_cmp};
+ghost use Rattle.fs_calls.specs.code.Seen.{sight};
 ghost use Rattle.fs_seq.specs.code.Nodes.{pair, pairs, graph, Searches, Steps, Resolves, LooksUp};
-ghost use Rattle.fs_seq.specs.code.Slots.{IsForest, Sets, place_at, links_at, Dir as IsDir};
+ghost use Rattle.fs_seq.specs.code.Slots.{IsForest, Sets, place_at, links_at, shape_at, Dir as IsDir};
 
-use fs_calls::Errno;
+use fs_calls::{Errno, Sight};
 use fs_names::{Name, Path};
 use slab::Slab;
 use std::alloc::AllocError;
@@ -32,6 +33,23 @@ pub enum Node {
 pub enum Spot {
     Taken(usize, usize, usize),
     Free(usize, usize, usize),
+}
+
+/// What the rows of errors see at a number.
+pub fn sight_of(nodes: &Slab<Node>, node: usize) -> Sight
+    requires there { ContainsKey nodes.now node }
+    ensures { result ≡ sight (shape_at (graph nodes.now) node) }
+{
+    match &nodes[node] {
+        Node::File(_) => Sight::File,
+        Node::Dir(links) => {
+            if links.is_empty() {
+                Sight::EmptyDir
+            } else {
+                Sight::Dir
+            }
+        }
+    }
 }
 
 /// Where a name stands among the links, or where it belongs.

@@ -8,14 +8,17 @@ ghost use Rattle.fs_seq.specs.code.Slots.{IsForest, Sets, place_at, links_at, sh
 ghost use Rattle.fs_calls.specs.Sights.{Shape};
 ghost use Rattle.fs_calls.specs.Forms.{form, by_text};
 ghost use Rattle.fs_calls.specs.Rows.{place_fault};
+ghost use Rattle.fs_calls.specs.code.Seen.{sight};
 ghost use Rattle.fs_seq.specs.code.Renaming.{Plans, Exchanges, Transfers};
 ghost use Rattle.fs_seq.specs.code.Effects.{Answers};
 ghost use Rattle.fs_seq.specs.Memory.{needs_memory};
 ghost use Rattle.slab.specs.Slab.{ContainsKey};
 
-use crate::nodes::{Link, Node, Spot, add_link, look_up, remove_link, search};
-use fs_calls::{Call, Errno, Reply, rename_error};
-use fs_names::{ENTRY_LIMIT, Name, Path};
+use crate::nodes::{Link, Node, Spot, add_link, look_up, remove_link, search, sight_of};
+use fs_calls::ranges::is_full;
+use fs_calls::rows::PairSight;
+use fs_calls::{Call, Errno, PairCall, Reply, Sight, rename_error};
+use fs_names::{Name, Path};
 use slab::Slab;
 use std::alloc::AllocError;
 
@@ -40,24 +43,17 @@ enum Plan {
     Across(Entry, usize, usize),
 }
 
-/// The error of a node that should replace another.
-fn kinds_fault(nodes: &Slab<Node>, node: usize, victim: usize) -> Option<Errno>
+/// The error of a node that should go to another path, by what is seen there and by whether there is room.
+fn place_error(nodes: &Slab<Node>, node: usize, there: Sight, has_room: bool) -> Option<Errno>
     requires node { ContainsKey nodes.now node }
-    requires victim { ContainsKey nodes.now victim }
-    ensures { (room : Bool) → result ≡ place_fault (shape_at (graph nodes.now) node) (shape_at (graph nodes.now) victim) room }
+    ensures { (s : Option Shape) → sight s ≡ there → result ≡ place_fault (shape_at (graph nodes.now) node) s has_room }
 {
-    match (&nodes[node], &nodes[victim]) {
-        (Node::Dir(_), Node::File(_)) => Some(Errno::Enotdir),
-        (Node::File(_), Node::Dir(_)) => Some(Errno::Eisdir),
-        (Node::File(_), Node::File(_)) => None,
-        (Node::Dir(_), Node::Dir(links)) => {
-            if links.is_empty() {
-                None
-            } else {
-                Some(Errno::Enotempty)
-            }
-        }
-    }
+    PairCall::Rename.error(PairSight {
+        first: sight_of(nodes, node),
+        second: there,
+        same_path: false,
+        has_room,
+    })
 }
 
 /// What a rename has to do, or its first error.
@@ -82,13 +78,19 @@ fn decide(nodes: &Slab<Node>, from: &Path, to: &Path) -> Result<Plan, Errno>
     let entry = Entry { dir, place, node };
     match dest {
         Spot::Taken(_, _, other) if other == node => Ok(Plan::Stay),
-        Spot::Taken(dir, place, node) => match kinds_fault(nodes, entry.node, node) {
-            Some(errno) => Err(errno),
-            None => Ok(Plan::Onto(entry, Entry { dir, place, node })),
-        },
+        Spot::Taken(dir, place, node) => {
+            match place_error(nodes, entry.node, sight_of(nodes, node), true) {
+                Some(errno) => Err(errno),
+                None => Ok(Plan::Onto(entry, Entry { dir, place, node })),
+            }
+        }
         Spot::Free(dir, _, _) if dir == entry.dir => Ok(Plan::Within(entry)),
-        Spot::Free(_, _, entries) if entries >= ENTRY_LIMIT => Err(Errno::Enospc),
-        Spot::Free(dir, place, _) => Ok(Plan::Across(entry, dir, place)),
+        Spot::Free(dir, place, entries) => {
+            match place_error(nodes, entry.node, Sight::Nothing, !is_full(entries)) {
+                Some(errno) => Err(errno),
+                None => Ok(Plan::Across(entry, dir, place)),
+            }
+        }
     }
 }
 

@@ -9,7 +9,7 @@ ghost use Rattle.fs_seq.specs.code.Slots.{IsForest, tree_of};
 ghost use Rattle.fs_seq.specs.code.Effects.{Answers, Fills, overflow, too_long, written_if_any};
 
 use crate::nodes::{Node, resolve};
-use fs_calls::ranges::{fits, put};
+use fs_calls::ranges::{fits, fits_size, put};
 use fs_calls::{Call, Errno, Reply};
 use fs_names::{FILE_LIMIT, Path};
 use slab::Slab;
@@ -60,7 +60,7 @@ fn resize(bytes: &mut Vec<u8>, size: u64) -> Result<Reply, AllocError>
     ensures err { OnErr result (bytes.new.items ≡ bytes.old.items) }
     ensures memory { OnErr result ((too_long size ≡ None) × IsTrue (nat_lt (length bytes.old.items) size)) }
 {
-    if size > FILE_LIMIT as u64 {
+    if !fits_size(size) {
         return Ok(Reply::Failed(Errno::Efbig));
     }
     bytes.resize(size as usize, 0)?;

@@ -6,6 +6,7 @@ ghost use Rattle.fs_nodes.specs.Stores.{graph_of, shape, child};
 ghost use Rattle.fs_walk.specs.Wants.{name_want, step_want, then_want, at_dir};
 
 use fs_calls::Errno;
+use fs_calls::rows::step_error;
 use fs_names::Name;
 use fs_nodes::{NodeNo, Store};
 
@@ -27,11 +28,11 @@ fn name_want(store: &Store, node: NodeNo, name: &Name) -> Want
     ensures { result ≡ name_want (shape store.now node) (child store.now node name.now) }
 {
     if store.is_file(node) {
-        return Want::Fails(Errno::Enotdir);
+        return Want::Fails(step_error(true));
     }
     match store.find(node, name) {
         Some(child) if store.is_dir(node) => Want::Take(child),
-        _ => Want::Fails(Errno::Enoent),
+        _ => Want::Fails(step_error(false)),
     }
 }
 
@@ -49,13 +50,10 @@ pub fn step_want(store: &Store, node: NodeNo, name: Option<&Name>) -> Want
 pub fn at_dir(store: &Store, node: NodeNo) -> Want
     ensures { result ≡ at_dir (shape store.now node) }
 {
-    if store.is_file(node) {
-        Want::Fails(Errno::Enotdir)
-    } else if store.is_dir(node) {
-        Want::Arrived
-    } else {
-        Want::Fails(Errno::Enoent)
+    if store.is_dir(node) {
+        return Want::Arrived;
     }
+    Want::Fails(step_error(store.is_file(node)))
 }
 
 impl Want {

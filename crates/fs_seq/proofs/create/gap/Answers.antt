@@ -17,12 +17,12 @@ returns-in-Ok-Taken c =
     let named : 0 < length c.args.path.now = omega (arith, c.len.ensures.len, c.if-len-eq0.false) in
     making_taken (graph c.args.nodes.now) c.args.path.now _ _ _ c.requires named (rw c.in-Ok-Taken.field-0-is at c.in-Ok-Taken.ensures)
 
-pub returns-then-entries-lt-ENTRY_LIMIT : goal.returns-then-entries-lt-ENTRY_LIMIT
-returns-then-entries-lt-ENTRY_LIMIT c =
+pub returns-else-is_full : goal.returns-else-is_full
+returns-else-is_full c =
     let named : 0 < length c.args.path.now = omega (arith, c.len.ensures.len, c.if-len-eq0.false) in
-    is_gap (graph c.args.nodes.now) c.args.path.now c.in-Ok-Free.dir c.in-Ok-Free.i c.in-Ok-Free.entries c.requires named (rw c.in-Ok-Free.field-0-is at c.in-Ok-Free.ensures) c.if-entries-lt-ENTRY_LIMIT.true
+    is_gap (graph c.args.nodes.now) c.args.path.now c.in-Ok-Free.dir c.in-Ok-Free.i c.in-Ok-Free.entries c.requires named (rw c.in-Ok-Free.field-0-is at c.in-Ok-Free.ensures) (sym c.is_full.ensures ∙ c.if-is_full.false)
 
-pub returns-else-entries-lt-ENTRY_LIMIT : goal.returns-else-entries-lt-ENTRY_LIMIT
-returns-else-entries-lt-ENTRY_LIMIT c =
+pub returns-then-is_full : goal.returns-then-is_full
+returns-then-is_full c =
     let named : 0 < length c.args.path.now = omega (arith, c.len.ensures.len, c.if-len-eq0.false) in
-    making_full (graph c.args.nodes.now) c.args.path.now c.in-Ok-Free.dir c.in-Ok-Free.i c.in-Ok-Free.entries c.requires named (rw c.in-Ok-Free.field-0-is at c.in-Ok-Free.ensures) c.if-entries-lt-ENTRY_LIMIT.false
+    making_full (graph c.args.nodes.now) c.args.path.now c.in-Ok-Free.dir c.in-Ok-Free.i c.in-Ok-Free.entries c.requires named (rw c.in-Ok-Free.field-0-is at c.in-Ok-Free.ensures) (sym c.is_full.ensures ∙ c.if-is_full.true)

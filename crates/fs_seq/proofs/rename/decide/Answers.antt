@@ -1,8 +1,10 @@
-use Rattle.std.proofs.Common.{◌≡◌, ℕ, sym, subst, ◌∙◌, Ok}
+use Rattle.std.proofs.Common.{◌≡◌, ◌≢◌, ℕ, not, refl, sym, ap, subst, ◌∙◌, Ok, None}
+use Rattle.fs_calls.specs.Rows.{place_fault}
 use Rattle.fs_seq.specs.code.Nodes.{graph, LooksUp, IsTaken, IsFree}
+use Rattle.fs_seq.specs.code.Slots.{shape_at}
 use Rattle.fs_seq.specs.declared.nodes.Spot.TheVariants.{Taken, Free}
 use Rattle.fs_seq.proofs.NodeLemmas.{has_key}
-use Rattle.fs_seq.proofs.RenameFaults.{named, new_named, looked_up, taken_walk, fault_text, fault_source, fault_dest, missing, stays, onto, moves_onto, full, moves_beside, moves_to}
+use Rattle.fs_seq.proofs.RenameFaults.{named, new_named, looked_up, taken_walk, fault_text, fault_source, fault_dest, missing, stays, onto, moves_onto, free, moves_beside, moves_to}
 use Rattle.fs_seq.proofs.rename.decide.Goals as goal
 
 same_taken : {a b m d e n : ℕ} → Taken a b m ≡ Taken d e n → m ≡ n
@@ -29,21 +31,21 @@ returns-in_default-source c =
     missing g c.requires c.args.from.now c.args.to.now (sym c.rename_error.ensures ∙ c.in_default.is) _ _ _ c.in-Ok-look_up.spot
     (subst (λ s. LooksUp g c.args.from.now (Ok s)) c.in_default-source.is c.in-Ok.ensures) c.in-Ok-look_up.ensures
 
-pub kinds_fault-requires-clause-node : goal.kinds_fault-requires-clause-node
-kinds_fault-requires-clause-node c =
+pub place_error-requires : goal.place_error-requires
+place_error-requires c =
     let g = graph c.args.nodes.now in
     let p = c.args.from.now in
     let text = sym c.rename_error.ensures ∙ c.in_default.is in
     let at : IsTaken g p c.in-Taken.dir c.in-Taken.place c.in-Taken.node = subst (λ s. LooksUp g p (Ok s)) c.in-Taken.is c.in-Ok.ensures in
-    has_key c.args.nodes.now c.in-Taken.node (c.requires.inside p c.in-Taken.node (taken_walk g c.requires p c.args.to.now text p _ _ _ (named g c.requires p c.args.to.now text) at))
+    record { node = has_key c.args.nodes.now c.in-Taken.node (c.requires.inside p c.in-Taken.node (taken_walk g c.requires p c.args.to.now text p _ _ _ (named g c.requires p c.args.to.now text) at)) }
 
-pub kinds_fault-requires-clause-victim : goal.kinds_fault-requires-clause-victim
-kinds_fault-requires-clause-victim c =
+pub sight_of-requires : goal.sight_of-requires
+sight_of-requires c =
     let g = graph c.args.nodes.now in
     let q = c.args.to.now in
     let text = sym c.rename_error.ensures ∙ c.in_default.is in
     let at : IsTaken g q c.in-Taken-2.dir c.in-Taken-2.place c.in-Taken-2.node = subst (λ s. LooksUp g q (Ok s)) c.in-Taken-2.is c.in-Ok-look_up.ensures in
-    has_key c.args.nodes.now c.in-Taken-2.node (c.requires.inside q c.in-Taken-2.node (taken_walk g c.requires c.args.from.now q text q _ _ _ (new_named g c.requires c.args.from.now q text) at))
+    record { there = has_key c.args.nodes.now c.in-Taken-2.node (c.requires.inside q c.in-Taken-2.node (taken_walk g c.requires c.args.from.now q text q _ _ _ (new_named g c.requires c.args.from.now q text) at)) }
 
 pub returns-in-Taken-dest : goal.returns-in-Taken-dest
 returns-in-Taken-dest c =
@@ -54,8 +56,8 @@ returns-in-Taken-dest c =
     (subst (λ s. LooksUp g p (Ok s)) c.in-Taken.is c.in-Ok.ensures) _ _ _
     (subst (λ s. LooksUp g q (Ok s)) c.in-Taken-dest.is c.in-Ok-look_up.ensures) c.if-other-node.true
 
-pub returns-in-Some-kinds_fault : goal.returns-in-Some-kinds_fault
-returns-in-Some-kinds_fault c =
+pub returns-in-Some-place_error : goal.returns-in-Some-place_error
+returns-in-Some-place_error c =
     let g = graph c.args.nodes.now in
     let p = c.args.from.now in
     let q = c.args.to.now in
@@ -63,7 +65,7 @@ returns-in-Some-kinds_fault c =
     (subst (λ s. LooksUp g p (Ok s)) c.in-Taken.is c.in-Ok.ensures) _ _ _ _
     (subst (λ s. LooksUp g q (Ok s)) c.in-Taken-2.is c.in-Ok-look_up.ensures)
     (λ e. c.if-other-node.false (same_taken (sym c.in-Taken-dest.is ∙ c.in-Taken-2.is) ∙ e))
-    (λ room. sym c.in-Some-kinds_fault.is ∙ c.kinds_fault.ensures room)
+    (sym c.in-Some-place_error.is ∙ c.place_error.ensures (shape_at g c.in-Taken-2.node) (sym c.sight_of.ensures))
 
 pub returns-in-None : goal.returns-in-None
 returns-in-None c =
@@ -74,7 +76,7 @@ returns-in-None c =
     let to : IsTaken g q c.in-Taken-2.dir c.in-Taken-2.place c.in-Taken-2.node = subst (λ s. LooksUp g q (Ok s)) c.in-Taken-2.is c.in-Ok-look_up.ensures in (
       moves_onto g c.requires p q (sym c.rename_error.ensures ∙ c.in_default.is) _ _ _ at _ _ _ to
           (λ e. c.if-other-node.false (same_taken (sym c.in-Taken-dest.is ∙ c.in-Taken-2.is) ∙ e))
-          (λ room. sym c.in-None.is ∙ c.kinds_fault.ensures room),
+          (sym c.in-None.is ∙ c.place_error.ensures (shape_at g c.in-Taken-2.node) (sym c.sight_of.ensures)),
       at,
       to,
     )
@@ -91,25 +93,36 @@ returns-in-Free c =
       (c.in-Free.field-1, c.in-Free.field-2, subst (λ d. IsFree g q d c.in-Free.field-1 c.in-Free.field-2) c.if-dir-entry.true to),
     )
 
-pub returns-in-Free-2 : goal.returns-in-Free-2
-returns-in-Free-2 c =
+pub place_error-requires-in-Free-2 : goal.place_error-requires-in-Free-2
+place_error-requires-in-Free-2 c =
+    let g = graph c.args.nodes.now in
+    let p = c.args.from.now in
+    let text = sym c.rename_error.ensures ∙ c.in_default.is in
+    let at : IsTaken g p c.in-Taken.dir c.in-Taken.place c.in-Taken.node = subst (λ s. LooksUp g p (Ok s)) c.in-Taken.is c.in-Ok.ensures in
+    record { node = has_key c.args.nodes.now c.in-Taken.node (c.requires.inside p c.in-Taken.node (taken_walk g c.requires p c.args.to.now text p _ _ _ (named g c.requires p c.args.to.now text) at)) }
+
+pub returns-in-Some-place_error-2 : goal.returns-in-Some-place_error-2
+returns-in-Some-place_error-2 c =
     let g = graph c.args.nodes.now in
     let p = c.args.from.now in
     let q = c.args.to.now in
-    full g c.requires p q (sym c.rename_error.ensures ∙ c.in_default.is) _ _ _
-    (subst (λ s. LooksUp g p (Ok s)) c.in-Taken.is c.in-Ok.ensures) _ _ _
+    free g c.requires p q (sym c.rename_error.ensures ∙ c.in_default.is) _ _ _
+    (subst (λ s. LooksUp g p (Ok s)) c.in-Taken.is c.in-Ok.ensures) _ _ _ _
     (subst (λ s. LooksUp g q (Ok s)) c.in-Free-2.is c.in-Ok-look_up.ensures)
-    (λ e. c.if-dir-entry.false (same_free (sym c.in-Free.is ∙ c.in-Free-2.is) ∙ e)) c.if-entries-ge-ENTRY_LIMIT.true
+    (λ e. c.if-dir-entry.false (same_free (sym c.in-Free.is ∙ c.in-Free-2.is) ∙ e))
+    (sym c.in-Some-place_error-2.is ∙ c.place_error-in-Free-2.ensures None refl ∙ ap (λ full. place_fault (shape_at g c.in-Taken.node) None (not full)) c.is_full.ensures)
 
-pub returns-in-Free-3 : goal.returns-in-Free-3
-returns-in-Free-3 c =
+pub returns-in-None-place_error : goal.returns-in-None-place_error
+returns-in-None-place_error c =
     let g = graph c.args.nodes.now in
     let p = c.args.from.now in
     let q = c.args.to.now in
     let at : IsTaken g p c.in-Taken.dir c.in-Taken.place c.in-Taken.node = subst (λ s. LooksUp g p (Ok s)) c.in-Taken.is c.in-Ok.ensures in
-    let tested : IsFree g q c.in-Free-2.field-0 c.in-Free-2.field-1 c.in-Free-2.entries = subst (λ s. LooksUp g q (Ok s)) c.in-Free-2.is c.in-Ok-look_up.ensures in (
-      moves_to g c.requires p q (sym c.rename_error.ensures ∙ c.in_default.is) _ _ _ at _ _ _ tested c.if-entries-ge-ENTRY_LIMIT.false,
+    let to : IsFree g q c.in-Free-2.dir c.in-Free-2.place c.in-Free-2.entries = subst (λ s. LooksUp g q (Ok s)) c.in-Free-2.is c.in-Ok-look_up.ensures in
+    let other : c.in-Free-2.dir ≢ c.in-Taken.dir = λ e. c.if-dir-entry.false (same_free (sym c.in-Free.is ∙ c.in-Free-2.is) ∙ e) in (
+      moves_to g c.requires p q (sym c.rename_error.ensures ∙ c.in_default.is) _ _ _ at _ _ _ to other
+          (sym c.in-None-place_error.is ∙ c.place_error-in-Free-2.ensures None refl ∙ ap (λ full. place_fault (shape_at g c.in-Taken.node) None (not full)) c.is_full.ensures),
       at,
-      (c.in-Free-3.field-2, subst (λ s. LooksUp g q (Ok s)) c.in-Free-3.is c.in-Ok-look_up.ensures),
-      λ e. c.if-dir-entry.false (same_free (sym c.in-Free.is ∙ c.in-Free-3.is) ∙ sym e),
+      (c.in-Free-2.entries, to),
+      λ e. other (sym e),
     )
