@@ -1,8 +1,9 @@
 //! Parts of the runners that a caller can use alone, the fault that no run ends with, and the places of a timeline.
 
 use anyhow::{Result, bail, ensure};
-use fs_nodes::Store;
-use fs_sched::{Device, Draws, EntryKind, RunFault, Schedule, number_of, run_script, run_text};
+use fs_sched::{
+    Device, Divisor, Draws, EntryKind, RunFault, Schedule, number_of, run_script,
+};
 use fs_script::Word;
 use fs_text::read_entries;
 use fs_timeline::Timeline;
@@ -13,8 +14,9 @@ const SEATS: [usize; 16] = [2, 2, 1, 0, 0, 0, 2, 1, 2, 0, 0, 1, 2, 1, 1, 0];
 
 fn draws() -> bool {
     let mut draws = Draws::new(7);
+    let threads = Divisor::new(3);
     for seat in SEATS {
-        if draws.seat(3) != seat {
+        if draws.seat(&threads) != seat {
             return false;
         }
     }
@@ -35,19 +37,16 @@ fn tells_full(alloc: Global) -> Result<bool> {
     Ok(words.as_str() == "full" && RunFault::Full.status() == 4)
 }
 
-/// The text of the entries of a journal that no run wrote, and of a tree without entries.
-fn writes_run_text(alloc: Global) -> Result<bool> {
+/// How many entries of each kind a journal has that no run wrote.
+fn counts_entries(alloc: Global) -> Result<bool> {
     let journal = b"atomfs-journal 1\nbegin 1 0 mkdir /a\nbegin 2 1 mkdir /b\ncommit 1\n";
     let Ok(entries) = read_entries(alloc, journal.as_slice()) else {
         bail!("entries");
     };
-    let text = run_text(alloc, &entries, &Store::new(alloc, 1)?)?;
-    let end = b"tree\ndir /\nbegun 2 committed 1 returned 0\n";
     Ok(
         number_of(EntryKind::Begin, &entries) == 2
             && number_of(EntryKind::Commit, &entries) == 1
-            && number_of(EntryKind::Return, &entries) == 0
-            && text.as_slice().strip_prefix(journal.as_slice()) == Some(end.as_slice()),
+            && number_of(EntryKind::Return, &entries) == 0,
     )
 }
 
@@ -73,7 +72,7 @@ pub fn compare(alloc: Global) -> Result<()> {
     ensure!(draws(), "the seats that are drawn from 7");
     ensure!(goes_on(), "whether rounds to the end follow");
     ensure!(tells_full(alloc)?, "the words of a fault");
-    ensure!(writes_run_text(alloc)?, "the text of a run");
+    ensure!(counts_entries(alloc)?, "how many entries of a kind");
     ensure!(counts_calls(alloc), "the counts of calls");
     ensure!(refuses_most_places(alloc)?, "the places of a timeline");
     Ok(())

@@ -18,11 +18,11 @@ unfolding seats_from first_words
 no_draws n g = refl
 
 -- the seat ahead is the first of the seats from the generator that it was drawn from
-pub upcoming_after : (g : Lcg) (seats : SeatsAhead) → ((k : ℕ) → seats_from seats.threads.number (suc k) g ≡ seats.ahead ∷ seats_from seats.threads.number k seats.draws) → (k : ℕ) → upcoming k seats ≡ seats_from seats.threads.number k g
-upcoming_after g seats next zero = sym (no_draws seats.threads.number g)
+pub upcoming_after : (g : Lcg) (seats : SeatsAhead) → ((k : ℕ) → seats_from seats.threads (suc k) g ≡ seats.ahead ∷ seats_from seats.threads k seats.draws) → (k : ℕ) → upcoming k seats ≡ seats_from seats.threads k g
+upcoming_after g seats next zero = sym (no_draws seats.threads g)
 upcoming_after g seats next (suc k) = sym (next k)
 
-pub upcoming_from : (threads : ℕ) (g : Lcg) (seats : SeatsAhead) → seats.threads.number ≡ threads → (first : Lcg) → first ≡ g → ((k : ℕ) → seats_from seats.threads.number (suc k) first ≡ seats.ahead ∷ seats_from seats.threads.number k seats.draws) → (k : ℕ) → upcoming k seats ≡ seats_from threads k g
+pub upcoming_from : (threads : ℕ) (g : Lcg) (seats : SeatsAhead) → seats.threads ≡ threads → (first : Lcg) → first ≡ g → ((k : ℕ) → seats_from seats.threads (suc k) first ≡ seats.ahead ∷ seats_from seats.threads k seats.draws) → (k : ℕ) → upcoming k seats ≡ seats_from threads k g
 upcoming_from threads g seats e first is next k = upcoming_after first seats next k ∙ ap₂ (λ (t : ℕ) (h : Lcg). seats_from t k h) e is
 
 pub upcoming_more : (i seat : ℕ) (old new : SeatsAhead) → i < DRAW_LIMIT → ((k : ℕ) → upcoming (suc k) old ≡ seat ∷ upcoming k new) → upcoming (DRAW_LIMIT - i) old ≡ seat ∷ upcoming (DRAW_LIMIT - (i + 1)) new

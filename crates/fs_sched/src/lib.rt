@@ -5,7 +5,8 @@
 //! made before its first byte is written, and `Read` or `Write` is answered only if the reader or the writer failed
 //! during this call.
 //!
-//! Enter at these three, with a `Device` around a reader and a writer. The definitions are in `specs/`: `Schedules` and
+//! Enter at these three, with a `Device` around a reader and a writer, or with texts in memory at `run_bytes` and
+//! `check_bytes`. The definitions are in `specs/`: `Schedules` and
 //! `Runs` (events by each schedule), `RunTexts`, `EachRun` (what is said of every run), `Seeds`, `Checks`, `Devices`;
 //! the module `laws` has what is proved of them, `one_text` among it. `Faults` has the status of each fault; `Stages` ties
 //! the code to these words, and changes no meaning.
@@ -14,6 +15,7 @@
 mod checking;
 pub mod device;
 mod fault;
+mod input;
 pub mod laws;
 mod play;
 mod run_texts;
@@ -28,9 +30,10 @@ mod verdict_line;
 pub use checking::{check_bytes, check_journal};
 pub use device::{Device, Failed, Sink, Source};
 pub use fault::{RunFault, run_fault};
-pub use run_texts::{EntryKind, number_of, run_text};
+pub use run_texts::{EntryKind, number_of};
 pub use running::{RunEnd, run_bytes, run_script};
 pub use schedule::{DRAW_LIMIT, Draws, Schedule};
+pub use seats::Divisor;
 pub use seeding::{RUN_LIMIT, SEED_LIMIT, run_seeds};
 pub use sink::write_text;
 pub use source::read_text;

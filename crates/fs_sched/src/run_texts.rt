@@ -116,7 +116,8 @@ fn end_line(alloc: Global, counts: Counts) -> Result<Vec<u8>, AllocError>
     Ok(line.kept())
 }
 
-/// The text of a run that ended with these entries and nodes, and how many entries of each kind there are.
+/// The text of a run that ended with these entries and nodes: its journal, the tree that the nodes spell, and a last
+/// line with the numbers of entries of each kind; and these numbers. The only error is out of memory.
 pub(crate) fn counted_text(
     alloc: Global,
     entries: &[Entry],
@@ -130,13 +131,4 @@ pub(crate) fn counted_text(
     let line = end_line(alloc, made.counts)?;
     made.text.extend_from_slice(&line)?;
     Ok(made)
-}
-
-/// The text of a run that ended with these entries and nodes: its journal, the tree that the nodes spell, and a last
-/// line with the numbers of entries of each kind. The only error is out of memory.
-pub fn run_text(alloc: Global, entries: &[Entry], store: &Store) -> Result<Vec<u8>, AllocError>
-    ensures { IfOk result (λ text. IsRunText entries.now (graph_of store.now) text.items) }
-{
-    let made = counted_text(alloc, entries, store)?;
-    Ok(made.text)
 }

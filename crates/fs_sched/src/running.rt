@@ -13,14 +13,15 @@ ghost use Rattle.fs_sched.specs.code.Counts.{AreCounts};
 ghost use Rattle.fs_sched.specs.code.Stages.{stage_of, IsRefusal};
 
 use crate::device::{Sink, Source};
-use crate::fault::{RunFault, run_fault};
+use crate::fault::RunFault;
+use crate::input::script_in;
 use crate::play::Play;
 use crate::run_texts::{Counts, counted_text};
 use crate::schedule::Schedule;
 use crate::sink::write_text;
 use crate::source::read_text;
 use fs_calls::Call;
-use fs_script::{Script, read_script};
+use fs_script::Script;
 use fs_text::told_of_entries;
 use std::alloc::Global;
 
@@ -112,10 +113,7 @@ fn text_of_script(alloc: Global, text: Vec<u8>, schedule: Schedule) -> Result<Ma
     ensures fault { IfErr result (IsFaultOrRefusal (script_of text.items)) }
     ensures full { IsErrOf result RunFault.Full → ReachesFull schedule text.items }
 {
-    let script = match read_script(alloc, text.as_slice()) {
-        Ok(script) => script,
-        Err(fault) => return Err(run_fault(fault)),
-    };
+    let script = script_in(alloc, text.as_slice())?;
     drop(text);
     make_text(alloc, script, schedule)
 }
@@ -126,10 +124,7 @@ pub fn run_bytes(alloc: Global, script: &[u8], schedule: Schedule) -> Result<Vec
     ensures ran { IfOk result (λ text. (end : RunEnd) × AreOfTheRun schedule script.now end text.items) }
     ensures fault { IfErr result (IsFaultOf (script_of script.now)) }
 {
-    let read = match read_script(alloc, script) {
-        Ok(read) => read,
-        Err(fault) => return Err(run_fault(fault)),
-    };
+    let read = script_in(alloc, script)?;
     match make_text(alloc, read, schedule) {
         Ok(mut made) => {
             // Who keeps the text keeps no more than its bytes.

@@ -77,19 +77,10 @@ impl Draws {
     }
 
     /// The seat of the next event, of so many threads.
-    pub fn seat(&mut self, threads: usize) -> usize
-        requires { 0 < threads }
-        ensures { (k : ℕ) → seats_from threads (suc k) self.old ≡ result ∷ seats_from threads k self.new }
-    {
-        let word = self.generator.next_word() as usize;
-        word % threads
-    }
-
-    /// The same, of as many threads as the divisor says.
     #[inline]
-    pub(crate) fn seat_by(&mut self, threads: &Divisor) -> usize
-        ensures seats { (k : ℕ) → seats_from threads.now.number (suc k) self.old ≡ result ∷ seats_from threads.now.number k self.new }
-        ensures there { result < threads.now.number }
+    pub fn seat(&mut self, threads: &Divisor) -> usize
+        ensures seats { (k : ℕ) → seats_from threads.now (suc k) self.old ≡ result ∷ seats_from threads.now k self.new }
+        ensures there { result < threads.now }
     {
         threads.rest(self.generator.next_word())
     }

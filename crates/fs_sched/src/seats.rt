@@ -4,22 +4,33 @@ ghost use Rattle.std.specs.Prelude.{◌≡◌, ◌<◌, ◌/◌, ◌%◌, ◌-�
 ghost use Rattle.fs_sched.specs.Schedules.{generator_of, seats_from};
 
 use crate::schedule::Draws;
+use std::marker::Model;
 
-/// A number by which words are divided, and how often it goes into the greatest `u64`: so a quotient is the upper half of a
-/// product (Robison, "N-Bit Unsigned Division via N-Bit Multiply-Add"; Lemire, Kaser and Kurz, "Faster Remainder by Direct
-/// Computation").
-#[derive(Clone, Copy)]
-pub(crate) struct Divisor {
+/// A number by which words are divided, seen as itself. Beside it stands how often it goes into the greatest `u64`: so a
+/// quotient is the upper half of a product (Robison, "N-Bit Unsigned Division via N-Bit Multiply-Add"; Lemire, Kaser and Kurz,
+/// "Faster Remainder by Direct Computation").
+#[derive(Drop)]
+pub struct Divisor {
     number: u64,
     reciprocal: u64,
-    ghost some: { 0 < number },
-    ghost rounded_down: { reciprocal ≡ (2 ^ 64 - 1) / number },
+}
+
+impl Model for Divisor {
+    ghost use Rattle.std.specs.Prelude.{ℕ, ◌≡◌, ◌<◌, ◌/◌, ◌-◌, ◌^◌};
+
+    ghost Value = { ℕ };
+
+    ghost view = { λ d. d.number };
+
+    // How often the number goes into it is rounded down.
+    ghost invariant = { λ d. (0 < d.number) × (d.reciprocal ≡ (2 ^ 64 - 1) / d.number) };
 }
 
 impl Divisor {
-    fn new(number: usize) -> Divisor
+    /// A number other than zero.
+    pub fn new(number: usize) -> Divisor
         requires { 0 < number }
-        ensures { result.number ≡ number }
+        ensures { result ≡ number }
     {
         let number = number as u64;
         Divisor {
@@ -31,7 +42,7 @@ impl Divisor {
     /// How often the number goes into a word.
     #[inline(always)]
     fn quotient(&self, word: u32) -> u64
-        ensures { result ≡ word / self.now.number }
+        ensures { result ≡ word / self.now }
     {
         let product = u128::from(u64::from(word) + 1) * u128::from(self.reciprocal);
         (product >> 64) as u64
@@ -40,7 +51,8 @@ impl Divisor {
     /// What is left of a word.
     #[inline(always)]
     pub(crate) fn rest(&self, word: u32) -> usize
-        ensures { result ≡ word % self.now.number }
+        ensures rest { result ≡ word % self.now }
+        ensures less { result < self.now }
     {
         (u64::from(word) - self.quotient(word) * self.number) as usize
     }
@@ -52,7 +64,7 @@ pub(crate) struct SeatsAhead {
     draws: Draws,
     threads: Divisor,
     ahead: usize,
-    ghost there: { ahead < threads.number },
+    ghost there: { ahead < threads },
 }
 
 impl SeatsAhead {
@@ -62,11 +74,11 @@ impl SeatsAhead {
     pub(crate) fn new(seed: u64, threads: usize) -> SeatsAhead
         requires { 0 < threads }
         ensures seats { (k : ℕ) → upcoming k result ≡ seats_from threads k (generator_of seed) }
-        ensures threads { result.threads.number ≡ threads }
+        ensures threads { result.threads ≡ threads }
     {
         let threads = Divisor::new(threads);
         let mut draws = Draws::new(seed);
-        let ahead = draws.seat_by(&threads);
+        let ahead = draws.seat(&threads);
         SeatsAhead {
             draws,
             threads,
@@ -78,11 +90,11 @@ impl SeatsAhead {
     #[inline]
     pub(crate) fn next_seat(&mut self) -> usize
         ensures seats { (k : ℕ) → upcoming (suc k) self.old ≡ result ∷ upcoming k self.new }
-        ensures threads { self.new.threads.number ≡ self.old.threads.number }
-        ensures there { result < self.old.threads.number }
+        ensures threads { self.new.threads ≡ self.old.threads }
+        ensures there { result < self.old.threads }
     {
         let seat = self.ahead;
-        self.ahead = self.draws.seat_by(&self.threads);
+        self.ahead = self.draws.seat(&self.threads);
         seat
     }
 }

@@ -10,14 +10,15 @@ ghost use Rattle.fs_sched.specs.Seeds.{seed_line, lawful_line, IsLawfulFrom, Are
 ghost use Rattle.fs_sched.specs.code.Stages.{IsRefusal};
 
 use crate::device::{Sink, Source};
-use crate::fault::{RunFault, run_fault};
+use crate::fault::RunFault;
+use crate::input::script_in;
 use crate::running::play;
 use crate::schedule::Schedule;
 use crate::sink::write_text;
 use crate::source::read_text;
 use crate::verdict_line::{is_lawful, push_verdict};
 use fs_journal::check;
-use fs_script::{Script, read_script};
+use fs_script::Script;
 use fs_text::Addition;
 use fs_timeline::Verdict;
 use std::alloc::{AllocError, Global};
@@ -110,10 +111,7 @@ fn lines_of_script(
     ensures fault { IfErr result (IsFaultOrRefusal (script_of text.items)) }
     ensures full { IsErrOf result RunFault.Full → OneReachesFull seed runs text.items }
 {
-    let script = match read_script(alloc, text.as_slice()) {
-        Ok(script) => script,
-        Err(fault) => return Err(run_fault(fault)),
-    };
+    let script = script_in(alloc, text.as_slice())?;
     drop(text);
     make_lines(alloc, &script, seed, runs)
 }

@@ -6,4 +6,4 @@ use Rattle.fs_sched.specs.declared.seats.SeatsAhead.{SeatsAhead}
 -- the seats of the next k events
 abbrev pub upcoming : ℕ → SeatsAhead → List ℕ
 upcoming zero seats = []
-upcoming (suc k) seats = seats.ahead ∷ seats_from seats.threads.number k seats.draws
+upcoming (suc k) seats = seats.ahead ∷ seats_from seats.threads k seats.draws

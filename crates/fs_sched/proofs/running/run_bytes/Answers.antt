@@ -4,13 +4,13 @@ use Rattle.fs_sched.proofs.Filling.{is_fault_of}
 use Rattle.fs_sched.proofs.OneText.{of_each}
 use Rattle.fs_sched.proofs.running.run_bytes.Goals as goal
 
-pub returns-in-Ok-make_text-clause-ran : goal.returns-in-Ok-make_text-clause-ran
-returns-in-Ok-make_text-clause-ran c =
-    let made = c.in-Ok-make_text.made in
-    let whole = of_each c.args.schedule c.args.script.now made.end made.text.items (c.in-Ok.read, c.in-Ok.ensures, c.in-Ok-make_text.ensures.output) in
+pub returns-in-Ok-clause-ran : goal.returns-in-Ok-clause-ran
+returns-in-Ok-clause-ran c =
+    let made = c.in-Ok.made in
+    let whole = of_each c.args.schedule c.args.script.now made.end made.text.items (c.in_ok-read.read, c.in_ok-read.ensures.script, c.in-Ok.ensures.output) in
     (made.end, subst (λ (text : List ℕ). AreOfTheRun c.args.schedule c.args.script.now made.end text) (sym c.shrink_to_fit.ensures.items) whole)
 
-pub returns-in-Err-make_text-clause-fault : goal.returns-in-Err-make_text-clause-fault
-returns-in-Err-make_text-clause-fault c =
-    is_fault_of c.args.schedule c.args.script.now c.in-Ok.read c.in-Err-make_text.fault c.in-Ok.ensures c.in-Err-make_text.ensures.fault
-    (λ k. c.in-Err-make_text.ensures.full (ap Err k))
+pub returns-in-Err-clause-fault : goal.returns-in-Err-clause-fault
+returns-in-Err-clause-fault c =
+    is_fault_of c.args.schedule c.args.script.now c.in_ok-read.read c.in-Err.fault c.in_ok-read.ensures.script c.in-Err.ensures.fault
+    (λ k. c.in-Err.ensures.full (ap Err k))

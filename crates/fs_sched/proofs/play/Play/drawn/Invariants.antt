@@ -10,7 +10,7 @@ use Rattle.fs_sched.proofs.play.Play.drawn.Given as goal
 -- what is done and what is left is all
 abbrev pub invariant-loop : goal.invariant-loop
 invariant-loop l = record {
-  threads : l.seats.threads.number ≡ length l.lists;
+  threads : l.seats.threads ≡ length l.lists;
   over : AreOver l.lists (stage_of l.self) l.first;
   marked : IsMarked l.lists l.self;
   stop : LeadsToStop l.lists (stage_of l.fn.self) (drawn_seats l.seed (length l.lists) DRAW_LIMIT) (stage_of l.self) (upcoming (DRAW_LIMIT - l.counter) l.seats);

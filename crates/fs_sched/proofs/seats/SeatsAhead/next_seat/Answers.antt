@@ -6,7 +6,7 @@ pub returns : goal.returns
 returns c =
     let seats = c.args.self.now in
     record {
-      seats = λ k. ap (λ (more : List ℕ). seats.ahead ∷ more) (sym (upcoming_after seats.draws _ c.seat_by-self.ensures.seats k));
+      seats = λ k. ap (λ (more : List ℕ). seats.ahead ∷ more) (sym (upcoming_after seats.draws _ c.seat-self.ensures.seats k));
       threads = refl;
       there = seats.there;
     }

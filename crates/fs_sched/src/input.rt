@@ -1,0 +1,20 @@
+//! What a run is given: the script that a text has.
+
+ghost use Rattle.std.specs.Prelude.{◌≡◌, Ok, IfOk, IfErr};
+ghost use Rattle.fs_script.specs.Script.{script_of};
+ghost use Rattle.fs_sched.specs.Devices.{IsFaultOf};
+
+use crate::fault::{RunFault, run_fault};
+use fs_script::{Script, read_script};
+use std::alloc::Global;
+
+/// The script that a text has, or why no run of it begins.
+pub(crate) fn script_in(alloc: Global, text: &[u8]) -> Result<Script, RunFault>
+    ensures script { IfOk result (λ script. script_of text.now ≡ Ok script) }
+    ensures fault { IfErr result (IsFaultOf (script_of text.now)) }
+{
+    match read_script(alloc, text) {
+        Ok(script) => Ok(script),
+        Err(fault) => Err(run_fault(fault)),
+    }
+}
