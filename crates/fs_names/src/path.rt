@@ -109,8 +109,8 @@ fn fault_after_room(alloc: Global, bytes: &[u8], read: usize, fault: PathFault) 
     }
 }
 
-/// Reads the names between the slashes of bytes without zeros, in one pass. It allocates only where there are more names
-/// than are shared, once, and then this goes before what is wrong with any of them.
+/// Reads the names between the slashes of bytes without zeros, one after the other. It allocates only where there are more
+/// names than are shared, once and for all that are left, which it counts; then this goes before what is wrong with any.
 fn read_names(
     alloc: Global,
     bytes: &[u8],
@@ -180,8 +180,9 @@ fn has_zero(bytes: &[u8]) -> bool
 
 impl Path {
     /// Reads a path. The fault is the first check that the bytes fail, from left to right; consecutive slashes count
-    /// as one, and a path of slashes only is the root. It allocates only for names, and before it reads them; if that
-    /// fails it answers `OutOfMemory`, whatever is wrong with the names.
+    /// as one, and a path of slashes only is the root. It allocates only for names: what its copies share, once all are
+    /// read, and where they are more than fit there, room for them before, for want of which it answers `OutOfMemory`
+    /// whatever is wrong with the names.
     #[tactic(auto, unfolding(crate::specs::Reading::reading))]
     pub fn parse(alloc: Global, bytes: &[u8]) -> Result<Path, PathFault>
         ensures path { IfOk result (λ path. reading bytes.now ≡ Ok path) }
