@@ -5,4 +5,5 @@ pub mod TextLemmas
 pub mod ParentLemmas
 pub mod PrefixLemmas
 pub mod SearchLemmas
+pub mod BlockLemmas
 pub mod CutLemmas

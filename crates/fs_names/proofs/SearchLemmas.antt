@@ -1,5 +1,5 @@
 -- What a search of bytes for one byte finds.
-use Rattle.std.proofs.Common.{◌≡◌, ℕ, ◌<◌, Bool, true, false, cond, ltb, List, length, position, Option, Some, None, is_some, refl, sym, ap, ◌∙◌, arith}
+use Rattle.std.proofs.Common.{◌≡◌, ℕ, ◌<◌, Bool, true, false, cond, ltb, List, length, position, Option, Some, None, is_some, unwrap_or, refl, sym, ap, ◌∙◌, arith}
 use Rattle.std.specs.List.{list_any, position_or_len, All}
 use Rattle.std.proofs.lemmas.Bool.{cond-true, cond-false, lt-ltb}
 use Rattle.std.proofs.lemmas.Bool.Decides.{nat_tests}
@@ -25,6 +25,13 @@ found_place a hay (Some k) h =
     let within : k < length hay = h.0.high in
     let at : position_or_len (is_byte a) hay ≡ k = position_or_len_is (is_byte a) hay k 0 (omega arith) (λ j lt. fails _ (h.0.before j (omega arith) lt)) (λ lt. h.1) in
     sym (ap (λ n. cond (ltb n (length hay)) (Some n) None) at ∙ cond-true _ _ _ (lt-ltb _ _ within))
+
+-- where it stands, or else how many bytes there are, is how many bytes stand before it
+pub found_len : (a : ℕ) (hay : List ℕ) (r : Option ℕ) → IsFirstByte (is_byte a) hay r → unwrap_or r (length hay) ≡ position_or_len (is_byte a) hay
+found_len a hay None h = sym (position_or_len_is (is_byte a) hay (length hay) 0 (omega arith) (λ k lt. fails _ (h k (omega arith) lt)) (λ lt. absurd (omega arith)))
+found_len a hay (Some k) h =
+    let within : k < length hay = h.0.high in
+    sym (position_or_len_is (is_byte a) hay k 0 (omega arith) (λ j lt. fails _ (h.0.before j (omega arith) lt)) (λ lt. h.1))
 
 -- where nothing is found, the byte stands nowhere
 pub found_none : (a : ℕ) (hay : List ℕ) → IsFirstByte (is_byte a) hay None → All (λ b. is_byte a b ≡ false) hay

@@ -10,6 +10,7 @@
 //! the crates above, `Shapes` (what is seen of a node) and `Failures` (the first of several checks that fails).
 #![tactic(auto)]
 
+pub mod blocks;
 pub mod bytes;
 pub mod examples;
 pub mod fault;

@@ -1,38 +1,10 @@
-//! Where the names of a text stand, a block of bytes at a time.
+//! Where the names of a text stand.
 
-ghost use Rattle.std.specs.Prelude.{◌≡◌, ◌<◌, ◌≤◌, false, ◌∷◌, length, take};
+ghost use Rattle.std.specs.Prelude.{◌≡◌, ◌<◌, ◌≤◌, false, ◌∷◌, length};
 ghost use Rattle.std.specs.List.{position_or_len};
 ghost use Rattle.fs_names.specs.Reading.{names, is_slash, starts_at_root};
-ghost use Rattle.fs_names.specs.code.Slashes.{MarksSlashes};
 
-use std::simd::prelude::*;
-
-/// How many bytes are looked at at once.
-const BLOCK: usize = 16;
-
-/// Which bytes of the first block are slashes, a bit for each.
-#[inline]
-fn slashes(text: &[u8]) -> u64
-    requires { BLOCK ≤ length text.now }
-    ensures { MarksSlashes (take BLOCK text.now) result }
-{
-    u8x16::splat(b'/')
-        .simd_eq(u8x16::from_slice(text))
-        .to_bitmask()
-}
-
-/// How many bytes stand before the first slash, where none is among so many.
-#[inline]
-fn name_len_from(text: &[u8], from: usize) -> usize
-    requires { from ≤ position_or_len is_slash text.now }
-    ensures { result ≡ position_or_len is_slash text.now }
-{
-    let mut len = from;
-    while len < text.len() && text[len] != b'/' {
-        len += 1;
-    }
-    len
-}
+use crate::blocks::place_from;
 
 /// How many bytes stand before the first slash.
 #[inline]
@@ -40,14 +12,10 @@ fn name_len(text: &[u8]) -> usize
     ensures first { result ≡ position_or_len is_slash text.now }
     ensures within { result ≤ length text.now }
 {
-    if text.len() < BLOCK {
-        return name_len_from(text, 0);
+    match place_from(b'/', text, 0) {
+        Some(at) => at,
+        None => text.len(),
     }
-    let marks = slashes(text);
-    if marks == 0 {
-        return name_len_from(text, BLOCK);
-    }
-    marks.trailing_zeros() as usize
 }
 
 /// What stands behind the slashes that a text begins with.

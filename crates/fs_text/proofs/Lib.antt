@@ -9,5 +9,4 @@ pub mod DecimalLemmas
 pub mod DigitLemmas
 pub mod SpellLemmas
 pub mod PlainLemmas
-pub mod ScanLemmas
 pub mod FitLemmas

@@ -1,14 +1,11 @@
 -- A path that is appended as it is.
 use Rattle.std.proofs.Common.{◌≡◌, ℕ, ◌≤◌, ◌++◌, ◌-◌, false, List, length, take, drop, sym, ap, ◌∙◌}
 use Rattle.std.specs.List.{list_any}
-use Rattle.std.proofs.Math.Seq.{drop-append_seam, take-length}
-use Rattle.std.proofs.lemmas.List.{drop-append-le, length-drop}
+use Rattle.std.proofs.Math.Seq.{drop-append_seam}
+use Rattle.std.proofs.lemmas.List.{drop-append-le}
+use Rattle.fs_names.proofs.BlockLemmas.{to_end}
 use Rattle.fs_text.specs.Words.{is_escaped, escaped}
 use Rattle.fs_text.proofs.EscapeLemmas.{escaped_plain}
-
--- what stands behind a place, up to the end
-pub to_end : (from : ℕ) (text : List ℕ) → take (length text - from) (drop from text) ≡ drop from text
-to_end from text = ap (λ n. take n (drop from text)) (sym (length-drop from text)) ∙ take-length (drop from text)
 
 -- what stands behind a text
 behind : (from : ℕ) (old new more : List ℕ) → from ≡ length old → new ≡ old ++ more → take (length new - from) (drop from new) ≡ more

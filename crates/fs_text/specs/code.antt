@@ -2,4 +2,3 @@
 pub mod Answers
 pub mod Additions
 pub mod Forms
-pub mod Marks

@@ -22,7 +22,6 @@ pub mod limits;
 pub mod lines;
 pub mod recent;
 mod replies;
-mod scan;
 mod telling;
 pub mod words;
 mod writing;

@@ -8,8 +8,8 @@ ghost use Rattle.fs_text.specs.code.Answers.{Becomes, pushed_word};
 ghost use Rattle.fs_text.specs.declared.fault.FaultKind.TheVariants as kind;
 
 use crate::fault::FaultKind;
-use crate::scan::place_from;
 use crate::words::parts;
+use fs_names::blocks::place_from;
 use memchr::memchr;
 
 fn line_end(text: &[u8]) -> Option<usize>

@@ -3,9 +3,8 @@ use Rattle.std.proofs.lemmas.List.{drop-drop}
 use Rattle.fs_names.proofs.SearchLemmas.{found_place}
 use Rattle.fs_text.specs.Lines.{is_space}
 use Rattle.fs_text.specs.code.Answers.{Becomes, pushed_word}
-use Rattle.fs_text.proofs.PlainLemmas.{to_end}
 use Rattle.fs_text.proofs.ReadLemmas.{piece_pushed, last_piece, words_in, Pieces}
-use Rattle.fs_text.proofs.ScanLemmas.{found_behind}
+use Rattle.fs_names.proofs.BlockLemmas.{to_end, found_behind}
 use Rattle.fs_text.proofs.lines.cut_words.Goals as goal
 
 pub words-preserved : goal.words-preserved

@@ -2,7 +2,7 @@
 
 ghost use Rattle.std.specs.Prelude.{◌≤◌, length, take};
 ghost use Rattle.memchr.specs.Find.{IsFirst, Passes, is_byte};
-ghost use Rattle.fs_text.specs.code.Marks.{MarksByte};
+ghost use Rattle.fs_names.specs.code.Marks.{MarksByte};
 
 use memchr::memchr;
 use std::simd::prelude::*;
@@ -65,7 +65,7 @@ fn place_by_blocks(byte: u8, text: &[u8], start: usize) -> Option<usize>
 
 /// Where the byte stands first from a place on.
 #[inline(always)]
-pub(crate) fn place_from(byte: u8, text: &[u8], start: usize) -> Option<usize>
+pub fn place_from(byte: u8, text: &[u8], start: usize) -> Option<usize>
     requires { start ≤ length text.now }
     ensures { IsFirst (Passes (is_byte byte) text.now) start (length text.now) result }
 {

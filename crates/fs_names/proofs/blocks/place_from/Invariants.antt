@@ -1,5 +1,5 @@
 use Rattle.memchr.specs.Find.{Nowhere, Passes, is_byte}
-use Rattle.fs_text.proofs.scan.place_from.Given as goal
+use Rattle.fs_names.proofs.blocks.place_from.Given as goal
 
 -- the byte is not passed
 abbrev pub invariant-loop-at : goal.invariant-loop-at

@@ -1,6 +1,6 @@
 use Rattle.std.proofs.Common.{◌≤◌, ◌-◌, length}
 use Rattle.memchr.specs.Find.{Nowhere, Passes, is_byte}
-use Rattle.fs_text.proofs.scan.place_by_blocks.Given as goal
+use Rattle.fs_names.proofs.blocks.place_by_blocks.Given as goal
 
 -- the byte is not passed
 abbrev pub invariant-loop-from : goal.invariant-loop-from

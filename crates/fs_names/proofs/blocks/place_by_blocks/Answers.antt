@@ -2,10 +2,9 @@ use Rattle.std.proofs.Common.{◌≡◌, ◌+◌, ◌-◌, ◌/◌, ◌^◌, ◌
 use Rattle.std.proofs.lemmas.Nat.{shr_le}
 use Rattle.std.proofs.lemmas.Nat.Bits.{bit_at-trailing_zeros}
 use Rattle.memchr.specs.Find.{Nowhere, Passes, is_byte}
-use Rattle.fs_text.specs.code.Marks.{MarksByte}
-use Rattle.fs_text.proofs.PlainLemmas.{to_end}
-use Rattle.fs_text.proofs.ScanLemmas.{block_tells, shifted_tells, none_marked, first_marked, found_later}
-use Rattle.fs_text.proofs.scan.place_by_blocks.Goals as goal
+use Rattle.fs_names.specs.code.Marks.{MarksByte}
+use Rattle.fs_names.proofs.BlockLemmas.{to_end, block_tells, shifted_tells, none_marked, first_marked, found_later}
+use Rattle.fs_names.proofs.blocks.place_by_blocks.Goals as goal
 
 pub returns-then-marks-ne0 : goal.returns-then-marks-ne0
 returns-then-marks-ne0 c =

@@ -5,11 +5,16 @@ use Rattle.std.specs.Option.{option_map}
 use Rattle.std.specs.Simd.Lanes.{zip2, mask_l, top}
 use Rattle.std.proofs.lemmas.Bool.{ltb-true, ltb-false}
 use Rattle.std.proofs.lemmas.List.{length-map, get_or-map, get_or-take, get_or-drop, get_or_past, length-drop, length-take-le}
+use Rattle.std.proofs.Math.Seq.{take-length}
 use Rattle.std.proofs.lemmas.Nat.{shr-shr}
 use Rattle.std.proofs.lemmas.Nat.Bits.{bit_at-zero}
 use Rattle.std.proofs.lemmas.Simd.{tops_compared, bit_mask_l, mask_l-mod}
 use Rattle.memchr.specs.Find.{IsFirst, IsFirstByte, Nowhere, Passes, is_byte}
-use Rattle.fs_text.specs.code.Marks.{MarksByte}
+use Rattle.fs_names.specs.code.Marks.{MarksByte}
+
+-- what stands behind a place, up to the end
+pub to_end : (from : ℕ) (text : List ℕ) → take (length text - from) (drop from text) ≡ drop from text
+to_end from text = ap (λ n. take n (drop from text)) (sym (length-drop from text)) ∙ take-length (drop from text)
 
 -- a comparison with one value in each lane
 compared_with : (test : ℕ → ℕ → Bool) (x : ℕ) (ys : List ℕ) → zip2 test ys (replicate (length ys) x) ≡ map (λ y. test y x) ys
