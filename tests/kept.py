@@ -62,7 +62,7 @@ class Scripts(Case):
         self.each(((name, name) for name in counting.RUNS), self.look)
 
     def look(self, name):
-        self.same(f"python3 bench/contended.py {name}", getattr(contended, name)(), (ROOT / "bench" / f"{name}.script").read_bytes())
+        self.same(f"python3 bench/contended.py {name}", contended.scripts()[name], (ROOT / "bench" / f"{name}.script").read_bytes())
 
 
 class Kept(Case):
