@@ -1,7 +1,7 @@
 """Counts the instructions of the program by valgrind, which are the same under any load, and keeps those of some small jobs in bench/kept.txt.
 
-A block of that file is of one machine: the line of `rt version`, the C library, and the processor as valgrind shows it. Another kit compiles otherwise,
-and other libraries have other counts.
+A block of that file is of one machine: the line of `rt version`, the C library, and the processor as valgrind shows it. Another kit compiles
+otherwise, and other libraries have other counts.
 """
 import concurrent.futures
 import os
@@ -31,8 +31,8 @@ LOSS, GAIN = 1.03, 0.97
 def counted(program, words, text):
     """The instructions of a program on an input, and what it writes.
 
-    Where blocks of the heap stand, and so what copies cost, depends on how long the program's name is. So it is always called the same. And it reads a
-    file, since of a pipe it may get more pieces or fewer.
+    Where blocks of the heap stand, and so what copies cost, depends on how long the program's name is. So it is always called the same. And it reads
+    a file, since of a pipe it may get more pieces or fewer.
     """
     with tempfile.TemporaryDirectory() as folder:
         os.symlink(os.path.abspath(program), f"{folder}/atomfs")
@@ -91,7 +91,8 @@ def machine():
 def commit():
     """The commit of the sources, and whether they have changed since."""
     try:
-        return told("git", "rev-parse", "--short=9", "HEAD") + (" with changes" if told("git", "status", "--porcelain", HERE.parent / "crates") else "")
+        changed = told("git", "status", "--porcelain", HERE.parent / "crates")
+        return told("git", "rev-parse", "--short=9", "HEAD") + (" with changes" if changed else "")
     except (OSError, subprocess.CalledProcessError):
         return "unknown"
 
