@@ -239,6 +239,7 @@ class Process(Case):
             ("a run", ("run",), of(ONE_CALL), 5),
             ("a run with calls left", ("run",), of(CUT), 5),
             ("a journal that is not lawful", ("check",), WRONG, 5),
+            ("what a fault means", ("explain", "Dot"), b"", 5),
         ), self.unheard)
 
 
