@@ -64,7 +64,7 @@ macro_rules! root_errors {
 }
 
 /// The error of a call on the root's entry.
-fn root_error(entry: EntryCall) -> Errno
+pub fn root_error(entry: EntryCall) -> Errno
     ensures { result ≡ root_error entry }
 {
     calls!(root_errors(entry))

@@ -3,7 +3,12 @@ use Rattle.std.proofs.Common.{◌≡◌, ℕ, ◌<◌, List, [], ◌∷◌, leng
 use Rattle.std.specs.FinMap.{find}
 use Rattle.fs_names.specs.Names.{Name, name_cmp}
 use Rattle.fs_names.specs.Keys.{Key, is_root, parent_of, last_of}
-use Rattle.fs_names.specs.Failures.{check, or_else}
+use Rattle.fs_names.specs.Failures.{check, or_else, first_failure}
+use Rattle.fs_calls.specs.declared.target.EntryCall.{EntryCall}
+use Rattle.fs_calls.specs.declared.target.EntryCall.TheVariants as entries
+use Rattle.fs_calls.specs.declared.target.EntryCall.TheVariants.{Mkdir, Mknod}
+use Rattle.fs_calls.specs.Forms.{new_shape, root_error}
+use Rattle.fs_calls.specs.Rows.{entry_errors, entry_fault}
 use Rattle.std.proofs.lemmas.Bool.Decides.{nat_tests}
 use Rattle.fs_seq.specs.declared.nodes.Link.{Link}
 use Rattle.fs_calls.specs.declared.call.Call.{Call}
@@ -15,9 +20,9 @@ use Rattle.fs_calls.specs.Tree.{Tree, removed}
 use Rattle.fs_calls.specs.Sights.{Shape, tree_shapes, is_missing, has_any}
 use Rattle.fs_calls.proofs.RowNames.{unlinking, removing}
 use Rattle.fs_calls.specs.Outcomes.{fault, success, change, parents_resolution}
-use Rattle.fs_seq.specs.code.Slots.{Place, Dir, Slots, place_at, links_at, shape_of, child, tree_of, IsForest, Sets}
+use Rattle.fs_seq.specs.code.Slots.{Place, Dir, File, Slots, place_at, links_at, links_of, shape_of, child, tree_of, IsForest, Sets}
 use Rattle.fs_seq.specs.code.Nodes.{pairs, IsTaken, IsFree, without}
-use Rattle.fs_seq.specs.code.Effects.{IsVictim, Detaches, Answers}
+use Rattle.fs_seq.specs.code.Effects.{IsVictim, Detaches, Answers, call_on}
 use Rattle.fs_seq.proofs.NodeLemmas.{parent_and_last, child_got}
 use Rattle.fs_seq.proofs.Spots.{not_root, root, taken_parents, taken_seen, free_parents, free_seen}
 use Rattle.fs_seq.proofs.GraphCut.{forest_cut, tree_cut}
@@ -51,6 +56,23 @@ unlink_goes p = record { errors = λ t. refl; missing = unlinking_missing; well 
 pub rmdir_goes : (p : Key) → GoesBy (Rmdir p) p Ebusy removing
 unfolding fault
 rmdir_goes p = record { errors = λ t. refl; missing = removing_missing; well = λ t. refl; makes = λ t. refl }
+
+-- so is each call on an entry that makes no node
+pub entry_goes : (c : EntryCall) → new_shape c ≡ None → (p : Key) → GoesBy (call_on c p) p (root_error c) (λ parent there. entry_fault c parent false there)
+entry_goes Mkdir h p = absurd (cc)
+entry_goes Mknod h p = absurd (cc)
+entry_goes entries.Unlink h p = unlink_goes p
+entry_goes entries.Rmdir h p = rmdir_goes p
+
+-- what it removes has no entries
+pub entry_leaf : (c : EntryCall) (o : Option Place) → new_shape c ≡ None → first_failure (entry_errors c false (shape_of o)) ≡ None → links_of o ≡ []
+entry_leaf Mkdir o h e = absurd (cc)
+entry_leaf Mknod o h e = absurd (cc)
+entry_leaf c None h e = refl
+entry_leaf c (Some (File bytes)) h e = refl
+entry_leaf c (Some (Dir [])) h e = refl
+entry_leaf entries.Unlink (Some (Dir (l ∷ links))) h e = absurd (cc)
+entry_leaf entries.Rmdir (Some (Dir (l ∷ links))) h e = absurd (cc)
 
 -- links of which there are none
 pub no_links : (links : List Link) (n : ℕ) → n ≡ length links → nat_eq n 0 ≡ true → links ≡ []

@@ -4,7 +4,9 @@ use Rattle.std.specs.Prelude.{nat_le}
 use Rattle.std.proofs.lemmas.List.{length-map}
 use Rattle.fs_names.specs.Names.{Name}
 use Rattle.fs_names.specs.Keys.{Key, is_root, parent_of, last_of}
-use Rattle.fs_names.specs.Failures.{check, or_else}
+use Rattle.fs_names.specs.Failures.{check, or_else, first_failure}
+use Rattle.fs_calls.specs.declared.target.EntryCall.TheVariants.{Mkdir}
+use Rattle.fs_calls.specs.Rows.{entry_errors}
 use Rattle.fs_calls.specs.declared.errno.Errno.{Errno}
 use Rattle.fs_calls.specs.declared.errno.Errno.TheVariants.{Eexist, Enospc}
 use Rattle.fs_calls.specs.Tree.{Tree}
@@ -95,24 +97,15 @@ making_taken g p dir i n forest named spot =
     making_shape (tree_of g) p ∙ (λ j. making_by (not_root p named j) (taken_parents g forest p named dir i n spot j) (there j) (is_full (tree_shapes (tree_of g) (parent_of p))))
 
 -- the error of a name that is not there
-making_free : (g : Slots) (p : Key) (dir i entries : ℕ) → IsForest g → 0 < length p → IsFree g p dir i entries → (b : Bool) → nat_le 256 entries ≡ b → making_fault (tree_of g) p ≡ check b Enospc
-making_free g p dir i entries forest named spot b e =
+pub making_free : (g : Slots) (p : Key) (dir i entries : ℕ) → IsForest g → 0 < length p → IsFree g p dir i entries → making_fault (tree_of g) p ≡ first_failure (entry_errors Mkdir (nat_le 256 entries) None)
+making_free g p dir i entries forest named spot =
     making_shape (tree_of g) p
-    ∙ (λ j. making_by (not_root p named j) (free_parents g forest p named dir i entries spot j) (is_there (free_seen g forest p named dir i entries spot j)) ((free_full g forest p named dir i entries spot ∙ e) j))
-    ∙ alone (check b Enospc)
-  where
-    alone : (z : Option Errno) → or_else z None ≡ z
-    alone None = refl
-    alone (Some e) = refl
-
--- the error of a full directory
-pub making_full : (g : Slots) (p : Key) (dir i entries : ℕ) → IsForest g → 0 < length p → IsFree g p dir i entries → nat_le 256 entries ≡ true → making_fault (tree_of g) p ≡ Some Enospc
-making_full g p dir i entries forest named spot h = making_free g p dir i entries forest named spot true h
+    ∙ (λ j. making_by (not_root p named j) (free_parents g forest p named dir i entries spot j) (is_there (free_seen g forest p named dir i entries spot j)) (free_full g forest p named dir i entries spot j))
 
 -- a name that can be made
-pub is_gap : (g : Slots) (p : Key) (dir i entries : ℕ) → IsForest g → 0 < length p → IsFree g p dir i entries → nat_le 256 entries ≡ false → IsGap g p dir i
-is_gap g p dir i entries forest named spot h = record {
-  sound = making_free g p dir i entries forest named spot false h;
+pub is_gap : (g : Slots) (p : Key) (dir i entries : ℕ) → 0 < length p → IsFree g p dir i entries → making_fault (tree_of g) p ≡ None → IsGap g p dir i
+is_gap g p dir i entries named spot sound = record {
+  sound = sound;
   named = named;
   parent = spot.parent;
   directory = spot.directory;

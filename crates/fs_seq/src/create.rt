@@ -8,8 +8,9 @@ ghost use Rattle.fs_seq.specs.code.Slots.{IsForest, place_at, links_at, links_of
 ghost use Rattle.fs_seq.specs.code.Effects.{Answers, Attaches, FindsGap, Gives, making_fault, tree_node};
 
 use crate::nodes::{Link, Node, Spot, add_link, look_up};
+use fs_calls::path_errors::root_error;
 use fs_calls::ranges::is_full;
-use fs_calls::{Call, Errno, Reply};
+use fs_calls::{Call, EntryCall, Errno, Reply, Sight};
 use fs_names::{Name, Path};
 use slab::Slab;
 use std::alloc::{AllocError, Global};
@@ -44,16 +45,15 @@ fn gap(nodes: &Slab<Node>, path: &Path) -> Result<(usize, usize), Errno>
     ensures { FindsGap (graph nodes.now) path.now result }
 {
     if path.len() == 0 {
-        return Err(Errno::Eexist);
+        return Err(root_error(EntryCall::Mkdir));
     }
     match look_up(nodes, path) {
         Err(errno) => Err(errno),
         Ok(Spot::Taken(..)) => Err(Errno::Eexist),
         Ok(Spot::Free(dir, i, entries)) => {
-            if is_full(entries) {
-                Err(Errno::Enospc)
-            } else {
-                Ok((dir, i))
+            match EntryCall::Mkdir.error(Sight::Nothing, is_full(entries)) {
+                Some(errno) => Err(errno),
+                None => Ok((dir, i)),
             }
         }
     }

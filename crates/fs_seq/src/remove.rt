@@ -1,12 +1,14 @@
 //! The calls that remove a node.
 
-ghost use Rattle.std.specs.Prelude.{◌≡◌, ◌<◌, Some, length};
+ghost use Rattle.std.specs.Prelude.{◌≡◌, ◌<◌, Some, None, length};
+ghost use Rattle.fs_calls.specs.Forms.{new_shape};
 ghost use Rattle.fs_seq.specs.code.Nodes.{graph};
 ghost use Rattle.fs_seq.specs.code.Slots.{IsForest, place_at, links_at, Dir as IsDir};
-ghost use Rattle.fs_seq.specs.code.Effects.{Answers, Detaches, FindsEntry, FindsVictim};
+ghost use Rattle.fs_seq.specs.code.Effects.{Answers, Detaches, FindsEntry, FindsVictim, call_on};
 
-use crate::nodes::{Node, Spot, look_up, remove_link};
-use fs_calls::{Call, Errno, Reply};
+use crate::nodes::{Node, Spot, look_up, remove_link, sight_of};
+use fs_calls::path_errors::root_error;
+use fs_calls::{Call, EntryCall, Errno, Reply};
 use fs_names::Path;
 use slab::Slab;
 
@@ -34,42 +36,24 @@ fn find_entry(nodes: &Slab<Node>, path: &Path) -> Result<(usize, usize, usize), 
     }
 }
 
-/// The file at the path, or why it cannot be unlinked, in the same form.
-fn find_file(nodes: &Slab<Node>, path: &Path) -> Result<(usize, usize, usize), Errno>
-    requires { IsForest (graph nodes.now) }
-    ensures { FindsVictim (graph nodes.now) (Call.Unlink path.now) path.now result }
+/// The entry that a call removes, or its first error, in the same form.
+fn find_victim(
+    nodes: &Slab<Node>,
+    path: &Path,
+    entry: EntryCall,
+) -> Result<(usize, usize, usize), Errno>
+    requires forest { IsForest (graph nodes.now) }
+    requires removes { new_shape entry ≡ None }
+    ensures { FindsVictim (graph nodes.now) (call_on entry path.now) path.now result }
 {
     if path.len() == 0 {
-        return Err(Errno::Eperm);
+        return Err(root_error(entry));
     }
     match find_entry(nodes, path) {
         Err(errno) => Err(errno),
-        Ok((dir, i, node)) => match &nodes[node] {
-            Node::Dir(_) => Err(Errno::Eperm),
-            Node::File(_) => Ok((dir, i, node)),
-        },
-    }
-}
-
-/// The empty directory at the path, or why it cannot be removed, in the same form.
-fn find_empty(nodes: &Slab<Node>, path: &Path) -> Result<(usize, usize, usize), Errno>
-    requires { IsForest (graph nodes.now) }
-    ensures { FindsVictim (graph nodes.now) (Call.Rmdir path.now) path.now result }
-{
-    if path.len() == 0 {
-        return Err(Errno::Ebusy);
-    }
-    match find_entry(nodes, path) {
-        Err(errno) => Err(errno),
-        Ok((dir, i, node)) => match &nodes[node] {
-            Node::File(_) => Err(Errno::Enotdir),
-            Node::Dir(links) => {
-                if links.is_empty() {
-                    Ok((dir, i, node))
-                } else {
-                    Err(Errno::Enotempty)
-                }
-            }
+        Ok((dir, i, node)) => match entry.error(sight_of(nodes, node), false) {
+            Some(errno) => Err(errno),
+            None => Ok((dir, i, node)),
         },
     }
 }
@@ -79,7 +63,7 @@ pub fn unlink(nodes: &mut Slab<Node>, path: &Path) -> Reply
     requires { IsForest (graph nodes.old) }
     ensures { Answers (graph nodes.old) (graph nodes.new) (Call.Unlink path.now) result }
 {
-    match find_file(nodes, path) {
+    match find_victim(nodes, path, EntryCall::Unlink) {
         Err(errno) => Reply::Failed(errno),
         Ok((dir, i, node)) => {
             detach(nodes, dir, i, node);
@@ -93,7 +77,7 @@ pub fn rmdir(nodes: &mut Slab<Node>, path: &Path) -> Reply
     requires { IsForest (graph nodes.old) }
     ensures { Answers (graph nodes.old) (graph nodes.new) (Call.Rmdir path.now) result }
 {
-    match find_empty(nodes, path) {
+    match find_victim(nodes, path, EntryCall::Rmdir) {
         Err(errno) => Reply::Failed(errno),
         Ok((dir, i, node)) => {
             detach(nodes, dir, i, node);

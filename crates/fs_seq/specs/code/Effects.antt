@@ -8,13 +8,15 @@ use Rattle.fs_calls.specs.Tree as tree
 use Rattle.fs_calls.specs.Tree.{Tree}
 use Rattle.fs_calls.specs.Sights.{tree_shapes, is_missing, has_any, is_full}
 use Rattle.fs_calls.specs.Outcomes.{fault, resolution, parents_resolution, reply, after, replied, if_sound}
-use Rattle.fs_calls.specs.declared.target.EntryCall.TheVariants.{Mkdir}
+use Rattle.fs_calls.specs.declared.target.EntryCall.{EntryCall}
+use Rattle.fs_calls.specs.declared.target.EntryCall.TheVariants.{Mkdir, Mknod, Unlink, Rmdir}
 use Rattle.fs_calls.specs.Rows.{entry_fault, written}
 use Rattle.fs_seq.specs.code.Slots.{Place, Dir, Slots, place_at, links_at, shape_of, walk, tree_of, IsForest, Sets}
 use Rattle.fs_seq.specs.code.Nodes.{BelongsAt, IsTaken}
 use Rattle.fs_seq.specs.declared.nodes.Node.{Node}
 use Rattle.fs_seq.specs.declared.nodes.Node.TheVariants as nodes
 use Rattle.fs_calls.specs.declared.call.Call.{Call}
+use Rattle.fs_calls.specs.declared.call.Call.TheVariants as calls
 use Rattle.fs_calls.specs.declared.reply.Reply.{Reply}
 use Rattle.fs_calls.specs.declared.errno.Errno.{Errno}
 use Rattle.fs_calls.specs.declared.errno.Errno.TheVariants.{Eexist, Enoent, Efbig}
@@ -35,6 +37,13 @@ pub record Answers (g g' : Slots) (call : Call) (r : Reply) : Type 0 where
 abbrev pub tree_node : Node → tree.Node
 tree_node (nodes.Dir links) = tree.Dir
 tree_node (nodes.File bytes) = tree.File bytes.items
+
+-- the call that does this to the entry at a path
+abbrev pub call_on : EntryCall → Key → Call
+call_on Mkdir p = calls.Mkdir p
+call_on Mknod p = calls.Mknod p
+call_on Unlink p = calls.Unlink p
+call_on Rmdir p = calls.Rmdir p
 
 -- the errors of the calls that make a node
 unfoldable pub making_fault : Tree → Key → Option Errno
