@@ -36,7 +36,8 @@ pub fn parts(bytes: &[u8], at: usize) -> (&[u8], &[u8])
 pub(crate) fn is_word(word: &[u8], text: &[u8]) -> bool
     ensures { result ≡ bytes_eq word.now text.now }
 {
-    word == text
+    // A comparison of slices is a call, and most words are known by their lengths to differ.
+    word.len() == text.len() && word == text
 }
 
 /// A number with one digit more behind it, where the byte is a digit and the number is below 2 ^ 64.
