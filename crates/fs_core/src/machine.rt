@@ -228,7 +228,7 @@ impl Core {
         ensures seats { length self.new.seats ≡ length self.old.seats }
     {
         match self.starting[at] {
-            Some(call) => self.take(at, call, NodeNo::new(0)),
+            Some(call) => self.take(at, call, NodeNo::ROOT),
             None => self.go_on(at),
         }
     }

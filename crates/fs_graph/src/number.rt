@@ -19,6 +19,9 @@ impl Model for NodeNo {
 }
 
 impl NodeNo {
+    /// The root.
+    pub const ROOT: NodeNo = NodeNo { number: 0 };
+
     /// The node of this number; the root's is 0.
     pub fn new(number: usize) -> Self
         ensures { result ≡ number }

@@ -55,7 +55,7 @@ impl Stand {
         let (source, dest) = match (&self.fork, self.walk.node()) {
             (Some(heads), _) => (heads.source().node, heads.dest().node),
             (None, Some(node)) => (node, node),
-            (None, None) => (NodeNo::new(0), NodeNo::new(0)),
+            (None, None) => (NodeNo::ROOT, NodeNo::ROOT),
         };
         Route {
             source,

@@ -101,7 +101,7 @@ impl Walk {
     {
         Walk {
             above: Vec::new(alloc),
-            dir: NodeNo::new(0),
+            dir: NodeNo::ROOT,
             low: None,
             last: None,
         }

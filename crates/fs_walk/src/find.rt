@@ -11,7 +11,7 @@ use fs_nodes::{NodeNo, Store};
 pub fn find_path(store: &Store, path: &Path) -> Option<NodeNo>
     ensures { result ≡ numbers (graph_of store.now) path.now }
 {
-    let mut node = NodeNo::new(0);
+    let mut node = NodeNo::ROOT;
     for i in 0..path.len() {
         match store.find(node, path.name(i)) {
             Some(next) => node = next,

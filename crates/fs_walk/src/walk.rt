@@ -75,7 +75,7 @@ impl Walk {
         ensures within { self.now.walked ≤ self.now.names }
     {
         let Some(node) = self.node else {
-            return Want::Take(NodeNo::new(0));
+            return Want::Take(NodeNo::ROOT);
         };
         if let Some(behind) = self.behind {
             return Want::LetGo(behind);
