@@ -1,9 +1,7 @@
 //! Parts of the runners that a caller can use alone, the fault that no run ends with, and the places of a timeline.
 
 use anyhow::{Result, bail, ensure};
-use fs_sched::{
-    Device, Divisor, Draws, EntryKind, RunFault, Schedule, number_of, run_script,
-};
+use fs_sched::{Device, Divisor, Draws, EntryKind, RunFault, Schedule, number_of, run_script};
 use fs_script::Word;
 use fs_text::read_entries;
 use fs_timeline::Timeline;

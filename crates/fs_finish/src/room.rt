@@ -5,6 +5,7 @@ ghost use Rattle.fs_calls.specs.Forms.{form};
 ghost use Rattle.fs_calls.specs.code.Targets.{form_of, node_call};
 ghost use Rattle.fs_finish.specs.Rooms.{Suffices, SufficesFor, FitsContent, FitsCopies, FitsLists};
 
+use fs_calls::ranges::fits;
 use fs_calls::{Bytes, Call, NodeCall, Target};
 use fs_names::{ENTRY_LIMIT, FILE_LIMIT, Name};
 use std::alloc::{AllocError, Global};
@@ -114,7 +115,7 @@ const SPARE: u64 = 64;
 fn content(alloc: Global, off: u64, count: u64) -> Result<Room, AllocError>
     ensures { IfOk result (FitsContent (off + count)) }
 {
-    if off > FILE_LIMIT as u64 || count > FILE_LIMIT as u64 - off {
+    if !fits(off, count as usize) {
         return Ok(Room::Content(ByteRoom::new(alloc, 0)?));
     }
     let len = off + count;

@@ -1,4 +1,5 @@
 -- A finish: its reply and its change are those of the sequential tree.
+pub mod RowParts
 pub mod Readings
 pub mod Replies
 pub mod TreeAfter

@@ -12,7 +12,8 @@ use Rattle.fs_calls.specs.Forms.{form, NodeCall, Stat, Readdir, Read, Write, Tru
 use Rattle.fs_calls.specs.declared.target.PairCall.TheVariants as pairs
 use Rattle.fs_calls.specs.declared.target.EntryCall.{EntryCall}
 use Rattle.fs_calls.specs.declared.target.EntryCall.TheVariants.{Mkdir, Mknod, Unlink, Rmdir}
-use Rattle.fs_calls.specs.Rows.{answered, node_row, Edit, Keep, Add, Remove, entry_row_in_dir, entry_row, to_row, written, resized}
+use Rattle.fs_calls.specs.Rows.{answered, node_row, Edit, Keep, Add, Remove, entry_row, written, resized}
+use Rattle.fs_laws.proofs.finish.RowParts.{entry_row_in_dir, to_row}
 use Rattle.fs_calls.proofs.RowNames.{on_dir}
 use Rattle.fs_calls.specs.declared.errno.Errno.{Errno}
 use Rattle.fs_calls.specs.declared.errno.Errno.TheVariants.{Efbig}

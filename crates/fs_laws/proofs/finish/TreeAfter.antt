@@ -9,7 +9,8 @@ use Rattle.fs_calls.specs.Forms.{NodeCall, Form, AtNode, AtEntry, AtPair, by_tex
 use Rattle.fs_calls.specs.declared.target.PairCall.TheVariants as pairs
 use Rattle.fs_calls.proofs.RowNames.{if_below}
 use Rattle.fs_laws.specs.Maps.{Map, put, move, write_all}
-use Rattle.fs_calls.specs.Rows.{as_dir, node_row, Edit, entry_row, to_row, moves_row, rename_row}
+use Rattle.fs_calls.specs.Rows.{as_dir, node_row, Edit, entry_row, rename_row}
+use Rattle.fs_laws.proofs.finish.RowParts.{to_row, moves_row}
 use Rattle.fs_calls.specs.declared.errno.Errno.{Errno}
 use Rattle.fs_calls.specs.declared.reply.Reply.{Reply}
 use Rattle.fs_graph.specs.Graphs.{Graph, then_at, at, numbers, graph_shapes, entry_shape, IsGraph}

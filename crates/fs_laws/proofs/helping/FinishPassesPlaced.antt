@@ -11,7 +11,8 @@ use Rattle.fs_calls.specs.declared.target.PairCall.TheVariants as pairs
 use Rattle.fs_calls.specs.declared.target.EntryCall.{EntryCall}
 use Rattle.fs_calls.specs.declared.target.EntryCall.TheVariants.{Mkdir, Mknod, Unlink, Rmdir}
 use Rattle.fs_laws.specs.Maps.{Map, below, act, put, move, swapped, swap, write_all}
-use Rattle.fs_calls.specs.Rows.{as_dir, node_row, Edit, Keep, Add, Remove, made, entry_row_in_dir, entry_row, to_row, moves_row, rename_row_in_dirs, rename_row}
+use Rattle.fs_calls.specs.Rows.{as_dir, node_row, Edit, Keep, Add, Remove, entry_row, rename_row}
+use Rattle.fs_laws.proofs.finish.RowParts.{made, entry_row_in_dir, to_row, moves_row, rename_row_in_dirs}
 use Rattle.fs_calls.proofs.RowNames.{on_dir}
 use Rattle.fs_calls.specs.declared.errno.Errno.{Errno}
 use Rattle.fs_calls.specs.declared.reply.Reply.{Reply}
