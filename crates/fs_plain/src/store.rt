@@ -1,4 +1,4 @@
-//! The same store without an index, each of whose calls looks at every place: what tests compare `Store` with.
+//! The store as a plain vector, without an index: each of its calls looks at every place.
 #![tactic(auto, unfolding(crate::specs::Stores::graph_of, crate::specs::Stores::limit_of, crate::specs::Stores::room))]
 
 ghost use Rattle.std.specs.Prelude.{ℕ, ◌≡◌, ◌≢◌, ◌≤◌, ◌<◌, ◌↔◌, IsTrue, false, IfOk, OnErr, IfSome, IsSome, MatchOption, length, option_map, None, Some, Ok, Err};
