@@ -2,9 +2,11 @@
 use Rattle.std.specs.Prelude.{Bool, true, false, not, Option, Some, None}
 use Rattle.fs_names.specs.Failures.{first_failure}
 use Rattle.fs_names.specs.Shapes.{Shape}
-use Rattle.fs_calls.specs.Forms.{EntryCall, Mkdir, new_shape}
+use Rattle.fs_calls.specs.Forms.{new_shape}
 use Rattle.fs_calls.specs.Rows.{Edit, Keep, Add, answered, edit_of, entry_errors, place_fault, rename_errors}
 use Rattle.fs_calls.specs.declared.errno.Errno.{Errno}
+use Rattle.fs_calls.specs.declared.target.EntryCall.{EntryCall}
+use Rattle.fs_calls.specs.declared.target.EntryCall.TheVariants.{Mkdir}
 use Rattle.fs_calls.specs.declared.reply.Reply.{Reply}
 use Rattle.fs_calls.specs.declared.reply.Reply.TheVariants as answer
 
