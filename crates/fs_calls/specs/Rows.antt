@@ -1,6 +1,6 @@
 -- The table of errors, replies and changes. A call answers the first error of its row that holds, and an error changes nothing.
 -- A row speaks of what was read and looks nothing up: the tree reads at keys, the machine at the nodes that it holds.
-use Rattle.std.specs.Prelude.{ℕ, ◌+◌, ◌-◌, Bool, true, false, not, ◌&&◌, ◌||◌, nat_lt, length, take, drop, replicate, List, [], ◌∷◌, ◌++◌, Option, Some, None, if◌then◌else◌}
+use Rattle.std.specs.Prelude.{ℕ, ◌+◌, ◌-◌, Bool, false, not, ◌&&◌, ◌||◌, nat_lt, length, take, drop, replicate, List, [], ◌∷◌, ◌++◌, Option, Some, None, if◌then◌else◌}
 use Rattle.fs_names.specs.Failures.{check, first_failure}
 use Rattle.fs_names.specs.Shapes.{Shape, Dir, File, is_there, is_missing, is_dir, is_file, names_of, bytes_of, has_any, has_entries, is_full}
 use Rattle.fs_names.specs.declared.limits.TheConstants.{FILE_LIMIT}

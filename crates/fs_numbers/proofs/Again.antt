@@ -1,13 +1,13 @@
 -- Where no call is under way, a timeline can begin again.
-use Rattle.std.proofs.Common.{◌≡◌, ℕ, ◌<◌, ◌≤◌, List, Option, Some, None, sym, ◌∙◌, ◌⊎◌, inl, inr, arith}
-use Rattle.fs_names.specs.Shapes.{Shape, Dir, File}
+use Rattle.std.proofs.Common.{◌≡◌, ℕ, ◌<◌, List, Option, Some, None, sym, ◌∙◌, ◌⊎◌, inl, inr, arith}
+use Rattle.fs_names.specs.Shapes.{Dir, File}
 use Rattle.fs_calls.specs.Outcomes.{play}
 use Rattle.fs_calls.proofs.TreeLaws.{played_trees_are_trees}
 use Rattle.fs_graph.specs.Graphs as graphs
 use Rattle.fs_timeline.specs.Timeline.{commits}
 use Rattle.fs_machine.specs.Records.{Record}
 use Rattle.fs_machine.specs.Headline.{IsIdle}
-use Rattle.fs_machine.specs.States.{State, Run, Starting, IsStart, begun_again}
+use Rattle.fs_machine.specs.States.{State, Run, Starting, IsStart}
 use Rattle.fs_laws.proofs.states.Headline.{run_keeps}
 use Rattle.fs_laws.proofs.states.Agreement.{run_accounts}
 use Rattle.fs_laws.proofs.journal.ViewOfTimeline.{linearizes, run_starts}

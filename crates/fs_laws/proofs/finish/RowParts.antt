@@ -1,5 +1,5 @@
 -- Parts of the rows of errors, of what is read in steps.
-use Rattle.std.specs.Prelude.{Bool, true, false, not, Option, Some, None}
+use Rattle.std.specs.Prelude.{Bool, true, false, not, Option, Some}
 use Rattle.fs_names.specs.Failures.{first_failure}
 use Rattle.fs_names.specs.Shapes.{Shape}
 use Rattle.fs_calls.specs.Forms.{new_shape}

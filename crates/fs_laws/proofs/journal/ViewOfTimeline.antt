@@ -1,20 +1,17 @@
 -- The view of a timeline, against the definitions of `fs_timeline`.
 use Rattle.std.proofs.Common.{◌≡◌, ℕ, Bool, true, false, cond, not, eqb, List, [], ◌∷◌, ◌++◌, Option, Some, None, is_some, refl, sym, ap, ap₂, ◌∙◌, append_assoc, append-nil, subst, ◌==◌, Ok, Err}
-use mathlib.Core.Path.{fun_ext}
 use Rattle.fs_names.specs.Failures.{check, first_failure}
-use Rattle.fs_names.specs.Keys.{Key}
 use Rattle.fs_names.specs.Shapes.{Shape}
 use Rattle.fs_laws.specs.Changes.{reply, after}
 use Rattle.fs_calls.specs.Forms.{form, reserves}
 use Rattle.fs_laws.specs.Maps.{Map}
 use Rattle.fs_calls.specs.Outcomes as tree
 use Rattle.fs_calls.specs.Sights.{tree_shapes}
-use Rattle.fs_calls.specs.Tree as trees
-use Rattle.fs_calls.specs.Tree.{Tree, Node, look, names_in, IsTree}
+use Rattle.fs_calls.specs.Tree.{Tree, IsTree}
 use Rattle.fs_calls.specs.Starts.{Start}
 use Rattle.fs_calls.specs.declared.call.Call.{Call}
 use Rattle.fs_calls.specs.declared.reply.Reply.{Reply}
-use Rattle.fs_calls.proofs.TreeLaws.{stays_a_tree, played_trees_are_trees}
+use Rattle.fs_calls.proofs.TreeLaws.{stays_a_tree}
 use Rattle.fs_graph.specs.Graphs.{set_at}
 use Rattle.fs_timeline.specs.Timeline as journal
 use Rattle.fs_timeline.specs.Verdicts.{entry_fault, is_due}

@@ -1,6 +1,5 @@
 -- What every state of a run keeps, and the headline from it.
-use Rattle.std.proofs.Common.{◌≡◌, ℕ, Bool, true, false, cond, eqb, List, [], ◌∷◌, Option, Some, None, refl, sym, ap, ◌∙◌, subst, Ok, Err}
-use mathlib.Core.Path.{fun_ext}
+use Rattle.std.proofs.Common.{◌≡◌, ℕ, List, [], ◌∷◌, Option, Some, None, refl, sym, ap, ◌∙◌, subst, Ok, Err}
 use Rattle.fs_calls.specs.Sights.{tree_shapes}
 use Rattle.fs_calls.specs.Starts.{Start}
 use Rattle.fs_laws.specs.Changes.{play}

@@ -1,14 +1,14 @@
 -- A timeline can begin at the root alone.
-use Rattle.std.proofs.Common.{◌≡◌, ℕ, ◌≤◌, ◌<◌, Bool, true, false, cond, eqb, List, [], ◌∷◌, Option, Some, None, refl, sym, ap, ◌∙◌, subst, arith, length}
+use Rattle.std.proofs.Common.{◌≡◌, ℕ, ◌≤◌, Bool, true, false, cond, eqb, List, [], ◌∷◌, Option, Some, None, refl, sym, ap, ◌∙◌, subst, arith, length}
 use mathlib.Core.Path.{fun_ext}
 use Rattle.fs_names.specs.Keys.{Key}
 use Rattle.fs_names.specs.Names.{Name, has_name}
 use Rattle.fs_names.specs.Shapes.{Shape, Dir, File}
-use Rattle.fs_names.specs.declared.limits.TheConstants.{ENTRY_LIMIT, FILE_LIMIT}
+use Rattle.fs_names.specs.declared.limits.TheConstants.{ENTRY_LIMIT}
 use Rattle.fs_calls.specs.Tree.{root_tree, look}
 use Rattle.fs_calls.specs.Sights.{tree_shapes}
 use Rattle.fs_calls.proofs.TreeLaws.{played_trees_are_trees}
-use Rattle.fs_graph.specs.Graphs.{numbers, graph_shapes, IsGraph, IsReached, empty_graph}
+use Rattle.fs_graph.specs.Graphs.{numbers, graph_shapes, IsGraph, empty_graph}
 use Rattle.fs_machine.specs.States.{IsStart, AreRising}
 use Rattle.fs_laws.proofs.events.OneCallChanged.{Place, Here, Else, place}
 
