@@ -5,7 +5,6 @@ use Rattle.fs_names.specs.declared.fault.PathFault.{PathFault}
 use Rattle.fs_names.specs.declared.fault.PathFault.TheVariants as path
 use Rattle.fs_text.specs.declared.fault.FaultKind.{FaultKind as TextFault}
 use Rattle.fs_text.specs.declared.fault.FaultKind.TheVariants as text
-use Rattle.fs_timeline.specs.declared.verdict.FaultKind.{FaultKind as EntryFault}
 use Rattle.fs_sched.specs.Checks.{kind_word}
 use Rattle.fs_command.specs.declared.topic.Topic.{Topic}
 use Rattle.fs_command.specs.declared.topic.Topic.TheVariants.{Text, Path, Entry}
