@@ -7,7 +7,7 @@ ghost use Rattle.fs_names.specs.Reading.{names, is_slash, starts_at_root};
 use crate::blocks::place_from;
 
 /// How many bytes stand before the first slash.
-#[inline]
+#[inline(always)]
 fn name_len(text: &[u8]) -> usize
     ensures first { result ≡ position_or_len is_slash text.now }
     ensures within { result ≤ length text.now }
@@ -33,7 +33,7 @@ pub(crate) fn after_slashes(text: &[u8]) -> &[u8]
 }
 
 /// The first name of a text that begins with one, and the text from its second name on.
-#[inline]
+#[inline(always)]
 pub(crate) fn cut_name(text: &[u8]) -> (&[u8], &[u8])
     requires some { 0 < length text.now }
     requires name { starts_at_root text.now ≡ false }

@@ -117,6 +117,7 @@ impl<'a> Recent<'a> {
     }
 
     /// Puts a path into the slot that its word chose, if there are slots.
+    #[inline(always)]
     fn put(&mut self, slot: usize, known: Known<'a>) {
         if slot < self.slots.len() {
             self.slots[slot] = Some(known);
