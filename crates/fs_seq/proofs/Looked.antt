@@ -9,18 +9,49 @@ use Rattle.fs_calls.specs.declared.errno.Errno.{Errno}
 use Rattle.fs_calls.specs.declared.reply.Reply.{Reply}
 use Rattle.fs_calls.specs.declared.reply.Reply.TheVariants as replies
 use Rattle.fs_calls.specs.Tree.{Tree}
-use Rattle.fs_calls.specs.Sights.{Shape, tree_shapes, names_of, bytes_of}
+use Rattle.fs_calls.specs.Sights.{Shape, tree_shapes, row_in, names_of, bytes_of}
 use Rattle.fs_calls.proofs.RowNames.{listing, reading, writing, truncating}
-use Rattle.fs_calls.specs.Outcomes.{fault, success, reply, replied, resolution}
+use Rattle.fs_calls.specs.Outcomes.{fault, success, reply, reply_of, replied, resolution}
 use Rattle.fs_calls.specs.Forms as Forms
-use Rattle.fs_calls.specs.Rows.{node_fault, status}
-use Rattle.fs_seq.specs.code.Slots.{Place, Slots, place_at, shape_of, walk, tree_of, IsForest}
-use Rattle.fs_seq.specs.code.Effects.{IsSeen}
+use Rattle.fs_calls.specs.Forms.{NodeCall, AtNode, form, by_text}
+use Rattle.fs_names.specs.Failures.{or_else}
+use Rattle.fs_calls.specs.Rows.{node_fault, node_reply, status}
+use Rattle.fs_seq.specs.code.Slots.{Place, Dir, File, Slots, place_at, links_of, shape_of, walk, tree_of, IsForest}
+use Rattle.fs_seq.specs.code.Effects.{IsSeen, IsFound, node_error}
 use Rattle.fs_seq.proofs.Resolving.{resolution_walked, seen_at}
 
 -- what is seen where a path leads to a number
 pub is_seen : (g : Slots) (p : Key) (n : ℕ) (at : Place) → IsForest g → walk g p ≡ Some n → place_at g n ≡ Some at → IsSeen (tree_of g) p at
 is_seen g p n at forest w is = record { resolved = resolution_walked g p n forest w; shape = seen_at g p n forest w ∙ ap shape_of is }
+
+-- the first error of a call on the node where a path ends
+pub error_there : (g : Slots) (c : NodeCall) (p : Key) (n : ℕ) (at : Place) → IsForest g → walk g p ≡ Some n → place_at g n ≡ Some at → node_error (tree_of g) c p ≡ node_fault c None (shape_of (Some at))
+error_there g c p n at forest w placed = λ i. node_fault c (resolution_walked g p n forest w i) ((seen_at g p n forest w ∙ ap shape_of placed) i)
+
+-- a node on which a call works, where the row has no error
+pub is_found : (g : Slots) (c : NodeCall) (p : Key) (n : ℕ) (at : Place) → IsForest g → walk g p ≡ Some n → place_at g n ≡ Some at → node_fault c None (shape_of (Some at)) ≡ None → IsFound (tree_of g) c p at
+is_found g c p n at forest w placed sound = record { sound = error_there g c p n at forest w placed ∙ sound; shape = seen_at g p n forest w ∙ ap shape_of placed }
+
+module _ (call : Call) (c : NodeCall) (p : Key) (on_node : form call ≡ AtNode c p) (t : Tree) where
+  -- the first error of a call on a node
+  pub looking_fault : fault t call ≡ node_error t c p
+  unfolding fault
+  looking_fault = ap (λ f. or_else (by_text f) (row_in (tree_shapes t) f)) on_node
+
+  -- its reply where it fails
+  pub failed_reply : (e : Errno) → node_error t c p ≡ Some e → replies.Failed e ≡ reply t call
+  unfolding reply
+  failed_reply e h = sym (ap (λ f. replied f (success t call)) (looking_fault ∙ h))
+
+  -- its reply where it finds its node
+  pub found_reply : (at : Place) → IsFound t c p at → node_reply c (shape_of (Some at)) ≡ reply t call
+  unfolding reply
+  found_reply at found = sym (λ i. replied ((looking_fault ∙ found.sound) i) ((ap (reply_of t) on_node ∙ ap (node_reply c) found.shape) i))
+
+-- the names of the links of a place are those that are seen
+pub link_names : (at : Place) → map (λ l. l.0) (links_of (Some at)) ≡ names_of (shape_of (Some at))
+link_names (Dir links) = refl
+link_names (File bytes) = refl
 
 -- a call's errors and its reply without one, by the resolution of its path and what is there
 pub record LooksAt (call : Call) (p : Key) (rest : Option Errno → Option Shape → Option Errno) (answer : Option Shape → Reply) : Type 0 where

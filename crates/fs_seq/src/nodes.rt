@@ -4,10 +4,12 @@ ghost use Rattle.std.specs.Prelude.{◌≡◌, ◌<◌, ◌≤◌, Some, IsTrue,
 ghost use Rattle.std.specs.FinMap.{is_sorted};
 ghost use Rattle.slab.specs.Slab.{ContainsKey, HasRoomFor};
 ghost use Rattle.fs_names.specs.Names.{name_cmp};
+ghost use Rattle.fs_calls.specs.Sights.{bytes_of};
 ghost use Rattle.fs_calls.specs.code.Seen.{sight};
-ghost use Rattle.fs_seq.specs.code.Nodes.{pair, pairs, graph, Searches, Steps, Resolves, LooksUp};
-ghost use Rattle.fs_seq.specs.code.Slots.{IsForest, Sets, place_at, links_at, shape_at, Dir as IsDir};
+ghost use Rattle.fs_seq.specs.code.Nodes.{pair, pairs, place, graph, Searches, Steps, Resolves, LooksUp};
+ghost use Rattle.fs_seq.specs.code.Slots.{IsForest, Sets, place_at, links_at, links_of, shape_at, shape_of, Dir as IsDir};
 
+use fs_calls::rows::step_error;
 use fs_calls::{Errno, Sight};
 use fs_names::{Name, Path};
 use slab::Slab;
@@ -35,21 +37,50 @@ pub enum Spot {
     Free(usize, usize, usize),
 }
 
+impl Node {
+    /// What the rows of errors see of it.
+    pub fn sight(&self) -> Sight
+        ensures { result ≡ sight (shape_of (Some (place self.now))) }
+    {
+        match self {
+            Node::File(_) => Sight::File,
+            Node::Dir(links) => {
+                if links.is_empty() {
+                    Sight::EmptyDir
+                } else {
+                    Sight::Dir
+                }
+            }
+        }
+    }
+
+    /// The entries of a directory; a file has none.
+    pub fn links(&self) -> &[Link]
+        ensures { pairs result.now ≡ links_of (Some (place self.now)) }
+    {
+        match self {
+            Node::Dir(links) => links,
+            Node::File(_) => &[],
+        }
+    }
+
+    /// The bytes of a file; a directory has none.
+    pub fn bytes(&self) -> &[u8]
+        ensures { result.now ≡ bytes_of (shape_of (Some (place self.now))) }
+    {
+        match self {
+            Node::File(bytes) => bytes,
+            Node::Dir(_) => &[],
+        }
+    }
+}
+
 /// What the rows of errors see at a number.
 pub fn sight_of(nodes: &Slab<Node>, node: usize) -> Sight
     requires there { ContainsKey nodes.now node }
     ensures { result ≡ sight (shape_at (graph nodes.now) node) }
 {
-    match &nodes[node] {
-        Node::File(_) => Sight::File,
-        Node::Dir(links) => {
-            if links.is_empty() {
-                Sight::EmptyDir
-            } else {
-                Sight::Dir
-            }
-        }
-    }
+    nodes[node].sight()
 }
 
 /// Where a name stands among the links, or where it belongs.
@@ -67,10 +98,10 @@ fn step(nodes: &Slab<Node>, at: usize, name: &Name) -> Result<usize, Errno>
     ensures { Steps (graph nodes.now) at name.now result }
 {
     match &nodes[at] {
-        Node::File(_) => Err(Errno::Enotdir),
+        Node::File(_) => Err(step_error(true)),
         Node::Dir(links) => match search(links, name) {
             Ok(i) => Ok(links[i].node),
-            Err(_) => Err(Errno::Enoent),
+            Err(_) => Err(step_error(false)),
         },
     }
 }
@@ -103,7 +134,7 @@ pub fn look_up(nodes: &Slab<Node>, path: &Path) -> Result<Spot, Errno>
         Err(errno) => return Err(errno),
     };
     match &nodes[dir] {
-        Node::File(_) => Err(Errno::Enotdir),
+        Node::File(_) => Err(step_error(true)),
         Node::Dir(links) => match search(links, path.name(last)) {
             Ok(i) => Ok(Spot::Taken(dir, i, links[i].node)),
             Err(i) => Ok(Spot::Free(dir, i, links.len())),

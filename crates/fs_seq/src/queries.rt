@@ -1,30 +1,36 @@
 //! The calls that change nothing: what stands at a path.
 
 ghost use Rattle.std.specs.Prelude.{◌≡◌, Some, MatchResult, IfOk, OnErr, IsTrue, map, take, drop};
-ghost use Rattle.fs_calls.specs.Outcomes.{reply, resolution};
+ghost use Rattle.fs_calls.specs.Outcomes.{reply};
 ghost use Rattle.fs_calls.specs.Sights.{has_any};
+ghost use Rattle.fs_calls.specs.code.Targets.{node_call};
 ghost use Rattle.fs_seq.specs.Memory.{needs_memory};
 ghost use Rattle.fs_seq.specs.code.Nodes.{graph, pairs, place};
 ghost use Rattle.fs_seq.specs.code.Slots.{IsForest, tree_of};
-ghost use Rattle.fs_seq.specs.code.Effects.{IsSeen};
+ghost use Rattle.fs_seq.specs.code.Effects.{IsFound, node_error};
 
 use crate::nodes::{Link, Node, resolve};
 use fs_calls::ranges::part;
-use fs_calls::{Bytes, Call, Errno, NameList, Reply};
+use fs_calls::{Bytes, Call, Errno, NameList, NodeCall, Reply};
 use fs_names::{Kind, Path};
 use slab::Slab;
 use std::alloc::{AllocError, Global};
 
-/// The node at a path, or why there is none.
-fn find<'a>(nodes: &'a Slab<Node>, path: &Path) -> Result<&'a Node, Errno>
+/// The node on which a call works at a path, or the call's first error.
+fn find<'a>(nodes: &'a Slab<Node>, path: &Path, call: NodeCall<'_>) -> Result<&'a Node, Errno>
     requires { IsForest (graph nodes.now) }
     ensures { MatchResult result
-        (λ node. IsSeen (tree_of (graph nodes.now)) path.now (place node.now))
-        (λ e. resolution (tree_of (graph nodes.now)) path.now ≡ Some e) }
+        (λ node. IsFound (tree_of (graph nodes.now)) (node_call call.entry) path.now (place node.now))
+        (λ e. node_error (tree_of (graph nodes.now)) (node_call call.entry) path.now ≡ Some e) }
 {
-    match resolve(nodes, path, path.len()) {
-        Err(errno) => Err(errno),
-        Ok(at) => Ok(&nodes[at]),
+    let at = match resolve(nodes, path, path.len()) {
+        Ok(at) => at,
+        Err(errno) => return Err(errno),
+    };
+    let node = &nodes[at];
+    match call.error(node.sight()) {
+        Some(errno) => Err(errno),
+        None => Ok(node),
     }
 }
 
@@ -33,7 +39,7 @@ pub fn stat(nodes: &Slab<Node>, path: &Path) -> Reply
     requires { IsForest (graph nodes.now) }
     ensures { result ≡ reply (tree_of (graph nodes.now)) (Call.Stat path.now) }
 {
-    match find(nodes, path) {
+    match find(nodes, path, NodeCall::Stat) {
         Err(errno) => Reply::Failed(errno),
         Ok(Node::Dir(links)) => Reply::Stat(Kind::Dir, links.len() as u64),
         Ok(Node::File(bytes)) => Reply::Stat(Kind::File, bytes.len() as u64),
@@ -58,11 +64,10 @@ pub fn readdir(alloc: Global, nodes: &Slab<Node>, path: &Path) -> Result<Reply, 
     ensures reply { IfOk result (λ r. r ≡ reply (tree_of (graph nodes.now)) (Call.Readdir path.now)) }
     ensures memory { OnErr result (IsTrue (needs_memory (tree_of (graph nodes.now)) (Call.Readdir path.now))) }
 {
-    match find(nodes, path) {
+    match find(nodes, path, NodeCall::Readdir) {
         Err(errno) => Ok(Reply::Failed(errno)),
-        Ok(Node::File(_)) => Ok(Reply::Failed(Errno::Enotdir)),
-        Ok(Node::Dir(links)) => {
-            let names = names_of(alloc, links)?;
+        Ok(node) => {
+            let names = names_of(alloc, node.links())?;
             Ok(Reply::Names(names))
         }
     }
@@ -90,11 +95,10 @@ pub fn read(
     ensures reply { IfOk result (λ r. r ≡ reply (tree_of (graph nodes.now)) (Call.Read path.now off count)) }
     ensures memory { OnErr result (IsTrue (needs_memory (tree_of (graph nodes.now)) (Call.Read path.now off count))) }
 {
-    match find(nodes, path) {
+    match find(nodes, path, NodeCall::Read(off, count)) {
         Err(errno) => Ok(Reply::Failed(errno)),
-        Ok(Node::Dir(_)) => Ok(Reply::Failed(Errno::Eisdir)),
-        Ok(Node::File(bytes)) => {
-            let copy = copied(alloc, part(bytes, off, count))?;
+        Ok(node) => {
+            let copy = copied(alloc, part(node.bytes(), off, count))?;
             Ok(Reply::Bytes(copy))
         }
     }

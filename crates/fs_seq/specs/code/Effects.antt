@@ -8,9 +8,10 @@ use Rattle.fs_calls.specs.Tree as tree
 use Rattle.fs_calls.specs.Tree.{Tree}
 use Rattle.fs_calls.specs.Sights.{tree_shapes, is_missing, has_any, is_full}
 use Rattle.fs_calls.specs.Outcomes.{fault, resolution, parents_resolution, reply, after, replied, if_sound}
+use Rattle.fs_calls.specs.Forms.{NodeCall}
 use Rattle.fs_calls.specs.declared.target.EntryCall.{EntryCall}
 use Rattle.fs_calls.specs.declared.target.EntryCall.TheVariants.{Mkdir, Mknod, Unlink, Rmdir}
-use Rattle.fs_calls.specs.Rows.{entry_fault, written}
+use Rattle.fs_calls.specs.Rows.{entry_fault, node_fault, written}
 use Rattle.fs_seq.specs.code.Slots.{Place, Dir, Slots, place_at, links_at, shape_of, walk, tree_of, IsForest, Sets}
 use Rattle.fs_seq.specs.code.Nodes.{BelongsAt, IsTaken}
 use Rattle.fs_seq.specs.declared.nodes.Node.{Node}
@@ -96,6 +97,15 @@ pub record Detaches (g g' : Slots) (dir i n : ℕ) : Type 0 where
 -- a path is resolved, and this is the place at which it ends
 pub record IsSeen (t : Tree) (p : Key) (at : Place) : Type 0 where
   pub resolved : resolution t p ≡ None
+  pub shape : tree_shapes t p ≡ shape_of (Some at)
+
+-- the first error of a call on the node at a path
+abbrev pub node_error : Tree → NodeCall → Key → Option Errno
+node_error t c p = node_fault c (resolution t p) (tree_shapes t p)
+
+-- a call on the node at a path has no error, and this is the place at which the path ends
+pub record IsFound (t : Tree) (c : NodeCall) (p : Key) (at : Place) : Type 0 where
+  pub sound : node_error t c p ≡ None
   pub shape : tree_shapes t p ≡ shape_of (Some at)
 
 -- bytes that stay where there is an error

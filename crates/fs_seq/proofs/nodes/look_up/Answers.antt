@@ -25,7 +25,7 @@ returns-in-File c =
     let p = c.args.path.now in
     let named = c.requires.named in
     let len : (c.len-last.result - 1) + 1 ≡ length p = omega (arith, c.len-last.ensures.len) in
-    parents_found g p c.in-Ok.dir _ c.requires.forest (ap (walk g) (sym (take_parent p _ len)) ∙ c.in-Ok.ensures) (place_got c.args.nodes.now c.in-Ok.dir _ (c.index.ensures ∙ ap Some c.in-File.is))
+    parents_found g p c.in-Ok.dir _ c.requires.forest (ap (walk g) (sym (take_parent p _ len)) ∙ c.in-Ok.ensures) (place_got c.args.nodes.now c.in-Ok.dir _ (c.index.ensures ∙ ap Some c.in-File.is)) ∙ ap Some (sym c.step_error.ensures)
 
 pub returns-in-Ok-search : goal.returns-in-Ok-search
 returns-in-Ok-search c =

@@ -1,32 +1,32 @@
-use Rattle.std.proofs.Common.{ap, sym, subst, ◌∙◌}
+use Rattle.std.proofs.Common.{refl, ap, sym, subst, ◌∙◌}
 use Rattle.std.proofs.lemmas.List.{length-map}
 use Rattle.fs_names.specs.declared.kind.Kind.TheVariants as kind
-use Rattle.fs_seq.specs.code.Nodes.{graph, place, pairs}
-use Rattle.fs_calls.specs.Rows.{status}
-use Rattle.fs_seq.specs.code.Slots.{tree_of}
-use Rattle.fs_seq.specs.code.Effects.{IsSeen}
+use Rattle.fs_calls.specs.Forms as forms
 use Rattle.fs_calls.specs.declared.call.Call.TheVariants.{Stat}
 use Rattle.fs_calls.specs.declared.reply.Reply.TheVariants as replies
+use Rattle.fs_seq.specs.code.Nodes.{graph, place, pairs}
+use Rattle.fs_seq.specs.code.Slots.{tree_of}
+use Rattle.fs_seq.specs.code.Effects.{IsFound}
 use Rattle.fs_seq.proofs.NodeLemmas.{length-pairs}
-use Rattle.fs_seq.proofs.Looked.{stating, stat_looks, lost_reply, there_reply}
+use Rattle.fs_seq.proofs.Looked.{failed_reply, found_reply}
 use Rattle.fs_seq.proofs.queries.stat.Goals as goal
 
 pub returns-in-Err : goal.returns-in-Err
 returns-in-Err c =
     let p = c.args.path.now in
-    lost_reply (Stat p) p stating status (stat_looks p) (tree_of (graph c.args.nodes.now)) c.in-Err.errno c.in-Err.ensures
+    failed_reply (Stat p) forms.Stat p refl (tree_of (graph c.args.nodes.now)) c.in-Err.errno c.in-Err.ensures
 
 pub returns-in-Ok-Dir : goal.returns-in-Ok-Dir
 returns-in-Ok-Dir c =
     let p = c.args.path.now in
     let t = tree_of (graph c.args.nodes.now) in
-    let is = subst (λ z. IsSeen t p (place z)) c.in-Ok-Dir.field-0-is c.in-Ok-Dir.ensures in
+    let found = subst (λ z. IsFound t forms.Stat p (place z)) c.in-Ok-Dir.field-0-is c.in-Ok-Dir.ensures in
     ap (replies.Stat kind.Dir) (c.len.ensures ∙ c.in-Ok-Dir.links.ok.0 ∙ sym (length-pairs c.in-Ok-Dir.links.items) ∙ sym (length-map (pairs c.in-Ok-Dir.links.items) (λ l. l.0)))
-    ∙ there_reply (Stat p) p stating status (stat_looks p) t _ is
+    ∙ found_reply (Stat p) forms.Stat p refl t _ found
 
 pub returns-in-Ok-File : goal.returns-in-Ok-File
 returns-in-Ok-File c =
     let p = c.args.path.now in
     let t = tree_of (graph c.args.nodes.now) in
-    let is = subst (λ z. IsSeen t p (place z)) c.in-Ok-File.field-0-is c.in-Ok-File.ensures in
-    ap (replies.Stat kind.File) (c.len-in-Ok-File.ensures ∙ c.in-Ok-File.bytes.ok.0) ∙ there_reply (Stat p) p stating status (stat_looks p) t _ is
+    let found = subst (λ z. IsFound t forms.Stat p (place z)) c.in-Ok-File.field-0-is c.in-Ok-File.ensures in
+    ap (replies.Stat kind.File) (c.len-in-Ok-File.ensures ∙ c.in-Ok-File.bytes.ok.0) ∙ found_reply (Stat p) forms.Stat p refl t _ found
