@@ -1,103 +1,85 @@
 -- What the calls that change the bytes of a file answer and leave.
-use Rattle.std.proofs.Common.{◌≡◌, ℕ, ◌+◌, Bool, true, false, cond, ◌&&◌, List, length, Some, None, Option, IsTrue, refl, sym, ap, subst, ◌∙◌}
+use Rattle.std.proofs.Common.{◌≡◌, ℕ, ◌+◌, ◌&&◌, List, length, Some, None, Option, IsTrue, refl, sym, ap, subst, ◌∙◌}
 use Rattle.std.specs.Prelude.{nat_lt}
 use Rattle.slab.specs.Slab.{Slab, get, with_value}
 use Rattle.fs_names.specs.Keys.{Key}
-use Rattle.fs_names.specs.Failures.{check, or_else}
+use Rattle.fs_names.specs.Names.{Name}
+use Rattle.fs_calls.specs.declared.call.Call.{Call}
 use Rattle.fs_calls.specs.declared.call.Call.TheVariants.{Write, Truncate}
 use Rattle.fs_calls.specs.declared.errno.Errno.{Errno}
-use Rattle.fs_calls.specs.declared.errno.Errno.TheVariants.{Efbig}
 use Rattle.fs_calls.specs.declared.reply.Reply.{Reply}
-use Rattle.fs_calls.specs.declared.reply.Reply.TheVariants as replies
-use Rattle.fs_seq.specs.declared.nodes.Node.{Node}
-use Rattle.fs_calls.specs.Tree.{Tree, inserted}
-use Rattle.fs_calls.specs.Tree as tree
+use Rattle.fs_calls.specs.Forms as forms
+use Rattle.fs_calls.specs.Forms.{NodeCall, AtNode, form}
+use Rattle.fs_calls.specs.Tree.{Tree}
 use Rattle.fs_calls.specs.Sights.{tree_shapes, has_any, bytes_of}
-use Rattle.fs_calls.proofs.RowNames.{writing, truncating}
-use Rattle.fs_calls.specs.Outcomes.{fault, filled}
-use Rattle.fs_calls.specs.Rows.{written, resized}
+use Rattle.fs_calls.specs.Outcomes.{fault, reply, reply_of, after, change_of, replied, if_sound, filled}
+use Rattle.fs_calls.specs.Rows.{node_fault, node_reply, new_bytes, node_row, answered}
+use Rattle.fs_calls.proofs.RowNames.{on_dir}
 use Rattle.fs_seq.specs.Memory.{needs_memory}
-use Rattle.fs_seq.specs.code.Slots.{File, place_at, walk, tree_of, IsForest}
+use Rattle.fs_seq.specs.declared.nodes.Node.{Node}
+use Rattle.fs_seq.specs.code.Slots.{Place, Dir, File, shape_of, walk, tree_of, IsForest}
 use Rattle.fs_seq.specs.code.Nodes.{place, graph}
-use Rattle.fs_seq.specs.code.Effects.{Answers, Gives, Fills, overflow, too_long, written_if_any, IsSeen}
+use Rattle.fs_seq.specs.code.Effects.{Answers, Rewrites, refilled}
 use Rattle.fs_seq.proofs.NodeLemmas.{place_got}
 use Rattle.fs_seq.proofs.SlabLemmas.{sets_value, same_graph}
 use Rattle.fs_seq.proofs.GraphFilled.{forest_filled, tree_filled}
-use Rattle.fs_seq.proofs.Looked.{is_seen, there_fault, bytes_there, write_looks, truncate_looks}
-use Rattle.fs_seq.proofs.Replies.{answers, needs}
+use Rattle.fs_seq.proofs.Looked.{error_there, looking_fault}
+use Rattle.fs_seq.proofs.Replies.{needs}
+use Rattle.fs_seq.proofs.Resolving.{seen_at}
 
-module _ (s : Slab Node) (p : Key) (n : ℕ) (node node' : Node) (old new : List ℕ) (forest : IsForest (graph s)) (walked : walk (graph s) p ≡ Some n) (got : get s n ≡ Some node) (was : place node ≡ File old) (is : place node' ≡ File new) where
-  -- the place of the file
-  file : place_at (graph s) n ≡ Some (File old)
-  file = place_got s n node got ∙ ap (λ z. Some z) was
+-- what is replied by an error or by none is the row's reply
+row_reply : (found : Option Errno) (well : Reply) (bytes : Option (List ℕ)) → (answered found None well bytes).0 ≡ replied found well
+row_reply None well bytes = refl
+row_reply (Some e) well bytes = refl
 
+-- what is left by an error or by none is the row's change
+row_change : (t : Tree) (p : Key) (found : Option Errno) (well : Reply) (bytes : Option (List ℕ)) → filled t p (answered found None well bytes).1 ≡ if_sound found t (filled t p bytes)
+row_change t p None well bytes = refl
+row_change t p (Some e) well bytes = refl
+
+module _ (s : Slab Node) (call : Call) (c : NodeCall) (p : Key) (on_node : form call ≡ AtNode c p) (n : ℕ) (node : Node) (forest : IsForest (graph s)) (walked : walk (graph s) p ≡ Some n) (got : get s n ≡ Some node) where
   -- what is seen at the path
-  pub file_seen : IsSeen (tree_of (graph s)) p (File old)
-  file_seen = is_seen (graph s) p n (File old) forest walked file
+  pub seen : tree_shapes (tree_of (graph s)) p ≡ shape_of (Some (place node))
+  seen = seen_at (graph s) p n forest walked ∙ ap shape_of (place_got s n node got)
 
-  -- bytes that stay leave the graph as it was
-  pub stays : new ≡ old → graph (with_value s n node') ≡ graph s
-  stays e = same_graph s n node node' got (is ∙ ap File e ∙ sym was)
+  -- the call's first error
+  pub node_found : fault (tree_of (graph s)) call ≡ node_fault c None (shape_of (Some (place node)))
+  node_found = looking_fault call c p on_node (tree_of (graph s)) ∙ error_there (graph s) c p n (place node) forest walked (place_got s n node got)
 
-  -- a call that leaves the bytes
-  gives_same : (well : Reply) → new ≡ old → Gives (graph s) (graph (with_value s n node')) None well (tree_of (graph s)) well
-  gives_same well e = record { reply = refl; tree = ap tree_of (stays e); forest = subst IsForest (sym (stays e)) forest }
+  -- the tree with the new bytes of a file
+  refills : (node' : Node) (at : Place) (o : Option (List ℕ)) → place node ≡ at → place node' ≡ refilled o at → ((links : List (Name × ℕ)) → at ≡ Dir links → o ≡ None)
+      → (tree_of (graph (with_value s n node')) ≡ filled (tree_of (graph s)) p o) × IsForest (graph (with_value s n node'))
+  refills node' at None was is files =
+      let same = same_graph s n node node' got (is ∙ sym was) in (ap tree_of same, subst IsForest (sym same) forest)
+  refills node' (Dir links) (Some new) was is files = let none = files links refl in absurd (cc)
+  refills node' (File old) (Some new) was is files =
+      let file = place_got s n node got ∙ ap (λ z. Some z) was in
+      let sets = sets_value s n node node' (File new) got is in
+      (tree_filled (graph s) (graph (with_value s n node')) forest p n walked old new file sets, forest_filled (graph s) (graph (with_value s n node')) forest p n walked old new file sets)
 
-  -- a call on a file gives the tree with what it made of the bytes
-  pub gives_filled : (found : Option Errno) (well : Reply) (made : List ℕ) (r : Reply) → Fills old new found well made r → Gives (graph s) (graph (with_value s n node')) found well (inserted (tree_of (graph s)) p (tree.File made)) r
-  gives_filled None well made r fills = record {
-    reply = fills.reply;
-    tree = tree_filled (graph s) (graph (with_value s n node')) forest p n walked old new file (sets_value s n node node' (File new) got is) ∙ ap (λ b. inserted (tree_of (graph s)) p (tree.File b)) fills.bytes;
-    forest = forest_filled (graph s) (graph (with_value s n node')) forest p n walked old new file (sets_value s n node node' (File new) got is);
-  }
-  gives_filled (Some e) well made r fills = record {
-    reply = fills.reply;
-    tree = ap tree_of (stays fills.bytes);
-    forest = subst IsForest (sym (stays fills.bytes)) forest;
-  }
+  -- what a call on a node answers and leaves
+  pub is_rewritten : (node' : Node) (r : Reply) → Rewrites (place node) (place node') c r → Answers (graph s) (graph (with_value s n node')) call r
+  unfolding reply after
+  is_rewritten node' r rewrites =
+      let there = shape_of (Some (place node)) in
+      let t = tree_of (graph s) in
+      let made = refills node' (place node) (node_row c None there).1 refl rewrites.place (λ links is. ap (λ at. (node_row c None (shape_of (Some at))).1) is ∙ on_dir c _) in
+      record {
+        reply = rewrites.reply ∙ row_reply (node_fault c None there) (node_reply c there) (new_bytes c there) ∙ (λ i. replied (sym node_found i) ((ap (node_reply c) (sym seen) ∙ sym (ap (reply_of t) on_node)) i));
+        tree = made.0 ∙ row_change t p (node_fault c None there) (node_reply c there) (new_bytes c there) ∙ (λ i. if_sound (sym node_found i) t ((ap (λ z. filled t p (new_bytes c z)) (sym seen) ∙ sym (ap (change_of t) on_node)) i));
+        forest = made.1;
+      }
 
-  -- a check alone
-  alone : (z : Option Errno) → or_else z None ≡ z
-  alone None = refl
-  alone (Some e) = refl
+-- a write that needs memory
+pub write_needs : (s : Slab Node) (p : Key) (off : ℕ) (bytes : List ℕ) (n : ℕ) (node : Node) → IsForest (graph s) → walk (graph s) p ≡ Some n → get s n ≡ Some node → node_fault (forms.Write off bytes) None (shape_of (Some (place node))) ≡ None
+    → IsTrue (has_any bytes && nat_lt (length (bytes_of (shape_of (Some (place node))))) (off + length bytes)) → IsTrue (needs_memory (tree_of (graph s)) (Write p off bytes))
+write_needs s p off bytes n node forest walked got sound longer =
+    needs (tree_of (graph s)) (Write p off bytes) (node_found s (Write p off bytes) (forms.Write off bytes) p refl n node forest walked got ∙ sound)
+    (ap (λ z. has_any bytes && nat_lt (length (bytes_of z)) (off + length bytes)) (seen s (Write p off bytes) (forms.Write off bytes) p refl n node forest walked got) ∙ longer)
 
-  -- the errors of a truncate of a file
-  pub truncate_fault : (size : ℕ) → fault (tree_of (graph s)) (Truncate p size) ≡ too_long size
-  truncate_fault size = there_fault (Truncate p size) p (λ found there. truncating found there size) (λ there. replies.Done) (truncate_looks p size) (tree_of (graph s)) (File old) file_seen ∙ alone (too_long size)
-
-  -- what a truncate answers and leaves
-  pub is_truncated : (size : ℕ) (r : Reply) → Fills old new (too_long size) replies.Done (resized old size) r → Answers (graph s) (graph (with_value s n node')) (Truncate p size) r
-  is_truncated size r fills = answers (graph s) (graph (with_value s n node')) (Truncate p size) (too_long size) replies.Done (inserted (tree_of (graph s)) p (tree.File (resized old size))) r
-      (truncate_fault size) refl (ap (λ b. inserted (tree_of (graph s)) p (tree.File (resized b size))) (bytes_there (tree_of (graph s)) p (File old) file_seen))
-      (gives_filled (too_long size) replies.Done (resized old size) r fills)
-
-  -- a truncate that needs memory
-  pub truncate_needs : (size : ℕ) → (too_long size ≡ None) × IsTrue (nat_lt (length old) size) → IsTrue (needs_memory (tree_of (graph s)) (Truncate p size))
-  truncate_needs size h = needs (tree_of (graph s)) (Truncate p size) (truncate_fault size ∙ h.0) (ap (λ b. nat_lt (length b) size) (bytes_there (tree_of (graph s)) p (File old) file_seen) ∙ h.1)
-
-  -- the errors of a write to a file
-  pub write_fault : (off : ℕ) (bytes : List ℕ) → fault (tree_of (graph s)) (Write p off bytes) ≡ overflow off bytes
-  write_fault off bytes = there_fault (Write p off bytes) p (λ found there. writing found there off bytes) (λ there. replies.Wrote (length bytes)) (write_looks p off bytes) (tree_of (graph s)) (File old) file_seen ∙ alone (overflow off bytes)
-
-  -- a write of nothing leaves the tree
-  gives_written : (off : ℕ) (bytes : List ℕ) (well : Reply) (some : Bool) (r : Reply) (big : Bool) → Fills old new (check (some && big) Efbig) well (cond some (written old off bytes) old) r
-      → Gives (graph s) (graph (with_value s n node')) (check (some && big) Efbig) well (cond some (inserted (tree_of (graph s)) p (tree.File (written old off bytes))) (tree_of (graph s))) r
-  gives_written off bytes well true r big fills = gives_filled (check big Efbig) well (written old off bytes) r fills
-  gives_written off bytes well false r big fills = record { reply = fills.reply; tree = ap tree_of (stays fills.bytes); forest = subst IsForest (sym (stays fills.bytes)) forest }
-
-  -- a file is filled where there is something to write
-  filled_if : (some : Bool) (made : List ℕ) → filled (tree_of (graph s)) p (cond {A = Option (List ℕ)} some (Some made) None) ≡ cond some (inserted (tree_of (graph s)) p (tree.File made)) (tree_of (graph s))
-  filled_if true made = refl
-  filled_if false made = refl
-
-  -- what a write answers and leaves
-  pub is_written : (off : ℕ) (bytes : List ℕ) (r : Reply) → Fills old new (overflow off bytes) (replies.Wrote (length bytes)) (written_if_any old off bytes) r → Answers (graph s) (graph (with_value s n node')) (Write p off bytes) r
-  is_written off bytes r fills = answers (graph s) (graph (with_value s n node')) (Write p off bytes) (overflow off bytes) (replies.Wrote (length bytes))
-      (cond (has_any bytes) (inserted (tree_of (graph s)) p (tree.File (written old off bytes))) (tree_of (graph s))) r
-      (write_fault off bytes) refl
-      (filled_if (has_any bytes) (written (bytes_of (tree_shapes (tree_of (graph s)) p)) off bytes) ∙ ap (λ b. cond (has_any bytes) (inserted (tree_of (graph s)) p (tree.File (written b off bytes))) (tree_of (graph s))) (bytes_there (tree_of (graph s)) p (File old) file_seen))
-      (gives_written off bytes (replies.Wrote (length bytes)) (has_any bytes) r (nat_lt 65536 (off + length bytes)) fills)
-
-  -- a write that needs memory
-  pub write_needs : (off : ℕ) (bytes : List ℕ) → (overflow off bytes ≡ None) × IsTrue (has_any bytes && nat_lt (length old) (off + length bytes)) → IsTrue (needs_memory (tree_of (graph s)) (Write p off bytes))
-  write_needs off bytes h = needs (tree_of (graph s)) (Write p off bytes) (write_fault off bytes ∙ h.0) (ap (λ b. has_any bytes && nat_lt (length b) (off + length bytes)) (bytes_there (tree_of (graph s)) p (File old) file_seen) ∙ h.1)
+-- a truncate that needs memory
+pub truncate_needs : (s : Slab Node) (p : Key) (size : ℕ) (n : ℕ) (node : Node) → IsForest (graph s) → walk (graph s) p ≡ Some n → get s n ≡ Some node → node_fault (forms.Truncate size) None (shape_of (Some (place node))) ≡ None
+    → IsTrue (nat_lt (length (bytes_of (shape_of (Some (place node))))) size) → IsTrue (needs_memory (tree_of (graph s)) (Truncate p size))
+truncate_needs s p size n node forest walked got sound longer =
+    needs (tree_of (graph s)) (Truncate p size) (node_found s (Truncate p size) (forms.Truncate size) p refl n node forest walked got ∙ sound)
+    (ap (λ z. nat_lt (length (bytes_of z)) size) (seen s (Truncate p size) (forms.Truncate size) p refl n node forest walked got) ∙ longer)

@@ -8,7 +8,7 @@ ghost use Rattle.fs_seq.specs.Looks.{is_look};
 
 use crate::nodes::Node;
 use crate::{create, queries, remove, rename, write};
-use fs_calls::{Call, Reply};
+use fs_calls::{Bytes, Call, Reply};
 use fs_names::Path;
 use slab::Slab;
 use std::alloc::{AllocError, Global};
@@ -60,7 +60,7 @@ impl SeqTree {
             Call::Rmdir(path) => Ok(self.rmdir(path)),
             Call::Rename(from, to) => self.rename(from, to),
             Call::Stat(_) | Call::Readdir(_) | Call::Read(_, _, _) => self.look(alloc, call),
-            Call::Write(path, off, bytes) => self.write(path, *off, bytes.as_slice()),
+            Call::Write(path, off, bytes) => self.write(path, *off, bytes),
             Call::Truncate(path, size) => self.truncate(path, *size),
         }
     }
@@ -142,7 +142,7 @@ impl SeqTree {
         queries::read(alloc, &self.nodes, path, off, count)
     }
 
-    fn write(&mut self, path: &Path, off: u64, bytes: &[u8]) -> Result<Reply, AllocError>
+    fn write(&mut self, path: &Path, off: u64, bytes: &Bytes) -> Result<Reply, AllocError>
         ensures reply { IfOk result (λ r. r ≡ reply self.old (Call.Write path.now off bytes.now)) }
         ensures tree { OnOk result (self.new ≡ after self.old (Call.Write path.now off bytes.now)) }
         ensures err { OnErr result (self.new ≡ self.old) }

@@ -1,16 +1,17 @@
 //! The calls that change the bytes of a file.
 
-ghost use Rattle.std.specs.Prelude.{◌≡◌, ◌≤◌, ◌<◌, ◌+◌, ◌++◌, ◌-◌, take, drop, replicate, IfOk, OnOk, OnErr, IsTrue, length, nat_lt, nat_le, None, ◌&&◌};
-ghost use Rattle.fs_calls.specs.Rows.{written, resized};
-ghost use Rattle.fs_calls.specs.Sights.{has_any};
+ghost use Rattle.std.specs.Prelude.{◌≡◌, ◌≤◌, ◌<◌, ◌+◌, ◌++◌, ◌-◌, take, drop, replicate, IfOk, OnOk, OnErr, IsTrue, length, nat_lt, None, Some, ◌&&◌};
+ghost use Rattle.fs_calls.specs.Rows.{node_fault, written, resized};
+ghost use Rattle.fs_calls.specs.Sights.{has_any, bytes_of};
+ghost use Rattle.fs_calls.specs.Forms as calls;
 ghost use Rattle.fs_seq.specs.Memory.{needs_memory};
-ghost use Rattle.fs_seq.specs.code.Nodes.{graph};
-ghost use Rattle.fs_seq.specs.code.Slots.{IsForest, tree_of};
-ghost use Rattle.fs_seq.specs.code.Effects.{Answers, Fills, overflow, too_long, written_if_any};
+ghost use Rattle.fs_seq.specs.code.Nodes.{graph, place};
+ghost use Rattle.fs_seq.specs.code.Slots.{IsForest, shape_of, tree_of};
+ghost use Rattle.fs_seq.specs.code.Effects.{Answers, Rewrites, overflow, written_if_any};
 
 use crate::nodes::{Node, resolve};
-use fs_calls::ranges::{fits, fits_size, put};
-use fs_calls::{Call, Errno, Reply};
+use fs_calls::ranges::put;
+use fs_calls::{Bytes, Call, NodeCall, Reply};
 use fs_names::{FILE_LIMIT, Path};
 use slab::Slab;
 use std::alloc::AllocError;
@@ -39,31 +40,56 @@ fn overwrite(old: &mut Vec<u8>, off: usize, bytes: &[u8]) -> Result<(), AllocErr
     Ok(())
 }
 
-/// Writes bytes into a file's, unless there are none or it would become too long.
-fn fill(old: &mut Vec<u8>, off: u64, bytes: &[u8]) -> Result<Reply, AllocError>
-    ensures given { IfOk result (Fills old.old.items old.new.items (overflow off bytes.now) (Reply.Wrote (length bytes.now)) (written_if_any old.old.items off bytes.now)) }
+/// Writes bytes into a file's, where it may grow, if there are any.
+fn fill(old: &mut Vec<u8>, off: u64, bytes: &[u8]) -> Result<(), AllocError>
+    requires { overflow off bytes.now ≡ None }
+    ensures ok { OnOk result (old.new.items ≡ written_if_any old.old.items off bytes.now) }
     ensures err { OnErr result (old.new.items ≡ old.old.items) }
-    ensures memory { OnErr result ((overflow off bytes.now ≡ None) × IsTrue (has_any bytes.now && nat_lt (length old.old.items) (off + length bytes.now))) }
+    ensures memory { OnErr result (IsTrue (has_any bytes.now && nat_lt (length old.old.items) (off + length bytes.now))) }
 {
     if !bytes.is_empty() {
-        if !fits(off, bytes.len()) {
-            return Ok(Reply::Failed(Errno::Efbig));
-        }
         overwrite(old, off as usize, bytes)?;
     }
-    Ok(Reply::Wrote(bytes.len() as u64))
+    Ok(())
 }
 
-/// Cuts a file's bytes to a size, or adds zeros up to it, unless it is too large.
-fn resize(bytes: &mut Vec<u8>, size: u64) -> Result<Reply, AllocError>
-    ensures given { IfOk result (Fills bytes.old.items bytes.new.items (too_long size) Reply.Done (resized bytes.old.items size)) }
-    ensures err { OnErr result (bytes.new.items ≡ bytes.old.items) }
-    ensures memory { OnErr result ((too_long size ≡ None) × IsTrue (nat_lt (length bytes.old.items) size)) }
+/// Writes bytes into a node's, unless the row has an error.
+fn write_node(node: &mut Node, off: u64, bytes: &Bytes) -> Result<Reply, AllocError>
+    ensures given { IfOk result (Rewrites (place node.old) (place node.new) (calls.Write off bytes.now)) }
+    ensures err { OnErr result (place node.new ≡ place node.old) }
+    ensures memory { OnErr result ((node_fault (calls.Write off bytes.now) None (shape_of (Some (place node.old))) ≡ None) × IsTrue (has_any bytes.now && nat_lt (length (bytes_of (shape_of (Some (place node.old))))) (off + length bytes.now))) }
 {
-    if !fits_size(size) {
-        return Ok(Reply::Failed(Errno::Efbig));
+    if let Some(errno) = NodeCall::Write(off, bytes).error(node.sight()) {
+        return Ok(Reply::Failed(errno));
     }
+    if let Node::File(old) = node {
+        fill(old, off, bytes.as_slice())?;
+    }
+    Ok(Reply::Wrote(bytes.as_slice().len() as u64))
+}
+
+/// Cuts a file's bytes to a size, or adds zeros up to it.
+fn resize(bytes: &mut Vec<u8>, size: u64) -> Result<(), AllocError>
+    ensures ok { OnOk result (bytes.new.items ≡ resized bytes.old.items size) }
+    ensures err { OnErr result (bytes.new.items ≡ bytes.old.items) }
+    ensures memory { OnErr result (IsTrue (nat_lt (length bytes.old.items) size)) }
+{
     bytes.resize(size as usize, 0)?;
+    Ok(())
+}
+
+/// Cuts a node's bytes to a size, or adds zeros up to it, unless the row has an error.
+fn truncate_node(node: &mut Node, size: u64) -> Result<Reply, AllocError>
+    ensures given { IfOk result (Rewrites (place node.old) (place node.new) (calls.Truncate size)) }
+    ensures err { OnErr result (place node.new ≡ place node.old) }
+    ensures memory { OnErr result ((node_fault (calls.Truncate size) None (shape_of (Some (place node.old))) ≡ None) × IsTrue (nat_lt (length (bytes_of (shape_of (Some (place node.old))))) size)) }
+{
+    if let Some(errno) = NodeCall::Truncate(size).error(node.sight()) {
+        return Ok(Reply::Failed(errno));
+    }
+    if let Node::File(bytes) = node {
+        resize(bytes, size)?;
+    }
     Ok(Reply::Done)
 }
 
@@ -72,7 +98,7 @@ pub fn write(
     nodes: &mut Slab<Node>,
     path: &Path,
     off: u64,
-    bytes: &[u8],
+    bytes: &Bytes,
 ) -> Result<Reply, AllocError>
     requires { IsForest (graph nodes.old) }
     ensures given { IfOk result (Answers (graph nodes.old) (graph nodes.new) (Call.Write path.now off bytes.now)) }
@@ -81,10 +107,7 @@ pub fn write(
 {
     match resolve(nodes, path, path.len()) {
         Err(errno) => Ok(Reply::Failed(errno)),
-        Ok(at) => match &mut nodes[at] {
-            Node::Dir(_) => Ok(Reply::Failed(Errno::Eisdir)),
-            Node::File(old) => fill(old, off, bytes),
-        },
+        Ok(at) => write_node(&mut nodes[at], off, bytes),
     }
 }
 
@@ -97,9 +120,6 @@ pub fn truncate(nodes: &mut Slab<Node>, path: &Path, size: u64) -> Result<Reply,
 {
     match resolve(nodes, path, path.len()) {
         Err(errno) => Ok(Reply::Failed(errno)),
-        Ok(at) => match &mut nodes[at] {
-            Node::Dir(_) => Ok(Reply::Failed(Errno::Eisdir)),
-            Node::File(bytes) => resize(bytes, size),
-        },
+        Ok(at) => truncate_node(&mut nodes[at], size),
     }
 }

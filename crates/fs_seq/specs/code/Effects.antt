@@ -11,8 +11,8 @@ use Rattle.fs_calls.specs.Outcomes.{fault, resolution, parents_resolution, reply
 use Rattle.fs_calls.specs.Forms.{NodeCall}
 use Rattle.fs_calls.specs.declared.target.EntryCall.{EntryCall}
 use Rattle.fs_calls.specs.declared.target.EntryCall.TheVariants.{Mkdir, Mknod, Unlink, Rmdir}
-use Rattle.fs_calls.specs.Rows.{entry_fault, node_fault, written}
-use Rattle.fs_seq.specs.code.Slots.{Place, Dir, Slots, place_at, links_at, shape_of, walk, tree_of, IsForest, Sets}
+use Rattle.fs_calls.specs.Rows.{entry_fault, node_fault, node_row, written}
+use Rattle.fs_seq.specs.code.Slots.{Place, Dir, File, Slots, place_at, links_at, shape_of, walk, tree_of, IsForest, Sets}
 use Rattle.fs_seq.specs.code.Nodes.{BelongsAt, IsTaken}
 use Rattle.fs_seq.specs.declared.nodes.Node.{Node}
 use Rattle.fs_seq.specs.declared.nodes.Node.TheVariants as nodes
@@ -94,11 +94,6 @@ pub record Detaches (g g' : Slots) (dir i n : ℕ) : Type 0 where
   pub unlinking : Sets g between dir (Some (Dir (remove (links_at g dir) i)))
   pub removing : Sets between g' n None
 
--- a path is resolved, and this is the place at which it ends
-pub record IsSeen (t : Tree) (p : Key) (at : Place) : Type 0 where
-  pub resolved : resolution t p ≡ None
-  pub shape : tree_shapes t p ≡ shape_of (Some at)
-
 -- the first error of a call on the node at a path
 abbrev pub node_error : Tree → NodeCall → Key → Option Errno
 node_error t c p = node_fault c (resolution t p) (tree_shapes t p)
@@ -108,11 +103,6 @@ pub record IsFound (t : Tree) (c : NodeCall) (p : Key) (at : Place) : Type 0 whe
   pub sound : node_error t c p ≡ None
   pub shape : tree_shapes t p ≡ shape_of (Some at)
 
--- bytes that stay where there is an error
-abbrev pub bytes_unless : Option Errno → List ℕ → List ℕ → List ℕ
-bytes_unless None old new = new
-bytes_unless (Some e) old new = old
-
 -- a write makes the file too large
 abbrev pub overflow : ℕ → List ℕ → Option Errno
 overflow off bytes = check (has_any bytes && nat_lt FILE_LIMIT (off + length bytes)) Efbig
@@ -121,11 +111,13 @@ overflow off bytes = check (has_any bytes && nat_lt FILE_LIMIT (off + length byt
 abbrev pub written_if_any : List ℕ → ℕ → List ℕ → List ℕ
 written_if_any old off bytes = if has_any bytes then written old off bytes else old
 
--- a size is more than a file can have
-abbrev pub too_long : ℕ → Option Errno
-too_long size = check (nat_lt FILE_LIMIT size) Efbig
+-- the place of a file with these bytes from now on; None: it stays
+abbrev pub refilled : Option (List ℕ) → Place → Place
+refilled None at = at
+refilled (Some bytes) (Dir links) = Dir links
+refilled (Some bytes) (File old) = File bytes
 
--- the reply of a call on a file's bytes, and the bytes that it leaves, by its error, its reply without one and the bytes that it then makes
-pub record Fills (old new : List ℕ) (found : Option Errno) (well : Reply) (made : List ℕ) (r : Reply) : Type 0 where
-  pub reply : r ≡ replied found well
-  pub bytes : new ≡ bytes_unless found old made
+-- the reply of a call on a node, and the place that it leaves there
+pub record Rewrites (at at' : Place) (c : NodeCall) (r : Reply) : Type 0 where
+  pub reply : r ≡ (node_row c None (shape_of (Some at))).0
+  pub place : at' ≡ refilled (node_row c None (shape_of (Some at))).1 at
