@@ -1,5 +1,5 @@
 -- What the calls that remove a node answer and leave.
-use Rattle.std.proofs.Common.{◌≡◌, ℕ, ◌<◌, List, [], ◌∷◌, length, map, nat_eq, true, false, ◌≢◌, arith, Some, None, Option, refl, sym, ap, subst, ◌∙◌}
+use Rattle.std.proofs.Common.{◌≡◌, ℕ, Ok, ◌<◌, List, [], ◌∷◌, length, map, nat_eq, true, false, ◌≢◌, arith, Some, None, Option, refl, sym, ap, subst, ◌∙◌}
 use Rattle.std.specs.FinMap.{find}
 use Rattle.fs_names.specs.Names.{Name, name_cmp}
 use Rattle.fs_names.specs.Keys.{Key, is_root, parent_of, last_of}
@@ -11,51 +11,40 @@ use Rattle.fs_calls.specs.Forms.{new_shape, root_error}
 use Rattle.fs_calls.specs.Rows.{entry_errors, entry_fault}
 use Rattle.std.proofs.lemmas.Bool.Decides.{nat_tests}
 use Rattle.fs_seq.specs.declared.nodes.Link.{Link}
+use Rattle.fs_seq.specs.declared.nodes.Spot.{Spot}
 use Rattle.fs_calls.specs.declared.call.Call.{Call}
 use Rattle.fs_calls.specs.declared.call.Call.TheVariants.{Unlink, Rmdir}
 use Rattle.fs_calls.specs.declared.errno.Errno.{Errno}
-use Rattle.fs_calls.specs.declared.errno.Errno.TheVariants.{Eperm, Ebusy, Enoent}
+use Rattle.fs_calls.specs.declared.errno.Errno.TheVariants.{Eperm, Ebusy}
 use Rattle.fs_calls.specs.declared.reply.Reply.TheVariants.{Done, Failed}
 use Rattle.fs_calls.specs.Tree.{Tree, removed}
-use Rattle.fs_calls.specs.Sights.{Shape, tree_shapes, is_missing, has_any}
+use Rattle.fs_calls.specs.Sights.{Shape, tree_shapes, has_any}
 use Rattle.fs_calls.proofs.RowNames.{unlinking, removing}
 use Rattle.fs_calls.specs.Outcomes.{fault, success, change, parents_resolution}
-use Rattle.fs_seq.specs.code.Slots.{Place, Dir, File, Slots, place_at, links_at, links_of, shape_of, child, tree_of, IsForest, Sets}
-use Rattle.fs_seq.specs.code.Nodes.{pairs, IsTaken, IsFree, without}
+use Rattle.fs_seq.specs.code.Slots.{Place, Dir, File, Slots, links_at, links_of, shape_of, child, tree_of, IsForest, Sets}
+use Rattle.fs_seq.specs.code.Nodes.{pairs, LooksUp, shape_there, without}
 use Rattle.fs_seq.specs.code.Effects.{IsVictim, Detaches, Answers, call_on}
 use Rattle.fs_seq.proofs.NodeLemmas.{parent_and_last, child_got}
-use Rattle.fs_seq.proofs.Spots.{not_root, root, taken_parents, taken_seen, free_parents, free_seen}
+use Rattle.fs_seq.proofs.Spots.{not_root, root, spot_parents, spot_seen}
 use Rattle.fs_seq.proofs.GraphCut.{forest_cut, tree_cut}
 use Rattle.fs_seq.proofs.Replies.{works, fails, answers}
 
 -- a call on a path that is not the root, by its parent's error and what is there
 pub record GoesBy (call : Call) (p : Key) (at_root : Errno) (rest : Option Errno → Option Shape → Option Errno) : Type 0 where
   pub errors : (t : Tree) → fault t call ≡ or_else (check (is_root p) at_root) (rest (parents_resolution t p) (tree_shapes t p))
-  pub missing : (parent : Option Errno) (there : Option Shape) (e : Errno) → or_else parent (check (is_missing there) Enoent) ≡ Some e → rest parent there ≡ Some e
+  pub lost : (e : Errno) (there : Option Shape) → rest (Some e) there ≡ Some e
   pub well : (t : Tree) → success t call ≡ Done
   pub makes : (t : Tree) → change t call ≡ removed t p
-
--- unlink answers what is missing
-unlinking_missing : (parent : Option Errno) (there : Option Shape) (e : Errno) → or_else parent (check (is_missing there) Enoent) ≡ Some e → unlinking parent there ≡ Some e
-unlinking_missing None None e h = h
-unlinking_missing None (Some s) e h = absurd (cc)
-unlinking_missing (Some f) there e h = h
-
--- rmdir answers what is missing
-removing_missing : (parent : Option Errno) (there : Option Shape) (e : Errno) → or_else parent (check (is_missing there) Enoent) ≡ Some e → removing parent there ≡ Some e
-removing_missing None None e h = h
-removing_missing None (Some s) e h = absurd (cc)
-removing_missing (Some f) there e h = h
 
 -- unlink and rmdir are such calls
 pub unlink_goes : (p : Key) → GoesBy (Unlink p) p Eperm unlinking
 unfolding fault
-unlink_goes p = record { errors = λ t. refl; missing = unlinking_missing; well = λ t. refl; makes = λ t. refl }
+unlink_goes p = record { errors = λ t. refl; lost = λ e there. refl; well = λ t. refl; makes = λ t. refl }
 
 -- rmdir goes by its parent's error and what is there
 pub rmdir_goes : (p : Key) → GoesBy (Rmdir p) p Ebusy removing
 unfolding fault
-rmdir_goes p = record { errors = λ t. refl; missing = removing_missing; well = λ t. refl; makes = λ t. refl }
+rmdir_goes p = record { errors = λ t. refl; lost = λ e there. refl; well = λ t. refl; makes = λ t. refl }
 
 -- so is each call on an entry that makes no node
 pub entry_goes : (c : EntryCall) → new_shape c ≡ None → (p : Key) → GoesBy (call_on c p) p (root_error c) (λ parent there. entry_fault c parent false there)
@@ -84,30 +73,27 @@ pub some_links : (links : List Link) (n : ℕ) → n ≡ length links → nat_eq
 some_links [] n e h = absurd (let some : n ≢ 0 = grind (arith, nat_tests) in some e)
 some_links (l ∷ links) n e h = refl
 
--- a name that is missing, or whose parent is
-pub entry_lost : (t : Tree) (p : Key) (e : Errno) → parents_resolution t p ≡ Some e → or_else (parents_resolution t p) (check (is_missing (tree_shapes t p)) Enoent) ≡ Some e
-entry_lost t p e lost = ap (λ f. or_else f (check (is_missing (tree_shapes t p)) Enoent)) lost
-
--- a name that is missing
-pub entry_gone : (g : Slots) (p : Key) (dir i entries : ℕ) → IsForest g → 0 < length p → IsFree g p dir i entries → or_else (parents_resolution (tree_of g) p) (check (is_missing (tree_shapes (tree_of g) p)) Enoent) ≡ Some Enoent
-entry_gone g p dir i entries forest named spot =
-    (λ j. or_else (free_parents g forest p named dir i entries spot j) (check (is_missing (free_seen g forest p named dir i entries spot j)) Enoent))
+-- what such a call meets without an error is a node
+pub entry_met : (c : EntryCall) → new_shape c ≡ None → first_failure (entry_errors c false None) ≡ None → ⊥
+entry_met Mkdir h e = absurd (cc)
+entry_met Mknod h e = absurd (cc)
+entry_met entries.Unlink h e = absurd (cc)
+entry_met entries.Rmdir h e = absurd (cc)
 
 module _ (call : Call) (p : Key) (at_root : Errno) (rest : Option Errno → Option Shape → Option Errno) (by : GoesBy call p at_root rest) where
   -- the error at the root
   pub root_fault : (t : Tree) → length p ≡ 0 → fault t call ≡ Some at_root
   root_fault t e = by.errors t ∙ ap (λ b. or_else (check b at_root) (rest (parents_resolution t p) (tree_shapes t p))) (root p e)
 
-  -- the error where the name or its parent is missing
-  pub missing_fault : (t : Tree) (e : Errno) → 0 < length p → or_else (parents_resolution t p) (check (is_missing (tree_shapes t p)) Enoent) ≡ Some e → fault t call ≡ Some e
-  missing_fault t e named gone =
-      by.errors t ∙ ap (λ b. or_else (check b at_root) (rest (parents_resolution t p) (tree_shapes t p))) (not_root p named) ∙ by.missing (parents_resolution t p) (tree_shapes t p) e gone
+  -- the error of the parent
+  pub parent_fault : (t : Tree) (e : Errno) → 0 < length p → parents_resolution t p ≡ Some e → fault t call ≡ Some e
+  parent_fault t e named lost =
+      by.errors t ∙ (λ i. or_else (check (not_root p named i) at_root) (rest (lost i) (tree_shapes t p))) ∙ by.lost e (tree_shapes t p)
 
-  -- the error where something is there
-  pub taken_fault : (g : Slots) (dir i n : ℕ) (o : Option Place) → IsForest g → 0 < length p → IsTaken g p dir i n → place_at g n ≡ o → fault (tree_of g) call ≡ rest None (shape_of o)
-  taken_fault g dir i n o forest named spot at =
-      by.errors (tree_of g)
-      ∙ (λ j. or_else (check (not_root p named j) at_root) (rest (taken_parents g forest p named dir i n spot j) ((taken_seen g forest p named dir i n spot ∙ ap shape_of at) j)))
+  -- the error by what the name stands for
+  pub spot_fault : (g : Slots) (spot : Spot) → IsForest g → 0 < length p → LooksUp g p (Ok spot) → fault (tree_of g) call ≡ rest None (shape_there g spot)
+  spot_fault g spot forest named at =
+      by.errors (tree_of g) ∙ (λ j. or_else (check (not_root p named j) at_root) (rest (spot_parents g forest p named spot at j) (spot_seen g forest p named spot at j)))
 
   -- a call that fails changes nothing
   pub refused : (g : Slots) (e : Errno) → IsForest g → fault (tree_of g) call ≡ Some e → Answers g g call (Failed e)

@@ -1,6 +1,6 @@
 -- What a call sees of a path whose last name was looked up, and the errors that follow.
-use Rattle.std.proofs.Common.{◌≡◌, ℕ, ◌<◌, Bool, true, false, [], ◌∷◌, length, map, Some, None, Option, is_some, refl, sym, ap, ◌∙◌, arith}
-use Rattle.std.specs.Prelude.{nat_le}
+use Rattle.std.proofs.Common.{◌≡◌, ℕ, Ok, ◌<◌, Bool, true, false, [], ◌∷◌, length, map, Some, None, Option, is_some, refl, sym, ap, ◌∙◌, arith}
+use Rattle.std.specs.Prelude.{nat_le, IfSome}
 use Rattle.std.proofs.lemmas.List.{length-map}
 use Rattle.fs_names.specs.Names.{Name}
 use Rattle.fs_names.specs.Keys.{Key, is_root, parent_of, last_of}
@@ -13,11 +13,15 @@ use Rattle.fs_calls.specs.Tree.{Tree}
 use Rattle.fs_calls.specs.Sights.{Shape, tree_shapes, is_there, is_full}
 use Rattle.fs_calls.specs.Sights as shapes
 use Rattle.fs_calls.specs.Outcomes.{parents_resolution}
+use Rattle.slab.specs.Slab.{Slab, ContainsKey}
+use Rattle.fs_seq.specs.declared.nodes.Node.{Node}
+use Rattle.fs_seq.specs.declared.nodes.Spot.{Spot}
+use Rattle.fs_seq.specs.declared.nodes.Spot.TheVariants.{Taken, Free}
 use Rattle.fs_seq.specs.code.Slots.{Place, Dir, File, Slots, links_at, walk, tree_of, shape_of, shape_at, IsForest}
-use Rattle.fs_seq.specs.code.Nodes.{IsTaken, IsFree}
+use Rattle.fs_seq.specs.code.Nodes.{graph, IsTaken, IsFree, LooksUp, number_there, shape_there, place_there, full_there}
 use Rattle.fs_seq.specs.code.Effects.{making_fault, IsGap}
 use Rattle.fs_seq.proofs.Resolving.{walk_on, walk_off, seen_at, seen_none}
-use Rattle.fs_seq.proofs.NodeLemmas.{parent_and_last, child_got}
+use Rattle.fs_seq.proofs.NodeLemmas.{parent_and_last, child_got, has_key}
 use Rattle.fs_seq.proofs.Parents.{parents_found}
 
 -- a path with a name is not the root
@@ -59,6 +63,21 @@ module _ (g : Slots) (forest : IsForest g) (p : Key) (named : 0 < length p) (dir
   -- whether the parent is full
   pub free_full : (entries : ℕ) → IsFree g p dir i entries → is_full (tree_shapes (tree_of g) (parent_of p)) ≡ nat_le 256 entries
   free_full entries spot = ap is_full (free_dir entries spot) ∙ ap (nat_le 256) (length-map (links_at g dir) (λ (l : Name × ℕ). l.0) ∙ sym spot.count)
+
+-- a name that was looked up has a directory as its parent
+pub spot_parents : (g : Slots) → IsForest g → (p : Key) → 0 < length p → (spot : Spot) → LooksUp g p (Ok spot) → parents_resolution (tree_of g) p ≡ None
+spot_parents g forest p named (Taken dir i n) at = taken_parents g forest p named dir i n at
+spot_parents g forest p named (Free dir i entries) at = free_parents g forest p named dir i entries at
+
+-- what is seen at its path is what is seen where it was looked up
+pub spot_seen : (g : Slots) → IsForest g → (p : Key) → 0 < length p → (spot : Spot) → LooksUp g p (Ok spot) → tree_shapes (tree_of g) p ≡ shape_there g spot
+spot_seen g forest p named (Taken dir i n) at = taken_seen g forest p named dir i n at
+spot_seen g forest p named (Free dir i entries) at = free_seen g forest p named dir i entries at
+
+-- a number that stands there has a node
+pub spot_kept : (s : Slab Node) → IsForest (graph s) → (p : Key) → 0 < length p → (spot : Spot) → LooksUp (graph s) p (Ok spot) → IfSome (number_there spot) (ContainsKey s)
+spot_kept s forest p named (Taken dir i n) at = has_key s n (forest.inside p n (taken_walk (graph s) forest p named dir i n at))
+spot_kept s forest p named (Free dir i entries) at = tt
 
 -- ---- the errors of the calls that make a node
 
@@ -111,3 +130,15 @@ is_gap g p dir i entries named spot sound = record {
   directory = spot.directory;
   belongs = spot.belongs;
 }
+
+-- the errors of making a node, by what was looked up
+pub making_spot : (g : Slots) (p : Key) (spot : Spot) → IsForest g → 0 < length p → LooksUp g p (Ok spot) → making_fault (tree_of g) p ≡ first_failure (entry_errors Mkdir (full_there spot) (shape_there g spot))
+making_spot g p (Taken dir i n) forest named at =
+    let there : is_there (shape_at g n) ≡ true = there_is _ (some_shape _ (forest.inside p n (taken_walk g forest p named dir i n at))) in
+    making_taken g p dir i n forest named at ∙ sym (ap (λ b. or_else (check b Eexist) (or_else (check false Enospc) None)) there)
+making_spot g p (Free dir i entries) forest named at = making_free g p dir i entries forest named at
+
+-- the place of a name that can be made
+pub gap_there : (g : Slots) (p : Key) (spot : Spot) → IsForest g → 0 < length p → LooksUp g p (Ok spot) → making_fault (tree_of g) p ≡ None → IsGap g p (place_there spot).0 (place_there spot).1
+gap_there g p (Taken dir i n) forest named at sound = let both : None ≡ Some Eexist = sym sound ∙ making_taken g p dir i n forest named at in absurd (cc)
+gap_there g p (Free dir i entries) forest named at sound = is_gap g p dir i entries named at sound

@@ -7,10 +7,9 @@ ghost use Rattle.fs_seq.specs.code.Nodes.{graph, place};
 ghost use Rattle.fs_seq.specs.code.Slots.{IsForest, place_at, links_at, links_of, tree_of, Dir as IsDir};
 ghost use Rattle.fs_seq.specs.code.Effects.{Answers, Attaches, FindsGap, Gives, making_fault, tree_node};
 
-use crate::nodes::{Link, Node, Spot, add_link, look_up};
+use crate::nodes::{Link, Node, add_link, look_up};
 use fs_calls::path_errors::root_error;
-use fs_calls::ranges::is_full;
-use fs_calls::{Call, EntryCall, Errno, Reply, Sight};
+use fs_calls::{Call, EntryCall, Errno, Reply};
 use fs_names::{Name, Path};
 use slab::Slab;
 use std::alloc::{AllocError, Global};
@@ -49,13 +48,10 @@ fn gap(nodes: &Slab<Node>, path: &Path) -> Result<(usize, usize), Errno>
     }
     match look_up(nodes, path) {
         Err(errno) => Err(errno),
-        Ok(Spot::Taken(..)) => Err(Errno::Eexist),
-        Ok(Spot::Free(dir, i, entries)) => {
-            match EntryCall::Mkdir.error(Sight::Nothing, is_full(entries)) {
-                Some(errno) => Err(errno),
-                None => Ok((dir, i)),
-            }
-        }
+        Ok(spot) => match EntryCall::Mkdir.error(spot.sight(nodes), spot.is_full()) {
+            Some(errno) => Err(errno),
+            None => Ok(spot.place()),
+        },
     }
 }
 

@@ -1,14 +1,15 @@
 //! Nodes in a slab, walks along names, and the entries of directories.
 
-ghost use Rattle.std.specs.Prelude.{◌≡◌, ◌<◌, ◌≤◌, Some, IsTrue, OnOk, OnErr, length, take, insert, remove, vec_len};
+ghost use Rattle.std.specs.Prelude.{◌≡◌, ◌<◌, ◌≤◌, Some, IfSome, IsTrue, OnOk, OnErr, length, take, insert, remove, vec_len};
 ghost use Rattle.std.specs.FinMap.{is_sorted};
 ghost use Rattle.slab.specs.Slab.{ContainsKey, HasRoomFor};
 ghost use Rattle.fs_names.specs.Names.{name_cmp};
 ghost use Rattle.fs_calls.specs.Sights.{bytes_of};
 ghost use Rattle.fs_calls.specs.code.Seen.{sight};
-ghost use Rattle.fs_seq.specs.code.Nodes.{pair, pairs, place, graph, Searches, Steps, Resolves, LooksUp};
+ghost use Rattle.fs_seq.specs.code.Nodes.{pair, pairs, place, graph, Searches, Steps, Resolves, LooksUp, number_there, shape_there, place_there, full_there};
 ghost use Rattle.fs_seq.specs.code.Slots.{IsForest, Sets, place_at, links_at, links_of, shape_at, shape_of, Dir as IsDir};
 
+use fs_calls::ranges::is_full;
 use fs_calls::rows::step_error;
 use fs_calls::{Errno, Sight};
 use fs_names::{Name, Path};
@@ -81,6 +82,38 @@ pub fn sight_of(nodes: &Slab<Node>, node: usize) -> Sight
     ensures { result ≡ sight (shape_at (graph nodes.now) node) }
 {
     nodes[node].sight()
+}
+
+impl Spot {
+    /// What the rows of errors see where the name was looked up.
+    pub fn sight(&self, nodes: &Slab<Node>) -> Sight
+        requires there { IfSome (number_there self.now) (ContainsKey nodes.now) }
+        ensures { result ≡ sight (shape_there (graph nodes.now) self.now) }
+    {
+        match self {
+            Spot::Taken(_, _, node) => sight_of(nodes, *node),
+            Spot::Free(_, _, _) => Sight::Nothing,
+        }
+    }
+
+    /// Whether the directory has no place for the name; one that stands there has its own.
+    pub fn is_full(&self) -> bool
+        ensures { result ≡ full_there self.now }
+    {
+        match self {
+            Spot::Taken(_, _, _) => false,
+            Spot::Free(_, _, entries) => is_full(*entries),
+        }
+    }
+
+    /// The number of the directory, and the place among its entries.
+    pub fn place(&self) -> (usize, usize)
+        ensures { result ≡ place_there self.now }
+    {
+        match self {
+            Spot::Taken(dir, i, _) | Spot::Free(dir, i, _) => (*dir, *i),
+        }
+    }
 }
 
 /// Where a name stands among the links, or where it belongs.

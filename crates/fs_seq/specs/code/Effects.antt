@@ -6,7 +6,7 @@ use Rattle.fs_names.specs.Failures.{check, or_else}
 use Rattle.fs_names.specs.declared.limits.TheConstants.{FILE_LIMIT}
 use Rattle.fs_calls.specs.Tree as tree
 use Rattle.fs_calls.specs.Tree.{Tree}
-use Rattle.fs_calls.specs.Sights.{tree_shapes, is_missing, has_any, is_full}
+use Rattle.fs_calls.specs.Sights.{tree_shapes, has_any, is_full}
 use Rattle.fs_calls.specs.Outcomes.{fault, resolution, parents_resolution, reply, after, replied, if_sound}
 use Rattle.fs_calls.specs.Forms.{NodeCall}
 use Rattle.fs_calls.specs.declared.target.EntryCall.{EntryCall}
@@ -20,7 +20,7 @@ use Rattle.fs_calls.specs.declared.call.Call.{Call}
 use Rattle.fs_calls.specs.declared.call.Call.TheVariants as calls
 use Rattle.fs_calls.specs.declared.reply.Reply.{Reply}
 use Rattle.fs_calls.specs.declared.errno.Errno.{Errno}
-use Rattle.fs_calls.specs.declared.errno.Errno.TheVariants.{Eexist, Enoent, Efbig}
+use Rattle.fs_calls.specs.declared.errno.Errno.TheVariants.{Eexist, Efbig}
 
 -- a call's reply, and the graph that it leaves, by its errors, its reply without one and the tree that it then makes
 pub record Gives (g g' : Slots) (found : Option Errno) (well : Reply) (new : Tree) (r : Reply) : Type 0 where
@@ -71,22 +71,12 @@ pub record Attaches (g g' : Slots) (dir i : ℕ) (x : Name) (new : Place) : Type
   pub linking : Sets g between dir (Some (Dir (insert (links_at g dir) i (x, number))))
   pub adding : Sets between g' number (Some new)
 
--- an entry that was found, or why there is none
-abbrev pub FindsEntry : Slots → Key → Result (ℕ × ℕ × ℕ) Errno → Type 0
-FindsEntry g p (Ok at) = IsTaken g p at.0 at.1 at.2
-FindsEntry g p (Err e) = or_else (parents_resolution (tree_of g) p) (check (is_missing (tree_shapes (tree_of g) p)) Enoent) ≡ Some e
-
 -- an entry without entries of its own, which a call removes
 pub record IsVictim (g : Slots) (call : Call) (p : Key) (dir i n : ℕ) : Type 0 where
   pub sound : fault (tree_of g) call ≡ None
   pub named : 0 < length p
   pub spot : IsTaken g p dir i n
   pub leaf : links_at g n ≡ []
-
--- a victim that was found, or why there is none
-abbrev pub FindsVictim : Slots → Call → Key → Result (ℕ × ℕ × ℕ) Errno → Type 0
-FindsVictim g call p (Ok at) = IsVictim g call p at.0 at.1 at.2
-FindsVictim g call p (Err e) = fault (tree_of g) call ≡ Some e
 
 -- an entry and its place, both gone
 pub record Detaches (g g' : Slots) (dir i n : ℕ) : Type 0 where

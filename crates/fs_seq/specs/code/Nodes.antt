@@ -1,9 +1,11 @@
 -- What the nodes of a slab are as a graph.
-use Rattle.std.specs.Prelude.{◌≡◌, ℕ, ◌<◌, ◌≤◌, List, map, length, slice_get, insert, remove, not, Option, Some, None, Result, Ok, Err, MatchResult}
+use Rattle.std.specs.Prelude.{◌≡◌, ℕ, Bool, false, nat_le, ◌<◌, ◌≤◌, List, map, length, slice_get, insert, remove, not, Option, Some, None, Result, Ok, Err, MatchResult}
 use Rattle.std.specs.FinMap.{find, put}
 use Rattle.std.specs.FinMap.Entries.{where_key}
 use Rattle.fs_names.specs.Names.{Name, name_cmp, same_name}
 use Rattle.fs_names.specs.Keys.{Key, parent_of, last_of}
+use Rattle.fs_names.specs.Shapes.{Shape}
+use Rattle.fs_names.specs.declared.limits.TheConstants.{ENTRY_LIMIT}
 use Rattle.slab.specs.Slab.{Slab}
 use Rattle.fs_calls.specs.declared.errno.Errno.{Errno}
 use Rattle.fs_calls.specs.declared.errno.Errno.TheVariants.{Enoent, Enotdir}
@@ -14,7 +16,7 @@ use Rattle.fs_seq.specs.declared.nodes.Spot.{Spot}
 use Rattle.fs_seq.specs.declared.nodes.Spot.TheVariants.{Taken, Free}
 use Rattle.fs_calls.specs.Tree as trees
 use Rattle.fs_calls.specs.Outcomes.{resolution, parents_resolution}
-use Rattle.fs_seq.specs.code.Slots.{Place, Slots, place_at, links_at, node_at, child, walk, tree_of}
+use Rattle.fs_seq.specs.code.Slots.{Place, Slots, place_at, links_at, node_at, shape_at, child, walk, tree_of}
 use Rattle.fs_seq.specs.code.Slots as places
 
 -- the name of a link, with its number
@@ -105,3 +107,23 @@ abbrev pub LooksUp : Slots → Key → Result Spot Errno → Type 0
 LooksUp g p (Ok (Taken dir i n)) = IsTaken g p dir i n
 LooksUp g p (Ok (Free dir i entries)) = IsFree g p dir i entries
 LooksUp g p (Err e) = parents_resolution (tree_of g) p ≡ Some e
+
+-- the number that stands where a name was looked up
+abbrev pub number_there : Spot → Option ℕ
+number_there (Taken dir i n) = Some n
+number_there (Free dir i entries) = None
+
+-- what a call sees there
+abbrev pub shape_there : Slots → Spot → Option Shape
+shape_there g (Taken dir i n) = shape_at g n
+shape_there g (Free dir i entries) = None
+
+-- the number of the directory, and the place among its entries
+abbrev pub place_there : Spot → ℕ × ℕ
+place_there (Taken dir i n) = (dir, i)
+place_there (Free dir i entries) = (dir, i)
+
+-- whether the directory has no place for the name; a name that stands there has its own
+abbrev pub full_there : Spot → Bool
+full_there (Taken dir i n) = false
+full_there (Free dir i entries) = nat_le ENTRY_LIMIT entries
