@@ -1,5 +1,5 @@
 -- What a call without an error finds in a tree.
-use Rattle.std.proofs.Common.{◌≡◌, ◌≢◌, ℕ, ◌+◌, length, Bool, true, false, cond, ◌&&◌, ◌||◌, List, [], ◌∷◌, ◌++◌, Some, None, Option, is_some, refl, subst}
+use Rattle.std.proofs.Common.{◌≡◌, ◌≢◌, ℕ, ◌+◌, length, Bool, true, false, cond, ◌&&◌, ◌||◌, List, [], ◌∷◌, ◌++◌, Some, None, Option, is_some, refl, sym, subst}
 use Rattle.std.specs.Prelude.{nat_lt}
 use Rattle.fs_names.specs.Failures.{check, first_failure}
 use Rattle.fs_names.specs.Names.{Name}
@@ -14,11 +14,12 @@ use Rattle.fs_calls.specs.Forms.{form, by_text}
 use Rattle.fs_calls.specs.Rows.{place_errors, has_room}
 use Rattle.fs_calls.specs.Outcomes.{resolution, parents_resolution, row, fault}
 use Rattle.fs_calls.specs.declared.call.Call.{Call}
-use Rattle.fs_calls.specs.declared.call.Call.TheVariants.{Mkdir, Mknod, Unlink, Rmdir, Rename, Write, Truncate}
+use Rattle.fs_calls.specs.declared.call.Call.TheVariants.{Mkdir, Mknod, Unlink, Rmdir, Rename, Exchange, Write, Truncate}
 use Rattle.fs_calls.specs.declared.errno.Errno.{Errno}
 use Rattle.fs_calls.specs.declared.errno.Errno.TheVariants.{Enoent, Enotdir, Eexist, Enotempty, Eisdir, Einval, Ebusy, Eperm, Enospc, Efbig}
 use Rattle.fs_calls.specs.Sights.{is_same}
 use Rattle.fs_calls.proofs.KeyLemmas.{never_same, no_prefix}
+use Rattle.fs_calls.proofs.ExchangedTrees.{Beside}
 use Rattle.fs_calls.proofs.ResolutionLemmas.{nothing_below, empty_below, no_names, parents_resolution-none}
 
 -- ---- checks in order
@@ -180,4 +181,30 @@ rename_renames t p q is h other =
       new_parent = parents_resolution-none t q is none.1.0;
       there = some_there t p (look t p) (check-none (is_missing (tree_shapes t p)) Enoent none.1.1.0);
       bare = bare_below t q (look t q) is refl (check-none (has_entries (tree_shapes t q)) Enotempty replaced.1.1.0);
+    }
+
+-- an exchange that moves finds both nodes in directories, neither of them the root and neither above the other
+pub record Exchanges (t : Tree) (p q : Key) : Type 0 where
+  pub named : is_root p ≡ false
+  pub other_named : is_root q ≡ false
+  pub beside : Beside p q
+  pub parent : look t (parent_of p) ≡ Some tree.Dir
+  pub other_parent : look t (parent_of q) ≡ Some tree.Dir
+
+-- what an exchange finds
+pub exchange_exchanges : (t : Tree) (p q : Key) → IsTree t → fault t (Exchange p q) ≡ None → p ≢ q → Exchanges t p q
+exchange_exchanges t p q is h other =
+    let text = all_none (check (is_root p || is_root q) Ebusy ∷ check (is_proper_prefix p q || is_proper_prefix q p) Einval ∷ []) (by_text_none t (Exchange p q) h) in
+    let roots = check-none (is_root p || is_root q) Ebusy text.0 in
+    let above = check-none (is_proper_prefix p q || is_proper_prefix q p) Einval text.1.0 in
+    let none = all_none (parents_resolution t p ∷ parents_resolution t q ∷ check (is_missing (tree_shapes t p)) Enoent ∷ check (is_missing (tree_shapes t q)) Enoent ∷ []) (row_none t (Exchange p q) h) in
+    record {
+      named = or_first (is_root p) (is_root q) roots;
+      other_named = or_second (is_root p) (is_root q) roots;
+      beside = record {
+        there = no_prefix p q (or_first (is_proper_prefix p q) (is_proper_prefix q p) above) other;
+        back = no_prefix q p (or_second (is_proper_prefix p q) (is_proper_prefix q p) above) (λ e. other (sym e));
+      };
+      parent = parents_resolution-none t p is none.0;
+      other_parent = parents_resolution-none t q is none.1.0;
     }

@@ -3,7 +3,7 @@ use Rattle.std.proofs.Common.{◌≡◌, refl, sym, ap, ◌∙◌}
 use Rattle.fs_calls.specs.Forms.{form, Form, AtNode, AtEntry, AtPair}
 use Rattle.fs_calls.specs.Forms as forms
 use Rattle.fs_calls.specs.declared.call.Call.{Call}
-use Rattle.fs_calls.specs.declared.call.Call.TheVariants.{Mkdir, Mknod, Unlink, Rmdir, Rename, Stat, Readdir, Read, Write, Truncate}
+use Rattle.fs_calls.specs.declared.call.Call.TheVariants.{Mkdir, Mknod, Unlink, Rmdir, Rename, Exchange, Stat, Readdir, Read, Write, Truncate}
 
 -- the call of a form
 abbrev of_form : Form → Call
@@ -12,6 +12,7 @@ of_form (AtEntry forms.Mknod p) = Mknod p
 of_form (AtEntry forms.Unlink p) = Unlink p
 of_form (AtEntry forms.Rmdir p) = Rmdir p
 of_form (AtPair forms.Rename p q) = Rename p q
+of_form (AtPair forms.Exchange p q) = Exchange p q
 of_form (AtNode forms.Stat p) = Stat p
 of_form (AtNode forms.Readdir p) = Readdir p
 of_form (AtNode (forms.Read off count) p) = Read p off count
@@ -24,6 +25,7 @@ back (Mknod p) = refl
 back (Unlink p) = refl
 back (Rmdir p) = refl
 back (Rename p q) = refl
+back (Exchange p q) = refl
 back (Stat p) = refl
 back (Readdir p) = refl
 back (Read p off count) = refl

@@ -4,8 +4,8 @@ pub mod KeyLemmas
 pub mod Children
 pub mod FormLemmas
 pub mod RowNames
-pub mod PathErrors
 pub mod ResolutionLemmas
+pub mod ExchangedTrees
 pub mod FaultLemmas
 pub mod OutcomeLemmas
 pub mod RenamedTrees

@@ -4,7 +4,7 @@ use Rattle.fs_calls.specs.Tree.{Tree}
 use Rattle.fs_calls.specs.Laws.{ErrorsChangeNothing}
 use Rattle.fs_calls.specs.Outcomes.{fault, reply, after, success, change, replied, if_sound}
 use Rattle.fs_calls.specs.declared.call.Call.{Call}
-use Rattle.fs_calls.specs.declared.call.Call.TheVariants.{Mkdir, Mknod, Unlink, Rmdir, Rename, Stat, Readdir, Read, Write, Truncate}
+use Rattle.fs_calls.specs.declared.call.Call.TheVariants.{Mkdir, Mknod, Unlink, Rmdir, Rename, Exchange, Stat, Readdir, Read, Write, Truncate}
 use Rattle.fs_calls.specs.declared.reply.Reply.TheVariants.{Failed}
 use Rattle.fs_calls.specs.declared.errno.Errno.{Errno}
 
@@ -15,6 +15,7 @@ success_changes_nothing t (Mknod p) e h = absurd (cc)
 success_changes_nothing t (Unlink p) e h = absurd (cc)
 success_changes_nothing t (Rmdir p) e h = absurd (cc)
 success_changes_nothing t (Rename p q) e h = absurd (cc)
+success_changes_nothing t (Exchange p q) e h = absurd (cc)
 success_changes_nothing t (Stat p) e h = refl
 success_changes_nothing t (Readdir p) e h = refl
 success_changes_nothing t (Read p off count) e h = refl

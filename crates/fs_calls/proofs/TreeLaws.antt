@@ -4,21 +4,22 @@ use Rattle.std.proofs.lemmas.Float.{T_from_true}
 use Rattle.fs_names.specs.Names.{Name}
 use Rattle.fs_names.specs.Keys.{Key, same_key, is_root, after_prefix}
 use Rattle.fs_names.proofs.Lemmas.{after_prefix-exact, after_prefix-append}
-use Rattle.fs_calls.specs.Tree.{Tree, Node, Dir, File, look, root_tree, inserted, removed, renamed, IsTree}
+use Rattle.fs_calls.specs.Tree.{Tree, Node, Dir, File, look, root_tree, inserted, removed, renamed, exchanged, exchanged_key, IsTree}
 use Rattle.fs_calls.specs.Sights.{tree_shapes, has_any, bytes_of}
 use Rattle.fs_calls.specs.Outcomes.{fault, after, change, if_sound, filled, play}
 use Rattle.fs_calls.specs.Rows.{written, resized}
-use Rattle.fs_calls.specs.Laws.{StaysATree, PlayedTreesAreTrees, SameTrees, IsMoved, RenamesMove}
+use Rattle.fs_calls.specs.Laws.{StaysATree, PlayedTreesAreTrees, SameTrees, IsMoved, RenamesMove, IsExchanged, ExchangesSwap}
 use Rattle.fs_calls.specs.declared.call.Call.{Call}
-use Rattle.fs_calls.specs.declared.call.Call.TheVariants.{Mkdir, Mknod, Unlink, Rmdir, Rename, Stat, Readdir, Read, Write, Truncate}
+use Rattle.fs_calls.specs.declared.call.Call.TheVariants.{Mkdir, Mknod, Unlink, Rmdir, Rename, Exchange, Stat, Readdir, Read, Write, Truncate}
 use Rattle.fs_calls.specs.declared.errno.Errno.{Errno}
 use Rattle.fs_calls.proofs.LookLemmas.{same_key_exact, look-inserted, look-removed, sorted-inserted, sorted-removed, same_tree}
 use Rattle.fs_calls.specs.Sights.{is_same}
 use Rattle.fs_calls.proofs.KeyLemmas.{never_same, only_same, is_same_refl, differ, differ_not, parent_of_child, not_root, after_prefix-front, after_prefix-child, longer_front}
 use Rattle.fs_calls.proofs.ListLemmas.{no_snoc}
 use Rattle.fs_calls.proofs.RenamedTrees.{after_move, look-renamed, sorted-renamed}
+use Rattle.fs_calls.proofs.ExchangedTrees.{exchanged-first, exchanged-second, exchanged-other, look-exchanged, sorted-exchanged}
 use Rattle.fs_calls.proofs.ResolutionLemmas.{directories_above}
-use Rattle.fs_calls.proofs.FaultLemmas.{Makes, Removes, Writes, Renames, mkdir_makes, mknod_makes, unlink_removes, rmdir_removes, write_writes, truncate_writes, rename_renames}
+use Rattle.fs_calls.proofs.FaultLemmas.{Makes, Removes, Writes, Renames, Exchanges, mkdir_makes, mknod_makes, unlink_removes, rmdir_removes, write_writes, truncate_writes, rename_renames, exchange_exchanges}
 
 -- what holds is true
 true_from_T : (b : Bool) → T b → b ≡ true
@@ -157,6 +158,41 @@ tree-renamed t p q is may = record {
         let old : look t ((p ++ r) ++ x ∷ []) ≡ Some n = ap (look t) (append_assoc p r (x ∷ [])) ∙ sym (moves.arrived (r ++ x ∷ [])) ∙ ap (look (renamed t p q)) (sym below) ∙ h in
         ap (look (renamed t p q)) at ∙ moves.arrived r ∙ is.inside (p ++ r) x n old
 
+-- ---- an exchange
+
+-- an exchange keeps the tree a tree
+tree-exchanged : (t : Tree) (p q : Key) → IsTree t → Exchanges t p q → IsTree (exchanged t p q)
+tree-exchanged t p q is may = record {
+  sorted = true_from_T _ (sorted-exchanged t p q);
+  root = at [] [] (exchanged-other p q [] (root_no_prefix p may.named) (root_no_prefix q may.other_named)) ∙ is.root;
+  inside = λ d x n h. by_case d x n (after_prefix p d) (after_prefix q d) refl refl h;
+}
+  where
+    -- what stands at a key, by where it stood
+    at : (k old : Key) → exchanged_key p q k ≡ old → look (exchanged t p q) k ≡ look t old
+    at k old e = look-exchanged t p q k may.beside ∙ ap (look t) e
+
+    -- below a path stands what stood below the other one
+    below : (d here there : Key) (x : Name) (n : Node) (r : Key) → ((s : Key) → exchanged_key p q (here ++ s) ≡ there ++ s) → d ≡ here ++ r → look (exchanged t p q) (d ++ x ∷ []) ≡ Some n → look (exchanged t p q) d ≡ Some Dir
+    below d here there x n r to place h =
+        let longer : (d ++ x ∷ []) ≡ here ++ (r ++ x ∷ []) = ap (λ k. k ++ x ∷ []) place ∙ append_assoc here r (x ∷ []) in
+        let old : look t ((there ++ r) ++ x ∷ []) ≡ Some n = ap (look t) (append_assoc there r (x ∷ [])) ∙ sym (at (d ++ x ∷ []) (there ++ (r ++ x ∷ [])) (ap (exchanged_key p q) longer ∙ to (r ++ x ∷ []))) ∙ h in
+        at d (there ++ r) (ap (exchanged_key p q) place ∙ to r) ∙ is.inside (there ++ r) x n old
+
+    -- beside both paths stands what stood there, and what has one of the paths in it stays
+    beside : (d : Key) (x : Name) (n : Node) (a b : Bool) → same_key p (d ++ x ∷ []) ≡ a → same_key q (d ++ x ∷ []) ≡ b → after_prefix p d ≡ None → after_prefix q d ≡ None → look (exchanged t p q) (d ++ x ∷ []) ≡ Some n → look t d ≡ Some Dir
+    beside d x n true b e f not_p not_q h = ap (look t) (sym (parent_of_child p d x (same_key_exact p (d ++ x ∷ []) e))) ∙ may.parent
+    beside d x n false true e f not_p not_q h = ap (look t) (sym (parent_of_child q d x (same_key_exact q (d ++ x ∷ []) f))) ∙ may.other_parent
+    beside d x n false false e f not_p not_q h =
+        is.inside d x n (sym (at (d ++ x ∷ []) (d ++ x ∷ []) (exchanged-other p q (d ++ x ∷ [])
+        (after_prefix-child p d x (differ_not p (d ++ x ∷ []) e) not_p)
+        (after_prefix-child q d x (differ_not q (d ++ x ∷ []) f) not_q))) ∙ h)
+
+    by_case : (d : Key) (x : Name) (n : Node) (a b : Option Key) → after_prefix p d ≡ a → after_prefix q d ≡ b → look (exchanged t p q) (d ++ x ∷ []) ≡ Some n → look (exchanged t p q) d ≡ Some Dir
+    by_case d x n (Some r) b e f h = below d p q x n r (exchanged-first p q) (after_prefix-exact p d r e) h
+    by_case d x n None (Some r) e f h = below d q p x n r (λ s. exchanged-second p q s may.beside) (after_prefix-exact q d r f) h
+    by_case d x n None None e f h = at d d (exchanged-other p q d e f) ∙ beside d x n (same_key p (d ++ x ∷ [])) (same_key q (d ++ x ∷ [])) refl refl e f h
+
 -- ---- all calls
 
 -- a tree or a new tree, by a test
@@ -171,6 +207,7 @@ tree-change t (Mknod p) is h = made t p (File []) is (mknod_makes t p is h)
 tree-change t (Unlink p) is h = gone t p is (unlink_removes t p is h)
 tree-change t (Rmdir p) is h = gone t p is (rmdir_removes t p is h)
 tree-change t (Rename p q) is h = keep (is_same p q) t (renamed t p q) is (λ other. tree-renamed t p q is (rename_renames t p q is h (only_same p q other)))
+tree-change t (Exchange p q) is h = keep (is_same p q) t (exchanged t p q) is (λ other. tree-exchanged t p q is (exchange_exchanges t p q is h (only_same p q other)))
 tree-change t (Stat p) is h = is
 tree-change t (Readdir p) is h = is
 tree-change t (Read p off count) is h = is
@@ -220,10 +257,10 @@ after_done : (t : Tree) (p q : Key) → fault t (Rename p q) ≡ None → p ≢ 
 unfolding after
 after_done t p q h other = ap (λ found. if_sound found t (change t (Rename p q))) h ∙ ap (λ b. cond {A = Tree} b t (renamed t p q)) (never_same p q other)
 
--- a rename of a path onto itself leaves the tree, with an error or without
-onto_itself : (t : Tree) (p : Key) (found : Option Errno) → if_sound found t (cond {A = Tree} (is_same p p) t (renamed t p p)) ≡ t
-onto_itself t p None = ap (λ b. cond {A = Tree} b t (renamed t p p)) (is_same_refl p)
-onto_itself t p (Some e) = refl
+-- a call on a path and itself leaves the tree, with an error or without
+onto_itself : (t new : Tree) (p : Key) (found : Option Errno) → if_sound found t (cond {A = Tree} (is_same p p) t new) ≡ t
+onto_itself t new p None = ap (λ b. cond {A = Tree} b t new) (is_same_refl p)
+onto_itself t new p (Some e) = refl
 
 -- a rename moves what it names
 pub renames_move : RenamesMove
@@ -232,5 +269,30 @@ renames_move = record {
   moved = λ t p q is h other.
       let new = after_done t p q h other in
       subst (λ s. IsMoved t s p q) (sym new) (is_moved t p q (rename_renames t p q is h other));
-  onto_itself = λ t p. onto_itself t p (fault t (Rename p p));
+  onto_itself = λ t p. onto_itself t (renamed t p p) p (fault t (Rename p p));
+}
+
+-- ---- exchanges
+
+-- an exchange lets two nodes change places
+is_exchanged : (t : Tree) (p q : Key) → Exchanges t p q → IsExchanged t (exchanged t p q) p q
+is_exchanged t p q may = record {
+  one = λ rest. look-exchanged t p q (q ++ rest) may.beside ∙ ap (look t) (exchanged-second p q rest may.beside);
+  other = λ rest. look-exchanged t p q (p ++ rest) may.beside ∙ ap (look t) (exchanged-first p q rest);
+  others = λ k not_p not_q. look-exchanged t p q k may.beside ∙ ap (look t) (exchanged-other p q k not_p not_q);
+}
+
+-- what an exchange without an error leaves
+after_exchange : (t : Tree) (p q : Key) → fault t (Exchange p q) ≡ None → p ≢ q → after t (Exchange p q) ≡ exchanged t p q
+unfolding after
+after_exchange t p q h other = ap (λ found. if_sound found t (change t (Exchange p q))) h ∙ ap (λ b. cond {A = Tree} b t (exchanged t p q)) (never_same p q other)
+
+-- two nodes change places
+pub exchanges_swap : ExchangesSwap
+unfolding after
+exchanges_swap = record {
+  swapped = λ t p q is h other.
+      let new = after_exchange t p q h other in
+      subst (λ s. IsExchanged t s p q) (sym new) (is_exchanged t p q (exchange_exchanges t p q is h other));
+  with_itself = λ t p. onto_itself t (exchanged t p p) p (fault t (Exchange p p));
 }

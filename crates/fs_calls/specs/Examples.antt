@@ -5,7 +5,7 @@ use Rattle.fs_names.specs.Keys.{Key}
 use Rattle.fs_names.specs.Reading.{names}
 use Rattle.fs_names.specs.declared.kind.Kind.TheVariants as kind
 use Rattle.fs_calls.specs.declared.call.Call.{Call}
-use Rattle.fs_calls.specs.declared.call.Call.TheVariants.{Mkdir, Mknod, Unlink, Rmdir, Rename, Stat, Readdir, Read, Write, Truncate}
+use Rattle.fs_calls.specs.declared.call.Call.TheVariants.{Mkdir, Mknod, Unlink, Rmdir, Rename, Exchange, Stat, Readdir, Read, Write, Truncate}
 use Rattle.fs_calls.specs.declared.reply.Reply.{Reply}
 use Rattle.fs_calls.specs.declared.reply.Reply.TheVariants as answer
 use Rattle.fs_calls.specs.declared.reply.Reply.TheVariants.{Done, Names, Bytes, Wrote, Failed}
@@ -123,6 +123,40 @@ RenamesOntoAncestors = Answered
     ∷ (Rename (at "/a/b") (at "/a"), Failed Enotempty)
     ∷ (Rename (at "/z/x") (at "/z"), Failed Enoent)
     ∷ [])
+
+-- exchanges one after another: of directories, of what is missing, of the root, of a path and one below it, of a file and a directory
+abbrev pub exchanges : List (Call × Reply)
+exchanges =
+    (Mkdir (at "/a"), Done)
+    ∷ (Mknod (at "/a/f"), Done)
+    ∷ (Mkdir (at "/b"), Done)
+    ∷ (Exchange (at "/a") (at "/b"), Done)
+    ∷ (Exchange (at "/a") (at "/z"), Failed Enoent)
+    ∷ (Exchange (at "/z") (at "/z"), Failed Enoent)
+    ∷ (Exchange [] (at "/a"), Failed Ebusy)
+    ∷ (Exchange (at "/b/f") (at "/b"), Failed Einval)
+    ∷ (Exchange (at "/b/f") (at "/a"), Done)
+    ∷ (Exchange (at "/a/x") (at "/b/f"), Failed Enotdir)
+    ∷ (Exchange (at "/a") (at "/a"), Done)
+    ∷ []
+
+pub record ExchangesInSequence : Type 0 where
+  pub answers : Answered exchanges
+  pub tree : tree_after exchanges ≡ ([], Dir) ∷ (at "/a", File []) ∷ (at "/b", Dir) ∷ (at "/b/f", Dir) ∷ []
+
+-- the tree of two calls that were below what an exchange moved
+abbrev pub helped_over : List (Call × Reply)
+helped_over =
+    (Mkdir (at "/a"), Done)
+    ∷ (Mkdir (at "/b"), Done)
+    ∷ (Mkdir (at "/a/x"), Done)
+    ∷ (Mkdir (at "/b/y"), Done)
+    ∷ (Exchange (at "/a") (at "/b"), Done)
+    ∷ []
+
+pub record ExchangeOfTwoTrees : Type 0 where
+  pub answers : Answered helped_over
+  pub tree : tree_after helped_over ≡ ([], Dir) ∷ (at "/a", Dir) ∷ (at "/a/y", Dir) ∷ (at "/b", Dir) ∷ (at "/b/x", Dir) ∷ []
 
 -- the file of a number in /d, by three digits
 abbrev pub numbered : ℕ → Key

@@ -8,7 +8,7 @@ use Rattle.fs_calls.specs.declared.call.Call.TheVariants as calls
 pub use Rattle.fs_calls.specs.declared.target.EntryCall.{EntryCall}
 pub use Rattle.fs_calls.specs.declared.target.EntryCall.TheVariants.{Mkdir, Mknod, Unlink, Rmdir}
 pub use Rattle.fs_calls.specs.declared.target.PairCall.{PairCall}
-pub use Rattle.fs_calls.specs.declared.target.PairCall.TheVariants.{Rename}
+pub use Rattle.fs_calls.specs.declared.target.PairCall.TheVariants.{Rename, Exchange}
 use Rattle.fs_calls.specs.declared.errno.Errno.{Errno}
 use Rattle.fs_calls.specs.declared.errno.Errno.TheVariants.{Eexist, Einval, Ebusy, Eperm}
 
@@ -33,6 +33,7 @@ form (calls.Mknod p) = AtEntry Mknod p
 form (calls.Unlink p) = AtEntry Unlink p
 form (calls.Rmdir p) = AtEntry Rmdir p
 form (calls.Rename p q) = AtPair Rename p q
+form (calls.Exchange p q) = AtPair Exchange p q
 form (calls.Stat p) = AtNode Stat p
 form (calls.Readdir p) = AtNode Readdir p
 form (calls.Read p off count) = AtNode (Read off count) p
@@ -51,6 +52,7 @@ abbrev pub by_text : Form → Option Errno
 by_text (AtNode c p) = None
 by_text (AtEntry c p) = check (is_root p) (root_error c)
 by_text (AtPair Rename p q) = first_failure (check (is_root p || is_root q) Ebusy ∷ check (is_proper_prefix p q) Einval ∷ [])
+by_text (AtPair Exchange p q) = first_failure (check (is_root p || is_root q) Ebusy ∷ check (is_proper_prefix p q || is_proper_prefix q p) Einval ∷ [])
 
 -- the same call with its paths read from k on
 abbrev pub under : Key → Form → Form

@@ -6,7 +6,7 @@ use Rattle.fs_calls.specs.Tree.{Tree, Node, Dir, look, IsTree, root_tree}
 use Rattle.fs_calls.specs.Starts.{Start, start_tree}
 use Rattle.fs_calls.specs.Outcomes.{fault, reply, after, play}
 use Rattle.fs_calls.specs.declared.call.Call.{Call}
-use Rattle.fs_calls.specs.declared.call.Call.TheVariants.{Rename}
+use Rattle.fs_calls.specs.declared.call.Call.TheVariants.{Rename, Exchange}
 use Rattle.fs_calls.specs.declared.errno.Errno.{Errno}
 use Rattle.fs_calls.specs.declared.reply.Reply.TheVariants.{Failed}
 
@@ -40,3 +40,14 @@ pub record IsMoved (old new : Tree) (p q : Key) : Type 0 where
 pub record RenamesMove : Type 0 where
   pub moved : (t : Tree) (p q : Key) → IsTree t → fault t (Rename p q) ≡ None → p ≢ q → IsMoved t (after t (Rename p q)) p q
   pub onto_itself : (t : Tree) (p : Key) → after t (Rename p p) ≡ t
+
+-- the second tree has at each of p and q, and below it, what the first has at the other one, and all else as it was
+pub record IsExchanged (old new : Tree) (p q : Key) : Type 0 where
+  pub one : (rest : Key) → look new (q ++ rest) ≡ look old (p ++ rest)
+  pub other : (rest : Key) → look new (p ++ rest) ≡ look old (q ++ rest)
+  pub others : (k : Key) → after_prefix p k ≡ None → after_prefix q k ≡ None → look new k ≡ look old k
+
+-- an exchange without an error lets two nodes change places, each with all below it, and one of a path with itself changes nothing
+pub record ExchangesSwap : Type 0 where
+  pub swapped : (t : Tree) (p q : Key) → IsTree t → fault t (Exchange p q) ≡ None → p ≢ q → IsExchanged t (after t (Exchange p q)) p q
+  pub with_itself : (t : Tree) (p : Key) → after t (Exchange p p) ≡ t

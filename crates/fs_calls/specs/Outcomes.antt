@@ -3,7 +3,7 @@ use Rattle.std.specs.Prelude.{ℕ, List, [], ◌∷◌, if◌then◌else◌, Opt
 use Rattle.fs_names.specs.Failures.{or_else}
 use Rattle.fs_names.specs.Keys.{Key, parent_of}
 use Rattle.fs_calls.specs.Tree as tree
-use Rattle.fs_calls.specs.Tree.{Tree, Node, inserted, removed, renamed}
+use Rattle.fs_calls.specs.Tree.{Tree, Node, inserted, removed, renamed, exchanged}
 use Rattle.fs_calls.specs.Starts.{Start, start_tree}
 use Rattle.fs_calls.specs.Sights.{Shape, Dir, File, tree_shapes}
 use Rattle.fs_calls.specs.Sights.{resolve, resolve_dir, is_same, row_in}
@@ -28,6 +28,7 @@ abbrev pub reply_of : Tree → Form → Reply
 reply_of t (AtNode c p) = node_reply c (tree_shapes t p)
 reply_of t (AtEntry c p) = answer.Done
 reply_of t (AtPair pairs.Rename p q) = answer.Done
+reply_of t (AtPair pairs.Exchange p q) = answer.Done
 
 -- the file at a key has new bytes from now on; None: the tree stays
 abbrev pub filled : Tree → Key → Option (List ℕ) → Tree
@@ -50,6 +51,7 @@ abbrev pub change_of : Tree → Form → Tree
 change_of t (AtNode c p) = filled t p (new_bytes c (tree_shapes t p))
 change_of t (AtEntry c p) = edited t p (edit_of (new_shape c))
 change_of t (AtPair pairs.Rename p q) = if is_same p q then t else renamed t p q
+change_of t (AtPair pairs.Exchange p q) = if is_same p q then t else exchanged t p q
 
 -- the first error behind those that the paths decide alone
 abbrev pub row : Tree → Call → Option Errno

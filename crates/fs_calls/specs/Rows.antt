@@ -5,7 +5,7 @@ use Rattle.fs_names.specs.Failures.{check, first_failure}
 use Rattle.fs_names.specs.Shapes.{Shape, Dir, File, is_there, is_missing, is_dir, is_file, names_of, bytes_of, has_any, has_entries, is_full}
 use Rattle.fs_names.specs.declared.limits.TheConstants.{FILE_LIMIT}
 use Rattle.fs_names.specs.declared.kind.Kind.TheVariants as kind
-use Rattle.fs_calls.specs.Forms.{NodeCall, Stat, Readdir, Read, Write, Truncate, EntryCall, Mkdir, Mknod, Unlink, Rmdir, new_shape}
+use Rattle.fs_calls.specs.Forms.{NodeCall, Stat, Readdir, Read, Write, Truncate, EntryCall, Mkdir, Mknod, Unlink, Rmdir, PairCall, Rename, Exchange, new_shape}
 use Rattle.fs_calls.specs.declared.errno.Errno.{Errno}
 use Rattle.fs_calls.specs.declared.errno.Errno.TheVariants.{Enoent, Enotdir, Eexist, Enotempty, Eisdir, Eperm, Enospc, Efbig}
 use Rattle.fs_calls.specs.declared.reply.Reply.{Reply}
@@ -64,6 +64,19 @@ entry_fault c parent full there = first_failure (parent ∷ entry_errors c full 
 -- the same of a rename, behind the resolutions of both parents
 abbrev pub rename_fault : Option Errno → Option Errno → Option Shape → Bool → Option Shape → Bool → Option Errno
 rename_fault source dest moved same_path there room = first_failure (source ∷ dest ∷ rename_errors moved same_path there room)
+
+-- both nodes of an exchange are there
+abbrev pub exchange_errors : Option Shape → Option Shape → List (Option Errno)
+exchange_errors one other = check (is_missing one) Enoent ∷ check (is_missing other) Enoent ∷ []
+
+-- a call on two entries, by the same as a rename
+abbrev pub pair_errors : PairCall → Option Shape → Bool → Option Shape → Bool → List (Option Errno)
+pair_errors Rename one same_path other room = rename_errors one same_path other room
+pair_errors Exchange one same_path other room = exchange_errors one other
+
+-- the first error of an exchange, behind the resolutions of both parents
+abbrev pub exchange_fault : Option Errno → Option Errno → Option Shape → Option Shape → Option Errno
+exchange_fault source dest one other = first_failure (source ∷ dest ∷ exchange_errors one other)
 
 -- ---- replies and changes without an error
 
@@ -126,3 +139,7 @@ entry_row c parent full there = answered (entry_fault c parent full there) Keep 
 -- a rename, by both parents' resolutions and what p and q stand for: whether it really moves
 abbrev pub rename_row : Option Errno → Option Errno → Option Shape → Bool → Option Shape → Bool → Reply × Bool
 rename_row source dest moved same_path there room = answered (rename_fault source dest moved same_path there room) false answer.Done (not same_path)
+
+-- an exchange, by both parents' resolutions and what p and q stand for: whether it really moves
+abbrev pub exchange_row : Option Errno → Option Errno → Option Shape → Bool → Option Shape → Reply × Bool
+exchange_row source dest one same_path other = answered (exchange_fault source dest one other) false answer.Done (not same_path)

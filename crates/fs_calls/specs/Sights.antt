@@ -6,7 +6,7 @@ use Rattle.fs_calls.specs.Tree as tree
 use Rattle.fs_calls.specs.Tree.{Tree, Node, look, names_in}
 use Rattle.fs_calls.specs.Forms.{Form, AtNode, AtEntry, AtPair}
 use Rattle.fs_calls.specs.declared.target.PairCall.TheVariants as pairs
-use Rattle.fs_calls.specs.Rows.{as_dir, node_fault, entry_fault, rename_fault, has_room}
+use Rattle.fs_calls.specs.Rows.{as_dir, node_fault, entry_fault, rename_fault, exchange_fault, has_room}
 use Rattle.fs_calls.specs.declared.errno.Errno.{Errno}
 use Rattle.fs_calls.specs.declared.errno.Errno.TheVariants.{Enoent, Enotdir}
 
@@ -49,3 +49,4 @@ abbrev pub row_in : Sight → Form → Option Errno
 row_in sight (AtNode c p) = node_fault c (resolve sight p) (sight p)
 row_in sight (AtEntry c p) = entry_fault c (resolve_dir sight (parent_of p)) (is_full (sight (parent_of p))) (sight p)
 row_in sight (AtPair pairs.Rename p q) = rename_fault (resolve_dir sight (parent_of p)) (resolve_dir sight (parent_of q)) (sight p) (is_same p q) (sight q) (has_room (is_same (parent_of p) (parent_of q)) (sight (parent_of q)))
+row_in sight (AtPair pairs.Exchange p q) = exchange_fault (resolve_dir sight (parent_of p)) (resolve_dir sight (parent_of q)) (sight p) (sight q)

@@ -74,3 +74,11 @@ from_list (e ∷ es) = put key_cmp e.0 e.1 (from_list es)
 -- keys with prefix p get the prefix q, q's old key is gone, all other keys stay
 unfoldable pub renamed : Tree → Key → Key → Tree
 renamed t p q = from_list (map (λ e. (moved_key p q e.0, e.1)) (removed t q))
+
+-- a key with prefix p gets the prefix q instead, and one with prefix q the prefix p
+abbrev pub exchanged_key : Key → Key → Key → Key
+exchanged_key p q k = with_prefix q (moved_key q p k) (after_prefix p k)
+
+-- keys with prefix p get the prefix q instead and keys with prefix q get p, all other keys stay
+unfoldable pub exchanged : Tree → Key → Key → Tree
+exchanged t p q = from_list (map (λ e. (exchanged_key p q e.0, e.1)) t)

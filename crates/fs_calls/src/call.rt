@@ -16,6 +16,8 @@ pub enum Call {
     /// Moves a node with all below it from the first path to the second, whose old node is removed
     /// (POSIX.1-2017, XSH 3, rename()).
     Rename(Path, Path),
+    /// Lets the entries of two paths change places, each with all below its node (this project's own).
+    Exchange(Path, Path),
     /// Asks for the kind of a node and its size: bytes of a file, entries of a directory (POSIX.1-2017, XSH 3, stat()).
     Stat(Path),
     /// Asks for all names of a directory.

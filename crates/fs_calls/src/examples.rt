@@ -1,6 +1,6 @@
 //! Worked examples, which the check computes from the definitions.
 
-ghost use Rattle.fs_calls.specs.Examples.{RootCalls, ResolutionErrors, FileBytes, FileOffsets, RenamesInSequence, RenamesOntoAncestors, FullDirectory};
+ghost use Rattle.fs_calls.specs.Examples.{RootCalls, ResolutionErrors, FileBytes, FileOffsets, RenamesInSequence, RenamesOntoAncestors, ExchangesInSequence, ExchangeOfTwoTrees, FullDirectory};
 
 /// Calls on the root.
 pub fn calls_on_the_root()
@@ -30,6 +30,16 @@ pub fn renames_in_sequence()
 /// A rename onto an ancestor finds the old path missing before it finds the new one in use.
 pub fn renames_onto_ancestors()
     ensures { RenamesOntoAncestors }
+{}
+
+/// Exchanges one after another, with the tree at the end.
+pub fn exchanges_in_sequence()
+    ensures { ExchangesInSequence }
+{}
+
+/// An exchange of two directories that are not empty.
+pub fn exchange_of_two_trees()
+    ensures { ExchangeOfTwoTrees }
 {}
 
 /// A directory with as many entries as it can have.

@@ -1,6 +1,6 @@
 //! What holds of the definitions. Each function's contract is a law, and its body is empty.
 
-ghost use Rattle.fs_calls.specs.Laws.{ErrorsChangeNothing, StaysATree, PlayedTreesAreTrees, SameTrees, RenamesMove};
+ghost use Rattle.fs_calls.specs.Laws.{ErrorsChangeNothing, StaysATree, PlayedTreesAreTrees, SameTrees, RenamesMove, ExchangesSwap};
 
 /// A call whose reply is an error leaves the tree as it was.
 pub fn errors_change_nothing()
@@ -28,4 +28,10 @@ pub fn same_trees()
 /// nothing.
 pub fn renames_move()
     ensures { RenamesMove }
+{}
+
+/// An exchange without an error lets two nodes change places, each with all below it, and nothing else; one of a path with
+/// itself changes nothing.
+pub fn exchanges_swap()
+    ensures { ExchangesSwap }
 {}

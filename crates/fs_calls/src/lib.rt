@@ -23,7 +23,7 @@ pub use call::Call;
 pub use errno::Errno;
 pub use fs_names::Bytes;
 pub use name_list::NameList;
-pub use path_errors::rename_error;
+pub use path_errors::{exchange_error, rename_error};
 pub use reply::Reply;
 pub use rows::Sight;
 pub use target::{EntryCall, NodeCall, PairCall, Target};

@@ -16,6 +16,7 @@ use fs_names::Path;
 macro_rules! path_check {
     (is_root, $path:expr, $new_path:expr) => { $path.is_empty() || $new_path.is_empty() };
     (is_below, $path:expr, $new_path:expr) => { $path.is_proper_prefix_of($new_path) };
+    (is_below_or_above, $path:expr, $new_path:expr) => { $path.is_proper_prefix_of($new_path) || $new_path.is_proper_prefix_of($path) };
 }
 
 /// The errors of the calls on two entries that their paths alone decide.
@@ -49,6 +50,14 @@ pub fn rename_error(path: &Path, new_path: &Path) -> Option<Errno>
     ensures { result ≡ by_text (forms.AtPair pairs.Rename path.now new_path.now) }
 {
     pair_error(PairCall::Rename, path, new_path)
+}
+
+/// The error of an exchange that its paths alone decide, if any: `EBUSY` where either is the root, `EINVAL` where one is
+/// below the other.
+pub fn exchange_error(path: &Path, other: &Path) -> Option<Errno>
+    ensures { result ≡ by_text (forms.AtPair pairs.Exchange path.now other.now) }
+{
+    pair_error(PairCall::Exchange, path, other)
 }
 
 /// The errors of the calls on the root's entry.

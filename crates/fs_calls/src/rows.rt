@@ -4,7 +4,7 @@ ghost use Rattle.std.specs.Prelude.{◌≡◌, Option, None, if◌then◌else◌
 ghost use Rattle.fs_names.specs.Failures.{first_failure};
 ghost use Rattle.fs_names.specs.Shapes.{Shape, is_there, is_missing, is_dir, is_file, has_entries};
 ghost use Rattle.fs_calls.specs.declared.errno.Errno.TheVariants.{Enotdir, Enoent};
-ghost use Rattle.fs_calls.specs.Rows.{entry_errors, node_fault, rename_errors};
+ghost use Rattle.fs_calls.specs.Rows.{entry_errors, node_fault, pair_errors};
 ghost use Rattle.fs_calls.specs.code.Seen.{sight};
 ghost use Rattle.fs_calls.specs.code.Targets.{node_call};
 
@@ -65,7 +65,7 @@ impl Sight {
 
 /// The error of the first check that holds.
 macro_rules! first_error {
-    ($($check:expr => $errno:ident),*) => {{
+    ($($check:expr => $errno:ident),* $(,)?) => {{
         $(if $check {
             return Some(Errno::$errno);
         })*
@@ -116,6 +116,7 @@ pub struct PairSight {
 /// A check of a call on two entries.
 macro_rules! pair_check {
     (first_is_missing, $seen:expr) => { $seen.first.is_missing() };
+    (second_is_missing, $seen:expr) => { $seen.second.is_missing() };
     (dir_onto_file, $seen:expr) => { $seen.second.is_file() && $seen.first.is_dir() };
     (file_onto_dir, $seen:expr) => { $seen.second.is_dir() && $seen.first.is_file() };
     (onto_entries, $seen:expr) => { $seen.second.has_entries() };
@@ -141,7 +142,7 @@ macro_rules! pair_errors {
 impl PairCall {
     /// The error of a call on two entries, by what is seen of them.
     pub fn error(self, seen: PairSight) -> Option<Errno>
-        ensures { (s t : Option Shape) → sight s ≡ seen.first → sight t ≡ seen.second → result ≡ first_failure (rename_errors s seen.same_path t seen.has_room) }
+        ensures { (s t : Option Shape) → sight s ≡ seen.first → sight t ≡ seen.second → result ≡ first_failure (pair_errors self s seen.same_path t seen.has_room) }
     {
         calls!(pair_errors(self, seen))
     }

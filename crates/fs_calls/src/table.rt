@@ -24,6 +24,7 @@ macro_rules! calls {
             pairs {
                 // call             by its paths alone, in order          what it does   errors in order, behind those of both directories, and those where its paths are not one
                 Rename            { [is_root => Ebusy, is_below => Einval] [moves]       [first_is_missing => Enoent] [dir_onto_file => Enotdir, file_onto_dir => Eisdir, onto_entries => Enotempty, has_no_room => Enospc] }
+                Exchange          { [is_root => Ebusy, is_below_or_above => Einval] [swaps] [first_is_missing => Enoent, second_is_missing => Enoent] [] }
             }
             nodes {
                 // call             what it does          errors in order, behind those of its path

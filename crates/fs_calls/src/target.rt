@@ -29,6 +29,8 @@ pub enum EntryCall {
 pub enum PairCall {
     /// The first one's node moves to the second.
     Rename,
+    /// Their nodes change places.
+    Exchange,
 }
 
 /// What is done to a node.
@@ -88,6 +90,7 @@ fn on_pair(pair: PairCall, from: Path, to: Path) -> Call
 {
     match pair {
         PairCall::Rename => Call::Rename(from, to),
+        PairCall::Exchange => Call::Exchange(from, to),
     }
 }
 
@@ -166,6 +169,7 @@ impl Call {
             Call::Unlink(path) => Target::Entry(EntryCall::Unlink, path),
             Call::Rmdir(path) => Target::Entry(EntryCall::Rmdir, path),
             Call::Rename(from, to) => Target::Pair(PairCall::Rename, from, to),
+            Call::Exchange(one, other) => Target::Pair(PairCall::Exchange, one, other),
             Call::Stat(path) => Target::Node(NodeCall::Stat, path),
             Call::Readdir(path) => Target::Node(NodeCall::Readdir, path),
             Call::Read(path, off, count) => Target::Node(NodeCall::Read(*off, *count), path),

@@ -9,9 +9,9 @@ use Rattle.fs_calls.specs.declared.errno.Errno.{Errno}
 use Rattle.fs_calls.specs.declared.reply.Reply.{Reply}
 use Rattle.fs_calls.specs.Rows.{node_row, entry_row, Edit, Keep, Add, Remove}
 use Rattle.fs_graph.specs.Graphs.{Graph, set_at, entry_shape, unlinked_in}
-use Rattle.fs_machine.specs.Finishes.{node_effect, entry_effect, move_effect, rename_effect, effect_at, effect_of, finish}
+use Rattle.fs_machine.specs.Finishes.{node_effect, entry_effect, move_effect, rename_effect, swap_effect, exchange_effect, effect_at, effect_of, finish}
 use Rattle.fs_machine.specs.Laws.{FreesByLeavingAlone}
-use Rattle.fs_machine.specs.Moves.{target, path_error, dir_error, rename_at}
+use Rattle.fs_machine.specs.Moves.{target, path_error, dir_error, rename_at, exchange_at}
 use Rattle.fs_machine.specs.Records.{Holdings, Record}
 use Rattle.fs_machine.specs.States.{State}
 use Rattle.fs_machine.specs.declared.answers.Stepped.TheVariants.{Idle, Took, Busy, LetGo, Helped, Committed, CarriedOut, Returned}
@@ -48,11 +48,23 @@ rename_keeps graph p q st reserved (z ∷ l) m used = used
 rename_keeps graph p q st reserved [] m used =
     move_keeps graph st (last_of p) (last_of q) reserved (rename_at graph p q st).0 (rename_at graph p q st).1 (graph.child st.source.node (last_of p)) m used
 
+swap_keeps : (graph : Graph) (st : Holdings) (x y : Name) (reserved : Option ℕ) (r : Reply) (b : Bool) (s t : Option ℕ) (m : ℕ) → Used graph m → Used (swap_effect graph st x y reserved r b s t).graph m
+swap_keeps graph st x y reserved r false s t m used = used
+swap_keeps graph st x y reserved r true None t m used = used
+swap_keeps graph st x y reserved r true (Some s) None m used = used
+swap_keeps graph st x y reserved r true (Some s) (Some t) m used = used
+
+exchange_keeps : (graph : Graph) (p q : Key) (st : Holdings) (reserved : Option ℕ) (l : Key) (m : ℕ) → Used graph m → Used (exchange_effect graph p q st reserved l).graph m
+exchange_keeps graph p q st reserved (z ∷ l) m used = used
+exchange_keeps graph p q st reserved [] m used =
+    swap_keeps graph st (last_of p) (last_of q) reserved (exchange_at graph p q st).0 (exchange_at graph p q st).1 (graph.child st.source.node (last_of p)) (graph.child st.dest.node (last_of q)) m used
+
 at_keeps : (graph : Graph) (f : Form) (st : Holdings) (reserved : Option ℕ) (m : ℕ) → Used graph m → Used (effect_at graph f st reserved).graph m
 at_keeps graph (AtNode c p) st reserved m used = node_keeps graph st.node reserved (node_row c (path_error p (graph.shape st.node)) (graph.shape st.node)) m used
 at_keeps graph (AtEntry c p) st reserved m used =
     entry_keeps graph st.node (last_of p) reserved (entry_row c (dir_error (parent_of p) (graph.shape st.node)) (is_full (graph.shape st.node)) (entry_shape graph st.node (last_of p))) m used
 at_keeps graph (AtPair pairs.Rename p q) st reserved m used = rename_keeps graph p q st reserved (target (AtPair pairs.Rename p q)) m used
+at_keeps graph (AtPair pairs.Exchange p q) st reserved m used = exchange_keeps graph p q st reserved (target (AtPair pairs.Exchange p q)) m used
 
 of_keeps : (graph : Graph) (op : Record) (e : Option Errno) (st : Option Holdings) (m : ℕ) → Used graph m → Used (effect_of graph op e st).graph m
 of_keeps graph op (Some e) st m used = used

@@ -3,3 +3,4 @@ pub mod StepsAddEntries
 pub mod LastTakenGoesFirst
 pub mod LowestIsHelped
 pub mod FinishKeepsNumbers
+pub mod ExchangeWorked

@@ -10,8 +10,8 @@ use Rattle.fs_calls.specs.declared.errno.Errno.{Errno}
 use Rattle.fs_calls.specs.declared.errno.Errno.TheVariants.{Enoent}
 use Rattle.fs_calls.specs.declared.reply.Reply.{Reply}
 use Rattle.fs_calls.specs.declared.reply.Reply.TheVariants.{Failed}
-use Rattle.fs_graph.specs.Graphs.{Graph, entry_shape, content_in, linked_in, unlinked_in, moved_in}
-use Rattle.fs_machine.specs.Moves.{target, walk_errno, path_error, dir_error, rename_at}
+use Rattle.fs_graph.specs.Graphs.{Graph, entry_shape, content_in, linked_in, unlinked_in, moved_in, swapped_in}
+use Rattle.fs_machine.specs.Moves.{target, walk_errno, path_error, dir_error, rename_at, exchange_at}
 use Rattle.fs_machine.specs.Records.{Holdings, Record}
 
 -- the reply, the new graph, the reserved number if it is still unused, the node that was removed
@@ -50,12 +50,27 @@ rename_effect graph p q st reserved [] =
     let r : Reply × Bool = rename_at graph p q st in
     move_effect graph st (last_of p) (last_of q) reserved r.0 r.1 (graph.child st.source.node (last_of p))
 
+-- an exchange: no number comes into use or leaves it
+abbrev pub swap_effect : Graph → Holdings → Name → Name → Option ℕ → Reply → Bool → Option ℕ → Option ℕ → Effect
+swap_effect graph st x y reserved r false s t = no_effect r graph reserved
+swap_effect graph st x y reserved r true None t = no_effect r graph reserved
+swap_effect graph st x y reserved r true (Some s) None = no_effect r graph reserved
+swap_effect graph st x y reserved r true (Some s) (Some t) = no_effect r (swapped_in st.source.node x s st.dest.node y t graph) reserved
+
+-- an exchange that did not come to its common directory fails where it stands
+abbrev pub exchange_effect : Graph → Key → Key → Holdings → Option ℕ → Key → Effect
+exchange_effect graph p q st reserved (z ∷ l) = no_effect (Failed (walk_errno (graph.shape st.node))) graph reserved
+exchange_effect graph p q st reserved [] =
+    let r : Reply × Bool = exchange_at graph p q st in
+    swap_effect graph st (last_of p) (last_of q) reserved r.0 r.1 (graph.child st.source.node (last_of p)) (graph.child st.dest.node (last_of q))
+
 -- each form of call where it stands
 abbrev pub effect_at : Graph → Form → Holdings → Option ℕ → Effect
 effect_at graph (AtNode c p) st reserved = node_effect graph st.node reserved (node_row c (path_error p (graph.shape st.node)) (graph.shape st.node))
 effect_at graph (AtEntry c p) st reserved =
     entry_effect graph st.node (last_of p) reserved (entry_row c (dir_error (parent_of p) (graph.shape st.node)) (is_full (graph.shape st.node)) (entry_shape graph st.node (last_of p)))
 effect_at graph (AtPair pairs.Rename p q) st reserved = rename_effect graph p q st reserved (target (AtPair pairs.Rename p q))
+effect_at graph (AtPair pairs.Exchange p q) st reserved = exchange_effect graph p q st reserved (target (AtPair pairs.Exchange p q))
 
 -- a call that its paths decide, and else where it stands
 abbrev pub effect_of : Graph → Record → Option Errno → Option Holdings → Effect

@@ -11,14 +11,14 @@ use Rattle.fs_calls.specs.declared.target.PairCall.{PairCall}
 use Rattle.fs_calls.specs.declared.target.PairCall.TheVariants as pairs
 use Rattle.fs_calls.specs.declared.target.EntryCall.{EntryCall}
 use Rattle.fs_calls.specs.declared.target.EntryCall.TheVariants.{Unlink, Rmdir}
-use Rattle.fs_calls.specs.Rows.{as_dir, rename_row}
+use Rattle.fs_calls.specs.Rows.{as_dir, rename_row, exchange_row}
 use Rattle.fs_calls.specs.declared.errno.Errno.{Errno}
 use Rattle.fs_calls.specs.declared.errno.Errno.TheVariants.{Enoent, Enotdir}
 use Rattle.fs_calls.specs.declared.reply.Reply.{Reply}
 use Rattle.fs_graph.specs.Graphs.{Graph, entry_shape}
 use Rattle.fs_machine.specs.declared.moves.Move.{Move}
 use Rattle.fs_machine.specs.declared.moves.Moved.{Moved}
-use Rattle.fs_machine.specs.declared.moves.Moved.TheVariants.{Nothing, One}
+use Rattle.fs_machine.specs.declared.moves.Moved.TheVariants.{Nothing, One, Two}
 use Rattle.fs_machine.specs.declared.moves.Move.TheVariants.{Take as Takes, LetGo as Leaves, Finish as Finishes, Return as Ends}
 use Rattle.fs_machine.specs.Records.{Head, Holdings, Side, Source, Dest, head_on, with_head, Phase, Walking, Placed, Finished, Record, head_at, holdings_at, held_on}
 
@@ -112,9 +112,31 @@ rename_move graph p q st =
     (graph.child st.dest.node (last_of q)) st.victim
     (Finishes (moved_node (rename_at graph p q st).1 (graph.child st.source.node (last_of p))))
 
+-- an exchange at both parents: the reply and whether it really moves, by what it reads there
+abbrev pub exchange_at : Graph → Key → Key → Holdings → Reply × Bool
+exchange_at graph p q st =
+    exchange_row
+    (dir_error (left st.source.walked (parent_of p)) (graph.shape st.source.node))
+    (dir_error (left st.dest.walked (parent_of q)) (graph.shape st.dest.node))
+    (entry_shape graph st.source.node (last_of p))
+    (is_end (after_prefix p q))
+    (entry_shape graph st.dest.node (last_of q))
+
+-- the nodes that an exchange would really move
+abbrev pub moved_nodes : Bool → Option ℕ → Option ℕ → Moved
+moved_nodes true (Some s) (Some t) = Two s t
+moved_nodes true (Some s) None = Nothing
+moved_nodes true None t = Nothing
+moved_nodes false s t = Nothing
+
+-- it takes no victim: neither node is taken
+abbrev pub exchange_move : Graph → Key → Key → Holdings → Move
+exchange_move graph p q st = Finishes (moved_nodes (exchange_at graph p q st).1 (graph.child st.source.node (last_of p)) (graph.child st.dest.node (last_of q)))
+
 -- a pair at both parents
 abbrev pub parents_move : Graph → PairCall → Key → Key → Holdings → Move
 parents_move graph pairs.Rename p q st = rename_move graph p q st
+parents_move graph pairs.Exchange p q st = exchange_move graph p q st
 
 -- a parent that is a file finishes before the next head sets out
 abbrev pub dir_then : Option Shape → Move → Move

@@ -1,5 +1,5 @@
 -- A call as a machine of its own: what its code keeps. Its seat and its place among the commits are told by whoever runs it.
-use Rattle.std.specs.Prelude.{ℕ, ◌≡◌, ◌≢◌, ◌<◌, ◌≤◌, IsTrue, false, List, [], Option, Some, None, length}
+use Rattle.std.specs.Prelude.{ℕ, ◌≡◌, ◌≢◌, ◌<◌, ◌≤◌, IsTrue, false, List, [], Option, Some, None, length, ◌⊎◌}
 use Rattle.fs_names.specs.Keys.{Key, parent_of, last_of}
 use Rattle.fs_names.specs.Names.{Name}
 use Rattle.fs_names.specs.Shapes.{Shape, Dir, File, is_there, has_entries}
@@ -92,6 +92,8 @@ abbrev pub MovesApart : Graph → Form → Holdings → Type 0
 MovesApart graph (AtNode c p) st = Unit {0}
 MovesApart graph (AtEntry c p) st = Unit {0}
 MovesApart graph (AtPair pairs.Rename p q) st = (n : ℕ) → st.source.walked ≡ parent_of p → st.dest.walked ≡ parent_of q → graph.child st.source.node (last_of p) ≡ Some n → IsReached graph.child n st.dest.node → ⊥
+MovesApart graph (AtPair pairs.Exchange p q) st = (n m : ℕ) → st.source.walked ≡ parent_of p → st.dest.walked ≡ parent_of q → graph.child st.source.node (last_of p) ≡ Some n → graph.child st.dest.node (last_of q) ≡ Some m
+    → (n ≡ m) ⊎ ((IsReached graph.child n m → ⊥) × (IsReached graph.child m n → ⊥))
 
 -- what a finish needs of the graph: among others, that the reserved number is not the node stood at
 pub record CanFinish (graph : Graph) (reserved : Option ℕ) (remaining : Form) (holdings : Option Holdings) : Type 0 where
