@@ -308,6 +308,14 @@ impl Core {
         Ok(SeatNo::new(seat))
     }
 
+    /// Makes room at once for the entries of so many calls more on the seats that there are, where there is memory for
+    /// it: a hint, by which nothing changes. Where there is none, each begin asks for its own as it does without.
+    pub fn make_room(&mut self, calls: usize)
+        ensures { self.new ≡ self.old }
+    {
+        self.timeline.make_room(calls, self.seats.len());
+    }
+
     /// How many seats there are.
     pub fn seats(&self) -> usize
         ensures { result ≡ length self.now.seats }

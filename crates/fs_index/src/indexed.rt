@@ -75,6 +75,20 @@ impl IndexedTimeline {
         Ok(())
     }
 
+    /// Makes room at once for the entries of so many calls more, of which so many are under way at a time, where there is
+    /// memory for it: a hint, by which no place is reserved and no entry changes.
+    pub fn make_room(&mut self, calls: usize, under_way: usize)
+        ensures { self.new ≡ self.old }
+    {
+        // A call that begins reserves three places in each of these, of which it fills one.
+        let room = calls.saturating_add(under_way.saturating_mul(3));
+        let room = room.saturating_add(self.reserved);
+        let _begun = self.begun.reserve(room);
+        let _places = self.places.reserve(room);
+        let _order = self.order.reserve(room);
+        self.timeline.make_room(calls.saturating_mul(3));
+    }
+
     /// Appends an entry in a reserved place, which takes no memory.
     #[inline(always)]
     pub fn push(&mut self, entry: Entry)

@@ -61,12 +61,16 @@ pub(crate) struct CountedText {
     pub(crate) counts: Counts,
 }
 
+/// For how many bytes an entry the text of a run has room before its first line, where there is memory for it.
+const LINE_ROOM: usize = 32;
+
 /// A journal's header line, and a line for each entry. The entries are counted on the way.
 fn journal_text(alloc: Global, entries: &[Entry]) -> Result<CountedText, AllocError>
     ensures text { IfOk result (λ made. made.text.items ≡ journal_text entries.now) }
     ensures counts { IfOk result (λ made. AreCounts made.counts entries.now) }
 {
     let mut text = Vec::from_slice(alloc, b"atomfs-journal 1\n")?;
+    let _room = text.reserve(entries.len().saturating_mul(LINE_ROOM));
     let mut begun = 0;
     let mut committed = 0;
     let mut returned = 0;

@@ -74,6 +74,7 @@ pub(crate) fn play(alloc: Global, script: &Script, schedule: Schedule) -> Result
     let Ok(mut play) = Play::new(alloc, script.lists.as_slice().len()) else {
         return Err(RunFault::OutOfMemory);
     };
+    play.core.make_room(count_calls(script.lists.as_slice()));
     match play.run(alloc, script, schedule) {
         Ok(()) => Ok(play),
         Err(fault) => Err(fault),

@@ -49,6 +49,14 @@ impl Timeline {
         Ok(())
     }
 
+    /// Makes room for this many entries more in one request, where there is memory for it: a hint, by which no place is
+    /// reserved and no entry changes.
+    pub fn make_room(&mut self, count: usize)
+        ensures { self.new ≡ self.old }
+    {
+        let _room = self.list.reserve(self.places.saturating_add(count));
+    }
+
     /// Appends an entry in a reserved place, which takes no memory.
     pub fn push(&mut self, entry: Entry)
         requires { 0 < self.old.reserved }
