@@ -20,9 +20,16 @@ use fs_observe::{Named, NoPlace, Observer, Opened, Stamp};
 use fs_seq::SeqTree;
 use fs_timeline::Timeline;
 use std::alloc::{AllocError, Global};
+use std::hint::spin_loop;
 use std::marker::PhantomData;
 use std::sync::ledger::{Blank, Share};
 use std::sync::{Condvar, Mutex, MutexGuard, Wait};
+
+/// How often a thread looks for the lock of an event before it sleeps for it, and after how many pauses of the processor it
+/// looks for the first time.
+const LOOKS: u32 = 6;
+
+const PAUSES: u32 = 64;
 
 /// That the tree's ledger has 2^63 parts.
 #[derive(Drop)]
@@ -74,11 +81,35 @@ impl<N: Named> AtomFs<N> {
         })
     }
 
+    /// The lock. Whoever has it has it for one event, and a sleep takes longer than hundreds of them. So a thread that
+    /// finds it taken first looks again some times, each time after twice as many pauses, and sleeps for it only then.
+    #[inline(always)]
+    fn lock<R: Wait>(&self, rt: &R) -> MutexGuard<'_, Desk<N>> {
+        match self.desk.try_lock() {
+            Some(desk) => desk,
+            None => self.lock_taken(rt),
+        }
+    }
+
+    /// The same where another thread has the lock just now.
+    #[inline(never)]
+    fn lock_taken<R: Wait>(&self, rt: &R) -> MutexGuard<'_, Desk<N>> {
+        for turn in 0..LOOKS {
+            for _ in 0..(PAUSES << turn) {
+                spin_loop();
+            }
+            if let Some(desk) = self.desk.try_lock() {
+                return desk;
+            }
+        }
+        self.desk.lock(rt)
+    }
+
     /// One more seat, with a part of the ledger. The only error is out of memory.
     fn seat<R: Wait>(&self, rt: &R) -> Result<(SeatNo, Share<N>), AllocError>
         ensures { IfOk result (λ made. (made.1.parts ≡ 1) × (made.1.amount ≡ 0)) }
     {
-        let mut desk = self.desk.lock(rt);
+        let mut desk = self.lock(rt);
         let made = desk.seat();
         MutexGuard::unlock(desk);
         made
@@ -101,7 +132,7 @@ impl<N: Named> AtomFs<N> {
 
     /// An observer that was told nothing yet. The error is that none of the 64 reader places is free, or no memory.
     pub fn observer<R: Wait>(&self, rt: &R) -> Result<Observer<N>, NoPlace> {
-        let mut desk = self.desk.lock(rt);
+        let mut desk = self.lock(rt);
         let observer = desk.observer();
         MutexGuard::unlock(desk);
         observer
@@ -115,7 +146,7 @@ impl<N: Named> AtomFs<N> {
         seat: SeatNo,
         call: &Call,
     ) -> Result<CallNo, Refusal> {
-        let mut desk = self.desk.lock(rt);
+        let mut desk = self.lock(rt);
         let begun = desk.begin(alloc, seat, call);
         MutexGuard::unlock(desk);
         begun
@@ -128,7 +159,7 @@ impl<N: Named> AtomFs<N> {
     /// a node held after that says so anew.
     #[inline(never)]
     fn lock_free<R: Wait>(&self, rt: &R, node: NodeNo) -> MutexGuard<'_, Desk<N>> {
-        let desk = self.desk.lock(rt);
+        let desk = self.lock(rt);
         self.freed
             .wait_while(rt, desk, |desk| desk.sleeps_for(node))
     }
@@ -148,7 +179,7 @@ impl<N: Named> AtomFs<N> {
         ensures room { mine.new.amount < 2 ^ 64 }
     {
         let mut desk = match wanted {
-            None => self.desk.lock(rt),
+            None => self.lock(rt),
             Some(node) => self.lock_free(rt, node),
         };
         let stepped = desk.step(seat, mine);
@@ -171,7 +202,7 @@ impl<N: Named> AtomFs<N> {
     ) -> (usize, Option<Stamp<N>>)
         ensures { IfSome result.1 (λ stamp. IsListed stamp.start stamp.list result.0 call.now reply.now) }
     {
-        let mut desk = self.desk.lock(rt);
+        let mut desk = self.lock(rt);
         let told = desk.tell(rt, alloc, number, call, reply);
         MutexGuard::unlock(desk);
         told
@@ -181,7 +212,7 @@ impl<N: Named> AtomFs<N> {
     pub fn first<R: Wait>(&self, rt: &R) -> Stamp<N>
         ensures { result.list ≡ [] }
     {
-        let desk = self.desk.lock(rt);
+        let desk = self.lock(rt);
         let stamp = desk.board.first();
         MutexGuard::unlock(desk);
         stamp
