@@ -72,7 +72,8 @@ class Program(Preloaded):
         words, given = command.split(), stored(name)
         whole, growths, threads = self.whole(words, given)
         self.same(f"atomfs {command} < {name}", whole, Outcome(0, output))
-        # A thread that has no memory to start is no worker. Some growths can be done without: those for a smaller block, and for the paths that are kept.
+        # A thread that has no memory to start is no worker. Some growths can be done without: those for a smaller block, for the paths that are kept, and for
+        # the room that a run makes at once.
         told = [NO_MEMORY, NO_WORKER] if threads else [NO_MEMORY]
         self.tell(f"growths of atomfs {command} < {name}", self.without("REFUSE", growths, words, given), told, whole)
 
