@@ -37,7 +37,7 @@ pub exchanged-other : (p q k : Key) → after_prefix p k ≡ None → after_pref
 exchanged-other p q k not_p not_q = ap (with_prefix q (moved_key q p k)) not_p ∙ ap (with_prefix p k) not_q
 
 -- a key exchanged twice is the same again
-exchanged-twice : (p q k : Key) → Beside p q → exchanged_key p q (exchanged_key p q k) ≡ k
+pub exchanged-twice : (p q k : Key) → Beside p q → exchanged_key p q (exchanged_key p q k) ≡ k
 exchanged-twice p q k apart = by_case (after_prefix p k) (after_prefix q k) refl refl
   where
     by_case : (a b : Option Key) → after_prefix p k ≡ a → after_prefix q k ≡ b → exchanged_key p q (exchanged_key p q k) ≡ k

@@ -125,18 +125,18 @@ walk-unlinked g g' d n x once walked cut = by_last (λ k. walk g' k ≡ outside 
     ∙ ap (λ o. outside o (longer (after_prefix (d ++ x ∷ []) k) y (same_key (d ++ x ∷ []) (k ++ y ∷ [])))) (sym (walk-snoc g 0 k y))
     ∙ ap (outside (walk g (k ++ y ∷ []))) (sym (after_prefix-snoc (d ++ x ∷ []) k y)))
 
--- steps elsewhere are as before
-same_steps : (g g' : Slots) (n : ℕ) (y : Name) (o : Option ℕ) → ((j : ℕ) → j ≢ n → child g' j y ≡ child g j y) → (o ≡ Some n → ⊥) → on_from g' y o ≡ on_from g y o
+-- a step from where the name leads as before is as before
+pub same_step : (g g' : Slots) (y : Name) (o : Option ℕ) → ((j : ℕ) → o ≡ Some j → child g' j y ≡ child g j y) → on_from g' y o ≡ on_from g y o
 unfolding on_from
-same_steps g g' n y None same not_n = refl
-same_steps g g' n y (Some j) same not_n = same j (λ e. not_n (ap Some e))
+same_step g g' y None same = refl
+same_step g g' y (Some j) same = same j refl
 
 -- one name more, after a name was put in
 link_step : (g g' : Slots) (d : Key) (n : ℕ) (x : Name) (s : ℕ) → Once g 0 → walk g d ≡ Some n → ((r : Key) → walk_from g s r ≡ Some n → ⊥) → Links g g' n x s → (k : Key) (y : Name) (a : Option Key) (o : Option ℕ) → walk g k ≡ o
     → on_from g' y (within g s o a) ≡ within g s (on_from g y o) (longer a y (same_key (d ++ x ∷ []) (k ++ y ∷ [])))
 unfolding on_from
 link_step g g' d n x s once walked apart new k y (Some r) o w =
-    same_steps g g' n y (walk_from g s r) (λ j ne. new.elsewhere j y ne) (apart r) ∙ sym (walk-snoc g s r y)
+    same_step g g' y (walk_from g s r) (λ j at. new.elsewhere j y (λ e. apart r (at ∙ ap Some e))) ∙ sym (walk-snoc g s r y)
 link_step g g' d n x s once walked apart new k y None None w =
     ap (λ b. within g s None (cond {A = Option Key} b (Some []) None)) (sym (apart_keys g d k n x y None walked w (λ f. absurd (cc))))
 link_step g g' d n x s once walked apart new k y None (Some j) w =

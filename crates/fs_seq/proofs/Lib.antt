@@ -4,6 +4,9 @@ pub mod Moving
 pub mod RenameFaults
 pub mod Renamed
 pub mod Rewiring
+pub mod Swapping
+pub mod ExchangeFaults
+pub mod Exchanged
 pub mod GraphLemmas
 pub mod Edits
 pub mod SearchLemmas

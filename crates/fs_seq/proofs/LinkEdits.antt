@@ -46,7 +46,7 @@ put_by : (x : Name) (n : ℕ) (l : Name × ℕ) (links : List (Name × ℕ)) (o 
 put_by x n l links o e = ap (λ r. by_order r ((x, n) ∷ l ∷ links) ((l.0, n) ∷ links) (l ∷ put name_cmp x n links)) e
 
 -- among rising links, to write a name anew where it stands is to put it
-set_rising : (x : Name) (n : ℕ) (links : List (Name × ℕ)) (i : ℕ) → T (is_sorted name_cmp links) → name_of (slice_get links i) ≡ Some x → slice_set links i (x, n) ≡ put name_cmp x n links
+pub set_rising : (x : Name) (n : ℕ) (links : List (Name × ℕ)) (i : ℕ) → T (is_sorted name_cmp links) → name_of (slice_get links i) ≡ Some x → slice_set links i (x, n) ≡ put name_cmp x n links
 set_rising x n [] i sorted e = absurd (cc)
 set_rising x n (l ∷ links) zero sorted e =
     let at : l.0 ≡ x = cc in
@@ -83,7 +83,7 @@ remove_named x (l ∷ links) (suc i) sorted e =
     ∙ sym (ap (λ o. cond {A = List (Name × ℕ)} (not (is_eq o)) (l ∷ without x links) (without x links)) below)
 
 -- at all other places the links are as before
-named_elsewhere : (links : List (Name × ℕ)) (i j : ℕ) (l : Name × ℕ) → i ≢ j → slice_get (slice_set links j l) i ≡ slice_get links i
+pub named_elsewhere : (links : List (Name × ℕ)) (i j : ℕ) (l : Name × ℕ) → i ≢ j → slice_get (slice_set links j l) i ≡ slice_get links i
 named_elsewhere [] i j l other = refl
 named_elsewhere (m ∷ links) zero zero l other = absurd (other refl)
 named_elsewhere (m ∷ links) zero (suc j) l other = refl
@@ -91,7 +91,7 @@ named_elsewhere (m ∷ links) (suc i) zero l other = refl
 named_elsewhere (m ∷ links) (suc i) (suc j) l other = named_elsewhere links i j l (λ e. other (ap suc e))
 
 -- names that differ stand at places that differ
-other_place : (links : List (Name × ℕ)) (x z : Name) (i j : ℕ) → x ≢ z → IsNameAt links x i → IsNameAt links z j → i ≢ j
+pub other_place : (links : List (Name × ℕ)) (x z : Name) (i j : ℕ) → x ≢ z → IsNameAt links x i → IsNameAt links z j → i ≢ j
 other_place links x z i j apart at to same =
     let both : Some x ≡ Some z = sym at.named ∙ ap (λ k. name_of (slice_get links k)) same ∙ to.named in
     apart (let e : x ≡ z = cc in e)

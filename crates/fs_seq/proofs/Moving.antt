@@ -13,7 +13,7 @@ use Rattle.fs_calls.proofs.KeyLemmas.{after_prefix-itself}
 use Rattle.fs_calls.proofs.RenamedTrees.{after_move, look-renamed, sorted-renamed}
 
 -- a key with names behind it is longer
-no_nil : (d : Key) (x : Name) (r : Key) → (d ++ x ∷ []) ++ r ≡ d → ⊥
+pub no_nil : (d : Key) (x : Name) (r : Key) → (d ++ x ∷ []) ++ r ≡ d → ⊥
 no_nil d x r e = let h = ap length e in omega (arith, h, length-append (d ++ x ∷ []) r, length-append d (x ∷ []))
 
 -- walks that never come to n are the same in both graphs
@@ -27,7 +27,7 @@ same_walks g h n j (y ∷ k) same never =
     ] refl
 
 -- a place is a node, and no place is none
-placed : (o : Option Place) → is_some (node_of o) ≡ is_some o
+pub placed : (o : Option Place) → is_some (node_of o) ≡ is_some o
 placed None = refl
 placed (Some (Dir links)) = refl
 placed (Some (File bytes)) = refl

@@ -10,7 +10,7 @@ use Rattle.fs_seq.specs.declared.nodes.Node.{Node}
 use Rattle.fs_seq.specs.declared.nodes.Node.TheVariants as nodes
 use Rattle.fs_seq.specs.code.Nodes.{verdict}
 use Rattle.fs_seq.specs.code.Slots.{Place, Dir, File, Slots, place_at, links_of, node_of, links_at, child, node_at}
-use Rattle.fs_seq.specs.code.Nodes.{pairs, place, slot_place, graph, number_of, IsNameAt, BelongsAt}
+use Rattle.fs_seq.specs.code.Nodes.{pairs, place, slot_place, graph, number_of, name_of, IsNameAt, BelongsAt}
 
 -- the place of a number is that of its slot
 pub place_of_slot : (slots : List (Option Node)) (n : ℕ) → place_at (map slot_place slots) n ≡ slot_place (get_or slots n None)
@@ -65,6 +65,12 @@ pub number_read : (links : List Link) (i : ℕ) (l : Link) → i < length (pairs
 number_read [] i l h e = absurd (omega arith)
 number_read (m ∷ links) zero l h e = ap (λ (z : Link). Some z.node) (sym e)
 number_read (m ∷ links) (suc i) l h e = number_read links i l (omega arith) e
+
+-- and its name
+pub name_read : (links : List Link) (i : ℕ) (l : Link) → i < length (pairs links) → l ≡ get_or links i l → name_of (slice_get (pairs links) i) ≡ Some l.name
+name_read [] i l h e = absurd (omega arith)
+name_read (m ∷ links) zero l h e = ap (λ (z : Link). Some z.name) (sym e)
+name_read (m ∷ links) (suc i) l h e = name_read links i l (omega arith) e
 
 -- there are as many pairs as links
 pub length-pairs : (links : List Link) → length (pairs links) ≡ length links

@@ -24,6 +24,7 @@ use Rattle.fs_calls.specs.declared.errno.Errno.TheVariants.{Enoent, Enotdir, Eis
 use Rattle.fs_calls.proofs.KeyLemmas.{no_true, never_same, is_same_refl, is_same_exact, parent_and_last}
 use Rattle.fs_seq.proofs.Resolving.{walk_on, walk_off, seen_at, seen_none, child-find}
 use Rattle.fs_seq.proofs.Parents.{parents_found}
+use Rattle.fs_seq.proofs.Replies.{fault_by_row}
 use Rattle.fs_calls.proofs.FaultLemmas.{all_none, or_first, or_second}
 
 -- ---- kinds
@@ -43,16 +44,6 @@ pub place_row : (moved there : Option Shape) (room : Bool) → is_missing moved 
 place_row moved there room h = ap (λ b. or_else (check b Enoent) (place_fault moved there room)) h
 
 -- ---- the rows
-
--- an error that the paths decide is the first one
-pub fault_text : (t : Tree) (p q : Key) (e : Errno) → by_text (form (Rename p q)) ≡ Some e → fault t (Rename p q) ≡ Some e
-unfolding fault
-fault_text t p q e h = ap (λ o. or_else o (row t (Rename p q))) h
-
--- without one, the first error is that of what is read
-fault_row : (t : Tree) (p q : Key) (o : Option Errno) → by_text (form (Rename p q)) ≡ None → row t (Rename p q) ≡ o → fault t (Rename p q) ≡ o
-unfolding fault
-fault_row t p q o h found = ap (λ z. or_else z (row t (Rename p q))) h ∙ found
 
 -- the errors of a rename, by all that is read
 row_by : (t : Tree) (p q : Key) (source dest : Option Errno) (moved there : Option Shape) (one_path one_parent : Bool) (dir : Option Shape)
@@ -119,15 +110,15 @@ module _ (g : Slots) (forest : IsForest g) (p q : Key) (text : by_text (form (Re
 
   -- the error of the old path's parent
   pub fault_source : (e : Errno) → parents_resolution (tree_of g) p ≡ Some e → fault (tree_of g) (Rename p q) ≡ Some e
-  fault_source e h = fault_row (tree_of g) p q (Some e) text (row_by (tree_of g) p q (Some e) _ _ _ _ _ _ h refl refl refl refl refl refl)
+  fault_source e h = fault_by_row (tree_of g) (Rename p q) (Some e) text (row_by (tree_of g) p q (Some e) _ _ _ _ _ _ h refl refl refl refl refl refl)
 
   -- the error of the new path's parent
   pub fault_dest : (e : Errno) → parents_resolution (tree_of g) p ≡ None → parents_resolution (tree_of g) q ≡ Some e → fault (tree_of g) (Rename p q) ≡ Some e
-  fault_dest e h f = fault_row (tree_of g) p q (Some e) text (row_by (tree_of g) p q None (Some e) _ _ _ _ _ h f refl refl refl refl refl)
+  fault_dest e h f = fault_by_row (tree_of g) (Rename p q) (Some e) text (row_by (tree_of g) p q None (Some e) _ _ _ _ _ h f refl refl refl refl refl)
 
   -- nothing at the old path
   pub fault_missing : parents_resolution (tree_of g) p ≡ None → parents_resolution (tree_of g) q ≡ None → tree_shapes (tree_of g) p ≡ None → fault (tree_of g) (Rename p q) ≡ Some Enoent
-  fault_missing h f none = fault_row (tree_of g) p q (Some Enoent) text (row_by (tree_of g) p q None None None _ _ _ _ h f none refl refl refl refl)
+  fault_missing h f none = fault_by_row (tree_of g) (Rename p q) (Some Enoent) text (row_by (tree_of g) p q None None None _ _ _ _ h f none refl refl refl refl)
 
   -- what was looked up has a directory as its parent
   pub looked_up : (r : Key) (spot : Spot) → LooksUp g r (Ok spot) → parents_resolution (tree_of g) r ≡ None
@@ -160,7 +151,7 @@ module _ (g : Slots) (forest : IsForest g) (p q : Key) (text : by_text (form (Re
     fault_there : (there : Option Shape) (one_path one_parent : Bool) (dest : Option Shape) (o : Option Errno) → parents_resolution (tree_of g) q ≡ None
         → is_same p q ≡ one_path → tree_shapes (tree_of g) q ≡ there → is_same (parent_of p) (parent_of q) ≡ one_parent → tree_shapes (tree_of g) (parent_of q) ≡ dest → rename_fault None None (shape_at g n) one_path there (has_room one_parent dest) ≡ o → fault (tree_of g) (Rename p q) ≡ o
     fault_there there one_path one_parent dest o h e f k l found =
-        fault_row (tree_of g) p q o text (row_by (tree_of g) p q None None (shape_at g n) there one_path one_parent dest (looked_up p (Taken dir i n) at) h seen_from e f k l ∙ found)
+        fault_by_row (tree_of g) (Rename p q) o text (row_by (tree_of g) p q None None (shape_at g n) there one_path one_parent dest (looked_up p (Taken dir i n) at) h seen_from e f k l ∙ found)
 
     -- and the same at the new path
     pub stays : (dir2 i2 n2 : ℕ) → IsTaken g q dir2 i2 n2 → n2 ≡ n → (fault (tree_of g) (Rename p q) ≡ None) × (p ≡ q)

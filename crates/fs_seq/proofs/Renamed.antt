@@ -1,32 +1,33 @@
 -- What a rename answers and leaves.
-use Rattle.std.proofs.Common.{◌≡◌, ◌≢◌, ℕ, ◌≤◌, Bool, true, false, cond, not, ◌&&◌, List, [], ◌∷◌, ◌++◌, length, Some, None, Option, is_some, Ok, refl, sym, ap, subst, ◌∙◌, arith, IsTrue}
+use Rattle.std.proofs.Common.{◌≡◌, ◌≢◌, ℕ, ◌≤◌, Bool, true, false, cond, not, ◌&&◌, List, length, Some, None, Option, is_some, Ok, refl, sym, ap, subst, ◌∙◌, IsTrue}
 use Rattle.std.specs.Prelude.{insert, remove, slice_set}
 use Rattle.std.specs.FinMap.{find, put, is_sorted}
 use Rattle.fs_names.specs.Names.{Name, name_cmp, same_name}
-use Rattle.fs_names.specs.Keys.{Key, is_root, parent_of, last_of}
+use Rattle.fs_names.specs.Keys.{Key, parent_of, last_of}
 use Rattle.fs_calls.specs.Tree.{Tree, renamed, Dir as IsDir}
 use Rattle.fs_calls.specs.Sights.{is_missing}
 use Rattle.fs_calls.specs.Forms.{form, by_text}
 use Rattle.fs_calls.specs.Outcomes.{fault, change}
 use Rattle.fs_seq.specs.Memory.{needs_memory}
 use Rattle.fs_seq.specs.code.Slots.{Dir, Slots, place_at, node_of, links_of, links_at, walk, node_at, tree_of, IsForest, Sets}
-use Rattle.fs_seq.specs.code.Nodes.{without, IsNameAt, IsTaken, IsFree}
+use Rattle.fs_seq.specs.code.Nodes.{without, IsNameAt, IsTaken, IsFree, IsAt}
 use Rattle.fs_seq.specs.code.Effects.{Answers}
-use Rattle.fs_seq.specs.code.Renaming.{IsAt, Moves, Plans, Exchanges, Transfers}
-use Rattle.fs_seq.specs.declared.rename.Entry.{Entry}
+use Rattle.fs_seq.specs.code.Renaming.{Moves, Plans, Displaces, Transfers}
+use Rattle.fs_seq.specs.declared.nodes.Entry.{Entry}
 use Rattle.fs_seq.specs.declared.rename.Plan.{Plan}
 use Rattle.fs_seq.specs.declared.rename.Plan.TheVariants.{Stay, Onto, Within, Across}
 use Rattle.fs_calls.specs.declared.call.Call.TheVariants.{Rename}
 use Rattle.fs_calls.specs.declared.reply.Reply.TheVariants.{Done, Failed}
 use Rattle.fs_calls.specs.declared.errno.Errno.{Errno}
 use Rattle.fs_calls.specs.Sights.{is_same}
-use Rattle.fs_calls.proofs.KeyLemmas.{never_same, is_same_refl, parent_and_last}
+use Rattle.fs_calls.proofs.KeyLemmas.{never_same, is_same_refl}
 use Rattle.fs_seq.proofs.Resolving.{seen_none}
 use Rattle.fs_calls.proofs.FaultLemmas.{Renames, by_text_none, rename_renames}
 use Rattle.fs_seq.proofs.ForestTrees.{forest_tree}
-use Rattle.fs_seq.proofs.Rewiring.{Crosses, Turns, Rewires, which, crossed, turned_in, renamed_free, renamed_onto, find-without, rising-without}
+use Rattle.fs_seq.proofs.Rewiring.{Crosses, Turns, Rewires, which, crossed, turned_in, renamed_free, renamed_onto, find-without, rising-without, other_last}
 use Rattle.fs_seq.proofs.LinkEdits.{set_in_place, set_then_removed}
 use Rattle.fs_seq.proofs.RenameFaults.{new_named, taken_walk, free_walk}
+use Rattle.fs_seq.proofs.Spots.{has_names}
 use Rattle.fs_seq.proofs.Replies.{works, fails, answers, needs}
 
 -- ---- replies
@@ -81,11 +82,6 @@ allowed g p q (Onto entry victim) h = h.0.allowed
 allowed g p q (Within entry) h = h.0.allowed
 allowed g p q (Across entry dir i) h = h.0.allowed
 
--- a path that is not the root has a name
-has_names : (q : Key) → is_root q ≡ false → 1 ≤ length q
-has_names [] e = absurd (cc)
-has_names (x ∷ q) e = omega arith
-
 -- a rename that is done has a new path with a name
 pub new_path_named : (g : Slots) (p q : Key) (plan : Plan) → IsForest g → Plans g p q (Ok plan) → 1 ≤ length q
 new_path_named g p q plan forest h = has_names q (new_named g forest p q (by_text_none (tree_of g) (Rename p q) (allowed g p q plan h)))
@@ -102,12 +98,6 @@ module _ (g : Slots) (forest : IsForest g) (p q : Key) (may : Moves g p q) where
   -- the number of a node at a path has a place
   pub node_placed : (dir i n : ℕ) → IsTaken g q dir i n → is_some (place_at g n) ≡ true
   node_placed dir i n to = forest.inside q n (taken_walk g forest p q text q dir i n renames.new_named to)
-
-  -- in one directory the last names differ
-  other_last : (dir : ℕ) → walk g (parent_of p) ≡ Some dir → walk g (parent_of q) ≡ Some dir → last_of p ≢ last_of q
-  other_last dir from to same =
-      let parents : parent_of p ≡ parent_of q = forest.once (parent_of p) (parent_of q) dir from to in
-      may.differ (parent_and_last p renames.named ∙ (λ i. parents i ++ same i ∷ []) ∙ sym (parent_and_last q renames.new_named))
 
   -- ---- within a directory
 
@@ -153,10 +143,10 @@ module _ (g : Slots) (forest : IsForest g) (p q : Key) (may : Moves g p q) where
           let leading_here : Sets g between entry.dir (Some (Dir (slice_set (links_at g entry.dir) victim.place (last_of q, entry.node)))) = subst (λ d. Sets g between d (Some (Dir (slice_set (links_at g d) victim.place (last_of q, entry.node))))) same leading in
           let stands_here : IsNameAt (links_at g entry.dir) (last_of q) victim.place = subst (λ d. IsNameAt (links_at g d) (last_of q) victim.place) same to.stands in
           let one : Turns g unlinked entry.dir (last_of p) (last_of q) entry.node = turns g between unlinked entry.dir entry.place victim.place (last_of p) (last_of q) entry.node (forest.rising entry.dir)
-          (other_last entry.dir at.parent (to.parent ∙ ap Some same)) leading_here unlinking at.stands stands_here in
+          (other_last g forest p q renames.named renames.new_named may.differ entry.dir at.parent (to.parent ∙ ap Some same)) leading_here unlinking at.stands stands_here in
           subst (λ d. Rewires g unlinked entry.dir (last_of p) d (last_of q) entry.node) (sym same) (turned_in g unlinked forest.rising entry.dir (last_of p) (last_of q) entry.node dir_node dir_placed one)
 
-      pub moved_onto : (g' : Slots) (x : Name) → last_of q ≡ x → Exchanges g g' entry victim x → Answers g g' (Rename p q) Done
+      pub moved_onto : (g' : Slots) (x : Name) → last_of q ≡ x → Displaces g g' entry victim x → Answers g g' (Rename p q) Done
       moved_onto g' x last edit =
           let leading : Sets g edit.between victim.dir (Some (Dir (slice_set (links_at g victim.dir) victim.place (last_of q, entry.node)))) = subst (λ y. Sets g edit.between victim.dir (Some (Dir (slice_set (links_at g victim.dir) victim.place (y, entry.node))))) (sym last) edit.leading in
           let rewires : Rewires g edit.unlinked entry.dir (last_of p) victim.dir (last_of q) entry.node =

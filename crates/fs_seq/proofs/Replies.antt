@@ -1,7 +1,9 @@
 -- What a call answers, by its errors, and what it leaves.
 use Rattle.std.proofs.Common.{◌≡◌, true, not, ◌&&◌, Some, None, Option, is_some, Result, Ok, Err, IfOk, OnOk, OnErr, IsTrue, refl, sym, ap, subst, ◌∙◌}
+use Rattle.fs_names.specs.Failures.{or_else}
 use Rattle.fs_calls.specs.Tree.{Tree}
-use Rattle.fs_calls.specs.Outcomes.{fault, success, change, reply, after, replied, if_sound}
+use Rattle.fs_calls.specs.Forms.{form, by_text}
+use Rattle.fs_calls.specs.Outcomes.{row, fault, success, change, reply, after, replied, if_sound}
 use Rattle.fs_seq.specs.Memory.{takes_memory, needs_memory}
 use Rattle.fs_seq.specs.code.Slots.{Slots, tree_of, IsForest}
 use Rattle.fs_seq.specs.code.Effects.{Gives, Answers}
@@ -9,6 +11,16 @@ use Rattle.fs_calls.specs.declared.call.Call.{Call}
 use Rattle.fs_calls.specs.declared.reply.Reply.{Reply}
 use Rattle.fs_calls.specs.declared.reply.Reply.TheVariants.{Failed}
 use Rattle.fs_calls.specs.declared.errno.Errno.{Errno}
+
+-- an error that the paths of a call decide is its first one
+pub fault_by_paths : (t : Tree) (call : Call) (e : Errno) → by_text (form call) ≡ Some e → fault t call ≡ Some e
+unfolding fault
+fault_by_paths t call e h = ap (λ o. or_else o (row t call)) h
+
+-- without one, its first error is that of what is read
+pub fault_by_row : (t : Tree) (call : Call) (o : Option Errno) → by_text (form call) ≡ None → row t call ≡ o → fault t call ≡ o
+unfolding fault
+fault_by_row t call o h found = ap (λ z. or_else z (row t call)) h ∙ found
 
 -- a call without an error
 pub works : (g g' : Slots) (found : Option Errno) (well : Reply) (new : Tree) → found ≡ None → tree_of g' ≡ new → IsForest g' → Gives g g' found well new well

@@ -6,7 +6,7 @@ use Rattle.std.specs.Cmp.{eq_by_cmp_equiv}
 use Rattle.std.proofs.lemmas.List.{get_or-set_same, get_or-set_other}
 use Rattle.std.proofs.lemmas.Float.{T_from_true}
 use Rattle.fs_names.specs.Names.{Name, name_cmp, same_name}
-use Rattle.fs_names.specs.Keys.{Key, after_prefix, parent_of, last_of}
+use Rattle.fs_names.specs.Keys.{Key, after_prefix, is_root, parent_of, last_of}
 use Rattle.fs_names.proofs.Lemmas.{name_total, name_exact, same_name_exact}
 use Rattle.fs_calls.specs.Tree.{Dir as IsDir, look, renamed}
 use Rattle.fs_seq.specs.code.Slots.{Place, Dir, Slots, place_at, links_of, node_of, links_at, child, walk, node_at, tree_of, IsForest, Sets}
@@ -25,7 +25,7 @@ names_symm : (x y : Name) → same_name x y ≡ same_name y x
 names_symm x y = (eq_by_cmp_equiv name_total).symm x y
 
 -- names that differ are not the same
-other_name : (x y : Name) → x ≢ y → same_name x y ≡ false
+pub other_name : (x y : Name) → x ≢ y → same_name x y ≡ false
 other_name x y h = no_true (same_name x y) (λ same. h (same_name_exact x y same))
 
 -- a choice by a negated test is the other choice
@@ -74,6 +74,12 @@ without-put x z s links apart rising =
     ∙ ap (cond (same_name x y) None) (find-put_link z y s links)
     ∙ swapped (same_name x y) (same_name z y) None (Some s) (find name_cmp y links) (λ a b. apart (same_name_exact x y a ∙ sym (same_name_exact z y b)))
     ∙ sym (find-put_link z y s (without x links) ∙ ap (cond (same_name z y) (Some s)) (find-without x y links)))
+
+-- in one directory, the last names of two paths differ
+pub other_last : (g : Slots) → IsForest g → (p q : Key) → is_root p ≡ false → is_root q ≡ false → p ≢ q → (dir : ℕ) → walk g (parent_of p) ≡ Some dir → walk g (parent_of q) ≡ Some dir → last_of p ≢ last_of q
+other_last g forest p q named other_named differ dir from to same =
+    let parents : parent_of p ≡ parent_of q = forest.once (parent_of p) (parent_of q) dir from to in
+    differ (parent_and_last p named ∙ (λ i. parents i ++ same i ∷ []) ∙ sym (parent_and_last q other_named))
 
 -- ---- places
 

@@ -29,6 +29,11 @@ pub not_root : (p : Key) → 0 < length p → is_root p ≡ false
 not_root [] h = absurd (omega arith)
 not_root (x ∷ p) h = refl
 
+-- a path that is not the root has a name
+pub has_names : (p : Key) → is_root p ≡ false → 0 < length p
+has_names [] e = absurd (cc)
+has_names (x ∷ p) e = omega arith
+
 -- a path without names is the root
 pub root : (p : Key) → length p ≡ 0 → is_root p ≡ true
 root [] e = refl

@@ -1,7 +1,7 @@
 -- Which calls change nothing.
 use Rattle.std.specs.Prelude.{Bool, true, false}
 use Rattle.fs_calls.specs.declared.call.Call.{Call}
-use Rattle.fs_calls.specs.declared.call.Call.TheVariants.{Mkdir, Mknod, Unlink, Rmdir, Rename, Stat, Readdir, Read, Write, Truncate}
+use Rattle.fs_calls.specs.declared.call.Call.TheVariants.{Mkdir, Mknod, Unlink, Rmdir, Rename, Exchange, Stat, Readdir, Read, Write, Truncate}
 
 -- a call that asks, whatever the tree is: a stat, a readdir or a read
 abbrev pub is_look : Call → Bool
@@ -10,6 +10,7 @@ is_look (Mknod p) = false
 is_look (Unlink p) = false
 is_look (Rmdir p) = false
 is_look (Rename p q) = false
+is_look (Exchange p q) = false
 is_look (Stat p) = true
 is_look (Readdir p) = true
 is_look (Read p off count) = true

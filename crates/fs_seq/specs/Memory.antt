@@ -6,7 +6,7 @@ use Rattle.fs_calls.specs.Sights.{tree_shapes, is_missing, has_any, has_entries,
 use Rattle.fs_calls.specs.Outcomes.{fault}
 use Rattle.fs_calls.specs.Sights.{is_same}
 use Rattle.fs_calls.specs.declared.call.Call.{Call}
-use Rattle.fs_calls.specs.declared.call.Call.TheVariants.{Mkdir, Mknod, Unlink, Rmdir, Rename, Stat, Readdir, Read, Write, Truncate}
+use Rattle.fs_calls.specs.declared.call.Call.TheVariants.{Mkdir, Mknod, Unlink, Rmdir, Rename, Exchange, Stat, Readdir, Read, Write, Truncate}
 
 -- a call without an error takes memory where it adds an entry to a directory, makes a file longer, or replies names or bytes
 abbrev pub takes_memory : Tree → Call → Bool
@@ -15,6 +15,7 @@ takes_memory t (Mknod p) = true
 takes_memory t (Unlink p) = false
 takes_memory t (Rmdir p) = false
 takes_memory t (Rename p q) = is_missing (tree_shapes t q) && not (is_same (parent_of p) (parent_of q))
+takes_memory t (Exchange p q) = false
 takes_memory t (Stat p) = false
 takes_memory t (Readdir p) = has_entries (tree_shapes t p)
 takes_memory t (Read p off count) = has_any (take count (drop off (bytes_of (tree_shapes t p))))

@@ -3,3 +3,4 @@ pub mod Slots
 pub mod Nodes
 pub mod Effects
 pub mod Renaming
+pub mod Exchanging

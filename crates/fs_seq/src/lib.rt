@@ -4,11 +4,12 @@
 //! it leaves the tree as it was, and it fails so only for a call that has to allocate (`specs/Memory.antt`).
 //!
 //! Enter at `SeqTree::new` and `SeqTree::apply`. What a call replies and leaves is defined in `fs_calls`, whose types are
-//! handed on here. The modules are by calls: `queries` (stat, readdir, read), `create`, `remove`, `rename` and `write`,
-//! over the slab of `nodes`. `specs/code/` says how this slab is a tree, and changes no meaning.
+//! handed on here. The modules are by calls: `queries` (stat, readdir, read), `create`, `remove`, `rename`, `exchange` and
+//! `write`, over the slab of `nodes`. `specs/code/` says how this slab is a tree, and changes no meaning.
 #![tactic(auto)]
 
 mod create;
+mod exchange;
 mod nodes;
 mod queries;
 mod remove;

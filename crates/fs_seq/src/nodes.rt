@@ -6,7 +6,7 @@ ghost use Rattle.slab.specs.Slab.{ContainsKey, HasRoomFor};
 ghost use Rattle.fs_names.specs.Names.{name_cmp};
 ghost use Rattle.fs_calls.specs.Sights.{bytes_of};
 ghost use Rattle.fs_calls.specs.code.Seen.{sight};
-ghost use Rattle.fs_seq.specs.code.Nodes.{pair, pairs, place, graph, Searches, Steps, Resolves, LooksUp, number_there, shape_there, place_there, full_there};
+ghost use Rattle.fs_seq.specs.code.Nodes.{pair, pairs, place, graph, Searches, Steps, Resolves, LooksUp, number_there, shape_there, place_there, entry_there, full_there};
 ghost use Rattle.fs_seq.specs.code.Slots.{IsForest, Sets, place_at, links_at, links_of, shape_at, shape_of, Dir as IsDir};
 
 use fs_calls::ranges::is_full;
@@ -20,6 +20,14 @@ use std::alloc::AllocError;
 #[derive(Drop)]
 pub struct Link {
     pub name: Name,
+    pub node: usize,
+}
+
+/// An entry where it stands: the number of its directory, its place there, and the number of its node.
+#[derive(Clone, Copy)]
+pub struct Entry {
+    pub dir: usize,
+    pub place: usize,
     pub node: usize,
 }
 
@@ -103,6 +111,20 @@ impl Spot {
         match self {
             Spot::Taken(_, _, _) => false,
             Spot::Free(_, _, entries) => is_full(*entries),
+        }
+    }
+
+    /// The entry, where one stands.
+    pub fn entry(&self) -> Option<Entry>
+        ensures { result ≡ entry_there self.now }
+    {
+        match self {
+            Spot::Taken(dir, place, node) => Some(Entry {
+                dir: *dir,
+                place: *place,
+                node: *node,
+            }),
+            Spot::Free(_, _, _) => None,
         }
     }
 

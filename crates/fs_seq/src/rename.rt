@@ -9,26 +9,18 @@ ghost use Rattle.fs_calls.specs.Sights.{Shape};
 ghost use Rattle.fs_calls.specs.Forms.{form, by_text};
 ghost use Rattle.fs_calls.specs.Rows.{place_fault};
 ghost use Rattle.fs_calls.specs.code.Seen.{sight};
-ghost use Rattle.fs_seq.specs.code.Renaming.{Plans, Exchanges, Transfers};
+ghost use Rattle.fs_seq.specs.code.Renaming.{Plans, Displaces, Transfers};
 ghost use Rattle.fs_seq.specs.code.Effects.{Answers};
 ghost use Rattle.fs_seq.specs.Memory.{needs_memory};
 ghost use Rattle.slab.specs.Slab.{ContainsKey};
 
-use crate::nodes::{Link, Node, Spot, add_link, look_up, remove_link, search, sight_of};
+use crate::nodes::{Entry, Link, Node, Spot, add_link, look_up, remove_link, search, sight_of};
 use fs_calls::ranges::is_full;
 use fs_calls::rows::PairSight;
 use fs_calls::{Call, Errno, PairCall, Reply, Sight, rename_error};
 use fs_names::{Name, Path};
 use slab::Slab;
 use std::alloc::AllocError;
-
-/// An entry: the number of its directory, its place there, and the number of its node.
-#[derive(Clone, Copy)]
-struct Entry {
-    dir: usize,
-    place: usize,
-    node: usize,
-}
 
 /// What a rename has to do.
 #[derive(Drop)]
@@ -139,13 +131,13 @@ fn replace_link(nodes: &mut Slab<Node>, dir: usize, i: usize, link: Link)
 
 /// Leads the victim's entry, which has this name, to the entry's node, takes the entry out, and removes the victim's
 /// node. No directory gets an entry more, so nothing is allocated.
-fn exchange(nodes: &mut Slab<Node>, entry: Entry, victim: Entry, name: &Name)
+fn displace(nodes: &mut Slab<Node>, entry: Entry, victim: Entry, name: &Name)
     requires dir { place_at (graph nodes.old) entry.dir ≡ Some (IsDir (links_at (graph nodes.old) entry.dir)) }
     requires place { entry.place < length (links_at (graph nodes.old) entry.dir) }
     requires victim_dir { place_at (graph nodes.old) victim.dir ≡ Some (IsDir (links_at (graph nodes.old) victim.dir)) }
     requires victim_place { victim.place < length (links_at (graph nodes.old) victim.dir) }
     requires victim_node { IsSome (place_at (graph nodes.old) victim.node) }
-    ensures { Exchanges (graph nodes.old) (graph nodes.new) entry victim name.now }
+    ensures { Displaces (graph nodes.old) (graph nodes.new) entry victim name.now }
 {
     let link = Link {
         name: name.copy(),
@@ -197,7 +189,7 @@ pub fn rename(nodes: &mut Slab<Node>, from: &Path, to: &Path) -> Result<Reply, A
     match plan {
         Plan::Stay => Ok(Reply::Done),
         Plan::Onto(entry, victim) => {
-            exchange(nodes, entry, victim, name);
+            displace(nodes, entry, victim, name);
             Ok(Reply::Done)
         }
         Plan::Within(entry) => {

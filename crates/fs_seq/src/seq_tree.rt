@@ -7,7 +7,7 @@ ghost use Rattle.fs_seq.specs.Memory.{needs_memory};
 ghost use Rattle.fs_seq.specs.Looks.{is_look};
 
 use crate::nodes::Node;
-use crate::{create, queries, remove, rename, write};
+use crate::{create, exchange, queries, remove, rename, write};
 use fs_calls::{Bytes, Call, Reply};
 use fs_names::Path;
 use slab::Slab;
@@ -59,6 +59,7 @@ impl SeqTree {
             Call::Unlink(path) => Ok(self.unlink(path)),
             Call::Rmdir(path) => Ok(self.rmdir(path)),
             Call::Rename(from, to) => self.rename(from, to),
+            Call::Exchange(path, other) => Ok(self.exchange(path, other)),
             Call::Stat(_) | Call::Readdir(_) | Call::Read(_, _, _) => self.look(alloc, call),
             Call::Write(path, off, bytes) => self.write(path, *off, bytes),
             Call::Truncate(path, size) => self.truncate(path, *size),
@@ -77,7 +78,8 @@ impl SeqTree {
             Call::Readdir(path) => self.readdir(alloc, path),
             Call::Read(path, off, count) => self.read(alloc, path, *off, *count),
             Call::Mkdir(_) | Call::Mknod(_) | Call::Unlink(_) | Call::Rmdir(_) => unreachable!(),
-            Call::Rename(_, _) | Call::Write(_, _, _) | Call::Truncate(_, _) => unreachable!(),
+            Call::Rename(_, _) | Call::Exchange(_, _) => unreachable!(),
+            Call::Write(_, _, _) | Call::Truncate(_, _) => unreachable!(),
         }
     }
 
@@ -120,6 +122,13 @@ impl SeqTree {
         ensures memory { OnErr result (IsTrue (needs_memory self.old (Call.Rename from.now to.now))) }
     {
         rename::rename(&mut self.nodes, from, to)
+    }
+
+    fn exchange(&mut self, path: &Path, other: &Path) -> Reply
+        ensures reply { result ≡ reply self.old (Call.Exchange path.now other.now) }
+        ensures tree { self.new ≡ after self.old (Call.Exchange path.now other.now) }
+    {
+        exchange::exchange(&mut self.nodes, path, other)
     }
 
     fn stat(&self, path: &Path) -> Reply

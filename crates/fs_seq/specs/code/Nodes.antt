@@ -9,6 +9,7 @@ use Rattle.fs_names.specs.declared.limits.TheConstants.{ENTRY_LIMIT}
 use Rattle.slab.specs.Slab.{Slab}
 use Rattle.fs_calls.specs.declared.errno.Errno.{Errno}
 use Rattle.fs_calls.specs.declared.errno.Errno.TheVariants.{Enoent, Enotdir}
+use Rattle.fs_seq.specs.declared.nodes.Entry.{Entry}
 use Rattle.fs_seq.specs.declared.nodes.Link.{Link}
 use Rattle.fs_seq.specs.declared.nodes.Node.{Node}
 use Rattle.fs_seq.specs.declared.nodes.Node.TheVariants.{Dir, File}
@@ -95,6 +96,10 @@ pub record IsTaken (g : Slots) (p : Key) (dir i n : ℕ) : Type 0 where
   pub stands : IsNameAt (links_at g dir) (last_of p) i
   pub leads : child g dir (last_of p) ≡ Some n
 
+-- the entry at a path
+abbrev pub IsAt : Slots → Key → Entry → Type 0
+IsAt g p entry = IsTaken g p entry.dir entry.place entry.node
+
 -- a directory without a path's last name, the place where it belongs, and how many links there are
 pub record IsFree (g : Slots) (p : Key) (dir i entries : ℕ) : Type 0 where
   pub parent : walk g (parent_of p) ≡ Some dir
@@ -122,6 +127,11 @@ shape_there g (Free dir i entries) = None
 abbrev pub place_there : Spot → ℕ × ℕ
 place_there (Taken dir i n) = (dir, i)
 place_there (Free dir i entries) = (dir, i)
+
+-- the entry that stands where a name was looked up
+abbrev pub entry_there : Spot → Option Entry
+entry_there (Taken dir i n) = Some (record { dir = dir; place = i; node = n })
+entry_there (Free dir i entries) = None
 
 -- whether the directory has no place for the name; a name that stands there has its own
 abbrev pub full_there : Spot → Bool

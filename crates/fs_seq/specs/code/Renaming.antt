@@ -4,16 +4,12 @@ use Rattle.fs_names.specs.Names.{Name}
 use Rattle.fs_names.specs.Keys.{Key}
 use Rattle.fs_calls.specs.Outcomes.{fault}
 use Rattle.fs_seq.specs.code.Slots.{Slots, Dir, links_at, tree_of, Sets}
-use Rattle.fs_seq.specs.code.Nodes.{IsTaken, IsFree}
+use Rattle.fs_seq.specs.code.Nodes.{IsFree, IsAt}
 use Rattle.fs_calls.specs.declared.call.Call.TheVariants.{Rename}
 use Rattle.fs_calls.specs.declared.errno.Errno.{Errno}
-use Rattle.fs_seq.specs.declared.rename.Entry.{Entry}
+use Rattle.fs_seq.specs.declared.nodes.Entry.{Entry}
 use Rattle.fs_seq.specs.declared.rename.Plan.{Plan}
 use Rattle.fs_seq.specs.declared.rename.Plan.TheVariants.{Stay, Onto, Within, Across}
-
--- the entry at a path
-abbrev pub IsAt : Slots → Key → Entry → Type 0
-IsAt g p entry = IsTaken g p entry.dir entry.place entry.node
 
 -- a rename without an error, of one path to another
 pub record Moves (g : Slots) (p q : Key) : Type 0 where
@@ -29,7 +25,7 @@ Plans g p q (Ok (Across entry dir i)) = Moves g p q × IsAt g p entry × ((entri
 Plans g p q (Err e) = fault (tree_of g) (Rename p q) ≡ Some e
 
 -- an entry is led to the node of another one, which is taken out, and its own node is removed
-pub record Exchanges (g g' : Slots) (entry victim : Entry) (x : Name) : Type 0 where
+pub record Displaces (g g' : Slots) (entry victim : Entry) (x : Name) : Type 0 where
   pub between : Slots
   pub unlinked : Slots
   pub leading : Sets g between victim.dir (Some (Dir (slice_set (links_at g victim.dir) victim.place (x, entry.node))))

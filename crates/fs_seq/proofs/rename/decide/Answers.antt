@@ -4,7 +4,8 @@ use Rattle.fs_seq.specs.code.Nodes.{graph, LooksUp, IsTaken, IsFree}
 use Rattle.fs_seq.specs.code.Slots.{shape_at}
 use Rattle.fs_seq.specs.declared.nodes.Spot.TheVariants.{Taken, Free}
 use Rattle.fs_seq.proofs.NodeLemmas.{has_key}
-use Rattle.fs_seq.proofs.RenameFaults.{named, new_named, looked_up, taken_walk, fault_text, fault_source, fault_dest, missing, stays, onto, moves_onto, free, moves_beside, moves_to}
+use Rattle.fs_seq.proofs.RenameFaults.{named, new_named, looked_up, taken_walk, fault_source, fault_dest, missing, stays, onto, moves_onto, free, moves_beside, moves_to}
+use Rattle.fs_seq.proofs.Replies.{fault_by_paths}
 use Rattle.fs_seq.proofs.rename.decide.Goals as goal
 
 same_taken : {a b m d e n : ℕ} → Taken a b m ≡ Taken d e n → m ≡ n
@@ -14,7 +15,7 @@ same_free : {a b m d e n : ℕ} → Free a b m ≡ Free d e n → a ≡ d
 same_free e = cc
 
 pub returns-in-Some : goal.returns-in-Some
-returns-in-Some c = fault_text _ c.args.from.now c.args.to.now c.in-Some.errno (sym c.rename_error.ensures ∙ c.in-Some.is)
+returns-in-Some c = fault_by_paths _ _ c.in-Some.errno (sym c.rename_error.ensures ∙ c.in-Some.is)
 
 pub returns-in-Err : goal.returns-in-Err
 returns-in-Err c = fault_source (graph c.args.nodes.now) c.requires c.args.from.now c.args.to.now (sym c.rename_error.ensures ∙ c.in_default.is) c.in-Err.errno c.in-Err.ensures

@@ -29,8 +29,8 @@ name-name-requires c =
     let named = new_path_named (graph c.args.nodes.now) c.args.from.now c.args.to.now c.in-Ok.plan c.requires c.in-Ok.ensures in
     omega (arith, named, c.len.ensures.len)
 
-pub exchange-requires-clause-victim_node : goal.exchange-requires-clause-victim_node
-exchange-requires-clause-victim_node c =
+pub displace-requires-clause-victim_node : goal.displace-requires-clause-victim_node
+displace-requires-clause-victim_node c =
     let g = graph c.args.nodes.now in
     let p = c.args.from.now in
     let q = c.args.to.now in
@@ -77,8 +77,8 @@ returns-in-Onto-clause-given c =
     let q = c.args.to.now in
     let plan : Plans g p q (Ok (Onto c.in-Onto.entry c.in-Onto.victim)) = subst (λ plan. Plans g p q (Ok plan)) c.in-Onto.is c.in-Ok.ensures in
     let named = new_path_named g p q c.in-Ok.plan c.requires c.in-Ok.ensures in
-    moved_onto g c.requires p q plan.0 c.in-Onto.entry plan.1 c.in-Onto.victim plan.2 (graph c.exchange.new.nodes) c.name-name.result.now
-    (is_last q c.len.result c.name-name.result.now c.len.ensures.len named c.name-name.ensures) c.exchange.ensures
+    moved_onto g c.requires p q plan.0 c.in-Onto.entry plan.1 c.in-Onto.victim plan.2 (graph c.displace.new.nodes) c.name-name.result.now
+    (is_last q c.len.result c.name-name.result.now c.len.ensures.len named c.name-name.ensures) c.displace.ensures
 
 pub returns-in-Within-clause-given : goal.returns-in-Within-clause-given
 returns-in-Within-clause-given c =

@@ -5,7 +5,7 @@ use Rattle.fs_seq.specs.code.Nodes.{graph}
 use Rattle.fs_seq.proofs.NodeLemmas.{has_key}
 use Rattle.fs_seq.proofs.SlabLemmas.{sets_slot}
 use Rattle.fs_seq.proofs.Rewiring.{still_placed}
-use Rattle.fs_seq.proofs.rename.exchange.Goals as goal
+use Rattle.fs_seq.proofs.rename.displace.Goals as goal
 
 pub remove-requires : goal.remove-requires
 remove-requires c =
