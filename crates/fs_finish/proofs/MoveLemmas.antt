@@ -159,6 +159,13 @@ some_there (Some m) n e = refl
 pub if_there : (o : Option ℕ) (n : ℕ) (P : ℕ → Type 0) → o ≡ Some n → P n → IfSome o P
 if_there o n P e h = subst (λ (z : Option ℕ). IfSome z P) (sym e) h
 
+-- of two that are there
+pub both_there : (o p : Option ℕ) (n m : ℕ) (P : ℕ → ℕ → Type 0) → o ≡ Some n → p ≡ Some m → P n m → (a b : ℕ) → o ≡ Some a → p ≡ Some b → P a b
+both_there o p n m P e f h a b g k =
+    let i : n ≡ a = (let z : ◌≡◌ {A = Option ℕ} (Some n) (Some a) = sym e ∙ g in cc) in
+    let j : m ≡ b = (let z : ◌≡◌ {A = Option ℕ} (Some m) (Some b) = sym f ∙ k in cc) in
+    subst (λ (z : ℕ). P z b) i (subst (λ (z : ℕ). P n z) j h)
+
 -- an entry has moved where the one of its new name went first
 pub entry_moved : (old cleared new : Places) (m : Moving) (x y : Name) → child cleared m.source x ≡ Some m.moved → seen cleared ≡ record (seen old) { graph = graph_of cleared }
     → moved_in m.source x m.dest y m.moved (graph_of cleared) ≡ moved_in m.source x m.dest y m.moved (graph_of old)

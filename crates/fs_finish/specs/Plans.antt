@@ -3,7 +3,7 @@ use Rattle.std.specs.Prelude.{ℕ, ◌≡◌, ◌≢◌, ◌<◌, Bool, true, fa
 use Rattle.fs_names.specs.Keys.{last_of}
 use Rattle.fs_names.specs.Names.{Name}
 use Rattle.fs_names.specs.Shapes.{Shape, is_dir, has_entries}
-use Rattle.fs_nodes.specs.Graphs.{Graph, linked_in, unlinked_in, moved_in, IsReached}
+use Rattle.fs_nodes.specs.Graphs.{Graph, linked_in, unlinked_in, moved_in, swapped_in, IsReached}
 use Rattle.fs_nodes.specs.Seen.{Seen, IsReal}
 use Rattle.fs_calls.specs.Forms.{Form, AtNode, AtEntry, AtPair}
 use Rattle.fs_calls.specs.Rows.{node_row}
@@ -12,12 +12,13 @@ use Rattle.fs_calls.specs.declared.reply.Reply.TheVariants.{Done, Failed}
 use Rattle.fs_finish.specs.Paths.{first_path, second_path}
 use Rattle.fs_finish.specs.declared.plan.Route.{Route}
 use Rattle.fs_finish.specs.declared.plan.Moving.{Moving}
+use Rattle.fs_finish.specs.declared.plan.Swapping.{Swapping}
 use Rattle.fs_finish.specs.declared.plan.Plan.{Plan}
-use Rattle.fs_finish.specs.declared.plan.Plan.TheVariants.{Fails, Stays, Answers, Adds, Removes, Moves, Replaces}
+use Rattle.fs_finish.specs.declared.plan.Plan.TheVariants.{Fails, Stays, Answers, Adds, Removes, Moves, Replaces, Swaps}
 use Rattle.fs_machine.specs.Finishes.{Effect, no_effect, node_effect}
 use Rattle.fs_machine.specs.OpValues.{SpareIf}
 use Rattle.fs_machine.specs.declared.moves.Moved.{Moved}
-use Rattle.fs_machine.specs.declared.moves.Moved.TheVariants.{Nothing, One}
+use Rattle.fs_machine.specs.declared.moves.Moved.TheVariants.{Nothing, One, Two}
 
 -- ---- plans, by the first error of a row
 
@@ -32,11 +33,11 @@ entry_plan (Some e) new dir = Fails e
 entry_plan None (Some shape) dir = Adds dir
 entry_plan None None dir = Removes dir
 
--- a rename, by whether both paths are one, and by what it would do
-abbrev pub rename_plan : Option Errno → Bool → Plan → Plan
-rename_plan (Some e) same_path plan = Fails e
-rename_plan None true plan = Stays
-rename_plan None false plan = plan
+-- a call on two entries, by whether both paths are one, and by what it would do
+abbrev pub pair_plan : Option Errno → Bool → Plan → Plan
+pair_plan (Some e) same_path plan = Fails e
+pair_plan None true plan = Stays
+pair_plan None false plan = plan
 
 -- a node goes to a name that is free, or in the place of another one
 abbrev pub moves : Bool → ℕ → Plan
@@ -48,6 +49,12 @@ abbrev pub moving : Bool → Option ℕ → Plan
 moving replaces None = Stays
 moving replaces (Some n) = moves replaces n
 
+-- two nodes that are there change places
+abbrev pub swapping : Option ℕ → Option ℕ → Plan
+swapping (Some n) (Some m) = Swaps n m
+swapping (Some n) None = Stays
+swapping None other = Stays
+
 -- what a finish would really move
 abbrev pub moved_by : Plan → Moved
 moved_by (Fails e) = Nothing
@@ -57,6 +64,7 @@ moved_by (Adds dir) = Nothing
 moved_by (Removes dir) = Nothing
 moved_by (Moves n) = One n
 moved_by (Replaces n) = One n
+moved_by (Swaps n m) = Two n m
 
 -- ---- their effects
 
@@ -83,6 +91,14 @@ along route n replaces = record { source = route.source; dest = route.dest; move
 abbrev pub moved : Graph → Moving → Name → Name → Option ℕ → Effect
 moved graph m x y reserved = record { reply = Done; graph = moved_in m.source x m.dest y m.moved graph; reserved = reserved; removed = m.victim }
 
+-- the nodes at both ends of the route of an exchange
+abbrev pub between : Route → ℕ → ℕ → Swapping
+between route n m = record { source = route.source; dest = route.dest; first = n; second = m }
+
+-- two entries change what they name
+abbrev pub swapped : Graph → Swapping → Name → Name → Option ℕ → Effect
+swapped graph s x y reserved = record { reply = Done; graph = swapped_in s.source x s.first s.dest y s.second graph; reserved = reserved; removed = None }
+
 -- a plan that is carried out
 abbrev pub carried : Graph → Form → Route → Option ℕ → Plan → Effect
 carried graph call route reserved (Fails e) = no_effect (Failed e) graph reserved
@@ -92,6 +108,7 @@ carried graph call route reserved (Adds dir) = added graph dir (last_of (first_p
 carried graph call route reserved (Removes dir) = removed graph dir (last_of (first_path call)) reserved
 carried graph call route reserved (Moves n) = moved graph (along route n false) (last_of (first_path call)) (last_of (second_path call)) reserved
 carried graph call route reserved (Replaces n) = moved graph (along route n true) (last_of (first_path call)) (last_of (second_path call)) reserved
+carried graph call route reserved (Swaps n m) = swapped graph (between route n m) (last_of (first_path call)) (last_of (second_path call)) reserved
 
 -- ---- what they need of the store
 
@@ -104,6 +121,7 @@ Changes (Adds dir) R = R
 Changes (Removes dir) R = R
 Changes (Moves n) R = R
 Changes (Replaces n) R = R
+Changes (Swaps n m) R = R
 
 -- a directory where the name is free, and a number that is not its own
 pub record CanAdd (store : Seen) (n : ℕ) (x : Name) (reserved : Option ℕ) : Type 0 where
@@ -128,6 +146,12 @@ pub record CanMove (store : Seen) (m : Moving) (x y : Name) : Type 0 where
   pub apart : m.source ≡ m.dest → x ≡ y → ⊥
   pub below : IsReached store.graph.child m.moved m.dest → ⊥
 
+-- two entries, of whose nodes neither is reached from the other
+pub record CanSwap (store : Seen) (s : Swapping) (x y : Name) : Type 0 where
+  pub there : store.graph.child s.source x ≡ Some s.first
+  pub there_too : store.graph.child s.dest y ≡ Some s.second
+  pub apart : (IsReached store.graph.child s.first s.second → ⊥) × (IsReached store.graph.child s.second s.first → ⊥)
+
 -- a plan that can be carried out, of a call whose paths have names where it needs them
 abbrev pub CanCarryOut : Seen → Form → Route → Option ℕ → Plan → Type 0
 CanCarryOut store call route reserved (Fails e) = Unit {0}
@@ -137,3 +161,4 @@ CanCarryOut store call route reserved (Adds dir) = (0 < length (first_path call)
 CanCarryOut store call route reserved (Removes dir) = (0 < length (first_path call)) × CanRemove store dir (last_of (first_path call))
 CanCarryOut store call route reserved (Moves n) = (0 < length (first_path call)) × (0 < length (second_path call)) × CanMove store (along route n false) (last_of (first_path call)) (last_of (second_path call))
 CanCarryOut store call route reserved (Replaces n) = (0 < length (first_path call)) × (0 < length (second_path call)) × CanMove store (along route n true) (last_of (first_path call)) (last_of (second_path call))
+CanCarryOut store call route reserved (Swaps n m) = (0 < length (first_path call)) × (0 < length (second_path call)) × CanSwap store (between route n m) (last_of (first_path call)) (last_of (second_path call))

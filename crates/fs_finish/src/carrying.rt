@@ -8,15 +8,16 @@ ghost use Rattle.fs_calls.specs.Rows.{node_row};
 ghost use Rattle.fs_calls.specs.code.Targets.{form_of, node_call};
 ghost use Rattle.fs_finish.specs.Endings.{IsEffect};
 ghost use Rattle.fs_finish.specs.Paths.{first_path, second_path};
-ghost use Rattle.fs_finish.specs.Plans.{carried, answered_at, moved, CanCarryOut, CanMove};
+ghost use Rattle.fs_finish.specs.Plans.{carried, answered_at, moved, swapped, CanCarryOut, CanMove, CanSwap};
 ghost use Rattle.fs_finish.specs.Replies.{refilled};
 ghost use Rattle.fs_finish.specs.Rooms.{Suffices, SufficesFor};
 ghost use Rattle.fs_machine.specs.OpValues.{IsBounded};
 
 use crate::entries::{add, remove};
+use crate::exchange::exchange;
 use crate::finish::Finish;
 use crate::paths::{first_path, second_path};
-use crate::plan::{Moving, Plan, Route};
+use crate::plan::{Moving, Plan, Route, Swapping};
 use crate::queries::{read, readdir, stat};
 use crate::rename::rename;
 use crate::replies::Replies;
@@ -90,8 +91,31 @@ fn move_along(
     rename(store, moving, from.last_name(), to.last_name(), reserved)
 }
 
-/// Does what a plan says, of a call at this target and, if it is a rename, with this route, that has this number reserved and this
-/// room prepared.
+/// The entries of an exchange change what they name.
+fn swap_along(
+    aim: Target<'_>,
+    swapping: Swapping,
+    reserved: Option<NodeNo>,
+    store: &mut Store,
+) -> Finish
+    requires named { 0 < length (first_path (form_of aim)) }
+    requires other_named { 0 < length (second_path (form_of aim)) }
+    requires can { CanSwap (seen store.old) swapping (last_of (first_path (form_of aim))) (last_of (second_path (form_of aim))) }
+    ensures made { IsEffect (swapped (graph_of store.old) swapping (last_of (first_path (form_of aim.entry))) (last_of (second_path (form_of aim.entry))) reserved) result (graph_of store.new) }
+    ensures rest { seen store.new ≡ record (seen store.old) { graph = graph_of store.new } }
+{
+    let (one, other) = (first_path(aim), second_path(aim));
+    exchange(
+        store,
+        swapping,
+        one.last_name(),
+        other.last_name(),
+        reserved,
+    )
+}
+
+/// Does what a plan says, of a call at this target and, if it is on two entries, with this route, that has this number reserved and
+/// this room prepared.
 pub fn carry_out(
     aim: Target<'_>,
     plan: Plan,
@@ -114,5 +138,11 @@ pub fn carry_out(
         Plan::Removes(dir) => remove(store, dir, first_path(aim).last_name(), reserved),
         Plan::Moves(node) => move_along(aim, route.moving(node, false), reserved, store),
         Plan::Replaces(node) => move_along(aim, route.moving(node, true), reserved, store),
+        Plan::Swaps(first, second) => swap_along(
+            aim,
+            route.swapping(first, second),
+            reserved,
+            store,
+        ),
     }
 }

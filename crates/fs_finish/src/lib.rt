@@ -1,7 +1,7 @@
 //! What a call does to the store when it finishes: its reply and its change, at the nodes where its walk has ended.
 //!
-//! A finish is decided before it is made. `entry_plan` and `rename_plan` find what it does (`Plan`): they are the rows of the table
-//! of errors, read at the nodes where the call stands, and look at each entry once. `carry_out` does what the plan says and
+//! A finish is decided before it is made. `entry_plan`, `rename_plan` and `exchange_plan` find what it does (`Plan`): they are the
+//! rows of the table of errors, read at the nodes where the call stands, and look at each entry once. `carry_out` does what the plan says and
 //! decides nothing; the calls on a node alone are decided where they are made (`queries`, `write`). An error changes nothing.
 //! No finish needs memory: `Room::new` has allocated its buffers when the call began. Each reply is made twice (`Replies`),
 //! for the caller and for the journal.
@@ -13,6 +13,7 @@
 
 pub mod carrying;
 pub mod entries;
+pub mod exchange;
 pub mod finish;
 pub mod paths;
 pub mod plan;
@@ -26,6 +27,6 @@ pub mod write;
 pub use carrying::carry_out;
 pub use finish::Finish;
 pub use paths::Paths;
-pub use plan::{Moving, Plan, Route};
+pub use plan::{Moving, Plan, Route, Swapping};
 pub use replies::Replies;
 pub use room::Room;

@@ -1,4 +1,4 @@
-//! The paths of a call, and how those of a rename stand to each other.
+//! The paths of a call, and how those of a call on two entries stand to each other.
 
 ghost use Rattle.std.specs.Prelude.{◌≡◌};
 ghost use Rattle.fs_names.specs.Keys.{after_prefix, is_proper_prefix, parent_of, is_end};
@@ -17,7 +17,7 @@ pub fn first_path<'a>(aim: Target<'a>) -> &'a Path
     }
 }
 
-/// The path that it walks second: for all calls but a rename the same one.
+/// The path that it walks second: for all calls but those on two entries the same one.
 pub fn second_path<'a>(aim: Target<'a>) -> &'a Path
     ensures { result.now ≡ second_path (form_of aim.entry) }
 {
@@ -26,19 +26,19 @@ pub fn second_path<'a>(aim: Target<'a>) -> &'a Path
     }
 }
 
-/// How the paths of a rename stand to each other.
+/// How the paths of a call on two entries stand to each other.
 #[derive(Clone, Copy, Debug, PartialEq, Eq)]
 pub struct Paths {
     /// Both are the same.
     pub same: bool,
-    /// The new one is a proper prefix of the old one.
+    /// The second is a proper prefix of the first.
     pub above: bool,
     /// They have one parent.
     pub one_parent: bool,
 }
 
 impl Paths {
-    /// How a path and the new one stand to each other.
+    /// How a path and the second one stand to each other.
     pub fn new(path: &Path, new_path: &Path) -> Paths
         ensures same { result.same ≡ is_end (after_prefix path.now new_path.now) }
         ensures above { result.above ≡ is_proper_prefix new_path.now path.now }

@@ -1,20 +1,20 @@
 //! What a finish does, found before it is done.
 
 ghost use Rattle.std.specs.Prelude.{◌≡◌};
-ghost use Rattle.fs_finish.specs.Plans.{along, moved_by};
+ghost use Rattle.fs_finish.specs.Plans.{along, between, moved_by};
 
 use fs_calls::Errno;
 use fs_machine::Moved;
 use fs_nodes::NodeNo;
 
-/// The route of a rename: where an entry is, where it goes, and the node that the call holds so as to remove it.
+/// The route of a call on two entries: the directory of each, and the node that a rename holds so as to remove it.
 #[derive(Clone, Copy, Debug, PartialEq, Eq)]
 pub struct Route {
-    /// The directory of the path.
+    /// The directory of the first path.
     pub source: NodeNo,
-    /// The directory of the new path.
+    /// The directory of the second path.
     pub dest: NodeNo,
-    /// The node that the new name had.
+    /// The node that the second name had.
     pub victim: Option<NodeNo>,
 }
 
@@ -29,6 +29,18 @@ impl Route {
             moved,
             replaces,
             victim: self.victim,
+        }
+    }
+
+    /// The nodes at its ends change places.
+    pub fn swapping(self, first: NodeNo, second: NodeNo) -> Swapping
+        ensures { result ≡ between self first second }
+    {
+        Swapping {
+            source: self.source,
+            dest: self.dest,
+            first,
+            second,
         }
     }
 }
@@ -48,13 +60,26 @@ pub struct Moving {
     pub victim: Option<NodeNo>,
 }
 
+/// Two entries that change what they name.
+#[derive(Clone, Copy, Debug, PartialEq, Eq)]
+pub struct Swapping {
+    /// The directory of the first one.
+    pub source: NodeNo,
+    /// The directory of the second one.
+    pub dest: NodeNo,
+    /// What the first one names.
+    pub first: NodeNo,
+    /// What the second one names.
+    pub second: NodeNo,
+}
+
 /// What the finish of a call does, by its row of the table of errors and at these nodes. It is good for the state in which it
 /// was found, until something changes there.
 #[derive(Clone, Copy, Debug, PartialEq, Eq)]
 pub enum Plan {
     /// The call fails and changes nothing.
     Fails(Errno),
-    /// It changes nothing: a rename of a path to itself.
+    /// It changes nothing: both paths of a call on two entries are one.
     Stays,
     /// A call on a node reads or changes what is there.
     Answers(NodeNo),
@@ -66,6 +91,8 @@ pub enum Plan {
     Moves(NodeNo),
     /// The entry of this node moves, and the one that the new name had goes.
     Replaces(NodeNo),
+    /// The entries of these nodes change what they name.
+    Swaps(NodeNo, NodeNo),
 }
 
 impl Plan {
@@ -75,6 +102,7 @@ impl Plan {
     {
         match self {
             Plan::Moves(node) | Plan::Replaces(node) => Moved::One(*node),
+            Plan::Swaps(first, second) => Moved::Two(*first, *second),
             Plan::Fails(_) | Plan::Stays | Plan::Answers(_) | Plan::Adds(_) | Plan::Removes(_) => {
                 Moved::Nothing
             }

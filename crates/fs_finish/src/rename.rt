@@ -8,7 +8,7 @@ ghost use Rattle.fs_nodes.specs.Stores.{child, shape, graph_of};
 ghost use Rattle.fs_calls.specs.Rows.{rename_fault};
 ghost use Rattle.fs_calls.specs.code.Seen.{sight};
 ghost use Rattle.fs_finish.specs.Endings.{IsEffect};
-ghost use Rattle.fs_finish.specs.Plans.{moved, moving, rename_plan};
+ghost use Rattle.fs_finish.specs.Plans.{moved, moving, pair_plan};
 ghost use Rattle.fs_machine.specs.Moves.{there_by};
 
 use crate::finish::Finish;
@@ -57,7 +57,7 @@ pub fn rename_plan(
 ) -> Plan
     requires moved { IfSome moved (λ node. IsTrue (is_there (shape store.now node))) }
     requires used { IfSome there (λ node. IsTrue (is_there (shape store.now node))) }
-    ensures { result ≡ rename_plan
+    ensures { result ≡ pair_plan
         (rename_fault None None (then_at moved (shape store.now)) paths.same (there_by paths.above (then_at there (shape store.now))) (paths.one_parent || not (is_full (shape store.now dest))))
         paths.same (moving (is_some there) moved) }
 {
