@@ -1,19 +1,19 @@
 -- On finishes: a plan does what the machine's finish does, and it can be carried out.
-use Rattle.std.proofs.Common.{◌≡◌, ℕ, ◌+◌, ◌≤◌, ◌<◌, Bool, true, false, List, [], ◌∷◌, length, take, drop, ◌-◌, Option, Some, None, refl, sym, ap, ap₂, subst, ◌∙◌, ◌||◌, arith, length-drop}
+use Rattle.std.proofs.Common.{◌≡◌, ℕ, ◌+◌, ◌≤◌, ◌<◌, Bool, true, false, List, [], ◌∷◌, length, take, drop, ◌-◌, ◌⊎◌, inl, inr, Option, Some, None, refl, sym, ap, ap₂, subst, ◌∙◌, ◌||◌, arith, length-drop}
 use Rattle.std.specs.Prelude.{not, is_some, IfSome, IsSome}
 use Rattle.fs_names.specs.Failures.{or_else, first_failure}
 use Rattle.fs_names.specs.Names.{Name}
 use Rattle.fs_names.specs.Keys.{Key, last_of, parent_of, after_prefix, has_more, is_end}
 use Rattle.fs_names.specs.Parts.{common}
 use Rattle.fs_names.specs.Shapes.{Shape, Dir, File, is_dir, is_there, has_entries, is_full}
-use Rattle.fs_nodes.specs.Graphs.{Graph, then_at, entry_shape}
+use Rattle.fs_nodes.specs.Graphs.{Graph, then_at, entry_shape, IsReached}
 use Rattle.fs_nodes.specs.Seen.{Seen, IsReal}
 use Rattle.fs_calls.specs.Forms.{Form, AtNode, AtEntry, AtPair, by_text, form, new_shape}
 use Rattle.fs_calls.specs.declared.target.PairCall.{PairCall}
 use Rattle.fs_calls.specs.declared.target.PairCall.TheVariants as pairs
 use Rattle.fs_calls.specs.declared.target.EntryCall.{EntryCall}
 use Rattle.fs_calls.specs.declared.target.EntryCall.TheVariants as entries
-use Rattle.fs_calls.specs.Rows.{Keep, answered, edit_of, as_dir, entry_errors, entry_fault, place_errors, rename_fault}
+use Rattle.fs_calls.specs.Rows.{Keep, answered, edit_of, as_dir, entry_errors, entry_fault, place_errors, rename_fault, exchange_fault}
 use Rattle.fs_calls.specs.declared.call.Call.{Call}
 use Rattle.fs_calls.specs.declared.errno.Errno.{Errno}
 use Rattle.fs_calls.specs.declared.errno.Errno.TheVariants.{Enoent}
@@ -22,10 +22,10 @@ use Rattle.fs_walk.specs.Ways.{Way, ForkWay}
 use Rattle.fs_finish.specs.declared.finish.Finish.{Finish}
 use Rattle.fs_finish.specs.declared.plan.Route.{Route}
 use Rattle.fs_finish.specs.declared.plan.Plan.{Plan}
-use Rattle.fs_finish.specs.declared.plan.Plan.TheVariants.{Fails, Stays, Answers, Adds, Removes, Moves, Replaces}
+use Rattle.fs_finish.specs.declared.plan.Plan.TheVariants.{Fails, Stays, Answers, Adds, Removes, Moves, Replaces, Swaps}
 use Rattle.fs_finish.specs.Endings.{IsEffect}
-use Rattle.fs_finish.specs.Plans.{node_plan, entry_plan, rename_plan, moving, moves, along, carried, added, removed, moved, Changes, CanCarryOut, CanMove}
-use Rattle.fs_machine.specs.Finishes.{Effect, no_effect, entry_effect, move_effect, effect_at, effect_of, finish}
+use Rattle.fs_finish.specs.Plans.{node_plan, entry_plan, pair_plan, moving, moves, swapping, along, between, carried, added, removed, moved, swapped, Changes, CanCarryOut, CanMove, CanSwap}
+use Rattle.fs_machine.specs.Finishes.{Effect, no_effect, entry_effect, move_effect, swap_effect, effect_at, effect_of, finish}
 use Rattle.fs_machine.specs.Moves.{target, path_error, dir_error, there_by}
 use Rattle.fs_machine.specs.Records.{Holdings, Record, Finished, taken_if}
 use Rattle.fs_machine.specs.OpValues.{OpValue, CanFinish, HeadsApart, MovesApart, SpareIf, IsFinished, graph_after, record_of}
@@ -34,11 +34,11 @@ use Rattle.fs_ops.specs.declared.outcome.Outcome.TheVariants.{Fixed}
 use Rattle.fs_ops.specs.OpValue.{behind_in, dropped, holdings_of, holdings_with, op_value, stands, with_held, IsForked, Forks, IsOp}
 use Rattle.fs_ops.specs.declared.stand.Stand.{Stand}
 use Rattle.fs_ops.proofs.HeldLemmas.{none_went}
-use Rattle.fs_ops.specs.PlanOf.{pair_plan, plan_at, plan_by, plan_of, IsPlan}
+use Rattle.fs_ops.specs.PlanOf.{pair_plan_at, plan_at, plan_by, plan_of, IsPlan}
 use Rattle.fs_ops.specs.code.NextByNodes.{route_by}
 use Rattle.fs_ops.specs.code.TakeAndLetGo.{started}
 use Rattle.fs_ops.proofs.KeyLemmas.{last_drop, target_drop}
-use Rattle.fs_ops.proofs.HeadLemmas.{head_error, text_named, is_parent, head_dir, heads_apart, heads_below}
+use Rattle.fs_ops.proofs.HeadLemmas.{head_error, text_named, is_parent, head_dir, heads_apart, heads_below, heads_beside}
 use Rattle.fs_ops.proofs.PlanLemmas.{pair_by, lost_plan, node_is, entry_is, pair_is}
 use Rattle.fs_ops.proofs.TookLemmas.{common_short, holdings_node, started_forked, started_holdings}
 
@@ -53,12 +53,12 @@ entry_carried graph c p n route (Some m) None (Some s) = refl
 entry_carried graph c p n route None None None = refl
 entry_carried graph c p n route (Some m) None None = refl
 
--- the route of a rename where it stands
+-- the route of a call on two entries where it stands
 abbrev route_at : Holdings → Route
 route_at st = record { source = st.source.node; dest = st.dest.node; victim = st.victim }
 
 rename_carried : (graph : Graph) (p q : Key) (st : Holdings) (replaces : Bool) (reserved : Option ℕ) (fault : Option Errno) (same_path : Bool) (child : Option ℕ)
-    → carried graph (AtPair pairs.Rename p q) (route_at st) reserved (rename_plan fault same_path (moving replaces child))
+    → carried graph (AtPair pairs.Rename p q) (route_at st) reserved (pair_plan fault same_path (moving replaces child))
     ≡ move_effect graph st (last_of p) (last_of q) reserved (answered fault false Done (not same_path)).0 (answered fault false Done (not same_path)).1 child
 rename_carried graph p q st replaces reserved (Some e) same_path child = refl
 rename_carried graph p q st replaces reserved None true child = refl
@@ -66,15 +66,29 @@ rename_carried graph p q st replaces reserved None false None = refl
 rename_carried graph p q st true reserved None false (Some n) = refl
 rename_carried graph p q st false reserved None false (Some n) = refl
 
+exchange_carried : (graph : Graph) (p q : Key) (st : Holdings) (reserved : Option ℕ) (fault : Option Errno) (same_path : Bool) (one other : Option ℕ)
+    → carried graph (AtPair pairs.Exchange p q) (route_at st) reserved (pair_plan fault same_path (swapping one other))
+    ≡ swap_effect graph st (last_of p) (last_of q) reserved (answered fault false Done (not same_path)).0 (answered fault false Done (not same_path)).1 one other
+exchange_carried graph p q st reserved (Some e) same_path one other = refl
+exchange_carried graph p q st reserved None true one other = refl
+exchange_carried graph p q st reserved None false None other = refl
+exchange_carried graph p q st reserved None false (Some n) None = refl
+exchange_carried graph p q st reserved None false (Some n) (Some m) = refl
+
 carried_at : (graph : Graph) (rest : Form) (st : Holdings) (reserved : Option ℕ) → carried graph rest (route_at st) reserved (plan_at graph rest st) ≡ effect_at graph rest st reserved
 carried_at graph (AtNode c []) st reserved = refl
 carried_at graph (AtNode c (x ∷ p)) st reserved = refl
 carried_at graph (AtEntry c p) st reserved = entry_carried graph c p st.node (route_at st) reserved (entry_fault c (dir_error (parent_of p) (graph.shape st.node)) (is_full (graph.shape st.node)) (entry_shape graph st.node (last_of p))) (new_shape c)
 carried_at graph (AtPair pairs.Rename p q) st reserved = by (target (AtPair pairs.Rename p q))
   where
-    by : (l : Key) → carried graph (AtPair pairs.Rename p q) (route_at st) reserved (pair_plan graph p q st l) ≡ Rattle.fs_machine.specs.Finishes.rename_effect graph p q st reserved l
+    by : (l : Key) → carried graph (AtPair pairs.Rename p q) (route_at st) reserved (pair_plan_at graph pairs.Rename p q st l) ≡ Rattle.fs_machine.specs.Finishes.rename_effect graph p q st reserved l
     by (z ∷ l) = refl
     by [] = rename_carried graph p q st (is_some (graph.child st.dest.node (last_of q))) reserved _ (is_end (after_prefix p q)) (graph.child st.source.node (last_of p))
+carried_at graph (AtPair pairs.Exchange p q) st reserved = by (target (AtPair pairs.Exchange p q))
+  where
+    by : (l : Key) → carried graph (AtPair pairs.Exchange p q) (route_at st) reserved (pair_plan_at graph pairs.Exchange p q st l) ≡ Rattle.fs_machine.specs.Finishes.exchange_effect graph p q st reserved l
+    by (z ∷ l) = refl
+    by [] = exchange_carried graph p q st reserved _ (is_end (after_prefix p q)) (graph.child st.source.node (last_of p)) (graph.child st.dest.node (last_of q))
 
 -- and by the whole call, whose last names are the same
 names_carried : (graph : Graph) (c : PairCall) (p q x y : Key) (route : Route) (reserved : Option ℕ) → last_of p ≡ last_of x → last_of q ≡ last_of y → (plan : Plan) → carried graph (AtPair c p q) route reserved plan ≡ carried graph (AtPair c x y) route reserved plan
@@ -85,6 +99,7 @@ names_carried graph c p q x y route reserved e f (Adds dir) = ap (λ (z : Name).
 names_carried graph c p q x y route reserved e f (Removes dir) = ap (λ (z : Name). removed graph dir z reserved) e
 names_carried graph c p q x y route reserved e f (Moves n) = ap₂ (λ (z w : Name). moved graph (along route n false) z w reserved) e f
 names_carried graph c p q x y route reserved e f (Replaces n) = ap₂ (λ (z w : Name). moved graph (along route n true) z w reserved) e f
+names_carried graph c p q x y route reserved e f (Swaps n m) = ap₂ (λ (z w : Name). swapped graph (between route n m) z w reserved) e f
 
 name_carried : (graph : Graph) (c : EntryCall) (p x : Key) (route : Route) (reserved : Option ℕ) → last_of p ≡ last_of x → (plan : Plan) → carried graph (AtEntry c p) route reserved plan ≡ carried graph (AtEntry c x) route reserved plan
 name_carried graph c p x route reserved e (Fails errno) = refl
@@ -94,6 +109,7 @@ name_carried graph c p x route reserved e (Adds dir) = ap (λ (z : Name). added 
 name_carried graph c p x route reserved e (Removes dir) = ap (λ (z : Name). removed graph dir z reserved) e
 name_carried graph c p x route reserved e (Moves n) = ap₂ (λ (z w : Name). moved graph (along route n false) z w reserved) e e
 name_carried graph c p x route reserved e (Replaces n) = ap₂ (λ (z w : Name). moved graph (along route n true) z w reserved) e e
+name_carried graph c p x route reserved e (Swaps n m) = ap₂ (λ (z w : Name). swapped graph (between route n m) z w reserved) e e
 
 carried_whole : (graph : Graph) (call : Form) (k : ℕ) (st : Holdings) (route : Route) (reserved : Option ℕ) → k ≤ length (target call) → carried graph call route reserved (plan_at graph (dropped k call) st) ≡ carried graph (dropped k call) route reserved (plan_at graph (dropped k call) st)
 carried_whole graph (AtNode c p) k st route reserved h = by (path_error (drop k p) (graph.shape st.node))
@@ -269,7 +285,7 @@ module _ (store : Seen) (p q : Key) (heads : ForkWay) (m : ℕ) (behind victim r
   can_move : (n : ℕ) → is_end (after_prefix p q) ≡ false → rename_fault a b from false to room ≡ None → store.graph.child heads.source.node (last_of p) ≡ Some n → IsReal store
       → (0 < length p) × (0 < length q) × CanMove store (along route n replaces) (last_of p) (last_of q)
   can_move n other none child real =
-      let named = text_named p q text in
+      let named = text_named pairs.Rename p q text in
       let one = both_none a _ none in
       let two = both_none b _ one.1 in
       let rest = both_none (Rattle.fs_names.specs.Failures.check (Rattle.fs_names.specs.Shapes.is_missing from) Enoent) _ two.1 in (
@@ -281,8 +297,8 @@ module _ (store : Seen) (p q : Key) (heads : ForkWay) (m : ℕ) (behind victim r
           dir = head_dir _ (store.graph.shape heads.dest.node) two.0;
           replaces = refl;
           bare = bare_if (store.graph.child heads.dest.node (last_of q)) store.graph.shape (there_bare (has_more (after_prefix q p)) (entry_shape store.graph heads.dest.node (last_of q)) (place_bare from to room rest.1));
-          apart = λ n l. (let same : is_end (after_prefix p q) ≡ true = heads_apart store.graph p q heads text short source dest one.0 two.0 apart n l in cc);
-          below = heads_below store.graph p q heads text short source dest one.0 two.0 m behind victim below n child;
+          apart = λ n l. (let same : is_end (after_prefix p q) ≡ true = heads_apart store.graph pairs.Rename p q heads text short source dest one.0 two.0 apart n l in cc);
+          below = heads_below store.graph pairs.Rename p q heads text short source dest one.0 two.0 m behind victim below n child;
         },
       )
 
@@ -294,15 +310,62 @@ module _ (store : Seen) (p q : Key) (heads : ForkWay) (m : ℕ) (behind victim r
   real_of true n h = h
   real_of false n h = h
 
-  pair_can_by : (same_path : Bool) → is_end (after_prefix p q) ≡ same_path → (fault : Option Errno) → rename_fault a b from same_path to room ≡ fault → (o : Option ℕ) → store.graph.child heads.source.node (last_of p) ≡ o
-      → Changes (rename_plan fault same_path (moving replaces o)) (IsReal store) → CanCarryOut store (AtPair pairs.Rename p q) route reserved (rename_plan fault same_path (moving replaces o))
-  pair_can_by same_path e (Some f) h o k real = tt
-  pair_can_by true e None h o k real = tt
-  pair_can_by false e None h None k real = tt
-  pair_can_by false e None h (Some n) k real = can_moves n replaces (can_move n e h k (real_of replaces n real))
+  rename_can_by : (same_path : Bool) → is_end (after_prefix p q) ≡ same_path → (fault : Option Errno) → rename_fault a b from same_path to room ≡ fault → (o : Option ℕ) → store.graph.child heads.source.node (last_of p) ≡ o
+      → Changes (pair_plan fault same_path (moving replaces o)) (IsReal store) → CanCarryOut store (AtPair pairs.Rename p q) route reserved (pair_plan fault same_path (moving replaces o))
+  rename_can_by same_path e (Some f) h o k real = tt
+  rename_can_by true e None h o k real = tt
+  rename_can_by false e None h None k real = tt
+  rename_can_by false e None h (Some n) k real = can_moves n replaces (can_move n e h k (real_of replaces n real))
 
-  pair_can : Changes (pair_by store.graph p q heads a b) (IsReal store) → CanCarryOut store (AtPair pairs.Rename p q) route reserved (pair_by store.graph p q heads a b)
-  pair_can real = pair_can_by (is_end (after_prefix p q)) refl (rename_fault a b from (is_end (after_prefix p q)) to room) refl (store.graph.child heads.source.node (last_of p)) refl real
+  rename_can : Changes (pair_by store.graph pairs.Rename p q heads a b) (IsReal store) → CanCarryOut store (AtPair pairs.Rename p q) route reserved (pair_by store.graph pairs.Rename p q heads a b)
+  rename_can real = rename_can_by (is_end (after_prefix p q)) refl (rename_fault a b from (is_end (after_prefix p q)) to room) refl (store.graph.child heads.source.node (last_of p)) refl real
+
+-- an exchange
+module _ (store : Seen) (p q : Key) (heads : ForkWay) (m : ℕ) (behind victim reserved : Option ℕ) (text : by_text (AtPair pairs.Exchange p q) ≡ None) (short : heads.names ≤ length (common (parent_of p) (parent_of q)))
+    (source : heads.names + heads.source.walked ≤ length (parent_of p)) (dest : heads.names + heads.dest.walked ≤ length (parent_of q))
+    (apart : heads.source.node ≡ heads.dest.node → take heads.source.walked (drop heads.names p) ≡ take heads.dest.walked (drop heads.names q))
+    (beside : MovesApart store.graph (AtPair pairs.Exchange (drop heads.names p) (drop heads.names q)) (holdings_with (AtPair pairs.Exchange p q) m behind (Some heads) victim)) where
+  abbrev first_error : Option Errno
+  first_error = head_error store.graph p heads.names heads.source
+
+  abbrev second_error : Option Errno
+  second_error = head_error store.graph q heads.names heads.dest
+
+  abbrev ends : Route
+  ends = record { source = heads.source.node; dest = heads.dest.node; victim = victim }
+
+  abbrev seen_fault : Option Errno
+  seen_fault = exchange_fault first_error second_error (entry_shape store.graph heads.source.node (last_of p)) (entry_shape store.graph heads.dest.node (last_of q))
+
+  can_swap : (n l : ℕ) → is_end (after_prefix p q) ≡ false → seen_fault ≡ None → store.graph.child heads.source.node (last_of p) ≡ Some n → store.graph.child heads.dest.node (last_of q) ≡ Some l → IsReal store
+      → (0 < length p) × (0 < length q) × CanSwap store (between ends n l) (last_of p) (last_of q)
+  can_swap n l other none one two real =
+      let named = text_named pairs.Exchange p q text in
+      let first = both_none first_error _ none in
+      let second = both_none second_error _ first.1 in
+      let two_paths : n ≡ l → ⊥ = (λ e.
+      let entry = real.one_name heads.source.node heads.dest.node n (last_of p) (last_of q) one (two ∙ ap (λ (k : ℕ). Some k) (sym e)) in
+      let same : is_end (after_prefix p q) ≡ true = heads_apart store.graph pairs.Exchange p q heads text short source dest first.0 second.0 apart entry.0 entry.1 in
+      cc) in (
+        named.0,
+        named.1,
+        record { there = one; there_too = two; apart = by two_paths (heads_beside store.graph pairs.Exchange p q heads text short source dest first.0 second.0 m behind victim beside n l one two) },
+      )
+    where
+      by : (n ≡ l → ⊥) → (n ≡ l) ⊎ ((IsReached store.graph.child n l → ⊥) × (IsReached store.graph.child l n → ⊥)) → (IsReached store.graph.child n l → ⊥) × (IsReached store.graph.child l n → ⊥)
+      by differ (inl e) = absurd (differ e)
+      by differ (inr h) = h
+
+  exchange_can_by : (same_path : Bool) → is_end (after_prefix p q) ≡ same_path → (fault : Option Errno) → seen_fault ≡ fault → (o : Option ℕ) → store.graph.child heads.source.node (last_of p) ≡ o → (u : Option ℕ) → store.graph.child heads.dest.node (last_of q) ≡ u
+      → Changes (pair_plan fault same_path (swapping o u)) (IsReal store) → CanCarryOut store (AtPair pairs.Exchange p q) ends reserved (pair_plan fault same_path (swapping o u))
+  exchange_can_by same_path e (Some f) h o k u l real = tt
+  exchange_can_by true e None h o k u l real = tt
+  exchange_can_by false e None h None k u l real = tt
+  exchange_can_by false e None h (Some n) k None l real = tt
+  exchange_can_by false e None h (Some n) k (Some i) l real = can_swap n i e h k l real
+
+  exchange_can : Changes (pair_by store.graph pairs.Exchange p q heads first_error second_error) (IsReal store) → CanCarryOut store (AtPair pairs.Exchange p q) ends reserved (pair_by store.graph pairs.Exchange p q heads first_error second_error)
+  exchange_can real = exchange_can_by (is_end (after_prefix p q)) refl seen_fault refl (store.graph.child heads.source.node (last_of p)) refl (store.graph.child heads.dest.node (last_of q)) refl real
 
 -- ---- each call
 
@@ -312,6 +375,15 @@ entry_named c (x ∷ p) e = omega arith
 
 abbrev CanBy : Seen → Form → Route → Option ℕ → Plan → Type 0
 CanBy store call route reserved plan = Changes plan (IsReal store) → CanCarryOut store call route reserved plan
+
+-- a call on two entries, each as above
+pair_can : (store : Seen) (c : PairCall) (p q : Key) (heads : ForkWay) (m : ℕ) (behind victim reserved : Option ℕ) → by_text (AtPair c p q) ≡ None → heads.names ≤ length (common (parent_of p) (parent_of q))
+    → heads.names + heads.source.walked ≤ length (parent_of p) → heads.names + heads.dest.walked ≤ length (parent_of q)
+    → (heads.source.node ≡ heads.dest.node → take heads.source.walked (drop heads.names p) ≡ take heads.dest.walked (drop heads.names q))
+    → MovesApart store.graph (AtPair c (drop heads.names p) (drop heads.names q)) (holdings_with (AtPair c p q) m behind (Some heads) victim)
+    → CanBy store (AtPair c p q) (record { source = heads.source.node; dest = heads.dest.node; victim = victim }) reserved (pair_by store.graph c p q heads (head_error store.graph p heads.names heads.source) (head_error store.graph q heads.names heads.dest))
+pair_can store pairs.Rename p q heads m behind victim reserved text short source dest apart below = rename_can store p q heads m behind victim reserved text short source dest apart below
+pair_can store pairs.Exchange p q heads m behind victim reserved text short source dest apart beside = exchange_can store p q heads m behind victim reserved text short source dest apart beside
 
 route_started : (n names : ℕ) (fork : Option ForkWay) (victim : Option ℕ) → route_by (Some n) (Some (started fork n names)) victim ≡ route_by (Some n) fork victim
 route_started n names None victim = refl
@@ -325,18 +397,18 @@ arrived_can store (AtEntry c p) way n behind fork victim reserved text node name
     let at : (holdings_with (AtEntry c p) n behind fork victim).node ≡ n = holdings_node (AtEntry c p) n behind fork victim in
     subst (CanBy store (AtEntry c p) (route_by (Some n) fork victim) reserved) (sym (entry_is store.graph way n behind fork victim arrived c p names))
     (entry_can store p n (route_by (Some n) fork victim) reserved (entry_named c p text) can.spare (λ e. can.other _ refl (e ∙ ap (λ (m : ℕ). Some m) (sym at))) c (entry_fault c (as_dir None (store.graph.shape n)) (is_full (store.graph.shape n)) (entry_shape store.graph n (last_of p))) refl)
-arrived_can store (AtPair pairs.Rename p q) way n behind fork victim reserved text node names arrived forks can =
+arrived_can store (AtPair c p q) way n behind fork victim reserved text node names arrived forks can =
     let heads : ForkWay = started fork n way.names in
-    let forked : IsForked p q way heads = started_forked pairs.Rename p q way fork n node arrived names forks in
+    let forked : IsForked p q way heads = started_forked c p q way fork n node arrived names forks in
     let short : heads.names ≤ length (common (parent_of p) (parent_of q)) = omega (arith, forked.names) in
-    let same = started_holdings (AtPair pairs.Rename p q) n way.names behind fork victim in
-    let apart : HeadsApart (AtPair pairs.Rename (drop way.walked p) (drop way.walked q)) (holdings_with (AtPair pairs.Rename p q) n behind (Some heads) victim) = subst (λ (z : Holdings). HeadsApart (AtPair pairs.Rename (drop way.walked p) (drop way.walked q)) z) same (can.heads _ refl) in
-    let moves : MovesApart store.graph (AtPair pairs.Rename (drop way.walked p) (drop way.walked q)) (holdings_with (AtPair pairs.Rename p q) n behind (Some heads) victim) = subst (λ (z : Holdings). MovesApart store.graph (AtPair pairs.Rename (drop way.walked p) (drop way.walked q)) z) same (can.apart _ refl) in
-    let below : MovesApart store.graph (AtPair pairs.Rename (drop heads.names p) (drop heads.names q)) (holdings_with (AtPair pairs.Rename p q) n behind (Some heads) victim) =
-    subst (λ (m : ℕ). MovesApart store.graph (AtPair pairs.Rename (drop m p) (drop m q)) (holdings_with (AtPair pairs.Rename p q) n behind (Some heads) victim)) (sym forked.names) moves in
-    subst (λ (z : Route). CanBy store (AtPair pairs.Rename p q) z reserved (plan_at store.graph (dropped way.walked (AtPair pairs.Rename p q)) (holdings_with (AtPair pairs.Rename p q) n behind fork victim))) (route_started n way.names fork victim)
-    (subst (CanBy store (AtPair pairs.Rename p q) (record { source = heads.source.node; dest = heads.dest.node; victim = victim }) reserved) (sym (pair_is store.graph way n behind fork victim arrived p q node names forks))
-    (pair_can store p q heads n behind victim reserved text short forked.source forked.dest apart below))
+    let same = started_holdings (AtPair c p q) n way.names behind fork victim in
+    let apart : HeadsApart (AtPair c (drop way.walked p) (drop way.walked q)) (holdings_with (AtPair c p q) n behind (Some heads) victim) = subst (λ (z : Holdings). HeadsApart (AtPair c (drop way.walked p) (drop way.walked q)) z) same (can.heads _ refl) in
+    let moves : MovesApart store.graph (AtPair c (drop way.walked p) (drop way.walked q)) (holdings_with (AtPair c p q) n behind (Some heads) victim) = subst (λ (z : Holdings). MovesApart store.graph (AtPair c (drop way.walked p) (drop way.walked q)) z) same (can.apart _ refl) in
+    let below : MovesApart store.graph (AtPair c (drop heads.names p) (drop heads.names q)) (holdings_with (AtPair c p q) n behind (Some heads) victim) =
+    subst (λ (m : ℕ). MovesApart store.graph (AtPair c (drop m p) (drop m q)) (holdings_with (AtPair c p q) n behind (Some heads) victim)) (sym forked.names) moves in
+    subst (λ (z : Route). CanBy store (AtPair c p q) z reserved (plan_at store.graph (dropped way.walked (AtPair c p q)) (holdings_with (AtPair c p q) n behind fork victim))) (route_started n way.names fork victim)
+    (subst (CanBy store (AtPair c p q) (record { source = heads.source.node; dest = heads.dest.node; victim = victim }) reserved) (sym (pair_is store.graph way n behind fork victim arrived c p q node names forks))
+    (pair_can store c p q heads n behind victim reserved text short forked.source forked.dest apart below))
 
 left_none : (k : ℕ) (l : Key) → drop k l ≡ [] → length l ≤ k
 left_none k l e = let h : length (drop k l) ≡ length l - k = length-drop k l in let z : length (drop k l) ≡ 0 = ap length e in omega (arith, h, z)

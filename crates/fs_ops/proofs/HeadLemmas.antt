@@ -1,5 +1,5 @@
--- On renames whose heads have come to both parents.
-use Rattle.std.proofs.Common.{◌≡◌, ℕ, zero, suc, ◌+◌, ◌-◌, ◌≤◌, ◌<◌, true, [], ◌∷◌, ◌++◌, length, take, drop, Option, Some, None, refl, sym, ap, ap₂, ◌∙◌, arith, length-drop, append-nil}
+-- On calls on two entries whose heads have come to both parents.
+use Rattle.std.proofs.Common.{◌≡◌, ℕ, zero, suc, ◌+◌, ◌-◌, ◌≤◌, ◌<◌, true, [], ◌∷◌, ◌++◌, length, take, drop, ◌⊎◌, Option, Some, None, refl, sym, ap, ap₂, ◌∙◌, arith, length-drop, append-nil}
 use Rattle.fs_names.specs.Keys.{Key, after_prefix, has_more, last_of, parent_of, is_end}
 use Rattle.fs_names.specs.Parts.{common, left}
 use Rattle.fs_names.specs.Shapes.{Shape, Dir, File, is_dir}
@@ -7,6 +7,7 @@ use Rattle.fs_names.proofs.Lemmas.{after_prefix-append}
 use Rattle.fs_names.proofs.ParentLemmas.{parent_length}
 use Rattle.fs_nodes.specs.Graphs.{Graph, IsReached}
 use Rattle.fs_calls.specs.Forms.{AtPair, by_text}
+use Rattle.fs_calls.specs.declared.target.PairCall.{PairCall}
 use Rattle.fs_calls.specs.declared.target.PairCall.TheVariants as pairs
 use Rattle.fs_calls.specs.Rows.{as_dir}
 use Rattle.fs_calls.specs.declared.errno.Errno.{Errno}
@@ -90,12 +91,14 @@ walked_all p k j s h e =
 abbrev pub head_error : Graph → Key → ℕ → count.Head → Option Errno
 head_error graph p k head = dir_error (left (take head.walked (drop k p)) (parent_of (drop k p))) (graph.shape head.node)
 
-pub text_named : (p q : Key) → by_text (AtPair pairs.Rename p q) ≡ None → (0 < length p) × (0 < length q)
-text_named [] q e = absurd (cc)
-text_named (x ∷ p) [] e = absurd (cc)
-text_named (x ∷ p) (y ∷ q) e = (omega arith, omega arith)
+pub text_named : (c : PairCall) (p q : Key) → by_text (AtPair c p q) ≡ None → (0 < length p) × (0 < length q)
+text_named pairs.Rename [] q e = absurd (cc)
+text_named pairs.Rename (x ∷ p) [] e = absurd (cc)
+text_named pairs.Exchange [] q e = absurd (cc)
+text_named pairs.Exchange (x ∷ p) [] e = absurd (cc)
+text_named c (x ∷ p) (y ∷ q) e = (omega arith, omega arith)
 
-module _ (graph : Graph) (p q : Key) (heads : ForkWay) (text : by_text (AtPair pairs.Rename p q) ≡ None) (short : heads.names ≤ length (common (parent_of p) (parent_of q)))
+module _ (graph : Graph) (c : PairCall) (p q : Key) (heads : ForkWay) (text : by_text (AtPair c p q) ≡ None) (short : heads.names ≤ length (common (parent_of p) (parent_of q)))
     (source : heads.names + heads.source.walked ≤ length (parent_of p)) (dest : heads.names + heads.dest.walked ≤ length (parent_of q))
     (source_there : head_error graph p heads.names heads.source ≡ None) (dest_there : head_error graph q heads.names heads.dest ≡ None) where
   abbrev k : ℕ
@@ -110,7 +113,7 @@ module _ (graph : Graph) (p q : Key) (heads : ForkWay) (text : by_text (AtPair p
   -- where they stand at one node they have walked the same names, so that one last name means one path
   pub heads_apart : (heads.source.node ≡ heads.dest.node → take heads.source.walked (drop k p) ≡ take heads.dest.walked (drop k q)) → heads.source.node ≡ heads.dest.node → last_of p ≡ last_of q → is_end (after_prefix p q) ≡ true
   heads_apart apart n l =
-      let named = text_named p q text in
+      let named = text_named c p q text in
       let lp = parent_length p in
       let lq = parent_length q in
       let kp = length-drop k p in
@@ -120,9 +123,18 @@ module _ (graph : Graph) (p q : Key) (heads : ForkWay) (text : by_text (AtPair p
       sym (same_left p q k short) ∙ whole (drop k p) (drop k q) (same_key (drop k p) (drop k q) (omega arith) (omega arith) parents lasts)
 
   -- from what the rename moves its new directory is not reached
-  pub heads_below : (m : ℕ) (behind victim : Option ℕ) → MovesApart graph (AtPair pairs.Rename (drop k p) (drop k q)) (holdings_with (AtPair pairs.Rename p q) m behind (Some heads) victim)
+  pub heads_below : (m : ℕ) (behind victim : Option ℕ) → MovesApart graph (AtPair pairs.Rename (drop k p) (drop k q)) (holdings_with (AtPair c p q) m behind (Some heads) victim)
       → (n : ℕ) → graph.child heads.source.node (last_of p) ≡ Some n → IsReached graph.child n heads.dest.node → ⊥
   heads_below m behind victim apart n f =
-      let named = text_named p q text in
+      let named = text_named c p q text in
       let lp = parent_length p in
       apart n source_walked dest_walked (ap (graph.child heads.source.node) (last_drop k p (omega arith)) ∙ f)
+
+  -- of what an exchange moves neither is reached from the other, or both are one
+  pub heads_beside : (m : ℕ) (behind victim : Option ℕ) → MovesApart graph (AtPair pairs.Exchange (drop k p) (drop k q)) (holdings_with (AtPair c p q) m behind (Some heads) victim)
+      → (n l : ℕ) → graph.child heads.source.node (last_of p) ≡ Some n → graph.child heads.dest.node (last_of q) ≡ Some l → (n ≡ l) ⊎ ((IsReached graph.child n l → ⊥) × (IsReached graph.child l n → ⊥))
+  heads_beside m behind victim apart n l f g =
+      let named = text_named c p q text in
+      let lp = parent_length p in
+      let lq = parent_length q in
+      apart n l source_walked dest_walked (ap (graph.child heads.source.node) (last_drop k p (omega arith)) ∙ f) (ap (graph.child heads.dest.node) (last_drop k q (omega arith)) ∙ g)

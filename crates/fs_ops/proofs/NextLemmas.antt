@@ -6,7 +6,6 @@ use Rattle.fs_names.specs.Keys.{Key, parent_of, last_of}
 use Rattle.fs_names.specs.Shapes.{Shape, is_full}
 use Rattle.fs_nodes.specs.Graphs.{Graph, entry_shape}
 use Rattle.fs_calls.specs.Forms.{form, Form, AtNode, AtEntry, AtPair, by_text, new_shape}
-use Rattle.fs_calls.specs.declared.target.PairCall.TheVariants as pairs
 use Rattle.fs_calls.specs.declared.target.EntryCall.{EntryCall}
 use Rattle.fs_calls.specs.declared.call.Call.{Call}
 use Rattle.fs_calls.specs.Rows.{as_dir, entry_fault}
@@ -31,7 +30,7 @@ use Rattle.fs_ops.specs.declared.outcome.Outcome.{Outcome}
 use Rattle.fs_ops.specs.declared.outcome.Outcome.TheVariants.{Open, Fixed}
 use Rattle.fs_ops.proofs.KeyLemmas.{last_drop, target_drop, target_take}
 use Rattle.fs_ops.proofs.TookLemmas.{ahead_none, holdings_node}
-use Rattle.fs_ops.proofs.ForkLemmas.{move_take, rename_is}
+use Rattle.fs_ops.proofs.ForkLemmas.{move_take, pair_is}
 use Rattle.fs_ops.proofs.WantLemmas.{behind_arrived, walk_tie, step_arrived, move_want, want_then_same}
 
 -- holdings by what the fork is
@@ -58,8 +57,8 @@ target_is graph (AtNode c p) way behind None victim n at names all forks = refl
 target_is graph (AtNode c p) way behind (Some f) victim n at names all forks = absurd forks
 target_is graph (AtEntry c p) way behind None victim n at names all forks = entry_is graph c p way behind None victim n names all
 target_is graph (AtEntry c p) way behind (Some f) victim n at names all forks = absurd forks
-target_is graph (AtPair pairs.Rename p q) way behind None victim n at names all forks = rename_is graph p q way behind None victim n at all names forks
-target_is graph (AtPair pairs.Rename p q) way behind (Some f) victim n at names all forks = rename_is graph p q way behind (Some f) victim n at all names forks
+target_is graph (AtPair c p q) way behind None victim n at names all forks = pair_is graph c p q way behind None victim n at all names forks
+target_is graph (AtPair c p q) way behind (Some f) victim n at names all forks = pair_is graph c p q way behind (Some f) victim n at all names forks
 
 none_past : (l : Key) (k : ℕ) → slice_get l k ≡ None → length l ≤ k
 none_past [] k e = omega arith

@@ -1,15 +1,15 @@
 -- On plans, by counts of walked names.
-use Rattle.std.proofs.Common.{◌≡◌, ℕ, suc, ◌+◌, ◌≤◌, [], ◌∷◌, length, take, drop, slice_get, ◌⊎◌, inl, inr, Option, Some, None, refl, sym, ap, ap₂, subst, ◌∙◌, ◌||◌, arith}
-use Rattle.std.specs.Prelude.{not, is_some}
+use Rattle.std.proofs.Common.{◌≡◌, ℕ, suc, ◌+◌, ◌≤◌, [], ◌∷◌, length, take, drop, slice_get, ◌⊎◌, inl, inr, Option, Some, None, refl, sym, ap, ap₂, subst, ◌∙◌, arith}
 use Rattle.fs_names.specs.Keys.{Key, parent_of, last_of, after_prefix, has_more, is_end}
 use Rattle.fs_names.specs.Names.{Name}
 use Rattle.fs_names.specs.Parts.{left, common}
 use Rattle.fs_names.specs.Shapes.{Shape, Dir, File, is_full}
 use Rattle.fs_calls.specs.Forms.{Form, AtNode, AtEntry, AtPair, NodeCall, by_text, new_shape}
 use Rattle.fs_calls.specs.declared.target.EntryCall.{EntryCall}
+use Rattle.fs_calls.specs.declared.target.PairCall.{PairCall}
 use Rattle.fs_calls.specs.declared.target.PairCall.TheVariants as pairs
 use Rattle.fs_calls.specs.declared.errno.Errno.{Errno}
-use Rattle.fs_calls.specs.Rows.{as_dir, entry_fault, rename_fault}
+use Rattle.fs_calls.specs.Rows.{as_dir, entry_fault}
 use Rattle.fs_nodes.specs.Graphs.{Graph, entry_shape}
 use Rattle.fs_walk.specs.declared.head.Head as count
 use Rattle.fs_walk.specs.declared.want.Want.{Want}
@@ -17,13 +17,13 @@ use Rattle.fs_walk.specs.declared.want.Want.TheVariants.{Take, LetGo, Arrived, F
 use Rattle.fs_walk.specs.Ways.{Way, ForkWay, name_ahead, head_name}
 use Rattle.fs_walk.specs.Wants.{name_want, step_want, then_want, at_dir, dir_want, way_want, want, fork_want, behind_or, heads_want}
 use Rattle.fs_finish.specs.Paths.{first_path}
-use Rattle.fs_finish.specs.Plans.{node_plan, entry_plan, rename_plan, moving}
+use Rattle.fs_finish.specs.Plans.{node_plan, entry_plan}
 use Rattle.fs_finish.specs.declared.plan.Plan.{Plan}
 use Rattle.fs_finish.specs.declared.plan.Plan.TheVariants.{Fails, Answers}
-use Rattle.fs_machine.specs.Moves.{target, path_error, dir_error, walk_errno, there_by}
+use Rattle.fs_machine.specs.Moves.{target, path_error, dir_error, walk_errno}
 use Rattle.fs_machine.specs.Records.{Holdings}
 use Rattle.fs_ops.specs.OpValue.{behind_in, Forks, IsForked, dropped, holdings_with, holdings_of}
-use Rattle.fs_ops.specs.PlanOf.{pair_plan, plan_at, plan_by, SetsOut, IfFinish}
+use Rattle.fs_ops.specs.PlanOf.{parents_plan, pair_plan_at, plan_at, plan_by, SetsOut, IfFinish}
 use Rattle.fs_ops.specs.code.NextByNodes.{take_or, want_next, heads_next, target_next, way_next_at}
 use Rattle.fs_ops.specs.code.TakeAndLetGo.{started}
 use Rattle.fs_ops.specs.declared.next.Next.{Next}
@@ -41,19 +41,24 @@ use Rattle.fs_ops.proofs.NextLemmas.{arrived_by, has_walked}
 pub lost_plan : (graph : Graph) (rest : Form) (st : Holdings) (z : Name) (l : Key) → target rest ≡ z ∷ l → plan_at graph rest st ≡ Fails (walk_errno (graph.shape st.node))
 lost_plan graph (AtNode c p) st z l e = ap (λ (k : Key). node_plan (path_error k (graph.shape st.node)) st.node) e
 lost_plan graph (AtEntry c p) st z l e = ap (λ (k : Key). entry_plan (entry_fault c (dir_error k (graph.shape st.node)) (is_full (graph.shape st.node)) (entry_shape graph st.node (last_of p))) (new_shape c) st.node) e
-lost_plan graph (AtPair pairs.Rename p q) st z l e = ap (λ (k : Key). pair_plan graph p q st k) e
+lost_plan graph (AtPair c p q) st z l e = ap (λ (k : Key). pair_plan_at graph c p q st k) e
 
--- a rename by its heads, and by what kept them from their parents
-abbrev pub pair_by : Graph → Key → Key → ForkWay → Option Errno → Option Errno → Plan
-pair_by graph p q heads a b =
-    rename_plan
-    (rename_fault a b (entry_shape graph heads.source.node (last_of p)) (is_end (after_prefix p q)) (there_by (has_more (after_prefix q p)) (entry_shape graph heads.dest.node (last_of q)))
-    (is_end (after_prefix (parent_of p) (parent_of q)) || not (is_full (graph.shape heads.dest.node))))
-    (is_end (after_prefix p q))
-    (moving (is_some (graph.child heads.dest.node (last_of q))) (graph.child heads.source.node (last_of p)))
+-- a call on two entries by its heads, and by what kept them from their parents
+abbrev pub pair_by : Graph → PairCall → Key → Key → ForkWay → Option Errno → Option Errno → Plan
+pair_by graph c p q heads a b =
+    parents_plan graph c heads.source.node (last_of p) heads.dest.node (last_of q) (is_end (after_prefix p q)) (has_more (after_prefix q p)) (is_end (after_prefix (parent_of p) (parent_of q))) a b
 
-abbrev pub heads_plan : Graph → Key → Key → ForkWay → Plan
-heads_plan graph p q heads = pair_by graph p q heads (head_error graph p heads.names heads.source) (head_error graph q heads.names heads.dest)
+-- what kept the first one, or else the second, is its error
+lost_first : (graph : Graph) (c : PairCall) (p q : Key) (heads : ForkWay) (e : Errno) (b : Option Errno) → pair_by graph c p q heads (Some e) b ≡ Fails e
+lost_first graph pairs.Rename p q heads e b = refl
+lost_first graph pairs.Exchange p q heads e b = refl
+
+lost_second : (graph : Graph) (c : PairCall) (p q : Key) (heads : ForkWay) (e : Errno) → pair_by graph c p q heads None (Some e) ≡ Fails e
+lost_second graph pairs.Rename p q heads e = refl
+lost_second graph pairs.Exchange p q heads e = refl
+
+abbrev pub heads_plan : Graph → PairCall → Key → Key → ForkWay → Plan
+heads_plan graph c p q heads = pair_by graph c p q heads (head_error graph p heads.names heads.source) (head_error graph q heads.names heads.dest)
 
 module _ (graph : Graph) (way : Way) (n : ℕ) (behind : Option ℕ) (fork : Option ForkWay) (victim : Option ℕ) (arrived : way.walked ≡ way.names) where
   -- at its target: a call on a node
@@ -72,15 +77,15 @@ module _ (graph : Graph) (way : Way) (n : ℕ) (behind : Option ℕ) (fork : Opt
       let last : last_of (drop way.walked p) ≡ last_of p = last_drop way.walked p (omega arith) in
       (λ i. entry_plan (entry_fault c (dir_error (none i) (graph.shape (at i))) (is_full (graph.shape (at i))) (entry_shape graph (at i) (last i))) (new_shape c) (at i))
 
-  -- a rename
-  pub pair_is : (p q : Key) → way.node ≡ Some n → way.names ≡ length (common (parent_of p) (parent_of q)) → Forks (AtPair pairs.Rename p q) way fork
-      → plan_at graph (dropped way.walked (AtPair pairs.Rename p q)) (holdings_with (AtPair pairs.Rename p q) n behind fork victim) ≡ heads_plan graph p q (started fork n way.names)
-  pair_is p q node names forks =
+  -- a call on two entries
+  pub pair_is : (c : PairCall) (p q : Key) → way.node ≡ Some n → way.names ≡ length (common (parent_of p) (parent_of q)) → Forks (AtPair c p q) way fork
+      → plan_at graph (dropped way.walked (AtPair c p q)) (holdings_with (AtPair c p q) n behind fork victim) ≡ heads_plan graph c p q (started fork n way.names)
+  pair_is c p q node names forks =
       let heads : ForkWay = started fork n way.names in
-      let forked : IsForked p q way heads = started_forked pairs.Rename p q way fork n node arrived names forks in
-      let st : Holdings = holdings_with (AtPair pairs.Rename p q) n behind (Some heads) victim in
+      let forked : IsForked p q way heads = started_forked c p q way fork n node arrived names forks in
+      let st : Holdings = holdings_with (AtPair c p q) n behind (Some heads) victim in
       let k : ℕ = heads.names in
-      let none : target (dropped way.walked (AtPair pairs.Rename p q)) ≡ [] = target_drop way.walked (AtPair pairs.Rename p q) (omega arith) ∙ none_left way.walked (target (AtPair pairs.Rename p q)) (omega arith) in
+      let none : target (dropped way.walked (AtPair c p q)) ≡ [] = target_drop way.walked (AtPair c p q) (omega arith) ∙ none_left way.walked (target (AtPair c p q)) (omega arith) in
       let short : k ≤ length (common (parent_of p) (parent_of q)) = omega (arith, forked.names) in
       let x : last_of (drop k p) ≡ last_of p = last_drop k p (omega (arith, forked.source)) in
       let y : last_of (drop k q) ≡ last_of q = last_drop k q (omega (arith, forked.dest)) in
@@ -89,13 +94,10 @@ module _ (graph : Graph) (way : Way) (n : ℕ) (behind : Option ℕ) (fork : Opt
       let o : is_end (after_prefix (parent_of (drop k p)) (parent_of (drop k q))) ≡ is_end (after_prefix (parent_of p) (parent_of q)) = one_parent_left p q k short in
       let a : Option Errno = head_error graph p k heads.source in
       let b : Option Errno = head_error graph q k heads.dest in
-      ap (λ (l : Key). pair_plan graph (drop way.walked p) (drop way.walked q) (holdings_with (AtPair pairs.Rename p q) n behind fork victim) l) none
-      ∙ ap (λ (z : Holdings). pair_plan graph (drop way.walked p) (drop way.walked q) z []) (started_holdings (AtPair pairs.Rename p q) n way.names behind fork victim)
-      ∙ ap (λ (m : ℕ). pair_plan graph (drop m p) (drop m q) st []) (sym forked.names)
-      ∙ (λ i. rename_plan
-      (rename_fault a b (entry_shape graph heads.source.node (x i)) (s i) (there_by (u i) (entry_shape graph heads.dest.node (y i))) (o i || not (is_full (graph.shape heads.dest.node))))
-      (s i)
-      (moving (is_some (graph.child heads.dest.node (y i))) (graph.child heads.source.node (x i))))
+      ap (λ (l : Key). pair_plan_at graph c (drop way.walked p) (drop way.walked q) (holdings_with (AtPair c p q) n behind fork victim) l) none
+      ∙ ap (λ (z : Holdings). pair_plan_at graph c (drop way.walked p) (drop way.walked q) z []) (started_holdings (AtPair c p q) n way.names behind fork victim)
+      ∙ ap (λ (m : ℕ). pair_plan_at graph c (drop m p) (drop m q) st []) (sym forked.names)
+      ∙ (λ i. parents_plan graph c heads.source.node (x i) heads.dest.node (y i) (s i) (u i) (o i) a b)
 
 -- ---- the plan that comes with a next move
 
@@ -151,20 +153,20 @@ behind_lost : (behind : Option ℕ) (w : Want) (e : Errno) → behind_or behind 
 behind_lost None w e h = h
 behind_lost (Some n) w e h = absurd (cc)
 
--- ---- at the common directory of a rename
+-- ---- at the common directory of a call on two entries
 
-module _ (graph : Graph) (p q : Key) (heads : ForkWay) (victim : Option ℕ) (source : heads.names + heads.source.walked ≤ length (parent_of p)) (dest : heads.names + heads.dest.walked ≤ length (parent_of q)) where
+module _ (graph : Graph) (c : PairCall) (p q : Key) (heads : ForkWay) (victim : Option ℕ) (source : heads.names + heads.source.walked ≤ length (parent_of p)) (dest : heads.names + heads.dest.walked ≤ length (parent_of q)) where
   abbrev source_error : Option Errno
   source_error = head_error graph p heads.names heads.source
 
   abbrev dest_error : Option Errno
   dest_error = head_error graph q heads.names heads.dest
 
-  fails_first : (e : Errno) → source_error ≡ Some e → Fails e ≡ heads_plan graph p q heads
-  fails_first e h = sym (ap (λ (o : Option Errno). pair_by graph p q heads o dest_error) h)
+  fails_first : (e : Errno) → source_error ≡ Some e → Fails e ≡ heads_plan graph c p q heads
+  fails_first e h = sym (ap (λ (o : Option Errno). pair_by graph c p q heads o dest_error) h ∙ lost_first graph c p q heads e dest_error)
 
-  fails_second : (e : Errno) → source_error ≡ None → dest_error ≡ Some e → Fails e ≡ heads_plan graph p q heads
-  fails_second e h g = sym (ap₂ (pair_by graph p q heads) h g)
+  fails_second : (e : Errno) → source_error ≡ None → dest_error ≡ Some e → Fails e ≡ heads_plan graph c p q heads
+  fails_second e h g = sym (ap₂ (pair_by graph c p q heads) h g ∙ lost_second graph c p q heads e)
 
   abbrev source_want : Want
   source_want = dir_want graph heads.source (head_name p heads.names heads.source)
@@ -173,26 +175,26 @@ module _ (graph : Graph) (p q : Key) (heads : ForkWay) (victim : Option ℕ) (so
   dest_want = dir_want graph heads.dest (head_name q heads.names heads.dest)
 
   -- one that fails
-  pair_lost : ((e : Errno) → as_dir None (graph.shape heads.node) ≡ Some e → source_error ≡ Some e) → (e : Errno) → heads_want graph p q heads ≡ Lost e → Fails e ≡ heads_plan graph p q heads
+  pair_lost : ((e : Errno) → as_dir None (graph.shape heads.node) ≡ Some e → source_error ≡ Some e) → (e : Errno) → heads_want graph p q heads ≡ Lost e → Fails e ≡ heads_plan graph c p q heads
   pair_lost sets e lost = first (then_lost (at_dir (graph.shape heads.node)) (then_want source_want dest_want) e lost)
     where
-      second : (source_want ≡ Lost e) ⊎ ((source_want ≡ Arrived) × (dest_want ≡ Lost e)) → Fails e ≡ heads_plan graph p q heads
+      second : (source_want ≡ Lost e) ⊎ ((source_want ≡ Arrived) × (dest_want ≡ Lost e)) → Fails e ≡ heads_plan graph c p q heads
       second (inl h) = fails_first e (head_lost graph p heads.names heads.source e source h)
       second (inr h) = fails_second e (parent_reached graph p heads.names heads.source source h.0) (head_lost graph q heads.names heads.dest e dest h.1)
 
-      first : (at_dir (graph.shape heads.node) ≡ Lost e) ⊎ ((at_dir (graph.shape heads.node) ≡ Arrived) × (then_want source_want dest_want ≡ Lost e)) → Fails e ≡ heads_plan graph p q heads
+      first : (at_dir (graph.shape heads.node) ≡ Lost e) ⊎ ((at_dir (graph.shape heads.node) ≡ Arrived) × (then_want source_want dest_want ≡ Lost e)) → Fails e ≡ heads_plan graph c p q heads
       first (inl h) = fails_first e (sets e (dir_lost (graph.shape heads.node) e h))
       first (inr h) = second (then_lost source_want dest_want e h.1)
 
   -- and what comes with its next move
-  pub pair_found : IfFinish (heads_next graph p q heads victim) (λ plan. ((e : Errno) → as_dir None (graph.shape heads.node) ≡ Some e → source_error ≡ Some e) → plan ≡ heads_plan graph p q heads)
+  pub pair_found : IfFinish (heads_next graph c p q heads victim) (λ plan. ((e : Errno) → as_dir None (graph.shape heads.node) ≡ Some e → source_error ≡ Some e) → plan ≡ heads_plan graph c p q heads)
   pair_found =
-      if_want (fork_want graph p q heads) _ (λ plan. ((e : Errno) → as_dir None (graph.shape heads.node) ≡ Some e → source_error ≡ Some e) → plan ≡ heads_plan graph p q heads)
+      if_want (fork_want graph p q heads) _ (λ plan. ((e : Errno) → as_dir None (graph.shape heads.node) ≡ Some e → source_error ≡ Some e) → plan ≡ heads_plan graph c p q heads)
       (λ there.
       let heads_there = (then_arrived (at_dir (graph.shape heads.node)) (then_want source_want dest_want) (behind_arrived heads.behind (heads_want graph p q heads) there)).1 in
       let both = then_arrived source_want dest_want heads_there in
-      if_take _ (pair_by graph p q heads None None) (λ plan. ((e : Errno) → as_dir None (graph.shape heads.node) ≡ Some e → source_error ≡ Some e) → plan ≡ heads_plan graph p q heads)
-      (λ sets. sym (ap₂ (pair_by graph p q heads) (parent_reached graph p heads.names heads.source source both.0) (parent_reached graph q heads.names heads.dest dest both.1))))
+      if_take _ (pair_by graph c p q heads None None) (λ plan. ((e : Errno) → as_dir None (graph.shape heads.node) ≡ Some e → source_error ≡ Some e) → plan ≡ heads_plan graph c p q heads)
+      (λ sets. sym (ap₂ (pair_by graph c p q heads) (parent_reached graph p heads.names heads.source source both.0) (parent_reached graph q heads.names heads.dest dest both.1))))
       (λ e lost sets. pair_lost sets e (behind_lost heads.behind (heads_want graph p q heads) e lost))
 
 -- ---- each call
@@ -203,16 +205,16 @@ target_found : (graph : Graph) (call : Form) (way : Way) (n : ℕ) (behind : Opt
 target_found graph (AtNode c p) way n behind fork victim node names arrived forks = λ sets. sym (node_is graph way n behind fork victim arrived c p names)
 target_found graph (AtEntry c p) way n behind fork victim node names arrived forks =
     if_take _ _ (λ plan. Unit {0} → plan ≡ plan_at graph (dropped way.walked (AtEntry c p)) (holdings_with (AtEntry c p) n behind fork victim)) (λ sets. sym (entry_is graph way n behind fork victim arrived c p names))
-target_found graph (AtPair pairs.Rename p q) way n behind fork victim node names arrived forks =
+target_found graph (AtPair c p q) way n behind fork victim node names arrived forks =
     let heads : ForkWay = started fork n way.names in
-    let forked : IsForked p q way heads = started_forked pairs.Rename p q way fork n node arrived names forks in
-    let st : Holdings = holdings_with (AtPair pairs.Rename p q) n behind (Some heads) victim in
+    let forked : IsForked p q way heads = started_forked c p q way fork n node arrived names forks in
+    let st : Holdings = holdings_with (AtPair c p q) n behind (Some heads) victim in
     let same : n ≡ heads.node = (let i : way.node ≡ Some heads.node = forked.node in cc) in
-    if_finish (heads_next graph p q heads victim) (λ plan. ((e : Errno) → as_dir None (graph.shape heads.node) ≡ Some e → head_error graph p heads.names heads.source ≡ Some e) → plan ≡ heads_plan graph p q heads) _
+    if_finish (heads_next graph c p q heads victim) (λ plan. ((e : Errno) → as_dir None (graph.shape heads.node) ≡ Some e → head_error graph p heads.names heads.source ≡ Some e) → plan ≡ heads_plan graph c p q heads) _
     (λ plan f sets.
-    let there : SetsOut graph (AtPair pairs.Rename (drop heads.names p) (drop heads.names q)) st = subst (λ (m : ℕ). SetsOut graph (AtPair pairs.Rename (drop m p) (drop m q)) st) (sym forked.names) (subst (λ (z : Holdings). SetsOut graph (AtPair pairs.Rename (drop way.walked p) (drop way.walked q)) z) (started_holdings (AtPair pairs.Rename p q) n way.names behind fork victim) sets) in
-    f (λ e h. there e (ap (λ (m : ℕ). as_dir None (graph.shape m)) same ∙ h)) ∙ sym (pair_is graph way n behind fork victim arrived p q node names forks))
-    (pair_found graph p q heads victim forked.source forked.dest)
+    let there : SetsOut graph (AtPair c (drop heads.names p) (drop heads.names q)) st = subst (λ (m : ℕ). SetsOut graph (AtPair c (drop m p) (drop m q)) st) (sym forked.names) (subst (λ (z : Holdings). SetsOut graph (AtPair c (drop way.walked p) (drop way.walked q)) z) (started_holdings (AtPair c p q) n way.names behind fork victim) sets) in
+    f (λ e h. there e (ap (λ (m : ℕ). as_dir None (graph.shape m)) same ∙ h)) ∙ sym (pair_is graph way n behind fork victim arrived c p q node names forks))
+    (pair_found graph c p q heads victim forked.source forked.dest)
 
 plain : (w : Want) → then_want w Arrived ≡ w
 plain (Take m) = refl

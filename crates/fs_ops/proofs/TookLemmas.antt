@@ -199,6 +199,11 @@ pub pair_takes : (c : PairCall) (p q : Key) (way : Way) (fork fork_new : Option 
 pair_takes c p q way fork fork_new victim victim_new n m at all names forks heads taken =
     subst₂ (λ (f : Option ForkWay) (v : Option ℕ). TakesTo (AtPair c p q) way m n fork victim f v) heads taken (pair_stands c p q way fork victim n m at all names forks)
 
+-- which call on two entries it is, the heads do not ask
+pub any_pair : (a c : PairCall) (p q : Key) (way : Way) (fork : Option ForkWay) → Forks (AtPair a p q) way fork → Forks (AtPair c p q) way fork
+any_pair a c p q way None forks = tt
+any_pair a c p q way (Some f) forks = forks
+
 -- what the heads and the victim are after the first take from the common directory
 pub set_out : (p q : Key) (fork : Option ForkWay) (n m names : ℕ) (first heads : ForkWay) (is_out : Bool) → fork ≡ None → first ≡ new_fork m names → heads ≡ fork_took p q first n → is_out ≡ has_set_out heads
     → heads_after p q fork m names n ≡ cond is_out (Some heads) None

@@ -1,16 +1,18 @@
 -- What a call does next, of a finish with its plan, and the plan by what the code of a call keeps.
-use Rattle.std.specs.Prelude.{◌≡◌, ◌||◌, not, is_some, [], ◌∷◌, Option, Some, None}
+use Rattle.std.specs.Prelude.{ℕ, Bool, ◌≡◌, ◌||◌, not, is_some, [], ◌∷◌, Option, Some, None}
 use Rattle.fs_names.specs.Keys.{Key, after_prefix, has_more, is_end, parent_of, last_of}
+use Rattle.fs_names.specs.Names.{Name}
 use Rattle.fs_names.specs.Parts.{left}
 use Rattle.fs_names.specs.Shapes.{is_full}
 use Rattle.fs_nodes.specs.Graphs.{Graph, entry_shape}
 use Rattle.fs_nodes.specs.Seen.{Seen, IsReal}
 use Rattle.fs_calls.specs.Forms.{form, Form, AtNode, AtEntry, AtPair, by_text, new_shape}
+use Rattle.fs_calls.specs.declared.target.PairCall.{PairCall}
 use Rattle.fs_calls.specs.declared.target.PairCall.TheVariants as pairs
-use Rattle.fs_calls.specs.Rows.{as_dir, entry_fault, rename_fault}
+use Rattle.fs_calls.specs.Rows.{as_dir, entry_fault, rename_fault, exchange_fault}
 use Rattle.fs_calls.specs.declared.errno.Errno.{Errno}
 use Rattle.fs_calls.specs.declared.errno.Errno.TheVariants.{Enoent}
-use Rattle.fs_finish.specs.Plans.{node_plan, entry_plan, rename_plan, moving, moved_by, Changes}
+use Rattle.fs_finish.specs.Plans.{node_plan, entry_plan, pair_plan, moving, swapping, moved_by, Changes}
 use Rattle.fs_finish.specs.declared.plan.Plan.{Plan}
 use Rattle.fs_finish.specs.declared.plan.Plan.TheVariants.{Fails}
 use Rattle.fs_machine.specs.Moves.{target, walk_errno, path_error, dir_error, there_by}
@@ -43,26 +45,29 @@ IsFound next store = IfFinish next (λ plan. Changes plan (IsReal store))
 
 -- ---- plans
 
--- a rename at its common directory, by the rows of its two heads; one that did not come there fails where it stands
-abbrev pub pair_plan : Graph → Key → Key → Holdings → Key → Plan
-pair_plan graph p q st (z ∷ l) = Fails (walk_errno (graph.shape st.node))
-pair_plan graph p q st [] =
-    rename_plan
-    (rename_fault
+-- a call on two entries where both heads stand, by how its paths stand to each other and by what kept the heads from both parents
+abbrev pub parents_plan : Graph → PairCall → ℕ → Name → ℕ → Name → Bool → Bool → Bool → Option Errno → Option Errno → Plan
+parents_plan graph pairs.Rename source x dest y same_path above one_parent a b =
+    pair_plan
+    (rename_fault a b (entry_shape graph source x) same_path (there_by above (entry_shape graph dest y)) (one_parent || not (is_full (graph.shape dest))))
+    same_path
+    (moving (is_some (graph.child dest y)) (graph.child source x))
+parents_plan graph pairs.Exchange source x dest y same_path above one_parent a b =
+    pair_plan (exchange_fault a b (entry_shape graph source x) (entry_shape graph dest y)) same_path (swapping (graph.child source x) (graph.child dest y))
+
+-- the same at its common directory; one that did not come there fails where it stands
+abbrev pub pair_plan_at : Graph → PairCall → Key → Key → Holdings → Key → Plan
+pair_plan_at graph c p q st (z ∷ l) = Fails (walk_errno (graph.shape st.node))
+pair_plan_at graph c p q st [] =
+    parents_plan graph c st.source.node (last_of p) st.dest.node (last_of q) (is_end (after_prefix p q)) (has_more (after_prefix q p)) (is_end (after_prefix (parent_of p) (parent_of q)))
     (dir_error (left st.source.walked (parent_of p)) (graph.shape st.source.node))
     (dir_error (left st.dest.walked (parent_of q)) (graph.shape st.dest.node))
-    (entry_shape graph st.source.node (last_of p))
-    (is_end (after_prefix p q))
-    (there_by (has_more (after_prefix q p)) (entry_shape graph st.dest.node (last_of q)))
-    (is_end (after_prefix (parent_of p) (parent_of q)) || not (is_full (graph.shape st.dest.node))))
-    (is_end (after_prefix p q))
-    (moving (is_some (graph.child st.dest.node (last_of q))) (graph.child st.source.node (last_of p)))
 
 -- each form of call where it stands
 abbrev pub plan_at : Graph → Form → Holdings → Plan
 plan_at graph (AtNode c p) st = node_plan (path_error p (graph.shape st.node)) st.node
 plan_at graph (AtEntry c p) st = entry_plan (entry_fault c (dir_error (parent_of p) (graph.shape st.node)) (is_full (graph.shape st.node)) (entry_shape graph st.node (last_of p))) (new_shape c) st.node
-plan_at graph (AtPair pairs.Rename p q) st = pair_plan graph p q st (target (AtPair pairs.Rename p q))
+plan_at graph (AtPair c p q) st = pair_plan_at graph c p q st (target (AtPair c p q))
 
 -- a call that its paths decide, and else where it stands
 abbrev pub plan_by : Graph → Option Errno → Form → Option Holdings → Plan

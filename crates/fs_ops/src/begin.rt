@@ -13,7 +13,7 @@ ghost use Rattle.fs_machine.specs.OpValues.{BegunAs, new_value};
 
 use crate::end::give_back;
 use crate::prepared::Prepared;
-use fs_calls::{Call, EntryCall, PairCall, Target, calls};
+use fs_calls::{Call, EntryCall, Target, calls};
 use fs_finish::room::Room;
 use fs_names::{Kind, PATH_LIMIT, Path};
 use fs_nodes::{NoNode, NodeNo, Store};
@@ -72,7 +72,7 @@ pub(crate) fn target_len(aim: Target<'_>) -> usize
     match aim {
         Target::Node(_, path) => path.len(),
         Target::Entry(_, path) => path.parent_len(),
-        Target::Pair(PairCall::Rename, path, other) => common_len(path, other),
+        Target::Pair(_, path, other) => common_len(path, other),
     }
 }
 

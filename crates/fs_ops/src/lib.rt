@@ -4,7 +4,7 @@
 //! makes it the call under way. From then on `Op::next` answers the next move, and the caller tells what came of it by `took`, `let_go`, `carry_out` and, at
 //! last, `end`. Each of these does what the machine's definitions say, and none of them needs memory. What a finish does is
 //! found once, by `next`: its plan is handed to `carry_out`, which decides nothing. From then on the call keeps a list of what
-//! it holds, and lets the last taken go first. An `Op` knows of no other call: who holds a node, and whom a rename helps, is
+//! it holds, and lets the last taken go first. An `Op` knows of no other call: who holds a node, and whom it helps, is
 //! decided in `fs_core`.
 //!
 //! Enter at `Prepared::new` and `Op::next`, or where no room is needed between at `Op::begin` (`whole`). The definitions that the contracts cite are `fs_machine/specs/OpValues.antt` and

@@ -34,7 +34,7 @@ impl Model for Op {
 }
 
 impl Op {
-    /// The node where the call stands: a rename with both heads under way stands at its common directory. None: it holds nothing.
+    /// The node where the call stands: one with two heads under way stands at its common directory. None: it holds nothing.
     pub fn position(&self) -> Option<NodeNo>
         ensures { result ≡ option_map (λ st. st.node) self.now.holdings }
     {

@@ -10,12 +10,12 @@ use fs_locks::Held;
 use fs_nodes::NodeNo;
 use fs_walk::{Fork, Walk};
 
-/// Where a call stands: its walk, the heads of a rename behind that, and a victim.
+/// Where a call stands: its walk, the heads of a call on two entries behind that, and a victim.
 #[derive(Drop)]
 pub struct Stand {
     /// The walk to its target.
     pub walk: Walk,
-    /// The heads of a rename, where one of them has set out from the target.
+    /// The heads of a call on two entries, where one of them has set out from the target.
     pub fork: Option<Fork>,
     /// The node that the call took so as to remove it.
     pub victim: Option<NodeNo>,
@@ -48,7 +48,7 @@ impl Stand {
         held
     }
 
-    /// The route of a rename, from where its heads are, or else its walk; of another call it means nothing.
+    /// The route of a call on two entries, from where its heads are, or else its walk; of another call it means nothing.
     pub fn route(&self) -> Route
         ensures { result ≡ route_by self.now.walk.node self.now.fork self.now.victim }
     {

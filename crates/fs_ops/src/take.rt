@@ -6,7 +6,7 @@ ghost use Rattle.fs_names.specs.Keys.{parent_of};
 ghost use Rattle.fs_names.specs.Parts.{common};
 ghost use Rattle.fs_calls.specs.code.Targets.{form_of};
 ghost use Rattle.fs_calls.specs.Forms as forms;
-ghost use Rattle.fs_calls.specs.declared.target.PairCall.TheVariants as pairs;
+ghost use Rattle.fs_calls.specs.declared.target.PairCall.{PairCall};
 ghost use Rattle.fs_walk.specs.Ways.{fork_took, has_arrived};
 ghost use Rattle.fs_machine.specs.Moves.{target};
 ghost use Rattle.fs_ops.specs.OpValue.{Forks};
@@ -15,12 +15,12 @@ ghost use Rattle.fs_machine.specs.OpValues.{IsTook};
 
 use crate::op::Op;
 use crate::stand::Stand;
-use fs_calls::{PairCall, Target};
+use fs_calls::Target;
 use fs_names::Path;
 use fs_nodes::NodeNo;
 use fs_walk::Fork;
 
-/// A head of a rename takes a node; where both have arrived, it is the victim.
+/// A head takes a node; where both have arrived, it is the victim of a rename.
 fn heads_took(
     source: &Path,
     dest: &Path,
@@ -36,14 +36,14 @@ fn heads_took(
     }
 }
 
-/// A rename at its common directory takes a node.
-fn rename_took(source: &Path, dest: &Path, stand: &mut Stand, node: NodeNo)
+/// A call on two entries at its common directory takes a node. Which of them it is, no take asks.
+fn pair_took(source: &Path, dest: &Path, stand: &mut Stand, node: NodeNo)
     requires names { stand.old.walk.names ≡ length (common (parent_of source.now) (parent_of dest.now)) }
     requires arrived { stand.old.walk.walked ≡ stand.old.walk.names }
-    requires forks { Forks (forms.AtPair pairs.Rename source.now dest.now) stand.old.walk stand.old.fork }
+    requires forks { (c : PairCall) → Forks (forms.AtPair c source.now dest.now) stand.old.walk stand.old.fork }
     ensures walk { stand.new.walk ≡ stand.old.walk }
-    ensures forks { Forks (forms.AtPair pairs.Rename source.now dest.now) stand.old.walk stand.new.fork }
-    ensures stands { (at : ℕ) → stand.old.walk.node ≡ Some at → TakesTo (forms.AtPair pairs.Rename source.now dest.now) stand.old.walk at node stand.old.fork stand.old.victim stand.new.fork stand.new.victim }
+    ensures forks { (c : PairCall) → Forks (forms.AtPair c source.now dest.now) stand.old.walk stand.new.fork }
+    ensures stands { (c : PairCall) (at : ℕ) → stand.old.walk.node ≡ Some at → TakesTo (forms.AtPair c source.now dest.now) stand.old.walk at node stand.old.fork stand.old.victim stand.new.fork stand.new.victim }
 {
     if let Some(at) = stand.walk.node() {
         match &mut stand.fork {
@@ -59,7 +59,7 @@ fn rename_took(source: &Path, dest: &Path, stand: &mut Stand, node: NodeNo)
     }
 }
 
-/// A call at its target takes a node: a rename with one of its heads, or else the victim.
+/// A call at its target takes a node: one on two entries with one of its heads, or else the victim.
 #[inline(never)]
 fn took_at_target(aim: Target<'_>, stand: &mut Stand, node: NodeNo)
     requires names { stand.old.walk.names ≡ length (target (form_of aim)) }
@@ -74,7 +74,7 @@ fn took_at_target(aim: Target<'_>, stand: &mut Stand, node: NodeNo)
         Target::Entry(_, _) => {
             stand.victim = Some(node);
         }
-        Target::Pair(PairCall::Rename, source, dest) => rename_took(source, dest, stand, node),
+        Target::Pair(_, source, dest) => pair_took(source, dest, stand, node),
     }
 }
 

@@ -1,28 +1,30 @@
 -- What a call does next, by the nodes where it stands.
-use Rattle.std.specs.Prelude.{ℕ, Bool, not, ◌&&◌, ◌||◌, true, is_some, Option, Some, None}
+use Rattle.std.specs.Prelude.{ℕ, Bool, not, ◌&&◌, true, false, Option, Some, None}
 use Rattle.fs_names.specs.Keys.{Key, parent_of, last_of, after_prefix, has_more, is_end}
 use Rattle.fs_names.specs.Names.{Name}
-use Rattle.fs_names.specs.Shapes.{is_full}
+use Rattle.fs_names.specs.Shapes.{Shape, is_full}
 use Rattle.fs_calls.specs.Forms.{Form, AtNode, AtEntry, AtPair, new_shape}
 use Rattle.fs_calls.specs.declared.target.EntryCall.{EntryCall}
+use Rattle.fs_calls.specs.declared.target.PairCall.{PairCall}
 use Rattle.fs_calls.specs.declared.target.PairCall.TheVariants as pairs
-use Rattle.fs_calls.specs.Rows.{as_dir, entry_fault, rename_fault}
+use Rattle.fs_calls.specs.Rows.{as_dir, entry_fault}
 use Rattle.fs_nodes.specs.Graphs.{Graph, entry_shape}
 use Rattle.fs_walk.specs.Ways.{Way, ForkWay}
 use Rattle.fs_walk.specs.Wants.{want, fork_want}
 use Rattle.fs_walk.specs.declared.want.Want.{Want}
 use Rattle.fs_walk.specs.declared.want.Want.TheVariants as wants
 use Rattle.fs_finish.specs.Paths.{first_path}
-use Rattle.fs_finish.specs.Plans.{entry_plan, rename_plan, moving}
+use Rattle.fs_finish.specs.Plans.{entry_plan}
 use Rattle.fs_finish.specs.declared.plan.Route.{Route}
 use Rattle.fs_finish.specs.declared.plan.Plan.{Plan}
 use Rattle.fs_finish.specs.declared.plan.Plan.TheVariants.{Fails, Answers}
-use Rattle.fs_machine.specs.Moves.{same_kind, there_by, victim_of}
+use Rattle.fs_machine.specs.Moves.{same_kind, victim_of}
 use Rattle.fs_ops.specs.declared.next.Next.{Next}
 use Rattle.fs_ops.specs.declared.next.Next.TheVariants.{Take as Takes, LetGo as Leaves, Finish as Finishes, Return as Ends}
+use Rattle.fs_ops.specs.PlanOf.{parents_plan}
 use Rattle.fs_ops.specs.code.TakeAndLetGo.{started}
 
--- the route of a rename
+-- the route of a call on two entries
 abbrev pub route_by : Option ℕ → Option ForkWay → Option ℕ → Route
 route_by _ (Some fork) victim = record { source = fork.source.node; dest = fork.dest.node; victim = victim }
 route_by (Some n) None victim = record { source = n; dest = n; victim = victim }
@@ -49,15 +51,17 @@ entry_next graph n c x victim =
     take_or (to_take (victim_of c (entry_shape graph n x)) (graph.child n x) victim)
     (entry_plan (entry_fault c (as_dir None (graph.shape n)) (is_full (graph.shape n)) (entry_shape graph n x)) (new_shape c) n)
 
--- a rename from one directory to another
-abbrev pub between_next : Graph → ℕ → Name → ℕ → Name → Bool → Bool → Bool → Option ℕ → Next
-between_next graph source x dest y same_path above one_parent victim =
+-- whether what stands at the second name goes, by what stands at both and by how the paths stand to each other
+abbrev pub replaces : PairCall → Option Shape → Option Shape → Bool → Bool → Bool
+replaces pairs.Rename moved there same_path above = same_kind moved there && not same_path && not above
+replaces pairs.Exchange one other same_path above = false
+
+-- a call on two entries, with the directories of both held
+abbrev pub between_next : Graph → PairCall → ℕ → Name → ℕ → Name → Bool → Bool → Bool → Option ℕ → Next
+between_next graph c source x dest y same_path above one_parent victim =
     take_or
-    (to_take (same_kind (entry_shape graph source x) (entry_shape graph dest y) && not same_path && not above) (graph.child dest y) victim)
-    (rename_plan
-    (rename_fault None None (entry_shape graph source x) same_path (there_by above (entry_shape graph dest y)) (one_parent || not (is_full (graph.shape dest))))
-    same_path
-    (moving (is_some (graph.child dest y)) (graph.child source x)))
+    (to_take (replaces c (entry_shape graph source x) (entry_shape graph dest y) same_path above) (graph.child dest y) victim)
+    (parents_plan graph c source x dest y same_path above one_parent None None)
 
 -- what a walk wants, and what comes when it has arrived; one that fails finishes
 abbrev pub want_next : Want → Next → Next
@@ -66,17 +70,17 @@ want_next (wants.LetGo n) next = Leaves n
 want_next wants.Arrived next = next
 want_next (wants.Fails e) next = Finishes (Fails e)
 
--- what both heads of a rename want, and what comes at both parents
-abbrev pub heads_next : Graph → Key → Key → ForkWay → Option ℕ → Next
-heads_next graph p q fork victim =
+-- what both heads of a call on two entries want, and what comes at both parents
+abbrev pub heads_next : Graph → PairCall → Key → Key → ForkWay → Option ℕ → Next
+heads_next graph c p q fork victim =
     want_next (fork_want graph p q fork)
-    (between_next graph fork.source.node (last_of p) fork.dest.node (last_of q) (is_end (after_prefix p q)) (has_more (after_prefix q p)) (is_end (after_prefix (parent_of p) (parent_of q))) victim)
+    (between_next graph c fork.source.node (last_of p) fork.dest.node (last_of q) (is_end (after_prefix p q)) (has_more (after_prefix q p)) (is_end (after_prefix (parent_of p) (parent_of q))) victim)
 
 -- a call at its target, to which so many names lead
 abbrev pub target_next : Graph → Form → ℕ → ℕ → Option ForkWay → Option ℕ → Next
 target_next graph (AtNode c p) n names fork victim = Finishes (Answers n)
 target_next graph (AtEntry c p) n names fork victim = entry_next graph n c (last_of p) victim
-target_next graph (AtPair pairs.Rename p q) n names fork victim = heads_next graph p q (started fork n names) victim
+target_next graph (AtPair c p q) n names fork victim = heads_next graph c p q (started fork n names) victim
 
 -- a call that is not finished, and that its paths do not decide: it takes the root first; where heads have set out the walk is over
 abbrev pub way_next_at : Graph → Form → Way → Option ℕ → Option ForkWay → Option ℕ → Next

@@ -21,7 +21,7 @@ abbrev pub TakesTo : Form → Way → ℕ → ℕ → Option ForkWay → Option 
 TakesTo call way at n fork victim fork_new victim_new =
     target_took (dropped way.walked call) (holdings_with call at (behind_in way.behind fork) fork victim) n ≡ holdings_with call at (behind_in way.behind fork_new) fork_new victim_new
 
--- the heads of a rename after a take, once one of them has set out
+-- the heads of a call on two entries after a take, once one of them has set out
 abbrev pub heads_after : Key → Key → Option ForkWay → ℕ → ℕ → ℕ → Option ForkWay
 heads_after p q (Some fork) at names n = Some (fork_took p q fork n)
 heads_after p q None at names n = cond (has_set_out (fork_took p q (new_fork at names) n)) (Some (fork_took p q (new_fork at names) n)) None
