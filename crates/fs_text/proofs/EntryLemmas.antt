@@ -63,6 +63,7 @@ call_again (call.Mknod p) h = ap (λ r. r >>= λ key. Ok (call.Mknod key)) (path
 call_again (call.Unlink p) h = ap (λ r. r >>= λ key. Ok (call.Unlink key)) (path_read p h)
 call_again (call.Rmdir p) h = ap (λ r. r >>= λ key. Ok (call.Rmdir key)) (path_read p h)
 call_again (call.Rename p q) h = rw (path_read p h.0, path_read q h.1) refl
+call_again (call.Exchange p q) h = rw (path_read p h.0, path_read q h.1) refl
 call_again (call.Stat p) h = ap (λ r. r >>= λ key. Ok (call.Stat key)) (path_read p h)
 call_again (call.Readdir p) h = ap (λ r. r >>= λ key. Ok (call.Readdir key)) (path_read p h)
 call_again (call.Read p off count) h = rw (path_read p h.0, number_read off h.1, number_read count h.2) refl
@@ -127,6 +128,7 @@ form_again (call.Mknod p) = refl
 form_again (call.Unlink p) = refl
 form_again (call.Rmdir p) = refl
 form_again (call.Rename p q) = refl
+form_again (call.Exchange p q) = refl
 form_again (call.Stat p) = refl
 form_again (call.Readdir p) = refl
 form_again (call.Read p off count) = refl
@@ -167,6 +169,7 @@ call_good (call.Mknod p) h = (literal (codes "mknod") (search rules) (search rul
 call_good (call.Unlink p) h = (literal (codes "unlink") (search rules) (search rules), (IsWord_path p, tt))
 call_good (call.Rmdir p) h = (literal (codes "rmdir") (search rules) (search rules), (IsWord_path p, tt))
 call_good (call.Rename p q) h = (literal (codes "rename") (search rules) (search rules), (IsWord_path p, (IsWord_path q, tt)))
+call_good (call.Exchange p q) h = (literal (codes "exchange") (search rules) (search rules), (IsWord_path p, (IsWord_path q, tt)))
 call_good (call.Stat p) h = (literal (codes "stat") (search rules) (search rules), (IsWord_path p, tt))
 call_good (call.Readdir p) h = (literal (codes "readdir") (search rules) (search rules), (IsWord_path p, tt))
 call_good (call.Read p off count) h = (literal (codes "read") (search rules) (search rules), (IsWord_path p, (IsWord_decimal off h.1, (IsWord_decimal count h.2, tt))))

@@ -4,7 +4,7 @@ use Rattle.std.specs.Str.{bytes_eq}
 use Rattle.fs_names.specs.Keys.{Key}
 use Rattle.fs_names.specs.declared.fault.PathFault.{PathFault}
 use Rattle.fs_calls.specs.declared.call.Call.{Call}
-use Rattle.fs_calls.specs.declared.call.Call.TheVariants.{Mkdir, Mknod, Unlink, Rmdir, Rename, Stat, Readdir, Read, Write, Truncate}
+use Rattle.fs_calls.specs.declared.call.Call.TheVariants.{Mkdir, Mknod, Unlink, Rmdir, Rename, Exchange, Stat, Readdir, Read, Write, Truncate}
 use Rattle.fs_text.specs.Words.{Word, number_of, hex_of, hex_word, path_word, path_of}
 use Rattle.fs_text.specs.declared.fault.FaultKind.{FaultKind}
 use Rattle.fs_text.specs.declared.fault.FaultKind.TheVariants as kind
@@ -18,6 +18,7 @@ call_words (Mknod p) = codes "mknod" ∷ path_word p ∷ []
 call_words (Unlink p) = codes "unlink" ∷ path_word p ∷ []
 call_words (Rmdir p) = codes "rmdir" ∷ path_word p ∷ []
 call_words (Rename p q) = codes "rename" ∷ path_word p ∷ path_word q ∷ []
+call_words (Exchange p q) = codes "exchange" ∷ path_word p ∷ path_word q ∷ []
 call_words (Stat p) = codes "stat" ∷ path_word p ∷ []
 call_words (Readdir p) = codes "readdir" ∷ path_word p ∷ []
 call_words (Read p off count) = codes "read" ∷ path_word p ∷ decimal off ∷ decimal count ∷ []
@@ -66,10 +67,11 @@ pub data CallForm : Type 0 where
 abbrev pub longer_form_of : Word → Option CallForm
 longer_form_of word =
     if bytes_eq word (codes "rename") then Some (two_paths Rename)
+    else (if bytes_eq word (codes "exchange") then Some (two_paths Exchange)
     else (if bytes_eq word (codes "read") then Some (two_numbers Read)
     else (if bytes_eq word (codes "write") then Some (number_and_bytes Write)
     else (if bytes_eq word (codes "truncate") then Some (a_number Truncate)
-    else None)))
+    else None))))
 
 -- the form of a call by its first word
 abbrev pub form_of : Word → Option CallForm

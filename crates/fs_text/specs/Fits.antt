@@ -36,6 +36,7 @@ FitsCall (call.Mknod p) = IsKey p
 FitsCall (call.Unlink p) = IsKey p
 FitsCall (call.Rmdir p) = IsKey p
 FitsCall (call.Rename p q) = IsKey p × IsKey q
+FitsCall (call.Exchange p q) = IsKey p × IsKey q
 FitsCall (call.Stat p) = IsKey p
 FitsCall (call.Readdir p) = IsKey p
 FitsCall (call.Read p off count) = IsKey p × IsU64 off × IsU64 count

@@ -1,15 +1,15 @@
 //! Calls that are read from words.
 
 ghost use Rattle.std.specs.Prelude.{◌≡◌, ◌∷◌, [], map, option_map};
-ghost use Rattle.fs_calls.specs.declared.call.Call.TheVariants.{Rename, Read, Write, Truncate};
+ghost use Rattle.fs_calls.specs.declared.call.Call.TheVariants.{Read, Write, Truncate};
 ghost use Rattle.fs_text.specs.Calls.{one_path, two_paths, a_number, two_numbers, number_and_bytes, a_number_at, arguments_at, call_of, form_of, argument_count, has_call_form};
 ghost use Rattle.fs_text.specs.code.Answers.{Gives};
-ghost use Rattle.fs_text.specs.code.Forms.{call_on, form_meant};
+ghost use Rattle.fs_text.specs.code.Forms.{call_on, call_on_both, form_meant};
 
 use crate::fault::FaultKind;
 use crate::recent::Recent;
 use crate::words::{hex_at, number_at, path_with};
-use fs_calls::Call;
+use fs_calls::{Call, PairCall};
 use fs_names::Path;
 use std::alloc::Global;
 
@@ -28,7 +28,7 @@ enum OnPath {
 #[derive(Clone, Copy)]
 enum Form {
     OnPath(OnPath),
-    Rename,
+    OnBoth(PairCall),
     Truncate,
     Read,
     Write,
@@ -44,7 +44,8 @@ fn form_of(word: &[u8]) -> Option<Form>
         b"rmdir" => Some(Form::OnPath(OnPath::Rmdir)),
         b"stat" => Some(Form::OnPath(OnPath::Stat)),
         b"readdir" => Some(Form::OnPath(OnPath::Readdir)),
-        b"rename" => Some(Form::Rename),
+        b"rename" => Some(Form::OnBoth(PairCall::Rename)),
+        b"exchange" => Some(Form::OnBoth(PairCall::Exchange)),
         b"read" => Some(Form::Read),
         b"write" => Some(Form::Write),
         b"truncate" => Some(Form::Truncate),
@@ -65,6 +66,15 @@ fn call_on(call: OnPath, path: Path) -> Call
     }
 }
 
+fn call_on_both(call: PairCall, path: Path, other: Path) -> Call
+    ensures { result ≡ call_on_both call path other }
+{
+    match call {
+        PairCall::Rename => Call::Rename(path, other),
+        PairCall::Exchange => Call::Exchange(path, other),
+    }
+}
+
 fn call_on_at<'a>(
     alloc: Global,
     recent: &mut Recent<'a>,
@@ -80,20 +90,21 @@ fn call_on_at<'a>(
 }
 
 #[tactic(auto, using(crate::proofs::ReadLemmas::fails_bind))]
-fn rename_at<'a>(
+fn call_on_both_at<'a>(
     alloc: Global,
     recent: &mut Recent<'a>,
-    from: &'a [u8],
-    to: &'a [u8],
+    call: PairCall,
+    path: &'a [u8],
+    other: &'a [u8],
 ) -> Result<Call, FaultKind>
-    ensures { Gives (λ call. call) result (arguments_at (two_paths Rename) (from.now ∷ to.now ∷ [])) }
+    ensures { Gives (λ call. call) result (arguments_at (two_paths (call_on_both call)) (path.now ∷ other.now ∷ [])) }
 {
-    let from = match path_with(alloc, recent, from) {
-        Ok(from) => from,
+    let path = match path_with(alloc, recent, path) {
+        Ok(path) => path,
         Err(kind) => return Err(kind),
     };
-    match path_with(alloc, recent, to) {
-        Ok(to) => Ok(Call::Rename(from, to)),
+    match path_with(alloc, recent, other) {
+        Ok(other) => Ok(call_on_both(call, path, other)),
         Err(kind) => Err(kind),
     }
 }
@@ -178,7 +189,7 @@ fn arguments_at<'a>(
 {
     match (form, words) {
         (Form::OnPath(call), [path]) => call_on_at(alloc, recent, call, path),
-        (Form::Rename, [from, to]) => rename_at(alloc, recent, from, to),
+        (Form::OnBoth(call), [path, other]) => call_on_both_at(alloc, recent, call, path, other),
         (Form::Truncate, [path, size]) => truncate_at(alloc, recent, path, size),
         (Form::Read, [path, off, count]) => read_at(alloc, recent, path, off, count),
         (Form::Write, [path, off, bytes]) => write_at(alloc, recent, path, off, bytes),
@@ -217,7 +228,7 @@ fn argument_count(form: Form) -> usize
 {
     match form {
         Form::OnPath(_) => 1,
-        Form::Rename | Form::Truncate => 2,
+        Form::OnBoth(_) | Form::Truncate => 2,
         Form::Read | Form::Write => 3,
     }
 }

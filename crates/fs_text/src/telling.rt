@@ -37,9 +37,9 @@ fn told_of_call(call: &Call)
     match call {
         Call::Mkdir(path) | Call::Mknod(path) => told_of_path(path),
         Call::Unlink(path) | Call::Rmdir(path) => told_of_path(path),
-        Call::Rename(from, to) => {
-            told_of_path(from);
-            told_of_path(to);
+        Call::Rename(path, other) | Call::Exchange(path, other) => {
+            told_of_path(path);
+            told_of_path(other);
         }
         Call::Stat(path) | Call::Readdir(path) => told_of_path(path),
         Call::Read(path, off, count) => {

@@ -4,7 +4,7 @@ ghost use Rattle.std.specs.Prelude.{◌≡◌, ◌++◌, ◌∷◌, OnOk, OnErr}
 ghost use Rattle.std.specs.List.{flat_map, join_with_byte};
 ghost use Rattle.fs_text.specs.Words.{escaped, path_word};
 ghost use Rattle.fs_text.specs.Calls.{call_words};
-ghost use Rattle.fs_calls.specs.declared.call.Call.TheVariants.{Rename, Read, Write};
+ghost use Rattle.fs_calls.specs.declared.call.Call.TheVariants.{Read, Write};
 ghost use Rattle.fs_text.specs.Journal.{reply_words, entry_words, entry_line, kind_word, errno_word};
 
 use crate::addition::Addition;
@@ -53,6 +53,21 @@ fn push_with_path(
     push_path(alloc, path, line)
 }
 
+/// A word with its space, and two paths behind it.
+fn push_with_paths(
+    alloc: Global,
+    word: &[u8],
+    path: &Path,
+    other: &Path,
+    line: &mut Addition,
+) -> Result<(), AllocError>
+    ensures ok { OnOk result (line.new.added ≡ line.old.added ++ word.now ++ path_word path.now ++ 32 ∷ path_word other.now) }
+    ensures before { line.new.before ≡ line.old.before }
+{
+    push_with_path(alloc, word, path, line)?;
+    push_with_path(alloc, b" ", other, line)
+}
+
 fn push_call(alloc: Global, call: &Call, line: &mut Addition) -> Result<(), AllocError>
     ensures ok { OnOk result (line.new.added ≡ line.old.added ++ join_with_byte 32 (call_words call.now)) }
     ensures before { line.new.before ≡ line.old.before }
@@ -62,7 +77,8 @@ fn push_call(alloc: Global, call: &Call, line: &mut Addition) -> Result<(), Allo
         Call::Mknod(path) => push_with_path(alloc, b"mknod ", path, line),
         Call::Unlink(path) => push_with_path(alloc, b"unlink ", path, line),
         Call::Rmdir(path) => push_with_path(alloc, b"rmdir ", path, line),
-        Call::Rename(from, to) => push_rename(alloc, from, to, line),
+        Call::Rename(from, to) => push_with_paths(alloc, b"rename ", from, to, line),
+        Call::Exchange(path, other) => push_with_paths(alloc, b"exchange ", path, other, line),
         Call::Stat(path) => push_with_path(alloc, b"stat ", path, line),
         Call::Readdir(path) => push_with_path(alloc, b"readdir ", path, line),
         Call::Read(path, off, count) => push_read(alloc, path, *off, *count, line),
@@ -72,14 +88,6 @@ fn push_call(alloc: Global, call: &Call, line: &mut Addition) -> Result<(), Allo
             line.push_with_number(b" ", *size)
         }
     }
-}
-
-fn push_rename(alloc: Global, from: &Path, to: &Path, line: &mut Addition) -> Result<(), AllocError>
-    ensures ok { OnOk result (line.new.added ≡ line.old.added ++ join_with_byte 32 (call_words (Rename from.now to.now))) }
-    ensures before { line.new.before ≡ line.old.before }
-{
-    push_with_path(alloc, b"rename ", from, line)?;
-    push_with_path(alloc, b" ", to, line)
 }
 
 fn push_read(

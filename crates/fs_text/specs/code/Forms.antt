@@ -1,7 +1,9 @@
 -- The forms of calls as the code has them.
 use Rattle.fs_names.specs.Keys.{Key}
 use Rattle.fs_calls.specs.declared.call.Call.{Call}
-use Rattle.fs_calls.specs.declared.call.Call.TheVariants.{Mkdir, Mknod, Unlink, Rmdir, Rename, Stat, Readdir, Read, Write, Truncate}
+use Rattle.fs_calls.specs.declared.call.Call.TheVariants.{Mkdir, Mknod, Unlink, Rmdir, Rename, Exchange, Stat, Readdir, Read, Write, Truncate}
+use Rattle.fs_calls.specs.declared.target.PairCall.{PairCall}
+use Rattle.fs_calls.specs.declared.target.PairCall.TheVariants as pairs
 use Rattle.fs_text.specs.declared.calls.Form.{Form}
 use Rattle.fs_text.specs.declared.calls.Form.TheVariants as form
 use Rattle.fs_text.specs.declared.calls.OnPath.{OnPath}
@@ -17,10 +19,15 @@ call_on on.Rmdir = Rmdir
 call_on on.Stat = Stat
 call_on on.Readdir = Readdir
 
+-- the call on two paths
+abbrev pub call_on_both : PairCall → Key → Key → Call
+call_on_both pairs.Rename = Rename
+call_on_both pairs.Exchange = Exchange
+
 -- the form of a call that the code's form stands for
 abbrev pub form_meant : Form → CallForm
 form_meant (form.OnPath call) = one_path (call_on call)
-form_meant form.Rename = two_paths Rename
+form_meant (form.OnBoth call) = two_paths (call_on_both call)
 form_meant form.Truncate = a_number Truncate
 form_meant form.Read = two_numbers Read
 form_meant form.Write = number_and_bytes Write

@@ -11,6 +11,10 @@ pub returns-in-rename : goal.returns-in-rename
 returns-in-rename c =
     ap form_of (spelled c.args.word.now (codes "rename") (omega arith) (omega arith, (omega arith, (omega arith, (omega arith, (omega arith, (omega arith, tt)))))))
 
+pub returns-in-exchange : goal.returns-in-exchange
+returns-in-exchange c =
+    ap form_of (spelled c.args.word.now (codes "exchange") (omega arith) (omega arith, (omega arith, (omega arith, (omega arith, (omega arith, (omega arith, (omega arith, (omega arith, tt)))))))))
+
 pub returns-in-readdir : goal.returns-in-readdir
 returns-in-readdir c =
     ap form_of (spelled c.args.word.now (codes "readdir") (omega arith) (omega arith, (omega arith, (omega arith, (omega arith, (omega arith, (omega arith, (omega arith, tt))))))))
