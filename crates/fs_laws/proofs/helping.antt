@@ -4,7 +4,7 @@ pub mod MovesSpareOthers
 pub mod SettledThroughRename
 pub mod SettledThroughHelp
 pub mod ReadsNothingBelow
-pub mod RenamesReadNothingBelow
+pub mod PairsReadNothingBelow
 pub mod WhoStandsBelow
 pub mod NobodyEnters
 pub mod HelpedLeave

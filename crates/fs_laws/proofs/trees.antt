@@ -5,4 +5,5 @@ pub mod SeveralWrites
 pub mod SeenAsMaps
 pub mod ChangesAsMaps
 pub mod RenamesAsMaps
+pub mod ExchangesAsMaps
 pub mod TreesAsMaps

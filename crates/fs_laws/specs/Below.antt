@@ -33,7 +33,7 @@ NoWalkingBelow s = (c d i : ℕ) (op : Record) (st : Holdings) → IsHolding s c
 abbrev pub NoLaterBelow : State → Type 0
 NoLaterBelow s = (c d i j : ℕ) (op q : Record) (st : Holdings) → IsHolding s c op st → op.phase ≡ Placed i → s.ops d ≡ Some q → q.phase ≡ Placed j → i < j → IsBelow s.graph st.node q → ⊥
 
--- while a rename holds its common directory and has walked from there to a head, no other call holds a node on that way, its ends included
+-- while a rename or an exchange holds its common directory and has walked from there to a head, no other call holds a node on that way, its ends included
 abbrev pub NobodyBetween : State → Type 0
 NobodyBetween s = (c d n : ℕ) (op q : Record) (st other : Holdings) (u v : Key) → (c ≡ d → ⊥) → IsHolding s c op st → IsHolding s d q other
     → (st.source.walked ≡ u ++ v) ⊎ (st.dest.walked ≡ u ++ v) → at s.graph.child st.node u ≡ Some n → Holds other n → ⊥

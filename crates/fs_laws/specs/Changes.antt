@@ -9,7 +9,7 @@ use Rattle.fs_calls.specs.declared.target.PairCall.TheVariants as pairs
 use Rattle.fs_calls.specs.declared.call.Call.{Call}
 use Rattle.fs_laws.specs.Maps.{Map, move, swap, write_all}
 pub use Rattle.fs_calls.specs.Sights.{resolve, resolve_next, resolve_dir}
-use Rattle.fs_calls.specs.Rows.{node_row, Edit, Keep, Add, Remove, entry_row, rename_row}
+use Rattle.fs_calls.specs.Rows.{node_row, Edit, Keep, Add, Remove, entry_row, rename_row, exchange_row}
 use Rattle.fs_calls.specs.declared.errno.Errno.{Errno}
 use Rattle.fs_calls.specs.declared.reply.Reply.{Reply}
 use Rattle.fs_calls.specs.declared.reply.Reply.TheVariants.{Failed}
@@ -64,6 +64,11 @@ abbrev pub move_change : Bool → List (Key × Option Shape) → Key → Key →
 move_change false ws p q = no_change
 move_change true ws p q = record { writes = ws; moves = MoveTo p q }
 
+-- an exchange that moves: no names change
+abbrev pub swap_change : Bool → Key → Key → Change
+swap_change false p q = no_change
+swap_change true p q = record { writes = []; moves = Swap p q }
+
 -- the reply to a call on a node, and its change, by what it reads on the tree
 abbrev pub node_looked : Map Shape → NodeCall → Key → Reply × Change
 node_looked tree c p = let r : Reply × Option (List ℕ) = node_row c (resolve tree p) (tree p) in (r.0, content_change p r.1)
@@ -78,11 +83,18 @@ rename_looked tree p q d x e y =
     let r : Reply × Bool = rename_row (resolve_dir tree d) (resolve_dir tree e) (tree p) (is_end (after_prefix p q)) (tree q) (is_end (after_prefix d e) || not (is_full (tree e))) in
     (r.0, move_change r.1 (rename_writes (is_end (after_prefix d e)) d (names_of (tree d)) x e (names_of (tree e)) y) p q)
 
+-- the same of an exchange of entries of the directories d and e
+abbrev pub exchange_looked : Map Shape → Key → Key → Key → Key → Reply × Change
+exchange_looked tree p q d e =
+    let r : Reply × Bool = exchange_row (resolve_dir tree d) (resolve_dir tree e) (tree p) (is_end (after_prefix p q)) (tree q) in
+    (r.0, swap_change r.1 p q)
+
 -- the same of each form of call
 abbrev pub looked : Map Shape → Form → Reply × Change
 looked tree (AtNode c p) = node_looked tree c p
 looked tree (AtEntry c p) = entry_looked tree c p (parent_of p) (last_of p)
 looked tree (AtPair pairs.Rename p q) = rename_looked tree p q (parent_of p) (last_of p) (parent_of q) (last_of q)
+looked tree (AtPair pairs.Exchange p q) = exchange_looked tree p q (parent_of p) (parent_of q)
 
 -- what the paths alone decide comes first
 abbrev pub if_sound : Option Errno → Reply × Change → Reply × Change

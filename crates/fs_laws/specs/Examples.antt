@@ -5,7 +5,7 @@ use Rattle.fs_names.specs.Keys.{Key}
 use Rattle.fs_names.specs.Reading.{names}
 use Rattle.fs_names.specs.Shapes.{Dir, File}
 use Rattle.fs_calls.specs.declared.call.Call.{Call}
-use Rattle.fs_calls.specs.declared.call.Call.TheVariants.{Mkdir, Mknod, Unlink, Rmdir, Rename, Write}
+use Rattle.fs_calls.specs.declared.call.Call.TheVariants.{Mkdir, Mknod, Unlink, Rmdir, Rename, Exchange, Write}
 use Rattle.fs_calls.specs.declared.errno.Errno.TheVariants.{Eexist, Ebusy, Eperm, Enotempty}
 use Rattle.fs_calls.specs.declared.reply.Reply.TheVariants.{Done, Wrote, Failed}
 use Rattle.fs_graph.specs.Graphs.{graph_shapes, used_below}
@@ -143,6 +143,47 @@ pub record HelpedRename : Type 0 where
   pub at_b_p : graph_shapes ran.state.graph (at "/b/p") ≡ Some (Dir [])
   pub at_b_q_t : graph_shapes ran.state.graph (at "/b/q/t") ≡ Some (File [])
   pub at_b_p_s : graph_shapes ran.state.graph (at "/b/p/s") ≡ None
+
+-- two calls stand below the two directories that are to change places
+abbrev pub before_exchange : List Event
+before_exchange =
+    begins 0 (Mkdir (at "/a")) 1
+    ++ steps 0 (Took 0 ∷ Committed ∷ LetGo 0 ∷ Returned Done ∷ [])
+    ++ begins 0 (Mkdir (at "/b")) 2
+    ++ steps 0 (Took 0 ∷ Committed ∷ LetGo 0 ∷ Returned Done ∷ [])
+    ++ begins 0 (Mkdir (at "/a/x")) 3
+    ++ steps 0 (Took 0 ∷ Took 1 ∷ LetGo 0 ∷ [])
+    ++ begins 1 (Mkdir (at "/b/y")) 4
+    ++ steps 1 (Took 0 ∷ Took 2 ∷ LetGo 0 ∷ [])
+
+-- the exchange helps both, the one with the lesser number first, and each makes its directory where it stands
+abbrev pub after_exchange : List Event
+after_exchange =
+    steps 2 (Took 0 ∷ Helped 3 ∷ Helped 4 ∷ Committed ∷ LetGo 0 ∷ Returned Done ∷ [])
+    ++ steps 0 (CarriedOut ∷ LetGo 1 ∷ Returned Done ∷ [])
+    ++ steps 1 (CarriedOut ∷ LetGo 2 ∷ Returned Done ∷ [])
+
+-- an exchange helps the calls below both nodes that it moves
+abbrev pub helped_on_both_sides : List Event
+helped_on_both_sides = before_exchange ++ begins 2 (Exchange (at "/a") (at "/b")) 5 ++ after_exchange
+
+pub record HelpedOnBothSides : Type 0 where
+  pub ran : Ran helped_on_both_sides
+  pub timeline : ran.state.timeline ≡ Begin 1 0 (Mkdir (at "/a")) ∷ Commit 1 ∷ Return 1 Done ∷ Begin 2 0 (Mkdir (at "/b")) ∷ Commit 2 ∷ Return 2 Done ∷ Begin 3 0 (Mkdir (at "/a/x")) ∷ Begin 4 1 (Mkdir (at "/b/y")) ∷ Begin 5 2 (Exchange (at "/a") (at "/b")) ∷ Commit 3 ∷ Commit 4 ∷ Commit 5 ∷ Return 5 Done ∷ Return 3 Done ∷ Return 4 Done ∷ []
+  pub at_root : graph_shapes ran.state.graph [] ≡ Some (Dir (codes "a" ∷ codes "b" ∷ []))
+  pub at_a : graph_shapes ran.state.graph (at "/a") ≡ Some (Dir (codes "y" ∷ []))
+  pub at_a_y : graph_shapes ran.state.graph (at "/a/y") ≡ Some (Dir [])
+  pub at_b : graph_shapes ran.state.graph (at "/b") ≡ Some (Dir (codes "x" ∷ []))
+  pub at_b_x : graph_shapes ran.state.graph (at "/b/x") ≡ Some (Dir [])
+
+-- the least number is helped first also where it stands below the second path
+abbrev pub least_below_second_path : List Event
+least_below_second_path = before_exchange ++ begins 2 (Exchange (at "/b") (at "/a")) 5 ++ after_exchange
+
+pub record LeastBelowSecondPath : Type 0 where
+  pub ran : Ran least_below_second_path
+  pub at_a : graph_shapes ran.state.graph (at "/a") ≡ Some (Dir (codes "y" ∷ []))
+  pub at_b : graph_shapes ran.state.graph (at "/b") ≡ Some (Dir (codes "x" ∷ []))
 
 -- an unlink waits for the victim that another call holds
 abbrev pub victim_is_waited_for : List Event

@@ -99,6 +99,7 @@ abbrev pub VictimAt : Graph → Form → Holdings → Type 0
 VictimAt graph (AtNode c p) st = Unit {0}
 VictimAt graph (AtEntry c p) st = (v : ℕ) → st.victim ≡ Some v → graph.child st.node (last_of p) ≡ Some v
 VictimAt graph (AtPair pairs.Rename p q) st = (v : ℕ) → st.victim ≡ Some v → (graph.child st.dest.node (last_of q) ≡ Some v) × (parent_of q ≡ st.dest.walked)
+VictimAt graph (AtPair pairs.Exchange p q) st = st.victim ≡ None
 
 -- the places of its holdings at which a call may hold a node
 pub data Slot : Type 0 where

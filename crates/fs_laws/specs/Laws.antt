@@ -39,7 +39,7 @@ PlacedGoFirst = (s : State) → Run s → NoWalkingBelow s
 abbrev pub EarlierGoFirst : Type 0
 EarlierGoFirst = (s : State) → Run s → NoLaterBelow s
 
--- no other call holds a node between a rename's common directory and its heads
+-- no other call holds a node between a rename's or an exchange's common directory and its heads
 abbrev pub HeadsStandClear : Type 0
 HeadsStandClear = (s : State) → Run s → NobodyBetween s
 
@@ -55,7 +55,7 @@ PlacesAreTold = (s : State) → Run s → PlacesAreCounted s
 abbrev pub FinishNeverWaits : Type 0
 FinishNeverWaits = (s : State) → NeverWaitsToFinish s
 
--- while a rename is about to move a node, no event brings a walking call below it, and each call that it helps is helped once: there are at most as many as walked below the node at first
+-- while a rename or an exchange is about to move nodes, no event brings a walking call below them, and each call that it helps is helped once: there are at most as many as walked below the nodes at first
 abbrev pub HelpsAreBounded : Type 0
 HelpsAreBounded = (s : State) → Run s → HelpsAreFew s
 

@@ -29,6 +29,7 @@ abbrev pub ReadsNothingBelow : Map Shape → Form → Key → Type 0
 ReadsNothingBelow tree (AtNode c p) k = after_prefix k p ≡ None
 ReadsNothingBelow tree (AtEntry c p) k = (after_prefix k (parent_of p) ≡ None) × (victim_of c (tree p) ≡ true → after_prefix k p ≡ None)
 ReadsNothingBelow tree (AtPair pairs.Rename p q) k = (after_prefix k (parent_of p) ≡ None) × (resolve_dir tree (parent_of p) ≡ None → (after_prefix k (parent_of q) ≡ None) × (looks_into tree p q ≡ true → after_prefix k q ≡ None))
+ReadsNothingBelow tree (AtPair pairs.Exchange p q) k = (after_prefix k (parent_of p) ≡ None) × (resolve_dir tree (parent_of p) ≡ None → after_prefix k (parent_of q) ≡ None)
 
 -- neither key begins with the other
 abbrev pub Aside : Key → Key → Type 0

@@ -1,6 +1,6 @@
 //! Worked examples: each is a run of the machine, with what each step answers.
 
-ghost use Rattle.fs_laws.specs.Examples.{FirstMkdir, CallsOnTheRoot, WaitsForTheRoot, HelpedMkdir, LowestFirst, HelpedRename, VictimIsWaitedFor};
+ghost use Rattle.fs_laws.specs.Examples.{FirstMkdir, CallsOnTheRoot, WaitsForTheRoot, HelpedMkdir, LowestFirst, HelpedRename, HelpedOnBothSides, LeastBelowSecondPath, VictimIsWaitedFor};
 
 /// The first mkdir, step by step.
 pub fn first_mkdir()
@@ -30,6 +30,16 @@ pub fn lowest_first()
 /// A rename helps a rename below the node that it moves.
 pub fn helped_rename()
     ensures { HelpedRename }
+{}
+
+/// An exchange helps the calls below both nodes that it moves.
+pub fn helped_on_both_sides()
+    ensures { HelpedOnBothSides }
+{}
+
+/// Of calls below both nodes, the one with the least number is helped first, also where it stands below the second path.
+pub fn least_below_second_path()
+    ensures { LeastBelowSecondPath }
 {}
 
 /// An unlink waits for the victim that another call holds.

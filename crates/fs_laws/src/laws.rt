@@ -47,8 +47,8 @@ pub fn earlier_go_first()
     ensures { EarlierGoFirst }
 {}
 
-/// Over every run no other call holds a node on the way from a rename's common directory to one of its heads, the ends
-/// included.
+/// Over every run no other call holds a node on the way from a rename's or an exchange's common directory to one of its
+/// heads, the ends included.
 pub fn heads_stand_clear()
     ensures { HeadsStandClear }
 {}
@@ -70,8 +70,9 @@ pub fn finish_never_waits()
     ensures { FinishNeverWaits }
 {}
 
-/// While a rename is about to move a node, no event brings a walking call below that node. Each call that the rename
-/// helps meanwhile walked below it from the first, and none is helped twice; so it helps at most as many as stood there.
+/// While a rename or an exchange is about to move nodes, no event brings a walking call below any of them. Each call that
+/// it helps meanwhile walked below one from the first, and none is helped twice; so it helps at most as many as stood
+/// there.
 pub fn helps_are_bounded()
     ensures { HelpsAreBounded }
 {}

@@ -1,20 +1,23 @@
 -- A call that stands at a key acts below it, by what it does on the tree below.
-use Rattle.std.proofs.Common.{◌≡◌, ℕ, Bool, true, false, not, ◌||◌, List, [], ◌∷◌, ◌++◌, Option, Some, None, refl, sym, ap, ap₂, ◌∙◌, append_assoc}
+use Rattle.std.proofs.Common.{◌≡◌, ℕ, Bool, true, false, not, ◌||◌, List, [], ◌∷◌, ◌++◌, Option, Some, None, refl, sym, ap, ap₂, ◌∙◌, append_assoc, append-nil}
 use mathlib.Core.Path.{fun_ext}
-use Rattle.fs_names.specs.Keys.{Key, after_prefix, parent_of, last_of, is_end}
+use Rattle.fs_names.specs.Failures.{check, first_failure}
+use Rattle.fs_names.specs.Keys.{Key, after_prefix, has_more, parent_of, last_of, is_end}
 use Rattle.fs_names.specs.Names.{Name}
 use Rattle.fs_names.specs.Parts.{HasNames}
 use Rattle.fs_names.specs.Shapes.{Shape, Dir, File, is_full, names_of}
-use Rattle.fs_laws.specs.Changes.{Rekeying, Stay, MoveTo, Swap, Change, moved_by, changed, resolve_next, resolve, resolve_dir, content_change, edit_change, rename_writes, move_change, entry_looked, rename_looked, looked, if_sound, outcome, after}
+use Rattle.fs_laws.specs.Changes.{Rekeying, Stay, MoveTo, Swap, Change, moved_by, changed, resolve_next, resolve, resolve_dir, content_change, edit_change, rename_writes, move_change, swap_change, entry_looked, rename_looked, exchange_looked, looked, if_sound, outcome, after}
 use Rattle.fs_calls.specs.Forms.{Form, AtNode, AtEntry, AtPair, by_text, under, Fits}
+use Rattle.fs_calls.specs.declared.target.PairCall.{PairCall}
 use Rattle.fs_calls.specs.declared.target.PairCall.TheVariants as pairs
 use Rattle.fs_calls.specs.declared.target.EntryCall.{EntryCall}
 use Rattle.fs_calls.proofs.RowNames.{if_below}
 use Rattle.fs_laws.specs.Maps.{Map, below, act, act_at, move, moved_to, moved_from, swapped_by, swap, write_all}
-use Rattle.fs_calls.specs.Rows.{as_dir, node_row, Edit, Keep, Add, Remove, entry_row, rename_row}
+use Rattle.fs_calls.specs.Rows.{as_dir, node_row, Edit, Keep, Add, Remove, entry_row, rename_row, exchange_row}
 use Rattle.fs_calls.specs.declared.errno.Errno.{Errno}
+use Rattle.fs_calls.specs.declared.errno.Errno.TheVariants.{Einval}
 use Rattle.fs_calls.specs.declared.reply.Reply.{Reply}
-use Rattle.fs_laws.proofs.trees.Prefixes.{prefix_some, prefix_both, prefix_deeper}
+use Rattle.fs_laws.proofs.trees.Prefixes.{prefix_append, prefix_some, prefix_both, prefix_deeper}
 use Rattle.fs_laws.proofs.trees.SeveralWrites.{all_under, writes_under, act_act, act_none}
 
 -- what a resolution that finds its key went through
@@ -65,19 +68,60 @@ pub in_more : (c : EntryCall) (p : Key) → by_text (AtEntry c p) ≡ None → H
 in_more c [] e = cc
 in_more c (x ∷ p) e = tt
 
-pub from_more : (p q : Key) → by_text (AtPair pairs.Rename p q) ≡ None → HasNames p
-from_more [] q e = cc
-from_more (x ∷ p) q e = tt
+pub from_more : (c : PairCall) (p q : Key) → by_text (AtPair c p q) ≡ None → HasNames p
+from_more pairs.Rename [] q e = cc
+from_more pairs.Exchange [] q e = cc
+from_more c (x ∷ p) q e = tt
 
-pub to_more : (p q : Key) → by_text (AtPair pairs.Rename p q) ≡ None → HasNames q
-to_more [] q e = cc
-to_more (x ∷ p) [] e = cc
-to_more (x ∷ p) (y ∷ q) e = tt
+pub to_more : (c : PairCall) (p q : Key) → by_text (AtPair c p q) ≡ None → HasNames q
+to_more pairs.Rename [] [] e = cc
+to_more pairs.Rename (x ∷ p) [] e = cc
+to_more pairs.Exchange [] [] e = cc
+to_more pairs.Exchange (x ∷ p) [] e = cc
+to_more c p (y ∷ q) e = tt
 
-pub below_text : (p q : Key) → HasNames p → HasNames q → by_text (AtPair pairs.Rename p q) ≡ if_below (after_prefix p q)
-below_text [] q m n = absurd m
-below_text (x ∷ p) [] m n = absurd n
-below_text (x ∷ p) (y ∷ q) m n = refl
+-- what the paths of a pair decide, by what follows each of them in the other one
+abbrev pub pair_text : PairCall → Option Key → Option Key → Option Errno
+pair_text pairs.Rename there back = if_below there
+pair_text pairs.Exchange there back = first_failure (check (has_more there || has_more back) Einval ∷ [])
+
+pub below_text : (c : PairCall) (p q : Key) → HasNames p → HasNames q → by_text (AtPair c p q) ≡ pair_text c (after_prefix p q) (after_prefix q p)
+below_text c [] q m n = absurd m
+below_text c (x ∷ p) [] m n = absurd n
+below_text pairs.Rename (x ∷ p) (y ∷ q) m n = refl
+below_text pairs.Exchange (x ∷ p) (y ∷ q) m n = refl
+
+-- so the second path does not go on from the first, and of an exchange neither from the other
+pub not_under : (c : PairCall) (p q : Key) → by_text (AtPair c p q) ≡ None → has_more (after_prefix p q) ≡ true → ⊥
+not_under c p q e h = go c (sym (below_text c p q (from_more c p q e) (to_more c p q e)) ∙ e)
+  where
+    go : (c : PairCall) → pair_text c (after_prefix p q) (after_prefix q p) ≡ None → ⊥
+    go pairs.Rename f = let z : ◌≡◌ {A = Option Errno} (Some Einval) None = sym (ap (λ (b : Bool). first_failure (check b Einval ∷ [])) h) ∙ f in cc
+    go pairs.Exchange f = let z : ◌≡◌ {A = Option Errno} (Some Einval) None = sym (ap (λ (b : Bool). first_failure (check (b || has_more (after_prefix q p)) Einval ∷ [])) h) ∙ f in cc
+
+pub not_over : (p q : Key) → by_text (AtPair pairs.Exchange p q) ≡ None → has_more (after_prefix q p) ≡ true → ⊥
+not_over p q e h = go (has_more (after_prefix p q)) (sym (ap (λ (b : Bool). first_failure (check (has_more (after_prefix p q) || b) Einval ∷ [])) h) ∙ sym (below_text pairs.Exchange p q (from_more pairs.Exchange p q e) (to_more pairs.Exchange p q e)) ∙ e)
+  where
+    go : (b : Bool) → first_failure (check (b || true) Einval ∷ []) ≡ None → ⊥
+    go true f = cc
+    go false f = cc
+
+-- two paths of which neither begins with the other
+pub paths_aside : (c : PairCall) (p q : Key) → by_text (AtPair c p q) ≡ None → is_end (after_prefix p q) ≡ false → (has_more (after_prefix q p) ≡ true → ⊥) → (after_prefix p q ≡ None) × (after_prefix q p ≡ None)
+paths_aside c p q fits other above = (first (after_prefix p q) refl, second (after_prefix q p) refl)
+  where
+    first : (o : Option Key) → after_prefix p q ≡ o → o ≡ None
+    first None i = refl
+    first (Some []) i = let z : is_end (Some []) ≡ false = ap is_end (sym i) ∙ other in cc
+    first (Some (x ∷ r)) i = absurd (not_under c p q fits (ap has_more i))
+
+    second : (o : Option Key) → after_prefix q p ≡ o → o ≡ None
+    second None i = refl
+    second (Some []) i =
+        let e : p ≡ q = prefix_some q p [] i ∙ append-nil q in
+        let f : after_prefix p q ≡ Some [] = ap (after_prefix p) (sym e ∙ sym (append-nil p)) ∙ prefix_append p [] in
+        let z : is_end (Some []) ≡ false = ap is_end (sym f) ∙ other in cc
+    second (Some (x ∷ r)) i = absurd (above (ap has_more i))
 
 pub in_text : (c : EntryCall) (p : Key) → HasNames p → by_text (AtEntry c p) ≡ None
 in_text c [] m = absurd m
@@ -90,10 +134,10 @@ more_under (x ∷ k) p m = tt
 pub fits_under : (k : Key) (call : Form) → Fits call → Fits (under k call)
 fits_under k (AtNode c p) f = refl
 fits_under k (AtEntry c p) f = in_text c (k ++ p) (more_under k p (in_more c p f))
-fits_under k (AtPair pairs.Rename p q) f =
-    let m : HasNames p = from_more p q f in
-    let n : HasNames q = to_more p q f in
-    below_text (k ++ p) (k ++ q) (more_under k p m) (more_under k q n) ∙ ap if_below (prefix_both k p q) ∙ sym (below_text p q m n) ∙ f
+fits_under k (AtPair c p q) f =
+    let m : HasNames p = from_more c p q f in
+    let n : HasNames q = to_more c p q f in
+    below_text c (k ++ p) (k ++ q) (more_under k p m) (more_under k q n) ∙ ap₂ (pair_text c) (prefix_both k p q) (prefix_both k q p) ∙ sym (below_text c p q m n) ∙ f
 
 -- a change on the tree below k, as it reads from the root
 abbrev pub moves_under : Key → Rekeying → Rekeying
@@ -124,6 +168,10 @@ move_under : (k : Key) (b : Bool) (ws : List (Key × Option Shape)) (p q : Key) 
 move_under k true ws p q = refl
 move_under k false ws p q = refl
 
+swap_under : (k : Key) (b : Bool) (p q : Key) → swap_change b (k ++ p) (k ++ q) ≡ change_under k (swap_change b p q)
+swap_under k true p q = refl
+swap_under k false p q = refl
+
 in_under : (tree : Map Shape) (k : Key) (c : EntryCall) (p d : Key) (x : Name) → resolve tree k ≡ None → entry_looked tree c (k ++ p) (k ++ d) x ≡ outcome_under k (entry_looked (below k tree) c p d x)
 in_under tree k c p d x at =
     let r : Option Errno = resolve_dir (below k tree) d in
@@ -138,6 +186,14 @@ rename_under tree k p q d x e y at =
     row : Bool → Reply × Bool
     row b = rename_row (resolve_dir (below k tree) d) (resolve_dir (below k tree) e) (tree (k ++ p)) (is_end (after_prefix p q)) (tree (k ++ q)) (b || not (is_full (tree (k ++ e))))
 
+exchange_under : (tree : Map Shape) (k p q d e : Key) → resolve tree k ≡ None → exchange_looked tree (k ++ p) (k ++ q) (k ++ d) (k ++ e) ≡ outcome_under k (exchange_looked (below k tree) p q d e)
+exchange_under tree k p q d e at =
+    rw (resolve_under tree k d at, resolve_under tree k e at, prefix_both k p q)
+    (ap (λ (ch : Change). (row.0, ch)) (swap_under k row.1 p q))
+  where
+    row : Reply × Bool
+    row = exchange_row (resolve_dir (below k tree) d) (resolve_dir (below k tree) e) (tree (k ++ p)) (is_end (after_prefix p q)) (tree (k ++ q))
+
 looked_located : (tree : Map Shape) (k : Key) (call : Form) → resolve tree k ≡ None → Fits call → looked tree (under k call) ≡ outcome_under k (looked (below k tree) call)
 looked_located tree k (AtNode c p) at fits =
     ap (λ (e : Option Errno). ((node_row c e (tree (k ++ p))).0, content_change (k ++ p) (node_row c e (tree (k ++ p))).1)) (resolve_under tree k p at)
@@ -146,11 +202,14 @@ looked_located tree k (AtEntry c p) at fits =
     let m : HasNames p = in_more c p fits in
     ap₂ (entry_looked tree c (k ++ p)) (dir_under k p m) (last_under k p m) ∙ in_under tree k c p (parent_of p) (last_of p) at
 looked_located tree k (AtPair pairs.Rename p q) at fits =
-    let m : HasNames p = from_more p q fits in
-    let n : HasNames q = to_more p q fits in
+    let m : HasNames p = from_more pairs.Rename p q fits in
+    let n : HasNames q = to_more pairs.Rename p q fits in
     ap₂ (λ (d : Key) (x : Name). rename_looked tree (k ++ p) (k ++ q) d x (parent_of (k ++ q)) (last_of (k ++ q))) (dir_under k p m) (last_under k p m)
     ∙ ap₂ (rename_looked tree (k ++ p) (k ++ q) (k ++ parent_of p) (last_of p)) (dir_under k q n) (last_under k q n)
     ∙ rename_under tree k p q (parent_of p) (last_of p) (parent_of q) (last_of q) at
+looked_located tree k (AtPair pairs.Exchange p q) at fits =
+    ap₂ (exchange_looked tree (k ++ p) (k ++ q)) (dir_under k p (from_more pairs.Exchange p q fits)) (dir_under k q (to_more pairs.Exchange p q fits))
+    ∙ exchange_under tree k p q (parent_of p) (parent_of q) at
 
 pub outcome_located : (tree : Map Shape) (k : Key) (call : Form) → resolve tree k ≡ None → Fits call → outcome tree (under k call) ≡ outcome_under k (outcome (below k tree) call)
 outcome_located tree k call at fits =

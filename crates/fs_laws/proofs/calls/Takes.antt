@@ -118,6 +118,7 @@ fork_takes graph op n st c p q on rem way behind m = source (left st.source.walk
       where
         -- only a rename takes there
         at_both : (c : PairCall) → op.remaining ≡ AtPair c p q → parents_move graph c p q st ≡ Takes n → Take graph op n st
+        at_both pairs.Exchange rem e = cc
         at_both pairs.Rename rem e =
             let v : (wants graph p q st ≡ true) × (graph.child st.dest.node (last_of q) ≡ Some n) × (st.victim ≡ None) =
             victim_taken (wants graph p q st) (graph.child st.dest.node (last_of q)) st.victim (moved_node (rename_at graph p q st).1 (graph.child st.source.node (last_of p))) n e in

@@ -83,9 +83,10 @@ head_there side graph k op n st c p q x l loc well victim b rem way at_left chil
     at_longer : numbers graph (k ++ (walked ++ x ∷ [])) ≡ Some n
     at_longer = ap (numbers graph) (sym (append_assoc k walked (x ∷ []))) ∙ at_n
 
-    -- a rename holds a victim only once the destination head has arrived
+    -- a rename holds a victim only once the destination head has arrived, and an exchange never
     kept : (c : PairCall) (side : Side) → op.remaining ≡ AtPair c p q → left (head_on side st).walked (parent_of (of_side side p q)) ≡ x ∷ l → VictimAt graph (AtPair c p q) (stepped side st x n)
-    kept pairs.Rename side rem = go side
+    kept pairs.Exchange side rem e = subst (λ (g : Form). VictimAt graph g st) rem victim
+    kept pairs.Rename side rem e = go side e
       where
         vic : VictimAt graph (AtPair pairs.Rename p q) st
         vic = subst (λ (g : Form). VictimAt graph g st) rem victim

@@ -39,9 +39,9 @@ use Rattle.fs_laws.proofs.journal.ViewAndMachine.{phased, committed, noted_commi
 use Rattle.fs_laws.proofs.events.Help.{commits_push, begins_push, upd_else, to_new}
 use Rattle.fs_laws.proofs.graphs.Alterations.{Altered, Reached, shapes_same}
 use Rattle.fs_laws.proofs.helping.ReadsNothingBelow.{Front, Off}
-use Rattle.fs_laws.proofs.helping.RenamesReadNothingBelow.{off_of}
+use Rattle.fs_laws.proofs.helping.PairsReadNothingBelow.{off_of}
 use Rattle.fs_laws.proofs.finish.Changes.{Finisher, Does}
-use Rattle.fs_laws.proofs.finish.RenameChanges.{does}
+use Rattle.fs_laws.proofs.finish.EachCall.{does}
 use Rattle.fs_laws.proofs.calls.OwnRecord.{reached_used, own_other, own_finished}
 use Rattle.fs_laws.proofs.events.JustFinished.{Closing, ended, ends_keep, SameCalls}
 

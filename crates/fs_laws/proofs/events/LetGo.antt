@@ -190,6 +190,7 @@ held_on_move graph rem st n m = go (leave_past st.behind (first_of (step_move gr
         at_both c (dir_leaves (graph.shape st.dest.node) (parents_move graph c p q st) n b)
       where
         at_both : (c : PairCall) → parents_move graph c p q st ≡ Leaves n → ⊥
+        at_both pairs.Exchange e = cc
         at_both pairs.Rename e =
             never_take (same_kind (entry_shape graph st.source.node (last_of p)) (entry_shape graph st.dest.node (last_of q)) && not (is_end (after_prefix p q)) && not (has_more (after_prefix q p))) (graph.child st.dest.node (last_of q)) st.victim (moved_node (rename_at graph p q st).1 (graph.child st.source.node (last_of p))) n e
 
@@ -348,6 +349,7 @@ well_left graph st new n (AtPair c p q) l w = subst (λ (m : ℕ). HeadsSound gr
 pub victim_left : (graph : Graph) (st new : Holdings) (remaining : Form) → new.node ≡ st.node → (new.victim ≡ st.victim) × (new.dest.node ≡ st.dest.node) × (new.dest.walked ≡ st.dest.walked) → VictimAt graph remaining st → VictimAt graph remaining new
 victim_left graph st new (AtNode c p) node same w = w
 victim_left graph st new (AtEntry c p) node same w = λ v e. ap (λ (m : ℕ). graph.child m (last_of p)) node ∙ w v (sym same.0 ∙ e)
+victim_left graph st new (AtPair pairs.Exchange p q) node same w = same.0 ∙ w
 victim_left graph st new (AtPair pairs.Rename p q) node same w = λ v e. (ap (λ (m : ℕ). graph.child m (last_of q)) same.1 ∙ (w v (sym same.0 ∙ e)).0, (w v (sym same.0 ∙ e)).1 ∙ sym same.2)
 
 pub keeps_let_go : (n : ℕ) → StepKeeps (LetGo n)

@@ -2,17 +2,18 @@
 use Rattle.std.proofs.Common.{◌≡◌, ℕ, ◌<◌, Bool, true, false, cond, eqb, [], ◌∷◌, ◌++◌, Option, Some, None, refl, sym, ap, ◌∙◌, append-nil, subst, ◌⊎◌, inl, inr}
 use Rattle.fs_names.specs.Keys.{Key, after_prefix}
 use Rattle.fs_names.specs.Names.{Name}
-use Rattle.fs_laws.specs.Maps.{Map, move}
+use Rattle.fs_laws.specs.Maps.{Map, move, swapped, swap}
 use Rattle.fs_graph.specs.Graphs.{set_at}
 use Rattle.fs_machine.specs.Finishes.{Effect}
 use Rattle.fs_machine.specs.Moves.{head_took, victim_took, stepped}
 use Rattle.fs_machine.specs.Records.{Head, head_at, holdings_at, Finished, Holds, Record, Records, Phase, Placed, Holdings, Side, head_on, Walking}
-use Rattle.fs_laws.specs.Placed.{rekey_by}
+use Rattle.fs_laws.specs.Placed.{Aside, rekey_by}
 use Rattle.fs_laws.specs.CallFacts.{IsAfter, IsClear, IsFree, Keeps, CallFacts, Pair, Shrinks}
 use Rattle.fs_machine.specs.Leaving.{finished_op}
 use Rattle.fs_laws.proofs.graphs.Walks.{eqb_refl, eqb_true}
 use Rattle.fs_laws.proofs.calls.NodesHeld.{heads_with, heads_at, grown_holds, grown_head, grown_victim, one_holdings}
-use Rattle.fs_laws.proofs.events.TwoCalls.{clear_take, clear_walk, after_take, after_walk, pair_moved, located_moved, pair_helped_first, pair_helped_second}
+use Rattle.fs_laws.proofs.events.TwoCalls.{clear_take, clear_walk, after_take, after_walk, pair_moved, located_moved, chain_swapped, OffBoth, pair_swapped, pair_helped_first, pair_helped_second}
+use Rattle.fs_laws.proofs.trees.Commuting.{swapped_else, swapped_twice}
 
 -- a place that is changed, and each other
 pub data Place (A : Type 0) (c : ℕ) (v : A) (f : ℕ → A) (d : ℕ) : Type 0 where
@@ -266,12 +267,16 @@ kept_finish tree ops key c op made kept is =
     no_after (Placed i) h = h
     no_after (Finished q) h = h
 
+-- a moved entry, past all other calls: none has walked through it, and none walks below it
+pub record SparesEntry (ops : Records) (key : ℕ → Key) (s : Key) : Type 0 where
+  pub head : (side : Side) (d : ℕ) (q : Record) (st : Holdings) → ops d ≡ Some q → q.holdings ≡ Some st → (u v : Key) → after_prefix s (key d) ≡ None → (head_on side st).walked ≡ u ++ v → after_prefix s (key d ++ u) ≡ None
+  pub walking : (d : ℕ) (q : Record) (st : Holdings) → ops d ≡ Some q → q.holdings ≡ Some st → q.phase ≡ Walking → after_prefix s (key d) ≡ None
+
 -- a move of one call, past all others
 pub record Spares (tree : Map ℕ) (ops : Records) (key : ℕ → Key) (s t kt : Key) (y : Name) : Type 0 where
   pub none : (r : Key) → tree (t ++ r) ≡ None
   pub ends_in : t ≡ kt ++ y ∷ []
-  pub head : (side : Side) (d : ℕ) (q : Record) (st : Holdings) → ops d ≡ Some q → q.holdings ≡ Some st → (u v : Key) → after_prefix s (key d) ≡ None → (head_on side st).walked ≡ u ++ v → after_prefix s (key d ++ u) ≡ None
-  pub walking : (d : ℕ) (q : Record) (st : Holdings) → ops d ≡ Some q → q.holdings ≡ Some st → q.phase ≡ Walking → after_prefix s (key d) ≡ None
+  pub entry : SparesEntry ops key s
   pub off : (d e : ℕ) (p q : Record) (st other : Holdings) → ops d ≡ Some p → ops e ≡ Some q → p.holdings ≡ Some st → q.holdings ≡ Some other → IsAfter p.phase q.phase → (after_prefix (key d) kt ≡ None) ⊎ ((after_prefix s (key d) ≡ None) × (after_prefix s (key e) ≡ None))
 
 pub kept_move : (tree : Map ℕ) (ops : Records) (key : ℕ → Key) (s t kt : Key) (y : Name) → CallFacts tree ops key
@@ -283,14 +288,47 @@ kept_move tree ops key s t kt y kept one sp = record {
   each = λ d q st e f.
       let k : Keeps tree (key d) q st = kept.each d q st e f in
       record {
-        located = located_moved tree s t (key d) st sp.none k.located (λ side. sp.head side d q st e f);
-        walking = λ w. rw (sp.walking d q st e f w) (k.walking w);
+        located = located_moved tree s t (key d) st sp.none k.located (λ side. sp.entry.head side d q st e f);
+        walking = λ w. rw (sp.entry.walking d q st e f w) (k.walking w);
         fits = k.fits;
       };
   pairs = λ c d p q st other n e f g h.
       pair_moved tree s t kt y (key c) st p.phase (key d) other q.phase sp.none sp.ends_in
       (kept.each c p st e g).located (kept.each d q other f h).located
-      (λ side. sp.head side c p st e g)
+      (λ side. sp.entry.head side c p st e g)
+      (λ i. sp.off c d p q st other e f g h i)
+      (kept.pairs c d p q st other n e f g h);
+}
+
+-- an exchange of one call, past all others
+pub record SparesBoth (ops : Records) (key : ℕ → Key) (kf : Key) (x : Name) (kt : Key) (y : Name) : Type 0 where
+  pub one : SparesEntry ops key (kf ++ x ∷ [])
+  pub other : SparesEntry ops key (kt ++ y ∷ [])
+  pub off : (d e : ℕ) (p q : Record) (st other : Holdings) → ops d ≡ Some p → ops e ≡ Some q → p.holdings ≡ Some st → q.holdings ≡ Some other → IsAfter p.phase q.phase
+      → ((after_prefix (key d) kf ≡ None) × (after_prefix (key d) kt ≡ None)) ⊎ (OffBoth (kf ++ x ∷ []) (kt ++ y ∷ []) (key d) × OffBoth (kf ++ x ∷ []) (kt ++ y ∷ []) (key e))
+
+pub kept_swap : (tree : Map ℕ) (ops : Records) (key : ℕ → Key) (kf : Key) (x : Name) (kt : Key) (y : Name) → CallFacts tree ops key → Aside (kf ++ x ∷ []) (kt ++ y ∷ [])
+    → ((a b : Key) (n : ℕ) → swap (kf ++ x ∷ []) (kt ++ y ∷ []) tree a ≡ Some n → swap (kf ++ x ∷ []) (kt ++ y ∷ []) tree b ≡ Some n → a ≡ b)
+    → SparesBoth ops key kf x kt y
+    → CallFacts (swap (kf ++ x ∷ []) (kt ++ y ∷ []) tree) ops (λ d. swapped (kf ++ x ∷ []) (kt ++ y ∷ []) (key d))
+kept_swap tree ops key kf x kt y kept aside one sp = record {
+  one_key = one;
+  each = λ d q st e f.
+      let k : Keeps tree (key d) q st = kept.each d q st e f in
+      let chain : (side : Side) (u v : Key) → (head_on side st).walked ≡ u ++ v → swap (kf ++ x ∷ []) (kt ++ y ∷ []) tree (swapped (kf ++ x ∷ []) (kt ++ y ∷ []) (key d) ++ u) ≡ tree (key d ++ u) =
+      λ (side : Side) (u v : Key) (i : (head_on side st).walked ≡ u ++ v). chain_swapped tree (kf ++ x ∷ []) (kt ++ y ∷ []) (key d) u aside (λ j. sp.one.head side d q st e f u v j i) (λ j. sp.other.head side d q st e f u v j i) in
+      record {
+        located = record {
+          here = ap tree (swapped_twice (kf ++ x ∷ []) (kt ++ y ∷ []) (key d) aside.0 aside.1) ∙ k.located.here;
+          head = λ side. chain side (head_on side st).walked [] (sym (append-nil (head_on side st).walked)) ∙ k.located.head side;
+        };
+        walking = λ w. swapped_else (kf ++ x ∷ []) (kt ++ y ∷ []) (key d) (sp.one.walking d q st e f w) (sp.other.walking d q st e f w) ∙ k.walking w;
+        fits = k.fits;
+      };
+  pairs = λ c d p q st other n e f g h.
+      pair_swapped tree kf kt x y (key c) st p.phase (key d) other q.phase aside
+      (λ side. sp.one.head side c p st e g)
+      (λ side. sp.other.head side c p st e g)
       (λ i. sp.off c d p q st other e f g h i)
       (kept.pairs c d p q st other n e f g h);
 }

@@ -8,7 +8,6 @@ use Rattle.fs_calls.specs.Forms.{form, NodeCall, Form, AtNode, AtEntry, AtPair, 
 use Rattle.fs_calls.specs.declared.target.PairCall.{PairCall}
 use Rattle.fs_calls.specs.declared.target.PairCall.TheVariants as pairs
 use Rattle.fs_calls.specs.declared.target.EntryCall.{EntryCall}
-use Rattle.fs_calls.proofs.RowNames.{if_below}
 use Rattle.fs_calls.specs.declared.call.Call.{Call}
 use Rattle.fs_calls.specs.declared.errno.Errno.{Errno}
 use Rattle.fs_calls.specs.declared.reply.Reply.{Reply}
@@ -20,13 +19,14 @@ use Rattle.fs_machine.specs.Records.{Phase, Walking, Placed, Finished, Holds, Re
 use Rattle.fs_laws.specs.Invariants.{ForkedAt, HeadsSound, NumberFor, VictimAt, HasSpare, IsSingle, IsUnfinished, Own, Invariant}
 use Rattle.fs_laws.specs.CallFacts.{IsFree, Keeps, CallFacts}
 use Rattle.fs_machine.specs.States.{State, taking}
-use Rattle.fs_laws.proofs.trees.Prefixes.{same_true}
+use Rattle.fs_laws.proofs.trees.Prefixes.{same_true, same_refl}
 use Rattle.fs_laws.proofs.graphs.Walks.{at_child}
 use Rattle.fs_laws.proofs.events.OneCallChanged.{Place, Here, Else, place, kept_take, takes_walk}
 use Rattle.fs_laws.proofs.events.OtherChanges.{kept_root}
 use Rattle.fs_laws.proofs.events.JustFinished.{Either, Changed, Old}
 use Rattle.fs_laws.proofs.events.RecordChanged.{renewed, renews_keep}
 use Rattle.fs_laws.proofs.calls.NodesHeld.{heads_at, only_at, located_at, single_at, one_holdings, none_some}
+use Rattle.fs_laws.proofs.calls.Located.{below_text, pair_text}
 
 -- a call that takes: the root first, or from where it stands
 pub data TakesFrom (graph : Graph) (op : Record) (n : ℕ) : Type 0 where
@@ -66,6 +66,7 @@ pub fresh_victim : (graph : Graph) (n : ℕ) (behind : Option ℕ) (remaining : 
 fresh_victim graph n behind (AtNode c p) = tt
 fresh_victim graph n behind (AtEntry c p) = λ v e. cc
 fresh_victim graph n behind (AtPair pairs.Rename p q) = λ v e. cc
+fresh_victim graph n behind (AtPair pairs.Exchange p q) = refl
 
 -- what every take shares
 pub record Taker (old : State) (inv : Invariant old) (c : ℕ) (op : Record) (n : ℕ) : Type 0 where
@@ -191,7 +192,12 @@ pub record Inner (k x : Key) (rem : Form) : Type 0 where
 
 -- paths with the same first name are in the same relation without it
 pair_inner : (c : PairCall) (y z : Name) (p : Key) (w u : Name) (q : Key) → same_name y w ≡ true → Fits (AtPair c (y ∷ z ∷ p) (w ∷ u ∷ q)) → Fits (AtPair c (z ∷ p) (u ∷ q))
-pair_inner pairs.Rename y z p w u q i g = sym (ap (λ (b : Bool). if_below (cond b (after_prefix (z ∷ p) (u ∷ q)) None)) i) ∙ g
+pair_inner c y z p w u q i g =
+    let j : same_name w y ≡ true = rw (same_true y w i) (same_refl w) in
+    below_text c (z ∷ p) (u ∷ q) tt tt
+    ∙ sym (ap₂ (λ (a b : Bool). pair_text c (cond a (after_prefix (z ∷ p) (u ∷ q)) None) (cond b (after_prefix (u ∷ q) (z ∷ p)) None)) i j)
+    ∙ sym (below_text c (y ∷ z ∷ p) (w ∷ u ∷ q) tt tt)
+    ∙ g
 
 pub inner_on : (k : Key) (x : Name) (l : Key) (rem : Form) → target rem ≡ x ∷ l → Inner k (x ∷ []) rem
 inner_on k x l (AtNode c []) e = cc

@@ -4,12 +4,12 @@ use Rattle.std.proofs.lemmas.List.{same_from_push}
 use Rattle.fs_names.specs.Keys.{Key, after_prefix}
 use Rattle.fs_names.specs.Names.{Name, same_name}
 use Rattle.fs_names.specs.Parts.{HasNames}
-use Rattle.fs_laws.specs.Maps.{Map, move}
+use Rattle.fs_laws.specs.Maps.{Map, move, swap, swapped}
 use Rattle.fs_machine.specs.Records.{Finished, Holds, Phase, Placed, Holdings, Walking, Source, Side, head_on}
-use Rattle.fs_laws.specs.Placed.{rekey_by}
+use Rattle.fs_laws.specs.Placed.{rekey_by, Aside}
 use Rattle.fs_laws.specs.CallFacts.{IsAfter, IsClear, Located, Pair}
-use Rattle.fs_laws.proofs.trees.Prefixes.{same_refl, prefix_some, prefix_both, prefix_deeper, prefix_none}
-use Rattle.fs_laws.proofs.trees.Commuting.{move_to, move_else}
+use Rattle.fs_laws.proofs.trees.Prefixes.{same_refl, prefix_some, prefix_both, prefix_deeper, prefix_none, prefix_append}
+use Rattle.fs_laws.proofs.trees.Commuting.{Lies, Below_first, Below_second, Below_neither, lies, move_to, move_else, swapped_first, swapped_second, swapped_else, swapped_twice, swapped_on}
 use Rattle.fs_laws.proofs.helping.FinishPassesPlaced.{child_cases}
 
 -- one key for each number
@@ -227,6 +227,75 @@ located_moved tree s t kc c none l spared = record {
       ∙ ap tree (append-nil kc) ∙ l.here;
   head = λ side. chain_kept tree s t kc (head_on side c).walked (head_on side c).walked [] (head_on side c).node none (l.head side) (λ i. spared side (head_on side c).walked [] i (sym (append-nil (head_on side c).walked))) (sym (append-nil (head_on side c).walked)) ∙ l.head side;
 }
+
+-- the same of an exchange: what a call has walked is there as before, from where it stands now
+pub chain_swapped : (tree : Map ℕ) (s t key u : Key) → Aside s t → (after_prefix s key ≡ None → after_prefix s (key ++ u) ≡ None) → (after_prefix t key ≡ None → after_prefix t (key ++ u) ≡ None) → swap s t tree (swapped s t key ++ u) ≡ tree (key ++ u)
+chain_swapped tree s t key u aside f g = ap (swap s t tree) (sym (swapped_on s t key u aside.0 aside.1 f g)) ∙ ap tree (swapped_twice s t (key ++ u) aside.0 aside.1)
+
+-- nobody gets below a position by an exchange of entries of directories that are not below it
+pub after_swapped : (kf kt : Key) (x y : Name) (kc kd : Key) → Aside (kf ++ x ∷ []) (kt ++ y ∷ []) → after_prefix kc kf ≡ None → after_prefix kc kt ≡ None → after_prefix kc kd ≡ None
+    → after_prefix (swapped (kf ++ x ∷ []) (kt ++ y ∷ []) kc) (swapped (kf ++ x ∷ []) (kt ++ y ∷ []) kd) ≡ None
+after_swapped kf kt x y kc kd aside off_f off_t e = go (lies (kf ++ x ∷ []) (kt ++ y ∷ []) kc) (lies (kf ++ x ∷ []) (kt ++ y ∷ []) kd)
+  where
+    itself : (a b : Key) → a ≡ b → after_prefix b a ≡ None → ⊥
+    itself a b i h = let z : ◌≡◌ {A = Option Key} (Some []) None = sym (ap (after_prefix b) (i ∙ sym (append-nil b)) ∙ prefix_append b []) ∙ h in cc
+
+    -- a key that is below neither entry is above neither
+    above : (d : Key) (z : Name) → after_prefix kc d ≡ None → after_prefix (d ++ z ∷ []) kc ≡ None → after_prefix kc (d ++ z ∷ []) ≡ None
+    above d z off h = by (child_cases kc d z off)
+      where
+        by : (after_prefix kc (d ++ z ∷ []) ≡ None) ⊎ (kc ≡ d ++ z ∷ []) → after_prefix kc (d ++ z ∷ []) ≡ None
+        by (inl i) = i
+        by (inr i) = absurd (itself kc (d ++ z ∷ []) i h)
+
+    same : (s t a b : Key) → kc ≡ s ++ a → kd ≡ s ++ b → after_prefix (t ++ a) (t ++ b) ≡ None
+    same s t a b i j = prefix_both t a b ∙ sym (prefix_both s a b) ∙ sym (ap₂ after_prefix i j) ∙ e
+
+    go : Lies (kf ++ x ∷ []) (kt ++ y ∷ []) kc → Lies (kf ++ x ∷ []) (kt ++ y ∷ []) kd → after_prefix (swapped (kf ++ x ∷ []) (kt ++ y ∷ []) kc) (swapped (kf ++ x ∷ []) (kt ++ y ∷ []) kd) ≡ None
+    go c d = ap₂ after_prefix (at kc c) (at kd d) ∙ by c d
+      where
+        to : (k : Key) → Lies (kf ++ x ∷ []) (kt ++ y ∷ []) k → Key
+        to k (Below_first r i) = (kt ++ y ∷ []) ++ r
+        to k (Below_second r i) = (kf ++ x ∷ []) ++ r
+        to k (Below_neither i h) = k
+
+        at : (k : Key) (l : Lies (kf ++ x ∷ []) (kt ++ y ∷ []) k) → swapped (kf ++ x ∷ []) (kt ++ y ∷ []) k ≡ to k l
+        at k (Below_first r i) = ap (swapped (kf ++ x ∷ []) (kt ++ y ∷ [])) i ∙ swapped_first (kf ++ x ∷ []) (kt ++ y ∷ []) r
+        at k (Below_second r i) = ap (swapped (kf ++ x ∷ []) (kt ++ y ∷ [])) i ∙ swapped_second (kf ++ x ∷ []) (kt ++ y ∷ []) r aside.0 aside.1
+        at k (Below_neither i h) = swapped_else (kf ++ x ∷ []) (kt ++ y ∷ []) k i h
+
+        by : (c : Lies (kf ++ x ∷ []) (kt ++ y ∷ []) kc) (d : Lies (kf ++ x ∷ []) (kt ++ y ∷ []) kd) → after_prefix (to kc c) (to kd d) ≡ None
+        by (Below_first a i) (Below_first b j) = same (kf ++ x ∷ []) (kt ++ y ∷ []) a b i j
+        by (Below_first a i) (Below_second b j) = prefix_deeper (kt ++ y ∷ []) a ((kf ++ x ∷ []) ++ b) (prefix_none (kt ++ y ∷ []) (kf ++ x ∷ []) b aside.1 aside.0)
+        by (Below_first a i) (Below_neither j h) = prefix_deeper (kt ++ y ∷ []) a kd h
+        by (Below_second a i) (Below_first b j) = prefix_deeper (kf ++ x ∷ []) a ((kt ++ y ∷ []) ++ b) (prefix_none (kf ++ x ∷ []) (kt ++ y ∷ []) b aside.0 aside.1)
+        by (Below_second a i) (Below_second b j) = same (kt ++ y ∷ []) (kf ++ x ∷ []) a b i j
+        by (Below_second a i) (Below_neither j h) = prefix_deeper (kf ++ x ∷ []) a kd j
+        by (Below_neither i h) (Below_first b j) = prefix_none kc (kt ++ y ∷ []) b (above kt y off_t h) h
+        by (Below_neither i h) (Below_second b j) = prefix_none kc (kf ++ x ∷ []) b (above kf x off_f i) i
+        by (Below_neither i h) (Below_neither j g) = e
+
+-- neither key is below one of two entries
+abbrev pub OffBoth : Key → Key → Key → Type 0
+OffBoth s t k = (after_prefix s k ≡ None) × (after_prefix t k ≡ None)
+
+-- the whole pair goes past the exchange of a third call
+pub pair_swapped : (tree : Map ℕ) (kf kt : Key) (x y : Name) (kc : Key) (c : Holdings) (pc : Phase) (kd : Key) (d : Holdings) (pd : Phase) → Aside (kf ++ x ∷ []) (kt ++ y ∷ [])
+    → ((side : Side) (u v : Key) → after_prefix (kf ++ x ∷ []) kc ≡ None → (head_on side c).walked ≡ u ++ v → after_prefix (kf ++ x ∷ []) (kc ++ u) ≡ None)
+    → ((side : Side) (u v : Key) → after_prefix (kt ++ y ∷ []) kc ≡ None → (head_on side c).walked ≡ u ++ v → after_prefix (kt ++ y ∷ []) (kc ++ u) ≡ None)
+    → (IsAfter pc pd → ((after_prefix kc kf ≡ None) × (after_prefix kc kt ≡ None)) ⊎ (OffBoth (kf ++ x ∷ []) (kt ++ y ∷ []) kc × OffBoth (kf ++ x ∷ []) (kt ++ y ∷ []) kd))
+    → Pair tree kc c pc kd d pd
+    → Pair (swap (kf ++ x ∷ []) (kt ++ y ∷ []) tree) (swapped (kf ++ x ∷ []) (kt ++ y ∷ []) kc) c pc (swapped (kf ++ x ∷ []) (kt ++ y ∷ []) kd) d pd
+pair_swapped tree kf kt x y kc c pc kd d pd aside one other off pair = record {
+  apart = pair.apart;
+  after = λ h. by (off h) (pair.after h);
+  clear = λ side u v n mu mv is at_n has. pair.clear side u v n mu mv is (sym (chain_swapped tree (kf ++ x ∷ []) (kt ++ y ∷ []) kc u aside (λ i. one side u v i is) (λ i. other side u v i is)) ∙ at_n) has;
+}
+  where
+    by : ((after_prefix kc kf ≡ None) × (after_prefix kc kt ≡ None)) ⊎ (OffBoth (kf ++ x ∷ []) (kt ++ y ∷ []) kc × OffBoth (kf ++ x ∷ []) (kt ++ y ∷ []) kd) → after_prefix kc kd ≡ None
+        → after_prefix (swapped (kf ++ x ∷ []) (kt ++ y ∷ []) kc) (swapped (kf ++ x ∷ []) (kt ++ y ∷ []) kd) ≡ None
+    by (inl h) e = after_swapped kf kt x y kc kd aside h.0 h.1 e
+    by (inr (h, g)) e = ap₂ after_prefix (swapped_else (kf ++ x ∷ []) (kt ++ y ∷ []) kc h.0 h.1) (swapped_else (kf ++ x ∷ []) (kt ++ y ∷ []) kd g.0 g.1) ∙ e
 
 -- a helped call: the walking ones are not below it, and it comes last
 pub pair_helped_first : (tree : Map ℕ) (kc : Key) (c : Holdings) (i : ℕ) (kd : Key) (d : Holdings) (pd : Phase) → Pair tree kc c Walking kd d pd → (pd ≡ Walking → after_prefix kc kd ≡ None) → ((j : ℕ) → pd ≡ Placed j → j < i) → Pair tree kc c (Placed i) kd d pd

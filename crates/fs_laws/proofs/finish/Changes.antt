@@ -1,6 +1,6 @@
 -- What a finish does to the graph and to where all calls stand.
 use Rattle.std.proofs.Common.{◌≡◌, ℕ, Bool, true, false, List, [], ◌∷◌, ◌++◌, Option, Some, None, refl, sym, ap, ◌∙◌, append-nil, subst, ◌⊎◌}
-use Rattle.fs_names.specs.Keys.{Key, last_of}
+use Rattle.fs_names.specs.Keys.{Key, after_prefix, last_of}
 use Rattle.fs_names.specs.Names.{Name}
 use Rattle.fs_names.specs.Shapes.{Shape, Dir, File}
 use Rattle.fs_laws.specs.Changes.{Rekeying, Stay, Change, content_change, edit_change}
@@ -24,12 +24,15 @@ use Rattle.fs_laws.specs.Invariants.{HeadsSound, VictimAt, NumberFor, HasNumber,
 use Rattle.fs_laws.specs.Placed.{rekey, rekey_move}
 use Rattle.fs_laws.specs.CallFacts.{Located, CallFacts}
 use Rattle.fs_laws.proofs.calls.Located.{change_under}
-use Rattle.fs_laws.proofs.graphs.Walks.{at_before, at_child}
+use Rattle.fs_laws.proofs.graphs.Walks.{at_before, at_child, at_from}
 use Rattle.fs_laws.proofs.graphs.TreesOfChanges.{CanLink, CanUnlink, numbers_linked, numbers_unlinked, put_one}
 use Rattle.fs_laws.proofs.finish.Replies.{Leaf, leaf_children, add_of, remove_of, no_entry}
 use Rattle.fs_laws.proofs.events.OtherChanges.{OffPlaces, kept_put, kept_cut, victim_off}
 use Rattle.fs_laws.proofs.graphs.Alterations.{Altered, Reached, altered_same, altered_content, altered_linked, altered_unlinked, unlinked_gone}
 use Rattle.fs_laws.proofs.helping.ReadsNothingBelow.{take_done}
+use Rattle.fs_laws.proofs.helping.MovesSpareOthers.{Mover, Moves, entry_of}
+use Rattle.fs_laws.proofs.calls.NodesHeld.{node_held}
+use Rattle.fs_laws.proofs.trees.Prefixes.{prefix_some}
 
 -- a call that stands somewhere and whose next move is to finish
 pub record Finisher (graph : Graph) (ops : Records) (key : ℕ → Key) (c : ℕ) (op : Record) (st : Holdings) (o : Moved) : Type 0 where
@@ -47,6 +50,29 @@ pub record Finisher (graph : Graph) (ops : Records) (key : ℕ → Key) (c : ℕ
   pub none_below : op.phase ≡ Walking → (s d : ℕ) (q : Record) (other : Holdings) (r : Key) → IsMoved o s → ops d ≡ Some q → q.holdings ≡ Some other → q.phase ≡ Walking → at graph.child s r ≡ Some other.node → ⊥
   -- no two calls have one place
   pub places : (d : ℕ) (q : Record) (i j : ℕ) → (c ≡ d → ⊥) → ops d ≡ Some q → q.phase ≡ Placed i → op.phase ≡ Placed j → i ≡ j → ⊥
+
+-- such a call, and an entry that it moves, towards all others
+pub mover_of : (graph : Graph) (ops : Records) (key : ℕ → Key) (c : ℕ) (op : Record) (st : Holdings) (o : Moved) → Finisher graph ops key c op st o → Mover ops c op st
+mover_of graph ops key c op st o f = record {
+  is = f.is;
+  on = f.on;
+  unfinished = f.unfinished;
+  held = λ side. node_held side (numbers graph) (key c) st (f.kept.each c op st f.is f.on).located;
+  places = f.places;
+}
+
+pub moves_of : (graph : Graph) (ops : Records) (key : ℕ → Key) (c : ℕ) (op : Record) (st : Holdings) (o : Moved) → Finisher graph ops key c op st o → (side : Side) (x : Name) (m : ℕ) → graph.child (head_on side st).node x ≡ Some m → IsMoved o m
+    → ((a : Side) → after_prefix (entry_of (key c) st side x) (key c ++ (head_on a st).walked) ≡ None) → Moves ops key c op st side x
+moves_of graph ops key c op st o f side x m child one off = record { off_head = off; none_below = λ w d q other n e g i. below w d q other e g i (after_prefix (entry_of (key c) st side x) (key d)) refl }
+  where
+    at_entry : numbers graph ((key c ++ (head_on side st).walked) ++ x ∷ []) ≡ Some m
+    at_entry = at_child graph.child 0 (head_on side st).node (key c ++ (head_on side st).walked) x ((f.kept.each c op st f.is f.on).located.head side) ∙ child
+
+    below : op.phase ≡ Walking → (d : ℕ) (q : Record) (other : Holdings) → ops d ≡ Some q → q.holdings ≡ Some other → q.phase ≡ Walking → (a : Option Key) → after_prefix ((key c ++ (head_on side st).walked) ++ x ∷ []) (key d) ≡ a → a ≡ None
+    below w d q other e g i None j = refl
+    below w d q other e g i (Some a) j =
+        let there : at graph.child m a ≡ Some other.node = sym (at_from graph.child 0 m (entry_of (key c) st side x) a at_entry) ∙ ap (numbers graph) (sym (prefix_some (entry_of (key c) st side x) (key d) a j)) ∙ (f.kept.each d q other e g).located.here in
+        absurd (f.none_below w m d q other a one e g i there)
 
 -- what its finish does
 pub record Does (graph : Graph) (ops : Records) (key : ℕ → Key) (st : Holdings) (number : Option ℕ) (ch : Change) (made : Effect) : Type 0 where

@@ -20,15 +20,15 @@ use Rattle.fs_calls.specs.declared.errno.Errno.TheVariants.{Efbig}
 use Rattle.fs_calls.specs.declared.reply.Reply.{Reply}
 use Rattle.fs_calls.specs.declared.reply.Reply.TheVariants.{Done, Wrote}
 use Rattle.fs_graph.specs.Graphs.{Graph, set_at, entry_shape, IsGraph, at}
-use Rattle.fs_machine.specs.Finishes.{node_effect, entry_effect, move_effect, rename_effect, effect_at, effect_of, finish}
-use Rattle.fs_machine.specs.Moves.{dir_error, path_error, there_by, rename_at, target}
+use Rattle.fs_machine.specs.Finishes.{node_effect, entry_effect, move_effect, rename_effect, effect_at, effect_of, finish, swap_effect, exchange_effect}
+use Rattle.fs_machine.specs.Moves.{dir_error, path_error, there_by, rename_at, target, exchange_at}
 use Rattle.fs_machine.specs.Records.{Record, Holdings, Source, Dest}
 use Rattle.fs_laws.specs.Invariants.{Forked, ForkedAt, HeadsSound}
 use Rattle.fs_laws.proofs.trees.Prefixes.{prefix_some, same_refl}
 use Rattle.fs_laws.proofs.events.OneCallChanged.{Place, Here, Else, place}
 use Rattle.fs_laws.proofs.finish.Replies.{some_entry}
 use Rattle.fs_laws.proofs.finish.TreeAfter.{Really, really, full_row}
-use Rattle.fs_laws.proofs.finish.RealMoves.{dir_of_none}
+use Rattle.fs_laws.proofs.finish.Readings.{dir_of_none}
 use Rattle.fs_laws.proofs.finish.Kinds.{Ordered, ordered_with, ordered_without, fewer_without, one_fewer, one_more, no_more, length_written, length_resized}
 
 -- a directory's names are in order and within the limit, and so are a file's bytes
@@ -282,6 +282,13 @@ rename_resizes graph is w p q st reserved f way true e (Some m) i =
         (room_of real.moved (is_end (after_prefix (parent_of p) (parent_of q)) || not (is_full (graph.shape st.dest.node))) (ap (λ (t : Option Shape). to_row real.moved t (is_end (after_prefix (parent_of p) (parent_of q)) || not (is_full (graph.shape st.dest.node)))) (sym (ap₂ there_by not_above j)) ∙ real.to)))
     room (Some s) j = let g : (k : ℕ) × (graph.child st.dest.node (last_of q) ≡ Some k) × (graph.shape k ≡ Some s) = some_entry graph st.dest.node (last_of q) s j in inr (inr (listed st.dest.node g.0 (last_of q) to.0 to.1 g.1))
 
+-- an exchange changes no size
+swap_resizes : (graph : Graph) → AllWithin graph.shape → (st : Holdings) (x y : Name) (reserved : Option ℕ) (r : Reply) (b : Bool) (s t : Option ℕ) → Resizes graph.shape (swap_effect graph st x y reserved r b s t).graph.shape
+swap_resizes graph w st x y reserved r false s t = resizes_same graph.shape w
+swap_resizes graph w st x y reserved r true None t = resizes_same graph.shape w
+swap_resizes graph w st x y reserved r true (Some s) None = resizes_same graph.shape w
+swap_resizes graph w st x y reserved r true (Some s) (Some t) = resizes_same graph.shape w
+
 -- a call that finishes where it stands, and any call that finishes
 made_resizes : (graph : Graph) → IsGraph graph → AllWithin graph.shape → (remaining : Form) (st : Holdings) (reserved : Option ℕ) → HeadsSound graph st.node remaining st → Resizes graph.shape (effect_at graph remaining st reserved).graph.shape
 made_resizes graph is w (AtNode c p) st reserved well = on_resizes graph w st.node c (path_error p (graph.shape st.node)) reserved (graph.shape st.node) refl
@@ -291,6 +298,11 @@ made_resizes graph is w (AtPair pairs.Rename p q) st reserved well = go (target 
     go : (l : Key) → target (AtPair pairs.Rename p q) ≡ l → ForkedAt graph st.node p q st l → Resizes graph.shape (rename_effect graph p q st reserved l).graph.shape
     go [] i f = rename_resizes graph is w p q st reserved f i (rename_at graph p q st).1 refl (graph.child st.source.node (last_of p)) refl
     go (x ∷ l) i f = resizes_same graph.shape w
+made_resizes graph is w (AtPair pairs.Exchange p q) st reserved well = go (target (AtPair pairs.Exchange p q))
+  where
+    go : (l : Key) → Resizes graph.shape (exchange_effect graph p q st reserved l).graph.shape
+    go [] = swap_resizes graph w st (last_of p) (last_of q) reserved (exchange_at graph p q st).0 (exchange_at graph p q st).1 (graph.child st.source.node (last_of p)) (graph.child st.dest.node (last_of q))
+    go (x ∷ l) = resizes_same graph.shape w
 
 pub finish_resizes : (graph : Graph) → IsGraph graph → AllWithin graph.shape → (op : Record) → ((st : Holdings) → op.holdings ≡ Some st → HeadsSound graph st.node op.remaining st) → Resizes graph.shape (finish graph op).graph.shape
 finish_resizes graph is w op well = go (by_text (form op.call)) op.holdings well

@@ -1,24 +1,27 @@
 -- Where the next move is to finish, the rows read at held nodes what the sequential tree reads at the located paths.
-use Rattle.std.proofs.Common.{◌≡◌, ℕ, Bool, true, false, not, ◌||◌, List, [], ◌∷◌, ◌++◌, Option, Some, None, refl, sym, ap, ap₂, ◌∙◌, append-nil}
+use Rattle.std.proofs.Common.{◌≡◌, ℕ, Bool, true, false, not, ◌||◌, List, [], ◌∷◌, ◌++◌, Option, Some, None, refl, sym, ap, ap₂, ◌∙◌, append_assoc, append-nil}
 use mathlib.Core.Path.{fun_ext}
 use Rattle.fs_names.specs.Keys.{Key, after_prefix, has_more, parent_of, last_of, is_end}
 use Rattle.fs_names.specs.Names.{Name, has_name}
 use Rattle.fs_names.specs.Parts.{left, HasNames}
 use Rattle.fs_names.specs.Shapes.{Shape, Dir, File, is_full}
 use Rattle.fs_laws.specs.Changes.{resolve_next, resolve, resolve_dir}
-use Rattle.fs_calls.specs.Forms.{NodeCall}
+use Rattle.fs_calls.specs.Forms.{NodeCall, AtPair, Fits}
+use Rattle.fs_calls.specs.declared.target.PairCall.{PairCall}
+use Rattle.fs_calls.specs.declared.target.PairCall.TheVariants as pairs
 use Rattle.fs_calls.specs.declared.target.EntryCall.{EntryCall}
 use Rattle.fs_laws.specs.Maps.{Map, below}
-use Rattle.fs_calls.specs.Rows.{as_dir, node_row, entry_row, rename_row}
+use Rattle.fs_calls.specs.Rows.{as_dir, node_row, entry_row, rename_row, exchange_row}
 use Rattle.fs_laws.proofs.finish.RowParts.{to_row, moves_row, rename_row_in_dirs}
 use Rattle.fs_calls.specs.declared.errno.Errno.{Errno}
 use Rattle.fs_graph.specs.Graphs.{Graph, then_at, at, numbers, graph_shapes, entry_shape, IsGraph}
-use Rattle.fs_machine.specs.Moves.{walk_move, walk_errno, path_error, dir_error, there_by, rename_at}
+use Rattle.fs_machine.specs.Moves.{walk_move, walk_errno, path_error, dir_error, there_by}
 use Rattle.fs_machine.specs.declared.moves.Move.TheVariants.{Finish as Finishes}
 use Rattle.fs_machine.specs.declared.moves.Moved.TheVariants.{Nothing}
-use Rattle.fs_machine.specs.Records.{Holdings, Source, Dest}
+use Rattle.fs_machine.specs.Records.{Holdings, Source, Dest, Side, of_side, head_on}
+use Rattle.fs_laws.proofs.finish.PairRows.{pair_at, pair_row}
 use Rattle.fs_laws.proofs.trees.Prefixes.{prefix_some}
-use Rattle.fs_laws.proofs.calls.Located.{resolve_under, key_is}
+use Rattle.fs_laws.proofs.calls.Located.{resolve_under, key_is, from_more, to_more}
 use Rattle.fs_laws.proofs.graphs.Walks.{at_from, at_before, at_child, then_some}
 use Rattle.fs_laws.proofs.graphs.TreesOfChanges.{resolve_found}
 use Rattle.fs_laws.specs.Invariants.{Forked}
@@ -95,7 +98,7 @@ in_finish graph is n s c p m u f =
     )
     at_end (x ∷ l) i e = cc
 
--- rename at its common directory
+-- a pair at its common directory
 pub record ForkAt (graph : Graph) (n : ℕ) (p q : Key) (st : Holdings) : Type 0 where
   pub fork : Forked graph n p q st
   pub source_stops : Stops graph st.source.node (left st.source.walked (parent_of p))
@@ -105,6 +108,25 @@ pub record ForkAt (graph : Graph) (n : ℕ) (p q : Key) (st : Holdings) : Type 0
 pub arrived : (l : Key) (s : Option Shape) → dir_error l s ≡ None → l ≡ []
 arrived [] s e = refl
 arrived (x ∷ l) s e = cc
+
+-- a parent that is there is a directory
+pub dir_of_none : (l : Key) (s : Option Shape) → dir_error l s ≡ None → (names : List Name) × (s ≡ Some (Dir names))
+dir_of_none [] None e = cc
+dir_of_none [] (Some (Dir names)) e = (names, refl)
+dir_of_none [] (Some (File bytes)) e = cc
+dir_of_none (x ∷ l) s e = cc
+
+-- a head that has arrived has walked its path's parent
+pub path_walked : (side : Side) (graph : Graph) (n : ℕ) (p q : Key) (st : Holdings) → Forked graph n p q st → dir_error (left (head_on side st).walked (parent_of (of_side side p q))) (graph.shape (head_on side st).node) ≡ None → parent_of (of_side side p q) ≡ (head_on side st).walked
+path_walked side graph n p q st f none = f.path side ∙ ap (λ (l : Key). (head_on side st).walked ++ l) (arrived (left (head_on side st).walked (parent_of (of_side side p q))) (graph.shape (head_on side st).node) none) ∙ append-nil (head_on side st).walked
+
+-- and its entry is at its path
+pub entry_key : (side : Side) (k : Key) (c : PairCall) (p q : Key) (st : Holdings) → Fits (AtPair c p q) → parent_of (of_side side p q) ≡ (head_on side st).walked → (k ++ (head_on side st).walked) ++ last_of (of_side side p q) ∷ [] ≡ k ++ of_side side p q
+entry_key side k c p q st fits i = append_assoc k (head_on side st).walked (last_of (of_side side p q) ∷ []) ∙ ap (λ (l : Key). k ++ l) (ap (λ (l : Key). l ++ last_of (of_side side p q) ∷ []) (sym i) ∙ sym (key_is (of_side side p q) (more side)))
+  where
+    more : (side : Side) → HasNames (of_side side p q)
+    more Source = from_more c p q fits
+    more Dest = to_more c p q fits
 
 some_names : (x : Name) (names : List Name) → has_name x names ≡ true → (y : Name) × (ys : List Name) × (names ≡ y ∷ ys)
 some_names x [] e = cc
@@ -146,40 +168,62 @@ rename_same None e f m n b s t r u h = go e f (h refl)
     go None (Some f) i = let z : ◌≡◌ {A = Option Errno} None (Some f) = i.0 in cc
     go (Some e) None i = let z : ◌≡◌ {A = Option Errno} (Some e) None = i.0 in cc
 
-pub rename_finish : (graph : Graph) → IsGraph graph → (n : ℕ) (s : Shape) (p q : Key) (st : Holdings) → HasNames p → HasNames q → graph.shape n ≡ Some s → ForkAt graph n p q st
-    → rename_at graph p q st
-    ≡ rename_row (resolve_dir (shapes_from graph n) (parent_of p)) (resolve_dir (shapes_from graph n) (parent_of q)) (shapes_from graph n p) (is_end (after_prefix p q)) (shapes_from graph n q) (is_end (after_prefix (parent_of p) (parent_of q)) || not (is_full (shapes_from graph n (parent_of q))))
-rename_finish graph is n s p q st mp mq u at_c =
-    rename_same (dir_error (left st.source.walked (parent_of p)) (graph.shape st.source.node)) (dir_error (left st.dest.walked (parent_of q)) (graph.shape st.dest.node)) (resolve_dir (shapes_from graph n) (parent_of q)) (entry_shape graph st.source.node (last_of p)) (shapes_from graph n p) (is_end (after_prefix p q))
-    (there_by (has_more (after_prefix q p)) (entry_shape graph st.dest.node (last_of q))) (shapes_from graph n q)
-    (is_end (after_prefix (parent_of p) (parent_of q)) || not (is_full (graph.shape st.dest.node))) (is_end (after_prefix (parent_of p) (parent_of q)) || not (is_full (shapes_from graph n (parent_of q))))
-    (λ i. (dest_read i, λ j. rest i j))
-    ∙ ap (λ (e : Option Errno). rename_row e (resolve_dir (shapes_from graph n) (parent_of q)) (shapes_from graph n p) (is_end (after_prefix p q)) (shapes_from graph n q) (is_end (after_prefix (parent_of p) (parent_of q)) || not (is_full (shapes_from graph n (parent_of q))))) source_read
+exchange_same : (d e f : Option Errno) (m n : Option Shape) (b : Bool) (s t : Option Shape) → (d ≡ None → (e ≡ f) × (e ≡ None → (m ≡ n) × (s ≡ t))) → exchange_row d e m b s ≡ exchange_row d f n b t
+exchange_same (Some d) e f m n b s t h = refl
+exchange_same None e f m n b s t h = go e (h refl).1 ∙ ap (λ (x : Option Errno). exchange_row None x n b t) (h refl).0
   where
-    source_read : dir_error (left st.source.walked (parent_of p)) (graph.shape st.source.node) ≡ resolve_dir (shapes_from graph n) (parent_of p)
-    source_read = dir_read graph is n st.source.node s st.source.walked (left st.source.walked (parent_of p)) u (at_c.fork.stands Source) at_c.source_stops ∙ ap (resolve_dir (shapes_from graph n)) (sym (at_c.fork.path Source))
+    go : (e : Option Errno) → (e ≡ None → (m ≡ n) × (s ≡ t)) → exchange_row None e m b s ≡ exchange_row None e n b t
+    go (Some e) i = refl
+    go None i = ap₂ (λ (x y : Option Shape). exchange_row None None x b y) (i refl).0 (i refl).1
 
-    dest_read : dir_error (left st.source.walked (parent_of p)) (graph.shape st.source.node) ≡ None → dir_error (left st.dest.walked (parent_of q)) (graph.shape st.dest.node) ≡ resolve_dir (shapes_from graph n) (parent_of q)
-    dest_read i = dir_read graph is n st.dest.node s st.dest.walked (left st.dest.walked (parent_of q)) u (at_c.fork.stands Dest) (at_c.dest_stops i) ∙ ap (resolve_dir (shapes_from graph n)) (sym (at_c.fork.path Dest))
+-- what each head reads where it stands is what stands at its path
+pub record Reads (graph : Graph) (n : ℕ) (p q : Key) (st : Holdings) : Type 0 where
+  pub source : dir_error (left st.source.walked (parent_of p)) (graph.shape st.source.node) ≡ resolve_dir (shapes_from graph n) (parent_of p)
+  -- the destination head only where the source parent is a directory
+  pub dest : dir_error (left st.source.walked (parent_of p)) (graph.shape st.source.node) ≡ None → dir_error (left st.dest.walked (parent_of q)) (graph.shape st.dest.node) ≡ resolve_dir (shapes_from graph n) (parent_of q)
+  pub one : dir_error (left st.source.walked (parent_of p)) (graph.shape st.source.node) ≡ None → entry_shape graph st.source.node (last_of p) ≡ shapes_from graph n p
+  pub other : dir_error (left st.dest.walked (parent_of q)) (graph.shape st.dest.node) ≡ None → entry_shape graph st.dest.node (last_of q) ≡ shapes_from graph n q
+  pub parent : dir_error (left st.dest.walked (parent_of q)) (graph.shape st.dest.node) ≡ None → graph.shape st.dest.node ≡ shapes_from graph n (parent_of q)
 
-    p_read : dir_error (left st.source.walked (parent_of p)) (graph.shape st.source.node) ≡ None → entry_shape graph st.source.node (last_of p) ≡ shapes_from graph n p
-    p_read i =
-        entry_read graph n st.source.node st.source.walked (last_of p) (at_c.fork.stands Source)
-        ∙ ap (shapes_from graph n) (ap (λ (l : Key). l ++ last_of p ∷ []) (sym (at_c.fork.path Source ∙ ap (λ (l : Key). st.source.walked ++ l) (arrived (left st.source.walked (parent_of p)) (graph.shape st.source.node) i) ∙ append-nil st.source.walked)) ∙ sym (key_is p mp))
+pub reads_of : (graph : Graph) → IsGraph graph → (n : ℕ) (s : Shape) (p q : Key) (st : Holdings) → HasNames p → HasNames q → graph.shape n ≡ Some s → ForkAt graph n p q st → Reads graph n p q st
+reads_of graph is n s p q st mp mq u at_c = record {
+  source = dir_read graph is n st.source.node s st.source.walked (left st.source.walked (parent_of p)) u (at_c.fork.stands Source) at_c.source_stops ∙ ap (resolve_dir (shapes_from graph n)) (sym (at_c.fork.path Source));
+  dest = λ i. dir_read graph is n st.dest.node s st.dest.walked (left st.dest.walked (parent_of q)) u (at_c.fork.stands Dest) (at_c.dest_stops i) ∙ ap (resolve_dir (shapes_from graph n)) (sym (at_c.fork.path Dest));
+  one = λ i. entry_is Source mp (path_walked Source graph n p q st at_c.fork i);
+  other = λ j. entry_is Dest mq (path_walked Dest graph n p q st at_c.fork j);
+  parent = λ j. sym (ap (shapes_from graph n) (path_walked Dest graph n p q st at_c.fork j) ∙ there graph n st.dest.node st.dest.walked (at_c.fork.stands Dest));
+}
+  where
+    entry_is : (side : Side) → HasNames (of_side side p q) → parent_of (of_side side p q) ≡ (head_on side st).walked → entry_shape graph (head_on side st).node (last_of (of_side side p q)) ≡ shapes_from graph n (of_side side p q)
+    entry_is side more i =
+        entry_read graph n (head_on side st).node (head_on side st).walked (last_of (of_side side p q)) (at_c.fork.stands side)
+        ∙ ap (shapes_from graph n) (ap (λ (l : Key). l ++ last_of (of_side side p q) ∷ []) (sym i) ∙ sym (key_is (of_side side p q) more))
 
-    e_is : dir_error (left st.dest.walked (parent_of q)) (graph.shape st.dest.node) ≡ None → parent_of q ≡ st.dest.walked
-    e_is j = at_c.fork.path Dest ∙ ap (λ (l : Key). st.dest.walked ++ l) (arrived (left st.dest.walked (parent_of q)) (graph.shape st.dest.node) j) ∙ append-nil st.dest.walked
-
-    q_read : dir_error (left st.dest.walked (parent_of q)) (graph.shape st.dest.node) ≡ None → entry_shape graph st.dest.node (last_of q) ≡ shapes_from graph n q
-    q_read j = entry_read graph n st.dest.node st.dest.walked (last_of q) (at_c.fork.stands Dest) ∙ ap (shapes_from graph n) (ap (λ (l : Key). l ++ last_of q ∷ []) (sym (e_is j)) ∙ sym (key_is q mq))
-
-    e_read : dir_error (left st.dest.walked (parent_of q)) (graph.shape st.dest.node) ≡ None → graph.shape st.dest.node ≡ shapes_from graph n (parent_of q)
-    e_read j = sym (ap (shapes_from graph n) (e_is j) ∙ there graph n st.dest.node st.dest.walked (at_c.fork.stands Dest))
+-- each call on two entries
+pub pair_finish : (graph : Graph) → IsGraph graph → (n : ℕ) (s : Shape) (c : PairCall) (p q : Key) (st : Holdings) → HasNames p → HasNames q → graph.shape n ≡ Some s → ForkAt graph n p q st
+    → pair_at graph c p q st ≡ pair_row (shapes_from graph n) c p q
+pair_finish graph is n s c p q st mp mq u at_c = go c
+  where
+    reads : Reads graph n p q st
+    reads = reads_of graph is n s p q st mp mq u at_c
 
     rest : dir_error (left st.source.walked (parent_of p)) (graph.shape st.source.node) ≡ None → dir_error (left st.dest.walked (parent_of q)) (graph.shape st.dest.node) ≡ None
         → rename_row_in_dirs (entry_shape graph st.source.node (last_of p)) (is_end (after_prefix p q)) (there_by (has_more (after_prefix q p)) (entry_shape graph st.dest.node (last_of q))) (is_end (after_prefix (parent_of p) (parent_of q)) || not (is_full (graph.shape st.dest.node)))
         ≡ rename_row_in_dirs (shapes_from graph n p) (is_end (after_prefix p q)) (shapes_from graph n q) (is_end (after_prefix (parent_of p) (parent_of q)) || not (is_full (shapes_from graph n (parent_of q))))
     rest i j =
-        ap₂ (λ (m t : Option Shape). rename_row_in_dirs m (is_end (after_prefix p q)) (there_by (has_more (after_prefix q p)) t) (is_end (after_prefix (parent_of p) (parent_of q)) || not (is_full (graph.shape st.dest.node)))) (p_read i) (q_read j)
-        ∙ ap (λ (t : Option Shape). rename_row_in_dirs (shapes_from graph n p) (is_end (after_prefix p q)) (there_by (has_more (after_prefix q p)) (shapes_from graph n q)) (is_end (after_prefix (parent_of p) (parent_of q)) || not (is_full t))) (e_read j)
+        ap₂ (λ (m t : Option Shape). rename_row_in_dirs m (is_end (after_prefix p q)) (there_by (has_more (after_prefix q p)) t) (is_end (after_prefix (parent_of p) (parent_of q)) || not (is_full (graph.shape st.dest.node)))) (reads.one i) (reads.other j)
+        ∙ ap (λ (t : Option Shape). rename_row_in_dirs (shapes_from graph n p) (is_end (after_prefix p q)) (there_by (has_more (after_prefix q p)) (shapes_from graph n q)) (is_end (after_prefix (parent_of p) (parent_of q)) || not (is_full t))) (reads.parent j)
         ∙ prefix_read graph is n p q (after_prefix q p) (is_end (after_prefix p q)) (is_end (after_prefix (parent_of p) (parent_of q)) || not (is_full (shapes_from graph n (parent_of q)))) refl
+
+    go : (c : PairCall) → pair_at graph c p q st ≡ pair_row (shapes_from graph n) c p q
+    go pairs.Rename =
+        rename_same (dir_error (left st.source.walked (parent_of p)) (graph.shape st.source.node)) (dir_error (left st.dest.walked (parent_of q)) (graph.shape st.dest.node)) (resolve_dir (shapes_from graph n) (parent_of q)) (entry_shape graph st.source.node (last_of p)) (shapes_from graph n p) (is_end (after_prefix p q))
+        (there_by (has_more (after_prefix q p)) (entry_shape graph st.dest.node (last_of q))) (shapes_from graph n q)
+        (is_end (after_prefix (parent_of p) (parent_of q)) || not (is_full (graph.shape st.dest.node))) (is_end (after_prefix (parent_of p) (parent_of q)) || not (is_full (shapes_from graph n (parent_of q))))
+        (λ i. (reads.dest i, λ j. rest i j))
+        ∙ ap (λ (e : Option Errno). rename_row e (resolve_dir (shapes_from graph n) (parent_of q)) (shapes_from graph n p) (is_end (after_prefix p q)) (shapes_from graph n q) (is_end (after_prefix (parent_of p) (parent_of q)) || not (is_full (shapes_from graph n (parent_of q))))) reads.source
+    go pairs.Exchange =
+        exchange_same (dir_error (left st.source.walked (parent_of p)) (graph.shape st.source.node)) (dir_error (left st.dest.walked (parent_of q)) (graph.shape st.dest.node)) (resolve_dir (shapes_from graph n) (parent_of q))
+        (entry_shape graph st.source.node (last_of p)) (shapes_from graph n p) (is_end (after_prefix p q)) (entry_shape graph st.dest.node (last_of q)) (shapes_from graph n q)
+        (λ i. (reads.dest i, λ j. (reads.one i, reads.other j)))
+        ∙ ap (λ (e : Option Errno). exchange_row e (resolve_dir (shapes_from graph n) (parent_of q)) (shapes_from graph n p) (is_end (after_prefix p q)) (shapes_from graph n q)) reads.source

@@ -1,4 +1,4 @@
--- A rename that really moves: what is known where it finishes.
+-- A rename that really moves, and which nodes an exchange moves: what is known where it finishes.
 use Rattle.std.proofs.Common.{◌≡◌, ℕ, Bool, true, false, not, ◌&&◌, ◌||◌, List, [], ◌∷◌, ◌++◌, Option, Some, None, refl, sym, ap, ap₂, ◌∙◌, subst, ◌⊎◌, inl, inr}
 use Rattle.fs_names.specs.Keys.{Key, after_prefix, parent_of, last_of, has_more, is_end}
 use Rattle.fs_names.specs.Names.{Name, has_name}
@@ -9,20 +9,24 @@ use Rattle.fs_calls.specs.declared.target.PairCall.{PairCall}
 use Rattle.fs_calls.specs.declared.target.PairCall.TheVariants as pairs
 use Rattle.fs_laws.proofs.finish.RowParts.{to_row}
 use Rattle.fs_graph.specs.Graphs.{Graph, at, numbers, then_at, entry_shape, IsGraph}
-use Rattle.fs_machine.specs.Moves.{first_of, step_move, take_if, same_kind, fork_move, rename_move, dir_then, dir_error, rename_at, there_by, moved_node, parents_move}
+use Rattle.fs_machine.specs.Moves.{first_of, step_move, take_if, same_kind, fork_move, rename_move, dir_then, dir_error, rename_at, there_by, moved_node, parents_move, exchange_at, exchange_move, moved_nodes}
 use Rattle.fs_machine.specs.declared.moves.Move.{Move}
 use Rattle.fs_machine.specs.declared.moves.Move.TheVariants.{Finish as Finishes}
 use Rattle.fs_machine.specs.declared.moves.Moved.{Moved}
+use Rattle.fs_machine.specs.declared.moves.Moved.TheVariants.{Two}
+use Rattle.fs_laws.proofs.finish.Swaps.{RealSwap}
 use Rattle.fs_machine.specs.Records.{Holdings, Source, Dest, Side, of_side, head_on}
 use Rattle.fs_laws.specs.Invariants.{Forked, VictimAt}
 use Rattle.fs_laws.specs.Placed.{Aside}
 use Rattle.fs_laws.proofs.graphs.Walks.{then_some}
-use Rattle.fs_laws.proofs.finish.Readings.{arrived}
+use Rattle.fs_laws.proofs.finish.Readings.{arrived, dir_of_none, path_walked, entry_key}
+use Rattle.fs_laws.proofs.calls.Located.{paths_aside}
 use Rattle.fs_laws.proofs.graphs.TreesOfChanges.{CanMove}
 use Rattle.fs_laws.proofs.trees.Prefixes.{prefix_both}
 use Rattle.fs_laws.specs.CallFacts.{Located}
-use Rattle.fs_laws.proofs.finish.Replies.{step_stops, Leaf, some_entry}
-use Rattle.fs_laws.proofs.finish.TreeAfter.{Really, really, path_walked, entry_key, full_row, paths_aside}
+use Rattle.fs_laws.proofs.finish.Pairs.{step_stops}
+use Rattle.fs_laws.proofs.finish.Replies.{Leaf, some_entry}
+use Rattle.fs_laws.proofs.finish.TreeAfter.{Really, really, full_row}
 use Rattle.fs_laws.proofs.helping.ReadsNothingBelow.{take_done}
 
 -- what the entry leads to: nothing, or the victim that the rename holds
@@ -36,12 +40,6 @@ pub record Real (graph : Graph) (p q : Key) (st : Holdings) : Type 0 where
   pub moved : (m : ℕ) × (graph.child st.source.node (last_of p) ≡ Some m)
   pub aside : Aside p q
   pub replaces : Replaces graph st (last_of q)
-
-pub dir_of_none : (l : Key) (s : Option Shape) → dir_error l s ≡ None → (names : List Name) × (s ≡ Some (Dir names))
-dir_of_none [] None e = cc
-dir_of_none [] (Some (Dir names)) e = (names, refl)
-dir_of_none [] (Some (File bytes)) e = cc
-dir_of_none (x ∷ l) s e = cc
 
 dir_then_is : (t : Option Shape) (names : List Name) (m : Move) (o : Moved) → t ≡ Some (Dir names) → dir_then t m ≡ Finishes o → m ≡ Finishes o
 dir_then_is t names m o e f = ap (λ (s : Option Shape). dir_then s m) (sym e) ∙ f
@@ -101,7 +99,7 @@ real_of graph is p q st o fits f victim e moves = record {
   source_dir = dir_of_none (left st.source.walked (parent_of p)) (graph.shape st.source.node) w.source;
   dest_dir = dir_of_none (left st.dest.walked (parent_of q)) (graph.shape st.dest.node) w.dest;
   moved = let g : (m : ℕ) × (graph.child st.source.node (last_of p) ≡ Some m) × (graph.shape m ≡ Some w.moved) = some_entry graph st.source.node (last_of p) w.moved w.is in (g.0, g.1);
-  aside = paths_aside p q fits w.other above;
+  aside = paths_aside pairs.Rename p q fits w.other above;
   replaces = replaces (graph.child st.dest.node (last_of q)) refl;
 }
   where
@@ -142,7 +140,17 @@ pub can_move : (graph : Graph) (k p q : Key) (st : Holdings) → Located (number
 can_move graph k p q st loc fits real = record { from_at = loc.head Source; to_at = loc.head Dest; there = real.moved.1; aside = (ap₂ after_prefix s_is t_is ∙ prefix_both k p q ∙ real.aside.0, ap₂ after_prefix t_is s_is ∙ prefix_both k q p ∙ real.aside.1) }
   where
     s_is : (k ++ st.source.walked) ++ last_of p ∷ [] ≡ k ++ p
-    s_is = entry_key Source k p q st fits (real.path Source)
+    s_is = entry_key Source k pairs.Rename p q st fits (real.path Source)
 
     t_is : (k ++ st.dest.walked) ++ last_of q ∷ [] ≡ k ++ q
-    t_is = entry_key Dest k p q st fits (real.path Dest)
+    t_is = entry_key Dest k pairs.Rename p q st fits (real.path Dest)
+
+-- an exchange that really moves, moves both nodes
+pub moves_two : (graph : Graph) → IsGraph graph → (p q : Key) (st : Holdings) (o : Moved) → Forked graph st.node p q st → (real : RealSwap graph p q st) → (exchange_at graph p q st).1 ≡ true → fork_move graph pairs.Exchange p q st ≡ Finishes o → Two real.one.0 real.other.0 ≡ o
+moves_two graph is p q st o f real i e =
+    let a : exchange_move graph p q st ≡ Finishes o = at_entries graph is pairs.Exchange p q st o f real.source_none real.dest_none e in
+    let b : Finishes (Two real.one.0 real.other.0) ≡ exchange_move graph p q st =
+    ap₂ (λ (s t : Option ℕ). Finishes (moved_nodes true s t)) (sym real.one.1) (sym real.other.1)
+    ∙ ap (λ (c : Bool). Finishes (moved_nodes c (graph.child st.source.node (last_of p)) (graph.child st.dest.node (last_of q)))) (sym i) in
+    let c : Finishes (Two real.one.0 real.other.0) ≡ Finishes o = b ∙ a in
+    cc

@@ -1,45 +1,40 @@
--- What the finish of a rename, and of each form of call, does.
-use Rattle.std.proofs.Common.{◌≡◌, ℕ, Bool, true, false, not, ◌&&◌, ◌||◌, List, [], ◌∷◌, ◌++◌, Option, Some, None, refl, sym, ap, ap₂, ◌∙◌, append-nil, subst, inl, inr}
+-- What the finish of a rename that really moves does.
+use Rattle.std.proofs.Common.{◌≡◌, ℕ, Bool, true, false, not, ◌&&◌, List, [], ◌∷◌, ◌++◌, Option, Some, None, refl, sym, ap, ap₂, ◌∙◌, append-nil, subst, inl, inr}
 use mathlib.Core.Path.{fun_ext}
 use Rattle.fs_names.specs.Keys.{Key, after_prefix, parent_of, last_of, has_more, is_end}
 use Rattle.fs_names.specs.Names.{Name}
-use Rattle.fs_names.specs.Parts.{common, left, left_by}
-use Rattle.fs_names.specs.Shapes.{Shape, Dir, is_full, names_of}
-use Rattle.fs_laws.specs.Changes.{Change, resolve, resolve_dir, looked, move_change, rename_writes}
-use Rattle.fs_calls.specs.Forms.{Form, AtNode, AtEntry, AtPair, Fits, by_text}
+use Rattle.fs_names.specs.Parts.{left, left_by}
+use Rattle.fs_names.specs.Shapes.{Shape, Dir}
+use Rattle.fs_laws.specs.Changes.{move_change}
+use Rattle.fs_calls.specs.Forms.{Form, AtPair, Fits}
 use Rattle.fs_calls.specs.declared.target.PairCall.TheVariants as pairs
-use Rattle.fs_laws.specs.Maps.{Map, below, put, put_at, move, moved_to, moved_from}
-use Rattle.fs_calls.specs.Rows.{node_row, entry_row, rename_row}
-use Rattle.fs_calls.specs.declared.errno.Errno.{Errno}
+use Rattle.fs_laws.specs.Maps.{Map, put, put_at, move, moved_to, moved_from}
 use Rattle.fs_calls.specs.declared.reply.Reply.{Reply}
-use Rattle.fs_calls.specs.declared.reply.Reply.TheVariants.{Failed}
-use Rattle.fs_graph.specs.Graphs.{Graph, at, numbers, graph_shapes, entry_shape, moved_in}
-use Rattle.fs_machine.specs.Finishes.{move_effect, rename_effect, effect_at}
-use Rattle.fs_machine.specs.Moves.{first_of, step_move, take_if, same_kind, next_on, entry_move, fork_move, rename_move, moved_node, path_error, dir_error, walk_errno, rename_at}
+use Rattle.fs_graph.specs.Graphs.{Graph, at, numbers, entry_shape, moved_in}
+use Rattle.fs_machine.specs.Finishes.{move_effect, rename_effect}
+use Rattle.fs_machine.specs.Moves.{take_if, same_kind, fork_move, moved_node, dir_error, rename_at}
 use Rattle.fs_machine.specs.declared.moves.Move.TheVariants.{Finish as Finishes}
 use Rattle.fs_machine.specs.declared.moves.Moved.{Moved}
-use Rattle.fs_machine.specs.Records.{Walking, Record, Records, Holdings, Source, Dest, head_on}
+use Rattle.fs_machine.specs.Records.{Record, Records, Holdings, Source, Dest, head_on}
 use Rattle.fs_machine.specs.States.{IsMoved}
-use Rattle.fs_laws.specs.Invariants.{ForkedAt, HeadsSound, VictimAt}
+use Rattle.fs_laws.specs.Invariants.{Forked, VictimAt}
 use Rattle.fs_laws.specs.Placed.{Aside, rekey_by}
 use Rattle.fs_laws.specs.CallFacts.{Located, CallFacts}
-use Rattle.fs_laws.proofs.trees.Prefixes.{prefix_append, prefix_some}
-use Rattle.fs_laws.proofs.calls.Located.{from_more, to_more, change_under}
+use Rattle.fs_laws.proofs.trees.Prefixes.{prefix_append}
+use Rattle.fs_laws.proofs.calls.Located.{change_under}
 use Rattle.fs_laws.proofs.graphs.Walks.{at_before, at_child, at_from, then_some}
 use Rattle.fs_laws.proofs.trees.Commuting.{put_other}
 use Rattle.fs_laws.proofs.graphs.TreesOfChanges.{CanMove, numbers_moved, move_one}
-use Rattle.fs_laws.proofs.finish.Readings.{Stops, ForkAt, below_is, dir_read, rename_finish, arrived}
-use Rattle.fs_laws.proofs.calls.Behind.{finish_on}
-use Rattle.fs_laws.proofs.finish.Replies.{step_stops, fork_stops, common_is, leaf_children}
+use Rattle.fs_laws.proofs.finish.Readings.{entry_key}
+use Rattle.fs_laws.proofs.finish.Replies.{leaf_children}
 use Rattle.fs_laws.proofs.events.OneCallChanged.{kept_move}
 use Rattle.fs_laws.proofs.events.OtherChanges.{OffPlaces, kept_cut, victim_off}
-use Rattle.fs_laws.proofs.helping.MovesSpareOthers.{Moves, spares_of}
+use Rattle.fs_laws.proofs.helping.MovesSpareOthers.{Moves, off_heads, spares_of}
 use Rattle.fs_laws.proofs.graphs.Move.{Replaced}
 use Rattle.fs_laws.proofs.graphs.Alterations.{altered_moved, moved_gone}
-use Rattle.fs_laws.proofs.finish.TreeAfter.{entry_key}
-use Rattle.fs_laws.proofs.finish.RealMoves.{can_move, Real, Replaces, real_of, at_entries, dir_of_none}
+use Rattle.fs_laws.proofs.finish.RealMoves.{can_move, Real, Replaces, real_of, at_entries}
 use Rattle.fs_laws.proofs.calls.NodesHeld.{node_held}
-use Rattle.fs_laws.proofs.finish.Changes.{Finisher, Does, does_nothing, does_on, does_in, content_of, own_off}
+use Rattle.fs_laws.proofs.finish.Changes.{Finisher, Does, mover_of, moves_of, own_off}
 
 -- a move does not see what it overwrites
 move_cut : (s t : Key) (tree : Map ℕ) → Aside s t → move s t (put t None tree) ≡ move s t tree
@@ -84,10 +79,10 @@ does_move graph ops key c op st o p q ws r f rem fits real moved_is = subst (λ 
     kt = key c ++ st.dest.walked
 
     s_is : (key c ++ st.source.walked) ++ last_of p ∷ [] ≡ key c ++ p
-    s_is = entry_key Source (key c) p q st fits (real.path Source)
+    s_is = entry_key Source (key c) pairs.Rename p q st fits (real.path Source)
 
     t_is : (key c ++ st.dest.walked) ++ last_of q ∷ [] ≡ key c ++ q
-    t_is = entry_key Dest (key c) p q st fits (real.path Dest)
+    t_is = entry_key Dest (key c) pairs.Rename p q st fits (real.path Dest)
 
     can : CanMove graph (key c ++ st.source.walked) st.source.node (last_of p) (key c ++ st.dest.walked) st.dest.node (last_of q) real.moved.0
     can = can_move graph (key c) p q st loc fits real
@@ -131,30 +126,15 @@ does_move graph ops key c op st o p q ws r f rem fits real moved_is = subst (λ 
         inside [] = refl
         inside (y ∷ a) = deep y a (numbers graph (((key c ++ st.dest.walked) ++ last_of q ∷ []) ++ y ∷ a)) refl real.replaces
 
-    moves : Moves (put ((key c ++ st.dest.walked) ++ last_of q ∷ []) None (numbers graph)) ops key c op st (last_of p) (last_of q)
-    moves = record {
-      is = f.is;
-      on = f.on;
-      unfinished = f.unfinished;
-      held = λ side. node_held side (numbers graph) (key c) st loc;
-      free = free;
-      aside = can.aside;
-      none_below = λ w d x other n e g i. below_none w d x other e g i (after_prefix ((key c ++ st.source.walked) ++ last_of p ∷ []) (key d)) refl;
-      places = f.places;
-    }
-      where
-        below_none : op.phase ≡ Walking → (d : ℕ) (x : Record) (other : Holdings) → ops d ≡ Some x → x.holdings ≡ Some other → x.phase ≡ Walking → (a : Option Key) → after_prefix ((key c ++ st.source.walked) ++ last_of p ∷ []) (key d) ≡ a → a ≡ None
-        below_none w d x other e g i None j = refl
-        below_none w d x other e g i (Some a) j =
-            let there : at graph.child real.moved.0 a ≡ Some other.node = sym (at_from graph.child 0 real.moved.0 ((key c ++ st.source.walked) ++ last_of p ∷ []) a s_at) ∙ ap (numbers graph) (sym (prefix_some ((key c ++ st.source.walked) ++ last_of p ∷ []) (key d) a j)) ∙ (f.kept.each d x other e g).located.here in
-            absurd (f.none_below w real.moved.0 d x other a (moved_is real.moved.0 real.moved.1) e g i there)
+    moves : Moves ops key c op st Source (last_of p)
+    moves = moves_of graph ops key c op st o f Source (last_of p) real.moved.0 real.moved.1 (moved_is real.moved.0 real.moved.1) (off_heads (key c) st (last_of p) (last_of q) can.aside Source)
 
     moved : CallFacts (move ((key c ++ st.source.walked) ++ last_of p ∷ []) ((key c ++ st.dest.walked) ++ last_of q ∷ []) (numbers graph)) ops (λ d. rekey_by ((key c ++ st.dest.walked) ++ last_of q ∷ []) (key d) (after_prefix ((key c ++ st.source.walked) ++ last_of p ∷ []) (key d)))
     moved =
         subst (λ (t : Map ℕ). CallFacts t ops (λ d. rekey_by ((key c ++ st.dest.walked) ++ last_of q ∷ []) (key d) (after_prefix ((key c ++ st.source.walked) ++ last_of p ∷ []) (key d)))) (move_cut ((key c ++ st.source.walked) ++ last_of p ∷ []) ((key c ++ st.dest.walked) ++ last_of q ∷ []) (numbers graph) can.aside)
         (kept_move (put ((key c ++ st.dest.walked) ++ last_of q ∷ []) None (numbers graph)) ops key ((key c ++ st.source.walked) ++ last_of p ∷ []) ((key c ++ st.dest.walked) ++ last_of q ∷ []) (key c ++ st.dest.walked) (last_of q) cut
         (move_one (put ((key c ++ st.dest.walked) ++ last_of q ∷ []) None (numbers graph)) ((key c ++ st.source.walked) ++ last_of p ∷ []) ((key c ++ st.dest.walked) ++ last_of q ∷ []) cut.one_key)
-        (spares_of (put ((key c ++ st.dest.walked) ++ last_of q ∷ []) None (numbers graph)) ops key c op st (last_of p) (last_of q) cut moves))
+        (spares_of (put ((key c ++ st.dest.walked) ++ last_of q ∷ []) None (numbers graph)) ops key c op st (last_of p) (last_of q) cut (mover_of graph ops key c op st o f) moves free))
 
     new_kept : CallFacts (numbers (moved_in st.source.node (last_of p) st.dest.node (last_of q) real.moved.0 graph)) ops (λ d. rekey_by (key c ++ q) (key d) (after_prefix (key c ++ p) (key d)))
     new_kept =
@@ -175,82 +155,20 @@ does_move graph ops key c op st o p q ws r f rem fits real moved_is = subst (λ 
       removed = λ n j. (j, moved_gone graph f.is_graph (key c ++ st.source.walked) st.source.node (last_of p) (key c ++ st.dest.walked) st.dest.node (last_of q) real.moved.0 n can (vic n j).0, ((key c ++ st.dest.walked) ++ last_of q ∷ [], entry ∙ (vic n j).0));
     }
 
-does_rename : (graph : Graph) (ops : Records) (key : ℕ → Key) (c : ℕ) (op : Record) (st : Holdings) (o : Moved) (p q : Key) (s : Shape) → Finisher graph ops key c op st o → op.remaining ≡ AtPair pairs.Rename p q → Fits (AtPair pairs.Rename p q) → graph.shape st.node ≡ Some s
-    → Does graph ops key st op.reserved (change_under (key c) (looked (below (key c) (graph_shapes graph)) (AtPair pairs.Rename p q)).1) (effect_at graph (AtPair pairs.Rename p q) st op.reserved)
-does_rename graph ops key c op st o p q s f rem fits u = go (common (parent_of p) (parent_of q)) refl (subst (λ (x : Form). HeadsSound graph st.node x st) rem f.well) (finish_on graph (AtPair pairs.Rename p q) st o (ap (λ (x : Form). next_on graph x st) (sym rem) ∙ f.next))
+-- where it stands at both parents
+pub does_rename : (graph : Graph) (ops : Records) (key : ℕ → Key) (c : ℕ) (op : Record) (st : Holdings) (o : Moved) (p q : Key) (ws : List (Key × Option Shape)) → Finisher graph ops key c op st o → op.remaining ≡ AtPair pairs.Rename p q → Fits (AtPair pairs.Rename p q)
+    → Forked graph st.node p q st → fork_move graph pairs.Rename p q st ≡ Finishes o → (rename_at graph p q st).1 ≡ true
+    → Does graph ops key st op.reserved (change_under (key c) (move_change true ws p q)) (rename_effect graph p q st op.reserved [])
+does_rename graph ops key c op st o p q ws f rem fits w fork j =
+    subst (λ (b : Bool). Does graph ops key st op.reserved (change_under (key c) (move_change true ws p q)) (move_effect graph st (last_of p) (last_of q) op.reserved (rename_at graph p q st).0 b (graph.child st.source.node (last_of p)))) (sym j)
+    (does_move graph ops key c op st o p q ws (rename_at graph p q st).0 f rem fits real (λ m h. subst (λ (t : Moved). IsMoved t m) (sym (ap₂ moved_node j h) ∙ same) refl))
   where
-    loc : Located (numbers graph) (key c) st
-    loc = (f.kept.each c op st f.is f.on).located
+    real : Real graph p q st
+    real = real_of graph f.is_graph p q st o fits w (subst (λ (x : Form). VictimAt graph x st) rem f.victim) fork j
 
-    ch : Bool → Change
-    ch b = change_under (key c) (move_change b (rename_writes (is_end (after_prefix (parent_of p) (parent_of q))) (parent_of p) (names_of (graph_shapes graph (key c ++ parent_of p))) (last_of p) (parent_of q) (names_of (graph_shapes graph (key c ++ parent_of q))) (last_of q)) p q)
+    error_none : (a b : Key) (t : Option Shape) → b ≡ a → (names : List Name) × (t ≡ Some (Dir names)) → dir_error (left a b) t ≡ None
+    error_none a b t z n = ap₂ dir_error (ap (left a) (z ∙ sym (append-nil a)) ∙ ap left_by (prefix_append a [])) n.1
 
-    row : Reply × Bool
-    row = rename_row (resolve_dir (below (key c) (graph_shapes graph)) (parent_of p)) (resolve_dir (below (key c) (graph_shapes graph)) (parent_of q)) (graph_shapes graph (key c ++ p)) (is_end (after_prefix p q)) (graph_shapes graph (key c ++ q)) (is_end (after_prefix (parent_of p) (parent_of q)) || not (is_full (graph_shapes graph (key c ++ parent_of q))))
-
-    go : (l : Key) → common (parent_of p) (parent_of q) ≡ l → ForkedAt graph st.node p q st l → first_of (step_move graph st.node l) (fork_move graph pairs.Rename p q st) ≡ Finishes o
-        → Does graph ops key st op.reserved (ch row.1) (rename_effect graph p q st op.reserved l)
-    go (x ∷ l) i w e =
-        let stop : Stops graph st.node (x ∷ l) = (step_stops graph st.node (x ∷ l) (fork_move graph pairs.Rename p q st) o e).0 in
-        let r : (r : Key) × (parent_of p ≡ common (parent_of p) (parent_of q) ++ r) = common_is (parent_of p) (parent_of q) in
-        let d : parent_of p ≡ x ∷ (l ++ r.0) = r.1 ∙ ap (λ (z : Key). z ++ r.0) i in
-        let res : resolve_dir (below (key c) (graph_shapes graph)) (parent_of p) ≡ Some (walk_errno (graph.shape st.node)) =
-        ap₂ resolve_dir (below_is graph (key c) st.node loc.here) d ∙ sym (dir_read graph f.is_graph st.node st.node s [] (x ∷ (l ++ r.0)) u refl stop) in
-        let no : row.1 ≡ false = ap (λ (z : Option Errno). (rename_row z (resolve_dir (below (key c) (graph_shapes graph)) (parent_of q)) (graph_shapes graph (key c ++ p)) (is_end (after_prefix p q)) (graph_shapes graph (key c ++ q)) (is_end (after_prefix (parent_of p) (parent_of q)) || not (is_full (graph_shapes graph (key c ++ parent_of q))))).1) res in
-        does_nothing graph ops key st op.reserved (ch row.1) (Failed (walk_errno (graph.shape st.node))) f.is_graph f.kept (ap (λ (b : Bool). (ch b).moves) no)
-    go [] i w e = by (rename_at graph p q st).1 refl
-      where
-        fork : fork_move graph pairs.Rename p q st ≡ Finishes o
-        fork = (step_stops graph st.node [] (fork_move graph pairs.Rename p q st) o e).1 refl
-
-        stops : ForkAt graph st.node p q st
-        stops = fork_stops graph f.is_graph st.node pairs.Rename p q st o refl w fork
-
-        rows : rename_at graph p q st ≡ row
-        rows =
-            rename_finish graph f.is_graph st.node s p q st (from_more p q fits) (to_more p q fits) u stops
-            ∙ ap (λ (t : Map Shape). rename_row (resolve_dir t (parent_of p)) (resolve_dir t (parent_of q)) (t p) (is_end (after_prefix p q)) (t q) (is_end (after_prefix (parent_of p) (parent_of q)) || not (is_full (t (parent_of q))))) (sym (below_is graph (key c) st.node loc.here))
-
-        vic : VictimAt graph (AtPair pairs.Rename p q) st
-        vic = subst (λ (x : Form). VictimAt graph x st) rem f.victim
-
-        by : (b : Bool) → (rename_at graph p q st).1 ≡ b → Does graph ops key st op.reserved (ch row.1) (move_effect graph st (last_of p) (last_of q) op.reserved (rename_at graph p q st).0 (rename_at graph p q st).1 (graph.child st.source.node (last_of p)))
-        by false j =
-            subst (λ (b : Bool). Does graph ops key st op.reserved (ch row.1) (move_effect graph st (last_of p) (last_of q) op.reserved (rename_at graph p q st).0 b (graph.child st.source.node (last_of p)))) (sym j)
-            (does_nothing graph ops key st op.reserved (ch row.1) (rename_at graph p q st).0 f.is_graph f.kept (ap (λ (b : Bool). (ch b).moves) (sym (ap (λ (r : Reply × Bool). r.1) rows) ∙ j)))
-        by true j =
-            let real : Real graph p q st = real_of graph f.is_graph p q st o fits w vic fork j in
-            let w2 : rename_move graph p q st ≡ Finishes o = at_entries graph f.is_graph pairs.Rename p q st o w (error_none st.source.walked (parent_of p) (graph.shape st.source.node) (real.path Source) real.source_dir) (error_none st.dest.walked (parent_of q) (graph.shape st.dest.node) (real.path Dest) real.dest_dir) fork in
-            let same : moved_node (rename_at graph p q st).1 (graph.child st.source.node (last_of p)) ≡ o = finishes_same w2 in
-            let d : Does graph ops key st op.reserved (ch true) (move_effect graph st (last_of p) (last_of q) op.reserved (rename_at graph p q st).0 true (graph.child st.source.node (last_of p))) =
-            does_move graph ops key c op st o p q (rename_writes (is_end (after_prefix (parent_of p) (parent_of q))) (parent_of p) (names_of (graph_shapes graph (key c ++ parent_of p))) (last_of p) (parent_of q) (names_of (graph_shapes graph (key c ++ parent_of q))) (last_of q)) (rename_at graph p q st).0 f rem fits real
-            (λ m h. subst (λ (t : Moved). IsMoved t m) (sym (ap₂ moved_node j h) ∙ same) refl) in
-            subst (λ (b : Bool). Does graph ops key st op.reserved (ch b) (move_effect graph st (last_of p) (last_of q) op.reserved (rename_at graph p q st).0 (rename_at graph p q st).1 (graph.child st.source.node (last_of p)))) (sym j ∙ ap (λ (r : Reply × Bool). r.1) rows)
-            (subst (λ (b : Bool). Does graph ops key st op.reserved (ch true) (move_effect graph st (last_of p) (last_of q) op.reserved (rename_at graph p q st).0 b (graph.child st.source.node (last_of p)))) (sym j) d)
-          where
-            error_none : (a b : Key) (t : Option Shape) → b ≡ a → (names : List Name) × (t ≡ Some (Dir names)) → dir_error (left a b) t ≡ None
-            error_none a b t z n = ap₂ dir_error (ap (left a) (z ∙ sym (append-nil a)) ∙ ap left_by (prefix_append a [])) n.1
-
-            finishes_same : rename_move graph p q st ≡ Finishes o → moved_node (rename_at graph p q st).1 (graph.child st.source.node (last_of p)) ≡ o
-            finishes_same h = take_same (same_kind (entry_shape graph st.source.node (last_of p)) (entry_shape graph st.dest.node (last_of q)) && not (is_end (after_prefix p q)) && not (has_more (after_prefix q p))) (graph.child st.dest.node (last_of q)) st.victim (moved_node (rename_at graph p q st).1 (graph.child st.source.node (last_of p))) o h
-
--- each form of call
-pub does : (graph : Graph) (ops : Records) (key : ℕ → Key) (c : ℕ) (op : Record) (st : Holdings) (o : Moved) (s : Shape) → Finisher graph ops key c op st o → Fits op.remaining → graph.shape st.node ≡ Some s
-    → Does graph ops key st op.reserved (change_under (key c) (looked (below (key c) (graph_shapes graph)) op.remaining).1) (effect_at graph op.remaining st op.reserved)
-does graph ops key c op st o s f fits u = go op.remaining refl
-  where
-    loc : Located (numbers graph) (key c) st
-    loc = (f.kept.each c op st f.is f.on).located
-
-    by : (rem : Form) → op.remaining ≡ rem → Fits rem → next_on graph rem st ≡ Finishes o → Does graph ops key st op.reserved (change_under (key c) (looked (below (key c) (graph_shapes graph)) rem).1) (effect_at graph rem st op.reserved)
-    by (AtNode e p) i fit n = does_on graph ops key st op.reserved (key c) p (node_row e (resolve (below (key c) (graph_shapes graph)) p) (graph_shapes graph (key c ++ p))).1 (node_row e (path_error p (graph.shape st.node)) (graph.shape st.node)) f.is_graph f.kept loc.here (λ bytes h. content_of e (path_error p (graph.shape st.node)) (graph.shape st.node) bytes h)
-    by (AtEntry e p) i fit n =
-        does_in graph ops key c op st o e p (parent_of p) (names_of (graph_shapes graph (key c ++ parent_of p))) (last_of p) p (entry_row e (resolve_dir (below (key c) (graph_shapes graph)) (parent_of p)) (is_full (graph_shapes graph (key c ++ parent_of p))) (graph_shapes graph (key c ++ p))).1
-        (dir_error (parent_of p) (graph.shape st.node)) (is_full (graph.shape st.node)) f i
-        (λ h. dir_of_none (parent_of p) (graph.shape st.node) h)
-        (λ h. (step_stops graph st.node (parent_of p) (entry_move graph e (last_of p) st) o (finish_on graph (AtEntry e p) st o n)).1 (arrived (parent_of p) (graph.shape st.node) h))
-        (entry_row e (dir_error (parent_of p) (graph.shape st.node)) (is_full (graph.shape st.node)) (entry_shape graph st.node (last_of p))) refl
-    by (AtPair pairs.Rename p q) i fit n = does_rename graph ops key c op st o p q s f i fit u
-
-    go : (rem : Form) → op.remaining ≡ rem → Does graph ops key st op.reserved (change_under (key c) (looked (below (key c) (graph_shapes graph)) op.remaining).1) (effect_at graph op.remaining st op.reserved)
-    go rem i = subst (λ (x : Form). Does graph ops key st op.reserved (change_under (key c) (looked (below (key c) (graph_shapes graph)) x).1) (effect_at graph x st op.reserved)) (sym i) (by rem i (ap by_text (sym i) ∙ fits) (ap (λ (x : Form). next_on graph x st) (sym i) ∙ f.next))
+    same : moved_node (rename_at graph p q st).1 (graph.child st.source.node (last_of p)) ≡ o
+    same = take_same (same_kind (entry_shape graph st.source.node (last_of p)) (entry_shape graph st.dest.node (last_of q)) && not (is_end (after_prefix p q)) && not (has_more (after_prefix q p))) (graph.child st.dest.node (last_of q)) st.victim (moved_node (rename_at graph p q st).1 (graph.child st.source.node (last_of p))) o
+        (at_entries graph f.is_graph pairs.Rename p q st o w (error_none st.source.walked (parent_of p) (graph.shape st.source.node) (real.path Source) real.source_dir) (error_none st.dest.walked (parent_of q) (graph.shape st.dest.node) (real.path Dest) real.dest_dir) fork)

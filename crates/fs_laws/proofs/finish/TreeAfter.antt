@@ -1,34 +1,37 @@
 -- A finish leaves the tree that the sequential tree leaves.
-use Rattle.std.proofs.Common.{◌≡◌, ℕ, Bool, true, false, eqb, not, ◌||◌, List, [], ◌∷◌, ◌++◌, Option, Some, None, refl, sym, ap, ap₂, ◌∙◌, append_assoc, append-nil}
+use Rattle.std.proofs.Common.{◌≡◌, ℕ, Bool, true, false, eqb, not, ◌||◌, List, [], ◌∷◌, ◌++◌, Option, Some, None, refl, sym, ap, ap₂, ◌∙◌, append-nil}
 use Rattle.fs_names.specs.Keys.{Key, after_prefix, has_more, parent_of, last_of, is_end}
 use Rattle.fs_names.specs.Names.{Name}
-use Rattle.fs_names.specs.Parts.{common, left, HasNames}
+use Rattle.fs_names.specs.Parts.{common, left}
 use Rattle.fs_names.specs.Shapes.{Shape, Dir, File, is_full, names_of}
-use Rattle.fs_laws.specs.Changes.{Change, changed, resolve, resolve_dir, looked, content_change, edit_change, move_change, rename_writes, outcome, after, if_sound}
-use Rattle.fs_calls.specs.Forms.{NodeCall, Form, AtNode, AtEntry, AtPair, by_text, under, Fits}
+use Rattle.fs_laws.specs.Changes.{Change, changed, resolve, looked, content_change, edit_change, move_change, rename_writes, outcome, after, if_sound}
+use Rattle.fs_calls.specs.Forms.{NodeCall, Form, AtNode, AtEntry, AtPair, under, Fits}
+use Rattle.fs_calls.specs.declared.target.PairCall.{PairCall}
 use Rattle.fs_calls.specs.declared.target.PairCall.TheVariants as pairs
-use Rattle.fs_calls.proofs.RowNames.{if_below}
 use Rattle.fs_laws.specs.Maps.{Map, put, move, write_all}
 use Rattle.fs_calls.specs.Rows.{as_dir, node_row, Edit, entry_row, rename_row}
 use Rattle.fs_laws.proofs.finish.RowParts.{to_row, moves_row}
 use Rattle.fs_calls.specs.declared.errno.Errno.{Errno}
 use Rattle.fs_calls.specs.declared.reply.Reply.{Reply}
 use Rattle.fs_graph.specs.Graphs.{Graph, then_at, at, numbers, graph_shapes, entry_shape, IsGraph}
-use Rattle.fs_machine.specs.Finishes.{node_effect, move_effect, rename_effect, effect_at}
-use Rattle.fs_machine.specs.Moves.{first_of, step_move, fork_move, target_move, next_on, walk_errno, dir_error, there_by, rename_at}
+use Rattle.fs_machine.specs.Finishes.{Effect, node_effect, move_effect, effect_at}
+use Rattle.fs_machine.specs.Moves.{target_move, next_on, walk_errno, dir_error, there_by, rename_at}
 use Rattle.fs_machine.specs.declared.moves.Move.TheVariants.{Finish as Finishes}
 use Rattle.fs_machine.specs.declared.moves.Moved.{Moved}
 use Rattle.fs_machine.specs.declared.moves.Moved.TheVariants.{Nothing}
-use Rattle.fs_machine.specs.Records.{Holdings, Source, Dest, Side, of_side, head_on}
-use Rattle.fs_laws.specs.Invariants.{ForkedAt, HeadsSound, NumberFor, Forked}
+use Rattle.fs_machine.specs.Records.{Holdings, Source, Dest}
+use Rattle.fs_laws.specs.Invariants.{HeadsSound, NumberFor}
 use Rattle.fs_laws.specs.Placed.{Aside}
 use Rattle.fs_laws.proofs.trees.Prefixes.{prefix_append, prefix_some, prefix_both}
-use Rattle.fs_laws.proofs.calls.Located.{outcome_located, change_under, writes_at, key_is, in_more, from_more, to_more, below_text}
+use Rattle.fs_laws.proofs.calls.Located.{outcome_located, change_under, writes_at, in_more, from_more, to_more, paths_aside}
 use Rattle.fs_laws.proofs.graphs.Walks.{at_from, eqb_refl, eqb_true}
 use Rattle.fs_laws.proofs.graphs.TreesOfChanges.{resolve_at, shapes_content, shapes_moved}
-use Rattle.fs_laws.proofs.finish.Readings.{shapes_from, below_is, Stops, in_finish, rename_finish, ForkAt, dir_read, path_read, arrived}
+use Rattle.fs_laws.proofs.finish.Readings.{shapes_from, below_is, in_finish, pair_finish, ForkAt, path_read, path_walked, entry_key}
 use Rattle.fs_laws.proofs.calls.Behind.{finish_on}
-use Rattle.fs_laws.proofs.finish.Replies.{step_stops, fork_stops, common_is, edit_tree, some_entry}
+use Rattle.fs_laws.proofs.finish.PairRows.{pair_at, pair_row, pair_change, pair_effect, looked_pair, effect_pair, row_stuck, effect_stuck, effect_still, change_still}
+use Rattle.fs_laws.proofs.finish.Pairs.{step_stops, Standing, Stuck, At_fork, standing, stuck_read}
+use Rattle.fs_laws.proofs.finish.Swaps.{swap_tree}
+use Rattle.fs_laws.proofs.finish.Replies.{edit_tree, some_entry}
 
 -- a row by which a rename really moves
 pub record Really (a b : Option Errno) (m : Option Shape) (same_path : Bool) (there : Option Shape) (room : Bool) : Type 0 where
@@ -56,26 +59,6 @@ full_row (File bytes) there room true i e = cc
 full_row (Dir names) there room false i e = cc
 full_row (File bytes) there room false i e = cc
 
--- two paths of which neither begins with the other
-pub paths_aside : (p q : Key) → by_text (AtPair pairs.Rename p q) ≡ None → is_end (after_prefix p q) ≡ false → (has_more (after_prefix q p) ≡ true → ⊥) → Aside p q
-paths_aside p q fits other above = (first (after_prefix p q) refl, second (after_prefix q p) refl)
-  where
-    text : if_below (after_prefix p q) ≡ None
-    text = sym (below_text p q (from_more p q fits) (to_more p q fits)) ∙ fits
-
-    first : (o : Option Key) → after_prefix p q ≡ o → o ≡ None
-    first None i = refl
-    first (Some []) i = let z : is_end (Some []) ≡ false = ap is_end (sym i) ∙ other in cc
-    first (Some (x ∷ r)) i = let z : if_below (Some (x ∷ r)) ≡ None = ap if_below (sym i) ∙ text in cc
-
-    second : (o : Option Key) → after_prefix q p ≡ o → o ≡ None
-    second None i = refl
-    second (Some []) i =
-        let e : p ≡ q = prefix_some q p [] i ∙ append-nil q in
-        let f : after_prefix p q ≡ Some [] = ap (after_prefix p) (sym e ∙ sym (append-nil p)) ∙ prefix_append p [] in
-        let z : is_end (Some []) ≡ false = ap is_end (sym f) ∙ other in cc
-    second (Some (x ∷ r)) i = absurd (above (ap has_more i))
-
 -- two parents are one node where they are one key
 same_dirs : (graph : Graph) → IsGraph graph → (k a b : Key) (from to : ℕ) → numbers graph (k ++ a) ≡ Some from → numbers graph (k ++ b) ≡ Some to → eqb to from ≡ is_end (after_prefix a b)
 same_dirs graph is k a b from to e f = go (eqb to from) (after_prefix a b) refl refl
@@ -99,18 +82,6 @@ on_tree graph is k n reserved (r, Some bytes) e = shapes_content graph is k n by
 
 on_none : (graph : Graph) (k : Key) (c : NodeCall) (p : Key) (e : Option Errno) (f : Errno) (s : Option Shape) → Some f ≡ e → graph_shapes graph ≡ changed (change_under k (content_change p (node_row c e s).1)) (graph_shapes graph)
 on_none graph k c p e f s i = ap (λ (o : Option Errno). changed (change_under k (content_change p (node_row c o s).1)) (graph_shapes graph)) i
-
--- a head that has arrived has walked its path's parent
-pub path_walked : (side : Side) (graph : Graph) (n : ℕ) (p q : Key) (st : Holdings) → Forked graph n p q st → dir_error (left (head_on side st).walked (parent_of (of_side side p q))) (graph.shape (head_on side st).node) ≡ None → parent_of (of_side side p q) ≡ (head_on side st).walked
-path_walked side graph n p q st f none = f.path side ∙ ap (λ (l : Key). (head_on side st).walked ++ l) (arrived (left (head_on side st).walked (parent_of (of_side side p q))) (graph.shape (head_on side st).node) none) ∙ append-nil (head_on side st).walked
-
--- and its entry is at its path
-pub entry_key : (side : Side) (k p q : Key) (st : Holdings) → Fits (AtPair pairs.Rename p q) → parent_of (of_side side p q) ≡ (head_on side st).walked → (k ++ (head_on side st).walked) ++ last_of (of_side side p q) ∷ [] ≡ k ++ of_side side p q
-entry_key side k p q st fits i = append_assoc k (head_on side st).walked (last_of (of_side side p q) ∷ []) ∙ ap (λ (l : Key). k ++ l) (ap (λ (l : Key). l ++ last_of (of_side side p q) ∷ []) (sym i) ∙ sym (key_is (of_side side p q) (more side)))
-  where
-    more : (side : Side) → HasNames (of_side side p q)
-    more Source = from_more p q fits
-    more Dest = to_more p q fits
 
 -- a rename that really moves
 move_tree : (graph : Graph) → IsGraph graph → (k : Key) (n : ℕ) (p q : Key) (st : Holdings) (reserved : Option ℕ) (r : Reply) → numbers graph k ≡ Some n → Fits (AtPair pairs.Rename p q) → ForkAt graph n p q st
@@ -139,13 +110,13 @@ move_tree graph is k n p q st reserved r at_k fits f w =
     e_is = path_walked Dest graph n p q st f.fork w.dest
 
     p_key : (k ++ st.source.walked) ++ last_of p ∷ [] ≡ k ++ p
-    p_key = entry_key Source k p q st fits d_is
+    p_key = entry_key Source k pairs.Rename p q st fits d_is
 
     q_key : (k ++ st.dest.walked) ++ last_of q ∷ [] ≡ k ++ q
-    q_key = entry_key Dest k p q st fits e_is
+    q_key = entry_key Dest k pairs.Rename p q st fits e_is
 
     apart : Aside p q
-    apart = paths_aside p q fits w.other (λ b. full_row w.moved (entry_shape graph st.dest.node (last_of q)) (is_end (after_prefix (parent_of p) (parent_of q)) || not (is_full (graph.shape st.dest.node))) (has_more (after_prefix q p)) b w.to)
+    apart = paths_aside pairs.Rename p q fits w.other (λ b. full_row w.moved (entry_shape graph st.dest.node (last_of q)) (is_end (after_prefix (parent_of p) (parent_of q)) || not (is_full (graph.shape st.dest.node))) (has_more (after_prefix q p)) b w.to)
 
     aside : Aside ((k ++ st.source.walked) ++ last_of p ∷ []) ((k ++ st.dest.walked) ++ last_of q ∷ [])
     aside = rw (p_key, q_key) (prefix_both k p q ∙ apart.0, prefix_both k q p ∙ apart.1)
@@ -164,6 +135,14 @@ move_tree graph is k n p q st reserved r at_k fits f w =
         ∙ ap₂ (λ (a b : List Name). rename_writes (is_end (after_prefix (parent_of p) (parent_of q))) (k ++ parent_of p) a (last_of p) (k ++ parent_of q) b (last_of q)) (names_at st.source.node st.source.walked (parent_of p) d_is (f.fork.stands Source)) (names_at st.dest.node st.dest.walked (parent_of q) e_is (f.fork.stands Dest))
         ∙ writes_at k (is_end (after_prefix (parent_of p) (parent_of q))) (parent_of p) (names_of (shapes_from graph n (parent_of p))) (last_of p) (parent_of q) (names_of (shapes_from graph n (parent_of q))) (last_of q)
 
+-- a pair that really moves
+pair_tree : (graph : Graph) → IsGraph graph → (k : Key) (n : ℕ) (c : PairCall) (p q : Key) (st : Holdings) (reserved : Option ℕ) → numbers graph k ≡ Some n → Fits (AtPair c p q) → ForkAt graph n p q st → (pair_at graph c p q st).1 ≡ true
+    → graph_shapes (pair_effect graph c p q st reserved []).graph ≡ changed (change_under k (pair_change (shapes_from graph n) c p q true)) (graph_shapes graph)
+pair_tree graph is k n pairs.Rename p q st reserved at_k fits f i =
+    ap (λ (b : Bool). graph_shapes (move_effect graph st (last_of p) (last_of q) reserved (rename_at graph p q st).0 b (graph.child st.source.node (last_of p))).graph) i
+    ∙ move_tree graph is k n p q st reserved (rename_at graph p q st).0 at_k fits f (really (dir_error (left st.source.walked (parent_of p)) (graph.shape st.source.node)) (dir_error (left st.dest.walked (parent_of q)) (graph.shape st.dest.node)) (entry_shape graph st.source.node (last_of p)) (is_end (after_prefix p q)) (there_by (has_more (after_prefix q p)) (entry_shape graph st.dest.node (last_of q))) (is_end (after_prefix (parent_of p) (parent_of q)) || not (is_full (graph.shape st.dest.node))) i)
+pair_tree graph is k n pairs.Exchange p q st reserved at_k fits f i = swap_tree graph is k n p q st reserved at_k fits f.fork i
+
 looked_tree : (graph : Graph) → IsGraph graph → (k : Key) (s : Shape) (remaining : Form) (st : Holdings) (reserved : Option ℕ) (o : Moved) → numbers graph k ≡ Some st.node → graph.shape st.node ≡ Some s → Fits remaining → HeadsSound graph st.node remaining st → NumberFor graph remaining reserved → next_on graph remaining st ≡ Finishes o
     → graph_shapes (effect_at graph remaining st reserved).graph ≡ changed (change_under k (looked (shapes_from graph st.node) remaining).1) (graph_shapes graph)
 looked_tree graph is k s (AtNode c []) st reserved o at_k u fits well has e = on_tree graph is k st.node reserved (node_row c None (graph.shape st.node)) at_k
@@ -180,29 +159,30 @@ looked_tree graph is k s (AtEntry c (x ∷ [])) st reserved o at_k u fits well h
 looked_tree graph is k s (AtEntry c (x ∷ y ∷ p)) st reserved o at_k u fits well has e =
     ap (λ (r : Reply × Edit). changed (change_under k (edit_change (x ∷ parent_of (y ∷ p)) (names_of (shapes_from graph st.node (x ∷ parent_of (y ∷ p)))) (last_of (y ∷ p)) (x ∷ y ∷ p) r.1)) (graph_shapes graph))
     (in_finish graph is st.node s c (x ∷ y ∷ p) tt u (step_stops graph st.node (x ∷ parent_of (y ∷ p)) (target_move graph (AtEntry c (x ∷ y ∷ p)) st) o (finish_on graph (AtEntry c (x ∷ y ∷ p)) st o e)).0)
-looked_tree graph is k s (AtPair pairs.Rename p q) st reserved o at_k u fits well has e = go (common (parent_of p) (parent_of q)) refl well (finish_on graph (AtPair pairs.Rename p q) st o e)
+looked_tree graph is k s (AtPair c p q) st reserved o at_k u fits well has e =
+    ap (λ (made : Effect). graph_shapes made.graph) (effect_pair graph c p q st reserved)
+    ∙ by (standing graph is c p q st o well e)
+    ∙ sym (ap (λ (r : Reply × Change). changed (change_under k r.1) (graph_shapes graph)) (looked_pair (shapes_from graph st.node) c p q))
   where
     after_row : Reply × Bool → Map Shape
-    after_row r = changed (change_under k (move_change r.1 (rename_writes (is_end (after_prefix (parent_of p) (parent_of q))) (parent_of p) (names_of (shapes_from graph st.node (parent_of p))) (last_of p) (parent_of q) (names_of (shapes_from graph st.node (parent_of q))) (last_of q)) p q)) (graph_shapes graph)
+    after_row r = changed (change_under k (pair_change (shapes_from graph st.node) c p q r.1)) (graph_shapes graph)
 
-    by : ForkAt graph st.node p q st → (b : Bool) → (rename_at graph p q st).1 ≡ b → graph_shapes (move_effect graph st (last_of p) (last_of q) reserved (rename_at graph p q st).0 b (graph.child st.source.node (last_of p))).graph ≡ changed (change_under k (move_change b (rename_writes (is_end (after_prefix (parent_of p) (parent_of q))) (parent_of p) (names_of (shapes_from graph st.node (parent_of p))) (last_of p) (parent_of q) (names_of (shapes_from graph st.node (parent_of q))) (last_of q)) p q)) (graph_shapes graph)
-    by f false i = refl
-    by f true i = move_tree graph is k st.node p q st reserved (rename_at graph p q st).0 at_k fits f (really (dir_error (left st.source.walked (parent_of p)) (graph.shape st.source.node)) (dir_error (left st.dest.walked (parent_of q)) (graph.shape st.dest.node)) (entry_shape graph st.source.node (last_of p)) (is_end (after_prefix p q)) (there_by (has_more (after_prefix q p)) (entry_shape graph st.dest.node (last_of q))) (is_end (after_prefix (parent_of p) (parent_of q)) || not (is_full (graph.shape st.dest.node))) i)
+    still : (r : Reply × Bool) → r.1 ≡ false → graph_shapes graph ≡ after_row r
+    still r i = sym (ap (λ (ch : Change). changed (change_under k ch) (graph_shapes graph)) (ap (pair_change (shapes_from graph st.node) c p q) i ∙ change_still (shapes_from graph st.node) c p q))
 
-    go : (l : Key) → common (parent_of p) (parent_of q) ≡ l → ForkedAt graph st.node p q st l → first_of (step_move graph st.node l) (fork_move graph pairs.Rename p q st) ≡ Finishes o
-        → graph_shapes (rename_effect graph p q st reserved l).graph ≡ changed (change_under k (looked (shapes_from graph st.node) (AtPair pairs.Rename p q)).1) (graph_shapes graph)
-    go [] i w f =
-        let moves : fork_move graph pairs.Rename p q st ≡ Finishes o = (step_stops graph st.node [] (fork_move graph pairs.Rename p q st) o f).1 refl in
-        let fork : ForkAt graph st.node p q st = fork_stops graph is st.node pairs.Rename p q st o refl w moves in
-        by fork (rename_at graph p q st).1 refl
-        ∙ ap (λ (r : Reply × Bool). changed (change_under k (move_change r.1 (rename_writes (is_end (after_prefix (parent_of p) (parent_of q))) (parent_of p) (names_of (shapes_from graph st.node (parent_of p))) (last_of p) (parent_of q) (names_of (shapes_from graph st.node (parent_of q))) (last_of q)) p q)) (graph_shapes graph))
-        (rename_finish graph is st.node s p q st (from_more p q fits) (to_more p q fits) u fork)
-    go (x ∷ l) i w f =
-        let n_stops : Stops graph st.node (x ∷ l) = (step_stops graph st.node (x ∷ l) (fork_move graph pairs.Rename p q st) o f).0 in
-        let r : (r : Key) × (parent_of p ≡ common (parent_of p) (parent_of q) ++ r) = common_is (parent_of p) (parent_of q) in
-        let d : parent_of p ≡ x ∷ (l ++ r.0) = r.1 ∙ ap (λ (k : Key). k ++ r.0) i in
-        let res : resolve_dir (shapes_from graph st.node) (parent_of p) ≡ Some (walk_errno (graph.shape st.node)) = ap (resolve_dir (shapes_from graph st.node)) d ∙ sym (dir_read graph is st.node st.node s [] (x ∷ (l ++ r.0)) u refl n_stops) in
-        ap (λ (z : Option Errno). changed (change_under k (move_change (rename_row z (resolve_dir (shapes_from graph st.node) (parent_of q)) (shapes_from graph st.node p) (is_end (after_prefix p q)) (shapes_from graph st.node q) (is_end (after_prefix (parent_of p) (parent_of q)) || not (is_full (shapes_from graph st.node (parent_of q))))).1 (rename_writes (is_end (after_prefix (parent_of p) (parent_of q))) (parent_of p) (names_of (shapes_from graph st.node (parent_of p))) (last_of p) (parent_of q) (names_of (shapes_from graph st.node (parent_of q))) (last_of q)) p q)) (graph_shapes graph)) (sym res)
+    at_parents : ForkAt graph st.node p q st → (b : Bool) → (pair_at graph c p q st).1 ≡ b → graph_shapes (pair_effect graph c p q st reserved []).graph ≡ after_row (pair_at graph c p q st)
+    at_parents f false i = ap (λ (made : Effect). graph_shapes made.graph) (effect_still graph c p q st reserved i) ∙ still (pair_at graph c p q st) i
+    at_parents f true i = pair_tree graph is k st.node c p q st reserved at_k fits f i ∙ ap (λ (b : Bool). changed (change_under k (pair_change (shapes_from graph st.node) c p q b)) (graph_shapes graph)) (sym i)
+
+    by : Standing graph c p q st o → graph_shapes (pair_effect graph c p q st reserved (common (parent_of p) (parent_of q))).graph ≡ after_row (pair_row (shapes_from graph st.node) c p q)
+    by (Stuck x l i stop) =
+        ap (λ (l : Key). graph_shapes (pair_effect graph c p q st reserved l).graph) i
+        ∙ ap (λ (made : Effect). graph_shapes made.graph) (effect_stuck graph c p q st reserved x l)
+        ∙ still (pair_row (shapes_from graph st.node) c p q) (ap (λ (r : Reply × Bool). r.1) (row_stuck (shapes_from graph st.node) c p q (walk_errno (graph.shape st.node)) (stuck_read graph is s p q st x l u i stop)))
+    by (At_fork i f m) =
+        ap (λ (l : Key). graph_shapes (pair_effect graph c p q st reserved l).graph) i
+        ∙ at_parents f (pair_at graph c p q st).1 refl
+        ∙ ap after_row (pair_finish graph is st.node s c p q st (from_more c p q fits) (to_more c p q fits) u f)
 
 -- the tree that a finish leaves is the one that the present call leaves
 pub finish_tree : (graph : Graph) → IsGraph graph → (k : Key) (s : Shape) (remaining : Form) (st : Holdings) (reserved : Option ℕ) (o : Moved) → numbers graph k ≡ Some st.node → graph.shape st.node ≡ Some s → Fits remaining → HeadsSound graph st.node remaining st → NumberFor graph remaining reserved → next_on graph remaining st ≡ Finishes o

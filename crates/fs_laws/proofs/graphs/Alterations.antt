@@ -3,8 +3,8 @@ use Rattle.std.proofs.Common.{◌≡◌, ℕ, List, [], ◌∷◌, ◌++◌, Opt
 use Rattle.fs_names.specs.Keys.{Key, after_prefix}
 use Rattle.fs_names.specs.Names.{Name, inserted_name, removed_name}
 use Rattle.fs_names.specs.Shapes.{Shape, Dir, File, names_of}
-use Rattle.fs_laws.specs.Maps.{Map, put, put_at, move, moved_to, moved_from}
-use Rattle.fs_graph.specs.Graphs.{Graph, Children, numbers, IsGraph, set_child, set_at, content_in, linked_in, unlinked_in, moved_in}
+use Rattle.fs_laws.specs.Maps.{Map, put, put_at, move, moved_to, moved_from, swapped}
+use Rattle.fs_graph.specs.Graphs.{Graph, Children, numbers, IsGraph, set_child, set_at, content_in, linked_in, unlinked_in, moved_in, swapped_in}
 use Rattle.fs_machine.specs.Records.{Holds, Holdings}
 use Rattle.fs_laws.proofs.trees.Prefixes.{prefix_append}
 use Rattle.fs_laws.proofs.graphs.Walks.{at_child, set_else}
@@ -13,6 +13,7 @@ use Rattle.fs_laws.proofs.graphs.Listings.{graph_content}
 use Rattle.fs_laws.proofs.graphs.Link.{graph_linked}
 use Rattle.fs_laws.proofs.graphs.Unlink.{graph_unlinked}
 use Rattle.fs_laws.proofs.graphs.Move.{Replaced, graph_moved}
+use Rattle.fs_laws.proofs.graphs.Swap.{CanSwap, numbers_swapped, graph_swapped}
 use Rattle.fs_laws.proofs.events.OneCallChanged.{Place, Here, Else, place}
 
 -- the same numbers stay in use, and only what is reached changes
@@ -170,3 +171,13 @@ moved_gone graph is kf from x kt to y n v can there l e = go (after_prefix (kt +
     go (Some r) i f =
         let j : (kf ++ x ∷ []) ++ r ≡ kt ++ y ∷ [] = is.one_key ((kf ++ x ∷ []) ++ r) (kt ++ y ∷ []) v f at_t in
         let z : ◌≡◌ {A = Option Key} None (Some r) = sym can.aside.0 ∙ ap (after_prefix (kf ++ x ∷ [])) (sym j) ∙ prefix_append (kf ++ x ∷ []) r in cc
+
+-- an exchange: what it brings somewhere was somewhere, and no shape changes
+pub altered_swapped : (graph : Graph) (st : Holdings) → IsGraph graph → (kf : Key) (x : Name) (n : ℕ) (kt : Key) (y : Name) (m : ℕ) → CanSwap graph kf st.source.node x n kt st.dest.node y m → Holds st st.source.node → Holds st st.dest.node
+    → Altered graph (swapped_in st.source.node x n st.dest.node y m graph) None st
+altered_swapped graph st is kf x n kt y m can from_held to_held = record {
+  is_graph = graph_swapped graph is kf st.source.node x n kt st.dest.node y m can;
+  reach = λ l q e. inl (swapped (kf ++ x ∷ []) (kt ++ y ∷ []) l, ap (λ (t : Map ℕ). t l) (sym (numbers_swapped graph is kf st.source.node x n kt st.dest.node y m can)) ∙ e);
+  shapes = shapes_same graph.shape (Reached graph);
+  child_same = λ q z h. child_else st.source.node x (Some m) (set_child st.dest.node y (Some n) graph.child) st from_held q z h ∙ child_else st.dest.node y (Some n) graph.child st to_held q z h;
+}

@@ -28,6 +28,7 @@ well_children old new same n (AtPair c p q) st w = go (common (parent_of p) (par
 victim_children : (old new : Graph) → new.child ≡ old.child → (remaining : Form) (st : Holdings) → VictimAt old remaining st → VictimAt new remaining st
 victim_children old new same (AtNode c p) st w = w
 victim_children old new same (AtEntry c p) st w = λ v e. ap (λ (k : ℕ → Name → Option ℕ). k st.node (last_of p)) same ∙ w v e
+victim_children old new same (AtPair pairs.Exchange p q) st w = w
 victim_children old new same (AtPair pairs.Rename p q) st w = λ v e. (ap (λ (k : ℕ → Name → Option ℕ). k st.dest.node (last_of q)) same ∙ (w v e).0, (w v e).1)
 
 pub numbers_children : (old new : Graph) → new.child ≡ old.child → (key : Key) → numbers new key ≡ numbers old key

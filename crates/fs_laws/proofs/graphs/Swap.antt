@@ -8,7 +8,7 @@ use Rattle.fs_laws.specs.Maps.{Map, swap, swapped}
 use Rattle.fs_laws.specs.Placed.{Aside}
 use Rattle.fs_graph.specs.Graphs.{Graph, Children, at, numbers, graph_shapes, then_at, set_child, swapped_in, IsGraph}
 use Rattle.fs_laws.proofs.trees.Prefixes.{same_true, prefix_append, prefix_some}
-use Rattle.fs_laws.proofs.trees.Commuting.{swapped_first, swapped_second, swapped_else, swap_first, swap_second, swap_else}
+use Rattle.fs_laws.proofs.trees.Commuting.{swapped_twice, swap_first, swap_second, swap_else}
 use Rattle.fs_laws.proofs.helping.FinishPassesPlaced.{prefix_before}
 use Rattle.fs_laws.proofs.graphs.Walks.{eqb_true, at_child, at_from, at_same, set_here, set_else, prefix_shorter}
 
@@ -108,18 +108,9 @@ pub shapes_swapped : (graph : Graph) → IsGraph graph → (kf : Key) (from : �
     → graph_shapes (swapped_in from x n to y m graph) ≡ swap (kf ++ x ∷ []) (kt ++ y ∷ []) (graph_shapes graph)
 shapes_swapped graph is kf from x n kt to y m can = ap (λ (t : Map ℕ). λ (key : Key). then_at (t key) graph.shape) (numbers_swapped graph is kf from x n kt to y m can)
 
--- a key that changes places twice is the same again
-pub swapped_twice : (s t key : Key) → Aside s t → swapped s t (swapped s t key) ≡ key
-swapped_twice s t key aside = go (after_prefix s key) (after_prefix t key) refl refl
-  where
-    go : (a b : Option Key) → after_prefix s key ≡ a → after_prefix t key ≡ b → swapped s t (swapped s t key) ≡ key
-    go (Some r) b i j = rw (prefix_some s key r i) (ap (swapped s t) (swapped_first s t r) ∙ swapped_second s t r aside.0 aside.1)
-    go None (Some r) i j = rw (prefix_some t key r j) (ap (swapped s t) (swapped_second s t r aside.0 aside.1) ∙ swapped_first s t r)
-    go None None i j = ap (swapped s t) (swapped_else s t key i j) ∙ swapped_else s t key i j
-
 -- one key for each number, after the places changed
-swap_one : (tree : Map ℕ) (s t : Key) → Aside s t → ((a b : Key) (m : ℕ) → tree a ≡ Some m → tree b ≡ Some m → a ≡ b) → (a b : Key) (m : ℕ) → swap s t tree a ≡ Some m → swap s t tree b ≡ Some m → a ≡ b
-swap_one tree s t aside one a b m e f = sym (swapped_twice s t a aside) ∙ ap (swapped s t) (one (swapped s t a) (swapped s t b) m e f) ∙ swapped_twice s t b aside
+pub swap_one : (tree : Map ℕ) (s t : Key) → Aside s t → ((a b : Key) (m : ℕ) → tree a ≡ Some m → tree b ≡ Some m → a ≡ b) → (a b : Key) (m : ℕ) → swap s t tree a ≡ Some m → swap s t tree b ≡ Some m → a ≡ b
+swap_one tree s t aside one a b m e f = sym (swapped_twice s t a aside.0 aside.1) ∙ ap (swapped s t) (one (swapped s t a) (swapped s t b) m e f) ∙ swapped_twice s t b aside.0 aside.1
 
 -- both tests hold
 both : (b c : Bool) → (b && c) ≡ true → (b ≡ true) × (c ≡ true)
@@ -160,4 +151,4 @@ graph_swapped graph is kf from x n kt to y m can = record {
     leads d o z false false e = (o, e)
 
     stays : (d : ℕ) → (key : Key) × (numbers graph key ≡ Some d) → (key : Key) × (numbers (swapped_in from x n to y m graph) key ≡ Some d)
-    stays d (key, e) = (swapped (kf ++ x ∷ []) (kt ++ y ∷ []) key, ap (λ (t : Map ℕ). t (swapped (kf ++ x ∷ []) (kt ++ y ∷ []) key)) new_numbers ∙ ap (numbers graph) (swapped_twice (kf ++ x ∷ []) (kt ++ y ∷ []) key can.aside) ∙ e)
+    stays d (key, e) = (swapped (kf ++ x ∷ []) (kt ++ y ∷ []) key, ap (λ (t : Map ℕ). t (swapped (kf ++ x ∷ []) (kt ++ y ∷ []) key)) new_numbers ∙ ap (numbers graph) (swapped_twice (kf ++ x ∷ []) (kt ++ y ∷ []) key can.aside.0 can.aside.1) ∙ e)

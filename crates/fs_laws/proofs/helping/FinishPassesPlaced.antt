@@ -4,14 +4,14 @@ use mathlib.Core.Path.{fun_ext}
 use Rattle.fs_names.specs.Keys.{Key, after_prefix, has_more, parent_of, last_of, is_end}
 use Rattle.fs_names.specs.Names.{Name, same_name, inserted_name, removed_name}
 use Rattle.fs_names.specs.Parts.{HasNames}
-use Rattle.fs_names.specs.Shapes.{Shape, Dir, File, is_full, names_of}
-use Rattle.fs_laws.specs.Changes.{Rekeying, Stay, MoveTo, Swap, Change, moved_by, changed, resolve, resolve_dir, content_change, edit_change, rename_writes, move_change, entry_looked, rename_looked, looked, if_sound, outcome, reply, after}
+use Rattle.fs_names.specs.Shapes.{Shape, Dir, File, is_full, names_of, is_missing}
+use Rattle.fs_laws.specs.Changes.{Rekeying, Stay, MoveTo, Swap, Change, moved_by, changed, resolve, resolve_dir, content_change, edit_change, rename_writes, move_change, entry_looked, rename_looked, looked, if_sound, outcome, reply, after, exchange_looked, swap_change}
 use Rattle.fs_calls.specs.Forms.{Form, AtNode, AtEntry, AtPair, by_text, under, Fits}
 use Rattle.fs_calls.specs.declared.target.PairCall.TheVariants as pairs
 use Rattle.fs_calls.specs.declared.target.EntryCall.{EntryCall}
 use Rattle.fs_calls.specs.declared.target.EntryCall.TheVariants.{Mkdir, Mknod, Unlink, Rmdir}
 use Rattle.fs_laws.specs.Maps.{Map, below, act, put, move, swapped, swap, write_all}
-use Rattle.fs_calls.specs.Rows.{as_dir, node_row, Edit, Keep, Add, Remove, entry_row, rename_row}
+use Rattle.fs_calls.specs.Rows.{as_dir, node_row, Edit, Keep, Add, Remove, entry_row, rename_row, exchange_row, answered}
 use Rattle.fs_laws.proofs.finish.RowParts.{made, entry_row_in_dir, to_row, moves_row, rename_row_in_dirs}
 use Rattle.fs_calls.proofs.RowNames.{on_dir}
 use Rattle.fs_calls.specs.declared.errno.Errno.{Errno}
@@ -23,6 +23,9 @@ use Rattle.fs_laws.proofs.trees.Prefixes.{same_true, prefix_append, prefix_some,
 use Rattle.fs_laws.proofs.trees.Commuting.{act_in, act_out, inside_differs, put_other, move_act_under, move_act_apart, move_to, move_else, swapped_first, swapped_second, swapped_else, swap_first, swap_second, swap_else, swap_act_first, swap_act_second, swap_act_apart}
 use Rattle.fs_laws.proofs.trees.SeveralWrites.{writes_act}
 use Rattle.fs_laws.proofs.calls.Located.{outcome_located, after_located, key_is, in_more, from_more, to_more}
+use Rattle.fs_names.specs.Failures.{check, first_failure}
+use Rattle.fs_calls.specs.declared.errno.Errno.TheVariants.{Enoent}
+use Rattle.fs_calls.specs.declared.reply.Reply.TheVariants.{Done}
 
 -- a key before one that is not below k is not below k
 pub prefix_before : (k a b : Key) → after_prefix k (a ++ b) ≡ None → after_prefix k a ≡ None
@@ -253,6 +256,28 @@ rename_agree k a b p q d e x y is_d is_e mp mq g h = by (resolve_dir a d) refl
                   ∙ from_moved (a p) (b p) (is_end (after_prefix p q)) (b q) (is_end (after_prefix d e) || not (is_full (a e))) p_kind,
             ))
 
+missing_kind : (s t : Option Shape) → kind s ≡ kind t → is_missing s ≡ is_missing t
+missing_kind None None e = refl
+missing_kind (Some s) (Some t) e = refl
+missing_kind None (Some (Dir t)) e = cc
+missing_kind None (Some (File t)) e = cc
+missing_kind (Some (Dir s)) None e = cc
+missing_kind (Some (File s)) None e = cc
+
+-- an exchange reads of its entries whether they are there
+exchange_kind : (c d e : Option Errno) (m n s t : Option Shape) (b : Bool) → (c ≡ None → (d ≡ e) × (kind m ≡ kind n) × (kind s ≡ kind t)) → exchange_row c d m b s ≡ exchange_row c e n b t
+exchange_kind (Some f) d e m n s t b h = refl
+exchange_kind None d e m n s t b h =
+    let same : (d ≡ e) × (kind m ≡ kind n) × (kind s ≡ kind t) = h refl in
+    ap (λ (x : Option Errno). exchange_row None x m b s) same.0
+    ∙ ap₂ (λ (x y : Bool). answered (first_failure (None ∷ e ∷ check x Enoent ∷ check y Enoent ∷ [])) false Done (not b)) (missing_kind m n same.1) (missing_kind s t same.2)
+
+exchange_agree : (k : Key) (a b : Map Shape) (p q : Key) → HasNames p → HasNames q → Agree k a b → ReadsNothingBelow a (AtPair pairs.Exchange p q) k
+    → exchange_looked a p q (parent_of p) (parent_of q) ≡ exchange_looked b p q (parent_of p) (parent_of q)
+exchange_agree k a b p q mp mq g h = ap (λ (r : Reply × Bool). (r.0, swap_change r.1 p q))
+    (exchange_kind (resolve_dir a (parent_of p)) (resolve_dir a (parent_of q)) (resolve_dir b (parent_of q)) (a p) (b p) (a q) (b q) (is_end (after_prefix p q)) (λ i. (dir_agree k (parent_of q) a b g (h.1 i), kind_agree k a b p g mp h.0, kind_agree k a b q g mq (h.1 i)))
+    ∙ ap (λ (e : Option Errno). exchange_row e (resolve_dir b (parent_of q)) (b p) (is_end (after_prefix p q)) (b q)) (dir_agree k (parent_of p) a b g h.0))
+
 pub outcome_agree : (k : Key) (a b : Map Shape) (call : Form) → Agree k a b → ReadsNothingBelow a call k → outcome a call ≡ outcome b call
 outcome_agree k a b (AtNode c p) g h = ap₂ (λ (e : Option Errno) (s : Option Shape). ((node_row c e s).0, content_change p (node_row c e s).1)) (resolve_agree k p a b g h) (g.off p h)
 outcome_agree k a b (AtEntry c p) g h = go p g h
@@ -266,6 +291,12 @@ outcome_agree k a b (AtPair pairs.Rename p q) g h = go p q g h
     go [] q g h = refl
     go (x ∷ p) [] g h = refl
     go (x ∷ p) (y ∷ q) g h = ap (if_sound (by_text (AtPair pairs.Rename (x ∷ p) (y ∷ q)))) (rename_agree k a b (x ∷ p) (y ∷ q) (parent_of (x ∷ p)) (parent_of (y ∷ q)) (last_of (x ∷ p)) (last_of (y ∷ q)) refl refl tt tt g h)
+outcome_agree k a b (AtPair pairs.Exchange p q) g h = go p q g h
+  where
+    go : (p q : Key) → Agree k a b → ReadsNothingBelow a (AtPair pairs.Exchange p q) k → outcome a (AtPair pairs.Exchange p q) ≡ outcome b (AtPair pairs.Exchange p q)
+    go [] q g h = refl
+    go (x ∷ p) [] g h = refl
+    go (x ∷ p) (y ∷ q) g h = ap (if_sound (by_text (AtPair pairs.Exchange (x ∷ p) (y ∷ q)))) (exchange_agree k a b (x ∷ p) (y ∷ q) tt tt g h)
 
 -- looks_into reads kinds alone
 same_kind_kind : (s t u v : Option Shape) → kind s ≡ kind u → kind t ≡ kind v → same_kind s t ≡ same_kind u v
@@ -314,8 +345,9 @@ blind_agree k j a b (AtPair pairs.Rename p q) g f h i = (
       let ea : resolve_dir a (parent_of p) ≡ None = dir_agree k (parent_of p) a b g h.0 ∙ e in
       let hk : (after_prefix k (parent_of q) ≡ None) × (looks_into a p q ≡ true → after_prefix k q ≡ None) = h.1 ea in
       let ij : (after_prefix j (parent_of q) ≡ None) × (looks_into a p q ≡ true → after_prefix j q ≡ None) = i.1 ea in
-      (ij.0, λ l. ij.1 (ap (λ (s : Bool). s && not (is_end (after_prefix p q)) && not (has_more (after_prefix q p))) (same_kind_kind (a p) (a q) (b p) (b q) (kind_agree k a b p g (from_more p q f) h.0) (kind_agree k a b q g (to_more p q f) hk.0)) ∙ l)),
+      (ij.0, λ l. ij.1 (ap (λ (s : Bool). s && not (is_end (after_prefix p q)) && not (has_more (after_prefix q p))) (same_kind_kind (a p) (a q) (b p) (b q) (kind_agree k a b p g (from_more pairs.Rename p q f) h.0) (kind_agree k a b q g (to_more pairs.Rename p q f) hk.0)) ∙ l)),
 )
+blind_agree k j a b (AtPair pairs.Exchange p q) g f h i = (i.0, λ e. i.1 (dir_agree k (parent_of p) a b g h.0 ∙ e))
 
 -- a call that has somewhere to stand keeps the kind of where it stands
 root_dir : (tree : Map Shape) (d : Key) → resolve_dir tree d ≡ None → d ≡ [] → Some true ≡ kind (tree [])
@@ -337,6 +369,12 @@ move_root : (p q : Key) (tree : Map Shape) → HasNames p → HasNames q → mov
 move_root p [] tree m n = absurd n
 move_root [] (y ∷ q) tree m n = absurd m
 move_root (x ∷ p) (y ∷ q) tree m n = refl
+
+swap_root : (p q : Key) (tree : Map Shape) (b : Bool) → HasNames p → HasNames q → changed (swap_change b p q) tree [] ≡ tree []
+swap_root p [] tree b m n = absurd n
+swap_root [] (y ∷ q) tree b m n = absurd m
+swap_root (x ∷ p) (y ∷ q) tree true m n = refl
+swap_root (x ∷ p) (y ∷ q) tree false m n = refl
 
 looked_root : (tree : Map Shape) (call : Form) → Fits call → kind (changed (looked tree call).1 tree []) ≡ kind (tree [])
 looked_root tree (AtNode c p) fits = go (resolve tree p) (tree p) refl
@@ -374,7 +412,7 @@ looked_root tree (AtPair pairs.Rename p q) fits = go (resolve_dir tree (parent_o
     by : (r : Reply × Bool) (b : Bool) (names others : List Name) → resolve_dir tree (parent_of p) ≡ None → resolve_dir tree (parent_of q) ≡ None → kind (changed (move_change r.1 (rename_writes b (parent_of p) names (last_of p) (parent_of q) others (last_of q)) p q) tree []) ≡ kind (tree [])
     by (r, false) b names others i j = refl
     by (r, true) b names others i j =
-        ap kind (move_root p q (write_all (rename_writes b (parent_of p) names (last_of p) (parent_of q) others (last_of q)) tree) (from_more p q fits) (to_more p q fits))
+        ap kind (move_root p q (write_all (rename_writes b (parent_of p) names (last_of p) (parent_of q) others (last_of q)) tree) (from_more pairs.Rename p q fits) (to_more pairs.Rename p q fits))
         ∙ two b names others i j
 
     go : (d e : Option Errno) → resolve_dir tree (parent_of p) ≡ d → resolve_dir tree (parent_of q) ≡ e
@@ -382,6 +420,7 @@ looked_root tree (AtPair pairs.Rename p q) fits = go (resolve_dir tree (parent_o
     go (Some d) e i j = refl
     go None (Some e) i j = refl
     go None None i j = by (rename_row_in_dirs (tree p) (is_end (after_prefix p q)) (tree q) (is_end (after_prefix (parent_of p) (parent_of q)) || not (is_full (tree (parent_of q))))) (is_end (after_prefix (parent_of p) (parent_of q))) (names_of (tree (parent_of p))) (names_of (tree (parent_of q))) i j
+looked_root tree (AtPair pairs.Exchange p q) fits = ap kind (swap_root p q tree (exchange_row (resolve_dir tree (parent_of p)) (resolve_dir tree (parent_of q)) (tree p) (is_end (after_prefix p q)) (tree q)).1 (from_more pairs.Exchange p q fits) (to_more pairs.Exchange p q fits))
 
 pub after_root : (tree : Map Shape) (call : Form) → Fits call → kind (after tree call []) ≡ kind (tree [])
 after_root tree call fits = ap (λ (e : Option Errno). kind (changed (if_sound e (looked tree call)).1 tree [])) fits ∙ looked_root tree call fits

@@ -12,7 +12,7 @@ use Rattle.fs_machine.specs.Leaving.{is_removed, releasing, let_go, finished_op,
 use Rattle.fs_machine.specs.Moves.{next, took, target, took_by}
 use Rattle.fs_machine.specs.declared.moves.Move.TheVariants.{Take as Takes, LetGo as Leaves, Finish as Finishes}
 use Rattle.fs_machine.specs.declared.moves.Moved.{Moved}
-use Rattle.fs_machine.specs.Records.{Phase, Walking, Placed, Finished, Holds, Record, Holdings, holdings_at, Source}
+use Rattle.fs_machine.specs.Records.{Phase, Walking, Placed, Finished, Holds, Record, Holdings, holdings_at, Side, of_side, head_on}
 use Rattle.fs_laws.specs.Below.{IsHolding, IsAboutToMove, Meanwhile, Now, Begins_another, Steps_another, Helps_one, EachBelow, HelpsAreFew}
 use Rattle.fs_timeline.specs.Timeline.{commit_count}
 use Rattle.fs_laws.specs.Invariants.{IsIn, Own, Invariant}
@@ -31,7 +31,7 @@ use Rattle.fs_laws.proofs.events.Take.{TakesFrom, From_nowhere, From_holdings, t
 use Rattle.fs_laws.proofs.calls.Takes.{Take, Walk, There, stands, same_node, takes_by, with_holdings, walked_on}
 use Rattle.fs_laws.proofs.states.Headline.{run_keeps}
 use Rattle.fs_laws.proofs.helping.WhoStandsBelow.{not_below}
-use Rattle.fs_laws.proofs.helping.NobodyEnters.{ToMove, to_move, NewEntry, Same_entry, Linked, Moved_entry, finish_entries}
+use Rattle.fs_laws.proofs.helping.NobodyEnters.{moved_on, side_of, ToMove, to_move, NewEntry, Same_entry, Linked, Moved_entry, finish_entries}
 
 -- what is known of the mover of a node before an event
 record Mover (s : State) (c moved : ℕ) : Type 0 where
@@ -39,25 +39,32 @@ record Mover (s : State) (c moved : ℕ) : Type 0 where
   pub op : Record
   pub is : s.ops c ≡ Some op
   pub walks : op.phase ≡ Walking
-  pub to : ToMove s.graph op moved
+  pub side : Side
+  pub to : ToMove s.graph op side moved
   pub all : Moved
   pub move : next s.graph op ≡ Finishes all
 
 mover : (s : State) (c : ℕ) (all : Moved) (moved : ℕ) → Run s → IsAboutToMove s c all → IsMoved all moved → Mover s c moved
-mover s c all moved run (op, is, walks, m) one = record { inv = run_keeps s run; op = op; is = is; walks = walks; to = to_move s.graph op all moved m one; all = all; move = m }
+mover s c all moved run (op, is, walks, m) one =
+    let on : (side : Side) × (moved_on all side ≡ Some moved) = side_of all moved one in
+    record { inv = run_keeps s run; op = op; is = is; walks = walks; side = on.0; to = to_move s.graph op all on.0 moved m on.1; all = all; move = m }
 
 -- the key of the parent, and of the moved node
 abbrev parent_key : (s : State) (c moved : ℕ) → Mover s c moved → Key
-parent_key s c moved m = m.inv.key c ++ m.to.st.source.walked
+parent_key s c moved m = m.inv.key c ++ (head_on m.side m.to.st).walked
+
+-- its name there
+abbrev last_name : (s : State) (c moved : ℕ) → Mover s c moved → Name
+last_name s c moved m = last_of (of_side m.side m.to.p m.to.q)
 
 moved_located : (s : State) (c moved : ℕ) (m : Mover s c moved) → Located (numbers s.graph) (m.inv.key c) m.to.st
 moved_located s c moved m = (m.inv.kept.each c m.op m.to.st m.is m.to.on).located
 
-at_moved : (s : State) (c moved : ℕ) (m : Mover s c moved) → numbers s.graph (parent_key s c moved m ++ last_of m.to.p ∷ []) ≡ Some moved
-at_moved s c moved m = at_child s.graph.child 0 m.to.st.source.node (parent_key s c moved m) (last_of m.to.p) ((moved_located s c moved m).head Source) ∙ m.to.child
+at_moved : (s : State) (c moved : ℕ) (m : Mover s c moved) → numbers s.graph (parent_key s c moved m ++ last_name s c moved m ∷ []) ≡ Some moved
+at_moved s c moved m = at_child s.graph.child 0 (head_on m.side m.to.st).node (parent_key s c moved m) (last_name s c moved m) ((moved_located s c moved m).head m.side) ∙ m.to.child
 
-at_below : (s : State) (c moved : ℕ) (m : Mover s c moved) (key : Key) (n : ℕ) → at s.graph.child moved key ≡ Some n → numbers s.graph ((parent_key s c moved m ++ last_of m.to.p ∷ []) ++ key) ≡ Some n
-at_below s c moved m key n e = at_from s.graph.child 0 moved (parent_key s c moved m ++ last_of m.to.p ∷ []) key (at_moved s c moved m) ∙ e
+at_below : (s : State) (c moved : ℕ) (m : Mover s c moved) (key : Key) (n : ℕ) → at s.graph.child moved key ≡ Some n → numbers s.graph ((parent_key s c moved m ++ last_name s c moved m ∷ []) ++ key) ≡ Some n
+at_below s c moved m key n e = at_from s.graph.child 0 moved (parent_key s c moved m ++ last_name s c moved m ∷ []) key (at_moved s c moved m) ∙ e
 
 snoc_nil : (a b : Key) (x : Name) → (a ++ x ∷ []) ++ b ≡ [] → ⊥
 snoc_nil [] b x e = cc
@@ -73,28 +80,28 @@ walk_below s c moved m f n op st x key differs a child e = go key e
     at_n : numbers s.graph (m.inv.key f ++ x ∷ []) ≡ Some n
     at_n = at_child s.graph.child 0 st.node (m.inv.key f) x there.here ∙ child
 
-    same : (key : Key) → at s.graph.child moved key ≡ Some n → (parent_key s c moved m ++ last_of m.to.p ∷ []) ++ key ≡ m.inv.key f ++ x ∷ []
-    same key e = m.inv.is_graph.one_key ((parent_key s c moved m ++ last_of m.to.p ∷ []) ++ key) (m.inv.key f ++ x ∷ []) n (at_below s c moved m key n e) at_n
+    same : (key : Key) → at s.graph.child moved key ≡ Some n → (parent_key s c moved m ++ last_name s c moved m ∷ []) ++ key ≡ m.inv.key f ++ x ∷ []
+    same key e = m.inv.is_graph.one_key ((parent_key s c moved m ++ last_name s c moved m ∷ []) ++ key) (m.inv.key f ++ x ∷ []) n (at_below s c moved m key n e) at_n
 
     -- a call that stands at the parent would share it
-    shared : m.inv.key c ++ m.to.st.source.walked ≡ m.inv.key f → ⊥
+    shared : m.inv.key c ++ (head_on m.side m.to.st).walked ≡ m.inv.key f → ⊥
     shared i =
-        let z : ◌≡◌ {A = Option ℕ} (Some m.to.st.source.node) (Some st.node) = sym ((moved_located s c moved m).head Source) ∙ ap (numbers s.graph) i ∙ there.here in
-        let y : m.to.st.source.node ≡ st.node = cc in
-        (m.inv.kept.pairs c f m.op op m.to.st st (λ j. differs (sym j)) m.is a.is m.to.on a.on).apart st.node (subst (Holds m.to.st) y (node_held Source (numbers s.graph) (m.inv.key c) m.to.st (moved_located s c moved m))) (inl refl)
+        let z : ◌≡◌ {A = Option ℕ} (Some (head_on m.side m.to.st).node) (Some st.node) = sym ((moved_located s c moved m).head m.side) ∙ ap (numbers s.graph) i ∙ there.here in
+        let y : (head_on m.side m.to.st).node ≡ st.node = cc in
+        (m.inv.kept.pairs c f m.op op m.to.st st (λ j. differs (sym j)) m.is a.is m.to.on a.on).apart st.node (subst (Holds m.to.st) y (node_held m.side (numbers s.graph) (m.inv.key c) m.to.st (moved_located s c moved m))) (inl refl)
 
     go : (key : Key) → at s.graph.child moved key ≡ Some n → (r : Key) × (at s.graph.child moved r ≡ Some st.node)
-    go [] e = absurd (shared (ends_same (m.inv.key c ++ m.to.st.source.walked) (m.inv.key f) (last_of m.to.p) x (sym (append-nil (parent_key s c moved m ++ last_of m.to.p ∷ [])) ∙ same [] e)).0)
+    go [] e = absurd (shared (ends_same (m.inv.key c ++ (head_on m.side m.to.st).walked) (m.inv.key f) (last_name s c moved m) x (sym (append-nil (parent_key s c moved m ++ last_name s c moved m ∷ [])) ∙ same [] e)).0)
     go (y ∷ key) e =
         let d : Snoc (y ∷ key) = ends (y ∷ key) tt in
-        let k : (parent_key s c moved m ++ last_of m.to.p ∷ []) ++ d.front ≡ m.inv.key f =
-        (ends_same ((parent_key s c moved m ++ last_of m.to.p ∷ []) ++ d.front) (m.inv.key f) d.last x
-        (append_assoc (parent_key s c moved m ++ last_of m.to.p ∷ []) d.front (d.last ∷ []) ∙ ap (λ (l : Key). (parent_key s c moved m ++ last_of m.to.p ∷ []) ++ l) (sym d.is) ∙ same (y ∷ key) e)).0 in
-        (d.front, sym (at_from s.graph.child 0 moved (parent_key s c moved m ++ last_of m.to.p ∷ []) d.front (at_moved s c moved m)) ∙ ap (numbers s.graph) k ∙ there.here)
+        let k : (parent_key s c moved m ++ last_name s c moved m ∷ []) ++ d.front ≡ m.inv.key f =
+        (ends_same ((parent_key s c moved m ++ last_name s c moved m ∷ []) ++ d.front) (m.inv.key f) d.last x
+        (append_assoc (parent_key s c moved m ++ last_name s c moved m ∷ []) d.front (d.last ∷ []) ∙ ap (λ (l : Key). (parent_key s c moved m ++ last_name s c moved m ∷ []) ++ l) (sym d.is) ∙ same (y ∷ key) e)).0 in
+        (d.front, sym (at_from s.graph.child 0 moved (parent_key s c moved m ++ last_name s c moved m ∷ []) d.front (at_moved s c moved m)) ∙ ap (numbers s.graph) k ∙ there.here)
 
 -- the root is not below it
 root_not_below : (s : State) (c moved : ℕ) (m : Mover s c moved) (key : Key) (n : ℕ) → 0 ≡ n → at s.graph.child moved key ≡ Some n → ⊥
-root_not_below s c moved m key n z e = snoc_nil (parent_key s c moved m) key (last_of m.to.p) (m.inv.is_graph.one_key ((parent_key s c moved m ++ last_of m.to.p ∷ []) ++ key) [] n (at_below s c moved m key n e) (ap (λ (x : ℕ). Some x) z))
+root_not_below s c moved m key n z e = snoc_nil (parent_key s c moved m) key (last_name s c moved m) (m.inv.is_graph.one_key ((parent_key s c moved m ++ last_name s c moved m ∷ []) ++ key) [] n (at_below s c moved m key n e) (ap (λ (x : ℕ). Some x) z))
 
 -- a take
 took_outside : (s : State) (c moved : ℕ) (m : Mover s c moved) (f n : ℕ) (op : Record) → s.ops f ≡ Some op → next s.graph op ≡ Takes n → (d : ℕ) → IsWalkingBelow (taking s f op n) moved d → IsWalkingBelow s moved d

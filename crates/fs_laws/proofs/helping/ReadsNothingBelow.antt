@@ -25,7 +25,7 @@ use Rattle.fs_laws.proofs.calls.Located.{key_is, dir_under, in_more, change_unde
 use Rattle.fs_laws.proofs.graphs.Walks.{at_child, at_from, then_some}
 use Rattle.fs_laws.proofs.finish.Readings.{Stops}
 use Rattle.fs_laws.proofs.calls.Behind.{finish_on}
-use Rattle.fs_laws.proofs.finish.Replies.{step_stops}
+use Rattle.fs_laws.proofs.finish.Pairs.{step_stops}
 use Rattle.fs_laws.proofs.events.TwoCalls.{Parted, parted}
 
 -- where a walk has stopped, no node is there below by the names that are left

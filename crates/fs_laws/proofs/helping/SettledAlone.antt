@@ -10,8 +10,8 @@ use Rattle.fs_laws.specs.Maps.{Map}
 use Rattle.fs_calls.specs.Rows.{node_row, Edit, Keep, Add, Remove, entry_row}
 use Rattle.fs_calls.specs.declared.reply.Reply.{Reply}
 use Rattle.fs_graph.specs.Graphs.{Graph, Children, at, numbers, graph_shapes, set_child, set_at, entry_shape, IsGraph, unlinked_in}
-use Rattle.fs_machine.specs.Finishes.{Effect, node_effect, entry_effect, move_effect, rename_effect, effect_at, effect_of, finish}
-use Rattle.fs_machine.specs.Moves.{next, next_on, target, dir_error, path_error, rename_at}
+use Rattle.fs_machine.specs.Finishes.{Effect, node_effect, entry_effect, move_effect, rename_effect, effect_at, effect_of, finish, swap_effect, exchange_effect}
+use Rattle.fs_machine.specs.Moves.{next, next_on, target, dir_error, path_error, rename_at, exchange_at}
 use Rattle.fs_machine.specs.declared.moves.Move.TheVariants.{Finish as Finishes}
 use Rattle.fs_machine.specs.declared.moves.Moved.{Moved}
 use Rattle.fs_machine.specs.Records.{Phase, Walking, Placed, Finished, Record, Records, Holdings, Source, Dest, Side, head_on}
@@ -29,7 +29,7 @@ use Rattle.fs_laws.proofs.finish.TreeAfter.{finish_tree}
 use Rattle.fs_laws.proofs.events.Help.{upd_here, upd_else}
 use Rattle.fs_laws.proofs.events.Commit.{placed_in}
 use Rattle.fs_laws.proofs.finish.Changes.{Finisher}
-use Rattle.fs_laws.proofs.finish.RenameChanges.{does}
+use Rattle.fs_laws.proofs.finish.EachCall.{does}
 use Rattle.fs_laws.proofs.calls.OwnRecord.{reached_used, well_by}
 use Rattle.fs_laws.proofs.calls.HeadOrder.{neat_by}
 use Rattle.fs_laws.proofs.states.Headline.{run_keeps}
@@ -65,6 +65,15 @@ moved_untouched graph st a x y reserved r true (Some m) h g = record {
   shape = upd_else st.dest.node (Some (Dir (inserted_name y (names_of ((unlinked_in st.source.node x graph).shape st.dest.node))))) (unlinked_in st.source.node x graph).shape a g ∙ upd_else st.source.node (Some (Dir (removed_name x (names_of (graph.shape st.source.node))))) graph.shape a h;
 }
 
+swapped_untouched : (graph : Graph) (st : Holdings) (a : ℕ) (x y : Name) (reserved : Option ℕ) (r : Reply) (b : Bool) (s t : Option ℕ) → (a ≡ st.source.node → ⊥) → (a ≡ st.dest.node → ⊥) → Untouched graph (swap_effect graph st x y reserved r b s t).graph a
+swapped_untouched graph st a x y reserved r false s t h g = untouched graph a
+swapped_untouched graph st a x y reserved r true None t h g = untouched graph a
+swapped_untouched graph st a x y reserved r true (Some s) None h g = untouched graph a
+swapped_untouched graph st a x y reserved r true (Some s) (Some t) h g = record {
+  child = λ z. set_else st.source.node x (Some t) (set_child st.dest.node y (Some s) graph.child) a z (λ i j. h i) ∙ set_else st.dest.node y (Some s) graph.child a z (λ i j. g i);
+  shape = refl;
+}
+
 made_untouched : (graph : Graph) (remaining : Form) (st : Holdings) (reserved : Option ℕ) (a : ℕ) → (a ≡ st.node → ⊥) → (a ≡ st.source.node → ⊥) → (a ≡ st.dest.node → ⊥) → Untouched graph (effect_at graph remaining st reserved).graph a
 made_untouched graph (AtNode c p) st reserved a h g i = on_untouched graph st.node a reserved (node_row c (path_error p (graph.shape st.node)) (graph.shape st.node)) h
 made_untouched graph (AtEntry c p) st reserved a h g i = in_untouched graph st.node a (last_of p) reserved (entry_row c (dir_error (parent_of p) (graph.shape st.node)) (is_full (graph.shape st.node)) (entry_shape graph st.node (last_of p))) h
@@ -72,6 +81,11 @@ made_untouched graph (AtPair pairs.Rename p q) st reserved a h g i = go (target 
   where
     go : (l : Key) → Untouched graph (rename_effect graph p q st reserved l).graph a
     go [] = moved_untouched graph st a (last_of p) (last_of q) reserved (rename_at graph p q st).0 (rename_at graph p q st).1 (graph.child st.source.node (last_of p)) g i
+    go (x ∷ l) = untouched graph a
+made_untouched graph (AtPair pairs.Exchange p q) st reserved a h g i = go (target (AtPair pairs.Exchange p q))
+  where
+    go : (l : Key) → Untouched graph (exchange_effect graph p q st reserved l).graph a
+    go [] = swapped_untouched graph st a (last_of p) (last_of q) reserved (exchange_at graph p q st).0 (exchange_at graph p q st).1 (graph.child st.source.node (last_of p)) (graph.child st.dest.node (last_of q)) g i
     go (x ∷ l) = untouched graph a
 
 -- a placed call that has gone on alone: what it made, against the old graph
@@ -233,6 +247,7 @@ solo_stays graph made k op g kd q st off apart s = record {
     victim : (f : Form) → VictimAt graph f st → VictimAt made.graph f st
     victim (AtNode c p) w = w
     victim (AtEntry c p) w = λ v e. (g.untouched kd st.node s.loc.here off.here).child (last_of p) ∙ w v e
+    victim (AtPair pairs.Exchange a b) w = w
     victim (AtPair pairs.Rename a b) w = λ v e. ((g.untouched (kd ++ st.dest.walked) st.dest.node (s.loc.head Dest) (off.head Dest)).child (last_of b) ∙ (w v e).0, (w v e).1)
 
 -- placed calls in their order, each where it stands, and the later ones off its keys

@@ -1,4 +1,4 @@
--- The settled tree through the commit of a rename.
+-- The settled tree through the commit of a call that moves nodes.
 use Rattle.std.proofs.Common.{◌≡◌, ℕ, ◌<◌, List, [], ◌∷◌, Option, Some, sym, ap, ◌∙◌, arith, subst}
 use Rattle.fs_names.specs.Keys.{Key}
 use Rattle.fs_laws.specs.Maps.{Map}

@@ -13,7 +13,7 @@ use Rattle.fs_machine.specs.declared.moves.Move.{Move}
 use Rattle.fs_machine.specs.declared.moves.Move.TheVariants.{Take as Takes, LetGo as Leaves, Finish as Finishes, Return as Ends}
 use Rattle.fs_machine.specs.declared.moves.Moved.{Moved}
 use Rattle.fs_machine.specs.declared.moves.Moved.TheVariants.{Nothing, One, Two}
-use Rattle.fs_machine.specs.Records.{Holdings, Phase, Walking, Placed, Finished, Record, Source}
+use Rattle.fs_machine.specs.Records.{Holdings, Phase, Walking, Placed, Finished, Record, Side, Source, Dest, of_side, head_on}
 use Rattle.fs_timeline.specs.Timeline.{begins}
 use Rattle.fs_laws.specs.Events.{Event, Begins, Steps, events_of, Ran}
 use Rattle.fs_laws.specs.Invariants.{Invariant}
@@ -25,28 +25,28 @@ use Rattle.fs_calls.specs.Tree.{root_tree}
 use Rattle.fs_laws.proofs.states.StartsEmpty.{starts_empty}
 use Rattle.fs_laws.proofs.states.ComputedSteps.{by_ends, by_finishes}
 use Rattle.fs_laws.proofs.helping.WhomToHelp.{IsOneOf, AreKeys, whom, IsRight, whom_is}
-use Rattle.fs_laws.proofs.helping.NobodyEnters.{ToMove, to_move}
+use Rattle.fs_laws.proofs.helping.NobodyEnters.{moved_on, ToMove, to_move}
 use Rattle.fs_laws.proofs.states.Headline.{run_keeps}
 use Rattle.fs_laws.proofs.graphs.Walks.{at_child}
 
--- the key of the node that a call would move
-abbrev source_of : Form → Key
-source_of (AtNode c p) = p
-source_of (AtEntry c p) = p
-source_of (AtPair c p q) = p
+-- the key of the node that a call would move at the end of one of its paths
+abbrev path_of : Side → Form → Key
+path_of side (AtNode c p) = p
+path_of side (AtEntry c p) = p
+path_of side (AtPair c p q) = of_side side p q
 
-abbrev source_walked : Option Holdings → Key
-source_walked None = []
-source_walked (Some st) = st.source.walked
+abbrev head_walked : Side → Option Holdings → Key
+head_walked side None = []
+head_walked side (Some st) = (head_on side st).walked
 
-abbrev moved_key : Record → Key
-moved_key op = op.walked ++ source_walked op.holdings ++ last_of (source_of op.remaining) ∷ []
+abbrev moved_key : Side → Record → Key
+moved_key side op = op.walked ++ head_walked side op.holdings ++ last_of (path_of side op.remaining) ∷ []
 
 -- the keys of the nodes that a finish would move
 abbrev moved_keys : Record → Moved → List Key
 moved_keys op Nothing = []
-moved_keys op (One n) = moved_key op ∷ []
-moved_keys op (Two n m) = moved_key op ∷ []
+moved_keys op (One n) = moved_key Source op ∷ []
+moved_keys op (Two n m) = moved_key Source op ∷ moved_key Dest op ∷ []
 
 abbrev to_help : State → Record → Moved → Option ℕ
 to_help old op moved = whom old.ops (moved_keys op moved) (begins old.timeline)
@@ -88,33 +88,38 @@ seat_by old (Some c) = op_by old c (old.ops c)
 abbrev stepped : State → ℕ → Stepped × State
 stepped old seat = seat_by old (old.on_seat seat)
 
--- a rename moves the node at that key
-at_moved : (s : State) → Run s → (c : ℕ) (op : Record) (o : Moved) (n : ℕ) → s.ops c ≡ Some op → op.phase ≡ Walking → next s.graph op ≡ Finishes o → IsMoved o n → numbers s.graph (moved_key op) ≡ Some n
-at_moved s run c op o n is walks m one = ap (numbers s.graph) same ∙ at_child s.graph.child 0 t.st.source.node (inv.key c ++ t.st.source.walked) (last_of t.p) ((inv.kept.each c op t.st is t.on).located.head Source) ∙ t.child
+-- a call moves the node at that key
+at_moved : (s : State) → Run s → (c : ℕ) (op : Record) (o : Moved) (side : Side) (n : ℕ) → s.ops c ≡ Some op → op.phase ≡ Walking → next s.graph op ≡ Finishes o → moved_on o side ≡ Some n → numbers s.graph (moved_key side op) ≡ Some n
+at_moved s run c op o side n is walks m one = ap (numbers s.graph) same ∙ at_child s.graph.child 0 (head_on side t.st).node (inv.key c ++ (head_on side t.st).walked) (last_of (of_side side t.p t.q)) ((inv.kept.each c op t.st is t.on).located.head side) ∙ t.child
   where
     inv : Invariant s
     inv = run_keeps s run
 
-    t : ToMove s.graph op n
-    t = to_move s.graph op o n m one
+    t : ToMove s.graph op side n
+    t = to_move s.graph op o side n m one
 
-    same : moved_key op ≡ inv.key c ++ t.st.source.walked ++ last_of t.p ∷ []
+    same : moved_key side op ≡ inv.key c ++ (head_on side t.st).walked ++ last_of (of_side side t.p t.q) ∷ []
     same =
-        ap (λ (k : Key). k ++ source_walked op.holdings ++ last_of (source_of op.remaining) ∷ []) (sym ((inv.kept.each c op t.st is t.on).walking walks))
-        ∙ ap₂ (λ (o : Option Holdings) (f : Form). inv.key c ++ source_walked o ++ last_of (source_of f) ∷ []) t.on t.remaining
+        ap (λ (k : Key). k ++ head_walked side op.holdings ++ last_of (path_of side op.remaining) ∷ []) (sym ((inv.kept.each c op t.st is t.on).walking walks))
+        ∙ ap₂ (λ (o : Option Holdings) (f : Form). inv.key c ++ head_walked side o ++ last_of (path_of side f) ∷ []) t.on t.remaining
 
-are_keys : (s : State) (op : Record) (o : Moved) → ((n : ℕ) → IsMoved o n → numbers s.graph (moved_key op) ≡ Some n) → AreKeys s (moved_keys op o) o
+are_keys : (s : State) (op : Record) (o : Moved) → ((side : Side) (n : ℕ) → moved_on o side ≡ Some n → numbers s.graph (moved_key side op) ≡ Some n) → AreKeys s (moved_keys op o) o
 are_keys s op Nothing at_key = record { each = λ k i. absurd i; all = λ n i. absurd i }
-are_keys s op (One n) at_key = record { each = each; all = λ q i. (moved_key op, inl refl, at_key q i) }
+are_keys s op (One n) at_key = record { each = each; all = λ q i. (moved_key Source op, inl refl, at_key Source q (ap Some (sym i))) }
   where
-    each : (k : Key) → IsOneOf k (moved_key op ∷ []) → (q : ℕ) × IsMoved (One n) q × (numbers s.graph k ≡ Some q)
-    each k (inl i) = (n, refl, ap (numbers s.graph) i ∙ at_key n refl)
+    each : (k : Key) → IsOneOf k (moved_key Source op ∷ []) → (q : ℕ) × IsMoved (One n) q × (numbers s.graph k ≡ Some q)
+    each k (inl i) = (n, refl, ap (numbers s.graph) i ∙ at_key Source n refl)
     each k (inr i) = absurd i
-are_keys s op (Two n p) at_key = record { each = each; all = λ q i. (moved_key op, inl refl, at_key q i) }
+are_keys s op (Two n p) at_key = record { each = each; all = all }
   where
-    each : (k : Key) → IsOneOf k (moved_key op ∷ []) → (q : ℕ) × IsMoved (Two n p) q × (numbers s.graph k ≡ Some q)
-    each k (inl i) = (n, inl refl, ap (numbers s.graph) i ∙ at_key n (inl refl))
-    each k (inr i) = absurd i
+    each : (k : Key) → IsOneOf k (moved_key Source op ∷ moved_key Dest op ∷ []) → (q : ℕ) × IsMoved (Two n p) q × (numbers s.graph k ≡ Some q)
+    each k (inl i) = (n, inl refl, ap (numbers s.graph) i ∙ at_key Source n refl)
+    each k (inr (inl i)) = (p, inr refl, ap (numbers s.graph) i ∙ at_key Dest p refl)
+    each k (inr (inr i)) = absurd i
+
+    all : (q : ℕ) → IsMoved (Two n p) q → (k : Key) × IsOneOf k (moved_key Source op ∷ moved_key Dest op ∷ []) × (numbers s.graph k ≡ Some q)
+    all q (inl i) = (moved_key Source op, inl refl, at_key Source q (ap Some (sym i)))
+    all q (inr i) = (moved_key Dest op, inr (inl refl), at_key Dest q (ap Some (sym i)))
 
 pub stepped_is : (old : State) → Run old → (seat : ℕ) → Step old seat (stepped old seat).0 (stepped old seat).1
 stepped_is old run seat = on_it (old.on_seat seat) refl
@@ -128,7 +133,7 @@ stepped_is old run seat = on_it (old.on_seat seat) refl
     moves c op n (Some d) m w r = helps c op n d m w r (old.ops d) refl
 
     walking : (c : ℕ) (op : Record) (o : Moved) → Moves old seat c op (Finishes o) → op.phase ≡ Walking → Step old seat (finish_by old c op Walking (to_help old op o)).0 (finish_by old c op Walking (to_help old op o)).1
-    walking c op o m w = moves c op o (to_help old op o) m w (whom_is old run (moved_keys op o) o (are_keys old op o (λ n one. at_moved old run c op o n m.1 w m.2 one)))
+    walking c op o m w = moves c op o (to_help old op o) m w (whom_is old run (moved_keys op o) o (are_keys old op o (λ side n on. at_moved old run c op o side n m.1 w m.2 on)))
 
     finishing : (c : ℕ) (op : Record) (o : Moved) (phase : Phase) → op.phase ≡ phase → Moves old seat c op (Finishes o) → Step old seat (finish_by old c op phase (to_help old op o)).0 (finish_by old c op phase (to_help old op o)).1
     finishing c op o Walking w m = walking c op o m w

@@ -45,6 +45,7 @@ some_ends b k v s m i e = take_ends b k v s (i ∙ e)
 
 parents_ends : (graph : Graph) (c : PairCall) (p q : Key) (st : Holdings) (m : Move) → parents_move graph c p q st ≡ m → m ≡ Ends → ⊥
 parents_ends graph pairs.Rename p q st m i e = some_ends _ _ _ _ m i e
+parents_ends graph pairs.Exchange p q st m i e = cc
 
 target_ends : (graph : Graph) (remaining : Form) (st : Holdings) → target_move graph remaining st ≡ Ends → ⊥
 target_ends graph (AtNode c p) st e = cc

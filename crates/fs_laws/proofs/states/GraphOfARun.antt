@@ -1,17 +1,16 @@
 -- What holds of the graph, the seats and the numbers, in every state of a run.
-use Rattle.std.proofs.Common.{◌≡◌, ℕ, ◌<◌, ◌≤◌, Bool, true, false, cond, IsTrue, [], ◌∷◌, ◌++◌, Option, Some, None, refl, sym, ap, ◌∙◌, subst, ◌⊎◌, inl, inr, arith, append_assoc, rules}
+use Rattle.std.proofs.Common.{◌≡◌, ℕ, ◌<◌, ◌≤◌, Bool, true, false, cond, IsTrue, [], ◌∷◌, ◌++◌, Option, Some, None, refl, sym, ap, ◌∙◌, subst, ◌⊎◌, inl, inr, arith, append_assoc, rules, eqb}
 use Rattle.std.specs.Prelude.{nat_lt}
 use Rattle.std.proofs.lemmas.Bool.Decides.{nat_tests}
-use Rattle.fs_names.specs.Keys.{Key, after_prefix, parent_of, last_of}
+use Rattle.fs_names.specs.Keys.{Key, after_prefix, parent_of, last_of, has_more}
 use Rattle.fs_names.specs.Parts.{HasNames}
 use Rattle.fs_names.specs.Names.{Name, has_name}
 use Rattle.fs_names.specs.Shapes.{Shape, Dir, File, is_there, has_entries}
 use Rattle.fs_calls.specs.Forms.{form, Form, AtNode, AtEntry, AtPair, Fits, by_text}
 use Rattle.fs_calls.specs.declared.target.PairCall.TheVariants as pairs
 use Rattle.fs_calls.specs.declared.errno.Errno.{Errno}
-use Rattle.fs_calls.specs.declared.errno.Errno.TheVariants.{Einval}
 use Rattle.fs_calls.specs.declared.reply.Reply.{Reply}
-use Rattle.fs_graph.specs.Graphs.{Graph, at, numbers, IsGraph}
+use Rattle.fs_graph.specs.Graphs.{Graph, at, numbers, IsGraph, IsReached}
 use Rattle.fs_machine.specs.Leaving.{is_removed}
 use Rattle.fs_machine.specs.Moves.{next, next_by}
 use Rattle.fs_machine.specs.declared.moves.Move.TheVariants.{Finish as Finishes, Return as Ends}
@@ -23,9 +22,8 @@ use Rattle.fs_laws.specs.Invariants.{Invariant}
 use Rattle.fs_laws.specs.CallFacts.{Located}
 use Rattle.fs_machine.specs.States.{State, Run}
 use Rattle.fs_laws.proofs.trees.Prefixes.{same_refl, prefix_append}
-use Rattle.fs_calls.proofs.RowNames.{if_below}
-use Rattle.fs_laws.proofs.calls.Located.{key_is, from_more, to_more, below_text}
-use Rattle.fs_laws.proofs.graphs.Walks.{at_child, at_from, eqb_true}
+use Rattle.fs_laws.proofs.calls.Located.{key_is, from_more, to_more, not_under, not_over}
+use Rattle.fs_laws.proofs.graphs.Walks.{at_child, at_from, eqb_true, eqb_refl}
 use Rattle.fs_laws.proofs.states.ComputedSteps.{by_ends}
 use Rattle.fs_laws.proofs.events.Return.{ends_nowhere}
 use Rattle.fs_laws.proofs.states.Headline.{run_keeps}
@@ -89,9 +87,9 @@ heads_apart s c op st run is on = go op.remaining
     go (AtPair pair p q) = λ same. front_same (inv.key c) st.source.walked st.dest.walked (inv.is_graph.one_key (inv.key c ++ st.source.walked) (inv.key c ++ st.dest.walked) st.source.node (loc.head Source) ((loc.head Dest) ∙ ap (λ (n : ℕ). Some n) (sym same)))
 
 -- a key that goes on from another one is not beside it
-goes_on : (p way : Key) (x : Name) → if_below (after_prefix p (p ++ (way ++ x ∷ []))) ≡ None → ⊥
-goes_on p [] x e = let z : ◌≡◌ {A = Option Errno} (Some Einval) None = sym (ap if_below (prefix_append p (x ∷ []))) ∙ e in cc
-goes_on p (y ∷ way) x e = let z : ◌≡◌ {A = Option Errno} (Some Einval) None = sym (ap if_below (prefix_append p (y ∷ (way ++ x ∷ [])))) ∙ e in cc
+goes_on : (p way : Key) (x : Name) → has_more (after_prefix p (p ++ (way ++ x ∷ []))) ≡ true
+goes_on p [] x = ap has_more (prefix_append p (x ∷ []))
+goes_on p (y ∷ way) x = ap has_more (prefix_append p (y ∷ (way ++ x ∷ [])))
 
 -- a call never stands at the number that it reserved
 pub reserved_other : (s : State) (c : ℕ) (op : Record) (st : Holdings) → Run s → s.ops c ≡ Some op → op.holdings ≡ Some st → op.reserved ≡ Some st.node → ⊥
@@ -99,7 +97,8 @@ reserved_other s c op st run is on e =
     let inv : Invariant s = run_keeps s run in
     ((inv.own c op is).spare st.node e).1 (inv.key c) (inv.kept.each c op st is on).located.here
 
--- from what a rename would move its new directory is not reached: else the old path would be the beginning of the new one
+-- from what a rename would move its new directory is not reached: else the old path would be the beginning of the new one;
+-- and of what an exchange would move neither is reached from the other
 pub moves_apart : (s : State) (c : ℕ) (op : Record) (st : Holdings) → Run s → s.ops c ≡ Some op → op.holdings ≡ Some st → MovesApart s.graph op.remaining st
 moves_apart s c op st run is on = go op.remaining (inv.kept.each c op st is on).fits
   where
@@ -119,12 +118,38 @@ moves_apart s c op st run is on = go op.remaining (inv.kept.each c op st is on).
         ∙ front_same (inv.key c) ((st.source.walked ++ last_of p ∷ []) ++ way) st.dest.walked (sym split ∙ same)
         ∙ dest
 
+    entry_at : (p walked : Key) (node n : ℕ) → HasNames p → walked ≡ parent_of p → numbers s.graph (inv.key c ++ walked) ≡ Some node → s.graph.child node (last_of p) ≡ Some n → numbers s.graph (inv.key c ++ p) ≡ Some n
+    entry_at p walked node n some is_parent at_node child =
+        ap (numbers s.graph) (ap (λ (k : Key). inv.key c ++ k) (key_is p some ∙ ap (λ (k : Key). k ++ last_of p ∷ []) (sym is_parent)) ∙ sym (append_assoc (inv.key c) walked (last_of p ∷ [])))
+        ∙ at_child s.graph.child 0 node (inv.key c ++ walked) (last_of p) at_node
+        ∙ child
+
+    -- a node that is reached from another one has a path that goes on from the other's
+    goes_under : (p q way : Key) (n m : ℕ) → (n ≡ m → ⊥) → numbers s.graph (inv.key c ++ p) ≡ Some n → numbers s.graph (inv.key c ++ q) ≡ Some m → at s.graph.child n way ≡ Some m → has_more (after_prefix p q) ≡ true
+    goes_under p q [] n m differs at_p at_q reach = absurd (differs (let z : n ≡ m = cc in z))
+    goes_under p q (x ∷ way) n m differs at_p at_q reach =
+        let same : inv.key c ++ (p ++ x ∷ way) ≡ inv.key c ++ q = inv.is_graph.one_key (inv.key c ++ (p ++ x ∷ way)) (inv.key c ++ q) m (ap (numbers s.graph) (sym (append_assoc (inv.key c) p (x ∷ way))) ∙ at_from s.graph.child 0 n (inv.key c ++ p) (x ∷ way) at_p ∙ reach) at_q in
+        ap (λ (k : Key). has_more (after_prefix p k)) (sym (front_same (inv.key c) (p ++ x ∷ way) q same)) ∙ ap has_more (prefix_append p (x ∷ way))
+
     go : (f : Form) → Fits f → MovesApart s.graph f st
+    go (AtPair pairs.Exchange p q) fits = λ n m source dest one other. (by n m
+        (entry_at p st.source.walked st.source.node n (from_more pairs.Exchange p q fits) source (loc.head Source) one)
+        (entry_at q st.dest.walked st.dest.node m (to_more pairs.Exchange p q fits) dest (loc.head Dest) other)
+        (eqb n m) refl)
+      where
+        by : (n m : ℕ) → numbers s.graph (inv.key c ++ p) ≡ Some n → numbers s.graph (inv.key c ++ q) ≡ Some m → (b : Bool) → eqb n m ≡ b → (n ≡ m) ⊎ ((IsReached s.graph.child n m → ⊥) × (IsReached s.graph.child m n → ⊥))
+        by n m at_p at_q true e = inl (eqb_true n m e)
+        by n m at_p at_q false e =
+            let differs : n ≡ m → ⊥ = λ (i : n ≡ m). (let t : eqb n m ≡ true = ap (eqb n) (sym i) ∙ eqb_refl n in cc) in
+            inr (
+              (λ (way, reach). not_under pairs.Exchange p q fits (goes_under p q way n m differs at_p at_q reach)),
+              (λ (way, reach). not_over p q fits (goes_under q p way m n (λ i. differs (sym i)) at_q at_p reach)),
+            )
     go (AtNode e p) fits = tt
     go (AtEntry e p) fits = tt
     go (AtPair pairs.Rename p q) fits = λ n source dest child (way, reach).
-        let whole : q ≡ p ++ (way ++ last_of q ∷ []) = key_is q (to_more p q fits) ∙ ap (λ (k : Key). k ++ last_of q ∷ []) (sym (reaches p q way n source dest (from_more p q fits) child reach)) ∙ append_assoc p way (last_of q ∷ []) in
-        goes_on p way (last_of q) (ap (λ (k : Key). if_below (after_prefix p k)) (sym whole) ∙ sym (below_text p q (from_more p q fits) (to_more p q fits)) ∙ fits)
+        let whole : q ≡ p ++ (way ++ last_of q ∷ []) = key_is q (to_more pairs.Rename p q fits) ∙ ap (λ (k : Key). k ++ last_of q ∷ []) (sym (reaches p q way n source dest (from_more pairs.Rename p q fits) child reach)) ∙ append_assoc p way (last_of q ∷ []) in
+        not_under pairs.Rename p q fits (ap (λ (k : Key). has_more (after_prefix p k)) whole ∙ goes_on p way (last_of q))
 
 -- what a finish needs
 pub can_finish : (s : State) (c : ℕ) (op : Record) (t : Moved) → Run s → s.ops c ≡ Some op → next s.graph op ≡ Finishes t → CanFinish s.graph op.reserved op.remaining op.holdings

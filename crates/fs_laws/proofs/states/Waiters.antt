@@ -12,7 +12,7 @@ use Rattle.fs_machine.specs.declared.moves.Move.{Move}
 use Rattle.fs_machine.specs.declared.moves.Move.TheVariants.{Take as Takes, LetGo as Leaves, Finish as Finishes, Return as Ends}
 use Rattle.fs_machine.specs.declared.moves.Moved.{Moved}
 use Rattle.fs_machine.specs.declared.moves.Moved.TheVariants.{Nothing, One, Two}
-use Rattle.fs_machine.specs.Records.{Walking, Placed, Finished, Holds, Record, Holdings, Dest, head_on, Source}
+use Rattle.fs_machine.specs.Records.{Walking, Placed, Finished, Holds, Record, Holdings, Dest, head_on, Side, of_side, head_on, Source}
 use Rattle.fs_timeline.specs.Timeline.{begins}
 use Rattle.fs_laws.specs.Invariants.{IsUnfinished, Invariant}
 use Rattle.fs_laws.specs.Progress.{WaitsFor, WaitsBelow, GoesOn, SomebodyGoesOn, IsNeverStuck, HasStep}
@@ -31,7 +31,7 @@ use Rattle.fs_laws.proofs.calls.HeadOrder.{no_victim}
 use Rattle.fs_laws.proofs.states.Agreement.{StateFacts, Holder, run_accounts}
 use Rattle.fs_laws.proofs.calls.NextMoves.{takes_another}
 use Rattle.fs_laws.proofs.states.GraphOfARun.{begun_before, call_seat, finishes_open}
-use Rattle.fs_laws.proofs.helping.NobodyEnters.{ToMove, to_move}
+use Rattle.fs_laws.proofs.helping.NobodyEnters.{moved_on, side_of, ToMove, to_move}
 use Rattle.fs_laws.proofs.helping.WhomToHelp.{within_total, IsOneOf, AreKeys, chosen_or_none}
 use Rattle.fs_laws.specs.StepsLeft.{total}
 
@@ -140,8 +140,11 @@ none_or_chosen s run c op o is m = let k : (ks : List Key) × AreKeys s ks o = k
 
     moved_key : (n : ℕ) → IsMoved o n → (k : Key) × (numbers s.graph k ≡ Some n)
     moved_key n one =
-        let t : ToMove s.graph op n = to_move s.graph op o n m one in
-        (inv.key c ++ t.st.source.walked ++ last_of t.p ∷ [], at_child s.graph.child 0 t.st.source.node (inv.key c ++ t.st.source.walked) (last_of t.p) ((inv.kept.each c op t.st is t.on).located.head Source) ∙ t.child)
+        let on : (side : Side) × (moved_on o side ≡ Some n) = side_of o n one in
+        let t : ToMove s.graph op on.0 n = to_move s.graph op o on.0 n m on.1 in (
+          inv.key c ++ (head_on on.0 t.st).walked ++ last_of (of_side on.0 t.p t.q) ∷ [],
+          at_child s.graph.child 0 (head_on on.0 t.st).node (inv.key c ++ (head_on on.0 t.st).walked) (last_of (of_side on.0 t.p t.q)) ((inv.kept.each c op t.st is t.on).located.head on.0) ∙ t.child,
+        )
 
     keys : (o : Moved) → ((n : ℕ) → IsMoved o n → (k : Key) × (numbers s.graph k ≡ Some n)) → (ks : List Key) × AreKeys s ks o
     keys Nothing at_key = ([], record { each = λ k i. absurd i; all = λ n i. absurd i })

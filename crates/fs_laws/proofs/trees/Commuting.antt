@@ -122,6 +122,45 @@ swapped_second s t r st ts = ap₂ (swapped_by s t (t ++ r)) (prefix_none s t r 
 pub swapped_else : (s t key : Key) → after_prefix s key ≡ None → after_prefix t key ≡ None → swapped s t key ≡ key
 swapped_else s t key e g = ap₂ (swapped_by s t key) e g
 
+-- where a key lies by an exchange: below the first key, below the second, or below neither
+pub data Lies (s t key : Key) : Type 0 where
+  Below_first : (r : Key) → key ≡ s ++ r → Lies s t key
+  Below_second : (r : Key) → key ≡ t ++ r → Lies s t key
+  Below_neither : after_prefix s key ≡ None → after_prefix t key ≡ None → Lies s t key
+
+pub lies : (s t key : Key) → Lies s t key
+lies s t key = go (after_prefix s key) (after_prefix t key) refl refl
+  where
+    go : (o p : Option Key) → after_prefix s key ≡ o → after_prefix t key ≡ p → Lies s t key
+    go (Some r) p e g = Below_first r (prefix_some s key r e)
+    go None (Some r) e g = Below_second r (prefix_some t key r g)
+    go None None e g = Below_neither e g
+
+-- a key that changes places twice is the same again
+pub swapped_twice : (s t key : Key) → after_prefix s t ≡ None → after_prefix t s ≡ None → swapped s t (swapped s t key) ≡ key
+swapped_twice s t key st ts = go (lies s t key)
+  where
+    go : Lies s t key → swapped s t (swapped s t key) ≡ key
+    go (Below_first r e) = rw e (ap (swapped s t) (swapped_first s t r) ∙ swapped_second s t r st ts)
+    go (Below_second r e) = rw e (ap (swapped s t) (swapped_second s t r st ts) ∙ swapped_first s t r)
+    go (Below_neither e g) = ap (swapped s t) (swapped_else s t key e g) ∙ swapped_else s t key e g
+
+-- what follows a key goes along from below either key
+pub swapped_on_first : (s t r u : Key) → swapped s t ((s ++ r) ++ u) ≡ swapped s t (s ++ r) ++ u
+swapped_on_first s t r u = ap (swapped s t) (append_assoc s r u) ∙ swapped_first s t (r ++ u) ∙ sym (append_assoc t r u) ∙ ap (λ (k : Key). k ++ u) (sym (swapped_first s t r))
+
+pub swapped_on_second : (s t r u : Key) → after_prefix s t ≡ None → after_prefix t s ≡ None → swapped s t ((t ++ r) ++ u) ≡ swapped s t (t ++ r) ++ u
+swapped_on_second s t r u st ts = ap (swapped s t) (append_assoc t r u) ∙ swapped_second s t (r ++ u) st ts ∙ sym (append_assoc s r u) ∙ ap (λ (k : Key). k ++ u) (sym (swapped_second s t r st ts))
+
+-- and from elsewhere, where it leads below neither
+pub swapped_on : (s t key u : Key) → after_prefix s t ≡ None → after_prefix t s ≡ None → (after_prefix s key ≡ None → after_prefix s (key ++ u) ≡ None) → (after_prefix t key ≡ None → after_prefix t (key ++ u) ≡ None) → swapped s t (key ++ u) ≡ swapped s t key ++ u
+swapped_on s t key u st ts f g = go (lies s t key)
+  where
+    go : Lies s t key → swapped s t (key ++ u) ≡ swapped s t key ++ u
+    go (Below_first r e) = rw e (swapped_on_first s t r u)
+    go (Below_second r e) = rw e (swapped_on_second s t r u st ts)
+    go (Below_neither e h) = swapped_else s t (key ++ u) (f e) (g h) ∙ ap (λ (k : Key). k ++ u) (sym (swapped_else s t key e h))
+
 -- what an exchange leaves at each key
 pub swap_first : {V : Type 0} (s t : Key) (tree : Map V) (r : Key) → swap s t tree (s ++ r) ≡ tree (t ++ r)
 swap_first s t tree r = ap tree (swapped_first s t r)

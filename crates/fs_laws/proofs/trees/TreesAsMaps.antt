@@ -5,21 +5,21 @@ use Rattle.fs_names.specs.Failures.{or_else}
 use Rattle.fs_names.specs.Keys.{Key, after_prefix, parent_of, last_of, is_end}
 use Rattle.fs_names.specs.Names.{inserted_name, removed_name}
 use Rattle.fs_names.specs.Parts.{HasNames}
-use Rattle.fs_names.specs.Shapes.{Shape, Dir, File, names_of, bytes_of}
+use Rattle.fs_names.specs.Shapes.{Shape, Dir, File, is_missing, names_of, bytes_of}
 use Rattle.fs_calls.specs.Tree as trees
 use Rattle.fs_calls.specs.Tree.{Tree, Node, look, names_in, inserted, removed, renamed, IsTree}
-use Rattle.fs_calls.specs.Sights.{tree_shapes}
+use Rattle.fs_calls.specs.Sights.{tree_shapes, shape_of}
 use Rattle.fs_calls.specs.Outcomes as list
 use Rattle.fs_calls.specs.Outcomes.{parents_resolution, reply_of, row, fault, success, change, replied}
 use Rattle.fs_calls.specs.Sights.{is_same, row_in}
 use Rattle.fs_calls.specs.Laws.{IsMoved}
-use Rattle.fs_laws.specs.Changes.{Change, changed, no_change, only, content_change, edit_change, rename_writes, move_change, looked, if_sound, reply}
+use Rattle.fs_laws.specs.Changes.{Change, changed, no_change, only, content_change, edit_change, rename_writes, move_change, swap_change, looked, if_sound, reply}
 use Rattle.fs_calls.specs.Forms.{form, by_text, new_shape, Form, AtNode, AtEntry, AtPair, Write}
 use Rattle.fs_calls.specs.declared.target.PairCall.TheVariants as pairs
 use Rattle.fs_calls.specs.declared.target.EntryCall.{EntryCall}
 use Rattle.fs_calls.specs.declared.target.EntryCall.TheVariants.{Mkdir, Mknod, Unlink, Rmdir}
 use Rattle.fs_laws.specs.Maps.{Map, put, move, write_all}
-use Rattle.fs_calls.specs.Rows.{Keep, Add, Remove, answered, edit_of, new_bytes, node_reply, resized, written}
+use Rattle.fs_calls.specs.Rows.{Keep, Add, Remove, answered, edit_of, exchange_fault, new_bytes, node_reply, resized, written}
 use Rattle.fs_calls.specs.declared.call.Call.{Call}
 use Rattle.fs_calls.specs.declared.call.Call.TheVariants as calls
 use Rattle.fs_calls.specs.declared.errno.Errno.{Errno}
@@ -27,14 +27,16 @@ use Rattle.fs_calls.specs.declared.reply.Reply.{Reply}
 use Rattle.fs_calls.specs.declared.reply.Reply.TheVariants.{Done, Failed}
 use Rattle.fs_names.proofs.FailureLemmas.{or_else-none}
 use Rattle.fs_calls.proofs.KeyLemmas.{is_same_refl, never_same}
-use Rattle.fs_calls.proofs.FaultLemmas.{Makes, mkdir_makes, mknod_makes, Writes, write_writes, truncate_writes, Renames, rename_renames}
+use Rattle.fs_calls.proofs.FaultLemmas.{Makes, mkdir_makes, mknod_makes, Writes, write_writes, truncate_writes, Renames, rename_renames, Exchanges, exchange_exchanges}
 use Rattle.fs_calls.proofs.ResolutionLemmas.{parents_resolution-none}
-use Rattle.fs_calls.proofs.TreeLaws.{stays_a_tree, renames_move}
+use Rattle.fs_calls.proofs.TreeLaws.{stays_a_tree, renames_move, exchanges_swap}
 use Rattle.fs_laws.specs.Laws.{TreesAsMaps}
 use Rattle.fs_laws.proofs.calls.Located.{key_is, in_more, from_more, to_more}
 use Rattle.fs_laws.proofs.trees.Prefixes.{prefix_some}
 use Rattle.fs_laws.proofs.trees.ChangesAsMaps.{SameKey, Same, Other, same_or, Bare, A_dir, A_file, seen_made, seen_written, seen_removed}
 use Rattle.fs_laws.proofs.trees.RenamesAsMaps.{Moved, seen_moved}
+use Rattle.fs_laws.proofs.trees.ExchangesAsMaps.{Exchanged, seen_exchanged}
+use Rattle.fs_calls.proofs.ListLemmas.{true_T}
 
 -- ---- rows and changes, read in the map
 
@@ -42,6 +44,7 @@ abbrev change_in : Map Shape → Form → Change
 change_in m (AtNode c p) = content_change p (new_bytes c (m p))
 change_in m (AtEntry c p) = edit_change (parent_of p) (names_of (m (parent_of p))) (last_of p) p (edit_of (new_shape c))
 change_in m (AtPair pairs.Rename p q) = move_change (not (is_end (after_prefix p q))) (rename_writes (is_end (after_prefix (parent_of p) (parent_of q))) (parent_of p) (names_of (m (parent_of p))) (last_of p) (parent_of q) (names_of (m (parent_of q))) (last_of q)) p q
+change_in m (AtPair pairs.Exchange p q) = swap_change (not (is_end (after_prefix p q))) p q
 
 -- a row with an error changes nothing, and one without has the reply and the change
 looked_fails : (m : Map Shape) (f : Form) (e : Errno) → row_in m f ≡ Some e → looked m f ≡ (Failed e, no_change)
@@ -49,12 +52,14 @@ looked_fails m (AtNode c p) e h = ap (λ (o : Option Errno). let r = answered o 
 looked_fails m (AtEntry c p) e h = ap (λ (o : Option Errno). let r = answered o Keep Done (edit_of (new_shape c)) in (r.0, edit_change (parent_of p) (names_of (m (parent_of p))) (last_of p) p r.1)) h
 looked_fails m (AtPair pairs.Rename p q) e h =
     ap (λ (o : Option Errno). let r = answered o false Done (not (is_end (after_prefix p q))) in (r.0, move_change r.1 (rename_writes (is_end (after_prefix (parent_of p) (parent_of q))) (parent_of p) (names_of (m (parent_of p))) (last_of p) (parent_of q) (names_of (m (parent_of q))) (last_of q)) p q)) h
+looked_fails m (AtPair pairs.Exchange p q) e h = ap (λ (o : Option Errno). let r = answered o false Done (not (is_end (after_prefix p q))) in (r.0, swap_change r.1 p q)) h
 
 looked_done : (t : Tree) (f : Form) → row_in (tree_shapes t) f ≡ None → looked (tree_shapes t) f ≡ (reply_of t f, change_in (tree_shapes t) f)
 looked_done t (AtNode c p) h = ap (λ (o : Option Errno). let r = answered o None (node_reply c (tree_shapes t p)) (new_bytes c (tree_shapes t p)) in (r.0, content_change p r.1)) h
 looked_done t (AtEntry c p) h = ap (λ (o : Option Errno). let r = answered o Keep Done (edit_of (new_shape c)) in (r.0, edit_change (parent_of p) (names_of (tree_shapes t (parent_of p))) (last_of p) p r.1)) h
 looked_done t (AtPair pairs.Rename p q) h =
     ap (λ (o : Option Errno). let r = answered o false Done (not (is_end (after_prefix p q))) in (r.0, move_change r.1 (rename_writes (is_end (after_prefix (parent_of p) (parent_of q))) (parent_of p) (names_of (tree_shapes t (parent_of p))) (last_of p) (parent_of q) (names_of (tree_shapes t (parent_of q))) (last_of q)) p q)) h
+looked_done t (AtPair pairs.Exchange p q) h = ap (λ (o : Option Errno). let r = answered o false Done (not (is_end (after_prefix p q))) in (r.0, swap_change r.1 p q)) h
 
 pub reply_is : (t : Tree) → IsTree t → (call : Call) → list.reply t call ≡ reply (tree_shapes t) (form call)
 unfolding list.reply fault
@@ -148,6 +153,43 @@ rename_tree t is p q none mp mq k = by (same_or p q)
         moved_seen : tree_shapes (list.after t (calls.Rename p q)) k ≡ changed (move_change true ws p q) (tree_shapes t) k
         moved_seen = seen_moved t (list.after t (calls.Rename p q)) (parent_of p) (last_of p) (parent_of q) (last_of q) f k ∙ ap₂ (λ (a b : Key). move a b (write_all ws (tree_shapes t)) k) (sym p_is) (sym q_is)
 
+-- an exchange
+exchange_tree : (t : Tree) → IsTree t → (p q : Key) → fault t (calls.Exchange p q) ≡ None → (k : Key) → tree_shapes (list.after t (calls.Exchange p q)) k ≡ changed (change_in (tree_shapes t) (AtPair pairs.Exchange p q)) (tree_shapes t) k
+exchange_tree t is p q none k = by (same_or p q)
+  where
+    by : SameKey p q → tree_shapes (list.after t (calls.Exchange p q)) k ≡ changed (swap_change (not (is_end (after_prefix p q))) p q) (tree_shapes t) k
+    by (Same i j) =
+        ap (λ (s : Tree). tree_shapes s k) (ap (λ (y : Key). list.after t (calls.Exchange p y)) (sym i) ∙ exchanges_swap.with_itself t p)
+        ∙ sym (ap (λ (b : Bool). changed (swap_change (not b) p q) (tree_shapes t) k) (ap (is_same p) (sym i) ∙ is_same_refl p))
+    by (Other n j) = seen_exchanged t (list.after t (calls.Exchange p q)) p q f k ∙ sym (ap (λ (b : Bool). changed (swap_change (not b) p q) (tree_shapes t) k) (never_same p q n))
+      where
+        r : Exchanges t p q
+        r = exchange_exchanges t p q is none n
+
+        there : (l : Key) (o : Option Node) → is_missing (shape_of t l o) ≡ false → is_some o ≡ true
+        there l None e = cc
+        there l (Some node) e = refl
+
+        both : (a b : Option Errno) (s u : Option Shape) → exchange_fault a b s u ≡ None → (is_missing s ≡ false) × (is_missing u ≡ false)
+        both (Some e) b s u h = cc
+        both None (Some e) s u h = cc
+        both None None None u h = cc
+        both None None (Some s) None h = cc
+        both None None (Some s) (Some u) h = (refl, refl)
+
+        found : (is_missing (tree_shapes t p) ≡ false) × (is_missing (tree_shapes t q) ≡ false)
+        found = both (parents_resolution t p) (parents_resolution t q) (tree_shapes t p) (tree_shapes t q) (row_none t (calls.Exchange p q) none).1
+
+        f : Exchanged t (list.after t (calls.Exchange p q)) p q
+        f = record {
+          sorted = true_T is.sorted;
+          new_sorted = true_T (stays_a_tree t (calls.Exchange p q) is).sorted;
+          moved = exchanges_swap.swapped t p q is none n;
+          aside = (r.beside.there, r.beside.back);
+          one = there p (look t p) found.0;
+          other = there q (look t q) found.1;
+        }
+
 after_none : (t : Tree) (call : Call) → fault t call ≡ None → list.after t call ≡ change t call
 unfolding list.after
 after_none t call h = ap (λ (e : Option Errno). list.if_sound e t (change t call)) h
@@ -160,7 +202,8 @@ changes_same t is (calls.Unlink p) none k = remove_tree t is p (in_more Unlink p
 changes_same t is (calls.Rmdir p) none k = remove_tree t is p (in_more Rmdir p (row_none t (calls.Rmdir p) none).0) (entry_parent t is Rmdir p (row_none t (calls.Rmdir p) none).1) k
 changes_same t is (calls.Rename p q) none k =
     let fits = (row_none t (calls.Rename p q) none).0 in
-    ap (λ (s : Tree). tree_shapes s k) (sym (after_none t (calls.Rename p q) none)) ∙ rename_tree t is p q none (from_more p q fits) (to_more p q fits) k
+    ap (λ (s : Tree). tree_shapes s k) (sym (after_none t (calls.Rename p q) none)) ∙ rename_tree t is p q none (from_more pairs.Rename p q fits) (to_more pairs.Rename p q fits) k
+changes_same t is (calls.Exchange p q) none k = ap (λ (s : Tree). tree_shapes s k) (sym (after_none t (calls.Exchange p q) none)) ∙ exchange_tree t is p q none k
 changes_same t is (calls.Stat p) none k = refl
 changes_same t is (calls.Readdir p) none k = refl
 changes_same t is (calls.Read p off count) none k = refl
