@@ -9,12 +9,12 @@ use Rattle.fs_calls.specs.Forms.{form, Form, AtNode, AtEntry, AtPair, by_text}
 use Rattle.fs_calls.specs.declared.target.EntryCall.{EntryCall}
 use Rattle.fs_calls.specs.declared.target.PairCall.{PairCall}
 use Rattle.fs_calls.specs.declared.target.PairCall.TheVariants as pairs
-use Rattle.fs_calls.specs.Rows.{rename_row}
+use Rattle.fs_calls.specs.Rows.{rename_row, exchange_row}
 use Rattle.fs_calls.specs.declared.errno.Errno.{Errno}
 use Rattle.fs_calls.specs.declared.reply.Reply.{Reply}
 use Rattle.fs_graph.specs.Graphs.{Graph, entry_shape}
 use Rattle.fs_machine.specs.Leaving.{is_removed, cleared, releasing, let_go, unreserved}
-use Rattle.fs_machine.specs.Moves.{first_of, target, walk_move, victim_of, take_if, entry_move, there_by, same_kind, dir_error, rename_at, moved_node, rename_move, parents_move, dir_then, fork_move, target_move, first_walked, last_held, next_by, next, head_took, victim_took, step_or, target_took, took_by, took, left_heads, left_last, left_holdings, behind_first, step_move, next_on}
+use Rattle.fs_machine.specs.Moves.{first_of, target, walk_move, victim_of, take_if, entry_move, there_by, same_kind, dir_error, rename_at, moved_node, rename_move, exchange_at, moved_nodes, exchange_move, parents_move, dir_then, fork_move, target_move, first_walked, last_held, next_by, next, head_took, victim_took, step_or, target_took, took_by, took, left_heads, left_last, left_holdings, behind_first, step_move, next_on}
 use Rattle.fs_machine.specs.declared.moves.Move.{Move}
 use Rattle.fs_machine.specs.declared.moves.Move.TheVariants.{Take as Takes, LetGo as Leaves, Finish as Finishes}
 use Rattle.fs_machine.specs.declared.moves.Moved.{Moved}
@@ -91,8 +91,33 @@ rename_renamed r graph p q st =
     (ap₂ moved_node (ap (λ (row : Reply × Bool). row.1) (row_renamed r graph p q st)) (child_at r graph.child st.source.node (last_of p)) ∙ moved_node_renamed r (rename_at graph p q st).1 (graph.child st.source.node (last_of p)))
     ∙ take_renamed r (same_kind (entry_shape graph st.source.node (last_of p)) (entry_shape graph st.dest.node (last_of q)) && not (is_end (after_prefix p q)) && not (has_more (after_prefix q p))) (graph.child st.dest.node (last_of q)) st.victim (Finishes (moved_node (rename_at graph p q st).1 (graph.child st.source.node (last_of p))))
 
+-- nor has what an exchange reads
+exchange_by : Key → Key → Holdings → Option Shape → Option Shape → Option Shape → Option Shape → Reply × Bool
+exchange_by p q st from to one other =
+    exchange_row (dir_error (left st.source.walked (parent_of p)) from) (dir_error (left st.dest.walked (parent_of q)) to) one (is_end (after_prefix p q)) other
+
+pub exchange_row_renamed : (r : Renaming) (graph : Graph) (p q : Key) (st : Holdings) → exchange_at (renamed_graph r graph) p q (renamed_holdings r st) ≡ exchange_at graph p q st
+unfolding exchange_by
+exchange_row_renamed r graph p q st =
+    ap₂ (λ (a b : Option Shape). exchange_by p q st a b (entry_shape (renamed_graph r graph) (r.to st.source.node) (last_of p)) (entry_shape (renamed_graph r graph) (r.to st.dest.node) (last_of q))) (old_at r graph.shape st.source.node) (old_at r graph.shape st.dest.node)
+    ∙ ap₂ (λ (a b : Option Shape). exchange_by p q st (graph.shape st.source.node) (graph.shape st.dest.node) a b) (entry_at r graph st.source.node (last_of p)) (entry_at r graph st.dest.node (last_of q))
+
+moved_nodes_renamed : (r : Renaming) (really : Bool) (s t : Option ℕ) → moved_nodes really (renamed_number r s) (renamed_number r t) ≡ renamed_moved r (moved_nodes really s t)
+moved_nodes_renamed r true (Some n) (Some m) = refl
+moved_nodes_renamed r true (Some n) None = refl
+moved_nodes_renamed r true None t = refl
+moved_nodes_renamed r false s t = refl
+
+exchange_renamed : (r : Renaming) (graph : Graph) (p q : Key) (st : Holdings) → exchange_move (renamed_graph r graph) p q (renamed_holdings r st) ≡ renamed_move r (exchange_move graph p q st)
+exchange_renamed r graph p q st =
+    ap (λ (m : Moved). Finishes m)
+    (ap (λ (row : Reply × Bool). moved_nodes row.1 (renamed_children r graph.child (r.to st.source.node) (last_of p)) (renamed_children r graph.child (r.to st.dest.node) (last_of q))) (exchange_row_renamed r graph p q st)
+    ∙ ap₂ (moved_nodes (exchange_at graph p q st).1) (child_at r graph.child st.source.node (last_of p)) (child_at r graph.child st.dest.node (last_of q))
+    ∙ moved_nodes_renamed r (exchange_at graph p q st).1 (graph.child st.source.node (last_of p)) (graph.child st.dest.node (last_of q)))
+
 parents_renamed : (r : Renaming) (graph : Graph) (c : PairCall) (p q : Key) (st : Holdings) → parents_move (renamed_graph r graph) c p q (renamed_holdings r st) ≡ renamed_move r (parents_move graph c p q st)
 parents_renamed r graph pairs.Rename p q st = rename_renamed r graph p q st
+parents_renamed r graph pairs.Exchange p q st = exchange_renamed r graph p q st
 
 fork_renamed : (r : Renaming) (graph : Graph) (c : PairCall) (p q : Key) (st : Holdings) → fork_move (renamed_graph r graph) c p q (renamed_holdings r st) ≡ renamed_move r (fork_move graph c p q st)
 fork_renamed r graph c p q st =

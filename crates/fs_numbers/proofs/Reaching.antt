@@ -6,25 +6,31 @@ use Rattle.fs_names.specs.Parts.{common}
 use Rattle.fs_names.specs.Shapes.{is_full}
 use Rattle.fs_calls.specs.Forms.{Form, AtNode, AtEntry, AtPair, Fits, new_shape}
 use Rattle.fs_calls.specs.declared.target.EntryCall.{EntryCall}
+use Rattle.fs_calls.specs.declared.target.PairCall.{PairCall}
 use Rattle.fs_calls.specs.declared.target.PairCall.TheVariants as pairs
-use Rattle.fs_laws.specs.Maps.{Map, put_at, move}
+use Rattle.fs_laws.specs.Maps.{Map, put_at, move, swapped}
 use Rattle.fs_calls.specs.Rows.{node_row, Edit, Keep, Add, Remove, entry_row}
 use Rattle.fs_calls.specs.declared.errno.Errno.{Errno}
 use Rattle.fs_calls.specs.declared.reply.Reply.{Reply}
-use Rattle.fs_graph.specs.Graphs.{Graph, at, numbers, entry_shape, IsGraph, linked_in, unlinked_in, moved_in}
-use Rattle.fs_machine.specs.Finishes.{Effect, no_effect, node_effect, entry_effect, move_effect, rename_effect, effect_at}
-use Rattle.fs_machine.specs.Moves.{next_on, entry_move, first_of, step_move, fork_move, path_error, dir_error, rename_at}
+use Rattle.fs_calls.specs.declared.reply.Reply.TheVariants.{Failed}
+use Rattle.fs_graph.specs.Graphs.{Graph, at, numbers, entry_shape, IsGraph, linked_in, unlinked_in, moved_in, swapped_in}
+use Rattle.fs_machine.specs.Finishes.{Effect, no_effect, node_effect, entry_effect, move_effect, swap_effect, effect_at}
+use Rattle.fs_machine.specs.Moves.{next_on, entry_move, fork_move, walk_errno, path_error, dir_error, rename_at, exchange_at}
 use Rattle.fs_machine.specs.declared.moves.Move.TheVariants.{Finish as Finishes}
 use Rattle.fs_machine.specs.Records.{Holdings}
 use Rattle.fs_machine.specs.declared.moves.Moved.{Moved}
-use Rattle.fs_laws.specs.Invariants.{ForkedAt, HeadsSound, VictimAt, NumberFor, HasNumber}
+use Rattle.fs_laws.specs.Invariants.{Forked, HeadsSound, VictimAt, NumberFor, HasNumber}
 use Rattle.fs_laws.specs.CallFacts.{Located}
 use Rattle.fs_laws.proofs.trees.Prefixes.{prefix_append, prefix_some}
 use Rattle.fs_laws.proofs.graphs.Walks.{at_before, at_child, at_from, then_some}
-use Rattle.fs_laws.proofs.trees.Commuting.{move_to, move_else}
+use Rattle.fs_laws.proofs.trees.Commuting.{move_to, move_else, swapped_twice}
 use Rattle.fs_laws.proofs.graphs.TreesOfChanges.{CanLink, CanUnlink, CanMove, numbers_linked, numbers_unlinked, numbers_moved}
 use Rattle.fs_laws.proofs.calls.Behind.{finish_on}
-use Rattle.fs_laws.proofs.finish.Replies.{Leaf, leaf_children, add_of, no_entry, step_stops}
+use Rattle.fs_laws.proofs.graphs.Swap.{CanSwap, numbers_swapped}
+use Rattle.fs_laws.proofs.finish.PairRows.{pair_at, pair_effect, effect_pair, effect_stuck, effect_still}
+use Rattle.fs_laws.proofs.finish.Pairs.{step_stops, Standing, Stuck, At_fork, standing}
+use Rattle.fs_laws.proofs.finish.Swaps.{RealSwap, real_swap, can_swap}
+use Rattle.fs_laws.proofs.finish.Replies.{Leaf, leaf_children, add_of, no_entry}
 use Rattle.fs_laws.proofs.finish.Changes.{removed_leaf}
 use Rattle.fs_laws.proofs.finish.Readings.{arrived}
 use Rattle.fs_laws.proofs.finish.RealMoves.{can_move, Real, Replaces, real_of}
@@ -151,19 +157,45 @@ stays_moved : (graph : Graph) → IsGraph graph → (k : Key) (st : Holdings) (p
 stays_moved graph is k st p q number r loc fits real = subst (λ (n : Option ℕ). Stays graph st number (move_effect graph st (last_of p) (last_of q) number r true n)) (sym real.moved.1)
     (record { reached = λ n reached. moved_reached graph is (k ++ st.source.walked) st.source.node (last_of p) (k ++ st.dest.walked) st (last_of q) real.moved.0 (can_move graph k p q st loc fits real) real.replaces n reached; reserved = λ n f. inl f; victim = λ n f. f })
 
-stays_rename : (graph : Graph) → IsGraph graph → (k : Key) (st : Holdings) (o : Moved) (p q : Key) (number : Option ℕ) → Located (numbers graph) k st → Fits (AtPair pairs.Rename p q) → VictimAt graph (AtPair pairs.Rename p q) st
-    → (l : Key) → ForkedAt graph st.node p q st l → first_of (step_move graph st.node l) (fork_move graph pairs.Rename p q st) ≡ Finishes o → Stays graph st number (rename_effect graph p q st number l)
-stays_rename graph is k st o p q number loc fits vic (x ∷ l) w m = stays_same graph st number _
-stays_rename graph is k st o p q number loc fits vic [] w m = by (rename_at graph p q st).1 refl
-  where
-    fork : fork_move graph pairs.Rename p q st ≡ Finishes o
-    fork = (step_stops graph st.node [] (fork_move graph pairs.Rename p q st) o m).1 refl
+-- an exchange brings each number that is reached to where it then is
+swapped_reached : (graph : Graph) → IsGraph graph → (kf : Key) (from : ℕ) (x : Name) (n : ℕ) (kt : Key) (to : ℕ) (y : Name) (m : ℕ) → CanSwap graph kf from x n kt to y m → (v : ℕ) → IsReached graph v → IsReached (swapped_in from x n to y m graph) v
+swapped_reached graph is kf from x n kt to y m can v (l, e) = (
+  swapped (kf ++ x ∷ []) (kt ++ y ∷ []) l,
+  ap (λ (t : Map ℕ). t (swapped (kf ++ x ∷ []) (kt ++ y ∷ []) l)) (numbers_swapped graph is kf from x n kt to y m can) ∙ ap (numbers graph) (swapped_twice (kf ++ x ∷ []) (kt ++ y ∷ []) l can.aside.0 can.aside.1) ∙ e,
+)
 
-    by : (b : Bool) → (rename_at graph p q st).1 ≡ b → Stays graph st number (move_effect graph st (last_of p) (last_of q) number (rename_at graph p q st).0 (rename_at graph p q st).1 (graph.child st.source.node (last_of p)))
-    by false j = subst (λ (b : Bool). Stays graph st number (move_effect graph st (last_of p) (last_of q) number (rename_at graph p q st).0 b (graph.child st.source.node (last_of p)))) (sym j) (stays_same graph st number (rename_at graph p q st).0)
-    by true j =
+-- one that really moves
+stays_swapped : (graph : Graph) → IsGraph graph → (k : Key) (st : Holdings) (p q : Key) (number : Option ℕ) (r : Reply) → Located (numbers graph) k st → Fits (AtPair pairs.Exchange p q) → RealSwap graph p q st
+    → Stays graph st number (swap_effect graph st (last_of p) (last_of q) number r true (graph.child st.source.node (last_of p)) (graph.child st.dest.node (last_of q)))
+stays_swapped graph is k st p q number r loc fits real =
+    subst (λ (n : Option ℕ). Stays graph st number (swap_effect graph st (last_of p) (last_of q) number r true n (graph.child st.dest.node (last_of q)))) (sym real.one.1)
+    (subst (λ (m : Option ℕ). Stays graph st number (swap_effect graph st (last_of p) (last_of q) number r true (Some real.one.0) m)) (sym real.other.1)
+    (record {
+      reached = λ n reached. inl (swapped_reached graph is (k ++ st.source.walked) st.source.node (last_of p) real.one.0 (k ++ st.dest.walked) st.dest.node (last_of q) real.other.0 (can_swap graph k p q st loc.head fits real) n reached);
+      reserved = λ n f. inl f;
+      victim = λ n f. cc;
+    }))
+
+-- a call on two entries
+stays_pair : (graph : Graph) → IsGraph graph → (k : Key) (st : Holdings) (o : Moved) (c : PairCall) (p q : Key) (number : Option ℕ) → Located (numbers graph) k st → Fits (AtPair c p q) → HeadsSound graph st.node (AtPair c p q) st → VictimAt graph (AtPair c p q) st
+    → next_on graph (AtPair c p q) st ≡ Finishes o → Stays graph st number (effect_at graph (AtPair c p q) st number)
+stays_pair graph is k st o c p q number loc fits well vic m = subst (Stays graph st number) (sym (effect_pair graph c p q st number)) (by (standing graph is c p q st o well m))
+  where
+    real : (c : PairCall) → Fits (AtPair c p q) → VictimAt graph (AtPair c p q) st → Forked graph st.node p q st → fork_move graph c p q st ≡ Finishes o → (pair_at graph c p q st).1 ≡ true → Stays graph st number (pair_effect graph c p q st number [])
+    real pairs.Rename fits vic w fork j =
         subst (λ (b : Bool). Stays graph st number (move_effect graph st (last_of p) (last_of q) number (rename_at graph p q st).0 b (graph.child st.source.node (last_of p)))) (sym j)
         (stays_moved graph is k st p q number (rename_at graph p q st).0 loc fits (real_of graph is p q st o fits w vic fork j))
+    real pairs.Exchange fits vic w fork j =
+        subst (λ (b : Bool). Stays graph st number (swap_effect graph st (last_of p) (last_of q) number (exchange_at graph p q st).0 b (graph.child st.source.node (last_of p)) (graph.child st.dest.node (last_of q)))) (sym j)
+        (stays_swapped graph is k st p q number (exchange_at graph p q st).0 loc fits (real_swap graph st.node p q st w j))
+
+    at_parents : Forked graph st.node p q st → fork_move graph c p q st ≡ Finishes o → (b : Bool) → (pair_at graph c p q st).1 ≡ b → Stays graph st number (pair_effect graph c p q st number [])
+    at_parents w fork false j = subst (Stays graph st number) (sym (effect_still graph c p q st number j)) (stays_same graph st number (pair_at graph c p q st).0)
+    at_parents w fork true j = real c fits vic w fork j
+
+    by : Standing graph c p q st o → Stays graph st number (pair_effect graph c p q st number (common (parent_of p) (parent_of q)))
+    by (Stuck x l i stop) = subst (λ (z : Key). Stays graph st number (pair_effect graph c p q st number z)) (sym i) (subst (Stays graph st number) (sym (effect_stuck graph c p q st number x l)) (stays_same graph st number (Failed (walk_errno (graph.shape st.node)))))
+    by (At_fork i at_c fork) = subst (λ (z : Key). Stays graph st number (pair_effect graph c p q st number z)) (sym i) (at_parents at_c.fork fork (pair_at graph c p q st).1 refl)
 
 -- each form of call
 pub stays : (graph : Graph) → IsGraph graph → (k : Key) (st : Holdings) (o : Moved) (number : Option ℕ) (remaining : Form) → Located (numbers graph) k st → Fits remaining → HeadsSound graph st.node remaining st → VictimAt graph remaining st → NumberFor graph remaining number
@@ -173,4 +205,4 @@ stays graph is k st o number (AtEntry c p) loc fits well vic has m =
     stays_in graph is k st o c p number (dir_error (parent_of p) (graph.shape st.node)) (is_full (graph.shape st.node)) loc.here has vic
     (λ h. (step_stops graph st.node (parent_of p) (entry_move graph c (last_of p) st) o (finish_on graph (AtEntry c p) st o m)).1 (arrived (parent_of p) (graph.shape st.node) h))
     (entry_row c (dir_error (parent_of p) (graph.shape st.node)) (is_full (graph.shape st.node)) (entry_shape graph st.node (last_of p))) refl
-stays graph is k st o number (AtPair pairs.Rename p q) loc fits well vic has m = stays_rename graph is k st o p q number loc fits vic (common (parent_of p) (parent_of q)) well (finish_on graph (AtPair pairs.Rename p q) st o m)
+stays graph is k st o number (AtPair c p q) loc fits well vic has m = stays_pair graph is k st o c p q number loc fits well vic m
