@@ -5,6 +5,7 @@ use Rattle.fs_names.specs.Keys.{Key, parent_of, last_of}
 use Rattle.fs_names.specs.Parts.{left}
 use Rattle.fs_names.specs.Shapes.{Shape}
 use Rattle.fs_calls.specs.Forms.{Fits, form, Stat, Form, AtNode, AtEntry, AtPair, under, new_shape}
+use Rattle.fs_calls.specs.declared.target.PairCall.{PairCall}
 use Rattle.fs_calls.specs.declared.target.PairCall.TheVariants as pairs
 use Rattle.fs_calls.specs.declared.target.EntryCall.{EntryCall}
 use Rattle.fs_laws.specs.Maps.{Map}
@@ -94,12 +95,16 @@ abbrev pub IsIn : ℕ → List ℕ → Type 0
 IsIn c [] = ⊥
 IsIn c (d ∷ ds) = (c ≡ d) ⊎ IsIn c ds
 
+-- whether a call on two entries takes a victim: an exchange never does
+abbrev pub TakesVictim : PairCall → Type 0
+TakesVictim pairs.Rename = Unit {0}
+TakesVictim pairs.Exchange = ⊥
+
 -- a victim that a call holds before it finishes is what its entry leads to
 abbrev pub VictimAt : Graph → Form → Holdings → Type 0
 VictimAt graph (AtNode c p) st = Unit {0}
 VictimAt graph (AtEntry c p) st = (v : ℕ) → st.victim ≡ Some v → graph.child st.node (last_of p) ≡ Some v
-VictimAt graph (AtPair pairs.Rename p q) st = (v : ℕ) → st.victim ≡ Some v → (graph.child st.dest.node (last_of q) ≡ Some v) × (parent_of q ≡ st.dest.walked)
-VictimAt graph (AtPair pairs.Exchange p q) st = st.victim ≡ None
+VictimAt graph (AtPair c p q) st = (v : ℕ) → st.victim ≡ Some v → (graph.child st.dest.node (last_of q) ≡ Some v) × (parent_of q ≡ st.dest.walked) × TakesVictim c
 
 -- the places of its holdings at which a call may hold a node
 pub data Slot : Type 0 where

@@ -123,10 +123,9 @@ no_victim graph op n st neat vic (There (Entry e p rem way child off) b is) = of
 no_victim graph op n st neat vic (There (Replaced p q rem way there at_left want child off) b is) = off
 no_victim graph op n st neat vic (There (Of_head side c p q x l rem way turn at_left child) b is) = go st.victim (λ v e. none side at_left v e)
   where
-    -- a rename holds a victim only once the destination head has arrived, and an exchange never
+    -- a pair holds a victim only once the destination head has arrived
     none_yet : (c : PairCall) → op.remaining ≡ AtPair c p q → left st.dest.walked (parent_of q) ≡ x ∷ l → (v : ℕ) → st.victim ≡ Some v → ⊥
-    none_yet pairs.Exchange rem i v e = let z : ◌≡◌ {A = Option ℕ} None (Some v) = sym (subst (λ (g : Form). VictimAt graph g st) rem vic) ∙ e in cc
-    none_yet pairs.Rename rem i v e = let z : ◌≡◌ {A = Key} [] (x ∷ l) = sym (none_left st.dest.walked (parent_of q) (subst (λ (g : Form). VictimAt graph g st) rem vic v e).1) ∙ i in cc
+    none_yet c rem i v e = let z : ◌≡◌ {A = Key} [] (x ∷ l) = sym (none_left st.dest.walked (parent_of q) (subst (λ (g : Form). VictimAt graph g st) rem vic v e).1) ∙ i in cc
 
     none : (side : Side) → left (head_on side st).walked (parent_of (of_side side p q)) ≡ x ∷ l → (v : ℕ) → st.victim ≡ Some v → ⊥
     none Source i v e = not_there graph p st x l i ((in_turn graph c p q st op.remaining rem way neat).victim v e)

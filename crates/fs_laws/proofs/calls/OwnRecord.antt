@@ -4,7 +4,6 @@ use Rattle.fs_names.specs.Keys.{Key, parent_of, last_of}
 use Rattle.fs_names.specs.Parts.{common}
 use Rattle.fs_names.specs.Shapes.{Shape, Dir}
 use Rattle.fs_calls.specs.Forms.{Form, AtNode, AtEntry, AtPair}
-use Rattle.fs_calls.specs.declared.target.PairCall.TheVariants as pairs
 use Rattle.fs_graph.specs.Graphs.{Graph, at, numbers, IsGraph}
 use Rattle.fs_machine.specs.Finishes.{Effect}
 use Rattle.fs_machine.specs.Records.{Holds, Record, Holdings, Dest, head_on}
@@ -57,8 +56,7 @@ number_by old new linked st (AtEntry c p) reserved a differs w = λ shape e.
 victim_by : (old new : Graph) (linked : Option ℕ) (st : Holdings) (k : Key) (mine : Holdings) (remaining : Form) → Altered old new linked st → Located (numbers new) k mine → ((n : ℕ) → Holds mine n → Holds st n → ⊥) → VictimAt old remaining mine → VictimAt new remaining mine
 victim_by old new linked st k mine (AtNode c p) a loc apart w = w
 victim_by old new linked st k mine (AtEntry c p) a loc apart w = λ v e. a.child_same mine.node (last_of p) (λ h. apart mine.node (inl refl) h) ∙ w v e
-victim_by old new linked st k mine (AtPair pairs.Exchange p q) a loc apart w = w
-victim_by old new linked st k mine (AtPair pairs.Rename p q) a loc apart w = λ v e. (a.child_same mine.dest.node (last_of q) (λ h. apart mine.dest.node (node_held Dest (numbers new) k mine loc) h) ∙ (w v e).0, (w v e).1)
+victim_by old new linked st k mine (AtPair c p q) a loc apart w = λ v e. (a.child_same mine.dest.node (last_of q) (λ h. apart mine.dest.node (node_held Dest (numbers new) k mine loc) h) ∙ (w v e).0, (w v e).1, (w v e).2)
 
 -- another call
 pub own_other : (old new : Graph) (linked : Option ℕ) (st : Holdings) (k : Key) (q : Record) → Altered old new linked st → Own old q

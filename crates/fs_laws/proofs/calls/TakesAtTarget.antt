@@ -68,7 +68,7 @@ head_there side graph k op n st c p q x l loc well victim b rem way at_left chil
     stands = heads_with (λ (side : Side) (h : Head). at graph.child st.node h.walked ≡ Some h.node) side (head_took (head_on side st) x n) st (sym (at_from graph.child 0 st.node k (walked ++ x ∷ []) loc.here) ∙ at_longer) f.stands;
     path = heads_with (λ (side : Side) (h : Head). parent_of (of_side side p q) ≡ h.walked ++ left h.walked (parent_of (of_side side p q))) side (head_took (head_on side st) x n) st (left_on walked l (parent_of (of_side side p q)) x (f.path side ∙ ap (λ (y : Key). walked ++ y) at_left)) f.path;
   });
-  victim = subst (λ (g : Form). VictimAt graph g (stepped side st x n)) (sym rem) (kept c side rem at_left);
+  victim = subst (λ (g : Form). VictimAt graph g (stepped side st x n)) (sym rem) (kept side at_left);
 }
   where
     walked : Key
@@ -83,20 +83,16 @@ head_there side graph k op n st c p q x l loc well victim b rem way at_left chil
     at_longer : numbers graph (k ++ (walked ++ x ∷ [])) ≡ Some n
     at_longer = ap (numbers graph) (sym (append_assoc k walked (x ∷ []))) ∙ at_n
 
-    -- a rename holds a victim only once the destination head has arrived, and an exchange never
-    kept : (c : PairCall) (side : Side) → op.remaining ≡ AtPair c p q → left (head_on side st).walked (parent_of (of_side side p q)) ≡ x ∷ l → VictimAt graph (AtPair c p q) (stepped side st x n)
-    kept pairs.Exchange side rem e = subst (λ (g : Form). VictimAt graph g st) rem victim
-    kept pairs.Rename side rem e = go side e
-      where
-        vic : VictimAt graph (AtPair pairs.Rename p q) st
-        vic = subst (λ (g : Form). VictimAt graph g st) rem victim
+    vic : VictimAt graph (AtPair c p q) st
+    vic = subst (λ (g : Form). VictimAt graph g st) rem victim
 
-        none_yet : (v : ℕ) → st.victim ≡ Some v → left st.dest.walked (parent_of q) ≡ x ∷ l → ⊥
-        none_yet v e left_is = let z : ◌≡◌ {A = Key} [] (x ∷ l) = sym (none_left st.dest.walked (parent_of q) (vic v e).1) ∙ left_is in cc
+    -- a pair holds a victim only once the destination head has arrived
+    none_yet : (v : ℕ) → st.victim ≡ Some v → left st.dest.walked (parent_of q) ≡ x ∷ l → ⊥
+    none_yet v e left_is = let z : ◌≡◌ {A = Key} [] (x ∷ l) = sym (none_left st.dest.walked (parent_of q) (vic v e).1) ∙ left_is in cc
 
-        go : (side : Side) → left (head_on side st).walked (parent_of (of_side side p q)) ≡ x ∷ l → VictimAt graph (AtPair pairs.Rename p q) (stepped side st x n)
-        go Source e = vic
-        go Dest e = λ v i. absurd (none_yet v i e)
+    kept : (side : Side) → left (head_on side st).walked (parent_of (of_side side p q)) ≡ x ∷ l → VictimAt graph (AtPair c p q) (stepped side st x n)
+    kept Source e = vic
+    kept Dest e = λ v i. absurd (none_yet v i e)
 
 pub kept_there : (graph : Graph) (k : Key) (op : Record) (n : ℕ) (st : Holdings) → Located (numbers graph) k st → HeadsSound graph st.node op.remaining st → VictimAt graph op.remaining st → st.behind ≡ None → (t : AtTarget graph op n st) → KeptThere graph k op n st (stands t)
 kept_there graph k op n st loc well victim b (Of_head side c p q x l rem way turn at_left child) = head_there side graph k op n st c p q x l loc well victim b rem way at_left child
@@ -110,7 +106,7 @@ kept_there graph k op n st loc well victim b (Replaced p q rem way there at_left
   taken = takes_victim (numbers graph) k st (k ++ st.dest.walked) st.dest.node (last_of q) n off (loc.head Dest) (node_held Dest (numbers graph) k st loc) (at_child graph.child 0 st.dest.node (k ++ st.dest.walked) (last_of q) (loc.head Dest) ∙ child);
   located = record { here = loc.here; head = loc.head };
   well = well_of graph st.node pairs.Rename p q (victim_took st n) op.remaining rem way (record { stands = f.stands; path = f.path });
-  victim = subst (λ (g : Form). VictimAt graph g (victim_took st n)) (sym rem) (λ v i. (child ∙ i, f.path Dest ∙ ap (λ (y : Key). st.dest.walked ++ y) at_left ∙ append-nil st.dest.walked));
+  victim = subst (λ (g : Form). VictimAt graph g (victim_took st n)) (sym rem) (λ v i. (child ∙ i, f.path Dest ∙ ap (λ (y : Key). st.dest.walked ++ y) at_left ∙ append-nil st.dest.walked, tt));
 }
   where
     f : Forked graph st.node p q st

@@ -1,19 +1,17 @@
 -- A let go keeps what every state keeps.
-use Rattle.std.proofs.Common.{◌≡◌, ℕ, Bool, true, false, not, ◌&&◌, [], ◌∷◌, ◌++◌, Option, Some, None, refl, sym, ap, ap₂, ◌∙◌, subst, ◌⊎◌, inl, inr}
+use Rattle.std.proofs.Common.{◌≡◌, ℕ, Bool, true, false, [], ◌∷◌, ◌++◌, Option, Some, None, refl, sym, ap, ap₂, ◌∙◌, subst, ◌⊎◌, inl, inr}
 use mathlib.Core.Path.{fun_ext}
-use Rattle.fs_names.specs.Keys.{Key, after_prefix, parent_of, last_of, has_more, is_end}
+use Rattle.fs_names.specs.Keys.{Key, parent_of, last_of}
 use Rattle.fs_names.specs.Parts.{common, left}
 use Rattle.fs_names.specs.Names.{Name}
 use Rattle.fs_names.specs.Shapes.{Shape, Dir, File}
 use Rattle.fs_calls.specs.Forms.{form, Form, AtNode, AtEntry, AtPair, by_text}
-use Rattle.fs_calls.specs.declared.target.PairCall.{PairCall}
-use Rattle.fs_calls.specs.declared.target.PairCall.TheVariants as pairs
 use Rattle.fs_laws.specs.Maps.{Map}
 use Rattle.fs_calls.specs.declared.errno.Errno.{Errno}
 use Rattle.fs_calls.specs.declared.reply.Reply.{Reply}
 use Rattle.fs_graph.specs.Graphs.{Graph, at, numbers, graph_shapes, entry_shape, set_at, IsGraph, released_in}
 use Rattle.fs_machine.specs.Leaving.{is_removed, releasing, cleared}
-use Rattle.fs_machine.specs.Moves.{next, next_by, next_on, first_of, step_move, walk_move, take_if, target, target_move, victim_of, same_kind, parents_move, rename_at, moved_node, dir_then, last_held, first_walked, left_heads, left_last, left_holdings}
+use Rattle.fs_machine.specs.Moves.{next, next_by, next_on, first_of, step_move, walk_move, take_if, target, target_move, victim_of, parents_move, dir_then, last_held, first_walked, left_heads, left_last, left_holdings}
 use Rattle.fs_machine.specs.declared.moves.Move.{Move}
 use Rattle.fs_machine.specs.declared.moves.Move.TheVariants.{LetGo as Leaves, Finish as Finishes}
 use Rattle.fs_machine.specs.declared.moves.Moved.{Moved}
@@ -23,7 +21,7 @@ use Rattle.fs_laws.specs.Invariants.{ForkedAt, HeadsSound, VictimAt, HasSpare, I
 use Rattle.fs_laws.specs.CallFacts.{CallFacts, Shrinks}
 use Rattle.fs_machine.specs.States.{State, letting_go}
 use Rattle.fs_machine.specs.declared.answers.Stepped.TheVariants.{LetGo}
-use Rattle.fs_laws.proofs.calls.Behind.{leave_past}
+use Rattle.fs_laws.proofs.calls.Behind.{leave_past, AtParents, at_parents}
 use Rattle.fs_laws.proofs.graphs.Walks.{eqb_refl}
 use Rattle.fs_laws.proofs.events.OneCallChanged.{kept_shrink}
 use Rattle.fs_laws.proofs.events.OtherChanges.{kept_none}
@@ -187,12 +185,8 @@ held_on_move graph rem st n m = go (leave_past st.behind (first_of (step_move gr
         let first : Move = first_of (step_move graph st.source.node (left st.source.walked (parent_of p))) rest in
         let a : rest ≡ Leaves n = step_leaves graph st.source.node (left st.source.walked (parent_of p)) rest n (dir_leaves (graph.shape st.node) first n e) in
         let b : at_dest ≡ Leaves n = step_leaves graph st.dest.node (left st.dest.walked (parent_of q)) at_dest n (dir_leaves (graph.shape st.source.node) second n a) in
-        at_both c (dir_leaves (graph.shape st.dest.node) (parents_move graph c p q st) n b)
-      where
-        at_both : (c : PairCall) → parents_move graph c p q st ≡ Leaves n → ⊥
-        at_both pairs.Exchange e = cc
-        at_both pairs.Rename e =
-            never_take (same_kind (entry_shape graph st.source.node (last_of p)) (entry_shape graph st.dest.node (last_of q)) && not (is_end (after_prefix p q)) && not (has_more (after_prefix q p))) (graph.child st.dest.node (last_of q)) st.victim (moved_node (rename_at graph p q st).1 (graph.child st.source.node (last_of p))) n e
+        let both : AtParents graph c p q st = at_parents graph c p q st in
+        never_take both.wanted (graph.child st.dest.node (last_of q)) st.victim both.moves n (sym both.is ∙ dir_leaves (graph.shape st.dest.node) (parents_move graph c p q st) n b)
 
     go : (st.behind ≡ Some n) ⊎ (first_of (step_move graph st.node (target rem)) (target_move graph rem st) ≡ Leaves n) → st.behind ≡ Some n
     go (inl e) = e
@@ -349,8 +343,7 @@ well_left graph st new n (AtPair c p q) l w = subst (λ (m : ℕ). HeadsSound gr
 pub victim_left : (graph : Graph) (st new : Holdings) (remaining : Form) → new.node ≡ st.node → (new.victim ≡ st.victim) × (new.dest.node ≡ st.dest.node) × (new.dest.walked ≡ st.dest.walked) → VictimAt graph remaining st → VictimAt graph remaining new
 victim_left graph st new (AtNode c p) node same w = w
 victim_left graph st new (AtEntry c p) node same w = λ v e. ap (λ (m : ℕ). graph.child m (last_of p)) node ∙ w v (sym same.0 ∙ e)
-victim_left graph st new (AtPair pairs.Exchange p q) node same w = same.0 ∙ w
-victim_left graph st new (AtPair pairs.Rename p q) node same w = λ v e. (ap (λ (m : ℕ). graph.child m (last_of q)) same.1 ∙ (w v (sym same.0 ∙ e)).0, (w v (sym same.0 ∙ e)).1 ∙ sym same.2)
+victim_left graph st new (AtPair c p q) node same w = λ v e. (ap (λ (m : ℕ). graph.child m (last_of q)) same.1 ∙ (w v (sym same.0 ∙ e)).0, (w v (sym same.0 ∙ e)).1 ∙ sym same.2, (w v (sym same.0 ∙ e)).2)
 
 pub keeps_let_go : (n : ℕ) → StepKeeps (LetGo n)
 keeps_let_go n old new seat inv (c, op, moves, same) = subst Invariant (sym same) (go (lets_go old.graph op n moves.2))

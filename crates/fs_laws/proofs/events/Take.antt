@@ -6,7 +6,6 @@ use Rattle.fs_names.specs.Parts.{common, left}
 use Rattle.fs_names.specs.Shapes.{Shape, Dir, File}
 use Rattle.fs_calls.specs.Forms.{form, NodeCall, Form, AtNode, AtEntry, AtPair, by_text, under, Fits}
 use Rattle.fs_calls.specs.declared.target.PairCall.{PairCall}
-use Rattle.fs_calls.specs.declared.target.PairCall.TheVariants as pairs
 use Rattle.fs_calls.specs.declared.target.EntryCall.{EntryCall}
 use Rattle.fs_calls.specs.declared.call.Call.{Call}
 use Rattle.fs_calls.specs.declared.errno.Errno.{Errno}
@@ -65,8 +64,7 @@ fresh_well graph n behind (AtPair c p q) = go (common (parent_of p) (parent_of q
 pub fresh_victim : (graph : Graph) (n : ℕ) (behind : Option ℕ) (remaining : Form) → VictimAt graph remaining (holdings_at n behind)
 fresh_victim graph n behind (AtNode c p) = tt
 fresh_victim graph n behind (AtEntry c p) = λ v e. cc
-fresh_victim graph n behind (AtPair pairs.Rename p q) = λ v e. cc
-fresh_victim graph n behind (AtPair pairs.Exchange p q) = refl
+fresh_victim graph n behind (AtPair c p q) = λ v e. cc
 
 -- what every take shares
 pub record Taker (old : State) (inv : Invariant old) (c : ℕ) (op : Record) (n : ℕ) : Type 0 where

@@ -6,7 +6,6 @@ use Rattle.fs_names.specs.Names.{Name, has_name}
 use Rattle.fs_names.specs.Parts.{common}
 use Rattle.fs_names.specs.Shapes.{Shape, Dir}
 use Rattle.fs_calls.specs.Forms.{Form, AtNode, AtEntry, AtPair}
-use Rattle.fs_calls.specs.declared.target.PairCall.TheVariants as pairs
 use Rattle.fs_graph.specs.Graphs.{Graph, at, then_at, numbers, graph_shapes, IsGraph, released_in, reserved_in}
 use Rattle.fs_machine.specs.Records.{Record, Holdings, head_on}
 use Rattle.fs_laws.specs.Invariants.{ForkedAt, HeadsSound, NumberFor, VictimAt, HasSpare, Own}
@@ -28,8 +27,7 @@ well_children old new same n (AtPair c p q) st w = go (common (parent_of p) (par
 victim_children : (old new : Graph) → new.child ≡ old.child → (remaining : Form) (st : Holdings) → VictimAt old remaining st → VictimAt new remaining st
 victim_children old new same (AtNode c p) st w = w
 victim_children old new same (AtEntry c p) st w = λ v e. ap (λ (k : ℕ → Name → Option ℕ). k st.node (last_of p)) same ∙ w v e
-victim_children old new same (AtPair pairs.Exchange p q) st w = w
-victim_children old new same (AtPair pairs.Rename p q) st w = λ v e. (ap (λ (k : ℕ → Name → Option ℕ). k st.dest.node (last_of q)) same ∙ (w v e).0, (w v e).1)
+victim_children old new same (AtPair c p q) st w = λ v e. (ap (λ (k : ℕ → Name → Option ℕ). k st.dest.node (last_of q)) same ∙ (w v e).0, (w v e).1, (w v e).2)
 
 pub numbers_children : (old new : Graph) → new.child ≡ old.child → (key : Key) → numbers new key ≡ numbers old key
 numbers_children old new same key = ap (λ (k : ℕ → Name → Option ℕ). at k 0 key) same

@@ -247,8 +247,7 @@ solo_stays graph made k op g kd q st off apart s = record {
     victim : (f : Form) → VictimAt graph f st → VictimAt made.graph f st
     victim (AtNode c p) w = w
     victim (AtEntry c p) w = λ v e. (g.untouched kd st.node s.loc.here off.here).child (last_of p) ∙ w v e
-    victim (AtPair pairs.Exchange a b) w = w
-    victim (AtPair pairs.Rename a b) w = λ v e. ((g.untouched (kd ++ st.dest.walked) st.dest.node (s.loc.head Dest) (off.head Dest)).child (last_of b) ∙ (w v e).0, (w v e).1)
+    victim (AtPair pair a b) w = λ v e. ((g.untouched (kd ++ st.dest.walked) st.dest.node (s.loc.head Dest) (off.head Dest)).child (last_of b) ∙ (w v e).0, (w v e).1, (w v e).2)
 
 -- placed calls in their order, each where it stands, and the later ones off its keys
 pub record PlacedSolo (graph : Graph) (ops : Records) (key : ℕ → Key) (c : ℕ) : Type 0 where

@@ -1,11 +1,10 @@
 -- Only a finished call returns, and only one that is not finishes.
-use Rattle.std.proofs.Common.{◌≡◌, ℕ, Bool, true, false, [], ◌∷◌, Option, Some, None, refl, ◌∙◌}
-use Rattle.fs_names.specs.Keys.{Key, parent_of}
+use Rattle.std.proofs.Common.{◌≡◌, ℕ, Bool, true, false, [], ◌∷◌, Option, Some, None, refl, ◌∙◌, sym}
+use Rattle.fs_names.specs.Keys.{Key, parent_of, last_of}
 use Rattle.fs_names.specs.Parts.{left}
 use Rattle.fs_names.specs.Shapes.{Shape, Dir, File}
 use Rattle.fs_calls.specs.Forms.{Form, AtNode, AtEntry, AtPair}
 use Rattle.fs_calls.specs.declared.target.PairCall.{PairCall}
-use Rattle.fs_calls.specs.declared.target.PairCall.TheVariants as pairs
 use Rattle.fs_calls.specs.declared.errno.Errno.{Errno}
 use Rattle.fs_calls.specs.declared.reply.Reply.{Reply}
 use Rattle.fs_graph.specs.Graphs.{Graph}
@@ -14,6 +13,7 @@ use Rattle.fs_machine.specs.declared.moves.Move.{Move}
 use Rattle.fs_machine.specs.declared.moves.Move.TheVariants.{Finish as Finishes, Return as Ends}
 use Rattle.fs_machine.specs.declared.moves.Moved.{Moved}
 use Rattle.fs_machine.specs.Records.{Holdings, Phase, Walking, Placed, Finished, Record}
+use Rattle.fs_laws.proofs.calls.Behind.{AtParents, at_parents}
 
 walk_ends : (s : Option Shape) (k : Option ℕ) → walk_move s k ≡ Ends → ⊥
 walk_ends None k e = cc
@@ -44,8 +44,7 @@ some_ends : (b : Bool) (k v : Option ℕ) (s : Moved) (m : Move) → take_if b k
 some_ends b k v s m i e = take_ends b k v s (i ∙ e)
 
 parents_ends : (graph : Graph) (c : PairCall) (p q : Key) (st : Holdings) (m : Move) → parents_move graph c p q st ≡ m → m ≡ Ends → ⊥
-parents_ends graph pairs.Rename p q st m i e = some_ends _ _ _ _ m i e
-parents_ends graph pairs.Exchange p q st m i e = cc
+parents_ends graph c p q st m i e = let both : AtParents graph c p q st = at_parents graph c p q st in some_ends both.wanted (graph.child st.dest.node (last_of q)) st.victim both.moves m (sym both.is ∙ i) e
 
 target_ends : (graph : Graph) (remaining : Form) (st : Holdings) → target_move graph remaining st ≡ Ends → ⊥
 target_ends graph (AtNode c p) st e = cc
