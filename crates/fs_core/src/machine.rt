@@ -151,7 +151,7 @@ impl Core {
         Done::CarriedOut
     }
 
-    /// The walking call on a seat helps a walking call below the node that it would move; where there is none, it commits.
+    /// The walking call on a seat helps a walking call below a node that it would move; where there is none, it commits.
     #[inline(never)]
     fn help_or_commit(&mut self, seat: usize, call: CallNo, plan: Plan) -> Done
         requires seat { seat < length self.old.seats }

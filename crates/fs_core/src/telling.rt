@@ -26,9 +26,9 @@ use crate::machine::Core;
 
 impl Core {
     /// Of helping: no walking call is below a placed one, no placed call below one placed earlier, and no other call
-    /// between a rename's common directory and its heads. The placed calls, each gone on alone in the order of their
-    /// commits, leave the tree that the commits play, and reply what is due to them. A finish never waits, and helps at
-    /// most as many calls as walked below the node that it moves.
+    /// between a rename's or exchange's common directory and its heads. The placed calls, each gone on alone in the
+    /// order of their commits, leave the tree that the commits play, and reply what is due to them. A finish never waits,
+    /// and helps at most as many calls as walked below the nodes that it moves.
     pub fn told_of_helping(&self)
         ensures placed_first { NoWalkingBelow (state_of self.now) }
         ensures earlier_first { NoLaterBelow (state_of self.now) }
