@@ -1,11 +1,11 @@
 -- The names of a text, one after the other.
-use Rattle.std.proofs.Common.{◌≡◌, ℕ, zero, suc, ◌+◌, ◌<◌, ◌≤◌, Bool, true, false, cond, not, ◌&&◌, ◌||◌, List, [], ◌∷◌, ◌++◌, length, take, Some, None, Option, refl, sym, ap, subst, ◌∙◌, arith, add-one, get_or, ◌≢◌, min, length-append, IsTrue}
+use Rattle.std.proofs.Common.{◌≡◌, ℕ, zero, suc, ◌+◌, ◌<◌, ◌≤◌, Bool, true, false, cond, not, ◌&&◌, ◌||◌, List, [], ◌∷◌, ◌++◌, length, take, Some, None, Option, refl, sym, ap, subst, ◌∙◌, arith, add-one, get_or, ◌≢◌, min, length-append, IsTrue, filter}
 use Rattle.std.specs.Prelude.{nat_le, nat_lt, All}
-use Rattle.std.specs.List.{slice_split, onto_first, list_any, list_all}
+use Rattle.std.specs.List.{slice_split, onto_first, list_any, list_all, AllByRecursion}
 use Rattle.std.proofs.Math.Seq.{take-suc, take-append_seam, get_or-append_seam}
 use Rattle.std.proofs.lemmas.Bool.Decides.{nat_tests}
-use Rattle.std.proofs.lemmas.List.Elements.{All-nil, All-cons, All-filter, All-get_or}
-use Rattle.fs_names.specs.Names.{Name, may_stand, can_name, is_dots}
+use Rattle.std.proofs.lemmas.List.Elements.{All-nil, All-cons, All-filter, All-get_or, recursion_from_All}
+use Rattle.fs_names.specs.Names.{Name, may_stand, can_name, is_dots, AreBytes, IsName}
 use Rattle.fs_names.specs.Keys.{Key}
 use Rattle.fs_names.specs.declared.fault.PathFault.{PathFault}
 use Rattle.fs_names.specs.declared.fault.PathFault.TheVariants.{TooManyNames, NameTooLong, Dot}
@@ -127,3 +127,47 @@ right_name n x some stands e =
 pub room_for : (len before after left all : ℕ) → 7 ≤ before → (7 < len → min all 64 ≤ before) → all ≡ len + left → 0 < left → len < 64
     → (len ≢ 7 → after ≡ before) → (len ≡ 7 → 7 + min left 57 ≤ after) → (len + 1 ≤ after) × (7 ≤ after) × (7 < len + 1 → min all 64 ≤ after)
 room_for len before after left all shared room whole some few same more = (grind arith, grind arith, λ h. grind arith)
+
+-- ---- the names that are read
+
+-- bytes one by one
+pub bytes_each : (bytes : List ℕ) → ((i : ℕ) → get_or bytes i 0 < 256) → AreBytes bytes
+bytes_each [] each = tt
+bytes_each (b ∷ bytes) each = (each 0, bytes_each bytes (λ i. each (suc i)))
+
+onto_bytes : (b : ℕ) (pieces : List Name) → b < 256 → AllByRecursion AreBytes pieces → AllByRecursion AreBytes (onto_first b pieces)
+onto_bytes b [] small h = ((small, tt), tt)
+onto_bytes b (p ∷ pieces) small h = ((small, h.0), h.1)
+
+-- what stands between the slashes of bytes is bytes
+pieces_bytes : (bytes : List ℕ) → AreBytes bytes → AllByRecursion AreBytes (slice_split is_slash bytes)
+pieces_bytes [] h = (tt, tt)
+pieces_bytes (b ∷ bytes) h =
+    elim (is_slash b) as (λ s. AllByRecursion AreBytes (cond {A = List (List ℕ)} s ([] ∷ slice_split is_slash bytes) (onto_first b (slice_split is_slash bytes)))) [
+      | true ↦ (tt, pieces_bytes bytes h.1)
+      | false ↦ onto_bytes b (slice_split is_slash bytes) h.0 (pieces_bytes bytes h.1)
+    ]
+
+kept_bytes : (pieces : List Name) → AllByRecursion AreBytes pieces → AllByRecursion AreBytes (filter has_bytes pieces)
+kept_bytes [] h = tt
+kept_bytes ([] ∷ pieces) h = kept_bytes pieces h.1
+kept_bytes ((b ∷ bs) ∷ pieces) h = (h.0, kept_bytes pieces h.1)
+
+kept_some : (pieces : List Name) → AllByRecursion (λ (x : Name). 0 < length x) (filter has_bytes pieces)
+kept_some [] = tt
+kept_some ([] ∷ pieces) = kept_some pieces
+kept_some ((b ∷ bs) ∷ pieces) = (omega arith, kept_some pieces)
+
+-- names of which none is wrong may each be one
+right_names : (n : ℕ) (key : Key) → AllByRecursion (λ (x : Name). list_all may_stand x ≡ true) key → AllByRecursion (λ (x : Name). 0 < length x) key → AllByRecursion AreBytes key → first_fault n key ≡ None → AllByRecursion IsName key
+right_names n [] stands some bytes e = tt
+right_names n (x ∷ key) stands some bytes e =
+    let both = or_else-none (name_fault n x) (first_fault (n + 1) key) e in
+    (record { test = right_name n x some.0 stands.0 both.0; bytes = bytes.0 }, right_names (n + 1) key stands.1 some.1 bytes.1 both.1)
+
+-- so may the names of bytes without zeros
+pub names_read : (bytes : List ℕ) → AreBytes bytes → list_any is_zero bytes ≡ false → first_fault 0 (names bytes) ≡ None → AllByRecursion IsName (names bytes)
+names_read bytes small zeros e =
+    let pieces = slice_split is_slash bytes in
+    let stands = recursion_from_All (λ (x : Name). list_all may_stand x ≡ true) (names bytes) (All-filter has_bytes (λ p. list_all may_stand p ≡ true) pieces (pieces_holdings bytes zeros)) in
+    right_names 0 (names bytes) stands (kept_some pieces) (kept_bytes pieces (pieces_bytes bytes small)) e

@@ -1,18 +1,20 @@
 -- What keys are: lists of names, of which a path is one that is not too long.
 use Rattle.std.specs.Prelude.{ℕ, Bool, true, false, List, [], ◌∷◌, ◌+◌, ◌++◌, ◌≤◌, if◌then◌else◌, length, Option, Some, None}
+use Rattle.std.specs.List.{AllByRecursion}
 use Rattle.std.specs.Ordering.{eq_by_cmp}
 use Rattle.std.specs.declared.cmp.Ordering.{Ordering}
 use Rattle.std.specs.Cmp.Lexicographic.{slice_cmp}
-use Rattle.fs_names.specs.Names.{Name, name_cmp, same_name}
+use Rattle.fs_names.specs.Names.{Name, IsName, name_cmp, same_name}
 use Rattle.fs_names.specs.declared.limits.TheConstants.{PATH_LIMIT}
 
 -- the names from the root down
 abbrev pub Key : Type 0
 Key = List Name
 
--- no more names than the limit
+-- no more names than the limit, each of which may be one
 pub record IsPath (key : Key) : Type 0 where
   pub short : length key ≤ PATH_LIMIT
+  pub names : AllByRecursion IsName key
 
 -- keys name by name, so that a directory comes before what is below it
 abbrev pub key_cmp : Key → Key → Ordering

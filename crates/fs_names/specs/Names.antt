@@ -1,9 +1,9 @@
 -- What names are, and their order.
-use Rattle.std.specs.Prelude.{ℕ, Bool, true, false, List, [], ◌∷◌, if◌then◌else◌, ◌&&◌, not, ◌==◌, nat_eq, nat_le, length}
+use Rattle.std.specs.Prelude.{◌≡◌, ◌<◌, ℕ, Bool, true, false, List, [], ◌∷◌, if◌then◌else◌, ◌&&◌, not, ◌==◌, nat_eq, nat_le, length}
 use lib.Pointwise.{pointwise}
 use Rattle.std.specs.Ordering.{nat_cmp, eq_by_cmp, is_lt}
 use Rattle.std.specs.declared.cmp.Ordering.{Ordering}
-use Rattle.std.specs.List.{list_all}
+use Rattle.std.specs.List.{AllByRecursion, list_all}
 use Rattle.std.specs.Cmp.Lexicographic.{slice_cmp}
 use Rattle.fs_names.specs.declared.limits.TheConstants.{NAME_LIMIT}
 
@@ -25,6 +25,15 @@ is_dots (a ∷ b ∷ c ∷ more) = false
 -- one byte or more, and no more than the limit, that may stand, and neither one dot nor two
 abbrev pub can_name : Name → Bool
 can_name name = nat_le 1 (length name) && nat_le (length name) NAME_LIMIT && list_all may_stand name && not (is_dots name)
+
+-- each is below 256
+abbrev pub AreBytes : List ℕ → Type 0
+AreBytes bs = AllByRecursion (λ b. b < 256) bs
+
+-- what may be a name, in bytes
+pub record IsName (n : Name) : Type 0 where
+  pub test : can_name n ≡ true
+  pub bytes : AreBytes n
 
 -- names in byte order
 abbrev pub name_cmp : Name → Name → Ordering

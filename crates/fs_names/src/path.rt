@@ -291,6 +291,7 @@ impl Path {
     pub fn write(&self, text: &mut Vec<u8>) -> Result<(), AllocError>
         ensures ok { OnOk result (text.new.items ≡ text.old.items ++ path_text self.now) }
         ensures err { OnErr result (text.new.items ≡ text.old.items) }
+        ensures path { OnOk result (IsPath self.now) }
         ensures has_room { vec_len text.old + length (path_text self.now) ≤ vec_capacity text.old → IsOk result }
     {
         text.reserve(self.text_len())?;
