@@ -9,9 +9,9 @@ use Rattle.fs_embed.specs.declared.runs.NoText.{NoText}
 use Rattle.fs_embed.specs.declared.runs.NoText.TheVariants.{Input, OutOfMemory}
 use Rattle.fs_embed.specs.declared.calls.NotReturned.{NotReturned}
 use Rattle.fs_embed.specs.declared.calls.NotReturned.TheVariants as not_returned
-use Rattle.fs_text.specs.declared.fault.FaultKind.{FaultKind}
-use Rattle.fs_text.specs.declared.fault.FaultKind.TheVariants as kind
-use Rattle.fs_text.specs.declared.fault.ScriptFault.{ScriptFault}
+use Rattle.fs_words.specs.declared.fault.FaultKind.{FaultKind}
+use Rattle.fs_words.specs.declared.fault.FaultKind.TheVariants as kind
+use Rattle.fs_words.specs.declared.fault.ScriptFault.{ScriptFault}
 use Rattle.atomfs_c.specs.declared.status.TheConstants.{WAITS, CLOSED, NO_MEMORY, NO_SEAT, SEAT_BUSY, FULL, BAD_HEADER, BAD_LINE, BAD_THREAD, THREAD_TWICE, BAD_PATH, BAD_NUMBER, BAD_HEX, NO_SCHEDULE, BAD_WORD, TOO_LARGE, BAD_REPLY}
 
 -- of a fault of a text

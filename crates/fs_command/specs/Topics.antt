@@ -3,8 +3,8 @@ use Rattle.std.specs.Prelude.{◌≡◌, ◌++◌, ℕ, List, Option, Some, None
 use Rattle.std.specs.Io.{StartsWith}
 use Rattle.fs_names.specs.declared.fault.PathFault.{PathFault}
 use Rattle.fs_names.specs.declared.fault.PathFault.TheVariants as path
-use Rattle.fs_text.specs.declared.fault.FaultKind.{FaultKind as TextFault}
-use Rattle.fs_text.specs.declared.fault.FaultKind.TheVariants as text
+use Rattle.fs_words.specs.declared.fault.FaultKind.{FaultKind as TextFault}
+use Rattle.fs_words.specs.declared.fault.FaultKind.TheVariants as text
 use Rattle.fs_sched.specs.Checks.{kind_word}
 use Rattle.fs_command.specs.declared.topic.Topic.{Topic}
 use Rattle.fs_command.specs.declared.topic.Topic.TheVariants.{Text, Path, Entry}

@@ -2,10 +2,11 @@
 use Rattle.std.specs.Prelude.{◌≡◌, ℕ, ◌≤◌, List, Result, Ok, Err, length}
 use Rattle.fs_calls.specs.declared.call.Call.{Call}
 use Rattle.fs_calls.specs.declared.reply.Reply.{Reply}
-use Rattle.fs_text.specs.declared.fault.FaultKind.{FaultKind}
-use Rattle.fs_text.specs.declared.fault.FaultKind.TheVariants as kind
-use Rattle.fs_text.specs.Calls.{◌>>=◌, call_of}
-use Rattle.fs_text.specs.Journal.{words_of}
+use Rattle.fs_words.specs.declared.fault.FaultKind.{FaultKind}
+use Rattle.fs_words.specs.declared.fault.FaultKind.TheVariants as kind
+use Rattle.fs_words.specs.Reading.{◌>>=◌}
+use Rattle.fs_text.specs.Calls.{call_of}
+use Rattle.fs_words.specs.Reading.{words_of}
 use Rattle.fs_laws.specs.OneCall.{IsNoReturn, StepsTo}
 use Rattle.fs_machine.specs.States.{State, Begins, Step}
 use Rattle.fs_core.specs.CoreValues.{CoreValue, state_of}

@@ -5,9 +5,9 @@ use Rattle.fs_names.specs.declared.kind.Kind.{Kind}
 use Rattle.fs_nodes.specs.Graphs.{Graph, numbers}
 use Rattle.fs_nodes.specs.Stores.{kind_of}
 use Rattle.fs_core.specs.CoreValues.{CoreValue, state_of}
-use Rattle.fs_text.specs.Calls.{path_at}
-use Rattle.fs_text.specs.declared.fault.FaultKind.{FaultKind}
-use Rattle.fs_text.specs.declared.fault.FaultKind.TheVariants as kind
+use Rattle.fs_words.specs.Reading.{path_at}
+use Rattle.fs_words.specs.declared.fault.FaultKind.{FaultKind}
+use Rattle.fs_words.specs.declared.fault.FaultKind.TheVariants as kind
 
 -- the kind of the node of a number, where there is one
 abbrev pub kind_at : Graph → Option ℕ → Option Kind

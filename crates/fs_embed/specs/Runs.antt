@@ -1,6 +1,6 @@
 -- Why a run over bytes has no text.
 use Rattle.std.specs.Prelude.{◌≡◌, Result, Err}
-use Rattle.fs_text.specs.declared.fault.ScriptFault.{ScriptFault}
+use Rattle.fs_words.specs.declared.fault.ScriptFault.{ScriptFault}
 use Rattle.fs_sched.specs.declared.fault.RunFault.{RunFault}
 use Rattle.fs_sched.specs.declared.fault.RunFault.TheVariants as faults
 use Rattle.fs_embed.specs.declared.runs.NoText.{NoText}

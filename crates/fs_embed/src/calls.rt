@@ -3,7 +3,7 @@
 ghost use Rattle.std.specs.Prelude.{◌≡◌, ◌<◌, ◌≤◌, length, IfOk, OnOk, IfErr, IsSome, MatchOption, MatchBool};
 ghost use Rattle.fs_laws.specs.OneCall.{StepsTo};
 ghost use Rattle.fs_core.specs.CoreValues.{state_of};
-ghost use Rattle.fs_text.specs.code.Answers.{Gives};
+ghost use Rattle.fs_words.specs.code.Answers.{Gives};
 ghost use Rattle.fs_embed.specs.Calls.{call_in, BeginsLine, IsNotBegun, RunsLine, IsNotReturned, Steps, IsWaiting, StepsAs, code_of, about_of};
 
 use fs_calls::{Call, Reply};

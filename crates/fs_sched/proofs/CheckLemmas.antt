@@ -1,11 +1,13 @@
 -- The verdict on what was read is the verdict on the input.
 use Rattle.std.proofs.Common.{◌≡◌, ℕ, ◌<◌, ◌≤◌, ltb, ⊎_elim, Bool, true, false, List, length, Option, Some, None, Result, Ok, Err, refl, sym, ap, ◌∙◌, subst, arith}
 use Rattle.std.specs.Prelude.{IfSome}
-use Rattle.std.proofs.lemmas.Bool.{cond-true, lt-ltb, ltb-true, ltb-false}
+use Rattle.std.proofs.lemmas.Bool.{ltb-true, ltb-false}
 use Rattle.fs_timeline.specs.declared.verdict.Verdict.{Verdict}
-use Rattle.fs_text.specs.Journal.{entries_of, fault_at}
-use Rattle.fs_text.specs.declared.fault.ScriptFault.{ScriptFault}
-use Rattle.fs_text.specs.declared.fault.FaultKind.TheVariants as kind
+use Rattle.fs_words.specs.Reading.{◌>>=◌, fault_at}
+use Rattle.fs_text.specs.Journal.{entries_of, entries_from}
+use Rattle.fs_words.specs.declared.fault.ScriptFault.{ScriptFault}
+use Rattle.fs_words.specs.declared.fault.FaultKind.TheVariants as kind
+use Rattle.fs_words.proofs.ReadLemmas.{too_long}
 use Rattle.fs_sched.specs.Checks.{judged, verdict_of, verdict_line}
 use Rattle.fs_sched.specs.Devices.{IsSameText, WritesBeginning, WritesBeginningOf, IsFaultOf}
 use Rattle.fs_sched.specs.declared.fault.RunFault.{RunFault}
@@ -13,7 +15,7 @@ use Rattle.fs_sched.specs.declared.fault.RunFault.TheVariants.{Input}
 
 too_large : (text : List ℕ) → 16777216 < length text → entries_of text ≡ Err (fault_at 1 kind.TooLarge)
 unfolding entries_of
-too_large text h = cond-true _ _ _ (lt-ltb _ _ h)
+too_large text h = ap (λ r. r >>= entries_from 2) (too_long _ text h)
 
 verdict_same : (text input : List ℕ) → IsSameText text input → verdict_of text ≡ verdict_of input
 verdict_same text input h = ⊎_elim (λ e. ap verdict_of e) (λ p. ap judged (too_large text p.0 ∙ sym (too_large input p.1))) h

@@ -8,7 +8,7 @@ use Rattle.fs_timeline.specs.declared.verdict.Verdict.TheVariants.{Lawful, Fault
 use Rattle.fs_timeline.specs.declared.verdict.FaultKind.{FaultKind}
 use Rattle.fs_timeline.specs.declared.verdict.FaultKind.TheVariants as kind
 use Rattle.fs_text.specs.Journal.{entries_of}
-use Rattle.fs_text.specs.declared.fault.ScriptFault.{ScriptFault}
+use Rattle.fs_words.specs.declared.fault.ScriptFault.{ScriptFault}
 
 -- the word of a kind of fault
 abbrev pub kind_word : FaultKind → List ℕ

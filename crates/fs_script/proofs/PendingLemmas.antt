@@ -4,8 +4,8 @@ use Rattle.std.specs.List.{flat_map}
 use Rattle.std.proofs.lemmas.Grind.{flat_map-append}
 use Rattle.fs_names.specs.Names.{Name}
 use Rattle.fs_names.specs.Keys.{Key, names_text}
-use Rattle.fs_text.specs.Words.{escaped, path_word}
-use Rattle.fs_text.proofs.WriteLemmas.{escaped_append, slash_escaped}
+use Rattle.fs_words.specs.Words.{escaped, path_word}
+use Rattle.fs_words.proofs.WriteLemmas.{escaped_append, slash_escaped}
 use Rattle.fs_seq.specs.code.Slots.{Place, links_of, node_of, place_at, links_at, child, walk_from, walk, node_at, spelled, keys_from, with_node, nodes_at, tree_of, IsForest}
 use Rattle.fs_seq.specs.code.Slots as forest
 use Rattle.fs_script.specs.code.Walks.{key_above, Leads, links_above, keys_behind, pending}
@@ -25,10 +25,9 @@ path_of_steps [] x = names_of_steps [] x
 path_of_steps (s ∷ steps) x = names_of_steps (s ∷ steps) x
 
 -- the steps, a slash and a name were written
-pub path_pushed : (line one two three : List ℕ) (steps : List Step) (x : Name) → one ≡ line ++ flat_map (λ (s : Step). 47 ∷ escaped s.name) steps → two ≡ one ++ 47 ∷ [] → three ≡ two ++ escaped x → three ≡ line ++ path_word (key_above steps ++ x ∷ [])
-path_pushed line one two three steps x a b c =
-    c ∙ ap (λ (z : List ℕ). z ++ escaped x) (b ∙ ap (λ (z : List ℕ). z ++ 47 ∷ []) a)
-    ∙ append_assoc (line ++ flat_map (λ (s : Step). 47 ∷ escaped s.name) steps) (47 ∷ []) (escaped x)
+pub path_pushed : (line one two : List ℕ) (steps : List Step) (x : Name) → one ≡ line ++ flat_map (λ (s : Step). 47 ∷ escaped s.name) steps → two ≡ one ++ 47 ∷ escaped x → two ≡ line ++ path_word (key_above steps ++ x ∷ [])
+path_pushed line one two steps x a b =
+    b ∙ ap (λ (z : List ℕ). z ++ 47 ∷ escaped x) a
     ∙ append_assoc line (flat_map (λ (s : Step). 47 ∷ escaped s.name) steps) (47 ∷ escaped x)
     ∙ ap (λ (z : List ℕ). line ++ z) (sym (path_of_steps steps x))
 

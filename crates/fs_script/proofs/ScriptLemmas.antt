@@ -5,18 +5,20 @@ use Rattle.std.specs.List.{list_any, prefix_len}
 use Rattle.std.specs.Str.{bytes_eq}
 use Rattle.std.specs.Prelude.{MatchResult}
 use Rattle.fs_calls.specs.declared.call.Call.{Call}
-use Rattle.fs_text.specs.Lines.{is_passed_over}
-use Rattle.fs_text.specs.Calls.{◌>>=◌}
-use Rattle.fs_text.specs.Journal.{words_of, at_line, fault_at}
-use Rattle.fs_text.specs.code.Answers.{FailsAs, FailsThere}
+use Rattle.fs_words.specs.Lines.{is_passed_over}
+use Rattle.fs_words.specs.Reading.{◌>>=◌, words_of, at_line, fault_at}
+use Rattle.fs_words.specs.code.Answers.{FailsAs, FailsThere}
+use Rattle.fs_words.specs.code.LinesLeft.{LinesLeft, IsNext, AreOver}
+use Rattle.fs_words.specs.declared.numbered.Line.{Line}
+use Rattle.fs_words.proofs.ReadLemmas.{next_read, over_read}
 use Rattle.fs_script.specs.Limits.{calls_in}
 use Rattle.fs_script.proofs.LimitLemmas.{calls_thread}
 use Rattle.fs_script.specs.Script.{with_call, blocks_from, schedule_from}
 use Rattle.fs_script.specs.code.Drafts.{Pushes, line_in, lines_in}
 use Rattle.fs_script.specs.declared.script.Script.{Script}
-use Rattle.fs_text.specs.declared.fault.ScriptFault.{ScriptFault}
-use Rattle.fs_text.specs.declared.fault.FaultKind.{FaultKind}
-use Rattle.fs_text.specs.declared.fault.FaultKind.TheVariants as kind
+use Rattle.fs_words.specs.declared.fault.ScriptFault.{ScriptFault}
+use Rattle.fs_words.specs.declared.fault.FaultKind.{FaultKind}
+use Rattle.fs_words.specs.declared.fault.FaultKind.TheVariants as kind
 use Rattle.std.proofs.lemmas.Bool.{cond-true, cond-false}
 use Rattle.indexmap.specs.IndexSet.{insert_key}
 
@@ -90,28 +92,39 @@ step_told false n s line more p h = cond-false _ _ _ p ∙ cond-false _ _ _ h
 abbrev pub Reading : Type 0
 Reading = Result Script ScriptFault
 
-pub line_passed : (whole : Reading) (b : Bool) (n : ℕ) (s : Script) (lines : List (List ℕ)) (line : List ℕ) (more : List (List ℕ)) → whole ≡ lines_in b n s lines → lines ≡ line ∷ more → is_passed_over line ≡ true → whole ≡ lines_in b (n + 1) s more
-line_passed whole b n s lines line more h cut p = h ∙ ap (lines_in b n s) cut ∙ step_passed b n s line more p
+-- the lines that are left, from the next one on
+turn : (whole : Reading) (b : Bool) (s : Script) (old new : LinesLeft) (line : Line) → whole ≡ lines_in b old.number s old.lines → IsNext old line new → whole ≡ lines_in b line.number s (line.text.now ∷ new.lines)
+turn whole b s old new line h next = h ∙ next_read (λ n lines. lines_in b n s lines) (λ n. step_passed b n s) old new line next
 
-pub line_begun : (whole : Reading) (b : Bool) (n : ℕ) (s : Script) (lines : List (List ℕ)) (line : List ℕ) (more : List (List ℕ)) → whole ≡ lines_in b n s lines → lines ≡ line ∷ more → is_passed_over line ≡ false → not b && bytes_eq line (codes "schedule") ≡ true → whole ≡ lines_in true (n + 1) s more
-line_begun whole b n s lines line more h cut p e = h ∙ ap (lines_in b n s) cut ∙ step_begun b n s line more p e
+pub line_begun : (whole : Reading) (b : Bool) (s : Script) (old new : LinesLeft) (line : Line) → whole ≡ lines_in b old.number s old.lines → IsNext old line new → not b && bytes_eq line.text.now (codes "schedule") ≡ true → whole ≡ lines_in true new.number s new.lines
+line_begun whole b s old new line h next e =
+    turn whole b s old new line h next ∙ step_begun b line.number s line.text.now new.lines next.taken e ∙ ap (λ n. schedule_from n s new.lines) (sym next.number)
 
-line_told : (whole : Reading) (b : Bool) (n : ℕ) (s : Script) (lines : List (List ℕ)) (line : List ℕ) (more : List (List ℕ)) → whole ≡ lines_in b n s lines → lines ≡ line ∷ more → is_passed_over line ≡ false → not b && bytes_eq line (codes "schedule") ≡ false → whole ≡ (at_line n (words_of line >>= line_in b s) >>= λ t. lines_in b (n + 1) t more)
-line_told whole b n s lines line more h cut p e = h ∙ ap (lines_in b n s) cut ∙ step_told b n s line more p e
+line_told : (whole : Reading) (b : Bool) (s : Script) (old new : LinesLeft) (line : Line) → whole ≡ lines_in b old.number s old.lines → IsNext old line new → not b && bytes_eq line.text.now (codes "schedule") ≡ false
+    → whole ≡ (at_line line.number (words_of line.text.now >>= line_in b s) >>= λ t. lines_in b (line.number + 1) t new.lines)
+line_told whole b s old new line h next e = turn whole b s old new line h next ∙ step_told b line.number s line.text.now new.lines next.taken e
 
-pub line_taken : (whole : Reading) (b : Bool) (n : ℕ) (s t : Script) (lines : List (List ℕ)) (line : List ℕ) (more : List (List ℕ)) → whole ≡ lines_in b n s lines → lines ≡ line ∷ more → is_passed_over line ≡ false → not b && bytes_eq line (codes "schedule") ≡ false → (words_of line >>= line_in b s) ≡ Ok t → whole ≡ lines_in b (n + 1) t more
-line_taken whole b n s t lines line more h cut p e given = line_told whole b n s lines line more h cut p e ∙ ap (λ r. at_line n r >>= λ u. lines_in b (n + 1) u more) given
+pub line_taken : (whole : Reading) (b : Bool) (s t : Script) (old new : LinesLeft) (line : Line) → whole ≡ lines_in b old.number s old.lines → IsNext old line new → not b && bytes_eq line.text.now (codes "schedule") ≡ false → (words_of line.text.now >>= line_in b s) ≡ Ok t
+    → whole ≡ lines_in b new.number t new.lines
+line_taken whole b s t old new line h next e given =
+    line_told whole b s old new line h next e
+    ∙ ap (λ r. at_line line.number r >>= λ u. lines_in b (line.number + 1) u new.lines) given
+    ∙ ap (λ n. lines_in b n t new.lines) (sym next.number)
 
-pub line_failed : (whole : Reading) (b : Bool) (n : ℕ) (s : Script) (lines : List (List ℕ)) (line : List ℕ) (more : List (List ℕ)) (k : FaultKind) → whole ≡ lines_in b n s lines → lines ≡ line ∷ more → is_passed_over line ≡ false → not b && bytes_eq line (codes "schedule") ≡ false → FailsAs k (words_of line >>= line_in b s) → FailsThere n k whole
-line_failed whole b n s lines line more kind.OutOfMemory h cut p e given = tt
-line_failed whole b n s lines line more k h cut p e given = line_told whole b n s lines line more h cut p e ∙ ap (λ r. at_line n r >>= λ u. lines_in b (n + 1) u more) given
+pub line_failed : (whole : Reading) (b : Bool) (s : Script) (old new : LinesLeft) (line : Line) (k : FaultKind) → whole ≡ lines_in b old.number s old.lines → IsNext old line new → not b && bytes_eq line.text.now (codes "schedule") ≡ false → FailsAs k (words_of line.text.now >>= line_in b s)
+    → FailsThere line.number k whole
+line_failed whole b s old new line kind.OutOfMemory h next e given = tt
+line_failed whole b s old new line k h next e given = line_told whole b s old new line h next e ∙ ap (λ r. at_line line.number r >>= λ u. lines_in b (line.number + 1) u new.lines) given
 
-pub lines_end : (whole : Reading) (b : Bool) (n : ℕ) (s : Script) (lines : List (List ℕ)) → whole ≡ lines_in b n s lines → lines ≡ [] → b ≡ false → whole ≡ Err (fault_at n kind.NoSchedule)
+over : (whole : Reading) (b : Bool) (s : Script) (old new : LinesLeft) → whole ≡ lines_in b old.number s old.lines → AreOver old new → whole ≡ lines_in b new.number s []
+over whole b s old new h none = h ∙ over_read (λ n lines. lines_in b n s lines) (λ n. step_passed b n s) old new none
+
+pub lines_end : (whole : Reading) (b : Bool) (s : Script) (old new : LinesLeft) → whole ≡ lines_in b old.number s old.lines → AreOver old new → b ≡ false → whole ≡ Err (fault_at new.number kind.NoSchedule)
 unfolding blocks_from
-lines_end whole true n s lines h none e = absurd (let z : ◌≡◌ {A = Bool} true false = e in cc)
-lines_end whole false n s lines h none e = h ∙ ap (blocks_from n s) none
+lines_end whole true s old new h none e = absurd (let z : ◌≡◌ {A = Bool} true false = e in cc)
+lines_end whole false s old new h none e = over whole false s old new h none
 
-pub lines_done : (whole : Reading) (b : Bool) (n : ℕ) (s : Script) (lines : List (List ℕ)) → whole ≡ lines_in b n s lines → lines ≡ [] → b ≡ true → whole ≡ Ok s
+pub lines_done : (whole : Reading) (b : Bool) (s : Script) (old new : LinesLeft) → whole ≡ lines_in b old.number s old.lines → AreOver old new → b ≡ true → whole ≡ Ok s
 unfolding schedule_from
-lines_done whole true n s lines h none e = h ∙ ap (schedule_from n s) none
-lines_done whole false n s lines h none e = absurd (let z : ◌≡◌ {A = Bool} false true = e in cc)
+lines_done whole true s old new h none e = over whole true s old new h none
+lines_done whole false s old new h none e = absurd (let z : ◌≡◌ {A = Bool} false true = e in cc)

@@ -5,7 +5,7 @@ use Rattle.fs_names.specs.Names.{Name}
 use Rattle.fs_names.specs.Keys.{Key}
 use Rattle.fs_names.specs.Shapes.{Shape, names_of, is_dir, is_there}
 use Rattle.fs_names.specs.Shapes as shapes
-use Rattle.fs_text.proofs.WriteLemmas.{root_word}
+use Rattle.fs_words.proofs.WriteLemmas.{root_word}
 use Rattle.fs_calls.specs.Tree.{Node, Tree}
 use Rattle.fs_calls.specs.Tree as tree
 use Rattle.fs_seq.specs.code.Slots as forest

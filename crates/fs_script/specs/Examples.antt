@@ -7,10 +7,10 @@ use Rattle.fs_names.specs.declared.fault.PathFault.TheVariants.{Nul, TrailingSla
 use Rattle.fs_calls.specs.declared.call.Call.TheVariants.{Mkdir, Mknod, Unlink, Rmdir, Rename, Stat, Readdir, Read, Write, Truncate}
 use Rattle.fs_calls.specs.Tree.{root_tree}
 use Rattle.fs_calls.specs.Outcomes.{play}
-use Rattle.fs_text.specs.Journal.{fault_at}
-use Rattle.fs_text.specs.declared.fault.ScriptFault.{ScriptFault}
-use Rattle.fs_text.specs.declared.fault.FaultKind.{FaultKind}
-use Rattle.fs_text.specs.declared.fault.FaultKind.TheVariants.{BadHeader, BadLine, BadThread, ThreadTwice, BadPath, BadNumber, BadHex, NoSchedule, BadWord, TooLarge}
+use Rattle.fs_words.specs.Reading.{fault_at}
+use Rattle.fs_words.specs.declared.fault.ScriptFault.{ScriptFault}
+use Rattle.fs_words.specs.declared.fault.FaultKind.{FaultKind}
+use Rattle.fs_words.specs.declared.fault.FaultKind.TheVariants.{BadHeader, BadLine, BadThread, ThreadTwice, BadPath, BadNumber, BadHex, NoSchedule, BadWord, TooLarge}
 use Rattle.fs_script.specs.Script.{script_of}
 use Rattle.fs_script.specs.TreeText.{tree_text}
 use Rattle.fs_script.specs.declared.script.Script.{Script}

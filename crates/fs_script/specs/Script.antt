@@ -3,15 +3,14 @@ use Rattle.std.specs.Prelude.{ℕ, ◌+◌, Bool, true, false, not, ◌&&◌, �
 use Rattle.std.specs.List.{list_all, list_any}
 use Rattle.std.specs.Str.{bytes_eq}
 use Rattle.fs_calls.specs.declared.call.Call.{Call}
-use Rattle.fs_text.specs.Lines.{lines_of, is_passed_over}
-use Rattle.fs_text.specs.Words.{Word, number_of}
-use Rattle.fs_text.specs.Calls.{◌>>=◌, call_of}
-use Rattle.fs_text.specs.Journal.{words_of, fault_at, at_line, first_is, behind_first}
-use Rattle.fs_text.specs.declared.limits.TheConstants.{TEXT_LIMIT}
+use Rattle.fs_words.specs.Lines.{is_passed_over}
+use Rattle.fs_words.specs.Words.{Word, number_of}
+use Rattle.fs_words.specs.Reading.{◌>>=◌, words_of, fault_at, at_line, behind_header}
+use Rattle.fs_text.specs.Calls.{call_of}
 use Rattle.fs_script.specs.declared.limits.TheConstants.{THREAD_LIMIT, CALL_LIMIT, EVENT_LIMIT, THREAD_NAME_LIMIT}
-use Rattle.fs_text.specs.declared.fault.ScriptFault.{ScriptFault}
-use Rattle.fs_text.specs.declared.fault.FaultKind.{FaultKind}
-use Rattle.fs_text.specs.declared.fault.FaultKind.TheVariants as kind
+use Rattle.fs_words.specs.declared.fault.ScriptFault.{ScriptFault}
+use Rattle.fs_words.specs.declared.fault.FaultKind.{FaultKind}
+use Rattle.fs_words.specs.declared.fault.FaultKind.TheVariants as kind
 use Rattle.fs_script.specs.declared.script.Script.{Script}
 use Rattle.fs_script.specs.declared.script.Word as schedule
 use Rattle.fs_script.specs.declared.script.Word.TheVariants.{Events, Finish}
@@ -147,7 +146,4 @@ nothing_yet = record { names = []; lists = []; words = [] }
 
 -- what reading a script text gives
 unfoldable pub script_of : List ℕ → Result Script ScriptFault
-script_of text =
-    if nat_lt TEXT_LIMIT (length text) then Err (fault_at 1 kind.TooLarge)
-    else (if first_is script_header (lines_of text) then blocks_from 2 nothing_yet (behind_first (lines_of text))
-    else Err (fault_at 1 kind.BadHeader))
+script_of text = behind_header script_header text >>= blocks_from 2 nothing_yet

@@ -5,8 +5,8 @@ use Rattle.fs_names.specs.Keys.{Key}
 use Rattle.fs_calls.specs.Tree.{Tree, Node, Dir, File, IsTree}
 use Rattle.fs_calls.specs.Sights.{tree_shapes}
 use Rattle.fs_nodes.specs.Graphs.{Graph, graph_shapes}
-use Rattle.fs_text.specs.Lines.{line_text}
-use Rattle.fs_text.specs.Words.{Word, hex_word, path_word}
+use Rattle.fs_words.specs.Lines.{line_text}
+use Rattle.fs_words.specs.Words.{Word, hex_word, path_word}
 
 -- the words of a node at a key
 abbrev pub node_words : Key → Node → List Word

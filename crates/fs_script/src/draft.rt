@@ -6,16 +6,16 @@ ghost use Rattle.fs_script.specs.Limits.{calls_in, events_in};
 ghost use Rattle.fs_script.specs.Script.{nothing_yet, is_lower, is_thread_byte, is_thread, is_star, new_thread, thread_line, new_call, call_line, block_line, new_events, events_word, with_word, has_finish, schedule_word, schedule_line};
 ghost use Rattle.fs_script.specs.declared.script.Word.TheVariants.{Finish};
 ghost use Rattle.fs_script.specs.code.Drafts.{line_in, step_in};
-ghost use Rattle.fs_text.specs.code.Answers.{Becomes};
+ghost use Rattle.fs_words.specs.code.Answers.{Becomes};
 
 use crate::limits::{CALL_LIMIT, EVENT_LIMIT, THREAD_LIMIT, THREAD_NAME_LIMIT};
 use crate::script::{CallLists, Script, ThreadNames, Word, WordList};
 use fs_calls::Call;
-use fs_text::FaultKind;
 use fs_text::calls::call_with;
-use fs_text::lines::cut_words;
-use fs_text::recent::Recent;
-use fs_text::words::{number_of, parts};
+use fs_words::FaultKind;
+use fs_words::lines::cut_words;
+use fs_words::recent::Recent;
+use fs_words::words::{number_of, parts};
 use std::alloc::Global;
 
 /// The script so far, with its counts of calls and events and whether it had `finish`.

@@ -1,4 +1,4 @@
-//! The limits of scripts, each named in this one place; that of the text is `fs_text::limits::TEXT_LIMIT`.
+//! The limits of scripts, each named in this one place; that of the text is `fs_words::limits::TEXT_LIMIT`.
 
 /// The most threads that a script has.
 pub const THREAD_LIMIT: usize = 256;

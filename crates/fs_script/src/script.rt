@@ -5,10 +5,10 @@ ghost use Rattle.std.specs.List.{list_any};
 ghost use Rattle.std.specs.Str.{bytes_eq};
 ghost use Rattle.fs_script.specs.Script.{seat_named, with_call};
 ghost use Rattle.fs_script.specs.code.Drafts.{Pushes};
-ghost use Rattle.fs_text.specs.declared.fault.FaultKind.TheVariants as kind;
+ghost use Rattle.fs_words.specs.declared.fault.FaultKind.TheVariants as kind;
 
 use fs_calls::Call;
-use fs_text::FaultKind;
+use fs_words::FaultKind;
 use indexmap::IndexSet;
 use std::alloc::Global;
 use std::marker::Model;

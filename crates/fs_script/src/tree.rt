@@ -5,14 +5,15 @@ ghost use Rattle.fs_names.specs.Shapes.{is_there, is_dir, names_of};
 ghost use Rattle.fs_nodes.specs.Seen.{seen, IsReal};
 ghost use Rattle.fs_nodes.specs.Stores.{graph_of, shape, child, next_entry, IsNextName};
 ghost use Rattle.std.specs.List.{flat_map};
-ghost use Rattle.fs_text.specs.Words.{escaped, path_word};
+ghost use Rattle.fs_words.specs.Words.{escaped, path_word};
 ghost use Rattle.fs_script.specs.TreeText.{tree_text, AppendsTree};
 ghost use Rattle.fs_script.specs.code.Walks.{WalkPlace, forest_of, key_above, Leads, IsLast, Steps, IsUp, visited, row_text, node_seen, text_at, pending_at, at_root};
 ghost use Rattle.fs_seq.specs.code.Slots.{tree_of};
 
 use fs_names::Name;
 use fs_nodes::{NodeNo, Store};
-use fs_text::Addition;
+use fs_words::Addition;
+use fs_words::addition::put_back;
 use std::alloc::{AllocError, Global};
 use std::marker::Model;
 use std::mem;
@@ -48,8 +49,7 @@ fn push_steps(alloc: Global, above: &[Step], line: &mut Addition) -> Result<(), 
     ensures before { line.new.before ≡ line.old.before }
 {
     for step in above {
-        line.push(b"/")?;
-        line.push_escaped(alloc, step.name.bytes())?;
+        line.push_step(alloc, &step.name)?;
     }
     Ok(())
 }
@@ -65,8 +65,7 @@ fn push_key(
     ensures before { line.new.before ≡ line.old.before }
 {
     push_steps(alloc, above, line)?;
-    line.push(b"/")?;
-    line.push_escaped(alloc, name.bytes())
+    line.push_step(alloc, name)
 }
 
 /// The line of a node behind some steps.
@@ -234,14 +233,6 @@ pub fn write_tree(alloc: Global, store: &Store, text: &mut Vec<u8>) -> Result<()
     ensures err { OnErr result (text.new.items ≡ text.old.items) }
 {
     let mut line = Addition::new(mem::replace(text, Vec::new(alloc)));
-    match push_tree(alloc, store, &mut line) {
-        Ok(()) => {
-            *text = line.kept();
-            Ok(())
-        }
-        Err(error) => {
-            *text = line.taken_back();
-            Err(error)
-        }
-    }
+    let added = push_tree(alloc, store, &mut line);
+    put_back(added, line, text)
 }

@@ -7,8 +7,8 @@ use Rattle.std.proofs.lemmas.Bool.{cond-true, cond-false}
 use Rattle.std.proofs.lemmas.Bool.Decides.{nat_tests}
 use Rattle.percent_encoding.specs.Percent.{percent_decode}
 use Rattle.hex.specs.Hex.{IsBytes}
-use Rattle.fs_names.specs.Names.{can_name}
-use Rattle.fs_names.specs.Keys.{Key}
+use Rattle.fs_names.specs.Names.{can_name, AreBytes, IsName}
+use Rattle.fs_names.specs.Keys.{Key, IsPath}
 use Rattle.fs_names.specs.declared.kind.Kind.{Kind}
 use Rattle.fs_names.specs.declared.kind.Kind.TheVariants.{Dir, File}
 use Rattle.fs_calls.specs.declared.call.Call.{Call}
@@ -19,17 +19,18 @@ use Rattle.fs_calls.specs.declared.errno.Errno.{Errno}
 use Rattle.fs_calls.specs.declared.errno.Errno.TheVariants as errno
 use Rattle.fs_timeline.specs.declared.entry.Entry.{Entry}
 use Rattle.fs_timeline.specs.declared.entry.Entry.TheVariants.{Begin, Commit, Return}
-use Rattle.fs_text.specs.Lines.{lines_of, pieces_of, has_empty, is_passed_over}
-use Rattle.fs_text.specs.Words.{hex_word, escaped, path_word}
-use Rattle.fs_text.specs.Calls.{◌>>=◌, or_fault, or_bad_path, path_at, number_at, hex_at, call_words, call_of, has_call_form}
-use Rattle.fs_text.specs.Journal.{kind_word, errno_word, reply_words, entry_words, entry_line, journal_header, journal_text, name_at, names_at, reply_of, entry_of, return_of, words_of, fault_at, at_line, is_tree_line, entries_from, first_is, behind_first, entries_of}
-use Rattle.fs_text.specs.declared.fault.FaultKind.TheVariants as kind
-use Rattle.fs_text.specs.Fits.{AreBytes, IsU64, IsName, IsKey, FitsCall, FitsReply, FitsEntry, AllFit}
+use Rattle.fs_words.specs.Lines.{lines_of, pieces_of, has_empty, is_passed_over}
+use Rattle.fs_words.specs.Words.{hex_word, escaped, path_word}
+use Rattle.fs_words.specs.Reading.{◌>>=◌, or_fault, or_bad_path, path_at, number_at, hex_at, name_at, words_of, fault_at, at_line, first_is, behind_first}
+use Rattle.fs_text.specs.Calls.{call_words, call_of, has_call_form}
+use Rattle.fs_text.specs.Journal.{kind_word, errno_word, reply_words, entry_words, entry_line, journal_header, journal_text, names_at, reply_of, entry_of, return_of, is_tree_line, entries_from, entries_of}
+use Rattle.fs_words.specs.declared.fault.FaultKind.TheVariants as kind
+use Rattle.fs_text.specs.Fits.{IsU64, FitsCall, FitsReply, FitsEntry, AllFit}
 use Rattle.fs_text.specs.Laws.{ReadsBack}
-use Rattle.fs_text.proofs.WordLemmas.{IsWord, pieces_of_joined, has_no_empty, IsLine, IsLine_joined, ended, lines_of_ended}
-use Rattle.fs_text.proofs.NumberLemmas.{number_again, IsWord_decimal, hex_again, IsWord_hex}
-use Rattle.fs_text.proofs.EscapeLemmas.{escape_again, IsWord_escaped}
-use Rattle.fs_text.proofs.PathLemmas.{KeyFacts, NameFacts, path_again, IsWord_path, name_facts}
+use Rattle.fs_words.proofs.WordLemmas.{IsWord, pieces_of_joined, has_no_empty, IsLine, IsLine_joined, ended, lines_of_ended}
+use Rattle.fs_words.proofs.NumberLemmas.{number_again, IsWord_decimal, hex_again, IsWord_hex}
+use Rattle.fs_words.proofs.EscapeLemmas.{escape_again, IsWord_escaped}
+use Rattle.fs_words.proofs.PathLemmas.{KeyFacts, NameFacts, path_again, IsWord_path, name_facts}
 
 -- ---- one word
 
@@ -37,10 +38,10 @@ all_facts : (ns : Key) → AllByRecursion IsName ns → AllByRecursion NameFacts
 all_facts [] h = (tt, tt)
 all_facts (n ∷ ns) h = let rest = all_facts ns h.1 in ((name_facts n h.0.test, rest.0), (h.0.bytes, rest.1))
 
-key_facts : (key : Key) → IsKey key → KeyFacts key
-key_facts key h = let both = all_facts key h.names in record { few = h.few; names = both.0; bytes = both.1 }
+key_facts : (key : Key) → IsPath key → KeyFacts key
+key_facts key h = let both = all_facts key h.names in record { few = h.short; names = both.0; bytes = both.1 }
 
-path_read : (p : Key) → IsKey p → path_at (path_word p) ≡ Ok p
+path_read : (p : Key) → IsPath p → path_at (path_word p) ≡ Ok p
 path_read p h = ap or_bad_path (path_again p (key_facts p h))
 
 number_read : (n : ℕ) → IsU64 n → number_at (decimal n) ≡ Ok n
@@ -270,8 +271,9 @@ not_above n h = grind (arith, nat_tests)
 pub journal_again : (es : List Entry) → AllFit es → length (journal_text es) ≤ 16777216 → entries_of (journal_text es) ≡ Ok es
 unfolding entries_of
 journal_again es h short =
-    cond-false _ _ _ (not_above (length (journal_text es)) short)
-    ∙ ap (λ ls. if first_is journal_header ls then entries_from 2 (behind_first ls) else Err (fault_at 1 kind.BadHeader)) (journal_lines es h)
+    ap (λ r. r >>= entries_from 2)
+    (cond-false _ _ _ (not_above (length (journal_text es)) short)
+    ∙ ap (λ ls. if first_is journal_header ls then Ok (behind_first ls) else Err (fault_at 1 kind.BadHeader)) (journal_lines es h))
     ∙ lines_again 2 es h
 
 pub reads_back : ReadsBack

@@ -1,12 +1,4 @@
-pub mod WordLemmas
-pub mod EscapeLemmas
-pub mod NumberLemmas
-pub mod WriteLemmas
 pub mod ReadLemmas
-pub mod PathLemmas
 pub mod EntryLemmas
-pub mod DecimalLemmas
-pub mod DigitLemmas
 pub mod SpellLemmas
-pub mod PlainLemmas
 pub mod FitLemmas

@@ -2,12 +2,12 @@
 use Rattle.std.specs.Prelude.{ℕ, Bool, false, ◌==◌, List, [], ◌∷◌, length, Result, Ok, Err, Option, Some, None, if◌then◌else◌, codes, decimal}
 use Rattle.std.specs.Str.{bytes_eq}
 use Rattle.fs_names.specs.Keys.{Key}
-use Rattle.fs_names.specs.declared.fault.PathFault.{PathFault}
 use Rattle.fs_calls.specs.declared.call.Call.{Call}
 use Rattle.fs_calls.specs.declared.call.Call.TheVariants.{Mkdir, Mknod, Unlink, Rmdir, Rename, Exchange, Stat, Readdir, Read, Write, Truncate}
-use Rattle.fs_text.specs.Words.{Word, number_of, hex_of, hex_word, path_word, path_of}
-use Rattle.fs_text.specs.declared.fault.FaultKind.{FaultKind}
-use Rattle.fs_text.specs.declared.fault.FaultKind.TheVariants as kind
+use Rattle.fs_words.specs.Words.{Word, hex_word, path_word}
+use Rattle.fs_words.specs.Reading.{◌>>=◌, path_at, number_at, hex_at}
+use Rattle.fs_words.specs.declared.fault.FaultKind.{FaultKind}
+use Rattle.fs_words.specs.declared.fault.FaultKind.TheVariants as kind
 
 -- ---- written
 
@@ -26,34 +26,6 @@ call_words (Write p off bytes) = codes "write" ∷ path_word p ∷ decimal off �
 call_words (Truncate p size) = codes "truncate" ∷ path_word p ∷ decimal size ∷ []
 
 -- ---- read: the first step that fails is the answer
-
--- the next step goes on with what the step before it gives
-infixl 10 ◌>>=◌
-abbrev pub ◌>>=◌ : {A B F : Type 0} → Result A F → (A → Result B F) → Result B F
-Ok x >>= f = f x
-Err e >>= f = Err e
-
--- where nothing is found the fault is this one
-abbrev pub or_fault : {X : Type 0} → FaultKind → Option X → Result X FaultKind
-or_fault k (Some x) = Ok x
-or_fault k None = Err k
-
--- a fault of a path is the fault `BadPath`
-abbrev pub or_bad_path : Result Key PathFault → Result Key FaultKind
-or_bad_path (Ok key) = Ok key
-or_bad_path (Err f) = Err (kind.BadPath f)
-
--- a word as a path
-abbrev pub path_at : Word → Result Key FaultKind
-path_at word = or_bad_path (path_of word)
-
--- a word as a number
-abbrev pub number_at : Word → Result ℕ FaultKind
-number_at word = or_fault kind.BadNumber (number_of word)
-
--- a word of hexadecimal digits as bytes
-abbrev pub hex_at : Word → Result (List ℕ) FaultKind
-hex_at word = or_fault kind.BadHex (hex_of word)
 
 -- what stands behind the first word of a call, and the call that it makes
 pub data CallForm : Type 0 where

@@ -10,11 +10,12 @@ use Rattle.fs_calls.specs.declared.reply.Reply.TheVariants as answer
 use Rattle.fs_calls.specs.declared.errno.Errno.TheVariants.{Enoent, Eexist}
 use Rattle.fs_timeline.specs.declared.entry.Entry.{Entry}
 use Rattle.fs_timeline.specs.declared.entry.Entry.TheVariants.{Begin, Commit, Return}
-use Rattle.fs_text.specs.Words.{number_of, escaped}
-use Rattle.fs_text.specs.Journal.{entry_line, journal_text, entries_of, fault_at}
-use Rattle.fs_text.specs.declared.fault.ScriptFault.{ScriptFault}
-use Rattle.fs_text.specs.declared.fault.FaultKind.{FaultKind}
-use Rattle.fs_text.specs.declared.fault.FaultKind.TheVariants.{BadHeader, BadLine, BadPath, BadNumber, BadHex, BadReply}
+use Rattle.fs_words.specs.Words.{number_of, escaped}
+use Rattle.fs_words.specs.Reading.{fault_at}
+use Rattle.fs_text.specs.Journal.{entry_line, journal_text, entries_of}
+use Rattle.fs_words.specs.declared.fault.ScriptFault.{ScriptFault}
+use Rattle.fs_words.specs.declared.fault.FaultKind.{FaultKind}
+use Rattle.fs_words.specs.declared.fault.FaultKind.TheVariants.{BadHeader, BadLine, BadPath, BadNumber, BadHex, BadReply}
 
 abbrev pub at : String → Key
 at text = names (codes text)

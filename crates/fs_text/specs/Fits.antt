@@ -1,9 +1,8 @@
 -- What an entry must be to be read back: all that an entry of the code always is.
-use Rattle.std.specs.Prelude.{◌≡◌, ℕ, ◌<◌, ◌≤◌, ◌^◌, true, List, length}
+use Rattle.std.specs.Prelude.{ℕ, ◌<◌, ◌^◌, List}
 use Rattle.std.specs.List.{AllByRecursion}
-use Rattle.fs_names.specs.Names.{Name, can_name}
-use Rattle.fs_names.specs.Keys.{Key}
-use Rattle.fs_names.specs.declared.limits.TheConstants.{PATH_LIMIT}
+use Rattle.fs_names.specs.Names.{AreBytes, IsName}
+use Rattle.fs_names.specs.Keys.{IsPath as IsKey}
 use Rattle.fs_calls.specs.declared.call.Call.{Call}
 use Rattle.fs_calls.specs.declared.call.Call.TheVariants as call
 use Rattle.fs_calls.specs.declared.reply.Reply.{Reply}
@@ -11,23 +10,9 @@ use Rattle.fs_calls.specs.declared.reply.Reply.TheVariants as reply
 use Rattle.fs_timeline.specs.declared.entry.Entry.{Entry}
 use Rattle.fs_timeline.specs.declared.entry.Entry.TheVariants.{Begin, Commit, Return}
 
--- each is below 256
-abbrev pub AreBytes : List ℕ → Type 0
-AreBytes bs = AllByRecursion (λ b. b < 256) bs
-
 -- a number of 64 bits
 abbrev pub IsU64 : ℕ → Type 0
 IsU64 n = n < 2 ^ 64
-
--- what may be a name, in bytes
-pub record IsName (n : Name) : Type 0 where
-  pub test : can_name n ≡ true
-  pub bytes : AreBytes n
-
--- no more names than the limit
-pub record IsKey (key : Key) : Type 0 where
-  pub few : length key ≤ PATH_LIMIT
-  pub names : AllByRecursion IsName key
 
 -- the paths, numbers and bytes of a call
 abbrev pub FitsCall : Call → Type 0

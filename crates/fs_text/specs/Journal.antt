@@ -1,9 +1,8 @@
 -- The text of entries, and what reading a journal gives.
-use Rattle.std.specs.Prelude.{ℕ, ◌+◌, Bool, false, nat_lt, List, [], ◌∷◌, ◌++◌, length, map, Result, Ok, Err, Option, Some, None, if◌then◌else◌, codes, decimal}
+use Rattle.std.specs.Prelude.{ℕ, ◌+◌, Bool, List, [], ◌∷◌, ◌++◌, map, Result, Ok, Err, Option, Some, None, if◌then◌else◌, codes, decimal}
 use Rattle.std.specs.List.{flat_map}
 use Rattle.std.specs.Str.{bytes_eq}
-use Rattle.percent_encoding.specs.Percent.{percent_decode}
-use Rattle.fs_names.specs.Names.{Name, can_name}
+use Rattle.fs_names.specs.Names.{Name}
 use Rattle.fs_names.specs.declared.kind.Kind.{Kind}
 use Rattle.fs_names.specs.declared.kind.Kind.TheVariants.{Dir, File}
 use Rattle.fs_calls.specs.declared.errno.Errno.{Errno}
@@ -12,13 +11,13 @@ use Rattle.fs_calls.specs.declared.reply.Reply.{Reply}
 use Rattle.fs_calls.specs.declared.reply.Reply.TheVariants.{Done, Stat, Names, Bytes, Wrote, Failed}
 use Rattle.fs_timeline.specs.declared.entry.Entry.{Entry}
 use Rattle.fs_timeline.specs.declared.entry.Entry.TheVariants.{Begin, Commit, Return}
-use Rattle.fs_text.specs.Lines.{lines_of, pieces_of, has_empty, is_passed_over, line_text}
-use Rattle.fs_text.specs.Words.{Word, hex_word, escaped}
-use Rattle.fs_text.specs.Calls.{◌>>=◌, or_fault, number_at, hex_at, call_words, call_of, has_call_form}
-use Rattle.fs_text.specs.declared.limits.TheConstants.{TEXT_LIMIT}
-use Rattle.fs_text.specs.declared.fault.ScriptFault.{ScriptFault}
-use Rattle.fs_text.specs.declared.fault.FaultKind.{FaultKind}
-use Rattle.fs_text.specs.declared.fault.FaultKind.TheVariants as kind
+use Rattle.fs_words.specs.Lines.{is_passed_over, line_text}
+use Rattle.fs_words.specs.Words.{Word, hex_word, escaped}
+use Rattle.fs_words.specs.Reading.{◌>>=◌, or_fault, number_at, hex_at, name_at, words_of, at_line, behind_header}
+use Rattle.fs_text.specs.Calls.{call_words, call_of, has_call_form}
+use Rattle.fs_words.specs.declared.fault.ScriptFault.{ScriptFault}
+use Rattle.fs_words.specs.declared.fault.FaultKind.{FaultKind}
+use Rattle.fs_words.specs.declared.fault.FaultKind.TheVariants as kind
 
 -- ---- written: an entry is its words
 
@@ -87,14 +86,6 @@ errno_of word =
     else (if bytes_eq word (codes "ENOSPC") then Some errno.Enospc
     else (if bytes_eq word (codes "EFBIG") then Some errno.Efbig
     else None)))))))))
-
--- bytes as a name; else the reply is a bad one
-abbrev pub read_name : List ℕ → Result Name FaultKind
-read_name name = if can_name name then Ok name else Err kind.BadReply
-
--- a word as a name, read back from its escapes
-abbrev pub name_at : Word → Result Name FaultKind
-name_at word = read_name (percent_decode word)
 
 -- words as names; the first that is none is the answer
 abbrev pub names_at : List Word → Result (List Name) FaultKind
@@ -176,24 +167,11 @@ entry_of (first ∷ more) =
     else (if bytes_eq first (codes "return") then return_of more
     else Err kind.BadLine))
 
--- the words of a line
-abbrev pub words_of : List ℕ → Result (List Word) FaultKind
-words_of line = if has_empty (pieces_of line) then Err kind.BadLine else Ok (pieces_of line)
-
 -- the entry that a line spells
 abbrev pub entry_in_line : List ℕ → Result Entry FaultKind
 entry_in_line line = words_of line >>= entry_of
 
 -- ---- read: the text
-
--- a fault of this kind in the line of this number
-abbrev pub fault_at : ℕ → FaultKind → ScriptFault
-fault_at n k = record { line = n; kind = k }
-
--- a fault is that of the line of this number
-abbrev pub at_line : {X : Type 0} → ℕ → Result X FaultKind → Result X ScriptFault
-at_line n (Ok x) = Ok x
-at_line n (Err k) = Err (fault_at n k)
 
 -- whether a line is the one behind which a tree stands
 abbrev pub is_tree_line : List ℕ → Bool
@@ -207,19 +185,6 @@ entries_from n (line ∷ more) =
     else (if is_tree_line line then Ok []
     else (at_line n (entry_in_line line) >>= λ e. entries_from (n + 1) more >>= λ es. Ok (e ∷ es)))
 
--- whether the first line is the one that is wanted
-abbrev pub first_is : List ℕ → List (List ℕ) → Bool
-first_is wanted [] = false
-first_is wanted (line ∷ more) = bytes_eq line wanted
-
--- the lines behind the first
-abbrev pub behind_first : List (List ℕ) → List (List ℕ)
-behind_first [] = []
-behind_first (line ∷ more) = more
-
 -- what reading a journal text gives
 unfoldable pub entries_of : List ℕ → Result (List Entry) ScriptFault
-entries_of text =
-    if nat_lt TEXT_LIMIT (length text) then Err (fault_at 1 kind.TooLarge)
-    else (if first_is journal_header (lines_of text) then entries_from 2 (behind_first (lines_of text))
-    else Err (fault_at 1 kind.BadHeader))
+entries_of text = behind_header journal_header text >>= entries_from 2

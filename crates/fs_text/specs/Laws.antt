@@ -1,7 +1,7 @@
 -- What holds of the texts: laws, each proved as the contract of a function of the module `laws`.
 use Rattle.std.specs.Prelude.{◌≡◌, ◌≤◌, List, length, Ok}
 use Rattle.fs_timeline.specs.declared.entry.Entry.{Entry}
-use Rattle.fs_text.specs.declared.limits.TheConstants.{TEXT_LIMIT}
+use Rattle.fs_words.specs.declared.limits.TheConstants.{TEXT_LIMIT}
 use Rattle.fs_text.specs.Fits.{AllFit}
 use Rattle.fs_text.specs.Journal.{journal_text, entries_of}
 

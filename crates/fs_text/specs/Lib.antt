@@ -1,5 +1,3 @@
-pub mod Lines
-pub mod Words
 pub mod Calls
 pub mod Journal
 pub mod Fits

@@ -3,14 +3,14 @@
 ghost use Rattle.std.specs.Prelude.{◌≡◌, ◌∷◌, [], map, option_map};
 ghost use Rattle.fs_calls.specs.declared.call.Call.TheVariants.{Read, Write, Truncate};
 ghost use Rattle.fs_text.specs.Calls.{one_path, two_paths, a_number, two_numbers, number_and_bytes, a_number_at, arguments_at, call_of, form_of, argument_count, has_call_form};
-ghost use Rattle.fs_text.specs.code.Answers.{Gives};
+ghost use Rattle.fs_words.specs.code.Answers.{Gives};
 ghost use Rattle.fs_text.specs.code.Forms.{call_on, call_on_both, form_meant};
 
-use crate::fault::FaultKind;
-use crate::recent::Recent;
-use crate::words::{hex_at, number_at, path_with};
 use fs_calls::{Call, PairCall};
 use fs_names::Path;
+use fs_words::FaultKind;
+use fs_words::recent::Recent;
+use fs_words::words::{hex_at, number_at, path_with};
 use std::alloc::Global;
 
 /// The calls on one path.
@@ -89,7 +89,7 @@ fn call_on_at<'a>(
     }
 }
 
-#[tactic(auto, using(crate::proofs::ReadLemmas::fails_bind))]
+#[tactic(auto, using(fs_words::proofs::ReadLemmas::fails_bind))]
 fn call_on_both_at<'a>(
     alloc: Global,
     recent: &mut Recent<'a>,

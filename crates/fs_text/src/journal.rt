@@ -1,19 +1,17 @@
 //! Journals that are read from their text.
 
-ghost use Rattle.std.specs.Prelude.{◌≡◌, ◌≤◌, length, map};
-ghost use Rattle.fs_text.specs.Lines.{lines_of};
+ghost use Rattle.std.specs.Prelude.{◌≡◌, map};
 ghost use Rattle.fs_text.specs.Journal.{begin_at, begin_of, commit_of, return_of, entry_of, entry_in_line, entries_from, entries_of};
-ghost use Rattle.fs_text.specs.code.Answers.{Gives, GivesText};
+ghost use Rattle.fs_words.specs.code.Answers.{Gives, GivesText};
 
 use crate::calls::{call_with, has_call_form};
-use crate::fault::{FaultKind, ScriptFault};
-use crate::limits::TEXT_LIMIT;
-use crate::lines::{cut_line, cut_words, is_passed_over, push_item};
-use crate::recent::Recent;
 use crate::replies::reply_at;
-use crate::words::{is_word, number_at};
 use fs_names::{CallNo, SeatNo};
 use fs_timeline::Entry;
+use fs_words::lines::{cut_words, push_item};
+use fs_words::recent::Recent;
+use fs_words::words::{is_word, number_at};
+use fs_words::{FaultKind, Lines, ScriptFault};
 use std::alloc::Global;
 
 fn begin_at<'a>(
@@ -106,34 +104,33 @@ fn entry_in<'a>(
     entry_at(alloc, recent, words.as_slice())
 }
 
-/// The entries that lines spell, of which the first has the number 2.
-fn entries_in(alloc: Global, text: &[u8]) -> Result<Vec<Entry>, ScriptFault>
-    requires { length text.now ≤ TEXT_LIMIT }
-    ensures { GivesText (λ entries. entries.items) result (entries_from 2 (lines_of text.now)) }
+/// The entries that lines spell.
+fn entries_in(alloc: Global, lines: Lines<'_>) -> Result<Vec<Entry>, ScriptFault>
+    ensures { GivesText (λ entries. entries.items) result (entries_from lines.entry.number lines.entry.lines) }
 {
     let mut entries = Vec::new(alloc);
     let mut words = Vec::new(alloc);
     let mut recent = Recent::new(alloc);
-    let mut rest = text;
-    let mut number: u64 = 2;
-    'lines: while let Some((line, more)) = cut_line(rest) {
-        if is_passed_over(line) {
-            rest = more;
-            number += 1;
-            continue;
-        }
-        if is_word(line, b"tree") {
+    let mut left = lines;
+    'lines: while let Some(line) = left.next() {
+        if is_word(line.text, b"tree") {
             return Ok(entries);
         }
-        let entry = match entry_in(alloc, &mut recent, line, &mut words) {
+        let entry = match entry_in(alloc, &mut recent, line.text, &mut words) {
             Ok(entry) => entry,
-            Err(kind) => return Err(ScriptFault { line: number, kind }),
+            Err(kind) => {
+                return Err(ScriptFault {
+                    line: line.number,
+                    kind,
+                });
+            }
         };
         if let Err(kind) = push_item(&mut entries, entry) {
-            return Err(ScriptFault { line: number, kind });
+            return Err(ScriptFault {
+                line: line.number,
+                kind,
+            });
         }
-        rest = more;
-        number += 1;
     }
     Ok(entries)
 }
@@ -144,17 +141,5 @@ fn entries_in(alloc: Global, text: &[u8]) -> Result<Vec<Entry>, ScriptFault>
 pub fn read_entries(alloc: Global, text: &[u8]) -> Result<Vec<Entry>, ScriptFault>
     ensures { GivesText (λ entries. entries.items) result (entries_of text.now) }
 {
-    if text.len() > TEXT_LIMIT {
-        return Err(ScriptFault {
-            line: 1,
-            kind: FaultKind::TooLarge,
-        });
-    }
-    match cut_line(text) {
-        Some((first, rest)) if first == b"atomfs-journal 1".as_slice() => entries_in(alloc, rest),
-        _ => Err(ScriptFault {
-            line: 1,
-            kind: FaultKind::BadHeader,
-        }),
-    }
+    entries_in(alloc, Lines::behind_header(text, b"atomfs-journal 1")?)
 }

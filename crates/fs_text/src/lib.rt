@@ -10,24 +10,17 @@
 //! `specs/code/` has forms of contracts.
 #![tactic(auto)]
 
-pub mod addition;
 pub mod calls;
-mod digits;
-mod escaping;
 pub mod examples;
-pub mod fault;
 mod journal;
 pub mod laws;
-pub mod limits;
-pub mod lines;
-pub mod recent;
 mod replies;
 mod telling;
-pub mod words;
 mod writing;
 
-pub use addition::Addition;
-pub use fault::{FaultKind, ScriptFault};
+pub use fs_words::{
+    Addition, FaultKind, ScriptFault, addition, fault, limits, lines, recent, words,
+};
 pub use journal::read_entries;
 pub use telling::told_of_entries;
 pub use writing::{write_entry, write_reply};

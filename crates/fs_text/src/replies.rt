@@ -2,13 +2,13 @@
 
 ghost use Rattle.std.specs.Prelude.{◌≡◌, map};
 ghost use Rattle.fs_text.specs.Journal.{kind_named, errno_of, stated_at, stated_of, names_at, names_of, bytes_of, wrote_of, failed_of, done_of, reply_of};
-ghost use Rattle.fs_text.specs.code.Answers.{Gives};
+ghost use Rattle.fs_words.specs.code.Answers.{Gives};
 
-use crate::fault::FaultKind;
-use crate::lines::push_item;
-use crate::words::{hex_at, is_word, name_at, number_at};
 use fs_calls::{Errno, NameList, Reply};
 use fs_names::{Kind, Name};
+use fs_words::FaultKind;
+use fs_words::lines::push_item;
+use fs_words::words::{hex_at, is_word, name_at, number_at};
 use std::alloc::Global;
 
 fn kind_named(word: &[u8]) -> Option<Kind>

@@ -1,9 +1,11 @@
 //! What is told of entries by their types: that they keep the limits of texts.
 
 ghost use Rattle.std.specs.Prelude.{◌≡◌, ◌≤◌, length, Ok};
-ghost use Rattle.fs_text.specs.Fits.{AreBytes, IsU64, IsName, IsKey, FitsCall, FitsReply, FitsEntry, AllFit};
+ghost use Rattle.fs_names.specs.Names.{AreBytes, IsName};
+ghost use Rattle.fs_names.specs.Keys.{IsPath};
+ghost use Rattle.fs_text.specs.Fits.{IsU64, FitsCall, FitsReply, FitsEntry, AllFit};
 ghost use Rattle.fs_text.specs.Journal.{journal_text, entries_of};
-ghost use Rattle.fs_text.specs.declared.limits.TheConstants.{TEXT_LIMIT};
+ghost use Rattle.fs_words.specs.declared.limits.TheConstants.{TEXT_LIMIT};
 
 use fs_calls::{Call, Reply};
 use fs_names::{Name, Path};
@@ -24,11 +26,9 @@ fn told_of_name(name: &Name)
 }
 
 fn told_of_path(path: &Path)
-    ensures { IsKey path.now }
+    ensures { IsPath path.now }
 {
-    for i in 0..path.len() {
-        told_of_name(path.name(i));
-    }
+    let _names = path.len();
 }
 
 fn told_of_call(call: &Call)

@@ -2,42 +2,18 @@
 
 ghost use Rattle.std.specs.Prelude.{◌≡◌, ◌++◌, ◌∷◌, OnOk, OnErr};
 ghost use Rattle.std.specs.List.{flat_map, join_with_byte};
-ghost use Rattle.fs_text.specs.Words.{escaped, path_word};
+ghost use Rattle.fs_words.specs.Words.{escaped, path_word};
 ghost use Rattle.fs_text.specs.Calls.{call_words};
 ghost use Rattle.fs_calls.specs.declared.call.Call.TheVariants.{Read, Write};
 ghost use Rattle.fs_text.specs.Journal.{reply_words, entry_words, entry_line, kind_word, errno_word};
 
-use crate::addition::Addition;
 use fs_calls::{Call, Errno, Reply};
 use fs_names::{Kind, Name, Path};
 use fs_timeline::Entry;
+use fs_words::Addition;
+use fs_words::addition::put_back;
 use std::alloc::{AllocError, Global};
 use std::mem;
-
-/// A path name by name.
-fn push_steps(alloc: Global, path: &Path, line: &mut Addition) -> Result<(), AllocError>
-    ensures ok { OnOk result (line.new.added ≡ line.old.added ++ path_word path.now) }
-    ensures before { line.new.before ≡ line.old.before }
-{
-    if path.is_empty() {
-        return line.push(b"/");
-    }
-    for i in 0..path.len() {
-        line.push(b"/")?;
-        line.push_escaped(alloc, path.name(i).bytes())?;
-    }
-    Ok(())
-}
-
-fn push_path(alloc: Global, path: &Path, line: &mut Addition) -> Result<(), AllocError>
-    ensures ok { OnOk result (line.new.added ≡ line.old.added ++ path_word path.now) }
-    ensures before { line.new.before ≡ line.old.before }
-{
-    if line.push_plain(path)? {
-        return Ok(());
-    }
-    push_steps(alloc, path, line)
-}
 
 /// A word with its space, and a path behind it.
 fn push_with_path(
@@ -50,7 +26,7 @@ fn push_with_path(
     ensures before { line.new.before ≡ line.old.before }
 {
     line.push(word)?;
-    push_path(alloc, path, line)
+    line.push_path(alloc, path)
 }
 
 /// A word with its space, and two paths behind it.
@@ -207,28 +183,6 @@ fn push_entry(alloc: Global, entry: &Entry, line: &mut Addition) -> Result<(), A
         }
     }
     line.push(b"\n")
-}
-
-/// Puts a text back: with what was added behind it, or as it was where the addition failed.
-fn put_back(
-    added: Result<(), AllocError>,
-    line: Addition,
-    text: &mut Vec<u8>,
-) -> Result<(), AllocError>
-    ensures same { result ≡ added }
-    ensures ok { OnOk result (text.new.items ≡ line.before ++ line.added) }
-    ensures err { OnErr result (text.new.items ≡ line.before) }
-{
-    match added {
-        Ok(()) => {
-            *text = line.kept();
-            Ok(())
-        }
-        Err(error) => {
-            *text = line.taken_back();
-            Err(error)
-        }
-    }
 }
 
 /// Appends the line of an entry. An `Err`, which is out of memory, leaves the text as it was.

@@ -5,7 +5,7 @@ use Rattle.std.proofs.lemmas.List.Sums.{sum_by-cons}
 use Rattle.fs_calls.specs.declared.call.Call.{Call}
 use Rattle.fs_timeline.specs.declared.entry.Entry.{Entry}
 use Rattle.fs_timeline.specs.declared.entry.Entry.TheVariants.{Begin, Commit, Return}
-use Rattle.fs_text.specs.declared.fault.ScriptFault.{ScriptFault}
+use Rattle.fs_words.specs.declared.fault.ScriptFault.{ScriptFault}
 use Rattle.fs_script.specs.Script.{script_of}
 use Rattle.fs_script.specs.declared.script.Script.{Script}
 use Rattle.fs_sched.specs.Devices.{IsSameText}

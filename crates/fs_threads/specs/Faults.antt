@@ -1,7 +1,7 @@
 -- The faults of scripts on threads.
 use Rattle.std.specs.Prelude.{Result}
 use Rattle.fs_machine.specs.declared.answers.Refusal.TheVariants as refusal
-use Rattle.fs_text.specs.declared.fault.ScriptFault.{ScriptFault}
+use Rattle.fs_words.specs.declared.fault.ScriptFault.{ScriptFault}
 use Rattle.fs_sched.specs.Devices.{IsFaultOrRefusal}
 use Rattle.fs_sched.specs.declared.fault.RunFault.TheVariants as run
 use Rattle.fs_share.specs.declared.lists.ListsFault.{ListsFault}

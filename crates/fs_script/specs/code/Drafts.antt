@@ -1,11 +1,10 @@
 -- What the functions answer that read a script line by line.
 use Rattle.std.specs.Prelude.{◌≡◌, ℕ, Bool, true, false, List, [], ◌∷◌, ◌++◌, Result, Ok, Err}
-use Rattle.fs_text.specs.Words.{Word}
-use Rattle.fs_text.specs.Calls.{◌>>=◌}
-use Rattle.fs_text.specs.Journal.{words_of}
-use Rattle.fs_text.specs.declared.fault.ScriptFault.{ScriptFault}
-use Rattle.fs_text.specs.declared.fault.FaultKind.{FaultKind}
-use Rattle.fs_text.specs.declared.fault.FaultKind.TheVariants as kind
+use Rattle.fs_words.specs.Words.{Word}
+use Rattle.fs_words.specs.Reading.{◌>>=◌, words_of}
+use Rattle.fs_words.specs.declared.fault.ScriptFault.{ScriptFault}
+use Rattle.fs_words.specs.declared.fault.FaultKind.{FaultKind}
+use Rattle.fs_words.specs.declared.fault.FaultKind.TheVariants as kind
 use Rattle.fs_script.specs.Script.{block_line, blocks_from, schedule_line, schedule_from}
 use Rattle.fs_script.specs.declared.script.Script.{Script}
 

@@ -2,7 +2,7 @@ use Rattle.std.proofs.Common.{refl}
 use Rattle.fs_script.specs.Script.{script_of, blocks_from, schedule_from, block_line, schedule_word}
 use Rattle.fs_text.specs.Calls.{call_of}
 use Rattle.fs_names.specs.Reading.{reading}
-use Rattle.fs_text.specs.Words.{number_of, hex_of}
+use Rattle.fs_words.specs.Words.{number_of, hex_of}
 use Rattle.percent_encoding.proofs.OnLiterals.{percent_encoding_on_literals}
 use Rattle.hex.proofs.OnLiterals.{hex_on_literals}
 use Rattle.fs_script.proofs.examples.script_faults.Goals as goal

@@ -1,6 +1,6 @@
 use Rattle.std.proofs.Common.{refl}
 use Rattle.fs_script.specs.TreeText.{tree_text}
-use Rattle.fs_text.specs.Words.{escaped, hex_word}
+use Rattle.fs_words.specs.Words.{escaped, hex_word}
 use Rattle.percent_encoding.proofs.OnLiterals.{percent_encoding_on_literals}
 use Rattle.hex.proofs.OnLiterals.{hex_on_literals}
 use Rattle.fs_calls.specs.Tree.{look, inserted, removed, renamed}

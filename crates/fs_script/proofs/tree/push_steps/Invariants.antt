@@ -1,6 +1,6 @@
 use Rattle.std.proofs.Common.{◌≡◌, ◌++◌, ◌∷◌, take}
 use Rattle.std.specs.List.{flat_map}
-use Rattle.fs_text.specs.Words.{escaped}
+use Rattle.fs_words.specs.Words.{escaped}
 use Rattle.fs_script.proofs.tree.push_steps.Given as goal
 
 abbrev pub invariant-loop-step : goal.invariant-loop-step

@@ -1,5 +1,5 @@
 use Rattle.std.proofs.Common.{refl}
-use Rattle.fs_text.specs.Words.{number_of}
+use Rattle.fs_words.specs.Words.{number_of}
 use Rattle.fs_text.proofs.examples.numbers.Goals as goal
 
 pub returns : goal.returns

@@ -1,6 +1,6 @@
 use Rattle.std.proofs.Common.{◌≡◌, ◌-◌, length, drop}
 use Rattle.fs_text.specs.Journal.{names_at}
-use Rattle.fs_text.proofs.ReadLemmas.{with_front, words_in}
+use Rattle.fs_words.proofs.ReadLemmas.{with_front, words_in}
 use Rattle.fs_text.proofs.replies.names_at.Given as goal
 
 abbrev pub invariant-names : goal.invariant-names

@@ -1,5 +1,5 @@
 use Rattle.std.proofs.Common.{arith}
-use Rattle.fs_text.proofs.FitLemmas.{bytes_each}
+use Rattle.fs_names.proofs.ReadingLemmas.{bytes_each}
 use Rattle.fs_text.proofs.telling.told_of_bytes.Goals as goal
 
 pub returns : goal.returns

@@ -1,5 +1,5 @@
 use Rattle.std.proofs.Common.{rules, append_assoc, codes}
-use Rattle.fs_text.proofs.WordLemmas.{joined_by_spaces}
+use Rattle.fs_words.proofs.WordLemmas.{joined_by_spaces}
 use Rattle.fs_text.proofs.writing.push_reply.Goals as goal
 
 pub returns-in_ok-push-in-Names-clause-ok : goal.returns-in_ok-push-in-Names-clause-ok

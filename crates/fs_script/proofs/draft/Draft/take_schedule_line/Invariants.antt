@@ -1,6 +1,6 @@
 use Rattle.std.proofs.Common.{◌≡◌, ◌-◌, length, drop}
 use Rattle.fs_script.specs.Script.{schedule_line}
-use Rattle.fs_text.proofs.ReadLemmas.{words_in}
+use Rattle.fs_words.proofs.ReadLemmas.{words_in}
 use Rattle.fs_script.proofs.draft.Draft.take_schedule_line.Given as goal
 
 abbrev pub invariant-words : goal.invariant-words

@@ -1,0 +1,9 @@
+pub mod WordLemmas
+pub mod EscapeLemmas
+pub mod NumberLemmas
+pub mod WriteLemmas
+pub mod ReadLemmas
+pub mod PathLemmas
+pub mod DecimalLemmas
+pub mod DigitLemmas
+pub mod PlainLemmas

@@ -1,0 +1,188 @@
+-- A path that was written is read again.
+use Rattle.std.proofs.Common.{◌≡◌, ◌≢◌, ℕ, ◌+◌, ◌-◌, ◌<◌, ◌≤◌, Bool, true, false, not, ltb, eqb, List, [], ◌∷◌, ◌++◌, length, get_or, sym, refl, ap, ◌∙◌, append-nil, arith, ◌&&◌, None, Option, Ok, length-append, leb}
+use Rattle.std.specs.Prelude.{filter}
+use Rattle.std.specs.List.{All, AllByRecursion, list_any, list_all, slice_split}
+use Rattle.std.proofs.lemmas.List.Splits.{slice_split_at, slice_split_none}
+use Rattle.std.proofs.lemmas.List.Elements.{All-cons, All-nil, All-append, All-weaker, All-get_or, All-head, All-tail}
+use Rattle.std.proofs.lemmas.Bool.{and_parts, or_from, not-true, leb-true}
+use Rattle.std.proofs.lemmas.Bool.Decides.{nat_tests}
+use Rattle.std.proofs.lemmas.List.{get_or-append-add}
+use Rattle.fs_names.specs.Failures.{check, or_else}
+use Rattle.fs_names.specs.Names.{Name, can_name, may_stand, is_dots}
+use Rattle.fs_names.specs.Keys.{Key, names_text, path_text}
+use Rattle.fs_names.specs.Reading.{reading, if_sound, path_fault, names, has_names, has_bytes, is_slash, is_zero, first_fault, name_fault, ends_in_slash}
+use Rattle.fs_names.specs.declared.fault.PathFault.TheVariants.{Nul, NameTooLong, TooManyNames, Dot, TrailingSlash}
+use Rattle.fs_words.specs.Words.{path_word, path_of}
+use Rattle.fs_names.specs.Names.{AreBytes}
+use Rattle.fs_words.proofs.EscapeLemmas.{escape_again, IsWord_escaped}
+use Rattle.fs_words.proofs.WordLemmas.{IsWord}
+
+-- what the test of a name says
+pub record NameFacts (n : Name) : Type 0 where
+  pub some : 0 < length n
+  pub short : length n ≤ 32
+  pub clean : All (λ b. (b ≢ 47) × (b ≢ 0)) n
+  pub no_dot : is_dots n ≡ false
+
+clean_byte : (b : ℕ) → may_stand b ≡ true → (b ≢ 47) × (b ≢ 0)
+clean_byte b h =
+    let parts = and_parts (not (eqb b 0)) (not (eqb b 47)) h in
+    let no_zero : eqb b 0 ≡ false = not-true _ parts.0 in
+    let no_slash : eqb b 47 ≡ false = not-true _ parts.1 in
+    (grind (arith, nat_tests), grind (arith, nat_tests))
+
+clean_from_test : (n : Name) → list_all may_stand n ≡ true → All (λ b. (b ≢ 47) × (b ≢ 0)) n
+clean_from_test [] h = All-nil _
+clean_from_test (b ∷ bs) h =
+    let parts = and_parts (may_stand b) (list_all may_stand bs) h in
+    All-cons (λ x. (x ≢ 47) × (x ≢ 0)) b bs (clean_byte b parts.0) (clean_from_test bs parts.1)
+
+pub name_facts : (n : Name) → can_name n ≡ true → NameFacts n
+name_facts n h =
+    let p = and_parts _ _ h in
+    let q = and_parts _ _ p.0 in
+    let r = and_parts _ _ q.0 in
+    record {
+      some = leb-true 1 (length n) r.0;
+      short = leb-true (length n) 32 r.1;
+      clean = clean_from_test n q.1;
+      no_dot = not-true _ p.1;
+    }
+
+pub record KeyFacts (key : Key) : Type 0 where
+  pub few : length key ≤ 64
+  pub names : AllByRecursion NameFacts key
+  pub bytes : AllByRecursion AreBytes key
+
+not_slash : (b : ℕ) → (b ≢ 47) × (b ≢ 0) → is_slash b ≡ false
+not_slash b h = let no = h.0 in grind (arith, nat_tests)
+
+split_tail : (n : List ℕ) (ns : Key) → NameFacts n → AllByRecursion NameFacts ns → slice_split is_slash (n ++ names_text ns) ≡ n ∷ ns
+split_tail n [] f h = ap (slice_split is_slash) (append-nil n) ∙ slice_split_none is_slash n (All-weaker _ _ not_slash n f.clean)
+split_tail n (m ∷ ms) f h =
+    slice_split_at is_slash n 47 (m ++ names_text ms) (All-weaker _ _ not_slash n f.clean) refl
+    ∙ ap (λ t. n ∷ t) (split_tail m ms h.0 h.1)
+
+kept_names : (ns : Key) → AllByRecursion NameFacts ns → filter has_bytes ns ≡ ns
+kept_names [] h = refl
+kept_names ([] ∷ ns) h = let some : 0 < 0 = h.0.some in absurd (omega (arith, some))
+kept_names ((b ∷ bs) ∷ ns) h = ap (λ t. (b ∷ bs) ∷ t) (kept_names ns h.1)
+
+names_again : (n : Name) (ns : Key) → NameFacts n → AllByRecursion NameFacts ns → names (names_text (n ∷ ns)) ≡ n ∷ ns
+names_again n ns f h = ap (filter has_bytes) (split_tail n ns f h) ∙ kept_names (n ∷ ns) (f, h)
+
+not_many : (count : ℕ) → count < 64 → leb 64 count ≡ false
+not_many count h = grind (arith, nat_tests)
+
+not_long : (n : List ℕ) → length n ≤ 32 → ltb 32 (length n) ≡ false
+not_long n h = grind (arith, nat_tests)
+
+not_on : {F : Type 0} (b : Bool) (f : F) → b ≡ false → check b f ≡ None
+not_on b f e = ap (λ t. check t f) e
+
+-- no check fails
+none_fails : {F : Type 0} (a b : Option F) → a ≡ None → b ≡ None → or_else a b ≡ None
+none_fails a b e f = ap (λ t. or_else t b) e ∙ f
+
+no_fault : (count : ℕ) (ns : Key) → AllByRecursion NameFacts ns → count + length ns ≤ 64 → first_fault count ns ≡ None
+no_fault count [] h few = refl
+no_fault count (n ∷ ns) h few =
+    none_fails (name_fault count n) (first_fault (count + 1) ns)
+    (none_fails (check (leb 64 count) TooManyNames) _ (not_on _ TooManyNames (not_many count (omega arith)))
+    (none_fails (check (ltb 32 (length n)) NameTooLong) _ (not_on _ NameTooLong (not_long n h.0.short))
+    (none_fails (check (is_dots n) Dot) None (not_on _ Dot h.0.no_dot) refl)))
+    (no_fault (count + 1) ns h.1 (omega arith))
+
+not_zero : (b : ℕ) → b ≢ 0 → eqb b 0 ≡ false
+not_zero b h = grind (arith, nat_tests)
+
+-- no zero byte
+none_zero : (bs : List ℕ) → All (λ b. b ≢ 0) bs → list_any is_zero bs ≡ false
+none_zero [] h = refl
+none_zero (b ∷ bs) h = or_from _ _ (not_zero b (All-head (λ x. x ≢ 0) b bs h)) (none_zero bs (All-tail (λ x. x ≢ 0) b bs h))
+
+tail_clean : (n : List ℕ) (ns : Key) → NameFacts n → AllByRecursion NameFacts ns → All (λ b. b ≢ 0) (n ++ names_text ns)
+tail_clean n [] f h = All-append (λ b. b ≢ 0) n [] (All-weaker (λ b. (b ≢ 47) × (b ≢ 0)) (λ b. b ≢ 0) (λ b p. p.1) n f.clean) (All-nil (λ b. b ≢ 0))
+tail_clean n (m ∷ ms) f h =
+    All-append (λ b. b ≢ 0) n (47 ∷ (m ++ names_text ms)) (All-weaker (λ b. (b ≢ 47) × (b ≢ 0)) (λ b. b ≢ 0) (λ b p. p.1) n f.clean)
+    (All-cons (λ b. b ≢ 0) 47 (m ++ names_text ms) (omega arith) (tail_clean m ms h.0 h.1))
+
+last_of : List ℕ → ℕ
+last_of bs = get_or bs (length bs - 1) 0
+
+last_behind : (xs ys : List ℕ) → 0 < length ys → last_of (xs ++ ys) ≡ last_of ys
+unfolding last_of
+last_behind xs ys some =
+    let place : length (xs ++ ys) - 1 ≡ length xs + (length ys - 1) = omega (arith, length-append xs ys) in
+    ap (λ k. get_or (xs ++ ys) k 0) place ∙ get_or-append-add xs ys (length ys - 1) 0
+
+some_tail : (n : List ℕ) (ns : Key) → 0 < length n → 0 < length (n ++ names_text ns)
+some_tail n ns h = omega (arith, length-append n (names_text ns))
+
+last_not_slash : (n : List ℕ) (ns : Key) → NameFacts n → AllByRecursion NameFacts ns → last_of (n ++ names_text ns) ≢ 47
+unfolding last_of
+last_not_slash n [] f h = rw (append-nil n) (All-get_or (λ b. (b ≢ 47) × (b ≢ 0)) n (length n - 1) 0 (omega (arith, f.some)) f.clean).0
+last_not_slash n (m ∷ ms) f h = λ e. last_not_slash m ms h.0 h.1
+    (sym (last_behind (47 ∷ []) (m ++ names_text ms) (some_tail m ms h.0.some))
+    ∙ sym (last_behind n (47 ∷ (m ++ names_text ms)) (omega arith)) ∙ e)
+
+is_not : (a b : ℕ) → (a ≢ b) → eqb a b ≡ false
+is_not a b h = grind (arith, nat_tests)
+
+no_end_slash : (n : List ℕ) (ns : Key) → NameFacts n → AllByRecursion NameFacts ns → ends_in_slash (names_text (n ∷ ns)) ≡ false
+unfolding last_of
+no_end_slash n ns f h =
+    is_not (last_of (47 ∷ (n ++ names_text ns))) 47
+    (λ e. last_not_slash n ns f h (sym (last_behind (47 ∷ []) (n ++ names_text ns) (some_tail n ns f.some)) ∙ e))
+
+and_no : (a b : Bool) → b ≡ false → (a && b) ≡ false
+and_no true b e = e
+and_no false b e = refl
+
+some_right : (n : Name) (ns : Key) → KeyFacts (n ∷ ns) → path_fault (names_text (n ∷ ns)) ≡ None
+some_right n ns h =
+    let bytes = names_text (n ∷ ns) in
+    let again = names_again n ns h.names.0 h.names.1 in
+    let clean : list_any is_zero bytes ≡ false = none_zero (n ++ names_text ns) (tail_clean n ns h.names.0 h.names.1) in
+    let good : first_fault 0 (names bytes) ≡ None = ap (first_fault 0) again ∙ no_fault 0 (n ∷ ns) h.names (omega (arith, h.few)) in
+    none_fails (check (list_any is_zero bytes) Nul) _ (not_on _ Nul clean)
+    (none_fails (first_fault 0 (names bytes)) _ good
+    (none_fails (check (has_names (names bytes) && ends_in_slash bytes) TrailingSlash) None (not_on _ TrailingSlash (and_no _ _ (no_end_slash n ns h.names.0 h.names.1))) refl))
+
+parse_some : (n : Name) (ns : Key) → KeyFacts (n ∷ ns) → reading (path_text (n ∷ ns)) ≡ Ok (n ∷ ns)
+unfolding reading
+parse_some n ns h =
+    ap (λ f. if_sound f (names (names_text (n ∷ ns)))) (some_right n ns h) ∙ ap Ok (names_again n ns h.names.0 h.names.1)
+
+parse_nil : reading (path_text []) ≡ Ok []
+unfolding reading
+parse_nil = refl
+
+-- what a path spells is read as that path
+pub parse_again : (key : Key) → KeyFacts key → reading (path_text key) ≡ Ok key
+parse_again [] h = parse_nil
+parse_again (n ∷ ns) h = parse_some n ns h
+
+-- ---- the word of a path
+
+append_bytes : (xs ys : List ℕ) → AreBytes xs → AreBytes ys → AreBytes (xs ++ ys)
+append_bytes [] ys p q = q
+append_bytes (x ∷ xs) ys p q = (p.0, append_bytes xs ys p.1 q)
+
+bytes_of_tail : (ns : Key) → AllByRecursion AreBytes ns → AreBytes (names_text ns)
+bytes_of_tail [] h = tt
+bytes_of_tail (n ∷ ns) h = (omega arith, append_bytes n (names_text ns) h.0 (bytes_of_tail ns h.1))
+
+bytes_of_path : (key : Key) → AllByRecursion AreBytes key → AreBytes (path_text key)
+bytes_of_path [] h = (omega arith, tt)
+bytes_of_path (n ∷ ns) h = bytes_of_tail (n ∷ ns) h
+
+pub path_again : (key : Key) → KeyFacts key → path_of (path_word key) ≡ Ok key
+path_again key h = ap reading (escape_again (path_text key) (bytes_of_path key h.bytes)) ∙ parse_again key h
+
+some_path : (key : Key) → 0 < length (path_text key)
+some_path [] = omega arith
+some_path (n ∷ ns) = omega arith
+
+pub IsWord_path : (key : Key) → IsWord (path_word key)
+IsWord_path key = IsWord_escaped (path_text key) (some_path key)

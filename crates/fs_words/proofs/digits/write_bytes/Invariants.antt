@@ -1,0 +1,8 @@
+use Rattle.std.proofs.Common.{◌≡◌, ◌*◌, take, drop}
+use Rattle.hex.specs.Hex.{decode_pairs}
+use Rattle.hex.proofs.Pairs.{prepend}
+use Rattle.fs_words.proofs.digits.write_bytes.Given as goal
+
+-- the bytes of the digits before these stand in the vector
+abbrev pub invariant-bytes : goal.invariant-bytes
+invariant-bytes l = decode_pairs 0 l.word ≡ prepend (take l.i l.bytes) (decode_pairs (2 * l.i) (drop (2 * l.i) l.word))
