@@ -234,7 +234,7 @@ class Faults(Page):
 
     def test_each_fault_has_a_row(self):
         """The faults that the sources name, with those of paths, are those of the page; and each has a row."""
-        kinds, paths = (re.findall(r'#\[error\("([A-Z]\w+)', source(name)) for name in ("fs_text/src/fault.rt", "fs_names/src/fault.rt"))
+        kinds, paths = (re.findall(r'#\[error\("([A-Z]\w+)', source(name)) for name in ("fs_words/src/fault.rt", "fs_names/src/fault.rt"))
         paths.remove(self.OF_NO_TEXT)
         means = {spans(fault)[0]: spans(meaning) for fault, meaning, _ in table(FORMATS, "Fault", "Means", "Line")}
         self.agrees("the table of faults", sorted(means), sorted([*kinds, *(f"BadPath {path}" for path in paths)]))
@@ -628,7 +628,7 @@ class Numbers(Sentences):
         self.agrees("embed/atomfs.h", number(re.search("#define ATOMFS_NODE_LIMIT (.*)", header)[1]), limits["NODE_LIMIT"])
 
     def test_limits_of_texts(self):
-        texts, scripts = constants("fs_text/src/limits.rt"), constants("fs_script/src/limits.rt")
+        texts, scripts = constants("fs_words/src/limits.rt"), constants("fs_script/src/limits.rt")
         draws, seeds = constants("fs_sched/src/schedule.rt"), constants("fs_sched/src/seeding.rt")
         events = scripts["EVENT_LIMIT"]
         sentences = (
