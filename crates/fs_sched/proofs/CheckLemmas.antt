@@ -32,9 +32,6 @@ pub known_verdict : (r : Option (List ℕ)) (text items : List ℕ) (given : Res
 known_verdict None text items given e s h = tt
 known_verdict (Some input) text items given e s h = sym (verdict_same items input s) ∙ sym (ap verdict_of e) ∙ h
 
-pub known_fault : (r : Option (List ℕ)) (text items : List ℕ) (fault : RunFault) (f : ScriptFault) → text ≡ items → IfSome r (IsSameText items) → IsFaultOf (verdict_of text) fault → fault ≡ Input f → IfSome r (λ input. verdict_of input ≡ Err f)
-known_fault r text items fault f e s h k = known_verdict r text items (Err f) e s (subst (IsFaultOf (verdict_of text)) k h)
-
 pub known_beginning : (r : Option (List ℕ)) (text items line : List ℕ) (v : Verdict) (old new : Option (List ℕ)) → text ≡ items → IfSome r (IsSameText items) → verdict_of text ≡ Ok v → line ≡ verdict_line v → WritesBeginning line old new
     → IfSome r (λ input. WritesBeginningOf verdict_line (verdict_of input) old new)
 known_beginning None text items line v old new e s h l w = tt

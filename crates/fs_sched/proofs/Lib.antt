@@ -1,4 +1,3 @@
-pub mod KnownLemmas
 pub mod CheckLemmas
 pub mod DrawLemmas
 pub mod DivisionLemmas
@@ -18,3 +17,4 @@ pub mod OverLemmas
 pub mod Asking
 pub mod Alone
 pub mod Marks
+pub mod Between

@@ -34,13 +34,6 @@ pub known_script : (r : Option (List ℕ)) (text items : List ℕ) (given : Resu
 known_script None text items given e s h = tt
 known_script (Some input) text items given e s h = sym (script_same items input s) ∙ sym (ap script_of e) ∙ h
 
-pub known_fault : (r : Option (List ℕ)) (text items : List ℕ) (fault : RunFault) (f : ScriptFault) → text ≡ items → IfSome r (IsSameText items) → IsFaultOrRefusal (script_of text) fault → fault ≡ Input f → IfSome r (λ input. script_of input ≡ Err f)
-known_fault r text items fault f e s h k = known_script r text items (Err f) e s (subst (IsFaultOrRefusal (script_of text)) k h)
-
 pub known_run : (r : Option (List ℕ)) (text items out : List ℕ) (schedule : Schedule) (end : RunEnd) → text ≡ items → IfSome r (IsSameText items) → IsRunOf schedule text end out → IfSome r (λ input. IsRunOf schedule input end out)
 known_run None text items out schedule end e s h = tt
 known_run (Some input) text items out schedule end e s h = (h.0, sym (script_same items input s) ∙ sym (ap script_of e) ∙ h.1, h.2)
-
--- a beginning of what was written is one of what was made
-pub begins_same : (written made : List ℕ) (old new : Option (List ℕ)) → written ≡ made → WritesBeginning written old new → WritesBeginning made old new
-begins_same written made old new e h = subst (λ (t : List ℕ). WritesBeginning t old new) e h

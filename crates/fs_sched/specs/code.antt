@@ -2,3 +2,4 @@
 pub mod Stages
 pub mod Counts
 pub mod Ahead
+pub mod Mades

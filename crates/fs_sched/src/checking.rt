@@ -8,12 +8,11 @@ ghost use Rattle.fs_text.specs.Journal.{entries_of};
 ghost use Rattle.fs_words.specs.declared.fault.ScriptFault.{ScriptFault};
 ghost use Rattle.fs_sched.specs.Checks.{is_lawful, verdict_line, verdict_of};
 ghost use Rattle.fs_sched.specs.Devices.{IsFaultOf, WritesBeginningOf};
+ghost use Rattle.fs_sched.specs.code.Mades.{IsJudged, MakesVerdict};
 
-use crate::device::{Sink, Source};
 use crate::fault::{RunFault, run_fault};
-use crate::sink::write_text;
-use crate::source::read_text;
 use crate::verdict_line::{is_lawful, verdict_line};
+use fs_io::{Made, Sink, Source, transform};
 use fs_journal::check;
 use fs_text::read_entries;
 use fs_timeline::{Entry, Verdict};
@@ -41,14 +40,26 @@ fn verdict_on(alloc: Global, entries: &[Entry]) -> Result<Verdict, RunFault>
     }
 }
 
-/// The verdict on a journal text, which is let go once it is read.
-fn check_text(alloc: Global, text: Vec<u8>) -> Result<Verdict, RunFault>
-    ensures ok { IfOk result (λ v. verdict_of text.items ≡ Ok v) }
-    ensures err { IfErr result (IsFaultOf (verdict_of text.items)) }
+/// The line of the verdict on entries, and whether they are lawful.
+fn judged(alloc: Global, entries: Vec<Entry>) -> Result<Made<bool>, RunFault>
+    ensures ok { IfOk result (IsJudged (verdict root_tree entries.items)) }
+    ensures err { IfErr result (λ fault. fault ≡ RunFault.OutOfMemory) }
+{
+    let verdict = verdict_on(alloc, &entries)?;
+    let end = is_lawful(&verdict);
+    match verdict_line(alloc, &verdict) {
+        Ok(text) => Ok(Made { text, end }),
+        Err(_) => Err(RunFault::OutOfMemory),
+    }
+}
+
+/// The same of a journal text, which is let go once it is read.
+fn check_text(alloc: Global, text: Vec<u8>) -> Result<Made<bool>, RunFault>
+    ensures { MakesVerdict text.items result }
 {
     let entries = entries_of(alloc, text.as_slice())?;
     drop(text);
-    verdict_on(alloc, &entries)
+    judged(alloc, entries)
 }
 
 /// The line of the verdict on a journal in memory, as `check_journal` writes it. The journal is read where it stands.
@@ -57,11 +68,8 @@ pub fn check_bytes(alloc: Global, journal: &[u8]) -> Result<Vec<u8>, RunFault>
     ensures fault { IfErr result (IsFaultOf (verdict_of journal.now)) }
 {
     let entries = entries_of(alloc, journal)?;
-    let verdict = verdict_on(alloc, &entries)?;
-    match verdict_line(alloc, &verdict) {
-        Ok(line) => Ok(line),
-        Err(_) => Err(RunFault::OutOfMemory),
-    }
+    let made = judged(alloc, entries)?;
+    Ok(made.text)
 }
 
 /// Reads a journal to its end and writes the verdict on it, in one line: `lawful`, or `fault` with the place of the
@@ -89,19 +97,13 @@ pub fn check_journal<R: Source, W: Sink>(
     ensures nothing { result ≢ Err RunFault.Write → OnErr result (writer.new ≡ writer.old) }
     ensures beginning { IsErrOf result RunFault.Write → IfSome (R.remaining reader.old) (λ input. WritesBeginningOf verdict_line (verdict_of input) (W.contents writer.old) (W.contents writer.new)) }
 {
-    let text = match read_text(alloc, reader) {
-        Ok(text) => text,
-        Err(fault) => return Err(fault),
-    };
-    let verdict = match check_text(alloc, text) {
-        Ok(verdict) => verdict,
-        Err(fault) => return Err(fault),
-    };
-    let Ok(line) = verdict_line(alloc, &verdict) else {
-        return Err(RunFault::OutOfMemory);
-    };
-    match write_text(writer, &line) {
-        Ok(()) => Ok(is_lawful(&verdict)),
-        Err(fault) => Err(fault),
-    }
+    let lawful = transform(
+        alloc,
+        reader,
+        writer,
+        |text| -> Result<Made<bool>, RunFault>
+            ensures { MakesVerdict text.items result }
+        { check_text(alloc, text) },
+    )?;
+    Ok(lawful)
 }

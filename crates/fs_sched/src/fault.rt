@@ -1,8 +1,9 @@
 //! Why a run ended without its whole text written.
 
 ghost use Rattle.std.specs.Prelude.{◌≡◌};
-ghost use Rattle.fs_sched.specs.Faults.{run_fault_of, status_of_fault};
+ghost use Rattle.fs_sched.specs.Faults.{run_fault_of, fault_between, status_of_fault};
 
+use fs_io::Failure;
 use fs_text::{FaultKind, ScriptFault};
 use thiserror::Error;
 
@@ -37,6 +38,20 @@ impl RunFault {
             RunFault::Input(_) => 3,
             RunFault::OutOfMemory | RunFault::Full => 4,
             RunFault::Read | RunFault::Write => 5,
+        }
+    }
+}
+
+/// The fault of a run between a reader and a writer.
+impl From<Failure<RunFault>> for RunFault {
+    ghost from_gives = { λ failure fault. fault ≡ fault_between failure };
+
+    fn from(failure: Failure<RunFault>) -> RunFault {
+        match failure {
+            Failure::Read => RunFault::Read,
+            Failure::Write => RunFault::Write,
+            Failure::OutOfMemory => RunFault::OutOfMemory,
+            Failure::Unmade(fault) => fault,
         }
     }
 }

@@ -13,7 +13,6 @@
 #![tactic(auto)]
 
 mod checking;
-pub mod device;
 mod fault;
 mod input;
 pub mod laws;
@@ -24,17 +23,15 @@ mod schedule;
 mod seats;
 mod seeding;
 mod sink;
-mod source;
 mod verdict_line;
 
 pub use checking::{check_bytes, check_journal};
-pub use device::{Device, Failed, Sink, Source};
 pub use fault::{RunFault, run_fault};
+pub use fs_io::{Device, Failed, Sink, Source, device};
 pub use run_texts::{EntryKind, number_of};
 pub use running::{RunEnd, run_bytes, run_script};
 pub use schedule::{DRAW_LIMIT, Draws, Schedule};
 pub use seats::Divisor;
 pub use seeding::{RUN_LIMIT, SEED_LIMIT, run_seeds};
 pub use sink::write_text;
-pub use source::read_text;
 pub use verdict_line::{is_lawful, push_verdict};

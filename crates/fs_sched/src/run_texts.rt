@@ -2,6 +2,7 @@
 
 ghost use Rattle.std.specs.Prelude.{◌≡◌, ◌++◌, OnOk, IfOk, decimal};
 ghost use Rattle.fs_nodes.specs.Stores.{graph_of};
+ghost use Rattle.fs_text.specs.Fits.{AllFit};
 ghost use Rattle.fs_text.specs.Journal.{journal_text};
 ghost use Rattle.fs_sched.specs.RunTexts.{is_of, number_of, counts_line, IsRunText};
 ghost use Rattle.fs_sched.specs.code.Counts.{AreCounts};
@@ -68,6 +69,7 @@ const LINE_ROOM: usize = 32;
 fn journal_text(alloc: Global, entries: &[Entry]) -> Result<CountedText, AllocError>
     ensures text { IfOk result (λ made. made.text.items ≡ journal_text entries.now) }
     ensures counts { IfOk result (λ made. AreCounts made.counts entries.now) }
+    ensures fit { OnOk result (AllFit entries.now) }
 {
     let mut text = Vec::from_slice(alloc, b"atomfs-journal 1\n")?;
     let _room = text.reserve(entries.len().saturating_mul(LINE_ROOM));
@@ -129,6 +131,7 @@ pub(crate) fn counted_text(
 ) -> Result<CountedText, AllocError>
     ensures text { IfOk result (λ made. IsRunText entries.now (graph_of store.now) made.text.items) }
     ensures counts { IfOk result (λ made. AreCounts made.counts entries.now) }
+    ensures fit { OnOk result (AllFit entries.now) }
 {
     let mut made = journal_text(alloc, entries)?;
     write_tree(alloc, store, &mut made.text)?;

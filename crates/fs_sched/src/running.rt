@@ -10,19 +10,17 @@ ghost use Rattle.fs_sched.specs.Devices.{IsFaultOf, IsFaultOrRefusal, WritesBegi
 ghost use Rattle.fs_sched.specs.Runs.{Runs, calls_in, end_of, IsOutput, IsRunOf, IsWhole, HasFinish, FillsUp, ReachesFull};
 ghost use Rattle.fs_sched.specs.EachRun.{AreOfTheRun, RunsAreReadAgain, EachIsReadAgain};
 ghost use Rattle.fs_sched.specs.code.Counts.{AreCounts};
+ghost use Rattle.fs_sched.specs.code.Mades.{MakesRun};
 ghost use Rattle.fs_sched.specs.code.Stages.{stage_of, IsRefusal};
 
-use crate::device::{Sink, Source};
 use crate::fault::RunFault;
 use crate::input::script_in;
 use crate::play::Play;
 use crate::run_texts::{Counts, counted_text};
 use crate::schedule::Schedule;
-use crate::sink::write_text;
-use crate::source::read_text;
 use fs_calls::Call;
+use fs_io::{Made, Sink, Source, transform};
 use fs_script::Script;
-use fs_text::told_of_entries;
 use std::alloc::Global;
 
 /// How a run ended: how many calls began, took their place and returned, of how many calls of the script.
@@ -32,13 +30,6 @@ pub struct RunEnd {
     pub committed: usize,
     pub returned: usize,
     pub calls: usize,
-}
-
-/// The text of a run, and how it ended.
-#[derive(Drop)]
-struct MadeText {
-    text: Vec<u8>,
-    end: RunEnd,
 }
 
 /// How many calls the lists have.
@@ -82,7 +73,7 @@ pub(crate) fn play(alloc: Global, script: &Script, schedule: Schedule) -> Result
 }
 
 /// The text of a run of a script, and how it ended. The script is let go before the text is made.
-fn make_text(alloc: Global, script: Script, schedule: Schedule) -> Result<MadeText, RunFault>
+fn make_text(alloc: Global, script: Script, schedule: Schedule) -> Result<Made<RunEnd>, RunFault>
     ensures output { IfOk result (λ made. IsOutput schedule script made.end made.text.items) }
     ensures again { OnOk result (RunsAreReadAgain schedule script) }
     ensures fault { IfErr result IsRefusal }
@@ -94,12 +85,8 @@ fn make_text(alloc: Global, script: Script, schedule: Schedule) -> Result<MadeTe
     };
     let calls = count_calls(script.lists.as_slice());
     drop(script);
-    let entries = play.core.timeline();
-
-    // By their types the entries are such as a journal is read again with.
-    told_of_entries(entries);
-    match counted_text(alloc, entries, play.core.store()) {
-        Ok(made) => Ok(MadeText {
+    match counted_text(alloc, play.core.timeline(), play.core.store()) {
+        Ok(made) => Ok(Made {
             text: made.text,
             end: end_of(calls, made.counts),
         }),
@@ -108,11 +95,12 @@ fn make_text(alloc: Global, script: Script, schedule: Schedule) -> Result<MadeTe
 }
 
 /// The same of the script that a text has, which is let go once it is read.
-fn text_of_script(alloc: Global, text: Vec<u8>, schedule: Schedule) -> Result<MadeText, RunFault>
-    ensures output { IfOk result (λ made. IsRunOf schedule text.items made.end made.text.items) }
-    ensures again { OnOk result (EachIsReadAgain schedule text.items) }
-    ensures fault { IfErr result (IsFaultOrRefusal (script_of text.items)) }
-    ensures full { IsErrOf result RunFault.Full → ReachesFull schedule text.items }
+fn text_of_script(
+    alloc: Global,
+    text: Vec<u8>,
+    schedule: Schedule,
+) -> Result<Made<RunEnd>, RunFault>
+    ensures { MakesRun schedule text.items result }
 {
     let script = script_in(alloc, text.as_slice())?;
     drop(text);
@@ -168,16 +156,13 @@ pub fn run_script<R: Source, W: Sink>(
     ensures nothing { result ≢ Err RunFault.Write → OnErr result (writer.new ≡ writer.old) }
     ensures beginning { IsErrOf result RunFault.Write → (end : RunEnd) × (text : List ℕ) × IfSome (R.remaining reader.old) (λ input. AreOfTheRun schedule input end text) × WritesBeginning text (W.contents writer.old) (W.contents writer.new) }
 {
-    let text = match read_text(alloc, reader) {
-        Ok(text) => text,
-        Err(fault) => return Err(fault),
-    };
-    let made = match text_of_script(alloc, text, schedule) {
-        Ok(made) => made,
-        Err(fault) => return Err(fault),
-    };
-    match write_text(writer, &made.text) {
-        Ok(()) => Ok(made.end),
-        Err(fault) => Err(fault),
-    }
+    let end = transform(
+        alloc,
+        reader,
+        writer,
+        |text| -> Result<Made<RunEnd>, RunFault>
+            ensures { MakesRun schedule text.items result }
+        { text_of_script(alloc, text, schedule) },
+    )?;
+    Ok(end)
 }

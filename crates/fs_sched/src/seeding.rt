@@ -7,16 +7,15 @@ ghost use Rattle.fs_script.specs.Script.{script_of};
 ghost use Rattle.fs_sched.specs.Devices.{IsFaultOrRefusal, WritesBeginning};
 ghost use Rattle.fs_sched.specs.Runs.{FillsUp};
 ghost use Rattle.fs_sched.specs.Seeds.{seed_line, lawful_line, IsLawfulFrom, AreLawful, AreRunsOf, OneFillsUp, OneReachesFull};
+ghost use Rattle.fs_sched.specs.code.Mades.{MakesRuns};
 ghost use Rattle.fs_sched.specs.code.Stages.{IsRefusal};
 
-use crate::device::{Sink, Source};
 use crate::fault::RunFault;
 use crate::input::script_in;
 use crate::running::play;
 use crate::schedule::Schedule;
-use crate::sink::write_text;
-use crate::source::read_text;
 use crate::verdict_line::{is_lawful, push_verdict};
+use fs_io::{Made, Sink, Source, transform};
 use fs_journal::check;
 use fs_script::Script;
 use fs_text::Addition;
@@ -28,13 +27,6 @@ pub const SEED_LIMIT: u64 = 9_223_372_036_854_775_807;
 
 /// The most runs that are drawn.
 pub const RUN_LIMIT: u64 = 10_000;
-
-/// The lines of runs, and whether each says that its run is lawful.
-#[derive(Drop)]
-struct MadeLines {
-    text: Vec<u8>,
-    lawful: bool,
-}
 
 fn push_line(seed: u64, verdict: &Verdict, lines: &mut Addition) -> Result<(), AllocError>
     ensures ok { OnOk result (lines.new.added ≡ lines.old.added ++ seed_line seed verdict.now) }
@@ -74,12 +66,12 @@ fn push_run(
     }
 }
 
-/// The lines of so many runs, drawn from a number, the next one, and so on.
-fn make_lines(alloc: Global, script: &Script, seed: u64, runs: u64) -> Result<MadeLines, RunFault>
+/// The lines of so many runs, drawn from a number, the next one, and so on, and whether each says that its run is lawful.
+fn make_lines(alloc: Global, script: &Script, seed: u64, runs: u64) -> Result<Made<bool>, RunFault>
     requires seed { seed ≤ SEED_LIMIT }
     requires runs { runs ≤ RUN_LIMIT }
     ensures ok { IfOk result (λ made. AreLawful script.now seed runs made.text.items) }
-    ensures lawful { IfOk result (λ made. made.lawful ≡ true) }
+    ensures lawful { IfOk result (λ made. made.end ≡ true) }
     ensures fault { IfErr result IsRefusal }
     ensures full { IsErrOf result RunFault.Full → OneFillsUp script.now seed runs }
 {
@@ -91,9 +83,9 @@ fn make_lines(alloc: Global, script: &Script, seed: u64, runs: u64) -> Result<Ma
             Err(fault) => return Err(fault),
         }
     }
-    Ok(MadeLines {
+    Ok(Made {
         text: lines.kept(),
-        lawful,
+        end: lawful,
     })
 }
 
@@ -103,13 +95,10 @@ fn lines_of_script(
     text: Vec<u8>,
     seed: u64,
     runs: u64,
-) -> Result<MadeLines, RunFault>
+) -> Result<Made<bool>, RunFault>
     requires seed { seed ≤ SEED_LIMIT }
     requires runs { runs ≤ RUN_LIMIT }
-    ensures ok { IfOk result (λ made. AreRunsOf seed runs text.items made.text.items) }
-    ensures lawful { IfOk result (λ made. made.lawful ≡ true) }
-    ensures fault { IfErr result (IsFaultOrRefusal (script_of text.items)) }
-    ensures full { IsErrOf result RunFault.Full → OneReachesFull seed runs text.items }
+    ensures { MakesRuns seed runs text.items result }
 {
     let script = script_in(alloc, text.as_slice())?;
     drop(text);
@@ -147,16 +136,13 @@ pub fn run_seeds<R: Source, W: Sink>(
     ensures nothing { result ≢ Err RunFault.Write → OnErr result (writer.new ≡ writer.old) }
     ensures beginning { IsErrOf result RunFault.Write → (text : List ℕ) × IfSome (R.remaining reader.old) (λ input. AreRunsOf seed runs input text) × WritesBeginning text (W.contents writer.old) (W.contents writer.new) }
 {
-    let text = match read_text(alloc, reader) {
-        Ok(text) => text,
-        Err(fault) => return Err(fault),
-    };
-    let made = match lines_of_script(alloc, text, seed, runs) {
-        Ok(made) => made,
-        Err(fault) => return Err(fault),
-    };
-    match write_text(writer, &made.text) {
-        Ok(()) => Ok(made.lawful),
-        Err(fault) => Err(fault),
-    }
+    let lawful = transform(
+        alloc,
+        reader,
+        writer,
+        |text| -> Result<Made<bool>, RunFault>
+            ensures { MakesRuns seed runs text.items result }
+        { lines_of_script(alloc, text, seed, runs) },
+    )?;
+    Ok(lawful)
 }

@@ -1,11 +1,11 @@
 //! A whole text that is written to a sink.
 
-ghost use Rattle.std.specs.Prelude.{◌≡◌, ◌+◌, ◌-◌, ◌<◌, ◌^◌, ℕ, length, take, OnOk, OnErr, IfErr};
+ghost use Rattle.std.specs.Prelude.{◌≡◌, ◌+◌, ◌-◌, ◌<◌, ◌^◌, ℕ, OnOk, OnErr, IfErr};
 ghost use Rattle.std.specs.Io.KnownBytes.{Appends};
 ghost use Rattle.fs_sched.specs.Devices.{WritesBeginning};
 
-use crate::device::Sink;
 use crate::fault::RunFault;
+use fs_io::Sink;
 
 /// Writes the whole text, piece by piece. After an `Err` a beginning of it was written, and no write is tried again.
 pub fn write_text<W: Sink>(writer: &mut W, text: &[u8]) -> Result<(), RunFault>
@@ -15,12 +15,8 @@ pub fn write_text<W: Sink>(writer: &mut W, text: &[u8]) -> Result<(), RunFault>
     ensures fault { IfErr result (λ e. e ≡ RunFault.Write) }
     ensures failed { OnErr result (W.failures writer.new ≡ W.failures writer.old + 1) }
 {
-    let mut at = 0;
-    while at < text.len() {
-        match writer.write(&text[at..]) {
-            Ok(count) => at += count,
-            Err(_) => return Err(RunFault::Write),
-        }
+    match fs_io::write_text(writer, text) {
+        Ok(()) => Ok(()),
+        Err(_) => Err(RunFault::Write),
     }
-    Ok(())
 }

@@ -3,7 +3,7 @@
 //! `read_entries` answers what a journal says by the grammar, or its first fault from the left with its line.
 //! `write_entry` appends the line of an entry, and `write_reply` the words of a reply; each leaves the text as it was if
 //! it fails. The law `laws::reads_back` says that entries which were written behind the header line are read again as the
-//! same entries, and `told_of_entries` that this is said of all that a program has. Reading trusts nothing about a text.
+//! same entries, and `write_entry` that this is said of each entry that it writes. Reading trusts nothing about a text.
 //!
 //! Enter at `read_entries` and `write_entry`. The grammar is in `specs/`, as functions on lists of bytes: `Lines`,
 //! `Words`, `Calls`, `Journal`; `docs/FORMATS.md` has it in words. `Fits` says which entries are read back;
@@ -15,12 +15,10 @@ pub mod examples;
 mod journal;
 pub mod laws;
 mod replies;
-mod telling;
 mod writing;
 
 pub use fs_words::{
     Addition, FaultKind, ScriptFault, addition, fault, limits, lines, recent, words,
 };
 pub use journal::read_entries;
-pub use telling::told_of_entries;
 pub use writing::{write_entry, write_reply};

@@ -1,9 +1,12 @@
 //! Entries as lines of a text.
 
 ghost use Rattle.std.specs.Prelude.{◌≡◌, ◌++◌, ◌∷◌, OnOk, OnErr};
-ghost use Rattle.std.specs.List.{flat_map, join_with_byte};
+ghost use Rattle.std.specs.List.{AllByRecursion, flat_map, join_with_byte};
+ghost use Rattle.fs_names.specs.Names.{IsName};
+ghost use Rattle.fs_names.specs.Keys.{IsPath};
 ghost use Rattle.fs_words.specs.Words.{escaped, path_word};
 ghost use Rattle.fs_text.specs.Calls.{call_words};
+ghost use Rattle.fs_text.specs.Fits.{FitsCall, FitsReply, FitsEntry};
 ghost use Rattle.fs_calls.specs.declared.call.Call.TheVariants.{Read, Write};
 ghost use Rattle.fs_text.specs.Journal.{reply_words, entry_words, entry_line, kind_word, errno_word};
 
@@ -23,6 +26,7 @@ fn push_with_path(
     line: &mut Addition,
 ) -> Result<(), AllocError>
     ensures ok { OnOk result (line.new.added ≡ line.old.added ++ word.now ++ path_word path.now) }
+    ensures path { OnOk result (IsPath path.now) }
     ensures before { line.new.before ≡ line.old.before }
 {
     line.push(word)?;
@@ -38,6 +42,7 @@ fn push_with_paths(
     line: &mut Addition,
 ) -> Result<(), AllocError>
     ensures ok { OnOk result (line.new.added ≡ line.old.added ++ word.now ++ path_word path.now ++ 32 ∷ path_word other.now) }
+    ensures paths { OnOk result (IsPath path.now × IsPath other.now) }
     ensures before { line.new.before ≡ line.old.before }
 {
     push_with_path(alloc, word, path, line)?;
@@ -46,6 +51,7 @@ fn push_with_paths(
 
 fn push_call(alloc: Global, call: &Call, line: &mut Addition) -> Result<(), AllocError>
     ensures ok { OnOk result (line.new.added ≡ line.old.added ++ join_with_byte 32 (call_words call.now)) }
+    ensures fits { OnOk result (FitsCall call.now) }
     ensures before { line.new.before ≡ line.old.before }
 {
     match call {
@@ -74,6 +80,7 @@ fn push_read(
     line: &mut Addition,
 ) -> Result<(), AllocError>
     ensures ok { OnOk result (line.new.added ≡ line.old.added ++ join_with_byte 32 (call_words (Read path.now off count))) }
+    ensures fits { OnOk result (FitsCall (Read path.now off count)) }
     ensures before { line.new.before ≡ line.old.before }
 {
     push_with_path(alloc, b"read ", path, line)?;
@@ -89,6 +96,7 @@ fn push_write(
     line: &mut Addition,
 ) -> Result<(), AllocError>
     ensures ok { OnOk result (line.new.added ≡ line.old.added ++ join_with_byte 32 (call_words (Write path.now off bytes.now))) }
+    ensures fits { OnOk result (FitsCall (Write path.now off bytes.now)) }
     ensures before { line.new.before ≡ line.old.before }
 {
     push_with_path(alloc, b"write ", path, line)?;
@@ -126,6 +134,7 @@ fn errno_text(errno: Errno) -> &'static [u8]
 /// Each name behind a space.
 fn push_names(alloc: Global, names: &[Name], line: &mut Addition) -> Result<(), AllocError>
     ensures ok { OnOk result (line.new.added ≡ line.old.added ++ flat_map (λ n. 32 ∷ escaped n) names.now) }
+    ensures fits { OnOk result (AllByRecursion IsName names.now) }
     ensures before { line.new.before ≡ line.old.before }
 {
     for name in names {
@@ -137,6 +146,7 @@ fn push_names(alloc: Global, names: &[Name], line: &mut Addition) -> Result<(), 
 
 fn push_reply(alloc: Global, reply: &Reply, line: &mut Addition) -> Result<(), AllocError>
     ensures ok { OnOk result (line.new.added ≡ line.old.added ++ join_with_byte 32 (reply_words reply.now)) }
+    ensures fits { OnOk result (FitsReply reply.now) }
     ensures before { line.new.before ≡ line.old.before }
 {
     match reply {
@@ -164,6 +174,7 @@ fn push_reply(alloc: Global, reply: &Reply, line: &mut Addition) -> Result<(), A
 
 fn push_entry(alloc: Global, entry: &Entry, line: &mut Addition) -> Result<(), AllocError>
     ensures ok { OnOk result (line.new.added ≡ line.old.added ++ entry_line entry.now) }
+    ensures fits { OnOk result (FitsEntry entry.now) }
     ensures before { line.new.before ≡ line.old.before }
 {
     match entry {
@@ -185,10 +196,12 @@ fn push_entry(alloc: Global, entry: &Entry, line: &mut Addition) -> Result<(), A
     line.push(b"\n")
 }
 
-/// Appends the line of an entry. An `Err`, which is out of memory, leaves the text as it was.
+/// Appends the line of an entry, which fits: it is read back as the same entry. An `Err`, which is out of memory, leaves
+/// the text as it was.
 pub fn write_entry(alloc: Global, entry: &Entry, text: &mut Vec<u8>) -> Result<(), AllocError>
     ensures ok { OnOk result (text.new.items ≡ text.old.items ++ entry_line entry.now) }
     ensures err { OnErr result (text.new.items ≡ text.old.items) }
+    ensures fits { OnOk result (FitsEntry entry.now) }
 {
     let mut line = Addition::new(mem::replace(text, Vec::new(alloc)));
     let added = push_entry(alloc, entry, &mut line);

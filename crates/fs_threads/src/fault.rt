@@ -1,9 +1,10 @@
 //! Why a script's threads ended without their line written.
 
 ghost use Rattle.std.specs.Prelude.{◌≡◌};
-ghost use Rattle.fs_threads.specs.Faults.{threads_fault_of};
+ghost use Rattle.fs_threads.specs.Faults.{threads_fault_of, fault_between};
 
 use fs_core::Refusal;
+use fs_io::Failure;
 use fs_sched::RunFault;
 use fs_share::ListsFault;
 use thiserror::Error;
@@ -18,6 +19,20 @@ pub enum ThreadsFault {
     /// A worker could not be started, or its seat was taken.
     #[error("no worker")]
     Lists(ListsFault),
+}
+
+/// The fault of threads between a reader and a writer.
+impl From<Failure<ThreadsFault>> for ThreadsFault {
+    ghost from_gives = { λ failure fault. fault ≡ fault_between failure };
+
+    fn from(failure: Failure<ThreadsFault>) -> ThreadsFault {
+        match failure {
+            Failure::Read => ThreadsFault::Run(RunFault::Read),
+            Failure::Write => ThreadsFault::Run(RunFault::Write),
+            Failure::OutOfMemory => ThreadsFault::Run(RunFault::OutOfMemory),
+            Failure::Unmade(fault) => fault,
+        }
+    }
 }
 
 /// The fault of threads whose lists were not played to their end.

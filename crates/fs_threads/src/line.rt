@@ -5,19 +5,13 @@ ghost use Rattle.fs_timeline.specs.Timeline.{IsLawful};
 ghost use Rattle.fs_sched.specs.RunTexts.{number_of};
 ghost use Rattle.fs_threads.specs.Lines.{lawful_line, line_of};
 
+use fs_io::Made;
 use fs_journal::check_on;
 use fs_sched::{EntryKind, is_lawful, number_of, push_verdict};
 use fs_seq::SeqTree;
 use fs_text::Addition;
 use fs_timeline::{Entry, Verdict};
 use std::alloc::{AllocError, Global};
-
-/// A line, and whether it says that the timeline is lawful.
-#[derive(Drop)]
-pub(crate) struct MadeLine {
-    pub text: Vec<u8>,
-    pub lawful: bool,
-}
 
 fn push_line(returned: usize, verdict: &Verdict, line: &mut Addition) -> Result<(), AllocError>
     ensures ok { OnOk result (line.new.added ≡ line.old.added ++ line_of returned verdict.now) }
@@ -33,21 +27,21 @@ fn push_line(returned: usize, verdict: &Verdict, line: &mut Addition) -> Result<
     }
 }
 
-/// The line of a timeline that is lawful from a start tree. The only error is out of memory.
+/// The line of a timeline that is lawful from a start tree, and whether it says so. The only error is out of memory.
 pub(crate) fn make_line(
     alloc: Global,
     start: SeqTree,
     entries: &[Entry],
-) -> Result<MadeLine, AllocError>
+) -> Result<Made<bool>, AllocError>
     requires { IsLawful start entries.now }
     ensures text { IfOk result (λ made. made.text.items ≡ lawful_line (number_of EntryKind.Return entries.now)) }
-    ensures lawful { IfOk result (λ made. made.lawful ≡ true) }
+    ensures lawful { IfOk result (λ made. made.end ≡ true) }
 {
     let verdict = check_on(alloc, start, entries)?;
     let mut line = Addition::new(Vec::new(alloc));
     push_line(number_of(EntryKind::Return, entries), &verdict, &mut line)?;
-    Ok(MadeLine {
+    Ok(Made {
         text: line.kept(),
-        lawful: is_lawful(&verdict),
+        end: is_lawful(&verdict),
     })
 }

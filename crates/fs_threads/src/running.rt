@@ -8,14 +8,14 @@ ghost use Rattle.fs_script.specs.Script.{script_of};
 ghost use Rattle.fs_sched.specs.Devices.{WritesBeginning};
 ghost use Rattle.fs_sched.specs.Runs.{calls_in};
 ghost use Rattle.fs_sched.specs.RunTexts.{number_of};
-ghost use Rattle.fs_threads.specs.Faults.{IsOfInput};
-ghost use Rattle.fs_threads.specs.code.ThreadFaults.{IsOfThreads};
+ghost use Rattle.fs_threads.specs.code.ThreadFaults.{IsOfThreads, MakesLine};
 ghost use Rattle.fs_threads.specs.Lines.{lawful_line, IsLineOf};
 
 use crate::fault::{ThreadsFault, threads_fault};
-use crate::line::{MadeLine, make_line};
+use crate::line::make_line;
 use fs_calls::Call;
-use fs_sched::{EntryKind, RunFault, Sink, Source, read_text, run_fault, write_text};
+use fs_io::{Made, Sink, Source, transform};
+use fs_sched::{EntryKind, RunFault, run_fault};
 use fs_script::read_script;
 use fs_seq::SeqTree;
 use fs_share::{Closed, Open, run_lists};
@@ -30,10 +30,10 @@ fn line_of_entries(
     alloc: Global,
     start: SeqTree,
     entries: &[Entry],
-) -> Result<MadeLine, ThreadsFault>
+) -> Result<Made<bool>, ThreadsFault>
     requires { IsLawful start entries.now }
     ensures text { IfOk result (λ made. made.text.items ≡ lawful_line (number_of EntryKind.Return entries.now)) }
-    ensures lawful { IfOk result (λ made. made.lawful ≡ true) }
+    ensures lawful { IfOk result (λ made. made.end ≡ true) }
     ensures fault { IfErr result IsOfThreads }
 {
     match make_line(alloc, start, entries) {
@@ -47,9 +47,9 @@ fn line_of_lists<R: Threads + Wait + Clock + Sync>(
     rt: &R,
     alloc: Global,
     lists: &[Vec<Call>],
-) -> Result<MadeLine, ThreadsFault>
+) -> Result<Made<bool>, ThreadsFault>
     ensures line { IfOk result (λ made. made.text.items ≡ lawful_line (calls_in (map (λ calls. calls.items) lists.now))) }
-    ensures lawful { IfOk result (λ made. made.lawful ≡ true) }
+    ensures lawful { IfOk result (λ made. made.end ≡ true) }
     ensures fault { IfErr result IsOfThreads }
 {
     match run_lists(rt, alloc, lists, &Open) {
@@ -70,10 +70,8 @@ fn line_of_script<R: Threads + Wait + Clock + Sync>(
     rt: &R,
     alloc: Global,
     text: &[u8],
-) -> Result<MadeLine, ThreadsFault>
-    ensures line { IfOk result (λ made. IsLineOf text.now made.text.items) }
-    ensures lawful { IfOk result (λ made. made.lawful ≡ true) }
-    ensures fault { IfErr result (IsOfInput (script_of text.now)) }
+) -> Result<Made<bool>, ThreadsFault>
+    ensures { MakesLine text.now result }
 {
     match read_script(alloc, text) {
         Ok(script) => line_of_lists(rt, alloc, script.lists.as_slice()),
@@ -107,16 +105,13 @@ pub fn run_threads<R: Threads + Wait + Clock + Sync, S: Source, W: Sink>(
     ensures nothing { result ≢ Err (ThreadsFault.Run RunFault.Write) → OnErr result (writer.new ≡ writer.old) }
     ensures beginning { IsErrOf result (ThreadsFault.Run RunFault.Write) → (line : List ℕ) × IfSome (S.remaining reader.old) (λ input. IsLineOf input line) × WritesBeginning line (W.contents writer.old) (W.contents writer.new) }
 {
-    let text = match read_text(alloc, reader) {
-        Ok(text) => text,
-        Err(fault) => return Err(ThreadsFault::Run(fault)),
-    };
-    let made = match line_of_script(rt, alloc, &text) {
-        Ok(made) => made,
-        Err(fault) => return Err(fault),
-    };
-    match write_text(writer, &made.text) {
-        Ok(()) => Ok(made.lawful),
-        Err(fault) => Err(ThreadsFault::Run(fault)),
-    }
+    let lawful = transform(
+        alloc,
+        reader,
+        writer,
+        |text| -> Result<Made<bool>, ThreadsFault>
+            ensures { MakesLine text.items result }
+        { line_of_script(rt, alloc, &text) },
+    )?;
+    Ok(lawful)
 }

@@ -2,6 +2,8 @@
 
 ghost use Rattle.std.specs.Prelude.{◌≡◌, ◌++◌, ◌∷◌, [], OnOk, OnErr, Ok, true, false, decimal};
 ghost use Rattle.std.specs.List.{list_any};
+ghost use Rattle.fs_names.specs.Names.{AreBytes};
+ghost use Rattle.fs_names.specs.Keys.{IsPath};
 ghost use Rattle.fs_words.specs.Words.{is_escaped, escaped_byte, escaped, hex_word, path_word};
 
 use crate::digits::push_digits;
@@ -104,6 +106,7 @@ impl Addition {
     /// Bytes of a file in hexadecimal digits.
     pub fn push_hex(&mut self, alloc: Global, bytes: &[u8]) -> Result<(), AllocError>
         ensures ok { OnOk result (self.new.added ≡ self.old.added ++ hex_word bytes.now) }
+        ensures bytes { AreBytes bytes.now }
         ensures before { self.new.before ≡ self.old.before }
     {
         if bytes.is_empty() {
@@ -127,6 +130,7 @@ impl Addition {
     #[tactic(auto, unfolding(crate::specs::Words::escaped))]
     pub fn push_escaped(&mut self, alloc: Global, bytes: &[u8]) -> Result<(), AllocError>
         ensures ok { OnOk result (self.new.added ≡ self.old.added ++ escaped bytes.now) }
+        ensures bytes { AreBytes bytes.now }
         ensures before { self.new.before ≡ self.old.before }
     {
         if !any_escaped(bytes) {
@@ -164,6 +168,7 @@ impl Addition {
     /// Appends a path where none of its bytes is escaped, and answers whether it did. The only error is out of memory.
     fn push_plain(&mut self, path: &Path) -> Result<bool, AllocError>
         ensures plain { result ≡ Ok true → self.new.added ≡ self.old.added ++ path_word path.now }
+        ensures path { OnOk result (IsPath path.now) }
         ensures other { result ≡ Ok false → self.new.added ≡ self.old.added }
         ensures before { self.new.before ≡ self.old.before }
     {
@@ -179,6 +184,7 @@ impl Addition {
     /// A path with escapes.
     pub fn push_path(&mut self, alloc: Global, path: &Path) -> Result<(), AllocError>
         ensures ok { OnOk result (self.new.added ≡ self.old.added ++ path_word path.now) }
+        ensures path { OnOk result (IsPath path.now) }
         ensures before { self.new.before ≡ self.old.before }
     {
         if self.push_plain(path)? {

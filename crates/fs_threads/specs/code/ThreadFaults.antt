@@ -1,5 +1,10 @@
--- How lists of calls on threads fail, whatever the script was.
+-- How lists of calls on threads fail, whatever the script was, and what is made of a script's text.
+use Rattle.std.specs.Prelude.{◌≡◌, ℕ, Bool, List, true, Result, IfOk, IfErr}
+use Rattle.fs_io.specs.declared.shell.Made.{Made}
+use Rattle.fs_script.specs.Script.{script_of}
 use Rattle.fs_sched.specs.code.Stages.{IsRefusal}
+use Rattle.fs_threads.specs.Faults.{IsOfInput}
+use Rattle.fs_threads.specs.Lines.{IsLineOf}
 use Rattle.fs_threads.specs.declared.fault.ThreadsFault.{ThreadsFault}
 use Rattle.fs_threads.specs.declared.fault.ThreadsFault.TheVariants.{Run, Lists}
 
@@ -7,3 +12,9 @@ use Rattle.fs_threads.specs.declared.fault.ThreadsFault.TheVariants.{Run, Lists}
 abbrev pub IsOfThreads : ThreadsFault → Type 0
 IsOfThreads (Run fault) = IsRefusal fault
 IsOfThreads (Lists fault) = Unit {0}
+
+-- the line of the script that a text has, whose timeline is lawful; or why there is none
+pub record MakesLine (text : List ℕ) (result : Result (Made Bool) ThreadsFault) : Type 0 where
+  pub line : IfOk result (λ made. IsLineOf text made.text.items)
+  pub lawful : IfOk result (λ made. made.end ≡ true)
+  pub fault : IfErr result (IsOfInput (script_of text))

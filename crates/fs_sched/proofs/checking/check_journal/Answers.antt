@@ -1,21 +1,35 @@
 use Rattle.std.specs.Io.KnownBytes.{Appends}
-use Rattle.std.proofs.Common.{refl, subst, ◌≡◌, ◌≤◌, ◌∙◌, length, arith}
-use Rattle.fs_sched.proofs.CheckLemmas.{verdict_short, known_verdict, known_fault, known_beginning}
+use Rattle.std.proofs.Common.{refl, subst, Err, ap, ◌≡◌, ◌≢◌, ◌∙◌}
+use Rattle.fs_io.specs.declared.failure.Failure.TheVariants as failure
+use Rattle.fs_sched.specs.Checks.{verdict_of}
+use Rattle.fs_sched.specs.Devices.{IsFaultOf}
+use Rattle.fs_sched.specs.declared.fault.RunFault.{RunFault}
+use Rattle.fs_sched.specs.declared.fault.RunFault.TheVariants.{Input, Write}
+use Rattle.fs_sched.proofs.Between.{of_input, of_write}
+use Rattle.fs_sched.proofs.CheckLemmas.{verdict_short, known_verdict, known_beginning}
 use Rattle.fs_sched.proofs.checking.check_journal.Goals as goal
-use Rattle.fs_sched.specs.declared.fault.RunFault.TheVariants.{Input}
 
-pub returns-in-Err-check_text-clause-input : goal.returns-in-Err-check_text-clause-input
-returns-in-Err-check_text-clause-input g c f e =
-    let k : c.in-Err-check_text.fault ≡ Input f = cc in
-    known_fault _ _ _ _ f refl c.in-Ok.ensures.same c.in-Err-check_text.ensures.err k
+pub returns-clause-verdict : goal.returns-clause-verdict
+returns-clause-verdict g c =
+    let told = c.in_ok-lawful.ensures.made in
+    let judged = told.4.1.ok in
+    (judged.0, known_verdict _ _ _ _ refl told.2 judged.1, told.5 ∙ judged.2.end, subst (Appends _ _) judged.2.text told.6)
 
-pub returns-in-Ok-write_text-clause-verdict : goal.returns-in-Ok-write_text-clause-verdict
-returns-in-Ok-write_text-clause-verdict g c =
-    let line = c.deref.ensures.value ∙ c.in-Ok-verdict_line.ensures in
-    (c.in-Ok-check_text.verdict, known_verdict _ _ _ _ refl c.in-Ok.ensures.same c.in-Ok-check_text.ensures.ok, c.is_lawful.ensures, subst (Appends _ _) line c.in-Ok-write_text.ensures.ok)
+pub returns-clause-end : goal.returns-clause-end
+returns-clause-end g c = let told = c.in_ok-lawful.ensures.made in told.3 (verdict_short _ _ _ refl told.4.1.ok.1)
 
-pub returns-in-Ok-write_text-clause-end : goal.returns-in-Ok-write_text-clause-end
-returns-in-Ok-write_text-clause-end g c = let short : length c.in-Ok.text.items ≤ 16777216 = verdict_short _ _ _ refl c.in-Ok-check_text.ensures.ok in c.in-Ok.ensures.end (omega arith)
+pub returns-in_err-lawful-clause-input : goal.returns-in_err-lawful-clause-input
+returns-in_err-lawful-clause-input g c f e =
+    let gives = rw e at c.from_residual.ensures in
+    let told = c.in_err-lawful.ensures.unmade (Input f) (ap Err (of_input c.in_err-lawful.field-0.0 f gives.1)) in
+    known_verdict _ _ _ _ refl told.1 told.2.1.fault
 
-pub returns-clause-beginning : goal.returns-clause-beginning
-returns-clause-beginning g c _ = known_beginning _ _ _ _ _ _ _ refl c.in-Ok.ensures.same c.in-Ok-check_text.ensures.ok (c.deref.ensures.value ∙ c.in-Ok-verdict_line.ensures) c.in-Err-write_text.ensures.err
+pub returns-in_err-lawful-clause-beginning : goal.returns-in_err-lawful-clause-beginning
+returns-in_err-lawful-clause-beginning g c e =
+    let gives = rw e at c.from_residual.ensures in
+    let never : (f : RunFault) → c.in_err-lawful.field-0.0 ≡ failure.Unmade f → f ≢ Write = λ f is same.
+    let told = c.in_err-lawful.ensures.unmade f (ap Err is) in
+    subst (IsFaultOf (verdict_of told.0.items)) same told.2.1.fault in
+    let told = c.in_err-lawful.ensures.beginning (ap Err (of_write c.in_err-lawful.field-0.0 never gives.1)) in
+    let judged = told.3.1.ok in
+    known_beginning _ _ _ _ _ _ _ refl told.2 judged.1 judged.2.text told.4

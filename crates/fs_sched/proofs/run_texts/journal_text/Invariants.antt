@@ -1,5 +1,6 @@
 use Rattle.std.proofs.Common.{◌≡◌, ◌++◌, ◌∷◌, take}
 use Rattle.std.specs.List.{flat_map}
+use Rattle.fs_text.specs.Fits.{AllFit}
 use Rattle.fs_text.specs.Journal.{entry_line, journal_header}
 use Rattle.fs_sched.specs.RunTexts.{number_of}
 use Rattle.fs_sched.specs.declared.run_texts.EntryKind.TheVariants as kind
@@ -8,6 +9,7 @@ use Rattle.fs_sched.proofs.run_texts.journal_text.Given as goal
 -- the text and the numbers of the entries so far
 abbrev pub invariant-loop-entry : goal.invariant-loop-entry
 invariant-loop-entry l = record {
+  fit : AllFit (take l.entry-index l.entries);
   text : l.text.items ≡ journal_header ++ 10 ∷ flat_map entry_line (take l.entry-index l.entries);
   begun : l.begun ≡ number_of kind.Begin (take l.entry-index l.entries);
   committed : l.committed ≡ number_of kind.Commit (take l.entry-index l.entries);

@@ -1,45 +1,60 @@
-use Rattle.std.specs.Io.KnownBytes.{Appends}
-use Rattle.std.proofs.Common.{refl, subst, Err, ap, ◌≡◌, ◌<◌, ◌≤◌, ◌^◌, length, arith}
-use Rattle.fs_sched.proofs.RunLemmas.{script_short, known_fault, known_run, begins_same}
+use Rattle.std.proofs.Common.{refl, sym, subst, Err, ap, ◌≡◌, ◌≢◌, ◌<◌, ◌≤◌, ◌^◌, length, arith}
+use Rattle.fs_io.specs.declared.failure.Failure.TheVariants as failure
+use Rattle.fs_script.specs.Script.{script_of}
+use Rattle.fs_sched.specs.Devices.{IsFaultOrRefusal}
+use Rattle.fs_sched.specs.Runs.{IsRunOf}
+use Rattle.fs_sched.specs.declared.fault.RunFault.{RunFault}
+use Rattle.fs_sched.specs.declared.fault.RunFault.TheVariants.{Input, Write, Full}
+use Rattle.fs_sched.proofs.Between.{of_input, of_full, of_write}
+use Rattle.fs_sched.proofs.RunLemmas.{script_short, known_script, known_run}
 use Rattle.fs_sched.proofs.OneText.{known_each, known_again}
 use Rattle.fs_sched.proofs.Filling.{never_full}
 use Rattle.fs_sched.proofs.Whole.{whole_always, known_whole}
 use Rattle.fs_sched.proofs.running.run_script.Goals as goal
-use Rattle.fs_sched.specs.declared.fault.RunFault.TheVariants.{Input, Full}
 
-pub returns-in-Err-text_of_script-clause-input : goal.returns-in-Err-text_of_script-clause-input
-returns-in-Err-text_of_script-clause-input g c f e =
-    let k : c.in-Err-text_of_script.fault ≡ Input f = cc in
-    known_fault _ _ _ _ f refl c.in-Ok.ensures.same c.in-Err-text_of_script.ensures.fault k
+pub returns-clause-ran : goal.returns-clause-ran
+returns-clause-ran g c =
+    let told = c.in_ok-end.ensures.made in
+    let output = subst (λ end. IsRunOf c.args.schedule told.0.items end told.1.text.items) (sym told.5) told.4.1.output in
+    (told.1.text.items, known_each _ _ _ c.args.schedule (known_run _ _ _ _ _ _ refl told.2 output), told.6)
 
-pub returns-in-Ok-write_text-clause-ran : goal.returns-in-Ok-write_text-clause-ran
-returns-in-Ok-write_text-clause-ran g c = (
-  c.in-Ok-text_of_script.made.text.items,
-  known_each _ _ _ c.args.schedule (known_run _ _ _ _ _ _ refl c.in-Ok.ensures.same c.in-Ok-text_of_script.ensures.output),
-  subst (Appends _ _) c.deref.ensures.value c.in-Ok-write_text.ensures.ok,
-)
+pub returns-clause-again : goal.returns-clause-again
+returns-clause-again g c = let told = c.in_ok-end.ensures.made in known_again _ _ _ c.args.schedule refl told.2 told.4.1.again
 
-pub returns-in-Ok-write_text-clause-again : goal.returns-in-Ok-write_text-clause-again
-returns-in-Ok-write_text-clause-again g c = known_again _ _ _ c.args.schedule refl c.in-Ok.ensures.same c.in-Ok-text_of_script.ensures.again
+pub returns-clause-end : goal.returns-clause-end
+returns-clause-end g c = let told = c.in_ok-end.ensures.made in told.3 (script_short _ _ _ refl told.4.1.output.1)
 
-pub returns-in-Ok-write_text-clause-end : goal.returns-in-Ok-write_text-clause-end
-returns-in-Ok-write_text-clause-end g c = let short : length c.in-Ok.text.items ≤ 16777216 = script_short _ _ _ refl c.in-Ok-text_of_script.ensures.output.1 in c.in-Ok.ensures.end (omega arith)
+pub returns-clause-whole : goal.returns-clause-whole
+returns-clause-whole g c =
+    let told = c.in_ok-end.ensures.made in
+    let output = subst (λ end. IsRunOf c.args.schedule told.0.items end told.1.text.items) (sym told.5) told.4.1.output in
+    let fits : c.in_ok-end.end.begun < 2 ^ 64 = omega arith in
+    whole_always c.args.schedule _ _ _ output fits
 
-pub returns-clause-beginning : goal.returns-clause-beginning
-returns-clause-beginning g c _ = (
-  c.in-Ok-text_of_script.made.end,
-  c.in-Ok-text_of_script.made.text.items,
-  known_each _ _ _ c.args.schedule (known_run _ _ _ _ _ _ refl c.in-Ok.ensures.same c.in-Ok-text_of_script.ensures.output),
-  begins_same _ _ _ _ c.deref.ensures.value c.in-Err-write_text.ensures.err,
-)
+pub returns-clause-finish : goal.returns-clause-finish
+returns-clause-finish g c =
+    let told = c.in_ok-end.ensures.made in
+    let output = subst (λ end. IsRunOf c.args.schedule told.0.items end told.1.text.items) (sym told.5) told.4.1.output in
+    let fits : c.in_ok-end.end.begun < 2 ^ 64 = omega arith in
+    known_whole _ _ _ _ c.args.schedule _ refl told.2 output fits
 
-pub returns-in-Ok-write_text-clause-whole : goal.returns-in-Ok-write_text-clause-whole
-returns-in-Ok-write_text-clause-whole g c = let fits : c.in-Ok-text_of_script.made.end.begun < 2 ^ 64 = omega arith in whole_always c.args.schedule _ _ _ c.in-Ok-text_of_script.ensures.output fits
+pub returns-in_err-end-clause-input : goal.returns-in_err-end-clause-input
+returns-in_err-end-clause-input g c f e =
+    let gives = rw e at c.from_residual.ensures in
+    let told = c.in_err-end.ensures.unmade (Input f) (ap Err (of_input c.in_err-end.field-0.0 f gives.1)) in
+    known_script _ _ _ _ refl told.1 told.2.1.fault
 
-pub returns-in-Ok-write_text-clause-finish : goal.returns-in-Ok-write_text-clause-finish
-returns-in-Ok-write_text-clause-finish g c = let fits : c.in-Ok-text_of_script.made.end.begun < 2 ^ 64 = omega arith in known_whole _ _ _ _ c.args.schedule _ refl c.in-Ok.ensures.same c.in-Ok-text_of_script.ensures.output fits
+pub returns-in_err-end-clause-full : goal.returns-in_err-end-clause-full
+returns-in_err-end-clause-full g c e =
+    let gives = rw e at c.from_residual.ensures in
+    let told = c.in_err-end.ensures.unmade Full (ap Err (of_full c.in_err-end.field-0.0 gives.1)) in
+    never_full c.args.schedule _ (told.2.1.full refl)
 
-pub returns-in-Err-text_of_script-clause-full : goal.returns-in-Err-text_of_script-clause-full
-returns-in-Err-text_of_script-clause-full g c e =
-    let k : c.in-Err-text_of_script.fault ≡ Full = cc in
-    never_full c.args.schedule _ (c.in-Err-text_of_script.ensures.full (ap Err k))
+pub returns-in_err-end-clause-beginning : goal.returns-in_err-end-clause-beginning
+returns-in_err-end-clause-beginning g c e =
+    let gives = rw e at c.from_residual.ensures in
+    let never : (f : RunFault) → c.in_err-end.field-0.0 ≡ failure.Unmade f → f ≢ Write = λ f is same.
+    let told = c.in_err-end.ensures.unmade f (ap Err is) in
+    subst (IsFaultOrRefusal (script_of told.0.items)) same told.2.1.fault in
+    let told = c.in_err-end.ensures.beginning (ap Err (of_write c.in_err-end.field-0.0 never gives.1)) in
+    (told.1.end, told.1.text.items, known_each _ _ _ c.args.schedule (known_run _ _ _ _ _ _ refl told.2 told.3.1.output), told.4)

@@ -1,34 +1,43 @@
-use Rattle.std.specs.Io.KnownBytes.{Appends}
-use Rattle.std.proofs.Common.{refl, subst, Err, ap, ◌≡◌, ◌≤◌, length, arith}
-use Rattle.fs_sched.proofs.RunLemmas.{script_short, known_fault, begins_same}
+use Rattle.std.proofs.Common.{refl, subst, Err, ap, ◌≡◌, ◌≢◌, ◌∙◌}
+use Rattle.fs_io.specs.declared.failure.Failure.TheVariants as failure
+use Rattle.fs_script.specs.Script.{script_of}
+use Rattle.fs_sched.specs.Devices.{IsFaultOrRefusal}
+use Rattle.fs_sched.specs.declared.fault.RunFault.{RunFault}
+use Rattle.fs_sched.specs.declared.fault.RunFault.TheVariants.{Input, Write, Full}
+use Rattle.fs_sched.proofs.Between.{of_input, of_full, of_write}
+use Rattle.fs_sched.proofs.RunLemmas.{script_short, known_script}
 use Rattle.fs_sched.proofs.SeedLemmas.{known_runs}
 use Rattle.fs_sched.proofs.Filling.{never_full_seeds}
 use Rattle.fs_sched.proofs.seeding.run_seeds.Goals as goal
-use Rattle.fs_sched.specs.declared.fault.RunFault.TheVariants.{Input, Full}
 
-pub returns-in-Err-lines_of_script-clause-input : goal.returns-in-Err-lines_of_script-clause-input
-returns-in-Err-lines_of_script-clause-input g c f e =
-    let k : c.in-Err-lines_of_script.fault ≡ Input f = cc in
-    known_fault _ _ _ _ f refl c.in-Ok.ensures.same c.in-Err-lines_of_script.ensures.fault k
+pub returns-clause-ran : goal.returns-clause-ran
+returns-clause-ran g c =
+    let told = c.in_ok-lawful.ensures.made in
+    (told.1.text.items, known_runs _ _ _ _ _ _ refl told.2 told.4.1.ok, told.6)
 
-pub returns-in-Ok-write_text-clause-ran : goal.returns-in-Ok-write_text-clause-ran
-returns-in-Ok-write_text-clause-ran g c = (
-  c.in-Ok-lines_of_script.made.text.items,
-  known_runs _ _ _ _ _ _ refl c.in-Ok.ensures.same c.in-Ok-lines_of_script.ensures.ok,
-  subst (Appends _ _) c.deref.ensures.value c.in-Ok-write_text.ensures.ok,
-)
+pub returns-clause-lawful : goal.returns-clause-lawful
+returns-clause-lawful g c = let told = c.in_ok-lawful.ensures.made in told.5 ∙ told.4.1.lawful
 
-pub returns-in-Ok-write_text-clause-end : goal.returns-in-Ok-write_text-clause-end
-returns-in-Ok-write_text-clause-end g c = let short : length c.in-Ok.text.items ≤ 16777216 = script_short _ _ _ refl c.in-Ok-lines_of_script.ensures.ok.1 in c.in-Ok.ensures.end (omega arith)
+pub returns-clause-end : goal.returns-clause-end
+returns-clause-end g c = let told = c.in_ok-lawful.ensures.made in told.3 (script_short _ _ _ refl told.4.1.ok.1)
 
-pub returns-clause-beginning : goal.returns-clause-beginning
-returns-clause-beginning g c _ = (
-  c.in-Ok-lines_of_script.made.text.items,
-  known_runs _ _ _ _ _ _ refl c.in-Ok.ensures.same c.in-Ok-lines_of_script.ensures.ok,
-  begins_same _ _ _ _ c.deref.ensures.value c.in-Err-write_text.ensures.err,
-)
+pub returns-in_err-lawful-clause-input : goal.returns-in_err-lawful-clause-input
+returns-in_err-lawful-clause-input g c f e =
+    let gives = rw e at c.from_residual.ensures in
+    let told = c.in_err-lawful.ensures.unmade (Input f) (ap Err (of_input c.in_err-lawful.field-0.0 f gives.1)) in
+    known_script _ _ _ _ refl told.1 told.2.1.fault
 
-pub returns-in-Err-lines_of_script-clause-full : goal.returns-in-Err-lines_of_script-clause-full
-returns-in-Err-lines_of_script-clause-full g c e =
-    let k : c.in-Err-lines_of_script.fault ≡ Full = cc in
-    never_full_seeds c.args.seed c.args.runs _ (c.in-Err-lines_of_script.ensures.full (ap Err k))
+pub returns-in_err-lawful-clause-full : goal.returns-in_err-lawful-clause-full
+returns-in_err-lawful-clause-full g c e =
+    let gives = rw e at c.from_residual.ensures in
+    let told = c.in_err-lawful.ensures.unmade Full (ap Err (of_full c.in_err-lawful.field-0.0 gives.1)) in
+    never_full_seeds c.args.seed c.args.runs _ (told.2.1.full refl)
+
+pub returns-in_err-lawful-clause-beginning : goal.returns-in_err-lawful-clause-beginning
+returns-in_err-lawful-clause-beginning g c e =
+    let gives = rw e at c.from_residual.ensures in
+    let never : (f : RunFault) → c.in_err-lawful.field-0.0 ≡ failure.Unmade f → f ≢ Write = λ f is same.
+    let told = c.in_err-lawful.ensures.unmade f (ap Err is) in
+    subst (IsFaultOrRefusal (script_of told.0.items)) same told.2.1.fault in
+    let told = c.in_err-lawful.ensures.beginning (ap Err (of_write c.in_err-lawful.field-0.0 never gives.1)) in
+    (told.1.text.items, known_runs _ _ _ _ _ _ refl told.2 told.3.1.ok, told.4)

@@ -2,11 +2,11 @@
 
 ghost use Rattle.std.specs.Prelude.{◌≡◌, ◌≢◌, ◌+◌, ◌-◌, ◌<◌, ◌≤◌, ◌^◌, ◌++◌, ℕ, List, length, IfOk, OnOk, IfErr, IfSome, IsErrOf, vec_len};
 ghost use Rattle.std.specs.Io.KnownBytes.{Consumes, IsAtEnd};
-ghost use Rattle.fs_sched.specs.Devices.{IsSameText, FailsToRead};
+ghost use Rattle.fs_io.specs.Devices.{IsSameText, FailsToRead};
 
 use crate::device::Source;
-use crate::fault::RunFault;
-use fs_text::limits::TEXT_LIMIT;
+use crate::failure::Failure;
+use fs_words::TEXT_LIMIT;
 use std::alloc::Global;
 
 /// The most bytes that one read asks for.
@@ -16,7 +16,11 @@ const PIECE: usize = 65_536;
 const MOST: usize = TEXT_LIMIT + 1;
 
 /// Adds what one read gives, at most `room` bytes, and answers how many.
-fn read_piece<R: Source>(reader: &mut R, room: usize, text: &mut Vec<u8>) -> Result<usize, RunFault>
+fn read_piece<R: Source, E: Drop>(
+    reader: &mut R,
+    room: usize,
+    text: &mut Vec<u8>,
+) -> Result<usize, Failure<E>>
     requires few { R.failures reader.old < 2 ^ 64 - 1 }
     requires some { 0 < room }
     ensures within { IfOk result (λ n. (n ≤ room) × (vec_len text.new ≡ vec_len text.old + n)) }
@@ -28,16 +32,16 @@ fn read_piece<R: Source>(reader: &mut R, room: usize, text: &mut Vec<u8>) -> Res
     let mut buffer = [0u8; PIECE];
     let piece = &mut buffer[..room.min(PIECE)];
     let Ok(count) = reader.read(piece) else {
-        return Err(RunFault::Read);
+        return Err(Failure::Read);
     };
     match text.extend_from_slice(&piece[..count]) {
         Ok(()) => Ok(count),
-        Err(_) => Err(RunFault::OutOfMemory),
+        Err(_) => Err(Failure::OutOfMemory),
     }
 }
 
 /// Reads to the end, or to one byte above the limit of texts.
-fn read_all<R: Source>(alloc: Global, reader: &mut R) -> Result<Vec<u8>, RunFault>
+fn read_all<R: Source, E: Drop>(alloc: Global, reader: &mut R) -> Result<Vec<u8>, Failure<E>>
     requires { R.failures reader.old < 2 ^ 64 - 1 }
     ensures ok { IfOk result (λ v. Consumes (R.remaining reader.old) (R.remaining reader.new) v.items) }
     ensures most { IfOk result (λ v. vec_len v ≤ MOST) }
@@ -58,7 +62,10 @@ fn read_all<R: Source>(alloc: Global, reader: &mut R) -> Result<Vec<u8>, RunFaul
 }
 
 /// Reads a text to its end; of one that is too long, as much as tells so.
-pub fn read_text<R: Source>(alloc: Global, reader: &mut R) -> Result<Vec<u8>, RunFault>
+pub(crate) fn read_text<R: Source, E: Drop>(
+    alloc: Global,
+    reader: &mut R,
+) -> Result<Vec<u8>, Failure<E>>
     requires { R.failures reader.old < 2 ^ 64 - 1 }
     ensures same { IfOk result (λ v. IfSome (R.remaining reader.old) (IsSameText v.items)) }
     ensures end { IfOk result (λ v. vec_len v ≤ TEXT_LIMIT → IsAtEnd (R.remaining reader.new)) }

@@ -1,0 +1,26 @@
+-- What is read from a source and written to a sink.
+use Rattle.std.specs.Prelude.{◌≡◌, ◌<◌, ◌+◌, ◌⊎◌, ℕ, List, length, take, Option, Result, Ok, Err}
+use Rattle.std.specs.Io.KnownBytes.{Appends}
+use Rattle.fs_words.specs.declared.limits.TheConstants.{TEXT_LIMIT}
+use Rattle.fs_io.specs.declared.failure.Failure.{Failure}
+use Rattle.fs_io.specs.declared.failure.Failure.TheVariants.{Read, Write, OutOfMemory, Unmade}
+
+-- the text is the input, or both are too long
+abbrev pub IsSameText : List ℕ → List ℕ → Type 0
+IsSameText text input = (text ≡ input) ⊎ ((TEXT_LIMIT < length text) × (TEXT_LIMIT < length input))
+
+-- the source failed once more, or an allocation failed
+abbrev pub FailsToRead : {E : Type 0} → ℕ → ℕ → Failure E → Type 0
+FailsToRead before after Read = after ≡ before + 1
+FailsToRead before after Write = ⊥
+FailsToRead before after OutOfMemory = Unit {0}
+FailsToRead before after (Unmade e) = ⊥
+
+-- a beginning of the text was written, and not all of it
+abbrev pub WritesBeginning : List ℕ → Option (List ℕ) → Option (List ℕ) → Type 0
+WritesBeginning text old new = (n : ℕ) × (n < length text) × Appends old new (take n text)
+
+-- the same of the text of what the input gives
+abbrev pub WritesBeginningOf : {X F : Type 0} → (X → List ℕ) → Result X F → Option (List ℕ) → Option (List ℕ) → Type 0
+WritesBeginningOf text_of (Ok x) old new = WritesBeginning (text_of x) old new
+WritesBeginningOf text_of (Err f) old new = ⊥

@@ -1,0 +1,54 @@
+//! From a source to a sink.
+
+ghost use Rattle.std.specs.Prelude.{◌≡◌, ◌≢◌, ◌+◌, ◌-◌, ◌<◌, ◌≤◌, ◌^◌, ℕ, List, Ok, Err, IfOk, OnErr, IfSome, IsErrOf, length};
+ghost use Rattle.std.specs.Io.KnownBytes.{Appends, IsAtEnd};
+ghost use Rattle.fs_io.specs.Devices.{IsSameText, WritesBeginning};
+
+use crate::device::{Failed, Sink, Source};
+use crate::failure::Failure;
+use crate::sink::write_text;
+use crate::source::read_text;
+use fs_words::TEXT_LIMIT;
+use std::alloc::Global;
+
+/// A text, and what is answered once it is written.
+#[derive(Drop)]
+pub struct Made<T> {
+    pub text: Vec<u8>,
+    pub end: T,
+}
+
+/// Reads a source to its end, has a text made of it, and writes that. The whole text is made before its first byte is
+/// written. Of an input that is too long, what tells so is read and handed on.
+pub fn transform<R: Source, W: Sink, T: Drop, E: Drop, F: FnOnce(Vec<u8>) -> Result<Made<T>, E>>(
+    alloc: Global,
+    reader: &mut R,
+    writer: &mut W,
+    make: F,
+) -> Result<T, Failure<E>>
+    requires reads { R.failures reader.old < 2 ^ 64 - 1 }
+    requires writes { W.failures writer.old < 2 ^ 64 - 1 }
+    requires any { (v : _) → F.pre make v }
+
+    // What is answered and written is what was made of what was read.
+    ensures made { IfOk result (λ end. (v : _) × (made : _) × IfSome (R.remaining reader.old) (IsSameText v.items) × (length v.items ≤ TEXT_LIMIT → IsAtEnd (R.remaining reader.new)) × F.post make v (Ok made) × (end ≡ made.end) × Appends (W.contents writer.old) (W.contents writer.new) made.text.items) }
+    ensures unmade { (e : _) → result ≡ Err (Failure.Unmade e) → (v : _) × IfSome (R.remaining reader.old) (IsSameText v.items) × F.post make v (Err e) }
+
+    // A device is blamed only where it failed in this call.
+    ensures read { IsErrOf result Failure.Read → R.failures reader.new ≡ R.failures reader.old + 1 }
+    ensures write { IsErrOf result Failure.Write → W.failures writer.new ≡ W.failures writer.old + 1 }
+
+    // After a failed write a beginning of the text stands, and after every other error nothing was written.
+    ensures nothing { result ≢ Err Failure.Write → OnErr result (writer.new ≡ writer.old) }
+    ensures beginning { IsErrOf result Failure.Write → (v : _) × (made : _) × IfSome (R.remaining reader.old) (IsSameText v.items) × F.post make v (Ok made) × WritesBeginning made.text.items (W.contents writer.old) (W.contents writer.new) }
+{
+    let text = read_text(alloc, reader)?;
+    let made = match make(text) {
+        Ok(made) => made,
+        Err(reason) => return Err(Failure::Unmade(reason)),
+    };
+    match write_text(writer, &made.text) {
+        Ok(()) => Ok(made.end),
+        Err(Failed) => Err(Failure::Write),
+    }
+}

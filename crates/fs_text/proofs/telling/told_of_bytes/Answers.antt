@@ -1,6 +1,0 @@
-use Rattle.std.proofs.Common.{arith}
-use Rattle.fs_names.proofs.ReadingLemmas.{bytes_each}
-use Rattle.fs_text.proofs.telling.told_of_bytes.Goals as goal
-
-pub returns : goal.returns
-returns c = bytes_each c.args.bytes.now (λ i. omega (arith, c.type_inv.bytes i))
