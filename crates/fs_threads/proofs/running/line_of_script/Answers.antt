@@ -8,13 +8,14 @@ use Rattle.fs_threads.specs.Lines.{lawful_line, IsLineOf}
 use Rattle.fs_threads.proofs.LineLemmas.{input_of_threads}
 use Rattle.fs_threads.proofs.running.line_of_script.Goals as goal
 
-pub returns-in-Ok-clause-line : goal.returns-in-Ok-clause-line
-returns-in-Ok-clause-line g c =
+pub returns-in-Ok : goal.returns-in-Ok
+returns-in-Ok g c =
     let same = ap (λ lists. lawful_line (calls_in lists)) c.as_slice.ensures in
-    IfOk-weaker c.line_of_lists.result
-    (λ made. made.text.items ≡ lawful_line (calls_in (map (λ v. v.items) c.as_slice.result.now)))
-    (λ made. IsLineOf c.args.text.now made.text.items)
-    (λ made is. (c.in-Ok.script, c.in-Ok.ensures, is ∙ same)) c.line_of_lists.ensures.line
-
-pub returns-in-Ok-clause-fault : goal.returns-in-Ok-clause-fault
-returns-in-Ok-clause-fault g c = IfErr-weaker c.line_of_lists.result IsOfThreads (IsOfInput (script_of c.args.text.now)) (λ fault is. input_of_threads _ fault is) c.line_of_lists.ensures.fault
+    record {
+      line = IfOk-weaker c.line_of_lists.result
+        (λ made. made.text.items ≡ lawful_line (calls_in (map (λ v. v.items) c.as_slice.result.now)))
+        (λ made. IsLineOf c.args.text.now made.text.items)
+        (λ made is. (c.in-Ok.script, c.in-Ok.ensures, is ∙ same)) c.line_of_lists.ensures.line;
+      lawful = c.line_of_lists.ensures.lawful;
+      fault = IfErr-weaker c.line_of_lists.result IsOfThreads (IsOfInput (script_of c.args.text.now)) (λ fault is. input_of_threads _ fault is) c.line_of_lists.ensures.fault;
+    }
