@@ -26,6 +26,7 @@ enum Call {
     Unlink(Vec<u8>),
     Rmdir(Vec<u8>),
     Rename(Vec<u8>, Vec<u8>),
+    Exchange(Vec<u8>, Vec<u8>),
     Stat(Vec<u8>),
     Readdir(Vec<u8>),
     Read(Vec<u8>, u64, u64),
@@ -53,6 +54,11 @@ const BYTES: u64 = 65_536;
 
 fn names(path: &[u8]) -> impl Iterator<Item = &[u8]> {
     path.split(|b| *b == b'/').filter(|name| !name.is_empty())
+}
+
+/// Whether the second path is below the first one.
+fn is_below(above: &[u8], path: &[u8]) -> bool {
+    path.len() > above.len() && path.starts_with(above) && path[above.len()] == b'/'
 }
 
 /// The parent's path, and the last name.
@@ -156,7 +162,7 @@ impl Tree {
         if from.len() == 1 || to.len() == 1 {
             return Err("EBUSY");
         }
-        if to.len() > from.len() && to.starts_with(from) && to[from.len()] == b'/' {
+        if is_below(from, to) {
             return Err("EINVAL");
         }
         let ((above, name), (beyond, new)) = (parts(from), parts(to));
@@ -184,6 +190,25 @@ impl Tree {
         }
         self.dir(old_dir)?.remove(name);
         self.dir(new_dir)?.insert(new.to_vec(), node);
+        Ok(Reply::Done)
+    }
+
+    fn exchange(&mut self, path: &[u8], other: &[u8]) -> Answer {
+        if path.len() == 1 || other.len() == 1 {
+            return Err("EBUSY");
+        }
+        if is_below(path, other) || is_below(other, path) {
+            return Err("EINVAL");
+        }
+        let ((above, name), (beyond, new)) = (parts(path), parts(other));
+        let dir = self.find(above)?;
+        self.dir(dir)?;
+        let other_dir = self.find(beyond)?;
+        self.dir(other_dir)?;
+        let node = *self.dir(dir)?.get(name).ok_or("ENOENT")?;
+        let other_node = *self.dir(other_dir)?.get(new).ok_or("ENOENT")?;
+        *self.dir(dir)?.get_mut(name).unwrap() = other_node;
+        *self.dir(other_dir)?.get_mut(new).unwrap() = node;
         Ok(Reply::Done)
     }
 
@@ -216,6 +241,7 @@ impl Tree {
             Call::Unlink(path) => self.unlink(path),
             Call::Rmdir(path) => self.rmdir(path),
             Call::Rename(from, to) => self.rename(from, to),
+            Call::Exchange(path, other) => self.exchange(path, other),
             Call::Stat(path) => self.stat(path),
             Call::Readdir(path) => self.find(path).and_then(|node| self.dir(node)).map(|entries| {
                 let mut all: Vec<Vec<u8>> = entries.keys().cloned().collect();
@@ -283,6 +309,7 @@ fn call_of(words: &[&[u8]]) -> Call {
         b"unlink" => Call::Unlink(path),
         b"rmdir" => Call::Rmdir(path),
         b"rename" => Call::Rename(path, unescaped(words[2])),
+        b"exchange" => Call::Exchange(path, unescaped(words[2])),
         b"stat" => Call::Stat(path),
         b"readdir" => Call::Readdir(path),
         b"read" => Call::Read(path, number(words[2]), number(words[3])),
@@ -329,6 +356,7 @@ fn push_call(text: &mut Vec<u8>, call: &Call) {
         Call::Unlink(path) => ("unlink ", path),
         Call::Rmdir(path) => ("rmdir ", path),
         Call::Rename(path, _) => ("rename ", path),
+        Call::Exchange(path, _) => ("exchange ", path),
         Call::Stat(path) => ("stat ", path),
         Call::Readdir(path) => ("readdir ", path),
         Call::Read(path, _, _) => ("read ", path),
@@ -338,9 +366,9 @@ fn push_call(text: &mut Vec<u8>, call: &Call) {
     text.extend_from_slice(word.as_bytes());
     push_escaped(text, path);
     match call {
-        Call::Rename(_, to) => {
+        Call::Rename(_, other) | Call::Exchange(_, other) => {
             text.push(b' ');
-            push_escaped(text, to);
+            push_escaped(text, other);
         }
         Call::Read(_, off, count) => write!(text, " {off} {count}").unwrap(),
         Call::Write(_, off, bytes) => {
@@ -528,7 +556,7 @@ fn steps(call: &Call) -> usize {
     match call {
         Call::Stat(p) | Call::Readdir(p) | Call::Read(p, ..) | Call::Write(p, ..) | Call::Truncate(p, _) => 3 + 2 * depth(p),
         Call::Mkdir(p) | Call::Mknod(p) | Call::Unlink(p) | Call::Rmdir(p) => 1 + 2 * depth(p),
-        Call::Rename(p, q) => 3 + 2 * depth(p).max(depth(q)),
+        Call::Rename(p, q) | Call::Exchange(p, q) => 3 + 2 * depth(p).max(depth(q)),
     }
 }
 

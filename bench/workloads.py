@@ -7,7 +7,7 @@ def text(lines):
 
 
 def few(calls):
-    """All ten kinds of calls over some two thousand names, six deep, with hits and misses; files of up to 300 bytes."""
+    """All kinds of calls but exchanges, over some two thousand names, six deep, with hits and misses; files of up to 300 bytes."""
     draw = random.Random(1)
     dirs, files, lines = [""], [], []
     while len(lines) < calls:
@@ -129,6 +129,27 @@ def moves(calls):
             entries[there].append(f"{there}/{new}")
         else:
             lines.append(f"rmdir {here.pop(draw.randrange(len(here)))}")
+    return text(lines)
+
+
+def exchanges(calls):
+    """Directories and files of a tree that change places, half of them with what stands beside them; files are looked at and read between."""
+    draw = random.Random(8)
+    dirs = [f"/top{above}/dir{number}" for above in range(8) for number in range(16)]
+    files = [f"{path}/file{number}" for path in dirs for number in range(8)]
+    lines = [f"mkdir /top{above}" for above in range(8)] + [f"mkdir {path}" for path in dirs] + [f"mknod {path}" for path in files]
+    while len(lines) < calls:
+        kind, file = draw.random(), draw.choice(files)
+        if kind < 0.2:
+            lines.append(f"exchange {draw.choice(dirs)} {draw.choice(dirs)}")
+        elif kind < 0.4:
+            lines.append(f"exchange {file} {file.rpartition('/')[0]}/file{draw.randrange(8)}")
+        elif kind < 0.5:
+            lines.append(f"exchange {file} {draw.choice(dirs)}")
+        elif kind < 0.8:
+            lines.append(f"stat {file}")
+        else:
+            lines.append(f"read {file} 0 16")
     return text(lines)
 
 

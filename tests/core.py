@@ -27,7 +27,7 @@ from atomfs import Did, Status
 MOST_NODES = 1_048_576
 # The calls of a paragraph have fewer steps together.
 MOST_STEPS = 1_000
-CALLS = ("mkdir", "mknod", "unlink", "rmdir", "rename", "stat", "readdir", "read", "write", "truncate")
+CALLS = ("mkdir", "mknod", "unlink", "rmdir", "rename", "exchange", "stat", "readdir", "read", "write", "truncate")
 # What a step did, and whether that is about a node or a call. Else the number that is told is 0.
 STEPS = {
     Did.IDLE: ("idle", False),

@@ -2,12 +2,13 @@
 
 # Of these a name is drawn for calls that are to meet: the last one is the rarest.
 LETTERS = "a" * 10 + "b" * 9 + "c"
-# Of these the number of names of a path is drawn: of a call, mostly three or four, and of a rename, mostly one or two.
+# Of these the number of names of a path is drawn: of a call, mostly three or four, and of a rename or an exchange, mostly one or two.
 LOW = [0] * 1 + [1] * 2 + [2] * 3 + [3] * 10 + [4] * 24
 HIGH = [1] * 14 + [2] * 4 + [3] * 2
 # How many of a hundred calls each is.
 MOVING = {"rename": 40, "mkdir": 16, "mknod": 10, "stat": 6, "write": 6, "unlink": 5, "rmdir": 5, "readdir": 4, "read": 4, "truncate": 4}
-CROWDED = {"mkdir": 22, "rename": 22, "mknod": 10, "write": 9, "stat": 8, "readdir": 7, "rmdir": 6, "read": 6, "unlink": 5, "truncate": 5}
+EXCHANGING = {**MOVING, "rename": 8, "exchange": 32}
+CROWDED = {"mkdir": 22, "rename": 16, "exchange": 6, "mknod": 10, "write": 9, "stat": 8, "readdir": 7, "rmdir": 6, "read": 6, "unlink": 5, "truncate": 5}
 # The directories of a tree for moving calls, those above before those below. The last ones, /b and those below it, are mostly left out.
 DIRECTORIES = "/a /a/a /a/b /a/a/a /a/a/b /a/b/a /a/b/b /b /b/a /b/b /b/a/a /b/a/b /b/b/a /b/b/b".split()
 OUTSIDE_B = 7
@@ -38,11 +39,20 @@ def rename(draw):
     return f"rename {path(old)} {path(new)}"
 
 
-def moving_call(draw):
-    """A rename of what stands high, or a call on what stands low."""
-    chosen = kind(draw, MOVING)
+def exchange(draw):
+    """An exchange of what stands high, mostly with what stands beside it."""
+    one = names(draw, draw.choice(HIGH))
+    other = [*one[:-1], "b" if one[-1] == "a" else "a"] if draw.randrange(3) else names(draw, draw.choice(HIGH))
+    return f"exchange {path(one)} {path(other)}"
+
+
+def moving_call(draw, shares=MOVING):
+    """A rename or an exchange of what stands high, or a call on what stands low."""
+    chosen = kind(draw, shares)
     if chosen == "rename":
         return rename(draw)
+    if chosen == "exchange":
+        return exchange(draw)
     first = f"{chosen} {path(names(draw, draw.choice(LOW)))}"
     match chosen:
         case "read":
@@ -67,6 +77,12 @@ def moving(draw):
     return [making(draw), *([moving_call(draw) for _ in range(draw.randint(3, 8))] for _ in range(draw.randint(2, 6)))]
 
 
+def exchanging(draw):
+    """A thread that makes all directories, and two to six threads of three to eight calls that use them, many of which are exchanges."""
+    made = [f"mkdir {directory}" for directory in DIRECTORIES] + [f"mknod {path(names(draw, 4))}" for _ in range(4)]
+    return [made, *([moving_call(draw, EXCHANGING) for _ in range(draw.randint(3, 8))] for _ in range(draw.randint(2, 6)))]
+
+
 def narrow_call(draw):
     return f"{draw.choice(('mkdir', 'stat'))} {path(names(draw, draw.randint(1, 3)))}"
 
@@ -85,7 +101,7 @@ def crowded_call(draw):
     chosen = kind(draw, CROWDED)
     first = f"{chosen} {crowded_path(draw)}"
     match chosen:
-        case "rename":
+        case "rename" | "exchange":
             return f"{first} {crowded_path(draw)}"
         case "read":
             return f"{first} {draw.randrange(40)} {draw.randrange(40)}"

@@ -84,8 +84,8 @@ def forms(*lines):
 
 
 CALL_FORMS = forms(
-    *("mkdir PATH", "mknod PATH", "unlink PATH", "rmdir PATH", "rename PATH PATH", "stat PATH", "readdir PATH"),
-    *("read PATH NUMBER NUMBER", "write PATH NUMBER HEX", "truncate PATH NUMBER"),
+    *("mkdir PATH", "mknod PATH", "unlink PATH", "rmdir PATH", "rename PATH PATH", "exchange PATH PATH"),
+    *("stat PATH", "readdir PATH", "read PATH NUMBER NUMBER", "write PATH NUMBER HEX", "truncate PATH NUMBER"),
 )
 REPLY_FORMS = forms("ok", "stat dir NUMBER", "stat file NUMBER", "bytes HEX", "wrote NUMBER", "failed ERRNO")
 

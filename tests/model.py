@@ -124,6 +124,23 @@ class Tree:
             self.nodes[new + path[len(old) :]] = self.nodes.pop(path)
         return "ok"
 
+    def exchange(self, one, other):
+        if not one or not other:
+            raise Failed("EBUSY")
+        if one != other and (other[: len(one)] == one or one[: len(other)] == other):
+            raise Failed("EINVAL")
+        first, second = self.directory(one[:-1]), self.directory(other[:-1])
+        if one[-1] not in first or other[-1] not in second:
+            raise Failed("ENOENT")
+
+        def turned(path):
+            if path[: len(one)] == one:
+                return other + path[len(one) :]
+            return one + path[len(other) :] if path[: len(other)] == other else path
+
+        self.nodes = {turned(path): node for path, node in self.nodes.items()}
+        return "ok"
+
     def stat(self, path):
         node = self.resolve(path)
         return f"stat {'file' if isinstance(node, bytes) else 'dir'} {len(node)}"
@@ -154,8 +171,8 @@ class Tree:
         kind, first, more = words[0], path_of(words[1]), words[2:]
         try:
             match kind:
-                case "rename":
-                    return self.rename(first, path_of(more[0]))
+                case "rename" | "exchange":
+                    return getattr(self, kind)(first, path_of(more[0]))
                 case "read":
                     return self.read(first, int(more[0]), int(more[1]))
                 case "write":

@@ -166,6 +166,9 @@ write /d/a 3 68656c6c6f
 write /d/a 3 68656c6c6f
 truncate /d/a 200
 read /d/a 2 4
+exchange /d/a /d/e
+exchange /d/e /d/a
+exchange /d/e /d/x
 rename /d/a /a
 rename /a /d/e/a
 rename /d/b /d/e/f/a
@@ -189,6 +192,8 @@ truncate /a/f%20g 4000
 rename /a/f%20g /g
 readdir /a
 stat /a
+exchange /a /g
+exchange /g /a
 unlink /g
 mkdir /b
 rmdir /b
@@ -206,6 +211,7 @@ write /a/d/f 3 ffff
 read /a/d/f 1 6
 truncate /a/d/f 4
 stat /a/d/f
+exchange /a /e
 rename /a /b
 unlink /a/f
 rmdir /e
@@ -517,7 +523,7 @@ class Library(Case):
         self.each(rows, self.promised)
 
     def test_promised_room_of_many(self):
-        """The same of a call of each kind, all of them under way: some wait, and a rename helps others."""
+        """The same of a call of each kind, all of them under way: some wait, and an exchange or a rename helps others."""
         calls = UNDER_WAY.splitlines()
         with Played(self, self.library) as tree:
             tree.opened(range(len(calls)))

@@ -14,6 +14,7 @@ import events
 
 NARROW_SCRIPTS = 1_000
 SCRIPTS = 2_000
+EXCHANGING_SCRIPTS = 500
 # How often each event came where another generator drew by the same shares. Here it comes as often but for an eighth, and never where it did not.
 NARROW_EVENTS = {"begun": 18_000, "took": 25_499, "busy": 13_384, "let go": 25_499, "committed": 18_000, "returned": 18_000}
 EVENTS = {
@@ -55,6 +56,14 @@ class Schedules(harness.Case):
         rows = ((f"script_{number}", drawn.narrow, number, events.drawn) for number in range(NARROW_SCRIPTS))
         self.each(rows, self.look)
         self.came(NARROW_EVENTS)
+
+    def test_exchanges(self):
+        """Each event comes."""
+        orders = events.rounds, events.drawn, events.words
+        rows = ((f"script_{number}_{order.__name__}", drawn.exchanging, number, order) for number in range(EXCHANGING_SCRIPTS) for order in orders)
+        self.each(rows, self.look)
+        if "ROW" not in os.environ:
+            self.same("the events that did not come", [event for event in (*events.BEGINS, *events.STEPS) if not self.counts[event]], [])
 
     def test_all_calls(self):
         orders = events.rounds, events.drawn, events.words

@@ -279,8 +279,8 @@ WORDS_OF = {
     "T": ("t", "u_2", "thread"),
 }
 CALLS = (
-    *("mkdir P", "mknod P", "mkdir P", "unlink P", "rmdir P", "rename P P", "stat P", "readdir P"),
-    *("read P N N", "write P N H", "truncate P N"),
+    *("mkdir P", "mknod P", "mkdir P", "unlink P", "rmdir P", "rename P P", "exchange P P"),
+    *("stat P", "readdir P", "read P N N", "write P N H", "truncate P N"),
 )
 REPLIES = "ok", "stat dir N", "stat file N", "names", "names a", "names a b%20c %C3%A9", "bytes H", "wrote N", "failed E"
 EVENTS = "T", "T*1", "T*2", "T*5", "T*9", "T*40"
@@ -291,7 +291,8 @@ BEGINNINGS = (
 # Words of all lines, right and wrong ones.
 WORDS = (
     *("", "#", "t", "T", "t*2", "t*0", "t*1000000", "t*1000001", "u", "finish", "thread", "schedule", "tree", "atomfs"),
-    *("mkdir", "mknod", "unlink", "rmdir", "rename", "stat", "readdir", "read", "write", "truncate", "begin", "commit", "return"),
+    *("mkdir", "mknod", "unlink", "rmdir", "rename", "exchange", "stat", "readdir", "read", "write", "truncate"),
+    *("begin", "commit", "return"),
     *("ok", "dir", "file", "names", "bytes", "wrote", "failed", "ENOENT", "ENOMEM"),
     *("0", "1", "2", "01", "65537", "18446744073709551616", "-", "ff", "abc"),
     *("/", "/a", "/a/b", "/a/", "/./a", "/a/..", "a", "/%00", "/a%2fb", "/%", "/a-name-of-more-bytes-than-thirty-two", "/n" * 65),

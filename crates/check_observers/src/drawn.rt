@@ -37,7 +37,7 @@ fn drawn_path(alloc: Global, random: &mut Pcg32) -> Option<Path> {
 
 fn drawn_call(alloc: Global, random: &mut Pcg32) -> Option<Call> {
     let path = drawn_path(alloc, random)?;
-    match random.next_u32() % 8 {
+    match random.next_u32() % 9 {
         0..3 => Some(Call::Mkdir(path)),
         3 => Some(Call::Mknod(path)),
         4 => Some(Call::Rename(path, drawn_path(alloc, random)?)),
@@ -46,6 +46,7 @@ fn drawn_call(alloc: Global, random: &mut Pcg32) -> Option<Call> {
             Some(Call::Write(path, 0, Bytes::new(bytes)))
         }
         6 => Some(Call::Unlink(path)),
+        7 => Some(Call::Exchange(path, drawn_path(alloc, random)?)),
         _ => Some(Call::Rmdir(path)),
     }
 }

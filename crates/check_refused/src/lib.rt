@@ -32,6 +32,8 @@ truncate /a/f%20g 4000
 rename /a/f%20g /g
 readdir /a
 stat /a
+exchange /a /g
+exchange /g /a
 unlink /g
 mkdir /b
 rmdir /b
@@ -55,6 +57,9 @@ write /d/a 3 68656c6c6f
 write /d/a 3 68656c6c6f
 truncate /d/a 200
 read /d/a 2 4
+exchange /d/a /d/e
+exchange /d/e /d/a
+exchange /d/e /d/x
 rename /d/a /a
 rename /a /d/e/a
 rename /d/b /d/e/f/a

@@ -24,6 +24,8 @@ read /s 0 2
 truncate /s 1
 stat /s
 readdir /
+exchange /d /s
+exchange /d /s
 rename /s /t
 unlink /t
 rmdir /d
@@ -83,19 +85,19 @@ fn on_four_threads<N: Named + Send + Sync, R: Threads + Wait + Clock + Sync>(
 
 /// Whether each answer fits, and no two have one number.
 fn fit(entries: &[Entry], list: &[Call], four: &[Vec<Answer>]) -> bool {
-    let mut seen = [false; 801];
+    let mut seen = [false; 961];
     let mut count = 0u64;
     for answers in four {
         count = count.wrapping_add(fitting(entries, list, answers, &mut seen));
     }
-    count == 800
+    count == 960
 }
 
 /// Whether these are the answers of the sessions of a timeline.
 fn all_fit(alloc: Global, list: &[Call], ended: &Ended) -> Option<bool> {
     let entries = ended.closed.timeline.entries();
     Some(
-        has_counts(&ended.closed, 4, 2400)
+        has_counts(&ended.closed, 4, 2880)
             && fit(entries, list, &ended.answers)
             && is_lawful(alloc, entries)?,
     )
@@ -112,7 +114,7 @@ fn play_four<R: Threads + Wait + Clock + Sync>(
     all_fit(alloc, list, &ended)
 }
 
-/// Whether four sessions, each twenty times the ten calls, get the replies of their own returns.
+/// Whether four sessions, each twenty times the eleven calls, get the replies of their own returns.
 pub fn are_right<R: Threads + Wait + Clock + Sync>(rt: &R, alloc: Global) -> Option<bool> {
     let lists = lists_of(alloc, &script(alloc)?)?;
     play_four(rt, alloc, calls_of(&lists, 0)?)

@@ -1,4 +1,4 @@
-//! Drawn calls over few names. A rename keeps the depth of what it moves, so each node can be named.
+//! Drawn calls over few names. A rename or an exchange keeps the depth of what it moves, so each node can be named.
 
 use crate::calls::path;
 use fs_calls::{Bytes, Call};
@@ -46,15 +46,25 @@ fn low(random: &mut Pcg32) -> u32 {
     }
 }
 
-/// Mostly of what stands high.
-fn rename(alloc: Global, random: &mut Pcg32) -> Option<Call> {
+/// Two paths of one depth, mostly of what stands high.
+fn drawn_pair(alloc: Global, random: &mut Pcg32) -> Option<(Path, Path)> {
     let names = match below(random, 6) {
         0..3 => 1,
         3..5 => 2,
         _ => 3,
     };
     let from = drawn_path(alloc, random, names)?;
-    Some(Call::Rename(from, drawn_path(alloc, random, names)?))
+    Some((from, drawn_path(alloc, random, names)?))
+}
+
+fn rename(alloc: Global, random: &mut Pcg32) -> Option<Call> {
+    let (from, to) = drawn_pair(alloc, random)?;
+    Some(Call::Rename(from, to))
+}
+
+fn exchange(alloc: Global, random: &mut Pcg32) -> Option<Call> {
+    let (path, other) = drawn_pair(alloc, random)?;
+    Some(Call::Exchange(path, other))
 }
 
 fn write(alloc: Global, random: &mut Pcg32, path: Path) -> Option<Call> {
@@ -66,12 +76,15 @@ fn write(alloc: Global, random: &mut Pcg32, path: Path) -> Option<Call> {
     Some(Call::Write(path, offset, Bytes::new(bytes)))
 }
 
-/// A call, by shares of a hundred: rename 30, mkdir 26, mknod 12, write 8, unlink, rmdir and stat 4 each, readdir, read and
-/// truncate the rest.
+/// A call, by shares of a hundred: mkdir 26, rename 22, mknod 12, exchange and write 8 each, unlink, rmdir and stat 4 each,
+/// readdir, read and truncate the rest.
 pub fn call(alloc: Global, random: &mut Pcg32) -> Option<Call> {
     let roll = below(random, 100);
-    if roll < 30 {
+    if roll < 22 {
         return rename(alloc, random);
+    }
+    if roll < 30 {
+        return exchange(alloc, random);
     }
     let names = low(random);
     let path = drawn_path(alloc, random, names)?;

@@ -68,6 +68,8 @@ fn say_parked<R: Print + Threads + Wait + Clock + Sync>(
 ) -> io::Result<()> {
     let what = match beside {
         Beside::Move => "beside the move of the directory above",
+        Beside::First => "beside an exchange of the directory above",
+        Beside::Second => "beside an exchange with the directory above",
         Beside::Removal => "beside a removal of what it is at",
     };
     for kind in 0..WORDS.len() {
@@ -90,6 +92,8 @@ fn say_all<R: Print + Threads + Wait + Clock + Sync>(rt: &R, alloc: Global) -> i
     let helped = held::rename_helps(rt, alloc);
     say(rt, "a rename helps a held call", helped)?;
     say_parked(rt, alloc, Beside::Move)?;
+    say_parked(rt, alloc, Beside::First)?;
+    say_parked(rt, alloc, Beside::Second)?;
     say_parked(rt, alloc, Beside::Removal)?;
     let lists = shared::lists_meet(rt, alloc);
     say(rt, "two lists run side by side", lists)?;

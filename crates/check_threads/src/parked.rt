@@ -1,5 +1,5 @@
-//! Calls of every kind, each held after each of its events, beside a call that moves the directory above it and beside one
-//! that removes what it is at.
+//! Calls of every kind, each held after each of its events, beside a call that moves the directory above it, beside one that
+//! lets it change places with another, by its first path and by its second, and beside one that removes what it is at.
 
 use crate::calls::{calls_of, commit_place, has_counts, is_before, lists_of};
 use crate::held::{Both, Hold, Parts, meet};
@@ -13,11 +13,12 @@ use std::sync::Wait;
 use std::thread::Threads;
 use std::time::Clock;
 
-/// The calls: those that make the tree, those that are held, for each of these one that removes what it is at, and the
-/// rename of the directory above.
+/// The calls: those that make the tree, those that are held, for each of these one that removes what it is at, and those that
+/// move the directory above.
 const CALLS: &[u8] = b"\
 atomfs 1
 thread made
+mkdir /z
 mkdir /a
 mkdir /a/d
 mkdir /a/d/e
@@ -29,6 +30,7 @@ mknod /a/d/x
 unlink /a/d/f
 rmdir /a/d/e
 rename /a/d/f /a/d/g
+exchange /a/d/e /a/d/f
 stat /a/d/f
 readdir /a/d/e
 read /a/d/f 0 9
@@ -41,18 +43,22 @@ unlink /a/d/f
 rmdir /a/d/e
 unlink /a/d/f
 unlink /a/d/f
+unlink /a/d/f
 rmdir /a/d/e
 unlink /a/d/f
 unlink /a/d/f
 unlink /a/d/f
-thread move
+thread moves
 rename /a /c
+exchange /a /z
+exchange /z /a
 schedule
 ";
 
 /// The words of the calls that are held, in their order.
-pub const WORDS: [&str; 10] = [
-    "mkdir", "mknod", "unlink", "rmdir", "rename", "stat", "readdir", "read", "write", "truncate",
+pub const WORDS: [&str; 11] = [
+    "mkdir", "mknod", "unlink", "rmdir", "rename", "exchange", "stat", "readdir", "read", "write",
+    "truncate",
 ];
 
 /// After so many events a walk from the root to a name below `/a` has let the root go.
@@ -67,7 +73,12 @@ const SHORT: u64 = 3;
 /// The call that begins while another one is held.
 #[derive(Clone, Copy, PartialEq, Eq)]
 pub enum Beside {
+    /// A rename of the directory above.
     Move,
+    /// An exchange, of which it is the first path.
+    First,
+    /// An exchange, of which it is the second path.
+    Second,
     Removal,
 }
 
@@ -100,7 +111,7 @@ fn is_held<R: Threads + Wait + Clock + Sync>(
     beside: Beside,
     after: u64,
 ) -> Option<bool> {
-    let is_passed = beside == Beside::Move && after >= BELOW;
+    let is_passed = beside != Beside::Removal && after >= BELOW;
     let turns = if is_passed { TURNS } else { SHORT };
     let both = meet(rt, alloc, parts, Hold { after, turns })?;
     was_held(alloc, &both, parts.made.len(), is_passed)
@@ -125,6 +136,8 @@ fn events<R: Threads + Wait + Clock + Sync>(
 fn parts_of(lists: &CallLists, kind: usize, beside: Beside) -> Option<Parts<'_>> {
     let (thread, place) = match beside {
         Beside::Move => (3, 0),
+        Beside::First => (3, 1),
+        Beside::Second => (3, 2),
         Beside::Removal => (2, kind),
     };
     Some(Parts {

@@ -34,7 +34,7 @@ because             a call belongs to the thread above it
 
 In a script, for    touch /a
 write               mknod /a
-because             there are ten calls, and `touch` is none of them
+because             there are eleven calls, and `touch` is none of them
 
 In a script, for    write /a 68656c6c6f
 write               write /a 0 68656c6c6f

@@ -1,4 +1,4 @@
-//! Calls that are drawn as a busy tree sees them: most of them look, some write, few make or remove.
+//! Calls that are drawn as a busy tree sees them: most of them look, some write, few make, remove or change places.
 
 use anyhow::Result;
 use fs_calls::{Bytes, Call, Reply};
@@ -44,6 +44,8 @@ enum Edit {
 struct Workload {
     alloc: Global,
     random: Pcg32,
+    /// What exchanges are drawn from, so that all other calls are the same without them.
+    pairs: Pcg32,
     tree: SeqTree,
     dirs: Vec<Text>,
     files: Vec<Text>,
@@ -63,6 +65,7 @@ impl Workload {
         Ok(Workload {
             alloc,
             random: Pcg32::seed_from_u64(1),
+            pairs: Pcg32::seed_from_u64(2),
             tree: SeqTree::new(alloc)?,
             dirs,
             files: Vec::new(alloc),
@@ -126,7 +129,23 @@ impl Workload {
         } else {
             Call::Readdir(self.dir()?.1)
         };
-        Ok((call, Edit::Nothing))
+        Ok((self.or_exchange(call)?, Edit::Nothing))
+    }
+
+    /// A known file, for an exchange.
+    fn either(&mut self) -> Result<Path> {
+        let word = self.pairs.next_u32() as usize;
+        let place = word.checked_rem(self.files.len()).unwrap_or(0);
+        path_at(self.alloc, &self.files, place)
+    }
+
+    /// A call that looks; of sixteen one is an exchange of two known files in its place.
+    fn or_exchange(&mut self, look: Call) -> Result<Call> {
+        if self.pairs.next_u32() % 16 != 0 {
+            return Ok(look);
+        }
+        let one = self.either()?;
+        Ok(Call::Exchange(one, self.either()?))
     }
 
     /// Calls that change the bytes of a file.
@@ -170,7 +189,7 @@ impl Workload {
     }
 
     /// The next call, by shares of a hundred: stat 28, read 22, readdir 7, write 16, truncate 3, mknod 8, unlink 6,
-    /// mkdir 4, rename 4, rmdir 2.
+    /// mkdir 4, rename 4, rmdir 2; of the first three now and then an exchange in place.
     fn next(&mut self) -> Result<(Call, Edit)> {
         let roll = self.random.next_u32() % 100;
         if roll < 57 {
