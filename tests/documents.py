@@ -534,7 +534,7 @@ class Changed(Sentences):
         return found
 
     def test_counts(self):
-        rows = table(CHANGING, "The eleventh call looks at", "Like", "Source", "Definitions", "Proofs", "Together")
+        rows = table(CHANGING, "The twelfth call looks at", "Like", "Source", "Definitions", "Proofs", "Together")
         self.each(((looks_at, spans(like)[0].title(), list(map(int, counts))) for looks_at, like, *counts in rows), self.look)
 
     def look(self, call, shown):
