@@ -1,4 +1,4 @@
--- On the heads of a rename whose common directory is a file or is not there: they have not left it.
+-- On the heads of a call on two entries whose common directory is a file or is not there: they have not left it.
 use Rattle.std.proofs.Common.{◌≡◌, ℕ, [], ◌∷◌, Option, Some, None, refl, sym, ap, ◌∙◌}
 use Rattle.fs_names.specs.Keys.{Key, parent_of}
 use Rattle.fs_names.specs.Parts.{left}

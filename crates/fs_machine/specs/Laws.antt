@@ -59,7 +59,7 @@ StepsAreDetermined = (s : State) → IsDetermined s
 abbrev pub StepsAddTheirEntries : Type 0
 StepsAddTheirEntries = (s : State) → AddsItsEntries s
 
--- in each state a rename helps a call below which no walking call stands
+-- in each state a call helps one below which no walking call stands
 abbrev pub TheLowestIsHelped : Type 0
 TheLowestIsHelped = (s : State) → HelpsTheLowest s
 

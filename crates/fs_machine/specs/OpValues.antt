@@ -87,7 +87,7 @@ HeadsApart (AtNode c p) st = Unit {0}
 HeadsApart (AtEntry c p) st = Unit {0}
 HeadsApart (AtPair c p q) st = st.source.node ≡ st.dest.node → st.source.walked ≡ st.dest.walked
 
--- from the node that a rename would move its new directory is not reached, once its heads have come to both parents
+-- from the node that a rename would move its new directory is not reached, and of the nodes that an exchange would move neither from the other, once the heads have come to both parents
 abbrev pub MovesApart : Graph → Form → Holdings → Type 0
 MovesApart graph (AtNode c p) st = Unit {0}
 MovesApart graph (AtEntry c p) st = Unit {0}

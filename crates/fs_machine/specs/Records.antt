@@ -6,13 +6,13 @@ use Rattle.fs_calls.specs.declared.call.Call.{Call}
 use Rattle.fs_calls.specs.Forms.{Form}
 use Rattle.fs_calls.specs.declared.reply.Reply.{Reply}
 
--- a head of a rename: the names that it has walked from the common directory, and its node
+-- a head of a call on two entries: the names that it has walked from the common directory, and its node
 pub record Head : Type 0 where
   pub walked : Key
   pub node : ℕ
 
--- where a call stands: the position, a node that its last step left behind and that it still holds, the two heads (of a rename; else they have
--- walked nothing), a victim
+-- where a call stands: the position, a node that its last step left behind and that it still holds, the two heads (of a call on two entries;
+-- else they have walked nothing), a victim
 pub record Holdings : Type 0 where
   pub node : ℕ
   pub behind : Option ℕ
@@ -20,7 +20,7 @@ pub record Holdings : Type 0 where
   pub dest : Head
   pub victim : Option ℕ
 
--- the two sides of a rename, each with a head
+-- the two sides of a call on two entries, each with a head
 pub data Side : Type 0 where
   Source Dest : Side
 

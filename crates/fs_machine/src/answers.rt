@@ -26,7 +26,7 @@ pub enum Stepped {
     Busy(NodeNo, CallNo),
     /// The call let this node go.
     LetGo(NodeNo),
-    /// The call, a rename, gave this other call its place in the timeline before its own.
+    /// The call, a rename or an exchange, gave this other call its place in the timeline before its own.
     Helped(CallNo),
     /// The call took its place in the timeline, made its change and fixed its reply.
     Committed,

@@ -91,7 +91,7 @@ left_head k j p h =
     let len : length (parent_of (drop k p)) ≡ length (parent_of p) - k = ap length (parent_drop k p) ∙ length-drop k (parent_of p) in
     rw (take_parent_front j (drop k p) (omega arith)) (left_take j (parent_of (drop k p)))
 
--- one head of a rename on its way to its parent
+-- one head of a call on two entries on its way to its parent
 pub head_dir_tie : (graph : Graph) (p : Key) (k : ℕ) (head : Head) (m : Move) → k + head.walked ≤ length (parent_of p)
     → first_of (step_move graph head.node (left (head_of p k head).walked (parent_of (drop k p)))) (dir_then (graph.shape head.node) m) ≡ want_then (dir_want graph head (head_name p k head)) m
 head_dir_tie graph p k head m h =

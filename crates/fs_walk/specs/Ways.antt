@@ -98,7 +98,7 @@ walking_by (Some x) dest = Some Source
 walking_by None (Some x) = Some Dest
 walking_by None None = None
 
--- the same, by the paths of a rename
+-- the same, by the paths of a call on two entries
 abbrev pub walking : Key → Key → ForkWay → Option Side
 walking source dest fork = walking_by (head_name source fork.names fork.source) (head_name dest fork.names fork.dest)
 
@@ -112,7 +112,7 @@ fork_stepped (Some Source) fork n = record fork { source = head_took fork.source
 fork_stepped (Some Dest) fork n = record fork { dest = head_took fork.dest n; behind = head_held fork.dest }
 fork_stepped None fork n = fork
 
--- both heads after a take, by the paths of a rename
+-- both heads after a take, by the paths of a call on two entries
 abbrev pub fork_took : Key → Key → ForkWay → ℕ → ForkWay
 fork_took source dest fork n = fork_stepped (walking source dest fork) fork n
 
