@@ -219,12 +219,7 @@ impl Twins {
         let other = self.plain.store.find(dir.plain, name);
         let entries = self.plain.store.entries(dir.plain);
         let again = self.linked.store.find(dir.linked, name);
-        let (ahead, looks) = self.linked.store.find_looks(dir.linked, name);
-        let same = self.are_one(node, other)
-            && again == node
-            && ahead == node
-            && steps <= entries
-            && looks <= steps.saturating_mul(2);
+        let same = self.are_one(node, other) && again == node && steps <= entries;
         self.expect(same);
         node.is_some()
     }

@@ -122,7 +122,7 @@ fewer_above y z (w ∷ ws) h g = here (same_name z w) refl g (λ k. fewer_above 
     here false e k rest = go (is_above (Some z) w) refl (is_above (Some y) w) refl (rest k)
 
 -- so with a leap there are fewer entries to come
-leap_nearer : (ps : List Place) (dir at n : ℕ) (p q : Place) → IsPlaces ps → slice_get ps at ≡ Some p → slice_get ps n ≡ Some q → (graph_of_places ps).child dir q.name ≡ Some n → is_above (Some p.name) q.name ≡ true → rank ps dir (Some n) < rank ps dir (Some at)
+pub leap_nearer : (ps : List Place) (dir at n : ℕ) (p q : Place) → IsPlaces ps → slice_get ps at ≡ Some p → slice_get ps n ≡ Some q → (graph_of_places ps).child dir q.name ≡ Some n → is_above (Some p.name) q.name ≡ true → rank ps dir (Some n) < rank ps dir (Some at)
 leap_nearer ps dir at n p q places e f k h =
     let names : List Name = names_of ((graph_of_places ps).shape dir) in
     let has : has_name q.name (names_of ((graph_of_places ps).shape dir)) ≡ true = dir_has ps dir q.name places ∙ ap is_some k in
@@ -166,7 +166,7 @@ single_passed ps dir x n p places r v =
     }
 
 -- no name is greater than itself
-not_greater : (x : Name) → is_gt (name_cmp x x) ≡ false
+pub not_greater : (x : Name) → is_gt (name_cmp x x) ≡ false
 not_greater x = ap is_gt (tied_itself name_total x)
 
 -- with a single step too there are fewer entries to come

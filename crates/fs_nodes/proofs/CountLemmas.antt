@@ -76,7 +76,7 @@ end_looked ps dir x next steps places s e =
     far none y r = let h : ◌≡◌ {A = Option Name} None (Some r.0) = sym none ∙ r.1 in cc
 
 -- how many entries are still to come, where a search stands
-rank_left : (ps : List Place) (dir : ℕ) (x : Name) (prev next : Option ℕ) → IsPlaces ps → (s : IsPassed ps dir x prev next) → rank ps dir next ≡ length (names_above s.low (names_of ((graph_of_places ps).shape dir)))
+pub rank_left : (ps : List Place) (dir : ℕ) (x : Name) (prev next : Option ℕ) → IsPlaces ps → (s : IsPassed ps dir x prev next) → rank ps dir next ≡ length (names_above s.low (names_of ((graph_of_places ps).shape dir)))
 rank_left ps dir x prev None places s = sym (ap length (no_names_above s.low (names_of ((graph_of_places ps).shape dir)) (entry_none ps dir s.low places (sym s.next_is))))
 rank_left ps dir x prev (Some n) places s =
     let g : (p : Place) × (slice_get ps n ≡ Some p) = get_some ps n (next_within ps dir s.low n (sym s.next_is)) in

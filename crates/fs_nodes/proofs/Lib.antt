@@ -12,3 +12,6 @@ pub mod MoveLemmas
 pub mod SwapLemmas
 pub mod SeenLemmas
 pub mod AheadLemmas
+pub mod IndexLemmas
+pub mod KeyLemmas
+pub mod WalkLemmas

@@ -4,3 +4,5 @@ pub mod Linked
 pub mod Frees
 pub mod Heads
 pub mod Strides
+pub mod Keys
+pub mod Indexes

@@ -1,10 +1,12 @@
 //! The name of an entry, with its first bytes as one number.
 
-ghost use Rattle.std.specs.Prelude.{◌≡◌, ◌≤◌, Some, length, take};
+ghost use Rattle.std.specs.Prelude.{◌≡◌, ◌≤◌, IsTrue, nat_le, Some, length, take};
 ghost use Rattle.fs_names.specs.Names.{name_cmp};
 ghost use Rattle.fs_plain.specs.Stores.{is_above};
 ghost use Rattle.fs_nodes.specs.code.Heads.{IsHead};
+ghost use Rattle.fs_nodes.specs.code.Keys.{key_of};
 
+use crate::key::Key;
 use fs_names::Name;
 use std::cmp::Ordering;
 use std::marker::Model;
@@ -85,6 +87,14 @@ fn cmp_behind(name: &Name, other: &Name) -> Ordering
     bytes.len().cmp(&others.len())
 }
 
+/// Whether all bytes of a name stand in its number.
+#[inline(always)]
+pub fn is_short(name: &Name) -> bool
+    ensures { result ≡ nat_le (length name.now) WIDTH }
+{
+    name.bytes().len() <= WIDTH
+}
+
 impl Label {
     /// The label of a name.
     pub fn new(name: Name) -> Label
@@ -110,6 +120,13 @@ impl Label {
         self.name.copy()
     }
 
+    /// The key of an entry of this name.
+    pub fn key(&self, dir: usize) -> Key
+        ensures { result ≡ key_of dir self.now }
+    {
+        Key::new(dir, self.head, &self.name)
+    }
+
     /// How it stands to a name whose first bytes are this number.
     pub fn cmp(&self, first: u64, name: &Name) -> Ordering
         requires { IsHead first name.now }
@@ -128,6 +145,17 @@ impl Label {
             return Ordering::Equal;
         }
         cmp_behind(&self.name, name)
+    }
+
+    /// Whether it is a name whose first bytes are this number, and which has no others.
+    #[inline(always)]
+    pub fn is_word(&self, first: u64, name: &Name) -> bool
+        requires { IsHead first name.now }
+        ensures { IsTrue result → self.now ≡ name.now }
+    {
+        let bytes = self.name.bytes();
+        let others = name.bytes();
+        self.head == first && bytes.len() <= WIDTH && others.len() <= WIDTH
     }
 
     /// Whether it comes after another one.

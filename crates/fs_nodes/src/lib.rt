@@ -12,6 +12,8 @@
 //! keep, `Frees` what its free places do.
 #![tactic(auto)]
 
+mod index;
+mod key;
 mod label;
 pub mod number;
 mod place;

@@ -3,10 +3,12 @@
 ghost use Rattle.std.specs.Prelude.{◌≡◌, ◌≤◌, ◌<◌, ◌++◌, ◌∷◌, [], length, Some, None, IfSome, OnOk, OnErr, slice_get, option_map};
 ghost use Rattle.fs_plain.specs.code.Edits.{new_content};
 ghost use Rattle.std.specs.Option.{option_copied};
-ghost use Rattle.fs_plain.specs.Stores.{content_at, link_at};
-ghost use Rattle.fs_nodes.specs.Plains.{plains};
+ghost use Rattle.fs_plain.specs.Stores.{content_at, link_at, link_of};
+ghost use Rattle.fs_nodes.specs.Plains.{plain, plains};
+ghost use Rattle.fs_nodes.specs.code.Keys.{key_of_link};
 ghost use Rattle.fs_nodes.specs.code.Linked.{edited, filled, vacated, content_with, content_old, with_content};
 
+use crate::key::Key;
 use crate::label::Label;
 use crate::spot::Spot;
 use fs_names::{Kind, NODE_LIMIT, Name};
@@ -97,6 +99,19 @@ pub fn content_at(places: &[Place], node: usize) -> Option<&Content>
         place.content.as_ref()
     } else {
         None
+    }
+}
+
+/// The key of the entry that names a place's node.
+pub fn key_of_place(place: &Place) -> Option<Key>
+    ensures { result ≡ key_of_link (link_of (plain place.now)) }
+{
+    match place.content {
+        Some(_) => match place.parent.get() {
+            Some(dir) => Some(place.name.key(dir)),
+            None => None,
+        },
+        None => None,
     }
 }
 

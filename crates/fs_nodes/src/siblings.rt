@@ -1,15 +1,20 @@
 //! Looking along the entries of one directory.
 
-ghost use Rattle.std.specs.Prelude.{◌≡◌, ◌≤◌, ◌<◌, ◌+◌, ◌-◌, ◌*◌, length, Some, None, IfSome, slice_get, option_map};
+ghost use Rattle.std.specs.Prelude.{◌≡◌, ◌≤◌, ◌<◌, ◌+◌, ◌-◌, length, Some, None, IfSome, slice_get, option_map};
 ghost use Rattle.std.specs.Option.{option_copied};
 ghost use Rattle.fs_names.specs.Shapes.{names_of};
-ghost use Rattle.fs_plain.specs.Stores.{link_of, is_in, next_entry, looked, IsNextName, IsEntryAfter, IsNameAfter};
-ghost use Rattle.fs_nodes.specs.Plains.{plain};
+ghost use Rattle.fs_plain.specs.Stores.{link_of, is_in, next_entry, IsNextName, IsEntryAfter, IsNameAfter};
+ghost use Rattle.fs_nodes.specs.Plains.{plain, plains};
 ghost use Rattle.fs_graph.specs.Graphs.{IsUnlinked};
 ghost use Rattle.fs_nodes.specs.code.Heads.{IsHead};
-ghost use Rattle.fs_nodes.specs.code.Linked.{graph_of_places, next_child, IsPlaces, IsGap, IsNextSibling, IsLesser, may_leap, IsPassed, rank, edited, with_entries, entered, led, followed, pointed, put_between, taken_out};
+ghost use Rattle.fs_nodes.specs.code.Keys.{key_of, keys_of};
+ghost use Rattle.fs_nodes.specs.code.Indexes.{IsIndex};
+ghost use Rattle.fs_nodes.specs.code.Spots.{is_number, one_of};
+ghost use Rattle.fs_nodes.specs.code.Linked.{graph_of_places, next_child, IsPlaces, IsGap, IsNextSibling, IsEntry, IsLesser, IsGreater, may_leap, IsPassed, rank, edited, with_entries, entered, led, followed, pointed, put_between, taken_out};
 
-use crate::label::{Label, head};
+use crate::index::{Found, Slot, seek};
+use crate::key::Key;
+use crate::label::{Label, head, is_short};
 use crate::place::{Place, dir_of};
 use crate::spot::Spot;
 use crate::stride::Stride;
@@ -30,26 +35,178 @@ fn first_of(places: &[Place], dir: usize) -> Option<usize>
     }
 }
 
-/// The node of an entry, and at how many places was looked.
-pub fn find_steps(places: &[Place], dir: usize, name: &Name) -> (Option<usize>, usize)
-    requires { IsPlaces places.now }
-    ensures child { result.0 ≡ (graph_of_places places.now).child dir name.now }
-    ensures steps { result.1 ≤ length (names_of ((graph_of_places places.now).shape dir)) }
-    ensures looked { result.1 ≡ looked name.now (names_of ((graph_of_places places.now).shape dir)) }
+/// Whether a number is this one.
+fn is_number(number: Option<usize>, n: usize) -> bool
+    ensures { result ≡ is_number number n }
 {
-    let start = head(name.bytes());
+    match number {
+        Some(m) => m == n,
+        None => false,
+    }
+}
+
+/// The node of an entry, and at how many of its siblings was looked: at none up to the one after which the walk begins, and at
+/// none from the one on before which it ends.
+#[inline(never)]
+fn walk(
+    places: &[Place],
+    dir: usize,
+    after: Option<usize>,
+    end: Option<usize>,
+    first: u64,
+    name: &Name,
+) -> (Option<usize>, usize)
+    requires places { IsPlaces places.now }
+    requires first { IsHead first name.now }
+    requires after { IfSome after (IsLesser (graph_of_places places.now) dir name.now) }
+    requires end { IfSome end (IsGreater (graph_of_places places.now) dir name.now) }
+    ensures child { result.0 ≡ (graph_of_places places.now).child dir name.now }
+    ensures steps { result.1 + one_of after + one_of end ≤ length (names_of ((graph_of_places places.now).shape dir)) }
+    ensures least { IfSome result.0 (λ n. 1 ≤ result.1) }
+{
+    let mut next = match after {
+        Some(n) => {
+            let place = &places[n];
+            place.next.get()
+        }
+        None => first_of(places, dir),
+    };
     let mut steps = 0;
-    let mut next = first_of(places, dir);
     while let Some(n) = next {
+        if is_number(end, n) {
+            return (None, steps);
+        }
         let place = &places[n];
         steps += 1;
-        match place.name.cmp(start, name) {
+        match place.name.cmp(first, name) {
             Ordering::Less => next = place.next.get(),
             Ordering::Equal => return (Some(n), steps),
             Ordering::Greater => return (None, steps),
         }
     }
     (None, steps)
+}
+
+/// One place more was looked at.
+fn with_one(looked: (Option<usize>, usize)) -> (Option<usize>, usize)
+    requires { looked.1 ≤ NODE_LIMIT }
+    ensures node { result.0 ≡ looked.0 }
+    ensures steps { result.1 ≡ looked.1 + 1 }
+{
+    (looked.0, looked.1 + 1)
+}
+
+/// The same of a walk beside an entry of the directory that is looked at first, if one is given, and which is not looked at
+/// again.
+#[inline(never)]
+fn search(
+    places: &[Place],
+    dir: usize,
+    other: Option<usize>,
+    first: u64,
+    name: &Name,
+) -> (Option<usize>, usize)
+    requires places { IsPlaces places.now }
+    requires first { IsHead first name.now }
+    requires other { IfSome other (IsEntry (graph_of_places places.now) dir) }
+    ensures child { result.0 ≡ (graph_of_places places.now).child dir name.now }
+    ensures steps { result.1 ≤ length (names_of ((graph_of_places places.now).shape dir)) }
+    ensures least { IfSome result.0 (λ n. 1 ≤ result.1) }
+{
+    let Some(n) = other else {
+        return walk(places, dir, None, None, first, name);
+    };
+    let place = &places[n];
+    match place.name.cmp(first, name) {
+        Ordering::Less => with_one(walk(places, dir, Some(n), None, first, name)),
+        Ordering::Equal => (Some(n), 1),
+        Ordering::Greater => with_one(walk(places, dir, None, Some(n), first, name)),
+    }
+}
+
+/// The node of the entry with a key, and at how many places was looked: at the one that the slots say, and where this does not
+/// decide, at its siblings.
+#[inline(always)]
+fn look(
+    slots: &[Slot],
+    places: &[Place],
+    key: Key,
+    first: u64,
+    name: &Name,
+) -> (Option<usize>, usize)
+    requires places { IsPlaces places.now }
+    requires slots { IsIndex slots.now (keys_of (plains places.now)) }
+    requires first { IsHead first name.now }
+    requires key { key ≡ key_of key.dir name.now }
+    ensures child { result.0 ≡ (graph_of_places places.now).child key.dir name.now }
+    ensures steps { result.1 ≤ length (names_of ((graph_of_places places.now).shape key.dir)) }
+    ensures least { IfSome result.0 (λ n. 1 ≤ result.1) }
+{
+    match seek(slots, key) {
+        Found::Node(n) => {
+            let place = &places[n];
+            if place.name.is_word(first, name) {
+                (Some(n), 1)
+            } else {
+                search(places, key.dir, Some(n), first, name)
+            }
+        }
+        Found::Nothing => (None, 0),
+        Found::Open => search(places, key.dir, None, first, name),
+    }
+}
+
+/// The same of a name that is longer than its first bytes.
+// With its own copy, so that the other one keeps nothing while such a name is hashed.
+#[inline(never)]
+fn look_long(
+    slots: &[Slot],
+    places: &[Place],
+    dir: usize,
+    first: u64,
+    name: &Name,
+) -> (Option<usize>, usize)
+    requires places { IsPlaces places.now }
+    requires slots { IsIndex slots.now (keys_of (plains places.now)) }
+    requires first { IsHead first name.now }
+    ensures child { result.0 ≡ (graph_of_places places.now).child dir name.now }
+    ensures steps { result.1 ≤ length (names_of ((graph_of_places places.now).shape dir)) }
+    ensures least { IfSome result.0 (λ n. 1 ≤ result.1) }
+{
+    look(slots, places, Key::new(dir, first, name), first, name)
+}
+
+/// The node of an entry, and at how many places was looked.
+#[inline(always)]
+pub fn find_steps(
+    slots: &[Slot],
+    places: &[Place],
+    dir: usize,
+    name: &Name,
+) -> (Option<usize>, usize)
+    requires places { IsPlaces places.now }
+    requires slots { IsIndex slots.now (keys_of (plains places.now)) }
+    ensures child { result.0 ≡ (graph_of_places places.now).child dir name.now }
+    ensures steps { result.1 ≤ length (names_of ((graph_of_places places.now).shape dir)) }
+    ensures least { IfSome result.0 (λ n. 1 ≤ result.1) }
+{
+    let first = head(name.bytes());
+    if is_short(name) {
+        look(slots, places, Key::new(dir, first, name), first, name)
+    } else {
+        look_long(slots, places, dir, first, name)
+    }
+}
+
+/// The same, where the number is not asked for.
+// With its own copy, in which the compiler leaves the counting out.
+#[inline(never)]
+pub fn find(slots: &[Slot], places: &[Place], dir: usize, name: &Name) -> Option<usize>
+    requires places { IsPlaces places.now }
+    requires slots { IsIndex slots.now (keys_of (plains places.now)) }
+    ensures { result ≡ (graph_of_places places.now).child dir name.now }
+{
+    find_steps(slots, places, dir, name).0
 }
 
 /// Whether a place is that of an entry of the directory.
@@ -92,45 +249,6 @@ fn leap(places: &[Place], dir: usize, at: usize, to: usize, first: u64, name: &N
     } else {
         (Spot::at(at), place.next)
     }
-}
-
-/// The node of an entry, found by the ways ahead, and at how many places was looked: at those on the way, and at those where
-/// a way led.
-#[inline(always)]
-pub fn find_looks(places: &[Place], dir: usize, name: &Name) -> (Option<usize>, usize)
-    requires { IsPlaces places.now }
-    ensures child { result.0 ≡ (graph_of_places places.now).child dir name.now }
-    ensures looks { result.1 ≤ 2 * looked name.now (names_of ((graph_of_places places.now).shape dir)) }
-{
-    let start = head(name.bytes());
-    let mut looks = 0;
-    let mut next = first_of(places, dir);
-    while let Some(n) = next {
-        let place = &places[n];
-        looks += 1;
-        match place.name.cmp(start, name) {
-            Ordering::Less => match place.ahead.below(places.len()) {
-                Some(to) => {
-                    looks += 1;
-                    next = leap(places, dir, n, to, start, name).1.get();
-                }
-                None => next = place.next.get(),
-            },
-            Ordering::Equal => return (Some(n), looks),
-            Ordering::Greater => return (None, looks),
-        }
-    }
-    (None, looks)
-}
-
-/// The same, where the number is not asked for.
-// With its own copy of the walk, in which the compiler leaves the counting out.
-#[inline(never)]
-pub fn find(places: &[Place], dir: usize, name: &Name) -> Option<usize>
-    requires { IsPlaces places.now }
-    ensures { result ≡ (graph_of_places places.now).child dir name.now }
-{
-    find_looks(places, dir, name).0
 }
 
 /// The siblings between which an entry of this name belongs, where there is none yet, and how the walk went.

@@ -142,6 +142,14 @@ abbrev pub pointed : Option ℕ → Option ℕ → List Place → List Place
 pointed None to ps = ps
 pointed (Some n) to ps = edited n (with_ahead to) ps
 
+-- an entry of a directory
+abbrev pub IsEntry : Graph → ℕ → ℕ → Type 0
+IsEntry graph dir n = (y : Name) × (graph.child dir y ≡ Some n)
+
+-- an entry whose name is greater than a given one
+abbrev pub IsGreater : Graph → ℕ → Name → ℕ → Type 0
+IsGreater graph dir x n = (y : Name) × (graph.child dir y ≡ Some n) × (is_above (Some x) y ≡ true)
+
 -- an entry whose name is lesser than a given one
 abbrev pub IsLesser : Graph → ℕ → Name → ℕ → Type 0
 IsLesser graph dir x n = (y : Name) × (graph.child dir y ≡ Some n) × (is_above (Some y) x ≡ true)

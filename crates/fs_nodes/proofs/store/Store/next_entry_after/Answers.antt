@@ -9,8 +9,8 @@ returns-in-Some-clause-unlinked c = λ h. absurd (none_some _ _ ((rw (c.deref.en
 
 pub returns-in-Some-clause-real : goal.returns-in-Some-clause-real
 unfolding graph_of limit_of room
-returns-in-Some-clause-real c = rw (← c.self.view_is) (linked_real c.self.inside.limit c.self.inside.places.items c.self.inside.free c.self.invariant)
+returns-in-Some-clause-real c = rw (← c.self.view_is) (linked_real c.self.inside.limit c.self.inside.places.items c.self.inside.free c.self.invariant.0)
 
 pub returns-in-None-clause-real : goal.returns-in-None-clause-real
 unfolding graph_of limit_of room
-returns-in-None-clause-real c = rw (← c.self.view_is) (linked_real c.self.inside.limit c.self.inside.places.items c.self.inside.free c.self.invariant)
+returns-in-None-clause-real c = rw (← c.self.view_is) (linked_real c.self.inside.limit c.self.inside.places.items c.self.inside.free c.self.invariant.0)
