@@ -3,11 +3,13 @@
 //! looked at, or who holds what.
 //!
 //! A drawn call is made where its conditions hold, also of directories with entries; others are drawn in the place of those
-//! that cannot be made. It writes how many calls of each kind were made, and how many answers differed: none. Then entries
-//! change what they name, those of a small tree and drawn ones, beside calls of a stream of their own.
+//! that cannot be made. It writes how many calls of each kind were made, and how many answers differed: none. Then calls are
+//! drawn on full directories, also with names that the index keeps apart badly, and at how many places look-ups look is
+//! written. Then entries change what they name, those of a small tree and drawn ones, beside calls of a stream of their own.
 #![tactic(auto)]
 
 mod calls;
+mod crowded;
 mod drawing;
 mod examples;
 mod locks;
@@ -16,6 +18,7 @@ mod tally;
 mod twins;
 
 use anyhow::{Result, bail};
+use calls::LIMIT;
 use drawing::{below, name};
 use fs_names::{Kind, Name};
 use rand_core::{Rng, SeedableRng};
@@ -152,9 +155,10 @@ pub fn run(rt: &impl Print, alloc: Global) -> Result<()> {
     println!(rt;
         "locks: one holder at a time, all calls but the last can hold, nodes in the order taken"
     )?;
-    let mut twins = Twins::new(alloc)?;
+    let mut twins = Twins::new(alloc, LIMIT)?;
     let mut tally = Tally::default();
     draw_all(alloc, &mut twins, &mut tally)?;
     tally.write(rt, twins.others)?;
+    crowded::run(rt, alloc)?;
     swaps::run(rt, alloc)
 }

@@ -1,5 +1,6 @@
 //! Entries that change what they name, in both stores: those of a small tree, and drawn ones.
 
+use crate::calls::LIMIT;
 use crate::drawing::name;
 use crate::tally::Tally;
 use crate::twins::Twins;
@@ -35,7 +36,7 @@ fn letter(byte: u8) -> Result<Name> {
 /// The root has a file `a`, a directory `b`, a file `c` and a directory `d`, in which are a file `a` and a directory `b`.
 fn tree(alloc: Global, letters: &[Name; 4]) -> Result<Twins> {
     let [a, b, c, d] = letters;
-    let mut twins = Twins::new(alloc)?;
+    let mut twins = Twins::new(alloc, LIMIT)?;
     for (kind, dir, name) in [
         (Kind::File, 0, a),
         (Kind::Dir, 0, b),
@@ -150,7 +151,7 @@ pub fn run(rt: &impl Print, alloc: Global) -> Result<()> {
     println!(rt;
         "swaps: neighbours in both orders, the first and the last, of two directories, a file with a directory"
     )?;
-    let mut twins = Twins::new(alloc)?;
+    let mut twins = Twins::new(alloc, LIMIT)?;
     let mut tally = Tally::default();
     swap_all_drawn(alloc, &mut twins, &mut tally)?;
     tally.write_swaps(rt, twins.others)?;

@@ -1,6 +1,10 @@
 //! The two stores, which get the same calls.
 
-use crate::calls::{LIMIT, Linked, Plain};
+ghost use Rattle.std.specs.Prelude.{◌≤◌};
+ghost use Rattle.fs_names.specs.declared.limits.TheConstants.{NODE_LIMIT};
+
+use crate::calls::{Linked, Plain};
+use crate::tally::Looks;
 use fs_names::{Kind, Name};
 use fs_nodes::{NoNode, NodeNo, Store, plain};
 use std::alloc::{AllocError, Global};
@@ -28,24 +32,32 @@ pub struct Twins {
     linked: Linked,
     plain: Plain,
     nodes: Vec<Twin>,
+    limit: usize,
     /// How many answers differed.
     pub others: u32,
+    /// At how many places `find_steps` has looked.
+    pub looks: Looks,
 }
 
 impl Twins {
-    /// The roots alone.
-    pub fn new(alloc: Global) -> Result<Twins, AllocError> {
+    /// The roots alone, in stores for so many nodes.
+    pub fn new(alloc: Global, limit: usize) -> Result<Twins, AllocError>
+        requires least { 1 ≤ limit }
+        requires most { limit ≤ NODE_LIMIT }
+    {
         let mut nodes = Vec::new(alloc);
         nodes.push(Twin::root())?;
         Ok(Twins {
             linked: Linked {
-                store: Store::new(alloc, LIMIT)?,
+                store: Store::new(alloc, limit)?,
             },
             plain: Plain {
-                store: plain::Store::new(alloc, LIMIT)?,
+                store: plain::Store::new(alloc, limit)?,
             },
             nodes,
+            limit,
             others: 0,
+            looks: Looks::default(),
         })
     }
 
@@ -106,6 +118,11 @@ impl Twins {
                 Ok(false)
             }
         }
+    }
+
+    /// How many entries a directory has.
+    pub fn entries(&self, dir: &Twin) -> usize {
+        self.linked.store.entries(dir.linked)
     }
 
     /// Whether a node is a directory with entries.
@@ -220,6 +237,7 @@ impl Twins {
         let entries = self.plain.store.entries(dir.plain);
         let again = self.linked.store.find(dir.linked, name);
         let same = self.are_one(node, other) && again == node && steps <= entries;
+        self.looks.count(steps);
         self.expect(same);
         node.is_some()
     }
@@ -251,7 +269,7 @@ impl Twins {
         let mut entry = self.linked.store.next_name(dir.linked, None);
         let mut other = self.plain.store.next_name(dir.plain, None);
         let has_entries = entry.is_some();
-        for _ in 0..LIMIT {
+        for _ in 0..self.limit {
             let same = self.are_one_entry(&entry, &other);
             self.expect(same);
             let (Some((name, node)), Some((low, _))) = (entry, other) else {

@@ -339,7 +339,8 @@ none_with homes slots keys n at key s held there = record {
         let c : with_slot homes (freeing at slots) h + slot_weight homes h (slot_at slots at) ≡ with_slot homes slots h + 0 = sum_by-set (slot_weight homes h) slots at (record (slot_at slots at) { node = None }) free_slot inside in
         let k : Some (key_in (slot_at slots at)) ≡ Some key = sym (s.told at n held) ∙ there in
         let i : (slot_at slots at).hash ≡ key.hash = (let j : key_in (slot_at slots at) ≡ key = cc in ap (λ (z : Key). z.hash) j) in
-        let w : slot_weight homes h (slot_at slots at) ≡ cond (eqb h (home_of homes key.hash)) 1 0 = ap (λ (z : Option ℕ). cond (is_some z && eqb h (home_of homes (slot_at slots at).hash)) 1 0) held ∙ ap (λ (z : ℕ). cond (eqb h (home_of homes z)) 1 0) i in
+        let w : slot_weight homes h (slot_at slots at) ≡ cond {A = ℕ} (eqb h (home_of homes (slot_at slots at).hash)) 1 0 = ap (λ (z : Option ℕ). cond {A = ℕ} (is_some z && eqb h (home_of homes (slot_at slots at).hash)) 1 0) held in
+        let v : cond {A = ℕ} (eqb h (home_of homes (slot_at slots at).hash)) 1 0 ≡ cond {A = ℕ} (eqb h (home_of homes key.hash)) 1 0 = ap (λ (z : ℕ). cond {A = ℕ} (eqb h (home_of homes z)) 1 0) i in
         let d : with_slot homes slots h + ((slot_at slots h).reach - WINDOW) ≡ at_home homes keys h = s.counted h in
         let o : at_home homes (set keys n None) h + cond (eqb h (home_of homes key.hash)) 1 0 ≡ at_home homes keys h = one_less homes h keys n key there in
         omega arith

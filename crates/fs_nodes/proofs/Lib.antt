@@ -1,7 +1,6 @@
 pub mod OrderLemmas
 pub mod HeadLemmas
 pub mod StepLemmas
-pub mod CountLemmas
 pub mod GapLemmas
 pub mod LinkLemmas
 pub mod UnlinkLemmas

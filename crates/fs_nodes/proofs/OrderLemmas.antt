@@ -60,7 +60,7 @@ found_has low y (z ∷ zs) e = go (is_above low z) e (λ g. found_has low y zs g
     go false g rest = by (same_name y z) (rest g)
 
 -- what is not above a name is not above one that is
-pub not_above_more : (low : Option Name) (x z : Name) → is_above low x ≡ true → is_above low z ≡ false → is_above (Some x) z ≡ false
+not_above_more : (low : Option Name) (x z : Name) → is_above low x ≡ true → is_above low z ≡ false → is_above (Some x) z ≡ false
 not_above_more low x z h g = go (is_above (Some x) z) refl
   where
     go : (t : Bool) → is_above (Some x) z ≡ t → is_above (Some x) z ≡ false

@@ -1,5 +1,5 @@
 -- Looking along the siblings of a directory.
-use Rattle.std.proofs.Common.{◌≡◌, ℕ, zero, suc, ◌+◌, ◌<◌, ◌≤◌, Bool, true, false, cond, List, [], ◌∷◌, Option, Some, None, ◌⊎◌, inl, inr, is_some, option_map, length, get_or, refl, sym, ap, subst, ◌∙◌, arith, zero-add}
+use Rattle.std.proofs.Common.{◌≡◌, ℕ, zero, suc, ◌<◌, ◌≤◌, Bool, true, false, cond, List, [], ◌∷◌, Option, Some, None, ◌⊎◌, inl, inr, is_some, option_map, length, get_or, refl, sym, ap, subst, ◌∙◌, arith}
 use Rattle.std.specs.Prelude.{slice_get}
 use Rattle.std.specs.List.{find}
 use Rattle.std.specs.Ordering.{is_lt, is_gt}
@@ -51,22 +51,6 @@ entry_parts p d y e = go p.content p.parent e
 pub child_place : (ps : List Place) (d : ℕ) (y : Name) (n : ℕ) (p : Place) → slice_get ps n ≡ Some p → child_in (plains ps) d y ≡ Some n → link_of (plain p) ≡ Some (record { dir = d; name = y })
 child_place ps d y n p e k = sym (link_of_place ps n p e) ∙ child_link (plains ps) d y n k
 
--- a search so far: all names up to the low one were passed
-pub record IsSought (graph : Graph) (dir : ℕ) (x : Name) (next : Option ℕ) (steps : ℕ) : Type 0 where
-  pub low : Option Name
-  pub next_is : next ≡ next_child graph dir low
-  pub below : is_above low x ≡ true
-  pub count : steps + length (names_above low (names_of (graph.shape dir))) ≡ length (names_of (graph.shape dir))
-
--- the start
-pub sought_first : (graph : Graph) (dir : ℕ) (x : Name) (next : Option ℕ) → next ≡ next_child graph dir None → IsSought graph dir x next 0
-sought_first graph dir x next e = record {
-  low = None;
-  next_is = e;
-  below = refl;
-  count = zero-add _ ∙ ap length (all_names (names_of (graph.shape dir)));
-}
-
 -- a first entry, as a place has it
 pub first_place : (ps : List Place) (d : ℕ) (p : Place) → IsPlaces ps → d < length ps → p ≡ get_or ps d p → p.first ≡ next_child (graph_of_places ps) d None
 first_place ps d p places h v = (places.each d p (slice_get_read ps _ d p refl h v)).first
@@ -112,26 +96,6 @@ met ps dir low n p places e h =
       next = b.0 ∙ ap (λ (w : Name). next_child (graph_of_places ps) dir (Some w)) (sym q);
     }
 
--- the next step
-pub sought_more : (ps : List Place) (dir : ℕ) (x : Name) (low : Option Name) (n : ℕ) (p : Place) (steps more : ℕ) → IsPlaces ps → IsMet ps dir low n p → more ≡ steps + 1 → is_above (Some p.name) x ≡ true
-    → steps + length (names_above low (names_of ((graph_of_places ps).shape dir))) ≡ length (names_of ((graph_of_places ps).shape dir)) → IsSought (graph_of_places ps) dir x p.next more
-sought_more ps dir x low n p steps more places m k b count =
-    let e : names_above low (names_of ((graph_of_places ps).shape dir)) ≡ p.name ∷ names_above (Some p.name) (names_of ((graph_of_places ps).shape dir)) = next_names low None p.name (names_of ((graph_of_places ps).shape dir)) (dir_ascends ps dir places) m.found in
-    let f : length (names_above low (names_of ((graph_of_places ps).shape dir))) ≡ suc (length (names_above (Some p.name) (names_of ((graph_of_places ps).shape dir)))) = ap length e in
-    record {
-      low = Some p.name;
-      next_is = m.next;
-      below = b;
-      count = omega arith;
-    }
-
--- at most as many places are looked at as there are entries
-pub sought_steps : (ps : List Place) (dir : ℕ) (low : Option Name) (n : ℕ) (p : Place) (steps : ℕ) → IsPlaces ps → IsMet ps dir low n p → steps + length (names_above low (names_of ((graph_of_places ps).shape dir))) ≡ length (names_of ((graph_of_places ps).shape dir)) → steps + 1 ≤ length (names_of ((graph_of_places ps).shape dir))
-sought_steps ps dir low n p steps places m count =
-    let e : names_above low (names_of ((graph_of_places ps).shape dir)) ≡ p.name ∷ names_above (Some p.name) (names_of ((graph_of_places ps).shape dir)) = next_names low None p.name (names_of ((graph_of_places ps).shape dir)) (dir_ascends ps dir places) m.found in
-    let f : length (names_above low (names_of ((graph_of_places ps).shape dir))) ≡ suc (length (names_above (Some p.name) (names_of ((graph_of_places ps).shape dir)))) = ap length e in
-    omega arith
-
 -- what was passed over is not there
 pub passed : (ps : List Place) (dir : ℕ) (x : Name) (low : Option Name) → IsPlaces ps → is_above low x ≡ true → ((y : Name) → find (is_above low) (names_of ((graph_of_places ps).shape dir)) ≡ Some y → (y ≡ x) ⊎ (is_above (Some y) x ≡ true) → ⊥) → (graph_of_places ps).child dir x ≡ None
 passed ps dir x low places b far = go ((graph_of_places ps).child dir x) refl
@@ -154,20 +118,6 @@ next_below ps dir low n places e =
     let h : n < length ps = next_within ps dir low n e in
     let w : length (plains ps) ≤ NODE_LIMIT = places.store.within in
     omega arith
-
--- what the code reads on the way
-pub here : (ps : List Place) (dir : ℕ) (x : Name) (next : Option ℕ) (steps n : ℕ) (p : Place) → IsPlaces ps → (s : IsSought (graph_of_places ps) dir x next steps) → next ≡ Some n → p ≡ get_or ps n p → IsMet ps dir s.low n p
-here ps dir x next steps n p places s e v =
-    let k : next_child (graph_of_places ps) dir s.low ≡ Some n = sym s.next_is ∙ e in
-    met ps dir s.low n p places (read_place ps n p (next_within ps dir s.low n k) v) k
-
--- how many places were looked at with this one
-pub here_steps : (ps : List Place) (dir : ℕ) (x : Name) (next : Option ℕ) (steps n : ℕ) (p : Place) → IsPlaces ps → IsSought (graph_of_places ps) dir x next steps → next ≡ Some n → p ≡ get_or ps n p → steps + 1 ≤ length (names_of ((graph_of_places ps).shape dir))
-here_steps ps dir x next steps n p places s e v = sought_steps ps dir s.low n p steps places (here ps dir x next steps n p places s e v) s.count
-
--- the search goes on
-pub here_more : (ps : List Place) (dir : ℕ) (x : Name) (next after : Option ℕ) (steps n : ℕ) (p : Place) → IsPlaces ps → IsSought (graph_of_places ps) dir x next steps → next ≡ Some n → p ≡ get_or ps n p → name_cmp p.name x ≡ Less → after ≡ p.next → IsSought (graph_of_places ps) dir x after (steps + 1)
-here_more ps dir x next after steps n p places s e v less a = rw a (sought_more ps dir x s.low n p steps (steps + 1) places (here ps dir x next steps n p places s e v) refl (ap is_lt less) s.count)
 
 -- the search has found the name
 pub sought_found : (ps : List Place) (dir : ℕ) (x : Name) (low : Option Name) (n : ℕ) (p : Place) → IsMet ps dir low n p → name_cmp p.name x ≡ Equal → (graph_of_places ps).child dir x ≡ Some n

@@ -1,5 +1,5 @@
 -- A walk along the siblings for an entry, beside one that was looked at before.
-use Rattle.std.proofs.Common.{◌≡◌, ℕ, ◌+◌, ◌<◌, ◌≤◌, true, false, List, Option, Some, None, IfSome, length, get_or, refl, sym, ap, subst, ◌∙◌, arith}
+use Rattle.std.proofs.Common.{◌≡◌, ℕ, suc, ◌+◌, ◌<◌, ◌≤◌, true, false, List, Option, Some, None, IfSome, length, get_or, refl, sym, ap, subst, ◌∙◌, arith}
 use Rattle.std.specs.Prelude.{slice_get}
 use Rattle.std.specs.Ordering.{is_lt, is_gt}
 use Rattle.std.specs.declared.cmp.Ordering.TheVariants.{Less, Equal, Greater}
@@ -10,16 +10,33 @@ use Rattle.fs_names.specs.declared.limits.TheConstants.{NODE_LIMIT}
 use Rattle.fs_nodes.specs.declared.place.Place.{Place}
 use Rattle.fs_plain.specs.Stores.{link_of, is_above, names_above}
 use Rattle.fs_nodes.specs.Plains.{plain, plains}
-use Rattle.fs_nodes.specs.code.Linked.{graph_of_places, next_child, IsPlaces, IsPassed, IsEntry, IsLesser, IsGreater, rank}
+use Rattle.fs_nodes.specs.code.Linked.{graph_of_places, next_child, IsPlaces, IsPassed, IsEntry, IsLesser, IsGreater, names_past, rank}
 use Rattle.fs_nodes.specs.code.Spots.{is_number, one_of}
 use Rattle.fs_graph.proofs.EqualLemmas.{eqb_true, eqb_refl}
 use Rattle.fs_graph.proofs.NameLemmas.{Compared, Below, Same, Above, compare}
-use Rattle.fs_plain.proofs.AscentLemmas.{above_above, not_itself}
+use Rattle.fs_plain.proofs.AscentLemmas.{above_above, next_names, no_names_above, not_itself}
 use Rattle.fs_plain.proofs.EditLemmas.{child_within}
 use Rattle.std.proofs.lemmas.List.{length-map}
-use Rattle.fs_nodes.proofs.StepLemmas.{IsMet, child_place, entry_parts, read_place, get_some, met, next_within, passed_first, passed_here, passed_more, passed_smaller, sought_found, sought_past, sought_end}
-use Rattle.fs_nodes.proofs.CountLemmas.{rank_left, rank_first, some_left}
+use Rattle.fs_nodes.proofs.StepLemmas.{IsMet, dir_ascends, entry_none, child_place, entry_parts, read_place, get_some, met, next_within, passed_first, passed_here, passed_more, passed_smaller, sought_found, sought_past, sought_end}
+use Rattle.fs_nodes.proofs.OrderLemmas.{all_names}
 use Rattle.fs_nodes.proofs.AheadLemmas.{entry_passed, single_passed, single_nearer, leap_nearer, not_greater, lesser_within}
+
+-- how many entries are still to come, where a search stands
+rank_left : (ps : List Place) (dir : ℕ) (x : Name) (prev next : Option ℕ) → IsPlaces ps → (s : IsPassed ps dir x prev next) → rank ps dir next ≡ length (names_above s.low (names_of ((graph_of_places ps).shape dir)))
+rank_left ps dir x prev None places s = sym (ap length (no_names_above s.low (names_of ((graph_of_places ps).shape dir)) (entry_none ps dir s.low places (sym s.next_is))))
+rank_left ps dir x prev (Some n) places s =
+    let g : (p : Place) × (slice_get ps n ≡ Some p) = get_some ps n (next_within ps dir s.low n (sym s.next_is)) in
+    let m : IsMet ps dir s.low n g.0 = met ps dir s.low n g.0 places g.1 (sym s.next_is) in
+    ap (λ (o : Option Place). suc (names_past (names_of ((graph_of_places ps).shape dir)) o)) g.1 ∙ sym (ap length (next_names s.low None g.0.name (names_of ((graph_of_places ps).shape dir)) (dir_ascends ps dir places) m.found))
+
+-- at the start these are all
+rank_first : (ps : List Place) (dir : ℕ) (x : Name) (prev next : Option ℕ) → IsPlaces ps → prev ≡ None → next ≡ next_child (graph_of_places ps) dir None → rank ps dir next ≡ length (names_of ((graph_of_places ps).shape dir))
+rank_first ps dir x prev next places e f = rank_left ps dir x prev next places (record { low = None; is_low = e; below = refl; next_is = f }) ∙ ap length (all_names (names_of ((graph_of_places ps).shape dir)))
+
+-- and one at least, where the search is not at the end
+some_left : (ps : List Place) (dir : ℕ) (next : Option ℕ) (n : ℕ) → next ≡ Some n → 0 < rank ps dir next
+some_left ps dir None n e = absurd (cc)
+some_left ps dir (Some m) n e = omega arith
 
 -- how far a walk has come: how many entries it has looked at, and how many are to come
 pub record IsWalk (ps : List Place) (dir : ℕ) (x : Name) (after next : Option ℕ) (steps : ℕ) : Type 0 where

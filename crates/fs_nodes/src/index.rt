@@ -1,11 +1,14 @@
-//! Where the entries stand, by directory and hash: slots beside the lists of siblings.
+//! An index of all entries by their keys: slots, beside the lists of siblings.
 //!
 //! An entry is at home in the slot that its hash says. It stands in one of the `WINDOW` slots from there on, or in none. Each
 //! slot keeps as a home how far the entries at home there reach: none of them stands further on. Where some of them have no
-//! slot, the reach is so many more than `WINDOW`. So what does not stand within reach is not there, or the reach says that it
-//! may be.
+//! slot, the reach is by so many more than `WINDOW`. So what does not stand within reach is not there, unless the reach says
+//! that it may be. A removal leaves nothing behind but a free slot and a reach that goes back.
+//!
+//! `put`, `remove` and `seek` promise what they do to every list of keys that the slots are an index of (`IsIndex`); which list
+//! that is, the store's invariant says.
 
-ghost use Rattle.std.specs.Prelude.{◌≡◌, ◌≢◌, ℕ, ◌+◌, ◌-◌, ◌*◌, ◌<◌, ◌≤◌, [], ◌∷◌, List, Option, Some, None, IfOk, IfSome, MatchOption, length, slice_set};
+ghost use Rattle.std.specs.Prelude.{◌≡◌, ℕ, ◌+◌, ◌-◌, ◌*◌, ◌<◌, ◌≤◌, [], ◌∷◌, List, Option, Some, None, IfOk, IfSome, MatchOption, length, slice_set};
 ghost use Rattle.fs_names.specs.declared.limits.TheConstants.{NODE_LIMIT};
 ghost use Rattle.fs_nodes.specs.Plains.{plains};
 ghost use Rattle.fs_nodes.specs.code.Keys.{keys_of};
@@ -23,9 +26,8 @@ const WINDOW: usize = 16;
 /// How many homes there are at first.
 const LEAST: usize = 16;
 
-/// An entry's directory, hash and node. Where there is no node, the slot is free, and what else it has of an entry says
-/// nothing. And what it keeps as a home: how far the entries at home here reach, or by how many more than `WINDOW` there are
-/// without a slot.
+/// An entry's directory, hash and node. Where there is no node, the slot is free, and directory and hash say nothing. And what
+/// it keeps as a home: how far the entries at home here reach, or, above `WINDOW`, how many of them have no slot.
 #[derive(Clone, Copy, Debug)]
 pub struct Slot {
     dir: u32,
@@ -83,7 +85,7 @@ fn home_of(slots: &[Slot], hash: u32) -> usize
     hash as usize & (slots.len() - WINDOW - 1)
 }
 
-/// The entry of a key, as the slots say. One slot at most is asked further than for its key.
+/// What the slots within reach say of a key.
 #[inline(always)]
 pub fn seek(slots: &[Slot], key: Key) -> Found
     requires { IsTable slots.now }

@@ -9,7 +9,7 @@
 //! Enter at `Store`. Its clauses speak of graphs (`fs_graph`) and of what is seen of a store (`fs_plain`); `specs/` hands
 //! these on in `Graphs`, `Stores` and `Seen`, and has in `Plains` the plain store that a store is, by its places, which no
 //! crate above names. `specs/code/` serves the code, and changes no meaning: `Linked` says what the places of a store
-//! keep, `Frees` what its free places do.
+//! keep, `Frees` what its free places do, `Indexes` what the slots beside them keep, and `Keys` what these are asked for.
 #![tactic(auto)]
 
 mod index;

@@ -1,5 +1,5 @@
 -- What a store is to its callers, and the graph that it is.
-use Rattle.std.specs.Prelude.{ℕ, ◌≡◌, ◌+◌, ◌≤◌, min, Bool, true, false, eqb, ◌&&◌, if◌then◌else◌, List, [], ◌∷◌, Option, Some, None, slice_get, length, option_map}
+use Rattle.std.specs.Prelude.{ℕ, ◌≡◌, ◌+◌, ◌≤◌, Bool, true, false, eqb, ◌&&◌, if◌then◌else◌, List, [], ◌∷◌, Option, Some, None, slice_get, length, option_map}
 use Rattle.std.specs.Ordering.{is_lt}
 use Rattle.std.specs.List.{find, filter}
 use Rattle.fs_names.specs.Names.{Name, name_cmp, same_name, inserted_name}
@@ -132,14 +132,6 @@ next_entry graph dir low = with_child (graph.child dir) (find (is_above low) (na
 -- those of some names that are above a name
 abbrev pub names_above : Option Name → List Name → List Name
 names_above low names = filter (is_above low) names
-
--- those of some names that are below a name
-abbrev pub names_below : Name → List Name → List Name
-names_below x names = filter (λ y. is_above (Some y) x) names
-
--- at how many of some names in order one looks for a name: at those below it, and at the next one, if there is one
-abbrev pub looked : Name → List Name → ℕ
-looked x names = min (length (names_below x names) + 1) (length names)
 
 -- what the next name above a name is: with it those names begin, and go on with the ones above it
 abbrev pub IsNextName : List Name → Option Name → Option Name → Type 0

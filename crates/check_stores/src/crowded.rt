@@ -1,0 +1,159 @@
+//! Two directories of up to 256 entries, in both stores: drawn names, and names that the index keeps apart badly.
+
+use crate::drawing::below;
+use crate::tally::Looks;
+use crate::twins::{Twin, Twins};
+use anyhow::{Result, ensure};
+use fs_names::{ENTRY_LIMIT, Kind, Name};
+use rand_core::SeedableRng;
+use rand_pcg::Pcg32;
+use std::alloc::Global;
+
+/// How many files there are: more than both directories hold.
+const FILES: u32 = 600;
+
+/// The root, the two directories and the files.
+const NODES: usize = 603;
+
+/// How many calls are drawn for each kind of names.
+const CALLS: u32 = 6_000;
+
+/// Names that have one home in the directory of number 1, in an index of 2,048 homes and in any lesser one: more than stand in
+/// slots there.
+const OF_ONE_HOME: [&[u8]; 48] = [
+    b"uhmtn", b"sjljn", b"csxgq", b"xeafhu", b"creid", b"jmghg", b"ipsrl", b"oelns", b"qqfszs",
+    b"bfuuqu", b"fugzod", b"xzgjf", b"dzvdc", b"vdtold", b"pqzry", b"qwika", b"ztqpte", b"wsyok",
+    b"jiweib", b"xfzyu", b"cizuv", b"lkvdnh", b"slcts", b"ywzwa", b"vpgsgg", b"gitigx", b"yuoxn",
+    b"blecby", b"tqyzj", b"eydrh", b"qajkn", b"exvner", b"bvfilx", b"ajcmad", b"tovhdr", b"lkyie",
+    b"shgvgr", b"xpltl", b"fojypz", b"hodznw", b"wwvae", b"drkccj", b"fijunh", b"giezfs", b"zxyrm",
+    b"jptuv", b"ibynkp", b"xejxdr",
+];
+
+/// Names of which each has the same hash there as the one beside it.
+const OF_ONE_HASH: [&[u8]; 20] = [
+    b"iihuvk", b"zcehz", b"bnwcki", b"advrt", b"ywtnp", b"npntya", b"eimbz", b"ggthg", b"wmsfm",
+    b"zuyitx", b"opevhl", b"fosnca", b"lhzosn", b"eagtbp", b"muntx", b"zyaueb", b"micvy", b"awrpt",
+    b"zhkfgg", b"wuvay",
+];
+
+/// Which names are drawn.
+#[derive(Clone, Copy)]
+enum Names {
+    /// One of a thousand.
+    Ordinary,
+    /// Of those that collide.
+    Colliding,
+}
+
+/// One of some names.
+fn one_of(random: &mut Pcg32, names: &[&[u8]]) -> Option<Name> {
+    let at = below(random, names.len() as u32) as usize;
+    match names.get(at) {
+        Some(name) => Name::read(name),
+        None => None,
+    }
+}
+
+/// A name of a letter and three digits.
+fn ordinary(random: &mut Pcg32) -> Option<Name> {
+    let mut text = [b'e'; 4];
+    for at in 1..4 {
+        text[at] = b'0' + (below(random, 10) % 10) as u8;
+    }
+    Name::read(&text)
+}
+
+/// A drawn name.
+fn name(random: &mut Pcg32, names: Names) -> Option<Name> {
+    match names {
+        Names::Ordinary => ordinary(random),
+        Names::Colliding => match below(random, 2) {
+            0 => one_of(random, &OF_ONE_HOME),
+            _ => one_of(random, &OF_ONE_HASH),
+        },
+    }
+}
+
+/// One of the two directories.
+fn directory(random: &mut Pcg32, twins: &Twins) -> Twin {
+    twins.node(1 + (below(random, 2) % 2) as usize)
+}
+
+/// The two directories and the files.
+fn tree(alloc: Global) -> Result<Twins> {
+    let mut twins = Twins::new(alloc, NODES)?;
+    for name in [b"a", b"b"] {
+        let position = twins.len();
+        ensure!(twins.reserve(Kind::Dir)?, "no number is left");
+        let (root, node) = (twins.node(0), twins.node(position));
+        if let Some(name) = Name::read(name) {
+            ensure!(twins.link(&root, &name, &node).is_some(), "no entry");
+        }
+    }
+    for _ in 0..FILES {
+        ensure!(twins.reserve(Kind::File)?, "no number is left");
+    }
+    Ok(twins)
+}
+
+/// Whether a directory may have one entry more.
+fn has_room(twins: &Twins, dir: &Twin) -> bool {
+    twins.entries(dir) < ENTRY_LIMIT
+}
+
+/// A drawn call: far more entries come than go.
+fn call(random: &mut Pcg32, (name, new_name): (&Name, &Name), twins: &mut Twins) {
+    let (dir, to) = (directory(random, twins), directory(random, twins));
+    let (there, other) = (
+        twins.name_above(&dir, name),
+        twins.name_above(&to, new_name),
+    );
+    match below(random, 32) {
+        0 => {
+            twins.unlink(&dir, &there);
+        }
+        1..6 if dir == to || has_room(twins, &to) => {
+            twins.move_entry(&dir, &there, &to, new_name);
+        }
+        6..9 => {
+            twins.swap_entries(&dir, &there, &to, &other);
+        }
+        9..24 if has_room(twins, &dir) => {
+            let node = twins.node(3 + below(random, FILES) as usize);
+            twins.link(&dir, name, &node);
+        }
+        24..27 => {
+            twins.find(&dir, &there);
+        }
+        _ => {
+            twins.find(&dir, name);
+        }
+    }
+}
+
+/// Drawn calls with such names, and at how many places their look-ups have looked.
+fn draw(random: &mut Pcg32, names: Names, twins: &mut Twins) -> Looks {
+    twins.looks = Looks::default();
+    for _ in 0..CALLS {
+        if let (Some(name), Some(new_name)) = (name(random, names), name(random, names)) {
+            call(random, (&name, &new_name), twins);
+        }
+    }
+    twins.looks
+}
+
+/// Does all of this, and writes what was counted.
+pub fn run(rt: &impl Print, alloc: Global) -> Result<()> {
+    let mut random = Pcg32::seed_from_u64(3);
+    let mut twins = tree(alloc)?;
+    let looks = draw(&mut random, Names::Ordinary, &mut twins);
+    let (a, b) = (twins.node(1), twins.node(2));
+    let (entries, others) = (twins.entries(&a), twins.entries(&b));
+    println!(rt; "full directories: {entries} and {others} entries")?;
+    looks.write(rt, "drawn names")?;
+    draw(&mut random, Names::Colliding, &mut twins).write(rt, "names that collide")?;
+    twins.read(&a);
+    twins.read(&b);
+    println!(rt; "answers that differ: {}", twins.others)?;
+    Ok(())
+}
