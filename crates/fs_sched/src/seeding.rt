@@ -141,6 +141,8 @@ pub fn run_seeds<R: Source, W: Sink>(
         reader,
         writer,
         |text| -> Result<Made<bool>, RunFault>
+            requires seed { seed ≤ SEED_LIMIT }
+            requires runs { runs ≤ RUN_LIMIT }
             ensures { MakesRuns seed runs text.items result }
         { lines_of_script(alloc, text, seed, runs) },
     )?;

@@ -103,7 +103,7 @@ impl Addition {
         self.push_number(number)
     }
 
-    /// Bytes of a file in hexadecimal digits.
+    /// Appends bytes of a file in hexadecimal digits. The only error is out of memory.
     pub fn push_hex(&mut self, alloc: Global, bytes: &[u8]) -> Result<(), AllocError>
         ensures ok { OnOk result (self.new.added ≡ self.old.added ++ hex_word bytes.now) }
         ensures bytes { AreBytes bytes.now }
@@ -126,7 +126,7 @@ impl Addition {
         self.push(&[byte])
     }
 
-    /// Bytes of a name with escapes.
+    /// Appends bytes of a name with escapes. The only error is out of memory.
     #[tactic(auto, unfolding(crate::specs::Words::escaped))]
     pub fn push_escaped(&mut self, alloc: Global, bytes: &[u8]) -> Result<(), AllocError>
         ensures ok { OnOk result (self.new.added ≡ self.old.added ++ escaped bytes.now) }
@@ -142,7 +142,7 @@ impl Addition {
         Ok(())
     }
 
-    /// A slash, and a name behind it: a step of a path.
+    /// Appends a slash and a name behind it, with escapes: a step of a path. The only error is out of memory.
     pub fn push_step(&mut self, alloc: Global, name: &Name) -> Result<(), AllocError>
         ensures ok { OnOk result (self.new.added ≡ self.old.added ++ 47 ∷ escaped name.now) }
         ensures before { self.new.before ≡ self.old.before }
@@ -181,7 +181,7 @@ impl Addition {
         Ok(true)
     }
 
-    /// A path with escapes.
+    /// Appends a path with escapes. The only error is out of memory.
     pub fn push_path(&mut self, alloc: Global, path: &Path) -> Result<(), AllocError>
         ensures ok { OnOk result (self.new.added ≡ self.old.added ++ path_word path.now) }
         ensures path { OnOk result (IsPath path.now) }
@@ -194,7 +194,7 @@ impl Addition {
     }
 }
 
-/// Puts a text back: with what was added behind it, or as it was where the addition failed.
+/// Puts a text back: with what was added behind it, or as it was where the addition failed. It answers what the addition did.
 pub fn put_back(
     added: Result<(), AllocError>,
     line: Addition,
