@@ -5,7 +5,7 @@ use Rattle.fs_io.specs.declared.failure.Failure.{Failure}
 use Rattle.fs_io.specs.declared.failure.Failure.TheVariants as failure
 use Rattle.fs_sched.specs.Faults.{fault_between}
 use Rattle.fs_sched.specs.declared.fault.RunFault.{RunFault}
-use Rattle.fs_sched.specs.declared.fault.RunFault.TheVariants.{Input, Read, Write, OutOfMemory, Full}
+use Rattle.fs_sched.specs.declared.fault.RunFault.TheVariants.{Input, Write, Full}
 
 -- a fault of the input is why no text was made
 pub of_input : (g : Failure RunFault) (f : ScriptFault) → Input f ≡ fault_between g → g ≡ failure.Unmade (Input f)

@@ -9,9 +9,7 @@ use Rattle.fs_words.specs.declared.fault.ScriptFault.{ScriptFault}
 use Rattle.fs_words.specs.declared.fault.FaultKind.TheVariants as kind
 use Rattle.fs_words.proofs.ReadLemmas.{too_long}
 use Rattle.fs_sched.specs.Checks.{judged, verdict_of, verdict_line}
-use Rattle.fs_sched.specs.Devices.{IsSameText, WritesBeginning, WritesBeginningOf, IsFaultOf}
-use Rattle.fs_sched.specs.declared.fault.RunFault.{RunFault}
-use Rattle.fs_sched.specs.declared.fault.RunFault.TheVariants.{Input}
+use Rattle.fs_sched.specs.Devices.{IsSameText, WritesBeginning, WritesBeginningOf}
 
 too_large : (text : List ℕ) → 16777216 < length text → entries_of text ≡ Err (fault_at 1 kind.TooLarge)
 unfolding entries_of

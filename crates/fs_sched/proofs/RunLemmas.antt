@@ -8,10 +8,8 @@ use Rattle.fs_words.specs.declared.fault.FaultKind.TheVariants as kind
 use Rattle.fs_words.proofs.ReadLemmas.{too_long}
 use Rattle.fs_script.specs.Script.{script_of, blocks_from, nothing_yet}
 use Rattle.fs_script.specs.declared.script.Script.{Script}
-use Rattle.fs_sched.specs.Devices.{IsSameText, IsFaultOrRefusal, WritesBeginning}
+use Rattle.fs_sched.specs.Devices.{IsSameText}
 use Rattle.fs_sched.specs.Runs.{IsRunOf}
-use Rattle.fs_sched.specs.declared.fault.RunFault.{RunFault}
-use Rattle.fs_sched.specs.declared.fault.RunFault.TheVariants.{Input}
 use Rattle.fs_sched.specs.declared.running.RunEnd.{RunEnd}
 use Rattle.fs_sched.specs.declared.schedule.Schedule.{Schedule}
 

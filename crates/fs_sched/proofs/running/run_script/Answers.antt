@@ -1,4 +1,4 @@
-use Rattle.std.proofs.Common.{refl, sym, subst, Err, ap, ◌≡◌, ◌≢◌, ◌<◌, ◌≤◌, ◌^◌, length, arith}
+use Rattle.std.proofs.Common.{refl, sym, subst, Err, ap, ◌≡◌, ◌≢◌, ◌<◌, ◌^◌, arith}
 use Rattle.fs_io.specs.declared.failure.Failure.TheVariants as failure
 use Rattle.fs_script.specs.Script.{script_of}
 use Rattle.fs_sched.specs.Devices.{IsFaultOrRefusal}
