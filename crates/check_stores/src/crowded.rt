@@ -5,7 +5,7 @@ use crate::tally::Looks;
 use crate::twins::{Twin, Twins};
 use anyhow::{Result, ensure};
 use fs_names::{ENTRY_LIMIT, Kind, Name};
-use rand_core::SeedableRng;
+use rand_core::{Rng, SeedableRng};
 use rand_pcg::Pcg32;
 use std::alloc::Global;
 
@@ -47,7 +47,8 @@ enum Names {
 
 /// One of some names.
 fn one_of(random: &mut Pcg32, names: &[&[u8]]) -> Option<Name> {
-    let at = below(random, names.len() as u32) as usize;
+    let word = random.next_u32() as usize;
+    let at = word.checked_rem(names.len()).unwrap_or(0);
     match names.get(at) {
         Some(name) => Name::read(name),
         None => None,

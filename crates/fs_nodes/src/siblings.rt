@@ -96,8 +96,8 @@ fn with_one(looked: (Option<usize>, usize)) -> (Option<usize>, usize)
     (looked.0, looked.1 + 1)
 }
 
-/// The same of a walk beside an entry of the directory that is looked at first, if one is given, and which is not looked at
-/// again.
+/// The node of an entry, and at how many places was looked: at another entry of the directory first, if one is given, and then
+/// at siblings on the one side of it.
 #[inline(never)]
 fn search(
     places: &[Place],
@@ -157,7 +157,7 @@ fn look(
 }
 
 /// The same of a name that is longer than its first bytes.
-// With its own copy, so that the other one keeps nothing while such a name is hashed.
+// With its own copy, so that a short name costs nothing for what is kept while a long one is hashed.
 #[inline(never)]
 fn look_long(
     slots: &[Slot],
