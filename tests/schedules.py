@@ -58,12 +58,12 @@ class Schedules(harness.Case):
         self.came(NARROW_EVENTS)
 
     def test_exchanges(self):
-        """Each event comes."""
+        """Each event comes that comes with the other calls."""
         orders = events.rounds, events.drawn, events.words
         rows = ((f"script_{number}_{order.__name__}", drawn.exchanging, number, order) for number in range(EXCHANGING_SCRIPTS) for order in orders)
         self.each(rows, self.look)
         if "ROW" not in os.environ:
-            self.same("the events that did not come", [event for event in (*events.BEGINS, *events.STEPS) if not self.counts[event]], [])
+            self.same("the events that did not come", [event for event in EVENTS if not self.counts[event]], [])
 
     def test_all_calls(self):
         orders = events.rounds, events.drawn, events.words
