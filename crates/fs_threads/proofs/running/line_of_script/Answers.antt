@@ -13,9 +13,9 @@ returns-in-Ok g c =
     let same = ap (λ lists. lawful_line (calls_in lists)) c.as_slice.ensures in
     record {
       line = IfOk-weaker c.line_of_lists.result
-        (λ made. made.text.items ≡ lawful_line (calls_in (map (λ v. v.items) c.as_slice.result.now)))
-        (λ made. IsLineOf c.args.text.now made.text.items)
-        (λ made is. (c.in-Ok.script, c.in-Ok.ensures, is ∙ same)) c.line_of_lists.ensures.line;
+          (λ made. made.text.items ≡ lawful_line (calls_in (map (λ v. v.items) c.as_slice.result.now)))
+          (λ made. IsLineOf c.args.text.now made.text.items)
+          (λ made is. (c.in-Ok.script, c.in-Ok.ensures, is ∙ same)) c.line_of_lists.ensures.line;
       lawful = c.line_of_lists.ensures.lawful;
       fault = IfErr-weaker c.line_of_lists.result IsOfThreads (IsOfInput (script_of c.args.text.now)) (λ fault is. input_of_threads _ fault is) c.line_of_lists.ensures.fault;
     }
