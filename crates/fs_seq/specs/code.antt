@@ -4,3 +4,5 @@ pub mod Nodes
 pub mod Effects
 pub mod Renaming
 pub mod Exchanging
+pub mod Walks
+pub mod Added

@@ -15,7 +15,7 @@ use slab::Slab;
 use std::alloc::{AllocError, Global};
 
 /// Adds a node, and an entry for it to a directory at a place.
-fn attach(
+pub fn attach(
     nodes: &mut Slab<Node>,
     dir: usize,
     i: usize,

@@ -13,7 +13,8 @@ use fs_calls::{Call, Errno, PairCall, Reply};
 use fs_names::Path;
 use slab::Slab;
 
-/// The entries at both paths, or the first error of an exchange.
+/// The entries at both paths, or the first error of an exchange. Its row asks neither whether the paths are one nor for
+/// room.
 fn find_both(nodes: &Slab<Node>, path: &Path, other: &Path) -> Result<(Entry, Entry), Errno>
     requires { IsForest (graph nodes.now) }
     ensures { FindsBoth (graph nodes.now) path.now other.now result }

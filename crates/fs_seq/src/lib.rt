@@ -3,19 +3,29 @@
 //! `SeqTree::apply` gives a call the reply of the table of errors, and leaves the tree that the table says. Out of memory
 //! it leaves the tree as it was, and it fails so only for a call that has to allocate (`specs/Memory.antt`).
 //!
+//! `SeqTree::copy` makes the same tree again, `SeqTree::rows` tells its entries, and `SeqTree::from_rows` makes a tree of
+//! entries or tells the first that no tree within the limits has there (`specs/Rows.antt`, with a law in `laws`).
+//!
 //! Enter at `SeqTree::new` and `SeqTree::apply`. What a call replies and leaves is defined in `fs_calls`, whose types are
 //! handed on here. The modules are by calls: `queries` (stat, readdir, read), `create`, `remove`, `rename`, `exchange` and
-//! `write`, over the slab of `nodes`. `specs/code/` says how this slab is a tree, and changes no meaning.
+//! `write`, and by what is done to whole trees: `copying`, `rows` and `from_rows`, over the slab of `nodes`. `specs/code/`
+//! says how this slab is a tree, and changes no meaning.
 #![tactic(auto)]
 
+mod copying;
 mod create;
 mod exchange;
+pub mod from_rows;
+pub mod laws;
 mod nodes;
 mod queries;
 mod remove;
 mod rename;
+pub mod rows;
 pub mod seq_tree;
 mod write;
 
+pub use from_rows::NotTree;
 pub use fs_calls::{Bytes, Call, EntryCall, Errno, NameList, NodeCall, PairCall, Reply, Target};
+pub use rows::Row;
 pub use seq_tree::SeqTree;

@@ -147,7 +147,7 @@ pub fn search(links: &[Link], name: &Name) -> Result<usize, usize>
 }
 
 /// The number to which a name leads from a node.
-fn step(nodes: &Slab<Node>, at: usize, name: &Name) -> Result<usize, Errno>
+pub fn step(nodes: &Slab<Node>, at: usize, name: &Name) -> Result<usize, Errno>
     requires there { ContainsKey nodes.now at }
     requires rising { IsTrue (is_sorted name_cmp (links_at (graph nodes.now) at)) }
     ensures { Steps (graph nodes.now) at name.now result }

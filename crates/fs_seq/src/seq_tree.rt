@@ -1,13 +1,16 @@
 //! The sequential tree: a value of its own for one thread.
 
-ghost use Rattle.std.specs.Prelude.{◌≡◌, IfOk, OnOk, OnErr, IsTrue};
+ghost use Rattle.std.specs.Prelude.{◌≡◌, ℕ, None, Some, Err, map, IfOk, OnOk, OnErr, IsTrue};
 ghost use Rattle.fs_calls.specs.Tree.{root_tree};
 ghost use Rattle.fs_calls.specs.Outcomes.{reply, after};
 ghost use Rattle.fs_seq.specs.Memory.{needs_memory};
 ghost use Rattle.fs_seq.specs.Looks.{is_look};
+ghost use Rattle.fs_seq.specs.Rows.{misfit, row_of};
 
+use crate::from_rows::{self, NotTree};
 use crate::nodes::Node;
-use crate::{create, exchange, queries, remove, rename, write};
+use crate::rows::{self, Row};
+use crate::{copying, create, exchange, queries, remove, rename, write};
 use fs_calls::{Bytes, Call, Reply};
 use fs_names::Path;
 use slab::Slab;
@@ -42,6 +45,39 @@ impl SeqTree {
         match nodes.insert(Node::Dir(Vec::new(alloc))) {
             Ok(_) => Ok(SeqTree { nodes }),
             Err(_) => Err(AllocError),
+        }
+    }
+
+    /// The same tree again, in memory of its own. Its nodes have the numbers that they have here, so that it has as many
+    /// places for nodes as this one.
+    pub fn copy(&self) -> Result<SeqTree, AllocError>
+        ensures { IfOk result (λ tree. tree ≡ self.now) }
+    {
+        let nodes = copying::copied(&self.nodes)?;
+        Ok(SeqTree { nodes })
+    }
+
+    /// The entries of the tree, in the order of its text: each directory is followed at once by its entries, in byte order
+    /// of their names.
+    pub fn rows(&self, alloc: Global) -> Result<Vec<Row>, AllocError>
+        ensures { IfOk result (λ rows. map row_of rows.items ≡ self.now) }
+    {
+        rows::rows(alloc, &self.nodes)
+    }
+
+    /// The tree of these entries. `Bad` tells the first row that no tree within the limits of entries and bytes has at its
+    /// place; where memory is wanted for a row in front of it, `OutOfMemory` is told.
+    pub fn from_rows(alloc: Global, rows: &[Row]) -> Result<SeqTree, NotTree>
+        ensures tree { IfOk result (λ tree. tree ≡ map row_of rows.now) }
+        ensures fits { OnOk result (misfit rows.now ≡ None) }
+        ensures bad { (place : ℕ) → result ≡ Err (NotTree.Bad place) → misfit rows.now ≡ Some place }
+    {
+        let Ok(mut tree) = SeqTree::new(alloc) else {
+            return Err(NotTree::OutOfMemory);
+        };
+        match from_rows::add_rows(alloc, &mut tree.nodes, rows) {
+            Ok(()) => Ok(tree),
+            Err(why) => Err(why),
         }
     }
 

@@ -1,0 +1,327 @@
+-- Rows of which each one fits, and trees within the limits.
+use Rattle.std.proofs.Common.{◌≡◌, ℕ, suc, ◌+◌, ◌≤◌, Bool, true, false, cond, ◌&&◌, not, List, [], ◌∷◌, ◌++◌, length, map, Some, None, Option, refl, sym, ap, subst, ◌∙◌, arith, T, Less, append_assoc, append-nil, length-append, IsTrue}
+use Rattle.std.specs.Prelude.{nat_le}
+use Rattle.std.specs.List.{list_all}
+use Rattle.std.specs.Ordering.{is_eq, is_lt, ordering_then}
+use Rattle.std.specs.FinMap.{find, is_sorted}
+use Rattle.std.specs.FinMap.Entries.{below_all}
+use Rattle.std.proofs.lemmas.Bool.Decides.{nat_tests}
+use Rattle.std.proofs.lemmas.Cmp.{tied_itself}
+use Rattle.fs_names.specs.Names.{Name}
+use Rattle.fs_names.specs.Keys.{Key, key_cmp, same_key, after_prefix, is_root, parent_of, last_of}
+use Rattle.fs_names.specs.declared.kind.Kind.{Kind}
+use Rattle.fs_names.specs.declared.kind.Kind.TheVariants as kinds
+use Rattle.fs_names.proofs.Lemmas.{name_total, key_total, after_prefix-append, after_prefix-exact}
+use Rattle.fs_calls.specs.Tree.{Node, Dir, File, Tree, IsTree, look, root_tree, inserted, names_in, name_in, only_name, with_name}
+use Rattle.fs_calls.specs.Sights.{Shape, tree_shapes, is_dir, is_full, has_any}
+use Rattle.fs_calls.specs.Sights as shapes
+use Rattle.fs_calls.proofs.KeyLemmas.{parent_of-snoc, parent_and_last}
+use Rattle.fs_calls.proofs.ListLemmas.{true_T}
+use Rattle.fs_calls.proofs.LookLemmas.{same_key_refl, look-inserted, look-find}
+use Rattle.fs_calls.proofs.TreeLaws.{tree-inserted, played_trees_are_trees}
+use Rattle.fs_seq.specs.declared.rows.Row.{Row}
+use Rattle.fs_seq.specs.Rows.{key_of, row_of, node_of_kind, may_have, is_dirs, is_plain, is_first, last_key, fits, misfit_from, misfit, IsWithinLimits}
+use Rattle.fs_seq.specs.Laws.{FittingRowsAreTrees}
+use Rattle.fs_seq.proofs.Appended.{AllBelow, above, all_below, look-above, inserted-last, not_below_root, in_order, first_holds, second_holds, both_hold}
+use Rattle.fs_seq.proofs.SearchLemmas.{both_first, both_second, is_less}
+
+-- ---- names of a directory in a tree and its end
+
+with_name-append : (o : Option Name) (a b : List Name) → with_name o (a ++ b) ≡ with_name o a ++ b
+with_name-append None a b = refl
+with_name-append (Some x) a b = refl
+
+names_in-append : (t u : Tree) (d : Key) → names_in (t ++ u) d ≡ names_in t d ++ names_in u d
+names_in-append [] u d = refl
+names_in-append (e ∷ t) u d = ap (with_name (name_in d e.0)) (names_in-append t u d) ∙ with_name-append (name_in d e.0) (names_in t d) (names_in u d)
+
+-- a key that has a name in a directory
+name_in-parent : (d k : Key) (x : Name) (o : Option Key) → o ≡ after_prefix d k → only_name o ≡ Some x → parent_of k ≡ d
+name_in-parent d k x None e h = absurd (cc)
+name_in-parent d k x (Some []) e h = absurd (cc)
+name_in-parent d k x (Some (y ∷ [])) e h = ap parent_of (after_prefix-exact d k (y ∷ []) (sym e)) ∙ parent_of-snoc d y
+name_in-parent d k x (Some (y ∷ z ∷ r)) e h = absurd (cc)
+
+-- ---- a row that fits keeps a tree within the limits
+
+-- a directory that is seen stands there
+dir_there : (t : Tree) (k : Key) (o : Option Node) → look t k ≡ o → is_dir (tree_shapes t k) ≡ true → look t k ≡ Some Dir
+dir_there t k None e h = let none : is_dir (tree_shapes t k) ≡ false = ap (λ o. is_dir (shapes.shape_of t k o)) e in absurd (cc)
+dir_there t k (Some Dir) e h = e
+dir_there t k (Some (File bytes)) e h = let none : is_dir (tree_shapes t k) ≡ false = ap (λ o. is_dir (shapes.shape_of t k o)) e in absurd (cc)
+
+-- a directory that is not full has room for one more
+room_for : (t : Tree) (k : Key) → look t k ≡ Some Dir → not (is_full (tree_shapes t k)) ≡ true → length (names_in t k) + 1 ≤ 256
+room_for t k there room =
+    let full : not (nat_le 256 (length (names_in t k))) ≡ true = sym (ap (λ o. not (is_full (shapes.shape_of t k o))) there) ∙ room in
+    grind (arith, nat_tests)
+
+-- the bytes that a file of this row may have
+bytes_within : (kind : Kind) (bytes : List ℕ) (others : List ℕ) → may_have kind bytes ≡ true → node_of_kind kind bytes ≡ File others → length others ≤ 65536
+bytes_within kinds.Dir bytes others may e = absurd (cc)
+bytes_within kinds.File bytes others may e =
+    let same : bytes ≡ others = cc in
+    let may : nat_le (length others) 65536 ≡ true = ap (λ bs. nat_le (length bs) 65536) (sym same) ∙ may in
+    grind (arith, nat_tests)
+
+module _ (t : Tree) (row : Row) (within : IsWithinLimits t) (fit : fits t row ≡ true) where
+  all : AllBelow t (key_of row)
+  all = all_below t (key_of row) (true_T within.tree.sorted) (in_order t row fit)
+
+  at_end : inserted t (key_of row) (row_of row).1 ≡ t ++ row_of row ∷ []
+  at_end = inserted-last t (key_of row) (row_of row).1 all
+
+  parent_there : look t (parent_of (key_of row)) ≡ Some Dir
+  parent_there = dir_there t (parent_of (key_of row)) _ refl (second_holds _ _ (first_holds _ _ (first_holds _ _ fit)))
+
+  parent_room : length (names_in t (parent_of (key_of row))) + 1 ≤ 256
+  parent_room = room_for t (parent_of (key_of row)) parent_there (second_holds _ _ (first_holds _ _ fit))
+
+  tree_next : IsTree (t ++ row_of row ∷ [])
+  tree_next = subst IsTree at_end (tree-inserted t (key_of row) (row_of row).1 within.tree
+      (λ e. let none = look-above t (key_of row) all in absurd (cc))
+      (λ d x e. ap (look t) (sym (ap parent_of e ∙ parent_of-snoc d x)) ∙ parent_there))
+
+  entries_next : (d : Key) → length (names_in (t ++ row_of row ∷ []) d) ≤ 256
+  entries_next d = go (name_in d (key_of row)) refl
+    where
+      count : (o : Option Name) → name_in d (key_of row) ≡ o → length (names_in (t ++ row_of row ∷ []) d) ≡ length (names_in t d) + length (with_name o [])
+      count o e = ap length (names_in-append t (row_of row ∷ []) d) ∙ length-append (names_in t d) (names_in (row_of row ∷ []) d) ∙ ap (λ o. length (names_in t d) + length (with_name o [])) e
+
+      go : (o : Option Name) → name_in d (key_of row) ≡ o → length (names_in (t ++ row_of row ∷ []) d) ≤ 256
+      go None e = let before : length (names_in t d) ≤ 256 = within.entries d in omega (arith, count None e)
+      go (Some x) e =
+          let at : parent_of (key_of row) ≡ d = name_in-parent d (key_of row) x _ refl e in
+          let room : length (names_in t d) + 1 ≤ 256 = subst (λ (k : Key). length (names_in t k) + 1 ≤ 256) at parent_room in
+          omega (arith, count (Some x) e)
+
+  bytes_next : (k : Key) (bytes : List ℕ) → look (t ++ row_of row ∷ []) k ≡ Some (File bytes) → length bytes ≤ 65536
+  bytes_next k bytes e = go (same_key k (key_of row)) (sym (look-inserted t (key_of row) (row_of row).1 k) ∙ ap (λ (z : Tree). look z k) at_end ∙ e)
+    where
+      go : (b : Bool) → cond {A = Option Node} b (Some (row_of row).1) (look t k) ≡ Some (File bytes) → length bytes ≤ 65536
+      go true h = bytes_within row.kind row.bytes.items bytes (second_holds _ _ fit) (let same : (row_of row).1 ≡ File bytes = cc in same)
+      go false h = within.bytes k bytes h
+
+  within_next : IsWithinLimits (t ++ row_of row ∷ [])
+  within_next = record { tree = tree_next; entries = entries_next; bytes = bytes_next }
+
+-- a row that may have its bytes is plain
+plain_by : (kind : Kind) (bytes : List ℕ) → may_have kind bytes ≡ true → not (is_dirs kind && has_any bytes) ≡ true
+plain_by kinds.Dir bytes e = e
+plain_by kinds.File bytes e = refl
+
+-- rows that all fit
+all_fit : (t : Tree) (place : ℕ) (rows : List Row) → IsWithinLimits t → misfit_from t place rows ≡ None → IsWithinLimits (t ++ map row_of rows) × IsTrue (list_all is_plain rows)
+all_fit t place [] within e = (subst IsWithinLimits (sym (append-nil t)) within, refl)
+all_fit t place (row ∷ rows) within e = go (fits t row) refl e (λ next h. all_fit (t ++ row_of row ∷ []) (place + 1) rows next h)
+  where
+    go : (b : Bool) → fits t row ≡ b → cond {A = Option ℕ} b (misfit_from (t ++ row_of row ∷ []) (place + 1) rows) (Some place) ≡ None
+        → (IsWithinLimits (t ++ row_of row ∷ []) → misfit_from (t ++ row_of row ∷ []) (place + 1) rows ≡ None → IsWithinLimits ((t ++ row_of row ∷ []) ++ map row_of rows) × IsTrue (list_all is_plain rows))
+        → IsWithinLimits (t ++ row_of row ∷ map row_of rows) × IsTrue (is_plain row && list_all is_plain rows)
+    go true fit h later =
+        let rest = later (within_next t row within fit) h in
+        (subst IsWithinLimits (append_assoc t (row_of row ∷ []) (map row_of rows)) rest.0, both_hold _ _ (plain_by row.kind row.bytes.items (second_holds _ _ fit)) rest.1)
+    go false fit h later = absurd (cc)
+
+-- ---- the rows of a tree within the limits fit
+
+-- two tests at once
+both_of : (a b : Bool) → T a → T b → T (a && b)
+both_of true b p q = q
+both_of false b p q = p
+
+-- one more than some and more
+one_more : (n more : ℕ) → n + suc more ≡ n + (1 + more)
+one_more n more = omega arith
+
+-- the end of what rises
+before_end : (e f : Key × Node) (t u : Tree) → T (is_sorted key_cmp (e ∷ (t ++ f ∷ u))) → key_cmp (last_key (e ∷ t)) f.0 ≡ Less
+before_end e f [] u sorted = is_less _ (both_first _ _ (both_first _ _ sorted))
+before_end e f (h ∷ t) u sorted = before_end h f t u (both_second _ _ sorted)
+
+-- what is below all that follows
+first_below : (k : Key) (t u : Tree) → T (below_all key_cmp k (t ++ u)) → T (below_all key_cmp k t)
+first_below k [] u h = tt
+first_below k (e ∷ t) u h = both_of _ _ (both_first _ _ h) (first_below k t u (both_second _ _ h))
+
+-- the front of what rises rises
+sorted_front : (t u : Tree) → T (is_sorted key_cmp (t ++ u)) → T (is_sorted key_cmp t)
+sorted_front [] u h = tt
+sorted_front (e ∷ t) u h = both_of _ _ (first_below e.0 t u (both_first _ _ h)) (sorted_front t u (both_second _ _ h))
+
+-- and the end
+sorted_end : (t u : Tree) → T (is_sorted key_cmp (t ++ u)) → T (is_sorted key_cmp u)
+sorted_end [] u h = h
+sorted_end (e ∷ t) u h = sorted_end t u (both_second _ _ h)
+
+-- what is below a key is below all that is above it
+below_trans : (a b : Key) (u : Tree) → key_cmp a b ≡ Less → T (below_all key_cmp b u) → T (below_all key_cmp a u)
+below_trans a b [] less h = tt
+below_trans a b (e ∷ u) less h = both_of _ _ (true_T (ap is_lt (key_total.trans a b e.0 less (is_less _ (both_first _ _ h))))) (below_trans a b u less (both_second _ _ h))
+
+-- nothing is found among keys that are all above
+find-under : (k : Key) (u : Tree) → T (below_all key_cmp k u) → find key_cmp k u ≡ None
+find-under k [] h = refl
+find-under k (e ∷ u) h = ap (λ b. cond {A = Option Node} b (Some e.1) (find key_cmp k u)) (ap is_eq (is_less _ (both_first _ _ h))) ∙ find-under k u (both_second _ _ h)
+
+-- what is not found in the end is found in the front
+find-front : (k : Key) (t u : Tree) → find key_cmp k u ≡ None → find key_cmp k (t ++ u) ≡ find key_cmp k t
+find-front k [] u none = none
+find-front k (e ∷ t) u none = ap (cond {A = Option Node} (same_key k e.0) (Some e.1)) (find-front k t u none)
+
+-- what is above the front is found in the end
+find-end : (k : Key) (t u : Tree) → AllBelow t k → find key_cmp k (t ++ u) ≡ find key_cmp k u
+find-end k [] u below = refl
+find-end k (e ∷ t) u below = ap (λ b. cond {A = Option Node} b (Some e.1) (find key_cmp k (t ++ u))) (ap is_eq (above e.0 k below.0)) ∙ find-end k t u below.1
+
+-- a directory comes before what is in it
+dir_before : (d : Key) (x : Name) → key_cmp d (d ++ x ∷ []) ≡ Less
+dir_before [] x = refl
+dir_before (y ∷ d) x = ap (λ o. ordering_then o (key_cmp d (d ++ x ∷ []))) (tied_itself name_total y) ∙ dir_before d x
+
+-- no room is left
+room_left : (n more : ℕ) → n + (1 + more) ≤ 256 → not (nat_le 256 n) ≡ true
+room_left n more h = grind (arith, nat_tests)
+
+-- bytes within the limit
+bytes_fit : (kind : Kind) (bytes : List ℕ) → not (is_dirs kind && has_any bytes) ≡ true → ((others : List ℕ) → node_of_kind kind bytes ≡ File others → length others ≤ 65536) → may_have kind bytes ≡ true
+bytes_fit kinds.Dir bytes plain within = plain
+bytes_fit kinds.File bytes plain within = let small : length bytes ≤ 65536 = within bytes refl in grind (arith, nat_tests)
+
+module _ (e : Key × Node) (t : Tree) (row : Row) (u : Tree) (within : IsWithinLimits (e ∷ (t ++ row_of row ∷ u))) (plain : is_plain row ≡ true) where
+  whole : Tree
+  whole = (e ∷ t) ++ row_of row ∷ u
+
+  rises : T (is_sorted key_cmp ((e ∷ t) ++ row_of row ∷ u))
+  rises = true_T within.tree.sorted
+
+  less : key_cmp (last_key (e ∷ t)) (key_of row) ≡ Less
+  less = before_end e (row_of row) t u rises
+
+  not_root : is_root (key_of row) ≡ false
+  not_root = go (key_of row) refl
+    where
+      go : (k : Key) → key_of row ≡ k → is_root k ≡ false
+      go [] same = let no : is_lt (key_cmp (last_key (e ∷ t)) (key_of row)) ≡ false = ap (λ k. is_lt (key_cmp (last_key (e ∷ t)) k)) same ∙ not_below_root (last_key (e ∷ t)) [] refl in
+          let yes : is_lt (key_cmp (last_key (e ∷ t)) (key_of row)) ≡ true = ap is_lt less in absurd (cc)
+      go (x ∷ k) same = refl
+
+  split : key_of row ≡ parent_of (key_of row) ++ last_of (key_of row) ∷ []
+  split = parent_and_last (key_of row) not_root
+
+  -- the row stands in the whole
+  there : look ((e ∷ t) ++ row_of row ∷ u) (key_of row) ≡ Some (row_of row).1
+  there =
+      look-find ((e ∷ t) ++ row_of row ∷ u) (key_of row)
+      ∙ find-end (key_of row) (e ∷ t) (row_of row ∷ u) (all_below (e ∷ t) (key_of row) (sorted_front (e ∷ t) (row_of row ∷ u) rises) less)
+      ∙ ap (λ b. cond {A = Option Node} b (Some (row_of row).1) (find key_cmp (key_of row) u)) (same_key_refl (key_of row))
+
+  -- and its parent before it
+  parent_before : look (e ∷ t) (parent_of (key_of row)) ≡ Some Dir
+  parent_before =
+      let d = parent_of (key_of row) in
+      let under : key_cmp d (key_of row) ≡ Less = ap (key_cmp d) split ∙ dir_before d (last_of (key_of row)) in
+      let ends : T (is_sorted key_cmp (row_of row ∷ u)) = sorted_end (e ∷ t) (row_of row ∷ u) rises in
+      let none : find key_cmp d (row_of row ∷ u) ≡ None = find-under d (row_of row ∷ u) (both_of _ _ (true_T (ap is_lt under)) (below_trans d (key_of row) u under (both_first _ _ ends))) in
+      look-find (e ∷ t) d ∙ sym (find-front d (e ∷ t) (row_of row ∷ u) none) ∙ sym (look-find ((e ∷ t) ++ row_of row ∷ u) d)
+      ∙ within.tree.inside d (last_of (key_of row)) (row_of row).1 (sym (ap (look ((e ∷ t) ++ row_of row ∷ u)) split) ∙ there)
+
+  -- which has room
+  has_room : not (nat_le 256 (length (names_in (e ∷ t) (parent_of (key_of row))))) ≡ true
+  has_room =
+      let d = parent_of (key_of row) in
+      let named : name_in d (key_of row) ≡ Some (last_of (key_of row)) = ap (name_in d) split ∙ ap only_name (after_prefix-append d (last_of (key_of row) ∷ [])) in
+      let count : length (names_in ((e ∷ t) ++ row_of row ∷ u) d) ≡ length (names_in (e ∷ t) d) + (1 + length (names_in u d)) =
+      ap length (names_in-append (e ∷ t) (row_of row ∷ u) d) ∙ length-append (names_in (e ∷ t) d) (names_in (row_of row ∷ u) d)
+      ∙ ap (λ o. length (names_in (e ∷ t) d) + length (with_name o (names_in u d))) named ∙ one_more (length (names_in (e ∷ t) d)) (length (names_in u d)) in
+      let most = within.entries d in
+      room_left (length (names_in (e ∷ t) d)) (length (names_in u d)) (omega (arith, count, most))
+
+  row_fits : fits (e ∷ t) row ≡ true
+  row_fits =
+      let d = parent_of (key_of row) in
+      both_hold _ _
+      (both_hold _ _
+      (both_hold _ _ (ap is_lt less) (ap (λ o. is_dir (shapes.shape_of (e ∷ t) d o)) parent_before))
+      (ap (λ o. not (is_full (shapes.shape_of (e ∷ t) d o))) parent_before ∙ has_room))
+      (bytes_fit row.kind row.bytes.items plain (λ others is. within.bytes (key_of row) others (there ∙ ap Some is)))
+
+-- rows that follow others in a tree
+fit_all : (e : Key × Node) (t : Tree) (place : ℕ) (rows : List Row) → IsWithinLimits (e ∷ (t ++ map row_of rows)) → list_all is_plain rows ≡ true → misfit_from (e ∷ t) place rows ≡ None
+fit_all e t place [] within plain = refl
+fit_all e t place (row ∷ rows) within plain =
+    ap (λ b. cond {A = Option ℕ} b (misfit_from (e ∷ (t ++ row_of row ∷ [])) (place + 1) rows) (Some place)) (row_fits e t row (map row_of rows) within (first_holds _ _ plain))
+    ∙ fit_all e (t ++ row_of row ∷ []) (place + 1) rows (subst (λ z. IsWithinLimits (e ∷ z)) (sym (append_assoc t (row_of row ∷ []) (map row_of rows))) within) (second_holds _ _ plain)
+
+-- ---- the first row
+
+-- a row that is the first is the root
+root_of_first : (kind : Kind) (bytes : List ℕ) (k : Key) → is_root k ≡ true → is_dirs kind ≡ true → ◌≡◌ {A = Tree} root_tree ((k, node_of_kind kind bytes) ∷ [])
+root_of_first kinds.Dir bytes [] root dir = refl
+root_of_first kinds.Dir bytes (x ∷ k) root dir = absurd (cc)
+root_of_first kinds.File bytes k root dir = absurd (cc)
+
+-- the root alone is within the limits
+root_within : IsWithinLimits root_tree
+root_within = record {
+  tree = played_trees_are_trees.0;
+  entries = λ d. few (after_prefix d []) d refl;
+  bytes = λ k bytes e. absurd (no_file (same_key k []) bytes (sym (look-find root_tree k) ∙ e));
+}
+  where
+    few : (o : Option Key) (d : Key) → after_prefix d [] ≡ o → length (with_name (only_name (after_prefix d [])) []) ≤ 256
+    few o [] e = omega arith
+    few o (x ∷ d) e = omega arith
+
+    no_file : (b : Bool) (bytes : List ℕ) → cond {A = Option Node} b (Some Dir) None ≡ Some (File bytes) → ⊥
+    no_file true bytes e = cc
+    no_file false bytes e = cc
+
+-- a node that is there is one
+same_node : (m n : Node) → Some m ≡ Some n → m ≡ n
+same_node m n e = cc
+
+-- what is a directory's has its kind
+dirs : (kind : Kind) (bytes : List ℕ) → node_of_kind kind bytes ≡ Dir → is_dirs kind ≡ true
+dirs kinds.Dir bytes e = refl
+dirs kinds.File bytes e = absurd (cc)
+
+-- what is the first of a tree's rows
+root_row : (row : Row) (u : Tree) → IsWithinLimits (row_of row ∷ u) → is_plain row ≡ true → is_first row ≡ true
+root_row row u within plain = go (key_of row) refl
+  where
+    found : (k : Key) → key_of row ≡ k → find key_cmp [] ((k, (row_of row).1) ∷ u) ≡ Some Dir
+    found k e = ap (λ z. find key_cmp [] ((z, (row_of row).1) ∷ u)) (sym e) ∙ sym (look-find (row_of row ∷ u) []) ∙ within.tree.root
+
+    go : (k : Key) → key_of row ≡ k → is_first row ≡ true
+    go [] e =
+        let dir : (row_of row).1 ≡ Dir = same_node (row_of row).1 Dir (found [] e) in
+        both_hold _ _ (both_hold _ _ (ap is_root e) (dirs row.kind row.bytes.items dir))
+        (bytes_fit row.kind row.bytes.items plain (λ others is. let no : Dir ≡ File others = sym dir ∙ is in absurd (cc)))
+    go (x ∷ k) e =
+        let below : T (below_all key_cmp (x ∷ k) u) = subst (λ z. T (below_all key_cmp z u)) e (both_first _ _ (true_T within.tree.sorted)) in
+        let none : find key_cmp [] u ≡ None = find-under [] u (below_trans [] (x ∷ k) u refl below) in
+        let some : find key_cmp [] u ≡ Some Dir = found (x ∷ k) e in
+        absurd (cc)
+
+-- ---- the law
+
+pub fitting_rows_are_trees : FittingRowsAreTrees
+fitting_rows_are_trees rows = (to rows, λ h. from rows h.0 h.1)
+  where
+    to : (rows : List Row) → misfit rows ≡ None → IsWithinLimits (map row_of rows) × IsTrue (list_all is_plain rows)
+    to [] e = absurd (cc)
+    to (row ∷ rows) e = go (is_first row) refl e
+      where
+        go : (b : Bool) → is_first row ≡ b → cond {A = Option ℕ} b (misfit_from (row_of row ∷ []) 2 rows) (Some 1) ≡ None → IsWithinLimits (row_of row ∷ map row_of rows) × IsTrue (is_plain row && list_all is_plain rows)
+        go true first h =
+            let root : ◌≡◌ {A = Tree} root_tree (row_of row ∷ []) = root_of_first row.kind row.bytes.items (key_of row) (first_holds _ _ (first_holds _ _ first)) (second_holds _ _ (first_holds _ _ first)) in
+            let rest = all_fit (row_of row ∷ []) 2 rows (subst IsWithinLimits root root_within) h in
+            (rest.0, both_hold _ _ (plain_by row.kind row.bytes.items (second_holds _ _ first)) rest.1)
+        go false first h = absurd (cc)
+
+    from : (rows : List Row) → IsWithinLimits (map row_of rows) → IsTrue (list_all is_plain rows) → misfit rows ≡ None
+    from [] within plain = let none : ◌≡◌ {A = Option Node} None (Some Dir) = sym (look-find [] []) ∙ within.tree.root in absurd (cc)
+    from (row ∷ rows) within plain =
+        ap (λ b. cond {A = Option ℕ} b (misfit_from (row_of row ∷ []) 2 rows) (Some 1)) (root_row row (map row_of rows) within (first_holds _ _ plain))
+        ∙ fit_all (row_of row) [] 2 rows within (second_holds _ _ plain)

@@ -1,0 +1,147 @@
+//! The nodes of a tree, made of its entries.
+
+ghost use Rattle.std.specs.Prelude.{◌≡◌, ℕ, ◌++◌, ◌∷◌, [], Some, None, Ok, Err, true, false, IfOk, OnOk, MatchOption, IsTrue, map};
+ghost use Rattle.fs_names.specs.Keys.{is_root};
+ghost use Rattle.fs_calls.specs.Tree.{root_tree};
+ghost use Rattle.fs_seq.specs.Rows.{fits, is_dirs, is_first, key_of, last_key, may_have, misfit, node_of_kind, row_of};
+ghost use Rattle.fs_seq.specs.code.Added.{IsPlaceOf};
+ghost use Rattle.fs_seq.specs.code.Effects.{tree_node};
+ghost use Rattle.fs_seq.specs.code.Nodes.{graph, place};
+ghost use Rattle.fs_seq.specs.code.Slots.{IsForest, links_of, tree_of, walk};
+
+use crate::copying::copied_bytes;
+use crate::create::attach;
+use crate::nodes::{Node, search, step};
+use crate::rows::Row;
+use fs_calls::ranges::{fits_size, is_full};
+use fs_names::{Kind, Name};
+use slab::Slab;
+use std::alloc::{AllocError, Global};
+use std::cmp::Ordering;
+
+/// Why rows are no tree.
+#[derive(Clone, Copy, Debug, PartialEq, Eq)]
+pub enum NotTree {
+    /// The place, counted from 1, of the first row that no tree within the limits of entries and bytes has there; it is 1
+    /// where there are no rows.
+    Bad(usize),
+    /// An allocation failed. This says nothing about the rows.
+    OutOfMemory,
+}
+
+/// Whether a node of a row's kind may have its bytes.
+fn may_have(row: &Row) -> bool
+    ensures { result ≡ may_have row.now.kind row.now.bytes.items }
+{
+    match row.kind {
+        Kind::Dir => row.bytes.is_empty(),
+        Kind::File => fits_size(row.bytes.len() as u64),
+    }
+}
+
+/// Whether a row is that of a root.
+fn is_first(row: &Row) -> bool
+    ensures { result ≡ is_first row.now }
+{
+    row.key.is_empty() && row.kind == Kind::Dir && may_have(row)
+}
+
+/// The number to which names lead from the root.
+fn reached(nodes: &Slab<Node>, names: &[Name]) -> Option<usize>
+    requires { IsForest (graph nodes.now) }
+    ensures { result ≡ walk (graph nodes.now) names.now }
+{
+    let mut at = 0;
+    for name in names {
+        match step(nodes, at, name) {
+            Ok(next) => at = next,
+            Err(_) => return None,
+        }
+    }
+    Some(at)
+}
+
+/// Where the entry of a row belongs behind the row before: the number of its directory, the place among the entries
+/// there, and its name.
+fn place_of<'a>(nodes: &Slab<Node>, before: &Row, row: &'a Row) -> Option<(usize, usize, &'a Name)>
+    requires forest { IsForest (graph nodes.now) }
+    requires last { last_key (tree_of (graph nodes.now)) ≡ key_of before.now }
+    ensures { MatchOption result (fits (tree_of (graph nodes.now)) row.now ≡ false) (λ at. IsPlaceOf (graph nodes.now) row.now at.0 at.1 at.2.now) }
+{
+    let Some((name, parent)) = row.key.split_last() else {
+        return None;
+    };
+    if before.key.cmp(&row.key) != Ordering::Less || !may_have(row) {
+        return None;
+    }
+    let Some(dir) = reached(nodes, parent) else {
+        return None;
+    };
+    match &nodes[dir] {
+        Node::File(_) => None,
+        Node::Dir(links) => {
+            if is_full(links.len()) {
+                return None;
+            }
+            match search(links, name) {
+                Ok(_) => None,
+                Err(i) => Some((dir, i, name)),
+            }
+        }
+    }
+}
+
+/// The node of a row, which has no entries.
+fn bare_node(alloc: Global, row: &Row) -> Result<Node, AllocError>
+    ensures node { IfOk result (λ node. tree_node node ≡ node_of_kind row.now.kind row.now.bytes.items) }
+    ensures bare { IfOk result (λ node. links_of (Some (place node)) ≡ []) }
+{
+    match row.kind {
+        Kind::Dir => Ok(Node::Dir(Vec::new(alloc))),
+        Kind::File => Ok(Node::File(copied_bytes(&row.bytes)?)),
+    }
+}
+
+/// Adds the node of a row behind the row before, and answers whether it fits there.
+fn add_row(
+    alloc: Global,
+    nodes: &mut Slab<Node>,
+    before: &Row,
+    row: &Row,
+) -> Result<bool, AllocError>
+    requires forest { IsForest (graph nodes.old) }
+    requires last { last_key (tree_of (graph nodes.old)) ≡ key_of before.now }
+    ensures forest { IsForest (graph nodes.new) }
+    ensures fits { IfOk result (λ fit. fit ≡ fits (tree_of (graph nodes.old)) row.now) }
+    ensures tree { result ≡ Ok true → tree_of (graph nodes.new) ≡ tree_of (graph nodes.old) ++ row_of row.now ∷ [] }
+{
+    let Some((dir, i, name)) = place_of(nodes, before, row) else {
+        return Ok(false);
+    };
+    let node = bare_node(alloc, row)?;
+    attach(nodes, dir, i, name, node)?;
+    Ok(true)
+}
+
+/// Adds the nodes of rows to the root alone.
+pub fn add_rows(alloc: Global, nodes: &mut Slab<Node>, rows: &[Row]) -> Result<(), NotTree>
+    requires forest { IsForest (graph nodes.old) }
+    requires root { tree_of (graph nodes.old) ≡ root_tree }
+    ensures forest { IsForest (graph nodes.new) }
+    ensures tree { OnOk result (tree_of (graph nodes.new) ≡ map row_of rows.now) }
+    ensures fits { OnOk result (misfit rows.now ≡ None) }
+    ensures bad { (place : ℕ) → result ≡ Err (NotTree.Bad place) → misfit rows.now ≡ Some place }
+{
+    match rows.first() {
+        Some(first) if is_first(first) => {}
+        _ => return Err(NotTree::Bad(1)),
+    }
+    for i in 1..rows.len() {
+        match add_row(alloc, nodes, &rows[i - 1], &rows[i]) {
+            Ok(true) => {}
+            Ok(false) => return Err(NotTree::Bad(i + 1)),
+            Err(_) => return Err(NotTree::OutOfMemory),
+        }
+    }
+    Ok(())
+}
