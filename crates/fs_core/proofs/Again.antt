@@ -1,9 +1,16 @@
 -- A core at rest begins its timeline again.
-use Rattle.std.proofs.Common.{◌≡◌, ℕ, suc, List, [], ◌∷◌, Option, Some, None, refl, sym, ap, ◌∙◌, subst, arith}
+use Rattle.std.proofs.Common.{◌≡◌, ℕ, suc, ◌+◌, true, false, ◌==◌, List, [], ◌∷◌, ◌++◌, length, take, slice_get, Option, Some, None, refl, sym, ap, ◌∙◌, subst, arith}
+use Rattle.std.proofs.Math.Dec.{eqb-suc-zero}
+use Rattle.std.proofs.lemmas.List.{take_more}
+use Rattle.std.proofs.lemmas.Option.{slice_get_within, get_or_from_slice_get}
 use mathlib.Core.Path.{fun_ext}
 use Rattle.fs_calls.specs.Tree.{Tree}
-use Rattle.fs_calls.specs.Outcomes.{play}
+use Rattle.fs_calls.specs.Starts.{Start}
+use Rattle.fs_calls.specs.Outcomes.{after, play}
+use Rattle.fs_calls.specs.declared.call.Call.{Call}
 use Rattle.fs_timeline.specs.Timeline.{commits}
+use Rattle.fs_timeline.specs.declared.entry.Entry.{Entry}
+use Rattle.fs_timeline.proofs.AppendLemmas.{play-push}
 use Rattle.fs_locks.specs.Holding.{holder}
 use Rattle.fs_machine.specs.Records.{Record}
 use Rattle.fs_machine.specs.States.{Run, begun_again}
@@ -55,3 +62,19 @@ again_kept m b k p places tree kept rest is = record {
   within = let a : walking m.seats ≡ 0 = none_walk m.seats rest in omega (arith, a);
   owed_is = let a : owed m.seats ≡ 0 = none_owed m.seats rest in omega (arith, a);
 }
+
+-- the tree that one commit more plays
+pub played_next : (start : Start) (calls : List Call) (i : ℕ) (call : Call) (tree new : Tree) → slice_get calls i ≡ Some call → tree ≡ play start (take i calls) → new ≡ after tree call → new ≡ play start (take (i + 1) calls)
+played_next start calls i call tree new at was is =
+    let more : take (i + 1) calls ≡ take i calls ++ call ∷ [] = take_more calls i call (slice_get_within calls i call at) ∙ ap (λ (x : Call). take i calls ++ x ∷ []) (get_or_from_slice_get calls i call call at) in
+    is ∙ ap (λ (t : Tree). after t call) was ∙ sym (play-push start (take i calls) call) ∙ ap (play start) (sym more)
+
+pub no_entries : (es : List Entry) → true ≡ (length es == 0) → es ≡ []
+no_entries [] e = refl
+no_entries (x ∷ es) e = let z : true ≡ false = e ∙ eqb-suc-zero (length es) in cc
+
+-- where there are no entries, a core at rest is it already
+pub again_empty : (m : CoreValue) → Run (state_of m) → IsAtRest m → m.timeline ≡ [] → state_of m ≡ begun_again (state_of m)
+again_empty m run rest empty =
+    ap (λ (es : List Entry). state_of (record m { timeline = es })) empty
+    ∙ again_is m m.start run rest (ap (λ (es : List Entry). play m.start (commits es)) (sym empty))

@@ -1,3 +1,4 @@
 pub mod CoreValues
+pub mod Checkpoints
 pub mod Events
 pub mod code

@@ -5,3 +5,4 @@ pub mod Helping
 pub mod Searches
 pub mod Starting
 pub mod Doing
+pub mod Leasts

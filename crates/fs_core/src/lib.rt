@@ -4,14 +4,18 @@
 //! and where no call is under way the nodes spell the tree that its commits play (`spelled`). `Core::told` tells the
 //! same of a core that was driven by `begin` and `step`; `told_of_helping`, `told_of_progress` and `told_of_numbers` tell
 //! what else every core keeps. A begin allocates all that its call can need, and a refused
-//! one changes nothing; a step does one move of the call on a seat, and cannot fail.
+//! one changes nothing; a step does one move of the call on a seat, and cannot fail. `Core::checkpoint` hands the entries
+//! out and begins the timeline again at the tree that they lead to; it changes nothing where a call is under way or there
+//! is no memory.
 //!
 //! Enter at `Core::new`, `seat`, `begin`, `step` and `timeline`. What a begin and a step do is
-//! `fs_machine/specs/States.antt`. In `specs/` here `CoreValues` says which of those states a core is in, and `Events` what
-//! a list of events does; `specs/code/` ties the code to them, and changes no meaning.
+//! `fs_machine/specs/States.antt`. In `specs/` here `CoreValues` says which of those states a core is in, `Events` what a
+//! list of events does, and `Checkpoints` why there is no checkpoint; `specs/code/` ties the code to them, and changes no
+//! meaning.
 #![tactic(auto)]
 
 mod beginning;
+pub mod checkpoint;
 mod commits;
 mod done;
 mod events;
@@ -21,6 +25,7 @@ pub mod outcome;
 mod seat;
 mod telling;
 
+pub use checkpoint::NoCheckpoint;
 pub use fs_machine::{Refusal, Stepped};
 pub use machine::Core;
 pub use outcome::{Event, Ran};

@@ -75,4 +75,11 @@ impl Timeline {
     {
         self.list.as_slice()
     }
+
+    /// The entries alone, handed out. It takes no memory.
+    pub fn into_entries(self) -> Vec<Entry>
+        ensures { result.items ≡ self.entries }
+    {
+        self.list
+    }
 }

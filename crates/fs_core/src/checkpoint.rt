@@ -1,0 +1,101 @@
+//! The checkpoint: the timeline begins again at the tree that its commits play, and its entries are handed out.
+
+ghost use Rattle.std.specs.Prelude.{◌≡◌, IfOk, IfErr, OnOk, OnErr};
+ghost use Rattle.fs_calls.specs.Outcomes.{play};
+ghost use Rattle.fs_timeline.specs.Timeline.{commits};
+ghost use Rattle.fs_machine.specs.States.{begun_again};
+ghost use Rattle.fs_core.specs.CoreValues.{state_of, IsAtRest};
+ghost use Rattle.fs_core.specs.Checkpoints.{IsWhyNot};
+ghost use Rattle.fs_core.specs.code.Leasts.{IsLeast, lesser};
+
+use crate::machine::Core;
+use fs_names::{CallNo, SeatNo};
+use fs_seq::SeqTree;
+use fs_timeline::Entry;
+use std::alloc::{AllocError, Global};
+
+/// Why there was no checkpoint. Nothing has changed by it.
+#[derive(Clone, Copy, Debug, PartialEq, Eq)]
+pub enum NoCheckpoint {
+    /// Calls are under way: the least of their numbers.
+    UnderWay(CallNo),
+    /// There is no memory for the tree at which the timeline would begin again.
+    OutOfMemory,
+}
+
+/// The lesser of two numbers, or the one that is there.
+fn lesser(one: Option<CallNo>, other: Option<CallNo>) -> Option<CallNo>
+    ensures { result ≡ lesser one other }
+{
+    match (one, other) {
+        (Some(least), Some(call)) if call.get() < least.get() => other,
+        (Some(_), _) => one,
+        (None, _) => other,
+    }
+}
+
+impl Core {
+    /// The least number of the calls under way.
+    fn least_under_way(&self) -> Option<CallNo>
+        ensures { IsLeast self.now result }
+    {
+        let mut least = None;
+        for seat in 0..self.seats() {
+            least = lesser(least, self.under_way(SeatNo::new(seat as u64)));
+        }
+        least
+    }
+
+    /// Whether no call is under way; the error is the least number of one.
+    fn at_rest(&self) -> Result<(), NoCheckpoint>
+        ensures rest { OnOk result (IsAtRest self.now) }
+        ensures why { IfErr result (IsWhyNot self.now) }
+    {
+        match self.least_under_way() {
+            Some(call) => Err(NoCheckpoint::UnderWay(call)),
+            None => Ok(()),
+        }
+    }
+
+    /// The tree that the timeline's commits play. The only error is out of memory.
+    fn played(&self, alloc: Global) -> Result<SeqTree, AllocError>
+        ensures { IfOk result (λ tree. tree ≡ play self.now.start (commits self.now.timeline)) }
+    {
+        let mut tree = self.start().copy()?;
+        for i in 0..self.commits() {
+            tree.apply(alloc, self.committed(i))?;
+        }
+        Ok(tree)
+    }
+
+    /// The tree at which the timeline would begin again: all that a checkpoint takes memory for. `UnderWay` comes exactly
+    /// where a call is under way, and is looked for first.
+    pub fn prepare(&self, alloc: Global) -> Result<SeqTree, NoCheckpoint>
+        ensures rest { OnOk result (IsAtRest self.now) }
+        ensures tree { IfOk result (λ tree. tree ≡ play self.now.start (commits self.now.timeline)) }
+        ensures why { IfErr result (IsWhyNot self.now) }
+    {
+        self.at_rest()?;
+        self.played(alloc).map_err(|_| NoCheckpoint::OutOfMemory)
+    }
+
+    /// The timeline begins again at the tree that its commits played, and its entries so far are handed out. Call numbers
+    /// begin at 1 again; nodes and seats stay. `UnderWay` comes exactly where a call is under way, and is looked for
+    /// first. Where there are no entries it takes no memory.
+    pub fn checkpoint(&mut self, alloc: Global) -> Result<Vec<Entry>, NoCheckpoint>
+        ensures rest { OnOk result (IsAtRest self.old) }
+        ensures state { OnOk result (state_of self.new ≡ begun_again (state_of self.old)) }
+        ensures entries { IfOk result (λ entries. entries.items ≡ self.old.timeline) }
+        ensures seats { OnOk result (self.new.seats ≡ self.old.seats) }
+        ensures why { IfErr result (IsWhyNot self.old) }
+        ensures err { OnErr result (self.new ≡ self.old) }
+    {
+        self.at_rest()?;
+        if self.timeline().is_empty() {
+            self.told();
+            return Ok(Vec::new(alloc));
+        }
+        let start = self.played(alloc).map_err(|_| NoCheckpoint::OutOfMemory)?;
+        Ok(self.begin_again(alloc, start).into_entries())
+    }
+}
