@@ -167,3 +167,12 @@ pub fn check(alloc: Global, entries: &[Entry]) -> Result<Verdict, AllocError>
 {
     check_on(alloc, SeqTree::new(alloc)?, entries)
 }
+
+/// The verdict on a journal that begins at a tree, which stays: its calls are played on a copy of it.
+pub fn check_from(alloc: Global, start: &SeqTree, entries: &[Entry]) -> Result<Verdict, AllocError>
+    ensures verdict { IfOk result (λ v. v ≡ verdict start.now entries.now) }
+    ensures lawful { IfOk result (λ v. (v ≡ Verdict.Lawful) ↔ IsLawful start.now entries.now) }
+    ensures first_fault { IfOk result (NamesFirstFault start.now entries.now) }
+{
+    check_on(alloc, start.copy()?, entries)
+}
