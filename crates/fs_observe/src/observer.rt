@@ -15,7 +15,7 @@ use fs_calls::{Call, Reply};
 use fs_names::Path;
 use left_right::reader::Reader;
 use std::alloc::{AllocError, Global};
-use std::marker::Model;
+use std::marker::{Model, PhantomData};
 
 pub(crate) type Seat = Reader<Shown, Known, Rule>;
 
@@ -52,15 +52,16 @@ impl<N: Named> Stamp<N> {
     }
 }
 
-/// A reader of a tree that waits for nobody. It keeps the list that it last showed or was told of, which contracts
-/// see, with the tree at which it starts.
+/// A reader of a tree that waits for nobody, for as long as the tree is lent to it. It keeps the list that it last showed
+/// or was told of, which contracts see, with the tree at which it starts.
 #[derive(Drop)]
-pub struct Observer<N: Named> {
+pub struct Observer<'a, N: Named> {
     reader: Seat,
     kept: Front<N>,
+    lent: PhantomData<&'a ()>,
 }
 
-impl<N: Named> Model for Observer<N> {
+impl<'a, N: Named> Model for Observer<'a, N> {
     ghost use Rattle.left_right.specs.Sides.{view as known_by};
     ghost use Rattle.fs_observe.specs.Observed.{Knows};
     ghost use Rattle.fs_observe.specs.Pasts.{Past, past_of};
@@ -138,12 +139,16 @@ fn count_in<N: Named>(reader: Seat, kept: &Front<N>) -> (Seat, Result<Front<N>, 
     }
 }
 
-impl<N: Named> Observer<N> {
-    pub(crate) fn new(reader: Seat, kept: Front<N>) -> Observer<N>
+impl<'a, N: Named> Observer<'a, N> {
+    pub(crate) fn new(reader: Seat, kept: Front<N>) -> Observer<'a, N>
         requires { Knows N.book (view reader.place) }
         ensures { result ≡ past_of kept }
     {
-        Observer { reader, kept }
+        Observer {
+            reader,
+            kept,
+            lent: PhantomData,
+        }
     }
 
     /// The reply to a call that changes nothing, by a published list that begins with the kept one, and is kept from then
@@ -154,7 +159,7 @@ impl<N: Named> Observer<N> {
         ensures reply { IfOk result (λ r. r ≡ reply (play self.new.start self.new.list) call.now) }
         ensures err { OnErr result (self.new ≡ self.old) }
     {
-        let Observer { reader, kept } = self;
+        let Observer { reader, kept, .. } = self;
         let (reply, front) = replace_with(reader, (alloc, call, &*kept), look_in)?;
         *kept = front;
         Ok(reply)
@@ -204,7 +209,7 @@ impl<N: Named> Observer<N> {
         ensures kept { GoesOn self.old self.new }
         ensures count { result ≡ length self.new.list }
     {
-        let Observer { reader, kept } = self;
+        let Observer { reader, kept, .. } = self;
         if let Ok(front) = replace_with(reader, &*kept, count_in) {
             *kept = front;
         }

@@ -192,8 +192,9 @@ impl<N: Named> Publisher<N> {
         })
     }
 
-    /// An observer that was told nothing yet. The error is that none of the reader places is free, or no memory.
-    pub fn observer(&mut self) -> Result<Observer<N>, NoPlace>
+    /// An observer that was told nothing yet. The error is that none of the reader places is free, or no memory. Whoever
+    /// keeps the publisher says for how long it is lent.
+    pub fn observer<'a>(&mut self) -> Result<Observer<'a, N>, NoPlace>
         ensures same { self.new ≡ self.old }
         ensures first { IfOk result (λ o. o ≡ record { start = self.old.start; list = [] }) }
     {

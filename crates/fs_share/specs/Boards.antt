@@ -1,11 +1,13 @@
 -- What the core's lock keeps, as its callers see it, and what it keeps of the publisher's lists.
-use Rattle.std.specs.Prelude.{◌≡◌, ℕ, ◌+◌, ◌<◌, ◌≤◌, List, length, take, slice_get, Some}
+use Rattle.std.specs.Prelude.{◌≡◌, ℕ, ◌+◌, ◌<◌, ◌≤◌, List, [], length, take, slice_get, Some}
 use mathlib.Core.List.{IsPrefix}
 use Rattle.fs_calls.specs.Starts.{Start}
+use Rattle.fs_calls.specs.Tree.{Tree}
 use Rattle.fs_calls.specs.Outcomes.{play, reply}
 use Rattle.fs_calls.specs.declared.call.Call.{Call}
 use Rattle.fs_calls.specs.declared.reply.Reply.{Reply}
-use Rattle.fs_core.specs.CoreValues.{CoreValue}
+use Rattle.fs_timeline.specs.Timeline.{commits}
+use Rattle.fs_core.specs.CoreValues.{CoreValue, IsAtRest}
 use Rattle.fs_observe.specs.Lists.{Lists}
 
 -- the core, and the list that observers are shown
@@ -19,6 +21,12 @@ pub record AreBeginnings (commits : List Call) (lists : Lists) : Type 0 where
   pub taken : IsPrefix lists.taken commits
   pub entered : IsPrefix lists.entered commits
   pub one_more : length lists.entered ≤ length lists.taken + 1
+
+-- a core at rest, the tree that its commits play, and a publisher that shows it
+pub record IsReady (core : CoreValue) (tree : Tree) (lists : Lists) : Type 0 where
+  pub rest : IsAtRest core
+  pub is_played : tree ≡ play core.start (commits core.timeline)
+  pub shows : lists ≡ record { start = tree; published = []; taken = []; entered = [] }
 
 -- the call stands at the place in the list, and the reply is that of the tree which the calls before it play on the start tree
 pub record IsListed (start : Start) (list : List Call) (place : ℕ) (call : Call) (answer : Reply) : Type 0 where

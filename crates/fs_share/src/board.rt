@@ -3,16 +3,18 @@
 ghost use Rattle.std.specs.Prelude.{◌≡◌, ◌+◌, ◌<◌, ◌++◌, ◌∷◌, [], None, Some, IfOk, IfSome, IfNone, OnOk, OnErr, length, slice_get};
 ghost use mathlib.Core.List.{IsPrefix};
 ghost use Rattle.fs_timeline.specs.Timeline.{commits};
-ghost use Rattle.fs_machine.specs.States.{Begins, Step};
+ghost use Rattle.fs_machine.specs.States.{Begins, Step, begun_again};
 ghost use Rattle.fs_core.specs.CoreValues.{state_of};
-ghost use Rattle.fs_share.specs.Boards.{AreBeginnings, IsListed};
+ghost use Rattle.fs_share.specs.Boards.{AreBeginnings, IsListed, IsReady};
 
+use crate::checkpoint::Ready;
 use crate::told::told_place;
 use fs_calls::{Call, Reply};
 use fs_core::{Core, Refusal, Stepped};
 use fs_names::{CallNo, SeatNo};
 use fs_observe::{Named, NoPlace, Observer, Opened, Publisher, Stamp};
 use fs_seq::SeqTree;
+use fs_timeline::Entry;
 use std::alloc::{AllocError, Global};
 use std::marker::Model;
 use std::sync::Wait;
@@ -150,7 +152,7 @@ impl<N: Named> Board<N> {
     }
 
     /// An observer that was told nothing yet.
-    pub(crate) fn observer(&mut self) -> Result<Observer<N>, NoPlace>
+    pub(crate) fn observer<'a>(&mut self) -> Result<Observer<'a, N>, NoPlace>
         ensures same { self.new ≡ self.old }
     {
         let Board { publisher, .. } = self;
@@ -196,6 +198,35 @@ impl<N: Named> Board<N> {
         ensures { result ≡ record { start = self.now.core.start; list = [] } }
     {
         self.publisher.first()
+    }
+
+    /// Each stamp of this tree starts at the tree at which the timeline does.
+    pub(crate) fn agrees(&self, stamp: &Stamp<N>)
+        ensures { stamp.now.start ≡ self.now.core.start }
+    {
+        self.publisher.agrees(stamp);
+    }
+
+    /// The timeline begins again, and observers are shown it by another publisher. The entries so far are handed out.
+    pub(crate) fn again<M: Named, R: Wait>(
+        self,
+        rt: &R,
+        alloc: Global,
+        ready: Ready<M>,
+    ) -> (Board<M>, Vec<Entry>)
+        requires { IsReady self.core ready.tree ready.publisher }
+        ensures entries { result.1.items ≡ self.core.timeline }
+        ensures state { state_of result.0.core ≡ begun_again (state_of self.core) }
+        ensures seats { result.0.core.seats ≡ self.core.seats }
+    {
+        let Board {
+            mut core,
+            publisher: old,
+        } = self;
+        old.close(rt);
+        let Ready { tree, publisher } = ready;
+        let entries = core.begin_again(alloc, tree).into_entries();
+        (Board { core, publisher }, entries)
     }
 
     /// Ends the publisher, and gives the core back.

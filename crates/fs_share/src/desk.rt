@@ -1,17 +1,20 @@
 //! What the lock keeps: the board, and the account of the calls that returned.
 
-ghost use Rattle.std.specs.Prelude.{◌≡◌, ◌+◌, ◌<◌, ◌^◌, ◌++◌, ◌∷◌, ◌||◌, [], None, false, is_some, length, sum_by, vec_len, IfOk, IfSome, OnOk};
+ghost use Rattle.std.specs.Prelude.{◌≡◌, ◌+◌, ◌<◌, ◌≤◌, ◌^◌, ◌++◌, ◌∷◌, ◌||◌, [], None, false, is_some, length, sum_by, vec_len, IfOk, IfSome, OnOk};
 ghost use Rattle.fs_nodes.specs.Graphs.{graph_shapes};
 ghost use Rattle.fs_nodes.specs.Stores.{graph_of};
 ghost use Rattle.fs_calls.specs.Outcomes.{play};
+ghost use Rattle.fs_calls.specs.Starts.{start_tree};
+ghost use Rattle.fs_calls.specs.Tree.{IsTree};
 ghost use Rattle.fs_calls.specs.Sights.{tree_shapes};
 ghost use Rattle.fs_timeline.specs.Timeline.{IsLawful, commits};
 ghost use Rattle.fs_machine.specs.States.{Begins, Step};
 ghost use Rattle.fs_core.specs.CoreValues.{state_of};
-ghost use Rattle.fs_share.specs.Boards.{IsListed};
+ghost use Rattle.fs_share.specs.Boards.{IsListed, IsReady};
 ghost use Rattle.fs_share.specs.Returns.{answered, returns, AllReturned};
 
 use crate::board::Board;
+use crate::checkpoint::Ready;
 use crate::session::Tally;
 use crate::tree::{Closed, Whole};
 use fs_calls::{Call, Reply};
@@ -19,9 +22,10 @@ use fs_core::{Refusal, Stepped};
 use fs_names::{CallNo, SeatNo};
 use fs_nodes::NodeNo;
 use fs_observe::{Named, NoPlace, Observer, Stamp};
+use fs_timeline::Entry;
 use std::alloc::{AllocError, Global};
 use std::sync::Wait;
-use std::sync::ledger::{Book, Share};
+use std::sync::ledger::{Blank, Book, Share};
 
 /// The most seats that there may be: a part of the ledger is left for each.
 const MOST_SEATS: usize = usize::MAX / 4;
@@ -33,8 +37,11 @@ pub(crate) struct Desk<N: Named> {
     pub book: Book<N>,
     pub rest: Share<N>,
     pub sleepers: bool,
+    /// How many seats stood when the timeline began.
+    pub before: usize,
     ghost counted: { returns board.core.timeline ≡ book.total },
-    ghost parts: { rest.parts + length board.core.seats ≡ 2 ^ 63 },
+    ghost earlier: { before ≤ length board.core.seats },
+    ghost parts: { rest.parts + length board.core.seats ≡ 2 ^ 63 + before },
     ghost nothing: { rest.amount ≡ 0 },
 }
 
@@ -63,6 +70,17 @@ fn step_on<N: Named>(board: &mut Board<N>, seat: SeatNo) -> Stepped
     }
 }
 
+/// Puts the tallies' shares together.
+fn merge_all<N: Named>(rest: &mut Share<N>, tallies: Vec<Tally<N>>)
+    ensures parts { rest.new.parts ≡ rest.old.parts + vec_len tallies }
+    ensures amount { rest.new.amount ≡ rest.old.amount + sum_by (λ tally. tally.count) tallies.items }
+    ensures apart { rest.old.parts ≤ N.parts → rest.new.parts ≤ N.parts }
+{
+    for tally in tallies {
+        rest.merge(tally.share);
+    }
+}
+
 /// How many entries there are.
 #[inline(always)]
 fn entry_count<N: Named>(board: &Board<N>) -> usize
@@ -79,8 +97,13 @@ impl<N: Named> Desk<N> {
         ensures seats { OnOk result (self.new.board.core.seats ≡ self.old.board.core.seats ++ None ∷ []) }
         ensures sleepers { self.new.sleepers ≡ self.old.sleepers }
     {
-        let Desk { board, rest, .. } = self;
-        if board.core().seats() >= MOST_SEATS {
+        let Desk {
+            board,
+            rest,
+            before,
+            ..
+        } = self;
+        if board.core().seats() - *before >= MOST_SEATS {
             return Err(AllocError);
         }
         let seat = board.seat()?;
@@ -146,7 +169,7 @@ impl<N: Named> Desk<N> {
     }
 
     /// An observer that was told nothing yet.
-    pub fn observer(&mut self) -> Result<Observer<N>, NoPlace> {
+    pub fn observer<'a>(&mut self) -> Result<Observer<'a, N>, NoPlace> {
         let Desk { board, .. } = self;
         board.observer()
     }
@@ -166,9 +189,55 @@ impl<N: Named> Desk<N> {
         board.tell(rt, alloc, number, call, reply)
     }
 
-    /// The timeline, the nodes and the number of seats. The tallies are of this tree, by their type.
+    /// The same core under another name, with its timeline begun again; and the entries so far.
+    pub fn again<M: Named, R: Wait>(
+        self,
+        rt: &R,
+        alloc: Global,
+        tallies: Vec<Tally<N>>,
+        ready: Ready<M>,
+        blank: Blank,
+    ) -> (Desk<M>, Vec<Entry>)
+        requires ready { IsReady self.board.core ready.tree ready.publisher }
+        requires name { blank.name ≡ M.name }
+        requires parts { blank.parts ≡ M.parts }
+        requires all { blank.parts ≡ 2 ^ 63 }
+        ensures tree { IsTree (start_tree self.board.core.start) }
+        ensures lawful { IsLawful self.board.core.start result.1.items }
+        ensures start { result.0.board.core.start ≡ play self.board.core.start (commits result.1.items) }
+        ensures counted { sum_by (λ tally. tally.count) tallies.items ≤ returns result.1.items }
+    {
+        let Desk {
+            board,
+            mut book,
+            mut rest,
+            sleepers: _,
+            before: _,
+        } = self;
+        merge_all(&mut rest, tallies);
+        book.audit(&mut rest);
+        board.core().told();
+        let before = board.core().seats();
+        let (board, entries) = board.again(rt, alloc, ready);
+        let (book, rest) = blank.open::<M>();
+        (
+            Desk {
+                board,
+                book,
+                rest,
+                sleepers: false,
+                before,
+            },
+            entries,
+        )
+    }
+
+    /// The timeline, the nodes and the number of seats that were made since the timeline began. The tallies are of this
+    /// tree, by their type.
     pub fn close<R: Wait>(self, rt: &R, whole: Whole<N>, tallies: Vec<Tally<N>>) -> Closed
-        ensures sessions { result.sessions ≡ length self.board.core.seats }
+        ensures sessions { result.sessions + self.before ≡ length self.board.core.seats }
+        ensures counted { sum_by (λ tally. tally.count) tallies.items ≤ returns result.timeline.entries }
+        ensures bound { vec_len tallies ≤ result.sessions }
         ensures lawful { IsLawful result.start result.timeline.entries }
         ensures spelled { AllReturned result.timeline.entries → graph_shapes (graph_of result.store) ≡ tree_shapes (play result.start (commits result.timeline.entries)) }
         ensures returns { vec_len tallies ≡ result.sessions → returns result.timeline.entries ≡ sum_by (λ tally. tally.count) tallies.items }
@@ -178,15 +247,14 @@ impl<N: Named> Desk<N> {
             mut book,
             mut rest,
             sleepers: _,
+            before,
         } = self;
-        for tally in tallies {
-            rest.merge(tally.share);
-        }
+        merge_all(&mut rest, tallies);
         book.audit(&mut rest);
         let _whole = whole;
         let core = board.close(rt);
         core.told();
-        let sessions = core.seats();
+        let sessions = core.seats() - before;
         let (start, timeline, store) = core.into_parts();
         Closed {
             start,

@@ -3,13 +3,16 @@
 //! A session has a seat of its own, and a call of it is one begin and steps, each under the lock. So whoever gets the lock
 //! finds a state of a run: the core's type keeps it. `AtomFs::close` hands out a lawful timeline, and a store that spells
 //! the tree that its commits play where every call has returned; where each session handed in its tally, the timeline has
-//! as many returns as these add up to. `run_lists` plays each list by a worker of its own. `Session::call_told` also
+//! as many returns as these add up to. `AtomFs::checkpoint` hands the entries so far out, and the tree goes on under another
+//! name from where they lead; `checkpoint_told` also tells from which tree they are lawful, and that the new tree starts at
+//! what they play. `run_lists` plays each list by a worker of its own. `Session::call_told` also
 //! publishes what has committed, and answers a stamp: observers that learn it, from `AtomFs::observer`, show the call, and
 //! wait for nobody. Enter at `AtomFs::open`; what is counted is defined in `specs/Returns.antt`, what a told call is told of
 //! in `specs/Boards.antt`. Of running threads no progress, fairness or end is claimed.
 #![tactic(auto)]
 
 pub mod board;
+pub mod checkpoint;
 mod desk;
 pub mod gate;
 pub mod lists;
@@ -18,6 +21,8 @@ mod told;
 pub mod tree;
 
 pub use board::{Board, advance};
+pub use checkpoint::NotKept;
+pub use fs_core::NoCheckpoint;
 pub use fs_observe::{Named, NoPlace, Observer, Opened, Stamp};
 pub use gate::{Gate, Open};
 pub use lists::{ListsFault, run_lists};

@@ -1,15 +1,18 @@
 //! A tree that sessions share, and its end.
 
-ghost use Rattle.std.specs.Prelude.{[], ◌≡◌, ◌+◌, ◌<◌, ◌^◌, length, vec_len, sum_by, IfOk, IfSome};
+ghost use Rattle.std.specs.Prelude.{[], ◌≡◌, ◌+◌, ◌<◌, ◌≤◌, ◌^◌, length, vec_len, sum_by, IfOk, IfErr, IfSome};
 ghost use Rattle.fs_nodes.specs.Graphs.{graph_shapes};
 ghost use Rattle.fs_nodes.specs.Stores.{graph_of};
 ghost use Rattle.fs_calls.specs.Outcomes.{play};
+ghost use Rattle.fs_calls.specs.Starts.{Start, start_tree};
+ghost use Rattle.fs_calls.specs.Tree.{IsTree};
 ghost use Rattle.fs_calls.specs.Sights.{tree_shapes};
 ghost use Rattle.fs_timeline.specs.Timeline.{IsLawful, commits};
 ghost use Rattle.fs_share.specs.Boards.{IsListed};
 ghost use Rattle.fs_share.specs.Returns.{answered, returns, AllReturned};
 
 use crate::board::Board;
+use crate::checkpoint::{NotKept, make_ready};
 use crate::desk::Desk;
 use crate::session::{Session, Tally};
 use fs_calls::{Call, Reply};
@@ -18,7 +21,7 @@ use fs_names::{CallNo, SeatNo};
 use fs_nodes::{NodeNo, Store};
 use fs_observe::{Named, NoPlace, Observer, Opened, Stamp};
 use fs_seq::SeqTree;
-use fs_timeline::Timeline;
+use fs_timeline::{Entry, Timeline};
 use std::alloc::{AllocError, Global};
 use std::hint::spin_loop;
 use std::marker::PhantomData;
@@ -45,7 +48,8 @@ pub struct AtomFs<N: Named> {
     whole: Whole<N>,
 }
 
-/// What is left of a tree: the tree at which its timeline starts, its timeline, its nodes, and how many sessions it had.
+/// What is left of a tree: the tree at which its timeline starts, its timeline, its nodes, and how many sessions it had
+/// since its timeline began.
 #[derive(Drop)]
 pub struct Closed {
     pub start: SeqTree,
@@ -69,16 +73,24 @@ impl<N: Named> AtomFs<N> {
     {
         let board = Board::open(rt, alloc, opened)?;
         let (book, rest) = blank.open::<N>();
-        Ok(AtomFs {
-            desk: Mutex::new(Desk {
-                board,
-                book,
-                rest,
-                sleepers: false,
-            }),
+        Ok(AtomFs::around(Desk {
+            board,
+            book,
+            rest,
+            sleepers: false,
+            before: 0,
+        }))
+    }
+
+    /// A lock round what it keeps.
+    fn around(desk: Desk<N>) -> AtomFs<N>
+        requires { N.parts ≡ 2 ^ 63 }
+    {
+        AtomFs {
+            desk: Mutex::new(desk),
             freed: Condvar::new(),
             whole: Whole { of: PhantomData },
-        })
+        }
     }
 
     /// The lock. Whoever has it has it for one event, and a sleep takes longer than hundreds of them. So a thread that
@@ -131,7 +143,7 @@ impl<N: Named> AtomFs<N> {
     }
 
     /// An observer that was told nothing yet. The error is that none of the 64 reader places is free, or no memory.
-    pub fn observer<R: Wait>(&self, rt: &R) -> Result<Observer<N>, NoPlace> {
+    pub fn observer<R: Wait>(&self, rt: &R) -> Result<Observer<'_, N>, NoPlace> {
         let mut desk = self.lock(rt);
         let observer = desk.observer();
         MutexGuard::unlock(desk);
@@ -218,12 +230,89 @@ impl<N: Named> AtomFs<N> {
         stamp
     }
 
-    /// Ends the tree, and with it what its observers read. It takes no memory.
+    /// The timeline begins again at the tree that it has come to, under another name, and its entries so far are handed
+    /// out. Call numbers begin at 1 again; nodes and seats stay. The error hands back what came in, and nothing has
+    /// changed: `UnderWay` comes exactly where a call is under way, and is looked for before memory is. Whoever joins the
+    /// entries of one checkpoint with those of the next calls `checkpoint_told`.
+    pub fn checkpoint<M: Named, R: Wait>(
+        self,
+        rt: &R,
+        alloc: Global,
+        tallies: Vec<Tally<N>>,
+        opened: Opened,
+        blank: Blank,
+    ) -> Result<(AtomFs<M>, Vec<Entry>), NotKept<N>>
+        requires book { opened ≡ M.book }
+        requires name { blank.name ≡ M.name }
+        requires parts { blank.parts ≡ M.parts }
+        requires all { blank.parts ≡ 2 ^ 63 }
+
+        // There is a tree from which the entries are lawful, the one at which each stamp's list started.
+        ensures lawful { IfOk result (λ kept. (start : Start) × IsTree (start_tree start) × IsLawful start kept.1.items) }
+        ensures counted { IfOk result (λ kept. sum_by (λ tally. tally.count) tallies.items ≤ returns kept.1.items) }
+        ensures back { IfErr result (λ left. (left.tallies ≡ tallies) × (left.blank ≡ blank)) }
+    {
+        let told = self.first(rt);
+        match self.checkpoint_told(rt, alloc, tallies, &told, opened, blank) {
+            Ok((fs, entries, _)) => Ok((fs, entries)),
+            Err(left) => Err(left),
+        }
+    }
+
+    /// The same as `checkpoint`, with a stamp of this tree handed in, and one of the new tree's list of no calls handed
+    /// out: the first tells from which tree the entries are lawful, the second that the new tree starts where they lead.
+    pub fn checkpoint_told<M: Named, R: Wait>(
+        self,
+        rt: &R,
+        alloc: Global,
+        tallies: Vec<Tally<N>>,
+        told: &Stamp<N>,
+        opened: Opened,
+        blank: Blank,
+    ) -> Result<(AtomFs<M>, Vec<Entry>, Stamp<M>), NotKept<N>>
+        requires book { opened ≡ M.book }
+        requires name { blank.name ≡ M.name }
+        requires parts { blank.parts ≡ M.parts }
+        requires all { blank.parts ≡ 2 ^ 63 }
+
+        // The entries are lawful from the tree at which the stamp's list starts, and the new tree starts at what they play.
+        ensures lawful { IfOk result (λ kept. IsTree (start_tree told.now.start) × IsLawful told.now.start kept.1.items) }
+        ensures start { IfOk result (λ kept. kept.2 ≡ record { start = play told.now.start (commits kept.1.items); list = [] }) }
+
+        // At least as many calls returned as the tallies add up to.
+        ensures counted { IfOk result (λ kept. sum_by (λ tally. tally.count) tallies.items ≤ returns kept.1.items) }
+        ensures back { IfErr result (λ left. (left.tallies ≡ tallies) × (left.blank ≡ blank)) }
+    {
+        let AtomFs { desk, freed, whole } = self;
+        let desk = desk.into_inner();
+        desk.board.agrees(told);
+        match make_ready(rt, alloc, desk.board.core(), opened) {
+            Ok(ready) => {
+                let (desk, entries) = desk.again(rt, alloc, tallies, ready, blank);
+                let first = desk.board.first();
+                Ok((AtomFs::around(desk), entries, first))
+            }
+            Err(why) => Err(NotKept {
+                fs: AtomFs {
+                    desk: Mutex::new(desk),
+                    freed,
+                    whole,
+                },
+                tallies,
+                blank,
+                why,
+            }),
+        }
+    }
+
+    /// Ends the tree. It takes no memory.
     pub fn close<R: Wait>(self, rt: &R, tallies: Vec<Tally<N>>) -> Closed
         ensures lawful { IsLawful result.start result.timeline.entries }
         ensures spelled { AllReturned result.timeline.entries → graph_shapes (graph_of result.store) ≡ tree_shapes (play result.start (commits result.timeline.entries)) }
 
-        // Where each session handed in its tally, as many calls returned as these add up to.
+        // At least as many calls returned as the tallies add up to, and exactly as many where each session handed in its own.
+        ensures counted { sum_by (λ tally. tally.count) tallies.items ≤ returns result.timeline.entries }
+        ensures bound { vec_len tallies ≤ result.sessions }
         ensures returns { vec_len tallies ≡ result.sessions → returns result.timeline.entries ≡ sum_by (λ tally. tally.count) tallies.items }
     {
         let AtomFs {

@@ -7,4 +7,4 @@ pub invariant_of-self : goal.invariant_of-self
 invariant_of-self g c =
     let s = c.args.self.now in
     let same = begin_counts (state_of s.board.core) (state_of c.begin.new.self.core) c.args.seat c.args.call.now c.begin.result c.begin.ensures.begins in
-    record { counted = same ∙ s.counted; parts = omega (arith, c.begin.ensures.seats, s.parts); nothing = s.nothing }
+    record { counted = same ∙ s.counted; earlier = omega (arith, c.begin.ensures.seats, s.earlier); parts = omega (arith, c.begin.ensures.seats, s.parts); nothing = s.nothing }
