@@ -22,7 +22,7 @@ const KINDS: [(&[u8], Option<Kind>); 5] = [
 ];
 
 /// A core with two seats.
-fn two_seats(alloc: Global) -> Result<Core>
+pub fn two_seats(alloc: Global) -> Result<Core>
     ensures { IfOk result (λ core. length core.seats ≡ 2) }
 {
     let mut core = Core::new(alloc)?;
@@ -36,7 +36,7 @@ fn two_seats(alloc: Global) -> Result<Core>
 }
 
 /// What every core tells its caller.
-fn tell(core: &Core) {
+pub fn tell(core: &Core) {
     core.told();
     core.told_of_helping();
     core.told_of_progress();
@@ -132,7 +132,7 @@ fn refuse(alloc: Global, core: &mut Core, one: Call, other: Call) -> Result<()>
     Ok(())
 }
 
-fn path(alloc: Global, text: &[u8]) -> Result<Path> {
+pub fn path(alloc: Global, text: &[u8]) -> Result<Path> {
     Ok(Path::parse(alloc, text)?)
 }
 

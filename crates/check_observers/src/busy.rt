@@ -66,7 +66,7 @@ fn publishes<N: Named, R: Wait + Clock>(
 }
 
 /// Whether an observer answers by its list, in which the directory is made and removed in turn.
-fn answers<N: Named>(alloc: Global, observer: &mut Observer<N>) -> Option<bool> {
+fn answers<N: Named>(alloc: Global, observer: &mut Observer<'_, N>) -> Option<bool> {
     let count = observer.count();
     let sight = if count % 2 == 0 {
         Sight::Nothing
@@ -77,7 +77,7 @@ fn answers<N: Named>(alloc: Global, observer: &mut Observer<N>) -> Option<bool> 
 }
 
 /// Asks until many calls are shown, or the writer is over. Whether each answer was that of its list.
-fn asks<N: Named>(alloc: Global, observer: &mut Observer<N>, flags: &Flags) -> Option<bool> {
+fn asks<N: Named>(alloc: Global, observer: &mut Observer<'_, N>, flags: &Flags) -> Option<bool> {
     for _ in 0..u64::MAX {
         if !answers(alloc, observer)? {
             return Some(false);

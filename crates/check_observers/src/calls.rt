@@ -119,7 +119,7 @@ pub enum Sight {
 /// What an observer replies of a sight.
 fn look<N: Named>(
     alloc: Global,
-    observer: &mut Observer<N>,
+    observer: &mut Observer<'_, N>,
     path: &Path,
     sight: Sight,
 ) -> Result<Reply, AllocError> {
@@ -152,7 +152,7 @@ fn fits(reply: &Reply, sight: Sight) -> bool {
 /// Whether an observer shows a sight at a path.
 fn shows_at<N: Named>(
     alloc: Global,
-    observer: &mut Observer<N>,
+    observer: &mut Observer<'_, N>,
     path: &Path,
     sight: Sight,
 ) -> Option<bool> {
@@ -165,7 +165,7 @@ fn shows_at<N: Named>(
 /// The same at the text of a path.
 pub fn shows<N: Named>(
     alloc: Global,
-    observer: &mut Observer<N>,
+    observer: &mut Observer<'_, N>,
     text: &[u8],
     sight: Sight,
 ) -> Option<bool> {

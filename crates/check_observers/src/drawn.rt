@@ -138,7 +138,7 @@ struct Note {
 }
 
 /// What an observer replies to a look.
-fn reply<N: Named>(alloc: Global, observer: &mut Observer<N>, look: &Call) -> Option<Reply> {
+fn reply<N: Named>(alloc: Global, observer: &mut Observer<'_, N>, look: &Call) -> Option<Reply> {
     match look {
         Call::Stat(path) => observer.stat(alloc, path).ok(),
         Call::Readdir(path) => observer.readdir(alloc, path).ok(),
@@ -158,7 +158,7 @@ fn look(path: Path, number: usize) -> Call {
 
 fn note_of<N: Named>(
     alloc: Global,
-    observer: &mut Observer<N>,
+    observer: &mut Observer<'_, N>,
     count: u64,
     look: Call,
 ) -> Option<Note> {
@@ -171,7 +171,7 @@ fn note_of<N: Named>(
 /// Notes the reply to each look at a path.
 fn ask<N: Named>(
     alloc: Global,
-    observer: &mut Observer<N>,
+    observer: &mut Observer<'_, N>,
     path: &Path,
     notes: &mut Vec<Note>,
 ) -> Option<()> {
@@ -191,7 +191,7 @@ fn last_count(notes: &[Note]) -> Option<u64> {
 /// Notes replies by one list, unless it is that of the last notes, or another one was published meanwhile. Whether it does.
 fn takes_notes<N: Named>(
     alloc: Global,
-    observer: &mut Observer<N>,
+    observer: &mut Observer<'_, N>,
     random: &mut Pcg32,
     notes: &mut Vec<Note>,
 ) -> Option<bool> {
@@ -211,7 +211,7 @@ fn takes_notes<N: Named>(
 fn watches<N: Named, R: Wait + Clock>(
     rt: &R,
     alloc: Global,
-    observer: &mut Observer<N>,
+    observer: &mut Observer<'_, N>,
     run: &Run,
     seed: u64,
     notes: &mut Vec<Note>,

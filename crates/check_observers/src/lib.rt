@@ -2,6 +2,7 @@
 //! each run whether it came out as it must. Neither the program nor the library for C has observers.
 #![tactic(auto)]
 
+mod again;
 mod busy;
 mod calls;
 mod drawn;
@@ -82,5 +83,7 @@ pub fn run<R: Print + Threads + Wait + Clock + Sync>(rt: &R, alloc: Global) -> a
     for (row, what) in MANY {
         say(rt, alloc, row, what)?;
     }
+    let again = word(again::is_shown(rt, alloc));
+    println!(rt; "a tree that begins again is shown as it was: {again}")?;
     Ok(())
 }

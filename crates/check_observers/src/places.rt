@@ -4,10 +4,10 @@ use fs_share::{AtomFs, Named, NoPlace, Observer};
 use std::alloc::Global;
 use std::sync::Wait;
 
-fn add<N: Named, R: Wait>(
+fn add<'a, N: Named, R: Wait>(
     rt: &R,
-    fs: &AtomFs<N>,
-    observers: &mut Vec<Observer<N>>,
+    fs: &'a AtomFs<N>,
+    observers: &mut Vec<Observer<'a, N>>,
     count: u64,
 ) -> Option<()> {
     for _ in 0..count {

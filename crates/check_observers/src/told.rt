@@ -1,7 +1,7 @@
 //! Calls that are told, and observers that learn their stamps: rows of steps, by one session and one observer.
 
 use crate::calls::{Deed, Sight, makes, shows, tell};
-use fs_share::{AtomFs, Named, Observer, Open, Session, Told};
+use fs_share::{AtomFs, Named, Observer, Open, Session, Stamp, Told};
 use std::alloc::Global;
 use std::sync::Wait;
 use std::time::Clock;
@@ -60,9 +60,21 @@ pub const UNTOLD: &[Step] = &[
 ];
 
 /// Has an observer learn the stamp of a told call.
-fn learns<N: Named>(observer: &mut Observer<N>, told: &Told<N>) -> Option<bool> {
+fn learns<N: Named>(observer: &mut Observer<'_, N>, told: &Told<N>) -> Option<bool> {
     observer.learn(told.stamp.as_ref()?);
     Some(true)
+}
+
+/// Whether an observer that learns a stamp shows this at a path.
+pub fn shows_after<N: Named>(
+    alloc: Global,
+    observer: &mut Observer<'_, N>,
+    stamp: &Stamp<N>,
+    text: &[u8],
+    sight: Sight,
+) -> Option<bool> {
+    observer.learn(stamp);
+    shows(alloc, observer, text, sight)
 }
 
 /// Makes a told call, and keeps what it is told.
@@ -83,7 +95,7 @@ fn take<N: Named, R: Wait + Clock>(
     rt: &R,
     alloc: Global,
     session: &mut Session<'_, N>,
-    observer: &mut Observer<N>,
+    observer: &mut Observer<'_, N>,
     tolds: &mut Vec<Told<N>>,
     step: Step,
 ) -> Option<bool> {
@@ -101,7 +113,7 @@ fn takes<N: Named, R: Wait + Clock>(
     rt: &R,
     alloc: Global,
     session: &mut Session<'_, N>,
-    observer: &mut Observer<N>,
+    observer: &mut Observer<'_, N>,
     steps: &[Step],
 ) -> Option<bool> {
     let mut tolds = Vec::new(alloc);

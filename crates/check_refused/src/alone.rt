@@ -6,7 +6,7 @@ ghost use Rattle.fs_seq.specs.Looks.{is_look};
 use anyhow::bail;
 use fs_calls::{Call, Reply};
 use fs_names::Kind;
-use fs_seq::SeqTree;
+use fs_seq::{NotTree, Row, SeqTree};
 use std::alloc::{AllocError, Global};
 use std::io;
 
@@ -57,7 +57,50 @@ impl Again {
         }
     }
 
-    /// The same of any call.
+    /// A tree is copied.
+    fn copy(&mut self, tree: &SeqTree) -> Result<SeqTree, AllocError> {
+        match tree.copy() {
+            Ok(copy) => Ok(copy),
+            Err(_) => {
+                self.note();
+                tree.copy()
+            }
+        }
+    }
+
+    /// A tree is told as rows.
+    fn rows(&mut self, tree: &SeqTree) -> Result<Vec<Row>, AllocError> {
+        match tree.rows(self.alloc) {
+            Ok(rows) => Ok(rows),
+            Err(_) => {
+                self.note();
+                tree.rows(self.alloc)
+            }
+        }
+    }
+
+    /// A tree is made of rows.
+    fn from_rows(&mut self, rows: &[Row]) -> Result<SeqTree, NotTree> {
+        match SeqTree::from_rows(self.alloc, rows) {
+            Err(NotTree::OutOfMemory) => {
+                self.note();
+                SeqTree::from_rows(self.alloc, rows)
+            }
+            made => made,
+        }
+    }
+
+    /// A copy of a tree, told as rows and made of these again.
+    fn same_tree(&mut self, tree: &SeqTree) -> anyhow::Result<SeqTree> {
+        let copy = self.copy(tree)?;
+        let rows = self.rows(&copy)?;
+        match self.from_rows(&rows) {
+            Ok(same) => Ok(same),
+            Err(_) => bail!("rows of a tree that make none"),
+        }
+    }
+
+    /// A look, by any call.
     fn look_by(&mut self, tree: &SeqTree, call: &Call) -> anyhow::Result<Reply> {
         match call {
             Call::Stat(_) | Call::Readdir(_) | Call::Read(_, _, _) => Ok(self.look(tree, call)?),
@@ -95,15 +138,17 @@ fn look(rt: &impl Print, again: &mut Again, tree: &SeqTree, call: &Call) -> anyh
     Ok(show(rt, &reply)?)
 }
 
-/// Applies calls to a tree, and then looks at it. The last line tells how often memory was refused.
+/// Applies calls to a tree, and then looks at a tree that is made of the rows of a copy. The last line tells how often
+/// memory was refused.
 pub fn run(rt: &impl Print, alloc: Global, calls: &[Call], looks: &[Call]) -> anyhow::Result<()> {
     let mut again = Again { alloc, refused: 0 };
     let mut tree = again.tree()?;
     for call in calls {
         apply(rt, &mut again, &mut tree, call)?;
     }
+    let same = again.same_tree(&tree)?;
     for call in looks {
-        look(rt, &mut again, &tree, call)?;
+        look(rt, &mut again, &same, call)?;
     }
     Ok(println!(rt; "refused: {}", again.refused)?)
 }

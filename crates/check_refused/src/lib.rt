@@ -1,5 +1,5 @@
 //! Does each thing that takes memory, and once more where memory was refused: on shared trees sessions, told calls,
-//! observers, jobs and lists of calls, and by one thread alone the sequential tree. Neither the program nor the library for C has
+//! observers, jobs, checkpoints and lists of calls, and by one thread alone the sequential tree. Neither the program nor the library for C has
 //! sessions, observers and pools, and both have a sequential tree only inside a check, which ends where memory is refused. But
 //! for the last line, what is written is the same whichever growth is refused.
 #![tactic(auto)]
@@ -100,7 +100,8 @@ fn say_seen(rt: &impl Print, seen: &Seen) -> io::Result<()> {
     println!(rt;
         "jobs {} and {}, in all {}",
         seen.numbers.0, seen.numbers.1, seen.jobs
-    )
+    )?;
+    println!(rt; "/a behind a checkpoint: {}", seen.again)
 }
 
 /// Says what a shared tree has at its root, and how many calls return of lists that are played on another one.

@@ -3,8 +3,10 @@
 ghost use Rattle.std.specs.Prelude.{◌≡◌, ◌^◌};
 
 mod again;
+mod begins;
 
 use again::{call, path, readdir, submit, told};
+use begins::begin_again;
 use fs_calls::{Call, Reply};
 use fs_pool::Pool;
 use fs_share::{AtomFs, Closed, Named, Observer, Open, Opened, Session, Stamp, Tally};
@@ -26,6 +28,8 @@ pub struct Seen {
     pub numbers: (u64, u64),
     /// How many jobs were done or are left.
     pub jobs: usize,
+    /// Whether the tree that began again shows its empty directory.
+    pub again: bool,
 }
 
 /// A session, asked for once more where it was refused.
@@ -34,7 +38,7 @@ fn session<'a, N: Named, R: Wait>(rt: &R, fs: &'a AtomFs<N>) -> Option<Session<'
 }
 
 /// An observer, asked for once more where it was refused.
-fn observer<N: Named, R: Wait>(rt: &R, fs: &AtomFs<N>) -> Option<Observer<N>> {
+fn observer<'a, N: Named, R: Wait>(rt: &R, fs: &'a AtomFs<N>) -> Option<Observer<'a, N>> {
     fs.observer(rt).or_else(|_| fs.observer(rt)).ok()
 }
 
@@ -186,11 +190,12 @@ fn on<N: Named + Send + Sync, R: Threads + Wait + Clock + Sync>(
         shown,
         numbers,
         jobs,
+        again: false,
     };
     Some((seen, tallies))
 }
 
-/// The same on a tree of a name, which is closed; none where the tree was refused.
+/// The same on a tree of a name, which begins again and is closed; none where the tree was refused.
 fn on_named<N: Named + Send + Sync, R: Threads + Wait + Clock + Sync>(
     rt: &R,
     alloc: Global,
@@ -209,7 +214,12 @@ fn on_named<N: Named + Send + Sync, R: Threads + Wait + Clock + Sync>(
         let _closed = fs.close(rt, Vec::new(alloc));
         return Some(None);
     };
-    Some(Some((seen, fs.close(rt, tallies))))
+    let blank = Blank::new(1 << 63);
+    let (opened, other) = (Opened::new(), Opened::new());
+    let (again, closed) = begin_again::<N, Brand, Brand, R>(
+        rt, alloc, fs, tallies, blank, opened, other,
+    );
+    Some(again.map(|again| (Seen { again, ..seen }, closed)))
 }
 
 /// The same on a tree of its own; none where the tree was refused.

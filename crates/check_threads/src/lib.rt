@@ -3,6 +3,7 @@
 //! no sessions, no gates and no pools, and tells no order of what its threads did.
 #![tactic(auto)]
 
+mod again;
 mod answers;
 mod calls;
 mod crowds;
@@ -102,6 +103,8 @@ fn say_all<R: Print + Threads + Wait + Clock + Sync>(rt: &R, alloc: Global) -> i
     let returns = shared::all_return(rt, alloc);
     say(rt, "each call of four lists returns", returns)?;
     say_faults(rt)?;
+    let again = again::are_lawful(rt, alloc);
+    say(rt, "a tree begins again, and each piece is lawful", again)?;
     let jobs = jobs::are_done(rt, alloc);
     say(rt, "a thousand jobs are done, once", jobs)?;
     let crowds = crowds::all_end(rt, alloc);

@@ -70,6 +70,14 @@ fn add_all<N: Named>(
     Some(())
 }
 
+/// The tallies of all sessions.
+pub fn tallies_of<N: Named>(alloc: Global, sessions: Option<Sessions<N>>) -> Option<Vec<Tally<N>>> {
+    let mut answers = Vec::new(alloc);
+    let mut tallies = Vec::new(alloc);
+    add_all(sessions, &mut answers, &mut tallies)?;
+    Some(tallies)
+}
+
 /// Ends a tree, and tells what all of its sessions answered.
 pub fn end<N: Named, R: Wait>(
     rt: &R,

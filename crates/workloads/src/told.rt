@@ -22,7 +22,7 @@ fn tell<N: Named, R: Wait + Clock>(
     rt: &R,
     alloc: Global,
     session: &mut Session<'_, N>,
-    observer: &mut Observer<N>,
+    observer: &mut Observer<'_, N>,
     digest: &mut Digest,
     call: &Call,
 ) -> Result<()> {
@@ -48,7 +48,7 @@ fn tell<N: Named, R: Wait + Clock>(
 /// What an observer is shown of a file.
 fn look<N: Named>(
     alloc: Global,
-    observer: &mut Observer<N>,
+    observer: &mut Observer<'_, N>,
     digest: &mut Digest,
     path: &Path,
 ) -> Result<()> {
@@ -99,7 +99,7 @@ fn tell_each<N: Named, R: Wait + Clock>(
     rt: &R,
     alloc: Global,
     session: &mut Session<'_, N>,
-    observer: &mut Observer<N>,
+    observer: &mut Observer<'_, N>,
     digest: &mut Digest,
     calls: &[Call],
 ) -> Result<()> {
@@ -129,7 +129,7 @@ fn write_once<N: Named, R: Wait + Clock>(
     rt: &R,
     alloc: Global,
     session: &mut Session<'_, N>,
-    observer: &mut Observer<N>,
+    observer: &mut Observer<'_, N>,
     digest: &mut Digest,
     path: &Path,
     call: &Call,
@@ -143,7 +143,7 @@ fn writes<N: Named, R: Wait + Clock>(
     rt: &R,
     alloc: Global,
     session: &mut Session<'_, N>,
-    observer: &mut Observer<N>,
+    observer: &mut Observer<'_, N>,
     drawing: &mut Drawing,
     (files, calls): (&[Vec<u8>], usize),
     digest: &mut Digest,
@@ -161,7 +161,7 @@ fn run_on<N: Named, R: Wait + Clock>(
     rt: &R,
     alloc: Global,
     session: &mut Session<'_, N>,
-    observer: &mut Observer<N>,
+    observer: &mut Observer<'_, N>,
     drawing: &mut Drawing,
     calls: usize,
 ) -> Result<u64> {

@@ -81,7 +81,7 @@ fn writes<N: Named, R: Wait + Clock>(
 /// A stat or a read of the file, in turn. Whether it answers 32 bytes.
 fn reads_once<N: Named>(
     alloc: Global,
-    observer: &mut Observer<N>,
+    observer: &mut Observer<'_, N>,
     path: &Path,
     number: u64,
 ) -> Option<bool> {
@@ -98,7 +98,7 @@ fn reads_once<N: Named>(
 /// So many stats and reads by an observer.
 fn reads_by<N: Named>(
     alloc: Global,
-    observer: &mut Observer<N>,
+    observer: &mut Observer<'_, N>,
     path: &Path,
     reads: u64,
 ) -> Option<()> {

@@ -43,13 +43,25 @@ pub fn told<N: Named, R: Wait + Clock>(
 }
 
 /// The names of a directory, by an observer, which shows as many commits after a refusal as before.
-pub fn readdir<N: Named>(alloc: Global, observer: &mut Observer<N>, path: &Path) -> Option<Reply> {
+pub fn readdir<N: Named>(
+    alloc: Global,
+    observer: &mut Observer<'_, N>,
+    path: &Path,
+) -> Option<Reply> {
     let shown = observer.count();
     match observer.readdir(alloc, path) {
         Ok(reply) => Some(reply),
         Err(AllocError) if observer.count() == shown => observer.readdir(alloc, path).ok(),
         Err(AllocError) => None,
     }
+}
+
+/// The kind of a node, by an observer.
+pub fn stat<N: Named>(alloc: Global, observer: &mut Observer<'_, N>, path: &Path) -> Option<Reply> {
+    observer
+        .stat(alloc, path)
+        .or_else(|_| observer.stat(alloc, path))
+        .ok()
 }
 
 /// A job that is submitted: a refusal hands the call back.
