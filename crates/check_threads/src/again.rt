@@ -38,16 +38,17 @@ stat /c
 schedule
 ";
 
-/// Two threads of the script, from one on, each by a session of its own.
+/// Two threads of the script, each by a session of its own.
 fn play_two<N: Named + Send + Sync, R: Threads + Wait + Clock + Sync>(
     rt: &R,
     alloc: Global,
     fs: &AtomFs<N>,
     lists: &CallLists,
-    from: usize,
+    first: usize,
+    second: usize,
 ) -> Option<Sessions<N>> {
-    let one = calls_of(lists, from)?;
-    let other = calls_of(lists, from + 1)?;
+    let one = calls_of(lists, first)?;
+    let other = calls_of(lists, second)?;
     thread::map_indices(
         rt,
         alloc,
@@ -60,46 +61,70 @@ fn play_two<N: Named + Send + Sync, R: Threads + Wait + Clock + Sync>(
     .ok()
 }
 
-/// A tree begins again under another name. It is ended where it does not.
-fn begin_again<N: Named, M: Named, R: Wait>(
+/// Ends a tree that did not begin again.
+fn give_up<N: Named, R: Wait>(rt: &R, left: NotKept<N>) {
+    let NotKept {
+        fs,
+        tallies,
+        blank: _blank,
+        why: _why,
+    } = left;
+    let _closed = fs.close(rt, tallies);
+}
+
+/// Begins again under another name, of which nothing comes, and plays the last two threads; the tree is ended.
+fn go_on<N: Named, M: Named + Send + Sync, R: Threads + Wait + Clock + Sync>(
+    rt: &R,
+    alloc: Global,
+    fs: AtomFs<N>,
+    opened: Opened,
+    blank: Blank,
+    lists: &CallLists,
+) -> Option<(usize, Ended)>
+    requires book { opened ≡ M.book }
+    requires name { blank.name ≡ M.name }
+    requires parts { blank.parts ≡ M.parts }
+    requires all { blank.parts ≡ 2 ^ 63 }
+{
+    match fs.checkpoint::<M, R>(rt, alloc, Vec::new(alloc), opened, blank) {
+        Ok((fs, none)) => {
+            let sessions = play_two(rt, alloc, &fs, lists, 2, 3);
+            Some((none.len(), end(rt, alloc, fs, sessions)?))
+        }
+        Err(left) => {
+            give_up(rt, left);
+            None
+        }
+    }
+}
+
+/// Begins again under another name, and goes on at once under a third one. It answers the entries up to the first time, how many
+/// there were up to the second, and the end.
+fn begin_again<N: Named, M: Named, R: Threads + Wait + Clock + Sync>(
     rt: &R,
     alloc: Global,
     fs: AtomFs<N>,
     tallies: Vec<Tally<N>>,
     opened: Opened,
     blank: Blank,
-) -> Option<(AtomFs<M>, Vec<Entry>)>
+    lists: &CallLists,
+) -> Option<(Vec<Entry>, usize, Ended)>
     requires book { opened ≡ M.book }
     requires name { blank.name ≡ M.name }
     requires parts { blank.parts ≡ M.parts }
     requires all { blank.parts ≡ 2 ^ 63 }
 {
     match fs.checkpoint::<M, R>(rt, alloc, tallies, opened, blank) {
-        Ok(kept) => Some(kept),
+        Ok((fs, entries)) => {
+            let (opened, blank) = (Opened::new(), Blank::new(1 << 63));
+            let (none, ended) = go_on::<M, Brand, R>(rt, alloc, fs, opened, blank, lists)?;
+            Some((entries, none, ended))
+        }
         Err(left) => {
-            let NotKept {
-                fs,
-                tallies,
-                blank: _blank,
-                why: _why,
-            } = left;
-            let _closed = fs.close(rt, tallies);
+            give_up(rt, left);
             None
         }
     }
-}
-
-/// Begins again at once, of which nothing comes, and plays the last two threads; the tree is ended.
-fn go_on<N: Named + Send + Sync, R: Threads + Wait + Clock + Sync>(
-    rt: &R,
-    alloc: Global,
-    fs: AtomFs<N>,
-    lists: &CallLists,
-) -> Option<(usize, Ended)> {
-    let (opened, blank) = (Opened::new(), Blank::new(1 << 63));
-    let (fs, none) = begin_again::<N, Brand, R>(rt, alloc, fs, Vec::new(alloc), opened, blank)?;
-    let sessions = play_two(rt, alloc, &fs, lists, 2);
-    Some((none.len(), end(rt, alloc, fs, sessions)?))
 }
 
 /// Plays the first two threads, begins again, and goes on.
@@ -116,13 +141,10 @@ fn play_on<N: Named + Send + Sync, R: Threads + Wait + Clock + Sync>(
     requires all { blank.parts ≡ 2 ^ 63 }
 {
     let fs = AtomFs::<N>::open(rt, alloc, opened, blank).ok()?;
-    let sessions = play_two(rt, alloc, &fs, lists, 0);
-    let tallies = tallies_of(alloc, sessions);
+    let sessions = play_two(rt, alloc, &fs, lists, 0, 1);
+    let tallies = tallies_of(alloc, sessions).unwrap_or(Vec::new(alloc));
     let (opened, blank) = (Opened::new(), Blank::new(1 << 63));
-    let handed = tallies.unwrap_or(Vec::new(alloc));
-    let (fs, entries) = begin_again::<N, Brand, R>(rt, alloc, fs, handed, opened, blank)?;
-    let (none, ended) = go_on(rt, alloc, fs, lists)?;
-    Some((entries, none, ended))
+    begin_again::<N, Brand, R>(rt, alloc, fs, tallies, opened, blank, lists)
 }
 
 /// Whether the timeline begins with call 1, and is lawful from its start tree and not from the root alone.
