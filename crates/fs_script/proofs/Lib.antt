@@ -1,5 +1,9 @@
 pub mod ScriptLemmas
 pub mod ForestLemmas
+pub mod NodeLines
+pub mod Openings
+pub mod StartLemmas
+pub mod JournalLemmas
 pub mod PendingLemmas
 pub mod StepLemmas
 pub mod LimitLemmas

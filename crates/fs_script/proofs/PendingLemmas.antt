@@ -1,35 +1,13 @@
 -- What a walk through a forest has still to come, step by step.
-use Rattle.std.proofs.Common.{◌≡◌, ℕ, zero, suc, ◌<◌, List, [], ◌∷◌, ◌++◌, length, map, Some, None, Option, refl, sym, ap, subst, ◌∙◌, arith, append_assoc, append-nil}
+use Rattle.std.proofs.Common.{◌≡◌, ℕ, zero, suc, ◌<◌, List, [], ◌∷◌, ◌++◌, length, map, Some, None, Option, refl, sym, ap, subst, ◌∙◌, arith, append_assoc}
 use Rattle.std.specs.List.{flat_map}
 use Rattle.std.proofs.lemmas.Grind.{flat_map-append}
 use Rattle.fs_names.specs.Names.{Name}
-use Rattle.fs_names.specs.Keys.{Key, names_text}
-use Rattle.fs_words.specs.Words.{escaped, path_word}
-use Rattle.fs_words.proofs.WriteLemmas.{escaped_append, slash_escaped}
+use Rattle.fs_names.specs.Keys.{Key}
 use Rattle.fs_seq.specs.code.Slots.{Place, links_of, node_of, place_at, links_at, child, walk_from, walk, node_at, spelled, keys_from, with_node, nodes_at, tree_of, IsForest}
 use Rattle.fs_seq.specs.code.Slots as forest
 use Rattle.fs_script.specs.code.Walks.{key_above, Leads, links_above, keys_behind, pending}
 use Rattle.fs_script.specs.declared.tree.Step.{Step}
-
--- ---- paths
-
-names_of_steps : (steps : List Step) (x : Name) → escaped (names_text (key_above steps ++ x ∷ [])) ≡ flat_map (λ (s : Step). 47 ∷ escaped s.name) steps ++ 47 ∷ escaped x
-names_of_steps [] x = slash_escaped (x ++ []) ∙ ap (λ (z : List ℕ). 47 ∷ escaped z) (append-nil x)
-names_of_steps (s ∷ steps) x =
-    slash_escaped (s.name ++ names_text (key_above steps ++ x ∷ [])) ∙ ap (λ (z : List ℕ). 47 ∷ z) (escaped_append s.name (names_text (key_above steps ++ x ∷ [])))
-    ∙ ap (λ (z : List ℕ). 47 ∷ (escaped s.name ++ z)) (names_of_steps steps x)
-    ∙ sym (append_assoc (47 ∷ escaped s.name) (flat_map (λ (t : Step). 47 ∷ escaped t.name) steps) (47 ∷ escaped x))
-
-path_of_steps : (steps : List Step) (x : Name) → path_word (key_above steps ++ x ∷ []) ≡ flat_map (λ (s : Step). 47 ∷ escaped s.name) steps ++ 47 ∷ escaped x
-path_of_steps [] x = names_of_steps [] x
-path_of_steps (s ∷ steps) x = names_of_steps (s ∷ steps) x
-
--- the steps, a slash and a name were written
-pub path_pushed : (line one two : List ℕ) (steps : List Step) (x : Name) → one ≡ line ++ flat_map (λ (s : Step). 47 ∷ escaped s.name) steps → two ≡ one ++ 47 ∷ escaped x → two ≡ line ++ path_word (key_above steps ++ x ∷ [])
-path_pushed line one two steps x a b =
-    b ∙ ap (λ (z : List ℕ). z ++ 47 ∷ escaped x) a
-    ∙ append_assoc line (flat_map (λ (s : Step). 47 ∷ escaped s.name) steps) (47 ∷ escaped x)
-    ∙ ap (λ (z : List ℕ). line ++ z) (sym (path_of_steps steps x))
 
 -- ---- what is to come
 

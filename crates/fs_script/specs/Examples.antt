@@ -5,16 +5,20 @@ use Rattle.fs_names.specs.Reading.{names}
 use Rattle.fs_names.specs.Keys.{Key}
 use Rattle.fs_names.specs.declared.fault.PathFault.TheVariants.{Nul, TrailingSlash}
 use Rattle.fs_calls.specs.declared.call.Call.TheVariants.{Mkdir, Mknod, Unlink, Rmdir, Rename, Stat, Readdir, Read, Write, Truncate}
-use Rattle.fs_calls.specs.Tree.{root_tree}
+use Rattle.fs_calls.specs.declared.reply.Reply.TheVariants.{Done}
+use Rattle.fs_calls.specs.Tree.{Tree, root_tree}
 use Rattle.fs_calls.specs.Outcomes.{play}
+use Rattle.fs_timeline.specs.declared.entry.Entry.TheVariants.{Begin, Commit, Return}
 use Rattle.fs_words.specs.Reading.{fault_at}
 use Rattle.fs_words.specs.declared.fault.ScriptFault.{ScriptFault}
 use Rattle.fs_words.specs.declared.fault.FaultKind.{FaultKind}
-use Rattle.fs_words.specs.declared.fault.FaultKind.TheVariants.{BadHeader, BadLine, BadThread, ThreadTwice, BadPath, BadNumber, BadHex, NoSchedule, BadWord, TooLarge}
+use Rattle.fs_words.specs.declared.fault.FaultKind.TheVariants.{BadHeader, BadLine, BadThread, ThreadTwice, BadPath, BadNumber, BadHex, NoSchedule, BadWord, TooLarge, BadStart}
 use Rattle.fs_script.specs.Script.{script_of}
 use Rattle.fs_script.specs.TreeText.{tree_text}
+use Rattle.fs_text.specs.Journal.{entries_of}
+use Rattle.fs_script.specs.Journals.{journal_text, Read as Told, journal_of}
 use Rattle.fs_script.specs.declared.script.Script.{Script}
-use Rattle.fs_script.specs.declared.script.Word.TheVariants.{Events, Finish}
+use Rattle.fs_script.specs.declared.script.Word.TheVariants.{Events, Finish, Checkpoint}
 
 abbrev pub at : String → Key
 at text = names (codes text)
@@ -47,7 +51,12 @@ pub record ScriptFaults : Type 0 where
   pub two_stars : FaultOf "thread t\nschedule\nt*1*1" 4 BadWord
   pub after_finish : FaultOf "thread t\nschedule\nfinish t" 4 BadWord
   pub after_finish_below : FaultOf "thread t\nschedule\nfinish\n\nt" 6 BadWord
+  pub timed_checkpoint : FaultOf "thread t\nschedule\n!checkpoint*1" 4 BadWord
+  pub other_sign : FaultOf "thread t\nschedule\n!check" 4 BadWord
+  pub checkpoint_after_finish : FaultOf "thread t\nschedule\nfinish !checkpoint" 4 BadWord
+  pub thread_checkpoint : FaultOf "thread !checkpoint\n" 2 BadThread
   pub many_events : FaultOf "thread t\nschedule\nt*1000000 t" 4 TooLarge
+  pub many_events_with_checkpoints : FaultOf "thread t\nschedule\n!checkpoint t*999999 !checkpoint t\nt" 5 TooLarge
   pub no_schedule : FaultOf "thread t\nmkdir /a" 4 NoSchedule
   pub counted_lines : FaultOf "# mkdir\n\nthread t\nmkdir /a" 6 NoSchedule
 
@@ -67,12 +76,65 @@ pub record ScriptsRead : Type 0 where
         lists = (Mknod (at "/f") ∷ Write (at "/f") 0 (codes "hi") ∷ []) ∷ (Unlink (at "/f") ∷ []) ∷ [];
         words = Events 0 9 ∷ Events 1 3 ∷ Finish ∷ [];
       })
+  pub checkpoints : script "thread t\nmkdir /a\nschedule\n!checkpoint t*1000000 !checkpoint\n!checkpoint finish\n"
+      ≡ Ok (record {
+        names = codes "t" ∷ [];
+        lists = (Mkdir (at "/a") ∷ []) ∷ [];
+        words = Checkpoint ∷ Events 0 1000000 ∷ Checkpoint ∷ Checkpoint ∷ Finish ∷ [];
+      })
   pub empty_block : script "thread a_1\nthread b\nrmdir /%2Fx\nstat /%\nreaddir /\nread //f 0 18446744073709551615\nwrite /f 1 -\ntruncate /f 7\nschedule\nb a_1"
       ≡ Ok (record {
         names = codes "a_1" ∷ codes "b" ∷ [];
         lists = [] ∷ (Rmdir (at "/x") ∷ Stat (at "/%") ∷ Readdir [] ∷ Read (at "/f") 0 (2 ^ 64 - 1) ∷ Write (at "/f") 1 [] ∷ Truncate (at "/f") 7 ∷ []) ∷ [];
         words = Events 1 1 ∷ Events 0 1 ∷ [];
       })
+
+-- a tree with a file in a directory, and a name that is escaped
+abbrev pub small_tree : Tree
+small_tree = play root_tree (Mkdir (at "/a") ∷ Mknod (at "/a/f") ∷ Write (at "/a/f") 0 (codes "hi") ∷ Mkdir (at "/b c") ∷ [])
+
+pub record JournalTexts : Type 0 where
+  pub from_the_root : journal_text root_tree (Begin 1 0 (Mkdir (at "/a")) ∷ Commit 1 ∷ Return 1 Done ∷ []) ≡ codes "atomfs-journal 1\nbegin 1 0 mkdir /a\ncommit 1\nreturn 1 ok\n"
+  pub nothing : journal_text root_tree [] ≡ codes "atomfs-journal 1\n"
+  pub from_a_directory : journal_text (play root_tree (Mkdir (at "/a") ∷ [])) (Begin 1 0 (Mkdir (at "/a/b")) ∷ Commit 1 ∷ Return 1 Done ∷ [])
+      ≡ codes "atomfs-journal 2\nstart\ndir /\ndir /a\nentries\nbegin 1 0 mkdir /a/b\ncommit 1\nreturn 1 ok\n"
+  pub from_a_file : journal_text small_tree [] ≡ codes "atomfs-journal 2\nstart\ndir /\ndir /a\nfile /a/f 6869\ndir /b%20c\nentries\n"
+
+-- the lines behind the header of a journal that tells its start tree, read; and the fault of a line of that
+abbrev pub started : String → Told
+started lines = journal_of (codes "atomfs-journal 2\n" ++ codes lines)
+
+abbrev pub WrongAt : ℕ → String → Type 0
+WrongAt line lines = started lines ≡ Err (fault_at line BadStart)
+
+pub record StartFaults : Type 0 where
+  pub nothing : WrongAt 2 ""
+  pub entries_alone : WrongAt 2 "begin 1 0 mkdir /a\n"
+  pub no_nodes : WrongAt 3 "start\nentries\n"
+  pub no_root : WrongAt 3 "start\ndir /a\nentries\n"
+  pub root_file : WrongAt 3 "start\nfile / -\nentries\n"
+  pub unended : WrongAt 4 "start\ndir /\n"
+  pub out_of_order : WrongAt 5 "start\ndir /\ndir /b\ndir /a\nentries\n"
+  pub twice : WrongAt 5 "start\ndir /\ndir /a\ndir /a\nentries\n"
+  pub after_its_entry : WrongAt 4 "start\ndir /\ndir /a/b\ndir /a\nentries\n"
+  pub in_a_file : WrongAt 5 "start\ndir /\nfile /f -\ndir /f/x\nentries\n"
+  pub two_slashes : WrongAt 4 "start\ndir /\ndir //a\nentries\n"
+  pub needless_escape : WrongAt 4 "start\ndir /\ndir /%61\nentries\n"
+  pub upper_digit : WrongAt 4 "start\ndir /\nfile /f 0A\nentries\n"
+  pub space_at_the_end : WrongAt 4 "start\ndir /\ndir /a \nentries\n"
+  pub no_bytes : WrongAt 4 "start\ndir /\nfile /f\nentries\n"
+  pub dot : WrongAt 4 "start\ndir /\ndir /.\nentries\n"
+  pub long_name : WrongAt 4 "start\ndir /\ndir /abcdefghijklmnopqrstuvwxyz0123456\nentries\n"
+  pub tree_line : WrongAt 4 "start\ndir /\ntree\nentries\n"
+  pub counted : WrongAt 7 "start\n# x\n\ndir /\n\ndir a\nentries\n"
+  pub second_entries : started "start\ndir /\nentries\nentries\n" ≡ Err (fault_at 5 BadLine)
+  pub other_version : journal_of (codes "atomfs-journal 3\n") ≡ Err (fault_at 1 BadHeader)
+  pub first_version_alone : entries_of (codes "atomfs-journal 2\nstart\ndir /\nentries\n") ≡ Err (fault_at 1 BadHeader)
+
+pub record JournalsRead : Type 0 where
+  pub root_alone : started "start\ndir /\nentries" ≡ Ok (root_tree, [])
+  pub first_version : journal_of (codes "atomfs-journal 1\ncommit 1\n") ≡ Ok (root_tree, Commit 1 ∷ [])
+  pub small : started "\nstart\n# a\ndir /\ndir /a\n\nfile /a/f 6869\ndir /b%20c\nentries\n\ncommit 1\ntree\nno  entry" ≡ Ok (small_tree, Commit 1 ∷ [])
 
 pub record TreeTexts : Type 0 where
   pub root : tree_text (play root_tree []) ≡ codes "tree\ndir /\n"

@@ -13,7 +13,7 @@ use Rattle.fs_words.specs.declared.fault.FaultKind.{FaultKind}
 use Rattle.fs_words.specs.declared.fault.FaultKind.TheVariants as kind
 use Rattle.fs_script.specs.declared.script.Script.{Script}
 use Rattle.fs_script.specs.declared.script.Word as schedule
-use Rattle.fs_script.specs.declared.script.Word.TheVariants.{Events, Finish}
+use Rattle.fs_script.specs.declared.script.Word.TheVariants.{Events, Finish, Checkpoint}
 use Rattle.fs_script.specs.Limits.{calls_in, events_in}
 
 -- ---- threads
@@ -106,13 +106,15 @@ abbrev pub has_finish : List schedule.Word → Bool
 has_finish [] = false
 has_finish (Events seat times ∷ words) = has_finish words
 has_finish (Finish ∷ words) = true
+has_finish (Checkpoint ∷ words) = has_finish words
 
--- a word of the schedule: `finish`, behind which none stands, or events of a thread
+-- a word of the schedule: `finish`, behind which none stands, `!checkpoint`, or events of a thread
 unfoldable pub schedule_word : Script → Word → Result Script FaultKind
 schedule_word s word =
     if has_finish s.words then Err kind.BadWord
     else (if bytes_eq word (codes "finish") then Ok (with_word s Finish)
-    else timed_word s word (position is_star word))
+    else (if bytes_eq word (codes "!checkpoint") then Ok (with_word s Checkpoint)
+    else timed_word s word (position is_star word)))
 
 -- a line of the schedule: its words, from left to right
 abbrev pub schedule_line : Script → List Word → Result Script FaultKind

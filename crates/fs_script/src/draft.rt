@@ -4,7 +4,7 @@ ghost use Rattle.std.specs.Prelude.{Ok, ◌≡◌, ◌<◌, length, map, positio
 ghost use Rattle.std.specs.List.{list_all};
 ghost use Rattle.fs_script.specs.Limits.{calls_in, events_in};
 ghost use Rattle.fs_script.specs.Script.{nothing_yet, is_lower, is_thread_byte, is_thread, is_star, new_thread, thread_line, new_call, call_line, block_line, new_events, events_word, with_word, has_finish, schedule_word, schedule_line};
-ghost use Rattle.fs_script.specs.declared.script.Word.TheVariants.{Finish};
+ghost use Rattle.fs_script.specs.declared.script.Word.TheVariants.{Finish, Checkpoint};
 ghost use Rattle.fs_script.specs.code.Drafts.{line_in, step_in};
 ghost use Rattle.fs_words.specs.code.Answers.{Becomes};
 
@@ -208,6 +208,14 @@ impl Draft {
         Ok(())
     }
 
+    #[tactic(auto, using(crate::proofs::LimitLemmas::events_checkpoint, crate::proofs::LimitLemmas::unfinished_checkpoint))]
+    fn push_checkpoint(&mut self) -> Result<(), FaultKind>
+        ensures { Becomes result self.new.script (Ok (with_word self.old.script Checkpoint)) }
+    {
+        let Draft { script, .. } = self;
+        script.words.push(Word::Checkpoint)
+    }
+
     #[tactic(auto, unfolding(crate::specs::Script::schedule_word))]
     fn take_word(&mut self, word: &[u8]) -> Result<(), FaultKind>
         ensures { Becomes result self.new.script (schedule_word self.old.script word.now) }
@@ -217,6 +225,9 @@ impl Draft {
         }
         if word == b"finish".as_slice() {
             return self.push_finish();
+        }
+        if word == b"!checkpoint".as_slice() {
+            return self.push_checkpoint();
         }
         match star_in(word) {
             Some(at) => {

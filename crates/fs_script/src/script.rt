@@ -1,6 +1,6 @@
 //! Scripts: threads with their calls, and a schedule.
 
-ghost use Rattle.std.specs.Prelude.{◌≡◌, ◌↔◌, ◌<◌, ◌==◌, [], map, length, false, IsTrue, MatchResult};
+ghost use Rattle.std.specs.Prelude.{◌≡◌, ◌↔◌, ◌<◌, ◌≤◌, ◌==◌, [], Some, map, length, slice_get, false, IsTrue, MatchOption, MatchResult};
 ghost use Rattle.std.specs.List.{list_any};
 ghost use Rattle.std.specs.Str.{bytes_eq};
 ghost use Rattle.fs_script.specs.Script.{seat_named, with_call};
@@ -29,6 +29,8 @@ pub enum Word {
     Events(usize, u64),
     /// Rounds until no thread has anything to do.
     Finish,
+    /// The journal begins again. It is no event of a thread.
+    Checkpoint,
 }
 
 /// The names of threads, seen as their list, each once.
@@ -81,6 +83,16 @@ impl ThreadNames {
         ensures { result ≡ seat_named self.now name.now }
     {
         self.names.get_index_of(name)
+    }
+
+    /// The name of the thread on a seat, where there is one. It takes no memory.
+    pub fn name(&self, seat: usize) -> Option<&[u8]>
+        ensures { MatchOption result (length self.now ≤ seat) (λ name. slice_get self.now seat ≡ Some name.now) }
+    {
+        match self.names.get_index(seat) {
+            Some(name) => Some(name.as_slice()),
+            None => None,
+        }
     }
 
     /// Adds a name, which goes last.

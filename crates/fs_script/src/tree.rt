@@ -4,19 +4,18 @@ ghost use Rattle.std.specs.Prelude.{◌≡◌, ◌++◌, ◌∷◌, [], Some, No
 ghost use Rattle.fs_names.specs.Shapes.{is_there, is_dir, names_of};
 ghost use Rattle.fs_nodes.specs.Seen.{seen, IsReal};
 ghost use Rattle.fs_nodes.specs.Stores.{graph_of, shape, child, next_entry, IsNextName};
-ghost use Rattle.std.specs.List.{flat_map};
-ghost use Rattle.fs_words.specs.Words.{escaped, path_word};
 ghost use Rattle.fs_script.specs.TreeText.{tree_text, AppendsTree};
-ghost use Rattle.fs_script.specs.code.Walks.{WalkPlace, forest_of, key_above, Leads, IsLast, Steps, IsUp, visited, row_text, node_seen, text_at, pending_at, at_root};
+ghost use Rattle.fs_script.specs.code.Walks.{WalkPlace, forest_of, key_above, Leads, IsLast, Steps, IsUp, visited, row_text, node_seen, node_with, text_at, pending_at, at_root};
 ghost use Rattle.fs_seq.specs.code.Slots.{tree_of};
 
+use crate::node_line::push_node;
 use fs_names::Name;
 use fs_nodes::{NodeNo, Store};
 use fs_words::Addition;
 use fs_words::addition::put_back;
 use std::alloc::{AllocError, Global};
 use std::marker::Model;
-use std::mem;
+use std::{mem, slice};
 
 /// A directory, and the entry by which a walk went down from it.
 #[derive(Drop)]
@@ -43,33 +42,20 @@ impl Model for Walk {
     ghost view = { λ w. record { above = w.above.items; dir = w.dir; low = w.low; last = w.last } };
 }
 
-/// The names of some steps, each behind a slash.
-fn push_steps(alloc: Global, above: &[Step], line: &mut Addition) -> Result<(), AllocError>
-    ensures ok { OnOk result (line.new.added ≡ line.old.added ++ flat_map (λ s. 47 ∷ escaped s.name) above.now) }
-    ensures before { line.new.before ≡ line.old.before }
+/// The bytes of a file; a directory has none.
+fn bytes_of(store: &Store, node: NodeNo) -> Option<&[u8]>
+    requires { IsTrue (is_there (shape store.now node)) }
+    ensures { node_seen (shape store.now node) ≡ Some (node_with result) }
 {
-    for step in above {
-        line.push_step(alloc, &step.name)?;
+    if store.is_dir(node) {
+        None
+    } else {
+        Some(store.content(node))
     }
-    Ok(())
-}
-
-/// The path of an entry behind some steps.
-fn push_key(
-    alloc: Global,
-    above: &[Step],
-    name: &Name,
-    line: &mut Addition,
-) -> Result<(), AllocError>
-    ensures ok { OnOk result (line.new.added ≡ line.old.added ++ path_word (key_above above.now ++ name.now ∷ [])) }
-    ensures before { line.new.before ≡ line.old.before }
-{
-    push_steps(alloc, above, line)?;
-    line.push_step(alloc, name)
 }
 
 /// The line of a node behind some steps.
-fn push_row(
+fn push_line(
     alloc: Global,
     store: &Store,
     above: &[Step],
@@ -81,15 +67,8 @@ fn push_row(
     ensures ok { OnOk result (line.new.added ≡ line.old.added ++ row_text (key_above above.now ++ name.now ∷ []) (node_seen (shape store.now node))) }
     ensures before { line.new.before ≡ line.old.before }
 {
-    if store.is_dir(node) {
-        line.push(b"dir ")?;
-        push_key(alloc, above, name, line)?;
-        return line.push(b"\n");
-    }
-    line.push(b"file ")?;
-    push_key(alloc, above, name, line)?;
-    line.push(b" ")?;
-    line.push_hex(alloc, store.content(node))?;
+    let bytes = bytes_of(store, node);
+    push_node(alloc, above, slice::from_ref(name), bytes, line)?;
     line.push(b"\n")
 }
 
@@ -139,7 +118,7 @@ impl Walk {
         ensures ok { OnOk result (line.new.added ≡ line.old.added ++ row_text (key_above self.old.above ++ name ∷ []) (node_seen (shape store.now node))) }
         ensures before { line.new.before ≡ line.old.before }
     {
-        push_row(alloc, store, &self.above, &name, node, line)?;
+        push_line(alloc, store, &self.above, &name, node, line)?;
         if store.is_dir(node) {
             return self.go_down(name, node);
         }

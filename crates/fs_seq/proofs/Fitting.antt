@@ -20,7 +20,7 @@ use Rattle.fs_calls.proofs.ListLemmas.{true_T}
 use Rattle.fs_calls.proofs.LookLemmas.{same_key_refl, look-inserted, look-find}
 use Rattle.fs_calls.proofs.TreeLaws.{tree-inserted, played_trees_are_trees}
 use Rattle.fs_seq.specs.declared.rows.Row.{Row}
-use Rattle.fs_seq.specs.Rows.{key_of, row_of, node_of_kind, may_have, is_dirs, is_plain, is_first, last_key, fits, misfit_from, misfit, IsWithinLimits}
+use Rattle.fs_seq.specs.Rows.{key_of, row_of, node_of_kind, may_have, is_dirs, is_plain, is_first, last_key, fits, fits_at, misfit_from, misfit, IsWithinLimits}
 use Rattle.fs_seq.specs.Laws.{FittingRowsAreTrees}
 use Rattle.fs_seq.proofs.Appended.{AllBelow, above, all_below, look-above, inserted-last, not_below_root, in_order, first_holds, second_holds, both_hold}
 use Rattle.fs_seq.proofs.SearchLemmas.{both_first, both_second, is_less}
@@ -188,69 +188,69 @@ bytes_fit : (kind : Kind) (bytes : List ℕ) → not (is_dirs kind && has_any by
 bytes_fit kinds.Dir bytes plain within = plain
 bytes_fit kinds.File bytes plain within = let small : length bytes ≤ 65536 = within bytes refl in grind (arith, nat_tests)
 
-module _ (e : Key × Node) (t : Tree) (row : Row) (u : Tree) (within : IsWithinLimits (e ∷ (t ++ row_of row ∷ u))) (plain : is_plain row ≡ true) where
+module _ (e : Key × Node) (t : Tree) (key : Key) (kind : Kind) (bytes : List ℕ) (u : Tree) (within : IsWithinLimits (e ∷ (t ++ (key, node_of_kind kind bytes) ∷ u))) (plain : not (is_dirs kind && has_any bytes) ≡ true) where
   whole : Tree
-  whole = (e ∷ t) ++ row_of row ∷ u
+  whole = (e ∷ t) ++ (key, node_of_kind kind bytes) ∷ u
 
-  rises : T (is_sorted key_cmp ((e ∷ t) ++ row_of row ∷ u))
+  rises : T (is_sorted key_cmp ((e ∷ t) ++ (key, node_of_kind kind bytes) ∷ u))
   rises = true_T within.tree.sorted
 
-  less : key_cmp (last_key (e ∷ t)) (key_of row) ≡ Less
-  less = before_end e (row_of row) t u rises
+  less : key_cmp (last_key (e ∷ t)) key ≡ Less
+  less = before_end e ((key, node_of_kind kind bytes)) t u rises
 
-  not_root : is_root (key_of row) ≡ false
-  not_root = go (key_of row) refl
+  not_root : is_root key ≡ false
+  not_root = go key refl
     where
-      go : (k : Key) → key_of row ≡ k → is_root k ≡ false
-      go [] same = let no : is_lt (key_cmp (last_key (e ∷ t)) (key_of row)) ≡ false = ap (λ k. is_lt (key_cmp (last_key (e ∷ t)) k)) same ∙ not_below_root (last_key (e ∷ t)) [] refl in
-          let yes : is_lt (key_cmp (last_key (e ∷ t)) (key_of row)) ≡ true = ap is_lt less in absurd (cc)
+      go : (k : Key) → key ≡ k → is_root k ≡ false
+      go [] same = let no : is_lt (key_cmp (last_key (e ∷ t)) key) ≡ false = ap (λ k. is_lt (key_cmp (last_key (e ∷ t)) k)) same ∙ not_below_root (last_key (e ∷ t)) [] refl in
+          let yes : is_lt (key_cmp (last_key (e ∷ t)) key) ≡ true = ap is_lt less in absurd (cc)
       go (x ∷ k) same = refl
 
-  split : key_of row ≡ parent_of (key_of row) ++ last_of (key_of row) ∷ []
-  split = parent_and_last (key_of row) not_root
+  split : key ≡ parent_of key ++ last_of key ∷ []
+  split = parent_and_last key not_root
 
   -- the row stands in the whole
-  there : look ((e ∷ t) ++ row_of row ∷ u) (key_of row) ≡ Some (row_of row).1
+  there : look ((e ∷ t) ++ (key, node_of_kind kind bytes) ∷ u) key ≡ Some (node_of_kind kind bytes)
   there =
-      look-find ((e ∷ t) ++ row_of row ∷ u) (key_of row)
-      ∙ find-end (key_of row) (e ∷ t) (row_of row ∷ u) (all_below (e ∷ t) (key_of row) (sorted_front (e ∷ t) (row_of row ∷ u) rises) less)
-      ∙ ap (λ b. cond {A = Option Node} b (Some (row_of row).1) (find key_cmp (key_of row) u)) (same_key_refl (key_of row))
+      look-find ((e ∷ t) ++ (key, node_of_kind kind bytes) ∷ u) key
+      ∙ find-end key (e ∷ t) ((key, node_of_kind kind bytes) ∷ u) (all_below (e ∷ t) key (sorted_front (e ∷ t) ((key, node_of_kind kind bytes) ∷ u) rises) less)
+      ∙ ap (λ b. cond {A = Option Node} b (Some (node_of_kind kind bytes)) (find key_cmp key u)) (same_key_refl key)
 
   -- and its parent before it
-  parent_before : look (e ∷ t) (parent_of (key_of row)) ≡ Some Dir
+  parent_before : look (e ∷ t) (parent_of key) ≡ Some Dir
   parent_before =
-      let d = parent_of (key_of row) in
-      let under : key_cmp d (key_of row) ≡ Less = ap (key_cmp d) split ∙ dir_before d (last_of (key_of row)) in
-      let ends : T (is_sorted key_cmp (row_of row ∷ u)) = sorted_end (e ∷ t) (row_of row ∷ u) rises in
-      let none : find key_cmp d (row_of row ∷ u) ≡ None = find-under d (row_of row ∷ u) (both_of _ _ (true_T (ap is_lt under)) (below_trans d (key_of row) u under (both_first _ _ ends))) in
-      look-find (e ∷ t) d ∙ sym (find-front d (e ∷ t) (row_of row ∷ u) none) ∙ sym (look-find ((e ∷ t) ++ row_of row ∷ u) d)
-      ∙ within.tree.inside d (last_of (key_of row)) (row_of row).1 (sym (ap (look ((e ∷ t) ++ row_of row ∷ u)) split) ∙ there)
+      let d = parent_of key in
+      let under : key_cmp d key ≡ Less = ap (key_cmp d) split ∙ dir_before d (last_of key) in
+      let ends : T (is_sorted key_cmp ((key, node_of_kind kind bytes) ∷ u)) = sorted_end (e ∷ t) ((key, node_of_kind kind bytes) ∷ u) rises in
+      let none : find key_cmp d ((key, node_of_kind kind bytes) ∷ u) ≡ None = find-under d ((key, node_of_kind kind bytes) ∷ u) (both_of _ _ (true_T (ap is_lt under)) (below_trans d key u under (both_first _ _ ends))) in
+      look-find (e ∷ t) d ∙ sym (find-front d (e ∷ t) ((key, node_of_kind kind bytes) ∷ u) none) ∙ sym (look-find ((e ∷ t) ++ (key, node_of_kind kind bytes) ∷ u) d)
+      ∙ within.tree.inside d (last_of key) (node_of_kind kind bytes) (sym (ap (look ((e ∷ t) ++ (key, node_of_kind kind bytes) ∷ u)) split) ∙ there)
 
   -- which has room
-  has_room : not (nat_le 256 (length (names_in (e ∷ t) (parent_of (key_of row))))) ≡ true
+  has_room : not (nat_le 256 (length (names_in (e ∷ t) (parent_of key)))) ≡ true
   has_room =
-      let d = parent_of (key_of row) in
-      let named : name_in d (key_of row) ≡ Some (last_of (key_of row)) = ap (name_in d) split ∙ ap only_name (after_prefix-append d (last_of (key_of row) ∷ [])) in
-      let count : length (names_in ((e ∷ t) ++ row_of row ∷ u) d) ≡ length (names_in (e ∷ t) d) + (1 + length (names_in u d)) =
-      ap length (names_in-append (e ∷ t) (row_of row ∷ u) d) ∙ length-append (names_in (e ∷ t) d) (names_in (row_of row ∷ u) d)
+      let d = parent_of key in
+      let named : name_in d key ≡ Some (last_of key) = ap (name_in d) split ∙ ap only_name (after_prefix-append d (last_of key ∷ [])) in
+      let count : length (names_in ((e ∷ t) ++ (key, node_of_kind kind bytes) ∷ u) d) ≡ length (names_in (e ∷ t) d) + (1 + length (names_in u d)) =
+      ap length (names_in-append (e ∷ t) ((key, node_of_kind kind bytes) ∷ u) d) ∙ length-append (names_in (e ∷ t) d) (names_in ((key, node_of_kind kind bytes) ∷ u) d)
       ∙ ap (λ o. length (names_in (e ∷ t) d) + length (with_name o (names_in u d))) named ∙ one_more (length (names_in (e ∷ t) d)) (length (names_in u d)) in
       let most = within.entries d in
       room_left (length (names_in (e ∷ t) d)) (length (names_in u d)) (omega (arith, count, most))
 
-  row_fits : fits (e ∷ t) row ≡ true
-  row_fits =
-      let d = parent_of (key_of row) in
+  pub node_fits : fits_at (e ∷ t) key kind bytes ≡ true
+  node_fits =
+      let d = parent_of key in
       both_hold _ _
       (both_hold _ _
       (both_hold _ _ (ap is_lt less) (ap (λ o. is_dir (shapes.shape_of (e ∷ t) d o)) parent_before))
       (ap (λ o. not (is_full (shapes.shape_of (e ∷ t) d o))) parent_before ∙ has_room))
-      (bytes_fit row.kind row.bytes.items plain (λ others is. within.bytes (key_of row) others (there ∙ ap Some is)))
+      (bytes_fit kind bytes plain (λ others is. within.bytes key others (there ∙ ap Some is)))
 
 -- rows that follow others in a tree
 fit_all : (e : Key × Node) (t : Tree) (place : ℕ) (rows : List Row) → IsWithinLimits (e ∷ (t ++ map row_of rows)) → list_all is_plain rows ≡ true → misfit_from (e ∷ t) place rows ≡ None
 fit_all e t place [] within plain = refl
 fit_all e t place (row ∷ rows) within plain =
-    ap (λ b. cond {A = Option ℕ} b (misfit_from (e ∷ (t ++ row_of row ∷ [])) (place + 1) rows) (Some place)) (row_fits e t row (map row_of rows) within (first_holds _ _ plain))
+    ap (λ b. cond {A = Option ℕ} b (misfit_from (e ∷ (t ++ row_of row ∷ [])) (place + 1) rows) (Some place)) (node_fits e t (key_of row) row.kind row.bytes.items (map row_of rows) within (first_holds _ _ plain))
     ∙ fit_all e (t ++ row_of row ∷ []) (place + 1) rows (subst (λ z. IsWithinLimits (e ∷ z)) (sym (append_assoc t (row_of row ∷ []) (map row_of rows))) within) (second_holds _ _ plain)
 
 -- ---- the first row
@@ -302,6 +302,22 @@ root_row row u within plain = go (key_of row) refl
         let below : T (below_all key_cmp (x ∷ k) u) = subst (λ z. T (below_all key_cmp z u)) e (both_first _ _ (true_T within.tree.sorted)) in
         let none : find key_cmp [] u ≡ None = find-under [] u (below_trans [] (x ∷ k) u refl below) in
         let some : find key_cmp [] u ≡ Some Dir = found (x ∷ k) e in
+        absurd (cc)
+
+-- the first entry of a tree is its root
+pub root_first : (t : Tree) → IsTree t → (u : Tree) × (t ≡ ([], Dir) ∷ u)
+root_first [] is = let none : ◌≡◌ {A = Option Node} None (Some Dir) = sym (look-find [] []) ∙ is.root in absurd (cc)
+root_first ((k, n) ∷ u) is = go k refl
+  where
+    found : (j : Key) → k ≡ j → find key_cmp [] ((j, n) ∷ u) ≡ Some Dir
+    found j e = ap (λ (z : Key). find key_cmp [] ((z, n) ∷ u)) (sym e) ∙ sym (look-find ((k, n) ∷ u) []) ∙ is.root
+
+    go : (j : Key) → k ≡ j → (v : Tree) × (◌≡◌ {A = Tree} ((k, n) ∷ u) (([], Dir) ∷ v))
+    go [] e = (u, ap (λ (z : Key). (z, n) ∷ u) e ∙ ap (λ (z : Node). ([], z) ∷ u) (same_node n Dir (found [] e)))
+    go (x ∷ j) e =
+        let below : T (below_all key_cmp (x ∷ j) u) = subst (λ (z : Key). T (below_all key_cmp z u)) e (both_first _ _ (true_T is.sorted)) in
+        let none : find key_cmp [] u ≡ None = find-under [] u (below_trans [] (x ∷ j) u refl below) in
+        let some : find key_cmp [] u ≡ Some Dir = found (x ∷ j) e in
         absurd (cc)
 
 -- ---- the law

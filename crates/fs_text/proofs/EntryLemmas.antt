@@ -47,12 +47,12 @@ path_read p h = ap or_bad_path (path_again p (key_facts p h))
 number_read : (n : ℕ) → IsU64 n → number_at (decimal n) ≡ Ok n
 number_read n h = ap (or_fault kind.BadNumber) (number_again n h)
 
-byte_at : (bs : List ℕ) → AreBytes bs → IsBytes bs
+pub byte_at : (bs : List ℕ) → AreBytes bs → IsBytes bs
 byte_at [] h i = omega arith
 byte_at (b ∷ bs) h zero = h.0
 byte_at (b ∷ bs) h (suc i) = byte_at bs h.1 i
 
-hex_read : (bs : List ℕ) → AreBytes bs → hex_at (hex_word bs) ≡ Ok bs
+pub hex_read : (bs : List ℕ) → AreBytes bs → hex_at (hex_word bs) ≡ Ok bs
 hex_read bs h = ap (or_fault kind.BadHex) (hex_again bs (byte_at bs h))
 
 -- ---- a call
@@ -80,7 +80,7 @@ name_read : (n : List ℕ) → IsName n → name_at (escaped n) ≡ Ok n
 name_read n h =
     ap (λ x. if can_name x then Ok x else Err kind.BadReply) (name_word_again n h) ∙ cond-true _ _ _ h.test
 
-names_read : (ns : List (List ℕ)) → AllByRecursion IsName ns → names_at (map escaped ns) ≡ Ok ns
+pub names_read : (ns : List (List ℕ)) → AllByRecursion IsName ns → names_at (map escaped ns) ≡ Ok ns
 names_read [] h = refl
 names_read (n ∷ ns) h =
     ap (λ r. r >>= λ x. names_at (map escaped ns) >>= λ rest. Ok (x ∷ rest)) (name_read n h.0)
@@ -177,7 +177,7 @@ call_good (call.Read p off count) h = (literal (codes "read") (search rules) (se
 call_good (call.Write p off file) h = (literal (codes "write") (search rules) (search rules), (IsWord_path p, (IsWord_decimal off h.1, (IsWord_hex file h.2, tt))))
 call_good (call.Truncate p size) h = (literal (codes "truncate") (search rules) (search rules), (IsWord_path p, (IsWord_decimal size h.1, tt)))
 
-kind_good : (k : Kind) → IsWord (kind_word k)
+pub kind_good : (k : Kind) → IsWord (kind_word k)
 kind_good Dir = literal (codes "dir") (search rules) (search rules)
 kind_good File = literal (codes "file") (search rules) (search rules)
 
@@ -212,7 +212,7 @@ entry_good (Return c r) h = (literal (codes "return") (search rules) (search rul
 
 -- ---- a line, and the text
 
-abbrev joined : Entry → List ℕ
+abbrev pub joined : Entry → List ℕ
 joined e = join_with_byte 32 (entry_words e)
 
 some_words : (e : Entry) → 0 < length (entry_words e)
@@ -237,7 +237,7 @@ not_tree (Begin c s x) = refl
 not_tree (Commit c) = refl
 not_tree (Return c r) = refl
 
-lines_again : (n : ℕ) (es : List Entry) → AllFit es → entries_from n (map joined es) ≡ Ok es
+pub lines_again : (n : ℕ) (es : List Entry) → AllFit es → entries_from n (map joined es) ≡ Ok es
 unfolding entries_from
 lines_again n [] h = refl
 lines_again n (e ∷ es) h =
@@ -247,21 +247,21 @@ lines_again n (e ∷ es) h =
     ∙ ap (λ r. at_line n r >>= λ x. entries_from (n + 1) (map joined es) >>= λ xs. Ok (x ∷ xs)) (entry_again e h.0)
     ∙ ap (λ r. r >>= λ xs. Ok (e ∷ xs)) (lines_again (n + 1) es h.1)
 
-text_ended : (es : List Entry) → flat_map entry_line es ≡ flat_map ended (map joined es)
+pub text_ended : (es : List Entry) → flat_map entry_line es ≡ flat_map ended (map joined es)
 text_ended [] = refl
 text_ended (e ∷ es) = ap (λ t. ended (joined e) ++ t) (text_ended es)
 
 journal_ended : (es : List Entry) → journal_text es ≡ flat_map ended (journal_header ∷ map joined es)
 journal_ended es = ap (λ t. journal_header ++ 10 ∷ t) (text_ended es)
 
-are_lines : (es : List Entry) → AllFit es → AllByRecursion IsLine (map joined es)
+pub are_lines : (es : List Entry) → AllFit es → AllByRecursion IsLine (map joined es)
 are_lines [] h = tt
 are_lines (e ∷ es) h = (IsLine_joined (entry_words e) (entry_good e h.0), are_lines es h.1)
 
-header_line : IsLine journal_header
+pub header_line : IsLine journal_header
 header_line = All-from_recursion (λ b. 31 < b) journal_header (search rules)
 
-journal_lines : (es : List Entry) → AllFit es → lines_of (journal_text es) ≡ journal_header ∷ map joined es
+pub journal_lines : (es : List Entry) → AllFit es → lines_of (journal_text es) ≡ journal_header ∷ map joined es
 journal_lines es h = ap lines_of (journal_ended es) ∙ lines_of_ended (journal_header ∷ map joined es) (header_line, are_lines es h)
 
 not_above : (n : ℕ) → n ≤ 16777216 → ltb 16777216 n ≡ false

@@ -104,8 +104,8 @@ fn entry_in<'a>(
     entry_at(alloc, recent, words.as_slice())
 }
 
-/// The entries that lines spell.
-fn entries_in(alloc: Global, lines: Lines<'_>) -> Result<Vec<Entry>, ScriptFault>
+/// Reads the entries of lines behind a header, or behind the start tree of a journal, as `read_entries` does.
+pub fn entries_in(alloc: Global, lines: Lines<'_>) -> Result<Vec<Entry>, ScriptFault>
     ensures { GivesText (λ entries. entries.items) result (entries_from lines.entry.number lines.entry.lines) }
 {
     let mut entries = Vec::new(alloc);

@@ -1,8 +1,8 @@
 //! Texts of calls, replies and journals, both ways.
 //!
 //! `read_entries` answers what a journal says by the grammar, or its first fault from the left with its line.
-//! `write_entry` appends the line of an entry, and `write_reply` the words of a reply; each leaves the text as it was if
-//! it fails. The law `laws::reads_back` says that entries which were written behind the header line are read again as the
+//! `write_entry` appends the line of an entry, `write_call` the words of a call and `write_reply` those of a reply; each leaves
+//! the text as it was if it fails. The law `laws::reads_back` says that entries which were written behind the header line are read again as the
 //! same entries, and `write_entry` that this is said of each entry that it writes. Reading trusts nothing about a text.
 //!
 //! Enter at `read_entries` and `write_entry`. The grammar is in `specs/`, as functions on lists of bytes: `Lines`,
@@ -20,5 +20,6 @@ mod writing;
 pub use fs_words::{
     Addition, FaultKind, ScriptFault, addition, fault, limits, lines, recent, words,
 };
-pub use journal::read_entries;
-pub use writing::{write_entry, write_reply};
+pub use journal::{entries_in, read_entries};
+pub use replies::names_at;
+pub use writing::{errno_text, write_call, write_entry, write_reply};

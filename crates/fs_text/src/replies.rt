@@ -84,7 +84,8 @@ fn stated_of(words: &[&[u8]]) -> Result<Reply, FaultKind>
     }
 }
 
-fn names_at(alloc: Global, words: &[&[u8]]) -> Result<Vec<Name>, FaultKind>
+/// The names that words are, unescaped; the first that is none is a `BadReply`.
+pub fn names_at(alloc: Global, words: &[&[u8]]) -> Result<Vec<Name>, FaultKind>
     ensures { Gives (λ names. names.items) result (names_at (map (λ w. w.now) words.now)) }
 {
     let Ok(mut names) = Vec::with_capacity(alloc, words.len()) else {

@@ -114,7 +114,8 @@ fn kind_text(kind: Kind) -> &'static [u8]
     }
 }
 
-fn errno_text(errno: Errno) -> &'static [u8]
+/// The word of an error, as POSIX.1-2017 names it.
+pub fn errno_text(errno: Errno) -> &'static [u8]
     ensures { result.now ≡ errno_word errno }
 {
     match errno {
@@ -205,6 +206,17 @@ pub fn write_entry(alloc: Global, entry: &Entry, text: &mut Vec<u8>) -> Result<(
 {
     let mut line = Addition::new(mem::replace(text, Vec::new(alloc)));
     let added = push_entry(alloc, entry, &mut line);
+    put_back(added, line, text)
+}
+
+/// Appends the text of a call: its words with a space between, as a line of a script has them, and no line feed. An `Err`,
+/// which is out of memory, leaves the text as it was.
+pub fn write_call(alloc: Global, call: &Call, text: &mut Vec<u8>) -> Result<(), AllocError>
+    ensures ok { OnOk result (text.new.items ≡ text.old.items ++ join_with_byte 32 (call_words call.now)) }
+    ensures err { OnErr result (text.new.items ≡ text.old.items) }
+{
+    let mut line = Addition::new(mem::replace(text, Vec::new(alloc)));
+    let added = push_call(alloc, call, &mut line);
     put_back(added, line, text)
 }
 

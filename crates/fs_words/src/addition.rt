@@ -2,7 +2,7 @@
 
 ghost use Rattle.std.specs.Prelude.{◌≡◌, ◌++◌, ◌∷◌, [], OnOk, OnErr, Ok, true, false, decimal};
 ghost use Rattle.std.specs.List.{list_any};
-ghost use Rattle.fs_names.specs.Names.{AreBytes};
+ghost use Rattle.fs_names.specs.Names.{AreBytes, IsName};
 ghost use Rattle.fs_names.specs.Keys.{IsPath};
 ghost use Rattle.fs_words.specs.Words.{is_escaped, escaped_byte, escaped, hex_word, path_word};
 
@@ -145,6 +145,7 @@ impl Addition {
     /// Appends a slash and a name behind it, with escapes: a step of a path. The only error is out of memory.
     pub fn push_step(&mut self, alloc: Global, name: &Name) -> Result<(), AllocError>
         ensures ok { OnOk result (self.new.added ≡ self.old.added ++ 47 ∷ escaped name.now) }
+        ensures fits { OnOk result (IsName name.now) }
         ensures before { self.new.before ≡ self.old.before }
     {
         self.push(b"/")?;

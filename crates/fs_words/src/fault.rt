@@ -42,6 +42,9 @@ pub enum FaultKind {
     /// What a call returned has another form than a reply, or holds a name that is none.
     #[error("BadReply")]
     BadReply,
+    /// The line stands where a journal has its start tree, and is none of it.
+    #[error("BadStart")]
+    BadStart,
 }
 
 /// The first fault of a text, with its line, counted from 1. Out of memory has the line that was read when the allocation failed.

@@ -1,6 +1,7 @@
 -- A walk through the nodes of a store, in the order of their keys.
 use Rattle.std.specs.Prelude.{◌≡◌, ℕ, zero, suc, ◌+◌, ◌-◌, ◌*◌, ◌<◌, Bool, true, false, List, [], ◌∷◌, ◌++◌, length, map, filter, Option, Some, None}
 use Rattle.std.specs.List.{flat_map}
+use Rattle.std.specs.Borrow.{Bor}
 use Rattle.fs_names.specs.Names.{Name}
 use Rattle.fs_names.specs.Keys.{Key}
 use Rattle.fs_names.specs.Shapes.{Shape}
@@ -41,6 +42,11 @@ places_from graph i (suc k) = place_of graph.child i (graph.shape i) ∷ places_
 -- the places of a store
 abbrev pub forest_of : Seen → forest.Slots
 forest_of store = places_from store.graph 0 store.room
+
+-- a node with these bytes: a file, where there are some
+abbrev pub node_with : Option (Bor (List ℕ)) → Node
+node_with None = tree.Dir
+node_with (Some bytes) = tree.File bytes.now
 
 -- what a node is in a tree
 abbrev pub node_seen : Option Shape → Option Node

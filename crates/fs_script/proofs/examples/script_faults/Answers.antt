@@ -30,7 +30,12 @@ returns c = record {
   two_stars = refl;
   after_finish = refl;
   after_finish_below = refl;
+  timed_checkpoint = refl;
+  other_sign = refl;
+  checkpoint_after_finish = refl;
+  thread_checkpoint = refl;
   many_events = refl;
+  many_events_with_checkpoints = refl;
   no_schedule = refl;
   counted_lines = refl;
 }

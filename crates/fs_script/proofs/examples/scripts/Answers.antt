@@ -14,5 +14,6 @@ returns c = record {
   first_mkdir = refl;
   helped_mkdir = refl;
   waiting_victim = refl;
+  checkpoints = refl;
   empty_block = refl;
 }

@@ -1,7 +1,7 @@
 use Rattle.std.proofs.Common.{◌≡◌, ◌++◌, ◌∷◌, take}
 use Rattle.std.specs.List.{flat_map}
 use Rattle.fs_words.specs.Words.{escaped}
-use Rattle.fs_script.proofs.tree.push_steps.Given as goal
+use Rattle.fs_script.proofs.node_line.push_steps.Given as goal
 
 abbrev pub invariant-loop-step : goal.invariant-loop-step
 invariant-loop-step l = record {
