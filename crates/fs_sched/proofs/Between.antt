@@ -1,11 +1,11 @@
 -- The faults of a run between a reader and a writer.
-use Rattle.std.proofs.Common.{◌≡◌, ◌≢◌, refl, ap, sym}
+use Rattle.std.proofs.Common.{◌≡◌, ◌≢◌, ℕ, refl, ap, sym}
 use Rattle.fs_words.specs.declared.fault.ScriptFault.{ScriptFault}
 use Rattle.fs_io.specs.declared.failure.Failure.{Failure}
 use Rattle.fs_io.specs.declared.failure.Failure.TheVariants as failure
 use Rattle.fs_sched.specs.Faults.{fault_between}
 use Rattle.fs_sched.specs.declared.fault.RunFault.{RunFault}
-use Rattle.fs_sched.specs.declared.fault.RunFault.TheVariants.{Input, Write, Full}
+use Rattle.fs_sched.specs.declared.fault.RunFault.TheVariants.{Input, Write, Full, UnderWay}
 
 -- a fault of the input is why no text was made
 pub of_input : (g : Failure RunFault) (f : ScriptFault) → Input f ≡ fault_between g → g ≡ failure.Unmade (Input f)
@@ -20,6 +20,13 @@ of_full failure.Read e = absurd (cc)
 of_full failure.Write e = absurd (cc)
 of_full failure.OutOfMemory e = absurd (cc)
 of_full (failure.Unmade h) e = ap failure.Unmade (sym e)
+
+-- and `UnderWay`
+pub of_under_way : (g : Failure RunFault) (c : ℕ) → UnderWay c ≡ fault_between g → g ≡ failure.Unmade (UnderWay c)
+of_under_way failure.Read c e = absurd (cc)
+of_under_way failure.Write c e = absurd (cc)
+of_under_way failure.OutOfMemory c e = absurd (cc)
+of_under_way (failure.Unmade h) c e = ap failure.Unmade (sym e)
 
 -- the writer failed, where what makes a text does not blame it
 pub of_write : (g : Failure RunFault) → ((f : RunFault) → g ≡ failure.Unmade f → f ≢ Write) → Write ≡ fault_between g → g ≡ failure.Write

@@ -1,6 +1,6 @@
 -- How many calls began, took their place and returned, over every run of the machine.
-use Rattle.std.proofs.Common.{◌≡◌, ℕ, zero, suc, ◌+◌, cond, List, [], ◌∷◌, ◌++◌, Option, Some, None, refl, sym, ap, ap₂, ◌∙◌, subst, arith, Ok, Err}
-use Rattle.std.proofs.lemmas.List.Sums.{sum_by_push}
+use Rattle.std.proofs.Common.{◌≡◌, ℕ, zero, suc, ◌+◌, ◌≤◌, cond, List, [], ◌∷◌, ◌++◌, Option, Some, None, refl, sym, ap, ap₂, ◌∙◌, subst, arith, Ok, Err}
+use Rattle.std.proofs.lemmas.List.Sums.{sum_by_push, sum_by-append}
 use Rattle.fs_names.specs.Keys.{Key}
 use Rattle.fs_names.specs.Shapes.{Shape}
 use Rattle.fs_calls.specs.Forms.{form, reserves}
@@ -84,6 +84,9 @@ counted_more count s seat call c reserved graph number =
 
 pub number_push : (k : EntryKind) (es : List Entry) (e : Entry) → number_of k (es ++ e ∷ []) ≡ number_of k es + cond (is_of k e) 1 0
 number_push k es e = sum_by_push (λ x. cond (is_of k x) 1 0) es e
+
+pub number_append : (k : EntryKind) (xs ys : List Entry) → number_of k (xs ++ ys) ≡ number_of k xs + number_of k ys
+number_append k xs ys = sum_by-append (λ x. cond (is_of k x) 1 0) xs ys
 
 -- each call that began has returned or is under way, and it has its place or walks
 pub record Tallied (s : State) : Type 0 where
@@ -169,6 +172,13 @@ tallied : (s : State) → Run s → Tallied s
 tallied s (Starting limit tree graph is) = record { returned = refl; committed = refl }
 tallied s (Beginning {old} seat call answer new run begin) = tallied_begin old s seat call answer begin (tallied old run)
 tallied s (Stepping {old} seat answer new run step) = tallied_step old s seat answer run step (tallied old run)
+
+-- there are no more of them than calls that began
+pub few_returned : (s : State) → Run s → number_of kind.Return s.timeline ≤ number_of kind.Begin s.timeline
+few_returned s run = let t : number_of kind.Return s.timeline + counted under_way s ≡ number_of kind.Begin s.timeline = (tallied s run).returned in omega (arith, t)
+
+pub few_committed : (s : State) → Run s → number_of kind.Commit s.timeline ≤ number_of kind.Begin s.timeline
+few_committed s run = let t : number_of kind.Commit s.timeline + counted without_place s ≡ number_of kind.Begin s.timeline = (tallied s run).committed in omega (arith, t)
 
 -- where no call is under way, each that began took its place and returned
 pub idle_returned : (s : State) → Run s → IsIdle s → number_of kind.Return s.timeline ≡ number_of kind.Begin s.timeline

@@ -18,3 +18,9 @@ pub mod Asking
 pub mod Alone
 pub mod Marks
 pub mod Between
+pub mod Leasts
+pub mod Ends
+pub mod Drawn
+pub mod Done
+pub mod Reasons
+pub mod Starts

@@ -5,7 +5,9 @@ use Rattle.fs_calls.specs.declared.call.Call.{Call}
 use Rattle.fs_sched.specs.Runs.{Stage, has_more, Event, Spent}
 use Rattle.fs_sched.specs.code.Stages.{stage_of, IsSeated, IsMarked}
 use Rattle.fs_sched.specs.declared.play.Play.{Play}
-use Rattle.fs_sched.proofs.OverLemmas.{event_over}
+use Rattle.fs_core.specs.CoreValues.{IsAtRest, state_of}
+use Rattle.fs_machine.specs.States.{begun_again}
+use Rattle.fs_sched.proofs.OverLemmas.{event_over, none_left}
 use Rattle.fs_sched.proofs.Rounds.{event_length}
 use Rattle.fs_sched.proofs.Staging.{nothing_more}
 
@@ -69,3 +71,13 @@ one_more lists old new seat marked seated stays set none = record {
     by : (k : ℕ) → get_or (slice_set old.over.items seat true) k false ≡ true → (b : Bool) → eqb k seat ≡ b → has_more lists (stage_of old) k ≡ false
     by k mark true e = subst (λ (j : ℕ). has_more lists (stage_of old) j ≡ false) (sym (eqb-true k seat e)) none
     by k mark false e = marked.over k (sym (set_other old.over.items seat k (eqb-false k seat e)) ∙ mark)
+
+-- threads that are over are so where the timeline begins again
+pub again_marked : (lists : List (List Call)) (old new : Play) → IsMarked lists old → IsAtRest old.core → stage_of new ≡ record { state = begun_again (state_of old.core); begun = old.begun.items } → new.core.seats ≡ old.core.seats → new.over.items ≡ old.over.items → IsMarked lists new
+again_marked lists old new marked rest again seats same = record {
+  seated = record { seats = ap length seats ∙ marked.seated.seats; begun = ap (λ (s : Stage). length s.begun) again ∙ marked.seated.begun };
+  marks = ap length same ∙ marked.marks;
+  over = λ k mark.
+      let none = nothing_more _ _ (marked.over k (subst (λ (marks : List Bool). get_or marks k false ≡ true) same mark)) in
+      subst (λ (s : Stage). has_more lists s k ≡ false) (sym again) (none_left lists (record { state = begun_again (state_of old.core); begun = old.begun.items }) k refl none.1);
+}

@@ -1,16 +1,13 @@
 -- Events one after the other, as loops do them.
-use Rattle.std.proofs.Common.{◌≡◌, ℕ, zero, suc, ◌+◌, ◌-◌, ◌<◌, ◌≤◌, ltb, ◌||◌, Bool, true, false, List, [], ◌∷◌, ◌++◌, length, drop, get_or, replicate, slice_get, is_some, Option, Some, None, refl, sym, ap, ap₂, ◌∙◌, subst, arith}
+use Rattle.std.proofs.Common.{◌≡◌, ℕ, zero, suc, ◌+◌, ◌-◌, ◌<◌, ◌≤◌, ltb, ◌||◌, Bool, true, false, List, [], ◌∷◌, ◌++◌, length, get_or, replicate, slice_get, is_some, Option, Some, None, refl, sym, ap, ap₂, ◌∙◌, subst, arith}
 use Rattle.std.specs.List.{range_with_len}
-use Rattle.std.proofs.lemmas.List.{at_drop_more}
 use Rattle.std.proofs.lemmas.Option.{slice_get_past, slice_get-get_or}
 use Rattle.std.proofs.lemmas.Bool.{ltb-true, ltb-false}
 use Rattle.std.specs.Option.{option_flatten}
 use Rattle.fs_calls.specs.declared.call.Call.{Call}
 use Rattle.fs_core.specs.declared.seat.Running.{Running}
 use Rattle.fs_core.specs.CoreValues.{number_of, number_on}
-use Rattle.fs_script.specs.declared.script.Word.{Word}
 use Rattle.fs_sched.specs.Runs.{Stage, next_call, Event, Spent, Events, IsOver, IsUnfinished, ToEnd, More, Round}
-use Rattle.fs_sched.specs.Schedules.{word_seats, given_seats}
 use Rattle.fs_sched.specs.code.Stages.{stage_of, IsSeated}
 use Rattle.fs_sched.specs.declared.play.Play.{Play}
 use Rattle.fs_sched.proofs.Rounds.{AreSeats}
@@ -46,9 +43,6 @@ range_more n i h = ap (range_with_len i) (one_less n i h)
 
 pub range_end : (n i : ℕ) → n ≤ i → range_with_len i (n - i) ≡ []
 range_end n i h = let e : n - i ≡ 0 = omega (arith, h) in ap (range_with_len i) e
-
-pub lead_word : (lists : List (List Call)) (old now new : Stage) (words : List Word) (i : ℕ) (d : Word) → Events lists now (word_seats (get_or words i d)) new → i < length words → Leads lists old (given_seats words) now (given_seats (drop i words)) → Leads lists old (given_seats words) new (given_seats (drop (i + 1) words))
-lead_word lists old now new words i d events less lead = lead_many lists old now new (given_seats words) (given_seats (drop i words)) (given_seats (drop (i + 1) words)) (word_seats (get_or words i d)) (at_drop_more given_seats words i d less) lead events
 
 -- ---- threads with nothing to do
 

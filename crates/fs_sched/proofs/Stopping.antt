@@ -1,10 +1,7 @@
 -- Events up to a begin that finds no number free, as loops do them.
-use Rattle.std.proofs.Common.{◌≡◌, ℕ, List, [], ◌∷◌, ◌++◌, inl, inr, length, get_or, drop, ◌<◌, ◌+◌, sym, subst}
-use Rattle.std.proofs.lemmas.List.{at_drop_more}
+use Rattle.std.proofs.Common.{◌≡◌, ℕ, List, [], ◌∷◌, ◌++◌, inl, inr, sym, subst}
 use Rattle.fs_calls.specs.declared.call.Call.{Call}
-use Rattle.fs_script.specs.declared.script.Word.{Word}
 use Rattle.fs_sched.specs.Runs.{Stage, Event, Events, Round, IsUnfinished, IsRefused, Stops, StopsInRounds, InLater}
-use Rattle.fs_sched.specs.Schedules.{word_seats, given_seats}
 
 -- a stop in what is left is one in all
 abbrev pub LeadsToStop : List (List Call) → Stage → List ℕ → Stage → List ℕ → Type 0
@@ -20,17 +17,6 @@ stop_here lists old now all rest more seat e lead refused = lead (subst (λ (r :
 pub stop_after : (lists : List (List Call)) (old now : Stage) (xs ys : List ℕ) → Events lists old xs now → Stops lists now ys → Stops lists old (xs ++ ys)
 stop_after lists old now [] ys e stops = subst (λ (s : Stage). Stops lists s ys) e stops
 stop_after lists old now (x ∷ xs) ys (middle, event, rest) stops = inr (middle, event, stop_after lists middle now xs ys rest stops)
-
-stop_before : (lists : List (List Call)) (old : Stage) (xs ys : List ℕ) → Stops lists old xs → Stops lists old (xs ++ ys)
-stop_before lists old [] ys stops = absurd stops
-stop_before lists old (x ∷ xs) ys (inl refused) = inl refused
-stop_before lists old (x ∷ xs) ys (inr (middle, event, stops)) = inr (middle, event, stop_before lists middle xs ys stops)
-
-pub stop_word : (lists : List (List Call)) (old now new : Stage) (words : List Word) (i : ℕ) (d : Word) → Events lists now (word_seats (get_or words i d)) new → i < length words → LeadsToStop lists old (given_seats words) now (given_seats (drop i words)) → LeadsToStop lists old (given_seats words) new (given_seats (drop (i + 1) words))
-stop_word lists old now new words i d events less lead stops = lead (subst (λ (r : List ℕ). Stops lists now r) (sym (at_drop_more given_seats words i d less)) (stop_after lists now new _ _ events stops))
-
-pub stop_in_word : (lists : List (List Call)) (old now : Stage) (words : List Word) (i : ℕ) (d : Word) → Stops lists now (word_seats (get_or words i d)) → i < length words → LeadsToStop lists old (given_seats words) now (given_seats (drop i words)) → Stops lists old (given_seats words)
-stop_in_word lists old now words i d stops less lead = lead (subst (λ (r : List ℕ). Stops lists now r) (sym (at_drop_more given_seats words i d less)) (stop_before lists now _ _ stops))
 
 -- rounds up to a stop
 abbrev pub LeadsToStopInRounds : List (List Call) → Stage → Stage → Type 0

@@ -1,13 +1,13 @@
 -- The verdict on a journal text, and its line.
 use Rattle.std.specs.Prelude.{ℕ, Bool, true, false, List, ◌++◌, Result, Ok, Err, codes, decimal}
-use Rattle.fs_calls.specs.Tree.{root_tree}
-use Rattle.fs_timeline.specs.Verdicts.{verdict}
+use Rattle.fs_calls.specs.Tree.{Tree}
 use Rattle.fs_timeline.specs.declared.entry.Entry.{Entry}
+use Rattle.fs_timeline.specs.Verdicts.{verdict}
 use Rattle.fs_timeline.specs.declared.verdict.Verdict.{Verdict}
 use Rattle.fs_timeline.specs.declared.verdict.Verdict.TheVariants.{Lawful, Fault}
 use Rattle.fs_timeline.specs.declared.verdict.FaultKind.{FaultKind}
 use Rattle.fs_timeline.specs.declared.verdict.FaultKind.TheVariants as kind
-use Rattle.fs_text.specs.Journal.{entries_of}
+use Rattle.fs_script.specs.Journals.{journal_of}
 use Rattle.fs_words.specs.declared.fault.ScriptFault.{ScriptFault}
 
 -- the word of a kind of fault
@@ -30,11 +30,11 @@ abbrev pub verdict_line : Verdict → List ℕ
 verdict_line Lawful = codes "lawful\n"
 verdict_line (Fault place k) = codes "fault " ++ (decimal place ++ (codes " " ++ (kind_word k ++ codes "\n")))
 
--- the verdict on the entries that were read, from the root alone, or the fault of the text
-abbrev pub judged : Result (List Entry) ScriptFault → Result Verdict ScriptFault
-judged (Ok es) = Ok (verdict root_tree es)
+-- the verdict on the entries of the journal that was read, from its start tree, or the fault of the text
+abbrev pub judged : Result (Tree × List Entry) ScriptFault → Result Verdict ScriptFault
+judged (Ok journal) = Ok (verdict journal.0 journal.1)
 judged (Err f) = Err f
 
--- the verdict on the entries of a journal text, or the text's first fault
+-- the verdict on a journal text, or the text's first fault
 abbrev pub verdict_of : List ℕ → Result Verdict ScriptFault
-verdict_of text = judged (entries_of text)
+verdict_of text = judged (journal_of text)

@@ -3,7 +3,7 @@ pub use Rattle.fs_io.specs.Devices.{IsSameText, WritesBeginning, WritesBeginning
 use Rattle.std.specs.Prelude.{◌≡◌, Result, Err}
 use Rattle.fs_words.specs.declared.fault.ScriptFault.{ScriptFault}
 use Rattle.fs_sched.specs.declared.fault.RunFault.{RunFault}
-use Rattle.fs_sched.specs.declared.fault.RunFault.TheVariants.{Input, Read, Write, OutOfMemory, Full}
+use Rattle.fs_sched.specs.declared.fault.RunFault.TheVariants.{Input, Read, Write, OutOfMemory, Full, UnderWay}
 
 -- the fault of the input, which says what is wrong with it, or out of memory
 abbrev pub IsFaultOf : {X : Type 0} → Result X ScriptFault → RunFault → Type 0
@@ -12,6 +12,7 @@ IsFaultOf given Read = ⊥
 IsFaultOf given Write = ⊥
 IsFaultOf given OutOfMemory = Unit {0}
 IsFaultOf given Full = ⊥
+IsFaultOf given (UnderWay c) = ⊥
 
 -- the fault of the input, or a call's refusal
 abbrev pub IsFaultOrRefusal : {X : Type 0} → Result X ScriptFault → RunFault → Type 0
@@ -20,3 +21,4 @@ IsFaultOrRefusal given Read = ⊥
 IsFaultOrRefusal given Write = ⊥
 IsFaultOrRefusal given OutOfMemory = Unit {0}
 IsFaultOrRefusal given Full = Unit {0}
+IsFaultOrRefusal given (UnderWay c) = ⊥

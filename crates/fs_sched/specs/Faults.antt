@@ -6,7 +6,7 @@ use Rattle.fs_words.specs.declared.fault.FaultKind.TheVariants as kind
 use Rattle.fs_io.specs.declared.failure.Failure.{Failure}
 use Rattle.fs_io.specs.declared.failure.Failure.TheVariants as failure
 use Rattle.fs_sched.specs.declared.fault.RunFault.{RunFault}
-use Rattle.fs_sched.specs.declared.fault.RunFault.TheVariants.{Input, Read, Write, OutOfMemory, Full}
+use Rattle.fs_sched.specs.declared.fault.RunFault.TheVariants.{Input, Read, Write, OutOfMemory, Full, UnderWay}
 
 -- out of memory is no fault of the input
 abbrev pub by_kind : ScriptFault → FaultKind → RunFault
@@ -24,10 +24,11 @@ fault_between failure.Write = Write
 fault_between failure.OutOfMemory = OutOfMemory
 fault_between (failure.Unmade f) = f
 
--- bad input is 3, no memory or no node number 4, a device that failed 5
+-- a checkpoint while calls are under way is 1, bad input 3, no memory or no node number 4, a device that failed 5
 abbrev pub status_of_fault : RunFault → ℕ
 status_of_fault (Input f) = 3
 status_of_fault Read = 5
 status_of_fault Write = 5
 status_of_fault OutOfMemory = 4
 status_of_fault Full = 4
+status_of_fault (UnderWay c) = 1

@@ -1,18 +1,25 @@
 -- Runs of scripts, event by event.
-use Rattle.std.specs.Prelude.{ℕ, ◌≡◌, ◌+◌, ◌-◌, ◌^◌, min, ◌<◌, Bool, true, false, ◌||◌, ◌⊎◌, List, [], ◌∷◌, length, replicate, get_or, slice_get, slice_set, is_some, Ok, Option, Some, None, Err}
+use Rattle.std.specs.Prelude.{ℕ, ◌≡◌, ◌+◌, ◌-◌, ◌^◌, min, ◌<◌, Bool, true, false, ◌||◌, ◌⊎◌, List, [], ◌∷◌, ◌++◌, length, replicate, get_or, slice_get, slice_set, is_some, Ok, Option, Some, None, Err}
 use Rattle.std.specs.List.{range_with_len, list_any}
 use Rattle.fs_names.specs.declared.limits.TheConstants.{NODE_LIMIT}
 use Rattle.fs_timeline.specs.declared.entry.Entry.{Entry}
 use Rattle.fs_calls.specs.declared.call.Call.{Call}
 use Rattle.fs_script.specs.Script.{script_of}
 use Rattle.fs_script.specs.declared.script.Script.{Script}
-use Rattle.fs_machine.specs.States.{State, Begins, Step, empty}
+use Rattle.fs_script.specs.declared.script.Word.{Word}
+use Rattle.fs_script.specs.declared.script.Word.TheVariants as word
+use Rattle.fs_core.specs.Checkpoints.{IsLeastUnderWay}
+use Rattle.fs_machine.specs.Headline.{IsIdle}
+use Rattle.fs_machine.specs.States.{State, Begins, Step, empty, begun_again}
 use Rattle.fs_machine.specs.declared.answers.Refusal.TheVariants.{Full}
 use Rattle.fs_machine.specs.declared.answers.Stepped.{Stepped}
+use Rattle.fs_sched.specs.Devices.{IsFaultOf}
 use Rattle.fs_sched.specs.RunTexts.{IsRunText, number_of}
 use Rattle.fs_sched.specs.declared.run_texts.EntryKind.TheVariants as kind
+use Rattle.fs_sched.specs.declared.fault.RunFault.{RunFault}
+use Rattle.fs_sched.specs.declared.fault.RunFault.TheVariants as fault
 use Rattle.fs_sched.specs.declared.running.RunEnd.{RunEnd}
-use Rattle.fs_sched.specs.Schedules.{is_finish, seats_before, goes_on}
+use Rattle.fs_sched.specs.Schedules.{is_finish, words_by, goes_on}
 use Rattle.fs_sched.specs.declared.schedule.Schedule.{Schedule}
 
 -- where a run stands: the machine's state, and how many calls of each thread have begun
@@ -66,13 +73,24 @@ abbrev pub EndsBy : Bool → List (List Call) → Stage → Stage → Type 0
 EndsBy true lists old last = ToEnd lists old last
 EndsBy false lists old last = last ≡ old
 
--- a run of a script by a schedule, from a stage on
-abbrev pub RunsFrom : Schedule → Script → Stage → Stage → Type 0
-RunsFrom schedule script old last = (middle : Stage) × Events script.lists old (seats_before schedule script.words (length script.lists)) middle × EndsBy (goes_on schedule script.words) script.lists middle last
+-- what a word does, and the entries of the piece that ends: at a checkpoint, where no call is under way, the timeline begins again
+abbrev pub Does : List (List Call) → Stage → Word → List Entry → Stage → Type 0
+Does lists old (word.Events seat times) told new = Events lists old (replicate times seat) new × (told ≡ [])
+Does lists old word.Checkpoint told new = IsIdle old.state × (told ≡ old.state.timeline) × (new ≡ record { state = begun_again old.state; begun = old.begun })
+Does lists old word.Finish told new = (new ≡ old) × (told ≡ [])
 
--- a run of a script by a schedule, from its first stage to its last
-abbrev pub Runs : Schedule → Script → Stage → Type 0
-Runs schedule script last = RunsFrom schedule script (start (length script.lists)) last
+-- words from left to right, and the entries of the pieces that end on the way
+abbrev pub Words : List (List Call) → Stage → List Word → List Entry → Stage → Type 0
+Words lists old [] told new = (new ≡ old) × (told ≡ [])
+Words lists old (w ∷ words) told new = (middle : Stage) × (first : List Entry) × (rest : List Entry) × Does lists old w first middle × Words lists middle words rest new × (told ≡ first ++ rest)
+
+-- a run of a script by a schedule, from a stage on
+abbrev pub RunsFrom : Schedule → Script → Stage → List Entry → Stage → Type 0
+RunsFrom schedule script old told last = (middle : Stage) × Words script.lists old (words_by schedule script.words (length script.lists)) told middle × EndsBy (goes_on schedule script.words) script.lists middle last
+
+-- a run of a script by a schedule, from its first stage to its last, which is of its last piece; and the entries of the pieces before
+abbrev pub Runs : Schedule → Script → List Entry → Stage → Type 0
+Runs schedule script told last = RunsFrom schedule script (start (length script.lists)) told last
 
 -- the next event of a thread is the begin of a call, and all numbers are in use
 abbrev pub IsRefused : List (List Call) → Stage → ℕ → Type 0
@@ -88,19 +106,35 @@ pub data StopsInRounds (lists : List (List Call)) : Stage → Type 0 where
   InRound : {old : Stage} → IsUnfinished lists old → Stops lists old (range_with_len 0 (length lists)) → StopsInRounds lists old
   InLater : {old middle : Stage} → IsUnfinished lists old → Round lists old middle → StopsInRounds lists middle → StopsInRounds lists old
 
--- one of the events of a script by a schedule, from a stage on, is
-abbrev pub StopsFrom : Schedule → Script → Stage → Type 0
-StopsFrom schedule script old =
-    Stops script.lists old (seats_before schedule script.words (length script.lists))
-    ⊎ ((middle : Stage) × Events script.lists old (seats_before schedule script.words (length script.lists)) middle × (goes_on schedule script.words ≡ true) × StopsInRounds script.lists middle)
+-- a run stops at a word: one of its events is such a begin, or it is a checkpoint while calls are under way
+abbrev pub StopsAt : List (List Call) → Stage → Word → RunFault → Type 0
+StopsAt lists s (word.Events seat times) fault.Full = Stops lists s (replicate times seat)
+StopsAt lists s word.Checkpoint (fault.UnderWay c) = IsLeastUnderWay s.state.on_seat c
+StopsAt lists s w f = ⊥
+
+-- it stops at one of these words, after those before it
+abbrev pub StopsInWords : List (List Call) → Stage → List Word → RunFault → Type 0
+StopsInWords lists old [] f = ⊥
+StopsInWords lists old (w ∷ words) f = StopsAt lists old w f ⊎ ((middle : Stage) × (told : List Entry) × Does lists old w told middle × StopsInWords lists middle words f)
+
+-- a run of a script by a schedule, from a stage on, stops by a fault
+abbrev pub StopsFrom : Schedule → Script → Stage → RunFault → Type 0
+StopsFrom schedule script old f =
+    StopsInWords script.lists old (words_by schedule script.words (length script.lists)) f
+    ⊎ ((middle : Stage) × (told : List Entry) × Words script.lists old (words_by schedule script.words (length script.lists)) told middle × (goes_on schedule script.words ≡ true) × (f ≡ fault.Full) × StopsInRounds script.lists middle)
 
 -- the same from the first stage on
-abbrev pub FillsUp : Schedule → Script → Type 0
-FillsUp schedule script = StopsFrom schedule script (start (length script.lists))
+abbrev pub StopsBy : Schedule → Script → RunFault → Type 0
+StopsBy schedule script f = StopsFrom schedule script (start (length script.lists)) f
 
 -- the same of the script that an input has
-abbrev pub ReachesFull : Schedule → List ℕ → Type 0
-ReachesFull schedule input = (script : Script) × (script_of input ≡ Ok script) × FillsUp schedule script
+abbrev pub ReachesStop : Schedule → List ℕ → RunFault → Type 0
+ReachesStop schedule input f = (script : Script) × (script_of input ≡ Ok script) × StopsBy schedule script f
+
+-- the fault of a run: of the input, out of memory, or of a checkpoint to which it comes
+abbrev pub IsFaultOfRun : Schedule → List ℕ → RunFault → Type 0
+IsFaultOfRun schedule input (fault.UnderWay c) = ReachesStop schedule input (fault.UnderWay c)
+IsFaultOfRun schedule input f = IsFaultOf (script_of input) f
 
 -- how many calls a script has
 abbrev pub calls_in : List (List Call) → ℕ
@@ -110,6 +144,10 @@ calls_in (calls ∷ lists) = length calls + calls_in lists
 -- the numbers of entries of each kind, and of the script's calls, of which there are no more than a text has lines
 abbrev pub end_of : Script → List Entry → RunEnd
 end_of script entries = record { begun = number_of kind.Begin entries; committed = number_of kind.Commit entries; returned = number_of kind.Return entries; calls = min (2 ^ 64 - 1) (calls_in script.lists) }
+
+-- the numbers of the entries of all pieces of a run, and the text of the last one
+abbrev pub AreOfRun : Script → List Entry → Stage → RunEnd → List ℕ → Type 0
+AreOfRun script told last end text = (end ≡ end_of script (told ++ last.state.timeline)) × IsRunText last.state.start last.state.timeline last.state.graph text
 
 -- each call of the script began, took its place and returned
 pub record IsWhole (end : RunEnd) : Type 0 where
@@ -123,7 +161,7 @@ HasFinish input = (script : Script) × (script_of input ≡ Ok script) × (list_
 
 -- the numbers and the text of a run of a script
 abbrev pub IsOutput : Schedule → Script → RunEnd → List ℕ → Type 0
-IsOutput schedule script end text = (last : Stage) × Runs schedule script last × (end ≡ end_of script last.state.timeline) × IsRunText last.state.timeline last.state.graph text
+IsOutput schedule script end text = (told : List Entry) × (last : Stage) × Runs schedule script told last × AreOfRun script told last end text
 
 -- the same of the script that an input has
 abbrev pub IsRunOf : Schedule → List ℕ → RunEnd → List ℕ → Type 0

@@ -1,28 +1,20 @@
 -- The order of events by each schedule.
-use Rattle.std.specs.Prelude.{ℕ, ◌%◌, Bool, true, false, List, [], map, replicate}
-use Rattle.std.specs.List.{flat_map, list_any}
+use Rattle.std.specs.Prelude.{ℕ, ◌%◌, Bool, true, false, List, [], map}
+use Rattle.std.specs.List.{list_any}
 use Rattle.rand_core.specs.Pcg32Seed.{pcg32_seed}
 use Rattle.rand_core.specs.Steps.{first_words}
 use Rattle.rand_pcg.specs.Lcg.{Lcg}
 use Rattle.rand_pcg.specs.Pcg.{pcg32, pcg32_of_seed}
 use Rattle.fs_script.specs.declared.script.Word.{Word}
-use Rattle.fs_script.specs.declared.script.Word.TheVariants.{Events, Finish}
+use Rattle.fs_script.specs.declared.script.Word.TheVariants.{Events, Checkpoint, Finish}
 use Rattle.fs_sched.specs.declared.schedule.Schedule.{Schedule}
 use Rattle.fs_sched.specs.declared.schedule.Schedule.TheVariants.{Given, RoundRobin, Seeded}
 use Rattle.fs_sched.specs.declared.schedule.TheConstants.{DRAW_LIMIT}
 
--- the seats of the events that a word gives
-abbrev pub word_seats : Word → List ℕ
-word_seats (Events seat times) = replicate times seat
-word_seats Finish = []
-
--- those that the words give, from left to right
-abbrev pub given_seats : List Word → List ℕ
-given_seats words = flat_map word_seats words
-
 -- whether a word stands for rounds to the end
 abbrev pub is_finish : Word → Bool
 is_finish (Events seat times) = false
+is_finish Checkpoint = false
 is_finish Finish = true
 
 -- the generator that is made of a number
@@ -41,11 +33,15 @@ seats_from threads k g = map (seat_of threads) (first_words pcg32 k g)
 abbrev pub drawn_seats : ℕ → ℕ → ℕ → List ℕ
 drawn_seats n threads k = seats_from threads k (generator_of n)
 
--- the seats of the events before rounds to the end; an event of a thread that has nothing to do is spent
-abbrev pub seats_before : Schedule → List Word → ℕ → List ℕ
-seats_before Given words threads = given_seats words
-seats_before RoundRobin words threads = []
-seats_before (Seeded n) words threads = drawn_seats n threads DRAW_LIMIT
+-- one event of a thread, as a word
+abbrev pub one_event : ℕ → Word
+one_event seat = Events seat 1
+
+-- the words before rounds to the end: those of the script, none, or an event of each thread that is drawn
+abbrev pub words_by : Schedule → List Word → ℕ → List Word
+words_by Given words threads = words
+words_by RoundRobin words threads = []
+words_by (Seeded n) words threads = map one_event (drawn_seats n threads DRAW_LIMIT)
 
 -- whether rounds to the end follow
 abbrev pub goes_on : Schedule → List Word → Bool

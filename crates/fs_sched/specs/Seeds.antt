@@ -1,5 +1,5 @@
 -- The lines of drawn runs.
-use Rattle.std.specs.Prelude.{ℕ, ◌≡◌, ◌+◌, ◌≤◌, ◌<◌, List, ◌++◌, Ok, codes, decimal}
+use Rattle.std.specs.Prelude.{ℕ, ◌≡◌, ◌+◌, ◌≤◌, ◌<◌, List, [], ◌++◌, Ok, codes, decimal}
 use Rattle.std.specs.List.{flat_map, range_with_len}
 use Rattle.fs_calls.specs.Tree.{root_tree}
 use Rattle.fs_timeline.specs.Verdicts.{verdict}
@@ -8,7 +8,7 @@ use Rattle.fs_timeline.specs.declared.verdict.Verdict.TheVariants.{Lawful}
 use Rattle.fs_script.specs.Script.{script_of}
 use Rattle.fs_script.specs.declared.script.Script.{Script}
 use Rattle.fs_sched.specs.Checks.{verdict_line}
-use Rattle.fs_sched.specs.Runs.{Stage, Runs, FillsUp}
+use Rattle.fs_sched.specs.Runs.{Stage, Runs}
 use Rattle.fs_sched.specs.declared.schedule.Schedule.TheVariants.{Seeded}
 
 -- how the verdict on the run that is drawn from a number is written
@@ -19,9 +19,9 @@ seed_line n v = codes "seed " ++ (decimal n ++ (codes " " ++ verdict_line v))
 abbrev pub lawful_line : ℕ → List ℕ
 lawful_line n = seed_line n Lawful
 
--- the run that is drawn from a number comes to its end, and its journal is lawful
+-- the run that is drawn from a number comes to its end, and its journal is lawful; it is one piece
 abbrev pub IsLawfulFrom : Script → ℕ → Type 0
-IsLawfulFrom script n = (last : Stage) × Runs (Seeded n) script last × (verdict root_tree last.state.timeline ≡ Lawful)
+IsLawfulFrom script n = (last : Stage) × Runs (Seeded n) script [] last × (verdict root_tree last.state.timeline ≡ Lawful)
 
 -- so many runs are drawn from a number, the next one, and so on: each is lawful, and the text says so, a line for each
 pub record AreLawful (script : Script) (seed : ℕ) (runs : ℕ) (text : List ℕ) : Type 0 where
@@ -31,11 +31,3 @@ pub record AreLawful (script : Script) (seed : ℕ) (runs : ℕ) (text : List �
 -- the same of the script that an input has
 abbrev pub AreRunsOf : ℕ → ℕ → List ℕ → List ℕ → Type 0
 AreRunsOf seed runs input text = (script : Script) × (script_of input ≡ Ok script) × AreLawful script seed runs text
-
--- one of so many runs, drawn from a number, the next one, and so on, finds all numbers in use
-abbrev pub OneFillsUp : Script → ℕ → ℕ → Type 0
-OneFillsUp script seed runs = (n : ℕ) × (seed ≤ n) × (n < seed + runs) × FillsUp (Seeded n) script
-
--- the same of the script that an input has
-abbrev pub OneReachesFull : ℕ → ℕ → List ℕ → Type 0
-OneReachesFull seed runs input = (script : Script) × (script_of input ≡ Ok script) × OneFillsUp script seed runs

@@ -3,3 +3,4 @@ pub mod Stages
 pub mod Counts
 pub mod Ahead
 pub mod Mades
+pub mod Done

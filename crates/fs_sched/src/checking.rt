@@ -2,9 +2,8 @@
 
 ghost use Rattle.std.specs.Prelude.{◌≡◌, ◌≢◌, ◌+◌, ◌-◌, ◌<◌, ◌^◌, ℕ, List, Ok, Err, IfOk, OnOk, OnErr, IfErr, IfSome, IsErrOf};
 ghost use Rattle.std.specs.Io.KnownBytes.{Appends, IsAtEnd};
-ghost use Rattle.fs_calls.specs.Tree.{root_tree};
 ghost use Rattle.fs_timeline.specs.Verdicts.{verdict};
-ghost use Rattle.fs_text.specs.Journal.{entries_of};
+ghost use Rattle.fs_script.specs.Journals.{journal_of};
 ghost use Rattle.fs_words.specs.declared.fault.ScriptFault.{ScriptFault};
 ghost use Rattle.fs_sched.specs.Checks.{is_lawful, verdict_line, verdict_of};
 ghost use Rattle.fs_sched.specs.Devices.{IsFaultOf, WritesBeginningOf};
@@ -13,39 +12,39 @@ ghost use Rattle.fs_sched.specs.code.Mades.{IsJudged, MakesVerdict};
 use crate::fault::{RunFault, run_fault};
 use crate::verdict_line::{is_lawful, verdict_line};
 use fs_io::{Made, Sink, Source, transform};
-use fs_journal::check;
-use fs_text::read_entries;
-use fs_timeline::{Entry, Verdict};
+use fs_journal::check_from;
+use fs_script::{Journal, read_journal};
+use fs_timeline::Verdict;
 use std::alloc::Global;
 
-/// The entries of a journal text.
-fn entries_of(alloc: Global, text: &[u8]) -> Result<Vec<Entry>, RunFault>
-    ensures ok { IfOk result (λ entries. entries_of text.now ≡ Ok entries.items) }
-    ensures err { IfErr result (IsFaultOf (entries_of text.now)) }
+/// The journal that a text has.
+fn journal_in(alloc: Global, text: &[u8]) -> Result<Journal, RunFault>
+    ensures ok { IfOk result (λ journal. journal_of text.now ≡ Ok (journal.start, journal.entries.items)) }
+    ensures err { IfErr result (IsFaultOf (journal_of text.now)) }
 {
-    match read_entries(alloc, text) {
-        Ok(entries) => Ok(entries),
+    match read_journal(alloc, text) {
+        Ok(journal) => Ok(journal),
         Err(fault) => Err(run_fault(fault)),
     }
 }
 
-/// The verdict on entries, from the root alone.
-fn verdict_on(alloc: Global, entries: &[Entry]) -> Result<Verdict, RunFault>
-    ensures ok { IfOk result (λ v. v ≡ verdict root_tree entries.now) }
+/// The verdict on a journal, from its start tree.
+fn verdict_on(alloc: Global, journal: &Journal) -> Result<Verdict, RunFault>
+    ensures ok { IfOk result (λ v. v ≡ verdict journal.now.start journal.now.entries.items) }
     ensures err { IfErr result (λ fault. fault ≡ RunFault.OutOfMemory) }
 {
-    match check(alloc, entries) {
+    match check_from(alloc, &journal.start, journal.entries.as_slice()) {
         Ok(verdict) => Ok(verdict),
         Err(_) => Err(RunFault::OutOfMemory),
     }
 }
 
-/// The line of the verdict on entries, and whether they are lawful.
-fn judged(alloc: Global, entries: Vec<Entry>) -> Result<Made<bool>, RunFault>
-    ensures ok { IfOk result (IsJudged (verdict root_tree entries.items)) }
+/// The line of the verdict on a journal, and whether it is lawful.
+fn judged(alloc: Global, journal: Journal) -> Result<Made<bool>, RunFault>
+    ensures ok { IfOk result (IsJudged (verdict journal.start journal.entries.items)) }
     ensures err { IfErr result (λ fault. fault ≡ RunFault.OutOfMemory) }
 {
-    let verdict = verdict_on(alloc, &entries)?;
+    let verdict = verdict_on(alloc, &journal)?;
     let end = is_lawful(&verdict);
     match verdict_line(alloc, &verdict) {
         Ok(text) => Ok(Made { text, end }),
@@ -57,9 +56,9 @@ fn judged(alloc: Global, entries: Vec<Entry>) -> Result<Made<bool>, RunFault>
 fn check_text(alloc: Global, text: Vec<u8>) -> Result<Made<bool>, RunFault>
     ensures { MakesVerdict text.items result }
 {
-    let entries = entries_of(alloc, text.as_slice())?;
+    let journal = journal_in(alloc, text.as_slice())?;
     drop(text);
-    judged(alloc, entries)
+    judged(alloc, journal)
 }
 
 /// The line of the verdict on a journal in memory, as `check_journal` writes it. The journal is read where it stands.
@@ -67,12 +66,12 @@ pub fn check_bytes(alloc: Global, journal: &[u8]) -> Result<Vec<u8>, RunFault>
     ensures line { IfOk result (λ line. (v : Verdict) × (verdict_of journal.now ≡ Ok v) × (line.items ≡ verdict_line v)) }
     ensures fault { IfErr result (IsFaultOf (verdict_of journal.now)) }
 {
-    let entries = entries_of(alloc, journal)?;
-    let made = judged(alloc, entries)?;
+    let read = journal_in(alloc, journal)?;
+    let made = judged(alloc, read)?;
     Ok(made.text)
 }
 
-/// Reads a journal to its end and writes the verdict on it, in one line: `lawful`, or `fault` with the place of the
+/// Reads a journal to its end and writes the verdict on it, from its start tree, in one line: `lawful`, or `fault` with the place of the
 /// first entry that does not fit, counted from 1, and the kind of its fault. The answer is whether it is lawful. The
 /// line is made before its first byte is written.
 pub fn check_journal<R: Source, W: Sink>(
@@ -92,6 +91,7 @@ pub fn check_journal<R: Source, W: Sink>(
     ensures read { IsErrOf result RunFault.Read → R.failures reader.new ≡ R.failures reader.old + 1 }
     ensures write { IsErrOf result RunFault.Write → W.failures writer.new ≡ W.failures writer.old + 1 }
     ensures full { result ≢ Err RunFault.Full }
+    ensures under_way { (call : ℕ) → result ≢ Err (RunFault.UnderWay call) }
 
     // After a failed write a beginning of the line stands, and after every other error nothing was written.
     ensures nothing { result ≢ Err RunFault.Write → OnErr result (writer.new ≡ writer.old) }

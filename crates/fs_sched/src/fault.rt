@@ -4,6 +4,7 @@ ghost use Rattle.std.specs.Prelude.{◌≡◌};
 ghost use Rattle.fs_sched.specs.Faults.{run_fault_of, fault_between, status_of_fault};
 
 use fs_io::Failure;
+use fs_names::CallNo;
 use fs_text::{FaultKind, ScriptFault};
 use thiserror::Error;
 
@@ -26,15 +27,19 @@ pub enum RunFault {
     /// A call was refused since all node numbers are in use.
     #[error("full")]
     Full,
+    /// The script asks for a checkpoint while calls are under way: the least of their numbers.
+    #[error("call {} under way", .0.get())]
+    UnderWay(CallNo),
 }
 
 impl RunFault {
-    /// The status of a program that this fault ended: 3 for bad input, 4 where memory or numbers ran out, 5 for a device
-    /// that failed.
+    /// The status of a program that this fault ended: 1 for a checkpoint while calls are under way, 3 for bad input, 4 where
+    /// memory or numbers ran out, 5 for a device that failed.
     pub fn status(&self) -> u8
         ensures { result ≡ status_of_fault self.now }
     {
         match self {
+            RunFault::UnderWay(_) => 1,
             RunFault::Input(_) => 3,
             RunFault::OutOfMemory | RunFault::Full => 4,
             RunFault::Read | RunFault::Write => 5,

@@ -1,7 +1,9 @@
 //! What a run is given: the script that a text has.
 
-ghost use Rattle.std.specs.Prelude.{◌≡◌, Ok, IfOk, IfErr};
+ghost use Rattle.std.specs.Prelude.{◌≡◌, ◌≤◌, Ok, IfOk, IfErr};
 ghost use Rattle.fs_script.specs.Script.{script_of};
+ghost use Rattle.fs_script.specs.declared.limits.TheConstants.{CALL_LIMIT};
+ghost use Rattle.fs_sched.specs.Runs.{calls_in};
 ghost use Rattle.fs_sched.specs.Devices.{IsFaultOf};
 
 use crate::fault::{RunFault, run_fault};
@@ -11,6 +13,7 @@ use std::alloc::Global;
 /// The script that a text has, or why no run of it begins.
 pub(crate) fn script_in(alloc: Global, text: &[u8]) -> Result<Script, RunFault>
     ensures script { IfOk result (λ script. script_of text.now ≡ Ok script) }
+    ensures few { IfOk result (λ script. calls_in script.lists ≤ CALL_LIMIT) }
     ensures fault { IfErr result (IsFaultOf (script_of text.now)) }
 {
     match read_script(alloc, text) {

@@ -16,6 +16,7 @@ mod checking;
 mod fault;
 mod input;
 pub mod laws;
+mod pieces;
 mod play;
 mod run_texts;
 mod running;

@@ -6,17 +6,18 @@ ghost use Rattle.fs_names.specs.declared.limits.TheConstants.{NODE_LIMIT};
 ghost use Rattle.fs_calls.specs.declared.call.Call.{Call};
 ghost use Rattle.fs_core.specs.CoreValues.{state_of};
 ghost use Rattle.fs_machine.specs.States.{empty, Begins};
-ghost use Rattle.fs_sched.specs.Runs.{start, has_more, Event, Events, Round, ToEnd, RunsFrom, IsRefused, Stops, StopsInRounds, StopsFrom};
-ghost use Rattle.fs_sched.specs.Schedules.{word_seats, given_seats, drawn_seats, seats_before};
-ghost use Rattle.fs_sched.specs.code.Stages.{stage_of, IsSeated, IsMarked, AreOver, IsRefusal};
+ghost use Rattle.fs_sched.specs.Runs.{start, has_more, Event, Events, Round, ToEnd, Does, IsRefused, Stops, StopsInRounds, StopsAt};
+ghost use Rattle.fs_sched.specs.Schedules.{drawn_seats};
+ghost use Rattle.fs_sched.specs.code.Stages.{stage_of, IsSeated, IsMarked, AreOver, IsRefusal, IsWhy, fault_of_checkpoint};
 
 use crate::fault::RunFault;
-use crate::schedule::{DRAW_LIMIT, Schedule};
+use crate::schedule::DRAW_LIMIT;
 use crate::seats::SeatsAhead;
 use fs_calls::Call;
-use fs_core::{Core, Refusal, Stepped};
+use fs_core::{Core, NoCheckpoint, Refusal, Stepped};
 use fs_names::SeatNo;
-use fs_script::{CallLists, Script, Word};
+use fs_script::{CallLists, Word};
+use fs_timeline::Entry;
 use std::alloc::{AllocError, Global};
 
 /// The core, with a seat for each thread, how many calls of each thread have begun, and which threads were found to be
@@ -37,6 +38,16 @@ fn refused(refusal: Refusal) -> RunFault
     match refusal {
         Refusal::Full => RunFault::Full,
         _ => RunFault::OutOfMemory,
+    }
+}
+
+/// The fault of a run of which a checkpoint was refused.
+fn stopped(why: NoCheckpoint) -> RunFault
+    ensures { result ≡ fault_of_checkpoint why }
+{
+    match why {
+        NoCheckpoint::UnderWay(call) => RunFault::UnderWay(call),
+        NoCheckpoint::OutOfMemory => RunFault::OutOfMemory,
     }
 }
 
@@ -213,7 +224,7 @@ impl Play {
     }
 
     /// So many events of a thread; those of a thread that is not there are nothing.
-    fn events(
+    pub(crate) fn events(
         &mut self,
         alloc: Global,
         lists: &CallLists,
@@ -235,36 +246,25 @@ impl Play {
         Ok(())
     }
 
-    /// The events that a word gives.
-    fn word(&mut self, alloc: Global, lists: &CallLists, word: Word) -> Result<(), RunFault>
-        requires { IsMarked lists.now self.old }
-        ensures events { OnOk result (Events lists.now (stage_of self.old) (word_seats word) (stage_of self.new)) }
-        ensures seats { OnOk result (IsMarked lists.now self.new) }
-        ensures fault { IfErr result IsRefusal }
-        ensures full { IsErrOf result RunFault.Full → Stops lists.now (stage_of self.old) (word_seats word) }
+    /// The timeline begins again, where no call is under way, and its entries are handed out.
+    pub(crate) fn begin_again(&mut self, alloc: Global) -> Result<Vec<Entry>, RunFault>
+        ensures does { (lists : List (List Call)) → IfOk result (λ entries. Does lists (stage_of self.old) Word.Checkpoint entries.items (stage_of self.new)) }
+        ensures seats { (lists : List (List Call)) → IsMarked lists self.old → OnOk result (IsMarked lists self.new) }
+        ensures why { (lists : List (List Call)) → IfErr result (IsWhy (StopsAt lists (stage_of self.old) Word.Checkpoint)) }
     {
-        match word {
-            Word::Events(seat, times) => self.events(alloc, lists, seat, times),
-            Word::Finish => Ok(()),
+        match self.core.checkpoint(alloc) {
+            Ok(entries) => Ok(entries),
+            Err(why) => Err(stopped(why)),
         }
-    }
-
-    /// The events that words give, from left to right.
-    fn words(&mut self, alloc: Global, lists: &CallLists, words: &[Word]) -> Result<(), RunFault>
-        requires { IsMarked lists.now self.old }
-        ensures events { OnOk result (Events lists.now (stage_of self.old) (given_seats words.now) (stage_of self.new)) }
-        ensures seats { OnOk result (IsMarked lists.now self.new) }
-        ensures fault { IfErr result IsRefusal }
-        ensures full { IsErrOf result RunFault.Full → Stops lists.now (stage_of self.old) (given_seats words.now) }
-    {
-        for word in words {
-            self.word(alloc, lists, *word)?;
-        }
-        Ok(())
     }
 
     /// Events of threads that are drawn from a number, until none has anything to do or the limit is reached.
-    fn drawn(&mut self, alloc: Global, lists: &CallLists, seed: u64) -> Result<(), RunFault>
+    pub(crate) fn drawn(
+        &mut self,
+        alloc: Global,
+        lists: &CallLists,
+        seed: u64,
+    ) -> Result<(), RunFault>
         requires { IsMarked lists.now self.old }
         ensures events { OnOk result (Events lists.now (stage_of self.old) (drawn_seats seed (length lists.now) DRAW_LIMIT) (stage_of self.new)) }
         ensures seats { OnOk result (IsMarked lists.now self.new) }
@@ -322,7 +322,7 @@ impl Play {
     }
 
     /// Rounds until no thread has anything to do.
-    fn finish(&mut self, alloc: Global, lists: &CallLists) -> Result<(), RunFault>
+    pub(crate) fn finish(&mut self, alloc: Global, lists: &CallLists) -> Result<(), RunFault>
         requires { IsMarked lists.now self.old }
         ensures ended { OnOk result (ToEnd lists.now (stage_of self.old) (stage_of self.new)) }
         ensures fault { IfErr result IsRefusal }
@@ -340,39 +340,5 @@ impl Play {
             self.core.told();
             self.round(alloc, lists, first)?;
         }
-    }
-
-    /// The events before rounds to the end.
-    fn before(&mut self, alloc: Global, script: &Script, schedule: Schedule) -> Result<(), RunFault>
-        requires { IsMarked script.now.lists self.old }
-        ensures events { OnOk result (Events script.now.lists (stage_of self.old) (seats_before schedule script.now.words (length script.now.lists)) (stage_of self.new)) }
-        ensures seats { OnOk result (IsMarked script.now.lists self.new) }
-        ensures fault { IfErr result IsRefusal }
-        ensures full { IsErrOf result RunFault.Full → Stops script.now.lists (stage_of self.old) (seats_before schedule script.now.words (length script.now.lists)) }
-    {
-        match schedule {
-            Schedule::Given => self.words(alloc, &script.lists, script.words.as_slice()),
-            Schedule::RoundRobin => Ok(()),
-            Schedule::Seeded(seed) => self.drawn(alloc, &script.lists, seed),
-        }
-    }
-
-    /// All events of a script by a schedule.
-    pub(crate) fn run(
-        &mut self,
-        alloc: Global,
-        script: &Script,
-        schedule: Schedule,
-    ) -> Result<(), RunFault>
-        requires { IsMarked script.now.lists self.old }
-        ensures run { OnOk result (RunsFrom schedule script.now (stage_of self.old) (stage_of self.new)) }
-        ensures fault { IfErr result IsRefusal }
-        ensures full { IsErrOf result RunFault.Full → StopsFrom schedule script.now (stage_of self.old) }
-    {
-        self.before(alloc, script, schedule)?;
-        if schedule.goes_on(script.words.as_slice()) {
-            self.finish(alloc, &script.lists)?;
-        }
-        Ok(())
     }
 }

@@ -1,14 +1,18 @@
 //! The text of a run.
 
-ghost use Rattle.std.specs.Prelude.{◌≡◌, ◌++◌, OnOk, IfOk, decimal};
+ghost use Rattle.std.specs.Prelude.{◌≡◌, ◌≢◌, ◌++◌, List, length, OnOk, IfOk, decimal};
+ghost use Rattle.std.specs.List.{AllByRecursion};
 ghost use Rattle.fs_nodes.specs.Stores.{graph_of};
 ghost use Rattle.fs_text.specs.Fits.{AllFit};
-ghost use Rattle.fs_text.specs.Journal.{journal_text};
+ghost use Rattle.fs_timeline.specs.declared.entry.Entry.{Entry};
+ghost use Rattle.fs_script.specs.Journals.{journal_text};
+ghost use Rattle.fs_script.specs.Laws.{FitsNode};
 ghost use Rattle.fs_sched.specs.RunTexts.{is_of, number_of, counts_line, IsRunText};
-ghost use Rattle.fs_sched.specs.code.Counts.{AreCounts};
+ghost use Rattle.fs_sched.specs.code.Counts.{AreCounts, AreCapped};
 
 use fs_nodes::Store;
-use fs_script::{write_entry, write_tree};
+use fs_script::{write_entry, write_opening, write_tree};
+use fs_seq::SeqTree;
 use fs_text::Addition;
 use fs_timeline::Entry;
 use std::alloc::{AllocError, Global};
@@ -55,6 +59,31 @@ pub(crate) struct Counts {
     pub(crate) returned: usize,
 }
 
+/// The counts of entries.
+pub(crate) fn counts_of(entries: &[Entry]) -> Counts
+    ensures exact { AreCounts result entries.now }
+    ensures capped { AreCapped result entries.now }
+{
+    Counts {
+        begun: number_of(EntryKind::Begin, entries),
+        committed: number_of(EntryKind::Commit, entries),
+        returned: number_of(EntryKind::Return, entries),
+    }
+}
+
+impl Counts {
+    /// With so many more, each up to the greatest number.
+    pub(crate) fn plus(self, more: Counts) -> Counts
+        ensures { (entries others : List Entry) → AreCapped self entries → AreCounts more others → AreCapped result (entries ++ others) }
+    {
+        Counts {
+            begun: self.begun.saturating_add(more.begun),
+            committed: self.committed.saturating_add(more.committed),
+            returned: self.returned.saturating_add(more.returned),
+        }
+    }
+}
+
 /// A text that tells entries, and how many of each kind they are.
 #[derive(Drop)]
 pub(crate) struct CountedText {
@@ -65,13 +94,19 @@ pub(crate) struct CountedText {
 /// For how many bytes an entry the text of a run has room before its first line, where there is memory for it.
 const LINE_ROOM: usize = 32;
 
-/// A journal's header line, and a line for each entry. The entries are counted on the way.
-fn journal_text(alloc: Global, entries: &[Entry]) -> Result<CountedText, AllocError>
-    ensures text { IfOk result (λ made. made.text.items ≡ journal_text entries.now) }
+/// A journal from a start tree: what stands before its entries, and a line for each. The entries are counted on the way.
+fn journal_text(
+    alloc: Global,
+    start: &SeqTree,
+    entries: &[Entry],
+) -> Result<CountedText, AllocError>
+    ensures text { IfOk result (λ made. made.text.items ≡ journal_text start.now entries.now) }
     ensures counts { IfOk result (λ made. AreCounts made.counts entries.now) }
     ensures fit { OnOk result (AllFit entries.now) }
+    ensures told { OnOk result (length start.now ≢ 1 → AllByRecursion FitsNode start.now) }
 {
-    let mut text = Vec::from_slice(alloc, b"atomfs-journal 1\n")?;
+    let mut text = Vec::new(alloc);
+    write_opening(alloc, start, &mut text)?;
     let _room = text.reserve(entries.len().saturating_mul(LINE_ROOM));
     let mut begun = 0;
     let mut committed = 0;
@@ -122,18 +157,21 @@ fn end_line(alloc: Global, counts: Counts) -> Result<Vec<u8>, AllocError>
     Ok(line.kept())
 }
 
-/// The text of a run that ended with these entries and nodes: its journal, the tree that the nodes spell, and a last
-/// line with the numbers of entries of each kind; and these numbers. The only error is out of memory.
+/// The text of a run whose last piece began at this tree and ended with these entries and nodes: its journal, the tree
+/// that the nodes spell, and a last line with the numbers of entries of each kind; and these numbers. The only error is out
+/// of memory.
 pub(crate) fn counted_text(
     alloc: Global,
+    start: &SeqTree,
     entries: &[Entry],
     store: &Store,
 ) -> Result<CountedText, AllocError>
-    ensures text { IfOk result (λ made. IsRunText entries.now (graph_of store.now) made.text.items) }
+    ensures text { IfOk result (λ made. IsRunText start.now entries.now (graph_of store.now) made.text.items) }
     ensures counts { IfOk result (λ made. AreCounts made.counts entries.now) }
     ensures fit { OnOk result (AllFit entries.now) }
+    ensures told { OnOk result (length start.now ≢ 1 → AllByRecursion FitsNode start.now) }
 {
-    let mut made = journal_text(alloc, entries)?;
+    let mut made = journal_text(alloc, start, entries)?;
     write_tree(alloc, store, &mut made.text)?;
     let line = end_line(alloc, made.counts)?;
     made.text.extend_from_slice(&line)?;

@@ -1,21 +1,21 @@
 //! The runner that runs a script.
 
-ghost use Rattle.std.specs.Prelude.{◌≡◌, ◌≢◌, ◌+◌, ◌-◌, ◌<◌, ◌^◌, ℕ, List, min, map, Ok, Err, IfOk, OnOk, OnErr, IfErr, IfSome, IsErrOf};
+ghost use Rattle.std.specs.Prelude.{◌≡◌, ◌≢◌, ◌+◌, ◌-◌, ◌<◌, ◌≤◌, ◌^◌, ℕ, List, min, map, Ok, Err, IfOk, OnOk, OnErr, IfErr, IfSome, IsErrOf};
 ghost use Rattle.std.specs.Io.KnownBytes.{Appends, IsAtEnd};
-ghost use Rattle.fs_calls.specs.Tree.{root_tree};
 ghost use Rattle.fs_timeline.specs.declared.entry.Entry.{Entry};
 ghost use Rattle.fs_words.specs.declared.fault.ScriptFault.{ScriptFault};
 ghost use Rattle.fs_script.specs.Script.{script_of};
-ghost use Rattle.fs_sched.specs.Devices.{IsFaultOf, IsFaultOrRefusal, WritesBeginning};
-ghost use Rattle.fs_sched.specs.Runs.{Runs, calls_in, end_of, IsOutput, IsRunOf, IsWhole, HasFinish, FillsUp, ReachesFull};
+ghost use Rattle.fs_script.specs.declared.limits.TheConstants.{CALL_LIMIT};
+ghost use Rattle.fs_sched.specs.Devices.{WritesBeginning};
+ghost use Rattle.fs_sched.specs.Runs.{calls_in, end_of, IsOutput, IsRunOf, IsFaultOfRun, IsWhole, HasFinish, ReachesStop};
 ghost use Rattle.fs_sched.specs.EachRun.{AreOfTheRun, RunsAreReadAgain, EachIsReadAgain};
 ghost use Rattle.fs_sched.specs.code.Counts.{AreCounts};
 ghost use Rattle.fs_sched.specs.code.Mades.{MakesRun};
-ghost use Rattle.fs_sched.specs.code.Stages.{stage_of, IsRefusal};
+ghost use Rattle.fs_sched.specs.code.Done.{IsRun, IsStop};
 
 use crate::fault::RunFault;
 use crate::input::script_in;
-use crate::play::Play;
+use crate::pieces::Pieces;
 use crate::run_texts::{Counts, counted_text};
 use crate::schedule::Schedule;
 use fs_calls::Call;
@@ -55,40 +55,42 @@ fn end_of(calls: usize, counts: Counts) -> RunEnd
     }
 }
 
-/// A run of a script, from its first event to its last.
-pub(crate) fn play(alloc: Global, script: &Script, schedule: Schedule) -> Result<Play, RunFault>
-    ensures runs { IfOk result (λ play. Runs schedule script.now (stage_of play)) }
-    ensures root { IfOk result (λ play. play.core.start ≡ root_tree) }
-    ensures fault { IfErr result IsRefusal }
-    ensures full { IsErrOf result RunFault.Full → FillsUp schedule script.now }
+/// A run of a script that was read, from its first event to its last.
+pub(crate) fn play(alloc: Global, script: &Script, schedule: Schedule) -> Result<Pieces, RunFault>
+    requires few { calls_in script.now.lists ≤ CALL_LIMIT }
+    ensures runs { IfOk result (IsRun schedule script.now) }
+    ensures fault { IfErr result (IsStop schedule script.now) }
 {
-    let Ok(mut play) = Play::new(alloc, script.lists.as_slice().len()) else {
+    let Ok(mut run) = Pieces::new(alloc, script.lists.as_slice().len()) else {
         return Err(RunFault::OutOfMemory);
     };
-    play.core.make_room(count_calls(script.lists.as_slice()));
-    match play.run(alloc, script, schedule) {
-        Ok(()) => Ok(play),
+    run.play
+        .core
+        .make_room(count_calls(script.lists.as_slice()));
+    match run.run(alloc, script, schedule) {
+        Ok(()) => Ok(run),
         Err(fault) => Err(fault),
     }
 }
 
 /// The text of a run of a script, and how it ended. The script is let go before the text is made.
 fn make_text(alloc: Global, script: Script, schedule: Schedule) -> Result<Made<RunEnd>, RunFault>
+    requires few { calls_in script.lists ≤ CALL_LIMIT }
     ensures output { IfOk result (λ made. IsOutput schedule script made.end made.text.items) }
     ensures again { OnOk result (RunsAreReadAgain schedule script) }
-    ensures fault { IfErr result IsRefusal }
-    ensures full { IsErrOf result RunFault.Full → FillsUp schedule script }
+    ensures fault { IfErr result (IsStop schedule script) }
 {
-    let play = match play(alloc, &script, schedule) {
-        Ok(play) => play,
+    let run = match play(alloc, &script, schedule) {
+        Ok(run) => run,
         Err(fault) => return Err(fault),
     };
     let calls = count_calls(script.lists.as_slice());
     drop(script);
-    match counted_text(alloc, play.core.timeline(), play.core.store()) {
+    let core = &run.play.core;
+    match counted_text(alloc, core.start(), core.timeline(), core.store()) {
         Ok(made) => Ok(Made {
             text: made.text,
-            end: end_of(calls, made.counts),
+            end: end_of(calls, run.told.plus(made.counts)),
         }),
         Err(_) => Err(RunFault::OutOfMemory),
     }
@@ -111,7 +113,7 @@ fn text_of_script(
 /// handed out as it was made, without its spare room.
 pub fn run_bytes(alloc: Global, script: &[u8], schedule: Schedule) -> Result<Vec<u8>, RunFault>
     ensures ran { IfOk result (λ text. (end : RunEnd) × AreOfTheRun schedule script.now end text.items) }
-    ensures fault { IfErr result (IsFaultOf (script_of script.now)) }
+    ensures fault { IfErr result (IsFaultOfRun schedule script.now) }
 {
     let read = script_in(alloc, script)?;
     match make_text(alloc, read, schedule) {
@@ -125,7 +127,8 @@ pub fn run_bytes(alloc: Global, script: &[u8], schedule: Schedule) -> Result<Vec
 }
 
 /// Reads a script to its end, runs it by a schedule, and writes the text of the run, which is made before its first
-/// byte is written. The answer says how many calls began, took their place and returned.
+/// byte is written. The answer says how many calls began, took their place and returned, in all pieces of the run; the text
+/// is that of the last piece.
 pub fn run_script<R: Source, W: Sink>(
     alloc: Global,
     reader: &mut R,
@@ -141,7 +144,10 @@ pub fn run_script<R: Source, W: Sink>(
     ensures input { (f : ScriptFault) → result ≡ Err (RunFault.Input f) → IfSome (R.remaining reader.old) (λ input. script_of input ≡ Err f) }
     ensures full { result ≢ Err RunFault.Full }
 
-    // Cut before its tree, the text is read again as the entries of the run, where it keeps the limit of texts.
+    // `UnderWay` comes where the script comes to a checkpoint while calls are under way; then it has no run.
+    ensures under_way { (call : ℕ) → result ≡ Err (RunFault.UnderWay call) → IfSome (R.remaining reader.old) (λ input. ReachesStop schedule input (RunFault.UnderWay call)) }
+
+    // Cut before its tree, a text within the limit of texts is read again as the start tree and the entries of its piece.
     ensures again { OnOk result (IfSome (R.remaining reader.old) (EachIsReadAgain schedule)) }
 
     // Where rounds to the end follow, each call of the script began, took its place and returned.

@@ -2,16 +2,19 @@
 
 ghost use Rattle.std.specs.Prelude.{◌≡◌, ◌≢◌, ◌+◌, ◌-◌, ◌<◌, ◌≤◌, ◌^◌, ◌++◌, [], ℕ, List, true, Ok, Err, IfOk, OnOk, OnErr, IfErr, IfSome, IsErrOf};
 ghost use Rattle.std.specs.Io.KnownBytes.{Appends, IsAtEnd};
+ghost use Rattle.fs_calls.specs.Tree.{root_tree};
 ghost use Rattle.fs_words.specs.declared.fault.ScriptFault.{ScriptFault};
 ghost use Rattle.fs_script.specs.Script.{script_of};
-ghost use Rattle.fs_sched.specs.Devices.{IsFaultOrRefusal, WritesBeginning};
-ghost use Rattle.fs_sched.specs.Runs.{FillsUp};
-ghost use Rattle.fs_sched.specs.Seeds.{seed_line, lawful_line, IsLawfulFrom, AreLawful, AreRunsOf, OneFillsUp, OneReachesFull};
+ghost use Rattle.fs_script.specs.declared.limits.TheConstants.{CALL_LIMIT};
+ghost use Rattle.fs_sched.specs.Devices.{WritesBeginning};
+ghost use Rattle.fs_sched.specs.Runs.{Runs, calls_in};
+ghost use Rattle.fs_sched.specs.Seeds.{seed_line, lawful_line, IsLawfulFrom, AreLawful, AreRunsOf};
 ghost use Rattle.fs_sched.specs.code.Mades.{MakesRuns};
-ghost use Rattle.fs_sched.specs.code.Stages.{IsRefusal};
+ghost use Rattle.fs_sched.specs.code.Stages.{stage_of};
 
 use crate::fault::RunFault;
 use crate::input::script_in;
+use crate::play::Play;
 use crate::running::play;
 use crate::schedule::Schedule;
 use crate::verdict_line::{is_lawful, push_verdict};
@@ -38,6 +41,19 @@ fn push_line(seed: u64, verdict: &Verdict, lines: &mut Addition) -> Result<(), A
     push_verdict(verdict, lines)
 }
 
+/// The run of a script that is drawn from a number: it is one piece, from the root alone. The only error is out of memory.
+fn drawn(alloc: Global, script: &Script, seed: u64) -> Result<Play, RunFault>
+    requires few { calls_in script.now.lists ≤ CALL_LIMIT }
+    ensures runs { IfOk result (λ play. Runs (Schedule.Seeded seed) script.now [] (stage_of play)) }
+    ensures root { IfOk result (λ play. play.core.start ≡ root_tree) }
+    ensures fault { IfErr result (λ fault. fault ≡ RunFault.OutOfMemory) }
+{
+    match play(alloc, script, Schedule::Seeded(seed)) {
+        Ok(run) => Ok(run.play),
+        Err(fault) => Err(fault),
+    }
+}
+
 /// Adds the line of the run that is drawn from a number, and answers whether it is lawful.
 fn push_run(
     alloc: Global,
@@ -45,14 +61,14 @@ fn push_run(
     seed: u64,
     lines: &mut Addition,
 ) -> Result<bool, RunFault>
+    requires few { calls_in script.now.lists ≤ CALL_LIMIT }
     ensures run { OnOk result (IsLawfulFrom script.now seed) }
     ensures line { OnOk result (lines.new.added ≡ lines.old.added ++ lawful_line seed) }
     ensures lawful { IfOk result (λ lawful. lawful ≡ true) }
     ensures before { lines.new.before ≡ lines.old.before }
-    ensures fault { IfErr result IsRefusal }
-    ensures full { IsErrOf result RunFault.Full → FillsUp (Schedule.Seeded seed) script.now }
+    ensures fault { IfErr result (λ fault. fault ≡ RunFault.OutOfMemory) }
 {
-    let play = match play(alloc, script, Schedule::Seeded(seed)) {
+    let play = match drawn(alloc, script, seed) {
         Ok(play) => play,
         Err(fault) => return Err(fault),
     };
@@ -68,12 +84,12 @@ fn push_run(
 
 /// The lines of so many runs, drawn from a number, the next one, and so on, and whether each says that its run is lawful.
 fn make_lines(alloc: Global, script: &Script, seed: u64, runs: u64) -> Result<Made<bool>, RunFault>
+    requires few { calls_in script.now.lists ≤ CALL_LIMIT }
     requires seed { seed ≤ SEED_LIMIT }
     requires runs { runs ≤ RUN_LIMIT }
     ensures ok { IfOk result (λ made. AreLawful script.now seed runs made.text.items) }
     ensures lawful { IfOk result (λ made. made.end ≡ true) }
-    ensures fault { IfErr result IsRefusal }
-    ensures full { IsErrOf result RunFault.Full → OneFillsUp script.now seed runs }
+    ensures fault { IfErr result (λ fault. fault ≡ RunFault.OutOfMemory) }
 {
     let mut lines = Addition::new(Vec::new(alloc));
     let mut lawful = true;
@@ -127,6 +143,7 @@ pub fn run_seeds<R: Source, W: Sink>(
     ensures end { OnOk result (IsAtEnd (R.remaining reader.new)) }
     ensures input { (f : ScriptFault) → result ≡ Err (RunFault.Input f) → IfSome (R.remaining reader.old) (λ input. script_of input ≡ Err f) }
     ensures full { result ≢ Err RunFault.Full }
+    ensures under_way { (call : ℕ) → result ≢ Err (RunFault.UnderWay call) }
 
     // A device is blamed only where it failed in this call.
     ensures read { IsErrOf result RunFault.Read → R.failures reader.new ≡ R.failures reader.old + 1 }

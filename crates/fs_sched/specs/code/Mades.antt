@@ -1,15 +1,14 @@
 -- What is made of the text of an input, before it is written.
-use Rattle.std.specs.Prelude.{◌≡◌, ℕ, Bool, List, true, Result, Ok, IfOk, OnOk, IfErr, IsErrOf}
+use Rattle.std.specs.Prelude.{◌≡◌, ℕ, Bool, List, true, Result, Ok, IfOk, OnOk, IfErr}
 use Rattle.fs_timeline.specs.declared.verdict.Verdict.{Verdict}
 use Rattle.fs_io.specs.declared.shell.Made.{Made}
 use Rattle.fs_script.specs.Script.{script_of}
 use Rattle.fs_sched.specs.Checks.{is_lawful, verdict_line, verdict_of}
-use Rattle.fs_sched.specs.Devices.{IsFaultOf, IsFaultOrRefusal}
+use Rattle.fs_sched.specs.Devices.{IsFaultOf}
 use Rattle.fs_sched.specs.EachRun.{EachIsReadAgain}
-use Rattle.fs_sched.specs.Runs.{IsRunOf, ReachesFull}
-use Rattle.fs_sched.specs.Seeds.{AreRunsOf, OneReachesFull}
+use Rattle.fs_sched.specs.Runs.{IsRunOf, IsFaultOfRun}
+use Rattle.fs_sched.specs.Seeds.{AreRunsOf}
 use Rattle.fs_sched.specs.declared.fault.RunFault.{RunFault}
-use Rattle.fs_sched.specs.declared.fault.RunFault.TheVariants.{Full}
 use Rattle.fs_sched.specs.declared.running.RunEnd.{RunEnd}
 use Rattle.fs_sched.specs.declared.schedule.Schedule.{Schedule}
 
@@ -17,15 +16,13 @@ use Rattle.fs_sched.specs.declared.schedule.Schedule.{Schedule}
 pub record MakesRun (schedule : Schedule) (input : List ℕ) (result : Result (Made RunEnd) RunFault) : Type 0 where
   pub output : IfOk result (λ made. IsRunOf schedule input made.end made.text.items)
   pub again : OnOk result (EachIsReadAgain schedule input)
-  pub fault : IfErr result (IsFaultOrRefusal (script_of input))
-  pub full : IsErrOf result Full → ReachesFull schedule input
+  pub fault : IfErr result (IsFaultOfRun schedule input)
 
 -- the lines of drawn runs, each of which is lawful; or why there are none
 pub record MakesRuns (seed : ℕ) (runs : ℕ) (input : List ℕ) (result : Result (Made Bool) RunFault) : Type 0 where
   pub ok : IfOk result (λ made. AreRunsOf seed runs input made.text.items)
   pub lawful : IfOk result (λ made. made.end ≡ true)
-  pub fault : IfErr result (IsFaultOrRefusal (script_of input))
-  pub full : IsErrOf result Full → OneReachesFull seed runs input
+  pub fault : IfErr result (IsFaultOf (script_of input))
 
 -- the line of a verdict, and whether that is lawful
 pub record IsJudged (v : Verdict) (made : Made Bool) : Type 0 where

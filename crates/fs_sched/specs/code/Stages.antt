@@ -2,10 +2,12 @@
 use Rattle.std.specs.Prelude.{ℕ, ◌≡◌, ◌<◌, true, false, List, length, get_or}
 use Rattle.fs_calls.specs.declared.call.Call.{Call}
 use Rattle.fs_core.specs.CoreValues.{state_of}
+use Rattle.fs_core.specs.declared.checkpoint.NoCheckpoint.{NoCheckpoint}
+use Rattle.fs_core.specs.declared.checkpoint.NoCheckpoint.TheVariants as why
 use Rattle.fs_sched.specs.Runs.{Stage, has_more}
 use Rattle.fs_sched.specs.declared.play.Play.{Play}
 use Rattle.fs_sched.specs.declared.fault.RunFault.{RunFault}
-use Rattle.fs_sched.specs.declared.fault.RunFault.TheVariants.{Input, Read, Write, OutOfMemory, Full}
+use Rattle.fs_sched.specs.declared.fault.RunFault.TheVariants.{Input, Read, Write, OutOfMemory, Full, UnderWay}
 
 -- the core's state, and how many calls of each thread have begun
 abbrev pub stage_of : Play → Stage
@@ -33,3 +35,15 @@ IsRefusal Read = ⊥
 IsRefusal Write = ⊥
 IsRefusal OutOfMemory = Unit {0}
 IsRefusal Full = Unit {0}
+IsRefusal (UnderWay c) = ⊥
+
+-- out of memory, or what stops a run
+abbrev pub IsWhy : (RunFault → Type 0) → RunFault → Type 0
+IsWhy stops Full = stops Full
+IsWhy stops (UnderWay c) = stops (UnderWay c)
+IsWhy stops f = IsRefusal f
+
+-- what a checkpoint's refusal gives
+abbrev pub fault_of_checkpoint : NoCheckpoint → RunFault
+fault_of_checkpoint (why.UnderWay c) = UnderWay c
+fault_of_checkpoint why.OutOfMemory = OutOfMemory

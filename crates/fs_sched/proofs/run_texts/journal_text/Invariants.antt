@@ -1,7 +1,8 @@
-use Rattle.std.proofs.Common.{◌≡◌, ◌++◌, ◌∷◌, take}
+use Rattle.std.proofs.Common.{◌≡◌, ◌++◌, take}
 use Rattle.std.specs.List.{flat_map}
 use Rattle.fs_text.specs.Fits.{AllFit}
-use Rattle.fs_text.specs.Journal.{entry_line, journal_header}
+use Rattle.fs_text.specs.Journal.{entry_line}
+use Rattle.fs_script.specs.Journals.{opening}
 use Rattle.fs_sched.specs.RunTexts.{number_of}
 use Rattle.fs_sched.specs.declared.run_texts.EntryKind.TheVariants as kind
 use Rattle.fs_sched.proofs.run_texts.journal_text.Given as goal
@@ -10,7 +11,7 @@ use Rattle.fs_sched.proofs.run_texts.journal_text.Given as goal
 abbrev pub invariant-loop-entry : goal.invariant-loop-entry
 invariant-loop-entry l = record {
   fit : AllFit (take l.entry-index l.entries);
-  text : l.text.items ≡ journal_header ++ 10 ∷ flat_map entry_line (take l.entry-index l.entries);
+  text : l.text.items ≡ opening l.start ++ flat_map entry_line (take l.entry-index l.entries);
   begun : l.begun ≡ number_of kind.Begin (take l.entry-index l.entries);
   committed : l.committed ≡ number_of kind.Commit (take l.entry-index l.entries);
   returned : l.returned ≡ number_of kind.Return (take l.entry-index l.entries);

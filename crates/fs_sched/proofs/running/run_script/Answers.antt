@@ -1,14 +1,12 @@
 use Rattle.std.proofs.Common.{refl, sym, subst, Err, ap, ◌≡◌, ◌≢◌, ◌<◌, ◌^◌, arith}
 use Rattle.fs_io.specs.declared.failure.Failure.TheVariants as failure
-use Rattle.fs_script.specs.Script.{script_of}
-use Rattle.fs_sched.specs.Devices.{IsFaultOrRefusal}
-use Rattle.fs_sched.specs.Runs.{IsRunOf}
+use Rattle.fs_sched.specs.Runs.{IsRunOf, IsFaultOfRun}
 use Rattle.fs_sched.specs.declared.fault.RunFault.{RunFault}
-use Rattle.fs_sched.specs.declared.fault.RunFault.TheVariants.{Input, Write, Full}
-use Rattle.fs_sched.proofs.Between.{of_input, of_full, of_write}
+use Rattle.fs_sched.specs.declared.fault.RunFault.TheVariants.{Input, Write, Full, UnderWay}
+use Rattle.fs_sched.proofs.Between.{of_input, of_full, of_under_way, of_write}
 use Rattle.fs_sched.proofs.RunLemmas.{script_short, known_script, known_run}
 use Rattle.fs_sched.proofs.OneText.{known_each, known_again}
-use Rattle.fs_sched.proofs.Filling.{never_full}
+use Rattle.fs_sched.proofs.Reasons.{known_stop}
 use Rattle.fs_sched.proofs.Whole.{whole_always, known_whole}
 use Rattle.fs_sched.proofs.running.run_script.Goals as goal
 
@@ -48,13 +46,19 @@ pub returns-in_err-end-clause-full : goal.returns-in_err-end-clause-full
 returns-in_err-end-clause-full g c e =
     let gives = rw e at c.from_residual.ensures in
     let told = c.in_err-end.ensures.unmade Full (ap Err (of_full c.in_err-end.field-0.0 gives.1)) in
-    never_full c.args.schedule _ (told.2.1.full refl)
+    absurd told.2.1.fault
+
+pub returns-in_err-end-clause-under_way : goal.returns-in_err-end-clause-under_way
+returns-in_err-end-clause-under_way g c call e =
+    let gives = rw e at c.from_residual.ensures in
+    let told = c.in_err-end.ensures.unmade (UnderWay call) (ap Err (of_under_way c.in_err-end.field-0.0 call gives.1)) in
+    known_stop _ _ _ c.args.schedule (UnderWay call) refl told.1 told.2.1.fault
 
 pub returns-in_err-end-clause-beginning : goal.returns-in_err-end-clause-beginning
 returns-in_err-end-clause-beginning g c e =
     let gives = rw e at c.from_residual.ensures in
     let never : (f : RunFault) → c.in_err-end.field-0.0 ≡ failure.Unmade f → f ≢ Write = λ f is same.
     let told = c.in_err-end.ensures.unmade f (ap Err is) in
-    subst (IsFaultOrRefusal (script_of told.0.items)) same told.2.1.fault in
+    subst (IsFaultOfRun c.args.schedule told.0.items) same told.2.1.fault in
     let told = c.in_err-end.ensures.beginning (ap Err (of_write c.in_err-end.field-0.0 never gives.1)) in
     (told.1.end, told.1.text.items, known_each _ _ _ c.args.schedule (known_run _ _ _ _ _ _ refl told.2 told.3.1.output), told.4)

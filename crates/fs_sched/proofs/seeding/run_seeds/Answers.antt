@@ -1,13 +1,12 @@
 use Rattle.std.proofs.Common.{refl, subst, Err, ap, ◌≡◌, ◌≢◌, ◌∙◌}
 use Rattle.fs_io.specs.declared.failure.Failure.TheVariants as failure
 use Rattle.fs_script.specs.Script.{script_of}
-use Rattle.fs_sched.specs.Devices.{IsFaultOrRefusal}
+use Rattle.fs_sched.specs.Devices.{IsFaultOf}
 use Rattle.fs_sched.specs.declared.fault.RunFault.{RunFault}
-use Rattle.fs_sched.specs.declared.fault.RunFault.TheVariants.{Input, Write, Full}
-use Rattle.fs_sched.proofs.Between.{of_input, of_full, of_write}
+use Rattle.fs_sched.specs.declared.fault.RunFault.TheVariants.{Input, Write, Full, UnderWay}
+use Rattle.fs_sched.proofs.Between.{of_input, of_full, of_under_way, of_write}
 use Rattle.fs_sched.proofs.RunLemmas.{script_short, known_script}
 use Rattle.fs_sched.proofs.SeedLemmas.{known_runs}
-use Rattle.fs_sched.proofs.Filling.{never_full_seeds}
 use Rattle.fs_sched.proofs.seeding.run_seeds.Goals as goal
 
 pub returns-clause-ran : goal.returns-clause-ran
@@ -31,13 +30,19 @@ pub returns-in_err-lawful-clause-full : goal.returns-in_err-lawful-clause-full
 returns-in_err-lawful-clause-full g c e =
     let gives = rw e at c.from_residual.ensures in
     let told = c.in_err-lawful.ensures.unmade Full (ap Err (of_full c.in_err-lawful.field-0.0 gives.1)) in
-    never_full_seeds c.args.seed c.args.runs _ (told.2.1.full refl)
+    absurd told.2.1.fault
+
+pub returns-in_err-lawful-clause-under_way : goal.returns-in_err-lawful-clause-under_way
+returns-in_err-lawful-clause-under_way g c call e =
+    let gives = rw e at c.from_residual.ensures in
+    let told = c.in_err-lawful.ensures.unmade (UnderWay call) (ap Err (of_under_way c.in_err-lawful.field-0.0 call gives.1)) in
+    absurd told.2.1.fault
 
 pub returns-in_err-lawful-clause-beginning : goal.returns-in_err-lawful-clause-beginning
 returns-in_err-lawful-clause-beginning g c e =
     let gives = rw e at c.from_residual.ensures in
     let never : (f : RunFault) → c.in_err-lawful.field-0.0 ≡ failure.Unmade f → f ≢ Write = λ f is same.
     let told = c.in_err-lawful.ensures.unmade f (ap Err is) in
-    subst (IsFaultOrRefusal (script_of told.0.items)) same told.2.1.fault in
+    subst (IsFaultOf (script_of told.0.items)) same told.2.1.fault in
     let told = c.in_err-lawful.ensures.beginning (ap Err (of_write c.in_err-lawful.field-0.0 never gives.1)) in
     (told.1.text.items, known_runs _ _ _ _ _ _ refl told.2 told.3.1.ok, told.4)

@@ -1,0 +1,12 @@
+use Rattle.std.proofs.Common.{take}
+use Rattle.fs_sched.specs.Runs.{Words}
+use Rattle.fs_sched.specs.code.Done.{HasDone}
+use Rattle.fs_sched.specs.code.Stages.{stage_of, IsMarked}
+use Rattle.fs_sched.proofs.pieces.Pieces.words.Given as goal
+
+-- the words so far were done
+abbrev pub invariant-loop-word : goal.invariant-loop-word
+invariant-loop-word l = record {
+  seats : IsMarked l.lists l.self.play;
+  done : HasDone (Words l.lists (stage_of l.fn.self.play) (take l.word-index l.words)) l.fn.self l.self;
+}

@@ -1,0 +1,29 @@
+-- What a run did, and how many entries the pieces had that ended on the way.
+use Rattle.std.specs.Prelude.{List, ◌++◌}
+use Rattle.fs_script.specs.declared.script.Script.{Script}
+use Rattle.fs_timeline.specs.declared.entry.Entry.{Entry}
+use Rattle.fs_sched.specs.Runs.{Stage, Runs, StopsBy}
+use Rattle.fs_sched.specs.code.Counts.{AreCapped}
+use Rattle.fs_sched.specs.code.Stages.{stage_of}
+use Rattle.fs_sched.specs.declared.fault.RunFault.{RunFault}
+use Rattle.fs_sched.specs.declared.fault.RunFault.TheVariants.{OutOfMemory, UnderWay}
+use Rattle.fs_sched.specs.declared.pieces.Pieces.{Pieces}
+use Rattle.fs_sched.specs.declared.schedule.Schedule.{Schedule}
+
+-- it came to where it stands with these entries told, and they are counted
+pub record HasDone (did : List Entry → Stage → Type 0) (old new : Pieces) : Type 0 where
+  pub told : List Entry
+  pub came : did told (stage_of new.play)
+  pub counted : (before : List Entry) → AreCapped old.told before → AreCapped new.told (before ++ told)
+
+-- a run of a script, with the entries of the pieces before its last one counted
+pub record IsRun (schedule : Schedule) (script : Script) (run : Pieces) : Type 0 where
+  pub told : List Entry
+  pub runs : Runs schedule script told (stage_of run.play)
+  pub counted : AreCapped run.told told
+
+-- why there is no run: out of memory, or a checkpoint while calls are under way
+abbrev pub IsStop : Schedule → Script → RunFault → Type 0
+IsStop schedule script OutOfMemory = Unit {0}
+IsStop schedule script (UnderWay c) = StopsBy schedule script (UnderWay c)
+IsStop schedule script f = ⊥

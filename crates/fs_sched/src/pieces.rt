@@ -1,0 +1,101 @@
+//! A script's run, word by word: a checkpoint ends a piece of it, and begins the next.
+
+ghost use Rattle.std.specs.Prelude.{◌≡◌, ℕ, [], List, IfOk, OnOk, IfErr, length};
+ghost use Rattle.fs_calls.specs.declared.call.Call.{Call};
+ghost use Rattle.fs_sched.specs.Runs.{start, Does, Words, RunsFrom, StopsAt, StopsInWords, StopsFrom};
+ghost use Rattle.fs_sched.specs.Schedules.{words_by};
+ghost use Rattle.fs_sched.specs.code.Counts.{AreCapped};
+ghost use Rattle.fs_sched.specs.code.Stages.{stage_of, IsMarked, IsWhy};
+ghost use Rattle.fs_sched.specs.code.Done.{HasDone};
+
+use crate::fault::RunFault;
+use crate::play::Play;
+use crate::run_texts::{Counts, counts_of};
+use crate::schedule::Schedule;
+use fs_script::{CallLists, Script, Word};
+use std::alloc::{AllocError, Global};
+
+/// A run in its last piece, and how many entries the pieces before had.
+#[derive(Drop)]
+pub(crate) struct Pieces {
+    pub(crate) play: Play,
+    pub(crate) told: Counts,
+}
+
+impl Pieces {
+    /// Before the first event of so many threads.
+    pub(crate) fn new(alloc: Global, threads: usize) -> Result<Pieces, AllocError>
+        ensures start { IfOk result (λ run. stage_of run.play ≡ start threads) }
+        ensures told { IfOk result (λ run. AreCapped run.told []) }
+        ensures seats { (lists : List (List Call)) → length lists ≡ threads → IfOk result (λ run. IsMarked lists run.play) }
+    {
+        let play = Play::new(alloc, threads)?;
+        let told = counts_of(&[]);
+        Ok(Pieces { play, told })
+    }
+
+    /// What a word does.
+    fn word(&mut self, alloc: Global, lists: &CallLists, word: Word) -> Result<(), RunFault>
+        requires { IsMarked lists.now self.old.play }
+        ensures done { OnOk result (HasDone (Does lists.now (stage_of self.old.play) word) self.old self.new) }
+        ensures seats { OnOk result (IsMarked lists.now self.new.play) }
+        ensures why { IfErr result (IsWhy (StopsAt lists.now (stage_of self.old.play) word)) }
+    {
+        match word {
+            Word::Events(seat, times) => self.play.events(alloc, lists, seat, times),
+            Word::Checkpoint => match self.play.begin_again(alloc) {
+                Ok(entries) => {
+                    self.told = self.told.plus(counts_of(&entries));
+                    Ok(())
+                }
+                Err(fault) => Err(fault),
+            },
+            Word::Finish => Ok(()),
+        }
+    }
+
+    /// What words do, from left to right.
+    fn words(&mut self, alloc: Global, lists: &CallLists, words: &[Word]) -> Result<(), RunFault>
+        requires { IsMarked lists.now self.old.play }
+        ensures done { OnOk result (HasDone (Words lists.now (stage_of self.old.play) words.now) self.old self.new) }
+        ensures seats { OnOk result (IsMarked lists.now self.new.play) }
+        ensures why { IfErr result (IsWhy (StopsInWords lists.now (stage_of self.old.play) words.now)) }
+    {
+        for word in words {
+            self.word(alloc, lists, *word)?;
+        }
+        Ok(())
+    }
+
+    /// The events before rounds to the end.
+    fn before(&mut self, alloc: Global, script: &Script, schedule: Schedule) -> Result<(), RunFault>
+        requires { IsMarked script.now.lists self.old.play }
+        ensures done { OnOk result (HasDone (Words script.now.lists (stage_of self.old.play) (words_by schedule script.now.words (length script.now.lists))) self.old self.new) }
+        ensures seats { OnOk result (IsMarked script.now.lists self.new.play) }
+        ensures why { IfErr result (IsWhy (StopsInWords script.now.lists (stage_of self.old.play) (words_by schedule script.now.words (length script.now.lists)))) }
+    {
+        match schedule {
+            Schedule::Given => self.words(alloc, &script.lists, script.words.as_slice()),
+            Schedule::RoundRobin => Ok(()),
+            Schedule::Seeded(seed) => self.play.drawn(alloc, &script.lists, seed),
+        }
+    }
+
+    /// All events of a script by a schedule.
+    pub(crate) fn run(
+        &mut self,
+        alloc: Global,
+        script: &Script,
+        schedule: Schedule,
+    ) -> Result<(), RunFault>
+        requires { IsMarked script.now.lists self.old.play }
+        ensures run { OnOk result (HasDone (RunsFrom schedule script.now (stage_of self.old.play)) self.old self.new) }
+        ensures why { IfErr result (IsWhy (StopsFrom schedule script.now (stage_of self.old.play))) }
+    {
+        self.before(alloc, script, schedule)?;
+        if schedule.goes_on(script.words.as_slice()) {
+            self.play.finish(alloc, &script.lists)?;
+        }
+        Ok(())
+    }
+}
