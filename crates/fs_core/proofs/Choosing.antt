@@ -17,6 +17,7 @@ use Rattle.fs_core.specs.declared.seat.Running.{Running}
 use Rattle.fs_core.specs.code.Helping.{Helps}
 use Rattle.fs_core.specs.CoreValues.{CoreValue, state_of, number_on, records}
 use Rattle.fs_core.specs.code.Rooms.{AreBelow, IsKept}
+use Rattle.fs_core.specs.code.Orders.{AreListed}
 use Rattle.fs_core.specs.code.Searches.{position_of, position_on, IsUnder, IsUnderMoved, IsAlone, IsLowestOn, HasLeast, IsRooted, CanSearch}
 use Rattle.fs_core.proofs.Below.{key_within}
 use Rattle.fs_core.proofs.SeatLemmas.{number_read, Comes, record_comes}
@@ -193,10 +194,11 @@ standing m seat n run e =
     )
 
 -- what a search needs
-pub can_search : (m : CoreValue) (b k p : ℕ) → IsKept m b k p → CanSearch m.store m.holding m.seats
-can_search m b k p kept = record {
+pub can_search : (m : CoreValue) (b k p : ℕ) (listed : List ℕ) → IsKept m b k p → AreListed m.seats listed → CanSearch m.store m.holding m.seats listed
+can_search m b k p listed kept all = record {
   graph = (run_keeps (state_of m) kept.run).is_graph;
   within = kept.roomy;
+  all = all;
   rooted = λ seat n e. (standing m seat n kept.run e).2;
   held = λ seat n e. ap is_some (standing m seat n kept.run e).3;
   apart = apart;
@@ -239,8 +241,8 @@ helps_by m b k p moved kept None h = none_by m moved kept.run kept.roomy h
 helps_by m b k p moved kept (Some seat) h = chosen_by m moved seat kept.run h
 
 -- the same of a list that the seats are
-pub search_by : (m : CoreValue) (b k p : ℕ) (seats : List (Option Running)) → IsKept m b k p → seats ≡ m.seats → CanSearch m.store m.holding seats
-search_by m b k p seats kept e = subst (λ (xs : List (Option Running)). CanSearch m.store m.holding xs) (sym e) (can_search m b k p kept)
+pub search_by : (m : CoreValue) (b k p : ℕ) (seats : List (Option Running)) (listed : List ℕ) → IsKept m b k p → AreListed m.seats listed → seats ≡ m.seats → CanSearch m.store m.holding seats listed
+search_by m b k p seats listed kept all e = subst (λ (xs : List (Option Running)). CanSearch m.store m.holding xs listed) (sym e) (can_search m b k p listed kept all)
 
 pub chosen_if : (m : CoreValue) (b k p : ℕ) (seats : List (Option Running)) → IsKept m b k p → seats ≡ m.seats → (moved : Moved) (o : Option ℕ) → HasLeast (child m.store) seats moved (length seats) o → MatchOption o (NoneBelow (state_of m) moved) (λ other. Helps m moved other)
 chosen_if m b k p seats kept e moved o h = helps_by m b k p moved kept o (subst (λ (xs : List (Option Running)). HasLeast (child m.store) xs moved (length xs) o) e h)

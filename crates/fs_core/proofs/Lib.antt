@@ -3,6 +3,7 @@ pub mod WorkLemmas
 pub mod States
 pub mod Steps
 pub mod Below
+pub mod Among
 pub mod Searching
 pub mod Ways
 pub mod Choosing
@@ -14,3 +15,4 @@ pub mod Indexing
 pub mod Resting
 pub mod Starting
 pub mod Again
+pub mod Told

@@ -14,7 +14,8 @@ use Rattle.fs_laws.proofs.graphs.Walks.{eqb_true, at_from}
 use Rattle.fs_locks.specs.Holding.{Holding}
 use Rattle.fs_core.specs.declared.seat.Running.{Running}
 use Rattle.fs_core.specs.declared.helping.Way.{Way}
-use Rattle.fs_core.specs.code.Searches.{position_of, position_on, MeetsIf, IsAbove, IsBelowMoved, IsNearest, IsNearestIf, IsWay, AreWays, IsMet, IsUnmet, IsUnder, IsUnderMoved, IsAlone, IsLowestOn, CanSearch}
+use Rattle.fs_core.specs.code.Orders.{IsListed, AreListed}
+use Rattle.fs_core.specs.code.Searches.{position_of, position_on, StandsIf, MeetsIf, IsAbove, IsBelowMoved, IsNearest, IsNearestIf, IsWay, AreWays, IsMet, IsUnmet, IsUnder, IsUnderMoved, IsAlone, IsLowestOn, CanSearch}
 use Rattle.fs_core.proofs.Below.{deep_up, reaches_parent, top_alone}
 
 -- the walking call at a position
@@ -146,6 +147,21 @@ shorter graph is key front position n e f apart (x ∷ v, g) =
     let m : length (x ∷ v) ≡ length v + 1 = omega arith in
     omega (arith, l, m)
 
+-- the seat of a walking call is listed
+listed_on : (seats : List (Option Running)) (listed : List ℕ) (seat n : ℕ) → AreListed seats listed → position_on seats seat ≡ Some n → IsListed listed seat
+listed_on seats listed seat n all e = let w : (r : Running) × (slice_get seats seat ≡ Some (Some r)) × (position_of (Some r) ≡ Some n) = walks_on seats seat n e in all.each seat w.0 w.1
+
+-- where no listed seat has a walking call at a node, none has
+pub none_at : (seats : List (Option Running)) (listed : List ℕ) (node seat n : ℕ) → AreListed seats listed → n ≡ length listed → ((k : ℕ) → k < n → (seat ≡ get_or listed k 0 → ⊥) → position_on seats (get_or listed k 0) ≡ Some node → ⊥) → StandsIf seats node seat None
+none_at seats listed node seat n all same h j differs e = go (listed_on seats listed j node all e)
+  where
+    go : IsListed listed j → ⊥
+    go (k, inside, at) = h k (omega (arith, inside, same)) (λ z. differs (z ∙ at)) (ap (position_on seats) at ∙ e)
+
+-- the way of a listed seat
+way_is : (children : Children) (seats : List (Option Running)) (moved : Moved) (listed : List ℕ) (ways : List Way) (seat : ℕ) (way : Way) → AreWays children seats moved listed (length listed) ways → IsListed listed seat → slice_get ways seat ≡ Some way → IsWay children seats moved seat way
+way_is children seats moved listed ways seat way ways_are (k, inside, at) on = subst (λ (j : ℕ). IsWay children seats moved j way) at (ways_are k way inside (ap (slice_get ways) at ∙ on))
+
 -- another walking call below a node, by the key of its position
 record Lower (graph : Graph) (seats : List (Option Running)) (k n : ℕ) (key : Key) : Type 0 where
   seat : ℕ
@@ -156,9 +172,9 @@ record Lower (graph : Graph) (seats : List (Option Running)) (k n : ℕ) (key : 
   rooted : numbers graph key ≡ Some position
 
 -- below a walking call that no way meets: the nearest call above another one that is below it is below it too, and nearer
-nearer : (store : Places) (holding : Holding) (seats : List (Option Running)) (ways : List Way) (moved : Moved) (k n : ℕ) → CanSearch store holding seats → length ways ≡ length seats → AreWays (child store) seats moved (length seats) ways
-    → position_on seats k ≡ Some n → (IsMet ways k → ⊥) → (key : Key) → Lower (graph_of store) seats k n key → (front : Key) × (length front < length key) × Lower (graph_of store) seats k n front
-nearer store holding seats ways moved k n can same ways_are at_k unmet key l = by way.0.above refl (nearest_of (child store) seats moved l.seat l.position way.0 (ways_are l.seat way.0 within way.1) l.on)
+nearer : (store : Places) (holding : Holding) (seats : List (Option Running)) (listed : List ℕ) (ways : List Way) (moved : Moved) (k n : ℕ) → CanSearch store holding seats listed → length ways ≡ length seats → AreWays (child store) seats moved listed (length listed) ways
+    → position_on seats k ≡ Some n → (IsMet listed ways k → ⊥) → (key : Key) → Lower (graph_of store) seats k n key → (front : Key) × (length front < length key) × Lower (graph_of store) seats k n front
+nearer store holding seats listed ways moved k n can same ways_are at_k unmet key l = by way.0.above refl (nearest_of (child store) seats moved l.seat l.position way.0 (way_is (child store) seats moved listed ways l.seat way.0 ways_are (listed_on seats listed l.seat l.position can.all l.on) way.1) l.on)
   where
     within : l.seat < length seats
     within = position_within seats l.seat l.position l.on
@@ -176,7 +192,7 @@ nearer store holding seats ways moved k n can same ways_are at_k unmet key l = b
           record {
             seat = i;
             position = h.0;
-            differs = λ z. unmet (record { other = l.seat; way = way.0; on = way.1; above = e ∙ ap (λ (x : ℕ). Some x) (sym z) });
+            differs = λ z. unmet (record { other = l.seat; way = way.0; listed_is = listed_on seats listed l.seat l.position can.all l.on; on = way.1; above = e ∙ ap (λ (x : ℕ). Some x) (sym z) });
             on = h.2;
             reached = h.4 k n (λ z. l.differs (sym z)) at_k l.reached;
             rooted = root.1;
@@ -184,39 +200,39 @@ nearer store holding seats ways moved k n can same ways_are at_k unmet key l = b
         )
 
 -- so there is no other one below it
-pub unmet_alone : (store : Places) (holding : Holding) (seats : List (Option Running)) (ways : List Way) (moved : Moved) (k n : ℕ) → CanSearch store holding seats → length ways ≡ length seats → AreWays (child store) seats moved (length seats) ways
-    → position_on seats k ≡ Some n → (IsMet ways k → ⊥) → IsAlone (child store) seats n k
-unmet_alone store holding seats ways moved k n can same ways_are at_k unmet other differs u =
+pub unmet_alone : (store : Places) (holding : Holding) (seats : List (Option Running)) (listed : List ℕ) (ways : List Way) (moved : Moved) (k n : ℕ) → CanSearch store holding seats listed → length ways ≡ length seats → AreWays (child store) seats moved listed (length listed) ways
+    → position_on seats k ≡ Some n → (IsMet listed ways k → ⊥) → IsAlone (child store) seats n k
+unmet_alone store holding seats listed ways moved k n can same ways_are at_k unmet other differs u =
     let on : position_on seats other ≡ Some u.node = on_under (child store) seats n other u in
     let root : (key : Key) × (numbers (graph_of store) key ≡ Some u.node) = can.rooted other u.node on in
     go (length root.0) root.0 (omega arith) (record { seat = other; position = u.node; differs = differs; on = on; reached = u.reached; rooted = root.1 })
   where
     go : (fuel : ℕ) (key : Key) → length key ≤ fuel → Lower (graph_of store) seats k n key → ⊥
     go zero key enough l =
-        let x : (front : Key) × (length front < length key) × Lower (graph_of store) seats k n front = nearer store holding seats ways moved k n can same ways_are at_k unmet key l in absurd (omega (arith, x.1, enough))
+        let x : (front : Key) × (length front < length key) × Lower (graph_of store) seats k n front = nearer store holding seats listed ways moved k n can same ways_are at_k unmet key l in absurd (omega (arith, x.1, enough))
     go (suc fuel) key enough l =
-        let x : (front : Key) × (length front < length key) × Lower (graph_of store) seats k n front = nearer store holding seats ways moved k n can same ways_are at_k unmet key l in go fuel x.0 (omega (arith, x.1, enough)) x.2
+        let x : (front : Key) × (length front < length key) × Lower (graph_of store) seats k n front = nearer store holding seats listed ways moved k n can same ways_are at_k unmet key l in go fuel x.0 (omega (arith, x.1, enough)) x.2
 
 -- the lowest calls are those that are below a node that would be moved and that no way meets
-pub unmet_lowest : (store : Places) (holding : Holding) (seats : List (Option Running)) (ways : List Way) (moved : Moved) (k : ℕ) → CanSearch store holding seats → length ways ≡ length seats → AreWays (child store) seats moved (length seats) ways → k < length seats → IsUnmet ways k → IsLowestOn (child store) seats moved k
-unmet_lowest store holding seats ways moved k can same ways_are less u =
-    let under : IsUnderMoved (child store) seats moved k = (ways_are k u.way less u.on).below.0 u.below in
-    record { under = under; alone = unmet_alone store holding seats ways moved k under.node can same ways_are (on_under_moved (child store) seats moved k under) u.unmet }
+pub unmet_lowest : (store : Places) (holding : Holding) (seats : List (Option Running)) (listed : List ℕ) (ways : List Way) (moved : Moved) (k : ℕ) → CanSearch store holding seats listed → length ways ≡ length seats → AreWays (child store) seats moved listed (length listed) ways → IsListed listed k → IsUnmet listed ways k → IsLowestOn (child store) seats moved k
+unmet_lowest store holding seats listed ways moved k can same ways_are at u =
+    let under : IsUnderMoved (child store) seats moved k = (way_is (child store) seats moved listed ways k u.way ways_are at u.on).below.0 u.below in
+    record { under = under; alone = unmet_alone store holding seats listed ways moved k under.node can same ways_are (on_under_moved (child store) seats moved k under) u.unmet }
 
-pub lowest_unmet : (children : Children) (seats : List (Option Running)) (ways : List Way) (moved : Moved) (k : ℕ) → length ways ≡ length seats → AreWays children seats moved (length seats) ways → k < length seats → IsLowestOn children seats moved k → IsUnmet ways k
-lowest_unmet children seats ways moved k same ways_are less l = record { way = w.0; on = w.1; below = (ways_are k w.0 less w.1).below.1 l.under; unmet = unmet }
+pub lowest_unmet : (children : Children) (seats : List (Option Running)) (listed : List ℕ) (ways : List Way) (moved : Moved) (k : ℕ) → AreListed seats listed → length ways ≡ length seats → AreWays children seats moved listed (length listed) ways → IsLowestOn children seats moved k → IsUnmet listed ways k
+lowest_unmet children seats listed ways moved k all same ways_are l = record { way = w.0; on = w.1; below = (way_is children seats moved listed ways k w.0 ways_are (all.each k l.under.running l.under.on) w.1).below.1 l.under; unmet = unmet }
   where
+    less : k < length seats
+    less = slice_get_within seats k (Some l.under.running) l.under.on
+
     w : (way : Way) × (slice_get ways k ≡ Some way)
     w = way_at ways k (omega (arith, less, same))
 
-    unmet : IsMet ways k → ⊥
+    unmet : IsMet listed ways k → ⊥
     unmet m = by (position_on seats m.other) refl
       where
-        within : m.other < length seats
-        within = let h : m.other < length ways = slice_get_within ways m.other m.way m.on in omega (arith, h, same)
-
         is : IsWay children seats moved m.other m.way
-        is = ways_are m.other m.way within m.on
+        is = way_is children seats moved listed ways m.other m.way ways_are m.listed_is m.on
 
         by : (o : Option ℕ) → position_on seats m.other ≡ o → ⊥
         by None e = let z : None ≡ Some k = sym (subst (λ (o : Option ℕ). IsNearestIf children seats m.other o m.way.above) e is.above) ∙ m.above in cc
@@ -226,15 +242,16 @@ lowest_unmet children seats ways moved k same ways_are less l = record { way = w
             l.alone m.other (λ z. h.1 (sym z)) (under_on children seats l.under.node m.other position e (subst (λ (x : ℕ). IsReached children x position) n h.3))
 
 -- one way more
-pub ways_more : (children : Children) (seats : List (Option Running)) (moved : Moved) (i : ℕ) (ways after : List Way) (way : Way) → i < length ways → after ≡ set ways i way → IsWay children seats moved i way → AreWays children seats moved i ways → AreWays children seats moved (i + 1) after
-ways_more children seats moved i ways after way within is w h j found less on = go (eqb j i) refl
+pub ways_more : (children : Children) (seats : List (Option Running)) (moved : Moved) (listed : List ℕ) (i : ℕ) (ways after : List Way) (way : Way) → get_or listed i 0 < length ways → after ≡ set ways (get_or listed i 0) way → IsWay children seats moved (get_or listed i 0) way → AreWays children seats moved listed i ways → AreWays children seats moved listed (i + 1) after
+ways_more children seats moved listed i ways after way within is w h k found less on = go (eqb (get_or listed k 0) (get_or listed i 0)) refl
   where
-    go : (b : Bool) → eqb j i ≡ b → IsWay children seats moved j found
+    go : (b : Bool) → eqb (get_or listed k 0) (get_or listed i 0) ≡ b → IsWay children seats moved (get_or listed k 0) found
     go true e =
-        let same : j ≡ i = eqb_true j i e in
-        let z : ◌≡◌ {A = Option Way} (Some way) (Some found) = sym (slice_get-set_same ways i way within) ∙ ap (λ (xs : List Way). slice_get xs i) (sym is) ∙ ap (slice_get after) (sym same) ∙ on in
+        let same : get_or listed k 0 ≡ get_or listed i 0 = eqb_true (get_or listed k 0) (get_or listed i 0) e in
+        let z : ◌≡◌ {A = Option Way} (Some way) (Some found) = sym (slice_get-set_same ways (get_or listed i 0) way within) ∙ ap (λ (xs : List Way). slice_get xs (get_or listed i 0)) (sym is) ∙ ap (slice_get after) (sym same) ∙ on in
         let y : way ≡ found = cc in
-        subst (λ (x : ℕ). IsWay children seats moved x found) (sym same) (subst (IsWay children seats moved i) y w)
+        subst (λ (x : ℕ). IsWay children seats moved x found) (sym same) (subst (IsWay children seats moved (get_or listed i 0)) y w)
     go false e =
-        let differ : j ≡ i → ⊥ = λ z. (let y : eqb j i ≡ true = grind arith in cc) in
-        h j found (grind arith) (sym (slice_get-set_other ways i j way differ) ∙ ap (λ (xs : List Way). slice_get xs j) (sym is) ∙ on)
+        let differ : get_or listed k 0 ≡ get_or listed i 0 → ⊥ = λ z. (let y : eqb (get_or listed k 0) (get_or listed i 0) ≡ true = grind arith in cc) in
+        let apart : k ≡ i → ⊥ = λ z. differ (ap (λ (n : ℕ). get_or listed n 0) z) in
+        h k found (omega (arith, less, apart)) (sym (slice_get-set_other ways (get_or listed i 0) (get_or listed k 0) way differ) ∙ ap (λ (xs : List Way). slice_get xs (get_or listed k 0)) (sym is) ∙ on)

@@ -2,3 +2,4 @@ pub mod CoreValues
 pub mod Checkpoints
 pub mod Events
 pub mod code
+pub mod Told

@@ -1,10 +1,11 @@
 //! Whom a call helps that is to finish: among the walking calls below a node that it would move.
 
-ghost use Rattle.std.specs.Prelude.{option_and_then, ◌≡◌, ℕ, ◌<◌, ◌↔◌, ◌⊎◌, IsTrue, IsSome, false, Some, None, length};
+ghost use Rattle.std.specs.Prelude.{option_and_then, ◌≡◌, ℕ, ◌<◌, ◌↔◌, ◌⊎◌, IsTrue, IsSome, false, Some, None, length, slice_index};
 ghost use Rattle.std.specs.Option.{ForSome};
 ghost use Rattle.fs_nodes.specs.Stores.{child};
 ghost use Rattle.fs_locks.specs.Holding.{holder};
 ghost use Rattle.fs_machine.specs.States.{IsMoved};
+ghost use Rattle.fs_core.specs.code.Orders.{AreListed};
 ghost use Rattle.fs_core.specs.code.Searches.{position_of, position_on, StandsIf, MeetsIf, IsBelowMoved, IsNearest, IsMet, IsUnmet, IsWay, AreWays, CanSearch, HasLeast, is_lesser};
 ghost use Rattle.fs_core.specs.CoreValues.{number_on};
 
@@ -56,10 +57,12 @@ fn is_at(seats: &[Option<Running>], seat: usize, node: NodeNo) -> bool
 }
 
 /// The seat of a walking call at a node, other than the one on a seat.
-fn other_at(seats: &[Option<Running>], node: NodeNo, seat: usize) -> Option<usize>
+fn other_at(seats: &[Option<Running>], listed: &[usize], node: NodeNo, seat: usize) -> Option<usize>
+    requires { AreListed seats.now listed.now }
     ensures { StandsIf seats.now node seat result }
 {
-    for other in 0..seats.len() {
+    for i in 0..listed.len() {
+        let other = listed[i];
         if other != seat && is_at(seats, other, node) {
             return Some(other);
         }
@@ -71,17 +74,19 @@ fn other_at(seats: &[Option<Running>], node: NodeNo, seat: usize) -> Option<usiz
 fn met_with(
     holders: &Holders,
     seats: &[Option<Running>],
+    listed: &[usize],
     node: NodeNo,
     seat: usize,
     met: Option<usize>,
 ) -> Option<usize>
+    requires all { AreListed seats.now listed.now }
     requires held { (j : ℕ) → position_on seats.now j ≡ Some node → IsSome (holder holders.now node) }
     ensures { MeetsIf seats.now node seat met result }
 {
     if met.is_some() || holders.holder(node).is_none() {
         return met;
     }
-    other_at(seats, node, seat)
+    other_at(seats, listed, node, seat)
 }
 
 /// Whether a way passes a node that would be moved, with one node more.
@@ -96,11 +101,12 @@ fn way_from(
     store: &Store,
     holders: &Holders,
     seats: &[Option<Running>],
+    listed: &[usize],
     moved: &Moved,
     seat: usize,
     position: NodeNo,
 ) -> Way
-    requires can { CanSearch store.now holders.now seats.now }
+    requires can { CanSearch store.now holders.now seats.now listed.now }
     requires position { position_on seats.now seat ≡ Some position }
     ensures below { IsTrue result.below ↔ IsBelowMoved (child store.now) moved.now position }
     ensures above { IsNearest (child store.now) seats.now seat position result.above }
@@ -111,7 +117,7 @@ fn way_from(
     let mut met: Option<usize> = None;
     let mut below = false;
     for _step in 0..holders.room() {
-        met = met_with(holders, seats, above, seat, met);
+        met = met_with(holders, seats, listed, above, seat, met);
         below = passes(moved, above, below);
         match store.parent(above) {
             Some(parent) => above = parent,
@@ -128,15 +134,16 @@ fn way_of(
     store: &Store,
     holders: &Holders,
     seats: &[Option<Running>],
+    listed: &[usize],
     moved: &Moved,
     seat: usize,
 ) -> Way
-    requires can { CanSearch store.now holders.now seats.now }
+    requires can { CanSearch store.now holders.now seats.now listed.now }
     requires seat { seat < length seats.now }
     ensures { IsWay (child store.now) seats.now moved.now seat result }
 {
     match position(&seats[seat]) {
-        Some(at) => way_from(store, holders, seats, moved, seat, at),
+        Some(at) => way_from(store, holders, seats, listed, moved, seat, at),
         None => no_way(),
     }
 }
@@ -147,29 +154,36 @@ fn put(place: &mut Way, way: Way)
     *place = way;
 }
 
-/// Finds the way of each seat.
+/// Finds the way of each listed seat.
 fn find_ways(
     store: &Store,
     holders: &Holders,
     seats: &[Option<Running>],
+    listed: &[usize],
     ways: &mut [Way],
     moved: &Moved,
 )
-    requires can { CanSearch store.now holders.now seats.now }
+    requires can { CanSearch store.now holders.now seats.now listed.now }
     requires ways { length ways.old ≡ length seats.now }
-    ensures ways { AreWays (child store.now) seats.now moved.now (length seats.now) ways.new }
+    ensures ways { AreWays (child store.now) seats.now moved.now listed.now (length listed.now) ways.new }
     ensures length { length ways.new ≡ length ways.old }
 {
-    for seat in 0..seats.len() {
-        put(&mut ways[seat], way_of(store, holders, seats, moved, seat));
+    for i in 0..listed.len() {
+        let seat = listed[i];
+        put(
+            &mut ways[seat],
+            way_of(store, holders, seats, listed, moved, seat),
+        );
     }
 }
 
-/// Whether the call on a seat is the nearest one above another.
-fn is_met(ways: &[Way], seat: usize) -> bool
-    ensures { IsTrue result ↔ IsMet ways.now seat }
+/// Whether the call on a seat is the nearest one above that on a listed one.
+fn is_met(listed: &[usize], ways: &[Way], seat: usize) -> bool
+    requires { (i : ℕ) → i < length listed.now → slice_index listed.now i < length ways.now }
+    ensures { IsTrue result ↔ IsMet listed.now ways.now seat }
 {
-    for other in 0..ways.len() {
+    for i in 0..listed.len() {
+        let other = listed[i];
         if ways[other].above == Some(seat) {
             return true;
         }
@@ -193,34 +207,37 @@ fn is_less(seats: &[Option<Running>], seat: usize, other: Option<usize>) -> bool
 }
 
 /// Whether a seat's way passes a node that would be moved, and no way meets its call.
-fn is_lowest(ways: &[Way], seat: usize) -> bool
-    requires { seat < length ways.now }
-    ensures { IsTrue result ↔ IsUnmet ways.now seat }
+fn is_lowest(listed: &[usize], ways: &[Way], seat: usize) -> bool
+    requires seat { seat < length ways.now }
+    requires listed { (i : ℕ) → i < length listed.now → slice_index listed.now i < length ways.now }
+    ensures { IsTrue result ↔ IsUnmet listed.now ways.now seat }
 {
-    ways[seat].below && !is_met(ways, seat)
+    ways[seat].below && !is_met(listed, ways, seat)
 }
 
 /// Of the walking calls below a node that would be moved of which each has no other one below its position, the one with the least number: its
-/// seat. Each seat has a place for its way, whatever stands there before.
+/// seat. Each seat has a place for its way, whatever stands there before. Whoever is not listed has no call.
 pub fn to_help(
     store: &Store,
     holders: &Holders,
     seats: &[Option<Running>],
+    listed: &[usize],
     ways: &mut [Way],
     moved: &Moved,
 ) -> Option<usize>
-    requires can { CanSearch store.now holders.now seats.now }
+    requires can { CanSearch store.now holders.now seats.now listed.now }
     requires ways { length ways.old ≡ length seats.now }
     ensures chosen { HasLeast (child store.now) seats.now moved.now (length seats.now) result }
     ensures ways { length ways.new ≡ length ways.old }
 {
     // Who is not lowest is the nearest one above some other, so one way up from each position is enough. A help looks, for each
-    // seat, at the nodes from its position up to the root, at each seat where one of these is held, until a walking call is met,
-    // and at each seat's way. Nothing is allocated.
-    find_ways(store, holders, seats, ways, moved);
+    // listed seat, at the nodes from its position up to the root, at each listed seat where one of these is held, until a walking
+    // call is met, and at the way of each of them. Nothing is allocated.
+    find_ways(store, holders, seats, listed, ways, moved);
     let mut chosen: Option<usize> = None;
-    for seat in 0..seats.len() {
-        if is_lowest(ways, seat) && is_less(seats, seat, chosen) {
+    for i in 0..listed.len() {
+        let seat = listed[i];
+        if is_lowest(listed, ways, seat) && is_less(seats, seat, chosen) {
             chosen = Some(seat);
         }
     }
@@ -232,16 +249,17 @@ pub fn to_help_before(
     store: &Store,
     holders: &Holders,
     seats: &[Option<Running>],
+    listed: &[usize],
     ways: &mut [Way],
     moved: &Moved,
 ) -> Option<usize>
-    requires can { CanSearch store.now holders.now seats.now }
+    requires can { CanSearch store.now holders.now seats.now listed.now }
     requires ways { length ways.old ≡ length seats.now }
     ensures chosen { HasLeast (child store.now) seats.now moved.now (length seats.now) result }
     ensures ways { length ways.new ≡ length ways.old }
 {
     match moved {
         Moved::Nothing => None,
-        Moved::One(_) | Moved::Two(_, _) => to_help(store, holders, seats, ways, moved),
+        Moved::One(_) | Moved::Two(_, _) => to_help(store, holders, seats, listed, ways, moved),
     }
 }

@@ -23,6 +23,7 @@ mod helping;
 pub mod machine;
 pub mod outcome;
 mod seat;
+mod seat_order;
 mod telling;
 
 pub use checkpoint::NoCheckpoint;

@@ -20,6 +20,7 @@ use crate::beginning::make_ready;
 use crate::done::Done;
 use crate::helping::{Way, no_way, to_help_before};
 use crate::seat::{self, Running};
+use crate::seat_order::SeatOrder;
 use fs_calls::{Call, phases};
 use fs_finish::Plan;
 use fs_index::IndexedTimeline;
@@ -49,12 +50,16 @@ pub struct Core {
     // For each seat: the call on it that holds nothing yet, and so goes for the root, whatever the nodes are. Most calls wait
     // there, and their steps look at no more than this. Of the core's value it is no part.
     starting: Vec<Option<CallNo>>,
+    // The seats with a call under way first: what goes over all calls passes no seat of an ended session. Of the core's value it
+    // is no part.
+    order: SeatOrder,
     start: SeqTree,
 }
 
 impl Model for Core {
     ghost use Rattle.std.specs.Prelude.{◌≡◌, length};
     ghost use Rattle.fs_core.specs.CoreValues.{CoreValue};
+    ghost use Rattle.fs_core.specs.code.Orders.{AreAmong};
     ghost use Rattle.fs_core.specs.code.Rooms.{IsKept};
     ghost use Rattle.fs_core.specs.code.Starting.{AreStarting};
 
@@ -62,7 +67,7 @@ impl Model for Core {
 
     ghost view = { λ a. record { start = a.start; store = a.store; holding = a.holders; seats = a.seats.items; timeline = a.timeline.entries } };
 
-    ghost invariant = { λ a. IsKept (record { start = a.start; store = a.store; holding = a.holders; seats = a.seats.items; timeline = a.timeline.entries }) a.begun a.commits a.timeline.reserved × (length a.ways.items ≡ length a.seats.items) × AreStarting a.starting.items a.seats.items };
+    ghost invariant = { λ a. IsKept (record { start = a.start; store = a.store; holding = a.holders; seats = a.seats.items; timeline = a.timeline.entries }) a.begun a.commits a.timeline.reserved × (length a.ways.items ≡ length a.seats.items) × AreStarting a.starting.items a.seats.items × AreAmong a.seats.items a.order.places.items a.order.count };
 }
 
 /// How a move is made.
@@ -165,6 +170,7 @@ impl Core {
             &self.store,
             &self.holders,
             &self.seats,
+            self.order.first(),
             &mut self.ways,
             &plan.moved(),
         ) {
@@ -186,6 +192,7 @@ impl Core {
         ensures step { Step (state_of self.old) seat result (state_of self.new) }
         ensures seats { length self.new.seats ≡ length self.old.seats }
     {
+        self.order.leave(seat);
         let running = seat::take_out(&mut self.seats[seat]);
         let (reply, again) = running.op.end(&mut self.store);
         self.timeline.push(Entry::Return(call, reply));
@@ -280,6 +287,7 @@ impl Core {
             timeline: IndexedTimeline::new(alloc),
             ways: Vec::new(alloc),
             starting: Vec::new(alloc),
+            order: SeatOrder::new(alloc),
             start,
         })
     }
@@ -302,7 +310,9 @@ impl Core {
         let seat = self.seats.len() as u64;
         self.ways.reserve(1)?;
         self.starting.reserve(1)?;
-        self.seats.push(None)?;
+        self.seats.reserve(1)?;
+        self.order.add()?;
+        self.seats.push_reserved(None);
         self.ways.push_reserved(no_way());
         self.starting.push_reserved(None);
         Ok(SeatNo::new(seat))
@@ -351,6 +361,7 @@ impl Core {
                     place: None,
                     op: ready.op.open(),
                 };
+                self.order.enter(at);
                 seat::start(&mut self.starting[at], call, &running.op);
                 seat::put(&mut self.seats[at], running);
                 self.begun = ready.number;

@@ -21,19 +21,22 @@ ghost use Rattle.fs_numbers.specs.Numbers.{NumbersAreKept};
 ghost use Rattle.fs_numbers.specs.Agreement.{PartsAgree};
 ghost use Rattle.fs_numbers.specs.Holdings.{HoldsFour};
 ghost use Rattle.fs_core.specs.CoreValues.{state_of};
+ghost use Rattle.fs_core.specs.Told.{RepliesStay, DeepestWaitsForOneThatGoesOn};
 
 use crate::machine::Core;
 
 impl Core {
     /// Of helping: no walking call is below a placed one, no placed call below one placed earlier, and no other call
     /// between a rename's or exchange's common directory and its heads. The placed calls, each gone on alone in the
-    /// order of their commits, leave the tree that the commits play, and reply what is due to them. A finish never waits,
-    /// and helps at most as many calls as walked below the nodes that it moves.
+    /// order of their commits, leave the tree that the commits play, and reply what is due to them; no step, of whichever
+    /// call, changes what is due to a placed one. A finish never waits, and helps at most as many calls as walked below the
+    /// nodes that it moves.
     pub fn told_of_helping(&self)
         ensures placed_first { NoWalkingBelow (state_of self.now) }
         ensures earlier_first { NoLaterBelow (state_of self.now) }
         ensures heads_clear { NobodyBetween (state_of self.now) }
         ensures settles { Settles (state_of self.now) }
+        ensures replies_stay { RepliesStay (state_of self.now) }
         ensures places { PlacesAreCounted (state_of self.now) }
         ensures never_waits { NeverWaitsToFinish (state_of self.now) }
         ensures few_helps { HelpsAreFew (state_of self.now) }
@@ -41,14 +44,15 @@ impl Core {
         self.told();
     }
 
-    /// Of progress: each seat has a step, which the state determines; who waits for a waiting call stands above it; where
-    /// a call is under way, some seat's step lets one go on; each such step takes from a bound on the steps that are
-    /// left, to which a begin adds what its names ask. A call that runs alone replies and changes as the sequential tree
-    /// says.
+    /// Of progress: each seat has a step, which the state determines; who waits for a waiting call stands above it, and of
+    /// the waiting calls each that stands deepest waits for one that can go on; where a call is under way, some seat's step
+    /// lets one go on; each such step takes from a bound on the steps that are left, to which a begin adds what its names
+    /// ask. A call that runs alone replies and changes as the sequential tree says.
     pub fn told_of_progress(&self)
         ensures steps { (seat : ℕ) → HasStep (state_of self.now) seat }
         ensures determined { IsDetermined (state_of self.now) }
         ensures waiters_above { WaitsBelow (state_of self.now) }
+        ensures deepest_goes_on { DeepestWaitsForOneThatGoesOn (state_of self.now) }
         ensures never_stuck { IsNeverStuck (state_of self.now) }
         ensures takes_work { TakesWork (state_of self.now) }
         ensures adds_work { AddsWork (state_of self.now) }

@@ -18,4 +18,4 @@ IsLeastBelow seats i (Some c) = ((j : ℕ) × (number_on seats j ≡ Some c)) ×
 -- of all calls under way, the least number; none where no call is under way
 abbrev pub IsLeast : CoreValue → Option ℕ → Type 0
 IsLeast machine None = IsAtRest machine
-IsLeast machine (Some c) = IsLeastUnderWay machine c
+IsLeast machine (Some c) = IsLeastUnderWay (number_on machine.seats) c

@@ -1,5 +1,5 @@
 -- Which walking calls are below a node, or below one that would be moved, and which of these is to be helped.
-use Rattle.std.specs.Prelude.{ℕ, ◌≡◌, ◌<◌, ◌≤◌, ◌↔◌, nat_lt, Bool, true, false, IsTrue, IsSome, List, Option, Some, None, option_map, slice_get}
+use Rattle.std.specs.Prelude.{ℕ, ◌≡◌, ◌<◌, ◌≤◌, ◌↔◌, nat_lt, Bool, true, false, IsTrue, IsSome, List, Option, Some, None, length, option_map, slice_get, slice_index}
 use Rattle.fs_names.specs.Keys.{Key}
 use Rattle.fs_nodes.specs.Graphs.{Graph, Children, numbers, IsGraph, IsReached}
 use Rattle.fs_nodes.specs.Stores.{Places}
@@ -10,6 +10,7 @@ use Rattle.fs_machine.specs.declared.moves.Moved.{Moved}
 use Rattle.fs_core.specs.CoreValues.{number_on, running_on}
 use Rattle.fs_core.specs.declared.helping.Way.{Way}
 use Rattle.fs_core.specs.declared.seat.Running.{Running}
+use Rattle.fs_core.specs.code.Orders.{IsListed, AreListed}
 use Rattle.fs_core.specs.code.Rooms.{is_walking, AreBelow}
 
 -- the position of a walking call
@@ -66,15 +67,22 @@ abbrev pub HasLeast : Children → List (Option Running) → Moved → ℕ → O
 HasLeast children seats moved i None = (j : ℕ) → j < i → IsLowestOn children seats moved j → ⊥
 HasLeast children seats moved i (Some seat) = (seat < i) × IsLowestOn children seats moved seat × ((j c d : ℕ) → j < i → IsLowestOn children seats moved j → number_on seats seat ≡ Some c → number_on seats j ≡ Some d → c ≤ d)
 
+-- the same of the first so many seats of a list
+abbrev pub HasLeastOf : Children → List (Option Running) → Moved → List ℕ → ℕ → Option ℕ → Type 0
+HasLeastOf children seats moved listed i None = (k : ℕ) → k < i → IsLowestOn children seats moved (slice_index listed k) → ⊥
+HasLeastOf children seats moved listed i (Some seat) =
+    (seat < length seats) × IsLowestOn children seats moved seat × ((k c d : ℕ) → k < i → IsLowestOn children seats moved (slice_index listed k) → number_on seats seat ≡ Some c → number_on seats (slice_index listed k) ≡ Some d → c ≤ d)
+
 -- a node is reached from the root
 abbrev pub IsRooted : Graph → ℕ → Type 0
 IsRooted graph n = (key : Key) × (numbers graph key ≡ Some n)
 
--- what a search needs: a graph in which each number has room for a holder, and each walking call at a node that is reached from
--- the root, that is held, and at which there is no other one
-pub record CanSearch (store : Places) (holding : Holding) (seats : List (Option Running)) : Type 0 where
+-- what a search needs: a graph in which each number has room for a holder, a list with each seat that has a call, and each walking
+-- call at a node that is reached from the root, that is held, and at which there is no other one
+pub record CanSearch (store : Places) (holding : Holding) (seats : List (Option Running)) (listed : List ℕ) : Type 0 where
   pub graph : IsGraph (graph_of store)
   pub within : AreBelow (graph_of store) (room holding)
+  pub all : AreListed seats listed
   pub rooted : (seat n : ℕ) → position_on seats seat ≡ Some n → IsRooted (graph_of store) n
   pub held : (seat n : ℕ) → position_on seats seat ≡ Some n → IsSome (holder holding n)
   pub apart : (seat other n : ℕ) → position_on seats seat ≡ Some n → position_on seats other ≡ Some n → seat ≡ other
@@ -109,20 +117,21 @@ pub record IsWay (children : Children) (seats : List (Option Running)) (moved : 
   pub below : IsTrue way.below ↔ IsUnderMoved children seats moved seat
   pub above : IsNearestIf children seats seat (position_on seats seat) way.above
 
--- the ways of the seats below one
-abbrev pub AreWays : Children → List (Option Running) → Moved → ℕ → List Way → Type 0
-AreWays children seats moved i ways = (j : ℕ) (way : Way) → j < i → slice_get ways j ≡ Some way → IsWay children seats moved j way
+-- the ways of the first so many seats of a list
+abbrev pub AreWays : Children → List (Option Running) → Moved → List ℕ → ℕ → List Way → Type 0
+AreWays children seats moved listed i ways = (k : ℕ) (way : Way) → k < i → slice_get ways (slice_index listed k) ≡ Some way → IsWay children seats moved (slice_index listed k) way
 
--- the call on a seat is the nearest one above another
-pub record IsMet (ways : List Way) (seat : ℕ) : Type 0 where
+-- the call on a seat is the nearest one above that on a seat of a list
+pub record IsMet (listed : List ℕ) (ways : List Way) (seat : ℕ) : Type 0 where
   pub other : ℕ
   pub way : Way
+  pub listed_is : IsListed listed other
   pub on : slice_get ways other ≡ Some way
   pub above : way.above ≡ Some seat
 
 -- its way passes a node that would be moved, and no way meets it
-pub record IsUnmet (ways : List Way) (seat : ℕ) : Type 0 where
+pub record IsUnmet (listed : List ℕ) (ways : List Way) (seat : ℕ) : Type 0 where
   pub way : Way
   pub on : slice_get ways seat ≡ Some way
   pub below : IsTrue way.below
-  pub unmet : IsMet ways seat → ⊥
+  pub unmet : IsMet listed ways seat → ⊥

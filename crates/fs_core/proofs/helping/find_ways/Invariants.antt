@@ -4,8 +4,8 @@ use Rattle.fs_core.specs.code.Searches.{AreWays}
 use Rattle.fs_core.proofs.helping.find_ways.Given as goal
 
 -- the ways so far
-abbrev pub invariant-loop-seat : goal.invariant-loop-seat
-invariant-loop-seat l = record {
-  ways : AreWays (child l.store) l.seats l.moved l.seat l.ways;
+abbrev pub invariant-loop-i : goal.invariant-loop-i
+invariant-loop-i l = record {
+  ways : AreWays (child l.store) l.seats l.moved l.listed l.i l.ways;
   same : length l.ways ≡ length l.fn.ways;
 }

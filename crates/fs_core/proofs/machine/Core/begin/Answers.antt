@@ -4,6 +4,7 @@ use Rattle.fs_nodes.specs.Seen.{Seen}
 use Rattle.fs_core.proofs.Readiness.{busy_by, refused_same, begun_by, none_by_test}
 use Rattle.fs_core.proofs.SeatLemmas.{length_after}
 use Rattle.fs_core.proofs.Starting.{starting_begun}
+use Rattle.fs_core.proofs.Among.{among_begun}
 use Rattle.fs_core.proofs.machine.Core.begin.Goals as goal
 
 pub returns-then-is_some-clause-begins : goal.returns-then-is_some-clause-begins
@@ -15,7 +16,7 @@ make_ready-requires c = record { graph = (run_keeps _ c.self.invariant.0.run).is
 
 pub invariant_of-self : goal.invariant_of-self
 invariant_of-self c = rw c.in-Err.ensures.timeline
-    ((refused_same _ _ _ _ c.self.invariant.0 c.make_ready.new.store c.make_ready.new.holders c.in-Err.ensures.graph (ap (λ (s : Seen). s.limit) c.in-Err.ensures.rest) c.in-Err.ensures.holders c.in-Err.ensures.more).1, c.self.invariant.1, c.self.invariant.2)
+    ((refused_same _ _ _ _ c.self.invariant.0 c.make_ready.new.store c.make_ready.new.holders c.in-Err.ensures.graph (ap (λ (s : Seen). s.limit) c.in-Err.ensures.rest) c.in-Err.ensures.holders c.in-Err.ensures.more).1, c.self.invariant.1, c.self.invariant.2, c.self.invariant.3)
 
 pub invariant_of-self-in-Ok : goal.invariant_of-self-in-Ok
 invariant_of-self-in-Ok c = rw (c.push.ensures, c.in-Ok.ensures.places) (
@@ -25,6 +26,7 @@ invariant_of-self-in-Ok c = rw (c.push.ensures, c.in-Ok.ensures.places) (
   length_after _ _ _ _ c.self.invariant.1,
   starting_begun _ _ _ _ _ c.in-Ok.ready.op c.in-Ok.ensures.op _ _ c.get-at.result c.new-call.result c.start.new.starting c.put.new.slot c.self.invariant.2
       (let within : c.args.seat < length c.self.inside.seats.items = rw (← c.self.view_is) at c.requires.seat in omega (arith, within, c.get-at.ensures)) (rw c.open.ensures at c.start.ensures) (rw c.open.ensures at c.put.ensures),
+  among_begun _ _ _ _ _ c.get-at.result c.put.new.slot c.self.invariant.3 c.enter.ensures.places c.enter.ensures.seat c.enter.ensures.others,
 )
 
 pub returns-in-Ok-clause-begins : goal.returns-in-Ok-clause-begins

@@ -6,6 +6,7 @@ invariant_of-self c = rw (c.replace-told.ensures.after, c.new.ensures) (
   again_kept _ _ _ _ _ c.args.start c.self.invariant.0 (rw (← c.self.view_is) at c.requires.rest) (rw (← c.self.view_is) at c.requires.tree),
   c.self.invariant.1,
   c.self.invariant.2,
+  c.self.invariant.3,
 )
 
 pub returns-clause-state : goal.returns-clause-state

@@ -5,6 +5,7 @@ use Rattle.fs_core.proofs.Indexing.{commit_next}
 use Rattle.fs_core.proofs.SeatLemmas.{length_after}
 use Rattle.fs_core.proofs.Starting.{starting_moved, finishes_otherwise}
 use Rattle.fs_finish.specs.Plans.{moved_by}
+use Rattle.fs_core.proofs.Among.{among_moved}
 use Rattle.fs_core.proofs.machine.Core.commit.Goals as goal
 
 pub carry_out-requires-clause-plan : goal.carry_out-requires-clause-plan
@@ -33,6 +34,7 @@ invariant_of-self c = rw c.push.ensures (
       c.carry_out.new.store c.index_mut.result.now c.carry_out.new.slot c.carry_out.ensures.graph (ap (λ (s : Seen). s.limit) c.carry_out.ensures.rest) c.index_mut.ensures.value c.carry_out.ensures.slot).1,
   length_after _ _ _ _ c.self.invariant.1,
   starting_moved _ _ c.args.seat c.args.call _ c.carry_out.new.slot c.self.invariant.2 (rw (← c.self.view_is) at c.requires.moves) (finishes_otherwise (moved_by c.args.plan)),
+  among_moved _ _ _ c.args.seat c.args.call _ c.carry_out.new.slot c.self.invariant.3 (rw (← c.self.view_is) at c.requires.moves),
 )
 
 pub returns-clause-step : goal.returns-clause-step

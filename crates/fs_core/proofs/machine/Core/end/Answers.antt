@@ -3,6 +3,7 @@ use Rattle.fs_nodes.specs.Seen.{Seen}
 use Rattle.fs_core.proofs.Doing.{end_some, end_fixed, end_spare, moving_place, returned_kept}
 use Rattle.fs_core.proofs.SeatLemmas.{length_after}
 use Rattle.fs_core.proofs.Starting.{starting_moved, ends_otherwise}
+use Rattle.fs_core.proofs.Among.{among_ended}
 use Rattle.fs_core.proofs.machine.Core.end.Goals as goal
 
 pub take_out-running-requires : goal.take_out-running-requires
@@ -23,6 +24,7 @@ invariant_of-self c = rw c.push.ensures (
       c.index_mut.ensures.value c.take_out-running.ensures.running c.take_out-running.ensures.slot (ap (λ (s : Seen). s.graph) c.end-reply.ensures.change) (ap (λ (s : Seen). s.limit) c.end-reply.ensures.change) c.end-reply.ensures.one c.end-reply.ensures.two).1,
   length_after _ _ _ _ c.self.invariant.1,
   starting_moved _ _ c.args.seat c.args.call _ c.take_out-running.new.slot c.self.invariant.2 (rw (← c.self.view_is) at c.requires.moves) (ends_otherwise),
+  among_ended _ _ _ _ _ c.args.seat c.take_out-running.new.slot c.self.invariant.3 c.leave.ensures.places (rw (← c.self.view_is) at c.requires.seat) c.take_out-running.ensures.slot c.leave.ensures.others,
 )
 
 pub returns-clause-step : goal.returns-clause-step

@@ -6,10 +6,11 @@ use Rattle.fs_core.proofs.Indexing.{commit_next}
 use Rattle.fs_core.proofs.SeatLemmas.{length_after}
 use Rattle.fs_core.proofs.Starting.{starting_helped}
 use Rattle.fs_finish.specs.Plans.{moved_by}
+use Rattle.fs_core.proofs.Among.{listed_by, among_helped}
 use Rattle.fs_core.proofs.machine.Core.help_or_commit.Goals as goal
 
 pub to_help_before-requires-clause-can : goal.to_help_before-requires-clause-can
-to_help_before-requires-clause-can c = search_by _ _ _ _ c.deref.result.now c.self.invariant.0 c.deref.ensures.value
+to_help_before-requires-clause-can c = search_by _ _ _ _ c.deref.result.now c.first.result.now c.self.invariant.0 (listed_by _ _ _ _ c.self.invariant.3 c.first.ensures.inside c.first.ensures.each) c.deref.ensures.value
 
 pub give_place-helped-requires : goal.give_place-helped-requires
 give_place-helped-requires c =
@@ -40,6 +41,8 @@ invariant_of-self c = rw c.push.ensures (
   starting_helped _ (moved_by c.args.plan) _ c.in-Some.other c.self.inside.commits c.index_mut.result.now c.give_place-helped.new.slot
       (chosen_if _ _ _ _ c.deref.result.now c.self.invariant.0 c.deref.ensures.value (moved_by c.args.plan) (Some c.in-Some.other) (rw c.moved.ensures at c.in-Some.ensures.chosen))
       c.self.invariant.2 c.index_mut.ensures.value c.give_place-helped.ensures.slot,
+  among_helped _ (moved_by c.args.plan) _ _ c.in-Some.other c.give_place-helped.new.slot
+      (chosen_if _ _ _ _ c.deref.result.now c.self.invariant.0 c.deref.ensures.value (moved_by c.args.plan) (Some c.in-Some.other) (rw c.moved.ensures at c.in-Some.ensures.chosen)) c.self.invariant.3,
 )
 
 pub returns-in-Some-clause-step : goal.returns-in-Some-clause-step

@@ -2,6 +2,7 @@ use Rattle.std.proofs.Common.{refl}
 use Rattle.fs_core.proofs.Doing.{take_within, take_another, take_few, took_kept, busy_step}
 use Rattle.fs_core.proofs.SeatLemmas.{length_after}
 use Rattle.fs_core.proofs.Starting.{starting_left}
+use Rattle.fs_core.proofs.Among.{among_moved}
 use Rattle.fs_core.proofs.machine.Core.take.Goals as goal
 
 pub take-requires-clause-within : goal.take-requires-clause-within
@@ -19,6 +20,7 @@ invariant_of-self-in-Ok c = (
       c.take.new.self c.index_mut-in-Ok.result.now c.take-in-Ok.new.slot c.in-Ok.ensures.ok c.in-Ok.ensures.room c.index_mut-in-Ok.ensures.value c.take-in-Ok.ensures).1,
   length_after _ _ _ _ c.self.invariant.1,
   starting_left _ _ c.args.seat c.set_out.new.starting c.take-in-Ok.new.slot c.self.invariant.2 (rw (← c.self.view_is) at c.requires.seat) c.set_out.ensures,
+  among_moved _ _ _ c.args.seat c.args.call _ c.take-in-Ok.new.slot c.self.invariant.3 (rw (← c.self.view_is) at c.requires.moves),
 )
 
 pub returns-in-Err-clause-step : goal.returns-in-Err-clause-step

@@ -1,6 +1,7 @@
 use Rattle.fs_laws.proofs.helping.HelpedLeave.{helps_are_few}
 use Rattle.fs_laws.proofs.helping.WhoStandsBelow.{no_walking_below, no_later_below, nobody_between, settles, never_waits_to_finish}
 use Rattle.fs_laws.proofs.journal.PlacesOfPlaced.{places_are_told}
+use Rattle.fs_core.proofs.Told.{replies_stay}
 use Rattle.fs_core.proofs.machine.Core.told_of_helping.Goals as goal
 
 pub returns-clause-placed_first : goal.returns-clause-placed_first
@@ -23,3 +24,6 @@ returns-clause-never_waits c = never_waits_to_finish _
 
 pub returns-clause-few_helps : goal.returns-clause-few_helps
 returns-clause-few_helps c = helps_are_few _ c.told.ensures.run
+
+pub returns-clause-replies_stay : goal.returns-clause-replies_stay
+returns-clause-replies_stay c = replies_stay _ c.told.ensures.run
