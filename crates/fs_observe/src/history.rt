@@ -92,7 +92,7 @@ impl Named for Brand {
     ghost book = { record { number = 0; log_name = 0; cells_name = 0 } };
 }
 
-/// An empty history that no tree has yet. Contracts see which history it is.
+/// An empty history that no tree has yet: that it is empty is a fact of the type (`empty`). Contracts see which history it is.
 #[derive(Drop)]
 pub struct Opened {
     head: Word<Noted, u64, Law>,
@@ -110,7 +110,7 @@ impl Model for Opened {
 }
 
 impl Opened {
-    /// A new history. It takes no memory.
+    /// A new history, another one each time. It takes no memory.
     pub fn new() -> Opened {
         let (seen, mut first, _second) = Seen::open(Start::alone(), 0, 0);
         Opened {

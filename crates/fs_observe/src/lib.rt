@@ -10,8 +10,8 @@
 #![tactic(auto)]
 
 mod history;
-pub mod observer;
-pub mod publisher;
+mod observer;
+mod publisher;
 mod shown;
 
 pub use history::{Named, Opened};

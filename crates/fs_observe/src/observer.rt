@@ -53,7 +53,8 @@ impl<N: Named> Stamp<N> {
 }
 
 /// A reader of a tree that waits for nobody, for as long as the tree is lent to it. It keeps the list that it last showed
-/// or was told of, which contracts see, with the tree at which it starts.
+/// or was told of, which contracts see, with the tree at which it starts. Each such list was published: what readers are
+/// shown is played from it (`IsPlayed` in the rule of the copies), and a stamp is made of a published list alone.
 #[derive(Drop)]
 pub struct Observer<'a, N: Named> {
     reader: Seat,
@@ -204,7 +205,7 @@ impl<'a, N: Named> Observer<'a, N> {
     }
 
     /// How many calls the list has that is shown, which begins with the kept one, and is kept from then on. It takes no
-    /// memory.
+    /// memory, and never fails: where what is shown cannot be entered, which is not met, it answers the kept list's length.
     pub fn count(&mut self) -> u64
         ensures kept { GoesOn self.old self.new }
         ensures count { result ≡ length self.new.list }

@@ -7,11 +7,11 @@
 //! counted in `specs/Dones.antt`. That a worker gets on, or that one was had, is claimed by nothing.
 #![tactic(auto)]
 
-pub mod done;
-pub mod job;
+mod done;
+mod job;
 mod moving;
-pub mod pool;
-pub mod queue;
+mod pool;
+mod queue;
 mod worker;
 
 pub use done::Done;

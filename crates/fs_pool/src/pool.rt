@@ -118,8 +118,9 @@ impl<N: Named> Pool<N> {
     }
 
     /// Has the jobs that wait done on a tree by at most so many workers, each with a session of its own, on a thread of its
-    /// own where one can be made. Each takes one job after the other, until none is left or it has no place for an answer.
-    /// The error is that no worker was made.
+    /// own where one can be made. Each takes one job after the other, until none is left or it has no place for an answer:
+    /// jobs for which there was no place still wait then, and a further run does them. A pool may be run any number of times.
+    /// The error is that no worker was made, as where `workers` is 0; then nothing has changed.
     pub fn run<R: Threads + Wait + Clock + Sync, G: Gate + Sync>(
         &mut self,
         rt: &R,

@@ -95,7 +95,8 @@ impl Lesson<Job, Hand> for Rest {
     ghost fact = { λ v items. (h : ℕ → ℕ) → total h v.put ≡ total h v.popped + total h (numbers items) };
 }
 
-/// The queue of a pool's jobs.
+/// The queue of a pool's jobs. A pool keeps its queue, and hands out neither it nor a pass: both types, and `take_job`, are there
+/// to be read and not to be called.
 pub type JobQueue = RuledArrayQueue<Job, Hand, EachOnce>;
 
 /// The right to put jobs into the queue and to pop them.

@@ -2,6 +2,7 @@
 
 ghost use Rattle.std.specs.Prelude.{◌≡◌, ◌+◌, ◌<◌, ◌++◌, ◌∷◌, [], None, Some, IfOk, IfSome, IfNone, OnOk, OnErr, length, slice_get};
 ghost use mathlib.Core.List.{IsPrefix};
+ghost use Rattle.fs_calls.specs.Tree.{root_tree};
 ghost use Rattle.fs_timeline.specs.Timeline.{commits};
 ghost use Rattle.fs_machine.specs.States.{Begins, Step, begun_again};
 ghost use Rattle.fs_core.specs.CoreValues.{state_of};
@@ -20,7 +21,8 @@ use std::marker::Model;
 use std::sync::Wait;
 
 /// The core, and the publisher of what observers see. Contracts see the core and the published list, which is a beginning
-/// of the committed calls. It is not `Drop`: it ends by the end of its tree.
+/// of the committed calls. It is not `Drop`: it ends by the end of its tree. A tree keeps its board under its lock and hands
+/// out none, so this type and `publish` are there to be read and not to be called.
 pub struct Board<N: Named> {
     core: Core,
     publisher: Publisher<N>,
@@ -92,8 +94,10 @@ impl<N: Named> Board<N> {
         opened: Opened,
     ) -> Result<Board<N>, AllocError>
         requires { opened ≡ N.book }
+        ensures start { IfOk result (λ board. board.core.start ≡ root_tree) }
         ensures seats { IfOk result (λ board. board.core.seats ≡ []) }
         ensures timeline { IfOk result (λ board. board.core.timeline ≡ []) }
+        ensures published { IfOk result (λ board. board.published ≡ []) }
     {
         let core = Core::new(alloc)?;
         let first = SeqTree::new(alloc)?;
@@ -154,6 +158,7 @@ impl<N: Named> Board<N> {
     /// An observer that was told nothing yet.
     pub(crate) fn observer<'a>(&mut self) -> Result<Observer<'a, N>, NoPlace>
         ensures same { self.new ≡ self.old }
+        ensures first { IfOk result (λ o. o ≡ record { start = self.old.core.start; list = [] }) }
     {
         let Board { publisher, .. } = self;
         publisher.observer()

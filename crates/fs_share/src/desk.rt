@@ -5,7 +5,7 @@ ghost use Rattle.fs_nodes.specs.Graphs.{graph_shapes};
 ghost use Rattle.fs_nodes.specs.Stores.{graph_of};
 ghost use Rattle.fs_calls.specs.Outcomes.{play};
 ghost use Rattle.fs_calls.specs.Starts.{start_tree};
-ghost use Rattle.fs_calls.specs.Tree.{IsTree};
+ghost use Rattle.fs_calls.specs.Tree.{IsTree, root_tree};
 ghost use Rattle.fs_calls.specs.Sights.{tree_shapes};
 ghost use Rattle.fs_timeline.specs.Timeline.{IsLawful, commits};
 ghost use Rattle.fs_machine.specs.States.{Begins, Step};
@@ -21,7 +21,7 @@ use fs_calls::{Call, Reply};
 use fs_core::{Refusal, Stepped};
 use fs_names::{CallNo, SeatNo};
 use fs_nodes::NodeNo;
-use fs_observe::{Named, NoPlace, Observer, Stamp};
+use fs_observe::{Named, NoPlace, Observer, Opened, Stamp};
 use fs_timeline::Entry;
 use std::alloc::{AllocError, Global};
 use std::sync::Wait;
@@ -91,6 +91,33 @@ fn entry_count<N: Named>(board: &Board<N>) -> usize
 }
 
 impl<N: Named> Desk<N> {
+    /// The root alone: no entry, no seat, and nothing is published. The only error is out of memory.
+    pub fn open<R: Wait>(
+        rt: &R,
+        alloc: Global,
+        opened: Opened,
+        blank: Blank,
+    ) -> Result<Desk<N>, AllocError>
+        requires book { opened ≡ N.book }
+        requires name { blank.name ≡ N.name }
+        requires parts { blank.parts ≡ N.parts }
+        requires all { blank.parts ≡ 2 ^ 63 }
+        ensures start { IfOk result (λ desk. desk.board.core.start ≡ root_tree) }
+        ensures timeline { IfOk result (λ desk. desk.board.core.timeline ≡ []) }
+        ensures seats { IfOk result (λ desk. (desk.board.core.seats ≡ []) × (desk.before ≡ 0)) }
+        ensures published { IfOk result (λ desk. desk.board.published ≡ []) }
+    {
+        let board = Board::open(rt, alloc, opened)?;
+        let (book, rest) = blank.open::<N>();
+        Ok(Desk {
+            board,
+            book,
+            rest,
+            sleepers: false,
+            before: 0,
+        })
+    }
+
     /// One more seat, with a part of the ledger.
     pub fn seat(&mut self) -> Result<(SeatNo, Share<N>), AllocError>
         ensures share { IfOk result (λ made. (made.1.parts ≡ 1) × (made.1.amount ≡ 0)) }
@@ -169,7 +196,11 @@ impl<N: Named> Desk<N> {
     }
 
     /// An observer that was told nothing yet.
-    pub fn observer<'a>(&mut self) -> Result<Observer<'a, N>, NoPlace> {
+    pub fn observer<'a>(&mut self) -> Result<Observer<'a, N>, NoPlace>
+        ensures board { self.new.board ≡ self.old.board }
+        ensures sleepers { self.new.sleepers ≡ self.old.sleepers }
+        ensures first { IfOk result (λ o. o ≡ record { start = self.old.board.core.start; list = [] }) }
+    {
         let Desk { board, .. } = self;
         board.observer()
     }

@@ -7,24 +7,28 @@
 //! name from where they lead; `checkpoint_told` also tells from which tree they are lawful, and that the new tree starts at
 //! what they play. `run_lists` plays each list by a worker of its own. `Session::call_told` also
 //! publishes what has committed, and answers a stamp: observers that learn it, from `AtomFs::observer`, show the call, and
-//! wait for nobody. Enter at `AtomFs::open`; what is counted is defined in `specs/Returns.antt`, what a told call is told of
+//! wait for nobody. Enter at `with_tree`, which opens a tree, does what an `Inside` says on it, and ends it; or at `AtomFs::open`,
+//! whose caller names the tree. What is counted is defined in `specs/Returns.antt`, what a told call is told of
 //! in `specs/Boards.antt`. Of running threads no progress, fairness or end is claimed.
 #![tactic(auto)]
 
-pub mod board;
-pub mod checkpoint;
+mod board;
+mod checkpoint;
 mod desk;
-pub mod gate;
-pub mod lists;
-pub mod session;
+mod gate;
+mod inside;
+mod lists;
+mod session;
 mod told;
-pub mod tree;
+mod tree;
 
 pub use board::{Board, advance};
 pub use checkpoint::NotKept;
-pub use fs_core::NoCheckpoint;
+pub use fs_calls::{Call, Reply};
+pub use fs_core::{NoCheckpoint, Refusal, Stepped};
 pub use fs_observe::{Named, NoPlace, Observer, Opened, Stamp};
 pub use gate::{Gate, Open};
+pub use inside::{Inside, with_tree};
 pub use lists::{ListsFault, run_lists};
 pub use session::{Answer, Session, Tally, Told};
 pub use tree::{AtomFs, Closed};

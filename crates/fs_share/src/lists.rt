@@ -192,7 +192,9 @@ fn run_named<N: Named + Send + Sync, R: Threads + Wait + Clock + Sync, G: Gate +
     }
 }
 
-/// Plays each list on a new tree by a worker of its own, with a session of its own, and ends the tree.
+/// Plays each list on a new tree by a worker of its own, with a session of its own, and ends the tree. A list is played from
+/// its first call to its last; in which order calls of different lists come is nobody's promise. Each worker has ended when
+/// this answers, also where it answers an error; the tree is ended and dropped then.
 pub fn run_lists<R: Threads + Wait + Clock + Sync, G: Gate + Sync>(
     rt: &R,
     alloc: Global,

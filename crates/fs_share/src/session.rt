@@ -25,7 +25,8 @@ pub struct Answer {
 }
 
 /// An answer that can be handed on: how many commits stand before the call's own, and a stamp that tells a published list
-/// with the call. There is no stamp where no memory was left to publish; a later publishing then shows the call too.
+/// with the call. There is no stamp where no memory was left to publish; a later publishing then shows the call too, and
+/// `place` is that number all the same, where the timeline has the call's Commit, and else 0.
 #[derive(Drop)]
 pub struct Told<N: Named> {
     pub answer: Answer,
@@ -33,21 +34,23 @@ pub struct Told<N: Named> {
     pub stamp: Option<Stamp<N>>,
 }
 
-/// A seat of one's own in a tree.
+/// A seat of one's own in a tree. One that is dropped without `end` keeps its part of the account, and then nobody can hand
+/// in a tally of each session: `AtomFs::close` says at least how many calls returned, and not how many.
 #[derive(Drop)]
 pub struct Session<'a, N: Named> {
     pub(crate) fs: &'a AtomFs<N>,
     pub(crate) seat: SeatNo,
-    /// How many calls returned.
+    /// How many calls returned. It is read by `count`: a body that writes it is refused by `counted`.
     pub count: u64,
     pub(crate) share: Share<N>,
     ghost one_part: { share.parts ≡ 1 },
     ghost counted: { share.amount ≡ count },
 }
 
-/// How many calls of a session returned.
+/// How many calls of a session returned. It cannot be made or copied, and is of the tree that its type names.
 #[derive(Drop)]
 pub struct Tally<N: Named> {
+    /// It is read by `count`.
     pub count: u64,
     pub(crate) share: Share<N>,
     ghost one_part: { share.parts ≡ 1 },
@@ -57,7 +60,11 @@ pub struct Tally<N: Named> {
 impl<'a, N: Named> Session<'a, N> {
     /// Begins a call and does its steps, one event under the core's lock at a time, until it returns. After each step
     /// the lock is let go and the gate is called; where another call holds the node that is next, the session waits
-    /// until that node is free. `SeatBusy` comes where the core has not the session's seat or no call under way on it.
+    /// until that node is free.
+    ///
+    /// `OutOfMemory` and `Full` come from the begin: the tree, the timeline and the count are as they were, and the call may
+    /// be made again. `SeatBusy` comes where the core has not the session's seat, or a step finds no call under way on it;
+    /// behind such a step the call's Begin stays in the timeline. Neither is met.
     pub fn call<R: Wait + Clock, G: Gate>(
         &mut self,
         rt: &R,
@@ -129,11 +136,27 @@ impl<'a, N: Named> Session<'a, N> {
         stepped
     }
 
-    /// Ends the session.
+    /// How many calls have returned.
+    pub fn count(&self) -> u64
+        ensures { result ≡ self.now.count }
+    {
+        self.count
+    }
+
+    /// Ends the session, and hands out its tally. The seat stays, since a closed tree counts its sessions by their seats.
     pub fn end(self) -> Tally<N>
         ensures { result.count ≡ self.entry.count }
     {
         let Session { count, share, .. } = self;
         Tally { count, share }
+    }
+}
+
+impl<N: Named> Tally<N> {
+    /// How many calls of the session returned.
+    pub fn count(&self) -> u64
+        ensures { result ≡ self.now.count }
+    {
+        self.count
     }
 }

@@ -11,7 +11,6 @@ ghost use Rattle.fs_timeline.specs.Timeline.{IsLawful, commits};
 ghost use Rattle.fs_share.specs.Boards.{IsListed};
 ghost use Rattle.fs_share.specs.Returns.{answered, returns, AllReturned};
 
-use crate::board::Board;
 use crate::checkpoint::{NotKept, make_ready};
 use crate::desk::Desk;
 use crate::session::{Session, Tally};
@@ -59,7 +58,9 @@ pub struct Closed {
 }
 
 impl<N: Named> AtomFs<N> {
-    /// A tree with the root alone, under the name of this blank and this history. The only error is out of memory.
+    /// A tree with the root alone, under the name of this blank and this history: no entry, no session, nothing published.
+    /// No clause can name what a lock keeps, so that stands at what this is made of (`Desk::open`). The only error is out of
+    /// memory. Most callers want `with_tree`, which asks for nothing.
     pub fn open<R: Wait>(
         rt: &R,
         alloc: Global,
@@ -71,15 +72,7 @@ impl<N: Named> AtomFs<N> {
         requires parts { blank.parts ≡ N.parts }
         requires all { blank.parts ≡ 2 ^ 63 }
     {
-        let board = Board::open(rt, alloc, opened)?;
-        let (book, rest) = blank.open::<N>();
-        Ok(AtomFs::around(Desk {
-            board,
-            book,
-            rest,
-            sleepers: false,
-            before: 0,
-        }))
+        Ok(AtomFs::around(Desk::open(rt, alloc, opened, blank)?))
     }
 
     /// A lock round what it keeps.
@@ -127,7 +120,8 @@ impl<N: Named> AtomFs<N> {
         made
     }
 
-    /// A session with a seat of its own. The only error is out of memory.
+    /// A session with a seat of its own. The seat is there for as long as the tree is, some 400 bytes: a seat whose session
+    /// has ended costs that memory, and no time. The only error is out of memory.
     pub fn session<R: Wait>(&self, rt: &R) -> Result<Session<'_, N>, AllocError>
         ensures { IfOk result (λ session. session.count ≡ 0) }
     {
@@ -142,8 +136,11 @@ impl<N: Named> AtomFs<N> {
         }
     }
 
-    /// An observer that was told nothing yet. The error is that none of the 64 reader places is free, or no memory.
-    pub fn observer<R: Wait>(&self, rt: &R) -> Result<Observer<'_, N>, NoPlace> {
+    /// An observer that was told nothing yet. The error is that none of the 64 reader places is free, or that there is no
+    /// memory.
+    pub fn observer<R: Wait>(&self, rt: &R) -> Result<Observer<'_, N>, NoPlace>
+        ensures { IfOk result (λ observer. observer.list ≡ []) }
+    {
         let mut desk = self.lock(rt);
         let observer = desk.observer();
         MutexGuard::unlock(desk);
@@ -305,7 +302,9 @@ impl<N: Named> AtomFs<N> {
         }
     }
 
-    /// Ends the tree. It takes no memory.
+    /// Ends the tree. It takes no memory. `sessions` counts every session that was made since the timeline began, a pool's
+    /// too. A caller need not have kept the tallies: an empty list is allowed, and then nothing is said of how many calls
+    /// returned. What is still lent, sessions and observers, has ended by then, as their types say.
     pub fn close<R: Wait>(self, rt: &R, tallies: Vec<Tally<N>>) -> Closed
         ensures lawful { IsLawful result.start result.timeline.entries }
         ensures spelled { AllReturned result.timeline.entries → graph_shapes (graph_of result.store) ≡ tree_shapes (play result.start (commits result.timeline.entries)) }
