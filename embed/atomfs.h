@@ -1,16 +1,21 @@
 /* AtomFS for C and C++: an in-memory file tree with concurrent calls by path, each of them proved to be atomic.
  *
- * docs/EMBEDDING.md says what is proved of these functions, and what a caller must keep to, since nothing checks C's side:
- *   - no pointer is null, not even for no bytes, and no two of one call overlap;
+ * Enter at atomfs_open, atomfs_seat and the typed calls, as atomfs_mkdir. docs/EMBEDDING.md says what is proved of these
+ * functions, and what a caller must keep to, since nothing checks C's side:
  *   - a handle is used by one call at a time. It may go from thread to thread, as under a mutex;
  *   - a handle is made by ATOMFS_INIT, is never copied, and its fields are never touched;
- *   - an open handle owns its tree and its journal until atomfs_close, which frees both. Nothing else frees memory of it.
+ *   - an open handle owns its tree and its journal until atomfs_close, which frees both. Nothing else frees memory of it;
+ *   - a pointer leads to as many bytes as its length says, and no two pointers of one call overlap.
  *
- * Lines, replies, journals, trees and scripts are those of docs/FORMATS.md, with no byte 0 behind them.
+ * Pointers: null is allowed where the length beside it is 0. Any other null answers ATOMFS_NULL, and a length of 2^63 and
+ * more ATOMFS_BAD_LENGTH: any function may answer these two, and has done nothing then.
  *
- * A text is written to out, which has room for so many bytes, and *count is its length. Where out is too small it is left as
- * it was and *count is the length that is needed; nothing is lost, and the text can be asked for again. Where a function
- * answers 3 or more, look at no more of what it writes to than is said with it. */
+ * A text or bytes are written to out, which has room for so many bytes, and *count is their length, with no byte 0 behind
+ * them. Where out is too small it is left as it was and *count is the length that is needed; nothing is lost, and the same
+ * can be asked for again. Else a function writes through its pointers only what is said with its answer.
+ *
+ * Paths are bytes with their length: absolute, the names between slashes, of any bytes but 0 and the slash. Lines, replies,
+ * journals, trees and scripts are those of docs/FORMATS.md. */
 #ifndef ATOMFS_H
 #define ATOMFS_H
 
@@ -21,6 +26,9 @@
 extern "C" {
 #endif
 
+/* The version of this header; atomfs_version is that of the library. */
+#define ATOMFS_VERSION "0.2.0"
+
 /* A handle. Its fields are the library's own. */
 typedef struct atomfs {
     uint8_t is_open;
@@ -30,19 +38,20 @@ typedef struct atomfs {
 /* A closed handle: atomfs fs = ATOMFS_INIT; */
 #define ATOMFS_INIT { 0, 0 }
 
-/* The greatest limit of nodes, and the first line of a journal. */
+/* The greatest limit of nodes, and the first line of the journal of a tree that began empty. */
 #define ATOMFS_NODE_LIMIT 1048576
 #define ATOMFS_JOURNAL_HEADER "atomfs-journal 1\n"
 
-/* What a function answers. */
+/* What a function answers: one of these, or from ATOMFS_FAILED on the error of a call. */
 enum {
     ATOMFS_OK = 0,
     /* From here to ATOMFS_WAITS the call or the look was done, or the call is under way. */
-    ATOMFS_TOO_SMALL = 1,     /* done; the text has *count bytes, out has fewer, and is as before: ask again, for the reply of
-                                 a call by atomfs_reply, since atomfs_call would make it a second time */
-    ATOMFS_UNTOLD = 2,        /* the call returned; no memory for its reply's text: ask atomfs_reply */
+    ATOMFS_TOO_SMALL = 1,     /* done; there are *count bytes, out has fewer, and is as before: ask again, for the reply of a
+                                 call by atomfs_reply_, since the call itself would be made a second time */
+    ATOMFS_UNTOLD = 2,        /* the call returned, and its reply is not told: for want of memory, when atomfs_reply_ can be
+                                 asked again, or since it is of another kind than the function tells */
     ATOMFS_WAITS = 3,         /* the call *number is under way, and a call of another seat holds the node that it wants next */
-    /* From here on nothing has changed. */
+    /* From here to ATOMFS_FAILED nothing has changed. */
     ATOMFS_CLOSED = 4,        /* the handle is closed */
     ATOMFS_ALREADY_OPEN = 5,  /* the handle is open */
     ATOMFS_BAD_LIMIT = 6,     /* the limit is 0, or above ATOMFS_NODE_LIMIT */
@@ -51,18 +60,26 @@ enum {
     ATOMFS_SEAT_BUSY = 9,     /* the seat has a call under way */
     ATOMFS_FULL = 10,         /* the call needs a node, and all are in use */
     ATOMFS_NO_REPLY = 11,     /* no call of this number has returned */
-    /* Faults of a text: of a line that is given, or of a script or a journal, whose line *count is. */
+    ATOMFS_UNDER_WAY = 12,    /* a call is under way, the one of the least number is *number */
+    ATOMFS_NULL = 14,         /* a pointer is null, and may not be */
+    ATOMFS_BAD_LENGTH = 15,   /* a length is 2^63 or more */
+    /* Faults of what is read: a path, a request, a line, or a script or a journal, whose line *count is. */
     ATOMFS_BAD_HEADER = 16,   /* the first line is another than it has to be */
-    ATOMFS_BAD_LINE = 17,     /* a line has a form that none has at its place */
+    ATOMFS_BAD_LINE = 17,     /* a line has a form that none has at its place, or the call of a request is none */
     ATOMFS_BAD_THREAD = 18,   /* the name of a thread is none */
     ATOMFS_THREAD_TWICE = 19, /* a thread has two blocks */
-    ATOMFS_BAD_PATH = 20,     /* a word is no path */
+    ATOMFS_BAD_PATH = 20,     /* a word, or the bytes of a typed call, are no path */
     ATOMFS_BAD_NUMBER = 21,   /* a word is no number */
     ATOMFS_BAD_HEX = 22,      /* a word is neither - nor pairs of hexadecimal digits */
     ATOMFS_NO_SCHEDULE = 23,  /* a script ends without a line schedule */
     ATOMFS_BAD_WORD = 24,     /* a word of a schedule is none */
     ATOMFS_TOO_LARGE = 25,    /* a limit of a text is passed */
-    ATOMFS_BAD_REPLY = 26     /* a reply of a journal is none */
+    ATOMFS_BAD_REPLY = 26,    /* a reply of a journal is none */
+    ATOMFS_BAD_START = 27,    /* the start tree of a journal is none */
+    /* The call returned with an error, which is in the journal, and the tree is as before: this and Linux's number of the
+       error, as ATOMFS_FAILED + ENOENT. Errors are ENOENT, ENOTDIR, EEXIST, ENOTEMPTY, EISDIR, EINVAL, EBUSY, EPERM,
+       ENOSPC (too many entries) and EFBIG. */
+    ATOMFS_FAILED = 128
 };
 
 /* What a step did, and what *about is then. */
@@ -74,46 +91,193 @@ enum {
     ATOMFS_DID_HELP = 4,        /* it gave another call its place; the number of that call */
     ATOMFS_DID_COMMIT = 5,      /* it took its place, made its change and fixed its reply; 0 */
     ATOMFS_DID_CARRY_OUT = 6,   /* it had its place already, made its change and fixed its reply; 0 */
-    ATOMFS_DID_RETURN = 7       /* it returned, and atomfs_reply tells its reply; 0 */
+    ATOMFS_DID_RETURN = 7       /* it returned, and atomfs_reply_ tells its reply; 0 */
 };
 
+/* Which call a request asks for. */
+enum {
+    ATOMFS_CALL_MKDIR = 0,
+    ATOMFS_CALL_MKNOD = 1,
+    ATOMFS_CALL_UNLINK = 2,
+    ATOMFS_CALL_RMDIR = 3,
+    ATOMFS_CALL_RENAME = 4,
+    ATOMFS_CALL_EXCHANGE = 5,
+    ATOMFS_CALL_STAT = 6,
+    ATOMFS_CALL_READDIR = 7,
+    ATOMFS_CALL_READ = 8,
+    ATOMFS_CALL_WRITE = 9,
+    ATOMFS_CALL_TRUNCATE = 10
+};
+
+/* What stands at a path: a directory and how many entries it has, or a file and how many bytes. */
+struct atomfs_stat {
+    uint8_t is_dir;
+    uint64_t size;
+};
+
+/* A call that is begun by itself. Fields that its call does not have are not looked at. */
+typedef struct atomfs_request {
+    uint8_t call;           /* one of ATOMFS_CALL_ */
+    const char *path;       /* the path, of a rename and an exchange the first */
+    size_t length;
+    const char *other;      /* the second path of a rename and an exchange */
+    size_t other_length;
+    uint64_t offset;        /* where a read and a write begin */
+    uint64_t size;          /* how many bytes a read asks for, how many a truncate leaves */
+    const void *bytes;      /* the bytes of a write */
+    size_t bytes_length;
+} atomfs_request;
+
+/* ---- Handles and seats */
+
 /* Opens a closed handle: an empty tree for at most limit nodes, its root included.
- * OK, ALREADY_OPEN, BAD_LIMIT, NO_MEMORY. */
+ * OK, ALREADY_OPEN, BAD_LIMIT, NO_MEMORY. By an error the handle stays as it was. */
 uint8_t atomfs_open(atomfs *fs, size_t limit);
 
 /* Closes a handle, and frees its tree and its journal. OK, CLOSED. */
 uint8_t atomfs_close(atomfs *fs);
 
 /* Adds a seat, on which one call at a time can be under way. *seat is its number: 0, 1, 2 and so on.
- * OK, CLOSED, NO_MEMORY. */
+ * OK, CLOSED, NO_MEMORY. By an error there is no new seat. */
 uint8_t atomfs_seat(atomfs *fs, uint64_t *seat);
 
-/* Begins the call that a line spells. *number is the call's number: 1, 2, 3 and so on.
- * OK, CLOSED, NO_SEAT, SEAT_BUSY, FULL, NO_MEMORY, and the faults of a line: BAD_LINE, BAD_PATH, BAD_NUMBER, BAD_HEX. */
-uint8_t atomfs_begin(atomfs *fs, uint64_t seat, const char *line, size_t length, uint64_t *number);
+/* ---- Typed calls
+ *
+ * Each begins its call on a seat and steps it to its return. *number is the call's number: 1, 2, 3 and so on.
+ * OK, and ATOMFS_FAILED + an error, where the call has returned, and *number is written.
+ * WAITS, where the call is under way on its seat, *number is written, atomfs_step goes on with it, and atomfs_reply_ tells
+ * its reply once it has returned.
+ * CLOSED, NO_SEAT, SEAT_BUSY, FULL, NO_MEMORY, BAD_PATH, where no call began, and tree and journal stay as they were.
+ * What else a function answers is said with it. */
 
-/* Does one step of the call on a seat. *did is one of ATOMFS_DID_, and *about what it speaks of. OK, CLOSED, NO_SEAT. */
+/* Makes an empty directory. */
+uint8_t atomfs_mkdir(atomfs *fs, uint64_t seat, const char *path, size_t length, uint64_t *number);
+
+/* Makes an empty file. */
+uint8_t atomfs_mknod(atomfs *fs, uint64_t seat, const char *path, size_t length, uint64_t *number);
+
+/* Removes the entry of a file. */
+uint8_t atomfs_unlink(atomfs *fs, uint64_t seat, const char *path, size_t length, uint64_t *number);
+
+/* Removes the entry of an empty directory. */
+uint8_t atomfs_rmdir(atomfs *fs, uint64_t seat, const char *path, size_t length, uint64_t *number);
+
+/* Moves what stands at path, with all below it, to other, and removes what stood there. */
+uint8_t atomfs_rename(atomfs *fs, uint64_t seat, const char *path, size_t length, const char *other, size_t other_length,
+                      uint64_t *number);
+
+/* Lets what stands at two paths change places, each with all below it. */
+uint8_t atomfs_exchange(atomfs *fs, uint64_t seat, const char *path, size_t length, const char *other, size_t other_length,
+                        uint64_t *number);
+
+/* Tells what stands at a path. At OK *stat is written. */
+uint8_t atomfs_stat(atomfs *fs, uint64_t seat, const char *path, size_t length, struct atomfs_stat *stat, uint64_t *number);
+
+/* Tells all names of a directory, in byte order, a byte 0 behind each: *count bytes with these.
+ * TOO_SMALL and UNTOLD too, where the call has returned all the same, and atomfs_reply_names tells its names, as many at a
+ * time as there is room for. */
+uint8_t atomfs_readdir(atomfs *fs, uint64_t seat, const char *path, size_t length, char *out, size_t room, size_t *count,
+                       uint64_t *number);
+
+/* Reads as many bytes of a file from an offset on as out has room for, or as there are: *count bytes. */
+uint8_t atomfs_read(atomfs *fs, uint64_t seat, const char *path, size_t length, uint64_t offset, void *out, size_t room,
+                    size_t *count, uint64_t *number);
+
+/* Writes bytes into a file at an offset; a gap before them reads as zeros. At OK *wrote is how many: all. */
+uint8_t atomfs_write(atomfs *fs, uint64_t seat, const char *path, size_t length, uint64_t offset, const void *bytes,
+                     size_t bytes_length, uint64_t *wrote, uint64_t *number);
+
+/* Cuts a file to a size, or adds zeros up to it. */
+uint8_t atomfs_truncate(atomfs *fs, uint64_t seat, const char *path, size_t length, uint64_t size, uint64_t *number);
+
+/* ---- Calls step by step */
+
+/* Begins the call of a request. *number is its number.
+ * OK, CLOSED, NO_SEAT, SEAT_BUSY, FULL, NO_MEMORY, BAD_PATH, BAD_LINE. By an error nothing has changed. */
+uint8_t atomfs_begin_call(atomfs *fs, uint64_t seat, const atomfs_request *request, uint64_t *number);
+
+/* Does one step of the call on a seat. *did is one of ATOMFS_DID_, and *about what it speaks of.
+ * OK, CLOSED, NO_SEAT. By an error nothing has changed. */
 uint8_t atomfs_step(atomfs *fs, uint64_t seat, uint8_t *did, uint64_t *about);
 
-/* Begins the call that a line spells and steps it to its return. *number is the call's number, and out has the reply's text.
+/* ---- Replies of calls that have returned
+ *
+ * Each tells the reply of the call of a number, as often as it is asked. It looks through the journal from its last entry
+ * back, so an old reply takes as long as there are entries since.
+ * OK; ATOMFS_FAILED + an error, where the call failed; UNTOLD, where its reply is of another kind; CLOSED; NO_REPLY, where
+ * no call of this number has returned since the last checkpoint. Nothing changes. */
+
+/* Tells that a call is done which answers no more: mkdir, mknod, unlink, rmdir, rename, exchange, truncate. */
+uint8_t atomfs_reply_done(atomfs *fs, uint64_t number);
+
+/* Tells the reply of a stat. */
+uint8_t atomfs_reply_stat(atomfs *fs, uint64_t number, struct atomfs_stat *stat);
+
+/* Tells the names of a readdir that come behind the name after, in byte order, a byte 0 behind each: as many whole ones as
+ * out has room for. All names come behind the one of length 0. At OK *count is the length of those told, 0 where there
+ * are no more; the last of them is where the next piece begins. TOO_SMALL, where out has no room for the first of them,
+ * which needs *count bytes; UNTOLD for want of memory too. */
+uint8_t atomfs_reply_names(atomfs *fs, uint64_t number, const char *after, size_t after_length, char *out, size_t room,
+                           size_t *count);
+
+/* Tells the bytes of a read. TOO_SMALL too. */
+uint8_t atomfs_reply_bytes(atomfs *fs, uint64_t number, void *out, size_t room, size_t *count);
+
+/* Tells how many bytes a write wrote. */
+uint8_t atomfs_reply_wrote(atomfs *fs, uint64_t number, uint64_t *wrote);
+
+/* ---- Words for statuses */
+
+/* The version of the library, as "0.2.0". */
+const char *atomfs_version(void);
+
+/* The name of the error of a status from ATOMFS_FAILED on, as "ENOENT"; null for any other status. */
+const char *atomfs_errno_name(uint8_t status);
+
+/* What a status says, in words; never null. */
+const char *atomfs_status_text(uint8_t status);
+
+/* ---- The journal and the tree */
+
+/* Tells the journal's lines from the entry first on, counted from 0, without what stands before the first entry. *entries
+ * is how many entries there are: the next piece begins there. OK, TOO_SMALL, CLOSED, NO_MEMORY. Nothing changes. */
+uint8_t atomfs_journal(atomfs *fs, size_t first, char *out, size_t room, size_t *count, size_t *entries);
+
+/* Tells what stands before the first entry of the journal: its header, and after a checkpoint the tree at which it begins,
+ * where that is more than the root. This and the lines of atomfs_journal are the journal that atomfs_check reads.
+ * OK, TOO_SMALL, CLOSED, NO_MEMORY. Nothing changes. */
+uint8_t atomfs_opening(atomfs *fs, char *out, size_t room, size_t *count);
+
+/* Hands the whole journal out as a text, and gives its memory back: the journal begins again at the tree as it stands, with
+ * no entries and call numbers at 1. Handle, seats and tree stay. OK, CLOSED, NO_MEMORY; TOO_SMALL; UNDER_WAY, where
+ * *number is the least number of a call under way. By any but OK nothing has changed. */
+uint8_t atomfs_checkpoint(atomfs *fs, char *out, size_t room, size_t *count, uint64_t *number);
+
+/* Tells the tree that the nodes represent now. OK, TOO_SMALL, CLOSED, NO_MEMORY. Nothing changes. */
+uint8_t atomfs_tree(atomfs *fs, char *out, size_t room, size_t *count);
+
+/* ---- Calls as lines of a script */
+
+/* Begins the call that a line spells, as "rename /a /b". *number is its number. OK, CLOSED, NO_SEAT, SEAT_BUSY, FULL,
+ * NO_MEMORY, and the faults of a line: BAD_LINE, BAD_PATH, BAD_NUMBER, BAD_HEX. By an error nothing has changed. */
+uint8_t atomfs_begin(atomfs *fs, uint64_t seat, const char *line, size_t length, uint64_t *number);
+
+/* Begins the call that a line spells and steps it to its return. *number is its number, and out has its reply's text, as
+ * "stat file 5" or "failed ENOENT": a call that fails is told by OK and this text.
  * OK; TOO_SMALL and UNTOLD, where the call has returned all the same, and atomfs_reply tells its reply; WAITS, where the
  * call is under way on its seat, and atomfs_step goes on with it; what atomfs_begin answers else. */
 uint8_t atomfs_call(atomfs *fs, uint64_t seat, const char *line, size_t length, char *out, size_t room, size_t *count,
                     uint64_t *number);
 
-/* Tells the reply of a call that has returned, as often as it is asked. It looks through the journal from its last entry
- * back, so an old reply takes as long as there are entries since. OK, TOO_SMALL, CLOSED, NO_REPLY, NO_MEMORY. */
+/* Tells the text of the reply of a call that has returned, as often as it is asked.
+ * OK, TOO_SMALL, CLOSED, NO_REPLY, NO_MEMORY. Nothing changes. */
 uint8_t atomfs_reply(atomfs *fs, uint64_t number, char *out, size_t room, size_t *count);
 
-/* Tells the journal's lines from the entry first on, counted from 0, without the header line. *entries is how many
- * entries there are: the next piece begins there. OK, TOO_SMALL, CLOSED, NO_MEMORY. */
-uint8_t atomfs_journal(atomfs *fs, size_t first, char *out, size_t room, size_t *count, size_t *entries);
-
-/* Tells the tree that the nodes represent now. OK, TOO_SMALL, CLOSED, NO_MEMORY. */
-uint8_t atomfs_tree(atomfs *fs, char *out, size_t room, size_t *count);
+/* ---- Whole scripts and journals, without a handle */
 
 /* Runs a script by its own schedule, and tells its journal, its tree and its counts, as `atomfs run` prints them.
- * OK, TOO_SMALL, NO_MEMORY, and the faults of a script, where *count is the line of the fault. */
+ * OK, TOO_SMALL, NO_MEMORY, UNDER_WAY, where *count is the number of the call that a checkpoint found under way, and the
+ * faults of a script, where *count is the line of the fault. */
 uint8_t atomfs_run(const char *script, size_t length, char *out, size_t room, size_t *count);
 
 /* Checks a journal, and tells the verdict's line, as `atomfs check` prints it.

@@ -1,27 +1,20 @@
-/* Two seats on one tree from C: calls, and a rename that helps a mkdir which is half-way below the directory that it
- * moves. Replies go to standard error, and the journal to standard output, for `atomfs check`. */
+/* Two seats on one tree from C: typed calls, a rename that helps a mkdir which is half-way below the directory that it
+ * moves, and a call as a line. Answers go to standard error, and the journal to standard output, for `atomfs check`. */
 #include "atomfs.h"
 #include <stdio.h>
 #include <stdlib.h>
 #include <string.h>
 
-static void stop(const char *what, int status) {
-    fprintf(stderr, "%s: status %d\n", what, status);
+static void stop(const char *what, uint8_t status) {
+    fprintf(stderr, "%s: %s\n", what, atomfs_status_text(status));
     exit(1);
 }
 
-static void call(atomfs *fs, uint64_t seat, const char *line) {
-    char reply[256];
-    size_t count = 0;
-    uint64_t number = 0;
-    uint8_t status = atomfs_call(fs, seat, line, strlen(line), reply, sizeof reply, &count, &number);
-    if (status == ATOMFS_OK)
-        fprintf(stderr, "%s -> %.*s\n", line, (int)count, reply);
-    else
-        fprintf(stderr, "%s -> status %d\n", line, status);
+static void tell(const char *what, uint8_t status) {
+    fprintf(stderr, "%s -> %s\n", what, atomfs_status_text(status));
 }
 
-/* Steps a seat until its call stands at a node of this many steps, or returns; the last answer. */
+/* Steps a seat so many times, or until its call returns; what the last step did. */
 static int steps(atomfs *fs, uint64_t seat, int most) {
     uint8_t did = ATOMFS_DID_IDLE;
     uint64_t about = 0;
@@ -33,46 +26,70 @@ static int steps(atomfs *fs, uint64_t seat, int most) {
     return did;
 }
 
-/* The whole of a text whose length is not known before: asked for with no room, and then with enough. */
-static char *whole_journal(atomfs *fs, size_t *length) {
-    char none;
-    size_t entries = 0;
-    uint8_t status = atomfs_journal(fs, 0, &none, 0, length, &entries);
-    if (status != ATOMFS_TOO_SMALL) stop("journal", status);
-    char *text = malloc(*length);
-    if (text == NULL) stop("malloc", 0);
-    status = atomfs_journal(fs, 0, text, *length, length, &entries);
-    if (status != ATOMFS_OK) stop("journal", status);
-    return text;
+/* The names of a directory through a buffer for one name of any length. */
+static void list(atomfs *fs, uint64_t seat, const char *path) {
+    char name[33];
+    size_t count = 0, after = 0;
+    uint64_t number;
+    uint8_t status = atomfs_readdir(fs, seat, path, strlen(path), NULL, 0, &count, &number);
+    if (status != ATOMFS_OK && status != ATOMFS_TOO_SMALL) stop("readdir", status);
+    char last[33];
+    while ((status = atomfs_reply_names(fs, number, last, after, name, sizeof name, &count)) == ATOMFS_OK && count != 0)
+        for (size_t at = 0; at < count; at += after + 1) {
+            after = strlen(name + at);
+            memcpy(last, name + at, after);
+            fprintf(stderr, "%s has %s\n", path, name + at);
+        }
+    if (status != ATOMFS_OK) stop("names", status);
 }
 
 int main(void) {
     atomfs fs = ATOMFS_INIT;
-    uint64_t m = 0, r = 0, number = 0;
-    if (atomfs_seat(&fs, &m) != ATOMFS_CLOSED) stop("a closed handle", 0);
-    if (atomfs_open(&fs, 1000) != ATOMFS_OK || atomfs_seat(&fs, &m) != ATOMFS_OK || atomfs_seat(&fs, &r) != ATOMFS_OK)
-        stop("open", 0);
-    call(&fs, m, "mkdir /a");
-    call(&fs, m, "mkdir /a/d");
-    call(&fs, m, "mknod /a/f");
-    call(&fs, m, "write /a/f 0 68656c6c6f");
-    call(&fs, m, "read /a/f 0 100");
-    call(&fs, m, "rename /a /a/d");
-    call(&fs, m, "nonsense");
+    uint64_t m = 0, r = 0, number = 0, wrote = 0;
+    size_t count = 0, entries = 0;
+    char bytes[16];
+    struct atomfs_stat stat;
+    if (atomfs_open(&fs, 1000) || atomfs_seat(&fs, &m) || atomfs_seat(&fs, &r)) return 1;
+    tell("mkdir /a", atomfs_mkdir(&fs, m, "/a", 2, &number));
+    tell("mkdir /a/d", atomfs_mkdir(&fs, m, "/a/d", 4, &number));
+    tell("mknod /a/f", atomfs_mknod(&fs, m, "/a/f", 4, &number));
+    tell("write /a/f", atomfs_write(&fs, m, "/a/f", 4, 0, "hello", 5, &wrote, &number));
+    tell("read /a/f", atomfs_read(&fs, m, "/a/f", 4, 1, bytes, sizeof bytes, &count, &number));
+    fprintf(stderr, "it has %.*s\n", (int)count, bytes);
+    tell("stat /a/f", atomfs_stat(&fs, m, "/a/f", 4, &stat, &number));
+    fprintf(stderr, "it is a %s of %llu\n", stat.is_dir ? "directory" : "file", (unsigned long long)stat.size);
+    tell("rename /a /a/d", atomfs_rename(&fs, m, "/a", 2, "/a/d", 4, &number));
+    tell("unlink a", atomfs_unlink(&fs, m, "a", 1, &number));
 
     /* The mkdir walks to /a/d and waits there, half-way; the rename runs to its end, and helps it. */
-    if (atomfs_begin(&fs, m, "mkdir /a/d/x", 12, &number) != ATOMFS_OK) stop("begin", 0);
+    atomfs_request half_way = { .call = ATOMFS_CALL_MKDIR, .path = "/a/d/x", .length = 6 };
+    atomfs_request moves = { .call = ATOMFS_CALL_RENAME, .path = "/a", .length = 2, .other = "/b", .other_length = 2 };
+    uint64_t made = 0, moved = 0;
+    uint8_t status = atomfs_begin_call(&fs, m, &half_way, &made);
+    if (status != ATOMFS_OK) stop("begin", status);
     steps(&fs, m, 5);
-    if (atomfs_begin(&fs, r, "rename /a /b", 12, &number) != ATOMFS_OK) stop("begin", 0);
-    if (steps(&fs, r, 100) != ATOMFS_DID_RETURN || steps(&fs, m, 100) != ATOMFS_DID_RETURN) stop("steps", 0);
-    call(&fs, r, "readdir /b/d");
+    status = atomfs_begin_call(&fs, r, &moves, &moved);
+    if (status != ATOMFS_OK) stop("begin", status);
+    if (steps(&fs, r, 100) != ATOMFS_DID_RETURN || steps(&fs, m, 100) != ATOMFS_DID_RETURN) stop("steps", ATOMFS_WAITS);
+    tell("rename /a /b", atomfs_reply_done(&fs, moved));
+    tell("mkdir /a/d/x", atomfs_reply_done(&fs, made));
+    list(&fs, r, "/b");
 
-    size_t length = 0;
-    char *journal = whole_journal(&fs, &length);
+    char line[] = "stat /b/d", reply[64];
+    status = atomfs_call(&fs, r, line, strlen(line), reply, sizeof reply, &count, &number);
+    if (status != ATOMFS_OK) stop("call", status);
+    fprintf(stderr, "%s -> %.*s\n", line, (int)count, reply);
+
+    /* The journal's length is not known before: it is asked for with no room, and then with enough. */
+    status = atomfs_journal(&fs, 0, NULL, 0, &count, &entries);
+    if (status != ATOMFS_TOO_SMALL) stop("journal", status);
+    char *journal = malloc(count);
+    if (journal == NULL) return 1;
+    status = atomfs_journal(&fs, 0, journal, count, &count, &entries);
+    if (status != ATOMFS_OK) stop("journal", status);
     fputs(ATOMFS_JOURNAL_HEADER, stdout);
-    fwrite(journal, 1, length, stdout);
+    fwrite(journal, 1, count, stdout);
     free(journal);
-    uint8_t status = atomfs_close(&fs);
-    if (status != ATOMFS_OK || atomfs_close(&fs) != ATOMFS_CLOSED) stop("close", status);
-    return 0;
+    status = atomfs_close(&fs);
+    return status != ATOMFS_OK || atomfs_close(&fs) != ATOMFS_CLOSED;
 }

@@ -1,38 +1,43 @@
-"""Calls on a tree from Python, by the shared object that the first argument names.
+"""Two seats on one tree from Python: calls, and a rename that helps a mkdir which is half-way below the directory that it moves.
 
 Replies go to standard error, and the journal to standard output, for `atomfs check`.
 """
-import argparse
 import sys
 
 import atomfs
 
-LINES = [b"mkdir /a", b"mknod /a/f", b"write /a/f 0 " + b"61" * 2000, b"read /a/f 0 4000", b"stat /a/f", b"stat a"]
 
-
-def named_library():
-    words = argparse.ArgumentParser(prog="python3 examples/embed/main.py", description=__doc__.splitlines()[0])
-    words.add_argument("LIBRARY", help="the shared object: dist/lib/libatomfs.so, which embed/build makes")
-    try:
-        return atomfs.Library(words.parse_args().LIBRARY)
-    except OSError as error:
-        words.error(error)
+def tell(*words):
+    print(*words, file=sys.stderr)
 
 
 def main():
-    library = named_library()
-    with atomfs.Tree(library, 1000) as tree:
-        seat = tree.seat()
-        for line in LINES:
+    with atomfs.Tree(1000) as tree:
+        tree.mkdir("/a")
+        tree.mkdir("/a/d")
+        tree.mknod("/a/f")
+        tell("wrote", tree.write("/a/f", 0, b"hello"))
+        tell("read", tree.read("/a/f"), tree.stat("/a/f"))
+        for call in (lambda: tree.stat("/nowhere"), lambda: tree.rename("/a", "/a/d"), lambda: tree.stat("a")):
             try:
-                reply = tree.call(seat, line)
-                print(line[:20].decode(), "->", reply[:20].decode(), len(reply), file=sys.stderr)
-            except atomfs.Error as error:
-                print(line.decode(), "->", error, file=sys.stderr)
-        journal = tree.journal()
-        if library.check(journal) != b"lawful\n":
-            raise SystemExit("the journal is not lawful")
-        sys.stdout.write(journal.decode())
+                call()
+            except OSError as error:
+                tell(type(error).__name__, error)
+
+        # The mkdir walks to /a/d and waits there, half-way; the rename runs to its end, and helps it.
+        maker, mover = tree.seat(), tree.seat()
+        number = maker.begin.mkdir("/a/d/x")
+        for _ in range(5):
+            maker.step()
+        mover.begin.rename("/a", "/b")
+        step = mover.step()
+        while step.did != atomfs.Did.RETURN:
+            if step.did == atomfs.Did.HELP:
+                tell("helps the mkdir:", step.about == number)
+            step = mover.step()
+        maker.finish()
+        tell("readdir", tree.readdir("/b/d"), tree.check())
+        print(tree.journal(), end="")
 
 
 if __name__ == "__main__":

@@ -1,88 +1,55 @@
-//! Calls on a tree from Rust. Replies go to standard error, and the journal to standard output, for `atomfs check`.
-//! `rustc --test` has four threads work on one tree under a mutex.
+//! Two seats on one tree from Rust, and two threads by sessions. Replies go to standard error, and the journal to standard
+//! output, for `atomfs check`.
 
-mod atomfs;
+use std::sync::{Arc, Mutex};
+use std::thread;
 
-use atomfs::{Did, Error, Tree};
+use atomfs::{Call, Did, Error, Session, Tree};
 
-/// Steps of a seat until its call has returned.
-fn finish(tree: &mut Tree, seat: u64) -> Result<(), Error> {
-    while tree.step(seat)? != Did::Returned {}
+/// A mkdir stands half-way in /a/d, which a rename moves and helps, and a stat has to wait for it.
+fn meet(tree: &mut Tree) -> Result<(), Error> {
+    let (maker, mover) = (tree.seat()?, tree.seat()?);
+    let number = tree.begin(maker, &Call::mkdir("/a/d/x"))?;
+    for _ in 0..5 {
+        tree.step(maker)?;
+    }
+    tree.begin(mover, &Call::rename("/a", "/b"))?;
+    let mut did = tree.step(mover)?;
+    while did != Did::Returned {
+        if let Did::Helped(helped) = did {
+            eprintln!("helps the mkdir: {}", helped == number);
+        }
+        did = tree.step(mover)?;
+    }
+    if let Err(Error::Waits(waits)) = tree.stat("/b/d/x") {
+        eprintln!("the stat waits");
+        eprintln!("mkdir: {:?}", tree.finish(maker)?);
+        eprintln!("stat: {:?}", tree.finish(waits)?);
+    }
     Ok(())
 }
 
 fn main() -> Result<(), Error> {
-    let mut tree = Tree::new(1000)?;
-    let (m, r) = (tree.seat()?, tree.seat()?);
-    for line in ["mkdir /a", "mkdir /a/d", "stat /a/d", "stat /nowhere", "mkdir a", "mkdir /a/d"] {
-        match tree.call(m, line) {
-            Ok(reply) => eprintln!("{line} -> {reply}"),
-            Err(error) => eprintln!("{line} -> {error}"),
-        }
+    let mut tree = Tree::with_limit(1000)?;
+    tree.mkdir("/a")?;
+    tree.mkdir("/a/d")?;
+    tree.mknod("/a/f")?;
+    eprintln!("wrote {}", tree.write("/a/f", 0, "hello")?);
+    eprintln!("read {:?}, {:?}", tree.read("/a/f", 0, 100)?, tree.stat("/a/f")?);
+    for came in [tree.stat("/nowhere"), tree.stat("a")] {
+        eprintln!("{}", came.unwrap_err());
     }
+    meet(&mut tree)?;
 
-    // A mkdir stands half-way below /a, holding /a/d, and a stat of /a/d/x has to wait for it.
-    let number = tree.begin(m, "mkdir /a/d/x")?;
-    while tree.step(m)? != Did::Committed {}
-    let waits = tree.call(r, "stat /a/d/x");
-    assert!(matches!(waits, Err(Error::Waits(_))));
-    finish(&mut tree, m)?;
-    finish(&mut tree, r)?;
-    eprintln!("call {number} -> {}", tree.reply(number)?);
-    eprint!("{}", tree.tree()?);
+    let tree = Arc::new(Mutex::new(tree));
+    thread::scope(|scope| {
+        for name in ["/c", "/d"] {
+            let mut session = Session::new(&tree).expect("a seat");
+            scope.spawn(move || (0..100).try_for_each(|_| session.mkdir(name).and_then(|()| session.rmdir(name))).expect("calls"));
+        }
+    });
+    let mut tree = tree.lock().expect("no thread panicked");
+    eprintln!("{}", tree.check()?);
     print!("{}", tree.journal()?);
     Ok(())
-}
-
-#[cfg(test)]
-mod tests {
-    use super::*;
-    use std::sync::Mutex;
-    use std::thread;
-
-    /// Each of four threads has a seat, and takes the lock anew for each begin and each step, so the calls interleave.
-    #[test]
-    fn four_threads_under_a_mutex() {
-        let tree = Mutex::new(Tree::new(1000).unwrap());
-        let seats: Vec<u64> = (0..4).map(|_| tree.lock().unwrap().seat().unwrap()).collect();
-        thread::scope(|scope| {
-            for &seat in &seats {
-                let tree = &tree;
-                scope.spawn(move || {
-                    for round in 0..100 {
-                        for line in [format!("mkdir /d{seat}"), format!("rename /d{seat} /e"), "rmdir /e".to_string()] {
-                            let number = tree.lock().unwrap().begin(seat, &line).unwrap();
-                            while tree.lock().unwrap().step(seat).unwrap() != Did::Returned {}
-                            let reply = tree.lock().unwrap().reply(number).unwrap();
-                            assert!(reply == "ok" || reply.starts_with("failed "), "round {round}: {reply}");
-                        }
-                    }
-                });
-            }
-        });
-        let journal = tree.into_inner().unwrap().journal().unwrap();
-        assert_eq!(journal.lines().filter(|line| line.starts_with("return ")).count(), 1200);
-        if let Ok(path) = std::env::var("JOURNAL") {
-            std::fs::write(path, journal).unwrap();
-        }
-    }
-
-    #[test]
-    fn errors_are_told_and_change_nothing() {
-        assert_eq!(Tree::new(0).err(), Some(Error::BadLimit));
-        let mut tree = Tree::new(1).unwrap();
-        assert_eq!(tree.call(0, "stat /").err(), Some(Error::NoSeat));
-        let seat = tree.seat().unwrap();
-        assert_eq!(tree.call(seat, "stat").err(), Some(Error::BadLine));
-        assert_eq!(tree.call(seat, "stat a").err(), Some(Error::BadPath));
-        assert_eq!(tree.call(seat, "truncate /a 01").err(), Some(Error::BadNumber));
-        assert_eq!(tree.call(seat, "write /a 0 z").err(), Some(Error::BadHex));
-        assert_eq!(tree.call(seat, "mkdir /a").err(), Some(Error::Full));
-        assert_eq!(tree.reply(1).err(), Some(Error::NoReply));
-        assert_eq!(tree.journal().unwrap(), "atomfs-journal 1\n");
-        let number = tree.begin(seat, "readdir /").unwrap();
-        assert_eq!(tree.begin(seat, "stat /").err(), Some(Error::SeatBusy));
-        finish(&mut tree, seat).unwrap();
-        assert_eq!(tree.reply(number).unwrap(), "names");
-    }
 }

@@ -1,46 +1,98 @@
--- What the status of a call that was run says of it.
-use Rattle.std.proofs.Common.{◌≡◌, ◌<◌, ◌≤◌, ℕ, List, Result, Ok, Err, IfOk, IfErr, Option, Some, sym, subst, arith}
+-- What the status of a call says of it.
+use Rattle.std.proofs.Common.{◌≡◌, ◌<◌, ◌≤◌, ℕ, Result, Ok, Err, Option, Some, None, refl, sym, subst, arith}
+use Rattle.fs_calls.specs.declared.call.Call.{Call}
 use Rattle.fs_calls.specs.declared.reply.Reply.{Reply}
+use Rattle.fs_words.specs.declared.fault.FaultKind.{FaultKind}
 use Rattle.fs_core.specs.CoreValues.{CoreValue}
-use Rattle.fs_embed.specs.Calls.{RunsLine, WaitsLine, IsNotReturned}
-use Rattle.fs_embed.specs.Texts.{reply_text}
+use Rattle.fs_embed.specs.Calls.{RunsCall, WaitsCall, IsNotBegun, IsNotReturned}
+use Rattle.fs_embed.specs.declared.calls.NotBegun.{NotBegun}
 use Rattle.fs_embed.specs.declared.calls.NotReturned.{NotReturned}
 use Rattle.fs_embed.specs.declared.calls.NotReturned.TheVariants as not_returned
-use Rattle.fs_embed.specs.declared.calls.Returned.{Returned}
-use Rattle.atomfs_c.specs.Exports.{Goes, Tells, IsToldRun}
-use Rattle.atomfs_c.specs.declared.status.TheConstants.{UNTOLD, WAITS}
+use Rattle.atomfs_c.specs.Statuses.{IsReturned, IsRefusal, IsToldWhy, begin_status}
+use Rattle.atomfs_c.specs.Exports.{Goes, ToldIfClosed, IsCalled, IsReplied, Comes}
+use Rattle.atomfs_c.specs.declared.status.TheConstants.{WAITS, CLOSED}
 
 -- what is so of two cores is so of the handles that have them
 pub goes : (P : CoreValue → CoreValue → Type 0) (before after : Option CoreValue) (old new : CoreValue) → before ≡ Some old → after ≡ Some new → P old new → Goes P before after
 goes P before after old new is_old is_new p = subst (λ (o : Option CoreValue). Goes P o after) (sym is_old) (subst (λ (n : Option CoreValue). Goes P (Some old) n) (sym is_new) p)
 
-module _ (old new : CoreValue) (seat : ℕ) (line : List ℕ) (status count number : ℕ) (before after : List ℕ) where
-  pub returned : (ran : Result Returned NotReturned) → IfOk ran (λ done. RunsLine old seat line done.number done.reply new) → IsToldRun ran status count number before after → status < UNTOLD
-      → (reply : Reply) × RunsLine old seat line number reply new × Tells status (reply_text reply) count before after
-  returned (Ok done) is told below = (done.reply, subst (λ (k : ℕ). RunsLine old seat line k done.reply new) (sym told.1) is, told.0)
-  returned (Err (not_returned.Waits call holder)) is told below = absurd (let e : status ≡ 3 = told.0 in let b : status < 2 = below in omega (arith, e, b))
-  returned (Err (not_returned.NotBegun why)) is told below = absurd (let e : 4 < status = told.1 in let b : status < 2 = below in omega (arith, e, b))
+-- a handle that is open before and after, and is not told to be closed
+pub stays_open : (P : CoreValue → CoreValue → Type 0) (status : ℕ) (old new : Option CoreValue) → Goes P old new → (status ≡ CLOSED → ⊥) → ToldIfClosed status old new
+stays_open P status None new there other = absurd there
+stays_open P status (Some a) None there other = absurd there
+stays_open P status (Some a) (Some b) goes other = (other, refl)
 
-  pub untold : (ran : Result Returned NotReturned) → IfOk ran (λ done. RunsLine old seat line done.number done.reply new) → IsToldRun ran status count number before after → status ≡ UNTOLD
-      → (reply : Reply) × RunsLine old seat line number reply new
-  untold (Ok done) is told at = (done.reply, subst (λ (k : ℕ). RunsLine old seat line k done.reply new) (sym told.1) is)
-  untold (Err (not_returned.Waits call holder)) is told at = absurd (let e : status ≡ 3 = told.0 in let b : status ≡ 2 = at in omega (arith, e, b))
-  untold (Err (not_returned.NotBegun why)) is told at = absurd (let e : 4 < status = told.1 in let b : status ≡ 2 = at in omega (arith, e, b))
+-- a status of a call that returned is neither that of a closed handle nor that of one that waits, and no refusal
+pub not_closed : (status : ℕ) → IsReturned status → status ≡ CLOSED → ⊥
+not_closed status returned at = let e : status ≡ 4 = at in let b : 128 ≤ status = returned (omega (arith, e)) in omega (arith, e, b)
 
-  pub waits : (ran : Result Returned NotReturned) → IfErr ran (λ why. IsNotReturned old seat line why new) → IsToldRun ran status count number before after → status ≡ WAITS
-      → (holder : ℕ) × WaitsLine old seat line number holder new
-  waits (Ok done) is told at = absurd (let e : status ≤ 2 = told.2 in let b : status ≡ 3 = at in omega (arith, e, b))
-  waits (Err (not_returned.Waits call holder)) is told at = (holder, subst (λ (k : ℕ). WaitsLine old seat line k holder new) (sym told.1) is)
-  waits (Err (not_returned.NotBegun why)) is told at = absurd (let e : 4 < status = told.1 in let b : status ≡ 3 = at in omega (arith, e, b))
+pub not_waits : (status : ℕ) → IsReturned status → status ≡ WAITS → ⊥
+not_waits status returned at = let e : status ≡ 3 = at in let b : 128 ≤ status = returned (omega (arith, e)) in omega (arith, e, b)
 
-  -- the same of the handles that have the cores
-  module _ (o n : Option CoreValue) (is_old : o ≡ Some old) (is_new : n ≡ Some new) (ran : Result Returned NotReturned) (told : IsToldRun ran status count number before after) where
-    pub returned_goes : IfOk ran (λ done. RunsLine old seat line done.number done.reply new) → status < UNTOLD
-        → Goes (λ a b. (reply : Reply) × RunsLine a seat line number reply b × Tells status (reply_text reply) count before after) o n
-    returned_goes is below = goes (λ a b. (reply : Reply) × RunsLine a seat line number reply b × Tells status (reply_text reply) count before after) o n old new is_old is_new (returned ran is told below)
+pub not_refused : (status : ℕ) → IsReturned status → IsRefusal status → ⊥
+not_refused status returned is = let a : 4 < status = is.above in let b : status < 128 = is.below in let c : 128 ≤ status = returned (omega (arith, a)) in omega (arith, b, c)
 
-    pub untold_goes : IfOk ran (λ done. RunsLine old seat line done.number done.reply new) → status ≡ UNTOLD → Goes (λ a b. (reply : Reply) × RunsLine a seat line number reply b) o n
-    untold_goes is at = goes (λ a b. (reply : Reply) × RunsLine a seat line number reply b) o n old new is_old is_new (untold ran is told at)
+module _ (given : Result Call FaultKind) (seat number : ℕ) (old new : Option CoreValue) where
+  -- a call that returned, and whose reply is told
+  pub called : (Told : Reply → Type 0) (status : ℕ) (reply : Reply) → Comes given seat (Ok reply) number old new → Told reply → IsReturned status → IsCalled given seat Told status number old new
+  called Told status reply came told is = record {
+    returned = λ _. (reply, came, told);
+    waits = λ at. absurd (not_waits status is at);
+    refused = λ r. absurd (not_refused status is r);
+    closed = stays_open (λ a b. RunsCall a seat given number reply b) status old new came (not_closed status is);
+  }
 
-    pub waits_goes : IfErr ran (λ why. IsNotReturned old seat line why new) → status ≡ WAITS → Goes (λ a b. (holder : ℕ) × WaitsLine a seat line number holder b) o n
-    waits_goes is at = goes (λ a b. (holder : ℕ) × WaitsLine a seat line number holder b) o n old new is_old is_new (waits ran is told at)
+  -- one that did not return has no reply to tell
+  pub uncalled : (Told : Reply → Type 0) (status : ℕ) → Comes given seat (Err status) number old new → IsCalled given seat Told status number old new
+  uncalled Told status came = record {
+    returned = λ is. absurd (let a : 2 < status = came.1 in let b : 128 ≤ status = is a in let c : status < 128 = came.2 in omega (arith, b, c));
+    waits = came.0.waits;
+    refused = came.0.refused;
+    closed = came.0.closed;
+  }
+
+  -- a closed handle
+  pub comes_closed : old ≡ None → new ≡ None → Comes given seat (Err 4) number old new
+  comes_closed is_old is_new = (
+    record {
+      returned = λ is. absurd (let b : 128 ≤ 4 = is (omega arith) in omega (arith, b));
+      waits = λ at. absurd (let e : 4 ≡ 3 = at in omega (arith, e));
+      refused = λ r. absurd (let a : 4 < 4 = r.above in omega (arith, a));
+      closed = subst (λ (o : Option CoreValue). ToldIfClosed 4 o new) (sym is_old) (refl, is_new);
+    },
+    omega arith,
+    omega arith,
+  )
+
+  -- a call that did not return
+  pub comes_not : (a b : CoreValue) → old ≡ Some a → new ≡ Some b → (why : NotReturned) (status : ℕ) → IsNotReturned a seat given why b → IsToldWhy why status number → Comes given seat (Err status) number old new
+  comes_not a b is_old is_new (not_returned.Waits call holder) status is told = (
+    record {
+      returned = λ r. absurd (let e : status ≡ 3 = told.0 in let c : 128 ≤ status = r (omega (arith, e)) in omega (arith, c, e));
+      waits = λ at. there;
+      refused = λ r. absurd (let e : status ≡ 3 = told.0 in let c : 4 < status = r.above in omega (arith, c, e));
+      closed = stays_open (λ x y. (h : ℕ) × WaitsCall x seat given number h y) status old new there (λ at. let e : status ≡ 3 = told.0 in let c : status ≡ 4 = at in omega (arith, c, e));
+    },
+    (let e : status ≡ 3 = told.0 in omega (arith, e)),
+    (let e : status ≡ 3 = told.0 in omega (arith, e)),
+  )
+    where
+      there : Goes (λ x y. (h : ℕ) × WaitsCall x seat given number h y) old new
+      there = goes (λ x y. (h : ℕ) × WaitsCall x seat given number h y) old new a b is_old is_new (holder, subst (λ (k : ℕ). WaitsCall a seat given k holder b) (sym told.1) is)
+  comes_not a b is_old is_new (not_returned.NotBegun why) status is told = (
+    record {
+      returned = λ r. absurd (let c : 4 < status = told.1.above in let d : status < 128 = told.1.below in let e : 128 ≤ status = r (omega (arith, c)) in omega (arith, d, e));
+      waits = λ at. absurd (let c : 4 < status = told.1.above in let e : status ≡ 3 = at in omega (arith, c, e));
+      refused = λ r. there;
+      closed = stays_open (λ x y. (w : NotBegun) × (status ≡ begin_status w) × IsNotBegun x seat given w y) status old new there (λ at. let c : 4 < status = told.1.above in let e : status ≡ 4 = at in omega (arith, c, e));
+    },
+    (let c : 4 < status = told.1.above in omega (arith, c)),
+    told.1.below,
+  )
+    where
+      there : Goes (λ x y. (w : NotBegun) × (status ≡ begin_status w) × IsNotBegun x seat given w y) old new
+      there = goes (λ x y. (w : NotBegun) × (status ≡ begin_status w) × IsNotBegun x seat given w y) old new a b is_old is_new (why, told.0, is)
+
+-- what is so of the reply in a core is so of the handle that has it
+pub behind : {Told : Reply → Type 0} {number status : ℕ} (held : Option CoreValue) (core : CoreValue) → held ≡ Some core → IsReplied (Some core) Told number status → IsReplied held Told number status
+behind {Told} {number} {status} held core is replied = subst (λ (h : Option CoreValue). IsReplied h Told number status) (sym is) replied

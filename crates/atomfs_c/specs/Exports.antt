@@ -5,12 +5,22 @@ use Rattle.fs_calls.specs.Sights.{tree_shapes}
 use Rattle.fs_nodes.specs.Graphs.{graph_shapes}
 use Rattle.fs_nodes.specs.Stores.{graph_of}
 use Rattle.fs_timeline.specs.Timeline as timeline
-use Rattle.fs_core.specs.CoreValues.{CoreValue, IsAtRest}
-use Rattle.fs_embed.specs.Texts.{IsCopied, reply_text}
-use Rattle.fs_embed.specs.declared.calls.NotReturned.{NotReturned}
-use Rattle.fs_embed.specs.declared.calls.Returned.{Returned}
-use Rattle.atomfs_c.specs.Statuses.{IsToldWhy}
-use Rattle.atomfs_c.specs.declared.status.TheConstants.{OK, TOO_SMALL, UNTOLD, CLOSED}
+use Rattle.fs_machine.specs.States.{begun_again}
+use Rattle.fs_core.specs.CoreValues.{CoreValue, state_of, IsAtRest}
+use Rattle.fs_script.specs.Journals.{journal_text}
+use Rattle.fs_names.specs.declared.kind.Kind.{Kind}
+use Rattle.fs_names.specs.declared.kind.Kind.TheVariants.{Dir, File}
+use Rattle.fs_calls.specs.declared.call.Call.{Call}
+use Rattle.fs_calls.specs.declared.reply.Reply.{Reply}
+use Rattle.fs_calls.specs.declared.reply.Reply.TheVariants as answer
+use Rattle.fs_calls.specs.declared.reply.Reply.TheVariants.{Done, Names, Bytes, Wrote, Failed}
+use Rattle.fs_words.specs.declared.fault.FaultKind.{FaultKind}
+use Rattle.fs_embed.specs.Calls.{BeginsCall, RunsCall, WaitsCall, IsNotBegun}
+use Rattle.fs_embed.specs.Texts.{IsCopied, IsReply, HasNoReply, IsShown, reply_text, names_text}
+use Rattle.fs_embed.specs.declared.calls.NotBegun.{NotBegun}
+use Rattle.atomfs_c.specs.Statuses.{IsReturned, IsRefusal, failed_status, begin_status}
+use Rattle.atomfs_c.specs.declared.status.TheConstants.{OK, TOO_SMALL, UNTOLD, WAITS, CLOSED, NO_REPLY, FAILED}
+use Rattle.atomfs_c.specs.declared.told.Stat.{Stat as StatValue}
 
 -- the handle is open before and after, and what became of the core is such
 abbrev pub Goes : (CoreValue → CoreValue → Type 0) → Option CoreValue → Option CoreValue → Type 0
@@ -41,7 +51,84 @@ IsTooLong text count old new = (count ≡ length text) × (length old < length t
 abbrev pub Tells : ℕ → List ℕ → ℕ → List ℕ → List ℕ → Type 0
 Tells status text count old new = (status ≡ OK → IsFilled text count old new) × (status ≡ TOO_SMALL → IsTooLong text count old new)
 
--- what came of a call that was run is told: its number, and its reply's text or why there is none
-abbrev pub IsToldRun : Result Returned NotReturned → ℕ → ℕ → ℕ → List ℕ → List ℕ → Type 0
-IsToldRun (Ok done) status count number old new = Tells status (reply_text done.reply) count old new × (number ≡ done.number) × (status ≤ UNTOLD)
-IsToldRun (Err why) status count number old new = IsToldWhy why status number
+-- the journal was handed out, from its start tree, and begins again at the tree as it stands
+pub record IsHanded (old new : CoreValue) (count : ℕ) (before after : List ℕ) : Type 0 where
+  pub text : IsFilled (journal_text old.start old.timeline) count before after
+  pub rest : IsAtRest old
+  pub again : state_of new ≡ begun_again (state_of old)
+  pub seats : new.seats ≡ old.seats
+
+-- ---- what tells a reply
+
+-- as text: where there is no memory for it, it is not told
+abbrev pub IsToldText : Reply → ℕ → ℕ → List ℕ → List ℕ → Type 0
+IsToldText reply status count old new = Tells status (reply_text reply) count old new
+
+-- of a call that answers no more than that it is done
+abbrev pub done_status : Reply → ℕ
+done_status Done = OK
+done_status (Failed errno) = failed_status errno
+done_status _ = UNTOLD
+
+-- whether a directory is of this kind, as a number
+abbrev pub is_dir : Kind → ℕ
+is_dir Dir = 1
+is_dir File = 0
+
+-- of a stat
+abbrev pub IsToldStat : Reply → ℕ → StatValue → Type 0
+IsToldStat (answer.Stat kind size) status stat = (status ≡ OK) × (stat.is_dir ≡ is_dir kind) × (stat.size ≡ size)
+IsToldStat (Failed errno) status stat = status ≡ failed_status errno
+IsToldStat _ status stat = status ≡ UNTOLD
+
+-- of a readdir, a byte 0 behind each name: where there is no memory for them, they are not told
+abbrev pub IsToldNames : Reply → ℕ → ℕ → List ℕ → List ℕ → Type 0
+IsToldNames (Names names) status count old new = Tells status (names_text names) count old new × (status ≤ UNTOLD)
+IsToldNames (Failed errno) status count old new = status ≡ failed_status errno
+IsToldNames _ status count old new = status ≡ UNTOLD
+
+-- of a read
+abbrev pub IsToldBytes : Reply → ℕ → ℕ → List ℕ → List ℕ → Type 0
+IsToldBytes (Bytes bytes) status count old new = Tells status bytes count old new × (status < UNTOLD)
+IsToldBytes (Failed errno) status count old new = status ≡ failed_status errno
+IsToldBytes _ status count old new = status ≡ UNTOLD
+
+-- of a write
+abbrev pub IsToldWrote : Reply → ℕ → ℕ → Type 0
+IsToldWrote (Wrote bytes) status wrote = (status ≡ OK) × (wrote ≡ bytes)
+IsToldWrote (Failed errno) status wrote = status ≡ failed_status errno
+IsToldWrote _ status wrote = status ≡ UNTOLD
+
+-- of a readdir, the names behind one, as many as there is room for
+abbrev pub IsToldBehind : Reply → List ℕ → ℕ → ℕ → List ℕ → List ℕ → Type 0
+IsToldBehind (Names names) after status count old new = (shown : List (List ℕ)) × IsShown names after (length old) shown × Tells status (names_text shown) count old new × (status ≤ UNTOLD)
+IsToldBehind (Failed errno) after status count old new = status ≡ failed_status errno
+IsToldBehind _ after status count old new = status ≡ UNTOLD
+
+-- ---- what came of a call
+
+-- what a status says of a call that was asked for on a seat, and Told of its reply
+pub record IsCalled (given : Result Call FaultKind) (seat : ℕ) (Told : Reply → Type 0) (status number : ℕ) (old new : Option CoreValue) : Type 0 where
+  -- it began under this number and its steps led to its return with a reply, which is told
+  pub returned : IsReturned status → (reply : Reply) × Goes (λ a b. RunsCall a seat given number reply b) old new × Told reply
+  -- it began under this number and is under way, at a node that a call of another seat holds
+  pub waits : status ≡ WAITS → Goes (λ a b. (holder : ℕ) × WaitsCall a seat given number holder b) old new
+  -- it did not begin, for the reason that the status is the number of, and nothing changed
+  pub refused : IsRefusal status → Goes (λ a b. (why : NotBegun) × (status ≡ begin_status why) × IsNotBegun a seat given why b) old new
+  pub closed : ToldIfClosed status old new
+
+-- what a status says of the begin of a call that was asked for on a seat
+pub record IsBegun (given : Result Call FaultKind) (seat status number : ℕ) (old new : Option CoreValue) : Type 0 where
+  pub begun : status ≡ OK → Goes (λ a b. BeginsCall a seat given number b) old new
+  pub refused : IsRefusal status → Goes (λ a b. (why : NotBegun) × (status ≡ begin_status why) × IsNotBegun a seat given why b) old new
+  pub closed : ToldIfClosed status old new
+
+-- what a status says of the reply of a call that has returned, and Told of it
+pub record IsReplied (core : Option CoreValue) (Told : Reply → Type 0) (number status : ℕ) : Type 0 where
+  pub found : IsReturned status → IsSomeAnd core (λ c. (reply : Reply) × IsReply c.timeline number reply × Told reply)
+  pub none : status ≡ NO_REPLY → IsSomeAnd core (λ c. HasNoReply c.timeline number)
+
+-- what came of a call behind a handle: its reply, or the status that says why there is none
+abbrev pub Comes : Result Call FaultKind → ℕ → Result Reply ℕ → ℕ → Option CoreValue → Option CoreValue → Type 0
+Comes given seat (Ok reply) number old new = Goes (λ a b. RunsCall a seat given number reply b) old new
+Comes given seat (Err status) number old new = IsCalled given seat (λ reply. ⊥) status number old new × (UNTOLD < status) × (status < FAILED)

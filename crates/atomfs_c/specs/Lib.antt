@@ -1,3 +1,4 @@
 pub mod Handles
 pub mod Statuses
+pub mod Requests
 pub mod Exports

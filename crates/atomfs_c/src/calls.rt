@@ -1,19 +1,38 @@
-//! The exports that begin calls, step them, and run them.
+//! The exports that begin calls and step them, and what runs a call behind a handle.
 
-ghost use Rattle.std.specs.Prelude.{◌≡◌, ◌≤◌, ◌<◌, ℕ, Option, length};
-ghost use Rattle.fs_calls.specs.declared.reply.Reply.{Reply};
-ghost use Rattle.fs_embed.specs.Calls.{BeginsLine, IsNotBegun, StepsAs, RunsLine, WaitsLine};
-ghost use Rattle.fs_embed.specs.Texts.{reply_text};
-ghost use Rattle.fs_embed.specs.declared.calls.NotBegun.{NotBegun};
-ghost use Rattle.atomfs_c.specs.Statuses.{begin_status, IsToldWhy};
-ghost use Rattle.atomfs_c.specs.Exports.{Goes, ToldIfClosed, IsLawful, IsSpelled, Tells, IsToldRun};
+ghost use Rattle.std.specs.Prelude.{◌≡◌, ◌≤◌, ◌<◌, length};
+ghost use Rattle.fs_embed.specs.Requests.{asked, call_in};
+ghost use Rattle.fs_embed.specs.Calls.{StepsAs};
+ghost use Rattle.atomfs_c.specs.Statuses.{IsRefusal, IsToldWhy};
+ghost use Rattle.atomfs_c.specs.Requests.{asked_by};
+ghost use Rattle.atomfs_c.specs.Exports.{Goes, ToldIfClosed, IsLawful, IsSpelled, IsBegun, Comes};
 
 use crate::handles::{Handle, put, take};
-use crate::status::{CLOSED, NO_SEAT, OK, UNTOLD, WAITS, begin_status};
-use crate::texts::tell;
-use fs_embed::{NotReturned, Returned, begin_line, reply_text, run_line, step_seat};
+use crate::status::{CLOSED, NO_SEAT, OK, WAITS, begin_status};
+use fs_calls::Reply;
+use fs_embed::{NotReturned, Request, begin_call, run_call, step_seat};
 use fs_names::SeatNo;
 use std::alloc::Global;
+
+/// Begins the call that is asked for behind a handle, and tells its number.
+fn begin(alloc: Global, handle: &mut Handle, seat: u64, request: Request, number: &mut u64) -> u8
+    ensures begun { IsBegun (asked request.entry) seat result number.new handle.old.held.core handle.new.held.core }
+    ensures lawful { IsLawful handle.new.held.core }
+    ensures spelled { IsSpelled handle.new.held.core }
+{
+    let Some(mut core) = take(alloc, handle) else {
+        return CLOSED;
+    };
+    let begun = begin_call(alloc, &mut core, SeatNo::new(seat), request);
+    put(handle, core);
+    match begun {
+        Ok(call) => {
+            *number = call.get();
+            OK
+        }
+        Err(why) => begin_status(why),
+    }
+}
 
 /// Begins the call that a line spells on a seat, and tells its number.
 #[unsafe(no_mangle)]
@@ -24,24 +43,60 @@ pub extern "C" fn atomfs_begin(
     line: &[u8],
     number: &mut u64,
 ) -> u8
-    ensures begun { result ≡ OK → Goes (λ old new. BeginsLine old seat line.now number.new new) handle.old.held.core handle.new.held.core }
-    ensures refused { CLOSED < result → Goes (λ old new. (why : NotBegun) × (result ≡ begin_status why) × IsNotBegun old seat line.now why new) handle.old.held.core handle.new.held.core }
-    ensures closed { ToldIfClosed result handle.old.held.core handle.new.held.core }
+    ensures begun { IsBegun (call_in line.now) seat result number.new handle.old.held.core handle.new.held.core }
     ensures lawful { IsLawful handle.new.held.core }
     ensures spelled { IsSpelled handle.new.held.core }
 {
-    let Some(mut core) = take(alloc, handle) else {
-        return CLOSED;
-    };
-    let begun = begin_line(alloc, &mut core, SeatNo::new(seat), line);
-    put(handle, core);
-    match begun {
-        Ok(call) => {
-            *number = call.get();
-            OK
-        }
-        Err(why) => begin_status(why),
+    begin(alloc, handle, seat, Request::Line(line), number)
+}
+
+/// The call that a number and what may stand with it ask for.
+fn request_of<'a>(
+    call: u8,
+    path: &'a [u8],
+    other: &'a [u8],
+    off: u64,
+    size: u64,
+    bytes: &'a [u8],
+) -> Request<'a>
+    ensures { asked result ≡ asked_by call path.now other.now off size bytes.now }
+{
+    match call {
+        0 => Request::Mkdir(path),
+        1 => Request::Mknod(path),
+        2 => Request::Unlink(path),
+        3 => Request::Rmdir(path),
+        4 => Request::Rename(path, other),
+        5 => Request::Exchange(path, other),
+        6 => Request::Stat(path),
+        7 => Request::Readdir(path),
+        8 => Request::Read(path, off, size),
+        9 => Request::Write(path, off, bytes),
+        10 => Request::Truncate(path, size),
+        _ => Request::Nothing,
     }
+}
+
+/// Begins the call that a number and what may stand with it ask for on a seat, and tells its number.
+#[unsafe(no_mangle)]
+pub extern "C" fn atomfs_begin_call(
+    alloc: Global,
+    handle: &mut Handle,
+    seat: u64,
+    call: u8,
+    path: &[u8],
+    other: &[u8],
+    off: u64,
+    size: u64,
+    bytes: &[u8],
+    number: &mut u64,
+) -> u8
+    ensures begun { IsBegun (asked_by call path.now other.now off size bytes.now) seat result number.new handle.old.held.core handle.new.held.core }
+    ensures lawful { IsLawful handle.new.held.core }
+    ensures spelled { IsSpelled handle.new.held.core }
+{
+    let request = request_of(call, path, other, off, size, bytes);
+    begin(alloc, handle, seat, request, number)
 }
 
 /// Does one step of the call on a seat, and tells which answer it was and what it speaks of.
@@ -54,7 +109,7 @@ pub extern "C" fn atomfs_step(
     about: &mut u64,
 ) -> u8
     ensures stepped { result ≡ OK → Goes (λ old new. StepsAs old seat did.new about.new new) handle.old.held.core handle.new.held.core }
-    ensures refused { CLOSED < result → Goes (λ old new. (result ≡ NO_SEAT) × (length old.seats ≤ seat) × (new ≡ old)) handle.old.held.core handle.new.held.core }
+    ensures refused { IsRefusal result → Goes (λ old new. (result ≡ NO_SEAT) × (length old.seats ≤ seat) × (new ≡ old)) handle.old.held.core handle.new.held.core }
     ensures closed { ToldIfClosed result handle.old.held.core handle.new.held.core }
     ensures lawful { IsLawful handle.new.held.core }
     ensures spelled { IsSpelled handle.new.held.core }
@@ -74,25 +129,6 @@ pub extern "C" fn atomfs_step(
     }
 }
 
-/// Tells the number of a call that has just returned, and its reply's text.
-fn tell_done(
-    alloc: Global,
-    done: &Returned,
-    out: &mut [u8],
-    count: &mut usize,
-    number: &mut u64,
-) -> u8
-    ensures tells { Tells result (reply_text done.now.reply) count.new out.old out.new }
-    ensures number { number.new ≡ done.now.number }
-    ensures either { result ≤ UNTOLD }
-{
-    *number = done.number.get();
-    match reply_text(alloc, &done.reply) {
-        Ok(text) => tell(text.as_slice(), out, count),
-        Err(_) => UNTOLD,
-    }
-}
-
 /// Tells why a call did not return, and the number of one that is under way.
 fn tell_why(why: &NotReturned, number: &mut u64) -> u8
     ensures { IsToldWhy why.now result number.new }
@@ -106,46 +142,29 @@ fn tell_why(why: &NotReturned, number: &mut u64) -> u8
     }
 }
 
-/// Tells what came of a call that was run.
-fn tell_ran(
-    alloc: Global,
-    ran: &Result<Returned, NotReturned>,
-    out: &mut [u8],
-    count: &mut usize,
-    number: &mut u64,
-) -> u8
-    ensures { IsToldRun ran.now result count.new number.new out.old out.new }
-{
-    match ran {
-        Ok(done) => tell_done(alloc, done, out, count, number),
-        Err(why) => tell_why(why, number),
-    }
-}
-
-/// Runs the call that a line spells on a seat from its begin to its return, and tells its number and its reply's text.
-/// Where it waits for a call of another seat it stays under way, and `atomfs_step` goes on with it.
-#[unsafe(no_mangle)]
-pub extern "C" fn atomfs_call(
+/// Runs the call that is asked for behind a handle, from its begin to its return, and tells its number. The error is the
+/// number of the reason why it did not return. Where it waits for a call of another seat it stays under way.
+pub fn run(
     alloc: Global,
     handle: &mut Handle,
     seat: u64,
-    line: &[u8],
-    out: &mut [u8],
-    count: &mut usize,
+    request: Request,
     number: &mut u64,
-) -> u8
-    ensures returned { result < UNTOLD → Goes (λ old new. (reply : Reply) × RunsLine old seat line.now number.new reply new × Tells result (reply_text reply) count.new out.old out.new) handle.old.held.core handle.new.held.core }
-    ensures untold { result ≡ UNTOLD → Goes (λ old new. (reply : Reply) × RunsLine old seat line.now number.new reply new) handle.old.held.core handle.new.held.core }
-    ensures waits { result ≡ WAITS → Goes (λ old new. (holder : ℕ) × WaitsLine old seat line.now number.new holder new) handle.old.held.core handle.new.held.core }
-    ensures refused { CLOSED < result → Goes (λ old new. (why : NotBegun) × (result ≡ begin_status why) × IsNotBegun old seat line.now why new) handle.old.held.core handle.new.held.core }
-    ensures closed { ToldIfClosed result handle.old.held.core handle.new.held.core }
+) -> Result<Reply, u8>
+    ensures came { Comes (asked request.entry) seat result number.new handle.old.held.core handle.new.held.core }
     ensures lawful { IsLawful handle.new.held.core }
     ensures spelled { IsSpelled handle.new.held.core }
 {
     let Some(mut core) = take(alloc, handle) else {
-        return CLOSED;
+        return Err(CLOSED);
     };
-    let ran = run_line(alloc, &mut core, SeatNo::new(seat), line);
+    let ran = run_call(alloc, &mut core, SeatNo::new(seat), request);
     put(handle, core);
-    tell_ran(alloc, &ran, out, count, number)
+    match ran {
+        Ok(done) => {
+            *number = done.number.get();
+            Ok(done.reply)
+        }
+        Err(why) => Err(tell_why(&why, number)),
+    }
 }

@@ -11,9 +11,13 @@
 #![tactic(auto)]
 
 mod calls;
+mod checkpoint;
 mod handles;
 mod held;
 mod parts;
+mod replies;
 mod runs;
 mod status;
 mod texts;
+mod told;
+mod typed;

@@ -2,20 +2,19 @@
 
 ghost use Rattle.std.specs.Prelude.{◌≡◌, ◌≢◌, ◌<◌, ℕ, List, Ok};
 ghost use Rattle.fs_timeline.specs.declared.verdict.Verdict.{Verdict};
-ghost use Rattle.fs_script.specs.Script.{script_of};
 ghost use Rattle.fs_sched.specs.Checks.{verdict_line, verdict_of};
 ghost use Rattle.fs_sched.specs.EachRun.{AreOfTheRun};
 ghost use Rattle.fs_sched.specs.declared.running.RunEnd.{RunEnd};
 ghost use Rattle.atomfs_c.specs.Exports.{Tells};
-ghost use Rattle.atomfs_c.specs.Statuses.{IsToldFault, TellsFault};
+ghost use Rattle.atomfs_c.specs.Statuses.{IsToldFault, TellsFault, TellsNoRun};
 
-use crate::status::{CLOSED, NO_MEMORY, UNTOLD, fault_status};
-use crate::texts::tell;
+use crate::status::{CLOSED, NO_MEMORY, UNDER_WAY, UNTOLD, fault_status};
+use crate::told::tell;
 use fs_embed::{NoText, check_text, run_text};
 use fs_sched::Schedule;
 use std::alloc::Global;
 
-/// Tells why a run has no text: its number, and the line of a fault of the input.
+/// Tells why a run has no text: its number, and the line of a fault of the input, or the number of a call under way.
 fn tell_fault(fault: NoText, count: &mut usize) -> u8
     ensures told { IsToldFault fault result count.new }
     ensures refused { CLOSED < result }
@@ -26,15 +25,19 @@ fn tell_fault(fault: NoText, count: &mut usize) -> u8
             fault_status(fault.kind)
         }
         NoText::OutOfMemory => NO_MEMORY,
+        NoText::UnderWay(call) => {
+            *count = call.get() as usize;
+            UNDER_WAY
+        }
     }
 }
 
 /// Runs a script by its own schedule, and tells its run text, as `atomfs run` prints it. Where the script has a fault its
-/// line is told in the place of a length.
+/// line is told in the place of a length, and where it asks for a checkpoint too early the number of a call under way.
 #[unsafe(no_mangle)]
 pub extern "C" fn atomfs_run(alloc: Global, script: &[u8], out: &mut [u8], count: &mut usize) -> u8
     ensures ran { result < UNTOLD → (end : RunEnd) × (text : List ℕ) × AreOfTheRun Schedule.Given script.now end text × Tells result text count.new out.old out.new }
-    ensures fault { CLOSED < result → TellsFault (script_of script.now) result count.new }
+    ensures fault { CLOSED < result → TellsNoRun Schedule.Given script.now result count.new }
     ensures told { result ≢ CLOSED }
 {
     match run_text(alloc, script, Schedule::Given) {

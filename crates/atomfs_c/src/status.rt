@@ -1,8 +1,9 @@
 //! The numbers that exports answer.
 
 ghost use Rattle.std.specs.Prelude.{◌≡◌, ◌<◌, ◌≤◌};
-ghost use Rattle.atomfs_c.specs.Statuses.{fault_status, refusal_status, begin_status};
+ghost use Rattle.atomfs_c.specs.Statuses.{IsReturned, IsRefusal, linux_number, failed_status, fault_status, refusal_status, begin_status};
 
+use fs_calls::Errno;
 use fs_core::Refusal;
 use fs_embed::NotBegun;
 use fs_text::FaultKind;
@@ -13,13 +14,13 @@ pub const OK: u8 = 0;
 /// Done, but the text is longer than the caller's bytes, which are as before: its length is told.
 pub const TOO_SMALL: u8 = 1;
 
-/// The call returned, and an allocation for the text of its reply failed.
+/// The call returned, and its reply is not told: an allocation for it failed, or it is of another kind.
 pub const UNTOLD: u8 = 2;
 
 /// The call is under way, and waits for a node that a call of another seat holds.
 pub const WAITS: u8 = 3;
 
-/// The handle is closed. From this number on nothing has changed.
+/// The handle is closed. From this number on, below `FAILED`, nothing has changed.
 pub const CLOSED: u8 = 4;
 
 /// The handle is open already.
@@ -43,10 +44,13 @@ pub const FULL: u8 = 10;
 /// No call of this number has returned.
 pub const NO_REPLY: u8 = 11;
 
-/// The first line is another than it has to be. The numbers from here on are faults of a text.
+/// A call is under way.
+pub const UNDER_WAY: u8 = 12;
+
+/// The first line is another than it has to be. The numbers from here on are faults of what is read.
 pub const BAD_HEADER: u8 = 16;
 
-/// A line has a form that no line has at its place.
+/// A line has a form that no line has at its place, or a request asks for no call.
 pub const BAD_LINE: u8 = 17;
 
 /// The name of a thread is none.
@@ -55,7 +59,7 @@ pub const BAD_THREAD: u8 = 18;
 /// A thread has two blocks.
 pub const THREAD_TWICE: u8 = 19;
 
-/// A word is no path.
+/// A word, or the bytes of a request, are no path.
 pub const BAD_PATH: u8 = 20;
 
 /// A word is no number.
@@ -76,10 +80,43 @@ pub const TOO_LARGE: u8 = 25;
 /// A reply is none.
 pub const BAD_REPLY: u8 = 26;
 
-/// The number of a fault of a text.
+/// The start tree of a journal is none.
+pub const BAD_START: u8 = 27;
+
+/// The call returned with an error: this and Linux's number of the error.
+pub const FAILED: u8 = 128;
+
+/// Linux's number of an error.
+fn linux_number(errno: Errno) -> u8
+    ensures number { result ≡ linux_number errno }
+    ensures small { result < FAILED }
+{
+    match errno {
+        Errno::Enoent => 2,
+        Errno::Enotdir => 20,
+        Errno::Eexist => 17,
+        Errno::Enotempty => 39,
+        Errno::Eisdir => 21,
+        Errno::Einval => 22,
+        Errno::Ebusy => 16,
+        Errno::Eperm => 1,
+        Errno::Enospc => 28,
+        Errno::Efbig => 27,
+    }
+}
+
+/// The number of a call that returned with an error.
+pub fn failed_status(errno: Errno) -> u8
+    ensures number { result ≡ failed_status errno }
+    ensures returned { IsReturned result }
+{
+    FAILED + linux_number(errno)
+}
+
+/// The number of a fault of what is read.
 pub fn fault_status(kind: FaultKind) -> u8
     ensures number { result ≡ fault_status kind }
-    ensures refused { CLOSED < result }
+    ensures refused { IsRefusal result }
 {
     match kind {
         FaultKind::BadHeader => BAD_HEADER,
@@ -94,12 +131,13 @@ pub fn fault_status(kind: FaultKind) -> u8
         FaultKind::TooLarge => TOO_LARGE,
         FaultKind::OutOfMemory => NO_MEMORY,
         FaultKind::BadReply => BAD_REPLY,
+        FaultKind::BadStart => BAD_START,
     }
 }
 
 fn refusal_status(refusal: Refusal) -> u8
     ensures number { result ≡ refusal_status refusal }
-    ensures refused { CLOSED < result }
+    ensures refused { IsRefusal result }
 {
     match refusal {
         Refusal::OutOfMemory => NO_MEMORY,
@@ -111,11 +149,11 @@ fn refusal_status(refusal: Refusal) -> u8
 /// The number of the reason why a call did not begin.
 pub fn begin_status(why: NotBegun) -> u8
     ensures number { result ≡ begin_status why }
-    ensures refused { CLOSED < result }
+    ensures refused { IsRefusal result }
 {
     match why {
         NotBegun::NoSeat => NO_SEAT,
-        NotBegun::Line(kind) => fault_status(kind),
+        NotBegun::Unread(kind) => fault_status(kind),
         NotBegun::Refused(refusal) => refusal_status(refusal),
     }
 }

@@ -1,12 +1,9 @@
--- What begins, steps and calls that are given as lines do to a core.
-use Rattle.std.specs.Prelude.{◌≡◌, ℕ, ◌≤◌, List, Result, Ok, Err, length}
+-- What begins, steps and calls that a caller asks for do to a core.
+use Rattle.std.specs.Prelude.{◌≡◌, ℕ, ◌≤◌, Result, Ok, Err, length}
 use Rattle.fs_calls.specs.declared.call.Call.{Call}
 use Rattle.fs_calls.specs.declared.reply.Reply.{Reply}
 use Rattle.fs_words.specs.declared.fault.FaultKind.{FaultKind}
 use Rattle.fs_words.specs.declared.fault.FaultKind.TheVariants as kind
-use Rattle.fs_words.specs.Reading.{◌>>=◌}
-use Rattle.fs_text.specs.Calls.{call_of}
-use Rattle.fs_words.specs.Reading.{words_of}
 use Rattle.fs_laws.specs.OneCall.{IsNoReturn, StepsTo}
 use Rattle.fs_machine.specs.States.{State, Begins, Step}
 use Rattle.fs_core.specs.CoreValues.{CoreValue, state_of}
@@ -17,50 +14,46 @@ use Rattle.fs_embed.specs.declared.calls.NotBegun.TheVariants as not_begun
 use Rattle.fs_embed.specs.declared.calls.NotReturned.{NotReturned}
 use Rattle.fs_embed.specs.declared.calls.NotReturned.TheVariants as not_returned
 
--- the call that a line spells, or what is wrong with the line
-abbrev pub call_in : List ℕ → Result Call FaultKind
-call_in line = words_of line >>= call_of
-
--- the call of a line begins on a seat under a number, and this is the state after
-abbrev pub Opens : CoreValue → ℕ → List ℕ → ℕ → State → Type 0
-Opens old seat line number first = (call : Call) × (call_in line ≡ Ok call) × Begins (state_of old) seat call (Ok number) first
+-- the call that is asked for begins on a seat under a number, and this is the state after
+abbrev pub Opens : CoreValue → ℕ → Result Call FaultKind → ℕ → State → Type 0
+Opens old seat given number first = (call : Call) × (given ≡ Ok call) × Begins (state_of old) seat call (Ok number) first
 
 -- the same, and nothing else happens
-abbrev pub BeginsLine : CoreValue → ℕ → List ℕ → ℕ → CoreValue → Type 0
-BeginsLine old seat line number new = Opens old seat line number (state_of new)
+abbrev pub BeginsCall : CoreValue → ℕ → Result Call FaultKind → ℕ → CoreValue → Type 0
+BeginsCall old seat given number new = Opens old seat given number (state_of new)
 
--- a line that is no call; out of memory says nothing of the line
-abbrev pub IsNoCall : List ℕ → FaultKind → Type 0
-IsNoCall line kind.OutOfMemory = Unit {0}
-IsNoCall line k = call_in line ≡ Err k
+-- what is asked for is no call; out of memory says nothing of it
+abbrev pub IsNoCall : Result Call FaultKind → FaultKind → Type 0
+IsNoCall given kind.OutOfMemory = Unit {0}
+IsNoCall given k = given ≡ Err k
 
--- why the call of a line did not begin, and that nothing changed
-abbrev pub IsNotBegun : CoreValue → ℕ → List ℕ → NotBegun → CoreValue → Type 0
-IsNotBegun old seat line not_begun.NoSeat new = (length old.seats ≤ seat) × (new ≡ old)
-IsNotBegun old seat line (not_begun.Line k) new = IsNoCall line k × (new ≡ old)
-IsNotBegun old seat line (not_begun.Refused refusal) new = (call : Call) × (call_in line ≡ Ok call) × Begins (state_of old) seat call (Err refusal) (state_of new)
+-- why the call that is asked for did not begin, and that nothing changed
+abbrev pub IsNotBegun : CoreValue → ℕ → Result Call FaultKind → NotBegun → CoreValue → Type 0
+IsNotBegun old seat given not_begun.NoSeat new = (length old.seats ≤ seat) × (new ≡ old)
+IsNotBegun old seat given (not_begun.Unread k) new = IsNoCall given k × (new ≡ old)
+IsNotBegun old seat given (not_begun.Refused refusal) new = (call : Call) × (given ≡ Ok call) × Begins (state_of old) seat call (Err refusal) (state_of new)
 
 -- steps of a seat, none or more, of which none returns
 pub data Steps (seat : ℕ) : State → State → Type 0 where
   Still : {state : State} → Steps seat state state
   Then : {old middle new : State} (answer : Stepped) → IsNoReturn answer → Steps seat old middle → Step middle seat answer new → Steps seat old new
 
--- the call of a line begins under a number, and steps of its seat follow, up to the one that returns with this reply
-abbrev pub RunsLine : CoreValue → ℕ → List ℕ → ℕ → Reply → CoreValue → Type 0
-RunsLine old seat line number reply new = (first : State) × Opens old seat line number first × StepsTo seat reply (state_of new) first
+-- the call that is asked for begins under a number, and steps of its seat follow, up to the one that returns with this reply
+abbrev pub RunsCall : CoreValue → ℕ → Result Call FaultKind → ℕ → Reply → CoreValue → Type 0
+RunsCall old seat given number reply new = (first : State) × Opens old seat given number first × StepsTo seat reply (state_of new) first
 
 -- the next step of a seat finds a node held by this call, and changes nothing
 abbrev pub IsWaiting : State → ℕ → ℕ → Type 0
 IsWaiting state seat holder = (node : ℕ) × Step state seat (Busy node holder) state
 
--- the call of a line begins under a number, and steps of its seat follow, up to one that finds a node held by this call
-abbrev pub WaitsLine : CoreValue → ℕ → List ℕ → ℕ → ℕ → CoreValue → Type 0
-WaitsLine old seat line number holder new = (first : State) × Opens old seat line number first × Steps seat first (state_of new) × IsWaiting (state_of new) seat holder
+-- the call that is asked for begins under a number, and steps of its seat follow, up to one that finds a node held by this call
+abbrev pub WaitsCall : CoreValue → ℕ → Result Call FaultKind → ℕ → ℕ → CoreValue → Type 0
+WaitsCall old seat given number holder new = (first : State) × Opens old seat given number first × Steps seat first (state_of new) × IsWaiting (state_of new) seat holder
 
--- why the call of a line did not return: it did not begin, and nothing changed; or it is under way and waits
-abbrev pub IsNotReturned : CoreValue → ℕ → List ℕ → NotReturned → CoreValue → Type 0
-IsNotReturned old seat line (not_returned.NotBegun why) new = IsNotBegun old seat line why new
-IsNotReturned old seat line (not_returned.Waits number holder) new = WaitsLine old seat line number holder new
+-- why the call that is asked for did not return: it did not begin, and nothing changed; or it is under way and waits
+abbrev pub IsNotReturned : CoreValue → ℕ → Result Call FaultKind → NotReturned → CoreValue → Type 0
+IsNotReturned old seat given (not_returned.NotBegun why) new = IsNotBegun old seat given why new
+IsNotReturned old seat given (not_returned.Waits number holder) new = WaitsCall old seat given number holder new
 
 -- the number of what a step did
 abbrev pub code_of : Stepped → ℕ

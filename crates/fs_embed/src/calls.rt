@@ -1,26 +1,25 @@
-//! Calls that are given as lines.
+//! Calls that a caller asks for: their begins, their steps and whole runs of them.
 
 ghost use Rattle.std.specs.Prelude.{◌≡◌, ◌<◌, ◌≤◌, length, IfOk, OnOk, IfErr, IsSome, MatchOption, MatchBool};
 ghost use Rattle.fs_laws.specs.OneCall.{StepsTo};
 ghost use Rattle.fs_core.specs.CoreValues.{state_of};
-ghost use Rattle.fs_words.specs.code.Answers.{Gives};
-ghost use Rattle.fs_embed.specs.Calls.{call_in, BeginsLine, IsNotBegun, RunsLine, IsNotReturned, Steps, IsWaiting, StepsAs, code_of, about_of};
+ghost use Rattle.fs_embed.specs.Requests.{asked};
+ghost use Rattle.fs_embed.specs.Calls.{BeginsCall, IsNotBegun, RunsCall, IsNotReturned, Steps, IsWaiting, StepsAs, code_of, about_of};
 
-use fs_calls::{Call, Reply};
+use crate::request::Request;
+use fs_calls::Reply;
 use fs_core::{Core, Refusal, Stepped};
 use fs_names::{CallNo, SeatNo};
 use fs_text::FaultKind;
-use fs_text::calls::call_at;
-use fs_text::lines::cut_words;
 use std::alloc::Global;
 
-/// Why the call of a line did not begin. Nothing has changed by it.
+/// Why a call that was asked for did not begin. Nothing has changed by it.
 #[derive(Clone, Copy, Debug, PartialEq, Eq)]
 pub enum NotBegun {
     /// There is no such seat.
     NoSeat,
-    /// The line spells no call: what is wrong with it, or out of memory as it was read.
-    Line(FaultKind),
+    /// What was asked for is no call: what is wrong with it, or out of memory as it was read.
+    Unread(FaultKind),
     /// The core refused the call.
     Refused(Refusal),
 }
@@ -32,7 +31,7 @@ pub struct Returned {
     pub reply: Reply,
 }
 
-/// Why the call of a line did not return.
+/// Why a call that was asked for did not return.
 #[derive(Clone, Copy, Debug, PartialEq, Eq)]
 pub enum NotReturned {
     /// It did not begin, and nothing has changed.
@@ -49,17 +48,6 @@ pub struct StepTold {
     pub about: u64,
 }
 
-/// The call that a line spells.
-fn read_call(alloc: Global, line: &[u8]) -> Result<Call, FaultKind>
-    ensures { Gives (λ call. call) result (call_in line.now) }
-{
-    let mut words = Vec::new(alloc);
-    if let Err(kind) = cut_words(line, &mut words) {
-        return Err(kind);
-    }
-    call_at(alloc, words.as_slice())
-}
-
 /// Whether a core has this seat.
 fn has_seat(core: &Core, seat: SeatNo) -> bool
     ensures { MatchBool result (seat < length core.now.seats) (length core.now.seats ≤ seat) }
@@ -67,24 +55,24 @@ fn has_seat(core: &Core, seat: SeatNo) -> bool
     seat.get() < core.seats() as u64
 }
 
-/// Begins the call that a line spells on a seat, and answers its number.
-pub fn begin_line(
+/// Begins the call that is asked for on a seat, and answers its number.
+pub fn begin_call(
     alloc: Global,
     core: &mut Core,
     seat: SeatNo,
-    line: &[u8],
+    request: Request,
 ) -> Result<CallNo, NotBegun>
-    ensures begun { IfOk result (λ number. BeginsLine core.old seat line.now number core.new) }
+    ensures begun { IfOk result (λ number. BeginsCall core.old seat (asked request.entry) number core.new) }
     ensures seat { OnOk result (seat < length core.old.seats) }
-    ensures refused { IfErr result (λ why. IsNotBegun core.old seat line.now why core.new) }
+    ensures refused { IfErr result (λ why. IsNotBegun core.old seat (asked request.entry) why core.new) }
     ensures seats { length core.new.seats ≡ length core.old.seats }
 {
     if !has_seat(core, seat) {
         return Err(NotBegun::NoSeat);
     }
-    let call = match read_call(alloc, line) {
+    let call = match request.call(alloc) {
         Ok(call) => call,
-        Err(kind) => return Err(NotBegun::Line(kind)),
+        Err(kind) => return Err(NotBegun::Unread(kind)),
     };
     match core.begin(alloc, seat, &call) {
         Ok(number) => Ok(number),
@@ -110,19 +98,19 @@ fn finish(core: &mut Core, seat: SeatNo) -> Result<Reply, CallNo>
     }
 }
 
-/// Runs the call that a line spells on a seat, from its begin to its return. A call that comes to a node which a call of
+/// Runs the call that is asked for on a seat, from its begin to its return. A call that comes to a node which a call of
 /// another seat holds stays under way there: `step_seat` goes on with it.
-pub fn run_line(
+pub fn run_call(
     alloc: Global,
     core: &mut Core,
     seat: SeatNo,
-    line: &[u8],
+    request: Request,
 ) -> Result<Returned, NotReturned>
-    ensures returned { IfOk result (λ done. RunsLine core.old seat line.now done.number done.reply core.new) }
-    ensures unreturned { IfErr result (λ why. IsNotReturned core.old seat line.now why core.new) }
+    ensures returned { IfOk result (λ done. RunsCall core.old seat (asked request.entry) done.number done.reply core.new) }
+    ensures unreturned { IfErr result (λ why. IsNotReturned core.old seat (asked request.entry) why core.new) }
     ensures seats { length core.new.seats ≡ length core.old.seats }
 {
-    let number = match begin_line(alloc, core, seat, line) {
+    let number = match begin_call(alloc, core, seat, request) {
         Ok(number) => number,
         Err(why) => return Err(NotReturned::NotBegun(why)),
     };

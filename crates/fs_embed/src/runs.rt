@@ -2,12 +2,12 @@
 
 ghost use Rattle.std.specs.Prelude.{◌≡◌, Ok, IfOk, IfErr};
 ghost use Rattle.fs_timeline.specs.declared.verdict.Verdict.{Verdict};
-ghost use Rattle.fs_script.specs.Script.{script_of};
 ghost use Rattle.fs_sched.specs.Checks.{verdict_line, verdict_of};
 ghost use Rattle.fs_sched.specs.EachRun.{AreOfTheRun};
 ghost use Rattle.fs_sched.specs.declared.running.RunEnd.{RunEnd};
-ghost use Rattle.fs_embed.specs.Runs.{IsNoText, no_text};
+ghost use Rattle.fs_embed.specs.Runs.{IsNoText, IsNoRun, no_text};
 
+use fs_names::CallNo;
 use fs_sched::{RunFault, Schedule, check_bytes, run_bytes};
 use fs_text::ScriptFault;
 use std::alloc::Global;
@@ -19,6 +19,8 @@ pub enum NoText {
     Input(ScriptFault),
     /// An allocation failed.
     OutOfMemory,
+    /// The script asks for a checkpoint while calls are under way: the least of their numbers.
+    UnderWay(CallNo),
 }
 
 /// The same of a runner's fault. Bytes in memory are there to be read and written, so else an allocation failed.
@@ -27,6 +29,7 @@ fn no_text(fault: RunFault) -> NoText
 {
     match fault {
         RunFault::Input(fault) => NoText::Input(fault),
+        RunFault::UnderWay(call) => NoText::UnderWay(call),
         _ => NoText::OutOfMemory,
     }
 }
@@ -34,7 +37,7 @@ fn no_text(fault: RunFault) -> NoText
 /// The run text of a script by a schedule.
 pub fn run_text(alloc: Global, script: &[u8], schedule: Schedule) -> Result<Vec<u8>, NoText>
     ensures ran { IfOk result (λ text. (end : RunEnd) × AreOfTheRun schedule script.now end text.items) }
-    ensures fault { IfErr result (IsNoText (script_of script.now)) }
+    ensures fault { IfErr result (IsNoRun schedule script.now) }
 {
     match run_bytes(alloc, script, schedule) {
         Ok(text) => Ok(text),

@@ -1,6 +1,6 @@
 //! Texts of a core, and the bytes that they are copied to.
 
-ghost use Rattle.std.specs.Prelude.{◌≡◌, ◌≢◌, ◌<◌, length, IfOk, MatchOption, MatchBool};
+ghost use Rattle.std.specs.Prelude.{◌≡◌, ◌≢◌, ◌<◌, ◌++◌, length, IfOk, OnOk, MatchOption, MatchBool};
 ghost use Rattle.fs_nodes.specs.Stores.{graph_of};
 ghost use Rattle.fs_embed.specs.Texts.{reply_text, lines_from, IsReply, HasNoReply, IsTreeText, IsCopied};
 ghost use Rattle.fs_calls.specs.declared.reply.Reply.{Reply};
@@ -47,15 +47,18 @@ pub fn find_reply(entries: &[Entry], number: CallNo) -> Option<&Reply>
     None
 }
 
-/// A line for each entry.
-fn lines_of(alloc: Global, entries: &[Entry]) -> Result<Vec<u8>, AllocError>
-    ensures { IfOk result (λ text. text.items ≡ lines_from 0 entries.now) }
+/// Appends a line for each entry. The only error is out of memory.
+pub(crate) fn push_lines(
+    alloc: Global,
+    entries: &[Entry],
+    text: &mut Vec<u8>,
+) -> Result<(), AllocError>
+    ensures { OnOk result (text.new.items ≡ text.old.items ++ lines_from 0 entries.now) }
 {
-    let mut text = Vec::new(alloc);
     for entry in entries {
-        write_entry(alloc, entry, &mut text)?;
+        write_entry(alloc, entry, text)?;
     }
-    Ok(text)
+    Ok(())
 }
 
 /// The journal's lines of the entries from one on, which are counted from 0. The header line is not among them. The only
@@ -63,10 +66,11 @@ fn lines_of(alloc: Global, entries: &[Entry]) -> Result<Vec<u8>, AllocError>
 pub fn journal_text(alloc: Global, entries: &[Entry], first: usize) -> Result<Vec<u8>, AllocError>
     ensures { IfOk result (λ text. text.items ≡ lines_from first entries.now) }
 {
-    match entries.get(first..) {
-        Some(later) => lines_of(alloc, later),
-        None => Ok(Vec::new(alloc)),
+    let mut text = Vec::new(alloc);
+    if let Some(later) = entries.get(first..) {
+        push_lines(alloc, later, &mut text)?;
     }
+    Ok(text)
 }
 
 /// The text of the tree that the nodes spell. The only error is out of memory.

@@ -1,0 +1,121 @@
+//! The exports by which a journal goes out in pieces: what stands before its entries, and the checkpoint.
+
+ghost use Rattle.std.specs.Prelude.{◌≡◌, ◌≢◌, ◌<◌, IsSomeAnd};
+ghost use Rattle.fs_machine.specs.States.{begun_again};
+ghost use Rattle.fs_core.specs.CoreValues.{state_of, IsAtRest};
+ghost use Rattle.fs_core.specs.Checkpoints.{IsWhyNot};
+ghost use Rattle.fs_script.specs.Journals.{opening, journal_text};
+ghost use Rattle.atomfs_c.specs.Exports.{Goes, ToldIfClosed, IsLawful, IsSpelled, IsTooLong, Tells, IsHanded};
+ghost use Rattle.atomfs_c.specs.Statuses.{IsToldWhyNot};
+
+use crate::handles::{Handle, put, take};
+use crate::status::{CLOSED, NO_MEMORY, OK, TOO_SMALL, UNDER_WAY, UNTOLD};
+use crate::told::tell;
+use fs_core::{Core, NoCheckpoint};
+use fs_embed::{begin_again, opening_text, whole_journal};
+use std::alloc::Global;
+
+/// Tells what stands before the first entry of the journal: its header, and the tree at which it starts where that is more
+/// than the root.
+#[unsafe(no_mangle)]
+pub extern "C" fn atomfs_opening(
+    alloc: Global,
+    handle: &mut Handle,
+    out: &mut [u8],
+    count: &mut usize,
+) -> u8
+    ensures opening { result < UNTOLD → IsSomeAnd handle.old.held.core (λ core. Tells result (opening core.start) count.new out.old out.new) }
+    ensures same { handle.new.held.core ≡ handle.old.held.core }
+    ensures closed { ToldIfClosed result handle.old.held.core handle.new.held.core }
+{
+    let Some(core) = take(alloc, handle) else {
+        return CLOSED;
+    };
+    let text = opening_text(alloc, core.start());
+    put(handle, core);
+    match text {
+        Ok(text) => tell(text.as_slice(), out, count),
+        Err(_) => NO_MEMORY,
+    }
+}
+
+/// Tells why a journal did not begin again, and the least number of a call under way.
+fn tell_why_not(why: &NoCheckpoint, number: &mut u64) -> u8
+    ensures { IsToldWhyNot why.now result number.new }
+{
+    match why {
+        NoCheckpoint::UnderWay(call) => {
+            *number = call.get();
+            UNDER_WAY
+        }
+        NoCheckpoint::OutOfMemory => NO_MEMORY,
+    }
+}
+
+/// Begins the journal again at the tree as it stands, and gives the memory of its entries back. The number of the reason why
+/// it did not, where it did not.
+fn again(alloc: Global, core: &mut Core, number: &mut u64) -> u8
+    ensures again { result ≡ OK → IsAtRest core.old × (state_of core.new ≡ begun_again (state_of core.old)) × (core.new.seats ≡ core.old.seats) }
+    ensures same { result ≢ OK → core.new ≡ core.old }
+    ensures under_way { result ≡ UNDER_WAY → IsWhyNot core.old (NoCheckpoint.UnderWay number.new) }
+    ensures small { result ≢ TOO_SMALL }
+    ensures other { result ≢ CLOSED }
+{
+    match begin_again(alloc, core) {
+        Ok(()) => OK,
+        Err(why) => tell_why_not(&why, number),
+    }
+}
+
+/// Hands the whole journal of a core out, and begins it again. By any number but `OK` nothing has changed.
+fn hand_out(
+    alloc: Global,
+    core: &mut Core,
+    out: &mut [u8],
+    count: &mut usize,
+    number: &mut u64,
+) -> u8
+    ensures handed { result ≡ OK → IsHanded core.old core.new count.new out.old out.new }
+    ensures same { result ≢ OK → core.new ≡ core.old }
+    ensures too_small { result ≡ TOO_SMALL → IsTooLong (journal_text core.old.start core.old.timeline) count.new out.old out.new }
+    ensures under_way { result ≡ UNDER_WAY → IsWhyNot core.old (NoCheckpoint.UnderWay number.new) }
+    ensures other { result ≢ CLOSED }
+{
+    let Ok(text) = whole_journal(alloc, core) else {
+        return NO_MEMORY;
+    };
+    if out.len() < text.len() {
+        *count = text.len();
+        return TOO_SMALL;
+    }
+    let status = again(alloc, core, number);
+    if status == OK {
+        return tell(text.as_slice(), out, count);
+    }
+    status
+}
+
+/// Hands the whole journal out as a text, and begins it again at the tree as it stands.
+#[unsafe(no_mangle)]
+pub extern "C" fn atomfs_checkpoint(
+    alloc: Global,
+    handle: &mut Handle,
+    out: &mut [u8],
+    count: &mut usize,
+    number: &mut u64,
+) -> u8
+    ensures handed { result ≡ OK → Goes (λ old new. IsHanded old new count.new out.old out.new) handle.old.held.core handle.new.held.core }
+    ensures same { result ≢ OK → handle.new.held.core ≡ handle.old.held.core }
+    ensures too_small { result ≡ TOO_SMALL → IsSomeAnd handle.old.held.core (λ core. IsTooLong (journal_text core.start core.timeline) count.new out.old out.new) }
+    ensures under_way { result ≡ UNDER_WAY → IsSomeAnd handle.old.held.core (λ core. IsWhyNot core (NoCheckpoint.UnderWay number.new)) }
+    ensures closed { ToldIfClosed result handle.old.held.core handle.new.held.core }
+    ensures lawful { IsLawful handle.new.held.core }
+    ensures spelled { IsSpelled handle.new.held.core }
+{
+    let Some(mut core) = take(alloc, handle) else {
+        return CLOSED;
+    };
+    let status = hand_out(alloc, &mut core, out, count, number);
+    put(handle, core);
+    status
+}

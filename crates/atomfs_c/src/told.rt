@@ -1,0 +1,144 @@
+//! What tells a reply in a caller's memory.
+
+ghost use Rattle.std.specs.Prelude.{◌≡◌, ◌<◌, length};
+ghost use Rattle.atomfs_c.specs.Statuses.{IsReturned};
+ghost use Rattle.atomfs_c.specs.Exports.{Tells, IsToldText, IsToldStat, IsToldNames, IsToldBytes, IsToldWrote, IsToldBehind, done_status, is_dir};
+
+use crate::status::{OK, TOO_SMALL, UNTOLD, failed_status};
+use fs_calls::Reply;
+use fs_embed::{copy_out, names_behind, names_text, reply_text};
+use fs_names::Kind;
+use std::alloc::Global;
+
+/// What stands at a path: whether a directory, as 1 or 0, and how many entries or bytes it has.
+#[repr(C)]
+#[derive(Clone, Copy)]
+pub struct Stat {
+    pub is_dir: u8,
+    pub size: u64,
+}
+
+/// Tells a text in a caller's bytes, and its length.
+pub fn tell(text: &[u8], out: &mut [u8], count: &mut usize) -> u8
+    ensures tells { Tells result text.now count.new out.old out.new }
+    ensures either { result < UNTOLD }
+{
+    *count = text.len();
+    if copy_out(text, out) { OK } else { TOO_SMALL }
+}
+
+/// Tells the text of a reply.
+pub fn tell_text(alloc: Global, reply: &Reply, out: &mut [u8], count: &mut usize) -> u8
+    ensures told { IsToldText reply.now result count.new out.old out.new }
+    ensures returned { IsReturned result }
+{
+    match reply_text(alloc, reply) {
+        Ok(text) => tell(text.as_slice(), out, count),
+        Err(_) => UNTOLD,
+    }
+}
+
+/// Tells that a call is done, or failed.
+pub fn tell_done(reply: &Reply) -> u8
+    ensures told { result ≡ done_status reply.now }
+    ensures returned { IsReturned result }
+{
+    match reply {
+        Reply::Done => OK,
+        Reply::Failed(errno) => failed_status(*errno),
+        _ => UNTOLD,
+    }
+}
+
+fn is_dir(kind: Kind) -> u8
+    ensures { result ≡ is_dir kind }
+{
+    match kind {
+        Kind::Dir => 1,
+        Kind::File => 0,
+    }
+}
+
+/// Tells the reply of a stat.
+pub fn tell_stat(reply: &Reply, stat: &mut Stat) -> u8
+    ensures told { IsToldStat reply.now result stat.new }
+    ensures returned { IsReturned result }
+{
+    match reply {
+        Reply::Stat(kind, size) => {
+            *stat = Stat {
+                is_dir: is_dir(*kind),
+                size: *size,
+            };
+            OK
+        }
+        Reply::Failed(errno) => failed_status(*errno),
+        _ => UNTOLD,
+    }
+}
+
+/// Tells the names of a readdir, a byte 0 behind each.
+pub fn tell_names(alloc: Global, reply: &Reply, out: &mut [u8], count: &mut usize) -> u8
+    ensures told { IsToldNames reply.now result count.new out.old out.new }
+    ensures returned { IsReturned result }
+{
+    match reply {
+        Reply::Names(names) => match names_text(alloc, names.as_slice()) {
+            Ok(text) => tell(text.as_slice(), out, count),
+            Err(_) => UNTOLD,
+        },
+        Reply::Failed(errno) => failed_status(*errno),
+        _ => UNTOLD,
+    }
+}
+
+/// Tells the bytes of a read.
+pub fn tell_bytes(reply: &Reply, out: &mut [u8], count: &mut usize) -> u8
+    ensures told { IsToldBytes reply.now result count.new out.old out.new }
+    ensures returned { IsReturned result }
+{
+    match reply {
+        Reply::Bytes(bytes) => tell(bytes.as_slice(), out, count),
+        Reply::Failed(errno) => failed_status(*errno),
+        _ => UNTOLD,
+    }
+}
+
+/// Tells how many bytes a write wrote.
+pub fn tell_wrote(reply: &Reply, wrote: &mut u64) -> u8
+    ensures told { IsToldWrote reply.now result wrote.new }
+    ensures returned { IsReturned result }
+{
+    match reply {
+        Reply::Wrote(bytes) => {
+            *wrote = *bytes;
+            OK
+        }
+        Reply::Failed(errno) => failed_status(*errno),
+        _ => UNTOLD,
+    }
+}
+
+/// Tells the names of a readdir that come behind one, as many as there is room for.
+pub fn tell_behind(
+    alloc: Global,
+    reply: &Reply,
+    after: &[u8],
+    out: &mut [u8],
+    count: &mut usize,
+) -> u8
+    ensures told { IsToldBehind reply.now after.now result count.new out.old out.new }
+    ensures returned { IsReturned result }
+{
+    match reply {
+        Reply::Names(names) => {
+            let shown = names_behind(names.as_slice(), after, out.len());
+            match names_text(alloc, shown) {
+                Ok(text) => tell(text.as_slice(), out, count),
+                Err(_) => UNTOLD,
+            }
+        }
+        Reply::Failed(errno) => failed_status(*errno),
+        _ => UNTOLD,
+    }
+}

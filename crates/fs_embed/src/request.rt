@@ -1,0 +1,124 @@
+//! What a caller asks for: a call by its line, or by its parts.
+
+ghost use Rattle.std.specs.Prelude.{Ok};
+ghost use Rattle.fs_names.specs.Reading.{reading};
+ghost use Rattle.fs_words.specs.Reading.{or_bad_path};
+ghost use Rattle.fs_words.specs.code.Answers.{Gives};
+ghost use Rattle.fs_embed.specs.Requests.{asked, call_in, both_in};
+
+use fs_calls::Call;
+use fs_names::{Bytes, Path, PathFault};
+use fs_text::FaultKind;
+use fs_text::calls::call_at;
+use fs_text::lines::cut_words;
+use std::alloc::Global;
+
+/// A call that is asked for. A path is given by its bytes, as `Path::parse` reads them.
+#[derive(Clone, Copy)]
+pub enum Request<'a> {
+    /// The call that a line spells.
+    Line(&'a [u8]),
+    /// Makes an empty directory.
+    Mkdir(&'a [u8]),
+    /// Makes an empty file.
+    Mknod(&'a [u8]),
+    /// Removes the entry of a file.
+    Unlink(&'a [u8]),
+    /// Removes the entry of an empty directory.
+    Rmdir(&'a [u8]),
+    /// Moves what stands at the first path to the second.
+    Rename(&'a [u8], &'a [u8]),
+    /// Lets what stands at two paths change places.
+    Exchange(&'a [u8], &'a [u8]),
+    /// Asks what stands at a path.
+    Stat(&'a [u8]),
+    /// Asks for all names of a directory.
+    Readdir(&'a [u8]),
+    /// Asks for the bytes of a file from an offset on, and for no more than a count.
+    Read(&'a [u8], u64, u64),
+    /// Writes bytes into a file at an offset.
+    Write(&'a [u8], u64, &'a [u8]),
+    /// Cuts a file to a size, or adds zeros up to it.
+    Truncate(&'a [u8], u64),
+    /// No call at all.
+    Nothing,
+}
+
+/// The call that a line spells.
+fn call_in(alloc: Global, line: &[u8]) -> Result<Call, FaultKind>
+    ensures { Gives (λ call. call) result (call_in line.now) }
+{
+    let mut words = Vec::new(alloc);
+    if let Err(kind) = cut_words(line, &mut words) {
+        return Err(kind);
+    }
+    call_at(alloc, words.as_slice())
+}
+
+/// The path that bytes spell.
+fn path_in(alloc: Global, bytes: &[u8]) -> Result<Path, FaultKind>
+    ensures { Gives (λ path. path) result (or_bad_path (reading bytes.now)) }
+{
+    match Path::parse(alloc, bytes) {
+        Ok(path) => Ok(path),
+        Err(PathFault::OutOfMemory) => Err(FaultKind::OutOfMemory),
+        Err(fault) => Err(FaultKind::BadPath(fault)),
+    }
+}
+
+/// The two paths that bytes spell, the first of them read first.
+fn both_in(alloc: Global, bytes: &[u8], other: &[u8]) -> Result<(Path, Path), FaultKind>
+    ensures { Gives (λ both. (both.0, both.1)) result (both_in bytes.now other.now) }
+{
+    let path = match path_in(alloc, bytes) {
+        Ok(path) => path,
+        Err(kind) => return Err(kind),
+    };
+    match path_in(alloc, other) {
+        Ok(other) => Ok((path, other)),
+        Err(kind) => Err(kind),
+    }
+}
+
+/// The same bytes in memory of their own.
+fn copied(alloc: Global, bytes: &[u8]) -> Result<Bytes, FaultKind>
+    ensures { Gives (λ copy. copy) result (Ok bytes.now) }
+{
+    let mut copy = Vec::new(alloc);
+    match copy.extend_from_slice(bytes) {
+        Ok(()) => Ok(Bytes::new(copy)),
+        Err(_) => Err(FaultKind::OutOfMemory),
+    }
+}
+
+impl<'a> Request<'a> {
+    /// The call that is asked for.
+    pub fn call(self, alloc: Global) -> Result<Call, FaultKind>
+        ensures { Gives (λ call. call) result (asked self.entry) }
+    {
+        match self {
+            Request::Line(line) => call_in(alloc, line),
+            Request::Mkdir(path) => Ok(Call::Mkdir(path_in(alloc, path)?)),
+            Request::Mknod(path) => Ok(Call::Mknod(path_in(alloc, path)?)),
+            Request::Unlink(path) => Ok(Call::Unlink(path_in(alloc, path)?)),
+            Request::Rmdir(path) => Ok(Call::Rmdir(path_in(alloc, path)?)),
+            Request::Rename(path, other) => {
+                let (path, other) = both_in(alloc, path, other)?;
+                Ok(Call::Rename(path, other))
+            }
+            Request::Exchange(path, other) => {
+                let (path, other) = both_in(alloc, path, other)?;
+                Ok(Call::Exchange(path, other))
+            }
+            Request::Stat(path) => Ok(Call::Stat(path_in(alloc, path)?)),
+            Request::Readdir(path) => Ok(Call::Readdir(path_in(alloc, path)?)),
+            Request::Read(path, off, count) => Ok(Call::Read(path_in(alloc, path)?, off, count)),
+            Request::Write(path, off, bytes) => {
+                let path = path_in(alloc, path)?;
+                Ok(Call::Write(path, off, copied(alloc, bytes)?))
+            }
+            Request::Truncate(path, size) => Ok(Call::Truncate(path_in(alloc, path)?, size)),
+            Request::Nothing => Err(FaultKind::BadLine),
+        }
+    }
+}

@@ -1,0 +1,315 @@
+/* What stands between C and the proved functions: each function of atomfs.h that the proofs do not have themselves.
+ *
+ * The proved functions take references, which C cannot be held to: that no pointer is null, and that no length passes half
+ * of the memory that a program can have. This file answers such calls by a status, hands the others on, and gives words for
+ * statuses. Nothing here is proved, so it decides nothing else. embed/build gives the proved functions the names below. */
+#include "atomfs.h"
+
+#define PROVED(name) proved_atomfs_##name
+
+uint8_t PROVED(open)(atomfs *, size_t);
+uint8_t PROVED(close)(atomfs *);
+uint8_t PROVED(seat)(atomfs *, uint64_t *);
+uint8_t PROVED(mkdir)(atomfs *, uint64_t, const char *, size_t, uint64_t *);
+uint8_t PROVED(mknod)(atomfs *, uint64_t, const char *, size_t, uint64_t *);
+uint8_t PROVED(unlink)(atomfs *, uint64_t, const char *, size_t, uint64_t *);
+uint8_t PROVED(rmdir)(atomfs *, uint64_t, const char *, size_t, uint64_t *);
+uint8_t PROVED(rename)(atomfs *, uint64_t, const char *, size_t, const char *, size_t, uint64_t *);
+uint8_t PROVED(exchange)(atomfs *, uint64_t, const char *, size_t, const char *, size_t, uint64_t *);
+uint8_t PROVED(stat)(atomfs *, uint64_t, const char *, size_t, struct atomfs_stat *, uint64_t *);
+uint8_t PROVED(readdir)(atomfs *, uint64_t, const char *, size_t, char *, size_t, size_t *, uint64_t *);
+uint8_t PROVED(read)(atomfs *, uint64_t, const char *, size_t, uint64_t, void *, size_t, size_t *, uint64_t *);
+uint8_t PROVED(write)(atomfs *, uint64_t, const char *, size_t, uint64_t, const void *, size_t, uint64_t *, uint64_t *);
+uint8_t PROVED(truncate)(atomfs *, uint64_t, const char *, size_t, uint64_t, uint64_t *);
+uint8_t PROVED(begin_call)(atomfs *, uint64_t, uint8_t, const char *, size_t, const char *, size_t, uint64_t, uint64_t,
+                           const void *, size_t, uint64_t *);
+uint8_t PROVED(step)(atomfs *, uint64_t, uint8_t *, uint64_t *);
+uint8_t PROVED(reply_done)(atomfs *, uint64_t);
+uint8_t PROVED(reply_stat)(atomfs *, uint64_t, struct atomfs_stat *);
+uint8_t PROVED(reply_names)(atomfs *, uint64_t, const char *, size_t, char *, size_t, size_t *);
+uint8_t PROVED(reply_bytes)(atomfs *, uint64_t, void *, size_t, size_t *);
+uint8_t PROVED(reply_wrote)(atomfs *, uint64_t, uint64_t *);
+uint8_t PROVED(journal)(atomfs *, size_t, char *, size_t, size_t *, size_t *);
+uint8_t PROVED(opening)(atomfs *, char *, size_t, size_t *);
+uint8_t PROVED(checkpoint)(atomfs *, char *, size_t, size_t *, uint64_t *);
+uint8_t PROVED(tree)(atomfs *, char *, size_t, size_t *);
+uint8_t PROVED(begin)(atomfs *, uint64_t, const char *, size_t, uint64_t *);
+uint8_t PROVED(call)(atomfs *, uint64_t, const char *, size_t, char *, size_t, size_t *, uint64_t *);
+uint8_t PROVED(reply)(atomfs *, uint64_t, char *, size_t, size_t *);
+uint8_t PROVED(run)(const char *, size_t, char *, size_t, size_t *);
+uint8_t PROVED(check)(const char *, size_t, char *, size_t, size_t *);
+
+/* What stands at null for no bytes: nothing reads or writes it. */
+static char nothing;
+
+static const void *from(const void *bytes) { return bytes != NULL ? bytes : &nothing; }
+
+static void *into(void *bytes) { return bytes != NULL ? bytes : &nothing; }
+
+/* Whether a status is a refusal; used as `if (refused(status = ..)) return status;`. */
+static int refused(uint8_t status) { return status != ATOMFS_OK; }
+
+static uint8_t there(const void *pointer) { return pointer != NULL ? ATOMFS_OK : ATOMFS_NULL; }
+
+static uint8_t bytes_there(const void *bytes, size_t length) {
+    if (length > SIZE_MAX / 2) return ATOMFS_BAD_LENGTH;
+    return length == 0 ? ATOMFS_OK : there(bytes);
+}
+
+/* Of a function that tells bytes of a handle. */
+static uint8_t may_tell(const atomfs *fs, const void *out, size_t room, const size_t *count) {
+    uint8_t status;
+    if (refused(status = there(fs)) || refused(status = bytes_there(out, room))) return status;
+    return there(count);
+}
+
+/* Of a function that runs or begins a call whose path, or whose line, has these bytes. */
+static uint8_t may_call(const atomfs *fs, const void *bytes, size_t length, const uint64_t *number) {
+    uint8_t status;
+    if (refused(status = there(fs)) || refused(status = bytes_there(bytes, length))) return status;
+    return there(number);
+}
+
+/* Of one that tells bytes too. */
+static uint8_t may_call_and_tell(const atomfs *fs, const void *bytes, size_t length, const void *out, size_t room,
+                                 const size_t *count, const uint64_t *number) {
+    uint8_t status = may_call(fs, bytes, length, number);
+    return refused(status) ? status : may_tell(fs, out, room, count);
+}
+
+/* Of one that takes more bytes. */
+static uint8_t may_call_with(const atomfs *fs, const void *bytes, size_t length, const void *other, size_t other_length,
+                             const uint64_t *number) {
+    uint8_t status = may_call(fs, bytes, length, number);
+    return refused(status) ? status : bytes_there(other, other_length);
+}
+
+uint8_t atomfs_open(atomfs *fs, size_t limit) {
+    uint8_t status = there(fs);
+    return refused(status) ? status : PROVED(open)(fs, limit);
+}
+
+uint8_t atomfs_close(atomfs *fs) {
+    uint8_t status = there(fs);
+    return refused(status) ? status : PROVED(close)(fs);
+}
+
+uint8_t atomfs_seat(atomfs *fs, uint64_t *seat) {
+    uint8_t status;
+    if (refused(status = there(fs)) || refused(status = there(seat))) return status;
+    return PROVED(seat)(fs, seat);
+}
+
+#define ON_PATH(name)                                                                                                  \
+    uint8_t atomfs_##name(atomfs *fs, uint64_t seat, const char *path, size_t length, uint64_t *number) {              \
+        uint8_t status = may_call(fs, path, length, number);                                                           \
+        return refused(status) ? status : PROVED(name)(fs, seat, from(path), length, number);                          \
+    }
+
+ON_PATH(mkdir)
+ON_PATH(mknod)
+ON_PATH(unlink)
+ON_PATH(rmdir)
+ON_PATH(begin)
+
+#define ON_BOTH(name)                                                                                                  \
+    uint8_t atomfs_##name(atomfs *fs, uint64_t seat, const char *path, size_t length, const char *other,               \
+                          size_t other_length, uint64_t *number) {                                                     \
+        uint8_t status = may_call_with(fs, path, length, other, other_length, number);                                 \
+        return refused(status) ? status : PROVED(name)(fs, seat, from(path), length, from(other), other_length, number); \
+    }
+
+ON_BOTH(rename)
+ON_BOTH(exchange)
+
+uint8_t atomfs_stat(atomfs *fs, uint64_t seat, const char *path, size_t length, struct atomfs_stat *stat,
+                    uint64_t *number) {
+    uint8_t status;
+    if (refused(status = may_call(fs, path, length, number)) || refused(status = there(stat))) return status;
+    return PROVED(stat)(fs, seat, from(path), length, stat, number);
+}
+
+#define CALL_AND_TELL(name)                                                                                            \
+    uint8_t atomfs_##name(atomfs *fs, uint64_t seat, const char *bytes, size_t length, char *out, size_t room,         \
+                          size_t *count, uint64_t *number) {                                                           \
+        uint8_t status = may_call_and_tell(fs, bytes, length, out, room, count, number);                               \
+        return refused(status) ? status : PROVED(name)(fs, seat, from(bytes), length, into(out), room, count, number); \
+    }
+
+CALL_AND_TELL(readdir)
+CALL_AND_TELL(call)
+
+uint8_t atomfs_read(atomfs *fs, uint64_t seat, const char *path, size_t length, uint64_t offset, void *out, size_t room,
+                    size_t *count, uint64_t *number) {
+    uint8_t status = may_call_and_tell(fs, path, length, out, room, count, number);
+    return refused(status) ? status : PROVED(read)(fs, seat, from(path), length, offset, into(out), room, count, number);
+}
+
+uint8_t atomfs_write(atomfs *fs, uint64_t seat, const char *path, size_t length, uint64_t offset, const void *bytes,
+                     size_t bytes_length, uint64_t *wrote, uint64_t *number) {
+    uint8_t status;
+    if (refused(status = may_call_with(fs, path, length, bytes, bytes_length, number))) return status;
+    if (refused(status = there(wrote))) return status;
+    return PROVED(write)(fs, seat, from(path), length, offset, from(bytes), bytes_length, wrote, number);
+}
+
+uint8_t atomfs_truncate(atomfs *fs, uint64_t seat, const char *path, size_t length, uint64_t size, uint64_t *number) {
+    uint8_t status = may_call(fs, path, length, number);
+    return refused(status) ? status : PROVED(truncate)(fs, seat, from(path), length, size, number);
+}
+
+uint8_t atomfs_begin_call(atomfs *fs, uint64_t seat, const atomfs_request *request, uint64_t *number) {
+    uint8_t status;
+    if (refused(status = there(request))) return status;
+    if (refused(status = may_call(fs, request->path, request->length, number))) return status;
+    int on_both = request->call == ATOMFS_CALL_RENAME || request->call == ATOMFS_CALL_EXCHANGE;
+    int writes = request->call == ATOMFS_CALL_WRITE;
+    const char *other = on_both ? request->other : NULL;
+    size_t other_length = on_both ? request->other_length : 0;
+    const void *bytes = writes ? request->bytes : NULL;
+    size_t bytes_length = writes ? request->bytes_length : 0;
+    if (refused(status = bytes_there(other, other_length))) return status;
+    if (refused(status = bytes_there(bytes, bytes_length))) return status;
+    return PROVED(begin_call)(fs, seat, request->call, from(request->path), request->length, from(other), other_length,
+                              request->offset, request->size, from(bytes), bytes_length, number);
+}
+
+uint8_t atomfs_step(atomfs *fs, uint64_t seat, uint8_t *did, uint64_t *about) {
+    uint8_t status;
+    if (refused(status = there(fs)) || refused(status = there(did)) || refused(status = there(about))) return status;
+    return PROVED(step)(fs, seat, did, about);
+}
+
+uint8_t atomfs_reply_done(atomfs *fs, uint64_t number) {
+    uint8_t status = there(fs);
+    return refused(status) ? status : PROVED(reply_done)(fs, number);
+}
+
+uint8_t atomfs_reply_stat(atomfs *fs, uint64_t number, struct atomfs_stat *stat) {
+    uint8_t status;
+    if (refused(status = there(fs)) || refused(status = there(stat))) return status;
+    return PROVED(reply_stat)(fs, number, stat);
+}
+
+uint8_t atomfs_reply_names(atomfs *fs, uint64_t number, const char *after, size_t after_length, char *out, size_t room,
+                           size_t *count) {
+    uint8_t status;
+    if (refused(status = may_tell(fs, out, room, count)) || refused(status = bytes_there(after, after_length)))
+        return status;
+    return PROVED(reply_names)(fs, number, from(after), after_length, into(out), room, count);
+}
+
+uint8_t atomfs_reply_bytes(atomfs *fs, uint64_t number, void *out, size_t room, size_t *count) {
+    uint8_t status = may_tell(fs, out, room, count);
+    return refused(status) ? status : PROVED(reply_bytes)(fs, number, into(out), room, count);
+}
+
+uint8_t atomfs_reply_wrote(atomfs *fs, uint64_t number, uint64_t *wrote) {
+    uint8_t status;
+    if (refused(status = there(fs)) || refused(status = there(wrote))) return status;
+    return PROVED(reply_wrote)(fs, number, wrote);
+}
+
+uint8_t atomfs_journal(atomfs *fs, size_t first, char *out, size_t room, size_t *count, size_t *entries) {
+    uint8_t status;
+    if (refused(status = may_tell(fs, out, room, count)) || refused(status = there(entries))) return status;
+    return PROVED(journal)(fs, first, into(out), room, count, entries);
+}
+
+#define TELL(name)                                                                                                     \
+    uint8_t atomfs_##name(atomfs *fs, char *out, size_t room, size_t *count) {                                         \
+        uint8_t status = may_tell(fs, out, room, count);                                                               \
+        return refused(status) ? status : PROVED(name)(fs, into(out), room, count);                                    \
+    }
+
+TELL(opening)
+TELL(tree)
+
+uint8_t atomfs_checkpoint(atomfs *fs, char *out, size_t room, size_t *count, uint64_t *number) {
+    uint8_t status;
+    if (refused(status = may_tell(fs, out, room, count)) || refused(status = there(number))) return status;
+    return PROVED(checkpoint)(fs, into(out), room, count, number);
+}
+
+uint8_t atomfs_reply(atomfs *fs, uint64_t number, char *out, size_t room, size_t *count) {
+    uint8_t status = may_tell(fs, out, room, count);
+    return refused(status) ? status : PROVED(reply)(fs, number, into(out), room, count);
+}
+
+#define ON_TEXT(name)                                                                                                  \
+    uint8_t atomfs_##name(const char *text, size_t length, char *out, size_t room, size_t *count) {                    \
+        uint8_t status;                                                                                                \
+        if (refused(status = bytes_there(text, length)) || refused(status = bytes_there(out, room))) return status;    \
+        if (refused(status = there(count))) return status;                                                             \
+        return PROVED(name)(from(text), length, into(out), room, count);                                               \
+    }
+
+ON_TEXT(run)
+ON_TEXT(check)
+
+const char *atomfs_version(void) { return ATOMFS_VERSION; }
+
+const char *atomfs_errno_name(uint8_t status) {
+    switch (status - ATOMFS_FAILED) {
+    case 1: return "EPERM";
+    case 2: return "ENOENT";
+    case 16: return "EBUSY";
+    case 17: return "EEXIST";
+    case 20: return "ENOTDIR";
+    case 21: return "EISDIR";
+    case 22: return "EINVAL";
+    case 27: return "EFBIG";
+    case 28: return "ENOSPC";
+    case 39: return "ENOTEMPTY";
+    default: return NULL;
+    }
+}
+
+static const char *failed_text(uint8_t status) {
+    switch (status - ATOMFS_FAILED) {
+    case 1: return "a directory cannot be unlinked (EPERM)";
+    case 2: return "no such file or directory (ENOENT)";
+    case 16: return "the root can be neither removed nor renamed (EBUSY)";
+    case 17: return "the name exists already (EEXIST)";
+    case 20: return "not a directory (ENOTDIR)";
+    case 21: return "a directory, where a file is needed (EISDIR)";
+    case 22: return "a directory cannot be moved below itself (EINVAL)";
+    case 27: return "the file would have too many bytes (EFBIG)";
+    case 28: return "the directory has too many entries (ENOSPC)";
+    case 39: return "the directory is not empty (ENOTEMPTY)";
+    default: return "no status of this library";
+    }
+}
+
+const char *atomfs_status_text(uint8_t status) {
+    switch (status) {
+    case ATOMFS_OK: return "done";
+    case ATOMFS_TOO_SMALL: return "there is no room for what is told";
+    case ATOMFS_UNTOLD: return "the call returned, and its reply is not told";
+    case ATOMFS_WAITS: return "the call is under way, and waits for a call of another seat";
+    case ATOMFS_CLOSED: return "the handle is closed";
+    case ATOMFS_ALREADY_OPEN: return "the handle is open already";
+    case ATOMFS_BAD_LIMIT: return "no tree has this limit of nodes";
+    case ATOMFS_NO_MEMORY: return "out of memory";
+    case ATOMFS_NO_SEAT: return "there is no such seat";
+    case ATOMFS_SEAT_BUSY: return "the seat has a call under way";
+    case ATOMFS_FULL: return "all nodes are in use";
+    case ATOMFS_NO_REPLY: return "no call of this number has returned";
+    case ATOMFS_UNDER_WAY: return "a call is under way";
+    case ATOMFS_NULL: return "a pointer is null";
+    case ATOMFS_BAD_LENGTH: return "a length is 2^63 or more";
+    case ATOMFS_BAD_HEADER: return "the first line is another than it has to be";
+    case ATOMFS_BAD_LINE: return "a line has no form of its place, or a request no call";
+    case ATOMFS_BAD_THREAD: return "the name of a thread is none";
+    case ATOMFS_THREAD_TWICE: return "a thread has two blocks";
+    case ATOMFS_BAD_PATH: return "no path";
+    case ATOMFS_BAD_NUMBER: return "no number";
+    case ATOMFS_BAD_HEX: return "no bytes in hexadecimal digits";
+    case ATOMFS_NO_SCHEDULE: return "the script has no schedule";
+    case ATOMFS_BAD_WORD: return "no word of a schedule";
+    case ATOMFS_TOO_LARGE: return "a limit of a text is passed";
+    case ATOMFS_BAD_REPLY: return "no reply";
+    case ATOMFS_BAD_START: return "the start tree is none";
+    default: return failed_text(status);
+    }
+}
