@@ -1,0 +1,44 @@
+"""AtomFS: a file tree in memory, in which every call is proved to be atomic.
+
+    import atomfs
+
+    with atomfs.Tree() as tree:
+        tree.mkdir("/a")
+        tree.mknod("/a/f")
+        tree.write("/a/f", 0, b"hello")
+        print(tree.read("/a/f"), tree.check())
+
+`atomfs.fs` is the same as a file system of PyFilesystem2, `atomfs.fsspec` as one of fsspec.
+"""
+from ._errors import ClosedError, Error, UnderWayError, WaitsError
+from ._library import NAME_LIMIT, NODE_LIMIT, PATH_LIMIT, Did, Status
+from ._library import library as _shared_object
+from ._tree import Begin, Seat, Stat, Step, Tree, check, run
+
+__version__ = "0.2.0"
+
+
+def library_version() -> str:
+    """The version of the shared object."""
+    return _shared_object().version()
+
+
+__all__ = [
+    "Begin",
+    "ClosedError",
+    "Did",
+    "Error",
+    "NAME_LIMIT",
+    "NODE_LIMIT",
+    "PATH_LIMIT",
+    "Seat",
+    "Stat",
+    "Status",
+    "Step",
+    "Tree",
+    "UnderWayError",
+    "WaitsError",
+    "check",
+    "library_version",
+    "run",
+]

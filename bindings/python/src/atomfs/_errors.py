@@ -1,0 +1,90 @@
+"""What the library refuses, as Python's exceptions.
+
+A call that fails raises the `OSError` of its number: `FileNotFoundError`, `NotADirectoryError`, `FileExistsError`,
+`IsADirectoryError`, `PermissionError`, or `OSError` with `ENOTEMPTY`, `EINVAL`, `EBUSY`, `ENOSPC`, `EFBIG`. A path that is none
+raises `OSError` with `EINVAL` or `ENAMETOOLONG`, a tree with no node left one with `ENOSPC`, and `MemoryError` is out of memory.
+What has nothing to do with the tree's content is an `Error`.
+"""
+from __future__ import annotations
+
+import errno
+import os
+from typing import TYPE_CHECKING, Union
+
+from ._library import FAILED, NAME_LIMIT, PATH_LIMIT, Library, Status
+
+if TYPE_CHECKING:
+    from ._tree import Seat
+
+AnyPath = Union[str, bytes, "os.PathLike[str]", "os.PathLike[bytes]"]
+
+
+class Error(Exception):
+    """A status that is no error of a call. `about` is the line of a text's fault, the number of a call, or 0."""
+
+    def __init__(self, status: int, words: str, about: int = 0) -> None:
+        super().__init__(words)
+        self.status, self.about = Status(status), about
+
+
+class ClosedError(Error, ValueError):
+    """The tree is closed."""
+
+
+class UnderWayError(Error):
+    """A call is under way, where none may be: `about` is its number."""
+
+
+class WaitsError(Error):
+    """The call is under way and waits for a node that the call of another seat holds: `seat.finish()` goes on with it."""
+
+    def __init__(self, words: str, about: int, seat: Seat) -> None:
+        super().__init__(Status.WAITS, words, about)
+        self.seat = seat
+
+
+def encoded(path: AnyPath) -> bytes:
+    """The bytes of a path: those of a string are UTF-8."""
+    if path.__class__ is not str:
+        path = os.fspath(path)
+        if isinstance(path, bytes):
+            return path
+    try:
+        return path.encode()  # type: ignore[union-attr]
+    except UnicodeEncodeError:
+        return path.encode("utf-8", "surrogateescape")  # type: ignore[union-attr]
+
+
+def path_error(*paths: AnyPath) -> OSError:
+    """Why the library refused one of these paths."""
+    for path in paths:
+        raw = encoded(path)
+        names = [name for name in raw.split(b"/") if name]
+        if any(len(name) > NAME_LIMIT for name in names) or len(names) > PATH_LIMIT:
+            return OSError(errno.ENAMETOOLONG, os.strerror(errno.ENAMETOOLONG), path)
+        if raw[:1] != b"/":
+            return OSError(errno.EINVAL, "Path does not begin with a slash", path)
+        if b"\0" in raw:
+            return OSError(errno.EINVAL, "Path has a byte 0", path)
+        if b"." in names or b".." in names:
+            return OSError(errno.EINVAL, "Path has a name . or ..", path)
+        if names and raw.endswith(b"/"):
+            return OSError(errno.EINVAL, "Path ends with a slash", path)
+    return OSError(errno.EINVAL, os.strerror(errno.EINVAL), paths[0])
+
+
+def error_of(library: Library, status: int, paths: tuple[AnyPath, ...] = (), about: int = 0) -> Exception:
+    """The exception of a status that is not OK."""
+    if status >= FAILED:
+        number = status - FAILED
+        return OSError(number, os.strerror(number), *paths[:1], *((None, paths[1]) if paths[1:] else ()))
+    if status == Status.BAD_PATH and paths:
+        return path_error(*paths)
+    if status == Status.FULL:
+        return OSError(errno.ENOSPC, "No node left", *paths[:1])
+    if status in (Status.NO_MEMORY, Status.UNTOLD):
+        return MemoryError(library.words(status))
+    if status in (Status.BAD_LIMIT, Status.BAD_LENGTH):
+        return ValueError(library.words(status))
+    kind = {Status.CLOSED: ClosedError, Status.UNDER_WAY: UnderWayError}.get(Status(status), Error)
+    return kind(status, library.words(status), about)

@@ -1,0 +1,167 @@
+"""The functions of atomfs.h, by ctypes."""
+from __future__ import annotations
+
+import ctypes
+import enum
+import functools
+import os
+import pathlib
+from typing import Any, Callable, Dict, List
+
+NODE_LIMIT = 1_048_576
+NAME_LIMIT = 32
+PATH_LIMIT = 64
+# From this status on a call has failed, and the rest is the number of its error.
+FAILED = 128
+
+
+class Status(enum.IntEnum):
+    """What a function of the library answers, where no call failed."""
+
+    OK = 0
+    TOO_SMALL = 1
+    UNTOLD = 2
+    WAITS = 3
+    CLOSED = 4
+    ALREADY_OPEN = 5
+    BAD_LIMIT = 6
+    NO_MEMORY = 7
+    NO_SEAT = 8
+    SEAT_BUSY = 9
+    FULL = 10
+    NO_REPLY = 11
+    UNDER_WAY = 12
+    NULL = 14
+    BAD_LENGTH = 15
+    BAD_HEADER = 16
+    BAD_LINE = 17
+    BAD_THREAD = 18
+    THREAD_TWICE = 19
+    BAD_PATH = 20
+    BAD_NUMBER = 21
+    BAD_HEX = 22
+    NO_SCHEDULE = 23
+    BAD_WORD = 24
+    TOO_LARGE = 25
+    BAD_REPLY = 26
+    BAD_START = 27
+
+
+class Did(enum.IntEnum):
+    """What a step did."""
+
+    IDLE = 0
+    TAKE = 1
+    WAIT = 2
+    LET_GO = 3
+    HELP = 4
+    COMMIT = 5
+    CARRY_OUT = 6
+    RETURN = 7
+
+
+class Call(enum.IntEnum):
+    """Which call a request asks for."""
+
+    MKDIR = 0
+    MKNOD = 1
+    UNLINK = 2
+    RMDIR = 3
+    RENAME = 4
+    EXCHANGE = 5
+    STAT = 6
+    READDIR = 7
+    READ = 8
+    WRITE = 9
+    TRUNCATE = 10
+
+
+class Handle(ctypes.Structure):
+    _fields_ = [("is_open", ctypes.c_uint8), ("at", ctypes.c_void_p)]
+
+
+class CStat(ctypes.Structure):
+    _fields_ = [("is_dir", ctypes.c_uint8), ("size", ctypes.c_uint64)]
+
+
+class Request(ctypes.Structure):
+    _fields_ = [
+        ("call", ctypes.c_uint8),
+        ("path", ctypes.c_char_p),
+        ("length", ctypes.c_size_t),
+        ("other", ctypes.c_char_p),
+        ("other_length", ctypes.c_size_t),
+        ("offset", ctypes.c_uint64),
+        ("size", ctypes.c_uint64),
+        ("bytes", ctypes.c_char_p),
+        ("bytes_length", ctypes.c_size_t),
+    ]
+
+
+# An address is passed as a number, which takes ctypes the least time.
+_AT = ctypes.c_void_p
+_SIZE, _NUMBER = ctypes.c_size_t, ctypes.c_uint64
+_GIVEN, _TOLD = [ctypes.c_char_p, _SIZE], [_AT, _SIZE, _AT]
+_ON = [_AT, _NUMBER, *_GIVEN]
+
+_ARGUMENTS: Dict[str, List[Any]] = {
+    "open": [_AT, _SIZE],
+    "close": [_AT],
+    "seat": [_AT, _AT],
+    **dict.fromkeys(("mkdir", "mknod", "unlink", "rmdir"), [*_ON, _AT]),
+    **dict.fromkeys(("rename", "exchange"), [*_ON, *_GIVEN, _AT]),
+    "stat": [*_ON, _AT, _AT],
+    "readdir": [*_ON, *_TOLD, _AT],
+    "read": [*_ON, _NUMBER, *_TOLD, _AT],
+    "write": [*_ON, _NUMBER, *_GIVEN, _AT, _AT],
+    "truncate": [*_ON, _NUMBER, _AT],
+    "begin_call": [_AT, _NUMBER, _AT, _AT],
+    "step": [_AT, _NUMBER, _AT, _AT],
+    "reply_done": [_AT, _NUMBER],
+    "reply_stat": [_AT, _NUMBER, _AT],
+    "reply_names": [_AT, _NUMBER, *_GIVEN, *_TOLD],
+    "reply_bytes": [_AT, _NUMBER, *_TOLD],
+    "reply_wrote": [_AT, _NUMBER, _AT],
+    "journal": [_AT, _SIZE, *_TOLD, _AT],
+    "opening": [_AT, *_TOLD],
+    "checkpoint": [_AT, *_TOLD, _AT],
+    "tree": [_AT, *_TOLD],
+    "run": [*_GIVEN, *_TOLD],
+    "check": [*_GIVEN, *_TOLD],
+}
+
+
+# What may take long, and lets other threads of Python run meanwhile. A call takes less time than it takes to let them.
+_LONG = {"close", "journal", "checkpoint", "tree", "run", "check"}
+
+
+class Library:
+    """The shared object at a path: each function under its name without `atomfs_`."""
+
+    def __init__(self, path: str) -> None:
+        self.path = path
+        self._object, long = ctypes.PyDLL(path), ctypes.CDLL(path)
+        for name, arguments in _ARGUMENTS.items():
+            function = getattr(long if name in _LONG else self._object, f"atomfs_{name}")
+            function.argtypes, function.restype = arguments, ctypes.c_uint8
+            setattr(self, name, function)
+        self._object.atomfs_version.restype = ctypes.c_char_p
+        self._object.atomfs_status_text.argtypes, self._object.atomfs_status_text.restype = [ctypes.c_uint8], ctypes.c_char_p
+
+    def __getattr__(self, name: str) -> Callable[..., int]:
+        raise AttributeError(name)
+
+    def version(self) -> str:
+        """The version of the shared object."""
+        return (self._object.atomfs_version() or b"").decode()
+
+    def words(self, status: int) -> str:
+        """What a status says."""
+        return (self._object.atomfs_status_text(status) or b"").decode()
+
+
+@functools.cache
+def library() -> Library:
+    """The shared object of the package, or the one that `ATOMFS_LIBRARY` names."""
+    own = pathlib.Path(__file__).with_name("libatomfs.so")
+    return Library(os.environ.get("ATOMFS_LIBRARY") or str(own))

@@ -1,0 +1,190 @@
+"""A tree as a file system of PyFilesystem2 (the package `fs`).
+
+    from atomfs.fs import AtomFS
+
+    with AtomFS() as files:
+        files.makedirs("a/b")
+        files.writetext("a/b/hello.txt", "hello")
+
+`fs.open_fs("atomfs://")` opens the same. Names are UTF-8, by the limits of the tree: `AtomFS.getmeta("atomfs")` has them.
+A tree keeps no times, owners and permissions, so `setinfo` changes nothing.
+"""
+from __future__ import annotations
+
+import contextlib
+import errno
+from typing import TYPE_CHECKING, Any, BinaryIO, Collection, Dict, Iterator, List, Mapping, Optional, Text, Tuple, Type
+
+from fs import errors
+from fs.base import FS
+from fs.enums import ResourceType
+from fs.info import Info
+from fs.mode import Mode
+from fs.opener import Opener
+from fs.path import basename
+
+from . import NAME_LIMIT, NODE_LIMIT, PATH_LIMIT, Stat, Tree
+from ._file import open_file
+
+if TYPE_CHECKING:
+    from fs.permissions import Permissions
+    from fs.subfs import SubFS
+
+_Kinds = Dict[int, Type[errors.FSError]]
+_OF_ANY: _Kinds = {
+    errno.ENOENT: errors.ResourceNotFound,
+    errno.ENOTDIR: errors.ResourceNotFound,
+    errno.ENOTEMPTY: errors.DirectoryNotEmpty,
+    errno.EINVAL: errors.InvalidPath,
+    errno.ENAMETOOLONG: errors.InvalidPath,
+    errno.ENOSPC: errors.InsufficientStorage,
+    errno.EFBIG: errors.InsufficientStorage,
+}
+_OF_FILES: _Kinds = {**_OF_ANY, errno.EISDIR: errors.FileExpected, errno.EPERM: errors.FileExpected, errno.EEXIST: errors.FileExists}
+# A file is moved below a file: both paths are good, and the directory for the second is none.
+_OF_MOVES: _Kinds = {**_OF_FILES, errno.EINVAL: errors.ResourceNotFound}
+_OF_DIRECTORIES: _Kinds = {**_OF_ANY, errno.ENOTDIR: errors.DirectoryExpected, errno.EEXIST: errors.DirectoryExists}
+
+
+@contextlib.contextmanager
+def _of(path: str, kinds: _Kinds, action: str) -> Iterator[None]:
+    """Raises PyFilesystem2's error for that of a call."""
+    try:
+        yield
+    except OSError as error:
+        kind = kinds.get(error.errno or 0)
+        if kind is None:
+            raise errors.OperationFailed(path=path, exc=error, msg=f"{action}: {error.strerror}") from error
+        raise kind(path=path, exc=error) from error  # type: ignore[call-arg]
+
+
+class AtomFS(FS):
+    """A tree as a file system: a new one of at most `limit` nodes, which is closed with it, or one that is given, which stays open."""
+
+    _meta = {
+        "case_insensitive": False,
+        "invalid_path_chars": "\0",
+        "network": False,
+        "read_only": False,
+        "supports_rename": False,
+        "thread_safe": True,
+        "unicode_paths": True,
+        "virtual": False,
+    }
+
+    def __init__(self, tree: Optional[Tree] = None, limit: int = NODE_LIMIT) -> None:
+        super().__init__()
+        self._owns = tree is None
+        #: The tree itself.
+        self.atom_tree = Tree(limit) if tree is None else tree
+
+    def __repr__(self) -> str:
+        return f"AtomFS({self.atom_tree!r})"
+
+    def __str__(self) -> str:
+        return "<atomfs>"
+
+    def close(self) -> None:
+        if not self._closed and self._owns:
+            self.atom_tree.close()
+        super().close()
+
+    def getmeta(self, namespace: Text = "standard") -> Mapping[Text, object]:
+        """As of any file system, and in the namespace `atomfs` the limits of names and paths."""
+        if namespace == "atomfs":
+            return {"name_bytes": NAME_LIMIT, "path_names": PATH_LIMIT}
+        return super().getmeta(namespace)
+
+    def validatepath(self, path: Text) -> Text:
+        path = super().validatepath(path)
+        names = path.split("/")[1:]
+        if len(names) > PATH_LIMIT:
+            raise errors.InvalidPath(path, msg=f"path '{{path}}' has more than {PATH_LIMIT} names")
+        if any(len(name.encode("utf-8", "surrogateescape")) > NAME_LIMIT for name in names):
+            raise errors.InvalidPath(path, msg=f"path '{{path}}' has a name of more than {NAME_LIMIT} bytes")
+        return path
+
+    @staticmethod
+    def _info(name: str, stat: Stat, namespaces: Optional[Collection[Text]]) -> Info:
+        raw: dict[str, dict[str, Any]] = {"basic": {"name": name, "is_dir": stat.is_dir}}
+        if "details" in (namespaces or ()):
+            kind = ResourceType.directory if stat.is_dir else ResourceType.file
+            raw["details"] = {"type": int(kind), "size": 0 if stat.is_dir else stat.size, "_write": []}
+        return Info(raw)
+
+    def getinfo(self, path: Text, namespaces: Optional[Collection[Text]] = None) -> Info:
+        at = self.validatepath(path)
+        with _of(path, _OF_ANY, "getinfo"):
+            return self._info(basename(at), self.atom_tree.stat(at), namespaces)
+
+    def setinfo(self, path: Text, info: Mapping[Text, Mapping[Text, object]]) -> None:
+        """Changes nothing, since a tree keeps nothing that could be set, and looks whether there is such a node."""
+        self.getinfo(path)
+
+    def listdir(self, path: Text) -> List[Text]:
+        at = self.validatepath(path)
+        with _of(path, _OF_DIRECTORIES, "listdir"):
+            return self.atom_tree.readdir(at)
+
+    def scandir(
+        self, path: Text, namespaces: Optional[Collection[Text]] = None, page: Optional[Tuple[int, int]] = None
+    ) -> Iterator[Info]:
+        """The entries in byte order of their names. One that is removed meanwhile is left out."""
+        at = self.validatepath(path)
+        names = self.listdir(path)
+        start, end = page or (None, None)
+        for name in names[start:end]:
+            try:
+                stat = self.atom_tree.stat(f"{at.rstrip('/')}/{name}")
+            except (FileNotFoundError, NotADirectoryError):
+                continue
+            yield self._info(name, stat, namespaces)
+
+    def makedir(self, path: Text, permissions: Optional[Permissions] = None, recreate: bool = False) -> SubFS[FS]:
+        at = self.validatepath(path)
+        try:
+            with _of(path, _OF_DIRECTORIES, "makedir"):
+                self.atom_tree.mkdir(at)
+        except errors.DirectoryExists:
+            if not recreate:
+                raise
+        return self.opendir(path)
+
+    def openbin(self, path: Text, mode: Text = "r", buffering: int = -1, **options: Any) -> BinaryIO:
+        Mode(mode).validate_bin()
+        at = self.validatepath(path)
+        with _of(path, _OF_FILES, "openbin"):
+            return open_file(self.atom_tree, at, mode, buffering)  # type: ignore[return-value]
+
+    def remove(self, path: Text) -> None:
+        at = self.validatepath(path)
+        with _of(path, _OF_FILES, "remove"):
+            self.atom_tree.unlink(at)
+
+    def removedir(self, path: Text) -> None:
+        at = self.validatepath(path)
+        if at == "/":
+            raise errors.RemoveRootError(path=path)
+        with _of(path, _OF_DIRECTORIES, "removedir"):
+            self.atom_tree.rmdir(at)
+
+    def move(self, src_path: Text, dst_path: Text, overwrite: bool = False, preserve_time: bool = False) -> None:
+        """Moves a file by one `rename`, so that no other call sees it twice or not at all."""
+        source, goal = self.validatepath(src_path), self.validatepath(dst_path)
+        # Not the lock of the file system: its owner may wait for threads that write to files.
+        with self.atom_tree.lock:
+            if not overwrite and self.exists(dst_path):
+                raise errors.DestinationExists(dst_path)
+            if self.getinfo(src_path).is_dir:
+                raise errors.FileExpected(src_path)
+            with _of(dst_path, _OF_MOVES, "move"):
+                self.atom_tree.rename(source, goal)
+
+
+class AtomOpener(Opener):
+    """Opens `atomfs://`: a new tree."""
+
+    protocols = ["atomfs"]
+
+    def open_fs(self, fs_url: Text, parse_result: Any, writeable: bool, create: bool, cwd: Text) -> AtomFS:
+        return AtomFS()

@@ -1,0 +1,203 @@
+"""A tree as a file system of fsspec, for `atomfs://`.
+
+    import fsspec
+
+    with fsspec.open("atomfs://hello.txt", "wt") as file:
+        file.write("hello")
+
+All that is opened so, as `fsspec.filesystem("atomfs")` is, is one tree of the process. `AtomFileSystem(tree=Tree())` is one of
+your own.
+"""
+from __future__ import annotations
+
+import errno
+import io
+import os
+import posixpath
+import secrets
+import threading
+from glob import has_magic
+from typing import Any, Optional
+
+from fsspec import AbstractFileSystem  # type: ignore[import]
+from fsspec.utils import stringify_path  # type: ignore[import]
+
+from . import Tree
+from ._file import AnyFile, create_file, open_file
+
+
+class _Draft:
+    """A file of a transaction: it is written beside its path, and `commit` puts it there by one `rename`."""
+
+    def __init__(self, tree: Tree, path: str, mode: str, buffering: int) -> None:
+        self._tree, self._path = tree, path
+        self._draft = f"{posixpath.dirname(path).rstrip('/')}/.atomfs-{secrets.token_hex(6)}"
+        with tree.lock:
+            self._copy_draft(mode)
+        self._file = open_file(tree, self._draft, mode.replace("x", "r+").replace("w", "r+"), buffering)
+
+    def _copy_draft(self, mode: str) -> None:
+        """The draft, which begins as the mode asks for: with the bytes of the file, or with none."""
+        kept = b""
+        if "r" in mode or self._tree.exists(self._path):
+            # This refuses a directory, too.
+            kept = self._tree.read(self._path)
+            if "x" in mode:
+                raise FileExistsError(errno.EEXIST, os.strerror(errno.EEXIST), self._path)
+        if "w" in mode:
+            kept = b""
+        self._tree.mknod(self._draft)
+        self._tree.write(self._draft, 0, kept)
+
+    def __getattr__(self, name: str) -> Any:
+        return getattr(self._file, name)
+
+    def __enter__(self) -> _Draft:
+        return self
+
+    def __exit__(self, *error: object) -> None:
+        self._file.close()
+
+    def commit(self) -> None:
+        """Puts the file at its path."""
+        self._file.close()
+        self._tree.rename(self._draft, self._path)
+
+    def discard(self) -> None:
+        """Forgets what was written."""
+        self._file.close()
+        self._tree.unlink(self._draft)
+
+
+class AtomFileSystem(AbstractFileSystem):  # type: ignore[misc]
+    """A tree as a file system: that of the process, or one that is given."""
+
+    protocol = "atomfs"
+    root_marker = "/"
+    cachable = False
+
+    _shared: Optional[Tree] = None
+    _making = threading.Lock()
+
+    def __init__(self, tree: Optional[Tree] = None, **options: Any) -> None:
+        super().__init__(**options)
+        #: The tree itself.
+        self.atom_tree = tree or self._of_the_process()
+
+    @classmethod
+    def _of_the_process(cls) -> Tree:
+        with AtomFileSystem._making:
+            if AtomFileSystem._shared is None or AtomFileSystem._shared.closed:
+                AtomFileSystem._shared = Tree()
+            return AtomFileSystem._shared
+
+    @classmethod
+    def _strip_protocol(cls, path: Any) -> Any:
+        if isinstance(path, list):
+            return [cls._strip_protocol(one) for one in path]
+        path = stringify_path(path)
+        for start in (f"{cls.protocol}://", f"{cls.protocol}::"):
+            path = path.removeprefix(start)
+        return posixpath.normpath("/" + path.lstrip("/"))
+
+    def _entry(self, path: str) -> dict[str, Any]:
+        stat = self.atom_tree.stat(path)
+        return {"name": path, "size": 0 if stat.is_dir else stat.size, "type": "directory" if stat.is_dir else "file"}
+
+    def info(self, path: str, **options: Any) -> dict[str, Any]:
+        return self._entry(self._strip_protocol(path))
+
+    def ls(self, path: str, detail: bool = True, **options: Any) -> list[Any]:
+        """The entries of a directory in byte order of their names, or a file itself."""
+        path = self._strip_protocol(path)
+        try:
+            names: list[Any] = [f"{path.rstrip('/')}/{name}" for name in self.atom_tree.readdir(path)]
+        except NotADirectoryError:
+            self.atom_tree.read(path, 0, 0)
+            names = [path]
+        return self._entries(names) if detail else names
+
+    def _entries(self, names: list[str]) -> list[dict[str, Any]]:
+        """What stands at paths, without what was removed meanwhile."""
+        entries = []
+        for name in names:
+            try:
+                entries.append(self._entry(name))
+            except (FileNotFoundError, NotADirectoryError):
+                continue
+        return entries
+
+    def mkdir(self, path: str, create_parents: bool = True, **options: Any) -> None:
+        path = self._strip_protocol(path)
+        if create_parents and path != "/":
+            self.makedirs(self._parent(path), exist_ok=True)
+        self.atom_tree.mkdir(path)
+
+    def makedirs(self, path: str, exist_ok: bool = False) -> None:
+        names = self._strip_protocol(path).strip("/").split("/")
+        for count in range(1, len(names)):
+            self._make("/" + "/".join(names[:count]), True)
+        self._make("/" + "/".join(names), exist_ok)
+
+    def _make(self, path: str, exist_ok: bool) -> None:
+        try:
+            self.atom_tree.mkdir(path)
+        except FileExistsError:
+            if not exist_ok:
+                raise
+            # A directory may stand there, and a file may not.
+            self.atom_tree.readdir(path)
+
+    def rmdir(self, path: str) -> None:
+        self.atom_tree.rmdir(self._strip_protocol(path))
+
+    def _rm(self, path: str) -> None:
+        self.atom_tree.unlink(self._strip_protocol(path))
+
+    def rm(self, path: Any, recursive: bool = False, maxdepth: Optional[int] = None) -> None:
+        """Removes files, and directories with all below them where it is recursive."""
+        for one in reversed(self.expand_path(path, recursive=recursive, maxdepth=maxdepth)):
+            if recursive and one == "/":
+                continue
+            if recursive and self.atom_tree.stat(one).is_dir:
+                self.atom_tree.rmdir(one)
+            else:
+                self.atom_tree.unlink(one)
+
+    def cp_file(self, path1: str, path2: str, **options: Any) -> None:
+        source, goal = self._strip_protocol(path1), self._strip_protocol(path2)
+        if self.atom_tree.stat(source).is_dir:
+            self.makedirs(goal, exist_ok=True)
+            return
+        with self.atom_tree.lock:
+            data = self.atom_tree.read(source)
+            create_file(self.atom_tree, goal, "w")
+            self.atom_tree.write(goal, 0, data)
+
+    def mv(self, path1: Any, path2: Any, recursive: bool = False, maxdepth: Optional[int] = None, **options: Any) -> None:
+        """Moves one file or directory by one `rename`; what a pattern or a list names, by copies."""
+        if not isinstance(path1, str) or has_magic(path1):
+            super().mv(path1, path2, recursive=recursive, maxdepth=maxdepth, **options)
+            return
+        source, goal = self._strip_protocol(path1), self._strip_protocol(path2)
+        if path2.endswith("/"):
+            goal = posixpath.join(goal, posixpath.basename(source))
+        self.atom_tree.rename(source, goal)
+
+    def _open(
+        self,
+        path: str,
+        mode: str = "rb",
+        block_size: Optional[int] = None,
+        autocommit: bool = True,
+        cache_options: Any = None,
+        **options: Any,
+    ) -> AnyFile | _Draft:
+        buffering = -1 if block_size is None else block_size
+        if autocommit or ("r" in mode and "+" not in mode):
+            return open_file(self.atom_tree, path, mode, buffering)
+        return _Draft(self.atom_tree, path, mode, buffering)
+
+    def open(self, path: str, mode: str = "rb", **options: Any) -> io.IOBase:
+        file: io.IOBase = super().open(path, mode, **options)
+        return file

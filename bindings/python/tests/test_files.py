@@ -1,0 +1,199 @@
+"""What `AtomFS` does beside what PyFilesystem2's suite asks for."""
+import errno
+import io
+import threading
+import unittest
+
+import fs
+import fs.copy
+from fs import errors
+
+import atomfs
+from atomfs.fs import AtomFS
+
+LONG = "n" * 33
+
+
+class Files(unittest.TestCase):
+    def setUp(self):
+        self.files = AtomFS(limit=500)
+        self.tree = self.files.atom_tree
+
+    def tearDown(self):
+        self.assertEqual(self.tree.check(), "lawful")
+        self.files.close()
+        self.assertTrue(self.tree.closed)
+
+    def test_opener(self):
+        with fs.open_fs("atomfs://") as files:
+            self.assertIsInstance(files, AtomFS)
+            files.writetext("a", "text")
+            self.assertEqual(files.readtext("a"), "text")
+
+    def test_given_tree(self):
+        """A tree that is given stays open."""
+        with atomfs.Tree() as tree:
+            with AtomFS(tree) as files:
+                files.makedir("a")
+            self.assertEqual(tree.readdir("/"), ["a"])
+
+    def test_limits(self):
+        self.assertEqual(self.files.getmeta("atomfs"), {"name_bytes": 32, "path_names": 64})
+        for path in (LONG, f"a/{LONG}/b", "n/" * 65):
+            with self.subTest(path):
+                self.assertRaises(errors.InvalidPath, self.files.makedir, path)
+                self.assertRaises(errors.InvalidPath, self.files.validatepath, path)
+                self.assertRaises(errors.InvalidPath, self.files.exists, path)
+        self.files.makedir("n" * 32)
+
+    def test_full(self):
+        for at in range(256):
+            self.files.create(str(at))
+        self.assertRaises(errors.InsufficientStorage, self.files.makedir, "one_more")
+        self.assertRaises(errors.InsufficientStorage, self.files.create, "one_more")
+
+    def test_modes(self):
+        """What each mode does to a file with bytes, and where it begins."""
+        rows = (
+            ("r", b"old", b"old"),
+            ("r+", b"NEW", b"NEW"),
+            ("w", b"NEW", b"NEW"),
+            ("w+", b"NEW", b"NEW"),
+            ("a", b"NEW", b"oldNEW"),
+            ("a+", b"NEW", b"oldNEW"),
+        )
+        for buffering in (-1, 0, 1, 2):
+            for mode, written, wanted in rows:
+                with self.subTest(f"{mode} {buffering}"):
+                    self.files.writebytes("f", b"old")
+                    with self.files.openbin("f", mode, buffering) as file:
+                        self.assertEqual(file.tell(), 3 if "a" in mode else 0)
+                        if mode != "r":
+                            self.assertEqual(file.write(written), 3)
+                    self.assertEqual(self.files.readbytes("f"), wanted)
+
+    def test_a_file(self):
+        """Positions, gaps and sizes."""
+        with self.files.openbin("f", "w+") as file:
+            self.assertEqual(file.seek(4), 4)
+            file.write(b"end")
+            self.assertEqual(file.seek(-7, io.SEEK_END), 0)
+            self.assertEqual(file.read(), b"\0\0\0\0end")
+            self.assertEqual(file.truncate(2), 2)
+            self.assertEqual(file.tell(), 7)
+            self.assertEqual(file.read(), b"")
+            self.assertRaises(ValueError, file.seek, -1)
+            self.assertRaises(ValueError, file.seek, 0, 9)
+            self.assertRaises(ValueError, file.truncate, -1)
+            self.assertRaises(io.UnsupportedOperation, file.fileno)
+        self.assertRaises(ValueError, file.read)
+        self.assertEqual(self.files.readbytes("f"), b"\0\0")
+
+    def test_appends(self):
+        """Each write of a file that appends goes to the end as it is then."""
+        with self.files.openbin("f", "a", 0) as one, self.files.openbin("f", "a", 0) as other:
+            one.write(b"1")
+            other.write(b"2")
+            one.write(b"3")
+            self.assertEqual((one.tell(), other.tell()), (3, 2))
+        self.assertEqual(self.files.readbytes("f"), b"123")
+
+    def test_appends_of_threads(self):
+        def work():
+            with self.files.openbin("f", "a", 0) as file:
+                for _ in range(100):
+                    file.write(b"12345")
+
+        threads = [threading.Thread(target=work) for _ in range(4)]
+        for thread in threads:
+            thread.start()
+        for thread in threads:
+            thread.join()
+        self.assertEqual(self.files.readbytes("f"), b"12345" * 400)
+
+    def test_copies_by_threads(self):
+        """Threads write and read files while the file system's lock is held."""
+        with fs.open_fs("mem://") as other, AtomFS() as files:
+            for at in range(20):
+                self.files.writebytes(str(at), b"x" * 60_000)
+            for source, goal in ((self.files, other), (other, files)):
+                fs.copy.copy_fs(source, goal, workers=3)
+            self.assertEqual([files.getsize(str(at)) for at in range(20)], [60_000] * 20)
+
+    def test_too_long(self):
+        """A write that passes the limit of a file writes nothing."""
+        with self.files.openbin("f", "w", 0) as file:
+            self.assertEqual(file.write(b"x" * 65_536), 65_536)
+            with self.assertRaises(OSError) as raised:
+                file.write(b"y")
+            self.assertEqual(raised.exception.errno, errno.EFBIG)
+        self.assertEqual(self.files.getsize("f"), 65_536)
+
+    def test_removed_meanwhile(self):
+        """An open file is a path: behind its removal there is nothing to read."""
+        self.files.writebytes("f", b"bytes")
+        with self.files.openbin("f") as file:
+            self.files.remove("f")
+            self.assertRaises(FileNotFoundError, file.read)
+
+    def test_one_call_for_a_file(self):
+        """A file of today's limit is written by one call and read by one."""
+        self.files.writebytes("f", b"x" * 65_536)
+        self.assertEqual(self.files.readbytes("f"), b"x" * 65_536)
+        journal = self.tree.journal()
+        self.assertEqual((journal.count(" write /f"), journal.count("read /f 0 65537")), (1, 1))
+
+    def test_moves(self):
+        """A file moves by one rename."""
+        self.files.makedir("d")
+        self.files.writebytes("f", b"f")
+        self.files.writebytes("g", b"g")
+        self.files.move("f", "g", overwrite=True)
+        self.files.move("g", "g", overwrite=True)
+        self.assertEqual((self.files.listdir("/"), self.files.readbytes("g")), (["d", "g"], b"f"))
+        self.assertRaises(errors.FileExpected, self.files.move, "g", "d", overwrite=True)
+        self.assertRaises(errors.ResourceNotFound, self.files.move, "g", "g/h")
+        self.assertIn("rename /f /g", self.tree.journal())
+
+    def test_kinds_of_errors(self):
+        self.files.writebytes("f", b"")
+        self.files.makedir("d")
+        rows = (
+            (errors.ResourceNotFound, lambda: self.files.getinfo("f/x")),
+            (errors.DirectoryExpected, lambda: self.files.makedir("f/x")),
+            (errors.DirectoryExpected, lambda: self.files.listdir("f")),
+            (errors.DirectoryExists, lambda: self.files.makedir("f")),
+            (errors.DirectoryExpected, lambda: self.files.makedir("f", recreate=True)),
+            (errors.FileExpected, lambda: self.files.openbin("d", "a")),
+            (errors.FileExpected, lambda: self.files.openbin("d", "r+")),
+            (errors.FileExists, lambda: self.files.openbin("d", "x")),
+            (errors.ResourceNotFound, lambda: self.files.openbin("f/x", "w")),
+            (errors.ResourceNotFound, lambda: self.files.openbin("x", "r+")),
+            (errors.DirectoryExpected, lambda: self.files.removedir("f")),
+            (errors.RemoveRootError, lambda: self.files.removedir("/")),
+            (errors.FileExpected, lambda: self.files.remove("/")),
+        )
+        for at, (kind, call) in enumerate(rows):
+            with self.subTest(at):
+                self.assertRaises(kind, call)
+
+    def test_names(self):
+        """Entries come in byte order of their names, and a name need not be UTF-8."""
+        self.tree.mknod(b"/\xff")
+        for name in ("b", "a", "\N{SNOWMAN}"):
+            self.files.create(name)
+        self.assertEqual(self.files.listdir("/"), ["a", "b", "\N{SNOWMAN}", "\udcff"])
+        self.assertEqual([info.name for info in self.files.scandir("/", page=(1, 3))], ["b", "\N{SNOWMAN}"])
+        self.assertTrue(self.files.exists("\udcff"))
+
+    def test_removed_while_scanned(self):
+        for name in "abc":
+            self.files.create(name)
+        scanned = self.files.scandir("/")
+        self.assertEqual(next(scanned).name, "a")
+        self.files.remove("b")
+        self.assertEqual([info.name for info in scanned], ["c"])
+
+
+if __name__ == "__main__":
+    unittest.main()

@@ -1,0 +1,386 @@
+"""Trees and seats."""
+import copy
+import errno
+import os
+import pathlib
+import pickle
+import threading
+import time
+import unittest
+
+import atomfs
+from atomfs import Did, Stat
+
+
+class OfTree(unittest.TestCase):
+    """A test with a tree whose journal has to be lawful at its end."""
+
+    def setUp(self):
+        self.tree = atomfs.Tree(1000)
+
+    def tearDown(self):
+        if not self.tree.closed:
+            self.assertEqual(self.tree.check(), "lawful")
+        self.tree.close()
+
+    def fails(self, kind, number, call, *paths):
+        """A call that raises an `OSError` of this class, number and these paths."""
+        with self.assertRaises(OSError) as raised:
+            call()
+        error = raised.exception
+        self.assertEqual((type(error), error.errno), (kind, number))
+        self.assertEqual((error.filename, *([error.filename2] if error.filename2 else [])), paths)
+
+
+class Calls(OfTree):
+    def test_each_call(self):
+        tree = self.tree
+        tree.mkdir("/a")
+        tree.mknod("/a/f")
+        self.assertEqual(tree.write("/a/f", 2, b"hello"), 5)
+        self.assertEqual(tree.read("/a/f"), b"\0\0hello")
+        self.assertEqual(tree.read("/a/f", 3, 2), b"el")
+        self.assertEqual(tree.read("/a/f", 9, 2), b"")
+        self.assertEqual(tree.stat("/a/f"), Stat(False, 7))
+        tree.truncate("/a/f", 3)
+        self.assertEqual(tree.read("/a/f", 0, 100), b"\0\0h")
+        tree.mkdir("/b")
+        tree.rename("/a", "/c")
+        tree.exchange("/c/f", "/b")
+        self.assertEqual(tree.readdir("/"), ["b", "c"])
+        self.assertEqual((tree.stat("/b").is_dir, tree.stat("/c/f")), (False, Stat(True, 0)))
+        tree.unlink("/b")
+        tree.rmdir("/c/f")
+        self.assertEqual(tree.stat("/c"), Stat(True, 0))
+        self.assertEqual(tree.tree(), "tree\ndir /\ndir /c\n")
+
+    def test_each_error(self):
+        tree = self.tree
+        tree.mkdir("/d")
+        tree.mkdir("/d/e")
+        tree.mknod("/f")
+        rows = (
+            (FileNotFoundError, errno.ENOENT, lambda: tree.stat("/x"), "/x"),
+            (NotADirectoryError, errno.ENOTDIR, lambda: tree.readdir("/f"), "/f"),
+            (FileExistsError, errno.EEXIST, lambda: tree.mkdir("/d"), "/d"),
+            (OSError, errno.ENOTEMPTY, lambda: tree.rmdir("/d"), "/d"),
+            (IsADirectoryError, errno.EISDIR, lambda: tree.read("/d"), "/d"),
+            (OSError, errno.EINVAL, lambda: tree.rename("/d", "/d/e/g"), "/d", "/d/e/g"),
+            (OSError, errno.EBUSY, lambda: tree.exchange("/d", "/"), "/d", "/"),
+            (PermissionError, errno.EPERM, lambda: tree.unlink("/d"), "/d"),
+            (OSError, errno.EFBIG, lambda: tree.truncate("/f", 2**63), "/f"),
+            (OSError, errno.EFBIG, lambda: tree.write("/f", 2**64, b"x"), "/f"),
+        )
+        for kind, number, call, *paths in rows:
+            with self.subTest(errno.errorcode[number]):
+                self.fails(kind, number, call, *paths)
+
+    def test_full(self):
+        for at in range(256):
+            self.tree.mknod(f"/{at}")
+        self.fails(OSError, errno.ENOSPC, lambda: self.tree.mknod("/one_more"), "/one_more")
+        self.assertEqual(len(self.tree.readdir("/")), 256)
+        with atomfs.Tree(1) as tree:
+            self.fails(OSError, errno.ENOSPC, lambda: tree.mkdir("/a"), "/a")
+
+    def test_paths(self):
+        """What is no path is refused with the number that it has in the field."""
+        rows = (
+            ("a", errno.EINVAL),
+            ("", errno.EINVAL),
+            ("/a/", errno.EINVAL),
+            ("/a/../b", errno.EINVAL),
+            ("/a\0b", errno.EINVAL),
+            ("/" + "n" * 33, errno.ENAMETOOLONG),
+            ("/n" * 65, errno.ENAMETOOLONG),
+        )
+        for path, number in rows:
+            with self.subTest(path):
+                self.fails(OSError, number, lambda path=path: self.tree.mkdir(path), path)
+        self.fails(OSError, errno.EINVAL, lambda: self.tree.rename("/a", "b"), "b")
+        self.assertEqual(self.tree.journal(), "atomfs-journal 1\n")
+        self.tree.mkdir("/" + "n" * 32)
+
+    def test_kinds_of_paths(self):
+        """Paths may be strings, bytes and path objects, and names come as the path came."""
+        self.tree.mkdir(pathlib.PurePosixPath("/d"))
+        self.tree.mknod(b"/d/\xff %")
+        self.tree.mknod("/d/\N{SNOWMAN}")
+        self.assertEqual(self.tree.readdir(b"/d"), ["\N{SNOWMAN}".encode(), b"\xff %"])
+        self.assertEqual(self.tree.readdir("/d"), ["\N{SNOWMAN}", os.fsdecode(b"\xff %")])
+        self.tree.unlink("/d/" + self.tree.readdir("/d")[1])
+        with self.assertRaises(TypeError):
+            self.tree.stat(7)
+
+    def test_bytes(self):
+        """What is written may be anything with bytes, and a file is read whole by one call."""
+        self.tree.mknod("/f")
+        every = bytes(range(256)) * 256
+        for data in (every, bytearray(every), memoryview(every)):
+            self.tree.truncate("/f", 0)
+            self.assertEqual(self.tree.write("/f", 0, data), 65_536)
+            self.assertEqual(self.tree.read("/f"), every)
+        self.assertEqual(self.tree.read("/f", 0, 2**64 - 1), every)
+        self.fails(OSError, errno.EFBIG, lambda: self.tree.write("/f", 1, every), "/f")
+        self.assertEqual(self.tree.write("/f", 2**64 - 1, b""), 0)
+        for call in (lambda: self.tree.read("/f", -1), lambda: self.tree.write("/f", -1, b""), lambda: self.tree.truncate("/f", -1)):
+            self.assertRaises(ValueError, call)
+        self.assertRaises(TypeError, lambda: self.tree.write("/f", 0, "text"))
+
+    def test_little_room(self):
+        """Names and bytes for which there is no room at first come whole."""
+        tree = atomfs.Tree(room=1)
+        names = [f"{at:032}" for at in range(100)]
+        for name in names:
+            tree.mknod(f"/{name}")
+        self.assertEqual(tree.readdir("/"), names)
+        tree.write(f"/{names[0]}", 0, b"x" * 5000)
+        self.assertEqual(tree.read(f"/{names[0]}", 1, 4000), b"x" * 4000)
+        self.assertEqual(tree.check(), "lawful")
+        tree.close()
+
+
+class OpenAndClosed(OfTree):
+    def test_closed(self):
+        self.tree.close()
+        self.tree.close()
+        self.assertTrue(self.tree.closed)
+        for call in (lambda: self.tree.stat("/"), self.tree.journal, self.tree.checkpoint, self.tree.seat, self.tree.tree):
+            with self.assertRaises(atomfs.ClosedError) as raised:
+                call()
+            self.assertEqual(raised.exception.status, atomfs.Status.CLOSED)
+
+    def test_limits(self):
+        for limit in (0, -1, atomfs.NODE_LIMIT + 1):
+            self.assertRaises(ValueError, atomfs.Tree, limit)
+
+    def test_copies(self):
+        self.assertRaises(TypeError, copy.copy, self.tree)
+        self.assertRaises(TypeError, copy.deepcopy, self.tree)
+        self.assertRaises(TypeError, pickle.dumps, self.tree)
+
+    def test_context(self):
+        with atomfs.Tree() as tree:
+            self.assertFalse(tree.closed)
+            self.assertIn("open", repr(tree))
+        self.assertIn("closed", repr(tree))
+
+
+class Journals(OfTree):
+    def test_journal(self):
+        self.tree.mkdir("/a")
+        self.assertEqual(self.tree.journal(), "atomfs-journal 1\nbegin 1 0 mkdir /a\ncommit 1\nreturn 1 ok\n")
+
+    def test_check(self):
+        """A verdict on any journal, and the line of what is none."""
+        self.assertEqual(atomfs.check("atomfs-journal 1\n"), "lawful")
+        with self.assertRaises(atomfs.Error) as raised:
+            atomfs.check("no journal")
+        self.assertEqual((raised.exception.status, raised.exception.about), (atomfs.Status.BAD_HEADER, 1))
+
+    def test_a_journal_that_is_not_lawful(self):
+        self.assertEqual(atomfs.check(b"atomfs-journal 1\nbegin 1 0 mkdir /a\ncommit 1\nreturn 1 failed ENOENT\n"), "fault 3 WrongReply")
+
+    def test_run(self):
+        self.assertEqual(
+            atomfs.run("atomfs 1\nschedule\nfinish\n"), "atomfs-journal 1\ntree\ndir /\nbegun 0 committed 0 returned 0\n"
+        )
+
+    def test_checkpoint(self):
+        """The journal in pieces: each of them is lawful, and the tree stays."""
+        self.tree.mkdir("/a")
+        first = self.tree.checkpoint()
+        self.assertEqual(first, "atomfs-journal 1\nbegin 1 0 mkdir /a\ncommit 1\nreturn 1 ok\n")
+        self.tree.mkdir("/a/b")
+        second = self.tree.checkpoint()
+        self.assertTrue(second.endswith("begin 1 0 mkdir /a/b\ncommit 1\nreturn 1 ok\n"))
+        self.assertEqual([atomfs.check(piece) for piece in (first, second)], ["lawful", "lawful"])
+        self.assertEqual(self.tree.readdir("/a"), ["b"])
+        seat = self.tree.seat()
+        number = seat.begin.mkdir("/c")
+        with self.assertRaises(atomfs.UnderWayError) as raised:
+            self.tree.checkpoint()
+        self.assertEqual(raised.exception.about, number)
+        seat.finish()
+        self.tree.checkpoint()
+        self.assertEqual(self.tree.stat("/"), Stat(True, 2))
+
+
+class Seats(OfTree):
+    def test_each_begin(self):
+        """Each call of a seat comes to the reply of its kind."""
+        seat = self.tree.seat()
+        rows = (
+            (seat.begin.mkdir, ("/a",), None),
+            (seat.begin.mknod, ("/a/f",), None),
+            (seat.begin.write, ("/a/f", 1, bytearray(b"hello")), 5),
+            (seat.begin.read, ("/a/f", 1, 3), b"hel"),
+            (seat.begin.read, ("/a/f", 0, 2**64 - 1), b"\0hello"),
+            (seat.begin.truncate, ("/a/f", 2), None),
+            (seat.begin.stat, ("/a/f",), Stat(False, 2)),
+            (seat.begin.readdir, ("/a",), ["f"]),
+            (seat.begin.readdir, (b"/a",), [b"f"]),
+            (seat.begin.mkdir, ("/b",), None),
+            (seat.begin.rename, ("/a/f", "/b/g"), None),
+            (seat.begin.exchange, ("/a", "/b"), None),
+            (seat.begin.unlink, ("/a/g",), None),
+            (seat.begin.rmdir, ("/b",), None),
+            (seat.begin.readdir, ("/a",), []),
+        )
+        for at, (begin, given, wanted) in enumerate(rows):
+            with self.subTest(at):
+                self.assertEqual(begin(*given), at + 1)
+                self.assertEqual(seat.finish(), wanted)
+                self.assertEqual(seat.reply(), wanted)
+
+    def test_great_numbers(self):
+        """What is greater than 64 bits is not taken for what is left of it."""
+        self.tree.mknod("/f")
+        seat = self.tree.seat()
+        seat.begin.read("/f", 2**64, 2**64)
+        self.assertEqual(seat.finish(), b"")
+        seat.begin.write("/f", 2**64, b"x")
+        self.fails(OSError, errno.EFBIG, seat.finish, "/f")
+        seat.begin.truncate("/f", 2**64 + 1)
+        self.fails(OSError, errno.EFBIG, seat.finish, "/f")
+        for call in (lambda: seat.begin.read("/f", -1, 1), lambda: seat.begin.read("/f", 1, -1), lambda: seat.begin.truncate("/f", -1)):
+            self.assertRaises(ValueError, call)
+        self.assertEqual(self.tree.read("/f", 2**64, 2**64), b"")
+        self.assertEqual(self.tree.stat("/f").size, 0)
+
+    def test_errors(self):
+        seat = self.tree.seat()
+        seat.begin.rename("/a", "/b")
+        self.fails(FileNotFoundError, errno.ENOENT, seat.finish, "/a", "/b")
+        self.fails(OSError, errno.EINVAL, lambda: seat.begin.mkdir("a"), "a")
+        self.assertEqual(seat.step().did, Did.IDLE)
+        seat.begin.stat("/")
+        self.refuses(atomfs.Status.SEAT_BUSY, lambda: seat.begin.stat("/"))
+        self.refuses(atomfs.Status.NO_REPLY, seat.reply)
+
+    def refuses(self, status, call):
+        with self.assertRaises(atomfs.Error) as raised:
+            call()
+        self.assertEqual(raised.exception.status, status)
+
+    def test_replies_and_checkpoints(self):
+        """A reply is not told after a checkpoint, where another call has the number."""
+        seat, other = self.tree.seat(), self.tree.seat()
+        self.refuses(atomfs.Status.NO_REPLY, seat.reply)
+        seat.begin.mkdir("/a")
+        seat.finish()
+        self.tree.checkpoint()
+        other.begin.mkdir("/b")
+        other.finish()
+        self.refuses(atomfs.Status.NO_REPLY, seat.reply)
+
+    def test_helping(self):
+        """A rename helps a mkdir that is half-way below the directory that it moves."""
+        self.tree.mkdir("/a")
+        self.tree.mkdir("/a/d")
+        maker, mover = self.tree.seat(), self.tree.seat()
+        number = maker.begin.mkdir("/a/d/x")
+        for _ in range(5):
+            maker.step()
+        mover.begin.rename("/a", "/b")
+        steps = []
+        while not steps or steps[-1].did != Did.RETURN:
+            steps.append(mover.step())
+        self.assertIn(atomfs.Step(Did.HELP, number), steps)
+        maker.finish()
+        self.assertEqual(self.tree.readdir("/b/d"), ["x"])
+
+    def test_waits(self):
+        """A call of the tree that meets a node of another seat stays under way, and the tree goes on with others."""
+        self.tree.mkdir("/a")
+        seat = self.tree.seat()
+        seat.begin.mkdir("/a/x")
+        while seat.step().did != Did.COMMIT:
+            pass
+        with self.assertRaises(atomfs.WaitsError) as raised:
+            self.tree.stat("/a/x")
+        waiting = raised.exception
+        self.assertRaises(atomfs.WaitsError, waiting.seat.finish)
+        seat.finish()
+        self.assertEqual(waiting.seat.finish(), Stat(True, 0))
+        self.assertEqual(self.tree.stat("/a"), Stat(True, 1))
+
+
+class Threads(OfTree):
+    def together(self, works):
+        """Runs works on threads of their own, and raises what one of them raised."""
+        raised = []
+
+        def guarded(work):
+            try:
+                work()
+            except Exception as error:
+                raised.append(error)
+
+        threads = [threading.Thread(target=guarded, args=(work,)) for work in works]
+        for thread in threads:
+            thread.start()
+        for thread in threads:
+            thread.join()
+        self.assertEqual(raised, [])
+
+    def test_one_tree(self):
+        """Threads share a tree without a lock of their own."""
+        self.tree.mknod("/f")
+
+        def work(thread):
+            for round_ in range(200):
+                self.tree.mkdir(f"/d{thread}")
+                self.tree.write("/f", thread, bytes([thread]))
+                self.assertEqual(self.tree.read("/f", thread, 1), bytes([thread]))
+                self.tree.rmdir(f"/d{thread}")
+
+        self.together([lambda thread=thread: work(thread) for thread in range(4)])
+        self.assertEqual(self.tree.readdir("/"), ["f"])
+
+    def test_seats(self):
+        """Each thread makes the steps of its own seat, so calls meet half-way."""
+
+        def work(seat):
+            for _ in range(100):
+                for begin in (lambda: seat.begin.mkdir("/d"), lambda: seat.begin.rename("/d", "/e"), lambda: seat.begin.rmdir("/e")):
+                    begin()
+                    try:
+                        seat.finish(wait=True)
+                    except OSError:
+                        pass
+
+        seats = [self.tree.seat() for _ in range(4)]
+        self.together([lambda seat=seat: work(seat) for seat in seats])
+        self.assertEqual(self.tree.journal().count("\nreturn "), 1200)
+
+    def test_pieces(self):
+        """A thread hands the journal out whenever no call is under way, and no other misses a reply by that."""
+        pieces, working = [], [True, True]
+
+        def work(thread):
+            seat = self.tree.seat()
+            for _ in range(200):
+                seat.begin.mkdir(f"/d{thread}")
+                seat.finish(wait=True)
+                seat.begin.readdir("/")
+                self.assertIn(f"d{thread}", seat.finish(wait=True))
+                seat.begin.rmdir(f"/d{thread}")
+                seat.finish(wait=True)
+            working[thread] = False
+
+        def hand_out():
+            while any(working):
+                try:
+                    pieces.append(self.tree.checkpoint())
+                except atomfs.UnderWayError:
+                    time.sleep(0)
+
+        self.together([lambda: work(0), lambda: work(1), hand_out])
+        pieces.append(self.tree.checkpoint())
+        self.assertEqual(sum(piece.count("\nreturn ") for piece in pieces), 1200)
+        self.assertEqual({atomfs.check(piece) for piece in pieces}, {"lawful"})
+
+
+if __name__ == "__main__":
+    unittest.main()

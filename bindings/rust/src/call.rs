@@ -1,0 +1,218 @@
+//! Calls that are begun by themselves, and what comes of them.
+
+use crate::ffi::Request;
+
+/// What stands at a path: a directory and how many entries it has, or a file and how many bytes.
+#[derive(Clone, Copy, Debug, PartialEq, Eq)]
+pub struct Stat {
+    /// Whether it is a directory.
+    pub is_dir: bool,
+    /// How many entries, or how many bytes.
+    pub size: u64,
+}
+
+/// A place for one call under way, of the tree that made it.
+#[derive(Clone, Copy, Debug, PartialEq, Eq, Hash)]
+pub struct Seat(pub(crate) u64);
+
+impl Seat {
+    /// Its number in the journal: 0, 1, 2 and so on. The tree's own calls have a seat too, the first.
+    pub fn number(self) -> u64 {
+        self.0
+    }
+}
+
+/// What a step did. A node or a call is told by its number.
+#[derive(Clone, Copy, Debug, PartialEq, Eq)]
+pub enum Did {
+    /// No call is under way on the seat.
+    Idle,
+    /// It took a node.
+    Took(u64),
+    /// It would take a node that this call holds.
+    WaitsFor(u64),
+    /// It let a node go.
+    LetGo(u64),
+    /// It gave this call its place in the journal.
+    Helped(u64),
+    /// It took its place in the journal, and made its change.
+    Committed,
+    /// It had its place already, and made its change.
+    CarriedOut,
+    /// It returned.
+    Returned,
+}
+
+impl Did {
+    pub(crate) fn of(did: u8, about: u64) -> Did {
+        match did {
+            1 => Did::Took(about),
+            2 => Did::WaitsFor(about),
+            3 => Did::LetGo(about),
+            4 => Did::Helped(about),
+            5 => Did::Committed,
+            6 => Did::CarriedOut,
+            7 => Did::Returned,
+            _ => Did::Idle,
+        }
+    }
+}
+
+/// A call: its constructors have the names of the methods of [`Tree`](crate::Tree).
+#[derive(Clone, Copy, Debug, PartialEq, Eq)]
+pub enum Call<'a> {
+    /// Makes an empty directory.
+    Mkdir(&'a [u8]),
+    /// Makes an empty file.
+    Mknod(&'a [u8]),
+    /// Removes the entry of a file.
+    Unlink(&'a [u8]),
+    /// Removes the entry of an empty directory.
+    Rmdir(&'a [u8]),
+    /// Moves what stands at the first path to the second.
+    Rename(&'a [u8], &'a [u8]),
+    /// Lets what stands at two paths change places.
+    Exchange(&'a [u8], &'a [u8]),
+    /// Tells what stands at a path.
+    Stat(&'a [u8]),
+    /// Tells the names of a directory.
+    Readdir(&'a [u8]),
+    /// Reads from an offset on at most so many bytes.
+    Read(&'a [u8], u64, u64),
+    /// Writes bytes into a file at an offset.
+    Write(&'a [u8], u64, &'a [u8]),
+    /// Cuts a file to a size, or adds zeros up to it.
+    Truncate(&'a [u8], u64),
+}
+
+impl<'a> Call<'a> {
+    /// Makes an empty directory.
+    pub fn mkdir(path: &'a (impl AsRef<[u8]> + ?Sized)) -> Self {
+        Call::Mkdir(path.as_ref())
+    }
+
+    /// Makes an empty file.
+    pub fn mknod(path: &'a (impl AsRef<[u8]> + ?Sized)) -> Self {
+        Call::Mknod(path.as_ref())
+    }
+
+    /// Removes the entry of a file.
+    pub fn unlink(path: &'a (impl AsRef<[u8]> + ?Sized)) -> Self {
+        Call::Unlink(path.as_ref())
+    }
+
+    /// Removes the entry of an empty directory.
+    pub fn rmdir(path: &'a (impl AsRef<[u8]> + ?Sized)) -> Self {
+        Call::Rmdir(path.as_ref())
+    }
+
+    /// Moves what stands at the first path to the second.
+    pub fn rename(
+        path: &'a (impl AsRef<[u8]> + ?Sized),
+        other: &'a (impl AsRef<[u8]> + ?Sized),
+    ) -> Self {
+        Call::Rename(path.as_ref(), other.as_ref())
+    }
+
+    /// Lets what stands at two paths change places.
+    pub fn exchange(
+        path: &'a (impl AsRef<[u8]> + ?Sized),
+        other: &'a (impl AsRef<[u8]> + ?Sized),
+    ) -> Self {
+        Call::Exchange(path.as_ref(), other.as_ref())
+    }
+
+    /// Tells what stands at a path.
+    pub fn stat(path: &'a (impl AsRef<[u8]> + ?Sized)) -> Self {
+        Call::Stat(path.as_ref())
+    }
+
+    /// Tells the names of a directory.
+    pub fn readdir(path: &'a (impl AsRef<[u8]> + ?Sized)) -> Self {
+        Call::Readdir(path.as_ref())
+    }
+
+    /// Reads from an offset on at most so many bytes.
+    pub fn read(path: &'a (impl AsRef<[u8]> + ?Sized), offset: u64, count: u64) -> Self {
+        Call::Read(path.as_ref(), offset, count)
+    }
+
+    /// Writes bytes into a file at an offset.
+    pub fn write(
+        path: &'a (impl AsRef<[u8]> + ?Sized),
+        offset: u64,
+        bytes: &'a (impl AsRef<[u8]> + ?Sized),
+    ) -> Self {
+        Call::Write(path.as_ref(), offset, bytes.as_ref())
+    }
+
+    /// Cuts a file to a size, or adds zeros up to it.
+    pub fn truncate(path: &'a (impl AsRef<[u8]> + ?Sized), size: u64) -> Self {
+        Call::Truncate(path.as_ref(), size)
+    }
+
+    /// The request of C's, which borrows what this call borrows.
+    pub(crate) fn request(&self) -> Request {
+        let none: &[u8] = &[];
+        let (call, path, other, offset, size, bytes) = match *self {
+            Call::Mkdir(path) => (0, path, none, 0, 0, none),
+            Call::Mknod(path) => (1, path, none, 0, 0, none),
+            Call::Unlink(path) => (2, path, none, 0, 0, none),
+            Call::Rmdir(path) => (3, path, none, 0, 0, none),
+            Call::Rename(path, other) => (4, path, other, 0, 0, none),
+            Call::Exchange(path, other) => (5, path, other, 0, 0, none),
+            Call::Stat(path) => (6, path, none, 0, 0, none),
+            Call::Readdir(path) => (7, path, none, 0, 0, none),
+            Call::Read(path, offset, count) => (8, path, none, offset, count, none),
+            Call::Write(path, offset, bytes) => (9, path, none, offset, 0, bytes),
+            Call::Truncate(path, size) => (10, path, none, 0, size, none),
+        };
+        Request {
+            call,
+            path: path.as_ptr(),
+            length: path.len(),
+            other: other.as_ptr(),
+            other_length: other.len(),
+            offset,
+            size,
+            bytes: bytes.as_ptr(),
+            bytes_length: bytes.len(),
+        }
+    }
+
+    /// Which reply its return has.
+    pub(crate) fn kind(&self) -> Kind {
+        match self {
+            Call::Stat(_) => Kind::Stat,
+            Call::Readdir(_) => Kind::Names,
+            Call::Read(..) => Kind::Bytes,
+            Call::Write(..) => Kind::Wrote,
+            _ => Kind::Done,
+        }
+    }
+}
+
+/// The kind of a reply.
+#[derive(Clone, Copy, Debug, PartialEq, Eq)]
+pub(crate) enum Kind {
+    Done,
+    Stat,
+    Names,
+    Bytes,
+    Wrote,
+}
+
+/// What a call that did not fail returned.
+#[derive(Clone, Debug, PartialEq, Eq)]
+pub enum Reply {
+    /// It is done.
+    Done,
+    /// What stands at the path.
+    Stat(Stat),
+    /// The names, in byte order.
+    Names(Vec<Vec<u8>>),
+    /// The bytes.
+    Bytes(Vec<u8>),
+    /// How many bytes were written.
+    Wrote(u64),
+}

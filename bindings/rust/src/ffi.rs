@@ -1,0 +1,226 @@
+//! The functions of atomfs.h.
+
+use std::ffi::CStr;
+use std::os::raw::{c_char, c_void};
+
+#[repr(C)]
+pub struct Handle {
+    pub is_open: u8,
+    pub at: *mut c_void,
+}
+
+#[repr(C)]
+#[derive(Clone, Copy, Default)]
+pub struct RawStat {
+    pub is_dir: u8,
+    pub size: u64,
+}
+
+#[repr(C)]
+pub struct Request {
+    pub call: u8,
+    pub path: *const u8,
+    pub length: usize,
+    pub other: *const u8,
+    pub other_length: usize,
+    pub offset: u64,
+    pub size: u64,
+    pub bytes: *const u8,
+    pub bytes_length: usize,
+}
+
+pub const OK: u8 = 0;
+pub const TOO_SMALL: u8 = 1;
+pub const UNTOLD: u8 = 2;
+pub const WAITS: u8 = 3;
+pub const BAD_LIMIT: u8 = 6;
+pub const NO_MEMORY: u8 = 7;
+pub const NO_SEAT: u8 = 8;
+pub const SEAT_BUSY: u8 = 9;
+pub const FULL: u8 = 10;
+pub const NO_REPLY: u8 = 11;
+pub const UNDER_WAY: u8 = 12;
+pub const BAD_PATH: u8 = 20;
+/// From here on a call has failed, and the rest is the number of its error.
+pub const FAILED: u8 = 128;
+
+/// A function on one path.
+pub type OnPath = unsafe extern "C" fn(*mut Handle, u64, *const u8, usize, *mut u64) -> u8;
+
+/// A function on two paths.
+pub type OnPaths =
+    unsafe extern "C" fn(*mut Handle, u64, *const u8, usize, *const u8, usize, *mut u64) -> u8;
+
+extern "C" {
+    pub fn atomfs_open(fs: *mut Handle, limit: usize) -> u8;
+    pub fn atomfs_close(fs: *mut Handle) -> u8;
+    pub fn atomfs_seat(fs: *mut Handle, seat: *mut u64) -> u8;
+
+    pub fn atomfs_mkdir(
+        fs: *mut Handle,
+        seat: u64,
+        path: *const u8,
+        length: usize,
+        number: *mut u64,
+    ) -> u8;
+    pub fn atomfs_mknod(
+        fs: *mut Handle,
+        seat: u64,
+        path: *const u8,
+        length: usize,
+        number: *mut u64,
+    ) -> u8;
+    pub fn atomfs_unlink(
+        fs: *mut Handle,
+        seat: u64,
+        path: *const u8,
+        length: usize,
+        number: *mut u64,
+    ) -> u8;
+    pub fn atomfs_rmdir(
+        fs: *mut Handle,
+        seat: u64,
+        path: *const u8,
+        length: usize,
+        number: *mut u64,
+    ) -> u8;
+    pub fn atomfs_rename(
+        fs: *mut Handle,
+        seat: u64,
+        path: *const u8,
+        length: usize,
+        other: *const u8,
+        other_length: usize,
+        number: *mut u64,
+    ) -> u8;
+    pub fn atomfs_exchange(
+        fs: *mut Handle,
+        seat: u64,
+        path: *const u8,
+        length: usize,
+        other: *const u8,
+        other_length: usize,
+        number: *mut u64,
+    ) -> u8;
+    pub fn atomfs_stat(
+        fs: *mut Handle,
+        seat: u64,
+        path: *const u8,
+        length: usize,
+        stat: *mut RawStat,
+        number: *mut u64,
+    ) -> u8;
+    pub fn atomfs_readdir(
+        fs: *mut Handle,
+        seat: u64,
+        path: *const u8,
+        length: usize,
+        out: *mut u8,
+        room: usize,
+        count: *mut usize,
+        number: *mut u64,
+    ) -> u8;
+    pub fn atomfs_read(
+        fs: *mut Handle,
+        seat: u64,
+        path: *const u8,
+        length: usize,
+        offset: u64,
+        out: *mut u8,
+        room: usize,
+        count: *mut usize,
+        number: *mut u64,
+    ) -> u8;
+    pub fn atomfs_write(
+        fs: *mut Handle,
+        seat: u64,
+        path: *const u8,
+        length: usize,
+        offset: u64,
+        bytes: *const u8,
+        bytes_length: usize,
+        wrote: *mut u64,
+        number: *mut u64,
+    ) -> u8;
+    pub fn atomfs_truncate(
+        fs: *mut Handle,
+        seat: u64,
+        path: *const u8,
+        length: usize,
+        size: u64,
+        number: *mut u64,
+    ) -> u8;
+
+    pub fn atomfs_begin_call(
+        fs: *mut Handle,
+        seat: u64,
+        request: *const Request,
+        number: *mut u64,
+    ) -> u8;
+    pub fn atomfs_step(fs: *mut Handle, seat: u64, did: *mut u8, about: *mut u64) -> u8;
+
+    pub fn atomfs_reply_done(fs: *mut Handle, number: u64) -> u8;
+    pub fn atomfs_reply_stat(fs: *mut Handle, number: u64, stat: *mut RawStat) -> u8;
+    pub fn atomfs_reply_names(
+        fs: *mut Handle,
+        number: u64,
+        after: *const u8,
+        after_length: usize,
+        out: *mut u8,
+        room: usize,
+        count: *mut usize,
+    ) -> u8;
+    pub fn atomfs_reply_bytes(
+        fs: *mut Handle,
+        number: u64,
+        out: *mut u8,
+        room: usize,
+        count: *mut usize,
+    ) -> u8;
+    pub fn atomfs_reply_wrote(fs: *mut Handle, number: u64, wrote: *mut u64) -> u8;
+
+    pub fn atomfs_version() -> *const c_char;
+    pub fn atomfs_status_text(status: u8) -> *const c_char;
+
+    pub fn atomfs_journal(
+        fs: *mut Handle,
+        first: usize,
+        out: *mut u8,
+        room: usize,
+        count: *mut usize,
+        entries: *mut usize,
+    ) -> u8;
+    pub fn atomfs_opening(fs: *mut Handle, out: *mut u8, room: usize, count: *mut usize) -> u8;
+    pub fn atomfs_checkpoint(
+        fs: *mut Handle,
+        out: *mut u8,
+        room: usize,
+        count: *mut usize,
+        number: *mut u64,
+    ) -> u8;
+    pub fn atomfs_tree(fs: *mut Handle, out: *mut u8, room: usize, count: *mut usize) -> u8;
+
+    pub fn atomfs_run(
+        script: *const u8,
+        length: usize,
+        out: *mut u8,
+        room: usize,
+        count: *mut usize,
+    ) -> u8;
+    pub fn atomfs_check(
+        journal: *const u8,
+        length: usize,
+        out: *mut u8,
+        room: usize,
+        count: *mut usize,
+    ) -> u8;
+}
+
+/// A text of the library that stays as it is.
+pub fn words(text: *const c_char) -> &'static str {
+    if text.is_null() {
+        return "";
+    }
+    // The library's words are constants.
+    unsafe { CStr::from_ptr(text) }.to_str().unwrap_or("")
+}

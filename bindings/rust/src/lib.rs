@@ -1,0 +1,60 @@
+//! AtomFS: a file tree in memory, in which every call is proved to be atomic.
+//!
+//! A [`Tree`] owns its nodes and the journal of its calls. Its methods run a call from its begin to its return:
+//!
+//! ```
+//! # fn main() -> Result<(), atomfs::Error> {
+//! let mut tree = atomfs::Tree::new()?;
+//! tree.mkdir("/a")?;
+//! tree.mknod("/a/f")?;
+//! tree.write("/a/f", 0, b"hello")?;
+//! assert_eq!(tree.read("/a/f", 0, 100)?, b"hello");
+//! assert_eq!(tree.readdir("/a")?, [b"f"]);
+//! assert_eq!(tree.check()?, "lawful");
+//! # Ok(())
+//! # }
+//! ```
+//!
+//! Threads share a tree by [`Session`]s, whose calls interleave step by step. [`Tree::seat`], [`Tree::begin`] and
+//! [`Tree::step`] play an interleaving of your own.
+//!
+//! Errors of calls are those of the operating system:
+//!
+//! ```
+//! # use std::io;
+//! # fn main() -> Result<(), atomfs::Error> {
+//! let mut tree = atomfs::Tree::new()?;
+//! let error = tree.stat("/nowhere").unwrap_err();
+//! assert_eq!(error, atomfs::Error::Failed(atomfs::Errno::ENOENT));
+//! assert_eq!(io::Error::from(error).kind(), io::ErrorKind::NotFound);
+//! # Ok(())
+//! # }
+//! ```
+//!
+//! Paths are absolute, and names are any bytes but 0 and the slash.
+
+#![warn(missing_docs)]
+
+mod call;
+mod error;
+mod ffi;
+mod session;
+mod tree;
+
+pub use call::{Call, Did, Reply, Seat, Stat};
+pub use error::{Errno, Error};
+pub use session::Session;
+pub use tree::{check, run, Tree};
+
+/// The greatest limit of nodes.
+pub const NODE_LIMIT: usize = 1_048_576;
+
+/// The version of the library.
+pub fn version() -> &'static str {
+    ffi::words(unsafe { ffi::atomfs_version() })
+}
+
+/// The example of the crate's page.
+#[cfg(doctest)]
+#[doc = include_str!("../README.md")]
+struct Readme;

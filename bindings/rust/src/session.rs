@@ -1,0 +1,153 @@
+//! Sessions of threads.
+
+use std::sync::{Arc, Mutex, MutexGuard, PoisonError};
+use std::thread;
+
+use crate::call::{Call, Did, Reply, Seat, Stat};
+use crate::error::Error;
+use crate::tree::Tree;
+
+/// A thread's way into a shared tree: a seat of its own.
+///
+/// A session takes the lock for the begin of a call and for each of its steps, and lets it go between them. So the calls of
+/// several sessions interleave, and a rename helps the calls below what it moves.
+///
+/// ```
+/// use std::sync::{Arc, Mutex};
+/// use std::thread;
+///
+/// let tree = Arc::new(Mutex::new(atomfs::Tree::new()?));
+/// thread::scope(|scope| {
+///     for name in ["/a", "/b"] {
+///         let mut session = atomfs::Session::new(&tree).unwrap();
+///         scope.spawn(move || session.mkdir(name).unwrap());
+///     }
+/// });
+/// let mut tree = tree.lock().unwrap();
+/// assert_eq!(tree.readdir("/")?, [b"a", b"b"]);
+/// assert_eq!(tree.check()?, "lawful");
+/// # Ok::<(), atomfs::Error>(())
+/// ```
+#[derive(Debug)]
+pub struct Session {
+    tree: Arc<Mutex<Tree>>,
+    seat: Seat,
+}
+
+impl Session {
+    /// A session on a tree, with a new seat. Seats stay as long as the tree does, so keep a session rather than make many.
+    pub fn new(tree: &Arc<Mutex<Tree>>) -> Result<Session, Error> {
+        let seat = lock(tree).seat()?;
+        Ok(Session {
+            tree: Arc::clone(tree),
+            seat,
+        })
+    }
+
+    /// Makes a call, step by step between those of other threads. While it has to wait for a node it yields and tries again.
+    pub fn call(&mut self, call: &Call) -> Result<Reply, Error> {
+        lock(&self.tree).begin(self.seat, call)?;
+        loop {
+            // The lock is held up to the reply, which a checkpoint of another thread would take away.
+            let mut tree = lock(&self.tree);
+            let did = tree.step(self.seat)?;
+            if matches!(did, Did::Returned | Did::Idle) {
+                return tree.reply(self.seat);
+            }
+            drop(tree);
+            if matches!(did, Did::WaitsFor(_)) {
+                thread::yield_now();
+            }
+        }
+    }
+
+    fn done(&mut self, call: &Call) -> Result<(), Error> {
+        self.call(call).map(|_| ())
+    }
+
+    /// Makes an empty directory.
+    pub fn mkdir(&mut self, path: impl AsRef<[u8]>) -> Result<(), Error> {
+        self.done(&Call::mkdir(&path))
+    }
+
+    /// Makes an empty file.
+    pub fn mknod(&mut self, path: impl AsRef<[u8]>) -> Result<(), Error> {
+        self.done(&Call::mknod(&path))
+    }
+
+    /// Removes the entry of a file.
+    pub fn unlink(&mut self, path: impl AsRef<[u8]>) -> Result<(), Error> {
+        self.done(&Call::unlink(&path))
+    }
+
+    /// Removes the entry of an empty directory.
+    pub fn rmdir(&mut self, path: impl AsRef<[u8]>) -> Result<(), Error> {
+        self.done(&Call::rmdir(&path))
+    }
+
+    /// Moves what stands at `path`, with all below it, to `other`; a file or an empty directory there is replaced.
+    pub fn rename(&mut self, path: impl AsRef<[u8]>, other: impl AsRef<[u8]>) -> Result<(), Error> {
+        self.done(&Call::rename(&path, &other))
+    }
+
+    /// Lets what stands at two paths change places, each with all below it.
+    pub fn exchange(
+        &mut self,
+        path: impl AsRef<[u8]>,
+        other: impl AsRef<[u8]>,
+    ) -> Result<(), Error> {
+        self.done(&Call::exchange(&path, &other))
+    }
+
+    /// What stands at a path.
+    pub fn stat(&mut self, path: impl AsRef<[u8]>) -> Result<Stat, Error> {
+        match self.call(&Call::stat(&path))? {
+            Reply::Stat(stat) => Ok(stat),
+            _ => Err(Error::NoReply),
+        }
+    }
+
+    /// The names of a directory, in byte order.
+    pub fn readdir(&mut self, path: impl AsRef<[u8]>) -> Result<Vec<Vec<u8>>, Error> {
+        match self.call(&Call::readdir(&path))? {
+            Reply::Names(names) => Ok(names),
+            _ => Err(Error::NoReply),
+        }
+    }
+
+    /// At most `count` bytes of a file from an offset on.
+    pub fn read(
+        &mut self,
+        path: impl AsRef<[u8]>,
+        offset: u64,
+        count: u64,
+    ) -> Result<Vec<u8>, Error> {
+        match self.call(&Call::read(&path, offset, count))? {
+            Reply::Bytes(bytes) => Ok(bytes),
+            _ => Err(Error::NoReply),
+        }
+    }
+
+    /// Writes bytes into a file at an offset, all of them or none, and tells how many.
+    pub fn write(
+        &mut self,
+        path: impl AsRef<[u8]>,
+        offset: u64,
+        bytes: impl AsRef<[u8]>,
+    ) -> Result<u64, Error> {
+        match self.call(&Call::write(&path, offset, &bytes))? {
+            Reply::Wrote(count) => Ok(count),
+            _ => Err(Error::NoReply),
+        }
+    }
+
+    /// Cuts a file to a size, or adds zeros up to it.
+    pub fn truncate(&mut self, path: impl AsRef<[u8]>, size: u64) -> Result<(), Error> {
+        self.done(&Call::truncate(&path, size))
+    }
+}
+
+/// The tree, whole at each step, so also where a thread panicked that held its lock.
+fn lock(tree: &Mutex<Tree>) -> MutexGuard<'_, Tree> {
+    tree.lock().unwrap_or_else(PoisonError::into_inner)
+}

@@ -1,0 +1,565 @@
+//! Trees.
+
+use std::fmt;
+use std::ptr;
+
+use crate::call::{Call, Did, Kind, Reply, Seat, Stat};
+use crate::error::Error;
+use crate::ffi::{self, Handle, OnPath, OnPaths, RawStat, OK, TOO_SMALL, UNTOLD, WAITS};
+use crate::NODE_LIMIT;
+
+/// Room for the bytes of a file and the names of a directory, of the library's first limits.
+const ROOM: usize = 65_536;
+
+/// A tree with the journal of its calls. It is closed when it is dropped.
+///
+/// Each method runs one call at a time. Threads share a tree in a `Mutex`, or by [`Session`](crate::Session)s.
+pub struct Tree {
+    handle: Box<Handle>,
+    room: Vec<u8>,
+    /// The seat of the tree's own calls; none where the last of them waits on it.
+    own: Option<Seat>,
+    /// The last call that was begun on each seat.
+    last: Vec<(u64, Kind)>,
+}
+
+// The library proves that a handle may go from thread to thread.
+unsafe impl Send for Tree {}
+
+impl Tree {
+    /// An empty tree for as many nodes as there may be.
+    pub fn new() -> Result<Tree, Error> {
+        Tree::with_limit(NODE_LIMIT)
+    }
+
+    /// An empty tree for at most so many nodes, its root included.
+    ///
+    /// ```
+    /// let mut tree = atomfs::Tree::with_limit(2)?;
+    /// tree.mkdir("/a")?;
+    /// assert_eq!(tree.mkdir("/b"), Err(atomfs::Error::Full));
+    /// # Ok::<(), atomfs::Error>(())
+    /// ```
+    pub fn with_limit(limit: usize) -> Result<Tree, Error> {
+        let handle = Box::new(Handle {
+            is_open: 0,
+            at: ptr::null_mut(),
+        });
+        let mut tree = Tree {
+            handle,
+            room: vec![0; ROOM],
+            own: None,
+            last: Vec::new(),
+        };
+        done(unsafe { ffi::atomfs_open(&mut *tree.handle, limit) })?;
+        tree.own()?;
+        Ok(tree)
+    }
+
+    /// Makes an empty directory.
+    pub fn mkdir(&mut self, path: impl AsRef<[u8]>) -> Result<(), Error> {
+        self.on_path(ffi::atomfs_mkdir, path.as_ref())
+    }
+
+    /// Makes an empty file.
+    pub fn mknod(&mut self, path: impl AsRef<[u8]>) -> Result<(), Error> {
+        self.on_path(ffi::atomfs_mknod, path.as_ref())
+    }
+
+    /// Removes the entry of a file.
+    pub fn unlink(&mut self, path: impl AsRef<[u8]>) -> Result<(), Error> {
+        self.on_path(ffi::atomfs_unlink, path.as_ref())
+    }
+
+    /// Removes the entry of an empty directory.
+    pub fn rmdir(&mut self, path: impl AsRef<[u8]>) -> Result<(), Error> {
+        self.on_path(ffi::atomfs_rmdir, path.as_ref())
+    }
+
+    /// Moves what stands at `path`, with all below it, to `other`; a file or an empty directory there is replaced.
+    pub fn rename(&mut self, path: impl AsRef<[u8]>, other: impl AsRef<[u8]>) -> Result<(), Error> {
+        self.on_paths(ffi::atomfs_rename, path.as_ref(), other.as_ref())
+    }
+
+    /// Lets what stands at two paths change places, each with all below it.
+    pub fn exchange(
+        &mut self,
+        path: impl AsRef<[u8]>,
+        other: impl AsRef<[u8]>,
+    ) -> Result<(), Error> {
+        self.on_paths(ffi::atomfs_exchange, path.as_ref(), other.as_ref())
+    }
+
+    /// What stands at a path.
+    pub fn stat(&mut self, path: impl AsRef<[u8]>) -> Result<Stat, Error> {
+        let own = self.own()?;
+        let (path, mut stat, mut number) = (path.as_ref(), RawStat::default(), 0);
+        let status = unsafe {
+            ffi::atomfs_stat(
+                &mut *self.handle,
+                own,
+                path.as_ptr(),
+                path.len(),
+                &mut stat,
+                &mut number,
+            )
+        };
+        self.called(status, number, Kind::Stat)?;
+        Ok(stat_of(stat))
+    }
+
+    /// The names of a directory, in byte order.
+    pub fn readdir(&mut self, path: impl AsRef<[u8]>) -> Result<Vec<Vec<u8>>, Error> {
+        let own = self.own()?;
+        let (path, mut count, mut number) = (path.as_ref(), 0, 0);
+        let (out, room) = (self.room.as_mut_ptr(), self.room.len());
+        let status = unsafe {
+            ffi::atomfs_readdir(
+                &mut *self.handle,
+                own,
+                path.as_ptr(),
+                path.len(),
+                out,
+                room,
+                &mut count,
+                &mut number,
+            )
+        };
+        if status == TOO_SMALL || status == UNTOLD {
+            return self.told_names(number);
+        }
+        self.called(status, number, Kind::Names)?;
+        Ok(names_of(&self.room[..count]))
+    }
+
+    /// At most `count` bytes of a file from an offset on.
+    pub fn read(
+        &mut self,
+        path: impl AsRef<[u8]>,
+        offset: u64,
+        count: usize,
+    ) -> Result<Vec<u8>, Error> {
+        let path = path.as_ref();
+        if count > self.room.len() {
+            // The file may be shorter than what is asked for by far.
+            let size = usize::try_from(self.stat(path)?.size).unwrap_or(usize::MAX);
+            self.make_room(count.min(size));
+        }
+        let count = count.min(self.room.len());
+        let mut room = std::mem::take(&mut self.room);
+        let read = self.read_into(path, offset, &mut room[..count]);
+        self.room = room;
+        Ok(self.room[..read?].to_vec())
+    }
+
+    /// Reads bytes of a file from an offset on into `out`: as many as it has room for, or as there are.
+    pub fn read_into(
+        &mut self,
+        path: impl AsRef<[u8]>,
+        offset: u64,
+        out: &mut [u8],
+    ) -> Result<usize, Error> {
+        let own = self.own()?;
+        let (path, mut count, mut number) = (path.as_ref(), 0, 0);
+        let mut status = unsafe {
+            ffi::atomfs_read(
+                &mut *self.handle,
+                own,
+                path.as_ptr(),
+                path.len(),
+                offset,
+                out.as_mut_ptr(),
+                out.len(),
+                &mut count,
+                &mut number,
+            )
+        };
+        if status == UNTOLD {
+            status = unsafe {
+                ffi::atomfs_reply_bytes(
+                    &mut *self.handle,
+                    number,
+                    out.as_mut_ptr(),
+                    out.len(),
+                    &mut count,
+                )
+            };
+        }
+        self.called(status, number, Kind::Bytes)?;
+        Ok(count)
+    }
+
+    /// Writes bytes into a file at an offset, all of them or none, and tells how many. A gap before them reads as zeros.
+    pub fn write(
+        &mut self,
+        path: impl AsRef<[u8]>,
+        offset: u64,
+        bytes: impl AsRef<[u8]>,
+    ) -> Result<u64, Error> {
+        let own = self.own()?;
+        let (path, bytes, mut wrote, mut number) = (path.as_ref(), bytes.as_ref(), 0, 0);
+        let status = unsafe {
+            ffi::atomfs_write(
+                &mut *self.handle,
+                own,
+                path.as_ptr(),
+                path.len(),
+                offset,
+                bytes.as_ptr(),
+                bytes.len(),
+                &mut wrote,
+                &mut number,
+            )
+        };
+        self.called(status, number, Kind::Wrote)?;
+        Ok(wrote)
+    }
+
+    /// Cuts a file to a size, or adds zeros up to it.
+    pub fn truncate(&mut self, path: impl AsRef<[u8]>, size: u64) -> Result<(), Error> {
+        let own = self.own()?;
+        let (path, mut number) = (path.as_ref(), 0);
+        let status = unsafe {
+            ffi::atomfs_truncate(
+                &mut *self.handle,
+                own,
+                path.as_ptr(),
+                path.len(),
+                size,
+                &mut number,
+            )
+        };
+        self.called(status, number, Kind::Done)
+    }
+
+    fn on_path(&mut self, function: OnPath, path: &[u8]) -> Result<(), Error> {
+        let own = self.own()?;
+        let mut number = 0;
+        let status = unsafe {
+            function(
+                &mut *self.handle,
+                own,
+                path.as_ptr(),
+                path.len(),
+                &mut number,
+            )
+        };
+        self.called(status, number, Kind::Done)
+    }
+
+    fn on_paths(&mut self, function: OnPaths, path: &[u8], other: &[u8]) -> Result<(), Error> {
+        let own = self.own()?;
+        let mut number = 0;
+        let status = unsafe {
+            function(
+                &mut *self.handle,
+                own,
+                path.as_ptr(),
+                path.len(),
+                other.as_ptr(),
+                other.len(),
+                &mut number,
+            )
+        };
+        self.called(status, number, Kind::Done)
+    }
+
+    /// What came of a call of the tree's own. One that waits keeps its seat, and the tree takes another.
+    fn called(&mut self, status: u8, number: u64, kind: Kind) -> Result<(), Error> {
+        if status != WAITS {
+            return if status == OK {
+                Ok(())
+            } else {
+                Err(Error::of(status, number))
+            };
+        }
+        let waits = self.own.take().ok_or(Error::NoSeat)?;
+        self.began(waits, number, kind);
+        Err(Error::Waits(waits))
+    }
+
+    /// The seat of the tree's own calls.
+    fn own(&mut self) -> Result<u64, Error> {
+        let own = match self.own {
+            Some(own) => own,
+            None => self.seat()?,
+        };
+        self.own = Some(own);
+        Ok(own.0)
+    }
+
+    /// Adds a seat, on which one call at a time can be under way.
+    pub fn seat(&mut self) -> Result<Seat, Error> {
+        let mut number = 0;
+        done(unsafe { ffi::atomfs_seat(&mut *self.handle, &mut number) })?;
+        Ok(Seat(number))
+    }
+
+    /// Begins a call on a seat, and tells its number.
+    ///
+    /// ```
+    /// use atomfs::{Call, Did, Reply, Tree};
+    ///
+    /// let mut tree = Tree::new()?;
+    /// tree.mkdir("/a")?;
+    /// let (maker, mover) = (tree.seat()?, tree.seat()?);
+    /// // The mkdir stands half-way in /a, and the rename helps it.
+    /// tree.begin(maker, &Call::mkdir("/a/x"))?;
+    /// for _ in 0..3 {
+    ///     tree.step(maker)?;
+    /// }
+    /// tree.begin(mover, &Call::rename("/a", "/b"))?;
+    /// assert_eq!(tree.finish(mover)?, Reply::Done);
+    /// assert_eq!(tree.finish(maker)?, Reply::Done);
+    /// assert_eq!(tree.readdir("/b")?, [b"x"]);
+    /// # Ok::<(), atomfs::Error>(())
+    /// ```
+    pub fn begin(&mut self, seat: Seat, call: &Call) -> Result<u64, Error> {
+        let (request, mut number) = (call.request(), 0);
+        done(unsafe { ffi::atomfs_begin_call(&mut *self.handle, seat.0, &request, &mut number) })?;
+        self.began(seat, number, call.kind());
+        Ok(number)
+    }
+
+    fn began(&mut self, seat: Seat, number: u64, kind: Kind) {
+        let at = usize::try_from(seat.0).expect("a seat is in memory");
+        if at >= self.last.len() {
+            self.last.resize(at + 1, (0, Kind::Done));
+        }
+        self.last[at] = (number, kind);
+    }
+
+    /// Makes one step of the call on a seat.
+    pub fn step(&mut self, seat: Seat) -> Result<Did, Error> {
+        let (mut did, mut about) = (0, 0);
+        done(unsafe { ffi::atomfs_step(&mut *self.handle, seat.0, &mut did, &mut about) })?;
+        Ok(Did::of(did, about))
+    }
+
+    /// Makes the steps of the call on a seat up to its return, and tells its reply. `Error::Waits` says that the call of
+    /// another seat has to go on first.
+    pub fn finish(&mut self, seat: Seat) -> Result<Reply, Error> {
+        loop {
+            match self.step(seat)? {
+                Did::Returned | Did::Idle => return self.reply(seat),
+                Did::WaitsFor(_) => return Err(Error::Waits(seat)),
+                _ => {}
+            }
+        }
+    }
+
+    /// The reply of the last call that was begun on a seat, once it has returned.
+    pub fn reply(&mut self, seat: Seat) -> Result<Reply, Error> {
+        let at = usize::try_from(seat.0).unwrap_or(usize::MAX);
+        let (number, kind) = self.last.get(at).copied().ok_or(Error::NoReply)?;
+        match kind {
+            Kind::Done => {
+                done(unsafe { ffi::atomfs_reply_done(&mut *self.handle, number) })?;
+                Ok(Reply::Done)
+            }
+            Kind::Stat => {
+                let mut stat = RawStat::default();
+                done(unsafe { ffi::atomfs_reply_stat(&mut *self.handle, number, &mut stat) })?;
+                Ok(Reply::Stat(stat_of(stat)))
+            }
+            Kind::Wrote => {
+                let mut wrote = 0;
+                done(unsafe { ffi::atomfs_reply_wrote(&mut *self.handle, number, &mut wrote) })?;
+                Ok(Reply::Wrote(wrote))
+            }
+            Kind::Names => self.told_names(number).map(Reply::Names),
+            Kind::Bytes => self.told_bytes(number).map(Reply::Bytes),
+        }
+    }
+
+    /// The names that a readdir replied, in pieces for which there is room.
+    fn told_names(&mut self, number: u64) -> Result<Vec<Vec<u8>>, Error> {
+        let mut names: Vec<Vec<u8>> = Vec::new();
+        loop {
+            let (after, mut count) = (names.last().map_or(&[][..], Vec::as_slice), 0);
+            let (out, room) = (self.room.as_mut_ptr(), self.room.len());
+            let status = unsafe {
+                ffi::atomfs_reply_names(
+                    &mut *self.handle,
+                    number,
+                    after.as_ptr(),
+                    after.len(),
+                    out,
+                    room,
+                    &mut count,
+                )
+            };
+            match status {
+                OK if count == 0 => return Ok(names),
+                OK => names.extend(names_of(&self.room[..count])),
+                TOO_SMALL => self.make_room(count),
+                _ => return Err(Error::of(status, number)),
+            }
+        }
+    }
+
+    fn told_bytes(&mut self, number: u64) -> Result<Vec<u8>, Error> {
+        let count = self.tell(|handle, out, room, count| unsafe {
+            ffi::atomfs_reply_bytes(handle, number, out, room, count)
+        })?;
+        Ok(self.room[..count].to_vec())
+    }
+
+    /// The journal since the tree was opened, or since its last checkpoint: what [`check`] reads.
+    pub fn journal(&mut self) -> Result<String, Error> {
+        let mut journal = self.text(|handle, out, room, count| unsafe {
+            ffi::atomfs_opening(handle, out, room, count)
+        })?;
+        let mut entries = 0;
+        journal += &self.text(|handle, out, room, count| unsafe {
+            ffi::atomfs_journal(handle, 0, out, room, count, &mut entries)
+        })?;
+        Ok(journal)
+    }
+
+    /// The verdict on the journal: `lawful`, or the first entry at fault.
+    pub fn check(&mut self) -> Result<String, Error> {
+        check(self.journal()?)
+    }
+
+    /// Hands the journal out, and lets it begin again at the tree as it stands, which gives its memory back.
+    /// `Error::UnderWay` tells the number of a call that is under way.
+    pub fn checkpoint(&mut self) -> Result<String, Error> {
+        let mut number = 0;
+        let told = self.text(|handle, out, room, count| unsafe {
+            ffi::atomfs_checkpoint(handle, out, room, count, &mut number)
+        });
+        match told {
+            Err(Error::UnderWay(_)) => Err(Error::UnderWay(number)),
+            Ok(_) => {
+                self.last.clear();
+                told
+            }
+            _ => told,
+        }
+    }
+
+    /// The text of the tree: a line for each node.
+    pub fn text_of_tree(&mut self) -> Result<String, Error> {
+        self.text(|handle, out, room, count| unsafe { ffi::atomfs_tree(handle, out, room, count) })
+    }
+
+    fn text(
+        &mut self,
+        ask: impl FnMut(*mut Handle, *mut u8, usize, *mut usize) -> u8,
+    ) -> Result<String, Error> {
+        let count = self.tell(ask)?;
+        Ok(ascii(&self.room[..count]))
+    }
+
+    /// How many bytes a function told into the room, which becomes as long as they want.
+    fn tell(
+        &mut self,
+        mut ask: impl FnMut(*mut Handle, *mut u8, usize, *mut usize) -> u8,
+    ) -> Result<usize, Error> {
+        loop {
+            let mut count = 0;
+            match ask(
+                &mut *self.handle,
+                self.room.as_mut_ptr(),
+                self.room.len(),
+                &mut count,
+            ) {
+                OK => return Ok(count),
+                TOO_SMALL => self.make_room(count),
+                status => return Err(Error::of(status, 0)),
+            }
+        }
+    }
+
+    fn make_room(&mut self, size: usize) {
+        if size > self.room.len() {
+            self.room.resize(size, 0);
+        }
+    }
+}
+
+impl Drop for Tree {
+    fn drop(&mut self) {
+        unsafe { ffi::atomfs_close(&mut *self.handle) };
+    }
+}
+
+impl fmt::Debug for Tree {
+    fn fmt(&self, f: &mut fmt::Formatter<'_>) -> fmt::Result {
+        f.debug_struct("Tree").finish_non_exhaustive()
+    }
+}
+
+fn done(status: u8) -> Result<(), Error> {
+    match status {
+        OK => Ok(()),
+        _ => Err(Error::of(status, 0)),
+    }
+}
+
+fn stat_of(stat: RawStat) -> Stat {
+    Stat {
+        is_dir: stat.is_dir != 0,
+        size: stat.size,
+    }
+}
+
+/// The names of a reply, in which a byte 0 is behind each.
+fn names_of(told: &[u8]) -> Vec<Vec<u8>> {
+    let mut names: Vec<Vec<u8>> = told.split(|byte| *byte == 0).map(<[u8]>::to_vec).collect();
+    names.pop();
+    names
+}
+
+/// The library's texts are ASCII: names are percent-encoded.
+fn ascii(bytes: &[u8]) -> String {
+    String::from_utf8_lossy(bytes).into_owned()
+}
+
+/// The verdict on a journal: `lawful`, or the first entry at fault. `Error::BadText` tells the line of what is no journal.
+///
+/// ```
+/// assert_eq!(atomfs::check("atomfs-journal 1\n")?, "lawful");
+/// assert!(matches!(atomfs::check("no journal"), Err(atomfs::Error::BadText(_, 1))));
+/// # Ok::<(), atomfs::Error>(())
+/// ```
+pub fn check(journal: impl AsRef<[u8]>) -> Result<String, Error> {
+    Ok(of_text(ffi::atomfs_check, journal.as_ref())?
+        .trim_end()
+        .to_string())
+}
+
+/// The journal, the tree and the counts of a script, run by its own schedule. `Error::BadText` tells the line of what is no
+/// script.
+///
+/// ```
+/// let ran = atomfs::run("atomfs 1\nschedule\nfinish\n")?;
+/// assert!(ran.ends_with("begun 0 committed 0 returned 0\n"));
+/// # Ok::<(), atomfs::Error>(())
+/// ```
+pub fn run(script: impl AsRef<[u8]>) -> Result<String, Error> {
+    of_text(ffi::atomfs_run, script.as_ref())
+}
+
+type OfText = unsafe extern "C" fn(*const u8, usize, *mut u8, usize, *mut usize) -> u8;
+
+fn of_text(function: OfText, given: &[u8]) -> Result<String, Error> {
+    let mut out = vec![0; ROOM];
+    loop {
+        let mut count = 0;
+        match unsafe {
+            function(
+                given.as_ptr(),
+                given.len(),
+                out.as_mut_ptr(),
+                out.len(),
+                &mut count,
+            )
+        } {
+            OK => return Ok(ascii(&out[..count])),
+            TOO_SMALL => out.resize(count, 0),
+            status => return Err(Error::of_text(status, count)),
+        }
+    }
+}

@@ -1,0 +1,242 @@
+//! Trees, seats and errors.
+
+use std::io;
+
+use atomfs::{Call, Did, Errno, Error, Reply, Stat, Tree};
+
+#[test]
+fn each_call() {
+    let mut tree = Tree::new().unwrap();
+    tree.mkdir("/a").unwrap();
+    tree.mknod("/a/f").unwrap();
+    assert_eq!(tree.write("/a/f", 2, b"hello"), Ok(5));
+    assert_eq!(tree.read("/a/f", 0, usize::MAX).unwrap(), b"\0\0hello");
+    assert_eq!(
+        tree.stat("/a/f"),
+        Ok(Stat {
+            is_dir: false,
+            size: 7
+        })
+    );
+    tree.truncate("/a/f", 3).unwrap();
+    let mut out = [9; 5];
+    assert_eq!(tree.read_into("/a/f", 1, &mut out), Ok(2));
+    assert_eq!(out, [0, b'h', 9, 9, 9]);
+    tree.mkdir("/b").unwrap();
+    tree.rename("/a", "/c").unwrap();
+    tree.exchange("/c/f", "/b").unwrap();
+    assert_eq!(tree.readdir("/").unwrap(), [b"b", b"c"]);
+    tree.unlink("/b").unwrap();
+    tree.rmdir("/c/f").unwrap();
+    assert_eq!(tree.text_of_tree().unwrap(), "tree\ndir /\ndir /c\n");
+    assert_eq!(tree.check().unwrap(), "lawful");
+}
+
+#[test]
+fn each_error() {
+    let mut tree = Tree::new().unwrap();
+    tree.mkdir("/d").unwrap();
+    tree.mkdir("/d/e").unwrap();
+    tree.mknod("/f").unwrap();
+    for at in 0..256 {
+        tree.mknod(format!("/d/e/{at}")).unwrap();
+    }
+    let rows = [
+        (
+            tree.stat("/x").map(|_| ()),
+            Errno::ENOENT,
+            io::ErrorKind::NotFound,
+        ),
+        (
+            tree.readdir("/f").map(|_| ()),
+            Errno::ENOTDIR,
+            io::Error::from_raw_os_error(20).kind(),
+        ),
+        (
+            tree.mkdir("/d"),
+            Errno::EEXIST,
+            io::ErrorKind::AlreadyExists,
+        ),
+        (
+            tree.rmdir("/d"),
+            Errno::ENOTEMPTY,
+            io::Error::from_raw_os_error(39).kind(),
+        ),
+        (
+            tree.read("/d", 0, 1).map(|_| ()),
+            Errno::EISDIR,
+            io::Error::from_raw_os_error(21).kind(),
+        ),
+        (
+            tree.rename("/d", "/d/e/g"),
+            Errno::EINVAL,
+            io::ErrorKind::InvalidInput,
+        ),
+        (
+            tree.exchange("/d", "/"),
+            Errno::EBUSY,
+            io::Error::from_raw_os_error(16).kind(),
+        ),
+        (
+            tree.unlink("/d"),
+            Errno::EPERM,
+            io::ErrorKind::PermissionDenied,
+        ),
+        (
+            tree.mknod("/d/e/x"),
+            Errno::ENOSPC,
+            io::Error::from_raw_os_error(28).kind(),
+        ),
+        (
+            tree.truncate("/f", 1 << 63),
+            Errno::EFBIG,
+            io::Error::from_raw_os_error(27).kind(),
+        ),
+    ];
+    for (came, errno, kind) in rows {
+        assert_eq!(came, Err(Error::Failed(errno)));
+        let error = io::Error::from(Error::Failed(errno));
+        assert_eq!(
+            (error.raw_os_error(), error.kind()),
+            (Some(errno.number()), kind)
+        );
+        assert_eq!(Error::Failed(errno).to_string(), error.to_string());
+    }
+    assert_eq!(tree.check().unwrap(), "lawful");
+}
+
+#[test]
+fn what_is_refused_is_not_in_the_journal() {
+    assert_eq!(Tree::with_limit(0).err(), Some(Error::BadLimit));
+    let mut tree = Tree::with_limit(1).unwrap();
+    for path in [
+        "",
+        "a",
+        "/a/",
+        "/a/../b",
+        "/a\0b",
+        "/012345678901234567890123456789012",
+    ] {
+        assert_eq!(tree.mkdir(path), Err(Error::BadPath), "{path:?}");
+    }
+    assert_eq!(tree.mkdir("/a"), Err(Error::Full));
+    let seat = tree.seat().unwrap();
+    assert_eq!(tree.reply(seat), Err(Error::NoReply));
+    assert_eq!(tree.journal().unwrap(), "atomfs-journal 1\n");
+    tree.begin(seat, &Call::stat("/")).unwrap();
+    assert_eq!(tree.begin(seat, &Call::stat("/")), Err(Error::SeatBusy));
+    assert_eq!(tree.checkpoint(), Err(Error::UnderWay(1)));
+    assert_eq!(io::Error::from(Error::Full).raw_os_error(), Some(28));
+    let shown: Box<dyn std::error::Error> = Box::new(Error::BadPath);
+    assert!(!shown.to_string().is_empty());
+}
+
+#[test]
+fn each_begin() {
+    let mut tree = Tree::new().unwrap();
+    let seat = tree.seat().unwrap();
+    let rows = [
+        (Call::mkdir("/a"), Reply::Done),
+        (Call::mknod("/a/f"), Reply::Done),
+        (Call::write("/a/f", 1, b"hello"), Reply::Wrote(5)),
+        (
+            Call::read("/a/f", 0, u64::MAX),
+            Reply::Bytes(b"\0hello".to_vec()),
+        ),
+        (Call::truncate("/a/f", 2), Reply::Done),
+        (
+            Call::stat("/a/f"),
+            Reply::Stat(Stat {
+                is_dir: false,
+                size: 2,
+            }),
+        ),
+        (Call::mkdir("/b"), Reply::Done),
+        (Call::rename("/a/f", "/b/g"), Reply::Done),
+        (
+            Call::readdir("/"),
+            Reply::Names(vec![b"a".to_vec(), b"b".to_vec()]),
+        ),
+        (Call::exchange("/a", "/b"), Reply::Done),
+        (Call::unlink("/a/g"), Reply::Done),
+        (Call::rmdir("/b"), Reply::Done),
+        (Call::readdir("/a"), Reply::Names(vec![])),
+    ];
+    for (at, (call, wanted)) in rows.into_iter().enumerate() {
+        assert_eq!(tree.begin(seat, &call), Ok(at as u64 + 1));
+        assert_eq!(tree.finish(seat).as_ref(), Ok(&wanted));
+        assert_eq!(tree.reply(seat), Ok(wanted));
+    }
+    tree.begin(seat, &Call::unlink("/x")).unwrap();
+    assert_eq!(tree.finish(seat), Err(Error::Failed(Errno::ENOENT)));
+    assert_eq!(tree.step(seat), Ok(Did::Idle));
+    assert_eq!(tree.check().unwrap(), "lawful");
+}
+
+#[test]
+fn a_rename_helps_the_mkdir_below_it() {
+    let mut tree = Tree::new().unwrap();
+    tree.mkdir("/a").unwrap();
+    tree.mkdir("/a/d").unwrap();
+    let (maker, mover) = (tree.seat().unwrap(), tree.seat().unwrap());
+    let number = tree.begin(maker, &Call::mkdir("/a/d/x")).unwrap();
+    for _ in 0..5 {
+        tree.step(maker).unwrap();
+    }
+    tree.begin(mover, &Call::rename("/a", "/b")).unwrap();
+    let mut did = vec![tree.step(mover).unwrap()];
+    while did.last() != Some(&Did::Returned) {
+        did.push(tree.step(mover).unwrap());
+    }
+    assert!(did.contains(&Did::Helped(number)), "{did:?}");
+    assert_eq!(tree.finish(maker), Ok(Reply::Done));
+    assert_eq!(tree.readdir("/b/d").unwrap(), [b"x"]);
+    assert_eq!(tree.check().unwrap(), "lawful");
+}
+
+#[test]
+fn a_call_that_waits_keeps_its_seat() {
+    let mut tree = Tree::new().unwrap();
+    tree.mkdir("/a").unwrap();
+    let seat = tree.seat().unwrap();
+    tree.begin(seat, &Call::mkdir("/a/x")).unwrap();
+    while tree.step(seat).unwrap() != Did::Committed {}
+    let waits = match tree.stat("/a/x") {
+        Err(Error::Waits(waits)) => waits,
+        other => panic!("{other:?}"),
+    };
+    assert_eq!(tree.finish(waits), Err(Error::Waits(waits)));
+    assert_eq!(tree.finish(seat), Ok(Reply::Done));
+    assert_eq!(
+        tree.finish(waits),
+        Ok(Reply::Stat(Stat {
+            is_dir: true,
+            size: 0
+        }))
+    );
+    assert_eq!(
+        tree.stat("/a"),
+        Ok(Stat {
+            is_dir: true,
+            size: 1
+        })
+    );
+}
+
+#[test]
+fn each_piece_of_a_journal_is_lawful() {
+    let mut tree = Tree::new().unwrap();
+    for name in ["/a", "/b", "/c"] {
+        tree.mkdir(name).unwrap();
+        tree.mknod(format!("{name}/f")).unwrap();
+        let piece = tree.checkpoint().unwrap();
+        assert_eq!(piece.matches("\nreturn ").count(), 2);
+        assert_eq!(atomfs::check(piece).unwrap(), "lawful");
+    }
+    assert_eq!(tree.readdir("/").unwrap(), [b"a", b"b", b"c"]);
+}
+
+#[test]
+fn versions() {
+    assert_eq!(atomfs::version(), env!("CARGO_PKG_VERSION"));
+}

@@ -1,0 +1,280 @@
+"""The packages for C, Python and Rust: they install from the archive that embed/build makes, without the kit, and pass their tests; and one version
+stands in all of them.
+
+A command or a module that is not there is named, with the package of Debian by which it comes, and the test that wants it is left out.
+"""
+import contextlib
+import functools
+import os
+import pathlib
+import re
+import shutil
+import subprocess
+import sys
+import tempfile
+import unittest
+
+import harness
+from documents import EMBEDDING, blocks, spans, table
+from harness import ROOT, Case
+
+BINDINGS, EMBED, CRATES = ROOT / "bindings", ROOT / "embed", ROOT / "crates"
+HEADER = (EMBED / "atomfs.h").read_text()
+VERSION = re.search(r'^#define ATOMFS_VERSION "(.*)"$', HEADER, re.M)[1]
+MOST_SECONDS = 5 * harness.MOST_SECONDS
+# How what the tests use comes in Debian.
+COMMANDS = {"cmake": "cmake", "pkg-config": "pkgconf", "make": "make", "cc": "gcc", "cargo": "cargo"}
+MODULES = {"fs": "python3-fs", "fsspec": "python3-fsspec", "pip": "python3-pip", "setuptools": "python3-setuptools", "wheel": "python3-wheel"}
+# What is set here for another Python or another crate is none of the packages'.
+ELSEWHERE = ("ATOMFS_LIBRARY", "ATOMFS_LIB_DIR", "PYTHONPATH", "PYTHONHOME", "VIRTUAL_ENV", "RUSTFLAGS", "CARGO_TARGET_DIR")
+
+
+def done(words, folder, **more):
+    """What a command ends with and tells."""
+    variables = {name: value for name, value in os.environ.items() if name not in ELSEWHERE}
+    ran = subprocess.run(words, cwd=folder, env=variables | more, capture_output=True, text=True, errors="replace", timeout=MOST_SECONDS)
+    return ran.returncode, ran.stdout + ran.stderr
+
+
+def wanted(*commands):
+    """Leaves a test out for want of a command."""
+    for command in commands:
+        if not shutil.which(command):
+            raise unittest.SkipTest(f"{command} is not on the path: apt-get install {COMMANDS[command]}")
+
+
+@functools.cache
+def missing(python):
+    """The modules that a Python has not; all of them where there is no such Python."""
+    ask = f"import importlib.util\nprint(*(name for name in {tuple(MODULES)} if importlib.util.find_spec(name) is None))"
+    with contextlib.suppress(OSError):
+        ran = subprocess.run([python, "-c", ask], capture_output=True, text=True, timeout=MOST_SECONDS)
+        if ran.returncode == 0:
+            return ran.stdout.split()
+    return list(MODULES)
+
+
+def python():
+    """A Python that has what the package and its tests use: $PYTHON, python3, or Debian's own."""
+    debians = "/usr/bin/python3"
+    for found in filter(None, (os.environ.get("PYTHON"), shutil.which("python3"), debians)):
+        if not missing(found):
+            return found
+    absent = missing(debians)
+    raise unittest.SkipTest(f"{debians} has no {', '.join(absent)}: apt-get install {' '.join(MODULES[name] for name in absent)}")
+
+
+@functools.cache
+def archive():
+    """The archive, which is to be no older than what it is made of."""
+    harness.library()
+    name = f"atomfs-{VERSION}-{os.uname().machine}-linux"
+    found = pathlib.Path(harness.found("ATOMFS_ARCHIVE", f"dist/{name}.tar.gz", "embed/build makes it"))
+    parts = [path for folder in (BINDINGS, EMBED) for path in folder.rglob("*") if path.is_file() and "__pycache__" not in path.parts]
+    if "ATOMFS_ARCHIVE" not in os.environ and (newer := [path for path in parts if path.stat().st_mtime > found.stat().st_mtime]):
+        sys.exit(f"{found} is older than {newer[0].relative_to(ROOT)}: embed/build makes it")
+    return found
+
+
+class Installed(Case):
+    """A test in a folder with the archive unpacked at `prefix`."""
+
+    @classmethod
+    def setUpClass(cls):
+        made = archive()
+        cls.folder = pathlib.Path(tempfile.mkdtemp(prefix="atomfs-packages-"))
+        cls.addClassCleanup(shutil.rmtree, cls.folder)
+        shutil.unpack_archive(made, cls.folder)
+        (cls.prefix,) = cls.folder.iterdir()
+
+    def ends(self, words, folder=None, pattern="", **more):
+        """A command ends with status 0, and tells something of this form."""
+        words = [str(word) for word in words]
+        status, told = done(words, folder or self.folder, **more)
+        if status or not re.search(pattern, told):
+            self.fail(f"{' '.join(words)}: status {status}, and not /{pattern}/\n{told[-8_000:]}")
+        return told
+
+    def copied(self, source, name):
+        return pathlib.Path(shutil.copytree(source, self.folder / name))
+
+
+class OfTheArchive(Installed):
+    def test_files(self):
+        """It has the library, its header, what CMake and pkg-config read, the program, the wheel and the crate."""
+        self.same(archive().name, self.prefix.name, archive().name.removesuffix(".tar.gz"))
+        for name in (
+            *("lib/libatomfs.a", "lib/libatomfs.so", "lib/cmake/atomfs/atomfs-config.cmake", "lib/pkgconfig/atomfs.pc", "include/atomfs.h"),
+            *("bin/atomfs", "share/atomfs/README.md", "share/atomfs/rust/Cargo.toml"),
+        ):
+            with self.subTest(name):
+                self.assertTrue((self.prefix / name).is_file())
+        self.same("include/atomfs.h", (self.prefix / "include" / "atomfs.h").read_text(), HEADER)
+
+    def test_no_paths(self):
+        """No file of it names the folder where it was built."""
+        files = [path for path in self.prefix.rglob("*") if path.is_file()]
+        self.same("the archive", [path.name for path in files if str(ROOT).encode() in path.read_bytes()], [])
+
+    def test_program(self):
+        self.same("atomfs --version", done([self.prefix / "bin" / "atomfs", "--version"], self.folder), (0, f"atomfs {VERSION}\n"))
+
+
+class ForC(Installed):
+    def test_cmake(self):
+        """A project out of tree finds the package, and runs with the shared object and with the archive."""
+        wanted("cmake", "make", "cc")
+        example, build = self.copied(BINDINGS / "c" / "example", "example"), self.folder / "build"
+        self.ends(["cmake", "-S", example, "-B", build, f"-DCMAKE_PREFIX_PATH={self.prefix}", "-DCMAKE_C_FLAGS=-std=c99 -Wall -Wextra -Werror"])
+        self.ends(["cmake", "--build", build])
+        self.ends(["ctest", "--output-on-failure"], build, "100% tests passed, 0 tests failed out of 2")
+        for name in ("shared", "static"):
+            self.same(name, done([build / name], self.folder), (0, "hello\n"))
+        major, minor, _ = VERSION.split(".")
+        for asked, found in ((VERSION, True), (f"{major}.{minor}", True), (f"{major}.{int(minor) + 1}", False), (f"{major}.{int(minor) - 1}", False)):
+            with self.subTest(asked):
+                self.look_at_version(asked, found)
+
+    def look_at_version(self, asked, found):
+        """Whether a project that asks for a version finds the package."""
+        project = self.folder / f"project-{asked}"
+        project.mkdir()
+        (project / "CMakeLists.txt").write_text(
+            f"cmake_minimum_required(VERSION 3.13)\nproject(asks LANGUAGES C)\nfind_package(atomfs {asked} REQUIRED)\n"
+        )
+        status, told = done(["cmake", "-S", str(project), "-B", str(project / "build"), f"-DCMAKE_PREFIX_PATH={self.prefix}"], self.folder)
+        self.same(f"find_package(atomfs {asked})", status == 0 or told, found or told)
+
+    def test_pkg_config(self):
+        wanted("pkg-config", "cc")
+        where = {"PKG_CONFIG_PATH": str(self.prefix / "lib" / "pkgconfig")}
+        self.same("pkg-config --modversion atomfs", done(["pkg-config", "--modversion", "atomfs"], self.folder, **where), (0, f"{VERSION}\n"))
+        flags = self.ends(["pkg-config", "--cflags", "--libs", "atomfs"], **where).split()
+        self.ends(["cc", "-std=c99", "-Wall", "-Werror", BINDINGS / "c" / "example" / "main.c", *flags, "-o", self.folder / "by_pkg_config"])
+        ran = done([self.folder / "by_pkg_config"], self.folder, LD_LIBRARY_PATH=str(self.prefix / "lib"))
+        self.same("the example, built by pkg-config", ran, (0, "hello\n"))
+
+
+class ForPython(Installed):
+    """The wheel of the archive and the package of the checkout, each in a new environment, with the tests of the package."""
+
+    def test_wheel(self):
+        found = python()
+        (wheel,) = (self.prefix / "share" / "atomfs").glob("*.whl")
+        installed = self.installed(found, "by_wheel", wheel)
+        self.ends([installed, "-c", f"import atomfs; assert atomfs.__version__ == {VERSION!r}; assert atomfs.library_version() == {VERSION!r}"])
+        (example,) = blocks(BINDINGS / "python" / "README.md", "python")
+        self.same("the example of its page", done([installed, "-c", example], self.folder), (0, "b'hello' lawful\n"))
+        told = self.passes(installed)
+        listed = [name for tests, _ in table(EMBEDDING, "Test of the suite", "Needs") for name in spans(tests)]
+        skipped = re.findall(r"^(test_\w+) .*\.\.\. skipped ", told, re.M)
+        self.same("the tests that docs/EMBEDDING.md lists as left out", sorted(listed), sorted(skipped))
+
+    def test_sources(self):
+        """The package is built and installed from its sources, offline."""
+        library = str(self.prefix / "lib" / "libatomfs.so")
+        installed = self.installed(python(), "by_sources", self.copied(BINDINGS / "python", "python"), ATOMFS_LIBRARY=library)
+        self.ends([installed, "-c", "import atomfs\nwith atomfs.Tree() as tree: tree.mkdir('/a'); assert tree.check() == 'lawful'"])
+        self.ends([installed, "-c", "import atomfs, importlib.resources as r; assert (r.files(atomfs) / 'py.typed').is_file()"])
+
+    def test_no_library(self):
+        """Without the shared object the build says what is missing."""
+        status, told = done([python(), "setup.py", "bdist_wheel"], self.copied(BINDINGS / "python", "alone"))
+        self.assertNotEqual(status, 0)
+        self.assertIn("embed/build makes it, and ATOMFS_LIBRARY names it", told)
+
+    def installed(self, found, name, package, **more):
+        """The Python of a new environment in which a package was installed."""
+        self.ends([found, "-m", "venv", "--system-site-packages", "--without-pip", self.folder / name])
+        new = self.folder / name / "bin" / "python"
+        words = "-m", "pip", "install", "--no-index", "--no-build-isolation", "--no-cache-dir", package
+        self.ends([new, *words], pattern="Successfully installed atomfs", **more)
+        return new
+
+    def passes(self, new):
+        """What the tests of the package tell."""
+        words = "-W", "ignore", "-m", "unittest", "discover", "-v", "-s", BINDINGS / "python" / "tests"
+        return self.ends([new, *words], pattern=r"(?m)^OK", PYTHONDONTWRITEBYTECODE="1")
+
+
+class ForRust(Installed):
+    def test_crate(self):
+        """The crate of the archive finds the library beside it; its tests and the examples of its pages pass."""
+        wanted("cargo", "cc")
+        crate = self.prefix / "share" / "atomfs" / "rust"
+        told = self.ends(["cargo", "test", "--offline", "--quiet"], crate, CARGO_TARGET_DIR=str(self.folder / "target"))
+        passed = [int(count) for count in re.findall(r"^test result: ok\. (\d+) passed; 0 failed; 0 ignored", told, re.M)]
+        self.assertTrue(len(passed) >= 4 and sum(count > 0 for count in passed) >= 3, told)
+
+    def test_no_library(self):
+        """Without the library the build says what is missing."""
+        wanted("cargo")
+        crate = self.copied(BINDINGS / "rust", "rust")
+        status, told = done(["cargo", "build", "--offline"], crate, CARGO_TARGET_DIR=str(self.folder / "other"), ATOMFS_LIB_DIR="/nowhere")
+        self.assertNotEqual(status, 0)
+        self.assertIn("embed/build makes it", told)
+
+
+class Numbers(Case):
+    """What the packages write out again is what the header and the crates have."""
+
+    @staticmethod
+    def source(*names):
+        return BINDINGS.joinpath(*names).read_text()
+
+    def test_versions(self):
+        """One version stands in the header, the program, the packages and the list of changes."""
+        rows = (
+            ("the program", CRATES / "fs_command" / "src" / "cli.rt", r'VERSION: &str = "(.*)"'),
+            ("pyproject.toml", BINDINGS / "python" / "pyproject.toml", r'^version = "(.*)"'),
+            ("the package for Python", BINDINGS / "python" / "src" / "atomfs" / "__init__.py", r'^__version__ = "(.*)"'),
+            ("Cargo.toml", BINDINGS / "rust" / "Cargo.toml", r'^version = "(.*)"'),
+            ("CHANGELOG.md", ROOT / "CHANGELOG.md", r"^## (\S+)"),
+        )
+        self.each(((name, path, pattern) for name, path, pattern in rows), self.look_at_version)
+
+    def look_at_version(self, path, pattern):
+        self.same(path.relative_to(ROOT), re.search(pattern, path.read_text(), re.M)[1], VERSION)
+
+    def test_statuses(self):
+        """Statuses, what a step did, and calls, as the header numbers them."""
+        header = {name: int(value) for name, value in re.findall(r"^    ATOMFS_(\w+) = (\d+)", HEADER, re.M)}
+        library, ffi = self.source("python", "src", "atomfs", "_library.py"), self.source("rust", "src", "ffi.rs")
+        of_python = {"FAILED": int(re.search(r"^FAILED = (\d+)", library, re.M)[1])}
+        for enum, prefix in (("Status", ""), ("Did", "DID_"), ("Call", "CALL_")):
+            body = re.search(rf"class {enum}\(enum.IntEnum\):(.*?)\n\n\n", library, re.S)[1]
+            of_python |= {prefix + name: int(value) for name, value in re.findall(r"^    (\w+) = (\d+)", body, re.M)}
+        self.same("_library.py", of_python, header)
+        of_rust = {name: int(value) for name, value in re.findall(r"^pub const (\w+): u8 = (\d+);", ffi, re.M)}
+        self.same("ffi.rs", of_rust, {name: header.get(name) for name in of_rust})
+
+    def test_functions(self):
+        """Python and Rust declare no function that the header has not, each with as many arguments."""
+        counts = {
+            name: 0 if arguments == "void" else arguments.count(",") + 1
+            for name, arguments in re.findall(r"^(?:uint8_t|const char \*) ?atomfs_(\w+)\(([^;]*)\);", HEADER, re.M)
+        }
+        of_rust = {
+            name: len([one for one in arguments.split(",") if one.strip()])
+            for name, arguments in re.findall(r"pub fn atomfs_(\w+)\(([^)]*)\)", self.source("rust", "src", "ffi.rs"))
+        }
+        self.same("ffi.rs", of_rust, {name: counts.get(name) for name in of_rust})
+        sys.path.insert(0, str(BINDINGS / "python" / "src" / "atomfs"))
+        import _library
+
+        sys.path.pop(0)
+        of_python = {name: len(arguments) for name, arguments in _library._ARGUMENTS.items()}
+        self.same("_library.py", of_python, {name: counts.get(name) for name in of_python})
+
+    def test_limits(self):
+        limits = dict(re.findall(r"const (\w+): \w+ = ([\d_]+);", (CRATES / "fs_names" / "src" / "limits.rt").read_text()))
+        library = self.source("python", "src", "atomfs", "_library.py")
+        for name in ("NODE_LIMIT", "NAME_LIMIT", "PATH_LIMIT"):
+            found = re.search(rf"^{name} = ([\d_]+)", library, re.M)[1]
+            self.same(f"{name} of _library.py", int(found), int(limits[name]))
+        found = re.search(r"NODE_LIMIT: usize = ([\d_]+)", self.source("rust", "src", "lib.rs"))[1]
+        self.same("NODE_LIMIT of lib.rs", int(found), int(limits["NODE_LIMIT"]))
+
+
+if __name__ == "__main__":
+    unittest.main()
