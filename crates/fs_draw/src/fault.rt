@@ -1,0 +1,46 @@
+//! Why no picture was written.
+
+ghost use Rattle.std.specs.Prelude.{◌≡◌};
+ghost use Rattle.fs_draw.specs.Faults.{fault_between, status_of_draw};
+
+use fs_io::Failure;
+use fs_sched::RunFault;
+use fs_trace::TraceFault;
+use thiserror::Error;
+
+/// Why no picture was written.
+#[derive(Clone, Copy, Debug, PartialEq, Eq, Error)]
+pub enum DrawFault {
+    /// The input is no script and no journal, the run comes to a checkpoint, a device failed, or memory ran out.
+    #[error("{0}")]
+    Trace(TraceFault),
+    /// No call has the number around which is to be drawn.
+    #[error("there is no call {0}")]
+    NoCall(u64),
+}
+
+impl DrawFault {
+    /// The status of a program that this fault ended: 2 where no call has the number, else that of the trace.
+    pub fn status(&self) -> u8
+        ensures { result ≡ status_of_draw self.now }
+    {
+        match self {
+            DrawFault::Trace(fault) => fault.status(),
+            DrawFault::NoCall(_) => 2,
+        }
+    }
+}
+
+/// The fault between a reader and a writer.
+impl From<Failure<DrawFault>> for DrawFault {
+    ghost from_gives = { λ failure fault. fault ≡ fault_between failure };
+
+    fn from(failure: Failure<DrawFault>) -> DrawFault {
+        match failure {
+            Failure::Read => DrawFault::Trace(TraceFault::Run(RunFault::Read)),
+            Failure::Write => DrawFault::Trace(TraceFault::Run(RunFault::Write)),
+            Failure::OutOfMemory => DrawFault::Trace(TraceFault::Run(RunFault::OutOfMemory)),
+            Failure::Unmade(fault) => fault,
+        }
+    }
+}

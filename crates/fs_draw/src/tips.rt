@@ -1,0 +1,83 @@
+//! The words that a call shows where a pointer rests on it.
+
+use crate::ink::Ink;
+use crate::labels::push_cut;
+use crate::scene::{ARROW, Card, Scene};
+use std::alloc::{AllocError, Global};
+
+/// The call and its reply.
+fn write_call(alloc: Global, scene: &Scene, card: &Card, ink: &mut Ink) -> Result<(), AllocError> {
+    let (call_width, reply_width) = if scene.is_large() {
+        (70, 80)
+    } else {
+        (240, 80)
+    };
+    let mut words = Vec::new(alloc);
+    push_cut(card.words.as_slice(), call_width, &mut words)?;
+    if !card.reply.is_empty() {
+        words.extend_from_slice(&[b' ', ARROW, b' '])?;
+        push_cut(card.reply.as_slice(), reply_width, &mut words)?;
+    }
+    ink.with(b"#", card.number)?;
+    ink.raw(b" ")?;
+    ink.words(words.as_slice())
+}
+
+/// The lane, and the first and the last event or entry.
+fn write_lane(scene: &Scene, card: &Card, ink: &mut Ink) -> Result<(), AllocError> {
+    ink.raw(b"\n")?;
+    if let Some(name) = scene.lanes.get(card.lane) {
+        ink.words(name.as_slice())?;
+    }
+    ink.raw(if scene.is_run {
+        b", events "
+    } else {
+        b", entries "
+    })?;
+    ink.number(card.first)?;
+    if card.reply.is_empty() {
+        return ink.raw(b" on, did not return");
+    }
+    ink.with(b" to ", card.last)
+}
+
+/// The place of the call, and who gave it.
+fn write_commit(scene: &Scene, card: &Card, ink: &mut Ink) -> Result<(), AllocError> {
+    if card.order == 0 {
+        return Ok(());
+    }
+    ink.with(b"\ncommit number ", card.order)?;
+    ink.with(b", at ", card.commit)?;
+    if let Some(helper) = card.helper {
+        if let Some(other) = scene.cards.get(helper) {
+            ink.with(b", given by #", other.number)?;
+            if let Some(name) = scene.lanes.get(other.lane) {
+                ink.raw(b" of ")?;
+                ink.words(name.as_slice())?;
+            }
+        }
+    }
+    if card.carried > 0 {
+        ink.with(b"; carried out at ", card.carried)?;
+    }
+    Ok(())
+}
+
+/// The words of a call's tip.
+pub(crate) fn write_tip(
+    alloc: Global,
+    scene: &Scene,
+    card: &Card,
+    ink: &mut Ink,
+) -> Result<(), AllocError> {
+    write_call(alloc, scene, card, ink)?;
+    write_lane(scene, card, ink)?;
+    write_commit(scene, card, ink)?;
+    if !card.due.is_empty() {
+        let mut due = Vec::new(alloc);
+        push_cut(card.due.as_slice(), 80, &mut due)?;
+        ink.raw(b"\ndue: ")?;
+        ink.words(due.as_slice())?;
+    }
+    Ok(())
+}

@@ -1,0 +1,29 @@
+//! What the events of a run were answered.
+
+use fs_core::Stepped;
+use fs_names::CallNo;
+
+/// What an event was answered.
+#[derive(Drop)]
+pub enum Answer {
+    /// The thread has nothing to do any more, and nothing changed.
+    Spent,
+    /// The next call of the thread began, and got this number.
+    Begun(CallNo),
+    /// The call under way did a step.
+    Stepped(Stepped),
+}
+
+/// An event of a run: the seat of its thread, and what it was answered.
+#[derive(Drop)]
+pub struct Told {
+    pub seat: usize,
+    pub answer: Answer,
+}
+
+impl Answer {
+    /// Whether the thread may have come to its end by this event.
+    pub(crate) fn may_end(&self) -> bool {
+        matches!(self, Answer::Spent | Answer::Stepped(Stepped::Returned(_)))
+    }
+}
