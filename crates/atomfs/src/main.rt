@@ -13,13 +13,15 @@ ghost use Rattle.fs_command.specs.Commands.{IsWithin};
 mod tests;
 
 use fs_command::{
-    Subcommand, Topic, explanation, parse, report, status_of_run, status_of_unreadable_args,
-    status_of_usage, status_of_verdict,
+    Subcommand, Topic, explanation, parse, report, report_draw, report_trace, status_of_run,
+    status_of_unreadable_args, status_of_usage, status_of_verdict,
 };
+use fs_draw::{DrawFault, draw_input};
 use fs_sched::{
     Device, RunFault, Schedule, Sink, Source, check_journal, run_script, run_seeds, write_text,
 };
 use fs_threads::{ThreadsFault, run_threads};
+use fs_trace::{TraceFault, schedule_script, trace_script};
 use std::alloc::Global;
 use std::convert::AsStr;
 use std::io::{Read, Write};
@@ -89,6 +91,56 @@ fn check<R: Source, W: Sink>(alloc: Global, reader: &mut R, writer: &mut W) -> R
     }
 }
 
+/// Writes the trace of a script's run, and answers the status.
+fn trace<R: Source, W: Sink>(
+    alloc: Global,
+    reader: &mut R,
+    writer: &mut W,
+    schedule: Schedule,
+    every: bool,
+) -> Result<u8, TraceFault>
+    requires reads { R.failures reader.old < 2 ^ 64 - 1 }
+    requires writes { W.failures writer.old < 2 ^ 64 - 1 }
+{
+    match trace_script(alloc, reader, writer, schedule, every) {
+        Ok(end) => Ok(status_of_run(&end)),
+        Err(fault) => Err(fault),
+    }
+}
+
+/// Draws a script's run or a journal, and answers the status.
+fn draw<R: Source, W: Sink>(
+    alloc: Global,
+    reader: &mut R,
+    writer: &mut W,
+    schedule: Schedule,
+    call: Option<u64>,
+) -> Result<u8, DrawFault>
+    requires reads { R.failures reader.old < 2 ^ 64 - 1 }
+    requires writes { W.failures writer.old < 2 ^ 64 - 1 }
+{
+    match draw_input(alloc, reader, writer, schedule, call) {
+        Ok(well) => Ok(status_of_verdict(well)),
+        Err(fault) => Err(fault),
+    }
+}
+
+/// Writes a script again with the events of its run, and answers the status.
+fn schedule<R: Source, W: Sink>(
+    alloc: Global,
+    reader: &mut R,
+    writer: &mut W,
+    schedule: Schedule,
+) -> Result<u8, TraceFault>
+    requires reads { R.failures reader.old < 2 ^ 64 - 1 }
+    requires writes { W.failures writer.old < 2 ^ 64 - 1 }
+{
+    match schedule_script(alloc, reader, writer, schedule) {
+        Ok(()) => Ok(0),
+        Err(fault) => Err(fault),
+    }
+}
+
 /// Writes what one topic means, or two, and answers the status.
 fn explain<W: Sink>(
     alloc: Global,
@@ -124,6 +176,15 @@ fn perform<T: Threads + Wait + Clock + Sync, R: Source, W: Sink, E: Write>(
         Subcommand::Seeds(first, runs) => seeds(alloc, reader, writer, *first, *runs),
         Subcommand::Check => check(alloc, reader, writer),
         Subcommand::Explain(first, second) => explain(alloc, writer, *first, *second),
+        Subcommand::Trace(order, every) => {
+            return report_trace(errors, trace(alloc, reader, writer, *order, *every));
+        }
+        Subcommand::Draw(order, call) => {
+            return report_draw(errors, draw(alloc, reader, writer, *order, *call));
+        }
+        Subcommand::Schedule(order) => {
+            return report_trace(errors, schedule(alloc, reader, writer, *order));
+        }
         Subcommand::Threads => return report(errors, threads(rt, alloc, reader, writer)),
     };
     report(errors, outcome.map_err(ThreadsFault::Run))

@@ -2,7 +2,7 @@
 use Rattle.std.specs.Prelude.{ℕ, ◌≤◌, List, codes}
 use Rattle.fs_sched.specs.declared.seeding.TheConstants.{SEED_LIMIT, RUN_LIMIT}
 use Rattle.fs_command.specs.declared.cli.Subcommand.{Subcommand}
-use Rattle.fs_command.specs.declared.cli.Subcommand.TheVariants.{Run, Seeds, Threads, Check, Explain}
+use Rattle.fs_command.specs.declared.cli.Subcommand.TheVariants.{Run, Seeds, Threads, Check, Trace, Draw, Schedule, Explain}
 
 -- the word by which a subcommand is asked for
 abbrev pub name_of : Subcommand → List ℕ
@@ -10,6 +10,9 @@ name_of (Run schedule) = codes "run"
 name_of (Seeds seed runs) = codes "seeds"
 name_of Threads = codes "threads"
 name_of Check = codes "check"
+name_of (Trace schedule every) = codes "trace"
+name_of (Draw schedule call) = codes "draw"
+name_of (Schedule schedule) = codes "schedule"
 name_of (Explain first second) = codes "explain"
 
 -- the numbers of drawn runs are within their ranges
@@ -18,4 +21,7 @@ IsWithin (Run schedule) = Unit {0}
 IsWithin (Seeds seed runs) = (seed ≤ SEED_LIMIT) × (1 ≤ runs) × (runs ≤ RUN_LIMIT)
 IsWithin Threads = Unit {0}
 IsWithin Check = Unit {0}
+IsWithin (Trace schedule every) = Unit {0}
+IsWithin (Draw schedule call) = Unit {0}
+IsWithin (Schedule schedule) = Unit {0}
 IsWithin (Explain first second) = Unit {0}

@@ -33,6 +33,7 @@ text_word text.BadWord = codes "BadWord"
 text_word text.TooLarge = codes "TooLarge"
 text_word text.OutOfMemory = codes "OutOfMemory"
 text_word text.BadReply = codes "BadReply"
+text_word text.BadStart = codes "BadStart"
 
 -- the word of a topic
 abbrev pub word_of : Topic → List ℕ

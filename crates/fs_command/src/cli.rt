@@ -14,7 +14,7 @@ use std::alloc::Global;
 use std::convert::AsStr;
 
 /// The version of the program.
-pub const VERSION: &str = "0.1.0";
+pub const VERSION: &str = "0.2.0";
 
 /// What the command line asks for.
 #[derive(Clone, Copy, Debug, PartialEq, Eq)]
@@ -27,6 +27,12 @@ pub enum Subcommand {
     Threads,
     /// The verdict on a journal.
     Check,
+    /// The events of a script's run by a schedule, in words; and whether each is told, or those alone that tell something new.
+    Trace(Schedule, bool),
+    /// A picture of a script's run by a schedule, or of a journal; and the number of the call around which is drawn.
+    Draw(Schedule, Option<u64>),
+    /// A script again, with the events of its run by a schedule as its words.
+    Schedule(Schedule),
     /// What one word of a message means, or two.
     Explain(Topic, Option<Topic>),
 }
@@ -34,7 +40,7 @@ pub enum Subcommand {
 const RUN_STATUSES: &str = "\
 Exit status:
   0  every call of the script returned
-  1  the script ended with calls left: begun and not returned, or not begun
+  1  the script ended with calls left: begun and not returned, or not begun; or a checkpoint found calls under way
   2  usage error
   3  the input is no script: `atomfs explain` says what to write instead
   4  out of memory, or no node number left
@@ -78,6 +84,41 @@ Exit status:
 
 Example:
   atomfs run < examples/moved_ancestor.script | atomfs check";
+
+const TRACE_STATUSES: &str = "\
+Exit status:
+  0  every call of the script returned
+  1  the script ended with calls left: the lines `left` tell which
+  2  usage error
+  3  the input is no script: `atomfs explain` says what to write instead; or its schedule has a checkpoint
+  4  out of memory, or no node number left
+  5  a read or a write failed
+
+Example:
+  atomfs trace --seed 7 < examples/moved_ancestor.script";
+
+const DRAW_STATUSES: &str = "\
+Exit status:
+  0  every call of the script returned, or the journal is lawful
+  1  the script ended with calls left, or the journal has a fault; the picture shows it
+  2  usage error, or no call has the number
+  3  the input is no script and no journal: `atomfs explain` says what to write instead; or its schedule has a checkpoint
+  4  out of memory, or no node number left
+  5  a read or a write failed
+
+Example:
+  atomfs draw --seed 7 < examples/moved_ancestor.script > run.svg";
+
+const SCHEDULE_STATUSES: &str = "\
+Exit status:
+  0  success: a run of what is written has the text of this run
+  2  usage error
+  3  the input is no script: `atomfs explain` says what to write instead
+  4  out of memory, no node number left, or more events than a script gives
+  5  a read or a write failed
+
+Example:
+  atomfs schedule --seed 7 < examples/moved_ancestor.script";
 
 const EXPLAIN_STATUSES: &str = "\
 Exit status:
@@ -145,6 +186,63 @@ fn run_alone<'a>(alloc: Global) -> Command<'a> {
 fn run_command<'a>(alloc: Global) -> Result<Command<'a>, Error> {
     let seed = seed_argument(alloc)?;
     with_arguments(run_alone(alloc), robin_argument(alloc), seed)
+}
+
+fn every_argument<'a>(alloc: Global) -> Arg<'a> {
+    Arg::new(alloc, "every")
+        .long("every")
+        .action(ArgAction::SetTrue)
+        .help("A line for each event, idle turns and repeated waits among them")
+}
+
+fn trace_alone<'a>(alloc: Global) -> Command<'a> {
+    Command::new(alloc, "trace")
+        .about("Runs the script on standard input and writes what each event did, in words")
+        .override_usage("atomfs trace [OPTIONS] < FILE")
+        .after_help(TRACE_STATUSES)
+}
+
+fn trace_command<'a>(alloc: Global) -> Result<Command<'a>, Error> {
+    let seed = seed_argument(alloc)?;
+    let by_schedule = with_arguments(trace_alone(alloc), robin_argument(alloc), seed)?;
+    Ok(by_schedule.arg(every_argument(alloc))?)
+}
+
+fn around_argument<'a>(alloc: Global) -> Arg<'a> {
+    Arg::new(alloc, "around")
+        .long("around")
+        .value_name("CALL")
+        .value_parser(value_parser!(u64))
+        .help("Only the call of this number, and those that overlap it or help")
+}
+
+fn draw_alone<'a>(alloc: Global) -> Command<'a> {
+    Command::new(alloc, "draw")
+        .about(
+            "Runs the script on standard input, or reads a journal there, and writes a picture of it: an SVG file",
+        )
+        .override_usage("atomfs draw [OPTIONS] < FILE > PICTURE")
+        .after_help(DRAW_STATUSES)
+}
+
+fn draw_command<'a>(alloc: Global) -> Result<Command<'a>, Error> {
+    let seed = seed_argument(alloc)?;
+    let by_schedule = with_arguments(draw_alone(alloc), robin_argument(alloc), seed)?;
+    Ok(by_schedule.arg(around_argument(alloc))?)
+}
+
+fn schedule_alone<'a>(alloc: Global) -> Command<'a> {
+    Command::new(alloc, "schedule")
+        .about(
+            "Runs the script on standard input and writes it again, with the events of the run as its schedule",
+        )
+        .override_usage("atomfs schedule <--robin|--seed <N>> < FILE")
+        .after_help(SCHEDULE_STATUSES)
+}
+
+fn schedule_command<'a>(alloc: Global) -> Result<Command<'a>, Error> {
+    let seed = seed_argument(alloc)?.required_unless_present("robin")?;
+    with_arguments(schedule_alone(alloc), robin_argument(alloc), seed)
 }
 
 fn first_seed_argument<'a>(alloc: Global) -> Arg<'a> {
@@ -264,9 +362,24 @@ fn program_with_check<'a>(alloc: Global) -> Result<Command<'a>, Error> {
     with(program_with_threads(alloc)?, check_command(alloc))
 }
 
+fn program_with_trace<'a>(alloc: Global) -> Result<Command<'a>, Error> {
+    let trace = trace_command(alloc)?;
+    with(program_with_check(alloc)?, trace)
+}
+
+fn program_with_draw<'a>(alloc: Global) -> Result<Command<'a>, Error> {
+    let draw = draw_command(alloc)?;
+    with(program_with_trace(alloc)?, draw)
+}
+
+fn program_with_schedule<'a>(alloc: Global) -> Result<Command<'a>, Error> {
+    let schedule = schedule_command(alloc)?;
+    with(program_with_draw(alloc)?, schedule)
+}
+
 fn command<'a>(alloc: Global) -> Result<Command<'a>, Error> {
     let explain = explain_command(alloc)?;
-    with(program_with_check(alloc)?, explain)
+    with(program_with_schedule(alloc)?, explain)
 }
 
 /// The schedule of a run.
@@ -322,6 +435,9 @@ fn subcommand_of<'a>(matches: &ArgMatches<'a>) -> Option<Subcommand>
         "seeds" => seeds_of(given),
         "threads" => Some(Subcommand::Threads),
         "check" => Some(Subcommand::Check),
+        "trace" => Some(Subcommand::Trace(schedule_of(given), given.get_flag("every"))),
+        "draw" => Some(Subcommand::Draw(schedule_of(given), given.get_one::<u64>("around"))),
+        "schedule" => Some(Subcommand::Schedule(schedule_of(given))),
         "explain" => topics_of(given),
         _ => None,
     }

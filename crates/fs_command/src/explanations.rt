@@ -14,7 +14,7 @@ use fs_timeline::FaultKind as EntryFault;
 use std::alloc::{AllocError, Global};
 
 const BAD_HEADER: &str = "\
-BadHeader: the first line is not `atomfs 1`, or for a journal `atomfs-journal 1`; or the input is empty
+BadHeader: the first line is not `atomfs 1`, or for a journal `atomfs-journal 1` or `atomfs-journal 2`; or the input is empty
 
 In a script, for    atomfs 2
 write               atomfs 1
@@ -209,6 +209,30 @@ write               return 1 names
 because             `.` and `..` are no names
 ";
 
+const BAD_START: &str = "\
+BadStart: no start tree has this line at its place, or the text ends within the start tree (journals only)
+
+In a journal, for   entries
+write               start
+because             the start tree precedes the entries
+
+In a journal, for   dir /a
+write               dir /
+because             the root comes first
+
+In a journal, for   dir /%61
+write               dir /a
+because             a node has the one line that is written of it
+
+In a journal, for   file /b/f 6869
+write               file /a/f 6869
+because             a directory precedes its entries
+
+In a journal, for   commit 1
+write               entries
+because             the entries follow a line `entries`
+";
+
 const BEGIN_TWICE: &str = "\
 BeginTwice: a call of this number began before
 ";
@@ -267,6 +291,7 @@ fn of_text(fault: TextFault) -> &'static str
         TextFault::TooLarge => TOO_LARGE,
         TextFault::OutOfMemory => OUT_OF_MEMORY,
         TextFault::BadReply => BAD_REPLY,
+        TextFault::BadStart => BAD_START,
     }
 }
 

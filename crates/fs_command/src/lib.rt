@@ -17,6 +17,7 @@ pub mod topic;
 pub use cli::{Subcommand, parse};
 pub use explanations::explanation;
 pub use status::{
-    report, status_of_run, status_of_unreadable_args, status_of_usage, status_of_verdict,
+    report, report_draw, report_trace, status_of_run, status_of_unreadable_args, status_of_usage,
+    status_of_verdict,
 };
 pub use topic::Topic;

@@ -3,12 +3,14 @@
 ghost use Rattle.std.specs.Prelude.{◌≡◌, ◌≢◌, ◌⊎◌};
 ghost use Rattle.std.specs.IoError.{error_kind};
 ghost use Rattle.clap.specs.Values.{kind_of};
-ghost use Rattle.fs_command.specs.Statuses.{status_of, status_of_run, status_of_verdict};
+ghost use Rattle.fs_command.specs.Statuses.{status_of, status_of_drawn, status_of_run, status_of_traced, status_of_verdict};
 
 use clap::Error;
 use clap::error::ErrorKind;
+use fs_draw::DrawFault;
 use fs_sched::{RunEnd, RunFault};
 use fs_threads::ThreadsFault;
+use fs_trace::TraceFault;
 use std::io::{self, ErrorKind as IoErrorKind, Write};
 
 /// The status after a run: success where every call of the script returned.
@@ -39,6 +41,30 @@ pub fn report<E: Write>(errors: &mut E, outcome: Result<u8, ThreadsFault>) -> u8
         ThreadsFault::Run(fault) => fault.status(),
         ThreadsFault::Lists(_) => 4,
     }
+}
+
+/// The status that a trace or a schedule came to, or that of its fault, whose message is written.
+pub fn report_trace<E: Write>(errors: &mut E, outcome: Result<u8, TraceFault>) -> u8
+    ensures { result ≡ status_of_traced outcome }
+{
+    let fault = match outcome {
+        Ok(status) => return status,
+        Err(fault) => fault,
+    };
+    let _ = writeln!(errors, "atomfs: {fault}");
+    fault.status()
+}
+
+/// The status that a picture came to, or that of its fault, whose message is written.
+pub fn report_draw<E: Write>(errors: &mut E, outcome: Result<u8, DrawFault>) -> u8
+    ensures { result ≡ status_of_drawn outcome }
+{
+    let fault = match outcome {
+        Ok(status) => return status,
+        Err(fault) => fault,
+    };
+    let _ = writeln!(errors, "atomfs: {fault}");
+    fault.status()
 }
 
 /// The status where the arguments cannot be read: 4 out of memory, 2 where one is not UTF-8.

@@ -19,7 +19,7 @@ pub enum Topic {
 }
 
 /// The words of all topics.
-pub(crate) const WORDS: [&str; 25] = [
+pub(crate) const WORDS: [&str; 26] = [
     "BadHeader",
     "BadLine",
     "BadThread",
@@ -38,6 +38,7 @@ pub(crate) const WORDS: [&str; 25] = [
     "TooLarge",
     "OutOfMemory",
     "BadReply",
+    "BadStart",
     "BeginTwice",
     "SeatBusy",
     "CommitUnbegun",
@@ -70,6 +71,7 @@ pub fn topic_of(word: &str) -> Option<Topic>
         "TooLarge" => Topic::Text(TextFault::TooLarge),
         "OutOfMemory" => Topic::Text(TextFault::OutOfMemory),
         "BadReply" => Topic::Text(TextFault::BadReply),
+        "BadStart" => Topic::Text(TextFault::BadStart),
         "BeginTwice" => Topic::Entry(EntryFault::BeginTwice),
         "SeatBusy" => Topic::Entry(EntryFault::SeatBusy),
         "CommitUnbegun" => Topic::Entry(EntryFault::CommitUnbegun),

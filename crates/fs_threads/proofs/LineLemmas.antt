@@ -63,4 +63,5 @@ input_of_threads given (Run run.Read) h = elim h [ ]
 input_of_threads given (Run run.Write) h = elim h [ ]
 input_of_threads given (Run run.OutOfMemory) h = tt
 input_of_threads given (Run run.Full) h = tt
+input_of_threads given (Run (run.UnderWay _)) h = elim h [ ]
 input_of_threads given (Lists fault) h = tt
