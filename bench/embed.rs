@@ -1,25 +1,94 @@
-//! The same calls as `embed.c`, through the wrapper for Rust.
-#[path = "../examples/embed/atomfs.rs"]
-#[allow(dead_code)]
-mod atomfs;
+//! The same typed calls as of `embed.c`, from Rust: `embed_rust CALLS`, or `embed_rust --long CALLS`.
 
 use std::time::Instant;
 
-fn main() -> Result<(), atomfs::Error> {
-    let calls: u64 = std::env::args().nth(1).and_then(|word| word.parse().ok()).unwrap_or(200_000);
-    let mut tree = atomfs::Tree::new(1000)?;
-    let seat = tree.seat()?;
-    let from = Instant::now();
-    for i in 0..calls {
-        let name = i / 4 % 100;
-        let line = match i % 4 {
-            0 => format!("mkdir /a{name}"),
-            1 => format!("stat /a{name}"),
-            2 => format!("rename /a{name} /b"),
-            _ => "rmdir /b".to_string(),
-        };
-        tree.call_with(seat, &line, |reply| assert!(!reply.starts_with("failed")))?;
+const PIECE: usize = 4000;
+const EVERY: usize = 10_000;
+
+fn piece() -> Vec<u8> {
+    (0..PIECE).map(|k| (k * 7) as u8).collect()
+}
+
+fn names_typed(tree: &mut atomfs::Tree, i: usize) {
+    let name = format!("/a{}", i / 4 % 100);
+    match i % 4 {
+        0 => tree.mkdir(name).unwrap(),
+        1 => drop(tree.stat(name).unwrap()),
+        2 => tree.rename(name, "/b").unwrap(),
+        _ => tree.rmdir("/b").unwrap(),
     }
-    println!("Rust {:.0} calls/s", calls as f64 / from.elapsed().as_secs_f64());
-    Ok(())
+}
+
+/// Where the next piece of a file is.
+fn place(i: usize) -> u64 {
+    (i % 16 * PIECE) as u64
+}
+
+fn write_typed(tree: &mut atomfs::Tree, i: usize, piece: &[u8]) {
+    assert_eq!(tree.write("/f", place(i), piece), Ok(PIECE as u64));
+}
+
+fn read_typed(tree: &mut atomfs::Tree, i: usize, out: &mut [u8]) {
+    assert_eq!(tree.read_into("/f", place(i), out), Ok(PIECE));
+}
+
+fn tree() -> atomfs::Tree {
+    let mut tree = atomfs::Tree::with_limit(1000).unwrap();
+    tree.mknod("/f").unwrap();
+    tree.truncate("/f", 16 * PIECE as u64).unwrap();
+    tree
+}
+
+/// The best of three rounds, each on a tree of its own.
+fn measure(name: &str, calls: usize, mut call: impl FnMut(&mut atomfs::Tree, usize)) {
+    let mut best = 0.0;
+    for _ in 0..3 {
+        let mut tree = tree();
+        let from = Instant::now();
+        (0..calls).for_each(|i| call(&mut tree, i));
+        best = f64::max(best, calls as f64 / from.elapsed().as_secs_f64());
+    }
+    println!("Rust    {name:13} {best:9.0} calls/s");
+}
+
+fn measure_all(calls: usize) {
+    let (piece, mut out) = (piece(), vec![0; PIECE]);
+    measure("names, typed", calls, names_typed);
+    measure("writes, typed", calls / 8, |tree, i| write_typed(tree, i, &piece));
+    measure("reads, typed", calls / 8, |tree, i| read_typed(tree, i, &mut out));
+}
+
+/// The most KiB that the process had.
+fn peak() -> usize {
+    let status = std::fs::read_to_string("/proc/self/status").unwrap();
+    let line = status.lines().find(|line| line.starts_with("VmHWM:")).unwrap();
+    line.split_whitespace().nth(1).unwrap().parse().unwrap()
+}
+
+fn run_long(calls: usize) {
+    let (piece, mut out, mut early) = (piece(), vec![0; PIECE], 0);
+    let mut tree = tree();
+    for i in 0..calls {
+        match i % 10 {
+            8 => write_typed(&mut tree, i / 10, &piece),
+            9 => read_typed(&mut tree, i / 10, &mut out),
+            k => names_typed(&mut tree, i / 10 * 8 + k),
+        }
+        if (i + 1) % EVERY == 0 {
+            tree.checkpoint().unwrap();
+        }
+        if i + 1 == calls / 10 {
+            early = peak();
+        }
+    }
+    println!("Rust    {calls} calls, a checkpoint every {EVERY}: at most {} KiB, {early} KiB after a tenth of them", peak());
+}
+
+fn main() {
+    let words: Vec<String> = std::env::args().skip(1).collect();
+    match words.as_slice() {
+        [long, calls] if long == "--long" => run_long(calls.parse().unwrap()),
+        [calls] => measure_all(calls.parse().unwrap()),
+        _ => panic!("embed_rust [--long] CALLS"),
+    }
 }

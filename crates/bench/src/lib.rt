@@ -2,16 +2,18 @@
 //! shared tree, and observers beside a told writer. In the gate it does each with a few calls, counts the entries that calls look
 //! at as a tree grows, which neither the program nor the library for C tells, and writes no times.
 //!
-//! Enter at `run`, or for one part, timed, at `time_tree`, `time_threads` and `time_observers`. Only programs that are no part
+//! Enter at `run`, or for one part, timed, at `time_tree`, `time_threads`, `time_observers` and `time_ended`. Only programs that are no part
 //! of the product stand on it, and it promises nothing.
 #![tactic(auto)]
 
+mod ended;
 mod growth;
 mod observers;
 mod threads;
 mod tree;
 
 use anyhow::Result;
+pub use ended::Before;
 use std::alloc::Global;
 use std::sync::Wait;
 use std::thread::Threads;
@@ -58,10 +60,23 @@ pub fn time_observers<R: Print + Threads + Wait + Clock + Sync>(
     observers::run(rt, alloc, reads.into(), true)
 }
 
+/// So many sessions that end, or runs of a pool, and then renames, or none of them.
+pub fn time_ended<R: Print + Threads + Wait + Clock + Sync>(
+    rt: &R,
+    alloc: Global,
+    before: Before,
+    times: u32,
+    renames: bool,
+) -> Result<()> {
+    ended::run(rt, alloc, before, times, renames)
+}
+
 /// Each part with a few calls, and what calls cost as a tree grows.
 pub fn run<R: Print + Threads + Wait + Clock + Sync>(rt: &R, alloc: Global) -> Result<()> {
     tree::run(rt, alloc, FEW, false)?;
     threads::run(rt, alloc, CALLS, false)?;
     observers::run(rt, alloc, FEW.into(), false)?;
+    ended::run(rt, alloc, Before::Session, 2, true)?;
+    ended::run(rt, alloc, Before::Run, 2, true)?;
     growth::run(rt, alloc)
 }

@@ -5,7 +5,7 @@ use std::thread;
 use std::time::{Clock, Duration};
 
 /// The most turns of a millisecond.
-const TURNS: u64 = 60_000;
+const TURNS: u64 = 10_000;
 
 /// Waits until a number is at least so great, and tells whether it is.
 pub fn reaches<R: Clock>(rt: &R, number: &AtomicU64, least: u64) -> bool {

@@ -138,9 +138,9 @@ fn look(rt: &impl Print, again: &mut Again, tree: &SeqTree, call: &Call) -> anyh
     Ok(show(rt, &reply)?)
 }
 
-/// Applies calls to a tree, and then looks at a tree that is made of the rows of a copy. The last line tells how often
-/// memory was refused.
-pub fn run(rt: &impl Print, alloc: Global, calls: &[Call], looks: &[Call]) -> anyhow::Result<()> {
+/// Applies calls to a tree, and then looks at a tree that is made of the rows of a copy. It answers how often memory was
+/// refused.
+pub fn run(rt: &impl Print, alloc: Global, calls: &[Call], looks: &[Call]) -> anyhow::Result<u32> {
     let mut again = Again { alloc, refused: 0 };
     let mut tree = again.tree()?;
     for call in calls {
@@ -150,5 +150,5 @@ pub fn run(rt: &impl Print, alloc: Global, calls: &[Call], looks: &[Call]) -> an
     for call in looks {
         look(rt, &mut again, &same, call)?;
     }
-    Ok(println!(rt; "refused: {}", again.refused)?)
+    Ok(again.refused)
 }

@@ -117,22 +117,25 @@ fn say_rest<R: Print + Threads + Wait + Clock + Sync>(
     println!(rt; "the lists returned {returned}").ok()
 }
 
-/// Plays the calls of the first threads on shared trees.
+/// Plays the calls of the first threads on shared trees. It answers how many jobs were refused.
 fn play<R: Print + Threads + Wait + Clock + Sync>(
     rt: &R,
     alloc: Global,
     script: &Script,
-) -> Option<()> {
+) -> Option<usize> {
     let (seen, closed) = on_tree(rt, alloc, calls(script, 0), calls(script, 1))?;
     say_seen(rt, &seen).ok()?;
-    say_rest(rt, alloc, script, &closed)
+    say_rest(rt, alloc, script, &closed)?;
+    Some(seen.refused)
 }
 
 /// Does everything, and writes what came of it.
 pub fn run<R: Print + Threads + Wait + Clock + Sync>(rt: &R, alloc: Global) -> anyhow::Result<()> {
     let script = script(alloc)?;
-    if play(rt, alloc, &script).is_none() {
+    let jobs = play(rt, alloc, &script);
+    if jobs.is_none() {
         println!(rt; "stopped")?;
     }
-    alone::run(rt, alloc, calls(&script, 2), calls(&script, 3))
+    let refused = alone::run(rt, alloc, calls(&script, 2), calls(&script, 3))?;
+    Ok(println!(rt; "refused: {refused}, jobs {}", jobs.unwrap_or(0))?)
 }

@@ -1,22 +1,26 @@
 //! Lists of calls, each played by a worker of its own.
 
 use fs_calls::Call;
-use fs_share::{Closed, Open, run_lists};
+use fs_share::{Closed, ListsFault, Open, Refusal, run_lists};
 use fs_timeline::Entry;
 use std::alloc::Global;
 use std::sync::Wait;
 use std::thread::Threads;
 use std::time::Clock;
 
-/// A new tree on which all lists were played. A refusal leaves nothing behind, so they are all played once more.
+/// A new tree on which all lists were played. A refusal leaves nothing behind, so they are all played once more. A worker that has no
+/// memory to start is none.
 fn played<R: Threads + Wait + Clock + Sync>(
     rt: &R,
     alloc: Global,
     lists: &[Vec<Call>],
 ) -> Option<Closed> {
-    run_lists(rt, alloc, lists, &Open)
-        .or_else(|_| run_lists(rt, alloc, lists, &Open))
-        .ok()
+    match run_lists(rt, alloc, lists, &Open) {
+        Err(ListsFault::Refused(Refusal::OutOfMemory) | ListsFault::NoWorker) => {
+            run_lists(rt, alloc, lists, &Open).ok()
+        }
+        played => played.ok(),
+    }
 }
 
 /// How many calls of the lists returned.

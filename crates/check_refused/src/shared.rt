@@ -8,8 +8,8 @@ mod begins;
 use again::{call, path, readdir, submit, told};
 use begins::begin_again;
 use fs_calls::{Call, Reply};
-use fs_pool::Pool;
-use fs_share::{AtomFs, Closed, Named, Observer, Open, Opened, Session, Stamp, Tally};
+use fs_pool::{Collected, Job, Pool};
+use fs_share::{AtomFs, Closed, Named, Observer, Open, Opened, Refusal, Session, Stamp, Tally};
 use std::alloc::Global;
 use std::marker::Brand;
 use std::sync::Wait;
@@ -26,8 +26,10 @@ pub struct Seen {
     pub shown: usize,
     /// The numbers of the jobs.
     pub numbers: (u64, u64),
-    /// How many jobs were done or are left.
+    /// How many jobs were done or are left, each as it must be.
     pub jobs: usize,
+    /// How many of those that were done were refused.
+    pub refused: usize,
     /// Whether the tree that began again shows its empty directory.
     pub again: bool,
 }
@@ -109,10 +111,17 @@ fn pool<N: Named, R: Wait>(rt: &R, alloc: Global) -> Option<Pool<N>> {
     }
 }
 
-/// The number of a job that asks for the kind of a node.
-fn submit_stat<N: Named>(alloc: Global, pool: &mut Pool<N>, text: &[u8]) -> Option<u64> {
-    let call = Call::Stat(path(alloc, text)?);
-    let number = submit(pool, call)?;
+/// The calls of both jobs. Each asks for names, for which its begin takes memory.
+fn readdirs(alloc: Global) -> Option<(Call, Call)> {
+    Some((
+        Call::Readdir(path(alloc, b"/a")?),
+        Call::Readdir(path(alloc, b"/c")?),
+    ))
+}
+
+/// The number of a job. A copy of its call takes no memory.
+fn submit_copy<N: Named>(alloc: Global, pool: &mut Pool<N>, call: &Call) -> Option<u64> {
+    let number = submit(pool, call.copy(alloc).ok()?)?;
     Some(number.get())
 }
 
@@ -123,30 +132,65 @@ fn work<N: Named + Send + Sync, R: Threads + Wait + Clock + Sync>(
     alloc: Global,
     fs: &AtomFs<N>,
     pool: &mut Pool<N>,
+    calls: &(Call, Call),
 ) -> Option<(u64, u64)> {
-    let first = submit_stat(alloc, pool, b"/a")?;
-    let second = submit_stat(alloc, pool, b"/c")?;
+    let first = submit_copy(alloc, pool, &calls.0)?;
+    let second = submit_copy(alloc, pool, &calls.1)?;
     let _first = pool.run(rt, alloc, fs, 1, &Open);
     let _second = pool.run(rt, alloc, fs, 1, &Open);
     Some((first, second))
 }
 
-/// How many jobs of a pool are done or left, and the tallies of its workers.
-fn collect<N: Named>(pool: Pool<N>) -> (usize, Vec<Tally<N>>) {
-    let collected = pool.collect();
-    let count = collected.done.len().wrapping_add(collected.left.len());
-    (count, collected.tallies)
+/// Whether a job that is left has the call that was submitted under its number.
+fn is_left(job: &Job, calls: &(Call, Call)) -> bool {
+    match job.no.get() {
+        0 => job.call.same(&calls.0),
+        1 => job.call.same(&calls.1),
+        _ => false,
+    }
 }
 
-/// The numbers of two jobs, how many are done or left, and the tallies of their workers.
+/// How many jobs of a pool are done or left, each as it must be, and how many were refused: only for want of memory.
+fn counts<N: Named>(collected: &Collected<N>, calls: &(Call, Call)) -> (usize, usize) {
+    let mut count = 0usize;
+    let mut refused = 0usize;
+    for done in &collected.done {
+        match &done.answer {
+            Ok(_) => count = count.wrapping_add(1),
+            Err(Refusal::OutOfMemory) => {
+                count = count.wrapping_add(1);
+                refused = refused.wrapping_add(1);
+            }
+            Err(_) => {}
+        }
+    }
+    for job in &collected.left {
+        if is_left(job, calls) {
+            count = count.wrapping_add(1);
+        }
+    }
+    (count, refused)
+}
+
+/// What became of two jobs: their numbers, and how many are done or left and were refused.
+#[derive(Drop)]
+struct Came {
+    numbers: (u64, u64),
+    counts: (usize, usize),
+}
+
+/// The same, with the tallies of their workers.
 fn jobs<N: Named + Send + Sync, R: Threads + Wait + Clock + Sync>(
     rt: &R,
     alloc: Global,
     fs: &AtomFs<N>,
-) -> Option<((u64, u64), (usize, Vec<Tally<N>>))> {
+) -> Option<(Came, Vec<Tally<N>>)> {
+    let calls = readdirs(alloc)?;
     let mut pool = pool(rt, alloc)?;
-    let numbers = work(rt, alloc, fs, &mut pool)?;
-    Some((numbers, collect(pool)))
+    let numbers = work(rt, alloc, fs, &mut pool, &calls)?;
+    let collected = pool.collect();
+    let counts = counts(&collected, &calls);
+    Some((Came { numbers, counts }, collected.tallies))
 }
 
 /// How many calls a session has answered, and how many names an observer shows who was told of further ones.
@@ -183,13 +227,15 @@ fn on<N: Named + Send + Sync, R: Threads + Wait + Clock + Sync>(
     let mut session = session(rt, fs)?;
     let (answered, shown) = see(rt, alloc, fs, &mut session, calls, told)?;
     let tally = session.end();
-    let (numbers, (jobs, mut tallies)) = jobs(rt, alloc, fs)?;
+    let (came, mut tallies) = jobs(rt, alloc, fs)?;
     add(&mut tallies, tally)?;
+    let (jobs, refused) = came.counts;
     let seen = Seen {
         answered,
         shown,
-        numbers,
+        numbers: came.numbers,
         jobs,
+        refused,
         again: false,
     };
     Some((seen, tallies))

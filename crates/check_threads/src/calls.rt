@@ -2,7 +2,7 @@
 
 use fs_calls::Call;
 use fs_journal::check;
-use fs_names::{CallNo, Path};
+use fs_names::{CallNo, Path, SeatNo};
 use fs_script::{CallLists, read_script};
 use fs_share::{Answer, Closed};
 use fs_timeline::{Entry, Verdict};
@@ -73,5 +73,44 @@ pub fn is_new(seen: &mut [bool], answer: &Answer) -> bool {
         return false;
     }
     seen[number] = true;
+    true
+}
+
+/// Whether the calls that begin on a seat are those of a list, in its order.
+fn has_list(entries: &[Entry], seat: SeatNo, list: &[Call]) -> bool {
+    let mut begun = 0usize;
+    for entry in entries {
+        let Entry::Begin(_, at, call) = entry else {
+            continue;
+        };
+        if *at == seat {
+            match list.get(begun) {
+                Some(given) if given.same(call) => begun = begun.wrapping_add(1),
+                _ => return false,
+            }
+        }
+    }
+    begun == list.len()
+}
+
+/// Whether a seat has one of the lists that are left. It is left no more.
+fn takes_list(entries: &[Entry], seat: SeatNo, lists: &[Vec<Call>], left: &mut [bool]) -> bool {
+    for i in 0..lists.len() {
+        if i < left.len() && left[i] && has_list(entries, seat, &lists[i]) {
+            left[i] = false;
+            return true;
+        }
+    }
+    false
+}
+
+/// Whether each of at most eight lists was played on a seat of its own, from its first call to its last.
+pub fn are_played(entries: &[Entry], lists: &[Vec<Call>]) -> bool {
+    let mut left = [true; 8];
+    for seat in 0..lists.len() {
+        if !takes_list(entries, SeatNo::new(seat as u64), lists, &mut left) {
+            return false;
+        }
+    }
     true
 }

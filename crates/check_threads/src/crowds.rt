@@ -1,10 +1,10 @@
 //! Crowds of threads that want the same nodes, again and again. A wake-up that is lost leaves a thread asleep, and the program
 //! does not end.
 
-use crate::calls::{calls_of, has_counts, lists_of};
+use crate::calls::{are_played, calls_of, has_counts, lists_of};
 use crate::walking::is_played;
 use fs_calls::Call;
-use fs_share::{Open, run_lists};
+use fs_share::{Closed, Open, run_lists};
 use std::alloc::Global;
 use std::sync::Wait;
 use std::thread::Threads;
@@ -48,7 +48,13 @@ fn crowd(alloc: Global, text: &[u8]) -> Option<Vec<Vec<Call>>> {
     Some(lists)
 }
 
-/// Whether each run of a crowd has all its calls, and a lawful timeline whose commits make the nodes that it leaves.
+/// Whether a run has each list, and a lawful timeline whose commits make the nodes that it leaves.
+fn is_whole(alloc: Global, lists: &[Vec<Call>], closed: &Closed) -> Option<bool> {
+    let counts = has_counts(closed, THREADS, 3 * THREADS * CALLS);
+    Some(counts && are_played(closed.timeline.entries(), lists) && is_played(alloc, closed)?)
+}
+
+/// Whether each run of a crowd is so.
 fn are_whole<R: Threads + Wait + Clock + Sync>(
     rt: &R,
     alloc: Global,
@@ -56,7 +62,7 @@ fn are_whole<R: Threads + Wait + Clock + Sync>(
 ) -> Option<bool> {
     for _ in 0..TIMES {
         let closed = run_lists(rt, alloc, lists, &Open).ok()?;
-        if !has_counts(&closed, THREADS, 3 * THREADS * CALLS) || !is_played(alloc, &closed)? {
+        if !is_whole(alloc, lists, &closed)? {
             return Some(false);
         }
     }

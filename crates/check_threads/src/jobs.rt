@@ -3,9 +3,10 @@
 ghost use Rattle.std.specs.Prelude.{◌≡◌, ◌^◌};
 
 use crate::calls::{fits, has_counts, is_lawful, is_new, path};
+use crate::playing::play;
 use fs_calls::{Call, Errno, Reply};
 use fs_pool::{Collected, Done, NotTaken, Pool};
-use fs_share::{Answer, AtomFs, Closed, Gate, Named, Open, Opened};
+use fs_share::{AtomFs, Closed, Gate, Named, Open, Opened, Tally};
 use fs_timeline::Entry;
 use std::alloc::Global;
 use std::marker::Brand;
@@ -41,9 +42,14 @@ fn calls(alloc: Global) -> Option<Vec<Call>> {
     Some(calls)
 }
 
-/// Hands jobs to a pool. Whether each has its number.
-fn submit_all<N: Named>(alloc: Global, pool: &mut Pool<N>, calls: &[Call]) -> Option<bool> {
-    let mut number = 0u64;
+/// Hands jobs to a pool. Whether each has its number, from one on.
+pub fn submit_all<N: Named>(
+    alloc: Global,
+    pool: &mut Pool<N>,
+    calls: &[Call],
+    from: u64,
+) -> Option<bool> {
+    let mut number = from;
     for call in calls {
         let no = pool.submit(call.copy(alloc).ok()?).ok()?;
         if no.get() != number {
@@ -62,31 +68,52 @@ fn is_full<N: Named>(alloc: Global, pool: &mut Pool<N>) -> Option<bool> {
     Some(matches!(taken.first(), Some(Err(NotTaken::QueueFull(back))) if back.same(call)))
 }
 
-/// What became of jobs, and of the tree.
+/// What became of jobs: whether a full pool handed one back, those that were done, and how many are left.
+#[derive(Drop)]
+pub struct Did {
+    full: bool,
+    pub done: Vec<Done>,
+    left: usize,
+}
+
+/// The same, and what is left of the tree.
 #[derive(Drop)]
 pub struct Worked {
-    full: bool,
-    done: Vec<Done>,
-    left: usize,
+    pub did: Did,
     pub closed: Closed,
 }
 
-/// Whether a full pool handed a job back, and what became of the jobs.
+/// The calls that make a tree, and those of the jobs that so many workers do then.
+#[derive(Clone, Copy)]
+pub struct Works<'a> {
+    pub made: &'a [Call],
+    pub calls: &'a [Call],
+    pub workers: usize,
+}
+
+/// What becomes of the jobs, and the tallies of all sessions.
 fn work_on<N: Named + Send + Sync, R: Threads + Wait + Clock + Sync, G: Gate + Sync>(
     rt: &R,
     alloc: Global,
     fs: &AtomFs<N>,
-    calls: &[Call],
-    workers: usize,
+    works: Works<'_>,
     gate: &G,
-) -> Option<(bool, Collected<N>)> {
-    if calls.is_empty() {
+) -> Option<(Did, Vec<Tally<N>>)> {
+    if works.calls.is_empty() {
         return None;
     }
-    let mut pool = Pool::<N>::new(rt, alloc, calls.len()).ok()?;
-    let full = submit_all(alloc, &mut pool, calls)? && is_full(alloc, &mut pool)?;
-    pool.run(rt, alloc, fs, workers, gate).ok()?;
-    Some((full, pool.collect()))
+    let made = play(rt, alloc, fs, works.made, &Open)?;
+    let mut pool = Pool::<N>::new(rt, alloc, works.calls.len()).ok()?;
+    let full = submit_all(alloc, &mut pool, works.calls, 0)? && is_full(alloc, &mut pool)?;
+    pool.run(rt, alloc, fs, works.workers, gate).ok()?;
+    let Collected {
+        done,
+        left,
+        mut tallies,
+    } = pool.collect();
+    tallies.push(made.tally()).ok()?;
+    let left = left.len();
+    Some((Did { full, done, left }, tallies))
 }
 
 /// The same on a tree of its own.
@@ -95,8 +122,7 @@ fn work<N: Named + Send + Sync, R: Threads + Wait + Clock + Sync, G: Gate + Sync
     alloc: Global,
     opened: Opened,
     blank: Blank,
-    calls: &[Call],
-    workers: usize,
+    works: Works<'_>,
     gate: &G,
 ) -> Option<Worked>
     requires book { opened ≡ N.book }
@@ -105,32 +131,27 @@ fn work<N: Named + Send + Sync, R: Threads + Wait + Clock + Sync, G: Gate + Sync
     requires all { blank.parts ≡ 2 ^ 63 }
 {
     let fs = AtomFs::<N>::open(rt, alloc, opened, blank).ok()?;
-    let Some((full, collected)) = work_on(rt, alloc, &fs, calls, workers, gate) else {
+    let Some((did, tallies)) = work_on(rt, alloc, &fs, works, gate) else {
         let _closed = fs.close(rt, Vec::new(alloc));
         return None;
     };
-    Some(Worked {
-        full,
-        done: collected.done,
-        left: collected.left.len(),
-        closed: fs.close(rt, collected.tallies),
-    })
+    let closed = fs.close(rt, tallies);
+    Some(Worked { did, closed })
 }
 
-/// Has jobs done by so many workers under a gate.
+/// Has jobs done under a gate, on a tree that some calls made by a session of their own.
 pub fn work_all<R: Threads + Wait + Clock + Sync, G: Gate + Sync>(
     rt: &R,
     alloc: Global,
-    calls: &[Call],
-    workers: usize,
+    works: Works<'_>,
     gate: &G,
 ) -> Option<Worked> {
     let (opened, blank) = (Opened::new(), Blank::new(1 << 63));
-    work::<Brand, R, G>(rt, alloc, opened, blank, calls, workers, gate)
+    work::<Brand, R, G>(rt, alloc, opened, blank, works, gate)
 }
 
 /// Whether the numbers are those of all jobs, in order, and each answer is that of the timeline, under a number of its own.
-fn are_right(entries: &[Entry], calls: &[Call], done: &[Done]) -> bool {
+pub fn are_right(entries: &[Entry], calls: &[Call], done: &[Done]) -> bool {
     let mut seen = [false; 1001];
     let mut number = 0u64;
     for one in done {
@@ -142,7 +163,7 @@ fn are_right(entries: &[Entry], calls: &[Call], done: &[Done]) -> bool {
         }
         number = number.wrapping_add(1);
     }
-    number == JOBS
+    number as usize == calls.len()
 }
 
 /// How many jobs made a file, and how many found no place.
@@ -166,11 +187,11 @@ fn counts(done: &[Done]) -> (u64, u64) {
 fn is_worked(alloc: Global, calls: &[Call], worked: &Worked) -> Option<bool> {
     let entries = worked.closed.timeline.entries();
     Some(
-        worked.full
-            && worked.left == 0
-            && counts(&worked.done) == (256, 744)
-            && has_counts(&worked.closed, WORKERS, 3000)
-            && are_right(entries, calls, &worked.done)
+        worked.did.full
+            && worked.did.left == 0
+            && counts(&worked.did.done) == (256, 744)
+            && has_counts(&worked.closed, WORKERS + 1, 3000)
+            && are_right(entries, calls, &worked.did.done)
             && is_lawful(alloc, entries)?,
     )
 }
@@ -178,6 +199,11 @@ fn is_worked(alloc: Global, calls: &[Call], worked: &Worked) -> Option<bool> {
 /// Whether a thousand jobs are done so.
 pub fn are_done<R: Threads + Wait + Clock + Sync>(rt: &R, alloc: Global) -> Option<bool> {
     let calls = calls(alloc)?;
-    let worked = work_all(rt, alloc, &calls, WORKERS, &Open)?;
+    let works = Works {
+        made: &[],
+        calls: &calls,
+        workers: WORKERS,
+    };
+    let worked = work_all(rt, alloc, works, &Open)?;
     is_worked(alloc, &calls, &worked)
 }

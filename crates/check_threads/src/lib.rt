@@ -13,6 +13,7 @@ mod jobs;
 mod long;
 mod parked;
 mod playing;
+mod pools;
 mod shared;
 mod waiting;
 mod walking;
@@ -107,6 +108,12 @@ fn say_all<R: Print + Threads + Wait + Clock + Sync>(rt: &R, alloc: Global) -> i
     say(rt, "a tree begins again, and each piece is lawful", again)?;
     let jobs = jobs::are_done(rt, alloc);
     say(rt, "a thousand jobs are done, once", jobs)?;
+    let again = pools::run_again(rt, alloc);
+    say(
+        rt,
+        "jobs wait where no worker is made, and a pool runs twice",
+        again,
+    )?;
     let crowds = crowds::all_end(rt, alloc);
     say(
         rt,

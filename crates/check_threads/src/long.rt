@@ -1,6 +1,6 @@
 //! A long run of drawn calls by many threads.
 
-use crate::calls::has_counts;
+use crate::calls::{are_played, has_counts};
 use crate::drawing::call;
 use crate::walking::is_played;
 use fs_calls::Call;
@@ -47,13 +47,15 @@ fn lists(alloc: Global) -> Option<Vec<Vec<Call>>> {
     Some(lists)
 }
 
-fn run<R: Threads + Wait + Clock + Sync>(rt: &R, alloc: Global) -> Option<Closed> {
-    let lists = lists(alloc)?;
-    run_lists(rt, alloc, &lists, &Lingers).ok()
+/// Whether the timeline of a run has each list, and is lawful, and its commits make the nodes that it leaves.
+fn is_whole(alloc: Global, lists: &[Vec<Call>], closed: &Closed) -> Option<bool> {
+    let counts = has_counts(closed, THREADS, 3 * THREADS * CALLS);
+    Some(counts && are_played(closed.timeline.entries(), lists) && is_played(alloc, closed)?)
 }
 
-/// Whether the timeline of the run has each call and is lawful, and its commits make the nodes that it leaves.
+/// Whether the run of the drawn calls is so.
 pub fn is_lawful<R: Threads + Wait + Clock + Sync>(rt: &R, alloc: Global) -> Option<bool> {
-    let closed = run(rt, alloc)?;
-    Some(has_counts(&closed, THREADS, 3 * THREADS * CALLS) && is_played(alloc, &closed)?)
+    let lists = lists(alloc)?;
+    let closed = run_lists(rt, alloc, &lists, &Lingers).ok()?;
+    is_whole(alloc, &lists, &closed)
 }

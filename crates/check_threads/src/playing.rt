@@ -13,6 +13,13 @@ pub struct Played<N: Named> {
     tally: Tally<N>,
 }
 
+impl<N: Named> Played<N> {
+    /// The tally alone.
+    pub fn tally(self) -> Tally<N> {
+        self.tally
+    }
+}
+
 /// What each session played; none where it could not.
 pub type Sessions<N> = Vec<Option<Played<N>>>;
 

@@ -1,11 +1,15 @@
 //! Lists of calls and pools, also under one gate that their workers share.
 
-use crate::calls::{calls_of, has_counts, lists_of, path};
-use crate::jobs::work_all;
+use crate::calls::{
+    are_played, calls_of, commit_place, has_counts, is_before, lists_of, path, return_place,
+};
+use crate::jobs::{Worked, Works, work_all};
 use crate::waiting::is_set;
 use fs_calls::Call;
 use fs_core::Stepped;
-use fs_share::{Closed, Gate, Open, run_lists};
+use fs_names::CallNo;
+use fs_pool::Done;
+use fs_share::{Gate, Open, run_lists};
 use std::alloc::Global;
 use std::sync::Wait;
 use std::sync::atomic::{AtomicU64, Ordering};
@@ -29,9 +33,9 @@ impl FirstWaits {
         }
     }
 
-    /// Whether the caller that waited saw another one return, in two sessions of a call each.
-    fn has_met(&self, closed: &Closed) -> bool {
-        self.found.load(Ordering::SeqCst) == 1 && has_counts(closed, 2, 6)
+    /// Whether the caller that waited saw another one return.
+    fn has_met(&self) -> bool {
+        self.found.load(Ordering::SeqCst) == 1
     }
 }
 
@@ -52,37 +56,66 @@ impl Gate for FirstWaits {
 /// Two threads of a call each.
 const TWO: &[u8] = b"atomfs 1\nthread one\nstat /x\nthread other\nstat /y\nschedule\n";
 
-/// Whether the gate lets one list's call return while it holds the other's.
+/// Whether the gate lets one list's call return while it holds the other's, and both lists were played.
 pub fn lists_meet<R: Threads + Wait + Clock + Sync>(rt: &R, alloc: Global) -> Option<bool> {
     let gate = FirstWaits::new();
-    let closed = run_lists(rt, alloc, lists_of(alloc, TWO)?.as_slice(), &gate).ok()?;
-    Some(gate.has_met(&closed))
+    let lists = lists_of(alloc, TWO)?;
+    let closed = run_lists(rt, alloc, lists.as_slice(), &gate).ok()?;
+    let played = are_played(closed.timeline.entries(), lists.as_slice());
+    Some(gate.has_met() && has_counts(&closed, 2, 6) && played)
 }
 
-const JOBS: &[u8] = b"atomfs 1\nthread jobs\nstat /x\nstat /y\nschedule\n";
+/// The calls that make the tree, and two jobs, which go on from the root to different directories.
+const JOBS: &[u8] =
+    b"atomfs 1\nthread made\nmkdir /a\nmkdir /b\nthread jobs\nmkdir /a/x\nmkdir /b/y\nschedule\n";
 
-/// Whether the gate lets one worker's job return while it holds the other's.
+/// The number of the call by which a job was done.
+fn number(done: &[Done], job: usize) -> Option<CallNo> {
+    match &done.get(job)?.answer {
+        Ok(answer) => Some(answer.call),
+        Err(_) => None,
+    }
+}
+
+/// Whether of two jobs the one that returned last, which is the one that was held, committed behind the other's return.
+fn are_apart(worked: &Worked) -> Option<bool> {
+    let entries = worked.closed.timeline.entries();
+    let one = number(&worked.did.done, 0)?;
+    let two = number(&worked.did.done, 1)?;
+    let first = is_before(return_place(entries, one), return_place(entries, two));
+    let (other, held) = if first { (one, two) } else { (two, one) };
+    Some(is_before(return_place(entries, other), commit_place(entries, held)))
+}
+
+/// Whether the gate lets one worker's job return while it holds the other's, before that commits.
 pub fn jobs_meet<R: Threads + Wait + Clock + Sync>(rt: &R, alloc: Global) -> Option<bool> {
     let gate = FirstWaits::new();
     let lists = lists_of(alloc, JOBS)?;
-    let worked = work_all(rt, alloc, calls_of(&lists, 0)?, 2, &gate)?;
-    Some(gate.has_met(&worked.closed))
+    let works = Works {
+        made: calls_of(&lists, 0)?,
+        calls: calls_of(&lists, 1)?,
+        workers: 2,
+    };
+    let worked = work_all(rt, alloc, works, &gate)?;
+    Some(gate.has_met() && has_counts(&worked.closed, 3, 12) && are_apart(&worked)?)
 }
 
-fn fifty(alloc: Global) -> Option<Vec<Call>> {
+/// The calls of a list: files of its letter, each with a number of its own.
+fn fifty(alloc: Global, letter: u8) -> Option<Vec<Call>> {
     let mut list = Vec::new(alloc);
-    for _ in 0..50u64 {
-        list.push(Call::Stat(path(alloc, b"/x")?)).ok()?;
+    for number in 0..50u8 {
+        let text = [b'/', letter, b'0' + number / 10, b'0' + number % 10];
+        list.push(Call::Mknod(path(alloc, &text)?)).ok()?;
     }
     Some(list)
 }
 
-/// Whether as many calls return as four lists have.
+/// Whether four lists are played, and as many calls return as they have.
 pub fn all_return<R: Threads + Wait + Clock + Sync>(rt: &R, alloc: Global) -> Option<bool> {
     let mut lists = Vec::new(alloc);
-    for _ in 0..4u64 {
-        lists.push(fifty(alloc)?).ok()?;
+    for letter in [b'a', b'b', b'c', b'd'] {
+        lists.push(fifty(alloc, letter)?).ok()?;
     }
     let closed = run_lists(rt, alloc, &lists, &Open).ok()?;
-    Some(has_counts(&closed, 4, 600))
+    Some(has_counts(&closed, 4, 600) && are_played(closed.timeline.entries(), &lists))
 }

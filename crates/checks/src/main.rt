@@ -2,10 +2,12 @@
 //! turn, and `checks NAME` one of them. The gate runs the first, and compares what it writes with `stdout` beside `src/`, whose
 //! worked tables are there to be read. The libraries say what they check; `data/` has a folder for the one that reads files.
 //! `checks time tree CALLS`, `checks time observers READS` and, with a script on standard input, `checks time threads` time
-//! parts of AtomFS (`bench`).
+//! parts of AtomFS (`bench`). `checks time ended TIMES` makes renames behind so many sessions that have ended, `checks time
+//! sessions TIMES` the sessions alone; `run` and `pools` do the same with runs of a pool.
 #![tactic(auto)]
 
 use anyhow::{Result, bail};
+use bench::Before;
 use std::alloc::Global;
 use std::env;
 use std::io::{self, Read};
@@ -59,6 +61,10 @@ fn time<R: Print + Threads + Wait + Clock + Sync>(
     match part {
         "tree" => bench::time_tree(rt, alloc, number),
         "observers" => bench::time_observers(rt, alloc, number),
+        "sessions" => bench::time_ended(rt, alloc, Before::Session, number, false),
+        "ended" => bench::time_ended(rt, alloc, Before::Session, number, true),
+        "pools" => bench::time_ended(rt, alloc, Before::Run, number, false),
+        "run" => bench::time_ended(rt, alloc, Before::Run, number, true),
         _ => bail!("{part}: no part that is timed"),
     }
 }

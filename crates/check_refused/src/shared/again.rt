@@ -16,29 +16,42 @@ pub fn path(alloc: Global, text: &[u8]) -> Option<Path> {
     }
 }
 
-/// A session's call.
+/// A session's call. A refused one has counted nothing.
 pub fn call<N: Named, R: Wait + Clock>(
     rt: &R,
     alloc: Global,
     session: &mut Session<'_, N>,
     call: &Call,
 ) -> Option<Answer> {
+    let count = session.count();
     match session.call(rt, alloc, call, &Open) {
-        Err(Refusal::OutOfMemory) => session.call(rt, alloc, call, &Open).ok(),
+        Err(Refusal::OutOfMemory) if session.count() == count => {
+            session.call(rt, alloc, call, &Open).ok()
+        }
         answered => answered.ok(),
     }
 }
 
-/// A session's told call.
+/// A session's told call. A refused one has counted nothing. Each call that has committed is of this session, so the call's place is
+/// known, whether it has a stamp or not.
 pub fn told<N: Named, R: Wait + Clock>(
     rt: &R,
     alloc: Global,
     session: &mut Session<'_, N>,
     call: &Call,
 ) -> Option<Told<N>> {
-    match session.call_told(rt, alloc, call, &Open) {
-        Err(Refusal::OutOfMemory) => session.call_told(rt, alloc, call, &Open).ok(),
-        told => told.ok(),
+    let count = session.count();
+    let told = match session.call_told(rt, alloc, call, &Open) {
+        Err(Refusal::OutOfMemory) if session.count() == count => {
+            session.call_told(rt, alloc, call, &Open)
+        }
+        told => told,
+    };
+    let told = told.ok()?;
+    if (told.place as u64).wrapping_add(1) == session.count() {
+        Some(told)
+    } else {
+        None
     }
 }
 
