@@ -21,6 +21,8 @@ FORMATS, SPECIFICATION, BELIEVE, CHANGING, EMBEDDING, SPEED = (
 PAGES = README, EXAMPLES, *sorted(DOCS.glob("*.md"))
 CRATES = ROOT / "crates"
 HELPED = DATA / "worked" / "runs" / "helped_mkdir"
+# What `atomfs schedule --robin` writes of it.
+BY_ROBIN = b"atomfs 1\nthread m\nmkdir /a\nmkdir /a/d\nmkdir /a/d/x\nthread r\nrename /a /b\nschedule\nm r m r m r m r m r m r m r m*8\n"
 # README is read in a quarter of an hour.
 MOST_WORDS = 1_700
 
@@ -112,6 +114,23 @@ class Page(Case):
         self.alike(subject, ("the page says", page), ("it is", found))
 
 
+class FromASeed(Page):
+    """docs/FORMATS.md leads from a seed to a picture: what each command prints."""
+
+    SCRIPT = (ROOT / "examples" / "moved_ancestor.script").read_bytes()
+
+    def test_each_command(self):
+        section = FORMATS.read_text().split("## From a failing seed to a picture\n")[1]
+        seeds, lines, _, words, commits = re.findall(r"^```\n(.*?)^```$", section, re.M | re.S)
+        asked = seeds.split(" < ")[0].removeprefix("atomfs ").split(" ")
+        self.same(seeds, run(self.SCRIPT, *asked), Outcome(0, lines.encode()))
+        blocks = self.SCRIPT.split(b"\nschedule\n")[0]
+        kept = blocks + b"\nschedule\n" + words.encode()
+        self.same("the schedule of seed 7", run(self.SCRIPT, "schedule", "--seed", "7"), Outcome(0, kept))
+        told = run(kept, "trace").output.decode().splitlines()
+        self.same("the first commits", [line for line in told if re.search("(commits,|helps) ", line)][: len(commits.splitlines())], commits.splitlines())
+
+
 class Sentences(Page):
     def says(self, page, sentence):
         """A page has a sentence with these numbers, or with others in their place."""
@@ -124,7 +143,7 @@ class Pages(Page):
     """What every page names is there."""
 
     # What a page names and no repository has: what is built, what stands for a name, and the files that a reader makes.
-    ELSEWHERE = re.compile(r"(dist|lib|include|bin)/.*|.*/out/.*|.*\.\..*|proofs/MODULE/FUNCTION|call\.(c|rs|py)")
+    ELSEWHERE = re.compile(r"(dist|lib|include|bin|PREFIX)/.*|.*/out/.*|.*\.\..*|proofs/MODULE/FUNCTION|call\.(c|rs|py)|kept\.(script|svg)")
     A_PATH = re.compile(r"\w[\w.-]*(/[\w.-]+)+|\w+\.(md|rt|antt|py|c|h|rs|script|journal|text|edit)")
 
     @staticmethod
@@ -180,14 +199,13 @@ class Shown(Page):
         self.agrees(page.name, script, HELPED.with_suffix(".script").read_text())
         self.agrees(page.name, re.sub(r" +<- .*", "", text), HELPED.with_suffix(".text").read_text())
 
-    def test_example_of_readme(self):
-        """It is the crate `example_call` without its title, on the crates that README names, and prints what README says."""
-        (shown,) = blocks(README, "rust")
-        self.agrees("the block of README", shown, source("example_call/src/main.rt").partition("\n")[2])
-        *named, listed, first, second = spans(re.search(r"^A crate that stands on .*", README.read_text(), re.M)[0])
-        self.agrees("what README says that it prints", [first, second], source("example_call/stdout").splitlines())
-        crates = re.search(r"^example_call: (.*)$", (ROOT / listed).read_text(), re.M)
-        self.agrees("the crates that README names for it", sorted(named), sorted(crates[1].split()))
+    def test_examples_of_readme(self):
+        """Those in C, Python and Rust are those of docs/EMBEDDING.md, which are run; the last is the end of the crate `example_call`."""
+        *rust, rattle = blocks(README, "rust")
+        self.agrees("in Rust", rust, blocks(EMBEDDING, "rust"))
+        for language in ("c", "python"):
+            self.agrees(f"in {language}", blocks(README, language), blocks(EMBEDDING, language))
+        self.agrees("in Rattle", rattle, source("example_call/src/main.rt")[-len(rattle) :])
 
     def test_excerpts(self):
         """Each block in Rust stands in the source to which the page leads before it."""
@@ -208,7 +226,7 @@ class Faults(Page):
 
     def rows(self):
         """Of each table the command that reads its text."""
-        texts = zip(("run", "check"), blocks(FORMATS)[2:], tables(FORMATS, *self.HEAD), strict=True)
+        texts = zip(("run", "check", "check"), blocks(FORMATS)[2:5], tables(FORMATS, *self.HEAD), strict=True)
         for command, text, rows in texts:
             for fault, line, refused, instead, _ in rows:
                 yield f"{command} {line} {refused}", command, text.splitlines(), int(line), spans(fault)[0], spans(refused), spans(instead)
@@ -250,7 +268,7 @@ def explanations():
     means = {spans(fault)[0]: meaning for fault, meaning, _ in table(FORMATS, "Fault", "Means", "Line")}
     means |= {spans(kind)[0]: wrong for _, kind, wrong in table(SPECIFICATION, "Number", "Kind", "What is wrong")}
     texts = {fault: f"{fault.split(' ')[-1]}: {meaning}\n" for fault, meaning in means.items()}
-    for kind, rows in zip(("script", "journal"), tables(FORMATS, *Faults.HEAD), strict=True):
+    for kind, rows in zip(("script", "journal", "journal"), tables(FORMATS, *Faults.HEAD), strict=True):
         for fault, _, refused, instead, because in rows:
             refused, instead = ("".join(spans(cell)) or cell for cell in (refused, instead))
             lines = (f"In a {kind}, for", refused), ("write", instead), ("because", because)
@@ -315,6 +333,9 @@ class Commands(Page):
             "seeds --seed 7 --runs 3": b"seed 7 lawful\nseed 8 lawful\nseed 9 lawful\n",
             "threads": b"lawful calls 4\n",
             "check": b"lawful\n",
+            "trace": (DATA / "traces" / "helped_mkdir.trace").read_bytes(),
+            "schedule --robin": BY_ROBIN,
+            "draw": (DOCS / "helped_mkdir.svg").read_bytes(),
             "explain TrailingSlash": explanations()["TrailingSlash"],
             "--version": f"atomfs {version}\n".encode(),
             "--help": helps["atomfs"],
@@ -571,9 +592,9 @@ class Listed(Page):
         named = {crate.split()[0]: below.split() for crate, below in lines}
         return {crate: [one for one in below if one in named] for crate, below in named.items() if re.match("fs_|atomfs", crate)}
 
-    def test_picture_of_readme(self):
+    def test_picture_of_the_crates(self):
         """Each crate of the product is in the picture, on a line above all those on which it stands."""
-        picture = re.search(r"^## How it is built\n+```\n(.*?)^```$", README.read_text(), re.M | re.S)[1]
+        picture = blocks(DOCS / "ARCHITECTURE.md")[0]
         lines = {crate: line for line, shown in enumerate(picture.splitlines()) for crate in re.findall(r"\b(?:fs_|atomfs)\w*", shown)}
         self.agrees("the crates of the picture", sorted(lines), sorted(self.product()))
         below = [f"{crate} on {one}" for crate, named in self.product().items() for one in named if lines[one] <= lines[crate]]
@@ -611,7 +632,7 @@ class Listed(Page):
         calls = [name for _, cell in table(EMBEDDING, "To", "Call") for name in spans(cell)]
         self.agrees("the functions", sorted(calls), sorted(re.findall(r"^uint8_t (\w+)\(", header, re.M)))
         shown = [spans(status)[0] for status, *_ in table(EMBEDDING, "Status", "Means", "What to do")]
-        before = header[: header.index("From here on nothing has changed")]
+        before = header[: header.index("From here to ATOMFS_FAILED nothing has changed")]
         self.agrees("the statuses", shown, re.findall(r"^    (ATOMFS_\w+) = \d+,", before, re.M))
 
 

@@ -1,22 +1,119 @@
-"""The programs of examples/embed in C, Rust and Python, and the examples of docs/EMBEDDING.md, on the library as it is built."""
+"""The library for C as it is built: its typed calls, and calls that break its rules as far as it answers them (typed.c), its header, what it exports
+and what is packed; the programs of examples/embed in C, Rust and Python, and the examples of docs/EMBEDDING.md.
+
+With LIBATOMFS the programs of this folder take another library: its shared object, beside which the archive stands.
+"""
+import pathlib
+import re
+import shutil
 import subprocess
+import tarfile
+import tempfile
 import unittest
 
 import harness
 
+HEADER = harness.ROOT / "embed" / "atomfs.h"
+TYPED = harness.ROOT / "tests" / "typed.c"
 RUN = harness.ROOT / "examples" / "embed" / "run"
+STRICT = "-Wall", "-Wextra", "-Wpedantic", "-Wconversion", "-Werror"
+LANGUAGES = (
+    ("C99", ("cc", "-std=c99", "-x", "c")),
+    ("C11", ("cc", "-std=c11", "-x", "c")),
+    ("C++17", ("c++", "-std=c++17", "-x", "c++")),
+)
 # What examples/embed/run says of each program, in order.
 SAID = """\
-c: lawful, 9 calls returned
-c_valgrind: lawful, 9 calls returned
-c_sanitized: lawful, 9 calls returned
-rust: lawful, 7 calls returned
-rust_threads: lawful, 1200 calls returned
-python: lawful, 5 calls returned
+c: lawful, 11 calls returned
+c_valgrind: lawful, 11 calls returned
+c_sanitized: lawful, 11 calls returned
+rust: lawful, 410 calls returned
+python: lawful, 11 calls returned
 example_c: as docs/EMBEDDING.md says
 example_rust: as docs/EMBEDDING.md says
 example_python: as docs/EMBEDDING.md says
 """
+
+
+def built():
+    """Where the shared object is, once it is known that it may be looked at."""
+    harness.library()
+    return pathlib.Path(harness.found("LIBATOMFS", "dist/lib/libatomfs.so", "embed/build builds it"))
+
+
+def said(*words):
+    """What a program says, and its status."""
+    done = subprocess.run(words, capture_output=True, text=True, timeout=harness.MOST_SECONDS)
+    return f"{done.stdout}{done.stderr}status {done.returncode}"
+
+
+class Typed(harness.Case):
+    """tests/typed.c: each call, each error, small buffers, and hostile callers."""
+
+    WELL = "typed calls: as they are to be\nstatus 0"
+
+    @classmethod
+    def setUpClass(cls):
+        cls.archive = built().with_name("libatomfs.a")
+        cls.folder = cls.enterClassContext(tempfile.TemporaryDirectory())
+
+    def made(self, name, compiler, *flags):
+        """The program that a compiler makes of typed.c and the library."""
+        program = f"{self.folder}/{name}"
+        words = (*compiler, *STRICT, *flags, "-I", HEADER.parent, TYPED, "-x", "none", self.archive, "-o", program)
+        subprocess.run(words, check=True)
+        return program
+
+    def language(self, name, compiler):
+        if shutil.which(compiler[0]) is None:
+            self.skipTest(f"{compiler[0]} is not on the path")
+        self.same(name, said(self.made(name, compiler)), self.WELL)
+
+    def test_languages(self):
+        self.each(((name, name, compiler) for name, compiler in LANGUAGES), self.language)
+
+    def test_sanitized(self):
+        program = self.made("sanitized", LANGUAGES[0][1], "-g", "-fsanitize=address,undefined", "-fno-sanitize-recover=all")
+        self.same("typed.c with sanitizers", said(program), self.WELL)
+
+    @unittest.skipIf(shutil.which("valgrind") is None, "valgrind is not on the path")
+    def test_memcheck(self):
+        """No error, and no block that is lost or still in use."""
+        program = self.made("checked", LANGUAGES[0][1], "-g")
+        valgrind = "valgrind", "-q", "--leak-check=full", "--show-leak-kinds=all", "--errors-for-leak-kinds=all", "--error-exitcode=9"
+        self.same("typed.c under valgrind", said(*valgrind, program), self.WELL)
+
+
+class Built(harness.Case):
+    """The header, the names that the library exports, and the archive."""
+
+    def header(self, compiler):
+        if shutil.which(compiler[0]) is not None:
+            subprocess.run((*compiler, *STRICT, "-fsyntax-only", HEADER), check=True)
+
+    def test_header(self):
+        self.each(((name, compiler) for name, compiler in LANGUAGES), self.header)
+
+    def exported(self, path, *words):
+        found = subprocess.run(("nm", "--defined-only", *words, path), capture_output=True, text=True, check=True).stdout
+        names = re.findall(r" T (\w+)$", found, re.M)
+        declared = re.findall(r"^(?:uint8_t|const char \*) ?(\w+)\(", HEADER.read_text(), re.M)
+        self.same(f"what {path.name} exports", sorted(names), sorted(declared))
+
+    def test_names(self):
+        """The library exports what the header declares, and nothing else."""
+        shared = built()
+        self.each((("shared", shared, "-D"), ("archive", shared.with_name("libatomfs.a"), "--extern-only")), self.exported)
+
+    def test_archive(self):
+        """What embed/build packs, under the version of the header."""
+        dist = built().parent.parent
+        version = re.search('#define ATOMFS_VERSION "(.*)"', HEADER.read_text())[1]
+        name = f"atomfs-{version}-x86_64-linux"
+        with tarfile.open(dist / f"{name}.tar.gz") as archive:
+            packed = archive.getnames()
+        wanted = {"lib/libatomfs.a", "lib/libatomfs.so", "include/atomfs.h", "bin/atomfs"}
+        self.same("what is not packed", sorted(wanted - {one.removeprefix(f"{name}/") for one in packed}), [])
 
 
 class Embedded(harness.Case):

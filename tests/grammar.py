@@ -5,7 +5,9 @@ Calls and replies come in their canonical form, as the program writes them.
 import re
 
 LENGTH, THREADS, CALLS, EVENTS = 16_777_216, 256, 65_536, 1_000_000
+ENTRIES, FILE_BYTES = 256, 65_536
 NAME_BYTES, PATH_NAMES, GREATEST = 32, 64, 2**64 - 1
+CHECKPOINT = b"!checkpoint"
 ERRORS = ("ENOENT", "ENOTDIR", "EEXIST", "ENOTEMPTY", "EISDIR", "EINVAL", "EBUSY", "EPERM", "ENOSPC", "EFBIG")
 
 
@@ -141,14 +143,16 @@ def cut(line):
     return words
 
 
-def read(text, header, take, end=None):
-    """Hands the words of each line that is not passed over to `take`, up to a line that is the end. Answers how many lines there are."""
+def read(text, header, take, end=None, behind=1):
+    """Hands the words of each line that is not passed over to `take`, from behind so many lines up to a line that is the end. Answers how many
+    lines there are.
+    """
     if len(text) > LENGTH:
         raise Fault("TooLarge", 1)
     first, *lines = text.removesuffix(b"\n").split(b"\n")
     if first != header:
         raise Fault("BadHeader", 1)
-    for place, line in enumerate(lines, 2):
+    for place, line in enumerate(lines[behind - 1 :], 1 + behind):
         if line == end:
             break
         if not line or line.startswith(b"#"):
@@ -160,15 +164,69 @@ def read(text, header, take, end=None):
     return 1 + len(lines)
 
 
+def node(line):
+    """The node of a line of a tree, which is the very line that is written of it: its path, and its bytes unless it is a directory."""
+    match line.split(b" "):
+        case [b"dir", word]:
+            content = None
+        case [b"file", word, digits] if digits == b"-" or re.fullmatch(rb"([0-9a-f]{2})+", digits):
+            content = bytes.fromhex(digits.decode().removeprefix("-"))
+        case _:
+            raise Fault("BadStart")
+    root, *pieces = [b""] if word == b"/" else word.split(b"/")
+    if root or any(name(piece).encode() != piece for piece in pieces):
+        raise Fault("BadStart")
+    return tuple(map(decoded, pieces)), content
+
+
+def add_node(nodes, line):
+    """Adds the node of a line to those of a tree, whose next one it is."""
+    path, content = node(line)
+    if not path or not nodes:
+        right = not path and not nodes and content is None
+    else:
+        parent, siblings = path[:-1], [other for other in nodes if other[:-1] == path[:-1] and other]
+        right = path > next(reversed(nodes)) and nodes.get(parent, b"") is None and len(siblings) < ENTRIES and len(content or b"") <= FILE_BYTES
+    if not right:
+        raise Fault("BadStart")
+    nodes[path] = content
+
+
+def start(text):
+    """The nodes of the tree at which a journal starts, each None or a file's bytes by its path in order, and how many lines tell them."""
+    header, *lines = text.removesuffix(b"\n").split(b"\n")
+    if header != b"atomfs-journal 2":
+        return {(): None}, 1
+    nodes, begun = {}, False
+    for place, line in enumerate(lines, 2):
+        if not line or line.startswith(b"#"):
+            continue
+        if line == b"entries" and nodes:
+            return nodes, place
+        try:
+            if begun:
+                add_node(nodes, line)
+            elif line != b"start":
+                raise Fault("BadStart")
+        except Fault:
+            raise Fault("BadStart", place) from None
+        begun = True
+    raise Fault("BadStart", 2 + len(lines))
+
+
 def journal(text):
     """The entries of a journal."""
-    entries = []
-    read(text, b"atomfs-journal 1", lambda words: entries.append(entry(words)), end=b"tree")
+    if len(text) > LENGTH:
+        raise Fault("TooLarge", 1)
+    entries, (_, behind) = [], start(text)
+    read(text, b"atomfs-journal 1" if behind == 1 else b"atomfs-journal 2", lambda words: entries.append(entry(words)), b"tree", behind)
     return entries
 
 
 class Script:
-    """The calls of each thread, by the order of the blocks; the events of the schedule, as threads with numbers; and whether rounds follow."""
+    """The calls of each thread, by the order of the blocks; the events of the schedule, as threads with numbers, and its checkpoints, as a word
+    that is no thread; and whether rounds follow.
+    """
 
     def __init__(self, text):
         self.calls, self.events, self.finishes = {}, None, False
@@ -211,6 +269,9 @@ class Script:
             raise Fault("BadWord")
         if word == b"finish":
             self.finishes = True
+            return
+        if word == CHECKPOINT:
+            self.events.append((word.decode(), 1))
             return
         if thread not in self.calls or star and not re.fullmatch("[1-9][0-9]{0,6}", times) or int(times or 1) > EVENTS:
             raise Fault("BadWord")

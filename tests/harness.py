@@ -19,7 +19,6 @@ DATA = ROOT / "tests" / "data"
 MOST_SECONDS = 120
 
 sys.dont_write_bytecode = True
-sys.path.insert(0, str(ROOT / "examples" / "embed"))
 import atomfs
 
 
@@ -75,11 +74,16 @@ def program_at(path):
     found.cache_clear()
 
 
+def library_at():
+    """The path of the shared object."""
+    return found("LIBATOMFS", "dist/lib/libatomfs.so", "embed/build builds it")
+
+
 @functools.cache
 def library():
     if answer is not spawned:
         raise unittest.SkipTest("the library for C is looked at where it is proved and built")
-    return atomfs.Library(found("LIBATOMFS", "dist/lib/libatomfs.so", "embed/build builds it"))
+    return atomfs.Library(library_at())
 
 
 def told(ask, given):

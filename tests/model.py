@@ -30,6 +30,16 @@ class Tree:
     def __init__(self):
         self.nodes = {(): set()}
 
+    @classmethod
+    def of(cls, nodes):
+        """The tree of these nodes, by their paths in order, where None stands for a directory."""
+        tree = cls()
+        for path, content in nodes.items():
+            if path:
+                tree.nodes[path] = set() if content is None else content
+                tree.nodes[path[:-1]].add(path[-1])
+        return tree
+
     def resolve(self, path):
         """The node at a path, or the error of its longest prefix that is there."""
         for depth in range(len(path)):

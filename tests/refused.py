@@ -7,10 +7,12 @@ CHECKS names another program than crates/checks/out/checks, ARCHIVE another arch
 """
 import concurrent.futures
 import ctypes
+import errno
 import itertools
 import os
 import tempfile
 import unittest
+import urllib.parse
 
 import harness
 import atomfs
@@ -140,7 +142,9 @@ class Checks(Preloaded):
         self.same("checks refused", whole, Outcome(0, section(b"refused")))
         for number, came in enumerate(outcomes, 1):
             self.same(f"checks refused, of which growth {number} is refused", but_last_line(came), but_last_line(whole))
-        self.assertTrue(any(came != whole for came in outcomes), "no refused growth was counted")
+        # A job whose begin is refused is answered so, and is not begun once more.
+        lasts = {came.output.splitlines()[-1] for came in outcomes}
+        self.same("last lines that are never told", {b"refused: 0, jobs 1", b"refused: 1, jobs 0"} - lasts, set())
 
 
 # Every growth from some on.
@@ -353,6 +357,37 @@ class Played(atomfs.Tree):
         if told is not None:
             self.case.same(f"the reply that {line} tells", told, reply)
 
+    def typed(self, seat, line):
+        """What the typed call of a line answers, as the text of a reply."""
+        name, path, *more = line.split(" ")
+        path = urllib.parse.unquote_to_bytes(path)
+        if name in ("mkdir", "mknod", "unlink", "rmdir"):
+            answer = getattr(self, name)(seat, path)
+        elif name in ("rename", "exchange"):
+            answer = getattr(self, name)(seat, path, urllib.parse.unquote_to_bytes(more[0]))
+        elif name == "write":
+            answer = self.write(seat, path, int(more[0]), bytes.fromhex(more[1]))
+        else:
+            answer = getattr(self, name)(seat, path, *map(int, more))
+        if name == "stat":
+            return f"stat {'dir' if answer.is_dir else 'file'} {answer.size}".encode()
+        if name == "readdir":
+            return " ".join(["names", *(model.escaped(name) for name in answer)]).encode()
+        if name == "read":
+            return f"bytes {answer.hex() or '-'}".encode()
+        return b"ok" if answer is None else b"wrote %d" % answer
+
+    def told(self, seat, line):
+        try:
+            return self.typed(seat, line)
+        except OSError as error:
+            return f"failed {errno.errorcode[error.errno]}".encode()
+
+    def by_typed(self, seat, line):
+        """A typed call. Where its names were untold, they are asked for again."""
+        told = self.asked("typed", self.told, seat, line)
+        self.case.same(f"what the typed call of {line} tells", told, self.has_returned(seat, line, self.wanted.count + 1))
+
     def returns(self, seat):
         """Steps the call of a seat to its return."""
         for _ in range(MOST_STEPS):
@@ -426,6 +461,38 @@ class Library(Case):
     def test_calls(self):
         """Calls that are made at once. A step of theirs can do without a smaller block."""
         self.in_turn(Played.by_call, {("call", "NO_MEMORY"), ("call", "UNTOLD"), ("call", "OK")})
+
+    def test_typed(self):
+        """Typed calls. A step of theirs can do without a smaller block, and names that are untold are asked for again."""
+        self.in_turn(Played.by_typed, {("typed", "NO_MEMORY"), ("typed", "OK")})
+
+    def checkpointed(self, calls, number):
+        """A checkpoint where the growth of a number is refused, and another one: what is handed out, and what stands then."""
+        self.heap.refuse(0, 0)
+        with Played(self, self.library) as tree:
+            tree.opened(seats_of(calls))
+            for seat, line in calls:
+                tree.by_call(seat, line)
+            self.heap.refuse(number, number)
+            status, piece = status_of(tree.checkpoint)
+            refusals, growths = self.heap.refusals(), self.heap.growths()
+            self.heap.refuse(0, 0)
+            self.same("the status of a checkpoint", status, Status.NO_MEMORY if refusals else Status.OK)
+            if refusals:
+                tree.is_unchanged("checkpoint")
+                piece = tree.checkpoint()
+            self.same("the piece", piece, tree.wanted.journal())
+            nodes = tree.wanted.tree().removeprefix(b"tree\n")
+            self.same("what stands then", tree.journal(), b"atomfs-journal 2\nstart\n" + nodes + b"entries\n")
+            self.same("the tree", tree.tree(), tree.wanted.tree())
+            self.same("the next call", tree.begin(0, b"stat /"), 1)
+            self.same("a checkpoint with a call under way", status_of(tree.checkpoint), (Status.UNDER_WAY, 1))
+        self.nothing_is_held()
+        return growths
+
+    def test_checkpoint(self):
+        growths = self.checkpointed(LISTS["one seat"], 0)
+        self.each(((f"growth {number}", LISTS["one seat"], number) for number in range(1, growths + 1)), self.checkpointed)
 
     def test_steps(self):
         """Calls step by step: a begin may lack memory, and no step."""

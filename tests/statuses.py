@@ -33,7 +33,7 @@ begun 2 committed 2 returned 1
 NO_CALL_BEGUN = b"atomfs-journal 1\ntree\ndir /\nbegun 0 committed 0 returned 0\n"
 WRONG = b"atomfs-journal 1\nbegin 1 0 mkdir /a\ncommit 1\nreturn 1 failed EEXIST\n"
 SLASH = b"atomfs 1\nthread t\nmkdir /a/\nschedule\n"
-COMMANDS = (("run",), ("run", "--robin"), ("run", "--seed", "1"), ("seeds", "--seed", "1", "--runs", "2"), ("threads",), ("check",))
+COMMANDS = (("run",), ("run", "--robin"), ("run", "--seed", "1"), ("seeds", "--seed", "1", "--runs", "2"), ("threads",), ("check",), ("trace",), ("draw",), ("schedule", "--robin"))
 # What `atomfs explain` knows. tests/documents.py looks at each.
 KINDS = re.search(r"possible values: (.*)\]", (HELP / "explain").read_text())[1].split(", ")
 NOT_UTF_8 = Outcome(2, b"", b"atomfs: an argument is not UTF-8\n")
@@ -94,8 +94,12 @@ class Words(Case):
             ("seeds --seed 1 --runs 10000", EMPTY, lawful(1, 10_000)),
             ("threads", of(HELPED), Outcome(0, b"lawful calls 4\n")),
             ("check", of(HELPED, "text"), Outcome(0, b"lawful\n")),
-            ("--version", b"", Outcome(0, b"atomfs 0.1.0\n")),
-            ("-V", b"", Outcome(0, b"atomfs 0.1.0\n")),
+            ("trace", of(HELPED), Outcome(0, (DATA / "traces" / "helped_mkdir.trace").read_bytes())),
+            ("draw", of(HELPED), Outcome(0, (DATA / "pictures" / "helped_mkdir.svg").read_bytes())),
+            ("draw --seed 7", of(HELPED, "text"), Outcome(0, (DATA / "pictures" / "helped_mkdir_journal.svg").read_bytes())),
+            ("schedule --robin", of(ONE_CALL), Outcome(0, b"atomfs 1\nthread t\nmkdir /a\nschedule\nt*5\n")),
+            ("--version", b"", Outcome(0, b"atomfs 0.2.0\n")),
+            ("-V", b"", Outcome(0, b"atomfs 0.2.0\n")),
         ))
 
     def test_calls_left(self):
@@ -109,6 +113,7 @@ class Words(Case):
             ("none of a drawn run", "run --seed 7", of(CUT), well(CUT, "drawn.text")),
             ("none of drawn runs", "seeds --seed 7 --runs 3", of(CUT), lawful(7, 3)),
             ("none on threads", "threads", of(CUT), Outcome(0, b"lawful calls 1\n")),
+            ("told by a trace", "trace", THREE_CALLS.replace(b"t*9", b"t*1"), Outcome(1, b"atomfs-trace 1\nthread t\n1 t#1 begins mkdir /a\nleft t#1 mkdir /a\nleft t unbegun mkdir /b\nleft t unbegun mkdir /c\ntree\ndir /\nbegun 1 committed 0 returned 0\n")),
             ("there are none on threads", "threads", EMPTY, Outcome(0, b"lawful calls 0\n")),
         ))
 
@@ -123,6 +128,12 @@ class Words(Case):
             ("a slash too many", "run", SLASH, malformed("line 3: BadPath TrailingSlash")),
             ("a slash too many by round robin", "run --robin", SLASH, malformed("line 3: BadPath TrailingSlash")),
             ("a slash too many in a drawn run", "run --seed 1", SLASH, malformed("line 3: BadPath TrailingSlash")),
+            ("a journal is traced", "trace", of(HELPED, "text"), malformed("line 1: BadHeader")),
+            ("a schedule of a journal", "schedule --robin", of(HELPED, "text"), malformed("line 1: BadHeader")),
+            ("a slash too many in a trace", "trace", SLASH, malformed("line 3: BadPath TrailingSlash")),
+            ("a slash too many in a picture", "draw", SLASH, malformed("line 3: BadPath TrailingSlash")),
+            ("a journal of another version is drawn", "draw", b"atomfs-journal 3\n", malformed("line 1: BadHeader")),
+            ("a call that no journal has", "draw --around 5", of(HELPED, "text"), Outcome(2, b"", b"atomfs: there is no call 5\n")),
             ("a slash too many on threads", "threads", SLASH, malformed("line 3: BadPath TrailingSlash")),
             ("no schedule in drawn runs", "seeds --seed 0 --runs 1", b"atomfs 1\nthread t\nstat /\n", malformed("line 4: NoSchedule")),
         ))
@@ -159,6 +170,12 @@ class Words(Case):
             ("seeds --seed 7 --runs 10001", unread(10_001, "--runs <K>", "10001 is not in 1..=10000")),
             ("threads --seed 1", misused("unexpected argument '--seed' found", "threads < FILE")),
             ("check now", misused("unexpected argument 'now' found", "check < FILE")),
+            ("trace --all", misused("unexpected argument '--all' found", "trace [OPTIONS] < FILE")),
+            ("trace --robin --seed 1", misused("the argument '--robin' cannot be used with '--seed <N>'", "trace [OPTIONS] < FILE")),
+            ("draw --around -1", misused("unexpected argument '-1' found", "draw [OPTIONS] < FILE > PICTURE")),
+            ("draw --around x", unread("x", "--around <CALL>", "invalid digit found in string")),
+            ("schedule", misused(f"{missing}\n  --seed <N>", "schedule <--robin|--seed <N>> < FILE")),
+            ("schedule --robin --seed 1", misused("the argument '--robin' cannot be used with '--seed <N>'", "schedule <--robin|--seed <N>> < FILE")),
             ("explain", misused(f"{missing}\n  <KIND>", of_explain)),
             ("explain Slash", no_kind("Slash", "<KIND>")),
             ("explain badpath", no_kind("badpath", "<KIND>", "\n\n  tip: a similar value exists: 'BadPath'")),
@@ -168,12 +185,12 @@ class Words(Case):
 
     def test_help(self):
         rows = [(words, "atomfs") for words in ("help", "--help", "-h")]
-        rows += [(words, name) for name in ("run", "seeds", "threads", "check", "explain") for words in (f"help {name}", f"{name} --help", f"{name} -h")]
+        rows += [(words, name) for name in ("run", "seeds", "threads", "check", "trace", "draw", "schedule", "explain") for words in (f"help {name}", f"{name} --help", f"{name} -h")]
         self.all_end((words, words, b"", Outcome(0, (HELP / name).read_bytes())) for words, name in rows)
 
     def pasted(self, line):
-        """The words and the input of an example: `WORDS < FILE`, up to a pipe, `printf TEXT | WORDS`, or words without an input."""
-        first, *behind = line.strip().split(" | ")
+        """The words and the input of an example: `WORDS < FILE`, up to a pipe or `> FILE`, `printf TEXT | WORDS`, or words without an input."""
+        first, *behind = line.strip().split(" > ")[0].split(" | ")
         if first.startswith("printf "):
             return behind[0], shlex.split(first)[1].replace("\\n", "\n").encode()
         words, _, given = first.partition(" < ")
@@ -239,6 +256,8 @@ class Process(Case):
             ("a run", ("run",), of(ONE_CALL), 5),
             ("a run with calls left", ("run",), of(CUT), 5),
             ("a journal that is not lawful", ("check",), WRONG, 5),
+            ("a trace", ("trace",), of(ONE_CALL), 5),
+            ("a picture", ("draw",), of(ONE_CALL), 5),
             ("what a fault means", ("explain", "Dot"), b"", 5),
         ), self.unheard)
 

@@ -140,8 +140,8 @@ def written(entries):
 class History:
     """The entries of a journal so far, by the table of verdicts of docs/SPECIFICATION.md: an entry answers the kind of its fault, or None."""
 
-    def __init__(self):
-        self.tree, self.calls, self.due, self.returned, self.last = model.Tree(), {}, {}, set(), {}
+    def __init__(self, start):
+        self.tree, self.calls, self.due, self.returned, self.last = model.Tree.of(start), {}, {}, set(), {}
 
     def begin(self, number, seat, *call):
         if number in self.calls:
@@ -167,9 +167,10 @@ class History:
         self.returned.add(number)
 
 
-def verdict(entries):
-    """The line of the verdict on entries, by the model."""
-    history = History()
+def verdict(text):
+    """The line of the verdict on a journal, by the model."""
+    entries, (start, _) = grammar.journal(text), grammar.start(text)
+    history = History(start)
     take = {"begin": history.begin, "commit": history.commit, "return": history.returns}
     for place, entry in enumerate(entries, 1):
         kind, *words = entry.split(" ")
@@ -186,6 +187,9 @@ class Rows:
 
     def test_journals(self):
         self.each(rows("journals"), self.look)
+
+    def test_starts(self):
+        self.each(rows("starts"), self.look)
 
     def test_lines(self):
         self.each(rows("lines"), self.look)
@@ -211,7 +215,7 @@ class OfTheGrammar(Rows, Case):
         script = grammar.Script(text)
         seats = {thread: seat for seat, thread in enumerate(script.calls)}
         calls = [f"{seats[thread]} {call}" for thread, calls in script.calls.items() for call in calls]
-        words = [f"{seats[thread]}*{times}" for thread, times in script.events] + ["finish"] * script.finishes
+        words = [f"{seats[thread]}*{times}" if thread in seats else thread for thread, times in script.events] + ["finish"] * script.finishes
         self.same(text, calls + words or ["no call, no word"], answer)
 
     def look_at_counts(self, text, answer):
@@ -229,7 +233,7 @@ class OfTheGrammar(Rows, Case):
         self.same(text, written(grammar.journal(text)), wanted)
 
     def look_at_verdict(self, text, answer):
-        self.same(text, verdict(grammar.journal(text)), answer[0])
+        self.same(text, verdict(text), answer[0])
 
 
 class OfTheProgram(Rows, Case):
@@ -268,6 +272,46 @@ class OfTheProgram(Rows, Case):
 
     def look_at_verdict(self, text, answer):
         self.same(text, run(text, "check"), Outcome(int(answer != ["lawful"]), text_of(answer[0])))
+
+
+def starting(*nodes):
+    """A journal without entries that starts at the tree of these nodes behind the root."""
+    return text_of("atomfs-journal 2", "start", "dir /", *nodes, "entries")
+
+
+class Starts(Case):
+    """Start trees at a limit, and past it: the fault is at the line of the last node."""
+
+    BRANCH = ["/n" * depth for depth in range(1, 66)]
+    ROWS = {
+        "256 entries": [f"dir /{place:03}" for place in range(256)],
+        "entries below a file's": ["dir /a", *(f"file /a/{place:03} -" for place in range(256)), "file /b -"],
+        "more names than a path has": [f"dir {path}" for path in BRANCH],
+        "a file below them": [*(f"dir {path}" for path in BRANCH), f"file {BRANCH[-1]}/f 00"],
+        "a name of 32 bytes": ["dir /" + "n" * 32],
+        "32 escaped bytes": ["dir /" + "%FF" * 32],
+    }
+    PAST = {
+        "257 entries": [f"dir /{place:03}" for place in range(257)],
+        "257 entries of a directory": ["dir /a", *(f"file /a/{place:03} -" for place in range(257))],
+        "a name of 33 bytes": ["dir /" + "n" * 33],
+        "33 escaped bytes": ["dir /" + "%FF" * 33],
+    }
+
+    def test_within(self):
+        self.each(((name, starting(*nodes)) for name, nodes in self.ROWS.items()), self.look)
+
+    def look(self, text):
+        self.same(text, verdict(text), "lawful")
+        self.same(text, run(text, "check"), Outcome(0, b"lawful\n"))
+
+    def test_past(self):
+        self.each(((name, starting(*nodes), 3 + len(nodes)) for name, nodes in self.PAST.items()), self.look_past)
+
+    def look_past(self, text, line):
+        fault = attempted("journal", text)
+        self.same(text, str(fault), f"line {line}: BadStart")
+        self.same(text, run(text, "check"), outcome_of(fault))
 
 
 # What texts are drawn from. A letter P, N, H, E or T that is a word, or the thread of a word, stands for one of these.
@@ -453,11 +497,11 @@ class OfTheLibrary(Case):
         calls = {seat: calls if script.finishes else calls[: len(begun.get(seat, []))] for seat, calls in enumerate(script.calls.values())}
         self.same(text, begun, {seat: given for seat, given in calls.items() if given})
         self.same(text, told("journal", came), b"lawful\n")
-        self.same(text, verdict(grammar.journal(came)), "lawful")
+        self.same(text, verdict(came), "lawful")
 
     def look_at_journal(self, text, entries):
         """Its verdict is that of the model, and that of the journal that is written from its entries."""
-        wanted = verdict(entries)
+        wanted = verdict(text)
         self.came.add(("verdict", wanted.split(" ")[-1]))
         self.same(text, told("journal", text), text_of(wanted))
         self.same(text, told("journal", written(entries)), text_of(wanted))

@@ -1,0 +1,330 @@
+"""Traces of runs, and the scripts that `atomfs schedule` writes: the words of each event, and that a written schedule is the run again.
+
+tests/data/traces has the trace of each worked script by its own schedule. Each event of a trace is looked at beside what the library answers at it, and the
+paths beside the tree that the library has then. Which events are told is worked out here once more, from a trace of every one.
+"""
+import ctypes
+import random
+import re
+import unittest
+
+import drawn
+import events
+import harness
+from harness import DATA, ROOT, Case, Outcome, atomfs, library, run
+from worked import EXAMPLES, RUNS, examples
+
+TRACES = DATA / "traces"
+# Drawn runs whose schedule is written and run, and drawn runs whose events are compared with the library's.
+SEEDS = 1_000
+DRAWN = 60
+PATH = r"/(?:[!-\$&-.0-~]|%[0-9A-F]{2}|/)*"
+WHO = r"([a-z][a-z0-9_]*)#([1-9][0-9]*)"
+ERRNO = "ENOENT|ENOTDIR|EEXIST|ENOTEMPTY|EISDIR|EINVAL|EBUSY|EPERM|ENOSPC|EFBIG"
+EFFECT = rf"adds {PATH}|removes {PATH}|moves {PATH} (?:to|over) {PATH}|exchanges {PATH} with {PATH}|changes {PATH}|changes nothing|answers|fails (?:{ERRNO})"
+WHAT = {
+    "begun": re.compile(r"begins (.+)"),
+    "took": re.compile(rf"takes ({PATH})"),
+    "busy": re.compile(rf"waits for ({PATH}) held by {WHO}"),
+    "let go": re.compile(rf"lets ({PATH}) go(?:, (removed)|, taken as ({PATH}))?"),
+    "helped": re.compile(rf"helps {WHO}, commits it at ({PATH})"),
+    "committed": re.compile(rf"commits, ({EFFECT})"),
+    "carried out": re.compile(rf"carries out, ({EFFECT})"),
+    "returned": re.compile(r"returns (.+)"),
+}
+EVENT = re.compile(rf"([1-9][0-9]*) (?:{WHO} (.*)|([a-z][a-z0-9_]*) has nothing left)")
+LEFT = re.compile(rf"left (?:{WHO}|([a-z][a-z0-9_]*) unbegun) (.+)")
+# Its own schedule comes to a checkpoint, where no call is under way.
+PIECES = b"atomfs 1\nthread m\nmkdir /a\nmkdir /a/d\nthread r\nmknod /x\nschedule\nm*5 !checkpoint m*7 !checkpoint finish\n"
+# The same where one is, and where nothing is done at all.
+MET = b"atomfs 1\nthread m\nmkdir /a\nschedule\nm*2 !checkpoint finish\n", b"atomfs 1\nschedule\n!checkpoint\n"
+NOT_SHOWN = Outcome(3, b"", b"atomfs: a run with a checkpoint is not shown\n")
+# Two calls are under way, and others have not begun.
+CUT = b"atomfs 1\nthread m\nmkdir /a\nmkdir /a/d\nthread r\nmknod /x\nstat /a\nthread w\nmkdir /q\nschedule\nm*4 r*3\n"
+
+
+class Event:
+    """A line of a trace: its number, its thread, the number of its call, what it did, and what its words say of that."""
+
+    def __init__(self, line):
+        found = EVENT.fullmatch(line)
+        if not found:
+            raise ValueError(f"no line of a trace: {line}")
+        self.line, self.number, self.thread, self.call = line, int(found[1]), found[2] or found[5], int(found[3] or 0)
+        self.did, self.says = "idle", ()
+        if found[4]:
+            matches = [(did, match.groups()) for did, what in WHAT.items() if (match := what.fullmatch(found[4]))]
+            if len(matches) != 1:
+                raise ValueError(f"no line of a trace: {line}")
+            self.did, self.says = matches[0]
+
+
+class Trace:
+    """A trace as its text says it."""
+
+    def __init__(self, text):
+        head, rest = text.decode().split("tree\n", 1)
+        lines = head.splitlines()
+        if lines[0] != "atomfs-trace 1":
+            raise ValueError("the first line of a trace is another")
+        self.threads = [line.removeprefix("thread ") for line in lines[1:] if line.startswith("thread ")]
+        lines = lines[1 + len(self.threads) :]
+        self.left = [line for line in lines if LEFT.fullmatch(line)]
+        self.events = [Event(line) for line in lines[: len(lines) - len(self.left)]]
+        self.end = f"tree\n{rest}"
+
+
+def without_repetitions(told):
+    """The lines of a trace that is not told to show every event: no idle turns, and no wait for whom its thread waited in its last event. Of one call such
+    waits are for one node, whose path may have changed."""
+    last, kept = {}, []
+    for event in told:
+        waits = event.says[1:] if event.did == "busy" else None
+        repeats = waits and last.get(event.thread) == waits
+        last[event.thread] = waits
+        if event.did != "idle" and not repeats:
+            kept.append(event.line)
+    return kept
+
+
+def words(*more):
+    return ("trace", *more)
+
+
+def script_of(number):
+    """A drawn script of calls that meet, with renames and exchanges above them."""
+    draw = random.Random(number)
+    return drawn.script(drawn.exchanging(draw) if number % 3 == 0 else drawn.moving(draw)).encode()
+
+
+def calls_of(script):
+    """The lines of each thread's calls."""
+    calls = {}
+    for line in script.decode("latin-1").split("\nschedule", 1)[0].splitlines()[1:]:
+        if line.startswith("thread "):
+            calls[line.removeprefix("thread ")] = []
+        elif line and not line.startswith("#"):
+            list(calls.values())[-1].append(line)
+    return calls
+
+
+class Stored(Case):
+    """The trace of each worked script is stored."""
+
+    def look(self, example, script):
+        stored = TRACES / f"{example.name}.trace"
+        cut = (RUNS / f"{example.name}.status").exists()
+        self.same(script.decode(errors="backslashreplace"), run(script, *words()), Outcome(int(cut), stored.read_bytes() if stored.exists() else b""))
+
+    def test_worked_scripts(self):
+        rows = [(path.name, path, script) for folder in (RUNS, EXAMPLES) for path, script in examples(folder, "script")]
+        self.each(rows, self.look)
+
+    def test_each_is_of_a_script(self):
+        scripts = {path.name for folder in (RUNS, EXAMPLES) for path, _ in examples(folder, "script")}
+        self.same("the traces that are of no script", sorted(path.stem for path in TRACES.iterdir() if path.stem not in scripts), [])
+
+
+class Words(Case):
+    """What stands in a trace, and what does not."""
+
+    def ends_as_the_run(self, script, *schedule):
+        every, short, ran = (run(script, *more, *schedule) for more in (words("--every"), words(), ("run",)))
+        if not harness.compares:
+            return
+        given = script.decode(errors="backslashreplace")
+        told, told_short = Trace(every.output), Trace(short.output)
+        self.same(given, [event.number for event in told.events], list(range(1, len(told.events) + 1)))
+        self.same(given, [event.line for event in told_short.events], without_repetitions(told.events))
+        self.same(given, (told.end, every.status, told_short.end, told_short.left), (ran.output.decode()[-len(told.end) :], ran.status, told.end, told.left))
+        self.same(given, ran.output.decode().count("\ntree\n"), 1)
+        self.same(given, len(told.end), len(ran.output.decode().split("\ntree\n", 1)[1]) + len("tree\n"))
+
+    def test_by_each_schedule(self):
+        rows = [
+            (f"{path.name}_{'_'.join(schedule)}", script, *schedule)
+            for folder in (RUNS, EXAMPLES)
+            for path, script in examples(folder, "script")
+            for schedule in ((), ("--robin",), ("--seed", "7"))
+        ]
+        self.each(rows, self.ends_as_the_run)
+
+    def test_calls_left(self):
+        told = run(CUT, *words())
+        if harness.compares:
+            wanted = ["left m#1 mkdir /a", "left m unbegun mkdir /a/d", "left r#2 mknod /x", "left r unbegun stat /a", "left w unbegun mkdir /q"]
+            self.same(CUT.decode(), (told.status, Trace(told.output).left), (1, wanted))
+
+    def test_faults_are_those_of_run(self):
+        for given in (b"", b"atomfs 1\nthread T\nschedule\n", b"atomfs 1\nthread t\nmkdir a\nschedule\n"):
+            self.same(given.decode(), run(given, *words()), run(given, "run"))
+            self.same(given.decode(), run(given, "schedule", "--robin"), run(given, "run"))
+
+
+def tree_paths(text):
+    return {line.split(" ")[1] for line in text.splitlines() if line.startswith(("dir ", "file "))}
+
+
+def moved(path, old, new):
+    """A path after what is at `old` stands at `new`."""
+    if path == old or path.startswith(old + "/"):
+        return new + path[len(old) :]
+    return path
+
+
+class Checkpoints(Case):
+    """A run that comes to a checkpoint has no trace; where the words of the script are not used, all is as without the word."""
+
+    def test_the_given_schedule(self):
+        for given in (PIECES, *MET):
+            for more in ((), ("--every",)):
+                self.same(given.decode(), run(given, *words(*more)), NOT_SHOWN)
+
+    def test_other_schedules(self):
+        for given in (PIECES, *MET):
+            plain = given.replace(b"!checkpoint ", b"").replace(b"!checkpoint", b"")
+            for schedule in (("--robin",), ("--seed", "7")):
+                for asked in (words(), words("--every"), ("schedule",)):
+                    came = run(given, *asked, *schedule)
+                    self.same(given.decode(), came, run(plain, *asked, *schedule))
+                    self.same(given.decode(), (came.status, b"!checkpoint" in came.output), (0, False))
+
+    def test_a_written_schedule(self):
+        harness.takes_a_process()
+        for given in (PIECES, *MET):
+            for schedule in (("--robin",), ("--seed", "7")):
+                written = run(given, "schedule", *schedule)
+                self.same(given.decode(), run(written.output, "run"), run(given, "run", *schedule))
+
+
+class OnTheLibrary(Case):
+    """Each event of a trace of every one is what the library answers, and each path is that of the node of which it answers."""
+
+    def follow(self, tree, told, calls):
+        """Has the events of a trace on the library, and answers the first that is another."""
+        seats = {name: tree.seat() for name in told.threads}
+        names, did, about = {}, ctypes.c_uint8(), ctypes.c_uint64()
+        left = {name: list(calls[name])[::-1] for name in told.threads}
+        begun = 0
+        for event in told.events:
+            before = tree_paths(tree.tree().decode())
+            if event.did == "idle":
+                if left[event.thread]:
+                    return f"{event.line}: a call is left"
+                continue
+            if event.did == "begun":
+                call = left[event.thread].pop()
+                tree.begin(seats[event.thread], call.encode("latin-1"))
+                begun += 1
+                entry = tree.journal().decode().splitlines()[-1]
+                if entry != f"begin {event.call} {seats[event.thread]} {event.says[0]}" or event.call != begun:
+                    return f"{event.line}: the journal says {entry}"
+                continue
+            tree.done(tree.library.atomfs_step(tree.handle, seats[event.thread], did, about))
+            if events.STEPS[did.value] != event.did:
+                return f"{event.line}: the library says {events.STEPS[did.value]}"
+            if wrong := self.wrong(event, about.value, names, before, tree_paths(tree.tree().decode())):
+                return f"{event.line}: {wrong}"
+        return None
+
+    def wrong(self, event, about, names, before, after):
+        """What is wrong with the words of an event, whose node or call the library names by a number; `names` has the paths of nodes so far."""
+        says = event.says
+        match event.did:
+            case "took":
+                if names.setdefault(about, says[0]) != says[0] or says[0] not in before:
+                    return f"node {about} is at {names[about]}"
+            case "busy":
+                if int(says[2]) != about or says[0] not in before:
+                    return f"call {about} holds it"
+            case "let go" if says[1]:
+                # A removed node gives its number back, and another node may get it.
+                names.pop(about, None)
+            case "let go":
+                if names.get(about) != says[0] or says[0] not in before:
+                    return f"node {about} is at {names.get(about)}"
+            case "helped":
+                if int(says[1]) != about or says[2] not in before:
+                    return f"it helps call {about}"
+            case "committed" | "carried out":
+                return self.wrong_effect(says[0].split(" "), names, before, after)
+            case "returned":
+                return None
+        return None
+
+    def wrong_effect(self, effect, names, before, after):
+        match effect:
+            case ["adds", path]:
+                wanted = before | {path}
+            case ["removes", path]:
+                wanted = before - {path}
+            case ["moves", old, how, new]:
+                if (how == "over") != (new in before):
+                    return "it moves over what is there, and to what is not"
+                wanted = {moved(path, old, new) for path in before if how != "over" or not (path == new or path.startswith(new + "/"))}
+                for node, path in names.items():
+                    names[node] = moved(path, old, new)
+            case ["exchanges", one, "with", other]:
+                swap = lambda path: moved(moved(moved(path, one, "%"), other, one), "%", other)
+                wanted = {swap(path) for path in before}
+                for node, path in names.items():
+                    names[node] = swap(path)
+            case _:
+                wanted = before
+        return None if after == wanted else f"the tree changes by {sorted(before ^ after)}"
+
+    def look(self, script, *schedule):
+        tree_library = library()
+        told = Trace(run(script, *words("--every"), *schedule).output)
+        with atomfs.Tree(tree_library, 1_048_576) as tree:
+            self.same(script.decode(errors="backslashreplace"), self.follow(tree, told, calls_of(script)), None)
+
+    def test_worked_scripts(self):
+        library()
+        rows = [(path.name, script) for folder in (RUNS, EXAMPLES) for path, script in examples(folder, "script")]
+        self.each(rows, self.look)
+
+    def test_drawn_scripts(self):
+        library()
+        rows = [(f"script_{number}_{order}", script_of(number), "--seed", str(number)) for number in range(DRAWN) for order in ("seed",)]
+        self.each(rows, self.look)
+
+
+class Schedules(Case):
+    """A run by a written schedule has the very text of the run that was written."""
+
+    def again(self, script, *schedule):
+        harness.takes_a_process()
+        ran, written = run(script, "run", *schedule), run(script, "schedule", *schedule)
+        self.same(script.decode(errors="backslashreplace"), (written.status, written.message), (0, b""))
+        self.same(written.output.decode(errors="backslashreplace"), run(written.output, "run"), ran)
+        blocks = script.decode(errors="backslashreplace").split("\nschedule", 1)[0]
+        self.same("the blocks", written.output.decode(errors="backslashreplace").split("\nschedule\n", 1)[0], blocks)
+        self.same("the width of a line", [line for line in written.output.splitlines() if b"*" in line and len(line) > 72], [])
+
+    def test_worked_scripts(self):
+        rows = [
+            (f"{path.name}_{schedule[-1]}", script, *schedule)
+            for folder in (RUNS, EXAMPLES)
+            for path, script in examples(folder, "script")
+            for schedule in (("--robin",), ("--seed", "7"))
+        ]
+        self.each(rows, self.again)
+
+    def test_seeds(self):
+        script = (EXAMPLES / "many_helped.script").read_bytes()
+        self.each([(f"seed_{seed}", script, "--seed", str(seed)) for seed in range(SEEDS)], self.again)
+
+    def test_too_many_events(self):
+        """A run by rounds of so many waiting threads takes more events than a script gives."""
+        harness.takes_a_process()
+        blocks = "".join(f"thread t{thread}\n" + "mkdir /a\n" * 250 for thread in range(60))
+        script = f"atomfs 1\n{blocks}schedule\n".encode()
+        self.same("60 threads with 250 calls each", run(script, "schedule", "--robin"), Outcome(4, b"", b"atomfs: the run takes more events than a script gives\n"))
+
+    def test_a_schedule_is_named(self):
+        self.same("atomfs schedule", run(CUT, "schedule").status, 2)
+
+
+if __name__ == "__main__":
+    unittest.main()

@@ -1,0 +1,485 @@
+/* The typed calls of the library for C, and calls that break its rules as far as it answers them: what each answers, writes
+ * and leaves. It ends with status 1 at the first answer that is another. */
+#include "atomfs.h"
+#include <stdio.h>
+#include <stdlib.h>
+#include <string.h>
+
+#define IS(found, wanted) is(#found, __LINE__, (unsigned long long)(found), (unsigned long long)(wanted))
+#define SAYS(out, count, text) says(#out, __LINE__, out, count, text, sizeof(text) - 1)
+
+static void is(const char *what, int line, unsigned long long found, unsigned long long wanted) {
+    if (found == wanted) return;
+    fprintf(stderr, "line %d: %s is %llu, and not %llu\n", line, what, found, wanted);
+    exit(1);
+}
+
+static void says(const char *what, int line, const void *out, size_t count, const char *text, size_t length) {
+    if (count == length && memcmp(out, text, length) == 0) return;
+    fprintf(stderr, "line %d: %s is another text, of %llu bytes\n", line, what, (unsigned long long)count);
+    exit(1);
+}
+
+/* Linux's numbers of the errors, which the header's statuses are to have. */
+enum { EPERM_ = 1, ENOENT_ = 2, EBUSY_ = 16, EEXIST_ = 17, ENOTDIR_ = 20, EISDIR_ = 21, EINVAL_ = 22, EFBIG_ = 27, ENOSPC_ = 28, ENOTEMPTY_ = 39 };
+
+#define PATH(text) text, sizeof(text) - 1
+#define FAILS(call, errno_) IS(call, ATOMFS_FAILED + errno_)
+
+static atomfs fs = ATOMFS_INIT;
+static uint64_t seat, other_seat, number, wrote;
+static size_t count, entries;
+static char out[9000];
+static struct atomfs_stat stat_;
+
+static void open_fs(size_t limit) {
+    IS(atomfs_open(&fs, limit), ATOMFS_OK);
+    IS(atomfs_seat(&fs, &seat), ATOMFS_OK);
+    IS(seat, 0);
+    IS(atomfs_seat(&fs, &other_seat), ATOMFS_OK);
+    IS(other_seat, 1);
+}
+
+static void each_call(void) {
+    open_fs(100);
+    IS(atomfs_mkdir(&fs, seat, PATH("/a"), &number), ATOMFS_OK);
+    IS(number, 1);
+    IS(atomfs_mknod(&fs, seat, PATH("/a/f"), &number), ATOMFS_OK);
+    IS(atomfs_write(&fs, seat, PATH("/a/f"), 2, "h\0llo", 5, &wrote, &number), ATOMFS_OK);
+    IS(wrote, 5);
+    IS(number, 3);
+    IS(atomfs_read(&fs, seat, PATH("/a/f"), 1, out, sizeof out, &count, &number), ATOMFS_OK);
+    SAYS(out, count, "\0h\0llo");
+    IS(atomfs_stat(&fs, seat, PATH("/a/f"), &stat_, &number), ATOMFS_OK);
+    IS(stat_.is_dir, 0);
+    IS(stat_.size, 7);
+    IS(atomfs_truncate(&fs, seat, PATH("/a/f"), 3, &number), ATOMFS_OK);
+    IS(atomfs_read(&fs, seat, PATH("/a/f"), 0, out, sizeof out, &count, &number), ATOMFS_OK);
+    SAYS(out, count, "\0\0h");
+    IS(atomfs_rename(&fs, seat, PATH("/a/f"), PATH("/g"), &number), ATOMFS_OK);
+    IS(atomfs_exchange(&fs, seat, PATH("/a"), PATH("/g"), &number), ATOMFS_OK);
+    IS(atomfs_stat(&fs, seat, PATH("/g"), &stat_, &number), ATOMFS_OK);
+    IS(stat_.is_dir, 1);
+    IS(stat_.size, 0);
+    IS(atomfs_readdir(&fs, seat, PATH("/"), out, sizeof out, &count, &number), ATOMFS_OK);
+    SAYS(out, count, "a\0g\0");
+    IS(atomfs_readdir(&fs, seat, PATH("/g"), out, sizeof out, &count, &number), ATOMFS_OK);
+    IS(count, 0);
+    IS(atomfs_rmdir(&fs, seat, PATH("/g"), &number), ATOMFS_OK);
+    IS(atomfs_unlink(&fs, seat, PATH("/a"), &number), ATOMFS_OK);
+    IS(atomfs_tree(&fs, out, sizeof out, &count), ATOMFS_OK);
+    SAYS(out, count, "tree\ndir /\n");
+    IS(atomfs_close(&fs), ATOMFS_OK);
+}
+
+/* Paths are bytes: no escape is read, and any byte may stand but 0 and the slash. */
+static void plain_paths(void) {
+    open_fs(10);
+    IS(atomfs_mkdir(&fs, seat, PATH("/a b%20\n\377"), &number), ATOMFS_OK);
+    IS(atomfs_mkdir(&fs, seat, PATH("//a b%20\n\377///x"), &number), ATOMFS_OK);
+    IS(atomfs_readdir(&fs, seat, PATH("/"), out, sizeof out, &count, &number), ATOMFS_OK);
+    SAYS(out, count, "a b%20\n\377\0");
+    IS(atomfs_call(&fs, seat, PATH("stat /a%20b%2520%0a%ff"), out, sizeof out, &count, &number), ATOMFS_OK);
+    SAYS(out, count, "stat dir 1");
+    IS(atomfs_close(&fs), ATOMFS_OK);
+}
+
+static void each_error(void) {
+    open_fs(1000);
+    IS(atomfs_mkdir(&fs, seat, PATH("/d"), &number), ATOMFS_OK);
+    IS(atomfs_mkdir(&fs, seat, PATH("/d/e"), &number), ATOMFS_OK);
+    IS(atomfs_mknod(&fs, seat, PATH("/f"), &number), ATOMFS_OK);
+    FAILS(atomfs_mkdir(&fs, seat, PATH("/x/y"), &number), ENOENT_);
+    FAILS(atomfs_mkdir(&fs, seat, PATH("/f/y"), &number), ENOTDIR_);
+    FAILS(atomfs_mknod(&fs, seat, PATH("/d"), &number), EEXIST_);
+    FAILS(atomfs_rmdir(&fs, seat, PATH("/d"), &number), ENOTEMPTY_);
+    FAILS(atomfs_rmdir(&fs, seat, PATH("/"), &number), EBUSY_);
+    FAILS(atomfs_unlink(&fs, seat, PATH("/d"), &number), EPERM_);
+    FAILS(atomfs_rename(&fs, seat, PATH("/d"), PATH("/d/e/x"), &number), EINVAL_);
+    FAILS(atomfs_exchange(&fs, seat, PATH("/f"), PATH("/x"), &number), ENOENT_);
+    FAILS(atomfs_stat(&fs, seat, PATH("/x"), &stat_, &number), ENOENT_);
+    FAILS(atomfs_readdir(&fs, seat, PATH("/f"), out, sizeof out, &count, &number), ENOTDIR_);
+    FAILS(atomfs_read(&fs, seat, PATH("/d"), 0, out, sizeof out, &count, &number), EISDIR_);
+    FAILS(atomfs_write(&fs, seat, PATH("/f"), UINT64_MAX, "x", 1, &wrote, &number), EFBIG_);
+    FAILS(atomfs_truncate(&fs, seat, PATH("/f"), UINT64_MAX, &number), EFBIG_);
+    char name[] = "/d/n000";
+    for (int i = 0; i < 255; i++) {
+        snprintf(name + 4, 4, "%03d", i);
+        IS(atomfs_mknod(&fs, seat, name, 7, &number), ATOMFS_OK);
+    }
+    FAILS(atomfs_mknod(&fs, seat, PATH("/d/more"), &number), ENOSPC_);
+    FAILS(atomfs_reply_done(&fs, number), ENOSPC_);
+    FAILS(atomfs_reply_bytes(&fs, number, out, sizeof out, &count), ENOSPC_);
+    IS(atomfs_reply(&fs, number, out, sizeof out, &count), ATOMFS_OK);
+    SAYS(out, count, "failed ENOSPC");
+    IS(atomfs_close(&fs), ATOMFS_OK);
+}
+
+/* Every refusal leaves the journal as it was. */
+static void refusals(void) {
+    open_fs(2);
+    static const char *const bad[] = { "", "a", "a/b", "/a/", "/.", "/a/..", "/a/./b", "/123456789012345678901234567890123" };
+    for (size_t i = 0; i < sizeof bad / sizeof *bad; i++) {
+        IS(atomfs_mkdir(&fs, seat, bad[i], strlen(bad[i]), &number), ATOMFS_BAD_PATH);
+        IS(atomfs_rename(&fs, seat, PATH("/a"), bad[i], strlen(bad[i]), &number), ATOMFS_BAD_PATH);
+    }
+    char many[2 * 65];
+    for (int i = 0; i < 65; i++) memcpy(many + 2 * i, "/a", 2);
+    IS(atomfs_stat(&fs, seat, many, sizeof many, &stat_, &number), ATOMFS_BAD_PATH);
+    FAILS(atomfs_stat(&fs, seat, many, sizeof many - 2, &stat_, &number), ENOENT_);
+    IS(atomfs_unlink(&fs, seat, "/a\0b", 4, &number), ATOMFS_BAD_PATH);
+    IS(atomfs_mkdir(&fs, 2, PATH("/a"), &number), ATOMFS_NO_SEAT);
+    IS(atomfs_mkdir(&fs, UINT64_MAX, PATH("/a"), &number), ATOMFS_NO_SEAT);
+    IS(atomfs_mkdir(&fs, seat, PATH("/a"), &number), ATOMFS_OK);
+    IS(atomfs_mkdir(&fs, seat, PATH("/b"), &number), ATOMFS_FULL);
+    atomfs_request request = { ATOMFS_CALL_STAT, PATH("/"), NULL, 0, 0, 0, NULL, 0 };
+    IS(atomfs_begin_call(&fs, seat, &request, &number), ATOMFS_OK);
+    IS(atomfs_begin_call(&fs, seat, &request, &number), ATOMFS_SEAT_BUSY);
+    IS(atomfs_rmdir(&fs, seat, PATH("/a"), &number), ATOMFS_SEAT_BUSY);
+    request.call = ATOMFS_CALL_TRUNCATE + 1;
+    IS(atomfs_begin_call(&fs, other_seat, &request, &number), ATOMFS_BAD_LINE);
+    IS(atomfs_journal(&fs, 0, out, sizeof out, &count, &entries), ATOMFS_OK);
+    IS(entries, 7);
+    IS(atomfs_close(&fs), ATOMFS_OK);
+}
+
+static void step_to_return(uint64_t on) {
+    uint8_t did = ATOMFS_DID_IDLE;
+    uint64_t about;
+    do {
+        IS(atomfs_step(&fs, on, &did, &about), ATOMFS_OK);
+        if (did == ATOMFS_DID_IDLE) IS(did, ATOMFS_DID_RETURN);
+    } while (did != ATOMFS_DID_RETURN);
+}
+
+static uint64_t begun(const atomfs_request *request) {
+    IS(atomfs_begin_call(&fs, seat, request, &number), ATOMFS_OK);
+    step_to_return(seat);
+    return number;
+}
+
+/* Each call by its request, and its reply by its number. */
+static void step_by_step(void) {
+    open_fs(100);
+    atomfs_request request = { ATOMFS_CALL_MKDIR, PATH("/d"), NULL, 9, 0, 0, NULL, 9 };
+    IS(atomfs_reply_done(&fs, begun(&request)), ATOMFS_OK);
+    request.call = ATOMFS_CALL_MKNOD;
+    FAILS(atomfs_reply_done(&fs, begun(&request)), EEXIST_);
+    request.path = "/f";
+    IS(atomfs_reply_done(&fs, begun(&request)), ATOMFS_OK);
+    request.call = ATOMFS_CALL_WRITE;
+    request.offset = 1;
+    request.bytes = "xyz";
+    request.bytes_length = 3;
+    IS(atomfs_reply_wrote(&fs, begun(&request), &wrote), ATOMFS_OK);
+    IS(wrote, 3);
+    request.call = ATOMFS_CALL_READ;
+    request.size = 2;
+    IS(atomfs_reply_bytes(&fs, begun(&request), out, 2, &count), ATOMFS_OK);
+    SAYS(out, count, "xy");
+    IS(atomfs_reply_bytes(&fs, number, out, 1, &count), ATOMFS_TOO_SMALL);
+    IS(count, 2);
+    IS(atomfs_reply_stat(&fs, number, &stat_), ATOMFS_UNTOLD);
+    IS(atomfs_reply_done(&fs, number), ATOMFS_UNTOLD);
+    IS(atomfs_reply_names(&fs, number, NULL, 0, out, sizeof out, &count), ATOMFS_UNTOLD);
+    IS(atomfs_reply_wrote(&fs, number, &wrote), ATOMFS_UNTOLD);
+    request.call = ATOMFS_CALL_TRUNCATE;
+    IS(atomfs_reply_done(&fs, begun(&request)), ATOMFS_OK);
+    request.call = ATOMFS_CALL_STAT;
+    IS(atomfs_reply_stat(&fs, begun(&request), &stat_), ATOMFS_OK);
+    IS(stat_.is_dir, 0);
+    IS(stat_.size, 2);
+    IS(atomfs_reply_bytes(&fs, number, out, sizeof out, &count), ATOMFS_UNTOLD);
+    request.call = ATOMFS_CALL_EXCHANGE;
+    request.other = "/d";
+    request.other_length = 2;
+    IS(atomfs_reply_done(&fs, begun(&request)), ATOMFS_OK);
+    request.call = ATOMFS_CALL_RENAME;
+    request.path = "/d";
+    request.other = "/e";
+    IS(atomfs_reply_done(&fs, begun(&request)), ATOMFS_OK);
+    request.call = ATOMFS_CALL_READDIR;
+    request.path = "/";
+    request.length = 1;
+    IS(atomfs_reply_names(&fs, begun(&request), NULL, 0, out, sizeof out, &count), ATOMFS_OK);
+    SAYS(out, count, "e\0f\0");
+    request.call = ATOMFS_CALL_UNLINK;
+    request.path = "/e";
+    request.length = 2;
+    IS(atomfs_reply_done(&fs, begun(&request)), ATOMFS_OK);
+    request.call = ATOMFS_CALL_RMDIR;
+    request.path = "/f";
+    IS(atomfs_reply_done(&fs, begun(&request)), ATOMFS_OK);
+    IS(atomfs_reply_done(&fs, 0), ATOMFS_NO_REPLY);
+    IS(atomfs_reply_done(&fs, number + 1), ATOMFS_NO_REPLY);
+    IS(atomfs_reply_done(&fs, UINT64_MAX), ATOMFS_NO_REPLY);
+    IS(atomfs_close(&fs), ATOMFS_OK);
+}
+
+/* A typed call waits for one of another seat, goes on, and its reply is asked for. */
+static void waits(void) {
+    uint8_t did;
+    uint64_t about;
+    open_fs(100);
+    IS(atomfs_begin(&fs, other_seat, PATH("mkdir /a"), &number), ATOMFS_OK);
+    IS(atomfs_step(&fs, other_seat, &did, &about), ATOMFS_OK);
+    IS(did, ATOMFS_DID_TAKE);
+    IS(atomfs_readdir(&fs, seat, PATH("/"), out, sizeof out, &count, &number), ATOMFS_WAITS);
+    IS(number, 2);
+    IS(atomfs_reply_names(&fs, number, NULL, 0, out, sizeof out, &count), ATOMFS_NO_REPLY);
+    IS(atomfs_step(&fs, seat, &did, &about), ATOMFS_OK);
+    IS(did, ATOMFS_DID_WAIT);
+    IS(about, 1);
+    step_to_return(other_seat);
+    step_to_return(seat);
+    IS(atomfs_reply_names(&fs, number, NULL, 0, out, sizeof out, &count), ATOMFS_OK);
+    SAYS(out, count, "a\0");
+    IS(atomfs_close(&fs), ATOMFS_OK);
+}
+
+/* Bytes with no room change nothing, and all names come through a small buffer. */
+static void small_buffers(void) {
+    open_fs(100);
+    IS(atomfs_mkdir(&fs, seat, PATH("/a"), &number), ATOMFS_OK);
+    IS(atomfs_mkdir(&fs, seat, PATH("/bcd"), &number), ATOMFS_OK);
+    IS(atomfs_mkdir(&fs, seat, PATH("/c"), &number), ATOMFS_OK);
+    memset(out, '#', sizeof out);
+    IS(atomfs_readdir(&fs, seat, PATH("/"), out, 7, &count, &number), ATOMFS_TOO_SMALL);
+    IS(count, 8);
+    SAYS(out, (size_t)8, "########");
+    IS(atomfs_readdir(&fs, seat, PATH("/"), NULL, 0, &count, &number), ATOMFS_TOO_SMALL);
+    IS(atomfs_reply_names(&fs, number, NULL, 0, out, 7, &count), ATOMFS_OK);
+    SAYS(out, count, "a\0bcd\0");
+    IS(out[6], '#');
+    IS(atomfs_reply_names(&fs, number, PATH("a"), out, 5, &count), ATOMFS_OK);
+    SAYS(out, count, "bcd\0");
+    IS(atomfs_reply_names(&fs, number, PATH("a"), out, 3, &count), ATOMFS_TOO_SMALL);
+    IS(count, 4);
+    IS(atomfs_reply_names(&fs, number, PATH("bcd"), out, 2, &count), ATOMFS_OK);
+    SAYS(out, count, "c\0");
+    IS(atomfs_reply_names(&fs, number, PATH("c"), NULL, 0, &count), ATOMFS_OK);
+    IS(count, 0);
+    IS(atomfs_reply_names(&fs, number, PATH("bc"), out, 4, &count), ATOMFS_OK);
+    SAYS(out, count, "bcd\0");
+    IS(atomfs_mknod(&fs, seat, PATH("/f"), &number), ATOMFS_OK);
+    IS(atomfs_write(&fs, seat, PATH("/f"), 0, "12345", 5, &wrote, &number), ATOMFS_OK);
+    memset(out, '#', sizeof out);
+    IS(atomfs_read(&fs, seat, PATH("/f"), 0, out, 4, &count, &number), ATOMFS_OK);
+    SAYS(out, count, "1234");
+    IS(out[4], '#');
+    IS(atomfs_read(&fs, seat, PATH("/f"), 0, NULL, 0, &count, &number), ATOMFS_OK);
+    IS(count, 0);
+    IS(atomfs_read(&fs, seat, PATH("/f"), UINT64_MAX, out, 4, &count, &number), ATOMFS_OK);
+    IS(count, 0);
+    IS(atomfs_write(&fs, seat, PATH("/f"), 1, NULL, 0, &wrote, &number), ATOMFS_OK);
+    IS(wrote, 0);
+    IS(atomfs_close(&fs), ATOMFS_OK);
+}
+
+/* A checkpoint hands the journal out, and it begins again; by any other answer nothing has changed. */
+static void checkpoints(void) {
+    static const char first[] = "atomfs-journal 1\nbegin 1 0 mkdir /a\ncommit 1\nreturn 1 ok\n";
+    static const char opening[] = "atomfs-journal 2\nstart\ndir /\ndir /a\nentries\n";
+    static const char second[] = "atomfs-journal 2\nstart\ndir /\ndir /a\nentries\nbegin 1 1 rmdir /a\ncommit 1\nreturn 1 ok\n";
+    size_t length = sizeof first - 1;
+    open_fs(10);
+    IS(atomfs_opening(&fs, out, sizeof out, &count), ATOMFS_OK);
+    SAYS(out, count, ATOMFS_JOURNAL_HEADER);
+    IS(atomfs_mkdir(&fs, seat, PATH("/a"), &number), ATOMFS_OK);
+    IS(atomfs_checkpoint(&fs, NULL, 0, &count, &number), ATOMFS_TOO_SMALL);
+    IS(count, length);
+    memset(out, '#', sizeof out);
+    IS(atomfs_checkpoint(&fs, out, length - 1, &count, &number), ATOMFS_TOO_SMALL);
+    IS(count, length);
+    IS(out[0], '#');
+    IS(atomfs_begin(&fs, other_seat, PATH("stat /"), &number), ATOMFS_OK);
+    IS(atomfs_begin(&fs, seat, PATH("stat /a"), &number), ATOMFS_OK);
+    IS(atomfs_checkpoint(&fs, out, sizeof out, &count, &number), ATOMFS_UNDER_WAY);
+    IS(number, 2);
+    IS(out[0], '#');
+    step_to_return(other_seat);
+    step_to_return(seat);
+    IS(atomfs_checkpoint(&fs, out, sizeof out, &count, &number), ATOMFS_OK);
+    SAYS(out, length, first);
+    IS(count > length, 1);
+    IS(atomfs_opening(&fs, out, sizeof out, &count), ATOMFS_OK);
+    SAYS(out, count, opening);
+    IS(atomfs_opening(&fs, out, 3, &count), ATOMFS_TOO_SMALL);
+    IS(count, sizeof opening - 1);
+    IS(atomfs_journal(&fs, 0, out, sizeof out, &count, &entries), ATOMFS_OK);
+    IS(count, 0);
+    IS(entries, 0);
+    IS(atomfs_reply_done(&fs, 1), ATOMFS_NO_REPLY);
+    IS(atomfs_stat(&fs, seat, PATH("/a"), &stat_, &number), ATOMFS_OK);
+    IS(number, 1);
+    IS(atomfs_checkpoint(&fs, out, sizeof out, &count, &number), ATOMFS_OK);
+    IS(atomfs_rmdir(&fs, other_seat, PATH("/a"), &number), ATOMFS_OK);
+    IS(number, 1);
+    IS(atomfs_checkpoint(&fs, out, sizeof out, &count, &number), ATOMFS_OK);
+    SAYS(out, count, second);
+    IS(atomfs_checkpoint(&fs, out, sizeof out, &count, &number), ATOMFS_OK);
+    SAYS(out, count, ATOMFS_JOURNAL_HEADER);
+    IS(atomfs_close(&fs), ATOMFS_OK);
+}
+
+/* Pieces of a journal are journals, and scripts have checkpoints. */
+static void texts(void) {
+    static const char piece[] = "atomfs-journal 2\nstart\ndir /\ndir /a\nentries\nbegin 1 1 rmdir /a\ncommit 1\nreturn 1 ok\n";
+    static const char no_start[] = "atomfs-journal 2\nstart\ndir /a\nentries\n";
+    static const char early[] = "atomfs 1\nthread t\nmkdir /a\nschedule\nt*2 !checkpoint\n";
+    static const char late[] = "atomfs 1\nthread t\nmkdir /a\nschedule\nt*9 !checkpoint\n";
+    IS(atomfs_check(PATH(piece), out, sizeof out, &count), ATOMFS_OK);
+    SAYS(out, count, "lawful\n");
+    IS(atomfs_check(PATH(piece), out, 6, &count), ATOMFS_TOO_SMALL);
+    IS(count, 7);
+    IS(atomfs_check(PATH(no_start), out, sizeof out, &count), ATOMFS_BAD_START);
+    IS(count, 3);
+    IS(atomfs_run(PATH(early), out, sizeof out, &count), ATOMFS_UNDER_WAY);
+    IS(count, 1);
+    IS(atomfs_run(PATH(late), out, sizeof out, &count), ATOMFS_OK);
+    SAYS(out, (size_t)17, "atomfs-journal 2\n");
+}
+
+/* Nulls and lengths that are none: a status, and nothing happens. */
+static void nulls(void) {
+    atomfs_request request = { ATOMFS_CALL_MKDIR, NULL, 2, NULL, 0, 0, 0, NULL, 0 };
+    uint8_t did;
+    uint64_t about;
+    open_fs(100);
+    IS(atomfs_open(NULL, 1), ATOMFS_NULL);
+    IS(atomfs_close(NULL), ATOMFS_NULL);
+    IS(atomfs_seat(NULL, &seat), ATOMFS_NULL);
+    IS(atomfs_seat(&fs, NULL), ATOMFS_NULL);
+    IS(atomfs_mkdir(NULL, seat, PATH("/a"), &number), ATOMFS_NULL);
+    IS(atomfs_mkdir(&fs, seat, NULL, 2, &number), ATOMFS_NULL);
+    IS(atomfs_mkdir(&fs, seat, PATH("/a"), NULL), ATOMFS_NULL);
+    IS(atomfs_mkdir(&fs, seat, NULL, 0, &number), ATOMFS_BAD_PATH);
+    IS(atomfs_mknod(&fs, seat, NULL, 2, &number), ATOMFS_NULL);
+    IS(atomfs_unlink(&fs, seat, NULL, 2, &number), ATOMFS_NULL);
+    IS(atomfs_rmdir(&fs, seat, NULL, 2, &number), ATOMFS_NULL);
+    IS(atomfs_rename(&fs, seat, NULL, 2, PATH("/a"), &number), ATOMFS_NULL);
+    IS(atomfs_rename(&fs, seat, PATH("/a"), NULL, 2, &number), ATOMFS_NULL);
+    IS(atomfs_exchange(&fs, seat, PATH("/a"), NULL, 2, &number), ATOMFS_NULL);
+    IS(atomfs_truncate(&fs, seat, NULL, 2, 0, &number), ATOMFS_NULL);
+    IS(atomfs_stat(&fs, seat, PATH("/"), NULL, &number), ATOMFS_NULL);
+    IS(atomfs_readdir(&fs, seat, PATH("/"), NULL, 1, &count, &number), ATOMFS_NULL);
+    IS(atomfs_readdir(&fs, seat, PATH("/"), out, 1, NULL, &number), ATOMFS_NULL);
+    IS(atomfs_read(&fs, seat, PATH("/f"), 0, NULL, 1, &count, &number), ATOMFS_NULL);
+    IS(atomfs_write(&fs, seat, PATH("/f"), 0, NULL, 1, &wrote, &number), ATOMFS_NULL);
+    IS(atomfs_write(&fs, seat, PATH("/f"), 0, "x", 1, NULL, &number), ATOMFS_NULL);
+    IS(atomfs_begin_call(&fs, seat, NULL, &number), ATOMFS_NULL);
+    IS(atomfs_begin_call(&fs, seat, &request, &number), ATOMFS_NULL);
+    request.path = "/a";
+    IS(atomfs_begin_call(&fs, seat, &request, NULL), ATOMFS_NULL);
+    request.call = ATOMFS_CALL_RENAME;
+    request.other_length = 1;
+    IS(atomfs_begin_call(&fs, seat, &request, &number), ATOMFS_NULL);
+    request.call = ATOMFS_CALL_WRITE;
+    request.bytes_length = 1;
+    IS(atomfs_begin_call(&fs, seat, &request, &number), ATOMFS_NULL);
+    IS(atomfs_begin_call(NULL, seat, &request, &number), ATOMFS_NULL);
+    IS(atomfs_step(NULL, seat, &did, &about), ATOMFS_NULL);
+    IS(atomfs_step(&fs, seat, NULL, &about), ATOMFS_NULL);
+    IS(atomfs_step(&fs, seat, &did, NULL), ATOMFS_NULL);
+    IS(atomfs_reply_done(NULL, 1), ATOMFS_NULL);
+    IS(atomfs_reply_stat(&fs, 1, NULL), ATOMFS_NULL);
+    IS(atomfs_reply_names(&fs, 1, NULL, 1, out, sizeof out, &count), ATOMFS_NULL);
+    IS(atomfs_reply_bytes(&fs, 1, NULL, 1, &count), ATOMFS_NULL);
+    IS(atomfs_reply_bytes(&fs, 1, out, 1, NULL), ATOMFS_NULL);
+    IS(atomfs_reply_wrote(&fs, 1, NULL), ATOMFS_NULL);
+    IS(atomfs_journal(&fs, 0, NULL, 1, &count, &entries), ATOMFS_NULL);
+    IS(atomfs_journal(&fs, 0, out, 1, &count, NULL), ATOMFS_NULL);
+    IS(atomfs_tree(&fs, NULL, 1, &count), ATOMFS_NULL);
+    IS(atomfs_opening(&fs, NULL, 1, &count), ATOMFS_NULL);
+    IS(atomfs_checkpoint(&fs, NULL, 1, &count, &number), ATOMFS_NULL);
+    IS(atomfs_checkpoint(&fs, out, 1, &count, NULL), ATOMFS_NULL);
+    IS(atomfs_begin(&fs, seat, NULL, 1, &number), ATOMFS_NULL);
+    IS(atomfs_begin(&fs, seat, NULL, 0, &number), ATOMFS_BAD_LINE);
+    IS(atomfs_call(&fs, seat, NULL, 1, out, sizeof out, &count, &number), ATOMFS_NULL);
+    IS(atomfs_reply(&fs, 1, NULL, 1, &count), ATOMFS_NULL);
+    IS(atomfs_run(NULL, 1, out, sizeof out, &count), ATOMFS_NULL);
+    IS(atomfs_run("", 0, out, sizeof out, NULL), ATOMFS_NULL);
+    IS(atomfs_run(NULL, 0, NULL, 0, &count), ATOMFS_BAD_HEADER);
+    IS(atomfs_check(NULL, 1, out, sizeof out, &count), ATOMFS_NULL);
+    IS(atomfs_check(NULL, 0, NULL, 0, &count), ATOMFS_BAD_HEADER);
+    size_t bad = SIZE_MAX / 2 + 1;
+    IS(atomfs_mkdir(&fs, seat, "/a", bad, &number), ATOMFS_BAD_LENGTH);
+    IS(atomfs_mkdir(&fs, seat, NULL, SIZE_MAX, &number), ATOMFS_BAD_LENGTH);
+    IS(atomfs_rename(&fs, seat, PATH("/a"), "/b", bad, &number), ATOMFS_BAD_LENGTH);
+    IS(atomfs_read(&fs, seat, PATH("/a"), 0, out, bad, &count, &number), ATOMFS_BAD_LENGTH);
+    IS(atomfs_write(&fs, seat, PATH("/a"), 0, "x", bad, &wrote, &number), ATOMFS_BAD_LENGTH);
+    IS(atomfs_journal(&fs, 0, out, bad, &count, &entries), ATOMFS_BAD_LENGTH);
+    IS(atomfs_check("", bad, out, sizeof out, &count), ATOMFS_BAD_LENGTH);
+    IS(atomfs_journal(&fs, 0, NULL, 0, &count, &entries), ATOMFS_OK);
+    IS(entries, 0);
+    IS(atomfs_close(&fs), ATOMFS_OK);
+}
+
+/* A closed handle is told to be closed, by every function with a handle. */
+static void closed(void) {
+    atomfs_request request = { ATOMFS_CALL_STAT, PATH("/"), NULL, 0, 0, 0, NULL, 0 };
+    uint8_t did;
+    uint64_t about;
+    IS(atomfs_close(&fs), ATOMFS_CLOSED);
+    IS(atomfs_seat(&fs, &seat), ATOMFS_CLOSED);
+    IS(atomfs_mkdir(&fs, 0, PATH("/a"), &number), ATOMFS_CLOSED);
+    IS(atomfs_mknod(&fs, 0, PATH("/a"), &number), ATOMFS_CLOSED);
+    IS(atomfs_unlink(&fs, 0, PATH("/a"), &number), ATOMFS_CLOSED);
+    IS(atomfs_rmdir(&fs, 0, PATH("/a"), &number), ATOMFS_CLOSED);
+    IS(atomfs_rename(&fs, 0, PATH("/a"), PATH("/b"), &number), ATOMFS_CLOSED);
+    IS(atomfs_exchange(&fs, 0, PATH("/a"), PATH("/b"), &number), ATOMFS_CLOSED);
+    IS(atomfs_truncate(&fs, 0, PATH("/a"), 0, &number), ATOMFS_CLOSED);
+    IS(atomfs_stat(&fs, 0, PATH("/a"), &stat_, &number), ATOMFS_CLOSED);
+    IS(atomfs_readdir(&fs, 0, PATH("/a"), out, sizeof out, &count, &number), ATOMFS_CLOSED);
+    IS(atomfs_read(&fs, 0, PATH("/a"), 0, out, sizeof out, &count, &number), ATOMFS_CLOSED);
+    IS(atomfs_write(&fs, 0, PATH("/a"), 0, "x", 1, &wrote, &number), ATOMFS_CLOSED);
+    IS(atomfs_begin_call(&fs, 0, &request, &number), ATOMFS_CLOSED);
+    IS(atomfs_step(&fs, 0, &did, &about), ATOMFS_CLOSED);
+    IS(atomfs_reply_done(&fs, 1), ATOMFS_CLOSED);
+    IS(atomfs_reply_stat(&fs, 1, &stat_), ATOMFS_CLOSED);
+    IS(atomfs_reply_names(&fs, 1, NULL, 0, out, sizeof out, &count), ATOMFS_CLOSED);
+    IS(atomfs_reply_bytes(&fs, 1, out, sizeof out, &count), ATOMFS_CLOSED);
+    IS(atomfs_reply_wrote(&fs, 1, &wrote), ATOMFS_CLOSED);
+    IS(atomfs_journal(&fs, 0, out, sizeof out, &count, &entries), ATOMFS_CLOSED);
+    IS(atomfs_tree(&fs, out, sizeof out, &count), ATOMFS_CLOSED);
+    IS(atomfs_opening(&fs, out, sizeof out, &count), ATOMFS_CLOSED);
+    IS(atomfs_checkpoint(&fs, out, sizeof out, &count, &number), ATOMFS_CLOSED);
+    IS(atomfs_begin(&fs, 0, PATH("stat /"), &number), ATOMFS_CLOSED);
+    IS(atomfs_call(&fs, 0, PATH("stat /"), out, sizeof out, &count, &number), ATOMFS_CLOSED);
+    IS(atomfs_reply(&fs, 1, out, sizeof out, &count), ATOMFS_CLOSED);
+    IS(atomfs_open(&fs, 0), ATOMFS_BAD_LIMIT);
+    IS(atomfs_open(&fs, ATOMFS_NODE_LIMIT + 1), ATOMFS_BAD_LIMIT);
+    IS(atomfs_open(&fs, SIZE_MAX), ATOMFS_BAD_LIMIT);
+    IS(atomfs_open(&fs, ATOMFS_NODE_LIMIT), ATOMFS_OK);
+    IS(atomfs_open(&fs, 1), ATOMFS_ALREADY_OPEN);
+    IS(atomfs_close(&fs), ATOMFS_OK);
+}
+
+static void words(void) {
+    IS(strcmp(atomfs_version(), ATOMFS_VERSION), 0);
+    IS(strcmp(atomfs_errno_name(ATOMFS_FAILED + ENOENT_), "ENOENT"), 0);
+    IS(strcmp(atomfs_errno_name(ATOMFS_FAILED + ENOTEMPTY_), "ENOTEMPTY"), 0);
+    IS(atomfs_errno_name(ATOMFS_OK) == NULL, 1);
+    IS(atomfs_errno_name(ENOENT_) == NULL, 1);
+    IS(atomfs_errno_name(255) == NULL, 1);
+    IS(strcmp(atomfs_status_text(ATOMFS_CLOSED), "the handle is closed"), 0);
+    IS(strcmp(atomfs_status_text(ATOMFS_FAILED + ENOENT_), "no such file or directory (ENOENT)"), 0);
+    for (int status = 0; status < 256; status++) IS(atomfs_status_text((uint8_t)status)[0] != '\0', 1);
+}
+
+int main(void) {
+    each_call();
+    plain_paths();
+    each_error();
+    refusals();
+    step_by_step();
+    waits();
+    small_buffers();
+    checkpoints();
+    texts();
+    nulls();
+    closed();
+    words();
+    puts("typed calls: as they are to be");
+    return 0;
+}
