@@ -201,8 +201,8 @@ class Shown(Page):
 
     def test_examples_of_readme(self):
         """Those in C, Python and Rust are those of docs/EMBEDDING.md, which are run; the last is the end of the crate `example_call`."""
-        *rust, rattle = blocks(README, "rust")
-        self.agrees("in Rust", rust, blocks(EMBEDDING, "rust"))
+        (rattle,) = blocks(README, "rust")
+        self.agrees("in Rust", blocks(README, "rs"), blocks(EMBEDDING, "rust"))
         for language in ("c", "python"):
             self.agrees(f"in {language}", blocks(README, language), blocks(EMBEDDING, language))
         self.agrees("in Rattle", rattle, source("example_call/src/main.rt")[-len(rattle) :])

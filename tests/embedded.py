@@ -32,6 +32,9 @@ python: lawful, 11 calls returned
 example_c: as docs/EMBEDDING.md says
 example_rust: as docs/EMBEDDING.md says
 example_python: as docs/EMBEDDING.md says
+readme_c: as README.md says
+readme_rust: as README.md says
+readme_python: as README.md says
 """
 
 
