@@ -34,7 +34,7 @@ name_written line middle new p i x at slash name =
     ∙ append_assoc line (47 ∷ x) (names_text (drop (i + 1) p)) ∙ ap (λ z. line ++ z) (sym (names_text-drop p i x at))
 
 -- a name has no more bytes than the limit
-pub name_short : (x : Name) → IsTrue (can_name x) → length x ≤ 32
+pub name_short : (x : Name) → IsTrue (can_name x) → length x ≤ 64
 name_short x h = grind (arith, nat_tests)
 
 -- what holds of a success and what of a refusal, where it is a success

@@ -1,4 +1,5 @@
 pub mod Failures
+pub mod Limits
 pub mod Names
 pub mod Keys
 pub mod Parts

@@ -4,7 +4,7 @@ use Rattle.std.specs.List.{slice_split, list_any}
 use Rattle.fs_names.specs.Failures.{check, or_else, first_failure}
 use Rattle.fs_names.specs.Names.{Name, is_dots}
 use Rattle.fs_names.specs.Keys.{Key}
-use Rattle.fs_names.specs.declared.limits.TheConstants.{NAME_LIMIT, PATH_LIMIT}
+use Rattle.fs_names.specs.declared.limits.TheConstants.{PATH_LIMIT}
 use Rattle.fs_names.specs.declared.fault.PathFault.{PathFault}
 use Rattle.fs_names.specs.declared.fault.PathFault.TheVariants.{NotAbsolute, Nul, NameTooLong, TooManyNames, Dot, TrailingSlash, OutOfMemory}
 
@@ -39,25 +39,25 @@ starts_at_root (b ∷ bs) = b == 47
 abbrev pub ends_in_slash : List ℕ → Bool
 ends_in_slash bytes = slice_index bytes (length bytes - 1) == 47
 
--- what is wrong with a name, of which so many stand before it
-abbrev pub name_fault : ℕ → Name → Option PathFault
-name_fault before name = first_failure
+-- what is wrong with a name that may have this most bytes, and before which so many stand
+abbrev pub name_fault : ℕ → ℕ → Name → Option PathFault
+name_fault most before name = first_failure
     (check (nat_le PATH_LIMIT before) TooManyNames
-    ∷ check (nat_lt NAME_LIMIT (length name)) NameTooLong
+    ∷ check (nat_lt most (length name)) NameTooLong
     ∷ check (is_dots name) Dot
     ∷ [])
 
 -- what is wrong with the first wrong name, from left to right
-abbrev pub first_fault : ℕ → Key → Option PathFault
-first_fault before [] = None
-first_fault before (name ∷ more) = or_else (name_fault before name) (first_fault (before + 1) more)
+abbrev pub first_fault : ℕ → ℕ → Key → Option PathFault
+first_fault most before [] = None
+first_fault most before (name ∷ more) = or_else (name_fault most before name) (first_fault most (before + 1) more)
 
 -- the first check that the bytes fail
-abbrev pub path_fault : List ℕ → Option PathFault
-path_fault bytes = first_failure
+abbrev pub path_fault : ℕ → List ℕ → Option PathFault
+path_fault most bytes = first_failure
     (check (not (starts_at_root bytes)) NotAbsolute
     ∷ check (list_any is_zero bytes) Nul
-    ∷ first_fault 0 (names bytes)
+    ∷ first_fault most 0 (names bytes)
     ∷ check (has_names (names bytes) && ends_in_slash bytes) TrailingSlash
     ∷ [])
 
@@ -66,9 +66,9 @@ abbrev pub if_sound : Option PathFault → Key → Result Key PathFault
 if_sound None key = Ok key
 if_sound (Some fault) key = Err fault
 
--- the names that the bytes spell, or the first check that fails
-unfoldable pub reading : List ℕ → Result Key PathFault
-reading bytes = if_sound (path_fault bytes) (names bytes)
+-- the names that the bytes spell, each of so many bytes at most, or the first check that fails
+unfoldable pub reading : ℕ → List ℕ → Result Key PathFault
+reading most bytes = if_sound (path_fault most bytes) (names bytes)
 
 -- the fault is what reading finds; out of memory says nothing of the bytes
 abbrev pub FailsWith : PathFault → Result Key PathFault → Type 0

@@ -1,8 +1,9 @@
 //! The bytes of files.
 
-ghost use Rattle.std.specs.Prelude.{◌≡◌, IfOk};
+ghost use Rattle.std.specs.Prelude.{◌≡◌, ◌≢◌, IfOk, OnOk, OnErr};
 ghost use Rattle.fs_names.specs.Names.{same_bytes};
 
+use fs_memory::Memory;
 use std::alloc::AllocError;
 use std::marker::Model;
 
@@ -62,7 +63,16 @@ impl Bytes {
     pub fn copy(&self) -> Result<Bytes, AllocError>
         ensures { IfOk result (λ bytes. bytes ≡ self.now) }
     {
-        let items = self.items.clone()?;
+        self.copy_counted(&mut Memory::new())
+    }
+
+    /// The same, and a refusal is counted.
+    pub fn copy_counted(&self, memory: &mut Memory) -> Result<Bytes, AllocError>
+        ensures ok { IfOk result (λ bytes. bytes ≡ self.now) }
+        ensures granted { OnOk result (memory.new ≡ memory.old) }
+        ensures refused { OnErr result (memory.new ≢ memory.old) }
+    {
+        let items = memory.copy_of(&self.items)?;
         Ok(Bytes { items })
     }
 }

@@ -11,7 +11,7 @@ pub enum PathFault {
     /// There is a byte zero.
     #[error("Nul")]
     Nul,
-    /// A name has more than 32 bytes.
+    /// A name has more bytes than the limits allow by which it is read.
     #[error("NameTooLong")]
     NameTooLong,
     /// There are more than 64 names.

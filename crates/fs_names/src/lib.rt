@@ -5,9 +5,10 @@
 //! names, a name as its bytes, and a number as itself. What `Path::parse` answers is exactly what the specification
 //! says of the bytes. `Path::parse` and `Path::write` are the calls that may allocate.
 //!
-//! Enter at `Path::parse` and `Name::read`; the limits are constants of the module `limits`. The definitions are in
-//! `specs/`: `Names` (what a name is, and the order), `Keys` (parent, prefix), `Reading` (how bytes are read), and, for
-//! the crates above, `Shapes` (what is seen of a node) and `Failures` (the first of several checks that fails).
+//! Enter at `Path::parse` and `Name::read`; the limits are in the module `limits`, where `Limits` is one of the two sets
+//! of those that differ by version. The definitions are in `specs/`: `Names` (what a name is, and the order), `Keys`
+//! (parent, prefix), `Reading` (how bytes are read), and, for the crates above, `Shapes` (what is seen of a node) and
+//! `Failures` (the first of several checks that fails).
 #![tactic(auto)]
 
 pub mod blocks;
@@ -25,7 +26,7 @@ mod scan;
 pub use bytes::Bytes;
 pub use fault::PathFault;
 pub use kind::Kind;
-pub use limits::{ENTRY_LIMIT, FILE_LIMIT, NAME_LIMIT, NODE_LIMIT, PATH_LIMIT};
+pub use limits::{ENTRY_LIMIT, Limits, NODE_LIMIT, PATH_LIMIT};
 pub use name::Name;
 pub use numbers::{CallNo, SeatNo};
 pub use path::Path;

@@ -1,7 +1,7 @@
 //! The limits of names, paths, directories, files and trees, each named in this one place.
 
-/// The most bytes that a name has.
-pub const NAME_LIMIT: usize = 32;
+ghost use Rattle.std.specs.Prelude.{◌≡◌};
+ghost use Rattle.fs_names.specs.Limits.{name_limit, file_limit};
 
 /// The most names that a path has.
 pub const PATH_LIMIT: usize = 64;
@@ -9,8 +9,39 @@ pub const PATH_LIMIT: usize = 64;
 /// The most entries that a directory has.
 pub const ENTRY_LIMIT: usize = 256;
 
-/// The most bytes that a file has.
-pub const FILE_LIMIT: usize = 65_536;
-
 /// The most node numbers that are in use at once, the root's included.
 pub const NODE_LIMIT: usize = 1_048_576;
+
+/// One of the two sets of limits that a text and a tree keep: those of the first version and those of the second. In
+/// all other limits the two are one.
+#[derive(Clone, Copy, Debug, PartialEq, Eq)]
+pub enum Limits {
+    /// A name in a text has at most 32 bytes, a file at most 65,536.
+    V1,
+    /// A name in a text has at most 64 bytes, a file at most 1,048,576.
+    V2,
+}
+
+impl Limits {
+    /// The most bytes that a name in a text has.
+    #[inline]
+    pub fn name(self) -> usize
+        ensures { result ≡ name_limit self }
+    {
+        match self {
+            Limits::V1 => 32,
+            Limits::V2 => 64,
+        }
+    }
+
+    /// The most bytes that a file has.
+    #[inline]
+    pub fn file(self) -> usize
+        ensures { result ≡ file_limit self }
+    {
+        match self {
+            Limits::V1 => 65_536,
+            Limits::V2 => 1_048_576,
+        }
+    }
+}

@@ -4,15 +4,17 @@ ghost use Rattle.std.specs.Prelude.{◌≡◌, IsTrue, MatchOption, false, true}
 ghost use Rattle.std.specs.List.{list_all};
 ghost use Rattle.fs_names.specs.Names.{can_name, may_stand, is_dots, same_name};
 
-use crate::limits::NAME_LIMIT;
 use arrayvec::ArrayVec;
 use std::marker::Model;
 
-/// The name of an entry: 1 to 32 bytes, neither a slash nor zero among them, and not `.` or `..`
+/// How many bytes a name has room for: the most that any set of limits allows.
+const NAME_ROOM: usize = 64;
+
+/// The name of an entry: 1 to 64 bytes, neither a slash nor zero among them, and not `.` or `..`
 /// (POSIX.1-2017, XBD 3, Filename, with this project's limit).
 #[derive(Debug, Drop, PartialEq, Eq, PartialOrd, Ord)]
 pub struct Name {
-    bytes: ArrayVec<u8, NAME_LIMIT>,
+    bytes: ArrayVec<u8, NAME_ROOM>,
 }
 
 impl Model for Name {
@@ -64,7 +66,7 @@ impl Name {
         requires { list_all may_stand bytes.now ≡ true }
         ensures { MatchOption result (can_name bytes.now ≡ false) (λ n. IsTrue (can_name bytes.now) × (n ≡ bytes.now)) }
     {
-        if bytes.is_empty() || bytes.len() > NAME_LIMIT || only_dots(bytes) {
+        if bytes.is_empty() || bytes.len() > NAME_ROOM || only_dots(bytes) {
             return None;
         }
         Some(Name::of(bytes))
@@ -81,7 +83,7 @@ impl Name {
         Name { bytes: copy }
     }
 
-    /// The bytes of the name, 1 to 32 of them.
+    /// The bytes of the name, 1 to 64 of them.
     pub fn bytes(&self) -> &[u8]
         ensures bytes { result.now ≡ self.now }
         ensures named { IsTrue (can_name self.now) }

@@ -1,15 +1,18 @@
 //! Paths: lists of names from the root.
 
-ghost use Rattle.std.specs.Prelude.{◌≡◌, ◌≢◌, ◌↔◌, ◌≤◌, ◌<◌, ◌+◌, ◌-◌, ◌++◌, min, [], true, false, IsTrue, None, Some, Ok, Err, IsOk, IfOk, IfErr, OnOk, OnErr, length, slice_get, is_some, vec_len, vec_capacity};
-ghost use Rattle.std.specs.List.{list_any, list_all};
-ghost use Rattle.fs_names.specs.Names.{may_stand};
+ghost use Rattle.std.specs.Prelude.{◌≡◌, ◌≢◌, ◌↔◌, ◌≤◌, ◌<◌, ◌+◌, ◌++◌, [], false, IsTrue, None, Some, Ok, Err, IsOk, IfOk, IfErr, OnOk, OnErr, length, map, slice_get, is_some, vec_len, vec_capacity};
+ghost use Rattle.std.specs.List.{list_any, AllByRecursion};
+ghost use Rattle.fs_names.specs.Names.{IsName};
+ghost use Rattle.fs_names.specs.Limits.{name_limit};
+ghost use Rattle.fs_names.specs.declared.limits.Limits.TheVariants.{V2};
 ghost use Rattle.fs_names.specs.Keys.{IsPath, common_len, after_prefix, path_text};
-ghost use Rattle.fs_names.specs.Reading.{reading, names, first_fault, name_fault, has_bytes, is_zero, starts_at_root, ends_in_slash, FailsWith};
+ghost use Rattle.fs_names.specs.Reading.{reading, names, first_fault, name_fault, is_zero, starts_at_root, ends_in_slash, FailsWith};
 
 use crate::fault::PathFault;
-use crate::limits::{NAME_LIMIT, PATH_LIMIT};
+use crate::limits::{Limits, PATH_LIMIT};
 use crate::name::{Name, only_dots};
 use crate::scan::{after_slashes, cut_name};
+use fs_memory::Memory;
 use memchr::memchr;
 use smallvec::SmallVec;
 use std::alloc::{AllocError, Global};
@@ -22,15 +25,15 @@ use std::sync::Arc;
 pub struct Path {
     // Copies share the names: a call's path stands in a script, in the record of the call and in its journal. The root
     // shares nothing, and so takes no memory.
-    names: Option<Arc<SmallVec<Name, SHARED_NAMES>>>,
+    names: Option<Arc<Vec<Name>>>,
 }
 
 /// How many names a path holds in itself, before it allocates: none, since each would add to the size of every entry of
 /// a journal.
 pub const INLINE_NAMES: usize = 0;
 
-/// How many names stand in the one allocation that the copies of a path share; for more there is a second one.
-const SHARED_NAMES: usize = 7;
+/// How many names of a text are cut on the stack before the path is made of them.
+const CUT_NAMES: usize = 7;
 
 impl Model for Path {
     ghost use Rattle.std.specs.Prelude.{ℕ, List, option_map};
@@ -45,15 +48,15 @@ impl Model for Path {
     ghost invariant = { λ p. IsPath (shared_names (option_map arc_value p.names)) };
 }
 
-/// What is wrong with the bytes of a name, of which so many stand before it.
+/// What is wrong with the bytes of a name that may have this most bytes, and before which so many stand.
 #[inline]
-fn name_fault(before: usize, bytes: &[u8]) -> Option<PathFault>
-    ensures { result ≡ name_fault before bytes.now }
+fn name_fault(most: usize, before: usize, bytes: &[u8]) -> Option<PathFault>
+    ensures { result ≡ name_fault most before bytes.now }
 {
     if before >= PATH_LIMIT {
         return Some(PathFault::TooManyNames);
     }
-    if bytes.len() > NAME_LIMIT {
+    if bytes.len() > most {
         return Some(PathFault::NameTooLong);
     }
     if only_dots(bytes) {
@@ -62,92 +65,59 @@ fn name_fault(before: usize, bytes: &[u8]) -> Option<PathFault>
     None
 }
 
-/// How many names stand between the slashes.
-#[cold]
-fn count_names(bytes: &[u8]) -> usize
-    ensures { result ≡ length (names bytes.now) }
-{
-    let mut count = 0;
-    let mut left = after_slashes(bytes);
-    while !left.is_empty() {
-        count += 1;
-        left = cut_name(left).1;
-    }
-    count
-}
-
-/// Makes room for the names that are left, where those that were read fill the places that are shared. It is made once.
-#[inline]
-fn make_room(left: &[u8], read: &mut SmallVec<Name, SHARED_NAMES>) -> Result<(), AllocError>
-    ensures items { read.new.items ≡ read.old.items }
-    ensures others { length read.old.items ≢ SHARED_NAMES → read.new ≡ read.old }
-    ensures room { OnOk result (length read.old.items ≡ SHARED_NAMES
-        → SHARED_NAMES + min (length (names left.now)) (PATH_LIMIT - SHARED_NAMES) ≤ read.new.capacity) }
-    ensures memory { OnErr result ((length read.old.items ≡ SHARED_NAMES) × (0 < length (names left.now))) }
-{
-    if read.len() != SHARED_NAMES {
-        return Ok(());
-    }
-    read.reserve_exact(count_names(left).min(PATH_LIMIT - SHARED_NAMES))
-}
-
-/// The fault of a name, unless there is no memory for the names, which goes first. Where those that were read fill the
-/// places that are shared, room was made before.
-#[cold]
-fn fault_after_room(alloc: Global, bytes: &[u8], read: usize, fault: PathFault) -> PathFault
-    ensures fault { result ≢ PathFault.OutOfMemory → result ≡ fault }
-    ensures memory { result ≡ PathFault.OutOfMemory → fault ≢ PathFault.OutOfMemory → SHARED_NAMES
-        < length (names bytes.now) }
-{
-    if read >= SHARED_NAMES {
-        return fault;
-    }
-    let room = count_names(bytes).min(PATH_LIMIT);
-    match SmallVec::<Name, SHARED_NAMES>::with_capacity(alloc, room) {
-        Ok(_) => fault,
-        Err(_) => PathFault::OutOfMemory,
-    }
-}
-
-/// Reads the names between the slashes of bytes without zeros, one after the other. It allocates only where there are more
-/// names than are shared, once and for all that are left, which it counts; then this goes before what is wrong with any.
-fn read_names(
-    alloc: Global,
-    bytes: &[u8],
-    read: &mut SmallVec<Name, SHARED_NAMES>,
+/// Cuts bytes without zeros into names, one after the other, up to the first that is wrong. It allocates only for more names
+/// than fit on the stack.
+fn cut_names<'a>(
+    most: usize,
+    bytes: &'a [u8],
+    cut: &mut SmallVec<&'a [u8], CUT_NAMES>,
 ) -> Result<(), PathFault>
     requires zeros { list_any is_zero bytes.now ≡ false }
-    requires empty { read.old.items ≡ [] }
-    requires shared { SHARED_NAMES ≤ read.old.capacity }
-    ensures names { OnOk result ((read.new.items ≡ names bytes.now) × (first_fault 0 (names bytes.now) ≡ None)) }
-    ensures fault { IfErr result (λ fault. fault ≢ PathFault.OutOfMemory → first_fault 0 (names bytes.now) ≡ Some fault) }
-    ensures memory { result ≡ Err PathFault.OutOfMemory → SHARED_NAMES < length (names bytes.now) }
+    requires empty { cut.old.items ≡ [] }
+    requires stack { CUT_NAMES ≤ cut.old.capacity }
+    ensures names { OnOk result ((map (λ text. text.now) cut.new.items ≡ names bytes.now) × (first_fault most 0 (names bytes.now) ≡ None)) }
+    ensures fault { IfErr result (λ fault. fault ≢ PathFault.OutOfMemory → first_fault most 0 (names bytes.now) ≡ Some fault) }
+    ensures memory { result ≡ Err PathFault.OutOfMemory → CUT_NAMES < length (names bytes.now) }
 {
     let mut left = after_slashes(bytes);
     while !left.is_empty() {
-        let Ok(()) = make_room(left, read) else {
+        let (name, rest) = cut_name(left);
+        if let Some(fault) = name_fault(most, cut.len(), name) {
+            return Err(fault);
+        }
+        let Ok(()) = cut.push(name) else {
             return Err(PathFault::OutOfMemory);
         };
-        let (name, rest) = cut_name(left);
-        if let Some(fault) = name_fault(read.len(), name) {
-            return Err(fault_after_room(alloc, bytes, read.len(), fault));
-        }
-        read.push_reserved(Name::of(name));
         left = rest;
     }
     Ok(())
 }
 
-/// The path of these names.
-fn path_of(alloc: Global, names: SmallVec<Name, SHARED_NAMES>) -> Result<Path, PathFault>
-    requires { IsPath names.items }
-    ensures path { IfOk result (λ path. path ≡ names.items) }
-    ensures fault { IfErr result (λ fault. fault ≡ PathFault.OutOfMemory) }
-    ensures memory { OnErr result (INLINE_NAMES < length names.items) }
+/// The names of these texts, in exactly as much memory.
+fn names_of(alloc: Global, texts: &[&[u8]]) -> Result<Vec<Name>, AllocError>
+    requires { AllByRecursion IsName (map (λ text. text.now) texts.now) }
+    ensures { IfOk result (λ names. names.items ≡ map (λ text. text.now) texts.now) }
 {
-    if names.is_empty() {
+    let mut names = Vec::with_capacity(alloc, texts.len())?;
+    for text in texts {
+        names.push_reserved(Name::of(text));
+    }
+    Ok(names)
+}
+
+/// The path of names that are cut.
+fn path_of(alloc: Global, cut: &[&[u8]]) -> Result<Path, PathFault>
+    requires { IsPath (map (λ text. text.now) cut.now) }
+    ensures path { IfOk result (λ path. path ≡ map (λ text. text.now) cut.now) }
+    ensures fault { IfErr result (λ fault. fault ≡ PathFault.OutOfMemory) }
+    ensures memory { OnErr result (INLINE_NAMES < length cut.now) }
+{
+    if cut.is_empty() {
         return Ok(Path { names: None });
     }
+    let Ok(names) = names_of(alloc, cut) else {
+        return Err(PathFault::OutOfMemory);
+    };
     match Arc::new(alloc, names) {
         Ok(names) => Ok(Path { names: Some(names) }),
         Err(_) => Err(PathFault::OutOfMemory),
@@ -179,14 +149,22 @@ fn has_zero(bytes: &[u8]) -> bool
 }
 
 impl Path {
-    /// Reads a path. The fault is the first check that the bytes fail, from left to right; consecutive slashes count
-    /// as one, and a path of slashes only is the root. It allocates only for names: what its copies share, once all are
-    /// read, and where they are more than fit there, room for them before, for want of which it answers `OutOfMemory`
-    /// whatever is wrong with the names.
-    #[tactic(auto, unfolding(crate::specs::Reading::reading))]
+    /// Reads a path by the limits of the second version, as `parse_with` does.
     pub fn parse(alloc: Global, bytes: &[u8]) -> Result<Path, PathFault>
-        ensures path { IfOk result (λ path. reading bytes.now ≡ Ok path) }
-        ensures fault { IfErr result (λ fault. FailsWith fault (reading bytes.now)) }
+        ensures path { IfOk result (λ path. reading (name_limit V2) bytes.now ≡ Ok path) }
+        ensures fault { IfErr result (λ fault. FailsWith fault (reading (name_limit V2) bytes.now)) }
+        ensures memory { result ≡ Err PathFault.OutOfMemory → INLINE_NAMES < length (names bytes.now) }
+    {
+        Path::parse_with(alloc, bytes, Limits::V2)
+    }
+
+    /// Reads a path by these limits. The fault is the first check that the bytes fail, from left to right; consecutive
+    /// slashes count as one, and a path of slashes only is the root. It allocates only for names: for what its copies share,
+    /// once all are read and none is wrong; and from the eighth on, for where they are kept until then.
+    #[tactic(auto, unfolding(crate::specs::Reading::reading))]
+    pub fn parse_with(alloc: Global, bytes: &[u8], limits: Limits) -> Result<Path, PathFault>
+        ensures path { IfOk result (λ path. reading (name_limit limits) bytes.now ≡ Ok path) }
+        ensures fault { IfErr result (λ fault. FailsWith fault (reading (name_limit limits) bytes.now)) }
         ensures memory { result ≡ Err PathFault.OutOfMemory → INLINE_NAMES < length (names bytes.now) }
     {
         if !starts_at_root(bytes) {
@@ -195,25 +173,35 @@ impl Path {
         if has_zero(bytes) {
             return Err(PathFault::Nul);
         }
-        let mut names = SmallVec::new(alloc);
-        if let Err(fault) = read_names(alloc, bytes, &mut names) {
+        let mut cut = SmallVec::new(alloc);
+        if let Err(fault) = cut_names(limits.name(), bytes, &mut cut) {
             return Err(fault);
         }
-        if !names.is_empty() && ends_in_slash(bytes) {
+        if !cut.is_empty() && ends_in_slash(bytes) {
             return Err(PathFault::TrailingSlash);
         }
-        path_of(alloc, names)
+        path_of(alloc, cut.as_slice())
     }
 
     /// The same path again, which shares its names with this one. It takes no memory: an `Err` says that the names are
     /// shared so often that their owners are no longer counted.
-    pub fn copy(&self, alloc: Global) -> Result<Path, AllocError>
+    pub fn copy(&self) -> Result<Path, AllocError>
         ensures ok { IfOk result (λ path. path ≡ self.now) }
         ensures memory { OnErr result (INLINE_NAMES < length self.now) }
     {
+        self.copy_counted(&mut Memory::new())
+    }
+
+    /// The same, and a refusal is counted.
+    pub fn copy_counted(&self, memory: &mut Memory) -> Result<Path, AllocError>
+        ensures ok { IfOk result (λ path. path ≡ self.now) }
+        ensures memory { OnErr result (INLINE_NAMES < length self.now) }
+        ensures granted { OnOk result (memory.new ≡ memory.old) }
+        ensures refused { OnErr result (memory.new ≢ memory.old) }
+    {
         match &self.names {
             Some(names) if !self.is_empty() => {
-                let names = names.clone()?;
+                let names = memory.share(names)?;
                 Ok(Path { names: Some(names) })
             }
             _ => Ok(Path { names: None }),

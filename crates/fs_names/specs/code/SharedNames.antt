@@ -1,8 +1,8 @@
 -- The names that a path shares with its copies.
 use Rattle.std.specs.Prelude.{List, [], Option, Some, None}
-use Rattle.smallvec.specs.SmallVec.{SmallVec}
+use Rattle.std.specs.Global.{Vec}
 
 -- the names in a vector that is shared; the root shares none
-abbrev pub shared_names : {X : Type 0} → Option (SmallVec X) → List X
+abbrev pub shared_names : {X : Type 0} → Option (Vec X) → List X
 shared_names None = []
 shared_names (Some names) = names.items

@@ -25,5 +25,9 @@ returns c = record {
   dots_before_too_many = refl;
   longest_name = refl;
   too_long_name = refl;
+  longer_name = refl;
+  longest_of_the_second = refl;
+  too_long_for_both = refl;
+  too_many_for_both = refl;
   too_many_before_too_long = refl;
 }

@@ -1,0 +1,14 @@
+-- The two sets of limits.
+use Rattle.std.specs.Prelude.{ℕ}
+use Rattle.fs_names.specs.declared.limits.Limits.{Limits}
+use Rattle.fs_names.specs.declared.limits.Limits.TheVariants.{V1, V2}
+
+-- the most bytes of a name in a text
+abbrev pub name_limit : Limits → ℕ
+name_limit V1 = 32
+name_limit V2 = 64
+
+-- the most bytes of a file
+abbrev pub file_limit : Limits → ℕ
+file_limit V1 = 65536
+file_limit V2 = 1048576
