@@ -4,7 +4,6 @@ use Rattle.std.specs.Prelude.{nat_lt}
 use Rattle.fs_names.specs.Failures.{check, first_failure}
 use Rattle.fs_names.specs.Names.{Name}
 use Rattle.fs_names.specs.Keys.{Key, is_root, is_proper_prefix, after_prefix, parent_of}
-use Rattle.fs_names.specs.declared.limits.TheConstants.{FILE_LIMIT}
 use Rattle.fs_names.proofs.FailureLemmas.{or_else-none, check-none}
 use Rattle.fs_calls.specs.Tree as tree
 use Rattle.fs_calls.specs.Tree.{Tree, Node, look, names_in, IsTree}
@@ -45,14 +44,14 @@ or_second true b e = absurd (cc)
 or_second false b e = e
 
 -- a call without an error has none by its paths alone
-pub by_text_none : (t : Tree) (call : Call) → fault t call ≡ None → by_text (form call) ≡ None
+pub by_text_none : (most : ℕ) (t : Tree) (call : Call) → fault most t call ≡ None → by_text (form most call) ≡ None
 unfolding fault
-by_text_none t call h = (or_else-none (by_text (form call)) (row t call) h).0
+by_text_none most t call h = (or_else-none (by_text (form most call)) (row most t call) h).0
 
 -- and none by what is read
-row_none : (t : Tree) (call : Call) → fault t call ≡ None → row t call ≡ None
+row_none : (most : ℕ) (t : Tree) (call : Call) → fault most t call ≡ None → row most t call ≡ None
 unfolding fault
-row_none t call h = (or_else-none (by_text (form call)) (row t call) h).1
+row_none most t call h = (or_else-none (by_text (form most call)) (row most t call) h).1
 
 -- ---- shapes
 
@@ -98,12 +97,12 @@ makes t p is text h =
     }
 
 -- what mkdir finds
-pub mkdir_makes : (t : Tree) (p : Key) → IsTree t → fault t (Mkdir p) ≡ None → Makes t p
-mkdir_makes t p is h = makes t p is (by_text_none t (Mkdir p) h) (row_none t (Mkdir p) h)
+pub mkdir_makes : (most : ℕ) (t : Tree) (p : Key) → IsTree t → fault most t (Mkdir p) ≡ None → Makes t p
+mkdir_makes most t p is h = makes t p is (by_text_none most t (Mkdir p) h) (row_none most t (Mkdir p) h)
 
 -- what mknod finds
-pub mknod_makes : (t : Tree) (p : Key) → IsTree t → fault t (Mknod p) ≡ None → Makes t p
-mknod_makes t p is h = makes t p is (by_text_none t (Mknod p) h) (row_none t (Mknod p) h)
+pub mknod_makes : (most : ℕ) (t : Tree) (p : Key) → IsTree t → fault most t (Mknod p) ≡ None → Makes t p
+mknod_makes most t p is h = makes t p is (by_text_none most t (Mknod p) h) (row_none most t (Mknod p) h)
 
 -- unlink and rmdir find a node with nothing below it, which is not the root
 pub record Removes (t : Tree) (p : Key) : Type 0 where
@@ -112,23 +111,23 @@ pub record Removes (t : Tree) (p : Key) : Type 0 where
   pub bare : (x : Name) (rest : Key) → look t (p ++ x ∷ rest) ≡ None
 
 -- what unlink finds
-pub unlink_removes : (t : Tree) (p : Key) → IsTree t → fault t (Unlink p) ≡ None → Removes t p
-unlink_removes t p is h =
-    let none = all_none (parents_resolution t p ∷ check (is_missing (tree_shapes t p)) Enoent ∷ check (is_dir (tree_shapes t p)) Eperm ∷ []) (row_none t (Unlink p) h) in
+pub unlink_removes : (most : ℕ) (t : Tree) (p : Key) → IsTree t → fault most t (Unlink p) ≡ None → Removes t p
+unlink_removes most t p is h =
+    let none = all_none (parents_resolution t p ∷ check (is_missing (tree_shapes t p)) Enoent ∷ check (is_dir (tree_shapes t p)) Eperm ∷ []) (row_none most t (Unlink p) h) in
     let missing = check-none (is_missing (tree_shapes t p)) Enoent none.1.0 in
     let dir = check-none (is_dir (tree_shapes t p)) Eperm none.1.1.0 in
     record {
-      named = check-none (is_root p) Eperm (by_text_none t (Unlink p) h);
+      named = check-none (is_root p) Eperm (by_text_none most t (Unlink p) h);
       there = some_there t p (look t p) missing;
       bare = nothing_below t p is (no_directory t p (look t p) missing dir);
     }
 
 -- what rmdir finds
-pub rmdir_removes : (t : Tree) (p : Key) → IsTree t → fault t (Rmdir p) ≡ None → Removes t p
-rmdir_removes t p is h =
-    let none = all_none (parents_resolution t p ∷ check (is_missing (tree_shapes t p)) Enoent ∷ check (is_file (tree_shapes t p)) Enotdir ∷ check (has_entries (tree_shapes t p)) Enotempty ∷ []) (row_none t (Rmdir p) h) in
+pub rmdir_removes : (most : ℕ) (t : Tree) (p : Key) → IsTree t → fault most t (Rmdir p) ≡ None → Removes t p
+rmdir_removes most t p is h =
+    let none = all_none (parents_resolution t p ∷ check (is_missing (tree_shapes t p)) Enoent ∷ check (is_file (tree_shapes t p)) Enotdir ∷ check (has_entries (tree_shapes t p)) Enotempty ∷ []) (row_none most t (Rmdir p) h) in
     record {
-      named = check-none (is_root p) Ebusy (by_text_none t (Rmdir p) h);
+      named = check-none (is_root p) Ebusy (by_text_none most t (Rmdir p) h);
       there = some_there t p (look t p) (check-none (is_missing (tree_shapes t p)) Enoent none.1.0);
       bare = bare_below t p (look t p) is refl (check-none (has_entries (tree_shapes t p)) Enotempty none.1.1.1.0);
     }
@@ -149,12 +148,12 @@ writes t p checks is h =
     }
 
 -- what write finds
-pub write_writes : (t : Tree) (p : Key) (off : ℕ) (bytes : List ℕ) → IsTree t → fault t (Write p off bytes) ≡ None → Writes t p
-write_writes t p off bytes is h = writes t p (check (has_any bytes && nat_lt FILE_LIMIT (off + length bytes)) Efbig ∷ []) is (row_none t (Write p off bytes) h)
+pub write_writes : (most : ℕ) (t : Tree) (p : Key) (off : ℕ) (bytes : List ℕ) → IsTree t → fault most t (Write p off bytes) ≡ None → Writes t p
+write_writes most t p off bytes is h = writes t p (check (has_any bytes && nat_lt most (off + length bytes)) Efbig ∷ []) is (row_none most t (Write p off bytes) h)
 
 -- what truncate finds
-pub truncate_writes : (t : Tree) (p : Key) (size : ℕ) → IsTree t → fault t (Truncate p size) ≡ None → Writes t p
-truncate_writes t p size is h = writes t p (check (nat_lt FILE_LIMIT size) Efbig ∷ []) is (row_none t (Truncate p size) h)
+pub truncate_writes : (most : ℕ) (t : Tree) (p : Key) (size : ℕ) → IsTree t → fault most t (Truncate p size) ≡ None → Writes t p
+truncate_writes most t p size is h = writes t p (check (nat_lt most size) Efbig ∷ []) is (row_none most t (Truncate p size) h)
 
 -- a rename that moves finds a node, a directory for its new place, and nothing below that place; neither path is the
 -- root, and the node does not stand above its new place
@@ -167,12 +166,12 @@ pub record Renames (t : Tree) (p q : Key) : Type 0 where
   pub bare : (x : Name) (rest : Key) → look t (q ++ x ∷ rest) ≡ None
 
 -- what a rename finds
-pub rename_renames : (t : Tree) (p q : Key) → IsTree t → fault t (Rename p q) ≡ None → p ≢ q → Renames t p q
-rename_renames t p q is h other =
-    let text = all_none (check (is_root p || is_root q) Ebusy ∷ check (is_proper_prefix p q) Einval ∷ []) (by_text_none t (Rename p q) h) in
+pub rename_renames : (most : ℕ) (t : Tree) (p q : Key) → IsTree t → fault most t (Rename p q) ≡ None → p ≢ q → Renames t p q
+rename_renames most t p q is h other =
+    let text = all_none (check (is_root p || is_root q) Ebusy ∷ check (is_proper_prefix p q) Einval ∷ []) (by_text_none most t (Rename p q) h) in
     let roots = check-none (is_root p || is_root q) Ebusy text.0 in
     let rest = place_errors (tree_shapes t p) (tree_shapes t q) (has_room (is_same (parent_of p) (parent_of q)) (tree_shapes t (parent_of q))) in
-    let none = all_none (parents_resolution t p ∷ parents_resolution t q ∷ check (is_missing (tree_shapes t p)) Enoent ∷ cond {A = List (Option Errno)} (is_same p q) [] rest) (row_none t (Rename p q) h) in
+    let none = all_none (parents_resolution t p ∷ parents_resolution t q ∷ check (is_missing (tree_shapes t p)) Enoent ∷ cond {A = List (Option Errno)} (is_same p q) [] rest) (row_none most t (Rename p q) h) in
     let replaced : AllNone rest = subst (λ b. AllNone (cond {A = List (Option Errno)} b [] rest)) (never_same p q other) none.1.1.1 in
     record {
       named = or_first (is_root p) (is_root q) roots;
@@ -192,12 +191,12 @@ pub record Exchanges (t : Tree) (p q : Key) : Type 0 where
   pub other_parent : look t (parent_of q) ≡ Some tree.Dir
 
 -- what an exchange finds
-pub exchange_exchanges : (t : Tree) (p q : Key) → IsTree t → fault t (Exchange p q) ≡ None → p ≢ q → Exchanges t p q
-exchange_exchanges t p q is h other =
-    let text = all_none (check (is_root p || is_root q) Ebusy ∷ check (is_proper_prefix p q || is_proper_prefix q p) Einval ∷ []) (by_text_none t (Exchange p q) h) in
+pub exchange_exchanges : (most : ℕ) (t : Tree) (p q : Key) → IsTree t → fault most t (Exchange p q) ≡ None → p ≢ q → Exchanges t p q
+exchange_exchanges most t p q is h other =
+    let text = all_none (check (is_root p || is_root q) Ebusy ∷ check (is_proper_prefix p q || is_proper_prefix q p) Einval ∷ []) (by_text_none most t (Exchange p q) h) in
     let roots = check-none (is_root p || is_root q) Ebusy text.0 in
     let above = check-none (is_proper_prefix p q || is_proper_prefix q p) Einval text.1.0 in
-    let none = all_none (parents_resolution t p ∷ parents_resolution t q ∷ check (is_missing (tree_shapes t p)) Enoent ∷ check (is_missing (tree_shapes t q)) Enoent ∷ []) (row_none t (Exchange p q) h) in
+    let none = all_none (parents_resolution t p ∷ parents_resolution t q ∷ check (is_missing (tree_shapes t p)) Enoent ∷ check (is_missing (tree_shapes t q)) Enoent ∷ []) (row_none most t (Exchange p q) h) in
     record {
       named = or_first (is_root p) (is_root q) roots;
       other_named = or_second (is_root p) (is_root q) roots;

@@ -25,13 +25,13 @@ abbrev pub listing : Option Errno → Option Shape → Option Errno
 listing found there = node_fault Readdir found there
 
 abbrev pub reading : Option Errno → Option Shape → Option Errno
-reading found there = node_fault (Read 0 0) found there
+reading found there = node_fault (Read 0 0 0) found there
 
-abbrev pub writing : Option Errno → Option Shape → ℕ → List ℕ → Option Errno
-writing found there off bytes = node_fault (Write off bytes) found there
+abbrev pub writing : ℕ → Option Errno → Option Shape → ℕ → List ℕ → Option Errno
+writing most found there off bytes = node_fault (Write most off bytes) found there
 
-abbrev pub truncating : Option Errno → Option Shape → ℕ → Option Errno
-truncating found there size = node_fault (Truncate size) found there
+abbrev pub truncating : ℕ → Option Errno → Option Shape → ℕ → Option Errno
+truncating most found there size = node_fault (Truncate most size) found there
 
 -- the error of a rename to a place below the node itself
 abbrev pub if_below : Option Key → Option Errno
@@ -41,6 +41,6 @@ if_below rest = first_failure (check (has_more rest) Einval ∷ [])
 pub on_dir : (c : NodeCall) (names : List Name) → (node_row c None (Some (Dir names))).1 ≡ None
 on_dir Stat names = refl
 on_dir Readdir names = refl
-on_dir (Read off count) names = refl
-on_dir (Write off bytes) names = refl
-on_dir (Truncate size) names = refl
+on_dir (Read most off count) names = refl
+on_dir (Write most off bytes) names = refl
+on_dir (Truncate most size) names = refl

@@ -1,24 +1,26 @@
--- Worked examples of calls on a tree: each call with its reply, from the root alone, and where it tells more the tree at the end.
+-- Worked examples of calls on a tree: each call with its reply, from the root alone by the first limits, and where it tells more the tree at the end.
 use Rattle.std.specs.Prelude.{◌≡◌, ℕ, suc, zero, ◌+◌, ◌/◌, ◌%◌, List, [], ◌∷◌, ◌++◌, map, codes}
 use Prim.Native.String.{String}
 use Rattle.fs_names.specs.Keys.{Key}
 use Rattle.fs_names.specs.Reading.{names}
 use Rattle.fs_names.specs.declared.kind.Kind.TheVariants as kind
+use Rattle.fs_names.specs.declared.limits.Limits.TheVariants.{V1}
 use Rattle.fs_calls.specs.declared.call.Call.{Call}
 use Rattle.fs_calls.specs.declared.call.Call.TheVariants.{Mkdir, Mknod, Unlink, Rmdir, Rename, Exchange, Stat, Readdir, Read, Write, Truncate}
 use Rattle.fs_calls.specs.declared.reply.Reply.{Reply}
 use Rattle.fs_calls.specs.declared.reply.Reply.TheVariants as answer
 use Rattle.fs_calls.specs.declared.reply.Reply.TheVariants.{Done, Names, Bytes, Wrote, Failed}
 use Rattle.fs_calls.specs.declared.errno.Errno.TheVariants.{Enoent, Enotdir, Eexist, Enotempty, Eisdir, Einval, Ebusy, Eperm, Enospc, Efbig}
-use Rattle.fs_calls.specs.Tree.{Tree, Dir, File, root_tree}
+use Rattle.fs_calls.specs.Tree.{Tree, Dir, File}
+use Rattle.fs_calls.specs.Starts.{root_start}
 use Rattle.fs_calls.specs.Outcomes.{play, replies}
 
 -- calls with their replies, in order
 abbrev pub Answered : List (Call × Reply) → Type 0
-Answered steps = replies root_tree (map (λ s. s.0) steps) ≡ map (λ s. s.1) steps
+Answered steps = replies (root_start V1) (map (λ s. s.0) steps) ≡ map (λ s. s.1) steps
 
 abbrev pub tree_after : List (Call × Reply) → Tree
-tree_after steps = play root_tree (map (λ s. s.0) steps)
+tree_after steps = play (root_start V1) (map (λ s. s.0) steps)
 
 abbrev pub at : String → Key
 at text = names (codes text)

@@ -12,13 +12,13 @@ pub use Rattle.fs_calls.specs.declared.target.PairCall.TheVariants.{Rename, Exch
 use Rattle.fs_calls.specs.declared.errno.Errno.{Errno}
 use Rattle.fs_calls.specs.declared.errno.Errno.TheVariants.{Eexist, Einval, Ebusy, Eperm}
 
--- stat, readdir, read (offset, count), write (offset, bytes), truncate (size)
+-- stat, readdir, read (offset, count), write (offset, bytes), truncate (size); the last three have the most bytes of a file before all else
 pub data NodeCall : Type 0 where
   Stat : NodeCall
   Readdir : NodeCall
-  Read : ℕ → ℕ → NodeCall
-  Write : ℕ → List ℕ → NodeCall
-  Truncate : ℕ → NodeCall
+  Read : ℕ → ℕ → ℕ → NodeCall
+  Write : ℕ → ℕ → List ℕ → NodeCall
+  Truncate : ℕ → ℕ → NodeCall
 
 -- a call by what it looks at: the node at a path, the entry that a path names, the entries of two paths
 pub data Form : Type 0 where
@@ -26,19 +26,19 @@ pub data Form : Type 0 where
   AtEntry : EntryCall → Key → Form
   AtPair : PairCall → Key → Key → Form
 
--- the form of a call
-abbrev pub form : Call → Form
-form (calls.Mkdir p) = AtEntry Mkdir p
-form (calls.Mknod p) = AtEntry Mknod p
-form (calls.Unlink p) = AtEntry Unlink p
-form (calls.Rmdir p) = AtEntry Rmdir p
-form (calls.Rename p q) = AtPair Rename p q
-form (calls.Exchange p q) = AtPair Exchange p q
-form (calls.Stat p) = AtNode Stat p
-form (calls.Readdir p) = AtNode Readdir p
-form (calls.Read p off count) = AtNode (Read off count) p
-form (calls.Write p off bytes) = AtNode (Write off bytes) p
-form (calls.Truncate p size) = AtNode (Truncate size) p
+-- the form of a call, where a file has at most so many bytes
+abbrev pub form : ℕ → Call → Form
+form most (calls.Mkdir p) = AtEntry Mkdir p
+form most (calls.Mknod p) = AtEntry Mknod p
+form most (calls.Unlink p) = AtEntry Unlink p
+form most (calls.Rmdir p) = AtEntry Rmdir p
+form most (calls.Rename p q) = AtPair Rename p q
+form most (calls.Exchange p q) = AtPair Exchange p q
+form most (calls.Stat p) = AtNode Stat p
+form most (calls.Readdir p) = AtNode Readdir p
+form most (calls.Read p off count) = AtNode (Read most off count) p
+form most (calls.Write p off bytes) = AtNode (Write most off bytes) p
+form most (calls.Truncate p size) = AtNode (Truncate most size) p
 
 -- the error of a call on the root's entry
 abbrev pub root_error : EntryCall → Errno
@@ -53,6 +53,10 @@ by_text (AtNode c p) = None
 by_text (AtEntry c p) = check (is_root p) (root_error c)
 by_text (AtPair Rename p q) = first_failure (check (is_root p || is_root q) Ebusy ∷ check (is_proper_prefix p q) Einval ∷ [])
 by_text (AtPair Exchange p q) = first_failure (check (is_root p || is_root q) Ebusy ∷ check (is_proper_prefix p q || is_proper_prefix q p) Einval ∷ [])
+
+-- the same of a call, which no limit of files changes
+abbrev pub by_paths : Call → Option Errno
+by_paths call = by_text (form 0 call)
 
 -- the same call with its paths read from k on
 abbrev pub under : Key → Form → Form
@@ -73,6 +77,10 @@ reserves (AtNode c p) = None
 reserves (AtEntry c []) = None
 reserves (AtEntry c (x ∷ p)) = new_shape c
 reserves (AtPair c p q) = None
+
+-- the same of a call, which no limit of files changes
+abbrev pub reserved_by : Call → Option Shape
+reserved_by call = reserves (form 0 call)
 
 -- a call that its paths alone do not decide
 abbrev pub Fits : Form → Type 0

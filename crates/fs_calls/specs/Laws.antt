@@ -1,5 +1,5 @@
 -- What holds of the definitions: laws, each proved as the contract of a function of the module `laws`.
-use Rattle.std.specs.Prelude.{◌≡◌, ◌≢◌, List, ◌∷◌, ◌++◌, Some, None}
+use Rattle.std.specs.Prelude.{◌≡◌, ◌≢◌, ℕ, List, ◌∷◌, ◌++◌, Some, None}
 use Rattle.fs_names.specs.Names.{Name}
 use Rattle.fs_names.specs.Keys.{Key, after_prefix}
 use Rattle.fs_calls.specs.Tree.{Tree, Node, Dir, look, IsTree, root_tree}
@@ -12,11 +12,11 @@ use Rattle.fs_calls.specs.declared.reply.Reply.TheVariants.{Failed}
 
 -- a call whose reply is an error leaves the tree
 abbrev pub ErrorsChangeNothing : Type 0
-ErrorsChangeNothing = (t : Tree) (call : Call) (e : Errno) → reply t call ≡ Failed e → after t call ≡ t
+ErrorsChangeNothing = (most : ℕ) (t : Tree) (call : Call) (e : Errno) → reply most t call ≡ Failed e → after most t call ≡ t
 
 -- after a call, a tree is a tree
 abbrev pub StaysATree : Type 0
-StaysATree = (t : Tree) (call : Call) → IsTree t → IsTree (after t call)
+StaysATree = (most : ℕ) (t : Tree) (call : Call) → IsTree t → IsTree (after most t call)
 
 -- what has something below it is a directory
 abbrev pub HasDirectoriesAbove : Tree → Type 0
@@ -38,8 +38,8 @@ pub record IsMoved (old new : Tree) (p q : Key) : Type 0 where
 
 -- a rename without an error moves a node, with all below it, and one onto itself changes nothing
 pub record RenamesMove : Type 0 where
-  pub moved : (t : Tree) (p q : Key) → IsTree t → fault t (Rename p q) ≡ None → p ≢ q → IsMoved t (after t (Rename p q)) p q
-  pub onto_itself : (t : Tree) (p : Key) → after t (Rename p p) ≡ t
+  pub moved : (most : ℕ) (t : Tree) (p q : Key) → IsTree t → fault most t (Rename p q) ≡ None → p ≢ q → IsMoved t (after most t (Rename p q)) p q
+  pub onto_itself : (most : ℕ) (t : Tree) (p : Key) → after most t (Rename p p) ≡ t
 
 -- the second tree has at each of p and q, and below it, what the first has at the other one, and all else as it was
 pub record IsExchanged (old new : Tree) (p q : Key) : Type 0 where
@@ -49,5 +49,5 @@ pub record IsExchanged (old new : Tree) (p q : Key) : Type 0 where
 
 -- an exchange without an error lets two nodes change places, each with all below it, and one of a path with itself changes nothing
 pub record ExchangesSwap : Type 0 where
-  pub swapped : (t : Tree) (p q : Key) → IsTree t → fault t (Exchange p q) ≡ None → p ≢ q → IsExchanged t (after t (Exchange p q)) p q
-  pub with_itself : (t : Tree) (p : Key) → after t (Exchange p p) ≡ t
+  pub swapped : (most : ℕ) (t : Tree) (p q : Key) → IsTree t → fault most t (Exchange p q) ≡ None → p ≢ q → IsExchanged t (after most t (Exchange p q)) p q
+  pub with_itself : (most : ℕ) (t : Tree) (p : Key) → after most t (Exchange p p) ≡ t

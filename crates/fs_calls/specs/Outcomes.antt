@@ -2,6 +2,7 @@
 use Rattle.std.specs.Prelude.{ℕ, List, [], ◌∷◌, if◌then◌else◌, Option, Some, None}
 use Rattle.fs_names.specs.Failures.{or_else}
 use Rattle.fs_names.specs.Keys.{Key, parent_of}
+use Rattle.fs_names.specs.Limits.{file_limit}
 use Rattle.fs_calls.specs.Tree as tree
 use Rattle.fs_calls.specs.Tree.{Tree, Node, inserted, removed, renamed, exchanged}
 use Rattle.fs_calls.specs.Starts.{Start, start_tree}
@@ -54,20 +55,20 @@ change_of t (AtPair pairs.Rename p q) = if is_same p q then t else renamed t p q
 change_of t (AtPair pairs.Exchange p q) = if is_same p q then t else exchanged t p q
 
 -- the first error behind those that the paths decide alone
-abbrev pub row : Tree → Call → Option Errno
-row t call = row_in (tree_shapes t) (form call)
+abbrev pub row : ℕ → Tree → Call → Option Errno
+row most t call = row_in (tree_shapes t) (form most call)
 
 -- the reply to a call, if it has no error
-abbrev pub success : Tree → Call → Reply
-success t call = reply_of t (form call)
+abbrev pub success : ℕ → Tree → Call → Reply
+success most t call = reply_of t (form most call)
 
 -- the tree after a call, if it has no error
-abbrev pub change : Tree → Call → Tree
-change t call = change_of t (form call)
+abbrev pub change : ℕ → Tree → Call → Tree
+change most t call = change_of t (form most call)
 
--- the first error of a call
-unfoldable pub fault : Tree → Call → Option Errno
-fault t call = or_else (by_text (form call)) (row t call)
+-- the first error of a call, where a file has at most so many bytes
+unfoldable pub fault : ℕ → Tree → Call → Option Errno
+fault most t call = or_else (by_text (form most call)) (row most t call)
 
 -- an error is the reply, and else what a call without one replies
 abbrev pub replied : Option Errno → Reply → Reply
@@ -80,19 +81,31 @@ if_sound None old new = new
 if_sound (Some e) old new = old
 
 -- what a call replies on a tree
-unfoldable pub reply : Tree → Call → Reply
-reply t call = replied (fault t call) (success t call)
+unfoldable pub reply : ℕ → Tree → Call → Reply
+reply most t call = replied (fault most t call) (success most t call)
 
 -- the tree after a call
-unfoldable pub after : Tree → Call → Tree
-after t call = if_sound (fault t call) t (change t call)
+unfoldable pub after : ℕ → Tree → Call → Tree
+after most t call = if_sound (fault most t call) t (change most t call)
 
--- the tree after a list of calls, from a start tree
+-- what a call replies at a start
+abbrev pub reply_at : Start → Call → Reply
+reply_at start call = reply (file_limit start.limits) (start_tree start) call
+
+-- the start that a call leaves: the tree after it, by the same limits
+abbrev pub called : Start → Call → Start
+called start call = record { limits = start.limits; tree = after (file_limit start.limits) (start_tree start) call }
+
+-- the tree after a list of calls, from a start
 abbrev pub play : Start → List Call → Tree
 play start [] = start_tree start
-play start (call ∷ calls) = play (after (start_tree start) call) calls
+play start (call ∷ calls) = play (called start call) calls
 
--- the replies to a list of calls, from a start tree
+-- the replies to a list of calls, from a start
 abbrev pub replies : Start → List Call → List Reply
 replies start [] = []
-replies start (call ∷ calls) = reply (start_tree start) call ∷ replies (after (start_tree start) call) calls
+replies start (call ∷ calls) = reply_at start call ∷ replies (called start call) calls
+
+-- the start that a list of calls leaves
+abbrev pub next_start : Start → List Call → Start
+next_start start calls = record { limits = start.limits; tree = play start calls }

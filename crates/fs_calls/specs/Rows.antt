@@ -3,7 +3,6 @@
 use Rattle.std.specs.Prelude.{ℕ, ◌+◌, ◌-◌, Bool, false, not, ◌&&◌, ◌||◌, nat_lt, length, take, drop, replicate, List, [], ◌∷◌, ◌++◌, Option, Some, None, if◌then◌else◌}
 use Rattle.fs_names.specs.Failures.{check, first_failure}
 use Rattle.fs_names.specs.Shapes.{Shape, Dir, File, is_there, is_missing, is_dir, is_file, names_of, bytes_of, has_any, has_entries, is_full}
-use Rattle.fs_names.specs.declared.limits.TheConstants.{FILE_LIMIT}
 use Rattle.fs_names.specs.declared.kind.Kind.TheVariants as kind
 use Rattle.fs_calls.specs.Forms.{NodeCall, Stat, Readdir, Read, Write, Truncate, EntryCall, Mkdir, Mknod, Unlink, Rmdir, PairCall, Rename, Exchange, new_shape}
 use Rattle.fs_calls.specs.declared.errno.Errno.{Errno}
@@ -17,9 +16,9 @@ use Rattle.fs_calls.specs.declared.reply.Reply.TheVariants as answer
 abbrev pub node_errors : NodeCall → Option Shape → List (Option Errno)
 node_errors Stat there = []
 node_errors Readdir there = check (is_file there) Enotdir ∷ []
-node_errors (Read off count) there = check (is_dir there) Eisdir ∷ []
-node_errors (Write off bytes) there = check (is_dir there) Eisdir ∷ check (has_any bytes && nat_lt FILE_LIMIT (off + length bytes)) Efbig ∷ []
-node_errors (Truncate size) there = check (is_dir there) Eisdir ∷ check (nat_lt FILE_LIMIT size) Efbig ∷ []
+node_errors (Read most off count) there = check (is_dir there) Eisdir ∷ []
+node_errors (Write most off bytes) there = check (is_dir there) Eisdir ∷ check (has_any bytes && nat_lt most (off + length bytes)) Efbig ∷ []
+node_errors (Truncate most size) there = check (is_dir there) Eisdir ∷ check (nat_lt most size) Efbig ∷ []
 
 -- a call on an entry, by whether its directory is full and what stands at the path
 abbrev pub entry_errors : EntryCall → Bool → Option Shape → List (Option Errno)
@@ -90,9 +89,9 @@ status (Some (File bytes)) = answer.Stat kind.File (length bytes)
 abbrev pub node_reply : NodeCall → Option Shape → Reply
 node_reply Stat there = status there
 node_reply Readdir there = answer.Names (names_of there)
-node_reply (Read off count) there = answer.Bytes (take count (drop off (bytes_of there)))
-node_reply (Write off bytes) there = answer.Wrote (length bytes)
-node_reply (Truncate size) there = answer.Done
+node_reply (Read most off count) there = answer.Bytes (take count (drop off (bytes_of there)))
+node_reply (Write most off bytes) there = answer.Wrote (length bytes)
+node_reply (Truncate most size) there = answer.Done
 
 -- the bytes of a file after a write: a gap reads as zeros
 abbrev pub written : List ℕ → ℕ → List ℕ → List ℕ
@@ -106,9 +105,9 @@ resized old size = take size old ++ replicate (size - length old) 0
 abbrev pub new_bytes : NodeCall → Option Shape → Option (List ℕ)
 new_bytes Stat there = None
 new_bytes Readdir there = None
-new_bytes (Read off count) there = None
-new_bytes (Write off bytes) there = if has_any bytes then Some (written (bytes_of there) off bytes) else None
-new_bytes (Truncate size) there = Some (resized (bytes_of there) size)
+new_bytes (Read most off count) there = None
+new_bytes (Write most off bytes) there = if has_any bytes then Some (written (bytes_of there) off bytes) else None
+new_bytes (Truncate most size) there = Some (resized (bytes_of there) size)
 
 -- what a call on an entry makes of it: it stays, a new node stands there, or it goes
 pub data Edit : Type 0 where

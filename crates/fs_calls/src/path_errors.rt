@@ -1,6 +1,6 @@
 //! The errors that the paths of a call decide alone.
 
-ghost use Rattle.std.specs.Prelude.{◌≡◌};
+ghost use Rattle.std.specs.Prelude.{ℕ, ◌≡◌};
 ghost use Rattle.fs_calls.specs.Forms.{form, by_text, root_error};
 ghost use Rattle.fs_calls.specs.code.Targets.{form_of};
 ghost use Rattle.fs_calls.specs.Forms as forms;
@@ -81,7 +81,7 @@ pub fn root_error(entry: EntryCall) -> Errno
 
 /// The error that the paths of a target alone decide.
 fn target_error(aim: Target<'_>) -> Option<Errno>
-    ensures { result ≡ by_text (form_of aim.entry) }
+    ensures { (most : ℕ) → result ≡ by_text (form_of most aim.entry) }
 {
     match aim {
         Target::Entry(entry, path) if path.is_empty() => Some(root_error(entry)),
@@ -93,7 +93,7 @@ fn target_error(aim: Target<'_>) -> Option<Errno>
 impl Call {
     /// The error that its paths alone decide, if any: it holds on every tree, and comes before all others.
     pub fn error_by_paths(&self) -> Option<Errno>
-        ensures { result ≡ by_text (form self.now) }
+        ensures { (most : ℕ) → result ≡ by_text (form most self.now) }
     {
         target_error(self.target())
     }

@@ -1,9 +1,9 @@
-//! Ranges of a file's bytes: what a read answers of them, and what a write puts over. And the limits of files and
-//! directories, which are compared here and nowhere else.
+//! Ranges of a file's bytes: what a read answers of them, and what a write puts over. And the comparisons with
+//! the limits of files and directories, which stand here and nowhere else.
 
 ghost use Rattle.std.specs.Prelude.{◌≡◌, ◌≤◌, ◌+◌, ◌++◌, take, drop, length, nat_le};
 
-use fs_names::{ENTRY_LIMIT, FILE_LIMIT};
+use fs_names::ENTRY_LIMIT;
 
 /// The bytes from an offset on, and no more than a count.
 pub fn part(bytes: &[u8], off: u64, count: u64) -> &[u8]
@@ -19,18 +19,18 @@ pub fn part(bytes: &[u8], off: u64, count: u64) -> &[u8]
     &rest[..count as usize]
 }
 
-/// Whether a file can be as long as an offset and so many bytes from it on.
-pub fn fits(off: u64, count: usize) -> bool
-    ensures { result ≡ nat_le (off + count) FILE_LIMIT }
+/// Whether a file of at most so many bytes can be as long as an offset and so many bytes from it on.
+pub fn fits(most: usize, off: u64, count: usize) -> bool
+    ensures { result ≡ nat_le (off + count) most }
 {
-    off <= FILE_LIMIT as u64 && count <= FILE_LIMIT - off as usize
+    off <= most as u64 && count <= most - off as usize
 }
 
-/// Whether a file can have this size.
-pub fn fits_size(size: u64) -> bool
-    ensures { result ≡ nat_le size FILE_LIMIT }
+/// Whether a file of at most so many bytes can have this size.
+pub fn fits_size(most: usize, size: u64) -> bool
+    ensures { result ≡ nat_le size most }
 {
-    size <= FILE_LIMIT as u64
+    size <= most as u64
 }
 
 /// Whether a directory with so many entries can have no more.

@@ -150,30 +150,30 @@ impl PairCall {
 
 /// A check of a call on a node.
 macro_rules! node_check {
-    (is_too_long($off:ident, $bytes:ident), $there:expr) => { !$bytes.as_slice().is_empty() && !fits($off, $bytes.as_slice().len()) };
-    (is_too_large($size:ident), $there:expr) => { !fits_size($size) };
-    ($check:ident, $there:expr) => { $there.$check() };
+    (is_too_long($off:ident, $bytes:ident), $most:expr, $there:expr) => { !$bytes.as_slice().is_empty() && !fits($most, $off, $bytes.as_slice().len()) };
+    (is_too_large($size:ident), $most:expr, $there:expr) => { !fits_size($most, $size) };
+    ($check:ident, $most:expr, $there:expr) => { $there.$check() };
 }
 
 /// The errors of the calls on a node.
 macro_rules! node_errors {
-    (($node:expr, $there:expr)
+    (($node:expr, $most:expr, $there:expr)
         entries $entries:tt
         pairs $pairs:tt
         nodes { $($call:ident $(($($arg:ident),*))? { $does:tt [$($check:ident $(($($asked:ident),*))? => $errno:ident),*] })* }
     ) => {
         match $node {
-            $(NodeCall::$call $(($($arg),*))? => first_error!($(node_check!($check $(($($asked),*))?, $there) => $errno),*),)*
+            $(NodeCall::$call $(($($arg),*))? => first_error!($(node_check!($check $(($($asked),*))?, $most, $there) => $errno),*),)*
         }
     };
 }
 
 impl NodeCall<'_> {
-    /// The error of a call on a node, by what stands there.
-    pub fn error(self, there: Sight) -> Option<Errno>
-        ensures { (s : Option Shape) → sight s ≡ there → result ≡ node_fault (node_call self.entry) None s }
+    /// The error of a call on a node, by the most bytes that a file has and by what stands there.
+    pub fn error(self, most: usize, there: Sight) -> Option<Errno>
+        ensures { (s : Option Shape) → sight s ≡ there → result ≡ node_fault (node_call most self.entry) None s }
     {
-        calls!(node_errors(self, there))
+        calls!(node_errors(self, most, there))
     }
 }
 

@@ -1,13 +1,14 @@
 //! What a call looks at: a node, an entry of a directory, or two entries; and by these, a call made again and two calls
 //! compared.
 
-ghost use Rattle.std.specs.Prelude.{◌≡◌, ◌↔◌, IfOk, IsTrue};
+ghost use Rattle.std.specs.Prelude.{ℕ, ◌≡◌, ◌≢◌, ◌↔◌, IfOk, OnOk, OnErr, IsTrue};
 ghost use Rattle.fs_calls.specs.Forms.{form, by_text};
 ghost use Rattle.fs_calls.specs.Forms as forms;
 ghost use Rattle.fs_calls.specs.code.Targets.{form_of, node_call};
 
 use crate::call::Call;
 use crate::errno::Errno;
+use fs_memory::Memory;
 use fs_names::{Bytes, Path};
 use std::alloc::{AllocError, Global};
 
@@ -60,21 +61,27 @@ pub enum Target<'a> {
 }
 
 /// The call that does this to a node.
-fn on_node(node: NodeCall<'_>, path: Path) -> Result<Call, AllocError>
-    ensures { IfOk result (λ call. form call ≡ forms.AtNode (node_call node.entry) path) }
+fn on_node(memory: &mut Memory, node: NodeCall<'_>, path: Path) -> Result<Call, AllocError>
+    ensures ok { IfOk result (λ call. form 0 call ≡ forms.AtNode (node_call 0 node.entry) path) }
+    ensures granted { OnOk result (memory.new ≡ memory.old) }
+    ensures refused { OnErr result (memory.new ≢ memory.old) }
 {
     match node {
         NodeCall::Stat => Ok(Call::Stat(path)),
         NodeCall::Readdir => Ok(Call::Readdir(path)),
         NodeCall::Read(offset, count) => Ok(Call::Read(path, offset, count)),
-        NodeCall::Write(offset, bytes) => Ok(Call::Write(path, offset, bytes.copy()?)),
+        NodeCall::Write(offset, bytes) => Ok(Call::Write(
+            path,
+            offset,
+            bytes.copy_counted(memory)?,
+        )),
         NodeCall::Truncate(size) => Ok(Call::Truncate(path, size)),
     }
 }
 
 /// The call that does this to an entry.
 fn on_entry(entry: EntryCall, path: Path) -> Call
-    ensures { form result ≡ forms.AtEntry entry path }
+    ensures { form 0 result ≡ forms.AtEntry entry path }
 {
     match entry {
         EntryCall::Mkdir => Call::Mkdir(path),
@@ -86,7 +93,7 @@ fn on_entry(entry: EntryCall, path: Path) -> Call
 
 /// The call that does this to two entries.
 fn on_pair(pair: PairCall, from: Path, to: Path) -> Call
-    ensures { form result ≡ forms.AtPair pair from to }
+    ensures { form 0 result ≡ forms.AtPair pair from to }
 {
     match pair {
         PairCall::Rename => Call::Rename(from, to),
@@ -111,7 +118,7 @@ fn same_bytes(one: &Bytes, other: &Bytes) -> bool
 
 /// Whether the same is done to a node.
 fn same_node(one: NodeCall<'_>, other: NodeCall<'_>) -> bool
-    ensures { IsTrue result ↔ node_call one.entry ≡ node_call other.entry }
+    ensures { IsTrue result ↔ node_call 0 one.entry ≡ node_call 0 other.entry }
 {
     match one {
         NodeCall::Stat => matches!(other, NodeCall::Stat),
@@ -142,7 +149,7 @@ fn same_pair(one: PairCall, other: PairCall) -> bool
 
 /// Whether what is looked at, and what is done there, are the same.
 fn same_target(one: Target<'_>, other: Target<'_>) -> bool
-    ensures { IsTrue result ↔ form_of one.entry ≡ form_of other.entry }
+    ensures { IsTrue result ↔ form_of 0 one.entry ≡ form_of 0 other.entry }
 {
     match (one, other) {
         (Target::Node(node, path), Target::Node(other_node, other_path)) => {
@@ -161,7 +168,8 @@ fn same_target(one: Target<'_>, other: Target<'_>) -> bool
 impl Call {
     /// What it looks at.
     pub fn target(&self) -> Target<'_>
-        ensures { form_of result ≡ form self.now }
+        ensures each { (most : ℕ) → form_of most result ≡ form most self.now }
+        ensures by_text { form_of 0 result ≡ form 0 self.now }
     {
         match self {
             Call::Mkdir(path) => Target::Entry(EntryCall::Mkdir, path),
@@ -178,15 +186,30 @@ impl Call {
         }
     }
 
-    /// The same call again.
-    #[tactic(auto, using(crate::proofs::FormLemmas::same_call))]
-    pub fn copy(&self, alloc: Global) -> Result<Call, AllocError>
+    /// The same call again. The bytes of a write are copied by their own allocator, and nothing else takes memory.
+    pub fn copy(&self, _alloc: Global) -> Result<Call, AllocError>
         ensures { IfOk result (λ call. call ≡ self.now) }
     {
+        self.copy_counted(&mut Memory::new())
+    }
+
+    /// The same, and a refusal is counted.
+    #[tactic(auto, using(crate::proofs::FormLemmas::same_call))]
+    pub fn copy_counted(&self, memory: &mut Memory) -> Result<Call, AllocError>
+        ensures ok { IfOk result (λ call. call ≡ self.now) }
+        ensures granted { OnOk result (memory.new ≡ memory.old) }
+        ensures refused { OnErr result (memory.new ≢ memory.old) }
+    {
         match self.target() {
-            Target::Node(node, path) => on_node(node, path.copy(alloc)?),
-            Target::Entry(entry, path) => Ok(on_entry(entry, path.copy(alloc)?)),
-            Target::Pair(pair, from, to) => Ok(on_pair(pair, from.copy(alloc)?, to.copy(alloc)?)),
+            Target::Node(node, path) => {
+                let path = path.copy_counted(memory)?;
+                on_node(memory, node, path)
+            }
+            Target::Entry(entry, path) => Ok(on_entry(entry, path.copy_counted(memory)?)),
+            Target::Pair(pair, from, to) => {
+                let from = from.copy_counted(memory)?;
+                Ok(on_pair(pair, from, to.copy_counted(memory)?))
+            }
         }
     }
 

@@ -1,10 +1,11 @@
 //! The timeline with its index.
 
-ghost use Rattle.std.specs.Prelude.{◌≡◌, ◌+◌, ◌-◌, ◌<◌, [], ◌∷◌, ◌++◌, ◌^◌, Some, OnOk, OnErr, length, slice_get};
+ghost use Rattle.std.specs.Prelude.{◌≡◌, ◌≢◌, ◌+◌, ◌-◌, ◌<◌, [], ◌∷◌, ◌++◌, ◌^◌, Some, OnOk, OnErr, length, slice_get};
 ghost use Rattle.fs_timeline.specs.Timeline.{commits};
 ghost use Rattle.fs_index.specs.Index.{Fits, place_of};
 
 use fs_calls::Call;
+use fs_memory::Memory;
 use fs_names::CallNo;
 use fs_timeline::{Entry, Timeline};
 use std::alloc::{AllocError, Global};
@@ -60,17 +61,19 @@ impl IndexedTimeline {
 
     /// Reserves this many places beside those that are reserved already. Out of memory nothing changes.
     /// More than a vector can have are out of memory too: where they are reserved, entries and places are fewer than 2^63.
-    pub fn make_places(&mut self, count: usize) -> Result<(), AllocError>
+    pub fn make_places(&mut self, memory: &mut Memory, count: usize) -> Result<(), AllocError>
         ensures ok { OnOk result (self.new ≡ record self.old { reserved = self.old.reserved + count }) }
         ensures few { OnOk result (length self.new.entries + self.new.reserved < 2 ^ 63) }
         ensures err { OnErr result (self.new ≡ self.old) }
+        ensures granted { OnOk result (memory.new ≡ memory.old) }
+        ensures refused { OnErr result (memory.new ≢ memory.old) }
     {
         // A sum that saturates is more than a vector can have, which refuses it.
         let places = self.reserved.saturating_add(count);
-        self.begun.reserve(places)?;
-        self.places.reserve(places)?;
-        self.order.reserve(places)?;
-        self.timeline.make_places(count)?;
+        memory.reserve(&mut self.begun, places)?;
+        memory.reserve(&mut self.places, places)?;
+        memory.reserve(&mut self.order, places)?;
+        self.timeline.make_places_counted(memory, count)?;
         self.reserved = places;
         Ok(())
     }

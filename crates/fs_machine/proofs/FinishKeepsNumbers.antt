@@ -3,7 +3,7 @@ use Rattle.std.proofs.Common.{◌≡◌, ℕ, Bool, true, false, cond, eqb, List
 use Rattle.fs_names.specs.Keys.{Key, last_of, parent_of}
 use Rattle.fs_names.specs.Names.{Name}
 use Rattle.fs_names.specs.Shapes.{Shape, is_there, is_full}
-use Rattle.fs_calls.specs.Forms.{form, Form, AtNode, AtEntry, AtPair, by_text}
+use Rattle.fs_calls.specs.Forms.{Form, AtNode, AtEntry, AtPair, by_paths}
 use Rattle.fs_calls.specs.declared.target.PairCall.TheVariants as pairs
 use Rattle.fs_calls.specs.declared.errno.Errno.{Errno}
 use Rattle.fs_calls.specs.declared.reply.Reply.{Reply}
@@ -72,7 +72,7 @@ of_keeps graph op None None m used = used
 of_keeps graph op None (Some st) m used = at_keeps graph op.remaining st op.reserved m used
 
 pub finish_keeps : (graph : Graph) (op : Record) (m : ℕ) → Used graph m → Used (finish graph op).graph m
-finish_keeps graph op m used = of_keeps graph op (by_text (form op.call)) op.holdings m used
+finish_keeps graph op m used = of_keeps graph op (by_paths op.call) op.holdings m used
 
 kept : (new other : State) (n : ℕ) → new ≡ other → Used other.graph n → Used new.graph n
 kept new other n e used = subst (λ (s : State). Used s.graph n) (sym e) used

@@ -1,7 +1,7 @@
 -- A call whose reply is fixed lets go of what it took last.
 use Rattle.std.proofs.Common.{◌≡◌, ℕ, [], ◌∷◌, ◌++◌, Option, Some, None, refl, sym, ap, ap₂, ◌∙◌}
 use Rattle.fs_names.specs.Keys.{Key}
-use Rattle.fs_calls.specs.Forms.{form, by_text}
+use Rattle.fs_calls.specs.Forms.{by_paths}
 use Rattle.fs_machine.specs.Laws.{TheLastTakenGoesFirst}
 use Rattle.fs_machine.specs.Moves.{next_by, last_held, left_last, left_holdings}
 use Rattle.fs_machine.specs.Records.{Holdings, taken, taken_if}
@@ -26,4 +26,4 @@ popped st = popped_by st.node st.behind st.source.walked st.source.node st.dest.
 
 pub last_goes : TheLastTakenGoesFirst
 last_goes graph op r st fixed on =
-    (last_held st st.victim, ap₂ (next_by graph op (by_text (form op.call))) fixed on, popped st ∙ ap (λ (o : Option Holdings). taken_if o ++ last_held st st.victim ∷ []) (sym (ap₂ left_holdings fixed on)))
+    (last_held st st.victim, ap₂ (next_by graph op (by_paths op.call)) fixed on, popped st ∙ ap (λ (o : Option Holdings). taken_if o ++ last_held st st.victim ∷ []) (sym (ap₂ left_holdings fixed on)))

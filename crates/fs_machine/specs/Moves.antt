@@ -6,7 +6,7 @@ use Rattle.fs_names.specs.Keys.{Key, after_prefix, has_more, parent_of, last_of,
 use Rattle.fs_names.specs.Names.{Name}
 use Rattle.fs_names.specs.Parts.{common, left}
 use Rattle.fs_names.specs.Shapes.{Shape, Dir, File, is_full}
-use Rattle.fs_calls.specs.Forms.{form, Form, AtNode, AtEntry, AtPair, by_text}
+use Rattle.fs_calls.specs.Forms.{Form, AtNode, AtEntry, AtPair, by_paths}
 use Rattle.fs_calls.specs.declared.target.PairCall.{PairCall}
 use Rattle.fs_calls.specs.declared.target.PairCall.TheVariants as pairs
 use Rattle.fs_calls.specs.declared.target.EntryCall.{EntryCall}
@@ -192,7 +192,7 @@ next_by graph op None phase (Some st) = next_on graph op.remaining st
 
 -- the next move of a record on a graph
 abbrev pub next : Graph → Record → Move
-next graph op = next_by graph op (by_text (form op.call)) op.phase op.holdings
+next graph op = next_by graph op (by_paths op.call) op.phase op.holdings
 
 -- a path without its first name
 abbrev pub tail_of : Key → Key

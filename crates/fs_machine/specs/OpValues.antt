@@ -1,10 +1,12 @@
 -- A call as a machine of its own: what its code keeps. Its seat and its place among the commits are told by whoever runs it.
 use Rattle.std.specs.Prelude.{ℕ, ◌≡◌, ◌≢◌, ◌<◌, ◌≤◌, IsTrue, false, List, [], Option, Some, None, length, ◌⊎◌}
 use Rattle.fs_names.specs.Keys.{Key, parent_of, last_of}
+use Rattle.fs_names.specs.Limits.{file_limit}
 use Rattle.fs_names.specs.Names.{Name}
 use Rattle.fs_names.specs.Shapes.{Shape, Dir, File, is_there, has_entries}
-use Rattle.fs_names.specs.declared.limits.TheConstants.{ENTRY_LIMIT, FILE_LIMIT}
-use Rattle.fs_calls.specs.Forms.{form, Form, AtNode, AtEntry, AtPair}
+use Rattle.fs_names.specs.declared.limits.Limits.{Limits}
+use Rattle.fs_names.specs.declared.limits.TheConstants.{ENTRY_LIMIT}
+use Rattle.fs_calls.specs.Forms.{form, NodeCall, Stat, Readdir, Read, Write, Truncate, Form, AtNode, AtEntry, AtPair}
 use Rattle.fs_calls.specs.declared.target.PairCall.TheVariants as pairs
 use Rattle.fs_calls.specs.declared.call.Call.{Call}
 use Rattle.fs_calls.specs.declared.reply.Reply.{Reply}
@@ -36,9 +38,9 @@ abbrev pub record_of : ℕ → Option ℕ → OpValue → Record
 record_of seat place op =
     record { seat = seat; call = op.call; walked = op.walked; remaining = op.remaining; holdings = op.holdings; phase = phase_of place op.reply; reserved = op.reserved; removed = op.removed }
 
--- a call that begins
-abbrev pub new_value : Call → Option ℕ → OpValue
-new_value call reserved = record { call = call; walked = []; remaining = form call; holdings = None; reply = None; reserved = reserved; removed = None }
+-- a call that begins by these limits
+abbrev pub new_value : Limits → Call → Option ℕ → OpValue
+new_value limits call reserved = record { call = call; walked = []; remaining = form (file_limit limits) call; holdings = None; reply = None; reserved = reserved; removed = None }
 
 -- its next move; neither its seat nor its place matters
 abbrev pub next_of : Graph → OpValue → Move
@@ -60,10 +62,10 @@ IsFinished graph old new = (seat : ℕ) (place : Option ℕ) → record_of seat 
 abbrev pub graph_after : Graph → OpValue → Graph
 graph_after graph op = (finish graph (record_of 0 None op)).graph
 
--- a begin on a graph with a limit: a call that reserves gets some number below the limit that was not in use
-abbrev pub BegunAs : Graph → ℕ → Call → Option Shape → OpValue → Graph → Type 0
-BegunAs graph limit call None op new = (op ≡ new_value call None) × (new ≡ graph)
-BegunAs graph limit call (Some shape) op new = (n : ℕ) × (n < limit) × (graph.shape n ≡ None) × (op ≡ new_value call (Some n)) × (new ≡ reserved_in n shape graph)
+-- a begin on a graph with so many numbers, by these limits: a call that reserves gets some number below so many that was not in use
+abbrev pub BegunAs : Graph → ℕ → Limits → Call → Option Shape → OpValue → Graph → Type 0
+BegunAs graph limit limits call None op new = (op ≡ new_value limits call None) × (new ≡ graph)
+BegunAs graph limit limits call (Some shape) op new = (n : ℕ) × (n < limit) × (graph.shape n ≡ None) × (op ≡ new_value limits call (Some n)) × (new ≡ reserved_in n shape graph)
 
 -- a number that is in use, that no entry names, and without entries: it may be linked, or released
 pub record IsSpare (graph : Graph) (n : ℕ) : Type 0 where
@@ -76,10 +78,32 @@ pub record IsSpare (graph : Graph) (n : ℕ) : Type 0 where
 abbrev pub SpareIf : Graph → Option ℕ → Type 0
 SpareIf graph number = (n : ℕ) → number ≡ Some n → IsSpare graph n
 
+-- no directory has more entries than its limit
+abbrev pub DirsWithin : Graph → Type 0
+DirsWithin graph = (n : ℕ) (names : List Name) → graph.shape n ≡ Some (Dir names) → length names ≤ ENTRY_LIMIT
+
+-- no file has more bytes than so many
+abbrev pub FilesWithin : ℕ → Graph → Type 0
+FilesWithin most graph = (n : ℕ) (content : List ℕ) → graph.shape n ≡ Some (File content) → length content ≤ most
+
 -- no directory and no file is above its limit
-pub record IsBounded (graph : Graph) : Type 0 where
-  pub entries : (n : ℕ) (names : List Name) → graph.shape n ≡ Some (Dir names) → length names ≤ ENTRY_LIMIT
-  pub bytes : (n : ℕ) (content : List ℕ) → graph.shape n ≡ Some (File content) → length content ≤ FILE_LIMIT
+pub record IsBounded (most : ℕ) (graph : Graph) : Type 0 where
+  pub entries : DirsWithin graph
+  pub bytes : FilesWithin most graph
+
+-- what a call on a node tells is within its limit: names by that of directories, bytes by its own
+abbrev pub TellsWithin : Graph → NodeCall → Type 0
+TellsWithin graph Stat = Unit {0}
+TellsWithin graph Readdir = DirsWithin graph
+TellsWithin graph (Read most off count) = FilesWithin most graph
+TellsWithin graph (Write most off bytes) = Unit {0}
+TellsWithin graph (Truncate most size) = Unit {0}
+
+-- the same of each form of call
+abbrev pub IsToldWithin : Graph → Form → Type 0
+IsToldWithin graph (AtNode c p) = TellsWithin graph c
+IsToldWithin graph (AtEntry c p) = Unit {0}
+IsToldWithin graph (AtPair c p q) = Unit {0}
 
 -- heads of a pair that stand at one node have walked the same names
 abbrev pub HeadsApart : Form → Holdings → Type 0
@@ -101,4 +125,4 @@ pub record CanFinish (graph : Graph) (reserved : Option ℕ) (remaining : Form) 
   pub heads : (st : Holdings) → holdings ≡ Some st → HeadsApart remaining st
   pub other : (st : Holdings) → holdings ≡ Some st → reserved ≢ Some st.node
   pub apart : (st : Holdings) → holdings ≡ Some st → MovesApart graph remaining st
-  pub bounded : IsBounded graph
+  pub bounded : IsToldWithin graph remaining

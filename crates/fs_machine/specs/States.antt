@@ -2,13 +2,15 @@
 use Rattle.std.specs.Prelude.{ℕ, ◌≡◌, true, ◌+◌, ◌<◌, ◌≤◌, List, [], ◌∷◌, ◌++◌, ◌⊎◌, Option, Some, None, Result, Ok, Err}
 use Rattle.std.specs.declared.cmp.Ordering.TheVariants.{Less}
 use Rattle.fs_names.specs.Keys.{Key}
+use Rattle.fs_names.specs.Limits.{file_limit}
 use Rattle.fs_names.specs.Names.{Name, name_cmp, has_name}
 use Rattle.fs_names.specs.Shapes.{Shape, Dir}
-use Rattle.fs_calls.specs.Tree.{IsTree, root_tree}
-use Rattle.fs_calls.specs.Starts.{Start, start_tree}
-use Rattle.fs_calls.specs.Outcomes.{play}
+use Rattle.fs_names.specs.declared.limits.Limits.{Limits}
+use Rattle.fs_calls.specs.Tree.{IsTree}
+use Rattle.fs_calls.specs.Starts.{Start, start_tree, root_start}
+use Rattle.fs_calls.specs.Outcomes.{next_start}
 use Rattle.fs_calls.specs.Sights.{tree_shapes}
-use Rattle.fs_calls.specs.Forms.{form, reserves}
+use Rattle.fs_calls.specs.Forms.{form, reserved_by}
 use Rattle.fs_calls.specs.declared.call.Call.{Call}
 use Rattle.fs_calls.specs.declared.reply.Reply.{Reply}
 use Rattle.fs_graph.specs.Graphs.{Graph, at, empty_graph, graph_shapes, IsGraph, IsReached, reserved_in, set_at, used_below}
@@ -29,7 +31,7 @@ use Rattle.fs_machine.specs.declared.answers.Stepped.TheVariants.{Idle, Took, Bu
 use Rattle.fs_machine.specs.Records.{Holdings, Walking, Placed, Finished, Record, Records}
 use Rattle.fs_timeline.specs.Timeline.{begins, commit_count, commits}
 
--- limit, the tree at which the timeline begins, graph, who holds each node, the calls under way by their numbers, the call on each seat, timeline
+-- limit, the start at which the timeline begins, graph, who holds each node, the calls under way by their numbers, the call on each seat, timeline
 pub record State : Type 0 where
   pub limit : ℕ
   pub start : Start
@@ -44,8 +46,8 @@ abbrev pub fresh : ℕ → Start → Graph → State
 fresh limit start graph = record { limit = limit; start = start; graph = graph; holder = λ n. None; ops = λ c. None; on_seat = λ s. None; timeline = [] }
 
 -- the same of the root alone
-abbrev pub empty : ℕ → State
-empty limit = fresh limit root_tree empty_graph
+abbrev pub empty : Limits → ℕ → State
+empty limits limit = fresh limit (root_start limits) empty_graph
 
 -- names in byte order, each once
 abbrev pub IsBefore : Name → List Name → Type 0
@@ -55,9 +57,9 @@ abbrev pub AreRising : List Name → Type 0
 AreRising [] = Unit {0}
 AreRising (x ∷ names) = IsBefore x names × AreRising names
 
--- the timeline begins again, at the tree that it plays
+-- the timeline begins again, at the tree that it plays, by the same limits
 abbrev pub begun_again : State → State
-begun_again s = fresh s.limit (play s.start (commits s.timeline)) s.graph
+begun_again s = fresh s.limit (next_start s.start (commits s.timeline)) s.graph
 
 -- where a timeline can begin: a graph that spells the tree, keeps the limits, and has no number in use that is not reached
 pub record IsStart (limit : ℕ) (start : Start) (graph : Graph) : Type 0 where
@@ -65,7 +67,7 @@ pub record IsStart (limit : ℕ) (start : Start) (graph : Graph) : Type 0 where
   pub tree : IsTree (start_tree start)
   pub spelled : graph_shapes graph ≡ tree_shapes (start_tree start)
   pub is_graph : IsGraph graph
-  pub bounded : IsBounded graph
+  pub bounded : IsBounded (file_limit start.limits) graph
   pub rising : (n : ℕ) (names : List Name) → graph.shape n ≡ Some (Dir names) → AreRising names
   pub below : (n : ℕ) (s : Shape) → graph.shape n ≡ Some s → n < limit
   pub reached : (n : ℕ) (s : Shape) → graph.shape n ≡ Some s → IsReached graph.child 0 n
@@ -74,15 +76,15 @@ pub record IsStart (limit : ℕ) (start : Start) (graph : Graph) : Type 0 where
 abbrev pub Begun : Type 0
 Begun = Result ℕ Refusal
 
--- the record of a call that begins
-abbrev pub new_op : ℕ → Call → Option ℕ → Record
-new_op seat call reserved = record { seat = seat; call = call; walked = []; remaining = form call; holdings = None; phase = Walking; reserved = reserved; removed = None }
+-- the record of a call that begins by these limits
+abbrev pub new_op : Limits → ℕ → Call → Option ℕ → Record
+new_op limits seat call reserved = record { seat = seat; call = call; walked = []; remaining = form (file_limit limits) call; holdings = None; phase = Walking; reserved = reserved; removed = None }
 
 -- the state after a begin
 abbrev pub began : State → ℕ → Call → ℕ → Option ℕ → Graph → State
 began old seat call c reserved graph = record old {
   graph = graph;
-  ops = set_at c (Some (new_op seat call reserved)) old.ops;
+  ops = set_at c (Some (new_op old.start.limits seat call reserved)) old.ops;
   on_seat = set_at seat (Some c) old.on_seat;
   timeline = old.timeline ++ Begin c seat call ∷ [];
 }
@@ -101,9 +103,9 @@ IsFull old (Some shape) = used_below old.graph.shape old.limit ≡ old.limit
 -- the relation of a begin
 abbrev pub Begins : State → ℕ → Call → Begun → State → Type 0
 Begins old seat call (Err SeatBusy) new = (c : ℕ) × (old.on_seat seat ≡ Some c) × (new ≡ old)
-Begins old seat call (Err Full) new = (old.on_seat seat ≡ None) × IsFull old (reserves (form call)) × (new ≡ old)
-Begins old seat call (Err OutOfMemory) new = (old.on_seat seat ≡ None) × (IsFull old (reserves (form call)) → ⊥) × (new ≡ old)
-Begins old seat call (Ok c) new = (old.on_seat seat ≡ None) × (c ≡ begins old.timeline + 1) × Reserves old seat call c (reserves (form call)) new
+Begins old seat call (Err Full) new = (old.on_seat seat ≡ None) × IsFull old (reserved_by call) × (new ≡ old)
+Begins old seat call (Err OutOfMemory) new = (old.on_seat seat ≡ None) × (IsFull old (reserved_by call) → ⊥) × (new ≡ old)
+Begins old seat call (Ok c) new = (old.on_seat seat ≡ None) × (c ≡ begins old.timeline + 1) × Reserves old seat call c (reserved_by call) new
 
 -- the call is on the seat, and this is its next move
 abbrev pub Moves : State → ℕ → ℕ → Record → Move → Type 0

@@ -4,9 +4,10 @@ use Rattle.std.specs.List.{list_any}
 use Rattle.std.proofs.lemmas.Bool.{eqb-true, eq-eqb, or_cases, or_left, or_right}
 use Rattle.std.proofs.lemmas.List.Folds.{list_any-append}
 use Rattle.fs_names.specs.Failures.{or_else}
+use Rattle.fs_names.specs.Limits.{file_limit}
 use Rattle.fs_names.proofs.FailureLemmas.{or_else-assoc}
 use Rattle.fs_calls.specs.Starts.{Start}
-use Rattle.fs_calls.specs.Outcomes.{play, after}
+use Rattle.fs_calls.specs.Outcomes.{play, after, called, next_start}
 use Rattle.fs_calls.specs.declared.call.Call.{Call}
 use Rattle.fs_timeline.specs.Timeline.{is_begin, is_commit, is_return, has_begun, has_committed, begun_on, last_on, begun_as, call_of, with_call, commits_of, commits, before_commit, reply_after, due, IsNext, Each, IsWellFormed}
 use Rattle.fs_timeline.specs.declared.entry.Entry.{Entry}
@@ -132,9 +133,13 @@ due-first start c es begun h =
     ∙ ap (reply_after start (commits es)) (call_of-kept c es (Commit c) begun)
 
 -- the tree after one more call
-pub play-push : (start : Start) (calls : List Call) (call : Call) → play start (calls ++ call ∷ []) ≡ after (play start calls) call
+pub play-push : (start : Start) (calls : List Call) (call : Call) → play start (calls ++ call ∷ []) ≡ after (file_limit start.limits) (play start calls) call
 play-push start [] call = refl
-play-push start (first ∷ calls) call = play-push (after start first) calls call
+play-push start (first ∷ calls) call = play-push (called start first) calls call
+
+-- and the start that it leaves
+pub next_start-push : (start : Start) (calls : List Call) (call : Call) → next_start start (calls ++ call ∷ []) ≡ called (next_start start calls) call
+next_start-push start calls call = ap (λ t. record { limits = start.limits; tree = t }) (play-push start calls call)
 
 precedes-push : (earlier later : ℕ → Entry → Bool) (es : List Entry) (e : Entry) → Precedes earlier later es
     → ((c : ℕ) → later c e ≡ true → list_any (earlier c) es ≡ true) → Precedes earlier later (es ++ e ∷ [])

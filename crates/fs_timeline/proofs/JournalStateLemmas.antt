@@ -4,7 +4,7 @@ use Rattle.std.proofs.lemmas.List.{take_more, drop_all}
 use Rattle.std.proofs.lemmas.Bool.{eqb-true, eq-eqb, ne_eqb, or_left, or_right, cases_Bool, cases_eq}
 use Rattle.fs_names.specs.Failures.{check, first_failure, or_else}
 use Rattle.fs_calls.specs.Starts.{Start}
-use Rattle.fs_calls.specs.Outcomes.{play, reply, after}
+use Rattle.fs_calls.specs.Outcomes.{reply_at, called, next_start}
 use Rattle.fs_calls.specs.declared.call.Call.{Call}
 use Rattle.fs_calls.specs.declared.reply.Reply.{Reply}
 use Rattle.fs_timeline.specs.Timeline.{is_commit, is_return, has_begun, has_committed, has_returned, begun_on, last_on, is_open, begun_as, call_of, with_call, commits_of, commits, before_commit, reply_after, due, IsLawful}
@@ -16,7 +16,7 @@ use Rattle.fs_timeline.specs.declared.verdict.Verdict.{Verdict}
 use Rattle.fs_timeline.specs.declared.verdict.Verdict.TheVariants.{Lawful, Fault}
 use Rattle.fs_timeline.specs.declared.verdict.FaultKind.{FaultKind}
 use Rattle.fs_timeline.specs.declared.verdict.FaultKind.TheVariants.{ReturnUncommitted, ReturnTwice, WrongReply}
-use Rattle.fs_timeline.proofs.AppendLemmas.{BegunFirst, begun_first-push, or_false, list_any-push, or_else-nothing, last_on-push, call_of-push, is_some-call_of, call_of-kept, commits-push, due-kept, due-first, play-push}
+use Rattle.fs_timeline.proofs.AppendLemmas.{BegunFirst, begun_first-push, or_false, list_any-push, or_else-nothing, last_on-push, call_of-push, is_some-call_of, call_of-kept, commits-push, due-kept, due-first, next_start-push}
 use Rattle.fs_timeline.proofs.TimelineLemmas.{append_nil}
 use Rattle.fs_timeline.proofs.VerdictLemmas.{fits_from_none, lawful_is_lawful}
 
@@ -95,7 +95,7 @@ committed_reply-kept start c es e begun apart =
     (cases_Bool (has_committed c es))
 
 committed_reply-first : (start : Start) (c : ℕ) (es : List Entry) (call : Call) → has_begun c es ≡ true → has_committed c es ≡ false → call_of c es ≡ Some call
-    → committed_reply start c (es ++ Commit c ∷ []) ≡ Some (reply (play start (commits es)) call)
+    → committed_reply start c (es ++ Commit c ∷ []) ≡ Some (reply_at (next_start start (commits es)) call)
 committed_reply-first start c es call begun h is =
     let now : has_committed c (es ++ Commit c ∷ []) ≡ true = list_any-push (is_commit c) es (Commit c) ∙ or_right _ _ (eq-eqb c c refl) in
     committed_reply-yes start c (es ++ Commit c ∷ []) now ∙ due-first start c es begun h ∙ ap (reply_after start (commits es)) is
@@ -132,14 +132,14 @@ begin_last start k es c seat call h q =
     (cases_eq q seat)
 
 commit_reply : (start : Start) (k : JournalState) (es : List Entry) (c : ℕ) (call : Call) → IsTrueOf start k es → has_begun c es ≡ true → has_committed c es ≡ false → call_of c es ≡ Some call
-    → (q : ℕ) → changed k.replies c (Some (reply k.tree call)) q ≡ committed_reply start q (es ++ Commit c ∷ [])
+    → (q : ℕ) → changed k.replies c (Some (reply_at k.now call)) q ≡ committed_reply start q (es ++ Commit c ∷ [])
 commit_reply start k es c call h begun first_time is q =
     ⊎_elim
     (λ same.
-    changed_here k.replies c (Some (reply k.tree call)) q same ∙ ap (λ t. Some (reply t call)) h.tree_is
+    changed_here k.replies c (Some (reply_at k.now call)) q same ∙ ap (λ (s : Start). Some (reply_at s call)) h.now_is
     ∙ sym (ap (λ n. committed_reply start n (es ++ Commit c ∷ [])) same ∙ committed_reply-first start c es call begun first_time is))
     (λ apart.
-    changed_apart k.replies c (Some (reply k.tree call)) q apart ∙ h.replies_are q
+    changed_apart k.replies c (Some (reply_at k.now call)) q apart ∙ h.replies_are q
     ∙ sym (committed_reply-kept start q es (Commit c) h.begun_first (ne_eqb q c apart)))
     (cases_eq q c)
 
@@ -167,7 +167,7 @@ true_of_begin start k es c seat call h new = record {
   replies_are = λ q. h.replies_are q ∙ sym (committed_reply-kept start q es (Begin c seat call) h.begun_first refl);
   returned_are = λ q. h.returned_are q ∙ sym (list_any-push (is_return q) es (Begin c seat call) ∙ or_false (has_returned q es));
   last_are = λ q. begin_last start k es c seat call h q;
-  tree_is = h.tree_is ∙ sym (ap (play start) (no_commits-push es (Begin c seat call) h.begun_first (λ whole. refl)));
+  now_is = h.now_is ∙ sym (ap (next_start start) (no_commits-push es (Begin c seat call) h.begun_first (λ whole. refl)));
   begun_first = begun_first-push es (Begin c seat call) h.begun_first (λ q no. absurd (cc));
 }
 
@@ -179,7 +179,7 @@ true_of_commit start k es c call h begun first_time is = record {
   replies_are = λ q. commit_reply start k es c call h begun first_time is q;
   returned_are = λ q. h.returned_are q ∙ sym (list_any-push (is_return q) es (Commit c) ∙ or_false (has_returned q es));
   last_are = λ q. h.last_are q ∙ sym (last_on-push q es (Commit c));
-  tree_is = ap (λ t. after t call) h.tree_is ∙ sym (ap (play start) (one_commit-push es c call h.begun_first begun is) ∙ play-push start (commits es) call);
+  now_is = ap (λ (s : Start). called s call) h.now_is ∙ sym (ap (next_start start) (one_commit-push es c call h.begun_first begun is) ∙ next_start-push start (commits es) call);
   begun_first = begun_first-push es (Commit c) h.begun_first (λ q same. subst (λ n. has_begun n es ≡ true) (sym (eqb-true q c same)) begun);
 }
 
@@ -190,7 +190,7 @@ true_of_return start k es c r h = record {
   replies_are = λ q. h.replies_are q ∙ sym (committed_reply-kept start q es (Return c r) h.begun_first refl);
   returned_are = λ q. return_returned start k es c r h q;
   last_are = λ q. h.last_are q ∙ sym (last_on-push q es (Return c r));
-  tree_is = h.tree_is ∙ sym (ap (play start) (no_commits-push es (Return c r) h.begun_first (λ whole. refl)));
+  now_is = h.now_is ∙ sym (ap (next_start start) (no_commits-push es (Return c r) h.begun_first (λ whole. refl)));
   begun_first = begun_first-push es (Return c r) h.begun_first (λ q no. absurd (cc));
 }
 

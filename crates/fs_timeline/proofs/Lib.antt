@@ -3,3 +3,4 @@ pub mod AppendLemmas
 pub mod ReplyLemmas
 pub mod VerdictLemmas
 pub mod JournalStateLemmas
+pub mod KeptNames

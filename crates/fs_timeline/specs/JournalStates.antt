@@ -1,9 +1,8 @@
 -- What a checker knows of the entries so far, and when it is true.
 use Rattle.std.specs.Prelude.{◌≡◌, ℕ, Bool, true, false, List, [], ◌∷◌, not, Option, Some, None, is_some, if◌then◌else◌, ◌==◌}
 use Rattle.fs_names.specs.Failures.{check, first_failure}
-use Rattle.fs_calls.specs.Tree.{Tree}
 use Rattle.fs_calls.specs.Starts.{Start}
-use Rattle.fs_calls.specs.Outcomes.{play, reply, after}
+use Rattle.fs_calls.specs.Outcomes.{reply_at, called, next_start}
 use Rattle.fs_calls.specs.declared.call.Call.{Call}
 use Rattle.fs_calls.specs.declared.reply.Reply.{Reply}
 use Rattle.fs_timeline.specs.Timeline.{has_begun, has_committed, has_returned, last_on, call_of, commits, due}
@@ -13,13 +12,13 @@ use Rattle.fs_timeline.specs.declared.entry.Entry.TheVariants.{Begin, Commit, Re
 use Rattle.fs_timeline.specs.declared.verdict.FaultKind.{FaultKind}
 use Rattle.fs_timeline.specs.declared.verdict.FaultKind.TheVariants.{BeginTwice, SeatBusy, CommitUnbegun, CommitTwice, ReturnUncommitted, ReturnTwice, WrongReply}
 
--- the begun calls, the replies that are due to the committed ones, who has returned, the last call on each seat, and the tree after the commits
+-- the begun calls, the replies that are due to the committed ones, who has returned, the last call on each seat, and the start that the commits leave
 pub record JournalState : Type 0 where
   pub calls : ℕ → Option Call
   pub replies : ℕ → Option Reply
   pub returned : ℕ → Bool
   pub last : ℕ → Option ℕ
-  pub tree : Tree
+  pub now : Start
 
 -- whether the last call on a seat, if any, has not returned
 abbrev pub is_waiting : (ℕ → Bool) → Option ℕ → Bool
@@ -50,10 +49,10 @@ known_fault k (Return c r) = return_fault (k.replies c) (k.returned c) r
 abbrev pub changed : {A : Type 0} → (ℕ → A) → ℕ → A → ℕ → A
 changed f n a m = if n == m then a else f m
 
--- what is known once a call has committed: its reply, and the tree after it
+-- what is known once a call has committed: its reply, and the start that it leaves
 abbrev pub played : JournalState → ℕ → Option Call → JournalState
 played k c None = k
-played k c (Some call) = record k { replies = changed k.replies c (Some (reply k.tree call)); tree = after k.tree call }
+played k c (Some call) = record k { replies = changed k.replies c (Some (reply_at k.now call)); now = called k.now call }
 
 -- what is known once an entry is taken in
 abbrev pub taken_in : JournalState → Entry → JournalState
@@ -71,5 +70,5 @@ pub record IsTrueOf (start : Start) (k : JournalState) (es : List Entry) : Type 
   pub replies_are : (c : ℕ) → k.replies c ≡ committed_reply start c es
   pub returned_are : (c : ℕ) → k.returned c ≡ has_returned c es
   pub last_are : (s : ℕ) → k.last s ≡ last_on s es
-  pub tree_is : k.tree ≡ play start (commits es)
+  pub now_is : k.now ≡ next_start start (commits es)
   pub begun_first : (c : ℕ) → has_committed c es ≡ true → has_begun c es ≡ true

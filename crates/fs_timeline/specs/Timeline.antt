@@ -3,7 +3,7 @@ use Rattle.std.specs.Prelude.{◌≡◌, ℕ, ◌+◌, Bool, true, false, List, 
 use Rattle.std.specs.List.{list_any}
 use Rattle.fs_names.specs.Failures.{or_else, first_failure}
 use Rattle.fs_calls.specs.Starts.{Start}
-use Rattle.fs_calls.specs.Outcomes.{play, reply}
+use Rattle.fs_calls.specs.Outcomes.{reply_at, next_start}
 use Rattle.fs_calls.specs.declared.call.Call.{Call}
 use Rattle.fs_calls.specs.declared.reply.Reply.{Reply}
 use Rattle.fs_timeline.specs.declared.entry.Entry.{Entry}
@@ -98,7 +98,7 @@ before_commit c (e ∷ es) = if is_commit c e then [] else e ∷ before_commit c
 -- the reply that the sequential tree gives a call after these calls, from a start tree
 abbrev pub reply_after : Start → List Call → Option Call → Option Reply
 reply_after start calls None = None
-reply_after start calls (Some call) = Some (reply (play start calls) call)
+reply_after start calls (Some call) = Some (reply_at (next_start start calls) call)
 
 -- the reply that is due to the call of a number
 abbrev pub due : Start → ℕ → List Entry → Option Reply

@@ -1,8 +1,9 @@
 //! The timeline of a run, with places that are reserved for its next entries.
 
-ghost use Rattle.std.specs.Prelude.{◌≡◌, ◌+◌, ◌-◌, ◌<◌, [], ◌∷◌, ◌++◌, ◌^◌, length, OnOk, OnErr};
+ghost use Rattle.std.specs.Prelude.{◌≡◌, ◌≢◌, ◌+◌, ◌-◌, ◌<◌, [], ◌∷◌, ◌++◌, ◌^◌, length, OnOk, OnErr};
 
 use crate::entry::Entry;
+use fs_memory::Memory;
 use std::alloc::{AllocError, Global};
 use std::marker::Model;
 
@@ -42,9 +43,24 @@ impl Timeline {
         ensures few { OnOk result (length self.new.entries + self.new.reserved < 2 ^ 63) }
         ensures err { OnErr result (self.new ≡ self.old) }
     {
+        self.make_places_counted(&mut Memory::new(), count)
+    }
+
+    /// The same, and a refusal is counted.
+    pub fn make_places_counted(
+        &mut self,
+        memory: &mut Memory,
+        count: usize,
+    ) -> Result<(), AllocError>
+        ensures ok { OnOk result (self.new ≡ record self.old { reserved = self.old.reserved + count }) }
+        ensures few { OnOk result (length self.new.entries + self.new.reserved < 2 ^ 63) }
+        ensures err { OnErr result (self.new ≡ self.old) }
+        ensures granted { OnOk result (memory.new ≡ memory.old) }
+        ensures refused { OnErr result (memory.new ≢ memory.old) }
+    {
         // A sum that saturates is more than a vector can have, which refuses it.
         let places = self.places.saturating_add(count);
-        self.list.reserve(places)?;
+        memory.reserve(&mut self.list, places)?;
         self.places = places;
         Ok(())
     }
