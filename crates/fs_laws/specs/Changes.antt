@@ -114,6 +114,6 @@ abbrev pub after : Map Shape → Form → Map Shape
 after tree call = changed (outcome tree call).1 tree
 
 -- the tree after a list of calls
-abbrev pub play : Map Shape → List Call → Map Shape
-play tree [] = tree
-play tree (call ∷ calls) = play (after tree (form call)) calls
+abbrev pub play : ℕ → Map Shape → List Call → Map Shape
+play most tree [] = tree
+play most tree (call ∷ calls) = play most (after tree (form most call)) calls

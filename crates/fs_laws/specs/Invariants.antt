@@ -1,16 +1,16 @@
 -- What every state of a run keeps.
 use Rattle.std.specs.Prelude.{ℕ, ◌≡◌, ◌<◌, false, List, [], ◌∷◌, ◌++◌, Option, Some, None, ◌⊎◌}
-use Rattle.fs_calls.specs.Sights.{tree_shapes}
 use Rattle.fs_names.specs.Keys.{Key, parent_of, last_of}
 use Rattle.fs_names.specs.Parts.{left}
 use Rattle.fs_names.specs.Shapes.{Shape}
-use Rattle.fs_calls.specs.Forms.{Fits, form, Stat, Form, AtNode, AtEntry, AtPair, under, new_shape}
+use Rattle.fs_calls.specs.Forms.{form, Stat, Form, AtNode, AtEntry, AtPair, under, new_shape, by_paths}
 use Rattle.fs_calls.specs.declared.target.PairCall.{PairCall}
 use Rattle.fs_calls.specs.declared.target.PairCall.TheVariants as pairs
 use Rattle.fs_calls.specs.declared.target.EntryCall.{EntryCall}
 use Rattle.fs_laws.specs.Maps.{Map}
 use Rattle.fs_calls.specs.declared.reply.Reply.{Reply}
 use Rattle.fs_calls.specs.declared.call.Call.{Call}
+use Rattle.fs_names.specs.Limits.{file_limit}
 use Rattle.fs_graph.specs.Graphs.{Graph, at, numbers, graph_shapes, IsGraph}
 use Rattle.fs_machine.specs.Moves.{target}
 use Rattle.fs_machine.specs.Records.{Holdings, Side, of_side, head_on, Walking, Placed, Finished, Record, Records, Holds}
@@ -131,15 +131,15 @@ IsSingle st = (a b : Slot) (n : ℕ) → in_slot st a ≡ Some n → in_slot st 
 abbrev pub IsUnfinished : Record → Type 0
 IsUnfinished op = (r : Reply) → op.phase ≡ Finished r → ⊥
 
--- what one call under way keeps of its own record
-pub record Own (graph : Graph) (op : Record) : Type 0 where
+-- what one call under way keeps of its own record, where a file has at most so many bytes
+pub record Own (most : ℕ) (graph : Graph) (op : Record) : Type 0 where
   -- the names walked and what is left make the call
-  pub parts : under op.walked op.remaining ≡ form op.call
+  pub parts : under op.walked op.remaining ≡ form most op.call
   -- an unfinished call stands well, by its heads, and has its number if it wants one
   pub well : (st : Holdings) → op.holdings ≡ Some st → HeadsSound graph st.node op.remaining st
   -- a reserved number is in use, and nothing leads to it
   pub spare : (n : ℕ) → op.reserved ≡ Some n → ((s : Shape) × (graph.shape n ≡ Some s)) × ((key : Key) → numbers graph key ≡ Some n → ⊥)
-  pub number : IsUnfinished op → Fits (form op.call) → NumberFor graph op.remaining op.reserved
+  pub number : IsUnfinished op → by_paths op.call ≡ None → NumberFor graph op.remaining op.reserved
   -- a placed call stands somewhere, and its paths do not decide it
   pub placed : (i : ℕ) → op.phase ≡ Placed i → (st : Holdings) × (op.holdings ≡ Some st)
   -- the removed node is the victim, named by nobody and without entries
@@ -155,6 +155,10 @@ pub record Own (graph : Graph) (op : Record) : Type 0 where
 abbrev pub HasSpare : Record → ℕ → Type 0
 HasSpare op n = (op.reserved ≡ Some n) ⊎ (op.removed ≡ Some n)
 
+-- the most bytes that a file has
+abbrev pub most_bytes : State → ℕ
+most_bytes s = file_limit s.start.limits
+
 -- what every state of a run keeps; key has the key of each position, order the placed calls by their commits
 pub record Invariant (s : State) : Type 0 where
   pub key : ℕ → Key
@@ -163,18 +167,18 @@ pub record Invariant (s : State) : Type 0 where
   pub kept : CallFacts (numbers s.graph) s.ops key
   pub in_order : InOrder s.ops order
   pub all_placed : (c : ℕ) (op : Record) (i : ℕ) → s.ops c ≡ Some op → op.phase ≡ Placed i → (i < commit_count s.timeline) × IsIn c order
-  pub lawful : IsLawful (start (tree_shapes s.start)) s.timeline
-  pub tied : Tied (graph_shapes s.graph) s.ops key order (view_after (start (tree_shapes s.start)) s.timeline)
-  pub own : (c : ℕ) (op : Record) → s.ops c ≡ Some op → Own s.graph op
+  pub lawful : IsLawful (start s.start) s.timeline
+  pub tied : Tied (graph_shapes s.graph) s.ops key order (view_after (start s.start) s.timeline)
+  pub own : (c : ℕ) (op : Record) → s.ops c ≡ Some op → Own (most_bytes s) s.graph op
   -- holders: who stands at a node holds it, and nobody else does
   pub held : (c : ℕ) (op : Record) (st : Holdings) (n : ℕ) → s.ops c ≡ Some op → op.holdings ≡ Some st → Holds st n → s.holder n ≡ Some c
   -- two calls have no reserved or removed number in common
   pub apart : (c d n : ℕ) (p q : Record) → (c ≡ d → ⊥) → s.ops c ≡ Some p → s.ops d ≡ Some q → HasSpare p n → HasSpare q n → ⊥
   -- seats and numbers
   pub seated : (seat c : ℕ) → s.on_seat seat ≡ Some c → (op : Record) × (s.ops c ≡ Some op) × (op.seat ≡ seat)
-  pub busy : (seat : ℕ) → (view_after (start (tree_shapes s.start)) s.timeline).busy seat ≡ s.on_seat seat
-  pub seat_of : (c : ℕ) (op : Record) → s.ops c ≡ Some op → ((view_after (start (tree_shapes s.start)) s.timeline).seat_of c ≡ Some op.seat) × ((view_after (start (tree_shapes s.start)) s.timeline).back c ≡ false)
-  pub fresh : (c : ℕ) → begins s.timeline < c → (view_after (start (tree_shapes s.start)) s.timeline).call c ≡ None
+  pub busy : (seat : ℕ) → (view_after (start s.start) s.timeline).busy seat ≡ s.on_seat seat
+  pub seat_of : (c : ℕ) (op : Record) → s.ops c ≡ Some op → ((view_after (start s.start) s.timeline).seat_of c ≡ Some op.seat) × ((view_after (start s.start) s.timeline).back c ≡ false)
+  pub fresh : (c : ℕ) → begins s.timeline < c → (view_after (start s.start) s.timeline).call c ≡ None
 
 -- one event keeps it: the invariant
 abbrev pub StepKeeps : Stepped → Type 0

@@ -1,8 +1,12 @@
 -- What is known after some entries of a timeline, and which entry may come next.
 use Rattle.std.specs.Prelude.{ℕ, ◌≡◌, Bool, true, false, List, [], ◌∷◌, Option, Some, None}
+use Rattle.fs_names.specs.Limits.{file_limit}
 use Rattle.fs_names.specs.Shapes.{Shape}
+use Rattle.fs_names.specs.declared.limits.Limits.{Limits}
 use Rattle.fs_laws.specs.Changes.{reply, after}
 use Rattle.fs_calls.specs.Forms.{form}
+use Rattle.fs_calls.specs.Sights.{tree_shapes}
+use Rattle.fs_calls.specs.Starts.{Start}
 use Rattle.fs_calls.specs.declared.call.Call.{Call}
 use Rattle.fs_timeline.specs.declared.entry.Entry.{Entry}
 use Rattle.fs_timeline.specs.declared.entry.Entry.TheVariants.{Begin, Commit, Return}
@@ -22,8 +26,9 @@ commits_of call (Begin n seat c ∷ es) = commits_of (set_at n (Some c) call) es
 commits_of call (Commit n ∷ es) = with_call (call n) (commits_of call es)
 commits_of call (Return n r ∷ es) = commits_of call es
 
--- what is known after some entries: the played tree, each call that began, the reply due to each that committed, whether it returned, and the call under way on each seat
+-- what is known after some entries: the limits, the played tree, each call that began, the reply due to each that committed, whether it returned, and the call under way on each seat
 pub record JournalView : Type 0 where
+  pub limits : Limits
   pub tree : Map Shape
   pub call : ℕ → Option Call
   pub seat_of : ℕ → Option ℕ
@@ -32,13 +37,13 @@ pub record JournalView : Type 0 where
   pub busy : ℕ → Option ℕ
 
 -- before the first entry
-abbrev pub start : Map Shape → JournalView
-start tree = record { tree = tree; call = λ n. None; seat_of = λ n. None; due = λ n. None; back = λ n. false; busy = λ n. None }
+abbrev pub start : Start → JournalView
+start first = record { limits = first.limits; tree = tree_shapes first.tree; call = λ n. None; seat_of = λ n. None; due = λ n. None; back = λ n. false; busy = λ n. None }
 
 -- after the Commit of a call: the tree after it, and the reply that is due to it
 abbrev pub commit_of : JournalView → ℕ → Option Call → JournalView
 commit_of view n None = view
-commit_of view n (Some call) = record view { tree = after view.tree (form call); due = set_at n (Some (reply view.tree (form call))) view.due }
+commit_of view n (Some call) = record view { tree = after view.tree (form (file_limit view.limits) call); due = set_at n (Some (reply view.tree (form (file_limit view.limits) call))) view.due }
 
 -- who is on each seat, where a call on this one returned
 abbrev pub free_seat : JournalView → Option ℕ → ℕ → Option ℕ

@@ -25,7 +25,7 @@ GoesPastAll = (tree : Map Shape) (w : Form) (ch : Change) (ps : List (Key × For
 
 -- a tree that is seen as a map answers each call as the map does, and leaves what the map leaves
 abbrev pub TreesAsMaps : Type 0
-TreesAsMaps = (t : Tree) (call : Call) → IsTree t → (tree.reply t call ≡ reply (tree_shapes t) (form call)) × (tree_shapes (tree.after t call) ≡ after (tree_shapes t) (form call))
+TreesAsMaps = (most : ℕ) (t : Tree) (call : Call) → IsTree t → (tree.reply most t call ≡ reply (tree_shapes t) (form most call)) × (tree_shapes (tree.after most t call) ≡ after (tree_shapes t) (form most call))
 
 -- the linearization theorem: over every run the timeline is lawful, and at rest the nodes spell the tree that it plays
 abbrev pub Linearization : Type 0

@@ -4,7 +4,7 @@ use Rattle.std.specs.Prelude.{option_map}
 use Rattle.fs_names.specs.Keys.{Key, parent_of, last_of}
 use Rattle.fs_names.specs.Names.{Name}
 use Rattle.fs_names.specs.Shapes.{Shape, is_full}
-use Rattle.fs_calls.specs.Forms.{form, Form, AtNode, AtEntry, AtPair, by_text}
+use Rattle.fs_calls.specs.Forms.{Form, AtNode, AtEntry, AtPair, by_paths}
 use Rattle.fs_calls.specs.declared.target.PairCall.TheVariants as pairs
 use Rattle.fs_calls.specs.Rows.{node_row, Edit, Keep, Add, Remove, entry_row}
 use Rattle.fs_calls.specs.declared.errno.Errno.{Errno}
@@ -74,7 +74,7 @@ by_renamed r graph op None None = refl
 by_renamed r graph op None (Some st) = at_renamed r graph op.remaining st op.reserved
 
 pub finish_renamed : (r : Renaming) (graph : Graph) (op : Record) → finish (renamed_graph r graph) (renamed_record r op) ≡ renamed_made r (finish graph op)
-finish_renamed r graph op = by_renamed r graph op (by_text (form op.call)) op.holdings
+finish_renamed r graph op = by_renamed r graph op (by_paths op.call) op.holdings
 
 pub finished_renamed : (r : Renaming) (graph : Graph) (op : Record) → finished_op (renamed_record r op) (finish (renamed_graph r graph) (renamed_record r op)) ≡ renamed_record r (finished_op op (finish graph op))
 finished_renamed r graph op = ap (finished_op (renamed_record r op)) (finish_renamed r graph op)

@@ -2,7 +2,7 @@
 use Rattle.std.proofs.Common.{◌≡◌, ℕ, ◌≤◌, [], ◌∷◌, Option, Some, None, refl, sym, ap, ◌∙◌, subst, arith, Ok, Err}
 use Rattle.fs_names.specs.Keys.{Key}
 use Rattle.fs_names.specs.Shapes.{Shape}
-use Rattle.fs_calls.specs.Forms.{form, reserves}
+use Rattle.fs_calls.specs.Forms.{reserved_by}
 use Rattle.fs_calls.specs.declared.call.Call.{Call}
 use Rattle.fs_calls.specs.declared.reply.Reply.{Reply}
 use Rattle.fs_graph.specs.Graphs.{Graph, set_at}
@@ -126,11 +126,11 @@ ordered_begin : (s new : State) (seat : ℕ) (call : Call) (answer : Begun) → 
 ordered_begin s new seat call (Err SeatBusy) (c, on, same) k = subst Ordered (sym same) k
 ordered_begin s new seat call (Err Full) (off, full, same) k = subst Ordered (sym same) k
 ordered_begin s new seat call (Err OutOfMemory) (off, room, same) k = subst Ordered (sym same) k
-ordered_begin s new seat call (Ok c) (off, number, r) k = go (reserves (form call)) r
+ordered_begin s new seat call (Ok c) (off, number, r) k = go (reserved_by call) r
   where
     go : (o : Option Shape) → Reserves s seat call c o new → Ordered new
-    go None same = ordered_by s new c (new_op seat call None) (ap (λ (x : State). x.ops) same) (λ st on u. none_some None st refl on) k
-    go (Some shape) (n, less, free, same) = ordered_by s new c (new_op seat call (Some n)) (ap (λ (x : State). x.ops) same) (λ st on u. none_some None st refl on) k
+    go None same = ordered_by s new c (new_op s.start.limits seat call None) (ap (λ (x : State). x.ops) same) (λ st on u. none_some None st refl on) k
+    go (Some shape) (n, less, free, same) = ordered_by s new c (new_op s.start.limits seat call (Some n)) (ap (λ (x : State). x.ops) same) (λ st on u. none_some None st refl on) k
 
 ordered : (s : State) → Run s → Ordered s
 ordered s (Starting limit tree graph h) = λ c op st e on u. cc

@@ -5,7 +5,7 @@ use Rattle.fs_names.specs.Keys.{Key, after_prefix, has_more, parent_of, last_of,
 use Rattle.fs_names.specs.Names.{Name}
 use Rattle.fs_names.specs.Parts.{left}
 use Rattle.fs_names.specs.Shapes.{Shape, Dir, File, is_full}
-use Rattle.fs_calls.specs.Forms.{form, Form, AtNode, AtEntry, AtPair, by_text}
+use Rattle.fs_calls.specs.Forms.{Form, AtNode, AtEntry, AtPair, by_paths}
 use Rattle.fs_calls.specs.declared.target.EntryCall.{EntryCall}
 use Rattle.fs_calls.specs.declared.target.PairCall.{PairCall}
 use Rattle.fs_calls.specs.declared.target.PairCall.TheVariants as pairs
@@ -155,7 +155,7 @@ by_renamed r graph op None Walking (Some st) = on_renamed r graph op.remaining s
 by_renamed r graph op None (Placed i) (Some st) = on_renamed r graph op.remaining st
 
 pub next_renamed : (r : Renaming) (graph : Graph) (op : Record) → next (renamed_graph r graph) (renamed_record r op) ≡ renamed_move r (next graph op)
-next_renamed r graph op = by_renamed r graph op (by_text (form op.call)) op.phase op.holdings
+next_renamed r graph op = by_renamed r graph op (by_paths op.call) op.phase op.holdings
 
 -- ---- after a take
 

@@ -1,7 +1,7 @@
 -- A call that finishes holds nothing behind; and what a call still holds after a let go.
 use Rattle.std.proofs.Common.{◌≡◌, ℕ, Option, Some, None, refl, sym, ap₂, ◌∙◌, subst, inl, inr}
 use Rattle.fs_names.specs.Parts.{HasNames}
-use Rattle.fs_calls.specs.Forms.{form, Form, by_text}
+use Rattle.fs_calls.specs.Forms.{Form, by_paths}
 use Rattle.fs_calls.specs.declared.errno.Errno.{Errno}
 use Rattle.fs_calls.specs.declared.reply.Reply.{Reply}
 use Rattle.fs_graph.specs.Graphs.{Graph}
@@ -70,7 +70,7 @@ end_left graph op n st r ph on w e = record {
     left_is = ap₂ left_holdings ph on
 
 pub left_well : (graph : Graph) (op : Record) (n : ℕ) → ((st : Holdings) → op.holdings ≡ Some st → HeadsOfCallInOrder graph op st) → next graph op ≡ Leaves n → LeftWell graph op n
-left_well graph op n w m = go op.phase (by_text (form op.call)) op.holdings refl refl m
+left_well graph op n w m = go op.phase (by_paths op.call) op.holdings refl refl m
   where
     leaves_is : (a b : ℕ) → Leaves a ≡ Leaves b → a ≡ b
     leaves_is a b e = cc

@@ -4,7 +4,7 @@ use Rattle.std.proofs.lemmas.List.{length-append}
 use Rattle.fs_names.specs.Keys.{Key, after_prefix, parent_of}
 use Rattle.fs_names.specs.Names.{Name}
 use Rattle.fs_names.specs.Parts.{common, left, left_by}
-use Rattle.fs_calls.specs.Forms.{form, Form, AtNode, AtEntry, AtPair, by_text, under}
+use Rattle.fs_calls.specs.Forms.{Form, AtNode, AtEntry, AtPair, under, by_paths}
 use Rattle.fs_calls.specs.declared.target.PairCall.{PairCall}
 use Rattle.fs_calls.specs.declared.errno.Errno.{Errno}
 use Rattle.fs_graph.specs.Graphs.{Graph, numbers, IsGraph}
@@ -267,8 +267,8 @@ solo_next : (graph : Graph) (k : Key) (op : Record) (st : Holdings) → OneUnfin
 solo_next graph k op st s = go op.phase refl
   where
     go : (p : Phase) → op.phase ≡ p → next graph op ≡ next_on graph op.remaining st
-    go Walking e = ap (λ (p : Phase). next_by graph op (by_text (form op.call)) p op.holdings) e ∙ ap₂ (λ (t : Option Errno) (x : Option Holdings). next_by graph op t Walking x) s.text s.on
-    go (Placed i) e = ap (λ (p : Phase). next_by graph op (by_text (form op.call)) p op.holdings) e ∙ ap₂ (λ (t : Option Errno) (x : Option Holdings). next_by graph op t (Placed i) x) s.text s.on
+    go Walking e = ap (λ (p : Phase). next_by graph op (by_paths op.call) p op.holdings) e ∙ ap₂ (λ (t : Option Errno) (x : Option Holdings). next_by graph op t Walking x) s.text s.on
+    go (Placed i) e = ap (λ (p : Phase). next_by graph op (by_paths op.call) p op.holdings) e ∙ ap₂ (λ (t : Option Errno) (x : Option Holdings). next_by graph op t (Placed i) x) s.text s.on
     go (Finished r) e = absurd (s.unfinished r e)
 
 -- the rest of the way, seen from before a move

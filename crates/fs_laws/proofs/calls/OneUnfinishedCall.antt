@@ -3,7 +3,7 @@ use Rattle.std.proofs.Common.{◌≡◌, ℕ, Bool, true, false, not, ◌&&◌, 
 use Rattle.fs_names.specs.Keys.{Key, after_prefix, parent_of, last_of, has_more, is_end}
 use Rattle.fs_names.specs.Names.{Name}
 use Rattle.fs_names.specs.Parts.{HasNames, common, left}
-use Rattle.fs_calls.specs.Forms.{form, Form, AtPair, by_text, Fits}
+use Rattle.fs_calls.specs.Forms.{Form, AtPair, Fits, by_paths}
 use Rattle.fs_calls.specs.declared.target.PairCall.{PairCall}
 use Rattle.fs_calls.specs.declared.target.PairCall.TheVariants as pairs
 use Rattle.fs_graph.specs.Graphs.{Graph, numbers, IsGraph, entry_shape}
@@ -24,7 +24,7 @@ use Rattle.fs_laws.proofs.calls.NodesHeld.{none_some}
 pub record OneUnfinished (graph : Graph) (k : Key) (op : Record) (st : Holdings) : Type 0 where
   pub on : op.holdings ≡ Some st
   pub unfinished : IsUnfinished op
-  pub text : by_text (form op.call) ≡ None
+  pub text : by_paths op.call ≡ None
   pub loc : Located (numbers graph) k st
   pub fits : Fits op.remaining
   pub well : HeadsSound graph st.node op.remaining st

@@ -9,7 +9,7 @@ use Rattle.fs_calls.specs.declared.target.PairCall.TheVariants as pairs
 use Rattle.fs_graph.specs.Graphs.{Graph, at, numbers, set_at}
 use Rattle.fs_machine.specs.Moves.{head_took, took, victim_took, stepped}
 use Rattle.fs_machine.specs.Records.{Holds, Record, Holdings, Side, Source, Dest, of_side, head_on, Head}
-use Rattle.fs_laws.specs.Invariants.{Forked, ForkedAt, HeadsSound, VictimAt, IsSingle, IsUnfinished, Own, Invariant, StepKeeps}
+use Rattle.fs_laws.specs.Invariants.{Forked, ForkedAt, HeadsSound, VictimAt, IsSingle, IsUnfinished, Own, Invariant, StepKeeps, most_bytes}
 use Rattle.fs_laws.specs.CallFacts.{IsFree, Keeps, Located}
 use Rattle.fs_machine.specs.States.{State, taking}
 use Rattle.fs_machine.specs.declared.answers.Stepped.TheVariants.{Took}
@@ -22,7 +22,7 @@ use Rattle.fs_laws.proofs.events.RecordChanged.{renewed}
 use Rattle.fs_laws.proofs.events.Take.{TakesFrom, From_nowhere, From_holdings, takes_from, Taker, is_free, take_keeps, take_root, take_walk}
 
 -- the same call at a new stand
-own_holdings : (graph : Graph) (op : Record) (new : Holdings) → Own graph op → IsUnfinished op → HeadsSound graph new.node op.remaining new → VictimAt graph op.remaining new → IsSingle new → Own graph (record op { holdings = Some new })
+own_holdings : {most : ℕ} (graph : Graph) (op : Record) (new : Holdings) → Own most graph op → IsUnfinished op → HeadsSound graph new.node op.remaining new → VictimAt graph op.remaining new → IsSingle new → Own most graph (record op { holdings = Some new })
 own_holdings graph op new o unf well victim single = record {
   parts = o.parts;
   well = λ st e. subst (λ (s : Holdings). HeadsSound graph s.node op.remaining s) (one_holdings refl e) well;
@@ -124,7 +124,7 @@ take_there old inv c op n st t on at_target b took_is = subst (λ (v : Record). 
     new : Holdings
     new = stands at_target
 
-    own : Own old.graph op
+    own : Own (most_bytes old) old.graph op
     own = inv.own c op t.is
 
     keeps : Keeps (numbers old.graph) (inv.key c) op st

@@ -1,13 +1,13 @@
 -- Carrying out a placed call keeps what every state keeps.
 use Rattle.std.proofs.Common.{◌≡◌, ℕ, ◌<◌, List, [], ◌∷◌, ◌++◌, Option, Some, None, refl, sym, ap, ap₂, ◌∙◌, arith, subst, ◌⊎◌, inl, inr}
-use Rattle.fs_calls.specs.Sights.{tree_shapes}
 use Rattle.fs_names.specs.Keys.{Key, after_prefix}
 use Rattle.fs_names.specs.Shapes.{Shape}
 use Rattle.fs_laws.specs.Changes.{Rekeying, Stay, MoveTo, Swap, Change, reply}
-use Rattle.fs_calls.specs.Forms.{form, Form, under, Fits, by_text}
+use Rattle.fs_calls.specs.Forms.{Form, under, Fits, by_text, by_paths}
 use Rattle.fs_laws.specs.Maps.{Map, swapped_by}
 use Rattle.fs_calls.specs.declared.errno.Errno.{Errno}
 use Rattle.fs_calls.specs.declared.reply.Reply.{Reply}
+use Rattle.fs_calls.proofs.FormLemmas.{by_text_any}
 use Rattle.fs_graph.specs.Graphs.{Graph, numbers, graph_shapes, set_at}
 use Rattle.fs_machine.specs.Finishes.{Effect, effect_at, effect_of, finish}
 use Rattle.fs_machine.specs.Moves.{next_on}
@@ -15,7 +15,7 @@ use Rattle.fs_machine.specs.declared.moves.Move.TheVariants.{Finish as Finishes}
 use Rattle.fs_machine.specs.declared.moves.Moved.{Moved}
 use Rattle.fs_machine.specs.Records.{Phase, Walking, Placed, Finished, Record, Records, Holdings}
 use Rattle.fs_laws.specs.JournalViews.{start, view_after}
-use Rattle.fs_laws.specs.Invariants.{remaining_of, spots, IsPlaced, AllLater, InOrder, HasSpare, IsIn, Own, Invariant, StepKeeps, Tied}
+use Rattle.fs_laws.specs.Invariants.{remaining_of, spots, IsPlaced, AllLater, InOrder, HasSpare, IsIn, Own, Invariant, StepKeeps, Tied, most_bytes}
 use Rattle.fs_laws.specs.Placed.{InPlace, rekey, rekey_by, rekey_move, rekey_all}
 use Rattle.fs_laws.specs.Settled.{settle, settle_replies}
 use Rattle.fs_laws.specs.CallFacts.{IsAfter, CallFacts}
@@ -141,15 +141,15 @@ spots_off ops key ch [] h = refl
 spots_off ops key ch (d ∷ cs) h = ap₂ (λ (k : Key) (ps : List (Key × Form)). (k, remaining_of (ops d)) ∷ ps) (h d (inl refl)) (spots_off ops key ch cs (λ e i. h e (inr i)))
 
 -- a call that stands is not decided by its paths
-pub text_nowhere : (graph : Graph) (op : Record) (e : Errno) → Own graph op → Fits op.remaining → by_text (form op.call) ≡ Some e → ⊥
-text_nowhere graph op e own fits text = let z : ◌≡◌ {A = Option Errno} (Some e) None = sym text ∙ ap by_text (sym own.parts) ∙ fits_under op.walked op.remaining fits in cc
+pub text_nowhere : (most : ℕ) (graph : Graph) (op : Record) (e : Errno) → Own most graph op → Fits op.remaining → by_paths op.call ≡ Some e → ⊥
+text_nowhere most graph op e own fits text = let z : ◌≡◌ {A = Option Errno} (Some e) None = sym text ∙ sym (by_text_any most op.call) ∙ ap by_text (sym own.parts) ∙ fits_under op.walked op.remaining fits in cc
 
-carry_in_place : (old : State) (inv : Invariant old) (c : ℕ) (op : Record) (i : ℕ) (st : Holdings) (o : Moved) (front back : List ℕ) → inv.order ≡ front ++ c ∷ back → old.ops c ≡ Some op → op.phase ≡ Placed i → by_text (form op.call) ≡ None → op.holdings ≡ Some st → next_on old.graph op.remaining st ≡ Finishes o
+carry_in_place : (old : State) (inv : Invariant old) (c : ℕ) (op : Record) (i : ℕ) (st : Holdings) (o : Moved) (front back : List ℕ) → inv.order ≡ front ++ c ∷ back → old.ops c ≡ Some op → op.phase ≡ Placed i → by_paths op.call ≡ None → op.holdings ≡ Some st → next_on old.graph op.remaining st ≡ Finishes o
     → Invariant (carrying old c op)
 carry_in_place old inv c op i st o front back order_is is pl text on n =
     subst (λ (m : Effect). Invariant (ended old c op m old.timeline)) (sym made_is) (ends_keep old inv c op (effect_at old.graph op.remaining st op.reserved) old.timeline made_ends)
   where
-    own : Own old.graph op
+    own : Own (most_bytes old) old.graph op
     own = inv.own c op is
 
     unfinished : (r : Reply) → op.phase ≡ Finished r → ⊥
@@ -238,9 +238,9 @@ carry_in_place old inv c op i st o front back order_is is pl text on n =
     new_spots : spots old.ops (λ d. rekey facts_of.ch (inv.key d)) (front ++ back) ≡ rekey_all facts_of.ch (spots old.ops inv.key front) ++ spots old.ops inv.key back
     new_spots = spots_append old.ops (λ d. rekey facts_of.ch (inv.key d)) front back ∙ ap₂ (λ (a b : List (Key × Form)). a ++ b) (spots_rekey old.ops inv.key facts_of.ch front) back_is
 
-    tied : Tied (graph_shapes (effect_at old.graph op.remaining st op.reserved).graph) (set_at c (Some (phased op (Finished (reply (graph_shapes old.graph) (under (inv.key c) op.remaining)), (effect_at old.graph op.remaining st op.reserved).reserved, (effect_at old.graph op.remaining st op.reserved).removed))) old.ops) (λ d. rekey facts_of.ch (inv.key d)) (front ++ back) (view_after (start (tree_shapes old.start)) old.timeline)
-    tied = tied_carry (effect_at old.graph op.remaining st op.reserved).reserved (effect_at old.graph op.remaining st op.reserved).removed (graph_shapes old.graph) (graph_shapes (effect_at old.graph op.remaining st op.reserved).graph) old.ops inv.key (λ d. rekey facts_of.ch (inv.key d)) front back (view_after (start (tree_shapes old.start)) old.timeline) c op i
-        (subst (λ (x : List ℕ). Tied (graph_shapes old.graph) old.ops inv.key x (view_after (start (tree_shapes old.start)) old.timeline)) order_is inv.tied) is pl
+    tied : Tied (graph_shapes (effect_at old.graph op.remaining st op.reserved).graph) (set_at c (Some (phased op (Finished (reply (graph_shapes old.graph) (under (inv.key c) op.remaining)), (effect_at old.graph op.remaining st op.reserved).reserved, (effect_at old.graph op.remaining st op.reserved).removed))) old.ops) (λ d. rekey facts_of.ch (inv.key d)) (front ++ back) (view_after (start old.start) old.timeline)
+    tied = tied_carry (effect_at old.graph op.remaining st op.reserved).reserved (effect_at old.graph op.remaining st op.reserved).removed (graph_shapes old.graph) (graph_shapes (effect_at old.graph op.remaining st op.reserved).graph) old.ops inv.key (λ d. rekey facts_of.ch (inv.key d)) front back (view_after (start old.start) old.timeline) c op i
+        (subst (λ (x : List ℕ). Tied (graph_shapes old.graph) old.ops inv.key x (view_after (start old.start) old.timeline)) order_is inv.tied) is pl
         (ap₂ settle facts_of.tree_is new_spots ∙ all.tree_is ∙ sym (ap (settle (graph_shapes old.graph)) whole))
         all.same_reply
         (ap₂ settle_replies facts_of.tree_is (spots_rekey old.ops inv.key facts_of.ch front) ∙ all.front_replies)
@@ -266,7 +266,7 @@ carry_in_place old inv c op i st o front back order_is is pl text on n =
       in_order = order_without old.ops c (Some (finished_op op (effect_at old.graph op.remaining st op.reserved))) (front ++ back) others (order_drop old.ops c front back ordered);
       all_placed = λ d q j m e g. ((inv.all_placed d q j e g).0, joined d m (in_parts d c front back (subst (IsIn d) order_is (inv.all_placed d q j e g).1)));
       lawful = inv.lawful;
-      tied = subst (λ (r : Reply). Tied (graph_shapes (effect_at old.graph op.remaining st op.reserved).graph) (set_at c (Some (phased op (Finished r, (effect_at old.graph op.remaining st op.reserved).reserved, (effect_at old.graph op.remaining st op.reserved).removed))) old.ops) (λ d. rekey facts_of.ch (inv.key d)) (front ++ back) (view_after (start (tree_shapes old.start)) old.timeline)) (sym facts_of.reply_is) tied;
+      tied = subst (λ (r : Reply). Tied (graph_shapes (effect_at old.graph op.remaining st op.reserved).graph) (set_at c (Some (phased op (Finished r, (effect_at old.graph op.remaining st op.reserved).reserved, (effect_at old.graph op.remaining st op.reserved).removed))) old.ops) (λ d. rekey facts_of.ch (inv.key d)) (front ++ back) (view_after (start old.start) old.timeline)) (sym facts_of.reply_is) tied;
       own = own_finished old.graph (effect_at old.graph op.remaining st op.reserved) facts_of.does.linked st (rekey facts_of.ch (inv.key c)) op inv.is_graph new_is own on (new_kept.each c op st is on).located (λ m j. (facts_of.does.links m j).1) facts_of.does.reserved facts_of.does.removed;
       own_other = λ d q m e.
           own_other old.graph (effect_at old.graph op.remaining st op.reserved).graph facts_of.does.linked st (rekey facts_of.ch (inv.key d)) q new_is (inv.own d q e)
@@ -294,5 +294,5 @@ keeps_carried old new seat inv (c, op, s, i, moves, pl, same) = subst Invariant 
     parts = split_at c inv.order (inv.all_placed c op i moves.1 pl).1
 
     go : Ready old.graph op s → Invariant (carrying old c op)
-    go (By_text e text) = let p : (st : Holdings) × (op.holdings ≡ Some st) = (inv.own c op moves.1).placed i pl in absurd (text_nowhere old.graph op e (inv.own c op moves.1) (inv.kept.each c op p.0 moves.1 p.1).fits text)
+    go (By_text e text) = let p : (st : Holdings) × (op.holdings ≡ Some st) = (inv.own c op moves.1).placed i pl in absurd (text_nowhere (most_bytes old) old.graph op e (inv.own c op moves.1) (inv.kept.each c op p.0 moves.1 p.1).fits text)
     go (By_holdings st text on n) = carry_in_place old inv c op i st s parts.front parts.back parts.is moves.1 pl text on n

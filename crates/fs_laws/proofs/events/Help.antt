@@ -1,7 +1,6 @@
 -- Helping keeps what every state keeps.
 use Rattle.std.proofs.Common.{◌≡◌, ℕ, ◌<◌, ◌+◌, false, List, [], ◌∷◌, ◌++◌, Option, Some, None, refl, sym, ap, ◌∙◌, arith, subst, inl, inr}
 use mathlib.Core.Path.{fun_ext}
-use Rattle.fs_calls.specs.Sights.{tree_shapes}
 use Rattle.fs_names.specs.Keys.{Key, after_prefix}
 use Rattle.fs_calls.specs.Forms.{form, under}
 use Rattle.fs_graph.specs.Graphs.{Graph, at, numbers, graph_shapes, set_at}
@@ -10,7 +9,7 @@ use Rattle.fs_timeline.specs.declared.entry.Entry.TheVariants.{Begin, Commit, Re
 use Rattle.fs_machine.specs.Records.{Holdings, Phase, Walking, Placed, Finished, Record, Records, Holds}
 use Rattle.fs_laws.specs.JournalViews.{JournalView, start, view_after, IsNext}
 use Rattle.fs_timeline.specs.Timeline.{begins, commit_count}
-use Rattle.fs_laws.specs.Invariants.{HasSpare, IsIn, Own, Invariant, StepKeeps, IsPlaced, AllLater, InOrder, Tied}
+use Rattle.fs_laws.specs.Invariants.{HasSpare, IsIn, Own, Invariant, StepKeeps, IsPlaced, AllLater, InOrder, Tied, most_bytes}
 use Rattle.fs_laws.specs.CallFacts.{Keeps, CallFacts}
 use Rattle.fs_machine.specs.States.{State, IsWalkingBelow, helping}
 use Rattle.fs_machine.specs.declared.answers.Stepped.TheVariants.{Helped}
@@ -18,7 +17,7 @@ use Rattle.fs_laws.proofs.trees.Prefixes.{prefix_some}
 use Rattle.fs_laws.proofs.graphs.Walks.{at_from}
 use Rattle.fs_laws.proofs.events.OneCallChanged.{Place, Here, Else, place, kept_help}
 use Rattle.fs_laws.proofs.journal.OneMoreEntry.{view_push, lawful_push}
-use Rattle.fs_laws.proofs.journal.ViewAndMachine.{phased, committed, noted_commit, not_placed, tied_help}
+use Rattle.fs_laws.proofs.journal.ViewAndMachine.{phased, committed, noted_played, not_placed, tied_help}
 
 pub commits_push : (es : List Entry) (d : ℕ) → commit_count (es ++ Commit d ∷ []) ≡ commit_count es + 1
 commits_push [] d = refl
@@ -123,7 +122,7 @@ old_of : (old : State) (d : ℕ) (q : Record) (c : ℕ) (op : Record) → old.op
 old_of old d q c op is (Mine e f) = record { op = q; is = ap old.ops e ∙ is; reserved = ap (λ (o : Record). o.reserved) f; removed = ap (λ (o : Record). o.removed) f }
 old_of old d q c op is (Other n e) = record { op = op; is = e; reserved = refl; removed = refl }
 
-own_placed : (graph : Graph) (q : Record) (st : Holdings) (n : ℕ) → q.phase ≡ Walking → q.holdings ≡ Some st → Own graph q → Own graph (record q { phase = Placed n })
+own_placed : {most : ℕ} (graph : Graph) (q : Record) (st : Holdings) (n : ℕ) → q.phase ≡ Walking → q.holdings ≡ Some st → Own most graph q → Own most graph (record q { phase = Placed n })
 own_placed graph q st n w on o = record {
   parts = o.parts;
   well = o.well;
@@ -146,7 +145,7 @@ helped_inv old d q st inv h = record {
   kept = subst (λ (k : ℕ → Key). CallFacts (numbers old.graph) (set_at d (Some (placed_op old q)) old.ops) k) (upd_same d inv.key) (kept_help (numbers old.graph) old.ops inv.key d q (commit_count old.timeline) inv.kept h.is h.walks none_below (λ x p j e f. (inv.all_placed x p j e f).0));
   in_order = order_push old.ops d q st (commit_count old.timeline) h.is h.walks h.on (λ x p. (inv.all_placed x p.op p.place p.is p.phase).0) inv.order inv.in_order;
   all_placed = λ x p i e f. all_placed x p i (which old d q x p e) f;
-  lawful = lawful_push (start (tree_shapes old.start)) old.timeline (Commit d) inv.lawful both.0;
+  lawful = lawful_push (start old.start) old.timeline (Commit d) inv.lawful both.0;
   tied = subst (Tied (graph_shapes old.graph) (set_at d (Some (placed_op old q)) old.ops) inv.key (inv.order ++ d ∷ [])) (sym view_is) both.1;
   own = λ x p e. own x p (which old d q x p e);
   held = λ x p z n e. held x p z n (which old d q x p e);
@@ -158,19 +157,19 @@ helped_inv old d q st inv h = record {
 }
   where
     view : JournalView
-    view = view_after (start (tree_shapes old.start)) old.timeline
+    view = view_after (start old.start) old.timeline
 
     mine : Keeps (numbers old.graph) (inv.key d) q st
     mine = inv.kept.each d q st h.is h.on
 
-    stands : under (inv.key d) q.remaining ≡ form q.call
+    stands : under (inv.key d) q.remaining ≡ form (most_bytes old) q.call
     stands = ap (λ (k : Key). under k q.remaining) (mine.walking h.walks) ∙ (inv.own d q h.is).parts
 
-    both : IsNext (view_after (start (tree_shapes old.start)) old.timeline) (Commit d) × Tied (graph_shapes old.graph) (set_at d (Some (phased q (Placed (commit_count old.timeline), q.reserved, q.removed))) old.ops) inv.key (inv.order ++ d ∷ []) (committed (view_after (start (tree_shapes old.start)) old.timeline) d (form q.call))
-    both = tied_help (graph_shapes old.graph) old.ops inv.key inv.order (view_after (start (tree_shapes old.start)) old.timeline) d q (commit_count old.timeline) inv.tied h.is h.walks inv.in_order stands
+    both : IsNext (view_after (start old.start) old.timeline) (Commit d) × Tied (graph_shapes old.graph) (set_at d (Some (phased q (Placed (commit_count old.timeline), q.reserved, q.removed))) old.ops) inv.key (inv.order ++ d ∷ []) (committed (view_after (start old.start) old.timeline) d (form (most_bytes old) q.call))
+    both = tied_help (most_bytes old) (graph_shapes old.graph) old.ops inv.key inv.order (view_after (start old.start) old.timeline) d q (commit_count old.timeline) inv.tied h.is h.walks inv.in_order stands
 
-    view_is : view_after (start (tree_shapes old.start)) (old.timeline ++ Commit d ∷ []) ≡ committed (view_after (start (tree_shapes old.start)) old.timeline) d (form q.call)
-    view_is = view_push (start (tree_shapes old.start)) old.timeline (Commit d) ∙ noted_commit (view_after (start (tree_shapes old.start)) old.timeline) d q.call (inv.tied.calls d q h.is)
+    view_is : view_after (start old.start) (old.timeline ++ Commit d ∷ []) ≡ committed (view_after (start old.start) old.timeline) d (form (most_bytes old) q.call)
+    view_is = view_push (start old.start) old.timeline (Commit d) ∙ noted_played old.start old.timeline d q.call (inv.tied.calls d q h.is)
 
     none_below : (e : ℕ) (p : Record) (other : Holdings) → (d ≡ e → ⊥) → old.ops e ≡ Some p → p.holdings ≡ Some other → p.phase ≡ Walking → after_prefix (inv.key d) (inv.key e) ≡ None
     none_below e p other n is_e on_e w_e = go (after_prefix (inv.key d) (inv.key e)) refl
@@ -194,22 +193,22 @@ helped_inv old d q st inv h = record {
         let c : commit_count (old.timeline ++ Commit d ∷ []) ≡ commit_count old.timeline + 1 = commits_push old.timeline d in
         ((omega arith), in_push x d inv.order a.1)
 
-    own : (x : ℕ) (p : Record) → Which old d q x p → Own old.graph p
-    own x p (Mine e f) = subst (Own old.graph) f (own_placed old.graph q st (commit_count old.timeline) h.walks h.on (inv.own d q h.is))
+    own : (x : ℕ) (p : Record) → Which old d q x p → Own (most_bytes old) old.graph p
+    own x p (Mine e f) = subst (Own (most_bytes old) old.graph) f (own_placed old.graph q st (commit_count old.timeline) h.walks h.on (inv.own d q h.is))
     own x p (Other n e) = inv.own x p e
 
     held : (x : ℕ) (p : Record) (z : Holdings) (n : ℕ) → Which old d q x p → p.holdings ≡ Some z → Holds z n → old.holder n ≡ Some x
     held x p z n (Mine e f) g i = inv.held d q z n h.is (ap (λ (o : Record). o.holdings) f ∙ g) i ∙ ap (λ (y : ℕ). Some y) (sym e)
     held x p z n (Other m e) g i = inv.held x p z n e g i
 
-    seat_of : (x : ℕ) (p : Record) → Which old d q x p → ((view_after (start (tree_shapes old.start)) (old.timeline ++ Commit d ∷ [])).seat_of x ≡ Some p.seat) × ((view_after (start (tree_shapes old.start)) (old.timeline ++ Commit d ∷ [])).back x ≡ false)
+    seat_of : (x : ℕ) (p : Record) → Which old d q x p → ((view_after (start old.start) (old.timeline ++ Commit d ∷ [])).seat_of x ≡ Some p.seat) × ((view_after (start old.start) (old.timeline ++ Commit d ∷ [])).back x ≡ false)
     seat_of x p (Mine e f) =
-        let a : ((view_after (start (tree_shapes old.start)) old.timeline).seat_of d ≡ Some q.seat) × ((view_after (start (tree_shapes old.start)) old.timeline).back d ≡ false) = inv.seat_of d q h.is in (
-          ap (λ (b : JournalView). b.seat_of x) view_is ∙ ap (view_after (start (tree_shapes old.start)) old.timeline).seat_of e ∙ a.0 ∙ ap (λ (o : Record). Some o.seat) f,
-          ap (λ (b : JournalView). b.back x) view_is ∙ ap (view_after (start (tree_shapes old.start)) old.timeline).back e ∙ a.1,
+        let a : ((view_after (start old.start) old.timeline).seat_of d ≡ Some q.seat) × ((view_after (start old.start) old.timeline).back d ≡ false) = inv.seat_of d q h.is in (
+          ap (λ (b : JournalView). b.seat_of x) view_is ∙ ap (view_after (start old.start) old.timeline).seat_of e ∙ a.0 ∙ ap (λ (o : Record). Some o.seat) f,
+          ap (λ (b : JournalView). b.back x) view_is ∙ ap (view_after (start old.start) old.timeline).back e ∙ a.1,
         )
     seat_of x p (Other n e) =
-        let a : ((view_after (start (tree_shapes old.start)) old.timeline).seat_of x ≡ Some p.seat) × ((view_after (start (tree_shapes old.start)) old.timeline).back x ≡ false) = inv.seat_of x p e in
+        let a : ((view_after (start old.start) old.timeline).seat_of x ≡ Some p.seat) × ((view_after (start old.start) old.timeline).back x ≡ false) = inv.seat_of x p e in
         (ap (λ (b : JournalView). b.seat_of x) view_is ∙ a.0, ap (λ (b : JournalView). b.back x) view_is ∙ a.1)
 
     spared : (p r : Record) (n : ℕ) → p.reserved ≡ r.reserved → p.removed ≡ r.removed → HasSpare r n → HasSpare p n

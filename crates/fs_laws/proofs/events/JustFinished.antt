@@ -1,6 +1,5 @@
 -- A state in which one call has just finished keeps what every state keeps.
 use Rattle.std.proofs.Common.{◌≡◌, ℕ, ◌<◌, false, List, Option, Some, sym, ap, ◌∙◌, subst, ◌⊎◌, inl, inr}
-use Rattle.fs_calls.specs.Sights.{tree_shapes}
 use Rattle.fs_names.specs.Keys.{Key}
 use Rattle.fs_graph.specs.Graphs.{numbers, graph_shapes, set_at, IsGraph}
 use Rattle.fs_timeline.specs.declared.entry.Entry.{Entry}
@@ -8,7 +7,7 @@ use Rattle.fs_machine.specs.Finishes.{Effect}
 use Rattle.fs_machine.specs.Records.{Phase, Placed, Finished, Holds, Record, Records, Holdings}
 use Rattle.fs_laws.specs.JournalViews.{JournalView, start, view_after, IsLawful}
 use Rattle.fs_timeline.specs.Timeline.{begins, commit_count}
-use Rattle.fs_laws.specs.Invariants.{HasSpare, IsIn, Own, Invariant, InOrder, Tied}
+use Rattle.fs_laws.specs.Invariants.{HasSpare, IsIn, Own, Invariant, InOrder, Tied, most_bytes}
 use Rattle.fs_laws.specs.CallFacts.{CallFacts}
 use Rattle.fs_machine.specs.Leaving.{finished_op}
 use Rattle.fs_machine.specs.States.{State}
@@ -43,13 +42,13 @@ pub record Closing (old : State) (inv : Invariant old) (c : ℕ) (op : Record) (
   pub kept : CallFacts (numbers made.graph) old.ops key
   pub in_order : InOrder (set_at c (Some (finished_op op made)) old.ops) order
   pub all_placed : (d : ℕ) (q : Record) (i : ℕ) → (d ≡ c → ⊥) → old.ops d ≡ Some q → q.phase ≡ Placed i → (i < commit_count timeline) × IsIn d order
-  pub lawful : IsLawful (start (tree_shapes old.start)) timeline
-  pub tied : Tied (graph_shapes made.graph) (set_at c (Some (finished_op op made)) old.ops) key order (view_after (start (tree_shapes old.start)) timeline)
-  pub own : Own made.graph (finished_op op made)
-  pub own_other : (d : ℕ) (q : Record) → (d ≡ c → ⊥) → old.ops d ≡ Some q → Own made.graph q
+  pub lawful : IsLawful (start old.start) timeline
+  pub tied : Tied (graph_shapes made.graph) (set_at c (Some (finished_op op made)) old.ops) key order (view_after (start old.start) timeline)
+  pub own : Own (most_bytes old) made.graph (finished_op op made)
+  pub own_other : (d : ℕ) (q : Record) → (d ≡ c → ⊥) → old.ops d ≡ Some q → Own (most_bytes old) made.graph q
   pub spares : (n : ℕ) → HasSpare (finished_op op made) n → HasSpare op n ⊎ Reached old.graph n
   pub shapes : Shapes old.graph.shape made.graph.shape (Reached old.graph)
-  pub calls : SameCalls (view_after (start (tree_shapes old.start)) old.timeline) (view_after (start (tree_shapes old.start)) timeline)
+  pub calls : SameCalls (view_after (start old.start) old.timeline) (view_after (start old.start) timeline)
   pub begun : begins timeline ≡ begins old.timeline
 
 -- the state after it
@@ -82,8 +81,8 @@ ends_keep old inv c op made timeline f = record {
     all_placed d q i (Changed e g) h = let z : ◌≡◌ {A = Phase} (Finished made.reply) (Placed i) = ap (λ (o : Record). o.phase) g ∙ h in cc
     all_placed d q i (Old n e) h = f.all_placed d q i n e h
 
-    own : (d : ℕ) (q : Record) → Either old.ops c (finished_op op made) d q → Own made.graph q
-    own d q (Changed e g) = subst (Own made.graph) g f.own
+    own : (d : ℕ) (q : Record) → Either old.ops c (finished_op op made) d q → Own (most_bytes old) made.graph q
+    own d q (Changed e g) = subst (Own (most_bytes old) made.graph) g f.own
     own d q (Old n e) = f.own_other d q n e
 
     held : (d : ℕ) (q : Record) (st : Holdings) (n : ℕ) → Either old.ops c (finished_op op made) d q → q.holdings ≡ Some st → Holds st n → old.holder n ≡ Some d
@@ -115,10 +114,10 @@ ends_keep old inv c op made timeline f = record {
             (finished_op op made, j, ap (λ (o : Record). o.seat) b ∙ h)
         go (Else n j) (q, g, h) = (q, j ∙ g, h)
 
-    seat_of : (d : ℕ) (q : Record) → Either old.ops c (finished_op op made) d q → ((view_after (start (tree_shapes old.start)) timeline).seat_of d ≡ Some q.seat) × ((view_after (start (tree_shapes old.start)) timeline).back d ≡ false)
+    seat_of : (d : ℕ) (q : Record) → Either old.ops c (finished_op op made) d q → ((view_after (start old.start) timeline).seat_of d ≡ Some q.seat) × ((view_after (start old.start) timeline).back d ≡ false)
     seat_of d q (Changed e g) =
-        let a : ((view_after (start (tree_shapes old.start)) old.timeline).seat_of c ≡ Some op.seat) × ((view_after (start (tree_shapes old.start)) old.timeline).back c ≡ false) = inv.seat_of c op f.is in
-        (f.calls.seat_of d ∙ ap (view_after (start (tree_shapes old.start)) old.timeline).seat_of e ∙ a.0 ∙ ap (λ (o : Record). Some o.seat) g, f.calls.back d ∙ ap (view_after (start (tree_shapes old.start)) old.timeline).back e ∙ a.1)
+        let a : ((view_after (start old.start) old.timeline).seat_of c ≡ Some op.seat) × ((view_after (start old.start) old.timeline).back c ≡ false) = inv.seat_of c op f.is in
+        (f.calls.seat_of d ∙ ap (view_after (start old.start) old.timeline).seat_of e ∙ a.0 ∙ ap (λ (o : Record). Some o.seat) g, f.calls.back d ∙ ap (view_after (start old.start) old.timeline).back e ∙ a.1)
     seat_of d q (Old n e) =
-        let a : ((view_after (start (tree_shapes old.start)) old.timeline).seat_of d ≡ Some q.seat) × ((view_after (start (tree_shapes old.start)) old.timeline).back d ≡ false) = inv.seat_of d q e in
+        let a : ((view_after (start old.start) old.timeline).seat_of d ≡ Some q.seat) × ((view_after (start old.start) old.timeline).back d ≡ false) = inv.seat_of d q e in
         (f.calls.seat_of d ∙ a.0, f.calls.back d ∙ a.1)

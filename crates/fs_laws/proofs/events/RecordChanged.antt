@@ -1,6 +1,5 @@
 -- A state in which the record of one call has changed, and neither its phase nor the tree, keeps what every state keeps.
 use Rattle.std.proofs.Common.{◌≡◌, ℕ, ◌<◌, false, List, [], ◌∷◌, Option, Some, refl, sym, ap, ap₂, ◌∙◌, subst, inl, inr}
-use Rattle.fs_calls.specs.Sights.{tree_shapes}
 use Rattle.fs_names.specs.Keys.{Key}
 use Rattle.fs_names.specs.Shapes.{Shape}
 use Rattle.fs_laws.specs.Changes.{reply, after}
@@ -12,7 +11,7 @@ use Rattle.fs_graph.specs.Graphs.{Graph, numbers, graph_shapes, set_at, IsGraph}
 use Rattle.fs_machine.specs.Records.{Phase, Placed, Holds, Record, Records, Holdings}
 use Rattle.fs_laws.specs.JournalViews.{start, view_after}
 use Rattle.fs_timeline.specs.Timeline.{commit_count}
-use Rattle.fs_laws.specs.Invariants.{remaining_of, spots, IsPlaced, AllLater, InOrder, HasSpare, IsIn, Own, Invariant, Tied, Dues}
+use Rattle.fs_laws.specs.Invariants.{remaining_of, spots, IsPlaced, AllLater, InOrder, HasSpare, IsIn, Own, Invariant, Tied, Dues, most_bytes}
 use Rattle.fs_laws.specs.Settled.{settle, settle_replies}
 use Rattle.fs_laws.specs.CallFacts.{CallFacts}
 use Rattle.fs_machine.specs.States.{State}
@@ -50,8 +49,8 @@ pub record Renews (old : State) (inv : Invariant old) (c : ℕ) (op v : Record) 
   pub kept : CallFacts (numbers graph) (set_at c (Some v) old.ops) (set_at c k inv.key)
   pub spelled : graph_shapes graph ≡ graph_shapes old.graph
   pub under_same : (i : ℕ) → op.phase ≡ Placed i → under k v.remaining ≡ under (inv.key c) op.remaining
-  pub own : Own graph v
-  pub own_other : (d : ℕ) (q : Record) → (d ≡ c → ⊥) → old.ops d ≡ Some q → Own graph q
+  pub own : Own (most_bytes old) graph v
+  pub own_other : (d : ℕ) (q : Record) → (d ≡ c → ⊥) → old.ops d ≡ Some q → Own (most_bytes old) graph q
   pub held : (d : ℕ) (q : Record) (st : Holdings) (n : ℕ) → Either old.ops c v d q → q.holdings ≡ Some st → Holds st n → holder n ≡ Some d
   pub spares : (n : ℕ) → HasSpare v n → HasSpare op n
 
@@ -68,7 +67,7 @@ renews_keep old inv c op v graph holder k f = record {
   in_order = order_map old.ops (set_at c (Some v) old.ops) placed_new same_place inv.order inv.in_order;
   all_placed = λ d q i e g. all_placed d q i (either old.ops c v d q e) g;
   lawful = inv.lawful;
-  tied = subst (λ (t : Map Shape). Tied t (set_at c (Some v) old.ops) (set_at c k inv.key) inv.order (view_after (start (tree_shapes old.start)) old.timeline)) (sym f.spelled) tied;
+  tied = subst (λ (t : Map Shape). Tied t (set_at c (Some v) old.ops) (set_at c k inv.key) inv.order (view_after (start old.start) old.timeline)) (sym f.spelled) tied;
   own = λ d q e. own d q (either old.ops c v d q e);
   held = λ d q st n e. f.held d q st n (either old.ops c v d q e);
   apart = λ x y n p q differs e g. apart x y n p q differs (either old.ops c v x p e) (either old.ops c v y q g);
@@ -127,17 +126,17 @@ renews_keep old inv c op v graph holder k f = record {
     both : (settle (graph_shapes old.graph) (spots (set_at c (Some v) old.ops) (set_at c k inv.key) inv.order) ≡ settle (graph_shapes old.graph) (spots old.ops inv.key inv.order)) × (settle_replies (graph_shapes old.graph) (spots (set_at c (Some v) old.ops) (set_at c k inv.key) inv.order) ≡ settle_replies (graph_shapes old.graph) (spots old.ops inv.key inv.order))
     both = settle_same (graph_shapes old.graph) old.ops (set_at c (Some v) old.ops) inv.key (set_at c k inv.key) inv.order same_under
 
-    tied : Tied (graph_shapes old.graph) (set_at c (Some v) old.ops) (set_at c k inv.key) inv.order (view_after (start (tree_shapes old.start)) old.timeline)
+    tied : Tied (graph_shapes old.graph) (set_at c (Some v) old.ops) (set_at c k inv.key) inv.order (view_after (start old.start) old.timeline)
     tied = record {
       played = both.0 ∙ inv.tied.played;
-      dues = subst (Dues (view_after (start (tree_shapes old.start)) old.timeline) inv.order) (sym both.1) inv.tied.dues;
+      dues = subst (Dues (view_after (start old.start) old.timeline) inv.order) (sym both.1) inv.tied.dues;
       fixed = λ d q r e g. (let p : (p : Record) × (old.ops d ≡ Some p) × (q.phase ≡ p.phase) × (q.call ≡ p.call) × (q.seat ≡ p.seat) = was d q (either old.ops c v d q e) in inv.tied.fixed d p.0 r p.1 (sym p.2 ∙ g));
       fresh = λ d q e g. (let p : (p : Record) × (old.ops d ≡ Some p) × (q.phase ≡ p.phase) × (q.call ≡ p.call) × (q.seat ≡ p.seat) = was d q (either old.ops c v d q e) in inv.tied.fresh d p.0 p.1 (sym p.2 ∙ g));
       calls = λ d q e. (let p : (p : Record) × (old.ops d ≡ Some p) × (q.phase ≡ p.phase) × (q.call ≡ p.call) × (q.seat ≡ p.seat) = was d q (either old.ops c v d q e) in inv.tied.calls d p.0 p.1 ∙ ap (λ (x : Call). Some x) (sym p.3));
     }
 
-    own : (d : ℕ) (q : Record) → Either old.ops c v d q → Own graph q
-    own d q (Changed e g) = subst (Own graph) g f.own
+    own : (d : ℕ) (q : Record) → Either old.ops c v d q → Own (most_bytes old) graph q
+    own d q (Changed e g) = subst (Own (most_bytes old) graph) g f.own
     own d q (Old n e) = f.own_other d q n e
 
     mine : (x n : ℕ) (p : Record) → Either old.ops c v x p → HasSpare p n → (o : Record) × (old.ops x ≡ Some o) × HasSpare o n
@@ -160,8 +159,8 @@ renews_keep old inv c op v graph holder k f = record {
             (v, j, f.seat ∙ ap (λ (o : Record). o.seat) b ∙ h)
         go (Else n j) (q, g, h) = (q, j ∙ g, h)
 
-    seat_of : (d : ℕ) (q : Record) → Either old.ops c v d q → ((view_after (start (tree_shapes old.start)) old.timeline).seat_of d ≡ Some q.seat) × ((view_after (start (tree_shapes old.start)) old.timeline).back d ≡ false)
+    seat_of : (d : ℕ) (q : Record) → Either old.ops c v d q → ((view_after (start old.start) old.timeline).seat_of d ≡ Some q.seat) × ((view_after (start old.start) old.timeline).back d ≡ false)
     seat_of d q w =
         let p : (p : Record) × (old.ops d ≡ Some p) × (q.phase ≡ p.phase) × (q.call ≡ p.call) × (q.seat ≡ p.seat) = was d q w in
-        let a : ((view_after (start (tree_shapes old.start)) old.timeline).seat_of d ≡ Some p.0.seat) × ((view_after (start (tree_shapes old.start)) old.timeline).back d ≡ false) = inv.seat_of d p.0 p.1 in
+        let a : ((view_after (start old.start) old.timeline).seat_of d ≡ Some p.0.seat) × ((view_after (start old.start) old.timeline).back d ≡ false) = inv.seat_of d p.0 p.1 in
         (a.0 ∙ ap (λ (n : ℕ). Some n) (sym p.4), a.1)

@@ -1,10 +1,9 @@
 -- A return keeps what every state keeps.
 use Rattle.std.proofs.Common.{◌≡◌, ℕ, ◌<◌, true, [], ◌∷◌, ◌++◌, Option, Some, None, refl, sym, ap, ◌∙◌, subst, inl}
-use Rattle.fs_calls.specs.Sights.{tree_shapes}
 use Rattle.fs_names.specs.Keys.{Key}
 use Rattle.fs_names.specs.Names.{Name}
 use Rattle.fs_names.specs.Shapes.{Shape}
-use Rattle.fs_calls.specs.Forms.{form, under, by_text}
+use Rattle.fs_calls.specs.Forms.{under, by_paths}
 use Rattle.fs_laws.specs.Maps.{Map}
 use Rattle.fs_calls.specs.declared.reply.Reply.{Reply}
 use Rattle.fs_graph.specs.Graphs.{Graph, at, numbers, graph_shapes, set_at, IsGraph}
@@ -47,9 +46,9 @@ given_back old inv c op is (Some n) e =
 
 -- a call that ends stands nowhere
 pub ends_nowhere : (graph : Graph) (op : Record) (r : Reply) → op.phase ≡ Finished r → next graph op ≡ Ends → op.holdings ≡ None
-ends_nowhere graph op r ph m = go op.holdings refl (ap (λ (p : Phase). next_by graph op (by_text (form op.call)) p op.holdings) (sym ph) ∙ m)
+ends_nowhere graph op r ph m = go op.holdings refl (ap (λ (p : Phase). next_by graph op (by_paths op.call) p op.holdings) (sym ph) ∙ m)
   where
-    go : (s : Option Holdings) → op.holdings ≡ s → next_by graph op (by_text (form op.call)) (Finished r) s ≡ Ends → op.holdings ≡ None
+    go : (s : Option Holdings) → op.holdings ≡ s → next_by graph op (by_paths op.call) (Finished r) s ≡ Ends → op.holdings ≡ None
     go None i e = i
     go (Some st) i e = cc
 
@@ -65,24 +64,24 @@ return_keeps old inv c op r graph is ph off b = record {
   kept = subst (λ (t : Map ℕ). CallFacts t (set_at c None old.ops) inv.key) (sym (numbers_by old.graph graph b.children)) kept;
   in_order = order_without old.ops c None inv.order others inv.in_order;
   all_placed = λ d q i e f. (let a : (i < commit_count old.timeline) × IsIn d inv.order = inv.all_placed d q i (was d q e).1 f in (subst (λ (n : ℕ). i < n) (sym (returns_commits old.timeline c r)) a.0, a.1));
-  lawful = lawful_push (start (tree_shapes old.start)) old.timeline (Return c r) inv.lawful (due, (inv.seat_of c op is).1);
-  tied = subst (λ (t : Map Shape). Tied t (set_at c None old.ops) inv.key inv.order (view_after (start (tree_shapes old.start)) (old.timeline ++ Return c r ∷ []))) (sym b.spelled) (subst (Tied (graph_shapes old.graph) (set_at c None old.ops) inv.key inv.order) (sym view_is) tied);
+  lawful = lawful_push (start old.start) old.timeline (Return c r) inv.lawful (due, (inv.seat_of c op is).1);
+  tied = subst (λ (t : Map Shape). Tied t (set_at c None old.ops) inv.key inv.order (view_after (start old.start) (old.timeline ++ Return c r ∷ []))) (sym b.spelled) (subst (Tied (graph_shapes old.graph) (set_at c None old.ops) inv.key inv.order) (sym view_is) tied);
   own = λ d q e. own_children old.graph graph b.children q (λ m h. b.shapes m (λ g. inv.apart c d m op q (λ i. (was d q e).0 (sym i)) is (was d q e).1 g h)) (inv.own d q (was d q e).1);
   held = λ d q st n e f h. inv.held d q st n (was d q e).1 f h;
   apart = λ x y n p q differs e f. inv.apart x y n p q differs (was x p e).1 (was y q f).1;
   seated = seated;
-  busy = λ s. ap (λ (k : JournalView). k.busy s) view_is ∙ ap (λ (o : Option ℕ). free_seat (view_after (start (tree_shapes old.start)) old.timeline) o s) (inv.seat_of c op is).0 ∙ busy s (place op.seat None (view_after (start (tree_shapes old.start)) old.timeline).busy s) (place op.seat None old.on_seat s);
+  busy = λ s. ap (λ (k : JournalView). k.busy s) view_is ∙ ap (λ (o : Option ℕ). free_seat (view_after (start old.start) old.timeline) o s) (inv.seat_of c op is).0 ∙ busy s (place op.seat None (view_after (start old.start) old.timeline).busy s) (place op.seat None old.on_seat s);
   seat_of = λ d q e. (
     ap (λ (k : JournalView). k.seat_of d) view_is ∙ (inv.seat_of d q (was d q e).1).0,
-    ap (λ (k : JournalView). k.back d) view_is ∙ upd_else c true (view_after (start (tree_shapes old.start)) old.timeline).back d (was d q e).0 ∙ (inv.seat_of d q (was d q e).1).1,
+    ap (λ (k : JournalView). k.back d) view_is ∙ upd_else c true (view_after (start old.start) old.timeline).back d (was d q e).0 ∙ (inv.seat_of d q (was d q e).1).1,
   );
   fresh = λ d less. ap (λ (k : JournalView). k.call d) view_is ∙ inv.fresh d (subst (λ (n : ℕ). n < d) (returns_begins old.timeline c r) less);
 }
   where
-    view_is : view_after (start (tree_shapes old.start)) (old.timeline ++ Return c r ∷ []) ≡ noted (view_after (start (tree_shapes old.start)) old.timeline) (Return c r)
-    view_is = view_push (start (tree_shapes old.start)) old.timeline (Return c r)
+    view_is : view_after (start old.start) (old.timeline ++ Return c r ∷ []) ≡ noted (view_after (start old.start) old.timeline) (Return c r)
+    view_is = view_push (start old.start) old.timeline (Return c r)
 
-    due : (view_after (start (tree_shapes old.start)) old.timeline).due c ≡ Some r
+    due : (view_after (start old.start) old.timeline).due c ≡ Some r
     due = inv.tied.fixed c op r is ph
 
     was : (d : ℕ) (q : Record) → set_at c None old.ops d ≡ Some q → (d ≡ c → ⊥) × (old.ops d ≡ Some q)
@@ -110,10 +109,10 @@ return_keeps old inv c op r graph is ph off b = record {
     both : (settle (graph_shapes old.graph) (spots (set_at c None old.ops) inv.key inv.order) ≡ settle (graph_shapes old.graph) (spots old.ops inv.key inv.order)) × (settle_replies (graph_shapes old.graph) (spots (set_at c None old.ops) inv.key inv.order) ≡ settle_replies (graph_shapes old.graph) (spots old.ops inv.key inv.order))
     both = settle_same (graph_shapes old.graph) old.ops (set_at c None old.ops) inv.key inv.key inv.order (λ d i. ap (λ (o : Option Record). under (inv.key d) (remaining_of o)) (upd_else c None old.ops d (others d i)))
 
-    tied : Tied (graph_shapes old.graph) (set_at c None old.ops) inv.key inv.order (noted (view_after (start (tree_shapes old.start)) old.timeline) (Return c r))
+    tied : Tied (graph_shapes old.graph) (set_at c None old.ops) inv.key inv.order (noted (view_after (start old.start) old.timeline) (Return c r))
     tied = record {
       played = both.0 ∙ inv.tied.played;
-      dues = dues_due (view_after (start (tree_shapes old.start)) old.timeline) (noted (view_after (start (tree_shapes old.start)) old.timeline) (Return c r)) inv.order (settle_replies (graph_shapes old.graph) (spots (set_at c None old.ops) inv.key inv.order)) (λ d. refl) (subst (Dues (view_after (start (tree_shapes old.start)) old.timeline) inv.order) (sym both.1) inv.tied.dues);
+      dues = dues_due (view_after (start old.start) old.timeline) (noted (view_after (start old.start) old.timeline) (Return c r)) inv.order (settle_replies (graph_shapes old.graph) (spots (set_at c None old.ops) inv.key inv.order)) (λ d. refl) (subst (Dues (view_after (start old.start) old.timeline) inv.order) (sym both.1) inv.tied.dues);
       fixed = λ d q s e f. inv.tied.fixed d q s (was d q e).1 f;
       fresh = λ d q e f. inv.tied.fresh d q (was d q e).1 f;
       calls = λ d q e. inv.tied.calls d q (was d q e).1;
@@ -132,7 +131,7 @@ return_keeps old inv c op r graph is ph off b = record {
             n (sym (ap (λ (o : Record). o.seat) f ∙ g.2))) in
             (g.0, upd_else c None old.ops d differs ∙ g.1, g.2)
 
-    busy : (s : ℕ) → Place (Option ℕ) op.seat None (view_after (start (tree_shapes old.start)) old.timeline).busy s → Place (Option ℕ) op.seat None old.on_seat s → set_at op.seat None (view_after (start (tree_shapes old.start)) old.timeline).busy s ≡ set_at op.seat None old.on_seat s
+    busy : (s : ℕ) → Place (Option ℕ) op.seat None (view_after (start old.start) old.timeline).busy s → Place (Option ℕ) op.seat None old.on_seat s → set_at op.seat None (view_after (start old.start) old.timeline).busy s ≡ set_at op.seat None old.on_seat s
     busy s (Here i j) (Here k l) = j ∙ sym l
     busy s (Here i j) (Else n l) = absurd (n i)
     busy s (Else n j) (Here k l) = absurd (n k)

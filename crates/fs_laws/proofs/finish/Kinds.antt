@@ -2,7 +2,6 @@
 use Rattle.std.proofs.Common.{◌≡◌, ℕ, ◌+◌, ◌-◌, ◌≤◌, min, Bool, true, false, cond, ◌||◌, List, [], ◌∷◌, ◌++◌, length, take, drop, replicate, refl, sym, ap, ap₂, ◌∙◌, subst, ◌⊎◌, inl, inr, arith, Less}
 use Rattle.std.proofs.lemmas.List.{length-append, length-replicate, length-take, length-drop}
 use Rattle.fs_names.specs.Names.{Name, name_cmp, same_name, inserted_name, removed_name, has_name}
-use Rattle.fs_names.specs.declared.limits.TheConstants.{FILE_LIMIT}
 use Rattle.fs_names.proofs.Lemmas.{name_total}
 use Rattle.fs_calls.specs.Rows.{written, resized}
 use Rattle.fs_machine.specs.States.{AreRising}
@@ -124,14 +123,14 @@ no_more x (z ∷ zs) o h = go (compare x z) (no_more x zs o.1)
 length_four : (a b c d : List ℕ) (i j k l : ℕ) → length a ≡ i → length b ≡ j → length c ≡ k → length d ≡ l → length (a ++ b ++ c ++ d) ≡ ((i + j) + k) + l
 length_four a b c d i j k l e f g h = length-append (a ++ b ++ c) d ∙ ap₂ (λ (x y : ℕ). x + y) (length-append (a ++ b) c ∙ ap₂ (λ (x y : ℕ). x + y) (length-append a b ∙ ap₂ (λ (x y : ℕ). x + y) e f) g) h
 
-pub length_written : (old : List ℕ) (off : ℕ) (bytes : List ℕ) → length old ≤ FILE_LIMIT → off + length bytes ≤ FILE_LIMIT → length (written old off bytes) ≤ FILE_LIMIT
-length_written old off bytes h g =
+pub length_written : (most : ℕ) (old : List ℕ) (off : ℕ) (bytes : List ℕ) → length old ≤ most → off + length bytes ≤ most → length (written old off bytes) ≤ most
+length_written most old off bytes h g =
     let a : length (take off old ++ replicate (off - length old) 0 ++ bytes ++ drop (off + length bytes) old) ≡ ((min off (length old) + (off - length old)) + length bytes) + (length old - (off + length bytes)) =
     length_four (take off old) (replicate (off - length old) 0) bytes (drop (off + length bytes) old) (min off (length old)) (off - length old) (length bytes) (length old - (off + length bytes)) (length-take off old) (length-replicate (off - length old) 0) refl (length-drop (off + length bytes) old) in
-    subst (λ (n : ℕ). n ≤ FILE_LIMIT) (sym a) (omega (arith, h, g))
+    subst (λ (n : ℕ). n ≤ most) (sym a) (omega (arith, h, g))
 
-pub length_resized : (old : List ℕ) (size : ℕ) → length old ≤ FILE_LIMIT → size ≤ FILE_LIMIT → length (resized old size) ≤ FILE_LIMIT
-length_resized old size h g =
+pub length_resized : (most : ℕ) (old : List ℕ) (size : ℕ) → length old ≤ most → size ≤ most → length (resized old size) ≤ most
+length_resized most old size h g =
     let a : length (take size old ++ replicate (size - length old) 0) ≡ min size (length old) + (size - length old) =
     length-append (take size old) (replicate (size - length old) 0) ∙ ap₂ (λ (i j : ℕ). i + j) (length-take size old) (length-replicate (size - length old) 0) in
-    subst (λ (n : ℕ). n ≤ FILE_LIMIT) (sym a) (omega (arith, h, g))
+    subst (λ (n : ℕ). n ≤ most) (sym a) (omega (arith, h, g))

@@ -7,8 +7,8 @@ use Rattle.fs_names.specs.Failures.{check, first_failure}
 use Rattle.fs_names.specs.Names.{Name, inserted_name, removed_name, has_name}
 use Rattle.fs_names.specs.Parts.{common, left}
 use Rattle.fs_names.specs.Shapes.{Shape, Dir, File, names_of, is_full}
-use Rattle.fs_names.specs.declared.limits.TheConstants.{ENTRY_LIMIT, FILE_LIMIT}
-use Rattle.fs_calls.specs.Forms.{form, NodeCall, Stat, Readdir, Read, Write, Truncate, Form, AtNode, AtEntry, AtPair, by_text}
+use Rattle.fs_names.specs.declared.limits.TheConstants.{ENTRY_LIMIT}
+use Rattle.fs_calls.specs.Forms.{NodeCall, Stat, Readdir, Read, Write, Truncate, Form, AtNode, AtEntry, AtPair, by_paths}
 use Rattle.fs_calls.specs.declared.target.PairCall.TheVariants as pairs
 use Rattle.fs_calls.specs.declared.target.EntryCall.{EntryCall}
 use Rattle.fs_calls.specs.declared.target.EntryCall.TheVariants.{Mkdir, Mknod, Unlink, Rmdir}
@@ -19,11 +19,13 @@ use Rattle.fs_calls.specs.declared.errno.Errno.{Errno}
 use Rattle.fs_calls.specs.declared.errno.Errno.TheVariants.{Efbig}
 use Rattle.fs_calls.specs.declared.reply.Reply.{Reply}
 use Rattle.fs_calls.specs.declared.reply.Reply.TheVariants.{Done, Wrote}
+use Rattle.fs_calls.proofs.FormLemmas.{HasLimit, LimitedTo, form_limited, under_limited}
+use Rattle.fs_machine.specs.OpValues.{FilesWithin, IsBounded, IsToldWithin}
 use Rattle.fs_graph.specs.Graphs.{Graph, set_at, entry_shape, IsGraph, at}
 use Rattle.fs_machine.specs.Finishes.{node_effect, entry_effect, move_effect, rename_effect, effect_at, effect_of, finish, swap_effect, exchange_effect}
 use Rattle.fs_machine.specs.Moves.{dir_error, path_error, there_by, rename_at, target, exchange_at}
 use Rattle.fs_machine.specs.Records.{Record, Holdings, Source, Dest}
-use Rattle.fs_laws.specs.Invariants.{Forked, ForkedAt, HeadsSound}
+use Rattle.fs_laws.specs.Invariants.{Forked, ForkedAt, HeadsSound, Own}
 use Rattle.fs_laws.proofs.trees.Prefixes.{prefix_some, same_refl}
 use Rattle.fs_laws.proofs.events.OneCallChanged.{Place, Here, Else, place}
 use Rattle.fs_laws.proofs.finish.Replies.{some_entry}
@@ -31,13 +33,27 @@ use Rattle.fs_laws.proofs.finish.TreeAfter.{Really, really, full_row}
 use Rattle.fs_laws.proofs.finish.Readings.{dir_of_none}
 use Rattle.fs_laws.proofs.finish.Kinds.{Ordered, ordered_with, ordered_without, fewer_without, one_fewer, one_more, no_more, length_written, length_resized}
 
--- a directory's names are in order and within the limit, and so are a file's bytes
-abbrev pub Within : Shape → Type 0
-Within (Dir names) = Ordered names × (length names ≤ ENTRY_LIMIT)
-Within (File bytes) = length bytes ≤ FILE_LIMIT
+-- what is left of a call has the limit with which it began
+pub own_limited : (most : ℕ) (graph : Graph) (op : Record) → Own most graph op → LimitedTo most op.remaining
+own_limited most graph op own = under_limited most op.walked op.remaining (subst (LimitedTo most) (sym own.parts) (form_limited most op.call))
 
-abbrev pub AllWithin : (ℕ → Option Shape) → Type 0
-AllWithin f = (n : ℕ) (s : Shape) → f n ≡ Some s → Within s
+-- so what it tells is within it
+pub told_within : (most : ℕ) (graph : Graph) (f : Form) → LimitedTo most f → IsBounded most graph → IsToldWithin graph f
+told_within most graph (AtNode Stat p) l b = tt
+told_within most graph (AtNode Readdir p) l b = b.entries
+told_within most graph (AtNode (Read m off count) p) l b = subst (λ (k : ℕ). FilesWithin k graph) (sym l) b.bytes
+told_within most graph (AtNode (Write m off bytes) p) l b = tt
+told_within most graph (AtNode (Truncate m size) p) l b = tt
+told_within most graph (AtEntry c p) l b = tt
+told_within most graph (AtPair c p q) l b = tt
+
+-- a directory's names are in order and within their limit, and a file has at most so many bytes
+abbrev pub Within : ℕ → Shape → Type 0
+Within most (Dir names) = Ordered names × (length names ≤ ENTRY_LIMIT)
+Within most (File bytes) = length bytes ≤ most
+
+abbrev pub AllWithin : ℕ → (ℕ → Option Shape) → Type 0
+AllWithin most f = (n : ℕ) (s : Shape) → f n ≡ Some s → Within most s
 
 -- of one kind
 abbrev pub SameKind : Shape → Shape → Type 0
@@ -46,10 +62,10 @@ SameKind (File a) (File b) = Unit {0}
 SameKind _ _ = ⊥
 
 -- the same numbers in use, each with its kind, and within the limits
-pub record Resizes (old new : ℕ → Option Shape) : Type 0 where
+pub record Resizes (most : ℕ) (old new : ℕ → Option Shape) : Type 0 where
   pub to_new : (n : ℕ) (s : Shape) → old n ≡ Some s → (t : Shape) × (new n ≡ Some t) × SameKind s t
   pub to_old : (n : ℕ) (t : Shape) → new n ≡ Some t → (s : Shape) × (old n ≡ Some s)
-  pub within : AllWithin new
+  pub within : AllWithin most new
 
 kind_refl : (s : Shape) → SameKind s s
 kind_refl (Dir names) = tt
@@ -63,11 +79,11 @@ kind_then (File a) (File b) (Dir c) h g = absurd g
 kind_then (Dir a) (File b) u h g = absurd h
 kind_then (File a) (Dir b) u h g = absurd h
 
-pub resizes_same : (f : ℕ → Option Shape) → AllWithin f → Resizes f f
-resizes_same f w = record { to_new = λ n s e. (s, e, kind_refl s); to_old = λ n s e. (s, e); within = w }
+pub resizes_same : (most : ℕ) (f : ℕ → Option Shape) → AllWithin most f → Resizes most f f
+resizes_same most f w = record { to_new = λ n s e. (s, e, kind_refl s); to_old = λ n s e. (s, e); within = w }
 
-pub resizes_set : (f : ℕ → Option Shape) (n : ℕ) (s v : Shape) → AllWithin f → f n ≡ Some s → SameKind s v → Within v → Resizes f (set_at n (Some v) f)
-resizes_set f n s v w was kind fits = record {
+pub resizes_set : (most : ℕ) (f : ℕ → Option Shape) (n : ℕ) (s v : Shape) → AllWithin most f → f n ≡ Some s → SameKind s v → Within most v → Resizes most f (set_at n (Some v) f)
+resizes_set most f n s v w was kind fits = record {
   to_new = λ m t e. new m t e (place n (Some v) f m);
   to_old = λ m t e. old m t e (place n (Some v) f m);
   within = λ m t e. within m t e (place n (Some v) f m);
@@ -83,12 +99,12 @@ resizes_set f n s v w was kind fits = record {
     old m t e (Here i j) = (s, ap f i ∙ was)
     old m t e (Else h j) = (t, sym j ∙ e)
 
-    within : (m : ℕ) (t : Shape) → set_at n (Some v) f m ≡ Some t → Place (Option Shape) n (Some v) f m → Within t
-    within m t e (Here i j) = let z : ◌≡◌ {A = Option Shape} (Some v) (Some t) = sym j ∙ e in subst Within (let y : v ≡ t = cc in y) fits
+    within : (m : ℕ) (t : Shape) → set_at n (Some v) f m ≡ Some t → Place (Option Shape) n (Some v) f m → Within most t
+    within m t e (Here i j) = let z : ◌≡◌ {A = Option Shape} (Some v) (Some t) = sym j ∙ e in subst (Within most) (let y : v ≡ t = cc in y) fits
     within m t e (Else h j) = w m t (sym j ∙ e)
 
-pub resizes_then : (f g h : ℕ → Option Shape) → Resizes f g → Resizes g h → Resizes f h
-resizes_then f g h a b = record {
+pub resizes_then : (most : ℕ) (f g h : ℕ → Option Shape) → Resizes most f g → Resizes most g h → Resizes most f h
+resizes_then most f g h a b = record {
   to_new = λ n s e. (
       let t : (t : Shape) × (g n ≡ Some t) × SameKind s t = a.to_new n s e in
       let u : (u : Shape) × (h n ≡ Some u) × SameKind t.0 u = b.to_new n t.0 t.1 in
@@ -98,43 +114,43 @@ resizes_then f g h a b = record {
 }
 
 -- a call on a node
-on_resizes : (graph : Graph) → AllWithin graph.shape → (n : ℕ) (c : NodeCall) (e : Option Errno) (reserved : Option ℕ) (s : Option Shape) → graph.shape n ≡ s → Resizes graph.shape (node_effect graph n reserved (node_row c e s)).graph.shape
-on_resizes graph w n c (Some e) reserved s i = resizes_same graph.shape w
-on_resizes graph w n c None reserved None i = resizes_same graph.shape w
-on_resizes graph w n c None reserved (Some (Dir names)) i =
-    subst (λ (o : Option (List ℕ)). Resizes graph.shape (node_effect graph n reserved ((node_row c None (Some (Dir names))).0, o)).graph.shape) (sym (on_dir c names)) (resizes_same graph.shape w)
-on_resizes graph w n Stat None reserved (Some (File bytes)) i = resizes_same graph.shape w
-on_resizes graph w n Readdir None reserved (Some (File bytes)) i = resizes_same graph.shape w
-on_resizes graph w n (Read off count) None reserved (Some (File bytes)) i = resizes_same graph.shape w
-on_resizes graph w n (Write off []) None reserved (Some (File bytes)) i = resizes_same graph.shape w
-on_resizes graph w n (Write off (b ∷ new)) None reserved (Some (File bytes)) i = go (nat_lt FILE_LIMIT (off + length (b ∷ new))) refl
+on_resizes : (most : ℕ) (graph : Graph) → AllWithin most graph.shape → (n : ℕ) (c : NodeCall) → HasLimit most c → (e : Option Errno) (reserved : Option ℕ) (s : Option Shape) → graph.shape n ≡ s → Resizes most graph.shape (node_effect graph n reserved (node_row c e s)).graph.shape
+on_resizes most graph w n c l (Some e) reserved s i = resizes_same most graph.shape w
+on_resizes most graph w n c l None reserved None i = resizes_same most graph.shape w
+on_resizes most graph w n c l None reserved (Some (Dir names)) i =
+    subst (λ (o : Option (List ℕ)). Resizes most graph.shape (node_effect graph n reserved ((node_row c None (Some (Dir names))).0, o)).graph.shape) (sym (on_dir c names)) (resizes_same most graph.shape w)
+on_resizes most graph w n Stat l None reserved (Some (File bytes)) i = resizes_same most graph.shape w
+on_resizes most graph w n Readdir l None reserved (Some (File bytes)) i = resizes_same most graph.shape w
+on_resizes most graph w n (Read m off count) l None reserved (Some (File bytes)) i = resizes_same most graph.shape w
+on_resizes most graph w n (Write m off []) l None reserved (Some (File bytes)) i = resizes_same most graph.shape w
+on_resizes most graph w n (Write m off (b ∷ new)) l None reserved (Some (File bytes)) i = go (nat_lt m (off + length (b ∷ new))) refl
   where
-    go : (c : Bool) → nat_lt FILE_LIMIT (off + length (b ∷ new)) ≡ c → Resizes graph.shape (node_effect graph n reserved (answered (first_failure (check c Efbig ∷ [])) None (Wrote (length (b ∷ new))) (Some (written bytes off (b ∷ new))))).graph.shape
-    go true e = resizes_same graph.shape w
-    go false e = resizes_set graph.shape n (File bytes) (File (written bytes off (b ∷ new))) w i tt (length_written bytes off (b ∷ new) (w n (File bytes) i) (grind (arith, nat_tests)))
-on_resizes graph w n (Truncate size) None reserved (Some (File bytes)) i = go (nat_lt FILE_LIMIT size) refl
+    go : (c : Bool) → nat_lt m (off + length (b ∷ new)) ≡ c → Resizes most graph.shape (node_effect graph n reserved (answered (first_failure (check c Efbig ∷ [])) None (Wrote (length (b ∷ new))) (Some (written bytes off (b ∷ new))))).graph.shape
+    go true e = resizes_same most graph.shape w
+    go false e = resizes_set most graph.shape n (File bytes) (File (written bytes off (b ∷ new))) w i tt (length_written most bytes off (b ∷ new) (w n (File bytes) i) (subst (λ (k : ℕ). off + length (b ∷ new) ≤ k) l (grind (arith, nat_tests))))
+on_resizes most graph w n (Truncate m size) l None reserved (Some (File bytes)) i = go (nat_lt m size) refl
   where
-    go : (c : Bool) → nat_lt FILE_LIMIT size ≡ c → Resizes graph.shape (node_effect graph n reserved (answered (first_failure (check c Efbig ∷ [])) None Done (Some (resized bytes size)))).graph.shape
-    go true e = resizes_same graph.shape w
-    go false e = resizes_set graph.shape n (File bytes) (File (resized bytes size)) w i tt (length_resized bytes size (w n (File bytes) i) (grind (arith, nat_tests)))
+    go : (c : Bool) → nat_lt m size ≡ c → Resizes most graph.shape (node_effect graph n reserved (answered (first_failure (check c Efbig ∷ [])) None Done (Some (resized bytes size)))).graph.shape
+    go true e = resizes_same most graph.shape w
+    go false e = resizes_set most graph.shape n (File bytes) (File (resized bytes size)) w i tt (length_resized most bytes size (w n (File bytes) i) (subst (λ (k : ℕ). size ≤ k) l (grind (arith, nat_tests))))
 
 -- a directory with a name more, or less
-with_fits : (x : Name) (names : List Name) → Within (Dir names) → length names < ENTRY_LIMIT → Within (Dir (inserted_name x names))
-with_fits x names w room = (ordered_with x names w.0, (let m : length (inserted_name x names) ≤ length names + 1 = one_more x names in omega (arith, m, room)))
+with_fits : (most : ℕ) (x : Name) (names : List Name) → Within most (Dir names) → length names < ENTRY_LIMIT → Within most (Dir (inserted_name x names))
+with_fits most x names w room = (ordered_with x names w.0, (let m : length (inserted_name x names) ≤ length names + 1 = one_more x names in omega (arith, m, room)))
 
-without_fits : (x : Name) (names : List Name) → Within (Dir names) → Within (Dir (removed_name x names))
-without_fits x names w = (ordered_without x names w.0, (let m : length (removed_name x names) ≤ length names = fewer_without x names in let k : length names ≤ ENTRY_LIMIT = w.1 in omega (arith, m, k)))
+without_fits : (most : ℕ) (x : Name) (names : List Name) → Within most (Dir names) → Within most (Dir (removed_name x names))
+without_fits most x names w = (ordered_without x names w.0, (let m : length (removed_name x names) ≤ length names = fewer_without x names in let k : length names ≤ ENTRY_LIMIT = w.1 in omega (arith, m, k)))
 
 names_are : (graph : Graph) (n : ℕ) (names : List Name) → graph.shape n ≡ Some (Dir names) → names_of (graph.shape n) ≡ names
 names_are graph n names e = ap names_of e
 
 -- a call on an entry
-edit_resizes : (graph : Graph) → AllWithin graph.shape → (n : ℕ) (x : Name) (names : List Name) → graph.shape n ≡ Some (Dir names) → (reserved : Option ℕ) (row : Reply × Edit) → ((s : Shape) → row.1 ≡ Add s → length names < ENTRY_LIMIT) → Resizes graph.shape (entry_effect graph n x reserved row).graph.shape
-edit_resizes graph w n x names i reserved (r, Keep) room = resizes_same graph.shape w
-edit_resizes graph w n x names i None (r, Add shape) room = resizes_same graph.shape w
-edit_resizes graph w n x names i (Some m) (r, Add shape) room = resizes_set graph.shape n (Dir names) (Dir (inserted_name x (names_of (graph.shape n)))) w i tt (subst (λ (l : List Name). Within (Dir (inserted_name x l))) (sym (names_are graph n names i)) (with_fits x names (w n (Dir names) i) (room shape refl)))
-edit_resizes graph w n x names i None (r, Remove) room = resizes_set graph.shape n (Dir names) (Dir (removed_name x (names_of (graph.shape n)))) w i tt (subst (λ (l : List Name). Within (Dir (removed_name x l))) (sym (names_are graph n names i)) (without_fits x names (w n (Dir names) i)))
-edit_resizes graph w n x names i (Some m) (r, Remove) room = resizes_set graph.shape n (Dir names) (Dir (removed_name x (names_of (graph.shape n)))) w i tt (subst (λ (l : List Name). Within (Dir (removed_name x l))) (sym (names_are graph n names i)) (without_fits x names (w n (Dir names) i)))
+edit_resizes : (most : ℕ) (graph : Graph) → AllWithin most graph.shape → (n : ℕ) (x : Name) (names : List Name) → graph.shape n ≡ Some (Dir names) → (reserved : Option ℕ) (row : Reply × Edit) → ((s : Shape) → row.1 ≡ Add s → length names < ENTRY_LIMIT) → Resizes most graph.shape (entry_effect graph n x reserved row).graph.shape
+edit_resizes most graph w n x names i reserved (r, Keep) room = resizes_same most graph.shape w
+edit_resizes most graph w n x names i None (r, Add shape) room = resizes_same most graph.shape w
+edit_resizes most graph w n x names i (Some m) (r, Add shape) room = resizes_set most graph.shape n (Dir names) (Dir (inserted_name x (names_of (graph.shape n)))) w i tt (subst (λ (l : List Name). Within most (Dir (inserted_name x l))) (sym (names_are graph n names i)) (with_fits most x names (w n (Dir names) i) (room shape refl)))
+edit_resizes most graph w n x names i None (r, Remove) room = resizes_set most graph.shape n (Dir names) (Dir (removed_name x (names_of (graph.shape n)))) w i tt (subst (λ (l : List Name). Within most (Dir (removed_name x l))) (sym (names_are graph n names i)) (without_fits most x names (w n (Dir names) i)))
+edit_resizes most graph w n x names i (Some m) (r, Remove) room = resizes_set most graph.shape n (Dir names) (Dir (removed_name x (names_of (graph.shape n)))) w i tt (subst (λ (l : List Name). Within most (Dir (removed_name x l))) (sym (names_are graph n names i)) (without_fits most x names (w n (Dir names) i)))
 
 -- a node is added where there is room
 add_room : (c : EntryCall) (full : Bool) (there : Option Shape) (s : Shape) → (entry_row_in_dir c full there).1 ≡ Add s → full ≡ false
@@ -155,11 +171,11 @@ add_room Rmdir full (Some (Dir (x ∷ names))) s e = cc
 has_room : (n : ℕ) → nat_le ENTRY_LIMIT n ≡ false → n < ENTRY_LIMIT
 has_room n e = grind (arith, nat_tests)
 
-in_resizes : (graph : Graph) → AllWithin graph.shape → (n : ℕ) (c : EntryCall) (x : Name) (reserved : Option ℕ) (there : Option Shape) (e : Option Errno) → (e ≡ None → (names : List Name) × (graph.shape n ≡ Some (Dir names))) → Resizes graph.shape (entry_effect graph n x reserved (entry_row c e (is_full (graph.shape n)) there)).graph.shape
-in_resizes graph w n c x reserved there (Some e) dir = resizes_same graph.shape w
-in_resizes graph w n c x reserved there None dir =
+in_resizes : (most : ℕ) (graph : Graph) → AllWithin most graph.shape → (n : ℕ) (c : EntryCall) (x : Name) (reserved : Option ℕ) (there : Option Shape) (e : Option Errno) → (e ≡ None → (names : List Name) × (graph.shape n ≡ Some (Dir names))) → Resizes most graph.shape (entry_effect graph n x reserved (entry_row c e (is_full (graph.shape n)) there)).graph.shape
+in_resizes most graph w n c x reserved there (Some e) dir = resizes_same most graph.shape w
+in_resizes most graph w n c x reserved there None dir =
     let d : (names : List Name) × (graph.shape n ≡ Some (Dir names)) = dir refl in
-    edit_resizes graph w n x d.0 d.1 reserved (entry_row_in_dir c (is_full (graph.shape n)) there) (λ s e. has_room (length d.0) (ap is_full (sym d.1) ∙ add_room c (is_full (graph.shape n)) there s e))
+    edit_resizes most graph w n x d.0 d.1 reserved (entry_row_in_dir c (is_full (graph.shape n)) there) (λ s e. has_room (length d.0) (ap is_full (sym d.1) ∙ add_room c (is_full (graph.shape n)) there s e))
 
 -- paths with one parent: a rename that stands at its common directory has walked nothing of them
 end_is : (a b : Key) → is_end (after_prefix a b) ≡ true → a ≡ b
@@ -194,38 +210,38 @@ one_parent graph p q st f way same =
 abbrev Room : Graph → Holdings → List Name → Name → Type 0
 Room graph st names y = (st.source.node ≡ st.dest.node) ⊎ (length names < ENTRY_LIMIT) ⊎ (has_name y names ≡ true)
 
-moved_resizes : (graph : Graph) → AllWithin graph.shape → (st : Holdings) (x y : Name) (reserved : Option ℕ) (r : Reply) (m : ℕ) (from to : List Name) → graph.shape st.source.node ≡ Some (Dir from) → graph.shape st.dest.node ≡ Some (Dir to) → has_name x from ≡ true → Room graph st to y
-    → Resizes graph.shape (move_effect graph st x y reserved r true (Some m)).graph.shape
-moved_resizes graph w st x y reserved r m from to f t had room = resizes_then graph.shape mid (set_at st.dest.node (Some (Dir (inserted_name y (names_of (mid st.dest.node))))) mid) first_failure (second (place st.source.node (Some (Dir (removed_name x (names_of (graph.shape st.source.node))))) graph.shape st.dest.node))
+moved_resizes : (most : ℕ) (graph : Graph) → AllWithin most graph.shape → (st : Holdings) (x y : Name) (reserved : Option ℕ) (r : Reply) (m : ℕ) (from to : List Name) → graph.shape st.source.node ≡ Some (Dir from) → graph.shape st.dest.node ≡ Some (Dir to) → has_name x from ≡ true → Room graph st to y
+    → Resizes most graph.shape (move_effect graph st x y reserved r true (Some m)).graph.shape
+moved_resizes most graph w st x y reserved r m from to f t had room = resizes_then most graph.shape mid (set_at st.dest.node (Some (Dir (inserted_name y (names_of (mid st.dest.node))))) mid) first_failure (second (place st.source.node (Some (Dir (removed_name x (names_of (graph.shape st.source.node))))) graph.shape st.dest.node))
   where
     mid : ℕ → Option Shape
     mid = set_at st.source.node (Some (Dir (removed_name x (names_of (graph.shape st.source.node))))) graph.shape
 
-    from_fits : Within (Dir from)
+    from_fits : Within most (Dir from)
     from_fits = w st.source.node (Dir from) f
 
-    to_fits : Within (Dir to)
+    to_fits : Within most (Dir to)
     to_fits = w st.dest.node (Dir to) t
 
-    first_failure : Resizes graph.shape (set_at st.source.node (Some (Dir (removed_name x (names_of (graph.shape st.source.node))))) graph.shape)
-    first_failure = resizes_set graph.shape st.source.node (Dir from) (Dir (removed_name x (names_of (graph.shape st.source.node)))) w f tt (subst (λ (l : List Name). Within (Dir (removed_name x l))) (sym (names_are graph st.source.node from f)) (without_fits x from (w st.source.node (Dir from) f)))
+    first_failure : Resizes most graph.shape (set_at st.source.node (Some (Dir (removed_name x (names_of (graph.shape st.source.node))))) graph.shape)
+    first_failure = resizes_set most graph.shape st.source.node (Dir from) (Dir (removed_name x (names_of (graph.shape st.source.node)))) w f tt (subst (λ (l : List Name). Within most (Dir (removed_name x l))) (sym (names_are graph st.source.node from f)) (without_fits most x from (w st.source.node (Dir from) f)))
 
-    put : (names : List Name) → set_at st.source.node (Some (Dir (removed_name x (names_of (graph.shape st.source.node))))) graph.shape st.dest.node ≡ Some (Dir names) → Within (Dir (inserted_name y names))
-        → Resizes (set_at st.source.node (Some (Dir (removed_name x (names_of (graph.shape st.source.node))))) graph.shape) (set_at st.dest.node (Some (Dir (inserted_name y (names_of (mid st.dest.node))))) mid)
-    put names e fits = resizes_set mid st.dest.node (Dir names) (Dir (inserted_name y (names_of (mid st.dest.node)))) first_failure.within e tt (subst (λ (l : List Name). Within (Dir (inserted_name y l))) (sym (ap names_of e)) fits)
+    put : (names : List Name) → set_at st.source.node (Some (Dir (removed_name x (names_of (graph.shape st.source.node))))) graph.shape st.dest.node ≡ Some (Dir names) → Within most (Dir (inserted_name y names))
+        → Resizes most (set_at st.source.node (Some (Dir (removed_name x (names_of (graph.shape st.source.node))))) graph.shape) (set_at st.dest.node (Some (Dir (inserted_name y (names_of (mid st.dest.node))))) mid)
+    put names e fits = resizes_set most mid st.dest.node (Dir names) (Dir (inserted_name y (names_of (mid st.dest.node)))) first_failure.within e tt (subst (λ (l : List Name). Within most (Dir (inserted_name y l))) (sym (ap names_of e)) fits)
 
-    fits_else : (st.dest.node ≡ st.source.node → ⊥) → Room graph st to y → Within (Dir (inserted_name y to))
+    fits_else : (st.dest.node ≡ st.source.node → ⊥) → Room graph st to y → Within most (Dir (inserted_name y to))
     fits_else n (inl e) = absurd (n (sym e))
-    fits_else n (inr (inl h)) = with_fits y to to_fits h
-    fits_else n (inr (inr h)) = subst (λ (l : List Name). Within (Dir l)) (sym (no_more y to to_fits.0 h)) to_fits
+    fits_else n (inr (inl h)) = with_fits most y to to_fits h
+    fits_else n (inr (inr h)) = subst (λ (l : List Name). Within most (Dir l)) (sym (no_more y to to_fits.0 h)) to_fits
 
-    second : Place (Option Shape) st.source.node (Some (Dir (removed_name x (names_of (graph.shape st.source.node))))) graph.shape st.dest.node → Resizes (set_at st.source.node (Some (Dir (removed_name x (names_of (graph.shape st.source.node))))) graph.shape) (set_at st.dest.node (Some (Dir (inserted_name y (names_of (mid st.dest.node))))) mid)
+    second : Place (Option Shape) st.source.node (Some (Dir (removed_name x (names_of (graph.shape st.source.node))))) graph.shape st.dest.node → Resizes most (set_at st.source.node (Some (Dir (removed_name x (names_of (graph.shape st.source.node))))) graph.shape) (set_at st.dest.node (Some (Dir (inserted_name y (names_of (mid st.dest.node))))) mid)
     second (Here i j) =
         let e : names_of (graph.shape st.source.node) ≡ from = names_are graph st.source.node from f in
         let less : length (removed_name x from) + 1 ≤ length from = one_fewer x from had in
-        let most : length from ≤ ENTRY_LIMIT = from_fits.1 in
+        let few : length from ≤ ENTRY_LIMIT = from_fits.1 in
         put (removed_name x (names_of (graph.shape st.source.node))) j
-        (subst (λ (l : List Name). Within (Dir (inserted_name y (removed_name x l)))) (sym e) (with_fits y (removed_name x from) (without_fits x from from_fits) (omega (arith, less, most))))
+        (subst (λ (l : List Name). Within most (Dir (inserted_name y (removed_name x l)))) (sym e) (with_fits most y (removed_name x from) (without_fits most x from from_fits) (omega (arith, less, few))))
     second (Else n j) = put to (j ∙ t) (fits_else n room)
 
 or_true : (a b : Bool) → (a || b) ≡ true → (a ≡ true) ⊎ (b ≡ true)
@@ -241,12 +257,12 @@ room_of m true e = refl
 room_of (Dir names) false e = cc
 room_of (File bytes) false e = cc
 
-rename_resizes : (graph : Graph) → IsGraph graph → AllWithin graph.shape → (p q : Key) (st : Holdings) (reserved : Option ℕ) → Forked graph st.node p q st → target (AtPair pairs.Rename p q) ≡ [] → (b : Bool) → (rename_at graph p q st).1 ≡ b → (o : Option ℕ) → graph.child st.source.node (last_of p) ≡ o
-    → Resizes graph.shape (move_effect graph st (last_of p) (last_of q) reserved (rename_at graph p q st).0 b o).graph.shape
-rename_resizes graph is w p q st reserved f way false e o i = resizes_same graph.shape w
-rename_resizes graph is w p q st reserved f way true e None i = resizes_same graph.shape w
-rename_resizes graph is w p q st reserved f way true e (Some m) i =
-    moved_resizes graph w st (last_of p) (last_of q) reserved (rename_at graph p q st).0 m from.0 to.0 from.1 to.1 had (room (entry_shape graph st.dest.node (last_of q)) refl)
+rename_resizes : (most : ℕ) (graph : Graph) → IsGraph graph → AllWithin most graph.shape → (p q : Key) (st : Holdings) (reserved : Option ℕ) → Forked graph st.node p q st → target (AtPair pairs.Rename p q) ≡ [] → (b : Bool) → (rename_at graph p q st).1 ≡ b → (o : Option ℕ) → graph.child st.source.node (last_of p) ≡ o
+    → Resizes most graph.shape (move_effect graph st (last_of p) (last_of q) reserved (rename_at graph p q st).0 b o).graph.shape
+rename_resizes most graph is w p q st reserved f way false e o i = resizes_same most graph.shape w
+rename_resizes most graph is w p q st reserved f way true e None i = resizes_same most graph.shape w
+rename_resizes most graph is w p q st reserved f way true e (Some m) i =
+    moved_resizes most graph w st (last_of p) (last_of q) reserved (rename_at graph p q st).0 m from.0 to.0 from.1 to.1 had (room (entry_shape graph st.dest.node (last_of q)) refl)
   where
     real : Really (dir_error (left st.source.walked (parent_of p)) (graph.shape st.source.node)) (dir_error (left st.dest.walked (parent_of q)) (graph.shape st.dest.node)) (entry_shape graph st.source.node (last_of p)) (is_end (after_prefix p q)) (there_by (has_more (after_prefix q p)) (entry_shape graph st.dest.node (last_of q))) (is_end (after_prefix (parent_of p) (parent_of q)) || not (is_full (graph.shape st.dest.node)))
     real = really (dir_error (left st.source.walked (parent_of p)) (graph.shape st.source.node)) (dir_error (left st.dest.walked (parent_of q)) (graph.shape st.dest.node)) (entry_shape graph st.source.node (last_of p)) (is_end (after_prefix p q)) (there_by (has_more (after_prefix q p)) (entry_shape graph st.dest.node (last_of q))) (is_end (after_prefix (parent_of p) (parent_of q)) || not (is_full (graph.shape st.dest.node))) e
@@ -283,31 +299,31 @@ rename_resizes graph is w p q st reserved f way true e (Some m) i =
     room (Some s) j = let g : (k : ℕ) × (graph.child st.dest.node (last_of q) ≡ Some k) × (graph.shape k ≡ Some s) = some_entry graph st.dest.node (last_of q) s j in inr (inr (listed st.dest.node g.0 (last_of q) to.0 to.1 g.1))
 
 -- an exchange changes no size
-swap_resizes : (graph : Graph) → AllWithin graph.shape → (st : Holdings) (x y : Name) (reserved : Option ℕ) (r : Reply) (b : Bool) (s t : Option ℕ) → Resizes graph.shape (swap_effect graph st x y reserved r b s t).graph.shape
-swap_resizes graph w st x y reserved r false s t = resizes_same graph.shape w
-swap_resizes graph w st x y reserved r true None t = resizes_same graph.shape w
-swap_resizes graph w st x y reserved r true (Some s) None = resizes_same graph.shape w
-swap_resizes graph w st x y reserved r true (Some s) (Some t) = resizes_same graph.shape w
+swap_resizes : (most : ℕ) (graph : Graph) → AllWithin most graph.shape → (st : Holdings) (x y : Name) (reserved : Option ℕ) (r : Reply) (b : Bool) (s t : Option ℕ) → Resizes most graph.shape (swap_effect graph st x y reserved r b s t).graph.shape
+swap_resizes most graph w st x y reserved r false s t = resizes_same most graph.shape w
+swap_resizes most graph w st x y reserved r true None t = resizes_same most graph.shape w
+swap_resizes most graph w st x y reserved r true (Some s) None = resizes_same most graph.shape w
+swap_resizes most graph w st x y reserved r true (Some s) (Some t) = resizes_same most graph.shape w
 
 -- a call that finishes where it stands, and any call that finishes
-made_resizes : (graph : Graph) → IsGraph graph → AllWithin graph.shape → (remaining : Form) (st : Holdings) (reserved : Option ℕ) → HeadsSound graph st.node remaining st → Resizes graph.shape (effect_at graph remaining st reserved).graph.shape
-made_resizes graph is w (AtNode c p) st reserved well = on_resizes graph w st.node c (path_error p (graph.shape st.node)) reserved (graph.shape st.node) refl
-made_resizes graph is w (AtEntry c p) st reserved well = in_resizes graph w st.node c (last_of p) reserved (entry_shape graph st.node (last_of p)) (dir_error (parent_of p) (graph.shape st.node)) (dir_of_none (parent_of p) (graph.shape st.node))
-made_resizes graph is w (AtPair pairs.Rename p q) st reserved well = go (target (AtPair pairs.Rename p q)) refl well
+made_resizes : (most : ℕ) (graph : Graph) → IsGraph graph → AllWithin most graph.shape → (remaining : Form) → LimitedTo most remaining → (st : Holdings) (reserved : Option ℕ) → HeadsSound graph st.node remaining st → Resizes most graph.shape (effect_at graph remaining st reserved).graph.shape
+made_resizes most graph is w (AtNode c p) limited st reserved well = on_resizes most graph w st.node c limited (path_error p (graph.shape st.node)) reserved (graph.shape st.node) refl
+made_resizes most graph is w (AtEntry c p) limited st reserved well = in_resizes most graph w st.node c (last_of p) reserved (entry_shape graph st.node (last_of p)) (dir_error (parent_of p) (graph.shape st.node)) (dir_of_none (parent_of p) (graph.shape st.node))
+made_resizes most graph is w (AtPair pairs.Rename p q) limited st reserved well = go (target (AtPair pairs.Rename p q)) refl well
   where
-    go : (l : Key) → target (AtPair pairs.Rename p q) ≡ l → ForkedAt graph st.node p q st l → Resizes graph.shape (rename_effect graph p q st reserved l).graph.shape
-    go [] i f = rename_resizes graph is w p q st reserved f i (rename_at graph p q st).1 refl (graph.child st.source.node (last_of p)) refl
-    go (x ∷ l) i f = resizes_same graph.shape w
-made_resizes graph is w (AtPair pairs.Exchange p q) st reserved well = go (target (AtPair pairs.Exchange p q))
+    go : (l : Key) → target (AtPair pairs.Rename p q) ≡ l → ForkedAt graph st.node p q st l → Resizes most graph.shape (rename_effect graph p q st reserved l).graph.shape
+    go [] i f = rename_resizes most graph is w p q st reserved f i (rename_at graph p q st).1 refl (graph.child st.source.node (last_of p)) refl
+    go (x ∷ l) i f = resizes_same most graph.shape w
+made_resizes most graph is w (AtPair pairs.Exchange p q) limited st reserved well = go (target (AtPair pairs.Exchange p q))
   where
-    go : (l : Key) → Resizes graph.shape (exchange_effect graph p q st reserved l).graph.shape
-    go [] = swap_resizes graph w st (last_of p) (last_of q) reserved (exchange_at graph p q st).0 (exchange_at graph p q st).1 (graph.child st.source.node (last_of p)) (graph.child st.dest.node (last_of q))
-    go (x ∷ l) = resizes_same graph.shape w
+    go : (l : Key) → Resizes most graph.shape (exchange_effect graph p q st reserved l).graph.shape
+    go [] = swap_resizes most graph w st (last_of p) (last_of q) reserved (exchange_at graph p q st).0 (exchange_at graph p q st).1 (graph.child st.source.node (last_of p)) (graph.child st.dest.node (last_of q))
+    go (x ∷ l) = resizes_same most graph.shape w
 
-pub finish_resizes : (graph : Graph) → IsGraph graph → AllWithin graph.shape → (op : Record) → ((st : Holdings) → op.holdings ≡ Some st → HeadsSound graph st.node op.remaining st) → Resizes graph.shape (finish graph op).graph.shape
-finish_resizes graph is w op well = go (by_text (form op.call)) op.holdings well
+pub finish_resizes : (most : ℕ) (graph : Graph) → IsGraph graph → AllWithin most graph.shape → (op : Record) → LimitedTo most op.remaining → ((st : Holdings) → op.holdings ≡ Some st → HeadsSound graph st.node op.remaining st) → Resizes most graph.shape (finish graph op).graph.shape
+finish_resizes most graph is w op limited well = go (by_paths op.call) op.holdings well
   where
-    go : (e : Option Errno) (s : Option Holdings) → ((st : Holdings) → s ≡ Some st → HeadsSound graph st.node op.remaining st) → Resizes graph.shape (effect_of graph op e s).graph.shape
-    go (Some e) s h = resizes_same graph.shape w
-    go None None h = resizes_same graph.shape w
-    go None (Some st) h = made_resizes graph is w op.remaining st op.reserved (h st refl)
+    go : (e : Option Errno) (s : Option Holdings) → ((st : Holdings) → s ≡ Some st → HeadsSound graph st.node op.remaining st) → Resizes most graph.shape (effect_of graph op e s).graph.shape
+    go (Some e) s h = resizes_same most graph.shape w
+    go None None h = resizes_same most graph.shape w
+    go None (Some st) h = made_resizes most graph is w op.remaining limited st op.reserved (h st refl)

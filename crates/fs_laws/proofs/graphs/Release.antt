@@ -40,7 +40,7 @@ number_children old new same (AtEntry c p) reserved h w = λ shape e.
     (g.0, g.1, h g.0 g.1 ∙ g.2, λ key i. g.3 key (sym (numbers_children old new same key) ∙ i)))
 
 -- what a call keeps where only other numbers change
-pub own_children : (old new : Graph) → new.child ≡ old.child → (q : Record) → ((m : ℕ) → HasSpare q m → new.shape m ≡ old.shape m) → Own old q → Own new q
+pub own_children : {most : ℕ} (old new : Graph) → new.child ≡ old.child → (q : Record) → ((m : ℕ) → HasSpare q m → new.shape m ≡ old.shape m) → Own most old q → Own most new q
 own_children old new same q h o = record {
   parts = o.parts;
   well = λ st e. well_children old new same st.node q.remaining st (o.well st e);

@@ -3,7 +3,7 @@ use Rattle.std.proofs.Common.{◌≡◌, ℕ, suc, ◌≤◌, length, arith, Boo
 use Rattle.fs_names.specs.Keys.{Key, last_of}
 use Rattle.fs_names.specs.Names.{Name}
 use Rattle.fs_names.specs.Shapes.{Shape}
-use Rattle.fs_calls.specs.Forms.{form, reserves}
+use Rattle.fs_calls.specs.Forms.{reserved_by}
 use Rattle.fs_calls.specs.declared.call.Call.{Call}
 use Rattle.fs_calls.specs.declared.reply.Reply.{Reply}
 use Rattle.fs_graph.specs.Graphs.{Graph, Children, at, numbers, set_at, reserved_in, then_at}
@@ -15,7 +15,7 @@ use Rattle.fs_machine.specs.declared.moves.Moved.{Moved}
 use Rattle.fs_machine.specs.Records.{Phase, Walking, Placed, Finished, Holds, Record, Holdings, holdings_at, Side, of_side, head_on}
 use Rattle.fs_laws.specs.Below.{IsHolding, IsAboutToMove, Meanwhile, Now, Begins_another, Steps_another, Helps_one, EachBelow, HelpsAreFew}
 use Rattle.fs_timeline.specs.Timeline.{commit_count}
-use Rattle.fs_laws.specs.Invariants.{IsIn, Own, Invariant}
+use Rattle.fs_laws.specs.Invariants.{IsIn, Own, Invariant, most_bytes}
 use Rattle.fs_laws.specs.CallFacts.{IsAfter, Located}
 use Rattle.fs_machine.specs.States.{State, Begun, Begins, Reserves, new_op, began, Step, Run, Beginning, Stepping, taking, letting_go, helping, carrying, returning, IsMoved, IsWalkingBelow, IsWalkingBelowMoved}
 use Rattle.fs_machine.specs.declared.answers.Refusal.TheVariants.{SeatBusy, Full, OutOfMemory}
@@ -172,7 +172,7 @@ finish_outside : (s : State) (inv : Invariant s) (moved f : ℕ) (op : Record) (
     → (d : ℕ) (q : Record) (st : Holdings) (key : Key) → (d ≡ f → ⊥) → s.ops d ≡ Some q → q.phase ≡ Walking → q.holdings ≡ Some st → at (finish s.graph op).graph.child moved key ≡ Some st.node → at s.graph.child moved key ≡ Some st.node
 finish_outside s inv moved f op o is move alone d q st key differs q_is walks on e = same key moved e
   where
-    own : Own s.graph op
+    own : Own (most_bytes s) s.graph op
     own = inv.own f op is
 
     there : numbers s.graph (inv.key d) ≡ Some st.node
@@ -224,9 +224,9 @@ returned_outside s moved f op r d (q, q_is, walks, (st, key, on, e)) = go (place
 
 -- a begin
 began_outside : (s : State) (moved seat : ℕ) (call : Call) (c : ℕ) (reserved : Option ℕ) (graph : Graph) → graph.child ≡ s.graph.child → (d : ℕ) → IsWalkingBelow (began s seat call c reserved graph) moved d → IsWalkingBelow s moved d
-began_outside s moved seat call c reserved graph children d (q, q_is, walks, (st, key, on, e)) = go (either s.ops c (new_op seat call reserved) d q q_is)
+began_outside s moved seat call c reserved graph children d (q, q_is, walks, (st, key, on, e)) = go (either s.ops c (new_op s.start.limits seat call reserved) d q q_is)
   where
-    go : Either s.ops c (new_op seat call reserved) d q → IsWalkingBelow s moved d
+    go : Either s.ops c (new_op s.start.limits seat call reserved) d q → IsWalkingBelow s moved d
     go (Changed i j) = let z : ◌≡◌ {A = Option Holdings} None (Some st) = ap (λ (x : Record). x.holdings) j ∙ on in cc
     go (Old k i) = (q, i, walks, (st, key, on, sym (ap (λ (g : Children). at g moved key) children) ∙ e))
 
@@ -252,7 +252,7 @@ begin_outside : (old new : State) (moved seat : ℕ) (call : Call) (answer : Beg
 begin_outside old new moved seat call (Err SeatBusy) (x, on, same) d w = subst (λ (s : State). IsWalkingBelow s moved d) same w
 begin_outside old new moved seat call (Err Full) (on, full, same) d w = subst (λ (s : State). IsWalkingBelow s moved d) same w
 begin_outside old new moved seat call (Err OutOfMemory) (on, full, same) d w = subst (λ (s : State). IsWalkingBelow s moved d) same w
-begin_outside old new moved seat call (Ok c) (free, number, r) d w = go (reserves (form call)) r
+begin_outside old new moved seat call (Ok c) (free, number, r) d w = go (reserved_by call) r
   where
     go : (o : Option Shape) → Reserves old seat call c o new → IsWalkingBelow old moved d
     go None same = began_outside old moved seat call c None old.graph refl d (subst (λ (s : State). IsWalkingBelow s moved d) same w)

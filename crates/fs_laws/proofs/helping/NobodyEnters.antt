@@ -4,7 +4,7 @@ use Rattle.fs_names.specs.Keys.{Key, after_prefix, parent_of, last_of, has_more,
 use Rattle.fs_names.specs.Names.{Name, same_name}
 use Rattle.fs_names.specs.Parts.{common, left}
 use Rattle.fs_names.specs.Shapes.{Shape, Dir, File, is_full}
-use Rattle.fs_calls.specs.Forms.{form, Form, AtNode, AtEntry, AtPair, by_text}
+use Rattle.fs_calls.specs.Forms.{Form, AtNode, AtEntry, AtPair, by_paths}
 use Rattle.fs_calls.specs.declared.target.PairCall.{PairCall}
 use Rattle.fs_calls.specs.declared.target.PairCall.TheVariants as pairs
 use Rattle.fs_calls.specs.Rows.{node_row, Edit, Keep, Add, Remove, entry_row}
@@ -116,7 +116,7 @@ parents_child graph pairs.Exchange p q st all side m e i = go side (nodes_on (ex
     go Dest h = h
 
 pub to_move : (graph : Graph) (op : Record) (all : Moved) (side : Side) (moved : ℕ) → next graph op ≡ Finishes all → moved_on all side ≡ Some moved → ToMove graph op side moved
-to_move graph op all side moved e on_side = go op.phase (by_text (form op.call)) op.holdings refl e
+to_move graph op all side moved e on_side = go op.phase (by_paths op.call) op.holdings refl e
   where
     one : IsMoved all moved
     one = is_moved all side moved on_side
@@ -252,7 +252,7 @@ pair_entries graph is op o pairs.Rename p q st on f fork a b x e = rename_entrie
 pair_entries graph is op o pairs.Exchange p q st on f fork a b x e = exchange_entries graph is op o p q st on f fork (exchange_at graph p q st).1 refl a b x e
 
 pub finish_entries : (graph : Graph) → IsGraph graph → (op : Record) (o : Moved) → ((st : Holdings) → op.holdings ≡ Some st → HeadsSound graph st.node op.remaining st) → next graph op ≡ Finishes o → (a b : ℕ) (x : Name) → (finish graph op).graph.child a x ≡ Some b → NewEntry graph op o a b x
-finish_entries graph is op o well m a b x e = go op.phase (by_text (form op.call)) op.holdings refl m e
+finish_entries graph is op o well m a b x e = go op.phase (by_paths op.call) op.holdings refl m e
   where
     there : (st : Holdings) (rem : Form) → op.holdings ≡ Some st → HeadsSound graph st.node rem st → next_on graph rem st ≡ Finishes o → (effect_at graph rem st op.reserved).graph.child a x ≡ Some b → NewEntry graph op o a b x
     there st (AtNode c p) on w n f = Same_entry (sym (ap (λ (k : Children). k a x) (on_entries graph st.node op.reserved (node_row c (path_error p (graph.shape st.node)) (graph.shape st.node)))) ∙ f)

@@ -1,7 +1,6 @@
 -- Who stands below whom, who holds what, and what the placed calls leave.
 use Rattle.std.proofs.Common.{◌≡◌, ℕ, List, [], ◌∷◌, ◌++◌, Option, Some, None, sym, ap, ◌∙◌, append-nil, subst, ◌⊎◌, inl, inr, arith}
 use Rattle.fs_calls.specs.Starts.{Start}
-use Rattle.fs_calls.specs.Sights.{tree_shapes}
 use Rattle.fs_names.specs.Keys.{Key, after_prefix}
 use Rattle.fs_calls.specs.declared.reply.Reply.{Reply}
 use Rattle.fs_graph.specs.Graphs.{at, numbers}
@@ -100,13 +99,13 @@ are_due first es view h (c ∷ cs) (r ∷ rs) d = (h c r d.0, are_due first es v
 pub settles : (s : State) → Run s → Settles s
 settles s run =
     let inv : Invariant s = run_keeps s run in
-    let ties : Ties s.start (view_after (start (tree_shapes s.start)) s.timeline) s.timeline = run_ties s run in
+    let ties : Ties s.start (view_after (start s.start) s.timeline) s.timeline = run_ties s run in
     record {
       order = (run_keeps s run).order;
       in_order = (run_keeps s run).in_order;
       all = λ c op i e f. ((run_keeps s run).all_placed c op i e f).1;
       spelled = (run_settles_alone s run).0 ∙ (run_keeps s run).tied.played ∙ ties.tree;
-      replies = are_due s.start s.timeline (view_after (start (tree_shapes s.start)) s.timeline) ties.due (run_keeps s run).order _ (subst (Dues (view_after (start (tree_shapes s.start)) s.timeline) (run_keeps s run).order) (sym (run_settles_alone s run).1) (run_keeps s run).tied.dues);
+      replies = are_due s.start s.timeline (view_after (start s.start) s.timeline) ties.due (run_keeps s run).order _ (subst (Dues (view_after (start s.start) s.timeline) (run_keeps s run).order) (sym (run_settles_alone s run).1) (run_keeps s run).tied.dues);
     }
 
 -- a call walks and is to finish

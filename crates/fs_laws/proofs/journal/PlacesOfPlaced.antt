@@ -2,7 +2,7 @@
 use Rattle.std.proofs.Common.{◌≡◌, ℕ, Bool, true, false, ◌||◌, List, [], ◌∷◌, ◌++◌, Option, Some, None, refl, sym, ap, ◌∙◌, subst, Ok, Err}
 use Rattle.fs_names.specs.Keys.{Key}
 use Rattle.fs_names.specs.Shapes.{Shape}
-use Rattle.fs_calls.specs.Forms.{form, reserves}
+use Rattle.fs_calls.specs.Forms.{reserved_by}
 use Rattle.fs_calls.specs.declared.call.Call.{Call}
 use Rattle.fs_graph.specs.Graphs.{Graph, set_at, reserved_in}
 use Rattle.fs_timeline.specs.Timeline as journal
@@ -101,10 +101,10 @@ begin_places : (old new : State) (seat : ℕ) (call : Call) (answer : Begun) →
 begin_places old new seat call (Err SeatBusy) h (c, on, same) = subst PlacesAreCounted (sym same) h
 begin_places old new seat call (Err Full) h (on, full, same) = subst PlacesAreCounted (sym same) h
 begin_places old new seat call (Err OutOfMemory) h (on, full, same) = subst PlacesAreCounted (sym same) h
-begin_places old new seat call (Ok c) h (free, number, r) = go (reserves (form call)) r
+begin_places old new seat call (Ok c) h (free, number, r) = go (reserved_by call) r
   where
     by : (reserved : Option ℕ) (graph : Graph) → PlacesAreCounted (began old seat call c reserved graph)
-    by reserved graph = λ d i q e ph. place_more old.timeline (Begin c seat call) d i (other_places old h c (new_op seat call reserved) (λ k f. cc) d i q e ph)
+    by reserved graph = λ d i q e ph. place_more old.timeline (Begin c seat call) d i (other_places old h c (new_op old.start.limits seat call reserved) (λ k f. cc) d i q e ph)
 
     go : (o : Option Shape) → Reserves old seat call c o new → PlacesAreCounted new
     go None same = subst PlacesAreCounted (sym same) (by None old.graph)

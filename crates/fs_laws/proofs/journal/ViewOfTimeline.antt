@@ -3,15 +3,17 @@ use Rattle.std.proofs.Common.{◌≡◌, ℕ, Bool, true, false, cond, not, eqb,
 use Rattle.fs_names.specs.Failures.{check, first_failure}
 use Rattle.fs_names.specs.Shapes.{Shape}
 use Rattle.fs_laws.specs.Changes.{reply, after}
-use Rattle.fs_calls.specs.Forms.{form, reserves}
+use Rattle.fs_calls.specs.Forms.{form, reserved_by}
 use Rattle.fs_laws.specs.Maps.{Map}
 use Rattle.fs_calls.specs.Outcomes as tree
 use Rattle.fs_calls.specs.Sights.{tree_shapes}
-use Rattle.fs_calls.specs.Tree.{Tree, IsTree}
+use Rattle.fs_calls.specs.Tree.{IsTree}
 use Rattle.fs_calls.specs.Starts.{Start}
 use Rattle.fs_calls.specs.declared.call.Call.{Call}
 use Rattle.fs_calls.specs.declared.reply.Reply.{Reply}
 use Rattle.fs_calls.proofs.TreeLaws.{stays_a_tree}
+use Rattle.fs_names.specs.Limits.{file_limit}
+use Rattle.fs_names.specs.declared.limits.Limits.{Limits}
 use Rattle.fs_graph.specs.Graphs.{set_at}
 use Rattle.fs_timeline.specs.Timeline as journal
 use Rattle.fs_timeline.specs.Verdicts.{entry_fault, is_due}
@@ -51,8 +53,9 @@ pub record Agrees (view : JournalView) (k : JournalState) : Type 0 where
   pub due : (c : ℕ) → view.due c ≡ k.replies c
   pub back : (c : ℕ) → view.back c ≡ k.returned c
   pub busy : (s : ℕ) → view.busy s ≡ cond (is_waiting k.returned (k.last s)) (k.last s) None
-  pub tree : view.tree ≡ tree_shapes k.tree
-  pub is_tree : IsTree k.tree
+  pub limits : view.limits ≡ k.now.limits
+  pub tree : view.tree ≡ tree_shapes k.now.tree
+  pub is_tree : IsTree k.now.tree
   pub unknown : Unknown view
   -- the last call on a seat began there, and a call that has not returned is the last one on its seat
   pub seat : (s c : ℕ) → k.last s ≡ Some c → view.seat_of c ≡ Some s
@@ -97,6 +100,7 @@ agrees_step t view k (Begin c seat call) a next = record {
   due = a.due;
   back = a.back;
   busy = λ s. busy s (place seat (Some c) view.busy s) (changed_is seat (Some c) k.last k.last s refl);
+  limits = a.limits;
   tree = a.tree;
   is_tree = a.is_tree;
   unknown = unknown_step view (Begin c seat call) a.unknown next;
@@ -159,20 +163,24 @@ agrees_step t view k (Begin c seat call) a next = record {
         cc
 agrees_step t view k (Commit c) a ((call, known), new) = subst (λ (o : Option Call). Agrees (commit_of view c (view.call c)) (played k c o)) (sym (sym (a.call c) ∙ known)) (subst (λ (o : Option Call). Agrees (commit_of view c o) (played k c (Some call))) (sym known) made)
   where
-    tie : (tree.reply k.tree call ≡ reply (tree_shapes k.tree) (form call)) × (tree_shapes (tree.after k.tree call) ≡ after (tree_shapes k.tree) (form call))
-    tie = t k.tree call a.is_tree
+    most : ℕ
+    most = file_limit k.now.limits
 
-    same_reply_is : ◌≡◌ {A = Option Reply} (Some (reply view.tree (form call))) (Some (tree.reply k.tree call))
-    same_reply_is = ap (λ (u : Map Shape). Some (reply u (form call))) a.tree ∙ ap (λ (r : Reply). Some r) (sym tie.0)
+    tie : (tree.reply most k.now.tree call ≡ reply (tree_shapes k.now.tree) (form most call)) × (tree_shapes (tree.after most k.now.tree call) ≡ after (tree_shapes k.now.tree) (form most call))
+    tie = t most k.now.tree call a.is_tree
+
+    same_reply_is : ◌≡◌ {A = Option Reply} (Some (reply view.tree (form (file_limit view.limits) call))) (Some (tree.reply_at k.now call))
+    same_reply_is = ap₂ (λ (u : Map Shape) (l : Limits). Some (reply u (form (file_limit l) call))) a.tree a.limits ∙ ap (λ (r : Reply). Some r) (sym tie.0)
 
     made : Agrees (commit_of view c (Some call)) (played k c (Some call))
     made = record {
       call = a.call;
-      due = λ d. ap (λ (o : Option Reply). set_at c o view.due d) same_reply_is ∙ changed_is c (Some (tree.reply k.tree call)) view.due k.replies d (a.due d);
+      due = λ d. ap (λ (o : Option Reply). set_at c o view.due d) same_reply_is ∙ changed_is c (Some (tree.reply_at k.now call)) view.due k.replies d (a.due d);
       back = a.back;
       busy = a.busy;
-      tree = ap (λ (u : Map Shape). after u (form call)) a.tree ∙ sym tie.1;
-      is_tree = stays_a_tree k.tree call a.is_tree;
+      limits = a.limits;
+      tree = ap₂ (λ (u : Map Shape) (l : Limits). after u (form (file_limit l) call)) a.tree a.limits ∙ sym tie.1;
+      is_tree = stays_a_tree most k.now.tree call a.is_tree;
       unknown = subst (λ (o : Option Call). Unknown (commit_of view c o)) known (unknown_step view (Commit c) a.unknown ((call, known), new));
       seat = a.seat;
       known = a.known;
@@ -183,6 +191,7 @@ agrees_step t view k (Return c r) a next = record {
   due = a.due;
   back = λ d. changed_is c true view.back k.returned d (a.back d);
   busy = λ s. busy s (k.last s) refl;
+  limits = a.limits;
   tree = a.tree;
   is_tree = a.is_tree;
   unknown = unknown_step view (Return c r) a.unknown next;
@@ -234,15 +243,16 @@ agrees_step t view k (Return c r) a next = record {
             ∙ sym (at_d e (k.returned d) (sym (changed_is c true k.returned k.returned d refl) ∙ j))
 
 -- before the first entry
-abbrev empty_knowledge : Tree → JournalState
-empty_knowledge t = record { calls = λ c. None; replies = λ c. None; returned = λ c. false; last = λ s. None; tree = t }
+abbrev empty_knowledge : Start → JournalState
+empty_knowledge t = record { calls = λ c. None; replies = λ c. None; returned = λ c. false; last = λ s. None; now = t }
 
-agrees_start : (t : Tree) → IsTree t → Agrees (start (tree_shapes t)) (empty_knowledge t)
+agrees_start : (t : Start) → IsTree t.tree → Agrees (start t) (empty_knowledge t)
 agrees_start t is = record {
   call = λ c. refl;
   due = λ c. refl;
   back = λ c. refl;
   busy = λ s. refl;
+  limits = refl;
   tree = refl;
   is_tree = is;
   unknown = λ c e. (refl, refl);
@@ -251,8 +261,8 @@ agrees_start t is = record {
   lasts = λ s c e. cc;
 }
 
-true_start : (t : Tree) → IsTrueOf t (empty_knowledge t) []
-true_start t = record { calls_are = λ c. refl; replies_are = λ c. refl; returned_are = λ c. refl; last_are = λ s. refl; tree_is = refl; begun_first = λ c e. cc }
+true_start : (t : Start) → IsTrueOf t (empty_knowledge t) []
+true_start t = record { calls_are = λ c. refl; replies_are = λ c. refl; returned_are = λ c. refl; last_are = λ s. refl; now_is = refl; begun_first = λ c e. cc }
 
 -- a lawful view is a lawful journal, with the tree that it plays
 pub record Ties (first : Start) (view : JournalView) (es : List Entry) : Type 0 where
@@ -263,7 +273,7 @@ pub record Ties (first : Start) (view : JournalView) (es : List Entry) : Type 0 
 ties_from : TreesAsMaps → (first : Start) (view : JournalView) (k : JournalState) (before es : List Entry) → Agrees view k → IsTrueOf first k before → journal.IsLawful first before → IsLawful view es → Ties first (view_after view es) (before ++ es)
 ties_from t first view k before [] a true_of lawful l = record {
   lawful = subst (journal.IsLawful first) (sym (append-nil before)) lawful;
-  tree = a.tree ∙ ap tree_shapes true_of.tree_is ∙ ap (λ (x : List Entry). tree_shapes (tree.play first (journal.commits x))) (sym (append-nil before));
+  tree = a.tree ∙ ap (λ (s : Start). tree_shapes s.tree) true_of.now_is ∙ ap (λ (x : List Entry). tree_shapes (tree.play first (journal.commits x))) (sym (append-nil before));
   due = λ c r e. ap (journal.due first c) (append-nil before) ∙ due_of (journal.has_committed c before) (journal.due first c before) r (sym (true_of.replies_are c) ∙ sym (a.due c) ∙ e);
 }
   where
@@ -276,12 +286,12 @@ ties_from t first view k before (e ∷ es) a true_of lawful l =
     subst (λ (x : List Entry). Ties first (view_after (noted view e) es) x) (append_assoc before (e ∷ []) es)
     (ties_from t first (noted view e) (taken_in k e) (before ++ e ∷ []) es (agrees_step t view k e a l.0) (true_of_taken_in first k before e true_of none) ((lawful_appended first before e).1 (lawful, fits.0, fits.1)) l.1)
 
--- no event changes the start tree
+-- no event changes the start
 pub begin_start : (old : State) (seat : ℕ) (call : Call) (answer : Begun) (new : State) → Begins old seat call answer new → new.start ≡ old.start
 begin_start old seat call (Err refusals.SeatBusy) new (c, on, same) = ap (λ (s : State). s.start) same
 begin_start old seat call (Err refusals.Full) new (on, full, same) = ap (λ (s : State). s.start) same
 begin_start old seat call (Err refusals.OutOfMemory) new (on, full, same) = ap (λ (s : State). s.start) same
-begin_start old seat call (Ok c) new (free, number, r) = go (reserves (form call)) r
+begin_start old seat call (Ok c) new (free, number, r) = go (reserved_by call) r
   where
     go : (o : Option Shape) → Reserves old seat call c o new → new.start ≡ old.start
     go None same = ap (λ (s : State). s.start) same
@@ -298,18 +308,18 @@ step_start old seat CarriedOut new (c, op, t, i, m, at, same) = ap (λ (s : Stat
 step_start old seat (Returned r) new (c, op, m, ph, same) = ap (λ (s : State). s.start) same
 
 -- the start tree of a run is a tree
-pub run_starts : (s : State) → Run s → IsTree s.start
+pub run_starts : (s : State) → Run s → IsTree s.start.tree
 run_starts s (Starting limit tree graph h) = h.tree
-run_starts s (Beginning {old} seat call answer new run b) = subst IsTree (sym (begin_start old seat call answer new b)) (run_starts old run)
-run_starts s (Stepping {old} seat answer new run st) = subst IsTree (sym (step_start old seat answer new st)) (run_starts old run)
+run_starts s (Beginning {old} seat call answer new run b) = subst (λ (x : Start). IsTree x.tree) (sym (begin_start old seat call answer new b)) (run_starts old run)
+run_starts s (Stepping {old} seat answer new run st) = subst (λ (x : Start). IsTree x.tree) (sym (step_start old seat answer new st)) (run_starts old run)
 
 -- the view of a run's timeline, in the words of `fs_timeline`
-pub run_ties : (s : State) → Run s → Ties s.start (view_after (start (tree_shapes s.start)) s.timeline) s.timeline
-run_ties s run = ties_from trees_as_maps s.start (start (tree_shapes s.start)) (empty_knowledge s.start) [] s.timeline (agrees_start s.start (run_starts s run)) (true_start s.start) (record { well_formed = tt; replies = tt }) (run_keeps s run).lawful
+pub run_ties : (s : State) → Run s → Ties s.start (view_after (start s.start) s.timeline) s.timeline
+run_ties s run = ties_from trees_as_maps s.start (start s.start) (empty_knowledge s.start) [] s.timeline (agrees_start s.start (run_starts s run)) (true_start s.start) (record { well_formed = tt; replies = tt }) (run_keeps s run).lawful
 
 -- the theorem in the words of `fs_timeline`
 pub linearizes : Linearization
 linearizes s run =
     let head : Headline s = headline_of s (run_keeps s run) in
-    let tied : Ties s.start (view_after (start (tree_shapes s.start)) s.timeline) s.timeline = run_ties s run in
-    record { lawful = tied.lawful; spelled = λ idle. head.spelled idle ∙ sym (view_plays (start (tree_shapes s.start)) s.timeline) ∙ tied.tree }
+    let tied : Ties s.start (view_after (start s.start) s.timeline) s.timeline = run_ties s run in
+    record { lawful = tied.lawful; spelled = λ idle. head.spelled idle ∙ sym (view_plays (start s.start) s.timeline) ∙ tied.tree }

@@ -1,14 +1,15 @@
 -- What every state of a run keeps besides: who is a node's holder stands at it, calls under way are on their seats, and numbers and sizes are within their limits.
 use Rattle.std.proofs.Common.{◌≡◌, ℕ, ◌+◌, ◌<◌, Bool, true, false, List, [], ◌∷◌, Option, Some, None, refl, sym, ap, ◌∙◌, subst, arith, Ok, Err}
 use Rattle.fs_calls.specs.Starts.{Start}
-use Rattle.fs_calls.specs.Sights.{tree_shapes}
 use Rattle.fs_names.specs.Keys.{Key}
 use Rattle.fs_names.specs.Names.{Name}
 use Rattle.fs_names.specs.Shapes.{Shape, Dir, File}
-use Rattle.fs_calls.specs.Forms.{form, by_text, reserves, Form, AtNode, AtEntry, AtPair}
+use Rattle.fs_calls.specs.Forms.{form, by_text, reserves, Form, AtNode, AtEntry, AtPair, by_paths, reserved_by}
 use Rattle.fs_calls.specs.declared.target.EntryCall.TheVariants.{Mkdir, Mknod, Unlink, Rmdir}
 use Rattle.fs_calls.specs.declared.call.Call.{Call}
 use Rattle.fs_calls.specs.declared.reply.Reply.{Reply}
+use Rattle.fs_calls.proofs.FormLemmas.{by_text_any, reserves_any}
+use Rattle.fs_names.specs.Limits.{file_limit}
 use Rattle.fs_graph.specs.Graphs.{Graph, numbers, set_at, released_in, reserved_in}
 use Rattle.fs_machine.specs.Finishes.{finish}
 use Rattle.fs_machine.specs.Leaving.{is_removed, releasing, let_go, finished_op, unreserved}
@@ -18,7 +19,7 @@ use Rattle.fs_machine.specs.declared.moves.Moved.{Moved}
 use Rattle.fs_machine.specs.Records.{Phase, Walking, Placed, Finished, Holds, Record, Records, Holdings, Source}
 use Rattle.fs_laws.specs.JournalViews.{start, view_after}
 use Rattle.fs_timeline.specs.Timeline.{begins, commit_count}
-use Rattle.fs_laws.specs.Invariants.{IsUnfinished, Own, Invariant}
+use Rattle.fs_laws.specs.Invariants.{IsUnfinished, Own, Invariant, most_bytes}
 use Rattle.fs_laws.specs.CallFacts.{Keeps}
 use Rattle.fs_machine.specs.States.{State, fresh, IsStart, Begun, began, new_op, Reserves, Begins, Step, taking, letting_go, helping, carrying, committing, returning, Run, Starting, Beginning, Stepping}
 use Rattle.fs_machine.specs.declared.answers.Refusal.TheVariants.{SeatBusy, Full, OutOfMemory}
@@ -33,7 +34,7 @@ use Rattle.fs_laws.proofs.events.Commit.{Ready, By_text, By_holdings, ready}
 use Rattle.fs_laws.proofs.events.Take.{TakesFrom, From_nowhere, From_holdings, takes_from}
 use Rattle.fs_laws.proofs.events.Return.{ends_nowhere}
 use Rattle.fs_laws.proofs.states.Headline.{run_keeps}
-use Rattle.fs_laws.proofs.finish.Limits.{Within, AllWithin, SameKind, Resizes, finish_resizes}
+use Rattle.fs_laws.proofs.finish.Limits.{Within, AllWithin, SameKind, Resizes, finish_resizes, own_limited}
 use Rattle.fs_laws.proofs.calls.Takes.{takes_by}
 use Rattle.fs_laws.proofs.calls.HeadOrder.{HeadsOfCallInOrder, HeadsInOrder, neat_op_by, DirStays, TookWell, took_root, took_well, IsClosed}
 use Rattle.fs_laws.proofs.calls.FinishedHoldings.{LeftWell, left_well, finish_closed}
@@ -47,12 +48,12 @@ pub record StateFacts (s : State) : Type 0 where
   pub holds : (n c : ℕ) → s.holder n ≡ Some c → Holder s n c
   pub on_seat : (c : ℕ) (op : Record) → s.ops c ≡ Some op → s.on_seat op.seat ≡ Some c
   pub neat : (c : ℕ) (op : Record) (st : Holdings) → s.ops c ≡ Some op → op.holdings ≡ Some st → HeadsOfCallInOrder s.graph op st
-  pub within : AllWithin s.graph.shape
+  pub within : AllWithin (most_bytes s) s.graph.shape
   pub below : (n : ℕ) (shape : Shape) → s.graph.shape n ≡ Some shape → n < s.limit
 
 -- a call that stands somewhere is not decided by its paths
-pub text_open : (s : State) (inv : Invariant s) (c : ℕ) (op : Record) (st : Holdings) → s.ops c ≡ Some op → op.holdings ≡ Some st → by_text (form op.call) ≡ None
-text_open s inv c op st is on = ap by_text (sym (inv.own c op is).parts) ∙ fits_under op.walked op.remaining (inv.kept.each c op st is on).fits
+pub text_open : (s : State) (inv : Invariant s) (c : ℕ) (op : Record) (st : Holdings) → s.ops c ≡ Some op → op.holdings ≡ Some st → by_paths op.call ≡ None
+text_open s inv c op st is on = sym (by_text_any (most_bytes s) op.call) ∙ ap by_text (sym (inv.own c op is).parts) ∙ fits_under op.walked op.remaining (inv.kept.each c op st is on).fits
 
 -- the source head's node is reached
 source_reached : (s : State) (inv : Invariant s) (c : ℕ) (op : Record) (st : Holdings) → s.ops c ≡ Some op → op.holdings ≡ Some st → (key : Key) × (numbers s.graph key ≡ Some st.source.node)
@@ -62,10 +63,10 @@ source_reached s inv c op st is on = let k : Keeps (numbers s.graph) (inv.key c)
 released_stays : (graph : Graph) (n m : ℕ) → ((key : Key) → numbers graph key ≡ Some n → ⊥) → (key : Key) × (numbers graph key ≡ Some m) → DirStays graph (released_in n graph) m
 released_stays graph n m loose reached names e = (names, upd_else n None graph.shape m (λ i. loose reached.0 (reached.1 ∙ ap (λ (x : ℕ). Some x) i)) ∙ e)
 
-released_within : (graph : Graph) (n : ℕ) → AllWithin graph.shape → AllWithin (released_in n graph).shape
-released_within graph n w m s e = go (place n None graph.shape m)
+released_within : (most : ℕ) (graph : Graph) (n : ℕ) → AllWithin most graph.shape → AllWithin most (released_in n graph).shape
+released_within most graph n w m s e = go (place n None graph.shape m)
   where
-    go : Place (Option Shape) n None graph.shape m → Within s
+    go : Place (Option Shape) n None graph.shape m → Within most s
     go (Here i j) = absurd (none_some ((released_in n graph).shape m) s j e)
     go (Else h j) = w m s (sym j ∙ e)
 
@@ -87,15 +88,15 @@ record Changes (old : State) (c : ℕ) (op v : Record) (graph : Graph) : Type 0 
   pub seat : v.seat ≡ op.seat
   pub neat : (st : Holdings) → op.holdings ≡ Some st → HeadsOfCallInOrder graph v st
   pub others : (d : ℕ) (q : Record) (st : Holdings) → (d ≡ c → ⊥) → old.ops d ≡ Some q → q.holdings ≡ Some st → HeadsOfCallInOrder graph q st
-  pub within : AllWithin graph.shape
+  pub within : AllWithin (most_bytes old) graph.shape
   pub below : (n : ℕ) (shape : Shape) → graph.shape n ≡ Some shape → n < old.limit
 
-changes_keep : (old : State) (acc : StateFacts old) (c : ℕ) (op v : Record) (graph : Graph) (new : State) → Changes old c op v graph → new.limit ≡ old.limit → new.graph ≡ graph → new.holder ≡ old.holder → new.ops ≡ set_at c (Some v) old.ops → new.on_seat ≡ old.on_seat → StateFacts new
-changes_keep old acc c op v graph new ch limit is_graph holder ops seats = record {
+changes_keep : (old : State) (acc : StateFacts old) (c : ℕ) (op v : Record) (graph : Graph) (new : State) → Changes old c op v graph → new.limit ≡ old.limit → most_bytes new ≡ most_bytes old → new.graph ≡ graph → new.holder ≡ old.holder → new.ops ≡ set_at c (Some v) old.ops → new.on_seat ≡ old.on_seat → StateFacts new
+changes_keep old acc c op v graph new ch limit most is_graph holder ops seats = record {
   holds = λ n d e. holds n d (ap (λ (f : ℕ → Option ℕ). f n) (sym holder) ∙ e);
   on_seat = λ d q e. seat d q (either old.ops c v d q (sym (ap (λ (f : Records). f d) ops) ∙ e));
   neat = λ d q st e f. subst (λ (g : Graph). HeadsOfCallInOrder g q st) (sym is_graph) (neat d q st (either old.ops c v d q (sym (ap (λ (f : Records). f d) ops) ∙ e)) f);
-  within = subst (λ (g : Graph). AllWithin g.shape) (sym is_graph) ch.within;
+  within = subst (λ (m : ℕ). AllWithin m new.graph.shape) (sym most) (subst (λ (g : Graph). AllWithin (most_bytes old) g.shape) (sym is_graph) ch.within);
   below = λ n s e. subst (λ (m : ℕ). n < m) (sym limit) (ch.below n s (ap (λ (g : Graph). g.shape n) (sym is_graph) ∙ e));
 }
   where
@@ -176,7 +177,7 @@ account_took n old new seat inv acc (c, op, moves, free, same) = subst StateFact
 -- a let go
 record Releases (old : State) (n : ℕ) (graph : Graph) : Type 0 where
   pub stays : (c : ℕ) (op : Record) (st : Holdings) → old.ops c ≡ Some op → op.holdings ≡ Some st → DirStays old.graph graph st.source.node
-  pub within : AllWithin graph.shape
+  pub within : AllWithin (most_bytes old) graph.shape
   pub below : (m : ℕ) (s : Shape) → graph.shape m ≡ Some s → m < old.limit
 
 releases_same : (old : State) (acc : StateFacts old) (n : ℕ) → Releases old n old.graph
@@ -185,7 +186,7 @@ releases_same old acc n = record { stays = λ c op st e f names g. (names, g); w
 releases_out : (old : State) (inv : Invariant old) (acc : StateFacts old) (n : ℕ) → ((key : Key) → numbers old.graph key ≡ Some n → ⊥) → Releases old n (released_in n old.graph)
 releases_out old inv acc n loose = record {
   stays = λ c op st e f. released_stays old.graph n st.source.node loose (source_reached old inv c op st e f);
-  within = released_within old.graph n acc.within;
+  within = released_within (most_bytes old) old.graph n acc.within;
   below = released_below old.graph n old.limit acc.below;
 }
 
@@ -269,7 +270,7 @@ account_helped h old new seat inv acc (c, op, s, moves, walks, chosen, q, is, sa
       others = λ d o st n e f. acc.neat d o st e f;
       within = acc.within;
       below = acc.below;
-    }) refl refl refl refl refl)
+    }) refl refl refl refl refl refl)
   where
     walking : q.phase ≡ Walking
     walking = let w : (o : Record) × (old.ops h ≡ Some o) × (o.phase ≡ Walking) × _ = chosen.0.0.2 in
@@ -288,11 +289,11 @@ finish_changes old inv acc c op o is u n = record {
   below = λ m t e. (let s : (s : Shape) × (old.graph.shape m ≡ Some s) = sized.to_old m t e in acc.below m s.0 s.1);
 }
   where
-    own : Own old.graph op
+    own : Own (most_bytes old) old.graph op
     own = inv.own c op is
 
-    sized : Resizes old.graph.shape (finish old.graph op).graph.shape
-    sized = finish_resizes old.graph inv.is_graph acc.within op own.well
+    sized : Resizes (most_bytes old) old.graph.shape (finish old.graph op).graph.shape
+    sized = finish_resizes (most_bytes old) old.graph inv.is_graph acc.within op (own_limited (most_bytes old) old.graph op own) own.well
 
     stays : (m : ℕ) (names : List Name) → old.graph.shape m ≡ Some (Dir names) → (ns : List Name) × ((finish old.graph op).graph.shape m ≡ Some (Dir ns))
     stays m names e = let t : (t : Shape) × ((finish old.graph op).graph.shape m ≡ Some t) × SameKind (Dir names) t = sized.to_new m (Dir names) e in go t.0 t.1 t.2
@@ -305,7 +306,7 @@ finish_changes old inv acc c op o is u n = record {
     closed st on = go (ready old.graph op o n)
       where
         go : Ready old.graph op o → IsClosed st
-        go (By_text e text) = absurd (none_some (by_text (form op.call)) e (text_open old inv c op st is on) text)
+        go (By_text e text) = absurd (none_some (by_paths op.call) e (text_open old inv c op st is on) text)
         go (By_holdings s text on_s m) =
             let z : ◌≡◌ {A = Option Holdings} (Some s) (Some st) = sym on_s ∙ on in
             let y : s ≡ st = cc in
@@ -314,12 +315,12 @@ finish_changes old inv acc c op o is u n = record {
 account_committed : (old new : State) (seat : ℕ) → Invariant old → StateFacts old → Step old seat Committed new → StateFacts new
 account_committed old new seat inv acc (c, op, s, moves, walks, none, same) = subst StateFacts (sym same)
     (changes_keep old acc c op (finished_op op (finish old.graph op)) (finish old.graph op).graph (committing old c op)
-    (finish_changes old inv acc c op s moves.1 (λ r e. (let z : ◌≡◌ {A = Phase} Walking (Finished r) = sym walks ∙ e in cc)) moves.2) refl refl refl refl refl)
+    (finish_changes old inv acc c op s moves.1 (λ r e. (let z : ◌≡◌ {A = Phase} Walking (Finished r) = sym walks ∙ e in cc)) moves.2) refl refl refl refl refl refl)
 
 account_carried : (old new : State) (seat : ℕ) → Invariant old → StateFacts old → Step old seat CarriedOut new → StateFacts new
 account_carried old new seat inv acc (c, op, s, i, moves, placed, same) = subst StateFacts (sym same)
     (changes_keep old acc c op (finished_op op (finish old.graph op)) (finish old.graph op).graph (carrying old c op)
-    (finish_changes old inv acc c op s moves.1 (λ r e. (let z : ◌≡◌ {A = Phase} (Placed i) (Finished r) = sym placed ∙ e in cc)) moves.2) refl refl refl refl refl)
+    (finish_changes old inv acc c op s moves.1 (λ r e. (let z : ◌≡◌ {A = Phase} (Placed i) (Finished r) = sym placed ∙ e in cc)) moves.2) refl refl refl refl refl refl)
 
 -- a return
 account_returned : (r : Reply) (old new : State) (seat : ℕ) → Invariant old → StateFacts old → Step old seat (Returned r) new → StateFacts new
@@ -364,7 +365,7 @@ account_returned r old new seat inv acc (c, op, moves, ph, same) = subst StateFa
 -- a begin
 record Reserved (old : State) (graph : Graph) : Type 0 where
   pub stays : (m : ℕ) → DirStays old.graph graph m
-  pub within : AllWithin graph.shape
+  pub within : AllWithin (most_bytes old) graph.shape
   pub below : (m : ℕ) (s : Shape) → graph.shape m ≡ Some s → m < old.limit
 
 began_keeps : (old : State) (inv : Invariant old) (acc : StateFacts old) (seat : ℕ) (call : Call) (c : ℕ) (reserved : Option ℕ) (graph : Graph) → old.on_seat seat ≡ None → old.ops c ≡ None → Reserved old graph → StateFacts (began old seat call c reserved graph)
@@ -377,20 +378,20 @@ began_keeps old inv acc seat call c reserved graph free unused r = record { hold
     holds m d e = go (acc.holds m d e)
       where
         go : Holder old m d → Holder (began old seat call c reserved graph) m d
-        go (q, st, is, on, h) = (q, st, upd_else c (Some (new_op seat call reserved)) old.ops d (not_new d q is) ∙ is, on, h)
+        go (q, st, is, on, h) = (q, st, upd_else c (Some (new_op old.start.limits seat call reserved)) old.ops d (not_new d q is) ∙ is, on, h)
 
-    on_seat : (d : ℕ) (q : Record) → set_at c (Some (new_op seat call reserved)) old.ops d ≡ Some q → set_at seat (Some c) old.on_seat q.seat ≡ Some d
-    on_seat d q e = go (either old.ops c (new_op seat call reserved) d q e)
+    on_seat : (d : ℕ) (q : Record) → set_at c (Some (new_op old.start.limits seat call reserved)) old.ops d ≡ Some q → set_at seat (Some c) old.on_seat q.seat ≡ Some d
+    on_seat d q e = go (either old.ops c (new_op old.start.limits seat call reserved) d q e)
       where
-        go : Either old.ops c (new_op seat call reserved) d q → set_at seat (Some c) old.on_seat q.seat ≡ Some d
+        go : Either old.ops c (new_op old.start.limits seat call reserved) d q → set_at seat (Some c) old.on_seat q.seat ≡ Some d
         go (Changed i f) = ap (set_at seat (Some c) old.on_seat) (sym (ap (λ (o : Record). o.seat) f)) ∙ upd_here seat (Some c) old.on_seat ∙ ap (λ (k : ℕ). Some k) (sym i)
         go (Old n i) = let s : old.on_seat q.seat ≡ Some d = acc.on_seat d q i in upd_else seat (Some c) old.on_seat q.seat (λ j. none_some (old.on_seat seat) d free (ap old.on_seat (sym j) ∙ s)) ∙ s
 
-    neat : (d : ℕ) (q : Record) (st : Holdings) → set_at c (Some (new_op seat call reserved)) old.ops d ≡ Some q → q.holdings ≡ Some st → HeadsOfCallInOrder graph q st
-    neat d q st e on = go (either old.ops c (new_op seat call reserved) d q e)
+    neat : (d : ℕ) (q : Record) (st : Holdings) → set_at c (Some (new_op old.start.limits seat call reserved)) old.ops d ≡ Some q → q.holdings ≡ Some st → HeadsOfCallInOrder graph q st
+    neat d q st e on = go (either old.ops c (new_op old.start.limits seat call reserved) d q e)
       where
-        go : Either old.ops c (new_op seat call reserved) d q → HeadsOfCallInOrder graph q st
-        go (Changed i f) = absurd (none_some (new_op seat call reserved).holdings st refl (ap (λ (o : Record). o.holdings) f ∙ on))
+        go : Either old.ops c (new_op old.start.limits seat call reserved) d q → HeadsOfCallInOrder graph q st
+        go (Changed i f) = absurd (none_some (new_op old.start.limits seat call reserved).holdings st refl (ap (λ (o : Record). o.holdings) f ∙ on))
         go (Old n i) = neat_op_by old.graph graph q st (r.stays st.source.node) (acc.neat d q st i on)
 
 -- a call number that did not begin yet
@@ -399,27 +400,27 @@ not_begun s inv c less = go (s.ops c) refl
   where
     go : (o : Option Record) → s.ops c ≡ o → o ≡ None
     go None e = refl
-    go (Some q) e = absurd (none_some ((view_after (start (tree_shapes s.start)) s.timeline).call c) q.call (inv.fresh c less) (inv.tied.calls c q e))
+    go (Some q) e = absurd (none_some ((view_after (start s.start) s.timeline).call c) q.call (inv.fresh c less) (inv.tied.calls c q e))
 
 -- what is reserved is empty
-new_within : (call : Form) (shape : Shape) → reserves call ≡ Some shape → Within shape
-new_within (AtNode c p) shape e = cc
-new_within (AtEntry c []) shape e = cc
-new_within (AtEntry Mkdir (x ∷ p)) shape e = let y : Dir [] ≡ shape = cc in subst Within y (tt, omega arith)
-new_within (AtEntry Mknod (x ∷ p)) shape e = let y : File [] ≡ shape = cc in subst Within y (omega arith)
-new_within (AtEntry Unlink (x ∷ p)) shape e = cc
-new_within (AtEntry Rmdir (x ∷ p)) shape e = cc
-new_within (AtPair c p q) shape e = cc
+new_within : (most : ℕ) (call : Form) (shape : Shape) → reserves call ≡ Some shape → Within most shape
+new_within most (AtNode c p) shape e = cc
+new_within most (AtEntry c []) shape e = cc
+new_within most (AtEntry Mkdir (x ∷ p)) shape e = let y : Dir [] ≡ shape = cc in subst (Within most) y (tt, omega arith)
+new_within most (AtEntry Mknod (x ∷ p)) shape e = let y : File [] ≡ shape = cc in subst (Within most) y (omega arith)
+new_within most (AtEntry Unlink (x ∷ p)) shape e = cc
+new_within most (AtEntry Rmdir (x ∷ p)) shape e = cc
+new_within most (AtPair c p q) shape e = cc
 
-reserved_is : (old : State) (acc : StateFacts old) (n : ℕ) (shape : Shape) → old.graph.shape n ≡ None → n < old.limit → Within shape → Reserved old (reserved_in n shape old.graph)
+reserved_is : (old : State) (acc : StateFacts old) (n : ℕ) (shape : Shape) → old.graph.shape n ≡ None → n < old.limit → Within (most_bytes old) shape → Reserved old (reserved_in n shape old.graph)
 reserved_is old acc n shape free less fits = record {
   stays = λ m names e. (names, upd_else n (Some shape) old.graph.shape m (λ i. none_some (old.graph.shape m) (Dir names) (ap old.graph.shape i ∙ free) e) ∙ e);
   within = λ m s e. within m s e (place n (Some shape) old.graph.shape m);
   below = λ m s e. below m s e (place n (Some shape) old.graph.shape m);
 }
   where
-    within : (m : ℕ) (s : Shape) → (reserved_in n shape old.graph).shape m ≡ Some s → Place (Option Shape) n (Some shape) old.graph.shape m → Within s
-    within m s e (Here i j) = let z : ◌≡◌ {A = Option Shape} (Some shape) (Some s) = sym j ∙ e in subst Within (let y : shape ≡ s = cc in y) fits
+    within : (m : ℕ) (s : Shape) → (reserved_in n shape old.graph).shape m ≡ Some s → Place (Option Shape) n (Some shape) old.graph.shape m → Within (most_bytes old) s
+    within m s e (Here i j) = let z : ◌≡◌ {A = Option Shape} (Some shape) (Some s) = sym j ∙ e in subst (Within (most_bytes old)) (let y : shape ≡ s = cc in y) fits
     within m s e (Else h j) = acc.within m s (sym j ∙ e)
 
     below : (m : ℕ) (s : Shape) → (reserved_in n shape old.graph).shape m ≡ Some s → Place (Option Shape) n (Some shape) old.graph.shape m → m < old.limit
@@ -427,14 +428,14 @@ reserved_is old acc n shape free less fits = record {
     below m s e (Else h j) = acc.below m s (sym j ∙ e)
 
 account_begun : (c : ℕ) (old new : State) (seat : ℕ) (call : Call) → Invariant old → StateFacts old → Begins old seat call (Ok c) new → StateFacts new
-account_begun c old new seat call inv acc (free, number, r) = go (reserves (form call)) refl r
+account_begun c old new seat call inv acc (free, number, r) = go (reserved_by call) refl r
   where
     unused : old.ops c ≡ None
     unused = not_begun old inv c (let z : c ≡ begins old.timeline + 1 = number in omega (arith, z))
 
-    go : (o : Option Shape) → reserves (form call) ≡ o → Reserves old seat call c o new → StateFacts new
+    go : (o : Option Shape) → reserved_by call ≡ o → Reserves old seat call c o new → StateFacts new
     go None i same = subst StateFacts (sym same) (began_keeps old inv acc seat call c None old.graph free unused (record { stays = λ m names e. (names, e); within = acc.within; below = acc.below }))
-    go (Some shape) i (n, less, empty_n, same) = subst StateFacts (sym same) (began_keeps old inv acc seat call c (Some n) (reserved_in n shape old.graph) free unused (reserved_is old acc n shape empty_n less (new_within (form call) shape i)))
+    go (Some shape) i (n, less, empty_n, same) = subst StateFacts (sym same) (began_keeps old inv acc seat call c (Some n) (reserved_in n shape old.graph) free unused (reserved_is old acc n shape empty_n less (new_within (most_bytes old) (form (most_bytes old) call) shape (reserves_any (most_bytes old) call ∙ i))))
 
 -- where a timeline begins
 account_start : (limit : ℕ) (tree : Start) (graph : Graph) → IsStart limit tree graph → StateFacts (fresh limit tree graph)
@@ -446,7 +447,7 @@ account_start limit tree graph h = record {
   below = h.below;
 }
   where
-    within : (n : ℕ) (s : Shape) → graph.shape n ≡ Some s → Within s
+    within : (n : ℕ) (s : Shape) → graph.shape n ≡ Some s → Within (file_limit tree.limits) s
     within n (Dir names) e = (h.rising n names e, h.bounded.entries n names e)
     within n (File bytes) e = h.bounded.bytes n bytes e
 

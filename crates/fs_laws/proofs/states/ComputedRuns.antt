@@ -4,9 +4,11 @@ use Rattle.std.specs.Prelude.{nat_lt}
 use Rattle.std.proofs.lemmas.Bool.Decides.{nat_tests}
 use Rattle.fs_names.specs.Keys.{Key, last_of}
 use Rattle.fs_names.specs.Shapes.{Shape}
-use Rattle.fs_calls.specs.Forms.{form, reserves, Form, AtNode, AtEntry, AtPair, by_text}
+use Rattle.fs_calls.specs.Forms.{Form, AtNode, AtEntry, AtPair, by_paths, reserved_by}
 use Rattle.fs_calls.specs.declared.call.Call.{Call}
 use Rattle.fs_calls.specs.declared.reply.Reply.{Reply}
+use Rattle.fs_calls.specs.Starts.{root_start}
+use Rattle.fs_names.specs.declared.limits.Limits.TheVariants.{V1}
 use Rattle.fs_graph.specs.Graphs.{Graph, empty_graph, numbers, reserved_in}
 use Rattle.fs_machine.specs.Moves.{next, next_by}
 use Rattle.fs_machine.specs.declared.moves.Move.{Move}
@@ -21,7 +23,6 @@ use Rattle.fs_machine.specs.States as machine
 use Rattle.fs_machine.specs.States.{State, IsMoved, empty, began, Reserves, Moves, Step, taking, letting_go, helping, carrying, committing, returning, Run, Starting, Beginning, Stepping}
 use Rattle.fs_machine.specs.declared.answers.Stepped.{Stepped}
 use Rattle.fs_machine.specs.declared.answers.Stepped.TheVariants.{Idle, Took, Busy, LetGo, Helped, Committed, CarriedOut, Returned}
-use Rattle.fs_calls.specs.Tree.{root_tree}
 use Rattle.fs_laws.proofs.states.StartsEmpty.{starts_empty}
 use Rattle.fs_laws.proofs.states.ComputedSteps.{by_ends, by_finishes}
 use Rattle.fs_laws.proofs.helping.WhomToHelp.{IsOneOf, AreKeys, whom, IsRight, whom_is}
@@ -138,7 +139,7 @@ stepped_is old run seat = on_it (old.on_seat seat) refl
     finishing : (c : ℕ) (op : Record) (o : Moved) (phase : Phase) → op.phase ≡ phase → Moves old seat c op (Finishes o) → Step old seat (finish_by old c op phase (to_help old op o)).0 (finish_by old c op phase (to_help old op o)).1
     finishing c op o Walking w m = walking c op o m w
     finishing c op o (Placed i) w m = (c, op, o, i, m, w, refl)
-    finishing c op o (Finished r) w m = absurd (by_finishes old.graph op (by_text (form op.call)) r op.holdings o (ap (λ (p : Phase). next_by old.graph op (by_text (form op.call)) p op.holdings) (sym w) ∙ m.2))
+    finishing c op o (Finished r) w m = absurd (by_finishes old.graph op (by_paths op.call) r op.holdings o (ap (λ (p : Phase). next_by old.graph op (by_paths op.call) p op.holdings) (sym w) ∙ m.2))
 
     ending : (c : ℕ) (op : Record) (phase : Phase) (r : Reply) → op.phase ≡ phase → phase ≡ Finished r → Moves old seat c op Ends → Step old seat (end_by old c op phase).0 (end_by old c op phase).1
     ending c op (Finished q) r w i m = (c, op, m, w, refl)
@@ -153,7 +154,7 @@ stepped_is old run seat = on_it (old.on_seat seat) refl
     moving c op (Takes n) m = takes c op n (old.holder n) refl m
     moving c op (Leaves n) m = (c, op, m, refl)
     moving c op (Finishes o) m = finishing c op o op.phase refl m
-    moving c op Ends m = let r : (r : Reply) × (op.phase ≡ Finished r) = by_ends old.graph op (by_text (form op.call)) op.phase op.holdings m.2 in ending c op op.phase r.0 refl r.1 m
+    moving c op Ends m = let r : (r : Reply) × (op.phase ≡ Finished r) = by_ends old.graph op (by_paths op.call) op.phase op.holdings m.2 in ending c op op.phase r.0 refl r.1 m
 
     under_way : (c : ℕ) (o : Option Record) → old.on_seat seat ≡ Some c → old.ops c ≡ o → Step old seat (op_by old c o).0 (op_by old c o).1
     under_way c None e f = let s : (op : Record) × (old.ops c ≡ Some op) × (op.seat ≡ seat) = (run_keeps old run).seated seat c e in let z : ◌≡◌ {A = Option Record} None (Some s.0) = sym f ∙ s.1 in cc
@@ -176,7 +177,7 @@ reserve_by old seat call None = began old seat call (begins old.timeline + 1) No
 reserve_by old seat call (Some shape) = began old seat call (begins old.timeline + 1) (Some (free old)) (reserved_in (free old) shape old.graph)
 
 abbrev beginning : State → ℕ → Call → State
-beginning old seat call = reserve_by old seat call (reserves (form call))
+beginning old seat call = reserve_by old seat call (reserved_by call)
 
 -- where the seat is free, and so is the number if one is wanted
 abbrev has_free : State → Option Shape → Bool
@@ -184,7 +185,7 @@ has_free old None = true
 has_free old (Some shape) = not (is_some (old.graph.shape (free old))) && nat_lt (free old) old.limit
 
 abbrev can_begin : State → ℕ → Call → Bool
-can_begin old seat call = not (is_some (old.on_seat seat)) && has_free old (reserves (form call))
+can_begin old seat call = not (is_some (old.on_seat seat)) && has_free old (reserved_by call)
 
 is_none : {A : Type 0} (o : Option A) → not (is_some o) ≡ true → o ≡ None
 is_none None e = refl
@@ -195,10 +196,10 @@ both true b e = (refl, e)
 both false b e = cc
 
 beginning_is : (old : State) (seat : ℕ) (call : Call) → can_begin old seat call ≡ true → machine.Begins old seat call (Ok (begins old.timeline + 1)) (beginning old seat call)
-beginning_is old seat call e = (is_none (old.on_seat seat) p.0, refl, go (reserves (form call)) p.1)
+beginning_is old seat call e = (is_none (old.on_seat seat) p.0, refl, go (reserved_by call) p.1)
   where
-    p : (not (is_some (old.on_seat seat)) ≡ true) × (has_free old (reserves (form call)) ≡ true)
-    p = both (not (is_some (old.on_seat seat))) (has_free old (reserves (form call))) e
+    p : (not (is_some (old.on_seat seat)) ≡ true) × (has_free old (reserved_by call) ≡ true)
+    p = both (not (is_some (old.on_seat seat))) (has_free old (reserved_by call)) e
 
     less : (a b : ℕ) → nat_lt a b ≡ true → a < b
     less a b i = grind (arith, nat_tests)
@@ -237,15 +238,15 @@ played s run (Steps seat answer ∷ es) e =
     let r : (later : Run (after (stepped s seat).1 es)) × (events_of (after (stepped s seat).1 es) later ≡ events_of (stepped s seat).1 now ++ told (stepped s seat).1 es) = played (stepped s seat).1 now es e in
     (r.0, r.1 ∙ append_assoc (events_of s run) (Steps seat (stepped s seat).0 ∷ []) (told (stepped s seat).1 es))
 
--- before anything began, at the greatest limit
+-- before anything began, by the first limits, with as many numbers as there may be
 abbrev pub start : State
-start = empty 1048576
+start = empty V1 1048576
 
 pub is_run : (es : List Event) → can_be start es ≡ true → told start es ≡ es → (run : Run (after start es)) × (events_of (after start es) run ≡ es)
 is_run es can is =
-    let r : (later : Run (after start es)) × (events_of (after start es) later ≡ told start es) = played start (Starting 1048576 root_tree empty_graph (starts_empty 1048576 (omega arith))) es can in
+    let r : (later : Run (after start es)) × (events_of (after start es) later ≡ told start es) = played start (Starting 1048576 (root_start V1) empty_graph (starts_empty V1 1048576 (omega arith))) es can in
     (r.0, r.1 ∙ is)
 
 -- the run of some events, where they and their answers are the computed ones
-abbrev pub ran : (es : List Event) → can_be start es ≡ true → told start es ≡ es → (after start es).limit ≡ 1048576 → (after start es).start ≡ root_tree → Ran es
+abbrev pub ran : (es : List Event) → can_be start es ≡ true → told start es ≡ es → (after start es).limit ≡ 1048576 → (after start es).start ≡ root_start V1 → Ran es
 ran es can is limit tree = record { state = after start es; run = (is_run es can is).0; events = (is_run es can is).1; limit = limit; start = tree }

@@ -6,10 +6,11 @@ use Rattle.fs_names.specs.Keys.{Key, after_prefix, parent_of, last_of, has_more}
 use Rattle.fs_names.specs.Parts.{HasNames}
 use Rattle.fs_names.specs.Names.{Name, has_name}
 use Rattle.fs_names.specs.Shapes.{Shape, Dir, File, is_there, has_entries}
-use Rattle.fs_calls.specs.Forms.{form, Form, AtNode, AtEntry, AtPair, Fits, by_text}
+use Rattle.fs_calls.specs.Forms.{Form, AtNode, AtEntry, AtPair, Fits, by_paths}
 use Rattle.fs_calls.specs.declared.target.PairCall.TheVariants as pairs
 use Rattle.fs_calls.specs.declared.errno.Errno.{Errno}
 use Rattle.fs_calls.specs.declared.reply.Reply.{Reply}
+use Rattle.fs_laws.proofs.finish.Limits.{own_limited, told_within}
 use Rattle.fs_graph.specs.Graphs.{Graph, at, numbers, IsGraph, IsReached}
 use Rattle.fs_machine.specs.Leaving.{is_removed}
 use Rattle.fs_machine.specs.Moves.{next, next_by}
@@ -18,7 +19,7 @@ use Rattle.fs_machine.specs.declared.moves.Moved.{Moved}
 use Rattle.fs_machine.specs.Records.{Phase, Walking, Placed, Finished, Record, Holdings, Source, Dest}
 use Rattle.fs_machine.specs.OpValues.{IsSpare, SpareIf, IsBounded, HeadsApart, MovesApart, CanFinish}
 use Rattle.fs_timeline.specs.Timeline.{begins}
-use Rattle.fs_laws.specs.Invariants.{Invariant}
+use Rattle.fs_laws.specs.Invariants.{Invariant, most_bytes}
 use Rattle.fs_laws.specs.CallFacts.{Located}
 use Rattle.fs_machine.specs.States.{State, Run}
 use Rattle.fs_laws.proofs.trees.Prefixes.{same_refl, prefix_append}
@@ -64,7 +65,7 @@ spare_removed s c op n run is e = spare_gone s c op run is n (removed_is op.remo
     removed_is (Some m) f = ap (λ (x : ℕ). Some x) (eqb_true m n f)
 
 -- directories and files are within their limits
-pub run_bounded : (s : State) → Run s → IsBounded s.graph
+pub run_bounded : (s : State) → Run s → IsBounded (most_bytes s) s.graph
 run_bounded s run = record { entries = λ n names e. ((run_accounts s run).within n (Dir names) e).1; bytes = λ n content e. (run_accounts s run).within n (File content) e }
 
 -- and the numbers in use below theirs
@@ -153,15 +154,15 @@ moves_apart s c op st run is on = go op.remaining (inv.kept.each c op st is on).
 
 -- what a finish needs
 pub can_finish : (s : State) (c : ℕ) (op : Record) (t : Moved) → Run s → s.ops c ≡ Some op → next s.graph op ≡ Finishes t → CanFinish s.graph op.reserved op.remaining op.holdings
-can_finish s c op t run is m = record { spare = spare_reserved s c op run is; heads = λ st on. heads_apart s c op st run is on; other = λ st on. reserved_other s c op st run is on; apart = λ st on. moves_apart s c op st run is on; bounded = run_bounded s run }
+can_finish s c op t run is m = record { spare = spare_reserved s c op run is; heads = λ st on. heads_apart s c op st run is on; other = λ st on. reserved_other s c op st run is on; apart = λ st on. moves_apart s c op st run is on; bounded = told_within (most_bytes s) s.graph op.remaining (own_limited (most_bytes s) s.graph op ((run_keeps s run).own c op is)) (run_bounded s run) }
 
 -- who ends is finished and stands nowhere
 pub ends_finished : (s : State) (c : ℕ) (op : Record) → next s.graph op ≡ Ends → (r : Reply) × (op.phase ≡ Finished r) × (op.holdings ≡ None)
-ends_finished s c op m = let r : (r : Reply) × (op.phase ≡ Finished r) = by_ends s.graph op (by_text (form op.call)) op.phase op.holdings m in (r.0, r.1, ends_nowhere s.graph op r.0 r.1 m)
+ends_finished s c op m = let r : (r : Reply) × (op.phase ≡ Finished r) = by_ends s.graph op (by_paths op.call) op.phase op.holdings m in (r.0, r.1, ends_nowhere s.graph op r.0 r.1 m)
 
 -- who finishes walks, or is placed
 pub finishes_open : (s : State) (op : Record) (t : Moved) → next s.graph op ≡ Finishes t → (op.phase ≡ Walking) ⊎ ((i : ℕ) × (op.phase ≡ Placed i))
-finishes_open s op t m = go op.phase (by_text (form op.call)) op.holdings refl m
+finishes_open s op t m = go op.phase (by_paths op.call) op.holdings refl m
   where
     go : (p : Phase) (e : Option Errno) (st : Option Holdings) → op.phase ≡ p → next_by s.graph op e p st ≡ Finishes t → (op.phase ≡ Walking) ⊎ ((i : ℕ) × (op.phase ≡ Placed i))
     go Walking e st i f = inl i

@@ -8,6 +8,8 @@ use Rattle.fs_names.specs.declared.limits.TheConstants.{ENTRY_LIMIT}
 use Rattle.fs_calls.specs.Tree.{root_tree, look}
 use Rattle.fs_calls.specs.Sights.{tree_shapes}
 use Rattle.fs_calls.proofs.TreeLaws.{played_trees_are_trees}
+use Rattle.fs_calls.specs.Starts.{root_start}
+use Rattle.fs_names.specs.declared.limits.Limits.{Limits}
 use Rattle.fs_graph.specs.Graphs.{numbers, graph_shapes, IsGraph, empty_graph}
 use Rattle.fs_machine.specs.States.{IsStart, AreRising}
 use Rattle.fs_laws.proofs.events.OneCallChanged.{Place, Here, Else, place}
@@ -43,8 +45,8 @@ only_root n s e (Else h j) = let z : ◌≡◌ {A = Option Shape} None (Some s) 
 root_is : (n : ℕ) (s : Shape) → empty_graph.shape n ≡ Some s → (n ≡ 0) × (s ≡ Dir [])
 root_is n s e = only_root n s e (place 0 (Some (Dir [])) (λ m. None) n)
 
-pub starts_empty : (limit : ℕ) → 1 ≤ limit → IsStart limit root_tree empty_graph
-starts_empty limit more = record {
+pub starts_empty : (limits : Limits) (limit : ℕ) → 1 ≤ limit → IsStart limit (root_start limits) empty_graph
+starts_empty limits limit more = record {
   least = more;
   tree = played_trees_are_trees.0;
   spelled = fun_ext spelled_start;

@@ -2,7 +2,7 @@
 use Rattle.std.proofs.Common.{◌≡◌, ℕ, suc, ◌+◌, ◌≤◌, [], ◌∷◌, Option, Some, None, refl, sym, ap, ap₂, ◌∙◌, subst, arith}
 use Rattle.fs_names.specs.Keys.{Key}
 use Rattle.fs_names.specs.Shapes.{Shape}
-use Rattle.fs_calls.specs.Forms.{form, Form, by_text, reserves}
+use Rattle.fs_calls.specs.Forms.{form, Form, by_paths, reserved_by}
 use Rattle.fs_calls.specs.declared.call.Call.{Call}
 use Rattle.fs_calls.specs.declared.errno.Errno.{Errno}
 use Rattle.fs_calls.specs.declared.reply.Reply.{Reply}
@@ -13,7 +13,7 @@ use Rattle.fs_machine.specs.Moves.{next, next_by, took, took_by, target, left_ho
 use Rattle.fs_machine.specs.declared.moves.Move.TheVariants.{Take as Takes, LetGo as Leaves}
 use Rattle.fs_machine.specs.Records.{Phase, Walking, Placed, Finished, Record, Records, Holdings, holdings_at}
 use Rattle.fs_timeline.specs.Timeline.{begins, commit_count}
-use Rattle.fs_laws.specs.Invariants.{IsUnfinished}
+use Rattle.fs_laws.specs.Invariants.{IsUnfinished, most_bytes}
 use Rattle.fs_laws.specs.Settled.{names_left}
 use Rattle.fs_machine.specs.States.{State, Reserves, began, new_op, Run, taking, letting_go, helping, carrying, committing, returning}
 use Rattle.fs_machine.specs.declared.answers.Stepped.TheVariants.{Idle, Took, Busy, LetGo, Helped, Committed, CarriedOut, Returned}
@@ -112,7 +112,7 @@ last_less remaining r st = victim st.victim refl
     victim None i = dest st.dest.walked refl
 
 left_less : (s : State) (run : Run s) (c : ℕ) (op : Record) (n : ℕ) → s.ops c ≡ Some op → next s.graph op ≡ Leaves n → steps_left_of (Some (let_go op n)) + 1 ≤ steps_left_of (Some op)
-left_less s run c op n is m = go op.phase (by_text (form op.call)) op.holdings refl refl m
+left_less s run c op n is m = go op.phase (by_paths op.call) op.holdings refl refl m
   where
     on_way : (st : Holdings) → IsUnfinished op → op.holdings ≡ Some st → next_on s.graph op.remaining st ≡ Leaves n → steps_left_of (Some (let_go op n)) + 1 ≤ steps_left_of (Some op)
     on_way st u on f =
@@ -164,27 +164,27 @@ takes_work s run seat (Returned r) new (c, op, moves, ph, same) g =
     (subst (λ (p : Phase). 1 ≤ steps_left_by op.remaining p op.holdings) (sym ph) (subst (λ (o : Option Holdings). 1 ≤ steps_left_by op.remaining (Finished r) o) (sym (ends_nowhere s.graph op r ph moves.2)) (omega arith))))
 
 -- a begin
-began_work : (s : State) → Run s → (seat : ℕ) (call : Call) (c : ℕ) (reserved : Option ℕ) (graph : Graph) → c ≡ begins s.timeline + 1 → steps_left (began s seat call c reserved graph) ≡ steps_left s + first_steps (form call)
-began_work s run seat call c reserved graph number = ap (total (λ d. steps_left_of (set_at c (Some (new_op seat call reserved)) s.ops d))) (begins_begins s.timeline c seat call) ∙ more
+began_work : (s : State) → Run s → (seat : ℕ) (call : Call) (c : ℕ) (reserved : Option ℕ) (graph : Graph) → c ≡ begins s.timeline + 1 → steps_left (began s seat call c reserved graph) ≡ steps_left s + first_steps (form (most_bytes s) call)
+began_work s run seat call c reserved graph number = ap (total (λ d. steps_left_of (set_at c (Some (new_op s.start.limits seat call reserved)) s.ops d))) (begins_begins s.timeline c seat call) ∙ more
   where
     n : ℕ
     n = begins s.timeline
 
-    others : total (λ d. steps_left_of (set_at c (Some (new_op seat call reserved)) s.ops d)) (begins s.timeline) ≡ total (λ d. steps_left_of (s.ops d)) (begins s.timeline)
-    others = total_same (λ d. steps_left_of (set_at c (Some (new_op seat call reserved)) s.ops d)) (λ d. steps_left_of (s.ops d)) (begins s.timeline) (λ d i. ap steps_left_of (upd_else c (Some (new_op seat call reserved)) s.ops d (λ e. (let z : d ≡ begins s.timeline + 1 = e ∙ number in omega (arith, z, i)))))
+    others : total (λ d. steps_left_of (set_at c (Some (new_op s.start.limits seat call reserved)) s.ops d)) (begins s.timeline) ≡ total (λ d. steps_left_of (s.ops d)) (begins s.timeline)
+    others = total_same (λ d. steps_left_of (set_at c (Some (new_op s.start.limits seat call reserved)) s.ops d)) (λ d. steps_left_of (s.ops d)) (begins s.timeline) (λ d i. ap steps_left_of (upd_else c (Some (new_op s.start.limits seat call reserved)) s.ops d (λ e. (let z : d ≡ begins s.timeline + 1 = e ∙ number in omega (arith, z, i)))))
 
-    mine : steps_left_of (set_at c (Some (new_op seat call reserved)) s.ops (begins s.timeline + 1)) ≡ first_steps (form call)
-    mine = ap (λ (d : ℕ). steps_left_of (set_at c (Some (new_op seat call reserved)) s.ops d)) (sym number) ∙ ap steps_left_of (upd_here c (Some (new_op seat call reserved)) s.ops)
+    mine : steps_left_of (set_at c (Some (new_op s.start.limits seat call reserved)) s.ops (begins s.timeline + 1)) ≡ first_steps (form (most_bytes s) call)
+    mine = ap (λ (d : ℕ). steps_left_of (set_at c (Some (new_op s.start.limits seat call reserved)) s.ops d)) (sym number) ∙ ap steps_left_of (upd_here c (Some (new_op s.start.limits seat call reserved)) s.ops)
 
-    more : total (λ d. steps_left_of (set_at c (Some (new_op seat call reserved)) s.ops d)) (begins s.timeline + 1) ≡ steps_left s + first_steps (form call)
-    more = next_total (λ d. steps_left_of (set_at c (Some (new_op seat call reserved)) s.ops d)) (begins s.timeline) ∙ ap₂ (λ (a b : ℕ). a + b) others mine
+    more : total (λ d. steps_left_of (set_at c (Some (new_op s.start.limits seat call reserved)) s.ops d)) (begins s.timeline + 1) ≡ steps_left s + first_steps (form (most_bytes s) call)
+    more = next_total (λ d. steps_left_of (set_at c (Some (new_op s.start.limits seat call reserved)) s.ops d)) (begins s.timeline) ∙ ap₂ (λ (a b : ℕ). a + b) others mine
       where
         next_total : (f : ℕ → ℕ) (m : ℕ) → total f (m + 1) ≡ total f m + f (m + 1)
         next_total f m = let e : m + 1 ≡ suc m = omega arith in ap (total f) e ∙ ap (λ (x : ℕ). total f m + f x) (sym e)
 
 pub adds_work : (s : State) → Run s → AddsWork s
-adds_work s run seat c call new (free, number, r) = go (reserves (form call)) r
+adds_work s run seat c call new (free, number, r) = go (reserved_by call) r
   where
-    go : (o : Option Shape) → Reserves s seat call c o new → steps_left new ≡ steps_left s + first_steps (form call)
+    go : (o : Option Shape) → Reserves s seat call c o new → steps_left new ≡ steps_left s + first_steps (form (most_bytes s) call)
     go None same = ap steps_left same ∙ began_work s run seat call c None s.graph number
     go (Some shape) (n, less, unused, same) = ap steps_left same ∙ began_work s run seat call c (Some n) (reserved_in n shape s.graph) number

@@ -4,7 +4,7 @@ use Rattle.std.proofs.lemmas.List.{length-append}
 use Rattle.fs_names.specs.Keys.{Key, last_of}
 use Rattle.fs_names.specs.Names.{Name}
 use Rattle.fs_names.specs.Parts.{HasNames}
-use Rattle.fs_calls.specs.Forms.{form, by_text}
+use Rattle.fs_calls.specs.Forms.{by_paths}
 use Rattle.fs_calls.specs.declared.reply.Reply.{Reply}
 use Rattle.fs_graph.specs.Graphs.{numbers}
 use Rattle.fs_machine.specs.Moves.{next, next_on}
@@ -193,7 +193,7 @@ does_step s run c op is = go (next s.graph op) refl
     go (Takes n) m = takes n m (s.holder n) refl
     go (Leaves n) m = AtNode (LetGo n) (letting_go s c op n) (c, op, (on, is, m), refl) tt
     go (Finishes o) m = finishes o m (none_or_chosen s run c op o is m) (finishes_open s op o m)
-    go Ends m = let r : (r : Reply) × (op.phase ≡ Finished r) = by_ends s.graph op (by_text (form op.call)) op.phase op.holdings m in AtNode (Returned r.0) (returning s c op r.0) (c, op, (on, is, m), r.1, refl) tt
+    go Ends m = let r : (r : Reply) × (op.phase ≡ Finished r) = by_ends s.graph op (by_paths op.call) op.phase op.holdings m in AtNode (Returned r.0) (returning s c op r.0) (c, op, (on, is, m), r.1, refl) tt
 
 -- each seat has a step
 pub has_step : (s : State) → Run s → (seat : ℕ) → HasStep s seat

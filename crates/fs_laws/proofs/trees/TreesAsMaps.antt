@@ -61,20 +61,20 @@ looked_done t (AtPair pairs.Rename p q) h =
     ap (λ (o : Option Errno). let r = answered o false Done (not (is_end (after_prefix p q))) in (r.0, move_change r.1 (rename_writes (is_end (after_prefix (parent_of p) (parent_of q))) (parent_of p) (names_of (tree_shapes t (parent_of p))) (last_of p) (parent_of q) (names_of (tree_shapes t (parent_of q))) (last_of q)) p q)) h
 looked_done t (AtPair pairs.Exchange p q) h = ap (λ (o : Option Errno). let r = answered o false Done (not (is_end (after_prefix p q))) in (r.0, swap_change r.1 p q)) h
 
-pub reply_is : (t : Tree) → IsTree t → (call : Call) → list.reply t call ≡ reply (tree_shapes t) (form call)
+pub reply_is : (most : ℕ) (t : Tree) → IsTree t → (call : Call) → list.reply most t call ≡ reply (tree_shapes t) (form most call)
 unfolding list.reply fault
-reply_is t is call = go (by_text (form call)) (row t call) refl
+reply_is most t is call = go (by_text (form most call)) (row most t call) refl
   where
-    go : (x y : Option Errno) → row t call ≡ y → replied (or_else x y) (success t call) ≡ (if_sound x (looked (tree_shapes t) (form call))).0
+    go : (x y : Option Errno) → row most t call ≡ y → replied (or_else x y) (success most t call) ≡ (if_sound x (looked (tree_shapes t) (form most call))).0
     go (Some e) y h = refl
-    go None (Some e) h = sym (ap (λ (r : Reply × Change). r.0) (looked_fails (tree_shapes t) (form call) e h))
-    go None None h = sym (ap (λ (r : Reply × Change). r.0) (looked_done t (form call) h))
+    go None (Some e) h = sym (ap (λ (r : Reply × Change). r.0) (looked_fails (tree_shapes t) (form most call) e h))
+    go None None h = sym (ap (λ (r : Reply × Change). r.0) (looked_done t (form most call) h))
 
 -- ---- what is left, without an error
 
-row_none : (t : Tree) (call : Call) → fault t call ≡ None → (by_text (form call) ≡ None) × (row t call ≡ None)
+row_none : (most : ℕ) (t : Tree) (call : Call) → fault most t call ≡ None → (by_text (form most call) ≡ None) × (row most t call ≡ None)
 unfolding fault
-row_none t call h = or_else-none (by_text (form call)) (row t call) h
+row_none most t call h = or_else-none (by_text (form most call)) (row most t call) h
 
 make_tree : (t : Tree) → IsTree t → (p : Key) (node : Node) (s : Shape) → Bare node s → HasNames p → Makes t p → (k : Key) → tree_shapes (inserted t p node) k ≡ changed (edit_change (parent_of p) (names_of (tree_shapes t (parent_of p))) (last_of p) p (Add s)) (tree_shapes t) k
 make_tree t is p node s bare more makes k =
@@ -99,13 +99,13 @@ fill_tree t is p bytes file k = go (look t p) refl
     go (Some trees.Dir) i = absurd (file.no_dir i)
     go (Some (trees.File old)) i = seen_written t p old bytes is i k
 
-write_tree : (t : Tree) → IsTree t → (p : Key) (off : ℕ) (bytes : List ℕ) → Writes t p → (k : Key) → tree_shapes (change t (calls.Write p off bytes)) k ≡ changed (change_in (tree_shapes t) (AtNode (Write off bytes) p)) (tree_shapes t) k
-write_tree t is p off [] file k = refl
-write_tree t is p off (b ∷ new) file k = fill_tree t is p (written (bytes_of (tree_shapes t p)) off (b ∷ new)) file k
+write_tree : (most : ℕ) (t : Tree) → IsTree t → (p : Key) (off : ℕ) (bytes : List ℕ) → Writes t p → (k : Key) → tree_shapes (change most t (calls.Write p off bytes)) k ≡ changed (change_in (tree_shapes t) (AtNode (Write most off bytes) p)) (tree_shapes t) k
+write_tree most t is p off [] file k = refl
+write_tree most t is p off (b ∷ new) file k = fill_tree t is p (written (bytes_of (tree_shapes t p)) off (b ∷ new)) file k
 
 -- a rename
-rename_tree : (t : Tree) → IsTree t → (p q : Key) → fault t (calls.Rename p q) ≡ None → HasNames p → HasNames q → (k : Key) → tree_shapes (list.after t (calls.Rename p q)) k ≡ changed (change_in (tree_shapes t) (AtPair pairs.Rename p q)) (tree_shapes t) k
-rename_tree t is p q none mp mq k = by (same_or p q)
+rename_tree : (most : ℕ) (t : Tree) → IsTree t → (p q : Key) → fault most t (calls.Rename p q) ≡ None → HasNames p → HasNames q → (k : Key) → tree_shapes (list.after most t (calls.Rename p q)) k ≡ changed (change_in (tree_shapes t) (AtPair pairs.Rename p q)) (tree_shapes t) k
+rename_tree most t is p q none mp mq k = by (same_or p q)
   where
     d : Key
     d = parent_of p
@@ -116,9 +116,9 @@ rename_tree t is p q none mp mq k = by (same_or p q)
     ws : List (Key × Option Shape)
     ws = rename_writes (is_end (after_prefix (parent_of p) (parent_of q))) (parent_of p) (names_of (tree_shapes t (parent_of p))) (last_of p) (parent_of q) (names_of (tree_shapes t (parent_of q))) (last_of q)
 
-    by : SameKey p q → tree_shapes (list.after t (calls.Rename p q)) k ≡ changed (move_change (not (is_end (after_prefix p q))) ws p q) (tree_shapes t) k
+    by : SameKey p q → tree_shapes (list.after most t (calls.Rename p q)) k ≡ changed (move_change (not (is_end (after_prefix p q))) ws p q) (tree_shapes t) k
     by (Same i j) =
-        ap (λ (s : Tree). tree_shapes s k) (ap (λ (y : Key). list.after t (calls.Rename p y)) (sym i) ∙ renames_move.onto_itself t p)
+        ap (λ (s : Tree). tree_shapes s k) (ap (λ (y : Key). list.after most t (calls.Rename p y)) (sym i) ∙ renames_move.onto_itself most t p)
         ∙ sym (ap (λ (b : Bool). changed (move_change (not b) ws p q) (tree_shapes t) k) (ap (is_same p) (sym i) ∙ is_same_refl p))
     by (Other n j) = moved_seen ∙ sym (ap (λ (b : Bool). changed (move_change (not b) ws p q) (tree_shapes t) k) apart)
       where
@@ -126,7 +126,7 @@ rename_tree t is p q none mp mq k = by (same_or p q)
         apart = never_same p q n
 
         r : Renames t p q
-        r = rename_renames t p q is none n
+        r = rename_renames most t p q is none n
 
         back : (o : Option Key) → after_prefix q p ≡ o → o ≡ None
         back None f = refl
@@ -139,32 +139,32 @@ rename_tree t is p q none mp mq k = by (same_or p q)
         q_is : q ≡ parent_of q ++ last_of q ∷ []
         q_is = key_is q mq
 
-        f : Moved t (list.after t (calls.Rename p q)) (parent_of p) (last_of p) (parent_of q) (last_of q)
+        f : Moved t (list.after most t (calls.Rename p q)) (parent_of p) (last_of p) (parent_of q) (last_of q)
         f = record {
           is = is;
-          is_new = stays_a_tree t (calls.Rename p q) is;
-          moved = subst (λ (y : Key). IsMoved t (list.after t (calls.Rename p q)) (parent_of p ++ last_of p ∷ []) y) q_is (subst (λ (y : Key). IsMoved t (list.after t (calls.Rename p q)) y q) p_is (renames_move.moved t p q is none n));
+          is_new = stays_a_tree most t (calls.Rename p q) is;
+          moved = subst (λ (y : Key). IsMoved t (list.after most t (calls.Rename p q)) (parent_of p ++ last_of p ∷ []) y) q_is (subst (λ (y : Key). IsMoved t (list.after most t (calls.Rename p q)) y q) p_is (renames_move.moved most t p q is none n));
           aside = (ap₂ after_prefix (sym p_is) (sym q_is) ∙ r.beside, ap₂ after_prefix (sym q_is) (sym p_is) ∙ back (after_prefix q p) refl);
-          from_dir = parents_resolution-none t p is (or_else-none (parents_resolution t p) _ (row_none t (calls.Rename p q) none).1).0;
+          from_dir = parents_resolution-none t p is (or_else-none (parents_resolution t p) _ (row_none most t (calls.Rename p q) none).1).0;
           to_dir = r.new_parent;
           there = ap (λ (y : Key). is_some (look t y)) (sym p_is) ∙ r.there;
         }
 
-        moved_seen : tree_shapes (list.after t (calls.Rename p q)) k ≡ changed (move_change true ws p q) (tree_shapes t) k
-        moved_seen = seen_moved t (list.after t (calls.Rename p q)) (parent_of p) (last_of p) (parent_of q) (last_of q) f k ∙ ap₂ (λ (a b : Key). move a b (write_all ws (tree_shapes t)) k) (sym p_is) (sym q_is)
+        moved_seen : tree_shapes (list.after most t (calls.Rename p q)) k ≡ changed (move_change true ws p q) (tree_shapes t) k
+        moved_seen = seen_moved t (list.after most t (calls.Rename p q)) (parent_of p) (last_of p) (parent_of q) (last_of q) f k ∙ ap₂ (λ (a b : Key). move a b (write_all ws (tree_shapes t)) k) (sym p_is) (sym q_is)
 
 -- an exchange
-exchange_tree : (t : Tree) → IsTree t → (p q : Key) → fault t (calls.Exchange p q) ≡ None → (k : Key) → tree_shapes (list.after t (calls.Exchange p q)) k ≡ changed (change_in (tree_shapes t) (AtPair pairs.Exchange p q)) (tree_shapes t) k
-exchange_tree t is p q none k = by (same_or p q)
+exchange_tree : (most : ℕ) (t : Tree) → IsTree t → (p q : Key) → fault most t (calls.Exchange p q) ≡ None → (k : Key) → tree_shapes (list.after most t (calls.Exchange p q)) k ≡ changed (change_in (tree_shapes t) (AtPair pairs.Exchange p q)) (tree_shapes t) k
+exchange_tree most t is p q none k = by (same_or p q)
   where
-    by : SameKey p q → tree_shapes (list.after t (calls.Exchange p q)) k ≡ changed (swap_change (not (is_end (after_prefix p q))) p q) (tree_shapes t) k
+    by : SameKey p q → tree_shapes (list.after most t (calls.Exchange p q)) k ≡ changed (swap_change (not (is_end (after_prefix p q))) p q) (tree_shapes t) k
     by (Same i j) =
-        ap (λ (s : Tree). tree_shapes s k) (ap (λ (y : Key). list.after t (calls.Exchange p y)) (sym i) ∙ exchanges_swap.with_itself t p)
+        ap (λ (s : Tree). tree_shapes s k) (ap (λ (y : Key). list.after most t (calls.Exchange p y)) (sym i) ∙ exchanges_swap.with_itself most t p)
         ∙ sym (ap (λ (b : Bool). changed (swap_change (not b) p q) (tree_shapes t) k) (ap (is_same p) (sym i) ∙ is_same_refl p))
-    by (Other n j) = seen_exchanged t (list.after t (calls.Exchange p q)) p q f k ∙ sym (ap (λ (b : Bool). changed (swap_change (not b) p q) (tree_shapes t) k) (never_same p q n))
+    by (Other n j) = seen_exchanged t (list.after most t (calls.Exchange p q)) p q f k ∙ sym (ap (λ (b : Bool). changed (swap_change (not b) p q) (tree_shapes t) k) (never_same p q n))
       where
         r : Exchanges t p q
-        r = exchange_exchanges t p q is none n
+        r = exchange_exchanges most t p q is none n
 
         there : (l : Key) (o : Option Node) → is_missing (shape_of t l o) ≡ false → is_some o ≡ true
         there l None e = cc
@@ -178,45 +178,45 @@ exchange_tree t is p q none k = by (same_or p q)
         both None None (Some s) (Some u) h = (refl, refl)
 
         found : (is_missing (tree_shapes t p) ≡ false) × (is_missing (tree_shapes t q) ≡ false)
-        found = both (parents_resolution t p) (parents_resolution t q) (tree_shapes t p) (tree_shapes t q) (row_none t (calls.Exchange p q) none).1
+        found = both (parents_resolution t p) (parents_resolution t q) (tree_shapes t p) (tree_shapes t q) (row_none most t (calls.Exchange p q) none).1
 
-        f : Exchanged t (list.after t (calls.Exchange p q)) p q
+        f : Exchanged t (list.after most t (calls.Exchange p q)) p q
         f = record {
           sorted = true_T is.sorted;
-          new_sorted = true_T (stays_a_tree t (calls.Exchange p q) is).sorted;
-          moved = exchanges_swap.swapped t p q is none n;
+          new_sorted = true_T (stays_a_tree most t (calls.Exchange p q) is).sorted;
+          moved = exchanges_swap.swapped most t p q is none n;
           aside = (r.beside.there, r.beside.back);
           one = there p (look t p) found.0;
           other = there q (look t q) found.1;
         }
 
-after_none : (t : Tree) (call : Call) → fault t call ≡ None → list.after t call ≡ change t call
+after_none : (most : ℕ) (t : Tree) (call : Call) → fault most t call ≡ None → list.after most t call ≡ change most t call
 unfolding list.after
-after_none t call h = ap (λ (e : Option Errno). list.if_sound e t (change t call)) h
+after_none most t call h = ap (λ (e : Option Errno). list.if_sound e t (change most t call)) h
 
 -- each call without an error
-changes_same : (t : Tree) → IsTree t → (call : Call) → fault t call ≡ None → (k : Key) → tree_shapes (change t call) k ≡ changed (change_in (tree_shapes t) (form call)) (tree_shapes t) k
-changes_same t is (calls.Mkdir p) none k = make_tree t is p trees.Dir (Dir []) (A_dir refl refl) (in_more Mkdir p (row_none t (calls.Mkdir p) none).0) (mkdir_makes t p is none) k
-changes_same t is (calls.Mknod p) none k = make_tree t is p (trees.File []) (File []) (A_file [] refl refl) (in_more Mknod p (row_none t (calls.Mknod p) none).0) (mknod_makes t p is none) k
-changes_same t is (calls.Unlink p) none k = remove_tree t is p (in_more Unlink p (row_none t (calls.Unlink p) none).0) (entry_parent t is Unlink p (row_none t (calls.Unlink p) none).1) k
-changes_same t is (calls.Rmdir p) none k = remove_tree t is p (in_more Rmdir p (row_none t (calls.Rmdir p) none).0) (entry_parent t is Rmdir p (row_none t (calls.Rmdir p) none).1) k
-changes_same t is (calls.Rename p q) none k =
-    let fits = (row_none t (calls.Rename p q) none).0 in
-    ap (λ (s : Tree). tree_shapes s k) (sym (after_none t (calls.Rename p q) none)) ∙ rename_tree t is p q none (from_more pairs.Rename p q fits) (to_more pairs.Rename p q fits) k
-changes_same t is (calls.Exchange p q) none k = ap (λ (s : Tree). tree_shapes s k) (sym (after_none t (calls.Exchange p q) none)) ∙ exchange_tree t is p q none k
-changes_same t is (calls.Stat p) none k = refl
-changes_same t is (calls.Readdir p) none k = refl
-changes_same t is (calls.Read p off count) none k = refl
-changes_same t is (calls.Write p off bytes) none k = write_tree t is p off bytes (write_writes t p off bytes is none) k
-changes_same t is (calls.Truncate p size) none k = fill_tree t is p (resized (bytes_of (tree_shapes t p)) size) (truncate_writes t p size is none) k
+changes_same : (most : ℕ) (t : Tree) → IsTree t → (call : Call) → fault most t call ≡ None → (k : Key) → tree_shapes (change most t call) k ≡ changed (change_in (tree_shapes t) (form most call)) (tree_shapes t) k
+changes_same most t is (calls.Mkdir p) none k = make_tree t is p trees.Dir (Dir []) (A_dir refl refl) (in_more Mkdir p (row_none most t (calls.Mkdir p) none).0) (mkdir_makes most t p is none) k
+changes_same most t is (calls.Mknod p) none k = make_tree t is p (trees.File []) (File []) (A_file [] refl refl) (in_more Mknod p (row_none most t (calls.Mknod p) none).0) (mknod_makes most t p is none) k
+changes_same most t is (calls.Unlink p) none k = remove_tree t is p (in_more Unlink p (row_none most t (calls.Unlink p) none).0) (entry_parent t is Unlink p (row_none most t (calls.Unlink p) none).1) k
+changes_same most t is (calls.Rmdir p) none k = remove_tree t is p (in_more Rmdir p (row_none most t (calls.Rmdir p) none).0) (entry_parent t is Rmdir p (row_none most t (calls.Rmdir p) none).1) k
+changes_same most t is (calls.Rename p q) none k =
+    let fits = (row_none most t (calls.Rename p q) none).0 in
+    ap (λ (s : Tree). tree_shapes s k) (sym (after_none most t (calls.Rename p q) none)) ∙ rename_tree most t is p q none (from_more pairs.Rename p q fits) (to_more pairs.Rename p q fits) k
+changes_same most t is (calls.Exchange p q) none k = ap (λ (s : Tree). tree_shapes s k) (sym (after_none most t (calls.Exchange p q) none)) ∙ exchange_tree most t is p q none k
+changes_same most t is (calls.Stat p) none k = refl
+changes_same most t is (calls.Readdir p) none k = refl
+changes_same most t is (calls.Read p off count) none k = refl
+changes_same most t is (calls.Write p off bytes) none k = write_tree most t is p off bytes (write_writes most t p off bytes is none) k
+changes_same most t is (calls.Truncate p size) none k = fill_tree t is p (resized (bytes_of (tree_shapes t p)) size) (truncate_writes most t p size is none) k
 
 pub trees_as_maps : TreesAsMaps
 unfolding list.reply list.after fault
-trees_as_maps t call is = (reply_is t is call, go (by_text (form call)) (row t call) refl refl)
+trees_as_maps most t call is = (reply_is most t is call, go (by_text (form most call)) (row most t call) refl refl)
   where
-    go : (x y : Option Errno) → by_text (form call) ≡ x → row t call ≡ y → tree_shapes (list.if_sound (or_else x y) t (change t call)) ≡ changed (if_sound x (looked (tree_shapes t) (form call))).1 (tree_shapes t)
+    go : (x y : Option Errno) → by_text (form most call) ≡ x → row most t call ≡ y → tree_shapes (list.if_sound (or_else x y) t (change most t call)) ≡ changed (if_sound x (looked (tree_shapes t) (form most call))).1 (tree_shapes t)
     go (Some e) y i h = refl
-    go None (Some e) i h = sym (ap (λ (r : Reply × Change). changed r.1 (tree_shapes t)) (looked_fails (tree_shapes t) (form call) e h))
+    go None (Some e) i h = sym (ap (λ (r : Reply × Change). changed r.1 (tree_shapes t)) (looked_fails (tree_shapes t) (form most call) e h))
     go None None i h =
-        let none : fault t call ≡ None = ap₂ or_else i h in
-        fun_ext (λ k. changes_same t is call none k) ∙ sym (ap (λ (r : Reply × Change). changed r.1 (tree_shapes t)) (looked_done t (form call) h))
+        let none : fault most t call ≡ None = ap₂ or_else i h in
+        fun_ext (λ k. changes_same most t is call none k) ∙ sym (ap (λ (r : Reply × Change). changed r.1 (tree_shapes t)) (looked_done t (form most call) h))
