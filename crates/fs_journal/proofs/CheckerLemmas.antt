@@ -11,8 +11,8 @@ use Rattle.fs_journal.specs.declared.calls.Calls.{Calls}
 use Rattle.fs_timeline.specs.declared.entry.Entry.TheVariants.{Begin, Commit, Return}
 use Rattle.fs_timeline.specs.declared.verdict.FaultKind.{FaultKind}
 use Rattle.fs_timeline.specs.declared.verdict.FaultKind.TheVariants.{BeginTwice, SeatBusy}
-use Rattle.fs_calls.specs.Tree.{Tree}
-use Rattle.fs_calls.specs.Outcomes.{reply, after}
+use Rattle.fs_calls.specs.Starts.{Start}
+use Rattle.fs_calls.specs.Outcomes.{reply_at, called}
 use Rattle.fs_journal.specs.code.Calls.{begun_at, call_in, due_in, is_back}
 use Rattle.fs_timeline.specs.JournalStates.{JournalState, taken_in, played, is_waiting, known_fault, return_fault, changed}
 use Rattle.fs_journal.specs.code.Checkers.{known}
@@ -60,10 +60,10 @@ pub has_reply : (k : JournalState) (c : ℕ) (r : Reply) → known_fault k (Retu
 has_reply k c r h = committed (k.replies c) (k.returned c) r h
 
 -- what is known, by its parts
-knowledge_by : (calls calls2 : ℕ → Option Call) (replies replies2 : ℕ → Option Reply) (returned returned2 : ℕ → Bool) (last last2 : ℕ → Option ℕ) (tree tree2 : Tree)
-    → calls ≡ calls2 → replies ≡ replies2 → returned ≡ returned2 → last ≡ last2 → tree ≡ tree2
-    → ◌≡◌ {A = JournalState} (record { calls = calls; replies = replies; returned = returned; last = last; tree = tree }) (record { calls = calls2; replies = replies2; returned = returned2; last = last2; tree = tree2 })
-knowledge_by calls calls2 replies replies2 returned returned2 last last2 tree tree2 a b c d e = rw (a, b, c, d, e) refl
+knowledge_by : (calls calls2 : ℕ → Option Call) (replies replies2 : ℕ → Option Reply) (returned returned2 : ℕ → Bool) (last last2 : ℕ → Option ℕ) (now now2 : Start)
+    → calls ≡ calls2 → replies ≡ replies2 → returned ≡ returned2 → last ≡ last2 → now ≡ now2
+    → ◌≡◌ {A = JournalState} (record { calls = calls; replies = replies; returned = returned; last = last; now = now }) (record { calls = calls2; replies = replies2; returned = returned2; last = last2; now = now2 })
+knowledge_by calls calls2 replies replies2 returned returned2 last last2 now now2 a b c d e = rw (a, b, c, d, e) refl
 
 asks : {A : Type 0} (ask : Option Begun → A) (old new : ℕ → Option Begun) (c : ℕ) (o : Option Begun) → new ≡ changed old c o
     → ◌≡◌ {A = ℕ → A} (λ q. ask (new q)) (changed (λ q. ask (old q)) c (ask o))
@@ -82,7 +82,7 @@ back_of_none : (o : Option Begun) → call_in o ≡ None → is_back o ≡ false
 back_of_none None h = refl
 back_of_none (Some begun) h = absurd (cc)
 
-pub knows_begin : (old new : Calls) (last last2 : BTreeMap ℕ ℕ) (tree : Tree) (c seat : ℕ) (begun : Begun) → begun.due ≡ None → begun.returned ≡ false
+pub knows_begin : (old new : Calls) (last last2 : BTreeMap ℕ ℕ) (tree : Start) (c seat : ℕ) (begun : Begun) → begun.due ≡ None → begun.returned ≡ false
     → call_in (begun_at old c) ≡ None → begun_at new ≡ changed (begun_at old) c (Some begun) → Updates nat_cmp last last2 seat (Some c)
     → known (record { calls = new; last = last2; tree = tree }) ≡ taken_in (known (record { calls = old; last = last; tree = tree })) (Begin c seat begun.call.now)
 knows_begin old new last last2 tree c seat begun due back none h seats =
@@ -94,13 +94,13 @@ knows_begin old new last last2 tree c seat begun due back none h seats =
 commits : (o : Option Begun) (R : Begun → Type 0) (begun : Begun) → o ≡ Some begun → IfSome o R → R begun
 commits o R begun is h = subst (λ p. IfSome p R) is h
 
-pub knows_commit : (old new : Calls) (last : BTreeMap ℕ ℕ) (tree : Tree) (c : ℕ) (begun : Begun) → begun_at old c ≡ Some begun
-    → IfSome (begun_at old c) (λ b. begun_at new ≡ changed (begun_at old) c (Some (record b { due = Some (reply tree begun.call.now) })))
-    → (tree2 : Tree) → tree2 ≡ after tree begun.call.now
+pub knows_commit : (old new : Calls) (last : BTreeMap ℕ ℕ) (tree : Start) (c : ℕ) (begun : Begun) → begun_at old c ≡ Some begun
+    → IfSome (begun_at old c) (λ b. begun_at new ≡ changed (begun_at old) c (Some (record b { due = Some (reply_at tree begun.call.now) })))
+    → (tree2 : Start) → tree2 ≡ called tree begun.call.now
     → known (record { calls = new; last = last; tree = tree2 }) ≡ taken_in (known (record { calls = old; last = last; tree = tree })) (Commit c)
 knows_commit old new last tree c begun is has tree2 grown =
     let there = ap call_in is in
-    let h = commits (begun_at old c) (λ b. begun_at new ≡ changed (begun_at old) c (Some (record b { due = Some (reply tree begun.call.now) }))) begun is has in
+    let h = commits (begun_at old c) (λ b. begun_at new ≡ changed (begun_at old) c (Some (record b { due = Some (reply_at tree begun.call.now) }))) begun is has in
     knowledge_by _ _ _ _ _ _ _ _ _ _ (keeps call_in (begun_at old) (begun_at new) c _ h (sym there))
     (asks due_in (begun_at old) (begun_at new) c _ h)
     (keeps is_back (begun_at old) (begun_at new) c _ h (sym (ap is_back is))) refl grown
@@ -117,7 +117,7 @@ ended : (o : Option Begun) (R : Begun → Type 0) → IsSome o → IfSome o R �
 ended None R h r = absurd (cc)
 ended (Some begun) R h r = (begun, refl, r)
 
-pub knows_end : (old new : Calls) (last : BTreeMap ℕ ℕ) (tree : Tree) (c : ℕ) (r : Reply) → IsSome (begun_at old c)
+pub knows_end : (old new : Calls) (last : BTreeMap ℕ ℕ) (tree : Start) (c : ℕ) (r : Reply) → IsSome (begun_at old c)
     → IfSome (begun_at old c) (λ begun. begun_at new ≡ changed (begun_at old) c (Some (record begun { returned = true })))
     → known (record { calls = new; last = last; tree = tree }) ≡ taken_in (known (record { calls = old; last = last; tree = tree })) (Return c r)
 knows_end old new last tree c r there h =

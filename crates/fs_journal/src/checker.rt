@@ -1,7 +1,8 @@
 //! The checker of journals.
 
 ghost use Rattle.std.specs.Prelude.{◌≡◌, ◌↔◌, true, [], Some, None, IsSome, IfOk, OnOk};
-ghost use Rattle.fs_calls.specs.Tree.{root_tree};
+ghost use Rattle.fs_names.specs.declared.limits.Limits.TheVariants.{V2};
+ghost use Rattle.fs_calls.specs.Starts.{root_start};
 ghost use Rattle.fs_timeline.specs.Timeline.{IsLawful};
 ghost use Rattle.fs_timeline.specs.Verdicts.{verdict};
 ghost use Rattle.fs_timeline.specs.Laws.{NamesFirstFault};
@@ -142,7 +143,7 @@ impl<'a> Checker<'a> {
     }
 }
 
-/// The verdict on a journal that begins at a tree, which is played on: over the entries once, up to the first fault.
+/// The verdict on a journal that begins at a tree, by the limits of that tree, which is played on: over the entries once, up to the first fault.
 pub fn check_on(alloc: Global, start: SeqTree, entries: &[Entry]) -> Result<Verdict, AllocError>
     ensures verdict { IfOk result (λ v. v ≡ verdict start entries.now) }
     ensures lawful { IfOk result (λ v. (v ≡ Verdict.Lawful) ↔ IsLawful start entries.now) }
@@ -158,17 +159,18 @@ pub fn check_on(alloc: Global, start: SeqTree, entries: &[Entry]) -> Result<Verd
     Ok(Verdict::Lawful)
 }
 
-/// The verdict on a journal that begins at the root alone. It goes over the entries once, up to the first fault, and
-/// plays each call on a sequential tree where it commits.
+/// The verdict on a journal that begins at the root alone, by the limits of the second version. It goes over the entries
+/// once, up to the first fault, and plays each call on a sequential tree where it commits.
 pub fn check(alloc: Global, entries: &[Entry]) -> Result<Verdict, AllocError>
-    ensures verdict { IfOk result (λ v. v ≡ verdict root_tree entries.now) }
-    ensures lawful { IfOk result (λ v. (v ≡ Verdict.Lawful) ↔ IsLawful root_tree entries.now) }
-    ensures first_fault { IfOk result (NamesFirstFault root_tree entries.now) }
+    ensures verdict { IfOk result (λ v. v ≡ verdict (root_start V2) entries.now) }
+    ensures lawful { IfOk result (λ v. (v ≡ Verdict.Lawful) ↔ IsLawful (root_start V2) entries.now) }
+    ensures first_fault { IfOk result (NamesFirstFault (root_start V2) entries.now) }
 {
     check_on(alloc, SeqTree::new(alloc)?, entries)
 }
 
-/// The verdict on a journal that begins at a tree, which stays: its calls are played on a copy of it.
+/// The verdict on a journal that begins at a tree, by the limits of that tree, which stays: its calls are played on a copy
+/// of it.
 pub fn check_from(alloc: Global, start: &SeqTree, entries: &[Entry]) -> Result<Verdict, AllocError>
     ensures verdict { IfOk result (λ v. v ≡ verdict start.now entries.now) }
     ensures lawful { IfOk result (λ v. (v ≡ Verdict.Lawful) ↔ IsLawful start.now entries.now) }

@@ -2,11 +2,10 @@
 use Rattle.std.proofs.Common.{◌≡◌, List, [], ◌∷◌, ◌++◌, length, Option, Some, None, IfSome, Result, Ok, Err, OnErr, refl, ap, sym, ◌∙◌, subst, arith, length-append}
 use mathlib.Core.List.{IsPrefix}
 use Rattle.logbook.specs.Pages.{Book}
-use Rattle.fs_calls.specs.Tree.{Tree}
-use Rattle.fs_calls.specs.Outcomes.{play}
-use Rattle.fs_calls.specs.Outcomes as tree
+use Rattle.fs_calls.specs.Starts.{Start}
+use Rattle.fs_calls.specs.Outcomes.{called, next_start}
 use Rattle.fs_calls.specs.declared.call.Call.{Call}
-use Rattle.fs_timeline.proofs.AppendLemmas.{play-push}
+use Rattle.fs_timeline.proofs.AppendLemmas.{next_start-push}
 use Rattle.fs_observe.specs.declared.history.Noted.{Noted}
 use Rattle.fs_observe.specs.declared.history.Noted.TheVariants.{Played}
 use Rattle.fs_observe.specs.declared.shown.Shown.{Shown}
@@ -41,11 +40,11 @@ played_next x o taken h log next =
     let noted : IsNoted taken = subst (λ (l : List Noted). IsNoted l) log h.0 in
     let calls : calls_of o.token.log ≡ calls_of taken ++ o.call ∷ [] = calls_push taken o.token.log o.call next in
     let start : start_of o.token.log ≡ start_of taken = start_push taken o.token.log o.call noted next in
-    let now : x.tree ≡ play (start_of taken) (calls_of taken) = h.2 ∙ ap (λ (l : List Noted). play (start_of l) (calls_of l)) log in
-    let then_ : tree.after x.tree o.call ≡ play (start_of taken) (calls_of taken ++ o.call ∷ []) = ap (λ t. tree.after t o.call) now ∙ sym (play-push (start_of taken) (calls_of taken) o.call) in (
+    let now : x.tree ≡ next_start (start_of taken) (calls_of taken) = h.2 ∙ ap (λ (l : List Noted). next_start (start_of l) (calls_of l)) log in
+    let then_ : called x.tree o.call ≡ next_start (start_of taken) (calls_of taken ++ o.call ∷ []) = ap (λ (t : Start). called t o.call) now ∙ sym (next_start-push (start_of taken) (calls_of taken) o.call) in (
       subst (λ (l : List Noted). IsNoted l) (sym next) (noted_push taken o.call noted),
       omega (arith, h.1, ap (λ (l : List Noted). length (calls_of l)) log, length_push taken o.token.log o.call next),
-      then_ ∙ ap (λ (l : List Call). play (start_of taken) l) (sym calls) ∙ ap (λ (t : Tree). play t (calls_of o.token.log)) (sym start),
+      then_ ∙ ap (λ (l : List Call). next_start (start_of taken) l) (sym calls) ∙ ap (λ (t : Start). next_start t (calls_of o.token.log)) (sym start),
     )
 
 -- of copies that have played nothing

@@ -1,8 +1,8 @@
 -- What a history says: the tree at which it starts, and the calls that were played on it.
 use Rattle.std.specs.Prelude.{◌≡◌, List, [], ◌∷◌}
 use mathlib.Core.List.{IsPrefix}
-use Rattle.fs_calls.specs.Tree.{Tree, root_tree}
-use Rattle.fs_calls.specs.Starts.{Start}
+use Rattle.fs_names.specs.declared.limits.Limits.TheVariants.{V1}
+use Rattle.fs_calls.specs.Starts.{Start, root_start}
 use Rattle.fs_calls.specs.declared.call.Call.{Call}
 use Rattle.fs_observe.specs.declared.history.Noted.{Noted}
 use Rattle.fs_observe.specs.declared.history.Noted.TheVariants.{Began, Played}
@@ -12,10 +12,10 @@ pub record Past : Type 0 where
   pub start : Start
   pub list : List Call
 
-abbrev pub start_of : List Noted → Tree
-start_of [] = root_tree
+abbrev pub start_of : List Noted → Start
+start_of [] = root_start V1
 start_of (Began tree ∷ log) = tree
-start_of (Played call ∷ log) = root_tree
+start_of (Played call ∷ log) = root_start V1
 
 abbrev pub calls_of : List Noted → List Call
 calls_of [] = []

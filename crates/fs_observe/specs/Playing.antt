@@ -4,23 +4,22 @@ use mathlib.Core.Option.{some}
 use lib.ListN.{get_elem?}
 use Rattle.logbook.specs.Pages.{Book}
 use Rattle.logbook.specs.declared.tokens.Seen.{Seen}
-use Rattle.fs_calls.specs.Outcomes as tree
-use Rattle.fs_calls.specs.Outcomes.{play}
+use Rattle.fs_calls.specs.Outcomes.{called, next_start}
 use Rattle.fs_observe.specs.declared.shown.Shown.{Shown}
 use Rattle.fs_observe.specs.declared.shown.Op.{Op}
 use Rattle.fs_observe.specs.Pasts.{start_of, calls_of, IsNoted}
 
 -- what is shown after one more call
 abbrev pub after : Shown → Op → Shown
-after s op = record s { tree = tree.after s.tree op.call; count = s.count + 1; token = op.token }
+after s op = record s { tree = called s.tree op.call; count = s.count + 1; token = op.token }
 
 -- what is shown once the calls that wait are played
 abbrev pub total : Shown → List Op → Shown
 total shown ops = fold after shown ops
 
--- the tree is what the calls play on the start tree, and they are counted
+-- the tree is what the calls play on the start tree, with its limits, and they are counted
 abbrev pub IsPlayed : Shown → Type 0
-IsPlayed x = IsNoted x.token.log × (x.count ≡ length (calls_of x.token.log)) × (x.tree ≡ play (start_of x.token.log) (calls_of x.token.log))
+IsPlayed x = IsNoted x.token.log × (x.count ≡ length (calls_of x.token.log)) × (x.tree ≡ next_start (start_of x.token.log) (calls_of x.token.log))
 
 module _ {E A P : Type 0} where
   -- each token is of this book

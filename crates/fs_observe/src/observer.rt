@@ -1,7 +1,7 @@
 //! Readers that wait for nobody.
 
 ghost use Rattle.std.specs.Prelude.{◌≡◌, ◌∷◌, [], length, IfOk, OnErr, IsTrue};
-ghost use Rattle.fs_calls.specs.Outcomes.{play, reply};
+ghost use Rattle.fs_calls.specs.Outcomes.{next_start, reply_at};
 ghost use Rattle.fs_seq.specs.Looks.{is_look};
 ghost use Rattle.left_right.specs.Sides.{view};
 ghost use Rattle.fs_observe.specs.Observed.{Knows};
@@ -97,7 +97,7 @@ fn answer_by<N: Named>(
     requires look { IsTrue (is_look call.now) }
     requires book { shown.now.token.book ≡ N.book }
     requires played { IsPlayed shown.now }
-    ensures { IfOk result (λ r. GoesOn (past_of kept.now) (past_of r.1) × (r.0 ≡ reply (play (start_of r.1) (calls_of r.1)) call.now)) }
+    ensures { IfOk result (λ r. GoesOn (past_of kept.now) (past_of r.1) × (r.0 ≡ reply_at (next_start (start_of r.1) (calls_of r.1)) call.now)) }
 {
     let front = front_in(shown, kept)?;
     let reply = shown.tree.look(alloc, call)?;
@@ -113,7 +113,7 @@ fn look_in<N: Named>(
     requires look { IsTrue (is_look asked.1.now) }
     requires knows { Knows N.book (view reader.place) }
     ensures knows { view result.0.place ≡ view reader.place }
-    ensures answer { IfOk result.1 (λ r. GoesOn (past_of asked.entry.2.now) (past_of r.1) × (r.0 ≡ reply (play (start_of r.1) (calls_of r.1)) asked.entry.1.now)) }
+    ensures answer { IfOk result.1 (λ r. GoesOn (past_of asked.entry.2.now) (past_of r.1) × (r.0 ≡ reply_at (next_start (start_of r.1) (calls_of r.1)) asked.entry.1.now)) }
 {
     let (alloc, call, kept) = asked;
     match reader.enter_as::<Sees>() {
@@ -157,7 +157,7 @@ impl<'a, N: Named> Observer<'a, N> {
     fn look(&mut self, alloc: Global, call: &Call) -> Result<Reply, AllocError>
         requires { IsTrue (is_look call.now) }
         ensures kept { IfOk result (λ r. GoesOn self.old self.new) }
-        ensures reply { IfOk result (λ r. r ≡ reply (play self.new.start self.new.list) call.now) }
+        ensures reply { IfOk result (λ r. r ≡ reply_at (next_start self.new.start self.new.list) call.now) }
         ensures err { OnErr result (self.new ≡ self.old) }
     {
         let Observer { reader, kept, .. } = self;
@@ -171,20 +171,20 @@ impl<'a, N: Named> Observer<'a, N> {
     /// list stays.
     pub fn stat(&mut self, alloc: Global, path: &Path) -> Result<Reply, AllocError>
         ensures kept { IfOk result (λ r. GoesOn self.old self.new) }
-        ensures reply { IfOk result (λ r. r ≡ reply (play self.new.start self.new.list) (Call.Stat path.now)) }
+        ensures reply { IfOk result (λ r. r ≡ reply_at (next_start self.new.start self.new.list) (Call.Stat path.now)) }
         ensures err { OnErr result (self.new ≡ self.old) }
     {
-        let call = Call::Stat(path.copy(alloc)?);
+        let call = Call::Stat(path.copy()?);
         self.look(alloc, &call)
     }
 
     /// All names of a directory in byte order, by a published list in the same way.
     pub fn readdir(&mut self, alloc: Global, path: &Path) -> Result<Reply, AllocError>
         ensures kept { IfOk result (λ r. GoesOn self.old self.new) }
-        ensures reply { IfOk result (λ r. r ≡ reply (play self.new.start self.new.list) (Call.Readdir path.now)) }
+        ensures reply { IfOk result (λ r. r ≡ reply_at (next_start self.new.start self.new.list) (Call.Readdir path.now)) }
         ensures err { OnErr result (self.new ≡ self.old) }
     {
-        let call = Call::Readdir(path.copy(alloc)?);
+        let call = Call::Readdir(path.copy()?);
         self.look(alloc, &call)
     }
 
@@ -197,10 +197,10 @@ impl<'a, N: Named> Observer<'a, N> {
         count: u64,
     ) -> Result<Reply, AllocError>
         ensures kept { IfOk result (λ r. GoesOn self.old self.new) }
-        ensures reply { IfOk result (λ r. r ≡ reply (play self.new.start self.new.list) (Call.Read path.now off count)) }
+        ensures reply { IfOk result (λ r. r ≡ reply_at (next_start self.new.start self.new.list) (Call.Read path.now off count)) }
         ensures err { OnErr result (self.new ≡ self.old) }
     {
-        let call = Call::Read(path.copy(alloc)?, off, count);
+        let call = Call::Read(path.copy()?, off, count);
         self.look(alloc, &call)
     }
 

@@ -94,9 +94,9 @@ less_by_index Less b e f = refl
 less_by_index Equal b e f = absurd (cc)
 less_by_index Greater b e f = absurd (cc)
 
-module _ (g : Slots) (forest : IsForest g) (row : Row) where
+module _ (most : ℕ) (g : Slots) (forest : IsForest g) (row : Row) where
   -- a row without names
-  pub fails_at_root : length (key_of row) ≡ 0 → fits (tree_of g) row ≡ false
+  pub fails_at_root : length (key_of row) ≡ 0 → fits most (tree_of g) row ≡ false
   fails_at_root none = first_fails _ _ (first_fails _ _ (first_fails _ _ (not_below_root (last_key (tree_of g)) (key_of row) none)))
 
   -- a row in a directory
@@ -105,7 +105,7 @@ module _ (g : Slots) (forest : IsForest g) (row : Row) where
     parent_is = ap parent_of split ∙ parent_of-snoc d x
 
     -- a row without a parent
-    pub fails_lost : walk g d ≡ None → fits (tree_of g) row ≡ false
+    pub fails_lost : walk g d ≡ None → fits most (tree_of g) row ≡ false
     fails_lost lost = first_fails _ _ (first_fails _ _ (second_fails _ _ (ap is_dir (ap (tree_shapes (tree_of g)) parent_is ∙ seen_none g d forest lost))))
 
     module _ (dir : ℕ) (w : walk g d ≡ Some dir) where
@@ -114,7 +114,7 @@ module _ (g : Slots) (forest : IsForest g) (row : Row) where
       seen_parent at e = ap (tree_shapes (tree_of g)) parent_is ∙ seen_at g d dir forest w ∙ ap shape_of e
 
       -- a row in a file
-      pub fails_in_file : (bytes : List ℕ) → place_at g dir ≡ Some (File bytes) → fits (tree_of g) row ≡ false
+      pub fails_in_file : (bytes : List ℕ) → place_at g dir ≡ Some (File bytes) → fits most (tree_of g) row ≡ false
       fails_in_file bytes e = first_fails _ _ (first_fails _ _ (second_fails _ _ (ap is_dir (seen_parent (File bytes) e))))
 
       -- whether the parent is full
@@ -122,7 +122,7 @@ module _ (g : Slots) (forest : IsForest g) (row : Row) where
       full_by links e = ap is_full (seen_parent (Dir links) e) ∙ ap (nat_le 256) (length-map links (λ (l : Name × ℕ). l.0))
 
       -- a row in a full directory
-      pub fails_full : (links : List (Name × ℕ)) → place_at g dir ≡ Some (Dir links) → nat_le 256 (length links) ≡ true → fits (tree_of g) row ≡ false
+      pub fails_full : (links : List (Name × ℕ)) → place_at g dir ≡ Some (Dir links) → nat_le 256 (length links) ≡ true → fits most (tree_of g) row ≡ false
       fails_full links e full = first_fails _ _ (second_fails _ _ (ap not (full_by links e ∙ full)))
 
       -- a name in order is not there yet
@@ -135,8 +135,8 @@ module _ (g : Slots) (forest : IsForest g) (row : Row) where
           let wrong : false ≡ true = ap is_some (sym none) ∙ some in cc
 
       -- a row that fits
-      pub is_place : (links : List (Name × ℕ)) (i : ℕ) → key_cmp (last_key (tree_of g)) (key_of row) ≡ Less → place_at g dir ≡ Some (Dir links) → nat_le 256 (length links) ≡ false → may_have row.kind row.bytes.items ≡ true → BelongsAt links x i
-          → IsPlaceOf g row dir i x
+      pub is_place : (links : List (Name × ℕ)) (i : ℕ) → key_cmp (last_key (tree_of g)) (key_of row) ≡ Less → place_at g dir ≡ Some (Dir links) → nat_le 256 (length links) ≡ false → may_have most row.kind row.bytes.items ≡ true → BelongsAt links x i
+          → IsPlaceOf most g row dir i x
       is_place links i less e room may belongs =
           let same : links ≡ links_at g dir = sym (links_got g dir _ e) in
           record {
@@ -170,10 +170,10 @@ less_if Equal e = absurd (cc)
 less_if Greater e = absurd (cc)
 
 -- a row that fits comes behind the last key
-pub in_order : (t : Tree) (row : Row) → fits t row ≡ true → key_cmp (last_key t) (key_of row) ≡ Less
-in_order t row h = less_if _ (first_holds _ _ (first_holds _ _ (first_holds _ _ h)))
+pub in_order : (most : ℕ) (t : Tree) (row : Row) → fits most t row ≡ true → key_cmp (last_key t) (key_of row) ≡ Less
+in_order most t row h = less_if _ (first_holds _ _ (first_holds _ _ (first_holds _ _ h)))
 
-module _ (g g' : Slots) (forest : IsForest g) (row : Row) (dir i : ℕ) (x : Name) (node : nodes.the_data) (bare : links_of (Some (place node)) ≡ []) (at : IsPlaceOf g row dir i x) (new : Attaches g g' dir i x (place node)) where
+module _ (most : ℕ) (g g' : Slots) (forest : IsForest g) (row : Row) (dir i : ℕ) (x : Name) (node : nodes.the_data) (bare : links_of (Some (place node)) ≡ []) (at : IsPlaceOf most g row dir i x) (new : Attaches g g' dir i x (place node)) where
   linking : Sets g new.between dir (Some (Dir (put name_cmp x new.number (links_at g dir))))
   linking = subst (λ ls. Sets g new.between dir (Some (Dir ls))) (sym (at.belongs.placed new.number)) new.linking
 
@@ -187,5 +187,5 @@ module _ (g g' : Slots) (forest : IsForest g) (row : Row) (dir i : ℕ) (x : Nam
       let k = key_of row in
       tree_made g new.between g' forest (place node) bare at.above dir at.parent (links_at g dir) at.directory x at.belongs.absent new.number new.free linking new.adding (tree_node node) (node_place node)
       ∙ ap (λ (key : Key). inserted (tree_of g) key (tree_node node)) (sym at.split)
-      ∙ inserted-last (tree_of g) k (tree_node node) (all_below (tree_of g) k (sorted-tree_of g) (in_order (tree_of g) row at.fits))
+      ∙ inserted-last (tree_of g) k (tree_node node) (all_below (tree_of g) k (sorted-tree_of g) (in_order most (tree_of g) row at.fits))
       ∙ ap (λ (n : Node). tree_of g ++ (k, n) ∷ []) is

@@ -3,11 +3,12 @@ use Rattle.std.proofs.Common.{◌≡◌, false, ◌||◌, [], ◌∷◌, length,
 use Rattle.fs_names.specs.Failures.{check, first_failure}
 use Rattle.fs_names.specs.Keys.{Key, is_root, is_proper_prefix}
 use Rattle.fs_names.proofs.FailureLemmas.{check-none}
-use Rattle.fs_calls.specs.Forms.{form, by_text}
+use Rattle.fs_calls.specs.Forms.{AtPair, by_text}
+use Rattle.fs_calls.specs.declared.target.PairCall.TheVariants as pairs
 use Rattle.fs_calls.specs.Rows.{exchange_errors, exchange_fault}
 use Rattle.fs_calls.specs.Sights.{Shape, tree_shapes}
 use Rattle.fs_calls.specs.Tree.{Tree}
-use Rattle.fs_calls.specs.Outcomes.{parents_resolution, fault}
+use Rattle.fs_calls.specs.Outcomes.{parents_resolution}
 use Rattle.fs_calls.specs.declared.call.Call.TheVariants.{Exchange}
 use Rattle.fs_calls.specs.declared.errno.Errno.{Errno}
 use Rattle.fs_calls.specs.declared.errno.Errno.TheVariants.{Ebusy, Einval}
@@ -16,16 +17,17 @@ use Rattle.fs_seq.specs.declared.nodes.Entry.{Entry}
 use Rattle.fs_seq.specs.declared.nodes.Spot.{Spot}
 use Rattle.fs_seq.specs.declared.nodes.Spot.TheVariants.{Taken, Free}
 use Rattle.fs_seq.specs.code.Slots.{Slots, tree_of, IsForest}
+use Rattle.fs_seq.specs.code.Effects.{HasFault}
 use Rattle.fs_seq.specs.code.Nodes.{LooksUp, IsAt, shape_there, entry_there}
 use Rattle.fs_seq.proofs.Spots.{has_names, spot_parents, spot_seen}
 use Rattle.fs_seq.proofs.Replies.{fault_by_row}
 
 -- the errors of an exchange, by all that is read
-by_sights : (t : Tree) (p q : Key) (source dest : Option Errno) (one other : Option Shape) → by_text (form (Exchange p q)) ≡ None
-    → parents_resolution t p ≡ source → parents_resolution t q ≡ dest → tree_shapes t p ≡ one → tree_shapes t q ≡ other → fault t (Exchange p q) ≡ exchange_fault source dest one other
-by_sights t p q source dest one other text a b c d = fault_by_row t (Exchange p q) (exchange_fault source dest one other) text (λ i. exchange_fault (a i) (b i) (c i) (d i))
+by_sights : (t : Tree) (p q : Key) (source dest : Option Errno) (one other : Option Shape) → by_text (AtPair pairs.Exchange p q) ≡ None
+    → parents_resolution t p ≡ source → parents_resolution t q ≡ dest → tree_shapes t p ≡ one → tree_shapes t q ≡ other → HasFault t (Exchange p q) (exchange_fault source dest one other)
+by_sights t p q source dest one other text a b c d most = fault_by_row most t (Exchange p q) (exchange_fault source dest one other) text (λ i. exchange_fault (a i) (b i) (c i) (d i))
 
-module _ (g : Slots) (forest : IsForest g) (p q : Key) (text : by_text (form (Exchange p q)) ≡ None) where
+module _ (g : Slots) (forest : IsForest g) (p q : Key) (text : by_text (AtPair pairs.Exchange p q) ≡ None) where
   -- neither path is the root
   roots : is_root p || is_root q ≡ false
   roots = check-none (is_root p || is_root q) Ebusy (all_none (check (is_root p || is_root q) Ebusy ∷ check (is_proper_prefix p q || is_proper_prefix q p) Einval ∷ []) text).0
@@ -39,15 +41,15 @@ module _ (g : Slots) (forest : IsForest g) (p q : Key) (text : by_text (form (Ex
   other_named = has_names q (or_second (is_root p) (is_root q) roots)
 
   -- the error of the first path's parent
-  pub lost : (e : Errno) → parents_resolution (tree_of g) p ≡ Some e → fault (tree_of g) (Exchange p q) ≡ Some e
+  pub lost : (e : Errno) → parents_resolution (tree_of g) p ≡ Some e → HasFault (tree_of g) (Exchange p q) (Some e)
   lost e h = by_sights (tree_of g) p q (Some e) _ _ _ text h refl refl refl
 
   -- the error of the second path's parent
-  pub other_lost : (e : Errno) (spot : Spot) → LooksUp g p (Ok spot) → parents_resolution (tree_of g) q ≡ Some e → fault (tree_of g) (Exchange p q) ≡ Some e
+  pub other_lost : (e : Errno) (spot : Spot) → LooksUp g p (Ok spot) → parents_resolution (tree_of g) q ≡ Some e → HasFault (tree_of g) (Exchange p q) (Some e)
   other_lost e spot at h = by_sights (tree_of g) p q None (Some e) _ _ text (spot_parents g forest p named spot at) h refl refl
 
   -- the errors of what stands at both
-  pub met : (one other : Spot) → LooksUp g p (Ok one) → LooksUp g q (Ok other) → fault (tree_of g) (Exchange p q) ≡ first_failure (exchange_errors (shape_there g one) (shape_there g other))
+  pub met : (one other : Spot) → LooksUp g p (Ok one) → LooksUp g q (Ok other) → HasFault (tree_of g) (Exchange p q) (first_failure (exchange_errors (shape_there g one) (shape_there g other)))
   met one other at to =
       by_sights (tree_of g) p q None None (shape_there g one) (shape_there g other) text (spot_parents g forest p named one at) (spot_parents g forest q other_named other to)
       (spot_seen g forest p named one at) (spot_seen g forest q other_named other to)

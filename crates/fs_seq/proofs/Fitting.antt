@@ -57,16 +57,16 @@ room_for t k there room =
     grind (arith, nat_tests)
 
 -- the bytes that a file of this row may have
-bytes_within : (kind : Kind) (bytes : List ℕ) (others : List ℕ) → may_have kind bytes ≡ true → node_of_kind kind bytes ≡ File others → length others ≤ 65536
-bytes_within kinds.Dir bytes others may e = absurd (cc)
-bytes_within kinds.File bytes others may e =
+bytes_within : (most : ℕ) (kind : Kind) (bytes : List ℕ) (others : List ℕ) → may_have most kind bytes ≡ true → node_of_kind kind bytes ≡ File others → length others ≤ most
+bytes_within most kinds.Dir bytes others may e = absurd (cc)
+bytes_within most kinds.File bytes others may e =
     let same : bytes ≡ others = cc in
-    let may : nat_le (length others) 65536 ≡ true = ap (λ bs. nat_le (length bs) 65536) (sym same) ∙ may in
+    let may : nat_le (length others) most ≡ true = ap (λ bs. nat_le (length bs) most) (sym same) ∙ may in
     grind (arith, nat_tests)
 
-module _ (t : Tree) (row : Row) (within : IsWithinLimits t) (fit : fits t row ≡ true) where
+module _ (most : ℕ) (t : Tree) (row : Row) (within : IsWithinLimits most t) (fit : fits most t row ≡ true) where
   all : AllBelow t (key_of row)
-  all = all_below t (key_of row) (true_T within.tree.sorted) (in_order t row fit)
+  all = all_below t (key_of row) (true_T within.tree.sorted) (in_order most t row fit)
 
   at_end : inserted t (key_of row) (row_of row).1 ≡ t ++ row_of row ∷ []
   at_end = inserted-last t (key_of row) (row_of row).1 all
@@ -95,32 +95,32 @@ module _ (t : Tree) (row : Row) (within : IsWithinLimits t) (fit : fits t row �
           let room : length (names_in t d) + 1 ≤ 256 = subst (λ (k : Key). length (names_in t k) + 1 ≤ 256) at parent_room in
           omega (arith, count (Some x) e)
 
-  bytes_next : (k : Key) (bytes : List ℕ) → look (t ++ row_of row ∷ []) k ≡ Some (File bytes) → length bytes ≤ 65536
+  bytes_next : (k : Key) (bytes : List ℕ) → look (t ++ row_of row ∷ []) k ≡ Some (File bytes) → length bytes ≤ most
   bytes_next k bytes e = go (same_key k (key_of row)) (sym (look-inserted t (key_of row) (row_of row).1 k) ∙ ap (λ (z : Tree). look z k) at_end ∙ e)
     where
-      go : (b : Bool) → cond {A = Option Node} b (Some (row_of row).1) (look t k) ≡ Some (File bytes) → length bytes ≤ 65536
-      go true h = bytes_within row.kind row.bytes.items bytes (second_holds _ _ fit) (let same : (row_of row).1 ≡ File bytes = cc in same)
+      go : (b : Bool) → cond {A = Option Node} b (Some (row_of row).1) (look t k) ≡ Some (File bytes) → length bytes ≤ most
+      go true h = bytes_within most row.kind row.bytes.items bytes (second_holds _ _ fit) (let same : (row_of row).1 ≡ File bytes = cc in same)
       go false h = within.bytes k bytes h
 
-  within_next : IsWithinLimits (t ++ row_of row ∷ [])
+  within_next : IsWithinLimits most (t ++ row_of row ∷ [])
   within_next = record { tree = tree_next; entries = entries_next; bytes = bytes_next }
 
 -- a row that may have its bytes is plain
-plain_by : (kind : Kind) (bytes : List ℕ) → may_have kind bytes ≡ true → not (is_dirs kind && has_any bytes) ≡ true
-plain_by kinds.Dir bytes e = e
-plain_by kinds.File bytes e = refl
+plain_by : (most : ℕ) (kind : Kind) (bytes : List ℕ) → may_have most kind bytes ≡ true → not (is_dirs kind && has_any bytes) ≡ true
+plain_by most kinds.Dir bytes e = e
+plain_by most kinds.File bytes e = refl
 
 -- rows that all fit
-all_fit : (t : Tree) (place : ℕ) (rows : List Row) → IsWithinLimits t → misfit_from t place rows ≡ None → IsWithinLimits (t ++ map row_of rows) × IsTrue (list_all is_plain rows)
-all_fit t place [] within e = (subst IsWithinLimits (sym (append-nil t)) within, refl)
-all_fit t place (row ∷ rows) within e = go (fits t row) refl e (λ next h. all_fit (t ++ row_of row ∷ []) (place + 1) rows next h)
+all_fit : (most : ℕ) (t : Tree) (place : ℕ) (rows : List Row) → IsWithinLimits most t → misfit_from most t place rows ≡ None → IsWithinLimits most (t ++ map row_of rows) × IsTrue (list_all is_plain rows)
+all_fit most t place [] within e = (subst (IsWithinLimits most) (sym (append-nil t)) within, refl)
+all_fit most t place (row ∷ rows) within e = go (fits most t row) refl e (λ next h. all_fit most (t ++ row_of row ∷ []) (place + 1) rows next h)
   where
-    go : (b : Bool) → fits t row ≡ b → cond {A = Option ℕ} b (misfit_from (t ++ row_of row ∷ []) (place + 1) rows) (Some place) ≡ None
-        → (IsWithinLimits (t ++ row_of row ∷ []) → misfit_from (t ++ row_of row ∷ []) (place + 1) rows ≡ None → IsWithinLimits ((t ++ row_of row ∷ []) ++ map row_of rows) × IsTrue (list_all is_plain rows))
-        → IsWithinLimits (t ++ row_of row ∷ map row_of rows) × IsTrue (is_plain row && list_all is_plain rows)
+    go : (b : Bool) → fits most t row ≡ b → cond {A = Option ℕ} b (misfit_from most (t ++ row_of row ∷ []) (place + 1) rows) (Some place) ≡ None
+        → (IsWithinLimits most (t ++ row_of row ∷ []) → misfit_from most (t ++ row_of row ∷ []) (place + 1) rows ≡ None → IsWithinLimits most ((t ++ row_of row ∷ []) ++ map row_of rows) × IsTrue (list_all is_plain rows))
+        → IsWithinLimits most (t ++ row_of row ∷ map row_of rows) × IsTrue (is_plain row && list_all is_plain rows)
     go true fit h later =
-        let rest = later (within_next t row within fit) h in
-        (subst IsWithinLimits (append_assoc t (row_of row ∷ []) (map row_of rows)) rest.0, both_hold _ _ (plain_by row.kind row.bytes.items (second_holds _ _ fit)) rest.1)
+        let rest = later (within_next most t row within fit) h in
+        (subst (IsWithinLimits most) (append_assoc t (row_of row ∷ []) (map row_of rows)) rest.0, both_hold _ _ (plain_by most row.kind row.bytes.items (second_holds _ _ fit)) rest.1)
     go false fit h later = absurd (cc)
 
 -- ---- the rows of a tree within the limits fit
@@ -184,11 +184,11 @@ room_left : (n more : ℕ) → n + (1 + more) ≤ 256 → not (nat_le 256 n) ≡
 room_left n more h = grind (arith, nat_tests)
 
 -- bytes within the limit
-bytes_fit : (kind : Kind) (bytes : List ℕ) → not (is_dirs kind && has_any bytes) ≡ true → ((others : List ℕ) → node_of_kind kind bytes ≡ File others → length others ≤ 65536) → may_have kind bytes ≡ true
-bytes_fit kinds.Dir bytes plain within = plain
-bytes_fit kinds.File bytes plain within = let small : length bytes ≤ 65536 = within bytes refl in grind (arith, nat_tests)
+bytes_fit : (most : ℕ) (kind : Kind) (bytes : List ℕ) → not (is_dirs kind && has_any bytes) ≡ true → ((others : List ℕ) → node_of_kind kind bytes ≡ File others → length others ≤ most) → may_have most kind bytes ≡ true
+bytes_fit most kinds.Dir bytes plain within = plain
+bytes_fit most kinds.File bytes plain within = let small : length bytes ≤ most = within bytes refl in grind (arith, nat_tests)
 
-module _ (e : Key × Node) (t : Tree) (key : Key) (kind : Kind) (bytes : List ℕ) (u : Tree) (within : IsWithinLimits (e ∷ (t ++ (key, node_of_kind kind bytes) ∷ u))) (plain : not (is_dirs kind && has_any bytes) ≡ true) where
+module _ (most : ℕ) (e : Key × Node) (t : Tree) (key : Key) (kind : Kind) (bytes : List ℕ) (u : Tree) (within : IsWithinLimits most (e ∷ (t ++ (key, node_of_kind kind bytes) ∷ u))) (plain : not (is_dirs kind && has_any bytes) ≡ true) where
   whole : Tree
   whole = (e ∷ t) ++ (key, node_of_kind kind bytes) ∷ u
 
@@ -234,24 +234,24 @@ module _ (e : Key × Node) (t : Tree) (key : Key) (kind : Kind) (bytes : List �
       let count : length (names_in ((e ∷ t) ++ (key, node_of_kind kind bytes) ∷ u) d) ≡ length (names_in (e ∷ t) d) + (1 + length (names_in u d)) =
       ap length (names_in-append (e ∷ t) ((key, node_of_kind kind bytes) ∷ u) d) ∙ length-append (names_in (e ∷ t) d) (names_in ((key, node_of_kind kind bytes) ∷ u) d)
       ∙ ap (λ o. length (names_in (e ∷ t) d) + length (with_name o (names_in u d))) named ∙ one_more (length (names_in (e ∷ t) d)) (length (names_in u d)) in
-      let most = within.entries d in
-      room_left (length (names_in (e ∷ t) d)) (length (names_in u d)) (omega (arith, count, most))
+      let full = within.entries d in
+      room_left (length (names_in (e ∷ t) d)) (length (names_in u d)) (omega (arith, count, full))
 
-  pub node_fits : fits_at (e ∷ t) key kind bytes ≡ true
+  pub node_fits : fits_at most (e ∷ t) key kind bytes ≡ true
   node_fits =
       let d = parent_of key in
       both_hold _ _
       (both_hold _ _
       (both_hold _ _ (ap is_lt less) (ap (λ o. is_dir (shapes.shape_of (e ∷ t) d o)) parent_before))
       (ap (λ o. not (is_full (shapes.shape_of (e ∷ t) d o))) parent_before ∙ has_room))
-      (bytes_fit kind bytes plain (λ others is. within.bytes key others (there ∙ ap Some is)))
+      (bytes_fit most kind bytes plain (λ others is. within.bytes key others (there ∙ ap Some is)))
 
 -- rows that follow others in a tree
-fit_all : (e : Key × Node) (t : Tree) (place : ℕ) (rows : List Row) → IsWithinLimits (e ∷ (t ++ map row_of rows)) → list_all is_plain rows ≡ true → misfit_from (e ∷ t) place rows ≡ None
-fit_all e t place [] within plain = refl
-fit_all e t place (row ∷ rows) within plain =
-    ap (λ b. cond {A = Option ℕ} b (misfit_from (e ∷ (t ++ row_of row ∷ [])) (place + 1) rows) (Some place)) (node_fits e t (key_of row) row.kind row.bytes.items (map row_of rows) within (first_holds _ _ plain))
-    ∙ fit_all e (t ++ row_of row ∷ []) (place + 1) rows (subst (λ z. IsWithinLimits (e ∷ z)) (sym (append_assoc t (row_of row ∷ []) (map row_of rows))) within) (second_holds _ _ plain)
+fit_all : (most : ℕ) (e : Key × Node) (t : Tree) (place : ℕ) (rows : List Row) → IsWithinLimits most (e ∷ (t ++ map row_of rows)) → list_all is_plain rows ≡ true → misfit_from most (e ∷ t) place rows ≡ None
+fit_all most e t place [] within plain = refl
+fit_all most e t place (row ∷ rows) within plain =
+    ap (λ b. cond {A = Option ℕ} b (misfit_from most (e ∷ (t ++ row_of row ∷ [])) (place + 1) rows) (Some place)) (node_fits most e t (key_of row) row.kind row.bytes.items (map row_of rows) within (first_holds _ _ plain))
+    ∙ fit_all most e (t ++ row_of row ∷ []) (place + 1) rows (subst (λ z. IsWithinLimits most (e ∷ z)) (sym (append_assoc t (row_of row ∷ []) (map row_of rows))) within) (second_holds _ _ plain)
 
 -- ---- the first row
 
@@ -262,8 +262,8 @@ root_of_first kinds.Dir bytes (x ∷ k) root dir = absurd (cc)
 root_of_first kinds.File bytes k root dir = absurd (cc)
 
 -- the root alone is within the limits
-root_within : IsWithinLimits root_tree
-root_within = record {
+root_within : (most : ℕ) → IsWithinLimits most root_tree
+root_within most = record {
   tree = played_trees_are_trees.0;
   entries = λ d. few (after_prefix d []) d refl;
   bytes = λ k bytes e. absurd (no_file (same_key k []) bytes (sym (look-find root_tree k) ∙ e));
@@ -287,8 +287,8 @@ dirs kinds.Dir bytes e = refl
 dirs kinds.File bytes e = absurd (cc)
 
 -- what is the first of a tree's rows
-root_row : (row : Row) (u : Tree) → IsWithinLimits (row_of row ∷ u) → is_plain row ≡ true → is_first row ≡ true
-root_row row u within plain = go (key_of row) refl
+root_row : (most : ℕ) (row : Row) (u : Tree) → IsWithinLimits most (row_of row ∷ u) → is_plain row ≡ true → is_first row ≡ true
+root_row most row u within plain = go (key_of row) refl
   where
     found : (k : Key) → key_of row ≡ k → find key_cmp [] ((k, (row_of row).1) ∷ u) ≡ Some Dir
     found k e = ap (λ z. find key_cmp [] ((z, (row_of row).1) ∷ u)) (sym e) ∙ sym (look-find (row_of row ∷ u) []) ∙ within.tree.root
@@ -296,8 +296,8 @@ root_row row u within plain = go (key_of row) refl
     go : (k : Key) → key_of row ≡ k → is_first row ≡ true
     go [] e =
         let dir : (row_of row).1 ≡ Dir = same_node (row_of row).1 Dir (found [] e) in
-        both_hold _ _ (both_hold _ _ (ap is_root e) (dirs row.kind row.bytes.items dir))
-        (bytes_fit row.kind row.bytes.items plain (λ others is. let no : Dir ≡ File others = sym dir ∙ is in absurd (cc)))
+        let of_dir : is_dirs row.kind ≡ true = dirs row.kind row.bytes.items dir in
+        both_hold _ _ (both_hold _ _ (ap is_root e) of_dir) (ap (λ b. not (b && has_any row.bytes.items)) (sym of_dir) ∙ plain)
     go (x ∷ k) e =
         let below : T (below_all key_cmp (x ∷ k) u) = subst (λ z. T (below_all key_cmp z u)) e (both_first _ _ (true_T within.tree.sorted)) in
         let none : find key_cmp [] u ≡ None = find-under [] u (below_trans [] (x ∷ k) u refl below) in
@@ -323,21 +323,21 @@ root_first ((k, n) ∷ u) is = go k refl
 -- ---- the law
 
 pub fitting_rows_are_trees : FittingRowsAreTrees
-fitting_rows_are_trees rows = (to rows, λ h. from rows h.0 h.1)
+fitting_rows_are_trees most rows = (to rows, λ h. from rows h.0 h.1)
   where
-    to : (rows : List Row) → misfit rows ≡ None → IsWithinLimits (map row_of rows) × IsTrue (list_all is_plain rows)
+    to : (rows : List Row) → misfit most rows ≡ None → IsWithinLimits most (map row_of rows) × IsTrue (list_all is_plain rows)
     to [] e = absurd (cc)
     to (row ∷ rows) e = go (is_first row) refl e
       where
-        go : (b : Bool) → is_first row ≡ b → cond {A = Option ℕ} b (misfit_from (row_of row ∷ []) 2 rows) (Some 1) ≡ None → IsWithinLimits (row_of row ∷ map row_of rows) × IsTrue (is_plain row && list_all is_plain rows)
+        go : (b : Bool) → is_first row ≡ b → cond {A = Option ℕ} b (misfit_from most (row_of row ∷ []) 2 rows) (Some 1) ≡ None → IsWithinLimits most (row_of row ∷ map row_of rows) × IsTrue (is_plain row && list_all is_plain rows)
         go true first h =
             let root : ◌≡◌ {A = Tree} root_tree (row_of row ∷ []) = root_of_first row.kind row.bytes.items (key_of row) (first_holds _ _ (first_holds _ _ first)) (second_holds _ _ (first_holds _ _ first)) in
-            let rest = all_fit (row_of row ∷ []) 2 rows (subst IsWithinLimits root root_within) h in
-            (rest.0, both_hold _ _ (plain_by row.kind row.bytes.items (second_holds _ _ first)) rest.1)
+            let rest = all_fit most (row_of row ∷ []) 2 rows (subst (IsWithinLimits most) root (root_within most)) h in
+            (rest.0, both_hold _ _ (ap (λ b. not (b && has_any row.bytes.items)) (second_holds _ _ (first_holds _ _ first)) ∙ second_holds _ _ first) rest.1)
         go false first h = absurd (cc)
 
-    from : (rows : List Row) → IsWithinLimits (map row_of rows) → IsTrue (list_all is_plain rows) → misfit rows ≡ None
+    from : (rows : List Row) → IsWithinLimits most (map row_of rows) → IsTrue (list_all is_plain rows) → misfit most rows ≡ None
     from [] within plain = let none : ◌≡◌ {A = Option Node} None (Some Dir) = sym (look-find [] []) ∙ within.tree.root in absurd (cc)
     from (row ∷ rows) within plain =
-        ap (λ b. cond {A = Option ℕ} b (misfit_from (row_of row ∷ []) 2 rows) (Some 1)) (root_row row (map row_of rows) within (first_holds _ _ plain))
-        ∙ fit_all (row_of row) [] 2 rows within (second_holds _ _ plain)
+        ap (λ b. cond {A = Option ℕ} b (misfit_from most (row_of row ∷ []) 2 rows) (Some 1)) (root_row most row (map row_of rows) within (first_holds _ _ plain))
+        ∙ fit_all most (row_of row) [] 2 rows within (second_holds _ _ plain)

@@ -24,10 +24,11 @@ pub not_in_place : (links : List (Name × ℕ)) (x : Name) (i : ℕ) → find na
 not_in_place links x i none at = nowhere (slice_get links i) x at.named (sym at.found ∙ none)
 
 -- a link that went, and one that was put in
-pub replaced : (old left new : List Link) (i at : ℕ) (l : Link) → left ≡ remove old i → new ≡ insert left at l → BelongsAt (pairs left) l.name at → pairs new ≡ put name_cmp l.name l.node (remove (pairs old) i)
-replaced old left new i at l went came belongs =
-    ap pairs came ∙ pairs-insert left at l ∙ sym (belongs.placed l.node)
-    ∙ ap (put name_cmp l.name l.node) (ap pairs went ∙ pairs-remove old i)
+pub replaced : (old left new : List Link) (i at : ℕ) (l : Link) (x : Name) (n : ℕ) → pair l ≡ (x, n) → left ≡ remove old i → new ≡ insert left at l → BelongsAt (pairs left) x at
+    → pairs new ≡ put name_cmp x n (remove (pairs old) i)
+replaced old left new i at l x n is went came belongs =
+    ap pairs came ∙ pairs-insert left at l ∙ ap (insert (pairs left) at) is ∙ sym (belongs.placed n)
+    ∙ ap (put name_cmp x n) (ap pairs went ∙ pairs-remove old i)
 
 -- links of which one is written anew, by their names and numbers
 pub pairs-set : (links : List Link) (i : ℕ) (l : Link) → pairs (slice_set links i l) ≡ slice_set (pairs links) i (pair l)

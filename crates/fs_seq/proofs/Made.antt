@@ -23,14 +23,14 @@ node_place (nodes.Dir links) = refl
 node_place (nodes.File bytes) = refl
 
 -- the errors of both calls are those of making a node
-pub mkdir_fault : (t : Tree) (p : Key) → fault t (Mkdir p) ≡ making_fault t p
+pub mkdir_fault : (most : ℕ) (t : Tree) (p : Key) → fault most t (Mkdir p) ≡ making_fault t p
 unfolding fault making_fault
-mkdir_fault t p = refl
+mkdir_fault most t p = refl
 
 -- the errors of mknod are those of making a node
-pub mknod_fault : (t : Tree) (p : Key) → fault t (Mknod p) ≡ making_fault t p
+pub mknod_fault : (most : ℕ) (t : Tree) (p : Key) → fault most t (Mknod p) ≡ making_fault t p
 unfolding fault making_fault
-mknod_fault t p = refl
+mknod_fault most t p = refl
 
 -- a new node in its place
 pub is_made : (g g' : Slots) (p : Key) (n dir i : ℕ) (x : Name) (node : nodes.the_data) → IsForest g → links_of (Some (place node)) ≡ [] → IsGap g p dir i → n + 1 ≡ length p → slice_get p n ≡ Some x → Attaches g g' dir i x (place node)

@@ -23,28 +23,28 @@ use Rattle.fs_calls.proofs.RowNames.{unlinking, removing}
 use Rattle.fs_calls.specs.Outcomes.{fault, success, change, parents_resolution}
 use Rattle.fs_seq.specs.code.Slots.{Place, Dir, File, Slots, links_at, links_of, shape_of, child, tree_of, IsForest, Sets}
 use Rattle.fs_seq.specs.code.Nodes.{pairs, LooksUp, shape_there, without}
-use Rattle.fs_seq.specs.code.Effects.{IsVictim, Detaches, Answers, call_on}
+use Rattle.fs_seq.specs.code.Effects.{IsVictim, Detaches, Answers, HasFault, call_on}
 use Rattle.fs_seq.proofs.NodeLemmas.{parent_and_last, child_got}
 use Rattle.fs_seq.proofs.Spots.{not_root, root, spot_parents, spot_seen}
 use Rattle.fs_seq.proofs.GraphCut.{forest_cut, tree_cut}
-use Rattle.fs_seq.proofs.Replies.{works, fails, answers}
+use Rattle.fs_seq.proofs.Replies.{works, fails, answers, at_each}
 
 -- a call on a path that is not the root, by its parent's error and what is there
 pub record GoesBy (call : Call) (p : Key) (at_root : Errno) (rest : Option Errno → Option Shape → Option Errno) : Type 0 where
-  pub errors : (t : Tree) → fault t call ≡ or_else (check (is_root p) at_root) (rest (parents_resolution t p) (tree_shapes t p))
+  pub errors : (most : ℕ) (t : Tree) → fault most t call ≡ or_else (check (is_root p) at_root) (rest (parents_resolution t p) (tree_shapes t p))
   pub lost : (e : Errno) (there : Option Shape) → rest (Some e) there ≡ Some e
-  pub well : (t : Tree) → success t call ≡ Done
-  pub makes : (t : Tree) → change t call ≡ removed t p
+  pub well : (most : ℕ) (t : Tree) → success most t call ≡ Done
+  pub makes : (most : ℕ) (t : Tree) → change most t call ≡ removed t p
 
 -- unlink and rmdir are such calls
 pub unlink_goes : (p : Key) → GoesBy (Unlink p) p Eperm unlinking
 unfolding fault
-unlink_goes p = record { errors = λ t. refl; lost = λ e there. refl; well = λ t. refl; makes = λ t. refl }
+unlink_goes p = record { errors = λ most t. refl; lost = λ e there. refl; well = λ most t. refl; makes = λ most t. refl }
 
 -- rmdir goes by its parent's error and what is there
 pub rmdir_goes : (p : Key) → GoesBy (Rmdir p) p Ebusy removing
 unfolding fault
-rmdir_goes p = record { errors = λ t. refl; lost = λ e there. refl; well = λ t. refl; makes = λ t. refl }
+rmdir_goes p = record { errors = λ most t. refl; lost = λ e there. refl; well = λ most t. refl; makes = λ most t. refl }
 
 -- so is each call on an entry that makes no node
 pub entry_goes : (c : EntryCall) → new_shape c ≡ None → (p : Key) → GoesBy (call_on c p) p (root_error c) (λ parent there. entry_fault c parent false there)
@@ -82,22 +82,22 @@ entry_met entries.Rmdir h e = absurd (cc)
 
 module _ (call : Call) (p : Key) (at_root : Errno) (rest : Option Errno → Option Shape → Option Errno) (by : GoesBy call p at_root rest) where
   -- the error at the root
-  pub root_fault : (t : Tree) → length p ≡ 0 → fault t call ≡ Some at_root
-  root_fault t e = by.errors t ∙ ap (λ b. or_else (check b at_root) (rest (parents_resolution t p) (tree_shapes t p))) (root p e)
+  pub root_fault : (t : Tree) → length p ≡ 0 → HasFault t call (Some at_root)
+  root_fault t e most = by.errors most t ∙ ap (λ b. or_else (check b at_root) (rest (parents_resolution t p) (tree_shapes t p))) (root p e)
 
   -- the error of the parent
-  pub parent_fault : (t : Tree) (e : Errno) → 0 < length p → parents_resolution t p ≡ Some e → fault t call ≡ Some e
-  parent_fault t e named lost =
-      by.errors t ∙ (λ i. or_else (check (not_root p named i) at_root) (rest (lost i) (tree_shapes t p))) ∙ by.lost e (tree_shapes t p)
+  pub parent_fault : (t : Tree) (e : Errno) → 0 < length p → parents_resolution t p ≡ Some e → HasFault t call (Some e)
+  parent_fault t e named lost most =
+      by.errors most t ∙ (λ i. or_else (check (not_root p named i) at_root) (rest (lost i) (tree_shapes t p))) ∙ by.lost e (tree_shapes t p)
 
   -- the error by what the name stands for
-  pub spot_fault : (g : Slots) (spot : Spot) → IsForest g → 0 < length p → LooksUp g p (Ok spot) → fault (tree_of g) call ≡ rest None (shape_there g spot)
-  spot_fault g spot forest named at =
-      by.errors (tree_of g) ∙ (λ j. or_else (check (not_root p named j) at_root) (rest (spot_parents g forest p named spot at j) (spot_seen g forest p named spot at j)))
+  pub spot_fault : (g : Slots) (spot : Spot) → IsForest g → 0 < length p → LooksUp g p (Ok spot) → HasFault (tree_of g) call (rest None (shape_there g spot))
+  spot_fault g spot forest named at most =
+      by.errors most (tree_of g) ∙ (λ j. or_else (check (not_root p named j) at_root) (rest (spot_parents g forest p named spot at j) (spot_seen g forest p named spot at j)))
 
   -- a call that fails changes nothing
-  pub refused : (g : Slots) (e : Errno) → IsForest g → fault (tree_of g) call ≡ Some e → Answers g g call (Failed e)
-  refused g e forest found = answers g g call (Some e) Done (removed (tree_of g) p) _ found (by.well (tree_of g)) (by.makes (tree_of g)) (fails g (Some e) Done (removed (tree_of g) p) e refl forest)
+  pub refused : (g : Slots) (e : Errno) → IsForest g → HasFault (tree_of g) call (Some e) → Answers g g call (Failed e)
+  refused g e forest found = at_each g g call (Failed e) (λ most. answers most g g call (Some e) Done (removed (tree_of g) p) _ (found most) (by.well most (tree_of g)) (by.makes most (tree_of g)) (fails g (Some e) Done (removed (tree_of g) p) e refl forest))
 
   -- one that does not removes what it found
   pub is_removed : (g g' : Slots) (dir i n : ℕ) → IsForest g → IsVictim g call p dir i n → Detaches g g' dir i n → Answers g g' call Done
@@ -106,10 +106,10 @@ module _ (call : Call) (p : Key) (at_root : Errno) (rest : Option Errno → Opti
       let leaf : (y : Name) → child g n y ≡ None = λ y. nothing y in
       let there : find name_cmp (last_of p) (links_at g dir) ≡ Some n = sym (child_got g dir (last_of p) _ spot.directory) ∙ spot.leads in
       let unlinking' : Sets g detached.between dir (Some (Dir (without (last_of p) (links_at g dir)))) = subst (λ ls. Sets g detached.between dir (Some (Dir ls))) spot.stands.others detached.unlinking in
-      answers g g' call None Done (removed (tree_of g) p) Done victim.sound (by.well (tree_of g)) (by.makes (tree_of g))
+      at_each g g' call Done (λ most. answers most g g' call None Done (removed (tree_of g) p) Done (victim.sound most) (by.well most (tree_of g)) (by.makes most (tree_of g))
       (works g g' None Done (removed (tree_of g) p) refl
       (tree_cut g detached.between g' forest (parent_of p) dir spot.parent (links_at g dir) spot.directory (last_of p) n there leaf unlinking' detached.removing ∙ ap (removed (tree_of g)) (sym (parent_and_last p victim.named)))
-      (forest_cut g detached.between g' forest (parent_of p) dir spot.parent (links_at g dir) spot.directory (last_of p) n there leaf unlinking' detached.removing))
+      (forest_cut g detached.between g' forest (parent_of p) dir spot.parent (links_at g dir) spot.directory (last_of p) n there leaf unlinking' detached.removing)))
     where
       nothing : (y : Name) → child g n y ≡ None
       nothing y = child_got g n y _ refl ∙ ap (find name_cmp y) victim.leaf

@@ -6,12 +6,12 @@ use Rattle.fs_names.specs.Names.{Name, name_cmp, same_name}
 use Rattle.fs_names.specs.Keys.{Key, parent_of, last_of}
 use Rattle.fs_calls.specs.Tree.{Tree, renamed, Dir as IsDir}
 use Rattle.fs_calls.specs.Sights.{is_missing}
-use Rattle.fs_calls.specs.Forms.{form, by_text}
-use Rattle.fs_calls.specs.Outcomes.{fault, change}
-use Rattle.fs_seq.specs.Memory.{needs_memory}
+use Rattle.fs_calls.specs.Forms.{AtPair, by_text}
+use Rattle.fs_calls.specs.declared.target.PairCall.TheVariants as pairs
+use Rattle.fs_calls.specs.Outcomes.{change}
 use Rattle.fs_seq.specs.code.Slots.{Dir, Slots, place_at, node_of, links_of, links_at, walk, node_at, tree_of, IsForest, Sets}
 use Rattle.fs_seq.specs.code.Nodes.{without, IsNameAt, IsTaken, IsFree, IsAt}
-use Rattle.fs_seq.specs.code.Effects.{Answers}
+use Rattle.fs_seq.specs.code.Effects.{Answers, HasFault, NeedsMemory}
 use Rattle.fs_seq.specs.code.Renaming.{Moves, Plans, Displaces, Transfers}
 use Rattle.fs_seq.specs.declared.nodes.Entry.{Entry}
 use Rattle.fs_seq.specs.declared.rename.Plan.{Plan}
@@ -28,26 +28,26 @@ use Rattle.fs_seq.proofs.Rewiring.{Crosses, Turns, Rewires, which, crossed, turn
 use Rattle.fs_seq.proofs.LinkEdits.{set_in_place, set_then_removed}
 use Rattle.fs_seq.proofs.RenameFaults.{new_named, taken_walk, free_walk}
 use Rattle.fs_seq.proofs.Spots.{has_names}
-use Rattle.fs_seq.proofs.Replies.{works, fails, answers, needs}
+use Rattle.fs_seq.proofs.Replies.{works, fails, answers, at_each, needs}
 
 -- ---- replies
 
 -- a rename with an error leaves all as it was
-pub failed : (g : Slots) (p q : Key) (e : Errno) → IsForest g → fault (tree_of g) (Rename p q) ≡ Some e → Answers g g (Rename p q) (Failed e)
+pub failed : (g : Slots) (p q : Key) (e : Errno) → IsForest g → HasFault (tree_of g) (Rename p q) (Some e) → Answers g g (Rename p q) (Failed e)
 failed g p q e forest h =
-    answers g g (Rename p q) (Some e) Done (change (tree_of g) (Rename p q)) (Failed e) h refl refl (fails g (Some e) Done (change (tree_of g) (Rename p q)) e refl forest)
+    at_each g g (Rename p q) (Failed e) (λ most. answers most g g (Rename p q) (Some e) Done (change most (tree_of g) (Rename p q)) (Failed e) (h most) refl refl (fails g (Some e) Done (change most (tree_of g) (Rename p q)) e refl forest))
 
 -- a rename without an error, which leaves the tree of its change
-done : (g g' : Slots) (p q : Key) → fault (tree_of g) (Rename p q) ≡ None → IsForest g' → tree_of g' ≡ change (tree_of g) (Rename p q) → Answers g g' (Rename p q) Done
+done : (g g' : Slots) (p q : Key) → HasFault (tree_of g) (Rename p q) None → IsForest g' → tree_of g' ≡ change 0 (tree_of g) (Rename p q) → Answers g g' (Rename p q) Done
 done g g' p q h forest made =
-    answers g g' (Rename p q) None Done (change (tree_of g) (Rename p q)) Done h refl refl (works g g' None Done (change (tree_of g) (Rename p q)) refl made forest)
+    at_each g g' (Rename p q) Done (λ most. answers most g g' (Rename p q) None Done (change most (tree_of g) (Rename p q)) Done (h most) refl refl (works g g' None Done (change most (tree_of g) (Rename p q)) refl made forest))
 
 -- and so does one of a path onto itself
-pub stayed : (g : Slots) (p q : Key) → IsForest g → fault (tree_of g) (Rename p q) ≡ None → p ≡ q → Answers g g (Rename p q) Done
-stayed g p q forest h same = done g g p q h forest (sym (same_after (tree_of g) p q same h))
+pub stayed : (g : Slots) (p q : Key) → IsForest g → HasFault (tree_of g) (Rename p q) None → p ≡ q → Answers g g (Rename p q) Done
+stayed g p q forest h same = done g g p q h forest (sym (same_after (tree_of g) p q same))
   where
-    same_after : (t : Tree) (p q : Key) → p ≡ q → fault t (Rename p q) ≡ None → change t (Rename p q) ≡ t
-    same_after t p q e found = ap (λ b. cond {A = Tree} b t (renamed t p q)) (ap (is_same p) (sym e) ∙ is_same_refl p)
+    same_after : (t : Tree) (p q : Key) → p ≡ q → change 0 t (Rename p q) ≡ t
+    same_after t p q e = ap (λ b. cond {A = Tree} b t (renamed t p q)) (ap (is_same p) (sym e) ∙ is_same_refl p)
 
 -- a rename that is done, by the tree that it leaves
 moved : (g g' : Slots) (p q : Key) → Moves g p q → IsForest g' × (tree_of g' ≡ renamed (tree_of g) p q) → Answers g g' (Rename p q) Done
@@ -76,7 +76,7 @@ turns g between g' n i j x z s rising apart leading unlinking at to = record {
 -- ---- the paths
 
 -- what is planned has no error
-pub allowed : (g : Slots) (p q : Key) (plan : Plan) → Plans g p q (Ok plan) → fault (tree_of g) (Rename p q) ≡ None
+pub allowed : (g : Slots) (p q : Key) (plan : Plan) → Plans g p q (Ok plan) → HasFault (tree_of g) (Rename p q) None
 allowed g p q Stay h = h.0
 allowed g p q (Onto entry victim) h = h.0.allowed
 allowed g p q (Within entry) h = h.0.allowed
@@ -84,16 +84,16 @@ allowed g p q (Across entry dir i) h = h.0.allowed
 
 -- a rename that is done has a new path with a name
 pub new_path_named : (g : Slots) (p q : Key) (plan : Plan) → IsForest g → Plans g p q (Ok plan) → 1 ≤ length q
-new_path_named g p q plan forest h = has_names q (new_named g forest p q (by_text_none (tree_of g) (Rename p q) (allowed g p q plan h)))
+new_path_named g p q plan forest h = has_names q (new_named g forest p q (by_text_none 0 (tree_of g) (Rename p q) (allowed g p q plan h 0)))
 
 module _ (g : Slots) (forest : IsForest g) (p q : Key) (may : Moves g p q) where
   -- what such a rename finds in the tree
   renames : Renames (tree_of g) p q
-  renames = rename_renames (tree_of g) p q (forest_tree g forest) may.allowed may.differ
+  renames = rename_renames 0 (tree_of g) p q (forest_tree g forest) (may.allowed 0) may.differ
 
   -- the paths alone decide no error
-  text : by_text (form (Rename p q)) ≡ None
-  text = by_text_none (tree_of g) (Rename p q) may.allowed
+  text : by_text (AtPair pairs.Rename p q) ≡ None
+  text = by_text_none 0 (tree_of g) (Rename p q) (may.allowed 0)
 
   -- the number of a node at a path has a place
   pub node_placed : (dir i n : ℕ) → IsTaken g q dir i n → is_some (place_at g n) ≡ true
@@ -166,8 +166,8 @@ module _ (g : Slots) (forest : IsForest g) (p q : Key) (may : Moves g p q) where
           (crosses g edit.between g' entry.dir dir entry.place (last_of p) (last_of q) entry.node (insert (links_at g dir) i (x, entry.node)) apart edit.linking put_in edit.unlinking at.stands)))
 
       -- only then the rename needs memory
-      pub memory_needed : IsTrue (needs_memory (tree_of g) (Rename p q))
-      memory_needed = needs (tree_of g) (Rename p q) may.allowed
+      pub memory_needed : NeedsMemory (tree_of g) (Rename p q)
+      memory_needed most = needs most (tree_of g) (Rename p q) (may.allowed most)
           (λ j. is_missing (seen_none g q forest (free_walk g forest p q text q dir i entries renames.new_named to) j) && not (never_same (parent_of p) (parent_of q) other j))
         where
           other : parent_of p ≢ parent_of q

@@ -1,26 +1,26 @@
 -- What a call answers, by its errors, and what it leaves.
-use Rattle.std.proofs.Common.{◌≡◌, true, not, ◌&&◌, Some, None, Option, is_some, Result, Ok, Err, IfOk, OnOk, OnErr, IsTrue, refl, sym, ap, subst, ◌∙◌}
+use Rattle.std.proofs.Common.{◌≡◌, ℕ, true, not, ◌&&◌, Some, None, Option, is_some, Result, Ok, Err, IfOk, OnOk, OnErr, IsTrue, refl, sym, ap, subst, ◌∙◌}
 use Rattle.fs_names.specs.Failures.{or_else}
 use Rattle.fs_calls.specs.Tree.{Tree}
 use Rattle.fs_calls.specs.Forms.{form, by_text}
 use Rattle.fs_calls.specs.Outcomes.{row, fault, success, change, reply, after, replied, if_sound}
 use Rattle.fs_seq.specs.Memory.{takes_memory, needs_memory}
 use Rattle.fs_seq.specs.code.Slots.{Slots, tree_of, IsForest}
-use Rattle.fs_seq.specs.code.Effects.{Gives, Answers}
+use Rattle.fs_seq.specs.code.Effects.{Gives, AnswersWithin, Answers}
 use Rattle.fs_calls.specs.declared.call.Call.{Call}
 use Rattle.fs_calls.specs.declared.reply.Reply.{Reply}
 use Rattle.fs_calls.specs.declared.reply.Reply.TheVariants.{Failed}
 use Rattle.fs_calls.specs.declared.errno.Errno.{Errno}
 
 -- an error that the paths of a call decide is its first one
-pub fault_by_paths : (t : Tree) (call : Call) (e : Errno) → by_text (form call) ≡ Some e → fault t call ≡ Some e
+pub fault_by_paths : (most : ℕ) (t : Tree) (call : Call) (e : Errno) → by_text (form most call) ≡ Some e → fault most t call ≡ Some e
 unfolding fault
-fault_by_paths t call e h = ap (λ o. or_else o (row t call)) h
+fault_by_paths most t call e h = ap (λ o. or_else o (row most t call)) h
 
 -- without one, its first error is that of what is read
-pub fault_by_row : (t : Tree) (call : Call) (o : Option Errno) → by_text (form call) ≡ None → row t call ≡ o → fault t call ≡ o
+pub fault_by_row : (most : ℕ) (t : Tree) (call : Call) (o : Option Errno) → by_text (form most call) ≡ None → row most t call ≡ o → fault most t call ≡ o
 unfolding fault
-fault_by_row t call o h found = ap (λ z. or_else z (row t call)) h ∙ found
+fault_by_row most t call o h found = ap (λ z. or_else z (row most t call)) h ∙ found
 
 -- a call without an error
 pub works : (g g' : Slots) (found : Option Errno) (well : Reply) (new : Tree) → found ≡ None → tree_of g' ≡ new → IsForest g' → Gives g g' found well new well
@@ -31,13 +31,17 @@ pub fails : (g : Slots) (found : Option Errno) (well : Reply) (new : Tree) (e : 
 fails g found well new e some forest = record { reply = ap (λ f. replied f well) (sym some); tree = ap (λ f. if_sound f (tree_of g) new) (sym some); forest = forest }
 
 -- an answer by the errors of a call is one to the call
-pub answers : (g g' : Slots) (call : Call) (found : Option Errno) (well : Reply) (new : Tree) (r : Reply) → fault (tree_of g) call ≡ found → success (tree_of g) call ≡ well → change (tree_of g) call ≡ new → Gives g g' found well new r → Answers g g' call r
+pub answers : (most : ℕ) (g g' : Slots) (call : Call) (found : Option Errno) (well : Reply) (new : Tree) (r : Reply) → fault most (tree_of g) call ≡ found → success most (tree_of g) call ≡ well → change most (tree_of g) call ≡ new → Gives g g' found well new r → AnswersWithin most g g' call r
 unfolding reply after
-answers g g' call found well new r e f h given = record {
+answers most g g' call found well new r e f h given = record {
   reply = given.reply ∙ (λ i. replied (sym e i) (sym f i));
   tree = given.tree ∙ (λ i. if_sound (sym e i) (tree_of g) (sym h i));
   forest = given.forest;
 }
+
+-- an answer that holds however many bytes a file may have
+pub at_each : (g g' : Slots) (call : Call) (r : Reply) → ((most : ℕ) → AnswersWithin most g g' call r) → Answers g g' call r
+at_each g g' call r h = record { reply = λ most. (h most).reply; tree = λ most. (h most).tree; forest = (h 0).forest }
 
 -- what follows of a value
 pub IfOk-map : {A E : Type 0} {P Q : A → Type 0} (r : Result A E) → ((a : A) → P a → Q a) → IfOk r P → IfOk r Q
@@ -50,9 +54,9 @@ OnErr-map (Ok a) f h = h
 OnErr-map (Err e) f h = f h
 
 -- a call without an error that takes memory needs it
-pub needs : (t : Tree) (call : Call) → fault t call ≡ None → takes_memory t call ≡ true → IsTrue (needs_memory t call)
+pub needs : (most : ℕ) (t : Tree) (call : Call) → fault most t call ≡ None → takes_memory t call ≡ true → IsTrue (needs_memory most t call)
 unfolding needs_memory
-needs t call none takes = λ i. not (is_some (none i)) && takes i
+needs most t call none takes = λ i. not (is_some (none i)) && takes i
 
 -- a fact is one of an error
 pub on_err : {A E P : Type 0} (r : Result A E) → P → OnErr r P
@@ -60,9 +64,9 @@ on_err (Ok a) h = tt
 on_err (Err e) h = h
 
 -- a call that fails, and leaves the graph as it was
-pub refused : (g g' : Slots) (call : Call) (e : Errno) → g' ≡ g → IsForest g → fault (tree_of g) call ≡ Some e → Answers g g' call (Failed e)
-refused g g' call e same forest found =
-    subst (λ h. Answers g h call (Failed e)) (sym same) (answers g g call (Some e) (success (tree_of g) call) (change (tree_of g) call) (Failed e) found refl refl (fails g (Some e) (success (tree_of g) call) (change (tree_of g) call) e refl forest))
+pub refused : (most : ℕ) (g g' : Slots) (call : Call) (e : Errno) → g' ≡ g → IsForest g → fault most (tree_of g) call ≡ Some e → AnswersWithin most g g' call (Failed e)
+refused most g g' call e same forest found =
+    subst (λ h. AnswersWithin most g h call (Failed e)) (sym same) (answers most g g call (Some e) (success most (tree_of g) call) (change most (tree_of g) call) (Failed e) found refl refl (fails g (Some e) (success most (tree_of g) call) (change most (tree_of g) call) e refl forest))
 
 -- a fact is one of a success
 pub on_ok : {A E P : Type 0} (r : Result A E) → P → OnOk r P
@@ -70,10 +74,10 @@ on_ok (Ok a) h = h
 on_ok (Err e) h = tt
 
 -- a call that makes the tree that is there leaves it
-pub leaves : (t : Tree) (call : Call) → change t call ≡ t → after t call ≡ t
+pub leaves : (most : ℕ) (t : Tree) (call : Call) → change most t call ≡ t → after most t call ≡ t
 unfolding after
-leaves t call same = by_fault (fault t call)
+leaves most t call same = by_fault (fault most t call)
   where
-    by_fault : (found : Option Errno) → if_sound found t (change t call) ≡ t
+    by_fault : (found : Option Errno) → if_sound found t (change most t call) ≡ t
     by_fault None = same
     by_fault (Some e) = refl

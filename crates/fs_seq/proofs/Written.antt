@@ -19,7 +19,7 @@ use Rattle.fs_seq.specs.Memory.{needs_memory}
 use Rattle.fs_seq.specs.declared.nodes.Node.{Node}
 use Rattle.fs_seq.specs.code.Slots.{Place, Dir, File, shape_of, walk, tree_of, IsForest}
 use Rattle.fs_seq.specs.code.Nodes.{place, graph}
-use Rattle.fs_seq.specs.code.Effects.{Answers, Rewrites, refilled}
+use Rattle.fs_seq.specs.code.Effects.{AnswersWithin, Rewrites, refilled}
 use Rattle.fs_seq.proofs.NodeLemmas.{place_got}
 use Rattle.fs_seq.proofs.SlabLemmas.{sets_value, same_graph}
 use Rattle.fs_seq.proofs.GraphFilled.{forest_filled, tree_filled}
@@ -37,14 +37,14 @@ row_change : (t : Tree) (p : Key) (found : Option Errno) (well : Reply) (bytes :
 row_change t p None well bytes = refl
 row_change t p (Some e) well bytes = refl
 
-module _ (s : Slab Node) (call : Call) (c : NodeCall) (p : Key) (on_node : form call ≡ AtNode c p) (n : ℕ) (node : Node) (forest : IsForest (graph s)) (walked : walk (graph s) p ≡ Some n) (got : get s n ≡ Some node) where
+module _ (most : ℕ) (s : Slab Node) (call : Call) (c : NodeCall) (p : Key) (on_node : form most call ≡ AtNode c p) (n : ℕ) (node : Node) (forest : IsForest (graph s)) (walked : walk (graph s) p ≡ Some n) (got : get s n ≡ Some node) where
   -- what is seen at the path
   pub seen : tree_shapes (tree_of (graph s)) p ≡ shape_of (Some (place node))
   seen = seen_at (graph s) p n forest walked ∙ ap shape_of (place_got s n node got)
 
   -- the call's first error
-  pub node_found : fault (tree_of (graph s)) call ≡ node_fault c None (shape_of (Some (place node)))
-  node_found = looking_fault call c p on_node (tree_of (graph s)) ∙ error_there (graph s) c p n (place node) forest walked (place_got s n node got)
+  pub node_found : fault most (tree_of (graph s)) call ≡ node_fault c None (shape_of (Some (place node)))
+  node_found = looking_fault most call c p on_node (tree_of (graph s)) ∙ error_there (graph s) c p n (place node) forest walked (place_got s n node got)
 
   -- the tree with the new bytes of a file
   refills : (node' : Node) (at : Place) (o : Option (List ℕ)) → place node ≡ at → place node' ≡ refilled o at → ((links : List (Name × ℕ)) → at ≡ Dir links → o ≡ None)
@@ -58,7 +58,7 @@ module _ (s : Slab Node) (call : Call) (c : NodeCall) (p : Key) (on_node : form 
       (tree_filled (graph s) (graph (with_value s n node')) forest p n walked old new file sets, forest_filled (graph s) (graph (with_value s n node')) forest p n walked old new file sets)
 
   -- what a call on a node answers and leaves
-  pub is_rewritten : (node' : Node) (r : Reply) → Rewrites (place node) (place node') c r → Answers (graph s) (graph (with_value s n node')) call r
+  pub is_rewritten : (node' : Node) (r : Reply) → Rewrites (place node) (place node') c r → AnswersWithin most (graph s) (graph (with_value s n node')) call r
   unfolding reply after
   is_rewritten node' r rewrites =
       let there = shape_of (Some (place node)) in
@@ -71,15 +71,15 @@ module _ (s : Slab Node) (call : Call) (c : NodeCall) (p : Key) (on_node : form 
       }
 
 -- a write that needs memory
-pub write_needs : (s : Slab Node) (p : Key) (off : ℕ) (bytes : List ℕ) (n : ℕ) (node : Node) → IsForest (graph s) → walk (graph s) p ≡ Some n → get s n ≡ Some node → node_fault (forms.Write off bytes) None (shape_of (Some (place node))) ≡ None
-    → IsTrue (has_any bytes && nat_lt (length (bytes_of (shape_of (Some (place node))))) (off + length bytes)) → IsTrue (needs_memory (tree_of (graph s)) (Write p off bytes))
-write_needs s p off bytes n node forest walked got sound longer =
-    needs (tree_of (graph s)) (Write p off bytes) (node_found s (Write p off bytes) (forms.Write off bytes) p refl n node forest walked got ∙ sound)
-    (ap (λ z. has_any bytes && nat_lt (length (bytes_of z)) (off + length bytes)) (seen s (Write p off bytes) (forms.Write off bytes) p refl n node forest walked got) ∙ longer)
+pub write_needs : (most : ℕ) (s : Slab Node) (p : Key) (off : ℕ) (bytes : List ℕ) (n : ℕ) (node : Node) → IsForest (graph s) → walk (graph s) p ≡ Some n → get s n ≡ Some node → node_fault (forms.Write most off bytes) None (shape_of (Some (place node))) ≡ None
+    → IsTrue (has_any bytes && nat_lt (length (bytes_of (shape_of (Some (place node))))) (off + length bytes)) → IsTrue (needs_memory most (tree_of (graph s)) (Write p off bytes))
+write_needs most s p off bytes n node forest walked got sound longer =
+    needs most (tree_of (graph s)) (Write p off bytes) (node_found most s (Write p off bytes) (forms.Write most off bytes) p refl n node forest walked got ∙ sound)
+    (ap (λ z. has_any bytes && nat_lt (length (bytes_of z)) (off + length bytes)) (seen most s (Write p off bytes) (forms.Write most off bytes) p refl n node forest walked got) ∙ longer)
 
 -- a truncate that needs memory
-pub truncate_needs : (s : Slab Node) (p : Key) (size : ℕ) (n : ℕ) (node : Node) → IsForest (graph s) → walk (graph s) p ≡ Some n → get s n ≡ Some node → node_fault (forms.Truncate size) None (shape_of (Some (place node))) ≡ None
-    → IsTrue (nat_lt (length (bytes_of (shape_of (Some (place node))))) size) → IsTrue (needs_memory (tree_of (graph s)) (Truncate p size))
-truncate_needs s p size n node forest walked got sound longer =
-    needs (tree_of (graph s)) (Truncate p size) (node_found s (Truncate p size) (forms.Truncate size) p refl n node forest walked got ∙ sound)
-    (ap (λ z. nat_lt (length (bytes_of z)) size) (seen s (Truncate p size) (forms.Truncate size) p refl n node forest walked got) ∙ longer)
+pub truncate_needs : (most : ℕ) (s : Slab Node) (p : Key) (size : ℕ) (n : ℕ) (node : Node) → IsForest (graph s) → walk (graph s) p ≡ Some n → get s n ≡ Some node → node_fault (forms.Truncate most size) None (shape_of (Some (place node))) ≡ None
+    → IsTrue (nat_lt (length (bytes_of (shape_of (Some (place node))))) size) → IsTrue (needs_memory most (tree_of (graph s)) (Truncate p size))
+truncate_needs most s p size n node forest walked got sound longer =
+    needs most (tree_of (graph s)) (Truncate p size) (node_found most s (Truncate p size) (forms.Truncate most size) p refl n node forest walked got ∙ sound)
+    (ap (λ z. nat_lt (length (bytes_of z)) size) (seen most s (Truncate p size) (forms.Truncate most size) p refl n node forest walked got) ∙ longer)

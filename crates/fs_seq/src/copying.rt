@@ -12,7 +12,7 @@ impl Clone for Link {
 
     fn clone(&self) -> Result<Link, AllocError> {
         Ok(Link {
-            name: self.name.copy(),
+            name: self.name.clone()?,
             node: self.node,
         })
     }

@@ -2,11 +2,11 @@
 
 ghost use Rattle.std.specs.Prelude.{◌≡◌, ◌≤◌, Some, None, [], length, IfOk, OnOk, OnErr, IsTrue};
 ghost use Rattle.fs_calls.specs.Tree.{inserted};
-ghost use Rattle.fs_seq.specs.Memory.{needs_memory};
 ghost use Rattle.fs_seq.specs.code.Nodes.{graph, place};
 ghost use Rattle.fs_seq.specs.code.Slots.{IsForest, place_at, links_at, links_of, tree_of, Dir as IsDir};
-ghost use Rattle.fs_seq.specs.code.Effects.{Answers, Attaches, FindsGap, Gives, making_fault, tree_node};
+ghost use Rattle.fs_seq.specs.code.Effects.{Answers, Attaches, FindsGap, Gives, NeedsMemory, making_fault, tree_node};
 
+use crate::held_name::HeldName;
 use crate::nodes::{Link, Node, add_link, look_up};
 use fs_calls::path_errors::root_error;
 use fs_calls::{Call, EntryCall, Errno, Reply};
@@ -16,6 +16,7 @@ use std::alloc::{AllocError, Global};
 
 /// Adds a node, and an entry for it to a directory at a place.
 pub fn attach(
+    alloc: Global,
     nodes: &mut Slab<Node>,
     dir: usize,
     i: usize,
@@ -29,8 +30,9 @@ pub fn attach(
 {
     nodes.reserve(1)?;
     let number = nodes.vacant_key();
+    let held = HeldName::new(alloc, name)?;
     let link = Link {
-        name: name.copy(),
+        name: held,
         node: number,
     };
     add_link(nodes, dir, i, link)?;
@@ -56,7 +58,7 @@ fn gap(nodes: &Slab<Node>, path: &Path) -> Result<(usize, usize), Errno>
 }
 
 /// Makes a node without entries at the path.
-fn make(nodes: &mut Slab<Node>, path: &Path, node: Node) -> Result<Reply, AllocError>
+fn make(alloc: Global, nodes: &mut Slab<Node>, path: &Path, node: Node) -> Result<Reply, AllocError>
     requires forest { IsForest (graph nodes.old) }
     requires bare { links_of (Some (place node)) ≡ [] }
     ensures given { IfOk result (Gives (graph nodes.old) (graph nodes.new) (making_fault (tree_of (graph nodes.old)) path.now) Reply.Done (inserted (tree_of (graph nodes.old)) path.now (tree_node node))) }
@@ -66,7 +68,7 @@ fn make(nodes: &mut Slab<Node>, path: &Path, node: Node) -> Result<Reply, AllocE
     match gap(nodes, path) {
         Err(errno) => Ok(Reply::Failed(errno)),
         Ok((dir, i)) => {
-            attach(nodes, dir, i, path.name(path.len() - 1), node)?;
+            attach(alloc, nodes, dir, i, path.name(path.len() - 1), node)?;
             Ok(Reply::Done)
         }
     }
@@ -77,9 +79,9 @@ pub fn mkdir(alloc: Global, nodes: &mut Slab<Node>, path: &Path) -> Result<Reply
     requires { IsForest (graph nodes.old) }
     ensures given { IfOk result (Answers (graph nodes.old) (graph nodes.new) (Call.Mkdir path.now)) }
     ensures err { OnErr result (graph nodes.new ≡ graph nodes.old) }
-    ensures memory { OnErr result (IsTrue (needs_memory (tree_of (graph nodes.old)) (Call.Mkdir path.now))) }
+    ensures memory { OnErr result (NeedsMemory (tree_of (graph nodes.old)) (Call.Mkdir path.now)) }
 {
-    make(nodes, path, Node::Dir(Vec::new(alloc)))
+    make(alloc, nodes, path, Node::Dir(Vec::new(alloc)))
 }
 
 /// Makes an empty file.
@@ -87,7 +89,7 @@ pub fn mknod(alloc: Global, nodes: &mut Slab<Node>, path: &Path) -> Result<Reply
     requires { IsForest (graph nodes.old) }
     ensures given { IfOk result (Answers (graph nodes.old) (graph nodes.new) (Call.Mknod path.now)) }
     ensures err { OnErr result (graph nodes.new ≡ graph nodes.old) }
-    ensures memory { OnErr result (IsTrue (needs_memory (tree_of (graph nodes.old)) (Call.Mknod path.now))) }
+    ensures memory { OnErr result (NeedsMemory (tree_of (graph nodes.old)) (Call.Mknod path.now)) }
 {
-    make(nodes, path, Node::File(Vec::new(alloc)))
+    make(alloc, nodes, path, Node::File(Vec::new(alloc)))
 }

@@ -29,13 +29,13 @@ pub enum NotTree {
     OutOfMemory,
 }
 
-/// Whether a node of a row's kind may have its bytes.
-fn may_have(row: &Row) -> bool
-    ensures { result ≡ may_have row.now.kind row.now.bytes.items }
+/// Whether a node of a row's kind may have its bytes, where a file has at most so many.
+fn may_have(row: &Row, most: usize) -> bool
+    ensures { result ≡ may_have most row.now.kind row.now.bytes.items }
 {
     match row.kind {
         Kind::Dir => row.bytes.is_empty(),
-        Kind::File => fits_size(row.bytes.len() as u64),
+        Kind::File => fits_size(most, row.bytes.len() as u64),
     }
 }
 
@@ -43,7 +43,7 @@ fn may_have(row: &Row) -> bool
 fn is_first(row: &Row) -> bool
     ensures { result ≡ is_first row.now }
 {
-    row.key.is_empty() && row.kind == Kind::Dir && may_have(row)
+    row.key.is_empty() && row.kind == Kind::Dir && row.bytes.is_empty()
 }
 
 /// The number to which names lead from the root.
@@ -63,15 +63,20 @@ fn reached(nodes: &Slab<Node>, names: &[Name]) -> Option<usize>
 
 /// Where the entry of a row belongs behind the row before: the number of its directory, the place among the entries
 /// there, and its name.
-fn place_of<'a>(nodes: &Slab<Node>, before: &Row, row: &'a Row) -> Option<(usize, usize, &'a Name)>
+fn place_of<'a>(
+    nodes: &Slab<Node>,
+    before: &Row,
+    row: &'a Row,
+    most: usize,
+) -> Option<(usize, usize, &'a Name)>
     requires forest { IsForest (graph nodes.now) }
     requires last { last_key (tree_of (graph nodes.now)) ≡ key_of before.now }
-    ensures { MatchOption result (fits (tree_of (graph nodes.now)) row.now ≡ false) (λ at. IsPlaceOf (graph nodes.now) row.now at.0 at.1 at.2.now) }
+    ensures { MatchOption result (fits most (tree_of (graph nodes.now)) row.now ≡ false) (λ at. IsPlaceOf most (graph nodes.now) row.now at.0 at.1 at.2.now) }
 {
     let Some((name, parent)) = row.key.split_last() else {
         return None;
     };
-    if before.key.cmp(&row.key) != Ordering::Less || !may_have(row) {
+    if before.key.cmp(&row.key) != Ordering::Less || !may_have(row, most) {
         return None;
     }
     let Some(dir) = reached(nodes, parent) else {
@@ -108,36 +113,42 @@ fn add_row(
     nodes: &mut Slab<Node>,
     before: &Row,
     row: &Row,
+    most: usize,
 ) -> Result<bool, AllocError>
     requires forest { IsForest (graph nodes.old) }
     requires last { last_key (tree_of (graph nodes.old)) ≡ key_of before.now }
     ensures forest { IsForest (graph nodes.new) }
-    ensures fits { IfOk result (λ fit. fit ≡ fits (tree_of (graph nodes.old)) row.now) }
+    ensures fits { IfOk result (λ fit. fit ≡ fits most (tree_of (graph nodes.old)) row.now) }
     ensures tree { result ≡ Ok true → tree_of (graph nodes.new) ≡ tree_of (graph nodes.old) ++ row_of row.now ∷ [] }
 {
-    let Some((dir, i, name)) = place_of(nodes, before, row) else {
+    let Some((dir, i, name)) = place_of(nodes, before, row, most) else {
         return Ok(false);
     };
     let node = bare_node(alloc, row)?;
-    attach(nodes, dir, i, name, node)?;
+    attach(alloc, nodes, dir, i, name, node)?;
     Ok(true)
 }
 
-/// Adds the nodes of rows to the root alone.
-pub fn add_rows(alloc: Global, nodes: &mut Slab<Node>, rows: &[Row]) -> Result<(), NotTree>
+/// Adds the nodes of rows to the root alone, where a file has at most so many bytes.
+pub fn add_rows(
+    alloc: Global,
+    nodes: &mut Slab<Node>,
+    rows: &[Row],
+    most: usize,
+) -> Result<(), NotTree>
     requires forest { IsForest (graph nodes.old) }
     requires root { tree_of (graph nodes.old) ≡ root_tree }
     ensures forest { IsForest (graph nodes.new) }
     ensures tree { OnOk result (tree_of (graph nodes.new) ≡ map row_of rows.now) }
-    ensures fits { OnOk result (misfit rows.now ≡ None) }
-    ensures bad { (place : ℕ) → result ≡ Err (NotTree.Bad place) → misfit rows.now ≡ Some place }
+    ensures fits { OnOk result (misfit most rows.now ≡ None) }
+    ensures bad { (place : ℕ) → result ≡ Err (NotTree.Bad place) → misfit most rows.now ≡ Some place }
 {
     match rows.first() {
         Some(first) if is_first(first) => {}
         _ => return Err(NotTree::Bad(1)),
     }
     for i in 1..rows.len() {
-        match add_row(alloc, nodes, &rows[i - 1], &rows[i]) {
+        match add_row(alloc, nodes, &rows[i - 1], &rows[i], most) {
             Ok(true) => {}
             Ok(false) => return Err(NotTree::Bad(i + 1)),
             Err(_) => return Err(NotTree::OutOfMemory),

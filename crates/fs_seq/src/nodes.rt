@@ -9,6 +9,7 @@ ghost use Rattle.fs_calls.specs.code.Seen.{sight};
 ghost use Rattle.fs_seq.specs.code.Nodes.{pair, pairs, place, graph, Searches, Steps, Resolves, LooksUp, number_there, shape_there, place_there, entry_there, full_there};
 ghost use Rattle.fs_seq.specs.code.Slots.{IsForest, Sets, place_at, links_at, links_of, shape_at, shape_of, Dir as IsDir};
 
+use crate::held_name::HeldName;
 use fs_calls::ranges::is_full;
 use fs_calls::rows::step_error;
 use fs_calls::{Errno, Sight};
@@ -19,7 +20,7 @@ use std::alloc::AllocError;
 /// An entry of a directory: its name, and the number of its node.
 #[derive(Drop)]
 pub struct Link {
-    pub name: Name,
+    pub name: HeldName,
     pub node: usize,
 }
 

@@ -1,13 +1,12 @@
 //! The calls that change nothing: what stands at a path.
 
-ghost use Rattle.std.specs.Prelude.{◌≡◌, Some, MatchResult, IfOk, OnErr, IsTrue, map, take, drop};
+ghost use Rattle.std.specs.Prelude.{◌≡◌, ℕ, Some, MatchResult, IfOk, OnErr, IsTrue, map, take, drop};
 ghost use Rattle.fs_calls.specs.Outcomes.{reply};
 ghost use Rattle.fs_calls.specs.Sights.{has_any};
 ghost use Rattle.fs_calls.specs.code.Targets.{node_call};
-ghost use Rattle.fs_seq.specs.Memory.{needs_memory};
 ghost use Rattle.fs_seq.specs.code.Nodes.{graph, pairs, place};
 ghost use Rattle.fs_seq.specs.code.Slots.{IsForest, tree_of};
-ghost use Rattle.fs_seq.specs.code.Effects.{IsFound, node_error};
+ghost use Rattle.fs_seq.specs.code.Effects.{IsFound, NeedsMemory, node_error};
 
 use crate::nodes::{Link, Node, resolve};
 use fs_calls::ranges::part;
@@ -16,19 +15,19 @@ use fs_names::{Kind, Path};
 use slab::Slab;
 use std::alloc::{AllocError, Global};
 
-/// The node on which a call works at a path, or the call's first error.
+/// The node on which a call works at a path, or the call's first error. No call here asks how many bytes a file may have.
 fn find<'a>(nodes: &'a Slab<Node>, path: &Path, call: NodeCall<'_>) -> Result<&'a Node, Errno>
     requires { IsForest (graph nodes.now) }
     ensures { MatchResult result
-        (λ node. IsFound (tree_of (graph nodes.now)) (node_call call.entry) path.now (place node.now))
-        (λ e. node_error (tree_of (graph nodes.now)) (node_call call.entry) path.now ≡ Some e) }
+        (λ node. IsFound (tree_of (graph nodes.now)) (node_call 0 call.entry) path.now (place node.now))
+        (λ e. node_error (tree_of (graph nodes.now)) (node_call 0 call.entry) path.now ≡ Some e) }
 {
     let at = match resolve(nodes, path, path.len()) {
         Ok(at) => at,
         Err(errno) => return Err(errno),
     };
     let node = &nodes[at];
-    match call.error(node.sight()) {
+    match call.error(0, node.sight()) {
         Some(errno) => Err(errno),
         None => Ok(node),
     }
@@ -37,7 +36,7 @@ fn find<'a>(nodes: &'a Slab<Node>, path: &Path, call: NodeCall<'_>) -> Result<&'
 /// The kind of a node and its size.
 pub fn stat(nodes: &Slab<Node>, path: &Path) -> Reply
     requires { IsForest (graph nodes.now) }
-    ensures { result ≡ reply (tree_of (graph nodes.now)) (Call.Stat path.now) }
+    ensures { (most : ℕ) → result ≡ reply most (tree_of (graph nodes.now)) (Call.Stat path.now) }
 {
     match find(nodes, path, NodeCall::Stat) {
         Err(errno) => Reply::Failed(errno),
@@ -53,7 +52,7 @@ fn names_of(alloc: Global, links: &[Link]) -> Result<NameList, AllocError>
 {
     let mut names = Vec::with_capacity(alloc, links.len())?;
     for link in links {
-        names.push(link.name.copy())?;
+        names.push(link.name.name().copy())?;
     }
     Ok(NameList::new(names))
 }
@@ -61,8 +60,8 @@ fn names_of(alloc: Global, links: &[Link]) -> Result<NameList, AllocError>
 /// All names of a directory, in byte order.
 pub fn readdir(alloc: Global, nodes: &Slab<Node>, path: &Path) -> Result<Reply, AllocError>
     requires { IsForest (graph nodes.now) }
-    ensures reply { IfOk result (λ r. r ≡ reply (tree_of (graph nodes.now)) (Call.Readdir path.now)) }
-    ensures memory { OnErr result (IsTrue (needs_memory (tree_of (graph nodes.now)) (Call.Readdir path.now))) }
+    ensures reply { IfOk result (λ r. (most : ℕ) → r ≡ reply most (tree_of (graph nodes.now)) (Call.Readdir path.now)) }
+    ensures memory { OnErr result (NeedsMemory (tree_of (graph nodes.now)) (Call.Readdir path.now)) }
 {
     match find(nodes, path, NodeCall::Readdir) {
         Err(errno) => Ok(Reply::Failed(errno)),
@@ -92,8 +91,8 @@ pub fn read(
     count: u64,
 ) -> Result<Reply, AllocError>
     requires { IsForest (graph nodes.now) }
-    ensures reply { IfOk result (λ r. r ≡ reply (tree_of (graph nodes.now)) (Call.Read path.now off count)) }
-    ensures memory { OnErr result (IsTrue (needs_memory (tree_of (graph nodes.now)) (Call.Read path.now off count))) }
+    ensures reply { IfOk result (λ r. (most : ℕ) → r ≡ reply most (tree_of (graph nodes.now)) (Call.Read path.now off count)) }
+    ensures memory { OnErr result (NeedsMemory (tree_of (graph nodes.now)) (Call.Read path.now off count)) }
 {
     match find(nodes, path, NodeCall::Read(off, count)) {
         Err(errno) => Ok(Reply::Failed(errno)),

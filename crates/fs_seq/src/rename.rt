@@ -10,17 +10,17 @@ ghost use Rattle.fs_calls.specs.Forms.{form, by_text};
 ghost use Rattle.fs_calls.specs.Rows.{place_fault};
 ghost use Rattle.fs_calls.specs.code.Seen.{sight};
 ghost use Rattle.fs_seq.specs.code.Renaming.{Plans, Displaces, Transfers};
-ghost use Rattle.fs_seq.specs.code.Effects.{Answers};
-ghost use Rattle.fs_seq.specs.Memory.{needs_memory};
+ghost use Rattle.fs_seq.specs.code.Effects.{Answers, NeedsMemory};
 ghost use Rattle.slab.specs.Slab.{ContainsKey};
 
+use crate::held_name::HeldName;
 use crate::nodes::{Entry, Link, Node, Spot, add_link, look_up, remove_link, search, sight_of};
 use fs_calls::ranges::is_full;
 use fs_calls::rows::PairSight;
 use fs_calls::{Call, Errno, PairCall, Reply, Sight, rename_error};
 use fs_names::{Name, Path};
 use slab::Slab;
-use std::alloc::AllocError;
+use std::alloc::{AllocError, Global};
 
 /// What a rename has to do.
 #[derive(Drop)]
@@ -86,15 +86,24 @@ fn decide(nodes: &Slab<Node>, from: &Path, to: &Path) -> Result<Plan, Errno>
     }
 }
 
-/// Takes the link at a place out, and puts another where it belongs, in the capacity that the first one had.
-fn replace(links: &mut Vec<Link>, i: usize, link: Link)
+/// Gives a link another name and another number.
+fn reset(link: &mut Link, name: &Name, node: usize)
+    ensures { pair link.new ≡ (name.now, node) }
+{
+    link.name.set(name);
+    link.node = node;
+}
+
+/// Takes the link at a place out, and puts it back under a name, where it belongs, in the capacity that it had.
+fn replace(links: &mut Vec<Link>, i: usize, name: &Name, node: usize)
     requires within { i < length (pairs links.old.items) }
     requires rising { IsTrue (is_sorted name_cmp (remove (pairs links.old.items) i)) }
-    requires absent { find name_cmp link.name (remove (pairs links.old.items) i) ≡ None }
-    ensures { pairs links.new.items ≡ put name_cmp link.name link.node (remove (pairs links.old.items) i) }
+    requires absent { find name_cmp name.now (remove (pairs links.old.items) i) ≡ None }
+    ensures { pairs links.new.items ≡ put name_cmp name.now node (remove (pairs links.old.items) i) }
 {
-    links.remove(i);
-    match search(links, &link.name) {
+    let mut link = links.remove(i);
+    reset(&mut link, name, node);
+    match search(links, name) {
         Ok(_) => unreachable!(),
         Err(at) => match links.insert(at, link) {
             Ok(()) => {}
@@ -104,27 +113,27 @@ fn replace(links: &mut Vec<Link>, i: usize, link: Link)
 }
 
 /// Lets the place of a directory have another link.
-fn set_link(nodes: &mut Slab<Node>, dir: usize, i: usize, link: Link)
+fn set_link(nodes: &mut Slab<Node>, dir: usize, i: usize, name: &Name, node: usize)
     requires directory { place_at (graph nodes.old) dir ≡ Some (IsDir (links_at (graph nodes.old) dir)) }
     requires within { i < length (links_at (graph nodes.old) dir) }
-    ensures { Sets (graph nodes.old) (graph nodes.new) dir (Some (IsDir (slice_set (links_at (graph nodes.old) dir) i (pair link)))) }
+    ensures { Sets (graph nodes.old) (graph nodes.new) dir (Some (IsDir (slice_set (links_at (graph nodes.old) dir) i (name.now, node)))) }
 {
     match &mut nodes[dir] {
-        Node::Dir(links) => links[i] = link,
+        Node::Dir(links) => reset(&mut links[i], name, node),
         Node::File(_) => {}
     }
 }
 
-/// Takes the link at a place of a directory out, and puts another into it where it belongs.
-fn replace_link(nodes: &mut Slab<Node>, dir: usize, i: usize, link: Link)
+/// Takes the link at a place of a directory out, and puts it back under a name, where it belongs.
+fn replace_link(nodes: &mut Slab<Node>, dir: usize, i: usize, name: &Name, node: usize)
     requires directory { place_at (graph nodes.old) dir ≡ Some (IsDir (links_at (graph nodes.old) dir)) }
     requires within { i < length (links_at (graph nodes.old) dir) }
     requires rising { IsTrue (is_sorted name_cmp (remove (links_at (graph nodes.old) dir) i)) }
-    requires absent { find name_cmp link.name (remove (links_at (graph nodes.old) dir) i) ≡ None }
-    ensures { Sets (graph nodes.old) (graph nodes.new) dir (Some (IsDir (put name_cmp link.name link.node (remove (links_at (graph nodes.old) dir) i)))) }
+    requires absent { find name_cmp name.now (remove (links_at (graph nodes.old) dir) i) ≡ None }
+    ensures { Sets (graph nodes.old) (graph nodes.new) dir (Some (IsDir (put name_cmp name.now node (remove (links_at (graph nodes.old) dir) i)))) }
 {
     match &mut nodes[dir] {
-        Node::Dir(links) => replace(links, i, link),
+        Node::Dir(links) => replace(links, i, name, node),
         Node::File(_) => {}
     }
 }
@@ -139,17 +148,14 @@ fn displace(nodes: &mut Slab<Node>, entry: Entry, victim: Entry, name: &Name)
     requires victim_node { IsSome (place_at (graph nodes.old) victim.node) }
     ensures { Displaces (graph nodes.old) (graph nodes.new) entry victim name.now }
 {
-    let link = Link {
-        name: name.copy(),
-        node: entry.node,
-    };
-    set_link(nodes, victim.dir, victim.place, link);
+    set_link(nodes, victim.dir, victim.place, name, entry.node);
     remove_link(nodes, entry.dir, entry.place);
     nodes.remove(victim.node);
 }
 
 /// Puts the entry under a name into another directory at a place, and takes it out of its own.
 fn transfer(
+    alloc: Global,
     nodes: &mut Slab<Node>,
     entry: Entry,
     dir: usize,
@@ -164,8 +170,9 @@ fn transfer(
     ensures ok { OnOk result (Transfers (graph nodes.old) (graph nodes.new) entry dir place name.now) }
     ensures err { OnErr result (graph nodes.new ≡ graph nodes.old) }
 {
+    let held = HeldName::new(alloc, name)?;
     let link = Link {
-        name: name.copy(),
+        name: held,
         node: entry.node,
     };
     add_link(nodes, dir, place, link)?;
@@ -175,11 +182,16 @@ fn transfer(
 
 /// Renames a node, with all below it; the node that stood at the new path is removed. A rename costs no more than its
 /// two directories, and allocates only where it adds an entry to another one.
-pub fn rename(nodes: &mut Slab<Node>, from: &Path, to: &Path) -> Result<Reply, AllocError>
+pub fn rename(
+    alloc: Global,
+    nodes: &mut Slab<Node>,
+    from: &Path,
+    to: &Path,
+) -> Result<Reply, AllocError>
     requires { IsForest (graph nodes.old) }
     ensures given { IfOk result (Answers (graph nodes.old) (graph nodes.new) (Call.Rename from.now to.now)) }
     ensures err { OnErr result (graph nodes.new ≡ graph nodes.old) }
-    ensures memory { OnErr result (IsTrue (needs_memory (tree_of (graph nodes.old)) (Call.Rename from.now to.now))) }
+    ensures memory { OnErr result (NeedsMemory (tree_of (graph nodes.old)) (Call.Rename from.now to.now)) }
 {
     let plan = match decide(nodes, from, to) {
         Ok(plan) => plan,
@@ -193,15 +205,11 @@ pub fn rename(nodes: &mut Slab<Node>, from: &Path, to: &Path) -> Result<Reply, A
             Ok(Reply::Done)
         }
         Plan::Within(entry) => {
-            let link = Link {
-                name: name.copy(),
-                node: entry.node,
-            };
-            replace_link(nodes, entry.dir, entry.place, link);
+            replace_link(nodes, entry.dir, entry.place, name, entry.node);
             Ok(Reply::Done)
         }
         Plan::Across(entry, dir, place) => {
-            transfer(nodes, entry, dir, place, name)?;
+            transfer(alloc, nodes, entry, dir, place, name)?;
             Ok(Reply::Done)
         }
     }

@@ -64,7 +64,7 @@ fn push_entries(
     for i in (0..links.len()).rev() {
         let link = &links[i];
         let entry = Ahead {
-            key: longer(alloc, key, &link.name)?,
+            key: longer(alloc, key, link.name.name())?,
             node: link.node,
         };
         ahead.push(entry)?;

@@ -1,8 +1,9 @@
 //! The sequential tree: a value of its own for one thread.
 
 ghost use Rattle.std.specs.Prelude.{◌≡◌, ℕ, None, Some, Err, map, IfOk, OnOk, OnErr, IsTrue};
-ghost use Rattle.fs_calls.specs.Tree.{root_tree};
-ghost use Rattle.fs_calls.specs.Outcomes.{reply, after};
+ghost use Rattle.fs_names.specs.Limits.{file_limit};
+ghost use Rattle.fs_calls.specs.Starts.{root_start};
+ghost use Rattle.fs_calls.specs.Outcomes.{reply_at, called};
 ghost use Rattle.fs_seq.specs.Memory.{needs_memory};
 ghost use Rattle.fs_seq.specs.Looks.{is_look};
 ghost use Rattle.fs_seq.specs.Rows.{misfit, row_of};
@@ -12,70 +13,88 @@ use crate::nodes::Node;
 use crate::rows::{self, Row};
 use crate::{copying, create, exchange, queries, remove, rename, write};
 use fs_calls::{Bytes, Call, Reply};
-use fs_names::Path;
+use fs_names::{Limits, Path};
 use slab::Slab;
 use std::alloc::{AllocError, Global};
 use std::marker::Model;
 
-/// A tree of directories and files, seen as the tree that its calls made.
+/// A tree of directories and files, seen as the tree that its calls made and the limits that it keeps.
 #[derive(Drop)]
 pub struct SeqTree {
     nodes: Slab<Node>,
+    limits: Limits,
 }
 
 impl Model for SeqTree {
-    ghost use Rattle.fs_calls.specs.Tree.{Tree};
+    ghost use Rattle.fs_calls.specs.Starts.{Start};
 
-    ghost Value = { Tree };
+    ghost Value = { Start };
 
     ghost use Rattle.fs_seq.specs.code.Nodes.{graph};
     ghost use Rattle.fs_seq.specs.code.Slots.{tree_of, IsForest};
 
-    ghost view = { λ s. tree_of (graph s.nodes) };
+    ghost view = { λ s. record { limits = s.limits; tree = tree_of (graph s.nodes) } };
 
     ghost invariant = { λ s. IsForest (graph s.nodes) };
 }
 
 impl SeqTree {
-    /// The tree of the root alone.
+    /// The tree of the root alone, which keeps the limits of the second version.
     pub fn new(alloc: Global) -> Result<SeqTree, AllocError>
-        ensures { IfOk result (λ tree. tree ≡ root_tree) }
+        ensures { IfOk result (λ tree. tree ≡ root_start Limits.V2) }
+    {
+        SeqTree::with_limits(alloc, Limits::V2)
+    }
+
+    /// The tree of the root alone, which keeps these limits.
+    pub fn with_limits(alloc: Global, limits: Limits) -> Result<SeqTree, AllocError>
+        ensures { IfOk result (λ tree. tree ≡ root_start limits) }
     {
         let mut nodes = Slab::new(alloc);
         match nodes.insert(Node::Dir(Vec::new(alloc))) {
-            Ok(_) => Ok(SeqTree { nodes }),
+            Ok(_) => Ok(SeqTree { nodes, limits }),
             Err(_) => Err(AllocError),
         }
     }
 
-    /// The same tree again, in memory of its own. Its nodes have the numbers that they have here, so that it has as many
+    /// The limits that it keeps.
+    pub fn limits(&self) -> Limits
+        ensures { result ≡ self.now.limits }
+    {
+        self.limits
+    }
+
+    /// The same tree again, of the same limits, in memory of its own. Its nodes have the numbers that they have here, so that it has as many
     /// places for nodes as this one.
     pub fn copy(&self) -> Result<SeqTree, AllocError>
         ensures { IfOk result (λ tree. tree ≡ self.now) }
     {
         let nodes = copying::copied(&self.nodes)?;
-        Ok(SeqTree { nodes })
+        Ok(SeqTree {
+            nodes,
+            limits: self.limits,
+        })
     }
 
     /// The entries of the tree, in the order of its text: each directory is followed at once by its entries, in byte order
     /// of their names.
     pub fn rows(&self, alloc: Global) -> Result<Vec<Row>, AllocError>
-        ensures { IfOk result (λ rows. map row_of rows.items ≡ self.now) }
+        ensures { IfOk result (λ rows. map row_of rows.items ≡ self.now.tree) }
     {
         rows::rows(alloc, &self.nodes)
     }
 
-    /// The tree of these entries. `Bad` tells the first row that no tree within the limits of entries and bytes has at its
+    /// The tree of these entries, which keeps these limits. `Bad` tells the first row that no tree within them has at its
     /// place; where memory is wanted for a row in front of it, `OutOfMemory` is told.
-    pub fn from_rows(alloc: Global, rows: &[Row]) -> Result<SeqTree, NotTree>
-        ensures tree { IfOk result (λ tree. tree ≡ map row_of rows.now) }
-        ensures fits { OnOk result (misfit rows.now ≡ None) }
-        ensures bad { (place : ℕ) → result ≡ Err (NotTree.Bad place) → misfit rows.now ≡ Some place }
+    pub fn from_rows(alloc: Global, rows: &[Row], limits: Limits) -> Result<SeqTree, NotTree>
+        ensures tree { IfOk result (λ tree. tree ≡ record { limits = limits; tree = map row_of rows.now }) }
+        ensures fits { OnOk result (misfit (file_limit limits) rows.now ≡ None) }
+        ensures bad { (place : ℕ) → result ≡ Err (NotTree.Bad place) → misfit (file_limit limits) rows.now ≡ Some place }
     {
-        let Ok(mut tree) = SeqTree::new(alloc) else {
+        let Ok(mut tree) = SeqTree::with_limits(alloc, limits) else {
             return Err(NotTree::OutOfMemory);
         };
-        match from_rows::add_rows(alloc, &mut tree.nodes, rows) {
+        match from_rows::add_rows(alloc, &mut tree.nodes, rows, limits.file()) {
             Ok(()) => Ok(tree),
             Err(why) => Err(why),
         }
@@ -84,17 +103,17 @@ impl SeqTree {
     /// The reply of a call on the tree, which is as the call says from then on. Out of memory the tree stays as it
     /// was; a call that needs to allocate nothing never fails so.
     pub fn apply(&mut self, alloc: Global, call: &Call) -> Result<Reply, AllocError>
-        ensures reply { IfOk result (λ r. r ≡ reply self.old call.now) }
-        ensures tree { OnOk result (self.new ≡ after self.old call.now) }
+        ensures reply { IfOk result (λ r. r ≡ reply_at self.old call.now) }
+        ensures tree { OnOk result (self.new ≡ called self.old call.now) }
         ensures err { OnErr result (self.new ≡ self.old) }
-        ensures memory { OnErr result (IsTrue (needs_memory self.old call.now)) }
+        ensures memory { OnErr result (IsTrue (needs_memory (file_limit self.old.limits) self.old.tree call.now)) }
     {
         match call {
             Call::Mkdir(path) => self.mkdir(alloc, path),
             Call::Mknod(path) => self.mknod(alloc, path),
             Call::Unlink(path) => Ok(self.unlink(path)),
             Call::Rmdir(path) => Ok(self.rmdir(path)),
-            Call::Rename(from, to) => self.rename(from, to),
+            Call::Rename(from, to) => self.rename(alloc, from, to),
             Call::Exchange(path, other) => Ok(self.exchange(path, other)),
             Call::Stat(_) | Call::Readdir(_) | Call::Read(_, _, _) => self.look(alloc, call),
             Call::Write(path, off, bytes) => self.write(path, *off, bytes),
@@ -106,8 +125,8 @@ impl SeqTree {
     /// that needs to allocate nothing never fails.
     pub fn look(&self, alloc: Global, call: &Call) -> Result<Reply, AllocError>
         requires { IsTrue (is_look call.now) }
-        ensures reply { IfOk result (λ r. r ≡ reply self.now call.now) }
-        ensures memory { OnErr result (IsTrue (needs_memory self.now call.now)) }
+        ensures reply { IfOk result (λ r. r ≡ reply_at self.now call.now) }
+        ensures memory { OnErr result (IsTrue (needs_memory (file_limit self.now.limits) self.now.tree call.now)) }
     {
         match call {
             Call::Stat(path) => Ok(self.stat(path)),
@@ -120,88 +139,88 @@ impl SeqTree {
     }
 
     fn mkdir(&mut self, alloc: Global, path: &Path) -> Result<Reply, AllocError>
-        ensures reply { IfOk result (λ r. r ≡ reply self.old (Call.Mkdir path.now)) }
-        ensures tree { OnOk result (self.new ≡ after self.old (Call.Mkdir path.now)) }
+        ensures reply { IfOk result (λ r. r ≡ reply_at self.old (Call.Mkdir path.now)) }
+        ensures tree { OnOk result (self.new ≡ called self.old (Call.Mkdir path.now)) }
         ensures err { OnErr result (self.new ≡ self.old) }
-        ensures memory { OnErr result (IsTrue (needs_memory self.old (Call.Mkdir path.now))) }
+        ensures memory { OnErr result (IsTrue (needs_memory (file_limit self.old.limits) self.old.tree (Call.Mkdir path.now))) }
     {
         create::mkdir(alloc, &mut self.nodes, path)
     }
 
     fn mknod(&mut self, alloc: Global, path: &Path) -> Result<Reply, AllocError>
-        ensures reply { IfOk result (λ r. r ≡ reply self.old (Call.Mknod path.now)) }
-        ensures tree { OnOk result (self.new ≡ after self.old (Call.Mknod path.now)) }
+        ensures reply { IfOk result (λ r. r ≡ reply_at self.old (Call.Mknod path.now)) }
+        ensures tree { OnOk result (self.new ≡ called self.old (Call.Mknod path.now)) }
         ensures err { OnErr result (self.new ≡ self.old) }
-        ensures memory { OnErr result (IsTrue (needs_memory self.old (Call.Mknod path.now))) }
+        ensures memory { OnErr result (IsTrue (needs_memory (file_limit self.old.limits) self.old.tree (Call.Mknod path.now))) }
     {
         create::mknod(alloc, &mut self.nodes, path)
     }
 
     fn unlink(&mut self, path: &Path) -> Reply
-        ensures reply { result ≡ reply self.old (Call.Unlink path.now) }
-        ensures tree { self.new ≡ after self.old (Call.Unlink path.now) }
+        ensures reply { result ≡ reply_at self.old (Call.Unlink path.now) }
+        ensures tree { self.new ≡ called self.old (Call.Unlink path.now) }
     {
         remove::unlink(&mut self.nodes, path)
     }
 
     fn rmdir(&mut self, path: &Path) -> Reply
-        ensures reply { result ≡ reply self.old (Call.Rmdir path.now) }
-        ensures tree { self.new ≡ after self.old (Call.Rmdir path.now) }
+        ensures reply { result ≡ reply_at self.old (Call.Rmdir path.now) }
+        ensures tree { self.new ≡ called self.old (Call.Rmdir path.now) }
     {
         remove::rmdir(&mut self.nodes, path)
     }
 
-    fn rename(&mut self, from: &Path, to: &Path) -> Result<Reply, AllocError>
-        ensures reply { IfOk result (λ r. r ≡ reply self.old (Call.Rename from.now to.now)) }
-        ensures tree { OnOk result (self.new ≡ after self.old (Call.Rename from.now to.now)) }
+    fn rename(&mut self, alloc: Global, from: &Path, to: &Path) -> Result<Reply, AllocError>
+        ensures reply { IfOk result (λ r. r ≡ reply_at self.old (Call.Rename from.now to.now)) }
+        ensures tree { OnOk result (self.new ≡ called self.old (Call.Rename from.now to.now)) }
         ensures err { OnErr result (self.new ≡ self.old) }
-        ensures memory { OnErr result (IsTrue (needs_memory self.old (Call.Rename from.now to.now))) }
+        ensures memory { OnErr result (IsTrue (needs_memory (file_limit self.old.limits) self.old.tree (Call.Rename from.now to.now))) }
     {
-        rename::rename(&mut self.nodes, from, to)
+        rename::rename(alloc, &mut self.nodes, from, to)
     }
 
     fn exchange(&mut self, path: &Path, other: &Path) -> Reply
-        ensures reply { result ≡ reply self.old (Call.Exchange path.now other.now) }
-        ensures tree { self.new ≡ after self.old (Call.Exchange path.now other.now) }
+        ensures reply { result ≡ reply_at self.old (Call.Exchange path.now other.now) }
+        ensures tree { self.new ≡ called self.old (Call.Exchange path.now other.now) }
     {
         exchange::exchange(&mut self.nodes, path, other)
     }
 
     fn stat(&self, path: &Path) -> Reply
-        ensures { result ≡ reply self.now (Call.Stat path.now) }
+        ensures { result ≡ reply_at self.now (Call.Stat path.now) }
     {
         queries::stat(&self.nodes, path)
     }
 
     fn readdir(&self, alloc: Global, path: &Path) -> Result<Reply, AllocError>
-        ensures reply { IfOk result (λ r. r ≡ reply self.now (Call.Readdir path.now)) }
-        ensures memory { OnErr result (IsTrue (needs_memory self.now (Call.Readdir path.now))) }
+        ensures reply { IfOk result (λ r. r ≡ reply_at self.now (Call.Readdir path.now)) }
+        ensures memory { OnErr result (IsTrue (needs_memory (file_limit self.now.limits) self.now.tree (Call.Readdir path.now))) }
     {
         queries::readdir(alloc, &self.nodes, path)
     }
 
     fn read(&self, alloc: Global, path: &Path, off: u64, count: u64) -> Result<Reply, AllocError>
-        ensures reply { IfOk result (λ r. r ≡ reply self.now (Call.Read path.now off count)) }
-        ensures memory { OnErr result (IsTrue (needs_memory self.now (Call.Read path.now off count))) }
+        ensures reply { IfOk result (λ r. r ≡ reply_at self.now (Call.Read path.now off count)) }
+        ensures memory { OnErr result (IsTrue (needs_memory (file_limit self.now.limits) self.now.tree (Call.Read path.now off count))) }
     {
         queries::read(alloc, &self.nodes, path, off, count)
     }
 
     fn write(&mut self, path: &Path, off: u64, bytes: &Bytes) -> Result<Reply, AllocError>
-        ensures reply { IfOk result (λ r. r ≡ reply self.old (Call.Write path.now off bytes.now)) }
-        ensures tree { OnOk result (self.new ≡ after self.old (Call.Write path.now off bytes.now)) }
+        ensures reply { IfOk result (λ r. r ≡ reply_at self.old (Call.Write path.now off bytes.now)) }
+        ensures tree { OnOk result (self.new ≡ called self.old (Call.Write path.now off bytes.now)) }
         ensures err { OnErr result (self.new ≡ self.old) }
-        ensures memory { OnErr result (IsTrue (needs_memory self.old (Call.Write path.now off bytes.now))) }
+        ensures memory { OnErr result (IsTrue (needs_memory (file_limit self.old.limits) self.old.tree (Call.Write path.now off bytes.now))) }
     {
-        write::write(&mut self.nodes, path, off, bytes)
+        write::write(&mut self.nodes, path, off, bytes, self.limits.file())
     }
 
     fn truncate(&mut self, path: &Path, size: u64) -> Result<Reply, AllocError>
-        ensures reply { IfOk result (λ r. r ≡ reply self.old (Call.Truncate path.now size)) }
-        ensures tree { OnOk result (self.new ≡ after self.old (Call.Truncate path.now size)) }
+        ensures reply { IfOk result (λ r. r ≡ reply_at self.old (Call.Truncate path.now size)) }
+        ensures tree { OnOk result (self.new ≡ called self.old (Call.Truncate path.now size)) }
         ensures err { OnErr result (self.new ≡ self.old) }
-        ensures memory { OnErr result (IsTrue (needs_memory self.old (Call.Truncate path.now size))) }
+        ensures memory { OnErr result (IsTrue (needs_memory (file_limit self.old.limits) self.old.tree (Call.Truncate path.now size))) }
     {
-        write::truncate(&mut self.nodes, path, size)
+        write::truncate(&mut self.nodes, path, size, self.limits.file())
     }
 }

@@ -1,18 +1,18 @@
 //! The calls that change the bytes of a file.
 
-ghost use Rattle.std.specs.Prelude.{◌≡◌, ◌≤◌, ◌<◌, ◌+◌, ◌++◌, ◌-◌, take, drop, replicate, IfOk, OnOk, OnErr, IsTrue, length, nat_lt, None, Some, ◌&&◌};
+ghost use Rattle.std.specs.Prelude.{◌≡◌, ◌<◌, ◌+◌, ◌++◌, ◌-◌, ◌^◌, take, drop, replicate, IfOk, OnOk, OnErr, IsTrue, length, nat_lt, None, Some, ◌&&◌};
 ghost use Rattle.fs_calls.specs.Rows.{node_fault, written, resized};
 ghost use Rattle.fs_calls.specs.Sights.{has_any, bytes_of};
 ghost use Rattle.fs_calls.specs.Forms as calls;
 ghost use Rattle.fs_seq.specs.Memory.{needs_memory};
 ghost use Rattle.fs_seq.specs.code.Nodes.{graph, place};
 ghost use Rattle.fs_seq.specs.code.Slots.{IsForest, shape_of, tree_of};
-ghost use Rattle.fs_seq.specs.code.Effects.{Answers, Rewrites, overflow, written_if_any};
+ghost use Rattle.fs_seq.specs.code.Effects.{AnswersWithin, Rewrites, written_if_any};
 
 use crate::nodes::{Node, resolve};
 use fs_calls::ranges::put;
 use fs_calls::{Bytes, Call, NodeCall, Reply};
-use fs_names::{FILE_LIMIT, Path};
+use fs_names::Path;
 use slab::Slab;
 use std::alloc::AllocError;
 
@@ -30,7 +30,7 @@ fn grow(bytes: &mut Vec<u8>, len: usize) -> Result<(), AllocError>
 
 /// Puts bytes over those from an offset on, where the file may grow; a gap is filled with zeros.
 fn overwrite(old: &mut Vec<u8>, off: usize, bytes: &[u8]) -> Result<(), AllocError>
-    requires { off + length bytes.now ≤ FILE_LIMIT }
+    requires { off + length bytes.now < 2 ^ 64 }
     ensures ok { OnOk result (old.new.items ≡ written old.old.items off bytes.now) }
     ensures err { OnErr result (old.new.items ≡ old.old.items) }
     ensures memory { OnErr result (length old.old.items < off + length bytes.now) }
@@ -42,7 +42,7 @@ fn overwrite(old: &mut Vec<u8>, off: usize, bytes: &[u8]) -> Result<(), AllocErr
 
 /// Writes bytes into a file's, where it may grow, if there are any.
 fn fill(old: &mut Vec<u8>, off: u64, bytes: &[u8]) -> Result<(), AllocError>
-    requires { overflow off bytes.now ≡ None }
+    requires { IsTrue (has_any bytes.now) → off + length bytes.now < 2 ^ 64 }
     ensures ok { OnOk result (old.new.items ≡ written_if_any old.old.items off bytes.now) }
     ensures err { OnErr result (old.new.items ≡ old.old.items) }
     ensures memory { OnErr result (IsTrue (has_any bytes.now && nat_lt (length old.old.items) (off + length bytes.now))) }
@@ -54,12 +54,12 @@ fn fill(old: &mut Vec<u8>, off: u64, bytes: &[u8]) -> Result<(), AllocError>
 }
 
 /// Writes bytes into a node's, unless the row has an error.
-fn write_node(node: &mut Node, off: u64, bytes: &Bytes) -> Result<Reply, AllocError>
-    ensures given { IfOk result (Rewrites (place node.old) (place node.new) (calls.Write off bytes.now)) }
+fn write_node(node: &mut Node, off: u64, bytes: &Bytes, most: usize) -> Result<Reply, AllocError>
+    ensures given { IfOk result (Rewrites (place node.old) (place node.new) (calls.Write most off bytes.now)) }
     ensures err { OnErr result (place node.new ≡ place node.old) }
-    ensures memory { OnErr result ((node_fault (calls.Write off bytes.now) None (shape_of (Some (place node.old))) ≡ None) × IsTrue (has_any bytes.now && nat_lt (length (bytes_of (shape_of (Some (place node.old))))) (off + length bytes.now))) }
+    ensures memory { OnErr result ((node_fault (calls.Write most off bytes.now) None (shape_of (Some (place node.old))) ≡ None) × IsTrue (has_any bytes.now && nat_lt (length (bytes_of (shape_of (Some (place node.old))))) (off + length bytes.now))) }
 {
-    if let Some(errno) = NodeCall::Write(off, bytes).error(node.sight()) {
+    if let Some(errno) = NodeCall::Write(off, bytes).error(most, node.sight()) {
         return Ok(Reply::Failed(errno));
     }
     if let Node::File(old) = node {
@@ -79,12 +79,12 @@ fn resize(bytes: &mut Vec<u8>, size: u64) -> Result<(), AllocError>
 }
 
 /// Cuts a node's bytes to a size, or adds zeros up to it, unless the row has an error.
-fn truncate_node(node: &mut Node, size: u64) -> Result<Reply, AllocError>
-    ensures given { IfOk result (Rewrites (place node.old) (place node.new) (calls.Truncate size)) }
+fn truncate_node(node: &mut Node, size: u64, most: usize) -> Result<Reply, AllocError>
+    ensures given { IfOk result (Rewrites (place node.old) (place node.new) (calls.Truncate most size)) }
     ensures err { OnErr result (place node.new ≡ place node.old) }
-    ensures memory { OnErr result ((node_fault (calls.Truncate size) None (shape_of (Some (place node.old))) ≡ None) × IsTrue (nat_lt (length (bytes_of (shape_of (Some (place node.old))))) size)) }
+    ensures memory { OnErr result ((node_fault (calls.Truncate most size) None (shape_of (Some (place node.old))) ≡ None) × IsTrue (nat_lt (length (bytes_of (shape_of (Some (place node.old))))) size)) }
 {
-    if let Some(errno) = NodeCall::Truncate(size).error(node.sight()) {
+    if let Some(errno) = NodeCall::Truncate(size).error(most, node.sight()) {
         return Ok(Reply::Failed(errno));
     }
     if let Node::File(bytes) = node {
@@ -93,33 +93,39 @@ fn truncate_node(node: &mut Node, size: u64) -> Result<Reply, AllocError>
     Ok(Reply::Done)
 }
 
-/// Writes bytes into the file at the path.
+/// Writes bytes into the file at the path, where a file has at most so many.
 pub fn write(
     nodes: &mut Slab<Node>,
     path: &Path,
     off: u64,
     bytes: &Bytes,
+    most: usize,
 ) -> Result<Reply, AllocError>
     requires { IsForest (graph nodes.old) }
-    ensures given { IfOk result (Answers (graph nodes.old) (graph nodes.new) (Call.Write path.now off bytes.now)) }
+    ensures given { IfOk result (AnswersWithin most (graph nodes.old) (graph nodes.new) (Call.Write path.now off bytes.now)) }
     ensures err { OnErr result (graph nodes.new ≡ graph nodes.old) }
-    ensures memory { OnErr result (IsTrue (needs_memory (tree_of (graph nodes.old)) (Call.Write path.now off bytes.now))) }
+    ensures memory { OnErr result (IsTrue (needs_memory most (tree_of (graph nodes.old)) (Call.Write path.now off bytes.now))) }
 {
     match resolve(nodes, path, path.len()) {
         Err(errno) => Ok(Reply::Failed(errno)),
-        Ok(at) => write_node(&mut nodes[at], off, bytes),
+        Ok(at) => write_node(&mut nodes[at], off, bytes, most),
     }
 }
 
-/// Cuts the file at the path to a size, or adds zeros up to it.
-pub fn truncate(nodes: &mut Slab<Node>, path: &Path, size: u64) -> Result<Reply, AllocError>
+/// Cuts the file at the path to a size, or adds zeros up to it, where a file has at most so many bytes.
+pub fn truncate(
+    nodes: &mut Slab<Node>,
+    path: &Path,
+    size: u64,
+    most: usize,
+) -> Result<Reply, AllocError>
     requires { IsForest (graph nodes.old) }
-    ensures given { IfOk result (Answers (graph nodes.old) (graph nodes.new) (Call.Truncate path.now size)) }
+    ensures given { IfOk result (AnswersWithin most (graph nodes.old) (graph nodes.new) (Call.Truncate path.now size)) }
     ensures err { OnErr result (graph nodes.new ≡ graph nodes.old) }
-    ensures memory { OnErr result (IsTrue (needs_memory (tree_of (graph nodes.old)) (Call.Truncate path.now size))) }
+    ensures memory { OnErr result (IsTrue (needs_memory most (tree_of (graph nodes.old)) (Call.Truncate path.now size))) }
 {
     match resolve(nodes, path, path.len()) {
         Err(errno) => Ok(Reply::Failed(errno)),
-        Ok(at) => truncate_node(&mut nodes[at], size),
+        Ok(at) => truncate_node(&mut nodes[at], size, most),
     }
 }

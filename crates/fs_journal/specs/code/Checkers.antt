@@ -12,5 +12,5 @@ known k = record {
   replies = λ c. due_in (begun_at k.calls c);
   returned = λ c. is_back (begun_at k.calls c);
   last = λ s. get nat_cmp k.last s;
-  tree = k.tree;
+  now = k.tree;
 }

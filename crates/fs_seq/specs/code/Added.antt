@@ -8,8 +8,8 @@ use Rattle.fs_seq.specs.code.Slots.{Slots, Dir, place_at, links_at, walk, tree_o
 use Rattle.fs_seq.specs.code.Nodes.{BelongsAt}
 
 -- a row fits, and this is its directory, the place among the entries there and its name
-pub record IsPlaceOf (g : Slots) (row : Row) (dir i : ℕ) (x : Name) : Type 0 where
-  pub fits : fits (tree_of g) row ≡ true
+pub record IsPlaceOf (most : ℕ) (g : Slots) (row : Row) (dir i : ℕ) (x : Name) : Type 0 where
+  pub fits : fits most (tree_of g) row ≡ true
   pub above : Key
   pub split : key_of row ≡ above ++ x ∷ []
   pub parent : walk g above ≡ Some dir

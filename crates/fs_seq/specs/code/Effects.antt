@@ -1,9 +1,8 @@
 -- What the functions on nodes answer and leave.
-use Rattle.std.specs.Prelude.{◌≡◌, ℕ, ◌+◌, ◌&&◌, nat_lt, length, List, [], insert, remove, ◌<◌, Option, Some, None, Result, Ok, Err, if◌then◌else◌}
+use Rattle.std.specs.Prelude.{◌≡◌, ℕ, length, List, [], insert, remove, ◌<◌, Option, Some, None, Result, Ok, Err, if◌then◌else◌, IsTrue}
 use Rattle.fs_names.specs.Names.{Name}
 use Rattle.fs_names.specs.Keys.{Key, is_root, parent_of, last_of}
 use Rattle.fs_names.specs.Failures.{check, or_else}
-use Rattle.fs_names.specs.declared.limits.TheConstants.{FILE_LIMIT}
 use Rattle.fs_calls.specs.Tree as tree
 use Rattle.fs_calls.specs.Tree.{Tree}
 use Rattle.fs_calls.specs.Sights.{tree_shapes, has_any, is_full}
@@ -12,6 +11,7 @@ use Rattle.fs_calls.specs.Forms.{NodeCall}
 use Rattle.fs_calls.specs.declared.target.EntryCall.{EntryCall}
 use Rattle.fs_calls.specs.declared.target.EntryCall.TheVariants.{Mkdir, Mknod, Unlink, Rmdir}
 use Rattle.fs_calls.specs.Rows.{entry_fault, node_fault, node_row, written}
+use Rattle.fs_seq.specs.Memory.{needs_memory}
 use Rattle.fs_seq.specs.code.Slots.{Place, Dir, File, Slots, place_at, links_at, shape_of, walk, tree_of, IsForest, Sets}
 use Rattle.fs_seq.specs.code.Nodes.{BelongsAt, IsTaken}
 use Rattle.fs_seq.specs.declared.nodes.Node.{Node}
@@ -20,7 +20,7 @@ use Rattle.fs_calls.specs.declared.call.Call.{Call}
 use Rattle.fs_calls.specs.declared.call.Call.TheVariants as calls
 use Rattle.fs_calls.specs.declared.reply.Reply.{Reply}
 use Rattle.fs_calls.specs.declared.errno.Errno.{Errno}
-use Rattle.fs_calls.specs.declared.errno.Errno.TheVariants.{Eexist, Efbig}
+use Rattle.fs_calls.specs.declared.errno.Errno.TheVariants.{Eexist}
 
 -- a call's reply, and the graph that it leaves, by its errors, its reply without one and the tree that it then makes
 pub record Gives (g g' : Slots) (found : Option Errno) (well : Reply) (new : Tree) (r : Reply) : Type 0 where
@@ -28,11 +28,25 @@ pub record Gives (g g' : Slots) (found : Option Errno) (well : Reply) (new : Tre
   pub tree : tree_of g' ≡ if_sound found (tree_of g) new
   pub forest : IsForest g'
 
--- the same, of a call
-pub record Answers (g g' : Slots) (call : Call) (r : Reply) : Type 0 where
-  pub reply : r ≡ reply (tree_of g) call
-  pub tree : tree_of g' ≡ after (tree_of g) call
+-- the same, of a call where a file has at most so many bytes
+pub record AnswersWithin (most : ℕ) (g g' : Slots) (call : Call) (r : Reply) : Type 0 where
+  pub reply : r ≡ reply most (tree_of g) call
+  pub tree : tree_of g' ≡ after most (tree_of g) call
   pub forest : IsForest g'
+
+-- the same, of a call that does not ask how many these are
+pub record Answers (g g' : Slots) (call : Call) (r : Reply) : Type 0 where
+  pub reply : (most : ℕ) → r ≡ reply most (tree_of g) call
+  pub tree : (most : ℕ) → tree_of g' ≡ after most (tree_of g) call
+  pub forest : IsForest g'
+
+-- the first error of such a call, or that it has none
+abbrev pub HasFault : Tree → Call → Option Errno → Type 0
+HasFault t call o = (most : ℕ) → fault most t call ≡ o
+
+-- such a call needs memory
+abbrev pub NeedsMemory : Tree → Call → Type 0
+NeedsMemory t call = (most : ℕ) → IsTrue (needs_memory most t call)
 
 -- what a node is in a tree
 abbrev pub tree_node : Node → tree.Node
@@ -73,7 +87,7 @@ pub record Attaches (g g' : Slots) (dir i : ℕ) (x : Name) (new : Place) : Type
 
 -- an entry without entries of its own, which a call removes
 pub record IsVictim (g : Slots) (call : Call) (p : Key) (dir i n : ℕ) : Type 0 where
-  pub sound : fault (tree_of g) call ≡ None
+  pub sound : HasFault (tree_of g) call None
   pub named : 0 < length p
   pub spot : IsTaken g p dir i n
   pub leaf : links_at g n ≡ []
@@ -92,10 +106,6 @@ node_error t c p = node_fault c (resolution t p) (tree_shapes t p)
 pub record IsFound (t : Tree) (c : NodeCall) (p : Key) (at : Place) : Type 0 where
   pub sound : node_error t c p ≡ None
   pub shape : tree_shapes t p ≡ shape_of (Some at)
-
--- a write makes the file too large
-abbrev pub overflow : ℕ → List ℕ → Option Errno
-overflow off bytes = check (has_any bytes && nat_lt FILE_LIMIT (off + length bytes)) Efbig
 
 -- the bytes of a file after a write, which does nothing where there is nothing to write
 abbrev pub written_if_any : List ℕ → ℕ → List ℕ → List ℕ

@@ -2,17 +2,17 @@
 use Rattle.std.specs.Prelude.{◌≡◌, ℕ, slice_get, slice_set, Some, None, Result, Ok, Err}
 use Rattle.fs_names.specs.Names.{Name}
 use Rattle.fs_names.specs.Keys.{Key}
-use Rattle.fs_calls.specs.Outcomes.{fault}
 use Rattle.fs_calls.specs.declared.call.Call.TheVariants.{Exchange}
 use Rattle.fs_calls.specs.declared.errno.Errno.{Errno}
 use Rattle.fs_seq.specs.declared.nodes.Entry.{Entry}
 use Rattle.fs_seq.specs.code.Slots.{Slots, Dir, links_at, tree_of, Sets}
 use Rattle.fs_seq.specs.code.Nodes.{name_of, IsAt}
+use Rattle.fs_seq.specs.code.Effects.{HasFault}
 
 -- the entries at both paths of an exchange without an error; or the first error
 abbrev pub FindsBoth : Slots → Key → Key → Result (Entry × Entry) Errno → Type 0
-FindsBoth g p q (Ok both) = (fault (tree_of g) (Exchange p q) ≡ None) × IsAt g p both.0 × IsAt g q both.1
-FindsBoth g p q (Err e) = fault (tree_of g) (Exchange p q) ≡ Some e
+FindsBoth g p q (Ok both) = HasFault (tree_of g) (Exchange p q) None × IsAt g p both.0 × IsAt g q both.1
+FindsBoth g p q (Err e) = HasFault (tree_of g) (Exchange p q) (Some e)
 
 -- the entry at a place of a directory leads to another number under its name
 abbrev pub Leads : Slots → Slots → ℕ → ℕ → ℕ → Type 0

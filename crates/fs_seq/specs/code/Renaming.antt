@@ -2,9 +2,9 @@
 use Rattle.std.specs.Prelude.{◌≡◌, ◌≢◌, ℕ, insert, remove, slice_set, Some, None, Result, Ok, Err}
 use Rattle.fs_names.specs.Names.{Name}
 use Rattle.fs_names.specs.Keys.{Key}
-use Rattle.fs_calls.specs.Outcomes.{fault}
 use Rattle.fs_seq.specs.code.Slots.{Slots, Dir, links_at, tree_of, Sets}
 use Rattle.fs_seq.specs.code.Nodes.{IsFree, IsAt}
+use Rattle.fs_seq.specs.code.Effects.{HasFault}
 use Rattle.fs_calls.specs.declared.call.Call.TheVariants.{Rename}
 use Rattle.fs_calls.specs.declared.errno.Errno.{Errno}
 use Rattle.fs_seq.specs.declared.nodes.Entry.{Entry}
@@ -13,16 +13,16 @@ use Rattle.fs_seq.specs.declared.rename.Plan.TheVariants.{Stay, Onto, Within, Ac
 
 -- a rename without an error, of one path to another
 pub record Moves (g : Slots) (p q : Key) : Type 0 where
-  pub allowed : fault (tree_of g) (Rename p q) ≡ None
+  pub allowed : HasFault (tree_of g) (Rename p q) None
   pub differ : p ≢ q
 
 -- nothing to do, an entry onto another, an entry of a new name in its directory, or an entry to another directory; or the first error
 abbrev pub Plans : Slots → Key → Key → Result Plan Errno → Type 0
-Plans g p q (Ok Stay) = (fault (tree_of g) (Rename p q) ≡ None) × (p ≡ q)
+Plans g p q (Ok Stay) = HasFault (tree_of g) (Rename p q) None × (p ≡ q)
 Plans g p q (Ok (Onto entry victim)) = Moves g p q × IsAt g p entry × IsAt g q victim
 Plans g p q (Ok (Within entry)) = Moves g p q × IsAt g p entry × ((i entries : ℕ) × IsFree g q entry.dir i entries)
 Plans g p q (Ok (Across entry dir i)) = Moves g p q × IsAt g p entry × ((entries : ℕ) × IsFree g q dir i entries) × (entry.dir ≢ dir)
-Plans g p q (Err e) = fault (tree_of g) (Rename p q) ≡ Some e
+Plans g p q (Err e) = HasFault (tree_of g) (Rename p q) (Some e)
 
 -- an entry is led to the node of another one, which is taken out, and its own node is removed
 pub record Displaces (g g' : Slots) (entry victim : Entry) (x : Name) : Type 0 where

@@ -3,13 +3,15 @@ use Rattle.fs_calls.specs.declared.call.Call.TheVariants.{Exchange}
 use Rattle.fs_calls.specs.declared.reply.Reply.TheVariants.{Done}
 use Rattle.fs_seq.specs.code.Nodes.{graph}
 use Rattle.fs_seq.specs.code.Effects.{Answers}
-use Rattle.fs_seq.proofs.Replies.{refused}
+use Rattle.fs_seq.proofs.Replies.{at_each, refused}
 use Rattle.fs_seq.proofs.Exchanged.{stayed, swapped}
 use Rattle.fs_seq.proofs.exchange.exchange.Goals.{then-one-two, else-one-two}
 use Rattle.fs_seq.proofs.exchange.exchange.Goals as goal
 
 pub returns-in-Err : goal.returns-in-Err
-returns-in-Err c = refused (graph c.args.nodes.now) (graph c.args.nodes.now) (Exchange c.args.path.now c.args.other.now) c.in-Err.errno refl c.requires c.in-Err.ensures
+returns-in-Err c =
+    let g = graph c.args.nodes.now in
+    at_each g g (Exchange c.args.path.now c.args.other.now) _ (λ most. refused most g g (Exchange c.args.path.now c.args.other.now) c.in-Err.errno refl c.requires (c.in-Err.ensures most))
 
 pub returns : goal.returns
 returns c =

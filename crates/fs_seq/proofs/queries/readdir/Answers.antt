@@ -10,20 +10,20 @@ use Rattle.fs_seq.proofs.Replies.{needs, on_err}
 use Rattle.fs_seq.proofs.queries.readdir.Goals as goal
 
 pub returns-in-Err-clause-reply : goal.returns-in-Err-clause-reply
-returns-in-Err-clause-reply c =
+returns-in-Err-clause-reply c most =
     let p = c.args.path.now in
-    failed_reply (Readdir p) forms.Readdir p refl (tree_of (graph c.args.nodes.now)) c.in-Err.errno c.in-Err.ensures
+    failed_reply most (Readdir p) forms.Readdir p refl (tree_of (graph c.args.nodes.now)) c.in-Err.errno c.in-Err.ensures
 
 pub returns-in_ok-names-in-Ok-clause-reply : goal.returns-in_ok-names-in-Ok-clause-reply
-returns-in_ok-names-in-Ok-clause-reply c =
+returns-in_ok-names-in-Ok-clause-reply c most =
     let p = c.args.path.now in
     ap replies.Names (c.in_ok-names-in-Ok.ensures.ok ∙ ap (map (λ l. l.0)) c.links.ensures ∙ link_names (place c.in-Ok.node.now))
-    ∙ found_reply (Readdir p) forms.Readdir p refl (tree_of (graph c.args.nodes.now)) _ c.in-Ok.ensures
+    ∙ found_reply most (Readdir p) forms.Readdir p refl (tree_of (graph c.args.nodes.now)) _ c.in-Ok.ensures
 
 pub returns-in_err-names-in-Ok-clause-memory : goal.returns-in_err-names-in-Ok-clause-memory
 returns-in_err-names-in-Ok-clause-memory c =
     let p = c.args.path.now in
     let t = tree_of (graph c.args.nodes.now) in
-    on_err c.from_residual.result (needs t (Readdir p)
-    (looking_fault (Readdir p) forms.Readdir p refl t ∙ c.in-Ok.ensures.sound)
+    on_err c.from_residual.result (λ most. needs most t (Readdir p)
+    (looking_fault most (Readdir p) forms.Readdir p refl t ∙ c.in-Ok.ensures.sound)
     (ap has_any (ap names_of c.in-Ok.ensures.shape ∙ sym (link_names (place c.in-Ok.node.now)) ∙ sym (ap (map (λ l. l.0)) c.links.ensures)) ∙ c.in_err-names-in-Ok.ensures.memory))

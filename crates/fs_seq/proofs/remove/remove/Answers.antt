@@ -17,7 +17,7 @@ returns-then-len-eq0 c =
     let e = c.args.entry in
     let g = graph c.args.nodes.now in
     refused (call_on e p) p (root_error e) (λ parent there. entry_fault e parent false there) (entry_goes e c.requires.removes p) g c.root_error.result c.requires.forest
-    (root_fault (call_on e p) p (root_error e) (λ parent there. entry_fault e parent false there) (entry_goes e c.requires.removes p) (tree_of g) (sym c.len.ensures.len ∙ c.if-len-eq0.true) ∙ ap Some (sym c.root_error.ensures))
+    (λ most. root_fault (call_on e p) p (root_error e) (λ parent there. entry_fault e parent false there) (entry_goes e c.requires.removes p) (tree_of g) (sym c.len.ensures.len ∙ c.if-len-eq0.true) most ∙ ap Some (sym c.root_error.ensures))
 
 pub returns-in-Err : goal.returns-in-Err
 returns-in-Err c =
@@ -40,7 +40,7 @@ returns-in-Some c =
     let g = graph c.args.nodes.now in
     let named : 0 < length p = omega (arith, c.len.ensures.len, c.if-len-eq0.false) in
     refused (call_on e p) p (root_error e) (λ parent there. entry_fault e parent false there) (entry_goes e c.requires.removes p) g c.in-Some.errno c.requires.forest
-    (spot_fault (call_on e p) p (root_error e) (λ parent there. entry_fault e parent false there) (entry_goes e c.requires.removes p) g c.in-Ok.spot c.requires.forest named c.in-Ok.ensures ∙ sym (c.error.ensures (shape_there g c.in-Ok.spot) (sym c.sight.ensures)) ∙ c.in-Some.is)
+    (λ most. spot_fault (call_on e p) p (root_error e) (λ parent there. entry_fault e parent false there) (entry_goes e c.requires.removes p) g c.in-Ok.spot c.requires.forest named c.in-Ok.ensures most ∙ sym (c.error.ensures (shape_there g c.in-Ok.spot) (sym c.sight.ensures)) ∙ c.in-Some.is)
 
 pub returns : goal.returns
 returns c =
@@ -56,7 +56,7 @@ returns c =
           subst (λ nodes. Answers g (graph nodes) (call_on e p) Done) (sym same)
           (is_removed (call_on e p) p (root_error e) (λ parent there. entry_fault e parent false there) (entry_goes e c.requires.removes p) g (graph w.detach.new.nodes) w.in-Taken.dir w.in-Taken.i w.in-Taken.node c.requires.forest
           (record {
-            sound = spot_fault (call_on e p) p (root_error e) (λ parent there. entry_fault e parent false there) (entry_goes e c.requires.removes p) g c.in-Ok.spot c.requires.forest named c.in-Ok.ensures ∙ none;
+            sound = λ most. spot_fault (call_on e p) p (root_error e) (λ parent there. entry_fault e parent false there) (entry_goes e c.requires.removes p) g c.in-Ok.spot c.requires.forest named c.in-Ok.ensures most ∙ none;
             named = named;
             spot = subst (λ s. LooksUp g p (Ok s)) w.in-Taken.is c.in-Ok.ensures;
             leaf = entry_leaf e (place_at g w.in-Taken.node) c.requires.removes here;

@@ -15,7 +15,7 @@ same_free : {a b m d e n : ℕ} → Free a b m ≡ Free d e n → a ≡ d
 same_free e = cc
 
 pub returns-in-Some : goal.returns-in-Some
-returns-in-Some c = fault_by_paths _ _ c.in-Some.errno (sym c.rename_error.ensures ∙ c.in-Some.is)
+returns-in-Some c most = fault_by_paths most _ _ c.in-Some.errno (sym c.rename_error.ensures ∙ c.in-Some.is)
 
 pub returns-in-Err : goal.returns-in-Err
 returns-in-Err c = fault_source (graph c.args.nodes.now) c.requires c.args.from.now c.args.to.now (sym c.rename_error.ensures ∙ c.in_default.is) c.in-Err.errno c.in-Err.ensures

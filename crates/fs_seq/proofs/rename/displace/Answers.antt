@@ -1,6 +1,3 @@
-use Rattle.std.proofs.Common.{subst, Some}
-use Rattle.std.specs.Prelude.{slice_set}
-use Rattle.fs_seq.specs.code.Slots.{Dir, Sets, links_at}
 use Rattle.fs_seq.specs.code.Nodes.{graph}
 use Rattle.fs_seq.proofs.NodeLemmas.{has_key}
 use Rattle.fs_seq.proofs.SlabLemmas.{sets_slot}
@@ -16,9 +13,7 @@ pub returns : goal.returns
 returns c = record {
   between = graph c.set_link.new.nodes;
   unlinked = graph c.remove_link.new.nodes;
-  leading =
-      subst (λ x. Sets (graph c.args.nodes.now) (graph c.set_link.new.nodes) c.args.victim.dir (Some (Dir (slice_set (links_at (graph c.args.nodes.now) c.args.victim.dir) c.args.victim.place (x, c.args.entry.node)))))
-      c.copy.ensures c.set_link.ensures;
+  leading = c.set_link.ensures;
   unlinking = c.remove_link.ensures;
   removing = sets_slot c.remove_link.new.nodes c.remove.new.self c.args.victim.node _ c.remove.ensures.updates;
 }

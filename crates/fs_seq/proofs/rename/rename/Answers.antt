@@ -1,4 +1,4 @@
-use Rattle.std.proofs.Common.{◌≡◌, ◌≤◌, ◌-◌, ℕ, length, sym, subst, ◌∙◌, Some, Ok, Err, Result, OnErr, arith, slice_get}
+use Rattle.std.proofs.Common.{◌≡◌, ◌≤◌, ◌-◌, ℕ, length, subst, Some, Ok, Err, Result, OnErr, arith, slice_get}
 use Rattle.fs_names.specs.Names.{Name}
 use Rattle.fs_names.specs.Keys.{Key, last_of}
 use Rattle.fs_seq.specs.code.Nodes.{graph}
@@ -52,7 +52,7 @@ replace_link-requires-clause-absent c =
     let q = c.args.to.now in
     let plan : Plans g p q (Ok (Within c.in-Within.entry)) = subst (λ plan. Plans g p q (Ok plan)) c.in-Within.is c.in-Ok.ensures in
     let named = new_path_named g p q c.in-Ok.plan c.requires c.in-Ok.ensures in
-    left_absent g c.requires p q plan.0 c.in-Within.entry plan.1 c.copy.result plan.2.0 plan.2.1 plan.2.2 (is_last q c.len.result c.name-name.result.now c.len.ensures.len named c.name-name.ensures ∙ sym c.copy.ensures)
+    left_absent g c.requires p q plan.0 c.in-Within.entry plan.1 c.name-name.result.now plan.2.0 plan.2.1 plan.2.2 (is_last q c.len.result c.name-name.result.now c.len.ensures.len named c.name-name.ensures)
 
 pub returns-in_err-transfer-in-Across-clause-memory : goal.returns-in_err-transfer-in-Across-clause-memory
 returns-in_err-transfer-in-Across-clause-memory c =
@@ -87,8 +87,8 @@ returns-in-Within-clause-given c =
     let q = c.args.to.now in
     let plan : Plans g p q (Ok (Within c.in-Within.entry)) = subst (λ plan. Plans g p q (Ok plan)) c.in-Within.is c.in-Ok.ensures in
     let named = new_path_named g p q c.in-Ok.plan c.requires c.in-Ok.ensures in
-    moved_within g c.requires p q plan.0 c.in-Within.entry plan.1 (graph c.replace_link.new.nodes) c.copy.result plan.2.0 plan.2.1 plan.2.2
-    (is_last q c.len.result c.name-name.result.now c.len.ensures.len named c.name-name.ensures ∙ sym c.copy.ensures) c.replace_link.ensures
+    moved_within g c.requires p q plan.0 c.in-Within.entry plan.1 (graph c.replace_link.new.nodes) c.name-name.result.now plan.2.0 plan.2.1 plan.2.2
+    (is_last q c.len.result c.name-name.result.now c.len.ensures.len named c.name-name.ensures) c.replace_link.ensures
 
 pub returns-in_ok-transfer-in-Across-clause-given : goal.returns-in_ok-transfer-in-Across-clause-given
 returns-in_ok-transfer-in-Across-clause-given c =

@@ -7,15 +7,15 @@ use Rattle.fs_seq.proofs.LinkEdits.{not_in_place, replaced}
 use Rattle.fs_seq.proofs.rename.replace.Goals as goal
 
 pub search-requires : goal.search-requires
-search-requires c = ap (is_sorted name_cmp) (ap pairs (c.deref.ensures.value ∙ c.remove.ensures.items) ∙ pairs-remove c.args.links.now.items c.args.i) ∙ c.requires.rising
+search-requires c = ap (is_sorted name_cmp) (ap pairs (c.deref.ensures.value ∙ c.remove-link.ensures.items) ∙ pairs-remove c.args.links.now.items c.args.i) ∙ c.requires.rising
 
 pub unreachable-requires : goal.unreachable-requires
 unreachable-requires c =
-    not_in_place (pairs c.deref.result.now) c.args.link.name c.in-Ok.field-0
-    (ap (find name_cmp c.args.link.name) (ap pairs (c.deref.ensures.value ∙ c.remove.ensures.items) ∙ pairs-remove c.args.links.now.items c.args.i) ∙ c.requires.absent)
+    not_in_place (pairs c.deref.result.now) c.args.name.now c.in-Ok.field-0
+    (ap (find name_cmp c.args.name.now) (ap pairs (c.deref.ensures.value ∙ c.remove-link.ensures.items) ∙ pairs-remove c.args.links.now.items c.args.i) ∙ c.requires.absent)
     c.in-Ok.ensures
 
 pub returns : goal.returns
 returns c =
-    replaced c.args.links.now.items c.remove.new.self.items c.insert.new.self.items c.args.i c.in-Err.at c.args.link c.remove.ensures.items c.in-Ok-insert.ensures.items
-    (subst (λ z. BelongsAt (pairs z) c.args.link.name c.in-Err.at) c.deref.ensures.value c.in-Err.ensures)
+    replaced c.args.links.now.items c.remove-link.new.self.items c.insert.new.self.items c.args.i c.in-Err.at c.reset.new.link _ _ c.reset.ensures c.remove-link.ensures.items c.in-Ok-insert.ensures.items
+    (subst (λ z. BelongsAt (pairs z) c.args.name.now c.in-Err.at) c.deref.ensures.value c.in-Err.ensures)

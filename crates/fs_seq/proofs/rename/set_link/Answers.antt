@@ -1,6 +1,6 @@
 use Rattle.std.proofs.Common.{◌<◌, ap, sym, subst, ◌∙◌, length, is_some, slice_set}
-use Rattle.fs_seq.specs.code.Nodes.{pair, place}
-use Rattle.fs_seq.specs.code.Slots.{Dir}
+use Rattle.fs_seq.specs.code.Nodes.{pair, place, graph}
+use Rattle.fs_seq.specs.code.Slots.{Dir, links_at}
 use Rattle.fs_seq.proofs.NodeLemmas.{has_key, length-pairs}
 use Rattle.fs_seq.proofs.SlabLemmas.{sets_value, links_read, dir_not_file}
 use Rattle.fs_seq.proofs.LinkEdits.{pairs-set}
@@ -18,7 +18,8 @@ pub returns-in-Dir : goal.returns-in-Dir
 returns-in-Dir c =
     let same = links_read c.args.nodes.now c.args.dir _ c.in-Dir.links.items c.index_mut.ensures.value (ap place c.in-Dir.is) in
     sets_value c.args.nodes.now c.args.dir _ _ _ c.index_mut.ensures.value
-    (ap Dir (pairs-set c.in-Dir.links.items c.args.i c.args.link) ∙ ap (λ z. Dir (slice_set z c.args.i (pair c.args.link))) (sym same))
+    (ap Dir (pairs-set c.in-Dir.links.items c.args.i c.reset.new.link) ∙ ap (λ z. Dir (slice_set z c.args.i (pair c.reset.new.link))) (sym same)
+    ∙ ap (λ y. Dir (slice_set (links_at (graph c.args.nodes.now) c.args.dir) c.args.i y)) c.reset.ensures)
 
 pub returns-in-File : goal.returns-in-File
 returns-in-File c = absurd (dir_not_file c.args.nodes.now c.args.dir _ _ _ c.requires.directory c.index_mut.ensures.value (ap place c.in-File.is))

@@ -13,6 +13,6 @@ returns c =
       replies_are = λ q. ap (λ f. due_in (f q)) none;
       returned_are = λ q. ap (λ f. is_back (f q)) none;
       last_are = λ s. ap (λ es. lookup (is_at (nat_cmp s)) es) c.new-2.ensures.empty;
-      tree_is = refl;
+      now_is = refl;
       begun_first = λ q h. absurd (cc);
     }

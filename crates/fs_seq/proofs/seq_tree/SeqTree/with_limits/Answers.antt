@@ -1,6 +1,8 @@
+use Rattle.std.proofs.Common.{ap}
+use Rattle.fs_calls.specs.Tree.{Tree}
 use Rattle.fs_seq.specs.code.Nodes.{graph}
 use Rattle.fs_seq.proofs.Root.{first_node, forest_root, tree_root}
-use Rattle.fs_seq.proofs.seq_tree.SeqTree.new.Goals as goal
+use Rattle.fs_seq.proofs.seq_tree.SeqTree.with_limits.Goals as goal
 
 pub invariant_of-result : goal.invariant_of-result
 invariant_of-result c =
@@ -10,4 +12,4 @@ invariant_of-result c =
 pub returns-in-Ok : goal.returns-in-Ok
 returns-in-Ok c =
     let first = first_node c.new-nodes.result c.insert.new.self c.in-Ok.field-0 c.new.result c.new-nodes.ensures.empty c.new-nodes.ensures.first_key c.in-Ok.ensures.key c.in-Ok.ensures.updates c.new.ensures.items in
-    tree_root (graph c.insert.new.self) first.0 first.1
+    ap (λ (t : Tree). record { limits = c.args.limits; tree = t }) (tree_root (graph c.insert.new.self) first.0 first.1)

@@ -1,0 +1,65 @@
+//! Names of entries, apart from the entries.
+
+ghost use Rattle.std.specs.Prelude.{◌≡◌, IfOk};
+ghost use Rattle.fs_names.specs.Names.{name_cmp};
+
+use fs_names::Name;
+use std::alloc::{AllocError, Global};
+use std::cmp::Ordering;
+use std::marker::Model;
+
+/// The name of an entry, in memory of its own: the entries of a directory are shifted when one comes or goes, and a name is
+/// four times as large as what is left of an entry without it.
+#[derive(Drop)]
+pub struct HeldName {
+    name: Box<Name>,
+}
+
+impl Model for HeldName {
+    ghost use Rattle.fs_names.specs.Names.{Name};
+
+    ghost Value = { Name };
+
+    ghost view = { λ n. n.name.value };
+}
+
+impl HeldName {
+    /// The same name, held.
+    pub fn new(alloc: Global, name: &Name) -> Result<HeldName, AllocError>
+        ensures { IfOk result (λ held. held ≡ name.now) }
+    {
+        match Box::new(alloc, name.copy()) {
+            Ok(name) => Ok(HeldName { name }),
+            Err(_) => Err(AllocError),
+        }
+    }
+
+    /// The name.
+    pub fn name(&self) -> &Name
+        ensures { result.now ≡ self.now }
+    {
+        &self.name
+    }
+
+    /// Holds another name from now on, in the same memory.
+    pub fn set(&mut self, name: &Name)
+        ensures { self.new ≡ name.now }
+    {
+        *self.name = name.copy();
+    }
+
+    /// How it stands to a name in byte order.
+    pub fn cmp(&self, name: &Name) -> Ordering
+        ensures { result ≡ name_cmp self.now name.now }
+    {
+        self.name().cmp(name)
+    }
+}
+
+impl Clone for HeldName {
+    ghost is_clone = { λ name copy. copy ≡ name };
+
+    fn clone(&self) -> Result<HeldName, AllocError> {
+        HeldName::new(*Box::allocator(&self.name), self.name())
+    }
+}
