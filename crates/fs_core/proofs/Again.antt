@@ -4,13 +4,12 @@ use Rattle.std.proofs.Math.Dec.{eqb-suc-zero}
 use Rattle.std.proofs.lemmas.List.{take_more}
 use Rattle.std.proofs.lemmas.Option.{slice_get_within, get_or_from_slice_get}
 use mathlib.Core.Path.{fun_ext}
-use Rattle.fs_calls.specs.Tree.{Tree}
 use Rattle.fs_calls.specs.Starts.{Start}
-use Rattle.fs_calls.specs.Outcomes.{after, play}
+use Rattle.fs_calls.specs.Outcomes.{called, next_start}
 use Rattle.fs_calls.specs.declared.call.Call.{Call}
 use Rattle.fs_timeline.specs.Timeline.{commits}
 use Rattle.fs_timeline.specs.declared.entry.Entry.{Entry}
-use Rattle.fs_timeline.proofs.AppendLemmas.{play-push}
+use Rattle.fs_timeline.proofs.AppendLemmas.{next_start-push}
 use Rattle.fs_locks.specs.Holding.{holder}
 use Rattle.fs_machine.specs.Records.{Record}
 use Rattle.fs_machine.specs.States.{Run, begun_again}
@@ -43,17 +42,21 @@ nobody_holds m run rest n = go (holder m.holding n) refl
         let z : ◌≡◌ {A = Option Record} None (Some by.0) = sym (idle_at_rest m rest c) ∙ by.2 in cc
 
 -- what the core is then
-abbrev pub again : CoreValue → Tree → CoreValue
-again m tree = record m { start = tree; timeline = [] }
+abbrev pub again : CoreValue → Start → CoreValue
+again m start = record m { start = start; timeline = [] }
 
-pub again_is : (m : CoreValue) (tree : Tree) → Run (state_of m) → IsAtRest m → tree ≡ play m.start (commits m.timeline) → state_of (again m tree) ≡ begun_again (state_of m)
-again_is m tree run rest is =
-    ap (λ (t : Tree). state_of (again m t)) is
+pub again_is : (m : CoreValue) (start : Start) → Run (state_of m) → IsAtRest m → start ≡ next_start m.start (commits m.timeline) → state_of (again m start) ≡ begun_again (state_of m)
+again_is m start run rest is =
+    ap (λ (s : Start). state_of (again m s)) is
     ∙ same_state _ _ _ _ _ _ _ _ _ _ _ _ refl refl (fun_ext (nobody_holds m run rest)) (fun_ext (idle_at_rest m rest)) (fun_ext rest)
 
-pub again_kept : (m : CoreValue) (b k p places : ℕ) (tree : Tree) → IsKept m b k p → IsAtRest m → tree ≡ play m.start (commits m.timeline) → IsKept (again m tree) 0 0 places
-again_kept m b k p places tree kept rest is = record {
-  run = subst Run (sym (again_is m tree kept.run rest is)) (timelines_begin_again (state_of m) kept.run (idle_at_rest m rest));
+-- the same of a core that is kept
+pub again_by : (m : CoreValue) (b k p : ℕ) (start : Start) → IsKept m b k p → IsAtRest m → start ≡ next_start m.start (commits m.timeline) → state_of (again m start) ≡ begun_again (state_of m)
+again_by m b k p start kept rest is = again_is m start kept.run rest is
+
+pub again_kept : (m : CoreValue) (b k p places : ℕ) (start : Start) → IsKept m b k p → IsAtRest m → start ≡ next_start m.start (commits m.timeline) → IsKept (again m start) 0 0 places
+again_kept m b k p places start kept rest is = record {
+  run = subst Run (sym (again_is m start kept.run rest is)) (timelines_begin_again (state_of m) kept.run (idle_at_rest m rest));
   limited = kept.limited;
   roomy = kept.roomy;
   begun_is = refl;
@@ -63,11 +66,11 @@ again_kept m b k p places tree kept rest is = record {
   owed_is = let a : owed m.seats ≡ 0 = none_owed m.seats rest in omega (arith, a);
 }
 
--- the tree that one commit more plays
-pub played_next : (start : Start) (calls : List Call) (i : ℕ) (call : Call) (tree new : Tree) → slice_get calls i ≡ Some call → tree ≡ play start (take i calls) → new ≡ after tree call → new ≡ play start (take (i + 1) calls)
+-- the start that one commit more plays
+pub played_next : (start : Start) (calls : List Call) (i : ℕ) (call : Call) (tree new : Start) → slice_get calls i ≡ Some call → tree ≡ next_start start (take i calls) → new ≡ called tree call → new ≡ next_start start (take (i + 1) calls)
 played_next start calls i call tree new at was is =
     let more : take (i + 1) calls ≡ take i calls ++ call ∷ [] = take_more calls i call (slice_get_within calls i call at) ∙ ap (λ (x : Call). take i calls ++ x ∷ []) (get_or_from_slice_get calls i call call at) in
-    is ∙ ap (λ (t : Tree). after t call) was ∙ sym (play-push start (take i calls) call) ∙ ap (play start) (sym more)
+    is ∙ ap (λ (t : Start). called t call) was ∙ sym (next_start-push start (take i calls) call) ∙ ap (next_start start) (sym more)
 
 pub no_entries : (es : List Entry) → true ≡ (length es == 0) → es ≡ []
 no_entries [] e = refl
@@ -77,4 +80,4 @@ no_entries (x ∷ es) e = let z : true ≡ false = e ∙ eqb-suc-zero (length es
 pub again_empty : (m : CoreValue) → Run (state_of m) → IsAtRest m → m.timeline ≡ [] → state_of m ≡ begun_again (state_of m)
 again_empty m run rest empty =
     ap (λ (es : List Entry). state_of (record m { timeline = es })) empty
-    ∙ again_is m m.start run rest (ap (λ (es : List Entry). play m.start (commits es)) (sym empty))
+    ∙ again_is m m.start run rest (ap (λ (es : List Entry). next_start m.start (commits es)) (sym empty))

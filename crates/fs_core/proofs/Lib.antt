@@ -15,4 +15,5 @@ pub mod Indexing
 pub mod Resting
 pub mod Starting
 pub mod Again
+pub mod Leasts
 pub mod Told

@@ -3,11 +3,12 @@ use Rattle.std.proofs.Common.{◌≡◌, ℕ, ◌+◌, ◌-◌, ◌^◌, ◌<◌
 use Rattle.std.specs.Prelude.{slice_get, slice_set, IsSome, IfSome, is_some, Ok, Err}
 use mathlib.Core.Path.{fun_ext}
 use Rattle.std.proofs.lemmas.Option.{slice_get_within, slice_get_read}
+use Rattle.fs_names.specs.declared.limits.Limits.{Limits}
 use Rattle.fs_names.specs.declared.limits.TheConstants.{NODE_LIMIT}
 use Rattle.fs_names.specs.Shapes.{Shape, Dir, File, is_there, has_entries}
-use Rattle.fs_calls.specs.Tree.{root_tree}
+use Rattle.fs_calls.specs.Starts.{root_start}
 use Rattle.fs_laws.proofs.states.StartsEmpty.{starts_empty}
-use Rattle.fs_calls.specs.Forms.{form, Form, AtNode, AtEntry, AtPair, new_shape, reserves}
+use Rattle.fs_calls.specs.Forms.{form, Form, AtNode, AtEntry, AtPair, new_shape, reserves, reserved_by}
 use Rattle.fs_calls.specs.declared.target.EntryCall.{EntryCall}
 use Rattle.fs_calls.specs.declared.target.EntryCall.TheVariants.{Mkdir, Mknod, Unlink, Rmdir}
 use Rattle.fs_calls.specs.declared.call.Call.{Call}
@@ -49,10 +50,10 @@ number_fits old new places begun counted is few =
     omega (arith, l, same, few, counted)
 
 -- a number that a begin has reserved is below the limit
-pub reserved_below : (graph new : Graph) (limit : ℕ) (call : Call) (w : OpValue) → limit ≤ NODE_LIMIT → BegunAs graph limit call (reserves (form call)) w new → IfSome w.reserved (λ n. n < NODE_LIMIT)
-reserved_below graph new limit call w most b = go (reserves (form call)) b
+pub reserved_below : (graph new : Graph) (limit : ℕ) (limits : Limits) (call : Call) (w : OpValue) → limit ≤ NODE_LIMIT → BegunAs graph limit limits call (reserved_by call) w new → IfSome w.reserved (λ n. n < NODE_LIMIT)
+reserved_below graph new limit limits call w most b = go (reserved_by call) b
   where
-    go : (o : Option Shape) → BegunAs graph limit call o w new → IfSome w.reserved (λ n. n < NODE_LIMIT)
+    go : (o : Option Shape) → BegunAs graph limit limits call o w new → IfSome w.reserved (λ n. n < NODE_LIMIT)
     go None (is_w, is_new) = subst (λ (r : Option ℕ). IfSome r (λ n. n < NODE_LIMIT)) (sym (ap (λ (x : OpValue). x.reserved) is_w)) tt
     go (Some shape) (m, less, free, is_w, is_new) = subst (λ (r : Option ℕ). IfSome r (λ n. n < NODE_LIMIT)) (sym (ap (λ (x : OpValue). x.reserved) is_w)) (omega (arith, less, most))
 
@@ -92,29 +93,42 @@ unreserve graph n shape free = ap (λ (f : ℕ → Option Shape). with_shapes f)
     go m true e = sym free ∙ ap graph.shape (sym (eqb_true m n e))
     go m false e = refl
 
-pub cancel_spare : (graph new : Graph) (limit : ℕ) (call : Call) (w : OpValue) → IsGraph graph → BegunAs graph limit call (reserves (form call)) w new → SpareIf new w.reserved
-cancel_spare graph new limit call w is b = go (reserves (form call)) refl b
+pub cancel_spare : (graph new : Graph) (limit : ℕ) (limits : Limits) (call : Call) (w : OpValue) → IsGraph graph → BegunAs graph limit limits call (reserved_by call) w new → SpareIf new w.reserved
+cancel_spare graph new limit limits call w is b = go (reserved_by call) refl b
   where
-    go : (o : Option Shape) → reserves (form call) ≡ o → BegunAs graph limit call o w new → SpareIf new w.reserved
+    go : (o : Option Shape) → reserved_by call ≡ o → BegunAs graph limit limits call o w new → SpareIf new w.reserved
     go None e (is_w, is_new) n f = let z : ◌≡◌ {A = Option ℕ} None (Some n) = ap (λ (x : OpValue). x.reserved) (sym is_w) ∙ f in cc
     go (Some shape) e (m, less, free, is_w, is_new) n f =
         let z : ◌≡◌ {A = Option ℕ} (Some m) (Some n) = ap (λ (x : OpValue). x.reserved) (sym is_w) ∙ f in
         let y : m ≡ n = cc in
-        subst (IsSpare new) y (subst (λ (g : Graph). IsSpare g m) (sym is_new) (spare_new graph m shape is free (reserves_empty (form call) shape e)))
+        subst (IsSpare new) y (subst (λ (g : Graph). IsSpare g m) (sym is_new) (spare_new graph m shape is free (reserves_empty (form 0 call) shape e)))
 
-pub cancel_start : (graph new : Graph) (limit : ℕ) (call : Call) (w : OpValue) → BegunAs graph limit call (reserves (form call)) w new → w.holdings ≡ None
-cancel_start graph new limit call w b = go (reserves (form call)) b
+pub cancel_start : (graph new : Graph) (limit : ℕ) (limits : Limits) (call : Call) (w : OpValue) → BegunAs graph limit limits call (reserved_by call) w new → w.holdings ≡ None
+cancel_start graph new limit limits call w b = go (reserved_by call) b
   where
-    go : (o : Option Shape) → BegunAs graph limit call o w new → w.holdings ≡ None
+    go : (o : Option Shape) → BegunAs graph limit limits call o w new → w.holdings ≡ None
     go None (is_w, is_new) = ap (λ (x : OpValue). x.holdings) is_w
     go (Some shape) (m, less, free, is_w, is_new) = ap (λ (x : OpValue). x.holdings) is_w
 
-pub cancel_graph : (graph new last : Graph) (limit : ℕ) (call : Call) (w : OpValue) → BegunAs graph limit call (reserves (form call)) w new → last ≡ unreserved w.reserved new → last ≡ graph
-cancel_graph graph new last limit call w b e = go (reserves (form call)) b
+pub cancel_graph : (graph new last : Graph) (limit : ℕ) (limits : Limits) (call : Call) (w : OpValue) → BegunAs graph limit limits call (reserved_by call) w new → last ≡ unreserved w.reserved new → last ≡ graph
+cancel_graph graph new last limit limits call w b e = go (reserved_by call) b
   where
-    go : (o : Option Shape) → BegunAs graph limit call o w new → last ≡ graph
+    go : (o : Option Shape) → BegunAs graph limit limits call o w new → last ≡ graph
     go None (is_w, is_new) = e ∙ ap (λ (x : OpValue). unreserved x.reserved new) is_w ∙ is_new
     go (Some shape) (m, less, free, is_w, is_new) = e ∙ ap (λ (x : OpValue). unreserved x.reserved new) is_w ∙ ap (released_in m) is_new ∙ unreserve graph m shape free
+
+-- the count of refusals is no part of what is kept
+pub counted : (m : CoreValue) (b k p refusals : ℕ) → IsKept m b k p → IsKept (record m { refusals = refusals }) b k p
+counted m b k p refusals kept = record {
+  run = kept.run;
+  limited = kept.limited;
+  roomy = kept.roomy;
+  begun_is = kept.begun_is;
+  few = kept.few;
+  commits_is = kept.commits_is;
+  within = kept.within;
+  owed_is = kept.owed_is;
+}
 
 -- a begin that is refused
 pub refused_same : (m : CoreValue) (b k p : ℕ) → IsKept m b k p → (st : Places) (hs : Holding) → graph_of st ≡ graph_of m.store → (seen st).limit ≡ (seen m.store).limit → holder hs ≡ holder m.holding → room m.holding ≤ room hs
@@ -147,7 +161,7 @@ pub free_seat : (m : CoreValue) (seat : ℕ) (slot : Option Running) → seat < 
 free_seat m seat slot within read is = slice_get_read m.seats _ seat slot refl within read ∙ ap (λ (o : Option Running). Some o) is
 
 -- a call that begins
-begun_roomy : (m : CoreValue) (b k p : ℕ) → IsKept m b k p → (call : Call) (st : Places) (hs : Holding) (w : OpValue) (o : Option Shape) → BegunAs (graph_of m.store) (seen m.store).limit call o w (graph_of st) → HasRoom w.reserved hs → room m.holding ≤ room hs → AreBelow (graph_of st) (room hs)
+begun_roomy : (m : CoreValue) (b k p : ℕ) → IsKept m b k p → (call : Call) (st : Places) (hs : Holding) (w : OpValue) (o : Option Shape) → BegunAs (graph_of m.store) (seen m.store).limit m.start.limits call o w (graph_of st) → HasRoom w.reserved hs → room m.holding ≤ room hs → AreBelow (graph_of st) (room hs)
 begun_roomy m b k p kept call st hs w None (is_w, is_new) has more n s e = let less : n < room m.holding = kept.roomy n s (ap (λ (g : Graph). g.shape n) (sym is_new) ∙ e) in omega (arith, less, more)
 begun_roomy m b k p kept call st hs w (Some shape) (c, below, free, is_w, is_new) has more n s e = go (eqb n c) refl (ap (λ (g : Graph). g.shape n) (sym is_new) ∙ e)
   where
@@ -156,7 +170,7 @@ begun_roomy m b k p kept call st hs w (Some shape) (c, below, free, is_w, is_new
     go false f g = let less : n < room m.holding = kept.roomy n s g in omega (arith, less, more)
 
 pub begun_kept : (m : CoreValue) (b k p seat : ℕ) (call : Call) → IsKept m b k p → slice_get m.seats seat ≡ Some None
-    → (st : Places) (hs : Holding) (w : OpValue) (number : ℕ) (copy : Call) (slot : Option Running) → BegunAs (graph_of m.store) (seen m.store).limit call (reserves (form call)) w (graph_of st) → (seen st).limit ≡ (seen m.store).limit
+    → (st : Places) (hs : Holding) (w : OpValue) (number : ℕ) (copy : Call) (slot : Option Running) → BegunAs (graph_of m.store) (seen m.store).limit m.start.limits call (reserved_by call) w (graph_of st) → (seen st).limit ≡ (seen m.store).limit
     → holder hs ≡ holder m.holding → room m.holding ≤ room hs → HasRoom w.reserved hs → number ≡ b + 1 → number < CALL_LIMIT → copy ≡ call → slot ≡ Some (record { call = number; place = None; op = w })
     → Begins (state_of m) seat call (Ok number) (state_of (record m { store = st; holding = hs; seats = slice_set m.seats seat slot; timeline = m.timeline ++ Begin number seat copy ∷ [] })) × IsKept (record m { store = st; holding = hs; seats = slice_set m.seats seat slot; timeline = m.timeline ++ Begin number seat copy ∷ [] }) number k (p + 3 - 1)
 begun_kept m b k p seat call kept free st hs w number copy slot begun limit is_hs more has is_number few is_copy is = (
@@ -164,7 +178,7 @@ begun_kept m b k p seat call kept free st hs w number copy slot begun limit is_h
   record {
     run = Beginning seat call (Ok number) _ kept.run step;
     limited = omega (arith, limit, kept.limited);
-    roomy = begun_roomy m b k p kept call st hs w (reserves (form call)) begun has more;
+    roomy = begun_roomy m b k p kept call st hs w (reserved_by call) begun has more;
     begun_is = is_number ∙ ap (λ (n : ℕ). n + 1) kept.begun_is ∙ sym (begins_more m.timeline number seat copy);
     few = few;
     commits_is = kept.commits_is ∙ sym (commits_begin m.timeline number seat copy);
@@ -176,14 +190,14 @@ begun_kept m b k p seat call kept free st hs w number copy slot begun limit is_h
     M : CoreValue
     M = record m { store = st; holding = hs; seats = slice_set m.seats seat slot; timeline = m.timeline ++ Begin number seat copy ∷ [] }
 
-    fresh : (o : Option Shape) → BegunAs (graph_of m.store) (seen m.store).limit call o w (graph_of st) → w.reply ≡ None
+    fresh : (o : Option Shape) → BegunAs (graph_of m.store) (seen m.store).limit m.start.limits call o w (graph_of st) → w.reply ≡ None
     fresh None (is_w, is_new) = ap (λ (x : OpValue). x.reply) is_w
     fresh (Some shape) (c, below, unused, is_w, is_new) = ap (λ (x : OpValue). x.reply) is_w
 
     after : (owed_at slot ≡ 2) × (walking_at slot ≡ 1)
     after = (
-      ap owed_at is ∙ ap (λ (q : Option Rattle.fs_calls.specs.declared.reply.Reply.Reply). owed_at (Some (record { call = number; place = None; op = record w { reply = q } }))) (fresh (reserves (form call)) begun),
-      ap walking_at is ∙ ap (λ (q : Option Rattle.fs_calls.specs.declared.reply.Reply.Reply). walking_at (Some (record { call = number; place = None; op = record w { reply = q } }))) (fresh (reserves (form call)) begun),
+      ap owed_at is ∙ ap (λ (q : Option Rattle.fs_calls.specs.declared.reply.Reply.Reply). owed_at (Some (record { call = number; place = None; op = record w { reply = q } }))) (fresh (reserved_by call) begun),
+      ap walking_at is ∙ ap (λ (q : Option Rattle.fs_calls.specs.declared.reply.Reply.Reply). walking_at (Some (record { call = number; place = None; op = record w { reply = q } }))) (fresh (reserved_by call) begun),
     )
 
     counted : number ≡ begins m.timeline + 1
@@ -192,19 +206,19 @@ begun_kept m b k p seat call kept free st hs w number copy slot begun limit is_h
     none : records m.seats number ≡ None
     none = not_begun (state_of m) (run_keeps (state_of m) kept.run) number (omega (arith, counted))
 
-    same : (reserved : Option ℕ) (graph : Graph) → w ≡ new_value call reserved → graph_of st ≡ graph → state_of M ≡ began (state_of m) seat call number reserved graph
+    same : (reserved : Option ℕ) (graph : Graph) → w ≡ new_value m.start.limits call reserved → graph_of st ≡ graph → state_of M ≡ began (state_of m) seat call number reserved graph
     same reserved graph is_w is_graph =
         ap (λ (c : Call). state_of (record M { timeline = m.timeline ++ Begin number seat c ∷ [] })) is_copy
         ∙ same_state _ _ _ _ _ _ _ _ _ _ _ _ limit is_graph is_hs
         (records_begun m.seats seat (record { call = number; place = None; op = w }) slot free is none ∙ ap (λ (x : OpValue). Rattle.fs_nodes.specs.Graphs.set_at number (Some (record_of seat None x)) (records m.seats)) is_w)
         (numbers_set m.seats seat slot (Some (record { call = number; place = None; op = w })) (slice_get_within m.seats seat None free) is)
 
-    reserve : (o : Option Shape) → BegunAs (graph_of m.store) (seen m.store).limit call o w (graph_of st) → Reserves (state_of m) seat call number o (state_of M)
+    reserve : (o : Option Shape) → BegunAs (graph_of m.store) (seen m.store).limit m.start.limits call o w (graph_of st) → Reserves (state_of m) seat call number o (state_of M)
     reserve None (is_w, is_new) = same None (graph_of m.store) is_w is_new
     reserve (Some shape) (c, below, unused, is_w, is_new) = (c, below, unused, same (Some c) (reserved_in c shape (graph_of m.store)) is_w is_new)
 
     step : Begins (state_of m) seat call (Ok number) (state_of M)
-    step = (number_read m.seats seat None free, counted, reserve (reserves (form call)) begun)
+    step = (number_read m.seats seat None free, counted, reserve (reserved_by call) begun)
 
 -- a seat more
 pub seat_kept : (m : CoreValue) (b k p : ℕ) → IsKept m b k p → (seats : List (Option Running)) → seats ≡ m.seats ++ None ∷ [] → (state_of (record m { seats = seats }) ≡ state_of m) × IsKept (record m { seats = seats }) b k p
@@ -233,12 +247,12 @@ empty_below n s bound one e = go (eqb n 0) refl e
     go true f g = let z : n ≡ 0 = eqb_true n 0 f in omega (arith, z, one)
     go false f g = cc
 
-pub new_kept : (st : Places) (hs : Holding) (limit : ℕ) → 1 ≤ limit → limit ≤ NODE_LIMIT → graph_of st ≡ empty_graph → (seen st).limit ≡ limit → holder hs ≡ (λ n. None) → 1 ≤ room hs
-    → (state_of (record { start = root_tree; store = st; holding = hs; seats = []; timeline = [] }) ≡ empty limit) × IsKept (record { start = root_tree; store = st; holding = hs; seats = []; timeline = [] }) 0 0 0
-new_kept st hs limit one most graph is_limit is_hs has = (
+pub new_kept : (st : Places) (hs : Holding) (limits : Limits) (limit : ℕ) → 1 ≤ limit → limit ≤ NODE_LIMIT → graph_of st ≡ empty_graph → (seen st).limit ≡ limit → holder hs ≡ (λ n. None) → 1 ≤ room hs
+    → (state_of (record { start = root_start limits; store = st; holding = hs; seats = []; timeline = []; refusals = 0 }) ≡ empty limits limit) × IsKept (record { start = root_start limits; store = st; holding = hs; seats = []; timeline = []; refusals = 0 }) 0 0 0
+new_kept st hs limits limit one most graph is_limit is_hs has = (
   same,
   record {
-    run = subst Run (sym same) (Starting limit root_tree empty_graph (starts_empty limit one));
+    run = subst Run (sym same) (Starting limit (root_start limits) empty_graph (starts_empty limits limit one));
     limited = omega (arith, is_limit, most);
     roomy = λ n s e. empty_below n s (room hs) has (ap (λ (g : Graph). g.shape n) (sym graph) ∙ e);
     begun_is = refl;
@@ -249,12 +263,12 @@ new_kept st hs limit one most graph is_limit is_hs has = (
   },
 )
   where
-    same : state_of (record { start = root_tree; store = st; holding = hs; seats = []; timeline = [] }) ≡ empty limit
+    same : state_of (record { start = root_start limits; store = st; holding = hs; seats = []; timeline = []; refusals = 0 }) ≡ empty limits limit
     same = same_state _ _ _ _ _ _ _ _ _ _ _ _ is_limit graph is_hs refl (fun_ext (λ n. refl))
 
 -- the same by the seat's number, and by the counter
 pub begun_by : (m : CoreValue) (b k p at seat : ℕ) (call : Call) → IsKept m b k p → at ≡ seat → (old : Option Running) → seat < length m.seats → old ≡ get_or m.seats at old → old ≡ None
-    → (st : Places) (hs : Holding) (w : OpValue) (number last : ℕ) (copy : Call) (slot : Option Running) → BegunAs (graph_of m.store) (seen m.store).limit call (reserves (form call)) w (graph_of st) → (seen st).limit ≡ (seen m.store).limit
+    → (st : Places) (hs : Holding) (w : OpValue) (number last : ℕ) (copy : Call) (slot : Option Running) → BegunAs (graph_of m.store) (seen m.store).limit m.start.limits call (reserved_by call) w (graph_of st) → (seen st).limit ≡ (seen m.store).limit
     → holder hs ≡ holder m.holding → room m.holding ≤ room hs → HasRoom w.reserved hs → number ≡ last → last ≡ b + 1 → last < CALL_LIMIT → copy ≡ call → slot ≡ Some (record { call = number; place = None; op = w })
     → Begins (state_of m) seat call (Ok number) (state_of (record m { store = st; holding = hs; seats = slice_set m.seats at slot; timeline = m.timeline ++ Begin number seat copy ∷ [] })) × IsKept (record m { store = st; holding = hs; seats = slice_set m.seats at slot; timeline = m.timeline ++ Begin number seat copy ∷ [] }) last k (p + 3 - 1)
 begun_by m b k p at seat call kept e old within read is_free st hs w number last copy slot begun limit is_hs more has is_last is_number few is_copy is =
@@ -262,8 +276,8 @@ begun_by m b k p at seat call kept e old within read is_free st hs w number last
     (subst (λ (l : ℕ). Begins (state_of m) at call (Ok number) (state_of (record m { store = st; holding = hs; seats = slice_set m.seats at slot; timeline = m.timeline ++ Begin number at copy ∷ [] })) × IsKept (record m { store = st; holding = hs; seats = slice_set m.seats at slot; timeline = m.timeline ++ Begin number at copy ∷ [] }) l k (p + 3 - 1)) is_last
     (begun_kept m b k p at call kept (free_seat m at old (subst (λ (s : ℕ). s < length m.seats) (sym e) within) read is_free) st hs w number copy slot begun limit is_hs more has (is_last ∙ is_number) (subst (λ (n : ℕ). n < CALL_LIMIT) (sym is_last) few) is_copy is))
 
-pub busy_by : (m : CoreValue) (at seat : ℕ) (call : Call) (slot : Option Running) (b : Bool) → at ≡ seat → seat < length m.seats → slot ≡ get_or m.seats at slot → b ≡ is_some slot → b ≡ true → Begins (state_of m) seat call (Err SeatBusy) (state_of m)
-busy_by m at seat call slot b e within read some yes_some = subst (λ (s : ℕ). Begins (state_of m) s call (Err SeatBusy) (state_of m)) e (seat_busy_step m at call slot (subst (λ (s : ℕ). s < length m.seats) (sym e) within) read (sym some ∙ yes_some))
+pub busy_by : (m : CoreValue) (begun commits places : ℕ) → IsKept m begun commits places → (at seat : ℕ) (call : Call) (slot : Option Running) (b : Bool) → at ≡ seat → seat < length m.seats → slot ≡ get_or m.seats at slot → b ≡ is_some slot → b ≡ true → Begins (state_of m) seat call (Err SeatBusy) (state_of m)
+busy_by m begun commits places kept at seat call slot b e within read some yes_some = subst (λ (s : ℕ). Begins (state_of m) s call (Err SeatBusy) (state_of m)) e (seat_busy_step m at call slot (subst (λ (s : ℕ). s < length m.seats) (sym e) within) read (sym some ∙ yes_some))
 
 pub none_by_test : {A : Type 0} (slot : Option A) (b : Bool) → b ≡ is_some slot → b ≡ false → slot ≡ None
 none_by_test None b e f = refl

@@ -3,8 +3,9 @@ use Rattle.std.proofs.Common.{◌≡◌, ℕ, zero, suc, ◌<◌, Bool, true, fa
 use Rattle.std.specs.Prelude.{slice_get, slice_set}
 use Rattle.std.proofs.lemmas.Option.{slice_get_within, slice_get_read}
 use Rattle.fs_calls.proofs.ListLemmas.{slice_get-set_same, slice_get-set_other}
-use Rattle.fs_calls.specs.Forms.{form, by_text}
+use Rattle.fs_calls.specs.Forms.{by_paths}
 use Rattle.fs_names.specs.Shapes.{Shape}
+use Rattle.fs_names.specs.declared.limits.Limits.{Limits}
 use Rattle.fs_calls.specs.declared.call.Call.{Call}
 use Rattle.fs_calls.specs.declared.errno.Errno.{Errno}
 use Rattle.fs_calls.specs.declared.reply.Reply.{Reply}
@@ -32,7 +33,7 @@ start_by graph op None None (Some st) d f g = cc
 start_by graph op None None None d f g = refl
 
 start_next : (graph : Graph) (running : Running) (call : ℕ) → IsStarting running call → next_of graph running.op ≡ Takes 0
-start_next graph running call s = start_by graph (record_of 0 None running.op) (by_text (form running.op.call)) running.op.reply running.op.holdings s.undecided s.unfinished s.nothing
+start_next graph running call s = start_by graph (record_of 0 None running.op) (by_paths running.op.call) running.op.reply running.op.holdings s.undecided s.unfinished s.nothing
 
 -- the call that is noted for a seat takes the root next
 pub starts : (m : CoreValue) (starting : List (Option ℕ)) (seat call : ℕ) → AreStarting starting m.seats → slice_get starting seat ≡ Some (Some call) → MovesOn m seat call (Takes 0)
@@ -156,10 +157,10 @@ none_starts = record { places = refl; on_seat = λ i c e. absurd (nothing i c e)
     nothing (suc i) c e = cc
 
 -- a call that begins
-pub starting_begun : (graph after : Graph) (limit : ℕ) (call : Call) (shape : Option Shape) (work : OpValue) → BegunAs graph limit call shape work after
+pub starting_begun : (graph after : Graph) (limit : ℕ) (limits : Limits) (call : Call) (shape : Option Shape) (work : OpValue) → BegunAs graph limit limits call shape work after
     → (starting : List (Option ℕ)) (seats : List (Option Running)) (at number : ℕ) (noted : Option ℕ) (new : Option Running) → AreStarting starting seats → at < length seats
-    → ((c : ℕ) → noted ≡ Some c → (c ≡ number) × (by_text (form work.call) ≡ None)) → new ≡ Some (record { call = number; place = None; op = work }) → AreStarting (slice_set starting at noted) (slice_set seats at new)
-starting_begun graph after limit call shape work begun starting seats at number noted new a within told is =
+    → ((c : ℕ) → noted ≡ Some c → (c ≡ number) × (by_paths work.call ≡ None)) → new ≡ Some (record { call = number; place = None; op = work }) → AreStarting (slice_set starting at noted) (slice_set seats at new)
+starting_begun graph after limit limits call shape work begun starting seats at number noted new a within told is =
     starting_set starting seats at noted new a within
     (λ c e. (
       record { call = number; place = None; op = work },
@@ -167,6 +168,6 @@ starting_begun graph after limit call shape work begun starting seats at number 
       record { number = sym (told c e).0; unfinished = (fresh shape begun).0; nothing = (fresh shape begun).1; undecided = (told c e).1 },
     ))
   where
-    fresh : (o : Option Shape) → BegunAs graph limit call o work after → (work.reply ≡ None) × (work.holdings ≡ None)
+    fresh : (o : Option Shape) → BegunAs graph limit limits call o work after → (work.reply ≡ None) × (work.holdings ≡ None)
     fresh None (is_work, is_after) = (ap (λ (x : OpValue). x.reply) is_work, ap (λ (x : OpValue). x.holdings) is_work)
     fresh (Some s) (n, below, unused, is_work, is_after) = (ap (λ (x : OpValue). x.reply) is_work, ap (λ (x : OpValue). x.holdings) is_work)

@@ -20,10 +20,10 @@ use Rattle.fs_timeline.specs.Timeline.{commit_count}
 use Rattle.fs_machine.specs.States.{Step, IsChosen, NoneBelow, Run, Stepping}
 use Rattle.fs_machine.specs.declared.answers.Stepped.TheVariants.{Took, LetGo, Helped, Committed, CarriedOut, Returned}
 use Rattle.fs_machine.specs.declared.moves.Moved.{Moved}
-use Rattle.fs_laws.specs.Invariants.{Invariant}
+use Rattle.fs_laws.specs.Invariants.{Invariant, most_bytes}
 use Rattle.fs_laws.proofs.states.Agreement.{run_accounts}
 use Rattle.fs_laws.proofs.states.Headline.{run_keeps}
-use Rattle.fs_laws.proofs.finish.Limits.{finish_resizes}
+use Rattle.fs_laws.proofs.finish.Limits.{finish_resizes, own_limited}
 use Rattle.fs_core.specs.declared.seat.Running.{Running}
 use Rattle.fs_core.specs.CoreValues.{CoreValue, state_of, records}
 use Rattle.fs_core.specs.code.Rooms.{is_walking, walking_at, owed_at, IsKept}
@@ -203,7 +203,9 @@ graph_made m seat r st e = e ∙ ap (λ (x : Rattle.fs_machine.specs.Finishes.Ef
 fewer_made : (m : CoreValue) (seat : ℕ) (r : Running) → Run (state_of m) → slice_get m.seats seat ≡ Some (Some r) → (st : Places) → graph_of st ≡ graph_after (graph_of m.store) r.op → (q : ℕ) (t : Shape) → (graph_of st).shape q ≡ Some t → (u : Shape) × ((graph_of m.store).shape q ≡ Some u)
 fewer_made m seat r run on st graph q t e =
     let inv : Invariant (state_of m) = run_keeps (state_of m) run in
-    (finish_resizes (graph_of m.store) inv.is_graph (run_accounts (state_of m) run).within (record_of seat r.place r.op) (inv.own r.call (record_of seat r.place r.op) (call_on m seat r run on)).well).to_old q t
+    let most : ℕ = most_bytes (state_of m) in
+    let own = inv.own r.call (record_of seat r.place r.op) (call_on m seat r run on) in
+    (finish_resizes most (graph_of m.store) inv.is_graph (run_accounts (state_of m) run).within (record_of seat r.place r.op) (own_limited most (graph_of m.store) (record_of seat r.place r.op) own) own.well).to_old q t
     (ap (λ (g : Graph). g.shape q) (sym (graph_made m seat r st graph)) ∙ e)
 
 -- a walking call that finishes

@@ -12,13 +12,14 @@ use Rattle.fs_machine.specs.OpValues.{record_of}
 use Rattle.fs_machine.specs.States.{State}
 use Rattle.fs_core.specs.declared.seat.Running.{Running}
 
--- the tree at which the timeline begins, the nodes, who holds them, the call under way on each seat, the entries so far
+-- the tree at which the timeline begins, the nodes, who holds them, the call under way on each seat, the entries, the refusals
 pub record CoreValue : Type 0 where
   pub start : Start
   pub store : Places
   pub holding : List (Option ℕ)
   pub seats : List (Option Running)
   pub timeline : List Entry
+  pub refusals : ℕ
 
 -- the call under way on a seat
 abbrev pub running_on : List (Option Running) → ℕ → Option Running

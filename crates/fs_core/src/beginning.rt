@@ -7,7 +7,7 @@ ghost use Rattle.fs_nodes.specs.Seen.{seen};
 ghost use Rattle.fs_nodes.specs.Stores.{graph_of, in_use};
 ghost use Rattle.fs_locks.specs.Holding.{holder, room};
 ghost use Rattle.fs_locks.specs.declared.word.TheConstants.{CALL_LIMIT};
-ghost use Rattle.fs_calls.specs.Forms.{form, reserves};
+ghost use Rattle.fs_calls.specs.Forms.{reserved_by};
 ghost use Rattle.fs_timeline.specs.Timeline.{begins};
 ghost use Rattle.fs_machine.specs.OpValues.{BegunAs};
 ghost use Rattle.fs_core.specs.Events.{HasRoom};
@@ -17,6 +17,8 @@ use fs_calls::Call;
 use fs_index::IndexedTimeline;
 use fs_locks::Holders;
 use fs_machine::Refusal;
+use fs_memory::Memory;
+use fs_names::Limits;
 use fs_nodes::{NoNode, NodeNo, Store};
 use fs_ops::Prepared;
 use std::alloc::{AllocError, Global};
@@ -33,21 +35,27 @@ pub struct Ready {
 }
 
 /// Makes room for the holder of a reserved number.
-fn make_room(holders: &mut Holders, reserved: Option<NodeNo>) -> Result<(), AllocError>
+fn make_room(
+    memory: &mut Memory,
+    holders: &mut Holders,
+    reserved: Option<NodeNo>,
+) -> Result<(), AllocError>
     requires { IfSome reserved (λ node. node < NODE_LIMIT) }
     ensures within { OnOk result (HasRoom reserved holders.new) }
     ensures holders { holder holders.new ≡ holder holders.old }
     ensures more { room holders.old ≤ room holders.new }
+    ensures granted { OnOk result (memory.new ≡ memory.old) }
+    ensures refused { OnErr result (memory.new ≢ memory.old) }
 {
     let Some(node) = reserved else {
         return Ok(());
     };
-    holders.make_room(node.get() + 1)
+    holders.make_room_counted(memory, node.get() + 1)
 }
 
 /// The next call's number and its copy, with room for the holder of its reserved number and for its entries.
 fn make_places(
-    alloc: Global,
+    memory: &mut Memory,
     call: &Call,
     reserved: Option<NodeNo>,
     holders: &mut Holders,
@@ -64,50 +72,57 @@ fn make_places(
     ensures holders { holder holders.new ≡ holder holders.old }
     ensures more { room holders.old ≤ room holders.new }
     ensures err { OnErr result (timeline.new ≡ timeline.old) }
+    ensures granted { OnOk result (memory.new ≡ memory.old) }
+    ensures refused { OnErr result (memory.new ≢ memory.old) }
 {
     // The second copy of the call, for its Begin entry: the first is in its record. Both are made here, so that its commit
     // and its return, which append a number or a reply that is there, copy nothing.
-    let copy = call.copy(alloc)?;
-    make_room(holders, reserved)?;
-    timeline.make_places(ENTRIES_OF_A_CALL)?;
+    let copy = call.copy_counted(memory)?;
+    make_room(memory, holders, reserved)?;
+    timeline.make_places(memory, ENTRIES_OF_A_CALL)?;
 
     // Each begin has its entry, and a vector has fewer than 2^63, so the number is one that can hold a node.
     Ok((begun + 1, copy))
 }
 
-/// All that a call can need from its begin on. After a refusal the nodes, the holders and the timeline are as before:
-/// `Full` comes exactly where the call reserves a number and all are in use.
+/// All that a call can need from its begin on, on a tree of these limits. After a refusal the nodes, the holders and the timeline
+/// are as before: `Full` comes exactly where the call reserves a number and all are in use, `OutOfMemory` exactly where memory was
+/// refused.
 pub fn make_ready(
     alloc: Global,
+    memory: &mut Memory,
     call: &Call,
     store: &mut Store,
     holders: &mut Holders,
     timeline: &mut IndexedTimeline,
     begun: u64,
+    limits: Limits,
 ) -> Result<Ready, Refusal>
     requires graph { IsGraph (graph_of store.old) }
     requires limit { (seen store.old).limit ≤ NODE_LIMIT }
     requires begun { begun ≡ begins timeline.old.entries }
-    ensures op { IfOk result (λ ready. BegunAs (graph_of store.old) (seen store.old).limit call.now (reserves (form call.now)) ready.op (graph_of store.new)) }
+    ensures op { IfOk result (λ ready. BegunAs (graph_of store.old) (seen store.old).limit limits call.now (reserved_by call.now) ready.op (graph_of store.new)) }
     ensures number { IfOk result (λ ready. ready.number ≡ begun + 1) }
     ensures few { IfOk result (λ ready. ready.number < CALL_LIMIT) }
     ensures copy { IfOk result (λ ready. ready.copy ≡ call.now) }
     ensures within { IfOk result (λ ready. HasRoom ready.op.reserved holders.new) }
     ensures places { OnOk result (timeline.new ≡ record timeline.old { reserved = timeline.old.reserved + 3 }) }
-    ensures full { (result ≡ Err refusals.Full) ↔ (IsSome (reserves (form call.now)) × (in_use store.old ≡ (seen store.old).limit)) }
+    ensures full { (result ≡ Err refusals.Full) ↔ (IsSome (reserved_by call.now) × (in_use store.old ≡ (seen store.old).limit)) }
     ensures seat { result ≢ Err refusals.SeatBusy }
     ensures graph { OnErr result (graph_of store.new ≡ graph_of store.old) }
     ensures timeline { OnErr result (timeline.new ≡ timeline.old) }
     ensures rest { seen store.new ≡ record (seen store.old) { graph = graph_of store.new; room = (seen store.new).room } }
     ensures holders { holder holders.new ≡ holder holders.old }
     ensures more { room holders.old ≤ room holders.new }
+    ensures granted { result ≢ Err refusals.OutOfMemory → memory.new ≡ memory.old }
+    ensures refused { result ≡ Err refusals.OutOfMemory → memory.new ≢ memory.old }
 {
-    let op = match Prepared::new(alloc, call, store) {
+    let op = match Prepared::new(alloc, memory, call, store, limits) {
         Ok(op) => op,
         Err(NoNode::Full) => return Err(Refusal::Full),
         Err(NoNode::OutOfMemory) => return Err(Refusal::OutOfMemory),
     };
-    match make_places(alloc, call, op.reserved(), holders, timeline, begun) {
+    match make_places(memory, call, op.reserved(), holders, timeline, begun) {
         Ok((number, copy)) => Ok(Ready { op, number, copy }),
         Err(_) => {
             op.cancel(store);

@@ -1,7 +1,7 @@
 //! The checkpoint: the timeline begins again at the tree that its commits play, and its entries are handed out.
 
 ghost use Rattle.std.specs.Prelude.{◌≡◌, IfOk, IfErr, OnOk, OnErr};
-ghost use Rattle.fs_calls.specs.Outcomes.{play};
+ghost use Rattle.fs_calls.specs.Outcomes.{next_start};
 ghost use Rattle.fs_timeline.specs.Timeline.{commits};
 ghost use Rattle.fs_machine.specs.States.{begun_again};
 ghost use Rattle.fs_core.specs.CoreValues.{state_of, IsAtRest};
@@ -39,9 +39,10 @@ impl Core {
     fn least_under_way(&self) -> Option<CallNo>
         ensures { IsLeast self.now result }
     {
+        let listed = self.first_seats();
         let mut least = None;
-        for seat in 0..self.seats() {
-            least = lesser(least, self.under_way(SeatNo::new(seat as u64)));
+        for i in 0..listed.len() {
+            least = lesser(least, self.under_way(SeatNo::new(listed[i] as u64)));
         }
         least
     }
@@ -59,7 +60,7 @@ impl Core {
 
     /// The tree that the timeline's commits play. The only error is out of memory.
     fn played(&self, alloc: Global) -> Result<SeqTree, AllocError>
-        ensures { IfOk result (λ tree. tree ≡ play self.now.start (commits self.now.timeline)) }
+        ensures { IfOk result (λ tree. tree ≡ next_start self.now.start (commits self.now.timeline)) }
     {
         let mut tree = self.start().copy()?;
         for i in 0..self.commits() {
@@ -72,7 +73,7 @@ impl Core {
     /// where a call is under way, and is looked for first.
     pub fn prepare(&self, alloc: Global) -> Result<SeqTree, NoCheckpoint>
         ensures rest { OnOk result (IsAtRest self.now) }
-        ensures tree { IfOk result (λ tree. tree ≡ play self.now.start (commits self.now.timeline)) }
+        ensures tree { IfOk result (λ tree. tree ≡ next_start self.now.start (commits self.now.timeline)) }
         ensures why { IfErr result (IsWhyNot self.now) }
     {
         self.at_rest()?;

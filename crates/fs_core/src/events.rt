@@ -1,6 +1,7 @@
 //! Lists of events on a core, and the linearization theorem of all of them.
 
-ghost use Rattle.std.specs.Prelude.{◌≡◌, All, IfErr, OnOk, length};
+ghost use Rattle.std.specs.Prelude.{◌≡◌, ◌≢◌, All, Err, Some, IfErr, OnOk, length};
+ghost use Rattle.fs_machine.specs.declared.answers.Refusal.TheVariants.{OutOfMemory};
 ghost use Rattle.fs_nodes.specs.Graphs.{graph_shapes};
 ghost use Rattle.fs_nodes.specs.Stores.{graph_of};
 ghost use Rattle.fs_calls.specs.Outcomes.{play};
@@ -21,6 +22,8 @@ impl Core {
         ensures done { OnOk result (Happens (state_of self.old) event.now (state_of self.new)) }
         ensures refused { IfErr result (λ refusal. IsRefused (state_of self.old) event.now refusal (state_of self.new)) }
         ensures seats { length self.new.seats ≡ length self.old.seats }
+        ensures granted { result ≢ Err OutOfMemory → self.new.refusals ≡ self.old.refusals }
+        ensures memory { result ≡ Err OutOfMemory → self.new.refusals ≢ self.old.refusals }
     {
         match event {
             Event::Begin(seat, call) => {
@@ -43,6 +46,8 @@ impl Core {
         ensures lawful { IsLawful self.new.start self.new.timeline }
         ensures spelled { IsAtRest self.new → graph_shapes (graph_of self.new.store) ≡ tree_shapes (play self.new.start (commits self.new.timeline)) }
         ensures seats { length self.new.seats ≡ length self.old.seats }
+        ensures granted { result.refusal ≢ Some OutOfMemory → self.new.refusals ≡ self.old.refusals }
+        ensures refused { result.refusal ≡ Some OutOfMemory → self.new.refusals ≢ self.old.refusals }
     {
         for i in 0..events.len() {
             match self.happen(alloc, &events[i]) {

@@ -8,7 +8,8 @@
 //! out and begins the timeline again at the tree that they lead to; it changes nothing where a call is under way or there
 //! is no memory.
 //!
-//! Enter at `Core::new`, `seat`, `begin`, `step` and `timeline`. What a begin and a step do is
+//! Enter at `Core::new`, or at `Core::with_limits` where files keep the limit of the first version; then `seat`, `begin`,
+//! `step` and `timeline`. What a begin and a step do is
 //! `fs_machine/specs/States.antt`. In `specs/` here `CoreValues` says which of those states a core is in, `Events` what a
 //! list of events does, and `Checkpoints` why there is no checkpoint; `specs/code/` ties the code to them, and changes no
 //! meaning.

@@ -1,17 +1,19 @@
 //! The shared state of all calls, its begins and its steps.
 
-ghost use Rattle.std.specs.Prelude.{IfOk, OnOk, OnErr, ◌≡◌, ◌<◌, ◌≤◌, ◌++◌, ◌∷◌, [], ℕ, None, Some, length};
+ghost use Rattle.std.specs.Prelude.{IfOk, OnOk, OnErr, ◌≡◌, ◌≢◌, ◌<◌, ◌≤◌, ◌++◌, ◌∷◌, [], ℕ, None, Some, Err, length};
 ghost use Rattle.fs_names.specs.declared.limits.TheConstants.{NODE_LIMIT};
 ghost use Rattle.fs_nodes.specs.Graphs.{numbers};
 ghost use Rattle.fs_machine.specs.declared.moves.Move.TheVariants.{Take as Takes, LetGo as Leaves, Finish as Finishes, Return as Ends};
+ghost use Rattle.fs_machine.specs.declared.answers.Refusal.TheVariants.{OutOfMemory};
 ghost use Rattle.fs_nodes.specs.Graphs.{graph_shapes};
 ghost use Rattle.fs_nodes.specs.Stores.{graph_of};
-ghost use Rattle.fs_calls.specs.Outcomes.{play};
+ghost use Rattle.fs_calls.specs.Outcomes.{play, next_start};
 ghost use Rattle.fs_calls.specs.Sights.{tree_shapes};
 ghost use Rattle.fs_timeline.specs.Timeline.{IsLawful, commits};
 ghost use Rattle.fs_machine.specs.States.{Begins, Step, NoneBelow, Run, empty, begun_again};
 ghost use Rattle.fs_core.specs.CoreValues.{state_of, IsAtRest};
 ghost use Rattle.fs_core.specs.code.Doing.{Does};
+ghost use Rattle.fs_core.specs.code.Orders.{AreListed};
 ghost use Rattle.fs_core.specs.code.Seats.{MovesOn, PlacedOn, PlansOn};
 ghost use Rattle.fs_finish.specs.Plans.{moved_by};
 ghost use Rattle.fs_ops.specs.PlanOf.{IfFinish, move_of};
@@ -26,7 +28,8 @@ use fs_finish::Plan;
 use fs_index::IndexedTimeline;
 use fs_locks::Holders;
 use fs_machine::{Refusal, Stepped};
-use fs_names::{CallNo, NODE_LIMIT, Path, SeatNo};
+use fs_memory::Memory;
+use fs_names::{CallNo, Limits, NODE_LIMIT, Path, SeatNo};
 use fs_nodes::{NodeNo, Store};
 use fs_ops::Next;
 use fs_seq::SeqTree;
@@ -54,6 +57,8 @@ pub struct Core {
     // is no part.
     order: SeatOrder,
     start: SeqTree,
+    // What begins and seats ask for memory.
+    memory: Memory,
 }
 
 impl Model for Core {
@@ -65,9 +70,9 @@ impl Model for Core {
 
     ghost Value = { CoreValue };
 
-    ghost view = { λ a. record { start = a.start; store = a.store; holding = a.holders; seats = a.seats.items; timeline = a.timeline.entries } };
+    ghost view = { λ a. record { start = a.start; store = a.store; holding = a.holders; seats = a.seats.items; timeline = a.timeline.entries; refusals = a.memory } };
 
-    ghost invariant = { λ a. IsKept (record { start = a.start; store = a.store; holding = a.holders; seats = a.seats.items; timeline = a.timeline.entries }) a.begun a.commits a.timeline.reserved × (length a.ways.items ≡ length a.seats.items) × AreStarting a.starting.items a.seats.items × AreAmong a.seats.items a.order.places.items a.order.count };
+    ghost invariant = { λ a. IsKept (record { start = a.start; store = a.store; holding = a.holders; seats = a.seats.items; timeline = a.timeline.entries; refusals = a.memory }) a.begun a.commits a.timeline.reserved × (length a.ways.items ≡ length a.seats.items) × AreStarting a.starting.items a.seats.items × AreAmong a.seats.items a.order.places.items a.order.count };
 }
 
 /// How a move is made.
@@ -101,6 +106,7 @@ impl Core {
         requires moves { MovesOn self.old seat call (Takes node) }
         ensures step { Does self.old seat result self.new }
         ensures seats { length self.new.seats ≡ length self.old.seats }
+        ensures refusals { self.new.refusals ≡ self.old.refusals }
     {
         match self.holders.take(node, call) {
             Err(_) => Done::Busy(node),
@@ -118,6 +124,7 @@ impl Core {
         requires moves { MovesOn self.old seat call (Leaves node) }
         ensures step { Does self.old seat result self.new }
         ensures seats { length self.new.seats ≡ length self.old.seats }
+        ensures refusals { self.new.refusals ≡ self.old.refusals }
     {
         self.holders.let_go(node);
         seat::let_go(&mut self.seats[seat], node, &mut self.store);
@@ -135,6 +142,7 @@ impl Core {
         requires alone { NoneBelow (state_of self.old) (moved_by plan) }
         ensures step { Does self.old seat result self.new }
         ensures seats { length self.new.seats ≡ length self.old.seats }
+        ensures refusals { self.new.refusals ≡ self.old.refusals }
     {
         seat::carry_out(&mut self.seats[seat], plan, &mut self.store);
         self.commits += 1;
@@ -151,6 +159,7 @@ impl Core {
         requires placed { PlacedOn self.old seat (Some place) }
         ensures step { Does self.old seat result self.new }
         ensures seats { length self.new.seats ≡ length self.old.seats }
+        ensures refusals { self.new.refusals ≡ self.old.refusals }
     {
         seat::carry_out(&mut self.seats[seat], plan, &mut self.store);
         Done::CarriedOut
@@ -165,6 +174,7 @@ impl Core {
         requires walking { PlacedOn self.old seat None }
         ensures step { Does self.old seat result self.new }
         ensures seats { length self.new.seats ≡ length self.old.seats }
+        ensures refusals { self.new.refusals ≡ self.old.refusals }
     {
         match to_help_before(
             &self.store,
@@ -191,6 +201,7 @@ impl Core {
         requires moves { MovesOn self.old seat call Ends }
         ensures step { Step (state_of self.old) seat result (state_of self.new) }
         ensures seats { length self.new.seats ≡ length self.old.seats }
+        ensures refusals { self.new.refusals ≡ self.old.refusals }
     {
         self.order.leave(seat);
         let running = seat::take_out(&mut self.seats[seat]);
@@ -207,6 +218,7 @@ impl Core {
         requires placed { PlacedOn self.old at place }
         ensures step { Does self.old at result self.new }
         ensures seats { length self.new.seats ≡ length self.old.seats }
+        ensures refusals { self.new.refusals ≡ self.old.refusals }
     {
         phases!(by_move(self, at, call, next, place))
     }
@@ -218,6 +230,7 @@ impl Core {
         requires seat { at < length self.old.seats }
         ensures step { Does self.old at result self.new }
         ensures seats { length self.new.seats ≡ length self.old.seats }
+        ensures refusals { self.new.refusals ≡ self.old.refusals }
     {
         let Some(running) = &self.seats[at] else {
             return Done::Idle;
@@ -233,6 +246,7 @@ impl Core {
         requires seat { at < length self.old.seats }
         ensures step { Does self.old at result self.new }
         ensures seats { length self.new.seats ≡ length self.old.seats }
+        ensures refusals { self.new.refusals ≡ self.old.refusals }
     {
         match self.starting[at] {
             Some(call) => self.take(at, call, NodeNo::ROOT),
@@ -247,6 +261,7 @@ impl Core {
         requires seat { seat < length self.old.seats }
         ensures step { Step (state_of self.old) seat result (state_of self.new) }
         ensures seats { length self.new.seats ≡ length self.old.seats }
+        ensures refusals { self.new.refusals ≡ self.old.refusals }
     {
         let at = seat.get() as usize;
         match self.act(at) {
@@ -264,20 +279,21 @@ impl Core {
         }
     }
 
-    /// No nodes but the root, no seats and no entries, for at most `limit` nodes, the root included. The only error is
-    /// out of memory.
-    pub fn with_limit(alloc: Global, limit: usize) -> Result<Core, AllocError>
+    /// No nodes but the root, no seats and no entries, for at most `limit` nodes, the root included, and a tree of these
+    /// limits. The only error is out of memory.
+    pub fn with_limits(alloc: Global, limit: usize, limits: Limits) -> Result<Core, AllocError>
         requires least { 1 ≤ limit }
         requires most { limit ≤ NODE_LIMIT }
-        ensures state { IfOk result (λ core. state_of core ≡ empty limit) }
+        ensures state { IfOk result (λ core. state_of core ≡ empty limits limit) }
         ensures seats { IfOk result (λ core. core.seats ≡ []) }
+        ensures refusals { IfOk result (λ core. core.refusals ≡ 0) }
     {
         let store = Store::new(alloc, limit)?;
         let mut holders = Holders::new(alloc);
 
         // The root has number 0 and is there from the first. Room for another node is made by the begin that reserves it.
         holders.make_room(1)?;
-        let start = SeqTree::new(alloc)?;
+        let start = SeqTree::with_limits(alloc, limits)?;
         Ok(Core {
             store,
             holders,
@@ -289,13 +305,27 @@ impl Core {
             starting: Vec::new(alloc),
             order: SeatOrder::new(alloc),
             start,
+            memory: Memory::new(),
         })
     }
 
-    /// No nodes but the root, no seats and no entries, for at most `NODE_LIMIT` nodes. The only error is out of memory.
-    pub fn new(alloc: Global) -> Result<Core, AllocError>
-        ensures state { IfOk result (λ core. state_of core ≡ empty NODE_LIMIT) }
+    /// The same by the limits of the second version.
+    pub fn with_limit(alloc: Global, limit: usize) -> Result<Core, AllocError>
+        requires least { 1 ≤ limit }
+        requires most { limit ≤ NODE_LIMIT }
+        ensures state { IfOk result (λ core. state_of core ≡ empty Limits.V2 limit) }
         ensures seats { IfOk result (λ core. core.seats ≡ []) }
+        ensures refusals { IfOk result (λ core. core.refusals ≡ 0) }
+    {
+        Core::with_limits(alloc, limit, Limits::V2)
+    }
+
+    /// No nodes but the root, no seats and no entries, for at most `NODE_LIMIT` nodes, by the limits of the second
+    /// version. The only error is out of memory.
+    pub fn new(alloc: Global) -> Result<Core, AllocError>
+        ensures state { IfOk result (λ core. state_of core ≡ empty Limits.V2 NODE_LIMIT) }
+        ensures seats { IfOk result (λ core. core.seats ≡ []) }
+        ensures refusals { IfOk result (λ core. core.refusals ≡ 0) }
     {
         Core::with_limit(alloc, NODE_LIMIT)
     }
@@ -306,12 +336,14 @@ impl Core {
         ensures seats { OnOk result (self.new.seats ≡ self.old.seats ++ None ∷ []) }
         ensures state { state_of self.new ≡ state_of self.old }
         ensures err { OnErr result (self.new.seats ≡ self.old.seats) }
+        ensures granted { OnOk result (self.new.refusals ≡ self.old.refusals) }
+        ensures refused { OnErr result (self.new.refusals ≢ self.old.refusals) }
     {
         let seat = self.seats.len() as u64;
-        self.ways.reserve(1)?;
-        self.starting.reserve(1)?;
-        self.seats.reserve(1)?;
-        self.order.add()?;
+        self.memory.reserve(&mut self.ways, 1)?;
+        self.memory.reserve(&mut self.starting, 1)?;
+        self.memory.reserve(&mut self.seats, 1)?;
+        self.order.add(&mut self.memory)?;
         self.seats.push_reserved(None);
         self.ways.push_reserved(no_way());
         self.starting.push_reserved(None);
@@ -333,13 +365,23 @@ impl Core {
         self.seats.len()
     }
 
+    /// The seats with a call under way, among others or not: whoever looks for a call passes no more than these.
+    pub(crate) fn first_seats(&self) -> &[usize]
+        ensures { AreListed self.now.seats result.now }
+    {
+        self.order.first()
+    }
+
     /// A call begins on a seat, and allocates all that it can need. Its number is the number of begins with it.
     /// After a refusal there is no entry, and nothing has changed: `SeatBusy` comes where the seat has a call under
-    /// way, else `Full` exactly where the call reserves a number and all are in use.
+    /// way, else `Full` exactly where the call reserves a number and all are in use, and `OutOfMemory` exactly where memory was
+    /// refused, which is counted (`refusals`).
     pub fn begin(&mut self, alloc: Global, seat: SeatNo, call: &Call) -> Result<CallNo, Refusal>
         requires seat { seat < length self.old.seats }
         ensures begins { Begins (state_of self.old) seat call.now result (state_of self.new) }
         ensures seats { length self.new.seats ≡ length self.old.seats }
+        ensures granted { result ≢ Err OutOfMemory → self.new.refusals ≡ self.old.refusals }
+        ensures refused { result ≡ Err OutOfMemory → self.new.refusals ≢ self.old.refusals }
     {
         let at = seat.get() as usize;
         if self.seats[at].is_some() {
@@ -347,11 +389,13 @@ impl Core {
         }
         match make_ready(
             alloc,
+            &mut self.memory,
             call,
             &mut self.store,
             &mut self.holders,
             &mut self.timeline,
             self.begun,
+            self.start.limits(),
         ) {
             Err(refusal) => Err(refusal),
             Ok(ready) => {
@@ -369,6 +413,13 @@ impl Core {
                 Ok(call)
             }
         }
+    }
+
+    /// How often memory was refused to begins and new seats.
+    pub fn refusals(&self) -> u64
+        ensures { result ≡ self.now.refusals }
+    {
+        self.memory.refusals()
     }
 
     /// What has happened so far.
@@ -414,7 +465,7 @@ impl Core {
         find_path(&self.store, path)
     }
 
-    /// The tree at which the timeline begins.
+    /// The tree at which the timeline begins, with the limits that calls keep.
     pub fn start(&self) -> &SeqTree
         ensures { result.now ≡ self.now.start }
     {
@@ -424,7 +475,7 @@ impl Core {
     /// The timeline begins again at the tree that its commits play, and is handed out. It takes no memory. Nodes and seats stay.
     pub fn begin_again(&mut self, alloc: Global, start: SeqTree) -> Timeline
         requires rest { IsAtRest self.old }
-        requires tree { start ≡ play self.old.start (commits self.old.timeline) }
+        requires tree { start ≡ next_start self.old.start (commits self.old.timeline) }
         ensures state { state_of self.new ≡ begun_again (state_of self.old) }
         ensures entries { result.entries ≡ self.old.timeline }
         ensures seats { self.new.seats ≡ self.old.seats }

@@ -1,7 +1,7 @@
 //! A call under way on a seat, and its changes.
 
 ghost use Rattle.std.specs.Prelude.{◌≡◌, ℕ, true, None, Some, IsSome};
-ghost use Rattle.fs_calls.specs.Forms.{form, by_text};
+ghost use Rattle.fs_calls.specs.Forms.{by_paths};
 ghost use Rattle.fs_nodes.specs.Seen.{seen};
 ghost use Rattle.fs_nodes.specs.Stores.{graph_of};
 ghost use Rattle.fs_machine.specs.Leaving.{is_removed, releasing};
@@ -91,7 +91,7 @@ pub fn put(slot: &mut Option<Running>, running: Running)
 
 /// A call that begins is noted as one that goes for the root, unless its paths decide it.
 pub fn start(starting: &mut Option<CallNo>, call: CallNo, op: &Op)
-    ensures { (c : ℕ) → starting.new ≡ Some c → (c ≡ call) × (by_text (form op.now.call) ≡ None) }
+    ensures { (c : ℕ) → starting.new ≡ Some c → (c ≡ call) × (by_paths op.now.call ≡ None) }
 {
     *starting = if op.is_decided() { None } else { Some(call) };
 }

@@ -1,8 +1,9 @@
 //! The seats in an order in which those with a call under way come first.
 
-ghost use Rattle.std.specs.Prelude.{◌≡◌, ℕ, ◌+◌, ◌<◌, ◌≤◌, ◌⊎◌, ◌++◌, ◌∷◌, [], length, slice_index, OnOk, OnErr};
+ghost use Rattle.std.specs.Prelude.{◌≡◌, ◌≢◌, ℕ, ◌+◌, ◌<◌, ◌≤◌, ◌⊎◌, ◌++◌, ◌∷◌, [], length, slice_index, OnOk, OnErr};
 ghost use Rattle.fs_core.specs.code.Orders.{AreOrdered, IsAmong, IsListed};
 
+use fs_memory::Memory;
 use std::alloc::{AllocError, Global};
 
 /// Each seat once, those with a call under way first, so that whoever looks for a call passes no seat of an ended session.
@@ -48,15 +49,18 @@ impl SeatOrder {
     }
 
     /// One more seat, the last. Out of memory the order stays.
-    pub fn add(&mut self) -> Result<(), AllocError>
+    pub fn add(&mut self, memory: &mut Memory) -> Result<(), AllocError>
         ensures ok { OnOk result (self.new.places.items ≡ self.old.places.items ++ length self.old.places.items ∷ []) }
         ensures err { OnErr result (self.new.places.items ≡ self.old.places.items) }
         ensures count { self.new.count ≡ self.old.count }
+        ensures granted { OnOk result (memory.new ≡ memory.old) }
+        ensures refused { OnErr result (memory.new ≢ memory.old) }
     {
         let SeatOrder { seats, places, .. } = self;
         let seat = places.len();
-        seats.reserve(1)?;
-        places.push(seat)?;
+        memory.reserve(seats, 1)?;
+        memory.reserve(places, 1)?;
+        places.push_reserved(seat);
         seats.push_reserved(seat);
         Ok(())
     }

@@ -66,7 +66,7 @@ impl Core {
     /// it, a seat's call is the one under way there, and a call holds at most four nodes.
     pub fn told_of_numbers(&self)
         ensures no_leak { NumbersAreKept (state_of self.now) }
-        ensures counted { used_below (graph_of self.now.store).shape (state_of self.now).limit ≤ begins self.now.timeline + length self.now.start }
+        ensures counted { used_below (graph_of self.now.store).shape (state_of self.now).limit ≤ begins self.now.timeline + length self.now.start.tree }
         ensures graph { IsGraph (graph_of self.now.store) }
         ensures agree { PartsAgree (state_of self.now) }
         ensures four { HoldsFour (state_of self.now) }

@@ -1,16 +1,16 @@
 -- The room that a call makes when it begins, so that its finish takes no memory.
 use Rattle.std.specs.Prelude.{ℕ, ◌≤◌, ◌+◌, length, min}
-use Rattle.fs_names.specs.declared.limits.TheConstants.{ENTRY_LIMIT, FILE_LIMIT}
+use Rattle.fs_names.specs.declared.limits.TheConstants.{ENTRY_LIMIT}
 use Rattle.fs_calls.specs.Forms.{NodeCall, Stat, Readdir, Read, Write, Truncate, Form, AtNode, AtEntry, AtPair}
 use Rattle.fs_finish.specs.declared.room.Room.{Room}
 use Rattle.fs_finish.specs.declared.room.Room.TheVariants.{Nothing, Content, Copies, Lists}
 
--- a buffer for a file's new bytes, where they may be that many
-abbrev pub FitsContent : ℕ → Room → Type 0
-FitsContent n (Content room) = n ≤ FILE_LIMIT → n ≤ room
-FitsContent n Nothing = ⊥
-FitsContent n (Copies a b) = ⊥
-FitsContent n (Lists a b) = ⊥
+-- a buffer for a file's new bytes, where they are not more than the most
+abbrev pub FitsContent : ℕ → ℕ → Room → Type 0
+FitsContent most n (Content room) = n ≤ most → n ≤ room
+FitsContent most n Nothing = ⊥
+FitsContent most n (Copies a b) = ⊥
+FitsContent most n (Lists a b) = ⊥
 
 -- two buffers for this many bytes
 abbrev pub FitsCopies : ℕ → Room → Type 0
@@ -30,9 +30,9 @@ FitsLists (Copies a b) = ⊥
 abbrev pub SufficesFor : NodeCall → Room → Type 0
 SufficesFor Stat room = Unit {0}
 SufficesFor Readdir room = FitsLists room
-SufficesFor (Read off count) room = FitsCopies (min count FILE_LIMIT) room
-SufficesFor (Write off bytes) room = FitsContent (off + length bytes) room
-SufficesFor (Truncate size) room = FitsContent size room
+SufficesFor (Read most off count) room = FitsCopies (min count most) room
+SufficesFor (Write most off bytes) room = FitsContent most (off + length bytes) room
+SufficesFor (Truncate most size) room = FitsContent most size room
 
 -- what a call needs
 abbrev pub Suffices : Form → Room → Type 0

@@ -11,7 +11,7 @@ ghost use Rattle.fs_finish.specs.Paths.{first_path, second_path};
 ghost use Rattle.fs_finish.specs.Plans.{carried, answered_at, moved, swapped, CanCarryOut, CanMove, CanSwap};
 ghost use Rattle.fs_finish.specs.Replies.{refilled};
 ghost use Rattle.fs_finish.specs.Rooms.{Suffices, SufficesFor};
-ghost use Rattle.fs_machine.specs.OpValues.{IsBounded};
+ghost use Rattle.fs_machine.specs.OpValues.{IsToldWithin, TellsWithin};
 
 use crate::entries::{add, remove};
 use crate::exchange::exchange;
@@ -24,35 +24,42 @@ use crate::replies::Replies;
 use crate::room::Room;
 use crate::write::{truncate, write};
 use fs_calls::{NodeCall, Target, calls};
+use fs_names::Path;
 use fs_nodes::{NodeNo, Store};
 
 /// How a call on a node is carried out there.
 macro_rules! carried {
-    (stat(), $store:expr, $node:expr, $prepared:expr) => { stat($store, $node) };
-    ($does:ident($($arg:ident),*), $store:expr, $node:expr, $prepared:expr) => { $does($store, $node, $($arg,)* $prepared) };
+    (stat(), $store:expr, $node:expr, $most:expr, $prepared:expr) => { stat($store, $node, $most) };
+    ($does:ident($($arg:ident),*), $store:expr, $node:expr, $most:expr, $prepared:expr) => { $does($store, $node, $($arg,)* $most, $prepared) };
 }
 
 /// How the calls on a node are carried out, by what the table says that each does.
 macro_rules! node_effects {
-    (($call:expr, $store:expr, $node:expr, $prepared:expr)
+    (($call:expr, $store:expr, $node:expr, $most:expr, $prepared:expr)
         entries $entries:tt
         pairs $pairs:tt
         nodes { $($name:ident $(($($arg:ident),*))? { [$($does:tt)*] $errors:tt })* }
     ) => {
         match $call {
-            $(NodeCall::$name $(($($arg),*))? => carried!($($does)*, $store, $node, $prepared),)*
+            $(NodeCall::$name $(($($arg),*))? => carried!($($does)*, $store, $node, $most, $prepared),)*
         }
     };
 }
 
 /// A call on a node replies there, and changes its bytes.
-fn answer(call: NodeCall<'_>, node: NodeNo, prepared: Room, store: &mut Store) -> Replies
-    requires bounded { IsBounded (graph_of store.old) }
-    requires room { SufficesFor (node_call call) prepared }
-    ensures reply { result ≡ (node_row (node_call call.entry) None (shape store.old node)).0 }
-    ensures change { seen store.new ≡ record (seen store.old) { graph = refilled node (node_row (node_call call.entry) None (shape store.old node)).1 (graph_of store.old) } }
+fn answer(
+    call: NodeCall<'_>,
+    node: NodeNo,
+    most: usize,
+    prepared: Room,
+    store: &mut Store,
+) -> Replies
+    requires bounded { TellsWithin (graph_of store.old) (node_call most call) }
+    requires room { SufficesFor (node_call most call) prepared }
+    ensures reply { result ≡ (node_row (node_call most call.entry) None (shape store.old node)).0 }
+    ensures change { seen store.new ≡ record (seen store.old) { graph = refilled node (node_row (node_call most call.entry) None (shape store.old node)).1 (graph_of store.old) } }
 {
-    calls!(node_effects(call, store, node, prepared))
+    calls!(node_effects(call, store, node, most, prepared))
 }
 
 /// A call answers at a node.
@@ -60,51 +67,52 @@ fn answer_at(
     aim: Target<'_>,
     node: NodeNo,
     reserved: Option<NodeNo>,
+    most: usize,
     prepared: Room,
     store: &mut Store,
 ) -> Finish
-    requires bounded { IsBounded (graph_of store.old) }
-    requires room { Suffices (form_of aim) prepared }
-    ensures made { IsEffect (answered_at (graph_of store.old) (form_of aim.entry) node reserved) result (graph_of store.new) }
+    requires bounded { IsToldWithin (graph_of store.old) (form_of most aim) }
+    requires room { Suffices (form_of most aim) prepared }
+    ensures made { IsEffect (answered_at (graph_of store.old) (form_of most aim.entry) node reserved) result (graph_of store.new) }
     ensures rest { seen store.new ≡ record (seen store.old) { graph = graph_of store.new } }
 {
     match aim {
-        Target::Node(call, _) => Finish::kept(answer(call, node, prepared, store), reserved),
+        Target::Node(call, _) => Finish::kept(answer(call, node, most, prepared, store), reserved),
         Target::Entry(_, _) | Target::Pair(_, _, _) => Finish::kept(Replies::done(), reserved),
     }
 }
 
 /// An entry of a rename goes along its route.
 fn move_along(
-    aim: Target<'_>,
+    from: &Path,
+    to: &Path,
     moving: Moving,
     reserved: Option<NodeNo>,
     store: &mut Store,
 ) -> Finish
-    requires named { 0 < length (first_path (form_of aim)) }
-    requires new_named { 0 < length (second_path (form_of aim)) }
-    requires can { CanMove (seen store.old) moving (last_of (first_path (form_of aim))) (last_of (second_path (form_of aim))) }
-    ensures made { IsEffect (moved (graph_of store.old) moving (last_of (first_path (form_of aim.entry))) (last_of (second_path (form_of aim.entry))) reserved) result (graph_of store.new) }
+    requires named { 0 < length from.now }
+    requires new_named { 0 < length to.now }
+    requires can { CanMove (seen store.old) moving (last_of from.now) (last_of to.now) }
+    ensures made { IsEffect (moved (graph_of store.old) moving (last_of from.now) (last_of to.now) reserved) result (graph_of store.new) }
     ensures rest { seen store.new ≡ record (seen store.old) { graph = graph_of store.new } }
 {
-    let (from, to) = (first_path(aim), second_path(aim));
     rename(store, moving, from.last_name(), to.last_name(), reserved)
 }
 
 /// The entries of an exchange change what they name.
 fn swap_along(
-    aim: Target<'_>,
+    one: &Path,
+    other: &Path,
     swapping: Swapping,
     reserved: Option<NodeNo>,
     store: &mut Store,
 ) -> Finish
-    requires named { 0 < length (first_path (form_of aim)) }
-    requires other_named { 0 < length (second_path (form_of aim)) }
-    requires can { CanSwap (seen store.old) swapping (last_of (first_path (form_of aim))) (last_of (second_path (form_of aim))) }
-    ensures made { IsEffect (swapped (graph_of store.old) swapping (last_of (first_path (form_of aim.entry))) (last_of (second_path (form_of aim.entry))) reserved) result (graph_of store.new) }
+    requires named { 0 < length one.now }
+    requires other_named { 0 < length other.now }
+    requires can { CanSwap (seen store.old) swapping (last_of one.now) (last_of other.now) }
+    ensures made { IsEffect (swapped (graph_of store.old) swapping (last_of one.now) (last_of other.now) reserved) result (graph_of store.new) }
     ensures rest { seen store.new ≡ record (seen store.old) { graph = graph_of store.new } }
 {
-    let (one, other) = (first_path(aim), second_path(aim));
     exchange(
         store,
         swapping,
@@ -115,32 +123,41 @@ fn swap_along(
 }
 
 /// Does what a plan says, of a call at this target and, if it is on two entries, with this route, that has this number reserved and
-/// this room prepared.
+/// this room prepared, where a file has at most so many bytes.
 pub fn carry_out(
     aim: Target<'_>,
     plan: Plan,
     route: Route,
     reserved: Option<NodeNo>,
+    most: usize,
     prepared: Room,
     store: &mut Store,
 ) -> Finish
-    requires bounded { IsBounded (graph_of store.old) }
-    requires room { Suffices (form_of aim) prepared }
-    requires can { CanCarryOut (seen store.old) (form_of aim) route reserved plan }
-    ensures made { IsEffect (carried (graph_of store.old) (form_of aim.entry) route reserved plan) result (graph_of store.new) }
+    requires bounded { IsToldWithin (graph_of store.old) (form_of most aim) }
+    requires room { Suffices (form_of most aim) prepared }
+    requires can { CanCarryOut (seen store.old) (form_of most aim) route reserved plan }
+    ensures made { IsEffect (carried (graph_of store.old) (form_of most aim.entry) route reserved plan) result (graph_of store.new) }
     ensures rest { seen store.new ≡ record (seen store.old) { graph = graph_of store.new } }
 {
+    let (first, second) = (first_path(aim), second_path(aim));
     match plan {
         Plan::Fails(errno) => Finish::failed(errno, reserved),
         Plan::Stays => Finish::kept(Replies::done(), reserved),
-        Plan::Answers(node) => answer_at(aim, node, reserved, prepared, store),
-        Plan::Adds(dir) => add(store, dir, first_path(aim).last_name(), reserved),
-        Plan::Removes(dir) => remove(store, dir, first_path(aim).last_name(), reserved),
-        Plan::Moves(node) => move_along(aim, route.moving(node, false), reserved, store),
-        Plan::Replaces(node) => move_along(aim, route.moving(node, true), reserved, store),
-        Plan::Swaps(first, second) => swap_along(
-            aim,
-            route.swapping(first, second),
+        Plan::Answers(node) => answer_at(aim, node, reserved, most, prepared, store),
+        Plan::Adds(dir) => add(store, dir, first.last_name(), reserved),
+        Plan::Removes(dir) => remove(store, dir, first.last_name(), reserved),
+        Plan::Moves(node) => move_along(first, second, route.moving(node, false), reserved, store),
+        Plan::Replaces(node) => move_along(
+            first,
+            second,
+            route.moving(node, true),
+            reserved,
+            store,
+        ),
+        Plan::Swaps(one, other) => swap_along(
+            first,
+            second,
+            route.swapping(one, other),
             reserved,
             store,
         ),

@@ -6,7 +6,7 @@ ghost use Rattle.fs_nodes.specs.Stores.{shape, graph_of};
 ghost use Rattle.fs_calls.specs.Forms as calls;
 ghost use Rattle.fs_calls.specs.Rows.{as_dir, node_row};
 ghost use Rattle.fs_machine.specs.Moves.{walk_errno};
-ghost use Rattle.fs_machine.specs.OpValues.{IsBounded};
+ghost use Rattle.fs_machine.specs.OpValues.{DirsWithin, FilesWithin};
 ghost use Rattle.fs_finish.specs.Rooms.{SufficesFor};
 
 use crate::replies::Replies;
@@ -44,10 +44,10 @@ fn told(kind: Kind, size: usize) -> Replies
 }
 
 /// The kind of the node and its size.
-pub fn stat(store: &Store, node: NodeNo) -> Replies
+pub fn stat(store: &Store, node: NodeNo, most: usize) -> Replies
     ensures { result ≡ (node_row calls.Stat None (shape store.now node)).0 }
 {
-    match NodeCall::Stat.error(sight_of(store, node)) {
+    match NodeCall::Stat.error(most, sight_of(store, node)) {
         Some(errno) => Replies::failed(errno),
         None if store.is_dir(node) => told(Kind::Dir, store.entries(node)),
         None => told(Kind::File, store.content(node).len()),
@@ -79,31 +79,38 @@ fn names(store: &Store, dir: NodeNo, room: NameRoom) -> NameList
 }
 
 /// All names of the directory.
-pub fn readdir(store: &Store, node: NodeNo, prepared: Room) -> Replies
-    requires bounded { IsBounded (graph_of store.now) }
+pub fn readdir(store: &Store, node: NodeNo, most: usize, prepared: Room) -> Replies
+    requires bounded { DirsWithin (graph_of store.now) }
     requires room { SufficesFor calls.Readdir prepared }
     ensures { result ≡ (node_row calls.Readdir None (shape store.now node)).0 }
 {
     let Room::Lists(one, other) = prepared else {
         unreachable!();
     };
-    if let Some(errno) = NodeCall::Readdir.error(sight_of(store, node)) {
+    if let Some(errno) = NodeCall::Readdir.error(most, sight_of(store, node)) {
         return Replies::failed(errno);
     }
     let names_told = Reply::Names(names(store, node, one));
     Replies::new(names_told, Reply::Names(names(store, node, other)))
 }
 
-/// The bytes of the file from an offset on, and no more than a count.
-pub fn read(store: &Store, node: NodeNo, off: u64, count: u64, prepared: Room) -> Replies
-    requires bounded { IsBounded (graph_of store.now) }
-    requires room { SufficesFor (calls.Read off count) prepared }
-    ensures { result ≡ (node_row (calls.Read off count) None (shape store.now node)).0 }
+/// The bytes of the file from an offset on, and no more than a count; no file has more than the most.
+pub fn read(
+    store: &Store,
+    node: NodeNo,
+    off: u64,
+    count: u64,
+    most: usize,
+    prepared: Room,
+) -> Replies
+    requires bounded { FilesWithin most (graph_of store.now) }
+    requires room { SufficesFor (calls.Read most off count) prepared }
+    ensures { result ≡ (node_row (calls.Read most off count) None (shape store.now node)).0 }
 {
     let Room::Copies(one, other) = prepared else {
         unreachable!();
     };
-    if let Some(errno) = NodeCall::Read(off, count).error(sight_of(store, node)) {
+    if let Some(errno) = NodeCall::Read(off, count).error(most, sight_of(store, node)) {
         return Replies::failed(errno);
     }
     let asked = part(store.content(node), off, count);

@@ -1,13 +1,14 @@
 //! The buffers that a call allocates when it begins, so that its finish needs no memory.
 
-ghost use Rattle.std.specs.Prelude.{◌≡◌, ◌≤◌, ◌+◌, [], IfOk, length, min, vec_capacity};
+ghost use Rattle.std.specs.Prelude.{◌≡◌, ◌≢◌, ◌≤◌, ◌+◌, [], IfOk, OnOk, OnErr, length, min, vec_capacity};
 ghost use Rattle.fs_calls.specs.Forms.{form};
 ghost use Rattle.fs_calls.specs.code.Targets.{form_of, node_call};
 ghost use Rattle.fs_finish.specs.Rooms.{Suffices, SufficesFor, FitsContent, FitsCopies, FitsLists};
 
 use fs_calls::ranges::fits;
 use fs_calls::{Bytes, Call, NodeCall, Target};
-use fs_names::{ENTRY_LIMIT, FILE_LIMIT, Name};
+use fs_memory::Memory;
+use fs_names::{ENTRY_LIMIT, Name};
 use std::alloc::{AllocError, Global};
 use std::marker::Model;
 
@@ -29,10 +30,12 @@ impl Model for ByteRoom {
 
 impl ByteRoom {
     /// Room for this many bytes. The only error is out of memory.
-    pub fn new(alloc: Global, count: usize) -> Result<ByteRoom, AllocError>
-        ensures { IfOk result (λ room. count ≤ room) }
+    pub fn new(alloc: Global, memory: &mut Memory, count: usize) -> Result<ByteRoom, AllocError>
+        ensures ok { IfOk result (λ room. count ≤ room) }
+        ensures granted { OnOk result (memory.new ≡ memory.old) }
+        ensures refused { OnErr result (memory.new ≢ memory.old) }
     {
-        let items = Vec::with_capacity(alloc, count)?;
+        let items = memory.with_room(alloc, count)?;
         Ok(ByteRoom { items })
     }
 
@@ -76,10 +79,12 @@ impl Model for NameRoom {
 
 impl NameRoom {
     /// Room for this many names. The only error is out of memory.
-    pub fn new(alloc: Global, count: usize) -> Result<NameRoom, AllocError>
-        ensures { IfOk result (λ room. count ≤ room) }
+    pub fn new(alloc: Global, memory: &mut Memory, count: usize) -> Result<NameRoom, AllocError>
+        ensures ok { IfOk result (λ room. count ≤ room) }
+        ensures granted { OnOk result (memory.new ≡ memory.old) }
+        ensures refused { OnErr result (memory.new ≢ memory.old) }
     {
-        let items = Vec::with_capacity(alloc, count)?;
+        let items = memory.with_room(alloc, count)?;
         Ok(NameRoom { items })
     }
 
@@ -109,67 +114,106 @@ pub enum Room {
 /// For how many times as many bytes as it writes a write makes room beside them, at the most.
 const SPARE: u64 = 64;
 
-/// Room for the new bytes of a file, unless they are too many. A write behind the start of a file makes room for as many bytes
-/// again as stand before it, up to the limit, and no more than it may by what it writes: so a file that grows piece by piece
+/// Room for the new bytes of a file, unless they are more than the most. A write behind the start of a file makes room for as many bytes
+/// again as stand before it, up to the most, and no more than it may by what it writes: so a file that grows piece by piece
 /// is copied a few times, and one that gets a few bytes far behind its start has little room beside its bytes.
-fn content(alloc: Global, off: u64, count: u64) -> Result<Room, AllocError>
-    ensures { IfOk result (FitsContent (off + count)) }
+fn content(
+    alloc: Global,
+    memory: &mut Memory,
+    most: usize,
+    off: u64,
+    count: u64,
+) -> Result<Room, AllocError>
+    ensures ok { IfOk result (FitsContent most (off + count)) }
+    ensures granted { OnOk result (memory.new ≡ memory.old) }
+    ensures refused { OnErr result (memory.new ≢ memory.old) }
 {
-    if !fits(off, count as usize) {
-        return Ok(Room::Content(ByteRoom::new(alloc, 0)?));
+    if !fits(most, off, count as usize) {
+        return Ok(Room::Content(ByteRoom::new(alloc, memory, 0)?));
     }
     let len = off + count;
-    let spare = off.min(SPARE * count).min(FILE_LIMIT as u64 - len);
-    Ok(Room::Content(ByteRoom::new(alloc, (len + spare) as usize)?))
+    let spare = off.min(SPARE.saturating_mul(count)).min(most as u64 - len);
+    Ok(Room::Content(ByteRoom::new(alloc, memory, (len + spare) as usize)?))
 }
 
 /// Room for two times as many bytes as a read may answer.
-fn copies(alloc: Global, count: u64) -> Result<Room, AllocError>
-    ensures { IfOk result (FitsCopies (min count FILE_LIMIT)) }
+fn copies(alloc: Global, memory: &mut Memory, most: usize, count: u64) -> Result<Room, AllocError>
+    ensures ok { IfOk result (FitsCopies (min count most)) }
+    ensures granted { OnOk result (memory.new ≡ memory.old) }
+    ensures refused { OnErr result (memory.new ≢ memory.old) }
 {
-    let count = count.min(FILE_LIMIT as u64) as usize;
-    let one = ByteRoom::new(alloc, count)?;
-    let other = ByteRoom::new(alloc, count)?;
+    let count = count.min(most as u64) as usize;
+    let one = ByteRoom::new(alloc, memory, count)?;
+    let other = ByteRoom::new(alloc, memory, count)?;
     Ok(Room::Copies(one, other))
 }
 
 /// Room for two times as many names as a directory may have.
-fn lists(alloc: Global) -> Result<Room, AllocError>
-    ensures { IfOk result FitsLists }
+fn lists(alloc: Global, memory: &mut Memory) -> Result<Room, AllocError>
+    ensures ok { IfOk result FitsLists }
+    ensures granted { OnOk result (memory.new ≡ memory.old) }
+    ensures refused { OnErr result (memory.new ≢ memory.old) }
 {
-    let one = NameRoom::new(alloc, ENTRY_LIMIT)?;
-    let other = NameRoom::new(alloc, ENTRY_LIMIT)?;
+    let one = NameRoom::new(alloc, memory, ENTRY_LIMIT)?;
+    let other = NameRoom::new(alloc, memory, ENTRY_LIMIT)?;
     Ok(Room::Lists(one, other))
 }
 
 /// What the finish of a call on a node needs.
-fn room_on(alloc: Global, call: NodeCall<'_>) -> Result<Room, AllocError>
-    ensures { IfOk result (SufficesFor (node_call call.entry)) }
+fn room_on(
+    alloc: Global,
+    memory: &mut Memory,
+    most: usize,
+    call: NodeCall<'_>,
+) -> Result<Room, AllocError>
+    ensures ok { IfOk result (SufficesFor (node_call most call.entry)) }
+    ensures granted { OnOk result (memory.new ≡ memory.old) }
+    ensures refused { OnErr result (memory.new ≢ memory.old) }
 {
     match call {
         NodeCall::Stat => Ok(Room::Nothing),
-        NodeCall::Readdir => lists(alloc),
-        NodeCall::Read(_, count) => copies(alloc, count),
-        NodeCall::Write(off, bytes) => content(alloc, off, bytes.as_slice().len() as u64),
-        NodeCall::Truncate(size) => content(alloc, 0, size),
+        NodeCall::Readdir => lists(alloc, memory),
+        NodeCall::Read(_, count) => copies(alloc, memory, most, count),
+        NodeCall::Write(off, bytes) => content(
+            alloc,
+            memory,
+            most,
+            off,
+            bytes.as_slice().len() as u64,
+        ),
+        NodeCall::Truncate(size) => content(alloc, memory, most, 0, size),
     }
 }
 
 /// What the finish of a call at this target needs.
-fn room_at(alloc: Global, aim: Target<'_>) -> Result<Room, AllocError>
-    ensures { IfOk result (Suffices (form_of aim.entry)) }
+fn room_at(
+    alloc: Global,
+    memory: &mut Memory,
+    most: usize,
+    aim: Target<'_>,
+) -> Result<Room, AllocError>
+    ensures ok { IfOk result (Suffices (form_of most aim.entry)) }
+    ensures granted { OnOk result (memory.new ≡ memory.old) }
+    ensures refused { OnErr result (memory.new ≢ memory.old) }
 {
     match aim {
-        Target::Node(call, _) => room_on(alloc, call),
+        Target::Node(call, _) => room_on(alloc, memory, most, call),
         Target::Entry(_, _) | Target::Pair(_, _, _) => Ok(Room::Nothing),
     }
 }
 
 impl Room {
-    /// What the finish of a call needs. The only error is out of memory.
-    pub fn new(alloc: Global, call: &Call) -> Result<Room, AllocError>
-        ensures { IfOk result (Suffices (form call.now)) }
+    /// What the finish of a call needs, where a file has at most so many bytes. The only error is out of memory.
+    pub fn new(
+        alloc: Global,
+        memory: &mut Memory,
+        most: usize,
+        call: &Call,
+    ) -> Result<Room, AllocError>
+        ensures ok { IfOk result (Suffices (form most call.now)) }
+        ensures granted { OnOk result (memory.new ≡ memory.old) }
+        ensures refused { OnErr result (memory.new ≢ memory.old) }
     {
-        room_at(alloc, call.target())
+        room_at(alloc, memory, most, call.target())
     }
 }

@@ -1,7 +1,6 @@
 //! How the calls that change the bytes of a file finish at their node.
 
 ghost use Rattle.std.specs.Prelude.{◌≡◌, ◌≤◌, ◌+◌, ℕ, List, [], None, length, IsTrue, vec_capacity};
-ghost use Rattle.fs_names.specs.declared.limits.TheConstants.{FILE_LIMIT};
 ghost use Rattle.fs_names.specs.Shapes.{bytes_of, is_file};
 ghost use Rattle.fs_nodes.specs.Graphs.{content_in};
 ghost use Rattle.fs_nodes.specs.Seen.{seen};
@@ -54,7 +53,6 @@ fn taken_out(store: &mut Store, file: NodeNo, len: usize, buffer: ByteRoom) -> V
 
 /// Puts bytes over those of a vector from an offset on, and behind them what is more; a gap is filled with zeros.
 fn put_over(content: &mut Vec<u8>, off: usize, bytes: &[u8])
-    requires fits { off + length bytes.now ≤ FILE_LIMIT }
     requires room { off + length bytes.now ≤ vec_capacity content.old }
     ensures { content.new.items ≡ written content.old.items off bytes.now }
 {
@@ -69,7 +67,6 @@ fn put_over(content: &mut Vec<u8>, off: usize, bytes: &[u8])
 /// Puts bytes over those of a file from an offset on; a gap is filled with zeros.
 fn put_into(store: &mut Store, file: NodeNo, off: usize, bytes: &[u8], buffer: ByteRoom)
     requires file { IsTrue (is_file (shape store.old file)) }
-    requires fits { off + length bytes.now ≤ FILE_LIMIT }
     requires room { off + length bytes.now ≤ buffer }
     ensures { seen store.new ≡ record (seen store.old) { graph = content_in file (written (bytes_of (shape store.old file)) off bytes.now) (graph_of store.old) } }
 {
@@ -89,16 +86,23 @@ fn resize(store: &mut Store, file: NodeNo, size: usize, buffer: ByteRoom)
     store.swap_content(file, content);
 }
 
-/// Writes bytes into the file.
-pub fn write(store: &mut Store, node: NodeNo, off: u64, bytes: &Bytes, prepared: Room) -> Replies
-    requires room { SufficesFor (calls.Write off bytes.now) prepared }
-    ensures reply { result ≡ (node_row (calls.Write off bytes.now) None (shape store.old node)).0 }
-    ensures change { seen store.new ≡ record (seen store.old) { graph = refilled node (node_row (calls.Write off bytes.now) None (shape store.old node)).1 (graph_of store.old) } }
+/// Writes bytes into the file, which has at most so many bytes after it.
+pub fn write(
+    store: &mut Store,
+    node: NodeNo,
+    off: u64,
+    bytes: &Bytes,
+    most: usize,
+    prepared: Room,
+) -> Replies
+    requires room { SufficesFor (calls.Write most off bytes.now) prepared }
+    ensures reply { result ≡ (node_row (calls.Write most off bytes.now) None (shape store.old node)).0 }
+    ensures change { seen store.new ≡ record (seen store.old) { graph = refilled node (node_row (calls.Write most off bytes.now) None (shape store.old node)).1 (graph_of store.old) } }
 {
     let Room::Content(buffer) = prepared else {
         unreachable!();
     };
-    if let Some(errno) = NodeCall::Write(off, bytes).error(sight_of(store, node)) {
+    if let Some(errno) = NodeCall::Write(off, bytes).error(most, sight_of(store, node)) {
         return Replies::failed(errno);
     }
     let count = bytes.as_slice().len() as u64;
@@ -108,16 +112,16 @@ pub fn write(store: &mut Store, node: NodeNo, off: u64, bytes: &Bytes, prepared:
     Replies::new(Reply::Wrote(count), Reply::Wrote(count))
 }
 
-/// Cuts the file to a size, or adds zeros up to it.
-pub fn truncate(store: &mut Store, node: NodeNo, size: u64, prepared: Room) -> Replies
-    requires room { SufficesFor (calls.Truncate size) prepared }
-    ensures reply { result ≡ (node_row (calls.Truncate size) None (shape store.old node)).0 }
-    ensures change { seen store.new ≡ record (seen store.old) { graph = refilled node (node_row (calls.Truncate size) None (shape store.old node)).1 (graph_of store.old) } }
+/// Cuts the file to a size, or adds zeros up to it; it has at most so many bytes after it.
+pub fn truncate(store: &mut Store, node: NodeNo, size: u64, most: usize, prepared: Room) -> Replies
+    requires room { SufficesFor (calls.Truncate most size) prepared }
+    ensures reply { result ≡ (node_row (calls.Truncate most size) None (shape store.old node)).0 }
+    ensures change { seen store.new ≡ record (seen store.old) { graph = refilled node (node_row (calls.Truncate most size) None (shape store.old node)).1 (graph_of store.old) } }
 {
     let Room::Content(buffer) = prepared else {
         unreachable!();
     };
-    if let Some(errno) = NodeCall::Truncate(size).error(sight_of(store, node)) {
+    if let Some(errno) = NodeCall::Truncate(size).error(most, sight_of(store, node)) {
         return Replies::failed(errno);
     }
     resize(store, node, size as usize, buffer);

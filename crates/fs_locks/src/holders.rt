@@ -4,6 +4,7 @@ ghost use Rattle.std.specs.Prelude.{◌≡◌, ◌≢◌, ◌<◌, ◌↔◌, ma
 ghost use Rattle.fs_nodes.specs.Graphs.{set_at};
 
 use crate::word::{CALL_LIMIT, HolderWord};
+use fs_memory::Memory;
 use fs_names::CallNo;
 use fs_nodes::NodeNo;
 use std::alloc::{AllocError, Global};
@@ -54,9 +55,24 @@ impl Holders {
         ensures room { OnOk result (room self.new ≡ max (room self.old) count) }
         ensures holders { OnOk result (holder self.new ≡ holder self.old) }
         ensures err { OnErr result (self.new ≡ self.old) }
+        ensures full { OnErr result (room self.old < count) }
     {
-        if count > self.holders.len() {
-            self.holders.resize(count, HolderWord::none())?;
+        self.make_room_counted(&mut Memory::new(), count)
+    }
+
+    /// The same, and a refusal is counted.
+    pub fn make_room_counted(&mut self, memory: &mut Memory, count: usize) -> Result<(), AllocError>
+        ensures room { OnOk result (room self.new ≡ max (room self.old) count) }
+        ensures holders { OnOk result (holder self.new ≡ holder self.old) }
+        ensures err { OnErr result (self.new ≡ self.old) }
+        ensures full { OnErr result (room self.old < count) }
+        ensures granted { OnOk result (memory.new ≡ memory.old) }
+        ensures refused { OnErr result (memory.new ≢ memory.old) }
+    {
+        let len = self.holders.len();
+        if count > len {
+            memory.reserve(&mut self.holders, count - len)?;
+            let _room_was_made = self.holders.resize(count, HolderWord::none());
         }
         Ok(())
     }

@@ -8,7 +8,7 @@
 //! `put`, `remove` and `seek` promise what they do to every list of keys that the slots are an index of (`IsIndex`); which list
 //! that is, the store's invariant says.
 
-ghost use Rattle.std.specs.Prelude.{◌≡◌, ℕ, ◌+◌, ◌-◌, ◌*◌, ◌<◌, ◌≤◌, [], ◌∷◌, List, Option, Some, None, IfOk, IfSome, MatchOption, length, slice_set};
+ghost use Rattle.std.specs.Prelude.{◌≡◌, ◌≢◌, ℕ, ◌+◌, ◌-◌, ◌*◌, ◌<◌, ◌≤◌, [], ◌∷◌, List, Option, Some, None, IfOk, OnOk, OnErr, IfSome, MatchOption, length, slice_set};
 ghost use Rattle.fs_names.specs.declared.limits.TheConstants.{NODE_LIMIT};
 ghost use Rattle.fs_nodes.specs.Plains.{plains};
 ghost use Rattle.fs_nodes.specs.code.Keys.{keys_of};
@@ -18,6 +18,7 @@ ghost use Rattle.fs_nodes.specs.code.Indexes.{free_slot, slot_at, key_at, home_o
 use crate::key::Key;
 use crate::place::{Place, key_of_place};
 use crate::spot::Spot;
+use fs_memory::Memory;
 use std::alloc::{AllocError, Global};
 
 /// In how many slots from its home on an entry may stand.
@@ -59,12 +60,16 @@ fn free_slot() -> Slot
 }
 
 /// So many homes, and the slots behind the last one, all free.
-fn free_slots(alloc: Global, homes: usize) -> Result<Vec<Slot>, AllocError>
+fn free_slots(alloc: Global, memory: &mut Memory, homes: usize) -> Result<Vec<Slot>, AllocError>
     requires some { 0 < homes }
     requires most { homes ≤ 4 * NODE_LIMIT }
-    ensures { IfOk result (λ slots. IsIndex slots.items []) }
+    ensures ok { IfOk result (λ slots. IsIndex slots.items []) }
+    ensures granted { OnOk result (memory.new ≡ memory.old) }
+    ensures refused { OnErr result (memory.new ≢ memory.old) }
 {
-    let slots = vec![in alloc; free_slot(); homes + WINDOW]?;
+    let count = homes + WINDOW;
+    let mut slots = memory.with_room(alloc, count)?;
+    let _room_was_made = slots.resize(count, free_slot());
     Ok(slots)
 }
 
@@ -72,7 +77,7 @@ fn free_slots(alloc: Global, homes: usize) -> Result<Vec<Slot>, AllocError>
 pub fn first_slots(alloc: Global) -> Result<Vec<Slot>, AllocError>
     ensures { IfOk result (λ slots. IsIndex slots.items (None ∷ [])) }
 {
-    let slots = free_slots(alloc, LEAST)?;
+    let slots = free_slots(alloc, &mut Memory::new(), LEAST)?;
     Ok(slots)
 }
 
@@ -244,16 +249,18 @@ fn put_all(slots: &mut [Slot], places: &[Place])
 }
 
 /// Twice as many homes, where they are not twice as many as the places. After an error the slots are as before.
-pub fn widen(slots: &mut Vec<Slot>, places: &[Place]) -> Result<(), AllocError>
+pub fn widen(memory: &mut Memory, slots: &mut Vec<Slot>, places: &[Place]) -> Result<(), AllocError>
     requires slots { IsIndex slots.old.items (keys_of (plains places.now)) }
     requires places { IsPlaces places.now }
-    ensures { IsIndex slots.new.items (keys_of (plains places.now)) }
+    ensures slots { IsIndex slots.new.items (keys_of (plains places.now)) }
+    ensures granted { OnOk result (memory.new ≡ memory.old) }
+    ensures refused { OnErr result (memory.new ≢ memory.old) }
 {
     let homes = slots.len() - WINDOW;
     if homes > places.len() * 2 {
         return Ok(());
     }
-    let mut wide = free_slots(*slots.allocator(), homes * 2)?;
+    let mut wide = free_slots(*slots.allocator(), memory, homes * 2)?;
     put_all(&mut wide, places);
     *slots = wide;
     Ok(())

@@ -1,6 +1,6 @@
 //! The place of a number.
 
-ghost use Rattle.std.specs.Prelude.{◌≡◌, ◌≤◌, ◌<◌, ◌++◌, ◌∷◌, [], length, Some, None, IfSome, OnOk, OnErr, slice_get, option_map};
+ghost use Rattle.std.specs.Prelude.{◌≡◌, ◌≢◌, ◌≤◌, ◌<◌, ◌++◌, ◌∷◌, [], length, Some, None, IfSome, OnOk, OnErr, slice_get, option_map};
 ghost use Rattle.fs_plain.specs.code.Edits.{new_content};
 ghost use Rattle.std.specs.Option.{option_copied};
 ghost use Rattle.fs_plain.specs.Stores.{content_at, link_at, link_of};
@@ -11,6 +11,7 @@ ghost use Rattle.fs_nodes.specs.code.Linked.{edited, filled, vacated, content_wi
 use crate::key::Key;
 use crate::label::Label;
 use crate::spot::Spot;
+use fs_memory::Memory;
 use fs_names::{Kind, NODE_LIMIT, Name};
 use fs_plain::node::Content;
 use std::alloc::{AllocError, Global};
@@ -81,11 +82,14 @@ pub fn vacate(places: &mut [Place], node: usize, next: Spot)
 }
 
 /// One place more. After an error the places are as before.
-pub fn add(places: &mut Vec<Place>, place: Place) -> Result<(), AllocError>
+pub fn add(memory: &mut Memory, places: &mut Vec<Place>, place: Place) -> Result<(), AllocError>
     ensures ok { OnOk result (places.new.items ≡ places.old.items ++ place ∷ []) }
     ensures err { OnErr result (places.new.items ≡ places.old.items) }
+    ensures granted { OnOk result (memory.new ≡ memory.old) }
+    ensures refused { OnErr result (memory.new ≢ memory.old) }
 {
-    places.push(place)?;
+    memory.reserve(places, 1)?;
+    places.push_reserved(place);
     Ok(())
 }
 

@@ -3,6 +3,7 @@ use Rattle.std.proofs.Common.{◌≡◌, ℕ, Bool, true, false, cond, IsTrue, O
 use Rattle.std.specs.Prelude.{eqb}
 use Rattle.fs_names.specs.Shapes.{Shape, is_there, has_entries}
 use Rattle.fs_names.specs.declared.kind.Kind.{Kind}
+use Rattle.fs_names.specs.declared.limits.Limits.{Limits}
 use Rattle.fs_names.specs.declared.kind.Kind.TheVariants as kinds
 use Rattle.fs_nodes.specs.Graphs.{Graph, reserved_in, released_in}
 use Rattle.fs_nodes.specs.Stores.{new_shape, IsUnlinked}
@@ -42,11 +43,11 @@ undone graph limit (Some shape) None new h = absurd h
 undone graph limit (Some shape) (Some n) new h = ap (released_in n) h.added ∙ given_back graph n shape h.free
 
 -- a call that begins with what was reserved
-pub begun : (graph : Graph) (limit : ℕ) (call : Call) (shape : Option Shape) (number : Option ℕ) (op : OpValue) (new : Graph) → Reserves graph limit shape number new → op ≡ new_value call number → BegunAs graph limit call shape op new
-begun graph limit call None None op new h e = (e, h)
-begun graph limit call None (Some n) op new h e = absurd h
-begun graph limit call (Some shape) None op new h e = absurd h
-begun graph limit call (Some shape) (Some n) op new h e = (n, h.within, h.free, e, h.added)
+pub begun : (graph : Graph) (limit : ℕ) (limits : Limits) (call : Call) (shape : Option Shape) (number : Option ℕ) (op : OpValue) (new : Graph) → Reserves graph limit shape number new → op ≡ new_value limits call number → BegunAs graph limit limits call shape op new
+begun graph limit limits call None None op new h e = (e, h)
+begun graph limit limits call None (Some n) op new h e = absurd h
+begun graph limit limits call (Some shape) None op new h e = absurd h
+begun graph limit limits call (Some shape) (Some n) op new h e = (n, h.within, h.free, e, h.added)
 
 -- what holds of a number holds of the one that is some
 pub only : (n : ℕ) (P : ℕ → Type 0) → P n → (m : ℕ) → Some n ≡ Some m → P m

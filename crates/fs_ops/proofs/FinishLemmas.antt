@@ -8,7 +8,8 @@ use Rattle.fs_names.specs.Parts.{common}
 use Rattle.fs_names.specs.Shapes.{Shape, Dir, File, is_dir, is_there, has_entries, is_full}
 use Rattle.fs_nodes.specs.Graphs.{Graph, then_at, entry_shape, IsReached}
 use Rattle.fs_nodes.specs.Seen.{Seen, IsReal}
-use Rattle.fs_calls.specs.Forms.{Form, AtNode, AtEntry, AtPair, by_text, form, new_shape}
+use Rattle.fs_calls.specs.Forms.{Form, AtNode, AtEntry, AtPair, by_text, by_paths, form, new_shape}
+use Rattle.fs_calls.proofs.FormLemmas.{by_text_any}
 use Rattle.fs_calls.specs.declared.target.PairCall.{PairCall}
 use Rattle.fs_calls.specs.declared.target.PairCall.TheVariants as pairs
 use Rattle.fs_calls.specs.declared.target.EntryCall.{EntryCall}
@@ -149,19 +150,19 @@ route_there call None behind fork victim st e = absurd (cc)
 route_there call (Some n) behind fork victim st e = let s : holdings_with call n behind fork victim ≡ st = cc in route_with call n behind fork victim ∙ ap route_at s
 
 -- the record and the graph after a finish
-module _ (graph : Graph) (call : Call) (stand : Stand) (reserved removed : Option ℕ) (error : Option Errno) (outcome : Outcome) (op : IsOp (form call) error stand outcome)
-    (plan : Plan) (is : plan ≡ plan_of graph (op_value call stand reserved removed outcome)) (done : Finish) (new : Graph) (made : IsEffect (carried graph (form call) (route_by stand.walk.node stand.fork stand.victim) reserved plan) done new) where
+module _ (graph : Graph) (most : ℕ) (call : Call) (stand : Stand) (reserved removed : Option ℕ) (error : Option Errno) (outcome : Outcome) (op : IsOp most call error stand outcome)
+    (plan : Plan) (is : plan ≡ plan_of graph (op_value most call stand reserved removed outcome)) (done : Finish) (new : Graph) (made : IsEffect (carried graph (form most call) (route_by stand.walk.node stand.fork stand.victim) reserved plan) done new) where
   abbrev before : OpValue
-  before = op_value call stand reserved removed outcome
+  before = op_value most call stand reserved removed outcome
 
-  effect_is : (seat : ℕ) (place : Option ℕ) → carried graph (form call) (route_by stand.walk.node stand.fork stand.victim) reserved plan ≡ finish graph (record_of seat place before)
+  effect_is : (seat : ℕ) (place : Option ℕ) → carried graph (form most call) (route_by stand.walk.node stand.fork stand.victim) reserved plan ≡ finish graph (record_of seat place before)
   effect_is seat place =
-      let h : stand.walk.walked ≤ length (target (form call)) = omega (arith, op.within, op.names) in
-      ap (carried graph (form call) (route_by stand.walk.node stand.fork stand.victim) reserved) is
-      ∙ carried_by graph (form call) stand.walk.walked (by_text (form call)) before.holdings (route_by stand.walk.node stand.fork stand.victim) reserved (route_there (form call) stand.walk.node (behind_in stand.walk.behind stand.fork) stand.fork stand.victim) h
-      ∙ sym (finish_by graph (record_of seat place before) (by_text (form call)) before.holdings)
+      let h : stand.walk.walked ≤ length (target (form most call)) = omega (arith, op.within, op.names) in
+      ap (carried graph (form most call) (route_by stand.walk.node stand.fork stand.victim) reserved) is
+      ∙ carried_by graph (form most call) stand.walk.walked (by_paths call) before.holdings (route_by stand.walk.node stand.fork stand.victim) reserved (route_there (form most call) stand.walk.node (behind_in stand.walk.behind stand.fork) stand.fork stand.victim) h
+      ∙ sym (finish_by graph (record_of seat place before) (by_paths call) before.holdings)
 
-  pub finished_is : (held : List ℕ) → held ≡ taken_if before.holdings → IsFinished graph before (with_held (Fixed done.replies held) (op_value call stand done.reserved done.removed (Fixed done.replies held)))
+  pub finished_is : (held : List ℕ) → held ≡ taken_if before.holdings → IsFinished graph before (with_held (Fixed done.replies held) (op_value most call stand done.reserved done.removed (Fixed done.replies held)))
   finished_is held all seat place =
       let e = effect_is seat place in
       let r : done.replies ≡ (finish graph (record_of seat place before)).reply = made.reply ∙ ap (λ (m : Effect). m.reply) e in
@@ -429,8 +430,8 @@ can_by store call way behind fork victim reserved None (Some n) text node names 
         arrived_can store call way n behind fork victim reserved text node names (omega arith) forks can
 
 -- the plan of a call in a store
-pub can_carry_out : (store : Seen) (call : Call) (stand : Stand) (reserved removed : Option ℕ) (error : Option Errno) (outcome : Outcome) (plan : Plan) → IsOp (form call) error stand outcome → IsPlan store (op_value call stand reserved removed outcome) plan
-    → CanFinish store.graph reserved (dropped stand.walk.walked (form call)) (stands (form call) stand) → CanCarryOut store (form call) (route_by stand.walk.node stand.fork stand.victim) reserved plan
-can_carry_out store call stand reserved removed error outcome plan op planned can =
-    subst (CanBy store (form call) (route_by stand.walk.node stand.fork stand.victim) reserved) (sym planned.is)
-    (can_by store (form call) stand.walk (behind_in stand.walk.behind stand.fork) stand.fork stand.victim reserved (by_text (form call)) stand.walk.node refl refl op.names op.within op.forks can) planned.real
+pub can_carry_out : (store : Seen) (most : ℕ) (call : Call) (stand : Stand) (reserved removed : Option ℕ) (error : Option Errno) (outcome : Outcome) (plan : Plan) → IsOp most call error stand outcome → IsPlan store (op_value most call stand reserved removed outcome) plan
+    → CanFinish store.graph reserved (dropped stand.walk.walked (form most call)) (stands (form most call) stand) → CanCarryOut store (form most call) (route_by stand.walk.node stand.fork stand.victim) reserved plan
+can_carry_out store most call stand reserved removed error outcome plan op planned can =
+    subst (CanBy store (form most call) (route_by stand.walk.node stand.fork stand.victim) reserved) (sym planned.is)
+    (can_by store (form most call) stand.walk (behind_in stand.walk.behind stand.fork) stand.fork stand.victim reserved (by_paths call) stand.walk.node (by_text_any most call) refl op.names op.within op.forks can) planned.real

@@ -7,7 +7,7 @@ use Rattle.std.proofs.lemmas.Bool.Decides.{nat_tests}
 use Rattle.fs_names.specs.Keys.{Key, parent_of}
 use Rattle.fs_names.specs.Names.{Name}
 use Rattle.fs_names.proofs.ParentLemmas.{parent_length}
-use Rattle.fs_calls.specs.Forms.{form, Form, AtNode, AtEntry, AtPair, by_text}
+use Rattle.fs_calls.specs.Forms.{form, Form, AtNode, AtEntry, AtPair, by_paths}
 use Rattle.fs_calls.specs.declared.call.Call.{Call}
 use Rattle.fs_calls.specs.declared.reply.Reply.{Reply}
 use Rattle.fs_nodes.specs.Graphs.{Graph}
@@ -69,10 +69,10 @@ last_next_is : (graph : Graph) (op : OpValue) (reply : Reply) → op.reply ≡ S
 last_next_is graph op reply fixed = by op.holdings refl
   where
     by : (o : Option Holdings) → op.holdings ≡ o → move_of (last_next (last_of (taken_if o))) ≡ next_of graph op
-    by None e = sym (ap₂ (next_by graph (record_of 0 None op) (by_text (form op.call))) (ap (phase_of None) fixed) e)
+    by None e = sym (ap₂ (next_by graph (record_of 0 None op) (by_paths op.call)) (ap (phase_of None) fixed) e)
     by (Some st) e =
         ap (λ (o : Option ℕ). move_of (last_next o)) (ap last_of (popped st) ∙ last_pushed (taken_if (left_last st st.victim)) (last_held st st.victim))
-        ∙ sym (ap₂ (next_by graph (record_of 0 None op) (by_text (form op.call))) (ap (phase_of None) fixed) e)
+        ∙ sym (ap₂ (next_by graph (record_of 0 None op) (by_paths op.call)) (ap (phase_of None) fixed) e)
 
 pub finished_next : (graph : Graph) (call : Form) (op now : OpValue) (outcome : Outcome) (reply : Reply) (held : List ℕ) → outcome ≡ Fixed reply held → op.reply ≡ reply_of outcome → IsReady call op.holdings outcome → with_held outcome op ≡ now
     → move_of (last_next (last_of held)) ≡ next_of graph now
@@ -115,12 +115,12 @@ held_less reply st old new (Some n) (gone, e) f =
     let m : length (old ++ gone) ≡ length old + length gone = length-append old gone in
     one_gone reply st old new n f (omega (arith, all, m))
 
-pub last_left : (call : Call) (stand : Stand) (reserved removed removed_new : Option ℕ) (outcome : Outcome) (reply : Reply) (old new : List ℕ) (last : Option ℕ) (n : ℕ) (now : OpValue)
-    → outcome ≡ Fixed reply old → IsReady (form call) (stands (form call) stand) outcome → MatchOption last ((old ≡ []) × (new ≡ [])) (λ node. old ≡ new ++ node ∷ []) → removed_new ≡ cleared (is_removed removed n) removed
-    → with_held outcome (op_value call stand reserved removed outcome) ≡ now → IsLetGo now n (with_held (Fixed reply new) (op_value call stand reserved removed_new (Fixed reply new)))
-last_left call stand reserved removed removed_new outcome reply old new last n now is ready pops cleared_is view seat place =
-    let st : Option Holdings = stands (form call) stand in
-    rw (← view, is, cleared_is, held_less reply st old new last (subst (IsReady (form call) st) is ready) pops) refl
+pub last_left : (most : ℕ) (call : Call) (stand : Stand) (reserved removed removed_new : Option ℕ) (outcome : Outcome) (reply : Reply) (old new : List ℕ) (last : Option ℕ) (n : ℕ) (now : OpValue)
+    → outcome ≡ Fixed reply old → IsReady (form most call) (stands (form most call) stand) outcome → MatchOption last ((old ≡ []) × (new ≡ [])) (λ node. old ≡ new ++ node ∷ []) → removed_new ≡ cleared (is_removed removed n) removed
+    → with_held outcome (op_value most call stand reserved removed outcome) ≡ now → IsLetGo now n (with_held (Fixed reply new) (op_value most call stand reserved removed_new (Fixed reply new)))
+last_left most call stand reserved removed removed_new outcome reply old new last n now is ready pops cleared_is view seat place =
+    let st : Option Holdings = stands (form most call) stand in
+    rw (← view, is, cleared_is, held_less reply st old new last (subst (IsReady (form most call) st) is ready) pops) refl
 
 -- and it is a beginning still
 pub held_begins : (old new all : List ℕ) (last : Option ℕ) → (gone : List ℕ) × (old ++ gone ≡ all) → MatchOption last ((old ≡ []) × (new ≡ [])) (λ node. old ≡ new ++ node ∷ []) → (gone : List ℕ) × (new ++ gone ≡ all)
@@ -178,6 +178,11 @@ none_went reply held st e =
 pub still_open : (outcome : Outcome) (op now : OpValue) → with_held outcome op ≡ now → is_some (reply_of outcome) ≡ false → op ≡ now
 still_open (Open prepared) op now e unfinished = e
 still_open (Fixed reply held) op now e unfinished = absurd (cc)
+
+-- its room is enough wherever it stands
+pub still_ready : (call : Form) (st new : Option Holdings) (outcome : Outcome) → is_some (reply_of outcome) ≡ false → IsReady call st outcome → IsReady call new outcome
+still_ready call st new (Open prepared) unfinished h = h
+still_ready call st new (Fixed reply held) unfinished h = absurd (cc)
 
 -- so that is what a take changes
 pub open_took : (outcome : Outcome) (old new now : OpValue) (n : ℕ) → with_held outcome old ≡ now → is_some (reply_of outcome) ≡ false → IsTook old n new → IsTook now n (with_held outcome new)

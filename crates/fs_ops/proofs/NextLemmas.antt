@@ -5,7 +5,7 @@ use Rattle.std.proofs.lemmas.Option.{slice_get_past}
 use Rattle.fs_names.specs.Keys.{Key, parent_of, last_of}
 use Rattle.fs_names.specs.Shapes.{Shape, is_full}
 use Rattle.fs_nodes.specs.Graphs.{Graph, entry_shape}
-use Rattle.fs_calls.specs.Forms.{form, Form, AtNode, AtEntry, AtPair, by_text, new_shape}
+use Rattle.fs_calls.specs.Forms.{form, Form, AtNode, AtEntry, AtPair, by_paths, new_shape}
 use Rattle.fs_calls.specs.declared.target.EntryCall.{EntryCall}
 use Rattle.fs_calls.specs.declared.call.Call.{Call}
 use Rattle.fs_calls.specs.Rows.{as_dir, entry_fault}
@@ -94,16 +94,16 @@ way_is graph call way (Some f) victim n at names within forks =
     target_is graph call way f.behind (Some f) victim n at names all forks
     ∙ ap (λ (l : Key). behind_first f.behind (first_of (step_move graph n l) (target_move graph (dropped way.walked call) (holdings_with call n f.behind (Some f) victim)))) (sym rest)
 
-pub next_is : (graph : Graph) (call : Call) (stand : Stand) (reserved removed : Option ℕ) (error : Option Errno) (outcome : Outcome) → IsOp (form call) error stand outcome → is_some (reply_of outcome) ≡ false → by_text (form call) ≡ None
-    → move_of (way_next graph (form call) stand.walk stand.fork stand.victim) ≡ next_of graph (op_value call stand reserved removed outcome)
-next_is graph call stand reserved removed error (Fixed r held) op unfinished text = absurd (cc)
-next_is graph call stand reserved removed error (Open prepared) op unfinished text = by stand.walk.node refl
+pub next_is : (graph : Graph) (most : ℕ) (call : Call) (stand : Stand) (reserved removed : Option ℕ) (error : Option Errno) (outcome : Outcome) → IsOp most call error stand outcome → is_some (reply_of outcome) ≡ false → by_paths call ≡ None
+    → move_of (way_next graph (form most call) stand.walk stand.fork stand.victim) ≡ next_of graph (op_value most call stand reserved removed outcome)
+next_is graph most call stand reserved removed error (Fixed r held) op unfinished text = absurd (cc)
+next_is graph most call stand reserved removed error (Open prepared) op unfinished text = by stand.walk.node refl
   where
     value : OpValue
-    value = op_value call stand reserved removed (Open prepared)
+    value = op_value most call stand reserved removed (Open prepared)
 
-    by : (o : Option ℕ) → stand.walk.node ≡ o → move_of (way_next_at graph (form call) stand.walk o stand.fork stand.victim) ≡ next_by graph (record_of 0 None value) (by_text (form call)) Walking (holdings_of (form call) o (behind_in stand.walk.behind stand.fork) stand.fork stand.victim)
+    by : (o : Option ℕ) → stand.walk.node ≡ o → move_of (way_next_at graph (form most call) stand.walk o stand.fork stand.victim) ≡ next_by graph (record_of 0 None value) (by_paths call) Walking (holdings_of (form most call) o (behind_in stand.walk.behind stand.fork) stand.fork stand.victim)
     by None e = ap (λ (x : Option Errno). next_by graph (record_of 0 None value) x Walking None) (sym text)
     by (Some n) e =
-        way_is graph (form call) stand.walk stand.fork stand.victim n e op.names op.within op.forks
-        ∙ ap (λ (x : Option Errno). next_by graph (record_of 0 None value) x Walking (Some (holdings_with (form call) n (behind_in stand.walk.behind stand.fork) stand.fork stand.victim))) (sym text)
+        way_is graph (form most call) stand.walk stand.fork stand.victim n e op.names op.within op.forks
+        ∙ ap (λ (x : Option Errno). next_by graph (record_of 0 None value) x Walking (Some (holdings_with (form most call) n (behind_in stand.walk.behind stand.fork) stand.fork stand.victim))) (sym text)

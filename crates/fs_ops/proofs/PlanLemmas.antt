@@ -244,21 +244,21 @@ walk_lost graph call way n behind fork victim e node names within lost = by (nam
         ∙ ap (λ (f : Errno). Fails f) (ap (λ (m : ℕ). walk_errno (graph.shape m)) (holdings_node call n behind fork victim) ∙ name_lost (graph.shape n) (graph.child n x) Arrived e (plain (name_want (graph.shape n) (graph.child n x)) ∙ l)))
 
 -- the plan that comes with the next move of a call that its paths do not decide
-pub way_found : (graph : Graph) (call : Form) (way : Way) (fork : Option ForkWay) (victim : Option ℕ) (o : Option ℕ) → way.node ≡ o → by_text call ≡ None → way.names ≡ length (target call) → way.walked ≤ way.names → Forks call way fork
+pub way_found : (graph : Graph) (call : Form) (error : Option Errno) (way : Way) (fork : Option ForkWay) (victim : Option ℕ) (o : Option ℕ) → way.node ≡ o → error ≡ None → way.names ≡ length (target call) → way.walked ≤ way.names → Forks call way fork
     → IfFinish (way_next_at graph call way o fork victim)
-    (λ plan. ((st : Holdings) → holdings_of call o (behind_in way.behind fork) fork victim ≡ Some st → SetsOut graph (dropped way.walked call) st) → plan ≡ plan_by graph (by_text call) (dropped way.walked call) (holdings_of call o (behind_in way.behind fork) fork victim))
-way_found graph call way fork victim None node text names within forks = tt
-way_found graph call way None victim (Some n) node text names within forks =
+    (λ plan. ((st : Holdings) → holdings_of call o (behind_in way.behind fork) fork victim ≡ Some st → SetsOut graph (dropped way.walked call) st) → plan ≡ plan_by graph error (dropped way.walked call) (holdings_of call o (behind_in way.behind fork) fork victim))
+way_found graph call error way fork victim None node text names within forks = tt
+way_found graph call error way None victim (Some n) node text names within forks =
     let st : Holdings = holdings_with call n way.behind None victim in
     let rest : Form = dropped way.walked call in
-    let by : plan_at graph rest st ≡ plan_by graph (by_text call) rest (Some st) = ap (λ (x : Option Errno). plan_by graph x rest (Some st)) (sym text) in
+    let by : plan_at graph rest st ≡ plan_by graph error rest (Some st) = ap (λ (x : Option Errno). plan_by graph x rest (Some st)) (sym text) in
     if_want (want graph (first_path call) way) (target_next graph call n way.names None victim) _
     (λ there. if_finish (target_next graph call n way.names None victim) (λ plan. SetsOut graph rest st → plan ≡ plan_at graph rest st) _ (λ plan f sets. f (sets st refl) ∙ by)
     (target_found graph call way n way.behind None victim node names (has_walked graph call way n node names within there) forks))
     (λ e lost sets. walk_lost graph call way n way.behind None victim e node names within lost ∙ by)
-way_found graph call way (Some heads) victim (Some n) node text names within forks =
+way_found graph call error way (Some heads) victim (Some n) node text names within forks =
     let st : Holdings = holdings_with call n heads.behind (Some heads) victim in
     let rest : Form = dropped way.walked call in
-    let by : plan_at graph rest st ≡ plan_by graph (by_text call) rest (Some st) = ap (λ (x : Option Errno). plan_by graph x rest (Some st)) (sym text) in
+    let by : plan_at graph rest st ≡ plan_by graph error rest (Some st) = ap (λ (x : Option Errno). plan_by graph x rest (Some st)) (sym text) in
     if_finish (target_next graph call n way.names (Some heads) victim) (λ plan. SetsOut graph rest st → plan ≡ plan_at graph rest st) _ (λ plan f sets. f (sets st refl) ∙ by)
     (target_found graph call way n heads.behind (Some heads) victim node names (arrived_by call way heads forks) forks)

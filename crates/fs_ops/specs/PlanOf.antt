@@ -6,7 +6,7 @@ use Rattle.fs_names.specs.Parts.{left}
 use Rattle.fs_names.specs.Shapes.{is_full}
 use Rattle.fs_nodes.specs.Graphs.{Graph, entry_shape}
 use Rattle.fs_nodes.specs.Seen.{Seen, IsReal}
-use Rattle.fs_calls.specs.Forms.{form, Form, AtNode, AtEntry, AtPair, by_text, new_shape}
+use Rattle.fs_calls.specs.Forms.{Form, AtNode, AtEntry, AtPair, by_paths, new_shape}
 use Rattle.fs_calls.specs.declared.target.PairCall.{PairCall}
 use Rattle.fs_calls.specs.declared.target.PairCall.TheVariants as pairs
 use Rattle.fs_calls.specs.Rows.{as_dir, entry_fault, rename_fault, exchange_fault}
@@ -77,7 +77,7 @@ plan_by graph None remaining (Some st) = plan_at graph remaining st
 
 -- the plan of a call under way
 abbrev pub plan_of : Graph → OpValue → Plan
-plan_of graph op = plan_by graph (by_text (form op.call)) op.remaining op.holdings
+plan_of graph op = plan_by graph (by_paths op.call) op.remaining op.holdings
 
 -- the plan of a call in a store; where it changes a directory, the store is one as all stores are
 pub record IsPlan (store : Seen) (op : OpValue) (plan : Plan) : Type 0 where

@@ -1,9 +1,9 @@
 //! How calls begin.
 
-ghost use Rattle.std.specs.Prelude.{◌≡◌, ◌≤◌, ◌↔◌, Err, None, IfOk, OnErr, IsSome, length, option_map};
+ghost use Rattle.std.specs.Prelude.{ℕ, ◌≡◌, ◌≢◌, ◌≤◌, ◌↔◌, Err, None, IfOk, OnOk, OnErr, IsSome, length, option_map};
 ghost use Rattle.fs_nodes.specs.Seen.{seen};
 ghost use Rattle.fs_nodes.specs.Stores.{graph_of, in_use, new_shape};
-ghost use Rattle.fs_calls.specs.Forms.{form, reserves, new_shape as entry_shape};
+ghost use Rattle.fs_calls.specs.Forms.{reserves, reserved_by, new_shape as entry_shape};
 ghost use Rattle.fs_calls.specs.code.Targets.{form_of};
 ghost use Rattle.fs_machine.specs.Moves.{target};
 ghost use Rattle.fs_names.specs.Keys.{parent_of};
@@ -15,7 +15,8 @@ use crate::end::give_back;
 use crate::prepared::Prepared;
 use fs_calls::{Call, EntryCall, Target, calls};
 use fs_finish::room::Room;
-use fs_names::{Kind, PATH_LIMIT, Path};
+use fs_memory::Memory;
+use fs_names::{Kind, Limits, PATH_LIMIT, Path};
 use fs_nodes::{NoNode, NodeNo, Store};
 use std::alloc::{AllocError, Global};
 
@@ -46,7 +47,7 @@ fn kind_of(entry: EntryCall) -> Option<Kind>
 
 /// The kind of node that a call reserves a number for.
 fn new_kind(aim: Target<'_>) -> Option<Kind>
-    ensures { option_map new_shape result ≡ reserves (form_of aim.entry) }
+    ensures { (most : ℕ) → option_map new_shape result ≡ reserves (form_of most aim.entry) }
 {
     match aim {
         Target::Entry(entry, path) if !path.is_empty() => kind_of(entry),
@@ -66,7 +67,7 @@ fn common_len(path: &Path, other: &Path) -> usize
 
 /// How many names lead to the target of a call.
 pub(crate) fn target_len(aim: Target<'_>) -> usize
-    ensures len { result ≡ length (target (form_of aim.entry)) }
+    ensures len { (most : ℕ) → result ≡ length (target (form_of most aim.entry)) }
     ensures most { result ≤ PATH_LIMIT }
 {
     match aim {
@@ -77,44 +78,68 @@ pub(crate) fn target_len(aim: Target<'_>) -> usize
 }
 
 /// Reserves a number for the node that a call may add, if it may.
-fn reserve_for(call: &Call, store: &mut Store) -> Result<Option<NodeNo>, NoNode>
-    ensures ok { IfOk result (λ number. HasReserved (graph_of store.old) (seen store.old).limit (reserves (form call.now)) number (graph_of store.new)) }
-    ensures full { (result ≡ Err NoNode.Full) ↔ (IsSome (reserves (form call.now)) × (in_use store.old ≡ (seen store.old).limit)) }
+fn reserve_for(
+    memory: &mut Memory,
+    call: &Call,
+    store: &mut Store,
+) -> Result<Option<NodeNo>, NoNode>
+    ensures ok { IfOk result (λ number. HasReserved (graph_of store.old) (seen store.old).limit (reserved_by call.now) number (graph_of store.new)) }
+    ensures full { (result ≡ Err NoNode.Full) ↔ (IsSome (reserved_by call.now) × (in_use store.old ≡ (seen store.old).limit)) }
     ensures err { OnErr result (graph_of store.new ≡ graph_of store.old) }
     ensures rest { seen store.new ≡ record (seen store.old) { graph = graph_of store.new; room = (seen store.new).room } }
     ensures room { (seen store.old).room ≤ (seen store.new).room }
+    ensures granted { result ≢ Err NoNode.OutOfMemory → memory.new ≡ memory.old }
+    ensures refused { result ≡ Err NoNode.OutOfMemory → memory.new ≢ memory.old }
 {
     match new_kind(call.target()) {
-        Some(kind) => Ok(Some(store.reserve(kind)?)),
+        Some(kind) => Ok(Some(store.reserve_counted(memory, kind)?)),
         None => Ok(None),
     }
 }
 
 /// A call with its reserved number and all memory that it needs to its end.
-fn prepare(alloc: Global, call: &Call, reserved: &Option<NodeNo>) -> Result<Prepared, AllocError>
-    ensures { IfOk result (λ prepared. prepared ≡ new_value call.now reserved.now) }
+fn prepare(
+    alloc: Global,
+    memory: &mut Memory,
+    call: &Call,
+    reserved: &Option<NodeNo>,
+    limits: Limits,
+) -> Result<Prepared, AllocError>
+    ensures ok { IfOk result (λ prepared. prepared ≡ new_value limits call.now reserved.now) }
+    ensures granted { OnOk result (memory.new ≡ memory.old) }
+    ensures refused { OnErr result (memory.new ≢ memory.old) }
 {
-    let room = Room::new(alloc, call)?;
-    let copy = call.copy(alloc)?;
+    let room = Room::new(alloc, memory, limits.file(), call)?;
+    let copy = call.copy_counted(memory)?;
     Ok(Prepared {
         call: copy,
+        limits,
         reserved: *reserved,
         room,
     })
 }
 
 impl Prepared {
-    /// Prepares a call. It allocates all that the call needs. A call that may add a node reserves a number for it: `Full` comes
-    /// exactly where it cannot, and is looked at before memory. After an error the graph is as before.
-    pub fn new(alloc: Global, call: &Call, store: &mut Store) -> Result<Prepared, NoNode>
-        ensures ok { IfOk result (λ prepared. BegunAs (graph_of store.old) (seen store.old).limit call.now (reserves (form call.now)) prepared (graph_of store.new)) }
-        ensures full { (result ≡ Err NoNode.Full) ↔ (IsSome (reserves (form call.now)) × (in_use store.old ≡ (seen store.old).limit)) }
+    /// Prepares a call on a tree of these limits. It allocates all that the call needs. A call that may add a node reserves a
+    /// number for it: `Full` comes exactly where it cannot, and is looked at before memory. After an error the graph is as
+    /// before. Want of memory is counted.
+    pub fn new(
+        alloc: Global,
+        memory: &mut Memory,
+        call: &Call,
+        store: &mut Store,
+        limits: Limits,
+    ) -> Result<Prepared, NoNode>
+        ensures ok { IfOk result (λ prepared. BegunAs (graph_of store.old) (seen store.old).limit limits call.now (reserved_by call.now) prepared (graph_of store.new)) }
+        ensures full { (result ≡ Err NoNode.Full) ↔ (IsSome (reserved_by call.now) × (in_use store.old ≡ (seen store.old).limit)) }
         ensures err { OnErr result (graph_of store.new ≡ graph_of store.old) }
         ensures rest { seen store.new ≡ record (seen store.old) { graph = graph_of store.new; room = (seen store.new).room } }
         ensures room { (seen store.old).room ≤ (seen store.new).room }
+        ensures granted { result ≢ Err NoNode.OutOfMemory → memory.new ≡ memory.old }
+        ensures refused { result ≡ Err NoNode.OutOfMemory → memory.new ≢ memory.old }
     {
-        let reserved = reserve_for(call, store)?;
-        match prepare(alloc, call, &reserved) {
+        let reserved = reserve_for(memory, call, store)?;
+        match prepare(alloc, memory, call, &reserved, limits) {
             Ok(prepared) => Ok(prepared),
             Err(_) => {
                 give_back(store, reserved);

@@ -40,6 +40,7 @@ impl Op {
             plan,
             route,
             self.reserved,
+            self.limits.file(),
             prepared,
             store,
         );

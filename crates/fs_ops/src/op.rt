@@ -1,11 +1,12 @@
 //! A call under way.
 
 ghost use Rattle.std.specs.Prelude.{◌≡◌, is_some, option_map};
-ghost use Rattle.fs_calls.specs.Forms.{form, by_text};
+ghost use Rattle.fs_calls.specs.Forms.{by_paths};
 
 use crate::outcome::Outcome;
 use crate::stand::Stand;
 use fs_calls::{Call, Errno};
+use fs_names::Limits;
 use fs_nodes::NodeNo;
 use std::marker::Model;
 
@@ -15,6 +16,8 @@ pub struct Op {
     pub(crate) call: Call,
     // The error that its paths alone decide: it is found once, when the call begins.
     pub(crate) path_error: Option<Errno>,
+    // The limits of the tree on which it runs.
+    pub(crate) limits: Limits,
     pub(crate) stand: Stand,
     pub(crate) reserved: Option<NodeNo>,
     pub(crate) removed: Option<NodeNo>,
@@ -22,15 +25,15 @@ pub struct Op {
 }
 
 impl Model for Op {
-    ghost use Rattle.fs_calls.specs.Forms.{form};
+    ghost use Rattle.fs_names.specs.Limits.{file_limit};
     ghost use Rattle.fs_machine.specs.OpValues.{OpValue};
     ghost use Rattle.fs_ops.specs.OpValue.{op_value, with_held, IsOp};
 
     ghost Value = { OpValue };
 
-    ghost view = { λ o. with_held o.outcome (op_value o.call o.stand o.reserved o.removed o.outcome) };
+    ghost view = { λ o. with_held o.outcome (op_value (file_limit o.limits) o.call o.stand o.reserved o.removed o.outcome) };
 
-    ghost invariant = { λ o. IsOp (form o.call) o.path_error o.stand o.outcome };
+    ghost invariant = { λ o. IsOp (file_limit o.limits) o.call o.path_error o.stand o.outcome };
 }
 
 impl Op {
@@ -53,7 +56,7 @@ impl Op {
 
     /// Whether its paths alone decide its error, so that it takes no node.
     pub fn is_decided(&self) -> bool
-        ensures { result ≡ is_some (by_text (form self.now.call)) }
+        ensures { result ≡ is_some (by_paths self.now.call) }
     {
         self.path_error.is_some()
     }

@@ -13,6 +13,7 @@ use crate::outcome::Outcome;
 use crate::stand::Stand;
 use fs_calls::Call;
 use fs_finish::room::Room;
+use fs_names::Limits;
 use fs_nodes::{NodeNo, Store};
 use fs_walk::Walk;
 use std::marker::Model;
@@ -21,20 +22,22 @@ use std::marker::Model;
 #[derive(Drop)]
 pub struct Prepared {
     pub(crate) call: Call,
+    pub(crate) limits: Limits,
     pub(crate) reserved: Option<NodeNo>,
     pub(crate) room: Room,
 }
 
 impl Model for Prepared {
+    ghost use Rattle.fs_names.specs.Limits.{file_limit};
     ghost use Rattle.fs_calls.specs.Forms.{form};
     ghost use Rattle.fs_finish.specs.Rooms.{Suffices};
     ghost use Rattle.fs_machine.specs.OpValues.{OpValue, new_value};
 
     ghost Value = { OpValue };
 
-    ghost view = { λ p. new_value p.call p.reserved };
+    ghost view = { λ p. new_value p.limits p.call p.reserved };
 
-    ghost invariant = { λ p. Suffices (form p.call) p.room };
+    ghost invariant = { λ p. Suffices (form (file_limit p.limits) p.call) p.room };
 }
 
 impl Prepared {
@@ -60,6 +63,7 @@ impl Prepared {
     {
         let Prepared {
             call,
+            limits,
             reserved,
             room,
         } = self;
@@ -68,6 +72,7 @@ impl Prepared {
         Op {
             call,
             path_error,
+            limits,
             stand: Stand {
                 walk,
                 fork: None,

@@ -62,12 +62,12 @@ fn pair_took(source: &Path, dest: &Path, stand: &mut Stand, node: NodeNo)
 /// A call at its target takes a node: one on two entries with one of its heads, or else the victim.
 #[inline(never)]
 fn took_at_target(aim: Target<'_>, stand: &mut Stand, node: NodeNo)
-    requires names { stand.old.walk.names ≡ length (target (form_of aim)) }
+    requires names { stand.old.walk.names ≡ length (target (form_of 0 aim)) }
     requires arrived { stand.old.walk.walked ≡ stand.old.walk.names }
-    requires forks { Forks (form_of aim) stand.old.walk stand.old.fork }
+    requires forks { Forks (form_of 0 aim) stand.old.walk stand.old.fork }
     ensures walk { stand.new.walk ≡ stand.old.walk }
-    ensures forks { Forks (form_of aim.entry) stand.old.walk stand.new.fork }
-    ensures stands { (at : ℕ) → stand.old.walk.node ≡ Some at → TakesTo (form_of aim.entry) stand.old.walk at node stand.old.fork stand.old.victim stand.new.fork stand.new.victim }
+    ensures forks { (most : ℕ) → Forks (form_of most aim.entry) stand.old.walk stand.new.fork }
+    ensures stands { (most at : ℕ) → stand.old.walk.node ≡ Some at → TakesTo (form_of most aim.entry) stand.old.walk at node stand.old.fork stand.old.victim stand.new.fork stand.new.victim }
 {
     match aim {
         Target::Node(_, _) => {}

@@ -1,6 +1,6 @@
 -- The calls that hold nothing yet.
 use Rattle.std.specs.Prelude.{ℕ, ◌≡◌, List, Option, Some, None, length, slice_get}
-use Rattle.fs_calls.specs.Forms.{form, by_text}
+use Rattle.fs_calls.specs.Forms.{by_paths}
 use Rattle.fs_core.specs.declared.seat.Running.{Running}
 
 -- the call of this number, which holds nothing and is not decided by its paths: it goes for the root, whatever the nodes are
@@ -8,7 +8,7 @@ pub record IsStarting (running : Running) (call : ℕ) : Type 0 where
   pub number : running.call ≡ call
   pub unfinished : running.op.reply ≡ None
   pub nothing : running.op.holdings ≡ None
-  pub undecided : by_text (form running.op.call) ≡ None
+  pub undecided : by_paths running.op.call ≡ None
 
 -- a place for each seat, and the call that is noted there is on the seat
 pub record AreStarting (starting : List (Option ℕ)) (seats : List (Option Running)) : Type 0 where

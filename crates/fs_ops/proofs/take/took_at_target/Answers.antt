@@ -5,4 +5,4 @@ use Rattle.fs_ops.specs.OpValue.{Forks}
 use Rattle.fs_ops.proofs.take.took_at_target.Goals as goal
 
 pub returns-in-Pair-clause-forks : goal.returns-in-Pair-clause-forks
-returns-in-Pair-clause-forks c = subst (λ (f : Form). Forks f c.args.stand.now.walk c.pair_took.new.stand.fork) (sym (ap form_of c.in-Pair.is)) (c.pair_took.ensures.forks c.in-Pair.field-0)
+returns-in-Pair-clause-forks c most = subst (λ (f : Form). Forks f c.args.stand.now.walk c.pair_took.new.stand.fork) (sym (ap (form_of most) c.in-Pair.is)) (c.pair_took.ensures.forks c.in-Pair.field-0)

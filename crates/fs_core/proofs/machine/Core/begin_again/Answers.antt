@@ -1,4 +1,4 @@
-use Rattle.fs_core.proofs.Again.{again_is, again_kept}
+use Rattle.fs_core.proofs.Again.{again_by, again_kept}
 use Rattle.fs_core.proofs.machine.Core.begin_again.Goals as goal
 
 pub invariant_of-self : goal.invariant_of-self
@@ -11,4 +11,4 @@ invariant_of-self c = rw (c.replace-told.ensures.after, c.new.ensures) (
 
 pub returns-clause-state : goal.returns-clause-state
 returns-clause-state c = rw (c.replace-told.ensures.after, c.new.ensures, ← c.self.view_is)
-    (again_is _ c.args.start c.self.invariant.0.run (rw (← c.self.view_is) at c.requires.rest) (rw (← c.self.view_is) at c.requires.tree))
+    (again_by _ _ _ _ c.args.start c.self.invariant.0 (rw (← c.self.view_is) at c.requires.rest) (rw (← c.self.view_is) at c.requires.tree))

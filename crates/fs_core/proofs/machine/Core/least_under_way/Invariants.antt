@@ -1,6 +1,8 @@
-use Rattle.fs_core.specs.code.Leasts.{IsLeastBelow}
+use Rattle.std.proofs.Common.{◌≡◌}
+use Rattle.fs_core.specs.code.Leasts.{IsLeastOf}
+use Rattle.fs_core.specs.code.Orders.{AreListed}
 use Rattle.fs_core.proofs.machine.Core.least_under_way.Given as goal
 
--- of the seats so far
-abbrev pub invariant-loop-seat : goal.invariant-loop-seat
-invariant-loop-seat l = IsLeastBelow l.self.seats l.seat l.least
+-- of the listed seats so far
+abbrev pub invariant-loop-i : goal.invariant-loop-i
+invariant-loop-i l = IsLeastOf l.self.seats l.listed l.i l.least

@@ -1,8 +1,8 @@
 use Rattle.std.proofs.Common.{◌≡◌, take}
-use Rattle.fs_calls.specs.Outcomes.{play}
+use Rattle.fs_calls.specs.Outcomes.{next_start}
 use Rattle.fs_timeline.specs.Timeline.{commits}
 use Rattle.fs_core.proofs.machine.Core.played.Given as goal
 
 -- the commits so far
 abbrev pub invariant-loop-i : goal.invariant-loop-i
-invariant-loop-i l = l.tree ≡ play l.self.start (take l.i (commits l.self.timeline))
+invariant-loop-i l = l.tree ≡ next_start l.self.start (take l.i (commits l.self.timeline))

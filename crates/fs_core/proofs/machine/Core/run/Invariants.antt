@@ -8,4 +8,5 @@ abbrev pub invariant-loop-i : goal.invariant-loop-i
 invariant-loop-i l = record {
   so_far : AllHappen (state_of l.fn.self) (take l.i l.events) (state_of l.self);
   seats : length l.self.seats ≡ length l.fn.self.seats;
+  refusals : l.self.refusals ≡ l.fn.self.refusals;
 }
